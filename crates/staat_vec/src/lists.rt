@@ -1,0 +1,70 @@
+// The list types of every crate: a list over one `Vec`, which contracts see as that list.
+ghost use Rattle.std.specs.Prelude.{◌≡◌, List, ℕ, string_bytes};
+
+use std::marker::Model;
+
+/// A list, which contracts see as such.
+#[derive(Drop)]
+pub struct Listed<T> {
+    items: Vec<T>,
+}
+
+impl<T> Model for Listed<T> {
+    ghost use Rattle.std.specs.Prelude.{List};
+
+    ghost Value = { List T };
+
+    ghost view = { λ a. a.items.items };
+}
+
+impl<T> Listed<T> {
+    /// The list of the members of `v`, in their order. It takes no memory.
+    pub fn from_vec(v: Vec<T>) -> Self
+        ensures { result ≡ v.items }
+    {
+        Listed { items: v }
+    }
+
+    /// The members.
+    pub fn as_slice(&self) -> &[T]
+        ensures { result.now ≡ self.now }
+    {
+        self.items.as_slice()
+    }
+}
+
+/// A list of bytes.
+pub type Bytes = Listed<u8>;
+
+/// A list of names.
+pub type Names = Listed<Name>;
+
+/// A text that names a file or a part, seen as its bytes.
+#[derive(Drop)]
+pub struct Name {
+    text: String,
+}
+
+impl Model for Name {
+    ghost use Rattle.std.specs.Prelude.{List, ℕ, string_bytes};
+
+    ghost Value = { List ℕ };
+
+    ghost view = { λ a. string_bytes a.text };
+}
+
+impl Name {
+    /// The name with this text. It takes no memory.
+    pub fn from_string(s: String) -> Name
+        ensures { result ≡ string_bytes s }
+    {
+        Name { text: s }
+    }
+
+    /// The text.
+    pub fn as_str(&self) -> &str
+        ensures { result.now ≡ self.now }
+    {
+        self.text.as_str()
+    }
+}
