@@ -1,0 +1,9 @@
+//! What the command words ask for.
+#![tactic(auto)]
+
+mod request;
+mod vector;
+mod words;
+
+pub use request::{Request, RequestRefusal};
+pub use words::request_of;

@@ -1,0 +1,36 @@
+// What words ask for, with each value that they give.
+use staat_vec::{Name, V3};
+use std::alloc::AllocError;
+
+/// A command with its values.
+#[derive(Drop)]
+pub enum Request {
+    /// Whether a wall shows that the first file's piece never meets the second's along a direction.
+    Pair {
+        /// The direction in which the first piece moves: not zero, at most `DIRECTION` in a component.
+        along: V3,
+        /// The wall's normal, from the first piece to the second: not zero, at most `NORMAL` in a component.
+        wall: V3,
+        first: Name,
+        second: Name,
+    },
+}
+
+/// Why words give no request.
+#[derive(Clone, Copy, Debug, PartialEq, Eq)]
+pub enum RequestRefusal {
+    /// No command takes the words, or a value breaks a rule.
+    Usage,
+    OutOfMemory,
+}
+
+impl From<AllocError> for RequestRefusal {
+    ghost use Rattle.std.specs.Prelude.{◌≡◌};
+    ghost use Rattle.staat_words.specs.declared.request.RequestRefusal.TheVariants.{OutOfMemory};
+
+    ghost from_gives = { λ _ e. e ≡ OutOfMemory };
+
+    fn from(_: AllocError) -> Self {
+        RequestRefusal::OutOfMemory
+    }
+}
