@@ -3,10 +3,12 @@
 
 mod lists;
 mod memory;
+mod order;
 mod products;
 mod vector;
 
 pub use lists::{Bytes, Listed, Name, Names};
 pub use memory::OutOfMemory;
+pub use order::in_order;
 pub use products::{cross_diff, dot, sign_dot, sub};
 pub use vector::{DIFF, DIRECTION, EDGE, NORMAL, POINT, Sign, V3, VERTEX};
