@@ -1,0 +1,93 @@
+// Whole files and whole texts.
+ghost use Rattle.std.specs.Prelude.{◌≡◌, ◌≤◌, ◌<◌, ◌+◌, ◌⊎◌, ◌^◌, ℕ, List, length, take, true, IsSomeAnd, OnOk, OnErr, IfOk, IfErr, IsErrOf};
+ghost use Rattle.staat_edge.specs.Causes.{Rose};
+ghost use Rattle.staat_edge.specs.Files.{Lacks, IsWhole, IsLonger, failed_at, held_name};
+ghost use Rattle.staat_edge.specs.declared.whole.ReadRefusal.TheVariants.{OutOfMemory};
+ghost use Rattle.staat_edge.specs.Sinks.{GrewBy, GrewByPart};
+
+use crate::{Shelf, Sink};
+use staat_vec::Bytes;
+use std::alloc::{AllocError, Global};
+use thiserror::Error;
+
+#[derive(Clone, Copy, Debug, PartialEq, Eq, Error)]
+pub enum ReadRefusal {
+    #[error("the file cannot be read")]
+    ReadFault,
+    #[error("the file is too long")]
+    TooLong,
+    #[error("out of memory")]
+    OutOfMemory,
+}
+
+impl From<AllocError> for ReadRefusal {
+    ghost from_gives = { λ _ e. e ≡ OutOfMemory };
+
+    fn from(_: AllocError) -> Self {
+        ReadRefusal::OutOfMemory
+    }
+}
+
+const PIECE: usize = 4096;
+
+/// Opens a file and reads it to its end.
+pub fn read_whole<H: Shelf>(
+    alloc: Global,
+    shelf: &mut H,
+    name: &str,
+    limit: usize,
+) -> Result<Bytes, ReadRefusal>
+    requires { limit < 2 ^ 31 }
+
+    ensures holds { H.holds shelf.new ≡ H.holds shelf.old }
+    ensures count { H.faults shelf.old ≤ H.faults shelf.new }
+
+    ensures content { IfOk result (λ bytes. IsWhole (H.holds shelf.old) name.now bytes) }
+    ensures within { IfOk result (λ bytes. length bytes ≤ limit) }
+    ensures same_failed { OnOk result (H.failed shelf.new ≡ H.failed shelf.old) }
+
+    ensures fault { IsErrOf result ReadRefusal.ReadFault →
+        Lacks (H.holds shelf.old) name.now ⊎ Rose (H.faults shelf.old) (H.faults shelf.new) }
+    ensures failed { IsErrOf result ReadRefusal.ReadFault →
+        H.failed shelf.new ≡ failed_at true (held_name (H.holds shelf.old) name.now) (H.failed shelf.old) }
+    ensures long { IsErrOf result ReadRefusal.TooLong → IsSomeAnd (H.place shelf.new) (λ at. limit < at) }
+    ensures longer { IsErrOf result ReadRefusal.TooLong → IsLonger (H.holds shelf.old) name.now limit }
+{
+    if shelf.open(name).is_err() {
+        return Err(ReadRefusal::ReadFault);
+    }
+    let mut taken: Vec<u8> = Vec::new(alloc);
+    let mut buf = [0u8; PIECE];
+    'pieces: while taken.len() <= limit {
+        let want = PIECE.min(limit + 1 - taken.len());
+        match shelf.read(&mut buf[..want]) {
+            Ok(0) => return Ok(Bytes::from_vec(taken)),
+            Ok(count) => taken.extend_from_slice(&buf[..count])?,
+            Err(_) => return Err(ReadRefusal::ReadFault),
+        }
+    }
+    Err(ReadRefusal::TooLong)
+}
+
+/// The one refusal of [`write_whole`].
+#[derive(Clone, Copy, Debug, PartialEq, Eq, Error)]
+#[error("write fault")]
+pub struct WriteFault;
+
+/// Gives the sink all the bytes. After a fault it took only a part of them.
+#[tactic(auto, using(crate::proofs::Grown::growth))]
+pub fn write_whole<S: Sink>(sink: &mut S, bytes: &[u8]) -> Result<(), WriteFault>
+    ensures count { S.faults sink.old ≤ S.faults sink.new }
+    ensures all { OnOk result (GrewBy (S.wrote sink.old) (S.wrote sink.new) bytes.now) }
+    ensures part { OnErr result (GrewByPart (S.wrote sink.old) (S.wrote sink.new) bytes.now) }
+    ensures cause { OnErr result (Rose (S.faults sink.old) (S.faults sink.new)) }
+{
+    let mut done = 0;
+    while done < bytes.len() {
+        match sink.write(&bytes[done..]) {
+            Ok(count) => done += count,
+            Err(_) => return Err(WriteFault),
+        }
+    }
+    Ok(())
+}
