@@ -1,8 +1,9 @@
 -- The plain form of a file: a header, three counts, and the coordinates of the points.
-use Rattle.std.specs.Prelude.{◌≡◌, ℕ, zero, suc, ◌+◌, ◌*◌, ◌-◌, ℤ, pos, neg_ℤ, Bool, false, ◌&&◌, ◌==◌, nat_le, List, [], ◌∷◌, length, drop, slice_get, ◌++◌, Option, Some, None, if◌then◌else◌, bytes_eq, codes, fold, option_map, option_and_then, is_some, IsPermutation}
+use Rattle.std.specs.Prelude.{◌≡◌, ℕ, zero, suc, ◌+◌, ◌*◌, ◌-◌, ℤ, pos, neg_ℤ, Bool, false, ◌&&◌, ◌==◌, nat_le, List, [], ◌∷◌, length, drop, slice_get, ◌++◌, Option, Some, None, if◌then◌else◌, bytes_eq, codes, fold, option_map, option_and_then, is_some, Contains}
 use Rattle.std.specs.List.{list_all, list_any}
 use Rattle.staat_vec.specs.declared.vector.V3.{V3}
-use Rattle.staat_vec.specs.Vectors.{vector}
+use Rattle.staat_vec.specs.Lists.{Lists}
+use Rattle.staat_vec.specs.Vectors.{vector, vector_cmp}
 use Rattle.staat_model.specs.Pieces.{IsPiece}
 use Rattle.staat_top.specs.Blanks.{words}
 
@@ -71,9 +72,14 @@ plain_points bytes = if list_any (λ b. b == 35) bytes then None else headed (wo
 abbrev pub prepended : List V3 → Option (List V3) → Option (List V3)
 prepended xs points = option_map (λ ys. xs ++ ys) points
 
--- the points of the file make the piece: they differ, do not lie in one plane, and are put in ascending order
+-- the points differ, do not lie in one plane, and make the piece in ascending order
+pub record MakesPiece (points piece : List V3) : Type 0 where
+  pub listed : Lists vector_cmp (Contains points) piece
+  pub differ : length piece ≡ length points
+  pub fits : IsPiece piece
+
+-- the file has the plain form, and this is its piece
 pub record IsPlain (bytes : List ℕ) (piece : List V3) : Type 0 where
   pub points : List V3
   pub read : plain_points bytes ≡ Some points
-  pub same : IsPermutation points piece
-  pub piece : IsPiece piece
+  pub made : MakesPiece points piece

@@ -1,14 +1,14 @@
 //! Exact vectors of whole numbers, their signs, and the list types that every crate shares.
 #![tactic(auto)]
 
+mod ascending;
 mod lists;
 mod memory;
-mod order;
 mod products;
 mod vector;
 
+pub use ascending::in_order;
 pub use lists::{Bytes, Listed, Name, Names};
 pub use memory::OutOfMemory;
-pub use order::in_order;
 pub use products::{cross_diff, dot, sign_dot, sub};
 pub use vector::{DIFF, DIRECTION, EDGE, NORMAL, POINT, Sign, V3, VERTEX};

@@ -11,7 +11,7 @@ use Rattle.staat_vec.specs.declared.vector.V3.{V3}
 use Rattle.staat_vec.specs.Vectors.{vector_cmp}
 use Rattle.staat_vec.proofs.VectorOrder.{vector_total, vector_exact}
 use Rattle.staat_vec.specs.contracts.vector.V3PartialEq.TheImpl as impl
-use Rattle.staat_vec.proofs.order.in_order.Goals as goal
+use Rattle.staat_vec.proofs.ascending.in_order.Goals as goal
 
 abbrev E : V3 → V3 → Bool
 E x y = impl.ghosts.eq x y

@@ -1,0 +1,160 @@
+-- What a call does, from its answer or its fault and the writing of it.
+use Rattle.std.proofs.Common.{◌≡◌, ◌≢◌, ◌⊎◌, ℕ, ◌<◌, ◌≤◌, List, [], Option, Some, None, refl, ap, sym, ◌∙◌, subst, arith, inl, inr, append-nil}
+use Rattle.std.proofs.Math.Decide.{ℕ_discrete}
+use Rattle.staat_edge.specs.Causes.{Rose}
+use Rattle.staat_edge.specs.Files.{bytes_of, Lacks}
+use Rattle.staat_edge.specs.Sinks.{GrewBy}
+use Rattle.staat_words.specs.declared.request.Request.{Request}
+use Rattle.staat_top.specs.declared.fault.Fault.{Fault}
+use Rattle.staat_top.specs.declared.fault.Fault.TheVariants.{Usage, ReadFault, TooLong, NotPlain, WriteFault, OutOfMemory}
+use Rattle.staat_top.specs.Faults.{status_of, line_of}
+use Rattle.staat_top.specs.Steps.{Files, End, replies, reads, Reply, answered, refused, end_of}
+use Rattle.staat_top.specs.Replies.{Ends, IsReply, IsRight}
+use Rattle.staat_top.specs.Runs.{ShelfSide, SinkSide, Took, SinkFailed, TookPart, Untouched, IsUnread, IsCaused, IsPlaced, IsExplained, IsAnswer, IsSaid, SaysWhole, SaysPart, Refuses, Answers, OutFails, ErrFails, Gave, Replied, NoFault, Ran}
+use Rattle.staat_top.proofs.OneReply.{ends_rest}
+use Rattle.staat_top.proofs.RightLemmas.{free_is_right}
+
+took_nothing : (side : SinkSide) → Untouched side → Took side []
+took_nothing side same = go side.old side.new same
+  where
+    go : (old new : Option (List ℕ)) → new ≡ old → GrewBy old new []
+    go None new e = e
+    go (Some old) new e = e ∙ ap Some (sym (append-nil old))
+
+-- an answer was printed
+pub ran_answer : (asked : Option Request) (shelf : ShelfSide) (out err : SinkSide) (status result : ℕ) (text : List ℕ)
+    → status < 2 → IsAnswer asked shelf status text → (asked ≡ None → ⊥)
+    → (result ≢ 6 → (result ≡ status) × Untouched err × Took out text)
+    → (result ≡ 6 → TookPart out text)
+    → (result ≡ 6 → Took err (line_of WriteFault) ⊎ TookPart err (line_of WriteFault))
+    → Ran asked shelf out err result
+ran_answer asked shelf out err status result text small answer asks whole part line = record {
+    out_kept = λ ge ne. absurd (omega (arith, (whole ne).0));
+    err_kept = λ lt. (whole (λ e. omega (arith, e))).1;
+    answers = λ lt.
+        let w = whole (λ e. omega (arith, e)) in
+        record { text = text; answer = subst (λ s. IsAnswer asked shelf s text) (sym w.0) answer; printed = w.2 };
+    refuses = λ ge ne. absurd (omega (arith, (whole ne).0));
+    write_fault = λ e. inl (record { status = status; text = text; small = small; answer = answer; part = part e; line = line e });
+    usage = λ none. absurd (asks none);
+    reply = λ le files told.
+        let w = whole (λ e. omega (arith, e)) in
+        record { reply = answered status text; right = answer files told; gave = record { is = w.0; to_out = w.2; to_err = took_nothing err w.1 } };
+    complete = λ files told well no_memory reply is_reply.
+        elim (ℕ_discrete result 6) [
+          | yes e ↦ absurd (well.out_well (part e).fault)
+          | no ne ↦
+              let w = whole ne in
+              let same : answered status text ≡ reply = (ends_rest asked files).one _ _ (answer files told) is_reply in
+              subst (λ r. Gave r out err result) same (record { is = w.0; to_out = w.2; to_err = took_nothing err w.1 })
+        ];
+    right = λ zero files told.
+        let w = whole (λ e. omega (arith, e)) in
+        free_is_right asked files text (subst (λ s. IsReply asked files (answered s text)) (sym w.0 ∙ zero) (answer files told));
+  }
+
+least_status : (fault : Fault) → 2 ≤ status_of fault
+least_status Usage = omega arith
+least_status (ReadFault name) = omega arith
+least_status (TooLong name) = omega arith
+least_status (NotPlain name) = omega arith
+least_status WriteFault = omega arith
+least_status OutOfMemory = omega arith
+
+-- want of memory has no other cause
+memory_explained : (asked : Option Request) (shelf : ShelfSide) → IsExplained asked shelf OutOfMemory
+memory_explained None shelf = record { cause = inr refl; placed = λ files told. tt }
+memory_explained (Some request) shelf = record { cause = tt; placed = λ files told. tt }
+
+said_explained : (asked : Option Request) (shelf : ShelfSide) (fault said : Fault) → IsExplained asked shelf fault → IsSaid fault said → IsExplained asked shelf said
+said_explained asked shelf fault said explained (inl e) = subst (IsExplained asked shelf) (sym e) explained
+said_explained asked shelf fault said explained (inr e) = subst (IsExplained asked shelf) (sym e) (memory_explained asked shelf)
+
+-- a status of at most 4 comes with the reply
+placed_reply : (asked : Option Request) (files : Files) (fault : Fault) → status_of fault ≤ 4 → IsPlaced asked files fault → IsReply asked files (refused fault)
+placed_reply asked files Usage le placed = placed
+placed_reply asked files (ReadFault name) le placed = absurd (omega arith)
+placed_reply asked files (TooLong name) le placed = placed
+placed_reply asked files (NotPlain name) le placed = placed
+placed_reply asked files WriteFault le placed = absurd (omega arith)
+placed_reply asked files OutOfMemory le placed = absurd (omega arith)
+
+-- no fault that a shelf has shows where its count did not rise and the file is there
+unread_lacks : (shelf : ShelfSide) (files : Files) (name : List ℕ) → shelf.holds ≡ Some files → (Rose shelf.before shelf.after → ⊥) → IsUnread shelf name → bytes_of name files ≡ None
+unread_lacks shelf files name told well (inl lacks) = subst (λ holds. Lacks holds name) told lacks
+unread_lacks shelf files name told well (inr failed) = absurd (well failed.0)
+
+cause_some : (asked : Option Request) (shelf : ShelfSide) (name : List ℕ) → IsCaused asked shelf (ReadFault name) → IsUnread shelf name
+cause_some None shelf name (inl e) = absurd cc
+cause_some None shelf name (inr e) = absurd cc
+cause_some (Some request) shelf name unread = unread
+
+no_write_fault : (asked : Option Request) (shelf : ShelfSide) → IsCaused asked shelf WriteFault → ⊥
+no_write_fault None shelf (inl e) = absurd cc
+no_write_fault None shelf (inr e) = absurd cc
+no_write_fault (Some request) shelf caused = caused
+
+-- where nothing failed and there was memory, the reply is that of the fault
+complete_fault : (asked : Option Request) (shelf : ShelfSide) (files : Files) (fault : Fault) (reply : Reply) → IsExplained asked shelf fault → shelf.holds ≡ Some files → (Rose shelf.before shelf.after → ⊥) → status_of fault ≢ 7 → IsReply asked files reply → refused fault ≡ reply
+complete_fault asked shelf files Usage reply explained told well memory is_reply = (ends_rest asked files).one _ _ (explained.placed files told) is_reply
+complete_fault asked shelf files (TooLong name) reply explained told well memory is_reply = (ends_rest asked files).one _ _ (explained.placed files told) is_reply
+complete_fault asked shelf files (NotPlain name) reply explained told well memory is_reply = (ends_rest asked files).one _ _ (explained.placed files told) is_reply
+complete_fault asked shelf files (ReadFault name) reply explained told well memory is_reply =
+    absurd ((ends_rest asked files).held name reply (explained.placed files told) (unread_lacks shelf files name told well (cause_some asked shelf name explained.cause)) is_reply)
+complete_fault asked shelf files WriteFault reply explained told well memory is_reply = absurd (no_write_fault asked shelf explained.cause)
+complete_fault asked shelf files OutOfMemory reply explained told well memory is_reply = absurd (memory refl)
+
+-- where the words make no request, the status is that of usage or of want of memory
+usage_status : (shelf : ShelfSide) (fault : Fault) → IsCaused None shelf fault → (status_of fault ≡ 2) ⊎ (status_of fault ≡ 7)
+usage_status shelf fault (inl e) = inl (ap status_of e)
+usage_status shelf fault (inr e) = inr (ap status_of e)
+
+gave_line : (out err : SinkSide) (fault : Fault) (result : ℕ) → Untouched out → result ≡ status_of fault → Took err (line_of fault) → Gave (refused fault) out err result
+gave_line out err fault result same is line = record { is = is; to_out = took_nothing out same; to_err = line }
+
+-- a fault's line was printed
+pub ran_fault : (asked : Option Request) (shelf : ShelfSide) (out err : SinkSide) (result : ℕ) (fault : Fault)
+    → IsExplained asked shelf fault → Untouched out
+    → (result ≢ 6 → SaysWhole fault err result)
+    → (result ≡ 6 → SaysPart fault err)
+    → Ran asked shelf out err result
+ran_fault asked shelf out err result fault explained same whole part = record {
+    out_kept = λ ge ne. same;
+    err_kept = λ lt. let w = whole (λ e. omega (arith, e)) in absurd (omega (arith, w.is, least_status w.said));
+    answers = λ lt. let w = whole (λ e. omega (arith, e)) in absurd (omega (arith, w.is, least_status w.said));
+    refuses = λ ge ne.
+        let w = whole ne in
+        record { fault = w.said; explained = said_explained asked shelf fault w.said explained w.is_said; is = w.is; line = w.line };
+    write_fault = λ e.
+        let w = part e in
+        inr (record { fault = w.said; explained = said_explained asked shelf fault w.said explained w.is_said; part = w.part; kept = same });
+    usage = λ none.
+        elim (ℕ_discrete result 6) [
+          | yes e ↦ inr (inl e)
+          | no ne ↦
+              let w = whole ne in
+              let said = said_explained asked shelf fault w.said explained w.is_said in
+              elim (usage_status shelf w.said (subst (λ a. IsCaused a shelf w.said) none said.cause)) [
+                | inl two ↦ inl (w.is ∙ two)
+                | inr seven ↦ inr (inr (w.is ∙ seven))
+              ]
+        ];
+    reply = λ le files told.
+        let w = whole (λ e. omega (arith, e)) in
+        let said = said_explained asked shelf fault w.said explained w.is_said in
+        record {
+          reply = refused w.said;
+          right = placed_reply asked files w.said (omega (arith, w.is)) (said.placed files told);
+          gave = gave_line out err w.said result same w.is w.line;
+        };
+    complete = λ files told well memory reply is_reply.
+        elim (ℕ_discrete result 6) [
+          | yes e ↦ absurd (well.err_well (part e).part.fault)
+          | no ne ↦
+              let w = whole ne in
+              let said = said_explained asked shelf fault w.said explained w.is_said in
+              let is_it : refused w.said ≡ reply = complete_fault asked shelf files w.said reply said told well.shelf_well (λ e. memory (w.is ∙ e)) is_reply in
+              subst (λ r. Gave r out err result) is_it (gave_line out err w.said result same w.is w.line)
+        ];
+    right = λ zero files told. let w = whole (λ e. omega (arith, e)) in absurd (omega (arith, w.is, least_status w.said));
+  }

@@ -1,0 +1,14 @@
+//! The whole program, over any shelf of files and any sinks for its texts.
+#![tactic(auto)]
+
+mod answer;
+mod blanks;
+mod fault;
+mod pair;
+mod plain;
+mod print;
+mod read;
+mod top;
+
+pub use fault::{Fault, fault_line};
+pub use top::staat;

@@ -1,0 +1,68 @@
+// The writing: an answer's text on out, or a fault's line on err.
+ghost use Rattle.std.specs.Prelude.{◌≡◌, ◌≢◌, ◌⊎◌, ◌<◌, ◌≤◌};
+ghost use Rattle.staat_top.specs.declared.fault.Fault.TheVariants as faults;
+ghost use Rattle.staat_top.specs.Faults.{line_of};
+ghost use Rattle.staat_top.specs.Runs.{SaysPart, SaysWhole, Took, TookPart};
+
+use crate::answer::Answer;
+use crate::fault::{Fault, MEMORY_LINE, USAGE_LINE, WRITE_LINE, fault_line, status_of};
+use staat_edge::{Sink, write_whole};
+use std::alloc::Global;
+
+// Writes a line, and gives the status with it, or the one of a write fault.
+fn say<E: Sink>(err: &mut E, line: &[u8], status: u8) -> u8
+    requires { status ≢ 6 }
+    ensures count { E.faults err.old ≤ E.faults err.new }
+    ensures whole { result ≢ 6 → (result ≡ status) × Took (record {
+        old = E.wrote err.old; new = E.wrote err.new; before = E.faults err.old; after = E.faults err.new }) line.now }
+    ensures part { result ≡ 6 → TookPart (record {
+        old = E.wrote err.old; new = E.wrote err.new; before = E.faults err.old; after = E.faults err.new }) line.now }
+{
+    match write_whole(err, line) {
+        Ok(()) => status,
+        Err(_) => 6,
+    }
+}
+
+/// Writes a fault's line on err, and gives its status, or that of a write fault. The lines of usage and of want of
+/// memory take no memory.
+pub fn refuse<E: Sink>(alloc: Global, fault: &Fault, err: &mut E) -> u8
+    requires { fault.now ≢ faults.WriteFault }
+    ensures count { E.faults err.old ≤ E.faults err.new }
+    ensures whole { result ≢ 6 → SaysWhole fault.now (record {
+        old = E.wrote err.old; new = E.wrote err.new; before = E.faults err.old; after = E.faults err.new }) result }
+    ensures part { result ≡ 6 → SaysPart fault.now (record {
+        old = E.wrote err.old; new = E.wrote err.new; before = E.faults err.old; after = E.faults err.new }) }
+{
+    match fault {
+        Fault::Usage => say(err, USAGE_LINE, 2),
+        Fault::OutOfMemory => say(err, MEMORY_LINE, 7),
+        _ => match fault_line(alloc, fault) {
+            Ok(line) => say(err, line.as_slice(), status_of(fault)),
+            Err(_) => say(err, MEMORY_LINE, 7),
+        },
+    }
+}
+
+/// Writes an answer's text on out, and gives its status, or that of a write fault. Then the line that says so is
+/// offered to err.
+pub fn print<O: Sink, E: Sink>(answer: &Answer, out: &mut O, err: &mut E) -> u8
+    requires { answer.now.status < 2 }
+    ensures out_count { O.faults out.old ≤ O.faults out.new }
+    ensures err_count { E.faults err.old ≤ E.faults err.new }
+    ensures whole { result ≢ 6 → (result ≡ answer.now.status) × (E.wrote err.new ≡ E.wrote err.old) × Took (record {
+        old = O.wrote out.old; new = O.wrote out.new; before = O.faults out.old; after = O.faults out.new }) answer.now.text }
+    ensures part { result ≡ 6 → TookPart (record {
+        old = O.wrote out.old; new = O.wrote out.new; before = O.faults out.old; after = O.faults out.new }) answer.now.text }
+    ensures line { result ≡ 6 →
+        Took (record { old = E.wrote err.old; new = E.wrote err.new; before = E.faults err.old; after = E.faults err.new }) (line_of faults.WriteFault)
+        ⊎ TookPart (record { old = E.wrote err.old; new = E.wrote err.new; before = E.faults err.old; after = E.faults err.new }) (line_of faults.WriteFault) }
+{
+    match write_whole(out, answer.text.as_slice()) {
+        Ok(()) => answer.status,
+        Err(_) => {
+            let _ = write_whole(err, WRITE_LINE);
+            6
+        }
+    }
+}

@@ -1,0 +1,36 @@
+// The files of a request.
+ghost use Rattle.std.specs.Prelude.{◌≡◌, ◌≤◌, Some, IfErr};
+ghost use Rattle.staat_top.specs.Steps.{Files, Follows};
+ghost use Rattle.staat_top.specs.Replies.{IsPieceOf};
+ghost use Rattle.staat_top.specs.Runs.{HasCause};
+
+use crate::fault::Fault;
+use crate::plain::read_plain;
+use staat_edge::{ReadRefusal, Shelf, read_whole};
+use staat_model::Piece;
+use staat_vec::{Bytes, Name};
+use std::alloc::Global;
+
+/// How many bytes a file of points may have.
+pub const FILE_LIMIT: usize = 1_048_576;
+
+/// The piece that a file holds.
+pub fn read_piece<H: Shelf>(alloc: Global, shelf: &mut H, name: Name) -> Result<Piece, Fault>
+    ensures holds { H.holds shelf.new ≡ H.holds shelf.old }
+    ensures count { H.faults shelf.old ≤ H.faults shelf.new }
+    ensures found { (files : Files) → H.holds shelf.old ≡ Some files → Follows (IsPieceOf files name) result }
+    ensures cause { IfErr result (HasCause (record {
+        holds = H.holds shelf.old; before = H.faults shelf.old; after = H.faults shelf.new;
+        failed = H.failed shelf.new; opened = H.opened shelf.new; place = H.place shelf.new })) }
+{
+    let bytes = match read_whole(alloc, shelf, name.as_str(), FILE_LIMIT) {
+        Ok(bytes) => bytes,
+        Err(ReadRefusal::ReadFault) => return Err(Fault::ReadFault(name)),
+        Err(ReadRefusal::TooLong) => return Err(Fault::TooLong(name)),
+        Err(ReadRefusal::OutOfMemory) => return Err(Fault::OutOfMemory),
+    };
+    match read_plain(alloc, bytes.as_slice())? {
+        Some(piece) => Ok(piece),
+        None => Err(Fault::NotPlain(name)),
+    }
+}
