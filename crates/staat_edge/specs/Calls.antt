@@ -1,5 +1,5 @@
 -- The calls of a shelf or a sink in memory: they are numbered from 0, and those of a list fail.
-use Rattle.std.specs.Prelude.{ℕ, Bool, List, Option, None, Some, length, ◌==◌}
+use Rattle.std.specs.Prelude.{Bool, ◌==◌}
 use Rattle.std.specs.List.{list_any}
 use Rattle.staat_edge.specs.declared.schedule.Schedule.{Schedule}
 use Rattle.staat_edge.specs.Causes.{raised, raised_if}
