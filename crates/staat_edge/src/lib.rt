@@ -4,14 +4,20 @@
 
 mod disk;
 mod lists;
-mod memory;
+mod memory_shelf;
+mod memory_sink;
+mod schedule;
 mod shelf;
 mod sink;
 mod whole;
 
 pub use disk::{DiskShelf, StreamSink};
 pub use lists::{Calls, Files};
-pub use memory::{MemoryShelf, MemorySink};
+pub use memory_shelf::MemoryShelf;
+pub use memory_sink::MemorySink;
 pub use shelf::{Failed, Shelf};
 pub use sink::Sink;
 pub use whole::{ReadRefusal, WriteFault, read_whole, write_whole};
+
+#[cfg(test)]
+mod tests;

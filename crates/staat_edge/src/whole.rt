@@ -1,7 +1,7 @@
 // Whole files and whole texts.
-ghost use Rattle.std.specs.Prelude.{◌≡◌, ◌≤◌, ◌<◌, ◌+◌, ◌⊎◌, ◌^◌, ℕ, List, length, take, true, IsSomeAnd, OnOk, OnErr, IfOk, IfErr, IsErrOf};
+ghost use Rattle.std.specs.Prelude.{◌≡◌, ◌≤◌, ◌<◌, ◌+◌, ◌⊎◌, ◌^◌, ℕ, List, length, take, true, Some, IsSome, IsSomeAnd, IsOk, OnOk, OnErr, IfOk, IfErr, IfSome, IsErrOf};
 ghost use Rattle.staat_edge.specs.Causes.{Rose};
-ghost use Rattle.staat_edge.specs.Files.{Lacks, IsWhole, IsLonger, failed_at, held_name};
+ghost use Rattle.staat_edge.specs.Files.{content_of, told_name, Lacks, IsWhole, IsLonger, failed_at, held_name};
 ghost use Rattle.staat_edge.specs.declared.whole.ReadRefusal.TheVariants.{OutOfMemory};
 ghost use Rattle.staat_edge.specs.Sinks.{GrewBy, GrewByPart};
 
@@ -10,12 +10,16 @@ use staat_vec::Bytes;
 use std::alloc::{AllocError, Global};
 use thiserror::Error;
 
+/// Why a file was not read.
 #[derive(Clone, Copy, Debug, PartialEq, Eq, Error)]
 pub enum ReadRefusal {
+    /// A call of the shelf failed.
     #[error("the file cannot be read")]
     ReadFault,
+    /// The file has more bytes than the limit.
     #[error("the file is too long")]
     TooLong,
+    /// There was no memory for its bytes.
     #[error("out of memory")]
     OutOfMemory,
 }
@@ -28,9 +32,14 @@ impl From<AllocError> for ReadRefusal {
     }
 }
 
+/// How many bytes are asked for at a time.
 const PIECE: usize = 4096;
 
-/// Opens a file and reads it to its end.
+/// Opens the file of that name and reads it to its end, which is at most `limit` bytes away.
+///
+/// A file is refused as too long once `limit + 1` of its bytes were taken, and no more are taken
+/// than that. The shelf stays as the calls left it: the file is open after every answer but that of
+/// a failed `open`, and its place tells how many bytes were taken.
 pub fn read_whole<H: Shelf>(
     alloc: Global,
     shelf: &mut H,
@@ -41,17 +50,30 @@ pub fn read_whole<H: Shelf>(
 
     ensures holds { H.holds shelf.new ≡ H.holds shelf.old }
     ensures count { H.faults shelf.old ≤ H.faults shelf.new }
+    ensures name { IfSome (H.place shelf.new)
+        (λ _. H.opened shelf.new ≡ told_name (H.holds shelf.old) name.now) }
+    ensures most { IfSome (H.place shelf.new) (λ at. at ≤ limit + 1) }
 
     ensures content { IfOk result (λ bytes. IsWhole (H.holds shelf.old) name.now bytes) }
     ensures within { IfOk result (λ bytes. length bytes ≤ limit) }
+    ensures place { IfOk result (λ bytes. H.place shelf.new ≡ Some (length bytes)) }
     ensures same_failed { OnOk result (H.failed shelf.new ≡ H.failed shelf.old) }
 
     ensures fault { IsErrOf result ReadRefusal.ReadFault →
         Lacks (H.holds shelf.old) name.now ⊎ Rose (H.faults shelf.old) (H.faults shelf.new) }
     ensures failed { IsErrOf result ReadRefusal.ReadFault →
         H.failed shelf.new ≡ failed_at true (held_name (H.holds shelf.old) name.now) (H.failed shelf.old) }
+    // a held file whose reading met no fault is not refused as one that cannot be read
+    ensures no_fault { IsSome (content_of (H.holds shelf.old) name.now) →
+        ¬ Rose (H.faults shelf.old) (H.faults shelf.new) → ¬ IsErrOf result ReadRefusal.ReadFault }
+
     ensures long { IsErrOf result ReadRefusal.TooLong → IsSomeAnd (H.place shelf.new) (λ at. limit < at) }
+    ensures long_name { IsErrOf result ReadRefusal.TooLong →
+        H.opened shelf.new ≡ told_name (H.holds shelf.old) name.now }
     ensures longer { IsErrOf result ReadRefusal.TooLong → IsLonger (H.holds shelf.old) name.now limit }
+    ensures long_failed { IsErrOf result ReadRefusal.TooLong → H.failed shelf.new ≡ H.failed shelf.old }
+
+    ensures memory_failed { IsErrOf result ReadRefusal.OutOfMemory → H.failed shelf.new ≡ H.failed shelf.old }
 {
     if shelf.open(name).is_err() {
         return Err(ReadRefusal::ReadFault);
@@ -69,18 +91,20 @@ pub fn read_whole<H: Shelf>(
     Err(ReadRefusal::TooLong)
 }
 
-/// The one refusal of [`write_whole`].
+/// The one refusal of [`write_whole`]: a call of the sink failed.
 #[derive(Clone, Copy, Debug, PartialEq, Eq, Error)]
 #[error("write fault")]
 pub struct WriteFault;
 
-/// Gives the sink all the bytes. After a fault it took only a part of them.
+/// Gives the sink all the bytes. After a fault it took only a part of them, from the front. No
+/// bytes are always written, without a call of the sink.
 #[tactic(auto, using(crate::proofs::Grown::growth))]
 pub fn write_whole<S: Sink>(sink: &mut S, bytes: &[u8]) -> Result<(), WriteFault>
     ensures count { S.faults sink.old ≤ S.faults sink.new }
     ensures all { OnOk result (GrewBy (S.wrote sink.old) (S.wrote sink.new) bytes.now) }
     ensures part { OnErr result (GrewByPart (S.wrote sink.old) (S.wrote sink.new) bytes.now) }
     ensures cause { OnErr result (Rose (S.faults sink.old) (S.faults sink.new)) }
+    ensures empty { length bytes.now ≡ 0 → IsOk result × (sink.new ≡ sink.old) }
 {
     let mut done = 0;
     while done < bytes.len() {

@@ -1,0 +1,170 @@
+// A shelf in memory, which fails at the calls that it is told.
+ghost use Rattle.std.specs.Prelude.{min, ◌^◌, ◌≡◌, ◌≤◌, ◌<◌, ◌+◌, ◌||◌, ◌&&◌, ℕ, List, length, take, drop, Option, Some, None, IsOk, IfOk, is_err, is_none, is_some, IfNone, IfSome, option_map, slice_get};
+ghost use Rattle.std.specs.Option.{ForSome};
+ghost use Rattle.std.specs.Io.KnownBytes.{Consumes, IsAtEnd};
+ghost use Rattle.staat_edge.specs.Calls.{is_due, after_call};
+ghost use Rattle.staat_edge.specs.Files.{bytes_of, name_at, left_at, length_of, IsFirst};
+
+use crate::schedule::Schedule;
+use crate::{Calls, Failed, Files, Shelf};
+use staat_vec::{Bytes, Name, OutOfMemory};
+use std::alloc::Global;
+
+/// A shelf in memory, which holds the files that it is given.
+///
+/// Its calls of `open` and `read` are numbered together from 0. A call fails exactly where its
+/// number is in the list of failing calls, or where it opens a name that is not held. The count of
+/// faults rises exactly at a call whose number is in the list, unless that call opens a name that
+/// is not held. A read gives as many bytes as the least of the buffer's length, `chunk` and what is
+/// left of the file.
+#[derive(Drop)]
+pub struct MemoryShelf {
+    files: Files,
+    chunk: usize,
+    schedule: Schedule,
+    at: Option<(usize, usize)>,
+    failed: Option<usize>,
+    ghost steps: { 0 < chunk },
+    ghost known: { ForSome at (λ p. IsFirst files p.0) },
+}
+
+// The index of the first file of that name.
+fn find(files: &[(Name, Bytes)], name: &str) -> Option<usize>
+    ensures none { IfNone result (bytes_of name.now files.now ≡ None) }
+    ensures some { IfSome result (λ i. IsFirst files.now i × (name_at files.now (Some i) ≡ Some name.now)) }
+{
+    for (i, file) in files.iter().enumerate() {
+        if file.0.as_str() == name {
+            return Some(i);
+        }
+    }
+    None
+}
+
+// Copies as many bytes as both have, and answers how many.
+fn copy_front(from: &[u8], to: &mut [u8]) -> usize
+    ensures count { result ≡ min (length from.now) (length to.old) }
+    ensures copied { take result to.new ≡ take result from.now }
+{
+    let count = from.len().min(to.len());
+    to[..count].copy_from_slice(&from[..count]);
+    count
+}
+
+// Copies what comes next of a file, and answers how much.
+fn read_part(files: &[(Name, Bytes)], index: usize, place: usize, buf: &mut [u8]) -> usize
+    ensures count { result ≡ min (length buf.old) (length_of (left_at files.now (Some (index, place)))) }
+    ensures bytes { Consumes (left_at files.now (Some (index, place))) (left_at files.now (Some (index, place + result))) (take result buf.new) }
+    ensures end { result ≡ 0 → 0 < length buf.new → IsAtEnd (left_at files.now (Some (index, place + result))) }
+    ensures fits { place + result < 2 ^ 64 }
+{
+    match files.get(index) {
+        None => 0,
+        Some(file) => {
+            let bytes = file.1.as_slice();
+            if place < bytes.len() {
+                copy_front(&bytes[place..], buf)
+            } else {
+                0
+            }
+        }
+    }
+}
+
+impl MemoryShelf {
+    /// A shelf that holds these files, with none open. A read gives at most `chunk` bytes, and the
+    /// calls of the list fail. It keeps the lists that it is given, so it never wants memory.
+    pub fn new(
+        alloc: Global,
+        files: Files,
+        failing: Calls,
+        chunk: usize,
+    ) -> Result<MemoryShelf, OutOfMemory>
+        requires { 0 < chunk }
+        ensures made { IsOk result }
+        ensures files { IfOk result (λ s. s.files ≡ files) }
+        ensures chunk { IfOk result (λ s. s.chunk ≡ chunk) }
+        ensures failing { IfOk result (λ s. s.schedule.failing ≡ failing) }
+        ensures next { IfOk result (λ s. s.schedule.next ≡ 0) }
+        ensures faults { IfOk result (λ s. s.schedule.faults ≡ 0) }
+        ensures closed { IfOk result (λ s. s.at ≡ None) }
+        ensures failed { IfOk result (λ s. s.failed ≡ None) }
+    {
+        let _ = alloc;
+        Ok(MemoryShelf {
+            files,
+            chunk,
+            schedule: Schedule::new(failing),
+            at: None,
+            failed: None,
+        })
+    }
+}
+
+impl Shelf for MemoryShelf {
+    ghost holds = { λ s. Some s.files };
+
+    ghost opened = { λ s. name_at s.files (option_map (λ at. at.0) s.at) };
+
+    ghost place = { λ s. option_map (λ at. at.1) s.at };
+
+    ghost left = { λ s. left_at s.files s.at };
+
+    ghost faults = { λ s. s.schedule.faults };
+
+    ghost failed = { λ s. name_at s.files s.failed };
+
+    // exactly when a call fails, and what it raises
+    ghost opens = { λ s name failed t.
+        (failed ≡ (is_none (bytes_of name s.files) || is_due s.schedule))
+        × (t.schedule ≡ after_call (is_some (bytes_of name s.files) && is_due s.schedule) s.schedule)
+        × (t.chunk ≡ s.chunk) };
+
+    // exactly when a call fails, what it raises and how much it gives
+    ghost reads = { λ s room r t.
+        (is_err r ≡ is_due s.schedule)
+        × IfOk r (λ n. n ≡ min (min room s.chunk) (length_of (left_at s.files s.at)))
+        × (t.schedule ≡ after_call (is_due s.schedule) s.schedule)
+        × (t.chunk ≡ s.chunk) };
+
+    fn open(&mut self, name: &str) -> Result<(), Failed> {
+        let is_due = self.schedule.begin();
+        self.at = None;
+        match find(self.files.as_slice(), name) {
+            None => Err(Failed),
+            Some(index) if is_due => {
+                self.schedule.fault();
+                self.failed = Some(index);
+                Err(Failed)
+            }
+            Some(index) => {
+                self.at = Some((index, 0));
+                Ok(())
+            }
+        }
+    }
+
+    fn read(&mut self, buf: &mut [u8]) -> Result<usize, Failed> {
+        let is_due = self.schedule.begin();
+        let Some((index, place)) = self.at else {
+            unreachable!();
+        };
+        if is_due {
+            self.schedule.fault();
+            self.failed = Some(index);
+            return Err(Failed);
+        }
+        let most = buf.len().min(self.chunk);
+        let count = read_part(self.files.as_slice(), index, place, &mut buf[..most]);
+        self.at = Some((index, place + count));
+        Ok(count)
+    }
+
+    ghost use Rattle.staat_edge.specs.Held.{left_is_told, no_name, no_untold};
+
+    ghost left_is = { λ s. left_is_told s.files s.at s.known };
+
+    ghost closed_is = { λ s. no_name s.files s.at };
+
+    ghost untold_is = { λ s h. no_untold s.files h };
+}
