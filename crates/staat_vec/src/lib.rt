@@ -3,8 +3,10 @@
 
 mod lists;
 mod memory;
+mod products;
 mod vector;
 
 pub use lists::{Bytes, Listed, Name, Names};
 pub use memory::OutOfMemory;
+pub use products::{cross_diff, dot, sign_dot, sub};
 pub use vector::{DIFF, DIRECTION, EDGE, NORMAL, POINT, Sign, V3, VERTEX};

@@ -1,0 +1,12 @@
+//! Laws over the definitions. Each is a function that does nothing, and its contract is the law.
+ghost use Rattle.std.specs.Prelude.{List};
+ghost use Rattle.staat_vec.specs.declared.vector.V3.{V3 as Vector};
+ghost use Rattle.staat_model.specs.Pieces.{IsPiece};
+ghost use Rattle.staat_model.specs.Meeting.{Meets};
+ghost use Rattle.staat_model.specs.Walls.{IsShown};
+
+/// A wall that shows a piece apart from a list of points along a direction keeps them apart for ever: the piece
+/// never meets what the points span.
+pub fn wall_keeps_apart()
+    ensures { (p q : List Vector) (d n : Vector) → IsPiece p → IsShown p q d n → Meets p q d → ⊥ }
+{}
