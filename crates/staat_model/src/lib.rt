@@ -1,6 +1,7 @@
 //! Pieces, assemblies, plans and certificates, and what is said of them.
 #![tactic(auto)]
 
+mod cone_laws;
 pub mod laws;
 mod piece;
 
