@@ -1,5 +1,11 @@
 pub mod Integers
 pub mod Spanning
 pub mod WallLaws
+pub mod Members
 pub mod Mixes
 pub mod Alternative
+pub mod Tilt
+pub mod Edge
+pub mod PrimitiveLemmas
+pub mod CornerLemmas
+pub mod FarkasLemmas

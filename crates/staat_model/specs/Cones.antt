@@ -1,8 +1,9 @@
 -- Cones of vectors: what the members of a list add up to, and what has all of them on one side.
-use Rattle.std.specs.Prelude.{◌≡◌, ℕ, ◌≤◌, ◌⊎◌, pos, ◌≤ℤ◌, List, length, All}
+use Rattle.std.specs.Prelude.{◌≡◌, ◌≢◌, ℕ, ◌≤◌, ◌⊎◌, pos, ◌≤ℤ◌, List, length, All, Contains}
 use Rattle.staat_vec.specs.declared.vector.V3.{V3}
-use Rattle.staat_vec.specs.Vectors.{origin, dot, times}
-use Rattle.staat_model.specs.Meeting.{mix}
+use Rattle.staat_vec.specs.Vectors.{vector, origin, dot, cross, times, negative}
+use Rattle.staat_vec.specs.Primitives.{IsPrimitive, IsPrimitiveOf}
+use Rattle.staat_model.specs.Meeting.{AreWeights, mix}
 
 -- each member lies on n's positive side, or across n
 abbrev pub IsAbove : V3 → List V3 → Type 0
@@ -23,3 +24,52 @@ pub record IsCombined (vs : List V3) (h : V3) : Type 0 where
   pub numbers : List ℕ
   pub one_each : length numbers ≡ length vs
   pub is : mix numbers vs ≡ times k h
+
+-- for each axis, the axis or its negative stands in the list
+abbrev pub HasEither : List V3 → V3 → Type 0
+HasEither vs axis = Contains vs axis ⊎ Contains vs (negative axis)
+
+pub record HasAxes (vs : List V3) : Type 0 where
+  pub x : HasEither vs (vector (pos 1) (pos 0) (pos 0))
+  pub y : HasEither vs (vector (pos 0) (pos 1) (pos 0))
+  pub z : HasEither vs (vector (pos 0) (pos 0) (pos 1))
+
+-- a vector on the positive side of all members, in which the planes across two of them meet
+pub record HasCorner (vs : List V3) : Type 0 where
+  pub g : V3
+  pub h : V3
+  pub v : V3
+  pub g_in : Contains vs g
+  pub h_in : Contains vs h
+  pub independent : cross g h ≢ origin
+  pub vertex : IsPrimitiveOf (cross g h) v
+  pub above : IsAbove v vs
+
+-- n is at right angles to two members that are not parallel
+pub record IsAcrossTwo (vs : List V3) (n : V3) : Type 0 where
+  pub u : V3
+  pub v : V3
+  pub u_in : Contains vs u
+  pub v_in : Contains vs v
+  pub independent : cross u v ≢ origin
+  pub u_on : dot u n ≡ pos 0
+  pub v_on : dot v n ≡ pos 0
+
+-- a facet of the cone that the members span, by its primitive normal
+pub record IsConeFacet (vs : List V3) (n : V3) : Type 0 where
+  pub primitive : IsPrimitive n
+  pub above : IsAbove n vs
+  pub across : IsAcrossTwo vs n
+
+-- the sum of each member times a number of at least 1 is a multiple of d: d leads into the cone
+pub record IsReached (vs : List V3) (d : V3) : Type 0 where
+  pub weights : List ℕ
+  pub are_weights : AreWeights weights vs
+  pub t : ℕ
+  pub is : mix weights vs ≡ times t d
+
+-- d does not lead ahead of some facet
+pub record IsStopped (vs : List V3) (d : V3) : Type 0 where
+  pub n : V3
+  pub facet : IsConeFacet vs n
+  pub away : dot n d ≤ℤ pos 0

@@ -5,7 +5,7 @@ ghost use Rattle.staat_model.specs.Pieces.{IsPiece};
 ghost use Rattle.staat_model.specs.Meeting.{Meets};
 ghost use Rattle.staat_model.specs.Walls.{IsShown};
 
-pub use crate::cone_laws::combine;
+pub use crate::cone_laws::{combine, corner, farkas};
 
 /// A wall that shows a piece apart from a list of points along a direction keeps them apart for ever: the piece
 /// never meets what the points span.
