@@ -6,8 +6,8 @@ use Rattle.staat_vec.specs.declared.vector.V3.{V3}
 use Rattle.staat_vec.specs.Vectors.{vector, dot, cross, times, negative, origin}
 use Rattle.staat_vec.specs.Primitives.{IsPrimitiveOf}
 use Rattle.staat_model.specs.Cones.{IsAbove, IsSpanning, HasAxes, HasEither, HasCorner}
-use Rattle.staat_vec.proofs.Ring.{Ex, at, num, ◌⊗◌, opp, ring}
-use Rattle.staat_vec.proofs.VecRing.{dotE, timesE, negativeE, vectorE, values, v0, v1, same_vector}
+use Rattle.staat_vec.proofs.Ring.{Ex, at, num, ◌⊗◌, ring}
+use Rattle.staat_vec.proofs.VecRing.{dotE, timesE, vectorE, values, v0, v1, same_vector, negative_dot}
 use Rattle.staat_vec.proofs.Order.{cancel_nonneg, negative_is, nonneg_is}
 use Rattle.staat_model.proofs.Mixes.{square_vector}
 use Rattle.staat_model.proofs.Edge.{edge_below}
@@ -16,13 +16,10 @@ use Rattle.staat_model.proofs.PrimitiveLemmas.{primitive_of}
 negative_gone : (a : ℤ) → neg_ℤ a ≡ pos 0 → a ≡ pos 0
 negative_gone a e = omega (arith, ints)
 
-dot_negative : (a n : V3) → dot (negative a) n ≡ neg_ℤ (dot a n)
-dot_negative a n = ring (values (a ∷ n ∷ []) []) (dotE (negativeE v0) v1) (opp (dotE v0 v1)) tt
-
 -- n is at right angles to an axis of the list
 across_axis : (vs : List V3) (a n : V3) → HasEither vs a → All (λ v. dot v n ≡ pos 0) vs → dot a n ≡ pos 0
 across_axis vs a n (inl c) h = All-contains (λ v. dot v n ≡ pos 0) vs a h c
-across_axis vs a n (inr c) h = negative_gone (dot a n) (sym (dot_negative a n) ∙ All-contains (λ v. dot v n ≡ pos 0) vs (negative a) h c)
+across_axis vs a n (inr c) h = negative_gone (dot a n) (sym (negative_dot a n) ∙ All-contains (λ v. dot v n ≡ pos 0) vs (negative a) h c)
 
 pub axes_span : (vs : List V3) → HasAxes vs → IsSpanning vs
 axes_span vs axes n h =
@@ -53,6 +50,6 @@ some_square d some = ⊎_elim (λ e. absurd (some e)) (λ p. p) (square_vector d
 
 pub corner_lemma : (vs : List V3) (d : V3) → HasAxes vs → d ≢ origin → IsAbove d vs → HasCorner vs
 corner_lemma vs d axes some up =
-    let (g, h, (in_g, in_h, apart, above), side) = edge_below vs d (negative d) (axes_span vs axes) up (negative_is (dot (negative d) d) (neg_ℤ (dot d d)) (dot_negative d d) (opposite_low (dot d d) (some_square d some))) in
+    let (g, h, (in_g, in_h, apart, above), side) = edge_below vs d (negative d) (axes_span vs axes) up (negative_is (dot (negative d) d) (neg_ℤ (dot d d)) (negative_dot d d) (opposite_low (dot d d) (some_square d some))) in
     let v = primitive_of (cross g h) apart in
-    record { g = g; h = h; v = v.0; g_in = in_g; h_in = in_h; independent = apart; vertex = v.1; above = above_primitive vs (cross g h) v.0 v.1 above }
+    record { v = v.0; crossing = record { g = g; h = h; g_in = in_g; h_in = in_h; independent = apart; primitive = v.1 }; above = above_primitive vs (cross g h) v.0 v.1 above }

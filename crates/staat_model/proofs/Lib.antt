@@ -9,3 +9,7 @@ pub mod Edge
 pub mod PrimitiveLemmas
 pub mod CornerLemmas
 pub mod FarkasLemmas
+pub mod WeightLemmas
+pub mod FacetLemmas
+pub mod Differences
+pub mod BorderLemmas
