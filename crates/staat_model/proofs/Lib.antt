@@ -1,3 +1,4 @@
-pub mod Integers
+pub mod Flat
+pub mod Heights
 pub mod Spanning
 pub mod WallLaws

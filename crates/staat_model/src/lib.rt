@@ -3,5 +3,9 @@
 
 pub mod laws;
 mod piece;
+mod solid;
+mod wall;
 
 pub use piece::{Piece, Pieces, Points};
+pub use solid::is_solid;
+pub use wall::is_shown;
