@@ -1,4 +1,5 @@
-pub mod Integers
+pub mod Flat
+pub mod Heights
 pub mod Spanning
 pub mod WallLaws
 pub mod Members

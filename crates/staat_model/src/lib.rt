@@ -4,5 +4,9 @@
 mod cone_laws;
 pub mod laws;
 mod piece;
+mod solid;
+mod wall;
 
 pub use piece::{Piece, Pieces, Points};
+pub use solid::is_solid;
+pub use wall::is_shown;
