@@ -32,18 +32,19 @@ content v = greatest_divisor (unsigned_abs v.x + unsigned_abs v.y + unsigned_abs
 unfoldable pub primitive : V3 → V3
 primitive v = let n : ℤ = pos (content v) in vector (int_div v.x n) (int_div v.y n) (int_div v.z n)
 
+-- the number, or the next where it is 0
+abbrev pub or_next : ℤ → ℤ → ℤ
+or_next (pos zero) next = next
+or_next a next = a
+
 -- the first component that is not 0, and 0 for the origin
 abbrev pub first_nonzero : V3 → ℤ
-first_nonzero v = first_of v.x (first_of v.y v.z)
-  where
-    first_of : ℤ → ℤ → ℤ
-    first_of (pos zero) next = next
-    first_of a next = a
+first_nonzero v = or_next v.x (or_next v.y v.z)
 
 -- the first component that is not 0 is positive
 abbrev pub IsCanon : V3 → Type 0
 IsCanon v = pos 0 <ℤ first_nonzero v
 
 -- the vector or its negative, whichever has its first nonzero component positive
-abbrev pub canon : V3 → V3
+unfoldable pub canon : V3 → V3
 canon v = if int_lt (pos 0) (first_nonzero v) then v else negative v
