@@ -1,3 +1,16 @@
-pub mod Integers
+pub mod Flat
+pub mod Heights
 pub mod Spanning
 pub mod WallLaws
+pub mod Members
+pub mod Mixes
+pub mod Alternative
+pub mod Tilt
+pub mod Edge
+pub mod PrimitiveLemmas
+pub mod CornerLemmas
+pub mod FarkasLemmas
+pub mod WeightLemmas
+pub mod FacetLemmas
+pub mod Differences
+pub mod BorderLemmas

@@ -10,17 +10,18 @@ use Rattle.staat_vec.specs.Vectors.{plus, minus, times, dot}
 use Rattle.staat_model.specs.Pieces.{IsSolid}
 use Rattle.staat_model.specs.Meeting.{mix, Meets}
 use Rattle.staat_model.specs.Walls.{IsShown}
-use Rattle.staat_model.proofs.Integers.{mul-add, mul-neg, cubes}
+use Rattle.staat_vec.proofs.Ring.{at, ◌⊕◌, ◌⊖◌, ◌⊗◌, ring}
+use Rattle.staat_vec.proofs.VecRing.{values, dotE, plusE, minusE, timesE, v0, v1, v2}
 use Rattle.staat_model.proofs.Spanning.{square_to_three}
 
 dot-mix : (n p m : V3) (w : ℕ) → dot n (plus (times w p) m) ≡ (pos w *ℤ dot n p) +ℤ dot n m
-dot-mix n p m w = simp mul-add (omega (arith, cubes))
+dot-mix n p m w = ring (values (n ∷ p ∷ m ∷ []) (pos w ∷ [])) (dotE v0 (plusE (timesE (at 9) v1) v2)) (at 9 ⊗ dotE v0 v1 ⊕ dotE v0 v2) tt
 
 dot-plus : (n a d : V3) (t : ℕ) → dot n (plus a (times t d)) ≡ dot n a +ℤ (pos t *ℤ dot n d)
-dot-plus n a d t = simp mul-add (omega (arith, cubes))
+dot-plus n a d t = ring (values (n ∷ a ∷ d ∷ []) (pos t ∷ [])) (dotE v0 (plusE v1 (timesE (at 9) v2))) (dotE v0 v1 ⊕ at 9 ⊗ dotE v0 v2) tt
 
-dot-minus : (n q p : V3) → dot n (minus q p) ≡ dot n q -ℤ dot n p
-dot-minus n q p = simp (mul-add, mul-neg) (omega (arith, cubes))
+pub dot-minus : (n q p : V3) → dot n (minus q p) ≡ dot n q -ℤ dot n p
+dot-minus n q p = ring (values (n ∷ q ∷ p ∷ []) []) (dotE v0 (minusE v1 v2)) (dotE v0 v1 ⊖ dotE v0 v2) tt
 
 mul_le : (w : ℕ) (x y : ℤ) → x ≤ℤ y → (pos w *ℤ x) ≤ℤ (pos w *ℤ y)
 mul_le w x y h =
@@ -87,7 +88,7 @@ highest n p (q ∷ qs) R h =
     (λ less. (p, All-head R p (q ∷ qs) h, All-cons (λ x. dot n x ≤ℤ dot n p) p (q ∷ qs) (omega (arith, ints)) (All-weaker (λ x. dot n x ≤ℤ dot n r.0) (λ x. dot n x ≤ℤ dot n p) (λ x k. omega (arith, ints, k, less)) (q ∷ qs) r.2)))
     (λ more. (r.0, r.1, All-cons (λ x. dot n x ≤ℤ dot n r.0) p (q ∷ qs) more r.2))
 
-level : (n a b : V3) (m : ℤ) → dot n a ≡ m → dot n b ≡ m → dot n (minus b a) ≡ pos 0
+pub level : (n a b : V3) (m : ℤ) → dot n a ≡ m → dot n b ≡ m → dot n (minus b a) ≡ pos 0
 level n a b m ea eb = dot-minus n b a ∙ omega (arith, ints, ea, eb)
 
 -- A wall keeps two pieces apart, whatever the time.

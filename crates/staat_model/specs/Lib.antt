@@ -1,3 +1,4 @@
 pub mod Meeting
 pub mod Pieces
 pub mod Walls
+pub mod Cones

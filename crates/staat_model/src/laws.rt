@@ -5,6 +5,11 @@ ghost use Rattle.staat_model.specs.Pieces.{IsPiece};
 ghost use Rattle.staat_model.specs.Meeting.{Meets};
 ghost use Rattle.staat_model.specs.Walls.{IsShown};
 
+pub use crate::cone_laws::{
+    combine, corner, differences_span, facet_is_crossing, farkas, one_primitive, reached_by_facets,
+    two_borders, weights_and_numbers,
+};
+
 /// A wall that shows a piece apart from a list of points along a direction keeps them apart for ever: the piece
 /// never meets what the points span.
 pub fn wall_keeps_apart()

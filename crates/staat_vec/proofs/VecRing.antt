@@ -1,7 +1,7 @@
 -- Expressions for vectors, in step with the operations on vectors: the ring tactic for equations of vectors and of their products.
-use Rattle.std.proofs.Common.{◌≡◌, ℤ, pos, ◌-ℤ◌, ◌*ℤ◌, List, [], ◌∷◌, T}
+use Rattle.std.proofs.Common.{◌≡◌, ℤ, pos, ◌-ℤ◌, ◌*ℤ◌, neg_ℤ, List, [], ◌∷◌, T}
 use Rattle.staat_vec.specs.declared.vector.V3.{V3}
-use Rattle.staat_vec.specs.Vectors.{vector, dot, cross}
+use Rattle.staat_vec.specs.Vectors.{vector, dot, cross, negative}
 use Rattle.staat_vec.proofs.Ring.{Ex, at, num, ◌⊕◌, ◌⊖◌, ◌⊗◌, opp, eval, ring, norm, no_term}
 
 -- a number of either sign times a vector; `times n v` is `scale (pos n) v`
@@ -92,6 +92,12 @@ dot_comm a b = ring (values (a ∷ b ∷ []) []) (dotE v0 v1) (dotE v1 v0) tt
 
 pub dot_scale : (k : ℤ) (a b : V3) → dot a (scale k b) ≡ k *ℤ dot a b
 dot_scale k a b = ring (values (a ∷ b ∷ []) (k ∷ [])) (dotE v0 (timesE (at 6) v1)) (at 6 ⊗ dotE v0 v1) tt
+
+pub negative_dot : (a b : V3) → dot (negative a) b ≡ neg_ℤ (dot a b)
+negative_dot a b = ring (values (a ∷ b ∷ []) []) (dotE (negativeE v0) v1) (opp (dotE v0 v1)) tt
+
+pub dot_negative : (a b : V3) → dot a (negative b) ≡ neg_ℤ (dot a b)
+dot_negative a b = ring (values (a ∷ b ∷ []) []) (dotE v0 (negativeE v1)) (opp (dotE v0 v1)) tt
 
 pub dot_cross_left : (a b : V3) → dot a (cross a b) ≡ pos 0
 dot_cross_left a b = ring (values (a ∷ b ∷ []) []) (dotE v0 (crossE v0 v1)) (num (pos 0)) tt

@@ -5,10 +5,12 @@ mod ascending;
 mod lists;
 mod memory;
 mod products;
+mod rays;
 mod vector;
 
 pub use ascending::in_order;
 pub use lists::{Bytes, Listed, Name, Names};
 pub use memory::OutOfMemory;
-pub use products::{cross_diff, dot, sign_dot, sub};
+pub use products::{add, cross_diff, cross_normal, det, dot, neg, order_on, sign_dot, sub};
+pub use rays::{canon, primitive};
 pub use vector::{DIFF, DIRECTION, EDGE, NORMAL, POINT, Sign, V3, VERTEX};

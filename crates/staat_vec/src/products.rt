@@ -1,8 +1,8 @@
-// Differences and products of vectors, each exact.
-ghost use Rattle.std.specs.Prelude.{◌≡◌, ◌≤◌, ◌*◌, ◌-ℤ◌, ◌*ℤ◌, unsigned_abs};
-ghost use Rattle.staat_vec.specs.Vectors.{IsWithin, minus, cross, dot, sign};
+// Sums, differences and products of vectors, each exact.
+ghost use Rattle.std.specs.Prelude.{◌≡◌, ◌≤◌, ◌*◌, ◌-ℤ◌, ◌*ℤ◌, ℕ, unsigned_abs};
+ghost use Rattle.staat_vec.specs.Vectors.{IsWithin, plus, minus, negative, cross, dot, det, sign};
 
-use crate::vector::{DIFF, DIRECTION, NORMAL, POINT, Sign, V3};
+use crate::vector::{DIFF, DIRECTION, EDGE, NORMAL, POINT, Sign, V3, VERTEX};
 
 /// The difference `a - b` of two points, exact.
 ///
@@ -21,6 +21,39 @@ pub fn sub(a: V3, b: V3) -> V3
     }
 }
 
+/// The sum of two representatives of cells, exact.
+///
+/// The components of both are at most [`EDGE`] in absolute value, and those of the result at most
+/// [`DIRECTION`]. The sum of two vertices is within [`EDGE`] again.
+pub fn add(a: V3, b: V3) -> V3
+    requires a { IsWithin EDGE a }
+    requires b { IsWithin EDGE b }
+    ensures value { result ≡ plus a b }
+    ensures size { IsWithin DIRECTION result }
+    ensures vertices { IsWithin VERTEX a → IsWithin VERTEX b → IsWithin EDGE result }
+{
+    V3 {
+        x: a.x + b.x,
+        y: a.y + b.y,
+        z: a.z + b.z,
+    }
+}
+
+/// The negative of a direction, exact and as great as `a`.
+///
+/// The components are at most [`DIRECTION`] in absolute value.
+pub fn neg(a: V3) -> V3
+    requires { IsWithin DIRECTION a }
+    ensures value { result ≡ negative a }
+    ensures size { (bound : ℕ) → IsWithin bound a → IsWithin bound result }
+{
+    V3 {
+        x: -a.x,
+        y: -a.y,
+        z: -a.z,
+    }
+}
+
 // the exact product of a normal's and a direction's component
 fn product(a: i128, b: i128) -> i128
     requires a { unsigned_abs a ≤ NORMAL }
@@ -31,26 +64,33 @@ fn product(a: i128, b: i128) -> i128
     a * b
 }
 
-// the exact product of two components of differences
-fn product_diff(a: i128, b: i128) -> i128
-    requires a { unsigned_abs a ≤ DIFF }
-    requires b { unsigned_abs b ≤ DIFF }
-    ensures value { result ≡ a *ℤ b }
-    ensures size { unsigned_abs result ≤ DIFF * DIFF }
+// the minor of the rows (a, b) and (c, d), of components of two normals
+fn minor(a: i128, b: i128, c: i128, d: i128) -> i128
+    requires a { unsigned_abs a ≤ NORMAL }
+    requires b { unsigned_abs b ≤ NORMAL }
+    requires c { unsigned_abs c ≤ NORMAL }
+    requires d { unsigned_abs d ≤ NORMAL }
+    ensures value { result ≡ (a *ℤ d) -ℤ (b *ℤ c) }
+    ensures size { unsigned_abs result ≤ VERTEX }
 {
-    a * b
+    product(a, d) - product(b, c)
 }
 
-// the minor of the rows (a, b) and (c, d), of two differences
-fn minor_diff(a: i128, b: i128, c: i128, d: i128) -> i128
-    requires a { unsigned_abs a ≤ DIFF }
-    requires b { unsigned_abs b ≤ DIFF }
-    requires c { unsigned_abs c ≤ DIFF }
-    requires d { unsigned_abs d ≤ DIFF }
-    ensures value { result ≡ (a *ℤ d) -ℤ (b *ℤ c) }
-    ensures size { unsigned_abs result ≤ NORMAL }
+/// The cross product of two normals, exact.
+///
+/// The components of both are at most [`NORMAL`] in absolute value, and those of the result at most
+/// [`VERTEX`].
+pub fn cross_normal(a: V3, b: V3) -> V3
+    requires a { IsWithin NORMAL a }
+    requires b { IsWithin NORMAL b }
+    ensures value { result ≡ cross a b }
+    ensures size { IsWithin VERTEX result }
 {
-    product_diff(a, d) - product_diff(b, c)
+    V3 {
+        x: minor(a.y, a.z, b.y, b.z),
+        y: minor(a.z, a.x, b.z, b.x),
+        z: minor(a.x, a.y, b.x, b.y),
+    }
 }
 
 /// The cross product of two differences of points, exact.
@@ -63,11 +103,7 @@ pub fn cross_diff(a: V3, b: V3) -> V3
     ensures value { result ≡ cross a b }
     ensures size { IsWithin NORMAL result }
 {
-    V3 {
-        x: minor_diff(a.y, a.z, b.y, b.z),
-        y: minor_diff(a.z, a.x, b.z, b.x),
-        z: minor_diff(a.x, a.y, b.x, b.y),
-    }
+    cross_normal(a, b)
 }
 
 /// The product of a normal and a direction, exact.
@@ -81,6 +117,20 @@ pub fn dot(n: V3, d: V3) -> i128
     ensures size { unsigned_abs result ≤ 3 * (NORMAL * DIRECTION) }
 {
     product(n.x, d.x) + product(n.y, d.y) + product(n.z, d.z)
+}
+
+/// The determinant `a . (b x c)` of three normals, exact.
+///
+/// Their components are at most [`NORMAL`] in absolute value, and the result at most three times the
+/// product of [`NORMAL`] and [`VERTEX`].
+pub fn det(a: V3, b: V3, c: V3) -> i128
+    requires a { IsWithin NORMAL a }
+    requires b { IsWithin NORMAL b }
+    requires c { IsWithin NORMAL c }
+    ensures value { result ≡ det a b c }
+    ensures size { unsigned_abs result ≤ 3 * (NORMAL * VERTEX) }
+{
+    dot(a, cross_normal(b, c))
 }
 
 fn sign_of(value: i128) -> Sign
@@ -102,4 +152,18 @@ pub fn sign_dot(n: V3, d: V3) -> Sign
     ensures { result ≡ sign (dot n d) }
 {
     sign_of(dot(n, d))
+}
+
+/// How `a x n` stands to `b x n` on the circle of the plane `n`: the sign of `det(n, a, b)`, with
+/// the conditions of [`det`].
+///
+/// Since `(n x a) x (n x b) = det(n, a, b) * n`, it says which of the two vertices comes first when
+/// the circle is passed counterclockwise as seen from the tip of `n`, with no product of vertices.
+pub fn order_on(n: V3, a: V3, b: V3) -> Sign
+    requires n { IsWithin NORMAL n }
+    requires a { IsWithin NORMAL a }
+    requires b { IsWithin NORMAL b }
+    ensures { result ≡ sign (det n a b) }
+{
+    sign_of(det(n, a, b))
 }

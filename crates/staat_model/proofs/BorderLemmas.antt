@@ -1,0 +1,257 @@
+-- A vector strictly on the positive side of all members of a list that spans space: the cone of the conditions has two walls, and on each a direction strictly inside the other conditions.
+use Rattle.std.proofs.Common.{◌≡◌, ℕ, zero, suc, ◌≤◌, ◌≢◌, refl, sym, ap, subst, ◌∙◌, arith, ℤ, pos, negsuc, ◌+ℤ◌, ◌-ℤ◌, ◌*ℤ◌, ◌≤ℤ◌, neg_ℤ, ◌<ℤ◌, ◌⊎◌, inl, inr, ⊎_elim, List, [], ◌∷◌, ◌++◌, All, Contains}
+use lib.IntN.{ℤ_discrete}
+use Rattle.std.proofs.lemmas.Int.{ints}
+use Rattle.std.proofs.lemmas.List.Elements.{All-nil, All-cons, All-head, All-tail, All-contains, All-weaker, All-append}
+use Rattle.staat_vec.specs.declared.vector.V3.{V3}
+use Rattle.staat_vec.specs.Vectors.{dot, cross, plus, times, negative, origin}
+use Rattle.staat_vec.proofs.Ring.{Ex, at, num, ◌⊕◌, ◌⊖◌, ◌⊗◌, ring, ring_by_two}
+use Rattle.staat_vec.proofs.VecRing.{VEx, dotE, crossE, plusE, timesE, originE, values, v0, v1, v2, scale, same_vector, ring3, dot_negative}
+use Rattle.staat_vec.proofs.Order.{nonneg_is, nonneg_pos, nonneg_mul, pos_mul, cancel_nonneg, cancel_zero, positive_nonneg, turned_positive}
+use Rattle.staat_model.specs.Meeting.{mix}
+use Rattle.staat_model.specs.Cones.{IsAbove, IsSpanning, IsCombined, IsOnBorder, HasTwoBorders}
+use Rattle.staat_model.proofs.Members.{here, there, both, All-from_members}
+use Rattle.staat_model.proofs.Mixes.{mix_above, dot_step}
+use Rattle.staat_model.proofs.Alternative.{IsSeparated, alternative, combine_lemma}
+use Rattle.staat_model.proofs.Tilt.{dot_pair}
+use Rattle.staat_model.proofs.Edge.{perpendicular}
+
+front : (P : V3 → Type 0) (xs ys : List V3) → All P (xs ++ ys) → All P xs
+front P [] ys h = All-nil P
+front P (x ∷ xs) ys h = All-cons P x xs (All-head P x (xs ++ ys) h) (front P xs ys (All-tail P x (xs ++ ys) h))
+
+back : (P : V3 → Type 0) (xs ys : List V3) → All P (xs ++ ys) → All P ys
+back P [] ys h = h
+back P (x ∷ xs) ys h = back P xs ys (All-tail P x (xs ++ ys) h)
+
+-- some x breaks g alone among the kept, and nothing of the rest
+Needed : List V3 → List V3 → V3 → Type 0
+Needed ks rs g = (x : V3) × (dot g x <ℤ pos 0) × All (λ m. (m ≡ g) ⊎ (pos 0 ≤ℤ dot m x)) ks × IsAbove x rs
+
+-- kept members that say all that the list says, each of them needed
+Pruned : List V3 → List V3 → Type 0
+Pruned ks rs = (ls : List V3) × All (Needed ls []) ls × ((x : V3) → IsAbove x ls → IsAbove x (ks ++ rs)) × ((g : V3) → Contains ls g → Contains ks g ⊎ Contains rs g)
+
+times_dot : (t : ℕ) (d n : V3) → dot (times t d) n ≡ pos t *ℤ dot d n
+times_dot t d n = ring (values (d ∷ n ∷ []) (pos t ∷ [])) (dotE (timesE (at 6) v0) v1) (at 6 ⊗ dotE v0 v1) tt
+
+follows : (vs : List V3) (h x : V3) → IsCombined vs h → IsAbove x vs → pos 0 ≤ℤ dot h x
+follows vs h x c up =
+    let one = c.positive in
+    cancel_nonneg (pos c.k) (dot h x) (omega (arith, ints))
+    (nonneg_is (pos c.k *ℤ dot h x) (dot (mix c.numbers vs) x) (sym (times_dot c.k h x) ∙ ap (λ v. dot v x) (sym c.is)) (mix_above x c.numbers vs up))
+
+insert_above : (ks rs : List V3) (g x : V3) → pos 0 ≤ℤ dot g x → IsAbove x (ks ++ rs) → IsAbove x (ks ++ g ∷ rs)
+insert_above ks rs g x here' up =
+    let P : V3 → Type 0 = λ v. pos 0 ≤ℤ dot v x in
+    All-append P ks (g ∷ rs) (front P ks rs up) (All-cons P g rs here' (back P ks rs up))
+
+prune : (ks rs : List V3) → All (Needed ks rs) ks → Pruned ks rs
+unfolding Needed Pruned
+prune ks [] needed = (ks, needed, (λ x up. All-append (λ v. pos 0 ≤ℤ dot v x) ks [] up (All-nil (λ v. pos 0 ≤ℤ dot v x))), λ g c. inl c)
+prune ks (g ∷ rs) needed = go (alternative (ks ++ rs) g) (prune ks rs (All-weaker (Needed ks (g ∷ rs)) (Needed ks rs) (λ k n. (n.0, n.1, n.2, All-tail (λ v. pos 0 ≤ℤ dot v n.0) g rs n.3)) ks needed)) (prune (g ∷ ks) rs)
+  where
+    keep : IsSeparated (ks ++ rs) g → All (Needed (g ∷ ks) rs) (g ∷ ks)
+    keep (x, up, low) =
+        let P : V3 → Type 0 = λ v. pos 0 ≤ℤ dot v x in
+        All-cons (Needed (g ∷ ks) rs) g ks
+        (x, low, All-cons (λ m. (m ≡ g) ⊎ (pos 0 ≤ℤ dot m x)) g ks (inl refl) (All-weaker P (λ m. (m ≡ g) ⊎ (pos 0 ≤ℤ dot m x)) (λ m h. inr h) ks (front P ks rs up)), back P ks rs up)
+        (All-weaker (Needed ks (g ∷ rs)) (Needed (g ∷ ks) rs)
+        (λ k n. (n.0, n.1, All-cons (λ m. (m ≡ k) ⊎ (pos 0 ≤ℤ dot m n.0)) g ks (inr (All-head (λ v. pos 0 ≤ℤ dot v n.0) g rs n.3)) n.2, All-tail (λ v. pos 0 ≤ℤ dot v n.0) g rs n.3)) ks needed)
+
+    out : (x : V3) → Contains (g ∷ ks) x → Contains ks x ⊎ Contains (g ∷ rs) x
+    out x (zero, le, e) = inr (0, omega arith, e)
+    out x (suc k, le, e) = inl (k, omega arith, e)
+
+    go : IsCombined (ks ++ rs) g ⊎ IsSeparated (ks ++ rs) g → Pruned ks rs → (All (Needed (g ∷ ks) rs) (g ∷ ks) → Pruned (g ∷ ks) rs) → Pruned ks (g ∷ rs)
+    go (inl c) (ls, need, rules, from) other = (ls, need, (λ x up. insert_above ks rs g x (follows (ks ++ rs) g x c (rules x up)) (rules x up)), λ x h. ⊎_elim (λ a. inl a) (λ b. inr (there g x rs b)) (from x h))
+    go (inr s) without other =
+        let (ls, need, rules, from) = other (keep s) in (
+          ls,
+          need,
+          (λ x up. let w = rules x up in insert_above ks rs g x (All-head (λ v. pos 0 ≤ℤ dot v x) g (ks ++ rs) w) (All-tail (λ v. pos 0 ≤ℤ dot v x) g (ks ++ rs) w)),
+          λ x h. ⊎_elim (out x) (λ b. inr (there g x rs b)) (from x h),
+        )
+
+same_dec : (a b : V3) → Dec (a ≡ b)
+same_dec a b = go (ℤ_discrete a.x b.x) (ℤ_discrete a.y b.y) (ℤ_discrete a.z b.z)
+  where
+    go : Dec (a.x ≡ b.x) → Dec (a.y ≡ b.y) → Dec (a.z ≡ b.z) → Dec (a ≡ b)
+    go (yes p) (yes q) (yes r) = yes (same_vector a b p q r)
+    go (no p) q r = no (λ e. p (ap (λ v. v.x) e))
+    go (yes p) (no q) r = no (λ e. q (ap (λ v. v.y) e))
+    go (yes p) (yes q) (no r) = no (λ e. r (ap (λ v. v.z) e))
+
+find_other : (g : V3) (ks : List V3) → ((h : V3) × Contains ks h × (h ≢ g)) ⊎ All (λ m. m ≡ g) ks
+find_other g [] = inr (All-nil (λ m. m ≡ g))
+find_other g (k ∷ ks) = go (same_dec k g) (find_other g ks)
+  where
+    go : Dec (k ≡ g) → ((h : V3) × Contains ks h × (h ≢ g)) ⊎ All (λ m. m ≡ g) ks → ((h : V3) × Contains (k ∷ ks) h × (h ≢ g)) ⊎ All (λ m. m ≡ g) (k ∷ ks)
+    go (no n) r = inl (k, here k ks, n)
+    go (yes e) (inl (h, c, n)) = inl (h, there k h ks c, n)
+    go (yes e) (inr rules) = inr (All-cons (λ m. m ≡ g) k ks e rules)
+
+between_zero : (p q : ℤ) → p ≡ neg_ℤ q → pos 0 ≤ℤ q → pos 0 ≤ℤ p → q ≡ pos 0
+between_zero p q e h g = omega (arith, ints)
+
+zero_turned : (p q : ℤ) → p ≡ neg_ℤ q → q ≡ pos 0 → pos 0 ≤ℤ p
+zero_turned p q e f = omega (arith, ints)
+
+-- a vector on the positive side of all is zero with its negative
+line_zero : (vs : List V3) (u : V3) → IsSpanning vs → IsAbove u vs → IsAbove (negative u) vs → u ≡ origin
+line_zero vs u spans up down =
+    spans u (both (λ v. pos 0 ≤ℤ dot v u) (λ v. pos 0 ≤ℤ dot v (negative u)) (λ v. dot v u ≡ pos 0)
+    (λ v p q. between_zero (dot v (negative u)) (dot v u) (dot_negative v u) p q) vs up down)
+
+-- the list is not spanned by conditions that are all one
+not_one : (vs ks : List V3) (g : V3) → IsSpanning vs → ((x : V3) → IsAbove x ks → IsAbove x vs) → All (λ m. m ≡ g) ks → ⊥
+not_one vs ks g spans rules one =
+    let (u, some, flat) = perpendicular g in
+    some (line_zero vs u spans
+    (rules u (All-weaker (λ m. m ≡ g) (λ m. pos 0 ≤ℤ dot m u) (λ m e. nonneg_is (dot m u) (pos 0) (ap (λ v. dot v u) e ∙ flat) (nonneg_pos 0)) ks one))
+    (rules (negative u) (All-weaker (λ m. m ≡ g) (λ m. pos 0 ≤ℤ dot m (negative u))
+    (λ m e. zero_turned (dot m (negative u)) (dot m u) (dot_negative m u) (ap (λ v. dot v u) e ∙ flat)) ks one)))
+
+-- v is parallel to g and lies on z, or z is strictly on its positive side
+Side : V3 → V3 → V3 → Type 0
+Side g z v = (cross v g ≡ origin) × (dot v z ≡ pos 0) ⊎ (pos 0 <ℤ dot v z)
+
+side_zero : (g z : V3) → Side g z origin
+unfolding Side
+side_zero g z =
+    let ρ = values (g ∷ z ∷ []) [] in
+    inl (ring3 ρ (crossE originE v0) originE (tt, tt, tt), ring ρ (dotE originE v1) (num (pos 0)) tt)
+
+more_positive : (c : ℕ) (p q r : ℤ) → r ≡ pos c *ℤ p +ℤ q → pos 0 ≤ℤ p → pos 0 <ℤ q → pos 0 <ℤ r
+more_positive c (pos p) q r e h g = omega (arith, ints)
+more_positive c (negsuc p) q r e h g = absurd h.le
+
+first_positive : (c : ℕ) (p q r : ℤ) → r ≡ pos (suc c) *ℤ p +ℤ q → pos 0 <ℤ p → pos 0 ≤ℤ q → pos 0 <ℤ r
+first_positive c (pos zero) q r e h g = absurd h.lt
+first_positive c (pos (suc p)) q r e h g = omega (arith, ints)
+first_positive c (negsuc p) q r e h g = absurd h.lt
+
+sum_zero : (c p q r : ℤ) → r ≡ c *ℤ p +ℤ q → p ≡ pos 0 → q ≡ pos 0 → r ≡ pos 0
+sum_zero c p q r e f g = e ∙ ring_by_two (c ∷ p ∷ q ∷ []) (at 0 ⊗ at 1 ⊕ at 2) (num (pos 0)) (at 0) (at 1) (num (pos 0)) (num (pos 1)) (at 2) (num (pos 0)) f g tt
+
+cross_sum : (c : ℕ) (v m g : V3) → cross v g ≡ origin → cross m g ≡ origin → cross (plus (times c v) m) g ≡ origin
+cross_sum c v m g e f =
+    let ρ = values (v ∷ m ∷ g ∷ []) (pos c ∷ []) in
+    let l : VEx = crossE (plusE (timesE (at 9) v0) v1) v2 in
+    let a : VEx = crossE v0 v2 in
+    let b : VEx = crossE v1 v2 in
+    let o : Ex = num (pos 0) in
+    let i : Ex = num (pos 1) in
+    same_vector (cross (plus (times c v) m) g) origin
+    (ring_by_two ρ l.x o (at 9) a.x o i b.x o (ap (λ v. v.x) e) (ap (λ v. v.x) f) tt)
+    (ring_by_two ρ l.y o (at 9) a.y o i b.y o (ap (λ v. v.y) e) (ap (λ v. v.y) f) tt)
+    (ring_by_two ρ l.z o (at 9) a.z o i b.z o (ap (λ v. v.z) e) (ap (λ v. v.z) f) tt)
+
+side_sum : (g z : V3) (c : ℕ) (v m : V3) → Side g z v → Side g z m → Side g z (plus (times c v) m)
+unfolding Side
+side_sum g z c v m (inl (e, f)) (inl (h, i)) = inl (cross_sum c v m g e h, sum_zero (pos c) (dot v z) (dot m z) (dot (plus (times c v) m) z) (dot_step c v m z) f i)
+side_sum g z c v m (inl (e, f)) (inr q) = inr (more_positive c (dot v z) (dot m z) (dot (plus (times c v) m) z) (dot_step c v m z) (nonneg_is (dot v z) (pos 0) f (nonneg_pos 0)) q)
+side_sum g z c v m (inr p) (inr q) = inr (more_positive c (dot v z) (dot m z) (dot (plus (times c v) m) z) (dot_step c v m z) (positive_nonneg (dot v z) p) q)
+side_sum g z (suc c) v m (inr p) (inl (h, i)) = inr (first_positive c (dot v z) (dot m z) (dot (plus (times (suc c) v) m) z) (dot_step (suc c) v m z) p (nonneg_is (dot m z) (pos 0) i (nonneg_pos 0)))
+side_sum g z zero v m (inr p) (inl (h, i)) = inl (ap (λ w. cross w g) same ∙ h, ap (λ w. dot w z) same ∙ i)
+  where
+    same : plus (times 0 v) m ≡ m
+    same = ring3 (values (v ∷ m ∷ []) []) (plusE (timesE (num (pos 0)) v0) v1) v1 (tt, tt, tt)
+
+side_mix : (g z : V3) (cs : List ℕ) (ks : List V3) → All (Side g z) ks → Side g z (mix cs ks)
+side_mix g z [] ks h = side_zero g z
+side_mix g z (c ∷ cs) [] h = side_zero g z
+side_mix g z (c ∷ cs) (k ∷ ks) h = side_sum g z c k (mix cs ks) (All-head (Side g z) k ks h) (side_mix g z cs ks (All-tail (Side g z) k ks h))
+
+cancel_positive : (k : ℕ) (p : ℤ) → pos 0 <ℤ (pos k *ℤ p) → pos 0 <ℤ p
+cancel_positive k (pos zero) h = absurd (omega (arith, ints))
+cancel_positive k (pos (suc p)) h = omega (arith, ints)
+cancel_positive k (negsuc p) h = absurd (omega (arith, ints))
+
+side_part : (g z m w : V3) (k : ℕ) → 1 ≤ k → w ≡ times k m → Side g z w → (cross m g ≡ origin) ⊎ (pos 0 <ℤ dot m z)
+unfolding Side
+side_part g z m w k one e (inl (f, i)) =
+    let ρ = values (m ∷ g ∷ []) (pos k ∷ []) in
+    let l : VEx = crossE v0 v1 in
+    let r : VEx = crossE (timesE (at 6) v0) v1 in
+    let whole : cross (times k m) g ≡ origin = ap (λ v. cross v g) (sym e) ∙ f in
+    inl (same_vector (cross m g) origin
+    (cancel_zero k (cross m g).x one (ring ρ (at 6 ⊗ l.x) r.x tt ∙ ap (λ v. v.x) whole))
+    (cancel_zero k (cross m g).y one (ring ρ (at 6 ⊗ l.y) r.y tt ∙ ap (λ v. v.y) whole))
+    (cancel_zero k (cross m g).z one (ring ρ (at 6 ⊗ l.z) r.z tt ∙ ap (λ v. v.z) whole)))
+side_part g z m w k one e (inr p) =
+    inr (cancel_positive k (dot m z) (subst (λ q. pos 0 <ℤ q) (ap (λ v. dot v z) e ∙ times_dot k m z) p))
+
+-- between d and x, on g
+abbrev between : V3 → V3 → V3 → V3
+between g d x = plus (scale (dot g d) x) (scale (pos 0 -ℤ dot g x) d)
+
+between_on : (g d x : V3) → dot g (between g d x) ≡ pos 0
+between_on g d x = ring (values (g ∷ d ∷ x ∷ []) []) (dotE v0 (plusE (timesE (dotE v0 v1) v2) (timesE (num (pos 0) ⊖ dotE v0 v2) v1))) (num (pos 0)) tt
+
+positive_pair : (a p b q r : ℤ) → r ≡ a *ℤ p +ℤ b *ℤ q → pos 0 ≤ℤ (a *ℤ p) → pos 0 <ℤ (b *ℤ q) → pos 0 <ℤ r
+positive_pair a p b q r e h g = plain (a *ℤ p) (b *ℤ q) r e h g
+  where
+    plain : (s t r : ℤ) → r ≡ s +ℤ t → pos 0 ≤ℤ s → pos 0 <ℤ t → pos 0 <ℤ r
+    plain s t r e h g = omega (arith, ints)
+
+cross_same : (g : V3) → cross g g ≡ origin
+cross_same g = ring3 (values (g ∷ []) []) (crossE v0 v0) originE (tt, tt, tt)
+
+module _ (vs ks : List V3) (d : V3) (inside : All (λ v. pos 0 <ℤ dot v d) vs)
+    (rules : (x : V3) → IsAbove x ks → IsAbove x vs) (from : (g : V3) → Contains ks g → Contains vs g) where
+  in_d : (g : V3) → Contains ks g → pos 0 <ℤ dot g d
+  in_d g c = All-contains (λ v. pos 0 <ℤ dot v d) vs g inside (from g c)
+
+  -- a kept member other than g is strictly on the positive side of the vector on g
+  strictly : (g : V3) (x : V3) → pos 0 <ℤ dot g d → dot g x <ℤ pos 0 → (m : V3) → Contains ks m → pos 0 ≤ℤ dot m x → pos 0 <ℤ dot m (between g d x)
+  strictly g x pd low m c h =
+      positive_pair (dot g d) (dot m x) (pos 0 -ℤ dot g x) (dot m d) (dot m (between g d x)) (dot_pair (dot g d) (pos 0 -ℤ dot g x) m x d)
+      (nonneg_mul (dot g d) (dot m x) (positive_nonneg (dot g d) pd) h)
+      (pos_mul (pos 0 -ℤ dot g x) (dot m d) (turned_positive (dot g x) low) (in_d m c))
+
+  border_at : (g : V3) → Contains ks g → Needed ks [] g → (z : V3) × IsOnBorder vs g z × ((h : V3) → Contains ks h → h ≢ g → pos 0 <ℤ dot h z)
+  unfolding Needed Side
+  border_at g c (x, low, others, none) =
+      let z = between g d x in
+      let pd = in_d g c in
+      let P : V3 → Type 0 = λ m. (m ≡ g) ⊎ (pos 0 ≤ℤ dot m x) in
+      let sides : All (Side g z) ks =
+      All-from_members (Side g z) ks
+      (λ m in_ks. ⊎_elim
+      (λ e. inl (ap (λ v. cross v g) e ∙ cross_same g, ap (λ v. dot v z) e ∙ between_on g d x))
+      (λ h. inr (strictly g x pd low m in_ks h))
+      (All-contains P ks m others in_ks)) in (
+        z,
+        record {
+          g_in = from g c;
+          on = between_on g d x;
+          inside = All-from_members (λ m. (cross m g ≡ origin) ⊎ (pos 0 <ℤ dot m z)) vs
+              (λ m in_vs.
+              let i = combine_lemma ks m (λ y up. All-contains (λ v. pos 0 ≤ℤ dot v y) vs m (rules y up) in_vs) in
+              side_part g z m (mix i.numbers ks) i.k i.positive i.is (side_mix g z i.numbers ks sides));
+        },
+        λ h in_h apart. ⊎_elim (λ e. absurd (apart e)) (λ q. strictly g x pd low h in_h q) (All-contains P ks h others in_h),
+      )
+
+two_borders : (vs ks : List V3) (d : V3) → IsSpanning vs → All (λ v. pos 0 <ℤ dot v d) vs → ((x : V3) → IsAbove x ks → IsAbove x vs) → ((g : V3) → Contains ks g → Contains vs g)
+    → All (Needed ks []) ks → HasTwoBorders vs
+two_borders vs [] d spans inside rules from needed = absurd (not_one vs [] d spans rules (All-nil (λ m. m ≡ d)))
+two_borders vs (g ∷ ks) d spans inside rules from needed = go (find_other g (g ∷ ks))
+  where
+    go : ((h : V3) × Contains (g ∷ ks) h × (h ≢ g)) ⊎ All (λ m. m ≡ g) (g ∷ ks) → HasTwoBorders vs
+    go (inr one) = absurd (not_one vs (g ∷ ks) g spans rules one)
+    go (inl (h, in_h, apart)) =
+        let in_g = here g ks in
+        let b = border_at vs (g ∷ ks) d inside rules from g in_g (All-contains (Needed (g ∷ ks) []) (g ∷ ks) g needed in_g) in
+        let c = border_at vs (g ∷ ks) d inside rules from h in_h (All-contains (Needed (g ∷ ks) []) (g ∷ ks) h needed in_h) in
+        record { g = g; h = h; y = b.0; z = c.0; y_on = b.1; z_on = c.1; y_inside = b.2 h in_h apart; z_inside = c.2 g in_g (λ e. apart (sym e)) }
+
+pub borders_lemma : (vs : List V3) (d : V3) → IsSpanning vs → All (λ v. pos 0 <ℤ dot v d) vs → HasTwoBorders vs
+unfolding Pruned
+borders_lemma vs d spans inside =
+    let (ks, needed, rules, from) = prune [] vs (All-nil (Needed [] vs)) in
+    two_borders vs ks d spans inside rules (λ g c. ⊎_elim (λ n. absurd (nothing g n)) (λ y. y) (from g c)) needed
+  where
+    nothing : (g : V3) → Contains [] g → ⊥
+    nothing g (k, lt, e) = omega arith

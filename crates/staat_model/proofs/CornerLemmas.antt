@@ -1,0 +1,55 @@
+-- A pointed cone that holds a vector but zero holds a vertex.
+use Rattle.std.proofs.Common.{◌≡◌, ℕ, ◌≤◌, ◌≢◌, sym, ap, ◌∙◌, arith, ℤ, pos, neg_ℤ, ◌*ℤ◌, ◌≤ℤ◌, ◌<ℤ◌, inl, inr, ⊎_elim, List, [], ◌∷◌, All}
+use Rattle.std.proofs.lemmas.Int.{ints}
+use Rattle.std.proofs.lemmas.List.Elements.{All-contains, All-weaker}
+use Rattle.staat_vec.specs.declared.vector.V3.{V3}
+use Rattle.staat_vec.specs.Vectors.{vector, dot, cross, times, negative, origin}
+use Rattle.staat_vec.specs.Primitives.{IsPrimitiveOf}
+use Rattle.staat_model.specs.Cones.{IsAbove, IsSpanning, HasAxes, HasEither, HasCorner}
+use Rattle.staat_vec.proofs.Ring.{Ex, at, num, ◌⊗◌, ring}
+use Rattle.staat_vec.proofs.VecRing.{dotE, timesE, vectorE, values, v0, v1, same_vector, negative_dot}
+use Rattle.staat_vec.proofs.Order.{cancel_nonneg, negative_is, nonneg_is}
+use Rattle.staat_model.proofs.Mixes.{square_vector}
+use Rattle.staat_model.proofs.Edge.{edge_below}
+use Rattle.staat_model.proofs.PrimitiveLemmas.{primitive_of}
+
+negative_gone : (a : ℤ) → neg_ℤ a ≡ pos 0 → a ≡ pos 0
+negative_gone a e = omega (arith, ints)
+
+-- n is at right angles to an axis of the list
+across_axis : (vs : List V3) (a n : V3) → HasEither vs a → All (λ v. dot v n ≡ pos 0) vs → dot a n ≡ pos 0
+across_axis vs a n (inl c) h = All-contains (λ v. dot v n ≡ pos 0) vs a h c
+across_axis vs a n (inr c) h = negative_gone (dot a n) (sym (negative_dot a n) ∙ All-contains (λ v. dot v n ≡ pos 0) vs (negative a) h c)
+
+pub axes_span : (vs : List V3) → HasAxes vs → IsSpanning vs
+axes_span vs axes n h =
+    let ρ = values (n ∷ []) [] in
+    let o : Ex = num (pos 0) in
+    let i : Ex = num (pos 1) in
+    same_vector n origin
+    (ring ρ v0.x (dotE (vectorE i o o) v0) tt ∙ across_axis vs (vector (pos 1) (pos 0) (pos 0)) n axes.x h)
+    (ring ρ v0.y (dotE (vectorE o i o) v0) tt ∙ across_axis vs (vector (pos 0) (pos 1) (pos 0)) n axes.y h)
+    (ring ρ v0.z (dotE (vectorE o o i) v0) tt ∙ across_axis vs (vector (pos 0) (pos 0) (pos 1)) n axes.z h)
+
+pub dot_multiple : (v f n : V3) (k : ℕ) → f ≡ times k n → dot v f ≡ pos k *ℤ dot v n
+dot_multiple v f n k e = ap (dot v) e ∙ ring (values (v ∷ n ∷ []) (pos k ∷ [])) (dotE v0 (timesE (at 6) v1)) (at 6 ⊗ dotE v0 v1) tt
+
+positive_pos : (k : ℕ) → 1 ≤ k → pos 0 <ℤ pos k
+positive_pos k h = omega (arith, ints)
+
+-- the sides of a vector are those of its primitive vector
+pub above_primitive : (vs : List V3) (f n : V3) → IsPrimitiveOf f n → IsAbove f vs → IsAbove n vs
+above_primitive vs f n i h =
+    All-weaker (λ v. pos 0 ≤ℤ dot v f) (λ v. pos 0 ≤ℤ dot v n) (λ v q. cancel_nonneg (pos i.factor) (dot v n) (positive_pos i.factor i.positive) (nonneg_is (pos i.factor *ℤ dot v n) (dot v f) (sym (dot_multiple v f n i.factor i.multiple)) q)) vs h
+
+opposite_low : (q : ℤ) → pos 0 <ℤ q → neg_ℤ q <ℤ pos 0
+opposite_low q h = omega (arith, ints)
+
+pub some_square : (d : V3) → d ≢ origin → pos 0 <ℤ dot d d
+some_square d some = ⊎_elim (λ e. absurd (some e)) (λ p. p) (square_vector d)
+
+pub corner_lemma : (vs : List V3) (d : V3) → HasAxes vs → d ≢ origin → IsAbove d vs → HasCorner vs
+corner_lemma vs d axes some up =
+    let (g, h, (in_g, in_h, apart, above), side) = edge_below vs d (negative d) (axes_span vs axes) up (negative_is (dot (negative d) d) (neg_ℤ (dot d d)) (negative_dot d d) (opposite_low (dot d d) (some_square d some))) in
+    let v = primitive_of (cross g h) apart in
+    record { v = v.0; crossing = record { g = g; h = h; g_in = in_g; h_in = in_h; independent = apart; primitive = v.1 }; above = above_primitive vs (cross g h) v.0 v.1 above }

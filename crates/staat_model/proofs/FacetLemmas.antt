@@ -1,0 +1,97 @@
+-- A facet is the primitive vector of the cross product of the two members that it is at right angles to, in one of the two orders; and a direction is reached exactly where it leads ahead of each facet.
+use Rattle.std.proofs.Common.{◌≡◌, ◌↔◌, ℕ, ◌*◌, ◌≢◌, sym, ap, ◌∙◌, arith, ℤ, pos, negsuc, ◌*ℤ◌, ◌≤ℤ◌, ◌<ℤ◌, ⊎_elim, List, [], ◌∷◌, mul-le-mul}
+use Rattle.std.proofs.lemmas.Int.{ints, by_lt_z}
+use Rattle.staat_vec.specs.declared.vector.V3.{V3}
+use Rattle.staat_vec.specs.Vectors.{dot, cross, times, origin}
+use Rattle.staat_vec.specs.Primitives.{IsPrimitive, IsPrimitiveOf}
+use Rattle.staat_vec.proofs.Ring.{Ex, at, num, ◌⊖◌, ◌⊗◌, ring, ring_by, ring_by_two, zero-mul_ℤ}
+use Rattle.staat_vec.proofs.VecRing.{VEx, dotE, crossE, timesE, values, v0, v1, v2, scale, same_vector, ring3}
+use Rattle.staat_vec.proofs.Order.{as_positive, cancel_zero}
+use Rattle.staat_model.specs.Cones.{IsSpanning, IsConeFacet, IsCrossing, IsReached}
+use Rattle.staat_model.proofs.PrimitiveLemmas.{primitive_of, same_primitive, zero_not_primitive}
+use Rattle.staat_model.proofs.CornerLemmas.{some_square}
+use Rattle.staat_model.proofs.FarkasLemmas.{farkas_lemma}
+
+-- (f.f) n = (n.f) f for f = g x h
+pub along : (n g h : V3) → dot g n ≡ pos 0 → dot h n ≡ pos 0 → scale (dot (cross g h) (cross g h)) n ≡ scale (dot n (cross g h)) (cross g h)
+along n g h e f =
+    let ρ = values (n ∷ g ∷ h ∷ []) [] in
+    let c : VEx = crossE v1 v2 in
+    let l : VEx = timesE (dotE c c) v0 in
+    let r : VEx = timesE (dotE v0 c) c in
+    let a : VEx = crossE c v1 in
+    let b : VEx = crossE c v2 in
+    let o : Ex = num (pos 0) in
+    same_vector (scale (dot (cross g h) (cross g h)) n) (scale (dot n (cross g h)) (cross g h))
+    (ring_by_two ρ l.x r.x (o ⊖ b.x) (dotE v1 v0) o a.x (dotE v2 v0) o e f tt)
+    (ring_by_two ρ l.y r.y (o ⊖ b.y) (dotE v1 v0) o a.y (dotE v2 v0) o e f tt)
+    (ring_by_two ρ l.z r.z (o ⊖ b.z) (dotE v1 v0) o a.z (dotE v2 v0) o e f tt)
+
+times_times : (b k : ℕ) (m : V3) → times b (times k m) ≡ times (b * k) m
+times_times b k m = ring3 (values (m ∷ []) (pos b ∷ pos k ∷ [])) (timesE (at 3) (timesE (at 4) v0)) (timesE (at 3 ⊗ at 4) v0) (tt, tt, tt)
+
+-- where n looks along f = g x h
+pub looks_along : (n g h : V3) → IsPrimitive n → dot g n ≡ pos 0 → dot h n ≡ pos 0 → cross g h ≢ origin → pos 0 <ℤ dot n (cross g h) → IsPrimitiveOf (cross g h) n
+looks_along n g h prim e f some side =
+    let c = cross g h in
+    let (m, p) = primitive_of c some in
+    let a = as_positive (dot c c) (some_square c some) in
+    let b = as_positive (dot n c) side in
+    let whole : times a.0 n ≡ times (b.0 * p.factor) m =
+    ap (λ z. scale z n) (sym a.2) ∙ along n g h e f ∙ ap (λ z. scale z c) b.2 ∙ ap (times b.0) p.multiple ∙ times_times b.0 p.factor m in
+    let same : n ≡ m = same_primitive a.0 (b.0 * p.factor) n m a.1 (mul-le-mul b.1 p.positive) whole prim p.primitive in
+    record { factor = p.factor; positive = p.positive; multiple = p.multiple ∙ ap (times p.factor) (sym same); primitive = prim }
+
+-- n does not lie across f
+pub not_across : (n g h : V3) → IsPrimitive n → dot g n ≡ pos 0 → dot h n ≡ pos 0 → cross g h ≢ origin → dot n (cross g h) ≡ pos 0 → ⊥
+not_across n g h prim e f some flat =
+    let c = cross g h in
+    let a = as_positive (dot c c) (some_square c some) in
+    let whole : times a.0 n ≡ times 0 c = ap (λ z. scale z n) (sym a.2) ∙ along n g h e f ∙ ap (λ z. scale z c) flat in
+    zero_not_primitive n prim (same_vector n origin
+    (cancel_zero a.0 n.x a.1 (ap (λ v. v.x) whole ∙ zero-mul_ℤ c.x))
+    (cancel_zero a.0 n.y a.1 (ap (λ v. v.y) whole ∙ zero-mul_ℤ c.y))
+    (cancel_zero a.0 n.z a.1 (ap (λ v. v.z) whole ∙ zero-mul_ℤ c.z)))
+
+swap_dot : (n g h : V3) → dot n (cross h g) ≡ negsuc 0 *ℤ dot n (cross g h)
+swap_dot n g h = ring (values (n ∷ g ∷ h ∷ []) []) (dotE v0 (crossE v2 v1)) (num (negsuc 0) ⊗ dotE v0 (crossE v1 v2)) tt
+
+pub swap_zero : (g h : V3) → cross h g ≡ origin → cross g h ≡ origin
+swap_zero g h e =
+    let ρ = values (g ∷ h ∷ []) [] in
+    let l : VEx = crossE v0 v1 in
+    let r : VEx = crossE v1 v0 in
+    let o : Ex = num (pos 0) in
+    let m : Ex = num (negsuc 0) in
+    same_vector (cross g h) origin (ring_by ρ l.x o m r.x o (ap (λ v. v.x) e) tt) (ring_by ρ l.y o m r.y o (ap (λ v. v.y) e) tt) (ring_by ρ l.z o m r.z o (ap (λ v. v.z) e) tt)
+
+pub facet_crosses_lemma : (vs : List V3) (n : V3) → IsConeFacet vs n → IsCrossing vs n
+facet_crosses_lemma vs n f =
+    let t = f.across in
+    let p = f.primitive in
+    let back : cross t.v t.u ≢ origin = λ z. t.independent (swap_zero t.u t.v z) in
+    by_lt_z {P = IsCrossing vs n} (pos 0) (dot n (cross t.u t.v))
+    (λ side. record { g = t.u; h = t.v; g_in = t.u_in; h_in = t.v_in; independent = t.independent; primitive = looks_along n t.u t.v p t.u_on t.v_on t.independent side })
+    (λ low. by_lt_z {P = IsCrossing vs n} (dot n (cross t.u t.v)) (pos 0)
+    (λ neg. record { g = t.v; h = t.u; g_in = t.v_in; h_in = t.u_in; independent = back; primitive = looks_along n t.v t.u p t.v_on t.u_on back (opposite (dot n (cross t.v t.u)) (dot n (cross t.u t.v)) (swap_dot n t.u t.v) neg) })
+    (λ nonneg. absurd (not_across n t.u t.v p t.u_on t.v_on t.independent (zero_here (dot n (cross t.u t.v)) low nonneg))))
+  where
+    opposite : (p q : ℤ) → p ≡ negsuc 0 *ℤ q → q <ℤ pos 0 → pos 0 <ℤ p
+    opposite p q e h = omega (arith, ints)
+
+    zero_here : (p : ℤ) → p ≤ℤ pos 0 → pos 0 ≤ℤ p → p ≡ pos 0
+    zero_here p h g = omega (arith, ints)
+
+-- a vector has one primitive vector
+pub one_primitive_lemma : (v p q : V3) → IsPrimitiveOf v p → IsPrimitiveOf v q → p ≡ q
+one_primitive_lemma v p q a b = same_primitive a.factor b.factor p q a.positive b.positive (sym a.multiple ∙ b.multiple) a.primitive b.primitive
+
+pub reached_by_facets_lemma : (vs : List V3) (d : V3) → IsSpanning vs → IsReached vs d ↔ ((n : V3) → IsConeFacet vs n → pos 0 <ℤ dot n d)
+reached_by_facets_lemma vs d spans =
+    let law = farkas_lemma vs d spans in (
+      (λ r n f. by_lt_z {P = pos 0 <ℤ dot n d} (pos 0) (dot n d) (λ h. h) (λ low. absurd (law.1 r (record { n = n; facet = f; away = low })))),
+      λ ahead. ⊎_elim (λ r. r) (λ s. absurd (clash (dot s.n d) s.away (ahead s.n s.facet))) law.0,
+    )
+  where
+    clash : (p : ℤ) → p ≤ℤ pos 0 → pos 0 <ℤ p → ⊥
+    clash p h g = omega (arith, ints)

@@ -1,0 +1,245 @@
+-- Weights of two lists of points, and numbers for their differences.
+use Rattle.std.proofs.Common.{◌≡◌, ◌↔◌, ℕ, zero, suc, ◌+◌, ◌*◌, ◌≤◌, refl, sym, ap, subst, ◌∙◌, arith, pos, List, [], ◌∷◌, ◌++◌, length, map, All, sum, take, drop, replicate, take-append-drop, length-take-le, length-drop, length-append, mul-le-mul}
+use Rattle.std.proofs.lemmas.List.{length-map, length-replicate}
+use Rattle.std.proofs.lemmas.List.Sums.{sum_by-cons}
+use Rattle.std.proofs.lemmas.List.Elements.{All-nil, All-cons, All-head, All-tail, All-weaker, All-map, All-append, All-take, All-drop}
+use Rattle.staat_vec.specs.declared.vector.V3.{V3}
+use Rattle.staat_vec.specs.Vectors.{plus, times, minus, origin}
+use Rattle.staat_vec.proofs.Ring.{at, num, ◌⊕◌, ◌⊗◌}
+use Rattle.staat_vec.proofs.VecRing.{plusE, minusE, timesE, originE, values, v0, v1, v2, v3, ring3}
+use Rattle.staat_model.specs.Meeting.{mix, Meets}
+use Rattle.staat_model.specs.Cones.{differences, IsReached}
+use Rattle.staat_model.proofs.Mixes.{mix_scale}
+
+sum-cons : (x : ℕ) (xs : List ℕ) → sum (x ∷ xs) ≡ x + sum xs
+sum-cons x xs = sum_by-cons (λ x. x) x xs
+
+plus_assoc : (a b c : V3) → plus (plus a b) c ≡ plus a (plus b c)
+plus_assoc a b c = ring3 (values (a ∷ b ∷ c ∷ []) []) (plusE (plusE v0 v1) v2) (plusE v0 (plusE v1 v2)) (tt, tt, tt)
+
+origin_plus : (a : V3) → a ≡ plus origin a
+origin_plus a = ring3 (values (a ∷ []) []) v0 (plusE originE v0) (tt, tt, tt)
+
+mix-append : (xs ys : List ℕ) (vs ws : List V3) → length xs ≡ length vs → mix (xs ++ ys) (vs ++ ws) ≡ plus (mix xs vs) (mix ys ws)
+mix-append [] ys [] ws e = origin_plus (mix ys ws)
+mix-append [] ys (v ∷ vs) ws e = absurd (omega arith)
+mix-append (x ∷ xs) ys [] ws e = absurd (omega arith)
+mix-append (x ∷ xs) ys (v ∷ vs) ws e = ap (plus (times x v)) (mix-append xs ys vs ws (omega arith)) ∙ sym (plus_assoc (times x v) (mix xs vs) (mix ys ws))
+
+-- ---- one row: the numbers of the differences to one point p
+
+row_zero : (p : V3) → origin ≡ minus origin (times 0 p)
+row_zero p = ring3 (values (p ∷ []) []) originE (minusE originE (timesE (num (pos 0)) v0)) (tt, tt, tt)
+
+row_step : (y s : ℕ) (q p m : V3) → plus (times y (minus q p)) (minus m (times s p)) ≡ minus (plus (times y q) m) (times (y + s) p)
+row_step y s q p m =
+    ring3 (values (q ∷ p ∷ m ∷ []) (pos y ∷ pos s ∷ []))
+    (plusE (timesE (at 9) (minusE v0 v1)) (minusE v2 (timesE (at 10) v1)))
+    (minusE (plusE (timesE (at 9) v0) v2) (timesE (at 9 ⊕ at 10) v1)) (tt, tt, tt)
+
+row : (b : List ℕ) (qs : List V3) (p : V3) → length b ≡ length qs → mix b (map (λ q. minus q p) qs) ≡ minus (mix b qs) (times (sum b) p)
+row [] [] p e = row_zero p
+row [] (q ∷ qs) p e = absurd (omega arith)
+row (y ∷ b) [] p e = absurd (omega arith)
+row (y ∷ b) (q ∷ qs) p e =
+    ap (plus (times y (minus q p))) (row b qs p (omega arith))
+    ∙ row_step y (sum b) q p (mix b qs)
+    ∙ ap (λ s. minus (plus (times y q) (mix b qs)) (times s p)) (sym (sum-cons y b))
+
+-- ---- from weights to numbers: the product of each two weights
+
+abbrev products : List ℕ → List ℕ → List ℕ
+products [] b = []
+products (x ∷ a) b = map (λ y. x * y) b ++ products a b
+
+length-products : (a b : List ℕ) (ps qs : List V3) → length a ≡ length ps → length b ≡ length qs → length (products a b) ≡ length (differences ps qs)
+length-products [] b [] qs e f = refl
+length-products [] b (p ∷ ps) qs e f = absurd (omega arith)
+length-products (x ∷ a) b [] qs e f = absurd (omega arith)
+length-products (x ∷ a) b (p ∷ ps) qs e f =
+    length-append (map (λ y. x * y) b) (products a b)
+    ∙ (λ i. (length-map b (λ y. x * y) ∙ f ∙ sym (length-map qs (λ q. minus q p))) i + length-products a b ps qs (omega arith) f i)
+    ∙ sym (length-append (map (λ q. minus q p) qs) (differences ps qs))
+
+positive-products : (a b : List ℕ) → All (λ w. 1 ≤ w) a → All (λ w. 1 ≤ w) b → All (λ w. 1 ≤ w) (products a b)
+positive-products [] b h g = All-nil (λ w. 1 ≤ w)
+positive-products (x ∷ a) b h g =
+    All-append (λ w. 1 ≤ w) (map (λ y. x * y) b) (products a b)
+    (All-map (λ w. 1 ≤ w) (λ y. x * y) b (All-weaker (λ w. 1 ≤ w) (λ y. 1 ≤ x * y) (λ y le. mul-le-mul (All-head (λ w. 1 ≤ w) x a h) le) b g))
+    (positive-products a b (All-tail (λ w. 1 ≤ w) x a h) g)
+
+products_none : (s : ℕ) (w : V3) → origin ≡ minus (times 0 w) (times s origin)
+products_none s w = ring3 (values (w ∷ []) (pos s ∷ [])) originE (minusE (timesE (num (pos 0)) v0) (timesE (at 3) originE)) (tt, tt, tt)
+
+products_step : (x s t : ℕ) (w p m : V3) → plus (times x (minus w (times s p))) (minus (times t w) (times s m)) ≡ minus (times (x + t) w) (times s (plus (times x p) m))
+products_step x s t w p m =
+    ring3 (values (w ∷ p ∷ m ∷ []) (pos x ∷ pos s ∷ pos t ∷ []))
+    (plusE (timesE (at 9) (minusE v0 (timesE (at 10) v1))) (minusE (timesE (at 11) v0) (timesE (at 10) v2)))
+    (minusE (timesE (at 9 ⊕ at 11) v0) (timesE (at 10) (plusE (timesE (at 9) v1) v2))) (tt, tt, tt)
+
+mix-products : (a b : List ℕ) (ps qs : List V3) → length a ≡ length ps → length b ≡ length qs → mix (products a b) (differences ps qs) ≡ minus (times (sum a) (mix b qs)) (times (sum b) (mix a ps))
+mix-products [] b [] qs e f = products_none (sum b) (mix b qs)
+mix-products [] b (p ∷ ps) qs e f = absurd (omega arith)
+mix-products (x ∷ a) b [] qs e f = absurd (omega arith)
+mix-products (x ∷ a) b (p ∷ ps) qs e f =
+    mix-append (map (λ y. x * y) b) (products a b) (map (λ q. minus q p) qs) (differences ps qs) (length-map b (λ y. x * y) ∙ f ∙ sym (length-map qs (λ q. minus q p)))
+    ∙ (λ i. plus ((mix_scale x b (map (λ q. minus q p) qs) ∙ ap (times x) (row b qs p f)) i) (mix-products a b ps qs (omega arith) f i))
+    ∙ products_step x (sum b) (sum a) (mix b qs) p (mix a ps)
+    ∙ ap (λ s. minus (times s (mix b qs)) (times (sum b) (plus (times x p) (mix a ps)))) (sym (sum-cons x a))
+
+products_end : (s t : ℕ) (m d : V3) → minus (times s (plus m (times t d))) (times s m) ≡ times (s * t) d
+products_end s t m d =
+    ring3 (values (m ∷ d ∷ []) (pos s ∷ pos t ∷ []))
+    (minusE (timesE (at 6) (plusE v0 (timesE (at 7) v1))) (timesE (at 6) v0))
+    (timesE (at 6 ⊗ at 7) v1) (tt, tt, tt)
+
+pub reached_from_meets : (ps qs : List V3) (d : V3) → Meets ps qs d → IsReached (differences ps qs) d
+reached_from_meets ps qs d m =
+    let r = m.meeting in
+    let a = r.a in
+    let b = r.b in
+    let la = r.a_weights.one_each in
+    let lb = r.b_weights.one_each in
+    record {
+      weights = products a b;
+      are_weights = record { one_each = length-products a b ps qs la lb; positive = positive-products a b r.a_weights.positive r.b_weights.positive };
+      t = sum a * m.t;
+      is = mix-products a b ps qs la lb
+          ∙ ap (λ w. minus (times (sum a) w) (times (sum b) (mix a ps))) (sym r.same_place)
+          ∙ ap (λ s. minus (times (sum a) (plus (mix a ps) (times m.t d))) (times s (mix a ps))) (sym r.same_sum)
+          ∙ products_end (sum a) m.t (mix a ps) d;
+    }
+
+-- ---- from numbers to weights: the sums of the rows and of the columns
+
+abbrev zip_add : List ℕ → List ℕ → List ℕ
+zip_add [] ys = []
+zip_add (x ∷ xs) [] = []
+zip_add (x ∷ xs) (y ∷ ys) = (x + y) ∷ zip_add xs ys
+
+length-zip_add : (xs ys : List ℕ) → length xs ≡ length ys → length (zip_add xs ys) ≡ length xs
+length-zip_add [] ys e = refl
+length-zip_add (x ∷ xs) [] e = absurd (omega arith)
+length-zip_add (x ∷ xs) (y ∷ ys) e = ap suc (length-zip_add xs ys (omega arith))
+
+sum-zip_add : (xs ys : List ℕ) → length xs ≡ length ys → sum (zip_add xs ys) ≡ sum xs + sum ys
+sum-zip_add [] [] e = omega arith
+sum-zip_add [] (y ∷ ys) e = absurd (omega arith)
+sum-zip_add (x ∷ xs) [] e = absurd (omega arith)
+sum-zip_add (x ∷ xs) (y ∷ ys) e = omega (arith, sum-cons (x + y) (zip_add xs ys), sum-cons x xs, sum-cons y ys, sum-zip_add xs ys (omega arith))
+
+positive-zip_add : (xs ys : List ℕ) → length xs ≡ length ys → All (λ w. 1 ≤ w) xs → All (λ w. 1 ≤ w) (zip_add xs ys)
+positive-zip_add [] ys e h = All-nil (λ w. 1 ≤ w)
+positive-zip_add (x ∷ xs) [] e h = absurd (omega arith)
+positive-zip_add (x ∷ xs) (y ∷ ys) e h =
+    let one = All-head (λ w. 1 ≤ w) x xs h in
+    All-cons (λ w. 1 ≤ w) (x + y) (zip_add xs ys) (omega (arith, one)) (positive-zip_add xs ys (omega arith) (All-tail (λ w. 1 ≤ w) x xs h))
+
+zip_step : (x y : ℕ) (v m n : V3) → plus (times (x + y) v) (plus m n) ≡ plus (plus (times x v) m) (plus (times y v) n)
+zip_step x y v m n =
+    ring3 (values (v ∷ m ∷ n ∷ []) (pos x ∷ pos y ∷ []))
+    (plusE (timesE (at 9 ⊕ at 10) v0) (plusE v1 v2))
+    (plusE (plusE (timesE (at 9) v0) v1) (plusE (timesE (at 10) v0) v2)) (tt, tt, tt)
+
+mix-zip_add : (xs ys : List ℕ) (vs : List V3) → length xs ≡ length ys → mix (zip_add xs ys) vs ≡ plus (mix xs vs) (mix ys vs)
+mix-zip_add [] [] vs e = origin_plus origin
+mix-zip_add [] (y ∷ ys) vs e = absurd (omega arith)
+mix-zip_add (x ∷ xs) [] vs e = absurd (omega arith)
+mix-zip_add (x ∷ xs) (y ∷ ys) [] e = origin_plus origin
+mix-zip_add (x ∷ xs) (y ∷ ys) (v ∷ vs) e = ap (plus (times (x + y) v)) (mix-zip_add xs ys vs (omega arith)) ∙ zip_step x y v (mix xs vs) (mix ys vs)
+
+mix-zeros : (vs : List V3) → mix (replicate (length vs) 0) vs ≡ origin
+mix-zeros [] = refl
+mix-zeros (v ∷ vs) = ap (plus (times 0 v)) (mix-zeros vs) ∙ ring3 (values (v ∷ []) []) (plusE (timesE (num (pos 0)) v0) originE) originE (tt, tt, tt)
+
+sum-zeros : (n : ℕ) → sum (replicate n 0) ≡ 0
+sum-zeros zero = refl
+sum-zeros (suc n) = omega (arith, sum-cons 0 (replicate n 0), sum-zeros n)
+
+mix_none : (ms : List ℕ) → length ms ≡ 0 → mix ms [] ≡ origin
+mix_none [] e = refl
+mix_none (m ∷ ms) e = absurd (omega arith)
+
+-- weights of the two lists, as the numbers of their differences make them
+record Split (ps qs : List V3) (ms : List ℕ) : Type 0 where
+  a : List ℕ
+  b : List ℕ
+  length_a : length a ≡ length ps
+  length_b : length b ≡ length qs
+  same : sum a ≡ sum b
+  is : mix ms (differences ps qs) ≡ minus (mix b qs) (mix a ps)
+  positive_a : 1 ≤ length qs → All (λ w. 1 ≤ w) a
+  positive_b : 1 ≤ length ps → All (λ w. 1 ≤ w) b
+
+split_none : (qs : List V3) (ms : List ℕ) → length ms ≡ 0 → Split [] qs ms
+split_none qs ms e = record {
+  a = [];
+  b = replicate (length qs) 0;
+  length_a = refl;
+  length_b = length-replicate (length qs) 0;
+  same = sym (sum-zeros (length qs));
+  is = mix_none ms e ∙ nothing ∙ ap (λ w. minus w origin) (sym (mix-zeros qs));
+  positive_a = λ h. All-nil (λ w. 1 ≤ w);
+  positive_b = λ h. absurd (omega arith);
+}
+  where
+    nothing : origin ≡ minus origin origin
+    nothing = refl
+
+split_step : (r s p m : V3) → plus (minus r p) (minus s m) ≡ minus (plus r s) (plus p m)
+split_step r s p m = ring3 (values (r ∷ s ∷ p ∷ m ∷ []) []) (plusE (minusE v0 v2) (minusE v1 v3)) (minusE (plusE v0 v1) (plusE v2 v3)) (tt, tt, tt)
+
+some_sum : (xs : List ℕ) → 1 ≤ length xs → All (λ w. 1 ≤ w) xs → 1 ≤ sum xs
+some_sum [] h g = absurd (omega arith)
+some_sum (x ∷ xs) h g = let one = All-head (λ w. 1 ≤ w) x xs g in omega (arith, one, sum-cons x xs)
+
+split_cons : (p : V3) (ps qs : List V3) (r s : List ℕ) → length r ≡ length qs → All (λ w. 1 ≤ w) r → Split ps qs s → Split (p ∷ ps) qs (r ++ s)
+split_cons p ps qs r s l one t =
+    let same = l ∙ sym t.length_b in
+    record {
+      a = sum r ∷ t.a;
+      b = zip_add r t.b;
+      length_a = ap suc t.length_a;
+      length_b = length-zip_add r t.b same ∙ l;
+      same = sum-cons (sum r) t.a ∙ ap (λ n. sum r + n) t.same ∙ sym (sum-zip_add r t.b same);
+      is = mix-append r s (map (λ q. minus q p) qs) (differences ps qs) (l ∙ sym (length-map qs (λ q. minus q p)))
+          ∙ (λ i. plus (row r qs p l i) (t.is i))
+          ∙ split_step (mix r qs) (mix t.b qs) (times (sum r) p) (mix t.a ps)
+          ∙ ap (λ w. minus w (plus (times (sum r) p) (mix t.a ps))) (sym (mix-zip_add r t.b qs same));
+      positive_a = λ h. All-cons (λ w. 1 ≤ w) (sum r) t.a (some_sum r (omega arith) one) (t.positive_a h);
+      positive_b = λ h. positive-zip_add r t.b same one;
+    }
+
+split : (ps qs : List V3) (ms : List ℕ) → length ms ≡ length (differences ps qs) → All (λ w. 1 ≤ w) ms → Split ps qs ms
+split [] qs ms e one = split_none qs ms e
+split (p ∷ ps) qs ms e one =
+    let n = length qs in
+    let long = length-append (map (λ q. minus q p) qs) (differences ps qs) in
+    let same = length-map qs (λ q. minus q p) in
+    let le : n ≤ length ms = omega (arith, e, long, same) in
+    let r = take n ms in
+    let s = drop n ms in
+    let ls : length s ≡ length (differences ps qs) = length-drop n ms ∙ omega (arith, e, long, same) in
+    subst (Split (p ∷ ps) qs) (take-append-drop n ms)
+    (split_cons p ps qs r s (length-take-le n ms le) (All-take (λ w. 1 ≤ w) n ms one) (split ps qs s ls (All-drop (λ w. 1 ≤ w) n ms one)))
+
+turn_around : (a b c : V3) → c ≡ minus b a → plus a c ≡ b
+turn_around a b c e = ap (plus a) e ∙ ring3 (values (a ∷ b ∷ []) []) (plusE v0 (minusE v1 v0)) v1 (tt, tt, tt)
+
+pub meets_from_reached : (ps qs : List V3) (d : V3) → 1 ≤ length ps → 1 ≤ length qs → IsReached (differences ps qs) d → Meets ps qs d
+meets_from_reached ps qs d some_p some_q r =
+    let s = split ps qs r.weights r.are_weights.one_each r.are_weights.positive in
+    record {
+      t = r.t;
+      meeting = record {
+        a = s.a;
+        b = s.b;
+        a_weights = record { one_each = s.length_a; positive = s.positive_a some_q };
+        b_weights = record { one_each = s.length_b; positive = s.positive_b some_p };
+        same_sum = s.same;
+        same_place = turn_around (mix s.a ps) (mix s.b qs) (times r.t d) (sym r.is ∙ s.is);
+      };
+    }
+
+pub weights_lemma : (ps qs : List V3) (d : V3) → 1 ≤ length ps → 1 ≤ length qs → Meets ps qs d ↔ IsReached (differences ps qs) d
+weights_lemma ps qs d some_p some_q = (reached_from_meets ps qs d, meets_from_reached ps qs d some_p some_q)

@@ -1,0 +1,98 @@
+// Whether points span space.
+ghost use Rattle.std.specs.Prelude.{◌≡◌, ◌≢◌, ◌↔◌, pos, All, Contains, IsTrue, MatchOption};
+ghost use Rattle.staat_vec.specs.Vectors.{IsWithin, cross, dot, minus, origin};
+ghost use Rattle.staat_model.specs.Pieces.{IsSolid};
+
+use staat_vec::{DIFF, NORMAL, POINT, V3, cross_diff, dot, sub};
+
+const ORIGIN: V3 = V3 { x: 0, y: 0, z: 0 };
+
+fn is_same(a: V3, b: V3) -> bool
+    ensures { IsTrue result ↔ (a ≡ b) }
+{
+    a == b
+}
+
+// the first point other than a
+fn other_than(points: &[V3], a: V3) -> Option<V3>
+    ensures { MatchOption result (All (λ p. p ≡ a) points.now) (λ b. Contains points.now b × (b ≢ a)) }
+{
+    for p in points {
+        if !is_same(*p, a) {
+            return Some(*p);
+        }
+    }
+    None
+}
+
+// whether p lies on the line through a along a difference
+fn is_on_line(a: V3, along: V3, p: V3) -> bool
+    requires a { IsWithin POINT a }
+    requires along { IsWithin DIFF along }
+    requires p { IsWithin POINT p }
+    ensures { IsTrue result ↔ (cross along (minus p a) ≡ origin) }
+{
+    is_same(cross_diff(along, sub(p, a)), ORIGIN)
+}
+
+// the first point off the line through a along a difference
+fn off_line(points: &[V3], a: V3, along: V3) -> Option<V3>
+    requires points { All (IsWithin POINT) points.now }
+    requires a { IsWithin POINT a }
+    requires along { IsWithin DIFF along }
+    ensures { MatchOption result (All (λ p. cross along (minus p a) ≡ origin) points.now) (λ c. Contains points.now c × (cross along (minus c a) ≢ origin)) }
+{
+    for p in points {
+        if !is_on_line(a, along, *p) {
+            return Some(*p);
+        }
+    }
+    None
+}
+
+// whether p lies on the plane through a with the normal n
+fn is_on_plane(a: V3, n: V3, p: V3) -> bool
+    requires a { IsWithin POINT a }
+    requires n { IsWithin NORMAL n }
+    requires p { IsWithin POINT p }
+    ensures { IsTrue result ↔ (dot n (minus p a) ≡ pos 0) }
+{
+    dot(n, sub(p, a)) == 0
+}
+
+// the first point off the plane through a with the normal n
+fn off_plane(points: &[V3], a: V3, n: V3) -> Option<V3>
+    requires points { All (IsWithin POINT) points.now }
+    requires a { IsWithin POINT a }
+    requires n { IsWithin NORMAL n }
+    ensures { MatchOption result (All (λ p. dot n (minus p a) ≡ pos 0) points.now) (λ e. Contains points.now e × (dot n (minus e a) ≢ pos 0)) }
+{
+    for p in points {
+        if !is_on_plane(a, n, *p) {
+            return Some(*p);
+        }
+    }
+    None
+}
+
+/// Whether four of the points do not lie in one plane.
+///
+/// The components of the points are at most [`POINT`] in absolute value. The time is linear in their number: where
+/// any four of them span space, four of them that begin with the first point do.
+pub fn is_solid(points: &[V3]) -> bool
+    requires { All (IsWithin POINT) points.now }
+    ensures { IsTrue result ↔ IsSolid points.now }
+{
+    let Some(first) = points.first() else {
+        return false;
+    };
+    let a = *first;
+    let Some(b) = other_than(points, a) else {
+        return false;
+    };
+    let along = sub(b, a);
+    let Some(c) = off_line(points, a, along) else {
+        return false;
+    };
+    off_plane(points, a, cross_diff(along, sub(c, a))).is_some()
+}

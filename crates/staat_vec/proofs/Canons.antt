@@ -1,0 +1,118 @@
+-- Of two opposite vectors exactly one is canonical.
+use Rattle.std.proofs.Common.{◌≡◌, ◌≢◌, ◌⊎◌, inl, inr, ℕ, zero, suc, true, false, if◌then◌else◌, refl, sym, ap, subst, ◌∙◌, arith, ℤ, pos, negsuc, neg_ℤ, ◌<ℤ◌}
+use Rattle.std.specs.Prelude.{int_lt}
+use Rattle.std.proofs.lemmas.Int.{ints}
+use Rattle.staat_vec.specs.declared.vector.V3.{V3}
+use Rattle.staat_vec.specs.Vectors.{IsWithin, origin, negative, cross}
+use Rattle.staat_vec.specs.Primitives.{IsPrimitive, or_next, first_nonzero, IsCanon, canon}
+use Rattle.staat_vec.proofs.Bounds.{IsWithin-negative}
+use Rattle.staat_vec.proofs.Divisors.{same_vector, neg-neg}
+use Rattle.staat_vec.proofs.Primitives.{IsPrimitive-some, IsPrimitive-negative, parallel_primitives}
+
+pub negative-negative : (v : V3) → negative (negative v) ≡ v
+negative-negative v = same_vector (negative (negative v)) v (neg-neg v.x) (neg-neg v.y) (neg-neg v.z)
+
+or_next-neg : (a b : ℤ) → or_next (neg_ℤ a) (neg_ℤ b) ≡ neg_ℤ (or_next a b)
+or_next-neg (pos zero) b = refl
+or_next-neg (pos (suc n)) b = refl
+or_next-neg (negsuc n) b = refl
+
+pub first_nonzero-negative : (v : V3) → first_nonzero (negative v) ≡ neg_ℤ (first_nonzero v)
+first_nonzero-negative v = ap (λ b. or_next (neg_ℤ v.x) b) (or_next-neg v.y v.z) ∙ or_next-neg v.x (or_next v.y v.z)
+
+or_next-zero : (a b : ℤ) → or_next a b ≡ pos 0 → (a ≡ pos 0) × (b ≡ pos 0)
+or_next-zero (pos zero) b e = (refl, e)
+or_next-zero (pos (suc n)) b e = cc
+or_next-zero (negsuc n) b e = cc
+
+-- only the origin has no component other than 0
+pub first_nonzero-zero : (v : V3) → first_nonzero v ≡ pos 0 → v ≡ origin
+first_nonzero-zero v e =
+    let (x, rest) = or_next-zero v.x (or_next v.y v.z) e in
+    let (y, z) = or_next-zero v.y v.z rest in
+    same_vector v origin x y z
+
+-- ---- the choice, by the sign of the first component that is not 0
+
+by_sign : (a : ℤ) → (a ≡ pos 0) ⊎ (pos 0 <ℤ a) ⊎ (pos 0 <ℤ neg_ℤ a)
+by_sign (pos zero) = inl refl
+by_sign (pos (suc n)) = inr (inl (omega (arith, ints)))
+by_sign (negsuc n) = inr (inr (omega (arith, ints)))
+
+positive_test : (a : ℤ) → pos 0 <ℤ a → int_lt (pos 0) a ≡ true
+positive_test a h = grind (arith, ints)
+
+negative_test : (a : ℤ) → pos 0 <ℤ neg_ℤ a → int_lt (pos 0) a ≡ false
+negative_test a h = grind (arith, ints)
+
+IsCanon-negative : (v : V3) → IsCanon (negative v) → pos 0 <ℤ neg_ℤ (first_nonzero v)
+IsCanon-negative v h = subst (λ a. pos 0 <ℤ a) (first_nonzero-negative v) h
+
+pub canon-same : (v : V3) → IsCanon v → canon v ≡ v
+unfolding canon
+canon-same v h = ap (λ b. if b then v else negative v) (positive_test (first_nonzero v) h)
+
+pub canon-opposite : (v : V3) → IsCanon (negative v) → canon v ≡ negative v
+unfolding canon
+canon-opposite v h = ap (λ b. if b then v else negative v) (negative_test (first_nonzero v) (IsCanon-negative v h))
+
+-- the origin is its own negative
+canon-origin : canon origin ≡ origin
+unfolding canon
+canon-origin = refl
+
+-- it is the vector or its negative
+pub canon-either : (v : V3) → (canon v ≡ v) ⊎ (canon v ≡ negative v)
+canon-either v = by (by_sign (first_nonzero v))
+  where
+    by : (first_nonzero v ≡ pos 0) ⊎ (pos 0 <ℤ first_nonzero v) ⊎ (pos 0 <ℤ neg_ℤ (first_nonzero v)) → (canon v ≡ v) ⊎ (canon v ≡ negative v)
+    by (inl none) = let e = first_nonzero-zero v none in inl (ap canon e ∙ canon-origin ∙ sym e)
+    by (inr (inl h)) = inl (canon-same v h)
+    by (inr (inr h)) = inr (canon-opposite v (subst (λ a. pos 0 <ℤ a) (sym (first_nonzero-negative v)) h))
+
+-- what holds of the vector and of its negative holds of the canonical one
+pub canon-has : (P : V3 → Type 0) (v : V3) → P v → P (negative v) → P (canon v)
+canon-has P v h k = elim (canon-either v) [ inl e ↦ subst P (sym e) h | inr e ↦ subst P (sym e) k ]
+
+-- one of two opposite vectors is canonical, unless both are the origin
+pub IsCanon-canon : (v : V3) → v ≢ origin → IsCanon (canon v)
+IsCanon-canon v some = by (by_sign (first_nonzero v))
+  where
+    by : (first_nonzero v ≡ pos 0) ⊎ (pos 0 <ℤ first_nonzero v) ⊎ (pos 0 <ℤ neg_ℤ (first_nonzero v)) → IsCanon (canon v)
+    by (inl none) = absurd (some (first_nonzero-zero v none))
+    by (inr (inl h)) = subst (λ w. IsCanon w) (sym (canon-same v h)) h
+    by (inr (inr h)) =
+        let opposite : IsCanon (negative v) = subst (λ a. pos 0 <ℤ a) (sym (first_nonzero-negative v)) h in
+        subst (λ w. IsCanon w) (sym (canon-opposite v opposite)) opposite
+
+pub IsCanon-not_both : (v : V3) → IsCanon v → ¬ (IsCanon (negative v))
+IsCanon-not_both v h k = let opposite = IsCanon-negative v k in omega (arith, ints)
+
+-- only one is canonical
+pub canon-only : (v c : V3) → IsCanon c → (c ≡ v) ⊎ (c ≡ negative v) → c ≡ canon v
+canon-only v c h (inl e) = e ∙ sym (canon-same v (subst (λ w. IsCanon w) e h))
+canon-only v c h (inr e) = e ∙ sym (canon-opposite v (subst (λ w. IsCanon w) e h))
+
+pub canon-negative : (v : V3) → v ≢ origin → canon (negative v) ≡ canon v
+canon-negative v some = canon-only v (canon (negative v)) (IsCanon-canon (negative v) other) (by (canon-either (negative v)))
+  where
+    other : negative v ≢ origin
+    other e = some (sym (negative-negative v) ∙ ap negative e)
+
+    by : (canon (negative v) ≡ negative v) ⊎ (canon (negative v) ≡ negative (negative v)) → (canon (negative v) ≡ v) ⊎ (canon (negative v) ≡ negative v)
+    by (inl e) = inr e
+    by (inr e) = inl (e ∙ negative-negative v)
+
+pub IsPrimitive-canon : (v : V3) → IsPrimitive v → IsPrimitive (canon v)
+IsPrimitive-canon v prim = canon-has (λ w. IsPrimitive w) v prim (IsPrimitive-negative v prim)
+
+pub IsWithin-canon : (bound : ℕ) (v : V3) → IsWithin bound v → IsWithin bound (canon v)
+IsWithin-canon bound v h = canon-has (IsWithin bound) v h (IsWithin-negative bound v h)
+
+-- primitive vectors on one line have one canonical vector
+pub same_canon : (n m : V3) → IsPrimitive n → IsPrimitive m → cross n m ≡ origin → canon n ≡ canon m
+same_canon n m pn pm e = by (parallel_primitives n m pn pm e)
+  where
+    by : (n ≡ m) ⊎ (n ≡ negative m) → canon n ≡ canon m
+    by (inl same) = ap canon same
+    by (inr opposite) = ap canon opposite ∙ canon-negative m (IsPrimitive-some m pm)
