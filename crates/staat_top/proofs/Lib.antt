@@ -1,6 +1,9 @@
 pub mod Split
 pub mod Points
+pub mod Making
+pub mod Reading
 pub mod Judging
 pub mod OneReply
 pub mod RightLemmas
 pub mod RunLemmas
+pub mod Asking

@@ -10,7 +10,6 @@ use Rattle.staat_model.specs.Walls.{IsShown}
 use Rattle.staat_model.specs.Meeting.{Meets}
 use Rattle.staat_edge.specs.Files.{bytes_of}
 use Rattle.staat_words.specs.declared.request.Request.{Request}
-use Rattle.staat_words.specs.declared.request.Request.TheVariants.{Pair}
 use Rattle.staat_top.specs.declared.read.TheConstants.{FILE_LIMIT}
 use Rattle.staat_top.specs.Plain.{IsPlain, MakesPiece}
 use Rattle.staat_top.specs.Steps.{Files, End, replies, reads, Found, gives, stops, Then, Reply, answered}
@@ -148,6 +147,6 @@ ends_rest None files = record {
   one = λ r s a b. reply_at r s (a ∙ sym b);
   held = λ name r a lacks b. reads_at name _ a;
 }
-ends_rest (Some (Pair along wall first second)) files =
-    then_rest files (IsPieceOf files first) _ (piece_step files first)
-    (λ p. then_rest files (IsPieceOf files second) _ (piece_step files second) (λ q. judged_rest files p q along wall))
+ends_rest (Some request) files =
+    then_rest files (IsPieceOf files request.first) _ (piece_step files request.first)
+    (λ p. then_rest files (IsPieceOf files request.second) _ (piece_step files request.second) (λ q. judged_rest files p q request.along request.wall))

@@ -7,7 +7,6 @@ use Rattle.staat_model.specs.Walls.{IsShown}
 use Rattle.staat_model.specs.Meeting.{Meets}
 use Rattle.staat_model.proofs.WallLaws as walls
 use Rattle.staat_words.specs.declared.request.Request.{Request}
-use Rattle.staat_words.specs.declared.request.Request.TheVariants.{Pair}
 use Rattle.staat_top.specs.Steps.{Files, End, replies, reads, Found, gives, stops, Then, Reply, answered}
 use Rattle.staat_top.specs.Replies.{IsPieceOf, to_read, too_long, not_plain, plain, IsJudged, free, not_shown, IsReply, IsRight}
 
@@ -34,9 +33,9 @@ stops_late files name text (plain x q xe xs xp e) = absurd cc
 -- a wall that is shown keeps the pieces apart, and no other reply has status 0
 pub free_is_right : (asked : Option Request) (files : Files) (text : List ℕ) → IsReply asked files (answered 0 text) → IsRight asked files
 free_is_right None files text e = absurd (omega (arith, same_status _ _ e))
-free_is_right (Some (Pair along wall first second)) files text (inl stopped) = absurd (stops_late files first text stopped)
-free_is_right (Some (Pair along wall first second)) files text (inr (p, first_gives, inl stopped)) = absurd (stops_late files second text stopped)
-free_is_right (Some (Pair along wall first second)) files text (inr (p, first_gives, inr (q, second_gives, free shown e))) =
-    (p, q, first_gives, second_gives, walls.wall_keeps_apart p q along wall (gives_piece files first p first_gives).solid shown)
-free_is_right (Some (Pair along wall first second)) files text (inr (p, first_gives, inr (q, second_gives, not_shown none e))) =
+free_is_right (Some request) files text (inl stopped) = absurd (stops_late files request.first text stopped)
+free_is_right (Some request) files text (inr (p, first_gives, inl stopped)) = absurd (stops_late files request.second text stopped)
+free_is_right (Some request) files text (inr (p, first_gives, inr (q, second_gives, free shown e))) =
+    (p, q, first_gives, second_gives, walls.wall_keeps_apart p q request.along request.wall (gives_piece files request.first p first_gives).solid shown)
+free_is_right (Some request) files text (inr (p, first_gives, inr (q, second_gives, not_shown none e))) =
     absurd (omega (arith, same_status _ _ e))

@@ -1,15 +1,22 @@
 -- The reply to a request over some files, as the order of work finds it.
-use Rattle.std.specs.Prelude.{◌≡◌, ◌⊎◌, ◌<◌, ◌≤◌, ℕ, List, length, Option, Some, None, codes}
+use Rattle.std.specs.Prelude.{◌≡◌, ◌⊎◌, ◌<◌, ◌≤◌, ℕ, List, length, Option, Some, None, Result, Ok, Err, codes, ⊤}
 use Rattle.staat_vec.specs.declared.vector.V3.{V3}
 use Rattle.staat_model.specs.Walls.{IsShown}
 use Rattle.staat_model.specs.Meeting.{Meets}
 use Rattle.staat_edge.specs.Files.{bytes_of}
 use Rattle.staat_words.specs.declared.request.Request.{Request}
-use Rattle.staat_words.specs.declared.request.Request.TheVariants.{Pair}
-use Rattle.staat_top.specs.declared.fault.Fault.TheVariants.{Usage, TooLong, NotPlain}
+use Rattle.staat_top.specs.declared.fault.Fault.{Fault}
+use Rattle.staat_top.specs.declared.fault.Fault.TheVariants.{Usage, TooLong, NotPlain, OutOfMemory}
 use Rattle.staat_top.specs.declared.read.TheConstants.{FILE_LIMIT}
 use Rattle.staat_top.specs.Plain.{IsPlain}
 use Rattle.staat_top.specs.Steps.{Files, End, replies, reads, Found, gives, stops, Then, Reply, answered, refused}
+
+-- a call answers what the bytes of the file hold; want of memory is free
+abbrev pub IsRead : List ℕ → List ℕ → Result (List V3) Fault → Type 0
+IsRead name bytes (Ok piece) = IsPlain bytes piece
+IsRead name bytes (Err (NotPlain n)) = (n ≡ name) × ((p : List V3) → IsPlain bytes p → ⊥)
+IsRead name bytes (Err OutOfMemory) = ⊤
+IsRead name bytes (Err fault) = ⊥
 
 -- What the step finds that reads the piece of a file: the file is to be read, or is too long, or lacks the plain
 -- form, or is the text of the piece.
@@ -26,8 +33,8 @@ pub data IsJudged (p q : List V3) (d n : V3) : End → Type 0 where
 
 -- the ends of the work on a request
 abbrev pub EndsOf : Request → Files → End → Type 0
-EndsOf (Pair along wall first second) files at =
-    Then (IsPieceOf files first) (λ p. Then (IsPieceOf files second) (λ q. IsJudged p q along wall)) at
+EndsOf request files at =
+    Then (IsPieceOf files request.first) (λ p. Then (IsPieceOf files request.second) (λ q. IsJudged p q request.along request.wall)) at
 
 -- the ends of the work on words, which may make no request
 abbrev pub Ends : Option Request → Files → End → Type 0
@@ -41,5 +48,5 @@ IsReply asked files reply = Ends asked files (replies reply)
 -- What status 0 means: for a pair, that the first file's piece never meets the second's along the direction.
 abbrev pub IsRight : Option Request → Files → Type 0
 IsRight None files = ⊥
-IsRight (Some (Pair along wall first second)) files =
-    (p : List V3) × (q : List V3) × IsPieceOf files first (gives p) × IsPieceOf files second (gives q) × (Meets p q along → ⊥)
+IsRight (Some request) files =
+    (p : List V3) × (q : List V3) × IsPieceOf files request.first (gives p) × IsPieceOf files request.second (gives q) × (Meets p q request.along → ⊥)

@@ -1,7 +1,7 @@
 // The command `pair`: whether a wall shows that one piece never meets another.
 ghost use Rattle.std.specs.Prelude.{◌≡◌, ◌≤◌, ◌<◌, Some, IfOk, IfErr, MatchResult};
 ghost use Rattle.staat_vec.specs.Vectors.{IsWithin};
-ghost use Rattle.staat_words.specs.declared.request.Request.TheVariants as request;
+ghost use Rattle.staat_words.specs.Requests.{HasBounds};
 ghost use Rattle.staat_model.specs.Walls.{IsShown};
 ghost use Rattle.staat_top.specs.Steps.{Files, answered, replies};
 ghost use Rattle.staat_top.specs.Replies.{EndsOf, IsJudged};
@@ -12,7 +12,8 @@ use crate::fault::Fault;
 use crate::read::read_piece;
 use staat_edge::Shelf;
 use staat_model::{Piece, is_shown};
-use staat_vec::{Bytes, DIRECTION, NORMAL, Name, V3};
+use staat_vec::{Bytes, DIRECTION, NORMAL, V3};
+use staat_words::Request;
 use std::alloc::{AllocError, Global};
 
 // The answer with this status and this text.
@@ -40,30 +41,21 @@ fn judge(alloc: Global, p: &Piece, q: &Piece, along: V3, wall: V3) -> Result<Ans
     }
 }
 
-/// Whether the wall's normal `wall` shows that the piece of the first file, moved along `along`, never meets that
-/// of the second.
-pub fn pair<H: Shelf>(
-    alloc: Global,
-    shelf: &mut H,
-    first: Name,
-    second: Name,
-    along: V3,
-    wall: V3,
-) -> Result<Answer, Fault>
-    requires along { IsWithin DIRECTION along }
-    requires wall { IsWithin NORMAL wall }
+/// Whether the wall shows that the piece of the first file, moved along the direction, never meets that of the second.
+pub fn pair<H: Shelf>(alloc: Global, request: Request, shelf: &mut H) -> Result<Answer, Fault>
+    requires { HasBounds request }
     ensures holds { H.holds shelf.new ≡ H.holds shelf.old }
     ensures count { H.faults shelf.old ≤ H.faults shelf.new }
     ensures status { IfOk result (λ a. a.status < 2) }
     ensures ends { (files : Files) → H.holds shelf.old ≡ Some files → MatchResult result
-        (λ a. EndsOf (request.Pair along wall first second) files (replies (answered a.status a.text)))
-        (IsPlaced (Some (request.Pair along wall first second)) files) }
+        (λ a. EndsOf request files (replies (answered a.status a.text)))
+        (IsPlaced (Some request) files) }
     ensures cause { IfErr result (HasCause (record {
         holds = H.holds shelf.old; before = H.faults shelf.old; after = H.faults shelf.new;
         failed = H.failed shelf.new; opened = H.opened shelf.new; place = H.place shelf.new })) }
 {
-    let p = read_piece(alloc, shelf, first)?;
-    let q = read_piece(alloc, shelf, second)?;
-    let answer = judge(alloc, &p, &q, along, wall)?;
+    let p = read_piece(alloc, shelf, request.first)?;
+    let q = read_piece(alloc, shelf, request.second)?;
+    let answer = judge(alloc, &p, &q, request.along, request.wall)?;
     Ok(answer)
 }

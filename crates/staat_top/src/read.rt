@@ -1,8 +1,8 @@
 // The files of a request.
 ghost use Rattle.std.specs.Prelude.{◌≡◌, ◌≤◌, Some, IfErr};
 ghost use Rattle.staat_top.specs.Steps.{Files, Follows};
-ghost use Rattle.staat_top.specs.Replies.{IsPieceOf};
-ghost use Rattle.staat_top.specs.Runs.{HasCause};
+ghost use Rattle.staat_top.specs.Replies.{IsPieceOf, IsRead};
+ghost use Rattle.staat_top.specs.Runs.{HasCause, ShelfSide};
 
 use crate::fault::Fault;
 use crate::plain::read_plain;
@@ -14,7 +14,19 @@ use std::alloc::Global;
 /// How many bytes a file of points may have.
 pub const FILE_LIMIT: usize = 1_048_576;
 
+// The piece of a file's bytes.
+fn piece_in(alloc: Global, bytes: &[u8], name: Name) -> Result<Piece, Fault>
+    ensures read { IsRead name bytes.now result }
+    ensures cause { (shelf : ShelfSide) → IfErr result (HasCause shelf) }
+{
+    match read_plain(alloc, bytes)? {
+        Some(piece) => Ok(piece),
+        None => Err(Fault::NotPlain(name)),
+    }
+}
+
 /// The piece that a file holds.
+#[tactic(auto, using(crate::proofs::Reading::reading))]
 pub fn read_piece<H: Shelf>(alloc: Global, shelf: &mut H, name: Name) -> Result<Piece, Fault>
     ensures holds { H.holds shelf.new ≡ H.holds shelf.old }
     ensures count { H.faults shelf.old ≤ H.faults shelf.new }
@@ -29,8 +41,5 @@ pub fn read_piece<H: Shelf>(alloc: Global, shelf: &mut H, name: Name) -> Result<
         Err(ReadRefusal::TooLong) => return Err(Fault::TooLong(name)),
         Err(ReadRefusal::OutOfMemory) => return Err(Fault::OutOfMemory),
     };
-    match read_plain(alloc, bytes.as_slice())? {
-        Some(piece) => Ok(piece),
-        None => Err(Fault::NotPlain(name)),
-    }
+    piece_in(alloc, bytes.as_slice(), name)
 }

@@ -11,10 +11,11 @@ use crate::fault::Fault;
 use crate::pair::pair;
 use crate::print::{print, refuse};
 use staat_edge::{Shelf, Sink};
-use staat_words::{Request, RequestRefusal, request_of};
+use staat_words::{RequestRefusal, request_of};
 use std::alloc::Global;
 
 // The answer to the words, over what the shelf holds.
+#[tactic(auto, using(crate::proofs::Asking::asking))]
 fn answer_to<H: Shelf>(alloc: Global, words: &Vec<String>, shelf: &mut H) -> Result<Answer, Fault>
     ensures holds { H.holds shelf.new ≡ H.holds shelf.old }
     ensures count { H.faults shelf.old ≤ H.faults shelf.new }
@@ -29,12 +30,7 @@ fn answer_to<H: Shelf>(alloc: Global, words: &Vec<String>, shelf: &mut H) -> Res
         IsErrAnd result (λ f. (f ≡ faults.Usage) ⊎ (f ≡ faults.OutOfMemory)) }
 {
     match request_of(alloc, words) {
-        Ok(Request::Pair {
-            along,
-            wall,
-            first,
-            second,
-        }) => pair(alloc, shelf, first, second, along, wall),
+        Ok(request) => pair(alloc, request, shelf),
         Err(RequestRefusal::Usage) => Err(Fault::Usage),
         Err(RequestRefusal::OutOfMemory) => Err(Fault::OutOfMemory),
     }

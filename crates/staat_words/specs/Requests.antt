@@ -5,7 +5,6 @@ use Rattle.staat_vec.specs.declared.vector.V3.{V3}
 use Rattle.staat_vec.specs.declared.vector.TheConstants.{DIRECTION, NORMAL}
 use Rattle.staat_vec.specs.Vectors.{IsWithin}
 use Rattle.staat_words.specs.declared.request.Request.{Request}
-use Rattle.staat_words.specs.declared.request.Request.TheVariants.{Pair}
 use Rattle.staat_words.specs.declared.request.RequestRefusal.{RequestRefusal}
 use Rattle.staat_words.specs.declared.request.RequestRefusal.TheVariants.{Usage, OutOfMemory}
 use Rattle.staat_words.specs.Spelled.{vector_within}
@@ -19,7 +18,7 @@ abbrev pub value_after : List ℕ → ℕ → List ℕ → Option V3
 value_after front most word = option_and_then (vector_within most) (after front word)
 
 abbrev pub pair_of : List ℕ → List ℕ → Option V3 → Option V3 → Option Request
-pair_of first second (Some along) (Some wall) = Some (Pair along wall first second)
+pair_of first second (Some along) (Some wall) = Some (record { along = along; wall = wall; first = first; second = second })
 pair_of first second along wall = None
 
 -- the request of the words: none is a usage fault
@@ -37,5 +36,6 @@ Reads asked (Err Usage) = asked ≡ None
 Reads asked (Err OutOfMemory) = ⊤
 
 -- how great the numbers of a request are at most
-abbrev pub HasBounds : Request → Type 0
-HasBounds (Pair along wall first second) = IsWithin DIRECTION along × IsWithin NORMAL wall
+pub record HasBounds (request : Request) : Type 0 where
+  pub along : IsWithin DIRECTION request.along
+  pub wall : IsWithin NORMAL request.wall

@@ -2,18 +2,18 @@
 use staat_vec::{Name, V3};
 use std::alloc::AllocError;
 
-/// A command with its values.
+/// What the command `pair` asks: whether a wall shows that the first file's piece never meets the second's along a
+/// direction.
 #[derive(Drop)]
-pub enum Request {
-    /// Whether a wall shows that the first file's piece never meets the second's along a direction.
-    Pair {
-        /// The direction in which the first piece moves: not zero, at most `DIRECTION` in a component.
-        along: V3,
-        /// The wall's normal, from the first piece to the second: not zero, at most `NORMAL` in a component.
-        wall: V3,
-        first: Name,
-        second: Name,
-    },
+pub struct Request {
+    /// The direction in which the first piece moves: not zero, at most `DIRECTION` in a component.
+    pub along: V3,
+    /// The wall's normal, from the first piece to the second: not zero, at most `NORMAL` in a component.
+    pub wall: V3,
+    /// The file of the piece that moves.
+    pub first: Name,
+    /// The file of the piece that rests.
+    pub second: Name,
 }
 
 /// Why words give no request.

@@ -46,7 +46,7 @@ pub fn request_of(alloc: Global, words: &Vec<String>) -> Result<Request, Request
     }
     let along = value_after("--along=", along, DIRECTION).ok_or(RequestRefusal::Usage)?;
     let wall = value_after("--wall=", wall, NORMAL).ok_or(RequestRefusal::Usage)?;
-    Ok(Request::Pair {
+    Ok(Request {
         along,
         wall,
         first: name_of(alloc, first)?,

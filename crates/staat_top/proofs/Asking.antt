@@ -1,0 +1,23 @@
+-- From the work on a request to what is said of the words that make it.
+use Rattle.std.proofs.Common.{◌≡◌, ℕ, List, Option, Some, None, Ok, Err, sym, subst}
+use Rattle.std.specs.Prelude.{Result, IfOk, IfErr, MatchResult}
+use Rattle.staat_words.specs.declared.request.Request.{Request}
+use Rattle.staat_top.specs.declared.answer.Answer.{Answer}
+use Rattle.staat_top.specs.declared.fault.Fault.{Fault}
+use Rattle.staat_top.specs.Steps.{Files, replies, answered}
+use Rattle.staat_top.specs.Replies.{EndsOf}
+use Rattle.staat_top.specs.Runs.{ShelfSide, HasCause, IsCaused, IsPlaced, IsExplained, IsAnswer}
+
+-- where the work on the request ends, over the files that the shelf holds
+abbrev pub Works : Request → ShelfSide → Result Answer Fault → Type 0
+Works request shelf r = (files : Files) → shelf.holds ≡ Some files → MatchResult r (λ a. EndsOf request files (replies (answered a.status a.text))) (IsPlaced (Some request) files)
+
+pub asked_answer : (asked : Option Request) (request : Request) (shelf : ShelfSide) (r : Result Answer Fault) → asked ≡ Some request → Works request shelf r → IfOk r (λ a. IsAnswer asked shelf a.status a.text)
+asked_answer asked request shelf (Ok a) e works = subst (λ o. IsAnswer o shelf a.status a.text) (sym e) works
+asked_answer asked request shelf (Err f) e works = tt
+
+pub asked_fault : (asked : Option Request) (request : Request) (shelf : ShelfSide) (r : Result Answer Fault) → asked ≡ Some request → Works request shelf r → IfErr r (HasCause shelf) → IfErr r (IsExplained asked shelf)
+asked_fault asked request shelf (Ok a) e works cause = tt
+asked_fault asked request shelf (Err f) e works cause = subst (λ o. IsExplained o shelf f) (sym e) (record { cause = cause; placed = works })
+
+pub ruleset asking = (asked_answer, asked_fault)
