@@ -121,9 +121,9 @@ impl Shelf for MemoryShelf {
         × (t.chunk ≡ s.chunk) };
 
     // exactly when a call fails, what it raises and how much it gives
-    ghost reads = { λ s room r t.
+    ghost reads = { λ s buf r t.
         (is_err r ≡ is_due s.schedule)
-        × IfOk r (λ n. n ≡ min (min room s.chunk) (length_of (left_at s.files s.at)))
+        × IfOk r (λ n. n ≡ min (min (length buf) s.chunk) (length_of (left_at s.files s.at)))
         × (t.schedule ≡ after_call (is_due s.schedule) s.schedule)
         × (t.chunk ≡ s.chunk) };
 

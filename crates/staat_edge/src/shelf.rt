@@ -41,9 +41,9 @@ pub trait Shelf {
     /// call failed, and the shelf after it.
     ghost opens: { Self → List ℕ → Bool → Self → Type 0 } = { λ _ _ _ _. ⊤ };
 
-    /// What more the shelf promises of `read`: of the shelf before the call, the length of the
-    /// buffer, the answer, and the shelf after it.
-    ghost reads: { Self → ℕ → Result ℕ Failed → Self → Type 0 } = { λ _ _ _ _. ⊤ };
+    /// What more the shelf promises of `read`: of the shelf before the call, the buffer after it,
+    /// the answer, and the shelf after it.
+    ghost reads: { Self → List ℕ → Result ℕ Failed → Self → Type 0 } = { λ _ _ _ _. ⊤ };
 
     /// Opens the file of that name at its start, and closes the one before, also where it fails.
     fn open(&mut self, name: &str) -> Result<(), Failed>
@@ -78,7 +78,7 @@ pub trait Shelf {
 
         ensures cause { OnErr result (Rose (faults self.old) (faults self.new)) }
         ensures failed { failed self.new ≡ failed_at (is_err result) (opened self.old) (failed self.old) }
-        ensures more { reads self.old (length buf.old) result self.new };
+        ensures more { reads self.old buf.new result self.new };
 
     /// What is left is told by what the shelf holds, the open file's name and the place.
     ghost left_is: { (s : Self) → left s ≡ left_of (holds s) (opened s) (place s) };
