@@ -1,5 +1,5 @@
 // A shelf in memory, which fails at the calls that it is told.
-ghost use Rattle.std.specs.Prelude.{min, ◌^◌, ◌≡◌, ◌≤◌, ◌<◌, ◌+◌, ◌||◌, ◌&&◌, ℕ, List, length, take, drop, Option, Some, None, IsOk, IfOk, is_err, is_none, is_some, IfNone, IfSome, option_map, slice_get};
+ghost use Rattle.std.specs.Prelude.{min, ◌^◌, ◌≡◌, ◌≤◌, ◌<◌, ◌+◌, ◌||◌, ◌&&◌, ℕ, List, length, take, drop, Option, Some, None, IsOk, IfOk, is_err, is_some, not, IfNone, IfSome, option_map, slice_get};
 ghost use Rattle.std.specs.Option.{ForSome};
 ghost use Rattle.std.specs.Io.KnownBytes.{Consumes, IsAtEnd};
 ghost use Rattle.staat_edge.specs.Calls.{is_due, after_call};
@@ -22,16 +22,19 @@ pub struct MemoryShelf {
     files: Files,
     chunk: usize,
     schedule: Schedule,
-    at: Option<(usize, usize)>,
+    // the index of the open file, and the place in it
+    current: Option<(usize, usize)>,
+    // the index of the file at which a call failed last
     failed: Option<usize>,
     ghost steps: { 0 < chunk },
-    ghost known: { ForSome at (λ p. IsFirst files p.0) },
+    ghost known: { ForSome current (λ p. IsFirst files p.0) },
 }
 
 // The index of the first file of that name.
 fn find(files: &[(Name, Bytes)], name: &str) -> Option<usize>
     ensures none { IfNone result (bytes_of name.now files.now ≡ None) }
-    ensures some { IfSome result (λ i. IsFirst files.now i × (name_at files.now (Some i) ≡ Some name.now)) }
+    ensures some { IfSome result (λ i. IsFirst files.now i) }
+    ensures named { IfSome result (λ i. name_at files.now (Some i) ≡ Some name.now) }
 {
     for (i, file) in files.iter().enumerate() {
         if file.0.as_str() == name {
@@ -53,9 +56,13 @@ fn copy_front(from: &[u8], to: &mut [u8]) -> usize
 
 // Copies what comes next of a file, and answers how much.
 fn read_part(files: &[(Name, Bytes)], index: usize, place: usize, buf: &mut [u8]) -> usize
-    ensures count { result ≡ min (length buf.old) (length_of (left_at files.now (Some (index, place)))) }
-    ensures bytes { Consumes (left_at files.now (Some (index, place))) (left_at files.now (Some (index, place + result))) (take result buf.new) }
-    ensures end { result ≡ 0 → 0 < length buf.new → IsAtEnd (left_at files.now (Some (index, place + result))) }
+    ensures count { let left = left_at files.now (Some (index, place)) in
+        result ≡ min (length buf.old) (length_of left) }
+    ensures bytes { let left = left_at files.now (Some (index, place)) in
+        let next = Some (index, place + result) in
+        Consumes left (left_at files.now next) (take result buf.new) }
+    ensures end { let next = Some (index, place + result) in
+        result ≡ 0 → 0 < length buf.new → IsAtEnd (left_at files.now next) }
     ensures fits { place + result < 2 ^ 64 }
 {
     match files.get(index) {
@@ -87,7 +94,7 @@ impl MemoryShelf {
         ensures failing { IfOk result (λ s. s.schedule.failing ≡ failing) }
         ensures next { IfOk result (λ s. s.schedule.next ≡ 0) }
         ensures faults { IfOk result (λ s. s.schedule.faults ≡ 0) }
-        ensures closed { IfOk result (λ s. s.at ≡ None) }
+        ensures closed { IfOk result (λ s. s.current ≡ None) }
         ensures failed { IfOk result (λ s. s.failed ≡ None) }
     {
         let _ = alloc;
@@ -95,7 +102,7 @@ impl MemoryShelf {
             files,
             chunk,
             schedule: Schedule::new(failing),
-            at: None,
+            current: None,
             failed: None,
         })
     }
@@ -104,11 +111,11 @@ impl MemoryShelf {
 impl Shelf for MemoryShelf {
     ghost holds = { λ s. Some s.files };
 
-    ghost opened = { λ s. name_at s.files (option_map (λ at. at.0) s.at) };
+    ghost opened = { λ s. name_at s.files (option_map (λ at. at.0) s.current) };
 
-    ghost place = { λ s. option_map (λ at. at.1) s.at };
+    ghost place = { λ s. option_map (λ at. at.1) s.current };
 
-    ghost left = { λ s. left_at s.files s.at };
+    ghost left = { λ s. left_at s.files s.current };
 
     ghost faults = { λ s. s.schedule.faults };
 
@@ -116,20 +123,21 @@ impl Shelf for MemoryShelf {
 
     // exactly when a call fails, and what it raises
     ghost opens = { λ s name failed t.
-        (failed ≡ (is_none (bytes_of name s.files) || is_due s.schedule))
-        × (t.schedule ≡ after_call (is_some (bytes_of name s.files) && is_due s.schedule) s.schedule)
+        let held = is_some (bytes_of name s.files) in
+        (failed ≡ (not held || is_due s.schedule))
+        × (t.schedule ≡ after_call (held && is_due s.schedule) s.schedule)
         × (t.chunk ≡ s.chunk) };
 
     // exactly when a call fails, what it raises and how much it gives
-    ghost reads = { λ s room r t.
+    ghost reads = { λ s buf r t.
         (is_err r ≡ is_due s.schedule)
-        × IfOk r (λ n. n ≡ min (min room s.chunk) (length_of (left_at s.files s.at)))
+        × IfOk r (λ n. n ≡ min (min (length buf) s.chunk) (length_of (left_at s.files s.current)))
         × (t.schedule ≡ after_call (is_due s.schedule) s.schedule)
         × (t.chunk ≡ s.chunk) };
 
     fn open(&mut self, name: &str) -> Result<(), Failed> {
         let is_due = self.schedule.begin();
-        self.at = None;
+        self.current = None;
         match find(self.files.as_slice(), name) {
             None => Err(Failed),
             Some(index) if is_due => {
@@ -138,7 +146,7 @@ impl Shelf for MemoryShelf {
                 Err(Failed)
             }
             Some(index) => {
-                self.at = Some((index, 0));
+                self.current = Some((index, 0));
                 Ok(())
             }
         }
@@ -146,7 +154,7 @@ impl Shelf for MemoryShelf {
 
     fn read(&mut self, buf: &mut [u8]) -> Result<usize, Failed> {
         let is_due = self.schedule.begin();
-        let Some((index, place)) = self.at else {
+        let Some((index, place)) = self.current else {
             unreachable!();
         };
         if is_due {
@@ -156,15 +164,15 @@ impl Shelf for MemoryShelf {
         }
         let most = buf.len().min(self.chunk);
         let count = read_part(self.files.as_slice(), index, place, &mut buf[..most]);
-        self.at = Some((index, place + count));
+        self.current = Some((index, place + count));
         Ok(count)
     }
 
     ghost use Rattle.staat_edge.specs.Held.{left_is_told, no_name, no_untold};
 
-    ghost left_is = { λ s. left_is_told s.files s.at s.known };
+    ghost left_is = { λ s. left_is_told s.files s.current s.known };
 
-    ghost closed_is = { λ s. no_name s.files s.at };
+    ghost closed_is = { λ s. no_name s.files s.current };
 
     ghost untold_is = { λ s h. no_untold s.files h };
 }

@@ -63,8 +63,9 @@ impl Sink for MemorySink {
 
     // exactly when a call fails, what it raises and how much it takes
     ghost writes = { λ s bytes r t.
-        (is_err r ≡ (is_due s.schedule || (nat_lt 0 (length bytes) && (s.room - vec_len s.taken == 0))))
-        × IfOk r (λ n. n ≡ min (min (length bytes) s.chunk) (s.room - vec_len s.taken))
+        let left = s.room - vec_len s.taken in
+        (is_err r ≡ (is_due s.schedule || (nat_lt 0 (length bytes) && (left == 0))))
+        × IfOk r (λ n. n ≡ min (min (length bytes) s.chunk) left)
         × (t.schedule ≡ after_call (is_err r) s.schedule)
         × (t.room ≡ s.room)
         × (t.chunk ≡ s.chunk) };

@@ -41,9 +41,9 @@ pub trait Shelf {
     /// call failed, and the shelf after it.
     ghost opens: { Self → List ℕ → Bool → Self → Type 0 } = { λ _ _ _ _. ⊤ };
 
-    /// What more the shelf promises of `read`: of the shelf before the call, the length of the
-    /// buffer, the answer, and the shelf after it.
-    ghost reads: { Self → ℕ → Result ℕ Failed → Self → Type 0 } = { λ _ _ _ _. ⊤ };
+    /// What more the shelf promises of `read`: of the shelf before the call, the buffer after it,
+    /// the answer, and the shelf after it.
+    ghost reads: { Self → List ℕ → Result ℕ Failed → Self → Type 0 } = { λ _ _ _ _. ⊤ };
 
     /// Opens the file of that name at its start, and closes the one before, also where it fails.
     fn open(&mut self, name: &str) -> Result<(), Failed>
@@ -55,10 +55,13 @@ pub trait Shelf {
         ensures name { OnOk result (opened self.new ≡ told_name (holds self.old) name.now) }
 
         // a name that is not held: the call fails, and this is no fault of the shelf
-        ensures lacking { Lacks (holds self.old) name.now → IsErr result × (faults self.new ≡ faults self.old) }
+        ensures lacking { Lacks (holds self.old) name.now →
+            IsErr result × (faults self.new ≡ faults self.old) }
         ensures closed { OnErr result (place self.new ≡ None) }
-        ensures cause { OnErr result (Lacks (holds self.old) name.now ⊎ Rose (faults self.old) (faults self.new)) }
-        ensures failed { failed self.new ≡ failed_at (is_err result) (held_name (holds self.old) name.now) (failed self.old) }
+        ensures cause { OnErr result
+            (Lacks (holds self.old) name.now ⊎ Rose (faults self.old) (faults self.new)) }
+        ensures failed { failed self.new ≡
+            failed_at (is_err result) (held_name (holds self.old) name.now) (failed self.old) }
         ensures more { opens self.old name.now (is_err result) self.new };
 
     /// Reads the next bytes of the open file into the front of `buf`, and answers how many. It
@@ -77,8 +80,9 @@ pub trait Shelf {
         ensures bytes { ReadConsumes (left self.old) (left self.new) result buf.new }
 
         ensures cause { OnErr result (Rose (faults self.old) (faults self.new)) }
-        ensures failed { failed self.new ≡ failed_at (is_err result) (opened self.old) (failed self.old) }
-        ensures more { reads self.old (length buf.old) result self.new };
+        ensures failed { failed self.new ≡
+            failed_at (is_err result) (opened self.old) (failed self.old) }
+        ensures more { reads self.old buf.new result self.new };
 
     /// What is left is told by what the shelf holds, the open file's name and the place.
     ghost left_is: { (s : Self) → left s ≡ left_of (holds s) (opened s) (place s) };

@@ -62,18 +62,23 @@ pub fn read_whole<H: Shelf>(
     ensures fault { IsErrOf result ReadRefusal.ReadFault →
         Lacks (H.holds shelf.old) name.now ⊎ Rose (H.faults shelf.old) (H.faults shelf.new) }
     ensures failed { IsErrOf result ReadRefusal.ReadFault →
-        H.failed shelf.new ≡ failed_at true (held_name (H.holds shelf.old) name.now) (H.failed shelf.old) }
+        H.failed shelf.new ≡
+        failed_at true (held_name (H.holds shelf.old) name.now) (H.failed shelf.old) }
     // a held file whose reading met no fault is not refused as one that cannot be read
     ensures no_fault { IsSome (content_of (H.holds shelf.old) name.now) →
         ¬ Rose (H.faults shelf.old) (H.faults shelf.new) → ¬ IsErrOf result ReadRefusal.ReadFault }
 
-    ensures long { IsErrOf result ReadRefusal.TooLong → IsSomeAnd (H.place shelf.new) (λ at. limit < at) }
+    ensures long { IsErrOf result ReadRefusal.TooLong →
+        IsSomeAnd (H.place shelf.new) (λ at. limit < at) }
     ensures long_name { IsErrOf result ReadRefusal.TooLong →
         H.opened shelf.new ≡ told_name (H.holds shelf.old) name.now }
-    ensures longer { IsErrOf result ReadRefusal.TooLong → IsLonger (H.holds shelf.old) name.now limit }
-    ensures long_failed { IsErrOf result ReadRefusal.TooLong → H.failed shelf.new ≡ H.failed shelf.old }
+    ensures longer { IsErrOf result ReadRefusal.TooLong →
+        IsLonger (H.holds shelf.old) name.now limit }
+    ensures long_failed { IsErrOf result ReadRefusal.TooLong →
+        H.failed shelf.new ≡ H.failed shelf.old }
 
-    ensures memory_failed { IsErrOf result ReadRefusal.OutOfMemory → H.failed shelf.new ≡ H.failed shelf.old }
+    ensures memory_failed { IsErrOf result ReadRefusal.OutOfMemory →
+        H.failed shelf.new ≡ H.failed shelf.old }
 {
     if shelf.open(name).is_err() {
         return Err(ReadRefusal::ReadFault);
