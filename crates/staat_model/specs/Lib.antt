@@ -2,3 +2,5 @@ pub mod Meeting
 pub mod Pieces
 pub mod Walls
 pub mod Cones
+pub mod Bits
+pub mod Sets
