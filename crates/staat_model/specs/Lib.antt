@@ -4,3 +4,12 @@ pub mod Walls
 pub mod Cones
 pub mod Bits
 pub mod Sets
+pub mod Lists
+pub mod Assemblies
+pub mod Removal
+pub mod Plans
+pub mod Facets
+pub mod Planes
+pub mod Cells
+pub mod Outcomes
+pub mod Circles
