@@ -14,3 +14,7 @@ pub mod WeightLemmas
 pub mod FacetLemmas
 pub mod Differences
 pub mod BorderLemmas
+pub mod SetBits
+pub mod SetMembers
+pub mod SetWords
+pub mod SetSizes
