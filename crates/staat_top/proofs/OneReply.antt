@@ -51,6 +51,7 @@ then_rest {X} files First Rest first rest = record { one = one; held = held }
     one r s (inr a) (inr b) =
         let same : a.0 ≡ b.0 = gives_one a.0 b.0 (first.one _ _ a.1 b.1 tt tt) in
         (rest b.0).one r s (subst (λ x. Rest x (replies r)) same a.2) b.2
+
     held : (name : List ℕ) (r : Reply) → Then First Rest (reads name) → bytes_of name files ≡ None → Then First Rest (replies r) → ⊥
     held name r (inl a) lacks (inl b) = first.held name _ a lacks b tt
     held name r (inl a) lacks (inr b) = first.held name _ a lacks b.1 tt

@@ -29,29 +29,29 @@ pub ran_answer : (asked : Option Request) (shelf : ShelfSide) (out err : SinkSid
     → (result ≡ 6 → Took err (line_of WriteFault) ⊎ TookPart err (line_of WriteFault))
     → Ran asked shelf out err result
 ran_answer asked shelf out err status result text small answer asks whole part line = record {
-    out_kept = λ ge ne. absurd (omega (arith, (whole ne).0));
-    err_kept = λ lt. (whole (λ e. omega (arith, e))).1;
-    answers = λ lt.
-        let w = whole (λ e. omega (arith, e)) in
-        record { text = text; answer = subst (λ s. IsAnswer asked shelf s text) (sym w.0) answer; printed = w.2 };
-    refuses = λ ge ne. absurd (omega (arith, (whole ne).0));
-    write_fault = λ e. inl (record { status = status; text = text; small = small; answer = answer; part = part e; line = line e });
-    usage = λ none. absurd (asks none);
-    reply = λ le files told.
-        let w = whole (λ e. omega (arith, e)) in
-        record { reply = answered status text; right = answer files told; gave = record { is = w.0; to_out = w.2; to_err = took_nothing err w.1 } };
-    complete = λ files told well no_memory reply is_reply.
-        elim (ℕ_discrete result 6) [
-          | yes e ↦ absurd (well.out_well (part e).fault)
-          | no ne ↦
-              let w = whole ne in
-              let same : answered status text ≡ reply = (ends_rest asked files).one _ _ (answer files told) is_reply in
-              subst (λ r. Gave r out err result) same (record { is = w.0; to_out = w.2; to_err = took_nothing err w.1 })
-        ];
-    right = λ zero files told.
-        let w = whole (λ e. omega (arith, e)) in
-        free_is_right asked files text (subst (λ s. IsReply asked files (answered s text)) (sym w.0 ∙ zero) (answer files told));
-  }
+  out_kept = λ ge ne. absurd (omega (arith, (whole ne).0));
+  err_kept = λ lt. (whole (λ e. omega (arith, e))).1;
+  answers = λ lt.
+      let w = whole (λ e. omega (arith, e)) in
+      record { text = text; answer = subst (λ s. IsAnswer asked shelf s text) (sym w.0) answer; printed = w.2 };
+  refuses = λ ge ne. absurd (omega (arith, (whole ne).0));
+  write_fault = λ e. inl (record { status = status; text = text; small = small; answer = answer; part = part e; line = line e });
+  usage = λ none. absurd (asks none);
+  reply = λ le files told.
+      let w = whole (λ e. omega (arith, e)) in
+      record { reply = answered status text; right = answer files told; gave = record { is = w.0; to_out = w.2; to_err = took_nothing err w.1 } };
+  complete = λ files told well no_memory reply is_reply.
+      elim (ℕ_discrete result 6) [
+        | yes e ↦ absurd (well.out_well (part e).fault)
+        | no ne ↦
+            let w = whole ne in
+            let same : answered status text ≡ reply = (ends_rest asked files).one _ _ (answer files told) is_reply in
+            subst (λ r. Gave r out err result) same (record { is = w.0; to_out = w.2; to_err = took_nothing err w.1 })
+      ];
+  right = λ zero files told.
+      let w = whole (λ e. omega (arith, e)) in
+      free_is_right asked files text (subst (λ s. IsReply asked files (answered s text)) (sym w.0 ∙ zero) (answer files told));
+}
 
 least_status : (fault : Fault) → 2 ≤ status_of fault
 least_status Usage = omega arith
@@ -119,42 +119,42 @@ pub ran_fault : (asked : Option Request) (shelf : ShelfSide) (out err : SinkSide
     → (result ≡ 6 → SaysPart fault err)
     → Ran asked shelf out err result
 ran_fault asked shelf out err result fault explained same whole part = record {
-    out_kept = λ ge ne. same;
-    err_kept = λ lt. let w = whole (λ e. omega (arith, e)) in absurd (omega (arith, w.is, least_status w.said));
-    answers = λ lt. let w = whole (λ e. omega (arith, e)) in absurd (omega (arith, w.is, least_status w.said));
-    refuses = λ ge ne.
-        let w = whole ne in
-        record { fault = w.said; explained = said_explained asked shelf fault w.said explained w.is_said; is = w.is; line = w.line };
-    write_fault = λ e.
-        let w = part e in
-        inr (record { fault = w.said; explained = said_explained asked shelf fault w.said explained w.is_said; part = w.part; kept = same });
-    usage = λ none.
-        elim (ℕ_discrete result 6) [
-          | yes e ↦ inr (inl e)
-          | no ne ↦
-              let w = whole ne in
-              let said = said_explained asked shelf fault w.said explained w.is_said in
-              elim (usage_status shelf w.said (subst (λ a. IsCaused a shelf w.said) none said.cause)) [
-                | inl two ↦ inl (w.is ∙ two)
-                | inr seven ↦ inr (inr (w.is ∙ seven))
-              ]
-        ];
-    reply = λ le files told.
-        let w = whole (λ e. omega (arith, e)) in
-        let said = said_explained asked shelf fault w.said explained w.is_said in
-        record {
-          reply = refused w.said;
-          right = placed_reply asked files w.said (omega (arith, w.is)) (said.placed files told);
-          gave = gave_line out err w.said result same w.is w.line;
-        };
-    complete = λ files told well memory reply is_reply.
-        elim (ℕ_discrete result 6) [
-          | yes e ↦ absurd (well.err_well (part e).part.fault)
-          | no ne ↦
-              let w = whole ne in
-              let said = said_explained asked shelf fault w.said explained w.is_said in
-              let is_it : refused w.said ≡ reply = complete_fault asked shelf files w.said reply said told well.shelf_well (λ e. memory (w.is ∙ e)) is_reply in
-              subst (λ r. Gave r out err result) is_it (gave_line out err w.said result same w.is w.line)
-        ];
-    right = λ zero files told. let w = whole (λ e. omega (arith, e)) in absurd (omega (arith, w.is, least_status w.said));
-  }
+  out_kept = λ ge ne. same;
+  err_kept = λ lt. let w = whole (λ e. omega (arith, e)) in absurd (omega (arith, w.is, least_status w.said));
+  answers = λ lt. let w = whole (λ e. omega (arith, e)) in absurd (omega (arith, w.is, least_status w.said));
+  refuses = λ ge ne.
+      let w = whole ne in
+      record { fault = w.said; explained = said_explained asked shelf fault w.said explained w.is_said; is = w.is; line = w.line };
+  write_fault = λ e.
+      let w = part e in
+      inr (record { fault = w.said; explained = said_explained asked shelf fault w.said explained w.is_said; part = w.part; kept = same });
+  usage = λ none.
+      elim (ℕ_discrete result 6) [
+        | yes e ↦ inr (inl e)
+        | no ne ↦
+            let w = whole ne in
+            let said = said_explained asked shelf fault w.said explained w.is_said in
+            elim (usage_status shelf w.said (subst (λ a. IsCaused a shelf w.said) none said.cause)) [
+              | inl two ↦ inl (w.is ∙ two)
+              | inr seven ↦ inr (inr (w.is ∙ seven))
+            ]
+      ];
+  reply = λ le files told.
+      let w = whole (λ e. omega (arith, e)) in
+      let said = said_explained asked shelf fault w.said explained w.is_said in
+      record {
+        reply = refused w.said;
+        right = placed_reply asked files w.said (omega (arith, w.is)) (said.placed files told);
+        gave = gave_line out err w.said result same w.is w.line;
+      };
+  complete = λ files told well memory reply is_reply.
+      elim (ℕ_discrete result 6) [
+        | yes e ↦ absurd (well.err_well (part e).part.fault)
+        | no ne ↦
+            let w = whole ne in
+            let said = said_explained asked shelf fault w.said explained w.is_said in
+            let is_it : refused w.said ≡ reply = complete_fault asked shelf files w.said reply said told well.shelf_well (λ e. memory (w.is ∙ e)) is_reply in
+            subst (λ r. Gave r out err result) is_it (gave_line out err w.said result same w.is w.line)
+      ];
+  right = λ zero files told. let w = whole (λ e. omega (arith, e)) in absurd (omega (arith, w.is, least_status w.said));
+}

@@ -12,3 +12,6 @@ mod top;
 
 pub use fault::{Fault, fault_line};
 pub use top::staat;
+
+#[cfg(test)]
+mod tests;

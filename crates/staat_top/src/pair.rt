@@ -51,8 +51,13 @@ pub fn pair<H: Shelf>(alloc: Global, request: Request, shelf: &mut H) -> Result<
         (λ a. EndsOf request files (replies (answered a.status a.text)))
         (IsPlaced (Some request) files) }
     ensures cause { IfErr result (HasCause (record {
-        holds = H.holds shelf.old; before = H.faults shelf.old; after = H.faults shelf.new;
-        failed = H.failed shelf.new; opened = H.opened shelf.new; place = H.place shelf.new })) }
+      holds = H.holds shelf.old;
+      before = H.faults shelf.old;
+      after = H.faults shelf.new;
+      failed = H.failed shelf.new;
+      opened = H.opened shelf.new;
+      place = H.place shelf.new;
+    })) }
 {
     let p = read_piece(alloc, shelf, request.first)?;
     let q = read_piece(alloc, shelf, request.second)?;

@@ -14,9 +14,17 @@ fn say<E: Sink>(err: &mut E, line: &[u8], status: u8) -> u8
     requires { status ≢ 6 }
     ensures count { E.faults err.old ≤ E.faults err.new }
     ensures whole { result ≢ 6 → (result ≡ status) × Took (record {
-        old = E.wrote err.old; new = E.wrote err.new; before = E.faults err.old; after = E.faults err.new }) line.now }
+      old = E.wrote err.old;
+      new = E.wrote err.new;
+      before = E.faults err.old;
+      after = E.faults err.new;
+    }) line.now }
     ensures part { result ≡ 6 → TookPart (record {
-        old = E.wrote err.old; new = E.wrote err.new; before = E.faults err.old; after = E.faults err.new }) line.now }
+      old = E.wrote err.old;
+      new = E.wrote err.new;
+      before = E.faults err.old;
+      after = E.faults err.new;
+    }) line.now }
 {
     match write_whole(err, line) {
         Ok(()) => status,
@@ -30,9 +38,17 @@ pub fn refuse<E: Sink>(alloc: Global, fault: &Fault, err: &mut E) -> u8
     requires { fault.now ≢ faults.WriteFault }
     ensures count { E.faults err.old ≤ E.faults err.new }
     ensures whole { result ≢ 6 → SaysWhole fault.now (record {
-        old = E.wrote err.old; new = E.wrote err.new; before = E.faults err.old; after = E.faults err.new }) result }
+      old = E.wrote err.old;
+      new = E.wrote err.new;
+      before = E.faults err.old;
+      after = E.faults err.new;
+    }) result }
     ensures part { result ≡ 6 → SaysPart fault.now (record {
-        old = E.wrote err.old; new = E.wrote err.new; before = E.faults err.old; after = E.faults err.new }) }
+      old = E.wrote err.old;
+      new = E.wrote err.new;
+      before = E.faults err.old;
+      after = E.faults err.new;
+    }) }
 {
     match fault {
         Fault::Usage => say(err, USAGE_LINE, 2),
@@ -51,9 +67,17 @@ pub fn print<O: Sink, E: Sink>(answer: &Answer, out: &mut O, err: &mut E) -> u8
     ensures out_count { O.faults out.old ≤ O.faults out.new }
     ensures err_count { E.faults err.old ≤ E.faults err.new }
     ensures whole { result ≢ 6 → (result ≡ answer.now.status) × (E.wrote err.new ≡ E.wrote err.old) × Took (record {
-        old = O.wrote out.old; new = O.wrote out.new; before = O.faults out.old; after = O.faults out.new }) answer.now.text }
+      old = O.wrote out.old;
+      new = O.wrote out.new;
+      before = O.faults out.old;
+      after = O.faults out.new;
+    }) answer.now.text }
     ensures part { result ≡ 6 → TookPart (record {
-        old = O.wrote out.old; new = O.wrote out.new; before = O.faults out.old; after = O.faults out.new }) answer.now.text }
+      old = O.wrote out.old;
+      new = O.wrote out.new;
+      before = O.faults out.old;
+      after = O.faults out.new;
+    }) answer.now.text }
     ensures line { result ≡ 6 →
         Took (record { old = E.wrote err.old; new = E.wrote err.new; before = E.faults err.old; after = E.faults err.new }) (line_of faults.WriteFault)
         ⊎ TookPart (record { old = E.wrote err.old; new = E.wrote err.new; before = E.faults err.old; after = E.faults err.new }) (line_of faults.WriteFault) }

@@ -32,8 +32,13 @@ pub fn read_piece<H: Shelf>(alloc: Global, shelf: &mut H, name: Name) -> Result<
     ensures count { H.faults shelf.old ≤ H.faults shelf.new }
     ensures found { (files : Files) → H.holds shelf.old ≡ Some files → Follows (IsPieceOf files name) result }
     ensures cause { IfErr result (HasCause (record {
-        holds = H.holds shelf.old; before = H.faults shelf.old; after = H.faults shelf.new;
-        failed = H.failed shelf.new; opened = H.opened shelf.new; place = H.place shelf.new })) }
+      holds = H.holds shelf.old;
+      before = H.faults shelf.old;
+      after = H.faults shelf.new;
+      failed = H.failed shelf.new;
+      opened = H.opened shelf.new;
+      place = H.place shelf.new;
+    })) }
 {
     let bytes = match read_whole(alloc, shelf, name.as_str(), FILE_LIMIT) {
         Ok(bytes) => bytes,

@@ -1,0 +1,309 @@
+// Worked examples of whole calls over shelves and sinks in memory.
+use crate::staat;
+use staat_edge::{Calls, Files, MemoryShelf, MemorySink};
+use staat_vec::{Bytes, Name};
+use std::alloc::{AllocError, Global};
+use std::test::Fail;
+
+const CUBE: &[u8] = b"OFF\n8 6 12\n0 0 0\n2 0 0\n2 2 0\n0 2 0\n0 0 2\n2 0 2\n2 2 2\n0 2 2\n";
+
+const BESIDE: &[u8] = b"OFF\n8 6 12\n2 0 0\n4 0 0\n4 2 0\n2 2 0\n2 0 2\n4 0 2\n4 2 2\n2 2 2\n";
+
+const NEVER: u64 = u64::MAX;
+
+const FREE: [&str; 5] = ["pair", "a.off", "b.off", "--along=0,0,1", "--wall=1,0,0"];
+
+fn file(alloc: Global, name: &str, text: &[u8]) -> Result<(Name, Bytes), AllocError> {
+    let name = Name::from_string(String::from_str(alloc, name)?);
+    Ok((name, Bytes::from_vec(text.to_vec(alloc)?)))
+}
+
+fn shelf(alloc: Global, first: &[u8], failing: u64) -> Result<MemoryShelf, Fail> {
+    let mut files = Vec::new(alloc);
+    files.push(file(alloc, "a.off", first)?)?;
+    files.push(file(alloc, "b.off", BESIDE)?)?;
+    let failing = Calls::from_vec([failing].to_vec(alloc)?);
+    Ok(MemoryShelf::new(alloc, Files::from_vec(files), failing, 4096)?)
+}
+
+fn sink(alloc: Global, room: usize, failing: u64, chunk: usize) -> Result<MemorySink, Fail>
+    requires { 0 < chunk }
+{
+    let failing = Calls::from_vec([failing].to_vec(alloc)?);
+    Ok(MemorySink::new(alloc, room, failing, chunk)?)
+}
+
+fn words(alloc: Global, words: &[&str]) -> Result<Vec<String>, AllocError> {
+    let mut list = Vec::new(alloc);
+    for word in words {
+        list.push(String::from_str(alloc, word)?)?;
+    }
+    Ok(list)
+}
+
+#[test]
+fn a_wall_shows_that_two_cubes_never_meet(rt: HostRuntime) -> Result<(), Fail> {
+    let alloc = rt.alloc();
+    let usage = "staat: usage\n";
+    let table: [(&[&str], u8, &str, &str); 17] = [
+        (&FREE, 0, "free\n", ""),
+        (
+            &["pair", "a.off", "b.off", "--along=-1,0,0", "--wall=1,0,0"],
+            0,
+            "free\n",
+            "",
+        ),
+        (
+            &["pair", "a.off", "b.off", "--along=1,0,0", "--wall=1,0,0"],
+            1,
+            "not shown\n",
+            "",
+        ),
+        (
+            &["pair", "a.off", "b.off", "--along=0,0,1", "--wall=0,1,0"],
+            1,
+            "not shown\n",
+            "",
+        ),
+        (
+            &["pair", "b.off", "a.off", "--along=0,0,1", "--wall=1,0,0"],
+            1,
+            "not shown\n",
+            "",
+        ),
+        (
+            &["pair", "b.off", "a.off", "--along=0,0,1", "--wall=-1,0,0"],
+            0,
+            "free\n",
+            "",
+        ),
+        (
+            &["pair", "a.off", "a.off", "--along=0,0,1", "--wall=1,0,0"],
+            1,
+            "not shown\n",
+            "",
+        ),
+        (
+            &["pair", "a.off", "c.off", "--along=0,0,1", "--wall=1,0,0"],
+            5,
+            "",
+            "staat: cannot read c.off\n",
+        ),
+        (
+            &["pair", "", "b.off", "--along=0,0,1", "--wall=1,0,0"],
+            5,
+            "",
+            "staat: cannot read \n",
+        ),
+        (
+            &["pair", "a.off", "b.off", "--along=0,0,0", "--wall=1,0,0"],
+            2,
+            "",
+            usage,
+        ),
+        (
+            &["pair", "a.off", "b.off", "--along=0,0,1", "--wall=0,0,0"],
+            2,
+            "",
+            usage,
+        ),
+        (
+            &["pair", "a.off", "b.off", "--along=0,0,01", "--wall=1,0,0"],
+            2,
+            "",
+            usage,
+        ),
+        (
+            &[
+                "pair",
+                "a.off",
+                "b.off",
+                "--along=9444732965739290427392,0,0",
+                "--wall=-34359738368,0,0",
+            ],
+            1,
+            "not shown\n",
+            "",
+        ),
+        (
+            &[
+                "pair",
+                "a.off",
+                "b.off",
+                "--along=9444732965739290427393,0,0",
+                "--wall=1,0,0",
+            ],
+            2,
+            "",
+            usage,
+        ),
+        (
+            &[
+                "pair",
+                "a.off",
+                "b.off",
+                "--along=1,0,0",
+                "--wall=34359738369,0,0",
+            ],
+            2,
+            "",
+            usage,
+        ),
+        (&["pair", "a.off", "b.off", "--along=0,0,1"], 2, "", usage),
+        (&[], 2, "", usage),
+    ];
+    for (list, status, out_text, err_text) in table {
+        let mut shelf = shelf(alloc, CUBE, NEVER)?;
+        let mut out = sink(alloc, 64, NEVER, 64)?;
+        let mut err = sink(alloc, 64, NEVER, 64)?;
+        let got = staat(alloc, &words(alloc, list)?, &mut shelf, &mut out, &mut err);
+        assert_eq!(rt; got, status, "at {list:?}");
+        assert_eq!(rt; out.taken(), out_text.as_bytes());
+        assert_eq!(rt; err.taken(), err_text.as_bytes());
+    }
+    Ok(())
+}
+
+#[test]
+fn a_file_is_taken_only_in_its_form(rt: HostRuntime) -> Result<(), Fail> {
+    let alloc = rt.alloc();
+    let long = vec![in alloc; b' '; 1_048_577]?;
+    let most = vec![in alloc; b' '; 1_048_576]?;
+    let table: [(&[u8], u8, &str); 12] = [
+        (b"COFF\n", 3, "staat: a.off: not in the plain form\n"),
+        (b"", 3, "staat: a.off: not in the plain form\n"),
+        (&long, 4, "staat: a.off is too long\n"),
+        (&most, 3, "staat: a.off: not in the plain form\n"),
+        (b"OFF 4 0 0 0 0 0 1 0 0 0 1 0 0 0 1 and more", 1, ""),
+        (
+            b"OFF 4 0 0 0 0 0 1 0 0 0 1 0 0 0 1 #",
+            3,
+            "staat: a.off: not in the plain form\n",
+        ),
+        (
+            b"OFF 4 0 0 0 0 0 1 0 0 0 1 0 1 1 0",
+            3,
+            "staat: a.off: not in the plain form\n",
+        ),
+        (
+            b"OFF 5 0 0 0 0 0 1 0 0 0 1 0 0 0 1 0 0 1",
+            3,
+            "staat: a.off: not in the plain form\n",
+        ),
+        (
+            b"OFF 3 0 0 0 0 0 1 0 0 0 1 0",
+            3,
+            "staat: a.off: not in the plain form\n",
+        ),
+        (
+            b"OFF 4 0 0 0 0 0 1 0 0 0 1 0 0 0",
+            3,
+            "staat: a.off: not in the plain form\n",
+        ),
+        (b"OFF 4 0 0 0 0 0 1 0 0 0 1 0 0 0 -65536", 1, ""),
+        (
+            b"OFF 4 0 0 0 0 0 1 0 0 0 1 0 0 0 65537",
+            3,
+            "staat: a.off: not in the plain form\n",
+        ),
+    ];
+    for (first, status, err_text) in table {
+        let mut shelf = shelf(alloc, first, NEVER)?;
+        let mut out = sink(alloc, 64, NEVER, 64)?;
+        let mut err = sink(alloc, 64, NEVER, 64)?;
+        let list = ["pair", "a.off", "b.off", "--along=1,0,0", "--wall=1,0,0"];
+        let got = staat(alloc, &words(alloc, &list)?, &mut shelf, &mut out, &mut err);
+        assert_eq!(rt; got, status, "at a file of {} bytes", first.len());
+        assert_eq!(rt; err.taken(), err_text.as_bytes());
+    }
+    Ok(())
+}
+
+// Each file takes three calls: one that opens it, one that reads its bytes and one that finds its end.
+#[test]
+fn a_failing_shelf_is_told_by_the_file_at_which_it_failed(rt: HostRuntime) -> Result<(), Fail> {
+    let alloc = rt.alloc();
+    for call in 0..7 {
+        let mut shelf = shelf(alloc, CUBE, call)?;
+        let mut out = sink(alloc, 64, NEVER, 64)?;
+        let mut err = sink(alloc, 64, NEVER, 64)?;
+        let got = staat(alloc, &words(alloc, &FREE)?, &mut shelf, &mut out, &mut err);
+        let (status, out_text, err_text) = match call {
+            0..3 => (5, "", "staat: cannot read a.off\n"),
+            3..6 => (5, "", "staat: cannot read b.off\n"),
+            _ => (0, "free\n", ""),
+        };
+        assert_eq!(rt; got, status, "where call {call} fails");
+        assert_eq!(rt; out.taken(), out_text.as_bytes());
+        assert_eq!(rt; err.taken(), err_text.as_bytes());
+    }
+    Ok(())
+}
+
+// How much room the two sinks have, which call of each fails, how many bytes they take at a time, and what they hold
+// at the end.
+#[test]
+fn a_failing_sink_keeps_what_it_took(rt: HostRuntime) -> Result<(), Fail> {
+    let alloc = rt.alloc();
+    let fault = "staat: write fault\n";
+    let table: [(usize, u64, u64, usize, u8, &str, &str); 17] = [
+        (64, 0, NEVER, 1, 6, "", fault),
+        (64, 1, NEVER, 1, 6, "f", fault),
+        (64, 2, NEVER, 1, 6, "fr", fault),
+        (64, 3, NEVER, 1, 6, "fre", fault),
+        (64, 4, NEVER, 1, 6, "free", fault),
+        (64, 5, NEVER, 1, 0, "free\n", ""),
+        (64, 1, NEVER, 2, 6, "fr", fault),
+        (0, NEVER, NEVER, 64, 6, "", fault),
+        (1, NEVER, NEVER, 64, 6, "f", fault),
+        (2, NEVER, NEVER, 64, 6, "fr", fault),
+        (3, NEVER, NEVER, 64, 6, "fre", fault),
+        (4, NEVER, NEVER, 64, 6, "free", fault),
+        (5, NEVER, NEVER, 64, 0, "free\n", ""),
+        (64, NEVER, 0, 1, 0, "free\n", ""),
+        (64, 0, 0, 1, 6, "", ""),
+        (64, 0, 3, 1, 6, "", "sta"),
+        (64, 0, 18, 1, 6, "", "staat: write fault"),
+    ];
+    for (room, out_call, err_call, chunk, status, out_text, err_text) in table {
+        assert!(rt; chunk > 0);
+        let mut shelf = shelf(alloc, CUBE, NEVER)?;
+        let mut out = sink(alloc, room, out_call, chunk)?;
+        let mut err = sink(alloc, 64, err_call, chunk)?;
+        let got = staat(alloc, &words(alloc, &FREE)?, &mut shelf, &mut out, &mut err);
+        assert_eq!(rt;
+            got,
+            status,
+            "room {room}, calls {out_call} and {err_call} failing"
+        );
+        assert_eq!(rt; out.taken(), out_text.as_bytes());
+        assert_eq!(rt; err.taken(), err_text.as_bytes());
+    }
+    Ok(())
+}
+
+#[test]
+fn a_failing_err_keeps_the_front_of_a_line(rt: HostRuntime) -> Result<(), Fail> {
+    let alloc = rt.alloc();
+    let line = b"staat: usage\n";
+    for call in 0..line.len() + 1 {
+        let mut shelf = shelf(alloc, CUBE, NEVER)?;
+        let mut out = sink(alloc, 64, 0, 1)?;
+        let mut err = sink(alloc, 64, call as u64, 1)?;
+        let got = staat(
+            alloc,
+            &words(alloc, &["pair"])?,
+            &mut shelf,
+            &mut out,
+            &mut err,
+        );
+        assert_eq!(rt;
+            got,
+            if call < line.len() { 6 } else { 2 },
+            "where call {call} fails"
+        );
+        assert_eq!(rt; out.taken(), b"".as_slice());
+        assert_eq!(rt; err.taken(), &line[..call]);
+    }
+    Ok(())
+}
