@@ -28,6 +28,12 @@ pub record SinkSide : Type 0 where
   pub before : ℕ
   pub after : ℕ
 
+abbrev pub shelf_over : Option Files → ℕ → ℕ → Option (List ℕ) → Option (List ℕ) → Option ℕ → ShelfSide
+shelf_over holds before after failed opened place = record { holds = holds; before = before; after = after; failed = failed; opened = opened; place = place }
+
+abbrev pub sink_over : Option (List ℕ) → Option (List ℕ) → ℕ → ℕ → SinkSide
+sink_over old new before after = record { old = old; new = new; before = before; after = after }
+
 -- the sink took the whole text
 abbrev pub Took : SinkSide → List ℕ → Type 0
 Took side text = GrewBy side.old side.new text

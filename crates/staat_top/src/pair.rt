@@ -5,7 +5,7 @@ ghost use Rattle.staat_words.specs.Requests.{HasBounds};
 ghost use Rattle.staat_model.specs.Walls.{IsShown};
 ghost use Rattle.staat_top.specs.Steps.{Files, answered, replies};
 ghost use Rattle.staat_top.specs.Replies.{EndsOf, IsJudged};
-ghost use Rattle.staat_top.specs.Runs.{HasCause, IsPlaced};
+ghost use Rattle.staat_top.specs.Runs.{HasCause, IsPlaced, shelf_over};
 
 use crate::answer::Answer;
 use crate::fault::Fault;
@@ -50,14 +50,8 @@ pub fn pair<H: Shelf>(alloc: Global, request: Request, shelf: &mut H) -> Result<
     ensures ends { (files : Files) → H.holds shelf.old ≡ Some files → MatchResult result
         (λ a. EndsOf request files (replies (answered a.status a.text)))
         (IsPlaced (Some request) files) }
-    ensures cause { IfErr result (HasCause (record {
-      holds = H.holds shelf.old;
-      before = H.faults shelf.old;
-      after = H.faults shelf.new;
-      failed = H.failed shelf.new;
-      opened = H.opened shelf.new;
-      place = H.place shelf.new;
-    })) }
+    ensures cause { IfErr result (HasCause (shelf_over (H.holds shelf.old) (H.faults shelf.old) (H.faults shelf.new)
+        (H.failed shelf.new) (H.opened shelf.new) (H.place shelf.new))) }
 {
     let p = read_piece(alloc, shelf, request.first)?;
     let q = read_piece(alloc, shelf, request.second)?;

@@ -2,7 +2,7 @@
 ghost use Rattle.std.specs.Prelude.{◌≡◌, ◌≤◌, Some, IfErr};
 ghost use Rattle.staat_top.specs.Steps.{Files, Follows};
 ghost use Rattle.staat_top.specs.Replies.{IsPieceOf, IsRead};
-ghost use Rattle.staat_top.specs.Runs.{HasCause, ShelfSide};
+ghost use Rattle.staat_top.specs.Runs.{HasCause, ShelfSide, shelf_over};
 
 use crate::fault::Fault;
 use crate::plain::read_plain;
@@ -31,14 +31,8 @@ pub fn read_piece<H: Shelf>(alloc: Global, shelf: &mut H, name: Name) -> Result<
     ensures holds { H.holds shelf.new ≡ H.holds shelf.old }
     ensures count { H.faults shelf.old ≤ H.faults shelf.new }
     ensures found { (files : Files) → H.holds shelf.old ≡ Some files → Follows (IsPieceOf files name) result }
-    ensures cause { IfErr result (HasCause (record {
-      holds = H.holds shelf.old;
-      before = H.faults shelf.old;
-      after = H.faults shelf.new;
-      failed = H.failed shelf.new;
-      opened = H.opened shelf.new;
-      place = H.place shelf.new;
-    })) }
+    ensures cause { IfErr result (HasCause (shelf_over (H.holds shelf.old) (H.faults shelf.old) (H.faults shelf.new)
+        (H.failed shelf.new) (H.opened shelf.new) (H.place shelf.new))) }
 {
     let bytes = match read_whole(alloc, shelf, name.as_str(), FILE_LIMIT) {
         Ok(bytes) => bytes,

@@ -1,4 +1,6 @@
 // Worked examples of whole calls over shelves and sinks in memory.
+ghost use Rattle.std.specs.Prelude.{◌<◌};
+
 use crate::staat;
 use staat_edge::{Calls, Files, MemoryShelf, MemorySink};
 use staat_vec::{Bytes, Name};

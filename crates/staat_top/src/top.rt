@@ -2,7 +2,7 @@
 ghost use Rattle.std.specs.Prelude.{◌≡◌, ◌≢◌, ◌⊎◌, ◌<◌, ◌≤◌, Some, None, IfOk, IfErr, IsErrAnd, map, string_bytes};
 ghost use Rattle.staat_words.specs.Requests.{request};
 ghost use Rattle.staat_top.specs.declared.fault.Fault.TheVariants as faults;
-ghost use Rattle.staat_top.specs.Runs.{IsAnswer, IsExplained, Ran};
+ghost use Rattle.staat_top.specs.Runs.{IsAnswer, IsExplained, Ran, shelf_over, sink_over};
 
 use crate::answer::Answer;
 use crate::fault::Fault;
@@ -18,22 +18,12 @@ fn answer_to<H: Shelf>(alloc: Global, words: &Vec<String>, shelf: &mut H) -> Res
     ensures holds { H.holds shelf.new ≡ H.holds shelf.old }
     ensures count { H.faults shelf.old ≤ H.faults shelf.new }
     ensures status { IfOk result (λ a. a.status < 2) }
-    ensures answer { IfOk result (λ a. IsAnswer (request (map string_bytes words.now.items)) (record {
-      holds = H.holds shelf.old;
-      before = H.faults shelf.old;
-      after = H.faults shelf.new;
-      failed = H.failed shelf.new;
-      opened = H.opened shelf.new;
-      place = H.place shelf.new;
-    }) a.status a.text) }
-    ensures explained { IfErr result (IsExplained (request (map string_bytes words.now.items)) (record {
-      holds = H.holds shelf.old;
-      before = H.faults shelf.old;
-      after = H.faults shelf.new;
-      failed = H.failed shelf.new;
-      opened = H.opened shelf.new;
-      place = H.place shelf.new;
-    })) }
+    ensures answer { IfOk result (λ a. IsAnswer (request (map string_bytes words.now.items))
+        (shelf_over (H.holds shelf.old) (H.faults shelf.old) (H.faults shelf.new)
+        (H.failed shelf.new) (H.opened shelf.new) (H.place shelf.new)) a.status a.text) }
+    ensures explained { IfErr result (IsExplained (request (map string_bytes words.now.items))
+        (shelf_over (H.holds shelf.old) (H.faults shelf.old) (H.faults shelf.new)
+        (H.failed shelf.new) (H.opened shelf.new) (H.place shelf.new))) }
     ensures usage { request (map string_bytes words.now.items) ≡ None →
         IsErrAnd result (λ f. (f ≡ faults.Usage) ⊎ (f ≡ faults.OutOfMemory)) }
 {
@@ -61,16 +51,10 @@ pub fn staat<H: Shelf, O: Sink, E: Sink>(
     ensures out_count { O.faults out.old ≤ O.faults out.new }
     ensures err_count { E.faults err.old ≤ E.faults err.new }
     ensures ran { Ran (request (map string_bytes words.now.items))
-        (record {
-          holds = H.holds shelf.old;
-          before = H.faults shelf.old;
-          after = H.faults shelf.new;
-          failed = H.failed shelf.new;
-          opened = H.opened shelf.new;
-          place = H.place shelf.new;
-        })
-        (record { old = O.wrote out.old; new = O.wrote out.new; before = O.faults out.old; after = O.faults out.new })
-        (record { old = E.wrote err.old; new = E.wrote err.new; before = E.faults err.old; after = E.faults err.new })
+        (shelf_over (H.holds shelf.old) (H.faults shelf.old) (H.faults shelf.new)
+        (H.failed shelf.new) (H.opened shelf.new) (H.place shelf.new))
+        (sink_over (O.wrote out.old) (O.wrote out.new) (O.faults out.old) (O.faults out.new))
+        (sink_over (E.wrote err.old) (E.wrote err.new) (E.faults err.old) (E.faults err.new))
         result }
 {
     match answer_to(alloc, words, shelf) {
