@@ -85,7 +85,7 @@ fn a_sink_takes_what_fits_until_a_call_fails(rt: HostRuntime) -> Result<(), Fail
     Ok(())
 }
 
-// A writer over memory that is said to take a byte less, or fails to flush.
+// A writer over memory that can be told to take nothing, or to fail to flush.
 #[derive(Drop)]
 struct Teller {
     told: Vec<u8>,
