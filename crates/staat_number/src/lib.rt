@@ -4,3 +4,6 @@
 mod number;
 
 pub use number::{integer_of, natural_of};
+
+#[cfg(test)]
+mod tests;

@@ -7,3 +7,6 @@ mod words;
 
 pub use request::{Request, RequestRefusal};
 pub use words::request_of;
+
+#[cfg(test)]
+mod tests;

@@ -1,0 +1,32 @@
+// Worked examples of texts that spell numbers, and of texts that spell none.
+use crate::{integer_of, natural_of};
+
+#[test]
+fn a_number_has_one_spelling(rt: HostRuntime) {
+    let most = 1 << 73;
+    let table: [(&str, Option<i128>); 17] = [
+        ("0", Some(0)),
+        ("7", Some(7)),
+        ("-7", Some(-7)),
+        ("10", Some(10)),
+        ("9444732965739290427392", Some(1 << 73)),
+        ("-9444732965739290427392", Some(-(1 << 73))),
+        ("9444732965739290427393", None),
+        ("340282366920938463463374607431768211456", None),
+        ("-0", None),
+        ("00", None),
+        ("07", None),
+        ("+7", None),
+        ("", None),
+        ("-", None),
+        ("--7", None),
+        (" 7", None),
+        ("7a", None),
+    ];
+    for (text, want) in table {
+        assert_eq!(rt; integer_of(text, most), want, "at {text}");
+    }
+    assert_eq!(rt; natural_of("6", 6), Some(6));
+    assert_eq!(rt; natural_of("7", 6), None);
+    assert_eq!(rt; natural_of("-1", 6), None);
+}
