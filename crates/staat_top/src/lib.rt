@@ -11,6 +11,7 @@ mod read;
 mod top;
 
 pub use fault::{Fault, fault_line};
+pub use print::want_memory;
 pub use top::staat;
 
 #[cfg(test)]

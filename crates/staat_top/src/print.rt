@@ -24,6 +24,17 @@ fn say<E: Sink>(err: &mut E, line: &[u8], status: u8) -> u8
     }
 }
 
+/// Says on err that there was no memory, which takes none, and gives the status of that, or that of a write fault.
+pub fn want_memory<E: Sink>(err: &mut E) -> u8
+    ensures count { E.faults err.old ≤ E.faults err.new }
+    ensures whole { result ≢ 6 → SaysWhole faults.OutOfMemory
+        (sink_over (E.wrote err.old) (E.wrote err.new) (E.faults err.old) (E.faults err.new)) result }
+    ensures part { result ≡ 6 → SaysPart faults.OutOfMemory
+        (sink_over (E.wrote err.old) (E.wrote err.new) (E.faults err.old) (E.faults err.new)) }
+{
+    say(err, MEMORY_LINE, 7)
+}
+
 /// Writes a fault's line on err, and gives its status, or that of a write fault. The lines of usage and of want of
 /// memory take no memory.
 pub fn refuse<E: Sink>(alloc: Global, fault: &Fault, err: &mut E) -> u8
@@ -36,10 +47,10 @@ pub fn refuse<E: Sink>(alloc: Global, fault: &Fault, err: &mut E) -> u8
 {
     match fault {
         Fault::Usage => say(err, USAGE_LINE, 2),
-        Fault::OutOfMemory => say(err, MEMORY_LINE, 7),
+        Fault::OutOfMemory => want_memory(err),
         _ => match fault_line(alloc, fault) {
             Ok(line) => say(err, line.as_slice(), status_of(fault)),
-            Err(_) => say(err, MEMORY_LINE, 7),
+            Err(_) => want_memory(err),
         },
     }
 }
