@@ -18,3 +18,11 @@ pub mod SetBits
 pub mod SetMembers
 pub mod SetWords
 pub mod SetSizes
+pub mod Unique
+pub mod Orders
+pub mod OneTable
+pub mod FreeSides
+pub mod OneOutcome
+pub mod Restrict
+pub mod Places
+pub mod OneReason
