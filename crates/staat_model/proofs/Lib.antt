@@ -7,10 +7,10 @@ pub mod Mixes
 pub mod Alternative
 pub mod Tilt
 pub mod Edge
-pub mod PrimitiveLemmas
 pub mod CornerLemmas
 pub mod FarkasLemmas
 pub mod WeightLemmas
 pub mod FacetLemmas
 pub mod Differences
 pub mod BorderLemmas
+pub mod Corners
