@@ -14,3 +14,7 @@ pub mod FacetLemmas
 pub mod Differences
 pub mod BorderLemmas
 pub mod Corners
+pub mod SetBits
+pub mod SetMembers
+pub mod SetWords
+pub mod SetSizes

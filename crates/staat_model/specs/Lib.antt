@@ -2,3 +2,14 @@ pub mod Meeting
 pub mod Pieces
 pub mod Walls
 pub mod Cones
+pub mod Bits
+pub mod Sets
+pub mod Lists
+pub mod Assemblies
+pub mod Removal
+pub mod Plans
+pub mod Facets
+pub mod Planes
+pub mod Cells
+pub mod Outcomes
+pub mod Circles

@@ -3,6 +3,7 @@ use Rattle.std.specs.Prelude.{◌≢◌, ◌≤◌, pos, List, length, All, Cont
 use Rattle.std.specs.List.Sorted.{IsStrictlySortedBy}
 use Rattle.staat_vec.specs.declared.vector.V3.{V3}
 use Rattle.staat_vec.specs.declared.vector.TheConstants.{POINT}
+use Rattle.staat_model.specs.declared.limits.TheConstants.{LEAST_POINTS, MOST_POINTS}
 use Rattle.staat_vec.specs.Vectors.{IsWithin, det, minus, vector_cmp}
 
 -- four of the points do not lie in one plane
@@ -20,7 +21,7 @@ pub record IsSolid (points : List V3) : Type 0 where
 -- 4 to 64 different points in ascending order, none too far out, and not all in one plane
 pub record IsPiece (points : List V3) : Type 0 where
   pub ascending : IsStrictlySortedBy vector_cmp points
-  pub at_least : 4 ≤ length points
-  pub at_most : length points ≤ 64
+  pub at_least : LEAST_POINTS ≤ length points
+  pub at_most : length points ≤ MOST_POINTS
   pub within : All (IsWithin POINT) points
   pub solid : IsSolid points

@@ -1,12 +1,28 @@
 //! Pieces, assemblies, plans and certificates, and what is said of them.
 #![tactic(auto)]
 
+mod assembly;
+mod certificate;
 mod cone_laws;
 pub mod laws;
+mod limits;
 mod piece;
+mod refusal;
+mod set;
 mod solid;
+mod tree;
+mod verdict;
 mod wall;
 
+pub use assembly::{Assembly, Part, Parts, Sound};
+pub use certificate::{
+    Arc, Arcs, Body, Certificate, Dir, Dirs, Node, Nodes, Sep, Seps, Witness, Witnesses,
+};
+pub use limits::{LEAST_POINTS, MOST_PARTS, MOST_PIECES, MOST_POINTS};
 pub use piece::{Piece, Pieces, Points};
+pub use refusal::TextRefusal;
+pub use set::PartSet;
 pub use solid::is_solid;
+pub use tree::{Kind, Marks, Outcome, Step, Tree};
+pub use verdict::{Reason, Verdict};
 pub use wall::is_shown;

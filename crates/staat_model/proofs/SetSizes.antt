@@ -1,0 +1,66 @@
+-- Sets with one member.
+use Rattle.std.proofs.Common.{◌≡◌, ◌≢◌, ℕ, zero, suc, ◌+◌, ◌-◌, ◌<◌, ◌≤◌, Bool, true, false, arith, ap, sym, ◌∙◌, subst, refl, ⊎_elim, ◌⊎◌, true≢false}
+use Rattle.std.specs.Prelude.{nat_eq, not, ◌&&◌, cond}
+use Rattle.std.specs.FinSet as set
+use Rattle.std.specs.Ordering.{nat_cmp}
+use Rattle.std.specs.Cmp.{nat_cmp_total, unsigned_tied}
+use Rattle.std.proofs.lemmas.Bool.Decides.{nat_tests}
+use Rattle.staat_model.specs.declared.set.PartSet.{PartSet}
+use Rattle.staat_model.specs.Sets.{Has, IsSubset, single}
+use Rattle.staat_model.proofs.SetMembers.{has-single, has-empty}
+use Rattle.staat_model.proofs.SetWords.{same_members}
+
+has-remove : (s : PartSet) (p q : ℕ) → q ≢ p → Has s q → Has (set.remove s p) q
+has-remove s p q ne h = set.contains-remove nat_cmp_total s p q ∙ ap (λ b. not b && set.contains s q) (unsigned_tied q p) ∙ go (nat_eq q p) (let e : nat_eq q p ≡ false = grind (arith, nat_tests) in e)
+  where
+    go : (b : Bool) → b ≡ false → (not b && set.contains s q) ≡ true
+    go true e = absurd (true≢false e)
+    go false e = h
+
+len_remove : (s : PartSet) (p : ℕ) → Has s p → set.len (set.remove s p) ≡ set.len s - 1
+len_remove s p h = set.len-remove nat_cmp_total s p ∙ ap (λ b. cond b (set.len s - 1) (set.len s)) h
+
+same_or : (a b : ℕ) → (a ≡ b) ⊎ (a ≢ b)
+same_or a b = grind arith
+
+pub one_within : (s : PartSet) (p : ℕ) → Has s p → set.len s ≤ 1 → IsSubset s (single p)
+one_within s p h le q m = ⊎_elim (λ e. (has-single p q).1 e)
+    (λ ne. let z : set.len (set.remove s p) ≡ 0 = (let r : set.len (set.remove s p) ≡ set.len s - 1 = len_remove s p h in omega arith) in
+    absurd (has-empty q (subst (λ t. Has t q) (set.empty_of_len (set.remove s p) z) (has-remove s p q ne m))))
+    (same_or q p)
+
+pub one_is : (s : PartSet) (p : ℕ) → Has s p → IsSubset s (single p) → s ≡ single p
+one_is s p h within = same_members s (single p) within (λ q m. subst (Has s) (sym ((has-single p q).0 m)) h)
+
+le_or : (n : ℕ) → (1 < n) ⊎ (n ≤ 1)
+le_or n = grind arith
+
+pub many : (s : PartSet) (p : ℕ) → Has s p → (IsSubset s (single p) → ⊥) → 1 < set.len s
+many s p h other = ⊎_elim (λ lt. lt) (λ le. absurd (other (one_within s p h le))) (le_or (set.len s))
+
+has-of-remove : (s : PartSet) (p q : ℕ) → Has (set.remove s p) q → (q ≢ p) × Has s q
+has-of-remove s p q h = go (nat_eq q p) refl (sym (set.contains-remove nat_cmp_total s p q ∙ ap (λ b. not b && set.contains s q) (unsigned_tied q p)) ∙ h)
+  where
+    go : (b : Bool) → nat_eq q p ≡ b → (not b && set.contains s q) ≡ true → (q ≢ p) × Has s q
+    go true e h = absurd (true≢false (sym h))
+    go false e h = let ne : q ≢ p = grind (arith, nat_tests) in (ne, h)
+
+-- a set of numbers below n has at most n members
+pub len_below : (n : ℕ) (s : PartSet) → ((q : ℕ) → Has s q → q < n) → set.len s ≤ n
+len_below zero s small = let e : set.len s ≡ 0 = ap set.len (same_members s set.empty (λ q h. absurd (let lt : q < 0 = small q h in omega arith)) (λ q h. absurd (has-empty q h))) ∙ set.len-empty nat_cmp in omega arith
+len_below (suc n) s small =
+    let rest : set.len (set.remove s n) ≤ n = len_below n (set.remove s n) (λ q h. let t = has-of-remove s n q h in let lt : q < suc n = small q t.1 in let ne : q ≢ n = t.0 in omega arith) in
+    let e : set.len (set.remove s n) ≡ cond (set.contains s n) (set.len s - 1) (set.len s) = set.len-remove nat_cmp_total s n in
+    least_cond (set.contains s n) (set.len s) (set.len (set.remove s n)) n e rest
+  where
+    least_cond : (b : Bool) (m r n : ℕ) → r ≡ cond b (m - 1) m → r ≤ n → m ≤ suc n
+    least_cond true m r n e le = omega arith
+    least_cond false m r n e le = omega arith
+
+-- one more member
+pub len_more : (s : PartSet) (p : ℕ) → (Has s p → ⊥) → set.len (set.insert s p) ≡ set.len s + 1
+len_more s p fresh = set.len-insert nat_cmp_total s p ∙ go (set.contains s p) refl
+  where
+    go : (b : Bool) → set.contains s p ≡ b → cond b (set.len s) (set.len s + 1) ≡ set.len s + 1
+    go true e = absurd (fresh e)
+    go false e = refl
