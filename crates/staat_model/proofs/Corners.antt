@@ -125,7 +125,7 @@ conditions d (g ∷ gs) = next d g gs (conditions d gs)
 -- ---- the crossing
 
 -- the cross product of two vectors that are known up to their signs
-cross_signs : (c e g h : V3) → IsSame c g → IsSame e h → IsSame (cross c e) (cross g h)
+pub cross_signs : (c e g h : V3) → IsSame c g → IsSame e h → IsSame (cross c e) (cross g h)
 cross_signs c e g h (inl p) (inl q) = inl (λ i. cross (p i) (q i))
 cross_signs c e g h (inr p) (inl q) = inr ((λ i. cross (p i) (q i)) ∙ ring3 (values (g ∷ h ∷ []) []) (crossE (negativeE v0) v1) (negativeE (crossE v0 v1)) (tt, tt, tt))
 cross_signs c e g h (inl p) (inr q) = inr ((λ i. cross (p i) (q i)) ∙ ring3 (values (g ∷ h ∷ []) []) (crossE v0 (negativeE v1)) (negativeE (crossE v0 v1)) (tt, tt, tt))

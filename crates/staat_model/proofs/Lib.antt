@@ -18,3 +18,10 @@ pub mod SetBits
 pub mod SetMembers
 pub mod SetWords
 pub mod SetSizes
+pub mod PieceFacets
+pub mod Reversed
+pub mod RestrictLemmas
+pub mod GraphLemmas
+pub mod VertexLemmas
+pub mod PlaneLemmas
+pub mod CellLemmas

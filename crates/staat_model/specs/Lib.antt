@@ -13,3 +13,4 @@ pub mod Planes
 pub mod Cells
 pub mod Outcomes
 pub mod Circles
+pub mod Borders

@@ -7,6 +7,8 @@ mod cone_laws;
 pub mod laws;
 mod limits;
 mod piece;
+mod piece_laws;
+mod plan_laws;
 mod refusal;
 mod set;
 mod solid;
