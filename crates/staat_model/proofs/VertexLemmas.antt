@@ -1,5 +1,6 @@
 -- A vertex of the planes lies on the border of each cell, and a side that is free along some direction is free along a vertex.
-use Rattle.std.proofs.Common.{◌≡◌, ◌≢◌, zero, suc, refl, sym, ap, subst, ◌∙◌, arith, pos, inl, inr, List, [], ◌∷◌, Contains}
+use Rattle.std.proofs.Common.{◌≡◌, ◌≢◌, ◌≤◌, zero, suc, refl, sym, ap, subst, ◌∙◌, arith, pos, inl, inr, List, [], ◌∷◌, Contains}
+use Rattle.std.specs.FinSet as set
 use Rattle.std.proofs.lemmas.List.Elements.{Contains-append_left, Contains-append_right}
 use Rattle.staat_vec.specs.declared.vector.V3.{V3}
 use Rattle.staat_vec.specs.Vectors.{vector, cross, negative, origin}
@@ -9,14 +10,16 @@ use Rattle.staat_vec.proofs.Primitives.{IsPrimitive-some, primitive-is, primitiv
 use Rattle.staat_vec.proofs.Canons.{negative-negative}
 use Rattle.staat_model.specs.declared.assembly.Part.{Part}
 use Rattle.staat_model.specs.declared.set.PartSet.{PartSet}
-use Rattle.staat_model.specs.Sets.{Has, IsSubset, AreApart}
+use Rattle.staat_model.specs.Sets.{Has, IsSubset, IsSide, AreApart}
 use Rattle.staat_model.specs.Assemblies.{IsAssembly}
 use Rattle.staat_model.specs.Removal.{IsFree}
+use Rattle.staat_model.specs.Plans.{IsStuck}
 use Rattle.staat_model.specs.Planes.{ArePlanes, axes, vertices, crossings}
 use Rattle.staat_model.specs.Cells.{signs_of, IsBorder}
 use Rattle.staat_model.specs.Borders.{HasBorderVertex, HasFreeVertex}
 use Rattle.staat_model.proofs.Members.{here, there}
 use Rattle.staat_model.proofs.Corners.{HoldsAxes, IsSame, corner_towards}
+use Rattle.staat_model.proofs.RestrictLemmas.{rest_apart, rest_within}
 use Rattle.staat_model.proofs.GraphLemmas.{axis_in, border_towards, arc_from_border}
 
 -- ---- the list of vertices holds each crossing and its negative
@@ -100,3 +103,11 @@ pub vertices_decide_lemma : (parts : List Part) (w s r : PartSet) (planes : List
 vertices_decide_lemma parts w s r planes d is are s_in r_in apart free =
     let at = vertex_on_border_lemma planes d (holds_axes parts w planes are) free.moves in
     record { v = at.v; vertex = at.vertex; free = free_on_border parts w s r planes d at.v is are s_in r_in apart at.nonzero at.border free }
+
+-- a set of two parts or more is stuck where at each vertex no side of it is free
+pub stuck_at_vertices_lemma : (parts : List Part) (w : PartSet) (planes : List V3) → IsAssembly parts → ArePlanes parts w planes → 2 ≤ set.len w
+    → ((v : V3) (s : PartSet) → Contains (vertices planes) v → IsSide w s → IsFree parts s (set.difference w s) v → ⊥) → IsStuck parts w
+stuck_at_vertices_lemma parts w planes is are two none = record {
+  two = two;
+  held = λ s d side free. let at = vertices_decide_lemma parts w s (set.difference w s) planes d is are side.within (rest_within w s) (rest_apart w s) free in none at.v s at.vertex side at.free;
+}

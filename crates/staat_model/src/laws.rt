@@ -15,7 +15,7 @@ pub use crate::piece_laws::{
 };
 pub use crate::plan_laws::{
     edges_add_up, graph_of_cell, graph_on_border, open_cell, opposite_graph, restrict,
-    vertex_on_border, vertices_decide,
+    stuck_at_vertices, vertex_on_border, vertices_decide,
 };
 
 /// A wall that shows a piece apart from a list of points along a direction keeps them apart for ever: the piece

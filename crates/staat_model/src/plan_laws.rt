@@ -1,16 +1,17 @@
 // Laws on assemblies, their planes and their plans. Each is a function that does nothing, and its contract is the law.
-ghost use Rattle.std.specs.Prelude.{◌≡◌, ◌≢◌, ◌↔◌, ℕ, List};
+ghost use Rattle.std.specs.Prelude.{◌≡◌, ◌≢◌, ◌≤◌, ◌↔◌, ℕ, List, Contains};
+ghost use Rattle.std.specs.FinSet as set;
 ghost use Rattle.staat_vec.specs.declared.vector.V3.{V3 as Vector};
 ghost use Rattle.staat_vec.specs.declared.vector.Sign.{Sign as SignValue};
 ghost use Rattle.staat_vec.specs.Vectors.{origin, plus, negative};
 ghost use Rattle.staat_model.specs.declared.assembly.Part.{Part as PartValue};
 ghost use Rattle.staat_model.specs.declared.set.PartSet.{PartSet as PartSetValue};
 ghost use Rattle.staat_model.specs.declared.tree.Kind.TheVariants.{Edge, Open};
-ghost use Rattle.staat_model.specs.Sets.{AreApart, Has, IsSubset};
+ghost use Rattle.staat_model.specs.Sets.{AreApart, Has, IsSide, IsSubset};
 ghost use Rattle.staat_model.specs.Assemblies.{IsAssembly};
 ghost use Rattle.staat_model.specs.Removal.{Blocks, IsFree};
 ghost use Rattle.staat_model.specs.Plans.{IsGood, IsStuck, Plan};
-ghost use Rattle.staat_model.specs.Planes.{ArePlanes};
+ghost use Rattle.staat_model.specs.Planes.{ArePlanes, vertices};
 ghost use Rattle.staat_model.specs.Cells.{IsBorder, IsCell, kind_of, signs_of};
 ghost use Rattle.staat_model.specs.Borders.{HasBorderVertex, HasFreeVertex, HasTwoEdges};
 
@@ -43,6 +44,11 @@ pub fn vertex_on_border()
 /// vertex of the set's planes.
 pub fn vertices_decide()
     ensures { (parts : List PartValue) (w s r : PartSetValue) (planes : List Vector) (d : Vector) → IsAssembly parts → ArePlanes parts w planes → IsSubset s w → IsSubset r w → AreApart s r → IsFree parts s r d → HasFreeVertex parts planes s r }
+{}
+
+/// A set of at least two parts is stuck if at each vertex of its planes no side of it is free of the rest.
+pub fn stuck_at_vertices()
+    ensures { (parts : List PartValue) (w : PartSetValue) (planes : List Vector) → IsAssembly parts → ArePlanes parts w planes → 2 ≤ set.len w → ((v : Vector) (s : PartSetValue) → Contains (vertices planes) v → IsSide w s → IsFree parts s (set.difference w s) v → ⊥) → IsStuck parts w }
 {}
 
 /// An open cell has two edges on its border.
