@@ -19,3 +19,4 @@ pub mod Reasons
 pub mod Certify
 pub mod Lines
 pub mod Texts
+pub mod Borders
