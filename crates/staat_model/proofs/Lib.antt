@@ -32,3 +32,9 @@ pub mod GraphLemmas
 pub mod VertexLemmas
 pub mod PlaneLemmas
 pub mod CellLemmas
+pub mod FirstUse
+pub mod OneCertificate
+pub mod Decimals
+pub mod LineTexts
+pub mod CertificateLines
+pub mod OneReading

@@ -9,7 +9,9 @@ pub use crate::cone_laws::{
     combine, corner, differences_span, facet_is_crossing, farkas, one_primitive, reached_by_facets,
     two_borders, weights_and_numbers,
 };
-pub use crate::one_laws::{no_reason_if_valid, one_outcome, one_reason};
+pub use crate::one_laws::{
+    no_reason_if_valid, one_certificate, one_outcome, one_reading, one_reason, one_spelling,
+};
 pub use crate::piece_laws::{
     blocked_by_facets, facets_from_differences, opposite_facets, opposite_meeting,
     overlap_by_facets,
