@@ -38,3 +38,5 @@ pub mod Decimals
 pub mod LineTexts
 pub mod CertificateLines
 pub mod OneReading
+pub mod Examples
+pub mod CellExamples
