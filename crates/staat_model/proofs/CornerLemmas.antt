@@ -1,17 +1,17 @@
 -- A pointed cone that holds a vector but zero holds a vertex.
-use Rattle.std.proofs.Common.{◌≡◌, ℕ, ◌≤◌, ◌≢◌, sym, ap, ◌∙◌, arith, ℤ, pos, neg_ℤ, ◌*ℤ◌, ◌≤ℤ◌, ◌<ℤ◌, inl, inr, ⊎_elim, List, [], ◌∷◌, All}
+use Rattle.std.proofs.Common.{◌≡◌, ℕ, ◌≤◌, ◌≢◌, refl, sym, ap, ◌∙◌, arith, ℤ, pos, neg_ℤ, ◌*ℤ◌, ◌≤ℤ◌, ◌<ℤ◌, inl, inr, ⊎_elim, List, [], ◌∷◌, All}
 use Rattle.std.proofs.lemmas.Int.{ints}
 use Rattle.std.proofs.lemmas.List.Elements.{All-contains, All-weaker}
 use Rattle.staat_vec.specs.declared.vector.V3.{V3}
 use Rattle.staat_vec.specs.Vectors.{vector, dot, cross, times, negative, origin}
-use Rattle.staat_vec.specs.Primitives.{IsPrimitiveOf}
+use Rattle.staat_vec.specs.Primitives.{IsPrimitiveOf, primitive}
 use Rattle.staat_model.specs.Cones.{IsAbove, IsSpanning, HasAxes, HasEither, HasCorner}
 use Rattle.staat_vec.proofs.Ring.{Ex, at, num, ◌⊗◌, ring}
 use Rattle.staat_vec.proofs.VecRing.{dotE, timesE, vectorE, values, v0, v1, same_vector, negative_dot}
 use Rattle.staat_vec.proofs.Order.{cancel_nonneg, negative_is, nonneg_is}
 use Rattle.staat_model.proofs.Mixes.{square_vector}
 use Rattle.staat_model.proofs.Edge.{edge_below}
-use Rattle.staat_model.proofs.PrimitiveLemmas.{primitive_of}
+use Rattle.staat_vec.proofs.Primitives.{primitive-is}
 
 negative_gone : (a : ℤ) → neg_ℤ a ≡ pos 0 → a ≡ pos 0
 negative_gone a e = omega (arith, ints)
@@ -51,5 +51,4 @@ some_square d some = ⊎_elim (λ e. absurd (some e)) (λ p. p) (square_vector d
 pub corner_lemma : (vs : List V3) (d : V3) → HasAxes vs → d ≢ origin → IsAbove d vs → HasCorner vs
 corner_lemma vs d axes some up =
     let (g, h, (in_g, in_h, apart, above), side) = edge_below vs d (negative d) (axes_span vs axes) up (negative_is (dot (negative d) d) (neg_ℤ (dot d d)) (negative_dot d d) (opposite_low (dot d d) (some_square d some))) in
-    let v = primitive_of (cross g h) apart in
-    record { v = v.0; crossing = record { g = g; h = h; g_in = in_g; h_in = in_h; independent = apart; primitive = v.1 }; above = above_primitive vs (cross g h) v.0 v.1 above }
+    record { v = primitive (cross g h); crossing = record { g = g; h = h; g_in = in_g; h_in = in_h; independent = apart; is = refl }; above = above_primitive vs (cross g h) (primitive (cross g h)) (primitive-is (cross g h) apart) above }

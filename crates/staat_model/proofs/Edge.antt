@@ -36,7 +36,7 @@ perpendicular y = pick (square_sign y.x)
       ring (values (y ∷ []) []) (dotE v0 (vectorE (at 1) (num (pos 0) ⊖ at 0) (num (pos 0)))) (num (pos 0)) tt,
     )
 
-dot_origin_right : (v : V3) → dot v origin ≡ pos 0
+pub dot_origin_right : (v : V3) → dot v origin ≡ pos 0
 dot_origin_right v = ring (values (v ∷ []) []) (dotE v0 originE) (num (pos 0)) tt
 
 -- what follows where w is parallel to y

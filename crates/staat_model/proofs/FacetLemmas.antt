@@ -1,14 +1,14 @@
 -- A facet is the primitive vector of the cross product of the two members that it is at right angles to, in one of the two orders; and a direction is reached exactly where it leads ahead of each facet.
-use Rattle.std.proofs.Common.{◌≡◌, ◌↔◌, ℕ, ◌*◌, ◌≢◌, sym, ap, ◌∙◌, arith, ℤ, pos, negsuc, ◌*ℤ◌, ◌≤ℤ◌, ◌<ℤ◌, ⊎_elim, List, [], ◌∷◌, mul-le-mul}
+use Rattle.std.proofs.Common.{◌≡◌, ◌↔◌, ℕ, ◌*◌, ◌≢◌, ◌≤◌, sym, ap, subst, ◌∙◌, arith, ℤ, pos, negsuc, ◌*ℤ◌, ◌≤ℤ◌, ◌<ℤ◌, ⊎_elim, List, [], ◌∷◌, mul-le-mul}
 use Rattle.std.proofs.lemmas.Int.{ints, by_lt_z}
 use Rattle.staat_vec.specs.declared.vector.V3.{V3}
 use Rattle.staat_vec.specs.Vectors.{dot, cross, times, origin}
-use Rattle.staat_vec.specs.Primitives.{IsPrimitive, IsPrimitiveOf}
+use Rattle.staat_vec.specs.Primitives.{IsPrimitive, IsPrimitiveOf, primitive}
 use Rattle.staat_vec.proofs.Ring.{Ex, at, num, ◌⊖◌, ◌⊗◌, ring, ring_by, ring_by_two, zero-mul_ℤ}
 use Rattle.staat_vec.proofs.VecRing.{VEx, dotE, crossE, timesE, values, v0, v1, v2, scale, same_vector, ring3}
 use Rattle.staat_vec.proofs.Order.{as_positive, cancel_zero}
 use Rattle.staat_model.specs.Cones.{IsSpanning, IsConeFacet, IsCrossing, IsReached}
-use Rattle.staat_model.proofs.PrimitiveLemmas.{primitive_of, same_primitive, zero_not_primitive}
+use Rattle.staat_vec.proofs.Primitives.{IsPrimitive-some, primitive-is, primitive-only, same_primitive}
 use Rattle.staat_model.proofs.CornerLemmas.{some_square}
 use Rattle.staat_model.proofs.FarkasLemmas.{farkas_lemma}
 
@@ -34,7 +34,8 @@ times_times b k m = ring3 (values (m ∷ []) (pos b ∷ pos k ∷ [])) (timesE (
 pub looks_along : (n g h : V3) → IsPrimitive n → dot g n ≡ pos 0 → dot h n ≡ pos 0 → cross g h ≢ origin → pos 0 <ℤ dot n (cross g h) → IsPrimitiveOf (cross g h) n
 looks_along n g h prim e f some side =
     let c = cross g h in
-    let (m, p) = primitive_of c some in
+    let m = primitive c in
+    let p = primitive-is c some in
     let a = as_positive (dot c c) (some_square c some) in
     let b = as_positive (dot n c) side in
     let whole : times a.0 n ≡ times (b.0 * p.factor) m =
@@ -48,7 +49,7 @@ not_across n g h prim e f some flat =
     let c = cross g h in
     let a = as_positive (dot c c) (some_square c some) in
     let whole : times a.0 n ≡ times 0 c = ap (λ z. scale z n) (sym a.2) ∙ along n g h e f ∙ ap (λ z. scale z c) flat in
-    zero_not_primitive n prim (same_vector n origin
+    IsPrimitive-some n prim (same_vector n origin
     (cancel_zero a.0 n.x a.1 (ap (λ v. v.x) whole ∙ zero-mul_ℤ c.x))
     (cancel_zero a.0 n.y a.1 (ap (λ v. v.y) whole ∙ zero-mul_ℤ c.y))
     (cancel_zero a.0 n.z a.1 (ap (λ v. v.z) whole ∙ zero-mul_ℤ c.z)))
@@ -71,9 +72,9 @@ facet_crosses_lemma vs n f =
     let p = f.primitive in
     let back : cross t.v t.u ≢ origin = λ z. t.independent (swap_zero t.u t.v z) in
     by_lt_z {P = IsCrossing vs n} (pos 0) (dot n (cross t.u t.v))
-    (λ side. record { g = t.u; h = t.v; g_in = t.u_in; h_in = t.v_in; independent = t.independent; primitive = looks_along n t.u t.v p t.u_on t.v_on t.independent side })
+    (λ side. record { g = t.u; h = t.v; g_in = t.u_in; h_in = t.v_in; independent = t.independent; is = primitive-only (cross t.u t.v) n (looks_along n t.u t.v p t.u_on t.v_on t.independent side) })
     (λ low. by_lt_z {P = IsCrossing vs n} (dot n (cross t.u t.v)) (pos 0)
-    (λ neg. record { g = t.v; h = t.u; g_in = t.v_in; h_in = t.u_in; independent = back; primitive = looks_along n t.v t.u p t.v_on t.u_on back (opposite (dot n (cross t.v t.u)) (dot n (cross t.u t.v)) (swap_dot n t.u t.v) neg) })
+    (λ neg. record { g = t.v; h = t.u; g_in = t.v_in; h_in = t.u_in; independent = back; is = primitive-only (cross t.v t.u) n (looks_along n t.v t.u p t.v_on t.u_on back (opposite (dot n (cross t.v t.u)) (dot n (cross t.u t.v)) (swap_dot n t.u t.v) neg)) })
     (λ nonneg. absurd (not_across n t.u t.v p t.u_on t.v_on t.independent (zero_here (dot n (cross t.u t.v)) low nonneg))))
   where
     opposite : (p q : ℤ) → p ≡ negsuc 0 *ℤ q → q <ℤ pos 0 → pos 0 <ℤ p
@@ -82,9 +83,16 @@ facet_crosses_lemma vs n f =
     zero_here : (p : ℤ) → p ≤ℤ pos 0 → pos 0 ≤ℤ p → p ≡ pos 0
     zero_here p h g = omega (arith, ints)
 
--- a vector has one primitive vector
-pub one_primitive_lemma : (v p q : V3) → IsPrimitiveOf v p → IsPrimitiveOf v q → p ≡ q
-one_primitive_lemma v p q a b = same_primitive a.factor b.factor p q a.positive b.positive (sym a.multiple ∙ b.multiple) a.primitive b.primitive
+-- a positive multiple of a vector other than zero is none
+times_some : (k : ℕ) (p : V3) → 1 ≤ k → p ≢ origin → times k p ≢ origin
+times_some k p one some e = some (same_vector p origin (cancel_zero k p.x one (ap (λ v. v.x) e)) (cancel_zero k p.y one (ap (λ v. v.y) e)) (cancel_zero k p.z one (ap (λ v. v.z) e)))
+
+-- a vector other than zero has one primitive vector, and zero has none
+pub one_primitive_lemma : (v p : V3) → IsPrimitiveOf v p ↔ ((v ≢ origin) × (p ≡ primitive v))
+one_primitive_lemma v p = (
+  (λ h. ((λ e. times_some h.factor p h.positive (IsPrimitive-some p h.primitive) (sym h.multiple ∙ e)), primitive-only v p h)),
+  λ (some, e). subst (λ q. IsPrimitiveOf v q) (sym e) (primitive-is v some),
+)
 
 pub reached_by_facets_lemma : (vs : List V3) (d : V3) → IsSpanning vs → IsReached vs d ↔ ((n : V3) → IsConeFacet vs n → pos 0 <ℤ dot n d)
 reached_by_facets_lemma vs d spans =

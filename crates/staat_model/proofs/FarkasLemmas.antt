@@ -5,6 +5,7 @@ use Rattle.std.proofs.lemmas.List.{length-map}
 use Rattle.std.proofs.lemmas.List.Elements.{All-nil, All-cons, All-head, All-tail, All-contains, All-weaker, All-map}
 use Rattle.staat_vec.specs.declared.vector.V3.{V3}
 use Rattle.staat_vec.specs.Vectors.{dot, cross, plus, times, negative, origin}
+use Rattle.staat_vec.specs.Primitives.{primitive}
 use Rattle.staat_vec.proofs.Ring.{at, ◌⊕◌, ◌⊖◌, ◌⊗◌, ring}
 use Rattle.staat_vec.proofs.VecRing.{dotE, plusE, timesE, negativeE, originE, values, v0, v1, v2, ring3, dot_comm, dot_cross_left, dot_cross_right}
 use Rattle.staat_vec.proofs.Order.{bounded, split_sum, tight_factor, not_positive_mul, cancel_not_positive, cancel_zero, nonneg_mul, nonneg_pos}
@@ -14,7 +15,7 @@ use Rattle.staat_model.proofs.Members.{here, there}
 use Rattle.staat_model.proofs.Mixes.{square_vector, dot_step, mix_above}
 use Rattle.staat_model.proofs.Alternative.{IsSeparated, alternative}
 use Rattle.staat_model.proofs.Edge.{edge_below}
-use Rattle.staat_model.proofs.PrimitiveLemmas.{primitive_of, zero_not_primitive}
+use Rattle.staat_vec.proofs.Primitives.{IsPrimitive-some, primitive-is}
 use Rattle.staat_model.proofs.CornerLemmas.{above_primitive, dot_multiple}
 
 -- some member is bad, or one bound serves all members
@@ -112,7 +113,8 @@ module _ (vs : List V3) (d : V3) where
   stopped_from : (g h : V3) → Contains vs g → Contains vs h → IsBad g h → IsStopped vs d
   unfolding IsBad
   stopped_from g h in_g in_h (up, some, low) =
-      let (n, p) = primitive_of (cross g h) some in
+      let n = primitive (cross g h) in
+      let p = primitive-is (cross g h) some in
       record {
         n = n;
         facet = record {
@@ -183,4 +185,4 @@ reached_is_ahead vs d n spans some up r low =
     some (spans n (all_across n r.weights vs r.are_weights.one_each r.are_weights.positive up (subst (λ z. z ≤ℤ pos 0) (sym (ap (λ v. dot v n) r.is ∙ times_dot r.t d n)) (not_positive_mul r.t (dot n d) low))))
 
 pub farkas_lemma : (vs : List V3) (d : V3) → IsSpanning vs → ExactlyOne (IsReached vs d) (IsStopped vs d)
-farkas_lemma vs d spans = (farkas_one vs d spans, λ r s. reached_is_ahead vs d s.n spans (zero_not_primitive s.n s.facet.primitive) s.facet.above r s.away)
+farkas_lemma vs d spans = (farkas_one vs d spans, λ r s. reached_is_ahead vs d s.n spans (IsPrimitive-some s.n s.facet.primitive) s.facet.above r s.away)

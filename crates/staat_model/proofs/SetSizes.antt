@@ -64,3 +64,6 @@ len_more s p fresh = set.len-insert nat_cmp_total s p ∙ go (set.contains s p) 
     go : (b : Bool) → set.contains s p ≡ b → cond b (set.len s) (set.len s + 1) ≡ set.len s + 1
     go true e = absurd (fresh e)
     go false e = refl
+
+pub len-single : (p : ℕ) → set.len (single p) ≡ 1
+len-single p = len_more set.empty p (has-empty p) ∙ ap (λ n. n + 1) (set.len-empty nat_cmp)

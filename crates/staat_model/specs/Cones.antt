@@ -2,7 +2,7 @@
 use Rattle.std.specs.Prelude.{◌≡◌, ◌≢◌, ℕ, ◌≤◌, ◌⊎◌, pos, ◌≤ℤ◌, ◌<ℤ◌, List, [], ◌∷◌, ◌++◌, map, length, All, Contains}
 use Rattle.staat_vec.specs.declared.vector.V3.{V3}
 use Rattle.staat_vec.specs.Vectors.{vector, origin, dot, cross, minus, times, negative}
-use Rattle.staat_vec.specs.Primitives.{IsPrimitive, IsPrimitiveOf}
+use Rattle.staat_vec.specs.Primitives.{IsPrimitive, primitive}
 use Rattle.staat_model.specs.Meeting.{AreWeights, mix}
 
 -- each point of qs less each point of ps
@@ -46,7 +46,7 @@ pub record IsCrossing (vs : List V3) (v : V3) : Type 0 where
   pub g_in : Contains vs g
   pub h_in : Contains vs h
   pub independent : cross g h ≢ origin
-  pub primitive : IsPrimitiveOf (cross g h) v
+  pub is : v ≡ primitive (cross g h)
 
 -- a vertex of the cone of the conditions: the planes of two of them meet in it, and it meets all
 pub record HasCorner (vs : List V3) : Type 0 where

@@ -13,3 +13,10 @@ pub mod Planes
 pub mod Cells
 pub mod Outcomes
 pub mod Circles
+pub mod Bridges
+pub mod Certificates
+pub mod Reasons
+pub mod Certify
+pub mod Lines
+pub mod Texts
+pub mod Borders

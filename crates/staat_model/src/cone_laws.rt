@@ -2,7 +2,7 @@
 ghost use Rattle.std.specs.Prelude.{◌≡◌, ◌≢◌, ◌≤◌, ◌↔◌, List, All, Contains, length, pos, ◌≤ℤ◌, ◌<ℤ◌};
 ghost use Rattle.staat_vec.specs.declared.vector.V3.{V3 as Vector};
 ghost use Rattle.staat_vec.specs.Vectors.{dot, origin};
-ghost use Rattle.staat_vec.specs.Primitives.{IsPrimitiveOf};
+ghost use Rattle.staat_vec.specs.Primitives.{IsPrimitiveOf, primitive};
 ghost use Rattle.staat_model.specs.Pieces.{IsSolid};
 ghost use Rattle.staat_model.specs.Meeting.{Meets};
 ghost use Rattle.staat_model.specs.Cones.{ExactlyOne, HasAxes, HasCorner, HasTwoBorders, IsAbove, IsCombined, IsConeFacet, IsCrossing, IsReached, IsSpanning, IsStopped, differences};
@@ -48,9 +48,9 @@ pub fn facet_is_crossing()
     ensures { (vs : List Vector) (n : Vector) → IsConeFacet vs n → IsCrossing vs n }
 {}
 
-/// A vector has one primitive vector at most.
+/// A vector other than zero has exactly one primitive vector, and zero has none.
 pub fn one_primitive()
-    ensures { (v p q : Vector) → IsPrimitiveOf v p → IsPrimitiveOf v q → p ≡ q }
+    ensures { (v p : Vector) → IsPrimitiveOf v p ↔ ((v ≢ origin) × (p ≡ primitive v)) }
 {}
 
 /// Where a direction lies strictly inside all conditions of a list that spans space, two of the conditions are walls,

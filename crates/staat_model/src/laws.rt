@@ -9,6 +9,17 @@ pub use crate::cone_laws::{
     combine, corner, differences_span, facet_is_crossing, farkas, one_primitive, reached_by_facets,
     two_borders, weights_and_numbers,
 };
+pub use crate::one_laws::{
+    no_reason_if_valid, one_certificate, one_outcome, one_reading, one_reason, one_spelling,
+};
+pub use crate::piece_laws::{
+    blocked_by_facets, facets_from_differences, opposite_facets, opposite_meeting,
+    overlap_by_facets,
+};
+pub use crate::plan_laws::{
+    edges_add_up, graph_of_cell, graph_on_border, open_cell, opposite_graph, restrict,
+    stuck_at_vertices, vertex_on_border, vertices_decide,
+};
 
 /// A wall that shows a piece apart from a list of points along a direction keeps them apart for ever: the piece
 /// never meets what the points span.

@@ -6,7 +6,11 @@ mod certificate;
 mod cone_laws;
 pub mod laws;
 mod limits;
+mod line;
+mod one_laws;
 mod piece;
+mod piece_laws;
+mod plan_laws;
 mod refusal;
 mod set;
 mod solid;
@@ -18,7 +22,10 @@ pub use assembly::{Assembly, Part, Parts, Sound};
 pub use certificate::{
     Arc, Arcs, Body, Certificate, Dir, Dirs, Node, Nodes, Sep, Seps, Witness, Witnesses,
 };
-pub use limits::{LEAST_POINTS, MOST_PARTS, MOST_PIECES, MOST_POINTS};
+pub use limits::{
+    LEAST_POINTS, LINE_LIMIT, LIST_LIMIT, MOST_PARTS, MOST_PIECES, MOST_POINTS, TEXT_LIMIT,
+};
+pub use line::Line;
 pub use piece::{Piece, Pieces, Points};
 pub use refusal::TextRefusal;
 pub use set::PartSet;

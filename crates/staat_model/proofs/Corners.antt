@@ -1,0 +1,185 @@
+-- Some crossing of planes that hold the axes lies on the border of the cell of each direction.
+use Rattle.std.proofs.Common.{◌≡◌, ◌≢◌, ◌∙◌, ap, sym, refl, subst, zero, suc, arith, ℤ, pos, neg_ℤ, ◌≤ℤ◌, ◌<ℤ◌, ◌⊎◌, inl, inr, List, [], ◌∷◌, Contains}
+use Rattle.std.proofs.lemmas.Int.{ints, by_lt_z}
+use Rattle.std.proofs.lemmas.List.Elements.{All-nil, All-cons, All-contains}
+use Rattle.staat_vec.specs.declared.vector.V3.{V3}
+use Rattle.staat_vec.specs.Vectors.{vector, dot, cross, negative, origin}
+use Rattle.staat_vec.specs.Primitives.{primitive}
+use Rattle.staat_vec.proofs.VecRing.{crossE, negativeE, values, v0, v1, ring3, negative_dot}
+use Rattle.staat_vec.proofs.Primitives.{primitive-negative}
+use Rattle.staat_model.specs.Cones.{IsAbove, HasEither}
+use Rattle.staat_model.proofs.Members.{here, there}
+use Rattle.staat_model.proofs.CornerLemmas.{corner_lemma}
+
+-- v is on no other side of g than d
+pub record IsTowards (d v g : V3) : Type 0 where
+  pub up : pos 0 ≤ℤ dot g d → pos 0 ≤ℤ dot g v
+  pub down : dot g d ≤ℤ pos 0 → dot g v ≤ℤ pos 0
+
+-- ---- the conditions of d's cell and its border
+
+-- the member or its negative
+abbrev pub IsSame : V3 → V3 → Type 0
+IsSame s g = (s ≡ g) ⊎ (s ≡ negative g)
+
+record Conditions (d : V3) (gs : List V3) : Type 0 where
+  cs : List V3
+  above : IsAbove d cs
+  only : (c : V3) → Contains cs c → (g : V3) × Contains gs g × IsSame c g
+  up : (g : V3) → Contains gs g → pos 0 ≤ℤ dot g d → Contains cs g
+  down : (g : V3) → Contains gs g → dot g d ≤ℤ pos 0 → Contains cs (negative g)
+
+turned_up : (p q : ℤ) → p ≡ neg_ℤ q → q ≤ℤ pos 0 → pos 0 ≤ℤ p
+turned_up p q e h = omega (arith, ints)
+
+turned_down : (p q : ℤ) → p ≡ neg_ℤ q → pos 0 ≤ℤ p → q ≤ℤ pos 0
+turned_down p q e h = omega (arith, ints)
+
+weaken : (p : ℤ) → p <ℤ pos 0 → p ≤ℤ pos 0
+weaken p h = omega (arith, ints)
+
+clash : (p : ℤ) → p <ℤ pos 0 → pos 0 ≤ℤ p → ⊥
+clash p h g = omega (arith, ints)
+
+-- one more condition, from a list and a plane
+grow : (d g s : V3) (gs cs : List V3) → IsSame s g → ((c : V3) → Contains cs c → (h : V3) × Contains (g ∷ gs) h × IsSame c h) → (c : V3) → Contains (s ∷ cs) c → (h : V3) × Contains (g ∷ gs) h × IsSame c h
+grow d g s gs cs same only c (zero, lt, e) = (g, here g gs, subst (λ z. IsSame z g) e same)
+grow d g s gs cs same only c (suc k, lt, e) = only c (k, omega arith, e)
+
+module _ (d g : V3) (gs : List V3) (rest : Conditions d gs) where
+  old : (c : V3) → Contains rest.cs c → (h : V3) × Contains (g ∷ gs) h × IsSame c h
+  old c in_cs = let (h, in_gs, same) = rest.only c in_cs in (h, there g h gs in_gs, same)
+
+  -- g has d on its negative side
+  turned : dot g d <ℤ pos 0 → Conditions d (g ∷ gs)
+  turned low = record {
+    cs = negative g ∷ rest.cs;
+    above = All-cons (λ c. pos 0 ≤ℤ dot c d) (negative g) rest.cs (turned_up (dot (negative g) d) (dot g d) (negative_dot g d) (weaken (dot g d) low)) rest.above;
+    only = grow d g (negative g) gs rest.cs (inr refl) old;
+    up = up;
+    down = down;
+  }
+    where
+      up : (h : V3) → Contains (g ∷ gs) h → pos 0 ≤ℤ dot h d → Contains (negative g ∷ rest.cs) h
+      up h (zero, lt, e) side = absurd (clash (dot g d) low (subst (λ z. pos 0 ≤ℤ dot z d) (sym e) side))
+      up h (suc k, lt, e) side = there (negative g) h rest.cs (rest.up h (k, omega arith, e) side)
+
+      down : (h : V3) → Contains (g ∷ gs) h → dot h d ≤ℤ pos 0 → Contains (negative g ∷ rest.cs) (negative h)
+      down h (zero, lt, e) side = subst (λ z. Contains (negative g ∷ rest.cs) (negative z)) e (here (negative g) rest.cs)
+      down h (suc k, lt, e) side = there (negative g) (negative h) rest.cs (rest.down h (k, omega arith, e) side)
+
+  -- g has d on its positive side
+  straight : pos 0 <ℤ dot g d → Conditions d (g ∷ gs)
+  straight high = record {
+    cs = g ∷ rest.cs;
+    above = All-cons (λ c. pos 0 ≤ℤ dot c d) g rest.cs (omega (arith, ints)) rest.above;
+    only = grow d g g gs rest.cs (inl refl) old;
+    up = up;
+    down = down;
+  }
+    where
+      up : (h : V3) → Contains (g ∷ gs) h → pos 0 ≤ℤ dot h d → Contains (g ∷ rest.cs) h
+      up h (zero, lt, e) side = subst (λ z. Contains (g ∷ rest.cs) z) e (here g rest.cs)
+      up h (suc k, lt, e) side = there g h rest.cs (rest.up h (k, omega arith, e) side)
+
+      down : (h : V3) → Contains (g ∷ gs) h → dot h d ≤ℤ pos 0 → Contains (g ∷ rest.cs) (negative h)
+      down h (zero, lt, e) side = absurd (above_too (dot g d) high (subst (λ z. dot z d ≤ℤ pos 0) (sym e) side))
+        where
+          above_too : (p : ℤ) → pos 0 <ℤ p → p ≤ℤ pos 0 → ⊥
+          above_too p h g = omega (arith, ints)
+      down h (suc k, lt, e) side = there g (negative h) rest.cs (rest.down h (k, omega arith, e) side)
+
+  -- d lies on g
+  across : pos 0 ≤ℤ dot g d → dot g d ≤ℤ pos 0 → Conditions d (g ∷ gs)
+  across high low = record {
+    cs = g ∷ negative g ∷ rest.cs;
+    above = All-cons (λ c. pos 0 ≤ℤ dot c d) g (negative g ∷ rest.cs) high (All-cons (λ c. pos 0 ≤ℤ dot c d) (negative g) rest.cs (turned_up (dot (negative g) d) (dot g d) (negative_dot g d) low) rest.above);
+    only = grow d g g gs (negative g ∷ rest.cs) (inl refl) (grow d g (negative g) gs rest.cs (inr refl) old);
+    up = up;
+    down = down;
+  }
+    where
+      up : (h : V3) → Contains (g ∷ gs) h → pos 0 ≤ℤ dot h d → Contains (g ∷ negative g ∷ rest.cs) h
+      up h (zero, lt, e) side = subst (λ z. Contains (g ∷ negative g ∷ rest.cs) z) e (here g (negative g ∷ rest.cs))
+      up h (suc k, lt, e) side = there g h (negative g ∷ rest.cs) (there (negative g) h rest.cs (rest.up h (k, omega arith, e) side))
+
+      down : (h : V3) → Contains (g ∷ gs) h → dot h d ≤ℤ pos 0 → Contains (g ∷ negative g ∷ rest.cs) (negative h)
+      down h (zero, lt, e) side = subst (λ z. Contains (g ∷ negative g ∷ rest.cs) (negative z)) e (there g (negative g) (negative g ∷ rest.cs) (here (negative g) rest.cs))
+      down h (suc k, lt, e) side = there g (negative h) (negative g ∷ rest.cs) (there (negative g) (negative h) rest.cs (rest.down h (k, omega arith, e) side))
+
+  next : Conditions d (g ∷ gs)
+  next =
+      by_lt_z {P = Conditions d (g ∷ gs)} (dot g d) (pos 0) turned
+      (λ nonneg. by_lt_z {P = Conditions d (g ∷ gs)} (pos 0) (dot g d) straight (λ low. across nonneg low))
+
+conditions : (d : V3) (gs : List V3) → Conditions d gs
+conditions d [] = record {
+  cs = [];
+  above = All-nil (λ c. pos 0 ≤ℤ dot c d);
+  only = λ c (k, lt, e). absurd (omega arith);
+  up = λ g (k, lt, e) h. absurd (omega arith);
+  down = λ g (k, lt, e) h. absurd (omega arith);
+}
+conditions d (g ∷ gs) = next d g gs (conditions d gs)
+
+-- ---- the crossing
+
+-- the cross product of two vectors that are known up to their signs
+pub cross_signs : (c e g h : V3) → IsSame c g → IsSame e h → IsSame (cross c e) (cross g h)
+cross_signs c e g h (inl p) (inl q) = inl (λ i. cross (p i) (q i))
+cross_signs c e g h (inr p) (inl q) = inr ((λ i. cross (p i) (q i)) ∙ ring3 (values (g ∷ h ∷ []) []) (crossE (negativeE v0) v1) (negativeE (crossE v0 v1)) (tt, tt, tt))
+cross_signs c e g h (inl p) (inr q) = inr ((λ i. cross (p i) (q i)) ∙ ring3 (values (g ∷ h ∷ []) []) (crossE v0 (negativeE v1)) (negativeE (crossE v0 v1)) (tt, tt, tt))
+cross_signs c e g h (inr p) (inr q) = inl ((λ i. cross (p i) (q i)) ∙ ring3 (values (g ∷ h ∷ []) []) (crossE (negativeE v0) (negativeE v1)) (crossE v0 v1) (tt, tt, tt))
+
+some_signs : (f g : V3) → IsSame f g → f ≢ origin → g ≢ origin
+some_signs f g (inl p) some q = some (p ∙ q)
+some_signs f g (inr p) some q = some (p ∙ ap negative q)
+
+primitive_signs : (f g : V3) → IsSame f g → IsSame (primitive f) (primitive g)
+primitive_signs f g (inl p) = inl (ap primitive p)
+primitive_signs f g (inr p) = inr (ap primitive p ∙ primitive-negative g)
+
+-- the direction in which two planes of the list meet, or its negative, on no other side of any of them than d
+pub record HasCornerTowards (gs : List V3) (d : V3) : Type 0 where
+  pub g : V3
+  pub h : V3
+  pub v : V3
+  pub g_in : Contains gs g
+  pub h_in : Contains gs h
+  pub independent : cross g h ≢ origin
+  pub is : IsSame v (primitive (cross g h))
+  pub towards : (m : V3) → Contains gs m → IsTowards d v m
+
+-- the three axes stand in the list
+pub record HoldsAxes (gs : List V3) : Type 0 where
+  pub x : Contains gs (vector (pos 1) (pos 0) (pos 0))
+  pub y : Contains gs (vector (pos 0) (pos 1) (pos 0))
+  pub z : Contains gs (vector (pos 0) (pos 0) (pos 1))
+
+either : (d axis : V3) (gs : List V3) (c : Conditions d gs) → Contains gs axis → HasEither c.cs axis
+either d axis gs c in_gs =
+    by_lt_z {P = HasEither c.cs axis} (dot axis d) (pos 0)
+    (λ neg. inr (c.down axis in_gs (weaken (dot axis d) neg)))
+    (λ nonneg. inl (c.up axis in_gs nonneg))
+
+pub corner_towards : (gs : List V3) (d : V3) → HoldsAxes gs → d ≢ origin → HasCornerTowards gs d
+corner_towards gs d axes some =
+    let c = conditions d gs in
+    let corner = corner_lemma c.cs d (record { x = either d (vector (pos 1) (pos 0) (pos 0)) gs c axes.x; y = either d (vector (pos 0) (pos 1) (pos 0)) gs c axes.y; z = either d (vector (pos 0) (pos 0) (pos 1)) gs c axes.z }) some c.above in
+    let cr = corner.crossing in
+    let (g, g_in, g_same) = c.only cr.g cr.g_in in
+    let (h, h_in, h_same) = c.only cr.h cr.h_in in
+    let same = cross_signs cr.g cr.h g h g_same h_same in
+    let v = corner.v in record {
+      g = g;
+      h = h;
+      v = v;
+      g_in = g_in;
+      h_in = h_in;
+      independent = some_signs (cross cr.g cr.h) (cross g h) same cr.independent;
+      is = subst (λ z. IsSame z (primitive (cross g h))) (sym cr.is) (primitive_signs (cross cr.g cr.h) (cross g h) same);
+      towards = λ m m_in. record {
+        up = λ u. All-contains (λ c. pos 0 ≤ℤ dot c v) c.cs m corner.above (c.up m m_in u);
+        down = λ u. turned_down (dot (negative m) v) (dot m v) (negative_dot m v) (All-contains (λ c. pos 0 ≤ℤ dot c v) c.cs (negative m) corner.above (c.down m m_in u));
+      };
+    }

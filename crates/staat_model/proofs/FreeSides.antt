@@ -1,0 +1,59 @@
+-- What two free sides have in common is free, so the side that moves is one alone.
+use Rattle.std.proofs.Common.{◌≡◌, ◌⊎◌, ℕ, ◌≤◌, Bool, true, false, List, arith, sym, ◌∙◌, subst, refl, inl, inr}
+use Rattle.std.specs.Cmp.{nat_cmp_total}
+use Rattle.std.specs.FinSet as set
+use Rattle.staat_vec.specs.declared.vector.V3.{V3}
+use Rattle.staat_model.specs.declared.assembly.Part.{Part}
+use Rattle.staat_model.specs.declared.set.PartSet.{PartSet}
+use Rattle.staat_model.specs.Outcomes.{IsMinimal, IsMovedSide}
+use Rattle.staat_model.specs.Removal.{IsFree}
+use Rattle.staat_model.specs.Sets.{Has, IsSubset}
+use Rattle.staat_model.proofs.SetMembers.{has-difference, has-intersection}
+use Rattle.staat_model.proofs.SetWords.{same_members}
+
+-- a number is in the set or not
+pub member_or : (s : PartSet) (p : ℕ) → Has s p ⊎ (Has s p → ⊥)
+member_or s p = by_test (set.contains s p) refl
+  where
+    by_test : (b : Bool) → set.contains s p ≡ b → Has s p ⊎ (Has s p → ⊥)
+    by_test true e = inl e
+    by_test false e = inr (λ h. let wrong : true ≡ false = sym h ∙ e in cc)
+
+-- a set lies within another or not
+pub subset_or : (s t : PartSet) → IsSubset s t ⊎ (IsSubset s t → ⊥)
+subset_or s t = by_test (set.is_subset s t) refl
+  where
+    by_test : (b : Bool) → set.is_subset s t ≡ b → IsSubset s t ⊎ (IsSubset s t → ⊥)
+    by_test true e = inl (set.is_subset-contains nat_cmp_total s t e)
+    by_test false e = inr (λ all. let wrong : true ≡ false = sym (set.contains-is_subset nat_cmp_total s t all) ∙ e in cc)
+
+pub free_both : (parts : List Part) (w s t : PartSet) (d : V3) → IsFree parts s (set.difference w s) d → IsFree parts t (set.difference w t) d → IsFree parts (set.intersection s t) (set.difference w (set.intersection s t)) d
+free_both parts w s t d fs ft = record {
+  moves = fs.moves;
+  clear = λ arc a_in b_in meets.
+      let a = (has-intersection s t arc.a).0 a_in in
+      let b = (has-difference w (set.intersection s t) arc.b).0 b_in in
+      elim (member_or s arc.b) [
+        | inl in_s ↦ ft.clear arc a.1 ((has-difference w t arc.b).1 (b.0, λ in_t. b.1 ((has-intersection s t arc.b).1 (in_s, in_t)))) meets
+        | inr not_s ↦ fs.clear arc a.0 ((has-difference w s arc.b).1 (b.0, not_s)) meets
+      ];
+}
+
+-- a minimal side lies within each minimal side that it meets
+minimal_within : (parts : List Part) (w s t : PartSet) (d : V3) (p : ℕ) → IsMinimal parts w d s → IsMinimal parts w d t → Has s p → Has t p → IsSubset s t
+minimal_within parts w s t d p ms mt in_s in_t = elim (subset_or s t) [
+  | inl all ↦ all
+  | inr not_all ↦ absurd (ms.minimal (set.intersection s t) (record {
+    nonempty = (p, (has-intersection s t p).1 (in_s, in_t));
+    within = λ q h. ((has-intersection s t q).0 h).0;
+    proper = λ same. not_all (λ q h. ((has-intersection s t q).0 (subst (λ (u : PartSet). Has u q) (sym same) h)).1);
+  }) (free_both parts w s t d ms.free mt.free))
+]
+
+pub IsMovedSide-unique : (parts : List Part) (w : PartSet) (d : V3) (s t : PartSet) → IsMovedSide parts w d s → IsMovedSide parts w d t → s ≡ t
+IsMovedSide-unique parts w d s t a b =
+    let low : a.least ≤ b.least = a.first t b.least b.is b.has in
+    let high : b.least ≤ a.least = b.first s a.least a.is a.has in
+    let e : b.least ≡ a.least = omega (arith, low, high) in
+    let in_t : Has t a.least = subst (Has t) e b.has in
+    same_members s t (minimal_within parts w s t d a.least a.is b.is a.has in_t) (minimal_within parts w t s d a.least b.is a.is in_t a.has)

@@ -1,0 +1,198 @@
+-- Which parts block which at a direction, and on the border of its cell.
+use Rattle.std.proofs.Common.{◌≡◌, ◌≢◌, ◌↔◌, ℕ, zero, suc, refl, sym, ap, subst, arith, ℤ, pos, negsuc, neg_ℤ, ◌≤ℤ◌, ◌<ℤ◌, ◌⊎◌, inl, inr, ⊎_elim, List, [], ◌∷◌, Contains}
+use Rattle.std.specs.Prelude.{Some, slice_get}
+use lib.IntN.{ℤ_discrete}
+use Rattle.std.proofs.lemmas.Int.{ints}
+use Rattle.std.proofs.lemmas.Option.{option_and_then_some, slice_get_within, get_or_from_slice_get}
+use Rattle.std.proofs.lemmas.List.Elements.{All-contains, Contains-append_left, Contains-append_right}
+use Rattle.staat_vec.specs.declared.vector.V3.{V3}
+use Rattle.staat_vec.specs.declared.vector.Sign.{Sign}
+use Rattle.staat_vec.specs.declared.vector.Sign.TheVariants.{Zero}
+use Rattle.staat_vec.specs.Vectors.{dot, negative, sign}
+use Rattle.staat_vec.specs.Primitives.{canon}
+use Rattle.staat_vec.proofs.VecRing.{same_vector, negative_dot}
+use Rattle.staat_vec.proofs.Canons.{canon-either}
+use Rattle.staat_model.specs.declared.assembly.Part.{Part}
+use Rattle.staat_model.specs.declared.set.PartSet.{PartSet}
+use Rattle.staat_model.specs.declared.certificate.Arc.{Arc}
+use Rattle.staat_model.specs.Pieces.{IsPiece}
+use Rattle.staat_model.specs.Sets.{Has}
+use Rattle.staat_model.specs.Assemblies.{IsAssembly, IsPart, piece_at}
+use Rattle.staat_model.specs.Removal.{MeetsAlong, Blocks}
+use Rattle.staat_model.specs.Planes.{ArePlanes, IsFacetPlane, axes}
+use Rattle.staat_model.specs.Cells.{signs_of, IsBorder}
+use Rattle.staat_model.proofs.Members.{here, there}
+use Rattle.staat_model.proofs.Corners.{IsTowards}
+use Rattle.staat_model.proofs.PieceFacets.{meets_by_facets_lemma}
+use Rattle.staat_model.proofs.Reversed.{meets_opposite_lemma}
+
+-- ---- the pieces of an assembly
+
+pub from_slice_get : {X : Type 0} (xs : List X) (k : ℕ) (x : X) → slice_get xs k ≡ Some x → Contains xs x
+from_slice_get xs k x e = (k, slice_get_within xs k x e, get_or_from_slice_get xs k x x e)
+
+pub piece_is : (parts : List Part) (a i : ℕ) (p : List V3) → IsAssembly parts → piece_at parts a i ≡ Some p → IsPiece p
+piece_is parts a i p is e =
+    option_and_then_some {P = IsPiece p} (λ part. slice_get part.pieces i) (slice_get parts a) p e
+    (λ part at inside. let whole = All-contains IsPart parts part is.each (from_slice_get parts a part at) in All-contains IsPiece part.pieces p whole.pieces (from_slice_get part.pieces i p inside))
+
+-- ---- the planes of a set hold each facet's
+
+same_or_not : (a b : V3) → Dec (a ≡ b)
+same_or_not a b = go (ℤ_discrete a.x b.x) (ℤ_discrete a.y b.y) (ℤ_discrete a.z b.z)
+  where
+    go : Dec (a.x ≡ b.x) → Dec (a.y ≡ b.y) → Dec (a.z ≡ b.z) → Dec (a ≡ b)
+    go (yes p) (yes q) (yes r) = yes (same_vector a b p q r)
+    go (no p) q r = no (λ e. p (ap (λ v. v.x) e))
+    go (yes p) (no q) r = no (λ e. q (ap (λ v. v.y) e))
+    go (yes p) (yes q) (no r) = no (λ e. r (ap (λ v. v.z) e))
+
+member_or_not : (x : V3) (xs : List V3) → Contains xs x ⊎ (Contains xs x → ⊥)
+member_or_not x [] = inr (λ (k, lt, e). omega arith)
+member_or_not x (y ∷ ys) = go (same_or_not y x) (member_or_not x ys)
+  where
+    out : (y ≡ x → ⊥) → (Contains ys x → ⊥) → Contains (y ∷ ys) x → ⊥
+    out n m (zero, lt, e) = n e
+    out n m (suc k, lt, e) = m (k, omega arith, e)
+
+    go : Dec (y ≡ x) → Contains ys x ⊎ (Contains ys x → ⊥) → Contains (y ∷ ys) x ⊎ (Contains (y ∷ ys) x → ⊥)
+    go (yes e) r = inl (0, omega arith, e)
+    go (no n) (inl c) = inl (there y x ys c)
+    go (no n) (inr m) = inr (out n m)
+
+pub plane_in : (parts : List Part) (w : PartSet) (planes : List V3) (n : V3) → ArePlanes parts w planes → IsFacetPlane parts w n → Contains planes n
+plane_in parts w planes n are wall =
+    subst (λ gs. Contains gs n) (sym are.is)
+    (⊎_elim (λ c. Contains-append_left axes are.others n c) (λ out. Contains-append_right axes are.others n (are.others_are.all n (wall, out))) (member_or_not n axes))
+
+pub axis_in : (parts : List Part) (w : PartSet) (planes : List V3) (n : V3) → ArePlanes parts w planes → Contains axes n → Contains planes n
+axis_in parts w planes n are c = subst (λ gs. Contains gs n) (sym are.is) (Contains-append_left axes are.others n c)
+
+-- ---- signs and sides
+
+pub zero_sign : (a : ℤ) → sign a ≡ Zero → a ≡ pos 0
+zero_sign (pos zero) e = refl
+zero_sign (pos (suc n)) e = cc
+zero_sign (negsuc n) e = cc
+
+zero_up : (a : ℤ) → a ≡ pos 0 → pos 0 ≤ℤ a
+zero_up a e = omega (arith, ints)
+
+zero_down : (a : ℤ) → a ≡ pos 0 → a ≤ℤ pos 0
+zero_down a e = omega (arith, ints)
+
+same_up : (a b : ℤ) → sign a ≡ sign b → pos 0 ≤ℤ b → pos 0 ≤ℤ a
+same_up (pos n) b e h = omega (arith, ints)
+same_up (negsuc n) (pos zero) e h = cc
+same_up (negsuc n) (pos (suc m)) e h = cc
+same_up (negsuc n) (negsuc m) e h = absurd h.le
+
+same_down : (a b : ℤ) → sign a ≡ sign b → b ≤ℤ pos 0 → a ≤ℤ pos 0
+same_down (negsuc n) b e h = omega (arith, ints)
+same_down (pos zero) b e h = omega (arith, ints)
+same_down (pos (suc n)) (pos zero) e h = cc
+same_down (pos (suc n)) (pos (suc m)) e h = absurd (omega (arith, ints))
+same_down (pos (suc n)) (negsuc m) e h = cc
+
+-- on the border of d's cell no plane has v on another side than d
+pub towards_border : (gs : List V3) (d v : V3) → IsBorder (signs_of gs v) (signs_of gs d) → (g : V3) → Contains gs g → IsTowards d v g
+towards_border [] d v b g (k, lt, e) = absurd (omega arith)
+towards_border (h ∷ gs) d v b g (suc k, lt, e) = towards_border gs d v b.1 g (k, omega arith, e)
+towards_border (h ∷ gs) d v b g (zero, lt, e) = subst (IsTowards d v) e (at_head b.0)
+  where
+    at_head : (sign (dot h v) ≡ sign (dot h d)) ⊎ (sign (dot h v) ≡ Zero) → IsTowards d v h
+    at_head (inl same) = record { up = same_up (dot h v) (dot h d) same; down = same_down (dot h v) (dot h d) same }
+    at_head (inr none) = let e = zero_sign (dot h v) none in record { up = λ u. zero_up (dot h v) e; down = λ u. zero_down (dot h v) e }
+
+sign_towards : (a b : ℤ) → (pos 0 ≤ℤ b → pos 0 ≤ℤ a) → (b ≤ℤ pos 0 → a ≤ℤ pos 0) → (sign a ≡ sign b) ⊎ (sign a ≡ Zero)
+sign_towards (pos zero) b up down = inr refl
+sign_towards (pos (suc n)) (pos zero) up down = absurd (let h : pos (suc n) ≤ℤ pos 0 = down (omega (arith, ints)) in omega (arith, ints))
+sign_towards (pos (suc n)) (pos (suc m)) up down = inl refl
+sign_towards (pos (suc n)) (negsuc m) up down = absurd (let h : pos (suc n) ≤ℤ pos 0 = down (omega (arith, ints)) in omega (arith, ints))
+sign_towards (negsuc n) (pos m) up down = absurd (let h : pos 0 ≤ℤ negsuc n = up (omega (arith, ints)) in omega (arith, ints))
+sign_towards (negsuc n) (negsuc m) up down = inl refl
+
+pub border_towards : (gs : List V3) (d v : V3) → ((g : V3) → Contains gs g → IsTowards d v g) → IsBorder (signs_of gs v) (signs_of gs d)
+border_towards [] d v f = tt
+border_towards (g ∷ gs) d v f = let t = f g (here g gs) in (sign_towards (dot g v) (dot g d) t.up t.down, border_towards gs d v (λ h c. f h (there g h gs c)))
+
+-- the sides of a facet are those of its plane
+facet_towards : (d v n : V3) → IsTowards d v (canon n) → IsTowards d v n
+facet_towards d v n t = go (canon-either n)
+  where
+    turned_up : (p q : ℤ) → p ≡ neg_ℤ q → pos 0 ≤ℤ q → p ≤ℤ pos 0
+    turned_up p q e h = omega (arith, ints)
+
+    turned_down : (p q : ℤ) → p ≡ neg_ℤ q → q ≤ℤ pos 0 → pos 0 ≤ℤ p
+    turned_down p q e h = omega (arith, ints)
+
+    back_up : (p q : ℤ) → p ≡ neg_ℤ q → p ≤ℤ pos 0 → pos 0 ≤ℤ q
+    back_up p q e h = omega (arith, ints)
+
+    back_down : (p q : ℤ) → p ≡ neg_ℤ q → pos 0 ≤ℤ p → q ≤ℤ pos 0
+    back_down p q e h = omega (arith, ints)
+
+    opposite : IsTowards d v (negative n) → IsTowards d v n
+    opposite s = record {
+      up = λ u. back_up (dot (negative n) v) (dot n v) (negative_dot n v) (s.down (turned_up (dot (negative n) d) (dot n d) (negative_dot n d) u));
+      down = λ u. back_down (dot (negative n) v) (dot n v) (negative_dot n v) (s.up (turned_down (dot (negative n) d) (dot n d) (negative_dot n d) u));
+    }
+
+    go : (canon n ≡ n) ⊎ (canon n ≡ negative n) → IsTowards d v n
+    go (inl e) = subst (IsTowards d v) e t
+    go (inr e) = opposite (subst (IsTowards d v) e t)
+
+-- ---- the graph on the border of a cell
+
+positive_back : (a b : ℤ) → (a ≤ℤ pos 0 → b ≤ℤ pos 0) → pos 0 <ℤ b → pos 0 <ℤ a
+positive_back (pos zero) b f h = absurd (let low : b ≤ℤ pos 0 = f (omega (arith, ints)) in omega (arith, ints))
+positive_back (pos (suc n)) b f h = omega (arith, ints)
+positive_back (negsuc n) b f h = absurd (let low : b ≤ℤ pos 0 = f (omega (arith, ints)) in omega (arith, ints))
+
+pub arc_from_border : (parts : List Part) (w : PartSet) (planes : List V3) (d v : V3) (arc : Arc) → IsAssembly parts → ArePlanes parts w planes → IsBorder (signs_of planes v) (signs_of planes d)
+    → Has w arc.a → Has w arc.b → arc.a ≢ arc.b → MeetsAlong parts v arc → MeetsAlong parts d arc
+arc_from_border parts w planes d v arc is are border a_in b_in apart m =
+    let is_p = piece_is parts arc.a arc.i m.p is m.p_is in
+    let is_q = piece_is parts arc.b arc.j m.q is m.q_is in
+    let at_v = (meets_by_facets_lemma m.p m.q v is_p is_q).0 m.holds in
+    record {
+      p = m.p;
+      q = m.q;
+      p_is = m.p_is;
+      q_is = m.q_is;
+      holds = (meets_by_facets_lemma m.p m.q d is_p is_q).1 (λ n f.
+          let wall : IsFacetPlane parts w (canon n) = record { arc = arc; facet = n; a_in = a_in; b_in = b_in; different = apart; is = refl; holds = record { p = m.p; q = m.q; p_is = m.p_is; q_is = m.q_is; holds = f } } in
+          let t = facet_towards d v n (towards_border planes d v border (canon n) (plane_in parts w planes (canon n) are wall)) in
+          positive_back (dot n d) (dot n v) t.down (at_v n f));
+    }
+
+-- what blocks on the border of a cell blocks in the cell
+pub border_blocks_lemma : (parts : List Part) (w : PartSet) (planes : List V3) (d v : V3) → IsAssembly parts → ArePlanes parts w planes → IsBorder (signs_of planes v) (signs_of planes d)
+    → (a b : ℕ) → Has w a → Has w b → Blocks parts v a b → Blocks parts d a b
+border_blocks_lemma parts w planes d v is are border a b a_in b_in g =
+    record { i = g.i; j = g.j; different = g.different; meets = arc_from_border parts w planes d v (record { a = a; i = g.i; b = b; j = g.j }) is are border a_in b_in g.different g.meets }
+
+pub border_same : (ss : List Sign) → IsBorder ss ss
+border_same [] = tt
+border_same (s ∷ ss) = (inl refl, border_same ss)
+
+pub cell_blocks_lemma : (parts : List Part) (w : PartSet) (planes : List V3) (d e : V3) → IsAssembly parts → ArePlanes parts w planes → signs_of planes d ≡ signs_of planes e
+    → (a b : ℕ) → Has w a → Has w b → Blocks parts d a b ↔ Blocks parts e a b
+cell_blocks_lemma parts w planes d e is are same a b a_in b_in = (
+  border_blocks_lemma parts w planes e d is are (subst (λ s. IsBorder (signs_of planes d) s) same (border_same (signs_of planes d))) a b a_in b_in,
+  border_blocks_lemma parts w planes d e is are (subst (λ s. IsBorder (signs_of planes e) s) (sym same) (border_same (signs_of planes e))) a b a_in b_in,
+)
+
+-- ---- the opposite direction
+
+swap_arc : (parts : List Part) (d : V3) (a i b j : ℕ) → MeetsAlong parts (negative d) (record { a = a; i = i; b = b; j = j }) ↔ MeetsAlong parts d (record { a = b; i = j; b = a; j = i })
+swap_arc parts d a i b j = (
+  (λ m. record { p = m.q; q = m.p; p_is = m.q_is; q_is = m.p_is; holds = (meets_opposite_lemma m.p m.q d).0 m.holds }),
+  λ m. record { p = m.q; q = m.p; p_is = m.q_is; q_is = m.p_is; holds = (meets_opposite_lemma m.q m.p d).1 m.holds },
+)
+
+pub opposite_blocks_lemma : (parts : List Part) (d : V3) (a b : ℕ) → Blocks parts (negative d) a b ↔ Blocks parts d b a
+opposite_blocks_lemma parts d a b = (
+  (λ g. record { i = g.j; j = g.i; different = λ e. g.different (sym e); meets = (swap_arc parts d a g.i b g.j).0 g.meets }),
+  λ g. record { i = g.j; j = g.i; different = λ e. g.different (sym e); meets = (swap_arc parts d a g.j b g.i).1 g.meets },
+)

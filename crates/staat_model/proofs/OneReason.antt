@@ -1,0 +1,212 @@
+-- A certificate has one reason at most, and none where it is valid.
+use Rattle.std.proofs.Common.{◌≡◌, ◌⊎◌, ℕ, ◌+◌, ◌<◌, List, [], ◌++◌, length, map, All, Contains, arith, ap, sym, ◌∙◌, subst, inl, inr, append_assoc, append-nil}
+use Rattle.std.specs.Prelude.{Some, sum_by}
+use Rattle.std.proofs.lemmas.List.Elements.{All-contains}
+use Rattle.std.specs.Cmp.{nat_cmp_total}
+use Rattle.std.specs.FinMap.{nat_cmp-IsAntisymmetric}
+use Rattle.std.specs.Ordering.{nat_cmp}
+use Rattle.staat_vec.specs.declared.vector.V3.{V3}
+use Rattle.staat_model.specs.declared.assembly.Part.{Part}
+use Rattle.staat_model.specs.declared.set.PartSet.{PartSet}
+use Rattle.staat_model.specs.declared.certificate.Arc.{Arc}
+use Rattle.staat_model.specs.declared.certificate.Sep.{Sep}
+use Rattle.staat_model.specs.declared.certificate.Dir.{Dir}
+use Rattle.staat_model.specs.declared.certificate.Node.{Node}
+use Rattle.staat_model.specs.declared.certificate.Node.TheVariants.{Leaf}
+use Rattle.staat_model.specs.declared.certificate.Witness.{Witness}
+use Rattle.staat_model.specs.declared.certificate.Body.{Body}
+use Rattle.staat_model.specs.declared.certificate.Body.TheVariants as body
+use Rattle.staat_model.specs.declared.certificate.Certificate.{Certificate}
+use Rattle.staat_model.specs.declared.verdict.Reason.{Reason}
+use Rattle.staat_model.specs.declared.verdict.Reason.TheVariants.{BadLeaves, BadSeparator, MissingSeparator, BadArc, BadTree, MissingDirection}
+use Rattle.staat_model.specs.Certificates.{WalledPlan, walled_leaf, walled_split, nodes_of, walled_parts, arc_cmp, IsAcross, IsWall, SplitHolds, SplitsHold, IsLeafAt, AreAllLeaves, PlanHolds, IsStuckSet, IsWitness, IsBlocked, IsListed, RefusalHolds, IsValidPlan, IsValidRefusal}
+use Rattle.staat_model.specs.Certificates as certificates
+use Rattle.staat_model.specs.Lists.{FailsFirst, IsFirst}
+use Rattle.staat_model.specs.Planes.{vertices}
+use Rattle.staat_model.specs.Reasons.{IsBadLeaf, HasMissingLeaf, IsLeafFault, bad_leaf, missing_leaf, IsSplitReason, zero_direction, bad_separator, missing_separator, IsTreeReason, IsPlanReason, wrong_parts, bad_leaves, bad_split, IsNoStuckSet, IsRefusalReason, bad_stuck_set, bad_tree, bad_arc, missing_direction, IsReason}
+use Rattle.staat_model.specs.Reasons as reasons
+use Rattle.staat_model.proofs.OneTable.{ArePlanes-unique}
+use Rattle.staat_model.proofs.Orders.{arc_total, arc_exact}
+use Rattle.staat_model.proofs.Places.{Contains-from_place}
+use Rattle.staat_model.proofs.SetBits.{has-below}
+use Rattle.staat_model.proofs.Unique.{IsFirst-unique, IsFirst-in, IsLeast-unique}
+
+order : (j k : ℕ) → (j < k) ⊎ ((j ≡ k) ⊎ (k < j))
+order j k = grind arith
+
+-- ---- the first that fails
+
+pub FailsFirst-unique : {X : Type 0} (P : X → Type 0) (xs : List X) (j k : ℕ) → FailsFirst P xs j → FailsFirst P xs k → j ≡ k
+FailsFirst-unique P xs j k a b = elim (order j k) [
+  | inl lt ↦ absurd (a.fails (b.before j a.x lt a.at))
+  | inr other ↦ elim other [ inl e ↦ e | inr lt ↦ absurd (b.fails (a.before k b.x lt b.at)) ]
+]
+
+pub FailsFirst-some : {X : Type 0} (P : X → Type 0) (xs : List X) (k : ℕ) → FailsFirst P xs k → All P xs → ⊥
+FailsFirst-some P xs k a all = a.fails (All-contains P xs a.x all (Contains-from_place xs k a.x a.at))
+
+-- ---- the tree of nodes in preorder is one alone
+
+nodes_cancel : (t u : WalledPlan) (xs ys : List Node) → nodes_of t ++ xs ≡ nodes_of u ++ ys → (t ≡ u) × (xs ≡ ys)
+nodes_cancel (walled_leaf p) (walled_leaf q) xs ys e =
+    let same : p ≡ q = cc in
+    let rest : xs ≡ ys = cc in
+    (ap walled_leaf same, rest)
+nodes_cancel (walled_leaf p) (walled_split d seps m r) xs ys e = cc
+nodes_cancel (walled_split d seps m r) (walled_leaf p) xs ys e = cc
+nodes_cancel (walled_split d seps m r) (walled_split d' seps' m' r') xs ys e =
+    let ds : d ≡ d' = cc in
+    let walls : seps ≡ seps' = cc in
+    let behind : (nodes_of m ++ nodes_of r) ++ xs ≡ (nodes_of m' ++ nodes_of r') ++ ys = cc in
+    let first = nodes_cancel m m' (nodes_of r ++ xs) (nodes_of r' ++ ys) (sym (append_assoc (nodes_of m) (nodes_of r) xs) ∙ behind ∙ append_assoc (nodes_of m') (nodes_of r') ys) in
+    let second = nodes_cancel r r' xs ys first.1 in
+    (λ i. walled_split (ds i) (walls i) (first.0 i) (second.0 i), second.1)
+
+pub one_tree : (t u : WalledPlan) → nodes_of t ≡ nodes_of u → t ≡ u
+one_tree t u e = (nodes_cancel t u [] [] (append-nil (nodes_of t) ∙ e ∙ sym (append-nil (nodes_of u)))).0
+
+-- ---- leaves
+
+leaf_here : (nodes : List Node) (k p q : ℕ) → IsLeafAt nodes k p → IsLeafAt nodes k q → p ≡ q
+leaf_here nodes k p q a b = let e : Some (Leaf p) ≡ Some (Leaf q) = sym a ∙ b in cc
+
+no_bad_leaf : (n : ℕ) (nodes : List Node) (k : ℕ) → AreAllLeaves n nodes → IsBadLeaf n nodes k → ⊥
+no_bad_leaf n nodes k all bad = elim bad.bad [
+  | inl high ↦ (let low : bad.part < n = all.each k bad.part bad.leaf_is in absurd (omega arith))
+  | inr twice ↦ (let same : twice.0 ≡ k = all.once twice.0 k bad.part twice.2 bad.leaf_is in absurd (omega (arith, twice.1)))
+]
+
+leaf_fault_some : (n : ℕ) (nodes : List Node) (k : ℕ) → IsLeafFault n nodes k → AreAllLeaves n nodes → ⊥
+leaf_fault_some n nodes k (bad_leaf bad) all = no_bad_leaf n nodes k all bad.has
+leaf_fault_some n nodes k (missing_leaf none missing e) all = let at = all.all missing.part missing.exists in missing.missing at.0 at.1
+
+leaf_fault_unique : (n : ℕ) (nodes : List Node) (j k : ℕ) → IsLeafFault n nodes j → IsLeafFault n nodes k → j ≡ k
+leaf_fault_unique n nodes j k (bad_leaf a) (bad_leaf b) = IsLeast-unique nat_cmp nat_cmp_total nat_cmp-IsAntisymmetric (IsBadLeaf n nodes) j k a b
+leaf_fault_unique n nodes j k (bad_leaf a) (missing_leaf none m e) = absurd (none j a.has)
+leaf_fault_unique n nodes j k (missing_leaf none m e) (bad_leaf b) = absurd (none k b.has)
+leaf_fault_unique n nodes j k (missing_leaf none m e) (missing_leaf none' m' e') = e ∙ sym e'
+
+-- ---- splits
+
+module _ (parts : List Part) (s r : PartSet) (d : V3) (seps : List Sep) (node line : ℕ) where
+  split_reason_some : (x : Reason) → IsSplitReason parts s r d seps node line x → SplitHolds parts s r d seps → ⊥
+  split_reason_some x (zero_direction zero e) h = h.moves zero
+  split_reason_some x (bad_separator m ne first e) h = FailsFirst-some (IsWall parts s r d) seps m first h.walls
+  split_reason_some x (missing_separator arc ne walls least e) h = least.has.1 (h.arcs.all arc least.has.0)
+
+  split_reason_unique : (x y : Reason) → IsSplitReason parts s r d seps node line x → IsSplitReason parts s r d seps node line y → x ≡ y
+  split_reason_unique x y (zero_direction zero e) (zero_direction zero' e') = e ∙ sym e'
+  split_reason_unique x y (zero_direction zero e) (bad_separator m ne first e') = absurd (ne zero)
+  split_reason_unique x y (zero_direction zero e) (missing_separator arc ne walls least e') = absurd (ne zero)
+  split_reason_unique x y (bad_separator m ne first e) (zero_direction zero e') = absurd (ne zero)
+  split_reason_unique x y (bad_separator m ne first e) (bad_separator m' ne' first' e') = e ∙ ap (λ k. BadSeparator (line + 1 + k)) (FailsFirst-unique (IsWall parts s r d) seps m m' first first') ∙ sym e'
+  split_reason_unique x y (bad_separator m ne first e) (missing_separator arc ne' walls least e') = absurd (FailsFirst-some (IsWall parts s r d) seps m first walls)
+  split_reason_unique x y (missing_separator arc ne walls least e) (zero_direction zero e') = absurd (ne zero)
+  split_reason_unique x y (missing_separator arc ne walls least e) (bad_separator m ne' first e') = absurd (FailsFirst-some (IsWall parts s r d) seps m first walls)
+  split_reason_unique x y (missing_separator arc ne walls least e) (missing_separator arc' ne' walls' least' e') =
+      e ∙ ap (λ (a : Arc). MissingSeparator a.a a.i a.b a.j) (IsLeast-unique arc_cmp arc_total arc_exact (λ other. IsAcross parts s r other × (Contains (map (λ sep. sep.arc) seps) other → ⊥)) arc arc' least least') ∙ sym e'
+
+tree_reason_some : (parts : List Part) (t : WalledPlan) (node line : ℕ) (x : Reason) → IsTreeReason parts t node line x → SplitsHold parts t → ⊥
+tree_reason_some parts (walled_leaf p) node line x f h = f
+tree_reason_some parts (walled_split d seps m r) node line x (inl f) h = split_reason_some parts (walled_parts m) (walled_parts r) d seps node line x f h.0
+tree_reason_some parts (walled_split d seps m r) node line x (inr (here, inl f)) h = tree_reason_some parts m _ _ x f h.1
+tree_reason_some parts (walled_split d seps m r) node line x (inr (here, inr (moved, f))) h = tree_reason_some parts r _ _ x f h.2
+
+tree_reason_unique : (parts : List Part) (t : WalledPlan) (node line : ℕ) (x y : Reason) → IsTreeReason parts t node line x → IsTreeReason parts t node line y → x ≡ y
+tree_reason_unique parts (walled_leaf p) node line x y f g = absurd f
+tree_reason_unique parts (walled_split d seps m r) node line x y (inl f) (inl g) = split_reason_unique parts (walled_parts m) (walled_parts r) d seps node line x y f g
+tree_reason_unique parts (walled_split d seps m r) node line x y (inl f) (inr (h, g)) = absurd (split_reason_some parts (walled_parts m) (walled_parts r) d seps node line x f h)
+tree_reason_unique parts (walled_split d seps m r) node line x y (inr (h, f)) (inl g) = absurd (split_reason_some parts (walled_parts m) (walled_parts r) d seps node line y g h)
+tree_reason_unique parts (walled_split d seps m r) node line x y (inr (h, inl f)) (inr (k, inl g)) = tree_reason_unique parts m _ _ x y f g
+tree_reason_unique parts (walled_split d seps m r) node line x y (inr (h, inl f)) (inr (k, inr (moved, g))) = absurd (tree_reason_some parts m _ _ x f moved)
+tree_reason_unique parts (walled_split d seps m r) node line x y (inr (h, inr (moved, f))) (inr (k, inl g)) = absurd (tree_reason_some parts m _ _ y g moved)
+tree_reason_unique parts (walled_split d seps m r) node line x y (inr (h, inr (moved, f))) (inr (k, inr (moved', g))) = tree_reason_unique parts r _ _ x y f g
+
+-- ---- plans
+
+plan_reason_some : (parts : List Part) (stated : ℕ) (nodes : List Node) (x : Reason) → IsPlanReason parts stated nodes x → PlanHolds parts stated nodes → ⊥
+plan_reason_some parts stated nodes x (wrong_parts ne e) h = ne h.count
+plan_reason_some parts stated nodes x (bad_leaves k count f e) h = leaf_fault_some (length parts) nodes k f h.leaves
+plan_reason_some parts stated nodes x (bad_split t count leaves is f) h =
+    tree_reason_some parts t _ _ x f (subst (SplitsHold parts) (sym (one_tree t h.tree (sym is ∙ h.tree_is))) h.splits)
+
+plan_reason_unique : (parts : List Part) (stated : ℕ) (nodes : List Node) (x y : Reason) → IsPlanReason parts stated nodes x → IsPlanReason parts stated nodes y → x ≡ y
+plan_reason_unique parts stated nodes x y (wrong_parts ne e) (wrong_parts ne' e') = e ∙ sym e'
+plan_reason_unique parts stated nodes x y (wrong_parts ne e) (bad_leaves k count f e') = absurd (ne count)
+plan_reason_unique parts stated nodes x y (wrong_parts ne e) (bad_split t count leaves is f) = absurd (ne count)
+plan_reason_unique parts stated nodes x y (bad_leaves k count f e) (wrong_parts ne e') = absurd (ne count)
+plan_reason_unique parts stated nodes x y (bad_leaves k count f e) (bad_leaves k' count' f' e') = e ∙ ap BadLeaves (leaf_fault_unique (length parts) nodes k k' f f') ∙ sym e'
+plan_reason_unique parts stated nodes x y (bad_leaves k count f e) (bad_split t count' leaves is g) = absurd (leaf_fault_some (length parts) nodes k f leaves)
+plan_reason_unique parts stated nodes x y (bad_split t count leaves is f) (wrong_parts ne e') = absurd (ne count)
+plan_reason_unique parts stated nodes x y (bad_split t count leaves is f) (bad_leaves k count' g e') = absurd (leaf_fault_some (length parts) nodes k g leaves)
+plan_reason_unique parts stated nodes x y (bad_split t count leaves is f) (bad_split u count' leaves' is' g) =
+    tree_reason_unique parts u _ _ x y (subst (λ (v : WalledPlan). IsTreeReason parts v 0 reasons.first_line x) (one_tree t u (sym is ∙ is')) f) g
+
+-- ---- refusals
+
+no_stuck_set : (parts : List Part) (w : PartSet) → IsNoStuckSet parts w → IsStuckSet parts w → ⊥
+no_stuck_set parts w (inl few) h = absurd (omega (arith, few, h.two))
+no_stuck_set parts w (inr (p, has, high)) h = let low : p < length parts = (has-below (length parts) p).0 (h.within p has) in absurd (omega arith)
+
+none_missing : (dirs : List Dir) (vs : List V3) (d : V3) → IsFirst (λ v. IsListed dirs v → ⊥) vs d → All (IsListed dirs) vs → ⊥
+none_missing dirs vs d first all = let at = IsFirst-in (λ v. IsListed dirs v → ⊥) vs d first in at.1 (All-contains (IsListed dirs) vs d all at.0)
+
+module _ (parts : List Part) (stated : ℕ) (w : PartSet) (witnesses : List Witness) (dirs : List Dir) where
+  refusal_reason_some : (x : Reason) → IsRefusalReason parts stated w witnesses dirs x → RefusalHolds parts stated w witnesses dirs → ⊥
+  refusal_reason_some x (wrong_parts ne e) h = ne h.count
+  refusal_reason_some x (bad_stuck_set count unfit e) h = no_stuck_set parts w unfit h.stuck_set
+  refusal_reason_some x (bad_tree k count set_is first e) h = FailsFirst-some (IsWitness parts w) witnesses k first h.trees
+  refusal_reason_some x (bad_arc m count set_is trees first e) h = FailsFirst-some (IsBlocked parts witnesses) dirs m first h.blocked
+  refusal_reason_some x (missing_direction planes d count set_is trees blocked planes_are first e) h =
+      none_missing dirs (vertices h.planes) d (subst (λ (ps : List V3). IsFirst (λ v. IsListed dirs v → ⊥) (vertices ps) d) (ArePlanes-unique parts w planes h.planes planes_are h.planes_are) first) h.all
+
+  refusal_reason_unique : (x y : Reason) → IsRefusalReason parts stated w witnesses dirs x → IsRefusalReason parts stated w witnesses dirs y → x ≡ y
+  refusal_reason_unique x y (wrong_parts ne e) (wrong_parts ne' e') = e ∙ sym e'
+  refusal_reason_unique x y (wrong_parts ne e) (bad_stuck_set count unfit e') = absurd (ne count)
+  refusal_reason_unique x y (wrong_parts ne e) (bad_tree k count s f e') = absurd (ne count)
+  refusal_reason_unique x y (wrong_parts ne e) (bad_arc m count s t f e') = absurd (ne count)
+  refusal_reason_unique x y (wrong_parts ne e) (missing_direction ps d count s t b pa f e') = absurd (ne count)
+  refusal_reason_unique x y (bad_stuck_set count unfit e) (wrong_parts ne e') = absurd (ne count)
+  refusal_reason_unique x y (bad_stuck_set count unfit e) (bad_stuck_set count' unfit' e') = e ∙ sym e'
+  refusal_reason_unique x y (bad_stuck_set count unfit e) (bad_tree k count' s f e') = absurd (no_stuck_set parts w unfit s)
+  refusal_reason_unique x y (bad_stuck_set count unfit e) (bad_arc m count' s t f e') = absurd (no_stuck_set parts w unfit s)
+  refusal_reason_unique x y (bad_stuck_set count unfit e) (missing_direction ps d count' s t b pa f e') = absurd (no_stuck_set parts w unfit s)
+  refusal_reason_unique x y (bad_tree k count s f e) (wrong_parts ne e') = absurd (ne count)
+  refusal_reason_unique x y (bad_tree k count s f e) (bad_stuck_set count' unfit e') = absurd (no_stuck_set parts w unfit s)
+  refusal_reason_unique x y (bad_tree k count s f e) (bad_tree k' count' s' f' e') = e ∙ ap BadTree (FailsFirst-unique (IsWitness parts w) witnesses k k' f f') ∙ sym e'
+  refusal_reason_unique x y (bad_tree k count s f e) (bad_arc m count' s' t g e') = absurd (FailsFirst-some (IsWitness parts w) witnesses k f t)
+  refusal_reason_unique x y (bad_tree k count s f e) (missing_direction ps d count' s' t b pa g e') = absurd (FailsFirst-some (IsWitness parts w) witnesses k f t)
+  refusal_reason_unique x y (bad_arc m count s t f e) (wrong_parts ne e') = absurd (ne count)
+  refusal_reason_unique x y (bad_arc m count s t f e) (bad_stuck_set count' unfit e') = absurd (no_stuck_set parts w unfit s)
+  refusal_reason_unique x y (bad_arc m count s t f e) (bad_tree k count' s' g e') = absurd (FailsFirst-some (IsWitness parts w) witnesses k g t)
+  refusal_reason_unique x y (bad_arc m count s t f e) (bad_arc m' count' s' t' f' e') = e ∙ ap (λ k. BadArc (reasons.first_line + sum_by reasons.witness_size witnesses + k)) (FailsFirst-unique (IsBlocked parts witnesses) dirs m m' f f') ∙ sym e'
+  refusal_reason_unique x y (bad_arc m count s t f e) (missing_direction ps d count' s' t' b pa g e') = absurd (FailsFirst-some (IsBlocked parts witnesses) dirs m f b)
+  refusal_reason_unique x y (missing_direction ps d count s t b pa f e) (wrong_parts ne e') = absurd (ne count)
+  refusal_reason_unique x y (missing_direction ps d count s t b pa f e) (bad_stuck_set count' unfit e') = absurd (no_stuck_set parts w unfit s)
+  refusal_reason_unique x y (missing_direction ps d count s t b pa f e) (bad_tree k count' s' g e') = absurd (FailsFirst-some (IsWitness parts w) witnesses k g t)
+  refusal_reason_unique x y (missing_direction ps d count s t b pa f e) (bad_arc m count' s' t' g e') = absurd (FailsFirst-some (IsBlocked parts witnesses) dirs m g b)
+  refusal_reason_unique x y (missing_direction ps d count s t b pa f e) (missing_direction ps' d' count' s' t' b' pa' f' e') =
+      e ∙ ap MissingDirection (IsFirst-unique (λ v. IsListed dirs v → ⊥) (vertices ps') d d' (subst (λ (qs : List V3). IsFirst (λ v. IsListed dirs v → ⊥) (vertices qs) d) (ArePlanes-unique parts w ps ps' pa pa') f) f') ∙ sym e'
+
+-- ---- certificates
+
+body_unique : (parts : List Part) (stated : ℕ) (b : Body) (x y : Reason) → reasons.IsBodyReason parts stated b x → reasons.IsBodyReason parts stated b y → x ≡ y
+body_unique parts stated (body.Plan nodes) x y f g = plan_reason_unique parts stated nodes x y f g
+body_unique parts stated (body.Stuck w witnesses dirs) x y f g = refusal_reason_unique parts stated w witnesses dirs x y f g
+
+pub IsReason-unique : (parts : List Part) (c : Certificate) (x y : Reason) → IsReason parts c x → IsReason parts c y → x ≡ y
+IsReason-unique parts c x y f g = body_unique parts c.parts c.body x y f g
+
+plan_body : (parts : List Part) (stated : ℕ) (b : Body) (x : Reason) → reasons.IsBodyReason parts stated b x → certificates.PlanBodyHolds parts stated b → ⊥
+plan_body parts stated (body.Plan nodes) x f h = plan_reason_some parts stated nodes x f h
+plan_body parts stated (body.Stuck w witnesses dirs) x f h = h
+
+refusal_body : (parts : List Part) (stated : ℕ) (b : Body) (x : Reason) → reasons.IsBodyReason parts stated b x → certificates.RefusalBodyHolds parts stated b → ⊥
+refusal_body parts stated (body.Plan nodes) x f h = h
+refusal_body parts stated (body.Stuck w witnesses dirs) x f h = refusal_reason_some parts stated w witnesses dirs x f h
+
+pub no_reason_valid_plan : (parts : List Part) (c : Certificate) (x : Reason) → IsReason parts c x → IsValidPlan parts c → ⊥
+no_reason_valid_plan parts c x f h = plan_body parts c.parts c.body x f h
+
+pub no_reason_valid_refusal : (parts : List Part) (c : Certificate) (x : Reason) → IsReason parts c x → IsValidRefusal parts c → ⊥
+no_reason_valid_refusal parts c x f h = refusal_body parts c.parts c.body x f h

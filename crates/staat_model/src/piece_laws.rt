@@ -1,0 +1,33 @@
+// Laws on two pieces. Each is a function that does nothing, and its contract is the law.
+ghost use Rattle.std.specs.Prelude.{◌↔◌, List, pos, ◌<ℤ◌};
+ghost use Rattle.staat_vec.specs.declared.vector.V3.{V3 as Vector};
+ghost use Rattle.staat_vec.specs.Vectors.{dot, negative};
+ghost use Rattle.staat_model.specs.Pieces.{IsPiece};
+ghost use Rattle.staat_model.specs.Meeting.{Meets, Overlap};
+ghost use Rattle.staat_model.specs.Facets.{IsFacet};
+ghost use Rattle.staat_model.specs.Cones.{IsCrossing, differences};
+
+/// A piece meets another along d exactly where d leads ahead of each of their facets.
+pub fn blocked_by_facets()
+    ensures { (p q : List Vector) (d : Vector) → IsPiece p → IsPiece q → Meets p q d ↔ ((n : Vector) → IsFacet p q n → pos 0 <ℤ dot n d) }
+{}
+
+/// Two pieces overlap exactly where they have no facet.
+pub fn overlap_by_facets()
+    ensures { (p q : List Vector) → IsPiece p → IsPiece q → Overlap p q ↔ ((n : Vector) → IsFacet p q n → ⊥) }
+{}
+
+/// Each facet of two pieces is the primitive vector of the cross product of two of their differences.
+pub fn facets_from_differences()
+    ensures { (p q : List Vector) (n : Vector) → IsFacet p q n → IsCrossing (differences p q) n }
+{}
+
+/// The facets of two pieces in the other order are the negatives of their facets.
+pub fn opposite_facets()
+    ensures { (p q : List Vector) (n : Vector) → IsFacet p q n ↔ IsFacet q p (negative n) }
+{}
+
+/// A piece meets another along the negative of d exactly where the other meets it along d.
+pub fn opposite_meeting()
+    ensures { (p q : List Vector) (d : Vector) → Meets p q (negative d) ↔ Meets q p d }
+{}
