@@ -32,3 +32,5 @@ pub mod GraphLemmas
 pub mod VertexLemmas
 pub mod PlaneLemmas
 pub mod CellLemmas
+pub mod RefusalLemmas
+pub mod PlanLemmas

@@ -15,8 +15,8 @@ pub use crate::piece_laws::{
     overlap_by_facets,
 };
 pub use crate::plan_laws::{
-    edges_add_up, graph_of_cell, graph_on_border, open_cell, opposite_graph, restrict,
-    stuck_at_vertices, vertex_on_border, vertices_decide,
+    edges_add_up, graph_of_cell, graph_on_border, open_cell, opposite_graph, plan_is_right,
+    refusal_is_right, restrict, stuck_at_vertices, vertex_on_border, vertices_decide,
 };
 
 /// A wall that shows a piece apart from a list of points along a direction keeps them apart for ever: the piece

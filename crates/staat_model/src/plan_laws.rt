@@ -1,5 +1,5 @@
 // Laws on assemblies, their planes and their plans. Each is a function that does nothing, and its contract is the law.
-ghost use Rattle.std.specs.Prelude.{◌≡◌, ◌≢◌, ◌≤◌, ◌↔◌, ℕ, List, Contains};
+ghost use Rattle.std.specs.Prelude.{◌≡◌, ◌≢◌, ◌≤◌, ◌↔◌, ℕ, List, Contains, length};
 ghost use Rattle.std.specs.FinSet as set;
 ghost use Rattle.staat_vec.specs.declared.vector.V3.{V3 as Vector};
 ghost use Rattle.staat_vec.specs.declared.vector.Sign.{Sign as SignValue};
@@ -7,12 +7,22 @@ ghost use Rattle.staat_vec.specs.Vectors.{origin, plus, negative};
 ghost use Rattle.staat_model.specs.declared.assembly.Part.{Part as PartValue};
 ghost use Rattle.staat_model.specs.declared.set.PartSet.{PartSet as PartSetValue};
 ghost use Rattle.staat_model.specs.declared.tree.Kind.TheVariants.{Edge, Open};
-ghost use Rattle.staat_model.specs.Sets.{AreApart, Has, IsSide, IsSubset};
+ghost use Rattle.staat_model.specs.Sets.{AreApart, Has, IsSide, IsSubset, below};
 ghost use Rattle.staat_model.specs.Assemblies.{IsAssembly};
 ghost use Rattle.staat_model.specs.Removal.{Blocks, IsFree};
 ghost use Rattle.staat_model.specs.Plans.{IsGood, IsStuck, Plan};
 ghost use Rattle.staat_model.specs.Planes.{ArePlanes, vertices};
 ghost use Rattle.staat_model.specs.Cells.{IsBorder, IsCell, kind_of, signs_of};
+ghost use Rattle.staat_model.specs.declared.certificate.Dir.{Dir as DirValue};
+ghost use Rattle.staat_model.specs.declared.certificate.Node.{Node as NodeValue};
+ghost use Rattle.staat_model.specs.declared.certificate.Witness.{Witness as WitnessValue};
+ghost use Rattle.staat_model.specs.Certificates.{
+  PlanHolds,
+  RefusalHolds,
+  WalledPlan,
+  nodes_of,
+  unwalled,
+};
 ghost use Rattle.staat_model.specs.Borders.{HasBorderVertex, HasFreeVertex, HasTwoEdges};
 
 /// A set of parts that is stuck rules out every plan of every set that holds it.
@@ -59,4 +69,16 @@ pub fn open_cell()
 /// Directions on two different edges on the border of a cell add up to a direction in the cell.
 pub fn edges_add_up()
     ensures { (planes : List Vector) (s e f : List SignValue) (u v : Vector) → kind_of e ≡ Edge → kind_of f ≡ Edge → IsBorder e s → IsBorder f s → e ≢ f → signs_of planes u ≡ e → signs_of planes v ≡ f → signs_of planes (plus u v) ≡ s }
+{}
+
+/// A certificate's plan that keeps its rules takes all parts of the assembly apart, and at no split do the two sides
+/// ever meet.
+pub fn plan_is_right()
+    ensures { (parts : List PartValue) (stated : ℕ) (nodes : List NodeValue) → IsAssembly parts → PlanHolds parts stated nodes → (tree : WalledPlan) × (nodes ≡ nodes_of tree) × IsGood parts (below (length parts)) (unwalled tree) }
+{}
+
+/// A certificate's refusal that keeps its rules names a set that is stuck, and no plan takes all parts apart: from the
+/// root no part of a side that is free is reached, or all parts are.
+pub fn refusal_is_right()
+    ensures { (parts : List PartValue) (stated : ℕ) (w : PartSetValue) (witnesses : List WitnessValue) (dirs : List DirValue) → IsAssembly parts → RefusalHolds parts stated w witnesses dirs → IsStuck parts w × ((plan : Plan) → IsGood parts (below (length parts)) plan → ⊥) }
 {}
