@@ -16,13 +16,7 @@ ghost use Rattle.staat_model.specs.Cells.{IsBorder, IsCell, kind_of, signs_of};
 ghost use Rattle.staat_model.specs.declared.certificate.Dir.{Dir as DirValue};
 ghost use Rattle.staat_model.specs.declared.certificate.Node.{Node as NodeValue};
 ghost use Rattle.staat_model.specs.declared.certificate.Witness.{Witness as WitnessValue};
-ghost use Rattle.staat_model.specs.Certificates.{
-  PlanHolds,
-  RefusalHolds,
-  WalledPlan,
-  nodes_of,
-  unwalled,
-};
+ghost use Rattle.staat_model.specs.Certificates.{PlanHolds, RefusalHolds, WalledPlan, nodes_of, unwalled};
 ghost use Rattle.staat_model.specs.Borders.{HasBorderVertex, HasFreeVertex, HasTwoEdges};
 
 /// A set of parts that is stuck rules out every plan of every set that holds it.
