@@ -34,3 +34,5 @@ pub mod PlaneLemmas
 pub mod CellLemmas
 pub mod RefusalLemmas
 pub mod PlanLemmas
+pub mod EdgeLemmas
+pub mod EndLemmas

@@ -83,11 +83,11 @@ same_some v f (inr p) some e = some (sym (negative-negative f) ∙ ap negative (
 
 pub vertex_on_border_lemma : (planes : List V3) (d : V3) → HoldsAxes planes → d ≢ origin → HasBorderVertex planes d
 vertex_on_border_lemma planes d axes some =
-    let c = corner_towards planes d axes some in record {
-      v = c.v;
-      vertex = in_vertices planes c.g c.h c.v c.g_in c.h_in c.independent c.is;
-      nonzero = same_some c.v (primitive (cross c.g c.h)) c.is (IsPrimitive-some (primitive (cross c.g c.h)) (let p = primitive-is (cross c.g c.h) c.independent in p.primitive));
-      border = border_towards planes d c.v c.towards;
+    let (v, c) = corner_towards planes d axes some in record {
+      v = v;
+      vertex = in_vertices planes c.g c.h v c.g_in c.h_in c.independent c.is;
+      nonzero = same_some v (primitive (cross c.g c.h)) c.is (IsPrimitive-some (primitive (cross c.g c.h)) (let p = primitive-is (cross c.g c.h) c.independent in p.primitive));
+      border = border_towards planes d v c.towards;
     }
 
 -- what is free along a direction is free on the border of its cell
