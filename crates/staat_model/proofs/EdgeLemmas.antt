@@ -1,26 +1,19 @@
 -- An edge has two end vertices, and their sum lies on the edge.
-use Rattle.std.proofs.Common.{◌≡◌, ◌≢◌, ℕ, zero, suc, ◌≤◌, max, refl, sym, ap, subst, ◌∙◌, arith, ℤ, pos, negsuc, neg_ℤ, ◌+ℤ◌, ◌-ℤ◌, ◌*ℤ◌, ◌≤ℤ◌, ◌<ℤ◌, unsigned_abs, ◌⊎◌, inl, inr, ⊎_elim, List, [], ◌∷◌, ◌++◌, All, Contains, le_trans, le_refl}
+use Rattle.std.proofs.Common.{◌≡◌, ◌≢◌, ℕ, zero, suc, ◌≤◌, max, refl, sym, ap, subst, ◌∙◌, arith, ℤ, pos, negsuc, neg_ℤ, ◌+ℤ◌, ◌-ℤ◌, ◌*ℤ◌, ◌≤ℤ◌, ◌<ℤ◌, unsigned_abs, ◌⊎◌, inl, inr, ⊎_elim, List, [], ◌∷◌, All, Contains, le_trans, le_refl}
 use Rattle.std.proofs.lemmas.Int.{ints, by_lt_z}
-use Rattle.std.proofs.lemmas.List.Elements.{All-nil, All-cons, All-head, All-tail, All-contains, Contains-append_cases}
+use Rattle.std.proofs.lemmas.List.Elements.{All-nil, All-cons, All-head, All-tail, All-contains}
 use Rattle.staat_vec.specs.declared.vector.V3.{V3}
-use Rattle.staat_vec.specs.declared.vector.Sign.{Sign}
-use Rattle.staat_vec.specs.declared.vector.Sign.TheVariants.{Neg, Zero, Pos}
-use Rattle.staat_vec.specs.Vectors.{vector, dot, cross, plus, minus, times, negative, origin, sign}
+use Rattle.staat_vec.specs.Vectors.{vector, dot, cross, plus, minus, times, negative, origin}
 use Rattle.staat_vec.specs.Primitives.{IsPrimitive, primitive}
 use Rattle.staat_vec.proofs.Ring.{Ex, at, num, ◌⊕◌, ◌⊖◌, ◌⊗◌, opp, ring}
-use Rattle.staat_vec.proofs.VecRing.{VEx, dotE, crossE, plusE, minusE, timesE, negativeE, originE, values, v0, v1, v2, v3, scale, same_vector, ring3, negative_dot, dot_negative, dot_cross_left, dot_cross_right}
-use Rattle.staat_vec.proofs.Order.{as_positive, cancel_nonneg, cancel_zero, nonneg_is, negative_is, positive_is, nonneg_mul, pos_mul}
+use Rattle.staat_vec.proofs.VecRing.{VEx, dotE, crossE, plusE, minusE, timesE, negativeE, originE, values, v0, v1, v2, scale, same_vector, ring3, negative_dot, dot_negative, dot_cross_left, dot_cross_right}
+use Rattle.staat_vec.proofs.Order.{as_positive, cancel_zero, nonneg_is, positive_is, nonneg_mul, pos_mul}
 use Rattle.staat_vec.proofs.Primitives.{IsPrimitive-some, IsPrimitive-negative, primitive-is, same_primitive}
-use Rattle.staat_model.specs.Cones.{IsAbove, IsCrossing}
-use Rattle.staat_model.specs.Planes.{vertices, crossings}
-use Rattle.staat_model.specs.Cells.{signs_of, IsBorder, IsEnd}
-use Rattle.staat_model.proofs.Members.{here, there, All-from_members}
+use Rattle.staat_model.specs.Cones.{IsAbove}
+use Rattle.staat_model.proofs.Members.{All-from_members}
 use Rattle.staat_model.proofs.Edge.{edge_below, dot_origin_right}
 use Rattle.staat_model.proofs.CornerLemmas.{above_primitive, axes_span, dot_multiple, some_square}
 use Rattle.staat_model.proofs.Corners.{Conditions, conditions, have_axes, is_corner, HoldsAxes, IsSame, IsTowards, IsCornerTowards}
-use Rattle.staat_model.proofs.GraphLemmas.{border_towards, towards_border, zero_sign}
-use Rattle.staat_model.proofs.VertexLemmas.{in_vertices}
-use Rattle.staat_model.proofs.PlaneLemmas.{NoneParallel}
 
 -- ---- far enough along d
 

@@ -1,10 +1,9 @@
 -- The two ends of an edge, as vertices on its border, and their sum.
-use Rattle.std.proofs.Common.{◌≡◌, ◌≢◌, ℕ, zero, suc, ◌+◌, ◌<◌, get_or, refl, sym, ap, subst, ◌∙◌, arith, ℤ, pos, negsuc, neg_ℤ, ◌≤ℤ◌, ◌<ℤ◌, ◌⊎◌, inl, inr, ⊎_elim, List, [], ◌∷◌, ◌++◌, All, Contains}
+use Rattle.std.proofs.Common.{◌≡◌, ◌≢◌, ℕ, zero, suc, ◌+◌, ◌<◌, get_or, refl, sym, ap, subst, ◌∙◌, arith, ℤ, pos, neg_ℤ, ◌≤ℤ◌, ◌<ℤ◌, ◌⊎◌, inl, inr, ⊎_elim, List, [], ◌∷◌, Contains}
 use Rattle.std.proofs.lemmas.Int.{ints, by_lt_z}
 use Rattle.std.proofs.lemmas.List.Elements.{All-contains, Contains-append_cases}
 use Rattle.std.proofs.lemmas.Map.Keys.{sorted_from_all_adjacent}
 use Rattle.std.proofs.lemmas.Map.Views.{All-after_first}
-use Rattle.std.specs.Cmp.{IsTotalOrder}
 use Rattle.std.specs.Ordering.{ordering_reverse}
 use Rattle.std.specs.declared.cmp.Ordering.{Ordering}
 use Rattle.std.specs.declared.cmp.Ordering.TheVariants.{Less, Equal, Greater}
@@ -16,15 +15,13 @@ use Rattle.staat_vec.specs.Vectors.{dot, cross, plus, negative, origin, sign, ve
 use Rattle.staat_vec.specs.Primitives.{primitive}
 use Rattle.staat_vec.proofs.VecRing.{crossE, dotE, negativeE, plusE, values, v0, v1, ring3, negative_dot, dot_negative, dot_cross_left, dot_cross_right}
 use Rattle.staat_vec.proofs.Ring.{ring}
-use Rattle.staat_model.specs.declared.assembly.Part.{Part}
-use Rattle.staat_model.specs.declared.set.PartSet.{PartSet}
 use Rattle.staat_model.specs.declared.tree.Kind.TheVariants.{Edge}
 use Rattle.staat_model.specs.Lists.{Lists}
-use Rattle.staat_model.specs.Planes.{ArePlanes, vertices, crossings}
+use Rattle.staat_model.specs.Planes.{vertices, crossings}
 use Rattle.staat_model.specs.Cells.{signs_of, kind_of, IsBorder, IsCell, IsEnd, IsEdgeSum}
 use Rattle.staat_model.proofs.Members.{here, there}
 use Rattle.staat_model.proofs.Orders.{vector_exact, vector_total}
-use Rattle.staat_model.proofs.Corners.{HoldsAxes, IsSame, IsTowards, IsCornerTowards}
+use Rattle.staat_model.proofs.Corners.{HoldsAxes, IsSame, IsCornerTowards}
 use Rattle.staat_model.proofs.GraphLemmas.{border_towards, towards_border, zero_sign}
 use Rattle.staat_model.proofs.VertexLemmas.{in_vertices}
 use Rattle.staat_model.proofs.PlaneLemmas.{NoneParallel}

@@ -36,3 +36,10 @@ pub mod RefusalLemmas
 pub mod PlanLemmas
 pub mod EdgeLemmas
 pub mod EndLemmas
+pub mod FirstUse
+pub mod OneCertificate
+pub mod Decimals
+pub mod LineTexts
+pub mod CertificateLines
+pub mod OneReading
+pub mod PointLemmas

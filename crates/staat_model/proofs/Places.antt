@@ -1,5 +1,5 @@
 -- The element at a place of a list.
-use Rattle.std.proofs.Common.{◌≡◌, ℕ, zero, suc, ◌<◌, List, [], ◌∷◌, length, Contains, arith, ◌∙◌}
+use Rattle.std.proofs.Common.{◌≡◌, ℕ, zero, suc, ◌<◌, List, [], ◌∷◌, length, Contains, arith, refl, sym, ◌∙◌}
 use Rattle.std.specs.Prelude.{Some, slice_get}
 use Rattle.std.proofs.lemmas.Option.{get_or_from_slice_get, slice_get-get_or}
 
@@ -13,3 +13,26 @@ Contains-from_place xs k x e = (k, place_within xs k x e, get_or_from_slice_get 
 
 pub place_from_Contains : {X : Type 0} (xs : List X) (x : X) → Contains xs x → (k : ℕ) × (slice_get xs k ≡ Some x)
 place_from_Contains xs x (k, lt, e) = (k, slice_get-get_or xs k x lt ∙ (λ i. Some (e i)))
+
+same_some : {X : Type 0} (x y : X) → Some x ≡ Some y → x ≡ y
+same_some x y e = cc
+
+-- two elements at one place are one
+pub one_at_place : {X : Type 0} (xs : List X) (k : ℕ) (x y : X) → slice_get xs k ≡ Some x → slice_get xs k ≡ Some y → x ≡ y
+one_at_place xs k x y a b = same_some x y (sym a ∙ b)
+
+-- lists are equal where they have the same elements at the same places
+pub same_places : {X : Type 0} (xs ys : List X) → ((k : ℕ) (x : X) → slice_get xs k ≡ Some x → slice_get ys k ≡ Some x) → ((k : ℕ) (x : X) → slice_get ys k ≡ Some x → slice_get xs k ≡ Some x) → xs ≡ ys
+same_places [] [] f g = refl
+same_places [] (y ∷ ys) f g = let wrong = g 0 y refl in cc
+same_places (x ∷ xs) [] f g = let wrong = f 0 x refl in cc
+same_places (x ∷ xs) (y ∷ ys) f g =
+    let rest : xs ≡ ys = same_places xs ys (λ k z e. f (suc k) z e) (λ k z e. g (suc k) z e) in
+    let front : y ≡ x = same_some y x (f 0 x refl) in
+    λ i. sym front i ∷ rest i
+
+-- an element stands at each place below the length
+pub some_at : {X : Type 0} (xs : List X) (k : ℕ) → k < length xs → (x : X) × (slice_get xs k ≡ Some x)
+some_at [] k lt = absurd (omega arith)
+some_at (x ∷ xs) zero lt = (x, refl)
+some_at (x ∷ xs) (suc k) lt = some_at xs k (omega arith)

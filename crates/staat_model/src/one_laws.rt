@@ -1,12 +1,14 @@
 // Laws that what is defined is one alone. Each is a function that does nothing, and its contract is the law.
-ghost use Rattle.std.specs.Prelude.{◌≡◌, Bool, List};
+ghost use Rattle.std.specs.Prelude.{◌≡◌, ℕ, Bool, List};
 ghost use Rattle.staat_model.specs.declared.assembly.Part.{Part as PartValue};
 ghost use Rattle.staat_model.specs.declared.certificate.Certificate.{Certificate as CertificateValue};
 ghost use Rattle.staat_model.specs.declared.set.PartSet.{PartSet as PartSetValue};
 ghost use Rattle.staat_model.specs.declared.verdict.Reason.{Reason as ReasonValue};
 ghost use Rattle.staat_model.specs.Certificates.{IsValidPlan, IsValidRefusal};
+ghost use Rattle.staat_model.specs.Certify.{IsCertificateOf};
 ghost use Rattle.staat_model.specs.Outcomes.{Finding, IsOutcome};
 ghost use Rattle.staat_model.specs.Reasons.{IsReason};
+ghost use Rattle.staat_model.specs.Texts.{IsReading, IsTextOf, Reading};
 
 /// A set of parts has one outcome, in a robust plan and in any other.
 pub fn one_outcome()
@@ -22,4 +24,19 @@ pub fn one_reason()
 pub fn no_reason_if_valid()
     ensures plan { (parts : List PartValue) (c : CertificateValue) (r : ReasonValue) → IsReason parts c r → IsValidPlan parts c → ⊥ }
     ensures refusal { (parts : List PartValue) (c : CertificateValue) (r : ReasonValue) → IsReason parts c r → IsValidRefusal parts c → ⊥ }
+{}
+
+/// An outcome has one certificate.
+pub fn one_certificate()
+    ensures { (parts : List PartValue) (f : Finding) (c d : CertificateValue) → IsCertificateOf parts f c → IsCertificateOf parts f d → c ≡ d }
+{}
+
+/// Bytes have one reading at most: they are the text of one certificate, or have one first bad line, or are too short.
+pub fn one_reading()
+    ensures { (bytes : List ℕ) (r s : Reading) → IsReading bytes r → IsReading bytes s → r ≡ s }
+{}
+
+/// A certificate has one spelling.
+pub fn one_spelling()
+    ensures { (bytes other : List ℕ) (c : CertificateValue) → IsTextOf bytes c → IsTextOf other c → bytes ≡ other }
 {}

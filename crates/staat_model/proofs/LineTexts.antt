@@ -1,0 +1,311 @@
+-- The text of a line: one line feed at its end, fewer than 128 bytes, and no text of two lines.
+use Rattle.std.proofs.Common.{◌≡◌, ◌≢◌, ℕ, zero, suc, ◌+◌, ◌*◌, ◌^◌, ◌<◌, ◌≤◌, Bool, true, false, List, [], ◌∷◌, ◌++◌, map, length, get_or, All, ap, sym, subst, refl, ◌∙◌, arith, ℤ, pos, unsigned_abs, append_assoc, length-append, ◌⊎◌, inl, inr}
+use Rattle.std.specs.Prelude.{codes, if◌then◌else◌, ◌&&◌, nat_lt}
+use Rattle.std.specs.List.{list_all}
+use Rattle.std.specs.FinSet as set
+use Rattle.std.specs.Fmt.{signed_decimal}
+use Rattle.std.specs.Str.{bytes_eq}
+use Rattle.std.proofs.lemmas.Bool.{false≢true, ltb-true}
+use Rattle.std.proofs.lemmas.List.Elements.{All-append, All-cons, All-head, All-nil, All-tail, All-weaker}
+use Rattle.staat_vec.specs.declared.vector.V3.{V3}
+use Rattle.staat_vec.specs.declared.vector.TheConstants.{NORMAL, DIRECTION}
+use Rattle.staat_vec.specs.Vectors.{IsWithin}
+use Rattle.staat_model.specs.declared.set.PartSet.{PartSet}
+use Rattle.staat_model.specs.declared.certificate.Arc.{Arc}
+use Rattle.staat_model.specs.declared.line.Line.{Line}
+use Rattle.staat_model.specs.declared.line.Line.TheVariants as line
+use Rattle.staat_model.specs.Lines.{members, members_from, vector_numbers, word_of, numbers_in, spaced, line_text, IsArcInBounds, IsInBounds}
+use Rattle.staat_model.specs.Sets.{Has, IsSubset, below}
+use Rattle.staat_model.specs.Texts.{HasNoFeed, IsLine}
+use Rattle.staat_model.proofs.Decimals.{IsSmall, natural_length, signed_length, signed_plain, signed_same}
+use Rattle.staat_model.proofs.SetBits.{has-below}
+use Rattle.staat_model.proofs.SetMembers.{has-empty, has-insert}
+use Rattle.staat_model.proofs.SetWords.{same_members}
+
+-- each byte is above a blank
+abbrev ArePlain : List ℕ → Type 0
+ArePlain bytes = All (λ b. 32 < b) bytes
+
+-- nothing, or a blank or a lower byte in front
+abbrev IsParted : List ℕ → Type 0
+IsParted [] = Unit {0}
+IsParted (b ∷ bytes) = b ≤ 32
+
+-- there is one way to cut a word from what follows
+one_cut : (xs ys p q : List ℕ) → ArePlain xs → ArePlain ys → IsParted p → IsParted q → xs ++ p ≡ ys ++ q → (xs ≡ ys) × (p ≡ q)
+one_cut [] [] p q a b c d e = (refl, e)
+one_cut [] (y ∷ ys) [] q a b c d e = cc
+one_cut [] (y ∷ ys) (n ∷ p) q a b c d e =
+    let same : n ≡ y = cc in
+    let high : 32 < y = All-head (λ b. 32 < b) y ys b in
+    absurd (omega (arith, c))
+one_cut (x ∷ xs) [] p [] a b c d e = cc
+one_cut (x ∷ xs) [] p (n ∷ q) a b c d e =
+    let same : x ≡ n = cc in
+    let high : 32 < x = All-head (λ b. 32 < b) x xs a in
+    absurd (omega (arith, d))
+one_cut (x ∷ xs) (y ∷ ys) p q a b c d e =
+    let first : x ≡ y = cc in
+    let others : xs ++ p ≡ ys ++ q = cc in
+    let rest = one_cut xs ys p q (All-tail (λ b. 32 < b) x xs a) (All-tail (λ b. 32 < b) y ys b) c d others in
+    (λ i. first i ∷ rest.0 i, rest.1)
+
+parted_spaced : (zs : List ℤ) → IsParted (spaced zs)
+parted_spaced [] = omega arith
+parted_spaced (z ∷ zs) = omega arith
+
+tails_of : (x : ℕ) (p q : List ℕ) → x ∷ p ≡ x ∷ q → p ≡ q
+tails_of x p q e = cc
+
+-- the numbers are known by their text
+spaced_same : (ys zs : List ℤ) → All IsSmall ys → All IsSmall zs → spaced ys ≡ spaced zs → ys ≡ zs
+spaced_same [] [] a b e = refl
+spaced_same [] (z ∷ zs) a b e = cc
+spaced_same (y ∷ ys) [] a b e = cc
+spaced_same (y ∷ ys) (z ∷ zs) a b e =
+    let sy = All-head IsSmall y ys a in
+    let sz = All-head IsSmall z zs b in
+    let cuts = one_cut (signed_decimal y) (signed_decimal z) (spaced ys) (spaced zs) (signed_plain y sy) (signed_plain z sz) (parted_spaced ys) (parted_spaced zs) (tails_of 32 _ _ e) in
+    let front : y ≡ z = signed_same y z sy sz cuts.0 in
+    let rest : ys ≡ zs = spaced_same ys zs (All-tail IsSmall y ys a) (All-tail IsSmall z zs b) cuts.1 in
+    λ i. front i ∷ rest i
+
+-- ---- a line from its word and its numbers
+
+abbrev natural : List ℤ → ℕ → ℕ
+natural zs k = unsigned_abs (get_or zs k (pos 0))
+
+abbrev vector_from : List ℤ → ℕ → V3
+vector_from zs k = record { x = get_or zs k (pos 0); y = get_or zs (k + 1) (pos 0); z = get_or zs (k + 2) (pos 0) }
+
+abbrev arc_from : List ℤ → Arc
+arc_from zs = record { a = natural zs 0; i = natural zs 1; b = natural zs 2; j = natural zs 3 }
+
+abbrev set_from : List ℤ → PartSet
+set_from [] = set.empty
+set_from (z ∷ zs) = set.insert (set_from zs) (unsigned_abs z)
+
+unfoldable line_from : List ℕ → List ℤ → Line
+line_from word zs =
+    if bytes_eq word (codes "STAAT") then line.Head (natural zs 0)
+    else if bytes_eq word (codes "parts") then line.Parts (natural zs 0)
+    else if bytes_eq word (codes "plan") then line.Plan
+    else if bytes_eq word (codes "stuck") then line.Stuck (set_from zs)
+    else if bytes_eq word (codes "leaf") then line.Leaf (natural zs 0)
+    else if bytes_eq word (codes "split") then line.Split (vector_from zs 0)
+    else if bytes_eq word (codes "sep") then line.Sep (record { arc = arc_from zs; n = vector_from zs 4 })
+    else if bytes_eq word (codes "witness") then line.Witness (natural zs 0)
+    else if bytes_eq word (codes "out") then line.Out (arc_from zs)
+    else if bytes_eq word (codes "in") then line.In (arc_from zs)
+    else if bytes_eq word (codes "dir") then line.Dir (record { d = vector_from zs 0; witness = natural zs 3 })
+    else line.End
+
+-- the members that were listed are those of the set from s on
+listed_members : (n s : ℕ) (w : PartSet) (q : ℕ) → (Has (set_from (map pos (members_from s n w))) q → Has w q) × (Has w q → s ≤ q → q < s + n → Has (set_from (map pos (members_from s n w))) q)
+listed_members zero s w q = (λ h. absurd (has-empty q h), λ h low high. absurd (omega arith))
+listed_members (suc n) s w q = go (set.contains w s) refl (listed_members n (suc s) w q)
+  where
+    from : s ≤ q → (s ≡ q) ⊎ (suc s ≤ q)
+    from low = grind arith
+
+    go : (b : Bool) → set.contains w s ≡ b → (Has (set_from (map pos (members_from (suc s) n w))) q → Has w q) × (Has w q → suc s ≤ q → q < suc s + n → Has (set_from (map pos (members_from (suc s) n w))) q)
+        → (Has (set_from (map pos (if b then s ∷ members_from (suc s) n w else members_from (suc s) n w))) q → Has w q) × (Has w q → s ≤ q → q < s + suc n → Has (set_from (map pos (if b then s ∷ members_from (suc s) n w else members_from (suc s) n w))) q)
+    go true e rest = (
+      λ h. elim ((has-insert (set_from (map pos (members_from (suc s) n w))) s q).0 h) [ inl at ↦ subst (λ (k : ℕ). Has w k) (sym at) e | inr later ↦ rest.0 later ],
+      λ h low high. (has-insert (set_from (map pos (members_from (suc s) n w))) s q).1 (elim (from low) [ inl at ↦ inl (sym at) | inr more ↦ inr (rest.1 h more (omega arith)) ]),
+    )
+    go false e rest = (
+      rest.0,
+      λ h low high. elim (from low) [ inl at ↦ absurd (let wrong : true ≡ false = sym h ∙ ap (set.contains w) (sym at) ∙ e in cc) | inr more ↦ rest.1 h more (omega arith) ],
+    )
+
+members_again : (w : PartSet) → IsSubset w (below 32) → set_from (map pos (members w)) ≡ w
+unfolding members
+members_again w small = same_members (set_from (map pos (members_from 0 32 w))) w
+    (λ q h. (listed_members 32 0 w q).0 h)
+    (λ q h. (listed_members 32 0 w q).1 h (omega arith) (let lt : q < 32 = (has-below 32 q).0 (small q h) in omega arith))
+
+line_again : (l : Line) → IsInBounds l → line_from (word_of l) (numbers_in l) ≡ l
+unfolding line_from
+line_again (line.Head version) h = refl
+line_again (line.Parts n) h = refl
+line_again line.Plan h = refl
+line_again (line.Stuck w) h = ap line.Stuck (members_again w h.1)
+line_again (line.Leaf p) h = refl
+line_again (line.Split d) h = refl
+line_again (line.Sep sep) h = refl
+line_again (line.Witness k) h = refl
+line_again (line.Out arc) h = refl
+line_again (line.In arc) h = refl
+line_again (line.Dir dir) h = refl
+line_again line.End h = refl
+
+-- ---- words
+
+all_plain : (bs : List ℕ) → list_all (λ b. nat_lt 32 b) bs ≡ true → ArePlain bs
+all_plain [] e = All-nil (λ b. 32 < b)
+all_plain (b ∷ bs) e = let t = both (nat_lt 32 b) (list_all (λ c. nat_lt 32 c) bs) e in All-cons (λ c. 32 < c) b bs (ltb-true 32 b t.0) (all_plain bs t.1)
+  where
+    both : (x y : Bool) → (x && y) ≡ true → (x ≡ true) × (y ≡ true)
+    both true y h = (refl, h)
+    both false y h = absurd (false≢true h)
+
+word_plain : (l : Line) → ArePlain (word_of l)
+word_plain (line.Head version) = all_plain (codes "STAAT") refl
+word_plain (line.Parts n) = all_plain (codes "parts") refl
+word_plain line.Plan = all_plain (codes "plan") refl
+word_plain (line.Stuck w) = all_plain (codes "stuck") refl
+word_plain (line.Leaf p) = all_plain (codes "leaf") refl
+word_plain (line.Split d) = all_plain (codes "split") refl
+word_plain (line.Sep sep) = all_plain (codes "sep") refl
+word_plain (line.Witness k) = all_plain (codes "witness") refl
+word_plain (line.Out arc) = all_plain (codes "out") refl
+word_plain (line.In arc) = all_plain (codes "in") refl
+word_plain (line.Dir dir) = all_plain (codes "dir") refl
+word_plain line.End = all_plain (codes "end") refl
+
+word_length : (l : Line) → length (word_of l) ≤ 7
+word_length (line.Head version) = omega arith
+word_length (line.Parts n) = omega arith
+word_length line.Plan = omega arith
+word_length (line.Stuck w) = omega arith
+word_length (line.Leaf p) = omega arith
+word_length (line.Split d) = omega arith
+word_length (line.Sep sep) = omega arith
+word_length (line.Witness k) = omega arith
+word_length (line.Out arc) = omega arith
+word_length (line.In arc) = omega arith
+word_length (line.Dir dir) = omega arith
+word_length line.End = omega arith
+
+-- ---- numbers
+
+small_cons : (z : ℤ) (zs : List ℤ) → IsSmall z → All IsSmall zs → All IsSmall (z ∷ zs)
+small_cons = All-cons IsSmall
+
+small_nil : All IsSmall []
+small_nil = All-nil IsSmall
+
+arc_small : (arc : Arc) (zs : List ℤ) → IsArcInBounds arc → All IsSmall zs → All IsSmall (pos arc.a ∷ pos arc.i ∷ pos arc.b ∷ pos arc.j ∷ zs)
+arc_small arc zs h k =
+    small_cons (pos arc.a) (pos arc.i ∷ pos arc.b ∷ pos arc.j ∷ zs) (omega (arith, h.a))
+    (small_cons (pos arc.i) (pos arc.b ∷ pos arc.j ∷ zs) (omega (arith, h.i))
+    (small_cons (pos arc.b) (pos arc.j ∷ zs) (omega (arith, h.b))
+    (small_cons (pos arc.j) zs (omega (arith, h.j)) k)))
+
+vector_small : (m : ℕ) (v : V3) (zs : List ℤ) → m < 10 ^ 64 → IsWithin m v → All IsSmall zs → All IsSmall (v.x ∷ v.y ∷ v.z ∷ zs)
+vector_small m v zs l h k = small_cons v.x (v.y ∷ v.z ∷ zs) (omega (arith, h.x)) (small_cons v.y (v.z ∷ zs) (omega (arith, h.y)) (small_cons v.z zs (omega (arith, h.z)) k))
+
+members_small : (n s : ℕ) (w : PartSet) → s + n ≤ 32 → All IsSmall (map pos (members_from s n w))
+members_small zero s w h = small_nil
+members_small (suc n) s w h = go (set.contains w s) (members_small n (suc s) w (omega arith))
+  where
+    go : (b : Bool) → All IsSmall (map pos (members_from (suc s) n w)) → All IsSmall (map pos (if b then s ∷ members_from (suc s) n w else members_from (suc s) n w))
+    go true k = small_cons (pos s) _ (omega arith) k
+    go false k = k
+
+numbers_small : (l : Line) → IsInBounds l → All IsSmall (numbers_in l)
+unfolding members
+numbers_small (line.Head version) h = small_cons (pos version) [] (omega arith) small_nil
+numbers_small (line.Parts n) h = small_cons (pos n) [] (omega (arith, h.1)) small_nil
+numbers_small line.Plan h = small_nil
+numbers_small (line.Stuck w) h = members_small 32 0 w (omega arith)
+numbers_small (line.Leaf p) h = small_cons (pos p) [] (omega arith) small_nil
+numbers_small (line.Split d) h = vector_small DIRECTION d [] (omega arith) h small_nil
+numbers_small (line.Sep sep) h = arc_small sep.arc (vector_numbers sep.n) h.0 (vector_small NORMAL sep.n [] (omega arith) h.1 small_nil)
+numbers_small (line.Witness k) h = small_cons (pos k) [] (omega arith) small_nil
+numbers_small (line.Out arc) h = arc_small arc [] h small_nil
+numbers_small (line.In arc) h = arc_small arc [] h small_nil
+numbers_small (line.Dir dir) h = vector_small DIRECTION dir.d (pos dir.witness ∷ []) (omega arith) h.0 (small_cons (pos dir.witness) [] (omega (arith, h.1)) small_nil)
+numbers_small line.End h = small_nil
+
+-- no line has the text of another
+pub one_line : (l m : Line) → IsInBounds l → IsInBounds m → line_text l ≡ line_text m → l ≡ m
+one_line l m f g e =
+    let cuts = one_cut (word_of l) (word_of m) (spaced (numbers_in l)) (spaced (numbers_in m)) (word_plain l) (word_plain m) (parted_spaced (numbers_in l)) (parted_spaced (numbers_in m)) e in
+    let same : numbers_in l ≡ numbers_in m = spaced_same (numbers_in l) (numbers_in m) (numbers_small l f) (numbers_small m g) cuts.1 in
+    sym (line_again l f) ∙ (λ i. line_from (cuts.0 i) (same i)) ∙ line_again m g
+
+-- ---- the bytes before the line feed
+
+abbrev bare : List ℤ → List ℕ
+bare [] = []
+bare (z ∷ zs) = 32 ∷ (signed_decimal z ++ bare zs)
+
+spaced_bare : (zs : List ℤ) → spaced zs ≡ bare zs ++ 10 ∷ []
+spaced_bare [] = refl
+spaced_bare (z ∷ zs) = ap (λ l. 32 ∷ l) (ap (λ l. signed_decimal z ++ l) (spaced_bare zs) ∙ sym (append_assoc (signed_decimal z) (bare zs) (10 ∷ [])))
+
+plain_no_feed : (xs : List ℕ) → ArePlain xs → HasNoFeed xs
+plain_no_feed xs h = All-weaker (λ b. 32 < b) (λ b. b ≢ 10) (λ b k e. omega arith) xs h
+
+bare_no_feed : (zs : List ℤ) → All IsSmall zs → HasNoFeed (bare zs)
+bare_no_feed [] h = All-nil (λ b. b ≢ 10)
+bare_no_feed (z ∷ zs) h =
+    All-cons (λ b. b ≢ 10) 32 (signed_decimal z ++ bare zs) (λ e. omega arith)
+    (All-append (λ b. b ≢ 10) (signed_decimal z) (bare zs) (plain_no_feed (signed_decimal z) (signed_plain z (All-head IsSmall z zs h))) (bare_no_feed zs (All-tail IsSmall z zs h)))
+
+pub line_front : Line → List ℕ
+line_front l = word_of l ++ bare (numbers_in l)
+
+pub line_is : (l : Line) → line_text l ≡ line_front l ++ 10 ∷ []
+unfolding line_front
+line_is l = ap (λ t. word_of l ++ t) (spaced_bare (numbers_in l)) ∙ sym (append_assoc (word_of l) (bare (numbers_in l)) (10 ∷ []))
+
+line_no_feed : (l : Line) → IsInBounds l → HasNoFeed (line_front l)
+unfolding line_front
+line_no_feed l h = All-append (λ b. b ≢ 10) (word_of l) (bare (numbers_in l)) (plain_no_feed (word_of l) (word_plain l)) (bare_no_feed (numbers_in l) (numbers_small l h))
+
+pub line_whole : (l : Line) → IsInBounds l → IsLine (line_text l)
+line_whole l h = record { front = line_front l; is = line_is l; no_feed = line_no_feed l h }
+
+-- ---- lengths
+
+bare_more : (z : ℤ) (zs : List ℤ) (m n : ℕ) → length (signed_decimal z) ≤ m → length (bare zs) ≤ n → length (bare (z ∷ zs)) ≤ m + n + 1
+bare_more z zs m n h k = omega (arith, length-append (signed_decimal z) (bare zs))
+
+arc_length : (arc : Arc) (zs : List ℤ) (n : ℕ) → IsArcInBounds arc → length (bare zs) ≤ n → length (bare (pos arc.a ∷ pos arc.i ∷ pos arc.b ∷ pos arc.j ∷ zs)) ≤ 12 + n
+arc_length arc zs n h k =
+    let one = bare_more (pos arc.j) zs 2 n (natural_length 2 arc.j (omega arith) (omega (arith, h.j)) (omega (arith, h.j))) k in
+    let two = bare_more (pos arc.b) (pos arc.j ∷ zs) 2 (n + 3) (natural_length 2 arc.b (omega arith) (omega (arith, h.b)) (omega (arith, h.b))) (omega (arith, one)) in
+    let three = bare_more (pos arc.i) (pos arc.b ∷ pos arc.j ∷ zs) 2 (n + 6) (natural_length 2 arc.i (omega arith) (omega (arith, h.i)) (omega (arith, h.i))) (omega (arith, two)) in
+    let four = bare_more (pos arc.a) (pos arc.i ∷ pos arc.b ∷ pos arc.j ∷ zs) 2 (n + 9) (natural_length 2 arc.a (omega arith) (omega (arith, h.a)) (omega (arith, h.a))) (omega (arith, three)) in
+    omega (arith, four)
+
+vector_length : (m k : ℕ) (v : V3) (zs : List ℤ) (n : ℕ) → 0 < k → m < 10 ^ k → m < 10 ^ 64 → IsWithin m v → length (bare zs) ≤ n → length (bare (v.x ∷ v.y ∷ v.z ∷ zs)) ≤ 3 * k + 6 + n
+vector_length m k v zs n some l wide h b =
+    let one = bare_more v.z zs (k + 1) n (signed_length k v.z some (omega (arith, h.z)) (omega (arith, h.z))) b in
+    let two = bare_more v.y (v.z ∷ zs) (k + 1) (k + n + 2) (signed_length k v.y some (omega (arith, h.y)) (omega (arith, h.y))) (omega (arith, one)) in
+    let three = bare_more v.x (v.y ∷ v.z ∷ zs) (k + 1) (k + k + n + 4) (signed_length k v.x some (omega (arith, h.x)) (omega (arith, h.x))) (omega (arith, two)) in
+    omega (arith, three)
+
+members_length : (n s : ℕ) (w : PartSet) → s + n ≤ 32 → length (bare (map pos (members_from s n w))) ≤ 3 * n
+members_length zero s w h = omega arith
+members_length (suc n) s w h = go (set.contains w s) (members_length n (suc s) w (omega arith))
+  where
+    go : (b : Bool) → length (bare (map pos (members_from (suc s) n w))) ≤ 3 * n → length (bare (map pos (if b then s ∷ members_from (suc s) n w else members_from (suc s) n w))) ≤ 3 * suc n
+    go true k = let more = bare_more (pos s) (map pos (members_from (suc s) n w)) 2 (3 * n) (natural_length 2 s (omega arith) (omega arith) (omega arith)) k in omega (arith, more)
+    go false k = omega arith
+
+one_length : (k n : ℕ) → 0 < k → n < 10 ^ k → n < 10 ^ 64 → length (bare (pos n ∷ [])) ≤ k + 1
+one_length k n some h wide = let more = bare_more (pos n) [] k 0 (natural_length k n some h wide) (omega arith) in omega (arith, more)
+
+-- directions of 25 digits and normals of 12 leave room
+numbers_length : (l : Line) → IsInBounds l → length (bare (numbers_in l)) ≤ 110
+unfolding members
+numbers_length (line.Head version) h = omega (arith, one_length 1 version (omega arith) (omega arith) (omega arith))
+numbers_length (line.Parts n) h = omega (arith, one_length 2 n (omega arith) (omega (arith, h.1)) (omega (arith, h.1)))
+numbers_length line.Plan h = omega arith
+numbers_length (line.Stuck w) h = omega (arith, members_length 32 0 w (omega arith))
+numbers_length (line.Leaf p) h = omega (arith, one_length 2 p (omega arith) (omega arith) (omega arith))
+numbers_length (line.Split d) h = omega (arith, vector_length DIRECTION 25 d [] 0 (omega arith) (omega arith) (omega arith) h (omega arith))
+numbers_length (line.Sep sep) h = omega (arith, arc_length sep.arc (sep.n.x ∷ sep.n.y ∷ sep.n.z ∷ []) 42 h.0 (omega (arith, vector_length NORMAL 12 sep.n [] 0 (omega arith) (omega arith) (omega arith) h.1 (omega arith))))
+numbers_length (line.Witness k) h = omega (arith, one_length 8 k (omega arith) (omega arith) (omega arith))
+numbers_length (line.Out arc) h = omega (arith, arc_length arc [] 0 h (omega arith))
+numbers_length (line.In arc) h = omega (arith, arc_length arc [] 0 h (omega arith))
+numbers_length (line.Dir dir) h = omega (arith, vector_length DIRECTION 25 dir.d (pos dir.witness ∷ []) 9 (omega arith) (omega arith) (omega arith) h.0 (omega (arith, one_length 8 dir.witness (omega arith) (omega (arith, h.1)) (omega (arith, h.1)))))
+numbers_length line.End h = omega arith
+
+pub line_length : (l : Line) → IsInBounds l → length (line_front l) < 127
+unfolding line_front
+line_length l h = omega (arith, length-append (word_of l) (bare (numbers_in l)), word_length l, numbers_length l h)

@@ -1,0 +1,189 @@
+-- An outcome has one certificate.
+use Rattle.std.proofs.Common.{◌≡◌, ℕ, zero, suc, ◌≤◌, List, [], ◌∷◌, map, length, All, Contains, arith, ap, sym, ◌∙◌, subst, refl}
+use Rattle.std.proofs.lemmas.List.{length-map}
+use Rattle.std.specs.Prelude.{Some, slice_get}
+use Rattle.std.proofs.lemmas.List.Elements.{All-contains, All-head, All-tail}
+use Rattle.std.specs.FinSet as set
+use Rattle.staat_vec.specs.declared.vector.V3.{V3}
+use Rattle.staat_vec.specs.Vectors.{vector_cmp}
+use Rattle.staat_model.specs.declared.assembly.Part.{Part}
+use Rattle.staat_model.specs.declared.set.PartSet.{PartSet}
+use Rattle.staat_model.specs.declared.certificate.Arc.{Arc}
+use Rattle.staat_model.specs.declared.certificate.Sep.{Sep}
+use Rattle.staat_model.specs.declared.certificate.Dir.{Dir}
+use Rattle.staat_model.specs.declared.certificate.Node.{Node}
+use Rattle.staat_model.specs.declared.certificate.Witness.{Witness}
+use Rattle.staat_model.specs.declared.certificate.Body.{Body}
+use Rattle.staat_model.specs.declared.certificate.Body.TheVariants as body
+use Rattle.staat_model.specs.declared.certificate.Certificate.{Certificate}
+use Rattle.staat_model.specs.Bridges.{IsNextBridge, IsTree}
+use Rattle.staat_model.specs.Certificates.{WalledPlan, walled_leaf, walled_split, nodes_of, unwalled, walled_parts, arc_cmp, inward, outward, IsAcross}
+use Rattle.staat_model.specs.Certify.{IsFacetAway, AreLeastWalls, HasLeastWalls, ArePlanNodes, IsLeastArc, IsWitnessAt, NamesWitness, IsRefusalOf, IsBodyOf, IsCertificateOf}
+use Rattle.staat_model.specs.Lists.{IsLeast}
+use Rattle.staat_model.specs.Lists as lists
+use Rattle.staat_model.specs.Outcomes.{Finding, planned, stuck}
+use Rattle.staat_model.specs.Planes.{vertices}
+use Rattle.staat_model.specs.Plans.{Plan, parts_of}
+use Rattle.staat_model.specs.Removal.{Blocks, MeetsAlong}
+use Rattle.staat_model.specs.Sets.{Has, single}
+use Rattle.staat_model.proofs.FirstUse.{StandForSame, same_numbers, same_values}
+use Rattle.staat_model.proofs.OneTable.{ArePlanes-unique}
+use Rattle.staat_model.proofs.Orders.{arc_exact, arc_total, vector_exact, vector_total}
+use Rattle.staat_model.proofs.Places.{Contains-from_place, one_at_place}
+use Rattle.staat_model.proofs.Unique.{IsLeast-unique, Lists-unique}
+
+-- ---- plans
+
+walls_from_arcs : (parts : List Part) (d : V3) (xs ys : List Sep) → map (λ sep. sep.arc) xs ≡ map (λ sep. sep.arc) ys
+    → All (λ sep. IsLeast vector_cmp (IsFacetAway parts d sep.arc) sep.n) xs → All (λ sep. IsLeast vector_cmp (IsFacetAway parts d sep.arc) sep.n) ys → xs ≡ ys
+walls_from_arcs parts d [] [] e f g = refl
+walls_from_arcs parts d [] (y ∷ ys) e f g = absurd cc
+walls_from_arcs parts d (x ∷ xs) [] e f g = absurd cc
+walls_from_arcs parts d (x ∷ xs) (y ∷ ys) e f g =
+    let Least : Sep → Type 0 = λ sep. IsLeast vector_cmp (IsFacetAway parts d sep.arc) sep.n in
+    let heads : x.arc ≡ y.arc = cc in
+    let tails : map (λ sep. sep.arc) xs ≡ map (λ sep. sep.arc) ys = cc in
+    let normals : x.n ≡ y.n = IsLeast-unique vector_cmp vector_total vector_exact (IsFacetAway parts d y.arc) x.n y.n (subst (λ (a : Arc). IsLeast vector_cmp (IsFacetAway parts d a) x.n) heads (All-head Least x xs f)) (All-head Least y ys g) in
+    let rest : xs ≡ ys = walls_from_arcs parts d xs ys tails (All-tail Least x xs f) (All-tail Least y ys g) in
+    λ i. record { arc = heads i; n = normals i } ∷ rest i
+
+walls_unique : (parts : List Part) (s r : PartSet) (d : V3) (xs ys : List Sep) → AreLeastWalls parts s r d xs → AreLeastWalls parts s r d ys → xs ≡ ys
+walls_unique parts s r d xs ys a b =
+    walls_from_arcs parts d xs ys (Lists-unique arc_cmp arc_total arc_exact (IsAcross parts s r) (map (λ sep. sep.arc) xs) (map (λ sep. sep.arc) ys) a.arcs b.arcs) a.least b.least
+
+walled_unique : (parts : List Part) (t u : WalledPlan) → unwalled t ≡ unwalled u → HasLeastWalls parts t → HasLeastWalls parts u → t ≡ u
+walled_unique parts (walled_leaf p) (walled_leaf q) e f g = let same : p ≡ q = cc in ap walled_leaf same
+walled_unique parts (walled_leaf p) (walled_split d xs m r) e f g = absurd cc
+walled_unique parts (walled_split d xs m r) (walled_leaf p) e f g = absurd cc
+walled_unique parts (walled_split d xs m r) (walled_split d' ys m' r') e f g =
+    let ds : d ≡ d' = cc in
+    let moved : unwalled m ≡ unwalled m' = cc in
+    let rest : unwalled r ≡ unwalled r' = cc in
+    let walls : AreLeastWalls parts (walled_parts m') (walled_parts r') d' xs =
+    subst (λ (k : V3). AreLeastWalls parts (walled_parts m') (walled_parts r') k xs) ds
+    (subst (λ (p : Plan). AreLeastWalls parts (walled_parts m') (parts_of p) d xs) rest
+    (subst (λ (p : Plan). AreLeastWalls parts (parts_of p) (walled_parts r) d xs) moved f.0)) in
+    let seps : xs ≡ ys = walls_unique parts (walled_parts m') (walled_parts r') d' xs ys walls g.0 in
+    let m_is : m ≡ m' = walled_unique parts m m' moved f.1 g.1 in
+    let r_is : r ≡ r' = walled_unique parts r r' rest f.2 g.2 in
+    λ i. walled_split (ds i) (seps i) (m_is i) (r_is i)
+
+plan_nodes_unique : (parts : List Part) (plan : Plan) (xs ys : List Node) → ArePlanNodes parts plan xs → ArePlanNodes parts plan ys → xs ≡ ys
+plan_nodes_unique parts plan xs ys a b = a.nodes_are ∙ ap nodes_of (walled_unique parts a.tree b.tree (a.plan_is ∙ sym b.plan_is) a.walls b.walls) ∙ sym b.nodes_are
+
+-- ---- trees of bridges
+
+next_unique : (R : ℕ → ℕ → Type 0) (w reached : PartSet) (f t f' t' : ℕ) → IsNextBridge R w reached f t → IsNextBridge R w reached f' t' → (f ≡ f') × (t ≡ t')
+next_unique R w reached f t f' t' a b =
+    let low : t ≤ t' = a.least_to f' t' b.is in
+    let high : t' ≤ t = b.least_to f t a.is in
+    let to : t ≡ t' = omega arith in
+    let there = subst (λ (k : ℕ). IsNextBridge R w reached f k) to a in
+    let less : f ≤ f' = there.least_from f' b.is in
+    let more : f' ≤ f = b.least_from f there.is in
+    (omega arith, to)
+
+tree_unique : (R : ℕ → ℕ → Type 0) (w reached : PartSet) (ps qs : List (ℕ × ℕ)) → IsTree R w reached ps → IsTree R w reached qs → ps ≡ qs
+tree_unique R w reached [] [] a b = refl
+tree_unique R w reached [] (q ∷ qs) a b = absurd (b.0.is.to_new (subst (λ (s : PartSet). Has s q.1) (sym a) b.0.is.to_in))
+tree_unique R w reached (p ∷ ps) [] a b = absurd (a.0.is.to_new (subst (λ (s : PartSet). Has s p.1) (sym b) a.0.is.to_in))
+tree_unique R w reached (p ∷ ps) (q ∷ qs) a b =
+    let same = next_unique R w reached p.0 p.1 q.0 q.1 a.0 b.0 in
+    let rest : ps ≡ qs = tree_unique R w (set.insert reached q.1) ps qs (subst (λ (k : ℕ). IsTree R w (set.insert reached k) ps) same.1 a.1) b.1 in
+    λ i. (same.0 i, same.1 i) ∷ rest i
+
+least_arc_unique : (parts : List Part) (d : V3) (x y : Arc) → x.a ≡ y.a → x.b ≡ y.b → IsLeastArc parts d x → IsLeastArc parts d y → x ≡ y
+least_arc_unique parts d x y ea eb f g = IsLeast-unique arc_cmp arc_total arc_exact (λ other. (other.a ≡ x.a) × (other.b ≡ x.b) × MeetsAlong parts d other) x y f (record {
+  has = (sym ea, sym eb, g.has.2);
+  least = λ z h. g.least z (h.0 ∙ ea, h.1 ∙ eb, h.2);
+})
+
+outs_unique : (parts : List Part) (d : V3) (xs ys : List Arc) → map outward xs ≡ map outward ys → All (IsLeastArc parts d) xs → All (IsLeastArc parts d) ys → xs ≡ ys
+outs_unique parts d [] [] e f g = refl
+outs_unique parts d [] (y ∷ ys) e f g = absurd cc
+outs_unique parts d (x ∷ xs) [] e f g = absurd cc
+outs_unique parts d (x ∷ xs) (y ∷ ys) e f g =
+    let heads : outward x ≡ outward y = cc in
+    let tails : map outward xs ≡ map outward ys = cc in
+    let front : x ≡ y = least_arc_unique parts d x y (ap (λ (p : ℕ × ℕ). p.0) heads) (ap (λ (p : ℕ × ℕ). p.1) heads) (All-head (IsLeastArc parts d) x xs f) (All-head (IsLeastArc parts d) y ys g) in
+    let rest : xs ≡ ys = outs_unique parts d xs ys tails (All-tail (IsLeastArc parts d) x xs f) (All-tail (IsLeastArc parts d) y ys g) in
+    λ i. front i ∷ rest i
+
+ins_unique : (parts : List Part) (d : V3) (xs ys : List Arc) → map inward xs ≡ map inward ys → All (IsLeastArc parts d) xs → All (IsLeastArc parts d) ys → xs ≡ ys
+ins_unique parts d [] [] e f g = refl
+ins_unique parts d [] (y ∷ ys) e f g = absurd cc
+ins_unique parts d (x ∷ xs) [] e f g = absurd cc
+ins_unique parts d (x ∷ xs) (y ∷ ys) e f g =
+    let heads : inward x ≡ inward y = cc in
+    let tails : map inward xs ≡ map inward ys = cc in
+    let front : x ≡ y = least_arc_unique parts d x y (ap (λ (p : ℕ × ℕ). p.1) heads) (ap (λ (p : ℕ × ℕ). p.0) heads) (All-head (IsLeastArc parts d) x xs f) (All-head (IsLeastArc parts d) y ys g) in
+    let rest : xs ≡ ys = ins_unique parts d xs ys tails (All-tail (IsLeastArc parts d) x xs f) (All-tail (IsLeastArc parts d) y ys g) in
+    λ i. front i ∷ rest i
+
+-- ---- refusals
+
+witness_unique : (parts : List Part) (w : PartSet) (d : V3) (x y : Witness) → IsWitnessAt parts w d x → IsWitnessAt parts w d y → x ≡ y
+witness_unique parts w d x y a b =
+    let low : a.root ≤ b.root = a.root_is.least b.root b.root_is.has in
+    let high : b.root ≤ a.root = b.root_is.least a.root a.root_is.has in
+    let roots : a.root ≡ b.root = omega arith in
+    let outs : x.outs ≡ y.outs = outs_unique parts d x.outs y.outs (tree_unique (Blocks parts d) w (single b.root) (map outward x.outs) (map outward y.outs) (subst (λ (r : ℕ). IsTree (Blocks parts d) w (single r) (map outward x.outs)) roots a.outs) b.outs) a.outs_least b.outs_least in
+    let ins : x.ins ≡ y.ins = ins_unique parts d x.ins y.ins (tree_unique (λ p q. Blocks parts d q p) w (single b.root) (map inward x.ins) (map inward y.ins) (subst (λ (r : ℕ). IsTree (λ p q. Blocks parts d q p) w (single r) (map inward x.ins)) roots a.ins) b.ins) a.ins_least b.ins_least in
+    λ i. record { outs = outs i; ins = ins i }
+
+place_in_map : {X Y : Type 0} (f : X → Y) (xs : List X) (k : ℕ) (y : Y) → slice_get (map f xs) k ≡ Some y → (x : X) × (slice_get xs k ≡ Some x) × (f x ≡ y)
+place_in_map f [] k y e = cc
+place_in_map f (x ∷ xs) zero y e = let same : f x ≡ y = cc in (x, refl, same)
+place_in_map f (x ∷ xs) (suc k) y e = place_in_map f xs k y e
+
+map_at_place : {X Y : Type 0} (f : X → Y) (xs : List X) (k : ℕ) (x : X) → slice_get xs k ≡ Some x → slice_get (map f xs) k ≡ Some (f x)
+map_at_place f [] k x e = cc
+map_at_place f (y ∷ xs) zero x e = let same : y ≡ x = cc in ap (λ z. Some (f z)) same
+map_at_place f (y ∷ xs) (suc k) x e = map_at_place f xs k x e
+
+dirs_same : (xs ys : List Dir) → map (λ dir. dir.d) xs ≡ map (λ dir. dir.d) ys → map (λ dir. dir.witness) xs ≡ map (λ dir. dir.witness) ys → xs ≡ ys
+dirs_same [] [] e f = refl
+dirs_same [] (y ∷ ys) e f = absurd cc
+dirs_same (x ∷ xs) [] e f = absurd cc
+dirs_same (x ∷ xs) (y ∷ ys) e f =
+    let ds : x.d ≡ y.d = cc in
+    let ws : x.witness ≡ y.witness = cc in
+    let rest_d : map (λ dir. dir.d) xs ≡ map (λ dir. dir.d) ys = cc in
+    let rest_w : map (λ dir. dir.witness) xs ≡ map (λ dir. dir.witness) ys = cc in
+    let rest : xs ≡ ys = dirs_same xs ys rest_d rest_w in
+    λ i. record { d = ds i; witness = ws i } ∷ rest i
+
+refusal_unique : (parts : List Part) (w : PartSet) (ws xs : List Witness) (ds es : List Dir) → IsRefusalOf parts w ws ds → IsRefusalOf parts w xs es → (ws ≡ xs) × (ds ≡ es)
+refusal_unique parts w ws xs ds es a b =
+    let planes : a.planes ≡ b.planes = ArePlanes-unique parts w a.planes b.planes a.planes_are b.planes_are in
+    let directions : map (λ dir. dir.d) ds ≡ map (λ dir. dir.d) es = Lists-unique vector_cmp vector_total vector_exact (Contains (vertices b.planes)) (map (λ dir. dir.d) ds) (map (λ dir. dir.d) es) (subst (λ (ps : List V3). lists.Lists vector_cmp (Contains (vertices ps)) (map (λ dir. dir.d) ds)) planes a.directions) b.directions in
+    let lengths : length (map (λ (dir : Dir). dir.witness) ds) ≡ length (map (λ (dir : Dir). dir.witness) es) = length-map ds (λ (dir : Dir). dir.witness) ∙ sym (length-map ds (λ (dir : Dir). dir.d)) ∙ ap length directions ∙ length-map es (λ (dir : Dir). dir.d) ∙ sym (length-map es (λ (dir : Dir). dir.witness)) in
+    let same : StandForSame (map (λ dir. dir.witness) ds) (map (λ dir. dir.witness) es) ws xs = λ i k m at_k at_m.
+    let x = place_in_map (λ (dir : Dir). dir.witness) ds i k at_k in
+    let y = place_in_map (λ (dir : Dir). dir.witness) es i m at_m in
+    let n = All-contains (NamesWitness parts w ws) ds x.0 a.each (Contains-from_place ds i x.0 x.1) in
+    let o = All-contains (NamesWitness parts w xs) es y.0 b.each (Contains-from_place es i y.0 y.1) in
+    let along : x.0.d ≡ y.0.d = one_at_place (map (λ dir. dir.d) es) i x.0.d y.0.d (ap (λ l. slice_get l i) (sym directions) ∙ map_at_place (λ (dir : Dir). dir.d) ds i x.0 x.1) (map_at_place (λ (dir : Dir). dir.d) es i y.0 y.1) in
+    let one : n.witness ≡ o.witness = witness_unique parts w y.0.d n.witness o.witness (subst (λ (d : V3). IsWitnessAt parts w d n.witness) along n.is) o.is in
+    (n.witness, subst (λ (j : ℕ). slice_get ws j ≡ Some n.witness) x.2 n.witness_is, subst (λ (j : ℕ). slice_get xs j ≡ Some n.witness) y.2 (o.witness_is ∙ ap Some (sym one))) in (
+      same_values (map (λ dir. dir.witness) ds) (map (λ dir. dir.witness) es) ws xs lengths a.by_first_use b.by_first_use a.distinct b.distinct same,
+      dirs_same ds es directions (same_numbers (map (λ dir. dir.witness) ds) (map (λ dir. dir.witness) es) ws xs lengths a.by_first_use b.by_first_use a.distinct b.distinct same),
+    )
+
+-- ---- certificates
+
+body_unique : (parts : List Part) (f : Finding) (b c : Body) → IsBodyOf parts f b → IsBodyOf parts f c → b ≡ c
+body_unique parts (planned plan marks) (body.Plan xs) (body.Plan ys) g h = ap body.Plan (plan_nodes_unique parts plan xs ys g h)
+body_unique parts (planned plan marks) (body.Plan xs) (body.Stuck w ws ds) g h = absurd h
+body_unique parts (planned plan marks) (body.Stuck w ws ds) c g h = absurd g
+body_unique parts (stuck v) (body.Plan xs) c g h = absurd g
+body_unique parts (stuck v) (body.Stuck w ws ds) (body.Plan ys) g h = absurd h
+body_unique parts (stuck v) (body.Stuck w ws ds) (body.Stuck u xs es) g h =
+    let same = refusal_unique parts v ws xs ds es g.1 h.1 in
+    λ i. body.Stuck ((g.0 ∙ sym h.0) i) (same.0 i) (same.1 i)
+
+pub IsCertificateOf-unique : (parts : List Part) (f : Finding) (b c : Certificate) → IsCertificateOf parts f b → IsCertificateOf parts f c → b ≡ c
+IsCertificateOf-unique parts f b c g h =
+    let counts : b.parts ≡ c.parts = g.count ∙ sym h.count in
+    let bodies : b.body ≡ c.body = body_unique parts f b.body c.body g.body h.body in
+    λ i. record { parts = counts i; body = bodies i }
