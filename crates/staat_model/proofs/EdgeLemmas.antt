@@ -6,7 +6,7 @@ use Rattle.staat_vec.specs.declared.vector.V3.{V3}
 use Rattle.staat_vec.specs.Vectors.{vector, dot, cross, plus, minus, times, negative, origin}
 use Rattle.staat_vec.specs.Primitives.{IsPrimitive, primitive}
 use Rattle.staat_vec.proofs.Ring.{Ex, at, num, ◌⊕◌, ◌⊖◌, ◌⊗◌, opp, ring}
-use Rattle.staat_vec.proofs.VecRing.{VEx, dotE, crossE, plusE, minusE, timesE, negativeE, originE, values, v0, v1, v2, scale, same_vector, ring3, negative_dot, dot_negative, dot_cross_left, dot_cross_right}
+use Rattle.staat_vec.proofs.VecRing.{VEx, dotE, crossE, plusE, minusE, timesE, negativeE, values, v0, v1, v2, scale, same_vector, ring3, negative_dot, dot_negative, dot_cross_left, dot_cross_right, cross_self}
 use Rattle.staat_vec.proofs.Order.{as_positive, cancel_zero, nonneg_is, positive_is, nonneg_mul, pos_mul}
 use Rattle.staat_vec.proofs.Primitives.{IsPrimitive-some, IsPrimitive-negative, primitive-is, same_primitive}
 use Rattle.staat_model.specs.Cones.{IsAbove}
@@ -270,13 +270,10 @@ tip planes d c w one corner = go (one.only corner.g corner.g_in) (one.only corne
       towards = corner.towards;
     }
 
-    self : cross c c ≡ origin
-    self = ring3 (values (c ∷ []) []) (crossE v0 v0) originE (tt, tt, tt)
-
     go : (corner.g ≡ c) ⊎ (dot corner.g d ≢ pos 0) → (corner.h ≡ c) ⊎ (dot corner.h d ≢ pos 0) → IsTip planes d c w
     go (inr off) other = at corner.g corner.g_in off (on_left corner.g corner.h w corner.independent corner.is)
     go (inl e) (inr off) = at corner.h corner.h_in off (on_right corner.g corner.h w corner.independent corner.is)
-    go (inl e) (inl f) = absurd (corner.independent ((λ i. cross (e i) (f i)) ∙ self))
+    go (inl e) (inl f) = absurd (corner.independent ((λ i. cross (e i) (f i)) ∙ cross_self c))
 
 cross_square : (c d : V3) → dot (cross c d) (cross c d) ≡ dot c c *ℤ dot d d -ℤ dot c d *ℤ dot c d
 cross_square c d = ring (values (c ∷ d ∷ []) []) (dotE (crossE v0 v1) (crossE v0 v1)) (dotE v0 v0 ⊗ dotE v1 v1 ⊖ dotE v0 v1 ⊗ dotE v0 v1) tt

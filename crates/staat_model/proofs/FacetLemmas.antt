@@ -2,10 +2,10 @@
 use Rattle.std.proofs.Common.{◌≡◌, ◌↔◌, ℕ, ◌*◌, ◌≢◌, ◌≤◌, sym, ap, subst, ◌∙◌, arith, ℤ, pos, negsuc, ◌*ℤ◌, ◌≤ℤ◌, ◌<ℤ◌, ◌⊎◌, inl, inr, ⊎_elim, List, [], ◌∷◌, mul-le-mul}
 use Rattle.std.proofs.lemmas.Int.{ints, by_lt_z}
 use Rattle.staat_vec.specs.declared.vector.V3.{V3}
-use Rattle.staat_vec.specs.Vectors.{dot, cross, times, origin}
+use Rattle.staat_vec.specs.Vectors.{dot, cross, times, negative, origin}
 use Rattle.staat_vec.specs.Primitives.{IsPrimitive, IsPrimitiveOf, primitive}
-use Rattle.staat_vec.proofs.Ring.{Ex, at, num, ◌⊖◌, ◌⊗◌, ring, ring_by, ring_by_two, zero-mul_ℤ}
-use Rattle.staat_vec.proofs.VecRing.{VEx, dotE, crossE, timesE, values, v0, v1, v2, scale, same_vector, ring3}
+use Rattle.staat_vec.proofs.Ring.{Ex, at, num, ◌⊖◌, ◌⊗◌, ring, ring_by_two, zero-mul_ℤ}
+use Rattle.staat_vec.proofs.VecRing.{VEx, dotE, crossE, timesE, values, v0, v1, v2, scale, same_vector, ring3, cross_turned}
 use Rattle.staat_vec.proofs.Order.{as_positive, cancel_zero}
 use Rattle.staat_model.specs.Cones.{IsSpanning, IsConeFacet, IsCrossing, IsReached}
 use Rattle.staat_vec.proofs.Primitives.{IsPrimitive-some, primitive-is, primitive-only, same_primitive}
@@ -58,13 +58,7 @@ swap_dot : (n g h : V3) → dot n (cross h g) ≡ negsuc 0 *ℤ dot n (cross g h
 swap_dot n g h = ring (values (n ∷ g ∷ h ∷ []) []) (dotE v0 (crossE v2 v1)) (num (negsuc 0) ⊗ dotE v0 (crossE v1 v2)) tt
 
 pub swap_zero : (g h : V3) → cross h g ≡ origin → cross g h ≡ origin
-swap_zero g h e =
-    let ρ = values (g ∷ h ∷ []) [] in
-    let l : VEx = crossE v0 v1 in
-    let r : VEx = crossE v1 v0 in
-    let o : Ex = num (pos 0) in
-    let m : Ex = num (negsuc 0) in
-    same_vector (cross g h) origin (ring_by ρ l.x o m r.x o (ap (λ v. v.x) e) tt) (ring_by ρ l.y o m r.y o (ap (λ v. v.y) e) tt) (ring_by ρ l.z o m r.z o (ap (λ v. v.z) e) tt)
+swap_zero g h e = cross_turned g h ∙ ap negative e
 
 -- a primitive vector at right angles to two that are not parallel is that of their cross product, in one of the two orders
 pub across_crosses : (n u v : V3) → IsPrimitive n → cross u v ≢ origin → dot u n ≡ pos 0 → dot v n ≡ pos 0 → (n ≡ primitive (cross u v)) ⊎ (n ≡ primitive (cross v u))

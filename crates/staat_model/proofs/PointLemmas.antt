@@ -4,9 +4,9 @@ use Rattle.std.proofs.lemmas.List.Elements.{All-contains}
 use Rattle.staat_vec.specs.declared.vector.V3.{V3}
 use Rattle.staat_vec.specs.declared.vector.Sign.{Sign}
 use Rattle.staat_vec.specs.declared.vector.Sign.TheVariants.{Neg, Zero, Pos}
-use Rattle.staat_vec.specs.Vectors.{dot, cross, negative, origin, sign}
+use Rattle.staat_vec.specs.Vectors.{dot, cross, origin, sign}
 use Rattle.staat_vec.specs.Primitives.{primitive}
-use Rattle.staat_vec.proofs.VecRing.{crossE, negativeE, values, v0, v1, ring3}
+use Rattle.staat_vec.proofs.VecRing.{cross_turned}
 use Rattle.staat_vec.proofs.Order.{cancel_zero}
 use Rattle.staat_vec.proofs.Primitives.{primitive-is, primitive-negative}
 use Rattle.staat_model.specs.declared.assembly.Part.{Part}
@@ -86,10 +86,7 @@ point_is_vertex_lemma parts w planes d are some point =
     let n = primitive d in
     let flat : (g : V3) → dot g d ≡ pos 0 → dot g n ≡ pos 0 = λ g on. cancel_zero p.factor (dot g n) p.positive (sym (dot_multiple g d n p.factor p.multiple) ∙ on) in
     in_vertices planes o.g o.h n o.g_in o.h_in o.independent
-    (⊎_elim (λ e. inl e) (λ e. inr (e ∙ ap primitive (turned o.g o.h) ∙ primitive-negative (cross o.g o.h))) (across_crosses n o.g o.h p.primitive o.independent (flat o.g o.on_g) (flat o.h o.on_h)))
-  where
-    turned : (g h : V3) → cross h g ≡ negative (cross g h)
-    turned g h = ring3 (values (g ∷ h ∷ []) []) (crossE v1 v0) (negativeE (crossE v0 v1)) (tt, tt, tt)
+    (⊎_elim (λ e. inl e) (λ e. inr (e ∙ ap primitive (cross_turned o.h o.g) ∙ primitive-negative (cross o.g o.h))) (across_crosses n o.g o.h p.primitive o.independent (flat o.g o.on_g) (flat o.h o.on_h)))
 
 -- ---- representatives
 
