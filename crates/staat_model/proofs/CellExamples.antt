@@ -11,10 +11,10 @@ use Rattle.staat_vec.specs.Vectors.{vector, vector_cmp}
 use Rattle.staat_model.specs.declared.tree.Kind.{Kind}
 use Rattle.staat_model.specs.declared.tree.Kind.TheVariants.{Point, Edge, Open}
 use Rattle.staat_model.specs.Cells.{signs_of, signs_cmp, kind_of, IsBorder, IsEnd, IsEdgeSum, IsBorderEdge, IsRepresentative}
-use Rattle.staat_model.specs.Lists.{Lists}
+use Rattle.staat_vec.specs.Lists.{Lists}
 use Rattle.staat_model.specs.Planes.{axes, vertices}
 use Rattle.staat_model.proofs.Examples.{axis_vertices}
-use Rattle.staat_model.proofs.Unique.{Contains-cases, Contains-nothing}
+use Rattle.staat_vec.proofs.Unique.{Contains-cases, Contains-nothing}
 
 abbrev v : ℤ → ℤ → ℤ → V3
 v = vector

@@ -16,11 +16,11 @@ use Rattle.staat_vec.specs.Primitives.{primitive}
 use Rattle.staat_vec.proofs.VecRing.{crossE, dotE, negativeE, plusE, values, v0, v1, ring3, negative_dot, dot_negative, dot_cross_left, dot_cross_right}
 use Rattle.staat_vec.proofs.Ring.{ring}
 use Rattle.staat_model.specs.declared.tree.Kind.TheVariants.{Edge}
-use Rattle.staat_model.specs.Lists.{Lists}
+use Rattle.staat_vec.specs.Lists.{Lists}
 use Rattle.staat_model.specs.Planes.{vertices, crossings}
 use Rattle.staat_model.specs.Cells.{signs_of, kind_of, IsBorder, IsCell, IsEnd, IsEdgeSum}
 use Rattle.staat_model.proofs.Members.{here, there}
-use Rattle.staat_model.proofs.Orders.{vector_exact, vector_total}
+use Rattle.staat_vec.proofs.VectorOrder.{vector_exact, vector_total}
 use Rattle.staat_model.proofs.Corners.{HoldsAxes, IsSame, IsCornerTowards}
 use Rattle.staat_model.proofs.GraphLemmas.{border_towards, towards_border, zero_sign}
 use Rattle.staat_model.proofs.VertexLemmas.{in_vertices}

@@ -18,7 +18,6 @@ pub mod SetBits
 pub mod SetMembers
 pub mod SetWords
 pub mod SetSizes
-pub mod Unique
 pub mod Orders
 pub mod OneTable
 pub mod FreeSides

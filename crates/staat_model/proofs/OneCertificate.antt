@@ -19,8 +19,8 @@ use Rattle.staat_model.specs.declared.certificate.Certificate.{Certificate}
 use Rattle.staat_model.specs.Bridges.{IsNextBridge, IsTree}
 use Rattle.staat_model.specs.Certificates.{WalledPlan, walled_leaf, walled_split, nodes_of, unwalled, walled_parts, arc_cmp, inward, outward, IsAcross}
 use Rattle.staat_model.specs.Certify.{IsFacetAway, AreLeastWalls, HasLeastWalls, ArePlanNodes, IsLeastArc, IsWitnessAt, NamesWitness, IsRefusalOf, IsBodyOf, IsCertificateOf}
-use Rattle.staat_model.specs.Lists.{IsLeast}
-use Rattle.staat_model.specs.Lists as lists
+use Rattle.staat_vec.specs.Lists.{IsLeast}
+use Rattle.staat_vec.specs.Lists as lists
 use Rattle.staat_model.specs.Outcomes.{Finding, planned, stuck}
 use Rattle.staat_model.specs.Planes.{vertices}
 use Rattle.staat_model.specs.Plans.{Plan, parts_of}
@@ -28,9 +28,10 @@ use Rattle.staat_model.specs.Removal.{Blocks, MeetsAlong}
 use Rattle.staat_model.specs.Sets.{Has, single}
 use Rattle.staat_model.proofs.FirstUse.{StandForSame, same_numbers, same_values}
 use Rattle.staat_model.proofs.OneTable.{ArePlanes-unique}
-use Rattle.staat_model.proofs.Orders.{arc_exact, arc_total, vector_exact, vector_total}
+use Rattle.staat_vec.proofs.VectorOrder.{vector_exact, vector_total}
+use Rattle.staat_model.proofs.Orders.{arc_exact, arc_total}
 use Rattle.staat_model.proofs.Places.{Contains-from_place, one_at_place}
-use Rattle.staat_model.proofs.Unique.{IsLeast-unique, Lists-unique}
+use Rattle.staat_vec.proofs.Unique.{IsLeast-unique, Lists-unique}
 
 -- ---- plans
 

@@ -7,14 +7,14 @@ use Rattle.staat_model.specs.declared.assembly.Part.{Part}
 use Rattle.staat_model.specs.declared.set.PartSet.{PartSet}
 use Rattle.staat_model.specs.declared.tree.Kind.{Kind}
 use Rattle.staat_model.specs.Outcomes.{Serves, Try, IsMovedSide, IsStep, HasNoStep, Finding, planned, stuck, IsOutcome, one_part, no_step, moved_stuck, rest_stuck, both_planned}
-use Rattle.staat_model.specs.Lists.{IsFirst}
+use Rattle.staat_vec.specs.Lists.{IsFirst}
 use Rattle.staat_model.specs.Plans.{Plan, leaf, split}
 use Rattle.staat_model.specs.Sets.{Has, single}
 use Rattle.staat_model.proofs.FreeSides.{IsMovedSide-unique}
 use Rattle.staat_model.proofs.OneTable.{tries_unique}
 use Rattle.staat_model.proofs.SetMembers.{has-single}
 use Rattle.staat_model.proofs.SetSizes.{len-single}
-use Rattle.staat_model.proofs.Unique.{IsFirst-unique, IsFirst-in}
+use Rattle.staat_vec.proofs.Unique.{IsFirst-unique, IsFirst-in}
 
 module _ (robust : Bool) (parts : List Part) where
   step_unique : (w s t : PartSet) (x y : Try) → IsStep robust parts w x s → IsStep robust parts w y t → (x ≡ y) × (s ≡ t)

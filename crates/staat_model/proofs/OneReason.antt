@@ -21,7 +21,7 @@ use Rattle.staat_model.specs.declared.verdict.Reason.{Reason}
 use Rattle.staat_model.specs.declared.verdict.Reason.TheVariants.{BadLeaves, BadSeparator, MissingSeparator, BadArc, BadTree, MissingDirection}
 use Rattle.staat_model.specs.Certificates.{WalledPlan, walled_leaf, walled_split, nodes_of, walled_parts, arc_cmp, IsAcross, IsWall, SplitHolds, SplitsHold, IsLeafAt, AreAllLeaves, PlanHolds, IsStuckSet, IsWitness, IsBlocked, IsListed, RefusalHolds, IsValidPlan, IsValidRefusal}
 use Rattle.staat_model.specs.Certificates as certificates
-use Rattle.staat_model.specs.Lists.{FailsFirst, IsFirst}
+use Rattle.staat_vec.specs.Lists.{FailsFirst, IsFirst}
 use Rattle.staat_model.specs.Planes.{vertices}
 use Rattle.staat_model.specs.Reasons.{IsBadLeaf, HasMissingLeaf, IsLeafFault, bad_leaf, missing_leaf, IsSplitReason, zero_direction, bad_separator, missing_separator, IsTreeReason, IsPlanReason, wrong_parts, bad_leaves, bad_split, IsNoStuckSet, IsRefusalReason, bad_stuck_set, bad_tree, bad_arc, missing_direction, IsReason}
 use Rattle.staat_model.specs.Reasons as reasons
@@ -29,7 +29,7 @@ use Rattle.staat_model.proofs.OneTable.{ArePlanes-unique}
 use Rattle.staat_model.proofs.Orders.{arc_total, arc_exact}
 use Rattle.staat_model.proofs.Places.{Contains-from_place}
 use Rattle.staat_model.proofs.SetBits.{has-below}
-use Rattle.staat_model.proofs.Unique.{IsFirst-unique, IsFirst-in, IsLeast-unique}
+use Rattle.staat_vec.proofs.Unique.{IsFirst-unique, IsFirst-in, IsLeast-unique}
 
 order : (j k : ℕ) → (j < k) ⊎ ((j ≡ k) ⊎ (k < j))
 order j k = grind arith

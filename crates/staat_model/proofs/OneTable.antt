@@ -8,12 +8,13 @@ use Rattle.staat_model.specs.declared.assembly.Part.{Part}
 use Rattle.staat_model.specs.declared.set.PartSet.{PartSet}
 use Rattle.staat_model.specs.declared.tree.Kind.{Kind}
 use Rattle.staat_model.specs.declared.tree.Kind.TheVariants.{Point, Edge, Open}
-use Rattle.staat_model.specs.Lists.{IsLeast}
+use Rattle.staat_vec.specs.Lists.{IsLeast}
 use Rattle.staat_model.specs.Planes.{ArePlanes, IsFacetPlane, axes, vertices}
 use Rattle.staat_model.specs.Cells.{signs_of, signs_cmp, kind_of, IsCell, IsEnd, IsEdgeSum, IsBorderEdge, IsOpenSum, IsRepresentative, CellEntry, IsEntry, AreCellsOf}
 use Rattle.staat_model.specs.Outcomes.{Try, try_vertex, try_cell, AreTries}
-use Rattle.staat_model.proofs.Orders.{vector_total, vector_exact, signs_total, signs_exact}
-use Rattle.staat_model.proofs.Unique.{IsFirst-unique, IsLeast-unique, Lists-unique}
+use Rattle.staat_vec.proofs.VectorOrder.{vector_total, vector_exact}
+use Rattle.staat_model.proofs.Orders.{signs_total, signs_exact}
+use Rattle.staat_vec.proofs.Unique.{IsFirst-unique, IsLeast-unique, Lists-unique}
 
 pub ArePlanes-unique : (parts : List Part) (w : PartSet) (ps qs : List V3) → ArePlanes parts w ps → ArePlanes parts w qs → ps ≡ qs
 ArePlanes-unique parts w ps qs a b =

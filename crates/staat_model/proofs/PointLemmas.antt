@@ -23,7 +23,7 @@ use Rattle.staat_model.proofs.VertexLemmas.{holds_axes, in_vertices}
 use Rattle.staat_model.proofs.PlaneLemmas.{NoneParallel, planes_apart, plane_some}
 use Rattle.staat_model.proofs.CellLemmas.{zeros, zeros-cons, edges_add_up_lemma}
 use Rattle.staat_model.proofs.EndLemmas.{edge_has_sum, edge_sum_in}
-use Rattle.staat_model.proofs.Unique.{IsFirst-in}
+use Rattle.staat_vec.proofs.Unique.{IsFirst-in}
 
 -- ---- two planes through a point
 

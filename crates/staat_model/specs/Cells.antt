@@ -9,7 +9,7 @@ use Rattle.staat_vec.specs.declared.vector.Sign.TheVariants.{Neg, Zero, Pos}
 use Rattle.staat_vec.specs.Vectors.{origin, plus, dot, sign, vector_cmp}
 use Rattle.staat_model.specs.declared.tree.Kind.{Kind}
 use Rattle.staat_model.specs.declared.tree.Kind.TheVariants.{Point, Edge, Open}
-use Rattle.staat_model.specs.Lists.{IsFirst, IsLeast, Lists}
+use Rattle.staat_vec.specs.Lists.{IsFirst, IsLeast, Lists}
 use Rattle.staat_model.specs.Planes.{vertices}
 
 -- on which side of each plane the direction lies

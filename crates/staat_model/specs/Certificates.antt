@@ -18,7 +18,7 @@ use Rattle.staat_model.specs.declared.certificate.Body.TheVariants as body
 use Rattle.staat_model.specs.declared.certificate.Certificate.{Certificate}
 use Rattle.staat_model.specs.Assemblies.{HoldsAt, piece_count}
 use Rattle.staat_model.specs.Facets.{IsFacet}
-use Rattle.staat_model.specs.Lists.{ListsOnce}
+use Rattle.staat_vec.specs.Lists.{ListsOnce}
 use Rattle.staat_model.specs.Planes.{ArePlanes, vertices}
 use Rattle.staat_model.specs.Plans.{Plan, leaf, parts_of, split}
 use Rattle.staat_model.specs.Sets.{Has, IsLeastOf, IsSubset, below, single}

@@ -16,7 +16,7 @@ use Rattle.staat_model.specs.Assemblies.{HoldsAt}
 use Rattle.staat_model.specs.Bridges.{IsTree}
 use Rattle.staat_model.specs.Certificates.{WalledPlan, walled_leaf, walled_split, nodes_of, unwalled, walled_parts, arc_cmp, outward, inward, IsAcross}
 use Rattle.staat_model.specs.Facets.{IsFacet}
-use Rattle.staat_model.specs.Lists.{IsLeast, Lists}
+use Rattle.staat_vec.specs.Lists.{IsLeast, Lists}
 use Rattle.staat_model.specs.Outcomes.{Finding, planned, stuck}
 use Rattle.staat_model.specs.Planes.{ArePlanes, vertices}
 use Rattle.staat_model.specs.Plans.{Plan}

@@ -4,7 +4,7 @@ use Rattle.std.specs.Ordering.{nat_cmp}
 use Rattle.staat_vec.specs.declared.vector.V3.{V3}
 use Rattle.staat_vec.specs.Vectors.{cross, dot, negative}
 use Rattle.staat_vec.specs.Primitives.{primitive}
-use Rattle.staat_model.specs.Lists.{Lists, ListsOnce}
+use Rattle.staat_vec.specs.Lists.{Lists, ListsOnce}
 
 -- a vertex on a circle, with the numbers of the other planes through it
 pub record Stop : Type 0 where

@@ -4,7 +4,6 @@ pub mod Walls
 pub mod Cones
 pub mod Bits
 pub mod Sets
-pub mod Lists
 pub mod Assemblies
 pub mod Removal
 pub mod Plans

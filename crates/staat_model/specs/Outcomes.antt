@@ -9,7 +9,7 @@ use Rattle.staat_model.specs.declared.tree.Kind.TheVariants.{Point, Edge, Open}
 use Rattle.staat_model.specs.declared.tree.Outcome.{Outcome}
 use Rattle.staat_model.specs.declared.tree.Outcome.TheVariants as outcome
 use Rattle.staat_model.specs.Cells.{CellEntry, AreCellsOf}
-use Rattle.staat_model.specs.Lists.{IsFirst}
+use Rattle.staat_vec.specs.Lists.{IsFirst}
 use Rattle.staat_model.specs.Planes.{ArePlanes, vertices}
 use Rattle.staat_model.specs.Plans.{Plan, leaf, plan_of, split}
 use Rattle.staat_model.specs.Removal.{IsFree}

@@ -8,7 +8,7 @@ use Rattle.staat_model.specs.declared.set.PartSet.{PartSet}
 use Rattle.staat_model.specs.declared.certificate.Arc.{Arc}
 use Rattle.staat_model.specs.Assemblies.{HoldsAt}
 use Rattle.staat_model.specs.Facets.{IsFacet}
-use Rattle.staat_model.specs.Lists.{Lists}
+use Rattle.staat_vec.specs.Lists.{Lists}
 use Rattle.staat_model.specs.Sets.{Has}
 
 -- the normals of the three coordinate planes

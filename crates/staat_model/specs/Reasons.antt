@@ -18,7 +18,7 @@ use Rattle.staat_model.specs.declared.certificate.Certificate.{Certificate}
 use Rattle.staat_model.specs.declared.verdict.Reason.{Reason}
 use Rattle.staat_model.specs.declared.verdict.Reason.TheVariants.{WrongParts, BadLeaves, ZeroDirection, BadSeparator, MissingSeparator, BadStuckSet, BadArc, BadTree, MissingDirection}
 use Rattle.staat_model.specs.Certificates.{WalledPlan, walled_leaf, walled_split, nodes_of, walled_parts, arc_cmp, IsAcross, IsWall, SplitHolds, SplitsHold, IsLeafAt, AreAllLeaves, IsStuckSet, IsWitness, IsBlocked, IsListed}
-use Rattle.staat_model.specs.Lists.{FailsFirst, IsFirst, IsLeast}
+use Rattle.staat_vec.specs.Lists.{FailsFirst, IsFirst, IsLeast}
 use Rattle.staat_model.specs.Planes.{ArePlanes, vertices}
 use Rattle.staat_model.specs.Sets.{Has}
 
