@@ -6,7 +6,7 @@ use Rattle.std.proofs.lemmas.List.Elements.{All-nil, All-cons, All-head, All-tai
 use Rattle.staat_vec.specs.declared.vector.V3.{V3}
 use Rattle.staat_vec.specs.Vectors.{dot, cross, plus, times, negative, origin}
 use Rattle.staat_vec.proofs.Ring.{Ex, at, num, ◌⊕◌, ◌⊖◌, ◌⊗◌, ring, ring_by_two}
-use Rattle.staat_vec.proofs.VecRing.{VEx, dotE, crossE, plusE, timesE, originE, values, v0, v1, v2, scale, same_vector, ring3, dot_negative}
+use Rattle.staat_vec.proofs.VecRing.{VEx, dotE, crossE, plusE, timesE, originE, values, v0, v1, v2, scale, same_vector, ring3, dot_negative, cross_self}
 use Rattle.staat_vec.proofs.Order.{nonneg_is, nonneg_pos, nonneg_mul, pos_mul, cancel_nonneg, cancel_zero, positive_nonneg, turned_positive}
 use Rattle.staat_model.specs.Meeting.{mix}
 use Rattle.staat_model.specs.Cones.{IsAbove, IsSpanning, IsCombined, IsOnBorder, HasTwoBorders}
@@ -195,9 +195,6 @@ positive_pair a p b q r e h g = plain (a *ℤ p) (b *ℤ q) r e h g
     plain : (s t r : ℤ) → r ≡ s +ℤ t → pos 0 ≤ℤ s → pos 0 <ℤ t → pos 0 <ℤ r
     plain s t r e h g = omega (arith, ints)
 
-cross_same : (g : V3) → cross g g ≡ origin
-cross_same g = ring3 (values (g ∷ []) []) (crossE v0 v0) originE (tt, tt, tt)
-
 module _ (vs ks : List V3) (d : V3) (inside : All (λ v. pos 0 <ℤ dot v d) vs)
     (rules : (x : V3) → IsAbove x ks → IsAbove x vs) (from : (g : V3) → Contains ks g → Contains vs g) where
   in_d : (g : V3) → Contains ks g → pos 0 <ℤ dot g d
@@ -219,7 +216,7 @@ module _ (vs ks : List V3) (d : V3) (inside : All (λ v. pos 0 <ℤ dot v d) vs)
       let sides : All (Side g z) ks =
       All-from_members (Side g z) ks
       (λ m in_ks. ⊎_elim
-      (λ e. inl (ap (λ v. cross v g) e ∙ cross_same g, ap (λ v. dot v z) e ∙ between_on g d x))
+      (λ e. inl (ap (λ v. cross v g) e ∙ cross_self g, ap (λ v. dot v z) e ∙ between_on g d x))
       (λ h. inr (strictly g x pd low m in_ks h))
       (All-contains P ks m others in_ks)) in (
         z,

@@ -30,10 +30,10 @@ use Rattle.staat_model.proofs.PlaneLemmas.{NoneParallel, planes_apart}
 
 -- ---- how many planes pass through a cell
 
-abbrev zeros : List Sign → ℕ
+abbrev pub zeros : List Sign → ℕ
 zeros s = count_by is_zero s
 
-zeros-cons : (t : Sign) (s : List Sign) → zeros (t ∷ s) ≡ cond (is_zero t) 1 0 + zeros s
+pub zeros-cons : (t : Sign) (s : List Sign) → zeros (t ∷ s) ≡ cond (is_zero t) 1 0 + zeros s
 zeros-cons t s = sum_by-cons (λ x. cond (is_zero x) 1 0) t s
 
 open_zeros : (s : List Sign) → kind_of s ≡ Open → zeros s ≡ 0
@@ -44,7 +44,7 @@ open_zeros s e = go (zeros s) e
     go (suc zero) e = cc
     go (suc (suc n)) e = cc
 
-edge_zeros : (s : List Sign) → kind_of s ≡ Edge → zeros s ≡ 1
+pub edge_zeros : (s : List Sign) → kind_of s ≡ Edge → zeros s ≡ 1
 edge_zeros s e = go (zeros s) e
   where
     go : (n : ℕ) → kind_by_count n ≡ Edge → n ≡ 1
@@ -55,7 +55,7 @@ edge_zeros s e = go (zeros s) e
 -- ---- two edges on the border of a cell
 
 -- at each plane one of the two has the cell's sign
-abbrev Covers : List Sign → List Sign → List Sign → Type 0
+abbrev pub Covers : List Sign → List Sign → List Sign → Type 0
 Covers [] [] [] = Unit {0}
 Covers (e ∷ es) (f ∷ fs) (s ∷ ss) = ((e ≡ s) ⊎ (f ≡ s)) × Covers es fs ss
 Covers es fs ss = ⊥
@@ -170,7 +170,7 @@ dot_plus g u v = ring (values (g ∷ u ∷ v ∷ []) []) (dotE v0 (plusE v1 v2))
 turn_sum : (a b : ℤ) → a +ℤ b ≡ b +ℤ a
 turn_sum a b = omega (arith, ints)
 
-sum_covers : (gs : List V3) (u v : V3) (ss : List Sign) → Covers (signs_of gs u) (signs_of gs v) ss → IsBorder (signs_of gs u) ss → IsBorder (signs_of gs v) ss → signs_of gs (plus u v) ≡ ss
+pub sum_covers : (gs : List V3) (u v : V3) (ss : List Sign) → Covers (signs_of gs u) (signs_of gs v) ss → IsBorder (signs_of gs u) ss → IsBorder (signs_of gs v) ss → signs_of gs (plus u v) ≡ ss
 sum_covers [] u v [] c bu bv = refl
 sum_covers [] u v (s ∷ ss) c bu bv = absurd c
 sum_covers (g ∷ gs) u v [] c bu bv = absurd c
@@ -242,7 +242,7 @@ not_zero Pos n = refl
 zeros_off : (t : Sign) (ts : List Sign) → t ≢ Zero → zeros (t ∷ ts) ≡ zeros ts
 zeros_off t ts n = zeros-cons t ts ∙ ap (λ b. cond b 1 0 + zeros ts) (not_zero t n) ∙ omega arith
 
-off_all : (gs : List V3) (d : V3) → zeros (signs_of gs d) ≡ 0 → (g : V3) → Contains gs g → sign (dot g d) ≢ Zero
+pub off_all : (gs : List V3) (d : V3) → zeros (signs_of gs d) ≡ 0 → (g : V3) → Contains gs g → sign (dot g d) ≢ Zero
 off_all [] d none g (k, lt, e) z = absurd (omega arith)
 off_all (h ∷ gs) d none g (zero, lt, e) z =
     let c : zeros (signs_of (h ∷ gs) d) ≡ 1 + zeros (signs_of gs d) = zeros-cons (sign (dot h d)) (signs_of gs d) ∙ ap (λ t. cond (is_zero t) 1 0 + zeros (signs_of gs d)) (ap (λ v. sign (dot v d)) e ∙ z) in

@@ -7,7 +7,7 @@ use Rattle.staat_vec.specs.Vectors.{vector, dot, cross, negative, origin}
 use Rattle.staat_vec.specs.Primitives.{primitive}
 use Rattle.staat_vec.proofs.VecRing.{crossE, negativeE, values, v0, v1, ring3, negative_dot}
 use Rattle.staat_vec.proofs.Primitives.{primitive-negative}
-use Rattle.staat_model.specs.Cones.{IsAbove, HasEither}
+use Rattle.staat_model.specs.Cones.{IsAbove, HasAxes, HasEither, IsCrossing}
 use Rattle.staat_model.proofs.Members.{here, there}
 use Rattle.staat_model.proofs.CornerLemmas.{corner_lemma}
 
@@ -22,12 +22,12 @@ pub record IsTowards (d v g : V3) : Type 0 where
 abbrev pub IsSame : V3 → V3 → Type 0
 IsSame s g = (s ≡ g) ⊎ (s ≡ negative g)
 
-record Conditions (d : V3) (gs : List V3) : Type 0 where
-  cs : List V3
-  above : IsAbove d cs
-  only : (c : V3) → Contains cs c → (g : V3) × Contains gs g × IsSame c g
-  up : (g : V3) → Contains gs g → pos 0 ≤ℤ dot g d → Contains cs g
-  down : (g : V3) → Contains gs g → dot g d ≤ℤ pos 0 → Contains cs (negative g)
+pub record Conditions (d : V3) (gs : List V3) : Type 0 where
+  pub cs : List V3
+  pub above : IsAbove d cs
+  pub only : (c : V3) → Contains cs c → (g : V3) × Contains gs g × IsSame c g
+  pub up : (g : V3) → Contains gs g → pos 0 ≤ℤ dot g d → Contains cs g
+  pub down : (g : V3) → Contains gs g → dot g d ≤ℤ pos 0 → Contains cs (negative g)
 
 turned_up : (p q : ℤ) → p ≡ neg_ℤ q → q ≤ℤ pos 0 → pos 0 ≤ℤ p
 turned_up p q e h = omega (arith, ints)
@@ -112,7 +112,7 @@ module _ (d g : V3) (gs : List V3) (rest : Conditions d gs) where
       by_lt_z {P = Conditions d (g ∷ gs)} (dot g d) (pos 0) turned
       (λ nonneg. by_lt_z {P = Conditions d (g ∷ gs)} (pos 0) (dot g d) straight (λ low. across nonneg low))
 
-conditions : (d : V3) (gs : List V3) → Conditions d gs
+pub conditions : (d : V3) (gs : List V3) → Conditions d gs
 conditions d [] = record {
   cs = [];
   above = All-nil (λ c. pos 0 ≤ℤ dot c d);
@@ -139,11 +139,10 @@ primitive_signs : (f g : V3) → IsSame f g → IsSame (primitive f) (primitive 
 primitive_signs f g (inl p) = inl (ap primitive p)
 primitive_signs f g (inr p) = inr (ap primitive p ∙ primitive-negative g)
 
--- the direction in which two planes of the list meet, or its negative, on no other side of any of them than d
-pub record HasCornerTowards (gs : List V3) (d : V3) : Type 0 where
+-- v is the direction in which two planes of the list meet, or its negative, on no other side of any of them than d
+pub record IsCornerTowards (gs : List V3) (d v : V3) : Type 0 where
   pub g : V3
   pub h : V3
-  pub v : V3
   pub g_in : Contains gs g
   pub h_in : Contains gs h
   pub independent : cross g h ≢ origin
@@ -162,24 +161,29 @@ either d axis gs c in_gs =
     (λ neg. inr (c.down axis in_gs (weaken (dot axis d) neg)))
     (λ nonneg. inl (c.up axis in_gs nonneg))
 
-pub corner_towards : (gs : List V3) (d : V3) → HoldsAxes gs → d ≢ origin → HasCornerTowards gs d
-corner_towards gs d axes some =
-    let c = conditions d gs in
-    let corner = corner_lemma c.cs d (record { x = either d (vector (pos 1) (pos 0) (pos 0)) gs c axes.x; y = either d (vector (pos 0) (pos 1) (pos 0)) gs c axes.y; z = either d (vector (pos 0) (pos 0) (pos 1)) gs c axes.z }) some c.above in
-    let cr = corner.crossing in
+pub have_axes : (d : V3) (gs : List V3) (c : Conditions d gs) → HoldsAxes gs → HasAxes c.cs
+have_axes d gs c axes = record { x = either d (vector (pos 1) (pos 0) (pos 0)) gs c axes.x; y = either d (vector (pos 0) (pos 1) (pos 0)) gs c axes.y; z = either d (vector (pos 0) (pos 0) (pos 1)) gs c axes.z }
+
+-- a crossing of the conditions that is above them
+pub is_corner : (d v : V3) (gs : List V3) (c : Conditions d gs) → IsCrossing c.cs v → IsAbove v c.cs → IsCornerTowards gs d v
+is_corner d v gs c cr above =
     let (g, g_in, g_same) = c.only cr.g cr.g_in in
     let (h, h_in, h_same) = c.only cr.h cr.h_in in
-    let same = cross_signs cr.g cr.h g h g_same h_same in
-    let v = corner.v in record {
+    let same = cross_signs cr.g cr.h g h g_same h_same in record {
       g = g;
       h = h;
-      v = v;
       g_in = g_in;
       h_in = h_in;
       independent = some_signs (cross cr.g cr.h) (cross g h) same cr.independent;
       is = subst (λ z. IsSame z (primitive (cross g h))) (sym cr.is) (primitive_signs (cross cr.g cr.h) (cross g h) same);
       towards = λ m m_in. record {
-        up = λ u. All-contains (λ c. pos 0 ≤ℤ dot c v) c.cs m corner.above (c.up m m_in u);
-        down = λ u. turned_down (dot (negative m) v) (dot m v) (negative_dot m v) (All-contains (λ c. pos 0 ≤ℤ dot c v) c.cs (negative m) corner.above (c.down m m_in u));
+        up = λ u. All-contains (λ c. pos 0 ≤ℤ dot c v) c.cs m above (c.up m m_in u);
+        down = λ u. turned_down (dot (negative m) v) (dot m v) (negative_dot m v) (All-contains (λ c. pos 0 ≤ℤ dot c v) c.cs (negative m) above (c.down m m_in u));
       };
     }
+
+pub corner_towards : (gs : List V3) (d : V3) → HoldsAxes gs → d ≢ origin → (v : V3) × IsCornerTowards gs d v
+corner_towards gs d axes some =
+    let c = conditions d gs in
+    let corner = corner_lemma c.cs d (have_axes d gs c axes) some c.above in
+    (corner.v, is_corner d corner.v gs c corner.crossing corner.above)

@@ -1,11 +1,11 @@
 -- A facet is the primitive vector of the cross product of the two members that it is at right angles to, in one of the two orders; and a direction is reached exactly where it leads ahead of each facet.
-use Rattle.std.proofs.Common.{◌≡◌, ◌↔◌, ℕ, ◌*◌, ◌≢◌, ◌≤◌, sym, ap, subst, ◌∙◌, arith, ℤ, pos, negsuc, ◌*ℤ◌, ◌≤ℤ◌, ◌<ℤ◌, ⊎_elim, List, [], ◌∷◌, mul-le-mul}
+use Rattle.std.proofs.Common.{◌≡◌, ◌↔◌, ℕ, ◌*◌, ◌≢◌, ◌≤◌, sym, ap, subst, ◌∙◌, arith, ℤ, pos, negsuc, ◌*ℤ◌, ◌≤ℤ◌, ◌<ℤ◌, ◌⊎◌, inl, inr, ⊎_elim, List, [], ◌∷◌, mul-le-mul}
 use Rattle.std.proofs.lemmas.Int.{ints, by_lt_z}
 use Rattle.staat_vec.specs.declared.vector.V3.{V3}
-use Rattle.staat_vec.specs.Vectors.{dot, cross, times, origin}
+use Rattle.staat_vec.specs.Vectors.{dot, cross, times, negative, origin}
 use Rattle.staat_vec.specs.Primitives.{IsPrimitive, IsPrimitiveOf, primitive}
-use Rattle.staat_vec.proofs.Ring.{Ex, at, num, ◌⊖◌, ◌⊗◌, ring, ring_by, ring_by_two, zero-mul_ℤ}
-use Rattle.staat_vec.proofs.VecRing.{VEx, dotE, crossE, timesE, values, v0, v1, v2, scale, same_vector, ring3}
+use Rattle.staat_vec.proofs.Ring.{Ex, at, num, ◌⊖◌, ◌⊗◌, ring, ring_by_two, zero-mul_ℤ}
+use Rattle.staat_vec.proofs.VecRing.{VEx, dotE, crossE, timesE, values, v0, v1, v2, scale, same_vector, ring3, cross_turned}
 use Rattle.staat_vec.proofs.Order.{as_positive, cancel_zero}
 use Rattle.staat_model.specs.Cones.{IsSpanning, IsConeFacet, IsCrossing, IsReached}
 use Rattle.staat_vec.proofs.Primitives.{IsPrimitive-some, primitive-is, primitive-only, same_primitive}
@@ -58,30 +58,31 @@ swap_dot : (n g h : V3) → dot n (cross h g) ≡ negsuc 0 *ℤ dot n (cross g h
 swap_dot n g h = ring (values (n ∷ g ∷ h ∷ []) []) (dotE v0 (crossE v2 v1)) (num (negsuc 0) ⊗ dotE v0 (crossE v1 v2)) tt
 
 pub swap_zero : (g h : V3) → cross h g ≡ origin → cross g h ≡ origin
-swap_zero g h e =
-    let ρ = values (g ∷ h ∷ []) [] in
-    let l : VEx = crossE v0 v1 in
-    let r : VEx = crossE v1 v0 in
-    let o : Ex = num (pos 0) in
-    let m : Ex = num (negsuc 0) in
-    same_vector (cross g h) origin (ring_by ρ l.x o m r.x o (ap (λ v. v.x) e) tt) (ring_by ρ l.y o m r.y o (ap (λ v. v.y) e) tt) (ring_by ρ l.z o m r.z o (ap (λ v. v.z) e) tt)
+swap_zero g h e = cross_turned g h ∙ ap negative e
 
-pub facet_crosses_lemma : (vs : List V3) (n : V3) → IsConeFacet vs n → IsCrossing vs n
-facet_crosses_lemma vs n f =
-    let t = f.across in
-    let p = f.primitive in
-    let back : cross t.v t.u ≢ origin = λ z. t.independent (swap_zero t.u t.v z) in
-    by_lt_z {P = IsCrossing vs n} (pos 0) (dot n (cross t.u t.v))
-    (λ side. record { g = t.u; h = t.v; g_in = t.u_in; h_in = t.v_in; independent = t.independent; is = primitive-only (cross t.u t.v) n (looks_along n t.u t.v p t.u_on t.v_on t.independent side) })
-    (λ low. by_lt_z {P = IsCrossing vs n} (dot n (cross t.u t.v)) (pos 0)
-    (λ neg. record { g = t.v; h = t.u; g_in = t.v_in; h_in = t.u_in; independent = back; is = primitive-only (cross t.v t.u) n (looks_along n t.v t.u p t.v_on t.u_on back (opposite (dot n (cross t.v t.u)) (dot n (cross t.u t.v)) (swap_dot n t.u t.v) neg)) })
-    (λ nonneg. absurd (not_across n t.u t.v p t.u_on t.v_on t.independent (zero_here (dot n (cross t.u t.v)) low nonneg))))
+-- a primitive vector at right angles to two that are not parallel is that of their cross product, in one of the two orders
+pub across_crosses : (n u v : V3) → IsPrimitive n → cross u v ≢ origin → dot u n ≡ pos 0 → dot v n ≡ pos 0 → (n ≡ primitive (cross u v)) ⊎ (n ≡ primitive (cross v u))
+across_crosses n u v p some on_u on_v =
+    let back : cross v u ≢ origin = λ z. some (swap_zero u v z) in
+    by_lt_z {P = (n ≡ primitive (cross u v)) ⊎ (n ≡ primitive (cross v u))} (pos 0) (dot n (cross u v))
+    (λ side. inl (primitive-only (cross u v) n (looks_along n u v p on_u on_v some side)))
+    (λ low. by_lt_z {P = (n ≡ primitive (cross u v)) ⊎ (n ≡ primitive (cross v u))} (dot n (cross u v)) (pos 0)
+    (λ neg. inr (primitive-only (cross v u) n (looks_along n v u p on_v on_u back (opposite (dot n (cross v u)) (dot n (cross u v)) (swap_dot n u v) neg))))
+    (λ nonneg. absurd (not_across n u v p on_u on_v some (zero_here (dot n (cross u v)) low nonneg))))
   where
     opposite : (p q : ℤ) → p ≡ negsuc 0 *ℤ q → q <ℤ pos 0 → pos 0 <ℤ p
     opposite p q e h = omega (arith, ints)
 
     zero_here : (p : ℤ) → p ≤ℤ pos 0 → pos 0 ≤ℤ p → p ≡ pos 0
     zero_here p h g = omega (arith, ints)
+
+pub facet_crosses_lemma : (vs : List V3) (n : V3) → IsConeFacet vs n → IsCrossing vs n
+facet_crosses_lemma vs n f =
+    let t = f.across in
+    elim (across_crosses n t.u t.v f.primitive t.independent t.u_on t.v_on) [
+      | inl e ↦ record { g = t.u; h = t.v; g_in = t.u_in; h_in = t.v_in; independent = t.independent; is = e }
+      | inr e ↦ record { g = t.v; h = t.u; g_in = t.v_in; h_in = t.u_in; independent = λ z. t.independent (swap_zero t.u t.v z); is = e }
+    ]
 
 -- a positive multiple of a vector other than zero is none
 times_some : (k : ℕ) (p : V3) → 1 ≤ k → p ≢ origin → times k p ≢ origin

@@ -32,6 +32,10 @@ pub mod GraphLemmas
 pub mod VertexLemmas
 pub mod PlaneLemmas
 pub mod CellLemmas
+pub mod RefusalLemmas
+pub mod PlanLemmas
+pub mod EdgeLemmas
+pub mod EndLemmas
 pub mod FirstUse
 pub mod OneCertificate
 pub mod Decimals
@@ -40,3 +44,4 @@ pub mod CertificateLines
 pub mod OneReading
 pub mod Examples
 pub mod CellExamples
+pub mod PointLemmas

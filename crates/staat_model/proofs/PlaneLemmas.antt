@@ -1,7 +1,7 @@
 -- No two planes of a set of parts are parallel.
-use Rattle.std.proofs.Common.{◌≡◌, ◌≢◌, ℕ, zero, suc, refl, sym, ap, subst, ◌∙◌, arith, pos, negsuc, ℤ, List, [], ◌∷◌, ◌++◌, All, Contains}
+use Rattle.std.proofs.Common.{◌≡◌, ◌≢◌, ℕ, zero, suc, refl, sym, ap, subst, ◌∙◌, arith, pos, negsuc, ℤ, List, [], ◌∷◌, ◌++◌, All, Contains, ⊎_elim}
 use Rattle.std.proofs.lemmas.Int.{ints}
-use Rattle.std.proofs.lemmas.List.Elements.{All-cons, All-contains}
+use Rattle.std.proofs.lemmas.List.Elements.{All-cons, All-contains, Contains-append_cases}
 use Rattle.std.proofs.lemmas.Map.Views.{All-after_first}
 use Rattle.std.proofs.Math.Nat.{eq-one_of_dvd-one}
 use Rattle.std.specs.Cmp.{int_cmp_is}
@@ -89,3 +89,10 @@ pub planes_apart : (parts : List Part) (w : PartSet) (planes : List V3) → AreP
 planes_apart parts w planes are =
     let normal : (g : V3) → Contains are.others g → IsNormal g = λ g c. wall_normal parts w g (are.others_are.each g c).0 in
     subst NoneParallel (sym are.is) (with_axes are.others normal (λ g c. (are.others_are.each g c).1) (sorted_apart are.others normal are.others_are.ascending))
+
+pub plane_normal : (parts : List Part) (w : PartSet) (planes : List V3) (g : V3) → ArePlanes parts w planes → Contains planes g → IsNormal g
+plane_normal parts w planes g are has =
+    ⊎_elim (axis_normal g) (λ c. wall_normal parts w g (are.others_are.each g c).0) (Contains-append_cases axes are.others g (subst (λ gs. Contains gs g) are.is has))
+
+pub plane_some : (parts : List Part) (w : PartSet) (planes : List V3) (g : V3) → ArePlanes parts w planes → Contains planes g → g ≢ origin
+plane_some parts w planes g are has = let n = plane_normal parts w planes g are has in IsPrimitive-some g n.primitive

@@ -5,7 +5,7 @@ use Rattle.std.proofs.lemmas.List.Elements.{Contains-append_left, Contains-appen
 use Rattle.staat_vec.specs.declared.vector.V3.{V3}
 use Rattle.staat_vec.specs.Vectors.{vector, cross, negative, origin}
 use Rattle.staat_vec.specs.Primitives.{primitive}
-use Rattle.staat_vec.proofs.VecRing.{crossE, negativeE, originE, values, v0, v1, ring3}
+use Rattle.staat_vec.proofs.VecRing.{cross_self, cross_turned}
 use Rattle.staat_vec.proofs.Primitives.{IsPrimitive-some, primitive-is, primitive-negative}
 use Rattle.staat_vec.proofs.Canons.{negative-negative}
 use Rattle.staat_model.specs.declared.assembly.Part.{Part}
@@ -23,12 +23,6 @@ use Rattle.staat_model.proofs.RestrictLemmas.{rest_apart, rest_within}
 use Rattle.staat_model.proofs.GraphLemmas.{axis_in, border_towards, arc_from_border}
 
 -- ---- the list of vertices holds each crossing and its negative
-
-cross_self : (g : V3) → cross g g ≡ origin
-cross_self g = ring3 (values (g ∷ []) []) (crossE v0 v0) originE (tt, tt, tt)
-
-cross_turned : (g h : V3) → cross g h ≡ negative (cross h g)
-cross_turned g h = ring3 (values (g ∷ h ∷ []) []) (crossE v0 v1) (negativeE (crossE v1 v0)) (tt, tt, tt)
 
 -- the vector or its negative stands in a list that has both
 both_in : (vs : List V3) (f v : V3) → Contains vs f → Contains vs (negative f) → IsSame v f → Contains vs v
@@ -83,11 +77,11 @@ same_some v f (inr p) some e = some (sym (negative-negative f) ∙ ap negative (
 
 pub vertex_on_border_lemma : (planes : List V3) (d : V3) → HoldsAxes planes → d ≢ origin → HasBorderVertex planes d
 vertex_on_border_lemma planes d axes some =
-    let c = corner_towards planes d axes some in record {
-      v = c.v;
-      vertex = in_vertices planes c.g c.h c.v c.g_in c.h_in c.independent c.is;
-      nonzero = same_some c.v (primitive (cross c.g c.h)) c.is (IsPrimitive-some (primitive (cross c.g c.h)) (let p = primitive-is (cross c.g c.h) c.independent in p.primitive));
-      border = border_towards planes d c.v c.towards;
+    let (v, c) = corner_towards planes d axes some in record {
+      v = v;
+      vertex = in_vertices planes c.g c.h v c.g_in c.h_in c.independent c.is;
+      nonzero = same_some v (primitive (cross c.g c.h)) c.is (IsPrimitive-some (primitive (cross c.g c.h)) (let p = primitive-is (cross c.g c.h) c.independent in p.primitive));
+      border = border_towards planes d v c.towards;
     }
 
 -- what is free along a direction is free on the border of its cell

@@ -30,10 +30,11 @@ pub record IsCombined (vs : List V3) (h : V3) : Type 0 where
   pub one_each : length numbers ≡ length vs
   pub is : mix numbers vs ≡ times k h
 
--- for each axis, the axis or its negative stands in the list
+-- the axis or its negative stands in the list
 abbrev pub HasEither : List V3 → V3 → Type 0
 HasEither vs axis = Contains vs axis ⊎ Contains vs (negative axis)
 
+-- each of the three axes does, or its negative
 pub record HasAxes (vs : List V3) : Type 0 where
   pub x : HasEither vs (vector (pos 1) (pos 0) (pos 0))
   pub y : HasEither vs (vector (pos 0) (pos 1) (pos 0))
@@ -48,7 +49,7 @@ pub record IsCrossing (vs : List V3) (v : V3) : Type 0 where
   pub independent : cross g h ≢ origin
   pub is : v ≡ primitive (cross g h)
 
--- a vertex of the cone of the conditions: the planes of two of them meet in it, and it meets all
+-- a vertex of the cone of the conditions that the members give: the planes of two meet in it, and it keeps them all
 pub record HasCorner (vs : List V3) : Type 0 where
   pub v : V3
   pub crossing : IsCrossing vs v

@@ -5,6 +5,10 @@ ghost use Rattle.staat_model.specs.Pieces.{IsPiece};
 ghost use Rattle.staat_model.specs.Meeting.{Meets};
 ghost use Rattle.staat_model.specs.Walls.{IsShown};
 
+pub use crate::cell_laws::{
+    edge_has_ends, edges_add_up, open_cell, point_is_vertex, representative_in_cell,
+    vertex_on_border,
+};
 pub use crate::cone_laws::{
     combine, corner, differences_span, facet_is_crossing, farkas, one_primitive, reached_by_facets,
     two_borders, weights_and_numbers,
@@ -17,8 +21,8 @@ pub use crate::piece_laws::{
     overlap_by_facets,
 };
 pub use crate::plan_laws::{
-    edges_add_up, graph_of_cell, graph_on_border, open_cell, opposite_graph, restrict,
-    stuck_at_vertices, vertex_on_border, vertices_decide,
+    graph_of_cell, graph_on_border, opposite_graph, plan_is_right, refusal_is_right, restrict,
+    stuck_at_vertices, vertices_decide,
 };
 
 /// A wall that shows a piece apart from a list of points along a direction keeps them apart for ever: the piece

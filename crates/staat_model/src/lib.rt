@@ -2,6 +2,7 @@
 #![tactic(auto)]
 
 mod assembly;
+mod cell_laws;
 mod certificate;
 mod cone_laws;
 pub mod laws;

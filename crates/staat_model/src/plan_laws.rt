@@ -1,19 +1,21 @@
 // Laws on assemblies, their planes and their plans. Each is a function that does nothing, and its contract is the law.
-ghost use Rattle.std.specs.Prelude.{◌≡◌, ◌≢◌, ◌≤◌, ◌↔◌, ℕ, List, Contains};
+ghost use Rattle.std.specs.Prelude.{◌≡◌, ◌≤◌, ◌↔◌, ℕ, List, Contains, length};
 ghost use Rattle.std.specs.FinSet as set;
 ghost use Rattle.staat_vec.specs.declared.vector.V3.{V3 as Vector};
-ghost use Rattle.staat_vec.specs.declared.vector.Sign.{Sign as SignValue};
-ghost use Rattle.staat_vec.specs.Vectors.{origin, plus, negative};
+ghost use Rattle.staat_vec.specs.Vectors.{negative};
 ghost use Rattle.staat_model.specs.declared.assembly.Part.{Part as PartValue};
 ghost use Rattle.staat_model.specs.declared.set.PartSet.{PartSet as PartSetValue};
-ghost use Rattle.staat_model.specs.declared.tree.Kind.TheVariants.{Edge, Open};
-ghost use Rattle.staat_model.specs.Sets.{AreApart, Has, IsSide, IsSubset};
+ghost use Rattle.staat_model.specs.Sets.{AreApart, Has, IsSide, IsSubset, below};
 ghost use Rattle.staat_model.specs.Assemblies.{IsAssembly};
 ghost use Rattle.staat_model.specs.Removal.{Blocks, IsFree};
 ghost use Rattle.staat_model.specs.Plans.{IsGood, IsStuck, Plan};
 ghost use Rattle.staat_model.specs.Planes.{ArePlanes, vertices};
-ghost use Rattle.staat_model.specs.Cells.{IsBorder, IsCell, kind_of, signs_of};
-ghost use Rattle.staat_model.specs.Borders.{HasBorderVertex, HasFreeVertex, HasTwoEdges};
+ghost use Rattle.staat_model.specs.Cells.{IsBorder, signs_of};
+ghost use Rattle.staat_model.specs.declared.certificate.Dir.{Dir as DirValue};
+ghost use Rattle.staat_model.specs.declared.certificate.Node.{Node as NodeValue};
+ghost use Rattle.staat_model.specs.declared.certificate.Witness.{Witness as WitnessValue};
+ghost use Rattle.staat_model.specs.Certificates.{PlanHolds, RefusalHolds, WalledPlan, nodes_of, unwalled};
+ghost use Rattle.staat_model.specs.Borders.{HasFreeVertex};
 
 /// A set of parts that is stuck rules out every plan of every set that holds it.
 pub fn restrict()
@@ -35,11 +37,6 @@ pub fn graph_of_cell()
     ensures { (parts : List PartValue) (w : PartSetValue) (planes : List Vector) (d e : Vector) → IsAssembly parts → ArePlanes parts w planes → signs_of planes d ≡ signs_of planes e → (a b : ℕ) → Has w a → Has w b → Blocks parts d a b ↔ Blocks parts e a b }
 {}
 
-/// Each cell has a vertex on its border, or is one.
-pub fn vertex_on_border()
-    ensures { (parts : List PartValue) (w : PartSetValue) (planes : List Vector) (d : Vector) → ArePlanes parts w planes → d ≢ origin → HasBorderVertex planes d }
-{}
-
 /// Vertices decide: parts of a set that are free of others of the set along some direction are free of them along a
 /// vertex of the set's planes.
 pub fn vertices_decide()
@@ -51,12 +48,14 @@ pub fn stuck_at_vertices()
     ensures { (parts : List PartValue) (w : PartSetValue) (planes : List Vector) → IsAssembly parts → ArePlanes parts w planes → 2 ≤ set.len w → ((v : Vector) (s : PartSetValue) → Contains (vertices planes) v → IsSide w s → IsFree parts s (set.difference w s) v → ⊥) → IsStuck parts w }
 {}
 
-/// An open cell has two edges on its border.
-pub fn open_cell()
-    ensures { (parts : List PartValue) (w : PartSetValue) (planes : List Vector) (s : List SignValue) → ArePlanes parts w planes → IsCell planes s → kind_of s ≡ Open → HasTwoEdges planes s }
+/// A certificate's plan that keeps its rules takes all parts of the assembly apart, and at no split do the two sides
+/// ever meet.
+pub fn plan_is_right()
+    ensures { (parts : List PartValue) (stated : ℕ) (nodes : List NodeValue) → IsAssembly parts → PlanHolds parts stated nodes → (tree : WalledPlan) × (nodes ≡ nodes_of tree) × IsGood parts (below (length parts)) (unwalled tree) }
 {}
 
-/// Directions on two different edges on the border of a cell add up to a direction in the cell.
-pub fn edges_add_up()
-    ensures { (planes : List Vector) (s e f : List SignValue) (u v : Vector) → kind_of e ≡ Edge → kind_of f ≡ Edge → IsBorder e s → IsBorder f s → e ≢ f → signs_of planes u ≡ e → signs_of planes v ≡ f → signs_of planes (plus u v) ≡ s }
+/// A certificate's refusal that keeps its rules names a set that is stuck, and no plan takes all parts apart: from the
+/// root no part of a side that is free is reached, or all parts are.
+pub fn refusal_is_right()
+    ensures { (parts : List PartValue) (stated : ℕ) (w : PartSetValue) (witnesses : List WitnessValue) (dirs : List DirValue) → IsAssembly parts → RefusalHolds parts stated w witnesses dirs → IsStuck parts w × ((plan : Plan) → IsGood parts (below (length parts)) plan → ⊥) }
 {}

@@ -1,7 +1,7 @@
 -- Expressions for vectors, in step with the operations on vectors: the ring tactic for equations of vectors and of their products.
-use Rattle.std.proofs.Common.{◌≡◌, ℤ, pos, ◌-ℤ◌, ◌*ℤ◌, neg_ℤ, List, [], ◌∷◌, T}
+use Rattle.std.proofs.Common.{◌≡◌, ℤ, pos, ◌*ℤ◌, neg_ℤ, List, [], ◌∷◌, T}
 use Rattle.staat_vec.specs.declared.vector.V3.{V3}
-use Rattle.staat_vec.specs.Vectors.{vector, dot, cross, negative}
+use Rattle.staat_vec.specs.Vectors.{vector, origin, dot, cross, negative}
 use Rattle.staat_vec.proofs.Ring.{Ex, at, num, ◌⊕◌, ◌⊖◌, ◌⊗◌, opp, eval, ring, norm, no_term}
 
 -- a number of either sign times a vector; `times n v` is `scale (pos n) v`
@@ -105,6 +105,8 @@ dot_cross_left a b = ring (values (a ∷ b ∷ []) []) (dotE v0 (crossE v0 v1)) 
 pub dot_cross_right : (a b : V3) → dot b (cross a b) ≡ pos 0
 dot_cross_right a b = ring (values (a ∷ b ∷ []) []) (dotE v1 (crossE v0 v1)) (num (pos 0)) tt
 
--- Lagrange
-pub lagrange : (a b c d : V3) → dot (cross a b) (cross c d) ≡ dot a c *ℤ dot b d -ℤ dot a d *ℤ dot b c
-lagrange a b c d = ring (values (a ∷ b ∷ c ∷ d ∷ []) []) (dotE (crossE v0 v1) (crossE v2 v3)) (dotE v0 v2 ⊗ dotE v1 v3 ⊖ dotE v0 v3 ⊗ dotE v1 v2) tt
+pub cross_self : (a : V3) → cross a a ≡ origin
+cross_self a = ring3 (values (a ∷ []) []) (crossE v0 v0) originE (tt, tt, tt)
+
+pub cross_turned : (a b : V3) → cross a b ≡ negative (cross b a)
+cross_turned a b = ring3 (values (a ∷ b ∷ []) []) (crossE v0 v1) (negativeE (crossE v1 v0)) (tt, tt, tt)

@@ -12,3 +12,6 @@ pub use memory::OutOfMemory;
 pub use products::{add, cross_diff, cross_normal, det, dot, neg, order_on, sign_dot, sub};
 pub use rays::{canon, primitive};
 pub use vector::{DIFF, DIRECTION, EDGE, NORMAL, POINT, Sign, V3, VERTEX};
+
+#[cfg(test)]
+mod tests;

@@ -154,11 +154,12 @@ pub fn sign_dot(n: V3, d: V3) -> Sign
     sign_of(dot(n, d))
 }
 
-/// How `a x n` stands to `b x n` on the circle of the plane `n`: the sign of `det(n, a, b)`, with
-/// the conditions of [`det`].
+/// The sign of `det(n, a, b)`, with the conditions of [`det`]: the order of the vectors `n x a` and
+/// `n x b` on the circle of the plane `n`.
 ///
-/// Since `(n x a) x (n x b) = det(n, a, b) * n`, it says which of the two vertices comes first when
-/// the circle is passed counterclockwise as seen from the tip of `n`, with no product of vertices.
+/// Since `(n x a) x (n x b) = det(n, a, b) * n`, the sign is positive where the second is less than a
+/// half turn from the first, counterclockwise as seen from the tip of `n`, and zero where the two are
+/// parallel. So no product of the vectors themselves is formed.
 pub fn order_on(n: V3, a: V3, b: V3) -> Sign
     requires n { IsWithin NORMAL n }
     requires a { IsWithin NORMAL a }

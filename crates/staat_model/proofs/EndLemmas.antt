@@ -1,0 +1,252 @@
+-- The two ends of an edge, as vertices on its border, and their sum.
+use Rattle.std.proofs.Common.{◌≡◌, ◌≢◌, ℕ, zero, suc, ◌+◌, ◌<◌, get_or, refl, sym, ap, subst, ◌∙◌, arith, ℤ, pos, neg_ℤ, ◌≤ℤ◌, ◌<ℤ◌, ◌⊎◌, inl, inr, ⊎_elim, List, [], ◌∷◌, Contains}
+use Rattle.std.proofs.lemmas.Int.{ints, by_lt_z}
+use Rattle.std.proofs.lemmas.List.Elements.{All-contains, Contains-append_cases}
+use Rattle.std.proofs.lemmas.Map.Keys.{sorted_from_all_adjacent}
+use Rattle.std.proofs.lemmas.Map.Views.{All-after_first}
+use Rattle.std.specs.Ordering.{ordering_reverse}
+use Rattle.std.specs.declared.cmp.Ordering.{Ordering}
+use Rattle.std.specs.declared.cmp.Ordering.TheVariants.{Less, Equal, Greater}
+use Rattle.std.specs.List.Sorted.{IsStrictlySortedBy}
+use Rattle.staat_vec.specs.declared.vector.V3.{V3}
+use Rattle.staat_vec.specs.declared.vector.Sign.{Sign}
+use Rattle.staat_vec.specs.declared.vector.Sign.TheVariants.{Neg, Zero, Pos}
+use Rattle.staat_vec.specs.Vectors.{dot, cross, plus, negative, origin, sign, vector_cmp}
+use Rattle.staat_vec.specs.Primitives.{primitive}
+use Rattle.staat_vec.proofs.VecRing.{crossE, dotE, negativeE, plusE, values, v0, v1, ring3, negative_dot, dot_negative, dot_cross_left, dot_cross_right}
+use Rattle.staat_vec.proofs.Ring.{ring}
+use Rattle.staat_model.specs.declared.tree.Kind.TheVariants.{Edge}
+use Rattle.staat_model.specs.Lists.{Lists}
+use Rattle.staat_model.specs.Planes.{vertices, crossings}
+use Rattle.staat_model.specs.Cells.{signs_of, kind_of, IsBorder, IsCell, IsEnd, IsEdgeSum}
+use Rattle.staat_model.proofs.Members.{here, there}
+use Rattle.staat_model.proofs.Orders.{vector_exact, vector_total}
+use Rattle.staat_model.proofs.Corners.{HoldsAxes, IsSame, IsCornerTowards}
+use Rattle.staat_model.proofs.GraphLemmas.{border_towards, towards_border, zero_sign}
+use Rattle.staat_model.proofs.VertexLemmas.{in_vertices}
+use Rattle.staat_model.proofs.PlaneLemmas.{NoneParallel}
+use Rattle.staat_model.proofs.CellLemmas.{zeros, zeros-cons, edge_zeros, off_all, Covers, sum_covers}
+use Rattle.staat_model.proofs.EdgeLemmas.{IsOnOne, IsAhead, IsTip, ahead, tip, cross_positive, same_tip, same_tip_low, tip_aside, not_both}
+
+-- ---- the planes of a vertex
+
+-- two planes of the list that are not parallel, and on whose crossing v lies
+record FromTwo (gs : List V3) (v : V3) : Type 0 where
+  g : V3
+  h : V3
+  g_in : Contains gs g
+  h_in : Contains gs h
+  independent : cross g h ≢ origin
+  is : IsSame v (primitive (cross g h))
+
+from_crossings : (g : V3) (hs : List V3) (v : V3) → Contains (crossings g hs) v → (h : V3) × Contains hs h × IsSame v (primitive (cross g h))
+from_crossings g [] v (k, lt, e) = absurd (omega arith)
+from_crossings g (h ∷ hs) v (zero, lt, e) = (h, here h hs, inl (sym e))
+from_crossings g (h ∷ hs) v (suc zero, lt, e) = (h, here h hs, inr (sym e))
+from_crossings g (h ∷ hs) v (suc (suc k), lt, e) = let (m, c, s) = from_crossings g hs v (k, omega arith, e) in (m, there h m hs c, s)
+
+from_vertices : (gs : List V3) (v : V3) → NoneParallel gs → Contains (vertices gs) v → FromTwo gs v
+from_vertices [] v apart (k, lt, e) = absurd (omega arith)
+from_vertices (g ∷ gs) v (head, rest) has = go (Contains-append_cases (crossings g gs) (vertices gs) v has) (from_vertices gs v rest)
+  where
+    go : Contains (crossings g gs) v ⊎ Contains (vertices gs) v → (Contains (vertices gs) v → FromTwo gs v) → FromTwo (g ∷ gs) v
+    go (inl c) ih = let (h, in_gs, same) = from_crossings g gs v c in record { g = g; h = h; g_in = here g gs; h_in = there g h gs in_gs; independent = All-contains (λ h. cross g h ≢ origin) gs h head in_gs; is = same }
+    go (inr c) ih = let f = ih c in record { g = f.g; h = f.h; g_in = there g f.g gs f.g_in; h_in = there g f.h gs f.h_in; independent = f.independent; is = f.is }
+
+-- the vertices on the border of d's cell are the crossings on no other side than d
+end_corner : (planes : List V3) (d v : V3) → NoneParallel planes → IsEnd planes (signs_of planes d) v → IsCornerTowards planes d v
+end_corner planes d v apart end =
+    let f = from_vertices planes v apart end.vertex in
+    record { g = f.g; h = f.h; g_in = f.g_in; h_in = f.h_in; independent = f.independent; is = f.is; towards = towards_border planes d v end.border }
+
+corner_end : (planes : List V3) (d v : V3) → IsCornerTowards planes d v → IsEnd planes (signs_of planes d) v
+corner_end planes d v c = record { vertex = in_vertices planes c.g c.h v c.g_in c.h_in c.independent c.is; border = border_towards planes d v c.towards }
+
+-- ---- the plane of an edge
+
+some_sign : (a : ℤ) → sign a ≢ Zero → a ≢ pos 0
+some_sign a n e = n (ap sign e)
+
+pub on_one : (gs : List V3) (d : V3) → zeros (signs_of gs d) ≡ 1 → (c : V3) × Contains gs c × (dot c d ≡ pos 0) × ((g : V3) → Contains gs g → (g ≡ c) ⊎ (dot g d ≢ pos 0))
+on_one [] d e = absurd (omega (arith, e))
+on_one (h ∷ gs) d e = by_head (on_one gs d) (sign (dot h d)) refl
+  where
+    Found : List V3 → Type 0
+    Found gs = (c : V3) × Contains gs c × (dot c d ≡ pos 0) × ((g : V3) → Contains gs g → (g ≡ c) ⊎ (dot g d ≢ pos 0))
+
+    first : zeros (signs_of gs d) ≡ 0 → dot h d ≡ pos 0 → (g : V3) → Contains (h ∷ gs) g → (g ≡ h) ⊎ (dot g d ≢ pos 0)
+    first none at g (zero, lt, p) = inl (sym p)
+    first none at g (suc k, lt, p) = inr (some_sign (dot g d) (off_all gs d none g (k, omega arith, p)))
+
+    later : (c : V3) → sign (dot h d) ≢ Zero → ((g : V3) → Contains gs g → (g ≡ c) ⊎ (dot g d ≢ pos 0)) → (g : V3) → Contains (h ∷ gs) g → (g ≡ c) ⊎ (dot g d ≢ pos 0)
+    later c off only g (zero, lt, p) = inr (λ z. off (ap sign (ap (λ v. dot v d) p ∙ z)))
+    later c off only g (suc k, lt, p) = only g (k, omega arith, p)
+
+    rest_of : (t : Sign) → t ≢ Zero → zeros (t ∷ signs_of gs d) ≡ 1 → zeros (signs_of gs d) ≡ 1
+    rest_of Zero n q = absurd (n refl)
+    rest_of Neg n q = let c = zeros-cons Neg (signs_of gs d) in omega (arith, q, c)
+    rest_of Pos n q = let c = zeros-cons Pos (signs_of gs d) in omega (arith, q, c)
+
+    none_of : zeros (Zero ∷ signs_of gs d) ≡ 1 → zeros (signs_of gs d) ≡ 0
+    none_of q = let c = zeros-cons Zero (signs_of gs d) in omega (arith, q, c)
+
+    further : sign (dot h d) ≢ Zero → Found gs → Found (h ∷ gs)
+    further off (c, c_in, on, only) = (c, there h c gs c_in, on, later c off only)
+
+    by_head : (zeros (signs_of gs d) ≡ 1 → Found gs) → (t : Sign) → sign (dot h d) ≡ t → Found (h ∷ gs)
+    by_head ih Zero q = let none = none_of (subst (λ t. zeros (t ∷ signs_of gs d) ≡ 1) q e) in (h, here h gs, zero_sign (dot h d) q, first none (zero_sign (dot h d) q))
+    by_head ih Neg q = further (λ z. let clash : Neg ≡ Zero = sym q ∙ z in cc) (ih (rest_of (sign (dot h d)) (λ z. let clash : Neg ≡ Zero = sym q ∙ z in cc) e))
+    by_head ih Pos q = further (λ z. let clash : Pos ≡ Zero = sym q ∙ z in cc) (ih (rest_of (sign (dot h d)) (λ z. let clash : Pos ≡ Zero = sym q ∙ z in cc) e))
+
+-- ---- the two ends
+
+covers_all : (gs : List V3) (u v d : V3) → ((g : V3) → Contains gs g → (sign (dot g u) ≡ sign (dot g d)) ⊎ (sign (dot g v) ≡ sign (dot g d))) → Covers (signs_of gs u) (signs_of gs v) (signs_of gs d)
+covers_all [] u v d f = tt
+covers_all (g ∷ gs) u v d f = (f g (here g gs), covers_all gs u v d (λ h c. f h (there g h gs c)))
+
+border_sign : (gs : List V3) (v d : V3) → IsBorder (signs_of gs v) (signs_of gs d) → (g : V3) → Contains gs g → (sign (dot g v) ≡ sign (dot g d)) ⊎ (sign (dot g v) ≡ Zero)
+border_sign [] v d b g (k, lt, e) = absurd (omega arith)
+border_sign (h ∷ gs) v d b g (zero, lt, e) = subst (λ z. (sign (dot z v) ≡ sign (dot z d)) ⊎ (sign (dot z v) ≡ Zero)) e b.0
+border_sign (h ∷ gs) v d b g (suc k, lt, e) = border_sign gs v d b.1 g (k, omega arith, e)
+
+sorted_pair : (u v : V3) → vector_cmp u v ≡ Less → IsStrictlySortedBy vector_cmp (u ∷ v ∷ [])
+sorted_pair u v less = sorted_from_all_adjacent vector_total (u ∷ v ∷ []) u next
+  where
+    next : (k : ℕ) → k + 1 < 2 → vector_cmp (get_or (u ∷ v ∷ []) k u) (get_or (u ∷ v ∷ []) (k + 1) u) ≡ Less
+    next zero lt = less
+    next (suc k) lt = absurd (omega arith)
+
+swap_plus : (u v : V3) → plus u v ≡ plus v u
+swap_plus u v = ring3 (values (u ∷ v ∷ []) []) (plusE v0 v1) (plusE v1 v0) (tt, tt, tt)
+
+same_less : (u : V3) → vector_cmp u u ≡ Less → ⊥
+same_less u e = go (vector_cmp u u) refl e
+  where
+    turned : vector_cmp u u ≡ ordering_reverse (vector_cmp u u)
+    turned = vector_total.antisymm u u
+
+    go : (o : Ordering) → vector_cmp u u ≡ o → vector_cmp u u ≡ Less → ⊥
+    go o p e = let clash : Less ≡ Greater = sym e ∙ turned ∙ ap ordering_reverse e in cc
+
+module _ (planes : List V3) (d c : V3) (axes : HoldsAxes planes) (apart : NoneParallel planes) (one : IsOnOne planes d c) (some_c : c ≢ origin) where
+  square : pos 0 <ℤ dot (cross c d) (cross c d)
+  square = cross_positive c d some_c one.some one.on
+
+  -- the end on the side of c x d
+  front : IsAhead planes d (cross c d)
+  front = ahead planes d c (cross c d) axes one (dot_cross_left c d) (ring (values (c ∷ d ∷ []) []) (dotE (crossE v0 v1) v1) (dotE v1 (crossE v0 v1)) tt ∙ dot_cross_right c d) square
+
+  opposite_zero : (p q : ℤ) → p ≡ neg_ℤ q → q ≡ pos 0 → p ≡ pos 0
+  opposite_zero p q e h = omega (arith, ints)
+
+  -- the end on the other side
+  rear : IsAhead planes d (negative (cross c d))
+  rear = ahead planes d c (negative (cross c d)) axes one
+      (opposite_zero (dot c (negative (cross c d))) (dot c (cross c d)) (dot_negative c (cross c d)) (dot_cross_left c d))
+      (opposite_zero (dot (negative (cross c d)) d) (dot (cross c d) d) (negative_dot (cross c d) d) (ring (values (c ∷ d ∷ []) []) (dotE (crossE v0 v1) v1) (dotE v1 (crossE v0 v1)) tt ∙ dot_cross_right c d))
+      (subst (λ z. pos 0 <ℤ z) (ring (values (c ∷ d ∷ []) []) (dotE (crossE v0 v1) (crossE v0 v1)) (dotE (negativeE (crossE v0 v1)) (negativeE (crossE v0 v1))) tt) square)
+
+  front_tip : (w : V3) → IsEnd planes (signs_of planes d) w → IsTip planes d c w
+  front_tip w end = tip planes d c w one (end_corner planes d w apart end)
+
+  low_side : pos 0 <ℤ dot (negative (cross c d)) rear.v → dot (cross c d) rear.v <ℤ pos 0
+  low_side h = turned (dot (negative (cross c d)) rear.v) (dot (cross c d) rear.v) (negative_dot (cross c d) rear.v) h
+    where
+      turned : (p q : ℤ) → p ≡ neg_ℤ q → pos 0 <ℤ p → q <ℤ pos 0
+      turned p q e h = omega (arith, ints)
+
+  -- one of the two is each end
+  either_end : (w : V3) → IsEnd planes (signs_of planes d) w → (w ≡ front.v) ⊎ (w ≡ rear.v)
+  either_end w end =
+      let tw = front_tip w end in
+      by_lt_z {P = (w ≡ front.v) ⊎ (w ≡ rear.v)} (pos 0) (dot (cross c d) w)
+      (λ high. inl (same_tip planes d c axes one some_c w front.v tw (tip planes d c front.v one front.corner) high front.side))
+      (λ not_high. by_lt_z {P = (w ≡ front.v) ⊎ (w ≡ rear.v)} (dot (cross c d) w) (pos 0)
+      (λ low. inr (same_tip_low planes d c axes one some_c w rear.v tw (tip planes d c rear.v one rear.corner) low (low_side rear.side)))
+      (λ not_low. absurd (tip_aside planes d c axes one some_c w tw (zero_here (dot (cross c d) w) not_high not_low))))
+    where
+      zero_here : (p : ℤ) → p ≤ℤ pos 0 → pos 0 ≤ℤ p → p ≡ pos 0
+      zero_here p h g = omega (arith, ints)
+
+  -- the sum of the two lies on the edge
+  sum_on : signs_of planes (plus front.v rear.v) ≡ signs_of planes d
+  sum_on =
+      let bu = border_towards planes d front.v front.corner.towards in
+      let bv = border_towards planes d rear.v rear.corner.towards in
+      sum_covers planes front.v rear.v (signs_of planes d)
+      (covers_all planes front.v rear.v d (λ g g_in. at g g_in (one.only g g_in) (border_sign planes front.v d bu g g_in) (border_sign planes rear.v d bv g g_in)))
+      bu bv
+    where
+      tu : IsTip planes d c front.v
+      tu = tip planes d c front.v one front.corner
+
+      tv : IsTip planes d c rear.v
+      tv = tip planes d c rear.v one rear.corner
+
+      at : (g : V3) → Contains planes g → (g ≡ c) ⊎ (dot g d ≢ pos 0) → (sign (dot g front.v) ≡ sign (dot g d)) ⊎ (sign (dot g front.v) ≡ Zero) → (sign (dot g rear.v) ≡ sign (dot g d)) ⊎ (sign (dot g rear.v) ≡ Zero)
+          → (sign (dot g front.v) ≡ sign (dot g d)) ⊎ (sign (dot g rear.v) ≡ sign (dot g d))
+      at g g_in place (inl p) q = inl p
+      at g g_in place (inr z) (inl q) = inr q
+      at g g_in (inl e) (inr z) (inr y) = inl (ap sign (ap (λ v. dot v front.v) e ∙ tu.on_c) ∙ sym (ap sign (ap (λ v. dot v d) e ∙ one.on)))
+      at g g_in (inr off) (inr z) (inr y) = absurd (not_both planes d c axes one some_c front.v rear.v g tu tv front.side (low_side rear.side) off (zero_sign (dot g front.v) z) (zero_sign (dot g rear.v) y))
+
+  front_end : IsEnd planes (signs_of planes d) front.v
+  front_end = corner_end planes d front.v front.corner
+
+  rear_end : IsEnd planes (signs_of planes d) rear.v
+  rear_end = corner_end planes d rear.v rear.corner
+
+  pair_lists : (u v : V3) → IsEnd planes (signs_of planes d) u → IsEnd planes (signs_of planes d) v → ((w : V3) → IsEnd planes (signs_of planes d) w → (w ≡ u) ⊎ (w ≡ v)) → vector_cmp u v ≡ Less → Lists vector_cmp (IsEnd planes (signs_of planes d)) (u ∷ v ∷ [])
+  pair_lists u v eu ev all less = record { ascending = sorted_pair u v less; each = each; all = λ w end. ⊎_elim (λ e. (0, omega arith, sym e)) (λ e. (1, omega arith, sym e)) (all w end) }
+    where
+      each : (w : V3) → Contains (u ∷ v ∷ []) w → IsEnd planes (signs_of planes d) w
+      each w (zero, lt, e) = subst (λ z. IsEnd planes (signs_of planes d) z) e eu
+      each w (suc zero, lt, e) = subst (λ z. IsEnd planes (signs_of planes d) z) e ev
+      each w (suc (suc k), lt, e) = absurd (omega arith)
+
+  -- the edge has a representative
+  has_sum : (e : V3) × IsEdgeSum planes (signs_of planes d) e
+  has_sum = by_order (vector_cmp front.v rear.v) refl
+    where
+      different : front.v ≡ rear.v → ⊥
+      different e = clash (dot (cross c d) front.v) (dot (cross c d) rear.v) front.side (low_side rear.side) (ap (dot (cross c d)) e)
+        where
+          clash : (p q : ℤ) → pos 0 <ℤ p → q <ℤ pos 0 → p ≡ q → ⊥
+          clash p q h g e = omega (arith, ints)
+
+      by_order : (o : Ordering) → vector_cmp front.v rear.v ≡ o → (e : V3) × IsEdgeSum planes (signs_of planes d) e
+      by_order Less p = (plus front.v rear.v, record { u = front.v; v = rear.v; ends = pair_lists front.v rear.v front_end rear_end either_end p; is = refl })
+      by_order Equal p = absurd (different (vector_exact front.v rear.v p))
+      by_order Greater p =
+          let less : vector_cmp rear.v front.v ≡ Less = vector_total.antisymm rear.v front.v ∙ ap ordering_reverse p in
+          (plus rear.v front.v, record { u = rear.v; v = front.v; ends = pair_lists rear.v front.v rear_end front_end (λ w end. ⊎_elim (λ e. inr e) (λ e. inl e) (either_end w end)) less; is = refl })
+
+  -- and any representative lies on the edge
+  sum_in : (e : V3) → IsEdgeSum planes (signs_of planes d) e → signs_of planes e ≡ signs_of planes d
+  sum_in e s = ap (signs_of planes) s.is ∙ go (either_end s.u (ends.each s.u (0, omega arith, refl))) (either_end s.v (ends.each s.v (1, omega arith, refl)))
+    where
+      ends : Lists vector_cmp (IsEnd planes (signs_of planes d)) (s.u ∷ s.v ∷ [])
+      ends = s.ends
+
+      apart_ends : s.u ≡ s.v → ⊥
+      apart_ends p = same_less s.v (subst (λ z. vector_cmp z s.v ≡ Less) p (All-contains (λ q. vector_cmp s.u q ≡ Less) (s.v ∷ []) s.v (All-after_first vector_cmp s.u (s.v ∷ []) ends.ascending) (0, omega arith, refl)))
+
+      go : (s.u ≡ front.v) ⊎ (s.u ≡ rear.v) → (s.v ≡ front.v) ⊎ (s.v ≡ rear.v) → signs_of planes (plus s.u s.v) ≡ signs_of planes d
+      go (inl p) (inl q) = absurd (apart_ends (p ∙ sym q))
+      go (inr p) (inr q) = absurd (apart_ends (p ∙ sym q))
+      go (inl p) (inr q) = (λ i. signs_of planes (plus (p i) (q i))) ∙ sum_on
+      go (inr p) (inl q) = (λ i. signs_of planes (plus (p i) (q i))) ∙ ap (signs_of planes) (swap_plus rear.v front.v) ∙ sum_on
+
+-- ---- the law
+
+module _ (planes : List V3) (s : List Sign) (axes : HoldsAxes planes) (apart : NoneParallel planes) (some : (g : V3) → Contains planes g → g ≢ origin) (cell : IsCell planes s) (edge : kind_of s ≡ Edge) where
+  at_edge : (c : V3) × IsOnOne planes cell.d c
+  at_edge =
+      let (c, c_in, on, only) = on_one planes cell.d (ap zeros cell.is ∙ edge_zeros s edge) in
+      (c, record { some = cell.nonzero; c_in = c_in; on = on; only = only })
+
+  pub edge_has_sum : (d : V3) × IsEdgeSum planes s d
+  edge_has_sum = let (c, one) = at_edge in subst (λ t. (d : V3) × IsEdgeSum planes t d) cell.is (has_sum planes cell.d c axes apart one (some c one.c_in))
+
+  pub edge_sum_in : (e : V3) → IsEdgeSum planes s e → signs_of planes e ≡ s
+  edge_sum_in e sum = let (c, one) = at_edge in sum_in planes cell.d c axes apart one (some c one.c_in) e (subst (λ t. IsEdgeSum planes t e) (sym cell.is) sum) ∙ cell.is

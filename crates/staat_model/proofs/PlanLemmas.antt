@@ -1,0 +1,140 @@
+-- A plan that keeps its rules is right: it takes all parts apart, and no interiors ever meet.
+use Rattle.std.proofs.Common.{◌≡◌, ℕ, zero, suc, ◌<◌, refl, sym, ap, subst, ◌∙◌, arith, ◌⊎◌, inl, inr, ⊎_elim, List, [], ◌∷◌, ◌++◌, length}
+use Rattle.std.specs.Prelude.{Some, slice_get, option_map, unwrap_or}
+use Rattle.std.proofs.lemmas.Option.{option_and_then_some, same_Some, slice_get_within}
+use Rattle.std.proofs.lemmas.List.Elements.{All-contains}
+use Rattle.staat_vec.specs.declared.vector.V3.{V3}
+use Rattle.staat_model.specs.declared.assembly.Part.{Part}
+use Rattle.staat_model.specs.declared.set.PartSet.{PartSet}
+use Rattle.staat_model.specs.declared.certificate.Sep.{Sep}
+use Rattle.staat_model.specs.declared.certificate.Node.{Node}
+use Rattle.staat_model.specs.declared.certificate.Node.TheVariants.{Leaf, Split}
+use Rattle.staat_model.specs.Sets.{Has, below}
+use Rattle.staat_model.specs.Walls.{IsShown}
+use Rattle.staat_model.specs.Assemblies.{IsAssembly, piece_at, piece_count}
+use Rattle.staat_model.specs.Removal.{IsFree}
+use Rattle.staat_model.specs.Plans.{IsGood}
+use Rattle.staat_model.specs.Certificates.{WalledPlan, walled_leaf, walled_split, nodes_of, unwalled, walled_parts, IsWall, IsAcross, SplitHolds, SplitsHold, IsLeafAt, PlanHolds}
+use Rattle.staat_model.proofs.Differences.{from_map}
+use Rattle.staat_model.proofs.SetBits.{has-below}
+use Rattle.staat_model.proofs.SetMembers.{has-single, has-union}
+use Rattle.staat_model.proofs.SetWords.{same_members}
+use Rattle.staat_model.proofs.GraphLemmas.{piece_is}
+use Rattle.staat_model.proofs.WallLaws.{wall_keeps_apart}
+
+-- ---- places in a list that is put together
+
+-- the place in xs ++ ys of place k in ys
+after : {X : Type 0} → List X → ℕ → ℕ
+after [] k = k
+after (x ∷ xs) k = suc (after xs k)
+
+after_same : {X : Type 0} (xs : List X) (k m : ℕ) → after xs k ≡ after xs m → k ≡ m
+unfolding after
+after_same [] k m e = e
+after_same (x ∷ xs) k m e = after_same xs k m (omega (arith, e))
+
+get_left : {X : Type 0} (xs ys : List X) (k : ℕ) (x : X) → slice_get xs k ≡ Some x → slice_get (xs ++ ys) k ≡ Some x
+get_left [] ys k x e = cc
+get_left (y ∷ xs) ys zero x e = e
+get_left (y ∷ xs) ys (suc k) x e = get_left xs ys k x e
+
+get_right : {X : Type 0} (xs ys : List X) (k : ℕ) (x : X) → slice_get ys k ≡ Some x → slice_get (xs ++ ys) (after xs k) ≡ Some x
+unfolding after
+get_right [] ys k x e = e
+get_right (y ∷ xs) ys k x e = get_right xs ys k x e
+
+-- the two are different places
+left_not_right : {X : Type 0} (xs : List X) (k m : ℕ) (x : X) → slice_get xs k ≡ Some x → k ≡ after xs m → ⊥
+unfolding after
+left_not_right [] k m x e p = cc
+left_not_right (y ∷ xs) zero m x e p = omega (arith, p)
+left_not_right (y ∷ xs) (suc k) m x e p = left_not_right xs k m x e (omega (arith, p))
+
+get_either : {X : Type 0} (xs ys : List X) (k : ℕ) (x : X) → slice_get (xs ++ ys) k ≡ Some x → ((i : ℕ) × (slice_get xs i ≡ Some x)) ⊎ ((i : ℕ) × (slice_get ys i ≡ Some x))
+get_either [] ys k x e = inr (k, e)
+get_either (y ∷ xs) ys zero x e = inl (0, e)
+get_either (y ∷ xs) ys (suc k) x e = ⊎_elim (λ (i, p). inl (suc i, p)) (λ h. inr h) (get_either xs ys k x e)
+
+-- ---- the leaves of a plan
+
+-- each part stands at one leaf at most
+Once : List Node → Type 0
+Once nodes = (k m p : ℕ) → IsLeafAt nodes k p → IsLeafAt nodes m p → k ≡ m
+
+no_leaf : (d : V3) (seps : List Sep) (p : ℕ) → Some (Split d seps) ≡ Some (Leaf p) → ⊥
+no_leaf d seps p e = let same : Split d seps ≡ Leaf p = same_Some (Split d seps) (Leaf p) e in cc
+
+same_leaf : (p q : ℕ) → Some (Leaf p) ≡ Some (Leaf q) → p ≡ q
+same_leaf p q e = let same : Leaf p ≡ Leaf q = same_Some (Leaf p) (Leaf q) e in cc
+
+-- what stands at a leaf is one of the plan's parts, and each of them stands at one
+leaf_has : (t : WalledPlan) (k p : ℕ) → IsLeafAt (nodes_of t) k p → Has (walled_parts t) p
+leaf_has (walled_leaf q) zero p e = (has-single q p).1 (sym (same_leaf q p e))
+leaf_has (walled_leaf q) (suc k) p e = cc
+leaf_has (walled_split d seps moved rest) zero p e = absurd (no_leaf d seps p e)
+leaf_has (walled_split d seps moved rest) (suc k) p e =
+    (has-union (walled_parts moved) (walled_parts rest) p).1
+    (⊎_elim (λ (i, q). inl (leaf_has moved i p q)) (λ (i, q). inr (leaf_has rest i p q)) (get_either (nodes_of moved) (nodes_of rest) k (Leaf p) e))
+
+has_leaf : (t : WalledPlan) (p : ℕ) → Has (walled_parts t) p → (k : ℕ) × IsLeafAt (nodes_of t) k p
+has_leaf (walled_leaf q) p h = (0, ap (λ n. Some (Leaf n)) (sym ((has-single q p).0 h)))
+has_leaf (walled_split d seps moved rest) p h =
+    ⊎_elim
+    (λ m. let (k, e) = has_leaf moved p m in (suc k, get_left (nodes_of moved) (nodes_of rest) k (Leaf p) e))
+    (λ r. let (k, e) = has_leaf rest p r in (suc (after (nodes_of moved) k), get_right (nodes_of moved) (nodes_of rest) k (Leaf p) e))
+    ((has-union (walled_parts moved) (walled_parts rest) p).0 h)
+
+-- ---- a split
+
+there_is : (parts : List Part) (a i : ℕ) (p : List V3) → piece_at parts a i ≡ Some p → i < piece_count parts a
+there_is parts a i p e =
+    option_and_then_some {P = i < piece_count parts a} (λ part. slice_get part.pieces i) (slice_get parts a) p e
+    (λ part at inside. subst (λ o. i < unwrap_or (option_map (λ part. length part.pieces) o) 0) (sym at) (slice_get_within part.pieces i p inside))
+
+split_free : (parts : List Part) (s r : PartSet) (d : V3) (seps : List Sep) → IsAssembly parts → SplitHolds parts s r d seps → IsFree parts s r d
+split_free parts s r d seps is split = record {
+  moves = split.moves;
+  clear = λ arc a_in b_in m.
+      let listed = split.arcs in
+      let across : IsAcross parts s r arc = record { a_in = a_in; b_in = b_in; i_in = there_is parts arc.a arc.i m.p m.p_is; j_in = there_is parts arc.b arc.j m.q m.q_is } in
+      let (sep, in_seps, same) = from_map (λ sep. sep.arc) seps arc (listed.all arc across) in
+      let wall = All-contains (IsWall parts s r d) seps sep split.walls in_seps in
+      let shown = wall.shown in
+      let same_p : shown.p ≡ m.p = same_Some shown.p m.p (sym shown.p_is ∙ ap (λ arc. piece_at parts arc.a arc.i) (sym same) ∙ m.p_is) in
+      let same_q : shown.q ≡ m.q = same_Some shown.q m.q (sym shown.q_is ∙ ap (λ arc. piece_at parts arc.b arc.j) (sym same) ∙ m.q_is) in
+      let at : IsShown m.p m.q d sep.n = subst (λ p. IsShown p m.q d sep.n) same_p (subst (λ q. IsShown shown.p q d sep.n) same_q shown.holds) in
+      let piece = piece_is parts arc.a arc.i m.p is m.p_is in
+      wall_keeps_apart m.p m.q d sep.n piece.solid at m.holds;
+}
+
+plan_good : (parts : List Part) (t : WalledPlan) → IsAssembly parts → SplitsHold parts t → Once (nodes_of t) → IsGood parts (walled_parts t) (unwalled t)
+unfolding Once
+plan_good parts (walled_leaf p) is splits once = refl
+plan_good parts (walled_split d seps moved rest) is (here, splits_moved, splits_rest) once = (
+  refl,
+  (λ p in_moved in_rest.
+      let (k, e) = has_leaf moved p in_moved in
+      let (m, f) = has_leaf rest p in_rest in
+      left_not_right (nodes_of moved) k m (Leaf p) e (down k (after (nodes_of moved) m) (once (suc k) (suc (after (nodes_of moved) m)) p (get_left (nodes_of moved) (nodes_of rest) k (Leaf p) e) (get_right (nodes_of moved) (nodes_of rest) m (Leaf p) f)))),
+  split_free parts (walled_parts moved) (walled_parts rest) d seps is here,
+  plan_good parts moved is splits_moved (λ k m p e f. down k m (once (suc k) (suc m) p (get_left (nodes_of moved) (nodes_of rest) k (Leaf p) e) (get_left (nodes_of moved) (nodes_of rest) m (Leaf p) f))),
+  plan_good parts rest is splits_rest (λ k m p e f. after_same (nodes_of moved) k m (down (after (nodes_of moved) k) (after (nodes_of moved) m) (once (suc (after (nodes_of moved) k)) (suc (after (nodes_of moved) m)) p (get_right (nodes_of moved) (nodes_of rest) k (Leaf p) e) (get_right (nodes_of moved) (nodes_of rest) m (Leaf p) f)))),
+)
+  where
+    down : (a b : ℕ) → suc a ≡ suc b → a ≡ b
+    down a b e = omega (arith, e)
+
+pub plan_is_right_lemma : (parts : List Part) (stated : ℕ) (nodes : List Node) → IsAssembly parts → PlanHolds parts stated nodes
+    → (tree : WalledPlan) × (nodes ≡ nodes_of tree) × IsGood parts (below (length parts)) (unwalled tree)
+unfolding Once
+plan_is_right_lemma parts stated nodes is holds =
+    let t = holds.tree in
+    let leaves = holds.leaves in
+    let at : (k p : ℕ) → IsLeafAt (nodes_of t) k p → IsLeafAt nodes k p = λ k p e. subst (λ ns. IsLeafAt ns k p) (sym holds.tree_is) e in
+    let good = plan_good parts t is holds.splits (λ k m p e f. leaves.once k m p (at k p e) (at m p f)) in
+    let whole : walled_parts t ≡ below (length parts) =
+    same_members (walled_parts t) (below (length parts))
+    (λ p h. let (k, e) = has_leaf t p h in (has-below (length parts) p).1 (leaves.each k p (at k p e)))
+    (λ p h. let (k, e) = leaves.all p ((has-below (length parts) p).0 h) in leaf_has t k p (subst (λ ns. IsLeafAt ns k p) holds.tree_is e)) in
+    (t, holds.tree_is, subst (λ w. IsGood parts w (unwalled t)) whole good)

@@ -1,0 +1,98 @@
+-- A refusal that keeps its rules is right: its set is stuck, and no plan takes all parts apart.
+use Rattle.std.proofs.Common.{◌≡◌, ℕ, sym, subst, ◌⊎◌, inl, inr, List, [], ◌∷◌, map, length, All, Contains}
+use Rattle.std.specs.FinSet as set
+use Rattle.std.proofs.lemmas.List.Elements.{All-contains}
+use Rattle.staat_vec.specs.declared.vector.V3.{V3}
+use Rattle.staat_model.specs.declared.assembly.Part.{Part}
+use Rattle.staat_model.specs.declared.set.PartSet.{PartSet}
+use Rattle.staat_model.specs.declared.certificate.Arc.{Arc}
+use Rattle.staat_model.specs.declared.certificate.Dir.{Dir}
+use Rattle.staat_model.specs.declared.certificate.Witness.{Witness}
+use Rattle.staat_model.specs.Sets.{Has, IsSide, single, below}
+use Rattle.staat_model.specs.Assemblies.{IsAssembly}
+use Rattle.staat_model.specs.Removal.{IsFree, MeetsAlong}
+use Rattle.staat_model.specs.Plans.{Plan, IsGood, IsStuck}
+use Rattle.staat_model.specs.Planes.{vertices}
+use Rattle.staat_model.specs.Certificates.{RefusalHolds, IsWitness, IsArcWithin, IsBlocked, IsBlocking, IsListed, ReachesAll, outward, inward}
+use Rattle.staat_model.proofs.Members.{here, there}
+use Rattle.staat_model.proofs.Differences.{from_map}
+use Rattle.staat_model.proofs.SetMembers.{has-difference, has-insert, has-single}
+use Rattle.staat_model.proofs.SetWords.{same_members}
+use Rattle.staat_model.proofs.PieceFacets.{meets_by_facets_lemma}
+use Rattle.staat_model.proofs.GraphLemmas.{from_slice_get, piece_is}
+use Rattle.staat_model.proofs.VertexLemmas.{stuck_at_vertices_lemma}
+use Rattle.staat_model.proofs.RestrictLemmas.{member_or_not, restrict_lemma}
+
+-- ---- what is reached
+
+-- what holds of the parts from which the arcs begin, and is passed on along each, holds of all that is reached
+reached_all : (w : PartSet) (P : ℕ → Type 0) (step : Arc → ℕ × ℕ) (arcs : List Arc) → ((arc : Arc) → Contains arcs arc → P (step arc).0 → P (step arc).1)
+    → (reached : PartSet) → ((p : ℕ) → Has reached p → P p) → ReachesAll w reached (map step arcs) → (p : ℕ) → Has w p → P p
+reached_all w P step [] pass reached known r p h = known p (subst (λ s. Has s p) (sym r) h)
+reached_all w P step (arc ∷ arcs) pass reached known (from, to, new, rest) p h =
+    reached_all w P step arcs (λ other c. pass other (there arc other arcs c)) (set.insert reached (step arc).1) known_next rest p h
+  where
+    known_next : (q : ℕ) → Has (set.insert reached (step arc).1) q → P q
+    known_next q has = pick ((has-insert reached (step arc).1 q).0 has)
+      where
+        pick : (q ≡ (step arc).1) ⊎ Has reached q → P q
+        pick (inl e) = subst P (sym e) (pass arc (here arc arcs) (known (step arc).0 from))
+        pick (inr old) = known q old
+
+module _ (parts : List Part) (is : IsAssembly parts) (w s : PartSet) (v : V3) (side : IsSide w s) (free : IsFree parts s (set.difference w s) v) (witness : Witness) (holds : IsWitness parts w witness)
+    (outs : All (IsBlocking parts v) witness.outs) (ins : All (IsBlocking parts v) witness.ins) where
+  meets : (arc : Arc) → IsBlocking parts v arc → MeetsAlong parts v arc
+  meets arc b = record {
+    p = b.p;
+    q = b.q;
+    p_is = b.p_is;
+    q_is = b.q_is;
+    holds = (meets_by_facets_lemma b.p b.q v (piece_is parts arc.a arc.i b.p is b.p_is) (piece_is parts arc.b arc.j b.q is b.q_is)).1 b.holds;
+  }
+
+  -- no arc leads out of the side
+  stays : (arc : Arc) → IsBlocking parts v arc → Has w arc.b → Has s arc.a → Has s arc.b
+  stays arc b in_w in_s = go (member_or_not s arc.b)
+    where
+      go : Has s arc.b ⊎ (Has s arc.b → ⊥) → Has s arc.b
+      go (inl h) = h
+      go (inr n) = absurd (free.clear arc in_s ((has-difference w s arc.b).1 (in_w, n)) (meets arc b))
+
+  all_in : Has s holds.root → (p : ℕ) → Has w p → Has s p
+  all_in at_root =
+      reached_all w (Has s) outward witness.outs
+      (λ arc c from. let a = All-contains (IsArcWithin parts w) witness.outs arc holds.outs c in let across = a.across in stays arc (All-contains (IsBlocking parts v) witness.outs arc outs c) across.b_in from)
+      (single holds.root) (λ p h. subst (Has s) (sym ((has-single holds.root p).0 h)) at_root) holds.outs_reach
+
+  none_in : (Has s holds.root → ⊥) → (p : ℕ) → Has w p → Has s p → ⊥
+  none_in off_root =
+      reached_all w (λ p. Has s p → ⊥) inward witness.ins
+      (λ arc c out into. let a = All-contains (IsArcWithin parts w) witness.ins arc holds.ins c in let across = a.across in out (stays arc (All-contains (IsBlocking parts v) witness.ins arc ins c) across.b_in into))
+      (single holds.root) (λ p h in_s. off_root (subst (Has s) ((has-single holds.root p).0 h) in_s)) holds.ins_reach
+
+  not_free : ⊥
+  not_free = go (member_or_not s holds.root)
+    where
+      go : Has s holds.root ⊎ (Has s holds.root → ⊥) → ⊥
+      go (inl h) = side.proper (same_members s w side.within (all_in h))
+      go (inr n) = let some = side.nonempty in none_in n some.0 (side.within some.0 some.1) some.1
+
+-- ---- the refusal
+
+pub refusal_is_stuck : (parts : List Part) (stated : ℕ) (w : PartSet) (witnesses : List Witness) (dirs : List Dir) → IsAssembly parts → RefusalHolds parts stated w witnesses dirs → IsStuck parts w
+refusal_is_stuck parts stated w witnesses dirs is valid =
+    let stuck_set = valid.stuck_set in
+    stuck_at_vertices_lemma parts w valid.planes is valid.planes_are stuck_set.two at_vertex
+  where
+    at_vertex : (v : V3) (s : PartSet) → Contains (vertices valid.planes) v → IsSide w s → IsFree parts s (set.difference w s) v → ⊥
+    at_vertex v s vertex side free =
+        let (dir, in_dirs, same) = from_map (λ dir. dir.d) dirs v (All-contains (IsListed dirs) (vertices valid.planes) v valid.all vertex) in
+        let b = All-contains (IsBlocked parts witnesses) dirs dir valid.blocked in_dirs in
+        not_free parts is w s dir.d side (subst (IsFree parts s (set.difference w s)) same free) b.witness (All-contains (IsWitness parts w) witnesses b.witness valid.trees (from_slice_get witnesses dir.witness b.witness b.witness_is)) b.outs b.ins
+
+pub refusal_is_right_lemma : (parts : List Part) (stated : ℕ) (w : PartSet) (witnesses : List Witness) (dirs : List Dir) → IsAssembly parts → RefusalHolds parts stated w witnesses dirs
+    → IsStuck parts w × ((plan : Plan) → IsGood parts (below (length parts)) plan → ⊥)
+refusal_is_right_lemma parts stated w witnesses dirs is valid =
+    let stuck = refusal_is_stuck parts stated w witnesses dirs is valid in
+    let stuck_set = valid.stuck_set in
+    (stuck, λ plan good. restrict_lemma parts w stuck plan (below (length parts)) stuck_set.within good)
