@@ -1,19 +1,24 @@
 -- The definitions at small examples.
-use Rattle.std.proofs.Common.{◌≡◌, ℕ, ◌≤◌, ◌≤ℤ◌, Bool, true, List, [], ◌∷◌, map, length, All, ap, sym, subst, refl, ℤ, pos, neg_ℤ, codes, lit<, lit≤, T, leb-true}
-use Rattle.std.specs.Prelude.{nat_le}
+use Rattle.std.proofs.Common.{◌≡◌, ◌≢◌, ℕ, zero, suc, ◌+◌, ◌≤◌, ◌≤ℤ◌, Bool, true, false, List, [], ◌∷◌, map, length, All, ap, sym, subst, refl, rules, ℤ, pos, neg_ℤ, unsigned_abs, codes, lit<, lit≤, T, leb-true}
+use Rattle.std.specs.Prelude.{Some, ◌&&◌, nat_le}
+use Rattle.std.proofs.lemmas.Bool.{false≢true}
+use Rattle.std.specs.List.Sorted.{IsStrictlySortedBy}
 use Rattle.std.specs.List.{list_all}
 use Rattle.std.specs.Int.Signed.{le_z}
 use Rattle.std.proofs.lemmas.Fmt.{decimal_digit}
 use Rattle.std.proofs.lemmas.List.Elements.{All-from_recursion, All-weaker}
 use Rattle.std.proofs.lemmas.List.Sums.{AllPass-from_list_all}
 use Rattle.staat_vec.specs.declared.vector.V3.{V3}
-use Rattle.staat_vec.specs.Vectors.{vector, plus, minus, dot}
+use Rattle.staat_vec.specs.declared.vector.TheConstants.{POINT}
+use Rattle.staat_vec.specs.Vectors.{IsWithin, vector, plus, minus, dot, vector_cmp}
 use Rattle.staat_vec.specs.Primitives.{primitive, content, canon}
 use Rattle.staat_model.specs.declared.certificate.Node.TheVariants.{Leaf, Split}
 use Rattle.staat_model.specs.declared.certificate.Body.TheVariants.{Plan}
 use Rattle.staat_model.specs.declared.certificate.Certificate.{Certificate}
 use Rattle.staat_model.specs.declared.line.Line.TheVariants as line
-use Rattle.staat_model.specs.Pieces.{IsSolid}
+use Rattle.staat_model.specs.declared.assembly.Part.{Part}
+use Rattle.staat_model.specs.Assemblies.{IsAssembly, IsPart, IsSound, piece_at}
+use Rattle.staat_model.specs.Pieces.{IsPiece, IsSolid}
 use Rattle.staat_model.specs.Meeting.{AreWeights, Meets}
 use Rattle.staat_model.specs.Walls.{IsShown}
 use Rattle.staat_model.specs.Planes.{axes, vertices}
@@ -53,18 +58,18 @@ axis_vertices = refl
 
 -- ---- two touching cubes
 
-abbrev cube : List V3
+abbrev pub cube : List V3
 cube = v (pos 0) (pos 0) (pos 0) ∷ v (pos 0) (pos 0) (pos 2) ∷ v (pos 0) (pos 2) (pos 0) ∷ v (pos 0) (pos 2) (pos 2) ∷ v (pos 2) (pos 0) (pos 0) ∷ v (pos 2) (pos 0) (pos 2) ∷ v (pos 2) (pos 2) (pos 0) ∷ v (pos 2) (pos 2) (pos 2) ∷ []
 
 -- its neighbour in the direction of x
-abbrev neighbour : List V3
+abbrev pub neighbour : List V3
 neighbour = map (plus (v (pos 2) (pos 0) (pos 0))) cube
 
 abbrev ones : List ℕ
 ones = 1 ∷ 1 ∷ 1 ∷ 1 ∷ 1 ∷ 1 ∷ 1 ∷ 1 ∷ []
 
 -- what a test shows of each element
-by_test : {X : Type 0} (test : X → Bool) (P : X → Type 0) → ((x : X) → test x ≡ true → P x) → (xs : List X) → list_all test xs ≡ true → All P xs
+pub by_test : {X : Type 0} (test : X → Bool) (P : X → Type 0) → ((x : X) → test x ≡ true → P x) → (xs : List X) → list_all test xs ≡ true → All P xs
 by_test test P shows xs e = All-weaker (λ x. test x ≡ true) P shows xs (AllPass-from_list_all test xs e)
 
 ones_are : (ps : List V3) → length ones ≡ length ps → AreWeights ones ps
@@ -77,7 +82,7 @@ meets_ahead = record {
   meeting = record { a = ones; b = ones; a_weights = ones_are cube refl; b_weights = ones_are neighbour refl; same_sum = refl; same_place = refl };
 }
 
-cube_solid : IsSolid cube
+pub cube_solid : IsSolid cube
 cube_solid = record {
   a = v (pos 0) (pos 0) (pos 0);
   b = v (pos 2) (pos 0) (pos 0);
@@ -89,6 +94,61 @@ cube_solid = record {
   e_in = (1, lit< tt, refl);
   apart = λ h. cc;
 }
+
+-- whether the point keeps within the bound
+abbrev keeps_within : ℕ → V3 → Bool
+keeps_within bound p = nat_le (unsigned_abs p.x) bound && (nat_le (unsigned_abs p.y) bound && nat_le (unsigned_abs p.z) bound)
+
+within_by_test : (bound : ℕ) (p : V3) → keeps_within bound p ≡ true → IsWithin bound p
+within_by_test bound p e = let t = both _ _ e in let u = both _ _ t.1 in record { x = leb-true _ bound t.0; y = leb-true _ bound u.0; z = leb-true _ bound u.1 }
+  where
+    both : (a b : Bool) → (a && b) ≡ true → (a ≡ true) × (b ≡ true)
+    both true b h = (refl, h)
+    both false b h = absurd (false≢true h)
+
+cube_ascends : IsStrictlySortedBy vector_cmp cube
+unfolding IsStrictlySortedBy
+cube_ascends = search rules
+
+neighbour_ascends : IsStrictlySortedBy vector_cmp neighbour
+unfolding IsStrictlySortedBy
+neighbour_ascends = search rules
+
+neighbour_solid : IsSolid neighbour
+neighbour_solid = record {
+  a = v (pos 2) (pos 0) (pos 0);
+  b = v (pos 4) (pos 0) (pos 0);
+  c = v (pos 2) (pos 2) (pos 0);
+  e = v (pos 2) (pos 0) (pos 2);
+  a_in = (0, lit< tt, refl);
+  b_in = (4, lit< tt, refl);
+  c_in = (2, lit< tt, refl);
+  e_in = (1, lit< tt, refl);
+  apart = λ h. cc;
+}
+
+pub cube_piece : IsPiece cube
+cube_piece = record { ascending = cube_ascends; at_least = lit≤ tt; at_most = lit≤ tt; within = by_test (keeps_within POINT) (IsWithin POINT) (within_by_test POINT) cube refl; solid = cube_solid }
+
+pub neighbour_piece : IsPiece neighbour
+neighbour_piece = record { ascending = neighbour_ascends; at_least = lit≤ tt; at_most = lit≤ tt; within = by_test (keeps_within POINT) (IsWithin POINT) (within_by_test POINT) neighbour refl; solid = neighbour_solid }
+
+-- one part of one piece is a sound assembly
+pub one_part : (part : Part) (p : List V3) → part.pieces ≡ p ∷ [] → IsPiece p → IsAssembly (part ∷ [])
+one_part part p e piece = record {
+  at_least = lit≤ tt;
+  at_most = lit≤ tt;
+  each = All-from_recursion IsPart (part ∷ []) (record { nonempty = subst (λ (ps : List (List V3)). 1 ≤ length ps) (sym e) (lit≤ tt); pieces = subst (All IsPiece) (sym e) (All-from_recursion IsPiece (p ∷ []) (piece, tt)) }, tt);
+  pieces = subst (λ (ps : List (List V3)). 0 + length ps ≤ 64) (sym e) (lit≤ tt);
+}
+
+pub one_part_sound : (part : Part) → IsSound (part ∷ [])
+one_part_sound part arc different h = both_first arc.a arc.b different h.p_is h.q_is
+  where
+    both_first : (a b : ℕ) → a ≢ b → piece_at (part ∷ []) a arc.i ≡ Some h.p → piece_at (part ∷ []) b arc.j ≡ Some h.q → ⊥
+    both_first zero zero ne e f = ne refl
+    both_first zero (suc b) ne e f = cc
+    both_first (suc a) b ne e f = cc
 
 wall_between : IsShown cube neighbour (v (pos 0) (pos 0) (pos 1)) (v (pos 1) (pos 0) (pos 0))
 wall_between = record {

@@ -15,6 +15,8 @@ mod plan_laws;
 mod refusal;
 mod set;
 mod solid;
+#[cfg(test)]
+mod tests;
 mod tree;
 mod verdict;
 mod wall;

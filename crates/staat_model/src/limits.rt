@@ -15,7 +15,7 @@ pub const MOST_PIECES: u32 = 64;
 /// A certificate has fewer witnesses than this, and fewer directions.
 pub const LIST_LIMIT: u32 = 1 << 25;
 
-/// A line of a certificate is shorter than this in bytes, with its line feed.
+/// A line of a certificate has at most so many bytes, with its line feed.
 pub const LINE_LIMIT: usize = 128;
 
 /// How many bytes the text of a certificate or of a list of cells has at most.

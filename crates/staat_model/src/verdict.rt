@@ -14,8 +14,8 @@ pub enum Verdict {
 pub enum Reason {
     /// It states this number of parts, which is not the assembly's.
     WrongParts(u32),
-    /// This node is the first leaf whose part does not exist or has a leaf before. Where a part has no leaf, it is
-    /// the number of nodes.
+    /// This node is the first leaf whose part does not exist or has an earlier leaf. Where there is none and a part
+    /// has no leaf, it is the number of nodes.
     BadLeaves(u32),
     /// The split at this node has no direction.
     ZeroDirection(u32),
