@@ -1,0 +1,11 @@
+pub mod DigitLemmas
+pub mod Bounds
+pub mod Decisions
+pub mod Many
+pub mod OffsetLemmas
+pub mod Places
+pub mod WordLemmas
+pub mod NextWord
+pub mod SpellingLemmas
+pub mod Powers
+pub mod Pushes

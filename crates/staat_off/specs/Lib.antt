@@ -1,0 +1,13 @@
+pub mod Words
+pub mod Scan
+pub mod Numerals
+pub mod Spelling
+pub mod Values
+pub mod Coordinates
+pub mod Trims
+pub mod Views
+pub mod Readers
+pub mod Reading
+pub mod Answers
+pub mod Raws
+pub mod Offsets

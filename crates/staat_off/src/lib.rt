@@ -1,0 +1,20 @@
+//! The reader of OFF files, the Object File Format of Geomview: words, comments, numbers and faces.
+#![tactic(auto)]
+
+mod coordinate;
+mod digits;
+mod fields;
+mod file;
+pub mod laws;
+mod numeral;
+mod raw;
+mod refusal;
+mod rest;
+mod trim;
+
+pub use file::read_off;
+pub use raw::{Corners, Faces, MOST_COUNT, MOST_DIGITS, Raw};
+pub use refusal::OffRefusal;
+
+#[cfg(test)]
+mod tests;
