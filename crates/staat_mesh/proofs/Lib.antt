@@ -1,0 +1,14 @@
+pub mod Lines
+pub mod Stancing
+pub mod Marking
+pub mod Same
+pub mod UsedPoints
+pub mod Tracing
+pub mod Numbering
+pub mod Counting
+pub mod Walking
+pub mod Mapping
+pub mod Pairing
+pub mod Making
+pub mod Planes
+pub mod OneAnswer

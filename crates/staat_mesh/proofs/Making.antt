@@ -1,0 +1,89 @@
+-- The rules put together.
+use Rattle.std.proofs.Common.{◌≡◌, ◌≢◌, ◌<◌, ◌≤◌, ◌⊎◌, ℕ, zero, suc, ℤ, pos, negsuc, List, length, Result, Ok, Err, inl, inr, refl, sym, subst, ⊎_elim}
+use Rattle.std.specs.Prelude.{All, Contains, IsErr}
+use Rattle.std.specs.Result.{IsErrAnd}
+use Rattle.std.proofs.lemmas.List.Elements.{All-contains}
+use Rattle.staat_vec.specs.declared.vector.V3.{V3}
+use Rattle.staat_vec.specs.declared.vector.TheConstants.{POINT}
+use Rattle.staat_vec.specs.Lists.{Lists}
+use Rattle.staat_vec.specs.Vectors.{IsWithin, det, minus, vector_cmp}
+use Rattle.staat_model.specs.declared.limits.TheConstants.{LEAST_POINTS, MOST_POINTS}
+use Rattle.staat_model.specs.Pieces.{IsPiece, IsSolid}
+use Rattle.staat_model.proofs.GraphLemmas.{from_slice_get}
+use Rattle.staat_model.proofs.Members.{All-from_members}
+use Rattle.staat_off.specs.declared.raw.Raw.{Raw}
+use Rattle.staat_off.specs.Raws.{IsIndexed}
+use Rattle.staat_mesh.specs.declared.refusal.MeshRefusal.{MeshRefusal}
+use Rattle.staat_mesh.specs.declared.refusal.MeshRefusal.TheVariants.{TooFewPoints, TooManyPoints, Flat, BadFace, NotConvex, OpenEdge, OutOfMemory}
+use Rattle.staat_mesh.specs.Checks.{ChecksEdges, ChecksFaces, ChecksPoints}
+use Rattle.staat_mesh.specs.Judging.{Answers, Judges}
+use Rattle.staat_mesh.specs.Polygons.{IsUsed, Mesh, mesh}
+use Rattle.staat_mesh.specs.Sides.{InPlane, IsBorder}
+use Rattle.staat_mesh.proofs.UsedPoints.{IsCorner, from_used}
+
+-- the points are no farther out than the vertices
+pub points_within : (raw : Raw) (points : List V3) → IsIndexed raw → Lists vector_cmp (IsUsed (mesh raw)) points → All (IsWithin POINT) points
+points_within raw points indexed lists =
+    All-from_members (IsWithin POINT) points
+    (λ p h. let at : IsCorner raw.points raw.faces p = from_used raw p (lists.each p h) in All-contains (IsWithin POINT) raw.points p indexed.within (from_slice_get raw.points at.0 p at.2))
+
+zero_or_not : (z : ℤ) → (z ≡ pos 0) ⊎ (z ≢ pos 0)
+zero_or_not (pos zero) = inl refl
+zero_or_not (pos (suc n)) = inr (λ e. cc)
+zero_or_not (negsuc n) = inr (λ e. cc)
+
+-- points that do not span space lie in one plane
+pub in_plane : (points : List V3) → (IsSolid points → ⊥) → InPlane points
+in_plane points none a b c e ha hb hc he =
+    ⊎_elim (λ z. z) (λ ne. absurd (none (record { a = a; b = b; c = c; e = e; a_in = ha; b_in = hb; c_in = hc; e_in = he; apart = ne }))) (zero_or_not (det (minus b a) (minus c a) (minus e a)))
+
+-- the first two rules hold
+pub record IsBody (polygons : Mesh) (points : List V3) : Type 0 where
+  pub used : Lists vector_cmp (IsUsed polygons) points
+  pub least : LEAST_POINTS ≤ length points
+  pub most : length points ≤ MOST_POINTS
+  pub solid : IsSolid points
+
+pub refused_points : (X : Type 0) (polygons : Mesh) (points : List V3) (refusal : MeshRefusal) → Lists vector_cmp (IsUsed polygons) points → ChecksPoints {X = X} points (Err refusal) → Answers polygons (Err refusal)
+refused_points X polygons points (TooFewPoints found) used h = record { points = points; used = used; by_rules = h }
+refused_points X polygons points (TooManyPoints found) used h = record { points = points; used = used; by_rules = h }
+refused_points X polygons points Flat used h = record { points = points; used = used; by_rules = h }
+refused_points X polygons points (BadFace face) used h = absurd h
+refused_points X polygons points (NotConvex face) used h = absurd h
+refused_points X polygons points (OpenEdge face corner) used h = absurd h
+refused_points X polygons points OutOfMemory used h = tt
+
+pub refused_faces : (X : Type 0) (polygons : Mesh) (points : List V3) (refusal : MeshRefusal) → IsBody polygons points → ChecksFaces {X = X} polygons points (Err refusal) → Answers polygons (Err refusal)
+refused_faces X polygons points (TooFewPoints found) body h = absurd h.1
+refused_faces X polygons points (TooManyPoints found) body h = absurd h.1
+refused_faces X polygons points Flat body h = absurd h.1
+refused_faces X polygons points (BadFace face) body h = record { points = points; used = body.used; by_rules = (body.least, body.most, (body.solid, h)) }
+refused_faces X polygons points (NotConvex face) body h = record { points = points; used = body.used; by_rules = (body.least, body.most, (body.solid, h)) }
+refused_faces X polygons points (OpenEdge face corner) body h = record { points = points; used = body.used; by_rules = (body.least, body.most, (body.solid, h)) }
+refused_faces X polygons points OutOfMemory body h = tt
+
+pub refused_edges : (X : Type 0) (polygons : Mesh) (points : List V3) (refusal : MeshRefusal) → IsBody polygons points → All (IsBorder points) polygons → ChecksEdges {X = X} polygons points (Err refusal) → Answers polygons (Err refusal)
+refused_edges X polygons points (TooFewPoints found) body borders h = absurd h
+refused_edges X polygons points (TooManyPoints found) body borders h = absurd h
+refused_edges X polygons points Flat body borders h = absurd h
+refused_edges X polygons points (BadFace face) body borders h = absurd h
+refused_edges X polygons points (NotConvex face) body borders h = absurd h
+refused_edges X polygons points (OpenEdge face corner) body borders h = record { points = points; used = body.used; by_rules = (body.least, body.most, (body.solid, (borders, h))) }
+refused_edges X polygons points OutOfMemory body borders h = tt
+
+pub body : (X : Type 0) (polygons : Mesh) (points : List V3) (done : X) → Lists vector_cmp (IsUsed polygons) points → ChecksPoints points (Ok done) → IsBody polygons points
+body X polygons points done used h = record { used = used; least = h.0; most = h.1; solid = h.2 }
+
+-- what a `?` answers is the refusal that it met
+pub carried : {X : Type 0} (P : Result X MeshRefusal → Type 0) (r : Result X MeshRefusal) (refusal : MeshRefusal) → IsErr r × IsErrAnd r (λ e. e ≡ refusal) → P (Err refusal) → P r
+carried P (Err e) refusal h p = subst (λ f. P (Err f)) (sym h.1) p
+carried P (Ok x) refusal h p = absurd h.1
+
+pub makes : (raw : Raw) (points : List V3) → IsIndexed raw → IsBody (mesh raw) points → IsPiece points
+makes raw points indexed body = record {
+  ascending = body.used.ascending;
+  at_least = body.least;
+  at_most = body.most;
+  within = points_within raw points indexed body.used;
+  solid = body.solid;
+}

@@ -1,0 +1,12 @@
+use Rattle.std.proofs.Common.{◌≡◌, ◌≢◌, true, false, subst, below_more}
+use Rattle.std.proofs.lemmas.List.{get_or_default}
+use Rattle.staat_vec.specs.declared.vector.V3.{V3}
+use Rattle.staat_vec.specs.Vectors.{origin}
+use Rattle.staat_mesh.specs.Planes.{side_of}
+use Rattle.staat_mesh.proofs.plane.Plane.has_any.Goals as goal
+
+untrue : false ≡ true → ⊥
+untrue e = cc
+
+pub loop-p-preserved : goal.loop-p-preserved
+loop-p-preserved c = λ k d. below_more _ c.loop-p.p-index (λ n. c.loop-p.invariant n d) (subst (λ (p : V3). side_of c.args.self p ≢ c.args.side) (get_or_default c.args.points.now c.loop-p.p-index origin d c.loop-p-test.true) (λ e. untrue (c.if-has.ensures.1 e))) k

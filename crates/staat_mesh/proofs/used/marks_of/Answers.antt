@@ -1,0 +1,25 @@
+use Rattle.std.proofs.Common.{◌≡◌, ◌⊎◌, ◌↔◌, ℕ, Bool, List, [], false, length, ap, sym, subst, ◌∙◌}
+use Rattle.std.specs.Prelude.{Contains}
+use Rattle.std.proofs.lemmas.List.{get_or_read, length-replicate}
+use Rattle.staat_mesh.specs.Marks.{IsMarked, MarksCorners}
+use Rattle.staat_mesh.proofs.Marking.{corners_more, corners_none, written_back}
+use Rattle.staat_mesh.proofs.used.marks_of.Goals as goal
+
+pub loop-face-init : goal.loop-face-init
+loop-face-init c =
+    let e = c.in_ok-marks.ensures.items_if_clones_equal (λ y d. d) in record {
+      number = ap length e ∙ length-replicate c.args.vertices false;
+      corners = subst (MarksCorners []) (sym e) (corners_none c.args.vertices c.args.faces.now);
+    }
+
+pub loop-face-preserved : goal.loop-face-preserved
+loop-face-preserved c =
+    let marks = c.loop-face.marks in
+    let face = c.as_slice.ensures ∙ get_or_read c.args.faces.now c.loop-face.face-index _ c.loop-face-test.true c.face-item.is [] in
+    let lent = subst (λ (ms : List Bool). (w : ℕ) → IsMarked c.mark.new.marks w ↔ (IsMarked ms w ⊎ Contains c.as_slice.result.now w)) c.as_mut_slice.ensures.value c.mark.ensures in
+    let now = subst (λ (xs : List ℕ). (w : ℕ) → IsMarked c.mark.new.marks w ↔ (IsMarked marks.items w ⊎ Contains xs w)) face lent in
+    let same : length c.mark.new.marks ≡ length marks.items = c.mark.auto.marks ∙ ap length c.as_mut_slice.ensures.value in
+    rw (written_back marks.items c.mark.new.marks marks.len same marks.ok.0) (record {
+      number = same ∙ c.loop-face.invariant.number;
+      corners = corners_more c.args.faces.now c.loop-face.face-index marks.items c.mark.new.marks c.loop-face-test.true now c.loop-face.invariant.corners;
+    })

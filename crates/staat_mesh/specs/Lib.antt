@@ -1,0 +1,9 @@
+pub mod Polygons
+pub mod Planes
+pub mod Sides
+pub mod Edges
+pub mod Judging
+pub mod Stances
+pub mod Marks
+pub mod Counts
+pub mod Checks

@@ -1,0 +1,11 @@
+//! Laws over the rules of meshes. Each is a function that does nothing, and its contract is the law.
+ghost use Rattle.std.specs.Prelude.{◌≡◌, List, Result};
+ghost use Rattle.staat_vec.specs.declared.vector.V3.{V3 as Vector};
+ghost use Rattle.staat_mesh.specs.declared.refusal.MeshRefusal.{MeshRefusal as Refusal};
+ghost use Rattle.staat_mesh.specs.Judging.{Judges};
+ghost use Rattle.staat_mesh.specs.Polygons.{Mesh};
+
+/// A mesh has one answer: one piece, or one first rule that fails.
+pub fn one_answer()
+    ensures { (polygons : Mesh) (one other : Result (List Vector) Refusal) → Judges polygons one → Judges polygons other → one ≡ other }
+{}
