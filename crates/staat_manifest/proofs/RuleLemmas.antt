@@ -1,0 +1,127 @@
+-- Rules that are tested one after another, part by part.
+use Rattle.std.proofs.Common.{◌≡◌, ◌++◌, ◌+◌, ◌∷◌, ◌<◌, ◌≤◌, ℕ, List, [], map, length, drop, take, get_or, Option, Some, None, Result, Err, ap, refl, subst, sym, ◌∙◌, arith}
+use Rattle.std.specs.List.{sum_by}
+use Rattle.std.proofs.lemmas.Bool.Decides.{nat_tests}
+use Rattle.std.proofs.lemmas.List.{at_drop_more, map_more, map_push}
+use Rattle.std.proofs.lemmas.List.Sums.{sum_by-append}
+use Rattle.serde_json.specs.Data.{Data}
+use Rattle.serde_json.specs.View.{view}
+use Rattle.serde_json.specs.declared.value.Value.{Value}
+use Rattle.staat_manifest.specs.declared.refusal.ManifestRefusal.{ManifestRefusal}
+use Rattle.staat_manifest.specs.declared.refusal.ManifestRefusal.TheVariants as refusal
+use Rattle.staat_manifest.specs.Values.{Part, Text, json_of, listed, parts_of}
+use Rattle.staat_manifest.specs.Answers.{Answers, Refuses}
+use Rattle.staat_manifest.specs.Rules.{answer, answer_of, count_rule, first_refusal, form_rules, joint_rules, name_rule, part_list, rules_from, whole_rules}
+
+-- where these rules hold, the others decide
+pub passed : (rules others : List (Option ManifestRefusal)) → first_refusal rules ≡ None → first_refusal (rules ++ others) ≡ first_refusal others
+passed [] others h = refl
+passed (None ∷ rules) others h = passed rules others h
+passed (Some e ∷ rules) others h = cc
+
+-- where one of these is broken, the others do not matter
+pub stopped : (e : ManifestRefusal) (rules others : List (Option ManifestRefusal)) → first_refusal rules ≡ Some e → first_refusal (rules ++ others) ≡ Some e
+stopped e [] others h = cc
+stopped e (None ∷ rules) others h = stopped e rules others h
+stopped e (Some d ∷ rules) others h = h
+
+-- a refusal by some of the rules is one by all
+pub passed_on : (e : ManifestRefusal) (some all : Option ManifestRefusal) (parts : List Part) → ((d : ManifestRefusal) → some ≡ Some d → all ≡ Some d) → Refuses some e → Answers (answer all parts) (Err e)
+passed_on refusal.NotJson some all parts h j = ap (λ o. answer o parts) (h _ j)
+passed_on (refusal.BadShape path) some all parts h j = ap (λ o. answer o parts) (h _ j)
+passed_on (refusal.RepeatedName name) some all parts h j = ap (λ o. answer o parts) (h _ j)
+passed_on (refusal.NoPieces part) some all parts h j = ap (λ o. answer o parts) (h _ j)
+passed_on refusal.TooManyParts some all parts h j = ap (λ o. answer o parts) (h _ j)
+passed_on refusal.TooManyPieces some all parts h j = ap (λ o. answer o parts) (h _ j)
+passed_on refusal.OutOfMemory some all parts h j = tt
+
+-- ---- a part with those before it
+
+second : (first then : Option ManifestRefusal) → first ≡ None → first_refusal (first ∷ then ∷ []) ≡ then
+second None None h = refl
+second None (Some e) h = refl
+second (Some d) then h = cc
+
+module _ (earlier : List Part) (part : Part) (names : List Text) (count : ℕ) (named : names ≡ map (λ other. other.0) earlier) (counted : count ≡ sum_by (λ other. length other.1) earlier) where
+  name : name_rule names part.0 ≡ name_rule (map (λ other. other.0) earlier) part.0
+  name = ap (λ others. name_rule others part.0) named
+
+  -- the pieces are those of the others and its own
+  pub total : sum_by (λ other. length other.1) (earlier ++ part ∷ []) ≡ count + length part.1
+  total = sum_by-append (λ other. length other.1) earlier (part ∷ []) ∙ omega (arith, counted)
+
+  -- its name is repeated
+  pub name_repeated : (e : ManifestRefusal) → name_rule names part.0 ≡ Some e → first_refusal (joint_rules earlier part) ≡ Some e
+  name_repeated e h = ap (λ r. first_refusal (r ∷ count_rule (sum_by (λ other. length other.1) (earlier ++ part ∷ [])) ∷ [])) (sym name ∙ h)
+
+  -- its name is new, so its pieces decide
+  pub by_count : name_rule names part.0 ≡ None → first_refusal (joint_rules earlier part) ≡ count_rule (count + length part.1)
+  by_count h = second _ _ (sym name ∙ h) ∙ ap count_rule total
+
+pub count_over : (count : ℕ) → 64 < count → count_rule count ≡ Some refusal.TooManyPieces
+count_over count over = grind (arith, nat_tests)
+
+pub count_within : (count : ℕ) → count ≤ 64 → count_rule count ≡ None
+count_within count within = grind (arith, nat_tests)
+
+-- ---- the parts from part k on
+
+module _ (earlier : List Part) (values : List Value) (k : ℕ) (v : Value) (more : k < length values) (is : v ≡ get_or values k v) (part : Part) (same : part ≡ listed (view v)) where
+  -- the list with this part
+  pub list_more : (list : List Part) → list ≡ earlier ++ part ∷ [] → earlier ≡ map listed (map view (take k values)) → list ≡ map listed (map view (take (k + 1) values))
+  list_more list grown so_far =
+      grown ∙ ap (λ p. earlier ++ p ∷ []) same ∙ ap (λ xs. xs ++ listed (view v) ∷ []) so_far
+      ∙ ap (λ x. map listed (map view (take k values)) ++ listed (view x) ∷ []) is
+      ∙ sym (ap (map listed) (map_more view values k v more) ∙ map_push listed (map view (take k values)) (view (get_or values k v)))
+
+  module _ (number : length earlier ≡ k) (all : Option ManifestRefusal) (whole : first_refusal (rules_from earlier (map view (drop k values))) ≡ all) where
+    form : List (Option ManifestRefusal)
+    form = form_rules k (view v)
+
+    joint : List (Option ManifestRefusal)
+    joint = joint_rules earlier part
+
+    later : List (Option ManifestRefusal)
+    later = rules_from (earlier ++ part ∷ []) (map view (drop (k + 1) values))
+
+    here : first_refusal (form ++ joint ++ later) ≡ all
+    unfolding form joint later
+    here =
+        ap (λ n. first_refusal (form_rules n (view v) ++ joint ++ later)) (sym number)
+        ∙ ap (λ p. first_refusal (form_rules (length earlier) (view v) ++ joint_rules earlier p ++ rules_from (earlier ++ p ∷ []) (map view (drop (k + 1) values)))) same
+        ∙ ap (λ x. first_refusal (rules_from earlier (view x ∷ map view (drop (k + 1) values)))) is
+        ∙ sym (at_drop_more (λ vs. first_refusal (rules_from earlier (map view vs))) values k v more) ∙ whole
+
+    -- the part breaks a rule by itself
+    pub form_refuses : (e : ManifestRefusal) → first_refusal (form_rules k (view v)) ≡ Some e → all ≡ Some e
+    unfolding form joint later
+    form_refuses e h = sym here ∙ stopped e (form ++ joint) later (stopped e form joint h)
+
+    -- the part breaks a rule with those before it
+    pub joint_refuses : first_refusal (form_rules k (view v)) ≡ None → (e : ManifestRefusal) → first_refusal (joint_rules earlier part) ≡ Some e → all ≡ Some e
+    unfolding form joint later
+    joint_refuses f e h = sym here ∙ stopped e (form ++ joint) later (passed form joint f ∙ h)
+
+    -- the part keeps its rules
+    pub goes_on : first_refusal (form_rules k (view v)) ≡ None → first_refusal (joint_rules earlier part) ≡ None → (list : List Part) → list ≡ earlier ++ part ∷ [] → first_refusal (rules_from list (map view (drop (k + 1) values))) ≡ all
+    unfolding form joint later
+    goes_on f h list grown =
+        ap (λ l. first_refusal (rules_from l (map view (drop (k + 1) values)))) grown
+        ∙ sym (passed (form ++ joint) later (passed form joint f ∙ h)) ∙ here
+
+-- ---- the whole
+
+module _ (bytes : Text) (value : Data) (is : json_of bytes ≡ Some value) where
+  is_answer : part_list bytes ≡ answer (first_refusal (whole_rules value ++ rules_from [] (parts_of value))) (map listed (parts_of value))
+  unfolding part_list
+  is_answer = ap answer_of is
+
+  -- the whole value breaks a rule
+  pub whole_refuses : (e : ManifestRefusal) → Refuses (first_refusal (whole_rules value)) e → Answers (part_list bytes) (Err e)
+  whole_refuses e h = subst (λ (wanted : Result (List Part) ManifestRefusal). Answers wanted (Err e)) (sym is_answer) (passed_on e _ _ _ (λ d. stopped d (whole_rules value) (rules_from [] (parts_of value))) h)
+
+  -- the parts decide
+  pub by_parts : first_refusal (whole_rules value) ≡ None → (parts : List Data) → parts ≡ parts_of value → part_list bytes ≡ answer (first_refusal (rules_from [] parts)) (map listed parts)
+  by_parts h parts same =
+      is_answer ∙ ap (λ o. answer o (map listed (parts_of value))) (passed (whole_rules value) (rules_from [] (parts_of value)) h)
+      ∙ ap (λ ps. answer (first_refusal (rules_from [] ps)) (map listed ps)) (sym same)

@@ -1,0 +1,30 @@
+-- Answers in which want of memory is free.
+use Rattle.std.specs.Prelude.{◌≡◌, Option, Some, None, Result, Ok, Err, ⊤}
+use Rattle.serde_json.specs.Data.{Data}
+use Rattle.serde_json.specs.View.{view}
+use Rattle.serde_json.specs.declared.value.Value.{Value}
+use Rattle.staat_manifest.specs.declared.refusal.ManifestRefusal.{ManifestRefusal}
+use Rattle.staat_manifest.specs.declared.refusal.ManifestRefusal.TheVariants.{NotJson, OutOfMemory}
+
+-- the refusal is the one of the broken rule
+abbrev pub Refuses : Option ManifestRefusal → ManifestRefusal → Type 0
+Refuses broken OutOfMemory = ⊤
+Refuses broken refusal = broken ≡ Some refusal
+
+-- accepted where no rule is broken, and else refused as the broken rule says
+abbrev pub Judges : {X : Type 0} → Option ManifestRefusal → Result X ManifestRefusal → Type 0
+Judges broken (Ok x) = broken ≡ None
+Judges broken (Err refusal) = Refuses broken refusal
+
+-- the value that was read is this one, and where there is none the bytes are not JSON
+abbrev pub IsRead : Option Data → Result Value ManifestRefusal → Type 0
+IsRead wanted (Ok value) = wanted ≡ Some (view value)
+IsRead wanted (Err NotJson) = wanted ≡ None
+IsRead wanted (Err OutOfMemory) = ⊤
+IsRead wanted (Err refusal) = ⊥
+
+-- the answer is this one
+abbrev pub Answers : {X : Type 0} → Result X ManifestRefusal → Result X ManifestRefusal → Type 0
+Answers wanted (Ok x) = wanted ≡ Ok x
+Answers wanted (Err OutOfMemory) = ⊤
+Answers wanted (Err refusal) = wanted ≡ Err refusal

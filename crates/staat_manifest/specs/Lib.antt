@@ -1,0 +1,4 @@
+pub mod Values
+pub mod Answers
+pub mod Rules
+pub mod Listings

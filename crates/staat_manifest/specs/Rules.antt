@@ -1,0 +1,99 @@
+-- The rules of a part list, in the order in which they are tested.
+use Rattle.std.specs.Prelude.{◌+◌, ◌++◌, ◌&&◌, ℕ, Bool, not, nat_lt, nat_le, List, [], ◌∷◌, length, map, sum_by, Option, Some, None, is_some, Result, Ok, Err, if◌then◌else◌, codes, decimal}
+use Rattle.std.specs.Str.{bytes_eq}
+use Rattle.std.specs.List.{list_all, list_any}
+use Rattle.serde_json.specs.Data.{Data}
+use Rattle.serde_json.specs.Find.{as_object}
+use Rattle.staat_manifest.specs.declared.refusal.ManifestRefusal.{ManifestRefusal}
+use Rattle.staat_manifest.specs.declared.refusal.ManifestRefusal.TheVariants.{NotJson, BadShape, RepeatedName, NoPieces, TooManyParts, TooManyPieces}
+use Rattle.staat_manifest.specs.Values.{Part, Text, array_at, has_only, json_of, listed, name_of, parts_of, pieces_of, text_of}
+
+-- what a rule says: nothing where it holds, and this refusal where it is broken
+abbrev pub rule : Bool → ManifestRefusal → Option ManifestRefusal
+rule holds refusal = if holds then None else Some refusal
+
+-- what the first broken rule says
+abbrev pub first_refusal : List (Option ManifestRefusal) → Option ManifestRefusal
+first_refusal [] = None
+first_refusal (None ∷ rules) = first_refusal rules
+first_refusal (Some refusal ∷ rules) = Some refusal
+
+-- ---- the whole value
+
+unfoldable pub whole_rules : Data → List (Option ManifestRefusal)
+whole_rules value =
+    rule (is_some (as_object value)) (BadShape (codes "/"))
+    ∷ rule (nat_lt 0 (length (parts_of value))) (BadShape (codes "/parts"))
+    ∷ rule (has_only (codes "parts" ∷ []) value) (BadShape (codes "/"))
+    ∷ rule (nat_le (length (parts_of value)) 32) TooManyParts
+    ∷ []
+
+-- ---- a part by itself
+
+-- the path of part k
+abbrev pub part_path : ℕ → Text
+part_path k = codes "/parts/" ++ decimal k
+
+-- the path of piece i of part k
+abbrev pub piece_path : ℕ → ℕ → Text
+piece_path k i = part_path k ++ codes "/pieces/" ++ decimal i
+
+-- 1 to 255 bytes, none of them below 32
+abbrev pub is_name : Text → Bool
+is_name name = nat_lt 0 (length name) && (nat_le (length name) 255 && list_all (λ b. nat_le 32 b) name)
+
+-- a text that is not empty
+abbrev pub is_piece : Data → Bool
+is_piece piece = nat_lt 0 (length (text_of piece))
+
+-- the rules for the pieces of part k from piece i on
+abbrev pub piece_rules : ℕ → ℕ → List Data → List (Option ManifestRefusal)
+piece_rules k i [] = []
+piece_rules k i (piece ∷ pieces) = rule (is_piece piece) (BadShape (piece_path k i)) ∷ piece_rules k (i + 1) pieces
+
+-- the rules for part k by itself
+unfoldable pub form_rules : ℕ → Data → List (Option ManifestRefusal)
+form_rules k part =
+    rule (is_some (as_object part)) (BadShape (part_path k))
+    ∷ rule (is_name (name_of part)) (BadShape (part_path k ++ codes "/name"))
+    ∷ rule (is_some (array_at (codes "pieces") part)) (BadShape (part_path k ++ codes "/pieces"))
+    ∷ rule (has_only (codes "name" ∷ codes "pieces" ∷ []) part) (BadShape (part_path k))
+    ∷ rule (nat_lt 0 (length (pieces_of part))) (NoPieces k)
+    ∷ piece_rules k 0 (pieces_of part)
+
+-- ---- a part with those before it
+
+-- the name is none of these
+abbrev pub name_rule : List Text → Text → Option ManifestRefusal
+name_rule names name = rule (not (list_any (bytes_eq name) names)) (RepeatedName name)
+
+-- so many pieces in all are not too many
+abbrev pub count_rule : ℕ → Option ManifestRefusal
+count_rule count = rule (nat_le count 64) TooManyPieces
+
+-- the rules for a part that comes after these
+abbrev pub joint_rules : List Part → Part → List (Option ManifestRefusal)
+joint_rules earlier part =
+    name_rule (map (λ other. other.0) earlier) part.0
+    ∷ count_rule (sum_by (λ other. length other.1) (earlier ++ part ∷ []))
+    ∷ []
+
+-- the rules for all parts that come after these
+abbrev pub rules_from : List Part → List Data → List (Option ManifestRefusal)
+rules_from earlier [] = []
+rules_from earlier (part ∷ later) = form_rules (length earlier) part ++ joint_rules earlier (listed part) ++ rules_from (earlier ++ listed part ∷ []) later
+
+-- ---- the answer
+
+-- the parts, unless a rule is broken
+abbrev pub answer : Option ManifestRefusal → List Part → Result (List Part) ManifestRefusal
+answer None parts = Ok parts
+answer (Some refusal) parts = Err refusal
+
+abbrev pub answer_of : Option Data → Result (List Part) ManifestRefusal
+answer_of None = Err NotJson
+answer_of (Some value) = answer (first_refusal (whole_rules value ++ rules_from [] (parts_of value))) (map listed (parts_of value))
+
+-- the parts that the bytes list, or what the first broken rule says
+unfoldable pub part_list : Text → Result (List Part) ManifestRefusal
+part_list bytes = answer_of (json_of bytes)

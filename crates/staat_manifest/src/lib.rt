@@ -1,0 +1,16 @@
+//! Part lists: JSON texts that name the parts of a product, each with the files of its pieces.
+#![tactic(auto)]
+
+mod json;
+mod listing;
+mod part;
+mod paths;
+mod reader;
+mod refusal;
+
+pub use listing::Listing;
+pub use reader::read_manifest;
+pub use refusal::ManifestRefusal;
+
+#[cfg(test)]
+mod tests;

@@ -1,0 +1,85 @@
+// A part by itself: its form, and the rules that need no other part.
+ghost use Rattle.std.specs.Prelude.{◌≡◌, IfOk, map, nat_le};
+ghost use Rattle.std.specs.List.{list_all};
+ghost use Rattle.serde_json.specs.View.{view};
+ghost use Rattle.staat_manifest.specs.Answers.{Judges};
+ghost use Rattle.staat_manifest.specs.Values.{name_of, pieces_of};
+ghost use Rattle.staat_manifest.specs.Rules.{first_refusal, form_rules, is_name, is_piece, piece_rules};
+
+use crate::ManifestRefusal;
+use crate::json::{array_at, has_only, text_at, text_of};
+use crate::paths::{bad_member, bad_part, bad_piece};
+use serde_json::Value;
+use std::alloc::Global;
+
+// How many bytes a name has at most.
+const LONGEST_NAME: usize = 255;
+
+fn has_no_controls(bytes: &[u8]) -> bool
+    ensures { result ≡ list_all (λ b. nat_le 32 b) bytes.now }
+{
+    bytes.iter().all(|b| b' ' <= *b)
+}
+
+fn is_name(text: &str) -> bool
+    ensures { result ≡ is_name text.now }
+{
+    !text.is_empty() && text.len() <= LONGEST_NAME && has_no_controls(text.as_bytes())
+}
+
+fn is_piece(value: &Value) -> bool
+    ensures { result ≡ is_piece (view value.now) }
+{
+    !text_of(value).is_empty()
+}
+
+fn check_pieces(alloc: Global, k: u32, pieces: &[Value]) -> Result<(), ManifestRefusal>
+    ensures { Judges (first_refusal (piece_rules k 0 (map view pieces.now))) result }
+{
+    for (i, piece) in pieces.iter().enumerate() {
+        if !is_piece(piece) {
+            return Err(bad_piece(alloc, k, i));
+        }
+    }
+    Ok(())
+}
+
+/// What a part of good form says.
+#[derive(Clone, Copy)]
+pub(crate) struct Form<'v> {
+    pub(crate) name: &'v str,
+    /// Its pieces, each of which is a text that is not empty.
+    pub(crate) pieces: &'v [Value],
+}
+
+/// The form of part `k`, unless the part breaks a rule by itself.
+#[tactic(auto, unfolding(crate::specs::Rules::form_rules))]
+pub(crate) fn form_of<'v>(
+    alloc: Global,
+    k: u32,
+    part: &'v Value,
+) -> Result<Form<'v>, ManifestRefusal>
+    ensures rules { Judges (first_refusal (form_rules k (view part.entry.now))) result }
+    ensures name { IfOk result (λ form. form.name.now ≡ name_of (view part.entry.now)) }
+    ensures pieces { IfOk result (λ form. map view form.pieces.now
+        ≡ pieces_of (view part.entry.now)) }
+{
+    if !part.is_object() {
+        return Err(bad_part(alloc, k));
+    }
+    let name = text_at(part, "name");
+    if !is_name(name) {
+        return Err(bad_member(alloc, k, "name"));
+    }
+    let Some(pieces) = array_at(part, "pieces") else {
+        return Err(bad_member(alloc, k, "pieces"));
+    };
+    if !has_only(part, &["name", "pieces"]) {
+        return Err(bad_part(alloc, k));
+    }
+    if pieces.is_empty() {
+        return Err(ManifestRefusal::NoPieces(k));
+    }
+    check_pieces(alloc, k, pieces)?;
+    Ok(Form { name, pieces })
+}
