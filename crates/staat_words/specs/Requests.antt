@@ -1,41 +1,78 @@
--- What a list of words asks for.
-use Rattle.std.specs.Prelude.{◌≡◌, ℕ, List, [], ◌∷◌, length, drop, Option, Some, None, Result, Ok, Err, if◌then◌else◌, nat_eq, bytes_eq, codes, option_and_then, ⊤}
-use Rattle.std.specs.List.{starts_with}
+-- What a list of words asks for: a function of the words, by what `clap` states of them.
+use Rattle.std.specs.Prelude.{◌≡◌, ◌≤◌, ℕ, nat_le, nat_lt, List, length, Option, Some, None, Result, Ok, Err, ◌&&◌, if◌then◌else◌, option_and_then, unwrap_or, codes, is_some, ⊤}
+use Rattle.std.specs.Str.{bytes_eq}
+use Rattle.clap.specs.Walk.{Row, Text, all_of, first_of}
 use Rattle.staat_vec.specs.declared.vector.V3.{V3}
 use Rattle.staat_vec.specs.declared.vector.TheConstants.{DIRECTION, NORMAL}
 use Rattle.staat_vec.specs.Vectors.{IsWithin}
+use Rattle.staat_number.specs.Numbers.{natural_within}
+use Rattle.staat_words.specs.declared.request.Input.{Input}
+use Rattle.staat_words.specs.declared.request.Input.TheVariants.{Manifest, Files}
 use Rattle.staat_words.specs.declared.request.Request.{Request}
+use Rattle.staat_words.specs.declared.request.Request.TheVariants.{Pair, Look}
 use Rattle.staat_words.specs.declared.request.RequestRefusal.{RequestRefusal}
 use Rattle.staat_words.specs.declared.request.RequestRefusal.TheVariants.{Usage, OutOfMemory}
-use Rattle.staat_words.specs.Spelled.{vector_within}
+use Rattle.staat_words.specs.Spelled.{◌>>=◌, vector_within}
+use Rattle.staat_words.specs.Command.{is_taken, matches}
 
--- what follows these bytes in front
-unfoldable pub after : List ℕ → List ℕ → Option (List ℕ)
-after front word = if starts_with nat_eq word front then Some (drop (length front) word) else None
+-- `--digits`, 0 where it is not given
+unfoldable pub digits_in : List Row → Option ℕ
+digits_in rows = natural_within 6 (unwrap_or (first_of (codes "digits") rows) (codes "0"))
 
--- the vector that follows these bytes in front
-abbrev pub value_after : List ℕ → ℕ → List ℕ → Option V3
-value_after front most word = option_and_then (vector_within most) (after front word)
+-- the vector that an option gives
+unfoldable pub vector_in : Text → ℕ → List Row → Option V3
+vector_in id most rows = option_and_then (vector_within most) (first_of id rows)
 
-abbrev pub pair_of : List ℕ → List ℕ → Option V3 → Option V3 → Option Request
-pair_of first second (Some along) (Some wall) = Some (record { along = along; wall = wall; first = first; second = second })
-pair_of first second along wall = None
+unfoldable pub pair_in : List Row → Option Request
+pair_in rows = do
+  digits ← digits_in rows
+  along ← vector_in (codes "along") DIRECTION rows
+  wall ← vector_in (codes "wall") NORMAL rows
+  first ← first_of (codes "first") rows
+  second ← first_of (codes "second") rows
+  Some (Pair digits along wall first second)
 
--- the request of the words: none is a usage fault
-abbrev pub request : List (List ℕ) → Option Request
-request (command ∷ first ∷ second ∷ along ∷ wall ∷ []) =
-    if bytes_eq command (codes "pair")
-    then pair_of first second (value_after (codes "--along=") DIRECTION along) (value_after (codes "--wall=") NORMAL wall)
-    else None
-request words = None
+-- the files, where there are 1 to 32
+abbrev pub some_files : List Text → Option Input
+some_files names = if nat_lt 0 (length names) && nat_le (length names) 32 then Some (Files names) else None
+
+-- either a part list or files
+abbrev pub input_from : Option Text → Option (List Text) → Option Input
+input_from (Some name) names = if is_some names then None else Some (Manifest name)
+input_from None names = option_and_then some_files names
+
+unfoldable pub input_in : List Row → Option Input
+input_in rows = input_from (first_of (codes "manifest") rows) (all_of (codes "files") rows)
+
+unfoldable pub look_in : List Row → Option Request
+look_in rows = do
+  digits ← digits_in rows
+  input ← input_in rows
+  Some (Look digits input)
+
+-- the request of a subcommand and its matches: a line for each command
+unfoldable pub request_in : Option (Text × List Row) → Option Request
+request_in None = None
+request_in (Some found) =
+    if bytes_eq found.0 (codes "pair") then pair_in found.1
+    else (if bytes_eq found.0 (codes "look") then look_in found.1 else None)
+
+-- The request of the words: none is a usage fault.
+unfoldable pub request : List Text → Option Request
+request words = if is_taken words then request_in (matches words) else None
 
 -- the answer is the request, or Usage where there is none; want of memory is free
-abbrev pub Reads : Option Request → Result Request RequestRefusal → Type 0
-Reads asked (Ok request) = asked ≡ Some request
-Reads asked (Err Usage) = asked ≡ None
-Reads asked (Err OutOfMemory) = ⊤
+abbrev pub Answers : Option Request → Result Request RequestRefusal → Type 0
+Answers asked (Ok request) = asked ≡ Some request
+Answers asked (Err Usage) = asked ≡ None
+Answers asked (Err OutOfMemory) = ⊤
+
+abbrev pub AnswersInput : Option Input → Result Input RequestRefusal → Type 0
+AnswersInput asked (Ok input) = asked ≡ Some input
+AnswersInput asked (Err Usage) = asked ≡ None
+AnswersInput asked (Err OutOfMemory) = ⊤
 
 -- how great the numbers of a request are at most
-pub record HasBounds (request : Request) : Type 0 where
-  pub along : IsWithin DIRECTION request.along
-  pub wall : IsWithin NORMAL request.wall
+abbrev pub HasBounds : Request → Type 0
+HasBounds (Pair digits along wall first second) = (digits ≤ 6) × IsWithin DIRECTION along × IsWithin NORMAL wall
+HasBounds (Look digits input) = digits ≤ 6

@@ -1,11 +1,13 @@
-//! What the command words ask for.
+//! What the command words ask for. The words are read with `clap`.
 #![tactic(auto)]
 
+mod arguments;
+mod command;
 mod request;
 mod vector;
 mod words;
 
-pub use request::{Request, RequestRefusal};
+pub use request::{Input, Request, RequestRefusal};
 pub use words::request_of;
 
 #[cfg(test)]

@@ -1,28 +1,172 @@
-// Worked examples of words.
-use crate::{RequestRefusal, request_of};
+// Worked examples of words: which are taken, and what they ask for.
+use crate::{Input, Request, RequestRefusal, request_of};
 use staat_vec::V3;
+use std::alloc::{AllocError, Global};
 use std::test::Fail;
 
+fn asked(alloc: Global, words: &[&str]) -> Result<Result<Request, RequestRefusal>, AllocError> {
+    let mut list = Vec::new(alloc);
+    for word in words {
+        list.push(String::from_str(alloc, word)?)?;
+    }
+    Ok(request_of(alloc, &list))
+}
+
 #[test]
-fn pair_takes_five_words_in_their_order(rt: HostRuntime) -> Result<(), Fail> {
+fn words_are_taken_or_a_usage_fault(rt: HostRuntime) -> Result<(), Fail> {
     let alloc = rt.alloc();
-    let mut words = Vec::new(alloc);
-    for word in ["pair", "a.off", "b.off", "--along=-1,0,22", "--wall=0,-3,4"] {
-        words.push(String::from_str(alloc, word)?)?;
-    }
-    match request_of(alloc, &words) {
-        Ok(request) => {
-            assert_eq!(rt; request.along, V3 { x: -1, y: 0, z: 22 });
-            assert_eq!(rt; request.wall, V3 { x: 0, y: -3, z: 4 });
-            assert_eq!(rt; request.first.as_str(), "a.off");
-            assert_eq!(rt; request.second.as_str(), "b.off");
+    let table: [(&[&str], bool); 31] = [
+        (&["pair", "a", "b", "--along=0,0,1", "--wall=1,0,0"], true),
+        (&["pair", "--wall=1,0,0", "a", "b", "--along=0,0,1"], true),
+        (
+            &[
+                "pair",
+                "--wall",
+                "1,0,0",
+                "a",
+                "--digits=6",
+                "b",
+                "--along=0,0,-1",
+            ],
+            true,
+        ),
+        (
+            &[
+                "pair",
+                "a",
+                "b",
+                "--along=9444732965739290427392,0,0",
+                "--wall=0,-34359738368,0",
+            ],
+            true,
+        ),
+        (
+            &[
+                "pair",
+                "a",
+                "b",
+                "--along=9444732965739290427393,0,0",
+                "--wall=1,0,0",
+            ],
+            false,
+        ),
+        (
+            &["pair", "a", "b", "--along=1,0,0", "--wall=34359738369,0,0"],
+            false,
+        ),
+        (&["pair", "a", "b", "--along=0,0,1"], false),
+        (&["pair", "a", "--along=0,0,1", "--wall=1,0,0"], false),
+        (
+            &["pair", "a", "b", "c", "--along=0,0,1", "--wall=1,0,0"],
+            false,
+        ),
+        (&["pair", "a", "b", "--along=0,0,0", "--wall=1,0,0"], false),
+        (&["pair", "a", "b", "--along=0,0,-0", "--wall=1,0,0"], false),
+        (&["pair", "a", "b", "--along=0,0,+1", "--wall=1,0,0"], false),
+        (&["pair", "a", "b", "--along=0,0,01", "--wall=1,0,0"], false),
+        (&["pair", "a", "b", "--along=0,0", "--wall=1,0,0"], false),
+        (
+            &["pair", "a", "b", "--along=0,0,1,0", "--wall=1,0,0"],
+            false,
+        ),
+        (
+            &["pair", "a", "b", "--along", "-1,0,0", "--wall=1,0,0"],
+            false,
+        ),
+        (
+            &[
+                "pair",
+                "a",
+                "b",
+                "--along=1,0,0",
+                "--wall=1,0,0",
+                "--wall=1,0,0",
+            ],
+            false,
+        ),
+        (&["look", "a"], true),
+        (&["look", "a", "--digits=3", "b", "--", "-h"], true),
+        (&["look", "--manifest=m"], true),
+        (&["look", "--manifest="], true),
+        (&["look", "--manifest=m", "a"], false),
+        (&["look"], false),
+        (&["look", "--digits=7", "a"], false),
+        (&["look", "--digits=07", "a"], false),
+        (&["look", "--digits=", "a"], false),
+        (&["look", "--digits=1", "--digits=1", "a"], false),
+        (&["look", "-h", "a"], false),
+        (&["look", "help"], true),
+        (&["help"], false),
+        (&[], false),
+    ];
+    for (words, taken) in table {
+        let answer = asked(alloc, words)?;
+        assert_eq!(rt; answer.is_ok(), taken, "at {words:?}");
+        if let Err(refusal) = answer {
+            assert_eq!(rt; refusal, RequestRefusal::Usage);
         }
-        Err(refusal) => assert!(rt; false, "{refusal:?}"),
     }
-    let _ = words.pop();
-    match request_of(alloc, &words) {
-        Err(refusal) => assert_eq!(rt; refusal, RequestRefusal::Usage),
-        Ok(_) => assert!(rt; false, "four words were taken"),
+    Ok(())
+}
+
+// A request in words.
+fn shown(alloc: Global, request: &Request) -> Result<String, AllocError> {
+    match request {
+        Request::Pair {
+            digits,
+            along,
+            wall,
+            first,
+            second,
+        } => {
+            let V3 { x, y, z } = *along;
+            let V3 { x: u, y: v, z: w } = *wall;
+            let first = first.as_str();
+            let second = second.as_str();
+            format!(in alloc; "{digits}: {first} and {second} along {x} {y} {z}, wall {u} {v} {w}")
+        }
+        Request::Look {
+            digits,
+            input: Input::Files(files),
+        } => {
+            let count = files.as_slice().len();
+            format!(in alloc; "{digits}: {count} files")
+        }
+        Request::Look {
+            digits,
+            input: Input::Manifest(list),
+        } => {
+            let list = list.as_str();
+            format!(in alloc; "{digits}: the part list {list}")
+        }
+    }
+}
+
+#[test]
+fn a_request_has_the_values_of_its_words(rt: HostRuntime) -> Result<(), Fail> {
+    let alloc = rt.alloc();
+    let table: [(&[&str], &str); 3] = [
+        (
+            &[
+                "pair",
+                "--wall=0,-3,4",
+                "a.off",
+                "b.off",
+                "--along=-1,0,22",
+                "--digits=2",
+            ],
+            "2: a.off and b.off along -1 0 22, wall 0 -3 4",
+        ),
+        (&["look", "a", "--digits=3", "b", "--", "-h"], "3: 3 files"),
+        (&["look", "--manifest=m.json"], "0: the part list m.json"),
+    ];
+    for (words, text) in table {
+        let answer = asked(alloc, words)?;
+        if let Ok(request) = &answer {
+            let found = shown(alloc, request)?;
+            assert_eq!(rt; found.as_str(), text);
+        }
+        assert!(rt; answer.is_ok(), "at {words:?}");
     }
     Ok(())
 }

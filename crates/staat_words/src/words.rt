@@ -1,55 +1,88 @@
 // The reading of the command words.
-ghost use Rattle.std.specs.Prelude.{◌≡◌, ◌≤◌, map, string_bytes, List, ℕ, Option, option_map, IfSome, IfOk, IsSome, Some};
-ghost use Rattle.staat_vec.specs.Vectors.{IsWithin};
-ghost use Rattle.staat_words.specs.Requests.{HasBounds, Reads, after, request, value_after};
+ghost use Rattle.std.specs.Prelude.{◌≡◌, map, string_bytes, IfOk, IsErrOf, true, false};
+ghost use Rattle.clap.specs.Words.{found_of, rows_of, subcommand_rows_of};
+ghost use Rattle.staat_words.specs.Command.{is_taken, matches as matches_at};
+ghost use Rattle.staat_words.specs.Requests.{Answers, HasBounds, look_in, pair_in, request, request_in};
 
+use crate::arguments::{digits_of, input_of, name_of, value_of, vector_in};
+use crate::command::staat_command;
 use crate::request::{Request, RequestRefusal};
-use crate::vector::vector_of;
-use staat_vec::{DIRECTION, NORMAL, Name, V3};
-use std::alloc::{AllocError, Global};
+use clap::ArgMatches;
+use clap::error::ErrorKind;
+use staat_vec::{DIRECTION, NORMAL};
+use std::alloc::Global;
 
-// What follows the front of a word.
-#[tactic(auto, unfolding(crate::specs::Requests::after))]
-fn after<'a>(front: &str, word: &'a str) -> Option<&'a str>
-    ensures { option_map (λ s. s.now) result ≡ after front.now word.entry.now }
-{
-    word.strip_prefix(front)
-}
-
-fn value_after(front: &str, word: &str, most: u128) -> Option<V3>
-    requires { most ≤ DIRECTION }
-    ensures exact { result ≡ value_after front.now most word.now }
-    ensures bound { IfSome result (IsWithin most) }
-{
-    match after(front, word) {
-        Some(text) => vector_of(text, most),
-        None => None,
-    }
-}
-
-fn name_of(alloc: Global, word: &str) -> Result<Name, AllocError>
-    ensures { IfOk result (λ n. n ≡ word.now) }
-{
-    Ok(Name::from_string(String::from_str(alloc, word)?))
-}
-
-/// The request of the words after the program's name. Usage comes exactly where they make none.
-pub fn request_of(alloc: Global, words: &Vec<String>) -> Result<Request, RequestRefusal>
-    ensures reads { Reads (request (map string_bytes words.now.items)) result }
+#[tactic(auto, unfolding(crate::specs::Requests::pair_in))]
+fn pair_of(alloc: Global, matches: &ArgMatches<'_>) -> Result<Request, RequestRefusal>
+    ensures answers { Answers (pair_in (rows_of (found_of matches.now))) result }
     ensures bounds { IfOk result HasBounds }
 {
-    let [command, first, second, along, wall] = words.as_slice() else {
-        return Err(RequestRefusal::Usage);
-    };
-    if command.as_str() != "pair" {
-        return Err(RequestRefusal::Usage);
-    }
-    let along = value_after("--along=", along, DIRECTION).ok_or(RequestRefusal::Usage)?;
-    let wall = value_after("--wall=", wall, NORMAL).ok_or(RequestRefusal::Usage)?;
-    Ok(Request {
+    let digits = digits_of(matches).ok_or(RequestRefusal::Usage)?;
+    let along = vector_in(matches, "along", DIRECTION).ok_or(RequestRefusal::Usage)?;
+    let wall = vector_in(matches, "wall", NORMAL).ok_or(RequestRefusal::Usage)?;
+    let first = value_of(matches, "first").ok_or(RequestRefusal::Usage)?;
+    let second = value_of(matches, "second").ok_or(RequestRefusal::Usage)?;
+    Ok(Request::Pair {
+        digits,
         along,
         wall,
         first: name_of(alloc, first)?,
         second: name_of(alloc, second)?,
     })
+}
+
+#[tactic(auto, unfolding(crate::specs::Requests::look_in))]
+fn look_of(alloc: Global, matches: &ArgMatches<'_>) -> Result<Request, RequestRefusal>
+    ensures answers { Answers (look_in (rows_of (found_of matches.now))) result }
+    ensures bounds { IfOk result HasBounds }
+{
+    let digits = digits_of(matches).ok_or(RequestRefusal::Usage)?;
+    let input = input_of(alloc, matches)?;
+    Ok(Request::Look { digits, input })
+}
+
+// The matches of words that `clap` takes.
+fn matches_of<'a>(alloc: Global, words: &'a [String]) -> Result<ArgMatches<'a>, RequestRefusal>
+    ensures taken { IfOk result (λ m. is_taken (map string_bytes words.entry.now) ≡ true) }
+    ensures matches { IfOk result (λ m. subcommand_rows_of m ≡ matches_at (map string_bytes words.entry.now)) }
+    ensures usage { IsErrOf result RequestRefusal.Usage → is_taken (map string_bytes words.entry.now) ≡ false }
+{
+    let command = staat_command(alloc)?;
+    match command.try_get_matches_from(words) {
+        Ok(matches) => Ok(matches),
+        Err(error) => match error.kind() {
+            ErrorKind::OutOfMemory => Err(RequestRefusal::OutOfMemory),
+            _ => Err(RequestRefusal::Usage),
+        },
+    }
+}
+
+// The request of a subcommand: a line for each command.
+#[tactic(auto, unfolding(crate::specs::Requests::request_in))]
+fn request_from(alloc: Global, matches: &ArgMatches<'_>) -> Result<Request, RequestRefusal>
+    ensures answers { Answers (request_in (subcommand_rows_of matches.now)) result }
+    ensures bounds { IfOk result HasBounds }
+{
+    match matches.subcommand() {
+        Some((name, inner)) => {
+            if name == "pair" {
+                pair_of(alloc, inner)
+            } else if name == "look" {
+                look_of(alloc, inner)
+            } else {
+                Err(RequestRefusal::Usage)
+            }
+        }
+        None => Err(RequestRefusal::Usage),
+    }
+}
+
+/// The request of the words after the program's name. Usage comes exactly where they make none.
+#[tactic(auto, unfolding(crate::specs::Requests::request))]
+pub fn request_of(alloc: Global, words: &Vec<String>) -> Result<Request, RequestRefusal>
+    ensures answers { Answers (request (map string_bytes words.now.items)) result }
+    ensures bounds { IfOk result HasBounds }
+{
+    let matches = matches_of(alloc, words.as_slice())?;
+    request_from(alloc, &matches)
 }

@@ -1,0 +1,92 @@
+// The values of a subcommand's arguments, as `clap` found them.
+ghost use Rattle.std.specs.Prelude.{◌≡◌, ◌≤◌, ◌≢◌, map, option_map, IfSome, IfOk};
+ghost use Rattle.clap.specs.Words.{all_of, first_of, found_of, rows_of};
+ghost use Rattle.staat_vec.specs.Vectors.{IsWithin, origin};
+ghost use Rattle.staat_words.specs.Requests.{AnswersInput, digits_in, input_in, vector_in};
+
+use crate::request::{Input, RequestRefusal};
+use crate::vector::vector_of;
+use clap::ArgMatches;
+use staat_number::natural_of;
+use staat_vec::{DIRECTION, Name, Names, V3};
+use std::alloc::{AllocError, Global};
+
+/// The first value of an argument.
+pub fn value_of<'a>(matches: &ArgMatches<'a>, id: &str) -> Option<&'a str>
+    ensures { option_map (λ s. s.now) result ≡ first_of id.now (rows_of (found_of matches.now)) }
+{
+    matches.get_str(id)
+}
+
+// All values of an argument.
+fn values_of<'m, 'a>(matches: &'m ArgMatches<'a>, id: &str) -> Option<&'m [&'a str]>
+    ensures { option_map (λ s. map (λ v. v.now) s.now) result ≡ all_of id.now (rows_of (found_of matches.entry.now)) }
+{
+    matches.get_strs(id)
+}
+
+/// The option `--digits`, 0 where it is not given.
+#[tactic(auto, unfolding(crate::specs::Requests::digits_in))]
+pub fn digits_of(matches: &ArgMatches<'_>) -> Option<u32>
+    ensures exact { result ≡ digits_in (rows_of (found_of matches.now)) }
+    ensures bound { IfSome result (λ n. n ≤ 6) }
+{
+    let text = value_of(matches, "digits").unwrap_or("0");
+    let n = natural_of(text, 6)?;
+    Some(n as u32)
+}
+
+/// The vector that an option gives.
+#[tactic(auto, unfolding(crate::specs::Requests::vector_in))]
+pub fn vector_in(matches: &ArgMatches<'_>, id: &str, most: u128) -> Option<V3>
+    requires { most ≤ DIRECTION }
+    ensures exact { result ≡ vector_in id.now most (rows_of (found_of matches.now)) }
+    ensures bound { IfSome result (IsWithin most) }
+    ensures moves { IfSome result (λ v. v ≢ origin) }
+{
+    match value_of(matches, id) {
+        Some(text) => vector_of(text, most),
+        None => None,
+    }
+}
+
+/// The name that a word is.
+pub fn name_of(alloc: Global, word: &str) -> Result<Name, AllocError>
+    ensures { IfOk result (λ n. n ≡ word.now) }
+{
+    Ok(Name::from_string(String::from_str(alloc, word)?))
+}
+
+// The names that words are.
+fn names_of(alloc: Global, words: &[&str]) -> Result<Names, AllocError>
+    ensures { IfOk result (λ names. names ≡ map (λ s. s.now) words.now) }
+{
+    let mut names = Vec::new(alloc);
+    for word in words {
+        names.push(name_of(alloc, word)?)?;
+    }
+    Ok(Names::from_vec(names))
+}
+
+/// Where the parts come from: either a part list, or 1 to 32 files.
+#[tactic(auto, unfolding(crate::specs::Requests::input_in))]
+pub fn input_of(alloc: Global, matches: &ArgMatches<'_>) -> Result<Input, RequestRefusal>
+    ensures { AnswersInput (input_in (rows_of (found_of matches.now))) result }
+{
+    let files = values_of(matches, "files");
+    match value_of(matches, "manifest") {
+        Some(name) => {
+            if files.is_some() {
+                return Err(RequestRefusal::Usage);
+            }
+            Ok(Input::Manifest(name_of(alloc, name)?))
+        }
+        None => {
+            let files = files.ok_or(RequestRefusal::Usage)?;
+            if files.is_empty() || files.len() > 32 {
+                return Err(RequestRefusal::Usage);
+            }
+            Ok(Input::Files(names_of(alloc, files)?))
+        }
+    }
+}

@@ -1,0 +1,100 @@
+// The command that `clap` reads the words by: long options alone, files as plain words.
+ghost use Rattle.std.specs.Prelude.{◌≡◌, IfOk, true, false};
+ghost use Rattle.clap.specs.Words.{app_of, rule_of, new_rule, with_rule, with_subcommand};
+ghost use Rattle.staat_words.specs.Command.{bare_app, command, list_rule, look_app, option_rule, pair_app, pair_options_app, required, is_local};
+
+use clap::{Arg, Command};
+use std::alloc::{AllocError, Global};
+
+// `--id=value`
+fn option(alloc: Global, id: &str) -> Arg<'_>
+    ensures rule { rule_of result ≡ option_rule id.entry.now }
+    ensures global { result.global ≡ false }
+{
+    Arg::new(alloc, id).long(id)
+}
+
+fn required_option(alloc: Global, id: &str) -> Arg<'_>
+    ensures rule { rule_of result ≡ required (option_rule id.entry.now) }
+    ensures global { result.global ≡ false }
+{
+    Arg::new(alloc, id).long(id).required(true)
+}
+
+fn required_word(alloc: Global, id: &str) -> Arg<'_>
+    ensures rule { rule_of result ≡ required (new_rule id.entry.now) }
+    ensures global { result.global ≡ false }
+{
+    Arg::new(alloc, id).required(true)
+}
+
+fn list_of_words(alloc: Global, id: &str) -> Arg<'_>
+    ensures rule { rule_of result ≡ list_rule id.entry.now }
+    ensures global { result.global ≡ false }
+{
+    Arg::new(alloc, id).num_args(1..)
+}
+
+fn with_arg<'a>(command: Command<'a>, arg: Arg<'a>) -> Result<Command<'a>, AllocError>
+    requires global { arg.global ≡ false }
+    requires local { is_local command ≡ true }
+    ensures app { IfOk result (λ r. app_of r ≡ with_rule (app_of command.entry) (rule_of arg.entry)) }
+    ensures local { IfOk result (λ r. is_local r ≡ true) }
+{
+    command.arg(arg)
+}
+
+fn pair_options<'a>(alloc: Global) -> Result<Command<'a>, AllocError>
+    ensures app { IfOk result (λ c. app_of c ≡ pair_options_app) }
+    ensures local { IfOk result (λ c. is_local c ≡ true) }
+{
+    let pair = Command::new(alloc, "pair");
+    let pair = with_arg(pair, option(alloc, "digits"))?;
+    let pair = with_arg(pair, required_option(alloc, "along"))?;
+    with_arg(pair, required_option(alloc, "wall"))
+}
+
+fn pair_command<'a>(alloc: Global) -> Result<Command<'a>, AllocError>
+    ensures app { IfOk result (λ c. app_of c ≡ pair_app) }
+    ensures local { IfOk result (λ c. is_local c ≡ true) }
+{
+    let pair = pair_options(alloc)?;
+    let pair = with_arg(pair, required_word(alloc, "first"))?;
+    with_arg(pair, required_word(alloc, "second"))
+}
+
+fn look_command<'a>(alloc: Global) -> Result<Command<'a>, AllocError>
+    ensures app { IfOk result (λ c. app_of c ≡ look_app) }
+    ensures local { IfOk result (λ c. is_local c ≡ true) }
+{
+    let look = Command::new(alloc, "look");
+    let look = with_arg(look, option(alloc, "digits"))?;
+    let look = with_arg(look, option(alloc, "manifest"))?;
+    with_arg(look, list_of_words(alloc, "files"))
+}
+
+fn with_command<'a>(command: Command<'a>, inner: Command<'a>) -> Result<Command<'a>, AllocError>
+    requires { is_local inner ≡ true }
+    ensures { IfOk result (λ r. app_of r ≡ with_subcommand (app_of command.entry) (app_of inner.entry).top) }
+{
+    command.subcommand(inner)
+}
+
+fn bare_command<'a>(alloc: Global) -> Command<'a>
+    ensures { app_of result ≡ bare_app }
+{
+    Command::new(alloc, "staat")
+        .no_binary_name(true)
+        .subcommand_required(true)
+}
+
+/// The whole command: a subcommand for each kind of request.
+#[tactic(auto, unfolding(crate::specs::Command::command))]
+pub fn staat_command<'a>(alloc: Global) -> Result<Command<'a>, AllocError>
+    ensures { IfOk result (λ c. app_of c ≡ command) }
+{
+    let bare = bare_command(alloc);
+    let pair = pair_command(alloc)?;
+    let staat = with_command(bare, pair)?;
+    with_command(staat, look_command(alloc)?)
+}
