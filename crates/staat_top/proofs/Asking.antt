@@ -1,12 +1,13 @@
 -- From the work on a request to what is said of the words that make it.
-use Rattle.std.proofs.Common.{◌≡◌, ℕ, List, Option, Some, None, Ok, Err, sym, subst}
+use Rattle.std.proofs.Common.{◌≡◌, Option, Some, None, Ok, Err, refl, sym, subst, inl}
 use Rattle.std.specs.Prelude.{Result, IfOk, IfErr, MatchResult}
 use Rattle.staat_words.specs.declared.request.Request.{Request}
 use Rattle.staat_top.specs.declared.answer.Answer.{Answer}
-use Rattle.staat_top.specs.declared.fault.Fault.{Fault}
+use Rattle.staat_fault.specs.declared.fault.Fault.{Fault}
+use Rattle.staat_fault.specs.declared.fault.Fault.TheVariants.{Usage}
 use Rattle.staat_top.specs.Steps.{Files, replies, answered}
 use Rattle.staat_top.specs.Replies.{EndsOf}
-use Rattle.staat_top.specs.Runs.{ShelfSide, HasCause, IsCaused, IsPlaced, IsExplained, IsAnswer}
+use Rattle.staat_top.specs.Runs.{ShelfSide, HasCause, IsPlaced, IsExplained, IsAnswer}
 
 -- where the work on the request ends, over the files that the shelf holds
 abbrev pub Works : Request → ShelfSide → Result Answer Fault → Type 0
@@ -20,4 +21,8 @@ pub asked_fault : (asked : Option Request) (request : Request) (shelf : ShelfSid
 asked_fault asked request shelf (Ok a) e works cause = tt
 asked_fault asked request shelf (Err f) e works cause = subst (λ o. IsExplained o shelf f) (sym e) (record { cause = cause; placed = works })
 
-pub ruleset asking = (asked_answer, asked_fault)
+-- words whose command is not built are a usage fault
+pub asked_usage : (asked : Option Request) (shelf : ShelfSide) → asked ≡ None → IsExplained asked shelf Usage
+asked_usage asked shelf e = subst (λ o. IsExplained o shelf Usage) (sym e) (record { cause = inl refl; placed = λ files told. refl })
+
+pub ruleset asking = (asked_answer, asked_fault, asked_usage)

@@ -1,5 +1,5 @@
 -- The answer for two pieces.
-use Rattle.std.proofs.Common.{◌≡◌, ℕ, List, ap, ap₂}
+use Rattle.std.proofs.Common.{◌≡◌, ℕ, List, ap₂}
 use Rattle.std.specs.Prelude.{codes}
 use Rattle.staat_vec.specs.declared.vector.V3.{V3}
 use Rattle.staat_model.specs.Walls.{IsShown}

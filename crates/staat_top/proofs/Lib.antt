@@ -1,6 +1,3 @@
-pub mod Split
-pub mod Points
-pub mod Making
 pub mod Reading
 pub mod Judging
 pub mod OneReply

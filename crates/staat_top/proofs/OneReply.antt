@@ -1,19 +1,19 @@
 -- There is one reply to a request over some files, and none where a file that is reached is not there.
-use Rattle.std.proofs.Common.{◌≡◌, ◌≢◌, ◌⊎◌, ℕ, ◌<◌, ◌≤◌, List, length, Option, Some, None, refl, ap, sym, ◌∙◌, subst, arith, inl, inr, ◌++◌}
-use Rattle.std.specs.Prelude.{codes, Contains}
+use Rattle.std.proofs.Common.{◌≡◌, ℕ, ◌<◌, ◌≤◌, List, length, Option, Some, None, refl, ap, sym, ◌∙◌, subst, arith, inl, inr}
+use Rattle.std.specs.Prelude.{Ok, Err}
+use Rattle.staat_mesh.specs.declared.refusal.MeshRefusal.{MeshRefusal}
 use Rattle.staat_vec.specs.declared.vector.V3.{V3}
-use Rattle.staat_vec.specs.Vectors.{vector_cmp}
-use Rattle.staat_vec.specs.Lists.{Lists}
-use Rattle.staat_vec.proofs.VectorOrder.{vector_total, vector_exact}
-use Rattle.staat_vec.proofs.Unique.{Lists-unique}
-use Rattle.staat_model.specs.Walls.{IsShown}
-use Rattle.staat_model.specs.Meeting.{Meets}
+use Rattle.staat_mesh.specs.Polygons.{mesh}
+use Rattle.staat_mesh.specs.Judging.{Judges}
+use Rattle.staat_mesh.proofs.OneAnswer.{one_answer_lemma}
 use Rattle.staat_edge.specs.Files.{bytes_of}
 use Rattle.staat_words.specs.declared.request.Request.{Request}
+use Rattle.staat_words.specs.declared.request.Request.TheVariants.{Pair, Look}
 use Rattle.staat_top.specs.declared.read.TheConstants.{FILE_LIMIT}
-use Rattle.staat_top.specs.Plain.{IsPlain, MakesPiece}
-use Rattle.staat_top.specs.Steps.{Files, End, replies, reads, Found, gives, stops, Then, Reply, answered}
-use Rattle.staat_top.specs.Replies.{IsPieceOf, to_read, too_long, not_plain, plain, IsJudged, free, not_shown, EndsOf, Ends, IsReply}
+use Rattle.staat_top.specs.Steps.{Files, End, replies, reads, Found, gives, stops, Then, Reply, refused, IsTaken, to_read, too_long, taken}
+use Rattle.staat_top.specs.Refusals.{off_fault, mesh_fault}
+use Rattle.staat_top.specs.Pieces.{IsPieceOf, SaysPiece, no_file, no_piece, piece}
+use Rattle.staat_top.specs.Replies.{IsJudged, free, not_shown, Ends}
 
 -- the step does not stand at a file that is to be read
 abbrev pub IsSettled : {X : Type 0} → Found X → Type 0
@@ -60,15 +60,6 @@ then_rest {X} files First Rest first rest = record { one = one; held = held }
         let same : a.0 ≡ b.0 = gives_one a.0 b.0 (first.one _ _ a.1 b.1 tt tt) in
         (rest b.0).held name r (subst (λ x. Rest x (reads name)) same a.2) lacks b.2
 
--- a file in the plain form has one piece
-plain_one : (bytes : List ℕ) (p q : List V3) → IsPlain bytes p → IsPlain bytes q → p ≡ q
-plain_one bytes p q a b =
-    let same : a.points ≡ b.points = some_one a.points b.points (sym a.read ∙ b.read) in
-    Lists-unique vector_cmp vector_total vector_exact _ p q (subst (λ points. Lists vector_cmp (λ x. Contains points x) p) same a.made.listed) b.made.listed
-  where
-    some_one : (x y : List V3) → Some x ≡ Some y → x ≡ y
-    some_one x y e = cc
-
 bytes_one : (o : Option (List ℕ)) (a b : List ℕ) → o ≡ Some a → o ≡ Some b → a ≡ b
 bytes_one o a b e f = cc
 
@@ -84,42 +75,73 @@ unsettled name f e settled = subst IsSettled e settled
 not_long : (o : Option (List ℕ)) (a b : List ℕ) → o ≡ Some a → o ≡ Some b → FILE_LIMIT < length a → length b ≤ FILE_LIMIT → ⊥
 not_long o a b e f long short = absurd (omega (arith, ap length (bytes_one o a b e f)))
 
-piece_one : (files : Files) (name : List ℕ) (f g : Found (List V3)) → IsPieceOf files name f → IsPieceOf files name g → IsSettled f → IsSettled g → f ≡ g
-piece_one files name f g (to_read e) b sf sg = absurd (unsettled name f e sf)
-piece_one files name f g a (to_read e) sf sg = absurd (unsettled name g e sg)
-piece_one files name f g (too_long x xe xl e) (too_long y ye yl d) sf sg = e ∙ sym d
-piece_one files name f g (too_long x xe xl e) (not_plain y ye ys yn d) sf sg = absurd (not_long _ x y xe ye xl ys)
-piece_one files name f g (too_long x xe xl e) (plain y q ye ys yp d) sf sg = absurd (not_long _ x y xe ye xl ys)
-piece_one files name f g (not_plain x xe xs xn e) (too_long y ye yl d) sf sg = absurd (not_long _ y x ye xe yl xs)
-piece_one files name f g (not_plain x xe xs xn e) (not_plain y ye ys yn d) sf sg = e ∙ sym d
-piece_one files name f g (not_plain x xe xs xn e) (plain y q ye ys yp d) sf sg =
-    absurd (xn q (subst (λ bytes. IsPlain bytes q) (bytes_one _ y x ye xe) yp))
-piece_one files name f g (plain x p xe xs xp e) (too_long y ye yl d) sf sg = absurd (not_long _ y x ye xe yl xs)
-piece_one files name f g (plain x p xe xs xp e) (not_plain y ye ys yn d) sf sg =
-    absurd (yn p (subst (λ bytes. IsPlain bytes p) (bytes_one _ x y xe ye) xp))
-piece_one files name f g (plain x p xe xs xp e) (plain y q ye ys yp d) sf sg =
-    let same : p ≡ q = plain_one y p q (subst (λ bytes. IsPlain bytes p) (bytes_one _ x y xe ye) xp) yp in
-    e ∙ ap gives same ∙ sym d
+-- what bytes say is one thing, and no file that is to be read
+pub record IsSaying {X : Type 0} (Says : List ℕ → Found X → Type 0) : Type 0 where
+  pub one : (bytes : List ℕ) (f g : Found X) → Says bytes f → Says bytes g → f ≡ g
+  pub no_read : (bytes name : List ℕ) → Says bytes (stops (reads name)) → ⊥
 
--- where the file is not there, the step stands at it
-piece_reads : (files : Files) (name : List ℕ) (f : Found (List V3)) → bytes_of name files ≡ None → IsPieceOf files name f → IsSettled f → ⊥
-piece_reads files name f lacks (to_read e) settled = unsettled name f e settled
-piece_reads files name f lacks (too_long x xe xl e) settled = not_both _ x xe lacks
-piece_reads files name f lacks (not_plain x xe xs xn e) settled = not_both _ x xe lacks
-piece_reads files name f lacks (plain x p xe xs xp e) settled = not_both _ x xe lacks
-
--- the file at which the step stands is its own
-piece_at : (files : Files) (name n : List ℕ) → IsPieceOf files name (stops (reads n)) → n ≡ name
-piece_at files name n (to_read e) = at_reads _ n name refl e
-piece_at files name n (too_long x xe xl e) = absurd cc
-piece_at files name n (not_plain x xe xs xn e) = absurd cc
-piece_at files name n (plain x p xe xs xp e) = absurd (gives_stops p (reads n) (sym e))
-
-piece_step : (files : Files) (name : List ℕ) → IsStep files (IsPieceOf files name)
-piece_step files name = record {
-  one = piece_one files name;
-  held = λ n f at lacks step settled. piece_reads files name f (subst (λ m. bytes_of m files ≡ None) (piece_at files name n at) lacks) step settled;
+-- a step that takes a whole file
+pub taken_step : {X : Type 0} (files : Files) (name : List ℕ) (Says : List ℕ → Found X → Type 0) → IsSaying Says → IsStep files (IsTaken files name Says)
+taken_step {X} files name Says saying = record {
+  one = one;
+  held = λ n f at lacks step settled. not_there f (subst (λ m. bytes_of m files ≡ None) (its_own n at) lacks) step settled;
 }
+  where
+    one : (f g : Found X) → IsTaken files name Says f → IsTaken files name Says g → IsSettled f → IsSettled g → f ≡ g
+    one f g (to_read e) b sf sg = absurd (unsettled name f e sf)
+    one f g a (to_read e) sf sg = absurd (unsettled name g e sg)
+    one f g (too_long x xe xl e) (too_long y ye yl d) sf sg = e ∙ sym d
+    one f g (too_long x xe xl e) (taken y ye ys yt) sf sg = absurd (not_long _ x y xe ye xl ys)
+    one f g (taken x xe xs xt) (too_long y ye yl d) sf sg = absurd (not_long _ y x ye xe yl xs)
+    one f g (taken x xe xs xt) (taken y ye ys yt) sf sg = saying.one y f g (subst (λ bytes. Says bytes f) (bytes_one _ x y xe ye) xt) yt
+
+    not_there : (f : Found X) → bytes_of name files ≡ None → IsTaken files name Says f → IsSettled f → ⊥
+    not_there f lacks (to_read e) settled = unsettled name f e settled
+    not_there f lacks (too_long x xe xl e) settled = not_both _ x xe lacks
+    not_there f lacks (taken x xe xs xt) settled = not_both _ x xe lacks
+
+    its_own : (n : List ℕ) → IsTaken files name Says (stops (reads n)) → n ≡ name
+    its_own n (to_read e) = at_reads _ n name refl e
+    its_own n (too_long x xe xl e) = absurd cc
+    its_own n (taken x xe xs xt) = absurd (saying.no_read x n xt)
+
+unlike : (r : MeshRefusal) (p : List V3) → Err r ≡ Ok p → ⊥
+unlike r p e = cc
+
+piece_saying : (digits : ℕ) (name : List ℕ) → IsSaying (SaysPiece digits name)
+piece_saying digits name = record { one = one; no_read = no_read }
+  where
+    one : (bytes : List ℕ) (f g : Found (List V3)) → SaysPiece digits name bytes f → SaysPiece digits name bytes g → f ≡ g
+    one bytes f g (no_file r re e) (no_file s se d) =
+        let same : r ≡ s = cc in e ∙ ap (λ x. stops (replies (refused (off_fault name x)))) same ∙ sym d
+    one bytes f g (no_file r re e) (no_piece raw s se sj d) = absurd cc
+    one bytes f g (no_file r re e) (piece raw p se sj d) = absurd cc
+    one bytes f g (no_piece raw r re rj e) (no_file s se d) = absurd cc
+    one bytes f g (no_piece raw r re rj e) (no_piece war s se sj d) =
+        let raws : raw ≡ war = cc in
+        let answers : Err r ≡ Err s = one_answer_lemma (mesh war) (Err r) (Err s) (subst (λ x. Judges (mesh x) (Err r)) raws rj) sj in
+        let same : r ≡ s = cc in
+        e ∙ ap (λ x. stops (replies (refused (mesh_fault name x)))) same ∙ sym d
+    one bytes f g (no_piece raw r re rj e) (piece war p se sj d) =
+        let raws : raw ≡ war = cc in
+        absurd (unlike r p (one_answer_lemma (mesh war) (Err r) (Ok p) (subst (λ x. Judges (mesh x) (Err r)) raws rj) sj))
+    one bytes f g (piece raw p re rj e) (no_file s se d) = absurd cc
+    one bytes f g (piece raw p re rj e) (no_piece war s se sj d) =
+        let raws : raw ≡ war = cc in
+        absurd (unlike s p (sym (one_answer_lemma (mesh war) (Ok p) (Err s) (subst (λ x. Judges (mesh x) (Ok p)) raws rj) sj)))
+    one bytes f g (piece raw p re rj e) (piece war q se sj d) =
+        let raws : raw ≡ war = cc in
+        let answers : Ok p ≡ Ok q = one_answer_lemma (mesh war) (Ok p) (Ok q) (subst (λ x. Judges (mesh x) (Ok p)) raws rj) sj in
+        let same : p ≡ q = cc in
+        e ∙ ap gives same ∙ sym d
+
+    no_read : (bytes n : List ℕ) → SaysPiece digits name bytes (stops (reads n)) → ⊥
+    no_read bytes n (no_file r re e) = absurd cc
+    no_read bytes n (no_piece raw r re rj e) = absurd cc
+    no_read bytes n (piece raw p re rj e) = gives_stops p (reads n) (sym e)
+
+piece_step : (files : Files) (digits : ℕ) (name : List ℕ) → IsStep files (IsPieceOf files digits name)
+piece_step files digits name = taken_step files name (SaysPiece digits name) (piece_saying digits name)
 
 reply_at : (r s : Reply) → replies r ≡ replies s → r ≡ s
 reply_at r s e = cc
@@ -148,6 +170,10 @@ ends_rest None files = record {
   one = λ r s a b. reply_at r s (a ∙ sym b);
   held = λ name r a lacks b. reads_at name _ a;
 }
-ends_rest (Some request) files =
-    then_rest files (IsPieceOf files request.first) _ (piece_step files request.first)
-    (λ p. then_rest files (IsPieceOf files request.second) _ (piece_step files request.second) (λ q. judged_rest files p q request.along request.wall))
+ends_rest (Some (Pair digits along wall first second)) files =
+    then_rest files (IsPieceOf files digits first) _ (piece_step files digits first)
+    (λ p. then_rest files (IsPieceOf files digits second) _ (piece_step files digits second) (λ q. judged_rest files p q along wall))
+ends_rest (Some (Look digits input)) files = record {
+  one = λ r s a b. reply_at r s (a ∙ sym b);
+  held = λ name r a lacks b. reads_at name _ a;
+}

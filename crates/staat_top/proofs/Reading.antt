@@ -1,36 +1,68 @@
 -- What the step finds that reads the piece of a file.
-use Rattle.std.proofs.Common.{◌≡◌, ◌≢◌, ℕ, ◌<◌, ◌≤◌, List, length, Option, Some, None, Ok, Err, refl, ap, sym, ◌∙◌, subst}
+use Rattle.std.proofs.Common.{◌≡◌, ℕ, ◌<◌, ◌≤◌, List, length, Option, Some, None, Ok, Err, refl, subst}
 use Rattle.std.specs.Prelude.{Result, IsSomeAnd}
 use Rattle.staat_vec.specs.declared.vector.V3.{V3}
 use Rattle.staat_edge.specs.Files.{bytes_of, IsWhole, IsLonger}
-use Rattle.staat_top.specs.declared.fault.Fault.{Fault}
-use Rattle.staat_top.specs.declared.fault.Fault.TheVariants.{Usage, ReadFault, TooLong, NotPlain, WriteFault, OutOfMemory}
+use Rattle.staat_fault.specs.declared.fault.Fault.{Fault}
+use Rattle.staat_fault.specs.declared.fault.Fault.TheVariants as fault
+use Rattle.staat_off.specs.declared.raw.Raw.{Raw}
+use Rattle.staat_off.specs.declared.refusal.OffRefusal.{OffRefusal}
+use Rattle.staat_off.specs.declared.refusal.OffRefusal.TheVariants as off
+use Rattle.staat_off.specs.Reading.{reading}
+use Rattle.staat_off.specs.Answers.{Answers as Reads}
+use Rattle.staat_mesh.specs.declared.refusal.MeshRefusal.{MeshRefusal}
+use Rattle.staat_mesh.specs.declared.refusal.MeshRefusal.TheVariants as mesh_refusal
+use Rattle.staat_mesh.specs.Polygons.{mesh}
+use Rattle.staat_mesh.specs.Judging.{Answers as Judged}
 use Rattle.staat_top.specs.declared.read.TheConstants.{FILE_LIMIT}
-use Rattle.staat_top.specs.Plain.{IsPlain}
-use Rattle.staat_top.specs.Steps.{Files, replies, reads, gives, stops, refused, Follows}
-use Rattle.staat_top.specs.Replies.{IsRead, IsPieceOf, to_read, too_long, not_plain, plain}
+use Rattle.staat_top.specs.Steps.{Files, Found, replies, reads, gives, stops, refused, Follows, IsTaken, to_read, too_long, taken}
+use Rattle.staat_top.specs.Refusals.{off_fault, mesh_fault}
+use Rattle.staat_top.specs.Pieces.{SaysPiece, no_file, no_piece, piece}
 
 -- the file has more bytes than the limit
-pub found_long : (holds : Option Files) (files : Files) (name : List ℕ) → holds ≡ Some files → IsLonger holds name FILE_LIMIT → IsPieceOf files name (stops (replies (refused (TooLong name))))
-found_long holds files name told long = go (bytes_of name files) refl (subst (λ h. IsLonger h name FILE_LIMIT) told long)
+pub found_long : {X : Type 0} (Says : List ℕ → Found X → Type 0) (holds : Option Files) (files : Files) (name : List ℕ) → holds ≡ Some files → IsLonger holds name FILE_LIMIT → IsTaken files name Says (stops (replies (refused (fault.TooLong name))))
+found_long {X} Says holds files name told long = go (bytes_of name files) refl (subst (λ h. IsLonger h name FILE_LIMIT) told long)
   where
-    go : (o : Option (List ℕ)) → bytes_of name files ≡ o → IsSomeAnd o (λ bytes. FILE_LIMIT < length bytes) → IsPieceOf files name (stops (replies (refused (TooLong name))))
+    go : (o : Option (List ℕ)) → bytes_of name files ≡ o → IsSomeAnd o (λ bytes. FILE_LIMIT < length bytes) → IsTaken files name Says (stops (replies (refused (fault.TooLong name))))
     go None e longer = absurd longer
     go (Some bytes) e longer = too_long bytes e longer refl
 
 -- the file's bytes were read
-pub found_read : (holds : Option Files) (files : Files) (name bytes : List ℕ) (r : Result (List V3) Fault) → holds ≡ Some files → IsWhole holds name bytes → length bytes ≤ FILE_LIMIT → IsRead name bytes r → Follows (IsPieceOf files name) r
-found_read holds files name bytes (Ok piece) told whole short read = plain bytes piece (subst (λ h. IsWhole h name bytes) told whole) short read refl
-found_read holds files name bytes (Err (NotPlain n)) told whole short read =
-    not_plain bytes (subst (λ h. IsWhole h name bytes) told whole) short read.1 (ap (λ m. stops (replies (refused (NotPlain m)))) read.0)
-found_read holds files name bytes (Err OutOfMemory) told whole short read = tt
-found_read holds files name bytes (Err Usage) told whole short read = absurd read
-found_read holds files name bytes (Err (ReadFault n)) told whole short read = absurd read
-found_read holds files name bytes (Err (TooLong n)) told whole short read = absurd read
-found_read holds files name bytes (Err WriteFault) told whole short read = absurd read
+pub found_taken : {X : Type 0} (Says : List ℕ → Found X → Type 0) (holds : Option Files) (files : Files) (name bytes : List ℕ) (r : Result X Fault) → holds ≡ Some files → IsWhole holds name bytes → length bytes ≤ FILE_LIMIT → Follows (Says bytes) r → Follows (IsTaken files name Says) r
+found_taken Says holds files name bytes (Ok x) told whole short says = taken bytes (subst (λ h. IsWhole h name bytes) told whole) short says
+found_taken Says holds files name bytes (Err fault.OutOfMemory) told whole short says = tt
+found_taken Says holds files name bytes (Err f) told whole short says = taken bytes (subst (λ h. IsWhole h name bytes) told whole) short says
 
 -- the file is to be read
-pub found_at : (files : Files) (name : List ℕ) → IsPieceOf files name (stops (reads name))
-found_at files name = to_read refl
+pub found_at : {X : Type 0} (Says : List ℕ → Found X → Type 0) (files : Files) (name : List ℕ) → IsTaken files name Says (stops (reads name))
+found_at Says files name = to_read refl
 
-pub ruleset reading = (found_long, found_read, found_at)
+-- the file is no OFF file
+pub says_no_file : (digits : ℕ) (name bytes : List ℕ) (refusal : OffRefusal) → Reads {X = Raw} (Err refusal) (reading digits bytes) → Follows (SaysPiece digits name bytes) (Err (off_fault name refusal))
+says_no_file digits name bytes off.NoHeader e = no_file off.NoHeader e refl
+says_no_file digits name bytes (off.BadNumber at) e = no_file (off.BadNumber at) e refl
+says_no_file digits name bytes (off.NotWhole at) e = no_file (off.NotWhole at) e refl
+says_no_file digits name bytes (off.TooBig at) e = no_file (off.TooBig at) e refl
+says_no_file digits name bytes (off.BadCount at) e = no_file (off.BadCount at) e refl
+says_no_file digits name bytes (off.BadIndex at) e = no_file (off.BadIndex at) e refl
+says_no_file digits name bytes off.ShortFile e = no_file off.ShortFile e refl
+says_no_file digits name bytes (off.Trailing at) e = no_file (off.Trailing at) e refl
+says_no_file digits name bytes off.OutOfMemory e = tt
+
+-- its mesh is no piece
+pub says_no_piece : (digits : ℕ) (name bytes : List ℕ) (raw : Raw) (refusal : MeshRefusal) → reading digits bytes ≡ Ok raw → Judged (mesh raw) (Err refusal) → Follows (SaysPiece digits name bytes) (Err (mesh_fault name refusal))
+says_no_piece digits name bytes raw (mesh_refusal.TooFewPoints n) e j = no_piece raw (mesh_refusal.TooFewPoints n) e j refl
+says_no_piece digits name bytes raw (mesh_refusal.TooManyPoints n) e j = no_piece raw (mesh_refusal.TooManyPoints n) e j refl
+says_no_piece digits name bytes raw mesh_refusal.Flat e j = no_piece raw mesh_refusal.Flat e j refl
+says_no_piece digits name bytes raw (mesh_refusal.BadFace f) e j = no_piece raw (mesh_refusal.BadFace f) e j refl
+says_no_piece digits name bytes raw (mesh_refusal.NotConvex f) e j = no_piece raw (mesh_refusal.NotConvex f) e j refl
+says_no_piece digits name bytes raw (mesh_refusal.OpenEdge f k) e j = no_piece raw (mesh_refusal.OpenEdge f k) e j refl
+says_no_piece digits name bytes raw mesh_refusal.OutOfMemory e j = tt
+
+-- it is a piece
+pub says_piece : (digits : ℕ) (name bytes : List ℕ) (raw : Raw) (points : List V3) → reading digits bytes ≡ Ok raw → Judged (mesh raw) (Ok points) → SaysPiece digits name bytes (gives points)
+says_piece digits name bytes raw points e j = piece raw points e j refl
+
+pub ruleset saying = (says_no_file, says_no_piece, says_piece)
+
+pub ruleset taking = (found_long, found_taken, found_at)

@@ -1,21 +1,60 @@
 -- What status 0 means.
-use Rattle.std.proofs.Common.{◌≡◌, ℕ, List, [], Option, Some, None, refl, ap, sym, ◌∙◌, subst, arith, inl, inr}
-use Rattle.std.specs.Prelude.{codes}
+use Rattle.std.proofs.Common.{◌≡◌, ℕ, List, Option, Some, None, refl, ap, sym, subst, arith, inl, inr}
+use Rattle.std.specs.Prelude.{◌≤◌, Ok}
 use Rattle.staat_vec.specs.declared.vector.V3.{V3}
-use Rattle.staat_model.specs.Pieces.{IsPiece}
-use Rattle.staat_model.specs.Walls.{IsShown}
-use Rattle.staat_model.specs.Meeting.{Meets}
+use Rattle.staat_model.specs.Pieces.{IsSolid}
 use Rattle.staat_model.proofs.WallLaws as walls
 use Rattle.staat_words.specs.declared.request.Request.{Request}
-use Rattle.staat_top.specs.Steps.{Files, End, replies, reads, Found, gives, stops, Then, Reply, answered}
-use Rattle.staat_top.specs.Replies.{IsPieceOf, to_read, too_long, not_plain, plain, IsJudged, free, not_shown, IsReply, IsRight}
+use Rattle.staat_words.specs.declared.request.Request.TheVariants.{Pair, Look}
+use Rattle.staat_top.specs.Steps.{Files, replies, Found, gives, stops, Reply, answered, to_read, too_long, taken}
+use Rattle.staat_off.specs.declared.refusal.OffRefusal.{OffRefusal}
+use Rattle.staat_off.specs.declared.refusal.OffRefusal.TheVariants as off
+use Rattle.staat_mesh.specs.declared.refusal.MeshRefusal.{MeshRefusal}
+use Rattle.staat_mesh.specs.declared.refusal.MeshRefusal.TheVariants as mesh_refusal
+use Rattle.staat_mesh.specs.Judging.{Judges}
+use Rattle.staat_mesh.specs.Polygons.{Mesh}
+use Rattle.staat_fault.specs.Faults.{status_of}
+use Rattle.staat_top.specs.Refusals.{off_fault, mesh_fault}
+use Rattle.staat_top.specs.Pieces.{IsPieceOf, SaysPiece, no_file, no_piece, piece}
+use Rattle.staat_top.specs.Replies.{free, not_shown, IsReply, IsRight}
 
--- what the step gives is a piece
-gives_piece : (files : Files) (name : List ℕ) (p : List V3) → IsPieceOf files name (gives p) → IsPiece p
-gives_piece files name p (to_read e) = absurd cc
-gives_piece files name p (too_long x xe xl e) = absurd cc
-gives_piece files name p (not_plain x xe xs xn e) = absurd cc
-gives_piece files name p (plain x q xe xs xp e) = let same : q ≡ p = cc in subst IsPiece same xp.made.fits
+-- a piece that the rules of meshes give is solid
+judged_solid : (m : Mesh) (p : List V3) → Judges m (Ok p) → IsSolid p
+judged_solid m p j = subst IsSolid (sym j.by_rules.2.1.1.1) j.by_rules.2.0
+
+gives_one : (p q : List V3) → gives p ≡ gives q → q ≡ p
+gives_one p q e = cc
+
+says_solid : (digits : ℕ) (name bytes : List ℕ) (p : List V3) → SaysPiece digits name bytes (gives p) → IsSolid p
+says_solid digits name bytes p (no_file r re e) = absurd cc
+says_solid digits name bytes p (no_piece raw r re rj e) = absurd cc
+says_solid digits name bytes p (piece raw q re rj e) = subst IsSolid (gives_one p q e) (judged_solid _ q rj)
+
+-- what the step gives is solid
+gives_solid : (files : Files) (digits : ℕ) (name : List ℕ) (p : List V3) → IsPieceOf files digits name (gives p) → IsSolid p
+gives_solid files digits name p (to_read e) = absurd cc
+gives_solid files digits name p (too_long x xe xl e) = absurd cc
+gives_solid files digits name p (taken x xe xs xt) = says_solid digits name x p xt
+
+off_late : (name : List ℕ) (r : OffRefusal) → 3 ≤ status_of (off_fault name r)
+off_late name off.NoHeader = omega arith
+off_late name (off.BadNumber at) = omega arith
+off_late name (off.NotWhole at) = omega arith
+off_late name (off.TooBig at) = omega arith
+off_late name (off.BadCount at) = omega arith
+off_late name (off.BadIndex at) = omega arith
+off_late name off.ShortFile = omega arith
+off_late name (off.Trailing at) = omega arith
+off_late name off.OutOfMemory = omega arith
+
+mesh_late : (name : List ℕ) (r : MeshRefusal) → 3 ≤ status_of (mesh_fault name r)
+mesh_late name (mesh_refusal.TooFewPoints n) = omega arith
+mesh_late name (mesh_refusal.TooManyPoints n) = omega arith
+mesh_late name mesh_refusal.Flat = omega arith
+mesh_late name (mesh_refusal.BadFace f) = omega arith
+mesh_late name (mesh_refusal.NotConvex f) = omega arith
+mesh_late name (mesh_refusal.OpenEdge f k) = omega arith
+mesh_late name mesh_refusal.OutOfMemory = omega arith
 
 same_status : (r s : Reply) → replies r ≡ replies s → r.status ≡ s.status
 same_status r s e = let same : r ≡ s = cc in ap (λ x. x.status) same
@@ -23,19 +62,24 @@ same_status r s e = let same : r ≡ s = cc in ap (λ x. x.status) same
 stopped : {X : Type 0} (f g : Found X) (r s : Reply) → f ≡ stops (replies r) → g ≡ stops (replies s) → f ≡ g → r.status ≡ s.status
 stopped f g r s is_f is_g e = let same : r ≡ s = cc in ap (λ x. x.status) same
 
+says_late : (digits : ℕ) (name bytes text : List ℕ) → SaysPiece digits name bytes (stops (replies (answered 0 text))) → ⊥
+says_late digits name bytes text (no_file r re e) = absurd (omega (arith, stopped _ _ _ _ refl refl e, off_late name r))
+says_late digits name bytes text (no_piece raw r re rj e) = absurd (omega (arith, stopped _ _ _ _ refl refl e, mesh_late name r))
+says_late digits name bytes text (piece raw q re rj e) = absurd cc
+
 -- a step that stops does not answer with status 0
-stops_late : (files : Files) (name text : List ℕ) → IsPieceOf files name (stops (replies (answered 0 text))) → ⊥
-stops_late files name text (to_read e) = absurd cc
-stops_late files name text (too_long x xe xl e) = absurd (omega (arith, stopped _ _ _ _ refl refl e))
-stops_late files name text (not_plain x xe xs xn e) = absurd (omega (arith, stopped _ _ _ _ refl refl e))
-stops_late files name text (plain x q xe xs xp e) = absurd cc
+stops_late : (files : Files) (digits : ℕ) (name text : List ℕ) → IsPieceOf files digits name (stops (replies (answered 0 text))) → ⊥
+stops_late files digits name text (to_read e) = absurd cc
+stops_late files digits name text (too_long x xe xl e) = absurd (omega (arith, stopped _ _ _ _ refl refl e))
+stops_late files digits name text (taken x xe xs xt) = says_late digits name x text xt
 
 -- a wall that is shown keeps the pieces apart, and no other reply has status 0
 pub free_is_right : (asked : Option Request) (files : Files) (text : List ℕ) → IsReply asked files (answered 0 text) → IsRight asked files
 free_is_right None files text e = absurd (omega (arith, same_status _ _ e))
-free_is_right (Some request) files text (inl stopped) = absurd (stops_late files request.first text stopped)
-free_is_right (Some request) files text (inr (p, first_gives, inl stopped)) = absurd (stops_late files request.second text stopped)
-free_is_right (Some request) files text (inr (p, first_gives, inr (q, second_gives, free shown e))) =
-    (p, q, first_gives, second_gives, walls.wall_keeps_apart p q request.along request.wall (gives_piece files request.first p first_gives).solid shown)
-free_is_right (Some request) files text (inr (p, first_gives, inr (q, second_gives, not_shown none e))) =
+free_is_right (Some (Look digits input)) files text e = absurd (omega (arith, same_status _ _ e))
+free_is_right (Some (Pair digits along wall first second)) files text (inl stopped) = absurd (stops_late files digits first text stopped)
+free_is_right (Some (Pair digits along wall first second)) files text (inr (p, first_gives, inl stopped)) = absurd (stops_late files digits second text stopped)
+free_is_right (Some (Pair digits along wall first second)) files text (inr (p, first_gives, inr (q, second_gives, free shown e))) =
+    (p, q, first_gives, second_gives, walls.wall_keeps_apart p q along wall (gives_solid files digits first p first_gives) shown)
+free_is_right (Some (Pair digits along wall first second)) files text (inr (p, first_gives, inr (q, second_gives, not_shown none e))) =
     absurd (omega (arith, same_status _ _ e))

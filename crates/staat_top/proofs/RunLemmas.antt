@@ -5,12 +5,12 @@ use Rattle.staat_edge.specs.Causes.{Rose}
 use Rattle.staat_edge.specs.Files.{bytes_of, Lacks}
 use Rattle.staat_edge.specs.Sinks.{GrewBy}
 use Rattle.staat_words.specs.declared.request.Request.{Request}
-use Rattle.staat_top.specs.declared.fault.Fault.{Fault}
-use Rattle.staat_top.specs.declared.fault.Fault.TheVariants.{Usage, ReadFault, TooLong, NotPlain, WriteFault, OutOfMemory}
-use Rattle.staat_top.specs.Faults.{status_of, line_of}
-use Rattle.staat_top.specs.Steps.{Files, End, replies, reads, Reply, answered, refused, end_of}
-use Rattle.staat_top.specs.Replies.{Ends, IsReply, IsRight}
-use Rattle.staat_top.specs.Runs.{ShelfSide, SinkSide, Took, SinkFailed, TookPart, Untouched, IsUnread, IsCaused, IsPlaced, IsExplained, IsAnswer, IsSaid, SaysWhole, SaysPart, Refuses, Answers, OutFails, ErrFails, Gave, Replied, NoFault, Ran}
+use Rattle.staat_fault.specs.declared.fault.Fault.{Fault}
+use Rattle.staat_fault.specs.declared.fault.Fault.TheVariants.{Usage, ReadFault, TooLong, TooManyPlanes, TextTooLong, WriteFault, OutOfMemory}
+use Rattle.staat_fault.specs.Faults.{status_of, line_of}
+use Rattle.staat_top.specs.Steps.{Files, Reply, answered, refused}
+use Rattle.staat_top.specs.Replies.{IsReply}
+use Rattle.staat_top.specs.Runs.{ShelfSide, SinkSide, Took, TookPart, Untouched, IsUnread, IsCaused, IsPlaced, IsExplained, IsAnswer, IsSaid, SaysWhole, SaysPart, Gave, Ran}
 use Rattle.staat_top.proofs.OneReply.{ends_rest}
 use Rattle.staat_top.proofs.RightLemmas.{free_is_right}
 
@@ -57,9 +57,11 @@ least_status : (fault : Fault) → 2 ≤ status_of fault
 least_status Usage = omega arith
 least_status (ReadFault name) = omega arith
 least_status (TooLong name) = omega arith
-least_status (NotPlain name) = omega arith
+least_status (TooManyPlanes found) = omega arith
+least_status (TextTooLong length) = omega arith
 least_status WriteFault = omega arith
 least_status OutOfMemory = omega arith
+least_status fault = omega arith
 
 -- want of memory has no other cause
 memory_explained : (asked : Option Request) (shelf : ShelfSide) → IsExplained asked shelf OutOfMemory
@@ -75,9 +77,9 @@ placed_reply : (asked : Option Request) (files : Files) (fault : Fault) → stat
 placed_reply asked files Usage le placed = placed
 placed_reply asked files (ReadFault name) le placed = absurd (omega arith)
 placed_reply asked files (TooLong name) le placed = placed
-placed_reply asked files (NotPlain name) le placed = placed
 placed_reply asked files WriteFault le placed = absurd (omega arith)
 placed_reply asked files OutOfMemory le placed = absurd (omega arith)
+placed_reply asked files fault le placed = placed
 
 -- no fault that a shelf has shows where its count did not rise and the file is there
 unread_lacks : (shelf : ShelfSide) (files : Files) (name : List ℕ) → shelf.holds ≡ Some files → (Rose shelf.before shelf.after → ⊥) → IsUnread shelf name → bytes_of name files ≡ None
@@ -98,11 +100,11 @@ no_write_fault (Some request) shelf caused = caused
 complete_fault : (asked : Option Request) (shelf : ShelfSide) (files : Files) (fault : Fault) (reply : Reply) → IsExplained asked shelf fault → shelf.holds ≡ Some files → (Rose shelf.before shelf.after → ⊥) → status_of fault ≢ 7 → IsReply asked files reply → refused fault ≡ reply
 complete_fault asked shelf files Usage reply explained told well memory is_reply = (ends_rest asked files).one _ _ (explained.placed files told) is_reply
 complete_fault asked shelf files (TooLong name) reply explained told well memory is_reply = (ends_rest asked files).one _ _ (explained.placed files told) is_reply
-complete_fault asked shelf files (NotPlain name) reply explained told well memory is_reply = (ends_rest asked files).one _ _ (explained.placed files told) is_reply
 complete_fault asked shelf files (ReadFault name) reply explained told well memory is_reply =
     absurd ((ends_rest asked files).held name reply (explained.placed files told) (unread_lacks shelf files name told well (cause_some asked shelf name explained.cause)) is_reply)
 complete_fault asked shelf files WriteFault reply explained told well memory is_reply = absurd (no_write_fault asked shelf explained.cause)
 complete_fault asked shelf files OutOfMemory reply explained told well memory is_reply = absurd (memory refl)
+complete_fault asked shelf files fault reply explained told well memory is_reply = (ends_rest asked files).one _ _ (explained.placed files told) is_reply
 
 -- where the words make no request, the status is that of usage or of want of memory
 usage_status : (shelf : ShelfSide) (fault : Fault) → IsCaused None shelf fault → (status_of fault ≡ 2) ⊎ (status_of fault ≡ 7)

@@ -1,6 +1,6 @@
-pub mod Blanks
-pub mod Plain
-pub mod Faults
 pub mod Steps
+pub mod Refusals
+pub mod Pieces
 pub mod Replies
 pub mod Runs
+pub mod PairRequests

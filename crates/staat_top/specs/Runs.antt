@@ -4,11 +4,11 @@ use Rattle.staat_edge.specs.Causes.{Rose}
 use Rattle.staat_edge.specs.Files.{Lacks, told_name, held_name}
 use Rattle.staat_edge.specs.Sinks.{GrewBy, GrewByPart}
 use Rattle.staat_words.specs.declared.request.Request.{Request}
-use Rattle.staat_top.specs.declared.fault.Fault.{Fault}
-use Rattle.staat_top.specs.declared.fault.Fault.TheVariants.{Usage, ReadFault, TooLong, NotPlain, WriteFault, OutOfMemory}
+use Rattle.staat_fault.specs.declared.fault.Fault.{Fault}
+use Rattle.staat_fault.specs.declared.fault.Fault.TheVariants.{Usage, ReadFault, TooLong, WriteFault, OutOfMemory}
 use Rattle.staat_top.specs.declared.read.TheConstants.{FILE_LIMIT}
-use Rattle.staat_top.specs.Faults.{status_of, line_of}
-use Rattle.staat_top.specs.Steps.{Files, Reply, answered, replies, end_of}
+use Rattle.staat_fault.specs.Faults.{status_of, line_of}
+use Rattle.staat_top.specs.Steps.{Files, Reply, answered, end_of}
 use Rattle.staat_top.specs.Replies.{Ends, IsReply, IsRight}
 
 -- A shelf over a call: what it holds, its count of faults before and after, and, after it, the file at which it
@@ -60,15 +60,14 @@ pub record IsPastLimit (shelf : ShelfSide) (name : List ℕ) : Type 0 where
   pub place : IsSomeAnd shelf.place (λ at. FILE_LIMIT < at)
   pub opened : shelf.opened ≡ told_name shelf.holds name
 
--- What shows why a fault came of the files, whatever the shelf tells. The reply alone says more of a file that is
--- not in the plain form; want of memory may come anywhere.
+-- What shows why a fault came of the files, whatever the shelf tells. Of a refusal of what a file holds the reply alone
+-- says more; want of memory may come anywhere.
 abbrev pub HasCause : ShelfSide → Fault → Type 0
 HasCause shelf Usage = ⊥
 HasCause shelf (ReadFault name) = IsUnread shelf name
 HasCause shelf (TooLong name) = IsPastLimit shelf name
-HasCause shelf (NotPlain name) = ⊤
 HasCause shelf WriteFault = ⊥
-HasCause shelf OutOfMemory = ⊤
+HasCause shelf fault = ⊤
 
 -- the same of the words too: a usage fault comes only where they make no request
 abbrev pub IsCaused : Option Request → ShelfSide → Fault → Type 0

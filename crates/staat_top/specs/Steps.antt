@@ -1,9 +1,13 @@
 -- The steps of the work on a request, in their order, and what each finds in the files.
-use Rattle.std.specs.Prelude.{◌≡◌, ◌⊎◌, ◌<◌, ◌≤◌, ℕ, List, [], length, Result, Ok, Err, Option, Some, None, ⊤}
+use Rattle.std.specs.Prelude.{◌≡◌, ◌⊎◌, ◌<◌, ◌≤◌, ℕ, List, [], length, Result, Ok, Err, Some, ⊤}
+use Rattle.staat_fault.specs.declared.fault.Fault.{Fault}
+use Rattle.staat_fault.specs.declared.fault.Fault.TheVariants.{ReadFault, TooLong, OutOfMemory}
+use Rattle.staat_fault.specs.Faults.{status_of, line_of}
 use Rattle.staat_edge.specs.Files.{bytes_of}
-use Rattle.staat_top.specs.declared.fault.Fault.{Fault}
-use Rattle.staat_top.specs.declared.fault.Fault.TheVariants.{Usage, ReadFault, TooLong, NotPlain, WriteFault, OutOfMemory}
-use Rattle.staat_top.specs.Faults.{status_of, line_of}
+use Rattle.staat_top.specs.declared.read.TheConstants.{FILE_LIMIT}
+
+abbrev pub Files : Type 0
+Files = List (List ℕ × List ℕ)
 
 -- a status, a text for out and a text for err
 pub record Reply : Type 0 where
@@ -38,11 +42,18 @@ pub data Found (X : Type 0) : Type 0 where
 abbrev pub Then : {X : Type 0} → (Found X → Type 0) → (X → End → Type 0) → End → Type 0
 Then {X} First Rest at = First (stops at) ⊎ ((x : X) × First (gives x) × Rest x at)
 
+-- Two steps are one: it stops where the first does, or finds what the second finds of what the first gives.
+abbrev pub Next : {X Y : Type 0} → (Found X → Type 0) → (X → Found Y → Type 0) → Found Y → Type 0
+Next {X} First Rest found = ((at : End) × First (stops at) × (found ≡ stops at)) ⊎ ((x : X) × First (gives x) × Rest x found)
+
+-- What the step finds that takes a whole file: the file is to be read, or is too long, or this is what its bytes say.
+pub data IsTaken {X : Type 0} (files : Files) (name : List ℕ) (Says : List ℕ → Found X → Type 0) : Found X → Type 0 where
+  to_read : {found : Found X} → found ≡ stops (reads name) → IsTaken files name Says found
+  too_long : {found : Found X} (bytes : List ℕ) → bytes_of name files ≡ Some bytes → FILE_LIMIT < length bytes → found ≡ stops (replies (refused (TooLong name))) → IsTaken files name Says found
+  taken : {found : Found X} (bytes : List ℕ) → bytes_of name files ≡ Some bytes → length bytes ≤ FILE_LIMIT → Says bytes found → IsTaken files name Says found
+
 -- a call answers what the step finds; want of memory is free
 abbrev pub Follows : {X : Type 0} → (Found X → Type 0) → Result X Fault → Type 0
 Follows Step (Ok x) = Step (gives x)
 Follows Step (Err OutOfMemory) = ⊤
 Follows Step (Err fault) = Step (stops (end_of fault))
-
-abbrev pub Files : Type 0
-Files = List (List ℕ × List ℕ)

@@ -2,16 +2,14 @@
 #![tactic(auto)]
 
 mod answer;
-mod blanks;
-mod fault;
 mod pair;
-mod plain;
 mod print;
 mod read;
+mod refusals;
 mod top;
 
-pub use fault::{Fault, fault_line};
 pub use print::want_memory;
+pub use staat_fault::{Fault, fault_line};
 pub use top::staat;
 
 #[cfg(test)]

@@ -1,19 +1,18 @@
 // The command `pair`: whether a wall shows that one piece never meets another.
 ghost use Rattle.std.specs.Prelude.{◌≡◌, ◌≤◌, ◌<◌, Some, IfOk, IfErr, MatchResult};
 ghost use Rattle.staat_vec.specs.Vectors.{IsWithin};
-ghost use Rattle.staat_words.specs.Requests.{HasBounds};
 ghost use Rattle.staat_model.specs.Walls.{IsShown};
 ghost use Rattle.staat_top.specs.Steps.{Files, answered, replies};
 ghost use Rattle.staat_top.specs.Replies.{EndsOf, IsJudged};
+ghost use Rattle.staat_top.specs.PairRequests.{request_of};
 ghost use Rattle.staat_top.specs.Runs.{HasCause, IsPlaced, shelf_over};
 
 use crate::answer::Answer;
-use crate::fault::Fault;
 use crate::read::read_piece;
 use staat_edge::Shelf;
+use staat_fault::Fault;
 use staat_model::{Piece, is_shown};
-use staat_vec::{Bytes, DIRECTION, NORMAL, V3};
-use staat_words::Request;
+use staat_vec::{Bytes, DIRECTION, NORMAL, Name, V3};
 use std::alloc::{AllocError, Global};
 
 // The answer with this status and this text.
@@ -41,20 +40,33 @@ fn judge(alloc: Global, p: &Piece, q: &Piece, along: V3, wall: V3) -> Result<Ans
     }
 }
 
-/// Whether the wall shows that the piece of the first file, moved along the direction, never meets that of the second.
-pub fn pair<H: Shelf>(alloc: Global, request: Request, shelf: &mut H) -> Result<Answer, Fault>
-    requires { HasBounds request }
+/// What the command `pair` asks: whether the wall's normal `wall` shows that the piece of the first file, moved along
+/// `along`, never meets that of the second.
+#[derive(Drop)]
+pub struct PairOfFiles {
+    pub digits: u32,
+    pub along: V3,
+    pub wall: V3,
+    pub first: Name,
+    pub second: Name,
+}
+
+/// The answer to the command `pair`. The first file is read and judged before the second.
+pub fn pair<H: Shelf>(alloc: Global, asked: PairOfFiles, shelf: &mut H) -> Result<Answer, Fault>
+    requires digits { asked.digits ≤ 6 }
+    requires along { IsWithin DIRECTION asked.along }
+    requires wall { IsWithin NORMAL asked.wall }
     ensures holds { H.holds shelf.new ≡ H.holds shelf.old }
     ensures count { H.faults shelf.old ≤ H.faults shelf.new }
     ensures status { IfOk result (λ a. a.status < 2) }
     ensures ends { (files : Files) → H.holds shelf.old ≡ Some files → MatchResult result
-        (λ a. EndsOf request files (replies (answered a.status a.text)))
-        (IsPlaced (Some request) files) }
+        (λ a. EndsOf (request_of asked) files (replies (answered a.status a.text)))
+        (IsPlaced (Some (request_of asked)) files) }
     ensures cause { IfErr result (HasCause (shelf_over (H.holds shelf.old) (H.faults shelf.old) (H.faults shelf.new)
         (H.failed shelf.new) (H.opened shelf.new) (H.place shelf.new))) }
 {
-    let p = read_piece(alloc, shelf, request.first)?;
-    let q = read_piece(alloc, shelf, request.second)?;
-    let answer = judge(alloc, &p, &q, request.along, request.wall)?;
+    let p = read_piece(alloc, asked.digits, shelf, asked.first)?;
+    let q = read_piece(alloc, asked.digits, shelf, asked.second)?;
+    let answer = judge(alloc, &p, &q, asked.along, asked.wall)?;
     Ok(answer)
 }

@@ -1,12 +1,12 @@
 // The writing: an answer's text on out, or a fault's line on err.
 ghost use Rattle.std.specs.Prelude.{◌≡◌, ◌≢◌, ◌⊎◌, ◌<◌, ◌≤◌};
-ghost use Rattle.staat_top.specs.declared.fault.Fault.TheVariants as faults;
-ghost use Rattle.staat_top.specs.Faults.{line_of};
+ghost use Rattle.staat_fault.specs.declared.fault.Fault.TheVariants as faults;
+ghost use Rattle.staat_fault.specs.Faults.{line_of};
 ghost use Rattle.staat_top.specs.Runs.{SaysPart, SaysWhole, Took, TookPart, sink_over};
 
 use crate::answer::Answer;
-use crate::fault::{Fault, MEMORY_LINE, USAGE_LINE, WRITE_LINE, fault_line, status_of};
 use staat_edge::{Sink, write_whole};
+use staat_fault::{Fault, MEMORY_LINE, USAGE_LINE, WRITE_LINE, fault_line, status_of};
 use std::alloc::Global;
 
 // Writes a line, and gives the status with it, or the one of a write fault.
@@ -25,6 +25,7 @@ fn say<E: Sink>(err: &mut E, line: &[u8], status: u8) -> u8
 }
 
 /// Says on err that there was no memory, which takes none, and gives the status of that, or that of a write fault.
+#[tactic(auto, unfolding(staat_fault::specs::Faults::line_of, staat_fault::specs::Faults::body_of))]
 pub fn want_memory<E: Sink>(err: &mut E) -> u8
     ensures count { E.faults err.old ≤ E.faults err.new }
     ensures whole { result ≢ 6 → SaysWhole faults.OutOfMemory
@@ -37,6 +38,7 @@ pub fn want_memory<E: Sink>(err: &mut E) -> u8
 
 /// Writes a fault's line on err, and gives its status, or that of a write fault. The lines of usage and of want of
 /// memory take no memory.
+#[tactic(auto, unfolding(staat_fault::specs::Faults::line_of, staat_fault::specs::Faults::body_of))]
 pub fn refuse<E: Sink>(alloc: Global, fault: &Fault, err: &mut E) -> u8
     requires { fault.now ≢ faults.WriteFault }
     ensures count { E.faults err.old ≤ E.faults err.new }
@@ -57,6 +59,7 @@ pub fn refuse<E: Sink>(alloc: Global, fault: &Fault, err: &mut E) -> u8
 
 /// Writes an answer's text on out, and gives its status, or that of a write fault. Then the line that says so is
 /// offered to err.
+#[tactic(auto, unfolding(staat_fault::specs::Faults::line_of, staat_fault::specs::Faults::body_of))]
 pub fn print<O: Sink, E: Sink>(answer: &Answer, out: &mut O, err: &mut E) -> u8
     requires { answer.now.status < 2 }
     ensures out_count { O.faults out.old ≤ O.faults out.new }

@@ -1,36 +1,52 @@
 // The files of a request.
-ghost use Rattle.std.specs.Prelude.{◌≡◌, ◌≤◌, Some, IfErr};
+ghost use Rattle.std.specs.Prelude.{◌≡◌, ◌≤◌, Some, IfErr, IfOk, List, ℕ, length};
+ghost use Rattle.staat_off.specs.declared.raw.TheConstants.{MOST_DIGITS};
+ghost use Rattle.staat_edge.specs.Files.{IsWhole};
 ghost use Rattle.staat_top.specs.Steps.{Files, Follows};
-ghost use Rattle.staat_top.specs.Replies.{IsPieceOf, IsRead};
+ghost use Rattle.staat_top.specs.Pieces.{IsPieceOf, SaysPiece};
 ghost use Rattle.staat_top.specs.Runs.{HasCause, ShelfSide, shelf_over};
 
-use crate::fault::Fault;
-use crate::plain::read_plain;
+use crate::refusals::{mesh_fault, off_fault};
 use staat_edge::{ReadRefusal, Shelf, read_whole};
+use staat_fault::Fault;
+use staat_mesh::make_piece;
 use staat_model::Piece;
-use staat_vec::{Bytes, Name};
+use staat_off::read_off;
+use staat_vec::Name;
 use std::alloc::Global;
 
-/// How many bytes a file of points may have.
+/// How many bytes a file of points or a part list may have.
 pub const FILE_LIMIT: usize = 1_048_576;
 
-// The piece of a file's bytes.
-fn piece_in(alloc: Global, bytes: &[u8], name: Name) -> Result<Piece, Fault>
-    ensures read { IsRead name bytes.now result }
+// The piece that the bytes of a file hold.
+#[tactic(auto, using(crate::proofs::Reading::saying))]
+fn piece_in(alloc: Global, digits: u32, bytes: &[u8], name: Name) -> Result<Piece, Fault>
+    requires { digits ≤ MOST_DIGITS }
+    ensures says { Follows (SaysPiece digits name bytes.now) result }
     ensures cause { (shelf : ShelfSide) → IfErr result (HasCause shelf) }
 {
-    match read_plain(alloc, bytes)? {
-        Some(piece) => Ok(piece),
-        None => Err(Fault::NotPlain(name)),
+    let raw = match read_off(alloc, bytes, digits) {
+        Ok(raw) => raw,
+        Err(refusal) => return Err(off_fault(name, refusal)),
+    };
+    match make_piece(alloc, &raw) {
+        Ok(piece) => Ok(piece),
+        Err(refusal) => Err(mesh_fault(name, refusal)),
     }
 }
 
-/// The piece that a file holds.
-#[tactic(auto, using(crate::proofs::Reading::reading))]
-pub fn read_piece<H: Shelf>(alloc: Global, shelf: &mut H, name: Name) -> Result<Piece, Fault>
+/// The piece that a file holds, with coordinates scaled by so many decimal digits.
+#[tactic(auto, using(crate::proofs::Reading::taking))]
+pub fn read_piece<H: Shelf>(
+    alloc: Global,
+    digits: u32,
+    shelf: &mut H,
+    name: Name,
+) -> Result<Piece, Fault>
+    requires { digits ≤ MOST_DIGITS }
     ensures holds { H.holds shelf.new ≡ H.holds shelf.old }
     ensures count { H.faults shelf.old ≤ H.faults shelf.new }
-    ensures found { (files : Files) → H.holds shelf.old ≡ Some files → Follows (IsPieceOf files name) result }
+    ensures found { (files : Files) → H.holds shelf.old ≡ Some files → Follows (IsPieceOf files digits name) result }
     ensures cause { IfErr result (HasCause (shelf_over (H.holds shelf.old) (H.faults shelf.old) (H.faults shelf.new)
         (H.failed shelf.new) (H.opened shelf.new) (H.place shelf.new))) }
 {
@@ -40,5 +56,5 @@ pub fn read_piece<H: Shelf>(alloc: Global, shelf: &mut H, name: Name) -> Result<
         Err(ReadRefusal::TooLong) => return Err(Fault::TooLong(name)),
         Err(ReadRefusal::OutOfMemory) => return Err(Fault::OutOfMemory),
     };
-    piece_in(alloc, bytes.as_slice(), name)
+    piece_in(alloc, digits, bytes.as_slice(), name)
 }

@@ -7,9 +7,11 @@ use staat_vec::{Bytes, Name};
 use std::alloc::{AllocError, Global};
 use std::test::Fail;
 
-const CUBE: &[u8] = b"OFF\n8 6 12\n0 0 0\n2 0 0\n2 2 0\n0 2 0\n0 0 2\n2 0 2\n2 2 2\n0 2 2\n";
+const CUBE: &[u8] =
+    b"OFF\n8 6 12\n0 0 0\n2 0 0\n2 2 0\n0 2 0\n0 0 2\n2 0 2\n2 2 2\n0 2 2\n4 0 3 2 1\n4 4 5 6 7\n4 0 1 5 4\n4 1 2 6 5\n4 2 3 7 6\n4 3 0 4 7\n";
 
-const BESIDE: &[u8] = b"OFF\n8 6 12\n2 0 0\n4 0 0\n4 2 0\n2 2 0\n2 0 2\n4 0 2\n4 2 2\n2 2 2\n";
+const BESIDE: &[u8] =
+    b"OFF\n8 6 12\n2 0 0\n4 0 0\n4 2 0\n2 2 0\n2 0 2\n4 0 2\n4 2 2\n2 2 2\n4 0 3 2 1\n4 4 5 6 7\n4 0 1 5 4\n4 1 2 6 5\n4 2 3 7 6\n4 3 0 4 7\n";
 
 const NEVER: u64 = u64::MAX;
 
@@ -47,7 +49,7 @@ fn words(alloc: Global, words: &[&str]) -> Result<Vec<String>, AllocError> {
 fn a_wall_shows_that_two_cubes_never_meet(rt: HostRuntime) -> Result<(), Fail> {
     let alloc = rt.alloc();
     let usage = "staat: usage\n";
-    let table: [(&[&str], u8, &str, &str); 17] = [
+    let table: [(&[&str], u8, &str, &str); 21] = [
         (&FREE, 0, "free\n", ""),
         (
             &["pair", "a.off", "b.off", "--along=-1,0,0", "--wall=1,0,0"],
@@ -152,6 +154,39 @@ fn a_wall_shows_that_two_cubes_never_meet(rt: HostRuntime) -> Result<(), Fail> {
             usage,
         ),
         (&["pair", "a.off", "b.off", "--along=0,0,1"], 2, "", usage),
+        (
+            &["pair", "--wall=1,0,0", "a.off", "b.off", "--along=0,0,1"],
+            0,
+            "free\n",
+            "",
+        ),
+        (
+            &[
+                "pair",
+                "a.off",
+                "b.off",
+                "--along=0,0,1",
+                "--wall=1,0,0",
+                "--digits=7",
+            ],
+            2,
+            "",
+            usage,
+        ),
+        (
+            &[
+                "pair",
+                "a.off",
+                "b.off",
+                "--along=0,0,1",
+                "--wall=1,0,0",
+                "--digits=4",
+            ],
+            0,
+            "free\n",
+            "",
+        ),
+        (&["--help"], 2, "", usage),
         (&[], 2, "", usage),
     ];
     for (list, status, out_text, err_text) in table {
@@ -167,46 +202,59 @@ fn a_wall_shows_that_two_cubes_never_meet(rt: HostRuntime) -> Result<(), Fail> {
 }
 
 #[test]
-fn a_file_is_taken_only_in_its_form(rt: HostRuntime) -> Result<(), Fail> {
+fn a_file_is_refused_by_the_first_fault_in_it(rt: HostRuntime) -> Result<(), Fail> {
     let alloc = rt.alloc();
     let long = vec![in alloc; b' '; 1_048_577]?;
     let most = vec![in alloc; b' '; 1_048_576]?;
-    let table: [(&[u8], u8, &str); 12] = [
-        (b"COFF\n", 3, "staat: a.off: not in the plain form\n"),
-        (b"", 3, "staat: a.off: not in the plain form\n"),
+    let table: [(&[u8], u8, &str); 13] = [
+        (b"COFF\n", 3, "staat: a.off: no OFF header\n"),
+        (b"", 3, "staat: a.off: no OFF header\n"),
         (&long, 4, "staat: a.off is too long\n"),
-        (&most, 3, "staat: a.off: not in the plain form\n"),
-        (b"OFF 4 0 0 0 0 0 1 0 0 0 1 0 0 0 1 and more", 1, ""),
+        (&most, 3, "staat: a.off: no OFF header\n"),
         (
-            b"OFF 4 0 0 0 0 0 1 0 0 0 1 0 0 0 1 #",
+            b"OFF\n4 4 6\n0 0 0\n65537 0 0\n",
             3,
-            "staat: a.off: not in the plain form\n",
+            "staat: a.off: number too big at 16\n",
         ),
         (
-            b"OFF 4 0 0 0 0 0 1 0 0 0 1 0 1 1 0",
+            b"OFF\n4 4 6\n0 0 0\n0.5 0 0\n",
             3,
-            "staat: a.off: not in the plain form\n",
+            "staat: a.off: not a whole number at 16\n",
         ),
         (
-            b"OFF 5 0 0 0 0 0 1 0 0 0 1 0 0 0 1 0 0 1",
+            b"OFF\n4 4 6\n0 0 0\n1e 0 0\n",
             3,
-            "staat: a.off: not in the plain form\n",
+            "staat: a.off: bad number at 16\n",
         ),
         (
-            b"OFF 3 0 0 0 0 0 1 0 0 0 1 0",
+            b"OFF\n4 4 6\n0 0 0\n1 0 0\n0 1 0\n0 0 1\n3 0 2 1\n3 0 1 3\n3 1 2 3\n3 0 3",
             3,
-            "staat: a.off: not in the plain form\n",
+            "staat: a.off: file too short\n",
         ),
         (
-            b"OFF 4 0 0 0 0 0 1 0 0 0 1 0 0 0",
+            b"OFF\n4 4 6\n0 0 0\n1 0 0\n0 1 0\n0 0 1\n3 0 2 1\n3 0 1 4\n3 1 2 3\n3 0 3 2\n",
             3,
-            "staat: a.off: not in the plain form\n",
+            "staat: a.off: bad index at 48\n",
         ),
-        (b"OFF 4 0 0 0 0 0 1 0 0 0 1 0 0 0 -65536", 1, ""),
         (
-            b"OFF 4 0 0 0 0 0 1 0 0 0 1 0 0 0 65537",
+            b"OFF 3 2 0 0 0 0 1 0 0 0 1 0\n3 0 1 2\n3 0 2 1",
             3,
-            "staat: a.off: not in the plain form\n",
+            "staat: a.off: too few points (3)\n",
+        ),
+        (
+            b"OFF 4 2 0 0 0 0 1 0 0 1 1 0 0 1 0\n4 0 1 2 3\n4 0 3 2 1",
+            3,
+            "staat: a.off: all points in one plane\n",
+        ),
+        (
+            b"OFF 4 3 0 0 0 0 1 0 0 0 1 0 0 0 1\n3 0 2 1\n3 0 1 3\n3 1 2 3",
+            3,
+            "staat: a.off: open edge at face 0 corner 0\n",
+        ),
+        (
+            b"OFF 4 4 0 # a point\n0 0 0 1e0 0 0 0 1.0 0 0 0 +1\n3 0 2 1 255\n3 0 1 3\n3 1 2 3\n3 0 3 2",
+            1,
+            "",
         ),
     ];
     for (first, status, err_text) in table {

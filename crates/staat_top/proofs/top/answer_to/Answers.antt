@@ -1,16 +1,19 @@
-use Rattle.std.proofs.Common.{Ok, Err, sym, subst}
-use Rattle.staat_top.proofs.Asking.{asked_answer}
-use Rattle.staat_top.specs.Runs.{ShelfSide}
+use Rattle.std.proofs.Common.{◌∙◌, Some, ap}
+use Rattle.staat_words.specs.declared.request.Request.{Request}
+use Rattle.staat_words.specs.declared.request.Request.TheVariants.{Pair}
+use Rattle.staat_top.specs.Replies.{built}
+use Rattle.staat_top.specs.Runs.{ShelfSide, shelf_over}
+use Rattle.staat_top.proofs.Asking.{asked_answer, asked_fault}
 use Rattle.staat_top.proofs.top.answer_to.Goals as goal
 
-pub returns-in-Ok-clause-answer : goal.returns-in-Ok-clause-answer
-returns-in-Ok-clause-answer g c =
-    let shelf : ShelfSide = record {
-      holds = g.H.Shelf.holds c.args.shelf.now;
-      before = g.H.Shelf.faults c.args.shelf.now;
-      after = g.H.Shelf.faults c.pair.new.shelf;
-      failed = g.H.Shelf.failed c.pair.new.shelf;
-      opened = g.H.Shelf.opened c.pair.new.shelf;
-      place = g.H.Shelf.place c.pair.new.shelf;
-    } in
-    asked_answer _ c.in-Ok.request shelf c.pair.result c.in-Ok.ensures.reads c.pair.ensures.ends
+pub returns-in-Ok-Pair-clause-answer : goal.returns-in-Ok-Pair-clause-answer
+returns-in-Ok-Pair-clause-answer g c =
+    let asked : Request = Pair c.in-Ok-Pair.digits c.in-Ok-Pair.along c.in-Ok-Pair.wall c.in-Ok-Pair.first c.in-Ok-Pair.second in
+    let shelf : ShelfSide = shelf_over (g.H.Shelf.holds c.args.shelf.now) (g.H.Shelf.faults c.args.shelf.now) (g.H.Shelf.faults c.pair.new.shelf) (g.H.Shelf.failed c.pair.new.shelf) (g.H.Shelf.opened c.pair.new.shelf) (g.H.Shelf.place c.pair.new.shelf) in
+    asked_answer _ asked shelf c.pair.result (ap built (c.in-Ok-Pair.ensures.answers ∙ ap Some c.in-Ok-Pair.field-0-is)) c.pair.ensures.ends
+
+pub returns-in-Ok-Pair-clause-explained : goal.returns-in-Ok-Pair-clause-explained
+returns-in-Ok-Pair-clause-explained g c =
+    let asked : Request = Pair c.in-Ok-Pair.digits c.in-Ok-Pair.along c.in-Ok-Pair.wall c.in-Ok-Pair.first c.in-Ok-Pair.second in
+    let shelf : ShelfSide = shelf_over (g.H.Shelf.holds c.args.shelf.now) (g.H.Shelf.faults c.args.shelf.now) (g.H.Shelf.faults c.pair.new.shelf) (g.H.Shelf.failed c.pair.new.shelf) (g.H.Shelf.opened c.pair.new.shelf) (g.H.Shelf.place c.pair.new.shelf) in
+    asked_fault _ asked shelf c.pair.result (ap built (c.in-Ok-Pair.ensures.answers ∙ ap Some c.in-Ok-Pair.field-0-is)) c.pair.ensures.ends c.pair.ensures.cause

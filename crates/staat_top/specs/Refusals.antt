@@ -1,0 +1,28 @@
+-- The faults that the refusals of the readers are, with the file's name.
+use Rattle.std.specs.Prelude.{ℕ, List}
+use Rattle.staat_fault.specs.declared.fault.Fault.{Fault}
+use Rattle.staat_fault.specs.declared.fault.Fault.TheVariants as fault
+use Rattle.staat_off.specs.declared.refusal.OffRefusal.{OffRefusal}
+use Rattle.staat_off.specs.declared.refusal.OffRefusal.TheVariants as off
+use Rattle.staat_mesh.specs.declared.refusal.MeshRefusal.{MeshRefusal}
+use Rattle.staat_mesh.specs.declared.refusal.MeshRefusal.TheVariants as mesh
+
+abbrev pub off_fault : List ℕ → OffRefusal → Fault
+off_fault name off.NoHeader = fault.NoHeader name
+off_fault name (off.BadNumber at) = fault.BadNumber name at
+off_fault name (off.NotWhole at) = fault.NotWhole name at
+off_fault name (off.TooBig at) = fault.TooBig name at
+off_fault name (off.BadCount at) = fault.BadCount name at
+off_fault name (off.BadIndex at) = fault.BadIndex name at
+off_fault name off.ShortFile = fault.ShortFile name
+off_fault name (off.Trailing at) = fault.Trailing name at
+off_fault name off.OutOfMemory = fault.OutOfMemory
+
+abbrev pub mesh_fault : List ℕ → MeshRefusal → Fault
+mesh_fault name (mesh.TooFewPoints found) = fault.TooFewPoints name found
+mesh_fault name (mesh.TooManyPoints found) = fault.TooManyPoints name found
+mesh_fault name mesh.Flat = fault.Flat name
+mesh_fault name (mesh.BadFace face) = fault.BadFace name face
+mesh_fault name (mesh.NotConvex face) = fault.NotConvex name face
+mesh_fault name (mesh.OpenEdge face corner) = fault.OpenEdge name face corner
+mesh_fault name mesh.OutOfMemory = fault.OutOfMemory

@@ -1,0 +1,40 @@
+// The faults that the refusals of the readers are.
+ghost use Rattle.std.specs.Prelude.{◌≡◌};
+ghost use Rattle.staat_top.specs.Refusals.{mesh_fault, off_fault};
+
+use staat_fault::Fault;
+use staat_mesh::MeshRefusal;
+use staat_off::OffRefusal;
+use staat_vec::Name;
+
+/// The fault of a file that is no OFF file.
+pub fn off_fault(name: Name, refusal: OffRefusal) -> Fault
+    ensures { result ≡ off_fault name refusal }
+{
+    match refusal {
+        OffRefusal::NoHeader => Fault::NoHeader(name),
+        OffRefusal::BadNumber(at) => Fault::BadNumber(name, at),
+        OffRefusal::NotWhole(at) => Fault::NotWhole(name, at),
+        OffRefusal::TooBig(at) => Fault::TooBig(name, at),
+        OffRefusal::BadCount(at) => Fault::BadCount(name, at),
+        OffRefusal::BadIndex(at) => Fault::BadIndex(name, at),
+        OffRefusal::ShortFile => Fault::ShortFile(name),
+        OffRefusal::Trailing(at) => Fault::Trailing(name, at),
+        OffRefusal::OutOfMemory => Fault::OutOfMemory,
+    }
+}
+
+/// The fault of a file whose mesh is no piece.
+pub fn mesh_fault(name: Name, refusal: MeshRefusal) -> Fault
+    ensures { result ≡ mesh_fault name refusal }
+{
+    match refusal {
+        MeshRefusal::TooFewPoints(found) => Fault::TooFewPoints(name, found),
+        MeshRefusal::TooManyPoints(found) => Fault::TooManyPoints(name, found),
+        MeshRefusal::Flat => Fault::Flat(name),
+        MeshRefusal::BadFace(face) => Fault::BadFace(name, face),
+        MeshRefusal::NotConvex(face) => Fault::NotConvex(name, face),
+        MeshRefusal::OpenEdge(face, corner) => Fault::OpenEdge(name, face, corner),
+        MeshRefusal::OutOfMemory => Fault::OutOfMemory,
+    }
+}
