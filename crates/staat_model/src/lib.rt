@@ -19,7 +19,6 @@ mod solid;
 mod tests;
 mod tree;
 mod verdict;
-mod wall;
 
 pub use assembly::{Assembly, Part, Parts, Sound};
 pub use certificate::{
@@ -35,4 +34,3 @@ pub use set::PartSet;
 pub use solid::is_solid;
 pub use tree::{Kind, Marks, Outcome, Step, Tree};
 pub use verdict::{Reason, Verdict};
-pub use wall::is_shown;

@@ -4,7 +4,7 @@ ghost use Rattle.staat_vec.specs.Vectors.{vector};
 ghost use Rattle.staat_model.specs.Pieces.{IsPiece};
 
 use crate::{
-    Assembly, MOST_PARTS, Part, PartSet, Parts, Piece, Pieces, Points, Sound, is_shown, is_solid,
+    Assembly, MOST_PARTS, Part, PartSet, Parts, Piece, Pieces, Points, Sound, is_solid,
 };
 use staat_vec::{Name, V3};
 use std::alloc::{AllocError, Global};
@@ -26,18 +26,6 @@ const CUBE: [V3; 8] = [
     V3 { x: 2, y: 0, z: 2 },
     V3 { x: 2, y: 2, z: 0 },
     V3 { x: 2, y: 2, z: 2 },
-];
-
-// its neighbour in the direction of x
-const NEIGHBOUR: [V3; 8] = [
-    V3 { x: 2, y: 0, z: 0 },
-    V3 { x: 2, y: 0, z: 2 },
-    V3 { x: 2, y: 2, z: 0 },
-    V3 { x: 2, y: 2, z: 2 },
-    V3 { x: 4, y: 0, z: 0 },
-    V3 { x: 4, y: 0, z: 2 },
-    V3 { x: 4, y: 2, z: 0 },
-    V3 { x: 4, y: 2, z: 2 },
 ];
 
 fn sealed(alloc: Global, points: [V3; 8]) -> Result<Piece, AllocError>
@@ -84,20 +72,6 @@ fn solid_points(rt: HostRuntime) {
     assert!(rt; !is_solid(&[at(1, 2, 3), at(2, 4, 6), at(3, 6, 9), at(-1, -2, -3)]));
     assert!(rt; !is_solid(&[at(1, 2, 3), at(1, 2, 3)]));
     assert!(rt; !is_solid(&[]));
-}
-
-#[test]
-fn walls_of_touching_cubes(rt: HostRuntime) -> Result<(), Fail> {
-    let first = sealed(rt.alloc(), CUBE)?;
-    let second = sealed(rt.alloc(), NEIGHBOUR)?;
-    let wall = at(1, 0, 0);
-    assert!(rt; is_shown(&first, &second, at(0, 0, 1), wall));
-    assert!(rt; is_shown(&first, &second, at(-1, 0, 0), wall));
-    assert!(rt; !is_shown(&first, &second, wall, wall));
-    assert!(rt; !is_shown(&first, &second, at(0, 0, 1), at(0, 1, 0)));
-    assert!(rt; !is_shown(&first, &second, at(0, 0, 1), at(0, 0, 0)));
-    assert!(rt; !is_shown(&second, &first, at(0, 0, 1), wall));
-    Ok(())
 }
 
 // the assembly of one part of one piece

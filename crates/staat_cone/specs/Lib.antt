@@ -1,0 +1,1 @@
+-- Definitions that the contracts here cite.

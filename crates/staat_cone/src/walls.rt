@@ -1,0 +1,136 @@
+// Walls between two pieces, and whether a direction leads ahead of all of them.
+ghost use Rattle.std.specs.Prelude.{◌≡◌, ◌≢◌, ◌↔◌, ◌⊎◌, ◌≤◌, ◌≤ℤ◌, ◌<ℤ◌, pos, List, length, Contains, All, IsTrue};
+ghost use Rattle.staat_vec.specs.declared.vector.V3.{V3 as Vector};
+ghost use Rattle.staat_vec.specs.Vectors.{IsWithin, dot, origin};
+ghost use Rattle.staat_model.specs.Facets.{IsFacet};
+ghost use Rattle.staat_model.specs.Meeting.{Meets};
+ghost use Rattle.staat_model.specs.Pieces.{IsPiece};
+ghost use Rattle.staat_model.specs.Walls.{IsBeyond};
+
+use staat_model::Piece;
+use staat_vec::{DIRECTION, NORMAL, POINT, V3, dot};
+
+const ORIGIN: V3 = V3 { x: 0, y: 0, z: 0 };
+
+/// Whether v is a wall's normal: any vector but zero.
+pub fn is_wall(v: V3) -> bool
+    ensures { IsTrue result ↔ (v ≢ origin) }
+{
+    v != ORIGIN
+}
+
+/// Whether a lies less far along n than b.
+pub fn is_nearer(n: V3, a: V3, b: V3) -> bool
+    requires normal { IsWithin NORMAL n }
+    requires first { IsWithin POINT a }
+    requires second { IsWithin POINT b }
+    ensures { IsTrue result ↔ (dot n a <ℤ dot n b) }
+{
+    dot(n, a) < dot(n, b)
+}
+
+fn nearer(n: V3, a: V3, b: V3) -> V3
+    requires normal { IsWithin NORMAL n }
+    requires first { IsWithin POINT a }
+    requires second { IsWithin POINT b }
+    ensures either { (result ≡ a) ⊎ (result ≡ b) }
+    ensures first { dot n result ≤ℤ dot n a }
+    ensures second { dot n result ≤ℤ dot n b }
+{
+    if is_nearer(n, a, b) { a } else { b }
+}
+
+fn farther(n: V3, a: V3, b: V3) -> V3
+    requires normal { IsWithin NORMAL n }
+    requires first { IsWithin POINT a }
+    requires second { IsWithin POINT b }
+    ensures either { (result ≡ a) ⊎ (result ≡ b) }
+    ensures first { dot n a ≤ℤ dot n result }
+    ensures second { dot n b ≤ℤ dot n result }
+{
+    if is_nearer(n, b, a) { a } else { b }
+}
+
+/// One of the points that lie least far along n.
+pub fn lowest(n: V3, points: &[V3]) -> V3
+    requires normal { IsWithin NORMAL n }
+    requires some { 1 ≤ length points.now }
+    requires points { All (IsWithin POINT) points.now }
+    ensures member { Contains points.now result }
+    ensures least { All (λ p. dot n result ≤ℤ dot n p) points.now }
+{
+    let mut best = points[0];
+    for p in points {
+        best = nearer(n, *p, best);
+    }
+    best
+}
+
+/// One of the points that lie farthest along n.
+pub fn highest(n: V3, points: &[V3]) -> V3
+    requires normal { IsWithin NORMAL n }
+    requires some { 1 ≤ length points.now }
+    requires points { All (IsWithin POINT) points.now }
+    ensures member { Contains points.now result }
+    ensures most { All (λ p. dot n p ≤ℤ dot n result) points.now }
+{
+    let mut best = points[0];
+    for p in points {
+        best = farther(n, *p, best);
+    }
+    best
+}
+
+/// The points of a piece, with what the functions here ask of them.
+pub fn points_of(p: &Piece) -> &[V3]
+    ensures points { result.now ≡ p.now }
+    ensures piece { IsPiece p.now }
+    ensures some { 1 ≤ length p.now }
+    ensures within { All (IsWithin POINT) p.now }
+{
+    p.points()
+}
+
+// whether all of q lies as far along n as all of p, or farther
+fn is_beyond(n: V3, p: &Piece, q: &Piece) -> bool
+    requires normal { IsWithin NORMAL n }
+    ensures { IsTrue result ↔ IsBeyond p.now q.now n }
+{
+    let least = lowest(n, points_of(q));
+    let most = highest(n, points_of(p));
+    !is_nearer(n, least, most)
+}
+
+/// Whether `n` is the normal of a wall between the pieces: not zero, and every point of `q` is as far along it as every
+/// point of `p`, or farther.
+///
+/// The components of `n` are at most [`NORMAL`] in absolute value. The time is linear in the number of points.
+pub fn separates(n: V3, p: &Piece, q: &Piece) -> bool
+    requires normal { IsWithin NORMAL n }
+    ensures { IsTrue result ↔ ((n ≢ origin) × IsBeyond p.now q.now n) }
+{
+    is_wall(n) && is_beyond(n, p, q)
+}
+
+// whether d leads ahead of all the normals
+fn leads_ahead(facets: &[V3], d: V3) -> bool
+    requires normals { All (IsWithin NORMAL) facets.now }
+    requires direction { IsWithin DIRECTION d }
+    ensures { IsTrue result ↔ All (λ n. pos 0 <ℤ dot n d) facets.now }
+{
+    facets.iter().all(|n| dot(*n, d) > 0)
+}
+
+/// Whether `d` leads ahead of all the facets. Of the facets of two pieces it says whether the first, moved along `d`,
+/// meets the second (by Farkas' lemma).
+///
+/// The components of the facets are at most [`NORMAL`] in absolute value, and those of `d` at most [`DIRECTION`]. The
+/// search ends at the first facet that `d` does not lead ahead of.
+pub fn blocks(facets: &[V3], d: V3) -> bool
+    requires normals { All (IsWithin NORMAL) facets.now }
+    requires direction { IsWithin DIRECTION d }
+    ensures ahead { IsTrue result ↔ All (λ n. pos 0 <ℤ dot n d) facets.now }
+    ensures meets { (p q : List Vector) → IsPiece p → IsPiece q → ((n : Vector) → Contains facets.now n ↔ IsFacet p q n) → IsTrue result ↔ Meets p q d }
+{
+    leads_ahead(facets, d)
+}
