@@ -1,5 +1,5 @@
 -- Points that lie least and farthest along a normal, and what they say of all points.
-use Rattle.std.proofs.Common.{◌≡◌, ℕ, ◌+◌, ◌<◌, ◌↔◌, ◌⊎◌, inl, inr, arith, sym, subst, ap, ◌∙◌, refl, Bool, true, false, not, ℤ, ◌≤ℤ◌, ◌<ℤ◌, List, get_or, length, below_more, IsTrue, Contains, All, ◌-ℤ◌, pos}
+use Rattle.std.proofs.Common.{◌≡◌, ℕ, ◌+◌, ◌<◌, ◌↔◌, ◌⊎◌, inl, inr, arith, sym, subst, ◌∙◌, refl, Bool, true, false, not, ℤ, ◌≤ℤ◌, ◌<ℤ◌, List, get_or, length, below_more, IsTrue, Contains, All, ◌-ℤ◌, pos}
 use Rattle.std.proofs.lemmas.Int.{ints, by_lt_z}
 use Rattle.std.proofs.lemmas.List.{get_or_default}
 use Rattle.std.proofs.lemmas.List.Elements.{All-contains}
@@ -52,9 +52,9 @@ pub beyond_by_ends : (p q : List V3) (n low high : V3) → Contains q low → Al
     → (dot n high ≤ℤ dot n low) ↔ IsBeyond p q n
 beyond_by_ends p q n low high low_in least high_in most = (
   (λ le. All-from_members (λ a. All (λ b. pos 0 ≤ℤ dot n (minus b a)) q) p (λ a a_in. All-from_members (λ b. pos 0 ≤ℤ dot n (minus b a)) q (λ b b_in.
-    apart (dot n a) (dot n b) (dot n high) (dot n low) (dot n (minus b a)) (dot-minus n b a) (All-contains (λ x. dot n x ≤ℤ dot n high) p a most a_in) (All-contains (λ x. dot n low ≤ℤ dot n x) q b least b_in) le))),
+      apart (dot n a) (dot n b) (dot n high) (dot n low) (dot n (minus b a)) (dot-minus n b a) (All-contains (λ x. dot n x ≤ℤ dot n high) p a most a_in) (All-contains (λ x. dot n low ≤ℤ dot n x) q b least b_in) le))),
   (λ up. meet (dot n high) (dot n low) (dot n (minus low high)) (dot-minus n low high)
-    (All-contains (λ b. pos 0 ≤ℤ dot n (minus b high)) q low (All-contains (λ a. All (λ b. pos 0 ≤ℤ dot n (minus b a)) q) p high up high_in) low_in)),
+      (All-contains (λ b. pos 0 ≤ℤ dot n (minus b high)) q low (All-contains (λ a. All (λ b. pos 0 ≤ℤ dot n (minus b a)) q) p high up high_in) low_in)),
 )
   where
     apart : (x y high low z : ℤ) → z ≡ y -ℤ x → x ≤ℤ high → low ≤ℤ y → high ≤ℤ low → pos 0 ≤ℤ z

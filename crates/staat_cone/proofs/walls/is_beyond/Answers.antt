@@ -1,4 +1,4 @@
-use Rattle.std.proofs.Common.{subst, All, Contains, sym, ◌≤ℤ◌}
+use Rattle.std.proofs.Common.{subst, All, Contains, ◌≤ℤ◌}
 use Rattle.staat_vec.specs.Vectors.{dot}
 use Rattle.staat_cone.proofs.Ends.{beyond_by_ends}
 use Rattle.staat_cone.proofs.Ends.{not_less}
