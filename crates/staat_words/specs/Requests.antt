@@ -72,7 +72,12 @@ AnswersInput asked (Ok input) = asked ≡ Some input
 AnswersInput asked (Err Usage) = asked ≡ None
 AnswersInput asked (Err OutOfMemory) = ⊤
 
+-- a part list, or 1 to 32 files
+abbrev pub IsInput : Input → Type 0
+IsInput (Manifest name) = ⊤
+IsInput (Files names) = (1 ≤ length names) × (length names ≤ 32)
+
 -- how great the numbers of a request are at most
 abbrev pub HasBounds : Request → Type 0
 HasBounds (Pair digits along wall first second) = (digits ≤ 6) × IsWithin DIRECTION along × IsWithin NORMAL wall
-HasBounds (Look digits input) = digits ≤ 6
+HasBounds (Look digits input) = (digits ≤ 6) × IsInput input

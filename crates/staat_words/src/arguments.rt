@@ -2,7 +2,7 @@
 ghost use Rattle.std.specs.Prelude.{◌≡◌, ◌≤◌, ◌≢◌, map, option_map, IfSome, IfOk};
 ghost use Rattle.clap.specs.Words.{all_of, first_of, found_of, rows_of};
 ghost use Rattle.staat_vec.specs.Vectors.{IsWithin, origin};
-ghost use Rattle.staat_words.specs.Requests.{AnswersInput, digits_in, input_in, vector_in};
+ghost use Rattle.staat_words.specs.Requests.{AnswersInput, IsInput, digits_in, input_in, vector_in};
 
 use crate::request::{Input, RequestRefusal};
 use crate::vector::vector_of;
@@ -71,7 +71,8 @@ fn names_of(alloc: Global, words: &[&str]) -> Result<Names, AllocError>
 /// Where the parts come from: either a part list, or 1 to 32 files.
 #[tactic(auto, unfolding(crate::specs::Requests::input_in))]
 pub fn input_of(alloc: Global, matches: &ArgMatches<'_>) -> Result<Input, RequestRefusal>
-    ensures { AnswersInput (input_in (rows_of (found_of matches.now))) result }
+    ensures answers { AnswersInput (input_in (rows_of (found_of matches.now))) result }
+    ensures bounds { IfOk result IsInput }
 {
     let files = values_of(matches, "files");
     match value_of(matches, "manifest") {

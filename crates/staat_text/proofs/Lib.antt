@@ -1,0 +1,2 @@
+pub mod PartLines
+mod TestParts
