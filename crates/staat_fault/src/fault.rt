@@ -1,6 +1,6 @@
 // What stops a request.
-use staat_vec::Name;
-use std::alloc::AllocError;
+use staat_vec::{Name, OutOfMemory};
+use std::alloc::{AllocError, AllocFailed};
 
 /// What stops a request, with the file that it names and the values that tell where.
 #[derive(Drop)]
@@ -74,6 +74,28 @@ impl From<AllocError> for Fault {
     ghost from_gives = { λ _ e. e ≡ OutOfMemory };
 
     fn from(_: AllocError) -> Self {
+        Fault::OutOfMemory
+    }
+}
+
+impl<T: Drop> From<AllocFailed<T>> for Fault {
+    ghost use Rattle.std.specs.Prelude.{◌≡◌};
+    ghost use Rattle.staat_fault.specs.declared.fault.Fault.TheVariants.{OutOfMemory};
+
+    ghost from_gives = { λ _ e. e ≡ OutOfMemory };
+
+    fn from(_: AllocFailed<T>) -> Self {
+        Fault::OutOfMemory
+    }
+}
+
+impl From<OutOfMemory> for Fault {
+    ghost use Rattle.std.specs.Prelude.{◌≡◌};
+    ghost use Rattle.staat_fault.specs.declared.fault.Fault.TheVariants.{OutOfMemory};
+
+    ghost from_gives = { λ _ e. e ≡ OutOfMemory };
+
+    fn from(_: OutOfMemory) -> Self {
         Fault::OutOfMemory
     }
 }

@@ -4,3 +4,4 @@ pub mod OneReply
 pub mod RightLemmas
 pub mod RunLemmas
 pub mod Asking
+pub mod Inputting

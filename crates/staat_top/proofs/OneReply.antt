@@ -1,5 +1,5 @@
 -- There is one reply to a request over some files, and none where a file that is reached is not there.
-use Rattle.std.proofs.Common.{◌≡◌, ℕ, ◌<◌, ◌≤◌, List, length, Option, Some, None, refl, ap, sym, ◌∙◌, subst, arith, inl, inr}
+use Rattle.std.proofs.Common.{◌≡◌, ℕ, ◌<◌, ◌≤◌, List, [], ◌∷◌, length, Option, Some, None, refl, ap, sym, ◌∙◌, subst, arith, inl, inr}
 use Rattle.std.specs.Prelude.{Ok, Err}
 use Rattle.staat_mesh.specs.declared.refusal.MeshRefusal.{MeshRefusal}
 use Rattle.staat_vec.specs.declared.vector.V3.{V3}
@@ -7,12 +7,15 @@ use Rattle.staat_mesh.specs.Polygons.{mesh}
 use Rattle.staat_mesh.specs.Judging.{Judges}
 use Rattle.staat_mesh.proofs.OneAnswer.{one_answer_lemma}
 use Rattle.staat_edge.specs.Files.{bytes_of}
+use Rattle.staat_words.specs.declared.request.Input.{Input}
+use Rattle.staat_words.specs.declared.request.Input.TheVariants as input
 use Rattle.staat_words.specs.declared.request.Request.{Request}
 use Rattle.staat_words.specs.declared.request.Request.TheVariants.{Pair, Look}
 use Rattle.staat_top.specs.declared.read.TheConstants.{FILE_LIMIT}
-use Rattle.staat_top.specs.Steps.{Files, End, replies, reads, Found, gives, stops, Then, Reply, refused, IsTaken, to_read, too_long, taken}
-use Rattle.staat_top.specs.Refusals.{off_fault, mesh_fault}
+use Rattle.staat_top.specs.Steps.{Files, End, replies, reads, Found, gives, stops, Then, Next, Each, Reply, refused, IsTaken, to_read, too_long, taken}
+use Rattle.staat_top.specs.Refusals.{off_fault, mesh_fault, manifest_fault}
 use Rattle.staat_top.specs.Pieces.{IsPieceOf, SaysPiece, no_file, no_piece, piece}
+use Rattle.staat_top.specs.Inputs.{NamedPart, SaysListing, no_listing, listing, IsListingOf, IsPartOf, IsInputOf, part_of}
 use Rattle.staat_top.specs.Replies.{IsJudged, free, not_shown, Ends}
 
 -- the step does not stand at a file that is to be read
@@ -59,6 +62,57 @@ then_rest {X} files First Rest first rest = record { one = one; held = held }
     held name r (inr a) lacks (inr b) =
         let same : a.0 ≡ b.0 = gives_one a.0 b.0 (first.one _ _ a.1 b.1 tt tt) in
         (rest b.0).held name r (subst (λ x. Rest x (reads name)) same a.2) lacks b.2
+
+found_at : {X : Type 0} (f : Found X) (at : End) → f ≡ stops at → IsSettled f → IsSettled {X = X} (stops at)
+found_at f at e settled = subst IsSettled e settled
+
+stop_of : {X : Type 0} (at : End) (name : List ℕ) → ◌≡◌ {A = Found X} (stops (reads name)) (stops at) → at ≡ reads name
+stop_of at name e = cc
+
+-- whether an end is a reply does not depend on what else the step might give
+settled_end : (X Y : Type 0) (at : End) → IsSettled {X = X} (stops at) → IsSettled {X = Y} (stops at)
+settled_end X Y (replies reply) h = tt
+settled_end X Y (reads name) h = h
+
+stops_at_one : (X Y : Type 0) (a b : End) → ◌≡◌ {A = Found X} (stops a) (stops b) → ◌≡◌ {A = Found Y} (stops a) (stops b)
+stops_at_one X Y a b e = let same : a ≡ b = cc in ap (λ x. stops x) same
+
+-- two steps as one
+pub next_step : {X Y : Type 0} (files : Files) (First : Found X → Type 0) (Rest : X → Found Y → Type 0) → IsStep files First → ((x : X) → IsStep files (Rest x)) → IsStep files (Next First Rest)
+next_step {X} {Y} files First Rest first rest = record { one = one; held = held }
+  where
+    one : (f g : Found Y) → Next First Rest f → Next First Rest g → IsSettled f → IsSettled g → f ≡ g
+    one f g (inl (a, fa, e)) (inl (b, fb, d)) sf sg =
+        e ∙ stops_at_one X Y a b (first.one (stops a) (stops b) fa fb (settled_end Y X a (found_at f a e sf)) (settled_end Y X b (found_at g b d sg))) ∙ sym d
+    one f g (inl (a, fa, e)) (inr (y, fy, ry)) sf sg = absurd (gives_stops y a (first.one (gives y) (stops a) fy fa tt (settled_end Y X a (found_at f a e sf))))
+    one f g (inr (x, fx, rx)) (inl (b, fb, d)) sf sg = absurd (gives_stops x b (first.one (gives x) (stops b) fx fb tt (settled_end Y X b (found_at g b d sg))))
+    one f g (inr (x, fx, rx)) (inr (y, fy, ry)) sf sg =
+        let same : x ≡ y = gives_one x y (first.one (gives x) (gives y) fx fy tt tt) in
+        (rest y).one f g (subst (λ z. Rest z f) same rx) ry sf sg
+
+    held : (name : List ℕ) (f : Found Y) → Next First Rest (stops (reads name)) → bytes_of name files ≡ None → Next First Rest f → IsSettled f → ⊥
+    held name f (inl (a, fa, e)) lacks (inl (b, fb, d)) settled =
+        first.held name (stops b) (subst (λ z. First (stops z)) (stop_of a name e) fa) lacks fb (settled_end Y X b (found_at f b d settled))
+    held name f (inl (a, fa, e)) lacks (inr (y, fy, ry)) settled =
+        first.held name (gives y) (subst (λ z. First (stops z)) (stop_of a name e) fa) lacks fy tt
+    held name f (inr (x, fx, rx)) lacks (inl (b, fb, d)) settled = gives_stops x b (first.one (gives x) (stops b) fx fb tt (settled_end Y X b (found_at f b d settled)))
+    held name f (inr (x, fx, rx)) lacks (inr (y, fy, ry)) settled =
+        let same : x ≡ y = gives_one x y (first.one (gives x) (gives y) fx fy tt tt) in
+        (rest y).held name f (subst (λ z. Rest z (stops (reads name))) same rx) lacks ry settled
+
+no_reads : {X : Type 0} (x : X) (name : List ℕ) → stops (reads name) ≡ gives x → ⊥
+no_reads x name e = cc
+
+-- a step that gives one thing
+pub given_step : {X : Type 0} (files : Files) (x : X) → IsStep files (λ found. found ≡ gives x)
+given_step files x = record { one = λ f g a b sf sg. a ∙ sym b; held = λ name f at lacks step settled. no_reads x name at }
+
+-- a step for each member
+pub each_step : {X Y : Type 0} (files : Files) (Step : X → Found Y → Type 0) → ((x : X) → IsStep files (Step x)) → (xs : List X) → IsStep files (Each Step xs)
+each_step {X} {Y} files Step step [] = given_step files []
+each_step {X} {Y} files Step step (x ∷ xs) =
+    next_step files (Step x) (λ y. Next (Each Step xs) (λ ys found. found ≡ gives (y ∷ ys))) (step x)
+    (λ y. next_step files (Each Step xs) (λ ys found. found ≡ gives (y ∷ ys)) (each_step files Step step xs) (λ ys. given_step files (y ∷ ys)))
 
 bytes_one : (o : Option (List ℕ)) (a b : List ℕ) → o ≡ Some a → o ≡ Some b → a ≡ b
 bytes_one o a b e f = cc
@@ -143,6 +197,31 @@ piece_saying digits name = record { one = one; no_read = no_read }
 piece_step : (files : Files) (digits : ℕ) (name : List ℕ) → IsStep files (IsPieceOf files digits name)
 piece_step files digits name = taken_step files name (SaysPiece digits name) (piece_saying digits name)
 
+listing_saying : (name : List ℕ) → IsSaying (SaysListing name)
+listing_saying name = record { one = one; no_read = no_read }
+  where
+    one : (bytes : List ℕ) (f g : Found (List NamedPart)) → SaysListing name bytes f → SaysListing name bytes g → f ≡ g
+    one bytes f g (no_listing r re e) (no_listing s se d) =
+        let same : r ≡ s = cc in e ∙ ap (λ x. stops (replies (refused (manifest_fault name x)))) same ∙ sym d
+    one bytes f g (no_listing r re e) (listing p pe d) = absurd cc
+    one bytes f g (listing p pe e) (no_listing s se d) = absurd cc
+    one bytes f g (listing p pe e) (listing q qe d) =
+        let same : p ≡ q = cc in e ∙ ap gives same ∙ sym d
+
+    no_read : (bytes n : List ℕ) → SaysListing name bytes (stops (reads n)) → ⊥
+    no_read bytes n (no_listing r re e) = absurd cc
+    no_read bytes n (listing p pe e) = gives_stops p (reads n) (sym e)
+
+listing_step : (files : Files) (asked : Input) → IsStep files (IsListingOf files asked)
+listing_step files (input.Manifest name) = taken_step files name (SaysListing name) (listing_saying name)
+listing_step files (input.Files names) = given_step files _
+
+part_step : (files : Files) (digits : ℕ) (named : NamedPart) → IsStep files (IsPartOf files digits named)
+part_step files digits named = next_step files (Each (IsPieceOf files digits) named.1) _ (each_step files (IsPieceOf files digits) (piece_step files digits) named.1) (λ pieces. given_step files (part_of named.0 pieces))
+
+pub input_step : (files : Files) (digits : ℕ) (asked : Input) → IsStep files (IsInputOf files digits asked)
+input_step files digits asked = next_step files (IsListingOf files asked) _ (listing_step files asked) (λ named. each_step files (IsPartOf files digits) (part_step files digits) named)
+
 reply_at : (r s : Reply) → replies r ≡ replies s → r ≡ s
 reply_at r s e = cc
 
@@ -173,7 +252,7 @@ ends_rest None files = record {
 ends_rest (Some (Pair digits along wall first second)) files =
     then_rest files (IsPieceOf files digits first) _ (piece_step files digits first)
     (λ p. then_rest files (IsPieceOf files digits second) _ (piece_step files digits second) (λ q. judged_rest files p q along wall))
-ends_rest (Some (Look digits input)) files = record {
+ends_rest (Some (Look digits asked)) files = then_rest files (IsInputOf files digits asked) _ (input_step files digits asked) (λ parts. record {
   one = λ r s a b. reply_at r s (a ∙ sym b);
   held = λ name r a lacks b. reads_at name _ a;
-}
+})

@@ -1,5 +1,5 @@
 -- What the step finds that reads the piece of a file.
-use Rattle.std.proofs.Common.{◌≡◌, ℕ, ◌<◌, ◌≤◌, List, length, Option, Some, None, Ok, Err, refl, subst}
+use Rattle.std.proofs.Common.{◌≡◌, ℕ, ◌<◌, ◌≤◌, List, length, Option, Some, None, Ok, Err, refl, sym, ap, subst}
 use Rattle.std.specs.Prelude.{Result, IsSomeAnd}
 use Rattle.staat_vec.specs.declared.vector.V3.{V3}
 use Rattle.staat_edge.specs.Files.{bytes_of, IsWhole, IsLonger}
@@ -14,13 +14,18 @@ use Rattle.staat_mesh.specs.declared.refusal.MeshRefusal.{MeshRefusal}
 use Rattle.staat_mesh.specs.declared.refusal.MeshRefusal.TheVariants as mesh_refusal
 use Rattle.staat_mesh.specs.Polygons.{mesh}
 use Rattle.staat_mesh.specs.Judging.{Answers as Judged}
+use Rattle.staat_manifest.specs.declared.refusal.ManifestRefusal.{ManifestRefusal}
+use Rattle.staat_manifest.specs.declared.refusal.ManifestRefusal.TheVariants as manifest
+use Rattle.staat_manifest.specs.Answers.{Answers as Lists}
+use Rattle.staat_manifest.specs.Rules.{part_list}
 use Rattle.staat_top.specs.declared.read.TheConstants.{FILE_LIMIT}
-use Rattle.staat_top.specs.Steps.{Files, Found, replies, reads, gives, stops, refused, Follows, IsTaken, to_read, too_long, taken}
-use Rattle.staat_top.specs.Refusals.{off_fault, mesh_fault}
+use Rattle.staat_top.specs.Steps.{Files, Found, replies, reads, gives, stops, refused, Follows, IsNotTaken, IsTaken, to_read, too_long, taken}
+use Rattle.staat_top.specs.Refusals.{off_fault, mesh_fault, manifest_fault}
 use Rattle.staat_top.specs.Pieces.{SaysPiece, no_file, no_piece, piece}
+use Rattle.staat_top.specs.Inputs.{NamedPart, SaysListing, no_listing, listing}
 
 -- the file has more bytes than the limit
-pub found_long : {X : Type 0} (Says : List ℕ → Found X → Type 0) (holds : Option Files) (files : Files) (name : List ℕ) → holds ≡ Some files → IsLonger holds name FILE_LIMIT → IsTaken files name Says (stops (replies (refused (fault.TooLong name))))
+found_long : {X : Type 0} (Says : List ℕ → Found X → Type 0) (holds : Option Files) (files : Files) (name : List ℕ) → holds ≡ Some files → IsLonger holds name FILE_LIMIT → IsTaken files name Says (stops (replies (refused (fault.TooLong name))))
 found_long {X} Says holds files name told long = go (bytes_of name files) refl (subst (λ h. IsLonger h name FILE_LIMIT) told long)
   where
     go : (o : Option (List ℕ)) → bytes_of name files ≡ o → IsSomeAnd o (λ bytes. FILE_LIMIT < length bytes) → IsTaken files name Says (stops (replies (refused (fault.TooLong name))))
@@ -33,9 +38,12 @@ found_taken Says holds files name bytes (Ok x) told whole short says = taken byt
 found_taken Says holds files name bytes (Err fault.OutOfMemory) told whole short says = tt
 found_taken Says holds files name bytes (Err f) told whole short says = taken bytes (subst (λ h. IsWhole h name bytes) told whole) short says
 
--- the file is to be read
-pub found_at : {X : Type 0} (Says : List ℕ → Found X → Type 0) (files : Files) (name : List ℕ) → IsTaken files name Says (stops (reads name))
-found_at Says files name = to_read refl
+-- the file's bytes were not taken
+pub not_taken : {X : Type 0} (Says : List ℕ → Found X → Type 0) (holds : Option Files) (files : Files) (name : List ℕ) (f : Fault) → holds ≡ Some files → IsNotTaken holds name f → Follows (IsTaken files name Says) (Err f)
+not_taken Says holds files name (fault.ReadFault at) told e = to_read (ap (λ n. stops (reads n)) e)
+not_taken Says holds files name (fault.TooLong at) told (e, long) = subst (λ n. IsTaken files name Says (stops (replies (refused (fault.TooLong n))))) (sym e) (found_long Says holds files name told long)
+not_taken Says holds files name fault.OutOfMemory told e = tt
+not_taken Says holds files name f told e = absurd e
 
 -- the file is no OFF file
 pub says_no_file : (digits : ℕ) (name bytes : List ℕ) (refusal : OffRefusal) → Reads {X = Raw} (Err refusal) (reading digits bytes) → Follows (SaysPiece digits name bytes) (Err (off_fault name refusal))
@@ -63,6 +71,22 @@ says_no_piece digits name bytes raw mesh_refusal.OutOfMemory e j = tt
 pub says_piece : (digits : ℕ) (name bytes : List ℕ) (raw : Raw) (points : List V3) → reading digits bytes ≡ Ok raw → Judged (mesh raw) (Ok points) → SaysPiece digits name bytes (gives points)
 says_piece digits name bytes raw points e j = piece raw points e j refl
 
+-- the file is no part list
+pub says_no_listing : (name bytes : List ℕ) (refusal : ManifestRefusal) → Lists {X = List NamedPart} (part_list bytes) (Err refusal) → Follows (SaysListing name bytes) (Err (manifest_fault name refusal))
+says_no_listing name bytes manifest.NotJson e = no_listing manifest.NotJson e refl
+says_no_listing name bytes (manifest.BadShape path) e = no_listing (manifest.BadShape path) e refl
+says_no_listing name bytes (manifest.RepeatedName part) e = no_listing (manifest.RepeatedName part) e refl
+says_no_listing name bytes (manifest.NoPieces part) e = no_listing (manifest.NoPieces part) e refl
+says_no_listing name bytes manifest.TooManyParts e = no_listing manifest.TooManyParts e refl
+says_no_listing name bytes manifest.TooManyPieces e = no_listing manifest.TooManyPieces e refl
+says_no_listing name bytes manifest.OutOfMemory e = tt
+
+-- it is one
+pub says_listing : (name bytes : List ℕ) (parts : List NamedPart) → part_list bytes ≡ Ok parts → SaysListing name bytes (gives parts)
+says_listing name bytes parts e = listing parts e refl
+
+pub ruleset listing_says = (says_no_listing, says_listing)
+
 pub ruleset saying = (says_no_file, says_no_piece, says_piece)
 
-pub ruleset taking = (found_long, found_taken, found_at)
+pub ruleset taking = (found_taken, not_taken)

@@ -1,21 +1,26 @@
 -- What status 0 means.
-use Rattle.std.proofs.Common.{◌≡◌, ℕ, List, Option, Some, None, refl, ap, sym, subst, arith, inl, inr}
+use Rattle.std.proofs.Common.{◌≡◌, ℕ, List, [], ◌∷◌, Option, Some, None, refl, ap, sym, subst, arith, inl, inr}
 use Rattle.std.specs.Prelude.{◌≤◌, Ok}
 use Rattle.staat_vec.specs.declared.vector.V3.{V3}
 use Rattle.staat_model.specs.Pieces.{IsSolid}
 use Rattle.staat_model.proofs.WallLaws as walls
+use Rattle.staat_words.specs.declared.request.Input.{Input}
+use Rattle.staat_words.specs.declared.request.Input.TheVariants as input
 use Rattle.staat_words.specs.declared.request.Request.{Request}
 use Rattle.staat_words.specs.declared.request.Request.TheVariants.{Pair, Look}
-use Rattle.staat_top.specs.Steps.{Files, replies, Found, gives, stops, Reply, answered, to_read, too_long, taken}
+use Rattle.staat_top.specs.Steps.{Files, Next, Each, replies, Found, gives, stops, Reply, answered, to_read, too_long, taken}
 use Rattle.staat_off.specs.declared.refusal.OffRefusal.{OffRefusal}
 use Rattle.staat_off.specs.declared.refusal.OffRefusal.TheVariants as off
 use Rattle.staat_mesh.specs.declared.refusal.MeshRefusal.{MeshRefusal}
 use Rattle.staat_mesh.specs.declared.refusal.MeshRefusal.TheVariants as mesh_refusal
 use Rattle.staat_mesh.specs.Judging.{Judges}
 use Rattle.staat_mesh.specs.Polygons.{Mesh}
+use Rattle.staat_manifest.specs.declared.refusal.ManifestRefusal.{ManifestRefusal}
+use Rattle.staat_manifest.specs.declared.refusal.ManifestRefusal.TheVariants as manifest
 use Rattle.staat_fault.specs.Faults.{status_of}
-use Rattle.staat_top.specs.Refusals.{off_fault, mesh_fault}
+use Rattle.staat_top.specs.Refusals.{off_fault, mesh_fault, manifest_fault}
 use Rattle.staat_top.specs.Pieces.{IsPieceOf, SaysPiece, no_file, no_piece, piece}
+use Rattle.staat_top.specs.Inputs.{NamedPart, SaysListing, no_listing, listing, IsListingOf, IsPartOf, IsInputOf, part_of}
 use Rattle.staat_top.specs.Replies.{free, not_shown, IsReply, IsRight}
 
 -- a piece that the rules of meshes give is solid
@@ -73,13 +78,56 @@ stops_late files digits name text (to_read e) = absurd cc
 stops_late files digits name text (too_long x xe xl e) = absurd (omega (arith, stopped _ _ _ _ refl refl e))
 stops_late files digits name text (taken x xe xs xt) = says_late digits name x text xt
 
--- a wall that is shown keeps the pieces apart, and no other reply has status 0
-pub free_is_right : (asked : Option Request) (files : Files) (text : List ℕ) → IsReply asked files (answered 0 text) → IsRight asked files
-free_is_right None files text e = absurd (omega (arith, same_status _ _ e))
-free_is_right (Some (Look digits input)) files text e = absurd (omega (arith, same_status _ _ e))
-free_is_right (Some (Pair digits along wall first second)) files text (inl stopped) = absurd (stops_late files digits first text stopped)
-free_is_right (Some (Pair digits along wall first second)) files text (inr (p, first_gives, inl stopped)) = absurd (stops_late files digits second text stopped)
-free_is_right (Some (Pair digits along wall first second)) files text (inr (p, first_gives, inr (q, second_gives, free shown e))) =
+manifest_late : (name : List ℕ) (r : ManifestRefusal) → 3 ≤ status_of (manifest_fault name r)
+manifest_late name manifest.NotJson = omega arith
+manifest_late name (manifest.BadShape path) = omega arith
+manifest_late name (manifest.RepeatedName part) = omega arith
+manifest_late name (manifest.NoPieces part) = omega arith
+manifest_late name manifest.TooManyParts = omega arith
+manifest_late name manifest.TooManyPieces = omega arith
+manifest_late name manifest.OutOfMemory = omega arith
+
+-- a step that stops does not answer with status 0
+abbrev pub StopsLate : {X : Type 0} → (Found X → Type 0) → Type 0
+StopsLate Step = (text : List ℕ) → Step (stops (replies (answered 0 text))) → ⊥
+
+next_late : {X Y : Type 0} (First : Found X → Type 0) (Rest : X → Found Y → Type 0) → StopsLate First → ((x : X) → StopsLate (Rest x)) → StopsLate (Next First Rest)
+next_late {X} {Y} First Rest first rest text (inl (at, fa, e)) = let same : at ≡ replies (answered 0 text) = cc in first text (subst (λ z. First (stops z)) same fa)
+next_late First Rest first rest text (inr (x, fx, rx)) = rest x text rx
+
+given_late : {X : Type 0} (x : X) → StopsLate (λ found. found ≡ gives x)
+given_late x text e = absurd cc
+
+each_late : {X Y : Type 0} (Step : X → Found Y → Type 0) → ((x : X) → StopsLate (Step x)) → (xs : List X) → StopsLate (Each Step xs)
+each_late {X} {Y} Step late [] = given_late []
+each_late {X} {Y} Step late (x ∷ xs) =
+    next_late (Step x) (λ y. Next (Each Step xs) (λ ys found. found ≡ gives (y ∷ ys))) (late x)
+    (λ y. next_late (Each Step xs) (λ ys found. found ≡ gives (y ∷ ys)) (each_late Step late xs) (λ ys. given_late (y ∷ ys)))
+
+listing_late : (name bytes text : List ℕ) → SaysListing name bytes (stops (replies (answered 0 text))) → ⊥
+listing_late name bytes text (no_listing r re e) = absurd (omega (arith, stopped _ _ _ _ refl refl e, manifest_late name r))
+listing_late name bytes text (listing p pe e) = absurd cc
+
+names_late : (files : Files) (asked : Input) → StopsLate (IsListingOf files asked)
+names_late files (input.Manifest name) text (to_read e) = absurd cc
+names_late files (input.Manifest name) text (too_long x xe xl e) = absurd (omega (arith, stopped _ _ _ _ refl refl e))
+names_late files (input.Manifest name) text (taken x xe xs xt) = listing_late name x text xt
+names_late files (input.Files names) text e = absurd cc
+
+part_late : (files : Files) (digits : ℕ) (named : NamedPart) → StopsLate (IsPartOf files digits named)
+part_late files digits named = next_late (Each (IsPieceOf files digits) named.1) (λ pieces found. found ≡ gives (part_of named.0 pieces)) (each_late (IsPieceOf files digits) (λ name text. stops_late files digits name text) named.1) (λ pieces. given_late (part_of named.0 pieces))
+
+input_late : (files : Files) (digits : ℕ) (asked : Input) → StopsLate (IsInputOf files digits asked)
+input_late files digits asked = next_late (IsListingOf files asked) (λ named. Each (IsPartOf files digits) named) (names_late files asked) (λ named. each_late (IsPartOf files digits) (part_late files digits) named)
+
+-- a wall that is shown keeps the pieces apart, a look gives the parts, and no other reply has status 0
+pub status_is_right : (asked : Option Request) (files : Files) (text : List ℕ) → IsReply asked files (answered 0 text) → IsRight asked files
+status_is_right None files text e = absurd (omega (arith, same_status _ _ e))
+status_is_right (Some (Look digits asked)) files text (inl stopped) = absurd (input_late files digits asked text stopped)
+status_is_right (Some (Look digits asked)) files text (inr (parts, found, e)) = (parts, found)
+status_is_right (Some (Pair digits along wall first second)) files text (inl stopped) = absurd (stops_late files digits first text stopped)
+status_is_right (Some (Pair digits along wall first second)) files text (inr (p, first_gives, inl stopped)) = absurd (stops_late files digits second text stopped)
+status_is_right (Some (Pair digits along wall first second)) files text (inr (p, first_gives, inr (q, second_gives, free shown e))) =
     (p, q, first_gives, second_gives, walls.wall_keeps_apart p q along wall (gives_solid files digits first p first_gives) shown)
-free_is_right (Some (Pair digits along wall first second)) files text (inr (p, first_gives, inr (q, second_gives, not_shown none e))) =
+status_is_right (Some (Pair digits along wall first second)) files text (inr (p, first_gives, inr (q, second_gives, not_shown none e))) =
     absurd (omega (arith, same_status _ _ e))

@@ -12,7 +12,7 @@ use Rattle.staat_top.specs.Steps.{Files, Reply, answered, refused}
 use Rattle.staat_top.specs.Replies.{IsReply}
 use Rattle.staat_top.specs.Runs.{ShelfSide, SinkSide, Took, TookPart, Untouched, IsUnread, IsCaused, IsPlaced, IsExplained, IsAnswer, IsSaid, SaysWhole, SaysPart, Gave, Ran}
 use Rattle.staat_top.proofs.OneReply.{ends_rest}
-use Rattle.staat_top.proofs.RightLemmas.{free_is_right}
+use Rattle.staat_top.proofs.RightLemmas.{status_is_right}
 
 took_nothing : (side : SinkSide) → Untouched side → Took side []
 took_nothing side same = go side.old side.new same
@@ -50,7 +50,7 @@ ran_answer asked shelf out err status result text small answer asks whole part l
       ];
   right = λ zero files told.
       let w = whole (λ e. omega (arith, e)) in
-      free_is_right asked files text (subst (λ s. IsReply asked files (answered s text)) (sym w.0 ∙ zero) (answer files told));
+      status_is_right asked files text (subst (λ s. IsReply asked files (answered s text)) (sym w.0 ∙ zero) (answer files told));
 }
 
 least_status : (fault : Fault) → 2 ≤ status_of fault

@@ -1,6 +1,9 @@
 pub mod Steps
 pub mod Refusals
 pub mod Pieces
+pub mod Inputs
+pub mod Shapes
 pub mod Replies
 pub mod Runs
 pub mod PairRequests
+pub mod LookRequests

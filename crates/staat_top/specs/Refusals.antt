@@ -6,6 +6,8 @@ use Rattle.staat_off.specs.declared.refusal.OffRefusal.{OffRefusal}
 use Rattle.staat_off.specs.declared.refusal.OffRefusal.TheVariants as off
 use Rattle.staat_mesh.specs.declared.refusal.MeshRefusal.{MeshRefusal}
 use Rattle.staat_mesh.specs.declared.refusal.MeshRefusal.TheVariants as mesh
+use Rattle.staat_manifest.specs.declared.refusal.ManifestRefusal.{ManifestRefusal}
+use Rattle.staat_manifest.specs.declared.refusal.ManifestRefusal.TheVariants as manifest
 
 abbrev pub off_fault : List ℕ → OffRefusal → Fault
 off_fault name off.NoHeader = fault.NoHeader name
@@ -26,3 +28,12 @@ mesh_fault name (mesh.BadFace face) = fault.BadFace name face
 mesh_fault name (mesh.NotConvex face) = fault.NotConvex name face
 mesh_fault name (mesh.OpenEdge face corner) = fault.OpenEdge name face corner
 mesh_fault name mesh.OutOfMemory = fault.OutOfMemory
+
+abbrev pub manifest_fault : List ℕ → ManifestRefusal → Fault
+manifest_fault name manifest.NotJson = fault.NotJson name
+manifest_fault name (manifest.BadShape path) = fault.BadShape name path
+manifest_fault name (manifest.RepeatedName part) = fault.RepeatedName name part
+manifest_fault name (manifest.NoPieces part) = fault.NoPieces name part
+manifest_fault name manifest.TooManyParts = fault.TooManyParts name
+manifest_fault name manifest.TooManyPieces = fault.TooManyPieces name
+manifest_fault name manifest.OutOfMemory = fault.OutOfMemory

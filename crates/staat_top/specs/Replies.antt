@@ -6,7 +6,10 @@ use Rattle.staat_model.specs.Meeting.{Meets}
 use Rattle.staat_words.specs.declared.request.Request.{Request}
 use Rattle.staat_words.specs.declared.request.Request.TheVariants.{Pair, Look}
 use Rattle.staat_fault.specs.declared.fault.Fault.TheVariants.{Usage}
+use Rattle.staat_model.specs.declared.assembly.Part.{Part}
+use Rattle.staat_text.specs.Parts.{parts_text}
 use Rattle.staat_top.specs.Pieces.{IsPieceOf}
+use Rattle.staat_top.specs.Inputs.{IsInputOf}
 use Rattle.staat_top.specs.Steps.{Files, End, replies, gives, Then, Reply, answered, refused}
 
 -- the last step for two pieces: whether the wall n shows that p never meets q along d
@@ -18,13 +21,7 @@ pub data IsJudged (p q : List V3) (d n : V3) : End → Type 0 where
 abbrev pub EndsOf : Request → Files → End → Type 0
 EndsOf (Pair digits along wall first second) files at =
     Then (IsPieceOf files digits first) (λ p. Then (IsPieceOf files digits second) (λ q. IsJudged p q along wall)) at
-EndsOf (Look digits input) files at = at ≡ replies (refused Usage)
-
--- The requests of the commands that are built: any other is none, so that its words are a usage fault.
-abbrev pub built : Option Request → Option Request
-built None = None
-built (Some (Pair digits along wall first second)) = Some (Pair digits along wall first second)
-built (Some (Look digits input)) = None
+EndsOf (Look digits input) files at = Then (IsInputOf files digits input) (λ parts at. at ≡ replies (answered 0 (parts_text parts))) at
 
 -- the ends of the work on words, which may make no request
 abbrev pub Ends : Option Request → Files → End → Type 0
@@ -35,10 +32,10 @@ Ends (Some request) files at = EndsOf request files at
 abbrev pub IsReply : Option Request → Files → Reply → Type 0
 IsReply asked files reply = Ends asked files (replies reply)
 
--- What status 0 means beyond its text: for a pair, that the first file's piece never meets the second's along the
--- direction.
+-- What status 0 means beyond its text. For a pair: the first file's piece never meets the second's along the direction.
+-- For a look: the input names these parts, and each file holds its piece.
 abbrev pub IsRight : Option Request → Files → Type 0
 IsRight None files = ⊥
 IsRight (Some (Pair digits along wall first second)) files =
     (p : List V3) × (q : List V3) × IsPieceOf files digits first (gives p) × IsPieceOf files digits second (gives q) × (Meets p q along → ⊥)
-IsRight (Some (Look digits input)) files = ⊥
+IsRight (Some (Look digits input)) files = (parts : List Part) × IsInputOf files digits input (gives parts)

@@ -1,9 +1,9 @@
 -- The steps of the work on a request, in their order, and what each finds in the files.
-use Rattle.std.specs.Prelude.{◌≡◌, ◌⊎◌, ◌<◌, ◌≤◌, ℕ, List, [], length, Result, Ok, Err, Some, ⊤}
+use Rattle.std.specs.Prelude.{◌≡◌, ◌⊎◌, ◌<◌, ◌≤◌, ℕ, List, [], ◌∷◌, length, Result, Ok, Err, Option, Some, ⊤}
 use Rattle.staat_fault.specs.declared.fault.Fault.{Fault}
 use Rattle.staat_fault.specs.declared.fault.Fault.TheVariants.{ReadFault, TooLong, OutOfMemory}
 use Rattle.staat_fault.specs.Faults.{status_of, line_of}
-use Rattle.staat_edge.specs.Files.{bytes_of}
+use Rattle.staat_edge.specs.Files.{bytes_of, IsLonger}
 use Rattle.staat_top.specs.declared.read.TheConstants.{FILE_LIMIT}
 
 abbrev pub Files : Type 0
@@ -46,6 +46,11 @@ Then {X} First Rest at = First (stops at) ⊎ ((x : X) × First (gives x) × Res
 abbrev pub Next : {X Y : Type 0} → (Found X → Type 0) → (X → Found Y → Type 0) → Found Y → Type 0
 Next {X} First Rest found = ((at : End) × First (stops at) × (found ≡ stops at)) ⊎ ((x : X) × First (gives x) × Rest x found)
 
+-- A step for each member of a list in turn is one step: it gives what they give, or stops where the first of them does.
+abbrev pub Each : {X Y : Type 0} → (X → Found Y → Type 0) → List X → Found (List Y) → Type 0
+Each Step [] found = found ≡ gives []
+Each Step (x ∷ xs) found = Next (Step x) (λ y. Next (Each Step xs) (λ ys found. found ≡ gives (y ∷ ys))) found
+
 -- What the step finds that takes a whole file: the file is to be read, or is too long, or this is what its bytes say.
 pub data IsTaken {X : Type 0} (files : Files) (name : List ℕ) (Says : List ℕ → Found X → Type 0) : Found X → Type 0 where
   to_read : {found : Found X} → found ≡ stops (reads name) → IsTaken files name Says found
@@ -57,3 +62,10 @@ abbrev pub Follows : {X : Type 0} → (Found X → Type 0) → Result X Fault �
 Follows Step (Ok x) = Step (gives x)
 Follows Step (Err OutOfMemory) = ⊤
 Follows Step (Err fault) = Step (stops (end_of fault))
+
+-- why a whole file was not taken: it could not be read, or it is longer than the limit, or there was no memory
+abbrev pub IsNotTaken : Option Files → List ℕ → Fault → Type 0
+IsNotTaken holds name (ReadFault at) = at ≡ name
+IsNotTaken holds name (TooLong at) = (at ≡ name) × IsLonger holds name FILE_LIMIT
+IsNotTaken holds name OutOfMemory = ⊤
+IsNotTaken holds name fault = ⊥

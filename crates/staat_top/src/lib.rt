@@ -2,6 +2,8 @@
 #![tactic(auto)]
 
 mod answer;
+mod input;
+mod look;
 mod pair;
 mod print;
 mod read;

@@ -1,6 +1,6 @@
 // The command `pair`: whether a wall shows that one piece never meets another.
-ghost use Rattle.std.specs.Prelude.{◌≡◌, ◌≤◌, ◌<◌, Some, IfOk, IfErr, MatchResult};
-ghost use Rattle.staat_vec.specs.Vectors.{IsWithin};
+ghost use Rattle.std.specs.Prelude.{◌≡◌, ◌≤◌, ◌<◌, ◌↔◌, ◌≤ℤ◌, pos, IsTrue, Some, IfOk, IfErr, MatchResult};
+ghost use Rattle.staat_vec.specs.Vectors.{IsWithin, dot};
 ghost use Rattle.staat_model.specs.Walls.{IsShown};
 ghost use Rattle.staat_top.specs.Steps.{Files, answered, replies};
 ghost use Rattle.staat_top.specs.Replies.{EndsOf, IsJudged};
@@ -9,10 +9,11 @@ ghost use Rattle.staat_top.specs.Runs.{HasCause, IsPlaced, shelf_over};
 
 use crate::answer::Answer;
 use crate::read::read_piece;
+use staat_cone::separates;
 use staat_edge::Shelf;
 use staat_fault::Fault;
-use staat_model::{Piece, is_shown};
-use staat_vec::{Bytes, DIRECTION, NORMAL, Name, V3};
+use staat_model::Piece;
+use staat_vec::{Bytes, DIRECTION, NORMAL, Name, V3, dot};
 use std::alloc::{AllocError, Global};
 
 // The answer with this status and this text.
@@ -24,6 +25,24 @@ fn answer(alloc: Global, status: u8, text: &[u8]) -> Result<Answer, AllocError>
         status,
         text: Bytes::from_vec(text.to_vec(alloc)?),
     })
+}
+
+// Whether d does not lead through the wall with the normal n.
+fn leads_away(n: V3, d: V3) -> bool
+    requires n { IsWithin NORMAL n }
+    requires d { IsWithin DIRECTION d }
+    ensures { IsTrue result ↔ (dot n d ≤ℤ pos 0) }
+{
+    dot(n, d) <= 0
+}
+
+// Whether the wall with the normal n shows that p, moved along d, never meets q.
+fn is_shown(p: &Piece, q: &Piece, d: V3, n: V3) -> bool
+    requires n { IsWithin NORMAL n }
+    requires d { IsWithin DIRECTION d }
+    ensures { IsTrue result ↔ IsShown p.now q.now d n }
+{
+    leads_away(n, d) && separates(n, p, q)
 }
 
 #[tactic(auto, using(crate::proofs::Judging::judged))]
@@ -65,8 +84,8 @@ pub fn pair<H: Shelf>(alloc: Global, asked: PairOfFiles, shelf: &mut H) -> Resul
     ensures cause { IfErr result (HasCause (shelf_over (H.holds shelf.old) (H.faults shelf.old) (H.faults shelf.new)
         (H.failed shelf.new) (H.opened shelf.new) (H.place shelf.new))) }
 {
-    let p = read_piece(alloc, asked.digits, shelf, asked.first)?;
-    let q = read_piece(alloc, asked.digits, shelf, asked.second)?;
+    let p = read_piece(alloc, asked.digits, shelf, &asked.first)?;
+    let q = read_piece(alloc, asked.digits, shelf, &asked.second)?;
     let answer = judge(alloc, &p, &q, asked.along, asked.wall)?;
     Ok(answer)
 }

@@ -2,7 +2,7 @@
 ghost use Rattle.std.specs.Prelude.{◌≡◌, ◌≤◌, Some, IfErr, IfOk, List, ℕ, length};
 ghost use Rattle.staat_off.specs.declared.raw.TheConstants.{MOST_DIGITS};
 ghost use Rattle.staat_edge.specs.Files.{IsWhole};
-ghost use Rattle.staat_top.specs.Steps.{Files, Follows};
+ghost use Rattle.staat_top.specs.Steps.{Files, Follows, IsNotTaken};
 ghost use Rattle.staat_top.specs.Pieces.{IsPieceOf, SaysPiece};
 ghost use Rattle.staat_top.specs.Runs.{HasCause, ShelfSide, shelf_over};
 
@@ -12,26 +12,51 @@ use staat_fault::Fault;
 use staat_mesh::make_piece;
 use staat_model::Piece;
 use staat_off::read_off;
-use staat_vec::Name;
-use std::alloc::Global;
+use staat_vec::{Bytes, Name};
+use std::alloc::{AllocError, Global};
 
 /// How many bytes a file of points or a part list may have.
 pub const FILE_LIMIT: usize = 1_048_576;
 
+/// A copy of a name.
+pub fn copy_of(alloc: Global, name: &Name) -> Result<Name, AllocError>
+    ensures { IfOk result (λ copy. copy ≡ name.now) }
+{
+    Ok(Name::from_string(String::from_str(alloc, name.as_str())?))
+}
+
+/// The bytes of a whole file.
+pub fn read_file<H: Shelf>(alloc: Global, shelf: &mut H, name: &Name) -> Result<Bytes, Fault>
+    ensures holds { H.holds shelf.new ≡ H.holds shelf.old }
+    ensures count { H.faults shelf.old ≤ H.faults shelf.new }
+    ensures whole { IfOk result (λ bytes. IsWhole (H.holds shelf.old) name.now bytes) }
+    ensures within { IfOk result (λ bytes. length bytes ≤ FILE_LIMIT) }
+    ensures refused { IfErr result (IsNotTaken (H.holds shelf.old) name.now) }
+    ensures cause { IfErr result (HasCause (shelf_over (H.holds shelf.old) (H.faults shelf.old) (H.faults shelf.new)
+        (H.failed shelf.new) (H.opened shelf.new) (H.place shelf.new))) }
+{
+    match read_whole(alloc, shelf, name.as_str(), FILE_LIMIT) {
+        Ok(bytes) => Ok(bytes),
+        Err(ReadRefusal::ReadFault) => Err(Fault::ReadFault(copy_of(alloc, name)?)),
+        Err(ReadRefusal::TooLong) => Err(Fault::TooLong(copy_of(alloc, name)?)),
+        Err(ReadRefusal::OutOfMemory) => Err(Fault::OutOfMemory),
+    }
+}
+
 // The piece that the bytes of a file hold.
 #[tactic(auto, using(crate::proofs::Reading::saying))]
-fn piece_in(alloc: Global, digits: u32, bytes: &[u8], name: Name) -> Result<Piece, Fault>
+fn piece_in(alloc: Global, digits: u32, bytes: &[u8], name: &Name) -> Result<Piece, Fault>
     requires { digits ≤ MOST_DIGITS }
-    ensures says { Follows (SaysPiece digits name bytes.now) result }
+    ensures says { Follows (SaysPiece digits name.now bytes.now) result }
     ensures cause { (shelf : ShelfSide) → IfErr result (HasCause shelf) }
 {
     let raw = match read_off(alloc, bytes, digits) {
         Ok(raw) => raw,
-        Err(refusal) => return Err(off_fault(name, refusal)),
+        Err(refusal) => return Err(off_fault(copy_of(alloc, name)?, refusal)),
     };
     match make_piece(alloc, &raw) {
         Ok(piece) => Ok(piece),
-        Err(refusal) => Err(mesh_fault(name, refusal)),
+        Err(refusal) => Err(mesh_fault(copy_of(alloc, name)?, refusal)),
     }
 }
 
@@ -41,20 +66,15 @@ pub fn read_piece<H: Shelf>(
     alloc: Global,
     digits: u32,
     shelf: &mut H,
-    name: Name,
+    name: &Name,
 ) -> Result<Piece, Fault>
     requires { digits ≤ MOST_DIGITS }
     ensures holds { H.holds shelf.new ≡ H.holds shelf.old }
     ensures count { H.faults shelf.old ≤ H.faults shelf.new }
-    ensures found { (files : Files) → H.holds shelf.old ≡ Some files → Follows (IsPieceOf files digits name) result }
+    ensures found { (files : Files) → H.holds shelf.old ≡ Some files → Follows (IsPieceOf files digits name.now) result }
     ensures cause { IfErr result (HasCause (shelf_over (H.holds shelf.old) (H.faults shelf.old) (H.faults shelf.new)
         (H.failed shelf.new) (H.opened shelf.new) (H.place shelf.new))) }
 {
-    let bytes = match read_whole(alloc, shelf, name.as_str(), FILE_LIMIT) {
-        Ok(bytes) => bytes,
-        Err(ReadRefusal::ReadFault) => return Err(Fault::ReadFault(name)),
-        Err(ReadRefusal::TooLong) => return Err(Fault::TooLong(name)),
-        Err(ReadRefusal::OutOfMemory) => return Err(Fault::OutOfMemory),
-    };
+    let bytes = read_file(alloc, shelf, name)?;
     piece_in(alloc, digits, bytes.as_slice(), name)
 }

@@ -1,8 +1,9 @@
 // The faults that the refusals of the readers are.
 ghost use Rattle.std.specs.Prelude.{◌≡◌};
-ghost use Rattle.staat_top.specs.Refusals.{mesh_fault, off_fault};
+ghost use Rattle.staat_top.specs.Refusals.{manifest_fault, mesh_fault, off_fault};
 
 use staat_fault::Fault;
+use staat_manifest::ManifestRefusal;
 use staat_mesh::MeshRefusal;
 use staat_off::OffRefusal;
 use staat_vec::Name;
@@ -36,5 +37,20 @@ pub fn mesh_fault(name: Name, refusal: MeshRefusal) -> Fault
         MeshRefusal::NotConvex(face) => Fault::NotConvex(name, face),
         MeshRefusal::OpenEdge(face, corner) => Fault::OpenEdge(name, face, corner),
         MeshRefusal::OutOfMemory => Fault::OutOfMemory,
+    }
+}
+
+/// The fault of a file that is no part list.
+pub fn manifest_fault(name: Name, refusal: ManifestRefusal) -> Fault
+    ensures { result ≡ manifest_fault name refusal }
+{
+    match refusal {
+        ManifestRefusal::NotJson => Fault::NotJson(name),
+        ManifestRefusal::BadShape(path) => Fault::BadShape(name, path),
+        ManifestRefusal::RepeatedName(part) => Fault::RepeatedName(name, part),
+        ManifestRefusal::NoPieces(part) => Fault::NoPieces(name, part),
+        ManifestRefusal::TooManyParts => Fault::TooManyParts(name),
+        ManifestRefusal::TooManyPieces => Fault::TooManyPieces(name),
+        ManifestRefusal::OutOfMemory => Fault::OutOfMemory,
     }
 }

@@ -2,10 +2,10 @@
 ghost use Rattle.std.specs.Prelude.{◌≡◌, ◌≢◌, ◌⊎◌, ◌<◌, ◌≤◌, Some, None, IfOk, IfErr, IsErrAnd, map, string_bytes};
 ghost use Rattle.staat_words.specs.Requests.{request};
 ghost use Rattle.staat_fault.specs.declared.fault.Fault.TheVariants as faults;
-ghost use Rattle.staat_top.specs.Replies.{built};
 ghost use Rattle.staat_top.specs.Runs.{IsAnswer, IsExplained, Ran, shelf_over, sink_over};
 
 use crate::answer::Answer;
+use crate::look::look;
 use crate::pair::{PairOfFiles, pair};
 use crate::print::{print, refuse};
 use staat_edge::{Shelf, Sink};
@@ -19,13 +19,13 @@ fn answer_to<H: Shelf>(alloc: Global, words: &Vec<String>, shelf: &mut H) -> Res
     ensures holds { H.holds shelf.new ≡ H.holds shelf.old }
     ensures count { H.faults shelf.old ≤ H.faults shelf.new }
     ensures status { IfOk result (λ a. a.status < 2) }
-    ensures answer { IfOk result (λ a. IsAnswer (built (request (map string_bytes words.now.items)))
+    ensures answer { IfOk result (λ a. IsAnswer (request (map string_bytes words.now.items))
         (shelf_over (H.holds shelf.old) (H.faults shelf.old) (H.faults shelf.new)
         (H.failed shelf.new) (H.opened shelf.new) (H.place shelf.new)) a.status a.text) }
-    ensures explained { IfErr result (IsExplained (built (request (map string_bytes words.now.items)))
+    ensures explained { IfErr result (IsExplained (request (map string_bytes words.now.items))
         (shelf_over (H.holds shelf.old) (H.faults shelf.old) (H.faults shelf.new)
         (H.failed shelf.new) (H.opened shelf.new) (H.place shelf.new))) }
-    ensures usage { built (request (map string_bytes words.now.items)) ≡ None →
+    ensures usage { request (map string_bytes words.now.items) ≡ None →
         IsErrAnd result (λ f. (f ≡ faults.Usage) ⊎ (f ≡ faults.OutOfMemory)) }
 {
     match request_of(alloc, words) {
@@ -47,7 +47,8 @@ fn answer_to<H: Shelf>(alloc: Global, words: &Vec<String>, shelf: &mut H) -> Res
             };
             pair(alloc, asked, shelf)
         }
-        Ok(Request::Look { .. }) | Err(RequestRefusal::Usage) => Err(Fault::Usage),
+        Ok(Request::Look { digits, input }) => look(alloc, digits, &input, shelf),
+        Err(RequestRefusal::Usage) => Err(Fault::Usage),
         Err(RequestRefusal::OutOfMemory) => Err(Fault::OutOfMemory),
     }
 }
@@ -68,7 +69,7 @@ pub fn staat<H: Shelf, O: Sink, E: Sink>(
     ensures shelf_count { H.faults shelf.old ≤ H.faults shelf.new }
     ensures out_count { O.faults out.old ≤ O.faults out.new }
     ensures err_count { E.faults err.old ≤ E.faults err.new }
-    ensures ran { Ran (built (request (map string_bytes words.now.items)))
+    ensures ran { Ran (request (map string_bytes words.now.items))
         (shelf_over (H.holds shelf.old) (H.faults shelf.old) (H.faults shelf.new)
         (H.failed shelf.new) (H.opened shelf.new) (H.place shelf.new))
         (sink_over (O.wrote out.old) (O.wrote out.new) (O.faults out.old) (O.faults out.new))

@@ -1,0 +1,5 @@
+use Rattle.std.proofs.Common.{◌≡◌, [], ◌∷◌, map, take}
+use Rattle.staat_top.proofs.input.parts_of_files.Given as goal
+
+abbrev pub invariant-loop-name : goal.invariant-loop-name
+invariant-loop-name l = l.listing.items ≡ map (λ name. (name, name ∷ [])) (take l.name-index l.names)

@@ -1,0 +1,31 @@
+use Rattle.std.proofs.Common.{◌≡◌, ◌∙◌, ◌+◌, sym, subst, ap, arith, take}
+use Rattle.std.proofs.lemmas.List.{take_all}
+use Rattle.staat_top.specs.Steps.{Each, gives}
+use Rattle.staat_top.specs.Inputs.{IsPartOf}
+use Rattle.staat_top.specs.Shapes.{AreRead}
+use Rattle.staat_top.proofs.Inputting.{Continues, each_failed, each_more, each_end, one_read}
+use Rattle.staat_top.proofs.input.read_parts.Goals as goal
+
+pub returns-in_err-read_part-clause-found : goal.returns-in_err-read_part-clause-found
+returns-in_err-read_part-clause-found g c = λ files told.
+    each_failed (IsPartOf files c.args.digits) c.args.listing.now c.loop-named.named-index c.loop-named.parts.items c.named-item.result c.in_err-read_part.field-0.0 c.from_residual-in_err-read_part.result
+    c.loop-named-test.true c.named-item.is (c.loop-named.invariant.found files told) (c.in_err-read_part.ensures.found files (c.loop-named.invariant.holds ∙ told)) c.from_residual-in_err-read_part.ensures.1
+
+pub loop-named-preserved : goal.loop-named-preserved
+loop-named-preserved g c =
+    let items = c.in_ok-push.ensures.items in
+    record {
+      holds = c.in_ok-read_part.ensures.holds ∙ c.loop-named.invariant.holds;
+      count = omega (arith, c.loop-named.invariant.count, c.in_ok-read_part.ensures.count);
+      found = λ files told. subst (λ done. Continues (IsPartOf files c.args.digits) c.args.listing.now (c.loop-named.named-index + 1) done) (sym items)
+          (each_more (IsPartOf files c.args.digits) c.args.listing.now c.loop-named.named-index c.loop-named.parts.items c.named-item.result c.in_ok-read_part.field-0 c.loop-named-test.true
+          (subst (λ n. IsPartOf files c.args.digits n (gives c.in_ok-read_part.field-0)) c.named-item.is (c.in_ok-read_part.ensures.found files (c.loop-named.invariant.holds ∙ told)))
+          (c.loop-named.invariant.found files told));
+      read = subst (AreRead (take (c.loop-named.named-index + 1) c.args.listing.now)) (sym items)
+          (one_read c.args.listing.now c.loop-named.named-index c.named-item.result c.loop-named.parts.items c.in_ok-read_part.field-0 c.loop-named-test.true c.loop-named.invariant.read c.named-item.is c.in_ok-read_part.ensures.each c.in_ok-read_part.ensures.pieces);
+    }
+
+pub returns-clause-found : goal.returns-clause-found
+returns-clause-found g c = λ files told.
+    subst (λ done. Each (IsPartOf files c.args.digits) c.args.listing.now (gives done)) (sym c.from_vec.ensures)
+    (each_end (IsPartOf files c.args.digits) c.args.listing.now c.loop-named.named-index c.loop-named.parts.items c.loop-named-test.false (c.loop-named.invariant.found files told))

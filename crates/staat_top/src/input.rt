@@ -1,0 +1,184 @@
+// The parts that an input names.
+ghost use Rattle.std.specs.Prelude.{◌≡◌, ◌≤◌, ◌∷◌, [], All, Some, IfOk, IfErr, length, map};
+ghost use Rattle.staat_off.specs.declared.raw.TheConstants.{MOST_DIGITS};
+ghost use Rattle.staat_model.specs.Pieces.{IsPiece};
+ghost use Rattle.staat_words.specs.Requests.{IsInput};
+ghost use Rattle.staat_top.specs.Steps.{Each, Files, Follows, IsTaken};
+ghost use Rattle.staat_top.specs.Pieces.{IsPieceOf};
+ghost use Rattle.staat_top.specs.Inputs.{IsInputOf, IsListingOf, IsPartOf, SaysListing};
+ghost use Rattle.staat_top.specs.Shapes.{AreRead, IsFew};
+ghost use Rattle.staat_top.specs.Runs.{HasCause, ShelfSide, shelf_over};
+
+use crate::read::{copy_of, read_file, read_piece};
+use crate::refusals::manifest_fault;
+use staat_edge::Shelf;
+use staat_fault::Fault;
+use staat_manifest::{Listing, read_manifest};
+use staat_model::{Assembly, Part, Parts, Piece, Pieces};
+use staat_vec::{Name, Names};
+use staat_words::Input;
+use std::alloc::{AllocError, Global};
+
+// The part of one piece that a file is.
+fn one_file(alloc: Global, name: &Name) -> Result<(Name, Names), AllocError>
+    ensures { IfOk result (λ named. named ≡ (name.now, name.now ∷ [])) }
+{
+    let file = copy_of(alloc, name)?;
+    Ok((
+        copy_of(alloc, name)?,
+        Names::from_vec(Vec::from_array(alloc, [file])?),
+    ))
+}
+
+// The parts that files are, each of one piece.
+fn parts_of_files(alloc: Global, names: &[Name]) -> Result<Listing, AllocError>
+    ensures { IfOk result (λ listing. listing ≡ map (λ name. (name, name ∷ [])) names.now) }
+{
+    let mut listing = Vec::with_capacity(alloc, names.len())?;
+    for name in names {
+        listing.push(one_file(alloc, name)?)?;
+    }
+    Ok(Listing::from_vec(listing))
+}
+
+// The parts that the bytes of a file list.
+#[tactic(auto, using(crate::proofs::Reading::listing_says))]
+fn listing_in(alloc: Global, bytes: &[u8], name: &Name) -> Result<Listing, Fault>
+    ensures says { Follows (SaysListing name.now bytes.now) result }
+    ensures few { IfOk result IsFew }
+    ensures cause { (shelf : ShelfSide) → IfErr result (HasCause shelf) }
+{
+    match read_manifest(alloc, bytes) {
+        Ok(listing) => Ok(listing),
+        Err(refusal) => Err(manifest_fault(copy_of(alloc, name)?, refusal)),
+    }
+}
+
+// The parts that a part list names.
+#[tactic(auto, using(crate::proofs::Reading::taking))]
+fn read_listing<H: Shelf>(alloc: Global, shelf: &mut H, name: &Name) -> Result<Listing, Fault>
+    ensures holds { H.holds shelf.new ≡ H.holds shelf.old }
+    ensures count { H.faults shelf.old ≤ H.faults shelf.new }
+    ensures found { (files : Files) → H.holds shelf.old ≡ Some files → Follows (IsTaken files name.now (SaysListing name.now)) result }
+    ensures few { IfOk result IsFew }
+    ensures cause { IfErr result (HasCause (shelf_over (H.holds shelf.old) (H.faults shelf.old) (H.faults shelf.new)
+        (H.failed shelf.new) (H.opened shelf.new) (H.place shelf.new))) }
+{
+    let bytes = read_file(alloc, shelf, name)?;
+    listing_in(alloc, bytes.as_slice(), name)
+}
+
+// The names of the parts and of their pieces' files.
+fn names_of<H: Shelf>(alloc: Global, shelf: &mut H, input: &Input) -> Result<Listing, Fault>
+    requires { IsInput input.now }
+    ensures holds { H.holds shelf.new ≡ H.holds shelf.old }
+    ensures count { H.faults shelf.old ≤ H.faults shelf.new }
+    ensures found { (files : Files) → H.holds shelf.old ≡ Some files → Follows (IsListingOf files input.now) result }
+    ensures few { IfOk result IsFew }
+    ensures cause { IfErr result (HasCause (shelf_over (H.holds shelf.old) (H.faults shelf.old) (H.faults shelf.new)
+        (H.failed shelf.new) (H.opened shelf.new) (H.place shelf.new))) }
+{
+    match input {
+        Input::Manifest(name) => read_listing(alloc, shelf, name),
+        Input::Files(names) => {
+            let listing = parts_of_files(alloc, names.as_slice())?;
+            Ok(listing)
+        }
+    }
+}
+
+// A piece keeps the rules of pieces.
+fn know(piece: &Piece)
+    ensures { IsPiece piece.now }
+{
+    let _ = piece.points();
+}
+
+// The pieces of a part, in the order of their files.
+fn read_pieces<H: Shelf>(
+    alloc: Global,
+    digits: u32,
+    shelf: &mut H,
+    names: &[Name],
+) -> Result<Pieces, Fault>
+    requires { digits ≤ MOST_DIGITS }
+    ensures holds { H.holds shelf.new ≡ H.holds shelf.old }
+    ensures count { H.faults shelf.old ≤ H.faults shelf.new }
+    ensures found { (files : Files) → H.holds shelf.old ≡ Some files → Follows (Each (IsPieceOf files digits) names.now) result }
+    ensures pieces { IfOk result (All IsPiece) }
+    ensures each { IfOk result (λ pieces. length pieces ≡ length names.now) }
+    ensures cause { IfErr result (HasCause (shelf_over (H.holds shelf.old) (H.faults shelf.old) (H.faults shelf.new)
+        (H.failed shelf.new) (H.opened shelf.new) (H.place shelf.new))) }
+{
+    let mut pieces = Vec::with_capacity(alloc, names.len())?;
+    for name in names {
+        let piece = read_piece(alloc, digits, shelf, name)?;
+        know(&piece);
+        pieces.push(piece)?;
+    }
+    Ok(Pieces::from_vec(pieces))
+}
+
+// A part with its pieces.
+fn read_part<H: Shelf>(
+    alloc: Global,
+    digits: u32,
+    shelf: &mut H,
+    named: &(Name, Names),
+) -> Result<Part, Fault>
+    requires { digits ≤ MOST_DIGITS }
+    ensures holds { H.holds shelf.new ≡ H.holds shelf.old }
+    ensures count { H.faults shelf.old ≤ H.faults shelf.new }
+    ensures found { (files : Files) → H.holds shelf.old ≡ Some files → Follows (IsPartOf files digits named.now) result }
+    ensures pieces { IfOk result (λ part. All IsPiece part.pieces) }
+    ensures each { IfOk result (λ part. length part.pieces ≡ length named.now.1) }
+    ensures cause { IfErr result (HasCause (shelf_over (H.holds shelf.old) (H.faults shelf.old) (H.faults shelf.new)
+        (H.failed shelf.new) (H.opened shelf.new) (H.place shelf.new))) }
+{
+    let name = copy_of(alloc, &named.0)?;
+    let pieces = read_pieces(alloc, digits, shelf, named.1.as_slice())?;
+    Ok(Part { name, pieces })
+}
+
+// The parts with their pieces, in their order.
+fn read_parts<H: Shelf>(
+    alloc: Global,
+    digits: u32,
+    shelf: &mut H,
+    listing: &[(Name, Names)],
+) -> Result<Parts, Fault>
+    requires { digits ≤ MOST_DIGITS }
+    ensures holds { H.holds shelf.new ≡ H.holds shelf.old }
+    ensures count { H.faults shelf.old ≤ H.faults shelf.new }
+    ensures found { (files : Files) → H.holds shelf.old ≡ Some files → Follows (Each (IsPartOf files digits) listing.now) result }
+    ensures read { IfOk result (AreRead listing.now) }
+    ensures cause { IfErr result (HasCause (shelf_over (H.holds shelf.old) (H.faults shelf.old) (H.faults shelf.new)
+        (H.failed shelf.new) (H.opened shelf.new) (H.place shelf.new))) }
+{
+    let mut parts = Vec::with_capacity(alloc, listing.len())?;
+    for named in listing {
+        parts.push(read_part(alloc, digits, shelf, named)?)?;
+    }
+    Ok(Parts::from_vec(parts))
+}
+
+/// The assembly that an input names: the part list is read first, if there is one, and then each piece's file in the order
+/// of the list. The first refusal is the answer.
+pub fn read_input<H: Shelf>(
+    alloc: Global,
+    digits: u32,
+    shelf: &mut H,
+    input: &Input,
+) -> Result<Assembly, Fault>
+    requires digits { digits ≤ MOST_DIGITS }
+    requires input { IsInput input.now }
+    ensures holds { H.holds shelf.new ≡ H.holds shelf.old }
+    ensures count { H.faults shelf.old ≤ H.faults shelf.new }
+    ensures found { (files : Files) → H.holds shelf.old ≡ Some files → Follows (IsInputOf files digits input.now) result }
+    ensures cause { IfErr result (HasCause (shelf_over (H.holds shelf.old) (H.faults shelf.old) (H.faults shelf.new)
+        (H.failed shelf.new) (H.opened shelf.new) (H.place shelf.new))) }
+{
+    let listing = names_of(alloc, shelf, input)?;
+    let parts = read_parts(alloc, digits, shelf, listing.as_slice())?;
+    Ok(Assembly::seal(parts))
+}
