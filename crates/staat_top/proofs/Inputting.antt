@@ -1,5 +1,5 @@
 -- Steps for the members of a list, one after another, and the assembly that they give.
-use Rattle.std.proofs.Common.{◌≡◌, ◌∙◌, refl, sym, ap, ap₂, subst, arith, ℕ, ◌+◌, ◌<◌, ◌≤◌, List, [], ◌∷◌, ◌++◌, take, drop, map, length, get_or, All, Option, Some, None, Ok, Err, inl, inr, append_assoc, append-nil}
+use Rattle.std.proofs.Common.{◌≡◌, ◌∙◌, refl, sym, ap, ap₂, subst, arith, ℕ, ◌+◌, ◌<◌, ◌≤◌, List, [], ◌∷◌, ◌++◌, take, drop, map, length, get_or, All, Option, Ok, Err, inl, inr, append_assoc, append-nil}
 use Rattle.std.specs.Prelude.{Result, IfErr, IsErrAnd, sum_by}
 use Rattle.std.proofs.Common.{lit≤}
 use Rattle.std.proofs.lemmas.List.{drop_more, drop_all, map_more, map-append, length-map}

@@ -22,12 +22,17 @@ fn file(alloc: Global, name: &str, text: &[u8]) -> Result<(Name, Bytes), AllocEr
     Ok((name, Bytes::from_vec(text.to_vec(alloc)?)))
 }
 
-fn shelf(alloc: Global, first: &[u8], failing: u64) -> Result<MemoryShelf, Fail> {
+fn shelf_of(alloc: Global, held: &[(&str, &[u8])], failing: u64) -> Result<MemoryShelf, Fail> {
     let mut files = Vec::new(alloc);
-    files.push(file(alloc, "a.off", first)?)?;
-    files.push(file(alloc, "b.off", BESIDE)?)?;
+    for (name, text) in held {
+        files.push(file(alloc, *name, *text)?)?;
+    }
     let failing = Calls::from_vec([failing].to_vec(alloc)?);
     Ok(MemoryShelf::new(alloc, Files::from_vec(files), failing, 4096)?)
+}
+
+fn shelf(alloc: Global, first: &[u8], failing: u64) -> Result<MemoryShelf, Fail> {
+    shelf_of(alloc, &[("a.off", first), ("b.off", BESIDE)], failing)
 }
 
 fn sink(alloc: Global, room: usize, failing: u64, chunk: usize) -> Result<MemorySink, Fail>
@@ -354,6 +359,128 @@ fn a_failing_err_keeps_the_front_of_a_line(rt: HostRuntime) -> Result<(), Fail> 
         );
         assert_eq!(rt; out.taken(), b"".as_slice());
         assert_eq!(rt; err.taken(), &line[..call]);
+    }
+    Ok(())
+}
+
+const TWO: &[u8] =
+    b"{\"parts\":[{\"name\":\"left\",\"pieces\":[\"a.off\"]},{\"name\":\"both\",\"pieces\":[\"b.off\",\"b.off\"]}]}";
+
+const NONE: &[u8] = b"{\"parts\":[{\"name\":\"p\",\"pieces\":[]}]}";
+
+const TWICE: &[u8] =
+    b"{\"parts\":[{\"name\":\"p\",\"pieces\":[\"a.off\"]},{\"name\":\"p\",\"pieces\":[\"b.off\"]}]}";
+
+const HELD: [(&str, &[u8]); 7] = [
+    ("a.off", CUBE),
+    ("b.off", BESIDE),
+    ("cut.off", b"OFF 1"),
+    ("m.json", TWO),
+    ("none.json", NONE),
+    ("twice.json", TWICE),
+    ("cut.json", b"{\"parts\":"),
+];
+
+#[test]
+fn the_parts_of_an_input_are_listed(rt: HostRuntime) -> Result<(), Fail> {
+    let alloc = rt.alloc();
+    let usage = "staat: usage\n";
+    let table: [(&[&str], u8, &str, &str); 14] = [
+        (
+            &["look", "a.off", "b.off"],
+            0,
+            "part 0 pieces 1 points 8 name a.off\npart 1 pieces 1 points 8 name b.off\n",
+            "",
+        ),
+        (
+            &["look", "--manifest=m.json"],
+            0,
+            "part 0 pieces 1 points 8 name left\npart 1 pieces 2 points 16 name both\n",
+            "",
+        ),
+        (
+            &["look", "cut.off", "c.off"],
+            3,
+            "",
+            "staat: cut.off: file too short\n",
+        ),
+        (
+            &["look", "c.off", "cut.off"],
+            5,
+            "",
+            "staat: cannot read c.off\n",
+        ),
+        (
+            &["look", "a.off", "cut.off"],
+            3,
+            "",
+            "staat: cut.off: file too short\n",
+        ),
+        (
+            &["look", "--manifest=c.json"],
+            5,
+            "",
+            "staat: cannot read c.json\n",
+        ),
+        (&["look", ""], 5, "", "staat: cannot read \n"),
+        (&["look", "--manifest="], 5, "", "staat: cannot read \n"),
+        (
+            &["look", "--manifest=none.json"],
+            3,
+            "",
+            "staat: none.json: no pieces in part 0\n",
+        ),
+        (
+            &["look", "--manifest=twice.json"],
+            3,
+            "",
+            "staat: twice.json: repeated name p\n",
+        ),
+        (
+            &["look", "--manifest=cut.json"],
+            3,
+            "",
+            "staat: cut.json: not JSON\n",
+        ),
+        (
+            &["look", "--manifest=a.off"],
+            3,
+            "",
+            "staat: a.off: not JSON\n",
+        ),
+        (&["look", "a.off", "--manifest=m.json"], 2, "", usage),
+        (&["look"], 2, "", usage),
+    ];
+    for (list, status, out_text, err_text) in table {
+        let mut shelf = shelf_of(alloc, &HELD, NEVER)?;
+        let mut out = sink(alloc, 128, NEVER, 64)?;
+        let mut err = sink(alloc, 64, NEVER, 64)?;
+        let got = staat(alloc, &words(alloc, list)?, &mut shelf, &mut out, &mut err);
+        assert_eq!(rt; got, status, "at {list:?}");
+        assert_eq!(rt; out.taken(), out_text.as_bytes());
+        assert_eq!(rt; err.taken(), err_text.as_bytes());
+    }
+    Ok(())
+}
+
+// The part list is read first, and a file that is named twice is read twice.
+#[test]
+fn a_fault_names_the_file_of_the_input_that_was_read(rt: HostRuntime) -> Result<(), Fail> {
+    let alloc = rt.alloc();
+    for call in 0..13 {
+        let mut shelf = shelf_of(alloc, &HELD, call)?;
+        let mut out = sink(alloc, 128, NEVER, 64)?;
+        let mut err = sink(alloc, 64, NEVER, 64)?;
+        let list = ["look", "--manifest=m.json"];
+        let got = staat(alloc, &words(alloc, &list)?, &mut shelf, &mut out, &mut err);
+        let (status, err_text) = match call {
+            0..3 => (5, "staat: cannot read m.json\n"),
+            3..6 => (5, "staat: cannot read a.off\n"),
+            6..12 => (5, "staat: cannot read b.off\n"),
+            _ => (0, ""),
+        };
+        assert_eq!(rt; got, status, "where call {call} fails");
+        assert_eq!(rt; err.taken(), err_text.as_bytes());
     }
     Ok(())
 }

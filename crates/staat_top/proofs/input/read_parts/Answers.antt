@@ -1,5 +1,4 @@
-use Rattle.std.proofs.Common.{◌≡◌, ◌∙◌, ◌+◌, sym, subst, ap, arith, take}
-use Rattle.std.proofs.lemmas.List.{take_all}
+use Rattle.std.proofs.Common.{◌∙◌, ◌+◌, sym, subst, arith, take}
 use Rattle.staat_top.specs.Steps.{Each, gives}
 use Rattle.staat_top.specs.Inputs.{IsPartOf}
 use Rattle.staat_top.specs.Shapes.{AreRead}

@@ -1,4 +1,4 @@
-use Rattle.std.proofs.Common.{◌≡◌, ◌∙◌, ◌+◌, sym, subst, ap, arith, [], ◌∷◌, All, length}
+use Rattle.std.proofs.Common.{◌∙◌, ◌+◌, sym, subst, ap, arith, [], ◌∷◌, All, length}
 use Rattle.std.proofs.lemmas.List.{length_push}
 use Rattle.std.proofs.lemmas.List.Elements.{All-append, All-cons, All-nil}
 use Rattle.staat_model.specs.Pieces.{IsPiece}
