@@ -1,10 +1,11 @@
 -- Points that lie least and farthest along a normal, and what they say of all points.
-use Rattle.std.proofs.Common.{◌≡◌, ℕ, ◌+◌, ◌<◌, ◌↔◌, ◌⊎◌, inl, inr, arith, sym, subst, ◌∙◌, refl, Bool, true, false, not, ℤ, ◌≤ℤ◌, ◌<ℤ◌, List, get_or, length, below_more, IsTrue, Contains, All, ◌-ℤ◌, pos}
+use Rattle.std.proofs.Common.{◌≡◌, ℕ, ◌+◌, ◌<◌, ◌↔◌, ◌⊎◌, inl, inr, arith, sym, ap, subst, ◌∙◌, refl, Bool, true, false, not, ℤ, ◌≤ℤ◌, ◌<ℤ◌, List, get_or, length, below_more, IsTrue, Contains, All, ◌-ℤ◌, pos}
 use Rattle.std.proofs.lemmas.Int.{ints, by_lt_z}
 use Rattle.std.proofs.lemmas.List.{get_or_default}
 use Rattle.std.proofs.lemmas.List.Elements.{All-contains}
 use Rattle.staat_vec.specs.declared.vector.V3.{V3}
 use Rattle.staat_vec.specs.Vectors.{dot, minus}
+use Rattle.staat_cone.specs.declared.walls.Placed.{Placed}
 use Rattle.staat_model.specs.Facets.{IsFacet}
 use Rattle.staat_model.specs.Meeting.{Meets}
 use Rattle.staat_model.specs.Pieces.{IsPiece}
@@ -12,16 +13,6 @@ use Rattle.staat_model.specs.Walls.{IsBeyond}
 use Rattle.staat_model.proofs.Members.{All-from_members}
 use Rattle.staat_model.proofs.PieceFacets.{meets_by_facets_lemma}
 use Rattle.staat_model.proofs.WallLaws.{dot-minus}
-
-pub same_le : (a : ℤ) → a ≤ℤ a
-same_le a = omega (arith, ints)
-
-weaker : (a b : ℤ) → a <ℤ b → a ≤ℤ b
-weaker a b h = omega (arith, ints)
-
-pub less_true : (r : Bool) (a b : ℤ) → IsTrue r ↔ (a <ℤ b) → r ≡ true → a ≤ℤ b
-less_true true a b h e = weaker a b (h.0 e)
-less_true false a b h e = cc
 
 pub less_false : (r : Bool) (a b : ℤ) → IsTrue r ↔ (a <ℤ b) → r ≡ false → b ≤ℤ a
 less_false r a b h e = by_lt_z {P = b ≤ℤ a} a b (λ lt. let t : r ≡ true = h.1 lt in cc) (λ le. le)
@@ -36,32 +27,37 @@ not_less false a b h = ((λ t. less_false false a b h refl), (λ le. refl))
 le_trans_z : (a b c : ℤ) → a ≤ℤ b → b ≤ℤ c → a ≤ℤ c
 le_trans_z a b c h g = omega (arith, ints)
 
-module _ {X : Type 0} (f : X → ℤ) (xs : List X) (i : ℕ) (z : X) (best new : X) (lt : i < length xs) where
-  pub nearer_step : ((k : ℕ) (d : X) → k < i → f best ≤ℤ f (get_or xs k d)) → f new ≤ℤ f (get_or xs i z) → f new ≤ℤ f best → (k : ℕ) (d : X) → k < i + 1 → f new ≤ℤ f (get_or xs k d)
-  nearer_step all' one two k d = below_more (λ k. f new ≤ℤ f (get_or xs k d)) i (λ k h. le_trans_z (f new) (f best) (f (get_or xs k d)) two (all' k d h)) (subst (λ x. f new ≤ℤ f x) (get_or_default xs i z d lt) one) k
+module _ {X : Type 0} (f : X → ℤ) (xs : List X) (i : ℕ) (z : X) (best new : ℤ) (lt : i < length xs) where
+  pub nearer_step : ((k : ℕ) (d : X) → k < i → best ≤ℤ f (get_or xs k d)) → new ≤ℤ f (get_or xs i z) → new ≤ℤ best → (k : ℕ) (d : X) → k < i + 1 → new ≤ℤ f (get_or xs k d)
+  nearer_step all' one two k d = below_more (λ k. new ≤ℤ f (get_or xs k d)) i (λ k h. le_trans_z new best (f (get_or xs k d)) two (all' k d h)) (subst (λ x. new ≤ℤ f x) (get_or_default xs i z d lt) one) k
 
-  pub farther_step : ((k : ℕ) (d : X) → k < i → f (get_or xs k d) ≤ℤ f best) → f (get_or xs i z) ≤ℤ f new → f best ≤ℤ f new → (k : ℕ) (d : X) → k < i + 1 → f (get_or xs k d) ≤ℤ f new
-  farther_step all' one two k d = below_more (λ k. f (get_or xs k d) ≤ℤ f new) i (λ k h. le_trans_z (f (get_or xs k d)) (f best) (f new) (all' k d h) two) (subst (λ x. f x ≤ℤ f new) (get_or_default xs i z d lt) one) k
+  pub farther_step : ((k : ℕ) (d : X) → k < i → f (get_or xs k d) ≤ℤ best) → f (get_or xs i z) ≤ℤ new → best ≤ℤ new → (k : ℕ) (d : X) → k < i + 1 → f (get_or xs k d) ≤ℤ new
+  farther_step all' one two k d = below_more (λ k. f (get_or xs k d) ≤ℤ new) i (λ k h. le_trans_z (f (get_or xs k d)) best new (all' k d h) two) (subst (λ x. f x ≤ℤ new) (get_or_default xs i z d lt) one) k
 
-  pub member_step : Contains xs best → (new ≡ get_or xs i z) ⊎ (new ≡ best) → Contains xs new
-  member_step h (inl e) = (i, lt, get_or_default xs i new z lt ∙ sym e)
-  member_step h (inr e) = subst (Contains xs) (sym e) h
+-- what the better of two placed points keeps: it is a member, and lies where its place says
+pub placed_step : (n : V3) (xs : List V3) (i : ℕ) (z : V3) (best here new : Placed) → i < length xs → Contains xs best.point → best.along ≡ dot n best.point → here.point ≡ get_or xs i z → here.along ≡ dot n (get_or xs i z) → (new ≡ here) ⊎ (new ≡ best)
+    → Contains xs new.point × (new.along ≡ dot n new.point)
+placed_step n xs i z best here new lt h e p a (inl same) =
+    let at : new.point ≡ get_or xs i z = ap (λ b. b.point) same ∙ p in
+    ((i, lt, get_or_default xs i new.point z lt ∙ sym at), ap (λ b. b.along) same ∙ a ∙ ap (dot n) (sym at))
+placed_step n xs i z best here new lt h e p a (inr same) =
+    (subst (λ b. Contains xs b.point) (sym same) h, ap (λ b. b.along) same ∙ e ∙ ap (λ b. dot n b.point) (sym same))
 
 -- all of q lies beyond all of p just where its nearest point does not lie before p's farthest
-pub beyond_by_ends : (p q : List V3) (n low high : V3) → Contains q low → All (λ x. dot n low ≤ℤ dot n x) q → Contains p high → All (λ x. dot n x ≤ℤ dot n high) p
-    → (dot n high ≤ℤ dot n low) ↔ IsBeyond p q n
-beyond_by_ends p q n low high low_in least high_in most = (
+pub beyond_by_ends : (p q : List V3) (n : V3) (low high : Placed) → Contains q low.point → low.along ≡ dot n low.point → All (λ x. low.along ≤ℤ dot n x) q → Contains p high.point → high.along ≡ dot n high.point → All (λ x. dot n x ≤ℤ high.along) p
+    → (high.along ≤ℤ low.along) ↔ IsBeyond p q n
+beyond_by_ends p q n low high low_in low_at least high_in high_at most = (
   (λ le. All-from_members (λ a. All (λ b. pos 0 ≤ℤ dot n (minus b a)) q) p (λ a a_in. All-from_members (λ b. pos 0 ≤ℤ dot n (minus b a)) q (λ b b_in.
-      apart (dot n a) (dot n b) (dot n high) (dot n low) (dot n (minus b a)) (dot-minus n b a) (All-contains (λ x. dot n x ≤ℤ dot n high) p a most a_in) (All-contains (λ x. dot n low ≤ℤ dot n x) q b least b_in) le))),
-  (λ up. meet (dot n high) (dot n low) (dot n (minus low high)) (dot-minus n low high)
-      (All-contains (λ b. pos 0 ≤ℤ dot n (minus b high)) q low (All-contains (λ a. All (λ b. pos 0 ≤ℤ dot n (minus b a)) q) p high up high_in) low_in)),
+      apart (dot n a) (dot n b) high.along low.along (dot n (minus b a)) (dot-minus n b a) (All-contains (λ x. dot n x ≤ℤ high.along) p a most a_in) (All-contains (λ x. low.along ≤ℤ dot n x) q b least b_in) le))),
+  (λ up. meet high.along low.along (dot n high.point) (dot n low.point) (dot n (minus low.point high.point)) high_at low_at (dot-minus n low.point high.point)
+      (All-contains (λ b. pos 0 ≤ℤ dot n (minus b high.point)) q low.point (All-contains (λ a. All (λ b. pos 0 ≤ℤ dot n (minus b a)) q) p high.point up high_in) low_in)),
 )
   where
     apart : (x y high low z : ℤ) → z ≡ y -ℤ x → x ≤ℤ high → low ≤ℤ y → high ≤ℤ low → pos 0 ≤ℤ z
     apart x y high low z e h g k = omega (arith, ints, e, h, g, k)
 
-    meet : (high low z : ℤ) → z ≡ low -ℤ high → pos 0 ≤ℤ z → high ≤ℤ low
-    meet high low z e h = omega (arith, ints, e, h)
+    meet : (high low x y z : ℤ) → high ≡ x → low ≡ y → z ≡ y -ℤ x → pos 0 ≤ℤ z → high ≤ℤ low
+    meet high low x y z a b e h = omega (arith, ints, a, b, e, h)
 
 -- p meets q along d just where d leads ahead of each member of the list of their facets
 pub meets_by_list : (p q facets : List V3) (d : V3) → IsPiece p → IsPiece q → ((n : V3) → Contains facets n ↔ IsFacet p q n) → Meets p q d ↔ All (λ n. pos 0 <ℤ dot n d) facets

@@ -1,1 +1,7 @@
 pub mod Ends
+pub mod Adding
+pub mod PairLemmas
+pub mod Sizes
+pub mod Fewer
+pub mod Growing
+pub mod Sources

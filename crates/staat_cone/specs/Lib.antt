@@ -1,1 +1,2 @@
--- Definitions that the contracts here cite.
+pub mod Few
+pub mod Pairs

@@ -1,8 +1,16 @@
 //! Walls between two pieces: the facets of the cone of directions along which one piece meets the other.
 #![tactic(auto)]
 
+mod few;
+pub mod laws;
+mod pairs;
+mod plain;
 mod source;
+mod spread;
+#[cfg(test)]
+mod tests;
 mod walls;
 
+pub use plain::Plain;
 pub use source::FacetSource;
 pub use walls::{blocks, separates};

@@ -19,66 +19,78 @@ pub fn is_wall(v: V3) -> bool
     v != ORIGIN
 }
 
-/// Whether a lies less far along n than b.
-pub fn is_nearer(n: V3, a: V3, b: V3) -> bool
-    requires normal { IsWithin NORMAL n }
-    requires first { IsWithin POINT a }
-    requires second { IsWithin POINT b }
-    ensures { IsTrue result ↔ (dot n a <ℤ dot n b) }
-{
-    dot(n, a) < dot(n, b)
+/// A point, and how far it lies along a normal.
+#[derive(Clone, Copy, Debug)]
+pub struct Placed {
+    pub point: V3,
+    pub along: i128,
 }
 
-fn nearer(n: V3, a: V3, b: V3) -> V3
+fn place(n: V3, point: V3) -> Placed
     requires normal { IsWithin NORMAL n }
-    requires first { IsWithin POINT a }
-    requires second { IsWithin POINT b }
-    ensures either { (result ≡ a) ⊎ (result ≡ b) }
-    ensures first { dot n result ≤ℤ dot n a }
-    ensures second { dot n result ≤ℤ dot n b }
+    requires point { IsWithin POINT point }
+    ensures point { result.point ≡ point }
+    ensures along { result.along ≡ dot n point }
 {
-    if is_nearer(n, a, b) { a } else { b }
+    Placed {
+        point,
+        along: dot(n, point),
+    }
 }
 
-fn farther(n: V3, a: V3, b: V3) -> V3
-    requires normal { IsWithin NORMAL n }
-    requires first { IsWithin POINT a }
-    requires second { IsWithin POINT b }
+fn nearer(a: Placed, b: Placed) -> Placed
     ensures either { (result ≡ a) ⊎ (result ≡ b) }
-    ensures first { dot n a ≤ℤ dot n result }
-    ensures second { dot n b ≤ℤ dot n result }
+    ensures first { result.along ≤ℤ a.along }
+    ensures second { result.along ≤ℤ b.along }
 {
-    if is_nearer(n, b, a) { a } else { b }
+    if a.along < b.along { a } else { b }
+}
+
+fn farther(a: Placed, b: Placed) -> Placed
+    ensures either { (result ≡ a) ⊎ (result ≡ b) }
+    ensures first { a.along ≤ℤ result.along }
+    ensures second { b.along ≤ℤ result.along }
+{
+    if b.along < a.along { a } else { b }
 }
 
 /// One of the points that lie least far along n.
-pub fn lowest(n: V3, points: &[V3]) -> V3
+pub fn lowest(n: V3, points: &[V3]) -> Placed
     requires normal { IsWithin NORMAL n }
     requires some { 1 ≤ length points.now }
     requires points { All (IsWithin POINT) points.now }
-    ensures member { Contains points.now result }
-    ensures least { All (λ p. dot n result ≤ℤ dot n p) points.now }
+    ensures member { Contains points.now result.point }
+    ensures along { result.along ≡ dot n result.point }
+    ensures least { All (λ p. result.along ≤ℤ dot n p) points.now }
 {
-    let mut best = points[0];
+    let mut best = place(n, points[0]);
     for p in points {
-        best = nearer(n, *p, best);
+        best = nearer(place(n, *p), best);
     }
     best
 }
 
 /// One of the points that lie farthest along n.
-pub fn highest(n: V3, points: &[V3]) -> V3
+pub fn highest(n: V3, points: &[V3]) -> Placed
     requires normal { IsWithin NORMAL n }
     requires some { 1 ≤ length points.now }
     requires points { All (IsWithin POINT) points.now }
-    ensures member { Contains points.now result }
-    ensures most { All (λ p. dot n p ≤ℤ dot n result) points.now }
+    ensures member { Contains points.now result.point }
+    ensures along { result.along ≡ dot n result.point }
+    ensures most { All (λ p. dot n p ≤ℤ result.along) points.now }
 {
-    let mut best = points[0];
+    let mut best = place(n, points[0]);
     for p in points {
-        best = farther(n, *p, best);
+        best = farther(place(n, *p), best);
     }
     best
+}
+
+/// Whether the first lies less far along its normal than the second.
+pub fn is_nearer(a: Placed, b: Placed) -> bool
+    ensures { IsTrue result ↔ (a.along <ℤ b.along) }
+{
+    a.along < b.along
 }
 
 /// The points of a piece, with what the functions here ask of them.
@@ -98,7 +110,7 @@ fn is_beyond(n: V3, p: &Piece, q: &Piece) -> bool
 {
     let least = lowest(n, points_of(q));
     let most = highest(n, points_of(p));
-    !is_nearer(n, least, most)
+    !is_nearer(least, most)
 }
 
 /// Whether `n` is the normal of a wall between the pieces: not zero, and every point of `q` is as far along it as every

@@ -27,3 +27,7 @@ lines_from k (part ∷ parts) = part_line k part ++ lines_from (k + 1) parts
 -- a line for each part
 unfoldable pub parts_text : List Part → List ℕ
 parts_text parts = lines_from 0 parts
+
+-- the text of an assembly that was looked at: a line for each part, and that it is sound
+unfoldable pub look_text : List Part → List ℕ
+look_text parts = parts_text parts ++ codes "sound\n"

@@ -3,7 +3,7 @@
 
 mod parts;
 
-pub use parts::parts_text;
+pub use parts::{look_text, parts_text};
 
 #[cfg(test)]
 mod tests;

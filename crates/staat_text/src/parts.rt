@@ -2,9 +2,9 @@
 ghost use Rattle.std.specs.Prelude.{◌≡◌, ◌<◌, ◌++◌, IfOk, List, Some, codes, decimal, length, slice_get, string_bytes};
 ghost use Rattle.staat_model.specs.declared.assembly.Part.{Part as PartValue};
 ghost use Rattle.staat_model.specs.Assemblies.{piece_count};
-ghost use Rattle.staat_text.specs.Parts.{line_of, part_line, parts_text, pieces_at, point_count};
+ghost use Rattle.staat_text.specs.Parts.{line_of, look_text, part_line, parts_text, pieces_at, point_count};
 
-use staat_model::Assembly;
+use staat_model::{Assembly, Sound};
 use staat_vec::{Bytes, OutOfMemory};
 use std::alloc::{AllocError, Global};
 
@@ -43,16 +43,34 @@ fn part_line(alloc: Global, assembly: &Assembly, a: u32) -> Result<String, Alloc
     line(alloc, a, pieces, points, assembly.name(a))
 }
 
-/// The lines that list the parts: `part K pieces I points P name NAME` for each part in order, where `K` counts from 0
-/// and `P` is the sum of the points of its pieces.
+// The lines that list the parts.
 #[tactic(auto, unfolding(crate::specs::Parts::parts_text))]
-pub fn parts_text(alloc: Global, a: &Assembly) -> Result<Bytes, OutOfMemory>
-    ensures { IfOk result (λ text. text ≡ parts_text a.now) }
+fn lines(alloc: Global, a: &Assembly) -> Result<Vec<u8>, AllocError>
+    ensures { IfOk result (λ text. text.items ≡ parts_text a.now) }
 {
     let mut text = Vec::new(alloc);
     for part in 0..a.parts() {
         let line = part_line(alloc, a, part)?;
         text.extend_from_slice(line.as_bytes())?;
     }
+    Ok(text)
+}
+
+/// The lines that list the parts: `part K pieces I points P name NAME` for each part in order, where `K` counts from 0
+/// and `P` is the sum of the points of its pieces.
+pub fn parts_text(alloc: Global, a: &Assembly) -> Result<Bytes, OutOfMemory>
+    ensures { IfOk result (λ text. text ≡ parts_text a.now) }
+{
+    let text = lines(alloc, a)?;
+    Ok(Bytes::from_vec(text))
+}
+
+/// The lines that list the parts of a sound assembly, and the line `sound`.
+#[tactic(auto, unfolding(crate::specs::Parts::look_text))]
+pub fn look_text(alloc: Global, sound: &Sound) -> Result<Bytes, OutOfMemory>
+    ensures { IfOk result (λ text. text ≡ look_text sound.now) }
+{
+    let mut text = lines(alloc, sound.assembly())?;
+    text.extend_from_slice(b"sound\n")?;
     Ok(Bytes::from_vec(text))
 }

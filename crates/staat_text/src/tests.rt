@@ -2,8 +2,8 @@
 ghost use Rattle.std.specs.Prelude.{◌≡◌, IfOk};
 ghost use Rattle.staat_model.specs.Pieces.{IsPiece};
 
-use crate::parts_text;
-use staat_model::{Assembly, Part, Parts, Piece, Pieces, Points};
+use crate::{look_text, parts_text};
+use staat_model::{Assembly, Part, Parts, Piece, Pieces, Points, Sound};
 use staat_vec::{Name, V3};
 use std::alloc::{AllocError, Global};
 use std::test::Fail;
@@ -48,6 +48,17 @@ fn two_parts(alloc: Global, first: Name, second: Name) -> Result<Assembly, Alloc
     Ok(Assembly::seal(Parts::from_vec(Vec::from_array(alloc, parts)?)))
 }
 
+// a part of one piece alone, which is sound
+fn alone(alloc: Global, name: Name) -> Result<Sound, AllocError> {
+    let one = Vec::from_array(alloc, [cube(alloc)?])?;
+    let part = Part {
+        name,
+        pieces: Pieces::from_vec(one),
+    };
+    let parts = Vec::from_array(alloc, [part])?;
+    Ok(Sound::seal(Assembly::seal(Parts::from_vec(parts))))
+}
+
 #[test]
 fn a_line_for_each_part(rt: HostRuntime) -> Result<(), Fail> {
     let alloc = rt.alloc();
@@ -56,6 +67,17 @@ fn a_line_for_each_part(rt: HostRuntime) -> Result<(), Fail> {
     assert_eq!(rt;
         text.as_slice(),
         b"part 0 pieces 1 points 8 name lid\npart 1 pieces 2 points 16 name two legs\n".as_slice()
+    );
+    Ok(())
+}
+
+#[test]
+fn a_sound_assembly_is_said_to_be_sound(rt: HostRuntime) -> Result<(), Fail> {
+    let alloc = rt.alloc();
+    let text = look_text(alloc, &alone(alloc, name(alloc, "lid")?)?)?;
+    assert_eq!(rt;
+        text.as_slice(),
+        b"part 0 pieces 1 points 8 name lid\nsound\n".as_slice()
     );
     Ok(())
 }

@@ -5,3 +5,4 @@ pub mod RightLemmas
 pub mod RunLemmas
 pub mod Asking
 pub mod Inputting
+pub mod Testing

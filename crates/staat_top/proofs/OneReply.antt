@@ -1,6 +1,14 @@
 -- There is one reply to a request over some files, and none where a file that is reached is not there.
 use Rattle.std.proofs.Common.{◌≡◌, ℕ, ◌<◌, ◌≤◌, List, [], ◌∷◌, length, Option, Some, None, refl, ap, sym, ◌∙◌, subst, arith, inl, inr}
 use Rattle.std.specs.Prelude.{Ok, Err}
+use Rattle.staat_vec.proofs.Unique.{IsLeast-unique}
+use Rattle.staat_model.specs.declared.assembly.Part.{Part}
+use Rattle.staat_model.specs.declared.certificate.Arc.{Arc}
+use Rattle.staat_model.specs.Assemblies.{IsSound}
+use Rattle.staat_model.specs.Certificates.{arc_cmp}
+use Rattle.staat_model.proofs.Orders.{arc_exact, arc_total}
+use Rattle.staat_asm.specs.Overlaps.{IsFirstOverlap, IsOverlap}
+use Rattle.staat_fault.specs.declared.fault.Fault.TheVariants.{Overlap}
 use Rattle.staat_mesh.specs.declared.refusal.MeshRefusal.{MeshRefusal}
 use Rattle.staat_vec.specs.declared.vector.V3.{V3}
 use Rattle.staat_mesh.specs.Polygons.{mesh}
@@ -16,6 +24,7 @@ use Rattle.staat_top.specs.Steps.{Files, End, replies, reads, Found, gives, stop
 use Rattle.staat_top.specs.Refusals.{off_fault, mesh_fault, manifest_fault}
 use Rattle.staat_top.specs.Pieces.{IsPieceOf, SaysPiece, no_file, no_piece, piece}
 use Rattle.staat_top.specs.Inputs.{NamedPart, SaysListing, no_listing, listing, IsListingOf, IsPartOf, IsInputOf, part_of}
+use Rattle.staat_top.specs.Assembling.{IsTested, overlapping, sound, IsSoundOf}
 use Rattle.staat_top.specs.Replies.{IsJudged, free, not_shown, Ends}
 
 -- the step does not stand at a file that is to be read
@@ -219,8 +228,29 @@ listing_step files (input.Files names) = given_step files _
 part_step : (files : Files) (digits : ℕ) (named : NamedPart) → IsStep files (IsPartOf files digits named)
 part_step files digits named = next_step files (Each (IsPieceOf files digits) named.1) _ (each_step files (IsPieceOf files digits) (piece_step files digits) named.1) (λ pieces. given_step files (part_of named.0 pieces))
 
-pub input_step : (files : Files) (digits : ℕ) (asked : Input) → IsStep files (IsInputOf files digits asked)
+input_step : (files : Files) (digits : ℕ) (asked : Input) → IsStep files (IsInputOf files digits asked)
 input_step files digits asked = next_step files (IsListingOf files asked) _ (listing_step files asked) (λ named. each_step files (IsPartOf files digits) (part_step files digits) named)
+
+apart : (parts : List Part) (arc : Arc) → IsFirstOverlap parts arc → IsSound parts → ⊥
+apart parts arc first sound_is = sound_is arc (λ e. omega (arith, e, first.has.0)) first.has.1
+
+tested_step : (files : Files) (parts : List Part) → IsStep files (IsTested parts)
+tested_step files parts = record { one = λ f g a b sf sg. one f g a b; held = λ name f at lacks step settled. no_read name at }
+  where
+    one : (f g : Found (List Part)) → IsTested parts f → IsTested parts g → f ≡ g
+    one f g (overlapping arc first e) (overlapping other second d) =
+        let same : arc ≡ other = IsLeast-unique arc_cmp arc_total arc_exact (IsOverlap parts) arc other first second in
+        e ∙ ap (λ (x : Arc). stops (replies (refused (Overlap x.a x.i x.b x.j)))) same ∙ sym d
+    one f g (overlapping arc first e) (sound is d) = absurd (apart parts arc first is)
+    one f g (sound is e) (overlapping other second d) = absurd (apart parts other second is)
+    one f g (sound is e) (sound too d) = e ∙ sym d
+
+    no_read : (name : List ℕ) → IsTested parts (stops (reads name)) → ⊥
+    no_read name (overlapping arc first e) = absurd cc
+    no_read name (sound is e) = absurd cc
+
+sound_step : (files : Files) (digits : ℕ) (asked : Input) → IsStep files (IsSoundOf files digits asked)
+sound_step files digits asked = next_step files (IsInputOf files digits asked) IsTested (input_step files digits asked) (tested_step files)
 
 reply_at : (r s : Reply) → replies r ≡ replies s → r ≡ s
 reply_at r s e = cc
@@ -252,7 +282,7 @@ ends_rest None files = record {
 ends_rest (Some (Pair digits along wall first second)) files =
     then_rest files (IsPieceOf files digits first) _ (piece_step files digits first)
     (λ p. then_rest files (IsPieceOf files digits second) _ (piece_step files digits second) (λ q. judged_rest files p q along wall))
-ends_rest (Some (Look digits asked)) files = then_rest files (IsInputOf files digits asked) _ (input_step files digits asked) (λ parts. record {
+ends_rest (Some (Look digits asked)) files = then_rest files (IsSoundOf files digits asked) _ (sound_step files digits asked) (λ parts. record {
   one = λ r s a b. reply_at r s (a ∙ sym b);
   held = λ name r a lacks b. reads_at name _ a;
 })

@@ -2,6 +2,8 @@
 use Rattle.std.proofs.Common.{◌≡◌, ℕ, List, [], ◌∷◌, Option, Some, None, refl, ap, sym, subst, arith, inl, inr}
 use Rattle.std.specs.Prelude.{◌≤◌, Ok}
 use Rattle.staat_vec.specs.declared.vector.V3.{V3}
+use Rattle.staat_model.specs.declared.assembly.Part.{Part}
+use Rattle.staat_model.specs.Assemblies.{IsSound}
 use Rattle.staat_model.specs.Pieces.{IsSolid}
 use Rattle.staat_model.proofs.WallLaws as walls
 use Rattle.staat_words.specs.declared.request.Input.{Input}
@@ -21,6 +23,7 @@ use Rattle.staat_fault.specs.Faults.{status_of}
 use Rattle.staat_top.specs.Refusals.{off_fault, mesh_fault, manifest_fault}
 use Rattle.staat_top.specs.Pieces.{IsPieceOf, SaysPiece, no_file, no_piece, piece}
 use Rattle.staat_top.specs.Inputs.{NamedPart, SaysListing, no_listing, listing, IsListingOf, IsPartOf, IsInputOf, part_of}
+use Rattle.staat_top.specs.Assembling.{IsTested, overlapping, sound, IsSoundOf}
 use Rattle.staat_top.specs.Replies.{free, not_shown, IsReply, IsRight}
 
 -- a piece that the rules of meshes give is solid
@@ -120,11 +123,27 @@ part_late files digits named = next_late (Each (IsPieceOf files digits) named.1)
 input_late : (files : Files) (digits : ℕ) (asked : Input) → StopsLate (IsInputOf files digits asked)
 input_late files digits asked = next_late (IsListingOf files asked) (λ named. Each (IsPartOf files digits) named) (names_late files asked) (λ named. each_late (IsPartOf files digits) (part_late files digits) named)
 
--- a wall that is shown keeps the pieces apart, a look gives the parts, and no other reply has status 0
+tested_late : (parts : List Part) → StopsLate (IsTested parts)
+tested_late parts text (overlapping arc first e) = absurd (omega (arith, stopped _ _ _ _ refl refl e))
+tested_late parts text (sound is e) = absurd cc
+
+sound_late : (files : Files) (digits : ℕ) (asked : Input) → StopsLate (IsSoundOf files digits asked)
+sound_late files digits asked = next_late (IsInputOf files digits asked) IsTested (input_late files digits asked) tested_late
+
+-- what the test gives are the parts that it tested, and they are sound
+tested_gives : (parts built : List Part) → IsTested parts (gives built) → (parts ≡ built) × IsSound parts
+tested_gives parts built (overlapping arc first e) = absurd cc
+tested_gives parts built (sound is e) = let same : parts ≡ built = cc in (same, is)
+
+sound_parts : (files : Files) (digits : ℕ) (asked : Input) (built : List Part) → IsSoundOf files digits asked (gives built) → (parts : List Part) × IsInputOf files digits asked (gives parts) × IsSound parts
+sound_parts files digits asked built (inl (at, stopped, e)) = absurd cc
+sound_parts files digits asked built (inr (parts, found, test)) = (parts, found, (tested_gives parts built test).1)
+
+-- a wall that is shown keeps the pieces apart, a look gives sound parts, and no other reply has status 0
 pub status_is_right : (asked : Option Request) (files : Files) (text : List ℕ) → IsReply asked files (answered 0 text) → IsRight asked files
 status_is_right None files text e = absurd (omega (arith, same_status _ _ e))
-status_is_right (Some (Look digits asked)) files text (inl stopped) = absurd (input_late files digits asked text stopped)
-status_is_right (Some (Look digits asked)) files text (inr (parts, found, e)) = (parts, found)
+status_is_right (Some (Look digits asked)) files text (inl stopped) = absurd (sound_late files digits asked text stopped)
+status_is_right (Some (Look digits asked)) files text (inr (built, found, e)) = sound_parts files digits asked built found
 status_is_right (Some (Pair digits along wall first second)) files text (inl stopped) = absurd (stops_late files digits first text stopped)
 status_is_right (Some (Pair digits along wall first second)) files text (inr (p, first_gives, inl stopped)) = absurd (stops_late files digits second text stopped)
 status_is_right (Some (Pair digits along wall first second)) files text (inr (p, first_gives, inr (q, second_gives, free shown e))) =

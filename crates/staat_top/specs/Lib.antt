@@ -3,6 +3,7 @@ pub mod Refusals
 pub mod Pieces
 pub mod Inputs
 pub mod Shapes
+pub mod Assembling
 pub mod Replies
 pub mod Runs
 pub mod PairRequests

@@ -1,4 +1,4 @@
--- The faults that the refusals of the readers are, with the file's name.
+-- The faults that refusals are; those of the readers have the file's name.
 use Rattle.std.specs.Prelude.{ℕ, List}
 use Rattle.staat_fault.specs.declared.fault.Fault.{Fault}
 use Rattle.staat_fault.specs.declared.fault.Fault.TheVariants as fault
@@ -6,6 +6,8 @@ use Rattle.staat_off.specs.declared.refusal.OffRefusal.{OffRefusal}
 use Rattle.staat_off.specs.declared.refusal.OffRefusal.TheVariants as off
 use Rattle.staat_mesh.specs.declared.refusal.MeshRefusal.{MeshRefusal}
 use Rattle.staat_mesh.specs.declared.refusal.MeshRefusal.TheVariants as mesh
+use Rattle.staat_asm.specs.declared.refusal.AsmRefusal.{AsmRefusal}
+use Rattle.staat_asm.specs.declared.refusal.AsmRefusal.TheVariants as asm
 use Rattle.staat_manifest.specs.declared.refusal.ManifestRefusal.{ManifestRefusal}
 use Rattle.staat_manifest.specs.declared.refusal.ManifestRefusal.TheVariants as manifest
 
@@ -37,3 +39,7 @@ manifest_fault name (manifest.NoPieces part) = fault.NoPieces name part
 manifest_fault name manifest.TooManyParts = fault.TooManyParts name
 manifest_fault name manifest.TooManyPieces = fault.TooManyPieces name
 manifest_fault name manifest.OutOfMemory = fault.OutOfMemory
+
+abbrev pub asm_fault : AsmRefusal → Fault
+asm_fault (asm.Overlap a i b j) = fault.Overlap a i b j
+asm_fault asm.OutOfMemory = fault.OutOfMemory

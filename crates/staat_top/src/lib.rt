@@ -8,6 +8,7 @@ mod pair;
 mod print;
 mod read;
 mod refusals;
+mod sound;
 mod top;
 
 pub use print::want_memory;

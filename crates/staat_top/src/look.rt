@@ -7,14 +7,14 @@ ghost use Rattle.staat_top.specs.LookRequests.{request_of};
 ghost use Rattle.staat_top.specs.Runs.{HasCause, IsPlaced, shelf_over};
 
 use crate::answer::Answer;
-use crate::input::read_input;
+use crate::sound::read_sound;
 use staat_edge::Shelf;
 use staat_fault::Fault;
-use staat_text::parts_text;
+use staat_text::look_text;
 use staat_words::Input;
 use std::alloc::Global;
 
-/// The answer to the command `look`: a line for each part.
+/// The answer to the command `look`: a line for each part, and that they are sound.
 pub fn look<H: Shelf>(
     alloc: Global,
     digits: u32,
@@ -32,7 +32,7 @@ pub fn look<H: Shelf>(
     ensures cause { IfErr result (HasCause (shelf_over (H.holds shelf.old) (H.faults shelf.old) (H.faults shelf.new)
         (H.failed shelf.new) (H.opened shelf.new) (H.place shelf.new))) }
 {
-    let assembly = read_input(alloc, digits, shelf, input)?;
-    let text = parts_text(alloc, &assembly)?;
+    let sound = read_sound(alloc, digits, shelf, input)?;
+    let text = look_text(alloc, &sound)?;
     Ok(Answer { status: 0, text })
 }

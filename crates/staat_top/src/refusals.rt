@@ -1,7 +1,8 @@
 // The faults that the refusals of the readers are.
 ghost use Rattle.std.specs.Prelude.{◌≡◌};
-ghost use Rattle.staat_top.specs.Refusals.{manifest_fault, mesh_fault, off_fault};
+ghost use Rattle.staat_top.specs.Refusals.{asm_fault, manifest_fault, mesh_fault, off_fault};
 
+use staat_asm::AsmRefusal;
 use staat_fault::Fault;
 use staat_manifest::ManifestRefusal;
 use staat_mesh::MeshRefusal;
@@ -52,5 +53,15 @@ pub fn manifest_fault(name: Name, refusal: ManifestRefusal) -> Fault
         ManifestRefusal::TooManyParts => Fault::TooManyParts(name),
         ManifestRefusal::TooManyPieces => Fault::TooManyPieces(name),
         ManifestRefusal::OutOfMemory => Fault::OutOfMemory,
+    }
+}
+
+/// The fault of an assembly that is not sound.
+pub fn asm_fault(refusal: AsmRefusal) -> Fault
+    ensures { result ≡ asm_fault refusal }
+{
+    match refusal {
+        AsmRefusal::Overlap(a, i, b, j) => Fault::Overlap(a, i, b, j),
+        AsmRefusal::OutOfMemory => Fault::OutOfMemory,
     }
 }

@@ -385,17 +385,29 @@ const HELD: [(&str, &[u8]); 7] = [
 fn the_parts_of_an_input_are_listed(rt: HostRuntime) -> Result<(), Fail> {
     let alloc = rt.alloc();
     let usage = "staat: usage\n";
-    let table: [(&[&str], u8, &str, &str); 14] = [
+    let table: [(&[&str], u8, &str, &str); 16] = [
+        (
+            &["look", "a.off", "a.off"],
+            3,
+            "",
+            "staat: parts 0 and 1 overlap in pieces 0 and 0\n",
+        ),
+        (
+            &["look", "a.off", "b.off", "b.off", "a.off"],
+            3,
+            "",
+            "staat: parts 0 and 3 overlap in pieces 0 and 0\n",
+        ),
         (
             &["look", "a.off", "b.off"],
             0,
-            "part 0 pieces 1 points 8 name a.off\npart 1 pieces 1 points 8 name b.off\n",
+            "part 0 pieces 1 points 8 name a.off\npart 1 pieces 1 points 8 name b.off\nsound\n",
             "",
         ),
         (
             &["look", "--manifest=m.json"],
             0,
-            "part 0 pieces 1 points 8 name left\npart 1 pieces 2 points 16 name both\n",
+            "part 0 pieces 1 points 8 name left\npart 1 pieces 2 points 16 name both\nsound\n",
             "",
         ),
         (

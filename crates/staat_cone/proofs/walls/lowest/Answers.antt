@@ -1,13 +1,18 @@
+use Rattle.std.proofs.Common.{subst, ◌≤ℤ◌}
 use Rattle.staat_vec.specs.Vectors.{dot, origin}
-use Rattle.staat_cone.proofs.Ends.{nearer_step, member_step}
+use Rattle.staat_cone.proofs.Ends.{nearer_step, placed_step}
 use Rattle.staat_cone.proofs.walls.lowest.Goals as goal
 
 pub loop-p-preserved : goal.loop-p-preserved
 loop-p-preserved c =
+    let n = c.args.n in
     let xs = c.args.points.now in
     let i = c.loop-p.p-index in
+    let old = c.loop-p.best in
     let new = c.nearer-best.result in
-    let h = c.nearer-best.ensures in record {
-      member = member_step (dot c.args.n) xs i origin c.loop-p.best new c.loop-p-test.true c.loop-p.invariant.member h.either;
-      bound = nearer_step (dot c.args.n) xs i origin c.loop-p.best new c.loop-p-test.true c.loop-p.invariant.bound h.first h.second;
+    let h = c.nearer-best.ensures in
+    let kept = placed_step n xs i origin old c.place.result new c.loop-p-test.true c.loop-p.invariant.member c.loop-p.invariant.along c.place.ensures.point c.place.ensures.along h.either in record {
+      member = kept.0;
+      along = kept.1;
+      bound = nearer_step (dot n) xs i origin old.along new.along c.loop-p-test.true c.loop-p.invariant.bound (subst (λ y. new.along ≤ℤ y) c.place.ensures.along h.first) h.second;
     }

@@ -1,0 +1,4 @@
+pub mod Searching
+pub mod Soundness
+pub mod WallLemmas
+pub mod Cubes

@@ -1,0 +1,9 @@
+use Rattle.std.proofs.Common.{arith, ◌<◌, length}
+use Rattle.staat_asm.proofs.Searching.{part_within}
+use Rattle.staat_asm.proofs.search.search.Goals as goal
+
+pub returns : goal.returns
+returns g c = λ arc p.
+    let h = p.1 in
+    let lt : arc.a < length c.args.assembly.now = part_within c.args.assembly.now arc.a arc.i h.p h.p_is in
+    c.loop-a.invariant arc p (omega (arith, lt, c.parts-a-end.ensures.count, c.loop-a-test.false))

@@ -1,0 +1,9 @@
+use Rattle.std.proofs.Common.{arith, ◌<◌, length}
+use Rattle.staat_asm.proofs.Searching.{part_within}
+use Rattle.staat_asm.proofs.search.search_behind.Goals as goal
+
+pub returns : goal.returns
+returns g c = λ arc p.
+    let h = p.0.0.1 in
+    let lt : arc.b < length c.args.assembly.now = part_within c.args.assembly.now arc.b arc.j h.q h.q_is in
+    c.loop-b.invariant arc p (omega (arith, lt, c.parts-end.ensures.count, c.loop-b-test.false))

@@ -1,0 +1,138 @@
+-- Few of the differences of two pieces, and what is known of the facets of their cone while they grow.
+use Rattle.std.proofs.Common.{◌≡◌, ◌↔◌, ℕ, zero, suc, ◌-◌, ◌<◌, refl, take, None, IsSome, ◌⊎◌, inl, inr, ⊎_elim, sym, ap, subst, ◌∙◌, arith, ℤ, pos, ◌-ℤ◌, ◌≤ℤ◌, ◌<ℤ◌, List, [], ◌∷◌, ◌++◌, All, Contains}
+use Rattle.std.proofs.lemmas.Int.{ints}
+use Rattle.std.proofs.lemmas.List.Elements.{All-contains, All-weaker, All-push, Contains-append_left, Contains-push, Contains-push_cases}
+use Rattle.staat_vec.specs.declared.vector.V3.{V3}
+use Rattle.staat_vec.specs.declared.vector.TheConstants.{DIFF, NORMAL}
+use Rattle.staat_vec.specs.Vectors.{IsWithin, dot, minus}
+use Rattle.staat_vec.proofs.Unique.{Contains-nothing}
+use Rattle.staat_vec.proofs.VecRing.{dot_comm}
+use Rattle.staat_model.specs.Cones.{IsAbove, IsConeFacet, IsSpanning, differences}
+use Rattle.staat_model.specs.Facets.{IsFacet, IsDifference}
+use Rattle.staat_model.specs.Walls.{IsBeyond}
+use Rattle.staat_model.proofs.Members.{All-from_members}
+use Rattle.staat_model.proofs.WallLaws.{dot-minus}
+use Rattle.staat_model.proofs.PieceFacets.{differences_are, beyond_is_above}
+use Rattle.staat_cone.specs.declared.walls.Placed.{Placed}
+use Rattle.staat_cone.specs.Pairs.{Adds, FromSome, IsThrough}
+use Rattle.staat_cone.specs.Few.{IsCandidate, IsEnough, IsGrown, IsStep, IsViolator}
+use Rattle.staat_cone.proofs.PairLemmas.{facet_grown, facet_on_side}
+use Rattle.staat_cone.proofs.Sizes.{across_within}
+
+pub steps_within : (p q vs : List V3) → All (IsStep p q) vs → All (IsWithin DIFF) vs
+steps_within p q vs steps = All-weaker (IsStep p q) (IsWithin DIFF) (λ v s. s.within) vs steps
+
+-- nothing is known of no vectors
+grown_nothing : (p q : List V3) → IsGrown p q [] [] []
+grown_nothing p q = record {
+  steps = λ k d lt. absurd (Contains-nothing d (k, lt, λ i. d));
+  untested_are = λ k d lt. absurd (Contains-nothing d (k, lt, λ i. d));
+  found_are = λ k d lt. absurd (Contains-nothing d (k, lt, λ i. d));
+  all = λ n f. absurd (Contains-nothing f.across.u f.across.u_in);
+}
+
+pub grown_start : (p q few untested found : List V3) → few ≡ [] → untested ≡ [] → found ≡ [] → IsGrown p q few untested found
+grown_start p q few untested found e f g = subst (λ xs. IsGrown p q xs untested found) (sym e) (subst (λ xs. IsGrown p q [] xs found) (sym f) (subst (IsGrown p q [] []) (sym g) (grown_nothing p q)))
+
+-- what goes through two differences may be a facet of the pieces
+candidate : (p q few : List V3) (g v n : V3) → IsStep p q g → IsStep p q v → IsThrough few g v n → IsCandidate p q n
+candidate p q few g v n is_g is_v t = record {
+  primitive = t.primitive;
+  touches = record { u = g; v = v; u_is = is_g.difference; v_is = is_v.difference; u_on = dot_comm n g ∙ t.g_on; v_on = dot_comm n v ∙ t.h_on; independent = t.independent };
+  within = across_within n g v t.primitive t.independent t.g_on t.h_on is_g.within is_v.within;
+}
+
+-- one more difference, with the facets through it, where facets that it lies behind may have been left out
+grown_with : (p q few untested found few' untested' : List V3) (v : V3) → All (IsStep p q) few → All (IsCandidate p q) untested → All (IsFacet p q) found
+    → ((n : V3) → IsConeFacet few n → pos 0 ≤ℤ dot v n → Contains untested n ⊎ Contains found n) → IsStep p q v → few' ≡ few ++ v ∷ []
+    → Adds (FromSome (λ g. IsThrough few g v) few) untested untested' → IsGrown p q few' untested' found
+grown_with p q few untested found few' untested' v steps candidates facets all' step e adds =
+    subst (λ vs. IsGrown p q vs untested' found) (sym e) (record {
+      steps = All-push (IsStep p q) few v steps step;
+      untested_are = All-from_members (IsCandidate p q) untested' (λ n c. ⊎_elim
+          (λ old. All-contains (IsCandidate p q) untested n candidates old)
+          (λ (g, in_g, t). candidate p q few g v n (All-contains (IsStep p q) few g steps in_g) step t)
+          (adds.only n c));
+      found_are = facets;
+      all = λ n f. ⊎_elim
+          (λ old. ⊎_elim (λ c. inl (adds.kept n c)) (λ c. inr c) (all' n old (facet_on_side few v n f)))
+          (λ new. inl (adds.added n new))
+          (facet_grown few v n f);
+    })
+
+pub grown_by : (p q few untested found few' untested' found' : List V3) (v : V3) → IsGrown p q few untested found → IsStep p q v → few' ≡ few ++ v ∷ []
+    → Adds (FromSome (λ g. IsThrough few g v) few) untested untested' → found' ≡ found → IsGrown p q few' untested' found'
+grown_by p q few untested found few' untested' found' v is step e adds same =
+    subst (IsGrown p q few' untested') (sym same)
+    (grown_with p q few untested found few' untested' v is.steps is.untested_are is.found_are (λ n f side. is.all n f) step e adds)
+
+-- the last of the untested is left out
+module _ (p q few untested found : List V3) (n : V3) (is : IsGrown p q few (untested ++ n ∷ []) found) where
+  last : IsCandidate p q n
+  last = All-contains (IsCandidate p q) (untested ++ n ∷ []) n is.untested_are (Contains-push untested n)
+
+  others : All (IsCandidate p q) untested
+  others = All-from_members (IsCandidate p q) untested (λ m c. All-contains (IsCandidate p q) (untested ++ n ∷ []) m is.untested_are (Contains-append_left untested (n ∷ []) m c))
+
+  pub last_within : IsWithin NORMAL n
+  last_within = last.within
+
+  without : (m : V3) → IsConeFacet few m → (n ≡ m → ⊥) → Contains untested m ⊎ Contains found m
+  without m f other = ⊎_elim (λ c. ⊎_elim (λ d. inl d) (λ e. absurd (other e)) (Contains-push_cases untested n m c)) (λ c. inr c) (is.all m f)
+
+  -- since one of the few lies behind it
+  pub grown_dropped : (IsAbove n few → ⊥) → IsGrown p q few untested found
+  grown_dropped behind = record { steps = is.steps; untested_are = others; found_are = is.found_are; all = λ m f. without m f (λ e. behind (subst (λ z. IsAbove z few) (sym e) f.above)) }
+
+  -- since no difference lies behind it
+  pub grown_found : (found' : List V3) → IsBeyond p q n → found' ≡ found ++ n ∷ [] → IsGrown p q few untested found'
+  grown_found found' beyond e = subst (IsGrown p q few untested) (sym e) (record {
+    steps = is.steps;
+    untested_are = others;
+    found_are = All-push (IsFacet p q) found n is.found_are (record { primitive = last.primitive; beyond = beyond; touches = last.touches });
+    all = λ m f. ⊎_elim
+        (λ c. ⊎_elim (λ d. inl d) (λ e. inr (subst (Contains (found ++ n ∷ [])) e (Contains-push found n))) (Contains-push_cases untested n m c))
+        (λ c. inr (Contains-append_left found (n ∷ []) m c))
+        (is.all m f);
+  })
+
+  -- since the difference v, which joins the few, lies behind it
+  pub grown_violated : (few' untested' found' : List V3) (v : V3) → IsViolator p q n v → few' ≡ few ++ v ∷ [] → Adds (FromSome (λ g. IsThrough few g v) few) untested untested' → found' ≡ found → IsGrown p q few' untested' found'
+  grown_violated few' untested' found' v violator e adds same =
+      subst (IsGrown p q few' untested') (sym same)
+      (grown_with p q few untested found few' untested' v is.steps others is.found_are
+      (λ m f side. without m f (λ e. clash (dot v m) (subst (λ z. dot v z <ℤ pos 0) e violator.behind) side)) violator.step e adds)
+    where
+      clash : (a : ℤ) → a <ℤ pos 0 → pos 0 ≤ℤ a → ⊥
+      clash a h g = omega (arith, ints)
+
+-- where no facet of the few is untested, they are enough
+pub grown_enough : (p q few found : List V3) → IsGrown p q few [] found → IsSpanning few → IsEnough few (differences p q)
+grown_enough p q few found is spans =
+    let are = differences_are p q in record {
+      spanning = spans;
+      members = λ v c. are.all v (All-contains (IsStep p q) few v is.steps c).difference;
+      none_behind = λ n f. beyond_is_above p q (differences p q) n are (All-contains (IsFacet p q) found n is.found_are (⊎_elim (λ c. absurd (Contains-nothing n c)) (λ c. c) (is.all n f))).beyond;
+    }
+
+-- a list that grew still spans space
+pub spanning_grown : (few few' : List V3) → ((v : V3) → Contains few v → Contains few' v) → IsSpanning few → IsSpanning few'
+spanning_grown few few' kept spans n flat = spans n (All-from_members (λ v. dot v n ≡ pos 0) few (λ v c. All-contains (λ v. dot v n ≡ pos 0) few' v flat (kept v c)))
+
+-- the difference of the two points that lie nearest, where they are the wrong way round
+pub violator_by_ends : (p q : List V3) (n : V3) (low high : Placed) (v : V3) → Contains q low.point → low.along ≡ dot n low.point → Contains p high.point → high.along ≡ dot n high.point → low.along <ℤ high.along → v ≡ minus low.point high.point → IsWithin DIFF v → IsViolator p q n v
+violator_by_ends p q n low high v low_in low_at high_in high_at less e size = record {
+  step = record { difference = record { a = high.point; b = low.point; a_in = high_in; b_in = low_in; is = e }; within = size };
+  behind = below (dot v n) (dot n low.point) (dot n high.point) low.along high.along (dot_comm v n ∙ ap (dot n) e ∙ dot-minus n low.point high.point) low_at high_at less;
+}
+  where
+    below : (a b c low high : ℤ) → a ≡ b -ℤ c → low ≡ b → high ≡ c → low <ℤ high → a <ℤ pos 0
+    below a b c low high e l k h = omega (arith, ints, e, l, k, h)
+
+-- where nothing can be taken from a list, it is empty
+pub nothing_taken : (xs ys : List V3) (n : ℕ) → xs ≡ ys ++ [] → IsSome {T = V3} None ↔ (0 < n) → ys ≡ take (n - 1) xs → xs ≡ []
+nothing_taken xs ys n e is rest = e ∙ ap (λ l. l ++ []) (rest ∙ ap (λ k. take k xs) (by_count n is.1))
+  where
+    by_count : (n : ℕ) → (0 < n → IsSome {T = V3} None) → n - 1 ≡ 0
+    by_count zero f = refl
+    by_count (suc n) f = let h : IsSome {T = V3} None = f (omega arith) in cc

@@ -1,0 +1,10 @@
+use Rattle.staat_vec.specs.Vectors.{origin}
+use Rattle.staat_cone.specs.Pairs.{IsThrough}
+use Rattle.staat_cone.proofs.Adding.{Adds-start, Adds-more, Adds-all}
+use Rattle.staat_cone.proofs.pairs.add_all_through.Goals as goal
+
+pub loop-h-preserved : goal.loop-h-preserved
+loop-h-preserved c = Adds-more (λ h. IsThrough c.args.vs.now h c.args.g) c.args.hs.now c.loop-h.h-index origin c.args.out.now.items c.loop-h.out.items c.add_through.new.out.items c.loop-h-test.true c.loop-h.invariant c.in_ok-add_through.ensures
+
+pub returns : goal.returns
+returns c = Adds-all (λ h. IsThrough c.args.vs.now h c.args.g) c.args.hs.now c.loop-h.h-index c.args.out.now.items c.loop-h.out.items c.loop-h-test.false c.loop-h.invariant

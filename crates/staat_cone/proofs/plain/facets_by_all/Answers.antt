@@ -1,0 +1,11 @@
+use Rattle.std.proofs.Common.{subst}
+use Rattle.staat_vec.specs.Vectors.{vector_cmp}
+use Rattle.staat_vec.specs.Lists.{Lists}
+use Rattle.staat_model.specs.Cones.{IsConeFacet}
+use Rattle.staat_cone.proofs.Sources.{listed_by_all}
+use Rattle.staat_cone.proofs.plain.facets_by_all.Goals as goal
+
+pub returns : goal.returns
+returns c =
+    listed_by_all c.args.p.now c.args.q.now c.in_ok-vs.vs.items c.in_ok-list.list.items c.in_ok-vs.ensures.are
+    (subst (λ vs. Lists vector_cmp (IsConeFacet vs) c.in_ok-list.list.items) c.as_slice.ensures.value c.in_ok-list.ensures)
