@@ -371,7 +371,23 @@ const NONE: &[u8] = b"{\"parts\":[{\"name\":\"p\",\"pieces\":[]}]}";
 const TWICE: &[u8] =
     b"{\"parts\":[{\"name\":\"p\",\"pieces\":[\"a.off\"]},{\"name\":\"p\",\"pieces\":[\"b.off\"]}]}";
 
-const HELD: [(&str, &[u8]); 7] = [
+const TAIL: &[u8] =
+    b"OFF\n8 6 12\n-2 0 0\n2 0 0\n1 0 2\n-1 0 2\n-2 4 0\n2 4 0\n1 4 2\n-1 4 2\n4 0 1 2 3\n4 7 6 5 4\n4 1 0 4 5\n4 2 1 5 6\n4 3 2 6 7\n4 0 3 7 4\n";
+
+const BASE: &[u8] =
+    b"OFF\n8 6 12\n-4 0 -1\n4 0 -1\n4 4 -1\n-4 4 -1\n-4 0 0\n4 0 0\n4 4 0\n-4 4 0\n4 3 2 1 0\n4 4 5 6 7\n4 0 1 5 4\n4 1 2 6 5\n4 2 3 7 6\n4 3 0 4 7\n";
+
+const RIGHT: &[u8] =
+    b"OFF\n8 6 12\n2 0 0\n4 0 0\n4 0 2\n1 0 2\n2 4 0\n4 4 0\n4 4 2\n1 4 2\n4 0 1 2 3\n4 7 6 5 4\n4 1 0 4 5\n4 2 1 5 6\n4 3 2 6 7\n4 0 3 7 4\n";
+
+const LEFT: &[u8] =
+    b"OFF\n8 6 12\n-4 0 0\n-2 0 0\n-1 0 2\n-4 0 2\n-4 4 0\n-2 4 0\n-1 4 2\n-4 4 2\n4 0 1 2 3\n4 7 6 5 4\n4 1 0 4 5\n4 2 1 5 6\n4 3 2 6 7\n4 0 3 7 4\n";
+
+// a tail in its socket: the boxes around them overlap, and they only touch
+const DOVETAIL: &[u8] =
+    b"{\"parts\":[{\"name\":\"tail\",\"pieces\":[\"tail.off\"]},{\"name\":\"socket\",\"pieces\":[\"base.off\",\"right.off\",\"left.off\"]}]}";
+
+const HELD: [(&str, &[u8]); 12] = [
     ("a.off", CUBE),
     ("b.off", BESIDE),
     ("cut.off", b"OFF 1"),
@@ -379,13 +395,24 @@ const HELD: [(&str, &[u8]); 7] = [
     ("none.json", NONE),
     ("twice.json", TWICE),
     ("cut.json", b"{\"parts\":"),
+    ("tail.off", TAIL),
+    ("base.off", BASE),
+    ("right.off", RIGHT),
+    ("left.off", LEFT),
+    ("dovetail.json", DOVETAIL),
 ];
 
 #[test]
 fn the_parts_of_an_input_are_listed(rt: HostRuntime) -> Result<(), Fail> {
     let alloc = rt.alloc();
     let usage = "staat: usage\n";
-    let table: [(&[&str], u8, &str, &str); 16] = [
+    let table: [(&[&str], u8, &str, &str); 17] = [
+        (
+            &["look", "--manifest=dovetail.json"],
+            0,
+            "part 0 pieces 1 points 8 name tail\npart 1 pieces 3 points 24 name socket\nsound\n",
+            "",
+        ),
         (
             &["look", "a.off", "a.off"],
             3,
