@@ -8,7 +8,7 @@ use Rattle.staat_vec.specs.Vectors.{IsWithin, dot, minus}
 use Rattle.staat_vec.proofs.Unique.{Contains-nothing}
 use Rattle.staat_vec.proofs.VecRing.{dot_comm}
 use Rattle.staat_model.specs.Cones.{IsAbove, IsConeFacet, IsSpanning, differences}
-use Rattle.staat_model.specs.Facets.{IsFacet, IsDifference}
+use Rattle.staat_model.specs.Facets.{IsFacet}
 use Rattle.staat_model.specs.Walls.{IsBeyond}
 use Rattle.staat_model.proofs.Members.{All-from_members}
 use Rattle.staat_model.proofs.WallLaws.{dot-minus}

@@ -4,7 +4,7 @@ use Rattle.std.proofs.lemmas.List.Elements.{All-contains}
 use Rattle.staat_vec.specs.declared.vector.V3.{V3}
 use Rattle.staat_vec.specs.declared.vector.TheConstants.{POINT, DIFF, NORMAL}
 use Rattle.staat_vec.specs.Vectors.{IsWithin, dot, cross, origin}
-use Rattle.staat_vec.specs.Primitives.{IsPrimitive, primitive}
+use Rattle.staat_vec.specs.Primitives.{IsPrimitive}
 use Rattle.staat_vec.proofs.Bounds.{IsWithin-minus, IsWithin-cross}
 use Rattle.staat_vec.proofs.Primitives.{IsWithin-primitive}
 use Rattle.staat_vec.proofs.VecRing.{dot_comm}

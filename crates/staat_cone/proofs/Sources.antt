@@ -1,5 +1,5 @@
 -- From lists of facets of vectors to what a source of facets answers.
-use Rattle.std.proofs.Common.{◌≡◌, ◌↔◌, ⊎_elim, refl, arith, subst, List, [], ◌∷◌, All, Contains}
+use Rattle.std.proofs.Common.{◌≡◌, ◌↔◌, ⊎_elim, refl, subst, List, [], ◌∷◌, All, Contains}
 use Rattle.std.proofs.lemmas.List.Elements.{All-contains}
 use Rattle.staat_vec.specs.declared.vector.V3.{V3}
 use Rattle.staat_vec.specs.declared.vector.TheConstants.{DIFF, NORMAL}

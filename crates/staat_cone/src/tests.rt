@@ -4,8 +4,8 @@ ghost use Rattle.staat_vec.specs.Vectors.{IsWithin, vector};
 
 use crate::{FacetSource, Plain, blocks, separates};
 use staat_model::{Piece, Points, is_solid};
-use staat_vec::{NORMAL, OutOfMemory, POINT, V3, in_order};
-use std::alloc::{AllocError, Global};
+use staat_vec::{NORMAL, POINT, V3, in_order};
+use std::alloc::Global;
 use std::test::Fail;
 
 fn at(x: i128, y: i128, z: i128) -> V3
@@ -38,84 +38,108 @@ fn piece_of(points: Vec<V3>) -> Option<Piece> {
     Some(Piece::seal(Points::from_vec(points)))
 }
 
-// the box between two corners
-fn boxed(alloc: Global, low: V3, high: V3) -> Result<Option<Piece>, AllocError> {
+// a box, by two corners
+#[derive(Clone, Copy)]
+struct Corners {
+    low: V3,
+    high: V3,
+}
+
+fn boxed(alloc: Global, c: Corners) -> Result<Piece, Fail> {
     let corners = Vec::from_array(
         alloc,
         [
-            low,
-            at(low.x, low.y, high.z),
-            at(low.x, high.y, low.z),
-            at(low.x, high.y, high.z),
-            at(high.x, low.y, low.z),
-            at(high.x, low.y, high.z),
-            at(high.x, high.y, low.z),
-            high,
+            c.low,
+            at(c.low.x, c.low.y, c.high.z),
+            at(c.low.x, c.high.y, c.low.z),
+            at(c.low.x, c.high.y, c.high.z),
+            at(c.high.x, c.low.y, c.low.z),
+            at(c.high.x, c.low.y, c.high.z),
+            at(c.high.x, c.high.y, c.low.z),
+            c.high,
         ],
     )?;
-    Ok(piece_of(corners))
+    let piece = piece_of(corners).ok_or("no piece")?;
+    Ok(piece)
+}
+
+// the cube of edge 2 whose least corner is (x, y, z)
+fn cube(x: i8, y: i8, z: i8) -> Corners {
+    let low = V3 {
+        x: i128::from(x),
+        y: i128::from(y),
+        z: i128::from(z),
+    };
+    let high = V3 {
+        x: low.x + 2,
+        y: low.y + 2,
+        z: low.z + 2,
+    };
+    Corners { low, high }
 }
 
 fn facets_from<F: FacetSource>(
     source: &F,
     alloc: Global,
-    p: &Piece,
-    q: &Piece,
-) -> Result<Vec<V3>, OutOfMemory>
+    p: Corners,
+    q: Corners,
+) -> Result<Vec<V3>, Fail>
     ensures { IfOk result (λ list. All (IsWithin NORMAL) list.items) }
 {
-    let list = source.facets(alloc, p, q)?;
+    let p = boxed(alloc, p)?;
+    let q = boxed(alloc, q)?;
+    let list = source.facets(alloc, &p, &q)?;
     Ok(list)
 }
 
 #[test]
-fn facets_of_boxes(rt: HostRuntime) -> Result<(), Fail> {
-    let alloc = rt.alloc();
-    let cube = boxed(alloc, at(0, 0, 0), at(2, 2, 2))?.ok_or("a cube")?;
-    let beside = boxed(alloc, at(2, 0, 0), at(4, 2, 2))?.ok_or("a cube")?;
-    let corner = boxed(alloc, at(2, 2, 2), at(4, 4, 4))?.ok_or("a cube")?;
-    let inside = boxed(alloc, at(1, 1, 1), at(3, 3, 3))?.ok_or("a cube")?;
-    let one = facets_from(&Plain, alloc, &cube, &beside)?;
-    assert_eq!(rt; one.as_slice(), [at(1, 0, 0)].as_slice());
-    let turned = facets_from(&Plain, alloc, &beside, &cube)?;
-    assert_eq!(rt; turned.as_slice(), [at(-1, 0, 0)].as_slice());
-    let three = facets_from(&Plain, alloc, &cube, &corner)?;
+fn facets_of_cubes(rt: HostRuntime) -> Result<(), Fail> {
+    let beside = facets_from(&Plain, rt.alloc(), cube(0, 0, 0), cube(2, 0, 0))?;
+    assert_eq!(rt; beside.as_slice(), [at(1, 0, 0)].as_slice());
+    let corner = facets_from(&Plain, rt.alloc(), cube(0, 0, 0), cube(2, 2, 2))?;
     assert_eq!(rt;
-        three.as_slice(),
+        corner.as_slice(),
         [at(0, 0, 1), at(0, 1, 0), at(1, 0, 0)].as_slice()
     );
-    let none = facets_from(&Plain, alloc, &cube, &inside)?;
-    assert_eq!(rt; none.len(), 0);
+    let overlapping = facets_from(&Plain, rt.alloc(), cube(0, 0, 0), cube(1, 1, 1))?;
+    assert_eq!(rt; overlapping.len(), 0);
     Ok(())
 }
 
 #[test]
 fn facets_of_lid_and_slab(rt: HostRuntime) -> Result<(), Fail> {
-    let alloc = rt.alloc();
-    let lid = boxed(alloc, at(0, 0, 2), at(2, 2, 3))?.ok_or("a lid")?;
-    let slab = boxed(alloc, at(-1, -1, -1), at(3, 3, 0))?.ok_or("a slab")?;
-    let facets = facets_from(&Plain, alloc, &lid, &slab)?;
+    let lid = Corners {
+        low: at(0, 0, 2),
+        high: at(2, 2, 3),
+    };
+    let slab = Corners {
+        low: at(-1, -1, -1),
+        high: at(3, 3, 0),
+    };
+    let facets = facets_from(&Plain, rt.alloc(), lid, slab)?;
     assert_eq!(rt;
         facets.as_slice(),
         [at(-2, 0, -3), at(0, -2, -3), at(0, 2, -3), at(2, 0, -3)].as_slice()
     );
-    assert!(rt; blocks(facets.as_slice(), at(0, 0, -1)));
-    assert!(rt; !blocks(facets.as_slice(), at(3, 0, -2)));
+    Ok(())
+}
+
+#[test]
+fn blocked_by_a_cube(rt: HostRuntime) -> Result<(), Fail> {
+    let facets = facets_from(&Plain, rt.alloc(), cube(0, 0, 0), cube(2, 0, 0))?;
+    assert!(rt; blocks(facets.as_slice(), at(1, 0, 0)));
+    assert!(rt; !blocks(facets.as_slice(), at(0, 1, 0)));
+    assert!(rt; !blocks(facets.as_slice(), at(-1, 0, 0)));
     Ok(())
 }
 
 #[test]
 fn walls_between_cubes(rt: HostRuntime) -> Result<(), Fail> {
-    let alloc = rt.alloc();
-    let cube = boxed(alloc, at(0, 0, 0), at(2, 2, 2))?.ok_or("a cube")?;
-    let beside = boxed(alloc, at(2, 0, 0), at(4, 2, 2))?.ok_or("a cube")?;
-    assert!(rt; separates(at(1, 0, 0), &cube, &beside));
-    assert!(rt; !separates(at(0, 1, 0), &cube, &beside));
-    assert!(rt; !separates(at(0, 0, 0), &cube, &beside));
-    assert!(rt; !separates(at(1, 0, 0), &beside, &cube));
-    let facets = facets_from(&Plain, alloc, &cube, &beside)?;
-    assert!(rt; blocks(facets.as_slice(), at(1, 0, 0)));
-    assert!(rt; !blocks(facets.as_slice(), at(0, 1, 0)));
-    assert!(rt; !blocks(facets.as_slice(), at(-1, 0, 0)));
+    let p = boxed(rt.alloc(), cube(0, 0, 0))?;
+    let q = boxed(rt.alloc(), cube(2, 0, 0))?;
+    assert!(rt; separates(at(1, 0, 0), &p, &q));
+    assert!(rt; !separates(at(0, 1, 0), &p, &q));
+    assert!(rt; !separates(at(0, 0, 0), &p, &q));
+    assert!(rt; !separates(at(1, 0, 0), &q, &p));
     Ok(())
 }

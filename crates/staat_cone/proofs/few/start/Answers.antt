@@ -1,8 +1,6 @@
 use Rattle.std.proofs.Common.{subst, sym, ◌∷◌, [], Contains}
 use Rattle.std.proofs.lemmas.List.Elements.{Contains-append_left, Contains-push}
-use Rattle.staat_vec.specs.declared.vector.V3.{V3}
 use Rattle.staat_model.proofs.Differences.{span_from_three}
-use Rattle.staat_cone.specs.Few.{IsGrown}
 use Rattle.staat_cone.proofs.Growing.{grown_start, grown_by}
 use Rattle.staat_cone.proofs.few.start.Goals as goal
 
