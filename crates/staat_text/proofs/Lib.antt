@@ -1,2 +1,4 @@
 pub mod PartLines
+pub mod GraphLines
+pub mod OneGraphText
 mod TestParts

@@ -1,8 +1,11 @@
 //! The texts that the program prints.
 #![tactic(auto)]
 
+mod graphs;
+pub mod laws;
 mod parts;
 
+pub use graphs::graph_text;
 pub use parts::{look_text, parts_text};
 
 #[cfg(test)]

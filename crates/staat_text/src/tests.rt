@@ -1,10 +1,11 @@
-// The text at assemblies written out by hand.
-ghost use Rattle.std.specs.Prelude.{◌≡◌, IfOk};
+// The texts at assemblies and graphs written out by hand.
+ghost use Rattle.std.specs.Prelude.{◌≡◌, ◌≤◌, IfOk};
 ghost use Rattle.staat_model.specs.Pieces.{IsPiece};
 
-use crate::{look_text, parts_text};
+use crate::{graph_text, look_text, parts_text};
+use staat_graph::Graph;
 use staat_model::{Assembly, Part, Parts, Piece, Pieces, Points, Sound};
-use staat_vec::{Name, V3};
+use staat_vec::{Bytes, Name, OutOfMemory, V3};
 use std::alloc::{AllocError, Global};
 use std::test::Fail;
 
@@ -78,6 +79,58 @@ fn a_sound_assembly_is_said_to_be_sound(rt: HostRuntime) -> Result<(), Fail> {
     assert_eq!(rt;
         text.as_slice(),
         b"part 0 pieces 1 points 8 name lid\nsound\n".as_slice()
+    );
+    Ok(())
+}
+
+// the text of the graph with these arcs
+fn shown(
+    alloc: Global,
+    parts: u32,
+    along: (i128, i128, i128),
+    arcs: &[(u32, u32)],
+) -> Result<Bytes, OutOfMemory>
+    requires { parts ≤ 32 }
+{
+    let mut rows = [0u32; 32];
+    for (from, to) in arcs {
+        if *from < 32 && *to < 32 {
+            rows[*from as usize] |= 1 << *to;
+        }
+    }
+    let (x, y, z) = along;
+    graph_text(alloc, parts, V3 { x, y, z }, &Graph { rows })
+}
+
+#[test]
+fn a_line_for_each_arc_and_each_group(rt: HostRuntime) -> Result<(), Fail> {
+    let alloc = rt.alloc();
+    let text = shown(alloc, 3, (0, 0, 1), &[(1, 2), (0, 2), (1, 0)])?;
+    assert_eq!(rt;
+        text.as_slice(),
+        b"along 0 0 1\narc 0 2\narc 1 0\narc 1 2\ngroup 0\ngroup 1\ngroup 2\n".as_slice()
+    );
+    let text = shown(alloc, 2, (1, 0, 0), &[(0, 1), (1, 0)])?;
+    assert_eq!(rt;
+        text.as_slice(),
+        b"along 1 0 0\narc 0 1\narc 1 0\ngroup 0 1\n".as_slice()
+    );
+    let text = shown(alloc, 2, (0, 1, 0), &[])?;
+    assert_eq!(rt;
+        text.as_slice(),
+        b"along 0 1 0\ngroup 0\ngroup 1\n".as_slice()
+    );
+    Ok(())
+}
+
+#[test]
+fn arcs_among_the_parts_alone(rt: HostRuntime) -> Result<(), Fail> {
+    let alloc = rt.alloc();
+    let along = (-9444732965739290427392, 0, -1);
+    let text = shown(alloc, 3, along, &[(0, 2), (2, 0), (1, 3), (3, 1)])?;
+    assert_eq!(rt;
+        text.as_slice(),
+        b"along -9444732965739290427392 0 -1\narc 0 2\narc 2 0\ngroup 0 2\ngroup 1\n".as_slice()
     );
     Ok(())
 }

@@ -85,6 +85,11 @@ cause_from holds failed opened place before mid after (fault.TooLong name) le h 
 cause_from holds failed opened place before mid after fault.WriteFault le h = h
 cause_from holds failed opened place before mid after f le h = h
 
+-- what holds of a fault holds of the answer with it
+pub failed_with : {X : Type 0} (P : Fault → Type 0) (f : Fault) (r : Result X Fault) → P f → IsErrAnd r (λ e. e ≡ f) → IfErr r P
+failed_with P f (Ok x) h fails = absurd fails
+failed_with P f (Err e) h fails = subst P (sym fails) h
+
 -- a fault of a later step
 pub cause_later : {X : Type 0} (holds held : Option Files) (failed opened : Option (List ℕ)) (place : Option ℕ) (before mid after : ℕ) (f : Fault) (r : Result X Fault) → before ≤ mid → held ≡ holds → HasCause (shelf_over held mid after failed opened place) f → IsErrAnd r (λ e. e ≡ f) → IfErr r (HasCause (shelf_over holds before after failed opened place))
 cause_later holds held failed opened place before mid after f (Ok x) le same cause fails = absurd fails

@@ -6,3 +6,5 @@ pub mod RunLemmas
 pub mod Asking
 pub mod Inputting
 pub mod Testing
+pub mod Counting
+pub mod SameGraph

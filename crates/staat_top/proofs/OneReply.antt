@@ -1,14 +1,21 @@
 -- There is one reply to a request over some files, and none where a file that is reached is not there.
-use Rattle.std.proofs.Common.{◌≡◌, ℕ, ◌<◌, ◌≤◌, List, [], ◌∷◌, length, Option, Some, None, refl, ap, sym, ◌∙◌, subst, arith, inl, inr}
+use Rattle.std.proofs.Common.{◌≡◌, ◌↔◌, ℕ, ◌<◌, ◌≤◌, List, [], ◌∷◌, length, Option, Some, None, refl, ap, sym, ◌∙◌, subst, arith, inl, inr}
 use Rattle.std.specs.Prelude.{Ok, Err}
 use Rattle.staat_vec.proofs.Unique.{IsLeast-unique}
 use Rattle.staat_model.specs.declared.assembly.Part.{Part}
 use Rattle.staat_model.specs.declared.certificate.Arc.{Arc}
 use Rattle.staat_model.specs.Assemblies.{IsSound}
 use Rattle.staat_model.specs.Certificates.{arc_cmp}
+use Rattle.staat_model.specs.declared.set.PartSet.{PartSet}
+use Rattle.staat_model.specs.Sets.{Has}
+use Rattle.staat_model.proofs.OneTable.{ArePlanes-unique}
 use Rattle.staat_model.proofs.Orders.{arc_exact, arc_total}
+use Rattle.staat_graph.specs.Blocking.{ShowsBlocking}
+use Rattle.staat_graph.specs.Graphs.{HasArc}
+use Rattle.staat_planes.specs.declared.table.TheConstants.{MOST_PLANES}
+use Rattle.staat_top.proofs.SameGraph.{same_graph_text}
 use Rattle.staat_asm.specs.Overlaps.{IsFirstOverlap, IsOverlap}
-use Rattle.staat_fault.specs.declared.fault.Fault.TheVariants.{Overlap}
+use Rattle.staat_fault.specs.declared.fault.Fault.TheVariants.{Overlap, TooManyPlanes}
 use Rattle.staat_mesh.specs.declared.refusal.MeshRefusal.{MeshRefusal}
 use Rattle.staat_vec.specs.declared.vector.V3.{V3}
 use Rattle.staat_mesh.specs.Polygons.{mesh}
@@ -18,13 +25,14 @@ use Rattle.staat_edge.specs.Files.{bytes_of}
 use Rattle.staat_words.specs.declared.request.Input.{Input}
 use Rattle.staat_words.specs.declared.request.Input.TheVariants as input
 use Rattle.staat_words.specs.declared.request.Request.{Request}
-use Rattle.staat_words.specs.declared.request.Request.TheVariants.{Pair, Look}
+use Rattle.staat_words.specs.declared.request.Request.TheVariants.{Pair, Look, Graph}
 use Rattle.staat_top.specs.declared.read.TheConstants.{FILE_LIMIT}
-use Rattle.staat_top.specs.Steps.{Files, End, replies, reads, Found, gives, stops, Then, Next, Each, Reply, refused, IsTaken, to_read, too_long, taken}
+use Rattle.staat_top.specs.Steps.{Files, End, replies, reads, Found, gives, stops, Then, Next, Each, Reply, answered, refused, IsTaken, to_read, too_long, taken}
 use Rattle.staat_top.specs.Refusals.{off_fault, mesh_fault, manifest_fault}
 use Rattle.staat_top.specs.Pieces.{IsPieceOf, SaysPiece, no_file, no_piece, piece}
 use Rattle.staat_top.specs.Inputs.{NamedPart, SaysListing, no_listing, listing, IsListingOf, IsPartOf, IsInputOf, part_of}
 use Rattle.staat_top.specs.Assembling.{IsTested, overlapping, sound, IsSoundOf}
+use Rattle.staat_top.specs.Graphing.{AreCounted, IsGraphed, all_parts, few, too_many}
 use Rattle.staat_top.specs.Replies.{IsJudged, free, not_shown, Ends}
 
 -- the step does not stand at a file that is to be read
@@ -258,6 +266,38 @@ reply_at r s e = cc
 reads_at : (name : List ℕ) (r : Reply) → reads name ≡ replies r → ⊥
 reads_at name r e = cc
 
+counted_step : (files : Files) (parts : List Part) (limit : ℕ) → IsStep files (AreCounted parts limit)
+counted_step files parts limit = record { one = λ f g a b sf sg. one f g a b; held = λ name f at lacks step settled. no_read name at }
+  where
+    one : (f g : Found (List V3)) → AreCounted parts limit f → AreCounted parts limit g → f ≡ g
+    one f g (too_many ps are many e) (too_many qs also most d) =
+        let same : ps ≡ qs = ArePlanes-unique parts (all_parts parts) ps qs are also in
+        e ∙ ap (λ (xs : List V3). stops (replies (refused (TooManyPlanes (length xs))))) same ∙ sym d
+    one f g (too_many ps are many e) (few qs also most d) =
+        let same : ps ≡ qs = ArePlanes-unique parts (all_parts parts) ps qs are also in absurd (omega (arith, many, most, ap length same))
+    one f g (few ps are many e) (too_many qs also most d) =
+        let same : ps ≡ qs = ArePlanes-unique parts (all_parts parts) ps qs are also in absurd (omega (arith, many, most, ap length same))
+    one f g (few ps are many e) (few qs also most d) = e ∙ ap gives (ArePlanes-unique parts (all_parts parts) ps qs are also) ∙ sym d
+
+    no_read : (name : List ℕ) → AreCounted parts limit (stops (reads name)) → ⊥
+    no_read name (too_many ps are many e) = absurd cc
+    no_read name (few ps are most e) = absurd cc
+
+-- two graphs that show the blocking along d have the same arcs
+same_arcs : (parts : List Part) (d : V3) (w : PartSet) (rows others : List ℕ) → ShowsBlocking parts d w rows → ShowsBlocking parts d w others → (a b : ℕ) → Has w a → Has w b → HasArc rows a b ↔ HasArc others a b
+same_arcs parts d w rows others one other a b a_in b_in = (λ h. (other a b a_in b_in).1 ((one a b a_in b_in).0 h), λ h. (one a b a_in b_in).1 ((other a b a_in b_in).0 h))
+
+graphed_one : (parts : List Part) (d : V3) (r s : Reply) → IsGraphed parts d (replies r) → IsGraphed parts d (replies s) → r ≡ s
+graphed_one parts d r s a b =
+    let same : a.text ≡ b.text = same_graph_text (length parts) d a.rows b.rows a.text b.text (same_arcs parts d (all_parts parts) a.rows b.rows a.shows b.shows) a.text_is b.text_is in
+    reply_at r s (a.is ∙ ap (λ (t : List ℕ). replies (answered 0 t)) same ∙ sym b.is)
+
+graphed_rest : (files : Files) (parts : List Part) (d : V3) → IsRest files (IsGraphed parts d)
+graphed_rest files parts d = record {
+  one = graphed_one parts d;
+  held = λ name r at lacks graphed. reads_at name _ at.is;
+}
+
 judged_one : (p q : List V3) (d n : V3) (r s : Reply) → IsJudged p q d n (replies r) → IsJudged p q d n (replies s) → r ≡ s
 judged_one p q d n r s (free a e) (free b f) = reply_at r s (e ∙ sym f)
 judged_one p q d n r s (free a e) (not_shown b f) = absurd (b a)
@@ -286,3 +326,5 @@ ends_rest (Some (Look digits asked)) files = then_rest files (IsSoundOf files di
   one = λ r s a b. reply_at r s (a ∙ sym b);
   held = λ name r a lacks b. reads_at name _ a;
 })
+ends_rest (Some (Graph digits asked along)) files = then_rest files (IsSoundOf files digits asked) _ (sound_step files digits asked)
+    (λ parts. then_rest files (AreCounted parts MOST_PLANES) _ (counted_step files parts MOST_PLANES) (λ planes. graphed_rest files parts along))

@@ -9,7 +9,7 @@ use Rattle.staat_model.proofs.WallLaws as walls
 use Rattle.staat_words.specs.declared.request.Input.{Input}
 use Rattle.staat_words.specs.declared.request.Input.TheVariants as input
 use Rattle.staat_words.specs.declared.request.Request.{Request}
-use Rattle.staat_words.specs.declared.request.Request.TheVariants.{Pair, Look}
+use Rattle.staat_words.specs.declared.request.Request.TheVariants.{Pair, Look, Graph}
 use Rattle.staat_top.specs.Steps.{Files, Next, Each, replies, Found, gives, stops, Reply, answered, to_read, too_long, taken}
 use Rattle.staat_off.specs.declared.refusal.OffRefusal.{OffRefusal}
 use Rattle.staat_off.specs.declared.refusal.OffRefusal.TheVariants as off
@@ -24,6 +24,8 @@ use Rattle.staat_top.specs.Refusals.{off_fault, mesh_fault, manifest_fault}
 use Rattle.staat_top.specs.Pieces.{IsPieceOf, SaysPiece, no_file, no_piece, piece}
 use Rattle.staat_top.specs.Inputs.{NamedPart, SaysListing, no_listing, listing, IsListingOf, IsPartOf, IsInputOf, part_of}
 use Rattle.staat_top.specs.Assembling.{IsTested, overlapping, sound, IsSoundOf}
+use Rattle.staat_planes.specs.declared.table.TheConstants.{MOST_PLANES}
+use Rattle.staat_top.specs.Graphing.{AreCounted, few, too_many}
 use Rattle.staat_top.specs.Replies.{free, not_shown, IsReply, IsRight}
 
 -- a piece that the rules of meshes give is solid
@@ -139,11 +141,18 @@ sound_parts : (files : Files) (digits : ℕ) (asked : Input) (built : List Part)
 sound_parts files digits asked built (inl (at, stopped, e)) = absurd cc
 sound_parts files digits asked built (inr (parts, found, test)) = (parts, found, (tested_gives parts built test).1)
 
--- a wall that is shown keeps the pieces apart, a look gives sound parts, and no other reply has status 0
+counted_late : (parts : List Part) (limit : ℕ) → StopsLate (AreCounted parts limit)
+counted_late parts limit text (too_many planes are many e) = absurd (omega (arith, stopped _ _ _ _ refl refl e))
+counted_late parts limit text (few planes are most e) = absurd cc
+
+-- a wall that is shown keeps the pieces apart, a look or a graph gives sound parts, and no other reply has status 0
 pub status_is_right : (asked : Option Request) (files : Files) (text : List ℕ) → IsReply asked files (answered 0 text) → IsRight asked files
 status_is_right None files text e = absurd (omega (arith, same_status _ _ e))
 status_is_right (Some (Look digits asked)) files text (inl stopped) = absurd (sound_late files digits asked text stopped)
 status_is_right (Some (Look digits asked)) files text (inr (built, found, e)) = sound_parts files digits asked built found
+status_is_right (Some (Graph digits asked along)) files text (inl stopped) = absurd (sound_late files digits asked text stopped)
+status_is_right (Some (Graph digits asked along)) files text (inr (built, found, inl stopped)) = absurd (counted_late built MOST_PLANES text stopped)
+status_is_right (Some (Graph digits asked along)) files text (inr (built, found, inr (planes, counted, graphed))) = sound_parts files digits asked built found
 status_is_right (Some (Pair digits along wall first second)) files text (inl stopped) = absurd (stops_late files digits first text stopped)
 status_is_right (Some (Pair digits along wall first second)) files text (inr (p, first_gives, inl stopped)) = absurd (stops_late files digits second text stopped)
 status_is_right (Some (Pair digits along wall first second)) files text (inr (p, first_gives, inr (q, second_gives, free shown e))) =

@@ -4,7 +4,9 @@ pub mod Pieces
 pub mod Inputs
 pub mod Shapes
 pub mod Assembling
+pub mod Graphing
 pub mod Replies
 pub mod Runs
 pub mod PairRequests
 pub mod LookRequests
+pub mod GraphRequests

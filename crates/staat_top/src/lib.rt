@@ -2,9 +2,11 @@
 #![tactic(auto)]
 
 mod answer;
+mod graph;
 mod input;
 mod look;
 mod pair;
+mod planes;
 mod print;
 mod read;
 mod refusals;

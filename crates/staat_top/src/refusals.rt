@@ -1,12 +1,13 @@
 // The faults that the refusals of the readers are.
 ghost use Rattle.std.specs.Prelude.{◌≡◌};
-ghost use Rattle.staat_top.specs.Refusals.{asm_fault, manifest_fault, mesh_fault, off_fault};
+ghost use Rattle.staat_top.specs.Refusals.{asm_fault, manifest_fault, mesh_fault, off_fault, planes_fault};
 
 use staat_asm::AsmRefusal;
 use staat_fault::Fault;
 use staat_manifest::ManifestRefusal;
 use staat_mesh::MeshRefusal;
 use staat_off::OffRefusal;
+use staat_planes::PlanesRefusal;
 use staat_vec::Name;
 
 /// The fault of a file that is no OFF file.
@@ -63,5 +64,15 @@ pub fn asm_fault(refusal: AsmRefusal) -> Fault
     match refusal {
         AsmRefusal::Overlap(a, i, b, j) => Fault::Overlap(a, i, b, j),
         AsmRefusal::OutOfMemory => Fault::OutOfMemory,
+    }
+}
+
+/// The fault of an assembly with too many planes.
+pub fn planes_fault(refusal: PlanesRefusal) -> Fault
+    ensures { result ≡ planes_fault refusal }
+{
+    match refusal {
+        PlanesRefusal::TooManyPlanes(found) => Fault::TooManyPlanes(found),
+        PlanesRefusal::OutOfMemory => Fault::OutOfMemory,
     }
 }

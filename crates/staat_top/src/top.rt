@@ -5,6 +5,7 @@ ghost use Rattle.staat_fault.specs.declared.fault.Fault.TheVariants as faults;
 ghost use Rattle.staat_top.specs.Runs.{IsAnswer, IsExplained, Ran, shelf_over, sink_over};
 
 use crate::answer::Answer;
+use crate::graph::graph;
 use crate::look::look;
 use crate::pair::{PairOfFiles, pair};
 use crate::print::{print, refuse};
@@ -48,6 +49,13 @@ fn answer_to<H: Shelf>(alloc: Global, words: &Vec<String>, shelf: &mut H) -> Res
             pair(alloc, asked, shelf)
         }
         Ok(Request::Look { digits, input }) => look(alloc, digits, &input, shelf),
+        Ok(
+            Request::Graph {
+                digits,
+                input,
+                along,
+            },
+        ) => graph(alloc, digits, &input, along, shelf),
         Err(RequestRefusal::Usage) => Err(Fault::Usage),
         Err(RequestRefusal::OutOfMemory) => Err(Fault::OutOfMemory),
     }

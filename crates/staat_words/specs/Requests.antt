@@ -1,15 +1,15 @@
 -- What a list of words asks for: a function of the words, by what `clap` states of them.
-use Rattle.std.specs.Prelude.{◌≡◌, ◌≤◌, ℕ, nat_le, nat_lt, List, length, Option, Some, None, Result, Ok, Err, ◌&&◌, if◌then◌else◌, option_and_then, unwrap_or, codes, is_some, ⊤}
+use Rattle.std.specs.Prelude.{◌≡◌, ◌≢◌, ◌≤◌, ℕ, nat_le, nat_lt, List, length, Option, Some, None, Result, Ok, Err, ◌&&◌, if◌then◌else◌, option_and_then, unwrap_or, codes, is_some, ⊤}
 use Rattle.std.specs.Str.{bytes_eq}
 use Rattle.clap.specs.Walk.{Row, Text, all_of, first_of}
 use Rattle.staat_vec.specs.declared.vector.V3.{V3}
 use Rattle.staat_vec.specs.declared.vector.TheConstants.{DIRECTION, NORMAL}
-use Rattle.staat_vec.specs.Vectors.{IsWithin}
+use Rattle.staat_vec.specs.Vectors.{IsWithin, origin}
 use Rattle.staat_number.specs.Numbers.{natural_within}
 use Rattle.staat_words.specs.declared.request.Input.{Input}
 use Rattle.staat_words.specs.declared.request.Input.TheVariants.{Manifest, Files}
 use Rattle.staat_words.specs.declared.request.Request.{Request}
-use Rattle.staat_words.specs.declared.request.Request.TheVariants.{Pair, Look}
+use Rattle.staat_words.specs.declared.request.Request.TheVariants.{Pair, Look, Graph}
 use Rattle.staat_words.specs.declared.request.RequestRefusal.{RequestRefusal}
 use Rattle.staat_words.specs.declared.request.RequestRefusal.TheVariants.{Usage, OutOfMemory}
 use Rattle.staat_words.specs.Spelled.{◌>>=◌, vector_within}
@@ -50,12 +50,20 @@ look_in rows = do
   input ← input_in rows
   Some (Look digits input)
 
+unfoldable pub graph_in : List Row → Option Request
+graph_in rows = do
+  digits ← digits_in rows
+  input ← input_in rows
+  along ← vector_in (codes "along") DIRECTION rows
+  Some (Graph digits input along)
+
 -- the request of a subcommand and its matches: a line for each command
 unfoldable pub request_in : Option (Text × List Row) → Option Request
 request_in None = None
 request_in (Some found) =
     if bytes_eq found.0 (codes "pair") then pair_in found.1
-    else (if bytes_eq found.0 (codes "look") then look_in found.1 else None)
+    else (if bytes_eq found.0 (codes "look") then look_in found.1
+    else (if bytes_eq found.0 (codes "graph") then graph_in found.1 else None))
 
 -- The request of the words: none is a usage fault.
 unfoldable pub request : List Text → Option Request
@@ -77,7 +85,8 @@ abbrev pub IsInput : Input → Type 0
 IsInput (Manifest name) = ⊤
 IsInput (Files names) = (1 ≤ length names) × (length names ≤ 32)
 
--- how great the numbers of a request are at most
+-- how great the numbers of a request are at most, and that a direction is not zero
 abbrev pub HasBounds : Request → Type 0
-HasBounds (Pair digits along wall first second) = (digits ≤ 6) × IsWithin DIRECTION along × IsWithin NORMAL wall
+HasBounds (Pair digits along wall first second) = (digits ≤ 6) × IsWithin DIRECTION along × IsWithin NORMAL wall × (along ≢ origin)
 HasBounds (Look digits input) = (digits ≤ 6) × IsInput input
+HasBounds (Graph digits input along) = (digits ≤ 6) × IsInput input × IsWithin DIRECTION along × (along ≢ origin)

@@ -30,6 +30,13 @@ pub enum Request {
         digits: u32,
         input: Input,
     },
+    /// Which parts block which along a direction.
+    Graph {
+        digits: u32,
+        input: Input,
+        /// The direction in which parts move: not zero, at most `DIRECTION` in a component.
+        along: V3,
+    },
 }
 
 /// Why words give no request.

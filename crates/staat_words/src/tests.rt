@@ -15,7 +15,7 @@ fn asked(alloc: Global, words: &[&str]) -> Result<Result<Request, RequestRefusal
 #[test]
 fn words_are_taken_or_a_usage_fault(rt: HostRuntime) -> Result<(), Fail> {
     let alloc = rt.alloc();
-    let table: [(&[&str], bool); 31] = [
+    let table: [(&[&str], bool); 40] = [
         (&["pair", "a", "b", "--along=0,0,1", "--wall=1,0,0"], true),
         (&["pair", "--wall=1,0,0", "a", "b", "--along=0,0,1"], true),
         (
@@ -96,6 +96,15 @@ fn words_are_taken_or_a_usage_fault(rt: HostRuntime) -> Result<(), Fail> {
         (&["look", "--digits=1", "--digits=1", "a"], false),
         (&["look", "-h", "a"], false),
         (&["look", "help"], true),
+        (&["graph", "a", "--along=0,0,1", "b"], true),
+        (&["graph", "--manifest=m", "--along=-1,0,0"], true),
+        (&["graph", "a", "--along=9444732965739290427392,0,0"], true),
+        (&["graph", "a", "--along=9444732965739290427393,0,0"], false),
+        (&["graph", "a", "b"], false),
+        (&["graph", "a", "--along=0,0,0"], false),
+        (&["graph", "a", "--along", "-1,0,0"], false),
+        (&["graph", "--manifest=m", "a", "--along=0,0,1"], false),
+        (&["graph", "--along=0,0,1"], false),
         (&["help"], false),
         (&[], false),
     ];
@@ -107,6 +116,36 @@ fn words_are_taken_or_a_usage_fault(rt: HostRuntime) -> Result<(), Fail> {
         }
     }
     Ok(())
+}
+
+#[test]
+fn at_most_thirty_two_files(rt: HostRuntime) -> Result<(), Fail> {
+    let alloc = rt.alloc();
+    for (count, taken) in [(32, true), (33, false)] {
+        let mut list = Vec::new(alloc);
+        list.push(String::from_str(alloc, "graph")?)?;
+        list.push(String::from_str(alloc, "--along=0,0,1")?)?;
+        for _ in 0..count {
+            list.push(String::from_str(alloc, "a")?)?;
+        }
+        let answer = request_of(alloc, &list);
+        assert_eq!(rt; answer.is_ok(), taken, "at {count} files");
+    }
+    Ok(())
+}
+
+// What the parts come from, in words.
+fn source(alloc: Global, input: &Input) -> Result<String, AllocError> {
+    match input {
+        Input::Files(files) => {
+            let count = files.as_slice().len();
+            format!(in alloc; "{count} files")
+        }
+        Input::Manifest(list) => {
+            let list = list.as_str();
+            format!(in alloc; "the part list {list}")
+        }
+    }
 }
 
 // A request in words.
@@ -125,19 +164,18 @@ fn shown(alloc: Global, request: &Request) -> Result<String, AllocError> {
             let second = second.as_str();
             format!(in alloc; "{digits}: {first} and {second} along {x} {y} {z}, wall {u} {v} {w}")
         }
-        Request::Look {
-            digits,
-            input: Input::Files(files),
-        } => {
-            let count = files.as_slice().len();
-            format!(in alloc; "{digits}: {count} files")
+        Request::Look { digits, input } => {
+            let input = source(alloc, input)?;
+            format!(in alloc; "{digits}: {input}")
         }
-        Request::Look {
+        Request::Graph {
             digits,
-            input: Input::Manifest(list),
+            input,
+            along,
         } => {
-            let list = list.as_str();
-            format!(in alloc; "{digits}: the part list {list}")
+            let V3 { x, y, z } = *along;
+            let input = source(alloc, input)?;
+            format!(in alloc; "{digits}: {input} along {x} {y} {z}")
         }
     }
 }
@@ -145,7 +183,7 @@ fn shown(alloc: Global, request: &Request) -> Result<String, AllocError> {
 #[test]
 fn a_request_has_the_values_of_its_words(rt: HostRuntime) -> Result<(), Fail> {
     let alloc = rt.alloc();
-    let table: [(&[&str], &str); 3] = [
+    let table: [(&[&str], &str); 5] = [
         (
             &[
                 "pair",
@@ -159,6 +197,14 @@ fn a_request_has_the_values_of_its_words(rt: HostRuntime) -> Result<(), Fail> {
         ),
         (&["look", "a", "--digits=3", "b", "--", "-h"], "3: 3 files"),
         (&["look", "--manifest=m.json"], "0: the part list m.json"),
+        (
+            &["graph", "a", "--along=-1,0,22", "b", "--digits=1"],
+            "1: 2 files along -1 0 22",
+        ),
+        (
+            &["graph", "--manifest=m.json", "--along=0,5,0"],
+            "0: the part list m.json along 0 5 0",
+        ),
     ];
     for (words, text) in table {
         let answer = asked(alloc, words)?;

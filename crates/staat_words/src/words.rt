@@ -2,7 +2,7 @@
 ghost use Rattle.std.specs.Prelude.{◌≡◌, map, string_bytes, IfOk, IsErrOf, true, false};
 ghost use Rattle.clap.specs.Words.{found_of, rows_of, subcommand_rows_of};
 ghost use Rattle.staat_words.specs.Command.{is_taken, matches as matches_at};
-ghost use Rattle.staat_words.specs.Requests.{Answers, HasBounds, look_in, pair_in, request, request_in};
+ghost use Rattle.staat_words.specs.Requests.{Answers, HasBounds, graph_in, look_in, pair_in, request, request_in};
 
 use crate::arguments::{digits_of, input_of, name_of, value_of, vector_in};
 use crate::command::staat_command;
@@ -41,6 +41,21 @@ fn look_of(alloc: Global, matches: &ArgMatches<'_>) -> Result<Request, RequestRe
     Ok(Request::Look { digits, input })
 }
 
+#[tactic(auto, unfolding(crate::specs::Requests::graph_in))]
+fn graph_of(alloc: Global, matches: &ArgMatches<'_>) -> Result<Request, RequestRefusal>
+    ensures answers { Answers (graph_in (rows_of (found_of matches.now))) result }
+    ensures bounds { IfOk result HasBounds }
+{
+    let digits = digits_of(matches).ok_or(RequestRefusal::Usage)?;
+    let input = input_of(alloc, matches)?;
+    let along = vector_in(matches, "along", DIRECTION).ok_or(RequestRefusal::Usage)?;
+    Ok(Request::Graph {
+        digits,
+        input,
+        along,
+    })
+}
+
 // The matches of words that `clap` takes.
 fn matches_of<'a>(alloc: Global, words: &'a [String]) -> Result<ArgMatches<'a>, RequestRefusal>
     ensures taken { IfOk result (λ m. is_taken (map string_bytes words.entry.now) ≡ true) }
@@ -69,6 +84,8 @@ fn request_from(alloc: Global, matches: &ArgMatches<'_>) -> Result<Request, Requ
                 pair_of(alloc, inner)
             } else if name == "look" {
                 look_of(alloc, inner)
+            } else if name == "graph" {
+                graph_of(alloc, inner)
             } else {
                 Err(RequestRefusal::Usage)
             }

@@ -1,0 +1,105 @@
+-- The arcs of a table at a direction are those of the blocking graph of each assembly that it was made from.
+use Rattle.std.proofs.Common.{◌≡◌, ◌≢◌, ◌↔◌, ◌⊎◌, inl, inr, ℕ, ◌+◌, ◌<◌, ◌≤◌, get_or, arith, ap, sym, subst, ◌∙◌, refl, pos, ◌<ℤ◌, List, length, All, Contains}
+use Rattle.std.specs.Prelude.{Option, Some, None, slice_get, slice_set, option_and_then, option_map, unwrap_or}
+use Rattle.std.proofs.lemmas.Option.{option_and_then_some, slice_get_within}
+use Rattle.staat_vec.specs.declared.vector.V3.{V3}
+use Rattle.staat_vec.specs.Lists.{Lists}
+use Rattle.staat_vec.specs.Vectors.{dot, vector_cmp}
+use Rattle.staat_model.specs.declared.assembly.Part.{Part}
+use Rattle.staat_model.specs.declared.certificate.Arc.{Arc}
+use Rattle.staat_model.specs.Assemblies.{HoldsAt, IsAssembly, piece_at, piece_count}
+use Rattle.staat_model.specs.Facets.{IsFacet}
+use Rattle.staat_model.specs.Meeting.{Meets}
+use Rattle.staat_model.specs.Removal.{Blocks, MeetsAlong}
+use Rattle.staat_model.specs.Sets.{Has}
+use Rattle.staat_model.proofs.GraphLemmas.{piece_is}
+use Rattle.std.specs.Int.{bit_at}
+use Rattle.std.proofs.lemmas.List.{get_or_past}
+use Rattle.std.proofs.lemmas.Nat.Bits.{bit_at-zero}
+use Rattle.staat_graph.specs.Blocking.{ShowsBlocking}
+use Rattle.staat_graph.specs.Graphs.{HasArc}
+use Rattle.staat_graph.proofs.Arcs.{row_set}
+use Rattle.staat_model.specs.declared.set.PartSet.{PartSet}
+use Rattle.staat_cone.proofs.Ends.{meets_by_list}
+use Rattle.staat_planes.specs.Tables.{BlocksIn, IsAcross, IsAhead, IsTable, Table, WasMadeFrom, facets_of, pieces_of}
+
+pub there_is : (parts : List Part) (a i : ℕ) (p : List V3) → piece_at parts a i ≡ Some p → i < piece_count parts a
+there_is parts a i p e =
+    option_and_then_some {P = i < piece_count parts a} (λ part. slice_get part.pieces i) (slice_get parts a) p e
+    (λ part at inside. subst (λ o. i < unwrap_or (option_map (λ part. length part.pieces) o) 0) (sym at) (slice_get_within part.pieces i p inside))
+
+pub part_there : (parts : List Part) (a i : ℕ) (p : List V3) → piece_at parts a i ≡ Some p → a < length parts
+part_there parts a i p e =
+    option_and_then_some {P = a < length parts} (λ part. slice_get part.pieces i) (slice_get parts a) p e
+    (λ part found inside. slice_get_within parts a part found)
+
+same_some : (p q : List V3) → Some p ≡ Some q → p ≡ q
+same_some p q e = cc
+
+-- the two pieces of an arc meet exactly where d leads ahead of their facets
+meets_at : (parts : List Part) (t : Table) (d : V3) (arc : Arc) → IsAssembly parts → HoldsAt parts arc (λ p q. Lists vector_cmp (IsFacet p q) (facets_of t arc)) → MeetsAlong parts d arc ↔ All (λ n. pos 0 <ℤ dot n d) (facets_of t arc)
+meets_at parts t d arc is h =
+    let law = meets_by_list h.p h.q (facets_of t arc) d (piece_is parts arc.a arc.i h.p is h.p_is) (piece_is parts arc.b arc.j h.q is h.q_is) (λ n. (h.holds.each n, h.holds.all n)) in (
+      (λ m.
+          let first : m.p ≡ h.p = same_some m.p h.p (sym m.p_is ∙ h.p_is) in
+          let second : m.q ≡ h.q = same_some m.q h.q (sym m.q_is ∙ h.q_is) in
+          law.0 (subst (λ p. Meets p h.q d) first (subst (λ q. Meets m.p q d) second m.holds))),
+      λ ahead. record { p = h.p; q = h.q; p_is = h.p_is; q_is = h.q_is; holds = law.1 ahead },
+    )
+
+pub ahead_is_blocking : (parts : List Part) (t : Table) (d : V3) (a b : ℕ) → WasMadeFrom parts t → IsAhead t d a b ↔ BlocksIn parts t.of d a b
+ahead_is_blocking parts t d a b made = (
+  λ h. record {
+    a_in = h.across.a_in;
+    b_in = h.across.b_in;
+    blocks = record {
+      i = h.i;
+      j = h.j;
+      different = h.across.different;
+      meets = (meets_at parts t d (record { a = a; i = h.i; b = b; j = h.j }) made.assembly (made.facets (record { a = a; i = h.i; b = b; j = h.j }) h.across)).1 h.ahead;
+    };
+  },
+  λ h.
+      let block = h.blocks in
+      let m = block.meets in
+      let arc : Arc = record { a = a; i = block.i; b = b; j = block.j } in
+      let across : IsAcross t arc = record {
+        a_in = h.a_in;
+        b_in = h.b_in;
+        different = block.different;
+        i_is = subst (λ n. block.i < n) (sym (made.pieces a h.a_in)) (there_is parts a block.i m.p m.p_is);
+        j_is = subst (λ n. block.j < n) (sym (made.pieces b h.b_in)) (there_is parts b block.j m.q m.q_is);
+      } in
+      record { i = block.i; j = block.j; across = across; ahead = (meets_at parts t d arc made.assembly (made.facets arc across)).0 m },
+)
+
+-- ---- rows
+
+lt_or : (a b : ℕ) → (a < b) ⊎ (b ≤ a)
+lt_or a b = grind arith
+
+none_past : (rows : List ℕ) (a b : ℕ) → length rows ≤ a → HasArc rows a b → ⊥
+none_past rows a b le h =
+    let e : bit_at (get_or rows a 0) b ≡ 0 = ap (λ r. bit_at r b) (get_or_past rows a 0 le) ∙ bit_at-zero b in
+    absurd (omega arith)
+
+pub whole_rows : (t : Table) (d : V3) (rows : List ℕ) (n : ℕ) → IsTable t → length rows ≡ 32 → 32 ≤ n → ((a b : ℕ) → a < n → HasArc rows a b ↔ IsAhead t d a b) → (a b : ℕ) → HasArc rows a b ↔ IsAhead t d a b
+whole_rows t d rows n is long le each a b = elim (lt_or a 32) [
+  | inl lt ↦ each a b (omega arith)
+  | inr past ↦ (λ h. absurd (none_past rows a b (omega arith) h), λ h. absurd (let small : a < 32 = is.small a h.across.a_in in omega arith))
+]
+
+pub arcs_are_blocking : (parts : List Part) (t : Table) (d : V3) (rows : List ℕ) → WasMadeFrom parts t → ((a b : ℕ) → HasArc rows a b ↔ IsAhead t d a b) → (a b : ℕ) → HasArc rows a b ↔ BlocksIn parts t.of d a b
+arcs_are_blocking parts t d rows made arcs a b =
+    let law = ahead_is_blocking parts t d a b made in
+    (λ h. law.0 ((arcs a b).0 h), λ h. (arcs a b).1 (law.1 h))
+
+pub shows_blocking : (parts : List Part) (t : Table) (d : V3) (rows : List ℕ) → ((a b : ℕ) → HasArc rows a b ↔ BlocksIn parts t.of d a b) → ShowsBlocking parts d t.of rows
+shows_blocking parts t d rows arcs a b a_in b_in = (λ h. ((arcs a b).0 h).blocks, λ h. (arcs a b).1 (record { a_in = a_in; b_in = b_in; blocks = h }))
+
+-- one more row
+pub row_written : (t : Table) (d : V3) (rows : List ℕ) (n word : ℕ) (met : PartSet) → length rows ≡ 32 → n < 32 → ((a b : ℕ) → a < n → HasArc rows a b ↔ IsAhead t d a b) → ((b : ℕ) → Has met b ↔ IsAhead t d n b) → ((b : ℕ) → Has met b ↔ (bit_at word b ≡ 1)) → (a b : ℕ) → a < n + 1 → HasArc (slice_set rows n word) a b ↔ IsAhead t d a b
+row_written t d rows n word met long lt before now bits a b below =
+    row_set rows n a word (IsAhead t d) (omega arith)
+    (λ q. (λ h. (now q).0 ((bits q).1 h), λ h. (bits q).0 ((now q).1 h)))
+    (λ q ne. before a q (omega arith)) b

@@ -1,0 +1,8 @@
+use Rattle.std.proofs.Common.{◌<◌, arith}
+use Rattle.staat_planes.specs.Tables.{IsAhead, pieces_of}
+use Rattle.staat_planes.proofs.NotFound.{not_found}
+use Rattle.staat_planes.proofs.table.PlaneTable.leads_between.Goals as goal
+
+pub returns : goal.returns
+returns c = not_found (IsAhead c.args.self.now c.args.d c.args.a c.args.b)
+    (λ h. c.loop-i.invariant h.i (let lt : h.i < pieces_of c.args.self.now c.args.a = h.across.i_is in omega (arith, c.pieces-i-end.ensures.is, lt)) (record { j = h.j; across = h.across; ahead = h.ahead }))

@@ -1,0 +1,12 @@
+use Rattle.std.proofs.Common.{◌<◌, arith, below_more}
+use Rattle.staat_planes.specs.Tables.{pieces_of}
+use Rattle.staat_planes.specs.Searches.{IsAheadFrom}
+use Rattle.staat_planes.proofs.NotFound.{no_more, not_found}
+use Rattle.staat_planes.proofs.table.PlaneTable.leads_from.Goals as goal
+
+pub loop-j-preserved : goal.loop-j-preserved
+loop-j-preserved c = below_more _ _ c.loop-j.invariant (no_more _ c.if-leads_ahead.ensures)
+
+pub returns : goal.returns
+returns c = not_found (IsAheadFrom c.args.self.now c.args.d c.args.a c.args.i c.args.b)
+    (λ h. c.loop-j.invariant h.j (let lt : h.j < pieces_of c.args.self.now c.args.b = h.across.j_is in omega (arith, c.pieces-j-end.ensures.is, lt)) h.ahead)

@@ -1,0 +1,22 @@
+//! Tables of the planes of a set of parts and of the facets of their pieces, and the blocking graph at any direction.
+#![tactic(auto)]
+
+mod build;
+mod facet_lists;
+mod graph;
+mod numbering;
+mod planes;
+mod refusal;
+mod steps;
+mod table;
+mod used;
+
+pub use build::tabulate;
+pub use refusal::PlanesRefusal;
+pub use steps::Steps;
+pub use table::{LEAST_PLANES, MOST_PLANES, PlaneTable};
+
+#[cfg(test)]
+mod samples;
+#[cfg(test)]
+mod tests;

@@ -1,0 +1,42 @@
+// Why there is no table of planes.
+ghost use Rattle.std.specs.Prelude.{◌≡◌};
+ghost use Rattle.staat_planes.specs.declared.refusal.PlanesRefusal.TheVariants.{OutOfMemory as NoMemory};
+
+use staat_vec::OutOfMemory;
+use std::alloc::{AllocError, AllocFailed};
+use thiserror::Error;
+
+/// Why there is no table of planes.
+#[derive(Clone, Copy, Debug, PartialEq, Eq, Error)]
+pub enum PlanesRefusal {
+    /// The parts have this many planes, which is above the limit.
+    #[error("too many planes ({0})")]
+    TooManyPlanes(u64),
+    /// There was no memory.
+    #[error("out of memory")]
+    OutOfMemory,
+}
+
+impl From<OutOfMemory> for PlanesRefusal {
+    ghost from_gives = { λ _ e. e ≡ NoMemory };
+
+    fn from(_: OutOfMemory) -> Self {
+        PlanesRefusal::OutOfMemory
+    }
+}
+
+impl From<AllocError> for PlanesRefusal {
+    ghost from_gives = { λ _ e. e ≡ NoMemory };
+
+    fn from(_: AllocError) -> Self {
+        PlanesRefusal::OutOfMemory
+    }
+}
+
+impl<T: Drop> From<AllocFailed<T>> for PlanesRefusal {
+    ghost from_gives = { λ _ e. e ≡ NoMemory };
+
+    fn from(_: AllocFailed<T>) -> Self {
+        PlanesRefusal::OutOfMemory
+    }
+}

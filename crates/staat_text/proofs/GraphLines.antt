@@ -1,0 +1,100 @@
+-- The lines of a graph, one more at a time.
+use Rattle.std.proofs.Common.{◌≡◌, ◌∙◌, ℕ, suc, ◌+◌, ◌-◌, ◌<◌, Bool, true, false, List, ◌∷◌, ◌++◌, refl, sym, ap, arith, append_assoc, codes, decimal, pos}
+use Rattle.std.specs.Prelude.{map, filter, flat_map}
+use Rattle.std.specs.List.{range_with_len}
+use Rattle.std.specs.FinSet as set
+use Rattle.std.proofs.lemmas.Bool.Decides.{nat_tests}
+use Rattle.std.proofs.lemmas.Grind.{flat_map-append}
+use Rattle.staat_model.specs.declared.set.PartSet.{PartSet}
+use Rattle.staat_model.specs.Lines.{members_from, spaced}
+use Rattle.staat_graph.specs.Graphs.{HasArc}
+use Rattle.staat_text.specs.GraphTexts.{arc_line, arcs_from, has_arc}
+
+-- what is left from b on is b, if it is counted, and what is left from b + 1 on
+left : (b n : ℕ) → b < n → n - b ≡ suc (n - (b + 1))
+left b n lt = omega arith
+
+-- ---- arcs
+
+-- the arcs from a to the n parts from b on
+abbrev pub onward : List ℕ → ℕ → ℕ → ℕ → List (ℕ × ℕ)
+onward rows a b n = map (λ x. (a, x)) (filter (has_arc rows a) (range_with_len b n))
+
+-- the arcs from the n parts from a on
+abbrev pub rows_onward : List ℕ → ℕ → ℕ → ℕ → List (ℕ × ℕ)
+rows_onward rows parts a n = flat_map (arcs_from rows parts) (range_with_len a n)
+
+arc_is : (rows : List ℕ) (a b : ℕ) → HasArc rows a b → has_arc rows a b ≡ true
+arc_is rows a b h = grind (arith, nat_tests)
+
+arc_is_not : (rows : List ℕ) (a b : ℕ) → (HasArc rows a b → ⊥) → has_arc rows a b ≡ false
+arc_is_not rows a b h = go (has_arc rows a b) refl
+  where
+    go : (t : Bool) → has_arc rows a b ≡ t → t ≡ false
+    go true e = let is : HasArc rows a b = grind (arith, nat_tests) in absurd (h is)
+    go false e = refl
+
+onward_more : (rows : List ℕ) (a b n : ℕ) → has_arc rows a b ≡ true → onward rows a b (suc n) ≡ (a, b) ∷ onward rows a (b + 1) n
+onward_more rows a b n e = rw e refl
+
+onward_same : (rows : List ℕ) (a b n : ℕ) → has_arc rows a b ≡ false → onward rows a b (suc n) ≡ onward rows a (b + 1) n
+onward_same rows a b n e = rw e refl
+
+-- what was written next is what stands first in what is left
+written : (text line new more whole : List ℕ) → new ≡ text ++ line → text ++ (line ++ more) ≡ whole → new ++ more ≡ whole
+written text line new more whole is e = ap (λ t. t ++ more) is ∙ append_assoc text line more ∙ e
+
+-- nothing was written, and what is left is the same
+kept : (text new more less whole : List ℕ) → new ≡ text → more ≡ less → text ++ more ≡ whole → new ++ less ≡ whole
+kept text new more less whole is same e = ap (λ t. t ++ less) is ∙ sym (ap (λ t. text ++ t) same) ∙ e
+
+module _ (rows : List ℕ) (a b parts : ℕ) (text new whole : List ℕ) (lt : b < parts) (so_far : text ++ flat_map arc_line (onward rows a b (parts - b)) ≡ whole) where
+  abbrev pub rest : List (ℕ × ℕ)
+  rest = onward rows a (b + 1) (parts - (b + 1))
+
+  pub arc_written : (line : List ℕ) → HasArc rows a b → line ≡ arc_line (a, b) → new ≡ text ++ line → new ++ flat_map arc_line rest ≡ whole
+  arc_written line arc is more =
+      let all : onward rows a b (parts - b) ≡ (a, b) ∷ rest = ap (onward rows a b) (left b parts lt) ∙ onward_more rows a b (parts - (b + 1)) (arc_is rows a b arc) in
+      written text (arc_line (a, b)) new (flat_map arc_line rest) whole (more ∙ ap (λ l. text ++ l) is) (sym (ap (λ arcs. text ++ flat_map arc_line arcs) all) ∙ so_far)
+
+  pub arc_absent : (HasArc rows a b → ⊥) → new ≡ text → new ++ flat_map arc_line rest ≡ whole
+  arc_absent none same =
+      let all : onward rows a b (parts - b) ≡ rest = ap (onward rows a b) (left b parts lt) ∙ onward_same rows a b (parts - (b + 1)) (arc_is_not rows a b none) in
+      kept text new (flat_map arc_line (onward rows a b (parts - b))) (flat_map arc_line rest) whole same (ap (flat_map arc_line) all) so_far
+
+pub row_written : (rows : List ℕ) (a parts : ℕ) (text lines new whole : List ℕ) → a < parts → lines ≡ flat_map arc_line (arcs_from rows parts a) → new ≡ text ++ lines
+    → text ++ flat_map arc_line (rows_onward rows parts a (parts - a)) ≡ whole → new ++ flat_map arc_line (rows_onward rows parts (a + 1) (parts - (a + 1))) ≡ whole
+row_written rows a parts text lines new whole lt is more so_far =
+    let own : List (ℕ × ℕ) = arcs_from rows parts a in
+    let rest : List (ℕ × ℕ) = rows_onward rows parts (a + 1) (parts - (a + 1)) in
+    let all : rows_onward rows parts a (parts - a) ≡ own ++ rest = ap (rows_onward rows parts a) (left a parts lt) in
+    written text (flat_map arc_line own) new (flat_map arc_line rest) whole (more ∙ ap (λ l. text ++ l) is)
+    (ap (λ t. text ++ t) (sym (flat_map-append arc_line own rest)) ∙ sym (ap (λ arcs. text ++ flat_map arc_line arcs) all) ∙ so_far)
+
+-- ---- groups
+
+-- the numbers of the members from p on, and the line feed
+abbrev pub numbers_onward : PartSet → ℕ → ℕ → List ℕ
+numbers_onward group p n = spaced (map pos (members_from p n group))
+
+after : (group : PartSet) (p n : ℕ) → members_from (suc p) n group ≡ members_from (p + 1) n group
+after group p n = ap (λ q. members_from q n group) (omega arith)
+
+members_more : (group : PartSet) (p n : ℕ) → set.contains group p ≡ true → members_from p (suc n) group ≡ p ∷ members_from (p + 1) n group
+members_more group p n e = let first : members_from p (suc n) group ≡ p ∷ members_from (suc p) n group = rw e refl in first ∙ ap (λ ps. p ∷ ps) (after group p n)
+
+members_same : (group : PartSet) (p n : ℕ) → set.contains group p ≡ false → members_from p (suc n) group ≡ members_from (p + 1) n group
+members_same group p n e = let first : members_from p (suc n) group ≡ members_from (suc p) n group = rw e refl in first ∙ after group p n
+
+module _ (group : PartSet) (p : ℕ) (text new whole : List ℕ) (lt : p < 32) (so_far : text ++ numbers_onward group p (32 - p) ≡ whole) where
+  pub part_written : (part : List ℕ) → set.contains group p ≡ true → part ≡ codes " " ++ decimal p → new ≡ text ++ part → new ++ numbers_onward group (p + 1) (32 - (p + 1)) ≡ whole
+  part_written part has is more =
+      let rest : List ℕ = numbers_onward group (p + 1) (32 - (p + 1)) in
+      let all : numbers_onward group p (32 - p) ≡ 32 ∷ (decimal p ++ rest) = ap (numbers_onward group p) (left p 32 lt) ∙ ap (λ ps. spaced (map pos ps)) (members_more group p (32 - (p + 1)) has) in
+      written text (codes " " ++ decimal p) new rest whole (more ∙ ap (λ t. text ++ t) is) (sym (ap (λ t. text ++ t) all) ∙ so_far)
+
+  pub part_absent : set.contains group p ≡ false → new ≡ text → new ++ numbers_onward group (p + 1) (32 - (p + 1)) ≡ whole
+  part_absent none same =
+      let rest : List ℕ = numbers_onward group (p + 1) (32 - (p + 1)) in
+      let all : numbers_onward group p (32 - p) ≡ rest = ap (numbers_onward group p) (left p 32 lt) ∙ ap (λ ps. spaced (map pos ps)) (members_same group p (32 - (p + 1)) none) in
+      kept text new (numbers_onward group p (32 - p)) rest whole same all so_far
