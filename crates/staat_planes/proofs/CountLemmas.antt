@@ -1,6 +1,6 @@
 -- How many pieces the parts of a set have.
 use Rattle.std.proofs.Common.{◌≡◌, ◌⊎◌, inl, inr, ℕ, zero, suc, ◌+◌, ◌<◌, ◌≤◌, Bool, true, false, if◌then◌else◌, arith, ap, sym, subst, ◌∙◌, refl, List, [], ◌∷◌, length, get_or}
-use Rattle.std.specs.Prelude.{IsTrue, Some, option_map, slice_get, sum, sum_by, unwrap_or}
+use Rattle.std.specs.Prelude.{IsTrue, option_map, sum, sum_by, unwrap_or}
 use Rattle.std.specs.FinSet as set
 use Rattle.std.proofs.lemmas.List.{get_or_past}
 use Rattle.std.proofs.lemmas.List.Elements.{All-contains}

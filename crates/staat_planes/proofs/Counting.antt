@@ -1,9 +1,7 @@
 -- A list of facets has at most twice as many members as there are planes.
-use Rattle.std.proofs.Common.{◌≡◌, ◌⊎◌, inl, inr, ℕ, zero, suc, ◌+◌, ◌*◌, ◌≤◌, arith, ap, sym, ◌∙◌, subst, refl, List, [], ◌∷◌, ◌++◌, length, All, Contains, ⊎_elim, length-append}
+use Rattle.std.proofs.Common.{◌≡◌, ◌⊎◌, inl, inr, suc, ◌*◌, ◌≤◌, arith, ap, sym, ◌∙◌, subst, refl, List, [], ◌∷◌, ◌++◌, length, Contains, ⊎_elim, length-append}
 use Rattle.std.specs.Prelude.{map}
-use Rattle.std.specs.List.{AllByRecursion}
 use Rattle.std.specs.List.Sorted.{IsStrictlySortedBy}
-use Rattle.std.specs.declared.cmp.Ordering.{Ordering}
 use Rattle.std.specs.declared.cmp.Ordering.TheVariants.{Less, Equal}
 use Rattle.std.specs.Cmp.{tied_itself}
 use Rattle.std.proofs.lemmas.List.{length-map}

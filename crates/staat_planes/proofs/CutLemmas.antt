@@ -1,7 +1,7 @@
 -- A list that is cut at given places, read and grown.
-use Rattle.std.proofs.Common.{◌≡◌, ℕ, zero, suc, ◌+◌, ◌-◌, ◌<◌, ◌≤◌, arith, ap, sym, ◌∙◌, subst, refl, List, [], ◌∷◌, ◌++◌, length, get_or, take, drop, length-append}
+use Rattle.std.proofs.Common.{◌≡◌, ℕ, zero, suc, ◌+◌, ◌-◌, ◌<◌, ◌≤◌, arith, ap, sym, ◌∙◌, subst, refl, List, [], ◌∷◌, ◌++◌, length, get_or, drop, length-append}
 use Rattle.std.specs.Prelude.{slice_range, flat_map}
-use Rattle.std.proofs.lemmas.List.{take-append-le, drop-append-le, take_all, drop_all, drop_at, take-append-drop, drop-drop, append_assoc}
+use Rattle.std.proofs.lemmas.List.{take-append-le, take_all, drop_all, drop_at, take-append-drop, drop-drop}
 use Rattle.std.proofs.lemmas.Slice.{between_is}
 use Rattle.staat_planes.specs.Cuts.{AreEnds, cut}
 

@@ -1,6 +1,6 @@
 -- The arcs of a table at a direction are those of the blocking graph of each assembly that it was made from.
-use Rattle.std.proofs.Common.{◌≡◌, ◌≢◌, ◌↔◌, ◌⊎◌, inl, inr, ℕ, ◌+◌, ◌<◌, ◌≤◌, get_or, arith, ap, sym, subst, ◌∙◌, refl, pos, ◌<ℤ◌, List, length, All, Contains}
-use Rattle.std.specs.Prelude.{Option, Some, None, slice_get, slice_set, option_and_then, option_map, unwrap_or}
+use Rattle.std.proofs.Common.{◌≡◌, ◌↔◌, ◌⊎◌, inl, inr, ℕ, ◌+◌, ◌<◌, ◌≤◌, get_or, arith, ap, sym, subst, ◌∙◌, pos, ◌<ℤ◌, List, length, All}
+use Rattle.std.specs.Prelude.{Some, slice_get, slice_set, option_map, unwrap_or}
 use Rattle.std.proofs.lemmas.Option.{option_and_then_some, slice_get_within}
 use Rattle.staat_vec.specs.declared.vector.V3.{V3}
 use Rattle.staat_vec.specs.Lists.{Lists}
@@ -10,7 +10,7 @@ use Rattle.staat_model.specs.declared.certificate.Arc.{Arc}
 use Rattle.staat_model.specs.Assemblies.{HoldsAt, IsAssembly, piece_at, piece_count}
 use Rattle.staat_model.specs.Facets.{IsFacet}
 use Rattle.staat_model.specs.Meeting.{Meets}
-use Rattle.staat_model.specs.Removal.{Blocks, MeetsAlong}
+use Rattle.staat_model.specs.Removal.{MeetsAlong}
 use Rattle.staat_model.specs.Sets.{Has}
 use Rattle.staat_model.proofs.GraphLemmas.{piece_is}
 use Rattle.std.specs.Int.{bit_at}
@@ -21,7 +21,7 @@ use Rattle.staat_graph.specs.Graphs.{HasArc}
 use Rattle.staat_graph.proofs.Arcs.{row_set}
 use Rattle.staat_model.specs.declared.set.PartSet.{PartSet}
 use Rattle.staat_cone.proofs.Ends.{meets_by_list}
-use Rattle.staat_planes.specs.Tables.{BlocksIn, IsAcross, IsAhead, IsTable, Table, WasMadeFrom, facets_of, pieces_of}
+use Rattle.staat_planes.specs.Tables.{BlocksIn, IsAcross, IsAhead, IsTable, Table, WasMadeFrom, facets_of}
 
 pub there_is : (parts : List Part) (a i : ℕ) (p : List V3) → piece_at parts a i ≡ Some p → i < piece_count parts a
 there_is parts a i p e =

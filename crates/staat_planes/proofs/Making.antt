@@ -1,11 +1,11 @@
 -- The table that is made of the numbers of pieces, the lists of facets and the planes.
-use Rattle.std.proofs.Common.{◌≡◌, ◌≢◌, ◌⊎◌, inl, inr, ⊎_elim, ◌↔◌, ℕ, zero, suc, ◌+◌, ◌*◌, ◌<◌, ◌≤◌, arith, ap, sym, subst, ◌∙◌, refl, List, [], ◌∷◌, ◌++◌, length, get_or, All, Contains, length-append}
+use Rattle.std.proofs.Common.{◌≡◌, ◌≢◌, ◌⊎◌, inl, inr, ℕ, zero, suc, ◌+◌, ◌*◌, ◌<◌, ◌≤◌, arith, ap, sym, subst, ◌∙◌, refl, List, [], ◌∷◌, length, get_or, All, Contains}
 use Rattle.std.specs.Prelude.{Some, flat_map, slice_get, sum}
-use Rattle.std.proofs.lemmas.List.Elements.{All-contains, Contains-append_cases, Contains-append_left, Contains-append_right, Contains-get_or}
+use Rattle.std.proofs.lemmas.List.Elements.{All-contains, Contains-append_cases, Contains-append_left, Contains-append_right}
 use Rattle.staat_vec.specs.declared.vector.V3.{V3}
 use Rattle.staat_vec.specs.declared.vector.TheConstants.{NORMAL}
 use Rattle.staat_vec.specs.Lists.{Lists}
-use Rattle.staat_vec.specs.Primitives.{IsPrimitive, canon}
+use Rattle.staat_vec.specs.Primitives.{canon}
 use Rattle.staat_vec.specs.Vectors.{IsWithin, cross, negative, origin, vector_cmp}
 use Rattle.staat_vec.proofs.Bounds.{IsWithin-negative}
 use Rattle.staat_vec.proofs.Canons.{IsWithin-canon}
@@ -16,7 +16,7 @@ use Rattle.staat_model.specs.declared.certificate.Arc.{Arc}
 use Rattle.staat_model.specs.declared.set.PartSet.{PartSet}
 use Rattle.staat_model.specs.Assemblies.{HoldsAt, IsAssembly, IsSound, piece_count}
 use Rattle.staat_model.specs.Facets.{IsFacet}
-use Rattle.staat_model.specs.Planes.{ArePlanes, IsFacetPlane, axes}
+use Rattle.staat_model.specs.Planes.{ArePlanes, axes}
 use Rattle.staat_model.specs.Sets.{Has, IsNonempty}
 use Rattle.staat_model.proofs.GraphLemmas.{plane_in}
 use Rattle.staat_model.proofs.Members.{All-from_members}
@@ -25,12 +25,12 @@ use Rattle.staat_model.proofs.PlaneLemmas.{IsNormal, NoneParallel, plane_normal,
 use Rattle.staat_planes.specs.Keeping.{AreFirsts, IsKept}
 use Rattle.staat_planes.specs.Refusals.{HasManyPlanes, IsTableOf}
 use Rattle.staat_planes.specs.Searches.{HasPlane, IsCanonOf, arc_of}
-use Rattle.staat_planes.specs.Tables.{AreTableFacets, AreTablePlanes, IsAcross, IsPlaneNormal, IsTable, IsTableFacet, Table, WasMadeFrom, back, facets_of, kept, slot, turned}
-use Rattle.staat_planes.specs.Tabulating.{AreCollected, AreSlotLists, IsNormalOf, IsPair, IsPairAt, IsSlotList, set_count}
-use Rattle.staat_planes.proofs.CountLemmas.{count_has, count_in, count_out, count_some}
+use Rattle.staat_planes.specs.Tables.{AreTableFacets, IsAcross, IsPlaneNormal, IsTable, IsTableFacet, Table, WasMadeFrom, back, facets_of, kept, slot}
+use Rattle.staat_planes.specs.Tabulating.{AreCollected, AreSlotLists, IsNormalOf, IsPairAt, IsSlotList, set_count}
+use Rattle.staat_planes.proofs.CountLemmas.{count_has, count_in, count_some}
 use Rattle.staat_planes.proofs.Numbers.{below_64}
 use Rattle.staat_planes.proofs.TableLemmas.{back_across, facets_ahead, facets_back, has_place}
-use Rattle.staat_planes.proofs.Turning.{All-turned, from_turned, turned_lists}
+use Rattle.staat_planes.proofs.Turning.{from_turned, turned_lists}
 use Rattle.staat_planes.proofs.UsedLaw.{HasFacetsOf, facet_planes}
 
 -- ---- all facets

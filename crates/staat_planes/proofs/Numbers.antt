@@ -1,11 +1,11 @@
 -- A number stands for one piece, and a place for two.
-use Rattle.std.proofs.Common.{◌≡◌, ◌⊎◌, inl, inr, ⊎_elim, ℕ, zero, suc, ◌+◌, ◌*◌, ◌/◌, ◌%◌, ◌<◌, ◌≤◌, arith, ap, sym, subst, ◌∙◌, List, length, get_or, take}
+use Rattle.std.proofs.Common.{◌≡◌, ◌⊎◌, inl, inr, ℕ, ◌+◌, ◌*◌, ◌/◌, ◌%◌, ◌<◌, ◌≤◌, arith, subst, ◌∙◌, List, length, get_or, take}
 use Rattle.std.specs.Prelude.{sum}
 use Rattle.std.proofs.lemmas.List.{take-take}
 use Rattle.std.proofs.lemmas.List.Sums.{sum_by-take-le, sum_by_more}
 use Rattle.staat_model.specs.declared.certificate.Arc.{Arc}
-use Rattle.staat_planes.specs.Tables.{place, slot}
-use Rattle.staat_planes.specs.Tabulating.{IsPair, IsPairAt, IsPieceAt}
+use Rattle.staat_planes.specs.Tables.{place}
+use Rattle.staat_planes.specs.Tabulating.{IsPairAt, IsPieceAt}
 use Rattle.staat_planes.proofs.TableLemmas.{has_place, place_below}
 
 sums_rise : (xs : List ℕ) (m n : ℕ) → m ≤ n → sum (take m xs) ≤ sum (take n xs)

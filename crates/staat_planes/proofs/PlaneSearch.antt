@@ -1,7 +1,6 @@
 -- A vector is the canonical one of a facet exactly where the facet is that vector or its negative.
-use Rattle.std.proofs.Common.{◌≡◌, ◌⊎◌, inl, inr, ◌↔◌, ap, sym, ◌∙◌, List, Contains}
+use Rattle.std.proofs.Common.{◌≡◌, ◌⊎◌, inl, inr, ◌↔◌, ap, sym, ◌∙◌, List}
 use Rattle.std.specs.List.{Any}
-use Rattle.std.proofs.lemmas.List.Elements.{Contains-get_or}
 use Rattle.staat_vec.specs.declared.vector.V3.{V3}
 use Rattle.staat_vec.specs.Primitives.{IsCanon, canon}
 use Rattle.staat_vec.specs.Vectors.{negative}

@@ -1,14 +1,14 @@
 -- Places of pieces, and the facets of an arc and of the arc the other way round.
-use Rattle.std.proofs.Common.{◌≡◌, ◌≢◌, ◌⊎◌, inl, inr, ⊎_elim, ℕ, zero, suc, ◌+◌, ◌*◌, ◌<◌, ◌≤◌, Bool, true, false, if◌then◌else◌, arith, ap, sym, ◌∙◌, subst, refl, List, [], ◌∷◌, length, get_or, take, All}
-use Rattle.std.specs.Prelude.{nat_lt, sum, sum_by}
+use Rattle.std.proofs.Common.{◌≡◌, ◌≢◌, ℕ, zero, suc, ◌+◌, ◌*◌, ◌<◌, ◌≤◌, Bool, true, false, if◌then◌else◌, arith, ap, sym, ◌∙◌, refl, List, [], ◌∷◌, length, get_or, All}
+use Rattle.std.specs.Prelude.{nat_lt, sum}
 use Rattle.std.proofs.lemmas.Bool.{lt-ltb, ltb-true}
-use Rattle.std.proofs.lemmas.List.Sums.{sum_by_more_le, sum_by-take-le}
+use Rattle.std.proofs.lemmas.List.Sums.{sum_by_more_le}
 use Rattle.std.proofs.lemmas.List.Elements.{All-weaker}
 use Rattle.staat_vec.specs.declared.vector.V3.{V3}
 use Rattle.staat_vec.specs.declared.vector.TheConstants.{NORMAL}
 use Rattle.staat_vec.specs.Vectors.{IsWithin}
 use Rattle.staat_model.specs.declared.certificate.Arc.{Arc}
-use Rattle.staat_planes.specs.Tables.{Table, AreTableFacets, IsTable, IsTableFacet, IsAcross, back, facets_of, kept, pieces_of, place, slot, turned}
+use Rattle.staat_planes.specs.Tables.{Table, AreTableFacets, IsTableFacet, IsAcross, back, facets_of, kept, place, turned}
 
 pub place_below : (pieces : List ℕ) (a i : ℕ) → a < length pieces → i < get_or pieces a 0 → place pieces a i < sum pieces
 place_below pieces a i lt h = let more = sum_by_more_le (λ n. n) pieces a 0 lt in omega (arith, more, h)

@@ -1,5 +1,5 @@
 -- The table of the planes of a set of parts and of the facets of their pieces, and the assemblies that it was made from.
-use Rattle.std.specs.Prelude.{◌≡◌, ◌≢◌, ◌⊎◌, ◌↔◌, ℕ, ◌+◌, ◌*◌, ◌<◌, ◌≤◌, ℤ, pos, ◌<ℤ◌, List, [], ◌++◌, length, All, Contains, Some, sum, take, map, reverse, nat_lt, if◌then◌else◌, slice_get, slice_index, slice_index_or, refl}
+use Rattle.std.specs.Prelude.{◌≡◌, ◌≢◌, ◌⊎◌, ℕ, ◌+◌, ◌*◌, ◌<◌, ◌≤◌, ℤ, pos, ◌<ℤ◌, List, [], ◌++◌, length, All, Contains, Some, sum, take, map, reverse, nat_lt, if◌then◌else◌, slice_get, slice_index, slice_index_or, refl}
 use Rattle.std.specs.Coded.{Coded, code_by, coded×, coded_ℕ, coded_ℤ, coded_list}
 use Rattle.std.specs.FinSet as set
 use Rattle.std.specs.List.Sorted.{IsStrictlySortedBy}

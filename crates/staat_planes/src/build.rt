@@ -1,6 +1,5 @@
 // The making of a table.
-ghost use Rattle.std.specs.Prelude.{◌≡◌, ◌<◌, ◌≤◌, ℕ, [], All, IfOk, MatchResult, length, slice_index_or};
-ghost use Rattle.staat_model.specs.Assemblies.{IsAssembly, piece_count};
+ghost use Rattle.std.specs.Prelude.{◌<◌, ◌≤◌, ℕ, IfOk, MatchResult, length};
 ghost use Rattle.staat_model.specs.Sets.{Has, IsNonempty};
 ghost use Rattle.staat_planes.specs.Refusals.{IsPlanesRefusal, IsTableOf};
 ghost use Rattle.staat_planes.specs.Tabulating.{AreSlotLists, HasCounts, IsSlotList};

@@ -1,5 +1,5 @@
 // The blocking graph at a direction.
-ghost use Rattle.std.specs.Prelude.{◌≡◌, ◌≢◌, ◌<◌, ◌↔◌, ℕ, List, All, IsTrue, pos, ◌<ℤ◌};
+ghost use Rattle.std.specs.Prelude.{◌≢◌, ◌<◌, ◌↔◌, ℕ, List, All, IsTrue, pos, ◌<ℤ◌};
 ghost use Rattle.staat_vec.specs.Vectors.{IsWithin, dot};
 ghost use Rattle.staat_model.specs.declared.assembly.Part.{Part as PartValue};
 ghost use Rattle.staat_model.specs.Sets.{Has};

@@ -1,10 +1,10 @@
 // The pieces of the parts of a set, numbered through, part after part.
-ghost use Rattle.std.specs.Prelude.{◌≡◌, ◌<◌, ◌≤◌, ◌/◌, ◌%◌, ℕ, List, IfSome, MatchOption, length, slice_index, sum};
+ghost use Rattle.std.specs.Prelude.{◌≡◌, ◌<◌, ◌≤◌, ◌/◌, ◌%◌, ℕ, MatchOption, length, slice_index, sum};
 ghost use Rattle.staat_model.specs.declared.certificate.Arc.{Arc as ArcValue};
-ghost use Rattle.staat_model.specs.Assemblies.{IsAssembly, piece_count};
+ghost use Rattle.staat_model.specs.Assemblies.{IsAssembly};
 ghost use Rattle.staat_model.specs.Sets.{Has};
 ghost use Rattle.staat_planes.specs.Keeping.{AreFirsts};
-ghost use Rattle.staat_planes.specs.Tables.{place, slot};
+ghost use Rattle.staat_planes.specs.Tables.{slot};
 ghost use Rattle.staat_planes.specs.Tabulating.{IsPairAt, IsPieceAt, set_count};
 
 use staat_model::{Arc, Assembly, MOST_PARTS, MOST_PIECES, PartSet};

@@ -1,7 +1,7 @@
 // Assemblies for the tests, made of boxes and prisms.
-ghost use Rattle.std.specs.Prelude.{◌≡◌, ◌≢◌, ◌<◌, ◌≤◌, ◌↔◌, ℕ, All, IfOk, IfSome, IsTrue, length, sum_by};
+ghost use Rattle.std.specs.Prelude.{◌≡◌, ◌≢◌, ◌<◌, ◌≤◌, ◌↔◌, ℕ, All, IfOk, IsTrue, length, sum_by};
 ghost use Rattle.staat_vec.specs.Vectors.{IsWithin, vector};
-ghost use Rattle.staat_model.specs.Assemblies.{HoldsAt, IsAssembly, IsPart, IsSound, piece_count};
+ghost use Rattle.staat_model.specs.Assemblies.{HoldsAt, IsPart, IsSound, piece_count};
 ghost use Rattle.staat_model.specs.Meeting.{Overlap};
 ghost use Rattle.staat_model.specs.Pieces.{IsPiece};
 ghost use Rattle.staat_planes.specs.Searches.{arc_of};
@@ -140,15 +140,17 @@ fn are_apart(alloc: Global, parts: &Assembly, arc: Arc) -> Result<bool, OutOfMem
     requires j { arc.j < piece_count parts.now arc.b }
     ensures { IfOk result (λ apart. IsTrue apart → HoldsAt parts.now arc Overlap → ⊥) }
 {
-    let facets = Plain.facets(
-        alloc,
-        parts.piece(arc.a, arc.i),
-        parts.piece(arc.b, arc.j),
-    )?;
+    let facets = Plain.facets(alloc, parts.piece(arc.a, arc.i), parts.piece(arc.b, arc.j))?;
     Ok(!facets.is_empty())
 }
 
-fn is_apart_from(alloc: Global, parts: &Assembly, a: u32, i: u32, b: u32) -> Result<bool, OutOfMemory>
+fn is_apart_from(
+    alloc: Global,
+    parts: &Assembly,
+    a: u32,
+    i: u32,
+    b: u32,
+) -> Result<bool, OutOfMemory>
     requires a { a < length parts.now }
     requires i { i < piece_count parts.now a }
     requires b { b < length parts.now }
@@ -177,7 +179,12 @@ fn are_parts_apart(alloc: Global, parts: &Assembly, a: u32, b: u32) -> Result<bo
     Ok(true)
 }
 
-fn are_parts_apart_or_same(alloc: Global, parts: &Assembly, a: u32, b: u32) -> Result<bool, OutOfMemory>
+fn are_parts_apart_or_same(
+    alloc: Global,
+    parts: &Assembly,
+    a: u32,
+    b: u32,
+) -> Result<bool, OutOfMemory>
     requires a { a < length parts.now }
     requires b { b < length parts.now }
     ensures { IfOk result (λ apart. IsTrue apart → a ≢ b → (i j : ℕ) → i < piece_count parts.now a → j < piece_count parts.now b → HoldsAt parts.now (arc_of a i b j) Overlap → ⊥) }

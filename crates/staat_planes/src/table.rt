@@ -1,5 +1,5 @@
 // The table of the planes of a set of parts and of the facets of their pieces.
-ghost use Rattle.std.specs.Prelude.{◌≡◌, ◌<◌, ◌≤◌, ◌+◌, ◌*◌, ℕ, ◌≢◌, ◌↔◌, All, IsTrue, Some, length, slice_get, sum, take};
+ghost use Rattle.std.specs.Prelude.{◌≡◌, ◌<◌, ◌≤◌, ◌+◌, ◌*◌, All, Some, length, slice_get};
 ghost use Rattle.staat_vec.specs.declared.vector.V3.{V3 as Vector};
 ghost use Rattle.staat_vec.specs.Vectors.{IsWithin, dot, sign};
 ghost use Rattle.staat_model.specs.Sets.{Has};

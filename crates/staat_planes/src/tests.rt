@@ -20,11 +20,37 @@ const CUBE: [(V3, V3); 1] = [(V3 { x: 0, y: 0, z: 0 }, V3 { x: 2, y: 2, z: 2 })]
 
 // the walls of a box about the cube: right, left, behind, before, above, below
 const RIGHT: (V3, V3) = (V3 { x: 2, y: -1, z: -1 }, V3 { x: 3, y: 3, z: 3 });
-const LEFT: (V3, V3) = (V3 { x: -1, y: -1, z: -1 }, V3 { x: 0, y: 3, z: 3 });
+
+const LEFT: (V3, V3) = (
+    V3 {
+        x: -1,
+        y: -1,
+        z: -1,
+    },
+    V3 { x: 0, y: 3, z: 3 },
+);
+
 const BEHIND: (V3, V3) = (V3 { x: -1, y: 2, z: -1 }, V3 { x: 3, y: 3, z: 3 });
-const BEFORE: (V3, V3) = (V3 { x: -1, y: -1, z: -1 }, V3 { x: 3, y: 0, z: 3 });
+
+const BEFORE: (V3, V3) = (
+    V3 {
+        x: -1,
+        y: -1,
+        z: -1,
+    },
+    V3 { x: 3, y: 0, z: 3 },
+);
+
 const ABOVE: (V3, V3) = (V3 { x: -1, y: -1, z: 2 }, V3 { x: 3, y: 3, z: 3 });
-const BELOW: (V3, V3) = (V3 { x: -1, y: -1, z: -1 }, V3 { x: 3, y: 3, z: 0 });
+
+const BELOW: (V3, V3) = (
+    V3 {
+        x: -1,
+        y: -1,
+        z: -1,
+    },
+    V3 { x: 3, y: 3, z: 0 },
+);
 
 // a lid above the cube
 const LID: [(V3, V3); 1] = [(V3 { x: 0, y: 0, z: 2 }, V3 { x: 2, y: 2, z: 3 })];
@@ -138,7 +164,14 @@ fn planes_of_a_dovetail(rt: HostRuntime) -> Result<(), Fail> {
     let table = table_of(alloc, &parts, 5)?;
     assert_eq!(rt;
         planes(alloc, &table)?.as_slice(),
-        [at(1, 0, 0), at(0, 1, 0), at(0, 0, 1), at(2, 0, -1), at(2, 0, 1)].as_slice()
+        [
+            at(1, 0, 0),
+            at(0, 1, 0),
+            at(0, 0, 1),
+            at(2, 0, -1),
+            at(2, 0, 1)
+        ]
+        .as_slice()
     );
     let arc = Arc {
         a: 1,
@@ -176,7 +209,10 @@ fn graph_of_a_closed_box(rt: HostRuntime) -> Result<(), Fail> {
     let both = PartSet::from_bits(0b11);
     assert!(rt; both.has(0));
     let trees = trees_of(&graph, both).expect(&rt, "the box is closed");
-    assert_eq!(rt; (trees.count, trees.outs[0], trees.ins[0]), (1, (0, 1), (1, 0)));
+    assert_eq!(rt;
+        (trees.count, trees.outs[0], trees.ins[0]),
+        (1, (0, 1), (1, 0))
+    );
     Ok(())
 }
 
@@ -203,7 +239,8 @@ fn graph_of_a_box_with_a_lid(rt: HostRuntime) -> Result<(), Fail> {
             at(0, 2, 3),
             at(2, 0, -3),
             at(2, 0, 3),
-        ].as_slice()
+        ]
+        .as_slice()
     );
     let graph = table.graph_at(at(0, 0, 1));
     let rows = graph.rows;

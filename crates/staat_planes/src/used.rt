@@ -1,13 +1,12 @@
 // Which planes belong to a smaller set of parts.
-ghost use Rattle.std.specs.Prelude.{◌≡◌, ◌≢◌, ◌<◌, ◌↔◌, ◌⊎◌, ℕ, List, All, Contains, IsTrue, Some, length, slice_get};
+ghost use Rattle.std.specs.Prelude.{◌≡◌, ◌<◌, ◌↔◌, ◌⊎◌, List, Contains, IsTrue, Some, length, slice_get};
 ghost use Rattle.std.specs.List.{Any};
 ghost use Rattle.staat_vec.specs.declared.vector.V3.{V3 as Vector};
-ghost use Rattle.staat_vec.specs.Primitives.{IsCanon};
 ghost use Rattle.staat_vec.specs.Vectors.{IsWithin, negative};
 ghost use Rattle.staat_model.specs.declared.assembly.Part.{Part as PartValue};
 ghost use Rattle.staat_model.specs.Planes.{ArePlanes};
 ghost use Rattle.staat_model.specs.Sets.{Has, IsSubset};
-ghost use Rattle.staat_planes.specs.Tables.{IsAcross, IsPlaneNormal, IsPlaneOf, WasMadeFrom, facets_of, pieces_of};
+ghost use Rattle.staat_planes.specs.Tables.{IsPlaneNormal, IsPlaneOf, WasMadeFrom, pieces_of};
 ghost use Rattle.staat_planes.specs.Searches.{HasPlane, HasPlaneBetween, HasPlaneFrom, HasPlaneOf, IsCanonOf};
 
 use crate::table::{LEAST_PLANES, PlaneTable};

@@ -1,5 +1,5 @@
 -- What the step finds that counts the planes of all parts.
-use Rattle.std.proofs.Common.{◌≡◌, ◌<◌, ◌≤◌, ℕ, List, length, Err, refl, ap, sym, subst}
+use Rattle.std.proofs.Common.{◌<◌, ℕ, List, Err, refl, ap, sym, subst}
 use Rattle.staat_model.specs.declared.assembly.Part.{Part}
 use Rattle.staat_model.specs.Planes.{ArePlanes}
 use Rattle.staat_planes.specs.declared.refusal.PlanesRefusal.{PlanesRefusal}

@@ -1,8 +1,7 @@
 -- Graphs with the same arcs among the parts have one text.
-use Rattle.std.proofs.Common.{◌≡◌, ◌∙◌, ◌↔◌, refl, sym, ap, ap₂, subst, arith, ℕ, zero, suc, ◌+◌, ◌<◌, Bool, true, false, List, [], ◌∷◌, ◌++◌, map, cond}
-use Rattle.std.specs.Prelude.{◌==◌, filter, flat_map, nat_eq}
+use Rattle.std.proofs.Common.{◌≡◌, ◌∙◌, ◌↔◌, refl, sym, ap, ap₂, arith, ℕ, zero, suc, ◌+◌, ◌<◌, Bool, true, false, List, ◌∷◌, ◌++◌, map, cond}
+use Rattle.std.specs.Prelude.{◌==◌, filter, flat_map}
 use Rattle.std.specs.List.{range_with_len}
-use Rattle.std.specs.Int.{bit_at}
 use Rattle.std.proofs.Math.Decide.{ℕ_discrete}
 use Rattle.std.proofs.lemmas.Bool.Decides.{nat_tests}
 use Rattle.std.proofs.lemmas.List.Concat.{flat_map-cons}
@@ -55,12 +54,12 @@ range_flat f g a (suc n) same =
 
 same_bit : (x y : ℕ) → ((x ≡ 1) ↔ (y ≡ 1)) → (x == 1) ≡ (y == 1)
 same_bit x y h = elim (ℕ_discrete x 1) [
-    | yes e ↦ ap (λ z. z == 1) (e ∙ sym (h.0 e))
-    | no ne ↦ elim (ℕ_discrete y 1) [
-        | yes e ↦ absurd (ne (h.1 e))
-        | no too ↦ not_one x ne ∙ sym (not_one y too)
-      ]
+  | yes e ↦ ap (λ z. z == 1) (e ∙ sym (h.0 e))
+  | no ne ↦ elim (ℕ_discrete y 1) [
+    | yes e ↦ absurd (ne (h.1 e))
+    | no too ↦ not_one x ne ∙ sym (not_one y too)
   ]
+]
   where
     not_one : (z : ℕ) → (z ≡ 1 → ⊥) → (z == 1) ≡ false
     not_one z ne = by_test (z == 1) refl

@@ -523,3 +523,51 @@ fn a_fault_names_the_file_of_the_input_that_was_read(rt: HostRuntime) -> Result<
     }
     Ok(())
 }
+
+#[test]
+fn the_graph_says_who_blocks_whom(rt: HostRuntime) -> Result<(), Fail> {
+    let alloc = rt.alloc();
+    let table: [(&[&str], u8, &str, &str); 6] = [
+        (
+            &["graph", "--along=0,1,0", "a.off", "b.off"],
+            0,
+            "along 0 1 0\ngroup 0\ngroup 1\n",
+            "",
+        ),
+        (
+            &["graph", "--along=-2,0,0", "a.off", "b.off"],
+            0,
+            "along -2 0 0\narc 1 0\ngroup 0\ngroup 1\n",
+            "",
+        ),
+        (
+            &["graph", "--along=0,0,1", "--manifest=dovetail.json"],
+            0,
+            "along 0 0 1\narc 0 1\narc 1 0\ngroup 0 1\n",
+            "",
+        ),
+        (
+            &["graph", "--along=0,-1,0", "--manifest=dovetail.json"],
+            0,
+            "along 0 -1 0\ngroup 0\ngroup 1\n",
+            "",
+        ),
+        (
+            &["graph", "--along=1,0,0", "a.off", "a.off"],
+            3,
+            "",
+            "staat: parts 0 and 1 overlap in pieces 0 and 0\n",
+        ),
+        (&["graph", "a.off", "b.off"], 2, "", "staat: usage\n"),
+    ];
+    for (list, status, out_text, err_text) in table {
+        let mut shelf = shelf_of(alloc, &HELD, NEVER)?;
+        let mut out = sink(alloc, 128, NEVER, 64)?;
+        let mut err = sink(alloc, 64, NEVER, 64)?;
+        let got = staat(alloc, &words(alloc, list)?, &mut shelf, &mut out, &mut err);
+        assert_eq!(rt; got, status, "at {list:?}");
+        assert_eq!(rt; out.taken(), out_text.as_bytes());
+        assert_eq!(rt; err.taken(), err_text.as_bytes());
+    }
+    Ok(())
+}

@@ -1,5 +1,5 @@
-use Rattle.std.proofs.Common.{rules, ◌≡◌, ℕ, length}
-use Rattle.staat_planes.proofs.SlotLists.{no_list, pair_list}
+use Rattle.std.proofs.Common.{rules}
+use Rattle.staat_planes.proofs.SlotLists.{pair_list}
 use Rattle.staat_planes.proofs.build.facets_at.Goals as goal
 
 pub piece-first-requires-clause-part : goal.piece-first-requires-clause-part

@@ -1,4 +1,4 @@
-use Rattle.std.proofs.Common.{◌∙◌, ap, sym, subst, [], ◌∷◌, ◌++◌}
+use Rattle.std.proofs.Common.{◌∙◌, ap, [], ◌∷◌, ◌++◌}
 use Rattle.staat_planes.proofs.SlotLists.{lists_more}
 use Rattle.staat_planes.proofs.build.lists_of.Goals as goal
 

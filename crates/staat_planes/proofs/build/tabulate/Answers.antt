@@ -1,5 +1,4 @@
-use Rattle.std.proofs.Common.{rules, ◌≡◌, ◌<◌, ◌≤◌, ℕ, arith, length}
-use Rattle.std.specs.Vec.{vec_len}
+use Rattle.std.proofs.Common.{rules}
 use Rattle.staat_planes.proofs.Making.{Parts, all_normal, gather, is_kept, is_table, many_planes}
 use Rattle.staat_planes.proofs.build.tabulate.Goals as goal
 

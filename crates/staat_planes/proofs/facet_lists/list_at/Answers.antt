@@ -1,4 +1,4 @@
-use Rattle.std.proofs.Common.{◌≡◌, ◌≤◌, ◌∙◌, ℕ, arith, ap, sym, refl, subst, List, [], ◌∷◌, length, get_or}
+use Rattle.std.proofs.Common.{◌∙◌, arith, ap, sym, length, get_or}
 use Rattle.std.specs.Prelude.{slice_range}
 use Rattle.staat_planes.proofs.CutLemmas.{get_or-cut, start_below, end_within}
 use Rattle.staat_planes.proofs.facet_lists.list_at.Goals as goal

@@ -1,4 +1,4 @@
-use Rattle.std.proofs.Common.{rules, ◌≡◌, ℕ, length}
+use Rattle.std.proofs.Common.{rules}
 use Rattle.staat_planes.proofs.CountLemmas.{counts_most}
 use Rattle.staat_planes.proofs.numbering.numbering_of.Goals as goal
 

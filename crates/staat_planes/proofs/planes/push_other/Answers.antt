@@ -1,5 +1,4 @@
 use Rattle.staat_vec.proofs.Primitives.{IsPrimitive-some}
-use Rattle.staat_planes.proofs.Collecting.{axis_passed, other_pushed}
 use Rattle.staat_planes.proofs.planes.push_other.Goals as goal
 
 pub canon-n-requires-clause-some : goal.canon-n-requires-clause-some

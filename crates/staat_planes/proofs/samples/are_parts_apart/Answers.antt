@@ -1,5 +1,4 @@
-use Rattle.std.proofs.Common.{rules, ◌<◌, arith, below_more, sym, subst}
-use Rattle.std.specs.Prelude.{IsTrue}
+use Rattle.std.proofs.Common.{rules, arith, below_more}
 use Rattle.staat_planes.proofs.samples.are_parts_apart.Goals as goal
 
 pub loop-i-preserved : goal.loop-i-preserved

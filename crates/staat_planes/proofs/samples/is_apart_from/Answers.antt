@@ -1,4 +1,4 @@
-use Rattle.std.proofs.Common.{◌<◌, arith}
+use Rattle.std.proofs.Common.{arith}
 use Rattle.staat_planes.proofs.samples.is_apart_from.Goals as goal
 
 pub returns : goal.returns

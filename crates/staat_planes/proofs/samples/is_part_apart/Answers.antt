@@ -1,4 +1,4 @@
-use Rattle.std.proofs.Common.{rules, ◌<◌, arith, below_more}
+use Rattle.std.proofs.Common.{rules, arith, below_more}
 use Rattle.staat_planes.proofs.samples.is_part_apart.Goals as goal
 
 pub loop-b-preserved : goal.loop-b-preserved

@@ -1,4 +1,4 @@
-use Rattle.std.proofs.Common.{rules, ◌<◌, arith, below_more, sym, subst}
+use Rattle.std.proofs.Common.{rules, arith, below_more}
 use Rattle.staat_planes.proofs.GraphLaw.{part_there, there_is}
 use Rattle.staat_planes.proofs.samples.is_sound.Goals as goal
 

@@ -1,4 +1,4 @@
-use Rattle.std.proofs.Common.{◌≡◌, ◌<◌, ◌∙◌, arith, ap, [], length, get_or}
+use Rattle.std.proofs.Common.{◌∙◌, arith, ap, [], length, get_or}
 use Rattle.staat_planes.specs.Cuts.{cut}
 use Rattle.staat_planes.proofs.CutLemmas.{AreEnds-same, length-cut}
 use Rattle.staat_planes.proofs.facet_lists.FacetLists.get.Goals as goal

@@ -1,4 +1,4 @@
-use Rattle.std.proofs.Common.{rules, ◌≡◌, ℕ, length}
+use Rattle.std.proofs.Common.{rules}
 use Rattle.staat_planes.proofs.Numbers.{first_at, no_pair, second_at}
 use Rattle.staat_planes.proofs.numbering.Numbering.pair_at.Goals as goal
 

@@ -1,4 +1,4 @@
-use Rattle.std.proofs.Common.{◌<◌, ◌≤◌, arith, below_more}
+use Rattle.std.proofs.Common.{◌<◌, arith, below_more}
 use Rattle.staat_planes.proofs.numbering.Numbering.piece_at.Goals as goal
 
 pub loop-a-preserved : goal.loop-a-preserved

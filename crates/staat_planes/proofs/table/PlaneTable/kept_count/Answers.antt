@@ -1,4 +1,4 @@
-use Rattle.std.proofs.Common.{◌≤◌, ◌*◌, arith, ap, length}
+use Rattle.std.proofs.Common.{◌≤◌, ◌*◌, arith, length}
 use Rattle.staat_planes.proofs.Counting.{few_facets}
 use Rattle.staat_planes.proofs.table.PlaneTable.kept_count.Goals as goal
 

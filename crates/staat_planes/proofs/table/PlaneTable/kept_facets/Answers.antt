@@ -1,4 +1,4 @@
-use Rattle.std.proofs.Common.{ap, sym, subst, refl}
+use Rattle.std.proofs.Common.{ap, sym, subst}
 use Rattle.staat_planes.specs.Tables.{AreTableFacets, IsTable}
 use Rattle.staat_planes.proofs.TableLemmas.{kept_is, within_from}
 use Rattle.staat_planes.proofs.table.PlaneTable.kept_facets.Goals as goal

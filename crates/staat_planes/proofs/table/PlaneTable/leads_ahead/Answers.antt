@@ -1,4 +1,4 @@
-use Rattle.std.proofs.Common.{◌≡◌, ◌↔◌, ◌∙◌, ap, sym, subst, pos, ◌<ℤ◌, All}
+use Rattle.std.proofs.Common.{◌≡◌, ◌↔◌, sym, subst, pos, ◌<ℤ◌, All}
 use Rattle.std.specs.Prelude.{IsTrue}
 use Rattle.staat_vec.specs.Vectors.{dot, negative}
 use Rattle.staat_planes.specs.Tables.{facets_of, turned}

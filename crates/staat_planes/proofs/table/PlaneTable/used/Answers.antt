@@ -1,5 +1,5 @@
-use Rattle.std.proofs.Common.{rules, ◌≡◌, ◌↔◌, ap, sym, subst, ◌∙◌}
-use Rattle.std.specs.Prelude.{IsTrue, Some, slice_get}
+use Rattle.std.proofs.Common.{rules, ◌≡◌, ◌↔◌, subst}
+use Rattle.std.specs.Prelude.{IsTrue}
 use Rattle.staat_model.proofs.Places.{one_at_place}
 use Rattle.staat_planes.specs.Searches.{HasPlane}
 use Rattle.staat_planes.proofs.UsedLaw.{axis_used, listed_used, other_used}
