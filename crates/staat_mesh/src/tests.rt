@@ -112,7 +112,7 @@ const REFUSED: [(&str, &[u8], MeshRefusal); 14] = [
 ];
 
 const LARGE: &[u8] =
-    b"OFF\n8 6 0\n-65536 -65536 -65536\n65536 -65536 -65536\n65536 65536 -65536\n-65536 65536 -65536\n-65536 -65536 65536\n65536 -65536 65536\n65536 65536 65536\n-65536 65536 65536\n4 0 3 2 1\n4 4 5 6 7\n4 0 1 5 4\n4 1 2 6 5\n4 2 3 7 6\n4 3 0 4 7\n";
+    b"OFF\n8 6 0\n-262144 -262144 -262144\n262144 -262144 -262144\n262144 262144 -262144\n-262144 262144 -262144\n-262144 -262144 262144\n262144 -262144 262144\n262144 262144 262144\n-262144 262144 262144\n4 0 3 2 1\n4 4 5 6 7\n4 0 1 5 4\n4 1 2 6 5\n4 2 3 7 6\n4 3 0 4 7\n";
 
 // The points of the piece of a file, or the refusal of its mesh.
 fn points_of(alloc: Global, text: &[u8]) -> Result<Result<Vec<V3>, MeshRefusal>, Fail> {
@@ -148,7 +148,7 @@ fn cubes_are_one_piece(rt: HostRuntime) -> Result<(), Fail> {
         assert!(rt; points.as_slice() == corners(0, 2).as_slice(), "{what}");
     }
     let large = points_of(rt.alloc(), LARGE)??;
-    assert!(rt; large.as_slice() == corners(-65536, 65536).as_slice());
+    assert!(rt; large.as_slice() == corners(-262144, 262144).as_slice());
     Ok(())
 }
 

@@ -58,8 +58,8 @@ body_in (line.Stuck w ∷ ls) = body.Stuck w (witnesses_in ls) (dirs_in ls)
 body_in (l ∷ ls) = body.Plan (nodes_in ls)
 
 abbrev certificate_in : List Line → Certificate
-certificate_in (line.Head version ∷ line.Parts n ∷ ls) = record { parts = n; body = body_in ls }
-certificate_in ls = record { parts = 0; body = body.Plan [] }
+certificate_in (line.Head v ∷ line.Parts n ∷ ls) = record { version = v; parts = n; body = body_in ls }
+certificate_in ls = record { version = 0; parts = 0; body = body.Plan [] }
 
 -- ---- plans
 
@@ -179,7 +179,7 @@ body_again (body.Stuck w ws dirs) =
     λ i. body.Stuck w (trees i) (ways i)
 
 certificate_again : (c : Certificate) → certificate_in (lines_of c) ≡ c
-certificate_again c = λ i. record { parts = c.parts; body = body_again c.body i }
+certificate_again c = λ i. record { version = c.version; parts = c.parts; body = body_again c.body i }
 
 -- a certificate is known by its lines
 pub one_by_lines : (c d : Certificate) → lines_of c ≡ lines_of d → c ≡ d
@@ -227,10 +227,10 @@ body_goes_on (body.Stuck w ws dirs) =
 
 -- the lines but the last
 abbrev front_of : Certificate → List Line
-front_of c = line.Head 1 ∷ line.Parts c.parts ∷ lines_of_body c.body
+front_of c = line.Head c.version ∷ line.Parts c.parts ∷ lines_of_body c.body
 
 front_goes_on : (c : Certificate) → All GoesOn (front_of c)
-front_goes_on c = All-cons GoesOn (line.Head 1) (line.Parts c.parts ∷ lines_of_body c.body) tt (All-cons GoesOn (line.Parts c.parts) (lines_of_body c.body) tt (body_goes_on c.body))
+front_goes_on c = All-cons GoesOn (line.Head c.version) (line.Parts c.parts ∷ lines_of_body c.body) tt (All-cons GoesOn (line.Parts c.parts) (lines_of_body c.body) tt (body_goes_on c.body))
 
 nothing_after : (fs gs : List Line) (r : Line) (rest : List Line) → All GoesOn gs → gs ++ line.End ∷ [] ≡ (fs ++ line.End ∷ []) ++ r ∷ rest → ⊥
 nothing_after [] [] r rest h e = cc

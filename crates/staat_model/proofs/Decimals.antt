@@ -11,23 +11,23 @@ use Rattle.std.proofs.lemmas.Str.Parse.{digit_at}
 abbrev pub IsSmall : ℤ → Type 0
 IsSmall z = unsigned_abs z < 10 ^ 64
 
-digits_high : (ds : List ℕ) → AllDigits 10 ds → All (λ b. 48 ≤ b) ds
+pub digits_high : (ds : List ℕ) → AllDigits 10 ds → All (λ b. 48 ≤ b) ds
 digits_high ds all = λ k d lt. subst (λ b. 48 ≤ b) (get_or_default ds k 0 d lt) (digit_at ds k all lt).0
 
-decimal_high : (n : ℕ) → n < 10 ^ 64 → All (λ b. 48 ≤ b) (decimal n)
+pub decimal_high : (n : ℕ) → n < 10 ^ 64 → All (λ b. 48 ≤ b) (decimal n)
 decimal_high n small = digits_high (decimal n) (decimal_is_IsNumeral_wide n small).0.1
 
 pub signed_plain : (z : ℤ) → IsSmall z → All (λ b. 32 < b) (signed_decimal z)
 signed_plain (pos n) small = All-weaker (λ b. 48 ≤ b) (λ b. 32 < b) (λ b h. omega arith) (decimal n) (decimal_high n small)
 signed_plain (negsuc n) small = All-cons (λ b. 32 < b) 45 (decimal (suc n)) (omega arith) (All-weaker (λ b. 48 ≤ b) (λ b. 32 < b) (λ b h. omega arith) (decimal (suc n)) (decimal_high (suc n) small))
 
-value_of : (n : ℕ) → n < 10 ^ 64 → digits_value 10 (decimal n) ≡ n
+pub value_of : (n : ℕ) → n < 10 ^ 64 → digits_value 10 (decimal n) ≡ n
 value_of n small = (decimal_is_IsNumeral_wide n small).1
 
-decimal_same : (m n : ℕ) → m < 10 ^ 64 → n < 10 ^ 64 → decimal m ≡ decimal n → m ≡ n
+pub decimal_same : (m n : ℕ) → m < 10 ^ 64 → n < 10 ^ 64 → decimal m ≡ decimal n → m ≡ n
 decimal_same m n a b e = sym (value_of m a) ∙ ap (digits_value 10) e ∙ value_of n b
 
-no_minus : (n : ℕ) (ds : List ℕ) → n < 10 ^ 64 → decimal n ≡ 45 ∷ ds → ⊥
+pub no_minus : (n : ℕ) (ds : List ℕ) → n < 10 ^ 64 → decimal n ≡ 45 ∷ ds → ⊥
 no_minus n ds small e = let high : 48 ≤ 45 = All-head (λ b. 48 ≤ b) 45 ds (subst (All (λ b. 48 ≤ b)) e (decimal_high n small)) in absurd (omega arith)
 
 pub signed_same : (y z : ℤ) → IsSmall y → IsSmall z → signed_decimal y ≡ signed_decimal z → y ≡ z

@@ -31,13 +31,13 @@ use Rattle.staat_model.proofs.EdgeLemmas.{IsOnOne, IsAhead, IsTip, ahead, tip, c
 -- ---- the planes of a vertex
 
 -- two planes of the list that are not parallel, and on whose crossing v lies
-record FromTwo (gs : List V3) (v : V3) : Type 0 where
-  g : V3
-  h : V3
-  g_in : Contains gs g
-  h_in : Contains gs h
-  independent : cross g h ≢ origin
-  is : IsSame v (primitive (cross g h))
+pub record FromTwo (gs : List V3) (v : V3) : Type 0 where
+  pub g : V3
+  pub h : V3
+  pub g_in : Contains gs g
+  pub h_in : Contains gs h
+  pub independent : cross g h ≢ origin
+  pub is : IsSame v (primitive (cross g h))
 
 from_crossings : (g : V3) (hs : List V3) (v : V3) → Contains (crossings g hs) v → (h : V3) × Contains hs h × IsSame v (primitive (cross g h))
 from_crossings g [] v (k, lt, e) = absurd (omega arith)
@@ -45,7 +45,7 @@ from_crossings g (h ∷ hs) v (zero, lt, e) = (h, here h hs, inl (sym e))
 from_crossings g (h ∷ hs) v (suc zero, lt, e) = (h, here h hs, inr (sym e))
 from_crossings g (h ∷ hs) v (suc (suc k), lt, e) = let (m, c, s) = from_crossings g hs v (k, omega arith, e) in (m, there h m hs c, s)
 
-from_vertices : (gs : List V3) (v : V3) → NoneParallel gs → Contains (vertices gs) v → FromTwo gs v
+pub from_vertices : (gs : List V3) (v : V3) → NoneParallel gs → Contains (vertices gs) v → FromTwo gs v
 from_vertices [] v apart (k, lt, e) = absurd (omega arith)
 from_vertices (g ∷ gs) v (head, rest) has = go (Contains-append_cases (crossings g gs) (vertices gs) v has) (from_vertices gs v rest)
   where

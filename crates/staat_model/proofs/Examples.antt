@@ -165,7 +165,7 @@ never_above = wall_keeps_apart cube neighbour (v (pos 0) (pos 0) (pos 1)) (v (po
 -- ---- the smallest certificate
 
 abbrev smallest : Certificate
-smallest = record { parts = 1; body = Plan (Leaf 0 ∷ []) }
+smallest = record { version = 1; parts = 1; body = Plan (Leaf 0 ∷ []) }
 
 smallest_lines : lines_of smallest ≡ line.Head 1 ∷ line.Parts 1 ∷ line.Plan ∷ line.Leaf 0 ∷ line.End ∷ []
 smallest_lines = refl
@@ -176,7 +176,7 @@ smallest_text = rw (decimal_digit 1 (lit< tt), decimal_digit 0 (lit< tt)) refl
 smallest_read : IsReading (codes "STAAT 1\nparts 1\nplan\nleaf 0\nend\n") (whole smallest)
 smallest_read = record {
   form = record {
-    lines = All-from_recursion IsInBounds (lines_of smallest) (refl, ((lit≤ tt, lit≤ tt), (tt, (lit< tt, (tt, tt)))));
+    lines = All-from_recursion IsInBounds (lines_of smallest) ((lit≤ tt, lit≤ tt), ((lit≤ tt, lit≤ tt), (tt, (lit< tt, (tt, tt)))));
     body = record { tree = walled_leaf 0; is = refl; most = lit≤ tt; each = All-from_recursion IsNodeInOrder (Leaf 0 ∷ []) (tt, tt) };
   };
   is = sym smallest_text;
@@ -185,6 +185,7 @@ smallest_read = record {
 -- the plan that takes the two cubes apart, and its lines
 abbrev two_cubes : Certificate
 two_cubes = record {
+  version = 1;
   parts = 2;
   body = Plan (Split (v (pos 0) (pos 0) (pos 1)) ((record { arc = record { a = 0; i = 0; b = 1; j = 0 }; n = v (pos 1) (pos 0) (pos 0) }) ∷ []) ∷ Leaf 0 ∷ Leaf 1 ∷ []);
 }

@@ -30,7 +30,10 @@ pub mod GraphLemmas
 pub mod VertexLemmas
 pub mod PlaneLemmas
 pub mod CellLemmas
+pub mod OtherSides
 pub mod RefusalLemmas
+pub mod StuckSets
+pub mod ValidCertificates
 pub mod PlanLemmas
 pub mod EdgeLemmas
 pub mod EndLemmas
@@ -38,6 +41,7 @@ pub mod FirstUse
 pub mod OneCertificate
 pub mod Decimals
 pub mod LineTexts
+pub mod ArcPlaces
 pub mod CertificateLines
 pub mod OneReading
 pub mod Examples

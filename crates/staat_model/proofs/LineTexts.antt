@@ -14,7 +14,7 @@ use Rattle.staat_model.specs.declared.set.PartSet.{PartSet}
 use Rattle.staat_model.specs.declared.certificate.Arc.{Arc}
 use Rattle.staat_model.specs.declared.line.Line.{Line}
 use Rattle.staat_model.specs.declared.line.Line.TheVariants as line
-use Rattle.staat_model.specs.Lines.{members, members_from, vector_numbers, word_of, numbers_in, spaced, line_text, IsArcInBounds, IsInBounds}
+use Rattle.staat_model.specs.Lines.{members, members_from, vector_numbers, word_of, numbers_in, spaced, line_text, ArePlain, IsParted, IsArcInBounds, IsInBounds}
 use Rattle.staat_model.specs.Sets.{Has, IsSubset, below}
 use Rattle.staat_model.specs.Texts.{HasNoFeed, IsLine}
 use Rattle.staat_model.proofs.Decimals.{IsSmall, natural_length, signed_length, signed_plain, signed_same}
@@ -22,17 +22,8 @@ use Rattle.staat_model.proofs.SetBits.{has-below}
 use Rattle.staat_model.proofs.SetMembers.{has-empty, has-insert}
 use Rattle.staat_model.proofs.SetWords.{same_members}
 
--- each byte is above a blank
-abbrev ArePlain : List ℕ → Type 0
-ArePlain bytes = All (λ b. 32 < b) bytes
-
--- nothing, or a blank or a lower byte in front
-abbrev IsParted : List ℕ → Type 0
-IsParted [] = Unit {0}
-IsParted (b ∷ bytes) = b ≤ 32
-
 -- there is one way to cut a word from what follows
-one_cut : (xs ys p q : List ℕ) → ArePlain xs → ArePlain ys → IsParted p → IsParted q → xs ++ p ≡ ys ++ q → (xs ≡ ys) × (p ≡ q)
+pub one_cut : (xs ys p q : List ℕ) → ArePlain xs → ArePlain ys → IsParted p → IsParted q → xs ++ p ≡ ys ++ q → (xs ≡ ys) × (p ≡ q)
 one_cut [] [] p q a b c d e = (refl, e)
 one_cut [] (y ∷ ys) [] q a b c d e = cc
 one_cut [] (y ∷ ys) (n ∷ p) q a b c d e =
@@ -50,15 +41,15 @@ one_cut (x ∷ xs) (y ∷ ys) p q a b c d e =
     let rest = one_cut xs ys p q (All-tail (λ b. 32 < b) x xs a) (All-tail (λ b. 32 < b) y ys b) c d others in
     (λ i. first i ∷ rest.0 i, rest.1)
 
-parted_spaced : (zs : List ℤ) → IsParted (spaced zs)
+pub parted_spaced : (zs : List ℤ) → IsParted (spaced zs)
 parted_spaced [] = omega arith
 parted_spaced (z ∷ zs) = omega arith
 
-tails_of : (x : ℕ) (p q : List ℕ) → x ∷ p ≡ x ∷ q → p ≡ q
+pub tails_of : (x : ℕ) (p q : List ℕ) → x ∷ p ≡ x ∷ q → p ≡ q
 tails_of x p q e = cc
 
 -- the numbers are known by their text
-spaced_same : (ys zs : List ℤ) → All IsSmall ys → All IsSmall zs → spaced ys ≡ spaced zs → ys ≡ zs
+pub spaced_same : (ys zs : List ℤ) → All IsSmall ys → All IsSmall zs → spaced ys ≡ spaced zs → ys ≡ zs
 spaced_same [] [] a b e = refl
 spaced_same [] (z ∷ zs) a b e = cc
 spaced_same (y ∷ ys) [] a b e = cc
@@ -81,7 +72,7 @@ vector_from zs k = record { x = get_or zs k (pos 0); y = get_or zs (k + 1) (pos 
 abbrev arc_from : List ℤ → Arc
 arc_from zs = record { a = natural zs 0; i = natural zs 1; b = natural zs 2; j = natural zs 3 }
 
-abbrev set_from : List ℤ → PartSet
+abbrev pub set_from : List ℤ → PartSet
 set_from [] = set.empty
 set_from (z ∷ zs) = set.insert (set_from zs) (unsigned_abs z)
 
@@ -101,7 +92,7 @@ line_from word zs =
     else line.End
 
 -- the members that were listed are those of the set from s on
-listed_members : (n s : ℕ) (w : PartSet) (q : ℕ) → (Has (set_from (map pos (members_from s n w))) q → Has w q) × (Has w q → s ≤ q → q < s + n → Has (set_from (map pos (members_from s n w))) q)
+pub listed_members : (n s : ℕ) (w : PartSet) (q : ℕ) → (Has (set_from (map pos (members_from s n w))) q → Has w q) × (Has w q → s ≤ q → q < s + n → Has (set_from (map pos (members_from s n w))) q)
 listed_members zero s w q = (λ h. absurd (has-empty q h), λ h low high. absurd (omega arith))
 listed_members (suc n) s w q = go (set.contains w s) refl (listed_members n (suc s) w q)
   where
@@ -150,7 +141,7 @@ all_plain (b ∷ bs) e = let t = both (nat_lt 32 b) (list_all (λ c. nat_lt 32 c
     both true y h = (refl, h)
     both false y h = absurd (false≢true h)
 
-word_plain : (l : Line) → ArePlain (word_of l)
+pub word_plain : (l : Line) → ArePlain (word_of l)
 word_plain (line.Head version) = all_plain (codes "STAAT") refl
 word_plain (line.Parts n) = all_plain (codes "parts") refl
 word_plain line.Plan = all_plain (codes "plan") refl
@@ -204,9 +195,9 @@ members_small (suc n) s w h = go (set.contains w s) (members_small n (suc s) w (
     go true k = small_cons (pos s) _ (omega arith) k
     go false k = k
 
-numbers_small : (l : Line) → IsInBounds l → All IsSmall (numbers_in l)
+pub numbers_small : (l : Line) → IsInBounds l → All IsSmall (numbers_in l)
 unfolding members
-numbers_small (line.Head version) h = small_cons (pos version) [] (omega arith) small_nil
+numbers_small (line.Head version) h = small_cons (pos version) [] (omega (arith, h.1)) small_nil
 numbers_small (line.Parts n) h = small_cons (pos n) [] (omega (arith, h.1)) small_nil
 numbers_small line.Plan h = small_nil
 numbers_small (line.Stuck w) h = members_small 32 0 w (omega arith)
@@ -228,18 +219,18 @@ one_line l m f g e =
 
 -- ---- the bytes before the line feed
 
-abbrev bare : List ℤ → List ℕ
+abbrev pub bare : List ℤ → List ℕ
 bare [] = []
 bare (z ∷ zs) = 32 ∷ (signed_decimal z ++ bare zs)
 
-spaced_bare : (zs : List ℤ) → spaced zs ≡ bare zs ++ 10 ∷ []
+pub spaced_bare : (zs : List ℤ) → spaced zs ≡ bare zs ++ 10 ∷ []
 spaced_bare [] = refl
 spaced_bare (z ∷ zs) = ap (λ l. 32 ∷ l) (ap (λ l. signed_decimal z ++ l) (spaced_bare zs) ∙ sym (append_assoc (signed_decimal z) (bare zs) (10 ∷ [])))
 
-plain_no_feed : (xs : List ℕ) → ArePlain xs → HasNoFeed xs
+pub plain_no_feed : (xs : List ℕ) → ArePlain xs → HasNoFeed xs
 plain_no_feed xs h = All-weaker (λ b. 32 < b) (λ b. b ≢ 10) (λ b k e. omega arith) xs h
 
-bare_no_feed : (zs : List ℤ) → All IsSmall zs → HasNoFeed (bare zs)
+pub bare_no_feed : (zs : List ℤ) → All IsSmall zs → HasNoFeed (bare zs)
 bare_no_feed [] h = All-nil (λ b. b ≢ 10)
 bare_no_feed (z ∷ zs) h =
     All-cons (λ b. b ≢ 10) 32 (signed_decimal z ++ bare zs) (λ e. omega arith)
@@ -293,7 +284,7 @@ one_length k n some h wide = let more = bare_more (pos n) [] k 0 (natural_length
 -- directions of 25 digits and normals of 12 leave room
 numbers_length : (l : Line) → IsInBounds l → length (bare (numbers_in l)) ≤ 110
 unfolding members
-numbers_length (line.Head version) h = omega (arith, one_length 1 version (omega arith) (omega arith) (omega arith))
+numbers_length (line.Head version) h = omega (arith, one_length 1 version (omega arith) (omega (arith, h.1)) (omega (arith, h.1)))
 numbers_length (line.Parts n) h = omega (arith, one_length 2 n (omega arith) (omega (arith, h.1)) (omega (arith, h.1)))
 numbers_length line.Plan h = omega arith
 numbers_length (line.Stuck w) h = omega (arith, members_length 32 0 w (omega arith))

@@ -1,5 +1,5 @@
 -- An outcome has one certificate.
-use Rattle.std.proofs.Common.{◌≡◌, ℕ, zero, suc, ◌≤◌, List, [], ◌∷◌, map, length, All, Contains, arith, ap, sym, ◌∙◌, subst, refl}
+use Rattle.std.proofs.Common.{◌≡◌, ℕ, zero, suc, ◌≤◌, List, [], ◌∷◌, map, length, All, arith, ap, sym, ◌∙◌, subst, refl}
 use Rattle.std.proofs.lemmas.List.{length-map}
 use Rattle.std.specs.Prelude.{Some, slice_get}
 use Rattle.std.proofs.lemmas.List.Elements.{All-contains, All-head, All-tail}
@@ -18,11 +18,10 @@ use Rattle.staat_model.specs.declared.certificate.Body.TheVariants as body
 use Rattle.staat_model.specs.declared.certificate.Certificate.{Certificate}
 use Rattle.staat_model.specs.Bridges.{IsNextBridge, IsTree}
 use Rattle.staat_model.specs.Certificates.{WalledPlan, walled_leaf, walled_split, nodes_of, unwalled, walled_parts, arc_cmp, inward, outward, IsAcross}
-use Rattle.staat_model.specs.Certify.{IsFacetAway, AreLeastWalls, HasLeastWalls, ArePlanNodes, IsLeastArc, IsWitnessAt, NamesWitness, IsRefusalOf, IsBodyOf, IsCertificateOf}
+use Rattle.staat_model.specs.Certify.{IsFacetAway, AreLeastWalls, HasLeastWalls, ArePlanNodes, IsLeastArc, IsWitnessAt, NamesWitness, IsDirection, IsRefusalOf, IsBodyOf, IsCertificateOf}
 use Rattle.staat_vec.specs.Lists.{IsLeast}
 use Rattle.staat_vec.specs.Lists as lists
 use Rattle.staat_model.specs.Outcomes.{Finding, planned, stuck}
-use Rattle.staat_model.specs.Planes.{vertices}
 use Rattle.staat_model.specs.Plans.{Plan, parts_of}
 use Rattle.staat_model.specs.Removal.{Blocks, MeetsAlong}
 use Rattle.staat_model.specs.Sets.{Has, single}
@@ -154,10 +153,10 @@ dirs_same (x ∷ xs) (y ∷ ys) e f =
     let rest : xs ≡ ys = dirs_same xs ys rest_d rest_w in
     λ i. record { d = ds i; witness = ws i } ∷ rest i
 
-refusal_unique : (parts : List Part) (w : PartSet) (ws xs : List Witness) (ds es : List Dir) → IsRefusalOf parts w ws ds → IsRefusalOf parts w xs es → (ws ≡ xs) × (ds ≡ es)
-refusal_unique parts w ws xs ds es a b =
+refusal_unique : (parts : List Part) (version : ℕ) (w : PartSet) (ws xs : List Witness) (ds es : List Dir) → IsRefusalOf parts version w ws ds → IsRefusalOf parts version w xs es → (ws ≡ xs) × (ds ≡ es)
+refusal_unique parts version w ws xs ds es a b =
     let planes : a.planes ≡ b.planes = ArePlanes-unique parts w a.planes b.planes a.planes_are b.planes_are in
-    let directions : map (λ dir. dir.d) ds ≡ map (λ dir. dir.d) es = Lists-unique vector_cmp vector_total vector_exact (Contains (vertices b.planes)) (map (λ dir. dir.d) ds) (map (λ dir. dir.d) es) (subst (λ (ps : List V3). lists.Lists vector_cmp (Contains (vertices ps)) (map (λ dir. dir.d) ds)) planes a.directions) b.directions in
+    let directions : map (λ dir. dir.d) ds ≡ map (λ dir. dir.d) es = Lists-unique vector_cmp vector_total vector_exact (IsDirection version b.planes) (map (λ dir. dir.d) ds) (map (λ dir. dir.d) es) (subst (λ (ps : List V3). lists.Lists vector_cmp (IsDirection version ps) (map (λ dir. dir.d) ds)) planes a.directions) b.directions in
     let lengths : length (map (λ (dir : Dir). dir.witness) ds) ≡ length (map (λ (dir : Dir). dir.witness) es) = length-map ds (λ (dir : Dir). dir.witness) ∙ sym (length-map ds (λ (dir : Dir). dir.d)) ∙ ap length directions ∙ length-map es (λ (dir : Dir). dir.d) ∙ sym (length-map es (λ (dir : Dir). dir.witness)) in
     let same : StandForSame (map (λ dir. dir.witness) ds) (map (λ dir. dir.witness) es) ws xs = λ i k m at_k at_m.
     let x = place_in_map (λ (dir : Dir). dir.witness) ds i k at_k in
@@ -173,18 +172,19 @@ refusal_unique parts w ws xs ds es a b =
 
 -- ---- certificates
 
-body_unique : (parts : List Part) (f : Finding) (b c : Body) → IsBodyOf parts f b → IsBodyOf parts f c → b ≡ c
-body_unique parts (planned plan marks) (body.Plan xs) (body.Plan ys) g h = ap body.Plan (plan_nodes_unique parts plan xs ys g h)
-body_unique parts (planned plan marks) (body.Plan xs) (body.Stuck w ws ds) g h = absurd h
-body_unique parts (planned plan marks) (body.Stuck w ws ds) c g h = absurd g
-body_unique parts (stuck v) (body.Plan xs) c g h = absurd g
-body_unique parts (stuck v) (body.Stuck w ws ds) (body.Plan ys) g h = absurd h
-body_unique parts (stuck v) (body.Stuck w ws ds) (body.Stuck u xs es) g h =
-    let same = refusal_unique parts v ws xs ds es g.1 h.1 in
+body_unique : (parts : List Part) (version : ℕ) (f : Finding) (b c : Body) → IsBodyOf parts version f b → IsBodyOf parts version f c → b ≡ c
+body_unique parts version (planned plan marks) (body.Plan xs) (body.Plan ys) g h = ap body.Plan (plan_nodes_unique parts plan xs ys g h)
+body_unique parts version (planned plan marks) (body.Plan xs) (body.Stuck w ws ds) g h = absurd h
+body_unique parts version (planned plan marks) (body.Stuck w ws ds) c g h = absurd g
+body_unique parts version (stuck v) (body.Plan xs) c g h = absurd g
+body_unique parts version (stuck v) (body.Stuck w ws ds) (body.Plan ys) g h = absurd h
+body_unique parts version (stuck v) (body.Stuck w ws ds) (body.Stuck u xs es) g h =
+    let same = refusal_unique parts version v ws xs ds es g.1 h.1 in
     λ i. body.Stuck ((g.0 ∙ sym h.0) i) (same.0 i) (same.1 i)
 
-pub IsCertificateOf-unique : (parts : List Part) (f : Finding) (b c : Certificate) → IsCertificateOf parts f b → IsCertificateOf parts f c → b ≡ c
-IsCertificateOf-unique parts f b c g h =
+pub IsCertificateOf-unique : (parts : List Part) (version : ℕ) (f : Finding) (b c : Certificate) → IsCertificateOf parts version f b → IsCertificateOf parts version f c → b ≡ c
+IsCertificateOf-unique parts version f b c g h =
+    let versions : b.version ≡ c.version = g.version_is ∙ sym h.version_is in
     let counts : b.parts ≡ c.parts = g.count ∙ sym h.count in
-    let bodies : b.body ≡ c.body = body_unique parts f b.body c.body g.body h.body in
-    λ i. record { parts = counts i; body = bodies i }
+    let bodies : b.body ≡ c.body = body_unique parts version f b.body c.body g.body h.body in
+    λ i. record { version = versions i; parts = counts i; body = bodies i }

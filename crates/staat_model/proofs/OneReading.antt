@@ -10,13 +10,13 @@ use Rattle.staat_model.specs.Texts.{lines_of, text_of, IsTextOf, IsWellFormed, B
 use Rattle.staat_model.proofs.CertificateLines.{lines_end, one_by_lines}
 use Rattle.staat_model.proofs.LineTexts.{line_front, line_is, line_length, line_whole, one_line}
 
-abbrev text : List Line → List ℕ
+abbrev pub text : List Line → List ℕ
 text ls = flat_map line_text ls
 
 -- ---- lines of bytes
 
 -- the bytes before the first line feed are the only ones
-first_line : (xs ys p q : List ℕ) → HasNoFeed xs → HasNoFeed ys → xs ++ 10 ∷ p ≡ ys ++ 10 ∷ q → (xs ≡ ys) × (p ≡ q)
+pub first_line : (xs ys p q : List ℕ) → HasNoFeed xs → HasNoFeed ys → xs ++ 10 ∷ p ≡ ys ++ 10 ∷ q → (xs ≡ ys) × (p ≡ q)
 first_line [] [] p q a b e = let rest : p ≡ q = cc in (refl, rest)
 first_line [] (y ∷ ys) p q a b e = absurd (All-head (λ b. b ≢ 10) y ys b (let same : 10 ≡ y = cc in sym same))
 first_line (x ∷ xs) [] p q a b e = absurd (All-head (λ b. b ≢ 10) x xs a (let same : x ≡ 10 = cc in same))
@@ -26,18 +26,18 @@ first_line (x ∷ xs) (y ∷ ys) p q a b e =
     let rest = first_line xs ys p q (All-tail (λ b. b ≢ 10) x xs a) (All-tail (λ b. b ≢ 10) y ys b) others in
     (λ i. first i ∷ rest.0 i, rest.1)
 
-with_feed : (front p : List ℕ) → (front ++ 10 ∷ []) ++ p ≡ front ++ 10 ∷ p
+pub with_feed : (front p : List ℕ) → (front ++ 10 ∷ []) ++ p ≡ front ++ 10 ∷ p
 with_feed front p = append_assoc front (10 ∷ []) p
 
 -- two whole lines in front of the same bytes are one
-lines_once : (l m p q : List ℕ) → IsLine l → IsLine m → l ++ p ≡ m ++ q → (l ≡ m) × (p ≡ q)
+pub lines_once : (l m p q : List ℕ) → IsLine l → IsLine m → l ++ p ≡ m ++ q → (l ≡ m) × (p ≡ q)
 lines_once l m p q a b e =
     let bytes : a.front ++ 10 ∷ p ≡ b.front ++ 10 ∷ q = sym (ap (λ x. x ++ p) a.is ∙ with_feed a.front p) ∙ e ∙ ap (λ x. x ++ q) b.is ∙ with_feed b.front q in
     let once = first_line a.front b.front p q a.no_feed b.no_feed bytes in
     (a.is ∙ ap (λ x. x ++ 10 ∷ []) once.0 ∙ sym b.is, once.1)
 
 -- a whole line is not nothing
-line_some : (l p : List ℕ) → IsLine l → l ++ p ≡ [] → ⊥
+pub line_some : (l p : List ℕ) → IsLine l → l ++ p ≡ [] → ⊥
 line_some l p a e = none a.front (sym (ap (λ x. x ++ p) a.is ∙ with_feed a.front p) ∙ e)
   where
     none : (f : List ℕ) → f ++ 10 ∷ p ≡ [] → ⊥
@@ -45,28 +45,28 @@ line_some l p a e = none a.front (sym (ap (λ x. x ++ p) a.is ∙ with_feed a.fr
     none (b ∷ f) k = cc
 
 -- bytes with no line feed do not reach beyond a line's end
-no_feed_stops : (line front rest p : List ℕ) → HasNoFeed line → length front < length line → line ++ rest ≡ front ++ 10 ∷ p → ⊥
+pub no_feed_stops : (line front rest p : List ℕ) → HasNoFeed line → length front < length line → line ++ rest ≡ front ++ 10 ∷ p → ⊥
 no_feed_stops [] front rest p h lt e = absurd (omega arith)
 no_feed_stops (x ∷ line) [] rest p h lt e = All-head (λ b. b ≢ 10) x line h (let same : x ≡ 10 = cc in same)
 no_feed_stops (x ∷ line) (y ∷ front) rest p h lt e = let tail : line ++ rest ≡ front ++ 10 ∷ p = cc in no_feed_stops line front rest p (All-tail (λ b. b ≢ 10) x line h) (omega arith) tail
 
 -- ---- lines of certificates
 
-cut_line : (l m : Line) (p q : List ℕ) → IsInBounds l → IsInBounds m → line_text l ++ p ≡ line_text m ++ q → (l ≡ m) × (p ≡ q)
+pub cut_line : (l m : Line) (p q : List ℕ) → IsInBounds l → IsInBounds m → line_text l ++ p ≡ line_text m ++ q → (l ≡ m) × (p ≡ q)
 cut_line l m p q f g e =
     let once = lines_once (line_text l) (line_text m) p q (line_whole l f) (line_whole m g) e in
     (one_line l m f g once.0, once.1)
 
 -- of two lists of lines with which the same bytes begin, the one goes on from the other
-record GoesOn (few many : List Line) (ahead rest : List ℕ) : Type 0 where
-  back : List Line
-  is : many ≡ few ++ back
-  ahead_is : ahead ≡ text back ++ rest
+pub record GoesOn (few many : List Line) (ahead rest : List ℕ) : Type 0 where
+  pub back : List Line
+  pub is : many ≡ few ++ back
+  pub ahead_is : ahead ≡ text back ++ rest
 
 goes_more : (l m : Line) (few many : List Line) (ahead rest : List ℕ) → l ≡ m → GoesOn few many ahead rest → GoesOn (l ∷ few) (m ∷ many) ahead rest
 goes_more l m few many ahead rest e g = record { back = g.back; is = λ i. sym e i ∷ g.is i; ahead_is = g.ahead_is }
 
-nested : (xs ys : List Line) (p q : List ℕ) → All IsInBounds xs → All IsInBounds ys → text xs ++ p ≡ text ys ++ q → GoesOn xs ys p q ⊎ GoesOn ys xs q p
+pub nested : (xs ys : List Line) (p q : List ℕ) → All IsInBounds xs → All IsInBounds ys → text xs ++ p ≡ text ys ++ q → GoesOn xs ys p q ⊎ GoesOn ys xs q p
 nested [] ys p q a b e = inl (record { back = ys; is = refl; ahead_is = e })
 nested (x ∷ xs) [] p q a b e = inr (record { back = x ∷ xs; is = refl; ahead_is = sym e })
 nested (x ∷ xs) (y ∷ ys) p q a b e = go (λ k. nested xs ys p q (All-tail IsInBounds x xs a) (All-tail IsInBounds y ys b) k)
@@ -76,11 +76,11 @@ nested (x ∷ xs) (y ∷ ys) p q a b e = go (λ k. nested xs ys p q (All-tail Is
         let once = cut_line x y (text xs ++ p) (text ys ++ q) (All-head IsInBounds x xs a) (All-head IsInBounds y ys b) (sym (append_assoc (line_text x) (text xs) p) ∙ e ∙ append_assoc (line_text y) (text ys) q) in
         elim (rest once.1) [ inl g ↦ inl (goes_more x y xs ys p q once.0 g) | inr g ↦ inr (goes_more y x ys xs q p (sym once.0) g) ]
 
-text_some : (l : Line) (ls : List Line) (p : List ℕ) → IsInBounds l → [] ≡ text (l ∷ ls) ++ p → ⊥
+pub text_some : (l : Line) (ls : List Line) (p : List ℕ) → IsInBounds l → [] ≡ text (l ∷ ls) ++ p → ⊥
 text_some l ls p f e = line_some (line_text l) (text ls ++ p) (line_whole l f) (sym (append_assoc (line_text l) (text ls) p) ∙ sym e)
 
 -- lines are known by their bytes
-lines_by_text : (xs ys : List Line) → All IsInBounds xs → All IsInBounds ys → text xs ≡ text ys → xs ≡ ys
+pub lines_by_text : (xs ys : List Line) → All IsInBounds xs → All IsInBounds ys → text xs ≡ text ys → xs ≡ ys
 lines_by_text [] [] a b e = refl
 lines_by_text [] (y ∷ ys) a b e = absurd (text_some y ys [] (All-head IsInBounds y ys b) (e ∙ sym (append-nil (text (y ∷ ys)))))
 lines_by_text (x ∷ xs) [] a b e = absurd (text_some x xs [] (All-head IsInBounds x xs a) (sym e ∙ sym (append-nil (text (x ∷ xs)))))
@@ -95,16 +95,16 @@ one_certificate bytes c d f g = one_by_lines c d (lines_by_text (lines_of c) (li
 -- ---- bad lines
 
 -- the lines of bytes are the first of these lines
-record AreLines (ls : List (List ℕ)) (all : List Line) : Type 0 where
-  front : List Line
-  back : List Line
-  is : all ≡ front ++ back
-  lines : ls ≡ map line_text front
+pub record AreLines (ls : List (List ℕ)) (all : List Line) : Type 0 where
+  pub front : List Line
+  pub back : List Line
+  pub is : all ≡ front ++ back
+  pub lines : ls ≡ map line_text front
 
 lines_more : (l : List ℕ) (ls : List (List ℕ)) (m : Line) (ms : List Line) → l ≡ line_text m → AreLines ls ms → AreLines (l ∷ ls) (m ∷ ms)
 lines_more l ls m ms e f = record { front = m ∷ f.front; back = f.back; is = ap (λ x. m ∷ x) f.is; lines = λ i. e i ∷ f.lines i }
 
-begin_lines : (ls : List (List ℕ)) (ms : List Line) (more : List ℕ) → All IsLine ls → All IsInBounds ms → joined ls ++ more ≡ text ms → AreLines ls ms
+pub begin_lines : (ls : List (List ℕ)) (ms : List Line) (more : List ℕ) → All IsLine ls → All IsInBounds ms → joined ls ++ more ≡ text ms → AreLines ls ms
 begin_lines [] ms more a b e = record { front = []; back = ms; is = refl; lines = refl }
 begin_lines (l ∷ ls) [] more a b e = absurd (line_some l (joined ls ++ more) (All-head IsLine l ls a) (sym (append_assoc l (joined ls) more) ∙ e))
 begin_lines (l ∷ ls) (m ∷ ms) more a b e = go (λ k. begin_lines ls ms more (All-tail IsLine l ls a) (All-tail IsInBounds m ms b) k)
@@ -114,27 +114,27 @@ begin_lines (l ∷ ls) (m ∷ ms) more a b e = go (λ k. begin_lines ls ms more 
         let once = lines_once l (line_text m) (joined ls ++ more) (text ms) (All-head IsLine l ls a) (line_whole m (All-head IsInBounds m ms b)) (sym (append_assoc l (joined ls) more) ∙ e) in
         lines_more l ls m ms once.0 (rest once.1)
 
-begun : (ls : List (List ℕ)) → All IsLine ls → (h : BeginsText (joined ls)) → AreLines ls (lines_of h.certificate)
+pub begun : (ls : List (List ℕ)) → All IsLine ls → (h : BeginsText (joined ls)) → AreLines ls (lines_of h.certificate)
 begun ls a h = begin_lines ls (lines_of h.certificate) h.more a h.form.lines (sym h.is)
 
-texts_joined : (ls : List Line) → joined (map line_text ls) ≡ text ls
+pub texts_joined : (ls : List Line) → joined (map line_text ls) ≡ text ls
 texts_joined [] = refl
 texts_joined (l ∷ ls) = ap (λ t. line_text l ++ t) (texts_joined ls)
 
-texts_count : (ls : List Line) → length (map line_text ls) ≡ length ls
+pub texts_count : (ls : List Line) → length (map line_text ls) ≡ length ls
 texts_count [] = refl
 texts_count (l ∷ ls) = ap suc (texts_count ls)
 
-front_in_bounds : (xs ys : List Line) → All IsInBounds (xs ++ ys) → All IsInBounds xs
+pub front_in_bounds : (xs ys : List Line) → All IsInBounds (xs ++ ys) → All IsInBounds xs
 front_in_bounds [] ys h = λ k d lt. absurd (omega arith)
 front_in_bounds (x ∷ xs) ys h = All-cons IsInBounds x xs (All-head IsInBounds x (xs ++ ys) h) (front_in_bounds xs ys (All-tail IsInBounds x (xs ++ ys) h))
 
-one_in_bounds : (xs : List Line) (y : Line) (ys : List Line) → All IsInBounds (xs ++ y ∷ ys) → IsInBounds y
+pub one_in_bounds : (xs : List Line) (y : Line) (ys : List Line) → All IsInBounds (xs ++ y ∷ ys) → IsInBounds y
 one_in_bounds [] y ys h = All-head IsInBounds y ys h
 one_in_bounds (x ∷ xs) y ys h = one_in_bounds xs y ys (All-tail IsInBounds x (xs ++ y ∷ ys) h)
 
 -- where a certificate has the line l after these, and the bytes ahead begin with it, no bad line follows
-not_bad : (c : Certificate) (few : List Line) (l : Line) (back : List Line) (ahead rest : List ℕ) → IsWellFormed c → lines_of c ≡ few ++ l ∷ back → ahead ≡ line_text l ++ rest → IsBadAfter (text few) ahead → ⊥
+pub not_bad : (c : Certificate) (few : List Line) (l : Line) (back : List Line) (ahead rest : List ℕ) → IsWellFormed c → lines_of c ≡ few ++ l ∷ back → ahead ≡ line_text l ++ rest → IsBadAfter (text few) ahead → ⊥
 not_bad c few l back ahead rest form is a (inl w) =
     let fits : IsInBounds l = one_in_bounds few l back (subst (All IsInBounds) is form.lines) in
     let once = lines_once w.line (line_text l) w.rest rest w.whole (line_whole l fits) (sym w.is ∙ a) in
@@ -152,18 +152,18 @@ not_bad c few l back ahead rest form is a (inr (inr more)) =
     lines_end more.certificate c l back (is ∙ ap (λ ls. ls ++ l ∷ back) same)
 
 -- what a first bad line says of the lines before it
-record Before (bytes : List ℕ) (k : ℕ) : Type 0 where
-  certificate : Certificate
-  form : IsWellFormed certificate
-  front : List Line
-  back : List Line
-  is : lines_of certificate ≡ front ++ back
-  ahead : List ℕ
-  bytes_are : bytes ≡ text front ++ ahead
-  number : k ≡ length front + 1
-  bad : IsBadAfter (text front) ahead
+pub record Before (bytes : List ℕ) (k : ℕ) : Type 0 where
+  pub certificate : Certificate
+  pub form : IsWellFormed certificate
+  pub front : List Line
+  pub back : List Line
+  pub is : lines_of certificate ≡ front ++ back
+  pub ahead : List ℕ
+  pub bytes_are : bytes ≡ text front ++ ahead
+  pub number : k ≡ length front + 1
+  pub bad : IsBadAfter (text front) ahead
 
-before : (bytes : List ℕ) (k : ℕ) → IsFirstBadLine bytes k → Before bytes k
+pub before : (bytes : List ℕ) (k : ℕ) → IsFirstBadLine bytes k → Before bytes k
 before bytes k h =
     let a = begun h.before h.lines h.begins in
     let same : joined h.before ≡ text a.front = ap joined a.lines ∙ texts_joined a.front in
@@ -179,7 +179,7 @@ before bytes k h =
       bad = subst (λ (t : List ℕ). IsBadAfter t h.ahead) same h.bad;
     }
 
-front_bounds : (bytes : List ℕ) (k : ℕ) (b : Before bytes k) → All IsInBounds b.front
+pub front_bounds : (bytes : List ℕ) (k : ℕ) (b : Before bytes k) → All IsInBounds b.front
 front_bounds bytes k b = front_in_bounds b.front b.back (subst (All IsInBounds) b.is b.form.lines)
 
 -- a bad line after fewer lines of the same bytes

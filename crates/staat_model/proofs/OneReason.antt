@@ -1,5 +1,5 @@
 -- A certificate has one reason at most, and none where it is valid.
-use Rattle.std.proofs.Common.{◌≡◌, ◌⊎◌, ℕ, ◌+◌, ◌<◌, List, [], ◌++◌, length, map, All, Contains, arith, ap, sym, ◌∙◌, subst, inl, inr, append_assoc, append-nil}
+use Rattle.std.proofs.Common.{◌≡◌, ◌⊎◌, ℕ, ◌+◌, ◌<◌, List, [], ◌++◌, length, map, All, Contains, arith, ap, sym, ◌∙◌, refl, subst, inl, inr, append_assoc, append-nil}
 use Rattle.std.specs.Prelude.{Some, sum_by}
 use Rattle.std.proofs.lemmas.List.Elements.{All-contains}
 use Rattle.std.specs.Cmp.{nat_cmp_total}
@@ -17,13 +17,15 @@ use Rattle.staat_model.specs.declared.certificate.Witness.{Witness}
 use Rattle.staat_model.specs.declared.certificate.Body.{Body}
 use Rattle.staat_model.specs.declared.certificate.Body.TheVariants as body
 use Rattle.staat_model.specs.declared.certificate.Certificate.{Certificate}
+use Rattle.staat_model.specs.declared.verdict.Verdict.{Verdict}
+use Rattle.staat_model.specs.declared.verdict.Verdict.TheVariants.{ValidPlan, ValidRefusal, Not}
 use Rattle.staat_model.specs.declared.verdict.Reason.{Reason}
 use Rattle.staat_model.specs.declared.verdict.Reason.TheVariants.{BadLeaves, BadSeparator, MissingSeparator, BadArc, BadTree, MissingDirection}
 use Rattle.staat_model.specs.Certificates.{WalledPlan, walled_leaf, walled_split, nodes_of, walled_parts, arc_cmp, IsAcross, IsWall, SplitHolds, SplitsHold, IsLeafAt, AreAllLeaves, PlanHolds, IsStuckSet, IsWitness, IsBlocked, IsListed, RefusalHolds, IsValidPlan, IsValidRefusal}
 use Rattle.staat_model.specs.Certificates as certificates
 use Rattle.staat_vec.specs.Lists.{FailsFirst, IsFirst}
 use Rattle.staat_model.specs.Planes.{vertices}
-use Rattle.staat_model.specs.Reasons.{IsBadLeaf, HasMissingLeaf, IsLeafFault, bad_leaf, missing_leaf, IsSplitReason, zero_direction, bad_separator, missing_separator, IsTreeReason, IsPlanReason, wrong_parts, bad_leaves, bad_split, IsNoStuckSet, IsRefusalReason, bad_stuck_set, bad_tree, bad_arc, missing_direction, IsReason}
+use Rattle.staat_model.specs.Reasons.{IsBadLeaf, HasMissingLeaf, IsLeafFault, bad_leaf, missing_leaf, IsSplitReason, zero_direction, bad_separator, missing_separator, IsTreeReason, IsPlanReason, wrong_parts, bad_leaves, bad_split, IsNoStuckSet, IsRefusalReason, bad_stuck_set, bad_tree, bad_arc, missing_direction, IsReason, IsVerdict}
 use Rattle.staat_model.specs.Reasons as reasons
 use Rattle.staat_model.proofs.OneTable.{ArePlanes-unique}
 use Rattle.staat_model.proofs.Orders.{arc_total, arc_exact}
@@ -148,19 +150,19 @@ no_stuck_set : (parts : List Part) (w : PartSet) → IsNoStuckSet parts w → Is
 no_stuck_set parts w (inl few) h = absurd (omega (arith, few, h.two))
 no_stuck_set parts w (inr (p, has, high)) h = let low : p < length parts = (has-below (length parts) p).0 (h.within p has) in absurd (omega arith)
 
-none_missing : (dirs : List Dir) (vs : List V3) (d : V3) → IsFirst (λ v. IsListed dirs v → ⊥) vs d → All (IsListed dirs) vs → ⊥
-none_missing dirs vs d first all = let at = IsFirst-in (λ v. IsListed dirs v → ⊥) vs d first in at.1 (All-contains (IsListed dirs) vs d all at.0)
+none_missing : (version : ℕ) (dirs : List Dir) (vs : List V3) (d : V3) → IsFirst (λ v. IsListed version dirs v → ⊥) vs d → All (IsListed version dirs) vs → ⊥
+none_missing version dirs vs d first all = let at = IsFirst-in (λ v. IsListed version dirs v → ⊥) vs d first in at.1 (All-contains (IsListed version dirs) vs d all at.0)
 
-module _ (parts : List Part) (stated : ℕ) (w : PartSet) (witnesses : List Witness) (dirs : List Dir) where
-  refusal_reason_some : (x : Reason) → IsRefusalReason parts stated w witnesses dirs x → RefusalHolds parts stated w witnesses dirs → ⊥
+module _ (parts : List Part) (version stated : ℕ) (w : PartSet) (witnesses : List Witness) (dirs : List Dir) where
+  refusal_reason_some : (x : Reason) → IsRefusalReason parts version stated w witnesses dirs x → RefusalHolds parts version stated w witnesses dirs → ⊥
   refusal_reason_some x (wrong_parts ne e) h = ne h.count
   refusal_reason_some x (bad_stuck_set count unfit e) h = no_stuck_set parts w unfit h.stuck_set
   refusal_reason_some x (bad_tree k count set_is first e) h = FailsFirst-some (IsWitness parts w) witnesses k first h.trees
   refusal_reason_some x (bad_arc m count set_is trees first e) h = FailsFirst-some (IsBlocked parts witnesses) dirs m first h.blocked
   refusal_reason_some x (missing_direction planes d count set_is trees blocked planes_are first e) h =
-      none_missing dirs (vertices h.planes) d (subst (λ (ps : List V3). IsFirst (λ v. IsListed dirs v → ⊥) (vertices ps) d) (ArePlanes-unique parts w planes h.planes planes_are h.planes_are) first) h.all
+      none_missing version dirs (vertices h.planes) d (subst (λ (ps : List V3). IsFirst (λ v. IsListed version dirs v → ⊥) (vertices ps) d) (ArePlanes-unique parts w planes h.planes planes_are h.planes_are) first) h.all
 
-  refusal_reason_unique : (x y : Reason) → IsRefusalReason parts stated w witnesses dirs x → IsRefusalReason parts stated w witnesses dirs y → x ≡ y
+  refusal_reason_unique : (x y : Reason) → IsRefusalReason parts version stated w witnesses dirs x → IsRefusalReason parts version stated w witnesses dirs y → x ≡ y
   refusal_reason_unique x y (wrong_parts ne e) (wrong_parts ne' e') = e ∙ sym e'
   refusal_reason_unique x y (wrong_parts ne e) (bad_stuck_set count unfit e') = absurd (ne count)
   refusal_reason_unique x y (wrong_parts ne e) (bad_tree k count s f e') = absurd (ne count)
@@ -186,27 +188,44 @@ module _ (parts : List Part) (stated : ℕ) (w : PartSet) (witnesses : List Witn
   refusal_reason_unique x y (missing_direction ps d count s t b pa f e) (bad_tree k count' s' g e') = absurd (FailsFirst-some (IsWitness parts w) witnesses k g t)
   refusal_reason_unique x y (missing_direction ps d count s t b pa f e) (bad_arc m count' s' t' g e') = absurd (FailsFirst-some (IsBlocked parts witnesses) dirs m g b)
   refusal_reason_unique x y (missing_direction ps d count s t b pa f e) (missing_direction ps' d' count' s' t' b' pa' f' e') =
-      e ∙ ap MissingDirection (IsFirst-unique (λ v. IsListed dirs v → ⊥) (vertices ps') d d' (subst (λ (qs : List V3). IsFirst (λ v. IsListed dirs v → ⊥) (vertices qs) d) (ArePlanes-unique parts w ps ps' pa pa') f) f') ∙ sym e'
+      e ∙ ap MissingDirection (IsFirst-unique (λ v. IsListed version dirs v → ⊥) (vertices ps') d d' (subst (λ (qs : List V3). IsFirst (λ v. IsListed version dirs v → ⊥) (vertices qs) d) (ArePlanes-unique parts w ps ps' pa pa') f) f') ∙ sym e'
 
 -- ---- certificates
 
-body_unique : (parts : List Part) (stated : ℕ) (b : Body) (x y : Reason) → reasons.IsBodyReason parts stated b x → reasons.IsBodyReason parts stated b y → x ≡ y
-body_unique parts stated (body.Plan nodes) x y f g = plan_reason_unique parts stated nodes x y f g
-body_unique parts stated (body.Stuck w witnesses dirs) x y f g = refusal_reason_unique parts stated w witnesses dirs x y f g
+body_unique : (parts : List Part) (version stated : ℕ) (b : Body) (x y : Reason) → reasons.IsBodyReason parts version stated b x → reasons.IsBodyReason parts version stated b y → x ≡ y
+body_unique parts version stated (body.Plan nodes) x y f g = plan_reason_unique parts stated nodes x y f g
+body_unique parts version stated (body.Stuck w witnesses dirs) x y f g = refusal_reason_unique parts version stated w witnesses dirs x y f g
 
 pub IsReason-unique : (parts : List Part) (c : Certificate) (x y : Reason) → IsReason parts c x → IsReason parts c y → x ≡ y
-IsReason-unique parts c x y f g = body_unique parts c.parts c.body x y f g
+IsReason-unique parts c x y f g = body_unique parts c.version c.parts c.body x y f g
 
-plan_body : (parts : List Part) (stated : ℕ) (b : Body) (x : Reason) → reasons.IsBodyReason parts stated b x → certificates.PlanBodyHolds parts stated b → ⊥
-plan_body parts stated (body.Plan nodes) x f h = plan_reason_some parts stated nodes x f h
-plan_body parts stated (body.Stuck w witnesses dirs) x f h = h
+plan_body : (parts : List Part) (version stated : ℕ) (b : Body) (x : Reason) → reasons.IsBodyReason parts version stated b x → certificates.PlanBodyHolds parts stated b → ⊥
+plan_body parts version stated (body.Plan nodes) x f h = plan_reason_some parts stated nodes x f h
+plan_body parts version stated (body.Stuck w witnesses dirs) x f h = h
 
-refusal_body : (parts : List Part) (stated : ℕ) (b : Body) (x : Reason) → reasons.IsBodyReason parts stated b x → certificates.RefusalBodyHolds parts stated b → ⊥
-refusal_body parts stated (body.Plan nodes) x f h = h
-refusal_body parts stated (body.Stuck w witnesses dirs) x f h = refusal_reason_some parts stated w witnesses dirs x f h
+refusal_body : (parts : List Part) (version stated : ℕ) (b : Body) (x : Reason) → reasons.IsBodyReason parts version stated b x → certificates.RefusalBodyHolds parts version stated b → ⊥
+refusal_body parts version stated (body.Plan nodes) x f h = h
+refusal_body parts version stated (body.Stuck w witnesses dirs) x f h = refusal_reason_some parts version stated w witnesses dirs x f h
 
 pub no_reason_valid_plan : (parts : List Part) (c : Certificate) (x : Reason) → IsReason parts c x → IsValidPlan parts c → ⊥
-no_reason_valid_plan parts c x f h = plan_body parts c.parts c.body x f h
+no_reason_valid_plan parts c x f h = plan_body parts c.version c.parts c.body x f h
 
 pub no_reason_valid_refusal : (parts : List Part) (c : Certificate) (x : Reason) → IsReason parts c x → IsValidRefusal parts c → ⊥
-no_reason_valid_refusal parts c x f h = refusal_body parts c.parts c.body x f h
+no_reason_valid_refusal parts c x f h = refusal_body parts c.version c.parts c.body x f h
+
+-- ---- verdicts
+
+not_both : (parts : List Part) (stated version : ℕ) (b : Body) → certificates.PlanBodyHolds parts stated b → certificates.RefusalBodyHolds parts version stated b → ⊥
+not_both parts stated version (body.Plan nodes) plan refusal = refusal
+not_both parts stated version (body.Stuck w witnesses dirs) plan refusal = plan
+
+pub IsVerdict-unique : (parts : List Part) (c : Certificate) (v u : Verdict) → IsVerdict parts c v → IsVerdict parts c u → v ≡ u
+IsVerdict-unique parts c ValidPlan ValidPlan f g = refl
+IsVerdict-unique parts c ValidPlan ValidRefusal f g = absurd (not_both parts c.parts c.version c.body f g)
+IsVerdict-unique parts c ValidPlan (Not y) f g = absurd (no_reason_valid_plan parts c y g f)
+IsVerdict-unique parts c ValidRefusal ValidPlan f g = absurd (not_both parts c.parts c.version c.body g f)
+IsVerdict-unique parts c ValidRefusal ValidRefusal f g = refl
+IsVerdict-unique parts c ValidRefusal (Not y) f g = absurd (no_reason_valid_refusal parts c y g f)
+IsVerdict-unique parts c (Not x) ValidPlan f g = absurd (no_reason_valid_plan parts c x f g)
+IsVerdict-unique parts c (Not x) ValidRefusal f g = absurd (no_reason_valid_refusal parts c x f g)
+IsVerdict-unique parts c (Not x) (Not y) f g = ap Not (IsReason-unique parts c x y f g)

@@ -14,7 +14,7 @@ Contains-from_place xs k x e = (k, place_within xs k x e, get_or_from_slice_get 
 pub place_from_Contains : {X : Type 0} (xs : List X) (x : X) → Contains xs x → (k : ℕ) × (slice_get xs k ≡ Some x)
 place_from_Contains xs x (k, lt, e) = (k, slice_get-get_or xs k x lt ∙ (λ i. Some (e i)))
 
-same_some : {X : Type 0} (x y : X) → Some x ≡ Some y → x ≡ y
+pub same_some : {X : Type 0} (x y : X) → Some x ≡ Some y → x ≡ y
 same_some x y e = cc
 
 -- two elements at one place are one

@@ -62,14 +62,14 @@ get_either (y ∷ xs) ys (suc k) x e = ⊎_elim (λ (i, p). inl (suc i, p)) (λ 
 Once : List Node → Type 0
 Once nodes = (k m p : ℕ) → IsLeafAt nodes k p → IsLeafAt nodes m p → k ≡ m
 
-no_leaf : (d : V3) (seps : List Sep) (p : ℕ) → Some (Split d seps) ≡ Some (Leaf p) → ⊥
+pub no_leaf : (d : V3) (seps : List Sep) (p : ℕ) → Some (Split d seps) ≡ Some (Leaf p) → ⊥
 no_leaf d seps p e = let same : Split d seps ≡ Leaf p = same_Some (Split d seps) (Leaf p) e in cc
 
-same_leaf : (p q : ℕ) → Some (Leaf p) ≡ Some (Leaf q) → p ≡ q
+pub same_leaf : (p q : ℕ) → Some (Leaf p) ≡ Some (Leaf q) → p ≡ q
 same_leaf p q e = let same : Leaf p ≡ Leaf q = same_Some (Leaf p) (Leaf q) e in cc
 
 -- what stands at a leaf is one of the plan's parts, and each of them stands at one
-leaf_has : (t : WalledPlan) (k p : ℕ) → IsLeafAt (nodes_of t) k p → Has (walled_parts t) p
+pub leaf_has : (t : WalledPlan) (k p : ℕ) → IsLeafAt (nodes_of t) k p → Has (walled_parts t) p
 leaf_has (walled_leaf q) zero p e = (has-single q p).1 (sym (same_leaf q p e))
 leaf_has (walled_leaf q) (suc k) p e = cc
 leaf_has (walled_split d seps moved rest) zero p e = absurd (no_leaf d seps p e)
@@ -77,7 +77,7 @@ leaf_has (walled_split d seps moved rest) (suc k) p e =
     (has-union (walled_parts moved) (walled_parts rest) p).1
     (⊎_elim (λ (i, q). inl (leaf_has moved i p q)) (λ (i, q). inr (leaf_has rest i p q)) (get_either (nodes_of moved) (nodes_of rest) k (Leaf p) e))
 
-has_leaf : (t : WalledPlan) (p : ℕ) → Has (walled_parts t) p → (k : ℕ) × IsLeafAt (nodes_of t) k p
+pub has_leaf : (t : WalledPlan) (p : ℕ) → Has (walled_parts t) p → (k : ℕ) × IsLeafAt (nodes_of t) k p
 has_leaf (walled_leaf q) p h = (0, ap (λ n. Some (Leaf n)) (sym ((has-single q p).0 h)))
 has_leaf (walled_split d seps moved rest) p h =
     ⊎_elim
@@ -87,7 +87,7 @@ has_leaf (walled_split d seps moved rest) p h =
 
 -- ---- a split
 
-there_is : (parts : List Part) (a i : ℕ) (p : List V3) → piece_at parts a i ≡ Some p → i < piece_count parts a
+pub there_is : (parts : List Part) (a i : ℕ) (p : List V3) → piece_at parts a i ≡ Some p → i < piece_count parts a
 there_is parts a i p e =
     option_and_then_some {P = i < piece_count parts a} (λ part. slice_get part.pieces i) (slice_get parts a) p e
     (λ part at inside. subst (λ o. i < unwrap_or (option_map (λ part. length part.pieces) o) 0) (sym at) (slice_get_within part.pieces i p inside))

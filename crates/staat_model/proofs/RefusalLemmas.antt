@@ -3,6 +3,7 @@ use Rattle.std.proofs.Common.{◌≡◌, ℕ, sym, subst, ◌⊎◌, inl, inr, L
 use Rattle.std.specs.FinSet as set
 use Rattle.std.proofs.lemmas.List.Elements.{All-contains}
 use Rattle.staat_vec.specs.declared.vector.V3.{V3}
+use Rattle.staat_vec.specs.Vectors.{negative}
 use Rattle.staat_model.specs.declared.assembly.Part.{Part}
 use Rattle.staat_model.specs.declared.set.PartSet.{PartSet}
 use Rattle.staat_model.specs.declared.certificate.Arc.{Arc}
@@ -13,13 +14,14 @@ use Rattle.staat_model.specs.Assemblies.{IsAssembly}
 use Rattle.staat_model.specs.Removal.{IsFree, MeetsAlong}
 use Rattle.staat_model.specs.Plans.{Plan, IsGood, IsStuck}
 use Rattle.staat_model.specs.Planes.{vertices}
-use Rattle.staat_model.specs.Certificates.{RefusalHolds, IsWitness, IsArcWithin, IsBlocked, IsBlocking, IsListed, ReachesAll, outward, inward}
+use Rattle.staat_model.specs.Certificates.{RefusalHolds, IsWitness, IsArcWithin, IsBlocked, IsBlocking, HasLine, IsListed, ReachesAll, outward, inward}
 use Rattle.staat_model.proofs.Members.{here, there}
 use Rattle.staat_model.proofs.Differences.{from_map}
 use Rattle.staat_model.proofs.SetMembers.{has-difference, has-insert, has-single}
 use Rattle.staat_model.proofs.SetWords.{same_members}
 use Rattle.staat_model.proofs.PieceFacets.{meets_by_facets_lemma}
 use Rattle.staat_model.proofs.GraphLemmas.{from_slice_get, piece_is}
+use Rattle.staat_model.proofs.OtherSides.{other_free, other_side}
 use Rattle.staat_model.proofs.VertexLemmas.{stuck_at_vertices_lemma}
 use Rattle.staat_model.proofs.RestrictLemmas.{member_or_not, restrict_lemma}
 
@@ -79,20 +81,29 @@ module _ (parts : List Part) (is : IsAssembly parts) (w s : PartSet) (v : V3) (s
 
 -- ---- the refusal
 
-pub refusal_is_stuck : (parts : List Part) (stated : ℕ) (w : PartSet) (witnesses : List Witness) (dirs : List Dir) → IsAssembly parts → RefusalHolds parts stated w witnesses dirs → IsStuck parts w
-refusal_is_stuck parts stated w witnesses dirs is valid =
+pub refusal_is_stuck : (parts : List Part) (version stated : ℕ) (w : PartSet) (witnesses : List Witness) (dirs : List Dir) → IsAssembly parts → RefusalHolds parts version stated w witnesses dirs → IsStuck parts w
+refusal_is_stuck parts version stated w witnesses dirs is valid =
     let stuck_set = valid.stuck_set in
     stuck_at_vertices_lemma parts w valid.planes is valid.planes_are stuck_set.two at_vertex
   where
-    at_vertex : (v : V3) (s : PartSet) → Contains (vertices valid.planes) v → IsSide w s → IsFree parts s (set.difference w s) v → ⊥
-    at_vertex v s vertex side free =
-        let (dir, in_dirs, same) = from_map (λ dir. dir.d) dirs v (All-contains (IsListed dirs) (vertices valid.planes) v valid.all vertex) in
+    -- the witness of a line keeps each side from being free along its direction
+    at_line : (dir : Dir) (s : PartSet) → Contains dirs dir → IsSide w s → IsFree parts s (set.difference w s) dir.d → ⊥
+    at_line dir s in_dirs side free =
         let b = All-contains (IsBlocked parts witnesses) dirs dir valid.blocked in_dirs in
-        not_free parts is w s dir.d side (subst (IsFree parts s (set.difference w s)) same free) b.witness (All-contains (IsWitness parts w) witnesses b.witness valid.trees (from_slice_get witnesses dir.witness b.witness b.witness_is)) b.outs b.ins
+        not_free parts is w s dir.d side free b.witness (All-contains (IsWitness parts w) witnesses b.witness valid.trees (from_slice_get witnesses dir.witness b.witness b.witness_is)) b.outs b.ins
 
-pub refusal_is_right_lemma : (parts : List Part) (stated : ℕ) (w : PartSet) (witnesses : List Witness) (dirs : List Dir) → IsAssembly parts → RefusalHolds parts stated w witnesses dirs
+    at_direction : (d : V3) (s : PartSet) → HasLine dirs d → IsSide w s → IsFree parts s (set.difference w s) d → ⊥
+    at_direction d s has side free = let (dir, in_dirs, same) = from_map (λ dir. dir.d) dirs d has in at_line dir s in_dirs side (subst (IsFree parts s (set.difference w s)) same free)
+
+    at_vertex : (v : V3) (s : PartSet) → Contains (vertices valid.planes) v → IsSide w s → IsFree parts s (set.difference w s) v → ⊥
+    at_vertex v s vertex side free = elim (All-contains (IsListed version dirs) (vertices valid.planes) v valid.all vertex) [
+      | inl has ↦ at_direction v s has side free
+      | inr opposite ↦ at_direction (negative v) (set.difference w s) opposite.1 (other_side w s side) (other_free parts w s v side.within free)
+    ]
+
+pub refusal_is_right_lemma : (parts : List Part) (version stated : ℕ) (w : PartSet) (witnesses : List Witness) (dirs : List Dir) → IsAssembly parts → RefusalHolds parts version stated w witnesses dirs
     → IsStuck parts w × ((plan : Plan) → IsGood parts (below (length parts)) plan → ⊥)
-refusal_is_right_lemma parts stated w witnesses dirs is valid =
-    let stuck = refusal_is_stuck parts stated w witnesses dirs is valid in
+refusal_is_right_lemma parts version stated w witnesses dirs is valid =
+    let stuck = refusal_is_stuck parts version stated w witnesses dirs is valid in
     let stuck_set = valid.stuck_set in
     (stuck, λ plan good. restrict_lemma parts w stuck plan (below (length parts)) stuck_set.within good)

@@ -33,7 +33,7 @@ within_or_not a m = by_test (set.is_subset a m) refl
     by_test false is = inr (λ all. true≢false (sym (set.contains-is_subset nat_cmp_total a m all) ∙ is))
 
 -- a set has a member or is empty
-nonempty_or : (s : PartSet) → IsNonempty s ⊎ ((p : ℕ) → Has s p → ⊥)
+pub nonempty_or : (s : PartSet) → IsNonempty s ⊎ ((p : ℕ) → Has s p → ⊥)
 nonempty_or s = by_items (set.items s) refl
   where
     by_items : (ps : List ℕ) → set.items s ≡ ps → IsNonempty s ⊎ ((p : ℕ) → Has s p → ⊥)

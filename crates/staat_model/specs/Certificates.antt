@@ -1,10 +1,10 @@
 -- What makes a certificate valid for an assembly.
-use Rattle.std.specs.Prelude.{◌≡◌, ◌≢◌, ℕ, ◌<◌, ◌≤◌, pos, ◌<ℤ◌, List, [], ◌∷◌, ◌++◌, map, length, All, Contains, slice_get, Some}
+use Rattle.std.specs.Prelude.{◌≡◌, ◌≢◌, ◌⊎◌, ℕ, ◌<◌, ◌≤◌, pos, ◌<ℤ◌, List, [], ◌∷◌, ◌++◌, map, length, All, Contains, slice_get, Some}
 use Rattle.std.specs.FinSet as set
 use Rattle.std.specs.Ordering.{nat_cmp, ordering_then}
 use Rattle.std.specs.declared.cmp.Ordering.{Ordering}
 use Rattle.staat_vec.specs.declared.vector.V3.{V3}
-use Rattle.staat_vec.specs.Vectors.{origin, dot}
+use Rattle.staat_vec.specs.Vectors.{origin, dot, negative}
 use Rattle.staat_model.specs.declared.assembly.Part.{Part}
 use Rattle.staat_model.specs.declared.set.PartSet.{PartSet}
 use Rattle.staat_model.specs.declared.certificate.Arc.{Arc}
@@ -137,18 +137,22 @@ pub record IsBlocked (parts : List Part) (witnesses : List Witness) (dir : Dir) 
   pub ins : All (IsBlocking parts dir.d) witness.ins
 
 -- some line has this direction
-abbrev pub IsListed : List Dir → V3 → Type 0
-IsListed dirs v = Contains (map (λ dir. dir.d) dirs) v
+abbrev pub HasLine : List Dir → V3 → Type 0
+HasLine dirs v = Contains (map (λ dir. dir.d) dirs) v
+
+-- some line has this direction or, in version 2, the opposite one
+abbrev pub IsListed : ℕ → List Dir → V3 → Type 0
+IsListed version dirs v = HasLine dirs v ⊎ ((version ≡ 2) × HasLine dirs (negative v))
 
 -- the set is stuck: along each vertex of its planes its parts block each other
-pub record RefusalHolds (parts : List Part) (stated : ℕ) (w : PartSet) (witnesses : List Witness) (dirs : List Dir) : Type 0 where
+pub record RefusalHolds (parts : List Part) (version stated : ℕ) (w : PartSet) (witnesses : List Witness) (dirs : List Dir) : Type 0 where
   pub count : stated ≡ length parts
   pub stuck_set : IsStuckSet parts w
   pub trees : All (IsWitness parts w) witnesses
   pub blocked : All (IsBlocked parts witnesses) dirs
   pub planes : List V3
   pub planes_are : ArePlanes parts w planes
-  pub all : All (IsListed dirs) (vertices planes)
+  pub all : All (IsListed version dirs) (vertices planes)
 
 -- ---- certificates
 
@@ -157,12 +161,12 @@ abbrev pub PlanBodyHolds : List Part → ℕ → Body → Type 0
 PlanBodyHolds parts stated (body.Plan nodes) = PlanHolds parts stated nodes
 PlanBodyHolds parts stated (body.Stuck w witnesses dirs) = ⊥
 
-abbrev pub RefusalBodyHolds : List Part → ℕ → Body → Type 0
-RefusalBodyHolds parts stated (body.Plan nodes) = ⊥
-RefusalBodyHolds parts stated (body.Stuck w witnesses dirs) = RefusalHolds parts stated w witnesses dirs
+abbrev pub RefusalBodyHolds : List Part → (version stated : ℕ) → Body → Type 0
+RefusalBodyHolds parts version stated (body.Plan nodes) = ⊥
+RefusalBodyHolds parts version stated (body.Stuck w witnesses dirs) = RefusalHolds parts version stated w witnesses dirs
 
 abbrev pub IsValidPlan : List Part → Certificate → Type 0
 IsValidPlan parts c = PlanBodyHolds parts c.parts c.body
 
 abbrev pub IsValidRefusal : List Part → Certificate → Type 0
-IsValidRefusal parts c = RefusalBodyHolds parts c.parts c.body
+IsValidRefusal parts c = RefusalBodyHolds parts c.version c.parts c.body

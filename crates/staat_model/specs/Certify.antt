@@ -2,6 +2,7 @@
 use Rattle.std.specs.Prelude.{◌≡◌, ℕ, suc, ◌<◌, pos, ◌≤ℤ◌, List, map, length, All, Contains, slice_get, Some}
 use Rattle.staat_vec.specs.declared.vector.V3.{V3}
 use Rattle.staat_vec.specs.Vectors.{dot, vector_cmp}
+use Rattle.staat_vec.specs.Primitives.{IsCanon}
 use Rattle.staat_model.specs.declared.assembly.Part.{Part}
 use Rattle.staat_model.specs.declared.set.PartSet.{PartSet}
 use Rattle.staat_model.specs.declared.certificate.Arc.{Arc}
@@ -74,24 +75,30 @@ pub record NamesWitness (parts : List Part) (w : PartSet) (witnesses : List Witn
   pub witness_is : slice_get witnesses dir.witness ≡ Some witness
   pub is : IsWitnessAt parts w dir.d witness
 
--- each vertex of the planes once, ascending, with its witness; equal witnesses once, numbered by first use
-pub record IsRefusalOf (parts : List Part) (w : PartSet) (witnesses : List Witness) (dirs : List Dir) : Type 0 where
+-- d is a vertex of the planes and, in version 2, the one of two opposite vertices that stands for both
+pub record IsDirection (version : ℕ) (planes : List V3) (d : V3) : Type 0 where
+  pub vertex : Contains (vertices planes) d
+  pub canonical : version ≡ 2 → IsCanon d
+
+-- each direction once, ascending, with its witness; equal witnesses once, numbered by first use
+pub record IsRefusalOf (parts : List Part) (version : ℕ) (w : PartSet) (witnesses : List Witness) (dirs : List Dir) : Type 0 where
   pub planes : List V3
   pub planes_are : ArePlanes parts w planes
-  pub directions : Lists vector_cmp (Contains (vertices planes)) (map (λ dir. dir.d) dirs)
+  pub directions : Lists vector_cmp (IsDirection version planes) (map (λ dir. dir.d) dirs)
   pub each : All (NamesWitness parts w witnesses) dirs
   pub distinct : (k m : ℕ) (x : Witness) → slice_get witnesses k ≡ Some x → slice_get witnesses m ≡ Some x → k ≡ m
   pub by_first_use : NumbersByFirstUse (length witnesses) (map (λ dir. dir.witness) dirs)
 
 -- ---- certificates
 
-abbrev pub IsBodyOf : List Part → Finding → Body → Type 0
-IsBodyOf parts (planned plan marks) (body.Plan nodes) = ArePlanNodes parts plan nodes
-IsBodyOf parts (planned plan marks) (body.Stuck w witnesses dirs) = ⊥
-IsBodyOf parts (stuck w) (body.Plan nodes) = ⊥
-IsBodyOf parts (stuck w) (body.Stuck v witnesses dirs) = (v ≡ w) × IsRefusalOf parts w witnesses dirs
+abbrev pub IsBodyOf : List Part → ℕ → Finding → Body → Type 0
+IsBodyOf parts version (planned plan marks) (body.Plan nodes) = ArePlanNodes parts plan nodes
+IsBodyOf parts version (planned plan marks) (body.Stuck w witnesses dirs) = ⊥
+IsBodyOf parts version (stuck w) (body.Plan nodes) = ⊥
+IsBodyOf parts version (stuck w) (body.Stuck v witnesses dirs) = (v ≡ w) × IsRefusalOf parts version w witnesses dirs
 
--- the certificate of what was found for the assembly
-pub record IsCertificateOf (parts : List Part) (finding : Finding) (c : Certificate) : Type 0 where
+-- the certificate, of this version, of what was found for the assembly
+pub record IsCertificateOf (parts : List Part) (version : ℕ) (finding : Finding) (c : Certificate) : Type 0 where
+  pub version_is : c.version ≡ version
   pub count : c.parts ≡ length parts
-  pub body : IsBodyOf parts finding c.body
+  pub body : IsBodyOf parts version finding c.body

@@ -1,5 +1,5 @@
 -- The lines of a certificate's text: the word and the numbers of each, and their bounds.
-use Rattle.std.specs.Prelude.{◌≡◌, ℕ, zero, suc, ◌<◌, ◌≤◌, List, [], ◌∷◌, ◌++◌, map, ℤ, pos, codes, if◌then◌else◌}
+use Rattle.std.specs.Prelude.{ℕ, zero, suc, ◌<◌, ◌≤◌, List, [], ◌∷◌, ◌++◌, map, ℤ, pos, codes, if◌then◌else◌, All}
 use Rattle.std.specs.FinSet as set
 use Rattle.std.specs.Fmt.{signed_decimal}
 use Rattle.staat_vec.specs.declared.vector.V3.{V3}
@@ -66,6 +66,15 @@ spaced (z ∷ zs) = 32 ∷ (signed_decimal z ++ spaced zs)
 abbrev pub line_text : Line → List ℕ
 line_text l = word_of l ++ spaced (numbers_in l)
 
+-- each byte is above a blank
+abbrev pub ArePlain : List ℕ → Type 0
+ArePlain bytes = All (λ b. 32 < b) bytes
+
+-- nothing, or a blank or a lower byte in front
+abbrev pub IsParted : List ℕ → Type 0
+IsParted [] = Unit {0}
+IsParted (b ∷ bytes) = b ≤ 32
+
 -- part numbers and piece numbers
 pub record IsArcInBounds (arc : Arc) : Type 0 where
   pub a : arc.a < MOST_PARTS
@@ -73,9 +82,13 @@ pub record IsArcInBounds (arc : Arc) : Type 0 where
   pub b : arc.b < MOST_PARTS
   pub j : arc.j < MOST_PIECES
 
+-- the versions of the format
+abbrev pub IsVersion : ℕ → Type 0
+IsVersion version = (1 ≤ version) × (version ≤ 2)
+
 -- the bounds of a line's numbers
 abbrev pub IsInBounds : Line → Type 0
-IsInBounds (line.Head version) = version ≡ 1
+IsInBounds (line.Head version) = IsVersion version
 IsInBounds (line.Parts n) = (1 ≤ n) × (n ≤ MOST_PARTS)
 IsInBounds line.Plan = Unit {0}
 IsInBounds (line.Stuck w) = IsNonempty w × IsSubset w (below MOST_PARTS)

@@ -15,9 +15,11 @@ use Rattle.staat_model.specs.declared.certificate.Witness.{Witness}
 use Rattle.staat_model.specs.declared.certificate.Body.{Body}
 use Rattle.staat_model.specs.declared.certificate.Body.TheVariants as body
 use Rattle.staat_model.specs.declared.certificate.Certificate.{Certificate}
+use Rattle.staat_model.specs.declared.verdict.Verdict.{Verdict}
+use Rattle.staat_model.specs.declared.verdict.Verdict.TheVariants.{ValidPlan, ValidRefusal, Not}
 use Rattle.staat_model.specs.declared.verdict.Reason.{Reason}
 use Rattle.staat_model.specs.declared.verdict.Reason.TheVariants.{WrongParts, BadLeaves, ZeroDirection, BadSeparator, MissingSeparator, BadStuckSet, BadArc, BadTree, MissingDirection}
-use Rattle.staat_model.specs.Certificates.{WalledPlan, walled_leaf, walled_split, nodes_of, walled_parts, arc_cmp, IsAcross, IsWall, SplitHolds, SplitsHold, IsLeafAt, AreAllLeaves, IsStuckSet, IsWitness, IsBlocked, IsListed}
+use Rattle.staat_model.specs.Certificates.{WalledPlan, walled_leaf, walled_split, nodes_of, walled_parts, arc_cmp, IsAcross, IsWall, SplitHolds, SplitsHold, IsLeafAt, AreAllLeaves, IsStuckSet, IsWitness, IsBlocked, IsListed, IsValidPlan, IsValidRefusal}
 use Rattle.staat_vec.specs.Lists.{FailsFirst, IsFirst, IsLeast}
 use Rattle.staat_model.specs.Planes.{ArePlanes, vertices}
 use Rattle.staat_model.specs.Sets.{Has}
@@ -86,19 +88,25 @@ abbrev pub witness_size : Witness → ℕ
 witness_size w = 1 + length w.outs + length w.ins
 
 -- the rules of a refusal: the number of parts, then the set, then the witnesses, then the arcs, then the directions
-pub data IsRefusalReason (parts : List Part) (stated : ℕ) (w : PartSet) (witnesses : List Witness) (dirs : List Dir) (reason : Reason) : Type 0 where
-  wrong_parts : stated ≢ length parts → reason ≡ WrongParts stated → IsRefusalReason parts stated w witnesses dirs reason
-  bad_stuck_set : stated ≡ length parts → IsNoStuckSet parts w → reason ≡ BadStuckSet → IsRefusalReason parts stated w witnesses dirs reason
-  bad_tree : (k : ℕ) → stated ≡ length parts → IsStuckSet parts w → FailsFirst (IsWitness parts w) witnesses k → reason ≡ BadTree k → IsRefusalReason parts stated w witnesses dirs reason
-  bad_arc : (m : ℕ) → stated ≡ length parts → IsStuckSet parts w → All (IsWitness parts w) witnesses → FailsFirst (IsBlocked parts witnesses) dirs m → reason ≡ BadArc (first_line + sum_by witness_size witnesses + m) → IsRefusalReason parts stated w witnesses dirs reason
-  missing_direction : (planes : List V3) → (d : V3) → stated ≡ length parts → IsStuckSet parts w → All (IsWitness parts w) witnesses → All (IsBlocked parts witnesses) dirs → ArePlanes parts w planes → IsFirst (λ v. IsListed dirs v → ⊥) (vertices planes) d → reason ≡ MissingDirection d → IsRefusalReason parts stated w witnesses dirs reason
+pub data IsRefusalReason (parts : List Part) (version stated : ℕ) (w : PartSet) (witnesses : List Witness) (dirs : List Dir) (reason : Reason) : Type 0 where
+  wrong_parts : stated ≢ length parts → reason ≡ WrongParts stated → IsRefusalReason parts version stated w witnesses dirs reason
+  bad_stuck_set : stated ≡ length parts → IsNoStuckSet parts w → reason ≡ BadStuckSet → IsRefusalReason parts version stated w witnesses dirs reason
+  bad_tree : (k : ℕ) → stated ≡ length parts → IsStuckSet parts w → FailsFirst (IsWitness parts w) witnesses k → reason ≡ BadTree k → IsRefusalReason parts version stated w witnesses dirs reason
+  bad_arc : (m : ℕ) → stated ≡ length parts → IsStuckSet parts w → All (IsWitness parts w) witnesses → FailsFirst (IsBlocked parts witnesses) dirs m → reason ≡ BadArc (first_line + sum_by witness_size witnesses + m) → IsRefusalReason parts version stated w witnesses dirs reason
+  missing_direction : (planes : List V3) → (d : V3) → stated ≡ length parts → IsStuckSet parts w → All (IsWitness parts w) witnesses → All (IsBlocked parts witnesses) dirs → ArePlanes parts w planes → IsFirst (λ v. IsListed version dirs v → ⊥) (vertices planes) d → reason ≡ MissingDirection d → IsRefusalReason parts version stated w witnesses dirs reason
 
 -- ---- certificates
 
-abbrev pub IsBodyReason : List Part → ℕ → Body → Reason → Type 0
-IsBodyReason parts stated (body.Plan nodes) reason = IsPlanReason parts stated nodes reason
-IsBodyReason parts stated (body.Stuck w witnesses dirs) reason = IsRefusalReason parts stated w witnesses dirs reason
+abbrev pub IsBodyReason : List Part → (version stated : ℕ) → Body → Reason → Type 0
+IsBodyReason parts version stated (body.Plan nodes) reason = IsPlanReason parts stated nodes reason
+IsBodyReason parts version stated (body.Stuck w witnesses dirs) reason = IsRefusalReason parts version stated w witnesses dirs reason
 
 -- the certificate is not valid for the assembly, and this is the first rule that it breaks
 abbrev pub IsReason : List Part → Certificate → Reason → Type 0
-IsReason parts c reason = IsBodyReason parts c.parts c.body reason
+IsReason parts c reason = IsBodyReason parts c.version c.parts c.body reason
+
+-- what is said of the certificate for the assembly
+abbrev pub IsVerdict : List Part → Certificate → Verdict → Type 0
+IsVerdict parts c ValidPlan = IsValidPlan parts c
+IsVerdict parts c ValidRefusal = IsValidRefusal parts c
+IsVerdict parts c (Not reason) = IsReason parts c reason

@@ -2,6 +2,7 @@
 use Rattle.std.specs.Prelude.{◌≡◌, ◌≢◌, ◌⊎◌, ℕ, suc, ◌+◌, ◌*◌, ◌<◌, ◌≤◌, List, [], ◌∷◌, ◌++◌, map, length, flat_map, All}
 use Rattle.std.specs.List.Sorted.{IsStrictlySortedBy}
 use Rattle.staat_vec.specs.Vectors.{vector_cmp}
+use Rattle.staat_vec.specs.Primitives.{IsCanon}
 use Rattle.staat_model.specs.declared.certificate.Dir.{Dir}
 use Rattle.staat_model.specs.declared.certificate.Node.{Node}
 use Rattle.staat_model.specs.declared.certificate.Node.TheVariants.{Leaf, Split}
@@ -35,7 +36,7 @@ lines_of_body (body.Plan nodes) = line.Plan ∷ flat_map lines_of_node nodes
 lines_of_body (body.Stuck w witnesses dirs) = line.Stuck w ∷ (lines_of_witnesses 0 witnesses ++ map line.Dir dirs)
 
 abbrev pub lines_of : Certificate → List Line
-lines_of c = line.Head 1 ∷ line.Parts c.parts ∷ (lines_of_body c.body ++ line.End ∷ [])
+lines_of c = line.Head c.version ∷ line.Parts c.parts ∷ (lines_of_body c.body ++ line.End ∷ [])
 
 -- the bytes of a certificate
 abbrev pub text_of : Certificate → List ℕ
@@ -60,22 +61,24 @@ pub record IsWitnessInOrder (w : Witness) : Type 0 where
   pub outs : length w.outs < MOST_PARTS
   pub ins : length w.ins < MOST_PARTS
 
--- fewer witnesses and directions than the limit, the directions ascending and each with a witness that is there
-pub record IsRefusalInOrder (witnesses : List Witness) (dirs : List Dir) : Type 0 where
+-- fewer witnesses and directions than the limit, the directions ascending and each with a witness that is there; in
+-- version 2 the first nonzero component of each direction is positive
+pub record IsRefusalInOrder (version : ℕ) (witnesses : List Witness) (dirs : List Dir) : Type 0 where
   pub witness_count : length witnesses < LIST_LIMIT
   pub dir_count : length dirs < LIST_LIMIT
   pub each : All IsWitnessInOrder witnesses
   pub named : All (λ dir. dir.witness < length witnesses) dirs
   pub ascending : IsStrictlySortedBy vector_cmp (map (λ dir. dir.d) dirs)
+  pub canonical : version ≡ 2 → All (λ dir. IsCanon dir.d) dirs
 
-abbrev pub IsBodyInOrder : ℕ → Body → Type 0
-IsBodyInOrder parts (body.Plan nodes) = IsPlanInOrder parts nodes
-IsBodyInOrder parts (body.Stuck w witnesses dirs) = IsRefusalInOrder witnesses dirs
+abbrev pub IsBodyInOrder : (version parts : ℕ) → Body → Type 0
+IsBodyInOrder version parts (body.Plan nodes) = IsPlanInOrder parts nodes
+IsBodyInOrder version parts (body.Stuck w witnesses dirs) = IsRefusalInOrder version witnesses dirs
 
 -- the numbers of each line are within their bounds, and the lists in their orders
 pub record IsWellFormed (c : Certificate) : Type 0 where
   pub lines : All IsInBounds (lines_of c)
-  pub body : IsBodyInOrder c.parts c.body
+  pub body : IsBodyInOrder c.version c.parts c.body
 
 -- ---- reading
 

@@ -51,9 +51,11 @@ pub enum Body {
     },
 }
 
-/// A certificate for an assembly of so many parts.
+/// A certificate for an assembly of so many parts. Its version is 1 or 2: the second has one of each two opposite
+/// directions.
 #[derive(Drop)]
 pub struct Certificate {
+    pub version: u32,
     pub parts: u32,
     pub body: Body,
 }

@@ -15,14 +15,15 @@ pub use crate::cone_laws::{
 };
 pub use crate::one_laws::{
     no_reason_if_valid, one_certificate, one_outcome, one_reading, one_reason, one_spelling,
+    one_verdict,
 };
 pub use crate::piece_laws::{
     blocked_by_facets, facets_from_differences, opposite_facets, opposite_meeting,
     overlap_by_facets,
 };
 pub use crate::plan_laws::{
-    graph_of_cell, graph_on_border, opposite_graph, plan_is_right, refusal_is_right, restrict,
-    stuck_at_vertices, vertices_decide,
+    certificates_are_valid, graph_of_cell, graph_on_border, opposite_graph, plan_is_right,
+    refusal_is_right, restrict, stuck_at_vertices, vertices_decide,
 };
 
 /// A wall that shows a piece apart from a list of points along a direction keeps them apart for ever: the piece

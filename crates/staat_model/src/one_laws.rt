@@ -4,10 +4,11 @@ ghost use Rattle.staat_model.specs.declared.assembly.Part.{Part as PartValue};
 ghost use Rattle.staat_model.specs.declared.certificate.Certificate.{Certificate as CertificateValue};
 ghost use Rattle.staat_model.specs.declared.set.PartSet.{PartSet as PartSetValue};
 ghost use Rattle.staat_model.specs.declared.verdict.Reason.{Reason as ReasonValue};
+ghost use Rattle.staat_model.specs.declared.verdict.Verdict.{Verdict as VerdictValue};
 ghost use Rattle.staat_model.specs.Certificates.{IsValidPlan, IsValidRefusal};
 ghost use Rattle.staat_model.specs.Certify.{IsCertificateOf};
 ghost use Rattle.staat_model.specs.Outcomes.{Finding, IsOutcome};
-ghost use Rattle.staat_model.specs.Reasons.{IsReason};
+ghost use Rattle.staat_model.specs.Reasons.{IsReason, IsVerdict};
 ghost use Rattle.staat_model.specs.Texts.{IsReading, IsTextOf, Reading};
 
 /// A set of parts has one outcome, in a robust plan and in any other.
@@ -26,9 +27,14 @@ pub fn no_reason_if_valid()
     ensures refusal { (parts : List PartValue) (c : CertificateValue) (r : ReasonValue) → IsReason parts c r → IsValidRefusal parts c → ⊥ }
 {}
 
-/// An outcome has one certificate.
+/// A certificate has one verdict at most.
+pub fn one_verdict()
+    ensures { (parts : List PartValue) (c : CertificateValue) (v u : VerdictValue) → IsVerdict parts c v → IsVerdict parts c u → v ≡ u }
+{}
+
+/// An outcome has one certificate of each version.
 pub fn one_certificate()
-    ensures { (parts : List PartValue) (f : Finding) (c d : CertificateValue) → IsCertificateOf parts f c → IsCertificateOf parts f d → c ≡ d }
+    ensures { (parts : List PartValue) (version : ℕ) (f : Finding) (c d : CertificateValue) → IsCertificateOf parts version f c → IsCertificateOf parts version f d → c ≡ d }
 {}
 
 /// Bytes have one reading at most: they are the text of one certificate, or have one first bad line, or are too short.

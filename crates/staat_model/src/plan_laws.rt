@@ -14,7 +14,11 @@ ghost use Rattle.staat_model.specs.Cells.{IsBorder, signs_of};
 ghost use Rattle.staat_model.specs.declared.certificate.Dir.{Dir as DirValue};
 ghost use Rattle.staat_model.specs.declared.certificate.Node.{Node as NodeValue};
 ghost use Rattle.staat_model.specs.declared.certificate.Witness.{Witness as WitnessValue};
-ghost use Rattle.staat_model.specs.Certificates.{PlanHolds, RefusalHolds, WalledPlan, nodes_of, unwalled};
+ghost use Rattle.staat_model.specs.declared.certificate.Certificate.{Certificate as CertificateValue};
+ghost use Rattle.staat_model.specs.declared.tree.Kind.{Kind as KindValue};
+ghost use Rattle.staat_model.specs.Certificates.{IsValidPlan, IsValidRefusal, PlanHolds, RefusalHolds, WalledPlan, nodes_of, unwalled};
+ghost use Rattle.staat_model.specs.Certify.{IsCertificateOf};
+ghost use Rattle.staat_model.specs.Outcomes.{planned, stuck};
 ghost use Rattle.staat_model.specs.Borders.{HasFreeVertex};
 
 /// A set of parts that is stuck rules out every plan of every set that holds it.
@@ -55,7 +59,15 @@ pub fn plan_is_right()
 {}
 
 /// A certificate's refusal that keeps its rules names a set that is stuck, and no plan takes all parts apart: from the
-/// root no part of a side that is free is reached, or all parts are.
+/// root no part of a side that is free is reached, or all parts are. In version 2 one of two opposite directions is
+/// enough: a side that is free of the rest along one leaves the rest free of it along the other.
 pub fn refusal_is_right()
-    ensures { (parts : List PartValue) (stated : ℕ) (w : PartSetValue) (witnesses : List WitnessValue) (dirs : List DirValue) → IsAssembly parts → RefusalHolds parts stated w witnesses dirs → IsStuck parts w × ((plan : Plan) → IsGood parts (below (length parts)) plan → ⊥) }
+    ensures { (parts : List PartValue) (version stated : ℕ) (w : PartSetValue) (witnesses : List WitnessValue) (dirs : List DirValue) → IsAssembly parts → RefusalHolds parts version stated w witnesses dirs → IsStuck parts w × ((plan : Plan) → IsGood parts (below (length parts)) plan → ⊥) }
+{}
+
+/// The certificate of an outcome is valid: that of a plan that takes all parts apart, and that of a set of parts that is
+/// stuck.
+pub fn certificates_are_valid()
+    ensures plan { (parts : List PartValue) (version : ℕ) (plan : Plan) (marks : List KindValue) (c : CertificateValue) → IsGood parts (below (length parts)) plan → IsCertificateOf parts version (planned plan marks) c → IsValidPlan parts c }
+    ensures refusal { (parts : List PartValue) (version : ℕ) (w : PartSetValue) (c : CertificateValue) → IsAssembly parts → IsStuck parts w → IsCertificateOf parts version (stuck w) c → IsValidRefusal parts c }
 {}

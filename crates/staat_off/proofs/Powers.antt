@@ -32,9 +32,9 @@ no_value m z a b v lt e h =
     let tens : (v * 10 ^ y) * 10 ≡ m = mul_assoc v (10 ^ y) 10 ∙ ap (λ p. v * p) (sym (pow-suc 10 y)) ∙ product in
     e (ap (λ n. n % 10) (sym tens) ∙ mul-mod_left (v * 10 ^ y) 10)
 
--- five zeros or more make any number too big
-pub many_zeros : (m x : ℕ) → 0 < m → 5 ≤ x → 100000 ≤ m * 10 ^ x
-many_zeros m x pos five =
-    let power : 10 ^ 5 ≤ 10 ^ x = pow-le-pow_right {n = 10} (lit< tt) five in
+-- six zeros or more make any number too big
+pub many_zeros : (m x : ℕ) → 0 < m → 6 ≤ x → 1000000 ≤ m * 10 ^ x
+many_zeros m x pos six =
+    let power : 10 ^ 6 ≤ 10 ^ x = pow-le-pow_right {n = 10} (lit< tt) six in
     let least : 10 ^ x ≤ m * 10 ^ x = omega (arith, mul-le-mul_left (10 ^ x) pos) in
     omega arith

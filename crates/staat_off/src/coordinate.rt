@@ -16,7 +16,7 @@ use crate::trim::{BEYOND, trimmed_of, with_zeros};
 const FAR: u32 = 1000;
 
 /// So many zeros behind a number other than 0 take it above `POINT`.
-const TOO_MANY: u32 = 5;
+const TOO_MANY: u32 = 6;
 
 // How far the point moves to the right.
 fn right_of(is_down: bool, exponent: u32, digits: u32) -> u32

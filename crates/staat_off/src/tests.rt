@@ -42,12 +42,12 @@ const NUMBERS: [(&str, Result<i128, OffRefusal>, Result<i128, OffRefusal>); 33] 
     ("1.5e+4", Ok(15000), TOO_BIG),
     ("1e-3", NOT_WHOLE, Ok(1)),
     ("1e-4", NOT_WHOLE, NOT_WHOLE),
-    ("65536", Ok(65536), TOO_BIG),
-    ("-65536", Ok(-65536), TOO_BIG),
-    ("65537", TOO_BIG, TOO_BIG),
-    ("65.536", NOT_WHOLE, Ok(65536)),
-    ("65.5365", NOT_WHOLE, NOT_WHOLE),
-    ("1e5", TOO_BIG, TOO_BIG),
+    ("262144", Ok(262144), TOO_BIG),
+    ("-262144", Ok(-262144), TOO_BIG),
+    ("262145", TOO_BIG, TOO_BIG),
+    ("262.144", NOT_WHOLE, Ok(262144)),
+    ("262.1445", NOT_WHOLE, NOT_WHOLE),
+    ("1e5", Ok(100000), TOO_BIG),
     ("+-1", BAD, BAD),
     ("1.2.3", BAD, BAD),
     ("1e1e1", BAD, BAD),
@@ -90,7 +90,7 @@ fn numbers_have_the_value_that_they_spell(rt: HostRuntime) {
             "{word} by 1000"
         );
     }
-    assert!(rt; coordinate(rt.alloc(), "0.065536", 6) == Ok(65536));
+    assert!(rt; coordinate(rt.alloc(), "0.262144", 6) == Ok(262144));
 }
 
 // Files, with their first fault.
@@ -133,7 +133,7 @@ const FILES: [(&[u8], Option<OffRefusal>); 34] = [
     (b"OFF 00000000 0 0", Some(OffRefusal::BadCount(4))),
     (b"OFF 1000001 0 0", Some(OffRefusal::BadCount(4))),
     (
-        b"OFF\n4 4 6\n0 0 0\n65537 0 0\n",
+        b"OFF\n4 4 6\n0 0 0\n262145 0 0\n",
         Some(OffRefusal::TooBig(16)),
     ),
     (b"OFF 1 0 0 0 0", Some(OffRefusal::ShortFile)),

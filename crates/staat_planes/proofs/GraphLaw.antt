@@ -37,7 +37,7 @@ same_some : (p q : List V3) → Some p ≡ Some q → p ≡ q
 same_some p q e = cc
 
 -- the two pieces of an arc meet exactly where d leads ahead of their facets
-meets_at : (parts : List Part) (t : Table) (d : V3) (arc : Arc) → IsAssembly parts → HoldsAt parts arc (λ p q. Lists vector_cmp (IsFacet p q) (facets_of t arc)) → MeetsAlong parts d arc ↔ All (λ n. pos 0 <ℤ dot n d) (facets_of t arc)
+pub meets_at : (parts : List Part) (t : Table) (d : V3) (arc : Arc) → IsAssembly parts → HoldsAt parts arc (λ p q. Lists vector_cmp (IsFacet p q) (facets_of t arc)) → MeetsAlong parts d arc ↔ All (λ n. pos 0 <ℤ dot n d) (facets_of t arc)
 meets_at parts t d arc is h =
     let law = meets_by_list h.p h.q (facets_of t arc) d (piece_is parts arc.a arc.i h.p is h.p_is) (piece_is parts arc.b arc.j h.q is h.q_is) (λ n. (h.holds.each n, h.holds.all n)) in (
       (λ m.

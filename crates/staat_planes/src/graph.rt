@@ -15,9 +15,9 @@ use staat_model::{Arc, MOST_PARTS, PartSet};
 use staat_vec::{DIRECTION, V3, neg};
 
 impl PlaneTable {
-    // whether d leads ahead of all facets of two pieces; of those in the other order, which are the negatives, it does
-    // so where -d does of these
-    fn leads_ahead(&self, arc: Arc, d: V3) -> bool
+    /// Whether `d` leads ahead of all facets of two pieces.
+    // of those in the other order, which are the negatives, it does so where -d does of these
+    pub fn leads_ahead(&self, arc: Arc, d: V3) -> bool
         requires across { IsAcross self.now arc }
         requires direction { IsWithin DIRECTION d }
         ensures { IsTrue result ↔ All (λ n. pos 0 <ℤ dot n d) (facets_of self.now arc) }

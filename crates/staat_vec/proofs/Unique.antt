@@ -1,6 +1,7 @@
 -- What is found is the only thing that can be found.
-use Rattle.std.proofs.Common.{◌≡◌, ◌⊎◌, zero, suc, List, [], ◌∷◌, arith, ap, sym, ◌∙◌, subst, refl, inl, inr}
-use Rattle.std.specs.Prelude.{Contains}
+use Rattle.std.proofs.Common.{◌≡◌, ◌⊎◌, ℕ, zero, suc, List, [], ◌∷◌, arith, ap, sym, ◌∙◌, subst, refl, inl, inr}
+use Rattle.std.specs.Prelude.{Contains, Some, slice_get}
+use Rattle.std.proofs.lemmas.Option.{get_or_from_slice_get, slice_get_within}
 use Rattle.std.specs.List.{AllByRecursion}
 use Rattle.std.specs.List.Sorted.{IsStrictlySortedBy}
 use Rattle.std.specs.Cmp.{IsTotalOrder}
@@ -23,6 +24,9 @@ Contains-later y ys x (k, lt, is) = (suc k, omega (arith, lt), is)
 
 pub Contains-nothing : {X : Type 0} (x : X) → Contains {X = X} [] x → ⊥
 Contains-nothing x (k, lt, is) = absurd (omega (arith, lt))
+
+from_place : {X : Type 0} (xs : List X) (k : ℕ) (x : X) → slice_get xs k ≡ Some x → Contains xs x
+from_place xs k x e = (k, slice_get_within xs k x e, get_or_from_slice_get xs k x x e)
 
 -- the first element is one alone
 pub IsFirst-unique : {X : Type 0} (P : X → Type 0) (xs : List X) (x y : X) → IsFirst P xs x → IsFirst P xs y → x ≡ y
@@ -82,3 +86,16 @@ module _ {X : Type 0} (cmp : X → X → Ordering) (o : IsTotalOrder cmp) (exact
     | inl e ↦ sym e
     | inr x_below ↦ elim (b.least x a.has) [ inl e ↦ e | inr y_below ↦ absurd (one_way x y x_below y_below) ]
   ]
+
+  -- no element of an ascending list stands at two places
+  pub sorted_once : (xs : List X) → IsStrictlySortedBy cmp xs → (k m : ℕ) (x : X) → slice_get xs k ≡ Some x → slice_get xs m ≡ Some x → k ≡ m
+  unfolding IsStrictlySortedBy
+  sorted_once [] sorted k m x a b = cc
+  sorted_once (y ∷ ys) sorted zero zero x a b = refl
+  sorted_once (y ∷ ys) sorted zero (suc m) x a b =
+      let e : y ≡ x = cc in
+      absurd (one_way y y (subst (λ z. cmp y z ≡ Less) (sym e) (below_all y x ys sorted.0 (from_place ys m x b))) (subst (λ z. cmp y z ≡ Less) (sym e) (below_all y x ys sorted.0 (from_place ys m x b))))
+  sorted_once (y ∷ ys) sorted (suc k) zero x a b =
+      let e : y ≡ x = cc in
+      absurd (one_way y y (subst (λ z. cmp y z ≡ Less) (sym e) (below_all y x ys sorted.0 (from_place ys k x a))) (subst (λ z. cmp y z ≡ Less) (sym e) (below_all y x ys sorted.0 (from_place ys k x a))))
+  sorted_once (y ∷ ys) sorted (suc k) (suc m) x a b = ap suc (sorted_once ys sorted.1 k m x a b)

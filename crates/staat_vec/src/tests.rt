@@ -16,26 +16,26 @@ fn at(x: i128, y: i128, z: i128) -> V3
 
 #[test]
 fn sums_and_differences(rt: HostRuntime) {
-    let low = at(-65536, 65536, 0);
-    let high = at(65536, -65536, 1);
-    assert_eq!(rt; sub(high, low), at(131072, -131072, 1));
-    let edge = at(1 << 72, -(1 << 72), 5);
-    assert_eq!(rt; add(edge, edge), at(1 << 73, -(1 << 73), 10));
-    assert_eq!(rt; neg(at(1 << 73, -(1 << 73), 0)), at(-(1 << 73), 1 << 73, 0));
+    let low = at(-262144, 262144, 0);
+    let high = at(262144, -262144, 1);
+    assert_eq!(rt; sub(high, low), at(524288, -524288, 1));
+    let edge = at(1 << 80, -(1 << 80), 5);
+    assert_eq!(rt; add(edge, edge), at(1 << 81, -(1 << 81), 10));
+    assert_eq!(rt; neg(at(1 << 81, -(1 << 81), 0)), at(-(1 << 81), 1 << 81, 0));
 }
 
 #[test]
 fn products_at_the_bounds(rt: HostRuntime) {
-    let a = at(1 << 17, 1 << 17, -(1 << 17));
-    let b = at(-(1 << 17), 1 << 17, 1 << 17);
-    assert_eq!(rt; cross_diff(a, b), at(1 << 35, 0, 1 << 35));
-    let n = at(1 << 35, 1 << 35, -(1 << 35));
-    let m = at(-(1 << 35), 1 << 35, 1 << 35);
-    assert_eq!(rt; cross_normal(n, m), at(1 << 71, 0, 1 << 71));
-    let d = at(-(1 << 73), -(1 << 73), 1 << 73);
-    assert_eq!(rt; dot(n, d), -973555660975280180349468061728768);
-    let w = at(1 << 35, -(1 << 35), 1 << 35);
-    assert_eq!(rt; det(n, m, w), 162259276829213363391578010288128);
+    let a = at(1 << 19, 1 << 19, -(1 << 19));
+    let b = at(-(1 << 19), 1 << 19, 1 << 19);
+    assert_eq!(rt; cross_diff(a, b), at(1 << 39, 0, 1 << 39));
+    let n = at(1 << 39, 1 << 39, -(1 << 39));
+    let m = at(-(1 << 39), 1 << 39, 1 << 39);
+    assert_eq!(rt; cross_normal(n, m), at(1 << 79, 0, 1 << 79));
+    let d = at(-(1 << 81), -(1 << 81), 1 << 81);
+    assert_eq!(rt; dot(n, d), -3987683987354747618711421180841033728);
+    let w = at(1 << 39, -(1 << 39), 1 << 39);
+    assert_eq!(rt; det(n, m, w), 664613997892457936451903530140172288);
 }
 
 #[test]
@@ -57,7 +57,7 @@ fn primitive_and_canonical(rt: HostRuntime) {
     assert_eq!(rt; primitive(at(6, -9, 0)), at(2, -3, 0));
     assert_eq!(rt; primitive(at(0, 0, -5)), at(0, 0, -1));
     assert_eq!(rt; primitive(at(15, 10, 6)), at(15, 10, 6));
-    assert_eq!(rt; primitive(at(1 << 73, -(1 << 72), 3 << 71)), at(4, -2, 3));
+    assert_eq!(rt; primitive(at(1 << 81, -(1 << 80), 3 << 79)), at(4, -2, 3));
     assert_eq!(rt; canon(at(0, -2, 3)), at(0, 2, -3));
     assert_eq!(rt; canon(at(1, -5, 0)), at(1, -5, 0));
     assert_eq!(rt; canon(at(0, 0, -7)), at(0, 0, 7));
@@ -65,12 +65,12 @@ fn primitive_and_canonical(rt: HostRuntime) {
 
 #[test]
 fn bounds(rt: HostRuntime) {
-    assert_eq!(rt; (POINT, DIFF, NORMAL), (65536, 131072, 34359738368));
+    assert_eq!(rt; (POINT, DIFF, NORMAL), (262144, 524288, 549755813888));
     assert_eq!(rt;
         (VERTEX, EDGE),
-        (2361183241434822606848, 4722366482869645213696)
+        (604462909807314587353088, 1208925819614629174706176)
     );
-    assert_eq!(rt; DIRECTION, 9444732965739290427392);
+    assert_eq!(rt; DIRECTION, 2417851639229258349412352);
 }
 
 #[test]

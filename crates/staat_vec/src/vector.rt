@@ -1,22 +1,22 @@
 // Vectors of whole numbers, and how great their components may be.
 
 /// How great a coordinate may be in absolute value, in scaled whole units.
-pub const POINT: u128 = 1 << 16;
+pub const POINT: u128 = 1 << 18;
 
 /// How great a component of a difference of two points is at most.
-pub const DIFF: u128 = 1 << 17;
+pub const DIFF: u128 = 1 << 19;
 
 /// How great a component of a facet's normal may be.
-pub const NORMAL: u128 = 1 << 35;
+pub const NORMAL: u128 = 1 << 39;
 
 /// How great a component of a vertex of the planes of directions is at most.
-pub const VERTEX: u128 = 1 << 71;
+pub const VERTEX: u128 = 1 << 79;
 
 /// How great a component of an edge's representative is at most.
-pub const EDGE: u128 = 1 << 72;
+pub const EDGE: u128 = 1 << 80;
 
 /// How great a component of a direction may be.
-pub const DIRECTION: u128 = 1 << 73;
+pub const DIRECTION: u128 = 1 << 81;
 
 /// A vector of three whole components. Vectors are ordered by x, then y, then z.
 #[derive(Clone, Copy, Debug, PartialEq, Eq, PartialOrd, Ord)]

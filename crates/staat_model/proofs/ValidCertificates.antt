@@ -1,0 +1,250 @@
+-- The certificate of an outcome is valid.
+use Rattle.std.proofs.Common.{◌≡◌, ◌≢◌, ◌⊎◌, ℕ, zero, suc, ◌+◌, ◌<◌, arith, refl, sym, ap, subst, ◌∙◌, inl, inr, ⊎_elim, List, [], ◌∷◌, ◌++◌, length, map, All, Contains}
+use Rattle.std.specs.Prelude.{Some, slice_get}
+use Rattle.std.specs.FinSet as set
+use Rattle.std.proofs.lemmas.List.Elements.{All-contains, All-weaker}
+use Rattle.staat_vec.specs.declared.vector.V3.{V3}
+use Rattle.staat_vec.specs.Lists.{Lists}
+use Rattle.staat_vec.specs.Primitives.{IsCanon}
+use Rattle.staat_vec.specs.Vectors.{dot, negative, origin, vector_cmp}
+use Rattle.staat_vec.proofs.Canons.{IsCanon-canon, canon-either, negative-negative}
+use Rattle.staat_vec.proofs.Primitives.{IsPrimitive-some, primitive-is}
+use Rattle.staat_vec.proofs.Unique.{sorted_once}
+use Rattle.staat_model.specs.declared.assembly.Part.{Part}
+use Rattle.staat_model.specs.declared.set.PartSet.{PartSet}
+use Rattle.staat_model.specs.declared.certificate.Arc.{Arc}
+use Rattle.staat_model.specs.declared.certificate.Sep.{Sep}
+use Rattle.staat_model.specs.declared.certificate.Dir.{Dir}
+use Rattle.staat_model.specs.declared.certificate.Node.{Node}
+use Rattle.staat_model.specs.declared.certificate.Node.TheVariants.{Leaf}
+use Rattle.staat_model.specs.declared.certificate.Witness.{Witness}
+use Rattle.staat_model.specs.declared.certificate.Body.{Body}
+use Rattle.staat_model.specs.declared.certificate.Body.TheVariants as body
+use Rattle.staat_model.specs.declared.certificate.Certificate.{Certificate}
+use Rattle.staat_model.specs.Assemblies.{HoldsAt, IsAssembly}
+use Rattle.staat_model.specs.Bridges.{IsTree}
+use Rattle.staat_model.specs.Certificates.{WalledPlan, walled_leaf, walled_split, nodes_of, unwalled, walled_parts, arc_cmp, outward, inward, AreAllLeaves, HasLine, IsAcross, IsArcWithin, IsBlocked, IsBlocking, IsLeafAt, IsListed, IsStuckSet, IsValidPlan, IsValidRefusal, IsWall, IsWitness, PlanHolds, ReachesAll, RefusalHolds, SplitHolds, SplitsHold}
+use Rattle.staat_model.specs.Certify.{AreLeastWalls, ArePlanNodes, HasLeastWalls, IsBodyOf, IsCertificateOf, IsDirection, IsFacetAway, IsLeastArc, IsRefusalOf, IsWitnessAt, NamesWitness}
+use Rattle.staat_model.specs.Outcomes.{planned, stuck}
+use Rattle.staat_model.specs.Planes.{vertices}
+use Rattle.staat_model.specs.Plans.{IsGood, Plan, leaf, parts_of, split}
+use Rattle.staat_model.specs.Removal.{Blocks, MeetsAlong}
+use Rattle.staat_model.specs.Sets.{Has, IsSubset, below, single}
+use Rattle.staat_model.proofs.Differences.{from_map, in_map}
+use Rattle.staat_model.proofs.EndLemmas.{from_vertices}
+use Rattle.staat_model.proofs.GraphLemmas.{piece_is}
+use Rattle.staat_model.proofs.Members.{All-from_members}
+use Rattle.staat_model.proofs.Orders.{arc_exact, arc_total}
+use Rattle.staat_model.proofs.PieceFacets.{meets_by_facets_lemma}
+use Rattle.staat_model.proofs.Places.{one_at_place, place_from_Contains, place_within}
+use Rattle.staat_model.proofs.PlanLemmas.{has_leaf, leaf_has, no_leaf, there_is}
+use Rattle.staat_model.proofs.PlaneLemmas.{NoneParallel, planes_apart}
+use Rattle.staat_model.proofs.SetBits.{has-below}
+use Rattle.staat_model.proofs.SetMembers.{has-insert, has-single}
+use Rattle.staat_model.proofs.VertexLemmas.{in_vertices, same_some}
+
+-- ---- plans
+
+-- the least facets are walls
+split_holds : (parts : List Part) (s r : PartSet) (d : V3) (seps : List Sep) → d ≢ origin → AreLeastWalls parts s r d seps → SplitHolds parts s r d seps
+split_holds parts s r d seps moves walls =
+    let arcs = walls.arcs in
+    record {
+      moves = moves;
+      walls = All-from_members (IsWall parts s r d) seps (λ sep c.
+          let least = All-contains (λ (sep : Sep). Rattle.staat_vec.specs.Lists.IsLeast vector_cmp (IsFacetAway parts d sep.arc) sep.n) seps sep walls.least c in
+          let away = least.has in
+          let facet = away.facet in
+          record {
+            across = arcs.each sep.arc (in_map (λ (sep : Sep). sep.arc) seps sep c);
+            shown = record { p = facet.p; q = facet.q; p_is = facet.p_is; q_is = facet.q_is; holds = record { wall = IsPrimitive-some sep.n facet.holds.primitive; beyond = facet.holds.beyond; away = away.away } };
+          });
+      arcs = record { each = arcs.each; all = arcs.all; once = sorted_once arc_cmp arc_total arc_exact (map (λ sep. sep.arc) seps) arcs.ascending };
+    }
+
+splits_hold : (parts : List Part) (t : WalledPlan) (w : PartSet) → HasLeastWalls parts t → IsGood parts w (unwalled t) → SplitsHold parts t
+splits_hold parts (walled_leaf p) w walls good = tt
+splits_hold parts (walled_split d seps moved rest) w walls good =
+    let free = good.2 in
+    (split_holds parts (walled_parts moved) (walled_parts rest) d seps free.moves walls.0, splits_hold parts moved (walled_parts moved) walls.1 good.3, splits_hold parts rest (walled_parts rest) walls.2 good.4)
+
+-- the set that is taken apart is that of the leaves
+good_parts : (parts : List Part) (w : PartSet) (plan : Plan) → IsGood parts w plan → w ≡ parts_of plan
+good_parts parts w (leaf p) good = good
+good_parts parts w (split d moved rest) good = good.0
+
+place_cases : {X : Type 0} (xs ys : List X) (k : ℕ) (x : X) → slice_get (xs ++ ys) k ≡ Some x → (slice_get xs k ≡ Some x) ⊎ ((i : ℕ) × (k ≡ length xs + i) × (slice_get ys i ≡ Some x))
+place_cases [] ys k x e = inr (k, omega arith, e)
+place_cases (y ∷ xs) ys zero x e = inl e
+place_cases (y ∷ xs) ys (suc k) x e = ⊎_elim (λ h. inl h) (λ (i, n, h). inr (i, omega (arith, n), h)) (place_cases xs ys k x e)
+
+leaves_once : (parts : List Part) (t : WalledPlan) (w : PartSet) → IsGood parts w (unwalled t) → (k m p : ℕ) → IsLeafAt (nodes_of t) k p → IsLeafAt (nodes_of t) m p → k ≡ m
+leaves_once parts (walled_leaf q) w good zero zero p a b = refl
+leaves_once parts (walled_leaf q) w good (suc k) m p a b = cc
+leaves_once parts (walled_leaf q) w good zero (suc m) p a b = cc
+leaves_once parts (walled_split d seps moved rest) w good zero m p a b = absurd (no_leaf d seps p a)
+leaves_once parts (walled_split d seps moved rest) w good (suc k) zero p a b = absurd (no_leaf d seps p b)
+leaves_once parts (walled_split d seps moved rest) w good (suc k) (suc m) p a b = ap suc (⊎_elim
+    (λ f. ⊎_elim
+    (λ g. leaves_once parts moved (walled_parts moved) good.3 k m p f g)
+    (λ (j, n, g). absurd (good.1 p (leaf_has moved k p f) (leaf_has rest j p g)))
+    (place_cases (nodes_of moved) (nodes_of rest) m (Leaf p) b))
+    (λ (i, n, f). ⊎_elim
+    (λ g. absurd (good.1 p (leaf_has moved m p g) (leaf_has rest i p f)))
+    (λ (j, l, g). let same : i ≡ j = leaves_once parts rest (walled_parts rest) good.4 i j p f g in omega (arith, n, l, same))
+    (place_cases (nodes_of moved) (nodes_of rest) m (Leaf p) b))
+    (place_cases (nodes_of moved) (nodes_of rest) k (Leaf p) a))
+
+all_leaves : (parts : List Part) (t : WalledPlan) (n : ℕ) → IsGood parts (below n) (unwalled t) → AreAllLeaves n (nodes_of t)
+all_leaves parts t n good =
+    let e : below n ≡ walled_parts t = good_parts parts (below n) (unwalled t) good in
+    record {
+      each = λ k p f. (has-below n p).0 (subst (λ (s : PartSet). Has s p) (sym e) (leaf_has t k p f));
+      all = λ p lt. has_leaf t p (subst (λ (s : PartSet). Has s p) e ((has-below n p).1 lt));
+      once = leaves_once parts t (below n) good;
+    }
+
+plan_holds : (parts : List Part) (stated : ℕ) (plan : Plan) (nodes : List Node) → stated ≡ length parts → IsGood parts (below (length parts)) plan → ArePlanNodes parts plan nodes → PlanHolds parts stated nodes
+plan_holds parts stated plan nodes e good are =
+    let t = are.tree in
+    let fits : IsGood parts (below (length parts)) (unwalled t) = subst (IsGood parts (below (length parts))) (sym are.plan_is) good in
+    record { count = e; tree = t; tree_is = are.nodes_are; leaves = subst (AreAllLeaves (length parts)) (sym are.nodes_are) (all_leaves parts t (length parts) fits); splits = splits_hold parts t (below (length parts)) are.walls fits }
+
+-- ---- witnesses
+
+there_are : (parts : List Part) (d : V3) (arc : Arc) → MeetsAlong parts d arc → (arc.i < Rattle.staat_model.specs.Assemblies.piece_count parts arc.a) × (arc.j < Rattle.staat_model.specs.Assemblies.piece_count parts arc.b)
+there_are parts d arc m = (there_is parts arc.a arc.i m.p m.p_is, there_is parts arc.b arc.j m.q m.q_is)
+
+blocking : (parts : List Part) (d : V3) (arc : Arc) → IsAssembly parts → MeetsAlong parts d arc → IsBlocking parts d arc
+blocking parts d arc is m = record {
+  p = m.p;
+  q = m.q;
+  p_is = m.p_is;
+  q_is = m.q_is;
+  holds = (meets_by_facets_lemma m.p m.q d (piece_is parts arc.a arc.i m.p is m.p_is) (piece_is parts arc.b arc.j m.q is m.q_is)).0 m.holds;
+}
+
+more_within : (w reached : PartSet) (p : ℕ) → IsSubset reached w → Has w p → IsSubset (set.insert reached p) w
+more_within w reached p within in_w q h = ⊎_elim (λ e. subst (Has w) (sym e) in_w) (λ old. within q old) ((has-insert reached p q).0 h)
+
+module _ (parts : List Part) (w : PartSet) (d : V3) where
+  -- the arcs of a tree join parts of the set
+
+  outs_within : (reached : PartSet) (arcs : List Arc) → IsSubset reached w → IsTree (Blocks parts d) w reached (map outward arcs) → All (IsLeastArc parts d) arcs → (arc : Arc) → Contains arcs arc → IsArcWithin parts w arc
+  outs_within reached [] within tree least arc (k, lt, e) = absurd (omega arith)
+  outs_within reached (x ∷ arcs) within tree least arc (zero, lt, e) =
+      let bridge = tree.0.is in
+      let meets = (Rattle.std.proofs.lemmas.List.Elements.All-head (IsLeastArc parts d) x arcs least).has.2 in
+      let pieces = there_are parts d x meets in
+      subst (IsArcWithin parts w) e (record {
+        across = record { a_in = within x.a bridge.from_in; b_in = bridge.to_in; i_in = pieces.0; j_in = pieces.1 };
+        different = λ same. bridge.to_new (subst (Has reached) same bridge.from_in);
+      })
+  outs_within reached (x ∷ arcs) within tree least arc (suc k, lt, e) =
+      let bridge = tree.0.is in
+      outs_within (set.insert reached x.b) arcs (more_within w reached x.b within bridge.to_in) tree.1 (Rattle.std.proofs.lemmas.List.Elements.All-tail (IsLeastArc parts d) x arcs least) arc (k, omega arith, e)
+
+  ins_within : (reached : PartSet) (arcs : List Arc) → IsSubset reached w → IsTree (λ b a. Blocks parts d a b) w reached (map inward arcs) → All (IsLeastArc parts d) arcs → (arc : Arc) → Contains arcs arc → IsArcWithin parts w arc
+  ins_within reached [] within tree least arc (k, lt, e) = absurd (omega arith)
+  ins_within reached (x ∷ arcs) within tree least arc (zero, lt, e) =
+      let bridge = tree.0.is in
+      let meets = (Rattle.std.proofs.lemmas.List.Elements.All-head (IsLeastArc parts d) x arcs least).has.2 in
+      let pieces = there_are parts d x meets in
+      subst (IsArcWithin parts w) e (record {
+        across = record { a_in = bridge.to_in; b_in = within x.b bridge.from_in; i_in = pieces.0; j_in = pieces.1 };
+        different = λ same. bridge.to_new (subst (Has reached) (sym same) bridge.from_in);
+      })
+  ins_within reached (x ∷ arcs) within tree least arc (suc k, lt, e) =
+      let bridge = tree.0.is in
+      ins_within (set.insert reached x.a) arcs (more_within w reached x.a within bridge.to_in) tree.1 (Rattle.std.proofs.lemmas.List.Elements.All-tail (IsLeastArc parts d) x arcs least) arc (k, omega arith, e)
+
+  tree_reaches : (R : ℕ → ℕ → Type 0) (reached : PartSet) (pairs : List (ℕ × ℕ)) → IsTree R w reached pairs → ReachesAll w reached pairs
+  tree_reaches R reached [] tree = tree
+  tree_reaches R reached (pair ∷ pairs) tree = let bridge = tree.0.is in (bridge.from_in, bridge.to_in, bridge.to_new, tree_reaches R (set.insert reached pair.1) pairs tree.1)
+
+  pub witness_holds : (witness : Witness) → IsWitnessAt parts w d witness → IsWitness parts w witness
+  witness_holds witness at =
+      let root_in : IsSubset (single at.root) w = λ q h. subst (Has w) (sym ((has-single at.root q).0 h)) at.root_is.has in
+      record {
+        outs = All-from_members (IsArcWithin parts w) witness.outs (outs_within (single at.root) witness.outs root_in at.outs at.outs_least);
+        ins = All-from_members (IsArcWithin parts w) witness.ins (ins_within (single at.root) witness.ins root_in at.ins at.ins_least);
+        root = at.root;
+        root_is = at.root_is;
+        outs_reach = tree_reaches (Blocks parts d) (single at.root) (map outward witness.outs) at.outs;
+        ins_reach = tree_reaches (λ b a. Blocks parts d a b) (single at.root) (map inward witness.ins) at.ins;
+      }
+
+  pub witness_blocks : (witness : Witness) → IsAssembly parts → IsWitnessAt parts w d witness → All (IsBlocking parts d) witness.outs × All (IsBlocking parts d) witness.ins
+  witness_blocks witness is at = (
+    All-weaker (IsLeastArc parts d) (IsBlocking parts d) (λ arc least. blocking parts d arc is least.has.2) witness.outs at.outs_least,
+    All-weaker (IsLeastArc parts d) (IsBlocking parts d) (λ arc least. blocking parts d arc is least.has.2) witness.ins at.ins_least,
+  )
+
+-- ---- directions
+
+-- a vertex is not the origin, and its opposite is a vertex
+vertex_some : (planes : List V3) (v : V3) → NoneParallel planes → Contains (vertices planes) v → v ≢ origin
+vertex_some planes v apart c =
+    let f = from_vertices planes v apart c in
+    let ray = primitive-is (Rattle.staat_vec.specs.Vectors.cross f.g f.h) f.independent in
+    same_some v _ f.is (IsPrimitive-some _ ray.primitive)
+
+opposite_vertex : (planes : List V3) (v : V3) → NoneParallel planes → Contains (vertices planes) v → Contains (vertices planes) (negative v)
+opposite_vertex planes v apart c =
+    let f = from_vertices planes v apart c in
+    in_vertices planes f.g f.h (negative v) f.g_in f.h_in f.independent (⊎_elim {C = (negative v ≡ _) ⊎ (negative v ≡ negative _)} (λ e. inr (ap negative e)) (λ e. inl (ap negative e ∙ negative-negative _)) f.is)
+
+two_or : (version : ℕ) → (version ≡ 2) ⊎ (version ≢ 2)
+two_or version = grind arith
+
+one_canonical : (v : V3) → v ≢ origin → IsCanon v ⊎ IsCanon (negative v)
+one_canonical v some = ⊎_elim (λ e. inl (subst (λ w. IsCanon w) e (IsCanon-canon v some))) (λ e. inr (subst (λ w. IsCanon w) e (IsCanon-canon v some))) (canon-either v)
+
+all_listed : (version : ℕ) (planes : List V3) (dirs : List Dir) → NoneParallel planes → Lists vector_cmp (IsDirection version planes) (map (λ dir. dir.d) dirs) → All (IsListed version dirs) (vertices planes)
+all_listed version planes dirs apart lists = All-from_members (IsListed version dirs) (vertices planes) (λ v c. ⊎_elim {C = IsListed version dirs v}
+    (λ two. ⊎_elim {C = IsListed version dirs v}
+    (λ canonical. inl (lists.all v (record { vertex = c; canonical = λ e. canonical })))
+    (λ opposite. inr (two, lists.all (negative v) (record { vertex = opposite_vertex planes v apart c; canonical = λ e. opposite })))
+    (one_canonical v (vertex_some planes v apart c)))
+    (λ other. inl (lists.all v (record { vertex = c; canonical = λ e. absurd (other e) })))
+    (two_or version))
+
+-- ---- refusals
+
+refusal_holds : (parts : List Part) (version stated : ℕ) (w : PartSet) (witnesses : List Witness) (dirs : List Dir) → IsAssembly parts → stated ≡ length parts → IsStuckSet parts w → IsRefusalOf parts version w witnesses dirs → RefusalHolds parts version stated w witnesses dirs
+refusal_holds parts version stated w witnesses dirs is e set_is are = record {
+  count = e;
+  stuck_set = set_is;
+  trees = All-from_members (IsWitness parts w) witnesses tree;
+  blocked = All-weaker (NamesWitness parts w witnesses) (IsBlocked parts witnesses) (λ dir named. let both = witness_blocks parts w dir.d named.witness is named.is in record { witness = named.witness; witness_is = named.witness_is; outs = both.0; ins = both.1 }) dirs are.each;
+  planes = are.planes;
+  planes_are = are.planes_are;
+  all = all_listed version are.planes dirs (planes_apart parts w are.planes are.planes_are) are.directions;
+}
+  where
+    -- each witness is used
+    tree : (witness : Witness) → Contains witnesses witness → IsWitness parts w witness
+    tree witness c =
+        let place = place_from_Contains witnesses witness c in
+        let numbers = are.by_first_use in
+        let used = from_map (λ (dir : Dir). dir.witness) dirs place.0 (numbers.used place.0 (place_within witnesses place.0 witness place.1)) in
+        let named = All-contains (NamesWitness parts w witnesses) dirs used.0 are.each used.1 in
+        let same : named.witness ≡ witness = one_at_place witnesses place.0 named.witness witness (subst (λ k. slice_get witnesses k ≡ Some named.witness) (sym used.2) named.witness_is) place.1 in
+        subst (IsWitness parts w) same (witness_holds parts w used.0.d named.witness named.is)
+
+-- ---- certificates
+
+plan_body : (parts : List Part) (version stated : ℕ) (plan : Plan) (marks : _) (b : Body) → stated ≡ length parts → IsGood parts (below (length parts)) plan → IsBodyOf parts version (planned plan marks) b → Rattle.staat_model.specs.Certificates.PlanBodyHolds parts stated b
+plan_body parts version stated plan marks (body.Plan nodes) e good are = plan_holds parts stated plan nodes e good are
+plan_body parts version stated plan marks (body.Stuck w witnesses dirs) e good are = are
+
+refusal_body : (parts : List Part) (version stated : ℕ) (w : PartSet) (b : Body) → IsAssembly parts → stated ≡ length parts → IsStuckSet parts w → IsBodyOf parts version (stuck w) b → Rattle.staat_model.specs.Certificates.RefusalBodyHolds parts version stated b
+refusal_body parts version stated w (body.Plan nodes) is e set_is are = are
+refusal_body parts version stated w (body.Stuck v witnesses dirs) is e set_is are = refusal_holds parts version stated v witnesses dirs is e (subst (IsStuckSet parts) (sym are.0) set_is) (subst (λ (u : PartSet). IsRefusalOf parts version u witnesses dirs) (sym are.0) are.1)
+
+pub plan_certificate_valid : (parts : List Part) (version : ℕ) (plan : Plan) (marks : _) (c : Certificate) → IsGood parts (below (length parts)) plan → IsCertificateOf parts version (planned plan marks) c → IsValidPlan parts c
+plan_certificate_valid parts version plan marks c good is = plan_body parts version c.parts plan marks c.body is.count good is.body
+
+pub refusal_certificate_valid : (parts : List Part) (version : ℕ) (w : PartSet) (c : Certificate) → IsAssembly parts → IsStuckSet parts w → IsCertificateOf parts version (stuck w) c → IsValidRefusal parts c
+refusal_certificate_valid parts version w c assembly set_is is =
+    subst (λ v. Rattle.staat_model.specs.Certificates.RefusalBodyHolds parts v c.parts c.body) (sym is.version_is) (refusal_body parts version c.parts w c.body assembly is.count set_is is.body)
