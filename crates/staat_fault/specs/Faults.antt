@@ -32,17 +32,22 @@ body_of (fault.TooManyPoints name found) = of_file name (codes "too many points 
 body_of (fault.Flat name) = of_file name (codes "all points in one plane")
 body_of (fault.BadFace name face) = of_file name (codes "bad face " ++ decimal face)
 body_of (fault.NotConvex name face) = of_file name (codes "not convex at face " ++ decimal face)
-body_of (fault.OpenEdge name face corner) = of_file name (codes "open edge at face " ++ decimal face ++ codes " corner " ++ decimal corner)
+body_of (fault.OpenEdge name face corner) =
+    of_file name (codes "open edge at face " ++ decimal face ++ codes " corner " ++ decimal corner)
+body_of (fault.PlacedFar name) = of_file name (codes "placed too far")
 body_of (fault.NotJson name) = of_file name (codes "not JSON")
 body_of (fault.BadShape name path) = of_file name (codes "bad shape at " ++ path)
 body_of (fault.RepeatedName name part) = of_file name (codes "repeated name " ++ part)
 body_of (fault.NoPieces name part) = of_file name (codes "no pieces in part " ++ decimal part)
 body_of (fault.TooManyParts name) = of_file name (codes "too many parts")
 body_of (fault.TooManyPieces name) = of_file name (codes "too many pieces")
-body_of (fault.Overlap a i b j) = codes "parts " ++ decimal a ++ codes " and " ++ decimal b ++ codes " overlap in pieces " ++ decimal i ++ codes " and " ++ decimal j
+body_of (fault.Overlap a i b j) =
+    codes "parts " ++ decimal a ++ codes " and " ++ decimal b
+    ++ codes " overlap in pieces " ++ decimal i ++ codes " and " ++ decimal j
 body_of (fault.BadLine name line) = of_file name (codes "bad line " ++ decimal line)
 body_of (fault.ShortCert name) = of_file name (codes "certificate too short")
 body_of (fault.TooManyPlanes found) = codes "too many planes (" ++ decimal found ++ codes ")"
+body_of (fault.TooFar node) = codes "exploded view too far at node " ++ decimal node
 body_of (fault.TextTooLong length) = codes "text too long (" ++ decimal length ++ codes ")"
 body_of fault.WriteFault = codes "write fault"
 body_of fault.OutOfMemory = codes "out of memory"
@@ -56,6 +61,7 @@ abbrev pub status_of : Fault → ℕ
 status_of fault.Usage = 2
 status_of (fault.TooLong name) = 4
 status_of (fault.TooManyPlanes found) = 4
+status_of (fault.TooFar node) = 4
 status_of (fault.TextTooLong length) = 4
 status_of (fault.ReadFault name) = 5
 status_of fault.WriteFault = 6

@@ -39,6 +39,8 @@ pub enum Fault {
     NotConvex(Name, u32),
     /// The edge of the face at the corner does not occur exactly twice.
     OpenEdge(Name, u32, u32),
+    /// The piece of this file, moved as its part is, has a coordinate that is too great.
+    PlacedFar(Name),
     /// The part list is not JSON.
     NotJson(Name),
     /// The value at the path does not have its shape.
@@ -59,6 +61,8 @@ pub enum Fault {
     ShortCert(Name),
     /// There are so many planes.
     TooManyPlanes(u64),
+    /// Parts stand too far apart in an exploded view, once the split of this number is done.
+    TooFar(u32),
     /// The text would have so many bytes.
     TextTooLong(u128),
     /// A sink failed.

@@ -92,6 +92,12 @@ fn too_many_planes(alloc: Global, found: u64) -> Result<String, AllocError>
     format!(in alloc; "staat: too many planes ({found})\n")
 }
 
+fn too_far(alloc: Global, node: u32) -> Result<String, AllocError>
+    ensures { IfOk result (λ s. string_bytes s ≡ whole (codes "exploded view too far at node " ++ decimal node)) }
+{
+    format!(in alloc; "staat: exploded view too far at node {node}\n")
+}
+
 fn text_too_long(alloc: Global, length: u128) -> Result<String, AllocError>
     ensures { IfOk result (λ s. string_bytes s ≡ whole (codes "text too long (" ++ decimal length ++ codes ")")) }
 {
@@ -120,6 +126,7 @@ fn line_text(alloc: Global, fault: &Fault) -> Result<String, AllocError>
         Fault::BadFace(name, face) => about_nth(alloc, name, "bad face ", *face),
         Fault::NotConvex(name, face) => about_nth(alloc, name, "not convex at face ", *face),
         Fault::OpenEdge(name, face, corner) => open_edge(alloc, name, *face, *corner),
+        Fault::PlacedFar(name) => about(alloc, name, "placed too far"),
         Fault::NotJson(name) => about(alloc, name, "not JSON"),
         Fault::BadShape(name, path) => about_text(alloc, name, "bad shape at ", path),
         Fault::RepeatedName(name, part) => about_text(alloc, name, "repeated name ", part),
@@ -130,6 +137,7 @@ fn line_text(alloc: Global, fault: &Fault) -> Result<String, AllocError>
         Fault::BadLine(name, line) => about_nth(alloc, name, "bad line ", *line),
         Fault::ShortCert(name) => about(alloc, name, "certificate too short"),
         Fault::TooManyPlanes(found) => too_many_planes(alloc, *found),
+        Fault::TooFar(node) => too_far(alloc, *node),
         Fault::TextTooLong(length) => text_too_long(alloc, *length),
         Fault::WriteFault => plain(alloc, "write fault"),
         Fault::OutOfMemory => plain(alloc, "out of memory"),

@@ -12,7 +12,7 @@ pub fn status_of(fault: &Fault) -> u8
 {
     match fault {
         Fault::Usage => 2,
-        Fault::TooLong(_) | Fault::TooManyPlanes(_) | Fault::TextTooLong(_) => 4,
+        Fault::TooLong(_) | Fault::TooManyPlanes(_) | Fault::TooFar(_) | Fault::TextTooLong(_) => 4,
         Fault::ReadFault(_) => 5,
         Fault::WriteFault => 6,
         Fault::OutOfMemory => 7,

@@ -12,10 +12,15 @@ use Rattle.std.proofs.lemmas.Slice.Eq.{bytes_eq-Decides}
 use Rattle.serde_json.specs.Data.{Data}
 use Rattle.staat_manifest.specs.declared.refusal.ManifestRefusal.{ManifestRefusal}
 use Rattle.staat_manifest.specs.declared.refusal.ManifestRefusal.TheVariants as refusal
-use Rattle.staat_manifest.specs.Values.{Part, Text, json_of, listed, name_of, parts_of, pieces_of, text_of}
+use Rattle.staat_model.specs.declared.limits.TheConstants.{MOST_PARTS, MOST_PIECES}
+use Rattle.staat_manifest.specs.declared.listing.ListedPart.{ListedPart}
+use Rattle.staat_manifest.specs.Values.{Text, json_of, name_of, parts_of, pieces_of, text_of}
 use Rattle.staat_manifest.specs.Answers.{Answers}
-use Rattle.staat_manifest.specs.Listings.{IsListing}
-use Rattle.staat_manifest.specs.Rules.{answer, answer_of, first_refusal, form_rules, joint_rules, part_list, rule, rules_from, whole_rules}
+use Rattle.staat_manifest.specs.Listings.{IsListing, listed}
+use Rattle.staat_vec.specs.declared.vector.TheConstants.{POINT}
+use Rattle.staat_vec.specs.Vectors.{IsWithin}
+use Rattle.staat_manifest.proofs.PlacementLemmas.{at_within}
+use Rattle.staat_manifest.specs.Rules.{part_path, answer, answer_of, first_refusal, form_rules, joint_rules, part_list, rule, rules_from, whole_rules}
 
 -- all of some rules hold, so these and those do
 split : (rules others : List (Option ManifestRefusal)) → first_refusal (rules ++ others) ≡ None → (first_refusal rules ≡ None) × (first_refusal others ≡ None)
@@ -35,35 +40,41 @@ kept (None ∷ rules) (suc i) b e h at = kept rules i b e h at
 kept (Some d ∷ rules) i b e h at = cc
 
 -- what holds of the parts so far
-record IsGood (parts : List Part) : Type 0 where
-  each : All (λ part. 1 ≤ length part.1) parts
-  pieces : sum_by (λ part. length part.1) parts ≤ 64
-  names : AllPairs (λ a b. a ≢ b) (map (λ part. part.0) parts)
+record IsGood (parts : List ListedPart) : Type 0 where
+  each : All (λ part. 1 ≤ length part.pieces) parts
+  placed : All (λ part. IsWithin POINT part.at) parts
+  pieces : sum_by (λ part. length part.pieces) parts ≤ MOST_PIECES
+  names : AllPairs (λ a b. a ≢ b) (map (λ part. part.name) parts)
 
-has_pieces : (k : ℕ) (part : Data) → first_refusal (form_rules k part) ≡ None → 1 ≤ length (listed part).1
+has_pieces : (k : ℕ) (part : Data) → first_refusal (form_rules k part) ≡ None → 1 ≤ length (listed part).pieces
 unfolding form_rules
 has_pieces k part h =
-    let some : nat_lt 0 (length (pieces_of part)) ≡ true = kept (form_rules k part) 4 _ (refusal.NoPieces k) h refl in
+    let some : nat_lt 0 (length (pieces_of part)) ≡ true = kept (form_rules k part) 5 _ (refusal.NoPieces k) h refl in
     rw (length-map (pieces_of part) text_of) (grind (arith, nat_tests, some))
+
+is_placed : (k : ℕ) (part : Data) → first_refusal (form_rules k part) ≡ None → IsWithin POINT (listed part).at
+unfolding form_rules
+is_placed k part h = at_within part (kept (form_rules k part) 3 _ (refusal.BadShape (part_path k ++ codes "/at")) h refl)
 
 is_new : (names : List Text) (name : Text) → list_any (bytes_eq name) names ≡ false → (k : ℕ) (d : Text) → k < length names → get_or names k d ≢ name
 is_new names name none k d lt same =
     let found : list_any (bytes_eq name) names ≡ true = list_any_at (bytes_eq name) names k d lt ((bytes_eq-Decides name (get_or names k d)).1 (sym same)) in
     cc
 
-grown : (earlier : List Part) (part : Data) → IsGood earlier → first_refusal (form_rules (length earlier) part) ≡ None → first_refusal (joint_rules earlier (listed part)) ≡ None → IsGood (earlier ++ listed part ∷ [])
+grown : (earlier : List ListedPart) (part : Data) → IsGood earlier → first_refusal (form_rules (length earlier) part) ≡ None → first_refusal (joint_rules earlier (listed part)) ≡ None → IsGood (earlier ++ listed part ∷ [])
 grown earlier part good form joint =
-    let new : not (list_any (bytes_eq (name_of part)) (map (λ other. other.0) earlier)) ≡ true = kept (joint_rules earlier (listed part)) 0 _ (refusal.RepeatedName (name_of part)) joint refl in
-    let none : list_any (bytes_eq (name_of part)) (map (λ other. other.0) earlier) ≡ false = grind (arith, new) in
-    let few : nat_le (sum_by (λ other. length other.1) (earlier ++ listed part ∷ [])) 64 ≡ true = kept (joint_rules earlier (listed part)) 1 _ refusal.TooManyPieces joint refl in
+    let new : not (list_any (bytes_eq (name_of part)) (map (λ other. other.name) earlier)) ≡ true = kept (joint_rules earlier (listed part)) 0 _ (refusal.RepeatedName (name_of part)) joint refl in
+    let none : list_any (bytes_eq (name_of part)) (map (λ other. other.name) earlier) ≡ false = grind (arith, new) in
+    let few : nat_le (sum_by (λ other. length other.pieces) (earlier ++ listed part ∷ [])) MOST_PIECES ≡ true = kept (joint_rules earlier (listed part)) 1 _ refusal.TooManyPieces joint refl in
     record {
-      each = All-push (λ (p : Part). 1 ≤ length p.1) earlier (listed part) good.each (has_pieces (length earlier) part form);
+      each = All-push (λ (p : ListedPart). 1 ≤ length p.pieces) earlier (listed part) good.each (has_pieces (length earlier) part form);
+      placed = All-push (λ (p : ListedPart). IsWithin POINT p.at) earlier (listed part) good.placed (is_placed (length earlier) part form);
       pieces = grind (arith, nat_tests, few);
-      names = subst (λ (names : List Text). AllPairs (λ a b. a ≢ b) names) (sym (map_push (λ (p : Part). p.0) earlier (listed part)))
-          (all_pairs_push (λ (a b : Text). a ≢ b) (map (λ p. p.0) earlier) (name_of part) good.names (is_new (map (λ p. p.0) earlier) (name_of part) none));
+      names = subst (λ (names : List Text). AllPairs (λ a b. a ≢ b) names) (sym (map_push (λ (p : ListedPart). p.name) earlier (listed part)))
+          (all_pairs_push (λ (a b : Text). a ≢ b) (map (λ p. p.name) earlier) (name_of part) good.names (is_new (map (λ p. p.name) earlier) (name_of part) none));
     }
 
-all_good : (earlier : List Part) (parts : List Data) → IsGood earlier → first_refusal (rules_from earlier parts) ≡ None → IsGood (earlier ++ map listed parts)
+all_good : (earlier : List ListedPart) (parts : List Data) → IsGood earlier → first_refusal (rules_from earlier parts) ≡ None → IsGood (earlier ++ map listed parts)
 all_good earlier [] good h = subst IsGood (sym (append-nil earlier)) good
 all_good earlier (part ∷ later) good h =
     let parted = split (form_rules (length earlier) part ++ joint_rules earlier (listed part)) (rules_from (earlier ++ listed part ∷ []) later) h in
@@ -71,35 +82,36 @@ all_good earlier (part ∷ later) good h =
     subst IsGood (append_assoc earlier (listed part ∷ []) (map listed later)) (all_good (earlier ++ listed part ∷ []) later (grown earlier part good own.0 own.1) parted.1)
 
 none_good : IsGood []
-none_good = record { each = All-nil (λ (p : Part). 1 ≤ length p.1); pieces = omega arith; names = λ i j d lt within. absurd (omega arith) }
+none_good = record { each = All-nil (λ (p : ListedPart). 1 ≤ length p.pieces); placed = All-nil (λ (p : ListedPart). IsWithin POINT p.at); pieces = omega arith; names = λ i j d lt within. absurd (omega arith) }
 
 is_listing : (value : Data) → first_refusal (whole_rules value ++ rules_from [] (parts_of value)) ≡ None → IsListing (map listed (parts_of value))
 unfolding whole_rules
 is_listing value h =
     let parted = split (whole_rules value) (rules_from [] (parts_of value)) h in
     let some : nat_lt 0 (length (parts_of value)) ≡ true = kept (whole_rules value) 1 _ (refusal.BadShape (codes "/parts")) parted.0 refl in
-    let few : nat_le (length (parts_of value)) 32 ≡ true = kept (whole_rules value) 3 _ refusal.TooManyParts parted.0 refl in
+    let few : nat_le (length (parts_of value)) MOST_PARTS ≡ true = kept (whole_rules value) 3 _ refusal.TooManyParts parted.0 refl in
     let good = all_good [] (parts_of value) none_good parted.1 in
     record {
       at_least = rw (length-map (parts_of value) listed) (grind (arith, nat_tests, some));
       at_most = rw (length-map (parts_of value) listed) (grind (arith, nat_tests, few));
       each = good.each;
+      placed = good.placed;
       pieces = good.pieces;
       names = good.names;
     }
 
-accepted : (broken : Option ManifestRefusal) (parts list : List Part) → (broken ≡ None → IsListing parts) → answer broken parts ≡ Ok list → IsListing list
+accepted : (broken : Option ManifestRefusal) (parts list : List ListedPart) → (broken ≡ None → IsListing parts) → answer broken parts ≡ Ok list → IsListing list
 accepted None parts list h e =
     let same : parts ≡ list = cc in
     subst IsListing same (h refl)
 accepted (Some refusal) parts list h e = cc
 
-of_value : (value : Option Data) (list : List Part) → answer_of value ≡ Ok list → IsListing list
+of_value : (value : Option Data) (list : List ListedPart) → answer_of value ≡ Ok list → IsListing list
 of_value None list e = cc
 of_value (Some value) list e = accepted _ _ list (is_listing value) e
 
 -- what is accepted keeps the bounds
-pub within_bounds : (bytes : Text) (result : Result (List Part) ManifestRefusal) → Answers (part_list bytes) result → IfOk result IsListing
+pub within_bounds : (bytes : Text) (result : Result (List ListedPart) ManifestRefusal) → Answers (part_list bytes) result → IfOk result IsListing
 unfolding part_list
 within_bounds bytes (Ok list) e = of_value (json_of bytes) list e
 within_bounds bytes (Err refusal) e = tt

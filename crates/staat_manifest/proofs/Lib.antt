@@ -1,3 +1,4 @@
 pub mod Accepted
 pub mod RuleLemmas
 pub mod ValueLemmas
+pub mod PlacementLemmas

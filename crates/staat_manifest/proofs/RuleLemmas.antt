@@ -9,7 +9,10 @@ use Rattle.serde_json.specs.View.{view}
 use Rattle.serde_json.specs.declared.value.Value.{Value}
 use Rattle.staat_manifest.specs.declared.refusal.ManifestRefusal.{ManifestRefusal}
 use Rattle.staat_manifest.specs.declared.refusal.ManifestRefusal.TheVariants as refusal
-use Rattle.staat_manifest.specs.Values.{Part, Text, json_of, listed, parts_of}
+use Rattle.staat_model.specs.declared.limits.TheConstants.{MOST_PIECES}
+use Rattle.staat_manifest.specs.declared.listing.ListedPart.{ListedPart}
+use Rattle.staat_manifest.specs.Listings.{listed}
+use Rattle.staat_manifest.specs.Values.{Text, json_of, parts_of}
 use Rattle.staat_manifest.specs.Answers.{Answers, Refuses}
 use Rattle.staat_manifest.specs.Rules.{answer, answer_of, count_rule, first_refusal, form_rules, joint_rules, name_rule, part_list, rules_from, whole_rules}
 
@@ -26,7 +29,7 @@ stopped e (None ∷ rules) others h = stopped e rules others h
 stopped e (Some d ∷ rules) others h = h
 
 -- a refusal by some of the rules is one by all
-pub passed_on : (e : ManifestRefusal) (some all : Option ManifestRefusal) (parts : List Part) → ((d : ManifestRefusal) → some ≡ Some d → all ≡ Some d) → Refuses some e → Answers (answer all parts) (Err e)
+pub passed_on : (e : ManifestRefusal) (some all : Option ManifestRefusal) (parts : List ListedPart) → ((d : ManifestRefusal) → some ≡ Some d → all ≡ Some d) → Refuses some e → Answers (answer all parts) (Err e)
 passed_on refusal.NotJson some all parts h j = ap (λ o. answer o parts) (h _ j)
 passed_on (refusal.BadShape path) some all parts h j = ap (λ o. answer o parts) (h _ j)
 passed_on (refusal.RepeatedName name) some all parts h j = ap (λ o. answer o parts) (h _ j)
@@ -42,33 +45,33 @@ second None None h = refl
 second None (Some e) h = refl
 second (Some d) then h = cc
 
-module _ (earlier : List Part) (part : Part) (names : List Text) (count : ℕ) (named : names ≡ map (λ other. other.0) earlier) (counted : count ≡ sum_by (λ other. length other.1) earlier) where
-  name : name_rule names part.0 ≡ name_rule (map (λ other. other.0) earlier) part.0
-  name = ap (λ others. name_rule others part.0) named
+module _ (earlier : List ListedPart) (part : ListedPart) (names : List Text) (count : ℕ) (named : names ≡ map (λ other. other.name) earlier) (counted : count ≡ sum_by (λ other. length other.pieces) earlier) where
+  name : name_rule names part.name ≡ name_rule (map (λ other. other.name) earlier) part.name
+  name = ap (λ others. name_rule others part.name) named
 
   -- the pieces are those of the others and its own
-  pub total : sum_by (λ other. length other.1) (earlier ++ part ∷ []) ≡ count + length part.1
-  total = sum_by-append (λ other. length other.1) earlier (part ∷ []) ∙ omega (arith, counted)
+  pub total : sum_by (λ other. length other.pieces) (earlier ++ part ∷ []) ≡ count + length part.pieces
+  total = sum_by-append (λ other. length other.pieces) earlier (part ∷ []) ∙ omega (arith, counted)
 
   -- its name is repeated
-  pub name_repeated : (e : ManifestRefusal) → name_rule names part.0 ≡ Some e → first_refusal (joint_rules earlier part) ≡ Some e
-  name_repeated e h = ap (λ r. first_refusal (r ∷ count_rule (sum_by (λ other. length other.1) (earlier ++ part ∷ [])) ∷ [])) (sym name ∙ h)
+  pub name_repeated : (e : ManifestRefusal) → name_rule names part.name ≡ Some e → first_refusal (joint_rules earlier part) ≡ Some e
+  name_repeated e h = ap (λ r. first_refusal (r ∷ count_rule (sum_by (λ other. length other.pieces) (earlier ++ part ∷ [])) ∷ [])) (sym name ∙ h)
 
   -- its name is new, so its pieces decide
-  pub by_count : name_rule names part.0 ≡ None → first_refusal (joint_rules earlier part) ≡ count_rule (count + length part.1)
+  pub by_count : name_rule names part.name ≡ None → first_refusal (joint_rules earlier part) ≡ count_rule (count + length part.pieces)
   by_count h = second _ _ (sym name ∙ h) ∙ ap count_rule total
 
-pub count_over : (count : ℕ) → 64 < count → count_rule count ≡ Some refusal.TooManyPieces
+pub count_over : (count : ℕ) → MOST_PIECES < count → count_rule count ≡ Some refusal.TooManyPieces
 count_over count over = grind (arith, nat_tests)
 
-pub count_within : (count : ℕ) → count ≤ 64 → count_rule count ≡ None
+pub count_within : (count : ℕ) → count ≤ MOST_PIECES → count_rule count ≡ None
 count_within count within = grind (arith, nat_tests)
 
 -- ---- the parts from part k on
 
-module _ (earlier : List Part) (values : List Value) (k : ℕ) (v : Value) (more : k < length values) (is : v ≡ get_or values k v) (part : Part) (same : part ≡ listed (view v)) where
+module _ (earlier : List ListedPart) (values : List Value) (k : ℕ) (v : Value) (more : k < length values) (is : v ≡ get_or values k v) (part : ListedPart) (same : part ≡ listed (view v)) where
   -- the list with this part
-  pub list_more : (list : List Part) → list ≡ earlier ++ part ∷ [] → earlier ≡ map listed (map view (take k values)) → list ≡ map listed (map view (take (k + 1) values))
+  pub list_more : (list : List ListedPart) → list ≡ earlier ++ part ∷ [] → earlier ≡ map listed (map view (take k values)) → list ≡ map listed (map view (take (k + 1) values))
   list_more list grown so_far =
       grown ∙ ap (λ p. earlier ++ p ∷ []) same ∙ ap (λ xs. xs ++ listed (view v) ∷ []) so_far
       ∙ ap (λ x. map listed (map view (take k values)) ++ listed (view x) ∷ []) is
@@ -103,7 +106,7 @@ module _ (earlier : List Part) (values : List Value) (k : ℕ) (v : Value) (more
     joint_refuses f e h = sym here ∙ stopped e (form ++ joint) later (passed form joint f ∙ h)
 
     -- the part keeps its rules
-    pub goes_on : first_refusal (form_rules k (view v)) ≡ None → first_refusal (joint_rules earlier part) ≡ None → (list : List Part) → list ≡ earlier ++ part ∷ [] → first_refusal (rules_from list (map view (drop (k + 1) values))) ≡ all
+    pub goes_on : first_refusal (form_rules k (view v)) ≡ None → first_refusal (joint_rules earlier part) ≡ None → (list : List ListedPart) → list ≡ earlier ++ part ∷ [] → first_refusal (rules_from list (map view (drop (k + 1) values))) ≡ all
     unfolding form joint later
     goes_on f h list grown =
         ap (λ l. first_refusal (rules_from l (map view (drop (k + 1) values)))) grown
@@ -118,7 +121,7 @@ module _ (bytes : Text) (value : Data) (is : json_of bytes ≡ Some value) where
 
   -- the whole value breaks a rule
   pub whole_refuses : (e : ManifestRefusal) → Refuses (first_refusal (whole_rules value)) e → Answers (part_list bytes) (Err e)
-  whole_refuses e h = subst (λ (wanted : Result (List Part) ManifestRefusal). Answers wanted (Err e)) (sym is_answer) (passed_on e _ _ _ (λ d. stopped d (whole_rules value) (rules_from [] (parts_of value))) h)
+  whole_refuses e h = subst (λ (wanted : Result (List ListedPart) ManifestRefusal). Answers wanted (Err e)) (sym is_answer) (passed_on e _ _ _ (λ d. stopped d (whole_rules value) (rules_from [] (parts_of value))) h)
 
   -- the parts decide
   pub by_parts : first_refusal (whole_rules value) ≡ None → (parts : List Data) → parts ≡ parts_of value → part_list bytes ≡ answer (first_refusal (rules_from [] parts)) (map listed parts)

@@ -1,5 +1,5 @@
 -- From serde_json's clauses to the values that a part list reads.
-use Rattle.std.proofs.Common.{◌≡◌, Bool, true, false, List, [], ◌∷◌, map, Some, None, refl, ap, string_bytes, Bor, ◌∙◌}
+use Rattle.std.proofs.Common.{◌≡◌, Bool, true, false, List, [], ◌∷◌, map, Some, None, refl, ap, codes, string_bytes, Bor, ◌∙◌}
 use Rattle.std.specs.Prelude.{String, ◌&&◌, ◌||◌}
 use Rattle.std.specs.Str.{IsUtf8, is_utf8, bytes_eq}
 use Rattle.std.specs.List.{list_all, list_any}
@@ -10,6 +10,8 @@ use Rattle.serde_json.specs.Find.{as_array, as_object, get}
 use Rattle.serde_json.specs.Read.{read}
 use Rattle.serde_json.specs.View.{items_of, items_view, members_view, view}
 use Rattle.serde_json.specs.declared.value.Value.{Value}
+use Rattle.staat_vec.specs.Vectors.{origin}
+use Rattle.staat_manifest.specs.Placements.{placement_of, vector_in}
 use Rattle.staat_manifest.specs.Values.{Text, array_at, has_only, json_of, list_of, names_of}
 
 -- what was read is the value
@@ -33,6 +35,21 @@ listed_items (d ∷ ds) = ap (λ xs. d ∷ xs) (listed_items ds)
 -- the items of an array at a name, from the clauses of the steps to it
 pub array_from : (name : Text) (d a : Data) (vs : List Value) → get name d ≡ Some a → as_array a ≡ Some (items_view vs) → array_at name d ≡ Some (map view vs)
 array_from name d a vs e f = rw (e, f, listed_items (map view vs)) refl
+
+-- a part is moved by the vector that the items of its member are
+pub placed_by : (part at : Data) (vs : List Value) → get (codes "at") part ≡ Some at → as_array at ≡ Some (items_view vs) → placement_of part ≡ vector_in (map view vs)
+unfolding placement_of
+placed_by part at vs e f = rw (e, f, listed_items (map view vs)) refl
+
+-- a member that is no array is no vector
+pub not_placed : (part at : Data) → get (codes "at") part ≡ Some at → as_array at ≡ None → placement_of part ≡ None
+unfolding placement_of
+not_placed part at e f = rw (e, f) refl
+
+-- a part without the member stays where it is
+pub not_moved : (part : Data) → get (codes "at") part ≡ None → placement_of part ≡ Some origin
+unfolding placement_of
+not_moved part e = rw e refl
 
 -- a test of each name of a map is one of each name of the object
 pub names_from : (p : Text → Bool) (es : List (String Global × Value)) → list_all (λ name. p (string_bytes name)) (map (λ e. e.0) es) ≡ list_all p (names_of (members_view es))

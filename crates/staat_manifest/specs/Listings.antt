@@ -1,11 +1,23 @@
--- What holds of every list of parts that is accepted.
+-- Parts as they are listed, and what holds of every list of parts that is accepted.
 use Rattle.std.specs.Prelude.{◌≢◌, ◌≤◌, List, length, map, sum_by, All, AllPairs}
-use Rattle.staat_manifest.specs.Values.{Part}
+use Rattle.serde_json.specs.Data.{Data}
+use Rattle.staat_vec.specs.declared.vector.TheConstants.{POINT}
+use Rattle.staat_vec.specs.Vectors.{IsWithin}
+use Rattle.staat_model.specs.declared.limits.TheConstants.{MOST_PARTS, MOST_PIECES}
+use Rattle.staat_manifest.specs.declared.listing.ListedPart.{ListedPart}
+use Rattle.staat_manifest.specs.Placements.{at_of}
+use Rattle.staat_manifest.specs.Values.{name_of, pieces_of, text_of}
 
--- 1 to 32 parts of different names, each with a piece or more, and at most 64 pieces in all
-pub record IsListing (parts : List Part) : Type 0 where
+-- the part as it is listed
+abbrev pub listed : Data → ListedPart
+listed part = record { name = name_of part; pieces = map text_of (pieces_of part); at = at_of part }
+
+-- 1 to MOST_PARTS parts of different names, each with a piece or more and moved by no more than a coordinate,
+-- and at most MOST_PIECES pieces in all
+pub record IsListing (parts : List ListedPart) : Type 0 where
   pub at_least : 1 ≤ length parts
-  pub at_most : length parts ≤ 32
-  pub each : All (λ part. 1 ≤ length part.1) parts
-  pub pieces : sum_by (λ part. length part.1) parts ≤ 64
-  pub names : AllPairs (λ a b. a ≢ b) (map (λ part. part.0) parts)
+  pub at_most : length parts ≤ MOST_PARTS
+  pub each : All (λ part. 1 ≤ length part.pieces) parts
+  pub placed : All (λ part. IsWithin POINT part.at) parts
+  pub pieces : sum_by (λ part. length part.pieces) parts ≤ MOST_PIECES
+  pub names : AllPairs (λ a b. a ≢ b) (map (λ part. part.name) parts)

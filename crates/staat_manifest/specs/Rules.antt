@@ -6,7 +6,11 @@ use Rattle.serde_json.specs.Data.{Data}
 use Rattle.serde_json.specs.Find.{as_object}
 use Rattle.staat_manifest.specs.declared.refusal.ManifestRefusal.{ManifestRefusal}
 use Rattle.staat_manifest.specs.declared.refusal.ManifestRefusal.TheVariants.{NotJson, BadShape, RepeatedName, NoPieces, TooManyParts, TooManyPieces}
-use Rattle.staat_manifest.specs.Values.{Part, Text, array_at, has_only, json_of, listed, name_of, parts_of, pieces_of, text_of}
+use Rattle.staat_model.specs.declared.limits.TheConstants.{MOST_PARTS, MOST_PIECES}
+use Rattle.staat_manifest.specs.declared.listing.ListedPart.{ListedPart}
+use Rattle.staat_manifest.specs.Listings.{listed}
+use Rattle.staat_manifest.specs.Placements.{placement_of}
+use Rattle.staat_manifest.specs.Values.{Text, array_at, has_only, json_of, name_of, parts_of, pieces_of, text_of}
 
 -- what a rule says: nothing where it holds, and this refusal where it is broken
 abbrev pub rule : Bool → ManifestRefusal → Option ManifestRefusal
@@ -25,7 +29,7 @@ whole_rules value =
     rule (is_some (as_object value)) (BadShape (codes "/"))
     ∷ rule (nat_lt 0 (length (parts_of value))) (BadShape (codes "/parts"))
     ∷ rule (has_only (codes "parts" ∷ []) value) (BadShape (codes "/"))
-    ∷ rule (nat_le (length (parts_of value)) 32) TooManyParts
+    ∷ rule (nat_le (length (parts_of value)) MOST_PARTS) TooManyParts
     ∷ []
 
 -- ---- a part by itself
@@ -57,7 +61,8 @@ form_rules k part =
     rule (is_some (as_object part)) (BadShape (part_path k))
     ∷ rule (is_name (name_of part)) (BadShape (part_path k ++ codes "/name"))
     ∷ rule (is_some (array_at (codes "pieces") part)) (BadShape (part_path k ++ codes "/pieces"))
-    ∷ rule (has_only (codes "name" ∷ codes "pieces" ∷ []) part) (BadShape (part_path k))
+    ∷ rule (is_some (placement_of part)) (BadShape (part_path k ++ codes "/at"))
+    ∷ rule (has_only (codes "name" ∷ codes "pieces" ∷ codes "at" ∷ []) part) (BadShape (part_path k))
     ∷ rule (nat_lt 0 (length (pieces_of part))) (NoPieces k)
     ∷ piece_rules k 0 (pieces_of part)
 
@@ -69,31 +74,33 @@ name_rule names name = rule (not (list_any (bytes_eq name) names)) (RepeatedName
 
 -- so many pieces in all are not too many
 abbrev pub count_rule : ℕ → Option ManifestRefusal
-count_rule count = rule (nat_le count 64) TooManyPieces
+count_rule count = rule (nat_le count MOST_PIECES) TooManyPieces
 
 -- the rules for a part that comes after these
-abbrev pub joint_rules : List Part → Part → List (Option ManifestRefusal)
+abbrev pub joint_rules : List ListedPart → ListedPart → List (Option ManifestRefusal)
 joint_rules earlier part =
-    name_rule (map (λ other. other.0) earlier) part.0
-    ∷ count_rule (sum_by (λ other. length other.1) (earlier ++ part ∷ []))
+    name_rule (map (λ other. other.name) earlier) part.name
+    ∷ count_rule (sum_by (λ other. length other.pieces) (earlier ++ part ∷ []))
     ∷ []
 
 -- the rules for all parts that come after these
-abbrev pub rules_from : List Part → List Data → List (Option ManifestRefusal)
+abbrev pub rules_from : List ListedPart → List Data → List (Option ManifestRefusal)
 rules_from earlier [] = []
-rules_from earlier (part ∷ later) = form_rules (length earlier) part ++ joint_rules earlier (listed part) ++ rules_from (earlier ++ listed part ∷ []) later
+rules_from earlier (part ∷ later) =
+    form_rules (length earlier) part ++ joint_rules earlier (listed part) ++ rules_from (earlier ++ listed part ∷ []) later
 
 -- ---- the answer
 
 -- the parts, unless a rule is broken
-abbrev pub answer : Option ManifestRefusal → List Part → Result (List Part) ManifestRefusal
+abbrev pub answer : Option ManifestRefusal → List ListedPart → Result (List ListedPart) ManifestRefusal
 answer None parts = Ok parts
 answer (Some refusal) parts = Err refusal
 
-abbrev pub answer_of : Option Data → Result (List Part) ManifestRefusal
+abbrev pub answer_of : Option Data → Result (List ListedPart) ManifestRefusal
 answer_of None = Err NotJson
-answer_of (Some value) = answer (first_refusal (whole_rules value ++ rules_from [] (parts_of value))) (map listed (parts_of value))
+answer_of (Some value) =
+    answer (first_refusal (whole_rules value ++ rules_from [] (parts_of value))) (map listed (parts_of value))
 
 -- the parts that the bytes list, or what the first broken rule says
-unfoldable pub part_list : Text → Result (List Part) ManifestRefusal
+unfoldable pub part_list : Text → Result (List ListedPart) ManifestRefusal
 part_list bytes = answer_of (json_of bytes)

@@ -9,10 +9,6 @@ use Rattle.serde_json.specs.Find.{as_array, as_object, as_str, get}
 abbrev pub Text : Type 0
 Text = List ℕ
 
--- a part as it is listed: its name and the names of its pieces' files
-abbrev pub Part : Type 0
-Part = Text × List Text
-
 -- the JSON value that the bytes are, where they are one
 unfoldable pub json_of : Text → Option Data
 json_of bytes = if is_utf8 bytes then read bytes else None
@@ -53,7 +49,3 @@ name_of part = text_at (codes "name") part
 
 abbrev pub pieces_of : Data → List Data
 pieces_of part = unwrap_or (array_at (codes "pieces") part) []
-
--- the part as it is listed
-abbrev pub listed : Data → Part
-listed part = (name_of part, map text_of (pieces_of part))

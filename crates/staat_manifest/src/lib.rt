@@ -5,10 +5,11 @@ mod json;
 mod listing;
 mod part;
 mod paths;
+mod placement;
 mod reader;
 mod refusal;
 
-pub use listing::Listing;
+pub use listing::{ListedPart, Listing};
 pub use reader::read_manifest;
 pub use refusal::ManifestRefusal;
 

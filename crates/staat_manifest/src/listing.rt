@@ -5,11 +5,22 @@ ghost use Rattle.staat_manifest.specs.Values.{text_of};
 
 use crate::json::text_of;
 use serde_json::Value;
-use staat_vec::{Listed, Name, Names};
+use staat_vec::{Listed, Name, Names, V3};
 use std::alloc::{AllocError, Global};
 
-/// The parts of a product in their order, each with its name and the names of its pieces' files.
-pub type Listing = Listed<(Name, Names)>;
+/// A part as a part list names it.
+#[derive(Drop)]
+pub struct ListedPart {
+    /// The part's name: 1 to 255 bytes, none of them below 32.
+    pub name: Name,
+    /// The names of its pieces' files, at least one.
+    pub pieces: Names,
+    /// The vector by which all its pieces are moved, in scaled units; components are at most [`staat_vec::POINT`].
+    pub at: V3,
+}
+
+/// The parts of a product in their order.
+pub type Listing = Listed<ListedPart>;
 
 pub(crate) fn name_of(alloc: Global, text: &str) -> Result<Name, AllocError>
     ensures { IfOk result (λ name. name ≡ text.now) }

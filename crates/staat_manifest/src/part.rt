@@ -3,13 +3,16 @@ ghost use Rattle.std.specs.Prelude.{◌≡◌, IfOk, map, nat_le};
 ghost use Rattle.std.specs.List.{list_all};
 ghost use Rattle.serde_json.specs.View.{view};
 ghost use Rattle.staat_manifest.specs.Answers.{Judges};
+ghost use Rattle.staat_manifest.specs.Placements.{at_of};
 ghost use Rattle.staat_manifest.specs.Values.{name_of, pieces_of};
 ghost use Rattle.staat_manifest.specs.Rules.{first_refusal, form_rules, is_name, is_piece, piece_rules};
 
 use crate::ManifestRefusal;
 use crate::json::{array_at, has_only, text_at, text_of};
 use crate::paths::{bad_member, bad_part, bad_piece};
+use crate::placement::placement_of;
 use serde_json::Value;
+use staat_vec::V3;
 use std::alloc::Global;
 
 // How many bytes a name has at most.
@@ -50,6 +53,8 @@ pub(crate) struct Form<'v> {
     pub(crate) name: &'v str,
     /// Its pieces, each of which is a text that is not empty.
     pub(crate) pieces: &'v [Value],
+    /// The vector by which they are moved.
+    pub(crate) at: V3,
 }
 
 /// The form of part `k`, unless the part breaks a rule by itself.
@@ -63,6 +68,7 @@ pub(crate) fn form_of<'v>(
     ensures name { IfOk result (λ form. form.name.now ≡ name_of (view part.entry.now)) }
     ensures pieces { IfOk result (λ form. map view form.pieces.now
         ≡ pieces_of (view part.entry.now)) }
+    ensures at { IfOk result (λ form. form.at ≡ at_of (view part.entry.now)) }
 {
     if !part.is_object() {
         return Err(bad_part(alloc, k));
@@ -74,12 +80,15 @@ pub(crate) fn form_of<'v>(
     let Some(pieces) = array_at(part, "pieces") else {
         return Err(bad_member(alloc, k, "pieces"));
     };
-    if !has_only(part, &["name", "pieces"]) {
+    let Some(at) = placement_of(part) else {
+        return Err(bad_member(alloc, k, "at"));
+    };
+    if !has_only(part, &["name", "pieces", "at"]) {
         return Err(bad_part(alloc, k));
     }
     if pieces.is_empty() {
         return Err(ManifestRefusal::NoPieces(k));
     }
     check_pieces(alloc, k, pieces)?;
-    Ok(Form { name, pieces })
+    Ok(Form { name, pieces, at })
 }

@@ -1,31 +1,28 @@
 // The whole part list: its shape, its parts one after another, and what they may not share.
 ghost use Rattle.std.specs.Prelude.{◌≡◌, ◌≤◌, ◌++◌, ◌∷◌, [], IfOk, OnOk, length, map};
 ghost use Rattle.serde_json.specs.View.{view};
+ghost use Rattle.staat_model.specs.declared.limits.TheConstants.{MOST_PARTS};
 ghost use Rattle.staat_manifest.specs.Answers.{Answers, Judges};
-ghost use Rattle.staat_manifest.specs.Listings.{IsListing};
-ghost use Rattle.staat_manifest.specs.Values.{listed, parts_of};
+ghost use Rattle.staat_manifest.specs.Listings.{IsListing, listed};
+ghost use Rattle.staat_manifest.specs.Values.{parts_of, text_of};
 ghost use Rattle.staat_manifest.specs.Rules.{answer, first_refusal, name_rule, part_list, rules_from, whole_rules};
 
 use crate::json::{array_at, has_only, value_of};
-use crate::listing::{name_of, names_of};
-use crate::part::form_of;
+use crate::listing::{ListedPart, name_of, names_of};
+use crate::part::{Form, form_of};
 use crate::paths::{bad_shape, repeated_name};
 use crate::{Listing, ManifestRefusal};
 use indexmap::IndexSet;
 use serde_json::Value;
-use std::alloc::Global;
-
-const MOST_PARTS: usize = 32;
-
-// How many pieces there are at most in all parts.
-const MOST_PIECES: usize = 64;
+use staat_model::{MOST_PARTS, MOST_PIECES};
+use std::alloc::{AllocError, Global};
 
 // The values of the parts, unless the whole breaks a rule.
 #[tactic(auto, unfolding(crate::specs::Rules::whole_rules))]
 fn parts_of(alloc: Global, value: &Value) -> Result<&[Value], ManifestRefusal>
     ensures rules { Judges (first_refusal (whole_rules (view value.entry.now))) result }
     ensures parts { IfOk result (λ parts. map view parts.now ≡ parts_of (view value.entry.now)) }
-    ensures few { IfOk result (λ parts. length parts.now ≤ 32) }
+    ensures few { IfOk result (λ parts. length parts.now ≤ MOST_PARTS) }
 {
     if !value.is_object() {
         return Err(bad_shape(alloc, "/"));
@@ -37,7 +34,7 @@ fn parts_of(alloc: Global, value: &Value) -> Result<&[Value], ManifestRefusal>
     if !has_only(value, &["parts"]) {
         return Err(bad_shape(alloc, "/"));
     }
-    if parts.len() > MOST_PARTS {
+    if parts.len() > MOST_PARTS as usize {
         return Err(ManifestRefusal::TooManyParts);
     }
     Ok(parts)
@@ -60,9 +57,22 @@ fn add_name<'v>(
     }
 }
 
+// The part of this form.
+fn listed(alloc: Global, form: &Form<'_>) -> Result<ListedPart, AllocError>
+    ensures name { IfOk result (λ part. part.name ≡ form.now.name.now) }
+    ensures pieces { IfOk result (λ part. part.pieces ≡ map text_of (map view form.now.pieces.now)) }
+    ensures at { IfOk result (λ part. part.at ≡ form.now.at) }
+{
+    Ok(ListedPart {
+        name: name_of(alloc, form.name)?,
+        pieces: names_of(alloc, form.pieces)?,
+        at: form.at,
+    })
+}
+
 // The list of the parts, unless one of them breaks a rule.
 fn list_parts(alloc: Global, parts: &[Value]) -> Result<Listing, ManifestRefusal>
-    requires { length parts.now ≤ 32 }
+    requires { length parts.now ≤ MOST_PARTS }
     ensures { Answers (answer (first_refusal (rules_from [] (map view parts.now)))
         (map listed (map view parts.now))) result }
 {
@@ -74,20 +84,21 @@ fn list_parts(alloc: Global, parts: &[Value]) -> Result<Listing, ManifestRefusal
         let form = form_of(alloc, k as u32, part)?;
         add_name(alloc, &mut names, form.name)?;
         piece_count += form.pieces.len();
-        if piece_count > MOST_PIECES {
+        if piece_count > MOST_PIECES as usize {
             return Err(ManifestRefusal::TooManyPieces);
         }
-        list.push((name_of(alloc, form.name)?, names_of(alloc, form.pieces)?))?;
+        list.push(listed(alloc, &form)?)?;
     }
     Ok(Listing::from_vec(list))
 }
 
-/// The parts that the bytes list, each with its name and the names of its pieces' files.
+/// The parts that the bytes list, each with its name, the names of its pieces' files and the vector that moves it.
 ///
-/// The bytes are one JSON value: `{"parts": [{"name": "cube", "pieces": ["a.off"]}, ..]}`. The rules
+/// The bytes are one JSON value: `{"parts": [{"name": "cube", "pieces": ["a.off"], "at": [0, 0, 2]}, ..]}`. A part
+/// without `at` is not moved. The rules
 /// are tested in a fixed order, and the first that is broken is the refusal: bytes that are not
-/// JSON; the whole value's shape; more than 32 parts; then, for each part in order, its shape, no
-/// pieces, a name that an earlier part has, and more than 64 pieces in the parts so far. A member
+/// JSON; the whole value's shape; more than [`MOST_PARTS`] parts; then, for each part in order, its shape, no
+/// pieces, a name that an earlier part has, and more than [`MOST_PIECES`] pieces in the parts so far. A member
 /// that is repeated counts with its last value.
 #[tactic(auto, unfolding(crate::specs::Rules::part_list))]
 pub fn read_manifest(alloc: Global, bytes: &[u8]) -> Result<Listing, ManifestRefusal>

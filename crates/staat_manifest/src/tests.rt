@@ -18,9 +18,9 @@ fn an_example_is_listed_and_no_text_that_begins_it(rt: HostRuntime) -> Result<()
     let alloc = rt.alloc();
     let list = read_manifest(alloc, EXAMPLE.as_bytes())?;
     let mut told = String::new(alloc);
-    for (name, files) in list.as_slice() {
-        told.push_str(name.as_str())?;
-        for file in files.as_slice() {
+    for part in list.as_slice() {
+        told.push_str(part.name.as_str())?;
+        for file in part.pieces.as_slice() {
             told.push(' ')?;
             told.push_str(file.as_str())?;
         }
@@ -61,7 +61,19 @@ null -> bad shape at /
 {"parts":[{"name":"p","pieces":{},"z":1}]} -> bad shape at /parts/0/pieces
 {"parts":[{"name":"p","pieces":[],"z":1}]} -> bad shape at /parts/0
 {"parts":[{"name":"p","pieces":["a"],"Name":"q"}]} -> bad shape at /parts/0
-{"parts":[{"name":"p","pieces":["a"],"at":[1,2,3]}]} -> bad shape at /parts/0
+{"parts":[{"name":"p","pieces":["a"],"at":[1,-262144,262144]}]} -> parts: 1
+{"parts":[{"name":"p","pieces":["a"],"at":[1,2,262145]}]} -> bad shape at /parts/0/at
+{"parts":[{"name":"p","pieces":["a"],"at":[-262145,2,3]}]} -> bad shape at /parts/0/at
+{"parts":[{"name":"p","pieces":["a"],"at":[1,2]}]} -> bad shape at /parts/0/at
+{"parts":[{"name":"p","pieces":["a"],"at":[1,2,3,4]}]} -> bad shape at /parts/0/at
+{"parts":[{"name":"p","pieces":["a"],"at":[1,2.0,3]}]} -> bad shape at /parts/0/at
+{"parts":[{"name":"p","pieces":["a"],"at":[1,2e0,3]}]} -> bad shape at /parts/0/at
+{"parts":[{"name":"p","pieces":["a"],"at":[1,-0,3]}]} -> bad shape at /parts/0/at
+{"parts":[{"name":"p","pieces":["a"],"at":[1,18446744073709551615,3]}]} -> bad shape at /parts/0/at
+{"parts":[{"name":"p","pieces":["a"],"at":{"x":1}}]} -> bad shape at /parts/0/at
+{"parts":[{"name":"p","pieces":["a"],"at":null,"z":1}]} -> bad shape at /parts/0/at
+{"parts":[{"name":"p","pieces":7,"at":null}]} -> bad shape at /parts/0/pieces
+{"parts":[{"name":"p","pieces":[],"at":[1,2,3],"z":1}]} -> bad shape at /parts/0
 {"parts":[{"name":"p","pieces":[]}]} -> no pieces in part 0
 {"parts":[{"name":"p","pieces":[""]}]} -> bad shape at /parts/0/pieces/0
 {"parts":[{"name":"p","pieces":["a",["b"],3]}]} -> bad shape at /parts/0/pieces/1

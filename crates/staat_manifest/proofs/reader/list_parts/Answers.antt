@@ -2,7 +2,9 @@ use Rattle.std.proofs.Common.{◌≡◌, ◌++◌, [], ◌∷◌, ap, arith, len
 use Rattle.std.proofs.lemmas.List.{length-map, map_push}
 use Rattle.std.proofs.lemmas.Result.{err_from_is_err_and}
 use Rattle.serde_json.specs.View.{view}
-use Rattle.staat_manifest.specs.Values.{Part, listed, text_of}
+use Rattle.staat_manifest.specs.declared.listing.ListedPart.{ListedPart}
+use Rattle.staat_manifest.specs.Listings.{listed}
+use Rattle.staat_manifest.specs.Values.{text_of}
 use Rattle.staat_manifest.specs.Rules.{answer}
 use Rattle.staat_manifest.proofs.RuleLemmas.{by_count, count_over, count_within, form_refuses, goes_on, joint_refuses, list_more, name_repeated, passed_on, total}
 use Rattle.staat_manifest.proofs.reader.list_parts.Goals as goal
@@ -16,28 +18,28 @@ returns-in_err-form c =
 pub returns-in_err-add_name : goal.returns-in_err-add_name
 returns-in_err-add_name c =
     let p = err_from_is_err_and c.from_residual-in_err-add_name.result c.from_residual-in_err-add_name.ensures.1 in
-    let part : Part = (c.in_ok-form.form.name.now, map text_of (map view c.in_ok-form.form.pieces.now)) in
-    let same : part ≡ listed (view c.index-parts-k.result) = rw (c.in_ok-form.ensures.name, c.in_ok-form.ensures.pieces) refl in
+    let part : ListedPart = record { name = c.in_ok-form.form.name.now; pieces = map text_of (map view c.in_ok-form.form.pieces.now); at = c.in_ok-form.form.at } in
+    let same : part ≡ listed (view c.index-parts-k.result) = rw (c.in_ok-form.ensures.name, c.in_ok-form.ensures.pieces, c.in_ok-form.ensures.at) refl in
     let refuses = joint_refuses c.loop-k.list.items c.args.parts.now c.loop-k.k c.index-parts-k.result (omega arith) c.index-parts-k.is part same c.loop-k.invariant.number _ c.loop-k.invariant.rules c.in_ok-form.ensures.rules in
     let repeated = name_repeated c.loop-k.list.items part _ _ c.loop-k.invariant.names c.loop-k.invariant.count in
     rw (p.1, p.2) (passed_on _ _ _ _ (λ e h. refuses e (repeated e h)) c.in_err-add_name.ensures.rule)
 
-pub returns-then-piece_count-gt-MOST_PIECES : goal.returns-then-piece_count-gt-MOST_PIECES
-returns-then-piece_count-gt-MOST_PIECES c =
-    let part : Part = (c.in_ok-form.form.name.now, map text_of (map view c.in_ok-form.form.pieces.now)) in
-    let same : part ≡ listed (view c.index-parts-k.result) = rw (c.in_ok-form.ensures.name, c.in_ok-form.ensures.pieces) refl in
-    let size : length part.1 ≡ length c.in_ok-form.form.pieces.now = simp length-map in
+pub returns-then-piece_count : goal.returns-then-piece_count
+returns-then-piece_count c =
+    let part : ListedPart = record { name = c.in_ok-form.form.name.now; pieces = map text_of (map view c.in_ok-form.form.pieces.now); at = c.in_ok-form.form.at } in
+    let same : part ≡ listed (view c.index-parts-k.result) = rw (c.in_ok-form.ensures.name, c.in_ok-form.ensures.pieces, c.in_ok-form.ensures.at) refl in
+    let size : length part.pieces ≡ length c.in_ok-form.form.pieces.now = simp length-map in
     let refuses = joint_refuses c.loop-k.list.items c.args.parts.now c.loop-k.k c.index-parts-k.result (omega arith) c.index-parts-k.is part same c.loop-k.invariant.number _ c.loop-k.invariant.rules c.in_ok-form.ensures.rules in
     let counted = by_count c.loop-k.list.items part _ _ c.loop-k.invariant.names c.loop-k.invariant.count c.in_ok-add_name.ensures.rule in
     ap (λ broken. answer broken (map listed (map view c.args.parts.now))) (refuses _ (counted ∙ count_over _ (omega (arith, size))))
 
 pub loop-k-preserved : goal.loop-k-preserved
 loop-k-preserved c =
-    let part : Part = (c.in_ok-form.form.name.now, map text_of (map view c.in_ok-form.form.pieces.now)) in
-    let same : part ≡ listed (view c.index-parts-k.result) = rw (c.in_ok-form.ensures.name, c.in_ok-form.ensures.pieces) refl in
-    let size : length part.1 ≡ length c.in_ok-form.form.pieces.now = simp length-map in
+    let part : ListedPart = record { name = c.in_ok-form.form.name.now; pieces = map text_of (map view c.in_ok-form.form.pieces.now); at = c.in_ok-form.form.at } in
+    let same : part ≡ listed (view c.index-parts-k.result) = rw (c.in_ok-form.ensures.name, c.in_ok-form.ensures.pieces, c.in_ok-form.ensures.at) refl in
+    let size : length part.pieces ≡ length c.in_ok-form.form.pieces.now = simp length-map in
     let counted = by_count c.loop-k.list.items part _ _ c.loop-k.invariant.names c.loop-k.invariant.count c.in_ok-add_name.ensures.rule in
-    let grown : c.push.new.self.items ≡ c.loop-k.list.items ++ part ∷ [] = rw (← c.in_ok-name_of.ensures, ← c.in_ok-names_of.ensures) c.in_ok-push.ensures.items in
+    let grown : c.push.new.self.items ≡ c.loop-k.list.items ++ part ∷ [] = rw (← c.in_ok-listed.ensures.name, ← c.in_ok-listed.ensures.pieces, ← c.in_ok-listed.ensures.at) c.in_ok-push.ensures.items in
     record {
       rules = goes_on c.loop-k.list.items c.args.parts.now c.loop-k.k c.index-parts-k.result (omega arith) c.index-parts-k.is part same c.loop-k.invariant.number _ c.loop-k.invariant.rules c.in_ok-form.ensures.rules (counted ∙ count_within _ (omega (arith, size))) _ grown;
       list = list_more c.loop-k.list.items c.args.parts.now c.loop-k.k c.index-parts-k.result (omega arith) c.index-parts-k.is part same _ grown c.loop-k.invariant.list;
