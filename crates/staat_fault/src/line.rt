@@ -60,14 +60,16 @@ fn about_text(alloc: Global, name: &Name, what: &str, text: &Name) -> Result<Str
 }
 
 fn open_edge(alloc: Global, name: &Name, face: u32, corner: u32) -> Result<String, AllocError>
-    ensures { IfOk result (λ s. string_bytes s ≡ whole (of_file name.now (codes "open edge at face " ++ decimal face ++ codes " corner " ++ decimal corner))) }
+    ensures { IfOk result (λ s. string_bytes s ≡ whole (of_file name.now (codes "open edge at face "
+        ++ decimal face ++ codes " corner " ++ decimal corner))) }
 {
     let name = name.as_str();
     format!(in alloc; "staat: {name}: open edge at face {face} corner {corner}\n")
 }
 
 fn overlap(alloc: Global, a: u32, i: u32, b: u32, j: u32) -> Result<String, AllocError>
-    ensures { IfOk result (λ s. string_bytes s ≡ whole (codes "parts " ++ decimal a ++ codes " and " ++ decimal b ++ codes " overlap in pieces " ++ decimal i ++ codes " and " ++ decimal j)) }
+    ensures { IfOk result (λ s. string_bytes s ≡ whole (codes "parts " ++ decimal a ++ codes " and " ++ decimal b
+        ++ codes " overlap in pieces " ++ decimal i ++ codes " and " ++ decimal j)) }
 {
     format!(in alloc; "staat: parts {a} and {b} overlap in pieces {i} and {j}\n")
 }

@@ -47,8 +47,8 @@ fn faults_have_lines_and_statuses(rt: HostRuntime) -> Result<(), Fail> {
         assert_eq!(rt; line.as_slice(), text.as_bytes());
         assert_eq!(rt; status_of(fault), *status, "{text}");
     }
-    assert_eq!(rt; usage_line(), b"staat: usage\n");
-    assert_eq!(rt; write_line(), b"staat: write fault\n");
-    assert_eq!(rt; memory_line(), b"staat: out of memory\n");
+    assert_eq!(rt; usage_line(), b"staat: usage\n".as_slice());
+    assert_eq!(rt; write_line(), b"staat: write fault\n".as_slice());
+    assert_eq!(rt; memory_line(), b"staat: out of memory\n".as_slice());
     Ok(())
 }

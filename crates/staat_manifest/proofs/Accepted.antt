@@ -15,7 +15,7 @@ use Rattle.staat_manifest.specs.declared.refusal.ManifestRefusal.TheVariants as 
 use Rattle.staat_model.specs.declared.limits.TheConstants.{MOST_PARTS, MOST_PIECES}
 use Rattle.staat_manifest.specs.declared.listing.ListedPart.{ListedPart}
 use Rattle.staat_manifest.specs.Values.{Text, json_of, name_of, parts_of, pieces_of, text_of}
-use Rattle.staat_manifest.specs.Answers.{Answers}
+use Rattle.staat_manifest.specs.Answers.{AnswersList}
 use Rattle.staat_manifest.specs.Listings.{IsListing, listed}
 use Rattle.staat_vec.specs.declared.vector.TheConstants.{POINT}
 use Rattle.staat_vec.specs.Vectors.{IsWithin}
@@ -111,7 +111,7 @@ of_value None list e = cc
 of_value (Some value) list e = accepted _ _ list (is_listing value) e
 
 -- what is accepted keeps the bounds
-pub within_bounds : (bytes : Text) (result : Result (List ListedPart) ManifestRefusal) → Answers (part_list bytes) result → IfOk result IsListing
+pub within_bounds : (bytes : Text) (result : Result (List ListedPart) ManifestRefusal) → AnswersList (part_list bytes) result → IfOk result IsListing
 unfolding part_list
 within_bounds bytes (Ok list) e = of_value (json_of bytes) list e
 within_bounds bytes (Err refusal) e = tt

@@ -13,7 +13,7 @@ use Rattle.staat_model.specs.declared.limits.TheConstants.{MOST_PIECES}
 use Rattle.staat_manifest.specs.declared.listing.ListedPart.{ListedPart}
 use Rattle.staat_manifest.specs.Listings.{listed}
 use Rattle.staat_manifest.specs.Values.{Text, json_of, parts_of}
-use Rattle.staat_manifest.specs.Answers.{Answers, Refuses}
+use Rattle.staat_manifest.specs.Answers.{AnswersList, RefusesPart}
 use Rattle.staat_manifest.specs.Rules.{answer, answer_of, count_rule, first_refusal, form_rules, joint_rules, name_rule, part_list, rules_from, whole_rules}
 
 -- where these rules hold, the others decide
@@ -29,7 +29,7 @@ stopped e (None ∷ rules) others h = stopped e rules others h
 stopped e (Some d ∷ rules) others h = h
 
 -- a refusal by some of the rules is one by all
-pub passed_on : (e : ManifestRefusal) (some all : Option ManifestRefusal) (parts : List ListedPart) → ((d : ManifestRefusal) → some ≡ Some d → all ≡ Some d) → Refuses some e → Answers (answer all parts) (Err e)
+pub passed_on : (e : ManifestRefusal) (some all : Option ManifestRefusal) (parts : List ListedPart) → ((d : ManifestRefusal) → some ≡ Some d → all ≡ Some d) → RefusesPart some e → AnswersList (answer all parts) (Err e)
 passed_on refusal.NotJson some all parts h j = ap (λ o. answer o parts) (h _ j)
 passed_on (refusal.BadShape path) some all parts h j = ap (λ o. answer o parts) (h _ j)
 passed_on (refusal.RepeatedName name) some all parts h j = ap (λ o. answer o parts) (h _ j)
@@ -120,8 +120,8 @@ module _ (bytes : Text) (value : Data) (is : json_of bytes ≡ Some value) where
   is_answer = ap answer_of is
 
   -- the whole value breaks a rule
-  pub whole_refuses : (e : ManifestRefusal) → Refuses (first_refusal (whole_rules value)) e → Answers (part_list bytes) (Err e)
-  whole_refuses e h = subst (λ (wanted : Result (List ListedPart) ManifestRefusal). Answers wanted (Err e)) (sym is_answer) (passed_on e _ _ _ (λ d. stopped d (whole_rules value) (rules_from [] (parts_of value))) h)
+  pub whole_refuses : (e : ManifestRefusal) → RefusesPart (first_refusal (whole_rules value)) e → AnswersList (part_list bytes) (Err e)
+  whole_refuses e h = subst (λ (wanted : Result (List ListedPart) ManifestRefusal). AnswersList wanted (Err e)) (sym is_answer) (passed_on e _ _ _ (λ d. stopped d (whole_rules value) (rules_from [] (parts_of value))) h)
 
   -- the parts decide
   pub by_parts : first_refusal (whole_rules value) ≡ None → (parts : List Data) → parts ≡ parts_of value → part_list bytes ≡ answer (first_refusal (rules_from [] parts)) (map listed parts)

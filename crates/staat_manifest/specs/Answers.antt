@@ -7,14 +7,14 @@ use Rattle.staat_manifest.specs.declared.refusal.ManifestRefusal.{ManifestRefusa
 use Rattle.staat_manifest.specs.declared.refusal.ManifestRefusal.TheVariants.{NotJson, OutOfMemory}
 
 -- the refusal is the one of the broken rule
-abbrev pub Refuses : Option ManifestRefusal → ManifestRefusal → Type 0
-Refuses broken OutOfMemory = ⊤
-Refuses broken refusal = broken ≡ Some refusal
+abbrev pub RefusesPart : Option ManifestRefusal → ManifestRefusal → Type 0
+RefusesPart broken OutOfMemory = ⊤
+RefusesPart broken refusal = broken ≡ Some refusal
 
 -- accepted where no rule is broken, and else refused as the broken rule says
-abbrev pub Judges : {X : Type 0} → Option ManifestRefusal → Result X ManifestRefusal → Type 0
-Judges broken (Ok x) = broken ≡ None
-Judges broken (Err refusal) = Refuses broken refusal
+abbrev pub JudgesPart : {X : Type 0} → Option ManifestRefusal → Result X ManifestRefusal → Type 0
+JudgesPart broken (Ok x) = broken ≡ None
+JudgesPart broken (Err refusal) = RefusesPart broken refusal
 
 -- the value that was read is this one, and where there is none the bytes are not JSON
 abbrev pub IsRead : Option Data → Result Value ManifestRefusal → Type 0
@@ -24,7 +24,7 @@ IsRead wanted (Err OutOfMemory) = ⊤
 IsRead wanted (Err refusal) = ⊥
 
 -- the answer is this one
-abbrev pub Answers : {X : Type 0} → Result X ManifestRefusal → Result X ManifestRefusal → Type 0
-Answers wanted (Ok x) = wanted ≡ Ok x
-Answers wanted (Err OutOfMemory) = ⊤
-Answers wanted (Err refusal) = wanted ≡ Err refusal
+abbrev pub AnswersList : {X : Type 0} → Result X ManifestRefusal → Result X ManifestRefusal → Type 0
+AnswersList wanted (Ok x) = wanted ≡ Ok x
+AnswersList wanted (Err OutOfMemory) = ⊤
+AnswersList wanted (Err refusal) = wanted ≡ Err refusal

@@ -1,11 +1,13 @@
 -- The rules of a part list, in the order in which they are tested.
-use Rattle.std.specs.Prelude.{◌+◌, ◌++◌, ◌&&◌, ℕ, Bool, not, nat_lt, nat_le, List, [], ◌∷◌, length, map, sum_by, Option, Some, None, is_some, Result, Ok, Err, if◌then◌else◌, codes, decimal}
+use Rattle.std.specs.Prelude.{◌+◌, ◌++◌, ◌&&◌, ℕ, Bool, not, nat_lt, nat_le, List, [], ◌∷◌, length, map, sum_by}
+use Rattle.std.specs.Prelude.{Option, Some, None, is_some, Result, Ok, Err, if◌then◌else◌, codes, decimal}
 use Rattle.std.specs.Str.{bytes_eq}
 use Rattle.std.specs.List.{list_all, list_any}
 use Rattle.serde_json.specs.Data.{Data}
 use Rattle.serde_json.specs.Find.{as_object}
 use Rattle.staat_manifest.specs.declared.refusal.ManifestRefusal.{ManifestRefusal}
-use Rattle.staat_manifest.specs.declared.refusal.ManifestRefusal.TheVariants.{NotJson, BadShape, RepeatedName, NoPieces, TooManyParts, TooManyPieces}
+use Rattle.staat_manifest.specs.declared.refusal.ManifestRefusal.TheVariants.{NotJson, BadShape, RepeatedName}
+use Rattle.staat_manifest.specs.declared.refusal.ManifestRefusal.TheVariants.{NoPieces, TooManyParts, TooManyPieces}
 use Rattle.staat_model.specs.declared.limits.TheConstants.{MOST_PARTS, MOST_PIECES}
 use Rattle.staat_manifest.specs.declared.listing.ListedPart.{ListedPart}
 use Rattle.staat_manifest.specs.Listings.{listed}
@@ -87,7 +89,8 @@ joint_rules earlier part =
 abbrev pub rules_from : List ListedPart → List Data → List (Option ManifestRefusal)
 rules_from earlier [] = []
 rules_from earlier (part ∷ later) =
-    form_rules (length earlier) part ++ joint_rules earlier (listed part) ++ rules_from (earlier ++ listed part ∷ []) later
+    form_rules (length earlier) part ++ joint_rules earlier (listed part)
+    ++ rules_from (earlier ++ listed part ∷ []) later
 
 -- ---- the answer
 

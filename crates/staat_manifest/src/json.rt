@@ -52,7 +52,8 @@ fn is_among(names: &[&str], name: &str) -> bool
 }
 
 fn all_among(members: &Map<String, Value>, names: &[&str]) -> bool
-    ensures { result ≡ list_all (λ name. list_any (λ known. bytes_eq (string_bytes name) known.now) names.now) (keys members.now) }
+    ensures { result ≡ list_all (λ name. list_any (λ known. bytes_eq (string_bytes name) known.now) names.now)
+        (keys members.now) }
 {
     members.keys().all(|name| is_among(names, name.as_str()))
 }

@@ -2,7 +2,7 @@
 ghost use Rattle.std.specs.Prelude.{◌≡◌, IfOk, map, nat_le};
 ghost use Rattle.std.specs.List.{list_all};
 ghost use Rattle.serde_json.specs.View.{view};
-ghost use Rattle.staat_manifest.specs.Answers.{Judges};
+ghost use Rattle.staat_manifest.specs.Answers.{JudgesPart};
 ghost use Rattle.staat_manifest.specs.Placements.{at_of};
 ghost use Rattle.staat_manifest.specs.Values.{name_of, pieces_of};
 ghost use Rattle.staat_manifest.specs.Rules.{first_refusal, form_rules, is_name, is_piece, piece_rules};
@@ -37,7 +37,7 @@ fn is_piece(value: &Value) -> bool
 }
 
 fn check_pieces(alloc: Global, k: u32, pieces: &[Value]) -> Result<(), ManifestRefusal>
-    ensures { Judges (first_refusal (piece_rules k 0 (map view pieces.now))) result }
+    ensures { JudgesPart (first_refusal (piece_rules k 0 (map view pieces.now))) result }
 {
     for (i, piece) in pieces.iter().enumerate() {
         if !is_piece(piece) {
@@ -64,7 +64,7 @@ pub(crate) fn form_of<'v>(
     k: u32,
     part: &'v Value,
 ) -> Result<Form<'v>, ManifestRefusal>
-    ensures rules { Judges (first_refusal (form_rules k (view part.entry.now))) result }
+    ensures rules { JudgesPart (first_refusal (form_rules k (view part.entry.now))) result }
     ensures name { IfOk result (λ form. form.name.now ≡ name_of (view part.entry.now)) }
     ensures pieces { IfOk result (λ form. map view form.pieces.now
         ≡ pieces_of (view part.entry.now)) }

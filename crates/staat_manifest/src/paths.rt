@@ -1,7 +1,7 @@
 // Refusals that name a path or a part. Where there is no memory for it, that is the refusal.
 ghost use Rattle.std.specs.Prelude.{◌++◌, Some, codes};
 ghost use Rattle.staat_manifest.specs.declared.refusal.ManifestRefusal.TheVariants.{BadShape, RepeatedName};
-ghost use Rattle.staat_manifest.specs.Answers.{Refuses};
+ghost use Rattle.staat_manifest.specs.Answers.{RefusesPart};
 ghost use Rattle.staat_manifest.specs.Rules.{part_path, piece_path};
 
 use crate::ManifestRefusal;
@@ -10,7 +10,7 @@ use staat_vec::Name;
 use std::alloc::Global;
 
 pub(crate) fn bad_shape(alloc: Global, path: &str) -> ManifestRefusal
-    ensures { Refuses (Some (BadShape path.now)) result }
+    ensures { RefusesPart (Some (BadShape path.now)) result }
 {
     match name_of(alloc, path) {
         Ok(path) => ManifestRefusal::BadShape(path),
@@ -19,7 +19,7 @@ pub(crate) fn bad_shape(alloc: Global, path: &str) -> ManifestRefusal
 }
 
 pub(crate) fn bad_part(alloc: Global, k: u32) -> ManifestRefusal
-    ensures { Refuses (Some (BadShape (part_path k))) result }
+    ensures { RefusesPart (Some (BadShape (part_path k))) result }
 {
     match format!(in alloc; "/parts/{k}") {
         Ok(path) => ManifestRefusal::BadShape(Name::from_string(path)),
@@ -28,7 +28,7 @@ pub(crate) fn bad_part(alloc: Global, k: u32) -> ManifestRefusal
 }
 
 pub(crate) fn bad_member(alloc: Global, k: u32, member: &str) -> ManifestRefusal
-    ensures { Refuses (Some (BadShape (part_path k ++ codes "/" ++ member.now))) result }
+    ensures { RefusesPart (Some (BadShape (part_path k ++ codes "/" ++ member.now))) result }
 {
     match format!(in alloc; "/parts/{k}/{member}") {
         Ok(path) => ManifestRefusal::BadShape(Name::from_string(path)),
@@ -37,7 +37,7 @@ pub(crate) fn bad_member(alloc: Global, k: u32, member: &str) -> ManifestRefusal
 }
 
 pub(crate) fn bad_piece(alloc: Global, k: u32, i: usize) -> ManifestRefusal
-    ensures { Refuses (Some (BadShape (piece_path k i))) result }
+    ensures { RefusesPart (Some (BadShape (piece_path k i))) result }
 {
     match format!(in alloc; "/parts/{k}/pieces/{i}") {
         Ok(path) => ManifestRefusal::BadShape(Name::from_string(path)),
@@ -46,7 +46,7 @@ pub(crate) fn bad_piece(alloc: Global, k: u32, i: usize) -> ManifestRefusal
 }
 
 pub(crate) fn repeated_name(alloc: Global, name: &str) -> ManifestRefusal
-    ensures { Refuses (Some (RepeatedName name.now)) result }
+    ensures { RefusesPart (Some (RepeatedName name.now)) result }
 {
     match name_of(alloc, name) {
         Ok(name) => ManifestRefusal::RepeatedName(name),

@@ -2,7 +2,7 @@
 ghost use Rattle.std.specs.Prelude.{◌≡◌, ◌≤◌, ◌++◌, ◌∷◌, [], IfOk, OnOk, length, map};
 ghost use Rattle.serde_json.specs.View.{view};
 ghost use Rattle.staat_model.specs.declared.limits.TheConstants.{MOST_PARTS};
-ghost use Rattle.staat_manifest.specs.Answers.{Answers, Judges};
+ghost use Rattle.staat_manifest.specs.Answers.{AnswersList, JudgesPart};
 ghost use Rattle.staat_manifest.specs.Listings.{IsListing, listed};
 ghost use Rattle.staat_manifest.specs.Values.{parts_of, text_of};
 ghost use Rattle.staat_manifest.specs.Rules.{answer, first_refusal, name_rule, part_list, rules_from, whole_rules};
@@ -20,7 +20,7 @@ use std::alloc::{AllocError, Global};
 // The values of the parts, unless the whole breaks a rule.
 #[tactic(auto, unfolding(crate::specs::Rules::whole_rules))]
 fn parts_of(alloc: Global, value: &Value) -> Result<&[Value], ManifestRefusal>
-    ensures rules { Judges (first_refusal (whole_rules (view value.entry.now))) result }
+    ensures rules { JudgesPart (first_refusal (whole_rules (view value.entry.now))) result }
     ensures parts { IfOk result (λ parts. map view parts.now ≡ parts_of (view value.entry.now)) }
     ensures few { IfOk result (λ parts. length parts.now ≤ MOST_PARTS) }
 {
@@ -46,7 +46,7 @@ fn add_name<'v>(
     names: &mut IndexSet<&'v str>,
     name: &'v str,
 ) -> Result<(), ManifestRefusal>
-    ensures rule { Judges (name_rule (map (λ s. s.now) names.old.keys) name.entry.now) result }
+    ensures rule { JudgesPart (name_rule (map (λ s. s.now) names.old.keys) name.entry.now) result }
     ensures added { OnOk result (map (λ s. s.now) names.new.keys
         ≡ map (λ s. s.now) names.old.keys ++ name.entry.now ∷ []) }
 {
@@ -73,7 +73,7 @@ fn listed(alloc: Global, form: &Form<'_>) -> Result<ListedPart, AllocError>
 // The list of the parts, unless one of them breaks a rule.
 fn list_parts(alloc: Global, parts: &[Value]) -> Result<Listing, ManifestRefusal>
     requires { length parts.now ≤ MOST_PARTS }
-    ensures { Answers (answer (first_refusal (rules_from [] (map view parts.now)))
+    ensures { AnswersList (answer (first_refusal (rules_from [] (map view parts.now)))
         (map listed (map view parts.now))) result }
 {
     let mut list = Vec::with_capacity(alloc, parts.len())?;
@@ -102,7 +102,7 @@ fn list_parts(alloc: Global, parts: &[Value]) -> Result<Listing, ManifestRefusal
 /// that is repeated counts with its last value.
 #[tactic(auto, unfolding(crate::specs::Rules::part_list))]
 pub fn read_manifest(alloc: Global, bytes: &[u8]) -> Result<Listing, ManifestRefusal>
-    ensures exact { Answers (part_list bytes.now) result }
+    ensures exact { AnswersList (part_list bytes.now) result }
     ensures bounds { IfOk result IsListing }
 {
     let value = value_of(alloc, bytes)?;

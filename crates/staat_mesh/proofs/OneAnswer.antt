@@ -15,8 +15,8 @@ use Rattle.staat_mesh.specs.declared.refusal.MeshRefusal.TheVariants.{TooFewPoin
 use Rattle.staat_mesh.specs.Edges.{IsClosed, edges}
 use Rattle.staat_mesh.specs.Judging.{HasClosedEdges, IsFirstFace, IsFirstOpen, Judges, JudgesEdges, JudgesFaces, JudgesNumber, JudgesShape}
 use Rattle.staat_mesh.specs.Polygons.{IsUsed, Mesh, Polygon}
-use Rattle.staat_mesh.specs.Sides.{InPlane, IsBadFace, IsBorder, IsCut}
-use Rattle.staat_mesh.proofs.Planes.{border_not_cut, plane_not_bad}
+use Rattle.staat_mesh.specs.Sides.{InPlane, IsBadFace, IsSupporting, IsCut}
+use Rattle.staat_mesh.proofs.PlaneLemmas.{border_not_cut, plane_not_bad}
 
 -- what holds of the first elements holds of each of them
 at_front : {X : Type 0} (P : X → Type 0) (xs : List X) (n i : ℕ) (x : X) → i < n → slice_get xs i ≡ Some x → All P (take n xs) → P x
@@ -38,17 +38,17 @@ same_some xs i j x y e f g = same (sym f ∙ ap (slice_get xs) e ∙ g)
 
 -- ---- faces
 
-border_not_bad : (points : List V3) (polygon : Polygon) → IsBorder points polygon → IsBadFace polygon → ⊥
+border_not_bad : (points : List V3) (polygon : Polygon) → IsSupporting points polygon → IsBadFace polygon → ⊥
 border_not_bad points polygon border bad = plane_not_bad polygon border.a border.b border.c border.plane bad
 
-first_face : (points : List V3) (polygons : Mesh) (P Q : Polygon → Type 0) → ((polygon : Polygon) → IsBorder points polygon → P polygon → ⊥) → ((polygon : Polygon) → IsBorder points polygon → Q polygon → ⊥) → (f g : ℕ) → IsFirstFace points polygons P f → IsFirstFace points polygons Q g → f ≡ g
+first_face : (points : List V3) (polygons : Mesh) (P Q : Polygon → Type 0) → ((polygon : Polygon) → IsSupporting points polygon → P polygon → ⊥) → ((polygon : Polygon) → IsSupporting points polygon → Q polygon → ⊥) → (f g : ℕ) → IsFirstFace points polygons P f → IsFirstFace points polygons Q g → f ≡ g
 first_face points polygons P Q no_p no_q f g a b =
     one_place f g
-    (λ lt. no_p a.polygon (at_front (IsBorder points) polygons g f a.polygon lt a.at b.before) a.broken)
-    (λ lt. no_q b.polygon (at_front (IsBorder points) polygons f g b.polygon lt b.at a.before) b.broken)
+    (λ lt. no_p a.polygon (at_front (IsSupporting points) polygons g f a.polygon lt a.at b.before) a.broken)
+    (λ lt. no_q b.polygon (at_front (IsSupporting points) polygons f g b.polygon lt b.at a.before) b.broken)
 
-not_all_border : (points : List V3) (polygons : Mesh) (P : Polygon → Type 0) → ((polygon : Polygon) → IsBorder points polygon → P polygon → ⊥) → (f : ℕ) → IsFirstFace points polygons P f → All (IsBorder points) polygons → ⊥
-not_all_border points polygons P no_p f a all = no_p a.polygon (at_place (IsBorder points) polygons f a.polygon a.at all) a.broken
+not_all_border : (points : List V3) (polygons : Mesh) (P : Polygon → Type 0) → ((polygon : Polygon) → IsSupporting points polygon → P polygon → ⊥) → (f : ℕ) → IsFirstFace points polygons P f → All (IsSupporting points) polygons → ⊥
+not_all_border points polygons P no_p f a all = no_p a.polygon (at_place (IsSupporting points) polygons f a.polygon a.at all) a.broken
 
 bad_not_cut : (points : List V3) (polygons : Mesh) (f g : ℕ) → IsFirstFace points polygons IsBadFace f → IsFirstFace points polygons (IsCut points) g → ⊥
 bad_not_cut points polygons f g a b =

@@ -1,5 +1,6 @@
 -- Edges by the numbers of their points, and a table of how many there are.
-use Rattle.std.specs.Prelude.{◌≡◌, ◌≢◌, ◌==◌, ◌&&◌, ◌+◌, ◌*◌, ◌<◌, ◌≤◌, ℕ, Bool, List, length, map, min, take, All, Contains, Some, slice_get, slice_index, count_by}
+use Rattle.std.specs.Prelude.{◌≡◌, ◌≢◌, ◌==◌, ◌&&◌, ◌+◌, ◌*◌, ◌<◌, ◌≤◌, ℕ, Bool, List, length, map, min, take, All}
+use Rattle.std.specs.Prelude.{Contains, Some, slice_get, slice_index, count_by}
 use Rattle.staat_vec.specs.declared.vector.V3.{V3}
 use Rattle.staat_model.specs.declared.limits.TheConstants.{MOST_POINTS}
 
@@ -7,7 +8,8 @@ use Rattle.staat_model.specs.declared.limits.TheConstants.{MOST_POINTS}
 pub record Numbers (points positions : List V3) (numbers : List ℕ) : Type 0 where
   pub each_once : length numbers ≡ length positions
   pub below : All (λ n. n < MOST_POINTS) numbers
-  pub at : (vertex : ℕ) (p : V3) → slice_get positions vertex ≡ Some p → Contains points p → slice_get points (slice_index numbers vertex) ≡ Some p
+  pub at : (vertex : ℕ) (p : V3) → slice_get positions vertex ≡ Some p → Contains points p →
+      slice_get points (slice_index numbers vertex) ≡ Some p
 
 -- a face by the numbers of its corners' points
 abbrev pub numbered : List ℕ → List ℕ → List ℕ
@@ -23,11 +25,14 @@ cell i j = i * MOST_POINTS + j
 
 -- the table counts the edges of the list, up to 255
 abbrev pub Counts : List ℕ → List (ℕ × ℕ) → Type 0
-Counts table edges = (i j : ℕ) → i < MOST_POINTS → j < MOST_POINTS → slice_index table (cell i j) ≡ min 255 (count_by (leads i j) edges)
+Counts table edges =
+    (i j : ℕ) → i < MOST_POINTS → j < MOST_POINTS → slice_index table (cell i j) ≡ min 255 (count_by
+    (leads i j) edges)
 
 -- the edge joins one point with itself, or two points that exactly two edges of the table join
 abbrev pub IsPaired : List ℕ → ℕ × ℕ → Type 0
-IsPaired table edge = edge.0 ≢ edge.1 → slice_index table (cell edge.0 edge.1) + slice_index table (cell edge.1 edge.0) ≡ 2
+IsPaired table edge =
+    edge.0 ≢ edge.1 → slice_index table (cell edge.0 edge.1) + slice_index table (cell edge.1 edge.0) ≡ 2
 
 -- the edge at that place is the first that is not paired
 pub record IsFirstUnpaired (table : List ℕ) (edges : List (ℕ × ℕ)) (corner : ℕ) : Type 0 where

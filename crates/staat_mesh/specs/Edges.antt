@@ -7,13 +7,13 @@ use Rattle.staat_vec.specs.Vectors.{vector_cmp}
 use Rattle.staat_mesh.specs.Polygons.{Mesh}
 
 -- the list begun at its second member
-abbrev pub turned : {X : Type 0} → List X → List X
-turned [] = []
-turned (x ∷ xs) = xs ++ x ∷ []
+abbrev pub rotated : {X : Type 0} → List X → List X
+rotated [] = []
+rotated (x ∷ xs) = xs ++ x ∷ []
 
 -- the edges of a polygon: from each corner to the next, and from the last to the first
 unfoldable pub edges : {X : Type 0} → List X → List (X × X)
-edges corners = zip corners (turned corners)
+edges corners = zip corners (rotated corners)
 
 -- whether two positions are one
 abbrev pub is_same : V3 → V3 → Bool

@@ -1,5 +1,6 @@
 // The rule of edges: what an edge joins, exactly two edges join.
-ghost use Rattle.std.specs.Prelude.{◌≡◌, ◌≤◌, ◌<◌, ◌++◌, ℕ, List, length, take, All, IfOk, IfSome, MatchOption, Some, slice_get};
+ghost use Rattle.std.specs.Prelude.{◌≡◌, ◌≤◌, ◌<◌, ◌++◌, ℕ, List, length, take, All, IfOk, IfSome, MatchOption, Some};
+ghost use Rattle.std.specs.Prelude.{slice_get};
 ghost use Rattle.std.specs.List.{flat_map};
 ghost use Rattle.std.specs.List.Sorted.{IsStrictlySortedBy};
 ghost use Rattle.staat_vec.specs.Vectors.{vector_cmp};
@@ -39,7 +40,8 @@ fn edge_at(numbers: &[u8], face: &[u32], corner: usize) -> (u8, u8)
 fn count_face(table: &mut EdgeTable, numbers: &[u8], face: &[u32])
     requires numbers { All (λ n. n < MOST_POINTS) numbers.now }
     requires face { All (λ v. v < length numbers.now) face.now }
-    ensures { (seen : List (ℕ × ℕ)) → Counts table.old seen → Counts table.new (seen ++ edges (numbered numbers.now face.now)) }
+    ensures { (seen : List (ℕ × ℕ)) → Counts table.old seen → Counts table.new (seen ++ edges
+        (numbered numbers.now face.now)) }
 {
     for corner in 0..face.len() {
         let (from, to) = edge_at(numbers, face, corner);
@@ -64,7 +66,8 @@ fn table_of(alloc: Global, numbers: &[u8], faces: &[Corners]) -> Result<EdgeTabl
 fn open_corner(table: &EdgeTable, numbers: &[u8], face: &[u32]) -> Option<usize>
     requires numbers { All (λ n. n < MOST_POINTS) numbers.now }
     requires face { All (λ v. v < length numbers.now) face.now }
-    ensures paired { MatchOption result (All (IsPaired table.now) (edges (numbered numbers.now face.now))) (IsFirstUnpaired table.now (edges (numbered numbers.now face.now))) }
+    ensures paired { MatchOption result (All (IsPaired table.now) (edges (numbered numbers.now face.now)))
+        (IsFirstUnpaired table.now (edges (numbered numbers.now face.now))) }
     ensures within { IfSome result (λ corner. corner < length face.now) }
 {
     for corner in 0..face.len() {

@@ -3,7 +3,7 @@ ghost use Rattle.std.specs.Prelude.{◌≤◌, length, All};
 ghost use Rattle.staat_vec.specs.Vectors.{IsWithin};
 ghost use Rattle.staat_off.specs.Raws.{IsCounted, IsIndexed};
 ghost use Rattle.staat_mesh.specs.Checks.{ChecksPoints};
-ghost use Rattle.staat_mesh.specs.Judging.{Answers};
+ghost use Rattle.staat_mesh.specs.Judging.{AnswersMesh};
 ghost use Rattle.staat_mesh.specs.Polygons.{mesh};
 
 use crate::edges::check_edges;
@@ -44,7 +44,7 @@ fn check_points(points: &[V3]) -> Result<(), MeshRefusal>
 pub fn make_piece(alloc: Global, raw: &Raw) -> Result<Piece, MeshRefusal>
     requires indexed { IsIndexed raw.now }
     requires counted { IsCounted raw.now }
-    ensures { Answers (mesh raw.now) result }
+    ensures { AnswersMesh (mesh raw.now) result }
 {
     let points = used_points(alloc, raw)?;
     check_points(points.as_slice())?;

@@ -52,7 +52,8 @@ fn normal_off_line(points: &[V3], a: V3, along: V3) -> Option<V3>
     requires points { All (IsWithin POINT) points.now }
     requires a { IsWithin POINT a }
     requires along { IsWithin DIFF along }
-    ensures line { MatchOption result (All (λ p. cross along (minus p a) ≡ origin) points.now) (λ n. (n ≢ origin) × Any (λ c. n ≡ cross along (minus c a)) points.now) }
+    ensures line { MatchOption result (All (λ p. cross along (minus p a) ≡ origin) points.now) (λ n. (n ≢ origin) ×
+        Any (λ c. n ≡ cross along (minus c a)) points.now) }
     ensures size { IfSome result (IsWithin NORMAL) }
 {
     for p in points {
@@ -94,7 +95,8 @@ impl Plane {
         requires through { IsWithin POINT self.through }
         requires normal { IsWithin NORMAL self.normal }
         requires points { All (IsWithin POINT) points.now }
-        ensures { MatchBool result (Any (λ p. side_of self p ≡ side) points.now) (All (λ p. side_of self p ≢ side) points.now) }
+        ensures { MatchBool result (Any (λ p. side_of self p ≡ side) points.now) (All
+            (λ p. side_of self p ≢ side) points.now) }
     {
         for p in points {
             if self.has(*p, side) {
@@ -109,7 +111,8 @@ impl Plane {
         requires through { IsWithin POINT self.through }
         requires normal { IsWithin NORMAL self.normal }
         requires points { All (IsWithin POINT) points.now }
-        ensures { MatchBool result (All (λ p. side_of self p ≡ Zero) points.now) (Any (λ p. side_of self p ≢ Zero) points.now) }
+        ensures { MatchBool result (All (λ p. side_of self p ≡ Zero) points.now) (Any
+            (λ p. side_of self p ≢ Zero) points.now) }
     {
         for p in points {
             if !self.has(*p, Sign::Zero) {

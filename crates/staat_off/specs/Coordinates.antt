@@ -1,5 +1,6 @@
 -- The decision on a coordinate, by division. That it is the one of the value's equation is a law.
-use Rattle.std.specs.Prelude.{◌==◌, ◌+◌, ◌*◌, ◌/◌, ◌%◌, ◌^◌, ℕ, ℤ, Bool, nat_le, length, Option, Some, None, Result, Ok, Err, if◌then◌else◌}
+use Rattle.std.specs.Prelude.{◌==◌, ◌+◌, ◌*◌, ◌/◌, ◌%◌, ◌^◌, ℕ, ℤ, Bool, nat_le, length, Option, Some, None, Result}
+use Rattle.std.specs.Prelude.{Ok, Err, if◌then◌else◌}
 use Rattle.staat_vec.specs.declared.vector.TheConstants.{POINT}
 use Rattle.staat_off.specs.declared.refusal.OffRefusal.{OffRefusal}
 use Rattle.staat_off.specs.declared.refusal.OffRefusal.TheVariants.{BadNumber, NotWhole, TooBig}
@@ -22,7 +23,8 @@ within_limit is_negative v at = if nat_le v POINT then Ok (signed is_negative v)
 -- the quotient, where there is no remainder
 abbrev pub quotient_of : ℕ → Numeral → ℕ → Result ℤ OffRefusal
 quotient_of k n at =
-    if numerator n k % denominator n k == 0 then within_limit n.is_negative (numerator n k / denominator n k) at else Err (NotWhole at)
+    if numerator n k % denominator n k == 0 then within_limit n.is_negative (numerator n k / denominator n k) at
+    else Err (NotWhole at)
 
 -- the decision, where the word spells a numeral
 abbrev pub decision_of : ℕ → Option Numeral → ℕ → Result ℤ OffRefusal

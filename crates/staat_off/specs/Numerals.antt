@@ -1,5 +1,6 @@
 -- Decimal numerals with a point and an exponent, and how a word is taken apart into one.
-use Rattle.std.specs.Prelude.{◌≡◌, ◌≤◌, ◌+◌, ◌==◌, ◌&&◌, ◌||◌, ℕ, Bool, true, false, nat_lt, List, [], ◌∷◌, length, take, drop, Option, Some, None, if◌then◌else◌, option_map}
+use Rattle.std.specs.Prelude.{◌≡◌, ◌≤◌, ◌+◌, ◌==◌, ◌&&◌, ◌||◌, ℕ, Bool, true, false, nat_lt, List, [], ◌∷◌, length}
+use Rattle.std.specs.Prelude.{take, drop, Option, Some, None, if◌then◌else◌, option_map}
 use Rattle.std.specs.Char.{is_ascii_digit}
 use Rattle.std.specs.List.{list_all, prefix_len}
 use Rattle.staat_off.specs.declared.numeral.TheConstants.{LONGEST_NUMBER}
@@ -78,7 +79,8 @@ numeral_with is_negative whole fraction exponent = record {
 -- a numeral with a digit before or behind the point, where what is left is its exponent
 abbrev pub mantissa_of : Bool → List ℕ → List ℕ → List ℕ → Option Numeral
 mantissa_of is_negative whole fraction rest =
-    if is_nonempty whole || is_nonempty fraction then option_map (numeral_with is_negative whole fraction) (exponent_of rest) else None
+    if is_nonempty whole || is_nonempty fraction then option_map (numeral_with is_negative whole fraction)
+    (exponent_of rest) else None
 
 -- the numeral behind the sign
 unfoldable pub unsigned_of : Bool → List ℕ → Option Numeral

@@ -1,7 +1,8 @@
 -- The words of a file that refusals name.
 use Rattle.std.specs.Prelude.{◌≡◌, ℕ, List}
 use Rattle.staat_off.specs.declared.refusal.OffRefusal.{OffRefusal}
-use Rattle.staat_off.specs.declared.refusal.OffRefusal.TheVariants.{BadCount, BadIndex, BadNumber, NoHeader, NotWhole, OutOfMemory, ShortFile, TooBig, Trailing}
+use Rattle.staat_off.specs.declared.refusal.OffRefusal.TheVariants.{BadCount, BadIndex, BadNumber, NoHeader, NotWhole}
+use Rattle.staat_off.specs.declared.refusal.OffRefusal.TheVariants.{OutOfMemory, ShortFile, TooBig, Trailing}
 use Rattle.staat_off.specs.Words.{IsWord, Word}
 
 -- a word of the file begins at the offset

@@ -1,5 +1,6 @@
 -- The words and comments of a file, by the places of their bytes, counted from 0.
-use Rattle.std.specs.Prelude.{◌≡◌, ◌≢◌, ◌==◌, ◌||◌, ◌&&◌, ◌+◌, ◌<◌, ◌≤◌, ◌⊎◌, ℕ, suc, Bool, true, not, nat_le, List, length, take, drop, Some, slice_get}
+use Rattle.std.specs.Prelude.{◌≡◌, ◌≢◌, ◌==◌, ◌||◌, ◌&&◌, ◌+◌, ◌<◌, ◌≤◌, ◌⊎◌, ℕ, suc, Bool, true, not, nat_le, List}
+use Rattle.std.specs.Prelude.{length, take, drop, Some, slice_get}
 use Rattle.staat_off.specs.declared.rest.TheConstants.{HASH, LINE_FEED}
 
 -- a space, a tab, LF, VT, FF and CR

@@ -49,7 +49,8 @@ pub fn coordinates_by_equation()
 
 /// The number with a refusal is the offset of a word of the file. No reading is want of memory.
 pub fn refusals_name_words()
-    ensures { (digits : ℕ) (file : List ℕ) (refusal : Refusal) → reading digits file ≡ Err refusal → NamesWord file refusal }
+    ensures { (digits : ℕ) (file : List ℕ) (refusal : Refusal) → reading digits file ≡ Err refusal →
+        NamesWord file refusal }
 {}
 
 /// The corners of what is read are the numbers of its points, no coordinate is too great, and no list too long.

@@ -2,7 +2,9 @@
 ghost use Rattle.std.specs.Prelude.{◌≡◌, ◌≤◌, ◌+◌, length, true, option_map, IfSome};
 ghost use Rattle.std.specs.Char.{is_ascii_digit};
 ghost use Rattle.std.specs.List.{list_all, prefix_len};
-ghost use Rattle.staat_off.specs.Numerals.{IsNumeral, after_digits, after_fraction, after_sign, are_digits, digits_in, exponent_of, fraction_in, is_minus_first, numeral_of, unsigned_of};
+ghost use Rattle.staat_off.specs.Numerals.{IsNumeral, after_digits, after_fraction, after_sign, are_digits};
+ghost use Rattle.staat_off.specs.Numerals.{digits_in, exponent_of, fraction_in, is_minus_first, numeral_of};
+ghost use Rattle.staat_off.specs.Numerals.{unsigned_of};
 ghost use Rattle.staat_off.specs.Views.{numeral_view};
 
 use crate::digits::all_digits;

@@ -39,7 +39,8 @@ pub(crate) fn with_zeros(mantissa: u32, places: u32) -> u32
 fn pushed(front: Trimmed, digit: u8) -> Trimmed
     requires digit { digit < 10 }
     requires few { front.zeros < 1000 }
-    ensures trims { (value : ℕ) → Trims front.mantissa front.zeros value → Trims result.mantissa result.zeros (value * 10 + digit) }
+    ensures trims { (value : ℕ) → Trims front.mantissa front.zeros value → Trims result.mantissa result.zeros
+        (value * 10 + digit) }
     ensures zeros { result.zeros ≤ front.zeros + 1 }
 {
     if digit != 0 {
@@ -59,7 +60,8 @@ fn pushed(front: Trimmed, digit: u8) -> Trimmed
 fn pushed_all(front: Trimmed, digits: &[u8]) -> Trimmed
     requires all { list_all is_ascii_digit digits.now ≡ true }
     requires few { front.zeros + length digits.now < 1000 }
-    ensures trims { (value : ℕ) → Trims front.mantissa front.zeros value → Trims result.mantissa result.zeros (digits_value_after 10 value digits.now) }
+    ensures trims { (value : ℕ) → Trims front.mantissa front.zeros value → Trims result.mantissa result.zeros
+        (digits_value_after 10 value digits.now) }
     ensures zeros { result.zeros ≤ front.zeros + length digits.now }
 {
     let mut trimmed = front;
@@ -72,7 +74,8 @@ fn pushed_all(front: Trimmed, digits: &[u8]) -> Trimmed
 /// The digits of a numeral, without the zeros behind them.
 pub(crate) fn trimmed_of(numeral: Numeral<'_>) -> Trimmed
     requires { IsNumeral (numeral_view numeral) }
-    ensures trims { Trims result.mantissa result.zeros (digits_value 10 (numeral.entry.whole.now ++ numeral.entry.fraction.now)) }
+    ensures trims { Trims result.mantissa result.zeros (digits_value 10 (numeral.entry.whole.now
+        ++ numeral.entry.fraction.now)) }
     ensures zeros { result.zeros ≤ LONGEST_NUMBER }
 {
     let none = Trimmed {

@@ -1,4 +1,3 @@
-use Rattle.std.proofs.Common.{◌≡◌, rules}
 use Rattle.staat_fault.specs.Faults.{body_of, line_of}
 use Rattle.staat_fault.proofs.line.line_text.Goals as goal
 

@@ -3,7 +3,7 @@ use Rattle.std.proofs.lemmas.Result.{err_from_is_err_and}
 use Rattle.serde_json.specs.View.{view}
 use Rattle.staat_manifest.specs.declared.refusal.ManifestRefusal.{ManifestRefusal}
 use Rattle.staat_manifest.specs.declared.listing.ListedPart.{ListedPart}
-use Rattle.staat_manifest.specs.Answers.{Answers}
+use Rattle.staat_manifest.specs.Answers.{AnswersList}
 use Rattle.staat_manifest.proofs.Accepted.{within_bounds}
 use Rattle.staat_manifest.proofs.RuleLemmas.{by_parts, whole_refuses}
 use Rattle.staat_manifest.proofs.reader.read_manifest.Goals as goal
@@ -16,7 +16,7 @@ returns-in_err-parts_of-clause-exact c =
 pub returns-clause-exact : goal.returns-clause-exact
 returns-clause-exact c =
     let same = by_parts c.args.bytes.now (view c.in_ok-value.value) c.in_ok-value.ensures c.in_ok-parts_of.ensures.rules _ c.in_ok-parts_of.ensures.parts in
-    subst (λ (wanted : Result (List ListedPart) ManifestRefusal). Answers wanted c.list_parts.result) (sym same) c.list_parts.ensures
+    subst (λ (wanted : Result (List ListedPart) ManifestRefusal). AnswersList wanted c.list_parts.result) (sym same) c.list_parts.ensures
 
 pub returns-clause-bounds : goal.returns-clause-bounds
 returns-clause-bounds c = within_bounds c.args.bytes.now c.list_parts.result (returns-clause-exact c)

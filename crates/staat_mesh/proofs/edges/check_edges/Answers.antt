@@ -5,8 +5,8 @@ use Rattle.staat_mesh.specs.Counts.{IsFirstUnpaired, IsPaired, numbered}
 use Rattle.staat_mesh.specs.Edges.{edges}
 use Rattle.staat_mesh.specs.Judging.{HasClosedEdges}
 use Rattle.staat_mesh.specs.Polygons.{mesh}
-use Rattle.staat_mesh.proofs.Pairing.{face_closed, face_open, face_there, polygon_there, tabled}
-use Rattle.staat_mesh.proofs.Tracing.{All-next, All-taken, length-mesh}
+use Rattle.staat_mesh.proofs.TableLemmas.{face_closed, face_open, face_there, polygon_there, tabled}
+use Rattle.staat_mesh.proofs.PolygonLemmas.{All-next, All-taken, length-mesh}
 use Rattle.staat_mesh.proofs.edges.check_edges.Goals as goal
 
 pub returns-in-Some : goal.returns-in-Some

@@ -1,7 +1,7 @@
 use Rattle.std.proofs.Common.{length, arith}
 use Rattle.staat_mesh.specs.Counts.{numbered}
 use Rattle.staat_mesh.specs.Edges.{edges}
-use Rattle.staat_mesh.proofs.Walking.{front_all, front_more, length-numbered-edges}
+use Rattle.staat_mesh.proofs.EdgeLemmas.{front_all, front_more, length-numbered-edges}
 use Rattle.staat_mesh.proofs.edges.count_face.Goals as goal
 
 pub loop-corner-preserved : goal.loop-corner-preserved

@@ -1,6 +1,6 @@
 use Rattle.staat_mesh.specs.Counts.{numbered}
 use Rattle.staat_mesh.specs.Edges.{edges}
-use Rattle.staat_mesh.proofs.Walking.{CountsFront}
+use Rattle.staat_mesh.proofs.EdgeLemmas.{CountsFront}
 use Rattle.staat_mesh.proofs.edges.count_face.Given as goal
 
 abbrev pub invariant-loop-corner : goal.invariant-loop-corner

@@ -1,5 +1,5 @@
 use Rattle.std.proofs.Common.{◌<◌, inl, inr, ap, arith, length}
-use Rattle.staat_mesh.proofs.Walking.{IsNext, numbered-edge}
+use Rattle.staat_mesh.proofs.EdgeLemmas.{IsNext, numbered-edge}
 use Rattle.staat_mesh.proofs.edges.edge_at.Goals as goal
 use Rattle.staat_mesh.proofs.edges.edge_at.Goals.{then-corner-face, else-corner-face}
 

@@ -1,5 +1,5 @@
 use Rattle.std.proofs.Common.{inl, inr}
-use Rattle.staat_mesh.proofs.Stancing.{bad, border, cut}
+use Rattle.staat_mesh.proofs.StanceLemmas.{bad, border, cut}
 use Rattle.staat_mesh.proofs.face.stance_of.Goals as goal
 use Rattle.staat_mesh.proofs.face.stance_of.Goals.{else-has_any-via-then-has_any+else-has_any-2, else-has_any-via-else-has_any}
 

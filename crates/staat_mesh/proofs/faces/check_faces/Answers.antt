@@ -2,8 +2,8 @@ use Rattle.std.proofs.Common.{ap, length, sym, arith, ◌∙◌}
 use Rattle.staat_vec.specs.declared.vector.TheConstants.{POINT}
 use Rattle.staat_vec.specs.Vectors.{IsWithin}
 use Rattle.staat_mesh.specs.Polygons.{mesh}
-use Rattle.staat_mesh.specs.Sides.{IsBorder}
-use Rattle.staat_mesh.proofs.Tracing.{All-member, All-next, All-taken, length-mesh, traced}
+use Rattle.staat_mesh.specs.Sides.{IsSupporting}
+use Rattle.staat_mesh.proofs.PolygonLemmas.{All-member, All-next, All-taken, length-mesh, traced}
 use Rattle.staat_mesh.proofs.faces.check_faces.Goals as goal
 
 pub stance_of-requires-clause-polygon : goal.stance_of-requires-clause-polygon
@@ -30,7 +30,7 @@ returns-in-Cut c = record {
 pub loop-number-preserved : goal.loop-number-preserved
 loop-number-preserved c =
     let at = traced c.args.raw.now c.loop-number.number _ _ _ _ _ _ c.as_slice-in-loop-number.ensures.value c.in_ok-trace.ensures c.as_slice-positions.ensures c.as_slice.ensures c.face-item.is c.as_slice-face-items.ensures c.loop-number-test.true in
-    All-next (IsBorder c.args.points.now) (mesh c.args.raw.now) c.loop-number.number _ c.loop-number.invariant at c.in-Border.ensures
+    All-next (IsSupporting c.args.points.now) (mesh c.args.raw.now) c.loop-number.number _ c.loop-number.invariant at c.in-Border.ensures
 
 pub returns : goal.returns
-returns c = All-taken (IsBorder c.args.points.now) (mesh c.args.raw.now) c.loop-number.number (omega (arith, c.loop-number-test.false, ap length c.as_slice-face-items.ensures, length-mesh c.args.raw.now)) c.loop-number.invariant
+returns c = All-taken (IsSupporting c.args.points.now) (mesh c.args.raw.now) c.loop-number.number (omega (arith, c.loop-number-test.false, ap length c.as_slice-face-items.ensures, length-mesh c.args.raw.now)) c.loop-number.invariant

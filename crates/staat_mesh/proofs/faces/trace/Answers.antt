@@ -1,7 +1,7 @@
 use Rattle.std.proofs.Common.{◌++◌, ◌∷◌, [], ap, sym, ◌∙◌, arith}
 use Rattle.staat_vec.specs.Vectors.{origin}
 use Rattle.std.proofs.Common.{get_or}
-use Rattle.staat_mesh.proofs.Tracing.{polygon_more}
+use Rattle.staat_mesh.proofs.PolygonLemmas.{polygon_more}
 use Rattle.staat_mesh.proofs.faces.trace.Goals as goal
 
 pub loop-vertex-preserved : goal.loop-vertex-preserved

@@ -1,5 +1,5 @@
 use Rattle.std.proofs.Common.{◌≡◌, false, true, arith}
-use Rattle.staat_mesh.proofs.Making.{in_plane}
+use Rattle.staat_mesh.proofs.MakeLemmas.{in_plane}
 use Rattle.staat_mesh.proofs.make.check_points.Goals as goal
 
 pub returns-then-not-is_solid : goal.returns-then-not-is_solid

@@ -3,10 +3,10 @@ use Rattle.std.specs.Prelude.{All}
 use Rattle.staat_vec.specs.declared.vector.V3.{V3}
 use Rattle.staat_model.specs.Pieces.{IsPiece}
 use Rattle.staat_mesh.specs.Checks.{ChecksEdges, ChecksFaces, ChecksPoints}
-use Rattle.staat_mesh.specs.Judging.{Answers}
+use Rattle.staat_mesh.specs.Judging.{AnswersMesh}
 use Rattle.staat_mesh.specs.Polygons.{mesh}
-use Rattle.staat_mesh.specs.Sides.{IsBorder}
-use Rattle.staat_mesh.proofs.Making.{body, carried, makes, points_within, refused_edges, refused_faces, refused_points}
+use Rattle.staat_mesh.specs.Sides.{IsSupporting}
+use Rattle.staat_mesh.proofs.MakeLemmas.{body, carried, makes, points_within, refused_edges, refused_faces, refused_points}
 use Rattle.staat_mesh.proofs.make.make_piece.Goals as goal
 
 pub check_points-requires-clause-within : goal.check_points-requires-clause-within
@@ -16,7 +16,7 @@ pub returns-in_err-check_points : goal.returns-in_err-check_points
 returns-in_err-check_points c =
     let polygons = mesh c.args.raw.now in
     let refusal = c.in_err-check_points.field-0.0 in
-    carried (Answers polygons) c.from_residual-in_err-check_points.result refusal c.from_residual-in_err-check_points.ensures
+    carried (AnswersMesh polygons) c.from_residual-in_err-check_points.result refusal c.from_residual-in_err-check_points.ensures
     (refused_points (Unit {0}) polygons c.in_ok-points.points.items refusal c.in_ok-points.ensures.used (subst (λ (ps : List V3). ChecksPoints {X = Unit {0}} ps (Err refusal)) c.as_slice.ensures.value c.in_err-check_points.ensures))
 
 pub check_faces-requires-clause-points : goal.check_faces-requires-clause-points
@@ -28,7 +28,7 @@ returns-in_err-check_faces c =
     let points = c.in_ok-points.points.items in
     let refusal = c.in_err-check_faces.field-0.0 in
     let sound = body (Unit {0}) polygons points tt c.in_ok-points.ensures.used (subst (λ (ps : List V3). ChecksPoints {X = Unit {0}} ps (Ok tt)) c.as_slice.ensures.value c.in_ok-check_points.ensures) in
-    carried (Answers polygons) c.from_residual-in_err-check_faces.result refusal c.from_residual-in_err-check_faces.ensures
+    carried (AnswersMesh polygons) c.from_residual-in_err-check_faces.result refusal c.from_residual-in_err-check_faces.ensures
     (refused_faces (Unit {0}) polygons points refusal sound (subst (λ (ps : List V3). ChecksFaces {X = Unit {0}} polygons ps (Err refusal)) c.as_slice-2.ensures.value c.in_err-check_faces.ensures))
 
 pub returns-in_err-check_edges : goal.returns-in_err-check_edges
@@ -37,8 +37,8 @@ returns-in_err-check_edges c =
     let points = c.in_ok-points.points.items in
     let refusal = c.in_err-check_edges.field-0.0 in
     let sound = body (Unit {0}) polygons points tt c.in_ok-points.ensures.used (subst (λ (ps : List V3). ChecksPoints {X = Unit {0}} ps (Ok tt)) c.as_slice.ensures.value c.in_ok-check_points.ensures) in
-    carried (Answers polygons) c.from_residual-in_err-check_edges.result refusal c.from_residual-in_err-check_edges.ensures
-    (refused_edges (Unit {0}) polygons points refusal sound (subst (λ (ps : List V3). All (IsBorder ps) polygons) c.as_slice-2.ensures.value c.in_ok-check_faces.ensures)
+    carried (AnswersMesh polygons) c.from_residual-in_err-check_edges.result refusal c.from_residual-in_err-check_edges.ensures
+    (refused_edges (Unit {0}) polygons points refusal sound (subst (λ (ps : List V3). All (IsSupporting ps) polygons) c.as_slice-2.ensures.value c.in_ok-check_faces.ensures)
     (subst (λ (ps : List V3). ChecksEdges {X = Unit {0}} polygons ps (Err refusal)) c.as_slice-3.ensures.value c.in_err-check_edges.ensures))
 
 pub seal-requires : goal.seal-requires

@@ -1,4 +1,4 @@
-use Rattle.staat_mesh.proofs.Numbering.{found, not_found}
+use Rattle.staat_mesh.proofs.NumberLemmas.{found, not_found}
 use Rattle.staat_mesh.proofs.numbers.number_of.Goals as goal
 
 pub returns-in-Ok-clause-at : goal.returns-in-Ok-clause-at

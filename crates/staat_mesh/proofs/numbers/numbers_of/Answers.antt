@@ -1,7 +1,7 @@
 use Rattle.std.proofs.Common.{ℕ, List, take, ◌+◌, sym, subst}
 use Rattle.staat_vec.specs.Vectors.{origin}
 use Rattle.staat_mesh.specs.Counts.{Numbers}
-use Rattle.staat_mesh.proofs.Numbering.{numbers_all, numbers_more}
+use Rattle.staat_mesh.proofs.NumberLemmas.{numbers_all, numbers_more}
 use Rattle.staat_mesh.proofs.numbers.numbers_of.Goals as goal
 
 pub loop-position-preserved : goal.loop-position-preserved

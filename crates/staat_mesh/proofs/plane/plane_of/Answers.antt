@@ -1,6 +1,6 @@
 use Rattle.std.proofs.Common.{◌≡◌, Option, None, MatchOption, sym, subst}
 use Rattle.staat_model.proofs.Flat.{apart}
-use Rattle.staat_mesh.proofs.Lines.{on_line_at, on_line_through}
+use Rattle.staat_mesh.proofs.LineLemmas.{on_line_at, on_line_through}
 use Rattle.staat_mesh.proofs.plane.plane_of.Goals as goal
 
 nothing : {X : Type 0} (r : Option X) (A : Type 0) (B : X → Type 0) → r ≡ None → A → MatchOption r A B

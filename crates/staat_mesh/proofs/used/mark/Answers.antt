@@ -1,5 +1,5 @@
 use Rattle.std.proofs.Common.{refl, arith}
-use Rattle.staat_mesh.proofs.Marking.{front_none, front_more, front_all}
+use Rattle.staat_mesh.proofs.MarkLemmas.{front_none, front_more, front_all}
 use Rattle.staat_mesh.proofs.used.mark.Goals as goal
 
 pub loop-vertex-init : goal.loop-vertex-init

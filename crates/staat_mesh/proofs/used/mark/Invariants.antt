@@ -1,4 +1,4 @@
-use Rattle.staat_mesh.proofs.Marking.{MarksFront}
+use Rattle.staat_mesh.proofs.MarkLemmas.{MarksFront}
 use Rattle.staat_mesh.proofs.used.mark.Given as goal
 
 abbrev pub invariant-loop-vertex : goal.invariant-loop-vertex

@@ -2,7 +2,7 @@ use Rattle.std.proofs.Common.{◌≡◌, ◌∷◌, ◌++◌, [], ℕ, List, set
 use Rattle.std.specs.Prelude.{slice_index, min, ◌+◌}
 use Rattle.std.proofs.lemmas.List.{get_or_read}
 use Rattle.staat_mesh.specs.Counts.{Counts, cell}
-use Rattle.staat_mesh.proofs.Counting.{counts_more}
+use Rattle.staat_mesh.proofs.CountLemmas.{counts_more}
 use Rattle.staat_mesh.proofs.table.EdgeTable.add.Goals as goal
 
 pub returns : goal.returns

@@ -1,7 +1,7 @@
 use Rattle.std.proofs.Common.{ℕ, List, [], sym, subst}
 use Rattle.staat_mesh.specs.Counts.{Counts}
 use Rattle.staat_mesh.specs.declared.table.TheConstants.{CELLS}
-use Rattle.staat_mesh.proofs.Counting.{counts_none}
+use Rattle.staat_mesh.proofs.CountLemmas.{counts_none}
 use Rattle.staat_mesh.proofs.table.EdgeTable.new.Goals as goal
 
 pub returns : goal.returns

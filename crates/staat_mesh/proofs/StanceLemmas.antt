@@ -10,7 +10,7 @@ use Rattle.staat_vec.proofs.VecRing.{values, v0, v1, v2, dotE, crossE, detE}
 use Rattle.staat_model.proofs.Flat.{off_plane as four_apart}
 use Rattle.staat_mesh.specs.declared.plane.Plane.{Plane}
 use Rattle.staat_mesh.specs.Planes.{IsSpanned, side_of}
-use Rattle.staat_mesh.specs.Sides.{IsBadFace, IsBorder, IsCut, IsPlaneOf, side, off_plane}
+use Rattle.staat_mesh.specs.Sides.{IsBadFace, IsSupporting, IsCut, LiesInPlane, side, off_plane}
 
 pub det-dot : (u v w : V3) → det u v w ≡ dot (cross u v) w
 det-dot u v w = ring (values (u ∷ v ∷ w ∷ []) []) (detE v0 v1 v2) (dotE (crossE v0 v1) v2) tt
@@ -28,7 +28,7 @@ pub bad : (polygon : List V3) (plane : Plane) → IsSpanned polygon plane → An
 bad polygon plane s off =
     off_plane (four_apart plane.through s.b s.c off.1 (minus s.b plane.through) plane.normal polygon s.a_in s.b_in s.c_in (off.0, off.2, off.3) refl s.normal (λ e. off.4 (ap sign e)))
 
-plane_of : (polygon : List V3) (plane : Plane) (s : IsSpanned polygon plane) → All (λ p. side_of plane p ≡ Zero) polygon → IsPlaneOf polygon plane.through s.b s.c
+plane_of : (polygon : List V3) (plane : Plane) (s : IsSpanned polygon plane) → All (λ p. side_of plane p ≡ Zero) polygon → LiesInPlane polygon plane.through s.b s.c
 plane_of polygon plane s all = record {
   a_in = s.a_in;
   b_in = s.b_in;
@@ -53,7 +53,7 @@ cut points polygon plane s all above below = record {
 }
 
 -- no points on one side
-pub border : (points polygon : List V3) (plane : Plane) → IsSpanned polygon plane → All (λ p. side_of plane p ≡ Zero) polygon → (All (λ p. side_of plane p ≢ Pos) points) ⊎ (All (λ p. side_of plane p ≢ Neg) points) → IsBorder points polygon
+pub border : (points polygon : List V3) (plane : Plane) → IsSpanned polygon plane → All (λ p. side_of plane p ≡ Zero) polygon → (All (λ p. side_of plane p ≢ Pos) points) ⊎ (All (λ p. side_of plane p ≢ Neg) points) → IsSupporting points polygon
 border points polygon plane s all free = record {
   a = plane.through;
   b = s.b;

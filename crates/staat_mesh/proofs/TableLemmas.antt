@@ -21,10 +21,10 @@ use Rattle.staat_mesh.specs.Counts.{Counts, IsFirstUnpaired, IsPaired, Numbers, 
 use Rattle.staat_mesh.specs.Edges.{IsClosed, edge_count, edges, joins}
 use Rattle.staat_mesh.specs.Judging.{HasClosedEdges, IsFirstOpen}
 use Rattle.staat_mesh.specs.Polygons.{IsUsed, mesh, polygon}
-use Rattle.staat_mesh.proofs.Mapping.{IsInjective, both, count_by-joins, edges-map, filter_map-all, flat_map-map, flat_map-renamed}
-use Rattle.staat_mesh.proofs.Same.{is_same-Decides}
+use Rattle.staat_mesh.proofs.RenamedEdges.{IsInjective, both, count_by-joins, edges-map, filter_map-all, flat_map-map, flat_map-renamed}
+use Rattle.staat_mesh.proofs.SameLemmas.{is_same-Decides}
 use Rattle.staat_mesh.proofs.UsedPoints.{to_used}
-use Rattle.staat_mesh.proofs.Walking.{All-edges}
+use Rattle.staat_mesh.proofs.EdgeLemmas.{All-edges}
 
 -- the edges of all faces, by the numbers of their points
 abbrev pub numbered_edges : List ℕ → List (List ℕ) → List (ℕ × ℕ)

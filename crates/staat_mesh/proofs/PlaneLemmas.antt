@@ -15,9 +15,9 @@ use Rattle.staat_model.proofs.CornerLemmas.{some_square}
 use Rattle.staat_model.proofs.Flat.{on_plane}
 use Rattle.staat_model.proofs.Mixes.{dot_origin}
 use Rattle.staat_mesh.specs.Polygons.{Polygon}
-use Rattle.staat_mesh.specs.Sides.{IsBadFace, IsBorder, IsCut, IsPlaneOf, few, off_plane, on_line, side}
-use Rattle.staat_mesh.proofs.Lines.{no_way}
-use Rattle.staat_mesh.proofs.Stancing.{det-dot}
+use Rattle.staat_mesh.specs.Sides.{IsBadFace, IsSupporting, IsCut, LiesInPlane, few, off_plane, on_line, side}
+use Rattle.staat_mesh.proofs.LineLemmas.{no_way}
+use Rattle.staat_mesh.proofs.StanceLemmas.{det-dot}
 
 -- ---- sides as signs of products with the normal
 
@@ -52,7 +52,7 @@ side-normal : (a b c p : V3) → side a b c p ≡ sign (dot (normal a b c) (minu
 side-normal a b c p = ap sign (det-dot (minus b a) (minus c a) (minus p a))
 
 -- the corners are at no height
-level : (polygon : Polygon) (a b c : V3) → IsPlaneOf polygon a b c → All (λ p. dot (normal a b c) (minus p a) ≡ pos 0) polygon
+level : (polygon : Polygon) (a b c : V3) → LiesInPlane polygon a b c → All (λ p. dot (normal a b c) (minus p a) ≡ pos 0) polygon
 level polygon a b c plane =
     All-weaker (λ p. side a b c p ≡ Zero) (λ p. dot (normal a b c) (minus p a) ≡ pos 0) (λ p e. zero_height (dot (normal a b c) (minus p a)) (sym (side-normal a b c p) ∙ e)) polygon plane.flat
 
@@ -95,7 +95,7 @@ too_few (x ∷ y ∷ []) a b c lt ha hb hc apart = three (either x y a ha) (eith
     three (inr e) (inl f) (inr g) = first_third (e ∙ sym g)
 too_few (x ∷ y ∷ z ∷ rest) a b c lt ha hb hc apart = absurd (omega (arith, lt))
 
-pub plane_not_bad : (polygon : Polygon) (a b c : V3) → IsPlaneOf polygon a b c → IsBadFace polygon → ⊥
+pub plane_not_bad : (polygon : Polygon) (a b c : V3) → LiesInPlane polygon a b c → IsBadFace polygon → ⊥
 plane_not_bad polygon a b c plane (few positions lists short) =
     too_few positions a b c short (lists.all a plane.a_in) (lists.all b plane.b_in) (lists.all c plane.c_in) plane.apart
 plane_not_bad polygon a b c plane (on_line line) = plane.apart (line a b c plane.a_in plane.b_in plane.c_in)
@@ -169,10 +169,10 @@ opposite s (negsuc n) x y p q hs ne e f hp hq =
     let down : negsuc n <ℤ pos 0 = omega (arith, ints) in
     inr (negative_from s x (negsuc n *ℤ p) hs e (unlike (negsuc n) p down hp), positive_from s y (negsuc n *ℤ q) hs f (two_negative (negsuc n) q down hq))
 
-at_no_height : (polygon : Polygon) (a b c p : V3) → IsPlaneOf polygon a b c → Contains polygon p → dot (normal a b c) (minus p a) ≡ pos 0
+at_no_height : (polygon : Polygon) (a b c p : V3) → LiesInPlane polygon a b c → Contains polygon p → dot (normal a b c) (minus p a) ≡ pos 0
 at_no_height polygon a b c p plane h = All-contains (λ q. dot (normal a b c) (minus q a) ≡ pos 0) polygon p (level polygon a b c plane) h
 
-parallel_normals : (polygon : Polygon) (a b c x y z : V3) → IsPlaneOf polygon a b c → IsPlaneOf polygon x y z → cross (normal a b c) (normal x y z) ≡ origin
+parallel_normals : (polygon : Polygon) (a b c x y z : V3) → LiesInPlane polygon a b c → LiesInPlane polygon x y z → cross (normal a b c) (normal x y z) ≡ origin
 parallel_normals polygon a b c x y z one other =
     let n = normal a b c in
     let u = minus y x in
@@ -183,7 +183,7 @@ parallel_normals polygon a b c x y z one other =
     crossed_twice n u v ∙ (λ i. minus (scale (second i) u) (scale (first i) v)) ∙ nothing_crossed u v
 
 -- heights over two planes of the polygon differ by a factor
-same_factor : (polygon : Polygon) (a b c x y z p : V3) → IsPlaneOf polygon a b c → IsPlaneOf polygon x y z → dot (normal a b c) (normal a b c) *ℤ dot (normal x y z) (minus p x) ≡ dot (normal a b c) (normal x y z) *ℤ dot (normal a b c) (minus p a)
+same_factor : (polygon : Polygon) (a b c x y z p : V3) → LiesInPlane polygon a b c → LiesInPlane polygon x y z → dot (normal a b c) (normal a b c) *ℤ dot (normal x y z) (minus p x) ≡ dot (normal a b c) (normal x y z) *ℤ dot (normal a b c) (minus p a)
 same_factor polygon a b c x y z p one other =
     let n = normal a b c in
     let m = normal x y z in
@@ -196,7 +196,7 @@ same_factor polygon a b c x y z p one other =
     plus_zero : (s t : ℤ) → t ≡ pos 0 → s +ℤ t ≡ s
     plus_zero s t e = omega (arith, ints)
 
-normals_meet : (polygon : Polygon) (a b c x y z : V3) → IsPlaneOf polygon a b c → IsPlaneOf polygon x y z → dot (normal a b c) (normal x y z) ≢ pos 0
+normals_meet : (polygon : Polygon) (a b c x y z : V3) → LiesInPlane polygon a b c → LiesInPlane polygon x y z → dot (normal a b c) (normal x y z) ≢ pos 0
 normals_meet polygon a b c x y z one other =
     let n = normal a b c in
     let m = normal x y z in
@@ -212,7 +212,7 @@ apart_signs x y (inr h) (inl g) = omega (arith, ints, h.1, g.1)
 apart_signs x y (inr h) (inr g) = omega (arith, ints, h.0, g.0)
 
 -- points on both sides of one plane of the polygon are on both sides of each
-pub border_not_cut : (points : List V3) (polygon : Polygon) → IsBorder points polygon → IsCut points polygon → ⊥
+pub border_not_cut : (points : List V3) (polygon : Polygon) → IsSupporting points polygon → IsCut points polygon → ⊥
 border_not_cut points polygon border cut =
     let n = normal cut.a cut.b cut.c in
     let m = normal border.a border.b border.c in
@@ -225,7 +225,7 @@ border_not_cut points polygon border cut =
     (same_factor polygon cut.a cut.b cut.c border.a border.b border.c cut.behind cut.plane border.plane) ahead behind in
     apart_signs (height cut.ahead) (height cut.behind) signs (one_side points polygon border cut.ahead cut.behind cut.ahead_in cut.behind_in)
   where
-    one_side : (points : List V3) (polygon : Polygon) (border : IsBorder points polygon) (p q : V3) → Contains points p → Contains points q → ((dot (normal border.a border.b border.c) (minus p border.a) ≤ℤ pos 0) × (dot (normal border.a border.b border.c) (minus q border.a) ≤ℤ pos 0)) ⊎ ((pos 0 ≤ℤ dot (normal border.a border.b border.c) (minus p border.a)) × (pos 0 ≤ℤ dot (normal border.a border.b border.c) (minus q border.a)))
+    one_side : (points : List V3) (polygon : Polygon) (border : IsSupporting points polygon) (p q : V3) → Contains points p → Contains points q → ((dot (normal border.a border.b border.c) (minus p border.a) ≤ℤ pos 0) × (dot (normal border.a border.b border.c) (minus q border.a) ≤ℤ pos 0)) ⊎ ((pos 0 ≤ℤ dot (normal border.a border.b border.c) (minus p border.a)) × (pos 0 ≤ℤ dot (normal border.a border.b border.c) (minus q border.a)))
     one_side points polygon border p q hp hq =
         let is : (r : V3) → side border.a border.b border.c r ≡ sign (dot (normal border.a border.b border.c) (minus r border.a)) = side-normal border.a border.b border.c in
         elim border.one_side [

@@ -8,19 +8,19 @@ use Rattle.std.proofs.lemmas.List.Elements.{All-head, All-push, All-tail}
 use Rattle.std.proofs.lemmas.Option.{get_or_from_slice_get, slice_get-get_or, slice_get_within}
 use Rattle.std.proofs.lemmas.Slice.Zip.{get_or-zip, length-zip}
 use Rattle.staat_mesh.specs.Counts.{Counts, numbered}
-use Rattle.staat_mesh.specs.Edges.{edges, turned}
+use Rattle.staat_mesh.specs.Edges.{edges, rotated}
 
-pub length-turned : {X : Type 0} (xs : List X) → length (turned xs) ≡ length xs
-length-turned [] = refl
-length-turned (x ∷ xs) = length-append xs (x ∷ []) ∙ add-one (length xs)
+pub length-rotated : {X : Type 0} (xs : List X) → length (rotated xs) ≡ length xs
+length-rotated [] = refl
+length-rotated (x ∷ xs) = length-append xs (x ∷ []) ∙ add-one (length xs)
 
-turned-next : {X : Type 0} (xs : List X) (c : ℕ) (d : X) → c + 1 < length xs → get_or (turned xs) c d ≡ get_or xs (c + 1) d
-turned-next [] c d lt = absurd (omega (arith, lt))
-turned-next (x ∷ xs) c d lt = rw add-one (get_or_append_left xs (x ∷ []) d c (omega (arith, lt)))
+rotated-next : {X : Type 0} (xs : List X) (c : ℕ) (d : X) → c + 1 < length xs → get_or (rotated xs) c d ≡ get_or xs (c + 1) d
+rotated-next [] c d lt = absurd (omega (arith, lt))
+rotated-next (x ∷ xs) c d lt = rw add-one (get_or_append_left xs (x ∷ []) d c (omega (arith, lt)))
 
-turned-last : {X : Type 0} (xs : List X) (c : ℕ) (d : X) → c < length xs → length xs ≤ c + 1 → get_or (turned xs) c d ≡ get_or xs 0 d
-turned-last [] c d lt le = absurd (omega (arith, lt))
-turned-last (x ∷ xs) c d lt le = let at : c ≡ length xs = omega (arith, lt, le) in rw at (get_or-append_right xs (x ∷ []) (length xs) (length xs) d refl (omega arith) ∙ ap (λ k. get_or (x ∷ []) k d) (nothing_left (length xs)))
+rotated-last : {X : Type 0} (xs : List X) (c : ℕ) (d : X) → c < length xs → length xs ≤ c + 1 → get_or (rotated xs) c d ≡ get_or xs 0 d
+rotated-last [] c d lt le = absurd (omega (arith, lt))
+rotated-last (x ∷ xs) c d lt le = let at : c ≡ length xs = omega (arith, lt, le) in rw at (get_or-append_right xs (x ∷ []) (length xs) (length xs) d refl (omega arith) ∙ ap (λ k. get_or (x ∷ []) k d) (nothing_left (length xs)))
   where
     nothing_left : (n : ℕ) → n - n ≡ 0
     nothing_left n = omega arith
@@ -29,13 +29,13 @@ turned-last (x ∷ xs) c d lt le = let at : c ≡ length xs = omega (arith, lt, 
 abbrev pub IsNext : ℕ → ℕ → ℕ → Type 0
 IsNext corners c next = ((c + 1 < corners) × (next ≡ c + 1)) ⊎ ((corners ≤ c + 1) × (next ≡ 0))
 
-turned-at : {X : Type 0} (xs : List X) (c next : ℕ) (d : X) → c < length xs → IsNext (length xs) c next → get_or (turned xs) c d ≡ get_or xs next d
-turned-at xs c next d lt (inl (more, e)) = turned-next xs c d more ∙ ap (λ k. get_or xs k d) (sym e)
-turned-at xs c next d lt (inr (le, e)) = turned-last xs c d lt le ∙ ap (λ k. get_or xs k d) (sym e)
+rotated-at : {X : Type 0} (xs : List X) (c next : ℕ) (d : X) → c < length xs → IsNext (length xs) c next → get_or (rotated xs) c d ≡ get_or xs next d
+rotated-at xs c next d lt (inl (more, e)) = rotated-next xs c d more ∙ ap (λ k. get_or xs k d) (sym e)
+rotated-at xs c next d lt (inr (le, e)) = rotated-last xs c d lt le ∙ ap (λ k. get_or xs k d) (sym e)
 
 pub length-edges : {X : Type 0} (xs : List X) → length (edges xs) ≡ length xs
 unfolding edges
-length-edges xs = length-zip xs (turned xs) ∙ ap (min (length xs)) (length-turned xs) ∙ twice (length xs)
+length-edges xs = length-zip xs (rotated xs) ∙ ap (min (length xs)) (length-rotated xs) ∙ twice (length xs)
   where
     twice : (n : ℕ) → min n n ≡ n
     twice n = omega arith
@@ -43,11 +43,11 @@ length-edges xs = length-zip xs (turned xs) ∙ ap (min (length xs)) (length-tur
 pub edge-at : {X : Type 0} (xs : List X) (c next : ℕ) (d : X) → c < length xs → IsNext (length xs) c next → slice_get (edges xs) c ≡ Some (get_or xs c d, get_or xs next d)
 unfolding edges
 edge-at xs c next d lt is =
-    slice_get-get_or (zip xs (turned xs)) c (d, d) (omega (arith, lt, length-edges_here xs))
-    ∙ ap Some (get_or-zip xs (turned xs) c (d, d) lt (omega (arith, lt, length-turned xs)) ∙ ap (λ q. (get_or xs c d, q)) (turned-at xs c next d lt is))
+    slice_get-get_or (zip xs (rotated xs)) c (d, d) (omega (arith, lt, length-edges_here xs))
+    ∙ ap Some (get_or-zip xs (rotated xs) c (d, d) lt (omega (arith, lt, length-rotated xs)) ∙ ap (λ q. (get_or xs c d, q)) (rotated-at xs c next d lt is))
   where
-    length-edges_here : {X : Type 0} (xs : List X) → length (zip xs (turned xs)) ≡ length xs
-    length-edges_here xs = length-zip xs (turned xs) ∙ ap (min (length xs)) (length-turned xs) ∙ twice (length xs)
+    length-edges_here : {X : Type 0} (xs : List X) → length (zip xs (rotated xs)) ≡ length xs
+    length-edges_here xs = length-zip xs (rotated xs) ∙ ap (min (length xs)) (length-rotated xs) ∙ twice (length xs)
       where
         twice : (n : ℕ) → min n n ≡ n
         twice n = omega arith
@@ -85,14 +85,14 @@ flat_map_next f xs i d lt = ap (flat_map f) (take_more xs i d lt) ∙ flat_map-a
 pub length-numbered-edges : (numbers face : List ℕ) → length (edges (numbered numbers face)) ≡ length face
 length-numbered-edges numbers face = length-edges (numbered numbers face) ∙ length-map face (slice_index numbers)
 
-All-turned : {X : Type 0} (P : X → Type 0) (xs : List X) → All P xs → All P (turned xs)
-All-turned P [] all = all
-All-turned P (x ∷ xs) all = All-push P xs x (All-tail P x xs all) (All-head P x xs all)
+All-rotated : {X : Type 0} (P : X → Type 0) (xs : List X) → All P xs → All P (rotated xs)
+All-rotated P [] all = all
+All-rotated P (x ∷ xs) all = All-push P xs x (All-tail P x xs all) (All-head P x xs all)
 
 -- what holds of all corners holds of both ends of all edges
 pub All-edges : {X : Type 0} (P : X → Type 0) (xs : List X) → All P xs → All (λ (e : X × X). P e.0 × P e.1) (edges xs)
 unfolding edges
 All-edges {X} P xs all = λ k d lt.
-    let short : k < length xs = omega (arith, lt, length-zip xs (turned xs)) in
-    let short_turned : k < length (turned xs) = omega (arith, lt, length-zip xs (turned xs)) in
-    subst (λ (e : X × X). P e.0 × P e.1) (sym (get_or-zip xs (turned xs) k d short short_turned)) (all k d.0 short, All-turned P xs all k d.1 short_turned)
+    let short : k < length xs = omega (arith, lt, length-zip xs (rotated xs)) in
+    let short_turned : k < length (rotated xs) = omega (arith, lt, length-zip xs (rotated xs)) in
+    subst (λ (e : X × X). P e.0 × P e.1) (sym (get_or-zip xs (rotated xs) k d short short_turned)) (all k d.0 short, All-rotated P xs all k d.1 short_turned)

@@ -10,8 +10,8 @@ use Rattle.std.proofs.lemmas.List.Sums.{sum_by-cons}
 use Rattle.staat_vec.specs.declared.vector.V3.{V3}
 use Rattle.staat_vec.proofs.Unique.{Contains-front, Contains-later}
 use Rattle.staat_mesh.specs.Counts.{leads}
-use Rattle.staat_mesh.specs.Edges.{edges, is_same, joins, turned}
-use Rattle.staat_mesh.proofs.Same.{is_same-Decides}
+use Rattle.staat_mesh.specs.Edges.{edges, is_same, joins, rotated}
+use Rattle.staat_mesh.proofs.SameLemmas.{is_same-Decides}
 
 -- a pair renamed
 abbrev pub both : {X Y : Type 0} → (X → Y) → X × X → Y × Y
@@ -22,13 +22,13 @@ zip-map f [] ys = refl
 zip-map f (x ∷ xs) [] = refl
 zip-map f (x ∷ xs) (y ∷ ys) = ap (λ rest. (f x, f y) ∷ rest) (zip-map f xs ys)
 
-turned-map : {X Y : Type 0} (f : X → Y) (xs : List X) → turned (map f xs) ≡ map f (turned xs)
-turned-map f [] = refl
-turned-map f (x ∷ xs) = sym (map-append f xs (x ∷ []))
+rotated-map : {X Y : Type 0} (f : X → Y) (xs : List X) → rotated (map f xs) ≡ map f (rotated xs)
+rotated-map f [] = refl
+rotated-map f (x ∷ xs) = sym (map-append f xs (x ∷ []))
 
 pub edges-map : {X Y : Type 0} (f : X → Y) (xs : List X) → edges (map f xs) ≡ map (both f) (edges xs)
 unfolding edges
-edges-map f xs = ap (zip (map f xs)) (turned-map f xs) ∙ zip-map f xs (turned xs)
+edges-map f xs = ap (zip (map f xs)) (rotated-map f xs) ∙ zip-map f xs (rotated xs)
 
 pub filter_map-all : {X Y : Type 0} (f : X → Option Y) (g : X → Y) (xs : List X) → ((x : X) → Contains xs x → f x ≡ Some (g x)) → filter_map f xs ≡ map g xs
 filter_map-all f g [] each = refl

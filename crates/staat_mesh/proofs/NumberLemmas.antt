@@ -15,7 +15,7 @@ use Rattle.staat_vec.specs.Vectors.{vector_cmp}
 use Rattle.staat_vec.proofs.VectorOrder.{vector_exact, vector_total}
 use Rattle.staat_model.specs.declared.limits.TheConstants.{MOST_POINTS}
 use Rattle.staat_mesh.specs.Counts.{Numbers}
-use Rattle.staat_mesh.proofs.Same.{vector_cmp-same}
+use Rattle.staat_mesh.proofs.SameLemmas.{vector_cmp-same}
 
 step : (points : List V3) (k : ℕ) (d : V3) → IsStrictlySortedBy vector_cmp points → suc k < length points → vector_cmp (get_or points k d) (get_or points (suc k) d) ≡ Less
 unfolding IsStrictlySortedBy

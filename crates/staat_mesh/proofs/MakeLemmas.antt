@@ -16,9 +16,9 @@ use Rattle.staat_off.specs.Raws.{IsIndexed}
 use Rattle.staat_mesh.specs.declared.refusal.MeshRefusal.{MeshRefusal}
 use Rattle.staat_mesh.specs.declared.refusal.MeshRefusal.TheVariants.{TooFewPoints, TooManyPoints, Flat, BadFace, NotConvex, OpenEdge, OutOfMemory}
 use Rattle.staat_mesh.specs.Checks.{ChecksEdges, ChecksFaces, ChecksPoints}
-use Rattle.staat_mesh.specs.Judging.{Answers, Judges}
+use Rattle.staat_mesh.specs.Judging.{AnswersMesh, Judges}
 use Rattle.staat_mesh.specs.Polygons.{IsUsed, Mesh, mesh}
-use Rattle.staat_mesh.specs.Sides.{InPlane, IsBorder}
+use Rattle.staat_mesh.specs.Sides.{InPlane, IsSupporting}
 use Rattle.staat_mesh.proofs.UsedPoints.{IsCorner, from_used}
 
 -- the points are no farther out than the vertices
@@ -44,7 +44,7 @@ pub record IsBody (polygons : Mesh) (points : List V3) : Type 0 where
   pub most : length points ≤ MOST_POINTS
   pub solid : IsSolid points
 
-pub refused_points : (X : Type 0) (polygons : Mesh) (points : List V3) (refusal : MeshRefusal) → Lists vector_cmp (IsUsed polygons) points → ChecksPoints {X = X} points (Err refusal) → Answers polygons (Err refusal)
+pub refused_points : (X : Type 0) (polygons : Mesh) (points : List V3) (refusal : MeshRefusal) → Lists vector_cmp (IsUsed polygons) points → ChecksPoints {X = X} points (Err refusal) → AnswersMesh polygons (Err refusal)
 refused_points X polygons points (TooFewPoints found) used h = record { points = points; used = used; by_rules = h }
 refused_points X polygons points (TooManyPoints found) used h = record { points = points; used = used; by_rules = h }
 refused_points X polygons points Flat used h = record { points = points; used = used; by_rules = h }
@@ -53,7 +53,7 @@ refused_points X polygons points (NotConvex face) used h = absurd h
 refused_points X polygons points (OpenEdge face corner) used h = absurd h
 refused_points X polygons points OutOfMemory used h = tt
 
-pub refused_faces : (X : Type 0) (polygons : Mesh) (points : List V3) (refusal : MeshRefusal) → IsBody polygons points → ChecksFaces {X = X} polygons points (Err refusal) → Answers polygons (Err refusal)
+pub refused_faces : (X : Type 0) (polygons : Mesh) (points : List V3) (refusal : MeshRefusal) → IsBody polygons points → ChecksFaces {X = X} polygons points (Err refusal) → AnswersMesh polygons (Err refusal)
 refused_faces X polygons points (TooFewPoints found) body h = absurd h.1
 refused_faces X polygons points (TooManyPoints found) body h = absurd h.1
 refused_faces X polygons points Flat body h = absurd h.1
@@ -62,7 +62,7 @@ refused_faces X polygons points (NotConvex face) body h = record { points = poin
 refused_faces X polygons points (OpenEdge face corner) body h = record { points = points; used = body.used; by_rules = (body.least, body.most, (body.solid, h)) }
 refused_faces X polygons points OutOfMemory body h = tt
 
-pub refused_edges : (X : Type 0) (polygons : Mesh) (points : List V3) (refusal : MeshRefusal) → IsBody polygons points → All (IsBorder points) polygons → ChecksEdges {X = X} polygons points (Err refusal) → Answers polygons (Err refusal)
+pub refused_edges : (X : Type 0) (polygons : Mesh) (points : List V3) (refusal : MeshRefusal) → IsBody polygons points → All (IsSupporting points) polygons → ChecksEdges {X = X} polygons points (Err refusal) → AnswersMesh polygons (Err refusal)
 refused_edges X polygons points (TooFewPoints found) body borders h = absurd h
 refused_edges X polygons points (TooManyPoints found) body borders h = absurd h
 refused_edges X polygons points Flat body borders h = absurd h
@@ -87,3 +87,11 @@ makes raw points indexed body = record {
   within = points_within raw points indexed body.used;
   solid = body.solid;
 }
+
+-- the points of an accepted mesh are a piece
+pub accepted_piece : (raw : Raw) (points : List V3) → IsIndexed raw → Judges (mesh raw) (Ok points) → IsPiece points
+accepted_piece raw points indexed judged =
+    let rules = judged.by_rules in
+    let same : points ≡ judged.points = rules.2.1.1.1 in
+    let used : IsBody (mesh raw) judged.points = record { used = judged.used; least = rules.0; most = rules.1; solid = rules.2.0 } in
+    subst IsPiece (sym same) (makes raw judged.points indexed used)
