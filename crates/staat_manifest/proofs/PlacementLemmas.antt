@@ -1,5 +1,5 @@
 -- A vector that moves a part has components that a coordinate may have.
-use Rattle.std.proofs.Common.{◌≡◌, ◌≤◌, ℕ, ℤ, Bool, true, false, nat_le, List, [], ◌∷◌, Option, Some, None, refl, ap, subst, arith, codes, unsigned_abs}
+use Rattle.std.proofs.Common.{◌≡◌, ◌≤◌, ℤ, Bool, true, false, nat_le, List, [], ◌∷◌, Option, Some, None, refl, subst, arith, codes, unsigned_abs}
 use Rattle.std.specs.Prelude.{option_and_then, option_map, is_some, unwrap_or}
 use Rattle.std.proofs.lemmas.Bool.Decides.{nat_tests}
 use Rattle.serde_json.specs.Data.{Data}

@@ -1,6 +1,6 @@
 -- The table of edges, one edge after another.
-use Rattle.std.proofs.Common.{◌≡◌, ◌≢◌, ◌<◌, ◌≤◌, ◌+◌, ◌*◌, ◌==◌, ◌&&◌, ◌⊎◌, ℕ, zero, suc, Bool, true, false, cond, List, [], ◌∷◌, ◌++◌, length, take, get_or, set, Some, inl, inr, refl, ap, sym, subst, ◌∙◌, arith, eq-eqb, ⊎_elim, get_or-set_other, get_or-set_same}
-use Rattle.std.specs.Prelude.{count_by, min, replicate, slice_get, slice_index}
+use Rattle.std.proofs.Common.{◌≡◌, ◌≢◌, ◌<◌, ◌+◌, ◌*◌, ◌==◌, ◌&&◌, ◌⊎◌, ℕ, zero, suc, Bool, true, false, cond, List, [], ◌∷◌, ◌++◌, length, set, inl, inr, refl, ap, sym, subst, ◌∙◌, arith, eq-eqb, ⊎_elim, get_or-set_other, get_or-set_same}
+use Rattle.std.specs.Prelude.{count_by, min, replicate, slice_index}
 use Rattle.std.proofs.lemmas.Bool.{cases_eq}
 use Rattle.std.proofs.lemmas.List.Sums.{sum_by_push}
 use Rattle.staat_model.specs.declared.limits.TheConstants.{MOST_POINTS}

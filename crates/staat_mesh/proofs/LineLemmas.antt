@@ -1,13 +1,10 @@
 -- Positions on one line, and planes that hold the same positions.
-use Rattle.std.proofs.Common.{◌≡◌, ◌≢◌, ◌<◌, ◌≤◌, ℕ, zero, suc, ℤ, pos, negsuc, neg_ℤ, ◌+ℤ◌, ◌-ℤ◌, ◌*ℤ◌, ◌≤ℤ◌, ◌<ℤ◌, List, [], ◌∷◌, All, Contains, refl, ap, sym, subst, ◌∙◌, arith}
-use Rattle.std.proofs.lemmas.Int.{ints}
+use Rattle.std.proofs.Common.{◌≡◌, ◌≢◌, ◌≤◌, ℕ, ℤ, pos, ◌*ℤ◌, ◌<ℤ◌, List, [], ◌∷◌, All, Contains, ap, sym, ◌∙◌}
 use Rattle.std.proofs.lemmas.List.Elements.{All-contains}
 use Rattle.staat_vec.specs.declared.vector.V3.{V3}
-use Rattle.staat_vec.specs.declared.vector.Sign.TheVariants.{Neg, Zero, Pos}
-use Rattle.staat_vec.specs.Vectors.{origin, plus, minus, dot, cross, det, sign}
+use Rattle.staat_vec.specs.Vectors.{origin, plus, minus, dot, cross}
 use Rattle.staat_vec.proofs.Order.{as_positive, cancel_zero}
-use Rattle.staat_vec.proofs.Ring.{ring, num, ◌⊕◌, ◌⊗◌}
-use Rattle.staat_vec.proofs.VecRing.{scale, values, ring3, same_vector, v0, v1, v2, v3, originE, dotE, crossE, detE, plusE, minusE, timesE}
+use Rattle.staat_vec.proofs.VecRing.{scale, values, ring3, same_vector, v0, v1, v2, v3, originE, dotE, crossE, plusE, minusE, timesE}
 use Rattle.staat_model.proofs.CornerLemmas.{some_square}
 use Rattle.staat_mesh.specs.Sides.{OnLine}
 

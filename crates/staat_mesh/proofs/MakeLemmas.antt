@@ -1,6 +1,6 @@
 -- The rules put together.
-use Rattle.std.proofs.Common.{◌≡◌, ◌≢◌, ◌<◌, ◌≤◌, ◌⊎◌, ℕ, zero, suc, ℤ, pos, negsuc, List, length, Result, Ok, Err, inl, inr, refl, sym, subst, ⊎_elim}
-use Rattle.std.specs.Prelude.{All, Contains, IsErr}
+use Rattle.std.proofs.Common.{◌≡◌, ◌≢◌, ◌≤◌, ◌⊎◌, zero, suc, ℤ, pos, negsuc, List, length, Result, Ok, Err, inl, inr, refl, sym, subst, ⊎_elim}
+use Rattle.std.specs.Prelude.{All, IsErr}
 use Rattle.std.specs.Result.{IsErrAnd}
 use Rattle.std.proofs.lemmas.List.Elements.{All-contains}
 use Rattle.staat_vec.specs.declared.vector.V3.{V3}

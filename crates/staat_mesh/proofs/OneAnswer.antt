@@ -1,5 +1,5 @@
 -- A mesh has one answer.
-use Rattle.std.proofs.Common.{◌≡◌, ◌≢◌, ◌<◌, ◌≤◌, ℕ, List, length, take, get_or, Option, Some, Result, Ok, Err, refl, ap, sym, subst, ◌∙◌, arith, ⊎_elim, get_or-take}
+use Rattle.std.proofs.Common.{◌≡◌, ◌<◌, ℕ, List, take, Some, Result, Ok, Err, refl, ap, sym, subst, ◌∙◌, arith, ⊎_elim, get_or-take}
 use Rattle.std.specs.Prelude.{All, slice_get}
 use Rattle.std.proofs.lemmas.Bool.{cases_lt}
 use Rattle.std.proofs.lemmas.List.{length-take}
@@ -11,7 +11,7 @@ use Rattle.staat_vec.proofs.VectorOrder.{vector_exact, vector_total}
 use Rattle.staat_model.specs.declared.limits.TheConstants.{LEAST_POINTS, MOST_POINTS}
 use Rattle.staat_model.specs.Pieces.{IsSolid}
 use Rattle.staat_mesh.specs.declared.refusal.MeshRefusal.{MeshRefusal}
-use Rattle.staat_mesh.specs.declared.refusal.MeshRefusal.TheVariants.{TooFewPoints, TooManyPoints, Flat, BadFace, NotConvex, OpenEdge, OutOfMemory}
+use Rattle.staat_mesh.specs.declared.refusal.MeshRefusal.TheVariants.{TooFewPoints, TooManyPoints, Flat, BadFace, NotConvex, OpenEdge}
 use Rattle.staat_mesh.specs.Edges.{IsClosed, edges}
 use Rattle.staat_mesh.specs.Judging.{HasClosedEdges, IsFirstFace, IsFirstOpen, Judges, JudgesEdges, JudgesFaces, JudgesNumber, JudgesShape}
 use Rattle.staat_mesh.specs.Polygons.{IsUsed, Mesh, Polygon}

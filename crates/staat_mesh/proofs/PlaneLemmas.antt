@@ -1,12 +1,10 @@
 -- A plane that three corners of a polygon give: what lies in it, and that all such planes have the same two sides.
-use Rattle.std.proofs.Common.{◌≡◌, ◌≢◌, ◌<◌, ◌⊎◌, ℕ, zero, suc, ℤ, pos, negsuc, ◌+ℤ◌, ◌-ℤ◌, ◌*ℤ◌, ◌≤ℤ◌, ◌<ℤ◌, List, [], ◌∷◌, length, All, Contains, inl, inr, refl, ap, sym, subst, ◌∙◌, arith, ⊎_elim}
+use Rattle.std.proofs.Common.{◌≡◌, ◌≢◌, ◌<◌, ◌⊎◌, zero, suc, ℤ, pos, negsuc, ◌+ℤ◌, ◌-ℤ◌, ◌*ℤ◌, ◌≤ℤ◌, ◌<ℤ◌, List, [], ◌∷◌, length, All, Contains, inl, inr, refl, ap, sym, subst, ◌∙◌, arith, ⊎_elim}
 use Rattle.std.proofs.lemmas.Int.{ints}
 use Rattle.std.proofs.lemmas.List.Elements.{All-contains, All-weaker}
 use Rattle.staat_vec.specs.declared.vector.V3.{V3}
-use Rattle.staat_vec.specs.declared.vector.Sign.{Sign}
 use Rattle.staat_vec.specs.declared.vector.Sign.TheVariants.{Neg, Zero, Pos}
-use Rattle.staat_vec.specs.Lists.{Lists}
-use Rattle.staat_vec.specs.Vectors.{origin, minus, dot, cross, det, sign, vector_cmp}
+use Rattle.staat_vec.specs.Vectors.{origin, minus, dot, cross, sign}
 use Rattle.staat_vec.proofs.Order.{negative_mul, nonneg_mul, pos_mul}
 use Rattle.staat_vec.proofs.Ring.{at, num, ring, ◌⊕◌, ◌⊖◌, ◌⊗◌}
 use Rattle.staat_vec.proofs.Unique.{Contains-cases, Contains-nothing}

@@ -1,10 +1,10 @@
 -- A face's stance, by the plane that three of its corners give.
-use Rattle.std.proofs.Common.{◌≡◌, ◌≢◌, ℤ, pos, List, [], ◌∷◌, All, Any, Contains, ◌⊎◌, inl, inr, refl, ap, sym, subst, ◌∙◌}
+use Rattle.std.proofs.Common.{◌≡◌, ◌≢◌, List, [], ◌∷◌, All, Any, ◌⊎◌, inl, inr, refl, ap, sym, subst, ◌∙◌}
 use Rattle.std.proofs.lemmas.List.Elements.{All-weaker}
 use Rattle.staat_vec.specs.declared.vector.V3.{V3}
 use Rattle.staat_vec.specs.declared.vector.Sign.{Sign}
 use Rattle.staat_vec.specs.declared.vector.Sign.TheVariants.{Neg, Zero, Pos}
-use Rattle.staat_vec.specs.Vectors.{origin, minus, dot, cross, det, sign}
+use Rattle.staat_vec.specs.Vectors.{minus, dot, cross, det, sign}
 use Rattle.staat_vec.proofs.Ring.{ring}
 use Rattle.staat_vec.proofs.VecRing.{values, v0, v1, v2, dotE, crossE, detE}
 use Rattle.staat_model.proofs.Flat.{off_plane as four_apart}

@@ -1,6 +1,6 @@
 -- What the table of edges says of the edges of the mesh.
-use Rattle.std.proofs.Common.{◌≡◌, ◌≢◌, ◌<◌, ◌≤◌, ◌+◌, ℕ, Option, Some, List, [], ◌∷◌, ◌++◌, length, map, take, get_or, refl, ap, sym, subst, ◌∙◌, arith, Bool, false, true, inl, inr, ⊎_elim}
-use Rattle.std.specs.Prelude.{All, Any, Contains, count_by, min, option_map, slice_get, slice_index}
+use Rattle.std.proofs.Common.{◌≡◌, ◌≢◌, ◌<◌, ◌≤◌, ◌+◌, ℕ, Some, List, [], ◌∷◌, length, map, take, get_or, ap, sym, subst, ◌∙◌, arith, Bool, false, true, ⊎_elim}
+use Rattle.std.specs.Prelude.{All, Contains, count_by, min, option_map, slice_get, slice_index}
 use Rattle.std.specs.List.{flat_map}
 use Rattle.std.proofs.lemmas.Bool.{cases_lt}
 use Rattle.std.proofs.lemmas.List.{take-map}

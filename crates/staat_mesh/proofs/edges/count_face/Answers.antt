@@ -1,4 +1,4 @@
-use Rattle.std.proofs.Common.{length, arith}
+use Rattle.std.proofs.Common.{arith}
 use Rattle.staat_mesh.specs.Counts.{numbered}
 use Rattle.staat_mesh.specs.Edges.{edges}
 use Rattle.staat_mesh.proofs.EdgeLemmas.{front_all, front_more, length-numbered-edges}

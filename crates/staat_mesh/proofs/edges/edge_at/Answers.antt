@@ -1,4 +1,4 @@
-use Rattle.std.proofs.Common.{◌<◌, inl, inr, ap, arith, length}
+use Rattle.std.proofs.Common.{◌<◌, inl, inr, arith, length}
 use Rattle.staat_mesh.proofs.EdgeLemmas.{IsNext, numbered-edge}
 use Rattle.staat_mesh.proofs.edges.edge_at.Goals as goal
 use Rattle.staat_mesh.proofs.edges.edge_at.Goals.{then-corner-face, else-corner-face}

@@ -1,4 +1,4 @@
-use Rattle.std.proofs.Common.{length, arith, sym, ◌∙◌}
+use Rattle.std.proofs.Common.{arith, sym, ◌∙◌}
 use Rattle.staat_mesh.specs.Counts.{IsPaired, numbered}
 use Rattle.staat_mesh.specs.Edges.{edges}
 use Rattle.staat_mesh.proofs.PolygonLemmas.{All-next, All-taken}

@@ -1,4 +1,4 @@
-use Rattle.std.proofs.Common.{ap, length, sym, arith, ◌∙◌}
+use Rattle.std.proofs.Common.{ap, length, arith}
 use Rattle.staat_vec.specs.declared.vector.TheConstants.{POINT}
 use Rattle.staat_vec.specs.Vectors.{IsWithin}
 use Rattle.staat_mesh.specs.Polygons.{mesh}

@@ -1,4 +1,4 @@
-use Rattle.std.proofs.Common.{◌++◌, ◌∷◌, [], ap, sym, ◌∙◌, arith}
+use Rattle.std.proofs.Common.{◌++◌, ◌∷◌, [], ap, sym, ◌∙◌}
 use Rattle.staat_vec.specs.Vectors.{origin}
 use Rattle.std.proofs.Common.{get_or}
 use Rattle.staat_mesh.proofs.PolygonLemmas.{polygon_more}
