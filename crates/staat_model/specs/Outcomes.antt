@@ -12,28 +12,41 @@ use Rattle.staat_model.specs.Cells.{CellEntry, AreCellsOf}
 use Rattle.staat_vec.specs.Lists.{IsFirst}
 use Rattle.staat_model.specs.Planes.{ArePlanes, vertices}
 use Rattle.staat_model.specs.Plans.{Plan, leaf, plan_of, split}
-use Rattle.staat_model.specs.Removal.{IsFree}
+use Rattle.staat_model.specs.Meeting.{Meets}
+use Rattle.staat_model.specs.Removal.{IsFreeBy}
 use Rattle.staat_model.specs.Sets.{Has, IsNonempty, IsSide, IsSubset, single}
 
 -- along d some side of w comes free of the rest
-pub record Serves (parts : List Part) (w : PartSet) (d : V3) : Type 0 where
+pub record ServesBy (R : List V3 → List V3 → V3 → Type 0) (parts : List Part) (w : PartSet) (d : V3) : Type 0 where
   pub side : PartSet
   pub is_side : IsSide w side
-  pub free : IsFree parts side (set.difference w side) d
+  pub free : IsFreeBy R parts side (set.difference w side) d
 
--- s is free of the rest of w, and no smaller part of s is
-pub record IsMinimal (parts : List Part) (w : PartSet) (d : V3) (s : PartSet) : Type 0 where
+-- s is free of the rest of w, and no side of s is free of what it leaves of w
+pub record IsMinimalBy (R : List V3 → List V3 → V3 → Type 0) (parts : List Part) (w : PartSet) (d : V3) (s : PartSet)
+    : Type 0 where
   pub nonempty : IsNonempty s
   pub within : IsSubset s w
-  pub free : IsFree parts s (set.difference w s) d
-  pub minimal : (t : PartSet) → IsSide s t → IsFree parts t (set.difference w t) d → ⊥
+  pub free : IsFreeBy R parts s (set.difference w s) d
+  pub minimal : (t : PartSet) → IsSide s t → IsFreeBy R parts t (set.difference w t) d → ⊥
 
 -- of the minimal sides the one that holds the least part number
-pub record IsMovedSide (parts : List Part) (w : PartSet) (d : V3) (s : PartSet) : Type 0 where
-  pub is : IsMinimal parts w d s
+pub record IsMovedSideBy (R : List V3 → List V3 → V3 → Type 0) (parts : List Part) (w : PartSet) (d : V3) (s : PartSet)
+    : Type 0 where
+  pub is : IsMinimalBy R parts w d s
   pub least : ℕ
   pub has : Has s least
-  pub first : (t : PartSet) (q : ℕ) → IsMinimal parts w d t → Has t q → least ≤ q
+  pub first : (t : PartSet) (q : ℕ) → IsMinimalBy R parts w d t → Has t q → least ≤ q
+
+-- the same where pieces are in the way that are met sooner or later
+abbrev pub Serves : List Part → PartSet → V3 → Type 0
+Serves = ServesBy Meets
+
+abbrev pub IsMinimal : List Part → PartSet → V3 → PartSet → Type 0
+IsMinimal = IsMinimalBy Meets
+
+abbrev pub IsMovedSide : List Part → PartSet → V3 → PartSet → Type 0
+IsMovedSide = IsMovedSideBy Meets
 
 -- a direction to try, with the mark of a step along it, which only a robust plan has
 pub record Try : Type 0 where
