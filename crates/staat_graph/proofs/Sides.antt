@@ -37,7 +37,7 @@ module _ {M : List V3 → List V3 → V3 → Type 0} (parts : List Part) (d : V3
         t.1 (shut arc.a arc.b ha t.0 ((shows arc.a arc.b (within arc.a ha) t.0).1 (record { i = arc.i; j = arc.j; different = λ e. t.1 (subst (Has s) e ha); meets = meets })));
   }
 
-  -- a group that no arc leaves is free, and no smaller part of it is
+  -- a group that no arc leaves is free, and no side of it is
   pub minimal_of_sink : (s : PartSet) → IsSink R w s → IsMinimalBy M parts w d s
   minimal_of_sink s sink = record {
     nonempty = sink.group.nonempty;
@@ -50,7 +50,7 @@ module _ {M : List V3 → List V3 → V3 → Type 0} (parts : List Part) (d : V3
         side.proper (same_members t s side.within (λ q h. stays t shut p.1 (sink.group.linked p.0 q (side.within p.0 p.1) h)));
   }
 
-  -- of a free side of which no smaller part is free, each part reaches each other: what it reaches is free too
+  -- of a free side of which no side is free, each part reaches each other: what it reaches is free too
   linked : (s : PartSet) → IsMinimalBy M parts w d s → (a b : ℕ) → Has s a → Has s b → Walks R w a b
   linked s min a b ha hb =
       let shut = shut_of_free s min.within min.free in

@@ -109,6 +109,12 @@ finding_of (outcome.Stuck w) = stuck w
 pub data IsOutcome (robust : Bool) (parts : List Part) : PartSet → Finding → Type 0 where
   one_part : {w : PartSet} {p : ℕ} → w ≡ single p → IsOutcome robust parts w (planned (leaf p) [])
   no_step : {w : PartSet} → 2 ≤ set.len w → HasNoStep robust parts w → IsOutcome robust parts w (stuck w)
-  moved_stuck : {w side a : PartSet} {try : Try} → 2 ≤ set.len w → IsStep robust parts w try side → IsOutcome robust parts side (stuck a) → IsOutcome robust parts w (stuck a)
-  rest_stuck : {w side a : PartSet} {try : Try} {plan : Plan} {marks : List Kind} → 2 ≤ set.len w → IsStep robust parts w try side → IsOutcome robust parts side (planned plan marks) → IsOutcome robust parts (set.difference w side) (stuck a) → IsOutcome robust parts w (stuck a)
-  both_planned : {w side : PartSet} {try : Try} {moved rest : Plan} {d : V3} {ms rs marks : List Kind} → 2 ≤ set.len w → IsStep robust parts w try side → IsOutcome robust parts side (planned moved ms) → IsOutcome robust parts (set.difference w side) (planned rest rs) → d ≡ try.d → marks ≡ try.mark ++ ms ++ rs → IsOutcome robust parts w (planned (split d moved rest) marks)
+  moved_stuck : {w side a : PartSet} {try : Try} → 2 ≤ set.len w → IsStep robust parts w try side
+      → IsOutcome robust parts side (stuck a) → IsOutcome robust parts w (stuck a)
+  rest_stuck : {w side a : PartSet} {try : Try} {plan : Plan} {marks : List Kind} → 2 ≤ set.len w
+      → IsStep robust parts w try side → IsOutcome robust parts side (planned plan marks)
+      → IsOutcome robust parts (set.difference w side) (stuck a) → IsOutcome robust parts w (stuck a)
+  both_planned : {w side : PartSet} {try : Try} {moved rest : Plan} {d : V3} {ms rs marks : List Kind} → 2 ≤ set.len w
+      → IsStep robust parts w try side → IsOutcome robust parts side (planned moved ms)
+      → IsOutcome robust parts (set.difference w side) (planned rest rs) → d ≡ try.d → marks ≡ try.mark ++ ms ++ rs
+      → IsOutcome robust parts w (planned (split d moved rest) marks)

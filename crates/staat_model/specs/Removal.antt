@@ -1,5 +1,5 @@
 -- Which parts can be taken away along a direction: the directional blocking graph of Wilson and Latombe (1994).
--- What is said once for any relation R of two pieces and a direction ends in `By`; the words without it are for `Meets`.
+-- What is said for any relation R of two pieces and a direction ends in `By`; the words without it are for `Meets`.
 use Rattle.std.specs.Prelude.{◌≢◌, ℕ, List}
 use Rattle.staat_vec.specs.declared.vector.V3.{V3}
 use Rattle.staat_vec.specs.Vectors.{origin}

@@ -22,8 +22,8 @@ pub use crate::one_laws::{
     one_verdict,
 };
 pub use crate::piece_laws::{
-    blocked_by_facets, facets_from_differences, opposite_facets, opposite_meeting,
-    overlap_by_facets,
+    blocked_by_facets, facets_from_differences, facets_of_differences, opposite_facets,
+    opposite_meeting, overlap_by_facets,
 };
 pub use crate::plan_laws::{
     certificates_are_valid, graph_of_cell, graph_on_border, opposite_graph, plan_is_right,

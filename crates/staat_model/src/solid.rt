@@ -64,7 +64,8 @@ fn off_plane(points: &[V3], a: V3, n: V3) -> Option<V3>
     requires points { All (IsWithin POINT) points.now }
     requires a { IsWithin POINT a }
     requires n { IsWithin NORMAL n }
-    ensures { MatchOption result (All (λ p. dot n (minus p a) ≡ pos 0) points.now) (λ e. Contains points.now e × (dot n (minus e a) ≢ pos 0)) }
+    ensures { MatchOption result (All (λ p. dot n (minus p a) ≡ pos 0) points.now)
+        (λ e. Contains points.now e × (dot n (minus e a) ≢ pos 0)) }
 {
     for p in points {
         if !is_on_plane(a, n, *p) {
