@@ -51,7 +51,7 @@ word_below-members_below zero m bits h = sym (mod-one bits)
 word_below-members_below (suc n) m bits h =
     let below : nat_lt n m ≡ true = grind (arith, nat_tests) in
     let is : set.contains (members_below m bits) n ≡ (bit_at bits n == 1) =
-        contains-members_below m bits n ∙ ap (λ t. t && (bit_at bits n == 1)) below in
+    contains-members_below m bits n ∙ ap (λ t. t && (bit_at bits n == 1)) below in
     let rest : n ≤ m = omega arith in
     ap (λ t. t + (if set.contains (members_below m bits) n then 2 ^ n else 0)) (word_below-members_below n m bits rest)
     ∙ ap (λ t. bits % 2 ^ n + (if t then 2 ^ n else 0)) is
@@ -69,9 +69,10 @@ contains-set_of_word bits k = contains-members_below 32 bits k
 
 pub equal_sets-decides : (s t : PartSet) → Decides (equal_sets s t) (s ≡ t)
 unfolding equal_sets
-equal_sets-decides s t =
-    (λ e. equal (both (set.is_subset s t) (set.is_subset t s) e),
-    λ e. ap (λ r. set.is_subset s r && set.is_subset r s) (sym e) ∙ ap (λ b. b && b) (itself s))
+equal_sets-decides s t = (
+  λ e. equal (both (set.is_subset s t) (set.is_subset t s) e),
+  λ e. ap (λ r. set.is_subset s r && set.is_subset r s) (sym e) ∙ ap (λ b. b && b) (itself s),
+)
   where
     both : (a b : Bool) → (a && b) ≡ true → (a ≡ true) × (b ≡ true)
     both true b h = (refl, h)
@@ -85,7 +86,7 @@ equal_sets-decides s t =
     equal : (set.is_subset s t ≡ true) × (set.is_subset t s ≡ true) → s ≡ t
     equal h = set.same_set nat_cmp_total set.nat_cmp-IsAntisymmetric s t
         (λ q. alike (set.contains s q) (set.contains t q)
-            (set.is_subset-contains nat_cmp_total s t h.0 q) (set.is_subset-contains nat_cmp_total t s h.1 q))
+        (set.is_subset-contains nat_cmp_total s t h.0 q) (set.is_subset-contains nat_cmp_total t s h.1 q))
 
     itself : (r : PartSet) → set.is_subset r r ≡ true
     itself r = set.contains-is_subset nat_cmp_total r r (λ q h. h)

@@ -5,10 +5,6 @@ ghost use Rattle.staat_model.specs.Pieces.{IsPiece};
 ghost use Rattle.staat_model.specs.Meeting.{Meets};
 ghost use Rattle.staat_model.specs.Walls.{IsShown};
 
-use crate::limits::{
-    LEAST_POINTS, LINE_LIMIT, LIST_LIMIT, MOST_PARTS, MOST_PIECES, MOST_POINTS, TEXT_LIMIT,
-};
-
 pub use crate::cell_laws::{
     edge_has_ends, edges_add_up, open_cell, point_is_vertex, representative_in_cell,
     vertex_on_border,
@@ -16,6 +12,9 @@ pub use crate::cell_laws::{
 pub use crate::cone_laws::{
     combine, corner, differences_span, facet_is_crossing, farkas, one_primitive, reached_by_facets,
     two_borders, weights_and_numbers,
+};
+use crate::limits::{
+    LEAST_POINTS, LINE_LIMIT, LIST_LIMIT, MOST_PARTS, MOST_PIECES, MOST_POINTS, TEXT_LIMIT,
 };
 pub use crate::one_laws::{
     no_reason_if_valid, one_certificate, one_outcome, one_reading, one_reason, one_spelling,

@@ -60,7 +60,7 @@ pub fn stuck_at_vertices()
     ensures { (parts : List PartValue) (w : PartSetValue) (planes : List Vector) → IsAssembly parts
         → ArePlanes parts w planes → 2 ≤ set.len w
         → ((v : Vector) (s : PartSetValue) → Contains (vertices planes) v → IsSide w s
-            → IsFree parts s (set.difference w s) v → ⊥)
+        → IsFree parts s (set.difference w s) v → ⊥)
         → IsStuck parts w }
 {}
 
