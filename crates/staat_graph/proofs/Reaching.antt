@@ -7,7 +7,8 @@ use Rattle.staat_model.proofs.FreeSides.{member_or}
 use Rattle.staat_model.proofs.SetMembers.{has-insert, has-intersection, has-single}
 use Rattle.staat_model.proofs.SetSizes.{len_more}
 use Rattle.staat_model.proofs.SetWords.{same_members}
-use Rattle.staat_graph.specs.Graphs.{Back, Walks, here, IsReach, IsShut, IsGroup, IsSink}
+use Rattle.staat_model.specs.Bridges.{Back}
+use Rattle.staat_graph.specs.Graphs.{Walks, here, IsReach, IsShut, IsGroup, IsSink}
 use Rattle.staat_graph.proofs.Finite.{some_or_none, len_fewer, len_subset, len_some}
 use Rattle.staat_graph.proofs.Walking.{stays, walk_starts, walk_ends, joined, one_more, turned, turned_back, reach_from, reach_shut, same_part}
 

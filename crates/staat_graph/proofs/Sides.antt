@@ -5,29 +5,31 @@ use Rattle.staat_vec.specs.declared.vector.V3.{V3}
 use Rattle.staat_vec.specs.Vectors.{origin}
 use Rattle.staat_model.specs.declared.assembly.Part.{Part}
 use Rattle.staat_model.specs.declared.set.PartSet.{PartSet}
-use Rattle.staat_model.specs.Outcomes.{Serves, IsMovedSide, IsMinimal}
-use Rattle.staat_model.specs.Removal.{IsFree}
+use Rattle.staat_model.specs.Outcomes.{ServesBy, IsMovedSideBy, IsMinimalBy}
+use Rattle.staat_model.specs.Removal.{IsFreeBy}
 use Rattle.staat_model.specs.Sets.{Has, IsSubset, IsNonempty}
 use Rattle.staat_model.proofs.FreeSides.{member_or, subset_or}
 use Rattle.staat_model.proofs.SetMembers.{has-difference}
 use Rattle.staat_model.proofs.SetWords.{same_members}
-use Rattle.staat_graph.specs.Blocking.{ShowsBlocking}
+use Rattle.staat_graph.specs.Blocking.{ShowsBlockingBy}
 use Rattle.staat_graph.specs.Graphs.{HasArc, Walks, here, IsShut, IsSink, IsFirstSink, IsStrong}
 use Rattle.staat_graph.proofs.Arcs.{arc_or}
 use Rattle.staat_graph.proofs.Finite.{nonempty_or}
 use Rattle.staat_graph.proofs.Reaching.{reach_of, some_sink}
 use Rattle.staat_graph.proofs.Walking.{stays, walk_ends, reach_shut}
 
-module _ (parts : List Part) (d : V3) (w : PartSet) (rows : List ℕ) (moves : d ≢ origin) (shows : ShowsBlocking parts d w rows) where
+-- for any relation M of two pieces and a direction
+module _ {M : List V3 → List V3 → V3 → Type 0} (parts : List Part) (d : V3) (w : PartSet) (rows : List ℕ) (moves : d ≢ origin)
+    (shows : ShowsBlockingBy M parts d w rows) where
   abbrev R : ℕ → ℕ → Type 0
   R = HasArc rows
 
-  pub shut_of_free : (s : PartSet) → IsSubset s w → IsFree parts s (set.difference w s) d → IsShut R w s
+  pub shut_of_free : (s : PartSet) → IsSubset s w → IsFreeBy M parts s (set.difference w s) d → IsShut R w s
   shut_of_free s within free a b ha hb arc = ⊎_elim (λ h. h)
       (λ out. let block = (shows a b (within a ha) hb).0 arc in absurd (free.clear (record { a = a; i = block.i; b = b; j = block.j }) ha ((has-difference w s b).1 (hb, out)) block.meets))
       (member_or s b)
 
-  pub free_of_shut : (s : PartSet) → IsSubset s w → IsShut R w s → IsFree parts s (set.difference w s) d
+  pub free_of_shut : (s : PartSet) → IsSubset s w → IsShut R w s → IsFreeBy M parts s (set.difference w s) d
   free_of_shut s within shut = record {
     moves = moves;
     clear = λ arc ha hb meets.
@@ -35,8 +37,8 @@ module _ (parts : List Part) (d : V3) (w : PartSet) (rows : List ℕ) (moves : d
         t.1 (shut arc.a arc.b ha t.0 ((shows arc.a arc.b (within arc.a ha) t.0).1 (record { i = arc.i; j = arc.j; different = λ e. t.1 (subst (Has s) e ha); meets = meets })));
   }
 
-  -- a group that no arc leaves is free, and no smaller part of it is
-  pub minimal_of_sink : (s : PartSet) → IsSink R w s → IsMinimal parts w d s
+  -- a group that no arc leaves is free, and no side of it is
+  pub minimal_of_sink : (s : PartSet) → IsSink R w s → IsMinimalBy M parts w d s
   minimal_of_sink s sink = record {
     nonempty = sink.group.nonempty;
     within = sink.group.within;
@@ -48,8 +50,8 @@ module _ (parts : List Part) (d : V3) (w : PartSet) (rows : List ℕ) (moves : d
         side.proper (same_members t s side.within (λ q h. stays t shut p.1 (sink.group.linked p.0 q (side.within p.0 p.1) h)));
   }
 
-  -- of a free side of which no smaller part is free, each part reaches each other: what it reaches is free too
-  linked : (s : PartSet) → IsMinimal parts w d s → (a b : ℕ) → Has s a → Has s b → Walks R w a b
+  -- of a free side of which no side is free, each part reaches each other: what it reaches is free too
+  linked : (s : PartSet) → IsMinimalBy M parts w d s → (a b : ℕ) → Has s a → Has s b → Walks R w a b
   linked s min a b ha hb =
       let shut = shut_of_free s min.within min.free in
       let (r, out) = reach_of R (arc_or rows) w a (min.within a ha) in
@@ -63,7 +65,7 @@ module _ (parts : List Part) (d : V3) (w : PartSet) (rows : List ℕ) (moves : d
       }) free))
       (subset_or s r)
 
-  pub sink_of_minimal : (s : PartSet) → IsMinimal parts w d s → IsSink R w s
+  pub sink_of_minimal : (s : PartSet) → IsMinimalBy M parts w d s → IsSink R w s
   sink_of_minimal s min =
       let shut = shut_of_free s min.within min.free in
       record {
@@ -71,20 +73,20 @@ module _ (parts : List Part) (d : V3) (w : PartSet) (rows : List ℕ) (moves : d
         shut = shut;
       }
 
-  pub moved_of_first : (s : PartSet) → IsFirstSink R w s → IsMovedSide parts w d s
+  pub moved_of_first : (s : PartSet) → IsFirstSink R w s → IsMovedSideBy M parts w d s
   moved_of_first s first = record { is = minimal_of_sink s first.sink; least = first.least; has = first.has; first = λ t q min h. first.first t q (sink_of_minimal t min) h }
 
-  pub first_of_moved : (s : PartSet) → IsMovedSide parts w d s → IsFirstSink R w s
+  pub first_of_moved : (s : PartSet) → IsMovedSideBy M parts w d s → IsFirstSink R w s
   first_of_moved s moved = record { sink = sink_of_minimal s moved.is; least = moved.least; has = moved.has; first = λ t q sink h. moved.first t q (minimal_of_sink t sink) h }
 
-  pub weak_of_serves : Serves parts w d → IsStrong R w → ⊥
+  pub weak_of_serves : ServesBy M parts w d → IsStrong R w → ⊥
   weak_of_serves serves strong =
       let side = serves.is_side in
       let p = side.nonempty in
       let shut = shut_of_free serves.side side.within serves.free in
       side.proper (same_members serves.side w side.within (λ q h. stays serves.side shut p.1 (strong p.0 q (side.within p.0 p.1) h)))
 
-  serves_by : (s : PartSet) → IsSink R w s → (IsStrong R w → ⊥) → Serves parts w d
+  serves_by : (s : PartSet) → IsSink R w s → (IsStrong R w → ⊥) → ServesBy M parts w d
   serves_by s sink weak = record {
     side = s;
     is_side = record {
@@ -95,9 +97,9 @@ module _ (parts : List Part) (d : V3) (w : PartSet) (rows : List ℕ) (moves : d
     free = free_of_shut s sink.group.within sink.shut;
   }
 
-  pub serves_of_weak : (IsStrong R w → ⊥) → Serves parts w d
+  pub serves_of_weak : (IsStrong R w → ⊥) → ServesBy M parts w d
   serves_of_weak weak = go (nonempty_or w)
     where
-      go : IsNonempty w ⊎ ((q : ℕ) → Has w q → ⊥) → Serves parts w d
+      go : IsNonempty w ⊎ ((q : ℕ) → Has w q → ⊥) → ServesBy M parts w d
       go (inl (p, h)) = let (s, sink) = some_sink R (arc_or rows) w p h in serves_by s sink weak
       go (inr none) = absurd (weak (λ a b ha hb. absurd (none a ha)))

@@ -3,12 +3,12 @@ use Rattle.std.proofs.Common.{◌≡◌, ◌⊎◌, ℕ, zero, suc, ◌≤◌, L
 use Rattle.std.specs.FinSet as set
 use Rattle.staat_model.specs.declared.set.PartSet.{PartSet}
 use Rattle.staat_model.specs.Sets.{Has, IsSubset, IsLeastOf, single}
-use Rattle.staat_model.specs.Bridges.{IsBridge, IsNextBridge, IsTree}
+use Rattle.staat_model.specs.Bridges.{IsBridge, IsNextBridge, IsTree, Back, swapped}
 use Rattle.staat_model.proofs.FreeSides.{member_or}
 use Rattle.staat_model.proofs.SetMembers.{has-insert, has-single}
 use Rattle.staat_model.proofs.SetWords.{same_members}
-use Rattle.staat_graph.specs.Graphs.{Back, Walks, here, IsShut, IsStrong, swapped}
-use Rattle.staat_graph.specs.Growing.{Grows, HasNoBridge, IsAhead}
+use Rattle.staat_graph.specs.Graphs.{Walks, here, IsShut, IsStrong}
+use Rattle.staat_graph.specs.Growing.{Grows, HasNoBridge, IsFrontier}
 use Rattle.staat_graph.proofs.Walking.{joined, one_more, stays, turned_back}
 
 pub union_insert : (s one u : PartSet) (p : ℕ) → ((q : ℕ) → (Has one q → q ≡ p) × (q ≡ p → Has one q)) → ((q : ℕ) → (Has u q → Has s q ⊎ Has one q) × (Has s q ⊎ Has one q → Has u q)) → u ≡ set.insert s p
@@ -63,8 +63,8 @@ module _ (R : ℕ → ℕ → Type 0) (w : PartSet) where
       subst (λ p. IsTree R w (single p) xs) e (tree_of (single root) b xs g is)
 
   -- one more part is reached
-  pub ahead_more : (s t one ahead more row : PartSet) (p : ℕ) → IsAhead R w s ahead → ((q : ℕ) → (Has t q → Has s q ⊎ Has one q) × (Has s q ⊎ Has one q → Has t q)) → ((q : ℕ) → (Has one q → q ≡ p) × (q ≡ p → Has one q))
-      → ((q : ℕ) → (Has more q → Has ahead q ⊎ Has row q) × (Has ahead q ⊎ Has row q → Has more q)) → ((q : ℕ) → (Has row q → R p q × Has w q) × (R p q × Has w q → Has row q)) → IsAhead R w t more
+  pub ahead_more : (s t one ahead more row : PartSet) (p : ℕ) → IsFrontier R w s ahead → ((q : ℕ) → (Has t q → Has s q ⊎ Has one q) × (Has s q ⊎ Has one q → Has t q)) → ((q : ℕ) → (Has one q → q ≡ p) × (q ≡ p → Has one q))
+      → ((q : ℕ) → (Has more q → Has ahead q ⊎ Has row q) × (Has ahead q ⊎ Has row q → Has more q)) → ((q : ℕ) → (Has row q → R p q × Has w q) × (R p q × Has w q → Has row q)) → IsFrontier R w t more
   ahead_more s t one ahead more row p old t_is one_is more_is row_is =
       let own : Has t p = (t_is p).1 (inr ((one_is p).1 refl)) in
       record {

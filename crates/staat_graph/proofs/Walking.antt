@@ -2,7 +2,8 @@
 use Rattle.std.proofs.Common.{◌≡◌, ℕ, List, sym, subst}
 use Rattle.staat_model.specs.declared.set.PartSet.{PartSet}
 use Rattle.staat_model.specs.Sets.{Has, IsSubset}
-use Rattle.staat_graph.specs.Graphs.{AreReversed, Back, HasArc, Walks, here, along, IsReach, IsShut}
+use Rattle.staat_model.specs.Bridges.{Back}
+use Rattle.staat_graph.specs.Graphs.{AreReversed, HasArc, Walks, here, along, IsReach, IsShut}
 
 module _ {R : ℕ → ℕ → Type 0} {w : PartSet} where
   pub walk_starts : {a c : ℕ} → Walks R w a c → Has w a

@@ -4,16 +4,12 @@ use Rattle.std.specs.Int.{bit_at}
 use Rattle.std.specs.FinSet as set
 use Rattle.staat_model.specs.declared.set.PartSet.{PartSet}
 use Rattle.staat_model.specs.Sets.{Has, IsSubset, IsNonempty, IsLeastOf, single}
-use Rattle.staat_model.specs.Bridges.{IsTree}
+use Rattle.staat_model.specs.Bridges.{Back, IsTree, swapped}
 use Rattle.staat_graph.specs.declared.trees.Trees.{Trees}
 
 -- bit b of row a is the arc from a to b
 abbrev pub HasArc : List ℕ → ℕ → ℕ → Type 0
 HasArc rows a b = bit_at (slice_index rows a) b ≡ 1
-
--- the arcs the other way round
-abbrev pub Back : (ℕ → ℕ → Type 0) → ℕ → ℕ → Type 0
-Back R a b = R b a
 
 -- the second graph has the arcs of the first the other way round
 abbrev pub AreReversed : List ℕ → List ℕ → Type 0
@@ -76,10 +72,6 @@ pub record IsFirstSink (R : ℕ → ℕ → Type 0) (w s : PartSet) : Type 0 whe
   pub first : (t : PartSet) (q : ℕ) → IsSink R w t → Has t q → least ≤ q
 
 -- ---- trees
-
--- an arc with its ends exchanged
-abbrev pub swapped : ℕ × ℕ → ℕ × ℕ
-swapped arc = (arc.1, arc.0)
 
 -- w is strong, and from its least part one list of arcs leads to each other part, and one leads back: each arc is the
 -- next one that reaches a new part

@@ -59,7 +59,8 @@ pub fn strong_parts(g: &Graph, w: PartSet) -> Groups
 /// The group of a part, if no arc leaves it for the rest of `w`.
 fn sink_at(g: &BothWays, w: PartSet, p: u32) -> Option<PartSet>
     requires { Has w p }
-    ensures { MatchOption result ((t : PartSetValue) → IsSink (HasArc g.now.ahead.rows) w t → Has t p → ⊥) (λ s. IsSink (HasArc g.now.ahead.rows) w s × Has s p) }
+    ensures { MatchOption result ((t : PartSetValue) → IsSink (HasArc g.now.ahead.rows) w t → Has t p → ⊥)
+        (λ s. IsSink (HasArc g.now.ahead.rows) w s × Has s p) }
 {
     let reached = reach(&g.ahead, w, p);
     if reached.within(reach(&g.back, w, p)) {

@@ -13,25 +13,31 @@ ghost use Rattle.staat_graph.specs.Graphs.{AreGroups, HasArc, IsFirstSink, IsShu
 
 /// A set is strong exactly where it has one group.
 pub fn strong_is_one_group()
-    ensures { (rows : List ℕ) (w : PartSetValue) (groups : List PartSetValue) → IsNonempty w → AreGroups (HasArc rows) w groups → IsStrong (HasArc rows) w ↔ (length groups ≡ 1) }
+    ensures { (rows : List ℕ) (w : PartSetValue) (groups : List PartSetValue) → IsNonempty w
+        → AreGroups (HasArc rows) w groups → IsStrong (HasArc rows) w ↔ (length groups ≡ 1) }
 {}
 
 /// Parts of a set are free of the rest along a direction exactly where no arc of the blocking graph leaves them.
 pub fn free_is_shut()
-    ensures { (parts : List PartValue) (d : Vector) (w s : PartSetValue) (rows : List ℕ) → d ≢ origin → ShowsBlocking parts d w rows → IsSubset s w → IsFree parts s (set.difference w s) d ↔ IsShut (HasArc rows) w s }
+    ensures { (parts : List PartValue) (d : Vector) (w s : PartSetValue) (rows : List ℕ) → d ≢ origin
+        → ShowsBlocking parts d w rows → IsSubset s w
+        → IsFree parts s (set.difference w s) d ↔ IsShut (HasArc rows) w s }
 {}
 
-/// The free sides of which no smaller part is free are the groups that no arc leaves.
+/// The free sides of which no side is free are the groups that no arc leaves.
 pub fn minimal_sides_are_sinks()
-    ensures { (parts : List PartValue) (d : Vector) (w s : PartSetValue) (rows : List ℕ) → d ≢ origin → ShowsBlocking parts d w rows → IsMinimal parts w d s ↔ IsSink (HasArc rows) w s }
+    ensures { (parts : List PartValue) (d : Vector) (w s : PartSetValue) (rows : List ℕ) → d ≢ origin
+        → ShowsBlocking parts d w rows → IsMinimal parts w d s ↔ IsSink (HasArc rows) w s }
 {}
 
 /// The side that moves is the group that no arc leaves, of several the one with the least part.
 pub fn moved_side_is_first_sink()
-    ensures { (parts : List PartValue) (d : Vector) (w s : PartSetValue) (rows : List ℕ) → d ≢ origin → ShowsBlocking parts d w rows → IsMovedSide parts w d s ↔ IsFirstSink (HasArc rows) w s }
+    ensures { (parts : List PartValue) (d : Vector) (w s : PartSetValue) (rows : List ℕ) → d ≢ origin
+        → ShowsBlocking parts d w rows → IsMovedSide parts w d s ↔ IsFirstSink (HasArc rows) w s }
 {}
 
 /// Some side of a set is free of the rest along a direction exactly where the blocking graph is not strong.
 pub fn serves_where_not_strong()
-    ensures { (parts : List PartValue) (d : Vector) (w : PartSetValue) (rows : List ℕ) → d ≢ origin → ShowsBlocking parts d w rows → Serves parts w d ↔ (IsStrong (HasArc rows) w → ⊥) }
+    ensures { (parts : List PartValue) (d : Vector) (w : PartSetValue) (rows : List ℕ) → d ≢ origin
+        → ShowsBlocking parts d w rows → Serves parts w d ↔ (IsStrong (HasArc rows) w → ⊥) }
 {}

@@ -1,10 +1,10 @@
 // Trees of arcs, which show that parts reach each other.
 ghost use Rattle.std.specs.Prelude.{◌≡◌, ℕ, ◌+◌, ◌<◌, ◌≤◌, ◌↔◌, IfNone, IfSome, MatchOption, length, map, take};
 ghost use Rattle.std.specs.FinSet as set;
-ghost use Rattle.staat_model.specs.Bridges.{IsNextBridge};
+ghost use Rattle.staat_model.specs.Bridges.{IsNextBridge, swapped};
 ghost use Rattle.staat_model.specs.Sets.{Has, IsNonempty, IsSubset, single};
-ghost use Rattle.staat_graph.specs.Graphs.{AreTrees, HasArc, IsStrong, swapped};
-ghost use Rattle.staat_graph.specs.Growing.{Grows, HasNoBridge, IsAhead};
+ghost use Rattle.staat_graph.specs.Graphs.{AreTrees, HasArc, IsStrong};
+ghost use Rattle.staat_graph.specs.Growing.{Grows, HasNoBridge, IsFrontier};
 
 use crate::both_ways::BothWays;
 use crate::graph::Graph;
@@ -31,8 +31,9 @@ struct Grown {
 /// The arc to the least part that can be reached next, from the least part from which it can. `ahead` has the parts of
 /// `w` to which an arc leads from one that is reached.
 fn next_arc(g: &BothWays, w: PartSet, reached: PartSet, ahead: PartSet) -> Option<(u32, u32)>
-    requires { IsAhead (HasArc g.now.ahead.rows) w reached ahead }
-    ensures { MatchOption result (HasNoBridge (HasArc g.now.ahead.rows) w reached) (λ arc. IsNextBridge (HasArc g.now.ahead.rows) w reached arc.0 arc.1 × (arc.1 < 32)) }
+    requires { IsFrontier (HasArc g.now.ahead.rows) w reached ahead }
+    ensures { MatchOption result (HasNoBridge (HasArc g.now.ahead.rows) w reached)
+        (λ arc. IsNextBridge (HasArc g.now.ahead.rows) w reached arc.0 arc.1 × (arc.1 < 32)) }
 {
     let fresh = ahead.without(reached);
     if !fresh.meets(ahead) {

@@ -19,7 +19,8 @@ pub fn only(w: PartSet, p: u32) -> PartSet
 
 /// A part that is reached and not yet left, or none where no further part of `w` can be reached.
 fn next_part(w: PartSet, reached: PartSet, left: PartSet) -> Option<u32>
-    ensures { MatchOption result (IsSubset w reached ⊎ IsSubset reached left) (λ p. Has reached p × (Has left p → ⊥) × (p < 32)) }
+    ensures { MatchOption result (IsSubset w reached ⊎ IsSubset reached left)
+        (λ p. Has reached p × (Has left p → ⊥) × (p < 32)) }
 {
     let todo = reached.without(left);
     if w.within(reached) || !todo.meets(reached) {

@@ -5,8 +5,8 @@ use Rattle.std.specs.FinSet as set
 use Rattle.staat_vec.specs.declared.vector.V3.{V3}
 use Rattle.staat_model.specs.declared.assembly.Part.{Part}
 use Rattle.staat_model.specs.declared.set.PartSet.{PartSet}
-use Rattle.staat_model.specs.Outcomes.{IsMinimal, IsMovedSide}
-use Rattle.staat_model.specs.Removal.{IsFree}
+use Rattle.staat_model.specs.Outcomes.{IsMinimalBy, IsMovedSideBy}
+use Rattle.staat_model.specs.Removal.{IsFreeBy}
 use Rattle.staat_model.specs.Sets.{Has, IsSubset}
 use Rattle.staat_model.proofs.SetMembers.{has-difference, has-intersection}
 use Rattle.staat_model.proofs.SetWords.{same_members}
@@ -27,7 +27,8 @@ subset_or s t = by_test (set.is_subset s t) refl
     by_test true e = inl (set.is_subset-contains nat_cmp_total s t e)
     by_test false e = inr (λ all. let wrong : true ≡ false = sym (set.contains-is_subset nat_cmp_total s t all) ∙ e in cc)
 
-pub free_both : (parts : List Part) (w s t : PartSet) (d : V3) → IsFree parts s (set.difference w s) d → IsFree parts t (set.difference w t) d → IsFree parts (set.intersection s t) (set.difference w (set.intersection s t)) d
+pub free_both : {R : List V3 → List V3 → V3 → Type 0} (parts : List Part) (w s t : PartSet) (d : V3) → IsFreeBy R parts s (set.difference w s) d
+    → IsFreeBy R parts t (set.difference w t) d → IsFreeBy R parts (set.intersection s t) (set.difference w (set.intersection s t)) d
 free_both parts w s t d fs ft = record {
   moves = fs.moves;
   clear = λ arc a_in b_in meets.
@@ -40,7 +41,8 @@ free_both parts w s t d fs ft = record {
 }
 
 -- a minimal side lies within each minimal side that it meets
-minimal_within : (parts : List Part) (w s t : PartSet) (d : V3) (p : ℕ) → IsMinimal parts w d s → IsMinimal parts w d t → Has s p → Has t p → IsSubset s t
+minimal_within : {R : List V3 → List V3 → V3 → Type 0} (parts : List Part) (w s t : PartSet) (d : V3) (p : ℕ) → IsMinimalBy R parts w d s
+    → IsMinimalBy R parts w d t → Has s p → Has t p → IsSubset s t
 minimal_within parts w s t d p ms mt in_s in_t = elim (subset_or s t) [
   | inl all ↦ all
   | inr not_all ↦ absurd (ms.minimal (set.intersection s t) (record {
@@ -50,7 +52,8 @@ minimal_within parts w s t d p ms mt in_s in_t = elim (subset_or s t) [
   }) (free_both parts w s t d ms.free mt.free))
 ]
 
-pub IsMovedSide-unique : (parts : List Part) (w : PartSet) (d : V3) (s t : PartSet) → IsMovedSide parts w d s → IsMovedSide parts w d t → s ≡ t
+pub IsMovedSide-unique : {R : List V3 → List V3 → V3 → Type 0} (parts : List Part) (w : PartSet) (d : V3) (s t : PartSet) → IsMovedSideBy R parts w d s
+    → IsMovedSideBy R parts w d t → s ≡ t
 IsMovedSide-unique parts w d s t a b =
     let low : a.least ≤ b.least = a.first t b.least b.is b.has in
     let high : b.least ≤ a.least = b.first s a.least a.is a.has in

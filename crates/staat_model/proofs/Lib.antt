@@ -46,4 +46,5 @@ pub mod CertificateLines
 pub mod OneReading
 pub mod Examples
 pub mod CellExamples
+mod VersionExamples
 pub mod PointLemmas

@@ -10,7 +10,8 @@ use Rattle.std.specs.Ordering.{nat_cmp}
 use Rattle.std.specs.Cmp.{nat_cmp_total, unsigned_tied}
 use Rattle.std.specs.FinSet as set
 use Rattle.std.specs.Int.Count.{ones}
-use Rattle.staat_model.specs.Bits.{members_below, contains-members_below, set_of_word, contains-set_of_word}
+use Rattle.staat_model.specs.Bits.{members_below, set_of_word}
+use Rattle.staat_model.specs.SetFacts.{contains-members_below, contains-set_of_word}
 use Rattle.staat_model.specs.Sets.{Has, below, single}
 
 same : (s t : set.FinSet nat_cmp) → ((q : ℕ) → set.contains s q ≡ set.contains t q) → s ≡ t

@@ -4,6 +4,14 @@ use Rattle.std.specs.FinSet as set
 use Rattle.staat_model.specs.declared.set.PartSet.{PartSet}
 use Rattle.staat_model.specs.Sets.{Has}
 
+-- the graph with its arcs the other way round
+abbrev pub Back : (ℕ → ℕ → Type 0) → ℕ → ℕ → Type 0
+Back R a b = R b a
+
+-- an arc with its ends exchanged
+abbrev pub swapped : ℕ × ℕ → ℕ × ℕ
+swapped arc = (arc.1, arc.0)
+
 -- an arc of the graph R from a part that is reached to one of w that is not
 pub record IsBridge (R : ℕ → ℕ → Type 0) (w reached : PartSet) (from to : ℕ) : Type 0 where
   pub from_in : Has reached from
@@ -20,4 +28,5 @@ pub record IsNextBridge (R : ℕ → ℕ → Type 0) (w reached : PartSet) (from
 -- the bridges, each the next one, by which all parts of w are reached
 abbrev pub IsTree : (ℕ → ℕ → Type 0) → PartSet → PartSet → List (ℕ × ℕ) → Type 0
 IsTree R w reached [] = reached ≡ w
-IsTree R w reached (pair ∷ pairs) = IsNextBridge R w reached pair.0 pair.1 × IsTree R w (set.insert reached pair.1) pairs
+IsTree R w reached (pair ∷ pairs) =
+    IsNextBridge R w reached pair.0 pair.1 × IsTree R w (set.insert reached pair.1) pairs

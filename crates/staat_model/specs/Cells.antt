@@ -1,5 +1,7 @@
--- The cells into which planes cut the directions: the arrangement of great circles of Halperin, Latombe and Wilson (2000).
-use Rattle.std.specs.Prelude.{◌≡◌, ◌≢◌, ◌⊎◌, ℕ, zero, suc, Bool, true, false, List, [], ◌∷◌, ◌++◌, map, All, Contains, count_by, slice_get, Some}
+-- The cells into which planes cut the directions: the arrangement of great circles of Halperin, Latombe and Wilson
+-- (2000).
+use Rattle.std.specs.Prelude.{◌≡◌, ◌≢◌, ◌⊎◌, ℕ, zero, suc, Bool, true, false, List, [], ◌∷◌, ◌++◌, map, All, Contains}
+use Rattle.std.specs.Prelude.{count_by, slice_get, Some}
 use Rattle.std.specs.Ordering.{nat_cmp}
 use Rattle.std.specs.declared.cmp.Ordering.{Ordering}
 use Rattle.std.specs.Cmp.Lexicographic.{slice_cmp}

@@ -1,5 +1,6 @@
 -- What makes a certificate valid for an assembly.
-use Rattle.std.specs.Prelude.{◌≡◌, ◌≢◌, ◌⊎◌, ℕ, ◌<◌, ◌≤◌, pos, ◌<ℤ◌, List, [], ◌∷◌, ◌++◌, map, length, All, Contains, slice_get, Some}
+use Rattle.std.specs.Prelude.{◌≡◌, ◌≢◌, ◌⊎◌, ℕ, ◌<◌, ◌≤◌, pos, ◌<ℤ◌, List, [], ◌∷◌, ◌++◌, map, length, All, Contains}
+use Rattle.std.specs.Prelude.{slice_get, Some}
 use Rattle.std.specs.FinSet as set
 use Rattle.std.specs.Ordering.{nat_cmp, ordering_then}
 use Rattle.std.specs.declared.cmp.Ordering.{Ordering}
@@ -17,6 +18,7 @@ use Rattle.staat_model.specs.declared.certificate.Body.{Body}
 use Rattle.staat_model.specs.declared.certificate.Body.TheVariants as body
 use Rattle.staat_model.specs.declared.certificate.Certificate.{Certificate}
 use Rattle.staat_model.specs.Assemblies.{HoldsAt, piece_count}
+use Rattle.staat_model.specs.Bridges.{swapped}
 use Rattle.staat_model.specs.Facets.{IsFacet}
 use Rattle.staat_vec.specs.Lists.{ListsOnce}
 use Rattle.staat_model.specs.Planes.{ArePlanes, vertices}
@@ -26,7 +28,9 @@ use Rattle.staat_model.specs.Walls.{IsShown}
 
 -- arcs are ordered by a, then i, then b, then j
 abbrev pub arc_cmp : Arc → Arc → Ordering
-arc_cmp p q = ordering_then (nat_cmp p.a q.a) (ordering_then (nat_cmp p.i q.i) (ordering_then (nat_cmp p.b q.b) (nat_cmp p.j q.j)))
+arc_cmp p q =
+    ordering_then (nat_cmp p.a q.a)
+    (ordering_then (nat_cmp p.i q.i) (ordering_then (nat_cmp p.b q.b) (nat_cmp p.j q.j)))
 
 -- a plan with walls at each split
 pub data WalledPlan : Type 0 where
@@ -108,7 +112,7 @@ abbrev pub outward : Arc → ℕ × ℕ
 outward arc = (arc.a, arc.b)
 
 abbrev pub inward : Arc → ℕ × ℕ
-inward arc = (arc.b, arc.a)
+inward arc = swapped (outward arc)
 
 -- each pair in order leads from a reached part to a new one of w, and all of w is reached
 abbrev pub ReachesAll : PartSet → PartSet → List (ℕ × ℕ) → Type 0
@@ -145,7 +149,8 @@ abbrev pub IsListed : ℕ → List Dir → V3 → Type 0
 IsListed version dirs v = HasLine dirs v ⊎ ((version ≡ 2) × HasLine dirs (negative v))
 
 -- the set is stuck: along each vertex of its planes its parts block each other
-pub record RefusalHolds (parts : List Part) (version stated : ℕ) (w : PartSet) (witnesses : List Witness) (dirs : List Dir) : Type 0 where
+pub record RefusalHolds (parts : List Part) (version stated : ℕ) (w : PartSet) (witnesses : List Witness)
+    (dirs : List Dir) : Type 0 where
   pub count : stated ≡ length parts
   pub stuck_set : IsStuckSet parts w
   pub trees : All (IsWitness parts w) witnesses

@@ -14,8 +14,9 @@ use Rattle.staat_model.specs.declared.certificate.Body.{Body}
 use Rattle.staat_model.specs.declared.certificate.Body.TheVariants as body
 use Rattle.staat_model.specs.declared.certificate.Certificate.{Certificate}
 use Rattle.staat_model.specs.Assemblies.{HoldsAt}
-use Rattle.staat_model.specs.Bridges.{IsTree}
-use Rattle.staat_model.specs.Certificates.{WalledPlan, walled_leaf, walled_split, nodes_of, unwalled, walled_parts, arc_cmp, outward, inward, IsAcross}
+use Rattle.staat_model.specs.Bridges.{Back, IsTree}
+use Rattle.staat_model.specs.Certificates.{WalledPlan, walled_leaf, walled_split, nodes_of, unwalled, walled_parts}
+use Rattle.staat_model.specs.Certificates.{arc_cmp, outward, inward, IsAcross}
 use Rattle.staat_model.specs.Facets.{IsFacet}
 use Rattle.staat_vec.specs.Lists.{IsLeast, Lists}
 use Rattle.staat_model.specs.Outcomes.{Finding, planned, stuck}
@@ -39,7 +40,9 @@ pub record AreLeastWalls (parts : List Part) (s r : PartSet) (d : V3) (seps : Li
 abbrev pub HasLeastWalls : List Part → WalledPlan → Type 0
 HasLeastWalls parts (walled_leaf p) = Unit {0}
 HasLeastWalls parts (walled_split d seps moved rest) =
-    AreLeastWalls parts (walled_parts moved) (walled_parts rest) d seps × HasLeastWalls parts moved × HasLeastWalls parts rest
+    AreLeastWalls parts (walled_parts moved) (walled_parts rest) d seps
+    × HasLeastWalls parts moved
+    × HasLeastWalls parts rest
 
 -- the nodes are those of the plan, with the least walls
 pub record ArePlanNodes (parts : List Part) (plan : Plan) (nodes : List Node) : Type 0 where
@@ -59,7 +62,7 @@ pub record IsWitnessAt (parts : List Part) (w : PartSet) (d : V3) (witness : Wit
   pub root : ℕ
   pub root_is : IsLeastOf w root
   pub outs : IsTree (Blocks parts d) w (single root) (map outward witness.outs)
-  pub ins : IsTree (λ b a. Blocks parts d a b) w (single root) (map inward witness.ins)
+  pub ins : IsTree (Back (Blocks parts d)) w (single root) (map inward witness.ins)
   pub outs_least : All (IsLeastArc parts d) witness.outs
   pub ins_least : All (IsLeastArc parts d) witness.ins
 
@@ -81,7 +84,8 @@ pub record IsDirection (version : ℕ) (planes : List V3) (d : V3) : Type 0 wher
   pub canonical : version ≡ 2 → IsCanon d
 
 -- each direction once, ascending, with its witness; equal witnesses once, numbered by first use
-pub record IsRefusalOf (parts : List Part) (version : ℕ) (w : PartSet) (witnesses : List Witness) (dirs : List Dir) : Type 0 where
+pub record IsRefusalOf (parts : List Part) (version : ℕ) (w : PartSet) (witnesses : List Witness) (dirs : List Dir)
+    : Type 0 where
   pub planes : List V3
   pub planes_are : ArePlanes parts w planes
   pub directions : Lists vector_cmp (IsDirection version planes) (map (λ dir. dir.d) dirs)

@@ -4,6 +4,7 @@ pub mod Walls
 pub mod Cones
 pub mod Bits
 pub mod Sets
+pub mod SetFacts
 pub mod Assemblies
 pub mod Removal
 pub mod Plans

@@ -1,4 +1,5 @@
--- Pieces that meet on the way of a straight motion: collision of interiors during a translation (Wilson and Latombe, 1994).
+-- Pieces that meet on the way of a straight motion: collision of interiors during a translation (Wilson and Latombe,
+-- 1994).
 use Rattle.std.specs.Prelude.{◌≡◌, ℕ, ◌≤◌, List, [], ◌∷◌, length, sum, All}
 use Rattle.staat_vec.specs.declared.vector.V3.{V3}
 use Rattle.staat_vec.specs.Vectors.{origin, plus, times}
@@ -15,7 +16,8 @@ mix [] points = origin
 mix (w ∷ weights) [] = origin
 mix (w ∷ weights) (p ∷ points) = plus (times w p) (mix weights points)
 
--- at the time t over the sum of the weights, a point strictly inside p, moved along d, has come to one strictly inside q
+-- at the time t over the sum of the weights, a point strictly inside p, moved along d, has come to one strictly inside
+-- q
 pub record MeetsAt (p q : List V3) (d : V3) (t : ℕ) : Type 0 where
   pub a : List ℕ
   pub b : List ℕ

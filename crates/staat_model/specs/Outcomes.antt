@@ -12,28 +12,41 @@ use Rattle.staat_model.specs.Cells.{CellEntry, AreCellsOf}
 use Rattle.staat_vec.specs.Lists.{IsFirst}
 use Rattle.staat_model.specs.Planes.{ArePlanes, vertices}
 use Rattle.staat_model.specs.Plans.{Plan, leaf, plan_of, split}
-use Rattle.staat_model.specs.Removal.{IsFree}
+use Rattle.staat_model.specs.Meeting.{Meets}
+use Rattle.staat_model.specs.Removal.{IsFreeBy}
 use Rattle.staat_model.specs.Sets.{Has, IsNonempty, IsSide, IsSubset, single}
 
 -- along d some side of w comes free of the rest
-pub record Serves (parts : List Part) (w : PartSet) (d : V3) : Type 0 where
+pub record ServesBy (R : List V3 → List V3 → V3 → Type 0) (parts : List Part) (w : PartSet) (d : V3) : Type 0 where
   pub side : PartSet
   pub is_side : IsSide w side
-  pub free : IsFree parts side (set.difference w side) d
+  pub free : IsFreeBy R parts side (set.difference w side) d
 
--- s is free of the rest of w, and no smaller part of s is
-pub record IsMinimal (parts : List Part) (w : PartSet) (d : V3) (s : PartSet) : Type 0 where
+-- s is free of the rest of w, and no side of s is free of what it leaves of w
+pub record IsMinimalBy (R : List V3 → List V3 → V3 → Type 0) (parts : List Part) (w : PartSet) (d : V3) (s : PartSet)
+    : Type 0 where
   pub nonempty : IsNonempty s
   pub within : IsSubset s w
-  pub free : IsFree parts s (set.difference w s) d
-  pub minimal : (t : PartSet) → IsSide s t → IsFree parts t (set.difference w t) d → ⊥
+  pub free : IsFreeBy R parts s (set.difference w s) d
+  pub minimal : (t : PartSet) → IsSide s t → IsFreeBy R parts t (set.difference w t) d → ⊥
 
 -- of the minimal sides the one that holds the least part number
-pub record IsMovedSide (parts : List Part) (w : PartSet) (d : V3) (s : PartSet) : Type 0 where
-  pub is : IsMinimal parts w d s
+pub record IsMovedSideBy (R : List V3 → List V3 → V3 → Type 0) (parts : List Part) (w : PartSet) (d : V3) (s : PartSet)
+    : Type 0 where
+  pub is : IsMinimalBy R parts w d s
   pub least : ℕ
   pub has : Has s least
-  pub first : (t : PartSet) (q : ℕ) → IsMinimal parts w d t → Has t q → least ≤ q
+  pub first : (t : PartSet) (q : ℕ) → IsMinimalBy R parts w d t → Has t q → least ≤ q
+
+-- the same where pieces are in the way that are met sooner or later
+abbrev pub Serves : List Part → PartSet → V3 → Type 0
+Serves = ServesBy Meets
+
+abbrev pub IsMinimal : List Part → PartSet → V3 → PartSet → Type 0
+IsMinimal = IsMinimalBy Meets
+
+abbrev pub IsMovedSide : List Part → PartSet → V3 → PartSet → Type 0
+IsMovedSide = IsMovedSideBy Meets
 
 -- a direction to try, with the mark of a step along it, which only a robust plan has
 pub record Try : Type 0 where
@@ -96,6 +109,12 @@ finding_of (outcome.Stuck w) = stuck w
 pub data IsOutcome (robust : Bool) (parts : List Part) : PartSet → Finding → Type 0 where
   one_part : {w : PartSet} {p : ℕ} → w ≡ single p → IsOutcome robust parts w (planned (leaf p) [])
   no_step : {w : PartSet} → 2 ≤ set.len w → HasNoStep robust parts w → IsOutcome robust parts w (stuck w)
-  moved_stuck : {w side a : PartSet} {try : Try} → 2 ≤ set.len w → IsStep robust parts w try side → IsOutcome robust parts side (stuck a) → IsOutcome robust parts w (stuck a)
-  rest_stuck : {w side a : PartSet} {try : Try} {plan : Plan} {marks : List Kind} → 2 ≤ set.len w → IsStep robust parts w try side → IsOutcome robust parts side (planned plan marks) → IsOutcome robust parts (set.difference w side) (stuck a) → IsOutcome robust parts w (stuck a)
-  both_planned : {w side : PartSet} {try : Try} {moved rest : Plan} {d : V3} {ms rs marks : List Kind} → 2 ≤ set.len w → IsStep robust parts w try side → IsOutcome robust parts side (planned moved ms) → IsOutcome robust parts (set.difference w side) (planned rest rs) → d ≡ try.d → marks ≡ try.mark ++ ms ++ rs → IsOutcome robust parts w (planned (split d moved rest) marks)
+  moved_stuck : {w side a : PartSet} {try : Try} → 2 ≤ set.len w → IsStep robust parts w try side
+      → IsOutcome robust parts side (stuck a) → IsOutcome robust parts w (stuck a)
+  rest_stuck : {w side a : PartSet} {try : Try} {plan : Plan} {marks : List Kind} → 2 ≤ set.len w
+      → IsStep robust parts w try side → IsOutcome robust parts side (planned plan marks)
+      → IsOutcome robust parts (set.difference w side) (stuck a) → IsOutcome robust parts w (stuck a)
+  both_planned : {w side : PartSet} {try : Try} {moved rest : Plan} {d : V3} {ms rs marks : List Kind} → 2 ≤ set.len w
+      → IsStep robust parts w try side → IsOutcome robust parts side (planned moved ms)
+      → IsOutcome robust parts (set.difference w side) (planned rest rs) → d ≡ try.d → marks ≡ try.mark ++ ms ++ rs
+      → IsOutcome robust parts w (planned (split d moved rest) marks)

@@ -5,7 +5,8 @@ use Rattle.staat_vec.specs.declared.vector.V3.{V3}
 use Rattle.staat_model.specs.declared.assembly.Part.{Part}
 use Rattle.staat_model.specs.declared.set.PartSet.{PartSet}
 use Rattle.staat_model.specs.declared.tree.Tree.{Tree, Leaf, Split'}
-use Rattle.staat_model.specs.Removal.{IsFree}
+use Rattle.staat_model.specs.Meeting.{Meets}
+use Rattle.staat_model.specs.Removal.{IsFree, IsFreeBy}
 use Rattle.staat_model.specs.Sets.{AreApart, IsSide, single}
 
 -- a plan, as a value: a part by itself, or one side that moves along d, and the plans of the moved side and of the rest
@@ -35,6 +36,9 @@ IsGood parts w (split d moved rest) =
     × IsGood parts (parts_of rest) rest
 
 -- the set has at least two parts, and no side of it is free of the rest along any direction
-pub record IsStuck (parts : List Part) (w : PartSet) : Type 0 where
+pub record IsStuckBy (R : List V3 → List V3 → V3 → Type 0) (parts : List Part) (w : PartSet) : Type 0 where
   pub two : 2 ≤ set.len w
-  pub held : (s : PartSet) (d : V3) → IsSide w s → IsFree parts s (set.difference w s) d → ⊥
+  pub held : (s : PartSet) (d : V3) → IsSide w s → IsFreeBy R parts s (set.difference w s) d → ⊥
+
+abbrev pub IsStuck : List Part → PartSet → Type 0
+IsStuck = IsStuckBy Meets

@@ -18,8 +18,12 @@ use Rattle.staat_model.specs.declared.certificate.Certificate.{Certificate}
 use Rattle.staat_model.specs.declared.verdict.Verdict.{Verdict}
 use Rattle.staat_model.specs.declared.verdict.Verdict.TheVariants.{ValidPlan, ValidRefusal, Not}
 use Rattle.staat_model.specs.declared.verdict.Reason.{Reason}
-use Rattle.staat_model.specs.declared.verdict.Reason.TheVariants.{WrongParts, BadLeaves, ZeroDirection, BadSeparator, MissingSeparator, BadStuckSet, BadArc, BadTree, MissingDirection}
-use Rattle.staat_model.specs.Certificates.{WalledPlan, walled_leaf, walled_split, nodes_of, walled_parts, arc_cmp, IsAcross, IsWall, SplitHolds, SplitsHold, IsLeafAt, AreAllLeaves, IsStuckSet, IsWitness, IsBlocked, IsListed, IsValidPlan, IsValidRefusal}
+use Rattle.staat_model.specs.declared.verdict.Reason.TheVariants.{WrongParts, BadLeaves, ZeroDirection, BadSeparator}
+use Rattle.staat_model.specs.declared.verdict.Reason.TheVariants.{MissingSeparator, BadStuckSet, BadArc, BadTree}
+use Rattle.staat_model.specs.declared.verdict.Reason.TheVariants.{MissingDirection}
+use Rattle.staat_model.specs.Certificates.{WalledPlan, walled_leaf, walled_split, nodes_of, walled_parts, arc_cmp}
+use Rattle.staat_model.specs.Certificates.{IsAcross, IsWall, SplitHolds, SplitsHold, IsLeafAt, AreAllLeaves, IsStuckSet}
+use Rattle.staat_model.specs.Certificates.{IsWitness, IsBlocked, IsListed, IsValidPlan, IsValidRefusal}
 use Rattle.staat_vec.specs.Lists.{FailsFirst, IsFirst, IsLeast}
 use Rattle.staat_model.specs.Planes.{ArePlanes, vertices}
 use Rattle.staat_model.specs.Sets.{Has}
@@ -45,13 +49,18 @@ pub record HasMissingLeaf (n : ℕ) (nodes : List Node) : Type 0 where
 -- the first bad leaf, or, where there is none and a part is missing, the number of nodes
 pub data IsLeafFault (n : ℕ) (nodes : List Node) (node : ℕ) : Type 0 where
   bad_leaf : IsLeast nat_cmp (IsBadLeaf n nodes) node → IsLeafFault n nodes node
-  missing_leaf : ((k : ℕ) → IsBadLeaf n nodes k → ⊥) → HasMissingLeaf n nodes → node ≡ length nodes → IsLeafFault n nodes node
+  missing_leaf : ((k : ℕ) → IsBadLeaf n nodes k → ⊥) → HasMissingLeaf n nodes → node ≡ length nodes
+      → IsLeafFault n nodes node
 
 -- the first rule that a split breaks, where it is this node and stands on this line
-pub data IsSplitReason (parts : List Part) (s r : PartSet) (d : V3) (seps : List Sep) (node line : ℕ) (reason : Reason) : Type 0 where
+pub data IsSplitReason (parts : List Part) (s r : PartSet) (d : V3) (seps : List Sep) (node line : ℕ) (reason : Reason)
+    : Type 0 where
   zero_direction : d ≡ origin → reason ≡ ZeroDirection node → IsSplitReason parts s r d seps node line reason
-  bad_separator : (m : ℕ) → d ≢ origin → FailsFirst (IsWall parts s r d) seps m → reason ≡ BadSeparator (line + 1 + m) → IsSplitReason parts s r d seps node line reason
-  missing_separator : (arc : Arc) → d ≢ origin → All (IsWall parts s r d) seps → IsLeast arc_cmp (λ other. IsAcross parts s r other × (Contains (map (λ sep. sep.arc) seps) other → ⊥)) arc → reason ≡ MissingSeparator arc.a arc.i arc.b arc.j → IsSplitReason parts s r d seps node line reason
+  bad_separator : (m : ℕ) → d ≢ origin → FailsFirst (IsWall parts s r d) seps m → reason ≡ BadSeparator (line + 1 + m)
+      → IsSplitReason parts s r d seps node line reason
+  missing_separator : (arc : Arc) → d ≢ origin → All (IsWall parts s r d) seps
+      → IsLeast arc_cmp (λ other. IsAcross parts s r other × (Contains (map (λ sep. sep.arc) seps) other → ⊥)) arc
+      → reason ≡ MissingSeparator arc.a arc.i arc.b arc.j → IsSplitReason parts s r d seps node line reason
 
 -- how many lines a node takes
 abbrev pub node_size : Node → ℕ
@@ -74,8 +83,10 @@ IsTreeReason parts (walled_split d seps moved rest) node line reason =
 -- the rules of a plan: the number of parts, then the leaves, then the splits
 pub data IsPlanReason (parts : List Part) (stated : ℕ) (nodes : List Node) (reason : Reason) : Type 0 where
   wrong_parts : stated ≢ length parts → reason ≡ WrongParts stated → IsPlanReason parts stated nodes reason
-  bad_leaves : (node : ℕ) → stated ≡ length parts → IsLeafFault (length parts) nodes node → reason ≡ BadLeaves node → IsPlanReason parts stated nodes reason
-  bad_split : (tree : WalledPlan) → stated ≡ length parts → AreAllLeaves (length parts) nodes → nodes ≡ nodes_of tree → IsTreeReason parts tree 0 first_line reason → IsPlanReason parts stated nodes reason
+  bad_leaves : (node : ℕ) → stated ≡ length parts → IsLeafFault (length parts) nodes node → reason ≡ BadLeaves node
+      → IsPlanReason parts stated nodes reason
+  bad_split : (tree : WalledPlan) → stated ≡ length parts → AreAllLeaves (length parts) nodes → nodes ≡ nodes_of tree
+      → IsTreeReason parts tree 0 first_line reason → IsPlanReason parts stated nodes reason
 
 -- ---- refusals
 
@@ -88,18 +99,28 @@ abbrev pub witness_size : Witness → ℕ
 witness_size w = 1 + length w.outs + length w.ins
 
 -- the rules of a refusal: the number of parts, then the set, then the witnesses, then the arcs, then the directions
-pub data IsRefusalReason (parts : List Part) (version stated : ℕ) (w : PartSet) (witnesses : List Witness) (dirs : List Dir) (reason : Reason) : Type 0 where
-  wrong_parts : stated ≢ length parts → reason ≡ WrongParts stated → IsRefusalReason parts version stated w witnesses dirs reason
-  bad_stuck_set : stated ≡ length parts → IsNoStuckSet parts w → reason ≡ BadStuckSet → IsRefusalReason parts version stated w witnesses dirs reason
-  bad_tree : (k : ℕ) → stated ≡ length parts → IsStuckSet parts w → FailsFirst (IsWitness parts w) witnesses k → reason ≡ BadTree k → IsRefusalReason parts version stated w witnesses dirs reason
-  bad_arc : (m : ℕ) → stated ≡ length parts → IsStuckSet parts w → All (IsWitness parts w) witnesses → FailsFirst (IsBlocked parts witnesses) dirs m → reason ≡ BadArc (first_line + sum_by witness_size witnesses + m) → IsRefusalReason parts version stated w witnesses dirs reason
-  missing_direction : (planes : List V3) → (d : V3) → stated ≡ length parts → IsStuckSet parts w → All (IsWitness parts w) witnesses → All (IsBlocked parts witnesses) dirs → ArePlanes parts w planes → IsFirst (λ v. IsListed version dirs v → ⊥) (vertices planes) d → reason ≡ MissingDirection d → IsRefusalReason parts version stated w witnesses dirs reason
+pub data IsRefusalReason (parts : List Part) (version stated : ℕ) (w : PartSet) (witnesses : List Witness)
+    (dirs : List Dir) (reason : Reason) : Type 0 where
+  wrong_parts : stated ≢ length parts → reason ≡ WrongParts stated
+      → IsRefusalReason parts version stated w witnesses dirs reason
+  bad_stuck_set : stated ≡ length parts → IsNoStuckSet parts w → reason ≡ BadStuckSet
+      → IsRefusalReason parts version stated w witnesses dirs reason
+  bad_tree : (k : ℕ) → stated ≡ length parts → IsStuckSet parts w → FailsFirst (IsWitness parts w) witnesses k
+      → reason ≡ BadTree k → IsRefusalReason parts version stated w witnesses dirs reason
+  bad_arc : (m : ℕ) → stated ≡ length parts → IsStuckSet parts w → All (IsWitness parts w) witnesses
+      → FailsFirst (IsBlocked parts witnesses) dirs m → reason ≡ BadArc (first_line + sum_by witness_size witnesses + m)
+      → IsRefusalReason parts version stated w witnesses dirs reason
+  missing_direction : (planes : List V3) → (d : V3) → stated ≡ length parts → IsStuckSet parts w
+      → All (IsWitness parts w) witnesses → All (IsBlocked parts witnesses) dirs → ArePlanes parts w planes
+      → IsFirst (λ v. IsListed version dirs v → ⊥) (vertices planes) d → reason ≡ MissingDirection d
+      → IsRefusalReason parts version stated w witnesses dirs reason
 
 -- ---- certificates
 
 abbrev pub IsBodyReason : List Part → (version stated : ℕ) → Body → Reason → Type 0
 IsBodyReason parts version stated (body.Plan nodes) reason = IsPlanReason parts stated nodes reason
-IsBodyReason parts version stated (body.Stuck w witnesses dirs) reason = IsRefusalReason parts version stated w witnesses dirs reason
+IsBodyReason parts version stated (body.Stuck w witnesses dirs) reason =
+    IsRefusalReason parts version stated w witnesses dirs reason
 
 -- the certificate is not valid for the assembly, and this is the first rule that it breaks
 abbrev pub IsReason : List Part → Certificate → Reason → Type 0

@@ -5,7 +5,8 @@ ghost use Rattle.staat_vec.specs.Vectors.{dot, origin};
 ghost use Rattle.staat_vec.specs.Primitives.{IsPrimitiveOf, primitive};
 ghost use Rattle.staat_model.specs.Pieces.{IsSolid};
 ghost use Rattle.staat_model.specs.Meeting.{Meets};
-ghost use Rattle.staat_model.specs.Cones.{ExactlyOne, HasAxes, HasCorner, HasTwoBorders, IsAbove, IsCombined, IsConeFacet, IsCrossing, IsReached, IsSpanning, IsStopped, differences};
+ghost use Rattle.staat_model.specs.Cones.{ExactlyOne, HasAxes, HasCorner, HasTwoBorders, IsAbove, IsCombined};
+ghost use Rattle.staat_model.specs.Cones.{IsConeFacet, IsCrossing, IsReached, IsSpanning, IsStopped, differences};
 
 /// In a list of vectors that span space, either the sum of each member times a number of at least 1 is a multiple of
 /// d, or d does not lead ahead of some facet of the cone that the members span. Not both hold (Farkas, 1902).
@@ -29,7 +30,8 @@ pub fn corner()
 /// Points meet along d exactly where the sum of each of their differences times a number of at least 1 is a multiple
 /// of d: products of the weights are such numbers, and sums over rows and columns of the numbers are weights.
 pub fn weights_and_numbers()
-    ensures { (ps qs : List Vector) (d : Vector) → 1 ≤ length ps → 1 ≤ length qs → Meets ps qs d ↔ IsReached (differences ps qs) d }
+    ensures { (ps qs : List Vector) (d : Vector) → 1 ≤ length ps → 1 ≤ length qs
+        → Meets ps qs d ↔ IsReached (differences ps qs) d }
 {}
 
 /// The differences to solid points span space.
@@ -40,7 +42,8 @@ pub fn differences_span()
 /// In a list of vectors that span space, a multiple of d is the sum of each member times a number of at least 1
 /// exactly where d leads ahead of each facet.
 pub fn reached_by_facets()
-    ensures { (vs : List Vector) (d : Vector) → IsSpanning vs → IsReached vs d ↔ ((n : Vector) → IsConeFacet vs n → pos 0 <ℤ dot n d) }
+    ensures { (vs : List Vector) (d : Vector) → IsSpanning vs
+        → IsReached vs d ↔ ((n : Vector) → IsConeFacet vs n → pos 0 <ℤ dot n d) }
 {}
 
 /// Each facet is the primitive vector of the cross product of two members.

@@ -1,5 +1,5 @@
 //! Laws over the definitions. Each is a function that does nothing, and its contract is the law.
-ghost use Rattle.std.specs.Prelude.{List};
+ghost use Rattle.std.specs.Prelude.{◌≡◌, ◌^◌, List};
 ghost use Rattle.staat_vec.specs.declared.vector.V3.{V3 as Vector};
 ghost use Rattle.staat_model.specs.Pieces.{IsPiece};
 ghost use Rattle.staat_model.specs.Meeting.{Meets};
@@ -13,18 +13,32 @@ pub use crate::cone_laws::{
     combine, corner, differences_span, facet_is_crossing, farkas, one_primitive, reached_by_facets,
     two_borders, weights_and_numbers,
 };
+use crate::limits::{
+    LEAST_POINTS, LINE_LIMIT, LIST_LIMIT, MOST_PARTS, MOST_PIECES, MOST_POINTS, TEXT_LIMIT,
+};
 pub use crate::one_laws::{
     no_reason_if_valid, one_certificate, one_outcome, one_reading, one_reason, one_spelling,
     one_verdict,
 };
 pub use crate::piece_laws::{
-    blocked_by_facets, facets_from_differences, opposite_facets, opposite_meeting,
-    overlap_by_facets,
+    blocked_by_facets, facets_from_differences, facets_of_differences, opposite_facets,
+    opposite_meeting, overlap_by_facets,
 };
 pub use crate::plan_laws::{
     certificates_are_valid, graph_of_cell, graph_on_border, opposite_graph, plan_is_right,
     refusal_is_right, restrict, stuck_at_vertices, vertices_decide,
 };
+
+/// How many points, pieces and parts there may be, and how long lists, lines and texts may be, as numbers.
+pub fn constants()
+    ensures least_points { LEAST_POINTS ≡ 4 }
+    ensures most_points { MOST_POINTS ≡ 64 }
+    ensures most_parts { MOST_PARTS ≡ 32 }
+    ensures most_pieces { MOST_PIECES ≡ 64 }
+    ensures list_limit { LIST_LIMIT ≡ 2 ^ 25 }
+    ensures line_limit { LINE_LIMIT ≡ 128 }
+    ensures text_limit { TEXT_LIMIT ≡ 2 ^ 27 }
+{}
 
 /// A wall that shows a piece apart from a list of points along a direction keeps them apart for ever: the piece
 /// never meets what the points span.

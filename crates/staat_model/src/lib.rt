@@ -31,6 +31,6 @@ pub use line::Line;
 pub use piece::{Piece, Pieces, Points};
 pub use refusal::TextRefusal;
 pub use set::PartSet;
-pub use solid::is_solid;
+pub use solid::{is_solid, normal_off_line, other_than};
 pub use tree::{Kind, Marks, Outcome, Step, Tree};
 pub use verdict::{Reason, Verdict};

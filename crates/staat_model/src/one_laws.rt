@@ -13,28 +13,34 @@ ghost use Rattle.staat_model.specs.Texts.{IsReading, IsTextOf, Reading};
 
 /// A set of parts has one outcome, in a robust plan and in any other.
 pub fn one_outcome()
-    ensures { (robust : Bool) (parts : List PartValue) (w : PartSetValue) (f g : Finding) → IsOutcome robust parts w f → IsOutcome robust parts w g → f ≡ g }
+    ensures { (robust : Bool) (parts : List PartValue) (w : PartSetValue) (f g : Finding) → IsOutcome robust parts w f
+        → IsOutcome robust parts w g → f ≡ g }
 {}
 
 /// A certificate has one reason at most for which it is not valid.
 pub fn one_reason()
-    ensures { (parts : List PartValue) (c : CertificateValue) (r s : ReasonValue) → IsReason parts c r → IsReason parts c s → r ≡ s }
+    ensures { (parts : List PartValue) (c : CertificateValue) (r s : ReasonValue) → IsReason parts c r
+        → IsReason parts c s → r ≡ s }
 {}
 
 /// A certificate that has a reason is no valid plan and no valid refusal.
 pub fn no_reason_if_valid()
-    ensures plan { (parts : List PartValue) (c : CertificateValue) (r : ReasonValue) → IsReason parts c r → IsValidPlan parts c → ⊥ }
-    ensures refusal { (parts : List PartValue) (c : CertificateValue) (r : ReasonValue) → IsReason parts c r → IsValidRefusal parts c → ⊥ }
+    ensures plan { (parts : List PartValue) (c : CertificateValue) (r : ReasonValue) → IsReason parts c r
+        → IsValidPlan parts c → ⊥ }
+    ensures refusal { (parts : List PartValue) (c : CertificateValue) (r : ReasonValue) → IsReason parts c r
+        → IsValidRefusal parts c → ⊥ }
 {}
 
 /// A certificate has one verdict at most.
 pub fn one_verdict()
-    ensures { (parts : List PartValue) (c : CertificateValue) (v u : VerdictValue) → IsVerdict parts c v → IsVerdict parts c u → v ≡ u }
+    ensures { (parts : List PartValue) (c : CertificateValue) (v u : VerdictValue) → IsVerdict parts c v
+        → IsVerdict parts c u → v ≡ u }
 {}
 
 /// An outcome has one certificate of each version.
 pub fn one_certificate()
-    ensures { (parts : List PartValue) (version : ℕ) (f : Finding) (c d : CertificateValue) → IsCertificateOf parts version f c → IsCertificateOf parts version f d → c ≡ d }
+    ensures { (parts : List PartValue) (version : ℕ) (f : Finding) (c d : CertificateValue)
+        → IsCertificateOf parts version f c → IsCertificateOf parts version f d → c ≡ d }
 {}
 
 /// Bytes have one reading at most: they are the text of one certificate, or have one first bad line, or are too short.

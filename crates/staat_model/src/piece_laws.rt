@@ -5,11 +5,12 @@ ghost use Rattle.staat_vec.specs.Vectors.{dot, negative};
 ghost use Rattle.staat_model.specs.Pieces.{IsPiece};
 ghost use Rattle.staat_model.specs.Meeting.{Meets, Overlap};
 ghost use Rattle.staat_model.specs.Facets.{IsFacet};
-ghost use Rattle.staat_model.specs.Cones.{IsCrossing, differences};
+ghost use Rattle.staat_model.specs.Cones.{IsConeFacet, IsCrossing, differences};
 
 /// A piece meets another along d exactly where d leads ahead of each of their facets.
 pub fn blocked_by_facets()
-    ensures { (p q : List Vector) (d : Vector) → IsPiece p → IsPiece q → Meets p q d ↔ ((n : Vector) → IsFacet p q n → pos 0 <ℤ dot n d) }
+    ensures { (p q : List Vector) (d : Vector) → IsPiece p → IsPiece q
+        → Meets p q d ↔ ((n : Vector) → IsFacet p q n → pos 0 <ℤ dot n d) }
 {}
 
 /// Two pieces overlap exactly where they have no facet.
@@ -20,6 +21,11 @@ pub fn overlap_by_facets()
 /// Each facet of two pieces is the primitive vector of the cross product of two of their differences.
 pub fn facets_from_differences()
     ensures { (p q : List Vector) (n : Vector) → IsFacet p q n → IsCrossing (differences p q) n }
+{}
+
+/// A facet of two pieces is a facet of the cone that their differences span.
+pub fn facets_of_differences()
+    ensures { (p q : List Vector) (n : Vector) → IsFacet p q n ↔ IsConeFacet (differences p q) n }
 {}
 
 /// The facets of two pieces in the other order are the negatives of their facets.

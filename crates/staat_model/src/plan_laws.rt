@@ -16,14 +16,16 @@ ghost use Rattle.staat_model.specs.declared.certificate.Node.{Node as NodeValue}
 ghost use Rattle.staat_model.specs.declared.certificate.Witness.{Witness as WitnessValue};
 ghost use Rattle.staat_model.specs.declared.certificate.Certificate.{Certificate as CertificateValue};
 ghost use Rattle.staat_model.specs.declared.tree.Kind.{Kind as KindValue};
-ghost use Rattle.staat_model.specs.Certificates.{IsValidPlan, IsValidRefusal, PlanHolds, RefusalHolds, WalledPlan, nodes_of, unwalled};
+ghost use Rattle.staat_model.specs.Certificates.{IsValidPlan, IsValidRefusal, PlanHolds, RefusalHolds, WalledPlan};
+ghost use Rattle.staat_model.specs.Certificates.{nodes_of, unwalled};
 ghost use Rattle.staat_model.specs.Certify.{IsCertificateOf};
 ghost use Rattle.staat_model.specs.Outcomes.{planned, stuck};
 ghost use Rattle.staat_model.specs.Borders.{HasFreeVertex};
 
 /// A set of parts that is stuck rules out every plan of every set that holds it.
 pub fn restrict()
-    ensures { (parts : List PartValue) (a w : PartSetValue) → IsStuck parts a → IsSubset a w → (plan : Plan) → IsGood parts w plan → ⊥ }
+    ensures { (parts : List PartValue) (a w : PartSetValue) → IsStuck parts a → IsSubset a w → (plan : Plan)
+        → IsGood parts w plan → ⊥ }
 {}
 
 /// The blocking graph at the opposite direction is the reversed graph.
@@ -33,41 +35,58 @@ pub fn opposite_graph()
 
 /// On the border of a cell no part of the set blocks another that it does not block in the cell.
 pub fn graph_on_border()
-    ensures { (parts : List PartValue) (w : PartSetValue) (planes : List Vector) (d v : Vector) → IsAssembly parts → ArePlanes parts w planes → IsBorder (signs_of planes v) (signs_of planes d) → (a b : ℕ) → Has w a → Has w b → Blocks parts v a b → Blocks parts d a b }
+    ensures { (parts : List PartValue) (w : PartSetValue) (planes : List Vector) (d v : Vector) → IsAssembly parts
+        → ArePlanes parts w planes → IsBorder (signs_of planes v) (signs_of planes d) → (a b : ℕ) → Has w a → Has w b
+        → Blocks parts v a b → Blocks parts d a b }
 {}
 
 /// Directions with the same signs have the same blocking graph among the parts of the set.
 pub fn graph_of_cell()
-    ensures { (parts : List PartValue) (w : PartSetValue) (planes : List Vector) (d e : Vector) → IsAssembly parts → ArePlanes parts w planes → signs_of planes d ≡ signs_of planes e → (a b : ℕ) → Has w a → Has w b → Blocks parts d a b ↔ Blocks parts e a b }
+    ensures { (parts : List PartValue) (w : PartSetValue) (planes : List Vector) (d e : Vector) → IsAssembly parts
+        → ArePlanes parts w planes → signs_of planes d ≡ signs_of planes e → (a b : ℕ) → Has w a → Has w b
+        → Blocks parts d a b ↔ Blocks parts e a b }
 {}
 
 /// Vertices decide: parts of a set that are free of others of the set along some direction are free of them along a
 /// vertex of the set's planes.
 pub fn vertices_decide()
-    ensures { (parts : List PartValue) (w s r : PartSetValue) (planes : List Vector) (d : Vector) → IsAssembly parts → ArePlanes parts w planes → IsSubset s w → IsSubset r w → AreApart s r → IsFree parts s r d → HasFreeVertex parts planes s r }
+    ensures { (parts : List PartValue) (w s r : PartSetValue) (planes : List Vector) (d : Vector) → IsAssembly parts
+        → ArePlanes parts w planes → IsSubset s w → IsSubset r w → AreApart s r → IsFree parts s r d
+        → HasFreeVertex parts planes s r }
 {}
 
 /// A set of at least two parts is stuck if at each vertex of its planes no side of it is free of the rest.
 pub fn stuck_at_vertices()
-    ensures { (parts : List PartValue) (w : PartSetValue) (planes : List Vector) → IsAssembly parts → ArePlanes parts w planes → 2 ≤ set.len w → ((v : Vector) (s : PartSetValue) → Contains (vertices planes) v → IsSide w s → IsFree parts s (set.difference w s) v → ⊥) → IsStuck parts w }
+    ensures { (parts : List PartValue) (w : PartSetValue) (planes : List Vector) → IsAssembly parts
+        → ArePlanes parts w planes → 2 ≤ set.len w
+        → ((v : Vector) (s : PartSetValue) → Contains (vertices planes) v → IsSide w s
+        → IsFree parts s (set.difference w s) v → ⊥)
+        → IsStuck parts w }
 {}
 
 /// A certificate's plan that keeps its rules takes all parts of the assembly apart, and at no split do the two sides
 /// ever meet.
 pub fn plan_is_right()
-    ensures { (parts : List PartValue) (stated : ℕ) (nodes : List NodeValue) → IsAssembly parts → PlanHolds parts stated nodes → (tree : WalledPlan) × (nodes ≡ nodes_of tree) × IsGood parts (below (length parts)) (unwalled tree) }
+    ensures { (parts : List PartValue) (stated : ℕ) (nodes : List NodeValue) → IsAssembly parts
+        → PlanHolds parts stated nodes
+        → (tree : WalledPlan) × (nodes ≡ nodes_of tree) × IsGood parts (below (length parts)) (unwalled tree) }
 {}
 
 /// A certificate's refusal that keeps its rules names a set that is stuck, and no plan takes all parts apart: from the
 /// root no part of a side that is free is reached, or all parts are. In version 2 one of two opposite directions is
 /// enough: a side that is free of the rest along one leaves the rest free of it along the other.
 pub fn refusal_is_right()
-    ensures { (parts : List PartValue) (version stated : ℕ) (w : PartSetValue) (witnesses : List WitnessValue) (dirs : List DirValue) → IsAssembly parts → RefusalHolds parts version stated w witnesses dirs → IsStuck parts w × ((plan : Plan) → IsGood parts (below (length parts)) plan → ⊥) }
+    ensures { (parts : List PartValue) (version stated : ℕ) (w : PartSetValue) (witnesses : List WitnessValue)
+        (dirs : List DirValue) → IsAssembly parts → RefusalHolds parts version stated w witnesses dirs
+        → IsStuck parts w × ((plan : Plan) → IsGood parts (below (length parts)) plan → ⊥) }
 {}
 
-/// The certificate of an outcome is valid: that of a plan that takes all parts apart, and that of a set of parts that is
-/// stuck.
+/// The certificate of an outcome is valid: that of a plan that takes all parts apart, and that of a set of parts that
+/// is stuck.
 pub fn certificates_are_valid()
-    ensures plan { (parts : List PartValue) (version : ℕ) (plan : Plan) (marks : List KindValue) (c : CertificateValue) → IsGood parts (below (length parts)) plan → IsCertificateOf parts version (planned plan marks) c → IsValidPlan parts c }
-    ensures refusal { (parts : List PartValue) (version : ℕ) (w : PartSetValue) (c : CertificateValue) → IsAssembly parts → IsStuck parts w → IsCertificateOf parts version (stuck w) c → IsValidRefusal parts c }
+    ensures plan { (parts : List PartValue) (version : ℕ) (plan : Plan) (marks : List KindValue) (c : CertificateValue)
+        → IsGood parts (below (length parts)) plan → IsCertificateOf parts version (planned plan marks) c
+        → IsValidPlan parts c }
+    ensures refusal { (parts : List PartValue) (version : ℕ) (w : PartSetValue) (c : CertificateValue)
+        → IsAssembly parts → IsStuck parts w → IsCertificateOf parts version (stuck w) c → IsValidRefusal parts c }
 {}

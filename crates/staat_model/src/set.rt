@@ -2,7 +2,7 @@
 ghost use Rattle.std.specs.Prelude.{◌≡◌, ℕ, ◌<◌, ◌≤◌, ◌↔◌, ◌⊎◌, IsTrue};
 ghost use Rattle.std.specs.FinSet as set;
 ghost use Rattle.std.specs.Int.{bit_at};
-ghost use Rattle.staat_model.specs.Sets.{Has, IsLeastOf, IsNonempty, IsSubset, below, is_same, single};
+ghost use Rattle.staat_model.specs.Sets.{Has, IsLeastOf, IsNonempty, IsSubset, below, equal_sets, single};
 
 use crate::limits::MOST_PARTS;
 use std::marker::Model;
@@ -24,7 +24,8 @@ impl Model for PartSet {
     ghost coded = { set.code coded_ℕ };
 
     ghost use Rattle.std.proofs.Common.{ap};
-    ghost use Rattle.staat_model.specs.Bits.{set_of_word, word_of_set, word_of_set-set_of_word};
+    ghost use Rattle.staat_model.specs.Bits.{set_of_word, word_of_set};
+    ghost use Rattle.staat_model.specs.SetFacts.{word_of_set-set_of_word};
 
     ghost view = { λ s. set_of_word s.bits };
 
@@ -37,14 +38,15 @@ impl Model for PartSet {
 
 impl PartialEq for PartSet {
     ghost use Rattle.std.specs.Cmp.{decided, partial_equiv_from_equiv};
-    ghost use Rattle.staat_model.specs.Sets.{is_same, is_same-decides};
+    ghost use Rattle.staat_model.specs.Sets.{equal_sets};
+    ghost use Rattle.staat_model.specs.SetFacts.{equal_sets-decides};
 
-    ghost eq = { is_same };
+    ghost eq = { equal_sets };
 
-    ghost laws = { partial_equiv_from_equiv (decided is_same is_same-decides) };
+    ghost laws = { partial_equiv_from_equiv (decided equal_sets equal_sets-decides) };
 
     fn eq(&self, o: &PartSet) -> bool
-        ensures eq { result ≡ is_same self.now o.now }
+        ensures eq { result ≡ equal_sets self.now o.now }
         ensures same { IsTrue result ↔ (self.now ≡ o.now) }
     {
         self.bits == o.bits
@@ -53,9 +55,10 @@ impl PartialEq for PartSet {
 
 impl Eq for PartSet {
     ghost use Rattle.std.specs.Cmp.{decided};
-    ghost use Rattle.staat_model.specs.Sets.{is_same, is_same-decides};
+    ghost use Rattle.staat_model.specs.Sets.{equal_sets};
+    ghost use Rattle.staat_model.specs.SetFacts.{equal_sets-decides};
 
-    ghost laws = { decided is_same is_same-decides };
+    ghost laws = { decided equal_sets equal_sets-decides };
 }
 
 impl PartSet {

@@ -1,20 +1,12 @@
 // Whether points span space.
-ghost use Rattle.std.specs.Prelude.{◌≡◌, ◌≢◌, ◌↔◌, pos, All, Contains, IsTrue, MatchOption};
+ghost use Rattle.std.specs.Prelude.{◌≡◌, ◌≢◌, ◌↔◌, pos, All, Any, Contains, IfSome, IsTrue, MatchOption};
 ghost use Rattle.staat_vec.specs.Vectors.{IsWithin, cross, dot, minus, origin};
 ghost use Rattle.staat_model.specs.Pieces.{IsSolid};
 
-use staat_vec::{DIFF, NORMAL, POINT, V3, cross_diff, dot, sub};
+use staat_vec::{DIFF, NORMAL, ORIGIN, POINT, V3, cross_diff, dot, is_same, sub};
 
-const ORIGIN: V3 = V3 { x: 0, y: 0, z: 0 };
-
-fn is_same(a: V3, b: V3) -> bool
-    ensures { IsTrue result ↔ (a ≡ b) }
-{
-    a == b
-}
-
-// the first point other than a
-fn other_than(points: &[V3], a: V3) -> Option<V3>
+/// The first of the points that is not `a`.
+pub fn other_than(points: &[V3], a: V3) -> Option<V3>
     ensures { MatchOption result (All (λ p. p ≡ a) points.now) (λ b. Contains points.now b × (b ≢ a)) }
 {
     for p in points {
@@ -25,26 +17,33 @@ fn other_than(points: &[V3], a: V3) -> Option<V3>
     None
 }
 
-// whether p lies on the line through a along a difference
-fn is_on_line(a: V3, along: V3, p: V3) -> bool
+// the normal of the plane through a, along a difference and through p: zero where p lies on their line
+fn normal_of(a: V3, along: V3, p: V3) -> V3
     requires a { IsWithin POINT a }
     requires along { IsWithin DIFF along }
     requires p { IsWithin POINT p }
-    ensures { IsTrue result ↔ (cross along (minus p a) ≡ origin) }
+    ensures value { result ≡ cross along (minus p a) }
+    ensures size { IsWithin NORMAL result }
 {
-    is_same(cross_diff(along, sub(p, a)), ORIGIN)
+    cross_diff(along, sub(p, a))
 }
 
-// the first point off the line through a along a difference
-fn off_line(points: &[V3], a: V3, along: V3) -> Option<V3>
+/// A normal of the plane through `a`, along a difference and through the first of the points off their line.
+///
+/// The components of the points and of `a` are at most [`POINT`] in absolute value, those of `along` at most
+/// [`DIFF`], and those of the result at most [`NORMAL`].
+pub fn normal_off_line(points: &[V3], a: V3, along: V3) -> Option<V3>
     requires points { All (IsWithin POINT) points.now }
     requires a { IsWithin POINT a }
     requires along { IsWithin DIFF along }
-    ensures { MatchOption result (All (λ p. cross along (minus p a) ≡ origin) points.now) (λ c. Contains points.now c × (cross along (minus c a) ≢ origin)) }
+    ensures line { MatchOption result (All (λ p. cross along (minus p a) ≡ origin) points.now)
+        (λ n. (n ≢ origin) × Any (λ c. n ≡ cross along (minus c a)) points.now) }
+    ensures size { IfSome result (IsWithin NORMAL) }
 {
     for p in points {
-        if !is_on_line(a, along, *p) {
-            return Some(*p);
+        let n = normal_of(a, along, *p);
+        if !is_same(n, ORIGIN) {
+            return Some(n);
         }
     }
     None
@@ -65,7 +64,8 @@ fn off_plane(points: &[V3], a: V3, n: V3) -> Option<V3>
     requires points { All (IsWithin POINT) points.now }
     requires a { IsWithin POINT a }
     requires n { IsWithin NORMAL n }
-    ensures { MatchOption result (All (λ p. dot n (minus p a) ≡ pos 0) points.now) (λ e. Contains points.now e × (dot n (minus e a) ≢ pos 0)) }
+    ensures { MatchOption result (All (λ p. dot n (minus p a) ≡ pos 0) points.now)
+        (λ e. Contains points.now e × (dot n (minus e a) ≢ pos 0)) }
 {
     for p in points {
         if !is_on_plane(a, n, *p) {
@@ -91,8 +91,8 @@ pub fn is_solid(points: &[V3]) -> bool
         return false;
     };
     let along = sub(b, a);
-    let Some(c) = off_line(points, a, along) else {
+    let Some(n) = normal_off_line(points, a, along) else {
         return false;
     };
-    off_plane(points, a, cross_diff(along, sub(c, a))).is_some()
+    off_plane(points, a, n).is_some()
 }

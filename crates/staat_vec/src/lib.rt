@@ -2,6 +2,7 @@
 #![tactic(auto)]
 
 mod ascending;
+pub mod laws;
 mod lists;
 mod memory;
 mod products;
@@ -12,8 +13,8 @@ pub use ascending::in_order;
 pub use lists::{Bytes, Listed, Name, Names};
 pub use memory::OutOfMemory;
 pub use products::{add, cross_diff, cross_normal, det, dot, neg, order_on, sign_dot, sub};
-pub use rays::{canon, primitive};
-pub use vector::{DIFF, DIRECTION, EDGE, NORMAL, POINT, Sign, V3, VERTEX};
+pub use rays::{canon, first_nonzero, primitive};
+pub use vector::{DIFF, DIRECTION, EDGE, NORMAL, ORIGIN, POINT, Sign, V3, VERTEX, is_same};
 
 #[cfg(test)]
 mod tests;

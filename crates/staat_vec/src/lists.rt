@@ -1,6 +1,7 @@
 // The list types of every crate: a list over one `Vec`, which contracts see as that list.
-ghost use Rattle.std.specs.Prelude.{◌≡◌, List, ℕ, string_bytes};
+ghost use Rattle.std.specs.Prelude.{◌≡◌, IfOk, List, ℕ, string_bytes};
 
+use std::alloc::{AllocError, Global};
 use std::marker::Model;
 
 /// A list, which contracts see as such.
@@ -59,6 +60,20 @@ impl Name {
         ensures { result ≡ string_bytes s }
     {
         Name { text: s }
+    }
+
+    /// The name with a copy of this text.
+    pub fn from_text(alloc: Global, text: &str) -> Result<Name, AllocError>
+        ensures { IfOk result (λ name. name ≡ text.now) }
+    {
+        Ok(Name::from_string(String::from_str(alloc, text)?))
+    }
+
+    /// A copy of the name.
+    pub fn copied(&self, alloc: Global) -> Result<Name, AllocError>
+        ensures { IfOk result (λ copy. copy ≡ self.now) }
+    {
+        Name::from_text(alloc, self.as_str())
     }
 
     /// The text.

@@ -71,7 +71,8 @@ pub fn primitive(v: V3) -> V3
     }
 }
 
-fn first_nonzero(v: V3) -> i128
+/// The first component that is not 0, and 0 for the zero vector.
+pub fn first_nonzero(v: V3) -> i128
     ensures { result ≡ first_nonzero v }
 {
     if v.x != 0 {

@@ -3,8 +3,9 @@ ghost use Rattle.std.specs.Prelude.{◌≡◌};
 ghost use Rattle.staat_vec.specs.Vectors.{vector};
 
 use crate::{
-    DIFF, DIRECTION, EDGE, NORMAL, Name, Names, OutOfMemory, POINT, Sign, V3, VERTEX, add, canon,
-    cross_diff, cross_normal, det, dot, neg, order_on, primitive, sign_dot, sub,
+    DIFF, DIRECTION, EDGE, NORMAL, Name, Names, ORIGIN, OutOfMemory, POINT, Sign, V3, VERTEX, add,
+    canon, cross_diff, cross_normal, det, dot, first_nonzero, is_same, neg, order_on, primitive,
+    sign_dot, sub,
 };
 use std::test::Fail;
 
@@ -61,6 +62,9 @@ fn primitive_and_canonical(rt: HostRuntime) {
     assert_eq!(rt; canon(at(0, -2, 3)), at(0, 2, -3));
     assert_eq!(rt; canon(at(1, -5, 0)), at(1, -5, 0));
     assert_eq!(rt; canon(at(0, 0, -7)), at(0, 0, 7));
+    assert_eq!(rt; first_nonzero(at(0, -2, 3)), -2);
+    assert_eq!(rt; first_nonzero(ORIGIN), 0);
+    assert!(rt; is_same(ORIGIN, at(0, 0, 0)) && !is_same(ORIGIN, at(0, 0, 1)));
 }
 
 #[test]
@@ -77,6 +81,7 @@ fn bounds(rt: HostRuntime) {
 fn lists(rt: HostRuntime) -> Result<(), Fail> {
     let name = Name::from_string("a.off".to_string(rt.alloc())?);
     assert_eq!(rt; name.as_str(), "a.off");
+    assert_eq!(rt; name.copied(rt.alloc())?.as_str(), "a.off");
     let names = Names::from_vec(vec![in rt.alloc(); name]?);
     assert_eq!(rt; names.as_slice().len(), 1);
     let refused: Result<Vec<u8>, OutOfMemory> = Vec::with_capacity(rt.alloc(), usize::MAX).map_err(

@@ -1,4 +1,5 @@
 // Vectors of whole numbers, and how great their components may be.
+ghost use Rattle.std.specs.Prelude.{◌≡◌, ◌↔◌, IsTrue};
 
 /// How great a coordinate may be in absolute value, in scaled whole units.
 pub const POINT: u128 = 1 << 18;
@@ -24,6 +25,16 @@ pub struct V3 {
     pub x: i128,
     pub y: i128,
     pub z: i128,
+}
+
+/// The zero vector.
+pub const ORIGIN: V3 = V3 { x: 0, y: 0, z: 0 };
+
+/// Whether two vectors are one.
+pub fn is_same(a: V3, b: V3) -> bool
+    ensures { IsTrue result ↔ (a ≡ b) }
+{
+    a == b
 }
 
 /// The sign of a number, in the order of the numbers.

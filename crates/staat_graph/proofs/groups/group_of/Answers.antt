@@ -1,4 +1,5 @@
-use Rattle.staat_graph.specs.Graphs.{Back, HasArc, here, IsReach}
+use Rattle.staat_model.specs.Bridges.{Back}
+use Rattle.staat_graph.specs.Graphs.{HasArc, here, IsReach}
 use Rattle.staat_graph.proofs.Reaching.{group_of_reach}
 use Rattle.staat_graph.proofs.Walking.{reach_back}
 use Rattle.staat_graph.proofs.groups.group_of.Goals as goal

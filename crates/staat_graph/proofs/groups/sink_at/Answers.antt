@@ -1,5 +1,6 @@
 use Rattle.std.proofs.Common.{refl, sym, true≢false}
-use Rattle.staat_graph.specs.Graphs.{Back, HasArc, here, IsReach}
+use Rattle.staat_model.specs.Bridges.{Back}
+use Rattle.staat_graph.specs.Graphs.{HasArc, here, IsReach}
 use Rattle.staat_graph.proofs.Reaching.{sink_from, sink_turns}
 use Rattle.staat_graph.proofs.Walking.{reach_back}
 use Rattle.staat_graph.proofs.groups.sink_at.Goals as goal

@@ -1,6 +1,6 @@
 use Rattle.std.proofs.Common.{◌≡◌, ℕ, zero, suc, ◌<◌, List, [], ◌∷◌, ◌++◌, add-one, arith, ap, refl, sym, ◌∙◌, drop, get_or, length, map, take}
 use Rattle.std.specs.Prelude.{slice_set}
-use Rattle.staat_graph.specs.Graphs.{swapped}
+use Rattle.staat_model.specs.Bridges.{swapped}
 use Rattle.staat_graph.proofs.trees.exchange_ends.Goals as goal
 
 -- the list of which the first n arcs are exchanged

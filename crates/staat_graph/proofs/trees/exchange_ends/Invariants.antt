@@ -1,5 +1,5 @@
 use Rattle.std.proofs.Common.{◌≡◌, ◌++◌, drop, map, take}
-use Rattle.staat_graph.specs.Graphs.{swapped}
+use Rattle.staat_model.specs.Bridges.{swapped}
 use Rattle.staat_graph.proofs.trees.exchange_ends.Given as goal
 
 abbrev pub invariant-loop-arc : goal.invariant-loop-arc

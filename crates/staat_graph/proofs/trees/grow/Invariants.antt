@@ -2,7 +2,7 @@ use Rattle.std.proofs.Common.{◌≡◌, ◌+◌, take, length}
 use Rattle.std.specs.FinSet as set
 use Rattle.staat_model.specs.Sets.{IsSubset, single}
 use Rattle.staat_graph.specs.Graphs.{HasArc}
-use Rattle.staat_graph.specs.Growing.{Grows, IsAhead}
+use Rattle.staat_graph.specs.Growing.{Grows, IsFrontier}
 use Rattle.staat_graph.proofs.trees.grow.Given as goal
 
 abbrev pub invariant-loop-k : goal.invariant-loop-k
@@ -11,5 +11,5 @@ invariant-loop-k l = record {
   within : IsSubset l.reached l.w;
   size : set.len l.reached ≡ l.k + 1;
   long : length l.arcs ≡ 32;
-  ahead : IsAhead (HasArc l.g.ahead.rows) l.w l.reached l.ahead;
+  ahead : IsFrontier (HasArc l.g.ahead.rows) l.w l.reached l.ahead;
 }

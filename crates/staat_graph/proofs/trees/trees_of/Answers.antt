@@ -1,10 +1,10 @@
 use Rattle.std.proofs.Common.{◌≡◌, ℕ, ◌+◌, List, arith, ap, refl, sym, ◌∙◌, subst, map, take, true≢false}
 use Rattle.std.specs.FinSet as set
 use Rattle.staat_model.specs.declared.set.PartSet.{PartSet}
-use Rattle.staat_model.specs.Bridges.{IsTree}
+use Rattle.staat_model.specs.Bridges.{IsTree, Back, swapped}
 use Rattle.staat_model.specs.Sets.{IsSubset, single}
 use Rattle.staat_model.proofs.SetWords.{same_members}
-use Rattle.staat_graph.specs.Graphs.{AreReversed, Back, HasArc, IsStrong, swapped}
+use Rattle.staat_graph.specs.Graphs.{AreReversed, HasArc, IsStrong}
 use Rattle.staat_graph.specs.Growing.{Grows, HasNoBridge}
 use Rattle.staat_graph.specs.declared.graph.Graph.{Graph}
 use Rattle.staat_graph.proofs.TreeLemmas.{all_of_strong, grows_carried, no_bridge_carried, strong_by_trees, take-swapped, swapped_twice, tree_from_root, tree_walks}

@@ -1,5 +1,6 @@
 use Rattle.std.proofs.Common.{refl}
-use Rattle.staat_graph.specs.Graphs.{Back, HasArc, IsReach}
+use Rattle.staat_model.specs.Bridges.{Back}
+use Rattle.staat_graph.specs.Graphs.{HasArc, IsReach}
 use Rattle.staat_graph.proofs.Walking.{joined, reach_back, turned, turned_back}
 use Rattle.staat_graph.proofs.walks.is_strong.Goals as goal
 

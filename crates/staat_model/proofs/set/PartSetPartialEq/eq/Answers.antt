@@ -1,7 +1,8 @@
 use Rattle.std.proofs.Common.{ap, sym, ◌∙◌, eq-eqb, eqb-true}
 use Rattle.std.specs.Bool.{one_answer}
-use Rattle.staat_model.specs.Bits.{set_of_word, word_of_set, word_of_set-set_of_word}
-use Rattle.staat_model.specs.Sets.{is_same-decides}
+use Rattle.staat_model.specs.Bits.{set_of_word, word_of_set}
+use Rattle.staat_model.specs.SetFacts.{word_of_set-set_of_word}
+use Rattle.staat_model.specs.SetFacts.{equal_sets-decides}
 use Rattle.staat_model.proofs.set.PartSetPartialEq.eq.Goals as goal
 
 pub returns-clause-same : goal.returns-clause-same
@@ -12,4 +13,4 @@ returns-clause-same c = (
 )
 
 pub returns-clause-eq : goal.returns-clause-eq
-returns-clause-eq c = one_answer _ _ (returns-clause-same c) (is_same-decides c.args.self.now c.args.o.now)
+returns-clause-eq c = one_answer _ _ (returns-clause-same c) (equal_sets-decides c.args.self.now c.args.o.now)
