@@ -4,7 +4,7 @@ ghost use Rattle.serde_json.specs.View.{view};
 ghost use Rattle.staat_manifest.specs.Placements.{as_coordinate, placement_of, small, vector_in};
 
 use serde_json::Value;
-use staat_vec::{POINT, V3};
+use staat_vec::{ORIGIN, POINT, V3};
 
 // The number as a coordinate, where it is not too great for one.
 fn small(number: i64) -> Option<i128>
@@ -46,6 +46,6 @@ pub(crate) fn placement_of(part: &Value) -> Option<V3>
 {
     match part.get("at") {
         Some(at) => vector_in(at.as_array()?.as_slice()),
-        None => Some(V3 { x: 0, y: 0, z: 0 }),
+        None => Some(ORIGIN),
     }
 }

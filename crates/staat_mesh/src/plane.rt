@@ -1,13 +1,12 @@
 // The plane of a face, and the sides of points on it.
-ghost use Rattle.std.specs.Prelude.{◌≡◌, ◌≢◌, ◌↔◌, All, Any, Contains, IfSome, IsTrue, MatchBool, MatchOption};
-ghost use Rattle.staat_vec.specs.Vectors.{IsWithin, cross, minus, origin};
+ghost use Rattle.std.specs.Prelude.{◌≡◌, ◌≢◌, ◌↔◌, All, Any, IfSome, IsTrue, MatchBool, MatchOption};
+ghost use Rattle.staat_vec.specs.Vectors.{IsWithin};
 ghost use Rattle.staat_vec.specs.declared.vector.Sign.TheVariants.{Zero};
 ghost use Rattle.staat_mesh.specs.Planes.{IsSpanned, side_of};
 ghost use Rattle.staat_mesh.specs.Sides.{OnLine};
 
-use staat_vec::{DIFF, NORMAL, POINT, Sign, V3, cross_diff, sign_dot, sub};
-
-const ORIGIN: V3 = V3 { x: 0, y: 0, z: 0 };
+use staat_model::{normal_off_line, other_than};
+use staat_vec::{NORMAL, POINT, Sign, V3, sign_dot, sub};
 
 /// A plane, by a point on it and a normal.
 #[derive(Clone, Copy)]
@@ -16,53 +15,6 @@ pub struct Plane {
     pub through: V3,
     /// A vector square to the plane, other than zero.
     pub normal: V3,
-}
-
-fn is_same(a: V3, b: V3) -> bool
-    ensures { IsTrue result ↔ (a ≡ b) }
-{
-    a == b
-}
-
-// the first point other than a
-fn other_than(points: &[V3], a: V3) -> Option<V3>
-    ensures { MatchOption result (All (λ p. p ≡ a) points.now) (λ b. Contains points.now b × (b ≢ a)) }
-{
-    for p in points {
-        if !is_same(*p, a) {
-            return Some(*p);
-        }
-    }
-    None
-}
-
-// the normal of the plane through a, along a difference and through p: zero where p lies on their line
-fn normal(a: V3, along: V3, p: V3) -> V3
-    requires a { IsWithin POINT a }
-    requires along { IsWithin DIFF along }
-    requires p { IsWithin POINT p }
-    ensures value { result ≡ cross along (minus p a) }
-    ensures size { IsWithin NORMAL result }
-{
-    cross_diff(along, sub(p, a))
-}
-
-// the normal of the plane through a, along a difference and through the first point off their line
-fn normal_off_line(points: &[V3], a: V3, along: V3) -> Option<V3>
-    requires points { All (IsWithin POINT) points.now }
-    requires a { IsWithin POINT a }
-    requires along { IsWithin DIFF along }
-    ensures line { MatchOption result (All (λ p. cross along (minus p a) ≡ origin) points.now) (λ n. (n ≢ origin) ×
-        Any (λ c. n ≡ cross along (minus c a)) points.now) }
-    ensures size { IfSome result (IsWithin NORMAL) }
-{
-    for p in points {
-        let n = normal(a, along, *p);
-        if !is_same(n, ORIGIN) {
-            return Some(n);
-        }
-    }
-    None
 }
 
 /// The plane of the first point, the first other one and the first off their line, unless all lie on one line.
