@@ -7,10 +7,10 @@ ghost use Rattle.staat_off.specs.Words.{is_blank, is_plain};
 use std::marker::Model;
 
 /// Begins a comment.
-const HASH: u8 = b'#';
+pub(crate) const HASH: u8 = b'#';
 
 /// Ends a line, and a comment with it.
-const LINE_FEED: u8 = b'\n';
+pub(crate) const LINE_FEED: u8 = b'\n';
 
 /// What is left of a file.
 #[derive(Drop)]
