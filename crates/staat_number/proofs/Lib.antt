@@ -1,3 +1,3 @@
-pub mod Parsing
 pub mod SpellingLemmas
 pub mod DecimalLemmas
+pub mod NumberLemmas

@@ -1,0 +1,38 @@
+-- Reading a text has one answer.
+use Rattle.std.proofs.Common.{◌≡◌, ◌≢◌, ◌<◌, ◌≤◌, ℕ, List, length, ap, refl, arith}
+use Rattle.std.specs.Prelude.{Result, Ok, Err}
+use Rattle.staat_model.specs.declared.certificate.Certificate.{Certificate}
+use Rattle.staat_model.specs.Texts.{IsReading, Reading, whole, bad_line, too_short}
+use Rattle.staat_model.proofs.OneReading.{IsReading-unique}
+use Rattle.staat_cert.specs.declared.cert_refusal.CertRefusal.{CertRefusal}
+use Rattle.staat_cert.specs.declared.cert_refusal.CertRefusal.TheVariants.{BadLine, ShortCert, TooLong, OutOfMemory}
+use Rattle.staat_cert.specs.Feeds.{IsReadAnswer}
+
+-- the answer that a reading is
+abbrev answer_of : Reading → Result Certificate CertRefusal
+answer_of (whole c) = Ok c
+answer_of (bad_line k) = Err (BadLine k)
+answer_of too_short = Err ShortCert
+
+one_of : (text : List ℕ) (r s : Reading) → IsReading text r → IsReading text s → answer_of r ≡ answer_of s
+one_of text r s g h = ap answer_of (IsReading-unique text r s g h)
+
+pub one_read_answer : (text : List ℕ) (r s : Result Certificate CertRefusal) → IsReadAnswer text r → IsReadAnswer text s → r ≢ Err OutOfMemory → s ≢ Err OutOfMemory → r ≡ s
+one_read_answer text (Err OutOfMemory) s g h p q = absurd (p refl)
+one_read_answer text r (Err OutOfMemory) g h p q = absurd (q refl)
+one_read_answer text (Err TooLong) (Err TooLong) g h p q = refl
+one_read_answer text (Err TooLong) (Ok d) g h p q = absurd (omega (arith, g, h.0))
+one_read_answer text (Err TooLong) (Err (BadLine m)) g h p q = absurd (omega (arith, g, h.0))
+one_read_answer text (Err TooLong) (Err ShortCert) g h p q = absurd (omega (arith, g, h.0))
+one_read_answer text (Ok c) (Err TooLong) g h p q = absurd (omega (arith, g.0, h))
+one_read_answer text (Err (BadLine k)) (Err TooLong) g h p q = absurd (omega (arith, g.0, h))
+one_read_answer text (Err ShortCert) (Err TooLong) g h p q = absurd (omega (arith, g.0, h))
+one_read_answer text (Ok c) (Ok d) g h p q = one_of text (whole c) (whole d) g.1 h.1
+one_read_answer text (Ok c) (Err (BadLine m)) g h p q = one_of text (whole c) (bad_line m) g.1 h.1
+one_read_answer text (Ok c) (Err ShortCert) g h p q = one_of text (whole c) too_short g.1 h.1
+one_read_answer text (Err (BadLine k)) (Ok d) g h p q = one_of text (bad_line k) (whole d) g.1 h.1
+one_read_answer text (Err (BadLine k)) (Err (BadLine m)) g h p q = one_of text (bad_line k) (bad_line m) g.1 h.1
+one_read_answer text (Err (BadLine k)) (Err ShortCert) g h p q = one_of text (bad_line k) too_short g.1 h.1
+one_read_answer text (Err ShortCert) (Ok d) g h p q = one_of text too_short (whole d) g.1 h.1
+one_read_answer text (Err ShortCert) (Err (BadLine m)) g h p q = one_of text too_short (bad_line m) g.1 h.1
+one_read_answer text (Err ShortCert) (Err ShortCert) g h p q = refl
