@@ -11,7 +11,7 @@ use Rattle.staat_graph.specs.Graphs.{HasArc}
 use Rattle.staat_text.specs.GraphTexts.{arc_line, arcs_from, has_arc}
 
 -- what is left from b on is b, if it is counted, and what is left from b + 1 on
-left : (b n : ℕ) → b < n → n - b ≡ suc (n - (b + 1))
+pub left : (b n : ℕ) → b < n → n - b ≡ suc (n - (b + 1))
 left b n lt = omega arith
 
 -- ---- arcs
@@ -41,11 +41,11 @@ onward_same : (rows : List ℕ) (a b n : ℕ) → has_arc rows a b ≡ false →
 onward_same rows a b n e = rw e refl
 
 -- what was written next is what stands first in what is left
-written : (text line new more whole : List ℕ) → new ≡ text ++ line → text ++ (line ++ more) ≡ whole → new ++ more ≡ whole
+pub written : (text line new more whole : List ℕ) → new ≡ text ++ line → text ++ (line ++ more) ≡ whole → new ++ more ≡ whole
 written text line new more whole is e = ap (λ t. t ++ more) is ∙ append_assoc text line more ∙ e
 
 -- nothing was written, and what is left is the same
-kept : (text new more less whole : List ℕ) → new ≡ text → more ≡ less → text ++ more ≡ whole → new ++ less ≡ whole
+pub kept : (text new more less whole : List ℕ) → new ≡ text → more ≡ less → text ++ more ≡ whole → new ++ less ≡ whole
 kept text new more less whole is same e = ap (λ t. t ++ less) is ∙ sym (ap (λ t. text ++ t) same) ∙ e
 
 module _ (rows : List ℕ) (a b parts : ℕ) (text new whole : List ℕ) (lt : b < parts) (so_far : text ++ flat_map arc_line (onward rows a b (parts - b)) ≡ whole) where
@@ -80,10 +80,10 @@ numbers_onward group p n = spaced (map pos (members_from p n group))
 after : (group : PartSet) (p n : ℕ) → members_from (suc p) n group ≡ members_from (p + 1) n group
 after group p n = ap (λ q. members_from q n group) (omega arith)
 
-members_more : (group : PartSet) (p n : ℕ) → set.contains group p ≡ true → members_from p (suc n) group ≡ p ∷ members_from (p + 1) n group
+pub members_more : (group : PartSet) (p n : ℕ) → set.contains group p ≡ true → members_from p (suc n) group ≡ p ∷ members_from (p + 1) n group
 members_more group p n e = let first : members_from p (suc n) group ≡ p ∷ members_from (suc p) n group = rw e refl in first ∙ ap (λ ps. p ∷ ps) (after group p n)
 
-members_same : (group : PartSet) (p n : ℕ) → set.contains group p ≡ false → members_from p (suc n) group ≡ members_from (p + 1) n group
+pub members_same : (group : PartSet) (p n : ℕ) → set.contains group p ≡ false → members_from p (suc n) group ≡ members_from (p + 1) n group
 members_same group p n e = let first : members_from p (suc n) group ≡ members_from (suc p) n group = rw e refl in first ∙ after group p n
 
 module _ (group : PartSet) (p : ℕ) (text new whole : List ℕ) (lt : p < 32) (so_far : text ++ numbers_onward group p (32 - p) ≡ whole) where

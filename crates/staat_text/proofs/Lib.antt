@@ -1,4 +1,6 @@
 pub mod PartLines
 pub mod GraphLines
 pub mod OneGraphText
+pub mod PlanLines
+pub mod PlanSteps
 mod TestParts

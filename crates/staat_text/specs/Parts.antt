@@ -1,5 +1,6 @@
 -- The text that lists the parts of an assembly.
-use Rattle.std.specs.Prelude.{◌+◌, ◌++◌, ◌∷◌, [], ℕ, List, length, slice_get, sum_by, option_map, unwrap_or, codes, decimal}
+use Rattle.std.specs.Prelude.{◌+◌, ◌++◌, ◌∷◌, [], ℕ, List, length, slice_get, sum_by}
+use Rattle.std.specs.Prelude.{option_map, unwrap_or, codes, decimal}
 use Rattle.staat_vec.specs.declared.vector.V3.{V3}
 use Rattle.staat_model.specs.declared.assembly.Part.{Part}
 
@@ -13,7 +14,9 @@ point_count pieces = sum_by length pieces
 
 -- the line of a part with this number, so many pieces and points, and this name
 abbrev pub line_of : ℕ → ℕ → ℕ → List ℕ → List ℕ
-line_of k pieces points name = codes "part " ++ decimal k ++ codes " pieces " ++ decimal pieces ++ codes " points " ++ decimal points ++ codes " name " ++ name ++ codes "\n"
+line_of k pieces points name =
+    codes "part " ++ decimal k ++ codes " pieces " ++ decimal pieces ++ codes " points " ++ decimal points
+    ++ codes " name " ++ name ++ codes "\n"
 
 -- the line of the part with number k
 abbrev pub part_line : ℕ → Part → List ℕ

@@ -1,9 +1,28 @@
 //! Laws on texts. Each is a function that does nothing, and its contract is the law.
-ghost use Rattle.std.specs.Prelude.{◌≡◌, ℕ, List};
+ghost use Rattle.std.specs.Prelude.{◌≡◌, ◌<◌, ℕ, Bool, List};
 ghost use Rattle.staat_vec.specs.declared.vector.V3.{V3 as Vector};
+ghost use Rattle.staat_model.specs.declared.assembly.Part.{Part as PartValue};
+ghost use Rattle.staat_model.specs.declared.set.PartSet.{PartSet as PartSetValue};
+ghost use Rattle.staat_model.specs.Plans.{IsGood, Plan};
+ghost use Rattle.staat_model.specs.Sets.{Has};
 ghost use Rattle.staat_text.specs.GraphTexts.{IsGraphText};
+ghost use Rattle.staat_text.specs.PlanTexts.{HasLeaves, IsPlanText};
+
+use staat_model::MOST_PARTS;
 
 /// A graph has one text at a direction.
 pub fn one_graph_text()
     ensures { (parts : ℕ) (d : Vector) (rows text other : List ℕ) → IsGraphText parts d rows text → IsGraphText parts d rows other → text ≡ other }
+{}
+
+/// A set of parts has one plan text.
+pub fn one_plan_text()
+    ensures { (robust : Bool) (parts : List PartValue) (w : PartSetValue) (text other : List ℕ)
+        → IsPlanText robust parts w text → IsPlanText robust parts w other → text ≡ other }
+{}
+
+/// A plan that takes parts of an assembly apart can be shown.
+pub fn good_plan_is_shown()
+    ensures { (parts : List PartValue) (w : PartSetValue) (plan : Plan)
+        → ((p : ℕ) → Has w p → p < MOST_PARTS) → IsGood parts w plan → HasLeaves plan }
 {}

@@ -36,7 +36,8 @@ fn line(
 // The line of the part a.
 fn part_line(alloc: Global, assembly: &Assembly, a: u32) -> Result<String, AllocError>
     requires { a < length assembly.now }
-    ensures { IfOk result (λ s. (part : PartValue) → slice_get assembly.now a ≡ Some part → string_bytes s ≡ part_line a part) }
+    ensures { IfOk result (λ s. (part : PartValue) → slice_get assembly.now a ≡ Some part
+        → string_bytes s ≡ part_line a part) }
 {
     let pieces = assembly.pieces(a);
     let points = point_count(assembly, a);

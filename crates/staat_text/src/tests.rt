@@ -1,10 +1,14 @@
 // The texts at assemblies and graphs written out by hand.
-ghost use Rattle.std.specs.Prelude.{◌≡◌, ◌≤◌, IfOk};
+ghost use Rattle.std.specs.Prelude.{◌≡◌, ◌≢◌, ◌<◌, ◌≤◌, IfOk};
+ghost use Rattle.staat_model.specs.Outcomes.{finding_of};
 ghost use Rattle.staat_model.specs.Pieces.{IsPiece};
+ghost use Rattle.staat_text.specs.PlanTexts.{CanBeShown};
 
-use crate::{graph_text, look_text, parts_text};
+use crate::{graph_text, look_text, parts_text, plan_text};
 use staat_graph::Graph;
-use staat_model::{Assembly, Part, Parts, Piece, Pieces, Points, Sound};
+use staat_model::{
+    Assembly, Kind, Marks, Outcome, Part, PartSet, Parts, Piece, Pieces, Points, Sound, Tree,
+};
 use staat_vec::{Bytes, Name, OutOfMemory, V3};
 use std::alloc::{AllocError, Global};
 use std::test::Fail;
@@ -132,5 +136,47 @@ fn arcs_among_the_parts_alone(rt: HostRuntime) -> Result<(), Fail> {
         text.as_slice(),
         b"along -2417851639229258349412352 0 -1\narc 0 2\narc 2 0\ngroup 0 2\ngroup 1\n".as_slice()
     );
+    Ok(())
+}
+
+// the plan that moves the part a away from the part b
+fn step_apart(alloc: Global, a: u32, b: u32, d: V3, marks: Vec<Kind>) -> Result<Outcome, AllocError>
+    requires a { a < 32 }
+    requires b { b < 32 }
+    requires different { a ≢ b }
+    ensures { IfOk result (λ o. CanBeShown (finding_of o)) }
+{
+    let moved = Box::new(alloc, Tree::Leaf(a))?;
+    let rest = Box::new(alloc, Tree::Leaf(b))?;
+    Ok(Outcome::Plan {
+        tree: Tree::Split { d, moved, rest },
+        marks: Marks::from_vec(marks),
+    })
+}
+
+#[test]
+fn plans(rt: HostRuntime) -> Result<(), Fail> {
+    let alloc = rt.alloc();
+    let up = V3 { x: 0, y: 0, z: 1 };
+    let plain = step_apart(alloc, 0, 1, up, Vec::new(alloc))?;
+    let text = plan_text(alloc, &plain)?;
+    assert_eq!(rt;
+        text.as_slice(),
+        b"move 0 along 0 0 1 away from 1\nmoves 1\n".as_slice()
+    );
+    let down = V3 {
+        x: -2,
+        y: -1,
+        z: -1,
+    };
+    let robust = step_apart(alloc, 31, 7, down, vec![in alloc; Kind::Open]?)?;
+    let text = plan_text(alloc, &robust)?;
+    assert_eq!(rt;
+        text.as_slice(),
+        b"move 31 along -2 -1 -1 away from 7 by open\nmoves 1\n".as_slice()
+    );
+    let stuck = Outcome::Stuck(PartSet::from_bits(0b1011));
+    let text = plan_text(alloc, &stuck)?;
+    assert_eq!(rt; text.as_slice(), b"stuck 0 1 3\n".as_slice());
     Ok(())
 }

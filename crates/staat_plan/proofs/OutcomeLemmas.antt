@@ -1,0 +1,100 @@
+-- The outcome of a set from those of its two sides.
+use Rattle.std.proofs.Common.{◌≡◌, ⊎_elim, ℕ, ◌<◌, ◌≤◌, arith, ap, sym, ◌∙◌, subst, refl, List, [], ◌++◌}
+use Rattle.std.specs.Prelude.{Option, None, Some, Result, Ok, Err, IfOk, MatchResult}
+use Rattle.std.specs.Result.{IsErrAnd}
+use Rattle.std.specs.FinSet as set
+use Rattle.std.specs.Ordering.{nat_cmp}
+use Rattle.staat_model.specs.declared.assembly.Part.{Part}
+use Rattle.staat_model.specs.declared.set.PartSet.{PartSet}
+use Rattle.staat_model.specs.declared.tree.Kind.{Kind}
+use Rattle.std.specs.Prelude.{Bool}
+use Rattle.std.specs.Option.{option_to_list}
+use Rattle.staat_plan.specs.declared.planner.Marked.{Marked}
+use Rattle.staat_model.specs.declared.tree.Tree.{Tree}
+use Rattle.staat_model.specs.declared.tree.Outcome.{Outcome}
+use Rattle.staat_model.specs.declared.tree.Outcome.TheVariants as outcome
+use Rattle.staat_model.specs.Outcomes.{IsOutcome, both_planned, finding_of, moved_stuck, no_step, one_part, planned, rest_stuck, stuck}
+use Rattle.staat_model.specs.Plans.{leaf, plan_of, split}
+use Rattle.staat_model.specs.Planes.{axes}
+use Rattle.staat_model.specs.Sets.{Has, IsNonempty, IsSide, IsSubset, single}
+use Rattle.staat_model.proofs.RestrictLemmas.{rest_within}
+use Rattle.staat_model.proofs.SetMembers.{has-difference, has-empty}
+use Rattle.staat_model.proofs.SetSizes.{one_is, one_within}
+use Rattle.staat_model.proofs.SetWords.{same_members}
+use Rattle.staat_graph.proofs.Finite.{len_fewer, len_some, nonempty_or}
+use Rattle.staat_planes.specs.declared.refusal.PlanesRefusal.{PlanesRefusal}
+use Rattle.staat_planes.specs.Refusals.{IsPlanesRefusal}
+use Rattle.staat_plan.specs.Planning.{IsOutcomeOf, Settles, IsSized, IsStepOf}
+use Rattle.staat_model.specs.Assemblies.{IsAssembly}
+use Rattle.staat_plan.proofs.Right.{right_lemma}
+use Rattle.staat_plan.proofs.Fewer.{single_planes, sub_refused}
+use Rattle.staat_plan.proofs.Opposites.{rest_some}
+
+-- a set with a member or more is not empty
+pub some_member : (w : PartSet) → 1 ≤ set.len w → IsNonempty w
+some_member w some = ⊎_elim (λ h. h)
+    (λ none. let e : set.len w ≡ 0 = ap set.len (same_members w set.empty (λ q h. absurd (none q h)) (λ q h. absurd (has-empty q h))) ∙ set.len-empty nat_cmp in absurd (omega (arith, e, some)))
+    (nonempty_or w)
+
+-- both sides have fewer parts than the set
+pub side_fewer : (w s : PartSet) → IsSide w s → set.len s < set.len w
+side_fewer w s side = let p = rest_some w s side in let t = (has-difference w s p.0).0 p.1 in len_fewer s w p.0 side.within t.0 t.1
+
+pub rest_fewer : (w s r : PartSet) → IsSide w s → r ≡ set.difference w s → set.len r < set.len w
+rest_fewer w s r side e =
+    let p = side.nonempty in
+    subst (λ (t : PartSet). set.len t < set.len w) (sym e) (len_fewer (set.difference w s) w p.0 (rest_within w s) (side.within p.0 p.1) (λ h. ((has-difference w s p.0).0 h).1 p.1))
+
+pub rest_is_some : (w s r : PartSet) → IsSide w s → r ≡ set.difference w s → IsNonempty r
+rest_is_some w s r side e = subst (λ (t : PartSet). IsNonempty t) (sym e) (rest_some w s side)
+
+pub rest_inside : (w s r : PartSet) → r ≡ set.difference w s → IsSubset r w
+rest_inside w s r e q h = rest_within w s q (subst (λ (t : PartSet). Has t q) e h)
+
+-- a part by itself
+pub leaf_found : (robust : Bool) (parts : List Part) (w : PartSet) (limit p : ℕ) (o : Outcome) → set.len w ≡ 1 → Has w p → 3 ≤ limit → finding_of o ≡ planned (leaf p) [] → IsOutcomeOf robust parts w limit o
+leaf_found robust parts w limit p o one h least e =
+    let is : w ≡ single p = one_is w p h (one_within w p h (omega (arith, one))) in
+    record {
+      few = record { planes = axes; planes_are = subst (λ (t : PartSet). Rattle.staat_model.specs.Planes.ArePlanes parts t axes) (sym is) (single_planes parts p); few = least };
+      sized = subst IsSized (sym e) tt;
+      is = subst (IsOutcome robust parts w) (sym e) (one_part is);
+    }
+
+module _ (robust : Bool) (parts : List Part) (w : PartSet) (limit : ℕ) (two : 2 ≤ set.len w) where
+  pub none_found : (found : Option Marked) → found ≡ None → IsStepOf robust parts w limit found → IsOutcomeOf robust parts w limit (outcome.Stuck w)
+  none_found found e of = let is : IsStepOf robust parts w limit None = subst (IsStepOf robust parts w limit) e of in record { few = is.few; sized = tt; is = no_step two is.step_is }
+
+  module _ (found : Marked) (of : IsStepOf robust parts w limit (Some found)) where
+    pub side_refused : (e : PlanesRefusal) → IsPlanesRefusal parts found.step.moved limit e → IsPlanesRefusal parts w limit e
+    side_refused e h = sub_refused parts w found.step.moved limit e of.few of.side.within h
+
+    pub rest_refused : (r : PartSet) (e : PlanesRefusal) → r ≡ set.difference w found.step.moved → IsPlanesRefusal parts r limit e → IsPlanesRefusal parts w limit e
+    rest_refused r e same h = sub_refused parts w r limit e of.few (rest_inside w found.step.moved r same) h
+
+    pub side_stuck : (a : PartSet) → IsOutcomeOf robust parts found.step.moved limit (outcome.Stuck a) → IsOutcomeOf robust parts w limit (outcome.Stuck a)
+    side_stuck a sub = record { few = of.few; sized = tt; is = moved_stuck two of.step_is sub.is }
+
+    pub rest_is_stuck : (r a : PartSet) (tree : Tree) (ms : List Kind) → r ≡ set.difference w found.step.moved → IsOutcomeOf robust parts found.step.moved limit (outcome.Plan tree ms) → IsOutcomeOf robust parts r limit (outcome.Stuck a) → IsOutcomeOf robust parts w limit (outcome.Stuck a)
+    rest_is_stuck r a tree ms same one sub = record { few = of.few; sized = tt; is = rest_stuck two of.step_is one.is (subst (λ (t : PartSet). IsOutcome robust parts t (stuck a)) same sub.is) }
+
+    pub both_found : (r : PartSet) (tree rest : Tree) (ms rs : List Kind) (o : Outcome) → r ≡ set.difference w found.step.moved → IsOutcomeOf robust parts found.step.moved limit (outcome.Plan tree ms) → IsOutcomeOf robust parts r limit (outcome.Plan rest rs)
+        → finding_of o ≡ planned (split found.step.d (plan_of tree) (plan_of rest)) (option_to_list found.mark ++ ms ++ rs) → IsOutcomeOf robust parts w limit o
+    both_found r tree rest ms rs o same one sub e = record {
+      few = of.few;
+      sized = subst IsSized (sym e) (of.size, one.sized, sub.sized);
+      is = subst (IsOutcome robust parts w) (sym e) (both_planned two of.step_is one.is (subst (λ (t : PartSet). IsOutcome robust parts t (planned (plan_of rest) rs)) same sub.is) refl refl);
+    }
+
+-- a set with members that has not one has two or more
+pub many_parts : (w : PartSet) (n : ℕ) → IsNonempty w → n ≡ set.len w → (n ≡ 1 → ⊥) → 2 ≤ set.len w
+many_parts w n some e other = let pos : 0 < set.len w = len_some w some.0 some.1 in omega (arith, pos, e, other)
+
+-- an error that is passed on
+pub refused : (robust : Bool) (parts : List Part) (w : PartSet) (limit : ℕ) (e : PlanesRefusal) (result : Result Outcome PlanesRefusal) → IsErrAnd result (λ x. x ≡ e) → IsPlanesRefusal parts w limit e → MatchResult result (IsOutcomeOf robust parts w limit) (IsPlanesRefusal parts w limit)
+refused robust parts w limit e (Ok o) h r = absurd h
+refused robust parts w limit e (Err x) h r = subst (IsPlanesRefusal parts w limit) (sym h) r
+
+pub right_found : (robust : Bool) (parts : List Part) (w v : PartSet) (limit : ℕ) (result : Result Outcome PlanesRefusal) → w ≡ v → IsAssembly parts → MatchResult result (IsOutcomeOf robust parts w limit) (IsPlanesRefusal parts w limit) → IfOk result (λ o. Settles parts v (finding_of o))
+right_found robust parts w v limit (Ok o) e is of = right_lemma robust parts is v (finding_of o) (subst (λ (t : PartSet). IsOutcome robust parts t (finding_of o)) e of.is)
+right_found robust parts w v limit (Err x) e is of = tt

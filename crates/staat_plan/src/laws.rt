@@ -1,0 +1,41 @@
+//! Laws on what the planner finds. Each is a function that does nothing, and its contract is the law.
+ghost use Rattle.std.specs.Prelude.{◌↔◌, ◌≤◌, All, Bool, List, length};
+ghost use Rattle.std.specs.FinSet as set;
+ghost use Rattle.staat_vec.specs.declared.vector.V3.{V3 as Vector};
+ghost use Rattle.staat_vec.specs.Vectors.{negative};
+ghost use Rattle.staat_model.specs.declared.assembly.Part.{Part as PartValue};
+ghost use Rattle.staat_model.specs.declared.set.PartSet.{PartSet as PartSetValue};
+ghost use Rattle.staat_model.specs.Assemblies.{IsAssembly};
+ghost use Rattle.staat_model.specs.Outcomes.{AreTries, Finding, IsOutcome, Serves, Try};
+ghost use Rattle.staat_model.specs.Planes.{ArePlanes};
+ghost use Rattle.staat_model.specs.Plans.{IsStuck};
+ghost use Rattle.staat_model.specs.Sets.{IsSubset};
+ghost use Rattle.staat_plan.specs.Planning.{Settles};
+
+/// Some side of a set is free of the rest along a direction exactly where one is along the opposite direction.
+pub fn opposite_serves()
+    ensures { (parts : List PartValue) (w : PartSetValue) (d : Vector)
+        → Serves parts w (negative d) ↔ Serves parts w d }
+{}
+
+/// A smaller set has no more planes.
+pub fn fewer_planes()
+    ensures { (parts : List PartValue) (w v : PartSetValue) (ps qs : List Vector)
+        → IsSubset w v → ArePlanes parts w ps → ArePlanes parts v qs → length ps ≤ length qs }
+{}
+
+/// The plan of an outcome takes the set apart, and the set that an outcome names as stuck is stuck; of robust plans,
+/// too.
+pub fn outcomes_are_right()
+    ensures { (robust : Bool) (parts : List PartValue) (w : PartSetValue) (f : Finding)
+        → IsAssembly parts → IsOutcome robust parts w f → Settles parts w f }
+{}
+
+/// The directions that are tried decide, in a plan that is not robust and in a robust one: a set of at least two parts
+/// is stuck exactly where none of them serves it. So where no vertex serves a set, no representative of a cell does,
+/// and the other way.
+pub fn tries_decide()
+    ensures { (robust : Bool) (parts : List PartValue) (w : PartSetValue) (tries : List Try)
+        → IsAssembly parts → 2 ≤ set.len w → AreTries robust parts w tries
+        → IsStuck parts w ↔ All (λ t. Serves parts w t.d → ⊥) tries }
+{}
