@@ -2,10 +2,7 @@
 #![tactic(auto)]
 
 mod build;
-mod facet_lists;
 mod graph;
-mod numbering;
-mod planes;
 mod refusal;
 mod steps;
 mod table;

@@ -12,7 +12,7 @@ use Rattle.staat_vec.specs.Vectors.{negative, vector_cmp}
 use Rattle.staat_vec.proofs.Canons.{canon-either, negative-negative}
 use Rattle.staat_vec.proofs.Unique.{Contains-cases, Contains-front, Contains-later, Contains-nothing}
 use Rattle.staat_vec.proofs.VectorOrder.{vector_total}
-use Rattle.staat_planes.specs.Tables.{AreTableFacets, IsTableFacet}
+use Rattle.staat_pairs.specs.Tables.{AreTableFacets, IsTableFacet}
 
 -- the list without one place of x
 without : (ys : List V3) (x : V3) → Contains ys x → (zs : List V3) × (length ys ≡ suc (length zs)) × ((y : V3) → Contains ys y → (y ≡ x) ⊎ Contains zs y)

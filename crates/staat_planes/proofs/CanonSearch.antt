@@ -5,7 +5,7 @@ use Rattle.staat_vec.specs.declared.vector.V3.{V3}
 use Rattle.staat_vec.specs.Primitives.{IsCanon, canon}
 use Rattle.staat_vec.specs.Vectors.{negative}
 use Rattle.staat_vec.proofs.Canons.{canon-either, canon-only, negative-negative}
-use Rattle.staat_planes.specs.Searches.{IsCanonOf}
+use Rattle.staat_pairs.specs.Searches.{IsCanonOf}
 
 canon_is : (f n : V3) → IsCanon n → (f ≡ n) ⊎ (f ≡ negative n) → n ≡ canon f
 canon_is f n h (inl e) = canon-only f n h (inl (sym e))
