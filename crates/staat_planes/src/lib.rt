@@ -14,6 +14,4 @@ pub use steps::Steps;
 pub use table::{LEAST_PLANES, MOST_PLANES, PlaneTable};
 
 #[cfg(test)]
-mod samples;
-#[cfg(test)]
 mod tests;
