@@ -13,6 +13,8 @@ use Rattle.staat_model.specs.Meeting.{Meets}
 use Rattle.staat_model.specs.Removal.{MeetsAlong}
 use Rattle.staat_model.specs.Sets.{Has}
 use Rattle.staat_model.proofs.GraphLemmas.{piece_is}
+use Rattle.staat_model.proofs.Places.{same_some}
+use Rattle.staat_model.proofs.PlanLemmas.{there_is}
 use Rattle.std.specs.Int.{bit_at}
 use Rattle.std.proofs.lemmas.List.{get_or_past}
 use Rattle.std.proofs.lemmas.Nat.Bits.{bit_at-zero}
@@ -21,20 +23,8 @@ use Rattle.staat_graph.specs.Graphs.{HasArc}
 use Rattle.staat_graph.proofs.Arcs.{row_set}
 use Rattle.staat_model.specs.declared.set.PartSet.{PartSet}
 use Rattle.staat_cone.proofs.Ends.{meets_by_list}
-use Rattle.staat_planes.specs.Tables.{BlocksIn, IsAcross, IsAhead, IsTable, Table, WasMadeFrom, facets_of}
-
-pub there_is : (parts : List Part) (a i : ℕ) (p : List V3) → piece_at parts a i ≡ Some p → i < piece_count parts a
-there_is parts a i p e =
-    option_and_then_some {P = i < piece_count parts a} (λ part. slice_get part.pieces i) (slice_get parts a) p e
-    (λ part at inside. subst (λ o. i < unwrap_or (option_map (λ part. length part.pieces) o) 0) (sym at) (slice_get_within part.pieces i p inside))
-
-pub part_there : (parts : List Part) (a i : ℕ) (p : List V3) → piece_at parts a i ≡ Some p → a < length parts
-part_there parts a i p e =
-    option_and_then_some {P = a < length parts} (λ part. slice_get part.pieces i) (slice_get parts a) p e
-    (λ part found inside. slice_get_within parts a part found)
-
-same_some : (p q : List V3) → Some p ≡ Some q → p ≡ q
-same_some p q e = cc
+use Rattle.staat_pairs.specs.Tables.{IsTableArc, IsTable, Table, WasMadeFrom, facets_of}
+use Rattle.staat_planes.specs.Tables.{BlocksIn, IsAhead}
 
 -- the two pieces of an arc meet exactly where d leads ahead of their facets
 pub meets_at : (parts : List Part) (t : Table) (d : V3) (arc : Arc) → IsAssembly parts → HoldsAt parts arc (λ p q. Lists vector_cmp (IsFacet p q) (facets_of t arc)) → MeetsAlong parts d arc ↔ All (λ n. pos 0 <ℤ dot n d) (facets_of t arc)
@@ -63,7 +53,7 @@ ahead_is_blocking parts t d a b made = (
       let block = h.blocks in
       let m = block.meets in
       let arc : Arc = record { a = a; i = block.i; b = b; j = block.j } in
-      let across : IsAcross t arc = record {
+      let across : IsTableArc t arc = record {
         a_in = h.a_in;
         b_in = h.b_in;
         different = block.different;

@@ -1,13 +1,6 @@
-pub mod CutLemmas
-pub mod Turning
-pub mod TableLemmas
-pub mod Counting
-pub mod PlaneSearch
+pub mod FacetCounts
+pub mod CanonSearch
 pub mod GraphLaw
 pub mod NotFound
 pub mod UsedLaw
-pub mod Numbers
-pub mod Collecting
-pub mod SlotLists
-pub mod CountLemmas
-pub mod Making
+pub mod BuildLemmas

@@ -18,91 +18,13 @@ use Rattle.staat_model.specs.Planes.{ArePlanes, IsFacetPlane, axes}
 use Rattle.staat_model.specs.Sets.{Has, IsSubset}
 use Rattle.staat_model.proofs.GraphLemmas.{axis_in, plane_in}
 use Rattle.staat_model.proofs.Reversed.{opposite_facets_lemma}
-use Rattle.staat_planes.specs.Searches.{HasPlane, arc_of}
-use Rattle.staat_planes.specs.Tables.{IsAcross, IsPlaneOf, Table, WasMadeFrom, back, facets_of, pieces_of}
-use Rattle.staat_planes.proofs.GraphLaw.{there_is}
+use Rattle.staat_pairs.specs.Searches.{HasPlane, arc_of}
+use Rattle.staat_pairs.specs.Tables.{IsTableArc, Table, WasMadeFrom, back, facets_of, pieces_of}
+use Rattle.staat_planes.specs.Tables.{IsPlaneOf}
+use Rattle.staat_pairs.proofs.SearchLemmas.{HasFacetsOf, facet_planes}
 
-same_some : (p q : List V3) → Some p ≡ Some q → p ≡ q
-same_some p q e = cc
-
-ways : (a b : ℕ) → a ≢ b → (a < b) ⊎ (b < a)
-ways a b ne = grind arith
-
--- a facet plane, seen from the lesser part
-abbrev Ordered : List Part → PartSet → V3 → Type 0
-Ordered parts w n = (plane : IsFacetPlane parts w n) × (plane.arc.a < plane.arc.b)
-
-ordered : (parts : List Part) (w : PartSet) (n : V3) → IsFacetPlane parts w n → Ordered parts w n
-ordered parts w n plane = elim (ways plane.arc.a plane.arc.b plane.different) [
-  | inl lt ↦ (plane, lt)
-  | inr gt ↦
-      let h = plane.holds in (
-        record {
-          arc = back plane.arc;
-          facet = negative plane.facet;
-          a_in = plane.b_in;
-          b_in = plane.a_in;
-          different = λ e. plane.different (sym e);
-          holds = record { p = h.q; q = h.p; p_is = h.q_is; q_is = h.p_is; holds = (opposite_facets_lemma h.p h.q plane.facet).0 h.holds };
-          is = plane.is ∙ sym (canon-negative plane.facet (IsPrimitive-some plane.facet h.holds.primitive));
-        },
-        gt,
-      )
-]
-
--- the numbers of pieces and the lists of facets are those of the parts
-pub record HasFacetsOf (parts : List Part) (t : Table) : Type 0 where
-  pub pieces : (a : ℕ) → Has t.of a → pieces_of t a ≡ piece_count parts a
-  pub facets : (arc : Arc) → IsAcross t arc → HoldsAt parts arc (λ p q. Lists vector_cmp (IsFacet p q) (facets_of t arc))
-
-pub facets_from : (parts : List Part) (t : Table) → WasMadeFrom parts t → HasFacetsOf parts t
+facets_from : (parts : List Part) (t : Table) → WasMadeFrom parts t → HasFacetsOf parts t
 facets_from parts t made = record { pieces = made.pieces; facets = made.facets }
-
-module _ (parts : List Part) (t : Table) (w : PartSet) (within : IsSubset w t.of) (has : HasFacetsOf parts t) where
-  found_plane : (n : V3) → HasPlane t w n → IsFacetPlane parts w n
-  found_plane n h =
-      let g = h.greater in
-      let from = g.between.from in
-      let arc : Arc = arc_of h.a g.between.i g.b from.j in
-      let at = has.facets arc from.across in
-      record {
-        arc = arc;
-        facet = from.plane.facet;
-        a_in = h.a_in;
-        b_in = g.b_in;
-        different = from.across.different;
-        holds = record { p = at.p; q = at.q; p_is = at.p_is; q_is = at.q_is; holds = at.holds.each from.plane.facet from.plane.listed };
-        is = from.plane.is;
-      }
-
-  plane_found : (n : V3) → Ordered parts w n → HasPlane t w n
-  plane_found n (plane, lt) =
-      let arc : Arc = plane.arc in
-      let h = plane.holds in
-      let across : IsAcross t arc = record {
-        a_in = within arc.a plane.a_in;
-        b_in = within arc.b plane.b_in;
-        different = plane.different;
-        i_is = subst (λ m. arc.i < m) (sym (has.pieces arc.a (within arc.a plane.a_in))) (there_is parts arc.a arc.i h.p h.p_is);
-        j_is = subst (λ m. arc.j < m) (sym (has.pieces arc.b (within arc.b plane.b_in))) (there_is parts arc.b arc.j h.q h.q_is);
-      } in
-      let at = has.facets arc across in
-      let first : h.p ≡ at.p = same_some h.p at.p (sym h.p_is ∙ at.p_is) in
-      let second : h.q ≡ at.q = same_some h.q at.q (sym h.q_is ∙ at.q_is) in
-      let facet : IsFacet at.p at.q plane.facet = subst (λ p. IsFacet p at.q plane.facet) first (subst (λ q. IsFacet h.p q plane.facet) second h.holds) in
-      record {
-        a = arc.a;
-        a_in = plane.a_in;
-        greater = record {
-          b = arc.b;
-          b_in = plane.b_in;
-          order = lt;
-          between = record { i = arc.i; from = record { j = arc.j; across = across; plane = record { facet = plane.facet; listed = at.holds.all plane.facet facet; is = plane.is } } };
-        };
-      }
-
-  pub facet_planes : (n : V3) → HasPlane t w n ↔ IsFacetPlane parts w n
-  facet_planes n = (found_plane n, λ plane. plane_found n (ordered parts w n plane))
 
 -- ---- by the place in the table
 

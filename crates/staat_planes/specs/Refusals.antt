@@ -4,14 +4,13 @@ use Rattle.staat_vec.specs.declared.vector.V3.{V3}
 use Rattle.staat_model.specs.declared.assembly.Part.{Part}
 use Rattle.staat_model.specs.declared.set.PartSet.{PartSet}
 use Rattle.staat_model.specs.Planes.{ArePlanes}
+use Rattle.staat_pairs.specs.Tables.{IsTableOf, Table}
 use Rattle.staat_planes.specs.declared.refusal.PlanesRefusal.{PlanesRefusal}
 use Rattle.staat_planes.specs.declared.refusal.PlanesRefusal.TheVariants.{TooManyPlanes, OutOfMemory}
-use Rattle.staat_planes.specs.Tables.{Table, WasMadeFrom}
 
 -- a table of the parts of w, with no more planes than the limit
-pub record IsTableOf (parts : List Part) (w : PartSet) (limit : ℕ) (t : Table) : Type 0 where
-  pub set : t.of ≡ w
-  pub made : WasMadeFrom parts t
+pub record IsTableWithin (parts : List Part) (w : PartSet) (limit : ℕ) (t : Table) : Type 0 where
+  pub table : IsTableOf parts w t
   pub few : length t.planes ≤ limit
 
 -- the parts of w have so many planes, and that is more than the limit

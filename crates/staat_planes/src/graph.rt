@@ -5,20 +5,24 @@ ghost use Rattle.staat_model.specs.declared.assembly.Part.{Part as PartValue};
 ghost use Rattle.staat_model.specs.Sets.{Has};
 ghost use Rattle.staat_graph.specs.Blocking.{ShowsBlocking};
 ghost use Rattle.staat_graph.specs.Graphs.{HasArc};
-ghost use Rattle.staat_planes.specs.Tables.{BlocksIn, IsAcross, IsAhead, WasMadeFrom, facets_of, pieces_of};
-ghost use Rattle.staat_planes.specs.Searches.{IsAheadFrom};
+ghost use Rattle.staat_pairs.specs.Tables.{IsTableArc, WasMadeFrom, facets_of, pieces_of};
+ghost use Rattle.staat_planes.specs.Tables.{BlocksIn, IsAhead, IsAheadFrom};
 
-use crate::table::{PlaneTable, back};
+use crate::table::PlaneTable;
 use staat_cone::blocks;
 use staat_graph::Graph;
 use staat_model::{Arc, MOST_PARTS, PartSet};
+use staat_pairs::back;
 use staat_vec::{DIRECTION, V3, neg};
 
 impl PlaneTable {
-    /// Whether `d` leads ahead of all facets of two pieces.
-    // of those in the other order, which are the negatives, it does so where -d does of these
+    /// Whether `d` leads ahead of all facets of an ordered pair of pieces of different parts of the set.
+    ///
+    /// The components of `d` are at most [`DIRECTION`] in absolute value. The search ends at the first facet that it
+    /// does not lead ahead of.
+    // of the facets in the other order, which are the negatives, d leads ahead where -d does of these
     pub fn leads_ahead(&self, arc: Arc, d: V3) -> bool
-        requires across { IsAcross self.now arc }
+        requires across { IsTableArc self.now arc }
         requires direction { IsWithin DIRECTION d }
         ensures { IsTrue result ↔ All (λ n. pos 0 <ℤ dot n d) (facets_of self.now arc) }
     {

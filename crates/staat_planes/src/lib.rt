@@ -2,10 +2,7 @@
 #![tactic(auto)]
 
 mod build;
-mod facet_lists;
 mod graph;
-mod numbering;
-mod planes;
 mod refusal;
 mod steps;
 mod table;
@@ -16,7 +13,5 @@ pub use refusal::PlanesRefusal;
 pub use steps::Steps;
 pub use table::{LEAST_PLANES, MOST_PLANES, PlaneTable};
 
-#[cfg(test)]
-mod samples;
 #[cfg(test)]
 mod tests;

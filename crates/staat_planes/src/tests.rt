@@ -2,13 +2,14 @@
 ghost use Rattle.std.specs.Prelude.{◌≡◌, ◌≢◌, ◌<◌, ◌≤◌, IsTrue};
 ghost use Rattle.staat_vec.specs.Vectors.{IsWithin};
 ghost use Rattle.staat_model.specs.Sets.{Has};
-ghost use Rattle.staat_planes.specs.Tables.{IsAcross};
+ghost use Rattle.staat_pairs.specs.Tables.{IsTableArc};
 
-use crate::samples::{assembly_of, at, boxed, part_of, prism, sound_of};
 use crate::{LEAST_PLANES, MOST_PLANES, PlaneTable, PlanesRefusal, Steps, tabulate};
+use staat_asm::build;
 use staat_cone::Plain;
 use staat_graph::{strong_parts, trees_of};
 use staat_model::{Arc, MOST_PARTS, Part, PartSet, Sound};
+use staat_samples::{assembly_of, at, boxes, prisms};
 use staat_vec::{DIRECTION, OutOfMemory, Sign, V3};
 use std::alloc::Global;
 use std::marker::Brand;
@@ -55,28 +56,19 @@ const BELOW: (V3, V3) = (
 // a lid above the cube
 const LID: [(V3, V3); 1] = [(V3 { x: 0, y: 0, z: 2 }, V3 { x: 2, y: 2, z: 3 })];
 
-// the part of boxes between these corners
-fn boxes(alloc: Global, corners: &[(V3, V3)]) -> Result<Part, Fail> {
-    let mut pieces = Vec::new(alloc);
-    for (low, high) in corners {
-        pieces.push(boxed(alloc, *low, *high)?.ok_or("a box")?)?;
-    }
-    Ok(part_of(alloc, pieces))
-}
-
-// the part of prisms over these quadrilaterals
-fn prisms(alloc: Global, bases: &[[(i128, i128); 4]]) -> Result<Part, Fail> {
-    let mut pieces = Vec::new(alloc);
-    for base in bases {
-        pieces.push(prism(alloc, *base)?.ok_or("a prism")?)?;
-    }
-    Ok(part_of(alloc, pieces))
-}
-
 fn sound(alloc: Global, parts: Vec<Part>) -> Result<Sound, Fail> {
     let parts = assembly_of(parts).ok_or("an assembly")?;
-    let sound = sound_of(alloc, parts)?.ok_or("a sound one")?;
-    Ok(sound)
+    Ok(build(alloc, &Plain, parts)?)
+}
+
+fn boxes_of(alloc: Global, corners: &[(V3, V3)]) -> Result<Part, Fail> {
+    let part = boxes(alloc, corners)?.ok_or("boxes")?;
+    Ok(part)
+}
+
+fn prisms_of(alloc: Global, bases: &[[(i128, i128); 4]]) -> Result<Part, Fail> {
+    let part = prisms(alloc, bases)?.ok_or("prisms")?;
+    Ok(part)
 }
 
 // the table of all parts
@@ -104,7 +96,7 @@ fn has_parts(table: &PlaneTable, a: u32, b: u32) -> bool
 }
 
 fn is_across(table: &PlaneTable, arc: Arc) -> bool
-    ensures { IsTrue result → IsAcross table.now arc }
+    ensures { IsTrue result → IsTableArc table.now arc }
 {
     if !has_parts(table, arc.a, arc.b) {
         return false;
@@ -143,8 +135,8 @@ fn signs<L: Ledger>(
 }
 
 fn dovetail(alloc: Global) -> Result<Sound, Fail> {
-    let tail = prisms(alloc, &[[(-2, 0), (2, 0), (1, 2), (-1, 2)]])?;
-    let socket = prisms(
+    let tail = prisms_of(alloc, &[[(-2, 0), (2, 0), (1, 2), (-1, 2)]])?;
+    let socket = prisms_of(
         alloc,
         &[
             [(-4, -1), (4, -1), (4, 0), (-4, 0)],
@@ -198,8 +190,8 @@ fn planes_of_a_dovetail(rt: HostRuntime) -> Result<(), Fail> {
 #[test]
 fn graph_of_a_closed_box(rt: HostRuntime) -> Result<(), Fail> {
     let alloc = rt.alloc();
-    let cube = boxes(alloc, &CUBE)?;
-    let walls = boxes(alloc, &[RIGHT, LEFT, BEHIND, BEFORE, ABOVE, BELOW])?;
+    let cube = boxes_of(alloc, &CUBE)?;
+    let walls = boxes_of(alloc, &[RIGHT, LEFT, BEHIND, BEFORE, ABOVE, BELOW])?;
     let parts = sound(alloc, Vec::from_array(alloc, [cube, walls])?)?;
     let table = table_of(alloc, &parts, 1024)?;
     assert_eq!(rt; table.len(), 3);
@@ -218,9 +210,9 @@ fn graph_of_a_closed_box(rt: HostRuntime) -> Result<(), Fail> {
 
 // the cube in a box that is open above, with a lid on it
 fn box_with_lid(alloc: Global) -> Result<Sound, Fail> {
-    let cube = boxes(alloc, &CUBE)?;
-    let walls = boxes(alloc, &[RIGHT, LEFT, BEHIND, BEFORE, BELOW])?;
-    let lid = boxes(alloc, &LID)?;
+    let cube = boxes_of(alloc, &CUBE)?;
+    let walls = boxes_of(alloc, &[RIGHT, LEFT, BEHIND, BEFORE, BELOW])?;
+    let lid = boxes_of(alloc, &LID)?;
     sound(alloc, Vec::from_array(alloc, [cube, walls, lid])?)
 }
 

@@ -6,8 +6,9 @@ ghost use Rattle.staat_vec.specs.Vectors.{IsWithin, negative};
 ghost use Rattle.staat_model.specs.declared.assembly.Part.{Part as PartValue};
 ghost use Rattle.staat_model.specs.Planes.{ArePlanes};
 ghost use Rattle.staat_model.specs.Sets.{Has, IsSubset};
-ghost use Rattle.staat_planes.specs.Tables.{IsPlaneNormal, IsPlaneOf, WasMadeFrom, pieces_of};
-ghost use Rattle.staat_planes.specs.Searches.{HasPlane, HasPlaneBetween, HasPlaneFrom, HasPlaneOf, IsCanonOf};
+ghost use Rattle.staat_pairs.specs.Searches.{HasPlane, HasPlaneBetween, HasPlaneFrom, HasPlaneOf, IsCanonOf};
+ghost use Rattle.staat_pairs.specs.Tables.{IsPlaneNormal, WasMadeFrom, pieces_of};
+ghost use Rattle.staat_planes.specs.Tables.{IsPlaneOf};
 
 use crate::table::{LEAST_PLANES, PlaneTable};
 use staat_model::{Arc, MOST_PARTS, PartSet};

@@ -1,4 +1,4 @@
-use Rattle.staat_planes.proofs.PlaneSearch.{canon_any}
+use Rattle.staat_planes.proofs.CanonSearch.{canon_any}
 use Rattle.staat_planes.proofs.used.has_plane.Goals as goal
 
 pub returns : goal.returns

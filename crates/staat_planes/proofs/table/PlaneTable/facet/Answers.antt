@@ -3,15 +3,15 @@ use Rattle.std.specs.Prelude.{slice_get}
 use Rattle.std.proofs.lemmas.List.Elements.{All-contains}
 use Rattle.std.proofs.lemmas.Option.{slice_get-get_or}
 use Rattle.staat_model.proofs.Places.{Contains-from_place}
-use Rattle.staat_planes.specs.Tables.{AreTableFacets, IsTableFacet, facets_of, turned}
-use Rattle.staat_planes.proofs.TableLemmas.{facets_turned}
-use Rattle.staat_planes.proofs.Turning.{length-turned}
+use Rattle.staat_pairs.specs.Tables.{AreTableFacets, IsTableFacet, facets_of, reversed_facets}
+use Rattle.staat_pairs.proofs.TableLemmas.{facets_reversed}
+use Rattle.staat_pairs.proofs.ReversedFacets.{length-reversed}
 use Rattle.staat_planes.proofs.table.PlaneTable.facet.Goals as goal
 
-pub turned_at-requires-clause-place : goal.turned_at-requires-clause-place
-turned_at-requires-clause-place c =
-    let is : facets_of c.args.self.now c.args.arc ≡ turned c.kept_facets-else-arc.result.now = facets_turned c.args.self.now c.args.arc c.back.result c.kept_facets-else-arc.result.now c.requires.across c.if-arc.false c.back.ensures c.kept_facets-else-arc.ensures.is in
-    subst (λ n. c.args.m < n) (ap length is ∙ length-turned c.kept_facets-else-arc.result.now) c.requires.place
+pub reversed_at-requires-clause-place : goal.reversed_at-requires-clause-place
+reversed_at-requires-clause-place c =
+    let is : facets_of c.args.self.now c.args.arc ≡ reversed_facets c.kept_facets-else-arc.result.now = facets_reversed c.args.self.now c.args.arc c.back.result c.kept_facets-else-arc.result.now c.requires.across c.if-arc.false c.back.ensures c.kept_facets-else-arc.ensures.is in
+    subst (λ n. c.args.m < n) (ap length is ∙ length-reversed c.kept_facets-else-arc.result.now) c.requires.place
 
 pub returns-then-arc-clause-is : goal.returns-then-arc-clause-is
 returns-then-arc-clause-is c =
@@ -20,10 +20,10 @@ returns-then-arc-clause-is c =
 
 pub returns-else-arc-clause-is : goal.returns-else-arc-clause-is
 returns-else-arc-clause-is c =
-    let is : facets_of c.args.self.now c.args.arc ≡ turned c.kept_facets-else-arc.result.now = facets_turned c.args.self.now c.args.arc c.back.result c.kept_facets-else-arc.result.now c.requires.across c.if-arc.false c.back.ensures c.kept_facets-else-arc.ensures.is in
-    ap (λ l. slice_get l c.args.m) is ∙ c.turned_at.ensures
+    let is : facets_of c.args.self.now c.args.arc ≡ reversed_facets c.kept_facets-else-arc.result.now = facets_reversed c.args.self.now c.args.arc c.back.result c.kept_facets-else-arc.result.now c.requires.across c.if-arc.false c.back.ensures c.kept_facets-else-arc.ensures.is in
+    ap (λ l. slice_get l c.args.m) is ∙ c.reversed_at.ensures
 
 pub returns-else-arc-clause-rules : goal.returns-else-arc-clause-rules
 returns-else-arc-clause-rules c =
     let rules : AreTableFacets c.args.self.now.planes (facets_of c.args.self.now c.args.arc) = c.kept_facets-else-arc.ensures.table.facets c.args.arc c.requires.across in
-    All-contains (IsTableFacet c.args.self.now.planes) (facets_of c.args.self.now c.args.arc) c.turned_at.result rules.each (Contains-from_place (facets_of c.args.self.now c.args.arc) c.args.m c.turned_at.result (returns-else-arc-clause-is c))
+    All-contains (IsTableFacet c.args.self.now.planes) (facets_of c.args.self.now c.args.arc) c.reversed_at.result rules.each (Contains-from_place (facets_of c.args.self.now c.args.arc) c.args.m c.reversed_at.result (returns-else-arc-clause-is c))

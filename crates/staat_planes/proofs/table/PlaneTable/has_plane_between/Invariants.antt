@@ -1,5 +1,5 @@
 use Rattle.std.proofs.Common.{ℕ, ◌<◌}
-use Rattle.staat_planes.specs.Searches.{HasPlaneFrom}
+use Rattle.staat_pairs.specs.Searches.{HasPlaneFrom}
 use Rattle.staat_planes.proofs.table.PlaneTable.has_plane_between.Given as goal
 
 abbrev pub invariant-loop-i : goal.invariant-loop-i

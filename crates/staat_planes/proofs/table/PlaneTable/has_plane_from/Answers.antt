@@ -1,6 +1,6 @@
 use Rattle.std.proofs.Common.{◌<◌, arith}
-use Rattle.staat_planes.specs.Tables.{pieces_of}
-use Rattle.staat_planes.specs.Searches.{HasPlaneFrom}
+use Rattle.staat_pairs.specs.Tables.{pieces_of}
+use Rattle.staat_pairs.specs.Searches.{HasPlaneFrom}
 use Rattle.staat_planes.proofs.NotFound.{not_found}
 use Rattle.staat_planes.proofs.table.PlaneTable.has_plane_from.Goals as goal
 

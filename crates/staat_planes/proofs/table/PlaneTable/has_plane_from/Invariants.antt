@@ -1,6 +1,6 @@
 use Rattle.std.proofs.Common.{ℕ, ◌<◌}
-use Rattle.staat_planes.specs.Searches.{IsCanonOf, arc_of}
-use Rattle.staat_planes.specs.Tables.{facets_of}
+use Rattle.staat_pairs.specs.Searches.{IsCanonOf, arc_of}
+use Rattle.staat_pairs.specs.Tables.{facets_of}
 use Rattle.staat_planes.proofs.table.PlaneTable.has_plane_from.Given as goal
 
 abbrev pub invariant-loop-j : goal.invariant-loop-j

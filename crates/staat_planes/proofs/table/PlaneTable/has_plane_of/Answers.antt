@@ -1,5 +1,5 @@
 use Rattle.std.proofs.Common.{◌<◌, arith}
-use Rattle.staat_planes.specs.Searches.{HasPlaneOf}
+use Rattle.staat_pairs.specs.Searches.{HasPlaneOf}
 use Rattle.staat_planes.proofs.NotFound.{not_found}
 use Rattle.staat_planes.proofs.table.PlaneTable.has_plane_of.Goals as goal
 

@@ -1,6 +1,6 @@
 use Rattle.std.proofs.Common.{ℕ, ◌<◌}
 use Rattle.staat_model.specs.Sets.{Has}
-use Rattle.staat_planes.specs.Searches.{HasPlaneBetween}
+use Rattle.staat_pairs.specs.Searches.{HasPlaneBetween}
 use Rattle.staat_planes.proofs.table.PlaneTable.has_plane_of.Given as goal
 
 abbrev pub invariant-loop-b : goal.invariant-loop-b

@@ -1,5 +1,6 @@
 use Rattle.std.proofs.Common.{◌<◌, arith}
-use Rattle.staat_planes.specs.Tables.{IsAhead, pieces_of}
+use Rattle.staat_pairs.specs.Tables.{pieces_of}
+use Rattle.staat_planes.specs.Tables.{IsAhead}
 use Rattle.staat_planes.proofs.NotFound.{not_found}
 use Rattle.staat_planes.proofs.table.PlaneTable.leads_between.Goals as goal
 

@@ -1,5 +1,5 @@
 use Rattle.std.proofs.Common.{ℕ, ◌<◌}
-use Rattle.staat_planes.specs.Searches.{IsAheadFrom}
+use Rattle.staat_planes.specs.Tables.{IsAheadFrom}
 use Rattle.staat_planes.proofs.table.PlaneTable.leads_between.Given as goal
 
 abbrev pub invariant-loop-i : goal.invariant-loop-i

@@ -1,6 +1,6 @@
 use Rattle.std.proofs.Common.{◌<◌, arith, below_more}
-use Rattle.staat_planes.specs.Tables.{pieces_of}
-use Rattle.staat_planes.specs.Searches.{IsAheadFrom}
+use Rattle.staat_pairs.specs.Tables.{pieces_of}
+use Rattle.staat_planes.specs.Tables.{IsAheadFrom}
 use Rattle.staat_planes.proofs.NotFound.{no_more, not_found}
 use Rattle.staat_planes.proofs.table.PlaneTable.leads_from.Goals as goal
 

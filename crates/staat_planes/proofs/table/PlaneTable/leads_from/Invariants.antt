@@ -1,7 +1,7 @@
 use Rattle.std.proofs.Common.{ℕ, ◌<◌, All, pos, ◌<ℤ◌}
 use Rattle.staat_vec.specs.Vectors.{dot}
-use Rattle.staat_planes.specs.Searches.{arc_of}
-use Rattle.staat_planes.specs.Tables.{facets_of}
+use Rattle.staat_pairs.specs.Searches.{arc_of}
+use Rattle.staat_pairs.specs.Tables.{facets_of}
 use Rattle.staat_planes.proofs.table.PlaneTable.leads_from.Given as goal
 
 abbrev pub invariant-loop-j : goal.invariant-loop-j

@@ -1,7 +1,7 @@
 use Rattle.std.proofs.Common.{rules, ◌≡◌, ◌↔◌, subst}
 use Rattle.std.specs.Prelude.{IsTrue}
 use Rattle.staat_model.proofs.Places.{one_at_place}
-use Rattle.staat_planes.specs.Searches.{HasPlane}
+use Rattle.staat_pairs.specs.Searches.{HasPlane}
 use Rattle.staat_planes.proofs.UsedLaw.{axis_used, listed_used, other_used}
 use Rattle.staat_planes.proofs.table.PlaneTable.used.Goals as goal
 
