@@ -229,7 +229,7 @@ zero_low : (a : ℤ) → a ≡ pos 0 → a ≤ℤ pos 0
 zero_low a e = omega (arith, ints)
 
 -- a crossing lies on both its planes
-on_left : (g h w : V3) → cross g h ≢ origin → IsSame w (primitive (cross g h)) → dot g w ≡ pos 0
+pub on_left : (g h w : V3) → cross g h ≢ origin → IsSame w (primitive (cross g h)) → dot g w ≡ pos 0
 on_left g h w some same =
     let p = primitive-is (cross g h) some in
     let flat : dot g (primitive (cross g h)) ≡ pos 0 = cancel_zero p.factor (dot g (primitive (cross g h))) p.positive (sym (dot_multiple g (cross g h) (primitive (cross g h)) p.factor p.multiple) ∙ dot_cross_left g h) in
@@ -239,7 +239,7 @@ on_left g h w some same =
     by_same g f flat (inl e) = ap (dot g) e ∙ flat
     by_same g f flat (inr e) = opposite_zero (dot g w) (dot g f) (ap (dot g) e ∙ dot_negative g f) flat
 
-on_right : (g h w : V3) → cross g h ≢ origin → IsSame w (primitive (cross g h)) → dot h w ≡ pos 0
+pub on_right : (g h w : V3) → cross g h ≢ origin → IsSame w (primitive (cross g h)) → dot h w ≡ pos 0
 on_right g h w some same =
     let p = primitive-is (cross g h) some in
     let flat : dot h (primitive (cross g h)) ≡ pos 0 = cancel_zero p.factor (dot h (primitive (cross g h))) p.positive (sym (dot_multiple h (cross g h) (primitive (cross g h)) p.factor p.multiple) ∙ dot_cross_right g h) in

@@ -48,3 +48,7 @@ pub mod Examples
 pub mod CellExamples
 mod VersionExamples
 pub mod PointLemmas
+pub mod Decisions
+pub mod Listings
+pub mod SomePlanes
+pub mod SomeVerdict

@@ -18,7 +18,7 @@ use crate::limits::{
 };
 pub use crate::one_laws::{
     no_reason_if_valid, one_certificate, one_outcome, one_reading, one_reason, one_spelling,
-    one_verdict,
+    one_verdict, some_verdict,
 };
 pub use crate::piece_laws::{
     blocked_by_facets, facets_from_differences, facets_of_differences, opposite_facets,

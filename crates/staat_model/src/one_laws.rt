@@ -1,5 +1,5 @@
 // Laws that what is defined is one alone. Each is a function that does nothing, and its contract is the law.
-ghost use Rattle.std.specs.Prelude.{◌≡◌, ℕ, Bool, List};
+ghost use Rattle.std.specs.Prelude.{◌≡◌, ◌⊎◌, ℕ, Bool, List};
 ghost use Rattle.staat_model.specs.declared.assembly.Part.{Part as PartValue};
 ghost use Rattle.staat_model.specs.declared.certificate.Certificate.{Certificate as CertificateValue};
 ghost use Rattle.staat_model.specs.declared.set.PartSet.{PartSet as PartSetValue};
@@ -9,7 +9,7 @@ ghost use Rattle.staat_model.specs.Certificates.{IsValidPlan, IsValidRefusal};
 ghost use Rattle.staat_model.specs.Certify.{IsCertificateOf};
 ghost use Rattle.staat_model.specs.Outcomes.{Finding, IsOutcome};
 ghost use Rattle.staat_model.specs.Reasons.{IsReason, IsVerdict};
-ghost use Rattle.staat_model.specs.Texts.{IsReading, IsTextOf, Reading};
+ghost use Rattle.staat_model.specs.Texts.{IsReading, IsTextOf, IsWellFormed, Reading};
 
 /// A set of parts has one outcome, in a robust plan and in any other.
 pub fn one_outcome()
@@ -35,6 +35,14 @@ pub fn no_reason_if_valid()
 pub fn one_verdict()
     ensures { (parts : List PartValue) (c : CertificateValue) (v u : VerdictValue) → IsVerdict parts c v
         → IsVerdict parts c u → v ≡ u }
+{}
+
+/// A certificate that keeps its form has a verdict: where no reason applies, it is valid.
+pub fn some_verdict()
+    ensures verdict { (parts : List PartValue) (c : CertificateValue) → IsWellFormed c
+        → (v : VerdictValue) × IsVerdict parts c v }
+    ensures valid { (parts : List PartValue) (c : CertificateValue) → IsWellFormed c
+        → ((r : ReasonValue) → IsReason parts c r → ⊥) → IsValidPlan parts c ⊎ IsValidRefusal parts c }
 {}
 
 /// An outcome has one certificate of each version.
