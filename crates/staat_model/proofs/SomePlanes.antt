@@ -1,8 +1,7 @@
 -- There are lists of the facets of two pieces and of the planes of a set of parts.
-use Rattle.std.proofs.Common.{◌≡◌, ◌≢◌, ◌⊎◌, ℕ, ◌<◌, pos, ◌≤ℤ◌, List, [], ◌∷◌, ◌++◌, All, sym, ◌∙◌, subst, refl, inl, inr, arith}
+use Rattle.std.proofs.Common.{◌≡◌, ◌≢◌, ℕ, ◌<◌, pos, ◌≤ℤ◌, List, ◌++◌, All, sym, ◌∙◌, subst, refl, inl, inr, arith}
 use Rattle.std.specs.Prelude.{Contains, Option, None, Some, length, option_map, slice_get, unwrap_or}
 use Rattle.staat_vec.specs.declared.vector.V3.{V3}
-use Rattle.staat_vec.specs.Lists.{Lists}
 use Rattle.staat_vec.specs.Primitives.{canon, primitive}
 use Rattle.staat_vec.specs.Vectors.{cross, dot, minus, origin, vector_cmp}
 use Rattle.staat_vec.proofs.Primitives.{primitive-is}
@@ -21,7 +20,7 @@ use Rattle.staat_model.proofs.Decisions.{Decided, all_decided, both_or, contains
 use Rattle.staat_model.proofs.EdgeLemmas.{on_left, on_right}
 use Rattle.staat_model.proofs.FreeSides.{member_or}
 use Rattle.staat_model.proofs.Listings.{Listing, listing_and, listing_as, listing_below, listing_image, listing_members, listing_none, listing_over, listing_sorted}
-use Rattle.staat_model.proofs.PieceFacets.{above_is_beyond, beyond_is_above, differences_are, facets_from_differences_lemma, from_cone_facet}
+use Rattle.staat_model.proofs.PieceFacets.{beyond_is_above, differences_are, facets_from_differences_lemma, from_cone_facet}
 use Rattle.staat_model.proofs.PlanLemmas.{there_is}
 use Rattle.staat_model.proofs.Places.{place_within}
 

@@ -1,5 +1,5 @@
 -- The two versions of a certificate at small examples.
-use Rattle.std.proofs.Common.{◌≡◌, ◌<◌, ℕ, ℤ, pos, negsuc, ap, List, [], ◌∷◌, map, All, arith, refl, inl, inr, subst, sym, rules, lit<, lit≤}
+use Rattle.std.proofs.Common.{◌≡◌, ◌<◌, pos, negsuc, ap, List, [], ◌∷◌, map, All, arith, refl, inl, inr, subst, sym, rules, lit<, lit≤}
 use Rattle.std.specs.Prelude.{Contains, codes}
 use Rattle.std.specs.List.Sorted.{IsStrictlySortedBy}
 use Rattle.std.proofs.lemmas.Fmt.{decimal_digit}

@@ -1,5 +1,4 @@
-use Rattle.std.proofs.Common.{rules, ap, sym, ◌∙◌}
-use Rattle.staat_vec.specs.Vectors.{cross}
+use Rattle.std.proofs.Common.{rules, sym}
 use Rattle.staat_model.proofs.Flat.{apart, at_place, on_line, on_plane, off_plane, decided}
 use Rattle.staat_model.proofs.solid.is_solid.Goals as goal
 
