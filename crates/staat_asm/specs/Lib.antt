@@ -1,2 +1,3 @@
 pub mod Axes
 pub mod Overlaps
+pub mod Placing

@@ -3,10 +3,12 @@
 
 mod apart;
 pub mod laws;
+mod placing;
 mod refusal;
 mod search;
 mod sound;
 
+pub use placing::{PlaceRefusal, place};
 pub use refusal::AsmRefusal;
 pub use sound::build;
 
