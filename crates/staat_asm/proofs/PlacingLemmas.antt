@@ -1,5 +1,5 @@
 -- A piece that is moved by a vector is a piece, and how its points are moved one after another.
-use Rattle.std.proofs.Common.{◌≡◌, ◌≢◌, inl, inr, ◌⊎◌, ⊎_elim, ℕ, zero, suc, ◌+◌, ◌<◌, ◌≤◌, arith, refl, sym, ap, subst, ◌∙◌, ℤ, pos, ◌+ℤ◌, ◌<ℤ◌, List, [], ◌∷◌, ◌++◌, length, get_or, take, drop, map, All, Contains}
+use Rattle.std.proofs.Common.{◌≡◌, ◌≢◌, inl, inr, ◌⊎◌, ◌↔◌, ⊎_elim, ℕ, false, zero, suc, ◌+◌, ◌<◌, ◌≤◌, arith, refl, sym, ap, subst, ◌∙◌, ℤ, pos, ◌+ℤ◌, ◌<ℤ◌, List, [], ◌∷◌, ◌++◌, length, get_or, take, drop, map, All, Contains}
 use Rattle.std.specs.Prelude.{Any, IsTrue, slice_set}
 use Rattle.std.specs.Cmp.{int_cmp_is, int_ranks}
 use Rattle.std.specs.List.{AllByRecursion}
@@ -9,7 +9,7 @@ use Rattle.std.specs.declared.cmp.Ordering.{Ordering}
 use Rattle.std.specs.declared.cmp.Ordering.TheVariants.{Less, Equal, Greater}
 use Rattle.std.proofs.lemmas.Int.{ints}
 use Rattle.std.proofs.lemmas.List.{length-map}
-use Rattle.std.proofs.lemmas.List.Elements.{All-contains}
+use Rattle.std.proofs.lemmas.List.Elements.{All-cons, All-contains, All-nil}
 use Rattle.std.proofs.lemmas.Option.{slice_get-get_or}
 use Rattle.staat_vec.specs.declared.vector.V3.{V3}
 use Rattle.staat_vec.specs.declared.vector.TheConstants.{POINT}
@@ -90,7 +90,7 @@ placed_there at ps is e = let same : shifted at ps ≡ ps = ap (λ v. shifted v 
 -- ---- one point after another
 
 -- the list with its first k points moved
-pub half_shifted : V3 → ℕ → List V3 → List V3
+abbrev pub half_shifted : V3 → ℕ → List V3 → List V3
 half_shifted at zero ps = ps
 half_shifted at (suc k) [] = []
 half_shifted at (suc k) (p ∷ ps) = plus p at ∷ half_shifted at k ps
@@ -130,3 +130,24 @@ half_whole at (suc k) (p ∷ ps) le = ap (λ l. plus p at ∷ l) (half_whole at 
 
 pub half_end : (at : V3) (k : ℕ) (ps now : List V3) → now ≡ half_shifted at k ps → length now ≤ k → now ≡ shifted at ps
 half_end at k ps now e le = e ∙ half_whole at k ps (omega (arith, le, ap length e, length-half at k ps))
+
+-- ---- no point too far out
+
+ways : (a b : ℕ) → (a ≤ b) ⊎ (b < a)
+ways a b = grind arith
+
+at_most : (a b : ℕ) → ((a ≤ b → ⊥) → ⊥) → a ≤ b
+at_most a b f = ⊎_elim {C = a ≤ b} (λ le. le) (λ gt. absurd (f (λ le. omega (arith, le, gt)))) (ways a b)
+
+decided : (v : V3) → ((IsWithin POINT v → ⊥) → ⊥) → IsWithin POINT v
+decided v f = record { x = at_most _ _ (λ less. f (λ w. less w.x)); y = at_most _ _ (λ less. f (λ w. less w.y)); z = at_most _ _ (λ less. f (λ w. less w.z)) }
+
+none_far : (at : V3) (ps : List V3) → (IsPlacedFar at ps → ⊥) → All (IsWithin POINT) (shifted at ps)
+none_far at [] f = All-nil (IsWithin POINT)
+none_far at (p ∷ ps) f =
+    All-cons (IsWithin POINT) (plus p at) (shifted at ps)
+    (decided (plus p at) (λ far. f (zero, p, omega arith, refl, far)))
+    (none_far at ps (λ (k, q, lt, is, far). f (suc k, q, omega arith, is, far)))
+
+pub shifted_within : (at : V3) (ps qs : List V3) → IsTrue false ↔ IsPlacedFar at qs → qs ≡ ps → All (IsWithin POINT) (shifted at ps)
+shifted_within at ps qs told e = none_far at ps (λ far. let wrong : IsTrue false = told.1 (subst (IsPlacedFar at) (sym e) far) in cc)
