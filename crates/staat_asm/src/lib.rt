@@ -1,7 +1,6 @@
 //! Assemblies in which no pieces of different parts overlap.
 #![tactic(auto)]
 
-mod apart;
 pub mod laws;
 mod placing;
 mod refusal;
