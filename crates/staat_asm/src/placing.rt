@@ -1,10 +1,10 @@
 // Pieces that are moved by a vector.
 ghost use Rattle.std.specs.Prelude.{◌≡◌, ◌↔◌, All, IsTrue, MatchResult};
-ghost use Rattle.staat_vec.specs.Vectors.{IsWithin, origin, plus};
+ghost use Rattle.staat_vec.specs.Vectors.{IsWithin, plus};
 ghost use Rattle.staat_asm.specs.Placing.{IsPlaceRefusal, IsPlaced, IsPlacedFar, IsTooFar, shifted};
 
 use staat_model::{Piece, Points};
-use staat_vec::{OutOfMemory, POINT, V3, add};
+use staat_vec::{ORIGIN, OutOfMemory, POINT, V3, add, is_same};
 use std::alloc::Global;
 use thiserror::Error;
 
@@ -28,14 +28,6 @@ impl From<OutOfMemory> for PlaceRefusal {
     fn from(_: OutOfMemory) -> Self {
         PlaceRefusal::OutOfMemory
     }
-}
-
-const ORIGIN: V3 = V3 { x: 0, y: 0, z: 0 };
-
-fn is_origin(v: V3) -> bool
-    ensures { IsTrue result ↔ (v ≡ origin) }
-{
-    v == ORIGIN
 }
 
 // a point plus the vector
@@ -93,7 +85,7 @@ pub fn place(_alloc: Global, p: Piece, at: V3) -> Result<Piece, PlaceRefusal>
     requires { IsWithin POINT at }
     ensures { MatchResult result (IsPlaced at p) (IsPlaceRefusal at p) }
 {
-    if is_origin(at) {
+    if is_same(at, ORIGIN) {
         // its rules are known
         let _points = p.points();
         return Ok(p);

@@ -4,8 +4,8 @@ use Rattle.staat_asm.specs.Placing.{IsPlacedFar, shifted}
 use Rattle.staat_asm.proofs.PlacingLemmas.{placed_there, shifted_piece, shifted_within}
 use Rattle.staat_asm.proofs.placing.place.Goals as goal
 
-pub returns-then-is_origin : goal.returns-then-is_origin
-returns-then-is_origin c = placed_there c.args.at c.args.p c.points-points.ensures.piece (c.if-is_origin.ensures.0 refl)
+pub returns-then-is_same : goal.returns-then-is_same
+returns-then-is_same c = placed_there c.args.at c.args.p c.points-points.ensures.piece (c.if-is_same.ensures.0 refl)
 
 pub returns-then-is_placed_far : goal.returns-then-is_placed_far
 returns-then-is_placed_far c = subst (IsPlacedFar c.args.at) c.points.ensures.points (c.if-is_placed_far.ensures.0 refl)
