@@ -1,2 +1,2 @@
-pub mod Axes
 pub mod Overlaps
+pub mod Placing

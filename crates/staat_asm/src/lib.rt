@@ -1,12 +1,13 @@
 //! Assemblies in which no pieces of different parts overlap.
 #![tactic(auto)]
 
-mod apart;
 pub mod laws;
+mod placing;
 mod refusal;
 mod search;
 mod sound;
 
+pub use placing::{PlaceRefusal, place};
 pub use refusal::AsmRefusal;
 pub use sound::build;
 

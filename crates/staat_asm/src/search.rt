@@ -9,9 +9,8 @@ ghost use Rattle.staat_asm.specs.Overlaps.{
   Searches,
 };
 
-use crate::apart::overlap;
 use crate::refusal::AsmRefusal;
-use staat_cone::FacetSource;
+use staat_cone::{FacetSource, overlap};
 use staat_model::Assembly;
 use std::alloc::Global;
 

@@ -3,7 +3,7 @@ ghost use Rattle.std.specs.Prelude.{◌≡◌, length, IfOk};
 ghost use Rattle.staat_model.specs.Assemblies.{IsPart};
 ghost use Rattle.staat_model.specs.Pieces.{IsPiece};
 
-use crate::{AsmRefusal, build};
+use crate::{AsmRefusal, PlaceRefusal, build, place};
 use staat_cone::FacetSource;
 use staat_model::{Assembly, Part, Parts, Piece, Pieces, Points};
 use staat_vec::{Name, OutOfMemory, V3};
@@ -207,6 +207,25 @@ fn refusals_are_told(rt: HostRuntime) -> Result<(), Fail> {
     ];
     for (refusal, want) in table {
         assert_eq!(rt; format!(in rt.alloc(); "{refusal}")?.as_str(), want);
+    }
+    Ok(())
+}
+
+#[test]
+fn pieces_are_placed(rt: HostRuntime) -> Result<(), Fail> {
+    let alloc = rt.alloc();
+    let table = [
+        (V3 { x: 2, y: 0, z: 0 }, Some(BESIDE)),
+        (V3 { x: 0, y: 0, z: 2 }, Some(ABOVE)),
+        (V3 { x: 1, y: 1, z: 1 }, Some(INNER)),
+        (V3 { x: 0, y: 0, z: 0 }, Some(CUBE)),
+        (V3 { x: 0, y: -262144, z: 262143 }, None),
+    ];
+    for (at, want) in table {
+        match (place(alloc, sealed(alloc, Shape::Cube)?, at), want) {
+            (Ok(piece), Some(points)) => assert_eq!(rt; piece.points(), points.as_slice()),
+            (refused, _) => assert_eq!(rt; refused.err(), Some(PlaceRefusal::PlacedFar)),
+        }
     }
     Ok(())
 }

@@ -15,12 +15,12 @@ use Rattle.staat_model.proofs.WallLaws.{dot-minus}
 use Rattle.staat_model.proofs.PieceFacets.{differences_are, beyond_is_above}
 use Rattle.staat_cone.specs.declared.walls.Placed.{Placed}
 use Rattle.staat_cone.specs.Pairs.{Adds, FromSome, IsThrough}
-use Rattle.staat_cone.specs.Few.{IsCandidate, IsEnough, IsGrown, IsStep, IsViolator}
+use Rattle.staat_cone.specs.Few.{IsCandidate, IsEnough, IsGrown, IsDifferenceStep, IsViolator}
 use Rattle.staat_cone.proofs.PairLemmas.{facet_grown, facet_on_side}
 use Rattle.staat_cone.proofs.Sizes.{across_within}
 
-pub steps_within : (p q vs : List V3) → All (IsStep p q) vs → All (IsWithin DIFF) vs
-steps_within p q vs steps = All-weaker (IsStep p q) (IsWithin DIFF) (λ v s. s.within) vs steps
+pub steps_within : (p q vs : List V3) → All (IsDifferenceStep p q) vs → All (IsWithin DIFF) vs
+steps_within p q vs steps = All-weaker (IsDifferenceStep p q) (IsWithin DIFF) (λ v s. s.within) vs steps
 
 -- nothing is known of no vectors
 grown_nothing : (p q : List V3) → IsGrown p q [] [] []
@@ -35,7 +35,7 @@ pub grown_start : (p q few untested found : List V3) → few ≡ [] → untested
 grown_start p q few untested found e f g = subst (λ xs. IsGrown p q xs untested found) (sym e) (subst (λ xs. IsGrown p q [] xs found) (sym f) (subst (IsGrown p q [] []) (sym g) (grown_nothing p q)))
 
 -- what goes through two differences may be a facet of the pieces
-candidate : (p q few : List V3) (g v n : V3) → IsStep p q g → IsStep p q v → IsThrough few g v n → IsCandidate p q n
+candidate : (p q few : List V3) (g v n : V3) → IsDifferenceStep p q g → IsDifferenceStep p q v → IsThrough few g v n → IsCandidate p q n
 candidate p q few g v n is_g is_v t = record {
   primitive = t.primitive;
   touches = record { u = g; v = v; u_is = is_g.difference; v_is = is_v.difference; u_on = dot_comm n g ∙ t.g_on; v_on = dot_comm n v ∙ t.h_on; independent = t.independent };
@@ -43,15 +43,15 @@ candidate p q few g v n is_g is_v t = record {
 }
 
 -- one more difference, with the facets through it, where facets that it lies behind may have been left out
-grown_with : (p q few untested found few' untested' : List V3) (v : V3) → All (IsStep p q) few → All (IsCandidate p q) untested → All (IsFacet p q) found
-    → ((n : V3) → IsConeFacet few n → pos 0 ≤ℤ dot v n → Contains untested n ⊎ Contains found n) → IsStep p q v → few' ≡ few ++ v ∷ []
+grown_with : (p q few untested found few' untested' : List V3) (v : V3) → All (IsDifferenceStep p q) few → All (IsCandidate p q) untested → All (IsFacet p q) found
+    → ((n : V3) → IsConeFacet few n → pos 0 ≤ℤ dot v n → Contains untested n ⊎ Contains found n) → IsDifferenceStep p q v → few' ≡ few ++ v ∷ []
     → Adds (FromSome (λ g. IsThrough few g v) few) untested untested' → IsGrown p q few' untested' found
 grown_with p q few untested found few' untested' v steps candidates facets all' step e adds =
     subst (λ vs. IsGrown p q vs untested' found) (sym e) (record {
-      steps = All-push (IsStep p q) few v steps step;
+      steps = All-push (IsDifferenceStep p q) few v steps step;
       untested_are = All-from_members (IsCandidate p q) untested' (λ n c. ⊎_elim
           (λ old. All-contains (IsCandidate p q) untested n candidates old)
-          (λ (g, in_g, t). candidate p q few g v n (All-contains (IsStep p q) few g steps in_g) step t)
+          (λ (g, in_g, t). candidate p q few g v n (All-contains (IsDifferenceStep p q) few g steps in_g) step t)
           (adds.only n c));
       found_are = facets;
       all = λ n f. ⊎_elim
@@ -60,7 +60,7 @@ grown_with p q few untested found few' untested' v steps candidates facets all' 
           (facet_grown few v n f);
     })
 
-pub grown_by : (p q few untested found few' untested' found' : List V3) (v : V3) → IsGrown p q few untested found → IsStep p q v → few' ≡ few ++ v ∷ []
+pub grown_by : (p q few untested found few' untested' found' : List V3) (v : V3) → IsGrown p q few untested found → IsDifferenceStep p q v → few' ≡ few ++ v ∷ []
     → Adds (FromSome (λ g. IsThrough few g v) few) untested untested' → found' ≡ found → IsGrown p q few' untested' found'
 grown_by p q few untested found few' untested' found' v is step e adds same =
     subst (IsGrown p q few' untested') (sym same)
@@ -111,7 +111,7 @@ pub grown_enough : (p q few found : List V3) → IsGrown p q few [] found → Is
 grown_enough p q few found is spans =
     let are = differences_are p q in record {
       spanning = spans;
-      members = λ v c. are.all v (All-contains (IsStep p q) few v is.steps c).difference;
+      members = λ v c. are.all v (All-contains (IsDifferenceStep p q) few v is.steps c).difference;
       none_behind = λ n f. beyond_is_above p q (differences p q) n are (All-contains (IsFacet p q) found n is.found_are (⊎_elim (λ c. absurd (Contains-nothing n c)) (λ c. c) (is.all n f))).beyond;
     }
 

@@ -5,3 +5,4 @@ pub mod Sizes
 pub mod Fewer
 pub mod Growing
 pub mod Sources
+pub mod AxisWallLemmas

@@ -14,13 +14,13 @@ pub record IsEnough (few vs : List V3) : Type 0 where
   pub none_behind : (n : V3) → IsConeFacet few n → IsAbove n vs
 
 -- v is a point of q less a point of p, and no greater than that can be
-pub record IsStep (p q : List V3) (v : V3) : Type 0 where
+pub record IsDifferenceStep (p q : List V3) (v : V3) : Type 0 where
   pub difference : IsDifference p q v
   pub within : IsWithin DIFF v
 
 -- v is a difference that lies behind n
 pub record IsViolator (p q : List V3) (n v : V3) : Type 0 where
-  pub step : IsStep p q v
+  pub step : IsDifferenceStep p q v
   pub behind : dot v n <ℤ pos 0
 
 -- n is a facet of p and q if no difference lies behind it
@@ -31,7 +31,7 @@ pub record IsCandidate (p q : List V3) (n : V3) : Type 0 where
 
 -- each facet of the cone of few of the differences is still untested or was found to be a facet of p and q
 pub record IsGrown (p q few untested found : List V3) : Type 0 where
-  pub steps : All (IsStep p q) few
+  pub steps : All (IsDifferenceStep p q) few
   pub untested_are : All (IsCandidate p q) untested
   pub found_are : All (IsFacet p q) found
   pub all : (n : V3) → IsConeFacet few n → Contains untested n ⊎ Contains found n

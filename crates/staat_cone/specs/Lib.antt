@@ -1,2 +1,3 @@
+pub mod AxisWalls
 pub mod Few
 pub mod Pairs

@@ -7,7 +7,7 @@ ghost use Rattle.staat_model.specs.Cones.{IsSpanning};
 ghost use Rattle.staat_model.specs.Facets.{IsFacet};
 ghost use Rattle.staat_model.specs.Walls.{IsBeyond};
 ghost use Rattle.staat_cone.specs.Pairs.{Adds, FromSome, IsThrough};
-ghost use Rattle.staat_cone.specs.Few.{IsCandidate, IsGrown, IsStep, IsViolator};
+ghost use Rattle.staat_cone.specs.Few.{IsCandidate, IsGrown, IsDifferenceStep, IsViolator};
 
 use crate::pairs::{add_all_through, is_above};
 use crate::spread::three_steps;

@@ -1,6 +1,7 @@
 //! Walls between two pieces: the facets of the cone of directions along which one piece meets the other.
 #![tactic(auto)]
 
+mod apart;
 mod few;
 pub mod laws;
 mod pairs;
@@ -11,6 +12,7 @@ mod spread;
 mod tests;
 mod walls;
 
+pub use apart::overlap;
 pub use plain::Plain;
 pub use source::FacetSource;
 pub use walls::{blocks, separates};

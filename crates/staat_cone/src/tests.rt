@@ -1,42 +1,13 @@
 // Worked values: facets, walls and what they block.
-ghost use Rattle.std.specs.Prelude.{◌≡◌, ◌↔◌, All, IfOk, IsTrue};
-ghost use Rattle.staat_vec.specs.Vectors.{IsWithin, vector};
+ghost use Rattle.std.specs.Prelude.{All, IfOk};
+ghost use Rattle.staat_vec.specs.Vectors.{IsWithin};
 
 use crate::{FacetSource, Plain, blocks, separates};
-use staat_model::{Piece, Points, is_solid};
-use staat_vec::{NORMAL, POINT, V3, in_order};
+use staat_model::Piece;
+use staat_samples::{at, boxed};
+use staat_vec::{NORMAL, V3};
 use std::alloc::Global;
 use std::test::Fail;
-
-fn at(x: i128, y: i128, z: i128) -> V3
-    ensures { result ≡ vector x y z }
-{
-    V3 { x, y, z }
-}
-
-fn is_within(v: &V3) -> bool
-    ensures { IsTrue result ↔ IsWithin POINT v.now }
-{
-    v.x.unsigned_abs() <= POINT && v.y.unsigned_abs() <= POINT && v.z.unsigned_abs() <= POINT
-}
-
-fn are_within(points: &[V3]) -> bool
-    ensures { IsTrue result ↔ All (IsWithin POINT) points.now }
-{
-    points.iter().all(|p| is_within(p))
-}
-
-// the hull of the points, if they make a piece
-fn piece_of(points: Vec<V3>) -> Option<Piece> {
-    let points = in_order(points);
-    if points.len() < 4 || points.len() > 64 {
-        return None;
-    }
-    if !are_within(points.as_slice()) || !is_solid(points.as_slice()) {
-        return None;
-    }
-    Some(Piece::seal(Points::from_vec(points)))
-}
 
 // a box, by two corners
 #[derive(Clone, Copy)]
@@ -45,21 +16,8 @@ struct Corners {
     high: V3,
 }
 
-fn boxed(alloc: Global, c: Corners) -> Result<Piece, Fail> {
-    let corners = Vec::from_array(
-        alloc,
-        [
-            c.low,
-            at(c.low.x, c.low.y, c.high.z),
-            at(c.low.x, c.high.y, c.low.z),
-            at(c.low.x, c.high.y, c.high.z),
-            at(c.high.x, c.low.y, c.low.z),
-            at(c.high.x, c.low.y, c.high.z),
-            at(c.high.x, c.high.y, c.low.z),
-            c.high,
-        ],
-    )?;
-    let piece = piece_of(corners).ok_or("no piece")?;
+fn box_of(alloc: Global, c: Corners) -> Result<Piece, Fail> {
+    let piece = boxed(alloc, c.low, c.high)?.ok_or("no piece")?;
     Ok(piece)
 }
 
@@ -86,8 +44,8 @@ fn facets_from<F: FacetSource>(
 ) -> Result<Vec<V3>, Fail>
     ensures { IfOk result (λ list. All (IsWithin NORMAL) list.items) }
 {
-    let p = boxed(alloc, p)?;
-    let q = boxed(alloc, q)?;
+    let p = box_of(alloc, p)?;
+    let q = box_of(alloc, q)?;
     let list = source.facets(alloc, &p, &q)?;
     Ok(list)
 }
@@ -135,8 +93,8 @@ fn blocked_by_a_cube(rt: HostRuntime) -> Result<(), Fail> {
 
 #[test]
 fn walls_between_cubes(rt: HostRuntime) -> Result<(), Fail> {
-    let p = boxed(rt.alloc(), cube(0, 0, 0))?;
-    let q = boxed(rt.alloc(), cube(2, 0, 0))?;
+    let p = box_of(rt.alloc(), cube(0, 0, 0))?;
+    let q = box_of(rt.alloc(), cube(2, 0, 0))?;
     assert!(rt; separates(at(1, 0, 0), &p, &q));
     assert!(rt; !separates(at(0, 1, 0), &p, &q));
     assert!(rt; !separates(at(0, 0, 0), &p, &q));

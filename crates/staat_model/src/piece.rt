@@ -48,4 +48,12 @@ impl Piece {
     {
         self.points.as_slice()
     }
+
+    /// The points, ascending, to be changed. It takes no memory.
+    pub fn into_points(self) -> Points
+        ensures points { result ≡ self }
+        ensures piece { IsPiece self }
+    {
+        self.points
+    }
 }

@@ -12,14 +12,7 @@ ghost use Rattle.staat_planes.specs.Tables.{IsPlaneOf};
 
 use crate::table::{LEAST_PLANES, PlaneTable};
 use staat_model::{Arc, MOST_PARTS, PartSet};
-use staat_vec::{NORMAL, V3, neg};
-
-/// Whether two vectors are one.
-pub fn is_same(a: V3, b: V3) -> bool
-    ensures { IsTrue result ↔ (a ≡ b) }
-{
-    a == b
-}
+use staat_vec::{NORMAL, V3, is_same, neg};
 
 // whether the facet is n or its negative
 fn is_either(facet: V3, n: V3) -> bool

@@ -4,15 +4,15 @@ use Rattle.staat_model.specs.declared.assembly.Part.{Part}
 use Rattle.staat_model.specs.Planes.{ArePlanes}
 use Rattle.staat_planes.specs.declared.refusal.PlanesRefusal.{PlanesRefusal}
 use Rattle.staat_planes.specs.declared.refusal.PlanesRefusal.TheVariants as refusal
-use Rattle.staat_planes.specs.Refusals.{IsPlanesRefusal, IsTableOf}
-use Rattle.staat_planes.specs.Tables.{Table}
+use Rattle.staat_planes.specs.Refusals.{IsPlanesRefusal, IsTableWithin}
+use Rattle.staat_pairs.specs.Tables.{Table}
 use Rattle.staat_fault.specs.declared.fault.Fault.TheVariants.{TooManyPlanes}
 use Rattle.staat_top.specs.Steps.{Follows, gives, stops, replies, refused}
 use Rattle.staat_top.specs.Refusals.{planes_fault}
 use Rattle.staat_top.specs.Graphing.{AreCounted, all_parts, few, too_many}
 
-pub counted_few : (parts : List Part) (limit : ℕ) (t : Table) → IsTableOf parts (all_parts parts) limit t → AreCounted parts limit (gives t.planes)
-counted_few parts limit t h = few t.planes (subst (λ w. ArePlanes parts w t.planes) h.set h.made.planes) h.few refl
+pub counted_few : (parts : List Part) (limit : ℕ) (t : Table) → IsTableWithin parts (all_parts parts) limit t → AreCounted parts limit (gives t.planes)
+counted_few parts limit t h = few t.planes (subst (λ w. ArePlanes parts w t.planes) h.table.set h.table.made.planes) h.few refl
 
 pub counted_many : (parts : List Part) (limit : ℕ) (r : PlanesRefusal) → IsPlanesRefusal parts (all_parts parts) limit r → Follows (AreCounted parts limit) (Err (planes_fault r))
 counted_many parts limit (refusal.TooManyPlanes found) h =

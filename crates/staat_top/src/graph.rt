@@ -4,7 +4,7 @@ ghost use Rattle.staat_vec.specs.Vectors.{IsWithin};
 ghost use Rattle.staat_words.specs.Requests.{IsInput};
 ghost use Rattle.staat_top.specs.Steps.{Files, answered, replies};
 ghost use Rattle.staat_top.specs.Replies.{EndsOf};
-ghost use Rattle.staat_planes.specs.Tables.{WasMadeFrom};
+ghost use Rattle.staat_pairs.specs.Tables.{WasMadeFrom};
 ghost use Rattle.staat_top.specs.Graphing.{IsGraphed, all_parts};
 ghost use Rattle.staat_top.specs.GraphRequests.{request_of};
 ghost use Rattle.staat_top.specs.Runs.{HasCause, IsPlaced, shelf_over};

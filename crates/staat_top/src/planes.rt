@@ -1,7 +1,7 @@
 // The planes of all parts.
 ghost use Rattle.std.specs.Prelude.{◌≡◌, ◌≤◌, Err, IfErr, IfOk};
 ghost use Rattle.staat_planes.specs.declared.table.TheConstants.{LEAST_PLANES, MOST_PLANES};
-ghost use Rattle.staat_planes.specs.Tables.{WasMadeFrom};
+ghost use Rattle.staat_pairs.specs.Tables.{WasMadeFrom};
 ghost use Rattle.staat_top.specs.Graphing.{AreCounted, all_parts};
 ghost use Rattle.staat_top.specs.Steps.{Follows, gives};
 ghost use Rattle.staat_top.specs.Runs.{HasCause, ShelfSide};

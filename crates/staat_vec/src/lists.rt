@@ -32,6 +32,13 @@ impl<T> Listed<T> {
     {
         self.items.as_slice()
     }
+
+    /// The members, in their order, to be changed. It takes no memory.
+    pub fn into_vec(self) -> Vec<T>
+        ensures { result.items ≡ self }
+    {
+        self.items
+    }
 }
 
 /// A list of bytes.

@@ -9,8 +9,8 @@ abbrev pub IsWallBetween : List V3 → List V3 → V3 → Type 0
 IsWallBetween p q n = (n ≢ origin) × IsBeyond p q n
 
 -- the directions of the axes, both ways
-abbrev pub axes : List V3
-axes =
+abbrev pub axis_walls : List V3
+axis_walls =
     vector (pos 1) (pos 0) (pos 0)
     ∷ vector (negsuc 0) (pos 0) (pos 0)
     ∷ vector (pos 0) (pos 1) (pos 0)

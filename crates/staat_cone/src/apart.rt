@@ -2,9 +2,10 @@
 ghost use Rattle.std.specs.Prelude.{◌↔◌, All, Any, IfOk, IsTrue};
 ghost use Rattle.staat_vec.specs.Vectors.{IsWithin};
 ghost use Rattle.staat_model.specs.Meeting.{Overlap};
-ghost use Rattle.staat_asm.specs.Axes.{IsWallBetween, axes};
+ghost use Rattle.staat_cone.specs.AxisWalls.{IsWallBetween, axis_walls};
 
-use staat_cone::{FacetSource, separates};
+use crate::source::FacetSource;
+use crate::walls::separates;
 use staat_model::Piece;
 use staat_vec::{NORMAL, OutOfMemory, V3};
 use std::alloc::Global;
@@ -29,7 +30,7 @@ fn is_apart_along(normals: &[V3], p: &Piece, q: &Piece) -> bool
 
 // whether a wall across one of the axes keeps the pieces apart; the time is linear in the number of points
 fn is_apart_along_axis(p: &Piece, q: &Piece) -> bool
-    ensures { IsTrue result ↔ Any (IsWallBetween p.now q.now) axes }
+    ensures { IsTrue result ↔ Any (IsWallBetween p.now q.now) axis_walls }
 {
     is_apart_along(&AXES, p, q)
 }

@@ -9,7 +9,7 @@ use Rattle.staat_vec.proofs.VecRing.{dotE, originE, values, v0}
 use Rattle.staat_model.specs.Meeting.{Overlap}
 use Rattle.staat_model.specs.Pieces.{IsPiece}
 use Rattle.staat_model.proofs.WallLaws.{wall_keeps_apart}
-use Rattle.staat_asm.specs.Axes.{IsWallBetween}
+use Rattle.staat_cone.specs.AxisWalls.{IsWallBetween}
 
 dot_origin : (n : V3) → dot n origin ≡ pos 0
 dot_origin n = ring (values (n ∷ []) []) (dotE v0 originE) (num (pos 0)) tt
