@@ -1,5 +1,5 @@
 -- Reading a text has one answer.
-use Rattle.std.proofs.Common.{◌≡◌, ◌≢◌, ◌<◌, ◌≤◌, ℕ, List, length, ap, refl, arith}
+use Rattle.std.proofs.Common.{◌≡◌, ◌≢◌, ℕ, List, ap, refl, arith}
 use Rattle.std.specs.Prelude.{Result, Ok, Err}
 use Rattle.staat_model.specs.declared.certificate.Certificate.{Certificate}
 use Rattle.staat_model.specs.Texts.{IsReading, Reading, whole, bad_line, too_short}

@@ -1,5 +1,5 @@
 -- The computed number is the one whose decimal text stands there.
-use Rattle.std.proofs.Common.{◌≡◌, ◌^◌, ◌<◌, ◌≤◌, ℕ, Bool, true, false, List, length, get_or, ap, sym, refl, ◌∙◌, arith}
+use Rattle.std.proofs.Common.{◌≡◌, ◌^◌, ◌<◌, ◌≤◌, ℕ, Bool, true, false, List, length, get_or, ap, sym, refl, arith}
 use Rattle.std.specs.Prelude.{IfSome, IfNone, Option, Some, None, cond, ◌&&◌, nat_le}
 use Rattle.std.specs.Str.{all_ascii_digits}
 use Rattle.std.specs.Str.Parse.{digits_value}
@@ -7,7 +7,7 @@ use Rattle.std.proofs.lemmas.Bool.{false≢true, le-leb, leb-true}
 use Rattle.std.proofs.lemmas.Bool.Decides.{nat_tests}
 use Rattle.std.proofs.lemmas.Str.Parse.{IsNumeralModel, numerals_by_value, tells_all_ascii_digits}
 use Rattle.staat_number.specs.Numbers.{natural_within}
-use Rattle.staat_number.specs.Spelling.{AreDigitsOf, IsNatural, is_plain_front}
+use Rattle.staat_number.specs.Spelling.{IsNatural, is_plain_front}
 use Rattle.staat_number.proofs.SpellingLemmas.{natural_front, natural_some}
 
 digit_tests : IsNumeralModel (λ ds. all_ascii_digits ds ≡ true) (digits_value 10)

@@ -1,5 +1,6 @@
 -- Whole numbers as texts spell them, computed.
-use Rattle.std.specs.Prelude.{◌==◌, ◌&&◌, ℕ, nat_le, List, Option, Some, None, if◌then◌else◌, option_map, option_and_then, ℤ, pos, neg_ℤ}
+use Rattle.std.specs.Prelude.{◌==◌, ◌&&◌, ℕ, nat_le, List, ℤ, pos, neg_ℤ}
+use Rattle.std.specs.Prelude.{Option, Some, None, if◌then◌else◌, option_map, option_and_then}
 use Rattle.std.specs.Str.{all_ascii_digits}
 use Rattle.std.specs.Str.Parse.{digits_value}
 use Rattle.staat_number.specs.Spelling.{after_minus, is_plain_front}
@@ -7,7 +8,9 @@ use Rattle.staat_number.specs.Spelling.{after_minus, is_plain_front}
 -- the number of at most `most` that the digits spell
 unfoldable pub natural_within : ℕ → List ℕ → Option ℕ
 natural_within most ds =
-    if is_plain_front ds && (all_ascii_digits ds && nat_le (digits_value 10 ds) most) then Some (digits_value 10 ds) else None
+    if is_plain_front ds && (all_ascii_digits ds && nat_le (digits_value 10 ds) most)
+    then Some (digits_value 10 ds)
+    else None
 
 -- the number below 0 of that size: there is no -0
 abbrev pub negated : ℕ → Option ℤ
