@@ -7,7 +7,7 @@ ghost use Rattle.staat_model.specs.declared.assembly.Part.{Part as PartValue};
 ghost use Rattle.staat_model.specs.Outcomes.{HasNoStep, IsStep, try_vertex};
 ghost use Rattle.staat_model.specs.Plans.{IsStuck};
 ghost use Rattle.staat_model.specs.Sets.{IsNonempty, IsSide};
-ghost use Rattle.staat_planes.specs.Tables.{WasMadeFrom};
+ghost use Rattle.staat_pairs.specs.Tables.{WasMadeFrom};
 ghost use Rattle.staat_plan.specs.Searches.{CrossAlong, CrossingServesNot, MovesAlong, ServesNot};
 ghost use Rattle.staat_plan.specs.Searches.{IsStepAcross, IsStepFrom, NoStepFrom};
 
