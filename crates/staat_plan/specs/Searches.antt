@@ -7,7 +7,7 @@ use Rattle.staat_model.specs.declared.assembly.Part.{Part}
 use Rattle.staat_model.specs.declared.set.PartSet.{PartSet}
 use Rattle.staat_model.specs.declared.tree.Step.{Step}
 use Rattle.staat_model.specs.Outcomes.{IsMovedSide, Serves}
-use Rattle.staat_planes.specs.Tables.{Table, WasMadeFrom}
+use Rattle.staat_pairs.specs.Tables.{Table, WasMadeFrom}
 
 -- along d no side of the table's set is free of the rest
 abbrev pub ServesNot : Table → V3 → Type 0

@@ -1,20 +1,20 @@
 // The step of a set of parts.
 ghost use Rattle.std.specs.Prelude.{◌≡◌, ◌≢◌, ℕ, ◌<◌, ◌≤◌, ◌↔◌, List, IfSome, MatchOption, None, false, length};
 ghost use Rattle.std.specs.FinSet as set;
-ghost use Rattle.staat_vec.specs.Vectors.{IsWithin, cross, origin};
-ghost use Rattle.staat_vec.specs.Primitives.{primitive};
+ghost use Rattle.staat_vec.specs.Vectors.{IsWithin, origin};
 ghost use Rattle.staat_model.specs.declared.assembly.Part.{Part as PartValue};
 ghost use Rattle.staat_model.specs.Outcomes.{HasNoStep, IsStep, try_vertex};
 ghost use Rattle.staat_model.specs.Plans.{IsStuck};
 ghost use Rattle.staat_model.specs.Sets.{IsNonempty, IsSide};
-ghost use Rattle.staat_planes.specs.Tables.{WasMadeFrom};
+ghost use Rattle.staat_pairs.specs.Tables.{WasMadeFrom};
 ghost use Rattle.staat_plan.specs.Searches.{CrossAlong, CrossingServesNot, MovesAlong, ServesNot};
 ghost use Rattle.staat_plan.specs.Searches.{IsStepAcross, IsStepFrom, NoStepFrom};
 
 use staat_graph::{is_strong, sink_of};
 use staat_model::{PartSet, Step};
+use staat_pairs::crossing;
 use staat_planes::PlaneTable;
-use staat_vec::{DIRECTION, NORMAL, V3, VERTEX, cross_normal, primitive};
+use staat_vec::{DIRECTION, V3};
 
 // the side that moves along d, if one does
 fn side_along(table: &PlaneTable, d: V3) -> Option<PartSet>
@@ -30,19 +30,6 @@ fn side_along(table: &PlaneTable, d: V3) -> Option<PartSet>
     } else {
         Some(sink_of(&graph, w))
     }
-}
-
-// the primitive vector in which the planes of two normals cross
-fn crossing(g: V3, h: V3) -> V3
-    requires g { IsWithin NORMAL g }
-    requires h { IsWithin NORMAL h }
-    requires apart { cross g h ≢ origin }
-    ensures is { result ≡ primitive (cross g h) }
-    ensures some { result ≢ origin }
-    ensures size { IsWithin VERTEX result }
-    ensures direction { IsWithin DIRECTION result }
-{
-    primitive(cross_normal(g, h))
 }
 
 // the direction in which two planes of the table cross
