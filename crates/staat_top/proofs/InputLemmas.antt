@@ -142,7 +142,7 @@ one_read named i d parts part lt read at same pieces = record {
 }
 
 -- files that are parts by themselves
-files_few : (names : List (List ℕ)) → 1 ≤ length names → length names ≤ 32 → IsFew (map (λ name. (name, name ∷ [])) names)
+files_few : (names : List (List ℕ)) → 1 ≤ length names → length names ≤ MOST_PARTS → IsFew (map (λ name. (name, name ∷ [])) names)
 files_few names some most = record {
   at_least = subst (λ k. 1 ≤ k) (sym (length-map names (λ name. (name, name ∷ [])))) some;
   at_most = subst (λ k. k ≤ MOST_PARTS) (sym (length-map names (λ name. (name, name ∷ [])))) most;
@@ -158,7 +158,7 @@ files_few names some most = record {
     counted [] = refl
     counted (name ∷ names) = sum_by-cons (λ (part : NamedPart). length part.1) (name, name ∷ []) (map (λ name. (name, name ∷ [])) names) ∙ omega (arith, counted names)
 
-pub named_files : (names : List (List ℕ)) (named : List NamedPart) → (1 ≤ length names) × (length names ≤ 32) → named ≡ map (λ name. (name, name ∷ [])) names → IsFew named
+pub named_files : (names : List (List ℕ)) (named : List NamedPart) → (1 ≤ length names) × (length names ≤ MOST_PARTS) → named ≡ map (λ name. (name, name ∷ [])) names → IsFew named
 named_files names named (some, most) e = subst IsFew (sym e) (files_few names some most)
 
 pub listing_few : (named : List NamedPart) → IsListing named → IsFew named

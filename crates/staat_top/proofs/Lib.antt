@@ -7,4 +7,3 @@ pub mod TopLemmas
 pub mod InputLemmas
 pub mod SoundLemmas
 pub mod PlanesLemmas
-pub mod SameGraph

@@ -13,7 +13,7 @@ use Rattle.staat_model.proofs.Orders.{arc_exact, arc_total}
 use Rattle.staat_graph.specs.Blocking.{ShowsBlocking}
 use Rattle.staat_graph.specs.Graphs.{HasArc}
 use Rattle.staat_planes.specs.declared.table.TheConstants.{MOST_PLANES}
-use Rattle.staat_top.proofs.SameGraph.{same_graph_text}
+use Rattle.staat_text.proofs.SameArcs.{same_graph_text}
 use Rattle.staat_asm.specs.Overlaps.{IsFirstOverlap, IsOverlap}
 use Rattle.staat_fault.specs.declared.fault.Fault.TheVariants.{Usage, ReadFault, Overlap, TooManyPlanes}
 use Rattle.staat_fault.specs.declared.fault.Fault.{Fault}

@@ -1,63 +1,134 @@
 -- What status 0 means.
-use Rattle.std.proofs.Common.{◌≡◌, ℕ, List, Option, Some, None, refl, ap, sym, subst, arith, inl, inr}
+use Rattle.std.proofs.Common.{◌≡◌, ℕ, suc, List, [], ◌∷◌, map, length, All, Option, Some, None, refl, ap, ap₂, sym, subst, arith, inl, inr}
+use Rattle.std.proofs.lemmas.List.Elements.{All-nil, All-cons}
 use Rattle.std.specs.Prelude.{Ok, Err}
 use Rattle.staat_vec.specs.declared.vector.V3.{V3}
 use Rattle.staat_model.specs.declared.assembly.Part.{Part}
-use Rattle.staat_model.specs.Assemblies.{IsSound}
-use Rattle.staat_model.specs.Pieces.{IsSolid}
+use Rattle.staat_model.specs.Assemblies.{IsAssembly, IsSound}
+use Rattle.staat_model.specs.Pieces.{IsPiece}
+use Rattle.staat_off.specs.declared.raw.Raw.{Raw}
+use Rattle.staat_off.specs.Raws.{IsIndexed}
+use Rattle.staat_off.proofs.Bounds.{reading_bounded}
+use Rattle.staat_manifest.proofs.Accepted.{within_bounds}
 use Rattle.staat_model.proofs.WallLaws as walls
 use Rattle.staat_mesh.specs.Judging.{Judges}
-use Rattle.staat_mesh.specs.Polygons.{Mesh}
+use Rattle.staat_mesh.specs.Polygons.{mesh}
+use Rattle.staat_mesh.proofs.Making.{points_within}
+use Rattle.staat_words.specs.Requests.{IsAsked, IsInput}
+use Rattle.staat_words.specs.declared.request.Input.{Input}
+use Rattle.staat_words.specs.declared.request.Input.TheVariants as inputs
 use Rattle.staat_words.specs.declared.request.Asked.{Asked}
 use Rattle.staat_words.specs.declared.request.Request.{Request}
 use Rattle.staat_words.specs.declared.request.Request.TheVariants.{Pair, Look, Graph}
 use Rattle.staat_top.specs.declared.answer.Answer.{Answer}
-use Rattle.staat_top.specs.Work.{Files, Found, to_read, too_long, taken}
+use Rattle.staat_top.specs.Work.{Files, Found, Each, to_read, too_long, taken}
+use Rattle.staat_top.specs.Inputs.{NamedPart, SaysListing, no_listing, listing, IsListingOf, IsPartOf, IsInputOf, part_of}
+use Rattle.staat_top.specs.Shapes.{AreRead, IsFew}
+use Rattle.staat_top.specs.Runs.{IsBounded}
+use Rattle.staat_top.proofs.InputLemmas.{assembly_read, listing_few, named_files, none_read}
 use Rattle.staat_top.specs.Pieces.{IsPieceOf, SaysPiece, no_file, no_piece, piece}
 use Rattle.staat_top.specs.Assembling.{IsTested, overlapping, sound, IsSoundOf}
 use Rattle.staat_top.specs.Replies.{HasSoundParts, free, not_shown, answer, WorkOnWords, IsRight}
 
--- a piece that the rules of meshes give is solid
-judged_solid : (m : Mesh) (p : List V3) → Judges m (Ok p) → IsSolid p
-judged_solid m p j = subst IsSolid (sym j.by_rules.2.1.1.1) j.by_rules.2.0
+-- ---- pieces
+
+-- what the rules of meshes give is a piece
+judged_piece : (raw : Raw) (p : List V3) → IsIndexed raw → Judges (mesh raw) (Ok p) → IsPiece p
+judged_piece raw p indexed j = subst IsPiece (sym j.by_rules.2.1.1.1) (record {
+  ascending = j.used.ascending;
+  at_least = j.by_rules.0;
+  at_most = j.by_rules.1;
+  within = points_within raw j.points indexed j.used;
+  solid = j.by_rules.2.0;
+})
 
 given_one : (p q : List V3) → ◌≡◌ {A = Found (List V3)} (Ok p) (Ok q) → q ≡ p
 given_one p q e = cc
 
-says_solid : (digits : ℕ) (name bytes : List ℕ) (p : List V3) → SaysPiece digits name bytes (Ok p) → IsSolid p
-says_solid digits name bytes p (no_file r re e) = absurd cc
-says_solid digits name bytes p (no_piece raw r re rj e) = absurd cc
-says_solid digits name bytes p (piece raw q re rj e) = subst IsSolid (given_one p q e) (judged_solid _ q rj)
+says_piece : (digits : ℕ) (name bytes : List ℕ) (p : List V3) → SaysPiece digits name bytes (Ok p) → IsPiece p
+says_piece digits name bytes p (no_file r re e) = absurd cc
+says_piece digits name bytes p (no_piece raw r re rj e) = absurd cc
+says_piece digits name bytes p (piece raw q re rj e) = subst IsPiece (given_one p q e) (judged_piece raw q (reading_bounded digits bytes raw re).indexed rj)
 
--- what the step gives is solid
-gives_solid : (files : Files) (digits : ℕ) (name : List ℕ) (p : List V3) → IsPieceOf files digits name (Ok p) → IsSolid p
-gives_solid files digits name p (to_read e) = absurd cc
-gives_solid files digits name p (too_long x xe xl e) = absurd cc
-gives_solid files digits name p (taken x xe xs xt) = says_solid digits name x p xt
+-- what the step gives is a piece
+gives_piece : (files : Files) (digits : ℕ) (name : List ℕ) (p : List V3) → IsPieceOf files digits name (Ok p) → IsPiece p
+gives_piece files digits name p (to_read e) = absurd cc
+gives_piece files digits name p (too_long x xe xl e) = absurd cc
+gives_piece files digits name p (taken x xe xs xt) = says_piece digits name x p xt
+
+-- ---- assemblies
+
+pieces_read : (files : Files) (digits : ℕ) (names : List (List ℕ)) (pieces : List (List V3)) → Each (IsPieceOf files digits) names (Ok pieces) → (length pieces ≡ length names) × All IsPiece pieces
+pieces_read files digits [] pieces e =
+    let same : pieces ≡ [] = cc in
+    subst (λ (ps : List (List V3)). (length ps ≡ 0) × All IsPiece ps) (sym same) (refl, All-nil IsPiece)
+pieces_read files digits (name ∷ names) pieces (inl (f, at, e)) = absurd cc
+pieces_read files digits (name ∷ names) pieces (inr (p, first, inl (f, at, e))) = absurd cc
+pieces_read files digits (name ∷ names) pieces (inr (p, first, inr (ps, later, e))) =
+    let same : pieces ≡ p ∷ ps = cc in
+    let rest : (length ps ≡ length names) × All IsPiece ps = pieces_read files digits names ps later in
+    subst (λ (qs : List (List V3)). (length qs ≡ length (name ∷ names)) × All IsPiece qs) (sym same)
+    (ap (λ n. suc n) rest.0, All-cons IsPiece p ps (gives_piece files digits name p first) rest.1)
+
+part_read : (files : Files) (digits : ℕ) (n : NamedPart) (part : Part) → IsPartOf files digits n (Ok part) → (length part.pieces ≡ length n.1) × All IsPiece part.pieces
+part_read files digits n part (inl (f, at, e)) = absurd cc
+part_read files digits n part (inr (pieces, each, e)) =
+    let same : part ≡ part_of n.0 pieces = cc in
+    subst (λ (q : Part). (length q.pieces ≡ length n.1) × All IsPiece q.pieces) (sym same) (pieces_read files digits n.1 pieces each)
+
+parts_read : (files : Files) (digits : ℕ) (named : List NamedPart) (parts : List Part) → Each (IsPartOf files digits) named (Ok parts) → AreRead named parts
+parts_read files digits [] parts e = let same : parts ≡ [] = cc in subst (AreRead []) (sym same) none_read
+parts_read files digits (n ∷ named) parts (inl (f, at, e)) = absurd cc
+parts_read files digits (n ∷ named) parts (inr (part, first, inl (f, at, e))) = absurd cc
+parts_read files digits (n ∷ named) parts (inr (part, first, inr (others, later, e))) =
+    let same : parts ≡ part ∷ others = cc in
+    let here : (length part.pieces ≡ length n.1) × All IsPiece part.pieces = part_read files digits n part first in
+    let rest : AreRead named others = parts_read files digits named others later in
+    subst (AreRead (n ∷ named)) (sym same) (record {
+      each = ap₂ (λ k ks. k ∷ ks) here.0 rest.each;
+      pieces = All-cons (λ part. All IsPiece part.pieces) part others here.1 rest.pieces;
+    })
+
+says_few : (name bytes : List ℕ) (named : List NamedPart) → SaysListing name bytes (Ok named) → IsFew named
+says_few name bytes named (no_listing r re e) = absurd cc
+says_few name bytes named (listing p pe e) = let same : named ≡ p = cc in subst IsFew (sym same) (listing_few p (within_bounds bytes (Ok p) pe))
+
+names_few : (files : Files) (input : Input) (named : List NamedPart) → IsInput input → IsListingOf files input (Ok named) → IsFew named
+names_few files (inputs.Manifest name) named bounds (to_read e) = absurd cc
+names_few files (inputs.Manifest name) named bounds (too_long x xe xl e) = absurd cc
+names_few files (inputs.Manifest name) named bounds (taken x xe xs xt) = says_few name x named xt
+names_few files (inputs.Files names) named bounds e =
+    let same : named ≡ map (λ name. (name, name ∷ [])) names = cc in named_files names named bounds same
+
+-- what the step gives is an assembly
+input_assembly : (files : Files) (asked : Asked) (parts : List Part) → IsAsked asked → IsInputOf files asked (Ok parts) → IsAssembly parts
+input_assembly files asked parts bounds (inl (f, at, e)) = absurd cc
+input_assembly files asked parts bounds (inr (named, listed, read)) =
+    assembly_read named parts (names_few files asked.input named bounds.1 listed) (parts_read files asked.digits named parts read)
 
 -- what the test gives are sound parts
 tested_gives : (parts built : List Part) → IsTested parts (Ok built) → IsSound parts
 tested_gives parts built (overlapping arc first e) = absurd cc
 tested_gives parts built (sound is e) = is
 
-sound_parts : (files : Files) (asked : Asked) (built : List Part) → IsSoundOf files asked (Ok built) → HasSoundParts files asked
-sound_parts files asked built (inl (fault, at, e)) = absurd cc
-sound_parts files asked built (inr (parts, found, test)) =
-    record { parts = parts; named = found; sound = tested_gives parts built test }
+sound_parts : (files : Files) (asked : Asked) (built : List Part) → IsAsked asked → IsSoundOf files asked (Ok built) → HasSoundParts files asked
+sound_parts files asked built bounds (inl (fault, at, e)) = absurd cc
+sound_parts files asked built bounds (inr (parts, found, test)) =
+    record { parts = parts; named = found; assembly = input_assembly files asked parts bounds found; sound = tested_gives parts built test }
 
 same_status : (a b : Answer) → ◌≡◌ {A = Found Answer} (Ok a) (Ok b) → a.status ≡ b.status
 same_status a b e = let same : a ≡ b = cc in ap (λ (x : Answer). x.status) same
 
 -- a wall that is shown keeps the pieces apart, and a look or a graph gives sound parts
-pub status_is_right : (asked : Option Request) (files : Files) (a : Answer) → WorkOnWords asked files (Ok a) → a.status ≡ 0 → IsRight asked files
-status_is_right None files a e zero = absurd cc
-status_is_right (Some (Pair request)) files a (inl (fault, at, e)) zero = absurd cc
-status_is_right (Some (Pair request)) files a (inr (p, first, inl (fault, at, e))) zero = absurd cc
-status_is_right (Some (Pair request)) files a (inr (p, first, inr (q, second, free shown e))) zero =
-    (p, q, first, second, walls.wall_keeps_apart p q request.along request.wall (gives_solid files request.digits request.first p first) shown)
-status_is_right (Some (Pair request)) files a (inr (p, first, inr (q, second, not_shown none e))) zero =
+pub status_is_right : (asked : Option Request) (files : Files) (a : Answer) → IsBounded asked → WorkOnWords asked files (Ok a) → a.status ≡ 0 → IsRight asked files
+status_is_right None files a bounds e zero = absurd cc
+status_is_right (Some (Pair request)) files a bounds (inl (fault, at, e)) zero = absurd cc
+status_is_right (Some (Pair request)) files a bounds (inr (p, first, inl (fault, at, e))) zero = absurd cc
+status_is_right (Some (Pair request)) files a bounds (inr (p, first, inr (q, second, free shown e))) zero =
+    (p, q, first, second, walls.wall_keeps_apart p q request.along request.wall (gives_piece files request.digits request.first p first).solid shown)
+status_is_right (Some (Pair request)) files a bounds (inr (p, first, inr (q, second, not_shown none e))) zero =
     absurd (omega (arith, zero, same_status _ _ e))
-status_is_right (Some (Look asked)) files a (inl (fault, at, e)) zero = absurd cc
-status_is_right (Some (Look asked)) files a (inr (built, found, e)) zero = sound_parts files asked built found
-status_is_right (Some (Graph request)) files a (inl (fault, at, e)) zero = absurd cc
-status_is_right (Some (Graph request)) files a (inr (built, found, rest)) zero = sound_parts files request.asked built found
+status_is_right (Some (Look asked)) files a bounds (inl (fault, at, e)) zero = absurd cc
+status_is_right (Some (Look asked)) files a bounds (inr (built, found, e)) zero = sound_parts files asked built bounds found
+status_is_right (Some (Graph request)) files a bounds (inl (fault, at, e)) zero = absurd cc
+status_is_right (Some (Graph request)) files a bounds (inr (built, found, rest)) zero = sound_parts files request.asked built bounds.0 found

@@ -11,7 +11,7 @@ use Rattle.staat_fault.specs.Faults.{status_of, line_of}
 use Rattle.staat_top.specs.declared.answer.Answer.{Answer}
 use Rattle.staat_top.specs.Work.{Files}
 use Rattle.staat_top.specs.Replies.{Reply, IsReply, answered, refused}
-use Rattle.staat_top.specs.Runs.{ShelfSide, SinkSide, Took, TookPart, Untouched, IsUnread, IsCaused, IsFound, IsExplained, IsSaid, SaysWhole, SaysPart, Gave, Ran}
+use Rattle.staat_top.specs.Runs.{ShelfSide, SinkSide, Took, TookPart, Untouched, IsUnread, IsCaused, IsBounded, IsFound, IsExplained, IsSaid, SaysWhole, SaysPart, Gave, Ran}
 use Rattle.staat_top.proofs.OneReply.{no_reply, one_reply}
 use Rattle.staat_top.proofs.RightLemmas.{status_is_right}
 
@@ -28,12 +28,12 @@ answer_reply asked shelf files a found told = record { found = Ok a; work = foun
 
 -- an answer was printed
 pub ran_answer : (asked : Option Request) (shelf : ShelfSide) (out err : SinkSide) (a : Answer) (result : ℕ)
-    → a.status < 2 → IsFound asked shelf (Ok a) → (asked ≡ None → ⊥)
+    → a.status < 2 → IsFound asked shelf (Ok a) → IsBounded asked → (asked ≡ None → ⊥)
     → (result ≢ 6 → (result ≡ a.status) × Untouched err × Took out a.text)
     → (result ≡ 6 → TookPart out a.text)
     → (result ≡ 6 → Took err (line_of WriteFault) ⊎ TookPart err (line_of WriteFault))
     → Ran asked shelf out err result
-ran_answer asked shelf out err a result small found asks whole part line = record {
+ran_answer asked shelf out err a result small found bounds asks whole part line = record {
   out_kept = λ ge ne. absurd (omega (arith, (whole ne).0));
   err_kept = λ lt. (whole (λ e. omega (arith, e))).1;
   answers = λ lt.
@@ -55,7 +55,7 @@ ran_answer asked shelf out err a result small found asks whole part line = recor
       ];
   right = λ zero files told.
       let w = whole (λ e. omega (arith, e)) in
-      status_is_right asked files a (found files told) (sym w.0 ∙ zero);
+      status_is_right asked files a bounds (found files told) (sym w.0 ∙ zero);
 }
 
 least_status : (fault : Fault) → 2 ≤ status_of fault

@@ -22,7 +22,7 @@ pub data AreCounted (parts : List Part) (limit : ℕ) : Found (List V3) → Type
   few : {found : Found (List V3)} (planes : List V3) → ArePlanes parts (all_parts parts) planes →
       length planes ≤ limit → found ≡ Ok planes → AreCounted parts limit found
 
--- The last step for a graph: the text of the blocking graph of all parts along d, whose arcs are written by rows of bits.
+-- The last step for a graph: the text of the blocking graph of all parts along d, whose arcs stand in rows of bits.
 pub record IsGraphed (parts : List Part) (d : V3) (found : Found Answer) : Type 0 where
   pub rows : List ℕ
   pub text : List ℕ

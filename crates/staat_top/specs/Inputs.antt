@@ -22,7 +22,7 @@ pub data SaysListing (name bytes : List ℕ) : Found (List NamedPart) → Type 0
   listing : {found : Found (List NamedPart)} (parts : List NamedPart) → part_list bytes ≡ Ok parts →
       found ≡ Ok parts → SaysListing name bytes found
 
--- What the step finds that learns the names. Without a part list each file is one part of one piece with the file's name.
+-- What the step finds that learns the names. Without a part list each file is one part of one piece, with its name.
 abbrev pub IsListingOf : Files → Input → Found (List NamedPart) → Type 0
 IsListingOf files (input.Manifest name) found = IsTaken files name (SaysListing name) found
 IsListingOf files (input.Files names) found = found ≡ Ok (map (λ name. (name, name ∷ [])) names)
@@ -36,7 +36,7 @@ abbrev pub IsPartOf : Files → ℕ → NamedPart → Found Part → Type 0
 IsPartOf files digits named found =
     Then (Each (IsPieceOf files digits) named.1) (λ pieces found. found ≡ Ok (part_of named.0 pieces)) found
 
--- What the step finds that reads the whole input: the names first, then each part's pieces. A file that is named twice is
--- read twice.
+-- What the step finds that reads the whole input: the names first, then each part's pieces. A file that is named twice
+-- is read twice.
 abbrev pub IsInputOf : Files → Asked → Found (List Part) → Type 0
 IsInputOf files asked found = Then (IsListingOf files asked.input) (Each (IsPartOf files asked.digits)) found

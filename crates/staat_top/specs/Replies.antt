@@ -4,7 +4,7 @@ use Rattle.staat_vec.specs.declared.vector.V3.{V3}
 use Rattle.staat_model.specs.declared.assembly.Part.{Part}
 use Rattle.staat_model.specs.Walls.{IsShown}
 use Rattle.staat_model.specs.Meeting.{Meets}
-use Rattle.staat_model.specs.Assemblies.{IsSound}
+use Rattle.staat_model.specs.Assemblies.{IsAssembly, IsSound}
 use Rattle.staat_words.specs.declared.request.Asked.{Asked}
 use Rattle.staat_words.specs.declared.request.Request.{Request}
 use Rattle.staat_words.specs.declared.request.Request.TheVariants.{Pair, Look, Graph}
@@ -35,7 +35,8 @@ abbrev pub WorkOn : Request → Files → Found Answer → Type 0
 WorkOn (Pair request) files found =
     Then (IsPieceOf files request.digits request.first) (λ p. Then (IsPieceOf files request.digits request.second)
     (λ q. IsJudged p q request.along request.wall)) found
-WorkOn (Look asked) files found = Then (IsSoundOf files asked) (λ parts found. found ≡ Ok (answer 0 (look_text parts))) found
+WorkOn (Look asked) files found =
+    Then (IsSoundOf files asked) (λ parts found. found ≡ Ok (answer 0 (look_text parts))) found
 WorkOn (Graph request) files found =
     Then (IsSoundOf files request.asked) (λ parts. Then (AreCounted parts MOST_PLANES)
     (λ planes. IsGraphed parts request.along)) found
@@ -71,16 +72,19 @@ pub record IsReply (asked : Option Request) (files : Files) (reply : Reply) : Ty
   pub work : WorkOnWords asked files found
   pub makes : Makes found reply
 
--- the input names these parts, each file holds its piece, and no pieces of different parts overlap
+-- the input names these parts, each file holds its piece, they are an assembly, and no pieces of different parts
+-- overlap
 pub record HasSoundParts (files : Files) (asked : Asked) : Type 0 where
   pub parts : List Part
   pub named : IsInputOf files asked (Ok parts)
+  pub assembly : IsAssembly parts
   pub sound : IsSound parts
 
 -- What status 0 means beyond its text. For a pair: the first file's piece never meets the second's along the direction.
 abbrev pub IsRight : Option Request → Files → Type 0
 IsRight None files = ⊥
-IsRight (Some (Pair request)) files = (p : List V3) × (q : List V3) × IsPieceOf files request.digits request.first (Ok p) ×
-    IsPieceOf files request.digits request.second (Ok q) × (Meets p q request.along → ⊥)
+IsRight (Some (Pair request)) files = (p : List V3) × (q : List V3) ×
+    IsPieceOf files request.digits request.first (Ok p) × IsPieceOf files request.digits request.second (Ok q) ×
+    (Meets p q request.along → ⊥)
 IsRight (Some (Look asked)) files = HasSoundParts files asked
 IsRight (Some (Graph request)) files = HasSoundParts files request.asked

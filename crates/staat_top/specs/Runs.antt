@@ -5,6 +5,7 @@ use Rattle.staat_edge.specs.Files.{Lacks, told_name, held_name}
 use Rattle.staat_edge.specs.Sinks.{GrewBy, GrewByPart}
 use Rattle.staat_edge.specs.Told.{ShelfTold, SinkTold}
 use Rattle.staat_words.specs.declared.request.Request.{Request}
+use Rattle.staat_words.specs.Requests.{HasBounds}
 use Rattle.staat_fault.specs.declared.fault.Fault.{Fault}
 use Rattle.staat_fault.specs.declared.fault.Fault.TheVariants.{Usage, ReadFault, TooLong, WriteFault, OutOfMemory}
 use Rattle.staat_top.specs.declared.read.TheConstants.{FILE_LIMIT}
@@ -47,7 +48,8 @@ Untouched side = side.new.wrote ≡ side.old.wrote
 -- the shelf lacks the file, or it failed, and at that file if it holds it
 abbrev pub IsUnread : ShelfSide → List ℕ → Type 0
 IsUnread shelf name = Lacks shelf.old.holds name ⊎
-    (Rose shelf.old.faults shelf.new.faults × (held_name shelf.old.holds name ≡ Some name → shelf.new.failed ≡ Some name))
+    (Rose shelf.old.faults shelf.new.faults ×
+    (held_name shelf.old.holds name ≡ Some name → shelf.new.failed ≡ Some name))
 
 -- more bytes than the limit were taken of the file, which is still open
 pub record IsPastLimit (shelf : ShelfSide) (name : List ℕ) : Type 0 where
@@ -76,6 +78,11 @@ IsFound asked shelf found = (files : Files) → shelf.old.holds ≡ Some files �
 pub record IsExplained (asked : Option Request) (shelf : ShelfSide) (fault : Fault) : Type 0 where
   pub cause : IsCaused asked shelf fault
   pub found : IsFound asked shelf (Err fault)
+
+-- the words make no request, or one whose numbers are within their bounds
+abbrev pub IsBounded : Option Request → Type 0
+IsBounded None = ⊤
+IsBounded (Some request) = HasBounds request
 
 -- The fault, or want of memory, since its line may have no memory.
 abbrev pub IsSaid : Fault → Fault → Type 0

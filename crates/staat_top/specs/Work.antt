@@ -17,13 +17,14 @@ abbrev pub Then : {X Y : Type 0} → (Found X → Type 0) → (X → Found Y →
 Then {X} First Second found =
     ((fault : Fault) × First (Err fault) × (found ≡ Err fault)) ⊎ ((x : X) × First (Ok x) × Second x found)
 
--- A step for each member of a list in turn is a step: it gives what they give, or finds the fault of the first that does.
+-- A step for each member of a list in turn is a step: it gives what they give, or finds the first fault.
 abbrev pub Each : {X Y : Type 0} → (X → Found Y → Type 0) → List X → Found (List Y) → Type 0
 Each Step [] found = found ≡ Ok []
 Each Step (x ∷ xs) found = Then (Step x) (λ y. Then (Each Step xs) (λ ys found. found ≡ Ok (y ∷ ys))) found
 
 -- What the step finds that takes a whole file: the file is to be read, or is too long, or this is what its bytes say.
-pub data IsTaken {X : Type 0} (files : Files) (name : List ℕ) (Says : List ℕ → Found X → Type 0) : Found X → Type 0 where
+pub data IsTaken {X : Type 0} (files : Files) (name : List ℕ) (Says : List ℕ → Found X → Type 0)
+    : Found X → Type 0 where
   to_read : {found : Found X} → found ≡ Err (ReadFault name) → IsTaken files name Says found
   too_long : {found : Found X} (bytes : List ℕ) → bytes_of name files ≡ Some bytes → FILE_LIMIT < length bytes →
       found ≡ Err (TooLong name) → IsTaken files name Says found

@@ -4,7 +4,7 @@ ghost use Rattle.staat_words.specs.Requests.{HasBounds, request};
 ghost use Rattle.staat_fault.specs.declared.fault.Fault.TheVariants as faults;
 ghost use Rattle.staat_top.specs.Work.{Files, Follows};
 ghost use Rattle.staat_top.specs.Replies.{WorkOn};
-ghost use Rattle.staat_top.specs.Runs.{HasCause, IsExplained, IsFound, Ran, over};
+ghost use Rattle.staat_top.specs.Runs.{HasCause, IsBounded, IsExplained, IsFound, Ran, over};
 
 use crate::answer::Answer;
 use crate::graph::graph;
@@ -42,6 +42,7 @@ fn answer_to<H: Shelf>(alloc: Global, words: &Vec<String>, shelf: &mut H) -> Res
         (over (H.told shelf.old) (H.told shelf.new)) (Ok a)) }
     ensures explained { IfErr result (IsExplained (request (map string_bytes words.now.items))
         (over (H.told shelf.old) (H.told shelf.new))) }
+    ensures bounds { IfOk result (λ _. IsBounded (request (map string_bytes words.now.items))) }
     ensures usage { request (map string_bytes words.now.items) ≡ None →
         IsErrAnd result (λ f. (f ≡ faults.Usage) ⊎ (f ≡ faults.OutOfMemory)) }
 {

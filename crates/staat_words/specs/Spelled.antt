@@ -1,5 +1,6 @@
 -- Vectors as words spell them: three numbers, parted by single commas, not all 0.
-use Rattle.std.specs.Prelude.{◌==◌, ◌&&◌, ℕ, pos, Bool, nat_lt, List, length, Option, Some, None, if◌then◌else◌, option_and_then}
+use Rattle.std.specs.Prelude.{◌==◌, ◌&&◌, ℕ, pos, Bool, nat_lt, List, length, Option, Some, None, if◌then◌else◌}
+use Rattle.std.specs.Prelude.{option_and_then}
 use Rattle.std.specs.List.{before_first, after_first, position_or_len}
 use Rattle.std.specs.Ordering.{int_eq}
 use Rattle.staat_vec.specs.declared.vector.V3.{V3}
@@ -16,7 +17,8 @@ is_comma b = b == 44
 -- what stands before the first comma, and what stands after it
 unfoldable pub halves_at_comma : List ℕ → Option (List ℕ × List ℕ)
 halves_at_comma text =
-    if nat_lt (position_or_len is_comma text) (length text) then Some (before_first is_comma text, after_first is_comma text)
+    if nat_lt (position_or_len is_comma text) (length text) then
+    Some (before_first is_comma text, after_first is_comma text)
     else None
 
 abbrev pub nonzero : V3 → Option V3
