@@ -3,7 +3,7 @@ use Rattle.std.specs.Prelude.{◌≡◌, ℕ, List, Option, Some, None, option_m
 use Rattle.std.specs.Option.{ForSome, option_and_then}
 use Rattle.std.proofs.Common.{ap, sym}
 use Rattle.std.proofs.lemmas.Option.{none-some}
-use Rattle.staat_edge.specs.Files.{bytes_of, left_at, left_of, name_at, IsFirst}
+use Rattle.staat_edge.specs.Files.{bytes_of, left_at, left_of, name_of_file, IsFirstOfName}
 
 -- what is left of a file is told by its name, where the name stands for that file
 left_by_name : (files : List (List ℕ × List ℕ)) (place : ℕ) (file : Option (List ℕ × List ℕ)) → option_map (λ f. f.1) file ≡ option_and_then (λ name. bytes_of name files) (option_map (λ f. f.0) file) → option_map (λ f. drop place f.1) file ≡ left_of (Some files) (option_map (λ f. f.0) file) (Some place)
@@ -11,12 +11,12 @@ left_by_name files place None h = refl
 left_by_name files place (Some f) h = ap (option_map (λ bytes. drop place bytes)) h
 
 -- what is left of the open file is told by its name and place
-pub left_is_told : (files : List (List ℕ × List ℕ)) (at : Option (ℕ × ℕ)) → ForSome at (λ p. IsFirst files p.0) → left_at files at ≡ left_of (Some files) (name_at files (option_map (λ p. p.0) at)) (option_map (λ p. p.1) at)
+pub left_is_told : (files : List (List ℕ × List ℕ)) (at : Option (ℕ × ℕ)) → ForSome at (λ p. IsFirstOfName files p.0) → left_at files at ≡ left_of (Some files) (name_of_file files (option_map (λ p. p.0) at)) (option_map (λ p. p.1) at)
 left_is_told files None known = refl
 left_is_told files (Some at) known = left_by_name files at.1 (slice_get files at.0) (known at refl).first
 
 -- where no file is open, there is no name of one
-pub no_name : (files : List (List ℕ × List ℕ)) (at : Option (ℕ × ℕ)) → option_map (λ p. p.1) at ≡ None → name_at files (option_map (λ p. p.0) at) ≡ None
+pub no_name : (files : List (List ℕ × List ℕ)) (at : Option (ℕ × ℕ)) → option_map (λ p. p.1) at ≡ None → name_of_file files (option_map (λ p. p.0) at) ≡ None
 no_name files None h = refl
 no_name files (Some at) h = absurd (none-some at.1 (sym h))
 

@@ -3,7 +3,7 @@ ghost use Rattle.std.specs.Prelude.{min, ◌^◌, ◌≡◌, ◌≤◌, ◌<◌,
 ghost use Rattle.std.specs.Option.{ForSome};
 ghost use Rattle.std.specs.Io.KnownBytes.{Consumes, IsAtEnd};
 ghost use Rattle.staat_edge.specs.Calls.{is_due, after_call};
-ghost use Rattle.staat_edge.specs.Files.{bytes_of, name_at, left_at, length_of, IsFirst};
+ghost use Rattle.staat_edge.specs.Files.{bytes_of, name_of_file, left_at, length_of, IsFirstOfName};
 
 use crate::schedule::Schedule;
 use crate::{Calls, Failed, Files, Shelf};
@@ -27,14 +27,14 @@ pub struct MemoryShelf {
     // the index of the file at which a call failed last
     failed: Option<usize>,
     ghost steps: { 0 < chunk },
-    ghost known: { ForSome current (λ p. IsFirst files p.0) },
+    ghost known: { ForSome current (λ p. IsFirstOfName files p.0) },
 }
 
 // The index of the first file of that name.
 fn find(files: &[(Name, Bytes)], name: &str) -> Option<usize>
     ensures none { IfNone result (bytes_of name.now files.now ≡ None) }
-    ensures some { IfSome result (λ i. IsFirst files.now i) }
-    ensures named { IfSome result (λ i. name_at files.now (Some i) ≡ Some name.now) }
+    ensures some { IfSome result (λ i. IsFirstOfName files.now i) }
+    ensures named { IfSome result (λ i. name_of_file files.now (Some i) ≡ Some name.now) }
 {
     for (i, file) in files.iter().enumerate() {
         if file.0.as_str() == name {
@@ -109,17 +109,15 @@ impl MemoryShelf {
 }
 
 impl Shelf for MemoryShelf {
-    ghost holds = { λ s. Some s.files };
-
-    ghost opened = { λ s. name_at s.files (option_map (λ at. at.0) s.current) };
-
-    ghost place = { λ s. option_map (λ at. at.1) s.current };
+    ghost told = { λ s. record {
+        holds = Some s.files;
+        faults = s.schedule.faults;
+        failed = name_of_file s.files s.failed;
+        opened = name_of_file s.files (option_map (λ at. at.0) s.current);
+        place = option_map (λ at. at.1) s.current
+    } };
 
     ghost left = { λ s. left_at s.files s.current };
-
-    ghost faults = { λ s. s.schedule.faults };
-
-    ghost failed = { λ s. name_at s.files s.failed };
 
     // exactly when a call fails, and what it raises
     ghost opens = { λ s name failed t.

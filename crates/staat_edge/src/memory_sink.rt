@@ -57,9 +57,7 @@ impl MemorySink {
 }
 
 impl Sink for MemorySink {
-    ghost wrote = { λ s. Some s.taken.items };
-
-    ghost faults = { λ s. s.schedule.faults };
+    ghost told = { λ s. record { wrote = Some s.taken.items; faults = s.schedule.faults } };
 
     // exactly when a call fails, what it raises and how much it takes
     ghost writes = { λ s bytes r t.

@@ -3,6 +3,7 @@ ghost use Rattle.std.specs.Prelude.{◌≡◌, ◌≤◌, ◌<◌, ◌+◌, ◌�
 ghost use Rattle.std.specs.Io.KnownBytes.{ReadConsumes};
 ghost use Rattle.staat_edge.specs.Causes.{Rose};
 ghost use Rattle.staat_edge.specs.Files.{content_of, Lacks, told_name, left_of, failed_at, held_name};
+ghost use Rattle.staat_edge.specs.Told.{ShelfTold};
 ghost use Rattle.staat_edge.specs.declared.shelf.Failed.{Failed};
 
 use thiserror::Error;
@@ -19,23 +20,12 @@ pub struct Failed;
 /// call, or stands at the greatest u64. Only a call that opens a name which a told shelf does not
 /// hold fails without that, so no program can raise the count by a name of its own choice.
 pub trait Shelf {
-    /// Where the shelf tells it, each file's name and bytes. No call changes it.
-    ghost holds: { Self → Option (List (List ℕ × List ℕ)) };
-
-    /// Where the shelf tells what it holds and a file is open, that file's name.
-    ghost opened: { Self → Option (List ℕ) };
-
-    /// Where a file is open, how many of its bytes were read.
-    ghost place: { Self → Option ℕ };
+    /// What the shelf tells: what it holds, which no call changes; how often it has failed, which never falls; and the
+    /// file at which it failed last, the open file and the place in it.
+    ghost told: { Self → ShelfTold };
 
     /// Where the shelf tells what it holds and a file is open, the bytes that are left of it.
     ghost left: { Self → Option (List ℕ) };
-
-    /// How often the shelf has failed. It never falls.
-    ghost faults: { Self → ℕ };
-
-    /// Where the shelf tells what it holds, the held file at which a call failed last.
-    ghost failed: { Self → Option (List ℕ) };
 
     /// What more the shelf promises of `open`: of the shelf before the call, the name, whether the
     /// call failed, and the shelf after it.
@@ -47,49 +37,49 @@ pub trait Shelf {
 
     /// Opens the file of that name at its start, and closes the one before, also where it fails.
     fn open(&mut self, name: &str) -> Result<(), Failed>
-        ensures holds { holds self.new ≡ holds self.old }
-        ensures count { faults self.old ≤ faults self.new }
+        ensures holds { (told self.new).holds ≡ (told self.old).holds }
+        ensures count { (told self.old).faults ≤ (told self.new).faults }
 
-        ensures start { OnOk result (place self.new ≡ Some 0) }
-        ensures content { OnOk result (left self.new ≡ content_of (holds self.old) name.now) }
-        ensures name { OnOk result (opened self.new ≡ told_name (holds self.old) name.now) }
+        ensures start { OnOk result ((told self.new).place ≡ Some 0) }
+        ensures content { OnOk result (left self.new ≡ content_of (told self.old).holds name.now) }
+        ensures name { OnOk result ((told self.new).opened ≡ told_name (told self.old).holds name.now) }
 
         // a name that is not held: the call fails, and this is no fault of the shelf
-        ensures lacking { Lacks (holds self.old) name.now →
-            IsErr result × (faults self.new ≡ faults self.old) }
-        ensures closed { OnErr result (place self.new ≡ None) }
+        ensures lacking { Lacks (told self.old).holds name.now →
+            IsErr result × ((told self.new).faults ≡ (told self.old).faults) }
+        ensures closed { OnErr result ((told self.new).place ≡ None) }
         ensures cause { OnErr result
-            (Lacks (holds self.old) name.now ⊎ Rose (faults self.old) (faults self.new)) }
-        ensures failed { failed self.new ≡
-            failed_at (is_err result) (held_name (holds self.old) name.now) (failed self.old) }
+            (Lacks (told self.old).holds name.now ⊎ Rose (told self.old).faults (told self.new).faults) }
+        ensures failed { (told self.new).failed ≡
+            failed_at (is_err result) (held_name (told self.old).holds name.now) (told self.old).failed }
         ensures more { opens self.old name.now (is_err result) self.new };
 
     /// Reads the next bytes of the open file into the front of `buf`, and answers how many. It
     /// gives none only at the file's end or where `buf` is empty. After `Failed` the place is as
     /// before.
     fn read(&mut self, buf: &mut [u8]) -> Result<usize, Failed>
-        requires { IsSome (place self.old) }
-        ensures holds { holds self.new ≡ holds self.old }
-        ensures count { faults self.old ≤ faults self.new }
-        ensures name { opened self.new ≡ opened self.old }
+        requires { IsSome (told self.old).place }
+        ensures holds { (told self.new).holds ≡ (told self.old).holds }
+        ensures count { (told self.old).faults ≤ (told self.new).faults }
+        ensures name { (told self.new).opened ≡ (told self.old).opened }
 
         ensures room { IfOk result (λ n. n ≤ length buf.new) }
         ensures moved { MatchResult result
-            (λ n. place self.new ≡ option_map (λ at. at + n) (place self.old))
-            (λ _. place self.new ≡ place self.old) }
+            (λ n. (told self.new).place ≡ option_map (λ at. at + n) (told self.old).place)
+            (λ _. (told self.new).place ≡ (told self.old).place) }
         ensures bytes { ReadConsumes (left self.old) (left self.new) result buf.new }
 
-        ensures cause { OnErr result (Rose (faults self.old) (faults self.new)) }
-        ensures failed { failed self.new ≡
-            failed_at (is_err result) (opened self.old) (failed self.old) }
+        ensures cause { OnErr result (Rose (told self.old).faults (told self.new).faults) }
+        ensures failed { (told self.new).failed ≡
+            failed_at (is_err result) (told self.old).opened (told self.old).failed }
         ensures more { reads self.old buf.new result self.new };
 
     /// What is left is told by what the shelf holds, the open file's name and the place.
-    ghost left_is: { (s : Self) → left s ≡ left_of (holds s) (opened s) (place s) };
+    ghost left_is: { (s : Self) → left s ≡ left_of (told s).holds (told s).opened (told s).place };
 
     /// Where no file is open, the shelf tells no name of one.
-    ghost closed_is: { (s : Self) → place s ≡ None → opened s ≡ None };
+    ghost closed_is: { (s : Self) → (told s).place ≡ None → (told s).opened ≡ None };
 
     /// A shelf that does not tell what it holds tells no names.
-    ghost untold_is: { (s : Self) → holds s ≡ None → (opened s ≡ None) × (failed s ≡ None) };
+    ghost untold_is: { (s : Self) → (told s).holds ≡ None → ((told s).opened ≡ None) × ((told s).failed ≡ None) };
 }

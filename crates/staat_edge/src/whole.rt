@@ -48,37 +48,37 @@ pub fn read_whole<H: Shelf>(
 ) -> Result<Bytes, ReadRefusal>
     requires { limit < 2 ^ 31 }
 
-    ensures holds { H.holds shelf.new ≡ H.holds shelf.old }
-    ensures count { H.faults shelf.old ≤ H.faults shelf.new }
-    ensures name { IfSome (H.place shelf.new)
-        (λ _. H.opened shelf.new ≡ told_name (H.holds shelf.old) name.now) }
-    ensures most { IfSome (H.place shelf.new) (λ at. at ≤ limit + 1) }
+    ensures holds { (H.told shelf.new).holds ≡ (H.told shelf.old).holds }
+    ensures count { (H.told shelf.old).faults ≤ (H.told shelf.new).faults }
+    ensures name { IfSome (H.told shelf.new).place
+        (λ _. (H.told shelf.new).opened ≡ told_name (H.told shelf.old).holds name.now) }
+    ensures most { IfSome (H.told shelf.new).place (λ at. at ≤ limit + 1) }
 
-    ensures content { IfOk result (λ bytes. IsWhole (H.holds shelf.old) name.now bytes) }
+    ensures content { IfOk result (λ bytes. IsWhole (H.told shelf.old).holds name.now bytes) }
     ensures within { IfOk result (λ bytes. length bytes ≤ limit) }
-    ensures place { IfOk result (λ bytes. H.place shelf.new ≡ Some (length bytes)) }
-    ensures same_failed { OnOk result (H.failed shelf.new ≡ H.failed shelf.old) }
+    ensures place { IfOk result (λ bytes. (H.told shelf.new).place ≡ Some (length bytes)) }
+    ensures same_failed { OnOk result ((H.told shelf.new).failed ≡ (H.told shelf.old).failed) }
 
     ensures fault { IsErrOf result ReadRefusal.ReadFault →
-        Lacks (H.holds shelf.old) name.now ⊎ Rose (H.faults shelf.old) (H.faults shelf.new) }
+        Lacks (H.told shelf.old).holds name.now ⊎ Rose (H.told shelf.old).faults (H.told shelf.new).faults }
     ensures failed { IsErrOf result ReadRefusal.ReadFault →
-        H.failed shelf.new ≡
-        failed_at true (held_name (H.holds shelf.old) name.now) (H.failed shelf.old) }
+        (H.told shelf.new).failed ≡
+        failed_at true (held_name (H.told shelf.old).holds name.now) (H.told shelf.old).failed }
     // a held file whose reading met no fault is not refused as one that cannot be read
-    ensures no_fault { IsSome (content_of (H.holds shelf.old) name.now) →
-        ¬ Rose (H.faults shelf.old) (H.faults shelf.new) → ¬ IsErrOf result ReadRefusal.ReadFault }
+    ensures no_fault { IsSome (content_of (H.told shelf.old).holds name.now) →
+        ¬ Rose (H.told shelf.old).faults (H.told shelf.new).faults → ¬ IsErrOf result ReadRefusal.ReadFault }
 
     ensures long { IsErrOf result ReadRefusal.TooLong →
-        IsSomeAnd (H.place shelf.new) (λ at. limit < at) }
+        IsSomeAnd (H.told shelf.new).place (λ at. limit < at) }
     ensures long_name { IsErrOf result ReadRefusal.TooLong →
-        H.opened shelf.new ≡ told_name (H.holds shelf.old) name.now }
+        (H.told shelf.new).opened ≡ told_name (H.told shelf.old).holds name.now }
     ensures longer { IsErrOf result ReadRefusal.TooLong →
-        IsLonger (H.holds shelf.old) name.now limit }
+        IsLonger (H.told shelf.old).holds name.now limit }
     ensures long_failed { IsErrOf result ReadRefusal.TooLong →
-        H.failed shelf.new ≡ H.failed shelf.old }
+        (H.told shelf.new).failed ≡ (H.told shelf.old).failed }
 
     ensures memory_failed { IsErrOf result ReadRefusal.OutOfMemory →
-        H.failed shelf.new ≡ H.failed shelf.old }
+        (H.told shelf.new).failed ≡ (H.told shelf.old).failed }
 {
     if shelf.open(name).is_err() {
         return Err(ReadRefusal::ReadFault);
@@ -105,10 +105,10 @@ pub struct WriteFault;
 /// bytes are always written, without a call of the sink.
 #[tactic(auto, using(crate::proofs::Grown::growth))]
 pub fn write_whole<S: Sink>(sink: &mut S, bytes: &[u8]) -> Result<(), WriteFault>
-    ensures count { S.faults sink.old ≤ S.faults sink.new }
-    ensures all { OnOk result (GrewBy (S.wrote sink.old) (S.wrote sink.new) bytes.now) }
-    ensures part { OnErr result (GrewByPart (S.wrote sink.old) (S.wrote sink.new) bytes.now) }
-    ensures cause { OnErr result (Rose (S.faults sink.old) (S.faults sink.new)) }
+    ensures count { (S.told sink.old).faults ≤ (S.told sink.new).faults }
+    ensures all { OnOk result (GrewBy (S.told sink.old).wrote (S.told sink.new).wrote bytes.now) }
+    ensures part { OnErr result (GrewByPart (S.told sink.old).wrote (S.told sink.new).wrote bytes.now) }
+    ensures cause { OnErr result (Rose (S.told sink.old).faults (S.told sink.new).faults) }
     ensures empty { length bytes.now ≡ 0 → IsOk result × (sink.new ≡ sink.old) }
 {
     let mut done = 0;

@@ -4,3 +4,4 @@ pub mod OneGraphText
 pub mod PlanLines
 pub mod PlanSteps
 mod TestParts
+pub mod SameArcs

@@ -1,10 +1,11 @@
 //! Laws on texts. Each is a function that does nothing, and its contract is the law.
-ghost use Rattle.std.specs.Prelude.{◌≡◌, ◌<◌, ℕ, Bool, List};
+ghost use Rattle.std.specs.Prelude.{◌≡◌, ◌↔◌, ◌<◌, ℕ, Bool, List};
 ghost use Rattle.staat_vec.specs.declared.vector.V3.{V3 as Vector};
 ghost use Rattle.staat_model.specs.declared.assembly.Part.{Part as PartValue};
 ghost use Rattle.staat_model.specs.declared.set.PartSet.{PartSet as PartSetValue};
 ghost use Rattle.staat_model.specs.Plans.{IsGood, Plan};
-ghost use Rattle.staat_model.specs.Sets.{Has};
+ghost use Rattle.staat_model.specs.Sets.{Has, below};
+ghost use Rattle.staat_graph.specs.Graphs.{HasArc};
 ghost use Rattle.staat_text.specs.GraphTexts.{IsGraphText};
 ghost use Rattle.staat_text.specs.PlanTexts.{HasLeaves, IsPlanText};
 
@@ -13,6 +14,13 @@ use staat_model::MOST_PARTS;
 /// A graph has one text at a direction.
 pub fn one_graph_text()
     ensures { (parts : ℕ) (d : Vector) (rows text other : List ℕ) → IsGraphText parts d rows text → IsGraphText parts d rows other → text ≡ other }
+{}
+
+/// Graphs with the same arcs among the parts have the same text.
+pub fn same_graph_text()
+    ensures { (parts : ℕ) (d : Vector) (rows others text other : List ℕ) →
+        ((a b : ℕ) → Has (below parts) a → Has (below parts) b → HasArc rows a b ↔ HasArc others a b) →
+        IsGraphText parts d rows text → IsGraphText parts d others other → text ≡ other }
 {}
 
 /// A set of parts has one plan text.

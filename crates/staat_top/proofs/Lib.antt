@@ -1,10 +1,9 @@
-pub mod Reading
-pub mod Judging
+pub mod ReadLemmas
+pub mod PairLemmas
 pub mod OneReply
 pub mod RightLemmas
 pub mod RunLemmas
-pub mod Asking
-pub mod Inputting
-pub mod Testing
-pub mod Counting
-pub mod SameGraph
+pub mod TopLemmas
+pub mod InputLemmas
+pub mod SoundLemmas
+pub mod PlanesLemmas

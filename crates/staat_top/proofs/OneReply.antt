@@ -13,123 +13,99 @@ use Rattle.staat_model.proofs.Orders.{arc_exact, arc_total}
 use Rattle.staat_graph.specs.Blocking.{ShowsBlocking}
 use Rattle.staat_graph.specs.Graphs.{HasArc}
 use Rattle.staat_planes.specs.declared.table.TheConstants.{MOST_PLANES}
-use Rattle.staat_top.proofs.SameGraph.{same_graph_text}
+use Rattle.staat_text.proofs.SameArcs.{same_graph_text}
 use Rattle.staat_asm.specs.Overlaps.{IsFirstOverlap, IsOverlap}
-use Rattle.staat_fault.specs.declared.fault.Fault.TheVariants.{Overlap, TooManyPlanes}
+use Rattle.staat_fault.specs.declared.fault.Fault.TheVariants.{Usage, ReadFault, Overlap, TooManyPlanes}
+use Rattle.staat_fault.specs.declared.fault.Fault.{Fault}
 use Rattle.staat_mesh.specs.declared.refusal.MeshRefusal.{MeshRefusal}
+use Rattle.staat_mesh.specs.declared.refusal.MeshRefusal.TheVariants as mesh_refusal
+use Rattle.staat_off.specs.declared.refusal.OffRefusal.{OffRefusal}
+use Rattle.staat_off.specs.declared.refusal.OffRefusal.TheVariants as off
+use Rattle.staat_manifest.specs.declared.refusal.ManifestRefusal.{ManifestRefusal}
+use Rattle.staat_manifest.specs.declared.refusal.ManifestRefusal.TheVariants as manifest
 use Rattle.staat_vec.specs.declared.vector.V3.{V3}
 use Rattle.staat_mesh.specs.Polygons.{mesh}
 use Rattle.staat_mesh.specs.Judging.{Judges}
 use Rattle.staat_mesh.proofs.OneAnswer.{one_answer_lemma}
 use Rattle.staat_edge.specs.Files.{bytes_of}
+use Rattle.staat_words.specs.declared.request.Asked.{Asked}
 use Rattle.staat_words.specs.declared.request.Input.{Input}
 use Rattle.staat_words.specs.declared.request.Input.TheVariants as input
 use Rattle.staat_words.specs.declared.request.Request.{Request}
 use Rattle.staat_words.specs.declared.request.Request.TheVariants.{Pair, Look, Graph}
 use Rattle.staat_top.specs.declared.read.TheConstants.{FILE_LIMIT}
-use Rattle.staat_top.specs.Steps.{Files, End, replies, reads, Found, gives, stops, Then, Next, Each, Reply, answered, refused, IsTaken, to_read, too_long, taken}
+use Rattle.staat_top.specs.declared.answer.Answer.{Answer}
+use Rattle.staat_top.specs.Work.{Files, Found, Then, Each, IsTaken, to_read, too_long, taken}
 use Rattle.staat_top.specs.Refusals.{off_fault, mesh_fault, manifest_fault}
 use Rattle.staat_top.specs.Pieces.{IsPieceOf, SaysPiece, no_file, no_piece, piece}
 use Rattle.staat_top.specs.Inputs.{NamedPart, SaysListing, no_listing, listing, IsListingOf, IsPartOf, IsInputOf, part_of}
 use Rattle.staat_top.specs.Assembling.{IsTested, overlapping, sound, IsSoundOf}
 use Rattle.staat_top.specs.Graphing.{AreCounted, IsGraphed, all_parts, few, too_many}
-use Rattle.staat_top.specs.Replies.{IsJudged, free, not_shown, Ends}
+use Rattle.staat_top.specs.Replies.{IsJudged, answer, free, not_shown, WorkOn, WorkOnWords, Reply, Makes, IsReply}
 
--- the step does not stand at a file that is to be read
+-- what the step finds is no file that is to be read
 abbrev pub IsSettled : {X : Type 0} → Found X → Type 0
-IsSettled (gives x) = Unit {0}
-IsSettled (stops (replies reply)) = Unit {0}
-IsSettled (stops (reads name)) = ⊥
+IsSettled (Err (ReadFault name)) = ⊥
+IsSettled found = Unit {0}
 
 -- What a step finds is one thing, unless it stands at a file; and it finds nothing where that file is not there.
-pub record IsStep {X : Type 0} (files : Files) (Step : Found X → Type 0) : Type 0 where
+pub record FindsOne {X : Type 0} (files : Files) (Step : Found X → Type 0) : Type 0 where
   pub one : (f g : Found X) → Step f → Step g → IsSettled f → IsSettled g → f ≡ g
-  pub held : (name : List ℕ) (f : Found X) → Step (stops (reads name)) → bytes_of name files ≡ None → Step f → IsSettled f → ⊥
+  pub held : (name : List ℕ) (f : Found X) → Step (Err (ReadFault name)) → bytes_of name files ≡ None → Step f → IsSettled f → ⊥
 
--- the same of the rest of the work
-pub record IsRest (files : Files) (Rest : End → Type 0) : Type 0 where
-  pub one : (r s : Reply) → Rest (replies r) → Rest (replies s) → r ≡ s
-  pub held : (name : List ℕ) (r : Reply) → Rest (reads name) → bytes_of name files ≡ None → Rest (replies r) → ⊥
+given_one : {X : Type 0} (x y : X) → ◌≡◌ {A = Found X} (Ok x) (Ok y) → x ≡ y
+given_one x y e = cc
 
-gives_one : {X : Type 0} (x y : X) → gives x ≡ gives y → x ≡ y
-gives_one x y e = cc
+given_not_fault : {X : Type 0} (x : X) (f : Fault) → ◌≡◌ {A = Found X} (Ok x) (Err f) → ⊥
+given_not_fault x f e = cc
 
-gives_stops : {X : Type 0} (x : X) (at : End) → gives x ≡ stops at → ⊥
-gives_stops x at e = cc
+fault_at : {X : Type 0} (found : Found X) (f : Fault) → found ≡ Err f → IsSettled found → IsSettled {X = X} (Err f)
+fault_at found f e settled = subst IsSettled e settled
 
-stops_one : {X : Type 0} (f g : Found X) (r s : Reply) → f ≡ stops (replies r) → g ≡ stops (replies s) → f ≡ g → r ≡ s
-stops_one f g r s is_f is_g e = cc
+fault_of : {X : Type 0} (f g : Fault) → ◌≡◌ {A = Found X} (Err g) (Err f) → f ≡ g
+fault_of f g e = cc
 
--- a step and the rest of the work
-pub then_rest : {X : Type 0} (files : Files) (First : Found X → Type 0) (Rest : X → End → Type 0) → IsStep files First → ((x : X) → IsRest files (Rest x)) → IsRest files (Then First Rest)
-then_rest {X} files First Rest first rest = record { one = one; held = held }
-  where
-    one : (r s : Reply) → Then First Rest (replies r) → Then First Rest (replies s) → r ≡ s
-    one r s (inl a) (inl b) = stops_one _ _ r s refl refl (first.one _ _ a b tt tt)
-    one r s (inl a) (inr b) = absurd (gives_stops b.0 _ (first.one _ _ b.1 a tt tt))
-    one r s (inr a) (inl b) = absurd (gives_stops a.0 _ (first.one _ _ a.1 b tt tt))
-    one r s (inr a) (inr b) =
-        let same : a.0 ≡ b.0 = gives_one a.0 b.0 (first.one _ _ a.1 b.1 tt tt) in
-        (rest b.0).one r s (subst (λ x. Rest x (replies r)) same a.2) b.2
+-- whether a fault is settled does not depend on what else the step might give
+settled_fault : (X Y : Type 0) (f : Fault) → IsSettled {X = X} (Err f) → IsSettled {X = Y} (Err f)
+settled_fault X Y (ReadFault name) h = h
+settled_fault X Y f h = tt
 
-    held : (name : List ℕ) (r : Reply) → Then First Rest (reads name) → bytes_of name files ≡ None → Then First Rest (replies r) → ⊥
-    held name r (inl a) lacks (inl b) = first.held name _ a lacks b tt
-    held name r (inl a) lacks (inr b) = first.held name _ a lacks b.1 tt
-    held name r (inr a) lacks (inl b) = gives_stops a.0 _ (first.one _ _ a.1 b tt tt)
-    held name r (inr a) lacks (inr b) =
-        let same : a.0 ≡ b.0 = gives_one a.0 b.0 (first.one _ _ a.1 b.1 tt tt) in
-        (rest b.0).held name r (subst (λ x. Rest x (reads name)) same a.2) lacks b.2
-
-found_at : {X : Type 0} (f : Found X) (at : End) → f ≡ stops at → IsSettled f → IsSettled {X = X} (stops at)
-found_at f at e settled = subst IsSettled e settled
-
-stop_of : {X : Type 0} (at : End) (name : List ℕ) → ◌≡◌ {A = Found X} (stops (reads name)) (stops at) → at ≡ reads name
-stop_of at name e = cc
-
--- whether an end is a reply does not depend on what else the step might give
-settled_end : (X Y : Type 0) (at : End) → IsSettled {X = X} (stops at) → IsSettled {X = Y} (stops at)
-settled_end X Y (replies reply) h = tt
-settled_end X Y (reads name) h = h
-
-stops_at_one : (X Y : Type 0) (a b : End) → ◌≡◌ {A = Found X} (stops a) (stops b) → ◌≡◌ {A = Found Y} (stops a) (stops b)
-stops_at_one X Y a b e = let same : a ≡ b = cc in ap (λ x. stops x) same
+fault_one : (X Y : Type 0) (f g : Fault) → ◌≡◌ {A = Found X} (Err f) (Err g) → ◌≡◌ {A = Found Y} (Err f) (Err g)
+fault_one X Y f g e = ap (λ h. Err h) (fault_of f g (sym e) )
 
 -- two steps as one
-pub next_step : {X Y : Type 0} (files : Files) (First : Found X → Type 0) (Rest : X → Found Y → Type 0) → IsStep files First → ((x : X) → IsStep files (Rest x)) → IsStep files (Next First Rest)
-next_step {X} {Y} files First Rest first rest = record { one = one; held = held }
+pub then_one : {X Y : Type 0} (files : Files) (First : Found X → Type 0) (Second : X → Found Y → Type 0) → FindsOne files First → ((x : X) → FindsOne files (Second x)) → FindsOne files (Then First Second)
+then_one {X} {Y} files First Second first second = record { one = one; held = held }
   where
-    one : (f g : Found Y) → Next First Rest f → Next First Rest g → IsSettled f → IsSettled g → f ≡ g
+    one : (f g : Found Y) → Then First Second f → Then First Second g → IsSettled f → IsSettled g → f ≡ g
     one f g (inl (a, fa, e)) (inl (b, fb, d)) sf sg =
-        e ∙ stops_at_one X Y a b (first.one (stops a) (stops b) fa fb (settled_end Y X a (found_at f a e sf)) (settled_end Y X b (found_at g b d sg))) ∙ sym d
-    one f g (inl (a, fa, e)) (inr (y, fy, ry)) sf sg = absurd (gives_stops y a (first.one (gives y) (stops a) fy fa tt (settled_end Y X a (found_at f a e sf))))
-    one f g (inr (x, fx, rx)) (inl (b, fb, d)) sf sg = absurd (gives_stops x b (first.one (gives x) (stops b) fx fb tt (settled_end Y X b (found_at g b d sg))))
+        e ∙ fault_one X Y a b (first.one (Err a) (Err b) fa fb (settled_fault Y X a (fault_at f a e sf)) (settled_fault Y X b (fault_at g b d sg))) ∙ sym d
+    one f g (inl (a, fa, e)) (inr (y, fy, ry)) sf sg = absurd (given_not_fault y a (first.one (Ok y) (Err a) fy fa tt (settled_fault Y X a (fault_at f a e sf))))
+    one f g (inr (x, fx, rx)) (inl (b, fb, d)) sf sg = absurd (given_not_fault x b (first.one (Ok x) (Err b) fx fb tt (settled_fault Y X b (fault_at g b d sg))))
     one f g (inr (x, fx, rx)) (inr (y, fy, ry)) sf sg =
-        let same : x ≡ y = gives_one x y (first.one (gives x) (gives y) fx fy tt tt) in
-        (rest y).one f g (subst (λ z. Rest z f) same rx) ry sf sg
+        let same : x ≡ y = given_one x y (first.one (Ok x) (Ok y) fx fy tt tt) in
+        (second y).one f g (subst (λ z. Second z f) same rx) ry sf sg
 
-    held : (name : List ℕ) (f : Found Y) → Next First Rest (stops (reads name)) → bytes_of name files ≡ None → Next First Rest f → IsSettled f → ⊥
+    held : (name : List ℕ) (f : Found Y) → Then First Second (Err (ReadFault name)) → bytes_of name files ≡ None → Then First Second f → IsSettled f → ⊥
     held name f (inl (a, fa, e)) lacks (inl (b, fb, d)) settled =
-        first.held name (stops b) (subst (λ z. First (stops z)) (stop_of a name e) fa) lacks fb (settled_end Y X b (found_at f b d settled))
+        first.held name (Err b) (subst (λ z. First (Err z)) (fault_of a (ReadFault name) e) fa) lacks fb (settled_fault Y X b (fault_at f b d settled))
     held name f (inl (a, fa, e)) lacks (inr (y, fy, ry)) settled =
-        first.held name (gives y) (subst (λ z. First (stops z)) (stop_of a name e) fa) lacks fy tt
-    held name f (inr (x, fx, rx)) lacks (inl (b, fb, d)) settled = gives_stops x b (first.one (gives x) (stops b) fx fb tt (settled_end Y X b (found_at f b d settled)))
+        first.held name (Ok y) (subst (λ z. First (Err z)) (fault_of a (ReadFault name) e) fa) lacks fy tt
+    held name f (inr (x, fx, rx)) lacks (inl (b, fb, d)) settled = given_not_fault x b (first.one (Ok x) (Err b) fx fb tt (settled_fault Y X b (fault_at f b d settled)))
     held name f (inr (x, fx, rx)) lacks (inr (y, fy, ry)) settled =
-        let same : x ≡ y = gives_one x y (first.one (gives x) (gives y) fx fy tt tt) in
-        (rest y).held name f (subst (λ z. Rest z (stops (reads name))) same rx) lacks ry settled
+        let same : x ≡ y = given_one x y (first.one (Ok x) (Ok y) fx fy tt tt) in
+        (second y).held name f (subst (λ z. Second z (Err (ReadFault name))) same rx) lacks ry settled
 
-no_reads : {X : Type 0} (x : X) (name : List ℕ) → stops (reads name) ≡ gives x → ⊥
-no_reads x name e = cc
-
--- a step that gives one thing
-pub given_step : {X : Type 0} (files : Files) (x : X) → IsStep files (λ found. found ≡ gives x)
-given_step files x = record { one = λ f g a b sf sg. a ∙ sym b; held = λ name f at lacks step settled. no_reads x name at }
+-- a step that finds one thing, and no file that is to be read
+known_one : {X : Type 0} (files : Files) (x : X) → FindsOne files (λ found. found ≡ Ok x)
+known_one files x = record { one = λ f g a b sf sg. a ∙ sym b; held = λ name f at lacks step settled. given_not_fault x (ReadFault name) (sym at) }
 
 -- a step for each member
-pub each_step : {X Y : Type 0} (files : Files) (Step : X → Found Y → Type 0) → ((x : X) → IsStep files (Step x)) → (xs : List X) → IsStep files (Each Step xs)
-each_step {X} {Y} files Step step [] = given_step files []
-each_step {X} {Y} files Step step (x ∷ xs) =
-    next_step files (Step x) (λ y. Next (Each Step xs) (λ ys found. found ≡ gives (y ∷ ys))) (step x)
-    (λ y. next_step files (Each Step xs) (λ ys found. found ≡ gives (y ∷ ys)) (each_step files Step step xs) (λ ys. given_step files (y ∷ ys)))
+pub each_one : {X Y : Type 0} (files : Files) (Step : X → Found Y → Type 0) → ((x : X) → FindsOne files (Step x)) → (xs : List X) → FindsOne files (Each Step xs)
+each_one {X} {Y} files Step step [] = known_one files []
+each_one {X} {Y} files Step step (x ∷ xs) =
+    then_one files (Step x) (λ y. Then (Each Step xs) (λ ys found. found ≡ Ok (y ∷ ys))) (step x)
+    (λ y. then_one files (Each Step xs) (λ ys found. found ≡ Ok (y ∷ ys)) (each_one files Step step xs) (λ ys. known_one files (y ∷ ys)))
 
 bytes_one : (o : Option (List ℕ)) (a b : List ℕ) → o ≡ Some a → o ≡ Some b → a ≡ b
 bytes_one o a b e f = cc
@@ -137,10 +113,10 @@ bytes_one o a b e f = cc
 not_both : (o : Option (List ℕ)) (a : List ℕ) → o ≡ Some a → o ≡ None → ⊥
 not_both o a e f = cc
 
-at_reads : {X : Type 0} (f : Found X) (n m : List ℕ) → f ≡ stops (reads n) → f ≡ stops (reads m) → n ≡ m
+at_reads : {X : Type 0} (f : Found X) (n m : List ℕ) → f ≡ Err (ReadFault n) → f ≡ Err (ReadFault m) → n ≡ m
 at_reads f n m e d = cc
 
-unsettled : {X : Type 0} (name : List ℕ) (f : Found X) → f ≡ stops (reads name) → IsSettled f → ⊥
+unsettled : {X : Type 0} (name : List ℕ) (f : Found X) → f ≡ Err (ReadFault name) → IsSettled f → ⊥
 unsettled name f e settled = subst IsSettled e settled
 
 not_long : (o : Option (List ℕ)) (a b : List ℕ) → o ≡ Some a → o ≡ Some b → FILE_LIMIT < length a → length b ≤ FILE_LIMIT → ⊥
@@ -149,11 +125,11 @@ not_long o a b e f long short = absurd (omega (arith, ap length (bytes_one o a b
 -- what bytes say is one thing, and no file that is to be read
 pub record IsSaying {X : Type 0} (Says : List ℕ → Found X → Type 0) : Type 0 where
   pub one : (bytes : List ℕ) (f g : Found X) → Says bytes f → Says bytes g → f ≡ g
-  pub no_read : (bytes name : List ℕ) → Says bytes (stops (reads name)) → ⊥
+  pub no_read : (bytes name : List ℕ) → Says bytes (Err (ReadFault name)) → ⊥
 
 -- a step that takes a whole file
-pub taken_step : {X : Type 0} (files : Files) (name : List ℕ) (Says : List ℕ → Found X → Type 0) → IsSaying Says → IsStep files (IsTaken files name Says)
-taken_step {X} files name Says saying = record {
+pub taken_one : {X : Type 0} (files : Files) (name : List ℕ) (Says : List ℕ → Found X → Type 0) → IsSaying Says → FindsOne files (IsTaken files name Says)
+taken_one {X} files name Says saying = record {
   one = one;
   held = λ n f at lacks step settled. not_there f (subst (λ m. bytes_of m files ≡ None) (its_own n at) lacks) step settled;
 }
@@ -171,10 +147,40 @@ taken_step {X} files name Says saying = record {
     not_there f lacks (too_long x xe xl e) settled = not_both _ x xe lacks
     not_there f lacks (taken x xe xs xt) settled = not_both _ x xe lacks
 
-    its_own : (n : List ℕ) → IsTaken files name Says (stops (reads n)) → n ≡ name
+    its_own : (n : List ℕ) → IsTaken files name Says (Err (ReadFault n)) → n ≡ name
     its_own n (to_read e) = at_reads _ n name refl e
     its_own n (too_long x xe xl e) = absurd cc
     its_own n (taken x xe xs xt) = absurd (saying.no_read x n xt)
+
+-- no refusal is a file that is to be read
+off_settled : (name : List ℕ) (r : OffRefusal) → IsSettled {X = List V3} (Err (off_fault name r))
+off_settled name off.NoHeader = tt
+off_settled name (off.BadNumber at) = tt
+off_settled name (off.NotWhole at) = tt
+off_settled name (off.TooBig at) = tt
+off_settled name (off.BadCount at) = tt
+off_settled name (off.BadIndex at) = tt
+off_settled name off.ShortFile = tt
+off_settled name (off.Trailing at) = tt
+off_settled name off.OutOfMemory = tt
+
+mesh_settled : (name : List ℕ) (r : MeshRefusal) → IsSettled {X = List V3} (Err (mesh_fault name r))
+mesh_settled name (mesh_refusal.TooFewPoints n) = tt
+mesh_settled name (mesh_refusal.TooManyPoints n) = tt
+mesh_settled name mesh_refusal.Flat = tt
+mesh_settled name (mesh_refusal.BadFace f) = tt
+mesh_settled name (mesh_refusal.NotConvex f) = tt
+mesh_settled name (mesh_refusal.OpenEdge f k) = tt
+mesh_settled name mesh_refusal.OutOfMemory = tt
+
+manifest_settled : (name : List ℕ) (r : ManifestRefusal) → IsSettled {X = List NamedPart} (Err (manifest_fault name r))
+manifest_settled name manifest.NotJson = tt
+manifest_settled name (manifest.BadShape path) = tt
+manifest_settled name (manifest.RepeatedName part) = tt
+manifest_settled name (manifest.NoPieces part) = tt
+manifest_settled name manifest.TooManyParts = tt
+manifest_settled name manifest.TooManyPieces = tt
+manifest_settled name manifest.OutOfMemory = tt
 
 unlike : (r : MeshRefusal) (p : List V3) → Err r ≡ Ok p → ⊥
 unlike r p e = cc
@@ -184,7 +190,7 @@ piece_saying digits name = record { one = one; no_read = no_read }
   where
     one : (bytes : List ℕ) (f g : Found (List V3)) → SaysPiece digits name bytes f → SaysPiece digits name bytes g → f ≡ g
     one bytes f g (no_file r re e) (no_file s se d) =
-        let same : r ≡ s = cc in e ∙ ap (λ x. stops (replies (refused (off_fault name x)))) same ∙ sym d
+        let same : r ≡ s = cc in e ∙ ap (λ x. Err (off_fault name x)) same ∙ sym d
     one bytes f g (no_file r re e) (no_piece raw s se sj d) = absurd cc
     one bytes f g (no_file r re e) (piece raw p se sj d) = absurd cc
     one bytes f g (no_piece raw r re rj e) (no_file s se d) = absurd cc
@@ -192,7 +198,7 @@ piece_saying digits name = record { one = one; no_read = no_read }
         let raws : raw ≡ war = cc in
         let answers : Err r ≡ Err s = one_answer_lemma (mesh war) (Err r) (Err s) (subst (λ x. Judges (mesh x) (Err r)) raws rj) sj in
         let same : r ≡ s = cc in
-        e ∙ ap (λ x. stops (replies (refused (mesh_fault name x)))) same ∙ sym d
+        e ∙ ap (λ x. Err (mesh_fault name x)) same ∙ sym d
     one bytes f g (no_piece raw r re rj e) (piece war p se sj d) =
         let raws : raw ≡ war = cc in
         absurd (unlike r p (one_answer_lemma (mesh war) (Err r) (Ok p) (subst (λ x. Judges (mesh x) (Err r)) raws rj) sj))
@@ -204,82 +210,76 @@ piece_saying digits name = record { one = one; no_read = no_read }
         let raws : raw ≡ war = cc in
         let answers : Ok p ≡ Ok q = one_answer_lemma (mesh war) (Ok p) (Ok q) (subst (λ x. Judges (mesh x) (Ok p)) raws rj) sj in
         let same : p ≡ q = cc in
-        e ∙ ap gives same ∙ sym d
+        e ∙ ap Ok same ∙ sym d
 
-    no_read : (bytes n : List ℕ) → SaysPiece digits name bytes (stops (reads n)) → ⊥
-    no_read bytes n (no_file r re e) = absurd cc
-    no_read bytes n (no_piece raw r re rj e) = absurd cc
-    no_read bytes n (piece raw p re rj e) = gives_stops p (reads n) (sym e)
+    no_read : (bytes n : List ℕ) → SaysPiece digits name bytes (Err (ReadFault n)) → ⊥
+    no_read bytes n (no_file r re e) = subst IsSettled (sym e) (off_settled name r)
+    no_read bytes n (no_piece raw r re rj e) = subst IsSettled (sym e) (mesh_settled name r)
+    no_read bytes n (piece raw p re rj e) = given_not_fault p (ReadFault n) (sym e)
 
-piece_step : (files : Files) (digits : ℕ) (name : List ℕ) → IsStep files (IsPieceOf files digits name)
-piece_step files digits name = taken_step files name (SaysPiece digits name) (piece_saying digits name)
+piece_one : (files : Files) (digits : ℕ) (name : List ℕ) → FindsOne files (IsPieceOf files digits name)
+piece_one files digits name = taken_one files name (SaysPiece digits name) (piece_saying digits name)
 
 listing_saying : (name : List ℕ) → IsSaying (SaysListing name)
 listing_saying name = record { one = one; no_read = no_read }
   where
     one : (bytes : List ℕ) (f g : Found (List NamedPart)) → SaysListing name bytes f → SaysListing name bytes g → f ≡ g
     one bytes f g (no_listing r re e) (no_listing s se d) =
-        let same : r ≡ s = cc in e ∙ ap (λ x. stops (replies (refused (manifest_fault name x)))) same ∙ sym d
+        let same : r ≡ s = cc in e ∙ ap (λ x. Err (manifest_fault name x)) same ∙ sym d
     one bytes f g (no_listing r re e) (listing p pe d) = absurd cc
     one bytes f g (listing p pe e) (no_listing s se d) = absurd cc
     one bytes f g (listing p pe e) (listing q qe d) =
-        let same : p ≡ q = cc in e ∙ ap gives same ∙ sym d
+        let same : p ≡ q = cc in e ∙ ap Ok same ∙ sym d
 
-    no_read : (bytes n : List ℕ) → SaysListing name bytes (stops (reads n)) → ⊥
-    no_read bytes n (no_listing r re e) = absurd cc
-    no_read bytes n (listing p pe e) = gives_stops p (reads n) (sym e)
+    no_read : (bytes n : List ℕ) → SaysListing name bytes (Err (ReadFault n)) → ⊥
+    no_read bytes n (no_listing r re e) = subst IsSettled (sym e) (manifest_settled name r)
+    no_read bytes n (listing p pe e) = given_not_fault p (ReadFault n) (sym e)
 
-listing_step : (files : Files) (asked : Input) → IsStep files (IsListingOf files asked)
-listing_step files (input.Manifest name) = taken_step files name (SaysListing name) (listing_saying name)
-listing_step files (input.Files names) = given_step files _
+listing_one : (files : Files) (asked : Input) → FindsOne files (IsListingOf files asked)
+listing_one files (input.Manifest name) = taken_one files name (SaysListing name) (listing_saying name)
+listing_one files (input.Files names) = known_one files _
 
-part_step : (files : Files) (digits : ℕ) (named : NamedPart) → IsStep files (IsPartOf files digits named)
-part_step files digits named = next_step files (Each (IsPieceOf files digits) named.1) _ (each_step files (IsPieceOf files digits) (piece_step files digits) named.1) (λ pieces. given_step files (part_of named.0 pieces))
+part_one : (files : Files) (digits : ℕ) (named : NamedPart) → FindsOne files (IsPartOf files digits named)
+part_one files digits named = then_one files (Each (IsPieceOf files digits) named.1) _ (each_one files (IsPieceOf files digits) (piece_one files digits) named.1) (λ pieces. known_one files (part_of named.0 pieces))
 
-input_step : (files : Files) (digits : ℕ) (asked : Input) → IsStep files (IsInputOf files digits asked)
-input_step files digits asked = next_step files (IsListingOf files asked) _ (listing_step files asked) (λ named. each_step files (IsPartOf files digits) (part_step files digits) named)
+input_one : (files : Files) (asked : Asked) → FindsOne files (IsInputOf files asked)
+input_one files asked = then_one files (IsListingOf files asked.input) _ (listing_one files asked.input) (each_one files (IsPartOf files asked.digits) (part_one files asked.digits))
 
 apart : (parts : List Part) (arc : Arc) → IsFirstOverlap parts arc → IsSound parts → ⊥
 apart parts arc first sound_is = sound_is arc (λ e. omega (arith, e, first.has.0)) first.has.1
 
-tested_step : (files : Files) (parts : List Part) → IsStep files (IsTested parts)
-tested_step files parts = record { one = λ f g a b sf sg. one f g a b; held = λ name f at lacks step settled. no_read name at }
+tested_one : (files : Files) (parts : List Part) → FindsOne files (IsTested parts)
+tested_one files parts = record { one = λ f g a b sf sg. one f g a b; held = λ name f at lacks step settled. no_read name at }
   where
     one : (f g : Found (List Part)) → IsTested parts f → IsTested parts g → f ≡ g
     one f g (overlapping arc first e) (overlapping other second d) =
         let same : arc ≡ other = IsLeast-unique arc_cmp arc_total arc_exact (IsOverlap parts) arc other first second in
-        e ∙ ap (λ (x : Arc). stops (replies (refused (Overlap x.a x.i x.b x.j)))) same ∙ sym d
+        e ∙ ap (λ (x : Arc). Err (Overlap x.a x.i x.b x.j)) same ∙ sym d
     one f g (overlapping arc first e) (sound is d) = absurd (apart parts arc first is)
     one f g (sound is e) (overlapping other second d) = absurd (apart parts other second is)
     one f g (sound is e) (sound too d) = e ∙ sym d
 
-    no_read : (name : List ℕ) → IsTested parts (stops (reads name)) → ⊥
+    no_read : (name : List ℕ) → IsTested parts (Err (ReadFault name)) → ⊥
     no_read name (overlapping arc first e) = absurd cc
     no_read name (sound is e) = absurd cc
 
-sound_step : (files : Files) (digits : ℕ) (asked : Input) → IsStep files (IsSoundOf files digits asked)
-sound_step files digits asked = next_step files (IsInputOf files digits asked) IsTested (input_step files digits asked) (tested_step files)
+sound_one : (files : Files) (asked : Asked) → FindsOne files (IsSoundOf files asked)
+sound_one files asked = then_one files (IsInputOf files asked) IsTested (input_one files asked) (tested_one files)
 
-reply_at : (r s : Reply) → replies r ≡ replies s → r ≡ s
-reply_at r s e = cc
-
-reads_at : (name : List ℕ) (r : Reply) → reads name ≡ replies r → ⊥
-reads_at name r e = cc
-
-counted_step : (files : Files) (parts : List Part) (limit : ℕ) → IsStep files (AreCounted parts limit)
-counted_step files parts limit = record { one = λ f g a b sf sg. one f g a b; held = λ name f at lacks step settled. no_read name at }
+counted_one : (files : Files) (parts : List Part) (limit : ℕ) → FindsOne files (AreCounted parts limit)
+counted_one files parts limit = record { one = λ f g a b sf sg. one f g a b; held = λ name f at lacks step settled. no_read name at }
   where
     one : (f g : Found (List V3)) → AreCounted parts limit f → AreCounted parts limit g → f ≡ g
     one f g (too_many ps are many e) (too_many qs also most d) =
         let same : ps ≡ qs = ArePlanes-unique parts (all_parts parts) ps qs are also in
-        e ∙ ap (λ (xs : List V3). stops (replies (refused (TooManyPlanes (length xs))))) same ∙ sym d
+        e ∙ ap (λ (xs : List V3). Err (TooManyPlanes (length xs))) same ∙ sym d
     one f g (too_many ps are many e) (few qs also most d) =
         let same : ps ≡ qs = ArePlanes-unique parts (all_parts parts) ps qs are also in absurd (omega (arith, many, most, ap length same))
     one f g (few ps are many e) (too_many qs also most d) =
         let same : ps ≡ qs = ArePlanes-unique parts (all_parts parts) ps qs are also in absurd (omega (arith, many, most, ap length same))
-    one f g (few ps are many e) (few qs also most d) = e ∙ ap gives (ArePlanes-unique parts (all_parts parts) ps qs are also) ∙ sym d
+    one f g (few ps are many e) (few qs also most d) = e ∙ ap Ok (ArePlanes-unique parts (all_parts parts) ps qs are also) ∙ sym d
 
-    no_read : (name : List ℕ) → AreCounted parts limit (stops (reads name)) → ⊥
+    no_read : (name : List ℕ) → AreCounted parts limit (Err (ReadFault name)) → ⊥
     no_read name (too_many ps are many e) = absurd cc
     no_read name (few ps are most e) = absurd cc
 
@@ -287,44 +287,62 @@ counted_step files parts limit = record { one = λ f g a b sf sg. one f g a b; h
 same_arcs : (parts : List Part) (d : V3) (w : PartSet) (rows others : List ℕ) → ShowsBlocking parts d w rows → ShowsBlocking parts d w others → (a b : ℕ) → Has w a → Has w b → HasArc rows a b ↔ HasArc others a b
 same_arcs parts d w rows others one other a b a_in b_in = (λ h. (other a b a_in b_in).1 ((one a b a_in b_in).0 h), λ h. (one a b a_in b_in).1 ((other a b a_in b_in).0 h))
 
-graphed_one : (parts : List Part) (d : V3) (r s : Reply) → IsGraphed parts d (replies r) → IsGraphed parts d (replies s) → r ≡ s
-graphed_one parts d r s a b =
-    let same : a.text ≡ b.text = same_graph_text (length parts) d a.rows b.rows a.text b.text (same_arcs parts d (all_parts parts) a.rows b.rows a.shows b.shows) a.text_is b.text_is in
-    reply_at r s (a.is ∙ ap (λ (t : List ℕ). replies (answered 0 t)) same ∙ sym b.is)
+graphed_one : (files : Files) (parts : List Part) (d : V3) → FindsOne files (IsGraphed parts d)
+graphed_one files parts d = record { one = λ f g a b sf sg. one f g a b; held = λ name f at lacks step settled. given_not_fault _ (ReadFault name) (sym at.is) }
+  where
+    one : (f g : Found Answer) → IsGraphed parts d f → IsGraphed parts d g → f ≡ g
+    one f g a b =
+        let same : a.text ≡ b.text = same_graph_text (length parts) d a.rows b.rows a.text b.text (same_arcs parts d (all_parts parts) a.rows b.rows a.shows b.shows) a.text_is b.text_is in
+        a.is ∙ ap (λ (t : List ℕ). Ok (answer 0 t)) same ∙ sym b.is
 
-graphed_rest : (files : Files) (parts : List Part) (d : V3) → IsRest files (IsGraphed parts d)
-graphed_rest files parts d = record {
-  one = graphed_one parts d;
-  held = λ name r at lacks graphed. reads_at name _ at.is;
-}
+judged_one : (files : Files) (p q : List V3) (d n : V3) → FindsOne files (IsJudged p q d n)
+judged_one files p q d n = record { one = λ f g a b sf sg. one f g a b; held = λ name f at lacks step settled. no_read name at }
+  where
+    one : (f g : Found Answer) → IsJudged p q d n f → IsJudged p q d n g → f ≡ g
+    one f g (free a e) (free b h) = e ∙ sym h
+    one f g (free a e) (not_shown b h) = absurd (b a)
+    one f g (not_shown a e) (free b h) = absurd (a b)
+    one f g (not_shown a e) (not_shown b h) = e ∙ sym h
 
-judged_one : (p q : List V3) (d n : V3) (r s : Reply) → IsJudged p q d n (replies r) → IsJudged p q d n (replies s) → r ≡ s
-judged_one p q d n r s (free a e) (free b f) = reply_at r s (e ∙ sym f)
-judged_one p q d n r s (free a e) (not_shown b f) = absurd (b a)
-judged_one p q d n r s (not_shown a e) (free b f) = absurd (a b)
-judged_one p q d n r s (not_shown a e) (not_shown b f) = reply_at r s (e ∙ sym f)
+    no_read : (name : List ℕ) → IsJudged p q d n (Err (ReadFault name)) → ⊥
+    no_read name (free a e) = absurd cc
+    no_read name (not_shown a e) = absurd cc
 
-judged_reads : (p q : List V3) (d n : V3) (name : List ℕ) → IsJudged p q d n (reads name) → ⊥
-judged_reads p q d n name (free a e) = reads_at name _ e
-judged_reads p q d n name (not_shown a e) = reads_at name _ e
+-- ---- the commands
 
-judged_rest : (files : Files) (p q : List V3) (d n : V3) → IsRest files (IsJudged p q d n)
-judged_rest files p q d n = record {
-  one = judged_one p q d n;
-  held = λ name r at lacks judged. judged_reads p q d n name at;
-}
+work_one : (request : Request) (files : Files) → FindsOne files (WorkOn request files)
+work_one (Pair request) files =
+    then_one files (IsPieceOf files request.digits request.first) _ (piece_one files request.digits request.first)
+    (λ p. then_one files (IsPieceOf files request.digits request.second) _ (piece_one files request.digits request.second) (λ q. judged_one files p q request.along request.wall))
+work_one (Look asked) files = then_one files (IsSoundOf files asked) _ (sound_one files asked) (λ parts. known_one files _)
+work_one (Graph request) files = then_one files (IsSoundOf files request.asked) _ (sound_one files request.asked)
+    (λ parts. then_one files (AreCounted parts MOST_PLANES) _ (counted_one files parts MOST_PLANES) (λ planes. graphed_one files parts request.along))
 
-pub ends_rest : (asked : Option Request) (files : Files) → IsRest files (Ends asked files)
-ends_rest None files = record {
-  one = λ r s a b. reply_at r s (a ∙ sym b);
-  held = λ name r a lacks b. reads_at name _ a;
-}
-ends_rest (Some (Pair digits along wall first second)) files =
-    then_rest files (IsPieceOf files digits first) _ (piece_step files digits first)
-    (λ p. then_rest files (IsPieceOf files digits second) _ (piece_step files digits second) (λ q. judged_rest files p q along wall))
-ends_rest (Some (Look digits asked)) files = then_rest files (IsSoundOf files digits asked) _ (sound_step files digits asked) (λ parts. record {
-  one = λ r s a b. reply_at r s (a ∙ sym b);
-  held = λ name r a lacks b. reads_at name _ a;
-})
-ends_rest (Some (Graph digits asked along)) files = then_rest files (IsSoundOf files digits asked) _ (sound_step files digits asked)
-    (λ parts. then_rest files (AreCounted parts MOST_PLANES) _ (counted_step files parts MOST_PLANES) (λ planes. graphed_rest files parts along))
+pub words_one : (asked : Option Request) (files : Files) → FindsOne files (WorkOnWords asked files)
+words_one None files = record { one = λ f g a b sf sg. a ∙ sym b; held = λ name f at lacks step settled. absurd (usage_reads name at) }
+  where
+    usage_reads : (name : List ℕ) → ◌≡◌ {A = Found Answer} (Err (ReadFault name)) (Err Usage) → ⊥
+    usage_reads name e = cc
+words_one (Some request) files = work_one request files
+
+-- ---- replies
+
+makes_settled : (found : Found Answer) (reply : Reply) → Makes found reply → IsSettled found
+makes_settled (Ok a) reply h = tt
+makes_settled (Err (ReadFault name)) reply h = h
+makes_settled (Err f) reply h = tt
+
+makes_one : (found : Found Answer) (r s : Reply) → Makes found r → Makes found s → r ≡ s
+makes_one (Ok a) r s h k = h ∙ sym k
+makes_one (Err (ReadFault name)) r s h k = absurd h
+makes_one (Err f) r s h k = h ∙ sym k
+
+-- there is one reply
+pub one_reply : (asked : Option Request) (files : Files) (r s : Reply) → IsReply asked files r → IsReply asked files s → r ≡ s
+one_reply asked files r s a b =
+    let same : a.found ≡ b.found = (words_one asked files).one a.found b.found a.work b.work (makes_settled a.found r a.makes) (makes_settled b.found s b.makes) in
+    makes_one b.found r s (subst (λ found. Makes found r) same a.makes) b.makes
+
+-- where a file is to be read and is not there, there is no reply
+pub no_reply : (asked : Option Request) (files : Files) (name : List ℕ) (r : Reply) → WorkOnWords asked files (Err (ReadFault name)) → bytes_of name files ≡ None → IsReply asked files r → ⊥
+no_reply asked files name r at lacks is = (words_one asked files).held name is.found at lacks is.work (makes_settled is.found r is.makes)

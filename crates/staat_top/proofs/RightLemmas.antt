@@ -1,161 +1,134 @@
 -- What status 0 means.
-use Rattle.std.proofs.Common.{◌≡◌, ℕ, List, [], ◌∷◌, Option, Some, None, refl, ap, sym, subst, arith, inl, inr}
-use Rattle.std.specs.Prelude.{◌≤◌, Ok}
+use Rattle.std.proofs.Common.{◌≡◌, ℕ, suc, List, [], ◌∷◌, map, length, All, Option, Some, None, refl, ap, ap₂, sym, subst, arith, inl, inr}
+use Rattle.std.proofs.lemmas.List.Elements.{All-nil, All-cons}
+use Rattle.std.specs.Prelude.{Ok, Err}
 use Rattle.staat_vec.specs.declared.vector.V3.{V3}
 use Rattle.staat_model.specs.declared.assembly.Part.{Part}
-use Rattle.staat_model.specs.Assemblies.{IsSound}
-use Rattle.staat_model.specs.Pieces.{IsSolid}
+use Rattle.staat_model.specs.Assemblies.{IsAssembly, IsSound}
+use Rattle.staat_model.specs.Pieces.{IsPiece}
+use Rattle.staat_off.specs.declared.raw.Raw.{Raw}
+use Rattle.staat_off.specs.Raws.{IsIndexed}
+use Rattle.staat_off.proofs.Bounds.{reading_bounded}
+use Rattle.staat_manifest.proofs.Accepted.{within_bounds}
 use Rattle.staat_model.proofs.WallLaws as walls
+use Rattle.staat_mesh.specs.Judging.{Judges}
+use Rattle.staat_mesh.specs.Polygons.{mesh}
+use Rattle.staat_mesh.proofs.Making.{points_within}
+use Rattle.staat_words.specs.Requests.{IsAsked, IsInput}
 use Rattle.staat_words.specs.declared.request.Input.{Input}
-use Rattle.staat_words.specs.declared.request.Input.TheVariants as input
+use Rattle.staat_words.specs.declared.request.Input.TheVariants as inputs
+use Rattle.staat_words.specs.declared.request.Asked.{Asked}
 use Rattle.staat_words.specs.declared.request.Request.{Request}
 use Rattle.staat_words.specs.declared.request.Request.TheVariants.{Pair, Look, Graph}
-use Rattle.staat_top.specs.Steps.{Files, Next, Each, replies, Found, gives, stops, Reply, answered, to_read, too_long, taken}
-use Rattle.staat_off.specs.declared.refusal.OffRefusal.{OffRefusal}
-use Rattle.staat_off.specs.declared.refusal.OffRefusal.TheVariants as off
-use Rattle.staat_mesh.specs.declared.refusal.MeshRefusal.{MeshRefusal}
-use Rattle.staat_mesh.specs.declared.refusal.MeshRefusal.TheVariants as mesh_refusal
-use Rattle.staat_mesh.specs.Judging.{Judges}
-use Rattle.staat_mesh.specs.Polygons.{Mesh}
-use Rattle.staat_manifest.specs.declared.refusal.ManifestRefusal.{ManifestRefusal}
-use Rattle.staat_manifest.specs.declared.refusal.ManifestRefusal.TheVariants as manifest
-use Rattle.staat_fault.specs.Faults.{status_of}
-use Rattle.staat_top.specs.Refusals.{off_fault, mesh_fault, manifest_fault}
-use Rattle.staat_top.specs.Pieces.{IsPieceOf, SaysPiece, no_file, no_piece, piece}
+use Rattle.staat_top.specs.declared.answer.Answer.{Answer}
+use Rattle.staat_top.specs.Work.{Files, Found, Each, to_read, too_long, taken}
 use Rattle.staat_top.specs.Inputs.{NamedPart, SaysListing, no_listing, listing, IsListingOf, IsPartOf, IsInputOf, part_of}
+use Rattle.staat_top.specs.Shapes.{AreRead, IsFew}
+use Rattle.staat_top.specs.Runs.{IsBounded}
+use Rattle.staat_top.proofs.InputLemmas.{assembly_read, listing_few, named_files, none_read}
+use Rattle.staat_top.specs.Pieces.{IsPieceOf, SaysPiece, no_file, no_piece, piece}
 use Rattle.staat_top.specs.Assembling.{IsTested, overlapping, sound, IsSoundOf}
-use Rattle.staat_planes.specs.declared.table.TheConstants.{MOST_PLANES}
-use Rattle.staat_top.specs.Graphing.{AreCounted, few, too_many}
-use Rattle.staat_top.specs.Replies.{free, not_shown, IsReply, IsRight}
+use Rattle.staat_top.specs.Replies.{HasSoundParts, free, not_shown, answer, WorkOnWords, IsRight}
 
--- a piece that the rules of meshes give is solid
-judged_solid : (m : Mesh) (p : List V3) → Judges m (Ok p) → IsSolid p
-judged_solid m p j = subst IsSolid (sym j.by_rules.2.1.1.1) j.by_rules.2.0
+-- ---- pieces
 
-gives_one : (p q : List V3) → gives p ≡ gives q → q ≡ p
-gives_one p q e = cc
+-- what the rules of meshes give is a piece
+judged_piece : (raw : Raw) (p : List V3) → IsIndexed raw → Judges (mesh raw) (Ok p) → IsPiece p
+judged_piece raw p indexed j = subst IsPiece (sym j.by_rules.2.1.1.1) (record {
+  ascending = j.used.ascending;
+  at_least = j.by_rules.0;
+  at_most = j.by_rules.1;
+  within = points_within raw j.points indexed j.used;
+  solid = j.by_rules.2.0;
+})
 
-says_solid : (digits : ℕ) (name bytes : List ℕ) (p : List V3) → SaysPiece digits name bytes (gives p) → IsSolid p
-says_solid digits name bytes p (no_file r re e) = absurd cc
-says_solid digits name bytes p (no_piece raw r re rj e) = absurd cc
-says_solid digits name bytes p (piece raw q re rj e) = subst IsSolid (gives_one p q e) (judged_solid _ q rj)
+given_one : (p q : List V3) → ◌≡◌ {A = Found (List V3)} (Ok p) (Ok q) → q ≡ p
+given_one p q e = cc
 
--- what the step gives is solid
-gives_solid : (files : Files) (digits : ℕ) (name : List ℕ) (p : List V3) → IsPieceOf files digits name (gives p) → IsSolid p
-gives_solid files digits name p (to_read e) = absurd cc
-gives_solid files digits name p (too_long x xe xl e) = absurd cc
-gives_solid files digits name p (taken x xe xs xt) = says_solid digits name x p xt
+says_piece : (digits : ℕ) (name bytes : List ℕ) (p : List V3) → SaysPiece digits name bytes (Ok p) → IsPiece p
+says_piece digits name bytes p (no_file r re e) = absurd cc
+says_piece digits name bytes p (no_piece raw r re rj e) = absurd cc
+says_piece digits name bytes p (piece raw q re rj e) = subst IsPiece (given_one p q e) (judged_piece raw q (reading_bounded digits bytes raw re).indexed rj)
 
-off_late : (name : List ℕ) (r : OffRefusal) → 3 ≤ status_of (off_fault name r)
-off_late name off.NoHeader = omega arith
-off_late name (off.BadNumber at) = omega arith
-off_late name (off.NotWhole at) = omega arith
-off_late name (off.TooBig at) = omega arith
-off_late name (off.BadCount at) = omega arith
-off_late name (off.BadIndex at) = omega arith
-off_late name off.ShortFile = omega arith
-off_late name (off.Trailing at) = omega arith
-off_late name off.OutOfMemory = omega arith
+-- what the step gives is a piece
+gives_piece : (files : Files) (digits : ℕ) (name : List ℕ) (p : List V3) → IsPieceOf files digits name (Ok p) → IsPiece p
+gives_piece files digits name p (to_read e) = absurd cc
+gives_piece files digits name p (too_long x xe xl e) = absurd cc
+gives_piece files digits name p (taken x xe xs xt) = says_piece digits name x p xt
 
-mesh_late : (name : List ℕ) (r : MeshRefusal) → 3 ≤ status_of (mesh_fault name r)
-mesh_late name (mesh_refusal.TooFewPoints n) = omega arith
-mesh_late name (mesh_refusal.TooManyPoints n) = omega arith
-mesh_late name mesh_refusal.Flat = omega arith
-mesh_late name (mesh_refusal.BadFace f) = omega arith
-mesh_late name (mesh_refusal.NotConvex f) = omega arith
-mesh_late name (mesh_refusal.OpenEdge f k) = omega arith
-mesh_late name mesh_refusal.OutOfMemory = omega arith
+-- ---- assemblies
 
-same_status : (r s : Reply) → replies r ≡ replies s → r.status ≡ s.status
-same_status r s e = let same : r ≡ s = cc in ap (λ x. x.status) same
+pieces_read : (files : Files) (digits : ℕ) (names : List (List ℕ)) (pieces : List (List V3)) → Each (IsPieceOf files digits) names (Ok pieces) → (length pieces ≡ length names) × All IsPiece pieces
+pieces_read files digits [] pieces e =
+    let same : pieces ≡ [] = cc in
+    subst (λ (ps : List (List V3)). (length ps ≡ 0) × All IsPiece ps) (sym same) (refl, All-nil IsPiece)
+pieces_read files digits (name ∷ names) pieces (inl (f, at, e)) = absurd cc
+pieces_read files digits (name ∷ names) pieces (inr (p, first, inl (f, at, e))) = absurd cc
+pieces_read files digits (name ∷ names) pieces (inr (p, first, inr (ps, later, e))) =
+    let same : pieces ≡ p ∷ ps = cc in
+    let rest : (length ps ≡ length names) × All IsPiece ps = pieces_read files digits names ps later in
+    subst (λ (qs : List (List V3)). (length qs ≡ length (name ∷ names)) × All IsPiece qs) (sym same)
+    (ap (λ n. suc n) rest.0, All-cons IsPiece p ps (gives_piece files digits name p first) rest.1)
 
-stopped : {X : Type 0} (f g : Found X) (r s : Reply) → f ≡ stops (replies r) → g ≡ stops (replies s) → f ≡ g → r.status ≡ s.status
-stopped f g r s is_f is_g e = let same : r ≡ s = cc in ap (λ x. x.status) same
+part_read : (files : Files) (digits : ℕ) (n : NamedPart) (part : Part) → IsPartOf files digits n (Ok part) → (length part.pieces ≡ length n.1) × All IsPiece part.pieces
+part_read files digits n part (inl (f, at, e)) = absurd cc
+part_read files digits n part (inr (pieces, each, e)) =
+    let same : part ≡ part_of n.0 pieces = cc in
+    subst (λ (q : Part). (length q.pieces ≡ length n.1) × All IsPiece q.pieces) (sym same) (pieces_read files digits n.1 pieces each)
 
-says_late : (digits : ℕ) (name bytes text : List ℕ) → SaysPiece digits name bytes (stops (replies (answered 0 text))) → ⊥
-says_late digits name bytes text (no_file r re e) = absurd (omega (arith, stopped _ _ _ _ refl refl e, off_late name r))
-says_late digits name bytes text (no_piece raw r re rj e) = absurd (omega (arith, stopped _ _ _ _ refl refl e, mesh_late name r))
-says_late digits name bytes text (piece raw q re rj e) = absurd cc
+parts_read : (files : Files) (digits : ℕ) (named : List NamedPart) (parts : List Part) → Each (IsPartOf files digits) named (Ok parts) → AreRead named parts
+parts_read files digits [] parts e = let same : parts ≡ [] = cc in subst (AreRead []) (sym same) none_read
+parts_read files digits (n ∷ named) parts (inl (f, at, e)) = absurd cc
+parts_read files digits (n ∷ named) parts (inr (part, first, inl (f, at, e))) = absurd cc
+parts_read files digits (n ∷ named) parts (inr (part, first, inr (others, later, e))) =
+    let same : parts ≡ part ∷ others = cc in
+    let here : (length part.pieces ≡ length n.1) × All IsPiece part.pieces = part_read files digits n part first in
+    let rest : AreRead named others = parts_read files digits named others later in
+    subst (AreRead (n ∷ named)) (sym same) (record {
+      each = ap₂ (λ k ks. k ∷ ks) here.0 rest.each;
+      pieces = All-cons (λ part. All IsPiece part.pieces) part others here.1 rest.pieces;
+    })
 
--- a step that stops does not answer with status 0
-stops_late : (files : Files) (digits : ℕ) (name text : List ℕ) → IsPieceOf files digits name (stops (replies (answered 0 text))) → ⊥
-stops_late files digits name text (to_read e) = absurd cc
-stops_late files digits name text (too_long x xe xl e) = absurd (omega (arith, stopped _ _ _ _ refl refl e))
-stops_late files digits name text (taken x xe xs xt) = says_late digits name x text xt
+says_few : (name bytes : List ℕ) (named : List NamedPart) → SaysListing name bytes (Ok named) → IsFew named
+says_few name bytes named (no_listing r re e) = absurd cc
+says_few name bytes named (listing p pe e) = let same : named ≡ p = cc in subst IsFew (sym same) (listing_few p (within_bounds bytes (Ok p) pe))
 
-manifest_late : (name : List ℕ) (r : ManifestRefusal) → 3 ≤ status_of (manifest_fault name r)
-manifest_late name manifest.NotJson = omega arith
-manifest_late name (manifest.BadShape path) = omega arith
-manifest_late name (manifest.RepeatedName part) = omega arith
-manifest_late name (manifest.NoPieces part) = omega arith
-manifest_late name manifest.TooManyParts = omega arith
-manifest_late name manifest.TooManyPieces = omega arith
-manifest_late name manifest.OutOfMemory = omega arith
+names_few : (files : Files) (input : Input) (named : List NamedPart) → IsInput input → IsListingOf files input (Ok named) → IsFew named
+names_few files (inputs.Manifest name) named bounds (to_read e) = absurd cc
+names_few files (inputs.Manifest name) named bounds (too_long x xe xl e) = absurd cc
+names_few files (inputs.Manifest name) named bounds (taken x xe xs xt) = says_few name x named xt
+names_few files (inputs.Files names) named bounds e =
+    let same : named ≡ map (λ name. (name, name ∷ [])) names = cc in named_files names named bounds same
 
--- a step that stops does not answer with status 0
-abbrev pub StopsLate : {X : Type 0} → (Found X → Type 0) → Type 0
-StopsLate Step = (text : List ℕ) → Step (stops (replies (answered 0 text))) → ⊥
+-- what the step gives is an assembly
+input_assembly : (files : Files) (asked : Asked) (parts : List Part) → IsAsked asked → IsInputOf files asked (Ok parts) → IsAssembly parts
+input_assembly files asked parts bounds (inl (f, at, e)) = absurd cc
+input_assembly files asked parts bounds (inr (named, listed, read)) =
+    assembly_read named parts (names_few files asked.input named bounds.1 listed) (parts_read files asked.digits named parts read)
 
-next_late : {X Y : Type 0} (First : Found X → Type 0) (Rest : X → Found Y → Type 0) → StopsLate First → ((x : X) → StopsLate (Rest x)) → StopsLate (Next First Rest)
-next_late {X} {Y} First Rest first rest text (inl (at, fa, e)) = let same : at ≡ replies (answered 0 text) = cc in first text (subst (λ z. First (stops z)) same fa)
-next_late First Rest first rest text (inr (x, fx, rx)) = rest x text rx
-
-given_late : {X : Type 0} (x : X) → StopsLate (λ found. found ≡ gives x)
-given_late x text e = absurd cc
-
-each_late : {X Y : Type 0} (Step : X → Found Y → Type 0) → ((x : X) → StopsLate (Step x)) → (xs : List X) → StopsLate (Each Step xs)
-each_late {X} {Y} Step late [] = given_late []
-each_late {X} {Y} Step late (x ∷ xs) =
-    next_late (Step x) (λ y. Next (Each Step xs) (λ ys found. found ≡ gives (y ∷ ys))) (late x)
-    (λ y. next_late (Each Step xs) (λ ys found. found ≡ gives (y ∷ ys)) (each_late Step late xs) (λ ys. given_late (y ∷ ys)))
-
-listing_late : (name bytes text : List ℕ) → SaysListing name bytes (stops (replies (answered 0 text))) → ⊥
-listing_late name bytes text (no_listing r re e) = absurd (omega (arith, stopped _ _ _ _ refl refl e, manifest_late name r))
-listing_late name bytes text (listing p pe e) = absurd cc
-
-names_late : (files : Files) (asked : Input) → StopsLate (IsListingOf files asked)
-names_late files (input.Manifest name) text (to_read e) = absurd cc
-names_late files (input.Manifest name) text (too_long x xe xl e) = absurd (omega (arith, stopped _ _ _ _ refl refl e))
-names_late files (input.Manifest name) text (taken x xe xs xt) = listing_late name x text xt
-names_late files (input.Files names) text e = absurd cc
-
-part_late : (files : Files) (digits : ℕ) (named : NamedPart) → StopsLate (IsPartOf files digits named)
-part_late files digits named = next_late (Each (IsPieceOf files digits) named.1) (λ pieces found. found ≡ gives (part_of named.0 pieces)) (each_late (IsPieceOf files digits) (λ name text. stops_late files digits name text) named.1) (λ pieces. given_late (part_of named.0 pieces))
-
-input_late : (files : Files) (digits : ℕ) (asked : Input) → StopsLate (IsInputOf files digits asked)
-input_late files digits asked = next_late (IsListingOf files asked) (λ named. Each (IsPartOf files digits) named) (names_late files asked) (λ named. each_late (IsPartOf files digits) (part_late files digits) named)
-
-tested_late : (parts : List Part) → StopsLate (IsTested parts)
-tested_late parts text (overlapping arc first e) = absurd (omega (arith, stopped _ _ _ _ refl refl e))
-tested_late parts text (sound is e) = absurd cc
-
-sound_late : (files : Files) (digits : ℕ) (asked : Input) → StopsLate (IsSoundOf files digits asked)
-sound_late files digits asked = next_late (IsInputOf files digits asked) IsTested (input_late files digits asked) tested_late
-
--- what the test gives are the parts that it tested, and they are sound
-tested_gives : (parts built : List Part) → IsTested parts (gives built) → (parts ≡ built) × IsSound parts
+-- what the test gives are sound parts
+tested_gives : (parts built : List Part) → IsTested parts (Ok built) → IsSound parts
 tested_gives parts built (overlapping arc first e) = absurd cc
-tested_gives parts built (sound is e) = let same : parts ≡ built = cc in (same, is)
+tested_gives parts built (sound is e) = is
 
-sound_parts : (files : Files) (digits : ℕ) (asked : Input) (built : List Part) → IsSoundOf files digits asked (gives built) → (parts : List Part) × IsInputOf files digits asked (gives parts) × IsSound parts
-sound_parts files digits asked built (inl (at, stopped, e)) = absurd cc
-sound_parts files digits asked built (inr (parts, found, test)) = (parts, found, (tested_gives parts built test).1)
+sound_parts : (files : Files) (asked : Asked) (built : List Part) → IsAsked asked → IsSoundOf files asked (Ok built) → HasSoundParts files asked
+sound_parts files asked built bounds (inl (fault, at, e)) = absurd cc
+sound_parts files asked built bounds (inr (parts, found, test)) =
+    record { parts = parts; named = found; assembly = input_assembly files asked parts bounds found; sound = tested_gives parts built test }
 
-counted_late : (parts : List Part) (limit : ℕ) → StopsLate (AreCounted parts limit)
-counted_late parts limit text (too_many planes are many e) = absurd (omega (arith, stopped _ _ _ _ refl refl e))
-counted_late parts limit text (few planes are most e) = absurd cc
+same_status : (a b : Answer) → ◌≡◌ {A = Found Answer} (Ok a) (Ok b) → a.status ≡ b.status
+same_status a b e = let same : a ≡ b = cc in ap (λ (x : Answer). x.status) same
 
--- a wall that is shown keeps the pieces apart, a look or a graph gives sound parts, and no other reply has status 0
-pub status_is_right : (asked : Option Request) (files : Files) (text : List ℕ) → IsReply asked files (answered 0 text) → IsRight asked files
-status_is_right None files text e = absurd (omega (arith, same_status _ _ e))
-status_is_right (Some (Look digits asked)) files text (inl stopped) = absurd (sound_late files digits asked text stopped)
-status_is_right (Some (Look digits asked)) files text (inr (built, found, e)) = sound_parts files digits asked built found
-status_is_right (Some (Graph digits asked along)) files text (inl stopped) = absurd (sound_late files digits asked text stopped)
-status_is_right (Some (Graph digits asked along)) files text (inr (built, found, inl stopped)) = absurd (counted_late built MOST_PLANES text stopped)
-status_is_right (Some (Graph digits asked along)) files text (inr (built, found, inr (planes, counted, graphed))) = sound_parts files digits asked built found
-status_is_right (Some (Pair digits along wall first second)) files text (inl stopped) = absurd (stops_late files digits first text stopped)
-status_is_right (Some (Pair digits along wall first second)) files text (inr (p, first_gives, inl stopped)) = absurd (stops_late files digits second text stopped)
-status_is_right (Some (Pair digits along wall first second)) files text (inr (p, first_gives, inr (q, second_gives, free shown e))) =
-    (p, q, first_gives, second_gives, walls.wall_keeps_apart p q along wall (gives_solid files digits first p first_gives) shown)
-status_is_right (Some (Pair digits along wall first second)) files text (inr (p, first_gives, inr (q, second_gives, not_shown none e))) =
-    absurd (omega (arith, same_status _ _ e))
+-- a wall that is shown keeps the pieces apart, and a look or a graph gives sound parts
+pub status_is_right : (asked : Option Request) (files : Files) (a : Answer) → IsBounded asked → WorkOnWords asked files (Ok a) → a.status ≡ 0 → IsRight asked files
+status_is_right None files a bounds e zero = absurd cc
+status_is_right (Some (Pair request)) files a bounds (inl (fault, at, e)) zero = absurd cc
+status_is_right (Some (Pair request)) files a bounds (inr (p, first, inl (fault, at, e))) zero = absurd cc
+status_is_right (Some (Pair request)) files a bounds (inr (p, first, inr (q, second, free shown e))) zero =
+    (p, q, first, second, walls.wall_keeps_apart p q request.along request.wall (gives_piece files request.digits request.first p first).solid shown)
+status_is_right (Some (Pair request)) files a bounds (inr (p, first, inr (q, second, not_shown none e))) zero =
+    absurd (omega (arith, zero, same_status _ _ e))
+status_is_right (Some (Look asked)) files a bounds (inl (fault, at, e)) zero = absurd cc
+status_is_right (Some (Look asked)) files a bounds (inr (built, found, e)) zero = sound_parts files asked built bounds found
+status_is_right (Some (Graph request)) files a bounds (inl (fault, at, e)) zero = absurd cc
+status_is_right (Some (Graph request)) files a bounds (inr (built, found, rest)) zero = sound_parts files request.asked built bounds.0 found

@@ -1,5 +1,5 @@
 -- What a call does, from its answer or its fault and the writing of it.
-use Rattle.std.proofs.Common.{◌≡◌, ◌≢◌, ◌⊎◌, ℕ, ◌<◌, ◌≤◌, List, [], Option, Some, None, refl, ap, sym, ◌∙◌, subst, arith, inl, inr, append-nil}
+use Rattle.std.proofs.Common.{◌≡◌, ◌≢◌, ◌⊎◌, ℕ, ◌<◌, ◌≤◌, List, [], Option, Some, None, Ok, Err, refl, ap, sym, ◌∙◌, subst, arith, inl, inr, append-nil}
 use Rattle.std.proofs.Math.Decide.{ℕ_discrete}
 use Rattle.staat_edge.specs.Causes.{Rose}
 use Rattle.staat_edge.specs.Files.{bytes_of, Lacks}
@@ -8,49 +8,54 @@ use Rattle.staat_words.specs.declared.request.Request.{Request}
 use Rattle.staat_fault.specs.declared.fault.Fault.{Fault}
 use Rattle.staat_fault.specs.declared.fault.Fault.TheVariants.{Usage, ReadFault, TooLong, TooManyPlanes, TextTooLong, WriteFault, OutOfMemory}
 use Rattle.staat_fault.specs.Faults.{status_of, line_of}
-use Rattle.staat_top.specs.Steps.{Files, Reply, answered, refused}
-use Rattle.staat_top.specs.Replies.{IsReply}
-use Rattle.staat_top.specs.Runs.{ShelfSide, SinkSide, Took, TookPart, Untouched, IsUnread, IsCaused, IsPlaced, IsExplained, IsAnswer, IsSaid, SaysWhole, SaysPart, Gave, Ran}
-use Rattle.staat_top.proofs.OneReply.{ends_rest}
+use Rattle.staat_top.specs.declared.answer.Answer.{Answer}
+use Rattle.staat_top.specs.Work.{Files}
+use Rattle.staat_top.specs.Replies.{Reply, IsReply, answered, refused}
+use Rattle.staat_top.specs.Runs.{ShelfSide, SinkSide, Took, TookPart, Untouched, IsUnread, IsCaused, IsBounded, IsFound, IsExplained, IsSaid, SaysWhole, SaysPart, Gave, Ran}
+use Rattle.staat_top.proofs.OneReply.{no_reply, one_reply}
 use Rattle.staat_top.proofs.RightLemmas.{status_is_right}
 
 took_nothing : (side : SinkSide) → Untouched side → Took side []
-took_nothing side same = go side.old side.new same
+took_nothing side same = go side.old.wrote side.new.wrote same
   where
     go : (old new : Option (List ℕ)) → new ≡ old → GrewBy old new []
     go None new e = e
     go (Some old) new e = e ∙ ap Some (sym (append-nil old))
 
+-- the answer is the reply
+answer_reply : (asked : Option Request) (shelf : ShelfSide) (files : Files) (a : Answer) → IsFound asked shelf (Ok a) → shelf.old.holds ≡ Some files → IsReply asked files (answered a)
+answer_reply asked shelf files a found told = record { found = Ok a; work = found files told; makes = refl }
+
 -- an answer was printed
-pub ran_answer : (asked : Option Request) (shelf : ShelfSide) (out err : SinkSide) (status result : ℕ) (text : List ℕ)
-    → status < 2 → IsAnswer asked shelf status text → (asked ≡ None → ⊥)
-    → (result ≢ 6 → (result ≡ status) × Untouched err × Took out text)
-    → (result ≡ 6 → TookPart out text)
+pub ran_answer : (asked : Option Request) (shelf : ShelfSide) (out err : SinkSide) (a : Answer) (result : ℕ)
+    → a.status < 2 → IsFound asked shelf (Ok a) → IsBounded asked → (asked ≡ None → ⊥)
+    → (result ≢ 6 → (result ≡ a.status) × Untouched err × Took out a.text)
+    → (result ≡ 6 → TookPart out a.text)
     → (result ≡ 6 → Took err (line_of WriteFault) ⊎ TookPart err (line_of WriteFault))
     → Ran asked shelf out err result
-ran_answer asked shelf out err status result text small answer asks whole part line = record {
+ran_answer asked shelf out err a result small found bounds asks whole part line = record {
   out_kept = λ ge ne. absurd (omega (arith, (whole ne).0));
   err_kept = λ lt. (whole (λ e. omega (arith, e))).1;
   answers = λ lt.
       let w = whole (λ e. omega (arith, e)) in
-      record { text = text; answer = subst (λ s. IsAnswer asked shelf s text) (sym w.0) answer; printed = w.2 };
+      record { answer = a; found = found; is = w.0; printed = w.2 };
   refuses = λ ge ne. absurd (omega (arith, (whole ne).0));
-  write_fault = λ e. inl (record { status = status; text = text; small = small; answer = answer; part = part e; line = line e });
+  write_fault = λ e. inl (record { answer = a; small = small; found = found; part = part e; line = line e });
   usage = λ none. absurd (asks none);
   reply = λ le files told.
       let w = whole (λ e. omega (arith, e)) in
-      record { reply = answered status text; right = answer files told; gave = record { is = w.0; to_out = w.2; to_err = took_nothing err w.1 } };
+      record { reply = answered a; right = answer_reply asked shelf files a found told; gave = record { is = w.0; to_out = w.2; to_err = took_nothing err w.1 } };
   complete = λ files told well no_memory reply is_reply.
       elim (ℕ_discrete result 6) [
         | yes e ↦ absurd (well.out_well (part e).fault)
         | no ne ↦
             let w = whole ne in
-            let same : answered status text ≡ reply = (ends_rest asked files).one _ _ (answer files told) is_reply in
+            let same : answered a ≡ reply = one_reply asked files _ _ (answer_reply asked shelf files a found told) is_reply in
             subst (λ r. Gave r out err result) same (record { is = w.0; to_out = w.2; to_err = took_nothing err w.1 })
       ];
   right = λ zero files told.
       let w = whole (λ e. omega (arith, e)) in
-      status_is_right asked files text (subst (λ s. IsReply asked files (answered s text)) (sym w.0 ∙ zero) (answer files told));
+      status_is_right asked files a bounds (found files told) (sym w.0 ∙ zero);
 }
 
 least_status : (fault : Fault) → 2 ≤ status_of fault
@@ -65,24 +70,21 @@ least_status fault = omega arith
 
 -- want of memory has no other cause
 memory_explained : (asked : Option Request) (shelf : ShelfSide) → IsExplained asked shelf OutOfMemory
-memory_explained None shelf = record { cause = inr refl; placed = λ files told. tt }
-memory_explained (Some request) shelf = record { cause = tt; placed = λ files told. tt }
+memory_explained None shelf = record { cause = inr refl; found = λ files told. tt }
+memory_explained (Some request) shelf = record { cause = tt; found = λ files told. tt }
 
 said_explained : (asked : Option Request) (shelf : ShelfSide) (fault said : Fault) → IsExplained asked shelf fault → IsSaid fault said → IsExplained asked shelf said
 said_explained asked shelf fault said explained (inl e) = subst (IsExplained asked shelf) (sym e) explained
 said_explained asked shelf fault said explained (inr e) = subst (IsExplained asked shelf) (sym e) (memory_explained asked shelf)
 
--- a status of at most 4 comes with the reply
-placed_reply : (asked : Option Request) (files : Files) (fault : Fault) → status_of fault ≤ 4 → IsPlaced asked files fault → IsReply asked files (refused fault)
-placed_reply asked files Usage le placed = placed
-placed_reply asked files (ReadFault name) le placed = absurd (omega arith)
-placed_reply asked files (TooLong name) le placed = placed
-placed_reply asked files WriteFault le placed = absurd (omega arith)
-placed_reply asked files OutOfMemory le placed = absurd (omega arith)
-placed_reply asked files fault le placed = placed
+-- a fault that is no read fault, write fault or want of memory is the reply
+fault_reply : (asked : Option Request) (shelf : ShelfSide) (files : Files) (fault : Fault) → status_of fault ≤ 4 → IsFound asked shelf (Err fault) → shelf.old.holds ≡ Some files → IsReply asked files (refused fault)
+fault_reply asked shelf files (ReadFault name) le found told = absurd (omega arith)
+fault_reply asked shelf files OutOfMemory le found told = absurd (omega arith)
+fault_reply asked shelf files fault le found told = record { found = Err fault; work = found files told; makes = refl }
 
 -- no fault that a shelf has shows where its count did not rise and the file is there
-unread_lacks : (shelf : ShelfSide) (files : Files) (name : List ℕ) → shelf.holds ≡ Some files → (Rose shelf.before shelf.after → ⊥) → IsUnread shelf name → bytes_of name files ≡ None
+unread_lacks : (shelf : ShelfSide) (files : Files) (name : List ℕ) → shelf.old.holds ≡ Some files → (Rose shelf.old.faults shelf.new.faults → ⊥) → IsUnread shelf name → bytes_of name files ≡ None
 unread_lacks shelf files name told well (inl lacks) = subst (λ holds. Lacks holds name) told lacks
 unread_lacks shelf files name told well (inr failed) = absurd (well failed.0)
 
@@ -97,14 +99,13 @@ no_write_fault None shelf (inr e) = absurd cc
 no_write_fault (Some request) shelf caused = caused
 
 -- where nothing failed and there was memory, the reply is that of the fault
-complete_fault : (asked : Option Request) (shelf : ShelfSide) (files : Files) (fault : Fault) (reply : Reply) → IsExplained asked shelf fault → shelf.holds ≡ Some files → (Rose shelf.before shelf.after → ⊥) → status_of fault ≢ 7 → IsReply asked files reply → refused fault ≡ reply
-complete_fault asked shelf files Usage reply explained told well memory is_reply = (ends_rest asked files).one _ _ (explained.placed files told) is_reply
-complete_fault asked shelf files (TooLong name) reply explained told well memory is_reply = (ends_rest asked files).one _ _ (explained.placed files told) is_reply
+complete_fault : (asked : Option Request) (shelf : ShelfSide) (files : Files) (fault : Fault) (reply : Reply) → IsExplained asked shelf fault → shelf.old.holds ≡ Some files → (Rose shelf.old.faults shelf.new.faults → ⊥) → status_of fault ≢ 7 → IsReply asked files reply → refused fault ≡ reply
 complete_fault asked shelf files (ReadFault name) reply explained told well memory is_reply =
-    absurd ((ends_rest asked files).held name reply (explained.placed files told) (unread_lacks shelf files name told well (cause_some asked shelf name explained.cause)) is_reply)
+    absurd (no_reply asked files name reply (explained.found files told) (unread_lacks shelf files name told well (cause_some asked shelf name explained.cause)) is_reply)
 complete_fault asked shelf files WriteFault reply explained told well memory is_reply = absurd (no_write_fault asked shelf explained.cause)
 complete_fault asked shelf files OutOfMemory reply explained told well memory is_reply = absurd (memory refl)
-complete_fault asked shelf files fault reply explained told well memory is_reply = (ends_rest asked files).one _ _ (explained.placed files told) is_reply
+complete_fault asked shelf files fault reply explained told well memory is_reply =
+    one_reply asked files _ _ (record { found = Err fault; work = explained.found files told; makes = refl }) is_reply
 
 -- where the words make no request, the status is that of usage or of want of memory
 usage_status : (shelf : ShelfSide) (fault : Fault) → IsCaused None shelf fault → (status_of fault ≡ 2) ⊎ (status_of fault ≡ 7)
@@ -146,7 +147,7 @@ ran_fault asked shelf out err result fault explained same whole part = record {
       let said = said_explained asked shelf fault w.said explained w.is_said in
       record {
         reply = refused w.said;
-        right = placed_reply asked files w.said (omega (arith, w.is)) (said.placed files told);
+        right = fault_reply asked shelf files w.said (omega (arith, w.is)) said.found told;
         gave = gave_line out err w.said result same w.is w.line;
       };
   complete = λ files told well memory reply is_reply.

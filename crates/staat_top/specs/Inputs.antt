@@ -4,9 +4,10 @@ use Rattle.staat_vec.specs.declared.vector.V3.{V3}
 use Rattle.staat_model.specs.declared.assembly.Part.{Part}
 use Rattle.staat_manifest.specs.declared.refusal.ManifestRefusal.{ManifestRefusal}
 use Rattle.staat_manifest.specs.Rules.{part_list}
+use Rattle.staat_words.specs.declared.request.Asked.{Asked}
 use Rattle.staat_words.specs.declared.request.Input.{Input}
 use Rattle.staat_words.specs.declared.request.Input.TheVariants as input
-use Rattle.staat_top.specs.Steps.{Files, Found, IsTaken, Next, Each, gives, stops, replies, refused}
+use Rattle.staat_top.specs.Work.{Files, Found, IsTaken, Then, Each}
 use Rattle.staat_top.specs.Refusals.{manifest_fault}
 use Rattle.staat_top.specs.Pieces.{IsPieceOf}
 
@@ -16,13 +17,15 @@ NamedPart = List ℕ × List (List ℕ)
 
 -- What the bytes of a part list say: it breaks a rule, or names these parts.
 pub data SaysListing (name bytes : List ℕ) : Found (List NamedPart) → Type 0 where
-  no_listing : {found : Found (List NamedPart)} (refusal : ManifestRefusal) → part_list bytes ≡ Err refusal → found ≡ stops (replies (refused (manifest_fault name refusal))) → SaysListing name bytes found
-  listing : {found : Found (List NamedPart)} (parts : List NamedPart) → part_list bytes ≡ Ok parts → found ≡ gives parts → SaysListing name bytes found
+  no_listing : {found : Found (List NamedPart)} (refusal : ManifestRefusal) → part_list bytes ≡ Err refusal →
+      found ≡ Err (manifest_fault name refusal) → SaysListing name bytes found
+  listing : {found : Found (List NamedPart)} (parts : List NamedPart) → part_list bytes ≡ Ok parts →
+      found ≡ Ok parts → SaysListing name bytes found
 
--- What the step finds that learns the names. Without a part list each file is one part of one piece with the file's name.
+-- What the step finds that learns the names. Without a part list each file is one part of one piece, with its name.
 abbrev pub IsListingOf : Files → Input → Found (List NamedPart) → Type 0
 IsListingOf files (input.Manifest name) found = IsTaken files name (SaysListing name) found
-IsListingOf files (input.Files names) found = found ≡ gives (map (λ name. (name, name ∷ [])) names)
+IsListingOf files (input.Files names) found = found ≡ Ok (map (λ name. (name, name ∷ [])) names)
 
 -- the part of that name with these pieces
 abbrev pub part_of : List ℕ → List (List V3) → Part
@@ -30,9 +33,10 @@ part_of name pieces = record { name = name; pieces = pieces }
 
 -- what the step finds that reads the pieces of a part
 abbrev pub IsPartOf : Files → ℕ → NamedPart → Found Part → Type 0
-IsPartOf files digits named found = Next (Each (IsPieceOf files digits) named.1) (λ pieces found. found ≡ gives (part_of named.0 pieces)) found
+IsPartOf files digits named found =
+    Then (Each (IsPieceOf files digits) named.1) (λ pieces found. found ≡ Ok (part_of named.0 pieces)) found
 
--- What the step finds that reads the whole input: the names first, then each part's pieces. A file that is named twice is
--- read twice.
-abbrev pub IsInputOf : Files → ℕ → Input → Found (List Part) → Type 0
-IsInputOf files digits asked found = Next (IsListingOf files asked) (λ named. Each (IsPartOf files digits) named) found
+-- What the step finds that reads the whole input: the names first, then each part's pieces. A file that is named twice
+-- is read twice.
+abbrev pub IsInputOf : Files → Asked → Found (List Part) → Type 0
+IsInputOf files asked found = Then (IsListingOf files asked.input) (Each (IsPartOf files asked.digits)) found

@@ -1,4 +1,4 @@
-pub mod Steps
+pub mod Work
 pub mod Refusals
 pub mod Pieces
 pub mod Inputs
@@ -7,6 +7,3 @@ pub mod Assembling
 pub mod Graphing
 pub mod Replies
 pub mod Runs
-pub mod PairRequests
-pub mod LookRequests
-pub mod GraphRequests

@@ -7,15 +7,18 @@ use Rattle.staat_off.specs.Reading.{reading}
 use Rattle.staat_mesh.specs.declared.refusal.MeshRefusal.{MeshRefusal}
 use Rattle.staat_mesh.specs.Polygons.{mesh}
 use Rattle.staat_mesh.specs.Judging.{Judges}
-use Rattle.staat_top.specs.Steps.{Files, Found, IsTaken, gives, stops, replies, refused}
+use Rattle.staat_top.specs.Work.{Files, Found, IsTaken}
 use Rattle.staat_top.specs.Refusals.{off_fault, mesh_fault}
 
 -- What the bytes of a file say, with coordinates scaled by so many decimal digits: it is no OFF file, or its mesh is no
 -- piece, or it is this piece.
 pub data SaysPiece (digits : ℕ) (name bytes : List ℕ) : Found (List V3) → Type 0 where
-  no_file : {found : Found (List V3)} (refusal : OffRefusal) → reading digits bytes ≡ Err refusal → found ≡ stops (replies (refused (off_fault name refusal))) → SaysPiece digits name bytes found
-  no_piece : {found : Found (List V3)} (raw : Raw) (refusal : MeshRefusal) → reading digits bytes ≡ Ok raw → Judges (mesh raw) (Err refusal) → found ≡ stops (replies (refused (mesh_fault name refusal))) → SaysPiece digits name bytes found
-  piece : {found : Found (List V3)} (raw : Raw) (points : List V3) → reading digits bytes ≡ Ok raw → Judges (mesh raw) (Ok points) → found ≡ gives points → SaysPiece digits name bytes found
+  no_file : {found : Found (List V3)} (refusal : OffRefusal) → reading digits bytes ≡ Err refusal →
+      found ≡ Err (off_fault name refusal) → SaysPiece digits name bytes found
+  no_piece : {found : Found (List V3)} (raw : Raw) (refusal : MeshRefusal) → reading digits bytes ≡ Ok raw →
+      Judges (mesh raw) (Err refusal) → found ≡ Err (mesh_fault name refusal) → SaysPiece digits name bytes found
+  piece : {found : Found (List V3)} (raw : Raw) (points : List V3) → reading digits bytes ≡ Ok raw →
+      Judges (mesh raw) (Ok points) → found ≡ Ok points → SaysPiece digits name bytes found
 
 -- what the step finds that reads the piece of a file
 abbrev pub IsPieceOf : Files → ℕ → List ℕ → Found (List V3) → Type 0

@@ -1,48 +1,90 @@
 -- The reply to a request over some files, as the order of work finds it.
-use Rattle.std.specs.Prelude.{◌≡◌, List, Option, Some, None, codes}
+use Rattle.std.specs.Prelude.{◌≡◌, ℕ, List, [], Option, Some, None, Ok, Err, codes}
 use Rattle.staat_vec.specs.declared.vector.V3.{V3}
+use Rattle.staat_model.specs.declared.assembly.Part.{Part}
 use Rattle.staat_model.specs.Walls.{IsShown}
 use Rattle.staat_model.specs.Meeting.{Meets}
-use Rattle.staat_model.specs.Assemblies.{IsSound}
+use Rattle.staat_model.specs.Assemblies.{IsAssembly, IsSound}
+use Rattle.staat_words.specs.declared.request.Asked.{Asked}
 use Rattle.staat_words.specs.declared.request.Request.{Request}
 use Rattle.staat_words.specs.declared.request.Request.TheVariants.{Pair, Look, Graph}
-use Rattle.staat_fault.specs.declared.fault.Fault.TheVariants.{Usage}
-use Rattle.staat_model.specs.declared.assembly.Part.{Part}
+use Rattle.staat_fault.specs.declared.fault.Fault.{Fault}
+use Rattle.staat_fault.specs.declared.fault.Fault.TheVariants.{Usage, ReadFault}
+use Rattle.staat_fault.specs.Faults.{status_of, line_of}
+use Rattle.staat_planes.specs.declared.table.TheConstants.{MOST_PLANES}
 use Rattle.staat_text.specs.Parts.{look_text}
+use Rattle.staat_top.specs.declared.answer.Answer.{Answer}
+use Rattle.staat_top.specs.Work.{Files, Found, Then}
 use Rattle.staat_top.specs.Pieces.{IsPieceOf}
 use Rattle.staat_top.specs.Inputs.{IsInputOf}
 use Rattle.staat_top.specs.Assembling.{IsSoundOf}
-use Rattle.staat_planes.specs.declared.table.TheConstants.{MOST_PLANES}
 use Rattle.staat_top.specs.Graphing.{AreCounted, IsGraphed}
-use Rattle.staat_top.specs.Steps.{Files, End, replies, gives, Then, Reply, answered, refused}
+
+-- an answer with this status and this text
+abbrev pub answer : ℕ → List ℕ → Answer
+answer status text = record { status = status; text = text }
 
 -- the last step for two pieces: whether the wall n shows that p never meets q along d
-pub data IsJudged (p q : List V3) (d n : V3) : End → Type 0 where
-  free : {at : End} → IsShown p q d n → at ≡ replies (answered 0 (codes "free\n")) → IsJudged p q d n at
-  not_shown : {at : End} → (IsShown p q d n → ⊥) → at ≡ replies (answered 1 (codes "not shown\n")) → IsJudged p q d n at
+pub data IsJudged (p q : List V3) (d n : V3) : Found Answer → Type 0 where
+  free : {found : Found Answer} → IsShown p q d n → found ≡ Ok (answer 0 (codes "free\n")) → IsJudged p q d n found
+  not_shown : {found : Found Answer} → (IsShown p q d n → ⊥) → found ≡ Ok (answer 1 (codes "not shown\n")) →
+      IsJudged p q d n found
 
--- the ends of the work on a request: a line for each command
-abbrev pub EndsOf : Request → Files → End → Type 0
-EndsOf (Pair digits along wall first second) files at =
-    Then (IsPieceOf files digits first) (λ p. Then (IsPieceOf files digits second) (λ q. IsJudged p q along wall)) at
-EndsOf (Look digits input) files at = Then (IsSoundOf files digits input) (λ parts at. at ≡ replies (answered 0 (look_text parts))) at
-EndsOf (Graph digits input along) files at =
-    Then (IsSoundOf files digits input) (λ parts. Then (AreCounted parts MOST_PLANES) (λ planes. IsGraphed parts along)) at
+-- what the work on a request finds: a case for each command
+abbrev pub WorkOn : Request → Files → Found Answer → Type 0
+WorkOn (Pair request) files found =
+    Then (IsPieceOf files request.digits request.first) (λ p. Then (IsPieceOf files request.digits request.second)
+    (λ q. IsJudged p q request.along request.wall)) found
+WorkOn (Look asked) files found =
+    Then (IsSoundOf files asked) (λ parts found. found ≡ Ok (answer 0 (look_text parts))) found
+WorkOn (Graph request) files found =
+    Then (IsSoundOf files request.asked) (λ parts. Then (AreCounted parts MOST_PLANES)
+    (λ planes. IsGraphed parts request.along)) found
 
--- the ends of the work on words, which may make no request
-abbrev pub Ends : Option Request → Files → End → Type 0
-Ends None files at = at ≡ replies (refused Usage)
-Ends (Some request) files at = EndsOf request files at
+-- what the work on words finds, which may make no request
+abbrev pub WorkOnWords : Option Request → Files → Found Answer → Type 0
+WorkOnWords None files found = found ≡ Err Usage
+WorkOnWords (Some request) files found = WorkOn request files found
+
+-- a status, a text for out and a text for err
+pub record Reply : Type 0 where
+  pub status : ℕ
+  pub out : List ℕ
+  pub err : List ℕ
+
+-- a text on out alone
+abbrev pub answered : Answer → Reply
+answered answer = record { status = answer.status; out = answer.text; err = [] }
+
+-- a line on err alone
+abbrev pub refused : Fault → Reply
+refused fault = record { status = status_of fault; out = []; err = line_of fault }
+
+-- what the work finds makes this reply; none where a file is to be read next
+abbrev pub Makes : Found Answer → Reply → Type 0
+Makes (Ok answer) reply = reply ≡ answered answer
+Makes (Err (ReadFault name)) reply = ⊥
+Makes (Err fault) reply = reply ≡ refused fault
 
 -- this is the reply
-abbrev pub IsReply : Option Request → Files → Reply → Type 0
-IsReply asked files reply = Ends asked files (replies reply)
+pub record IsReply (asked : Option Request) (files : Files) (reply : Reply) : Type 0 where
+  pub found : Found Answer
+  pub work : WorkOnWords asked files found
+  pub makes : Makes found reply
+
+-- the input names these parts, each file holds its piece, they are an assembly, and no pieces of different parts
+-- overlap
+pub record HasSoundParts (files : Files) (asked : Asked) : Type 0 where
+  pub parts : List Part
+  pub named : IsInputOf files asked (Ok parts)
+  pub assembly : IsAssembly parts
+  pub sound : IsSound parts
 
 -- What status 0 means beyond its text. For a pair: the first file's piece never meets the second's along the direction.
--- For a look or a graph: the input names these parts, each file holds its piece, and no pieces of different parts overlap.
 abbrev pub IsRight : Option Request → Files → Type 0
 IsRight None files = ⊥
-IsRight (Some (Pair digits along wall first second)) files =
-    (p : List V3) × (q : List V3) × IsPieceOf files digits first (gives p) × IsPieceOf files digits second (gives q) × (Meets p q along → ⊥)
-IsRight (Some (Look digits input)) files = (parts : List Part) × IsInputOf files digits input (gives parts) × IsSound parts
-IsRight (Some (Graph digits input along)) files = (parts : List Part) × IsInputOf files digits input (gives parts) × IsSound parts
+IsRight (Some (Pair request)) files = (p : List V3) × (q : List V3) ×
+    IsPieceOf files request.digits request.first (Ok p) × IsPieceOf files request.digits request.second (Ok q) ×
+    (Meets p q request.along → ⊥)
+IsRight (Some (Look asked)) files = HasSoundParts files asked
+IsRight (Some (Graph request)) files = HasSoundParts files request.asked

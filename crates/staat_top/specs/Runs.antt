@@ -1,64 +1,60 @@
 -- What a call of the program does to the outside.
-use Rattle.std.specs.Prelude.{◌≡◌, ◌≢◌, ◌⊎◌, ◌<◌, ◌≤◌, ℕ, List, Option, Some, None, IsSomeAnd, ⊤}
+use Rattle.std.specs.Prelude.{◌≡◌, ◌≢◌, ◌⊎◌, ◌<◌, ◌≤◌, ℕ, List, Option, Some, None, Ok, Err, IsSomeAnd, ⊤}
 use Rattle.staat_edge.specs.Causes.{Rose}
 use Rattle.staat_edge.specs.Files.{Lacks, told_name, held_name}
 use Rattle.staat_edge.specs.Sinks.{GrewBy, GrewByPart}
+use Rattle.staat_edge.specs.Told.{ShelfTold, SinkTold}
 use Rattle.staat_words.specs.declared.request.Request.{Request}
+use Rattle.staat_words.specs.Requests.{HasBounds}
 use Rattle.staat_fault.specs.declared.fault.Fault.{Fault}
 use Rattle.staat_fault.specs.declared.fault.Fault.TheVariants.{Usage, ReadFault, TooLong, WriteFault, OutOfMemory}
 use Rattle.staat_top.specs.declared.read.TheConstants.{FILE_LIMIT}
 use Rattle.staat_fault.specs.Faults.{status_of, line_of}
-use Rattle.staat_top.specs.Steps.{Files, Reply, answered, end_of}
-use Rattle.staat_top.specs.Replies.{Ends, IsReply, IsRight}
+use Rattle.staat_top.specs.declared.answer.Answer.{Answer}
+use Rattle.staat_top.specs.Work.{Files, Found, Follows}
+use Rattle.staat_top.specs.Replies.{Reply, WorkOnWords, IsReply, IsRight}
 
--- A shelf over a call: what it holds, its count of faults before and after, and, after it, the file at which it
--- failed last, the open file and the place there, as far as it tells them.
-pub record ShelfSide : Type 0 where
-  pub holds : Option Files
-  pub before : ℕ
-  pub after : ℕ
-  pub failed : Option (List ℕ)
-  pub opened : Option (List ℕ)
-  pub place : Option ℕ
+-- What a shelf or a sink tells before a call and after it.
+pub record Over (T : Type 0) : Type 0 where
+  pub old : T
+  pub new : T
 
--- A sink over a call: what it took and its count of faults, before and after.
-pub record SinkSide : Type 0 where
-  pub old : Option (List ℕ)
-  pub new : Option (List ℕ)
-  pub before : ℕ
-  pub after : ℕ
+abbrev pub over : {T : Type 0} → T → T → Over T
+over old new = record { old = old; new = new }
 
-abbrev pub shelf_over : Option Files → ℕ → ℕ → Option (List ℕ) → Option (List ℕ) → Option ℕ → ShelfSide
-shelf_over holds before after failed opened place = record { holds = holds; before = before; after = after; failed = failed; opened = opened; place = place }
+abbrev pub ShelfSide : Type 0
+ShelfSide = Over ShelfTold
 
-abbrev pub sink_over : Option (List ℕ) → Option (List ℕ) → ℕ → ℕ → SinkSide
-sink_over old new before after = record { old = old; new = new; before = before; after = after }
+abbrev pub SinkSide : Type 0
+SinkSide = Over SinkTold
 
 -- the sink took the whole text
 abbrev pub Took : SinkSide → List ℕ → Type 0
-Took side text = GrewBy side.old side.new text
+Took side text = GrewBy side.old.wrote side.new.wrote text
 
 -- the sink failed in the call, or its count stands at its last value
 abbrev pub SinkFailed : SinkSide → Type 0
-SinkFailed side = Rose side.before side.after
+SinkFailed side = Rose side.old.faults side.new.faults
 
 -- the sink failed, and took a proper prefix of the text
 pub record TookPart (side : SinkSide) (text : List ℕ) : Type 0 where
-  pub part : GrewByPart side.old side.new text
+  pub part : GrewByPart side.old.wrote side.new.wrote text
   pub fault : SinkFailed side
 
 -- the sink took nothing
 abbrev pub Untouched : SinkSide → Type 0
-Untouched side = side.new ≡ side.old
+Untouched side = side.new.wrote ≡ side.old.wrote
 
 -- the shelf lacks the file, or it failed, and at that file if it holds it
 abbrev pub IsUnread : ShelfSide → List ℕ → Type 0
-IsUnread shelf name = Lacks shelf.holds name ⊎ (Rose shelf.before shelf.after × (held_name shelf.holds name ≡ Some name → shelf.failed ≡ Some name))
+IsUnread shelf name = Lacks shelf.old.holds name ⊎
+    (Rose shelf.old.faults shelf.new.faults ×
+    (held_name shelf.old.holds name ≡ Some name → shelf.new.failed ≡ Some name))
 
 -- more bytes than the limit were taken of the file, which is still open
 pub record IsPastLimit (shelf : ShelfSide) (name : List ℕ) : Type 0 where
-  pub place : IsSomeAnd shelf.place (λ at. FILE_LIMIT < at)
-  pub opened : shelf.opened ≡ told_name shelf.holds name
+  pub place : IsSomeAnd shelf.new.place (λ at. FILE_LIMIT < at)
+  pub opened : shelf.new.opened ≡ told_name shelf.old.holds name
 
 -- What shows why a fault came of the files, whatever the shelf tells. Of a refusal of what a file holds the reply alone
 -- says more; want of memory may come anywhere.
@@ -74,19 +70,19 @@ abbrev pub IsCaused : Option Request → ShelfSide → Fault → Type 0
 IsCaused None shelf fault = (fault ≡ Usage) ⊎ (fault ≡ OutOfMemory)
 IsCaused (Some request) shelf fault = HasCause shelf fault
 
--- where the work stands at that fault, over the files that the shelf holds; want of memory may come anywhere
-abbrev pub IsPlaced : Option Request → Files → Fault → Type 0
-IsPlaced asked files OutOfMemory = ⊤
-IsPlaced asked files fault = Ends asked files (end_of fault)
+-- where the shelf tells what it holds, the work on the words finds that answer or that fault; want of memory is free
+abbrev pub IsFound : Option Request → ShelfSide → Found Answer → Type 0
+IsFound asked shelf found = (files : Files) → shelf.old.holds ≡ Some files → Follows (WorkOnWords asked files) found
 
 -- why the fault came, and where the work stands
 pub record IsExplained (asked : Option Request) (shelf : ShelfSide) (fault : Fault) : Type 0 where
   pub cause : IsCaused asked shelf fault
-  pub placed : (files : Files) → shelf.holds ≡ Some files → IsPlaced asked files fault
+  pub found : IsFound asked shelf (Err fault)
 
--- a text with that status is the reply, where the shelf tells what it holds
-abbrev pub IsAnswer : Option Request → ShelfSide → ℕ → List ℕ → Type 0
-IsAnswer asked shelf status text = (files : Files) → shelf.holds ≡ Some files → IsReply asked files (answered status text)
+-- the words make no request, or one whose numbers are within their bounds
+abbrev pub IsBounded : Option Request → Type 0
+IsBounded None = ⊤
+IsBounded (Some request) = HasBounds request
 
 -- The fault, or want of memory, since its line may have no memory.
 abbrev pub IsSaid : Fault → Fault → Type 0
@@ -113,18 +109,18 @@ pub record Refuses (asked : Option Request) (shelf : ShelfSide) (err : SinkSide)
   pub line : Took err (line_of fault)
 
 -- an answer's text went out whole
-pub record Answers (asked : Option Request) (shelf : ShelfSide) (out : SinkSide) (status : ℕ) : Type 0 where
-  pub text : List ℕ
-  pub answer : IsAnswer asked shelf status text
-  pub printed : Took out text
+pub record Prints (asked : Option Request) (shelf : ShelfSide) (out : SinkSide) (status : ℕ) : Type 0 where
+  pub answer : Answer
+  pub found : IsFound asked shelf (Ok answer)
+  pub is : status ≡ answer.status
+  pub printed : Took out answer.text
 
 -- out failed on an answer's text, and the line that says so went out on err, unless err failed too
 pub record OutFails (asked : Option Request) (shelf : ShelfSide) (out err : SinkSide) : Type 0 where
-  pub status : ℕ
-  pub text : List ℕ
-  pub small : status < 2
-  pub answer : IsAnswer asked shelf status text
-  pub part : TookPart out text
+  pub answer : Answer
+  pub small : answer.status < 2
+  pub found : IsFound asked shelf (Ok answer)
+  pub part : TookPart out answer.text
   pub line : Took err (line_of WriteFault) ⊎ TookPart err (line_of WriteFault)
 
 -- err failed on the line of a fault
@@ -148,7 +144,7 @@ pub record Replied (asked : Option Request) (files : Files) (out err : SinkSide)
 
 -- no count of faults rose, nor stands at its last value
 pub record NoFault (shelf : ShelfSide) (out err : SinkSide) : Type 0 where
-  pub shelf_well : Rose shelf.before shelf.after → ⊥
+  pub shelf_well : Rose shelf.old.faults shelf.new.faults → ⊥
   pub out_well : SinkFailed out → ⊥
   pub err_well : SinkFailed err → ⊥
 
@@ -158,12 +154,13 @@ pub record Ran (asked : Option Request) (shelf : ShelfSide) (out err : SinkSide)
   pub out_kept : 2 ≤ status → status ≢ 6 → Untouched out
   pub err_kept : status < 2 → Untouched err
   -- what each status says, and why it came
-  pub answers : status < 2 → Answers asked shelf out status
+  pub answers : status < 2 → Prints asked shelf out status
   pub refuses : 2 ≤ status → status ≢ 6 → Refuses asked shelf err status
   pub write_fault : status ≡ 6 → OutFails asked shelf out err ⊎ ErrFails asked shelf out err
   pub usage : asked ≡ None → (status ≡ 2) ⊎ (status ≡ 6) ⊎ (status ≡ 7)
   -- Over a shelf that tells its files: statuses 0 to 4 are the reply; the reply comes where nothing failed and there
   -- was memory; and what status 0 says is so.
-  pub reply : status ≤ 4 → (files : Files) → shelf.holds ≡ Some files → Replied asked files out err status
-  pub complete : (files : Files) → shelf.holds ≡ Some files → NoFault shelf out err → status ≢ 7 → (reply : Reply) → IsReply asked files reply → Gave reply out err status
-  pub right : status ≡ 0 → (files : Files) → shelf.holds ≡ Some files → IsRight asked files
+  pub reply : status ≤ 4 → (files : Files) → shelf.old.holds ≡ Some files → Replied asked files out err status
+  pub complete : (files : Files) → shelf.old.holds ≡ Some files → NoFault shelf out err → status ≢ 7 → (reply : Reply) →
+      IsReply asked files reply → Gave reply out err status
+  pub right : status ≡ 0 → (files : Files) → shelf.old.holds ≡ Some files → IsRight asked files

@@ -2,12 +2,12 @@
 ghost use Rattle.std.specs.Prelude.{◌≡◌, ◌≤◌, ◌∷◌, [], All, Some, IfOk, IfErr, length, map};
 ghost use Rattle.staat_off.specs.declared.raw.TheConstants.{MOST_DIGITS};
 ghost use Rattle.staat_model.specs.Pieces.{IsPiece};
-ghost use Rattle.staat_words.specs.Requests.{IsInput};
-ghost use Rattle.staat_top.specs.Steps.{Each, Files, Follows, IsTaken};
+ghost use Rattle.staat_words.specs.Requests.{IsAsked, IsInput};
+ghost use Rattle.staat_top.specs.Work.{Each, Files, Follows, IsTaken};
 ghost use Rattle.staat_top.specs.Pieces.{IsPieceOf};
 ghost use Rattle.staat_top.specs.Inputs.{IsInputOf, IsListingOf, IsPartOf, SaysListing};
 ghost use Rattle.staat_top.specs.Shapes.{AreRead, IsFew};
-ghost use Rattle.staat_top.specs.Runs.{HasCause, ShelfSide, shelf_over};
+ghost use Rattle.staat_top.specs.Runs.{HasCause, ShelfSide, over};
 
 use crate::read::{copy_of, read_file, read_piece};
 use crate::refusals::manifest_fault;
@@ -16,7 +16,7 @@ use staat_fault::Fault;
 use staat_manifest::{Listing, read_manifest};
 use staat_model::{Assembly, Part, Parts, Piece, Pieces};
 use staat_vec::{Name, Names};
-use staat_words::Input;
+use staat_words::{Asked, Input};
 use std::alloc::{AllocError, Global};
 
 // The part of one piece that a file is.
@@ -42,7 +42,7 @@ fn parts_of_files(alloc: Global, names: &[Name]) -> Result<Listing, AllocError>
 }
 
 // The parts that the bytes of a file list.
-#[tactic(auto, using(crate::proofs::Reading::listing_says))]
+#[tactic(auto, using(crate::proofs::ReadLemmas::listing_says))]
 fn listing_in(alloc: Global, bytes: &[u8], name: &Name) -> Result<Listing, Fault>
     ensures says { Follows (SaysListing name.now bytes.now) result }
     ensures few { IfOk result IsFew }
@@ -55,14 +55,13 @@ fn listing_in(alloc: Global, bytes: &[u8], name: &Name) -> Result<Listing, Fault
 }
 
 // The parts that a part list names.
-#[tactic(auto, using(crate::proofs::Reading::taking))]
+#[tactic(auto, using(crate::proofs::ReadLemmas::taking))]
 fn read_listing<H: Shelf>(alloc: Global, shelf: &mut H, name: &Name) -> Result<Listing, Fault>
-    ensures holds { H.holds shelf.new ≡ H.holds shelf.old }
-    ensures count { H.faults shelf.old ≤ H.faults shelf.new }
-    ensures found { (files : Files) → H.holds shelf.old ≡ Some files → Follows (IsTaken files name.now (SaysListing name.now)) result }
+    ensures holds { (H.told shelf.new).holds ≡ (H.told shelf.old).holds }
+    ensures count { (H.told shelf.old).faults ≤ (H.told shelf.new).faults }
+    ensures found { (files : Files) → (H.told shelf.old).holds ≡ Some files → Follows (IsTaken files name.now (SaysListing name.now)) result }
     ensures few { IfOk result IsFew }
-    ensures cause { IfErr result (HasCause (shelf_over (H.holds shelf.old) (H.faults shelf.old) (H.faults shelf.new)
-        (H.failed shelf.new) (H.opened shelf.new) (H.place shelf.new))) }
+    ensures cause { IfErr result (HasCause (over (H.told shelf.old) (H.told shelf.new))) }
 {
     let bytes = read_file(alloc, shelf, name)?;
     listing_in(alloc, bytes.as_slice(), name)
@@ -71,12 +70,11 @@ fn read_listing<H: Shelf>(alloc: Global, shelf: &mut H, name: &Name) -> Result<L
 // The names of the parts and of their pieces' files.
 fn names_of<H: Shelf>(alloc: Global, shelf: &mut H, input: &Input) -> Result<Listing, Fault>
     requires { IsInput input.now }
-    ensures holds { H.holds shelf.new ≡ H.holds shelf.old }
-    ensures count { H.faults shelf.old ≤ H.faults shelf.new }
-    ensures found { (files : Files) → H.holds shelf.old ≡ Some files → Follows (IsListingOf files input.now) result }
+    ensures holds { (H.told shelf.new).holds ≡ (H.told shelf.old).holds }
+    ensures count { (H.told shelf.old).faults ≤ (H.told shelf.new).faults }
+    ensures found { (files : Files) → (H.told shelf.old).holds ≡ Some files → Follows (IsListingOf files input.now) result }
     ensures few { IfOk result IsFew }
-    ensures cause { IfErr result (HasCause (shelf_over (H.holds shelf.old) (H.faults shelf.old) (H.faults shelf.new)
-        (H.failed shelf.new) (H.opened shelf.new) (H.place shelf.new))) }
+    ensures cause { IfErr result (HasCause (over (H.told shelf.old) (H.told shelf.new))) }
 {
     match input {
         Input::Manifest(name) => read_listing(alloc, shelf, name),
@@ -102,13 +100,12 @@ fn read_pieces<H: Shelf>(
     names: &[Name],
 ) -> Result<Pieces, Fault>
     requires { digits ≤ MOST_DIGITS }
-    ensures holds { H.holds shelf.new ≡ H.holds shelf.old }
-    ensures count { H.faults shelf.old ≤ H.faults shelf.new }
-    ensures found { (files : Files) → H.holds shelf.old ≡ Some files → Follows (Each (IsPieceOf files digits) names.now) result }
+    ensures holds { (H.told shelf.new).holds ≡ (H.told shelf.old).holds }
+    ensures count { (H.told shelf.old).faults ≤ (H.told shelf.new).faults }
+    ensures found { (files : Files) → (H.told shelf.old).holds ≡ Some files → Follows (Each (IsPieceOf files digits) names.now) result }
     ensures pieces { IfOk result (All IsPiece) }
     ensures each { IfOk result (λ pieces. length pieces ≡ length names.now) }
-    ensures cause { IfErr result (HasCause (shelf_over (H.holds shelf.old) (H.faults shelf.old) (H.faults shelf.new)
-        (H.failed shelf.new) (H.opened shelf.new) (H.place shelf.new))) }
+    ensures cause { IfErr result (HasCause (over (H.told shelf.old) (H.told shelf.new))) }
 {
     let mut pieces = Vec::with_capacity(alloc, names.len())?;
     for name in names {
@@ -127,13 +124,12 @@ fn read_part<H: Shelf>(
     named: &(Name, Names),
 ) -> Result<Part, Fault>
     requires { digits ≤ MOST_DIGITS }
-    ensures holds { H.holds shelf.new ≡ H.holds shelf.old }
-    ensures count { H.faults shelf.old ≤ H.faults shelf.new }
-    ensures found { (files : Files) → H.holds shelf.old ≡ Some files → Follows (IsPartOf files digits named.now) result }
+    ensures holds { (H.told shelf.new).holds ≡ (H.told shelf.old).holds }
+    ensures count { (H.told shelf.old).faults ≤ (H.told shelf.new).faults }
+    ensures found { (files : Files) → (H.told shelf.old).holds ≡ Some files → Follows (IsPartOf files digits named.now) result }
     ensures pieces { IfOk result (λ part. All IsPiece part.pieces) }
     ensures each { IfOk result (λ part. length part.pieces ≡ length named.now.1) }
-    ensures cause { IfErr result (HasCause (shelf_over (H.holds shelf.old) (H.faults shelf.old) (H.faults shelf.new)
-        (H.failed shelf.new) (H.opened shelf.new) (H.place shelf.new))) }
+    ensures cause { IfErr result (HasCause (over (H.told shelf.old) (H.told shelf.new))) }
 {
     let name = copy_of(alloc, &named.0)?;
     let pieces = read_pieces(alloc, digits, shelf, named.1.as_slice())?;
@@ -148,12 +144,11 @@ fn read_parts<H: Shelf>(
     listing: &[(Name, Names)],
 ) -> Result<Parts, Fault>
     requires { digits ≤ MOST_DIGITS }
-    ensures holds { H.holds shelf.new ≡ H.holds shelf.old }
-    ensures count { H.faults shelf.old ≤ H.faults shelf.new }
-    ensures found { (files : Files) → H.holds shelf.old ≡ Some files → Follows (Each (IsPartOf files digits) listing.now) result }
+    ensures holds { (H.told shelf.new).holds ≡ (H.told shelf.old).holds }
+    ensures count { (H.told shelf.old).faults ≤ (H.told shelf.new).faults }
+    ensures found { (files : Files) → (H.told shelf.old).holds ≡ Some files → Follows (Each (IsPartOf files digits) listing.now) result }
     ensures read { IfOk result (AreRead listing.now) }
-    ensures cause { IfErr result (HasCause (shelf_over (H.holds shelf.old) (H.faults shelf.old) (H.faults shelf.new)
-        (H.failed shelf.new) (H.opened shelf.new) (H.place shelf.new))) }
+    ensures cause { IfErr result (HasCause (over (H.told shelf.old) (H.told shelf.new))) }
 {
     let mut parts = Vec::with_capacity(alloc, listing.len())?;
     for named in listing {
@@ -164,21 +159,14 @@ fn read_parts<H: Shelf>(
 
 /// The assembly that an input names: the part list is read first, if there is one, and then each piece's file in the order
 /// of the list. The first refusal is the answer.
-pub fn read_input<H: Shelf>(
-    alloc: Global,
-    digits: u32,
-    shelf: &mut H,
-    input: &Input,
-) -> Result<Assembly, Fault>
-    requires digits { digits ≤ MOST_DIGITS }
-    requires input { IsInput input.now }
-    ensures holds { H.holds shelf.new ≡ H.holds shelf.old }
-    ensures count { H.faults shelf.old ≤ H.faults shelf.new }
-    ensures found { (files : Files) → H.holds shelf.old ≡ Some files → Follows (IsInputOf files digits input.now) result }
-    ensures cause { IfErr result (HasCause (shelf_over (H.holds shelf.old) (H.faults shelf.old) (H.faults shelf.new)
-        (H.failed shelf.new) (H.opened shelf.new) (H.place shelf.new))) }
+pub fn read_input<H: Shelf>(alloc: Global, shelf: &mut H, asked: &Asked) -> Result<Assembly, Fault>
+    requires { IsAsked asked.now }
+    ensures holds { (H.told shelf.new).holds ≡ (H.told shelf.old).holds }
+    ensures count { (H.told shelf.old).faults ≤ (H.told shelf.new).faults }
+    ensures found { (files : Files) → (H.told shelf.old).holds ≡ Some files → Follows (IsInputOf files asked.now) result }
+    ensures cause { IfErr result (HasCause (over (H.told shelf.old) (H.told shelf.new))) }
 {
-    let listing = names_of(alloc, shelf, input)?;
-    let parts = read_parts(alloc, digits, shelf, listing.as_slice())?;
+    let listing = names_of(alloc, shelf, &asked.input)?;
+    let parts = read_parts(alloc, asked.digits, shelf, listing.as_slice())?;
     Ok(Assembly::seal(parts))
 }

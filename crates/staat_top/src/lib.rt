@@ -4,6 +4,7 @@
 mod answer;
 mod graph;
 mod input;
+pub mod laws;
 mod look;
 mod pair;
 mod planes;

@@ -1,9 +1,9 @@
 // The planes of all parts.
-ghost use Rattle.std.specs.Prelude.{◌≡◌, ◌≤◌, Err, IfErr, IfOk};
+ghost use Rattle.std.specs.Prelude.{◌≡◌, ◌≤◌, IfErr, IfOk};
 ghost use Rattle.staat_planes.specs.declared.table.TheConstants.{LEAST_PLANES, MOST_PLANES};
 ghost use Rattle.staat_pairs.specs.Tables.{WasMadeFrom};
 ghost use Rattle.staat_top.specs.Graphing.{AreCounted, all_parts};
-ghost use Rattle.staat_top.specs.Steps.{Follows, gives};
+ghost use Rattle.staat_top.specs.Work.{Follows};
 ghost use Rattle.staat_top.specs.Runs.{HasCause, ShelfSide};
 
 use crate::refusals::planes_fault;
@@ -14,11 +14,11 @@ use staat_planes::{PlaneTable, tabulate};
 use std::alloc::Global;
 
 /// The table of the planes of all parts, of which there may be at most `limit`.
-#[tactic(auto, using(crate::proofs::Counting::counting))]
+#[tactic(auto, using(crate::proofs::PlanesLemmas::counting))]
 pub fn table_of(alloc: Global, sound: &Sound, limit: u32) -> Result<PlaneTable, Fault>
     requires least { LEAST_PLANES ≤ limit }
     requires most { limit ≤ MOST_PLANES }
-    ensures counted { IfOk result (λ table. AreCounted sound.now limit (gives table.planes)) }
+    ensures counted { IfOk result (λ table. AreCounted sound.now limit (Ok table.planes)) }
     ensures made { IfOk result (WasMadeFrom sound.now) }
     ensures all { IfOk result (λ table. table.of ≡ all_parts sound.now) }
     ensures refused { IfErr result (λ fault. Follows (AreCounted sound.now limit) (Err fault)) }

@@ -2,7 +2,7 @@
 ghost use Rattle.std.specs.Prelude.{◌≡◌, ◌≢◌, ◌⊎◌, ◌<◌, ◌≤◌};
 ghost use Rattle.staat_fault.specs.declared.fault.Fault.TheVariants as faults;
 ghost use Rattle.staat_fault.specs.Faults.{line_of};
-ghost use Rattle.staat_top.specs.Runs.{SaysPart, SaysWhole, Took, TookPart, sink_over};
+ghost use Rattle.staat_top.specs.Runs.{SaysPart, SaysWhole, Took, TookPart, over};
 
 use crate::answer::Answer;
 use staat_edge::{Sink, write_whole};
@@ -12,11 +12,11 @@ use std::alloc::Global;
 // Writes a line, and gives the status with it, or the one of a write fault.
 fn say<E: Sink>(err: &mut E, line: &[u8], status: u8) -> u8
     requires { status ≢ 6 }
-    ensures count { E.faults err.old ≤ E.faults err.new }
+    ensures count { (E.told err.old).faults ≤ (E.told err.new).faults }
     ensures whole { result ≢ 6 → (result ≡ status) × Took
-        (sink_over (E.wrote err.old) (E.wrote err.new) (E.faults err.old) (E.faults err.new)) line.now }
+        (over (E.told err.old) (E.told err.new)) line.now }
     ensures part { result ≡ 6 → TookPart
-        (sink_over (E.wrote err.old) (E.wrote err.new) (E.faults err.old) (E.faults err.new)) line.now }
+        (over (E.told err.old) (E.told err.new)) line.now }
 {
     match write_whole(err, line) {
         Ok(()) => status,
@@ -27,11 +27,11 @@ fn say<E: Sink>(err: &mut E, line: &[u8], status: u8) -> u8
 /// Says on err that there was no memory, which takes none, and gives the status of that, or that of a write fault.
 #[tactic(auto, unfolding(staat_fault::specs::Faults::line_of, staat_fault::specs::Faults::body_of))]
 pub fn want_memory<E: Sink>(err: &mut E) -> u8
-    ensures count { E.faults err.old ≤ E.faults err.new }
+    ensures count { (E.told err.old).faults ≤ (E.told err.new).faults }
     ensures whole { result ≢ 6 → SaysWhole faults.OutOfMemory
-        (sink_over (E.wrote err.old) (E.wrote err.new) (E.faults err.old) (E.faults err.new)) result }
+        (over (E.told err.old) (E.told err.new)) result }
     ensures part { result ≡ 6 → SaysPart faults.OutOfMemory
-        (sink_over (E.wrote err.old) (E.wrote err.new) (E.faults err.old) (E.faults err.new)) }
+        (over (E.told err.old) (E.told err.new)) }
 {
     say(err, MEMORY_LINE, 7)
 }
@@ -41,11 +41,11 @@ pub fn want_memory<E: Sink>(err: &mut E) -> u8
 #[tactic(auto, unfolding(staat_fault::specs::Faults::line_of, staat_fault::specs::Faults::body_of))]
 pub fn refuse<E: Sink>(alloc: Global, fault: &Fault, err: &mut E) -> u8
     requires { fault.now ≢ faults.WriteFault }
-    ensures count { E.faults err.old ≤ E.faults err.new }
+    ensures count { (E.told err.old).faults ≤ (E.told err.new).faults }
     ensures whole { result ≢ 6 → SaysWhole fault.now
-        (sink_over (E.wrote err.old) (E.wrote err.new) (E.faults err.old) (E.faults err.new)) result }
+        (over (E.told err.old) (E.told err.new)) result }
     ensures part { result ≡ 6 → SaysPart fault.now
-        (sink_over (E.wrote err.old) (E.wrote err.new) (E.faults err.old) (E.faults err.new)) }
+        (over (E.told err.old) (E.told err.new)) }
 {
     match fault {
         Fault::Usage => say(err, USAGE_LINE, 2),
@@ -62,16 +62,16 @@ pub fn refuse<E: Sink>(alloc: Global, fault: &Fault, err: &mut E) -> u8
 #[tactic(auto, unfolding(staat_fault::specs::Faults::line_of, staat_fault::specs::Faults::body_of))]
 pub fn print<O: Sink, E: Sink>(answer: &Answer, out: &mut O, err: &mut E) -> u8
     requires { answer.now.status < 2 }
-    ensures out_count { O.faults out.old ≤ O.faults out.new }
-    ensures err_count { E.faults err.old ≤ E.faults err.new }
-    ensures whole { result ≢ 6 → (result ≡ answer.now.status) × (E.wrote err.new ≡ E.wrote err.old) × Took
-        (sink_over (O.wrote out.old) (O.wrote out.new) (O.faults out.old) (O.faults out.new)) answer.now.text }
+    ensures out_count { (O.told out.old).faults ≤ (O.told out.new).faults }
+    ensures err_count { (E.told err.old).faults ≤ (E.told err.new).faults }
+    ensures whole { result ≢ 6 → (result ≡ answer.now.status) × ((E.told err.new).wrote ≡ (E.told err.old).wrote) × Took
+        (over (O.told out.old) (O.told out.new)) answer.now.text }
     ensures part { result ≡ 6 → TookPart
-        (sink_over (O.wrote out.old) (O.wrote out.new) (O.faults out.old) (O.faults out.new)) answer.now.text }
+        (over (O.told out.old) (O.told out.new)) answer.now.text }
     ensures line { result ≡ 6 → Took
-        (sink_over (E.wrote err.old) (E.wrote err.new) (E.faults err.old) (E.faults err.new)) (line_of faults.WriteFault)
+        (over (E.told err.old) (E.told err.new)) (line_of faults.WriteFault)
         ⊎ TookPart
-        (sink_over (E.wrote err.old) (E.wrote err.new) (E.faults err.old) (E.faults err.new)) (line_of faults.WriteFault) }
+        (over (E.told err.old) (E.told err.new)) (line_of faults.WriteFault) }
 {
     match write_whole(out, answer.text.as_slice()) {
         Ok(()) => answer.status,

@@ -2,9 +2,9 @@
 ghost use Rattle.std.specs.Prelude.{◌≡◌, ◌≤◌, Some, IfErr, IfOk, List, ℕ, length};
 ghost use Rattle.staat_off.specs.declared.raw.TheConstants.{MOST_DIGITS};
 ghost use Rattle.staat_edge.specs.Files.{IsWhole};
-ghost use Rattle.staat_top.specs.Steps.{Files, Follows, IsNotTaken};
+ghost use Rattle.staat_top.specs.Work.{Files, Follows, IsNotTaken};
 ghost use Rattle.staat_top.specs.Pieces.{IsPieceOf, SaysPiece};
-ghost use Rattle.staat_top.specs.Runs.{HasCause, ShelfSide, shelf_over};
+ghost use Rattle.staat_top.specs.Runs.{HasCause, ShelfSide, over};
 
 use crate::refusals::{mesh_fault, off_fault};
 use staat_edge::{ReadRefusal, Shelf, read_whole};
@@ -27,13 +27,12 @@ pub fn copy_of(alloc: Global, name: &Name) -> Result<Name, AllocError>
 
 /// The bytes of a whole file.
 pub fn read_file<H: Shelf>(alloc: Global, shelf: &mut H, name: &Name) -> Result<Bytes, Fault>
-    ensures holds { H.holds shelf.new ≡ H.holds shelf.old }
-    ensures count { H.faults shelf.old ≤ H.faults shelf.new }
-    ensures whole { IfOk result (λ bytes. IsWhole (H.holds shelf.old) name.now bytes) }
+    ensures holds { (H.told shelf.new).holds ≡ (H.told shelf.old).holds }
+    ensures count { (H.told shelf.old).faults ≤ (H.told shelf.new).faults }
+    ensures whole { IfOk result (λ bytes. IsWhole (H.told shelf.old).holds name.now bytes) }
     ensures within { IfOk result (λ bytes. length bytes ≤ FILE_LIMIT) }
-    ensures refused { IfErr result (IsNotTaken (H.holds shelf.old) name.now) }
-    ensures cause { IfErr result (HasCause (shelf_over (H.holds shelf.old) (H.faults shelf.old) (H.faults shelf.new)
-        (H.failed shelf.new) (H.opened shelf.new) (H.place shelf.new))) }
+    ensures refused { IfErr result (IsNotTaken (H.told shelf.old).holds name.now) }
+    ensures cause { IfErr result (HasCause (over (H.told shelf.old) (H.told shelf.new))) }
 {
     match read_whole(alloc, shelf, name.as_str(), FILE_LIMIT) {
         Ok(bytes) => Ok(bytes),
@@ -44,7 +43,7 @@ pub fn read_file<H: Shelf>(alloc: Global, shelf: &mut H, name: &Name) -> Result<
 }
 
 // The piece that the bytes of a file hold.
-#[tactic(auto, using(crate::proofs::Reading::saying))]
+#[tactic(auto, using(crate::proofs::ReadLemmas::saying))]
 fn piece_in(alloc: Global, digits: u32, bytes: &[u8], name: &Name) -> Result<Piece, Fault>
     requires { digits ≤ MOST_DIGITS }
     ensures says { Follows (SaysPiece digits name.now bytes.now) result }
@@ -61,7 +60,7 @@ fn piece_in(alloc: Global, digits: u32, bytes: &[u8], name: &Name) -> Result<Pie
 }
 
 /// The piece that a file holds, with coordinates scaled by so many decimal digits.
-#[tactic(auto, using(crate::proofs::Reading::taking))]
+#[tactic(auto, using(crate::proofs::ReadLemmas::taking))]
 pub fn read_piece<H: Shelf>(
     alloc: Global,
     digits: u32,
@@ -69,11 +68,10 @@ pub fn read_piece<H: Shelf>(
     name: &Name,
 ) -> Result<Piece, Fault>
     requires { digits ≤ MOST_DIGITS }
-    ensures holds { H.holds shelf.new ≡ H.holds shelf.old }
-    ensures count { H.faults shelf.old ≤ H.faults shelf.new }
-    ensures found { (files : Files) → H.holds shelf.old ≡ Some files → Follows (IsPieceOf files digits name.now) result }
-    ensures cause { IfErr result (HasCause (shelf_over (H.holds shelf.old) (H.faults shelf.old) (H.faults shelf.new)
-        (H.failed shelf.new) (H.opened shelf.new) (H.place shelf.new))) }
+    ensures holds { (H.told shelf.new).holds ≡ (H.told shelf.old).holds }
+    ensures count { (H.told shelf.old).faults ≤ (H.told shelf.new).faults }
+    ensures found { (files : Files) → (H.told shelf.old).holds ≡ Some files → Follows (IsPieceOf files digits name.now) result }
+    ensures cause { IfErr result (HasCause (over (H.told shelf.old) (H.told shelf.new))) }
 {
     let bytes = read_file(alloc, shelf, name)?;
     piece_in(alloc, digits, bytes.as_slice(), name)

@@ -1,61 +1,53 @@
 // The call that does all that the program does.
 ghost use Rattle.std.specs.Prelude.{◌≡◌, ◌≢◌, ◌⊎◌, ◌<◌, ◌≤◌, Some, None, IfOk, IfErr, IsErrAnd, map, string_bytes};
-ghost use Rattle.staat_words.specs.Requests.{request};
+ghost use Rattle.staat_words.specs.Requests.{HasBounds, request};
 ghost use Rattle.staat_fault.specs.declared.fault.Fault.TheVariants as faults;
-ghost use Rattle.staat_top.specs.Runs.{IsAnswer, IsExplained, Ran, shelf_over, sink_over};
+ghost use Rattle.staat_top.specs.Work.{Files, Follows};
+ghost use Rattle.staat_top.specs.Replies.{WorkOn};
+ghost use Rattle.staat_top.specs.Runs.{HasCause, IsBounded, IsExplained, IsFound, Ran, over};
 
 use crate::answer::Answer;
 use crate::graph::graph;
 use crate::look::look;
-use crate::pair::{PairOfFiles, pair};
+use crate::pair::pair;
 use crate::print::{print, refuse};
 use staat_edge::{Shelf, Sink};
 use staat_fault::Fault;
 use staat_words::{Request, RequestRefusal, request_of};
 use std::alloc::Global;
 
-// The answer to the words, over what the shelf holds.
-#[tactic(auto, using(crate::proofs::Asking::asking))]
-fn answer_to<H: Shelf>(alloc: Global, words: &Vec<String>, shelf: &mut H) -> Result<Answer, Fault>
-    ensures holds { H.holds shelf.new ≡ H.holds shelf.old }
-    ensures count { H.faults shelf.old ≤ H.faults shelf.new }
+// The work on a request: a line for each command.
+fn work<H: Shelf>(alloc: Global, request: &Request, shelf: &mut H) -> Result<Answer, Fault>
+    requires { HasBounds request.now }
+    ensures holds { (H.told shelf.new).holds ≡ (H.told shelf.old).holds }
+    ensures count { (H.told shelf.old).faults ≤ (H.told shelf.new).faults }
     ensures status { IfOk result (λ a. a.status < 2) }
-    ensures answer { IfOk result (λ a. IsAnswer (request (map string_bytes words.now.items))
-        (shelf_over (H.holds shelf.old) (H.faults shelf.old) (H.faults shelf.new)
-        (H.failed shelf.new) (H.opened shelf.new) (H.place shelf.new)) a.status a.text) }
+    ensures found { (files : Files) → (H.told shelf.old).holds ≡ Some files → Follows (WorkOn request.now files) result }
+    ensures cause { IfErr result (HasCause (over (H.told shelf.old) (H.told shelf.new))) }
+{
+    match request {
+        Request::Pair(request) => pair(alloc, request, shelf),
+        Request::Look(asked) => look(alloc, asked, shelf),
+        Request::Graph(request) => graph(alloc, request, shelf),
+    }
+}
+
+// The answer to the words, over what the shelf holds.
+#[tactic(auto, using(crate::proofs::TopLemmas::worked))]
+fn answer_to<H: Shelf>(alloc: Global, words: &Vec<String>, shelf: &mut H) -> Result<Answer, Fault>
+    ensures holds { (H.told shelf.new).holds ≡ (H.told shelf.old).holds }
+    ensures count { (H.told shelf.old).faults ≤ (H.told shelf.new).faults }
+    ensures status { IfOk result (λ a. a.status < 2) }
+    ensures found { IfOk result (λ a. IsFound (request (map string_bytes words.now.items))
+        (over (H.told shelf.old) (H.told shelf.new)) (Ok a)) }
     ensures explained { IfErr result (IsExplained (request (map string_bytes words.now.items))
-        (shelf_over (H.holds shelf.old) (H.faults shelf.old) (H.faults shelf.new)
-        (H.failed shelf.new) (H.opened shelf.new) (H.place shelf.new))) }
+        (over (H.told shelf.old) (H.told shelf.new))) }
+    ensures bounds { IfOk result (λ _. IsBounded (request (map string_bytes words.now.items))) }
     ensures usage { request (map string_bytes words.now.items) ≡ None →
         IsErrAnd result (λ f. (f ≡ faults.Usage) ⊎ (f ≡ faults.OutOfMemory)) }
 {
     match request_of(alloc, words) {
-        Ok(
-            Request::Pair {
-                digits,
-                along,
-                wall,
-                first,
-                second,
-            },
-        ) => {
-            let asked = PairOfFiles {
-                digits,
-                along,
-                wall,
-                first,
-                second,
-            };
-            pair(alloc, asked, shelf)
-        }
-        Ok(Request::Look { digits, input }) => look(alloc, digits, &input, shelf),
-        Ok(
-            Request::Graph {
-                digits,
-                input,
-                along,
-            },
-        ) => graph(alloc, digits, &input, along, shelf),
+        Ok(request) => work(alloc, &request, shelf),
         Err(RequestRefusal::Usage) => Err(Fault::Usage),
         Err(RequestRefusal::OutOfMemory) => Err(Fault::OutOfMemory),
     }
@@ -73,16 +65,12 @@ pub fn staat<H: Shelf, O: Sink, E: Sink>(
     err: &mut E,
 ) -> u8
     ensures range { result ≤ 7 }
-    ensures holds { H.holds shelf.new ≡ H.holds shelf.old }
-    ensures shelf_count { H.faults shelf.old ≤ H.faults shelf.new }
-    ensures out_count { O.faults out.old ≤ O.faults out.new }
-    ensures err_count { E.faults err.old ≤ E.faults err.new }
-    ensures ran { Ran (request (map string_bytes words.now.items))
-        (shelf_over (H.holds shelf.old) (H.faults shelf.old) (H.faults shelf.new)
-        (H.failed shelf.new) (H.opened shelf.new) (H.place shelf.new))
-        (sink_over (O.wrote out.old) (O.wrote out.new) (O.faults out.old) (O.faults out.new))
-        (sink_over (E.wrote err.old) (E.wrote err.new) (E.faults err.old) (E.faults err.new))
-        result }
+    ensures holds { (H.told shelf.new).holds ≡ (H.told shelf.old).holds }
+    ensures shelf_count { (H.told shelf.old).faults ≤ (H.told shelf.new).faults }
+    ensures out_count { (O.told out.old).faults ≤ (O.told out.new).faults }
+    ensures err_count { (E.told err.old).faults ≤ (E.told err.new).faults }
+    ensures ran { Ran (request (map string_bytes words.now.items)) (over (H.told shelf.old) (H.told shelf.new))
+        (over (O.told out.old) (O.told out.new)) (over (E.told err.old) (E.told err.new)) result }
 {
     match answer_to(alloc, words, shelf) {
         Ok(answer) => print(&answer, out, err),

@@ -2,12 +2,14 @@
 ghost use Rattle.std.specs.Prelude.{◌≡◌, ◌≤◌, ◌≢◌, map, option_map, IfSome, IfOk};
 ghost use Rattle.clap.specs.Words.{all_of, first_of, found_of, rows_of};
 ghost use Rattle.staat_vec.specs.Vectors.{IsWithin, origin};
-ghost use Rattle.staat_words.specs.Requests.{AnswersInput, IsInput, digits_in, input_in, vector_in};
+ghost use Rattle.staat_words.specs.Requests.{Answers, IsInput, digits_in, input_in, vector_in};
 
 use crate::request::{Input, RequestRefusal};
 use crate::vector::vector_of;
 use clap::ArgMatches;
+use staat_model::MOST_PARTS;
 use staat_number::natural_of;
+use staat_off::MOST_DIGITS;
 use staat_vec::{DIRECTION, Name, Names, V3};
 use std::alloc::{AllocError, Global};
 
@@ -29,10 +31,10 @@ fn values_of<'m, 'a>(matches: &'m ArgMatches<'a>, id: &str) -> Option<&'m [&'a s
 #[tactic(auto, unfolding(crate::specs::Requests::digits_in))]
 pub fn digits_of(matches: &ArgMatches<'_>) -> Option<u32>
     ensures exact { result ≡ digits_in (rows_of (found_of matches.now)) }
-    ensures bound { IfSome result (λ n. n ≤ 6) }
+    ensures bound { IfSome result (λ n. n ≤ MOST_DIGITS) }
 {
     let text = value_of(matches, "digits").unwrap_or("0");
-    let n = natural_of(text, 6)?;
+    let n = natural_of(text, u128::from(MOST_DIGITS))?;
     Some(n as u32)
 }
 
@@ -71,7 +73,7 @@ fn names_of(alloc: Global, words: &[&str]) -> Result<Names, AllocError>
 /// Where the parts come from: either a part list, or 1 to 32 files.
 #[tactic(auto, unfolding(crate::specs::Requests::input_in))]
 pub fn input_of(alloc: Global, matches: &ArgMatches<'_>) -> Result<Input, RequestRefusal>
-    ensures answers { AnswersInput (input_in (rows_of (found_of matches.now))) result }
+    ensures answers { Answers (input_in (rows_of (found_of matches.now))) result }
     ensures bounds { IfOk result IsInput }
 {
     let files = values_of(matches, "files");
@@ -84,7 +86,7 @@ pub fn input_of(alloc: Global, matches: &ArgMatches<'_>) -> Result<Input, Reques
         }
         None => {
             let files = files.ok_or(RequestRefusal::Usage)?;
-            if files.is_empty() || files.len() > 32 {
+            if files.is_empty() || files.len() > MOST_PARTS as usize {
                 return Err(RequestRefusal::Usage);
             }
             Ok(Input::Files(names_of(alloc, files)?))

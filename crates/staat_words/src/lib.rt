@@ -3,11 +3,12 @@
 
 mod arguments;
 mod command;
+pub mod laws;
 mod request;
 mod vector;
 mod words;
 
-pub use request::{Input, Request, RequestRefusal};
+pub use request::{Asked, GraphRequest, Input, PairRequest, Request, RequestRefusal};
 pub use words::request_of;
 
 #[cfg(test)]

@@ -8,35 +8,46 @@ use thiserror::Error;
 pub enum Input {
     /// A part list.
     Manifest(Name),
-    /// 1 to 32 files, each one part of one piece.
+    /// 1 to 32 files, as many as there may be parts, each one part of one piece.
     Files(Names),
 }
 
-/// A command with its values. `digits` (0 to 6) is by how many decimal digits coordinates are scaled.
+/// The parts that are asked about.
+#[derive(Drop)]
+pub struct Asked {
+    /// By how many decimal digits coordinates are scaled, 0 to 6.
+    pub digits: u32,
+    pub input: Input,
+}
+
+/// Whether a wall shows that the first file's piece never meets the second's along a direction.
+#[derive(Drop)]
+pub struct PairRequest {
+    /// By how many decimal digits coordinates are scaled, 0 to 6.
+    pub digits: u32,
+    /// The direction in which the first piece moves: not zero, at most `DIRECTION` in a component.
+    pub along: V3,
+    /// The wall's normal, from the first piece to the second: not zero, at most `NORMAL` in a component.
+    pub wall: V3,
+    pub first: Name,
+    pub second: Name,
+}
+
+/// Which parts block which along a direction.
+#[derive(Drop)]
+pub struct GraphRequest {
+    pub asked: Asked,
+    /// The direction in which parts move: not zero, at most `DIRECTION` in a component.
+    pub along: V3,
+}
+
+/// A command with its values.
 #[derive(Drop)]
 pub enum Request {
-    /// Whether a wall shows that the first file's piece never meets the second's along a direction.
-    Pair {
-        digits: u32,
-        /// The direction in which the first piece moves: not zero, at most `DIRECTION` in a component.
-        along: V3,
-        /// The wall's normal, from the first piece to the second: not zero, at most `NORMAL` in a component.
-        wall: V3,
-        first: Name,
-        second: Name,
-    },
+    Pair(PairRequest),
     /// What the parts are.
-    Look {
-        digits: u32,
-        input: Input,
-    },
-    /// Which parts block which along a direction.
-    Graph {
-        digits: u32,
-        input: Input,
-        /// The direction in which parts move: not zero, at most `DIRECTION` in a component.
-        along: V3,
-    },
+    Look(Asked),
+    Graph(GraphRequest),
 }
 
 /// Why words give no request.

@@ -1,5 +1,5 @@
 // Worked examples of words: which are taken, and what they ask for.
-use crate::{Input, Request, RequestRefusal, request_of};
+use crate::{Asked, Input, Request, RequestRefusal, request_of};
 use staat_vec::V3;
 use std::alloc::{AllocError, Global};
 use std::test::Fail;
@@ -134,16 +134,17 @@ fn at_most_thirty_two_files(rt: HostRuntime) -> Result<(), Fail> {
     Ok(())
 }
 
-// What the parts come from, in words.
-fn source(alloc: Global, input: &Input) -> Result<String, AllocError> {
-    match input {
+// The digits, and what the parts come from, in words.
+fn source(alloc: Global, asked: &Asked) -> Result<String, AllocError> {
+    let digits = asked.digits;
+    match &asked.input {
         Input::Files(files) => {
             let count = files.as_slice().len();
-            format!(in alloc; "{count} files")
+            format!(in alloc; "{digits}: {count} files")
         }
         Input::Manifest(list) => {
             let list = list.as_str();
-            format!(in alloc; "the part list {list}")
+            format!(in alloc; "{digits}: the part list {list}")
         }
     }
 }
@@ -151,31 +152,19 @@ fn source(alloc: Global, input: &Input) -> Result<String, AllocError> {
 // A request in words.
 fn shown(alloc: Global, request: &Request) -> Result<String, AllocError> {
     match request {
-        Request::Pair {
-            digits,
-            along,
-            wall,
-            first,
-            second,
-        } => {
-            let V3 { x, y, z } = *along;
-            let V3 { x: u, y: v, z: w } = *wall;
-            let first = first.as_str();
-            let second = second.as_str();
+        Request::Pair(request) => {
+            let digits = request.digits;
+            let V3 { x, y, z } = request.along;
+            let V3 { x: u, y: v, z: w } = request.wall;
+            let first = request.first.as_str();
+            let second = request.second.as_str();
             format!(in alloc; "{digits}: {first} and {second} along {x} {y} {z}, wall {u} {v} {w}")
         }
-        Request::Look { digits, input } => {
-            let input = source(alloc, input)?;
-            format!(in alloc; "{digits}: {input}")
-        }
-        Request::Graph {
-            digits,
-            input,
-            along,
-        } => {
-            let V3 { x, y, z } = *along;
-            let input = source(alloc, input)?;
-            format!(in alloc; "{digits}: {input} along {x} {y} {z}")
+        Request::Look(asked) => source(alloc, asked),
+        Request::Graph(request) => {
+            let V3 { x, y, z } = request.along;
+            let asked = source(alloc, &request.asked)?;
+            format!(in alloc; "{asked} along {x} {y} {z}")
         }
     }
 }

@@ -1,15 +1,15 @@
 // Vectors as words spell them.
 ghost use Rattle.std.specs.Prelude.{◌≡◌, ◌≢◌, ◌^◌, ◌<◌, IfSome, option_map};
 ghost use Rattle.staat_vec.specs.Vectors.{IsWithin, origin};
-ghost use Rattle.staat_words.specs.Spelled.{cut, nonzero, vector_within};
+ghost use Rattle.staat_words.specs.Spelled.{halves_at_comma, nonzero, vector_within};
 
 use staat_number::integer_of;
 use staat_vec::V3;
 
 // The parts before and after the first comma.
-#[tactic(auto, unfolding(crate::specs::Spelled::cut))]
-fn cut_at_comma(text: &str) -> Option<(&str, &str)>
-    ensures { option_map (λ p. (p.0.now, p.1.now)) result ≡ cut text.now }
+#[tactic(auto, unfolding(crate::specs::Spelled::halves_at_comma))]
+fn halves_at_comma(text: &str) -> Option<(&str, &str)>
+    ensures { option_map (λ p. (p.0.now, p.1.now)) result ≡ halves_at_comma text.now }
 {
     text.split_once(',')
 }
@@ -32,8 +32,8 @@ pub fn vector_of(text: &str, most: u128) -> Option<V3>
     ensures bound { IfSome result (IsWithin most) }
     ensures moves { IfSome result (λ v. v ≢ origin) }
 {
-    let (first, rest) = cut_at_comma(text)?;
-    let (second, third) = cut_at_comma(rest)?;
+    let (first, rest) = halves_at_comma(text)?;
+    let (second, third) = halves_at_comma(rest)?;
     let x = integer_of(first, most)?;
     let y = integer_of(second, most)?;
     let z = integer_of(third, most)?;

@@ -2,27 +2,37 @@
 ghost use Rattle.std.specs.Prelude.{◌≡◌, map, string_bytes, IfOk, IsErrOf, true, false};
 ghost use Rattle.clap.specs.Words.{found_of, rows_of, subcommand_rows_of};
 ghost use Rattle.staat_words.specs.Command.{is_taken, matches as matches_at};
-ghost use Rattle.staat_words.specs.Requests.{Answers, HasBounds, graph_in, look_in, pair_in, request, request_in};
+ghost use Rattle.staat_words.specs.Requests.{Answers, HasBounds, IsAsked, IsGraphRequest, IsPairRequest, asked_in, graph_in, pair_in, request, request_in};
 
 use crate::arguments::{digits_of, input_of, name_of, value_of, vector_in};
 use crate::command::staat_command;
-use crate::request::{Request, RequestRefusal};
+use crate::request::{Asked, GraphRequest, PairRequest, Request, RequestRefusal};
 use clap::ArgMatches;
 use clap::error::ErrorKind;
 use staat_vec::{DIRECTION, NORMAL};
 use std::alloc::Global;
 
+#[tactic(auto, unfolding(crate::specs::Requests::asked_in))]
+fn asked_of(alloc: Global, matches: &ArgMatches<'_>) -> Result<Asked, RequestRefusal>
+    ensures answers { Answers (asked_in (rows_of (found_of matches.now))) result }
+    ensures bounds { IfOk result IsAsked }
+{
+    let digits = digits_of(matches).ok_or(RequestRefusal::Usage)?;
+    let input = input_of(alloc, matches)?;
+    Ok(Asked { digits, input })
+}
+
 #[tactic(auto, unfolding(crate::specs::Requests::pair_in))]
-fn pair_of(alloc: Global, matches: &ArgMatches<'_>) -> Result<Request, RequestRefusal>
+fn pair_of(alloc: Global, matches: &ArgMatches<'_>) -> Result<PairRequest, RequestRefusal>
     ensures answers { Answers (pair_in (rows_of (found_of matches.now))) result }
-    ensures bounds { IfOk result HasBounds }
+    ensures bounds { IfOk result IsPairRequest }
 {
     let digits = digits_of(matches).ok_or(RequestRefusal::Usage)?;
     let along = vector_in(matches, "along", DIRECTION).ok_or(RequestRefusal::Usage)?;
     let wall = vector_in(matches, "wall", NORMAL).ok_or(RequestRefusal::Usage)?;
     let first = value_of(matches, "first").ok_or(RequestRefusal::Usage)?;
     let second = value_of(matches, "second").ok_or(RequestRefusal::Usage)?;
-    Ok(Request::Pair {
+    Ok(PairRequest {
         digits,
         along,
         wall,
@@ -31,29 +41,14 @@ fn pair_of(alloc: Global, matches: &ArgMatches<'_>) -> Result<Request, RequestRe
     })
 }
 
-#[tactic(auto, unfolding(crate::specs::Requests::look_in))]
-fn look_of(alloc: Global, matches: &ArgMatches<'_>) -> Result<Request, RequestRefusal>
-    ensures answers { Answers (look_in (rows_of (found_of matches.now))) result }
-    ensures bounds { IfOk result HasBounds }
-{
-    let digits = digits_of(matches).ok_or(RequestRefusal::Usage)?;
-    let input = input_of(alloc, matches)?;
-    Ok(Request::Look { digits, input })
-}
-
 #[tactic(auto, unfolding(crate::specs::Requests::graph_in))]
-fn graph_of(alloc: Global, matches: &ArgMatches<'_>) -> Result<Request, RequestRefusal>
+fn graph_of(alloc: Global, matches: &ArgMatches<'_>) -> Result<GraphRequest, RequestRefusal>
     ensures answers { Answers (graph_in (rows_of (found_of matches.now))) result }
-    ensures bounds { IfOk result HasBounds }
+    ensures bounds { IfOk result IsGraphRequest }
 {
-    let digits = digits_of(matches).ok_or(RequestRefusal::Usage)?;
-    let input = input_of(alloc, matches)?;
+    let asked = asked_of(alloc, matches)?;
     let along = vector_in(matches, "along", DIRECTION).ok_or(RequestRefusal::Usage)?;
-    Ok(Request::Graph {
-        digits,
-        input,
-        along,
-    })
+    Ok(GraphRequest { asked, along })
 }
 
 // The matches of words that `clap` takes.
@@ -81,11 +76,11 @@ fn request_from(alloc: Global, matches: &ArgMatches<'_>) -> Result<Request, Requ
     match matches.subcommand() {
         Some((name, inner)) => {
             if name == "pair" {
-                pair_of(alloc, inner)
+                Ok(Request::Pair(pair_of(alloc, inner)?))
             } else if name == "look" {
-                look_of(alloc, inner)
+                Ok(Request::Look(asked_of(alloc, inner)?))
             } else if name == "graph" {
-                graph_of(alloc, inner)
+                Ok(Request::Graph(graph_of(alloc, inner)?))
             } else {
                 Err(RequestRefusal::Usage)
             }

@@ -1,21 +1,23 @@
-use Rattle.std.proofs.Common.{inl, inr}
-use Rattle.staat_words.specs.declared.request.Request.TheVariants.{Graph}
+use Rattle.std.proofs.Common.{Ok}
 use Rattle.staat_planes.specs.declared.table.TheConstants.{MOST_PLANES}
+use Rattle.staat_top.specs.Work.{Then}
 use Rattle.staat_top.specs.Assembling.{IsSoundOf}
-use Rattle.staat_top.specs.Graphing.{AreCounted}
-use Rattle.staat_top.specs.Runs.{HasCause, shelf_over}
-use Rattle.staat_top.proofs.Asking.{asked_stop}
-use Rattle.staat_top.proofs.Inputting.{failed_with}
+use Rattle.staat_top.specs.Graphing.{AreCounted, IsGraphed}
+use Rattle.staat_top.proofs.InputLemmas.{then_failed, then_given}
 use Rattle.staat_top.proofs.graph.graph.Goals as goal
 
-pub returns-in_err-sound-clause-ends : goal.returns-in_err-sound-clause-ends
-returns-in_err-sound-clause-ends g c = λ files told.
-    asked_stop (Graph c.args.digits c.args.input.now c.args.along) files (IsSoundOf files c.args.digits c.args.input.now) c.in_err-sound.field-0.0 c.from_residual.result (λ at stopped. inl stopped) (c.in_err-sound.ensures.found files told) c.from_residual.ensures.1
+pub returns-in_err-table-clause-found : goal.returns-in_err-table-clause-found
+returns-in_err-table-clause-found g c = λ files told.
+    let request = c.args.request.now in
+    then_given (IsSoundOf files request.asked) (λ parts. Then (AreCounted parts MOST_PLANES) (λ planes. IsGraphed parts request.along))
+    c.in_ok-sound.sound c.from_residual-in_err-table.result (c.in_ok-sound.ensures.found files told)
+    (then_failed (AreCounted c.in_ok-sound.sound MOST_PLANES) (λ planes. IsGraphed c.in_ok-sound.sound request.along)
+    c.in_err-table.field-0.0 c.from_residual-in_err-table.result c.in_err-table.ensures.refused c.from_residual-in_err-table.ensures.1)
 
-pub returns-in_err-table-clause-ends : goal.returns-in_err-table-clause-ends
-returns-in_err-table-clause-ends g c = λ files told.
-    asked_stop (Graph c.args.digits c.args.input.now c.args.along) files (AreCounted c.in_ok-sound.sound MOST_PLANES) c.in_err-table.field-0.0 c.from_residual-in_err-table.result
-    (λ at stopped. inr (c.in_ok-sound.sound, c.in_ok-sound.ensures.found files told, inl stopped)) c.in_err-table.ensures.refused c.from_residual-in_err-table.ensures.1
-
-pub returns-in_err-table-clause-cause : goal.returns-in_err-table-clause-cause
-returns-in_err-table-clause-cause g c = failed_with (HasCause (shelf_over (g.H.Shelf.holds c.args.shelf.now) (g.H.Shelf.faults c.args.shelf.now) (g.H.Shelf.faults c.read_sound.new.shelf) (g.H.Shelf.failed c.read_sound.new.shelf) (g.H.Shelf.opened c.read_sound.new.shelf) (g.H.Shelf.place c.read_sound.new.shelf))) c.in_err-table.field-0.0 c.from_residual-in_err-table.result (c.in_err-table.ensures.cause _) c.from_residual-in_err-table.ensures.1
+pub returns-clause-found : goal.returns-clause-found
+returns-clause-found g c = λ files told.
+    let request = c.args.request.now in
+    then_given (IsSoundOf files request.asked) (λ parts. Then (AreCounted parts MOST_PLANES) (λ planes. IsGraphed parts request.along))
+    c.in_ok-sound.sound (Ok c.in_ok-answer.answer) (c.in_ok-sound.ensures.found files told)
+    (then_given (AreCounted c.in_ok-sound.sound MOST_PLANES) (λ planes. IsGraphed c.in_ok-sound.sound request.along)
+    c.in_ok-table.table.planes (Ok c.in_ok-answer.answer) c.in_ok-table.ensures.counted c.in_ok-answer.ensures.graphed)

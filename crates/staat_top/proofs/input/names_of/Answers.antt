@@ -1,6 +1,6 @@
 use Rattle.std.proofs.Common.{◌∙◌, ap, map, subst, ◌∷◌, []}
 use Rattle.staat_words.specs.Requests.{IsInput}
-use Rattle.staat_top.proofs.Inputting.{named_files}
+use Rattle.staat_top.proofs.InputLemmas.{named_files}
 use Rattle.staat_top.proofs.input.names_of.Goals as goal
 
 pub returns-in_ok-listing-in-Files-clause-few : goal.returns-in_ok-listing-in-Files-clause-few

@@ -1,6 +1,6 @@
 use Rattle.std.proofs.Common.{sym, subst}
 use Rattle.staat_top.specs.Shapes.{IsFew}
-use Rattle.staat_top.proofs.Inputting.{assembly_read}
+use Rattle.staat_top.proofs.InputLemmas.{assembly_read}
 use Rattle.staat_top.proofs.input.read_input.Goals as goal
 
 pub seal-requires : goal.seal-requires

@@ -1,8 +1,8 @@
-use Rattle.std.proofs.Common.{◌∙◌, ◌+◌, sym, subst, arith, take}
-use Rattle.staat_top.specs.Steps.{Each, gives}
+use Rattle.std.proofs.Common.{◌∙◌, ◌+◌, Ok, sym, subst, arith, take}
+use Rattle.staat_top.specs.Work.{Each}
 use Rattle.staat_top.specs.Inputs.{IsPartOf}
 use Rattle.staat_top.specs.Shapes.{AreRead}
-use Rattle.staat_top.proofs.Inputting.{Continues, each_failed, each_more, each_end, one_read}
+use Rattle.staat_top.proofs.InputLemmas.{Continues, each_failed, each_more, each_end, one_read}
 use Rattle.staat_top.proofs.input.read_parts.Goals as goal
 
 pub returns-in_err-read_part-clause-found : goal.returns-in_err-read_part-clause-found
@@ -18,7 +18,7 @@ loop-named-preserved g c =
       count = omega (arith, c.loop-named.invariant.count, c.in_ok-read_part.ensures.count);
       found = λ files told. subst (λ done. Continues (IsPartOf files c.args.digits) c.args.listing.now (c.loop-named.named-index + 1) done) (sym items)
           (each_more (IsPartOf files c.args.digits) c.args.listing.now c.loop-named.named-index c.loop-named.parts.items c.named-item.result c.in_ok-read_part.field-0 c.loop-named-test.true
-          (subst (λ n. IsPartOf files c.args.digits n (gives c.in_ok-read_part.field-0)) c.named-item.is (c.in_ok-read_part.ensures.found files (c.loop-named.invariant.holds ∙ told)))
+          (subst (λ n. IsPartOf files c.args.digits n (Ok c.in_ok-read_part.field-0)) c.named-item.is (c.in_ok-read_part.ensures.found files (c.loop-named.invariant.holds ∙ told)))
           (c.loop-named.invariant.found files told));
       read = subst (AreRead (take (c.loop-named.named-index + 1) c.args.listing.now)) (sym items)
           (one_read c.args.listing.now c.loop-named.named-index c.named-item.result c.loop-named.parts.items c.in_ok-read_part.field-0 c.loop-named-test.true c.loop-named.invariant.read c.named-item.is c.in_ok-read_part.ensures.each c.in_ok-read_part.ensures.pieces);
@@ -26,5 +26,5 @@ loop-named-preserved g c =
 
 pub returns-clause-found : goal.returns-clause-found
 returns-clause-found g c = λ files told.
-    subst (λ done. Each (IsPartOf files c.args.digits) c.args.listing.now (gives done)) (sym c.from_vec.ensures)
+    subst (λ done. Each (IsPartOf files c.args.digits) c.args.listing.now (Ok done)) (sym c.from_vec.ensures)
     (each_end (IsPartOf files c.args.digits) c.args.listing.now c.loop-named.named-index c.loop-named.parts.items c.loop-named-test.false (c.loop-named.invariant.found files told))

@@ -1,7 +1,7 @@
 use Rattle.std.proofs.Common.{Err, sym, subst}
-use Rattle.staat_top.specs.Steps.{Follows}
+use Rattle.staat_top.specs.Work.{Follows}
 use Rattle.staat_top.specs.Assembling.{IsTested}
-use Rattle.staat_top.proofs.Testing.{tested_overlap}
+use Rattle.staat_top.proofs.SoundLemmas.{tested_overlap}
 use Rattle.staat_top.proofs.sound.tested.Goals as goal
 
 pub returns-in-Err-clause-found : goal.returns-in-Err-clause-found

@@ -19,16 +19,16 @@ use Rattle.staat_manifest.specs.declared.refusal.ManifestRefusal.TheVariants as 
 use Rattle.staat_manifest.specs.Answers.{Answers as Lists}
 use Rattle.staat_manifest.specs.Rules.{part_list}
 use Rattle.staat_top.specs.declared.read.TheConstants.{FILE_LIMIT}
-use Rattle.staat_top.specs.Steps.{Files, Found, replies, reads, gives, stops, refused, Follows, IsNotTaken, IsTaken, to_read, too_long, taken}
+use Rattle.staat_top.specs.Work.{Files, Found, Follows, IsNotTaken, IsTaken, to_read, too_long, taken}
 use Rattle.staat_top.specs.Refusals.{off_fault, mesh_fault, manifest_fault}
 use Rattle.staat_top.specs.Pieces.{SaysPiece, no_file, no_piece, piece}
 use Rattle.staat_top.specs.Inputs.{NamedPart, SaysListing, no_listing, listing}
 
 -- the file has more bytes than the limit
-found_long : {X : Type 0} (Says : List ℕ → Found X → Type 0) (holds : Option Files) (files : Files) (name : List ℕ) → holds ≡ Some files → IsLonger holds name FILE_LIMIT → IsTaken files name Says (stops (replies (refused (fault.TooLong name))))
+found_long : {X : Type 0} (Says : List ℕ → Found X → Type 0) (holds : Option Files) (files : Files) (name : List ℕ) → holds ≡ Some files → IsLonger holds name FILE_LIMIT → IsTaken files name Says (Err (fault.TooLong name))
 found_long {X} Says holds files name told long = go (bytes_of name files) refl (subst (λ h. IsLonger h name FILE_LIMIT) told long)
   where
-    go : (o : Option (List ℕ)) → bytes_of name files ≡ o → IsSomeAnd o (λ bytes. FILE_LIMIT < length bytes) → IsTaken files name Says (stops (replies (refused (fault.TooLong name))))
+    go : (o : Option (List ℕ)) → bytes_of name files ≡ o → IsSomeAnd o (λ bytes. FILE_LIMIT < length bytes) → IsTaken files name Says (Err (fault.TooLong name))
     go None e longer = absurd longer
     go (Some bytes) e longer = too_long bytes e longer refl
 
@@ -40,8 +40,8 @@ found_taken Says holds files name bytes (Err f) told whole short says = taken by
 
 -- the file's bytes were not taken
 pub not_taken : {X : Type 0} (Says : List ℕ → Found X → Type 0) (holds : Option Files) (files : Files) (name : List ℕ) (f : Fault) → holds ≡ Some files → IsNotTaken holds name f → Follows (IsTaken files name Says) (Err f)
-not_taken Says holds files name (fault.ReadFault at) told e = to_read (ap (λ n. stops (reads n)) e)
-not_taken Says holds files name (fault.TooLong at) told (e, long) = subst (λ n. IsTaken files name Says (stops (replies (refused (fault.TooLong n))))) (sym e) (found_long Says holds files name told long)
+not_taken Says holds files name (fault.ReadFault at) told e = to_read (ap (λ n. Err (fault.ReadFault n)) e)
+not_taken Says holds files name (fault.TooLong at) told (e, long) = subst (λ n. IsTaken files name Says (Err (fault.TooLong n))) (sym e) (found_long Says holds files name told long)
 not_taken Says holds files name fault.OutOfMemory told e = tt
 not_taken Says holds files name f told e = absurd e
 
@@ -68,7 +68,7 @@ says_no_piece digits name bytes raw (mesh_refusal.OpenEdge f k) e j = no_piece r
 says_no_piece digits name bytes raw mesh_refusal.OutOfMemory e j = tt
 
 -- it is a piece
-pub says_piece : (digits : ℕ) (name bytes : List ℕ) (raw : Raw) (points : List V3) → reading digits bytes ≡ Ok raw → Judged (mesh raw) (Ok points) → SaysPiece digits name bytes (gives points)
+pub says_piece : (digits : ℕ) (name bytes : List ℕ) (raw : Raw) (points : List V3) → reading digits bytes ≡ Ok raw → Judged (mesh raw) (Ok points) → SaysPiece digits name bytes (Ok points)
 says_piece digits name bytes raw points e j = piece raw points e j refl
 
 -- the file is no part list
@@ -82,7 +82,7 @@ says_no_listing name bytes manifest.TooManyPieces e = no_listing manifest.TooMan
 says_no_listing name bytes manifest.OutOfMemory e = tt
 
 -- it is one
-pub says_listing : (name bytes : List ℕ) (parts : List NamedPart) → part_list bytes ≡ Ok parts → SaysListing name bytes (gives parts)
+pub says_listing : (name bytes : List ℕ) (parts : List NamedPart) → part_list bytes ≡ Ok parts → SaysListing name bytes (Ok parts)
 says_listing name bytes parts e = listing parts e refl
 
 pub ruleset listing_says = (says_no_listing, says_listing)

@@ -1,4 +1,4 @@
--- Graphs with the same arcs among the parts have one text.
+-- Graphs with the same arcs among the parts have the same text.
 use Rattle.std.proofs.Common.{◌≡◌, ◌∙◌, ◌↔◌, refl, sym, ap, ap₂, arith, ℕ, zero, suc, ◌+◌, ◌<◌, Bool, true, false, List, ◌∷◌, ◌++◌, map, cond}
 use Rattle.std.specs.Prelude.{◌==◌, filter, flat_map}
 use Rattle.std.specs.List.{range_with_len}

@@ -6,6 +6,8 @@ use Rattle.std.proofs.lemmas.List.{drop_more, drop_all, map_more, map-append, le
 use Rattle.std.proofs.lemmas.List.Elements.{All-nil, All-cons, All-head, All-tail, All-append}
 use Rattle.std.proofs.lemmas.List.Sums.{sum_by-cons}
 use Rattle.staat_edge.specs.Causes.{Rose}
+use Rattle.staat_edge.specs.Files.{Lacks, held_name, told_name}
+use Rattle.staat_edge.specs.Told.{ShelfTold}
 use Rattle.staat_model.specs.declared.assembly.Part.{Part}
 use Rattle.staat_model.specs.declared.limits.TheConstants.{MOST_PARTS, MOST_PIECES}
 use Rattle.staat_model.specs.Assemblies.{IsAssembly, IsPart}
@@ -15,47 +17,47 @@ use Rattle.staat_fault.specs.declared.fault.Fault.{Fault}
 use Rattle.staat_fault.specs.declared.fault.Fault.TheVariants as fault
 use Rattle.staat_top.specs.Inputs.{NamedPart}
 use Rattle.staat_top.specs.Shapes.{AreRead, IsFew}
-use Rattle.staat_top.specs.Runs.{HasCause, shelf_over}
-use Rattle.staat_top.specs.Steps.{Files, Found, End, gives, stops, Next, Each, Follows, end_of}
+use Rattle.staat_top.specs.Runs.{HasCause, over}
+use Rattle.staat_top.specs.Work.{Files, Found, Then, Each, Follows}
 
 -- what is given already goes before what is found
 abbrev pub prepend : {X : Type 0} → List X → Found (List X) → Found (List X)
-prepend done (gives ys) = gives (done ++ ys)
-prepend done (stops at) = stops at
+prepend done (Ok ys) = Ok (done ++ ys)
+prepend done (Err fault) = Err fault
 
 -- with the members before this place giving `done`, whatever the rest finds the whole finds
 abbrev pub Continues : {X Y : Type 0} → (X → Found Y → Type 0) → List X → ℕ → List Y → Type 0
 Continues Step xs i done = (found : Found _) → Each Step (drop i xs) found → Each Step xs (prepend done found)
 
 pub each_begin : {X Y : Type 0} (Step : X → Found Y → Type 0) (xs : List X) → Continues Step xs 0 []
-each_begin Step xs (gives ys) h = h
-each_begin Step xs (stops at) h = h
+each_begin Step xs (Ok ys) h = h
+each_begin Step xs (Err fault) h = h
 
-one_more : {X Y : Type 0} (Step : X → Found Y → Type 0) (x : X) (xs : List X) (y : Y) (found : Found (List Y)) → Step x (gives y) → Each Step xs found → Each Step (x ∷ xs) (prepend (y ∷ []) found)
-one_more Step x xs y (gives ys) step rest = inr (y, step, inr (ys, rest, refl))
-one_more Step x xs y (stops at) step rest = inr (y, step, inl (at, rest, refl))
+one_more : {X Y : Type 0} (Step : X → Found Y → Type 0) (x : X) (xs : List X) (y : Y) (found : Found (List Y)) → Step x (Ok y) → Each Step xs found → Each Step (x ∷ xs) (prepend (y ∷ []) found)
+one_more Step x xs y (Ok ys) step rest = inr (y, step, inr (ys, rest, refl))
+one_more Step x xs y (Err fault) step rest = inr (y, step, inl (fault, rest, refl))
 
 prepend_twice : {Y : Type 0} (done : List Y) (y : Y) (found : Found (List Y)) → prepend done (prepend (y ∷ []) found) ≡ prepend (done ++ y ∷ []) found
-prepend_twice done y (gives ys) = ap gives (sym (append_assoc done (y ∷ []) ys))
-prepend_twice done y (stops at) = refl
+prepend_twice done y (Ok ys) = ap Ok (sym (append_assoc done (y ∷ []) ys))
+prepend_twice done y (Err fault) = refl
 
-pub each_more : {X Y : Type 0} (Step : X → Found Y → Type 0) (xs : List X) (i : ℕ) (done : List Y) (d : X) (y : Y) → i < length xs → Step (get_or xs i d) (gives y) → Continues Step xs i done → Continues Step xs (i + 1) (done ++ y ∷ [])
+pub each_more : {X Y : Type 0} (Step : X → Found Y → Type 0) (xs : List X) (i : ℕ) (done : List Y) (d : X) (y : Y) → i < length xs → Step (get_or xs i d) (Ok y) → Continues Step xs i done → Continues Step xs (i + 1) (done ++ y ∷ [])
 each_more Step xs i done d y lt step before found h =
     subst (Each Step xs) (prepend_twice done y found)
     (before (prepend (y ∷ []) found) (subst (λ zs. Each Step zs (prepend (y ∷ []) found)) (sym (drop_more xs i d lt)) (one_more Step (get_or xs i d) (drop (i + 1) xs) y found step h)))
 
-pub each_end : {X Y : Type 0} (Step : X → Found Y → Type 0) (xs : List X) (i : ℕ) (done : List Y) → length xs ≤ i → Continues Step xs i done → Each Step xs (gives done)
+pub each_end : {X Y : Type 0} (Step : X → Found Y → Type 0) (xs : List X) (i : ℕ) (done : List Y) → length xs ≤ i → Continues Step xs i done → Each Step xs (Ok done)
 each_end Step xs i done le before =
-    subst (λ zs. Each Step xs (gives zs)) (append-nil done) (before (gives []) (subst (λ zs. Each Step zs (gives [])) (sym (drop_all i xs le)) refl))
+    subst (λ zs. Each Step xs (Ok zs)) (append-nil done) (before (Ok []) (subst (λ zs. Each Step zs (Ok [])) (sym (drop_all i xs le)) refl))
 
--- where one step stops so does another, the whole stops at a fault of the one
-pub follows_stops : {X Y : Type 0} (First : Found X → Type 0) (Whole : Found Y → Type 0) (f : Fault) → ((at : End) → First (stops at) → Whole (stops at)) → Follows First (Err f) → Follows Whole (Err f)
-follows_stops First Whole fault.OutOfMemory both h = tt
-follows_stops First Whole f both h = both (end_of f) h
+-- where one step finds a fault so does another, the whole follows at a fault of the one
+pub follows_fault : {X Y : Type 0} (First : Found X → Type 0) (Whole : Found Y → Type 0) (f : Fault) → ((g : Fault) → First (Err g) → Whole (Err g)) → Follows First (Err f) → Follows Whole (Err f)
+follows_fault First Whole fault.OutOfMemory both h = tt
+follows_fault First Whole f both h = both f h
 
 each_fault : {X Y : Type 0} (Step : X → Found Y → Type 0) (xs : List X) (i : ℕ) (done : List Y) (d : X) (f : Fault) → i < length xs → Continues Step xs i done → Follows (Step (get_or xs i d)) (Err f) → Follows (Each Step xs) (Err f)
 each_fault Step xs i done d f lt before h =
-    follows_stops (Step (get_or xs i d)) (Each Step xs) f (λ at stopped. before (stops at) (subst (λ zs. Each Step zs (stops at)) (sym (drop_more xs i d lt)) (inl (at, stopped, refl)))) h
+    follows_fault (Step (get_or xs i d)) (Each Step xs) f (λ g at. before (Err g) (subst (λ zs. Each Step zs (Err g)) (sym (drop_more xs i d lt)) (inl (g, at, refl)))) h
 
 -- the same of an answer with that fault
 pub each_failed : {X Y : Type 0} (Step : X → Found Y → Type 0) (xs : List X) (i : ℕ) (done : List Y) (x : X) (f : Fault) (r : Result (List Y) Fault) → i < length xs → x ≡ get_or xs i x → Continues Step xs i done → Follows (Step x) (Err f) → IsErrAnd r (λ e. e ≡ f) → Follows (Each Step xs) r
@@ -64,26 +66,31 @@ each_failed Step xs i done x f (Err e) lt at before h fails =
     subst (λ g. Follows (Each Step xs) (Err g)) (sym fails) (each_fault Step xs i done x f lt before (subst (λ y. Follows (Step y) (Err f)) at h))
 
 -- two steps as one
-pub next_fault : {X Y : Type 0} (First : Found X → Type 0) (Rest : X → Found Y → Type 0) (f : Fault) → Follows First (Err f) → Follows (Next First Rest) (Err f)
-next_fault First Rest f h = follows_stops First (Next First Rest) f (λ at stopped. inl (at, stopped, refl)) h
+pub then_fault : {X Y : Type 0} (First : Found X → Type 0) (Second : X → Found Y → Type 0) (f : Fault) → Follows First (Err f) → Follows (Then First Second) (Err f)
+then_fault First Second f h = follows_fault First (Then First Second) f (λ g at. inl (g, at, refl)) h
 
-pub next_given : {X Y : Type 0} (First : Found X → Type 0) (Rest : X → Found Y → Type 0) (x : X) (r : Result Y Fault) → First (gives x) → Follows (Rest x) r → Follows (Next First Rest) r
-next_given First Rest x (Ok y) first rest = inr (x, first, rest)
-next_given First Rest x (Err f) first rest = follows_stops (Rest x) (Next First Rest) f (λ at stopped. inr (x, first, stopped)) rest
+pub then_given : {X Y : Type 0} (First : Found X → Type 0) (Second : X → Found Y → Type 0) (x : X) (r : Result Y Fault) → First (Ok x) → Follows (Second x) r → Follows (Then First Second) r
+then_given First Second x (Ok y) first second = inr (x, first, second)
+then_given First Second x (Err f) first second = follows_fault (Second x) (Then First Second) f (λ g at. inr (x, first, at)) second
+
+-- the answer with a fault of the first step
+pub then_failed : {X Y : Type 0} (First : Found X → Type 0) (Second : X → Found Y → Type 0) (f : Fault) (r : Result Y Fault) → Follows First (Err f) → IsErrAnd r (λ e. e ≡ f) → Follows (Then First Second) r
+then_failed First Second f (Ok y) h fails = absurd fails
+then_failed First Second f (Err e) h fails = subst (λ g. Follows (Then First Second) (Err g)) (sym fails) (then_fault First Second f h)
 
 -- ---- causes
 
 -- a shelf on which the count was lower before
-cause_from : (holds : Option Files) (failed opened : Option (List ℕ)) (place : Option ℕ) (before mid after : ℕ) (f : Fault) → before ≤ mid → HasCause (shelf_over holds mid after failed opened place) f → HasCause (shelf_over holds before after failed opened place) f
-cause_from holds failed opened place before mid after fault.Usage le h = h
-cause_from holds failed opened place before mid after (fault.ReadFault name) le (inl lacks) = inl lacks
-cause_from holds failed opened place before mid after (fault.ReadFault name) le (inr (rose, at)) = inr (risen before mid after le rose, at)
+cause_from : (before mid after : ShelfTold) (f : Fault) → before.faults ≤ mid.faults → mid.holds ≡ before.holds → HasCause (over mid after) f → HasCause (over before after) f
+cause_from before mid after fault.Usage le same h = h
+cause_from before mid after (fault.ReadFault name) le same (inl lacks) = inl (subst (λ holds. Lacks holds name) same lacks)
+cause_from before mid after (fault.ReadFault name) le same (inr (rose, at)) = inr (risen before.faults mid.faults after.faults le rose, λ e. at (ap (λ holds. held_name holds name) same ∙ e))
   where
     risen : (before mid after : ℕ) → before ≤ mid → Rose mid after → Rose before after
     risen before mid after le rose = omega (arith, le, rose)
-cause_from holds failed opened place before mid after (fault.TooLong name) le h = record { place = h.place; opened = h.opened }
-cause_from holds failed opened place before mid after fault.WriteFault le h = h
-cause_from holds failed opened place before mid after f le h = h
+cause_from before mid after (fault.TooLong name) le same h = record { place = h.place; opened = h.opened ∙ ap (λ holds. told_name holds name) same }
+cause_from before mid after fault.WriteFault le same h = h
+cause_from before mid after f le same h = h
 
 -- what holds of a fault holds of the answer with it
 pub failed_with : {X : Type 0} (P : Fault → Type 0) (f : Fault) (r : Result X Fault) → P f → IsErrAnd r (λ e. e ≡ f) → IfErr r P
@@ -91,11 +98,8 @@ failed_with P f (Ok x) h fails = absurd fails
 failed_with P f (Err e) h fails = subst P (sym fails) h
 
 -- a fault of a later step
-pub cause_later : {X : Type 0} (holds held : Option Files) (failed opened : Option (List ℕ)) (place : Option ℕ) (before mid after : ℕ) (f : Fault) (r : Result X Fault) → before ≤ mid → held ≡ holds → HasCause (shelf_over held mid after failed opened place) f → IsErrAnd r (λ e. e ≡ f) → IfErr r (HasCause (shelf_over holds before after failed opened place))
-cause_later holds held failed opened place before mid after f (Ok x) le same cause fails = absurd fails
-cause_later holds held failed opened place before mid after f (Err e) le same cause fails =
-    subst (HasCause (shelf_over holds before after failed opened place)) (sym fails)
-    (subst (λ h. HasCause (shelf_over h before after failed opened place) f) same (cause_from held failed opened place before mid after f le cause))
+pub cause_later : {X : Type 0} (before mid after : ShelfTold) (f : Fault) (r : Result X Fault) → before.faults ≤ mid.faults → mid.holds ≡ before.holds → HasCause (over mid after) f → IsErrAnd r (λ e. e ≡ f) → IfErr r (HasCause (over before after))
+cause_later before mid after f r le same cause fails = failed_with (HasCause (over before after)) f r (cause_from before mid after f le same cause) fails
 
 -- ---- the assembly
 
@@ -138,7 +142,7 @@ one_read named i d parts part lt read at same pieces = record {
 }
 
 -- files that are parts by themselves
-files_few : (names : List (List ℕ)) → 1 ≤ length names → length names ≤ 32 → IsFew (map (λ name. (name, name ∷ [])) names)
+files_few : (names : List (List ℕ)) → 1 ≤ length names → length names ≤ MOST_PARTS → IsFew (map (λ name. (name, name ∷ [])) names)
 files_few names some most = record {
   at_least = subst (λ k. 1 ≤ k) (sym (length-map names (λ name. (name, name ∷ [])))) some;
   at_most = subst (λ k. k ≤ MOST_PARTS) (sym (length-map names (λ name. (name, name ∷ [])))) most;
@@ -154,7 +158,7 @@ files_few names some most = record {
     counted [] = refl
     counted (name ∷ names) = sum_by-cons (λ (part : NamedPart). length part.1) (name, name ∷ []) (map (λ name. (name, name ∷ [])) names) ∙ omega (arith, counted names)
 
-pub named_files : (names : List (List ℕ)) (named : List NamedPart) → (1 ≤ length names) × (length names ≤ 32) → named ≡ map (λ name. (name, name ∷ [])) names → IsFew named
+pub named_files : (names : List (List ℕ)) (named : List NamedPart) → (1 ≤ length names) × (length names ≤ MOST_PARTS) → named ≡ map (λ name. (name, name ∷ [])) names → IsFew named
 named_files names named (some, most) e = subst IsFew (sym e) (files_few names some most)
 
 pub listing_few : (named : List NamedPart) → IsListing named → IsFew named

@@ -1,0 +1,37 @@
+-- From the work on a request to what is said of the words that make it.
+use Rattle.std.proofs.Common.{◌≡◌, Option, Some, None, Ok, Err, refl, sym, subst, inl}
+use Rattle.std.specs.Prelude.{Result, IfOk, IfErr}
+use Rattle.staat_words.specs.declared.request.Request.{Request}
+use Rattle.staat_words.specs.Requests.{HasBounds}
+use Rattle.staat_top.specs.declared.answer.Answer.{Answer}
+use Rattle.staat_fault.specs.declared.fault.Fault.{Fault}
+use Rattle.staat_fault.specs.declared.fault.Fault.TheVariants.{Usage}
+use Rattle.staat_top.specs.Work.{Files, Follows}
+use Rattle.staat_top.specs.Replies.{WorkOn}
+use Rattle.staat_top.specs.Runs.{ShelfSide, HasCause, IsBounded, IsFound, IsExplained}
+
+-- what the work on the request finds, over the files that the shelf holds
+abbrev pub Works : Request → ShelfSide → Result Answer Fault → Type 0
+Works request shelf r = (files : Files) → shelf.old.holds ≡ Some files → Follows (WorkOn request files) r
+
+pub worked_answer : (asked : Option Request) (request : Request) (shelf : ShelfSide) (r : Result Answer Fault) →
+    asked ≡ Some request → Works request shelf r → IfOk r (λ a. IsFound asked shelf (Ok a))
+worked_answer asked request shelf (Ok a) e works = subst (λ o. IsFound o shelf (Ok a)) (sym e) works
+worked_answer asked request shelf (Err f) e works = tt
+
+pub worked_fault : (asked : Option Request) (request : Request) (shelf : ShelfSide) (r : Result Answer Fault) →
+    asked ≡ Some request → Works request shelf r → IfErr r (HasCause shelf) → IfErr r (IsExplained asked shelf)
+worked_fault asked request shelf (Ok a) e works cause = tt
+worked_fault asked request shelf (Err f) e works cause =
+    subst (λ o. IsExplained o shelf f) (sym e) (record { cause = cause; found = works })
+
+-- words that make no request are a usage fault
+pub worked_usage : (asked : Option Request) (shelf : ShelfSide) → asked ≡ None → IsExplained asked shelf Usage
+worked_usage asked shelf e = subst (λ o. IsExplained o shelf Usage) (sym e) (record { cause = inl refl; found = λ files told. refl })
+
+pub worked_bounds : (asked : Option Request) (request : Request) (r : Result Answer Fault) →
+    asked ≡ Some request → HasBounds request → IfOk r (λ a. IsBounded asked)
+worked_bounds asked request (Ok a) e bounds = subst IsBounded (sym e) bounds
+worked_bounds asked request (Err f) e bounds = tt
+
+pub ruleset worked = (worked_answer, worked_fault, worked_usage, worked_bounds)
