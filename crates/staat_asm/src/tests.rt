@@ -219,7 +219,14 @@ fn pieces_are_placed(rt: HostRuntime) -> Result<(), Fail> {
         (V3 { x: 0, y: 0, z: 2 }, Some(ABOVE)),
         (V3 { x: 1, y: 1, z: 1 }, Some(INNER)),
         (V3 { x: 0, y: 0, z: 0 }, Some(CUBE)),
-        (V3 { x: 0, y: -262144, z: 262143 }, None),
+        (
+            V3 {
+                x: 0,
+                y: -262144,
+                z: 262143,
+            },
+            None,
+        ),
     ];
     for (at, want) in table {
         match (place(alloc, sealed(alloc, Shape::Cube)?, at), want) {

@@ -3,6 +3,7 @@
 
 mod build;
 mod graph;
+pub mod laws;
 mod refusal;
 mod steps;
 mod table;
