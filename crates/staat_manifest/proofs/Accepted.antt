@@ -14,13 +14,13 @@ use Rattle.staat_manifest.specs.declared.refusal.ManifestRefusal.{ManifestRefusa
 use Rattle.staat_manifest.specs.declared.refusal.ManifestRefusal.TheVariants as refusal
 use Rattle.staat_model.specs.declared.limits.TheConstants.{MOST_PARTS, MOST_PIECES}
 use Rattle.staat_manifest.specs.declared.listing.ListedPart.{ListedPart}
-use Rattle.staat_manifest.specs.Values.{Text, json_of, name_of, parts_of, pieces_of, text_of}
+use Rattle.staat_manifest.specs.Values.{Text, json_of, name_of, parts_in, pieces_in, text_in}
 use Rattle.staat_manifest.specs.Answers.{AnswersList}
 use Rattle.staat_manifest.specs.Listings.{IsListing, listed}
 use Rattle.staat_vec.specs.declared.vector.TheConstants.{POINT}
 use Rattle.staat_vec.specs.Vectors.{IsWithin}
 use Rattle.staat_manifest.proofs.PlacementLemmas.{at_within}
-use Rattle.staat_manifest.specs.Rules.{part_path, answer, answer_of, first_refusal, form_rules, joint_rules, part_list, rule, rules_from, whole_rules}
+use Rattle.staat_manifest.specs.Rules.{part_path, unless_broken, answer_of, first_refusal, form_rules, joint_rules, part_list, rule, rules_from, whole_rules}
 
 -- all of some rules hold, so these and those do
 split : (rules others : List (Option ManifestRefusal)) → first_refusal (rules ++ others) ≡ None → (first_refusal rules ≡ None) × (first_refusal others ≡ None)
@@ -49,8 +49,8 @@ record IsGood (parts : List ListedPart) : Type 0 where
 has_pieces : (k : ℕ) (part : Data) → first_refusal (form_rules k part) ≡ None → 1 ≤ length (listed part).pieces
 unfolding form_rules
 has_pieces k part h =
-    let some : nat_lt 0 (length (pieces_of part)) ≡ true = kept (form_rules k part) 5 _ (refusal.NoPieces k) h refl in
-    rw (length-map (pieces_of part) text_of) (grind (arith, nat_tests, some))
+    let some : nat_lt 0 (length (pieces_in part)) ≡ true = kept (form_rules k part) 5 _ (refusal.NoPieces k) h refl in
+    rw (length-map (pieces_in part) text_in) (grind (arith, nat_tests, some))
 
 is_placed : (k : ℕ) (part : Data) → first_refusal (form_rules k part) ≡ None → IsWithin POINT (listed part).at
 unfolding form_rules
@@ -84,23 +84,23 @@ all_good earlier (part ∷ later) good h =
 none_good : IsGood []
 none_good = record { each = All-nil (λ (p : ListedPart). 1 ≤ length p.pieces); placed = All-nil (λ (p : ListedPart). IsWithin POINT p.at); pieces = omega arith; names = λ i j d lt within. absurd (omega arith) }
 
-is_listing : (value : Data) → first_refusal (whole_rules value ++ rules_from [] (parts_of value)) ≡ None → IsListing (map listed (parts_of value))
+is_listing : (value : Data) → first_refusal (whole_rules value ++ rules_from [] (parts_in value)) ≡ None → IsListing (map listed (parts_in value))
 unfolding whole_rules
 is_listing value h =
-    let parted = split (whole_rules value) (rules_from [] (parts_of value)) h in
-    let some : nat_lt 0 (length (parts_of value)) ≡ true = kept (whole_rules value) 1 _ (refusal.BadShape (codes "/parts")) parted.0 refl in
-    let few : nat_le (length (parts_of value)) MOST_PARTS ≡ true = kept (whole_rules value) 3 _ refusal.TooManyParts parted.0 refl in
-    let good = all_good [] (parts_of value) none_good parted.1 in
+    let parted = split (whole_rules value) (rules_from [] (parts_in value)) h in
+    let some : nat_lt 0 (length (parts_in value)) ≡ true = kept (whole_rules value) 1 _ (refusal.BadShape (codes "/parts")) parted.0 refl in
+    let few : nat_le (length (parts_in value)) MOST_PARTS ≡ true = kept (whole_rules value) 3 _ refusal.TooManyParts parted.0 refl in
+    let good = all_good [] (parts_in value) none_good parted.1 in
     record {
-      at_least = rw (length-map (parts_of value) listed) (grind (arith, nat_tests, some));
-      at_most = rw (length-map (parts_of value) listed) (grind (arith, nat_tests, few));
+      at_least = rw (length-map (parts_in value) listed) (grind (arith, nat_tests, some));
+      at_most = rw (length-map (parts_in value) listed) (grind (arith, nat_tests, few));
       each = good.each;
       placed = good.placed;
       pieces = good.pieces;
       names = good.names;
     }
 
-accepted : (broken : Option ManifestRefusal) (parts list : List ListedPart) → (broken ≡ None → IsListing parts) → answer broken parts ≡ Ok list → IsListing list
+accepted : (broken : Option ManifestRefusal) (parts list : List ListedPart) → (broken ≡ None → IsListing parts) → unless_broken broken parts ≡ Ok list → IsListing list
 accepted None parts list h e =
     let same : parts ≡ list = cc in
     subst IsListing same (h refl)

@@ -7,7 +7,7 @@ use Rattle.serde_json.specs.Find.{as_array, as_i64, as_number, get}
 use Rattle.staat_vec.specs.declared.vector.TheConstants.{POINT}
 use Rattle.staat_vec.specs.declared.vector.V3.{V3}
 use Rattle.staat_vec.specs.Vectors.{IsWithin, origin, vector}
-use Rattle.staat_manifest.specs.Placements.{as_coordinate, at_of, placement_of, small, vector_by, vector_in, vector_of_member}
+use Rattle.staat_manifest.specs.Placements.{as_coordinate, at_of, placement_of, small, vector_by, three_in, vector_of_member}
 use Rattle.staat_manifest.specs.Values.{list_of}
 
 small_within : (z w : ℤ) → small z ≡ Some w → unsigned_abs w ≤ POINT
@@ -33,14 +33,14 @@ three_within a b c (Some x) (Some y) None v f g h e = cc
 three_within a b c (Some x) None z v f g h e = cc
 three_within a b c None y z v f g h e = cc
 
-items_within : (ds : List Data) (v : V3) → vector_in ds ≡ Some v → IsWithin POINT v
+items_within : (ds : List Data) (v : V3) → three_in ds ≡ Some v → IsWithin POINT v
 items_within [] v e = cc
 items_within (a ∷ []) v e = cc
 items_within (a ∷ b ∷ []) v e = cc
 items_within (a ∷ b ∷ c ∷ []) v e = three_within a b c (as_coordinate a) (as_coordinate b) (as_coordinate c) v refl refl refl e
 items_within (a ∷ b ∷ c ∷ d ∷ rest) v e = cc
 
-array_within : (o : Option (List Data)) (v : V3) → option_and_then vector_in o ≡ Some v → IsWithin POINT v
+array_within : (o : Option (List Data)) (v : V3) → option_and_then three_in o ≡ Some v → IsWithin POINT v
 array_within None v e = cc
 array_within (Some ds) v e = items_within ds v e
 

@@ -12,9 +12,9 @@ use Rattle.staat_manifest.specs.declared.refusal.ManifestRefusal.TheVariants as 
 use Rattle.staat_model.specs.declared.limits.TheConstants.{MOST_PIECES}
 use Rattle.staat_manifest.specs.declared.listing.ListedPart.{ListedPart}
 use Rattle.staat_manifest.specs.Listings.{listed}
-use Rattle.staat_manifest.specs.Values.{Text, json_of, parts_of}
+use Rattle.staat_manifest.specs.Values.{Text, json_of, parts_in}
 use Rattle.staat_manifest.specs.Answers.{AnswersList, RefusesPart}
-use Rattle.staat_manifest.specs.Rules.{answer, answer_of, count_rule, first_refusal, form_rules, joint_rules, name_rule, part_list, rules_from, whole_rules}
+use Rattle.staat_manifest.specs.Rules.{unless_broken, answer_of, count_rule, first_refusal, form_rules, joint_rules, name_rule, part_list, rules_from, whole_rules}
 
 -- where these rules hold, the others decide
 pub passed : (rules others : List (Option ManifestRefusal)) → first_refusal rules ≡ None → first_refusal (rules ++ others) ≡ first_refusal others
@@ -29,13 +29,13 @@ stopped e (None ∷ rules) others h = stopped e rules others h
 stopped e (Some d ∷ rules) others h = h
 
 -- a refusal by some of the rules is one by all
-pub passed_on : (e : ManifestRefusal) (some all : Option ManifestRefusal) (parts : List ListedPart) → ((d : ManifestRefusal) → some ≡ Some d → all ≡ Some d) → RefusesPart some e → AnswersList (answer all parts) (Err e)
-passed_on refusal.NotJson some all parts h j = ap (λ o. answer o parts) (h _ j)
-passed_on (refusal.BadShape path) some all parts h j = ap (λ o. answer o parts) (h _ j)
-passed_on (refusal.RepeatedName name) some all parts h j = ap (λ o. answer o parts) (h _ j)
-passed_on (refusal.NoPieces part) some all parts h j = ap (λ o. answer o parts) (h _ j)
-passed_on refusal.TooManyParts some all parts h j = ap (λ o. answer o parts) (h _ j)
-passed_on refusal.TooManyPieces some all parts h j = ap (λ o. answer o parts) (h _ j)
+pub passed_on : (e : ManifestRefusal) (some all : Option ManifestRefusal) (parts : List ListedPart) → ((d : ManifestRefusal) → some ≡ Some d → all ≡ Some d) → RefusesPart some e → AnswersList (unless_broken all parts) (Err e)
+passed_on refusal.NotJson some all parts h j = ap (λ o. unless_broken o parts) (h _ j)
+passed_on (refusal.BadShape path) some all parts h j = ap (λ o. unless_broken o parts) (h _ j)
+passed_on (refusal.RepeatedName name) some all parts h j = ap (λ o. unless_broken o parts) (h _ j)
+passed_on (refusal.NoPieces part) some all parts h j = ap (λ o. unless_broken o parts) (h _ j)
+passed_on refusal.TooManyParts some all parts h j = ap (λ o. unless_broken o parts) (h _ j)
+passed_on refusal.TooManyPieces some all parts h j = ap (λ o. unless_broken o parts) (h _ j)
 passed_on refusal.OutOfMemory some all parts h j = tt
 
 -- ---- a part with those before it
@@ -115,16 +115,16 @@ module _ (earlier : List ListedPart) (values : List Value) (k : ℕ) (v : Value)
 -- ---- the whole
 
 module _ (bytes : Text) (value : Data) (is : json_of bytes ≡ Some value) where
-  is_answer : part_list bytes ≡ answer (first_refusal (whole_rules value ++ rules_from [] (parts_of value))) (map listed (parts_of value))
+  is_answer : part_list bytes ≡ unless_broken (first_refusal (whole_rules value ++ rules_from [] (parts_in value))) (map listed (parts_in value))
   unfolding part_list
   is_answer = ap answer_of is
 
   -- the whole value breaks a rule
   pub whole_refuses : (e : ManifestRefusal) → RefusesPart (first_refusal (whole_rules value)) e → AnswersList (part_list bytes) (Err e)
-  whole_refuses e h = subst (λ (wanted : Result (List ListedPart) ManifestRefusal). AnswersList wanted (Err e)) (sym is_answer) (passed_on e _ _ _ (λ d. stopped d (whole_rules value) (rules_from [] (parts_of value))) h)
+  whole_refuses e h = subst (λ (wanted : Result (List ListedPart) ManifestRefusal). AnswersList wanted (Err e)) (sym is_answer) (passed_on e _ _ _ (λ d. stopped d (whole_rules value) (rules_from [] (parts_in value))) h)
 
   -- the parts decide
-  pub by_parts : first_refusal (whole_rules value) ≡ None → (parts : List Data) → parts ≡ parts_of value → part_list bytes ≡ answer (first_refusal (rules_from [] parts)) (map listed parts)
+  pub by_parts : first_refusal (whole_rules value) ≡ None → (parts : List Data) → parts ≡ parts_in value → part_list bytes ≡ unless_broken (first_refusal (rules_from [] parts)) (map listed parts)
   by_parts h parts same =
-      is_answer ∙ ap (λ o. answer o (map listed (parts_of value))) (passed (whole_rules value) (rules_from [] (parts_of value)) h)
-      ∙ ap (λ ps. answer (first_refusal (rules_from [] ps)) (map listed ps)) (sym same)
+      is_answer ∙ ap (λ o. unless_broken o (map listed (parts_in value))) (passed (whole_rules value) (rules_from [] (parts_in value)) h)
+      ∙ ap (λ ps. unless_broken (first_refusal (rules_from [] ps)) (map listed ps)) (sym same)

@@ -11,7 +11,7 @@ use Rattle.serde_json.specs.Read.{read}
 use Rattle.serde_json.specs.View.{items_of, items_view, members_view, view}
 use Rattle.serde_json.specs.declared.value.Value.{Value}
 use Rattle.staat_vec.specs.Vectors.{origin}
-use Rattle.staat_manifest.specs.Placements.{placement_of, vector_in}
+use Rattle.staat_manifest.specs.Placements.{placement_of, three_in}
 use Rattle.staat_manifest.specs.Values.{Text, array_at, has_only, json_of, list_of, names_of}
 
 -- what was read is the value
@@ -37,7 +37,7 @@ pub array_from : (name : Text) (d a : Data) (vs : List Value) → get name d ≡
 array_from name d a vs e f = rw (e, f, listed_items (map view vs)) refl
 
 -- a part is moved by the vector that the items of its member are
-pub placed_by : (part at : Data) (vs : List Value) → get (codes "at") part ≡ Some at → as_array at ≡ Some (items_view vs) → placement_of part ≡ vector_in (map view vs)
+pub placed_by : (part at : Data) (vs : List Value) → get (codes "at") part ≡ Some at → as_array at ≡ Some (items_view vs) → placement_of part ≡ three_in (map view vs)
 unfolding placement_of
 placed_by part at vs e f = rw (e, f, listed_items (map view vs)) refl
 

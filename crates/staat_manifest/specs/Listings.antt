@@ -6,11 +6,11 @@ use Rattle.staat_vec.specs.Vectors.{IsWithin}
 use Rattle.staat_model.specs.declared.limits.TheConstants.{MOST_PARTS, MOST_PIECES}
 use Rattle.staat_manifest.specs.declared.listing.ListedPart.{ListedPart}
 use Rattle.staat_manifest.specs.Placements.{at_of}
-use Rattle.staat_manifest.specs.Values.{name_of, pieces_of, text_of}
+use Rattle.staat_manifest.specs.Values.{name_of, pieces_in, text_in}
 
 -- the part as it is listed
 abbrev pub listed : Data → ListedPart
-listed part = record { name = name_of part; pieces = map text_of (pieces_of part); at = at_of part }
+listed part = record { name = name_of part; pieces = map text_in (pieces_in part); at = at_of part }
 
 -- 1 to MOST_PARTS parts of different names, each with a piece or more and moved by no more than a coordinate,
 -- and at most MOST_PIECES pieces in all

@@ -23,15 +23,15 @@ vector_by (Some x) None z = None
 vector_by None y z = None
 
 -- the vector that exactly three coordinates are
-abbrev pub vector_in : List Data → Option V3
-vector_in [] = None
-vector_in (x ∷ []) = None
-vector_in (x ∷ y ∷ []) = None
-vector_in (x ∷ y ∷ z ∷ []) = vector_by (as_coordinate x) (as_coordinate y) (as_coordinate z)
-vector_in (x ∷ y ∷ z ∷ w ∷ rest) = None
+abbrev pub three_in : List Data → Option V3
+three_in [] = None
+three_in (x ∷ []) = None
+three_in (x ∷ y ∷ []) = None
+three_in (x ∷ y ∷ z ∷ []) = vector_by (as_coordinate x) (as_coordinate y) (as_coordinate z)
+three_in (x ∷ y ∷ z ∷ w ∷ rest) = None
 
 abbrev pub vector_of_value : Data → Option V3
-vector_of_value d = option_and_then vector_in (option_map list_of (as_array d))
+vector_of_value d = option_and_then three_in (option_map list_of (as_array d))
 
 abbrev pub vector_of_member : Option Data → Option V3
 vector_of_member None = Some origin

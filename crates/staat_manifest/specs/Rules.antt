@@ -12,7 +12,7 @@ use Rattle.staat_model.specs.declared.limits.TheConstants.{MOST_PARTS, MOST_PIEC
 use Rattle.staat_manifest.specs.declared.listing.ListedPart.{ListedPart}
 use Rattle.staat_manifest.specs.Listings.{listed}
 use Rattle.staat_manifest.specs.Placements.{placement_of}
-use Rattle.staat_manifest.specs.Values.{Text, array_at, has_only, json_of, name_of, parts_of, pieces_of, text_of}
+use Rattle.staat_manifest.specs.Values.{Text, array_at, has_only, json_of, name_of, parts_in, pieces_in, text_in}
 
 -- what a rule says: nothing where it holds, and this refusal where it is broken
 abbrev pub rule : Bool → ManifestRefusal → Option ManifestRefusal
@@ -29,9 +29,9 @@ first_refusal (Some refusal ∷ rules) = Some refusal
 unfoldable pub whole_rules : Data → List (Option ManifestRefusal)
 whole_rules value =
     rule (is_some (as_object value)) (BadShape (codes "/"))
-    ∷ rule (nat_lt 0 (length (parts_of value))) (BadShape (codes "/parts"))
+    ∷ rule (nat_lt 0 (length (parts_in value))) (BadShape (codes "/parts"))
     ∷ rule (has_only (codes "parts" ∷ []) value) (BadShape (codes "/"))
-    ∷ rule (nat_le (length (parts_of value)) MOST_PARTS) TooManyParts
+    ∷ rule (nat_le (length (parts_in value)) MOST_PARTS) TooManyParts
     ∷ []
 
 -- ---- a part by itself
@@ -50,7 +50,7 @@ is_name name = nat_lt 0 (length name) && (nat_le (length name) 255 && list_all (
 
 -- a text that is not empty
 abbrev pub is_piece : Data → Bool
-is_piece piece = nat_lt 0 (length (text_of piece))
+is_piece piece = nat_lt 0 (length (text_in piece))
 
 -- the rules for the pieces of part k from piece i on
 abbrev pub piece_rules : ℕ → ℕ → List Data → List (Option ManifestRefusal)
@@ -65,8 +65,8 @@ form_rules k part =
     ∷ rule (is_some (array_at (codes "pieces") part)) (BadShape (part_path k ++ codes "/pieces"))
     ∷ rule (is_some (placement_of part)) (BadShape (part_path k ++ codes "/at"))
     ∷ rule (has_only (codes "name" ∷ codes "pieces" ∷ codes "at" ∷ []) part) (BadShape (part_path k))
-    ∷ rule (nat_lt 0 (length (pieces_of part))) (NoPieces k)
-    ∷ piece_rules k 0 (pieces_of part)
+    ∷ rule (nat_lt 0 (length (pieces_in part))) (NoPieces k)
+    ∷ piece_rules k 0 (pieces_in part)
 
 -- ---- a part with those before it
 
@@ -95,14 +95,14 @@ rules_from earlier (part ∷ later) =
 -- ---- the answer
 
 -- the parts, unless a rule is broken
-abbrev pub answer : Option ManifestRefusal → List ListedPart → Result (List ListedPart) ManifestRefusal
-answer None parts = Ok parts
-answer (Some refusal) parts = Err refusal
+abbrev pub unless_broken : Option ManifestRefusal → List ListedPart → Result (List ListedPart) ManifestRefusal
+unless_broken None parts = Ok parts
+unless_broken (Some refusal) parts = Err refusal
 
 abbrev pub answer_of : Option Data → Result (List ListedPart) ManifestRefusal
 answer_of None = Err NotJson
 answer_of (Some value) =
-    answer (first_refusal (whole_rules value ++ rules_from [] (parts_of value))) (map listed (parts_of value))
+    unless_broken (first_refusal (whole_rules value ++ rules_from [] (parts_in value))) (map listed (parts_in value))
 
 -- the parts that the bytes list, or what the first broken rule says
 unfoldable pub part_list : Text → Result (List ListedPart) ManifestRefusal

@@ -25,8 +25,8 @@ names_of no_members = []
 names_of (member name d ms) = name ∷ names_of ms
 
 -- the text that the value is, and the empty text where it is none
-abbrev pub text_of : Data → Text
-text_of d = unwrap_or (as_str d) []
+abbrev pub text_in : Data → Text
+text_in d = unwrap_or (as_str d) []
 
 -- the text that the member is, and the empty text where it is none
 abbrev pub text_at : Text → Data → Text
@@ -42,11 +42,11 @@ has_only names d = list_all (λ name. list_any (bytes_eq name) names) (unwrap_or
 
 -- ---- the whole value and its parts
 
-abbrev pub parts_of : Data → List Data
-parts_of value = unwrap_or (array_at (codes "parts") value) []
+abbrev pub parts_in : Data → List Data
+parts_in value = unwrap_or (array_at (codes "parts") value) []
 
 abbrev pub name_of : Data → Text
 name_of part = text_at (codes "name") part
 
-abbrev pub pieces_of : Data → List Data
-pieces_of part = unwrap_or (array_at (codes "pieces") part) []
+abbrev pub pieces_in : Data → List Data
+pieces_in part = unwrap_or (array_at (codes "pieces") part) []

@@ -4,7 +4,7 @@ ghost use Rattle.std.specs.List.{list_all, list_any};
 ghost use Rattle.std.specs.Str.{bytes_eq};
 ghost use Rattle.std.specs.BTreeMap.{keys};
 ghost use Rattle.serde_json.specs.View.{view};
-ghost use Rattle.staat_manifest.specs.Values.{array_at, has_only, json_of, text_at, text_of};
+ghost use Rattle.staat_manifest.specs.Values.{array_at, has_only, json_of, text_at, text_in};
 ghost use Rattle.staat_manifest.specs.Answers.{IsRead};
 
 use crate::ManifestRefusal;
@@ -23,8 +23,8 @@ pub(crate) fn value_of(alloc: Global, bytes: &[u8]) -> Result<Value, ManifestRef
 }
 
 /// The text that the value is, or the empty text where it is none.
-pub(crate) fn text_of(value: &Value) -> &str
-    ensures { result.now ≡ text_of (view value.entry.now) }
+pub(crate) fn text_in(value: &Value) -> &str
+    ensures { result.now ≡ text_in (view value.entry.now) }
 {
     value.as_str().unwrap_or("")
 }

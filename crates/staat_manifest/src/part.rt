@@ -4,11 +4,11 @@ ghost use Rattle.std.specs.List.{list_all};
 ghost use Rattle.serde_json.specs.View.{view};
 ghost use Rattle.staat_manifest.specs.Answers.{JudgesPart};
 ghost use Rattle.staat_manifest.specs.Placements.{at_of};
-ghost use Rattle.staat_manifest.specs.Values.{name_of, pieces_of};
+ghost use Rattle.staat_manifest.specs.Values.{name_of, pieces_in};
 ghost use Rattle.staat_manifest.specs.Rules.{first_refusal, form_rules, is_name, is_piece, piece_rules};
 
 use crate::ManifestRefusal;
-use crate::json::{array_at, has_only, text_at, text_of};
+use crate::json::{array_at, has_only, text_at, text_in};
 use crate::paths::{bad_member, bad_part, bad_piece};
 use crate::placement::placement_of;
 use serde_json::Value;
@@ -33,7 +33,7 @@ fn is_name(text: &str) -> bool
 fn is_piece(value: &Value) -> bool
     ensures { result ≡ is_piece (view value.now) }
 {
-    !text_of(value).is_empty()
+    !text_in(value).is_empty()
 }
 
 fn check_pieces(alloc: Global, k: u32, pieces: &[Value]) -> Result<(), ManifestRefusal>
@@ -67,7 +67,7 @@ pub(crate) fn form_of<'v>(
     ensures rules { JudgesPart (first_refusal (form_rules k (view part.entry.now))) result }
     ensures name { IfOk result (λ form. form.name.now ≡ name_of (view part.entry.now)) }
     ensures pieces { IfOk result (λ form. map view form.pieces.now
-        ≡ pieces_of (view part.entry.now)) }
+        ≡ pieces_in (view part.entry.now)) }
     ensures at { IfOk result (λ form. form.at ≡ at_of (view part.entry.now)) }
 {
     if !part.is_object() {

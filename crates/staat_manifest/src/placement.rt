@@ -1,7 +1,7 @@
 // Where a part is to stand: the vector by which its pieces are moved.
 ghost use Rattle.std.specs.Prelude.{◌≡◌, map};
 ghost use Rattle.serde_json.specs.View.{view};
-ghost use Rattle.staat_manifest.specs.Placements.{as_coordinate, placement_of, small, vector_in};
+ghost use Rattle.staat_manifest.specs.Placements.{as_coordinate, placement_of, small, three_in};
 
 use serde_json::Value;
 use staat_vec::{ORIGIN, POINT, V3};
@@ -26,8 +26,8 @@ fn as_coordinate(value: &Value) -> Option<i128>
 }
 
 // The vector that three values are.
-fn vector_in(values: &[Value]) -> Option<V3>
-    ensures { result ≡ vector_in (map view values.now) }
+fn three_in(values: &[Value]) -> Option<V3>
+    ensures { result ≡ three_in (map view values.now) }
 {
     let [x, y, z] = values else {
         return None;
@@ -45,7 +45,7 @@ pub(crate) fn placement_of(part: &Value) -> Option<V3>
     ensures { result ≡ placement_of (view part.now) }
 {
     match part.get("at") {
-        Some(at) => vector_in(at.as_array()?.as_slice()),
+        Some(at) => three_in(at.as_array()?.as_slice()),
         None => Some(ORIGIN),
     }
 }

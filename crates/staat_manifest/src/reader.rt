@@ -4,8 +4,8 @@ ghost use Rattle.serde_json.specs.View.{view};
 ghost use Rattle.staat_model.specs.declared.limits.TheConstants.{MOST_PARTS};
 ghost use Rattle.staat_manifest.specs.Answers.{AnswersList, JudgesPart};
 ghost use Rattle.staat_manifest.specs.Listings.{IsListing, listed};
-ghost use Rattle.staat_manifest.specs.Values.{parts_of, text_of};
-ghost use Rattle.staat_manifest.specs.Rules.{answer, first_refusal, name_rule, part_list, rules_from, whole_rules};
+ghost use Rattle.staat_manifest.specs.Values.{parts_in, text_in};
+ghost use Rattle.staat_manifest.specs.Rules.{unless_broken, first_refusal, name_rule, part_list, rules_from, whole_rules};
 
 use crate::json::{array_at, has_only, value_of};
 use crate::listing::{ListedPart, name_of, names_of};
@@ -19,9 +19,9 @@ use std::alloc::{AllocError, Global};
 
 // The values of the parts, unless the whole breaks a rule.
 #[tactic(auto, unfolding(crate::specs::Rules::whole_rules))]
-fn parts_of(alloc: Global, value: &Value) -> Result<&[Value], ManifestRefusal>
+fn parts_in(alloc: Global, value: &Value) -> Result<&[Value], ManifestRefusal>
     ensures rules { JudgesPart (first_refusal (whole_rules (view value.entry.now))) result }
-    ensures parts { IfOk result (λ parts. map view parts.now ≡ parts_of (view value.entry.now)) }
+    ensures parts { IfOk result (λ parts. map view parts.now ≡ parts_in (view value.entry.now)) }
     ensures few { IfOk result (λ parts. length parts.now ≤ MOST_PARTS) }
 {
     if !value.is_object() {
@@ -60,7 +60,7 @@ fn add_name<'v>(
 // The part of this form.
 fn listed(alloc: Global, form: &Form<'_>) -> Result<ListedPart, AllocError>
     ensures name { IfOk result (λ part. part.name ≡ form.now.name.now) }
-    ensures pieces { IfOk result (λ part. part.pieces ≡ map text_of (map view form.now.pieces.now)) }
+    ensures pieces { IfOk result (λ part. part.pieces ≡ map text_in (map view form.now.pieces.now)) }
     ensures at { IfOk result (λ part. part.at ≡ form.now.at) }
 {
     Ok(ListedPart {
@@ -73,7 +73,7 @@ fn listed(alloc: Global, form: &Form<'_>) -> Result<ListedPart, AllocError>
 // The list of the parts, unless one of them breaks a rule.
 fn list_parts(alloc: Global, parts: &[Value]) -> Result<Listing, ManifestRefusal>
     requires { length parts.now ≤ MOST_PARTS }
-    ensures { AnswersList (answer (first_refusal (rules_from [] (map view parts.now)))
+    ensures { AnswersList (unless_broken (first_refusal (rules_from [] (map view parts.now)))
         (map listed (map view parts.now))) result }
 {
     let mut list = Vec::with_capacity(alloc, parts.len())?;
@@ -106,5 +106,5 @@ pub fn read_manifest(alloc: Global, bytes: &[u8]) -> Result<Listing, ManifestRef
     ensures bounds { IfOk result IsListing }
 {
     let value = value_of(alloc, bytes)?;
-    list_parts(alloc, parts_of(alloc, &value)?)
+    list_parts(alloc, parts_in(alloc, &value)?)
 }

@@ -13,14 +13,14 @@ abbrev pub point_count : List (List V3) → ℕ
 point_count pieces = sum_by length pieces
 
 -- the line of a part with this number, so many pieces and points, and this name
-abbrev pub line_of : ℕ → ℕ → ℕ → List ℕ → List ℕ
-line_of k pieces points name =
+abbrev pub counted_line : ℕ → ℕ → ℕ → List ℕ → List ℕ
+counted_line k pieces points name =
     codes "part " ++ decimal k ++ codes " pieces " ++ decimal pieces ++ codes " points " ++ decimal points
     ++ codes " name " ++ name ++ codes "\n"
 
 -- the line of the part with number k
 abbrev pub part_line : ℕ → Part → List ℕ
-part_line k part = line_of k (length part.pieces) (point_count part.pieces) part.name
+part_line k part = counted_line k (length part.pieces) (point_count part.pieces) part.name
 
 -- the lines of the parts, which are numbered from k on
 abbrev pub lines_from : ℕ → List Part → List ℕ

@@ -2,7 +2,7 @@
 ghost use Rattle.std.specs.Prelude.{◌≡◌, ◌<◌, ◌++◌, IfOk, List, Some, codes, decimal, length, slice_get, string_bytes};
 ghost use Rattle.staat_model.specs.declared.assembly.Part.{Part as PartValue};
 ghost use Rattle.staat_model.specs.Assemblies.{piece_count};
-ghost use Rattle.staat_text.specs.Parts.{line_of, look_text, part_line, parts_text, pieces_at, point_count};
+ghost use Rattle.staat_text.specs.Parts.{counted_line, look_text, part_line, parts_text, pieces_at, point_count};
 
 use staat_model::{Assembly, Sound};
 use staat_vec::{Bytes, OutOfMemory};
@@ -28,7 +28,7 @@ fn line(
     points: u32,
     name: &str,
 ) -> Result<String, AllocError>
-    ensures { IfOk result (λ s. string_bytes s ≡ line_of number pieces points name.now) }
+    ensures { IfOk result (λ s. string_bytes s ≡ counted_line number pieces points name.now) }
 {
     format!(in alloc; "part {number} pieces {pieces} points {points} name {name}\n")
 }

@@ -4,8 +4,8 @@ use Rattle.std.proofs.lemmas.Result.{err_from_is_err_and}
 use Rattle.serde_json.specs.View.{view}
 use Rattle.staat_manifest.specs.declared.listing.ListedPart.{ListedPart}
 use Rattle.staat_manifest.specs.Listings.{listed}
-use Rattle.staat_manifest.specs.Values.{text_of}
-use Rattle.staat_manifest.specs.Rules.{answer}
+use Rattle.staat_manifest.specs.Values.{text_in}
+use Rattle.staat_manifest.specs.Rules.{unless_broken}
 use Rattle.staat_manifest.proofs.RuleLemmas.{by_count, count_over, count_within, form_refuses, goes_on, joint_refuses, list_more, name_repeated, passed_on, total}
 use Rattle.staat_manifest.proofs.reader.list_parts.Goals as goal
 
@@ -18,7 +18,7 @@ returns-in_err-form c =
 pub returns-in_err-add_name : goal.returns-in_err-add_name
 returns-in_err-add_name c =
     let p = err_from_is_err_and c.from_residual-in_err-add_name.result c.from_residual-in_err-add_name.ensures.1 in
-    let part : ListedPart = record { name = c.in_ok-form.form.name.now; pieces = map text_of (map view c.in_ok-form.form.pieces.now); at = c.in_ok-form.form.at } in
+    let part : ListedPart = record { name = c.in_ok-form.form.name.now; pieces = map text_in (map view c.in_ok-form.form.pieces.now); at = c.in_ok-form.form.at } in
     let same : part ≡ listed (view c.index-parts-k.result) = rw (c.in_ok-form.ensures.name, c.in_ok-form.ensures.pieces, c.in_ok-form.ensures.at) refl in
     let refuses = joint_refuses c.loop-k.list.items c.args.parts.now c.loop-k.k c.index-parts-k.result (omega arith) c.index-parts-k.is part same c.loop-k.invariant.number _ c.loop-k.invariant.rules c.in_ok-form.ensures.rules in
     let repeated = name_repeated c.loop-k.list.items part _ _ c.loop-k.invariant.names c.loop-k.invariant.count in
@@ -26,16 +26,16 @@ returns-in_err-add_name c =
 
 pub returns-then-piece_count : goal.returns-then-piece_count
 returns-then-piece_count c =
-    let part : ListedPart = record { name = c.in_ok-form.form.name.now; pieces = map text_of (map view c.in_ok-form.form.pieces.now); at = c.in_ok-form.form.at } in
+    let part : ListedPart = record { name = c.in_ok-form.form.name.now; pieces = map text_in (map view c.in_ok-form.form.pieces.now); at = c.in_ok-form.form.at } in
     let same : part ≡ listed (view c.index-parts-k.result) = rw (c.in_ok-form.ensures.name, c.in_ok-form.ensures.pieces, c.in_ok-form.ensures.at) refl in
     let size : length part.pieces ≡ length c.in_ok-form.form.pieces.now = simp length-map in
     let refuses = joint_refuses c.loop-k.list.items c.args.parts.now c.loop-k.k c.index-parts-k.result (omega arith) c.index-parts-k.is part same c.loop-k.invariant.number _ c.loop-k.invariant.rules c.in_ok-form.ensures.rules in
     let counted = by_count c.loop-k.list.items part _ _ c.loop-k.invariant.names c.loop-k.invariant.count c.in_ok-add_name.ensures.rule in
-    ap (λ broken. answer broken (map listed (map view c.args.parts.now))) (refuses _ (counted ∙ count_over _ (omega (arith, size))))
+    ap (λ broken. unless_broken broken (map listed (map view c.args.parts.now))) (refuses _ (counted ∙ count_over _ (omega (arith, size))))
 
 pub loop-k-preserved : goal.loop-k-preserved
 loop-k-preserved c =
-    let part : ListedPart = record { name = c.in_ok-form.form.name.now; pieces = map text_of (map view c.in_ok-form.form.pieces.now); at = c.in_ok-form.form.at } in
+    let part : ListedPart = record { name = c.in_ok-form.form.name.now; pieces = map text_in (map view c.in_ok-form.form.pieces.now); at = c.in_ok-form.form.at } in
     let same : part ≡ listed (view c.index-parts-k.result) = rw (c.in_ok-form.ensures.name, c.in_ok-form.ensures.pieces, c.in_ok-form.ensures.at) refl in
     let size : length part.pieces ≡ length c.in_ok-form.form.pieces.now = simp length-map in
     let counted = by_count c.loop-k.list.items part _ _ c.loop-k.invariant.names c.loop-k.invariant.count c.in_ok-add_name.ensures.rule in
