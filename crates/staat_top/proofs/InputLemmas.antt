@@ -15,7 +15,8 @@ use Rattle.staat_model.specs.Pieces.{IsPiece}
 use Rattle.staat_manifest.specs.Listings.{IsListing}
 use Rattle.staat_fault.specs.declared.fault.Fault.{Fault}
 use Rattle.staat_fault.specs.declared.fault.Fault.TheVariants as fault
-use Rattle.staat_top.specs.Inputs.{NamedPart}
+use Rattle.staat_manifest.specs.declared.listing.ListedPart.{ListedPart}
+use Rattle.staat_top.specs.Inputs.{alone}
 use Rattle.staat_top.specs.Shapes.{AreRead, IsFew}
 use Rattle.staat_top.specs.Runs.{HasCause, over}
 use Rattle.staat_top.specs.Work.{Files, Found, Then, Each, Follows}
@@ -103,28 +104,28 @@ cause_later before mid after f r le same cause fails = failed_with (HasCause (ov
 
 -- ---- the assembly
 
-same_length : (named : List NamedPart) (parts : List Part) → AreRead named parts → length parts ≡ length named
-same_length named parts read = sym (length-map parts (λ part. length part.pieces)) ∙ ap length read.each ∙ length-map named (λ part. length part.1)
+same_length : (named : List ListedPart) (parts : List Part) → AreRead named parts → length parts ≡ length named
+same_length named parts read = sym (length-map parts (λ part. length part.pieces)) ∙ ap length read.each ∙ length-map named (λ (part : ListedPart). length part.pieces)
 
-filled : (named : List NamedPart) (parts : List Part) → map (λ part. length part.pieces) parts ≡ map (λ part. length part.1) named → All (λ part. 1 ≤ length part.1) named → All (λ part. All IsPiece part.pieces) parts → All IsPart parts
+filled : (named : List ListedPart) (parts : List Part) → map (λ part. length part.pieces) parts ≡ map (λ (part : ListedPart). length part.pieces) named → All (λ (part : ListedPart). 1 ≤ length part.pieces) named → All (λ part. All IsPiece part.pieces) parts → All IsPart parts
 filled named [] same some pieces = All-nil IsPart
 filled [] (part ∷ parts) same some pieces = absurd cc
 filled (n ∷ named) (part ∷ parts) same some pieces =
-    let first : length part.pieces ≡ length n.1 = cc in
-    let rest : map (λ part. length part.pieces) parts ≡ map (λ part. length part.1) named = cc in
-    All-cons IsPart part parts (record { nonempty = subst (λ k. 1 ≤ k) (sym first) (All-head (λ part. 1 ≤ length part.1) n named some); pieces = All-head (λ part. All IsPiece part.pieces) part parts pieces })
-    (filled named parts rest (All-tail (λ part. 1 ≤ length part.1) n named some) (All-tail (λ part. All IsPiece part.pieces) part parts pieces))
+    let first : length part.pieces ≡ length n.pieces = cc in
+    let rest : map (λ part. length part.pieces) parts ≡ map (λ (part : ListedPart). length part.pieces) named = cc in
+    All-cons IsPart part parts (record { nonempty = subst (λ k. 1 ≤ k) (sym first) (All-head (λ (part : ListedPart). 1 ≤ length part.pieces) n named some); pieces = All-head (λ part. All IsPiece part.pieces) part parts pieces })
+    (filled named parts rest (All-tail (λ (part : ListedPart). 1 ≤ length part.pieces) n named some) (All-tail (λ part. All IsPiece part.pieces) part parts pieces))
 
-summed : (named : List NamedPart) (parts : List Part) → map (λ part. length part.pieces) parts ≡ map (λ part. length part.1) named → sum_by (λ part. length part.pieces) parts ≡ sum_by (λ part. length part.1) named
+summed : (named : List ListedPart) (parts : List Part) → map (λ part. length part.pieces) parts ≡ map (λ (part : ListedPart). length part.pieces) named → sum_by (λ part. length part.pieces) parts ≡ sum_by (λ (part : ListedPart). length part.pieces) named
 summed [] [] same = refl
 summed (n ∷ named) [] same = absurd cc
 summed [] (part ∷ parts) same = absurd cc
 summed (n ∷ named) (part ∷ parts) same =
-    let first : length part.pieces ≡ length n.1 = cc in
-    let rest : map (λ part. length part.pieces) parts ≡ map (λ part. length part.1) named = cc in
-    sum_by-cons (λ part. length part.pieces) part parts ∙ ap₂ (λ a b. a + b) first (summed named parts rest) ∙ sym (sum_by-cons (λ part. length part.1) n named)
+    let first : length part.pieces ≡ length n.pieces = cc in
+    let rest : map (λ part. length part.pieces) parts ≡ map (λ (part : ListedPart). length part.pieces) named = cc in
+    sum_by-cons (λ part. length part.pieces) part parts ∙ ap₂ (λ a b. a + b) first (summed named parts rest) ∙ sym (sum_by-cons (λ (part : ListedPart). length part.pieces) n named)
 
-pub assembly_read : (named : List NamedPart) (parts : List Part) → IsFew named → AreRead named parts → IsAssembly parts
+pub assembly_read : (named : List ListedPart) (parts : List Part) → IsFew named → AreRead named parts → IsAssembly parts
 assembly_read named parts few read = record {
   at_least = subst (λ k. 1 ≤ k) (sym (same_length named parts read)) few.at_least;
   at_most = subst (λ k. k ≤ MOST_PARTS) (sym (same_length named parts read)) few.at_most;
@@ -135,31 +136,31 @@ assembly_read named parts few read = record {
 pub none_read : AreRead [] []
 none_read = record { each = refl; pieces = All-nil (λ part. All IsPiece part.pieces) }
 
-pub one_read : (named : List NamedPart) (i : ℕ) (d : NamedPart) (parts : List Part) (part : Part) → i < length named → AreRead (take i named) parts → d ≡ get_or named i d → length part.pieces ≡ length d.1 → All IsPiece part.pieces → AreRead (take (i + 1) named) (parts ++ part ∷ [])
+pub one_read : (named : List ListedPart) (i : ℕ) (d : ListedPart) (parts : List Part) (part : Part) → i < length named → AreRead (take i named) parts → d ≡ get_or named i d → length part.pieces ≡ length d.pieces → All IsPiece part.pieces → AreRead (take (i + 1) named) (parts ++ part ∷ [])
 one_read named i d parts part lt read at same pieces = record {
-  each = map-append (λ part. length part.pieces) parts (part ∷ []) ∙ ap₂ (λ a n. a ++ n ∷ []) read.each (same ∙ ap (λ (n : NamedPart). length n.1) at) ∙ sym (map_more (λ part. length part.1) named i d lt);
+  each = map-append (λ part. length part.pieces) parts (part ∷ []) ∙ ap₂ (λ a n. a ++ n ∷ []) read.each (same ∙ ap (λ (n : ListedPart). length n.pieces) at) ∙ sym (map_more (λ (part : ListedPart). length part.pieces) named i d lt);
   pieces = All-append (λ part. All IsPiece part.pieces) parts (part ∷ []) read.pieces (All-cons (λ part. All IsPiece part.pieces) part [] pieces (All-nil (λ part. All IsPiece part.pieces)));
 }
 
 -- files that are parts by themselves
-files_few : (names : List (List ℕ)) → 1 ≤ length names → length names ≤ MOST_PARTS → IsFew (map (λ name. (name, name ∷ [])) names)
+files_few : (names : List (List ℕ)) → 1 ≤ length names → length names ≤ MOST_PARTS → IsFew (map alone names)
 files_few names some most = record {
-  at_least = subst (λ k. 1 ≤ k) (sym (length-map names (λ name. (name, name ∷ [])))) some;
-  at_most = subst (λ k. k ≤ MOST_PARTS) (sym (length-map names (λ name. (name, name ∷ [])))) most;
+  at_least = subst (λ k. 1 ≤ k) (sym (length-map names alone)) some;
+  at_most = subst (λ k. k ≤ MOST_PARTS) (sym (length-map names alone)) most;
   each = singles names;
   pieces = omega (arith, counted names, most);
 }
   where
-    singles : (names : List (List ℕ)) → All (λ (part : NamedPart). 1 ≤ length part.1) (map (λ name. (name, name ∷ [])) names)
-    singles [] = All-nil (λ (part : NamedPart). 1 ≤ length part.1)
-    singles (name ∷ names) = All-cons (λ (part : NamedPart). 1 ≤ length part.1) (name, name ∷ []) (map (λ name. (name, name ∷ [])) names) (lit≤ tt) (singles names)
+    singles : (names : List (List ℕ)) → All (λ (part : ListedPart). 1 ≤ length part.pieces) (map alone names)
+    singles [] = All-nil (λ (part : ListedPart). 1 ≤ length part.pieces)
+    singles (name ∷ names) = All-cons (λ (part : ListedPart). 1 ≤ length part.pieces) (alone name) (map alone names) (lit≤ tt) (singles names)
 
-    counted : (names : List (List ℕ)) → sum_by (λ (part : NamedPart). length part.1) (map (λ name. (name, name ∷ [])) names) ≡ length names
+    counted : (names : List (List ℕ)) → sum_by (λ (part : ListedPart). length part.pieces) (map alone names) ≡ length names
     counted [] = refl
-    counted (name ∷ names) = sum_by-cons (λ (part : NamedPart). length part.1) (name, name ∷ []) (map (λ name. (name, name ∷ [])) names) ∙ omega (arith, counted names)
+    counted (name ∷ names) = sum_by-cons (λ (part : ListedPart). length part.pieces) (alone name) (map alone names) ∙ omega (arith, counted names)
 
-pub named_files : (names : List (List ℕ)) (named : List NamedPart) → (1 ≤ length names) × (length names ≤ MOST_PARTS) → named ≡ map (λ name. (name, name ∷ [])) names → IsFew named
+pub named_files : (names : List (List ℕ)) (named : List ListedPart) → (1 ≤ length names) × (length names ≤ MOST_PARTS) → named ≡ map alone names → IsFew named
 named_files names named (some, most) e = subst IsFew (sym e) (files_few names some most)
 
-pub listing_few : (named : List NamedPart) → IsListing named → IsFew named
+pub listing_few : (named : List ListedPart) → IsListing named → IsFew named
 listing_few named l = record { at_least = l.at_least; at_most = l.at_most; each = l.each; pieces = l.pieces }

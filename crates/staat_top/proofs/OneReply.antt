@@ -21,6 +21,7 @@ use Rattle.staat_mesh.specs.declared.refusal.MeshRefusal.{MeshRefusal}
 use Rattle.staat_mesh.specs.declared.refusal.MeshRefusal.TheVariants as mesh_refusal
 use Rattle.staat_off.specs.declared.refusal.OffRefusal.{OffRefusal}
 use Rattle.staat_off.specs.declared.refusal.OffRefusal.TheVariants as off
+use Rattle.staat_manifest.specs.declared.listing.ListedPart.{ListedPart}
 use Rattle.staat_manifest.specs.declared.refusal.ManifestRefusal.{ManifestRefusal}
 use Rattle.staat_manifest.specs.declared.refusal.ManifestRefusal.TheVariants as manifest
 use Rattle.staat_vec.specs.declared.vector.V3.{V3}
@@ -38,7 +39,7 @@ use Rattle.staat_top.specs.declared.answer.Answer.{Answer}
 use Rattle.staat_top.specs.Work.{Files, Found, Then, Each, IsTaken, to_read, too_long, taken}
 use Rattle.staat_top.specs.Refusals.{off_fault, mesh_fault, manifest_fault}
 use Rattle.staat_top.specs.Pieces.{IsPieceOf, SaysPiece, no_file, no_piece, piece}
-use Rattle.staat_top.specs.Inputs.{NamedPart, SaysListing, no_listing, listing, IsListingOf, IsPartOf, IsInputOf, part_of}
+use Rattle.staat_top.specs.Inputs.{SaysListing, no_listing, listing, IsListingOf, IsPartOf, IsInputOf, part_of}
 use Rattle.staat_top.specs.Assembling.{IsTested, overlapping, sound, IsSoundOf}
 use Rattle.staat_top.specs.Graphing.{AreCounted, IsGraphed, all_parts, few, too_many}
 use Rattle.staat_top.specs.Replies.{IsJudged, answer, free, not_shown, WorkOn, WorkOnWords, Reply, Makes, IsReply}
@@ -173,7 +174,7 @@ mesh_settled name (mesh_refusal.NotConvex f) = tt
 mesh_settled name (mesh_refusal.OpenEdge f k) = tt
 mesh_settled name mesh_refusal.OutOfMemory = tt
 
-manifest_settled : (name : List ℕ) (r : ManifestRefusal) → IsSettled {X = List NamedPart} (Err (manifest_fault name r))
+manifest_settled : (name : List ℕ) (r : ManifestRefusal) → IsSettled {X = List ListedPart} (Err (manifest_fault name r))
 manifest_settled name manifest.NotJson = tt
 manifest_settled name (manifest.BadShape path) = tt
 manifest_settled name (manifest.RepeatedName part) = tt
@@ -223,7 +224,7 @@ piece_one files digits name = taken_one files name (SaysPiece digits name) (piec
 listing_saying : (name : List ℕ) → IsSaying (SaysListing name)
 listing_saying name = record { one = one; no_read = no_read }
   where
-    one : (bytes : List ℕ) (f g : Found (List NamedPart)) → SaysListing name bytes f → SaysListing name bytes g → f ≡ g
+    one : (bytes : List ℕ) (f g : Found (List ListedPart)) → SaysListing name bytes f → SaysListing name bytes g → f ≡ g
     one bytes f g (no_listing r re e) (no_listing s se d) =
         let same : r ≡ s = cc in e ∙ ap (λ x. Err (manifest_fault name x)) same ∙ sym d
     one bytes f g (no_listing r re e) (listing p pe d) = absurd cc
@@ -239,8 +240,8 @@ listing_one : (files : Files) (asked : Input) → FindsOne files (IsListingOf fi
 listing_one files (input.Manifest name) = taken_one files name (SaysListing name) (listing_saying name)
 listing_one files (input.Files names) = known_one files _
 
-part_one : (files : Files) (digits : ℕ) (named : NamedPart) → FindsOne files (IsPartOf files digits named)
-part_one files digits named = then_one files (Each (IsPieceOf files digits) named.1) _ (each_one files (IsPieceOf files digits) (piece_one files digits) named.1) (λ pieces. known_one files (part_of named.0 pieces))
+part_one : (files : Files) (digits : ℕ) (named : ListedPart) → FindsOne files (IsPartOf files digits named)
+part_one files digits named = then_one files (Each (IsPieceOf files digits) named.pieces) _ (each_one files (IsPieceOf files digits) (piece_one files digits) named.pieces) (λ pieces. known_one files (part_of named.name pieces))
 
 input_one : (files : Files) (asked : Asked) → FindsOne files (IsInputOf files asked)
 input_one files asked = then_one files (IsListingOf files asked.input) _ (listing_one files asked.input) (each_one files (IsPartOf files asked.digits) (part_one files asked.digits))

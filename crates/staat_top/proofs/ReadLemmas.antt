@@ -13,16 +13,17 @@ use Rattle.staat_off.specs.Answers.{Answers as Reads}
 use Rattle.staat_mesh.specs.declared.refusal.MeshRefusal.{MeshRefusal}
 use Rattle.staat_mesh.specs.declared.refusal.MeshRefusal.TheVariants as mesh_refusal
 use Rattle.staat_mesh.specs.Polygons.{mesh}
-use Rattle.staat_mesh.specs.Judging.{Answers as Judged}
+use Rattle.staat_mesh.specs.Judging.{AnswersMesh}
 use Rattle.staat_manifest.specs.declared.refusal.ManifestRefusal.{ManifestRefusal}
 use Rattle.staat_manifest.specs.declared.refusal.ManifestRefusal.TheVariants as manifest
-use Rattle.staat_manifest.specs.Answers.{Answers as Lists}
+use Rattle.staat_manifest.specs.Answers.{AnswersList}
+use Rattle.staat_manifest.specs.declared.listing.ListedPart.{ListedPart}
 use Rattle.staat_manifest.specs.Rules.{part_list}
 use Rattle.staat_top.specs.declared.read.TheConstants.{FILE_LIMIT}
 use Rattle.staat_top.specs.Work.{Files, Found, Follows, IsNotTaken, IsTaken, to_read, too_long, taken}
 use Rattle.staat_top.specs.Refusals.{off_fault, mesh_fault, manifest_fault}
 use Rattle.staat_top.specs.Pieces.{SaysPiece, no_file, no_piece, piece}
-use Rattle.staat_top.specs.Inputs.{NamedPart, SaysListing, no_listing, listing}
+use Rattle.staat_top.specs.Inputs.{SaysListing, no_listing, listing}
 
 -- the file has more bytes than the limit
 found_long : {X : Type 0} (Says : List ℕ → Found X → Type 0) (holds : Option Files) (files : Files) (name : List ℕ) → holds ≡ Some files → IsLonger holds name FILE_LIMIT → IsTaken files name Says (Err (fault.TooLong name))
@@ -58,7 +59,7 @@ says_no_file digits name bytes (off.Trailing at) e = no_file (off.Trailing at) e
 says_no_file digits name bytes off.OutOfMemory e = tt
 
 -- its mesh is no piece
-pub says_no_piece : (digits : ℕ) (name bytes : List ℕ) (raw : Raw) (refusal : MeshRefusal) → reading digits bytes ≡ Ok raw → Judged (mesh raw) (Err refusal) → Follows (SaysPiece digits name bytes) (Err (mesh_fault name refusal))
+pub says_no_piece : (digits : ℕ) (name bytes : List ℕ) (raw : Raw) (refusal : MeshRefusal) → reading digits bytes ≡ Ok raw → AnswersMesh (mesh raw) (Err refusal) → Follows (SaysPiece digits name bytes) (Err (mesh_fault name refusal))
 says_no_piece digits name bytes raw (mesh_refusal.TooFewPoints n) e j = no_piece raw (mesh_refusal.TooFewPoints n) e j refl
 says_no_piece digits name bytes raw (mesh_refusal.TooManyPoints n) e j = no_piece raw (mesh_refusal.TooManyPoints n) e j refl
 says_no_piece digits name bytes raw mesh_refusal.Flat e j = no_piece raw mesh_refusal.Flat e j refl
@@ -68,11 +69,11 @@ says_no_piece digits name bytes raw (mesh_refusal.OpenEdge f k) e j = no_piece r
 says_no_piece digits name bytes raw mesh_refusal.OutOfMemory e j = tt
 
 -- it is a piece
-pub says_piece : (digits : ℕ) (name bytes : List ℕ) (raw : Raw) (points : List V3) → reading digits bytes ≡ Ok raw → Judged (mesh raw) (Ok points) → SaysPiece digits name bytes (Ok points)
+pub says_piece : (digits : ℕ) (name bytes : List ℕ) (raw : Raw) (points : List V3) → reading digits bytes ≡ Ok raw → AnswersMesh (mesh raw) (Ok points) → SaysPiece digits name bytes (Ok points)
 says_piece digits name bytes raw points e j = piece raw points e j refl
 
 -- the file is no part list
-pub says_no_listing : (name bytes : List ℕ) (refusal : ManifestRefusal) → Lists {X = List NamedPart} (part_list bytes) (Err refusal) → Follows (SaysListing name bytes) (Err (manifest_fault name refusal))
+pub says_no_listing : (name bytes : List ℕ) (refusal : ManifestRefusal) → AnswersList {X = List ListedPart} (part_list bytes) (Err refusal) → Follows (SaysListing name bytes) (Err (manifest_fault name refusal))
 says_no_listing name bytes manifest.NotJson e = no_listing manifest.NotJson e refl
 says_no_listing name bytes (manifest.BadShape path) e = no_listing (manifest.BadShape path) e refl
 says_no_listing name bytes (manifest.RepeatedName part) e = no_listing (manifest.RepeatedName part) e refl
@@ -82,7 +83,7 @@ says_no_listing name bytes manifest.TooManyPieces e = no_listing manifest.TooMan
 says_no_listing name bytes manifest.OutOfMemory e = tt
 
 -- it is one
-pub says_listing : (name bytes : List ℕ) (parts : List NamedPart) → part_list bytes ≡ Ok parts → SaysListing name bytes (Ok parts)
+pub says_listing : (name bytes : List ℕ) (parts : List ListedPart) → part_list bytes ≡ Ok parts → SaysListing name bytes (Ok parts)
 says_listing name bytes parts e = listing parts e refl
 
 pub ruleset listing_says = (says_no_listing, says_listing)

@@ -6,6 +6,7 @@ use Rattle.staat_vec.specs.declared.vector.V3.{V3}
 use Rattle.staat_model.specs.declared.assembly.Part.{Part}
 use Rattle.staat_model.specs.Assemblies.{IsAssembly, IsSound}
 use Rattle.staat_model.specs.Pieces.{IsPiece}
+use Rattle.staat_manifest.specs.declared.listing.ListedPart.{ListedPart}
 use Rattle.staat_off.specs.declared.raw.Raw.{Raw}
 use Rattle.staat_off.specs.Raws.{IsIndexed}
 use Rattle.staat_off.proofs.Bounds.{reading_bounded}
@@ -13,7 +14,7 @@ use Rattle.staat_manifest.proofs.Accepted.{within_bounds}
 use Rattle.staat_model.proofs.WallLaws as walls
 use Rattle.staat_mesh.specs.Judging.{Judges}
 use Rattle.staat_mesh.specs.Polygons.{mesh}
-use Rattle.staat_mesh.proofs.Making.{points_within}
+use Rattle.staat_mesh.proofs.MakeLemmas.{accepted_piece}
 use Rattle.staat_words.specs.Requests.{IsAsked, IsInput}
 use Rattle.staat_words.specs.declared.request.Input.{Input}
 use Rattle.staat_words.specs.declared.request.Input.TheVariants as inputs
@@ -22,7 +23,7 @@ use Rattle.staat_words.specs.declared.request.Request.{Request}
 use Rattle.staat_words.specs.declared.request.Request.TheVariants.{Pair, Look, Graph}
 use Rattle.staat_top.specs.declared.answer.Answer.{Answer}
 use Rattle.staat_top.specs.Work.{Files, Found, Each, to_read, too_long, taken}
-use Rattle.staat_top.specs.Inputs.{NamedPart, SaysListing, no_listing, listing, IsListingOf, IsPartOf, IsInputOf, part_of}
+use Rattle.staat_top.specs.Inputs.{alone, SaysListing, no_listing, listing, IsListingOf, IsPartOf, IsInputOf, part_of}
 use Rattle.staat_top.specs.Shapes.{AreRead, IsFew}
 use Rattle.staat_top.specs.Runs.{IsBounded}
 use Rattle.staat_top.proofs.InputLemmas.{assembly_read, listing_few, named_files, none_read}
@@ -32,23 +33,13 @@ use Rattle.staat_top.specs.Replies.{HasSoundParts, free, not_shown, answer, Work
 
 -- ---- pieces
 
--- what the rules of meshes give is a piece
-judged_piece : (raw : Raw) (p : List V3) → IsIndexed raw → Judges (mesh raw) (Ok p) → IsPiece p
-judged_piece raw p indexed j = subst IsPiece (sym j.by_rules.2.1.1.1) (record {
-  ascending = j.used.ascending;
-  at_least = j.by_rules.0;
-  at_most = j.by_rules.1;
-  within = points_within raw j.points indexed j.used;
-  solid = j.by_rules.2.0;
-})
-
 given_one : (p q : List V3) → ◌≡◌ {A = Found (List V3)} (Ok p) (Ok q) → q ≡ p
 given_one p q e = cc
 
 says_piece : (digits : ℕ) (name bytes : List ℕ) (p : List V3) → SaysPiece digits name bytes (Ok p) → IsPiece p
 says_piece digits name bytes p (no_file r re e) = absurd cc
 says_piece digits name bytes p (no_piece raw r re rj e) = absurd cc
-says_piece digits name bytes p (piece raw q re rj e) = subst IsPiece (given_one p q e) (judged_piece raw q (reading_bounded digits bytes raw re).indexed rj)
+says_piece digits name bytes p (piece raw q re rj e) = subst IsPiece (given_one p q e) (accepted_piece raw q (reading_bounded digits bytes raw re).indexed rj)
 
 -- what the step gives is a piece
 gives_piece : (files : Files) (digits : ℕ) (name : List ℕ) (p : List V3) → IsPieceOf files digits name (Ok p) → IsPiece p
@@ -70,35 +61,35 @@ pieces_read files digits (name ∷ names) pieces (inr (p, first, inr (ps, later,
     subst (λ (qs : List (List V3)). (length qs ≡ length (name ∷ names)) × All IsPiece qs) (sym same)
     (ap (λ n. suc n) rest.0, All-cons IsPiece p ps (gives_piece files digits name p first) rest.1)
 
-part_read : (files : Files) (digits : ℕ) (n : NamedPart) (part : Part) → IsPartOf files digits n (Ok part) → (length part.pieces ≡ length n.1) × All IsPiece part.pieces
+part_read : (files : Files) (digits : ℕ) (n : ListedPart) (part : Part) → IsPartOf files digits n (Ok part) → (length part.pieces ≡ length n.pieces) × All IsPiece part.pieces
 part_read files digits n part (inl (f, at, e)) = absurd cc
 part_read files digits n part (inr (pieces, each, e)) =
-    let same : part ≡ part_of n.0 pieces = cc in
-    subst (λ (q : Part). (length q.pieces ≡ length n.1) × All IsPiece q.pieces) (sym same) (pieces_read files digits n.1 pieces each)
+    let same : part ≡ part_of n.name pieces = cc in
+    subst (λ (q : Part). (length q.pieces ≡ length n.pieces) × All IsPiece q.pieces) (sym same) (pieces_read files digits n.pieces pieces each)
 
-parts_read : (files : Files) (digits : ℕ) (named : List NamedPart) (parts : List Part) → Each (IsPartOf files digits) named (Ok parts) → AreRead named parts
+parts_read : (files : Files) (digits : ℕ) (named : List ListedPart) (parts : List Part) → Each (IsPartOf files digits) named (Ok parts) → AreRead named parts
 parts_read files digits [] parts e = let same : parts ≡ [] = cc in subst (AreRead []) (sym same) none_read
 parts_read files digits (n ∷ named) parts (inl (f, at, e)) = absurd cc
 parts_read files digits (n ∷ named) parts (inr (part, first, inl (f, at, e))) = absurd cc
 parts_read files digits (n ∷ named) parts (inr (part, first, inr (others, later, e))) =
     let same : parts ≡ part ∷ others = cc in
-    let here : (length part.pieces ≡ length n.1) × All IsPiece part.pieces = part_read files digits n part first in
+    let here : (length part.pieces ≡ length n.pieces) × All IsPiece part.pieces = part_read files digits n part first in
     let rest : AreRead named others = parts_read files digits named others later in
     subst (AreRead (n ∷ named)) (sym same) (record {
       each = ap₂ (λ k ks. k ∷ ks) here.0 rest.each;
       pieces = All-cons (λ part. All IsPiece part.pieces) part others here.1 rest.pieces;
     })
 
-says_few : (name bytes : List ℕ) (named : List NamedPart) → SaysListing name bytes (Ok named) → IsFew named
+says_few : (name bytes : List ℕ) (named : List ListedPart) → SaysListing name bytes (Ok named) → IsFew named
 says_few name bytes named (no_listing r re e) = absurd cc
 says_few name bytes named (listing p pe e) = let same : named ≡ p = cc in subst IsFew (sym same) (listing_few p (within_bounds bytes (Ok p) pe))
 
-names_few : (files : Files) (input : Input) (named : List NamedPart) → IsInput input → IsListingOf files input (Ok named) → IsFew named
+names_few : (files : Files) (input : Input) (named : List ListedPart) → IsInput input → IsListingOf files input (Ok named) → IsFew named
 names_few files (inputs.Manifest name) named bounds (to_read e) = absurd cc
 names_few files (inputs.Manifest name) named bounds (too_long x xe xl e) = absurd cc
 names_few files (inputs.Manifest name) named bounds (taken x xe xs xt) = says_few name x named xt
 names_few files (inputs.Files names) named bounds e =
-    let same : named ≡ map (λ name. (name, name ∷ [])) names = cc in named_files names named bounds same
+    let same : named ≡ map alone names = cc in named_files names named bounds same
 
 -- what the step gives is an assembly
 input_assembly : (files : Files) (asked : Asked) (parts : List Part) → IsAsked asked → IsInputOf files asked (Ok parts) → IsAssembly parts

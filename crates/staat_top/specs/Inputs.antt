@@ -2,6 +2,8 @@
 use Rattle.std.specs.Prelude.{◌≡◌, ℕ, List, [], ◌∷◌, map, Ok, Err}
 use Rattle.staat_vec.specs.declared.vector.V3.{V3}
 use Rattle.staat_model.specs.declared.assembly.Part.{Part}
+use Rattle.staat_vec.specs.Vectors.{origin}
+use Rattle.staat_manifest.specs.declared.listing.ListedPart.{ListedPart}
 use Rattle.staat_manifest.specs.declared.refusal.ManifestRefusal.{ManifestRefusal}
 use Rattle.staat_manifest.specs.Rules.{part_list}
 use Rattle.staat_words.specs.declared.request.Asked.{Asked}
@@ -11,30 +13,30 @@ use Rattle.staat_top.specs.Work.{Files, Found, IsTaken, Then, Each}
 use Rattle.staat_top.specs.Refusals.{manifest_fault}
 use Rattle.staat_top.specs.Pieces.{IsPieceOf}
 
--- a part as it is named: its own name, and the names of its pieces' files
-abbrev pub NamedPart : Type 0
-NamedPart = List ℕ × List (List ℕ)
+-- the part of one piece that a file is by itself, with the file's name
+abbrev pub alone : List ℕ → ListedPart
+alone name = record { name = name; pieces = name ∷ []; at = origin }
 
 -- What the bytes of a part list say: it breaks a rule, or names these parts.
-pub data SaysListing (name bytes : List ℕ) : Found (List NamedPart) → Type 0 where
-  no_listing : {found : Found (List NamedPart)} (refusal : ManifestRefusal) → part_list bytes ≡ Err refusal →
+pub data SaysListing (name bytes : List ℕ) : Found (List ListedPart) → Type 0 where
+  no_listing : {found : Found (List ListedPart)} (refusal : ManifestRefusal) → part_list bytes ≡ Err refusal →
       found ≡ Err (manifest_fault name refusal) → SaysListing name bytes found
-  listing : {found : Found (List NamedPart)} (parts : List NamedPart) → part_list bytes ≡ Ok parts →
+  listing : {found : Found (List ListedPart)} (parts : List ListedPart) → part_list bytes ≡ Ok parts →
       found ≡ Ok parts → SaysListing name bytes found
 
--- What the step finds that learns the names. Without a part list each file is one part of one piece, with its name.
-abbrev pub IsListingOf : Files → Input → Found (List NamedPart) → Type 0
+-- What the step finds that learns the names. Without a part list each file is a part of its own.
+abbrev pub IsListingOf : Files → Input → Found (List ListedPart) → Type 0
 IsListingOf files (input.Manifest name) found = IsTaken files name (SaysListing name) found
-IsListingOf files (input.Files names) found = found ≡ Ok (map (λ name. (name, name ∷ [])) names)
+IsListingOf files (input.Files names) found = found ≡ Ok (map alone names)
 
 -- the part of that name with these pieces
 abbrev pub part_of : List ℕ → List (List V3) → Part
 part_of name pieces = record { name = name; pieces = pieces }
 
 -- what the step finds that reads the pieces of a part
-abbrev pub IsPartOf : Files → ℕ → NamedPart → Found Part → Type 0
+abbrev pub IsPartOf : Files → ℕ → ListedPart → Found Part → Type 0
 IsPartOf files digits named found =
-    Then (Each (IsPieceOf files digits) named.1) (λ pieces found. found ≡ Ok (part_of named.0 pieces)) found
+    Then (Each (IsPieceOf files digits) named.pieces) (λ pieces found. found ≡ Ok (part_of named.name pieces)) found
 
 -- What the step finds that reads the whole input: the names first, then each part's pieces. A file that is named twice
 -- is read twice.

@@ -3,16 +3,16 @@ use Rattle.std.specs.Prelude.{◌≡◌, ◌≤◌, List, length, map, sum_by, A
 use Rattle.staat_model.specs.declared.assembly.Part.{Part}
 use Rattle.staat_model.specs.declared.limits.TheConstants.{MOST_PARTS, MOST_PIECES}
 use Rattle.staat_model.specs.Pieces.{IsPiece}
-use Rattle.staat_top.specs.Inputs.{NamedPart}
+use Rattle.staat_manifest.specs.declared.listing.ListedPart.{ListedPart}
 
 -- as many parts and pieces as an assembly may have, and a piece or more in each part
-pub record IsFew (named : List NamedPart) : Type 0 where
+pub record IsFew (named : List ListedPart) : Type 0 where
   pub at_least : 1 ≤ length named
   pub at_most : length named ≤ MOST_PARTS
-  pub each : All (λ part. 1 ≤ length part.1) named
-  pub pieces : sum_by (λ part. length part.1) named ≤ MOST_PIECES
+  pub each : All (λ part. 1 ≤ length part.pieces) named
+  pub pieces : sum_by (λ part. length part.pieces) named ≤ MOST_PIECES
 
 -- each part has the pieces that were named for it, as many as there are names
-pub record AreRead (named : List NamedPart) (parts : List Part) : Type 0 where
-  pub each : map (λ part. length part.pieces) parts ≡ map (λ part. length part.1) named
+pub record AreRead (named : List ListedPart) (parts : List Part) : Type 0 where
+  pub each : map (λ part. length part.pieces) parts ≡ map (λ part. length part.pieces) named
   pub pieces : All (λ part. All IsPiece part.pieces) parts

@@ -1,38 +1,39 @@
 // The parts that an input names.
-ghost use Rattle.std.specs.Prelude.{◌≡◌, ◌≤◌, ◌∷◌, [], All, Some, IfOk, IfErr, length, map};
+ghost use Rattle.std.specs.Prelude.{◌≡◌, ◌≤◌, All, Some, IfOk, IfErr, length, map};
 ghost use Rattle.staat_off.specs.declared.raw.TheConstants.{MOST_DIGITS};
 ghost use Rattle.staat_model.specs.Pieces.{IsPiece};
 ghost use Rattle.staat_words.specs.Requests.{IsAsked, IsInput};
 ghost use Rattle.staat_top.specs.Work.{Each, Files, Follows, IsTaken};
 ghost use Rattle.staat_top.specs.Pieces.{IsPieceOf};
-ghost use Rattle.staat_top.specs.Inputs.{IsInputOf, IsListingOf, IsPartOf, SaysListing};
+ghost use Rattle.staat_top.specs.Inputs.{alone, IsInputOf, IsListingOf, IsPartOf, SaysListing};
 ghost use Rattle.staat_top.specs.Shapes.{AreRead, IsFew};
 ghost use Rattle.staat_top.specs.Runs.{HasCause, ShelfSide, over};
 
-use crate::read::{copy_of, read_file, read_piece};
+use crate::read::{read_file, read_piece};
 use crate::refusals::manifest_fault;
 use staat_edge::Shelf;
 use staat_fault::Fault;
-use staat_manifest::{Listing, read_manifest};
+use staat_manifest::{ListedPart, Listing, read_manifest};
 use staat_model::{Assembly, Part, Parts, Piece, Pieces};
-use staat_vec::{Name, Names};
+use staat_vec::{Name, Names, ORIGIN};
 use staat_words::{Asked, Input};
 use std::alloc::{AllocError, Global};
 
 // The part of one piece that a file is.
-fn one_file(alloc: Global, name: &Name) -> Result<(Name, Names), AllocError>
-    ensures { IfOk result (λ named. named ≡ (name.now, name.now ∷ [])) }
+fn one_file(alloc: Global, name: &Name) -> Result<ListedPart, AllocError>
+    ensures { IfOk result (λ part. part ≡ alone name.now) }
 {
-    let file = copy_of(alloc, name)?;
-    Ok((
-        copy_of(alloc, name)?,
-        Names::from_vec(Vec::from_array(alloc, [file])?),
-    ))
+    let file = name.copied(alloc)?;
+    Ok(ListedPart {
+        name: name.copied(alloc)?,
+        pieces: Names::from_vec(Vec::from_array(alloc, [file])?),
+        at: ORIGIN,
+    })
 }
 
 // The parts that files are, each of one piece.
 fn parts_of_files(alloc: Global, names: &[Name]) -> Result<Listing, AllocError>
-    ensures { IfOk result (λ listing. listing ≡ map (λ name. (name, name ∷ [])) names.now) }
+    ensures { IfOk result (λ listing. listing ≡ map alone names.now) }
 {
     let mut listing = Vec::with_capacity(alloc, names.len())?;
     for name in names {
@@ -50,7 +51,7 @@ fn listing_in(alloc: Global, bytes: &[u8], name: &Name) -> Result<Listing, Fault
 {
     match read_manifest(alloc, bytes) {
         Ok(listing) => Ok(listing),
-        Err(refusal) => Err(manifest_fault(copy_of(alloc, name)?, refusal)),
+        Err(refusal) => Err(manifest_fault(name.copied(alloc)?, refusal)),
     }
 }
 
@@ -121,18 +122,18 @@ fn read_part<H: Shelf>(
     alloc: Global,
     digits: u32,
     shelf: &mut H,
-    named: &(Name, Names),
+    named: &ListedPart,
 ) -> Result<Part, Fault>
     requires { digits ≤ MOST_DIGITS }
     ensures holds { (H.told shelf.new).holds ≡ (H.told shelf.old).holds }
     ensures count { (H.told shelf.old).faults ≤ (H.told shelf.new).faults }
     ensures found { (files : Files) → (H.told shelf.old).holds ≡ Some files → Follows (IsPartOf files digits named.now) result }
     ensures pieces { IfOk result (λ part. All IsPiece part.pieces) }
-    ensures each { IfOk result (λ part. length part.pieces ≡ length named.now.1) }
+    ensures each { IfOk result (λ part. length part.pieces ≡ length named.now.pieces) }
     ensures cause { IfErr result (HasCause (over (H.told shelf.old) (H.told shelf.new))) }
 {
-    let name = copy_of(alloc, &named.0)?;
-    let pieces = read_pieces(alloc, digits, shelf, named.1.as_slice())?;
+    let name = named.name.copied(alloc)?;
+    let pieces = read_pieces(alloc, digits, shelf, named.pieces.as_slice())?;
     Ok(Part { name, pieces })
 }
 
@@ -141,7 +142,7 @@ fn read_parts<H: Shelf>(
     alloc: Global,
     digits: u32,
     shelf: &mut H,
-    listing: &[(Name, Names)],
+    listing: &[ListedPart],
 ) -> Result<Parts, Fault>
     requires { digits ≤ MOST_DIGITS }
     ensures holds { (H.told shelf.new).holds ≡ (H.told shelf.old).holds }

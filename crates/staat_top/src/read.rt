@@ -13,17 +13,10 @@ use staat_mesh::make_piece;
 use staat_model::Piece;
 use staat_off::read_off;
 use staat_vec::{Bytes, Name};
-use std::alloc::{AllocError, Global};
+use std::alloc::Global;
 
 /// How many bytes a file of points or a part list may have.
 pub const FILE_LIMIT: usize = 1_048_576;
-
-/// A copy of a name.
-pub fn copy_of(alloc: Global, name: &Name) -> Result<Name, AllocError>
-    ensures { IfOk result (λ copy. copy ≡ name.now) }
-{
-    Ok(Name::from_string(String::from_str(alloc, name.as_str())?))
-}
 
 /// The bytes of a whole file.
 pub fn read_file<H: Shelf>(alloc: Global, shelf: &mut H, name: &Name) -> Result<Bytes, Fault>
@@ -36,8 +29,8 @@ pub fn read_file<H: Shelf>(alloc: Global, shelf: &mut H, name: &Name) -> Result<
 {
     match read_whole(alloc, shelf, name.as_str(), FILE_LIMIT) {
         Ok(bytes) => Ok(bytes),
-        Err(ReadRefusal::ReadFault) => Err(Fault::ReadFault(copy_of(alloc, name)?)),
-        Err(ReadRefusal::TooLong) => Err(Fault::TooLong(copy_of(alloc, name)?)),
+        Err(ReadRefusal::ReadFault) => Err(Fault::ReadFault(name.copied(alloc)?)),
+        Err(ReadRefusal::TooLong) => Err(Fault::TooLong(name.copied(alloc)?)),
         Err(ReadRefusal::OutOfMemory) => Err(Fault::OutOfMemory),
     }
 }
@@ -51,11 +44,11 @@ fn piece_in(alloc: Global, digits: u32, bytes: &[u8], name: &Name) -> Result<Pie
 {
     let raw = match read_off(alloc, bytes, digits) {
         Ok(raw) => raw,
-        Err(refusal) => return Err(off_fault(copy_of(alloc, name)?, refusal)),
+        Err(refusal) => return Err(off_fault(name.copied(alloc)?, refusal)),
     };
     match make_piece(alloc, &raw) {
         Ok(piece) => Ok(piece),
-        Err(refusal) => Err(mesh_fault(copy_of(alloc, name)?, refusal)),
+        Err(refusal) => Err(mesh_fault(name.copied(alloc)?, refusal)),
     }
 }
 

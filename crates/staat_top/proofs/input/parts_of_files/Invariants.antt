@@ -1,5 +1,6 @@
-use Rattle.std.proofs.Common.{◌≡◌, [], ◌∷◌, map, take}
+use Rattle.std.proofs.Common.{◌≡◌, map, take}
+use Rattle.staat_top.specs.Inputs.{alone}
 use Rattle.staat_top.proofs.input.parts_of_files.Given as goal
 
 abbrev pub invariant-loop-name : goal.invariant-loop-name
-invariant-loop-name l = l.listing.items ≡ map (λ name. (name, name ∷ [])) (take l.name-index l.names)
+invariant-loop-name l = l.listing.items ≡ map alone (take l.name-index l.names)
