@@ -1,8 +1,9 @@
 -- What a shelf and a sink tell of themselves.
 use Rattle.std.specs.Prelude.{ℕ, List, Option}
 
--- Where the shelf tells what it holds: each file's name and bytes, the name of the open file, and the held file at which
--- a call failed last. In any case: how often it has failed, and the place in the open file, how many of its bytes were read.
+-- Where the shelf tells what it holds: each file's name and bytes, the name of the open file, and the held file at
+-- which a call failed last. In any case: how often it has failed, and the place in the open file, which is how many of
+-- its bytes were read.
 pub record ShelfTold : Type 0 where
   pub holds : Option (List (List ℕ × List ℕ))
   pub faults : ℕ

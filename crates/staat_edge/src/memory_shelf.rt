@@ -110,11 +110,11 @@ impl MemoryShelf {
 
 impl Shelf for MemoryShelf {
     ghost told = { λ s. record {
-        holds = Some s.files;
-        faults = s.schedule.faults;
-        failed = name_of_file s.files s.failed;
-        opened = name_of_file s.files (option_map (λ at. at.0) s.current);
-        place = option_map (λ at. at.1) s.current
+      holds = Some s.files;
+      faults = s.schedule.faults;
+      failed = name_of_file s.files s.failed;
+      opened = name_of_file s.files (option_map (λ at. at.0) s.current);
+      place = option_map (λ at. at.1) s.current;
     } };
 
     ghost left = { λ s. left_at s.files s.current };
@@ -166,9 +166,11 @@ impl Shelf for MemoryShelf {
         Ok(count)
     }
 
-    ghost use Rattle.staat_edge.specs.Held.{left_is_told, no_name, no_untold};
+    ghost use Rattle.staat_edge.specs.Held.{held_in, left_is_told, no_name, no_untold};
 
     ghost left_is = { λ s. left_is_told s.files s.current s.known };
+
+    ghost held_is = { λ s held same place is_open. held_in s.files held s.current s.known same place is_open };
 
     ghost closed_is = { λ s. no_name s.files s.current };
 

@@ -1,8 +1,8 @@
 // A shelf of files.
-ghost use Rattle.std.specs.Prelude.{◌≡◌, ◌≤◌, ◌<◌, ◌+◌, ◌⊎◌, ℕ, Bool, List, length, Option, Some, None, Result, IsSome, IsErr, is_err, OnOk, OnErr, IfOk, MatchResult, option_map, ⊤};
+ghost use Rattle.std.specs.Prelude.{◌≡◌, ◌≤◌, ◌<◌, ◌+◌, ◌⊎◌, ℕ, Bool, List, length, Option, Some, None, Result, IsSome, IsSomeAnd, IsErr, is_err, OnOk, OnErr, IfOk, MatchResult, option_map, ⊤};
 ghost use Rattle.std.specs.Io.KnownBytes.{ReadConsumes};
 ghost use Rattle.staat_edge.specs.Causes.{Rose};
-ghost use Rattle.staat_edge.specs.Files.{content_of, Lacks, told_name, left_of, failed_at, held_name};
+ghost use Rattle.staat_edge.specs.Files.{bytes_of, content_of, Lacks, told_name, left_of, failed_at, held_name};
 ghost use Rattle.staat_edge.specs.Told.{ShelfTold};
 ghost use Rattle.staat_edge.specs.declared.shelf.Failed.{Failed};
 
@@ -76,6 +76,10 @@ pub trait Shelf {
 
     /// What is left is told by what the shelf holds, the open file's name and the place.
     ghost left_is: { (s : Self) → left s ≡ left_of (told s).holds (told s).opened (told s).place };
+
+    /// Where the shelf tells what it holds and a file is open, it tells the name of a held file.
+    ghost held_is: { (s : Self) (files : List (List ℕ × List ℕ)) → (told s).holds ≡ Some files →
+        (place : ℕ) → (told s).place ≡ Some place → IsSomeAnd (told s).opened (λ name. IsSome (bytes_of name files)) };
 
     /// Where no file is open, the shelf tells no name of one.
     ghost closed_is: { (s : Self) → (told s).place ≡ None → (told s).opened ≡ None };

@@ -5,9 +5,9 @@ use crate::{
 };
 use staat_vec::{Bytes, Name};
 use std::alloc::{AllocError, Global};
-use std::io;
 use std::io::Write;
 use std::test::Fail;
+use std::{fs, io};
 
 fn file(alloc: Global, name: &str, text: &[u8]) -> Result<(Name, Bytes), AllocError> {
     let name = Name::from_string(String::from_str(alloc, name)?);
@@ -134,8 +134,37 @@ fn a_stream_is_flushed_after_each_write(rt: HostRuntime) -> Result<(), Fail> {
     Ok(())
 }
 
+// A file at the limit, one past it, one that is not there after one that is, and the first again: each opening gives its
+// own file or none.
 #[test]
-fn a_file_that_is_not_there_is_a_fault_of_the_disk(rt: HostRuntime) {
+fn a_disk_gives_the_file_that_was_opened_last(rt: HostRuntime) -> Result<(), Fail> {
+    let alloc = rt.alloc();
+    let one = "staat_edge_test_one";
+    let other = "staat_edge_test_other";
+    assert!(rt; fs::write(&rt, one, "hello").is_ok());
+    assert!(rt; fs::write(&rt, other, "other").is_ok());
     let mut shelf = DiskShelf::new(&rt);
-    assert!(rt; shelf.open("no such folder/no such file").is_err());
+    let table: [(&str, usize, Result<&[u8], ReadRefusal>); 6] = [
+        (one, 5, Ok(b"hello")),
+        (one, 4, Err(ReadRefusal::TooLong)),
+        (other, 5, Ok(b"other")),
+        (
+            "no such folder/no such file",
+            5,
+            Err(ReadRefusal::ReadFault),
+        ),
+        (one, 5, Ok(b"hello")),
+        ("", 5, Err(ReadRefusal::ReadFault)),
+    ];
+    for (name, limit, want) in table {
+        let got = read_whole(alloc, &mut shelf, name, limit);
+        match (&got, want) {
+            (Ok(bytes), Ok(want)) => assert_eq!(rt; bytes.as_slice(), want),
+            (Err(refusal), Err(want)) => assert_eq!(rt; *refusal, want),
+            _ => assert!(rt; false, "{name} at most {limit}"),
+        }
+    }
+    assert!(rt; fs::remove_file(&rt, one).is_ok());
+    assert!(rt; fs::remove_file(&rt, other).is_ok());
+    Ok(())
 }

@@ -72,7 +72,7 @@ settled_fault X Y (ReadFault name) h = h
 settled_fault X Y f h = tt
 
 fault_one : (X Y : Type 0) (f g : Fault) → ◌≡◌ {A = Found X} (Err f) (Err g) → ◌≡◌ {A = Found Y} (Err f) (Err g)
-fault_one X Y f g e = ap (λ h. Err h) (fault_of f g (sym e) )
+fault_one X Y f g e = ap (λ h. Err h) (fault_of f g (sym e))
 
 -- two steps as one
 pub then_one : {X Y : Type 0} (files : Files) (First : Found X → Type 0) (Second : X → Found Y → Type 0) → FindsOne files First → ((x : X) → FindsOne files (Second x)) → FindsOne files (Then First Second)

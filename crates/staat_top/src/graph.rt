@@ -40,7 +40,11 @@ fn graphed(
 }
 
 /// The answer to the command `graph`: the arcs of the blocking graph along a direction, and its strong groups.
-pub fn graph<H: Shelf>(alloc: Global, request: &GraphRequest, shelf: &mut H) -> Result<Answer, Fault>
+pub fn graph<H: Shelf>(
+    alloc: Global,
+    request: &GraphRequest,
+    shelf: &mut H,
+) -> Result<Answer, Fault>
     requires { IsGraphRequest request.now }
     ensures holds { (H.told shelf.new).holds ≡ (H.told shelf.old).holds }
     ensures count { (H.told shelf.old).faults ≤ (H.told shelf.new).faults }

@@ -274,27 +274,6 @@ fn a_file_is_refused_by_the_first_fault_in_it(rt: HostRuntime) -> Result<(), Fai
     Ok(())
 }
 
-// Each file takes three calls: one that opens it, one that reads its bytes and one that finds its end.
-#[test]
-fn a_failing_shelf_is_told_by_the_file_at_which_it_failed(rt: HostRuntime) -> Result<(), Fail> {
-    let alloc = rt.alloc();
-    for call in 0..7 {
-        let mut shelf = shelf(alloc, CUBE, call)?;
-        let mut out = sink(alloc, 64, NEVER, 64)?;
-        let mut err = sink(alloc, 64, NEVER, 64)?;
-        let got = staat(alloc, &words(alloc, &FREE)?, &mut shelf, &mut out, &mut err);
-        let (status, out_text, err_text) = match call {
-            0..3 => (5, "", "staat: cannot read a.off\n"),
-            3..6 => (5, "", "staat: cannot read b.off\n"),
-            _ => (0, "free\n", ""),
-        };
-        assert_eq!(rt; got, status, "where call {call} fails");
-        assert_eq!(rt; out.taken(), out_text.as_bytes());
-        assert_eq!(rt; err.taken(), err_text.as_bytes());
-    }
-    Ok(())
-}
-
 // How much room the two sinks have, which call of each fails, how many bytes they take at a time, and what they hold
 // at the end.
 #[test]
@@ -502,24 +481,74 @@ fn the_parts_of_an_input_are_listed(rt: HostRuntime) -> Result<(), Fail> {
     Ok(())
 }
 
-// The part list is read first, and a file that is named twice is read twice.
+// The files that each command reads, in their order, each of them once for each time that it is named: a pipe that was
+// read is empty. A file takes three calls of the shelf: one that opens it, one that reads its bytes and one that finds its
+// end. The call that fails is told by its file, and there are no calls but these.
 #[test]
-fn a_fault_names_the_file_of_the_input_that_was_read(rt: HostRuntime) -> Result<(), Fail> {
+fn each_command_reads_a_file_as_often_as_it_is_named(rt: HostRuntime) -> Result<(), Fail> {
     let alloc = rt.alloc();
-    for call in 0..13 {
-        let mut shelf = shelf_of(alloc, &HELD, call)?;
+    let table: [(&[&str], &[&str]); 4] = [
+        (&FREE, &["a.off", "b.off"]),
+        (&["look", "b.off", "a.off"], &["b.off", "a.off"]),
+        (
+            &["look", "--manifest=m.json"],
+            &["m.json", "a.off", "b.off", "b.off"],
+        ),
+        (
+            &["graph", "--along=0,0,1", "--manifest=dovetail.json"],
+            &[
+                "dovetail.json",
+                "tail.off",
+                "base.off",
+                "right.off",
+                "left.off",
+            ],
+        ),
+    ];
+    for (list, files) in table {
+        for call in 0..3 * files.len() + 1 {
+            let mut shelf = shelf_of(alloc, &HELD, call as u64)?;
+            let mut out = sink(alloc, 128, NEVER, 64)?;
+            let mut err = sink(alloc, 64, NEVER, 64)?;
+            let got = staat(alloc, &words(alloc, list)?, &mut shelf, &mut out, &mut err);
+            match files.get(call / 3) {
+                Some(name) => {
+                    let line = format!(in alloc; "staat: cannot read {name}\n")?;
+                    assert_eq!(rt; got, 5, "where call {call} of {list:?} fails");
+                    assert_eq!(rt; err.taken(), line.as_bytes());
+                    assert_eq!(rt; out.taken(), b"".as_slice());
+                }
+                None => assert_eq!(rt; got, 0, "where no call of {list:?} fails"),
+            }
+        }
+    }
+    Ok(())
+}
+
+// Want of memory is free in every clause: with ample memory a large input is answered.
+#[test]
+fn each_command_answers_a_large_input(rt: HostRuntime) -> Result<(), Fail> {
+    let alloc = rt.alloc();
+    let mut large = CUBE.to_vec(alloc)?;
+    large.extend_from_slice(&vec![in alloc; b' '; 1_048_000]?)?;
+    let table: [(&[&str], &str); 3] = [
+        (&FREE, "free\n"),
+        (
+            &["look", "a.off", "b.off"],
+            "part 0 pieces 1 points 8 name a.off\npart 1 pieces 1 points 8 name b.off\nsound\n",
+        ),
+        (
+            &["graph", "--along=0,1,0", "a.off", "b.off"],
+            "along 0 1 0\ngroup 0\ngroup 1\n",
+        ),
+    ];
+    for (list, text) in table {
+        let mut shelf = shelf(alloc, &large, NEVER)?;
         let mut out = sink(alloc, 128, NEVER, 64)?;
         let mut err = sink(alloc, 64, NEVER, 64)?;
-        let list = ["look", "--manifest=m.json"];
-        let got = staat(alloc, &words(alloc, &list)?, &mut shelf, &mut out, &mut err);
-        let (status, err_text) = match call {
-            0..3 => (5, "staat: cannot read m.json\n"),
-            3..6 => (5, "staat: cannot read a.off\n"),
-            6..12 => (5, "staat: cannot read b.off\n"),
-            _ => (0, ""),
-        };
-        assert_eq!(rt; got, status, "where call {call} fails");
-        assert_eq!(rt; err.taken(), err_text.as_bytes());
+        let got = staat(alloc, &words(alloc, list)?, &mut shelf, &mut out, &mut err);
+        assert_eq!(rt; got, 0, "at {list:?}");
+        assert_eq!(rt; out.taken(), text.as_bytes());
     }
     Ok(())
 }

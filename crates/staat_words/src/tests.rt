@@ -98,8 +98,14 @@ fn words_are_taken_or_a_usage_fault(rt: HostRuntime) -> Result<(), Fail> {
         (&["look", "help"], true),
         (&["graph", "a", "--along=0,0,1", "b"], true),
         (&["graph", "--manifest=m", "--along=-1,0,0"], true),
-        (&["graph", "a", "--along=2417851639229258349412352,0,0"], true),
-        (&["graph", "a", "--along=2417851639229258349412353,0,0"], false),
+        (
+            &["graph", "a", "--along=2417851639229258349412352,0,0"],
+            true,
+        ),
+        (
+            &["graph", "a", "--along=2417851639229258349412353,0,0"],
+            false,
+        ),
         (&["graph", "a", "b"], false),
         (&["graph", "a", "--along=0,0,0"], false),
         (&["graph", "a", "--along", "-1,0,0"], false),
