@@ -8,6 +8,8 @@ use Rattle.std.proofs.lemmas.List.Sums.{sum_by-cons}
 use Rattle.staat_edge.specs.Causes.{Rose}
 use Rattle.staat_edge.specs.Files.{Lacks, held_name, told_name}
 use Rattle.staat_edge.specs.Told.{ShelfTold}
+use Rattle.staat_vec.specs.declared.vector.TheConstants.{POINT}
+use Rattle.staat_vec.specs.Vectors.{IsWithin, origin}
 use Rattle.staat_model.specs.declared.assembly.Part.{Part}
 use Rattle.staat_model.specs.declared.limits.TheConstants.{MOST_PARTS, MOST_PIECES}
 use Rattle.staat_model.specs.Assemblies.{IsAssembly, IsPart}
@@ -148,12 +150,20 @@ files_few names some most = record {
   at_least = subst (λ k. 1 ≤ k) (sym (length-map names alone)) some;
   at_most = subst (λ k. k ≤ MOST_PARTS) (sym (length-map names alone)) most;
   each = singles names;
+  placed = still names;
   pieces = omega (arith, counted names, most);
 }
   where
     singles : (names : List (List ℕ)) → All (λ (part : ListedPart). 1 ≤ length part.pieces) (map alone names)
     singles [] = All-nil (λ (part : ListedPart). 1 ≤ length part.pieces)
     singles (name ∷ names) = All-cons (λ (part : ListedPart). 1 ≤ length part.pieces) (alone name) (map alone names) (lit≤ tt) (singles names)
+
+    there : IsWithin POINT origin
+    there = record { x = omega arith; y = omega arith; z = omega arith }
+
+    still : (names : List (List ℕ)) → All (λ (part : ListedPart). IsWithin POINT part.at) (map alone names)
+    still [] = All-nil (λ (part : ListedPart). IsWithin POINT part.at)
+    still (name ∷ names) = All-cons (λ (part : ListedPart). IsWithin POINT part.at) (alone name) (map alone names) there (still names)
 
     counted : (names : List (List ℕ)) → sum_by (λ (part : ListedPart). length part.pieces) (map alone names) ≡ length names
     counted [] = refl
@@ -163,4 +173,4 @@ pub named_files : (names : List (List ℕ)) (named : List ListedPart) → (1 ≤
 named_files names named (some, most) e = subst IsFew (sym e) (files_few names some most)
 
 pub listing_few : (named : List ListedPart) → IsListing named → IsFew named
-listing_few named l = record { at_least = l.at_least; at_most = l.at_most; each = l.each; pieces = l.pieces }
+listing_few named l = record { at_least = l.at_least; at_most = l.at_most; each = l.each; placed = l.placed; pieces = l.pieces }

@@ -1,4 +1,5 @@
 pub mod ReadLemmas
+pub mod MovedLemmas
 pub mod PairLemmas
 pub mod OneReply
 pub mod RightLemmas

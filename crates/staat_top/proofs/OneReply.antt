@@ -39,6 +39,8 @@ use Rattle.staat_top.specs.declared.answer.Answer.{Answer}
 use Rattle.staat_top.specs.Work.{Files, Found, Then, Each, IsTaken, to_read, too_long, taken}
 use Rattle.staat_top.specs.Refusals.{off_fault, mesh_fault, manifest_fault}
 use Rattle.staat_top.specs.Pieces.{IsPieceOf, SaysPiece, no_file, no_piece, piece}
+use Rattle.staat_top.specs.Moved.{IsMovedPieceOf, MovesPiece, moved, too_far}
+use Rattle.staat_top.proofs.MovedLemmas.{far_not_within}
 use Rattle.staat_top.specs.Inputs.{SaysListing, no_listing, listing, IsListingOf, IsPartOf, IsInputOf, part_of}
 use Rattle.staat_top.specs.Assembling.{IsTested, overlapping, sound, IsSoundOf}
 use Rattle.staat_top.specs.Graphing.{AreCounted, IsGraphed, all_parts, few, too_many}
@@ -221,6 +223,22 @@ piece_saying digits name = record { one = one; no_read = no_read }
 piece_one : (files : Files) (digits : ℕ) (name : List ℕ) → FindsOne files (IsPieceOf files digits name)
 piece_one files digits name = taken_one files name (SaysPiece digits name) (piece_saying digits name)
 
+moves_one : (files : Files) (name : List ℕ) (at : V3) (points : List V3) → FindsOne files (MovesPiece name at points)
+moves_one files name at points = record { one = λ f g a b sf sg. one f g a b; held = λ n f step lacks other settled. no_read n step }
+  where
+    one : (f g : Found (List V3)) → MovesPiece name at points f → MovesPiece name at points g → f ≡ g
+    one f g (too_far a e) (too_far b d) = e ∙ sym d
+    one f g (too_far a e) (moved b d) = absurd (far_not_within at points a b)
+    one f g (moved a e) (too_far b d) = absurd (far_not_within at points b a)
+    one f g (moved a e) (moved b d) = e ∙ sym d
+
+    no_read : (n : List ℕ) → MovesPiece name at points (Err (ReadFault n)) → ⊥
+    no_read n (too_far a e) = absurd cc
+    no_read n (moved a e) = absurd cc
+
+moved_one : (files : Files) (digits : ℕ) (at : V3) (name : List ℕ) → FindsOne files (IsMovedPieceOf files digits at name)
+moved_one files digits at name = then_one files (IsPieceOf files digits name) (MovesPiece name at) (piece_one files digits name) (moves_one files name at)
+
 listing_saying : (name : List ℕ) → IsSaying (SaysListing name)
 listing_saying name = record { one = one; no_read = no_read }
   where
@@ -241,7 +259,7 @@ listing_one files (input.Manifest name) = taken_one files name (SaysListing name
 listing_one files (input.Files names) = known_one files _
 
 part_one : (files : Files) (digits : ℕ) (named : ListedPart) → FindsOne files (IsPartOf files digits named)
-part_one files digits named = then_one files (Each (IsPieceOf files digits) named.pieces) _ (each_one files (IsPieceOf files digits) (piece_one files digits) named.pieces) (λ pieces. known_one files (part_of named.name pieces))
+part_one files digits named = then_one files (Each (IsMovedPieceOf files digits named.at) named.pieces) _ (each_one files (IsMovedPieceOf files digits named.at) (moved_one files digits named.at) named.pieces) (λ pieces. known_one files (part_of named.name pieces))
 
 input_one : (files : Files) (asked : Asked) → FindsOne files (IsInputOf files asked)
 input_one files asked = then_one files (IsListingOf files asked.input) _ (listing_one files asked.input) (each_one files (IsPartOf files asked.digits) (part_one files asked.digits))

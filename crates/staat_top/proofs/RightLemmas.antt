@@ -28,6 +28,9 @@ use Rattle.staat_top.specs.Shapes.{AreRead, IsFew}
 use Rattle.staat_top.specs.Runs.{IsBounded}
 use Rattle.staat_top.proofs.InputLemmas.{assembly_read, listing_few, named_files, none_read}
 use Rattle.staat_top.specs.Pieces.{IsPieceOf, SaysPiece, no_file, no_piece, piece}
+use Rattle.staat_top.specs.Moved.{IsMovedPieceOf, moved, too_far}
+use Rattle.staat_asm.specs.Placing.{shifted}
+use Rattle.staat_asm.proofs.PlacingLemmas.{shifted_piece}
 use Rattle.staat_top.specs.Assembling.{IsTested, overlapping, sound, IsSoundOf}
 use Rattle.staat_top.specs.Replies.{HasSoundParts, free, not_shown, answer, WorkOnWords, IsRight}
 
@@ -47,25 +50,31 @@ gives_piece files digits name p (to_read e) = absurd cc
 gives_piece files digits name p (too_long x xe xl e) = absurd cc
 gives_piece files digits name p (taken x xe xs xt) = says_piece digits name x p xt
 
+-- what the step gives that moves it is one too
+gives_moved : (files : Files) (digits : ℕ) (at : V3) (name : List ℕ) (p : List V3) → IsMovedPieceOf files digits at name (Ok p) → IsPiece p
+gives_moved files digits at name p (inl (f, found, e)) = absurd cc
+gives_moved files digits at name p (inr (q, first, too_far far e)) = absurd cc
+gives_moved files digits at name p (inr (q, first, moved within e)) = subst IsPiece (given_one p (shifted at q) e) (shifted_piece at q (gives_piece files digits name q first) within)
+
 -- ---- assemblies
 
-pieces_read : (files : Files) (digits : ℕ) (names : List (List ℕ)) (pieces : List (List V3)) → Each (IsPieceOf files digits) names (Ok pieces) → (length pieces ≡ length names) × All IsPiece pieces
-pieces_read files digits [] pieces e =
+pieces_read : (files : Files) (digits : ℕ) (at : V3) (names : List (List ℕ)) (pieces : List (List V3)) → Each (IsMovedPieceOf files digits at) names (Ok pieces) → (length pieces ≡ length names) × All IsPiece pieces
+pieces_read files digits at [] pieces e =
     let same : pieces ≡ [] = cc in
     subst (λ (ps : List (List V3)). (length ps ≡ 0) × All IsPiece ps) (sym same) (refl, All-nil IsPiece)
-pieces_read files digits (name ∷ names) pieces (inl (f, at, e)) = absurd cc
-pieces_read files digits (name ∷ names) pieces (inr (p, first, inl (f, at, e))) = absurd cc
-pieces_read files digits (name ∷ names) pieces (inr (p, first, inr (ps, later, e))) =
+pieces_read files digits at (name ∷ names) pieces (inl (f, found, e)) = absurd cc
+pieces_read files digits at (name ∷ names) pieces (inr (p, first, inl (f, found, e))) = absurd cc
+pieces_read files digits at (name ∷ names) pieces (inr (p, first, inr (ps, later, e))) =
     let same : pieces ≡ p ∷ ps = cc in
-    let rest : (length ps ≡ length names) × All IsPiece ps = pieces_read files digits names ps later in
+    let rest : (length ps ≡ length names) × All IsPiece ps = pieces_read files digits at names ps later in
     subst (λ (qs : List (List V3)). (length qs ≡ length (name ∷ names)) × All IsPiece qs) (sym same)
-    (ap (λ n. suc n) rest.0, All-cons IsPiece p ps (gives_piece files digits name p first) rest.1)
+    (ap (λ n. suc n) rest.0, All-cons IsPiece p ps (gives_moved files digits at name p first) rest.1)
 
 part_read : (files : Files) (digits : ℕ) (n : ListedPart) (part : Part) → IsPartOf files digits n (Ok part) → (length part.pieces ≡ length n.pieces) × All IsPiece part.pieces
-part_read files digits n part (inl (f, at, e)) = absurd cc
+part_read files digits n part (inl (f, found, e)) = absurd cc
 part_read files digits n part (inr (pieces, each, e)) =
     let same : part ≡ part_of n.name pieces = cc in
-    subst (λ (q : Part). (length q.pieces ≡ length n.pieces) × All IsPiece q.pieces) (sym same) (pieces_read files digits n.pieces pieces each)
+    subst (λ (q : Part). (length q.pieces ≡ length n.pieces) × All IsPiece q.pieces) (sym same) (pieces_read files digits n.at n.pieces pieces each)
 
 parts_read : (files : Files) (digits : ℕ) (named : List ListedPart) (parts : List Part) → Each (IsPartOf files digits) named (Ok parts) → AreRead named parts
 parts_read files digits [] parts e = let same : parts ≡ [] = cc in subst (AreRead []) (sym same) none_read

@@ -11,7 +11,7 @@ use Rattle.staat_words.specs.declared.request.Input.{Input}
 use Rattle.staat_words.specs.declared.request.Input.TheVariants as input
 use Rattle.staat_top.specs.Work.{Files, Found, IsTaken, Then, Each}
 use Rattle.staat_top.specs.Refusals.{manifest_fault}
-use Rattle.staat_top.specs.Pieces.{IsPieceOf}
+use Rattle.staat_top.specs.Moved.{IsMovedPieceOf}
 
 -- the part of one piece that a file is by itself, with the file's name
 abbrev pub alone : List ℕ → ListedPart
@@ -33,10 +33,11 @@ IsListingOf files (input.Files names) found = found ≡ Ok (map alone names)
 abbrev pub part_of : List ℕ → List (List V3) → Part
 part_of name pieces = record { name = name; pieces = pieces }
 
--- what the step finds that reads the pieces of a part
+-- what the step finds that reads the pieces of a part and moves them by its vector
 abbrev pub IsPartOf : Files → ℕ → ListedPart → Found Part → Type 0
 IsPartOf files digits named found =
-    Then (Each (IsPieceOf files digits) named.pieces) (λ pieces found. found ≡ Ok (part_of named.name pieces)) found
+    Then (Each (IsMovedPieceOf files digits named.at) named.pieces)
+    (λ pieces found. found ≡ Ok (part_of named.name pieces)) found
 
 -- What the step finds that reads the whole input: the names first, then each part's pieces. A file that is named twice
 -- is read twice.

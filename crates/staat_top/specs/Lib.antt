@@ -1,6 +1,7 @@
 pub mod Work
 pub mod Refusals
 pub mod Pieces
+pub mod Moved
 pub mod Inputs
 pub mod Shapes
 pub mod Assembling

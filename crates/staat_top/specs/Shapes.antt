@@ -1,15 +1,19 @@
 -- What is known of names and of parts before it is known which files they come from.
 use Rattle.std.specs.Prelude.{◌≡◌, ◌≤◌, List, length, map, sum_by, All}
+use Rattle.staat_vec.specs.declared.vector.TheConstants.{POINT}
+use Rattle.staat_vec.specs.Vectors.{IsWithin}
 use Rattle.staat_model.specs.declared.assembly.Part.{Part}
 use Rattle.staat_model.specs.declared.limits.TheConstants.{MOST_PARTS, MOST_PIECES}
 use Rattle.staat_model.specs.Pieces.{IsPiece}
 use Rattle.staat_manifest.specs.declared.listing.ListedPart.{ListedPart}
 
--- as many parts and pieces as an assembly may have, and a piece or more in each part
+-- as many parts and pieces as an assembly may have, a piece or more in each part, and no part moved by more than a
+-- coordinate
 pub record IsFew (named : List ListedPart) : Type 0 where
   pub at_least : 1 ≤ length named
   pub at_most : length named ≤ MOST_PARTS
   pub each : All (λ part. 1 ≤ length part.pieces) named
+  pub placed : All (λ part. IsWithin POINT part.at) named
   pub pieces : sum_by (λ part. length part.pieces) named ≤ MOST_PIECES
 
 -- each part has the pieces that were named for it, as many as there are names

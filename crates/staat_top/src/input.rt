@@ -1,21 +1,23 @@
 // The parts that an input names.
 ghost use Rattle.std.specs.Prelude.{◌≡◌, ◌≤◌, All, Some, IfOk, IfErr, length, map};
 ghost use Rattle.staat_off.specs.declared.raw.TheConstants.{MOST_DIGITS};
+ghost use Rattle.staat_vec.specs.Vectors.{IsWithin};
 ghost use Rattle.staat_model.specs.Pieces.{IsPiece};
 ghost use Rattle.staat_words.specs.Requests.{IsAsked, IsInput};
 ghost use Rattle.staat_top.specs.Work.{Each, Files, Follows, IsTaken};
-ghost use Rattle.staat_top.specs.Pieces.{IsPieceOf};
+ghost use Rattle.staat_top.specs.Moved.{IsMovedPieceOf};
 ghost use Rattle.staat_top.specs.Inputs.{alone, IsInputOf, IsListingOf, IsPartOf, SaysListing};
 ghost use Rattle.staat_top.specs.Shapes.{AreRead, IsFew};
 ghost use Rattle.staat_top.specs.Runs.{HasCause, ShelfSide, over};
 
-use crate::read::{read_file, read_piece};
+use crate::moved::read_moved;
+use crate::read::read_file;
 use crate::refusals::manifest_fault;
 use staat_edge::Shelf;
 use staat_fault::Fault;
 use staat_manifest::{ListedPart, Listing, read_manifest};
 use staat_model::{Assembly, Part, Parts, Piece, Pieces};
-use staat_vec::{Name, Names, ORIGIN};
+use staat_vec::{Name, Names, ORIGIN, POINT, V3};
 use staat_words::{Asked, Input};
 use std::alloc::{AllocError, Global};
 
@@ -93,24 +95,26 @@ fn know(piece: &Piece)
     let _ = piece.points();
 }
 
-// The pieces of a part, in the order of their files.
+// The pieces of a part, in the order of their files, moved by its vector.
 fn read_pieces<H: Shelf>(
     alloc: Global,
     digits: u32,
     shelf: &mut H,
     names: &[Name],
+    at: V3,
 ) -> Result<Pieces, Fault>
-    requires { digits ≤ MOST_DIGITS }
+    requires digits { digits ≤ MOST_DIGITS }
+    requires vector { IsWithin POINT at }
     ensures holds { (H.told shelf.new).holds ≡ (H.told shelf.old).holds }
     ensures count { (H.told shelf.old).faults ≤ (H.told shelf.new).faults }
-    ensures found { (files : Files) → (H.told shelf.old).holds ≡ Some files → Follows (Each (IsPieceOf files digits) names.now) result }
+    ensures found { (files : Files) → (H.told shelf.old).holds ≡ Some files → Follows (Each (IsMovedPieceOf files digits at) names.now) result }
     ensures pieces { IfOk result (All IsPiece) }
     ensures each { IfOk result (λ pieces. length pieces ≡ length names.now) }
     ensures cause { IfErr result (HasCause (over (H.told shelf.old) (H.told shelf.new))) }
 {
     let mut pieces = Vec::with_capacity(alloc, names.len())?;
     for name in names {
-        let piece = read_piece(alloc, digits, shelf, name)?;
+        let piece = read_moved(alloc, digits, shelf, name, at)?;
         know(&piece);
         pieces.push(piece)?;
     }
@@ -124,7 +128,8 @@ fn read_part<H: Shelf>(
     shelf: &mut H,
     named: &ListedPart,
 ) -> Result<Part, Fault>
-    requires { digits ≤ MOST_DIGITS }
+    requires digits { digits ≤ MOST_DIGITS }
+    requires vector { IsWithin POINT named.now.at }
     ensures holds { (H.told shelf.new).holds ≡ (H.told shelf.old).holds }
     ensures count { (H.told shelf.old).faults ≤ (H.told shelf.new).faults }
     ensures found { (files : Files) → (H.told shelf.old).holds ≡ Some files → Follows (IsPartOf files digits named.now) result }
@@ -133,7 +138,7 @@ fn read_part<H: Shelf>(
     ensures cause { IfErr result (HasCause (over (H.told shelf.old) (H.told shelf.new))) }
 {
     let name = named.name.copied(alloc)?;
-    let pieces = read_pieces(alloc, digits, shelf, named.pieces.as_slice())?;
+    let pieces = read_pieces(alloc, digits, shelf, named.pieces.as_slice(), named.at)?;
     Ok(Part { name, pieces })
 }
 
@@ -144,7 +149,8 @@ fn read_parts<H: Shelf>(
     shelf: &mut H,
     listing: &[ListedPart],
 ) -> Result<Parts, Fault>
-    requires { digits ≤ MOST_DIGITS }
+    requires digits { digits ≤ MOST_DIGITS }
+    requires placed { All (λ part. IsWithin POINT part.at) listing.now }
     ensures holds { (H.told shelf.new).holds ≡ (H.told shelf.old).holds }
     ensures count { (H.told shelf.old).faults ≤ (H.told shelf.new).faults }
     ensures found { (files : Files) → (H.told shelf.old).holds ≡ Some files → Follows (Each (IsPartOf files digits) listing.now) result }

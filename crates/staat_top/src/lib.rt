@@ -6,6 +6,7 @@ mod graph;
 mod input;
 pub mod laws;
 mod look;
+mod moved;
 mod pair;
 mod planes;
 mod print;

@@ -3,13 +3,13 @@ use Rattle.std.proofs.lemmas.List.{length_push}
 use Rattle.std.proofs.lemmas.List.Elements.{All-append, All-cons, All-nil}
 use Rattle.staat_model.specs.Pieces.{IsPiece}
 use Rattle.staat_top.specs.Work.{Each}
-use Rattle.staat_top.specs.Pieces.{IsPieceOf}
+use Rattle.staat_top.specs.Moved.{IsMovedPieceOf}
 use Rattle.staat_top.proofs.InputLemmas.{Continues, each_failed, each_more, each_end}
 use Rattle.staat_top.proofs.input.read_pieces.Goals as goal
 
 pub returns-in_err-piece-clause-found : goal.returns-in_err-piece-clause-found
 returns-in_err-piece-clause-found g c = λ files told.
-    each_failed (IsPieceOf files c.args.digits) c.args.names.now c.loop-name.name-index c.loop-name.pieces.items c.name-item.result c.in_err-piece.field-0.0 c.from_residual-in_err-piece.result
+    each_failed (IsMovedPieceOf files c.args.digits c.args.at) c.args.names.now c.loop-name.name-index c.loop-name.pieces.items c.name-item.result c.in_err-piece.field-0.0 c.from_residual-in_err-piece.result
     c.loop-name-test.true c.name-item.is (c.loop-name.invariant.found files told) (c.in_err-piece.ensures.found files (c.loop-name.invariant.holds ∙ told)) c.from_residual-in_err-piece.ensures.1
 
 pub loop-name-preserved : goal.loop-name-preserved
@@ -18,9 +18,9 @@ loop-name-preserved g c =
     record {
       holds = c.in_ok-piece.ensures.holds ∙ c.loop-name.invariant.holds;
       count = omega (arith, c.loop-name.invariant.count, c.in_ok-piece.ensures.count);
-      found = λ files told. subst (λ done. Continues (IsPieceOf files c.args.digits) c.args.names.now (c.loop-name.name-index + 1) done) (sym items)
-          (each_more (IsPieceOf files c.args.digits) c.args.names.now c.loop-name.name-index c.loop-name.pieces.items c.name-item.result c.in_ok-piece.piece c.loop-name-test.true
-          (subst (λ n. IsPieceOf files c.args.digits n (Ok c.in_ok-piece.piece)) c.name-item.is (c.in_ok-piece.ensures.found files (c.loop-name.invariant.holds ∙ told)))
+      found = λ files told. subst (λ done. Continues (IsMovedPieceOf files c.args.digits c.args.at) c.args.names.now (c.loop-name.name-index + 1) done) (sym items)
+          (each_more (IsMovedPieceOf files c.args.digits c.args.at) c.args.names.now c.loop-name.name-index c.loop-name.pieces.items c.name-item.result c.in_ok-piece.piece c.loop-name-test.true
+          (subst (λ n. IsMovedPieceOf files c.args.digits c.args.at n (Ok c.in_ok-piece.piece)) c.name-item.is (c.in_ok-piece.ensures.found files (c.loop-name.invariant.holds ∙ told)))
           (c.loop-name.invariant.found files told));
       pieces = subst (All IsPiece) (sym items) (All-append IsPiece c.loop-name.pieces.items (c.in_ok-piece.piece ∷ []) c.loop-name.invariant.pieces (All-cons IsPiece c.in_ok-piece.piece [] c.know.ensures (All-nil IsPiece)));
       each = ap length items ∙ length_push c.loop-name.pieces.items c.in_ok-piece.piece ∙ ap (λ n. n + 1) c.loop-name.invariant.each;
@@ -28,5 +28,5 @@ loop-name-preserved g c =
 
 pub returns-clause-found : goal.returns-clause-found
 returns-clause-found g c = λ files told.
-    subst (λ done. Each (IsPieceOf files c.args.digits) c.args.names.now (Ok done)) (sym c.from_vec.ensures)
-    (each_end (IsPieceOf files c.args.digits) c.args.names.now c.loop-name.name-index c.loop-name.pieces.items c.loop-name-test.false (c.loop-name.invariant.found files told))
+    subst (λ done. Each (IsMovedPieceOf files c.args.digits c.args.at) c.args.names.now (Ok done)) (sym c.from_vec.ensures)
+    (each_end (IsMovedPieceOf files c.args.digits c.args.at) c.args.names.now c.loop-name.name-index c.loop-name.pieces.items c.loop-name-test.false (c.loop-name.invariant.found files told))

@@ -1,0 +1,51 @@
+// The pieces of a part, each read from its file and moved as the part is.
+ghost use Rattle.std.specs.Prelude.{◌≡◌, ◌≤◌, Some, IfErr};
+ghost use Rattle.staat_off.specs.declared.raw.TheConstants.{MOST_DIGITS};
+ghost use Rattle.staat_vec.specs.Vectors.{IsWithin};
+ghost use Rattle.staat_top.specs.Work.{Files, Follows};
+ghost use Rattle.staat_top.specs.Moved.{IsMovedPieceOf, MovesPiece};
+ghost use Rattle.staat_top.specs.Runs.{HasCause, ShelfSide, over};
+
+use crate::read::read_piece;
+use staat_asm::{PlaceRefusal, place};
+use staat_edge::Shelf;
+use staat_fault::Fault;
+use staat_model::Piece;
+use staat_vec::{Name, POINT, V3};
+use std::alloc::Global;
+
+// The piece of that file, moved by a vector.
+#[tactic(auto, using(crate::proofs::MovedLemmas::moves_there, crate::proofs::MovedLemmas::moves_far))]
+fn moved(alloc: Global, name: &Name, piece: Piece, at: V3) -> Result<Piece, Fault>
+    requires { IsWithin POINT at }
+    ensures moves { Follows (MovesPiece name.now at piece) result }
+    ensures cause { (shelf : ShelfSide) → IfErr result (HasCause shelf) }
+{
+    match place(alloc, piece, at) {
+        Ok(piece) => Ok(piece),
+        Err(PlaceRefusal::PlacedFar) => Err(Fault::PlacedFar(name.copied(alloc)?)),
+        Err(PlaceRefusal::OutOfMemory) => Err(Fault::OutOfMemory),
+    }
+}
+
+/// The piece that a file holds, with coordinates scaled by so many decimal digits, moved by `at` in scaled units. The
+/// components of `at` are at most [`POINT`] in absolute value.
+pub fn read_moved<H: Shelf>(
+    alloc: Global,
+    digits: u32,
+    shelf: &mut H,
+    name: &Name,
+    at: V3,
+) -> Result<Piece, Fault>
+    requires digits { digits ≤ MOST_DIGITS }
+    requires vector { IsWithin POINT at }
+    ensures holds { (H.told shelf.new).holds ≡ (H.told shelf.old).holds }
+    ensures count { (H.told shelf.old).faults ≤ (H.told shelf.new).faults }
+    ensures found { (files : Files) → (H.told shelf.old).holds ≡ Some files
+        → Follows (IsMovedPieceOf files digits at name.now) result }
+    ensures cause { IfErr result (HasCause (over (H.told shelf.old) (H.told shelf.new))) }
+{
+    let piece = read_piece(alloc, digits, shelf, name)?;
+    let placed = moved(alloc, name, piece, at)?;
+    Ok(placed)
+}
