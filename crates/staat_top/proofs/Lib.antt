@@ -7,3 +7,4 @@ pub mod TopLemmas
 pub mod InputLemmas
 pub mod SoundLemmas
 pub mod PlanesLemmas
+pub mod PlanLemmas

@@ -7,6 +7,7 @@ mod input;
 pub mod laws;
 mod look;
 mod pair;
+mod plan;
 mod planes;
 mod print;
 mod read;
