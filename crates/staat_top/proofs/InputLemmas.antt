@@ -1,5 +1,5 @@
 -- Steps for the members of a list, one after another, and the assembly that they give.
-use Rattle.std.proofs.Common.{◌≡◌, ◌∙◌, refl, sym, ap, ap₂, subst, arith, ℕ, ◌+◌, ◌<◌, ◌≤◌, List, [], ◌∷◌, ◌++◌, take, drop, map, length, get_or, All, Option, Ok, Err, inl, inr, append_assoc, append-nil}
+use Rattle.std.proofs.Common.{◌≡◌, ◌∙◌, refl, sym, ap, ap₂, subst, arith, ℕ, ◌+◌, ◌<◌, ◌≤◌, List, [], ◌∷◌, ◌++◌, take, drop, map, length, get_or, All, Ok, Err, inl, inr, append_assoc, append-nil}
 use Rattle.std.specs.Prelude.{Result, IfErr, IsErrAnd, sum_by}
 use Rattle.std.proofs.Common.{lit≤}
 use Rattle.std.proofs.lemmas.List.{drop_more, drop_all, map_more, map-append, length-map}
@@ -21,7 +21,7 @@ use Rattle.staat_manifest.specs.declared.listing.ListedPart.{ListedPart}
 use Rattle.staat_top.specs.Inputs.{alone}
 use Rattle.staat_top.specs.Shapes.{AreRead, IsFew}
 use Rattle.staat_top.specs.Runs.{HasCause, over}
-use Rattle.staat_top.specs.Work.{Files, Found, Then, Each, Follows}
+use Rattle.staat_top.specs.Work.{Found, Then, Each, Follows}
 
 -- what is given already goes before what is found
 abbrev pub prepend : {X : Type 0} → List X → Found (List X) → Found (List X)

@@ -8,3 +8,4 @@ pub mod TopLemmas
 pub mod InputLemmas
 pub mod SoundLemmas
 pub mod PlanesLemmas
+pub mod PlanLemmas

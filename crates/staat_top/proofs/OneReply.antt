@@ -1,5 +1,5 @@
 -- There is one reply to a request over some files, and none where a file that is reached is not there.
-use Rattle.std.proofs.Common.{◌≡◌, ◌↔◌, ℕ, ◌<◌, ◌≤◌, List, [], ◌∷◌, length, Option, Some, None, refl, ap, sym, ◌∙◌, subst, arith, inl, inr}
+use Rattle.std.proofs.Common.{◌≡◌, ◌↔◌, ℕ, ◌<◌, ◌≤◌, List, [], ◌∷◌, length, Option, Some, None, false, refl, ap, sym, ◌∙◌, subst, arith, inl, inr}
 use Rattle.std.specs.Prelude.{Ok, Err}
 use Rattle.staat_vec.proofs.Unique.{IsLeast-unique}
 use Rattle.staat_model.specs.declared.assembly.Part.{Part}
@@ -8,6 +8,7 @@ use Rattle.staat_model.specs.Assemblies.{IsSound}
 use Rattle.staat_model.specs.Certificates.{arc_cmp}
 use Rattle.staat_model.specs.declared.set.PartSet.{PartSet}
 use Rattle.staat_model.specs.Sets.{Has}
+use Rattle.staat_model.proofs.OneOutcome.{IsOutcome-unique}
 use Rattle.staat_model.proofs.OneTable.{ArePlanes-unique}
 use Rattle.staat_model.proofs.Orders.{arc_exact, arc_total}
 use Rattle.staat_graph.specs.Blocking.{ShowsBlocking}
@@ -33,7 +34,7 @@ use Rattle.staat_words.specs.declared.request.Asked.{Asked}
 use Rattle.staat_words.specs.declared.request.Input.{Input}
 use Rattle.staat_words.specs.declared.request.Input.TheVariants as input
 use Rattle.staat_words.specs.declared.request.Request.{Request}
-use Rattle.staat_words.specs.declared.request.Request.TheVariants.{Pair, Look, Graph}
+use Rattle.staat_words.specs.declared.request.Request.TheVariants.{Pair, Look, Graph, Plan}
 use Rattle.staat_top.specs.declared.read.TheConstants.{FILE_LIMIT}
 use Rattle.staat_top.specs.declared.answer.Answer.{Answer}
 use Rattle.staat_top.specs.Work.{Files, Found, Then, Each, IsTaken, to_read, too_long, taken}
@@ -44,6 +45,7 @@ use Rattle.staat_top.proofs.MovedLemmas.{far_not_within}
 use Rattle.staat_top.specs.Inputs.{SaysListing, no_listing, listing, IsListingOf, IsPartOf, IsInputOf, part_of}
 use Rattle.staat_top.specs.Assembling.{IsTested, overlapping, sound, IsSoundOf}
 use Rattle.staat_top.specs.Graphing.{AreCounted, IsGraphed, all_parts, few, too_many}
+use Rattle.staat_top.specs.Planning.{IsPlanned, outcome_answer}
 use Rattle.staat_top.specs.Replies.{IsJudged, answer, free, not_shown, WorkOn, WorkOnWords, Reply, Makes, IsReply}
 
 -- what the step finds is no file that is to be read
@@ -314,6 +316,12 @@ graphed_one files parts d = record { one = λ f g a b sf sg. one f g a b; held =
         let same : a.text ≡ b.text = same_graph_text (length parts) d a.rows b.rows a.text b.text (same_arcs parts d (all_parts parts) a.rows b.rows a.shows b.shows) a.text_is b.text_is in
         a.is ∙ ap (λ (t : List ℕ). Ok (answer 0 t)) same ∙ sym b.is
 
+planned_one : (files : Files) (parts : List Part) → FindsOne files (IsPlanned parts)
+planned_one files parts = record { one = λ f g a b sf sg. one f g a b; held = λ name f at lacks step settled. given_not_fault _ (ReadFault name) (sym at.is) }
+  where
+    one : (f g : Found Answer) → IsPlanned parts f → IsPlanned parts g → f ≡ g
+    one f g a b = a.is ∙ ap (λ finding. Ok (outcome_answer finding)) (IsOutcome-unique false parts a.outcome b.outcome) ∙ sym b.is
+
 judged_one : (files : Files) (p q : List V3) (d n : V3) → FindsOne files (IsJudged p q d n)
 judged_one files p q d n = record { one = λ f g a b sf sg. one f g a b; held = λ name f at lacks step settled. no_read name at }
   where
@@ -336,6 +344,8 @@ work_one (Pair request) files =
 work_one (Look asked) files = then_one files (IsSoundOf files asked) _ (sound_one files asked) (λ parts. known_one files _)
 work_one (Graph request) files = then_one files (IsSoundOf files request.asked) _ (sound_one files request.asked)
     (λ parts. then_one files (AreCounted parts MOST_PLANES) _ (counted_one files parts MOST_PLANES) (λ planes. graphed_one files parts request.along))
+work_one (Plan request) files = then_one files (IsSoundOf files request.asked) _ (sound_one files request.asked)
+    (λ parts. then_one files (AreCounted parts request.planes) _ (counted_one files parts request.planes) (λ planes. planned_one files parts))
 
 pub words_one : (asked : Option Request) (files : Files) → FindsOne files (WorkOnWords asked files)
 words_one None files = record { one = λ f g a b sf sg. a ∙ sym b; held = λ name f at lacks step settled. absurd (usage_reads name at) }

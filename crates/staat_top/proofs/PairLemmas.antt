@@ -1,5 +1,5 @@
 -- The answer for two pieces.
-use Rattle.std.proofs.Common.{◌≡◌, ℕ, List, Ok, ap₂}
+use Rattle.std.proofs.Common.{◌≡◌, List, Ok, ap₂}
 use Rattle.std.specs.Prelude.{codes}
 use Rattle.staat_vec.specs.declared.vector.V3.{V3}
 use Rattle.staat_model.specs.Walls.{IsShown}

@@ -1,26 +1,24 @@
--- What status 0 means.
-use Rattle.std.proofs.Common.{◌≡◌, ℕ, suc, List, [], ◌∷◌, map, length, All, Option, Some, None, refl, ap, ap₂, sym, subst, arith, inl, inr}
+-- What statuses 0 and 1 mean.
+use Rattle.std.proofs.Common.{◌≡◌, ℕ, suc, List, [], ◌∷◌, map, length, All, Option, Some, None, false, refl, ap, ap₂, sym, ◌∙◌, subst, arith, inl, inr}
 use Rattle.std.proofs.lemmas.List.Elements.{All-nil, All-cons}
-use Rattle.std.specs.Prelude.{Ok, Err}
+use Rattle.std.specs.Prelude.{Ok}
 use Rattle.staat_vec.specs.declared.vector.V3.{V3}
 use Rattle.staat_model.specs.declared.assembly.Part.{Part}
 use Rattle.staat_model.specs.Assemblies.{IsAssembly, IsSound}
 use Rattle.staat_model.specs.Pieces.{IsPiece}
+use Rattle.staat_model.specs.Outcomes.{Finding, IsOutcome, planned, stuck}
+use Rattle.staat_plan.proofs.Right.{right_lemma}
 use Rattle.staat_manifest.specs.declared.listing.ListedPart.{ListedPart}
-use Rattle.staat_off.specs.declared.raw.Raw.{Raw}
-use Rattle.staat_off.specs.Raws.{IsIndexed}
 use Rattle.staat_off.proofs.Bounds.{reading_bounded}
 use Rattle.staat_manifest.proofs.Accepted.{within_bounds}
 use Rattle.staat_model.proofs.WallLaws as walls
-use Rattle.staat_mesh.specs.Judging.{Judges}
-use Rattle.staat_mesh.specs.Polygons.{mesh}
 use Rattle.staat_mesh.proofs.MakeLemmas.{accepted_piece}
 use Rattle.staat_words.specs.Requests.{IsAsked, IsInput}
 use Rattle.staat_words.specs.declared.request.Input.{Input}
 use Rattle.staat_words.specs.declared.request.Input.TheVariants as inputs
 use Rattle.staat_words.specs.declared.request.Asked.{Asked}
 use Rattle.staat_words.specs.declared.request.Request.{Request}
-use Rattle.staat_words.specs.declared.request.Request.TheVariants.{Pair, Look, Graph}
+use Rattle.staat_words.specs.declared.request.Request.TheVariants.{Pair, Look, Graph, Plan}
 use Rattle.staat_top.specs.declared.answer.Answer.{Answer}
 use Rattle.staat_top.specs.Work.{Files, Found, Each, to_read, too_long, taken}
 use Rattle.staat_top.specs.Inputs.{alone, SaysListing, no_listing, listing, IsListingOf, IsPartOf, IsInputOf, part_of}
@@ -32,7 +30,9 @@ use Rattle.staat_top.specs.Moved.{IsMovedPieceOf, moved, too_far}
 use Rattle.staat_asm.specs.Placing.{shifted}
 use Rattle.staat_asm.proofs.PlacingLemmas.{shifted_piece}
 use Rattle.staat_top.specs.Assembling.{IsTested, overlapping, sound, IsSoundOf}
-use Rattle.staat_top.specs.Replies.{HasSoundParts, free, not_shown, answer, WorkOnWords, IsRight}
+use Rattle.staat_top.specs.Graphing.{all_parts}
+use Rattle.staat_top.specs.Planning.{outcome_answer}
+use Rattle.staat_top.specs.Replies.{AreSoundParts, SaysGoodPlan, SaysStuckSet, free, not_shown, WorkOnWords, IsRight, IsDenied}
 
 -- ---- pieces
 
@@ -111,16 +111,40 @@ tested_gives : (parts built : List Part) → IsTested parts (Ok built) → IsSou
 tested_gives parts built (overlapping arc first e) = absurd cc
 tested_gives parts built (sound is e) = is
 
-sound_parts : (files : Files) (asked : Asked) (built : List Part) → IsAsked asked → IsSoundOf files asked (Ok built) → HasSoundParts files asked
+-- and they are the parts that it was given
+tested_same : (parts built : List Part) → IsTested parts (Ok built) → parts ≡ built
+tested_same parts built (overlapping arc first e) = absurd cc
+tested_same parts built (sound is e) = cc
+
+sound_parts : (files : Files) (asked : Asked) (built : List Part) → IsAsked asked → IsSoundOf files asked (Ok built) → AreSoundParts files asked built
 sound_parts files asked built bounds (inl (fault, at, e)) = absurd cc
 sound_parts files asked built bounds (inr (parts, found, test)) =
-    record { parts = parts; named = found; assembly = input_assembly files asked parts bounds found; sound = tested_gives parts built test }
+    subst (AreSoundParts files asked) (tested_same parts built test)
+    (record { named = found; assembly = input_assembly files asked parts bounds found; sound = tested_gives parts built test })
+
+-- ---- outcomes
+
+-- the answer of a plan takes all parts apart
+plan_is_good : (files : Files) (asked : Asked) (parts : List Part) (f : Finding) → AreSoundParts files asked parts → IsOutcome false parts (all_parts parts) f → (outcome_answer f).status ≡ 0 → SaysGoodPlan files asked (outcome_answer f).text
+plan_is_good files asked parts (planned tree marks) are outcome zero =
+    record { parts = parts; sound = are; tree = tree; marks = marks; good = right_lemma false parts are.assembly (all_parts parts) (planned tree marks) outcome; text_is = refl }
+plan_is_good files asked parts (stuck w) are outcome zero = absurd (omega (arith, zero))
+
+-- the set that an answer names as stuck is stuck
+set_is_stuck : (files : Files) (asked : Asked) (parts : List Part) (f : Finding) → AreSoundParts files asked parts → IsOutcome false parts (all_parts parts) f → (outcome_answer f).status ≡ 1 → SaysStuckSet files asked (outcome_answer f).text
+set_is_stuck files asked parts (planned tree marks) are outcome one = absurd (omega (arith, one))
+set_is_stuck files asked parts (stuck w) are outcome one =
+    let settled = right_lemma false parts are.assembly (all_parts parts) (stuck w) outcome in
+    record { parts = parts; sound = are; set = w; within = settled.0; is_stuck = settled.1; text_is = refl }
+
+same_answer : (a b : Answer) → ◌≡◌ {A = Found Answer} (Ok a) (Ok b) → b ≡ a
+same_answer a b e = cc
 
 same_status : (a b : Answer) → ◌≡◌ {A = Found Answer} (Ok a) (Ok b) → a.status ≡ b.status
 same_status a b e = let same : a ≡ b = cc in ap (λ (x : Answer). x.status) same
 
--- a wall that is shown keeps the pieces apart, and a look or a graph gives sound parts
-pub status_is_right : (asked : Option Request) (files : Files) (a : Answer) → IsBounded asked → WorkOnWords asked files (Ok a) → a.status ≡ 0 → IsRight asked files
+-- a wall that is shown keeps the pieces apart, a look or a graph gives sound parts, and a plan takes them apart
+pub status_is_right : (asked : Option Request) (files : Files) (a : Answer) → IsBounded asked → WorkOnWords asked files (Ok a) → a.status ≡ 0 → IsRight asked files a.text
 status_is_right None files a bounds e zero = absurd cc
 status_is_right (Some (Pair request)) files a bounds (inl (fault, at, e)) zero = absurd cc
 status_is_right (Some (Pair request)) files a bounds (inr (p, first, inl (fault, at, e))) zero = absurd cc
@@ -129,6 +153,32 @@ status_is_right (Some (Pair request)) files a bounds (inr (p, first, inr (q, sec
 status_is_right (Some (Pair request)) files a bounds (inr (p, first, inr (q, second, not_shown none e))) zero =
     absurd (omega (arith, zero, same_status _ _ e))
 status_is_right (Some (Look asked)) files a bounds (inl (fault, at, e)) zero = absurd cc
-status_is_right (Some (Look asked)) files a bounds (inr (built, found, e)) zero = sound_parts files asked built bounds found
+status_is_right (Some (Look asked)) files a bounds (inr (built, found, e)) zero = (built, sound_parts files asked built bounds found)
 status_is_right (Some (Graph request)) files a bounds (inl (fault, at, e)) zero = absurd cc
-status_is_right (Some (Graph request)) files a bounds (inr (built, found, rest)) zero = sound_parts files request.asked built bounds.0 found
+status_is_right (Some (Graph request)) files a bounds (inr (built, found, rest)) zero = (built, sound_parts files request.asked built bounds.0 found)
+status_is_right (Some (Plan request)) files a bounds (inl (fault, at, e)) zero = absurd cc
+status_is_right (Some (Plan request)) files a bounds (inr (built, found, inl (fault, at, e))) zero = absurd cc
+status_is_right (Some (Plan request)) files a bounds (inr (built, found, inr (planes, counted, p))) zero =
+    let same : outcome_answer p.finding ≡ a = same_answer a (outcome_answer p.finding) p.is in
+    subst (λ (b : Answer). SaysGoodPlan files request.asked b.text) same
+    (plan_is_good files request.asked built p.finding (sound_parts files request.asked built bounds.0 found) p.outcome (ap (λ (b : Answer). b.status) same ∙ zero))
+
+-- a wall that is not shown is none, and a set that is named as stuck is stuck
+pub status_is_denied : (asked : Option Request) (files : Files) (a : Answer) → IsBounded asked → WorkOnWords asked files (Ok a) → a.status ≡ 1 → IsDenied asked files a.text
+status_is_denied None files a bounds e one = absurd cc
+status_is_denied (Some (Pair request)) files a bounds (inl (fault, at, e)) one = absurd cc
+status_is_denied (Some (Pair request)) files a bounds (inr (p, first, inl (fault, at, e))) one = absurd cc
+status_is_denied (Some (Pair request)) files a bounds (inr (p, first, inr (q, second, free shown e))) one =
+    absurd (omega (arith, one, same_status _ _ e))
+status_is_denied (Some (Pair request)) files a bounds (inr (p, first, inr (q, second, not_shown none e))) one = (p, q, first, second, none)
+status_is_denied (Some (Look asked)) files a bounds (inl (fault, at, e)) one = absurd cc
+status_is_denied (Some (Look asked)) files a bounds (inr (built, found, e)) one = absurd (omega (arith, one, same_status _ _ e))
+status_is_denied (Some (Graph request)) files a bounds (inl (fault, at, e)) one = absurd cc
+status_is_denied (Some (Graph request)) files a bounds (inr (built, found, inl (fault, at, e))) one = absurd cc
+status_is_denied (Some (Graph request)) files a bounds (inr (built, found, inr (planes, counted, g))) one = absurd (omega (arith, one, same_status _ _ g.is))
+status_is_denied (Some (Plan request)) files a bounds (inl (fault, at, e)) one = absurd cc
+status_is_denied (Some (Plan request)) files a bounds (inr (built, found, inl (fault, at, e))) one = absurd cc
+status_is_denied (Some (Plan request)) files a bounds (inr (built, found, inr (planes, counted, p))) one =
+    let same : outcome_answer p.finding ≡ a = same_answer a (outcome_answer p.finding) p.is in
+    subst (λ (b : Answer). SaysStuckSet files request.asked b.text) same
+    (set_is_stuck files request.asked built p.finding (sound_parts files request.asked built bounds.0 found) p.outcome (ap (λ (b : Answer). b.status) same ∙ one))

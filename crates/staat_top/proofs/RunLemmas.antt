@@ -13,7 +13,7 @@ use Rattle.staat_top.specs.Work.{Files}
 use Rattle.staat_top.specs.Replies.{Reply, IsReply, answered, refused}
 use Rattle.staat_top.specs.Runs.{ShelfSide, SinkSide, Took, TookPart, Untouched, IsUnread, IsCaused, IsBounded, IsFound, IsExplained, IsSaid, SaysWhole, SaysPart, Gave, Ran}
 use Rattle.staat_top.proofs.OneReply.{no_reply, one_reply}
-use Rattle.staat_top.proofs.RightLemmas.{status_is_right}
+use Rattle.staat_top.proofs.RightLemmas.{status_is_right, status_is_denied}
 
 took_nothing : (side : SinkSide) → Untouched side → Took side []
 took_nothing side same = go side.old.wrote side.new.wrote same
@@ -55,7 +55,10 @@ ran_answer asked shelf out err a result small found bounds asks whole part line 
       ];
   right = λ zero files told.
       let w = whole (λ e. omega (arith, e)) in
-      status_is_right asked files a bounds (found files told) (sym w.0 ∙ zero);
+      record { text = a.text; took = w.2; is_so = status_is_right asked files a bounds (found files told) (sym w.0 ∙ zero) };
+  denied = λ one files told.
+      let w = whole (λ e. omega (arith, e)) in
+      record { text = a.text; took = w.2; is_so = status_is_denied asked files a bounds (found files told) (sym w.0 ∙ one) };
 }
 
 least_status : (fault : Fault) → 2 ≤ status_of fault
@@ -160,4 +163,5 @@ ran_fault asked shelf out err result fault explained same whole part = record {
             subst (λ r. Gave r out err result) is_it (gave_line out err w.said result same w.is w.line)
       ];
   right = λ zero files told. let w = whole (λ e. omega (arith, e)) in absurd (omega (arith, w.is, least_status w.said));
+  denied = λ one files told. let w = whole (λ e. omega (arith, e)) in absurd (omega (arith, w.is, least_status w.said));
 }

@@ -6,5 +6,6 @@ pub mod Inputs
 pub mod Shapes
 pub mod Assembling
 pub mod Graphing
+pub mod Planning
 pub mod Replies
 pub mod Runs

@@ -2,23 +2,30 @@
 use Rattle.std.specs.Prelude.{◌≡◌, ℕ, List, [], Option, Some, None, Ok, Err, codes}
 use Rattle.staat_vec.specs.declared.vector.V3.{V3}
 use Rattle.staat_model.specs.declared.assembly.Part.{Part}
+use Rattle.staat_model.specs.declared.set.PartSet.{PartSet}
+use Rattle.staat_model.specs.declared.tree.Kind.{Kind}
+use Rattle.staat_model.specs.Outcomes.{planned, stuck}
+use Rattle.staat_model.specs.Plans.{IsGood, IsStuck, Plan as Tree}
+use Rattle.staat_model.specs.Sets.{IsSubset}
 use Rattle.staat_model.specs.Walls.{IsShown}
 use Rattle.staat_model.specs.Meeting.{Meets}
 use Rattle.staat_model.specs.Assemblies.{IsAssembly, IsSound}
 use Rattle.staat_words.specs.declared.request.Asked.{Asked}
 use Rattle.staat_words.specs.declared.request.Request.{Request}
-use Rattle.staat_words.specs.declared.request.Request.TheVariants.{Pair, Look, Graph}
+use Rattle.staat_words.specs.declared.request.Request.TheVariants.{Pair, Look, Graph, Plan}
 use Rattle.staat_fault.specs.declared.fault.Fault.{Fault}
 use Rattle.staat_fault.specs.declared.fault.Fault.TheVariants.{Usage, ReadFault}
 use Rattle.staat_fault.specs.Faults.{status_of, line_of}
 use Rattle.staat_planes.specs.declared.table.TheConstants.{MOST_PLANES}
 use Rattle.staat_text.specs.Parts.{look_text}
+use Rattle.staat_text.specs.PlanTexts.{plan_text}
 use Rattle.staat_top.specs.declared.answer.Answer.{Answer}
 use Rattle.staat_top.specs.Work.{Files, Found, Then}
 use Rattle.staat_top.specs.Pieces.{IsPieceOf}
 use Rattle.staat_top.specs.Inputs.{IsInputOf}
 use Rattle.staat_top.specs.Assembling.{IsSoundOf}
-use Rattle.staat_top.specs.Graphing.{AreCounted, IsGraphed}
+use Rattle.staat_top.specs.Graphing.{AreCounted, IsGraphed, all_parts}
+use Rattle.staat_top.specs.Planning.{IsPlanned}
 
 -- an answer with this status and this text
 abbrev pub answer : ℕ → List ℕ → Answer
@@ -40,6 +47,9 @@ WorkOn (Look asked) files found =
 WorkOn (Graph request) files found =
     Then (IsSoundOf files request.asked) (λ parts. Then (AreCounted parts MOST_PLANES)
     (λ planes. IsGraphed parts request.along)) found
+WorkOn (Plan request) files found =
+    Then (IsSoundOf files request.asked) (λ parts. Then (AreCounted parts request.planes)
+    (λ planes. IsPlanned parts)) found
 
 -- what the work on words finds, which may make no request
 abbrev pub WorkOnWords : Option Request → Files → Found Answer → Type 0
@@ -74,17 +84,44 @@ pub record IsReply (asked : Option Request) (files : Files) (reply : Reply) : Ty
 
 -- the input names these parts, each file holds its piece, they are an assembly, and no pieces of different parts
 -- overlap
-pub record HasSoundParts (files : Files) (asked : Asked) : Type 0 where
-  pub parts : List Part
+pub record AreSoundParts (files : Files) (asked : Asked) (parts : List Part) : Type 0 where
   pub named : IsInputOf files asked (Ok parts)
   pub assembly : IsAssembly parts
   pub sound : IsSound parts
 
--- What status 0 means beyond its text. For a pair: the first file's piece never meets the second's along the direction.
-abbrev pub IsRight : Option Request → Files → Type 0
-IsRight None files = ⊥
-IsRight (Some (Pair request)) files = (p : List V3) × (q : List V3) ×
+-- the text is that of a plan that takes all parts apart
+pub record SaysGoodPlan (files : Files) (asked : Asked) (text : List ℕ) : Type 0 where
+  pub parts : List Part
+  pub sound : AreSoundParts files asked parts
+  pub tree : Tree
+  pub marks : List Kind
+  pub good : IsGood parts (all_parts parts) tree
+  pub text_is : text ≡ plan_text (planned tree marks)
+
+-- the text names parts that no step takes apart
+pub record SaysStuckSet (files : Files) (asked : Asked) (text : List ℕ) : Type 0 where
+  pub parts : List Part
+  pub sound : AreSoundParts files asked parts
+  pub set : PartSet
+  pub within : IsSubset set (all_parts parts)
+  pub is_stuck : IsStuck parts set
+  pub text_is : text ≡ plan_text (stuck set)
+
+-- What status 0 means, with the text that is printed. For a pair: the first file's piece never meets the second's along
+-- the direction.
+abbrev pub IsRight : Option Request → Files → List ℕ → Type 0
+IsRight None files text = ⊥
+IsRight (Some (Pair request)) files text = (p : List V3) × (q : List V3) ×
     IsPieceOf files request.digits request.first (Ok p) × IsPieceOf files request.digits request.second (Ok q) ×
     (Meets p q request.along → ⊥)
-IsRight (Some (Look asked)) files = HasSoundParts files asked
-IsRight (Some (Graph request)) files = HasSoundParts files request.asked
+IsRight (Some (Look asked)) files text = (parts : List Part) × AreSoundParts files asked parts
+IsRight (Some (Graph request)) files text = (parts : List Part) × AreSoundParts files request.asked parts
+IsRight (Some (Plan request)) files text = SaysGoodPlan files request.asked text
+
+-- What status 1 means, with the text that is printed. For a pair: the wall does not show that the pieces never meet.
+abbrev pub IsDenied : Option Request → Files → List ℕ → Type 0
+IsDenied (Some (Pair request)) files text = (p : List V3) × (q : List V3) ×
+    IsPieceOf files request.digits request.first (Ok p) × IsPieceOf files request.digits request.second (Ok q) ×
+    (IsShown p q request.along request.wall → ⊥)
+IsDenied (Some (Plan request)) files text = SaysStuckSet files request.asked text
+IsDenied asked files text = ⊥

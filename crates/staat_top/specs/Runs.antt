@@ -12,7 +12,7 @@ use Rattle.staat_top.specs.declared.read.TheConstants.{FILE_LIMIT}
 use Rattle.staat_fault.specs.Faults.{status_of, line_of}
 use Rattle.staat_top.specs.declared.answer.Answer.{Answer}
 use Rattle.staat_top.specs.Work.{Files, Found, Follows}
-use Rattle.staat_top.specs.Replies.{Reply, WorkOnWords, IsReply, IsRight}
+use Rattle.staat_top.specs.Replies.{Reply, WorkOnWords, IsReply, IsRight, IsDenied}
 
 -- What a shelf or a sink tells before a call and after it.
 pub record Over (T : Type 0) : Type 0 where
@@ -142,6 +142,12 @@ pub record Replied (asked : Option Request) (files : Files) (out err : SinkSide)
   pub right : IsReply asked files reply
   pub gave : Gave reply out err status
 
+-- the text that went out says what is so
+pub record TookRight (out : SinkSide) (IsSo : List ℕ → Type 0) : Type 0 where
+  pub text : List ℕ
+  pub took : Took out text
+  pub is_so : IsSo text
+
 -- no count of faults rose, nor stands at its last value
 pub record NoFault (shelf : ShelfSide) (out err : SinkSide) : Type 0 where
   pub shelf_well : Rose shelf.old.faults shelf.new.faults → ⊥
@@ -159,8 +165,9 @@ pub record Ran (asked : Option Request) (shelf : ShelfSide) (out err : SinkSide)
   pub write_fault : status ≡ 6 → OutFails asked shelf out err ⊎ ErrFails asked shelf out err
   pub usage : asked ≡ None → (status ≡ 2) ⊎ (status ≡ 6) ⊎ (status ≡ 7)
   -- Over a shelf that tells its files: statuses 0 to 4 are the reply; the reply comes where nothing failed and there
-  -- was memory; and what status 0 says is so.
+  -- was memory; and what status 0 says is so, and what status 1 says.
   pub reply : status ≤ 4 → (files : Files) → shelf.old.holds ≡ Some files → Replied asked files out err status
   pub complete : (files : Files) → shelf.old.holds ≡ Some files → NoFault shelf out err → status ≢ 7 → (reply : Reply) →
       IsReply asked files reply → Gave reply out err status
-  pub right : status ≡ 0 → (files : Files) → shelf.old.holds ≡ Some files → IsRight asked files
+  pub right : status ≡ 0 → (files : Files) → shelf.old.holds ≡ Some files → TookRight out (IsRight asked files)
+  pub denied : status ≡ 1 → (files : Files) → shelf.old.holds ≡ Some files → TookRight out (IsDenied asked files)

@@ -8,6 +8,7 @@ pub mod laws;
 mod look;
 mod moved;
 mod pair;
+mod plan;
 mod planes;
 mod print;
 mod read;

@@ -10,6 +10,7 @@ use crate::answer::Answer;
 use crate::graph::graph;
 use crate::look::look;
 use crate::pair::pair;
+use crate::plan::plan;
 use crate::print::{print, refuse};
 use staat_edge::{Shelf, Sink};
 use staat_fault::Fault;
@@ -29,6 +30,7 @@ fn work<H: Shelf>(alloc: Global, request: &Request, shelf: &mut H) -> Result<Ans
         Request::Pair(request) => pair(alloc, request, shelf),
         Request::Look(asked) => look(alloc, asked, shelf),
         Request::Graph(request) => graph(alloc, request, shelf),
+        Request::Plan(request) => plan(alloc, request, shelf),
     }
 }
 

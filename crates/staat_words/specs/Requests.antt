@@ -8,14 +8,16 @@ use Rattle.staat_vec.specs.declared.vector.TheConstants.{DIRECTION, NORMAL}
 use Rattle.staat_vec.specs.Vectors.{IsWithin, origin}
 use Rattle.staat_off.specs.declared.raw.TheConstants.{MOST_DIGITS}
 use Rattle.staat_model.specs.declared.limits.TheConstants.{MOST_PARTS}
+use Rattle.staat_planes.specs.declared.table.TheConstants.{LEAST_PLANES, MOST_PLANES}
 use Rattle.staat_number.specs.Numbers.{natural_within}
 use Rattle.staat_words.specs.declared.request.Input.{Input}
 use Rattle.staat_words.specs.declared.request.Input.TheVariants.{Manifest, Files}
 use Rattle.staat_words.specs.declared.request.Asked.{Asked}
 use Rattle.staat_words.specs.declared.request.PairRequest.{PairRequest}
 use Rattle.staat_words.specs.declared.request.GraphRequest.{GraphRequest}
+use Rattle.staat_words.specs.declared.request.PlanRequest.{PlanRequest}
 use Rattle.staat_words.specs.declared.request.Request.{Request}
-use Rattle.staat_words.specs.declared.request.Request.TheVariants.{Pair, Look, Graph}
+use Rattle.staat_words.specs.declared.request.Request.TheVariants.{Pair, Look, Graph, Plan}
 use Rattle.staat_words.specs.declared.request.RequestRefusal.{RequestRefusal}
 use Rattle.staat_words.specs.declared.request.RequestRefusal.TheVariants.{Usage, OutOfMemory}
 use Rattle.staat_words.specs.Spelled.{◌>>=◌, vector_within}
@@ -28,6 +30,20 @@ digits_in rows = natural_within MOST_DIGITS (unwrap_or (first_of (codes "digits"
 -- the vector that an option gives
 unfoldable pub vector_in : Text → ℕ → List Row → Option V3
 vector_in id most rows = option_and_then (vector_within most) (first_of id rows)
+
+-- the number of planes that a text spells
+abbrev pub planes_within : Text → Option ℕ
+planes_within text = do
+  planes ← natural_within MOST_PLANES text
+  if nat_le LEAST_PLANES planes then Some planes else None
+
+-- what `--planes` gives, as many as there may be where it is not given
+abbrev pub planes_from : Option Text → Option ℕ
+planes_from None = Some MOST_PLANES
+planes_from (Some text) = planes_within text
+
+unfoldable pub planes_in : List Row → Option ℕ
+planes_in rows = planes_from (first_of (codes "planes") rows)
 
 -- the files, where there are as many as there may be parts
 abbrev pub some_files : List Text → Option Input
@@ -63,13 +79,20 @@ graph_in rows = do
   along ← vector_in (codes "along") DIRECTION rows
   Some (record { asked = asked; along = along })
 
+unfoldable pub plan_in : List Row → Option PlanRequest
+plan_in rows = do
+  asked ← asked_in rows
+  planes ← planes_in rows
+  Some (record { asked = asked; planes = planes })
+
 -- the request of a subcommand and its matches: a line for each command
 unfoldable pub request_in : Option (Text × List Row) → Option Request
 request_in None = None
 request_in (Some found) =
     if bytes_eq found.0 (codes "pair") then option_map Pair (pair_in found.1)
     else (if bytes_eq found.0 (codes "look") then option_map Look (asked_in found.1)
-    else (if bytes_eq found.0 (codes "graph") then option_map Graph (graph_in found.1) else None))
+    else (if bytes_eq found.0 (codes "graph") then option_map Graph (graph_in found.1)
+    else (if bytes_eq found.0 (codes "plan") then option_map Plan (plan_in found.1) else None)))
 
 -- The request of the words: none is a usage fault.
 unfoldable pub request : List Text → Option Request
@@ -98,8 +121,12 @@ IsPairRequest request =
 abbrev pub IsGraphRequest : GraphRequest → Type 0
 IsGraphRequest request = IsAsked request.asked × IsWithin DIRECTION request.along × (request.along ≢ origin)
 
+abbrev pub IsPlanRequest : PlanRequest → Type 0
+IsPlanRequest request = IsAsked request.asked × (LEAST_PLANES ≤ request.planes) × (request.planes ≤ MOST_PLANES)
+
 -- the same of a request: a line for each command
 abbrev pub HasBounds : Request → Type 0
 HasBounds (Pair request) = IsPairRequest request
 HasBounds (Look asked) = IsAsked asked
 HasBounds (Graph request) = IsGraphRequest request
+HasBounds (Plan request) = IsPlanRequest request

@@ -2,7 +2,8 @@
 ghost use Rattle.std.specs.Prelude.{◌≡◌, ◌≤◌, ◌≢◌, map, option_map, IfSome, IfOk};
 ghost use Rattle.clap.specs.Words.{all_of, first_of, found_of, rows_of};
 ghost use Rattle.staat_vec.specs.Vectors.{IsWithin, origin};
-ghost use Rattle.staat_words.specs.Requests.{Answers, IsInput, digits_in, input_in, vector_in};
+ghost use Rattle.staat_planes.specs.declared.table.TheConstants.{LEAST_PLANES, MOST_PLANES};
+ghost use Rattle.staat_words.specs.Requests.{Answers, IsInput, digits_in, input_in, planes_in, planes_within, vector_in};
 
 use crate::request::{Input, RequestRefusal};
 use crate::vector::vector_of;
@@ -10,6 +11,7 @@ use clap::ArgMatches;
 use staat_model::MOST_PARTS;
 use staat_number::natural_of;
 use staat_off::MOST_DIGITS;
+use staat_planes::{LEAST_PLANES, MOST_PLANES};
 use staat_vec::{DIRECTION, Name, Names, V3};
 use std::alloc::{AllocError, Global};
 
@@ -36,6 +38,32 @@ pub fn digits_of(matches: &ArgMatches<'_>) -> Option<u32>
     let text = value_of(matches, "digits").unwrap_or("0");
     let n = natural_of(text, u128::from(MOST_DIGITS))?;
     Some(n as u32)
+}
+
+// The number of planes that a text spells.
+fn planes_within(text: &str) -> Option<u32>
+    ensures exact { result ≡ planes_within text.now }
+    ensures least { IfSome result (λ n. LEAST_PLANES ≤ n) }
+    ensures most { IfSome result (λ n. n ≤ MOST_PLANES) }
+{
+    let planes = natural_of(text, u128::from(MOST_PLANES))?;
+    if planes < u128::from(LEAST_PLANES) {
+        return None;
+    }
+    Some(planes as u32)
+}
+
+/// The option `--planes`, as many as there may be where it is not given.
+#[tactic(auto, unfolding(crate::specs::Requests::planes_in))]
+pub fn planes_of(matches: &ArgMatches<'_>) -> Option<u32>
+    ensures exact { result ≡ planes_in (rows_of (found_of matches.now)) }
+    ensures least { IfSome result (λ n. LEAST_PLANES ≤ n) }
+    ensures most { IfSome result (λ n. n ≤ MOST_PLANES) }
+{
+    match value_of(matches, "planes") {
+        None => Some(MOST_PLANES),
+        Some(text) => planes_within(text),
+    }
 }
 
 /// The vector that an option gives.

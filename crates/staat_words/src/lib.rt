@@ -8,7 +8,7 @@ mod request;
 mod vector;
 mod words;
 
-pub use request::{Asked, GraphRequest, Input, PairRequest, Request, RequestRefusal};
+pub use request::{Asked, GraphRequest, Input, PairRequest, PlanRequest, Request, RequestRefusal};
 pub use words::request_of;
 
 #[cfg(test)]

@@ -41,6 +41,14 @@ pub struct GraphRequest {
     pub along: V3,
 }
 
+/// A plan that takes the parts apart, or parts that no plan takes apart.
+#[derive(Drop)]
+pub struct PlanRequest {
+    pub asked: Asked,
+    /// How many planes all parts may have, 3 to `MOST_PLANES`.
+    pub planes: u32,
+}
+
 /// A command with its values.
 #[derive(Drop)]
 pub enum Request {
@@ -48,6 +56,7 @@ pub enum Request {
     /// What the parts are.
     Look(Asked),
     Graph(GraphRequest),
+    Plan(PlanRequest),
 }
 
 /// Why words give no request.

@@ -2,11 +2,11 @@
 ghost use Rattle.std.specs.Prelude.{◌≡◌, map, string_bytes, IfOk, IsErrOf, true, false};
 ghost use Rattle.clap.specs.Words.{found_of, rows_of, subcommand_rows_of};
 ghost use Rattle.staat_words.specs.Command.{is_taken, matches as matches_at};
-ghost use Rattle.staat_words.specs.Requests.{Answers, HasBounds, IsAsked, IsGraphRequest, IsPairRequest, asked_in, graph_in, pair_in, request, request_in};
+ghost use Rattle.staat_words.specs.Requests.{Answers, HasBounds, IsAsked, IsGraphRequest, IsPairRequest, IsPlanRequest, asked_in, graph_in, pair_in, plan_in, request, request_in};
 
-use crate::arguments::{digits_of, input_of, name_of, value_of, vector_in};
+use crate::arguments::{digits_of, input_of, name_of, planes_of, value_of, vector_in};
 use crate::command::staat_command;
-use crate::request::{Asked, GraphRequest, PairRequest, Request, RequestRefusal};
+use crate::request::{Asked, GraphRequest, PairRequest, PlanRequest, Request, RequestRefusal};
 use clap::ArgMatches;
 use clap::error::ErrorKind;
 use staat_vec::{DIRECTION, NORMAL};
@@ -51,6 +51,16 @@ fn graph_of(alloc: Global, matches: &ArgMatches<'_>) -> Result<GraphRequest, Req
     Ok(GraphRequest { asked, along })
 }
 
+#[tactic(auto, unfolding(crate::specs::Requests::plan_in))]
+fn plan_of(alloc: Global, matches: &ArgMatches<'_>) -> Result<PlanRequest, RequestRefusal>
+    ensures answers { Answers (plan_in (rows_of (found_of matches.now))) result }
+    ensures bounds { IfOk result IsPlanRequest }
+{
+    let asked = asked_of(alloc, matches)?;
+    let planes = planes_of(matches).ok_or(RequestRefusal::Usage)?;
+    Ok(PlanRequest { asked, planes })
+}
+
 // The matches of words that `clap` takes.
 fn matches_of<'a>(alloc: Global, words: &'a [String]) -> Result<ArgMatches<'a>, RequestRefusal>
     ensures taken { IfOk result (λ m. is_taken (map string_bytes words.entry.now) ≡ true) }
@@ -81,6 +91,8 @@ fn request_from(alloc: Global, matches: &ArgMatches<'_>) -> Result<Request, Requ
                 Ok(Request::Look(asked_of(alloc, inner)?))
             } else if name == "graph" {
                 Ok(Request::Graph(graph_of(alloc, inner)?))
+            } else if name == "plan" {
+                Ok(Request::Plan(plan_of(alloc, inner)?))
             } else {
                 Err(RequestRefusal::Usage)
             }

@@ -1,0 +1,84 @@
+// The command `plan`: how all parts come apart, or which parts do not.
+ghost use Rattle.std.specs.Prelude.{◌≡◌, ◌≤◌, ◌<◌, Some, IfOk, IfErr, false};
+ghost use Rattle.staat_model.specs.Assemblies.{IsAssembly};
+ghost use Rattle.staat_model.specs.Outcomes.{IsOutcome, finding_of};
+ghost use Rattle.staat_planes.specs.declared.table.TheConstants.{LEAST_PLANES, MOST_PLANES};
+ghost use Rattle.staat_plan.specs.Planning.{HasFewPlanes};
+ghost use Rattle.staat_text.specs.PlanTexts.{CanBeShown};
+ghost use Rattle.staat_words.specs.Requests.{IsPlanRequest};
+ghost use Rattle.staat_words.specs.declared.request.Request.TheVariants.{Plan};
+ghost use Rattle.staat_top.specs.Work.{Files, Follows};
+ghost use Rattle.staat_top.specs.Graphing.{AreCounted, all_parts};
+ghost use Rattle.staat_top.specs.Planning.{outcome_answer};
+ghost use Rattle.staat_top.specs.Replies.{WorkOn};
+ghost use Rattle.staat_top.specs.Runs.{HasCause, ShelfSide, over};
+
+use crate::answer::Answer;
+use crate::refusals::planes_fault;
+use crate::sound::read_sound;
+use staat_cone::Plain;
+use staat_edge::Shelf;
+use staat_fault::Fault;
+use staat_model::{Outcome, Sound};
+use staat_plan::Options;
+use staat_text::plan_text;
+use staat_vec::OutOfMemory;
+use staat_words::PlanRequest;
+use std::alloc::Global;
+
+// The parts are those of an assembly.
+fn know(sound: &Sound)
+    ensures { IsAssembly sound.now }
+{
+    let _ = sound.assembly().parts();
+}
+
+// The outcome of an assembly that has at most so many planes.
+#[tactic(auto, using(crate::proofs::PlanLemmas::planning))]
+fn outcome_of(alloc: Global, sound: &Sound, planes: u32) -> Result<Outcome, Fault>
+    requires least { LEAST_PLANES ≤ planes }
+    requires most { planes ≤ MOST_PLANES }
+    ensures outcome { IfOk result (λ o. IsOutcome false sound.now (all_parts sound.now) (finding_of o)) }
+    ensures few { IfOk result (λ _. HasFewPlanes sound.now (all_parts sound.now) planes) }
+    ensures shown { IfOk result (λ o. CanBeShown (finding_of o)) }
+    ensures refused { IfErr result (λ fault. Follows (AreCounted sound.now planes) (Err fault)) }
+    ensures cause { (shelf : ShelfSide) → IfErr result (HasCause shelf) }
+{
+    let options = Options {
+        planes,
+        robust: false,
+    };
+    know(sound);
+    match staat_plan::plan(alloc, &Plain, sound, options) {
+        Ok(outcome) => Ok(outcome),
+        Err(refusal) => Err(planes_fault(refusal)),
+    }
+}
+
+// The answer that an outcome is.
+fn answer_of(alloc: Global, outcome: &Outcome) -> Result<Answer, OutOfMemory>
+    requires { CanBeShown (finding_of outcome.now) }
+    ensures status { IfOk result (λ a. a.status < 2) }
+    ensures is { IfOk result (λ a. a ≡ outcome_answer (finding_of outcome.now)) }
+{
+    let text = plan_text(alloc, outcome)?;
+    match outcome {
+        Outcome::Plan { .. } => Ok(Answer { status: 0, text }),
+        Outcome::Stuck(_) => Ok(Answer { status: 1, text }),
+    }
+}
+
+/// The answer to the command `plan`: the steps of a plan that takes all parts apart, or the parts that no plan takes apart.
+pub fn plan<H: Shelf>(alloc: Global, request: &PlanRequest, shelf: &mut H) -> Result<Answer, Fault>
+    requires { IsPlanRequest request.now }
+    ensures holds { (H.told shelf.new).holds ≡ (H.told shelf.old).holds }
+    ensures count { (H.told shelf.old).faults ≤ (H.told shelf.new).faults }
+    ensures status { IfOk result (λ a. a.status < 2) }
+    ensures found { (files : Files) → (H.told shelf.old).holds ≡ Some files → Follows (WorkOn (Plan request.now) files) result }
+    ensures cause { IfErr result (HasCause (over (H.told shelf.old) (H.told shelf.new))) }
+{
+    let sound = read_sound(alloc, shelf, &request.asked)?;
+    let outcome = outcome_of(alloc, &sound, request.planes)?;
+    let answer = answer_of(alloc, &outcome)?;
+    Ok(answer)
+}

@@ -1,0 +1,15 @@
+use Rattle.std.proofs.Common.{◌≡◌, ◌∙◌, ap₂, subst}
+use Rattle.std.specs.Prelude.{IfOk}
+use Rattle.clap.specs.Words.{app_of, with_subcommand}
+use Rattle.staat_words.specs.Command.{command}
+use Rattle.staat_words.proofs.command.staat_command.Goals as goal
+
+-- a line for each command
+pub returns : goal.returns
+unfolding command
+returns c =
+    let pair = c.in_ok-staat.ensures ∙ ap₂ (λ a b. with_subcommand a b.top) c.bare_command-bare.ensures c.in_ok-pair.ensures.app in
+    let look = c.in_ok-staat-2.ensures ∙ ap₂ (λ a b. with_subcommand a b.top) pair c.in_ok-look_command.ensures.app in
+    let graph = c.in_ok-staat-3.ensures ∙ ap₂ (λ a b. with_subcommand a b.top) look c.in_ok-graph_command.ensures.app in
+    let plan = ap₂ (λ a b. with_subcommand a b.top) graph c.in_ok-plan_command.ensures.app in
+    subst (λ app. IfOk c.with_command-4.result (λ r. app_of r ≡ app)) plan c.with_command-4.ensures
