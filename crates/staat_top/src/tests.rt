@@ -280,35 +280,45 @@ fn a_file_is_refused_by_the_first_fault_in_it(rt: HostRuntime) -> Result<(), Fai
 fn a_failing_sink_keeps_what_it_took(rt: HostRuntime) -> Result<(), Fail> {
     let alloc = rt.alloc();
     let fault = "staat: write fault\n";
-    let table: [(usize, u64, u64, usize, u8, &str, &str); 17] = [
-        (64, 0, NEVER, 1, 6, "", fault),
-        (64, 1, NEVER, 1, 6, "f", fault),
-        (64, 2, NEVER, 1, 6, "fr", fault),
-        (64, 3, NEVER, 1, 6, "fre", fault),
-        (64, 4, NEVER, 1, 6, "free", fault),
-        (64, 5, NEVER, 1, 0, "free\n", ""),
-        (64, 1, NEVER, 2, 6, "fr", fault),
-        (0, NEVER, NEVER, 64, 6, "", fault),
-        (1, NEVER, NEVER, 64, 6, "f", fault),
-        (2, NEVER, NEVER, 64, 6, "fr", fault),
-        (3, NEVER, NEVER, 64, 6, "fre", fault),
-        (4, NEVER, NEVER, 64, 6, "free", fault),
-        (5, NEVER, NEVER, 64, 0, "free\n", ""),
-        (64, NEVER, 0, 1, 0, "free\n", ""),
-        (64, 0, 0, 1, 6, "", ""),
-        (64, 0, 3, 1, 6, "", "sta"),
-        (64, 0, 18, 1, 6, "", "staat: write fault"),
+    let table: [(&[&str], usize, u64, u64, usize, u8, &str, &str); 18] = [
+        (&FREE, 64, 0, NEVER, 1, 6, "", fault),
+        (&FREE, 64, 1, NEVER, 1, 6, "f", fault),
+        (&FREE, 64, 2, NEVER, 1, 6, "fr", fault),
+        (&FREE, 64, 3, NEVER, 1, 6, "fre", fault),
+        (&FREE, 64, 4, NEVER, 1, 6, "free", fault),
+        (&FREE, 64, 5, NEVER, 1, 0, "free\n", ""),
+        (&FREE, 64, 1, NEVER, 2, 6, "fr", fault),
+        (&FREE, 0, NEVER, NEVER, 64, 6, "", fault),
+        (&FREE, 1, NEVER, NEVER, 64, 6, "f", fault),
+        (&FREE, 2, NEVER, NEVER, 64, 6, "fr", fault),
+        (&FREE, 3, NEVER, NEVER, 64, 6, "fre", fault),
+        (&FREE, 4, NEVER, NEVER, 64, 6, "free", fault),
+        (&FREE, 5, NEVER, NEVER, 64, 0, "free\n", ""),
+        (&FREE, 64, NEVER, 0, 1, 0, "free\n", ""),
+        (&FREE, 64, 0, 0, 1, 6, "", ""),
+        (&FREE, 64, 0, 3, 1, 6, "", "sta"),
+        (&FREE, 64, 0, 18, 1, 6, "", "staat: write fault"),
+        (
+            &["plan", "a.off", "b.off"],
+            64,
+            1,
+            NEVER,
+            8,
+            6,
+            "move 0 a",
+            fault,
+        ),
     ];
-    for (room, out_call, err_call, chunk, status, out_text, err_text) in table {
+    for (list, room, out_call, err_call, chunk, status, out_text, err_text) in table {
         assert!(rt; chunk > 0);
         let mut shelf = shelf(alloc, CUBE, NEVER)?;
         let mut out = sink(alloc, room, out_call, chunk)?;
         let mut err = sink(alloc, 64, err_call, chunk)?;
-        let got = staat(alloc, &words(alloc, &FREE)?, &mut shelf, &mut out, &mut err);
+        let got = staat(alloc, &words(alloc, list)?, &mut shelf, &mut out, &mut err);
         assert_eq!(rt;
             got,
             status,
-            "room {room}, calls {out_call} and {err_call} failing"
+            "{list:?}: room {room}, calls {out_call} and {err_call} failing"
         );
         assert_eq!(rt; out.taken(), out_text.as_bytes());
         assert_eq!(rt; err.taken(), err_text.as_bytes());
@@ -487,7 +497,8 @@ fn the_parts_of_an_input_are_listed(rt: HostRuntime) -> Result<(), Fail> {
 #[test]
 fn each_command_reads_a_file_as_often_as_it_is_named(rt: HostRuntime) -> Result<(), Fail> {
     let alloc = rt.alloc();
-    let table: [(&[&str], &[&str]); 4] = [
+    let table: [(&[&str], &[&str]); 5] = [
+        (&["plan", "b.off", "a.off"], &["b.off", "a.off"]),
         (&FREE, &["a.off", "b.off"]),
         (&["look", "b.off", "a.off"], &["b.off", "a.off"]),
         (
@@ -531,8 +542,12 @@ fn each_command_answers_a_large_input(rt: HostRuntime) -> Result<(), Fail> {
     let alloc = rt.alloc();
     let mut large = CUBE.to_vec(alloc)?;
     large.extend_from_slice(&vec![in alloc; b' '; 1_048_000]?)?;
-    let table: [(&[&str], &str); 3] = [
+    let table: [(&[&str], &str); 4] = [
         (&FREE, "free\n"),
+        (
+            &["plan", "a.off", "b.off"],
+            "move 0 along 0 0 1 away from 1\nmoves 1\n",
+        ),
         (
             &["look", "a.off", "b.off"],
             "part 0 pieces 1 points 8 name a.off\npart 1 pieces 1 points 8 name b.off\nsound\n",
@@ -553,10 +568,86 @@ fn each_command_answers_a_large_input(rt: HostRuntime) -> Result<(), Fail> {
     Ok(())
 }
 
+// The file of the box with corners at the first three and the last three numbers.
+fn block(alloc: Global, corners: [i32; 6]) -> Result<Bytes, AllocError> {
+    let [a, b, c, d, e, f] = corners;
+    let low = format!(in alloc; "{a} {b} {c}\n{d} {b} {c}\n{d} {e} {c}\n{a} {e} {c}\n")?;
+    let high = format!(in alloc; "{a} {b} {f}\n{d} {b} {f}\n{d} {e} {f}\n{a} {e} {f}\n")?;
+    let mut text = b"OFF\n8 6 12\n".to_vec(alloc)?;
+    text.extend_from_slice(low.as_bytes())?;
+    text.extend_from_slice(high.as_bytes())?;
+    text.extend_from_slice(b"4 0 3 2 1\n4 4 5 6 7\n4 0 1 5 4\n4 1 2 6 5\n4 2 3 7 6\n4 3 0 4 7\n")?;
+    Ok(Bytes::from_vec(text))
+}
+
+// A cube in a box of six slabs that is closed, in one without its top, and in one with a lid in its top; two linked rings;
+// and two cubes that touch in a point.
+const BLOCKS: [(&str, [i32; 6]); 17] = [
+    ("a", [0, 0, 0, 2, 2, 2]),
+    ("b", [2, 2, 2, 4, 4, 4]),
+    ("east", [2, -1, -1, 3, 3, 3]),
+    ("west", [-1, -1, -1, 0, 3, 3]),
+    ("north", [-1, 2, -1, 3, 3, 3]),
+    ("south", [-1, -1, -1, 3, 0, 3]),
+    ("top", [-1, -1, 2, 3, 3, 3]),
+    ("floor", [-1, -1, -1, 3, 3, 0]),
+    ("lid", [0, 0, 2, 2, 2, 3]),
+    ("p", [0, 0, 0, 8, 2, 2]),
+    ("q", [0, 6, 0, 8, 8, 2]),
+    ("r", [0, 2, 0, 2, 6, 2]),
+    ("s", [6, 2, 0, 8, 6, 2]),
+    ("t", [3, 3, -4, 5, 5, 6]),
+    ("u", [11, 3, -4, 13, 5, 6]),
+    ("v", [5, 3, -4, 11, 5, -2]),
+    ("w", [5, 3, 4, 11, 5, 6]),
+];
+
+const LISTS: [(&str, &[u8]); 5] = [
+    (
+        "closed",
+        b"{\"parts\":[{\"name\":\"c\",\"pieces\":[\"a\"]},{\"name\":\"box\",\"pieces\":[\"east\",\"west\",\"north\",\"south\",\"top\",\"floor\"]}]}",
+    ),
+    (
+        "open",
+        b"{\"parts\":[{\"name\":\"c\",\"pieces\":[\"a\"]},{\"name\":\"box\",\"pieces\":[\"east\",\"west\",\"north\",\"south\",\"floor\"]}]}",
+    ),
+    (
+        "lidded",
+        b"{\"parts\":[{\"name\":\"c\",\"pieces\":[\"a\"]},{\"name\":\"box\",\"pieces\":[\"east\",\"west\",\"north\",\"south\",\"floor\"]},{\"name\":\"lid\",\"pieces\":[\"lid\"]}]}",
+    ),
+    (
+        "rings",
+        b"{\"parts\":[{\"name\":\"0\",\"pieces\":[\"p\",\"q\",\"r\",\"s\"]},{\"name\":\"1\",\"pieces\":[\"t\",\"u\",\"v\",\"w\"]}]}",
+    ),
+    ("none", b"{\"parts\":[]}"),
+];
+
+// A shelf with all of them.
+fn shelf_of_blocks(alloc: Global) -> Result<MemoryShelf, Fail> {
+    let mut files = Vec::new(alloc);
+    for (name, corners) in BLOCKS {
+        let name = Name::from_string(String::from_str(alloc, name)?);
+        files.push((name, block(alloc, corners)?))?;
+    }
+    for (name, text) in LISTS {
+        files.push(file(alloc, name, text)?)?;
+    }
+    for (name, text) in HELD {
+        files.push(file(alloc, name, text)?)?;
+    }
+    let failing = Calls::from_vec(Vec::new(alloc));
+    Ok(MemoryShelf::new(alloc, Files::from_vec(files), failing, 4096)?)
+}
+
 #[test]
-fn the_graph_says_who_blocks_whom(rt: HostRuntime) -> Result<(), Fail> {
+fn a_graph_says_who_blocks_whom_and_a_plan_how_parts_come_apart(
+    rt: HostRuntime,
+) -> Result<(), Fail> {
     let alloc = rt.alloc();
-    let table: [(&[&str], u8, &str, &str); 6] = [
+    let usage = "staat: usage\n";
+    let first = "move 0 along 0 0 1 away from 1\nmoves 1\n";
+    let sideways = "move 0 along 0 -1 0 away from 1\nmoves 1\n";
+    let table: [(&[&str], u8, &str, &str); 22] = [
         (
             &["graph", "--along=0,1,0", "a.off", "b.off"],
             0,
@@ -588,9 +679,55 @@ fn the_graph_says_who_blocks_whom(rt: HostRuntime) -> Result<(), Fail> {
             "staat: parts 0 and 1 overlap in pieces 0 and 0\n",
         ),
         (&["graph", "a.off", "b.off"], 2, "", "staat: usage\n"),
+        (&["plan", "a.off", "b.off"], 0, first, ""),
+        (&["plan", "a", "b"], 0, first, ""),
+        (&["plan", "a.off"], 0, "moves 0\n", ""),
+        (&["plan", "--manifest=closed"], 1, "stuck 0 1\n", ""),
+        (&["plan", "--manifest=open"], 0, first, ""),
+        (&["plan", "--manifest=rings"], 1, "stuck 0 1\n", ""),
+        (&["plan", "--manifest=dovetail.json"], 0, sideways, ""),
+        (
+            &["plan", "--manifest=dovetail.json", "--planes=5"],
+            0,
+            sideways,
+            "",
+        ),
+        (
+            &["plan", "--manifest=dovetail.json", "--planes=4"],
+            4,
+            "",
+            "staat: too many planes (5)\n",
+        ),
+        (
+            &["plan", "--manifest=lidded"],
+            0,
+            "move 2 along 0 0 1 away from 0 1\nmove 0 along 0 0 1 away from 1\nmoves 2\n",
+            "",
+        ),
+        (
+            &["plan", "a", "east", "top", "--planes=3"],
+            3,
+            "",
+            "staat: parts 1 and 2 overlap in pieces 0 and 0\n",
+        ),
+        (&["plan", "a", "--planes=2"], 2, "", usage),
+        (&["plan", "a", "--cert"], 2, "", usage),
+        (&["plan"], 2, "", usage),
+        (
+            &["plan", "--manifest=none"],
+            3,
+            "",
+            "staat: none: bad shape at /parts\n",
+        ),
+        (
+            &["plan", "a.off", "c.off"],
+            5,
+            "",
+            "staat: cannot read c.off\n",
+        ),
     ];
     for (list, status, out_text, err_text) in table {
-        let mut shelf = shelf_of(alloc, &HELD, NEVER)?;
+        let mut shelf = shelf_of_blocks(alloc)?;
         let mut out = sink(alloc, 128, NEVER, 64)?;
         let mut err = sink(alloc, 64, NEVER, 64)?;
         let got = staat(alloc, &words(alloc, list)?, &mut shelf, &mut out, &mut err);

@@ -15,7 +15,7 @@ fn asked(alloc: Global, words: &[&str]) -> Result<Result<Request, RequestRefusal
 #[test]
 fn words_are_taken_or_a_usage_fault(rt: HostRuntime) -> Result<(), Fail> {
     let alloc = rt.alloc();
-    let table: [(&[&str], bool); 40] = [
+    let table: [(&[&str], bool); 51] = [
         (&["pair", "a", "b", "--along=0,0,1", "--wall=1,0,0"], true),
         (&["pair", "--wall=1,0,0", "a", "b", "--along=0,0,1"], true),
         (
@@ -111,6 +111,17 @@ fn words_are_taken_or_a_usage_fault(rt: HostRuntime) -> Result<(), Fail> {
         (&["graph", "a", "--along", "-1,0,0"], false),
         (&["graph", "--manifest=m", "a", "--along=0,0,1"], false),
         (&["graph", "--along=0,0,1"], false),
+        (&["plan", "a", "--planes=3", "b"], true),
+        (&["plan", "--manifest=m", "--planes=1024"], true),
+        (&["plan", "a", "--planes=2"], false),
+        (&["plan", "a", "--planes=1025"], false),
+        (&["plan", "a", "--planes=03"], false),
+        (&["plan", "a", "--planes=5", "--planes=5"], false),
+        (&["plan", "a", "--cert"], false),
+        (&["plan", "a", "--format=1"], false),
+        (&["plan", "a", "--robust"], false),
+        (&["plan", "a", "--along=0,0,1"], false),
+        (&["plan"], false),
         (&["help"], false),
         (&[], false),
     ];
@@ -172,13 +183,18 @@ fn shown(alloc: Global, request: &Request) -> Result<String, AllocError> {
             let asked = source(alloc, &request.asked)?;
             format!(in alloc; "{asked} along {x} {y} {z}")
         }
+        Request::Plan(request) => {
+            let planes = request.planes;
+            let asked = source(alloc, &request.asked)?;
+            format!(in alloc; "{asked}, {planes} planes")
+        }
     }
 }
 
 #[test]
 fn a_request_has_the_values_of_its_words(rt: HostRuntime) -> Result<(), Fail> {
     let alloc = rt.alloc();
-    let table: [(&[&str], &str); 5] = [
+    let table: [(&[&str], &str); 7] = [
         (
             &[
                 "pair",
@@ -199,6 +215,14 @@ fn a_request_has_the_values_of_its_words(rt: HostRuntime) -> Result<(), Fail> {
         (
             &["graph", "--manifest=m.json", "--along=0,5,0"],
             "0: the part list m.json along 0 5 0",
+        ),
+        (
+            &["plan", "--planes=5", "a", "--digits=1"],
+            "1: 1 files, 5 planes",
+        ),
+        (
+            &["plan", "--manifest=m.json"],
+            "0: the part list m.json, 1024 planes",
         ),
     ];
     for (words, text) in table {
