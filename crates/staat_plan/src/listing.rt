@@ -1,5 +1,5 @@
 // The lines of a refusal: each direction with the number of its witness.
-ghost use Rattle.std.specs.Prelude.{◌≡◌, ◌≢◌, ◌<◌, ◌^◌, ◌++◌, ◌∷◌, [], IfOk, OnOk, flat_map, length, map};
+ghost use Rattle.std.specs.Prelude.{◌≡◌, ◌≢◌, ◌<◌, ◌++◌, ◌∷◌, [], IfOk, OnOk, flat_map, length, map};
 ghost use Rattle.staat_vec.specs.Vectors.{IsWithin, origin};
 ghost use Rattle.staat_model.specs.Plans.{IsStuck};
 ghost use Rattle.staat_planes.specs.Tables.{WasMadeFrom};
@@ -8,7 +8,7 @@ ghost use Rattle.staat_plan.specs.Listings.{AreListed, IsWitnessNumber, key_of, 
 use crate::numbers::number_of;
 use crate::witnesses::witness_at;
 use indexmap::IndexSet;
-use staat_model::{Arc, Dir, Sound, Witness};
+use staat_model::{Arc, Dir, LIST_LIMIT, Sound, Witness};
 use staat_planes::PlaneTable;
 use staat_vec::{DIRECTION, OutOfMemory, V3};
 use std::alloc::Global;
@@ -56,4 +56,33 @@ fn number_witness(
         witnesses.push(witness)?;
     }
     Ok(number)
+}
+
+// adds the line of a direction, with its witness
+fn push_dir(
+    alloc: Global,
+    sound: &Sound,
+    table: &PlaneTable,
+    d: V3,
+    listing: &mut Listing,
+) -> Result<(), OutOfMemory>
+    requires made { WasMadeFrom sound.now table.now }
+    requires stuck { IsStuck sound.now table.now.of }
+    requires direction { IsWithin DIRECTION d }
+    requires some { d ≢ origin }
+    requires listed { AreListed sound.now table.now.of (map (λ v. v.items) listing.old.keys.keys)
+        listing.old.witnesses.items listing.old.dirs.items }
+    requires room { length listing.old.dirs.items < LIST_LIMIT }
+    ensures listed { OnOk result (AreListed sound.now table.now.of (map (λ v. v.items) listing.new.keys.keys)
+        listing.new.witnesses.items listing.new.dirs.items) }
+    ensures line { OnOk result (map (λ dir. dir.d) listing.new.dirs.items
+        ≡ map (λ dir. dir.d) listing.old.dirs.items ++ d ∷ []) }
+{
+    let witness = witness_at(alloc, sound, table, d)?;
+    let number = number_witness(alloc, &mut listing.keys, &mut listing.witnesses, witness)?;
+    listing.dirs.push(Dir {
+        d,
+        witness: number as u32,
+    })?;
+    Ok(())
 }
