@@ -9,7 +9,7 @@ use Rattle.staat_vec.specs.Vectors.{origin}
 use Rattle.staat_model.specs.declared.assembly.Part.{Part}
 use Rattle.staat_model.specs.declared.certificate.Arc.{Arc}
 use Rattle.staat_model.specs.declared.set.PartSet.{PartSet}
-use Rattle.staat_model.specs.Bridges.{IsTree}
+use Rattle.staat_model.specs.Bridges.{Back, IsTree, swapped}
 use Rattle.staat_model.specs.Certificates.{inward, outward}
 use Rattle.staat_model.specs.Certify.{IsLeastArc, IsWitnessAt}
 use Rattle.staat_model.specs.Plans.{IsStuck}
@@ -17,9 +17,10 @@ use Rattle.staat_model.specs.Sets.{single}
 use Rattle.staat_cone.proofs.Adding.{take_more}
 use Rattle.staat_graph.specs.declared.trees.Trees.{Trees}
 use Rattle.staat_graph.specs.Blocking.{ShowsBlocking}
-use Rattle.staat_graph.specs.Graphs.{Back, HasArc, IsStrong, swapped}
+use Rattle.staat_graph.specs.Graphs.{HasArc, IsStrong}
 use Rattle.staat_graph.proofs.Sides.{serves_of_weak}
-use Rattle.staat_planes.specs.Tables.{IsAhead, Table}
+use Rattle.staat_pairs.specs.Tables.{Table}
+use Rattle.staat_planes.specs.Tables.{IsAhead}
 use Rattle.staat_plan.specs.Witnesses.{AreTreesAlong, LeadsAhead}
 use Rattle.staat_plan.proofs.WitnessLemmas.{witness_is}
 use Rattle.staat_plan.proofs.Tries.{stuck_serves_not}

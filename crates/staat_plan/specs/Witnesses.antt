@@ -6,7 +6,8 @@ use Rattle.staat_model.specs.Sets.{IsLeastOf}
 use Rattle.staat_graph.specs.declared.trees.Trees.{Trees}
 use Rattle.staat_graph.specs.Blocking.{ShowsBlocking}
 use Rattle.staat_graph.specs.Graphs.{AreTrees, HasArc}
-use Rattle.staat_planes.specs.Tables.{IsAhead, Table}
+use Rattle.staat_pairs.specs.Tables.{Table}
+use Rattle.staat_planes.specs.Tables.{IsAhead}
 
 -- of two parts the first leads ahead of the second
 abbrev pub LeadsAhead : Table → V3 → ℕ × ℕ → Type 0

@@ -7,6 +7,7 @@ ghost use Rattle.staat_model.specs.declared.assembly.Part.{Part as PartValue};
 ghost use Rattle.staat_model.specs.declared.certificate.Witness.{Witness as WitnessValue};
 ghost use Rattle.staat_model.specs.declared.set.PartSet.{PartSet as PartSetValue};
 ghost use Rattle.staat_model.specs.Assemblies.{IsAssembly};
+ghost use Rattle.staat_model.specs.Bridges.{swapped};
 ghost use Rattle.staat_model.specs.Certificates.{inward, outward};
 ghost use Rattle.staat_model.specs.Certify.{IsLeastArc, IsWitnessAt};
 ghost use Rattle.staat_model.specs.Outcomes.{AreTries, Finding, IsOutcome, Serves, Try};
@@ -15,7 +16,7 @@ ghost use Rattle.staat_model.specs.Plans.{IsStuck};
 ghost use Rattle.staat_model.specs.Sets.{IsLeastOf, IsSubset};
 ghost use Rattle.staat_graph.specs.declared.trees.Trees.{Trees as TreesValue};
 ghost use Rattle.staat_graph.specs.Blocking.{ShowsBlocking};
-ghost use Rattle.staat_graph.specs.Graphs.{AreTrees, HasArc, swapped};
+ghost use Rattle.staat_graph.specs.Graphs.{AreTrees, HasArc};
 ghost use Rattle.staat_plan.specs.Planning.{Settles};
 
 /// Some side of a set is free of the rest along a direction exactly where one is along the opposite direction.

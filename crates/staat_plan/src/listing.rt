@@ -2,7 +2,7 @@
 ghost use Rattle.std.specs.Prelude.{◌≡◌, ◌≢◌, ◌<◌, ◌++◌, ◌∷◌, [], IfOk, OnOk, flat_map, length, map};
 ghost use Rattle.staat_vec.specs.Vectors.{IsWithin, origin};
 ghost use Rattle.staat_model.specs.Plans.{IsStuck};
-ghost use Rattle.staat_planes.specs.Tables.{WasMadeFrom};
+ghost use Rattle.staat_pairs.specs.Tables.{WasMadeFrom};
 ghost use Rattle.staat_plan.specs.Listings.{AreListed, IsWitnessNumber, key_of, numbered};
 
 use crate::numbers::number_of;

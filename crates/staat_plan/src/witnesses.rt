@@ -5,7 +5,8 @@ ghost use Rattle.staat_model.specs.Certificates.{outward};
 ghost use Rattle.staat_model.specs.Certify.{IsLeastArc, IsWitnessAt};
 ghost use Rattle.staat_model.specs.Plans.{IsStuck};
 ghost use Rattle.staat_graph.specs.Graphs.{AreTrees, HasArc};
-ghost use Rattle.staat_planes.specs.Tables.{IsAhead, WasMadeFrom};
+ghost use Rattle.staat_pairs.specs.Tables.{WasMadeFrom};
+ghost use Rattle.staat_planes.specs.Tables.{IsAhead};
 ghost use Rattle.staat_plan.specs.Witnesses.{AreTreesAlong, LeadsAhead};
 
 use crate::arcs::least_arc;
