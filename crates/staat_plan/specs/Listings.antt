@@ -1,5 +1,8 @@
 -- The lines of a refusal that have been listed so far, and the key by which a witness is found again.
-use Rattle.std.specs.Prelude.{◌≡◌, ◌⊎◌, ◌≤◌, ◌<◌, ◌∷◌, [], ◌++◌, ℕ, List, All, Some, flat_map, length, map, slice_get}
+use Rattle.std.specs.Prelude.{◌≡◌, ◌≢◌, ◌⊎◌, ◌≤◌, ◌<◌, ◌∷◌, [], ◌++◌, ℕ, List, All, Some, flat_map, length, map, slice_get}
+use Rattle.staat_vec.specs.declared.vector.V3.{V3}
+use Rattle.staat_vec.specs.declared.vector.TheConstants.{DIRECTION}
+use Rattle.staat_vec.specs.Vectors.{IsWithin, origin}
 use Rattle.staat_model.specs.declared.assembly.Part.{Part}
 use Rattle.staat_model.specs.declared.certificate.Arc.{Arc}
 use Rattle.staat_model.specs.declared.certificate.Dir.{Dir}
@@ -14,6 +17,11 @@ numbered side arc = side ∷ arc.a ∷ arc.i ∷ arc.b ∷ arc.j ∷ []
 -- the numbers of a witness, which no other witness has
 abbrev pub key_of : Witness → List ℕ
 key_of witness = flat_map (numbered 0) witness.outs ++ flat_map (numbered 1) witness.ins
+
+-- a direction along which witnesses are sought
+pub record IsSizedDirection (d : V3) : Type 0 where
+  pub size : IsWithin DIRECTION d
+  pub some : d ≢ origin
 
 -- each line names the witness of its direction; the witnesses are different and are numbered by first use
 pub record AreListed (parts : List Part) (w : PartSet) (keys : List (List ℕ)) (witnesses : List Witness) (dirs : List Dir)

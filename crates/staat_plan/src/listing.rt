@@ -1,9 +1,9 @@
 // The lines of a refusal: each direction with the number of its witness.
-ghost use Rattle.std.specs.Prelude.{◌≡◌, ◌≢◌, ◌<◌, ◌++◌, ◌∷◌, [], IfOk, OnOk, flat_map, length, map};
+ghost use Rattle.std.specs.Prelude.{◌≡◌, ◌≢◌, ◌<◌, ◌++◌, ◌∷◌, [], All, IfOk, OnOk, flat_map, length, map};
 ghost use Rattle.staat_vec.specs.Vectors.{IsWithin, origin};
 ghost use Rattle.staat_model.specs.Plans.{IsStuck};
 ghost use Rattle.staat_pairs.specs.Tables.{WasMadeFrom};
-ghost use Rattle.staat_plan.specs.Listings.{AreListed, IsWitnessNumber, key_of, numbered};
+ghost use Rattle.staat_plan.specs.Listings.{AreListed, IsSizedDirection, IsWitnessNumber, key_of, numbered};
 
 use crate::numbers::number_of;
 use crate::witnesses::witness_at;
@@ -14,6 +14,7 @@ use staat_vec::{DIRECTION, OutOfMemory, V3};
 use std::alloc::Global;
 
 /// The witnesses so far, with their keys, and the lines so far.
+#[derive(Drop)]
 pub struct Listing {
     pub keys: IndexSet<Vec<u32>>,
     pub witnesses: Vec<Witness>,
@@ -85,4 +86,30 @@ fn push_dir(
         witness: number as u32,
     })?;
     Ok(())
+}
+
+/// The lines of these directions, in their order, each with its witness.
+pub fn listing_of(
+    alloc: Global,
+    sound: &Sound,
+    table: &PlaneTable,
+    directions: &[V3],
+) -> Result<Listing, OutOfMemory>
+    requires made { WasMadeFrom sound.now table.now }
+    requires stuck { IsStuck sound.now table.now.of }
+    requires each { All IsSizedDirection directions.now }
+    requires few { length directions.now < LIST_LIMIT }
+    ensures listed { IfOk result (λ l. AreListed sound.now table.now.of (map (λ v. v.items) l.keys.keys)
+        l.witnesses.items l.dirs.items) }
+    ensures lines { IfOk result (λ l. map (λ dir. dir.d) l.dirs.items ≡ directions.now) }
+{
+    let mut listing = Listing {
+        keys: IndexSet::new(alloc),
+        witnesses: Vec::new(alloc),
+        dirs: Vec::new(alloc),
+    };
+    for d in directions {
+        push_dir(alloc, sound, table, *d, &mut listing)?;
+    }
+    Ok(listing)
 }
