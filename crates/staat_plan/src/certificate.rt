@@ -1,19 +1,18 @@
 // The certificate of an outcome.
-ghost use Rattle.std.specs.Prelude.{◌≡◌, IfOk};
+ghost use Rattle.std.specs.Prelude.{IfOk};
 ghost use Rattle.staat_model.specs.Certify.{IsBodyOf, IsCertificateOf, IsRefusalOf};
 ghost use Rattle.staat_model.specs.Lines.{IsVersion};
 ghost use Rattle.staat_model.specs.Outcomes.{finding_of};
 ghost use Rattle.staat_model.specs.Plans.{IsStuck};
-ghost use Rattle.staat_model.specs.Sets.{Has};
 ghost use Rattle.staat_model.specs.Texts.{IsWellFormed};
 ghost use Rattle.staat_plan.specs.Certifying.{CanBeCertified, IsValidFor};
 ghost use Rattle.staat_plan.specs.Planning.{HasFewPlanes};
 
-use crate::directions::directions;
 use crate::listing::{Listing, listing_of};
 use crate::nodes::plan_nodes;
 use staat_cone::FacetSource;
 use staat_model::{Body, Certificate, Dirs, Outcome, PartSet, Sound, Witnesses};
+use staat_pairs::directions;
 use staat_planes::{MOST_PLANES, PlaneTable, PlanesRefusal, tabulate};
 use staat_vec::OutOfMemory;
 use std::alloc::Global;
