@@ -1,5 +1,5 @@
 -- The outcome of a set from those of its two sides.
-use Rattle.std.proofs.Common.{◌≡◌, ⊎_elim, ℕ, ◌<◌, ◌≤◌, arith, ap, sym, ◌∙◌, subst, refl, List, [], ◌++◌}
+use Rattle.std.proofs.Common.{◌≡◌, ⊎_elim, ℕ, ◌<◌, ◌≤◌, arith, ap, sym, ◌∙◌, subst, refl, List, [], ◌++◌, length}
 use Rattle.std.specs.Prelude.{Option, None, Some, Result, Ok, Err, IfOk, MatchResult}
 use Rattle.std.specs.Result.{IsErrAnd}
 use Rattle.std.specs.FinSet as set
@@ -13,21 +13,23 @@ use Rattle.staat_plan.specs.declared.planner.Marked.{Marked}
 use Rattle.staat_model.specs.declared.tree.Tree.{Tree}
 use Rattle.staat_model.specs.declared.tree.Outcome.{Outcome}
 use Rattle.staat_model.specs.declared.tree.Outcome.TheVariants as outcome
-use Rattle.staat_model.specs.Outcomes.{IsOutcome, both_planned, finding_of, moved_stuck, no_step, one_part, planned, rest_stuck, stuck}
+use Rattle.staat_model.specs.Outcomes.{Finding, IsOutcome, both_planned, finding_of, moved_stuck, no_step, one_part, planned, rest_stuck, stuck}
 use Rattle.staat_model.specs.Plans.{leaf, plan_of, split}
 use Rattle.staat_model.specs.Planes.{axes}
-use Rattle.staat_model.specs.Sets.{Has, IsNonempty, IsSide, IsSubset, single}
+use Rattle.staat_model.specs.Sets.{Has, IsNonempty, IsSide, IsSubset, below, single}
 use Rattle.staat_model.proofs.RestrictLemmas.{rest_within}
+use Rattle.staat_model.proofs.SomePlanes.{some_planes}
 use Rattle.staat_model.proofs.SetMembers.{has-difference, has-empty}
 use Rattle.staat_model.proofs.SetSizes.{one_is, one_within}
 use Rattle.staat_model.proofs.SetWords.{same_members}
 use Rattle.staat_graph.proofs.Finite.{len_fewer, len_some, nonempty_or}
 use Rattle.staat_planes.specs.declared.refusal.PlanesRefusal.{PlanesRefusal}
 use Rattle.staat_planes.specs.Refusals.{IsPlanesRefusal}
-use Rattle.staat_plan.specs.Planning.{IsOutcomeOf, Settles, IsSized, IsStepOf}
+use Rattle.staat_plan.specs.Certifying.{CanBeCertified}
+use Rattle.staat_plan.specs.Planning.{HasFewPlanes, IsOutcomeOf, Settles, IsSized, IsStepOf}
 use Rattle.staat_model.specs.Assemblies.{IsAssembly}
 use Rattle.staat_plan.proofs.Right.{right_lemma}
-use Rattle.staat_plan.proofs.Fewer.{single_planes, sub_refused}
+use Rattle.staat_plan.proofs.Fewer.{fewer_planes_lemma, single_planes, sub_refused}
 use Rattle.staat_plan.proofs.Opposites.{rest_some}
 
 -- a set with a member or more is not empty
@@ -98,3 +100,18 @@ refused robust parts w limit e (Err x) h r = subst (IsPlanesRefusal parts w limi
 pub right_found : (robust : Bool) (parts : List Part) (w v : PartSet) (limit : ℕ) (result : Result Outcome PlanesRefusal) → w ≡ v → IsAssembly parts → MatchResult result (IsOutcomeOf robust parts w limit) (IsPlanesRefusal parts w limit) → IfOk result (λ o. Settles parts v (finding_of o))
 right_found robust parts w v limit (Ok o) e is of = right_lemma robust parts is v (finding_of o) (subst (λ (t : PartSet). IsOutcome robust parts t (finding_of o)) e of.is)
 right_found robust parts w v limit (Err x) e is of = tt
+
+-- ---- outcomes that have certificates
+
+certified : (parts : List Part) (limit : ℕ) (f : Finding) → IsAssembly parts → limit ≤ 1024 → Settles parts (below (length parts)) f → IsSized f → HasFewPlanes parts (below (length parts)) limit → CanBeCertified parts f
+certified parts limit (planned plan marks) is most right sized few = (right, sized)
+certified parts limit (stuck a) is most right sized few =
+    let some = some_planes parts a in
+    let le = fewer_planes_lemma parts a (below (length parts)) some.0 few.planes right.0 some.1 few.planes_are in
+    (right.1, record { planes = some.0; planes_are = some.1; few = omega (arith, le, few.few, most) })
+
+pub certified_found : (robust : Bool) (parts : List Part) (w : PartSet) (limit : ℕ) (result : Result Outcome PlanesRefusal) → w ≡ below (length parts) → IsAssembly parts → limit ≤ 1024 → MatchResult result (IsOutcomeOf robust parts w limit) (IsPlanesRefusal parts w limit) → IfOk result (λ o. CanBeCertified parts (finding_of o))
+certified_found robust parts w limit (Ok o) e is most of =
+    let all : IsOutcome robust parts (below (length parts)) (finding_of o) = subst (λ (t : PartSet). IsOutcome robust parts t (finding_of o)) e of.is in
+    certified parts limit (finding_of o) is most (right_lemma robust parts is (below (length parts)) (finding_of o) all) of.sized (subst (λ (t : PartSet). HasFewPlanes parts t limit) e of.few)
+certified_found robust parts w limit (Err x) e is most of = tt

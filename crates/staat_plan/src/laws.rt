@@ -1,15 +1,22 @@
 //! Laws on what the planner finds. Each is a function that does nothing, and its contract is the law.
-ghost use Rattle.std.specs.Prelude.{◌↔◌, ◌≤◌, All, Bool, List, length};
+ghost use Rattle.std.specs.Prelude.{◌≡◌, ◌↔◌, ◌≤◌, ℕ, All, Bool, List, length, map, take};
 ghost use Rattle.std.specs.FinSet as set;
 ghost use Rattle.staat_vec.specs.declared.vector.V3.{V3 as Vector};
 ghost use Rattle.staat_vec.specs.Vectors.{negative};
 ghost use Rattle.staat_model.specs.declared.assembly.Part.{Part as PartValue};
+ghost use Rattle.staat_model.specs.declared.certificate.Witness.{Witness as WitnessValue};
 ghost use Rattle.staat_model.specs.declared.set.PartSet.{PartSet as PartSetValue};
 ghost use Rattle.staat_model.specs.Assemblies.{IsAssembly};
+ghost use Rattle.staat_model.specs.Bridges.{swapped};
+ghost use Rattle.staat_model.specs.Certificates.{inward, outward};
+ghost use Rattle.staat_model.specs.Certify.{IsLeastArc, IsWitnessAt};
 ghost use Rattle.staat_model.specs.Outcomes.{AreTries, Finding, IsOutcome, Serves, Try};
 ghost use Rattle.staat_model.specs.Planes.{ArePlanes};
 ghost use Rattle.staat_model.specs.Plans.{IsStuck};
-ghost use Rattle.staat_model.specs.Sets.{IsSubset};
+ghost use Rattle.staat_model.specs.Sets.{IsLeastOf, IsSubset};
+ghost use Rattle.staat_graph.specs.declared.trees.Trees.{Trees as TreesValue};
+ghost use Rattle.staat_graph.specs.Blocking.{ShowsBlocking};
+ghost use Rattle.staat_graph.specs.Graphs.{AreTrees, HasArc};
 ghost use Rattle.staat_plan.specs.Planning.{Settles};
 
 /// Some side of a set is free of the rest along a direction exactly where one is along the opposite direction.
@@ -38,4 +45,16 @@ pub fn tries_decide()
     ensures { (robust : Bool) (parts : List PartValue) (w : PartSetValue) (tries : List Try)
         → IsAssembly parts → 2 ≤ set.len w → AreTries robust parts w tries
         → IsStuck parts w ↔ All (λ t. Serves parts w t.d → ⊥) tries }
+{}
+
+/// Arcs with the ends of the trees of a graph that shows who blocks whom along a direction, each with the least pieces,
+/// are the witness of the direction.
+pub fn witness_of_trees()
+    ensures { (parts : List PartValue) (d : Vector) (w : PartSetValue) (rows : List ℕ) (trees : TreesValue) (root : ℕ)
+        (witness : WitnessValue)
+        → ShowsBlocking parts d w rows → AreTrees (HasArc rows) w trees → IsLeastOf w root
+        → map outward witness.outs ≡ take trees.count trees.outs
+        → map inward witness.ins ≡ map swapped (take trees.count trees.ins)
+        → All (IsLeastArc parts d) witness.outs → All (IsLeastArc parts d) witness.ins
+        → IsWitnessAt parts w d witness }
 {}

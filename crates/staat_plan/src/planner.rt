@@ -6,6 +6,7 @@ ghost use Rattle.staat_model.specs.Outcomes.{IsOutcome, finding_of, planned};
 ghost use Rattle.staat_model.specs.Plans.{leaf, plan_of, split};
 ghost use Rattle.staat_model.specs.Sets.{Has, IsNonempty, below};
 ghost use Rattle.staat_planes.specs.Refusals.{IsPlanesRefusal};
+ghost use Rattle.staat_plan.specs.Certifying.{CanBeCertified};
 ghost use Rattle.staat_plan.specs.Planning.{HasFewPlanes, IsOutcomeOf, Settles, IsSized, IsStepOf};
 
 use crate::step::part_step;
@@ -166,6 +167,7 @@ pub fn plan<F: FacetSource>(
     requires robust { options.robust ≡ false }
     ensures outcome { IfOk result (λ o. IsOutcome options.robust sound.now (below (length sound.now)) (finding_of o)) }
     ensures right { IfOk result (λ o. Settles sound.now (below (length sound.now)) (finding_of o)) }
+    ensures certified { IfOk result (λ o. CanBeCertified sound.now (finding_of o)) }
     ensures sized { IfOk result (λ o. IsSized (finding_of o)) }
     ensures planes { MatchResult result (λ o. HasFewPlanes sound.now (below (length sound.now)) options.planes)
         (IsPlanesRefusal sound.now (below (length sound.now)) options.planes) }

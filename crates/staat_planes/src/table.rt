@@ -3,7 +3,7 @@ ghost use Rattle.std.specs.Prelude.{◌≡◌, ◌<◌, ◌≤◌, ◌+◌, ◌*
 ghost use Rattle.staat_vec.specs.declared.vector.V3.{V3 as Vector};
 ghost use Rattle.staat_vec.specs.Vectors.{IsWithin, dot, sign};
 ghost use Rattle.staat_model.specs.Sets.{Has};
-ghost use Rattle.staat_pairs.specs.Tables.{AreTableFacets, IsPlaneNormal, IsTable, IsTableArc, IsTableFacet, facets_of, pieces_of, reversed_facets};
+ghost use Rattle.staat_pairs.specs.Tables.{AreTableFacets, AreTablePlanes, IsPlaneNormal, IsTable, IsTableArc, IsTableFacet, facets_of, pieces_of, reversed_facets};
 
 use crate::steps::Steps;
 use staat_model::{Arc, MOST_PIECES, PartSet};
@@ -67,6 +67,15 @@ impl PlaneTable {
         ensures rules { IsTable self.now }
     {
         self.table.planes().len() as u32
+    }
+
+    /// The normals of the planes.
+    pub fn planes(&self) -> &[V3]
+        ensures is { result.now ≡ self.now.planes }
+        ensures rules { AreTablePlanes result.now }
+        ensures most { length result.now ≤ MOST_PLANES }
+    {
+        self.table.planes()
     }
 
     /// The normal of the plane `k`, which is below [`len`](PlaneTable::len).

@@ -1,0 +1,13 @@
+use Rattle.std.proofs.lemmas.List.Elements.{All-push}
+use Rattle.std.proofs.Common.{All, sym, subst, List}
+use Rattle.staat_model.specs.declared.certificate.Arc.{Arc}
+use Rattle.staat_model.specs.Certify.{IsLeastArc}
+use Rattle.staat_plan.proofs.TreeArcs.{ends_more}
+use Rattle.staat_plan.proofs.witnesses.arcs_between.Goals as goal
+
+pub loop-ends-preserved : goal.loop-ends-preserved
+loop-ends-preserved c =
+    let is = c.in_ok-push.ensures.items in (
+      ends_more c.args.pairs.now c.loop-ends.ends-index (0, 0) c.loop-ends.arcs.items c.push.new.self.items c.arc_between.result c.loop-ends-test.true c.loop-ends.invariant.0 c.arc_between.ensures.ends is,
+      subst (λ (arcs : List Arc). All (IsLeastArc c.args.sound.now c.args.d) arcs) (sym is) (All-push (IsLeastArc c.args.sound.now c.args.d) c.loop-ends.arcs.items c.arc_between.result c.loop-ends.invariant.1 c.arc_between.ensures.least),
+    )

@@ -1,0 +1,21 @@
+-- Outcomes that have certificates, and certificates that prove outcomes.
+use Rattle.std.specs.Prelude.{List, length}
+use Rattle.staat_vec.specs.declared.vector.TheConstants.{DIRECTION}
+use Rattle.staat_model.specs.declared.assembly.Part.{Part}
+use Rattle.staat_model.specs.declared.certificate.Certificate.{Certificate}
+use Rattle.staat_model.specs.Certificates.{IsValidPlan, IsValidRefusal}
+use Rattle.staat_model.specs.Outcomes.{Finding, planned, stuck}
+use Rattle.staat_model.specs.Plans.{IsGood, IsStuck}
+use Rattle.staat_model.specs.Sets.{below}
+use Rattle.staat_planes.specs.declared.table.TheConstants.{MOST_PLANES}
+use Rattle.staat_plan.specs.Planning.{AreWithin, HasFewPlanes}
+
+-- a plan that takes all parts apart along directions within the bound, or a set that is stuck and has few planes
+abbrev pub CanBeCertified : List Part → Finding → Type 0
+CanBeCertified parts (planned plan marks) = IsGood parts (below (length parts)) plan × AreWithin DIRECTION plan
+CanBeCertified parts (stuck w) = IsStuck parts w × HasFewPlanes parts w MOST_PLANES
+
+-- the certificate proves that what was found is so: a valid plan, or a valid refusal
+abbrev pub IsValidFor : List Part → Finding → Certificate → Type 0
+IsValidFor parts (planned plan marks) c = IsValidPlan parts c
+IsValidFor parts (stuck w) c = IsValidRefusal parts c

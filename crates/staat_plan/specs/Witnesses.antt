@@ -1,0 +1,22 @@
+-- What the search for a witness finds.
+use Rattle.std.specs.Prelude.{ℕ, List}
+use Rattle.staat_vec.specs.declared.vector.V3.{V3}
+use Rattle.staat_model.specs.declared.assembly.Part.{Part}
+use Rattle.staat_model.specs.Sets.{IsLeastOf}
+use Rattle.staat_graph.specs.declared.trees.Trees.{Trees}
+use Rattle.staat_graph.specs.Blocking.{ShowsBlocking}
+use Rattle.staat_graph.specs.Graphs.{AreTrees, HasArc}
+use Rattle.staat_pairs.specs.Tables.{Table}
+use Rattle.staat_planes.specs.Tables.{IsAhead}
+
+-- of two parts the first leads ahead of the second
+abbrev pub LeadsAhead : Table → V3 → ℕ × ℕ → Type 0
+LeadsAhead t d ends = IsAhead t d ends.0 ends.1
+
+-- the trees are those, from the least part, of a graph that shows who blocks whom along d
+pub record AreTreesAlong (parts : List Part) (t : Table) (d : V3) (trees : Trees) : Type 0 where
+  pub root : ℕ
+  pub root_is : IsLeastOf t.of root
+  pub rows : List ℕ
+  pub shows : ShowsBlocking parts d t.of rows
+  pub trees_are : AreTrees (HasArc rows) t.of trees

@@ -1,0 +1,94 @@
+// The certificate of an outcome.
+ghost use Rattle.std.specs.Prelude.{IfOk};
+ghost use Rattle.staat_model.specs.Certify.{IsBodyOf, IsCertificateOf, IsRefusalOf};
+ghost use Rattle.staat_model.specs.Lines.{IsVersion};
+ghost use Rattle.staat_model.specs.Outcomes.{finding_of};
+ghost use Rattle.staat_model.specs.Plans.{IsStuck};
+ghost use Rattle.staat_model.specs.Texts.{IsWellFormed};
+ghost use Rattle.staat_plan.specs.Certifying.{CanBeCertified, IsValidFor};
+ghost use Rattle.staat_plan.specs.Planning.{HasFewPlanes};
+
+use crate::listing::{Listing, listing_of};
+use crate::nodes::plan_nodes;
+use staat_cone::FacetSource;
+use staat_model::{Body, Certificate, Dirs, Outcome, PartSet, Sound, Witnesses};
+use staat_pairs::directions;
+use staat_planes::{MOST_PLANES, PlaneTable, PlanesRefusal, tabulate};
+use staat_vec::OutOfMemory;
+use std::alloc::Global;
+
+// the lines of a set that is stuck
+fn refusal_lines<F: FacetSource>(
+    alloc: Global,
+    source: &F,
+    sound: &Sound,
+    w: PartSet,
+    version: u32,
+) -> Result<Listing, OutOfMemory>
+    requires stuck { IsStuck sound.now w }
+    requires few { HasFewPlanes sound.now w MOST_PLANES }
+    ensures { IfOk result (λ l. IsRefusalOf sound.now version w l.witnesses.items l.dirs.items) }
+{
+    let table = match tabulate(alloc, source, sound, w, MOST_PLANES) {
+        Ok(table) => table,
+        Err(PlanesRefusal::OutOfMemory) => return Err(OutOfMemory),
+        Err(PlanesRefusal::TooManyPlanes(_)) => unreachable!(),
+    };
+    let taken = directions(alloc, version, table.planes())?;
+    listing_of(alloc, sound, &table, taken.as_slice())
+}
+
+// what the certificate says of the outcome
+fn body_of<F: FacetSource>(
+    alloc: Global,
+    source: &F,
+    sound: &Sound,
+    outcome: &Outcome,
+    version: u32,
+) -> Result<Body, OutOfMemory>
+    requires { CanBeCertified sound.now (finding_of outcome.now) }
+    ensures { IfOk result (IsBodyOf sound.now version (finding_of outcome.now)) }
+{
+    match outcome {
+        Outcome::Plan { tree, .. } => {
+            let nodes = plan_nodes(alloc, source, sound.assembly(), tree)?;
+            Ok(Body::Plan(nodes))
+        }
+        Outcome::Stuck(w) => {
+            let lines = refusal_lines(alloc, source, sound, *w, version)?;
+            Ok(Body::Stuck {
+                set: *w,
+                witnesses: Witnesses::from_vec(lines.witnesses),
+                dirs: Dirs::from_vec(lines.dirs),
+            })
+        }
+    }
+}
+
+/// The certificate, of version 1 or 2, of an outcome.
+///
+/// The outcome is a plan that takes all parts apart, whose directions are at most
+/// [`DIRECTION`](staat_vec::DIRECTION), or a set that is stuck and has at most [`MOST_PLANES`] planes; each outcome of
+/// [`plan`](crate::plan) is one. The facets of two pieces are asked of `source` once. The certificate keeps the bounds
+/// and orders of its text, and it is valid.
+pub fn certify<F: FacetSource>(
+    alloc: Global,
+    source: &F,
+    sound: &Sound,
+    outcome: &Outcome,
+    version: u32,
+) -> Result<Certificate, OutOfMemory>
+    requires version { IsVersion version }
+    requires outcome { CanBeCertified sound.now (finding_of outcome.now) }
+    ensures certificate { IfOk result (IsCertificateOf sound.now version (finding_of outcome.now)) }
+    ensures form { IfOk result IsWellFormed }
+    ensures valid { IfOk result (IsValidFor sound.now (finding_of outcome.now)) }
+{
+    let parts = sound.assembly().parts();
+    let body = body_of(alloc, source, sound, outcome, version)?;
+    Ok(Certificate {
+        version,
+        parts,
+        body,
+    })
+}
