@@ -1,0 +1,15 @@
+use Rattle.std.proofs.Common.{[]}
+use Rattle.std.proofs.lemmas.Option.{slice_get-get_or}
+use Rattle.staat_vec.specs.Vectors.{origin}
+use Rattle.staat_pairs.proofs.DropLemmas.{apart_at}
+use Rattle.staat_pairs.proofs.DirectionLemmas.{directions_are, plane_more}
+use Rattle.staat_pairs.proofs.vertices.directions.Goals as goal
+
+pub push_crossings-requires-clause-apart : goal.push_crossings-requires-clause-apart
+push_crossings-requires-clause-apart c = apart_at c.args.planes.now c.planes_from.result.now c.loop-k.k _ (slice_get-get_or c.args.planes.now c.loop-k.k origin c.loop-k-test.true) c.planes_from.ensures c.requires.apart
+
+pub loop-k-preserved : goal.loop-k-preserved
+loop-k-preserved c = plane_more c.args.version _ c.args.planes.now c.planes_from.result.now [] c.loop-k.taken.items c.push_crossings.new.taken.items c.loop-k.k (slice_get-get_or c.args.planes.now c.loop-k.k origin c.loop-k-test.true) c.planes_from.ensures c.loop-k.invariant c.in_ok-push_crossings.ensures
+
+pub returns : goal.returns
+returns c = directions_are c.args.version c.args.planes.now c.loop-k.taken.items c.in_order.result.items c.loop-k.k c.loop-k-test.false c.loop-k.invariant c.in_order.ensures
