@@ -34,7 +34,7 @@ use Rattle.staat_model.proofs.SetMembers.{has-difference}
 use Rattle.staat_pairs.specs.Tables.{IsTableArc, Table, WasMadeFrom}
 use Rattle.staat_check.specs.Conditions.{AreLists, IsAcrossAll, IsFitDir, LeadsAhead}
 use Rattle.staat_check.specs.Verdicts.{IsRefusalVerdict}
-use Rattle.staat_check.proofs.ConditionLemmas.{conditions_law}
+use Rattle.staat_check.proofs.ConditionLemmas.{facets_law, numbers_law, numbers_small}
 use Rattle.staat_check.proofs.ReadLemmas.{more_all}
 
 -- ---- the set
@@ -74,27 +74,33 @@ answer_as P Q xs (Some k) same first = record {
   before = λ m y lt at. (same y (Contains-from_place xs m y at)).0 (first.before m y lt at);
 }
 
-module _ (parts : List Part) (t : Table) (made : WasMadeFrom parts t) (witnesses : List Witness) (lists : List (List V3)) (across : All (IsAcrossAll t) witnesses) (are : AreLists t witnesses (length witnesses) lists) where
-  dir_law : (dir : Dir) → dir.witness < length witnesses → LeadsAhead lists dir ↔ IsBlocked parts witnesses dir
+module _ (parts : List Part) (t : Table) (made : WasMadeFrom parts t) (witnesses : List Witness) (normals : List V3) (lists : List (List ℕ)) (across : All (IsAcrossAll t) witnesses) (are : AreLists t normals witnesses (length witnesses) lists) where
+  dir_law : (dir : Dir) → dir.witness < length witnesses → LeadsAhead normals lists dir ↔ IsBlocked parts witnesses dir
   dir_law dir lt =
       let some = some_at witnesses dir.witness lt in
       let is = All-contains (IsAcrossAll t) witnesses some.0 across (Contains-from_place witnesses dir.witness some.0 some.1) in
-      let law = conditions_law parts t made dir.d some.0 (slice_index_or lists dir.witness []) is (are.each dir.witness some.0 lt some.1) in (
-        λ all. let both = law.0 all in record { witness = some.0; witness_is = some.1; outs = both.0; ins = both.1 },
+      let conditions = are.each dir.witness some.0 lt some.1 in
+      let ahead = numbers_law normals conditions.facets (slice_index_or lists dir.witness []) dir.d conditions.numbers_are in
+      let law = facets_law parts t made dir.d some.0 conditions.facets is conditions.are in (
+        λ all. let both = law.0 (ahead.0 all) in record { witness = some.0; witness_is = some.1; outs = both.0; ins = both.1 },
         λ b.
             let same : b.witness ≡ some.0 = one_at_place witnesses dir.witness b.witness some.0 b.witness_is some.1 in
-            law.1 (subst (λ (w : Witness). All (IsBlocking parts dir.d) w.outs) same b.outs, subst (λ (w : Witness). All (IsBlocking parts dir.d) w.ins) same b.ins),
+            ahead.1 (law.1 (subst (λ (w : Witness). All (IsBlocking parts dir.d) w.outs) same b.outs, subst (λ (w : Witness). All (IsBlocking parts dir.d) w.ins) same b.ins)),
       )
 
-  pub blocked_answer : (dirs : List Dir) (answer : Option ℕ) → All (λ dir. dir.witness < length witnesses) dirs → MatchOption answer (All (LeadsAhead lists) dirs) (FailsFirst (LeadsAhead lists) dirs) → MatchOption answer (All (IsBlocked parts witnesses) dirs) (FailsFirst (IsBlocked parts witnesses) dirs)
-  blocked_answer dirs answer named = answer_as (LeadsAhead lists) (IsBlocked parts witnesses) dirs answer (λ dir c. dir_law dir (All-contains (λ (dir : Dir). dir.witness < length witnesses) dirs dir named c))
+  pub blocked_answer : (dirs : List Dir) (answer : Option ℕ) → All (λ dir. dir.witness < length witnesses) dirs → MatchOption answer (All (LeadsAhead normals lists) dirs) (FailsFirst (LeadsAhead normals lists) dirs) → MatchOption answer (All (IsBlocked parts witnesses) dirs) (FailsFirst (IsBlocked parts witnesses) dirs)
+  blocked_answer dirs answer named = answer_as (LeadsAhead normals lists) (IsBlocked parts witnesses) dirs answer (λ dir c. dir_law dir (All-contains (λ (dir : Dir). dir.witness < length witnesses) dirs dir named c))
 
-pub fit_dirs : (t : Table) (witnesses : List Witness) (dirs : List Dir) (lists : List (List V3)) → AreLists t witnesses (length witnesses) lists → All (λ dir. dir.witness < length witnesses) dirs → All (λ dir. IsWithin DIRECTION dir.d) dirs → All (IsFitDir lists) dirs
-fit_dirs t witnesses dirs lists are named sizes = All-from_members (IsFitDir lists) dirs (λ dir c.
+pub fit_dirs : (t : Table) (normals : List V3) (witnesses : List Witness) (dirs : List Dir) (lists : List (List ℕ)) → AreLists t normals witnesses (length witnesses) lists → All (λ dir. dir.witness < length witnesses) dirs → All (λ dir. IsWithin DIRECTION dir.d) dirs → All (IsFitDir normals lists) dirs
+fit_dirs t normals witnesses dirs lists are named sizes = All-from_members (IsFitDir normals lists) dirs (λ dir c.
     let lt = All-contains (λ (dir : Dir). dir.witness < length witnesses) dirs dir named c in
     let some = some_at witnesses dir.witness lt in
     let conditions = are.each dir.witness some.0 lt some.1 in
-    record { named = subst (λ n. dir.witness < n) (sym are.count) lt; size = All-contains (λ (dir : Dir). IsWithin DIRECTION dir.d) dirs dir sizes c; normals = conditions.within })
+    record {
+      named = subst (λ n. dir.witness < n) (sym are.count) lt;
+      size = All-contains (λ (dir : Dir). IsWithin DIRECTION dir.d) dirs dir sizes c;
+      numbers = numbers_small normals conditions.facets (slice_index_or lists dir.witness []) conditions.numbers_are;
+    })
 
 -- ---- the arcs of witnesses in the table
 

@@ -8,6 +8,7 @@ use Rattle.std.specs.declared.cmp.Ordering.TheVariants.{Less, Equal, Greater}
 use Rattle.std.proofs.lemmas.Bool.{cases_lt}
 use Rattle.std.proofs.lemmas.List.Elements.{All-append, All-cons, All-contains, All-nil, All-tail}
 use Rattle.std.proofs.lemmas.List.Sorted.{searchable_from_sorted}
+use Rattle.std.proofs.lemmas.Option.{slice_get-get_or}
 use Rattle.staat_vec.specs.declared.vector.V3.{V3}
 use Rattle.staat_vec.specs.Lists.{IsFirst}
 use Rattle.staat_vec.specs.Primitives.{canon, primitive}
@@ -38,6 +39,9 @@ same_cmp g = (λ i. ordering_then (sym (int_cmp_is g.x g.x Equal refl) i) (order
 
 pub found : (vs : List V3) (v : V3) (n : ℕ) → n < length vs → ((d : V3) → vector_cmp (get_or vs n d) v ≡ Equal) → Contains vs v
 found vs v n lt equal = (n, lt, vector_exact (get_or vs n v) v (equal v))
+
+pub found_at : (vs : List V3) (v : V3) (n : ℕ) → n < length vs → ((d : V3) → vector_cmp (get_or vs n d) v ≡ Equal) → slice_get vs n ≡ Some v
+found_at vs v n lt equal = slice_get-get_or vs n v lt ∙ ap Some (vector_exact (get_or vs n v) v (equal v))
 
 pub not_found : (vs : List V3) (v : V3) (n : ℕ) → IsStrictlySortedBy vector_cmp vs → (IsNonDecreasingBy (λ q. ordering_index (vector_cmp q v)) vs → IsPartitionPoint (λ q. vector_cmp q v ≡ Less) (λ q. vector_cmp q v ≡ Greater) vs n) → Contains vs v → ⊥
 not_found vs v n sorted split (k, lt, e) =
