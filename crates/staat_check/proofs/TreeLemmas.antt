@@ -1,0 +1,170 @@
+-- The splits of a plan, one node after another.
+use Rattle.std.proofs.Common.{◌≡◌, inl, inr, ℕ, zero, suc, ◌+◌, ◌<◌, ◌≤◌, ◌^◌, arith, refl, sym, ap, subst, ◌∙◌, List, [], ◌∷◌, ◌++◌, length, take, drop, append_assoc, append-nil, length-append}
+use Rattle.std.specs.Prelude.{Some, None, slice_get, sum_by}
+use Rattle.std.proofs.Math.Seq.{drop-append_seam}
+use Rattle.std.proofs.lemmas.List.Sums.{sum_by-append, sum_by-cons, sum_by-take-drop, sum_by-take-le}
+use Rattle.staat_vec.specs.declared.vector.V3.{V3}
+use Rattle.staat_model.specs.declared.assembly.Part.{Part}
+use Rattle.staat_model.specs.declared.certificate.Node.{Node}
+use Rattle.staat_model.specs.declared.certificate.Node.TheVariants.{Leaf, Split}
+use Rattle.staat_model.specs.declared.certificate.Sep.{Sep}
+use Rattle.staat_model.specs.declared.set.PartSet.{PartSet}
+use Rattle.staat_model.specs.declared.verdict.Reason.{Reason}
+use Rattle.staat_model.specs.Certificates.{WalledPlan, walled_leaf, walled_split, IsLeafAt, nodes_of, walled_parts, SplitHolds, SplitsHold}
+use Rattle.staat_model.specs.Reasons.{IsSplitReason, IsTreeReason, first_line, node_size}
+use Rattle.staat_model.specs.Sets.{Has}
+use Rattle.staat_check.specs.Fronts.{forest_nodes}
+use Rattle.staat_check.specs.Forests.{AreJudged, AreSides, ForestHolds, HasPartsOf, IsForestReason, IsNodeAnswer, Remains}
+use Rattle.staat_pairs.proofs.DropLemmas.{drop_at, drop_end}
+use Rattle.staat_check.proofs.FrontLemmas.{some_node}
+
+-- ---- sides
+
+pub get_drop : {X : Type 0} (xs : List X) (n k : ℕ) → slice_get (drop n xs) k ≡ slice_get xs (n + k)
+get_drop xs zero k = ap (slice_get xs) (let e : k ≡ 0 + k = omega arith in e)
+get_drop [] (suc n) k = refl
+get_drop (x ∷ xs) (suc n) k = get_drop xs n k ∙ ap (slice_get (x ∷ xs)) (let e : suc (n + k) ≡ suc n + k = omega arith in e)
+
+pub sides_are : (parts : List Part) (behind from : List Node) (count : ℕ) (moved rest : PartSet) → HasPartsOf parts behind → from ≡ drop count behind
+    → ((q : ℕ) → Has moved q → (k : ℕ) × IsLeafAt behind k q) → ((q : ℕ) → Has rest q → (k : ℕ) × IsLeafAt from k q)
+    → ((t : WalledPlan) (more : List Node) → behind ≡ nodes_of t ++ more → moved ≡ walled_parts t) → ((t : WalledPlan) (more : List Node) → behind ≡ nodes_of t ++ more → count ≡ length (nodes_of t))
+    → ((t : WalledPlan) (more : List Node) → from ≡ nodes_of t ++ more → rest ≡ walled_parts t) → AreSides parts behind moved rest
+sides_are parts behind from count moved rest has e in_moved in_rest moved_is count_is rest_is = record {
+  moved_in = λ q h. let at = in_moved q h in has at.0 q at.1;
+  rest_in = λ q h. let at = in_rest q h in has (count + at.0) q (sym (get_drop behind count at.0) ∙ ap (λ l. slice_get l at.0) (sym e) ∙ at.1);
+  are = λ m r more f. (
+    moved_is m (nodes_of r ++ more) f,
+    rest_is r more (e ∙ (λ i. drop (count_is m (nodes_of r ++ more) f i) (f i)) ∙ drop-append_seam (nodes_of m) (nodes_of r ++ more)),
+  );
+}
+
+pub parts_behind : (parts : List Part) (nodes behind : List Node) (k : ℕ) → HasPartsOf parts nodes → behind ≡ drop k nodes → HasPartsOf parts behind
+parts_behind parts nodes behind k has e m p leaf = has (k + m) p (sym (get_drop nodes k m) ∙ ap (λ l. slice_get l m) (sym e) ∙ leaf)
+
+-- ---- one node more
+
+moved_to : (parts : List Part) (ts : List WalledPlan) (node node' line line' : ℕ) (r : Reason) → node ≡ node' → line ≡ line' → IsForestReason parts ts node line r → IsForestReason parts ts node' line' r
+moved_to parts ts node node' line line' r e f h = subst (λ l. IsForestReason parts ts node' l r) f (subst (λ n. IsForestReason parts ts n line r) e h)
+
+tree_to : (parts : List Part) (t : WalledPlan) (node node' line line' : ℕ) (r : Reason) → node ≡ node' → line ≡ line' → IsTreeReason parts t node line r → IsTreeReason parts t node' line' r
+tree_to parts t node node' line line' r e f h = subst (λ l. IsTreeReason parts t node' l r) f (subst (λ n. IsTreeReason parts t n line r) e h)
+
+module _ (parts : List Part) (t : WalledPlan) (k line : ℕ) where
+  after_leaf : (p : ℕ) (ts : List WalledPlan) (node : Node) (behind : List Node) → node ∷ behind ≡ Leaf p ∷ forest_nodes ts → (ForestHolds parts (walled_leaf p ∷ ts) → SplitsHold parts t)
+      → ((r : Reason) → IsForestReason parts (walled_leaf p ∷ ts) k line r → IsTreeReason parts t 0 first_line r) → Remains parts t behind (k + 1) (line + node_size node)
+  after_leaf p ts node behind e holds reason =
+      let same : node ≡ Leaf p = cc in
+      record {
+        trees = ts;
+        behind_are = (let rest : behind ≡ forest_nodes ts = cc in rest);
+        holds = λ h. holds (tt, h);
+        reason = λ r h. reason r (inr (tt, moved_to parts ts (k + 1) _ (line + node_size node) _ r refl (ap (λ n. line + node_size n) same) h));
+      }
+
+  after_split : (d : V3) (seps : List Sep) (m rest : WalledPlan) (ts : List WalledPlan) (node : Node) (behind : List Node) → node ∷ behind ≡ Split d seps ∷ ((nodes_of m ++ nodes_of rest) ++ forest_nodes ts)
+      → IsNodeAnswer parts node behind k line None → (ForestHolds parts (walled_split d seps m rest ∷ ts) → SplitsHold parts t)
+      → ((r : Reason) → IsForestReason parts (walled_split d seps m rest ∷ ts) k line r → IsTreeReason parts t 0 first_line r) → Remains parts t behind (k + 1) (line + node_size node)
+  after_split d seps m rest ts node behind e answer holds reason =
+      let same : node ≡ Split d seps = cc in
+      let tail : behind ≡ (nodes_of m ++ nodes_of rest) ++ forest_nodes ts = cc in
+      let are : behind ≡ nodes_of m ++ (nodes_of rest ++ forest_nodes ts) = tail ∙ append_assoc (nodes_of m) (nodes_of rest) (forest_nodes ts) in
+      let split : SplitHolds parts (walled_parts m) (walled_parts rest) d seps = (subst (λ n. IsNodeAnswer parts n behind k line None) same answer) m rest (forest_nodes ts) are in
+      let size : node_size node ≡ 1 + length seps = ap node_size same in
+      let count : length (nodes_of m ++ nodes_of rest) ≡ length (nodes_of m) + length (nodes_of rest) = length-append (nodes_of m) (nodes_of rest) in
+      let sizes : sum_by node_size (nodes_of m ++ nodes_of rest) ≡ sum_by node_size (nodes_of m) + sum_by node_size (nodes_of rest) = sum_by-append node_size (nodes_of m) (nodes_of rest) in
+      let whole : sum_by node_size (nodes_of (walled_split d seps m rest)) ≡ 1 + length seps + sum_by node_size (nodes_of m ++ nodes_of rest) = sum_by-cons node_size (Split d seps) (nodes_of m ++ nodes_of rest) in
+      record {
+        trees = m ∷ rest ∷ ts;
+        behind_are = are;
+        holds = λ h. holds ((split, h.0, h.1.0), h.1.1);
+        reason = λ r h. reason r (step r size count sizes whole split h);
+      }
+    where
+      step : (r : Reason) → node_size node ≡ 1 + length seps → length (nodes_of m ++ nodes_of rest) ≡ length (nodes_of m) + length (nodes_of rest)
+          → sum_by node_size (nodes_of m ++ nodes_of rest) ≡ sum_by node_size (nodes_of m) + sum_by node_size (nodes_of rest)
+          → sum_by node_size (nodes_of (walled_split d seps m rest)) ≡ 1 + length seps + sum_by node_size (nodes_of m ++ nodes_of rest)
+          → SplitHolds parts (walled_parts m) (walled_parts rest) d seps → IsForestReason parts (m ∷ rest ∷ ts) (k + 1) (line + node_size node) r → IsForestReason parts (walled_split d seps m rest ∷ ts) k line r
+      step r size count sizes whole split (inl in_moved) = inl (inr (split, inl (tree_to parts m (k + 1) _ (line + node_size node) _ r refl (let f : line + node_size node ≡ line + 1 + length seps = omega (arith, size) in f) in_moved)))
+      step r size count sizes whole split (inr (hm, inl in_rest)) =
+          inl (inr (
+            split,
+            inr (
+              hm,
+              tree_to parts rest (k + 1 + length (nodes_of m)) _ (line + node_size node + sum_by node_size (nodes_of m)) _ r refl
+                  (let f : line + node_size node + sum_by node_size (nodes_of m) ≡ line + 1 + length seps + sum_by node_size (nodes_of m) = omega (arith, size) in f) in_rest,
+            ),
+          ))
+      step r size count sizes whole split (inr (hm, inr (hr, later))) =
+          inr (
+            (split, hm, hr),
+            moved_to parts ts (k + 1 + length (nodes_of m) + length (nodes_of rest)) _ (line + node_size node + sum_by node_size (nodes_of m) + sum_by node_size (nodes_of rest)) _ r
+                (let e : k + 1 + length (nodes_of m) + length (nodes_of rest) ≡ k + suc (length (nodes_of m ++ nodes_of rest)) = omega (arith, count) in e)
+                (let f : line + node_size node + sum_by node_size (nodes_of m) + sum_by node_size (nodes_of rest) ≡ line + sum_by node_size (nodes_of (walled_split d seps m rest)) = omega (arith, size, sizes, whole) in f) later,
+          )
+
+  after_node : (ts : List WalledPlan) (node : Node) (behind : List Node) → node ∷ behind ≡ forest_nodes ts → IsNodeAnswer parts node behind k line None → (ForestHolds parts ts → SplitsHold parts t)
+      → ((r : Reason) → IsForestReason parts ts k line r → IsTreeReason parts t 0 first_line r) → Remains parts t behind (k + 1) (line + node_size node)
+  after_node [] node behind e answer holds reason = absurd cc
+  after_node (walled_leaf p ∷ ts) node behind e answer holds reason = after_leaf p ts node behind e holds reason
+  after_node (walled_split d seps m rest ∷ ts) node behind e answer holds reason = after_split d seps m rest ts node behind e answer holds reason
+
+  -- the node breaks a rule
+  at_node : (reason : Reason) (ts : List WalledPlan) (node : Node) (behind : List Node) → node ∷ behind ≡ forest_nodes ts → IsNodeAnswer parts node behind k line (Some reason)
+      → ((r : Reason) → IsForestReason parts ts k line r → IsTreeReason parts t 0 first_line r) → IsTreeReason parts t 0 first_line reason
+  at_node reason [] node behind e answer why = absurd cc
+  at_node reason (walled_leaf p ∷ ts) node behind e answer why =
+      let same : node ≡ Leaf p = cc in
+      let wrong : Some reason ≡ None = subst (λ n. IsNodeAnswer parts n behind k line (Some reason)) same answer in
+      absurd cc
+  at_node reason (walled_split d seps m rest ∷ ts) node behind e answer why =
+      let same : node ≡ Split d seps = cc in
+      let tail : behind ≡ (nodes_of m ++ nodes_of rest) ++ forest_nodes ts = cc in
+      let split : IsSplitReason parts (walled_parts m) (walled_parts rest) d seps k line reason =
+      (subst (λ n. IsNodeAnswer parts n behind k line (Some reason)) same answer) m rest (forest_nodes ts) (tail ∙ append_assoc (nodes_of m) (nodes_of rest) (forest_nodes ts)) in
+      why reason (inl (inl split))
+
+line_next : (nodes : List Node) (k : ℕ) (node : Node) → slice_get nodes k ≡ Some node → sum_by node_size (take k nodes) + node_size node ≡ sum_by node_size (take (k + 1) nodes)
+line_next nodes k node at =
+    let before : sum_by node_size (take k nodes) + sum_by node_size (drop k nodes) ≡ sum_by node_size nodes = sum_by-take-drop node_size nodes k in
+    let after : sum_by node_size (take (k + 1) nodes) + sum_by node_size (drop (k + 1) nodes) ≡ sum_by node_size nodes = sum_by-take-drop node_size nodes (k + 1) in
+    let cut : sum_by node_size (drop k nodes) ≡ node_size node + sum_by node_size (drop (k + 1) nodes) = ap (sum_by node_size) (drop_at nodes k node at) ∙ sum_by-cons node_size node (drop (k + 1) nodes) in
+    omega (arith, before, after, cut)
+
+pub judged_none : (parts : List Part) (nodes : List Node) → AreJudged parts nodes 0 first_line
+judged_none parts nodes = record {
+  line_is = refl;
+  remains = λ t e. record { trees = t ∷ []; behind_are = e ∙ sym (append-nil (nodes_of t)); holds = λ h. h.0; reason = λ r h. one parts t r h };
+}
+  where
+    one : (parts : List Part) (t : WalledPlan) (r : Reason) → IsForestReason parts (t ∷ []) 0 first_line r → IsTreeReason parts t 0 first_line r
+    one parts t r (inl h) = h
+    one parts t r (inr h) = absurd h.1
+
+pub judged_next : (parts : List Part) (nodes behind : List Node) (k line next : ℕ) (node : Node) → slice_get nodes k ≡ Some node → behind ≡ drop (k + 1) nodes → next ≡ line + node_size node → AreJudged parts nodes k line → IsNodeAnswer parts node behind k line None → AreJudged parts nodes (k + 1) next
+judged_next parts nodes behind k line next node at e f are answer = record {
+  line_is = omega (arith, f, are.line_is, line_next nodes k node at);
+  remains = λ t g.
+      let r = are.remains t g in
+      subst (λ l. Remains parts t (drop (k + 1) nodes) (k + 1) l) (sym f)
+      (after_node parts t k line r.trees node (drop (k + 1) nodes) (sym (drop_at nodes k node at) ∙ r.behind_are) (subst (λ l. IsNodeAnswer parts node l k line None) e answer) r.holds r.reason);
+}
+
+pub judged_found : (parts : List Part) (nodes behind : List Node) (k line : ℕ) (node : Node) (reason : Reason) → slice_get nodes k ≡ Some node → behind ≡ drop (k + 1) nodes → AreJudged parts nodes k line → IsNodeAnswer parts node behind k line (Some reason)
+    → (t : WalledPlan) → nodes ≡ nodes_of t → IsTreeReason parts t 0 first_line reason
+judged_found parts nodes behind k line node reason at e are answer t g =
+    let r = are.remains t g in
+    at_node parts t k line reason r.trees node (drop (k + 1) nodes) (sym (drop_at nodes k node at) ∙ r.behind_are) (subst (λ l. IsNodeAnswer parts node l k line (Some reason)) e answer) r.reason
+
+pub judged_all : (parts : List Part) (nodes : List Node) (k line : ℕ) → length nodes ≤ k → AreJudged parts nodes k line → (t : WalledPlan) → nodes ≡ nodes_of t → SplitsHold parts t
+judged_all parts nodes k line le are t e = let r = are.remains t e in go r.trees (sym (drop_end nodes k le) ∙ r.behind_are) r.holds
+  where
+    none : (l more : List Node) → 1 ≤ length l → [] ≡ l ++ more → ⊥
+    none [] more h f = omega arith
+    none (x ∷ l) more h f = cc
+
+    go : (ts : List WalledPlan) → [] ≡ forest_nodes ts → (ForestHolds parts ts → SplitsHold parts t) → SplitsHold parts t
+    go [] f holds = holds tt
+    go (u ∷ ts) f holds = absurd (none (nodes_of u) (forest_nodes ts) (some_node u) f)
+
+pub lines_fit : (parts : List Part) (nodes : List Node) (k line : ℕ) (node : Node) → slice_get nodes k ≡ Some node → AreJudged parts nodes k line → first_line + sum_by node_size nodes < 2 ^ 32 → line + node_size node < 2 ^ 32
+lines_fit parts nodes k line node at are few = omega (arith, are.line_is, few, line_next nodes k node at, sum_by-take-le node_size nodes (k + 1))

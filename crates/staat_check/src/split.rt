@@ -1,0 +1,119 @@
+// The rules of one split.
+ghost use Rattle.std.specs.Prelude.{◌≡◌, ◌+◌, ◌<◌, ◌^◌, ◌↔◌, IsTrue, All, IfSome, MatchOption, length, map};
+ghost use Rattle.std.specs.List.Sorted.{IsStrictlySortedBy};
+ghost use Rattle.staat_vec.specs.Lists.{FailsFirst};
+ghost use Rattle.staat_vec.specs.Vectors.{IsWithin, origin};
+ghost use Rattle.staat_model.specs.Assemblies.{HoldsAt, piece_count};
+ghost use Rattle.staat_model.specs.Certificates.{IsAcross, IsWall, SplitHolds, arc_cmp};
+ghost use Rattle.staat_model.specs.Lines.{IsArcInBounds};
+ghost use Rattle.staat_model.specs.Reasons.{IsSplitReason};
+ghost use Rattle.staat_model.specs.Sets.{Has};
+ghost use Rattle.staat_model.specs.Walls.{IsShown};
+ghost use Rattle.staat_check.specs.Forests.{ArePartsOf, IsSepInBounds};
+
+use crate::missing::first_missing;
+use staat_cone::separates;
+use staat_model::{Arc, Assembly, PartSet, Reason, Sep};
+use staat_vec::{DIRECTION, NORMAL, ORIGIN, V3, dot, is_same};
+
+// whether the arc leads from a part of s to one of r
+fn has_ends(s: PartSet, r: PartSet, arc: Arc) -> bool
+    requires { IsArcInBounds arc }
+    ensures { IsTrue result ↔ (Has s arc.a × Has r arc.b) }
+{
+    s.has(arc.a) && r.has(arc.b)
+}
+
+// whether the two pieces of the arc exist
+fn has_pieces(assembly: &Assembly, arc: Arc) -> bool
+    requires a { arc.a < length assembly.now }
+    requires b { arc.b < length assembly.now }
+    ensures { IsTrue result ↔ ((arc.i < piece_count assembly.now arc.a) × (arc.j < piece_count assembly.now arc.b)) }
+{
+    arc.i < assembly.pieces(arc.a) && arc.j < assembly.pieces(arc.b)
+}
+
+/// Whether the arc joins a piece of a part of `s` and a piece of a part of `r`. Both hold parts of the assembly alone.
+pub fn is_across(assembly: &Assembly, s: PartSet, r: PartSet, arc: Arc) -> bool
+    requires s { ArePartsOf assembly.now s }
+    requires r { ArePartsOf assembly.now r }
+    requires arc { IsArcInBounds arc }
+    ensures { IsTrue result ↔ IsAcross assembly.now s r arc }
+{
+    has_ends(s, r, arc) && has_pieces(assembly, arc)
+}
+
+// whether the wall shows that the first piece never meets the second along d
+fn is_shown(assembly: &Assembly, sep: Sep, d: V3) -> bool
+    requires normal { IsWithin NORMAL sep.n }
+    requires direction { IsWithin DIRECTION d }
+    requires a { sep.arc.a < length assembly.now }
+    requires i { sep.arc.i < piece_count assembly.now sep.arc.a }
+    requires b { sep.arc.b < length assembly.now }
+    requires j { sep.arc.j < piece_count assembly.now sep.arc.b }
+    ensures { IsTrue result ↔ HoldsAt assembly.now sep.arc (λ p q. IsShown p q d sep.n) }
+{
+    let p = assembly.piece(sep.arc.a, sep.arc.i);
+    let q = assembly.piece(sep.arc.b, sep.arc.j);
+    separates(sep.n, p, q) && dot(sep.n, d) <= 0
+}
+
+// whether the wall is for two pieces across, and shows that the first never meets the second along d
+fn is_wall(assembly: &Assembly, s: PartSet, r: PartSet, d: V3, sep: Sep) -> bool
+    requires s { ArePartsOf assembly.now s }
+    requires r { ArePartsOf assembly.now r }
+    requires direction { IsWithin DIRECTION d }
+    requires sep { IsSepInBounds sep }
+    ensures { IsTrue result ↔ IsWall assembly.now s r d sep }
+{
+    is_across(assembly, s, r, sep.arc) && is_shown(assembly, sep, d)
+}
+
+// the first wall that breaks its rule
+fn first_bad_wall(assembly: &Assembly, s: PartSet, r: PartSet, d: V3, seps: &[Sep]) -> Option<u32>
+    requires s { ArePartsOf assembly.now s }
+    requires r { ArePartsOf assembly.now r }
+    requires direction { IsWithin DIRECTION d }
+    requires seps { All IsSepInBounds seps.now }
+    requires few { length seps.now < 2 ^ 32 }
+    ensures answer { MatchOption result (All (IsWall assembly.now s r d) seps.now) (FailsFirst (IsWall assembly.now s r d) seps.now) }
+    ensures place { IfSome result (λ m. m < length seps.now) }
+{
+    for (m, sep) in seps.iter().enumerate() {
+        if !is_wall(assembly, s, r, d, *sep) {
+            return Some(m as u32);
+        }
+    }
+    None
+}
+
+/// The first rule that a split breaks: `s` moves along `d` away from `r`, which the walls `seps` are to show. The split
+/// is the node of this number, on this line.
+pub fn split_reason(
+    assembly: &Assembly,
+    s: PartSet,
+    r: PartSet,
+    d: V3,
+    seps: &[Sep],
+    node: u32,
+    line: u32,
+) -> Option<Reason>
+    requires s { ArePartsOf assembly.now s }
+    requires r { ArePartsOf assembly.now r }
+    requires direction { IsWithin DIRECTION d }
+    requires seps { All IsSepInBounds seps.now }
+    requires ascending { IsStrictlySortedBy arc_cmp (map (λ sep. sep.arc) seps.now) }
+    requires few { line + length seps.now < 2 ^ 32 }
+    ensures { MatchOption result (SplitHolds assembly.now s r d seps.now) (IsSplitReason assembly.now s r d seps.now node line) }
+{
+    if is_same(d, ORIGIN) {
+        return Some(Reason::ZeroDirection(node));
+    }
+    match first_bad_wall(assembly, s, r, d, seps) {
+        Some(m) => Some(Reason::BadSeparator(line + 1 + m)),
+        None => match first_missing(assembly, s, r, seps) {
+            Some(arc) => Some(Reason::MissingSeparator(arc.a, arc.i, arc.b, arc.j)),
+            None => None,
+        },
+    }
+}
