@@ -376,7 +376,16 @@ const LEFT: &[u8] =
 const DOVETAIL: &[u8] =
     b"{\"parts\":[{\"name\":\"tail\",\"pieces\":[\"tail.off\"]},{\"name\":\"socket\",\"pieces\":[\"base.off\",\"right.off\",\"left.off\"]}]}";
 
-const HELD: [(&str, &[u8]); 12] = [
+const NEAR: &[u8] =
+    b"{\"parts\":[{\"name\":\"p\",\"pieces\":[\"a.off\"]},{\"name\":\"q\",\"pieces\":[\"a.off\"],\"at\":[262142,0,-2]}]}";
+
+const FAR: &[u8] =
+    b"{\"parts\":[{\"name\":\"p\",\"pieces\":[\"a.off\"]},{\"name\":\"q\",\"pieces\":[\"b.off\"],\"at\":[262142,0,0]}]}";
+
+const UNMOVED: &[u8] =
+    b"{\"parts\":[{\"name\":\"p\",\"pieces\":[\"a.off\"],\"at\":[2,0,0]},{\"name\":\"q\",\"pieces\":[\"b.off\"]}]}";
+
+const HELD: [(&str, &[u8]); 15] = [
     ("a.off", CUBE),
     ("b.off", BESIDE),
     ("cut.off", b"OFF 1"),
@@ -389,13 +398,34 @@ const HELD: [(&str, &[u8]); 12] = [
     ("right.off", RIGHT),
     ("left.off", LEFT),
     ("dovetail.json", DOVETAIL),
+    ("near.json", NEAR),
+    ("far.json", FAR),
+    ("unmoved.json", UNMOVED),
 ];
 
 #[test]
 fn the_parts_of_an_input_are_listed(rt: HostRuntime) -> Result<(), Fail> {
     let alloc = rt.alloc();
     let usage = "staat: usage\n";
-    let table: [(&[&str], u8, &str, &str); 17] = [
+    let table: [(&[&str], u8, &str, &str); 20] = [
+        (
+            &["look", "--manifest=near.json"],
+            0,
+            "part 0 pieces 1 points 8 name p\npart 1 pieces 1 points 8 name q\nsound\n",
+            "",
+        ),
+        (
+            &["look", "--manifest=far.json"],
+            3,
+            "",
+            "staat: b.off: placed too far\n",
+        ),
+        (
+            &["look", "--manifest=unmoved.json"],
+            3,
+            "",
+            "staat: parts 0 and 1 overlap in pieces 0 and 0\n",
+        ),
         (
             &["look", "--manifest=dovetail.json"],
             0,
