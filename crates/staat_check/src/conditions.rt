@@ -4,7 +4,8 @@ ghost use Rattle.std.specs.List.Sorted.{IsStrictlySortedBy};
 ghost use Rattle.staat_vec.specs.Lists.{Lists};
 ghost use Rattle.staat_vec.specs.Vectors.{IsWithin, vector_cmp};
 ghost use Rattle.staat_pairs.specs.Tables.{IsTableArc};
-ghost use Rattle.staat_check.specs.Conditions.{AddsFacets, AreConditions, AreFacets, AreLists, AreNumbers, IsAcrossAll, IsEitherOf};
+ghost use Rattle.staat_check.specs.Conditions.{AddsFacets, AreConditions, AreFacets, AreLists, AreNumbers};
+ghost use Rattle.staat_check.specs.Conditions.{IsAcrossAll, IsEitherOf};
 ghost use Rattle.staat_check.specs.Negatives.{AddsNegatives};
 
 use staat_model::{Arc, Witness};

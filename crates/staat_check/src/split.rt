@@ -1,7 +1,6 @@
 // The rules of one split.
 ghost use Rattle.std.specs.Prelude.{◌≡◌, ◌+◌, ◌<◌, ◌^◌, ◌↔◌, IsTrue, All, IfSome, MatchOption, length, map};
 ghost use Rattle.std.specs.List.Sorted.{IsStrictlySortedBy};
-ghost use Rattle.staat_vec.specs.Lists.{FailsFirst};
 ghost use Rattle.staat_vec.specs.Vectors.{IsWithin, origin};
 ghost use Rattle.staat_model.specs.Assemblies.{HoldsAt, piece_count};
 ghost use Rattle.staat_model.specs.Certificates.{IsAcross, IsWall, SplitHolds, arc_cmp};
@@ -10,6 +9,7 @@ ghost use Rattle.staat_model.specs.Reasons.{IsSplitReason};
 ghost use Rattle.staat_model.specs.Sets.{Has};
 ghost use Rattle.staat_model.specs.Walls.{IsShown};
 ghost use Rattle.staat_check.specs.Forests.{ArePartsOf, IsSepInBounds};
+ghost use Rattle.staat_check.specs.Searches.{TellsPlace};
 
 use crate::missing::first_missing;
 use staat_cone::separates;
@@ -76,7 +76,7 @@ fn first_bad_wall(assembly: &Assembly, s: PartSet, r: PartSet, d: V3, seps: &[Se
     requires direction { IsWithin DIRECTION d }
     requires seps { All IsSepInBounds seps.now }
     requires few { length seps.now < 2 ^ 32 }
-    ensures answer { MatchOption result (All (IsWall assembly.now s r d) seps.now) (FailsFirst (IsWall assembly.now s r d) seps.now) }
+    ensures answer { TellsPlace (IsWall assembly.now s r d) seps.now result }
     ensures place { IfSome result (λ m. m < length seps.now) }
 {
     for (m, sep) in seps.iter().enumerate() {
@@ -104,7 +104,8 @@ pub fn split_reason(
     requires seps { All IsSepInBounds seps.now }
     requires ascending { IsStrictlySortedBy arc_cmp (map (λ sep. sep.arc) seps.now) }
     requires few { line + length seps.now < 2 ^ 32 }
-    ensures { MatchOption result (SplitHolds assembly.now s r d seps.now) (IsSplitReason assembly.now s r d seps.now node line) }
+    ensures { MatchOption result (SplitHolds assembly.now s r d seps.now)
+        (IsSplitReason assembly.now s r d seps.now node line) }
 {
     if is_same(d, ORIGIN) {
         return Some(Reason::ZeroDirection(node));

@@ -9,8 +9,7 @@ use staat_vec::V3;
 use std::alloc::Global;
 use std::test::Fail;
 
-const CUBES: &str =
-    "STAAT 1\nparts 2\nplan\nsplit 0 0 1\nsep 0 0 1 0 1 0 0\nleaf 0\nleaf 1\nend\n";
+const CUBES: &str = "STAAT 1\nparts 2\nplan\nsplit 0 0 1\nsep 0 0 1 0 1 0 0\nleaf 0\nleaf 1\nend\n";
 
 const DOVETAIL: &str =
     "STAAT 1\nparts 2\nplan\nsplit 0 -1 0\nsep 0 0 1 0 0 0 -1\nsep 0 0 1 1 2 0 1\n\
@@ -44,22 +43,22 @@ fn prisms_of(alloc: Global, bases: &[[(i128, i128); 4]]) -> Result<Part, Fail> {
     Ok(part)
 }
 
-// the cube with side 2 whose least corner lies on the x axis
-fn cube(alloc: Global, x: i128) -> Result<Part, Fail> {
-    boxes_of(alloc, &[(at(x, 0, 0), at(x + 2, 2, 2))])
+// the box between two places on the x axis whose other coordinates are from 0 to 2
+fn cube(alloc: Global, left: i128, right: i128) -> Result<Part, Fail> {
+    boxes_of(alloc, &[(at(left, 0, 0), at(right, 2, 2))])
 }
 
 // the cube from 0 to 2 among these boxes
 fn cube_in(alloc: Global, corners: &[(V3, V3)]) -> Result<Sound, Fail> {
     let around = boxes_of(alloc, corners)?;
-    sound_of(alloc, vec![in alloc; cube(alloc, 0)?, around]?)
+    sound_of(alloc, vec![in alloc; cube(alloc, 0, 2)?, around]?)
 }
 
 // the text in which one line, counted from 1, is replaced, or left out where the new one is empty
 fn changed(alloc: Global, text: &str, number: usize, line: &str) -> Result<String, Fail> {
     let mut out = String::new(alloc);
     for (k, old) in text.lines().enumerate() {
-        let new = if k + 1 == number { line } else { old };
+        let new = if number == k + 1 { line } else { old };
         if !new.is_empty() {
             out.push_str(new)?;
             out.push('\n')?;
@@ -84,14 +83,13 @@ fn verdict(
 #[test]
 fn plans(rt: HostRuntime) -> Result<(), Fail> {
     let alloc = rt.alloc();
-    let two = sound_of(alloc, vec![in alloc; cube(alloc, 0)?, cube(alloc, 2)?]?)?;
+    let two = sound_of(
+        alloc,
+        vec![in alloc; cube(alloc, 0, 2)?, cube(alloc, 2, 4)?]?,
+    )?;
     let table = [
         (NONE, "", Verdict::ValidPlan),
-        (
-            5,
-            "",
-            Verdict::Not(Reason::MissingSeparator(0, 0, 1, 0)),
-        ),
+        (5, "", Verdict::Not(Reason::MissingSeparator(0, 0, 1, 0))),
         (4, "split 0 0 0", Verdict::Not(Reason::ZeroDirection(0))),
         (4, "split 1 0 0", Verdict::Not(Reason::BadSeparator(5))),
         (
@@ -112,9 +110,12 @@ fn plans(rt: HostRuntime) -> Result<(), Fail> {
     }
     let three = sound_of(
         alloc,
-        vec![in alloc; cube(alloc, 0)?, cube(alloc, 2)?, cube(alloc, 4)?]?,
+        vec![in alloc; cube(alloc, 0, 2)?, cube(alloc, 2, 4)?, cube(alloc, 4, 6)?]?,
     )?;
-    assert_eq!(rt; verdict(alloc, &three, CUBES, NONE, "")?, Verdict::Not(Reason::WrongParts(2)));
+    assert_eq!(rt;
+        verdict(alloc, &three, CUBES, NONE, "")?,
+        Verdict::Not(Reason::WrongParts(2))
+    );
     Ok(())
 }
 
@@ -174,8 +175,14 @@ fn refusals(rt: HostRuntime) -> Result<(), Fail> {
         ),
     ];
     for (number, line, want) in table {
-        assert_eq!(rt; verdict(alloc, &closed, BOX_IN_VERSION_2, number, line)?, want);
+        assert_eq!(rt;
+            verdict(alloc, &closed, BOX_IN_VERSION_2, number, line)?,
+            want
+        );
     }
-    assert_eq!(rt; verdict(alloc, &open, BOX, NONE, "")?, Verdict::Not(Reason::BadTree(2)));
+    assert_eq!(rt;
+        verdict(alloc, &open, BOX, NONE, "")?,
+        Verdict::Not(Reason::BadTree(2))
+    );
     Ok(())
 }

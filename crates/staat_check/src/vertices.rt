@@ -1,12 +1,12 @@
 // The search for the first vertex of planes that no line has.
 ghost use Rattle.std.specs.Prelude.{◌≡◌, ◌≢◌, ◌⊎◌, ◌≤◌, ◌↔◌, All, Contains, IsTrue, MatchOption, drop, length};
 ghost use Rattle.std.specs.List.Sorted.{IsStrictlySortedBy};
-ghost use Rattle.staat_vec.specs.Lists.{IsFirst};
 ghost use Rattle.staat_vec.specs.Primitives.{primitive};
 ghost use Rattle.staat_vec.specs.Vectors.{IsWithin, cross, negative, origin, vector_cmp};
 ghost use Rattle.staat_model.specs.Planes.{crossings, vertices};
 ghost use Rattle.staat_model.proofs.PlaneLemmas.{NoneParallel};
-ghost use Rattle.staat_check.specs.Known.{IsKnown, IsUnknown};
+ghost use Rattle.staat_check.specs.Known.{IsKnown, IsUnknownOfBoth};
+ghost use Rattle.staat_check.specs.Searches.{TellsFirst};
 
 use staat_pairs::{crossing, planes_from};
 use staat_vec::{DIRECTION, NORMAL, V3, canon, neg};
@@ -50,7 +50,7 @@ fn unknown_of_both(version: u32, listed: &[V3], v: V3) -> Option<V3>
     requires ascending { IsStrictlySortedBy vector_cmp listed.now }
     requires size { IsWithin DIRECTION v }
     requires some { v ≢ origin }
-    ensures { MatchOption result (IsKnown version listed.now v × IsKnown version listed.now (negative v)) (λ d. ((d ≡ v) × IsUnknown version listed.now v) ⊎ (IsKnown version listed.now v × (d ≡ negative v) × IsUnknown version listed.now (negative v))) }
+    ensures { IsUnknownOfBoth version listed.now v result }
 {
     if !is_known(version, listed, v) {
         return Some(v);
@@ -72,7 +72,7 @@ fn unknown_crossing(version: u32, listed: &[V3], g: V3, hs: &[V3]) -> Option<V3>
     requires g { IsWithin NORMAL g }
     requires hs { All (IsWithin NORMAL) hs.now }
     requires apart { All (λ h. cross g h ≢ origin) hs.now }
-    ensures { MatchOption result (All (IsKnown version listed.now) (crossings g hs.now)) (IsFirst (IsUnknown version listed.now) (crossings g hs.now)) }
+    ensures { TellsFirst (IsKnown version listed.now) (crossings g hs.now) result }
 {
     for h in hs {
         match unknown_of_both(version, listed, crossing(g, *h)) {
@@ -91,7 +91,7 @@ pub fn first_unknown(version: u32, listed: &[V3], planes: &[V3]) -> Option<V3>
     requires ascending { IsStrictlySortedBy vector_cmp listed.now }
     requires planes { All (IsWithin NORMAL) planes.now }
     requires apart { NoneParallel planes.now }
-    ensures { MatchOption result (All (IsKnown version listed.now) (vertices planes.now)) (IsFirst (IsUnknown version listed.now) (vertices planes.now)) }
+    ensures { TellsFirst (IsKnown version listed.now) (vertices planes.now) result }
 {
     for (k, g) in planes.iter().enumerate() {
         match unknown_crossing(version, listed, *g, planes_from(planes, k + 1)) {
