@@ -16,7 +16,6 @@ use Rattle.staat_vec.specs.Vectors.{cross, negative, origin, vector_cmp}
 use Rattle.staat_vec.proofs.Canons.{canon-either, negative-negative}
 use Rattle.staat_vec.proofs.VectorOrder.{vector_exact, vector_total}
 use Rattle.staat_model.specs.Planes.{crossings, vertices}
-use Rattle.staat_model.proofs.PlaneLemmas.{NoneParallel}
 use Rattle.staat_check.specs.Known.{AskedBehind, IsKnown, IsUnknown}
 use Rattle.staat_pairs.proofs.DropLemmas.{drop_at, drop_end}
 

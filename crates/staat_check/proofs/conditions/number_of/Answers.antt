@@ -1,6 +1,3 @@
-use Rattle.std.proofs.Common.{ap, ◌∙◌}
-use Rattle.std.specs.Prelude.{Some}
-use Rattle.std.proofs.lemmas.Option.{slice_get-get_or}
 use Rattle.staat_check.proofs.VertexSearch.{found_at, not_found}
 use Rattle.staat_check.proofs.conditions.number_of.Goals as goal
 

@@ -1,4 +1,4 @@
-use Rattle.std.proofs.Common.{◌↔◌, ◌∙◌, subst, ap, [], List, ℕ, All, get_or}
+use Rattle.std.proofs.Common.{◌↔◌, ◌∙◌, subst, [], List, ℕ, All}
 use Rattle.std.specs.Bool.{IsTrue}
 use Rattle.staat_check.specs.Conditions.{LeadsAheadOf}
 use Rattle.staat_check.proofs.ReadLemmas.{read_or}

@@ -1,7 +1,5 @@
-use Rattle.std.proofs.Common.{subst, sym, All}
-use Rattle.staat_model.specs.Certificates.{HasLine}
+use Rattle.std.proofs.Common.{subst, sym}
 use Rattle.staat_model.proofs.PlaneLemmas.{NoneParallel}
-use Rattle.staat_model.proofs.ValidCertificates.{all_listed}
 use Rattle.staat_check.proofs.RefusalRules.{each_listed}
 use Rattle.staat_check.proofs.refusal.are_all_listed.Goals as goal
 

@@ -1,6 +1,5 @@
-use Rattle.std.proofs.Common.{arith, ◌≤◌, refl, subst, sym, All, length, take}
+use Rattle.std.proofs.Common.{arith, ◌≤◌, subst, sym, All, length, take}
 use Rattle.std.proofs.lemmas.Bool.Decides.{nat_tests}
-use Rattle.std.proofs.lemmas.List.{take_all}
 use Rattle.staat_model.specs.Certificates.{HasLine}
 use Rattle.staat_check.proofs.ReadLemmas.{whole_all}
 use Rattle.staat_check.proofs.RefusalRules.{next_line}
