@@ -8,6 +8,10 @@ use Rattle.staat_model.specs.Assemblies.{IsSound}
 use Rattle.staat_model.specs.Certificates.{arc_cmp}
 use Rattle.staat_model.specs.declared.set.PartSet.{PartSet}
 use Rattle.staat_model.specs.Sets.{Has}
+use Rattle.staat_model.specs.declared.certificate.Certificate.{Certificate}
+use Rattle.staat_model.specs.Outcomes.{Finding, IsOutcome}
+use Rattle.staat_model.specs.Texts.{text_of}
+use Rattle.staat_model.proofs.OneCertificate.{IsCertificateOf-unique}
 use Rattle.staat_model.proofs.OneOutcome.{IsOutcome-unique}
 use Rattle.staat_model.proofs.OneTable.{ArePlanes-unique}
 use Rattle.staat_model.proofs.Orders.{arc_exact, arc_total}
@@ -16,7 +20,7 @@ use Rattle.staat_graph.specs.Graphs.{HasArc}
 use Rattle.staat_planes.specs.declared.table.TheConstants.{MOST_PLANES}
 use Rattle.staat_text.proofs.SameArcs.{same_graph_text}
 use Rattle.staat_asm.specs.Overlaps.{IsFirstOverlap, IsOverlap}
-use Rattle.staat_fault.specs.declared.fault.Fault.TheVariants.{Usage, ReadFault, Overlap, TooManyPlanes}
+use Rattle.staat_fault.specs.declared.fault.Fault.TheVariants.{Usage, ReadFault, Overlap, TextTooLong, TooManyPlanes}
 use Rattle.staat_fault.specs.declared.fault.Fault.{Fault}
 use Rattle.staat_mesh.specs.declared.refusal.MeshRefusal.{MeshRefusal}
 use Rattle.staat_mesh.specs.declared.refusal.MeshRefusal.TheVariants as mesh_refusal
@@ -45,7 +49,7 @@ use Rattle.staat_top.proofs.MovedLemmas.{far_not_within}
 use Rattle.staat_top.specs.Inputs.{SaysListing, no_listing, listing, IsListingOf, IsPartOf, IsInputOf, part_of}
 use Rattle.staat_top.specs.Assembling.{IsTested, overlapping, sound, IsSoundOf}
 use Rattle.staat_top.specs.Graphing.{AreCounted, IsGraphed, all_parts, few, too_many}
-use Rattle.staat_top.specs.Planning.{IsPlanned, outcome_answer}
+use Rattle.staat_top.specs.Planning.{IsPlanned, IsWritten, certificate, outcome_answer, steps, text_too_long}
 use Rattle.staat_top.specs.Replies.{IsJudged, answer, free, not_shown, WorkOn, WorkOnWords, Reply, Makes, IsReply}
 
 -- what the step finds is no file that is to be read
@@ -316,11 +320,37 @@ graphed_one files parts d = record { one = λ f g a b sf sg. one f g a b; held =
         let same : a.text ≡ b.text = same_graph_text (length parts) d a.rows b.rows a.text b.text (same_arcs parts d (all_parts parts) a.rows b.rows a.shows b.shows) a.text_is b.text_is in
         a.is ∙ ap (λ (t : List ℕ). Ok (answer 0 t)) same ∙ sym b.is
 
-planned_one : (files : Files) (parts : List Part) → FindsOne files (IsPlanned parts)
-planned_one files parts = record { one = λ f g a b sf sg. one f g a b; held = λ name f at lacks step settled. given_not_fault _ (ReadFault name) (sym at.is) }
+written_one : (files : Files) (parts : List Part) (finding : Finding) (version : Option ℕ) → FindsOne files (IsWritten parts finding version)
+written_one files parts finding version = record { one = λ f g a b sf sg. one version f g a b; held = λ name f at lacks step settled. no_read version name at }
   where
-    one : (f g : Found Answer) → IsPlanned parts f → IsPlanned parts g → f ≡ g
-    one f g a b = a.is ∙ ap (λ finding. Ok (outcome_answer finding)) (IsOutcome-unique false parts a.outcome b.outcome) ∙ sym b.is
+    one : (version : Option ℕ) (f g : Found (List ℕ)) → IsWritten parts finding version f → IsWritten parts finding version g → f ≡ g
+    one None f g (steps e) (steps d) = e ∙ sym d
+    one (Some v) f g (certificate c is short e) (certificate d also fits h) =
+        e ∙ ap (λ (x : Certificate). Ok (text_of x)) (IsCertificateOf-unique parts v finding c d is also) ∙ sym h
+    one (Some v) f g (certificate c is short e) (text_too_long d also many h) =
+        let same : c ≡ d = IsCertificateOf-unique parts v finding c d is also in absurd (omega (arith, short, many, ap (λ (x : Certificate). length (text_of x)) same))
+    one (Some v) f g (text_too_long c is many e) (certificate d also short h) =
+        let same : c ≡ d = IsCertificateOf-unique parts v finding c d is also in absurd (omega (arith, short, many, ap (λ (x : Certificate). length (text_of x)) same))
+    one (Some v) f g (text_too_long c is many e) (text_too_long d also much h) =
+        e ∙ ap (λ (x : Certificate). Err (TextTooLong (length (text_of x)))) (IsCertificateOf-unique parts v finding c d is also) ∙ sym h
+
+    no_read : (version : Option ℕ) (name : List ℕ) → IsWritten parts finding version (Err (ReadFault name)) → ⊥
+    no_read None name (steps e) = absurd cc
+    no_read (Some v) name (certificate c is short e) = absurd cc
+    no_read (Some v) name (text_too_long c is many e) = absurd cc
+
+planned_one : (files : Files) (parts : List Part) (version : Option ℕ) → FindsOne files (IsPlanned parts version)
+planned_one files parts version = record {
+  one = λ f g a b sf sg. (writes b.finding).one f g (written_as f a b.finding b.outcome) b.written sf sg;
+  held = λ name f at lacks step settled. (writes step.finding).held name f (written_as (Err (ReadFault name)) at step.finding step.outcome) lacks step.written settled;
+}
+  where
+    writes : (finding : Finding) → FindsOne files (Then (IsWritten parts finding version) (λ text found. found ≡ Ok (outcome_answer finding text)))
+    writes finding = then_one files (IsWritten parts finding version) _ (written_one files parts finding version) (λ text. known_one files (outcome_answer finding text))
+
+    written_as : (f : Found Answer) (p : IsPlanned parts version f) (finding : Finding) → IsOutcome false parts (all_parts parts) finding → Then (IsWritten parts finding version) (λ text found. found ≡ Ok (outcome_answer finding text)) f
+    written_as f p finding outcome =
+        subst (λ (x : Finding). Then (IsWritten parts x version) (λ text found. found ≡ Ok (outcome_answer x text)) f) (IsOutcome-unique false parts p.outcome outcome) p.written
 
 judged_one : (files : Files) (p q : List V3) (d n : V3) → FindsOne files (IsJudged p q d n)
 judged_one files p q d n = record { one = λ f g a b sf sg. one f g a b; held = λ name f at lacks step settled. no_read name at }
@@ -345,7 +375,7 @@ work_one (Look asked) files = then_one files (IsSoundOf files asked) _ (sound_on
 work_one (Graph request) files = then_one files (IsSoundOf files request.asked) _ (sound_one files request.asked)
     (λ parts. then_one files (AreCounted parts MOST_PLANES) _ (counted_one files parts MOST_PLANES) (λ planes. graphed_one files parts request.along))
 work_one (Plan request) files = then_one files (IsSoundOf files request.asked) _ (sound_one files request.asked)
-    (λ parts. then_one files (AreCounted parts request.planes) _ (counted_one files parts request.planes) (λ planes. planned_one files parts))
+    (λ parts. then_one files (AreCounted parts request.planes) _ (counted_one files parts request.planes) (λ planes. planned_one files parts request.certificate))
 
 pub words_one : (asked : Option Request) (files : Files) → FindsOne files (WorkOnWords asked files)
 words_one None files = record { one = λ f g a b sf sg. a ∙ sym b; held = λ name f at lacks step settled. absurd (usage_reads name at) }

@@ -31,8 +31,15 @@ use Rattle.staat_asm.specs.Placing.{shifted}
 use Rattle.staat_asm.proofs.PlacingLemmas.{shifted_piece}
 use Rattle.staat_top.specs.Assembling.{IsTested, overlapping, sound, IsSoundOf}
 use Rattle.staat_top.specs.Graphing.{all_parts}
-use Rattle.staat_top.specs.Planning.{outcome_answer}
-use Rattle.staat_top.specs.Replies.{AreSoundParts, SaysGoodPlan, SaysStuckSet, free, not_shown, WorkOnWords, IsRight, IsDenied}
+use Rattle.staat_model.specs.declared.certificate.Certificate.{Certificate}
+use Rattle.staat_model.specs.Certify.{IsCertificateOf}
+use Rattle.staat_model.proofs.StuckSets.{stuck_exists}
+use Rattle.staat_model.proofs.ValidCertificates.{plan_certificate_valid, refusal_certificate_valid}
+use Rattle.staat_plan.specs.Certifying.{IsValidFor}
+use Rattle.staat_plan.specs.Planning.{Settles}
+use Rattle.staat_words.specs.declared.request.PlanRequest.{PlanRequest}
+use Rattle.staat_top.specs.Planning.{IsWritten, certificate, outcome_answer, outcome_status, steps, text_too_long}
+use Rattle.staat_top.specs.Replies.{AreSoundParts, SaysOutcome, SaysGoodPlan, SaysStuckSet, free, not_shown, WorkOnWords, IsRight, IsDenied}
 
 -- ---- pieces
 
@@ -124,18 +131,33 @@ sound_parts files asked built bounds (inr (parts, found, test)) =
 
 -- ---- outcomes
 
+-- a certificate of an outcome is valid
+certified : (parts : List Part) (version : ℕ) (f : Finding) (c : Certificate) → IsAssembly parts → Settles parts (all_parts parts) f → IsCertificateOf parts version f c → IsValidFor parts f c
+certified parts version (planned tree marks) c assembly good is = plan_certificate_valid parts version tree marks c good is
+certified parts version (stuck w) c assembly settled is = refusal_certificate_valid parts version w c assembly (stuck_exists parts w settled.1) is
+
+same_text : (a b : List ℕ) → ◌≡◌ {A = Found (List ℕ)} (Ok a) (Ok b) → a ≡ b
+same_text a b e = cc
+
+-- what is written says the outcome
+says_outcome : (parts : List Part) (f : Finding) (version : Option ℕ) (text : List ℕ) → IsAssembly parts → Settles parts (all_parts parts) f → IsWritten parts f version (Ok text) → SaysOutcome parts f version text
+says_outcome parts f None text assembly settled (steps e) = same_text text _ e
+says_outcome parts f (Some version) text assembly settled (certificate c is few e) = (c, same_text text _ e, is, certified parts version f c assembly settled is)
+says_outcome parts f (Some version) text assembly settled (text_too_long c is many e) = absurd cc
+
 -- the answer of a plan takes all parts apart
-plan_is_good : (files : Files) (asked : Asked) (parts : List Part) (f : Finding) → AreSoundParts files asked parts → IsOutcome false parts (all_parts parts) f → (outcome_answer f).status ≡ 0 → SaysGoodPlan files asked (outcome_answer f).text
-plan_is_good files asked parts (planned tree marks) are outcome zero =
-    record { parts = parts; sound = are; tree = tree; marks = marks; good = right_lemma false parts are.assembly (all_parts parts) (planned tree marks) outcome; text_is = refl }
-plan_is_good files asked parts (stuck w) are outcome zero = absurd (omega (arith, zero))
+plan_is_good : (files : Files) (request : PlanRequest) (parts : List Part) (f : Finding) (text : List ℕ) → AreSoundParts files request.asked parts → IsOutcome false parts (all_parts parts) f → IsWritten parts f request.certificate (Ok text) → outcome_status f ≡ 0 → SaysGoodPlan files request text
+plan_is_good files request parts (planned tree marks) text are outcome written zero =
+    let good = right_lemma false parts are.assembly (all_parts parts) (planned tree marks) outcome in
+    record { parts = parts; sound = are; tree = tree; marks = marks; good = good; says = says_outcome parts (planned tree marks) request.certificate text are.assembly good written }
+plan_is_good files request parts (stuck w) text are outcome written zero = absurd (omega (arith, zero))
 
 -- the set that an answer names as stuck is stuck
-set_is_stuck : (files : Files) (asked : Asked) (parts : List Part) (f : Finding) → AreSoundParts files asked parts → IsOutcome false parts (all_parts parts) f → (outcome_answer f).status ≡ 1 → SaysStuckSet files asked (outcome_answer f).text
-set_is_stuck files asked parts (planned tree marks) are outcome one = absurd (omega (arith, one))
-set_is_stuck files asked parts (stuck w) are outcome one =
+set_is_stuck : (files : Files) (request : PlanRequest) (parts : List Part) (f : Finding) (text : List ℕ) → AreSoundParts files request.asked parts → IsOutcome false parts (all_parts parts) f → IsWritten parts f request.certificate (Ok text) → outcome_status f ≡ 1 → SaysStuckSet files request text
+set_is_stuck files request parts (planned tree marks) text are outcome written one = absurd (omega (arith, one))
+set_is_stuck files request parts (stuck w) text are outcome written one =
     let settled = right_lemma false parts are.assembly (all_parts parts) (stuck w) outcome in
-    record { parts = parts; sound = are; set = w; within = settled.0; is_stuck = settled.1; text_is = refl }
+    record { parts = parts; sound = are; set = w; within = settled.0; is_stuck = settled.1; says = says_outcome parts (stuck w) request.certificate text are.assembly settled written }
 
 same_answer : (a b : Answer) → ◌≡◌ {A = Found Answer} (Ok a) (Ok b) → b ≡ a
 same_answer a b e = cc
@@ -159,9 +181,13 @@ status_is_right (Some (Graph request)) files a bounds (inr (built, found, rest))
 status_is_right (Some (Plan request)) files a bounds (inl (fault, at, e)) zero = absurd cc
 status_is_right (Some (Plan request)) files a bounds (inr (built, found, inl (fault, at, e))) zero = absurd cc
 status_is_right (Some (Plan request)) files a bounds (inr (built, found, inr (planes, counted, p))) zero =
-    let same : outcome_answer p.finding ≡ a = same_answer a (outcome_answer p.finding) p.is in
-    subst (λ (b : Answer). SaysGoodPlan files request.asked b.text) same
-    (plan_is_good files request.asked built p.finding (sound_parts files request.asked built bounds.0 found) p.outcome (ap (λ (b : Answer). b.status) same ∙ zero))
+    elim p.written [
+      | inl (fault, at, e) ↦ absurd cc
+      | inr (text, written, e) ↦
+          let same : outcome_answer p.finding text ≡ a = same_answer a (outcome_answer p.finding text) e in
+          subst (λ (b : Answer). SaysGoodPlan files request b.text) same
+          (plan_is_good files request built p.finding text (sound_parts files request.asked built bounds.0 found) p.outcome written (ap (λ (b : Answer). b.status) same ∙ zero))
+    ]
 
 -- a wall that is not shown is none, and a set that is named as stuck is stuck
 pub status_is_denied : (asked : Option Request) (files : Files) (a : Answer) → IsBounded asked → WorkOnWords asked files (Ok a) → a.status ≡ 1 → IsDenied asked files a.text
@@ -179,6 +205,10 @@ status_is_denied (Some (Graph request)) files a bounds (inr (built, found, inr (
 status_is_denied (Some (Plan request)) files a bounds (inl (fault, at, e)) one = absurd cc
 status_is_denied (Some (Plan request)) files a bounds (inr (built, found, inl (fault, at, e))) one = absurd cc
 status_is_denied (Some (Plan request)) files a bounds (inr (built, found, inr (planes, counted, p))) one =
-    let same : outcome_answer p.finding ≡ a = same_answer a (outcome_answer p.finding) p.is in
-    subst (λ (b : Answer). SaysStuckSet files request.asked b.text) same
-    (set_is_stuck files request.asked built p.finding (sound_parts files request.asked built bounds.0 found) p.outcome (ap (λ (b : Answer). b.status) same ∙ one))
+    elim p.written [
+      | inl (fault, at, e) ↦ absurd cc
+      | inr (text, written, e) ↦
+          let same : outcome_answer p.finding text ≡ a = same_answer a (outcome_answer p.finding text) e in
+          subst (λ (b : Answer). SaysStuckSet files request b.text) same
+          (set_is_stuck files request built p.finding text (sound_parts files request.asked built bounds.0 found) p.outcome written (ap (λ (b : Answer). b.status) same ∙ one))
+    ]

@@ -8,6 +8,8 @@ use Rattle.staat_mesh.specs.declared.refusal.MeshRefusal.{MeshRefusal}
 use Rattle.staat_mesh.specs.declared.refusal.MeshRefusal.TheVariants as mesh
 use Rattle.staat_asm.specs.declared.refusal.AsmRefusal.{AsmRefusal}
 use Rattle.staat_asm.specs.declared.refusal.AsmRefusal.TheVariants as asm
+use Rattle.staat_model.specs.declared.refusal.TextRefusal.{TextRefusal}
+use Rattle.staat_model.specs.declared.refusal.TextRefusal.TheVariants as text
 use Rattle.staat_planes.specs.declared.refusal.PlanesRefusal.{PlanesRefusal}
 use Rattle.staat_planes.specs.declared.refusal.PlanesRefusal.TheVariants as planes
 use Rattle.staat_manifest.specs.declared.refusal.ManifestRefusal.{ManifestRefusal}
@@ -45,6 +47,10 @@ manifest_fault name manifest.OutOfMemory = fault.OutOfMemory
 abbrev pub asm_fault : AsmRefusal → Fault
 asm_fault (asm.Overlap a i b j) = fault.Overlap a i b j
 asm_fault asm.OutOfMemory = fault.OutOfMemory
+
+abbrev pub text_fault : TextRefusal → Fault
+text_fault (text.TextTooLong length) = fault.TextTooLong length
+text_fault text.OutOfMemory = fault.OutOfMemory
 
 abbrev pub planes_fault : PlanesRefusal → Fault
 planes_fault (planes.TooManyPlanes found) = fault.TooManyPlanes found

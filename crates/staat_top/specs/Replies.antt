@@ -4,13 +4,18 @@ use Rattle.staat_vec.specs.declared.vector.V3.{V3}
 use Rattle.staat_model.specs.declared.assembly.Part.{Part}
 use Rattle.staat_model.specs.declared.set.PartSet.{PartSet}
 use Rattle.staat_model.specs.declared.tree.Kind.{Kind}
-use Rattle.staat_model.specs.Outcomes.{planned, stuck}
+use Rattle.staat_model.specs.Certify.{IsCertificateOf}
+use Rattle.staat_model.specs.Outcomes.{Finding, planned, stuck}
 use Rattle.staat_model.specs.Plans.{IsGood, IsStuck, Plan as Tree}
 use Rattle.staat_model.specs.Sets.{IsSubset}
+use Rattle.staat_model.specs.Texts.{text_of}
+use Rattle.staat_model.specs.declared.certificate.Certificate.{Certificate}
+use Rattle.staat_plan.specs.Certifying.{IsValidFor}
 use Rattle.staat_model.specs.Walls.{IsShown}
 use Rattle.staat_model.specs.Meeting.{Meets}
 use Rattle.staat_model.specs.Assemblies.{IsAssembly, IsSound}
 use Rattle.staat_words.specs.declared.request.Asked.{Asked}
+use Rattle.staat_words.specs.declared.request.PlanRequest.{PlanRequest}
 use Rattle.staat_words.specs.declared.request.Request.{Request}
 use Rattle.staat_words.specs.declared.request.Request.TheVariants.{Pair, Look, Graph, Plan}
 use Rattle.staat_fault.specs.declared.fault.Fault.{Fault}
@@ -49,7 +54,7 @@ WorkOn (Graph request) files found =
     (λ planes. IsGraphed parts request.along)) found
 WorkOn (Plan request) files found =
     Then (IsSoundOf files request.asked) (λ parts. Then (AreCounted parts request.planes)
-    (λ planes. IsPlanned parts)) found
+    (λ planes. IsPlanned parts request.certificate)) found
 
 -- what the work on words finds, which may make no request
 abbrev pub WorkOnWords : Option Request → Files → Found Answer → Type 0
@@ -89,23 +94,29 @@ pub record AreSoundParts (files : Files) (asked : Asked) (parts : List Part) : T
   pub assembly : IsAssembly parts
   pub sound : IsSound parts
 
+-- the text says the outcome: its steps, or a certificate of the version that is asked for, which is valid
+abbrev pub SaysOutcome : List Part → Finding → Option ℕ → List ℕ → Type 0
+SaysOutcome parts finding None text = text ≡ plan_text finding
+SaysOutcome parts finding (Some version) text =
+    (c : Certificate) × (text ≡ text_of c) × IsCertificateOf parts version finding c × IsValidFor parts finding c
+
 -- the text is that of a plan that takes all parts apart
-pub record SaysGoodPlan (files : Files) (asked : Asked) (text : List ℕ) : Type 0 where
+pub record SaysGoodPlan (files : Files) (request : PlanRequest) (text : List ℕ) : Type 0 where
   pub parts : List Part
-  pub sound : AreSoundParts files asked parts
+  pub sound : AreSoundParts files request.asked parts
   pub tree : Tree
   pub marks : List Kind
   pub good : IsGood parts (all_parts parts) tree
-  pub text_is : text ≡ plan_text (planned tree marks)
+  pub says : SaysOutcome parts (planned tree marks) request.certificate text
 
 -- the text names parts that no step takes apart
-pub record SaysStuckSet (files : Files) (asked : Asked) (text : List ℕ) : Type 0 where
+pub record SaysStuckSet (files : Files) (request : PlanRequest) (text : List ℕ) : Type 0 where
   pub parts : List Part
-  pub sound : AreSoundParts files asked parts
+  pub sound : AreSoundParts files request.asked parts
   pub set : PartSet
   pub within : IsSubset set (all_parts parts)
   pub is_stuck : IsStuck parts set
-  pub text_is : text ≡ plan_text (stuck set)
+  pub says : SaysOutcome parts (stuck set) request.certificate text
 
 -- What status 0 means, with the text that is printed. For a pair: the first file's piece never meets the second's along
 -- the direction.
@@ -116,12 +127,12 @@ IsRight (Some (Pair request)) files text = (p : List V3) × (q : List V3) ×
     (Meets p q request.along → ⊥)
 IsRight (Some (Look asked)) files text = (parts : List Part) × AreSoundParts files asked parts
 IsRight (Some (Graph request)) files text = (parts : List Part) × AreSoundParts files request.asked parts
-IsRight (Some (Plan request)) files text = SaysGoodPlan files request.asked text
+IsRight (Some (Plan request)) files text = SaysGoodPlan files request text
 
 -- What status 1 means, with the text that is printed. For a pair: the wall does not show that the pieces never meet.
 abbrev pub IsDenied : Option Request → Files → List ℕ → Type 0
 IsDenied (Some (Pair request)) files text = (p : List V3) × (q : List V3) ×
     IsPieceOf files request.digits request.first (Ok p) × IsPieceOf files request.digits request.second (Ok q) ×
     (IsShown p q request.along request.wall → ⊥)
-IsDenied (Some (Plan request)) files text = SaysStuckSet files request.asked text
+IsDenied (Some (Plan request)) files text = SaysStuckSet files request text
 IsDenied asked files text = ⊥

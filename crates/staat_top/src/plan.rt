@@ -1,28 +1,31 @@
 // The command `plan`: how all parts come apart, or which parts do not.
-ghost use Rattle.std.specs.Prelude.{◌≡◌, ◌≤◌, ◌<◌, Some, IfOk, IfErr, false};
+ghost use Rattle.std.specs.Prelude.{◌≡◌, ◌≤◌, ◌<◌, Some, IfOk, IfErr, IfSome, false};
 ghost use Rattle.staat_model.specs.Assemblies.{IsAssembly};
+ghost use Rattle.staat_model.specs.Lines.{IsVersion};
 ghost use Rattle.staat_model.specs.Outcomes.{IsOutcome, finding_of};
 ghost use Rattle.staat_planes.specs.declared.table.TheConstants.{LEAST_PLANES, MOST_PLANES};
+ghost use Rattle.staat_plan.specs.Certifying.{CanBeCertified};
 ghost use Rattle.staat_plan.specs.Planning.{HasFewPlanes};
 ghost use Rattle.staat_text.specs.PlanTexts.{CanBeShown};
 ghost use Rattle.staat_words.specs.Requests.{IsPlanRequest};
 ghost use Rattle.staat_words.specs.declared.request.Request.TheVariants.{Plan};
 ghost use Rattle.staat_top.specs.Work.{Files, Follows};
 ghost use Rattle.staat_top.specs.Graphing.{AreCounted, all_parts};
-ghost use Rattle.staat_top.specs.Planning.{outcome_answer};
+ghost use Rattle.staat_top.specs.Planning.{IsWritten, outcome_answer};
 ghost use Rattle.staat_top.specs.Replies.{WorkOn};
 ghost use Rattle.staat_top.specs.Runs.{HasCause, ShelfSide, over};
 
 use crate::answer::Answer;
-use crate::refusals::planes_fault;
+use crate::refusals::{planes_fault, text_fault};
 use crate::sound::read_sound;
+use staat_cert::cert_text;
 use staat_cone::Plain;
 use staat_edge::Shelf;
 use staat_fault::Fault;
 use staat_model::{Outcome, Sound};
-use staat_plan::Options;
+use staat_plan::{Options, certify};
 use staat_text::plan_text;
-use staat_vec::OutOfMemory;
+use staat_vec::Bytes;
 use staat_words::PlanRequest;
 use std::alloc::Global;
 
@@ -41,6 +44,7 @@ fn outcome_of(alloc: Global, sound: &Sound, planes: u32) -> Result<Outcome, Faul
     ensures outcome { IfOk result (λ o. IsOutcome false sound.now (all_parts sound.now) (finding_of o)) }
     ensures few { IfOk result (λ _. HasFewPlanes sound.now (all_parts sound.now) planes) }
     ensures shown { IfOk result (λ o. CanBeShown (finding_of o)) }
+    ensures certified { IfOk result (λ o. CanBeCertified sound.now (finding_of o)) }
     ensures refused { IfErr result (λ fault. Follows (AreCounted sound.now planes) (Err fault)) }
     ensures cause { (shelf : ShelfSide) → IfErr result (HasCause shelf) }
 {
@@ -55,20 +59,62 @@ fn outcome_of(alloc: Global, sound: &Sound, planes: u32) -> Result<Outcome, Faul
     }
 }
 
-// The answer that an outcome is.
-fn answer_of(alloc: Global, outcome: &Outcome) -> Result<Answer, OutOfMemory>
-    requires { CanBeShown (finding_of outcome.now) }
-    ensures status { IfOk result (λ a. a.status < 2) }
-    ensures is { IfOk result (λ a. a ≡ outcome_answer (finding_of outcome.now)) }
+// The text of the certificate of an outcome.
+#[tactic(auto, using(crate::proofs::PlanLemmas::writing))]
+fn certificate_text(
+    alloc: Global,
+    sound: &Sound,
+    outcome: &Outcome,
+    version: u32,
+) -> Result<Bytes, Fault>
+    requires version { IsVersion version }
+    requires certified { CanBeCertified sound.now (finding_of outcome.now) }
+    ensures written { Follows (IsWritten sound.now (finding_of outcome.now) (Some version)) result }
+    ensures cause { (shelf : ShelfSide) → IfErr result (HasCause shelf) }
 {
-    let text = plan_text(alloc, outcome)?;
-    match outcome {
-        Outcome::Plan { .. } => Ok(Answer { status: 0, text }),
-        Outcome::Stuck(_) => Ok(Answer { status: 1, text }),
+    let certificate = certify(alloc, &Plain, sound, outcome, version)?;
+    match cert_text(alloc, &certificate) {
+        Ok(text) => Ok(text),
+        Err(refusal) => Err(text_fault(refusal)),
     }
 }
 
-/// The answer to the command `plan`: the steps of a plan that takes all parts apart, or the parts that no plan takes apart.
+// The steps of an outcome, or the text of its certificate.
+#[tactic(auto, using(crate::proofs::PlanLemmas::writing))]
+fn text_of(
+    alloc: Global,
+    sound: &Sound,
+    outcome: &Outcome,
+    certificate: Option<u32>,
+) -> Result<Bytes, Fault>
+    requires version { IfSome certificate IsVersion }
+    requires shown { CanBeShown (finding_of outcome.now) }
+    requires certified { CanBeCertified sound.now (finding_of outcome.now) }
+    ensures written { Follows (IsWritten sound.now (finding_of outcome.now) certificate) result }
+    ensures cause { (shelf : ShelfSide) → IfErr result (HasCause shelf) }
+{
+    match certificate {
+        None => {
+            let text = plan_text(alloc, outcome)?;
+            Ok(text)
+        }
+        Some(version) => certificate_text(alloc, sound, outcome, version),
+    }
+}
+
+// The answer for an outcome with this text.
+fn answer_of(outcome: &Outcome, text: Bytes) -> Answer
+    ensures status { result.status < 2 }
+    ensures is { result ≡ outcome_answer (finding_of outcome.now) text }
+{
+    match outcome {
+        Outcome::Plan { .. } => Answer { status: 0, text },
+        Outcome::Stuck(_) => Answer { status: 1, text },
+    }
+}
+
+/// The answer to the command `plan`: the steps of a plan that takes all parts apart, or the parts that no plan takes apart;
+/// or the certificate of either.
 pub fn plan<H: Shelf>(alloc: Global, request: &PlanRequest, shelf: &mut H) -> Result<Answer, Fault>
     requires { IsPlanRequest request.now }
     ensures holds { (H.told shelf.new).holds ≡ (H.told shelf.old).holds }
@@ -79,6 +125,6 @@ pub fn plan<H: Shelf>(alloc: Global, request: &PlanRequest, shelf: &mut H) -> Re
 {
     let sound = read_sound(alloc, shelf, &request.asked)?;
     let outcome = outcome_of(alloc, &sound, request.planes)?;
-    let answer = answer_of(alloc, &outcome)?;
-    Ok(answer)
+    let text = text_of(alloc, &sound, &outcome, request.certificate)?;
+    Ok(answer_of(&outcome, text))
 }

@@ -1,11 +1,12 @@
 // The faults that the refusals of the readers are.
 ghost use Rattle.std.specs.Prelude.{◌≡◌};
-ghost use Rattle.staat_top.specs.Refusals.{asm_fault, manifest_fault, mesh_fault, off_fault, planes_fault};
+ghost use Rattle.staat_top.specs.Refusals.{asm_fault, manifest_fault, mesh_fault, off_fault, planes_fault, text_fault};
 
 use staat_asm::AsmRefusal;
 use staat_fault::Fault;
 use staat_manifest::ManifestRefusal;
 use staat_mesh::MeshRefusal;
+use staat_model::TextRefusal;
 use staat_off::OffRefusal;
 use staat_planes::PlanesRefusal;
 use staat_vec::Name;
@@ -74,5 +75,15 @@ pub fn planes_fault(refusal: PlanesRefusal) -> Fault
     match refusal {
         PlanesRefusal::TooManyPlanes(found) => Fault::TooManyPlanes(found),
         PlanesRefusal::OutOfMemory => Fault::OutOfMemory,
+    }
+}
+
+/// The fault of an answer whose text is too long.
+pub fn text_fault(refusal: TextRefusal) -> Fault
+    ensures { result ≡ text_fault refusal }
+{
+    match refusal {
+        TextRefusal::TextTooLong(length) => Fault::TextTooLong(length),
+        TextRefusal::OutOfMemory => Fault::OutOfMemory,
     }
 }

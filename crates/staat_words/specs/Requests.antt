@@ -1,6 +1,7 @@
 -- What a list of words asks for: a function of the words, by what `clap` states of them.
-use Rattle.std.specs.Prelude.{◌≡◌, ◌≢◌, ◌≤◌, ℕ, nat_le, nat_lt, List, length, Option, Some, None, Result, Ok, Err}
-use Rattle.std.specs.Prelude.{◌&&◌, if◌then◌else◌, option_and_then, option_map, unwrap_or, codes, is_some, ⊤}
+use Rattle.std.specs.Prelude.{◌≡◌, ◌≢◌, ◌≤◌, ℕ, Bool, true, false, nat_le, nat_lt, List, length, Option, Some, None, Result, Ok, Err}
+use Rattle.std.specs.Prelude.{◌&&◌, if◌then◌else◌, option_and_then, option_map, unwrap_or, codes, is_some, IfSome, ⊤}
+use Rattle.std.specs.Option.{option_map_or}
 use Rattle.std.specs.Str.{bytes_eq}
 use Rattle.clap.specs.Walk.{Row, Text, all_of, first_of}
 use Rattle.staat_vec.specs.declared.vector.V3.{V3}
@@ -8,6 +9,7 @@ use Rattle.staat_vec.specs.declared.vector.TheConstants.{DIRECTION, NORMAL}
 use Rattle.staat_vec.specs.Vectors.{IsWithin, origin}
 use Rattle.staat_off.specs.declared.raw.TheConstants.{MOST_DIGITS}
 use Rattle.staat_model.specs.declared.limits.TheConstants.{MOST_PARTS}
+use Rattle.staat_model.specs.Lines.{IsVersion}
 use Rattle.staat_planes.specs.declared.table.TheConstants.{LEAST_PLANES, MOST_PLANES}
 use Rattle.staat_number.specs.Numbers.{natural_within}
 use Rattle.staat_words.specs.declared.request.Input.{Input}
@@ -44,6 +46,30 @@ planes_from (Some text) = planes_within text
 
 unfoldable pub planes_in : List Row → Option ℕ
 planes_in rows = planes_from (first_of (codes "planes") rows)
+
+-- whether a flag is given
+abbrev pub is_given : Text → List Row → Bool
+is_given id rows = option_map_or (λ text. bytes_eq text (codes "true")) (first_of id rows) false
+
+-- the version of certificates that a text spells
+abbrev pub version_within : Text → Option ℕ
+version_within text = do
+  version ← natural_within 2 text
+  if nat_le 1 version then Some version else None
+
+-- which version a certificate has: what `--format` says, 2 where it is not given
+abbrev pub version_from : Option Text → Option ℕ
+version_from None = Some 2
+version_from (Some text) = version_within text
+
+-- the version of the certificate, if one is asked for; `--format` stands beside `--cert` alone
+abbrev pub certificate_from : Bool → Option Text → Option (Option ℕ)
+certificate_from true format = option_map Some (version_from format)
+certificate_from false None = Some None
+certificate_from false (Some format) = None
+
+unfoldable pub certificate_in : List Row → Option (Option ℕ)
+certificate_in rows = certificate_from (is_given (codes "cert") rows) (first_of (codes "format") rows)
 
 -- the files, where there are as many as there may be parts
 abbrev pub some_files : List Text → Option Input
@@ -83,7 +109,8 @@ unfoldable pub plan_in : List Row → Option PlanRequest
 plan_in rows = do
   asked ← asked_in rows
   planes ← planes_in rows
-  Some (record { asked = asked; planes = planes })
+  certificate ← certificate_in rows
+  Some (record { asked = asked; planes = planes; certificate = certificate })
 
 -- the request of a subcommand and its matches: a line for each command
 unfoldable pub request_in : Option (Text × List Row) → Option Request
@@ -122,7 +149,9 @@ abbrev pub IsGraphRequest : GraphRequest → Type 0
 IsGraphRequest request = IsAsked request.asked × IsWithin DIRECTION request.along × (request.along ≢ origin)
 
 abbrev pub IsPlanRequest : PlanRequest → Type 0
-IsPlanRequest request = IsAsked request.asked × (LEAST_PLANES ≤ request.planes) × (request.planes ≤ MOST_PLANES)
+IsPlanRequest request =
+    IsAsked request.asked × (LEAST_PLANES ≤ request.planes) × (request.planes ≤ MOST_PLANES) ×
+    IfSome request.certificate IsVersion
 
 -- the same of a request: a line for each command
 abbrev pub HasBounds : Request → Type 0

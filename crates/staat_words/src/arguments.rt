@@ -1,9 +1,10 @@
 // The values of a subcommand's arguments, as `clap` found them.
-ghost use Rattle.std.specs.Prelude.{◌≡◌, ◌≤◌, ◌≢◌, map, option_map, IfSome, IfOk};
+ghost use Rattle.std.specs.Prelude.{◌≡◌, ◌≤◌, ◌≢◌, codes, map, option_map, IfSome, IfOk};
 ghost use Rattle.clap.specs.Words.{all_of, first_of, found_of, rows_of};
 ghost use Rattle.staat_vec.specs.Vectors.{IsWithin, origin};
+ghost use Rattle.staat_model.specs.Lines.{IsVersion};
 ghost use Rattle.staat_planes.specs.declared.table.TheConstants.{LEAST_PLANES, MOST_PLANES};
-ghost use Rattle.staat_words.specs.Requests.{Answers, IsInput, digits_in, input_in, planes_in, planes_within, vector_in};
+ghost use Rattle.staat_words.specs.Requests.{Answers, IsInput, certificate_in, digits_in, input_in, is_given, planes_in, planes_within, vector_in, version_from, version_within};
 
 use crate::request::{Input, RequestRefusal};
 use crate::vector::vector_of;
@@ -63,6 +64,56 @@ pub fn planes_of(matches: &ArgMatches<'_>) -> Option<u32>
     match value_of(matches, "planes") {
         None => Some(MOST_PLANES),
         Some(text) => planes_within(text),
+    }
+}
+
+// Whether a flag is given.
+fn is_given(matches: &ArgMatches<'_>, id: &str) -> bool
+    ensures { result ≡ is_given id.now (rows_of (found_of matches.now)) }
+{
+    match value_of(matches, id) {
+        Some(text) => text == "true",
+        None => false,
+    }
+}
+
+// The version of certificates that a text spells.
+fn version_within(text: &str) -> Option<u32>
+    ensures exact { result ≡ version_within text.now }
+    ensures version { IfSome result IsVersion }
+{
+    let version = natural_of(text, 2)?;
+    if version == 0 {
+        return None;
+    }
+    Some(version as u32)
+}
+
+// Which version a certificate has.
+fn version_of(matches: &ArgMatches<'_>) -> Option<u32>
+    ensures exact { result ≡ version_from (first_of (codes "format") (rows_of (found_of matches.now))) }
+    ensures version { IfSome result IsVersion }
+{
+    match value_of(matches, "format") {
+        None => Some(2),
+        Some(text) => version_within(text),
+    }
+}
+
+/// The version of the certificate, where the flag `--cert` asks for one: that of the option `--format`, 2 where it is
+/// not given. Usage comes where the flag is not given and the option is.
+#[tactic(auto, unfolding(crate::specs::Requests::certificate_in))]
+pub fn certificate_of(matches: &ArgMatches<'_>) -> Result<Option<u32>, RequestRefusal>
+    ensures answers { Answers (certificate_in (rows_of (found_of matches.now))) result }
+    ensures version { IfOk result (λ certificate. IfSome certificate IsVersion) }
+{
+    if is_given(matches, "cert") {
+        let version = version_of(matches).ok_or(RequestRefusal::Usage)?;
+        return Ok(Some(version));
+    }
+    match value_of(matches, "format") {
+        None => Ok(None),
+        Some(_) => Err(RequestRefusal::Usage),
     }
 }
 

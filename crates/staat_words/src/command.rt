@@ -1,9 +1,9 @@
 // The command that `clap` reads the words by: long options alone, files as plain words.
 ghost use Rattle.std.specs.Prelude.{◌≡◌, IfOk, true, false};
 ghost use Rattle.clap.specs.Words.{app_of, rule_of, new_rule, with_rule, with_subcommand};
-ghost use Rattle.staat_words.specs.Command.{bare_app, command, graph_app, list_rule, look_app, option_rule, pair_app, pair_options_app, plan_app, required, is_local};
+ghost use Rattle.staat_words.specs.Command.{bare_app, command, flag_rule, graph_app, list_rule, look_app, option_rule, pair_app, pair_options_app, plan_app, plan_options_app, required, is_local};
 
-use clap::{Arg, Command};
+use clap::{Arg, ArgAction, Command};
 use std::alloc::{AllocError, Global};
 
 // `--id=value`
@@ -12,6 +12,14 @@ fn option(alloc: Global, id: &str) -> Arg<'_>
     ensures global { result.global ≡ false }
 {
     Arg::new(alloc, id).long(id)
+}
+
+// `--id`, without a value
+fn flag(alloc: Global, id: &str) -> Arg<'_>
+    ensures rule { rule_of result ≡ flag_rule id.entry.now }
+    ensures global { result.global ≡ false }
+{
+    Arg::new(alloc, id).long(id).action(ArgAction::SetTrue)
 }
 
 fn required_option(alloc: Global, id: &str) -> Arg<'_>
@@ -84,14 +92,23 @@ fn graph_command<'a>(alloc: Global) -> Result<Command<'a>, AllocError>
     with_arg(graph, list_of_words(alloc, "files"))
 }
 
-fn plan_command<'a>(alloc: Global) -> Result<Command<'a>, AllocError>
-    ensures app { IfOk result (λ c. app_of c ≡ plan_app) }
+fn plan_options<'a>(alloc: Global) -> Result<Command<'a>, AllocError>
+    ensures app { IfOk result (λ c. app_of c ≡ plan_options_app) }
     ensures local { IfOk result (λ c. is_local c ≡ true) }
 {
     let plan = Command::new(alloc, "plan");
     let plan = with_arg(plan, option(alloc, "digits"))?;
     let plan = with_arg(plan, option(alloc, "manifest"))?;
-    let plan = with_arg(plan, option(alloc, "planes"))?;
+    with_arg(plan, option(alloc, "planes"))
+}
+
+fn plan_command<'a>(alloc: Global) -> Result<Command<'a>, AllocError>
+    ensures app { IfOk result (λ c. app_of c ≡ plan_app) }
+    ensures local { IfOk result (λ c. is_local c ≡ true) }
+{
+    let plan = plan_options(alloc)?;
+    let plan = with_arg(plan, flag(alloc, "cert"))?;
+    let plan = with_arg(plan, option(alloc, "format"))?;
     with_arg(plan, list_of_words(alloc, "files"))
 }
 

@@ -47,6 +47,8 @@ pub struct PlanRequest {
     pub asked: Asked,
     /// How many planes all parts may have, 3 to `MOST_PLANES`.
     pub planes: u32,
+    /// The version, 1 or 2, of the certificate that is asked for in the place of the steps.
+    pub certificate: Option<u32>,
 }
 
 /// A command with its values.

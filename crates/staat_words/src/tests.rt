@@ -15,7 +15,7 @@ fn asked(alloc: Global, words: &[&str]) -> Result<Result<Request, RequestRefusal
 #[test]
 fn words_are_taken_or_a_usage_fault(rt: HostRuntime) -> Result<(), Fail> {
     let alloc = rt.alloc();
-    let table: [(&[&str], bool); 51] = [
+    let table: [(&[&str], bool); 56] = [
         (&["pair", "a", "b", "--along=0,0,1", "--wall=1,0,0"], true),
         (&["pair", "--wall=1,0,0", "a", "b", "--along=0,0,1"], true),
         (
@@ -117,8 +117,13 @@ fn words_are_taken_or_a_usage_fault(rt: HostRuntime) -> Result<(), Fail> {
         (&["plan", "a", "--planes=1025"], false),
         (&["plan", "a", "--planes=03"], false),
         (&["plan", "a", "--planes=5", "--planes=5"], false),
-        (&["plan", "a", "--cert"], false),
+        (&["plan", "a", "--cert"], true),
+        (&["plan", "--format=1", "a", "--cert"], true),
         (&["plan", "a", "--format=1"], false),
+        (&["plan", "a", "--cert", "--format=0"], false),
+        (&["plan", "a", "--cert", "--format=3"], false),
+        (&["plan", "a", "--cert", "--cert"], false),
+        (&["plan", "a", "--cert=true"], false),
         (&["plan", "a", "--robust"], false),
         (&["plan", "a", "--along=0,0,1"], false),
         (&["plan"], false),
@@ -186,7 +191,10 @@ fn shown(alloc: Global, request: &Request) -> Result<String, AllocError> {
         Request::Plan(request) => {
             let planes = request.planes;
             let asked = source(alloc, &request.asked)?;
-            format!(in alloc; "{asked}, {planes} planes")
+            match request.certificate {
+                None => format!(in alloc; "{asked}, {planes} planes"),
+                Some(version) => format!(in alloc; "{asked}, {planes} planes, version {version}"),
+            }
         }
     }
 }
@@ -194,7 +202,7 @@ fn shown(alloc: Global, request: &Request) -> Result<String, AllocError> {
 #[test]
 fn a_request_has_the_values_of_its_words(rt: HostRuntime) -> Result<(), Fail> {
     let alloc = rt.alloc();
-    let table: [(&[&str], &str); 7] = [
+    let table: [(&[&str], &str); 9] = [
         (
             &[
                 "pair",
@@ -223,6 +231,14 @@ fn a_request_has_the_values_of_its_words(rt: HostRuntime) -> Result<(), Fail> {
         (
             &["plan", "--manifest=m.json"],
             "0: the part list m.json, 1024 planes",
+        ),
+        (
+            &["plan", "--cert", "a"],
+            "0: 1 files, 1024 planes, version 2",
+        ),
+        (
+            &["plan", "--format=1", "a", "--cert"],
+            "0: 1 files, 1024 planes, version 1",
         ),
     ];
     for (words, text) in table {

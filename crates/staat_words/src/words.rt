@@ -4,7 +4,7 @@ ghost use Rattle.clap.specs.Words.{found_of, rows_of, subcommand_rows_of};
 ghost use Rattle.staat_words.specs.Command.{is_taken, matches as matches_at};
 ghost use Rattle.staat_words.specs.Requests.{Answers, HasBounds, IsAsked, IsGraphRequest, IsPairRequest, IsPlanRequest, asked_in, graph_in, pair_in, plan_in, request, request_in};
 
-use crate::arguments::{digits_of, input_of, name_of, planes_of, value_of, vector_in};
+use crate::arguments::{certificate_of, digits_of, input_of, name_of, planes_of, value_of, vector_in};
 use crate::command::staat_command;
 use crate::request::{Asked, GraphRequest, PairRequest, PlanRequest, Request, RequestRefusal};
 use clap::ArgMatches;
@@ -58,7 +58,12 @@ fn plan_of(alloc: Global, matches: &ArgMatches<'_>) -> Result<PlanRequest, Reque
 {
     let asked = asked_of(alloc, matches)?;
     let planes = planes_of(matches).ok_or(RequestRefusal::Usage)?;
-    Ok(PlanRequest { asked, planes })
+    let certificate = certificate_of(matches)?;
+    Ok(PlanRequest {
+        asked,
+        planes,
+        certificate,
+    })
 }
 
 // The matches of words that `clap` takes.
