@@ -200,14 +200,13 @@ two_or version = grind arith
 one_canonical : (v : V3) → v ≢ origin → IsCanon v ⊎ IsCanon (negative v)
 one_canonical v some = ⊎_elim (λ e. inl (subst (λ w. IsCanon w) e (IsCanon-canon v some))) (λ e. inr (subst (λ w. IsCanon w) e (IsCanon-canon v some))) (canon-either v)
 
--- where each direction of the version has a line, each vertex is listed
-pub all_listed : (version : ℕ) (planes : List V3) (dirs : List Dir) → NoneParallel planes → ((v : V3) → IsDirection version planes v → HasLine dirs v) → All (IsListed version dirs) (vertices planes)
-all_listed version planes dirs apart lines = All-from_members (IsListed version dirs) (vertices planes) (λ v c. ⊎_elim {C = IsListed version dirs v}
+all_listed : (version : ℕ) (planes : List V3) (dirs : List Dir) → NoneParallel planes → Lists vector_cmp (IsDirection version planes) (map (λ dir. dir.d) dirs) → All (IsListed version dirs) (vertices planes)
+all_listed version planes dirs apart lists = All-from_members (IsListed version dirs) (vertices planes) (λ v c. ⊎_elim {C = IsListed version dirs v}
     (λ two. ⊎_elim {C = IsListed version dirs v}
-    (λ canonical. inl (lines v (record { vertex = c; canonical = λ e. canonical })))
-    (λ opposite. inr (two, lines (negative v) (record { vertex = opposite_vertex planes v apart c; canonical = λ e. opposite })))
+    (λ canonical. inl (lists.all v (record { vertex = c; canonical = λ e. canonical })))
+    (λ opposite. inr (two, lists.all (negative v) (record { vertex = opposite_vertex planes v apart c; canonical = λ e. opposite })))
     (one_canonical v (vertex_some planes v apart c)))
-    (λ other. inl (lines v (record { vertex = c; canonical = λ e. absurd (other e) })))
+    (λ other. inl (lists.all v (record { vertex = c; canonical = λ e. absurd (other e) })))
     (two_or version))
 
 -- ---- refusals
@@ -220,7 +219,7 @@ refusal_holds parts version stated w witnesses dirs is e set_is are = record {
   blocked = All-weaker (NamesWitness parts w witnesses) (IsBlocked parts witnesses) (λ dir named. let both = witness_blocks parts w dir.d named.witness is named.is in record { witness = named.witness; witness_is = named.witness_is; outs = both.0; ins = both.1 }) dirs are.each;
   planes = are.planes;
   planes_are = are.planes_are;
-  all = all_listed version are.planes dirs (planes_apart parts w are.planes are.planes_are) are.directions.all;
+  all = all_listed version are.planes dirs (planes_apart parts w are.planes are.planes_are) are.directions;
 }
   where
     -- each witness is used
