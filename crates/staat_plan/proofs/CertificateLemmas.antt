@@ -1,9 +1,8 @@
 -- The certificate of an outcome keeps its form and is valid.
-use Rattle.std.proofs.Common.{◌≡◌, ◌≢◌, ◌⊎◌, inl, inr, ⊎_elim, ℕ, zero, suc, ◌<◌, ◌≤◌, arith, refl, sym, ap, subst, ◌∙◌, List, [], ◌∷◌, ◌++◌, length, All, Contains}
+use Rattle.std.proofs.Common.{◌≡◌, ⊎_elim, ℕ, zero, suc, ◌≤◌, arith, refl, sym, subst, List, [], ◌∷◌, ◌++◌, length, All, Contains}
 use Rattle.std.proofs.lemmas.List.Elements.{All-append, All-cons, All-nil, Contains-append_cases}
 use Rattle.staat_vec.specs.declared.vector.V3.{V3}
 use Rattle.staat_vec.specs.declared.vector.TheConstants.{NORMAL}
-use Rattle.staat_vec.specs.Primitives.{canon}
 use Rattle.staat_vec.specs.Vectors.{IsWithin}
 use Rattle.staat_vec.proofs.Canons.{IsWithin-canon}
 use Rattle.staat_cone.proofs.Sizes.{facet_within}
@@ -11,21 +10,17 @@ use Rattle.staat_model.specs.declared.assembly.Part.{Part}
 use Rattle.staat_model.specs.declared.certificate.Body.{Body}
 use Rattle.staat_model.specs.declared.certificate.Body.TheVariants as body
 use Rattle.staat_model.specs.declared.certificate.Certificate.{Certificate}
-use Rattle.staat_model.specs.declared.certificate.Dir.{Dir}
-use Rattle.staat_model.specs.declared.certificate.Node.{Node}
-use Rattle.staat_model.specs.declared.certificate.Witness.{Witness}
-use Rattle.staat_model.specs.declared.line.Line.{Line}
 use Rattle.staat_model.specs.declared.line.Line.TheVariants as line
 use Rattle.staat_model.specs.declared.set.PartSet.{PartSet}
 use Rattle.staat_model.specs.declared.tree.Kind.{Kind}
 use Rattle.staat_model.specs.Assemblies.{IsAssembly}
-use Rattle.staat_model.specs.Certificates.{IsValidRefusal, RefusalHolds}
-use Rattle.staat_model.specs.Certify.{ArePlanNodes, IsBodyOf, IsCertificateOf, IsRefusalOf}
+use Rattle.staat_model.specs.Certificates.{RefusalHolds}
+use Rattle.staat_model.specs.Certify.{IsBodyOf, IsCertificateOf, IsRefusalOf}
 use Rattle.staat_model.specs.Lines.{IsInBounds, IsVersion}
 use Rattle.staat_model.specs.Outcomes.{Finding, planned, stuck}
 use Rattle.staat_model.specs.Planes.{ArePlanes, IsFacetPlane, axes}
 use Rattle.staat_model.specs.Plans.{Plan}
-use Rattle.staat_model.specs.Texts.{IsBodyInOrder, IsPlanInOrder, IsWellFormed, lines_of, lines_of_body}
+use Rattle.staat_model.specs.Texts.{IsPlanInOrder, IsWellFormed, lines_of, lines_of_body}
 use Rattle.staat_model.proofs.GraphLemmas.{piece_is}
 use Rattle.staat_model.proofs.Members.{All-from_members}
 use Rattle.staat_model.proofs.OneTable.{ArePlanes-unique}

@@ -1,14 +1,13 @@
 -- The lines of a refusal, and how many they are.
-use Rattle.std.proofs.Common.{◌≡◌, ◌≢◌, ◌⊎◌, inl, inr, ⊎_elim, ℕ, zero, suc, ◌+◌, ◌*◌, ◌<◌, ◌≤◌, arith, refl, sym, ap, subst, ◌∙◌, List, [], ◌∷◌, ◌++◌, length, length-append, map, take, All, Contains}
+use Rattle.std.proofs.Common.{◌≡◌, ⊎_elim, ℕ, ◌*◌, ◌<◌, ◌≤◌, arith, refl, sym, subst, List, [], ◌∷◌, length, length-append, map, All, Contains}
 use Rattle.std.specs.Prelude.{Err, IfOk, Ok, Result, Some, slice_get}
-use Rattle.std.proofs.lemmas.List.{length-map}
 use Rattle.std.proofs.lemmas.List.Elements.{All-contains, All-nil}
 use Rattle.staat_vec.specs.declared.vector.V3.{V3}
 use Rattle.staat_vec.specs.declared.vector.TheConstants.{DIRECTION, NORMAL}
 use Rattle.staat_vec.specs.declared.memory.OutOfMemory.{OutOfMemory}
 use Rattle.staat_vec.specs.Lists.{Lists}
 use Rattle.staat_vec.specs.Primitives.{primitive}
-use Rattle.staat_vec.specs.Vectors.{IsWithin, cross, negative, origin, vector_cmp}
+use Rattle.staat_vec.specs.Vectors.{IsWithin, cross, vector_cmp}
 use Rattle.staat_vec.proofs.Bounds.{IsWithin-cross, IsWithin-negative, IsWithin-wider}
 use Rattle.staat_vec.proofs.Primitives.{IsPrimitive-some, IsWithin-primitive, primitive-is}
 use Rattle.staat_model.specs.declared.assembly.Part.{Part}

@@ -1,29 +1,27 @@
 -- The certificate of a plan keeps the bounds and orders of its text.
-use Rattle.std.proofs.Common.{◌≡◌, ◌⊎◌, inl, inr, ⊎_elim, ℕ, ◌+◌, ◌*◌, ◌<◌, ◌≤◌, arith, refl, sym, ap, subst, ◌∙◌, List, [], ◌∷◌, ◌++◌, length, length-append, map, All, Contains}
+use Rattle.std.proofs.Common.{◌≡◌, ◌⊎◌, inl, inr, ⊎_elim, ℕ, ◌+◌, ◌*◌, ◌<◌, ◌≤◌, arith, refl, sym, ap, subst, ◌∙◌, List, [], ◌++◌, length, length-append, map, All}
 use Rattle.std.specs.Prelude.{flat_map}
 use Rattle.std.specs.FinSet as set
-use Rattle.std.specs.List.Sorted.{IsStrictlySortedBy}
 use Rattle.std.specs.Ordering.{nat_cmp}
 use Rattle.std.proofs.lemmas.List.Elements.{All-append, All-cons, All-contains, All-map, All-nil}
 use Rattle.staat_vec.specs.declared.vector.V3.{V3}
 use Rattle.staat_vec.specs.declared.vector.TheConstants.{DIRECTION}
 use Rattle.staat_vec.specs.Lists.{IsLeast}
-use Rattle.staat_vec.specs.Vectors.{IsWithin, vector_cmp}
+use Rattle.staat_vec.specs.Vectors.{vector_cmp}
 use Rattle.staat_cone.proofs.Sizes.{facet_within}
 use Rattle.staat_model.specs.declared.assembly.Part.{Part}
 use Rattle.staat_model.specs.declared.certificate.Node.{Node}
 use Rattle.staat_model.specs.declared.certificate.Node.TheVariants.{Leaf, Split}
 use Rattle.staat_model.specs.declared.certificate.Sep.{Sep}
 use Rattle.staat_model.specs.declared.limits.TheConstants.{MOST_PARTS}
-use Rattle.staat_model.specs.declared.line.Line.{Line}
 use Rattle.staat_model.specs.declared.line.Line.TheVariants as line
 use Rattle.staat_model.specs.declared.set.PartSet.{PartSet}
 use Rattle.staat_model.specs.Assemblies.{IsAssembly}
-use Rattle.staat_model.specs.Certificates.{WalledPlan, arc_cmp, nodes_of, unwalled, walled_leaf, walled_parts, walled_split}
+use Rattle.staat_model.specs.Certificates.{WalledPlan, nodes_of, unwalled, walled_leaf, walled_parts, walled_split}
 use Rattle.staat_model.specs.Certify.{AreLeastWalls, ArePlanNodes, HasLeastWalls, IsFacetAway}
 use Rattle.staat_model.specs.Lines.{IsInBounds}
 use Rattle.staat_model.specs.Plans.{IsGood, Plan, leaf, parts_of, split}
-use Rattle.staat_model.specs.Sets.{AreApart, Has, IsSubset, below, single}
+use Rattle.staat_model.specs.Sets.{AreApart, Has, below, single}
 use Rattle.staat_model.specs.Texts.{IsNodeInOrder, IsPlanInOrder, lines_of_node}
 use Rattle.staat_model.proofs.Differences.{in_map}
 use Rattle.staat_model.proofs.GraphLemmas.{piece_is}

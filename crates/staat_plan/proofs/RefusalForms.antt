@@ -1,13 +1,11 @@
 -- The certificate of a stuck set keeps the bounds and orders of its text.
-use Rattle.std.proofs.Common.{◌≡◌, ◌≢◌, ℕ, zero, suc, ◌+◌, ◌<◌, ◌≤◌, arith, refl, sym, ap, subst, ◌∙◌, List, [], ◌∷◌, ◌++◌, length, map, All, Contains}
-use Rattle.std.specs.Prelude.{Some, slice_get}
+use Rattle.std.proofs.Common.{◌≡◌, ℕ, suc, ◌+◌, ◌<◌, ◌≤◌, arith, ap, List, [], ◌∷◌, ◌++◌, length, map, All, Contains}
 use Rattle.std.specs.FinSet as set
 use Rattle.std.proofs.lemmas.Cmp.{nat_eq_equiv}
 use Rattle.std.proofs.lemmas.List.{length-map}
 use Rattle.std.proofs.lemmas.List.Elements.{All-append, All-cons, All-contains, All-head, All-map, All-nil, All-tail, All-weaker}
 use Rattle.std.proofs.lemmas.Map.Steps.{le-length_from_below}
 use Rattle.std.proofs.lemmas.Map.Views.{list_any-from_Contains}
-use Rattle.staat_vec.specs.declared.vector.V3.{V3}
 use Rattle.staat_vec.specs.declared.vector.TheConstants.{NORMAL}
 use Rattle.staat_vec.specs.Primitives.{IsCanon}
 use Rattle.staat_vec.specs.Vectors.{IsWithin}
@@ -16,21 +14,19 @@ use Rattle.staat_model.specs.declared.certificate.Arc.{Arc}
 use Rattle.staat_model.specs.declared.certificate.Dir.{Dir}
 use Rattle.staat_model.specs.declared.certificate.Witness.{Witness}
 use Rattle.staat_model.specs.declared.limits.TheConstants.{LIST_LIMIT, MOST_PARTS}
-use Rattle.staat_model.specs.declared.line.Line.{Line}
 use Rattle.staat_model.specs.declared.line.Line.TheVariants as line
 use Rattle.staat_model.specs.declared.set.PartSet.{PartSet}
 use Rattle.staat_model.specs.Assemblies.{IsAssembly}
-use Rattle.staat_model.specs.Certificates.{IsArcWithin, IsWitness, IsStuckSet, ReachesAll, RefusalHolds, inward, outward}
+use Rattle.staat_model.specs.Certificates.{IsArcWithin, IsWitness, IsStuckSet, ReachesAll, inward, outward}
 use Rattle.staat_model.specs.Certify.{IsRefusalOf}
 use Rattle.staat_model.specs.Lines.{IsArcInBounds, IsInBounds}
-use Rattle.staat_model.specs.Sets.{Has, below, single}
+use Rattle.staat_model.specs.Sets.{Has, single}
 use Rattle.staat_model.specs.Texts.{IsRefusalInOrder, IsWitnessInOrder, lines_of_witness, lines_of_witnesses}
 use Rattle.staat_model.proofs.Differences.{in_map}
 use Rattle.staat_model.proofs.Members.{All-from_members}
 use Rattle.staat_model.proofs.PlaneLemmas.{NoneParallel}
 use Rattle.staat_model.proofs.SetBits.{has-below}
 use Rattle.staat_model.proofs.SetSizes.{len-single, len_below, len_more}
-use Rattle.staat_plan.specs.Listings.{IsSizedDirection}
 use Rattle.staat_plan.proofs.Forms.{arc_formed}
 use Rattle.staat_plan.proofs.ListedLemmas.{few_directions, vertex_sized}
 use Rattle.staat_plan.proofs.OutcomeLemmas.{some_member}

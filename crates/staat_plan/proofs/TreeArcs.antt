@@ -1,5 +1,5 @@
 -- The arcs of the trees of a table's graph, and the witness that they make.
-use Rattle.std.proofs.Common.{◌≡◌, ◌≢◌, ◌↔◌, ◌∙◌, ◌<◌, ◌+◌, ℕ, ap, refl, sym, subst, List, [], ◌∷◌, ◌++◌, map, take, length, All}
+use Rattle.std.proofs.Common.{◌≡◌, ◌≢◌, ◌↔◌, ◌∙◌, ◌<◌, ◌+◌, ℕ, ap, refl, sym, List, [], ◌∷◌, ◌++◌, map, take, length, All}
 use Rattle.std.specs.Prelude.{get_or}
 use Rattle.std.proofs.lemmas.List.{map-append}
 use Rattle.std.specs.FinSet as set
@@ -13,7 +13,6 @@ use Rattle.staat_model.specs.Bridges.{Back, IsTree, swapped}
 use Rattle.staat_model.specs.Certificates.{inward, outward}
 use Rattle.staat_model.specs.Certify.{IsLeastArc, IsWitnessAt}
 use Rattle.staat_model.specs.Plans.{IsStuck}
-use Rattle.staat_model.specs.Sets.{single}
 use Rattle.staat_cone.proofs.Adding.{take_more}
 use Rattle.staat_graph.specs.declared.trees.Trees.{Trees}
 use Rattle.staat_graph.specs.Blocking.{ShowsBlocking}

@@ -49,7 +49,8 @@ fn number_witness(
     witness: Witness,
 ) -> Result<usize, OutOfMemory>
     requires { map (λ v. v.items) keys.old.keys ≡ map key_of witnesses.old.items }
-    ensures { IfOk result (λ i. IsWitnessNumber (map (λ v. v.items) keys.new.keys) witnesses.old.items witnesses.new.items witness i) }
+    ensures { IfOk result (λ i. IsWitnessNumber (map (λ v. v.items) keys.new.keys) witnesses.old.items
+        witnesses.new.items witness i) }
 {
     let key = key_of(alloc, &witness)?;
     let number = number_of(keys, key)?;

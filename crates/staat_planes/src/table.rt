@@ -3,7 +3,8 @@ ghost use Rattle.std.specs.Prelude.{◌≡◌, ◌<◌, ◌≤◌, ◌+◌, ◌*
 ghost use Rattle.staat_vec.specs.declared.vector.V3.{V3 as Vector};
 ghost use Rattle.staat_vec.specs.Vectors.{IsWithin, dot, sign};
 ghost use Rattle.staat_model.specs.Sets.{Has};
-ghost use Rattle.staat_pairs.specs.Tables.{AreTableFacets, AreTablePlanes, IsPlaneNormal, IsTable, IsTableArc, IsTableFacet, facets_of, pieces_of, reversed_facets};
+ghost use Rattle.staat_pairs.specs.Tables.{AreTableFacets, AreTablePlanes, IsPlaneNormal, IsTable, IsTableArc};
+ghost use Rattle.staat_pairs.specs.Tables.{IsTableFacet, facets_of, pieces_of, reversed_facets};
 
 use crate::steps::Steps;
 use staat_model::{Arc, MOST_PIECES, PartSet};

@@ -1,16 +1,11 @@
-use Rattle.std.proofs.Common.{◌≡◌, ◌≤◌, arith, ap, length, subst, sym, ◌∙◌, List, IfOk, map, All}
-use Rattle.staat_vec.specs.declared.vector.V3.{V3}
+use Rattle.std.proofs.Common.{arith, length, subst, sym}
 use Rattle.staat_vec.specs.Lists.{Lists}
 use Rattle.staat_vec.specs.Vectors.{vector_cmp}
-use Rattle.staat_model.specs.declared.set.PartSet.{PartSet}
-use Rattle.staat_model.specs.Certify.{IsDirection, IsRefusalOf}
-use Rattle.staat_model.specs.Planes.{ArePlanes}
-use Rattle.staat_model.specs.Sets.{Has, below}
-use Rattle.staat_model.proofs.PlaneLemmas.{NoneParallel, planes_apart}
+use Rattle.staat_model.specs.Certify.{IsDirection}
+use Rattle.staat_model.proofs.PlaneLemmas.{planes_apart}
 use Rattle.staat_model.proofs.SetBits.{has-below}
 use Rattle.staat_model.proofs.StuckSets.{stuck_exists}
 use Rattle.staat_planes.specs.Refusals.{IsPlanesRefusal, IsTableWithin}
-use Rattle.staat_plan.specs.Listings.{IsSizedDirection}
 use Rattle.staat_plan.proofs.CertificateLemmas.{planes_within}
 use Rattle.staat_plan.proofs.Fewer.{none_refused}
 use Rattle.staat_plan.proofs.ListedLemmas.{few_directions, listed_end, planes_of, sized_directions}

@@ -1,4 +1,4 @@
-use Rattle.std.proofs.Common.{◌≡◌, map, take}
+use Rattle.std.proofs.Common.{map, take}
 use Rattle.staat_plan.proofs.ListedLemmas.{HasLines}
 use Rattle.staat_plan.proofs.listing.listing_of.Given as goal
 

@@ -1,5 +1,4 @@
-use Rattle.std.proofs.Common.{◌≡◌, List, ℕ, map, subst, arith}
-use Rattle.staat_plan.specs.Listings.{key_of}
+use Rattle.std.proofs.Common.{List, ℕ, map, subst, arith}
 use Rattle.staat_plan.specs.Numbers.{IsNumberOf}
 use Rattle.staat_plan.proofs.Numbering.{number_new, number_old}
 use Rattle.staat_plan.proofs.listing.number_witness.Goals as goal
