@@ -35,4 +35,5 @@ outcome_answer finding text = record { status = outcome_status finding; text = t
 pub record IsPlanned (parts : List Part) (certificate : Option ℕ) (found : Found Answer) : Type 0 where
   pub finding : Finding
   pub outcome : IsOutcome false parts (all_parts parts) finding
-  pub written : Then (IsWritten parts finding certificate) (λ text found. found ≡ Ok (outcome_answer finding text)) found
+  pub written : Then (IsWritten parts finding certificate) (λ text found. found ≡ Ok (outcome_answer finding text))
+      found

@@ -1,6 +1,7 @@
 -- What a list of words asks for: a function of the words, by what `clap` states of them.
-use Rattle.std.specs.Prelude.{◌≡◌, ◌≢◌, ◌≤◌, ℕ, Bool, true, false, nat_le, nat_lt, List, length, Option, Some, None, Result, Ok, Err}
-use Rattle.std.specs.Prelude.{◌&&◌, if◌then◌else◌, option_and_then, option_map, unwrap_or, codes, is_some, IfSome, ⊤}
+use Rattle.std.specs.Prelude.{◌≡◌, ◌≢◌, ◌≤◌, ℕ, Bool, true, false, nat_le, nat_lt, List, length, Option, Some, None}
+use Rattle.std.specs.Prelude.{Result, Ok, Err, IfSome, ◌&&◌, if◌then◌else◌, option_and_then, option_map, unwrap_or}
+use Rattle.std.specs.Prelude.{codes, is_some, ⊤}
 use Rattle.std.specs.Option.{option_map_or}
 use Rattle.std.specs.Str.{bytes_eq}
 use Rattle.clap.specs.Walk.{Row, Text, all_of, first_of}
