@@ -652,6 +652,10 @@ const LISTS: [(&str, &[u8]); 5] = [
     ("none", b"{\"parts\":[]}"),
 ];
 
+// The certificate of the cube in the closed box.
+const CLOSED: &str =
+    "STAAT 2\nparts 2\nstuck 0 1\nwitness 0\nout 0 0 1 4\nin 1 5 0 0\nwitness 1\nout 0 0 1 2\nin 1 3 0 0\nwitness 2\nout 0 0 1 0\nin 1 1 0 0\ndir 0 0 1 0\ndir 0 1 0 1\ndir 1 0 0 2\nend\n";
+
 // A shelf with all of them.
 fn shelf_of_blocks(alloc: Global) -> Result<MemoryShelf, Fail> {
     let mut files = Vec::new(alloc);
@@ -677,7 +681,7 @@ fn a_graph_says_who_blocks_whom_and_a_plan_how_parts_come_apart(
     let usage = "staat: usage\n";
     let first = "move 0 along 0 0 1 away from 1\nmoves 1\n";
     let sideways = "move 0 along 0 -1 0 away from 1\nmoves 1\n";
-    let table: [(&[&str], u8, &str, &str); 22] = [
+    let table: [(&[&str], u8, &str, &str); 25] = [
         (
             &["graph", "--along=0,1,0", "a.off", "b.off"],
             0,
@@ -741,7 +745,20 @@ fn a_graph_says_who_blocks_whom_and_a_plan_how_parts_come_apart(
             "staat: parts 1 and 2 overlap in pieces 0 and 0\n",
         ),
         (&["plan", "a", "--planes=2"], 2, "", usage),
-        (&["plan", "a", "--cert"], 2, "", usage),
+        (&["plan", "a", "--format=1"], 2, "", usage),
+        (
+            &["plan", "a", "--cert"],
+            0,
+            "STAAT 2\nparts 1\nplan\nleaf 0\nend\n",
+            "",
+        ),
+        (
+            &["plan", "a", "b", "--cert", "--format=1"],
+            0,
+            "STAAT 1\nparts 2\nplan\nsplit 0 0 1\nsep 0 0 1 0 0 1 0\nleaf 0\nleaf 1\nend\n",
+            "",
+        ),
+        (&["plan", "--manifest=closed", "--cert"], 1, CLOSED, ""),
         (&["plan"], 2, "", usage),
         (
             &["plan", "--manifest=none"],
@@ -758,7 +775,7 @@ fn a_graph_says_who_blocks_whom_and_a_plan_how_parts_come_apart(
     ];
     for (list, status, out_text, err_text) in table {
         let mut shelf = shelf_of_blocks(alloc)?;
-        let mut out = sink(alloc, 128, NEVER, 64)?;
+        let mut out = sink(alloc, 256, NEVER, 64)?;
         let mut err = sink(alloc, 64, NEVER, 64)?;
         let got = staat(alloc, &words(alloc, list)?, &mut shelf, &mut out, &mut err);
         assert_eq!(rt; got, status, "at {list:?}");
