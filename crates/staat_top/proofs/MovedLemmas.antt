@@ -1,11 +1,10 @@
 -- A moved piece is a piece, and there is one.
-use Rattle.std.proofs.Common.{◌≡◌, ℕ, zero, suc, List, [], ◌∷◌, All, Ok, Err, refl, ap, sym, subst, arith}
-use Rattle.std.specs.Prelude.{Any}
+use Rattle.std.proofs.Common.{ℕ, zero, suc, List, [], ◌∷◌, All, Ok, Err, refl, ap, subst, arith}
 use Rattle.std.proofs.lemmas.List.Elements.{All-head, All-tail}
 use Rattle.staat_vec.specs.declared.vector.TheConstants.{POINT}
 use Rattle.staat_vec.specs.declared.vector.V3.{V3}
 use Rattle.staat_vec.specs.Vectors.{IsWithin, plus}
-use Rattle.staat_asm.specs.Placing.{IsPlaced, IsPlacedFar, IsTooFar, shifted}
+use Rattle.staat_asm.specs.Placing.{IsPlaced, IsPlacedFar, shifted}
 use Rattle.staat_fault.specs.declared.fault.Fault.TheVariants.{PlacedFar}
 use Rattle.staat_top.specs.Moved.{MovesPiece, moved, too_far}
 

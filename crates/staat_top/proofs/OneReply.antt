@@ -56,7 +56,7 @@ use Rattle.staat_model.proofs.OneReading.{IsReading-unique}
 use Rattle.staat_model.proofs.OneReason.{IsVerdict-unique}
 use Rattle.staat_fault.specs.declared.fault.Fault.TheVariants.{BadLine, ShortCert}
 use Rattle.staat_top.specs.Checking.{SaysCertificate, says_whole, says_bad, says_short, IsCertificateIn, IsChecked, verdict_answer}
-use Rattle.staat_top.specs.Replies.{IsJudged, answer, free, not_shown, WorkOn, WorkOnWords, Reply, Makes, IsReply}
+use Rattle.staat_top.specs.Replies.{IsJudged, answer, free, not_shown, WorkOn, WorkOnWords, Reply, MakesReply, IsReply}
 
 -- what the step finds is no file that is to be read
 abbrev pub IsSettled : {X : Type 0} → Found X → Type 0
@@ -430,12 +430,12 @@ words_one (Some request) files = work_one request files
 
 -- ---- replies
 
-makes_settled : (found : Found Answer) (reply : Reply) → Makes found reply → IsSettled found
+makes_settled : (found : Found Answer) (reply : Reply) → MakesReply found reply → IsSettled found
 makes_settled (Ok a) reply h = tt
 makes_settled (Err (ReadFault name)) reply h = h
 makes_settled (Err f) reply h = tt
 
-makes_one : (found : Found Answer) (r s : Reply) → Makes found r → Makes found s → r ≡ s
+makes_one : (found : Found Answer) (r s : Reply) → MakesReply found r → MakesReply found s → r ≡ s
 makes_one (Ok a) r s h k = h ∙ sym k
 makes_one (Err (ReadFault name)) r s h k = absurd h
 makes_one (Err f) r s h k = h ∙ sym k
@@ -444,7 +444,7 @@ makes_one (Err f) r s h k = h ∙ sym k
 pub one_reply : (asked : Option Request) (files : Files) (r s : Reply) → IsReply asked files r → IsReply asked files s → r ≡ s
 one_reply asked files r s a b =
     let same : a.found ≡ b.found = (words_one asked files).one a.found b.found a.work b.work (makes_settled a.found r a.makes) (makes_settled b.found s b.makes) in
-    makes_one b.found r s (subst (λ found. Makes found r) same a.makes) b.makes
+    makes_one b.found r s (subst (λ found. MakesReply found r) same a.makes) b.makes
 
 -- where a file is to be read and is not there, there is no reply
 pub no_reply : (asked : Option Request) (files : Files) (name : List ℕ) (r : Reply) → WorkOnWords asked files (Err (ReadFault name)) → bytes_of name files ≡ None → IsReply asked files r → ⊥

@@ -23,7 +23,7 @@ use Rattle.staat_top.specs.declared.answer.Answer.{Answer}
 use Rattle.staat_top.specs.Work.{Files, Found, Each, to_read, too_long, taken}
 use Rattle.staat_top.specs.Inputs.{alone, SaysListing, no_listing, listing, IsListingOf, IsPartOf, IsInputOf, part_of}
 use Rattle.staat_top.specs.Shapes.{AreRead, IsFew}
-use Rattle.staat_top.specs.Runs.{IsBounded}
+use Rattle.staat_top.specs.Runs.{HasRequestBounds}
 use Rattle.staat_top.proofs.InputLemmas.{assembly_read, listing_few, named_files, none_read}
 use Rattle.staat_top.specs.Pieces.{IsPieceOf, SaysPiece, no_file, no_piece, piece}
 use Rattle.staat_top.specs.Moved.{IsMovedPieceOf, moved, too_far}
@@ -48,7 +48,7 @@ use Rattle.staat_model.proofs.PlanLemmas.{plan_is_right_lemma}
 use Rattle.staat_model.proofs.RefusalLemmas.{refusal_is_right_lemma}
 use Rattle.staat_words.specs.declared.request.CheckRequest.{CheckRequest}
 use Rattle.staat_check.specs.Verdicts.{IsPlanOf, IsRefusalWithSet}
-use Rattle.staat_top.specs.Checking.{IsCertificateIn, IsChecked, verdict_answer}
+use Rattle.staat_top.specs.Checking.{IsCertificateIn, verdict_answer}
 use Rattle.staat_top.specs.Replies.{AreSoundParts, SaysOutcome, SaysGoodPlan, SaysStuckSet, SaysValid, SaysNotValid, ShowsValid, valid_plan, valid_refusal, free, not_shown, WorkOnWords, IsRight, IsDenied}
 
 -- ---- pieces
@@ -202,7 +202,7 @@ same_status : (a b : Answer) → ◌≡◌ {A = Found Answer} (Ok a) (Ok b) → 
 same_status a b e = let same : a ≡ b = cc in ap (λ (x : Answer). x.status) same
 
 -- a wall that is shown keeps the pieces apart, a look or a graph gives sound parts, and a plan takes them apart
-pub status_is_right : (asked : Option Request) (files : Files) (a : Answer) → IsBounded asked → WorkOnWords asked files (Ok a) → a.status ≡ 0 → IsRight asked files a.text
+pub status_is_right : (asked : Option Request) (files : Files) (a : Answer) → HasRequestBounds asked → WorkOnWords asked files (Ok a) → a.status ≡ 0 → IsRight asked files a.text
 status_is_right None files a bounds e zero = absurd cc
 status_is_right (Some (Pair request)) files a bounds (inl (fault, at, e)) zero = absurd cc
 status_is_right (Some (Pair request)) files a bounds (inr (p, first, inl (fault, at, e))) zero = absurd cc
@@ -232,7 +232,7 @@ status_is_right (Some (Check request)) files a bounds (inr (built, found, inr (c
     (certificate_valid files request built c p.verdict (sound_parts files request.asked built bounds found) held p.right (ap (λ (b : Answer). b.status) same ∙ zero))
 
 -- a wall that is not shown is none, and a set that is named as stuck is stuck
-pub status_is_denied : (asked : Option Request) (files : Files) (a : Answer) → IsBounded asked → WorkOnWords asked files (Ok a) → a.status ≡ 1 → IsDenied asked files a.text
+pub status_is_denied : (asked : Option Request) (files : Files) (a : Answer) → HasRequestBounds asked → WorkOnWords asked files (Ok a) → a.status ≡ 1 → IsDenied asked files a.text
 status_is_denied None files a bounds e one = absurd cc
 status_is_denied (Some (Pair request)) files a bounds (inl (fault, at, e)) one = absurd cc
 status_is_denied (Some (Pair request)) files a bounds (inr (p, first, inl (fault, at, e))) one = absurd cc

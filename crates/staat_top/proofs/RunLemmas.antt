@@ -11,7 +11,7 @@ use Rattle.staat_fault.specs.Faults.{status_of, line_of}
 use Rattle.staat_top.specs.declared.answer.Answer.{Answer}
 use Rattle.staat_top.specs.Work.{Files}
 use Rattle.staat_top.specs.Replies.{Reply, IsReply, answered, refused}
-use Rattle.staat_top.specs.Runs.{ShelfSide, SinkSide, Took, TookPart, Untouched, IsUnread, IsCaused, IsBounded, IsFound, IsExplained, IsSaid, SaysWhole, SaysPart, Gave, Ran}
+use Rattle.staat_top.specs.Runs.{ShelfSide, SinkSide, Took, TookPart, Untouched, IsUnread, IsCaused, HasRequestBounds, IsFound, IsExplained, IsSaid, SaysWhole, SaysPart, Gave, Ran}
 use Rattle.staat_top.proofs.OneReply.{no_reply, one_reply}
 use Rattle.staat_top.proofs.RightLemmas.{status_is_right, status_is_denied}
 
@@ -28,7 +28,7 @@ answer_reply asked shelf files a found told = record { found = Ok a; work = foun
 
 -- an answer was printed
 pub ran_answer : (asked : Option Request) (shelf : ShelfSide) (out err : SinkSide) (a : Answer) (result : ℕ)
-    → a.status < 2 → IsFound asked shelf (Ok a) → IsBounded asked → (asked ≡ None → ⊥)
+    → a.status < 2 → IsFound asked shelf (Ok a) → HasRequestBounds asked → (asked ≡ None → ⊥)
     → (result ≢ 6 → (result ≡ a.status) × Untouched err × Took out a.text)
     → (result ≡ 6 → TookPart out a.text)
     → (result ≡ 6 → Took err (line_of WriteFault) ⊎ TookPart err (line_of WriteFault))

@@ -8,7 +8,7 @@ use Rattle.staat_fault.specs.declared.fault.Fault.{Fault}
 use Rattle.staat_fault.specs.declared.fault.Fault.TheVariants.{Usage}
 use Rattle.staat_top.specs.Work.{Files, Follows}
 use Rattle.staat_top.specs.Replies.{WorkOn}
-use Rattle.staat_top.specs.Runs.{ShelfSide, HasCause, IsBounded, IsFound, IsExplained}
+use Rattle.staat_top.specs.Runs.{ShelfSide, HasCause, HasRequestBounds, IsFound, IsExplained}
 
 -- what the work on the request finds, over the files that the shelf holds
 abbrev pub Works : Request → ShelfSide → Result Answer Fault → Type 0
@@ -30,8 +30,8 @@ pub worked_usage : (asked : Option Request) (shelf : ShelfSide) → asked ≡ No
 worked_usage asked shelf e = subst (λ o. IsExplained o shelf Usage) (sym e) (record { cause = inl refl; found = λ files told. refl })
 
 pub worked_bounds : (asked : Option Request) (request : Request) (r : Result Answer Fault) →
-    asked ≡ Some request → HasBounds request → IfOk r (λ a. IsBounded asked)
-worked_bounds asked request (Ok a) e bounds = subst IsBounded (sym e) bounds
+    asked ≡ Some request → HasBounds request → IfOk r (λ a. HasRequestBounds asked)
+worked_bounds asked request (Ok a) e bounds = subst HasRequestBounds (sym e) bounds
 worked_bounds asked request (Err f) e bounds = tt
 
 pub ruleset worked = (worked_answer, worked_fault, worked_usage, worked_bounds)

@@ -86,16 +86,16 @@ abbrev pub refused : Fault → Reply
 refused fault = record { status = status_of fault; out = []; err = line_of fault }
 
 -- what the work finds makes this reply; none where a file is to be read next
-abbrev pub Makes : Found Answer → Reply → Type 0
-Makes (Ok answer) reply = reply ≡ answered answer
-Makes (Err (ReadFault name)) reply = ⊥
-Makes (Err fault) reply = reply ≡ refused fault
+abbrev pub MakesReply : Found Answer → Reply → Type 0
+MakesReply (Ok answer) reply = reply ≡ answered answer
+MakesReply (Err (ReadFault name)) reply = ⊥
+MakesReply (Err fault) reply = reply ≡ refused fault
 
 -- this is the reply
 pub record IsReply (asked : Option Request) (files : Files) (reply : Reply) : Type 0 where
   pub found : Found Answer
   pub work : WorkOnWords asked files found
-  pub makes : Makes found reply
+  pub makes : MakesReply found reply
 
 -- the input names these parts, each file holds its piece, they are an assembly, and no pieces of different parts
 -- overlap

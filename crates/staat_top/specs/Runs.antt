@@ -80,9 +80,9 @@ pub record IsExplained (asked : Option Request) (shelf : ShelfSide) (fault : Fau
   pub found : IsFound asked shelf (Err fault)
 
 -- the words make no request, or one whose numbers are within their bounds
-abbrev pub IsBounded : Option Request → Type 0
-IsBounded None = ⊤
-IsBounded (Some request) = HasBounds request
+abbrev pub HasRequestBounds : Option Request → Type 0
+HasRequestBounds None = ⊤
+HasRequestBounds (Some request) = HasBounds request
 
 -- The fault, or want of memory, since its line may have no memory.
 abbrev pub IsSaid : Fault → Fault → Type 0
@@ -102,7 +102,7 @@ pub record SaysPart (fault : Fault) (err : SinkSide) : Type 0 where
   pub part : TookPart err (line_of said)
 
 -- the fault's line went out whole
-pub record Refuses (asked : Option Request) (shelf : ShelfSide) (err : SinkSide) (status : ℕ) : Type 0 where
+pub record RefusesWith (asked : Option Request) (shelf : ShelfSide) (err : SinkSide) (status : ℕ) : Type 0 where
   pub fault : Fault
   pub explained : IsExplained asked shelf fault
   pub is : status ≡ status_of fault
@@ -161,7 +161,7 @@ pub record Ran (asked : Option Request) (shelf : ShelfSide) (out err : SinkSide)
   pub err_kept : status < 2 → Untouched err
   -- what each status says, and why it came
   pub answers : status < 2 → Prints asked shelf out status
-  pub refuses : 2 ≤ status → status ≢ 6 → Refuses asked shelf err status
+  pub refuses : 2 ≤ status → status ≢ 6 → RefusesWith asked shelf err status
   pub write_fault : status ≡ 6 → OutFails asked shelf out err ⊎ ErrFails asked shelf out err
   pub usage : asked ≡ None → (status ≡ 2) ⊎ (status ≡ 6) ⊎ (status ≡ 7)
   -- Over a shelf that tells its files: statuses 0 to 4 are the reply; the reply comes where nothing failed and there

@@ -62,7 +62,8 @@ fn listing_in(alloc: Global, bytes: &[u8], name: &Name) -> Result<Listing, Fault
 fn read_listing<H: Shelf>(alloc: Global, shelf: &mut H, name: &Name) -> Result<Listing, Fault>
     ensures holds { (H.told shelf.new).holds ≡ (H.told shelf.old).holds }
     ensures count { (H.told shelf.old).faults ≤ (H.told shelf.new).faults }
-    ensures found { (files : Files) → (H.told shelf.old).holds ≡ Some files → Follows (IsTaken files name.now (SaysListing name.now)) result }
+    ensures found { (files : Files) → (H.told shelf.old).holds ≡ Some files → Follows (IsTaken files name.now
+        (SaysListing name.now)) result }
     ensures few { IfOk result IsFew }
     ensures cause { IfErr result (HasCause (over (H.told shelf.old) (H.told shelf.new))) }
 {
@@ -75,7 +76,8 @@ fn names_of<H: Shelf>(alloc: Global, shelf: &mut H, input: &Input) -> Result<Lis
     requires { IsInput input.now }
     ensures holds { (H.told shelf.new).holds ≡ (H.told shelf.old).holds }
     ensures count { (H.told shelf.old).faults ≤ (H.told shelf.new).faults }
-    ensures found { (files : Files) → (H.told shelf.old).holds ≡ Some files → Follows (IsListingOf files input.now) result }
+    ensures found { (files : Files) → (H.told shelf.old).holds ≡ Some files →
+        Follows (IsListingOf files input.now) result }
     ensures few { IfOk result IsFew }
     ensures cause { IfErr result (HasCause (over (H.told shelf.old) (H.told shelf.new))) }
 {
@@ -107,7 +109,8 @@ fn read_pieces<H: Shelf>(
     requires vector { IsWithin POINT at }
     ensures holds { (H.told shelf.new).holds ≡ (H.told shelf.old).holds }
     ensures count { (H.told shelf.old).faults ≤ (H.told shelf.new).faults }
-    ensures found { (files : Files) → (H.told shelf.old).holds ≡ Some files → Follows (Each (IsMovedPieceOf files digits at) names.now) result }
+    ensures found { (files : Files) → (H.told shelf.old).holds ≡ Some files →
+        Follows (Each (IsMovedPieceOf files digits at) names.now) result }
     ensures pieces { IfOk result (All IsPiece) }
     ensures each { IfOk result (λ pieces. length pieces ≡ length names.now) }
     ensures cause { IfErr result (HasCause (over (H.told shelf.old) (H.told shelf.new))) }
@@ -132,7 +135,8 @@ fn read_part<H: Shelf>(
     requires vector { IsWithin POINT named.now.at }
     ensures holds { (H.told shelf.new).holds ≡ (H.told shelf.old).holds }
     ensures count { (H.told shelf.old).faults ≤ (H.told shelf.new).faults }
-    ensures found { (files : Files) → (H.told shelf.old).holds ≡ Some files → Follows (IsPartOf files digits named.now) result }
+    ensures found { (files : Files) → (H.told shelf.old).holds ≡ Some files →
+        Follows (IsPartOf files digits named.now) result }
     ensures pieces { IfOk result (λ part. All IsPiece part.pieces) }
     ensures each { IfOk result (λ part. length part.pieces ≡ length named.now.pieces) }
     ensures cause { IfErr result (HasCause (over (H.told shelf.old) (H.told shelf.new))) }
@@ -153,7 +157,8 @@ fn read_parts<H: Shelf>(
     requires placed { All (λ part. IsWithin POINT part.at) listing.now }
     ensures holds { (H.told shelf.new).holds ≡ (H.told shelf.old).holds }
     ensures count { (H.told shelf.old).faults ≤ (H.told shelf.new).faults }
-    ensures found { (files : Files) → (H.told shelf.old).holds ≡ Some files → Follows (Each (IsPartOf files digits) listing.now) result }
+    ensures found { (files : Files) → (H.told shelf.old).holds ≡ Some files →
+        Follows (Each (IsPartOf files digits) listing.now) result }
     ensures read { IfOk result (AreRead listing.now) }
     ensures cause { IfErr result (HasCause (over (H.told shelf.old) (H.told shelf.new))) }
 {
@@ -164,13 +169,14 @@ fn read_parts<H: Shelf>(
     Ok(Parts::from_vec(parts))
 }
 
-/// The assembly that an input names: the part list is read first, if there is one, and then each piece's file in the order
-/// of the list. The first refusal is the answer.
+/// The assembly that an input names: the part list is read first, if there is one, and then each piece's file in the
+/// order of the list. The first refusal is the answer.
 pub fn read_input<H: Shelf>(alloc: Global, shelf: &mut H, asked: &Asked) -> Result<Assembly, Fault>
     requires { IsAsked asked.now }
     ensures holds { (H.told shelf.new).holds ≡ (H.told shelf.old).holds }
     ensures count { (H.told shelf.old).faults ≤ (H.told shelf.new).faults }
-    ensures found { (files : Files) → (H.told shelf.old).holds ≡ Some files → Follows (IsInputOf files asked.now) result }
+    ensures found { (files : Files) → (H.told shelf.old).holds ≡ Some files →
+        Follows (IsInputOf files asked.now) result }
     ensures cause { IfErr result (HasCause (over (H.told shelf.old) (H.told shelf.new))) }
 {
     let listing = names_of(alloc, shelf, &asked.input)?;

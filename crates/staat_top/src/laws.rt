@@ -9,12 +9,14 @@ ghost use Rattle.staat_top.specs.Replies.{IsReply, Reply, WorkOnWords};
 
 /// There is one reply at most to a request over some files.
 pub fn one_reply()
-    ensures { (asked : Option RequestValue) (files : Files) (r s : Reply) → IsReply asked files r → IsReply asked files s → r ≡ s }
+    ensures { (asked : Option RequestValue) (files : Files) (r s : Reply) → IsReply asked files r →
+        IsReply asked files s → r ≡ s }
 {}
 
 /// Where the work comes to a file that is to be read next and is not held, there is no reply.
 pub fn no_reply()
-    ensures { (asked : Option RequestValue) (files : Files) (name : List ℕ) (r : Reply) → WorkOnWords asked files (Err (ReadFault name)) → bytes_of name files ≡ None → IsReply asked files r → ⊥ }
+    ensures { (asked : Option RequestValue) (files : Files) (name : List ℕ) (r : Reply) →
+        WorkOnWords asked files (Err (ReadFault name)) → bytes_of name files ≡ None → IsReply asked files r → ⊥ }
 {}
 
 /// How many bytes a file of points or a part list may have.

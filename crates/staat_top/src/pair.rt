@@ -61,14 +61,15 @@ fn judge(alloc: Global, p: &Piece, q: &Piece, along: V3, wall: V3) -> Result<Ans
     }
 }
 
-/// The answer to the command `pair`: whether the wall shows that the piece of the first file, moved along the direction,
-/// never meets that of the second. The first file is read and judged before the second.
+/// The answer to the command `pair`: whether the wall shows that the piece of the first file, moved along the
+/// direction, never meets that of the second. The first file is read and judged before the second.
 pub fn pair<H: Shelf>(alloc: Global, request: &PairRequest, shelf: &mut H) -> Result<Answer, Fault>
     requires { IsPairRequest request.now }
     ensures holds { (H.told shelf.new).holds ≡ (H.told shelf.old).holds }
     ensures count { (H.told shelf.old).faults ≤ (H.told shelf.new).faults }
     ensures status { IfOk result (λ a. a.status < 2) }
-    ensures found { (files : Files) → (H.told shelf.old).holds ≡ Some files → Follows (WorkOn (Pair request.now) files) result }
+    ensures found { (files : Files) → (H.told shelf.old).holds ≡ Some files →
+        Follows (WorkOn (Pair request.now) files) result }
     ensures cause { IfErr result (HasCause (over (H.told shelf.old) (H.told shelf.new))) }
 {
     let p = read_piece(alloc, request.digits, shelf, &request.first)?;

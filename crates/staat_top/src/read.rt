@@ -63,7 +63,8 @@ pub fn read_piece<H: Shelf>(
     requires { digits ≤ MOST_DIGITS }
     ensures holds { (H.told shelf.new).holds ≡ (H.told shelf.old).holds }
     ensures count { (H.told shelf.old).faults ≤ (H.told shelf.new).faults }
-    ensures found { (files : Files) → (H.told shelf.old).holds ≡ Some files → Follows (IsPieceOf files digits name.now) result }
+    ensures found { (files : Files) → (H.told shelf.old).holds ≡ Some files →
+        Follows (IsPieceOf files digits name.now) result }
     ensures cause { IfErr result (HasCause (over (H.told shelf.old) (H.told shelf.new))) }
 {
     let bytes = read_file(alloc, shelf, name)?;

@@ -27,13 +27,14 @@ fn tested(alloc: Global, assembly: Assembly) -> Result<Sound, Fault>
     }
 }
 
-/// The sound assembly that an input gives. The whole input is read first; then the first two pieces of different parts that
-/// overlap are the refusal.
+/// The sound assembly that an input gives. The whole input is read first; then the first two pieces of different
+/// parts that overlap are the refusal.
 pub fn read_sound<H: Shelf>(alloc: Global, shelf: &mut H, asked: &Asked) -> Result<Sound, Fault>
     requires { IsAsked asked.now }
     ensures holds { (H.told shelf.new).holds ≡ (H.told shelf.old).holds }
     ensures count { (H.told shelf.old).faults ≤ (H.told shelf.new).faults }
-    ensures found { (files : Files) → (H.told shelf.old).holds ≡ Some files → Follows (IsSoundOf files asked.now) result }
+    ensures found { (files : Files) → (H.told shelf.old).holds ≡ Some files →
+        Follows (IsSoundOf files asked.now) result }
     ensures cause { IfErr result (HasCause (over (H.told shelf.old) (H.told shelf.new))) }
 {
     let assembly = read_input(alloc, shelf, asked)?;

@@ -4,7 +4,7 @@ ghost use Rattle.staat_words.specs.Requests.{HasBounds, request};
 ghost use Rattle.staat_fault.specs.declared.fault.Fault.TheVariants as faults;
 ghost use Rattle.staat_top.specs.Work.{Files, Follows};
 ghost use Rattle.staat_top.specs.Replies.{WorkOn};
-ghost use Rattle.staat_top.specs.Runs.{HasCause, IsBounded, IsExplained, IsFound, Ran, over};
+ghost use Rattle.staat_top.specs.Runs.{HasCause, HasRequestBounds, IsExplained, IsFound, Ran, over};
 
 use crate::answer::Answer;
 use crate::check::check;
@@ -24,7 +24,8 @@ fn work<H: Shelf>(alloc: Global, request: &Request, shelf: &mut H) -> Result<Ans
     ensures holds { (H.told shelf.new).holds ≡ (H.told shelf.old).holds }
     ensures count { (H.told shelf.old).faults ≤ (H.told shelf.new).faults }
     ensures status { IfOk result (λ a. a.status < 2) }
-    ensures found { (files : Files) → (H.told shelf.old).holds ≡ Some files → Follows (WorkOn request.now files) result }
+    ensures found { (files : Files) → (H.told shelf.old).holds ≡ Some files →
+        Follows (WorkOn request.now files) result }
     ensures cause { IfErr result (HasCause (over (H.told shelf.old) (H.told shelf.new))) }
 {
     match request {
@@ -46,7 +47,7 @@ fn answer_to<H: Shelf>(alloc: Global, words: &Vec<String>, shelf: &mut H) -> Res
         (over (H.told shelf.old) (H.told shelf.new)) (Ok a)) }
     ensures explained { IfErr result (IsExplained (request (map string_bytes words.now.items))
         (over (H.told shelf.old) (H.told shelf.new))) }
-    ensures bounds { IfOk result (λ _. IsBounded (request (map string_bytes words.now.items))) }
+    ensures bounds { IfOk result (λ _. HasRequestBounds (request (map string_bytes words.now.items))) }
     ensures usage { request (map string_bytes words.now.items) ≡ None →
         IsErrAnd result (λ f. (f ≡ faults.Usage) ⊎ (f ≡ faults.OutOfMemory)) }
 {

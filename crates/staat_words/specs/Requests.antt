@@ -28,8 +28,8 @@ use Rattle.staat_words.specs.Spelled.{◌>>=◌, vector_within}
 use Rattle.staat_words.specs.Command.{is_taken, matches}
 
 -- `--digits`, 0 where it is not given
-unfoldable pub digits_in : List Row → Option ℕ
-digits_in rows = natural_within MOST_DIGITS (unwrap_or (first_of (codes "digits") rows) (codes "0"))
+unfoldable pub digits_asked : List Row → Option ℕ
+digits_asked rows = natural_within MOST_DIGITS (unwrap_or (first_of (codes "digits") rows) (codes "0"))
 
 -- the vector that an option gives
 unfoldable pub vector_in : Text → ℕ → List Row → Option V3
@@ -88,13 +88,13 @@ input_in rows = input_from (first_of (codes "manifest") rows) (all_of (codes "fi
 
 unfoldable pub asked_in : List Row → Option Asked
 asked_in rows = do
-  digits ← digits_in rows
+  digits ← digits_asked rows
   input ← input_in rows
   Some (record { digits = digits; input = input })
 
 unfoldable pub pair_in : List Row → Option PairRequest
 pair_in rows = do
-  digits ← digits_in rows
+  digits ← digits_asked rows
   along ← vector_in (codes "along") DIRECTION rows
   wall ← vector_in (codes "wall") NORMAL rows
   first ← first_of (codes "first") rows
@@ -135,10 +135,10 @@ unfoldable pub request : List Text → Option Request
 request words = if is_taken words then request_in (matches words) else None
 
 -- the answer is what the words ask for, or Usage where they ask for nothing; want of memory is free
-abbrev pub Answers : {X : Type 0} → Option X → Result X RequestRefusal → Type 0
-Answers asked (Ok answer) = asked ≡ Some answer
-Answers asked (Err Usage) = asked ≡ None
-Answers asked (Err OutOfMemory) = ⊤
+abbrev pub ReadsWords : {X : Type 0} → Option X → Result X RequestRefusal → Type 0
+ReadsWords asked (Ok answer) = asked ≡ Some answer
+ReadsWords asked (Err Usage) = asked ≡ None
+ReadsWords asked (Err OutOfMemory) = ⊤
 
 -- a part list, or as many files as there may be parts
 abbrev pub IsInput : Input → Type 0

@@ -4,7 +4,8 @@ ghost use Rattle.clap.specs.Words.{all_of, first_of, found_of, rows_of};
 ghost use Rattle.staat_vec.specs.Vectors.{IsWithin, origin};
 ghost use Rattle.staat_model.specs.Lines.{IsVersion};
 ghost use Rattle.staat_planes.specs.declared.table.TheConstants.{LEAST_PLANES, MOST_PLANES};
-ghost use Rattle.staat_words.specs.Requests.{Answers, IsInput, certificate_in, digits_in, input_in, is_given, planes_in, planes_within, vector_in, version_from, version_within};
+ghost use Rattle.staat_words.specs.Requests.{ReadsWords, IsInput, certificate_in, digits_asked, input_in, is_given};
+ghost use Rattle.staat_words.specs.Requests.{planes_in, planes_within, vector_in, version_from, version_within};
 
 use crate::request::{Input, RequestRefusal};
 use crate::vector::vector_of;
@@ -31,9 +32,9 @@ fn values_of<'m, 'a>(matches: &'m ArgMatches<'a>, id: &str) -> Option<&'m [&'a s
 }
 
 /// The option `--digits`, 0 where it is not given.
-#[tactic(auto, unfolding(crate::specs::Requests::digits_in))]
+#[tactic(auto, unfolding(crate::specs::Requests::digits_asked))]
 pub fn digits_of(matches: &ArgMatches<'_>) -> Option<u32>
-    ensures exact { result ≡ digits_in (rows_of (found_of matches.now)) }
+    ensures exact { result ≡ digits_asked (rows_of (found_of matches.now)) }
     ensures bound { IfSome result (λ n. n ≤ MOST_DIGITS) }
 {
     let text = value_of(matches, "digits").unwrap_or("0");
@@ -104,7 +105,7 @@ fn version_of(matches: &ArgMatches<'_>) -> Option<u32>
 /// not given. Usage comes where the flag is not given and the option is.
 #[tactic(auto, unfolding(crate::specs::Requests::certificate_in))]
 pub fn certificate_of(matches: &ArgMatches<'_>) -> Result<Option<u32>, RequestRefusal>
-    ensures answers { Answers (certificate_in (rows_of (found_of matches.now))) result }
+    ensures answers { ReadsWords (certificate_in (rows_of (found_of matches.now))) result }
     ensures version { IfOk result (λ certificate. IfSome certificate IsVersion) }
 {
     if is_given(matches, "cert") {
@@ -152,7 +153,7 @@ fn names_of(alloc: Global, words: &[&str]) -> Result<Names, AllocError>
 /// Where the parts come from: either a part list, or 1 to 32 files.
 #[tactic(auto, unfolding(crate::specs::Requests::input_in))]
 pub fn input_of(alloc: Global, matches: &ArgMatches<'_>) -> Result<Input, RequestRefusal>
-    ensures answers { Answers (input_in (rows_of (found_of matches.now))) result }
+    ensures answers { ReadsWords (input_in (rows_of (found_of matches.now))) result }
     ensures bounds { IfOk result IsInput }
 {
     let files = values_of(matches, "files");

@@ -2,9 +2,13 @@
 ghost use Rattle.std.specs.Prelude.{◌≡◌, map, string_bytes, IfOk, IsErrOf, true, false};
 ghost use Rattle.clap.specs.Words.{found_of, rows_of, subcommand_rows_of};
 ghost use Rattle.staat_words.specs.Command.{is_taken, matches as matches_at};
-ghost use Rattle.staat_words.specs.Requests.{Answers, HasBounds, IsAsked, IsGraphRequest, IsPairRequest, IsPlanRequest, asked_in, check_in, graph_in, pair_in, plan_in, request, request_in};
+ghost use Rattle.staat_words.specs.Requests.{ReadsWords, HasBounds, IsAsked, IsGraphRequest, IsPairRequest};
+ghost use Rattle.staat_words.specs.Requests.{IsPlanRequest, asked_in, check_in, graph_in, pair_in, plan_in, request};
+ghost use Rattle.staat_words.specs.Requests.{request_in};
 
-use crate::arguments::{certificate_of, digits_of, input_of, name_of, planes_of, value_of, vector_in};
+use crate::arguments::{
+    certificate_of, digits_of, input_of, name_of, planes_of, value_of, vector_in,
+};
 use crate::command::staat_command;
 use crate::request::{
     Asked, CheckRequest, GraphRequest, PairRequest, PlanRequest, Request, RequestRefusal,
@@ -16,7 +20,7 @@ use std::alloc::Global;
 
 #[tactic(auto, unfolding(crate::specs::Requests::asked_in))]
 fn asked_of(alloc: Global, matches: &ArgMatches<'_>) -> Result<Asked, RequestRefusal>
-    ensures answers { Answers (asked_in (rows_of (found_of matches.now))) result }
+    ensures answers { ReadsWords (asked_in (rows_of (found_of matches.now))) result }
     ensures bounds { IfOk result IsAsked }
 {
     let digits = digits_of(matches).ok_or(RequestRefusal::Usage)?;
@@ -26,7 +30,7 @@ fn asked_of(alloc: Global, matches: &ArgMatches<'_>) -> Result<Asked, RequestRef
 
 #[tactic(auto, unfolding(crate::specs::Requests::pair_in))]
 fn pair_of(alloc: Global, matches: &ArgMatches<'_>) -> Result<PairRequest, RequestRefusal>
-    ensures answers { Answers (pair_in (rows_of (found_of matches.now))) result }
+    ensures answers { ReadsWords (pair_in (rows_of (found_of matches.now))) result }
     ensures bounds { IfOk result IsPairRequest }
 {
     let digits = digits_of(matches).ok_or(RequestRefusal::Usage)?;
@@ -45,7 +49,7 @@ fn pair_of(alloc: Global, matches: &ArgMatches<'_>) -> Result<PairRequest, Reque
 
 #[tactic(auto, unfolding(crate::specs::Requests::graph_in))]
 fn graph_of(alloc: Global, matches: &ArgMatches<'_>) -> Result<GraphRequest, RequestRefusal>
-    ensures answers { Answers (graph_in (rows_of (found_of matches.now))) result }
+    ensures answers { ReadsWords (graph_in (rows_of (found_of matches.now))) result }
     ensures bounds { IfOk result IsGraphRequest }
 {
     let asked = asked_of(alloc, matches)?;
@@ -55,7 +59,7 @@ fn graph_of(alloc: Global, matches: &ArgMatches<'_>) -> Result<GraphRequest, Req
 
 #[tactic(auto, unfolding(crate::specs::Requests::plan_in))]
 fn plan_of(alloc: Global, matches: &ArgMatches<'_>) -> Result<PlanRequest, RequestRefusal>
-    ensures answers { Answers (plan_in (rows_of (found_of matches.now))) result }
+    ensures answers { ReadsWords (plan_in (rows_of (found_of matches.now))) result }
     ensures bounds { IfOk result IsPlanRequest }
 {
     let asked = asked_of(alloc, matches)?;
@@ -70,7 +74,7 @@ fn plan_of(alloc: Global, matches: &ArgMatches<'_>) -> Result<PlanRequest, Reque
 
 #[tactic(auto, unfolding(crate::specs::Requests::check_in))]
 fn check_of(alloc: Global, matches: &ArgMatches<'_>) -> Result<CheckRequest, RequestRefusal>
-    ensures answers { Answers (check_in (rows_of (found_of matches.now))) result }
+    ensures answers { ReadsWords (check_in (rows_of (found_of matches.now))) result }
     ensures bounds { IfOk result (λ request. IsAsked request.asked) }
 {
     let asked = asked_of(alloc, matches)?;
@@ -98,7 +102,7 @@ fn matches_of<'a>(alloc: Global, words: &'a [String]) -> Result<ArgMatches<'a>, 
 // The request of a subcommand: a line for each command.
 #[tactic(auto, unfolding(crate::specs::Requests::request_in))]
 fn request_from(alloc: Global, matches: &ArgMatches<'_>) -> Result<Request, RequestRefusal>
-    ensures answers { Answers (request_in (subcommand_rows_of matches.now)) result }
+    ensures answers { ReadsWords (request_in (subcommand_rows_of matches.now)) result }
     ensures bounds { IfOk result HasBounds }
 {
     match matches.subcommand() {
@@ -124,7 +128,7 @@ fn request_from(alloc: Global, matches: &ArgMatches<'_>) -> Result<Request, Requ
 /// The request of the words after the program's name. Usage comes exactly where they make none.
 #[tactic(auto, unfolding(crate::specs::Requests::request))]
 pub fn request_of(alloc: Global, words: &Vec<String>) -> Result<Request, RequestRefusal>
-    ensures answers { Answers (request (map string_bytes words.now.items)) result }
+    ensures answers { ReadsWords (request (map string_bytes words.now.items)) result }
     ensures bounds { IfOk result HasBounds }
 {
     let matches = matches_of(alloc, words.as_slice())?;
