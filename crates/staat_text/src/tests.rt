@@ -4,10 +4,11 @@ ghost use Rattle.staat_model.specs.Outcomes.{finding_of};
 ghost use Rattle.staat_model.specs.Pieces.{IsPiece};
 ghost use Rattle.staat_text.specs.PlanTexts.{CanBeShown};
 
-use crate::{graph_text, look_text, parts_text, plan_text};
+use crate::{graph_text, look_text, parts_text, plan_text, verdict_text};
 use staat_graph::Graph;
 use staat_model::{
-    Assembly, Kind, Marks, Outcome, Part, PartSet, Parts, Piece, Pieces, Points, Sound, Tree,
+    Assembly, Kind, Marks, Outcome, Part, PartSet, Parts, Piece, Pieces, Points, Reason, Sound,
+    Tree, Verdict,
 };
 use staat_vec::{Bytes, Name, OutOfMemory, V3};
 use std::alloc::{AllocError, Global};
@@ -178,5 +179,56 @@ fn plans(rt: HostRuntime) -> Result<(), Fail> {
     let stuck = Outcome::Stuck(PartSet::from_bits(0b1011));
     let text = plan_text(alloc, &stuck)?;
     assert_eq!(rt; text.as_slice(), b"stuck 0 1 3\n".as_slice());
+    Ok(())
+}
+
+#[test]
+fn verdicts(rt: HostRuntime) -> Result<(), Fail> {
+    let alloc = rt.alloc();
+    let d = V3 { x: 1, y: -20, z: 0 };
+    let table: [(Verdict, &[u8]); 11] = [
+        (Verdict::ValidPlan, b"valid plan\n"),
+        (Verdict::ValidRefusal, b"valid refusal\n"),
+        (
+            Verdict::Not(Reason::WrongParts(3)),
+            b"not valid: wrong parts 3\n",
+        ),
+        (
+            Verdict::Not(Reason::BadLeaves(4)),
+            b"not valid: bad leaves at node 4\n",
+        ),
+        (
+            Verdict::Not(Reason::ZeroDirection(0)),
+            b"not valid: zero direction at node 0\n",
+        ),
+        (
+            Verdict::Not(Reason::BadSeparator(5)),
+            b"not valid: bad separator on line 5\n",
+        ),
+        (
+            Verdict::Not(Reason::MissingSeparator(0, 1, 2, 3)),
+            b"not valid: missing separator 0 1 2 3\n",
+        ),
+        (
+            Verdict::Not(Reason::BadStuckSet),
+            b"not valid: bad stuck set\n",
+        ),
+        (
+            Verdict::Not(Reason::BadArc(22)),
+            b"not valid: bad arc on line 22\n",
+        ),
+        (
+            Verdict::Not(Reason::BadTree(2)),
+            b"not valid: bad tree in witness 2\n",
+        ),
+        (
+            Verdict::Not(Reason::MissingDirection(d)),
+            b"not valid: missing direction 1 -20 0\n",
+        ),
+    ];
+    for (verdict, text) in table {
+        let line = verdict_text(alloc, &verdict)?;
+        assert_eq!(rt; line.as_slice(), text);
+    }
     Ok(())
 }
