@@ -18,8 +18,9 @@ use Rattle.staat_words.specs.declared.request.Asked.{Asked}
 use Rattle.staat_words.specs.declared.request.PairRequest.{PairRequest}
 use Rattle.staat_words.specs.declared.request.GraphRequest.{GraphRequest}
 use Rattle.staat_words.specs.declared.request.PlanRequest.{PlanRequest}
+use Rattle.staat_words.specs.declared.request.CheckRequest.{CheckRequest}
 use Rattle.staat_words.specs.declared.request.Request.{Request}
-use Rattle.staat_words.specs.declared.request.Request.TheVariants.{Pair, Look, Graph, Plan}
+use Rattle.staat_words.specs.declared.request.Request.TheVariants.{Pair, Look, Graph, Plan, Check}
 use Rattle.staat_words.specs.declared.request.RequestRefusal.{RequestRefusal}
 use Rattle.staat_words.specs.declared.request.RequestRefusal.TheVariants.{Usage, OutOfMemory}
 use Rattle.staat_words.specs.Spelled.{◌>>=◌, vector_within}
@@ -112,6 +113,12 @@ plan_in rows = do
   certificate ← certificate_in rows
   Some (record { asked = asked; planes = planes; certificate = certificate })
 
+unfoldable pub check_in : List Row → Option CheckRequest
+check_in rows = do
+  asked ← asked_in rows
+  certificate ← first_of (codes "certificate") rows
+  Some (record { asked = asked; certificate = certificate })
+
 -- the request of a subcommand and its matches: a line for each command
 unfoldable pub request_in : Option (Text × List Row) → Option Request
 request_in None = None
@@ -119,7 +126,8 @@ request_in (Some found) =
     if bytes_eq found.0 (codes "pair") then option_map Pair (pair_in found.1)
     else (if bytes_eq found.0 (codes "look") then option_map Look (asked_in found.1)
     else (if bytes_eq found.0 (codes "graph") then option_map Graph (graph_in found.1)
-    else (if bytes_eq found.0 (codes "plan") then option_map Plan (plan_in found.1) else None)))
+    else (if bytes_eq found.0 (codes "plan") then option_map Plan (plan_in found.1)
+    else (if bytes_eq found.0 (codes "check") then option_map Check (check_in found.1) else None))))
 
 -- The request of the words: none is a usage fault.
 unfoldable pub request : List Text → Option Request
@@ -159,3 +167,4 @@ HasBounds (Pair request) = IsPairRequest request
 HasBounds (Look asked) = IsAsked asked
 HasBounds (Graph request) = IsGraphRequest request
 HasBounds (Plan request) = IsPlanRequest request
+HasBounds (Check request) = IsAsked request.asked

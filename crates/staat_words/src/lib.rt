@@ -8,7 +8,9 @@ mod request;
 mod vector;
 mod words;
 
-pub use request::{Asked, GraphRequest, Input, PairRequest, PlanRequest, Request, RequestRefusal};
+pub use request::{
+    Asked, CheckRequest, GraphRequest, Input, PairRequest, PlanRequest, Request, RequestRefusal,
+};
 pub use words::request_of;
 
 #[cfg(test)]

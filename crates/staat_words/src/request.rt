@@ -51,6 +51,14 @@ pub struct PlanRequest {
     pub certificate: Option<u32>,
 }
 
+/// Whether a certificate is valid for the parts.
+#[derive(Drop)]
+pub struct CheckRequest {
+    pub asked: Asked,
+    /// The certificate's file.
+    pub certificate: Name,
+}
+
 /// A command with its values.
 #[derive(Drop)]
 pub enum Request {
@@ -59,6 +67,7 @@ pub enum Request {
     Look(Asked),
     Graph(GraphRequest),
     Plan(PlanRequest),
+    Check(CheckRequest),
 }
 
 /// Why words give no request.

@@ -15,7 +15,7 @@ fn asked(alloc: Global, words: &[&str]) -> Result<Result<Request, RequestRefusal
 #[test]
 fn words_are_taken_or_a_usage_fault(rt: HostRuntime) -> Result<(), Fail> {
     let alloc = rt.alloc();
-    let table: [(&[&str], bool); 56] = [
+    let table: [(&[&str], bool); 63] = [
         (&["pair", "a", "b", "--along=0,0,1", "--wall=1,0,0"], true),
         (&["pair", "--wall=1,0,0", "a", "b", "--along=0,0,1"], true),
         (
@@ -127,6 +127,13 @@ fn words_are_taken_or_a_usage_fault(rt: HostRuntime) -> Result<(), Fail> {
         (&["plan", "a", "--robust"], false),
         (&["plan", "a", "--along=0,0,1"], false),
         (&["plan"], false),
+        (&["check", "c", "a", "b"], true),
+        (&["check", "c", "--manifest=m"], true),
+        (&["check", "--digits=6", "c", "a"], true),
+        (&["check", "c"], false),
+        (&["check"], false),
+        (&["check", "c", "--manifest=m", "a"], false),
+        (&["check", "c", "a", "--planes=5"], false),
         (&["help"], false),
         (&[], false),
     ];

@@ -2,11 +2,13 @@
 ghost use Rattle.std.specs.Prelude.{◌≡◌, map, string_bytes, IfOk, IsErrOf, true, false};
 ghost use Rattle.clap.specs.Words.{found_of, rows_of, subcommand_rows_of};
 ghost use Rattle.staat_words.specs.Command.{is_taken, matches as matches_at};
-ghost use Rattle.staat_words.specs.Requests.{Answers, HasBounds, IsAsked, IsGraphRequest, IsPairRequest, IsPlanRequest, asked_in, graph_in, pair_in, plan_in, request, request_in};
+ghost use Rattle.staat_words.specs.Requests.{Answers, HasBounds, IsAsked, IsGraphRequest, IsPairRequest, IsPlanRequest, asked_in, check_in, graph_in, pair_in, plan_in, request, request_in};
 
 use crate::arguments::{certificate_of, digits_of, input_of, name_of, planes_of, value_of, vector_in};
 use crate::command::staat_command;
-use crate::request::{Asked, GraphRequest, PairRequest, PlanRequest, Request, RequestRefusal};
+use crate::request::{
+    Asked, CheckRequest, GraphRequest, PairRequest, PlanRequest, Request, RequestRefusal,
+};
 use clap::ArgMatches;
 use clap::error::ErrorKind;
 use staat_vec::{DIRECTION, NORMAL};
@@ -66,6 +68,17 @@ fn plan_of(alloc: Global, matches: &ArgMatches<'_>) -> Result<PlanRequest, Reque
     })
 }
 
+#[tactic(auto, unfolding(crate::specs::Requests::check_in))]
+fn check_of(alloc: Global, matches: &ArgMatches<'_>) -> Result<CheckRequest, RequestRefusal>
+    ensures answers { Answers (check_in (rows_of (found_of matches.now))) result }
+    ensures bounds { IfOk result (λ request. IsAsked request.asked) }
+{
+    let asked = asked_of(alloc, matches)?;
+    let certificate = value_of(matches, "certificate").ok_or(RequestRefusal::Usage)?;
+    let certificate = name_of(alloc, certificate)?;
+    Ok(CheckRequest { asked, certificate })
+}
+
 // The matches of words that `clap` takes.
 fn matches_of<'a>(alloc: Global, words: &'a [String]) -> Result<ArgMatches<'a>, RequestRefusal>
     ensures taken { IfOk result (λ m. is_taken (map string_bytes words.entry.now) ≡ true) }
@@ -98,6 +111,8 @@ fn request_from(alloc: Global, matches: &ArgMatches<'_>) -> Result<Request, Requ
                 Ok(Request::Graph(graph_of(alloc, inner)?))
             } else if name == "plan" {
                 Ok(Request::Plan(plan_of(alloc, inner)?))
+            } else if name == "check" {
+                Ok(Request::Check(check_of(alloc, inner)?))
             } else {
                 Err(RequestRefusal::Usage)
             }

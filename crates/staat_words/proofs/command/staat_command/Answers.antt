@@ -11,5 +11,6 @@ returns c =
     let pair = c.in_ok-staat.ensures ∙ ap₂ (λ a b. with_subcommand a b.top) c.bare_command-bare.ensures c.in_ok-pair.ensures.app in
     let look = c.in_ok-staat-2.ensures ∙ ap₂ (λ a b. with_subcommand a b.top) pair c.in_ok-look_command.ensures.app in
     let graph = c.in_ok-staat-3.ensures ∙ ap₂ (λ a b. with_subcommand a b.top) look c.in_ok-graph_command.ensures.app in
-    let plan = ap₂ (λ a b. with_subcommand a b.top) graph c.in_ok-plan_command.ensures.app in
-    subst (λ app. IfOk c.with_command-4.result (λ r. app_of r ≡ app)) plan c.with_command-4.ensures
+    let plan = c.in_ok-staat-4.ensures ∙ ap₂ (λ a b. with_subcommand a b.top) graph c.in_ok-plan_command.ensures.app in
+    let check = ap₂ (λ a b. with_subcommand a b.top) plan c.in_ok-check_command.ensures.app in
+    subst (λ app. IfOk c.with_command-5.result (λ r. app_of r ≡ app)) check c.with_command-5.ensures
