@@ -9,3 +9,4 @@ pub mod InputLemmas
 pub mod SoundLemmas
 pub mod PlanesLemmas
 pub mod PlanLemmas
+pub mod CertificateLemmas

@@ -38,10 +38,10 @@ use Rattle.staat_words.specs.declared.request.Asked.{Asked}
 use Rattle.staat_words.specs.declared.request.Input.{Input}
 use Rattle.staat_words.specs.declared.request.Input.TheVariants as input
 use Rattle.staat_words.specs.declared.request.Request.{Request}
-use Rattle.staat_words.specs.declared.request.Request.TheVariants.{Pair, Look, Graph, Plan}
+use Rattle.staat_words.specs.declared.request.Request.TheVariants.{Pair, Look, Graph, Plan, Check}
 use Rattle.staat_top.specs.declared.read.TheConstants.{FILE_LIMIT}
 use Rattle.staat_top.specs.declared.answer.Answer.{Answer}
-use Rattle.staat_top.specs.Work.{Files, Found, Then, Each, IsTaken, to_read, too_long, taken}
+use Rattle.staat_top.specs.Work.{Files, Found, Then, Each, IsTakenWithin, to_read, too_long, taken}
 use Rattle.staat_top.specs.Refusals.{off_fault, mesh_fault, manifest_fault}
 use Rattle.staat_top.specs.Pieces.{IsPieceOf, SaysPiece, no_file, no_piece, piece}
 use Rattle.staat_top.specs.Moved.{IsMovedPieceOf, MovesPiece, moved, too_far}
@@ -50,6 +50,12 @@ use Rattle.staat_top.specs.Inputs.{SaysListing, no_listing, listing, IsListingOf
 use Rattle.staat_top.specs.Assembling.{IsTested, overlapping, sound, IsSoundOf}
 use Rattle.staat_top.specs.Graphing.{AreCounted, IsGraphed, all_parts, few, too_many}
 use Rattle.staat_top.specs.Planning.{IsPlanned, IsWritten, certificate, outcome_answer, steps, text_too_long}
+use Rattle.staat_model.specs.declared.limits.TheConstants.{TEXT_LIMIT}
+use Rattle.staat_model.specs.Texts.{Reading, IsReading, whole, bad_line, too_short as short_reading}
+use Rattle.staat_model.proofs.OneReading.{IsReading-unique}
+use Rattle.staat_model.proofs.OneReason.{IsVerdict-unique}
+use Rattle.staat_fault.specs.declared.fault.Fault.TheVariants.{BadLine, ShortCert}
+use Rattle.staat_top.specs.Checking.{SaysCertificate, says_whole, says_bad, says_short, IsCertificateIn, IsChecked, verdict_answer}
 use Rattle.staat_top.specs.Replies.{IsJudged, answer, free, not_shown, WorkOn, WorkOnWords, Reply, Makes, IsReply}
 
 -- what the step finds is no file that is to be read
@@ -128,8 +134,8 @@ at_reads f n m e d = cc
 unsettled : {X : Type 0} (name : List ℕ) (f : Found X) → f ≡ Err (ReadFault name) → IsSettled f → ⊥
 unsettled name f e settled = subst IsSettled e settled
 
-not_long : (o : Option (List ℕ)) (a b : List ℕ) → o ≡ Some a → o ≡ Some b → FILE_LIMIT < length a → length b ≤ FILE_LIMIT → ⊥
-not_long o a b e f long short = absurd (omega (arith, ap length (bytes_one o a b e f)))
+not_long : (limit : ℕ) (o : Option (List ℕ)) (a b : List ℕ) → o ≡ Some a → o ≡ Some b → limit < length a → length b ≤ limit → ⊥
+not_long limit o a b e f long short = absurd (omega (arith, ap length (bytes_one o a b e f)))
 
 -- what bytes say is one thing, and no file that is to be read
 pub record IsSaying {X : Type 0} (Says : List ℕ → Found X → Type 0) : Type 0 where
@@ -137,26 +143,26 @@ pub record IsSaying {X : Type 0} (Says : List ℕ → Found X → Type 0) : Type
   pub no_read : (bytes name : List ℕ) → Says bytes (Err (ReadFault name)) → ⊥
 
 -- a step that takes a whole file
-pub taken_one : {X : Type 0} (files : Files) (name : List ℕ) (Says : List ℕ → Found X → Type 0) → IsSaying Says → FindsOne files (IsTaken files name Says)
-taken_one {X} files name Says saying = record {
+pub taken_one : {X : Type 0} (limit : ℕ) (files : Files) (name : List ℕ) (Says : List ℕ → Found X → Type 0) → IsSaying Says → FindsOne files (IsTakenWithin limit files name Says)
+taken_one {X} limit files name Says saying = record {
   one = one;
   held = λ n f at lacks step settled. not_there f (subst (λ m. bytes_of m files ≡ None) (its_own n at) lacks) step settled;
 }
   where
-    one : (f g : Found X) → IsTaken files name Says f → IsTaken files name Says g → IsSettled f → IsSettled g → f ≡ g
+    one : (f g : Found X) → IsTakenWithin limit files name Says f → IsTakenWithin limit files name Says g → IsSettled f → IsSettled g → f ≡ g
     one f g (to_read e) b sf sg = absurd (unsettled name f e sf)
     one f g a (to_read e) sf sg = absurd (unsettled name g e sg)
     one f g (too_long x xe xl e) (too_long y ye yl d) sf sg = e ∙ sym d
-    one f g (too_long x xe xl e) (taken y ye ys yt) sf sg = absurd (not_long _ x y xe ye xl ys)
-    one f g (taken x xe xs xt) (too_long y ye yl d) sf sg = absurd (not_long _ y x ye xe yl xs)
+    one f g (too_long x xe xl e) (taken y ye ys yt) sf sg = absurd (not_long limit _ x y xe ye xl ys)
+    one f g (taken x xe xs xt) (too_long y ye yl d) sf sg = absurd (not_long limit _ y x ye xe yl xs)
     one f g (taken x xe xs xt) (taken y ye ys yt) sf sg = saying.one y f g (subst (λ bytes. Says bytes f) (bytes_one _ x y xe ye) xt) yt
 
-    not_there : (f : Found X) → bytes_of name files ≡ None → IsTaken files name Says f → IsSettled f → ⊥
+    not_there : (f : Found X) → bytes_of name files ≡ None → IsTakenWithin limit files name Says f → IsSettled f → ⊥
     not_there f lacks (to_read e) settled = unsettled name f e settled
     not_there f lacks (too_long x xe xl e) settled = not_both _ x xe lacks
     not_there f lacks (taken x xe xs xt) settled = not_both _ x xe lacks
 
-    its_own : (n : List ℕ) → IsTaken files name Says (Err (ReadFault n)) → n ≡ name
+    its_own : (n : List ℕ) → IsTakenWithin limit files name Says (Err (ReadFault n)) → n ≡ name
     its_own n (to_read e) = at_reads _ n name refl e
     its_own n (too_long x xe xl e) = absurd cc
     its_own n (taken x xe xs xt) = absurd (saying.no_read x n xt)
@@ -227,7 +233,7 @@ piece_saying digits name = record { one = one; no_read = no_read }
     no_read bytes n (piece raw p re rj e) = given_not_fault p (ReadFault n) (sym e)
 
 piece_one : (files : Files) (digits : ℕ) (name : List ℕ) → FindsOne files (IsPieceOf files digits name)
-piece_one files digits name = taken_one files name (SaysPiece digits name) (piece_saying digits name)
+piece_one files digits name = taken_one FILE_LIMIT files name (SaysPiece digits name) (piece_saying digits name)
 
 moves_one : (files : Files) (name : List ℕ) (at : V3) (points : List V3) → FindsOne files (MovesPiece name at points)
 moves_one files name at points = record { one = λ f g a b sf sg. one f g a b; held = λ n f step lacks other settled. no_read n step }
@@ -261,7 +267,7 @@ listing_saying name = record { one = one; no_read = no_read }
     no_read bytes n (listing p pe e) = given_not_fault p (ReadFault n) (sym e)
 
 listing_one : (files : Files) (asked : Input) → FindsOne files (IsListingOf files asked)
-listing_one files (input.Manifest name) = taken_one files name (SaysListing name) (listing_saying name)
+listing_one files (input.Manifest name) = taken_one FILE_LIMIT files name (SaysListing name) (listing_saying name)
 listing_one files (input.Files names) = known_one files _
 
 part_one : (files : Files) (digits : ℕ) (named : ListedPart) → FindsOne files (IsPartOf files digits named)
@@ -365,6 +371,42 @@ judged_one files p q d n = record { one = λ f g a b sf sg. one f g a b; held = 
     no_read name (free a e) = absurd cc
     no_read name (not_shown a e) = absurd cc
 
+-- what is read in a certificate's file gives what the step finds
+found_in : (name : List ℕ) → Reading → Found Certificate
+found_in name (whole c) = Ok c
+found_in name (bad_line k) = Err (BadLine name k)
+found_in name short_reading = Err (ShortCert name)
+
+-- what the bytes of a certificate's file say is the finding of what is read in them
+certificate_read : (name bytes : List ℕ) (f : Found Certificate) → SaysCertificate name bytes f → (r : Reading) × IsReading bytes r × (f ≡ found_in name r)
+unfolding found_in
+certificate_read name bytes f (says_whole c h e) = (whole c, h, e)
+certificate_read name bytes f (says_bad k h e) = (bad_line k, h, e)
+certificate_read name bytes f (says_short h e) = (short_reading, h, e)
+
+certificate_saying : (name : List ℕ) → IsSaying (SaysCertificate name)
+certificate_saying name = record { one = one; no_read = no_read }
+  where
+    one : (bytes : List ℕ) (f g : Found Certificate) → SaysCertificate name bytes f → SaysCertificate name bytes g → f ≡ g
+    one bytes f g a b =
+        let x = certificate_read name bytes f a in
+        let y = certificate_read name bytes g b in
+        x.2 ∙ ap (found_in name) (IsReading-unique bytes x.0 y.0 x.1 y.1) ∙ sym y.2
+
+    no_read : (bytes n : List ℕ) → SaysCertificate name bytes (Err (ReadFault n)) → ⊥
+    no_read bytes n (says_whole c h e) = absurd cc
+    no_read bytes n (says_bad k h e) = absurd cc
+    no_read bytes n (says_short h e) = absurd cc
+
+certificate_one : (files : Files) (name : List ℕ) → FindsOne files (IsCertificateIn files name)
+certificate_one files name = taken_one TEXT_LIMIT files name (SaysCertificate name) (certificate_saying name)
+
+checked_one : (files : Files) (parts : List Part) (c : Certificate) → FindsOne files (IsChecked parts c)
+checked_one files parts c = record { one = λ f g a b sf sg. one f g a b; held = λ name f at lacks step settled. given_not_fault _ (ReadFault name) (sym at.is) }
+  where
+    one : (f g : Found Answer) → IsChecked parts c f → IsChecked parts c g → f ≡ g
+    one f g a b = a.is ∙ ap (λ v. Ok (verdict_answer v)) (IsVerdict-unique parts c a.verdict b.verdict a.right b.right) ∙ sym b.is
+
 -- ---- the commands
 
 work_one : (request : Request) (files : Files) → FindsOne files (WorkOn request files)
@@ -376,6 +418,8 @@ work_one (Graph request) files = then_one files (IsSoundOf files request.asked) 
     (λ parts. then_one files (AreCounted parts MOST_PLANES) _ (counted_one files parts MOST_PLANES) (λ planes. graphed_one files parts request.along))
 work_one (Plan request) files = then_one files (IsSoundOf files request.asked) _ (sound_one files request.asked)
     (λ parts. then_one files (AreCounted parts request.planes) _ (counted_one files parts request.planes) (λ planes. planned_one files parts request.certificate))
+work_one (Check request) files = then_one files (IsSoundOf files request.asked) _ (sound_one files request.asked)
+    (λ parts. then_one files (IsCertificateIn files request.certificate) _ (certificate_one files request.certificate) (λ c. checked_one files parts c))
 
 pub words_one : (asked : Option Request) (files : Files) → FindsOne files (WorkOnWords asked files)
 words_one None files = record { one = λ f g a b sf sg. a ∙ sym b; held = λ name f at lacks step settled. absurd (usage_reads name at) }

@@ -20,31 +20,37 @@ use Rattle.staat_manifest.specs.Answers.{AnswersList}
 use Rattle.staat_manifest.specs.declared.listing.ListedPart.{ListedPart}
 use Rattle.staat_manifest.specs.Rules.{part_list}
 use Rattle.staat_top.specs.declared.read.TheConstants.{FILE_LIMIT}
-use Rattle.staat_top.specs.Work.{Files, Found, Follows, IsNotTaken, IsTaken, to_read, too_long, taken}
+use Rattle.staat_top.specs.Work.{Files, Found, Follows, IsNotTaken, IsNotTakenWithin, IsTaken, IsTakenWithin, to_read, too_long, taken}
 use Rattle.staat_top.specs.Refusals.{off_fault, mesh_fault, manifest_fault}
 use Rattle.staat_top.specs.Pieces.{SaysPiece, no_file, no_piece, piece}
 use Rattle.staat_top.specs.Inputs.{SaysListing, no_listing, listing}
 
 -- the file has more bytes than the limit
-found_long : {X : Type 0} (Says : List ℕ → Found X → Type 0) (holds : Option Files) (files : Files) (name : List ℕ) → holds ≡ Some files → IsLonger holds name FILE_LIMIT → IsTaken files name Says (Err (fault.TooLong name))
-found_long {X} Says holds files name told long = go (bytes_of name files) refl (subst (λ h. IsLonger h name FILE_LIMIT) told long)
+found_long : {X : Type 0} (limit : ℕ) (Says : List ℕ → Found X → Type 0) (holds : Option Files) (files : Files) (name : List ℕ) → holds ≡ Some files → IsLonger holds name limit → IsTakenWithin limit files name Says (Err (fault.TooLong name))
+found_long {X} limit Says holds files name told long = go (bytes_of name files) refl (subst (λ h. IsLonger h name limit) told long)
   where
-    go : (o : Option (List ℕ)) → bytes_of name files ≡ o → IsSomeAnd o (λ bytes. FILE_LIMIT < length bytes) → IsTaken files name Says (Err (fault.TooLong name))
+    go : (o : Option (List ℕ)) → bytes_of name files ≡ o → IsSomeAnd o (λ bytes. limit < length bytes) → IsTakenWithin limit files name Says (Err (fault.TooLong name))
     go None e longer = absurd longer
     go (Some bytes) e longer = too_long bytes e longer refl
 
 -- the file's bytes were read
+pub found_within : {X : Type 0} (limit : ℕ) (Says : List ℕ → Found X → Type 0) (holds : Option Files) (files : Files) (name bytes : List ℕ) (r : Result X Fault) → holds ≡ Some files → IsWhole holds name bytes → length bytes ≤ limit → Follows (Says bytes) r → Follows (IsTakenWithin limit files name Says) r
+found_within limit Says holds files name bytes (Ok x) told whole short says = taken bytes (subst (λ h. IsWhole h name bytes) told whole) short says
+found_within limit Says holds files name bytes (Err fault.OutOfMemory) told whole short says = tt
+found_within limit Says holds files name bytes (Err f) told whole short says = taken bytes (subst (λ h. IsWhole h name bytes) told whole) short says
+
 pub found_taken : {X : Type 0} (Says : List ℕ → Found X → Type 0) (holds : Option Files) (files : Files) (name bytes : List ℕ) (r : Result X Fault) → holds ≡ Some files → IsWhole holds name bytes → length bytes ≤ FILE_LIMIT → Follows (Says bytes) r → Follows (IsTaken files name Says) r
-found_taken Says holds files name bytes (Ok x) told whole short says = taken bytes (subst (λ h. IsWhole h name bytes) told whole) short says
-found_taken Says holds files name bytes (Err fault.OutOfMemory) told whole short says = tt
-found_taken Says holds files name bytes (Err f) told whole short says = taken bytes (subst (λ h. IsWhole h name bytes) told whole) short says
+found_taken Says holds files name bytes r told whole short says = found_within FILE_LIMIT Says holds files name bytes r told whole short says
 
 -- the file's bytes were not taken
+pub not_taken_within : {X : Type 0} (limit : ℕ) (Says : List ℕ → Found X → Type 0) (holds : Option Files) (files : Files) (name : List ℕ) (f : Fault) → holds ≡ Some files → IsNotTakenWithin limit holds name f → Follows (IsTakenWithin limit files name Says) (Err f)
+not_taken_within limit Says holds files name (fault.ReadFault at) told e = to_read (ap (λ n. Err (fault.ReadFault n)) e)
+not_taken_within limit Says holds files name (fault.TooLong at) told (e, long) = subst (λ n. IsTakenWithin limit files name Says (Err (fault.TooLong n))) (sym e) (found_long limit Says holds files name told long)
+not_taken_within limit Says holds files name fault.OutOfMemory told e = tt
+not_taken_within limit Says holds files name f told e = absurd e
+
 pub not_taken : {X : Type 0} (Says : List ℕ → Found X → Type 0) (holds : Option Files) (files : Files) (name : List ℕ) (f : Fault) → holds ≡ Some files → IsNotTaken holds name f → Follows (IsTaken files name Says) (Err f)
-not_taken Says holds files name (fault.ReadFault at) told e = to_read (ap (λ n. Err (fault.ReadFault n)) e)
-not_taken Says holds files name (fault.TooLong at) told (e, long) = subst (λ n. IsTaken files name Says (Err (fault.TooLong n))) (sym e) (found_long Says holds files name told long)
-not_taken Says holds files name fault.OutOfMemory told e = tt
-not_taken Says holds files name f told e = absurd e
+not_taken Says holds files name f told e = not_taken_within FILE_LIMIT Says holds files name f told e
 
 -- the file is no OFF file
 pub says_no_file : (digits : ℕ) (name bytes : List ℕ) (refusal : OffRefusal) → Reads {X = Raw} (Err refusal) (reading digits bytes) → Follows (SaysPiece digits name bytes) (Err (off_fault name refusal))

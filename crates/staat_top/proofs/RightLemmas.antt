@@ -18,7 +18,7 @@ use Rattle.staat_words.specs.declared.request.Input.{Input}
 use Rattle.staat_words.specs.declared.request.Input.TheVariants as inputs
 use Rattle.staat_words.specs.declared.request.Asked.{Asked}
 use Rattle.staat_words.specs.declared.request.Request.{Request}
-use Rattle.staat_words.specs.declared.request.Request.TheVariants.{Pair, Look, Graph, Plan}
+use Rattle.staat_words.specs.declared.request.Request.TheVariants.{Pair, Look, Graph, Plan, Check}
 use Rattle.staat_top.specs.declared.answer.Answer.{Answer}
 use Rattle.staat_top.specs.Work.{Files, Found, Each, to_read, too_long, taken}
 use Rattle.staat_top.specs.Inputs.{alone, SaysListing, no_listing, listing, IsListingOf, IsPartOf, IsInputOf, part_of}
@@ -39,7 +39,17 @@ use Rattle.staat_plan.specs.Certifying.{IsValidFor}
 use Rattle.staat_plan.specs.Planning.{Settles}
 use Rattle.staat_words.specs.declared.request.PlanRequest.{PlanRequest}
 use Rattle.staat_top.specs.Planning.{IsWritten, certificate, outcome_answer, outcome_status, steps, text_too_long}
-use Rattle.staat_top.specs.Replies.{AreSoundParts, SaysOutcome, SaysGoodPlan, SaysStuckSet, free, not_shown, WorkOnWords, IsRight, IsDenied}
+use Rattle.staat_model.specs.declared.certificate.Body.{Body}
+use Rattle.staat_model.specs.declared.certificate.Body.TheVariants as body
+use Rattle.staat_model.specs.declared.verdict.Verdict.{Verdict}
+use Rattle.staat_model.specs.declared.verdict.Verdict.TheVariants.{ValidPlan, ValidRefusal, Not}
+use Rattle.staat_model.specs.Reasons.{IsVerdict}
+use Rattle.staat_model.proofs.PlanLemmas.{plan_is_right_lemma}
+use Rattle.staat_model.proofs.RefusalLemmas.{refusal_is_right_lemma}
+use Rattle.staat_words.specs.declared.request.CheckRequest.{CheckRequest}
+use Rattle.staat_check.specs.Verdicts.{IsPlanOf, IsRefusalWithSet}
+use Rattle.staat_top.specs.Checking.{IsCertificateIn, IsChecked, verdict_answer}
+use Rattle.staat_top.specs.Replies.{AreSoundParts, SaysOutcome, SaysGoodPlan, SaysStuckSet, SaysValid, SaysNotValid, ShowsValid, valid_plan, valid_refusal, free, not_shown, WorkOnWords, IsRight, IsDenied}
 
 -- ---- pieces
 
@@ -159,6 +169,32 @@ set_is_stuck files request parts (stuck w) text are outcome written one =
     let settled = right_lemma false parts are.assembly (all_parts parts) (stuck w) outcome in
     record { parts = parts; sound = are; set = w; within = settled.0; is_stuck = settled.1; says = says_outcome parts (stuck w) request.certificate text are.assembly settled written }
 
+-- ---- certificates
+
+plan_shown : (parts : List Part) (version stated : ℕ) (b : Body) → IsAssembly parts → IsVerdict parts (record { version = version; parts = stated; body = b }) ValidPlan → IsPlanOf parts b
+plan_shown parts version stated (body.Plan nodes) is h = plan_is_right_lemma parts stated nodes is h
+plan_shown parts version stated (body.Stuck w witnesses dirs) is h = absurd h
+
+refusal_shown : (parts : List Part) (version stated : ℕ) (b : Body) → IsAssembly parts → IsVerdict parts (record { version = version; parts = stated; body = b }) ValidRefusal → IsRefusalWithSet parts b
+refusal_shown parts version stated (body.Plan nodes) is h = absurd h
+refusal_shown parts version stated (body.Stuck w witnesses dirs) is h = refusal_is_right_lemma parts version stated w witnesses dirs is h
+
+-- what a verdict with status 0 shows
+verdict_shows : (parts : List Part) (c : Certificate) (v : Verdict) → IsAssembly parts → IsVerdict parts c v → (verdict_answer v).status ≡ 0 → ShowsValid parts c (verdict_answer v).text
+verdict_shows parts c ValidPlan is h zero = valid_plan h (plan_shown parts c.version c.parts c.body is h) refl
+verdict_shows parts c ValidRefusal is h zero = valid_refusal h (refusal_shown parts c.version c.parts c.body is h) refl
+verdict_shows parts c (Not reason) is h zero = absurd (omega (arith, zero))
+
+certificate_valid : (files : Files) (request : CheckRequest) (parts : List Part) (c : Certificate) (v : Verdict) → AreSoundParts files request.asked parts → IsCertificateIn files request.certificate (Ok c) → IsVerdict parts c v → (verdict_answer v).status ≡ 0 → SaysValid files request (verdict_answer v).text
+certificate_valid files request parts c v are held h zero =
+    record { parts = parts; sound = are; certificate = c; held = held; shows = verdict_shows parts c v are.assembly h zero }
+
+certificate_not_valid : (files : Files) (request : CheckRequest) (parts : List Part) (c : Certificate) (v : Verdict) → AreSoundParts files request.asked parts → IsCertificateIn files request.certificate (Ok c) → IsVerdict parts c v → (verdict_answer v).status ≡ 1 → SaysNotValid files request (verdict_answer v).text
+certificate_not_valid files request parts c ValidPlan are held h one = absurd (omega (arith, one))
+certificate_not_valid files request parts c ValidRefusal are held h one = absurd (omega (arith, one))
+certificate_not_valid files request parts c (Not reason) are held h one =
+    record { parts = parts; sound = are; certificate = c; held = held; reason = reason; broken = h; text_is = refl }
+
 same_answer : (a b : Answer) → ◌≡◌ {A = Found Answer} (Ok a) (Ok b) → b ≡ a
 same_answer a b e = cc
 
@@ -188,6 +224,12 @@ status_is_right (Some (Plan request)) files a bounds (inr (built, found, inr (pl
           subst (λ (b : Answer). SaysGoodPlan files request b.text) same
           (plan_is_good files request built p.finding text (sound_parts files request.asked built bounds.0 found) p.outcome written (ap (λ (b : Answer). b.status) same ∙ zero))
     ]
+status_is_right (Some (Check request)) files a bounds (inl (fault, at, e)) zero = absurd cc
+status_is_right (Some (Check request)) files a bounds (inr (built, found, inl (fault, at, e))) zero = absurd cc
+status_is_right (Some (Check request)) files a bounds (inr (built, found, inr (c, held, p))) zero =
+    let same : verdict_answer p.verdict ≡ a = same_answer a (verdict_answer p.verdict) p.is in
+    subst (λ (b : Answer). SaysValid files request b.text) same
+    (certificate_valid files request built c p.verdict (sound_parts files request.asked built bounds found) held p.right (ap (λ (b : Answer). b.status) same ∙ zero))
 
 -- a wall that is not shown is none, and a set that is named as stuck is stuck
 pub status_is_denied : (asked : Option Request) (files : Files) (a : Answer) → IsBounded asked → WorkOnWords asked files (Ok a) → a.status ≡ 1 → IsDenied asked files a.text
@@ -212,3 +254,9 @@ status_is_denied (Some (Plan request)) files a bounds (inr (built, found, inr (p
           subst (λ (b : Answer). SaysStuckSet files request b.text) same
           (set_is_stuck files request built p.finding text (sound_parts files request.asked built bounds.0 found) p.outcome written (ap (λ (b : Answer). b.status) same ∙ one))
     ]
+status_is_denied (Some (Check request)) files a bounds (inl (fault, at, e)) one = absurd cc
+status_is_denied (Some (Check request)) files a bounds (inr (built, found, inl (fault, at, e))) one = absurd cc
+status_is_denied (Some (Check request)) files a bounds (inr (built, found, inr (c, held, p))) one =
+    let same : verdict_answer p.verdict ≡ a = same_answer a (verdict_answer p.verdict) p.is in
+    subst (λ (b : Answer). SaysNotValid files request b.text) same
+    (certificate_not_valid files request built c p.verdict (sound_parts files request.asked built bounds found) held p.right (ap (λ (b : Answer). b.status) same ∙ one))

@@ -7,5 +7,6 @@ pub mod Shapes
 pub mod Assembling
 pub mod Graphing
 pub mod Planning
+pub mod Checking
 pub mod Replies
 pub mod Runs

@@ -12,6 +12,8 @@ use Rattle.staat_model.specs.declared.refusal.TextRefusal.{TextRefusal}
 use Rattle.staat_model.specs.declared.refusal.TextRefusal.TheVariants as text
 use Rattle.staat_planes.specs.declared.refusal.PlanesRefusal.{PlanesRefusal}
 use Rattle.staat_planes.specs.declared.refusal.PlanesRefusal.TheVariants as planes
+use Rattle.staat_cert.specs.declared.cert_refusal.CertRefusal.{CertRefusal}
+use Rattle.staat_cert.specs.declared.cert_refusal.CertRefusal.TheVariants as cert
 use Rattle.staat_manifest.specs.declared.refusal.ManifestRefusal.{ManifestRefusal}
 use Rattle.staat_manifest.specs.declared.refusal.ManifestRefusal.TheVariants as manifest
 
@@ -55,3 +57,9 @@ text_fault text.OutOfMemory = fault.OutOfMemory
 abbrev pub planes_fault : PlanesRefusal → Fault
 planes_fault (planes.TooManyPlanes found) = fault.TooManyPlanes found
 planes_fault planes.OutOfMemory = fault.OutOfMemory
+
+abbrev pub cert_fault : List ℕ → CertRefusal → Fault
+cert_fault name (cert.BadLine line) = fault.BadLine name line
+cert_fault name cert.ShortCert = fault.ShortCert name
+cert_fault name cert.TooLong = fault.TooLong name
+cert_fault name cert.OutOfMemory = fault.OutOfMemory

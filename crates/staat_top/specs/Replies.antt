@@ -2,28 +2,34 @@
 use Rattle.std.specs.Prelude.{◌≡◌, ℕ, List, [], Option, Some, None, Ok, Err, codes}
 use Rattle.staat_vec.specs.declared.vector.V3.{V3}
 use Rattle.staat_model.specs.declared.assembly.Part.{Part}
+use Rattle.staat_model.specs.declared.certificate.Certificate.{Certificate}
 use Rattle.staat_model.specs.declared.set.PartSet.{PartSet}
 use Rattle.staat_model.specs.declared.tree.Kind.{Kind}
+use Rattle.staat_model.specs.declared.verdict.Reason.{Reason}
+use Rattle.staat_model.specs.declared.verdict.Verdict.TheVariants.{ValidPlan, ValidRefusal, Not}
 use Rattle.staat_model.specs.Certify.{IsCertificateOf}
+use Rattle.staat_model.specs.Reasons.{IsVerdict}
 use Rattle.staat_model.specs.Outcomes.{Finding, planned, stuck}
 use Rattle.staat_model.specs.Plans.{IsGood, IsStuck, Plan as Tree}
 use Rattle.staat_model.specs.Sets.{IsSubset}
 use Rattle.staat_model.specs.Texts.{text_of}
-use Rattle.staat_model.specs.declared.certificate.Certificate.{Certificate}
 use Rattle.staat_plan.specs.Certifying.{IsValidFor}
 use Rattle.staat_model.specs.Walls.{IsShown}
 use Rattle.staat_model.specs.Meeting.{Meets}
 use Rattle.staat_model.specs.Assemblies.{IsAssembly, IsSound}
 use Rattle.staat_words.specs.declared.request.Asked.{Asked}
+use Rattle.staat_words.specs.declared.request.CheckRequest.{CheckRequest}
 use Rattle.staat_words.specs.declared.request.PlanRequest.{PlanRequest}
 use Rattle.staat_words.specs.declared.request.Request.{Request}
-use Rattle.staat_words.specs.declared.request.Request.TheVariants.{Pair, Look, Graph, Plan}
+use Rattle.staat_words.specs.declared.request.Request.TheVariants.{Pair, Look, Graph, Plan, Check}
 use Rattle.staat_fault.specs.declared.fault.Fault.{Fault}
 use Rattle.staat_fault.specs.declared.fault.Fault.TheVariants.{Usage, ReadFault}
 use Rattle.staat_fault.specs.Faults.{status_of, line_of}
 use Rattle.staat_planes.specs.declared.table.TheConstants.{MOST_PLANES}
 use Rattle.staat_text.specs.Parts.{look_text}
+use Rattle.staat_check.specs.Verdicts.{IsPlanOf, IsRefusalWithSet}
 use Rattle.staat_text.specs.PlanTexts.{plan_text}
+use Rattle.staat_text.specs.Verdicts.{verdict_text}
 use Rattle.staat_top.specs.declared.answer.Answer.{Answer}
 use Rattle.staat_top.specs.Work.{Files, Found, Then}
 use Rattle.staat_top.specs.Pieces.{IsPieceOf}
@@ -31,6 +37,7 @@ use Rattle.staat_top.specs.Inputs.{IsInputOf}
 use Rattle.staat_top.specs.Assembling.{IsSoundOf}
 use Rattle.staat_top.specs.Graphing.{AreCounted, IsGraphed, all_parts}
 use Rattle.staat_top.specs.Planning.{IsPlanned}
+use Rattle.staat_top.specs.Checking.{IsCertificateIn, IsChecked}
 
 -- an answer with this status and this text
 abbrev pub answer : ℕ → List ℕ → Answer
@@ -55,6 +62,9 @@ WorkOn (Graph request) files found =
 WorkOn (Plan request) files found =
     Then (IsSoundOf files request.asked) (λ parts. Then (AreCounted parts request.planes)
     (λ planes. IsPlanned parts request.certificate)) found
+WorkOn (Check request) files found =
+    Then (IsSoundOf files request.asked) (λ parts. Then (IsCertificateIn files request.certificate)
+    (λ certificate. IsChecked parts certificate)) found
 
 -- what the work on words finds, which may make no request
 abbrev pub WorkOnWords : Option Request → Files → Found Answer → Type 0
@@ -118,6 +128,32 @@ pub record SaysStuckSet (files : Files) (request : PlanRequest) (text : List ℕ
   pub is_stuck : IsStuck parts set
   pub says : SaysOutcome parts (stuck set) request.certificate text
 
+-- What a valid certificate shows, and the line that says so: its tree takes all parts apart, or its set is stuck and no
+-- plan takes all parts apart.
+pub data ShowsValid (parts : List Part) (certificate : Certificate) (text : List ℕ) : Type 0 where
+  valid_plan : IsVerdict parts certificate ValidPlan → IsPlanOf parts certificate.body → text ≡ verdict_text ValidPlan →
+      ShowsValid parts certificate text
+  valid_refusal : IsVerdict parts certificate ValidRefusal → IsRefusalWithSet parts certificate.body →
+      text ≡ verdict_text ValidRefusal → ShowsValid parts certificate text
+
+-- the file holds a certificate that is valid for the parts
+pub record SaysValid (files : Files) (request : CheckRequest) (text : List ℕ) : Type 0 where
+  pub parts : List Part
+  pub sound : AreSoundParts files request.asked parts
+  pub certificate : Certificate
+  pub held : IsCertificateIn files request.certificate (Ok certificate)
+  pub shows : ShowsValid parts certificate text
+
+-- the file holds a certificate that breaks this rule first
+pub record SaysNotValid (files : Files) (request : CheckRequest) (text : List ℕ) : Type 0 where
+  pub parts : List Part
+  pub sound : AreSoundParts files request.asked parts
+  pub certificate : Certificate
+  pub held : IsCertificateIn files request.certificate (Ok certificate)
+  pub reason : Reason
+  pub broken : IsVerdict parts certificate (Not reason)
+  pub text_is : text ≡ verdict_text (Not reason)
+
 -- What status 0 means, with the text that is printed. For a pair: the first file's piece never meets the second's along
 -- the direction.
 abbrev pub IsRight : Option Request → Files → List ℕ → Type 0
@@ -128,6 +164,7 @@ IsRight (Some (Pair request)) files text = (p : List V3) × (q : List V3) ×
 IsRight (Some (Look asked)) files text = (parts : List Part) × AreSoundParts files asked parts
 IsRight (Some (Graph request)) files text = (parts : List Part) × AreSoundParts files request.asked parts
 IsRight (Some (Plan request)) files text = SaysGoodPlan files request text
+IsRight (Some (Check request)) files text = SaysValid files request text
 
 -- What status 1 means, with the text that is printed. For a pair: the wall does not show that the pieces never meet.
 abbrev pub IsDenied : Option Request → Files → List ℕ → Type 0
@@ -135,4 +172,5 @@ IsDenied (Some (Pair request)) files text = (p : List V3) × (q : List V3) ×
     IsPieceOf files request.digits request.first (Ok p) × IsPieceOf files request.digits request.second (Ok q) ×
     (IsShown p q request.along request.wall → ⊥)
 IsDenied (Some (Plan request)) files text = SaysStuckSet files request text
+IsDenied (Some (Check request)) files text = SaysNotValid files request text
 IsDenied asked files text = ⊥

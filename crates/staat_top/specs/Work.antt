@@ -22,14 +22,19 @@ abbrev pub Each : {X Y : Type 0} → (X → Found Y → Type 0) → List X → F
 Each Step [] found = found ≡ Ok []
 Each Step (x ∷ xs) found = Then (Step x) (λ y. Then (Each Step xs) (λ ys found. found ≡ Ok (y ∷ ys))) found
 
--- What the step finds that takes a whole file: the file is to be read, or is too long, or this is what its bytes say.
-pub data IsTaken {X : Type 0} (files : Files) (name : List ℕ) (Says : List ℕ → Found X → Type 0)
+-- What the step finds that takes a whole file of at most so many bytes: the file is to be read, or is too long, or this
+-- is what its bytes say.
+pub data IsTakenWithin {X : Type 0} (limit : ℕ) (files : Files) (name : List ℕ) (Says : List ℕ → Found X → Type 0)
     : Found X → Type 0 where
-  to_read : {found : Found X} → found ≡ Err (ReadFault name) → IsTaken files name Says found
-  too_long : {found : Found X} (bytes : List ℕ) → bytes_of name files ≡ Some bytes → FILE_LIMIT < length bytes →
-      found ≡ Err (TooLong name) → IsTaken files name Says found
-  taken : {found : Found X} (bytes : List ℕ) → bytes_of name files ≡ Some bytes → length bytes ≤ FILE_LIMIT →
-      Says bytes found → IsTaken files name Says found
+  to_read : {found : Found X} → found ≡ Err (ReadFault name) → IsTakenWithin limit files name Says found
+  too_long : {found : Found X} (bytes : List ℕ) → bytes_of name files ≡ Some bytes → limit < length bytes →
+      found ≡ Err (TooLong name) → IsTakenWithin limit files name Says found
+  taken : {found : Found X} (bytes : List ℕ) → bytes_of name files ≡ Some bytes → length bytes ≤ limit →
+      Says bytes found → IsTakenWithin limit files name Says found
+
+-- the same of a file of points or a part list
+abbrev pub IsTaken : {X : Type 0} → Files → List ℕ → (List ℕ → Found X → Type 0) → Found X → Type 0
+IsTaken files name Says = IsTakenWithin FILE_LIMIT files name Says
 
 -- a call answers what the step finds; want of memory is free
 abbrev pub Follows : {X : Type 0} → (Found X → Type 0) → Result X Fault → Type 0
@@ -37,8 +42,12 @@ Follows Step (Err OutOfMemory) = ⊤
 Follows Step found = Step found
 
 -- why a whole file was not taken: it could not be read, or it is longer than the limit, or there was no memory
+abbrev pub IsNotTakenWithin : ℕ → Option Files → List ℕ → Fault → Type 0
+IsNotTakenWithin limit holds name (ReadFault at) = at ≡ name
+IsNotTakenWithin limit holds name (TooLong at) = (at ≡ name) × IsLonger holds name limit
+IsNotTakenWithin limit holds name OutOfMemory = ⊤
+IsNotTakenWithin limit holds name fault = ⊥
+
+-- the same of a file of points or a part list
 abbrev pub IsNotTaken : Option Files → List ℕ → Fault → Type 0
-IsNotTaken holds name (ReadFault at) = at ≡ name
-IsNotTaken holds name (TooLong at) = (at ≡ name) × IsLonger holds name FILE_LIMIT
-IsNotTaken holds name OutOfMemory = ⊤
-IsNotTaken holds name fault = ⊥
+IsNotTaken holds name fault = IsNotTakenWithin FILE_LIMIT holds name fault

@@ -2,6 +2,8 @@
 #![tactic(auto)]
 
 mod answer;
+mod certificate;
+mod check;
 mod graph;
 mod input;
 pub mod laws;
@@ -20,5 +22,7 @@ pub use print::want_memory;
 pub use staat_fault::{Fault, fault_line};
 pub use top::staat;
 
+#[cfg(test)]
+mod check_tests;
 #[cfg(test)]
 mod tests;

@@ -1,8 +1,9 @@
 // The faults that the refusals of the readers are.
 ghost use Rattle.std.specs.Prelude.{◌≡◌};
-ghost use Rattle.staat_top.specs.Refusals.{asm_fault, manifest_fault, mesh_fault, off_fault, planes_fault, text_fault};
+ghost use Rattle.staat_top.specs.Refusals.{asm_fault, cert_fault, manifest_fault, mesh_fault, off_fault, planes_fault, text_fault};
 
 use staat_asm::AsmRefusal;
+use staat_cert::CertRefusal;
 use staat_fault::Fault;
 use staat_manifest::ManifestRefusal;
 use staat_mesh::MeshRefusal;
@@ -85,5 +86,17 @@ pub fn text_fault(refusal: TextRefusal) -> Fault
     match refusal {
         TextRefusal::TextTooLong(length) => Fault::TextTooLong(length),
         TextRefusal::OutOfMemory => Fault::OutOfMemory,
+    }
+}
+
+/// The fault of a file that holds no certificate.
+pub fn cert_fault(name: Name, refusal: CertRefusal) -> Fault
+    ensures { result ≡ cert_fault name refusal }
+{
+    match refusal {
+        CertRefusal::BadLine(line) => Fault::BadLine(name, line),
+        CertRefusal::ShortCert => Fault::ShortCert(name),
+        CertRefusal::TooLong => Fault::TooLong(name),
+        CertRefusal::OutOfMemory => Fault::OutOfMemory,
     }
 }

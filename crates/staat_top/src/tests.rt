@@ -13,7 +13,7 @@ const CUBE: &[u8] =
 const BESIDE: &[u8] =
     b"OFF\n8 6 12\n2 0 0\n4 0 0\n4 2 0\n2 2 0\n2 0 2\n4 0 2\n4 2 2\n2 2 2\n4 0 3 2 1\n4 4 5 6 7\n4 0 1 5 4\n4 1 2 6 5\n4 2 3 7 6\n4 3 0 4 7\n";
 
-const NEVER: u64 = u64::MAX;
+pub const NEVER: u64 = u64::MAX;
 
 const FREE: [&str; 5] = ["pair", "a.off", "b.off", "--along=0,0,1", "--wall=1,0,0"];
 
@@ -35,14 +35,14 @@ fn shelf(alloc: Global, first: &[u8], failing: u64) -> Result<MemoryShelf, Fail>
     shelf_of(alloc, &[("a.off", first), ("b.off", BESIDE)], failing)
 }
 
-fn sink(alloc: Global, room: usize, failing: u64, chunk: usize) -> Result<MemorySink, Fail>
+pub fn sink(alloc: Global, room: usize, failing: u64, chunk: usize) -> Result<MemorySink, Fail>
     requires { 0 < chunk }
 {
     let failing = Calls::from_vec([failing].to_vec(alloc)?);
     Ok(MemorySink::new(alloc, room, failing, chunk)?)
 }
 
-fn words(alloc: Global, words: &[&str]) -> Result<Vec<String>, AllocError> {
+pub fn words(alloc: Global, words: &[&str]) -> Result<Vec<String>, AllocError> {
     let mut list = Vec::new(alloc);
     for word in words {
         list.push(String::from_str(alloc, word)?)?;
@@ -385,7 +385,12 @@ const FAR: &[u8] =
 const UNMOVED: &[u8] =
     b"{\"parts\":[{\"name\":\"p\",\"pieces\":[\"a.off\"],\"at\":[2,0,0]},{\"name\":\"q\",\"pieces\":[\"b.off\"]}]}";
 
-const HELD: [(&str, &[u8]); 15] = [
+// The certificate of a plan for both.
+const VALID: &[u8] =
+    b"STAAT 1\nparts 2\nplan\nsplit 0 0 1\nsep 0 0 1 0 1 0 0\nleaf 0\nleaf 1\nend\n";
+
+const HELD: [(&str, &[u8]); 16] = [
+    ("c.txt", VALID),
     ("a.off", CUBE),
     ("b.off", BESIDE),
     ("cut.off", b"OFF 1"),
@@ -527,7 +532,11 @@ fn the_parts_of_an_input_are_listed(rt: HostRuntime) -> Result<(), Fail> {
 #[test]
 fn each_command_reads_a_file_as_often_as_it_is_named(rt: HostRuntime) -> Result<(), Fail> {
     let alloc = rt.alloc();
-    let table: [(&[&str], &[&str]); 5] = [
+    let table: [(&[&str], &[&str]); 6] = [
+        (
+            &["check", "c.txt", "a.off", "b.off"],
+            &["a.off", "b.off", "c.txt"],
+        ),
         (&["plan", "b.off", "a.off"], &["b.off", "a.off"]),
         (&FREE, &["a.off", "b.off"]),
         (&["look", "b.off", "a.off"], &["b.off", "a.off"]),
@@ -656,8 +665,8 @@ const LISTS: [(&str, &[u8]); 5] = [
 const CLOSED: &str =
     "STAAT 2\nparts 2\nstuck 0 1\nwitness 0\nout 0 0 1 4\nin 1 5 0 0\nwitness 1\nout 0 0 1 2\nin 1 3 0 0\nwitness 2\nout 0 0 1 0\nin 1 1 0 0\ndir 0 0 1 0\ndir 0 1 0 1\ndir 1 0 0 2\nend\n";
 
-// A shelf with all of them.
-fn shelf_of_blocks(alloc: Global) -> Result<MemoryShelf, Fail> {
+// The files of all of them.
+pub fn blocks(alloc: Global) -> Result<Vec<(Name, Bytes)>, Fail> {
     let mut files = Vec::new(alloc);
     for (name, corners) in BLOCKS {
         let name = Name::from_string(String::from_str(alloc, name)?);
@@ -669,8 +678,13 @@ fn shelf_of_blocks(alloc: Global) -> Result<MemoryShelf, Fail> {
     for (name, text) in HELD {
         files.push(file(alloc, name, text)?)?;
     }
+    Ok(files)
+}
+
+// A shelf with all of them.
+fn shelf_of_blocks(alloc: Global) -> Result<MemoryShelf, Fail> {
     let failing = Calls::from_vec(Vec::new(alloc));
-    Ok(MemoryShelf::new(alloc, Files::from_vec(files), failing, 4096)?)
+    Ok(MemoryShelf::new(alloc, Files::from_vec(blocks(alloc)?), failing, 4096)?)
 }
 
 #[test]

@@ -203,13 +203,19 @@ fn shown(alloc: Global, request: &Request) -> Result<String, AllocError> {
                 Some(version) => format!(in alloc; "{asked}, {planes} planes, version {version}"),
             }
         }
+        Request::Check(request) => {
+            let certificate = request.certificate.as_str();
+            let asked = source(alloc, &request.asked)?;
+            format!(in alloc; "{asked} by {certificate}")
+        }
     }
 }
 
 #[test]
 fn a_request_has_the_values_of_its_words(rt: HostRuntime) -> Result<(), Fail> {
     let alloc = rt.alloc();
-    let table: [(&[&str], &str); 9] = [
+    let table: [(&[&str], &str); 10] = [
+        (&["check", "c", "--digits=3", "a", "b"], "3: 2 files by c"),
         (
             &[
                 "pair",
