@@ -171,11 +171,11 @@ set_is_stuck files request parts (stuck w) text are outcome written one =
 
 -- ---- certificates
 
-plan_shown : (parts : List Part) (version stated : ℕ) (b : Body) → IsAssembly parts → IsVerdict parts (record { version = version; parts = stated; body = b }) ValidPlan → IsPlanOf parts b
+pub plan_shown : (parts : List Part) (version stated : ℕ) (b : Body) → IsAssembly parts → IsVerdict parts (record { version = version; parts = stated; body = b }) ValidPlan → IsPlanOf parts b
 plan_shown parts version stated (body.Plan nodes) is h = plan_is_right_lemma parts stated nodes is h
 plan_shown parts version stated (body.Stuck w witnesses dirs) is h = absurd h
 
-refusal_shown : (parts : List Part) (version stated : ℕ) (b : Body) → IsAssembly parts → IsVerdict parts (record { version = version; parts = stated; body = b }) ValidRefusal → IsRefusalWithSet parts b
+pub refusal_shown : (parts : List Part) (version stated : ℕ) (b : Body) → IsAssembly parts → IsVerdict parts (record { version = version; parts = stated; body = b }) ValidRefusal → IsRefusalWithSet parts b
 refusal_shown parts version stated (body.Plan nodes) is h = absurd h
 refusal_shown parts version stated (body.Stuck w witnesses dirs) is h = refusal_is_right_lemma parts version stated w witnesses dirs is h
 

@@ -4,7 +4,9 @@ ghost use Rattle.clap.specs.Words.{found_of, rows_of, subcommand_rows_of};
 ghost use Rattle.staat_words.specs.Command.{is_taken, matches as matches_at};
 ghost use Rattle.staat_words.specs.Requests.{Answers, HasBounds, IsAsked, IsGraphRequest, IsPairRequest, IsPlanRequest, asked_in, check_in, graph_in, pair_in, plan_in, request, request_in};
 
-use crate::arguments::{certificate_of, digits_of, input_of, name_of, planes_of, value_of, vector_in};
+use crate::arguments::{
+    certificate_of, digits_of, input_of, name_of, planes_of, value_of, vector_in,
+};
 use crate::command::staat_command;
 use crate::request::{
     Asked, CheckRequest, GraphRequest, PairRequest, PlanRequest, Request, RequestRefusal,
