@@ -20,8 +20,8 @@ use std::alloc::Global;
 /// How many bytes of the file are taken at a time, at most.
 const PIECE: usize = 65_536;
 
-// Feeds the reader the file of that name to its end, or until it is too long. What the reader makes of it is asked at the
-// end: so a fault of a later read, and too many bytes, come before a bad line.
+// Feeds the reader the file of that name to its end, or until it is too long. What the reader makes of it is asked
+// at the end: so a fault of a later read, and too many bytes, come before a bad line.
 #[tactic(auto, using(crate::proofs::CertificateLemmas::feeding))]
 fn feed_file<H: Shelf>(
     shelf: &mut H,
@@ -98,8 +98,8 @@ fn certificate_in(alloc: Global, reader: CertReader, name: &Name) -> Result<Cert
     }
 }
 
-/// The certificate that a file holds. That the file cannot be read to its end, and that it is too long, come before what
-/// it says.
+/// The certificate that a file holds. That the file cannot be read to its end, and that it is too long, come before
+/// what it says.
 #[tactic(auto, using(crate::proofs::CertificateLemmas::found))]
 pub fn read_certificate<H: Shelf>(
     alloc: Global,
