@@ -4,6 +4,7 @@ pub mod PairLemmas
 pub mod OneReply
 pub mod RightLemmas
 pub mod RunLemmas
+pub mod HeadlineLemmas
 pub mod TopLemmas
 pub mod InputLemmas
 pub mod SoundLemmas

@@ -48,7 +48,7 @@ use Rattle.staat_model.proofs.PlanLemmas.{plan_is_right_lemma}
 use Rattle.staat_model.proofs.RefusalLemmas.{refusal_is_right_lemma}
 use Rattle.staat_words.specs.declared.request.CheckRequest.{CheckRequest}
 use Rattle.staat_check.specs.Verdicts.{IsPlanOf, IsRefusalWithSet}
-use Rattle.staat_top.specs.Checking.{IsCertificateIn, verdict_answer}
+use Rattle.staat_top.specs.Checking.{IsCertificateIn, IsChecked, verdict_answer}
 use Rattle.staat_top.specs.Replies.{AreSoundParts, SaysOutcome, SaysGoodPlan, SaysStuckSet, SaysValid, SaysNotValid, ShowsValid, valid_plan, valid_refusal, free, not_shown, WorkOnWords, IsRight, IsDenied}
 
 -- ---- pieces
@@ -171,11 +171,11 @@ set_is_stuck files request parts (stuck w) text are outcome written one =
 
 -- ---- certificates
 
-plan_shown : (parts : List Part) (version stated : ℕ) (b : Body) → IsAssembly parts → IsVerdict parts (record { version = version; parts = stated; body = b }) ValidPlan → IsPlanOf parts b
+pub plan_shown : (parts : List Part) (version stated : ℕ) (b : Body) → IsAssembly parts → IsVerdict parts (record { version = version; parts = stated; body = b }) ValidPlan → IsPlanOf parts b
 plan_shown parts version stated (body.Plan nodes) is h = plan_is_right_lemma parts stated nodes is h
 plan_shown parts version stated (body.Stuck w witnesses dirs) is h = absurd h
 
-refusal_shown : (parts : List Part) (version stated : ℕ) (b : Body) → IsAssembly parts → IsVerdict parts (record { version = version; parts = stated; body = b }) ValidRefusal → IsRefusalWithSet parts b
+pub refusal_shown : (parts : List Part) (version stated : ℕ) (b : Body) → IsAssembly parts → IsVerdict parts (record { version = version; parts = stated; body = b }) ValidRefusal → IsRefusalWithSet parts b
 refusal_shown parts version stated (body.Plan nodes) is h = absurd h
 refusal_shown parts version stated (body.Stuck w witnesses dirs) is h = refusal_is_right_lemma parts version stated w witnesses dirs is h
 

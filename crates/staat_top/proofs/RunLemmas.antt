@@ -61,7 +61,7 @@ ran_answer asked shelf out err a result small found bounds asks whole part line 
       record { text = a.text; took = w.2; is_so = status_is_denied asked files a bounds (found files told) (sym w.0 ∙ one) };
 }
 
-least_status : (fault : Fault) → 2 ≤ status_of fault
+pub least_status : (fault : Fault) → 2 ≤ status_of fault
 least_status Usage = omega arith
 least_status (ReadFault name) = omega arith
 least_status (TooLong name) = omega arith

@@ -9,4 +9,5 @@ pub mod Graphing
 pub mod Planning
 pub mod Checking
 pub mod Replies
+pub mod Headline
 pub mod Runs

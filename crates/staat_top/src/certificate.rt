@@ -20,8 +20,8 @@ use std::alloc::Global;
 /// How many bytes of the file are taken at a time, at most.
 const PIECE: usize = 65_536;
 
-// Feeds the reader the file of that name to its end, or until it is too long. What the reader makes of it is asked at
-// the end: so a fault of a later read, and too many bytes, come before a bad line.
+// Feeds the reader the file of that name to its end, or until it is too long. What the reader makes of it is asked
+// at the end: so a fault of a later read, and too many bytes, come before a bad line.
 #[tactic(auto, using(crate::proofs::CertificateLemmas::feeding))]
 fn feed_file<H: Shelf>(
     shelf: &mut H,
@@ -109,8 +109,7 @@ pub fn read_certificate<H: Shelf>(
     ensures holds { (H.told shelf.new).holds ≡ (H.told shelf.old).holds }
     ensures count { (H.told shelf.old).faults ≤ (H.told shelf.new).faults }
     ensures formed { IfOk result IsWellFormed }
-    ensures found { (files : Files) → (H.told shelf.old).holds ≡ Some files →
-        Follows (IsCertificateIn files name.now) result }
+    ensures found { (files : Files) → (H.told shelf.old).holds ≡ Some files → Follows (IsCertificateIn files name.now) result }
     ensures cause { IfErr result (HasCause (over (H.told shelf.old) (H.told shelf.new))) }
 {
     let mut reader = CertReader::new(alloc)?;

@@ -55,8 +55,7 @@ pub fn check<H: Shelf>(
     ensures holds { (H.told shelf.new).holds ≡ (H.told shelf.old).holds }
     ensures count { (H.told shelf.old).faults ≤ (H.told shelf.new).faults }
     ensures status { IfOk result (λ a. a.status < 2) }
-    ensures found { (files : Files) → (H.told shelf.old).holds ≡ Some files →
-        Follows (WorkOn (Check request.now) files) result }
+    ensures found { (files : Files) → (H.told shelf.old).holds ≡ Some files → Follows (WorkOn (Check request.now) files) result }
     ensures cause { IfErr result (HasCause (over (H.told shelf.old) (H.told shelf.new))) }
 {
     let sound = read_sound(alloc, shelf, &request.asked)?;

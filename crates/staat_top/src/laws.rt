@@ -5,7 +5,14 @@ ghost use Rattle.staat_fault.specs.declared.fault.Fault.TheVariants.{ReadFault};
 ghost use Rattle.staat_words.specs.declared.request.Request.{Request as RequestValue};
 ghost use Rattle.staat_top.specs.declared.read.TheConstants.{FILE_LIMIT};
 ghost use Rattle.staat_top.specs.Work.{Files};
+ghost use Rattle.staat_top.specs.Headline.{Headline};
 ghost use Rattle.staat_top.specs.Replies.{IsReply, Reply, WorkOnWords};
+
+/// What `check` calls valid keeps the written rules, and the other way round; what a valid plan and a valid refusal
+/// show; and that `plan` prints a plan that takes all parts apart, or parts that are stuck.
+pub fn headline()
+    ensures { Headline }
+{}
 
 /// There is one reply at most to a request over some files.
 pub fn one_reply()

@@ -2,9 +2,7 @@
 ghost use Rattle.std.specs.Prelude.{◌≡◌, map, string_bytes, IfOk, IsErrOf, true, false};
 ghost use Rattle.clap.specs.Words.{found_of, rows_of, subcommand_rows_of};
 ghost use Rattle.staat_words.specs.Command.{is_taken, matches as matches_at};
-ghost use Rattle.staat_words.specs.Requests.{ReadsWords, HasBounds, IsAsked, IsGraphRequest, IsPairRequest};
-ghost use Rattle.staat_words.specs.Requests.{IsPlanRequest, asked_in, check_in, graph_in, pair_in, plan_in, request};
-ghost use Rattle.staat_words.specs.Requests.{request_in};
+ghost use Rattle.staat_words.specs.Requests.{ReadsWords, HasBounds, IsAsked, IsGraphRequest, IsPairRequest, IsPlanRequest, asked_in, check_in, graph_in, pair_in, plan_in, request, request_in};
 
 use crate::arguments::{
     certificate_of, digits_of, input_of, name_of, planes_of, value_of, vector_in,

@@ -1,0 +1,82 @@
+-- What the answers of `check` and `plan` mean.
+use Rattle.std.proofs.Common.{◌≡◌, ◌∙◌, ◌↔◌, ◌⊎◌, ◌<◌, ℕ, zero, suc, List, Option, Some, Ok, Err, refl, sym, ap, subst, arith, inl, inr}
+use Rattle.staat_model.specs.declared.assembly.Part.{Part}
+use Rattle.staat_model.specs.declared.certificate.Certificate.{Certificate}
+use Rattle.staat_model.specs.declared.verdict.Verdict.{Verdict}
+use Rattle.staat_model.specs.declared.verdict.Verdict.TheVariants.{ValidPlan, ValidRefusal}
+use Rattle.staat_model.specs.Assemblies.{IsAssembly}
+use Rattle.staat_model.specs.Certificates.{IsValidPlan, IsValidRefusal}
+use Rattle.staat_model.specs.Reasons.{IsVerdict}
+use Rattle.staat_check.specs.Verdicts.{IsPlanOf, IsRefusalWithSet}
+use Rattle.staat_fault.specs.declared.fault.Fault.TheVariants.{ReadFault}
+use Rattle.staat_words.specs.declared.request.CheckRequest.{CheckRequest}
+use Rattle.staat_words.specs.declared.request.PlanRequest.{PlanRequest}
+use Rattle.staat_words.specs.declared.request.Request.{Request}
+use Rattle.staat_words.specs.declared.request.Request.TheVariants.{Check, Plan}
+use Rattle.staat_words.specs.Requests.{HasBounds, IsAsked, IsPlanRequest}
+use Rattle.staat_top.specs.declared.answer.Answer.{Answer}
+use Rattle.staat_top.specs.Work.{Files, Found}
+use Rattle.staat_top.specs.Assembling.{sound}
+use Rattle.staat_top.specs.Checking.{verdict_answer}
+use Rattle.staat_top.specs.Replies.{IsReply, MakesReply, Reply, SaysGoodPlan, SaysStuckSet, SaysValid, ShowsValid, WorkOnWords, answered, valid_plan, valid_refusal}
+use Rattle.staat_top.specs.Headline.{Headline, KeepsRules}
+use Rattle.staat_top.proofs.OneReply.{one_reply}
+use Rattle.staat_top.proofs.RightLemmas.{plan_shown, refusal_shown, status_is_right, status_is_denied}
+use Rattle.staat_top.proofs.RunLemmas.{least_status}
+
+-- a reply with status 0 or 1 is that of an answer
+answer_in : (asked : Option Request) (files : Files) (found : Found Answer) (reply : Reply) → WorkOnWords asked files found → MakesReply found reply → reply.status < 2 → (a : Answer) × WorkOnWords asked files (Ok a) × (reply ≡ answered a)
+answer_in asked files (Ok a) reply work makes lt = (a, work, makes)
+answer_in asked files (Err (ReadFault name)) reply work makes lt = absurd makes
+answer_in asked files (Err f) reply work makes lt = absurd (omega (arith, lt, least_status f, ap (λ (r : Reply). r.status) makes))
+
+keeps_rules : (files : Files) (request : CheckRequest) (text : List ℕ) → SaysValid files request text → KeepsRules files request
+keeps_rules files request text says = record { parts = says.parts; sound = says.sound; certificate = says.certificate; held = says.held; valid = go says.shows }
+  where
+    go : ShowsValid says.parts says.certificate text → IsValidPlan says.parts says.certificate ⊎ IsValidRefusal says.parts says.certificate
+    go (valid_plan h shown e) = inl h
+    go (valid_refusal h shown e) = inr h
+
+-- the verdict on a certificate makes the reply
+verdict_reply : (files : Files) (request : CheckRequest) (reply : Reply) (v : Verdict) (k : KeepsRules files request) → IsVerdict k.parts k.certificate v → (verdict_answer v).status ≡ 0 → IsReply (Some (Check request)) files reply → reply.status ≡ 0
+verdict_reply files request reply v k right none is =
+    let own : IsReply (Some (Check request)) files (answered (verdict_answer v)) = record {
+      found = Ok (verdict_answer v);
+      work = inr (k.parts, inr (k.parts, k.sound.named, sound k.sound.sound refl), inr (k.certificate, k.held, record { verdict = v; right = right; is = refl }));
+      makes = refl;
+    } in
+    ap (λ (r : Reply). r.status) (one_reply (Some (Check request)) files reply (answered (verdict_answer v)) is own) ∙ none
+
+exactly : (files : Files) (request : CheckRequest) (reply : Reply) → IsAsked request.asked → IsReply (Some (Check request)) files reply → (reply.status ≡ 0) ↔ KeepsRules files request
+exactly files request reply bounds is = (there, back)
+  where
+    there : reply.status ≡ 0 → KeepsRules files request
+    there none =
+        let found = answer_in (Some (Check request)) files is.found reply is.work is.makes (omega (arith, none)) in
+        keeps_rules files request found.0.text (status_is_right (Some (Check request)) files found.0 bounds found.1 (sym (ap (λ (r : Reply). r.status) found.2) ∙ none))
+
+    back : KeepsRules files request → reply.status ≡ 0
+    back k = elim k.valid [ inl h ↦ verdict_reply files request reply ValidPlan k h refl is | inr h ↦ verdict_reply files request reply ValidRefusal k h refl is ]
+
+zero_or_one : (n : ℕ) → n < 2 → (n ≡ 0) ⊎ (n ≡ 1)
+zero_or_one zero lt = inl refl
+zero_or_one (suc zero) lt = inr refl
+zero_or_one (suc (suc n)) lt = absurd (omega (arith, lt))
+
+is_planned : (files : Files) (request : PlanRequest) (reply : Reply) → IsPlanRequest request → IsReply (Some (Plan request)) files reply → reply.status < 2 → SaysGoodPlan files request reply.out ⊎ SaysStuckSet files request reply.out
+is_planned files request reply bounds is lt =
+    let found = answer_in (Some (Plan request)) files is.found reply is.work is.makes lt in
+    let status : reply.status ≡ found.0.status = ap (λ (r : Reply). r.status) found.2 in
+    let text : found.0.text ≡ reply.out = sym (ap (λ (r : Reply). r.out) found.2) in
+    elim (zero_or_one found.0.status (subst (λ n. n < 2) status lt)) [
+      | inl none ↦ inl (subst (SaysGoodPlan files request) text (status_is_right (Some (Plan request)) files found.0 bounds found.1 none))
+      | inr one ↦ inr (subst (SaysStuckSet files request) text (status_is_denied (Some (Plan request)) files found.0 bounds found.1 one))
+    ]
+
+pub headline : Headline
+headline = record {
+  exact = exactly;
+  plans = λ parts c is h. plan_shown parts c.version c.parts c.body is h;
+  refusals = λ parts c is h. refusal_shown parts c.version c.parts c.body is h;
+  planned = is_planned;
+}
