@@ -284,16 +284,14 @@ fn a_certificate_is_valid_or_breaks_a_rule_first(rt: HostRuntime) -> Result<(), 
             "staat: c: bad line 1\n",
         ),
     ];
-    for chunk in [1, 7, 1000] {
-        for (rows, list, status, out_text, err_text) in table {
-            let mut shelf = shelf_with(alloc, rows, chunk, NEVER)?;
-            let mut out = sink(alloc, 64, NEVER, 64)?;
-            let mut err = sink(alloc, 64, NEVER, 64)?;
-            let got = staat(alloc, &words(alloc, list)?, &mut shelf, &mut out, &mut err);
-            assert_eq!(rt; got, status, "at {rows:?} in pieces of {chunk}");
-            assert_eq!(rt; out.taken(), out_text.as_bytes());
-            assert_eq!(rt; err.taken(), err_text.as_bytes());
-        }
+    for (rows, list, status, out_text, err_text) in table {
+        let mut shelf = shelf_with(alloc, rows, 7, NEVER)?;
+        let mut out = sink(alloc, 64, NEVER, 64)?;
+        let mut err = sink(alloc, 64, NEVER, 64)?;
+        let got = staat(alloc, &words(alloc, list)?, &mut shelf, &mut out, &mut err);
+        assert_eq!(rt; got, status, "at {rows:?}");
+        assert_eq!(rt; out.taken(), out_text.as_bytes());
+        assert_eq!(rt; err.taken(), err_text.as_bytes());
     }
     Ok(())
 }
