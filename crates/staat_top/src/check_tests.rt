@@ -1,5 +1,4 @@
 // Worked examples of `check` over shelves that give a few bytes at a time.
-ghost use Rattle.std.specs.Prelude.{◌<◌};
 
 use crate::staat;
 use crate::tests::{NEVER, blocks, sink, words};
@@ -44,9 +43,12 @@ const PAIR: &[&str] = &["check", "c", "a.off", "b.off"];
 const CLOSED: &[&str] = &["check", "c", "--manifest=closed"];
 
 // A shelf of the blocks and the certificate of these rows.
-fn shelf_with(alloc: Global, rows: &[&str], chunk: usize, failing: u64) -> Result<MemoryShelf, Fail>
-    requires { 0 < chunk }
-{
+fn shelf_with(
+    alloc: Global,
+    rows: &[&str],
+    chunk: usize,
+    failing: u64,
+) -> Result<MemoryShelf, Fail> {
     let mut text = Vec::new(alloc);
     for row in rows {
         text.extend_from_slice(row.as_bytes())?;
@@ -55,7 +57,7 @@ fn shelf_with(alloc: Global, rows: &[&str], chunk: usize, failing: u64) -> Resul
     let name = Name::from_string(String::from_str(alloc, "c")?);
     files.push((name, Bytes::from_vec(text)))?;
     let failing = Calls::from_vec([failing].to_vec(alloc)?);
-    Ok(MemoryShelf::new(alloc, Files::from_vec(files), failing, chunk)?)
+    Ok(MemoryShelf::new(alloc, Files::from_vec(files), failing, chunk.max(1))?)
 }
 
 #[test]
@@ -284,14 +286,16 @@ fn a_certificate_is_valid_or_breaks_a_rule_first(rt: HostRuntime) -> Result<(), 
             "staat: c: bad line 1\n",
         ),
     ];
-    for (rows, list, status, out_text, err_text) in table {
-        let mut shelf = shelf_with(alloc, rows, 7, NEVER)?;
-        let mut out = sink(alloc, 64, NEVER, 64)?;
-        let mut err = sink(alloc, 64, NEVER, 64)?;
-        let got = staat(alloc, &words(alloc, list)?, &mut shelf, &mut out, &mut err);
-        assert_eq!(rt; got, status, "at {rows:?}");
-        assert_eq!(rt; out.taken(), out_text.as_bytes());
-        assert_eq!(rt; err.taken(), err_text.as_bytes());
+    for chunk in [1, 7, 1000] {
+        for (rows, list, status, out_text, err_text) in table {
+            let mut shelf = shelf_with(alloc, rows, chunk, NEVER)?;
+            let mut out = sink(alloc, 64, NEVER, 64)?;
+            let mut err = sink(alloc, 64, NEVER, 64)?;
+            let got = staat(alloc, &words(alloc, list)?, &mut shelf, &mut out, &mut err);
+            assert_eq!(rt; got, status, "at {rows:?} in pieces of {chunk}");
+            assert_eq!(rt; out.taken(), out_text.as_bytes());
+            assert_eq!(rt; err.taken(), err_text.as_bytes());
+        }
     }
     Ok(())
 }
