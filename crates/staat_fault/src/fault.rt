@@ -56,7 +56,7 @@ pub enum Fault {
     /// Pieces of two parts overlap: part, piece, part, piece.
     Overlap(u32, u32, u32, u32),
     /// The line of the certificate cannot stand there.
-    BadLine(Name, u64),
+    BadLine(Name, u32),
     /// The certificate ends before its last line.
     ShortCert(Name),
     /// There are so many planes.

@@ -28,7 +28,7 @@ fn about(alloc: Global, name: &Name, what: &str) -> Result<String, AllocError>
     format!(in alloc; "staat: {name}: {what}\n")
 }
 
-// A fault at a byte or a line of a file.
+// A fault at a byte of a file.
 fn about_at(alloc: Global, name: &Name, what: &str, at: u64) -> Result<String, AllocError>
     ensures { IfOk result (λ s. string_bytes s ≡ whole (of_file name.now (what.now ++ decimal at))) }
 {
@@ -36,7 +36,7 @@ fn about_at(alloc: Global, name: &Name, what: &str, at: u64) -> Result<String, A
     format!(in alloc; "staat: {name}: {what}{at}\n")
 }
 
-// A fault of a numbered face or part.
+// A fault of a numbered face, part or line.
 fn about_nth(alloc: Global, name: &Name, what: &str, n: u32) -> Result<String, AllocError>
     ensures { IfOk result (λ s. string_bytes s ≡ whole (of_file name.now (what.now ++ decimal n))) }
 {
@@ -136,7 +136,7 @@ fn line_text(alloc: Global, fault: &Fault) -> Result<String, AllocError>
         Fault::TooManyParts(name) => about(alloc, name, "too many parts"),
         Fault::TooManyPieces(name) => about(alloc, name, "too many pieces"),
         Fault::Overlap(a, i, b, j) => overlap(alloc, *a, *i, *b, *j),
-        Fault::BadLine(name, line) => about_at(alloc, name, "bad line ", *line),
+        Fault::BadLine(name, line) => about_nth(alloc, name, "bad line ", *line),
         Fault::ShortCert(name) => about(alloc, name, "certificate too short"),
         Fault::TooManyPlanes(found) => too_many_planes(alloc, *found),
         Fault::TooFar(node) => too_far(alloc, *node),
