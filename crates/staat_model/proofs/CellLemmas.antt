@@ -164,7 +164,7 @@ sum_sign a b Pos p q = positive_sign (a +ℤ b) (sum_positive a b (sign_positive
 sum_sign a b Neg p q = negative_sign (a +ℤ b) (sum_negative a b (sign_negative a p) (⊎_elim (λ h. inl (sign_negative b h)) (λ h. inr (zero_sign b h)) q))
 sum_sign a b Zero p q = ap sign (sum_zero a b (zero_sign a p) (⊎_elim (λ h. zero_sign b h) (λ h. zero_sign b h) q))
 
-dot_plus : (g u v : V3) → dot g (plus u v) ≡ dot g u +ℤ dot g v
+pub dot_plus : (g u v : V3) → dot g (plus u v) ≡ dot g u +ℤ dot g v
 dot_plus g u v = ring (values (g ∷ u ∷ v ∷ []) []) (dotE v0 (plusE v1 v2)) (dotE v0 v1 ⊕ dotE v0 v2) tt
 
 turn_sum : (a b : ℤ) → a +ℤ b ≡ b +ℤ a

@@ -33,6 +33,7 @@ pub mod CellLemmas
 pub mod OtherSides
 pub mod RefusalLemmas
 pub mod StuckSets
+pub mod ListedVertices
 pub mod ValidCertificates
 pub mod PlanLemmas
 pub mod EdgeLemmas

@@ -1,14 +1,12 @@
 -- The certificate of an outcome is valid.
-use Rattle.std.proofs.Common.{◌≡◌, ◌≢◌, ◌⊎◌, ℕ, zero, suc, ◌+◌, ◌<◌, arith, refl, sym, ap, subst, ◌∙◌, inl, inr, ⊎_elim, List, [], ◌∷◌, ◌++◌, length, map, All, Contains}
+use Rattle.std.proofs.Common.{◌≡◌, ◌≢◌, ◌⊎◌, ℕ, zero, suc, ◌+◌, ◌<◌, arith, refl, sym, ap, subst, inl, inr, ⊎_elim, List, [], ◌∷◌, ◌++◌, length, map, All, Contains}
 use Rattle.std.specs.Prelude.{Some, slice_get}
 use Rattle.std.specs.FinSet as set
 use Rattle.std.proofs.lemmas.List.Elements.{All-contains, All-weaker}
 use Rattle.staat_vec.specs.declared.vector.V3.{V3}
 use Rattle.staat_vec.specs.Lists.{Lists}
-use Rattle.staat_vec.specs.Primitives.{IsCanon}
-use Rattle.staat_vec.specs.Vectors.{dot, negative, origin, vector_cmp}
-use Rattle.staat_vec.proofs.Canons.{IsCanon-canon, canon-either, negative-negative}
-use Rattle.staat_vec.proofs.Primitives.{IsPrimitive-some, primitive-is}
+use Rattle.staat_vec.specs.Vectors.{origin, vector_cmp}
+use Rattle.staat_vec.proofs.Primitives.{IsPrimitive-some}
 use Rattle.staat_vec.proofs.Unique.{sorted_once}
 use Rattle.staat_model.specs.declared.assembly.Part.{Part}
 use Rattle.staat_model.specs.declared.set.PartSet.{PartSet}
@@ -24,24 +22,22 @@ use Rattle.staat_model.specs.declared.certificate.Certificate.{Certificate}
 use Rattle.staat_model.specs.Assemblies.{HoldsAt, IsAssembly}
 use Rattle.staat_model.specs.Bridges.{IsTree}
 use Rattle.staat_model.specs.Certificates.{WalledPlan, walled_leaf, walled_split, nodes_of, unwalled, walled_parts, arc_cmp, outward, inward, AreAllLeaves, HasLine, IsAcross, IsArcWithin, IsBlocked, IsBlocking, IsLeafAt, IsListed, IsStuckSet, IsValidPlan, IsValidRefusal, IsWall, IsWitness, PlanHolds, ReachesAll, RefusalHolds, SplitHolds, SplitsHold}
-use Rattle.staat_model.specs.Certify.{AreLeastWalls, ArePlanNodes, HasLeastWalls, IsBodyOf, IsCertificateOf, IsDirection, IsFacetAway, IsLeastArc, IsRefusalOf, IsWitnessAt, NamesWitness}
+use Rattle.staat_model.specs.Certify.{AreLeastWalls, ArePlanNodes, HasLeastWalls, IsBodyOf, IsCertificateOf, IsFacetAway, IsLeastArc, IsRefusalOf, IsWitnessAt, NamesWitness}
 use Rattle.staat_model.specs.Outcomes.{planned, stuck}
-use Rattle.staat_model.specs.Planes.{vertices}
 use Rattle.staat_model.specs.Plans.{IsGood, Plan, leaf, parts_of, split}
 use Rattle.staat_model.specs.Removal.{Blocks, MeetsAlong}
 use Rattle.staat_model.specs.Sets.{Has, IsSubset, below, single}
 use Rattle.staat_model.proofs.Differences.{from_map, in_map}
-use Rattle.staat_model.proofs.EndLemmas.{from_vertices}
 use Rattle.staat_model.proofs.GraphLemmas.{piece_is}
+use Rattle.staat_model.proofs.ListedVertices.{all_listed}
 use Rattle.staat_model.proofs.Members.{All-from_members}
 use Rattle.staat_model.proofs.Orders.{arc_exact, arc_total}
 use Rattle.staat_model.proofs.PieceFacets.{meets_by_facets_lemma}
 use Rattle.staat_model.proofs.Places.{one_at_place, place_from_Contains, place_within}
 use Rattle.staat_model.proofs.PlanLemmas.{has_leaf, leaf_has, no_leaf, there_is}
-use Rattle.staat_model.proofs.PlaneLemmas.{NoneParallel, planes_apart}
+use Rattle.staat_model.proofs.PlaneLemmas.{planes_apart}
 use Rattle.staat_model.proofs.SetBits.{has-below}
 use Rattle.staat_model.proofs.SetMembers.{has-insert, has-single}
-use Rattle.staat_model.proofs.VertexLemmas.{in_vertices, same_some}
 
 -- ---- plans
 
@@ -182,33 +178,6 @@ module _ (parts : List Part) (w : PartSet) (d : V3) where
 
 -- ---- directions
 
--- a vertex is not the origin, and its opposite is a vertex
-vertex_some : (planes : List V3) (v : V3) → NoneParallel planes → Contains (vertices planes) v → v ≢ origin
-vertex_some planes v apart c =
-    let f = from_vertices planes v apart c in
-    let ray = primitive-is (Rattle.staat_vec.specs.Vectors.cross f.g f.h) f.independent in
-    same_some v _ f.is (IsPrimitive-some _ ray.primitive)
-
-opposite_vertex : (planes : List V3) (v : V3) → NoneParallel planes → Contains (vertices planes) v → Contains (vertices planes) (negative v)
-opposite_vertex planes v apart c =
-    let f = from_vertices planes v apart c in
-    in_vertices planes f.g f.h (negative v) f.g_in f.h_in f.independent (⊎_elim {C = (negative v ≡ _) ⊎ (negative v ≡ negative _)} (λ e. inr (ap negative e)) (λ e. inl (ap negative e ∙ negative-negative _)) f.is)
-
-two_or : (version : ℕ) → (version ≡ 2) ⊎ (version ≢ 2)
-two_or version = grind arith
-
-one_canonical : (v : V3) → v ≢ origin → IsCanon v ⊎ IsCanon (negative v)
-one_canonical v some = ⊎_elim (λ e. inl (subst (λ w. IsCanon w) e (IsCanon-canon v some))) (λ e. inr (subst (λ w. IsCanon w) e (IsCanon-canon v some))) (canon-either v)
-
-all_listed : (version : ℕ) (planes : List V3) (dirs : List Dir) → NoneParallel planes → Lists vector_cmp (IsDirection version planes) (map (λ dir. dir.d) dirs) → All (IsListed version dirs) (vertices planes)
-all_listed version planes dirs apart lists = All-from_members (IsListed version dirs) (vertices planes) (λ v c. ⊎_elim {C = IsListed version dirs v}
-    (λ two. ⊎_elim {C = IsListed version dirs v}
-    (λ canonical. inl (lists.all v (record { vertex = c; canonical = λ e. canonical })))
-    (λ opposite. inr (two, lists.all (negative v) (record { vertex = opposite_vertex planes v apart c; canonical = λ e. opposite })))
-    (one_canonical v (vertex_some planes v apart c)))
-    (λ other. inl (lists.all v (record { vertex = c; canonical = λ e. absurd (other e) })))
-    (two_or version))
-
 -- ---- refusals
 
 refusal_holds : (parts : List Part) (version stated : ℕ) (w : PartSet) (witnesses : List Witness) (dirs : List Dir) → IsAssembly parts → stated ≡ length parts → IsStuckSet parts w → IsRefusalOf parts version w witnesses dirs → RefusalHolds parts version stated w witnesses dirs
@@ -219,7 +188,7 @@ refusal_holds parts version stated w witnesses dirs is e set_is are = record {
   blocked = All-weaker (NamesWitness parts w witnesses) (IsBlocked parts witnesses) (λ dir named. let both = witness_blocks parts w dir.d named.witness is named.is in record { witness = named.witness; witness_is = named.witness_is; outs = both.0; ins = both.1 }) dirs are.each;
   planes = are.planes;
   planes_are = are.planes_are;
-  all = all_listed version are.planes dirs (planes_apart parts w are.planes are.planes_are) are.directions;
+  all = all_listed version are.planes dirs (planes_apart parts w are.planes are.planes_are) are.directions.all;
 }
   where
     -- each witness is used

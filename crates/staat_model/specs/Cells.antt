@@ -1,6 +1,7 @@
 -- The cells into which planes cut the directions: the arrangement of great circles of Halperin, Latombe and Wilson
 -- (2000).
-use Rattle.std.specs.Prelude.{◌≡◌, ◌≢◌, ◌⊎◌, ℕ, zero, suc, Bool, true, false, List, [], ◌∷◌, ◌++◌, map, All, Contains}
+use Rattle.std.specs.Prelude.{◌≡◌, ◌≢◌, ◌⊎◌, ℕ, zero, suc, Bool, true, false, List, [], ◌∷◌}
+use Rattle.std.specs.Prelude.{◌++◌, map, All, Contains}
 use Rattle.std.specs.Prelude.{count_by, slice_get, Some}
 use Rattle.std.specs.Ordering.{nat_cmp}
 use Rattle.std.specs.declared.cmp.Ordering.{Ordering}
@@ -128,4 +129,5 @@ pub record HasOneCell (planes : List V3) (cells : List CellEntry) (d : V3) : Typ
   pub cell : CellEntry
   pub at : slice_get cells place ≡ Some cell
   pub is : cell.signs ≡ signs_of planes d
-  pub only : (k : ℕ) (c : CellEntry) → slice_get cells k ≡ Some c → c.signs ≡ signs_of planes d → k ≡ place
+  pub only : (k : ℕ) (c : CellEntry) → slice_get cells k ≡ Some c → c.signs ≡ signs_of planes d
+      → k ≡ place

@@ -1,5 +1,6 @@
 -- What makes a certificate valid for an assembly.
-use Rattle.std.specs.Prelude.{◌≡◌, ◌≢◌, ◌⊎◌, ℕ, ◌<◌, ◌≤◌, pos, ◌<ℤ◌, List, [], ◌∷◌, ◌++◌, map, length, All, Contains}
+use Rattle.std.specs.Prelude.{◌≡◌, ◌≢◌, ◌⊎◌, ℕ, ◌<◌, ◌≤◌, pos, ◌<ℤ◌, List, []}
+use Rattle.std.specs.Prelude.{◌∷◌, ◌++◌, map, length, All, Contains}
 use Rattle.std.specs.Prelude.{slice_get, Some}
 use Rattle.std.specs.FinSet as set
 use Rattle.std.specs.Ordering.{nat_cmp, ordering_then}
@@ -60,6 +61,18 @@ pub record IsAcross (parts : List Part) (s r : PartSet) (arc : Arc) : Type 0 whe
   pub i_in : arc.i < piece_count parts arc.a
   pub j_in : arc.j < piece_count parts arc.b
 
+-- the arc leads across, and begins at that part
+abbrev pub IsAcrossFrom : List Part → (s r : PartSet) → ℕ → Arc → Type 0
+IsAcrossFrom parts s r a arc = IsAcross parts s r arc × (arc.a ≡ a)
+
+-- and at that piece of it
+abbrev pub IsAcrossFromPiece : List Part → (s r : PartSet) → ℕ → ℕ → Arc → Type 0
+IsAcrossFromPiece parts s r a i arc = IsAcrossFrom parts s r a arc × (arc.i ≡ i)
+
+-- and ends at that other part
+abbrev pub IsAcrossTo : List Part → (s r : PartSet) → ℕ → ℕ → ℕ → Arc → Type 0
+IsAcrossTo parts s r a i b arc = IsAcrossFromPiece parts s r a i arc × (arc.b ≡ b)
+
 -- the wall is for two pieces across, and shows that the first, moved along d, never meets the second
 pub record IsWall (parts : List Part) (s r : PartSet) (d : V3) (sep : Sep) : Type 0 where
   pub across : IsAcross parts s r sep.arc
@@ -118,7 +131,8 @@ inward arc = swapped (outward arc)
 abbrev pub ReachesAll : PartSet → PartSet → List (ℕ × ℕ) → Type 0
 ReachesAll w reached [] = reached ≡ w
 ReachesAll w reached (pair ∷ pairs) =
-    Has reached pair.0 × Has w pair.1 × (Has reached pair.1 → ⊥) × ReachesAll w (set.insert reached pair.1) pairs
+    Has reached pair.0 × Has w pair.1 × (Has reached pair.1 → ⊥)
+    × ReachesAll w (set.insert reached pair.1) pairs
 
 -- the arcs lead from the least part of w to each other part, and back
 pub record IsWitness (parts : List Part) (w : PartSet) (witness : Witness) : Type 0 where
@@ -168,7 +182,8 @@ PlanBodyHolds parts stated (body.Stuck w witnesses dirs) = ⊥
 
 abbrev pub RefusalBodyHolds : List Part → (version stated : ℕ) → Body → Type 0
 RefusalBodyHolds parts version stated (body.Plan nodes) = ⊥
-RefusalBodyHolds parts version stated (body.Stuck w witnesses dirs) = RefusalHolds parts version stated w witnesses dirs
+RefusalBodyHolds parts version stated (body.Stuck w witnesses dirs) =
+    RefusalHolds parts version stated w witnesses dirs
 
 abbrev pub IsValidPlan : List Part → Certificate → Type 0
 IsValidPlan parts c = PlanBodyHolds parts c.parts c.body

@@ -1,5 +1,6 @@
 -- The certificate of an outcome.
-use Rattle.std.specs.Prelude.{◌≡◌, ℕ, suc, ◌<◌, pos, ◌≤ℤ◌, List, map, length, All, Contains, slice_get, Some}
+use Rattle.std.specs.Prelude.{◌≡◌, ℕ, suc, ◌<◌, pos, ◌≤ℤ◌, List, map, length, All, Contains}
+use Rattle.std.specs.Prelude.{slice_get, Some}
 use Rattle.staat_vec.specs.declared.vector.V3.{V3}
 use Rattle.staat_vec.specs.Vectors.{dot, vector_cmp}
 use Rattle.staat_vec.specs.Primitives.{IsCanon}
@@ -55,9 +56,10 @@ pub record ArePlanNodes (parts : List Part) (plan : Plan) (nodes : List Node) : 
 
 -- the pieces of the arc are the first with which its first part blocks its second
 abbrev pub IsLeastArc : List Part → V3 → Arc → Type 0
-IsLeastArc parts d arc = IsLeast arc_cmp (λ other. (other.a ≡ arc.a) × (other.b ≡ arc.b) × MeetsAlong parts d other) arc
+IsLeastArc parts d arc =
+    IsLeast arc_cmp (λ other. (other.a ≡ arc.a) × (other.b ≡ arc.b) × MeetsAlong parts d other) arc
 
--- the witness that each part of w blocks its way to each other: the tree from the least part outwards, and the one back
+-- the witness that each part of w blocks its way to each other: the tree outwards from the least part, and that back
 pub record IsWitnessAt (parts : List Part) (w : PartSet) (d : V3) (witness : Witness) : Type 0 where
   pub root : ℕ
   pub root_is : IsLeastOf w root
@@ -70,7 +72,8 @@ pub record IsWitnessAt (parts : List Part) (w : PartSet) (d : V3) (witness : Wit
 pub record NumbersByFirstUse (n : ℕ) (uses : List ℕ) : Type 0 where
   pub below : All (λ k. k < n) uses
   pub used : (k : ℕ) → k < n → Contains uses k
-  pub in_order : (k m : ℕ) → slice_get uses m ≡ Some (suc k) → (j : ℕ) × (j < m) × (slice_get uses j ≡ Some k)
+  pub in_order : (k m : ℕ) → slice_get uses m ≡ Some (suc k)
+      → (j : ℕ) × (j < m) × (slice_get uses j ≡ Some k)
 
 -- the line's witness is the one for its direction
 pub record NamesWitness (parts : List Part) (w : PartSet) (witnesses : List Witness) (dir : Dir) : Type 0 where
@@ -90,7 +93,8 @@ pub record IsRefusalOf (parts : List Part) (version : ℕ) (w : PartSet) (witnes
   pub planes_are : ArePlanes parts w planes
   pub directions : Lists vector_cmp (IsDirection version planes) (map (λ dir. dir.d) dirs)
   pub each : All (NamesWitness parts w witnesses) dirs
-  pub distinct : (k m : ℕ) (x : Witness) → slice_get witnesses k ≡ Some x → slice_get witnesses m ≡ Some x → k ≡ m
+  pub distinct : (k m : ℕ) (x : Witness) → slice_get witnesses k ≡ Some x → slice_get witnesses m ≡ Some x
+      → k ≡ m
   pub by_first_use : NumbersByFirstUse (length witnesses) (map (λ dir. dir.witness) dirs)
 
 -- ---- certificates
@@ -99,7 +103,8 @@ abbrev pub IsBodyOf : List Part → ℕ → Finding → Body → Type 0
 IsBodyOf parts version (planned plan marks) (body.Plan nodes) = ArePlanNodes parts plan nodes
 IsBodyOf parts version (planned plan marks) (body.Stuck w witnesses dirs) = ⊥
 IsBodyOf parts version (stuck w) (body.Plan nodes) = ⊥
-IsBodyOf parts version (stuck w) (body.Stuck v witnesses dirs) = (v ≡ w) × IsRefusalOf parts version w witnesses dirs
+IsBodyOf parts version (stuck w) (body.Stuck v witnesses dirs) = (v ≡ w)
+    × IsRefusalOf parts version w witnesses dirs
 
 -- the certificate, of this version, of what was found for the assembly
 pub record IsCertificateOf (parts : List Part) (version : ℕ) (finding : Finding) (c : Certificate) : Type 0 where

@@ -1,6 +1,7 @@
 -- The circle in which a plane cuts the directions, as the list of the vertices on it in the turning sense about its
 -- normal.
-use Rattle.std.specs.Prelude.{◌≡◌, ◌≢◌, ◌⊎◌, ℕ, zero, suc, ◌+◌, ◌%◌, pos, ◌<ℤ◌, List, map, length, All, Contains}
+use Rattle.std.specs.Prelude.{◌≡◌, ◌≢◌, ◌⊎◌, ℕ, zero, suc, ◌+◌, ◌%◌, pos, ◌<ℤ◌, List}
+use Rattle.std.specs.Prelude.{map, length, All, Contains}
 use Rattle.std.specs.Prelude.{slice_get, Some}
 use Rattle.std.specs.Ordering.{nat_cmp}
 use Rattle.staat_vec.specs.declared.vector.V3.{V3}
@@ -58,6 +59,7 @@ pub record IsCircle (table : List V3) (linked : List ℕ) (c : ℕ) (stops : Lis
   pub first : Stop
   pub first_is : slice_get stops 0 ≡ Some first
   pub start : first.vertex ≡ primitive (cross g axis)
-  pub turns : (k : ℕ) (s t : Stop) → slice_get stops k ≡ Some s → slice_get stops ((k + 1) % length stops) ≡ Some t
+  pub turns : (k : ℕ) (s t : Stop) → slice_get stops k ≡ Some s
+      → slice_get stops ((k + 1) % length stops) ≡ Some t
       → IsNext g stops s.vertex t.vertex
   pub through : All (λ s. Lists nat_cmp (PassesThrough table linked c s.vertex) s.through) stops

@@ -1,5 +1,6 @@
 -- Cones of vectors: what the members of a list add up to, and what has all of them on one side.
-use Rattle.std.specs.Prelude.{◌≡◌, ◌≢◌, ℕ, ◌≤◌, ◌⊎◌, pos, ◌≤ℤ◌, ◌<ℤ◌, List, [], ◌∷◌, ◌++◌, map, length, All, Contains}
+use Rattle.std.specs.Prelude.{◌≡◌, ◌≢◌, ℕ, ◌≤◌, ◌⊎◌, pos, ◌≤ℤ◌, ◌<ℤ◌, List, []}
+use Rattle.std.specs.Prelude.{◌∷◌, ◌++◌, map, length, All, Contains}
 use Rattle.staat_vec.specs.declared.vector.V3.{V3}
 use Rattle.staat_vec.specs.Vectors.{vector, origin, dot, cross, minus, times, negative}
 use Rattle.staat_vec.specs.Primitives.{IsPrimitive, primitive}

@@ -1,5 +1,6 @@
 -- The lines of a certificate's text: the word and the numbers of each, and their bounds.
-use Rattle.std.specs.Prelude.{ℕ, zero, suc, ◌<◌, ◌≤◌, List, [], ◌∷◌, ◌++◌, map, ℤ, pos, codes, if◌then◌else◌, All}
+use Rattle.std.specs.Prelude.{ℕ, zero, suc, ◌<◌, ◌≤◌, List, [], ◌∷◌, ◌++◌, map, ℤ, pos, codes}
+use Rattle.std.specs.Prelude.{if◌then◌else◌, All}
 use Rattle.std.specs.FinSet as set
 use Rattle.std.specs.Fmt.{signed_decimal}
 use Rattle.staat_vec.specs.declared.vector.V3.{V3}

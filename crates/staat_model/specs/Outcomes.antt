@@ -17,13 +17,15 @@ use Rattle.staat_model.specs.Removal.{IsFreeBy}
 use Rattle.staat_model.specs.Sets.{Has, IsNonempty, IsSide, IsSubset, single}
 
 -- along d some side of w comes free of the rest
-pub record ServesBy (R : List V3 → List V3 → V3 → Type 0) (parts : List Part) (w : PartSet) (d : V3) : Type 0 where
+pub record ServesBy (R : List V3 → List V3 → V3 → Type 0) (parts : List Part) (w : PartSet) (d : V3)
+    : Type 0 where
   pub side : PartSet
   pub is_side : IsSide w side
   pub free : IsFreeBy R parts side (set.difference w side) d
 
 -- s is free of the rest of w, and no side of s is free of what it leaves of w
-pub record IsMinimalBy (R : List V3 → List V3 → V3 → Type 0) (parts : List Part) (w : PartSet) (d : V3) (s : PartSet)
+pub record IsMinimalBy (R : List V3 → List V3 → V3 → Type 0) (parts : List Part) (w : PartSet) (d : V3)
+    (s : PartSet)
     : Type 0 where
   pub nonempty : IsNonempty s
   pub within : IsSubset s w
@@ -31,7 +33,8 @@ pub record IsMinimalBy (R : List V3 → List V3 → V3 → Type 0) (parts : List
   pub minimal : (t : PartSet) → IsSide s t → IsFreeBy R parts t (set.difference w t) d → ⊥
 
 -- of the minimal sides the one that holds the least part number
-pub record IsMovedSideBy (R : List V3 → List V3 → V3 → Type 0) (parts : List Part) (w : PartSet) (d : V3) (s : PartSet)
+pub record IsMovedSideBy (R : List V3 → List V3 → V3 → Type 0) (parts : List Part) (w : PartSet) (d : V3)
+    (s : PartSet)
     : Type 0 where
   pub is : IsMinimalBy R parts w d s
   pub least : ℕ
@@ -114,7 +117,9 @@ pub data IsOutcome (robust : Bool) (parts : List Part) : PartSet → Finding →
   rest_stuck : {w side a : PartSet} {try : Try} {plan : Plan} {marks : List Kind} → 2 ≤ set.len w
       → IsStep robust parts w try side → IsOutcome robust parts side (planned plan marks)
       → IsOutcome robust parts (set.difference w side) (stuck a) → IsOutcome robust parts w (stuck a)
-  both_planned : {w side : PartSet} {try : Try} {moved rest : Plan} {d : V3} {ms rs marks : List Kind} → 2 ≤ set.len w
+  both_planned : {w side : PartSet} {try : Try} {moved rest : Plan} {d : V3} {ms rs marks : List Kind}
+      → 2 ≤ set.len w
       → IsStep robust parts w try side → IsOutcome robust parts side (planned moved ms)
-      → IsOutcome robust parts (set.difference w side) (planned rest rs) → d ≡ try.d → marks ≡ try.mark ++ ms ++ rs
+      → IsOutcome robust parts (set.difference w side) (planned rest rs) → d ≡ try.d
+      → marks ≡ try.mark ++ ms ++ rs
       → IsOutcome robust parts w (planned (split d moved rest) marks)

@@ -9,7 +9,7 @@ use Rattle.staat_model.specs.Meeting.{Meets}
 use Rattle.staat_model.specs.Removal.{IsFree, IsFreeBy}
 use Rattle.staat_model.specs.Sets.{AreApart, IsSide, single}
 
--- a plan, as a value: a part by itself, or one side that moves along d, and the plans of the moved side and of the rest
+-- a plan, as a value: a part by itself, or one side that moves along d, and the plans of that side and of the rest
 pub data Plan : Type 0 where
   leaf : (part : ℕ) → Plan
   split : (d : V3) → (moved rest : Plan) → Plan

@@ -1,5 +1,6 @@
 -- Why a certificate is not valid: the first rule that it breaks, in the order of the rules.
-use Rattle.std.specs.Prelude.{◌≡◌, ◌≢◌, ◌⊎◌, ℕ, ◌+◌, ◌<◌, ◌≤◌, List, map, length, All, Contains, sum_by}
+use Rattle.std.specs.Prelude.{◌≡◌, ◌≢◌, ◌⊎◌, ℕ, ◌+◌, ◌<◌, ◌≤◌, List, map, length}
+use Rattle.std.specs.Prelude.{All, Contains, sum_by}
 use Rattle.std.specs.FinSet as set
 use Rattle.std.specs.Ordering.{nat_cmp}
 use Rattle.staat_vec.specs.declared.vector.V3.{V3}
@@ -22,7 +23,8 @@ use Rattle.staat_model.specs.declared.verdict.Reason.TheVariants.{WrongParts, Ba
 use Rattle.staat_model.specs.declared.verdict.Reason.TheVariants.{MissingSeparator, BadStuckSet, BadArc, BadTree}
 use Rattle.staat_model.specs.declared.verdict.Reason.TheVariants.{MissingDirection}
 use Rattle.staat_model.specs.Certificates.{WalledPlan, walled_leaf, walled_split, nodes_of, walled_parts, arc_cmp}
-use Rattle.staat_model.specs.Certificates.{IsAcross, IsWall, SplitHolds, SplitsHold, IsLeafAt, AreAllLeaves, IsStuckSet}
+use Rattle.staat_model.specs.Certificates.{IsAcross, IsWall, SplitHolds, SplitsHold, IsLeafAt, AreAllLeaves}
+use Rattle.staat_model.specs.Certificates.{IsStuckSet}
 use Rattle.staat_model.specs.Certificates.{IsWitness, IsBlocked, IsListed, IsValidPlan, IsValidRefusal}
 use Rattle.staat_vec.specs.Lists.{FailsFirst, IsFirst, IsLeast}
 use Rattle.staat_model.specs.Planes.{ArePlanes, vertices}
@@ -53,13 +55,16 @@ pub data IsLeafFault (n : ℕ) (nodes : List Node) (node : ℕ) : Type 0 where
       → IsLeafFault n nodes node
 
 -- the first rule that a split breaks, where it is this node and stands on this line
-pub data IsSplitReason (parts : List Part) (s r : PartSet) (d : V3) (seps : List Sep) (node line : ℕ) (reason : Reason)
+pub data IsSplitReason (parts : List Part) (s r : PartSet) (d : V3) (seps : List Sep) (node line : ℕ)
+    (reason : Reason)
     : Type 0 where
   zero_direction : d ≡ origin → reason ≡ ZeroDirection node → IsSplitReason parts s r d seps node line reason
-  bad_separator : (m : ℕ) → d ≢ origin → FailsFirst (IsWall parts s r d) seps m → reason ≡ BadSeparator (line + 1 + m)
+  bad_separator : (m : ℕ) → d ≢ origin → FailsFirst (IsWall parts s r d) seps m
+      → reason ≡ BadSeparator (line + 1 + m)
       → IsSplitReason parts s r d seps node line reason
   missing_separator : (arc : Arc) → d ≢ origin → All (IsWall parts s r d) seps
-      → IsLeast arc_cmp (λ other. IsAcross parts s r other × (Contains (map (λ sep. sep.arc) seps) other → ⊥)) arc
+      → IsLeast arc_cmp (λ other. IsAcross parts s r other
+      × (Contains (map (λ sep. sep.arc) seps) other → ⊥)) arc
       → reason ≡ MissingSeparator arc.a arc.i arc.b arc.j → IsSplitReason parts s r d seps node line reason
 
 -- how many lines a node takes
@@ -78,14 +83,17 @@ IsTreeReason parts (walled_split d seps moved rest) node line reason =
     ⊎ (SplitHolds parts s r d seps
     × (IsTreeReason parts moved (node + 1) after reason
     ⊎ (SplitsHold parts moved
-    × IsTreeReason parts rest (node + 1 + length (nodes_of moved)) (after + sum_by node_size (nodes_of moved)) reason)))
+    × IsTreeReason parts rest (node + 1 + length (nodes_of moved))
+    (after + sum_by node_size (nodes_of moved)) reason)))
 
 -- the rules of a plan: the number of parts, then the leaves, then the splits
 pub data IsPlanReason (parts : List Part) (stated : ℕ) (nodes : List Node) (reason : Reason) : Type 0 where
   wrong_parts : stated ≢ length parts → reason ≡ WrongParts stated → IsPlanReason parts stated nodes reason
-  bad_leaves : (node : ℕ) → stated ≡ length parts → IsLeafFault (length parts) nodes node → reason ≡ BadLeaves node
+  bad_leaves : (node : ℕ) → stated ≡ length parts → IsLeafFault (length parts) nodes node
+      → reason ≡ BadLeaves node
       → IsPlanReason parts stated nodes reason
-  bad_split : (tree : WalledPlan) → stated ≡ length parts → AreAllLeaves (length parts) nodes → nodes ≡ nodes_of tree
+  bad_split : (tree : WalledPlan) → stated ≡ length parts → AreAllLeaves (length parts) nodes
+      → nodes ≡ nodes_of tree
       → IsTreeReason parts tree 0 first_line reason → IsPlanReason parts stated nodes reason
 
 -- ---- refusals
@@ -105,10 +113,12 @@ pub data IsRefusalReason (parts : List Part) (version stated : ℕ) (w : PartSet
       → IsRefusalReason parts version stated w witnesses dirs reason
   bad_stuck_set : stated ≡ length parts → IsNoStuckSet parts w → reason ≡ BadStuckSet
       → IsRefusalReason parts version stated w witnesses dirs reason
-  bad_tree : (k : ℕ) → stated ≡ length parts → IsStuckSet parts w → FailsFirst (IsWitness parts w) witnesses k
+  bad_tree : (k : ℕ) → stated ≡ length parts → IsStuckSet parts w
+      → FailsFirst (IsWitness parts w) witnesses k
       → reason ≡ BadTree k → IsRefusalReason parts version stated w witnesses dirs reason
   bad_arc : (m : ℕ) → stated ≡ length parts → IsStuckSet parts w → All (IsWitness parts w) witnesses
-      → FailsFirst (IsBlocked parts witnesses) dirs m → reason ≡ BadArc (first_line + sum_by witness_size witnesses + m)
+      → FailsFirst (IsBlocked parts witnesses) dirs m
+      → reason ≡ BadArc (first_line + sum_by witness_size witnesses + m)
       → IsRefusalReason parts version stated w witnesses dirs reason
   missing_direction : (planes : List V3) → (d : V3) → stated ≡ length parts → IsStuckSet parts w
       → All (IsWitness parts w) witnesses → All (IsBlocked parts witnesses) dirs → ArePlanes parts w planes

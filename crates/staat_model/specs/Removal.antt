@@ -15,7 +15,8 @@ abbrev pub HoldsAlong : (List V3 → List V3 → V3 → Type 0) → List Part �
 HoldsAlong R parts d arc = HoldsAt parts arc (λ p q. R p q d)
 
 -- d is not zero, and R holds along d of no piece of a part of s and a piece of a part of r
-pub record IsFreeBy (R : List V3 → List V3 → V3 → Type 0) (parts : List Part) (s r : PartSet) (d : V3) : Type 0 where
+pub record IsFreeBy (R : List V3 → List V3 → V3 → Type 0) (parts : List Part) (s r : PartSet) (d : V3)
+    : Type 0 where
   pub moves : d ≢ origin
   pub clear : (arc : Arc) → Has s arc.a → Has r arc.b → HoldsAlong R parts d arc → ⊥
 

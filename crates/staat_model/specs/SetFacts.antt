@@ -1,6 +1,7 @@
 -- What the implementations of `PartSet` cite, which may cite nothing outside of specs: a word comes back from its set,
 -- and sets with the same members are one.
-use Rattle.std.specs.Prelude.{◌≡◌, ℕ, zero, suc, ◌+◌, ◌*◌, ◌%◌, ◌/◌, ◌^◌, ◌<◌, ◌≤◌, Bool, true, false, ◌&&◌, ◌||◌, ◌==◌}
+use Rattle.std.specs.Prelude.{◌≡◌, ℕ, zero, suc, ◌+◌, ◌*◌, ◌%◌, ◌/◌, ◌^◌, ◌<◌}
+use Rattle.std.specs.Prelude.{◌≤◌, Bool, true, false, ◌&&◌, ◌||◌, ◌==◌}
 use Rattle.std.specs.Prelude.{nat_eq}
 use Rattle.std.specs.Prelude.{nat_lt, if◌then◌else◌, refl}
 use Rattle.std.proofs.Common.{arith, ap, sym, ◌∙◌, lit≤}
@@ -53,7 +54,8 @@ word_below-members_below (suc n) m bits h =
     let is : set.contains (members_below m bits) n ≡ (bit_at bits n == 1) =
     contains-members_below m bits n ∙ ap (λ t. t && (bit_at bits n == 1)) below in
     let rest : n ≤ m = omega arith in
-    ap (λ t. t + (if set.contains (members_below m bits) n then 2 ^ n else 0)) (word_below-members_below n m bits rest)
+    ap (λ t. t + (if set.contains (members_below m bits) n then 2 ^ n else 0))
+    (word_below-members_below n m bits rest)
     ∙ ap (λ t. bits % 2 ^ n + (if t then 2 ^ n else 0)) is
     ∙ sym (low_bits n bits)
 
@@ -61,7 +63,8 @@ pub word_of_set-set_of_word : (bits : ℕ) → bits < 2 ^ 32 → word_of_set (se
 unfolding word_of_set set_of_word
 word_of_set-set_of_word bits small = word_below-members_below 32 32 bits (lit≤ tt) ∙ mod-eq_of_lt small
 
-pub contains-set_of_word : (bits k : ℕ) → set.contains (set_of_word bits) k ≡ (nat_lt k 32 && (bit_at bits k == 1))
+pub contains-set_of_word : (bits k : ℕ) → set.contains (set_of_word bits) k
+    ≡ (nat_lt k 32 && (bit_at bits k == 1))
 unfolding set_of_word
 contains-set_of_word bits k = contains-members_below 32 bits k
 

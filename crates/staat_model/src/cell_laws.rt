@@ -14,20 +14,23 @@ ghost use Rattle.staat_model.specs.Borders.{HasBorderVertex, HasTwoEdges};
 
 /// Each cell has a vertex on its border, or is one.
 pub fn vertex_on_border()
-    ensures { (parts : List PartValue) (w : PartSetValue) (planes : List Vector) (d : Vector) → ArePlanes parts w planes
+    ensures { (parts : List PartValue) (w : PartSetValue) (planes : List Vector) (d : Vector)
+        → ArePlanes parts w planes
         → d ≢ origin → HasBorderVertex planes d }
 {}
 
 /// A direction on at least two planes of the set is a positive multiple of a vertex.
 pub fn point_is_vertex()
-    ensures { (parts : List PartValue) (w : PartSetValue) (planes : List Vector) (d : Vector) → ArePlanes parts w planes
+    ensures { (parts : List PartValue) (w : PartSetValue) (planes : List Vector) (d : Vector)
+        → ArePlanes parts w planes
         → d ≢ origin → kind_of (signs_of planes d) ≡ Point → Contains (vertices planes) (primitive d) }
 {}
 
 /// An edge has exactly two end vertices, whose sum is its representative.
 pub fn edge_has_ends()
     ensures { (parts : List PartValue) (w : PartSetValue) (planes : List Vector) (s : List SignValue)
-        → ArePlanes parts w planes → IsCell planes s → kind_of s ≡ Edge → (d : Vector) × IsEdgeSum planes s d }
+        → ArePlanes parts w planes → IsCell planes s → kind_of s ≡ Edge
+        → (d : Vector) × IsEdgeSum planes s d }
 {}
 
 /// An open cell has two edges on its border.
@@ -38,14 +41,16 @@ pub fn open_cell()
 
 /// Directions on two different edges on the border of a cell add up to a direction in the cell.
 pub fn edges_add_up()
-    ensures { (planes : List Vector) (s e f : List SignValue) (u v : Vector) → kind_of e ≡ Edge → kind_of f ≡ Edge
+    ensures { (planes : List Vector) (s e f : List SignValue) (u v : Vector) → kind_of e ≡ Edge
+        → kind_of f ≡ Edge
         → IsBorder e s → IsBorder f s → e ≢ f → signs_of planes u ≡ e → signs_of planes v ≡ f
         → signs_of planes (plus u v) ≡ s }
 {}
 
 /// The representative of a cell lies in the cell.
 pub fn representative_in_cell()
-    ensures { (parts : List PartValue) (w : PartSetValue) (planes : List Vector) (kind : KindValue) (s : List SignValue)
+    ensures { (parts : List PartValue) (w : PartSetValue) (planes : List Vector) (kind : KindValue)
+        (s : List SignValue)
         (d : Vector) → ArePlanes parts w planes → IsCell planes s → kind_of s ≡ kind
         → IsRepresentative kind planes s d → signs_of planes d ≡ s }
 {}

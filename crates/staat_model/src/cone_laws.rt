@@ -1,5 +1,6 @@
 // Laws on cones of vectors. Each is a function that does nothing, and its contract is the law.
-ghost use Rattle.std.specs.Prelude.{◌≡◌, ◌≢◌, ◌≤◌, ◌↔◌, List, All, Contains, length, pos, ◌≤ℤ◌, ◌<ℤ◌};
+ghost use Rattle.std.specs.Prelude.{◌≡◌, ◌≢◌, ◌≤◌, ◌↔◌, List, All, Contains, length, pos};
+ghost use Rattle.std.specs.Prelude.{◌≤ℤ◌, ◌<ℤ◌};
 ghost use Rattle.staat_vec.specs.declared.vector.V3.{V3 as Vector};
 ghost use Rattle.staat_vec.specs.Vectors.{dot, origin};
 ghost use Rattle.staat_vec.specs.Primitives.{IsPrimitiveOf, primitive};
@@ -18,7 +19,8 @@ pub fn farkas()
 /// the list on its positive side has h there too, then a positive multiple of h is the sum of each member times a
 /// number of at least 0 (Farkas, 1902).
 pub fn combine()
-    ensures { (vs : List Vector) (h : Vector) → ((x : Vector) → IsAbove x vs → pos 0 ≤ℤ dot h x) → IsCombined vs h }
+    ensures { (vs : List Vector) (h : Vector) → ((x : Vector) → IsAbove x vs → pos 0 ≤ℤ dot h x)
+        → IsCombined vs h }
 {}
 
 /// A cone of conditions that is pointed, since it has a sign of each axis among them, and that holds a vector other
@@ -59,5 +61,6 @@ pub fn one_primitive()
 /// Where a direction lies strictly inside all conditions of a list that spans space, two of the conditions are walls,
 /// and on each wall some direction lies strictly inside the conditions that are not parallel to it.
 pub fn two_borders()
-    ensures { (vs : List Vector) (d : Vector) → IsSpanning vs → All (λ v. pos 0 <ℤ dot v d) vs → HasTwoBorders vs }
+    ensures { (vs : List Vector) (d : Vector) → IsSpanning vs → All (λ v. pos 0 <ℤ dot v d) vs
+        → HasTwoBorders vs }
 {}

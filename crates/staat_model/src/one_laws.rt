@@ -13,7 +13,8 @@ ghost use Rattle.staat_model.specs.Texts.{IsReading, IsTextOf, IsWellFormed, Rea
 
 /// A set of parts has one outcome, in a robust plan and in any other.
 pub fn one_outcome()
-    ensures { (robust : Bool) (parts : List PartValue) (w : PartSetValue) (f g : Finding) → IsOutcome robust parts w f
+    ensures { (robust : Bool) (parts : List PartValue) (w : PartSetValue) (f g : Finding)
+        → IsOutcome robust parts w f
         → IsOutcome robust parts w g → f ≡ g }
 {}
 
@@ -58,5 +59,6 @@ pub fn one_reading()
 
 /// A certificate has one spelling.
 pub fn one_spelling()
-    ensures { (bytes other : List ℕ) (c : CertificateValue) → IsTextOf bytes c → IsTextOf other c → bytes ≡ other }
+    ensures { (bytes other : List ℕ) (c : CertificateValue) → IsTextOf bytes c → IsTextOf other c
+        → bytes ≡ other }
 {}

@@ -15,7 +15,8 @@ pub fn blocked_by_facets()
 
 /// Two pieces overlap exactly where they have no facet.
 pub fn overlap_by_facets()
-    ensures { (p q : List Vector) → IsPiece p → IsPiece q → Overlap p q ↔ ((n : Vector) → IsFacet p q n → ⊥) }
+    ensures { (p q : List Vector) → IsPiece p → IsPiece q
+        → Overlap p q ↔ ((n : Vector) → IsFacet p q n → ⊥) }
 {}
 
 /// Each facet of two pieces is the primitive vector of the cross product of two of their differences.

@@ -30,20 +30,23 @@ pub fn restrict()
 
 /// The blocking graph at the opposite direction is the reversed graph.
 pub fn opposite_graph()
-    ensures { (parts : List PartValue) (d : Vector) (a b : ℕ) → Blocks parts (negative d) a b ↔ Blocks parts d b a }
+    ensures { (parts : List PartValue) (d : Vector) (a b : ℕ)
+        → Blocks parts (negative d) a b ↔ Blocks parts d b a }
 {}
 
 /// On the border of a cell no part of the set blocks another that it does not block in the cell.
 pub fn graph_on_border()
     ensures { (parts : List PartValue) (w : PartSetValue) (planes : List Vector) (d v : Vector) → IsAssembly parts
-        → ArePlanes parts w planes → IsBorder (signs_of planes v) (signs_of planes d) → (a b : ℕ) → Has w a → Has w b
+        → ArePlanes parts w planes → IsBorder (signs_of planes v) (signs_of planes d) → (a b : ℕ) → Has w a
+        → Has w b
         → Blocks parts v a b → Blocks parts d a b }
 {}
 
 /// Directions with the same signs have the same blocking graph among the parts of the set.
 pub fn graph_of_cell()
     ensures { (parts : List PartValue) (w : PartSetValue) (planes : List Vector) (d e : Vector) → IsAssembly parts
-        → ArePlanes parts w planes → signs_of planes d ≡ signs_of planes e → (a b : ℕ) → Has w a → Has w b
+        → ArePlanes parts w planes → signs_of planes d ≡ signs_of planes e → (a b : ℕ) → Has w a
+        → Has w b
         → Blocks parts d a b ↔ Blocks parts e a b }
 {}
 
@@ -84,9 +87,11 @@ pub fn refusal_is_right()
 /// The certificate of an outcome is valid: that of a plan that takes all parts apart, and that of a set of parts that
 /// is stuck.
 pub fn certificates_are_valid()
-    ensures plan { (parts : List PartValue) (version : ℕ) (plan : Plan) (marks : List KindValue) (c : CertificateValue)
+    ensures plan { (parts : List PartValue) (version : ℕ) (plan : Plan) (marks : List KindValue)
+        (c : CertificateValue)
         → IsGood parts (below (length parts)) plan → IsCertificateOf parts version (planned plan marks) c
         → IsValidPlan parts c }
     ensures refusal { (parts : List PartValue) (version : ℕ) (w : PartSetValue) (c : CertificateValue)
-        → IsAssembly parts → IsStuck parts w → IsCertificateOf parts version (stuck w) c → IsValidRefusal parts c }
+        → IsAssembly parts → IsStuck parts w → IsCertificateOf parts version (stuck w) c
+        → IsValidRefusal parts c }
 {}

@@ -1,5 +1,6 @@
 // Whether points span space.
-ghost use Rattle.std.specs.Prelude.{◌≡◌, ◌≢◌, ◌↔◌, pos, All, Any, Contains, IfSome, IsTrue, MatchOption};
+ghost use Rattle.std.specs.Prelude.{◌≡◌, ◌≢◌, ◌↔◌, pos, All, Any, Contains, IfSome, IsTrue};
+ghost use Rattle.std.specs.Prelude.{MatchOption};
 ghost use Rattle.staat_vec.specs.Vectors.{IsWithin, cross, dot, minus, origin};
 ghost use Rattle.staat_model.specs.Pieces.{IsSolid};
 

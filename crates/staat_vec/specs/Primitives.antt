@@ -1,5 +1,6 @@
 -- The primitive vector on a ray, and the canonical one of two opposite vectors.
-use Rattle.std.specs.Prelude.{ℕ, zero, suc, ◌+◌, ◌%◌, ◌≤◌, ℤ, pos, ◌<ℤ◌, int_lt, int_div, unsigned_abs, ◌≡◌, Bool, ◌==◌}
+use Rattle.std.specs.Prelude.{ℕ, zero, suc, ◌+◌, ◌%◌, ◌≤◌, ℤ, pos, ◌<ℤ◌, int_lt, int_div}
+use Rattle.std.specs.Prelude.{unsigned_abs, ◌≡◌, Bool, ◌==◌}
 use Rattle.std.specs.Prelude.{◌&&◌, if◌then◌else◌}
 use Prim.Native.Nat.{◌∣◌}
 use Rattle.staat_vec.specs.declared.vector.V3.{V3}

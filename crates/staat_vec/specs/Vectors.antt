@@ -1,5 +1,6 @@
 -- Vectors of whole numbers of any size, their products, their order and the sign of a number.
-use Rattle.std.specs.Prelude.{ℕ, zero, suc, ℤ, pos, negsuc, ◌+ℤ◌, ◌-ℤ◌, ◌*ℤ◌, neg_ℤ, ◌≤◌, unsigned_abs}
+use Rattle.std.specs.Prelude.{ℕ, zero, suc, ℤ, pos, negsuc, ◌+ℤ◌, ◌-ℤ◌, ◌*ℤ◌, neg_ℤ, ◌≤◌}
+use Rattle.std.specs.Prelude.{unsigned_abs}
 use Rattle.std.specs.Ordering.{int_cmp, ordering_then}
 use Rattle.std.specs.declared.cmp.Ordering.{Ordering}
 use Rattle.staat_vec.specs.declared.vector.V3.{V3}
@@ -31,7 +32,8 @@ abbrev pub dot : V3 → V3 → ℤ
 dot a b = ((a.x *ℤ b.x) +ℤ (a.y *ℤ b.y)) +ℤ (a.z *ℤ b.z)
 
 abbrev pub cross : V3 → V3 → V3
-cross a b = vector ((a.y *ℤ b.z) -ℤ (a.z *ℤ b.y)) ((a.z *ℤ b.x) -ℤ (a.x *ℤ b.z)) ((a.x *ℤ b.y) -ℤ (a.y *ℤ b.x))
+cross a b = vector ((a.y *ℤ b.z) -ℤ (a.z *ℤ b.y)) ((a.z *ℤ b.x) -ℤ (a.x *ℤ b.z))
+    ((a.x *ℤ b.y) -ℤ (a.y *ℤ b.x))
 
 abbrev pub det : V3 → V3 → V3 → ℤ
 det a b c = dot a (cross b c)

@@ -14,10 +14,27 @@ ghost use Rattle.staat_vec.specs.Primitives.{
 use crate::products::neg;
 use crate::vector::{DIRECTION, V3};
 
-// by Euclid's algorithm
+// by Euclid's algorithm, on words of the machine
+fn gcd_of_words(a: u64, b: u64) -> u64
+    ensures { IsGcd a b result }
+{
+    let mut x = a;
+    let mut y = b;
+    while y != 0 {
+        let remainder = x % y;
+        x = y;
+        y = remainder;
+    }
+    x
+}
+
+// by Euclid's algorithm; most vectors have small components
 fn gcd(a: u128, b: u128) -> u128
     ensures { IsGcd a b result }
 {
+    if a <= u64::MAX as u128 && b <= u64::MAX as u128 {
+        return gcd_of_words(a as u64, b as u64) as u128;
+    }
     let mut x = a;
     let mut y = b;
     while y != 0 {
@@ -42,12 +59,15 @@ fn content(v: V3) -> u128
     )
 }
 
-// a component without the divisor
+// a component without the divisor; most vectors are primitive as they are
 fn quotient(a: i128, divisor: u128) -> i128
     requires some { 1 ≤ divisor }
     requires size { divisor ≤ DIRECTION }
     ensures { result ≡ int_div a (pos divisor) }
 {
+    if divisor == 1 {
+        return a;
+    }
     a / divisor as i128
 }
 
