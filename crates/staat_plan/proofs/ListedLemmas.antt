@@ -33,12 +33,6 @@ pub record HasLines (parts : List Part) (w : PartSet) (keys : List (List ℕ)) (
   pub listed : AreListed parts w keys witnesses dirs
   pub lines : map (λ dir. dir.d) dirs ≡ ds
 
-pub no_lines : (parts : List Part) (w : PartSet) → HasLines parts w [] [] [] []
-no_lines parts w = record {
-  listed = record { keys_are = refl; distinct = λ k m key at. absurd cc; each = All-nil (NamesWitness parts w []); by_first_use = numbers_none; few = omega arith };
-  lines = refl;
-}
-
 -- ---- the vertices of planes
 
 pub vertex_sized : (planes : List V3) (v : V3) → All (IsWithin NORMAL) planes → NoneParallel planes → Contains (vertices planes) v → IsSizedDirection v
