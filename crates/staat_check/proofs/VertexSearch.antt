@@ -12,7 +12,7 @@ use Rattle.std.proofs.lemmas.Option.{slice_get-get_or}
 use Rattle.staat_vec.specs.declared.vector.V3.{V3}
 use Rattle.staat_vec.specs.Lists.{IsFirst}
 use Rattle.staat_vec.specs.Primitives.{canon, primitive}
-use Rattle.staat_vec.specs.Vectors.{cross, negative, origin, vector_cmp}
+use Rattle.staat_vec.specs.Vectors.{cross, negative, vector_cmp}
 use Rattle.staat_vec.proofs.Canons.{canon-either, negative-negative}
 use Rattle.staat_vec.proofs.VectorOrder.{vector_exact, vector_total}
 use Rattle.staat_model.specs.Planes.{crossings, vertices}
