@@ -26,11 +26,11 @@ use Rattle.staat_model.specs.Sets.{Has, IsNonempty, IsSubset, below}
 use Rattle.staat_model.specs.Texts.{IsWitnessInOrder}
 use Rattle.staat_model.proofs.Differences.{in_map}
 use Rattle.staat_model.proofs.Members.{All-from_members}
-use Rattle.staat_check.proofs.ListedLemmas.{all_listed}
 use Rattle.staat_model.proofs.Places.{Contains-from_place, one_at_place, some_at}
 use Rattle.staat_model.proofs.RestrictLemmas.{nonempty_or, member_or_not}
 use Rattle.staat_model.proofs.SetBits.{has-below}
 use Rattle.staat_model.proofs.SetMembers.{has-difference}
+use Rattle.staat_model.proofs.ListedVertices.{all_listed}
 use Rattle.staat_pairs.specs.Tables.{IsTableArc, Table, WasMadeFrom}
 use Rattle.staat_check.specs.Conditions.{AreLists, IsAcrossAll, IsFitDir, LeadsAhead}
 use Rattle.staat_check.specs.Verdicts.{IsRefusalVerdict}

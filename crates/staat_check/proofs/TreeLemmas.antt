@@ -1,8 +1,8 @@
 -- The splits of a plan, one node after another.
-use Rattle.std.proofs.Common.{◌≡◌, inl, inr, ℕ, zero, suc, ◌+◌, ◌<◌, ◌≤◌, ◌^◌, arith, refl, sym, ap, subst, ◌∙◌, List, [], ◌∷◌, ◌++◌, length, take, drop, append_assoc, append-nil, length-append}
+use Rattle.std.proofs.Common.{◌≡◌, inl, inr, ℕ, zero, suc, ◌+◌, ◌≤◌, arith, refl, sym, ap, subst, ◌∙◌, List, [], ◌∷◌, ◌++◌, length, take, drop, append_assoc, append-nil, length-append}
 use Rattle.std.specs.Prelude.{Some, None, slice_get, sum_by}
 use Rattle.std.proofs.Math.Seq.{drop-append_seam}
-use Rattle.std.proofs.lemmas.List.Sums.{sum_by-append, sum_by-cons, sum_by-take-drop, sum_by-take-le}
+use Rattle.std.proofs.lemmas.List.Sums.{sum_by-append, sum_by-cons, sum_by-take-drop}
 use Rattle.staat_vec.specs.declared.vector.V3.{V3}
 use Rattle.staat_model.specs.declared.assembly.Part.{Part}
 use Rattle.staat_model.specs.declared.certificate.Node.{Node}
@@ -165,6 +165,3 @@ judged_all parts nodes k line le are t e = let r = are.remains t e in go r.trees
     go : (ts : List WalledPlan) → [] ≡ forest_nodes ts → (ForestHolds parts ts → SplitsHold parts t) → SplitsHold parts t
     go [] f holds = holds tt
     go (u ∷ ts) f holds = absurd (none (nodes_of u) (forest_nodes ts) (some_node u) f)
-
-pub lines_fit : (parts : List Part) (nodes : List Node) (k line : ℕ) (node : Node) → slice_get nodes k ≡ Some node → AreJudged parts nodes k line → first_line + sum_by node_size nodes < 2 ^ 32 → line + node_size node < 2 ^ 32
-lines_fit parts nodes k line node at are few = omega (arith, are.line_is, few, line_next nodes k node at, sum_by-take-le node_size nodes (k + 1))

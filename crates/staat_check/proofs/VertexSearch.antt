@@ -12,7 +12,7 @@ use Rattle.std.proofs.lemmas.Option.{slice_get-get_or}
 use Rattle.staat_vec.specs.declared.vector.V3.{V3}
 use Rattle.staat_vec.specs.Lists.{IsFirst}
 use Rattle.staat_vec.specs.Primitives.{canon, primitive}
-use Rattle.staat_vec.specs.Vectors.{cross, negative, origin, vector_cmp}
+use Rattle.staat_vec.specs.Vectors.{cross, negative, vector_cmp}
 use Rattle.staat_vec.proofs.Canons.{canon-either, negative-negative}
 use Rattle.staat_vec.proofs.VectorOrder.{vector_exact, vector_total}
 use Rattle.staat_model.specs.Planes.{crossings, vertices}
@@ -67,9 +67,6 @@ first_in_front version listed (x ∷ xs) ys v (inl h) = inl h
 first_in_front version listed (x ∷ xs) ys v (inr h) = inr (h.0, first_in_front version listed xs ys v h.1)
 
 module _ (version : ℕ) (listed : List V3) where
-  pub asked_all : (whole : List V3) → AskedBehind version listed whole whole
-  asked_all whole = record { all = λ h. h; first = λ v h. h }
-
   -- the crossings of one plane, pair by pair
 
   pub asked_next : (g h : V3) (hs : List V3) (k : ℕ) (v : V3) → slice_get hs k ≡ Some h → v ≡ primitive (cross g h) → IsKnown version listed v → IsKnown version listed (negative v)
@@ -115,9 +112,6 @@ module _ (version : ℕ) (listed : List V3) where
 
 -- ---- opposite vectors
 
-pub opposite_some : (v : V3) → v ≢ origin → negative v ≢ origin
-opposite_some v some e = some (sym (negative-negative v) ∙ ap negative e)
-
 -- in version 2 the canonical one stands for both
 pub known_by_canon : (version : ℕ) (listed : List V3) (v : V3) → version ≡ 2 → (Contains listed (canon v) ⊎ Contains listed (negative (canon v))) ↔ IsKnown version listed v
 known_by_canon version listed v two = go (canon-either v)
@@ -134,7 +128,3 @@ known_by_canon version listed v two = go (canon-either v)
 
 pub known_alone : (version : ℕ) (listed : List V3) (v : V3) → version ≢ 2 → Contains listed v ↔ IsKnown version listed v
 known_alone version listed v other = (λ c. inl c, ⊎_elim {C = Contains listed v} (λ c. c) (λ h. absurd (other h.0)))
-
-pub known_opposite : (version : ℕ) (listed : List V3) (v : V3) → version ≡ 2 → IsKnown version listed v → IsKnown version listed (negative v)
-known_opposite version listed v two (inl c) = inr (two, subst (Contains listed) (sym (negative-negative v)) c)
-known_opposite version listed v two (inr h) = inl h.1

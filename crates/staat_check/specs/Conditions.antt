@@ -1,6 +1,7 @@
 -- What a witness asks of the directions that name it.
-use Rattle.std.specs.Prelude.{◌≡◌, ◌⊎◌, ◌<◌, ℕ, pos, ◌<ℤ◌, List, [], All, Contains, length, Some}
-use Rattle.std.specs.Prelude.{slice_get, slice_index_or}
+use Rattle.std.specs.Prelude.{◌≡◌, ◌⊎◌, ◌<◌, ℕ, ◌<ℤ◌, []}
+use Rattle.std.specs.Prelude.{pos, List, All, Contains}
+use Rattle.std.specs.Prelude.{length, Some, slice_get, slice_index_or}
 use Rattle.staat_vec.specs.declared.vector.V3.{V3}
 use Rattle.staat_vec.specs.declared.vector.TheConstants.{DIRECTION}
 use Rattle.staat_vec.specs.Vectors.{IsWithin, dot, negative, origin}

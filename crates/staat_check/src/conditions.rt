@@ -1,5 +1,6 @@
 // What the witnesses ask of directions: the facets of their arcs, by their numbers, each once.
-ghost use Rattle.std.specs.Prelude.{◌≡◌, ◌↔◌, ℕ, [], ◌∷◌, All, Contains, IfOk, OnOk, Some, length, slice_get};
+ghost use Rattle.std.specs.Prelude.{◌≡◌, ◌↔◌, ℕ, [], ◌∷◌};
+ghost use Rattle.std.specs.Prelude.{All, Contains, IfOk, OnOk, Some, length, slice_get};
 ghost use Rattle.std.specs.List.Sorted.{IsStrictlySortedBy};
 ghost use Rattle.staat_vec.specs.Lists.{Lists};
 ghost use Rattle.staat_vec.specs.Vectors.{IsWithin, vector_cmp};

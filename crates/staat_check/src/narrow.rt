@@ -1,5 +1,6 @@
 // Products of small vectors, in words of 64 bits.
-ghost use Rattle.std.specs.Prelude.{◌≡◌, ◌≤◌, ◌*◌, ◌*ℤ◌, ◌+ℤ◌, ◌↔◌, All, IsTrue, unsigned_abs};
+ghost use Rattle.std.specs.Prelude.{◌≡◌, ◌≤◌, ◌*◌, ◌*ℤ◌, ◌+ℤ◌, ◌↔◌};
+ghost use Rattle.std.specs.Prelude.{All, IsTrue, unsigned_abs};
 ghost use Rattle.staat_vec.specs.Vectors.{IsWithin, dot};
 
 use staat_vec::V3;

@@ -1,5 +1,6 @@
 // The rules of one split.
-ghost use Rattle.std.specs.Prelude.{◌≡◌, ◌+◌, ◌<◌, ◌^◌, ◌↔◌, IsTrue, All, IfSome, MatchOption, length, map};
+ghost use Rattle.std.specs.Prelude.{◌≡◌, ◌+◌, ◌<◌, ◌^◌, ◌↔◌};
+ghost use Rattle.std.specs.Prelude.{IsTrue, All, IfSome, MatchOption, length, map};
 ghost use Rattle.std.specs.List.Sorted.{IsStrictlySortedBy};
 ghost use Rattle.staat_vec.specs.Vectors.{IsWithin, origin};
 ghost use Rattle.staat_model.specs.Assemblies.{HoldsAt, piece_count};
@@ -28,7 +29,8 @@ fn has_ends(s: PartSet, r: PartSet, arc: Arc) -> bool
 fn has_pieces(assembly: &Assembly, arc: Arc) -> bool
     requires a { arc.a < length assembly.now }
     requires b { arc.b < length assembly.now }
-    ensures { IsTrue result ↔ ((arc.i < piece_count assembly.now arc.a) × (arc.j < piece_count assembly.now arc.b)) }
+    ensures { IsTrue result
+        ↔ ((arc.i < piece_count assembly.now arc.a) × (arc.j < piece_count assembly.now arc.b)) }
 {
     arc.i < assembly.pieces(arc.a) && arc.j < assembly.pieces(arc.b)
 }
@@ -87,8 +89,8 @@ fn first_bad_wall(assembly: &Assembly, s: PartSet, r: PartSet, d: V3, seps: &[Se
     None
 }
 
-/// The first rule that a split breaks: `s` moves along `d` away from `r`, which the walls `seps` are to show. The split
-/// is the node of this number, on this line.
+/// The first rule that a split breaks: `s` moves along `d` away from `r`, which the walls `seps` are to show. The
+/// split is the node of this number, on this line.
 pub fn split_reason(
     assembly: &Assembly,
     s: PartSet,

@@ -1,5 +1,6 @@
 // The search for the first vertex of planes that no line has.
-ghost use Rattle.std.specs.Prelude.{◌≡◌, ◌≢◌, ◌⊎◌, ◌≤◌, ◌↔◌, All, Contains, IsTrue, MatchOption, drop, length};
+ghost use Rattle.std.specs.Prelude.{◌≡◌, ◌≢◌, ◌⊎◌, ◌≤◌, ◌↔◌};
+ghost use Rattle.std.specs.Prelude.{All, Contains, IsTrue, MatchOption, drop, length};
 ghost use Rattle.std.specs.List.Sorted.{IsStrictlySortedBy};
 ghost use Rattle.staat_vec.specs.Primitives.{primitive};
 ghost use Rattle.staat_vec.specs.Vectors.{IsWithin, cross, negative, origin, vector_cmp};

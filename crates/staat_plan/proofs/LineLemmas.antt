@@ -40,6 +40,3 @@ module _ (parts : List Part) (w : PartSet) (keys more : List (List ℕ)) (old no
     where
       line : Dir
       line = record { d = d; witness = i }
-
-pub direction_more : (dirs next : List Dir) (d : V3) (i : ℕ) → next ≡ dirs ++ (record { d = d; witness = i }) ∷ [] → map (λ (dir : Dir). dir.d) next ≡ map (λ (dir : Dir). dir.d) dirs ++ d ∷ []
-direction_more dirs next d i e = ap (map (λ (dir : Dir). dir.d)) e ∙ map-append (λ (dir : Dir). dir.d) dirs ((record { d = d; witness = i }) ∷ [])

@@ -1,7 +1,7 @@
 -- The lines of a refusal, and how many they are.
 use Rattle.std.proofs.Common.{◌≡◌, ⊎_elim, ℕ, ◌*◌, ◌<◌, ◌≤◌, arith, refl, sym, subst, List, [], ◌∷◌, length, length-append, map, All, Contains}
 use Rattle.std.specs.Prelude.{Err, IfOk, Ok, Result, Some, slice_get}
-use Rattle.std.proofs.lemmas.List.Elements.{All-contains, All-nil}
+use Rattle.std.proofs.lemmas.List.Elements.{All-contains}
 use Rattle.staat_vec.specs.declared.vector.V3.{V3}
 use Rattle.staat_vec.specs.declared.vector.TheConstants.{DIRECTION, NORMAL}
 use Rattle.staat_vec.specs.declared.memory.OutOfMemory.{OutOfMemory}
@@ -15,7 +15,7 @@ use Rattle.staat_model.specs.declared.certificate.Dir.{Dir}
 use Rattle.staat_model.specs.declared.certificate.Witness.{Witness}
 use Rattle.staat_model.specs.declared.limits.TheConstants.{LIST_LIMIT}
 use Rattle.staat_model.specs.declared.set.PartSet.{PartSet}
-use Rattle.staat_model.specs.Certify.{IsDirection, IsRefusalOf, NamesWitness}
+use Rattle.staat_model.specs.Certify.{IsDirection, IsRefusalOf}
 use Rattle.staat_model.specs.Planes.{ArePlanes, crossings, vertices}
 use Rattle.staat_model.proofs.EndLemmas.{from_vertices}
 use Rattle.staat_model.proofs.Members.{All-from_members}
@@ -26,18 +26,12 @@ use Rattle.staat_planes.specs.Refusals.{IsTableWithin}
 use Rattle.staat_planes.proofs.FacetCounts.{no_longer}
 use Rattle.staat_plan.specs.declared.listing.Listing.{Listing}
 use Rattle.staat_plan.specs.Listings.{AreListed, IsSizedDirection, key_of}
-use Rattle.staat_plan.proofs.NumberLemmas.{get_map, numbers_none}
+use Rattle.staat_plan.proofs.NumberLemmas.{get_map}
 
 -- the lines so far are those of these directions
 pub record HasLines (parts : List Part) (w : PartSet) (keys : List (List ℕ)) (witnesses : List Witness) (dirs : List Dir) (ds : List V3) : Type 0 where
   pub listed : AreListed parts w keys witnesses dirs
   pub lines : map (λ dir. dir.d) dirs ≡ ds
-
-pub no_lines : (parts : List Part) (w : PartSet) → HasLines parts w [] [] [] []
-no_lines parts w = record {
-  listed = record { keys_are = refl; distinct = λ k m key at. absurd cc; each = All-nil (NamesWitness parts w []); by_first_use = numbers_none; few = omega arith };
-  lines = refl;
-}
 
 -- ---- the vertices of planes
 

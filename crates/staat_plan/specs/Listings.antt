@@ -1,5 +1,6 @@
 -- The lines of a refusal that have been listed so far, and the key by which a witness is found again.
-use Rattle.std.specs.Prelude.{◌≡◌, ◌≢◌, ◌⊎◌, ◌≤◌, ◌<◌, ◌∷◌, [], ◌++◌, ℕ, List, All, Some}
+use Rattle.std.specs.Prelude.{◌≡◌, ◌≢◌, ◌⊎◌, ◌≤◌, ◌<◌, ◌∷◌, [], ◌++◌, ℕ}
+use Rattle.std.specs.Prelude.{List, All, Some}
 use Rattle.std.specs.Prelude.{flat_map, length, map, slice_get}
 use Rattle.staat_vec.specs.declared.vector.V3.{V3}
 use Rattle.staat_vec.specs.declared.vector.TheConstants.{DIRECTION}
@@ -12,12 +13,12 @@ use Rattle.staat_model.specs.declared.set.PartSet.{PartSet}
 use Rattle.staat_model.specs.Certify.{NamesWitness, NumbersByFirstUse}
 
 -- the numbers of an arc, after the number of the list in which it stands
-abbrev pub numbered : ℕ → Arc → List ℕ
-numbered side arc = side ∷ arc.a ∷ arc.i ∷ arc.b ∷ arc.j ∷ []
+abbrev pub key_numbers : ℕ → Arc → List ℕ
+key_numbers side arc = side ∷ arc.a ∷ arc.i ∷ arc.b ∷ arc.j ∷ []
 
 -- the numbers of a witness, which no other witness has
 abbrev pub key_of : Witness → List ℕ
-key_of witness = flat_map (numbered 0) witness.outs ++ flat_map (numbered 1) witness.ins
+key_of witness = flat_map (key_numbers 0) witness.outs ++ flat_map (key_numbers 1) witness.ins
 
 -- not zero, and within the bound of directions
 pub record IsSizedDirection (d : V3) : Type 0 where
@@ -28,15 +29,18 @@ pub record IsSizedDirection (d : V3) : Type 0 where
 pub record AreListed (parts : List Part) (w : PartSet) (keys : List (List ℕ)) (witnesses : List Witness)
     (dirs : List Dir) : Type 0 where
   pub keys_are : keys ≡ map key_of witnesses
-  pub distinct : (k m : ℕ) (key : List ℕ) → slice_get keys k ≡ Some key → slice_get keys m ≡ Some key → k ≡ m
+  pub distinct : (k m : ℕ) (key : List ℕ) → slice_get keys k ≡ Some key → slice_get keys m ≡ Some key
+    → k ≡ m
   pub each : All (NamesWitness parts w witnesses) dirs
   pub by_first_use : NumbersByFirstUse (length witnesses) (map (λ dir. dir.witness) dirs)
   pub few : length witnesses ≤ length dirs
 
 -- the witness stands at its number in the new list, which is the old one or has it at the end; the keys are those of
 -- the new list and are different
-pub record IsWitnessNumber (keys : List (List ℕ)) (old new : List Witness) (witness : Witness) (i : ℕ) : Type 0 where
+pub record IsWitnessNumber (keys : List (List ℕ)) (old new : List Witness) (witness : Witness) (i : ℕ)
+    : Type 0 where
   pub which : ((new ≡ old) × (i < length old)) ⊎ ((new ≡ old ++ witness ∷ []) × (i ≡ length old))
   pub at : slice_get new i ≡ Some witness
   pub keys_are : keys ≡ map key_of new
-  pub distinct : (k m : ℕ) (key : List ℕ) → slice_get keys k ≡ Some key → slice_get keys m ≡ Some key → k ≡ m
+  pub distinct : (k m : ℕ) (key : List ℕ) → slice_get keys k ≡ Some key → slice_get keys m ≡ Some key
+    → k ≡ m

@@ -34,7 +34,8 @@ abbrev pub try_of : Marked → Try
 try_of m = record { d = m.step.d; mark = option_to_list m.mark }
 
 -- the step of w, if it has one; its planes are no more than the limit
-pub record IsStepOf (robust : Bool) (parts : List Part) (w : PartSet) (limit : ℕ) (found : Option Marked) : Type 0 where
+pub record IsStepOf (robust : Bool) (parts : List Part) (w : PartSet) (limit : ℕ) (found : Option Marked)
+    : Type 0 where
   pub few : HasFewPlanes parts w limit
   pub side : IfSome found (λ m. IsSide w m.step.moved)
   pub size : IfSome found (λ m. IsWithin DIRECTION m.step.d)

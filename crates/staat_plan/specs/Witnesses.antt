@@ -9,9 +9,9 @@ use Rattle.staat_graph.specs.Graphs.{AreTrees, HasArc}
 use Rattle.staat_pairs.specs.Tables.{Table}
 use Rattle.staat_planes.specs.Tables.{IsAhead}
 
--- of two parts the first leads ahead of the second
-abbrev pub LeadsAhead : Table → V3 → ℕ × ℕ → Type 0
-LeadsAhead t d ends = IsAhead t d ends.0 ends.1
+-- d leads ahead of the facets of some piece of the first part against some piece of the second
+abbrev pub AreEndsAhead : Table → V3 → ℕ × ℕ → Type 0
+AreEndsAhead t d ends = IsAhead t d ends.0 ends.1
 
 -- the trees are those, from the least part, of a graph that shows who blocks whom along d
 pub record AreTreesAlong (parts : List Part) (t : Table) (d : V3) (trees : Trees) : Type 0 where

@@ -47,11 +47,11 @@ pub fn tries_decide()
         → IsStuck parts w ↔ All (λ t. Serves parts w t.d → ⊥) tries }
 {}
 
-/// Arcs with the ends of the trees of a graph that shows who blocks whom along a direction, each with the least pieces,
-/// are the witness of the direction.
+/// Arcs with the ends of the trees of a graph that shows who blocks whom along a direction, each with the least
+/// pieces, are the witness of the direction.
 pub fn witness_of_trees()
-    ensures { (parts : List PartValue) (d : Vector) (w : PartSetValue) (rows : List ℕ) (trees : TreesValue) (root : ℕ)
-        (witness : WitnessValue)
+    ensures { (parts : List PartValue) (d : Vector) (w : PartSetValue) (rows : List ℕ) (trees : TreesValue)
+        (root : ℕ) (witness : WitnessValue)
         → ShowsBlocking parts d w rows → AreTrees (HasArc rows) w trees → IsLeastOf w root
         → map outward witness.outs ≡ take trees.count trees.outs
         → map inward witness.ins ≡ map swapped (take trees.count trees.ins)

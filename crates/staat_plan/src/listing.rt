@@ -1,9 +1,10 @@
 // The lines of a refusal: each direction with the number of its witness.
-ghost use Rattle.std.specs.Prelude.{◌≡◌, ◌≢◌, ◌<◌, ◌++◌, ◌∷◌, [], All, IfOk, OnOk, flat_map, length, map};
+ghost use Rattle.std.specs.Prelude.{◌≡◌, ◌≢◌, ◌<◌, ◌++◌, ◌∷◌, []};
+ghost use Rattle.std.specs.Prelude.{All, IfOk, OnOk, flat_map, length, map};
 ghost use Rattle.staat_vec.specs.Vectors.{IsWithin, origin};
 ghost use Rattle.staat_model.specs.Plans.{IsStuck};
 ghost use Rattle.staat_pairs.specs.Tables.{WasMadeFrom};
-ghost use Rattle.staat_plan.specs.Listings.{AreListed, IsSizedDirection, IsWitnessNumber, key_of, numbered};
+ghost use Rattle.staat_plan.specs.Listings.{AreListed, IsSizedDirection, IsWitnessNumber, key_of, key_numbers};
 
 use crate::numbers::number_of;
 use crate::witnesses::witness_at;
@@ -23,7 +24,7 @@ pub struct Listing {
 
 // adds the numbers of arcs to a key
 fn push_arcs(key: &mut Vec<u32>, side: u32, arcs: &[Arc]) -> Result<(), OutOfMemory>
-    ensures { OnOk result (key.new.items ≡ key.old.items ++ flat_map (numbered side) arcs.now) }
+    ensures { OnOk result (key.new.items ≡ key.old.items ++ flat_map (key_numbers side) arcs.now) }
 {
     for arc in arcs {
         key.extend_from_slice(&[side, arc.a, arc.i, arc.b, arc.j])?;

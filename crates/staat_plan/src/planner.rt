@@ -1,5 +1,6 @@
 // The outcome of an assembly.
-ghost use Rattle.std.specs.Prelude.{◌≡◌, ℕ, ◌<◌, ◌≤◌, ◌++◌, IfOk, MatchResult, [], false, length};
+ghost use Rattle.std.specs.Prelude.{◌≡◌, ℕ, ◌<◌, ◌≤◌, ◌++◌, []};
+ghost use Rattle.std.specs.Prelude.{IfOk, MatchResult, false, length};
 ghost use Rattle.std.specs.FinSet as set;
 ghost use Rattle.std.specs.Option.{option_to_list};
 ghost use Rattle.staat_model.specs.Outcomes.{IsOutcome, finding_of, planned};
@@ -154,8 +155,8 @@ fn outcome_of<F: FacetSource>(
 ///
 /// For a set of parts the step is that of [`part_step`](crate::part_step); the moved side is planned first, then the
 /// rest, and the first set that is stuck is the outcome. There are at most `planes` planes, from 3 to [`MOST_PLANES`];
-/// [`TooManyPlanes`](PlanesRefusal::TooManyPlanes) comes exactly where all parts together have more, with their number.
-/// Plans are not robust as yet.
+/// [`TooManyPlanes`](PlanesRefusal::TooManyPlanes) comes exactly where all parts together have more, with their
+/// number. Plans are not robust as yet.
 pub fn plan<F: FacetSource>(
     alloc: Global,
     source: &F,
@@ -165,7 +166,8 @@ pub fn plan<F: FacetSource>(
     requires least { LEAST_PLANES ≤ options.planes }
     requires most { options.planes ≤ MOST_PLANES }
     requires robust { options.robust ≡ false }
-    ensures outcome { IfOk result (λ o. IsOutcome options.robust sound.now (below (length sound.now)) (finding_of o)) }
+    ensures outcome { IfOk result (λ o.
+        IsOutcome options.robust sound.now (below (length sound.now)) (finding_of o)) }
     ensures right { IfOk result (λ o. Settles sound.now (below (length sound.now)) (finding_of o)) }
     ensures certified { IfOk result (λ o. CanBeCertified sound.now (finding_of o)) }
     ensures sized { IfOk result (λ o. IsSized (finding_of o)) }

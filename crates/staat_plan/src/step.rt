@@ -1,5 +1,6 @@
 // The step of a set of parts.
-ghost use Rattle.std.specs.Prelude.{◌≡◌, ◌≢◌, ℕ, ◌<◌, ◌≤◌, ◌↔◌, List, IfSome, MatchOption, None, false, length};
+ghost use Rattle.std.specs.Prelude.{◌≡◌, ◌≢◌, ℕ, ◌<◌, ◌≤◌, ◌↔◌, List, IfSome};
+ghost use Rattle.std.specs.Prelude.{MatchOption, None, false, length};
 ghost use Rattle.std.specs.FinSet as set;
 ghost use Rattle.staat_vec.specs.Vectors.{IsWithin, origin};
 ghost use Rattle.staat_model.specs.declared.assembly.Part.{Part as PartValue};
@@ -45,8 +46,8 @@ fn crossing_of(table: &PlaneTable, k: u32, m: u32) -> V3
     crossing(table.plane(k), table.plane(m))
 }
 
-// The step along the direction in which two planes cross, if a side moves along it. By the law `opposite_serves` a side
-// moves along the opposite direction exactly then, so that one is not looked at.
+// The step along the direction in which two planes cross, if a side moves along it. By the law `opposite_serves` a
+// side moves along the opposite direction exactly then, so that one is not looked at.
 fn step_across(table: &PlaneTable, k: u32, m: u32) -> Option<Step>
     requires order { k < m }
     requires place { m < length table.now.planes }
@@ -80,8 +81,8 @@ fn step_from(table: &PlaneTable, k: u32) -> Option<Step>
 /// The step of the table's set of parts: the first of the vertices of its planes along which some side of the set is
 /// free of the rest, and the side that moves. None exactly where the set is stuck.
 ///
-/// `w` is the table's set, and has at least two parts. The vertices are taken in the order of the pairs of planes. Of a
-/// vertex and its negative only the first is looked at: the blocking graph at the opposite direction is the reversed
+/// `w` is the table's set, and has at least two parts. The vertices are taken in the order of the pairs of planes. Of
+/// a vertex and its negative only the first is looked at: the blocking graph at the opposite direction is the reversed
 /// graph, and by [`opposite_serves`](crate::laws::opposite_serves) the one serves exactly where the other does. It
 /// takes no memory.
 pub fn part_step(table: &PlaneTable, w: PartSet) -> Option<Step>
@@ -91,7 +92,8 @@ pub fn part_step(table: &PlaneTable, w: PartSet) -> Option<Step>
     ensures size { IfSome result (λ s. IsWithin DIRECTION s.d) }
     ensures step { (parts : List PartValue) → WasMadeFrom parts table.now
         → MatchOption result (HasNoStep false parts w) (λ s. IsStep false parts w (try_vertex s.d) s.moved) }
-    ensures stuck { (parts : List PartValue) → WasMadeFrom parts table.now → (result ≡ None) ↔ IsStuck parts w }
+    ensures stuck { (parts : List PartValue) → WasMadeFrom parts table.now
+        → (result ≡ None) ↔ IsStuck parts w }
 {
     for k in 0..table.len() {
         if let Some(step) = step_from(table, k) {

@@ -7,7 +7,7 @@ ghost use Rattle.staat_model.specs.Plans.{IsStuck};
 ghost use Rattle.staat_graph.specs.Graphs.{AreTrees, HasArc};
 ghost use Rattle.staat_pairs.specs.Tables.{WasMadeFrom};
 ghost use Rattle.staat_planes.specs.Tables.{IsAhead};
-ghost use Rattle.staat_plan.specs.Witnesses.{AreTreesAlong, LeadsAhead};
+ghost use Rattle.staat_plan.specs.Witnesses.{AreTreesAlong, AreEndsAhead};
 
 use crate::arcs::least_arc;
 use staat_graph::{Graph, Trees, trees_of};
@@ -20,7 +20,7 @@ use std::alloc::Global;
 fn arc_between(sound: &Sound, table: &PlaneTable, d: V3, ends: (u32, u32)) -> Arc
     requires made { WasMadeFrom sound.now table.now }
     requires direction { IsWithin DIRECTION d }
-    requires ahead { LeadsAhead table.now d ends }
+    requires ahead { AreEndsAhead table.now d ends }
     ensures ends { outward result ≡ ends }
     ensures least { IsLeastArc sound.now d result }
 {
@@ -40,7 +40,7 @@ fn arcs_between(
 ) -> Result<Vec<Arc>, OutOfMemory>
     requires made { WasMadeFrom sound.now table.now }
     requires direction { IsWithin DIRECTION d }
-    requires ahead { All (LeadsAhead table.now d) pairs.now }
+    requires ahead { All (AreEndsAhead table.now d) pairs.now }
     ensures ends { IfOk result (λ arcs. map outward arcs.items ≡ pairs.now) }
     ensures least { IfOk result (λ arcs. All (IsLeastArc sound.now d) arcs.items) }
 {
@@ -59,8 +59,8 @@ fn trees_at(sound: &Sound, table: &PlaneTable, d: V3) -> Trees
     requires some { d ≢ origin }
     ensures trees { AreTreesAlong sound.now table.now d result }
     ensures few { result.count < MOST_PARTS }
-    ensures outs { All (LeadsAhead table.now d) (take result.count result.outs) }
-    ensures ins { All (LeadsAhead table.now d) (take result.count result.ins) }
+    ensures outs { All (AreEndsAhead table.now d) (take result.count result.outs) }
+    ensures ins { All (AreEndsAhead table.now d) (take result.count result.ins) }
 {
     let w = table.set();
     let _root = w.least();
