@@ -3,6 +3,7 @@ pub mod Patching
 pub mod Changing
 pub mod KindLists
 pub mod WholeLists
+pub mod OneCell
 pub mod PointCells
 pub mod Numbered
 pub mod TableRules

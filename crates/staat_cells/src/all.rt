@@ -17,12 +17,9 @@ use crate::open_incidences::open_incidences;
 use crate::points::{cells_of, own_incidences, points_at};
 use crate::vertices::vertices_of;
 use staat_model::Kind;
-use staat_planes::PlaneTable;
+use staat_planes::{MOST_CELL_PLANES, PlaneTable};
 use staat_vec::{DIRECTION, OutOfMemory, V3};
 use std::alloc::Global;
-
-/// How many planes there may be at most.
-pub const MOST_CELL_PLANES: u32 = 256;
 
 // the points, ascending by signs
 fn points_of(alloc: Global, planes: &[V3], corners: &[V3]) -> Result<Vec<Cell>, OutOfMemory>

@@ -8,12 +8,13 @@ mod compose;
 mod edge_incidences;
 mod graphs;
 mod incidence;
+pub mod laws;
 mod open_incidences;
 mod piece_arcs;
 mod points;
 mod signs;
 mod vertices;
 
-pub use all::{MOST_CELL_PLANES, all_cells};
+pub use all::all_cells;
 pub use cell::{Cell, Cells, Signs};
 pub use graphs::CellGraphs;

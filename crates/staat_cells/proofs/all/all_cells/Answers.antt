@@ -6,7 +6,8 @@ use Rattle.staat_model.specs.Cells.{AreCells, signs_of}
 use Rattle.staat_pairs.specs.Tables.{AreTablePlanes}
 use Rattle.staat_cells.specs.declared.cell.Cell.{Cell}
 use Rattle.staat_cells.specs.Compositions.{entry_of}
-use Rattle.staat_cells.proofs.WholeLists.{cells_small, of_cells, one_cell, representatives}
+use Rattle.staat_cells.proofs.WholeLists.{cells_small, of_cells, representatives}
+use Rattle.staat_cells.proofs.OneCell.{one_cell}
 use Rattle.staat_cells.proofs.all.all_cells.Goals as goal
 
 listed : (slice planes : List V3) (cells result : List Cell) → slice ≡ planes → result ≡ cells → AreCells slice (map entry_of cells)
@@ -26,7 +27,7 @@ pub returns-clause-one : goal.returns-clause-one
 returns-clause-one c = λ d some.
     let planes = c.args.table.now.planes in
     let rules = subst AreTablePlanes c.planes.ensures.is c.planes.ensures.rules in
-    one_cell planes rules d (map entry_of c.from_vec.result)
+    one_cell planes d (map entry_of c.from_vec.result)
     (listed c.planes.result.now planes c.in_ok-cells.cells.items c.from_vec.result c.planes.ensures.is c.from_vec.ensures c.in_ok-cells.ensures)
     some
 
