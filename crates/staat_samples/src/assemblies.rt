@@ -1,5 +1,6 @@
 // Parts and assemblies of pieces.
-ghost use Rattle.std.specs.Prelude.{◌≡◌, ◌≤◌, ◌↔◌, [], All, IfOk, IsTrue, MatchOption, length, map, sum_by};
+ghost use Rattle.std.specs.Prelude.{◌≡◌, ◌≤◌, ◌↔◌, [], All, IfOk, IsTrue, MatchOption};
+ghost use Rattle.std.specs.Prelude.{length, map, sum_by};
 ghost use Rattle.staat_model.specs.Assemblies.{IsAssembly, IsPart};
 ghost use Rattle.staat_model.specs.Pieces.{IsPiece};
 ghost use Rattle.staat_samples.specs.Hulls.{IsUnionAnswer, box_corners, prism_corners};

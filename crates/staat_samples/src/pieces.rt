@@ -40,8 +40,9 @@ fn are_a_piece(points: &[V3]) -> bool
         && is_solid(points)
 }
 
-/// The hull of the points, or none where they are no piece: too few, too many, too far out or all in one plane. A point
-/// may stand there several times. It takes no memory.
+/// The hull of the points, or none where they are no piece: too few, too many, too far out or all in one plane.
+///
+/// A point may stand there several times. It takes no memory.
 pub fn piece_of(points: Vec<V3>) -> Option<Piece>
     ensures { IsHullAnswer points.items result }
 {

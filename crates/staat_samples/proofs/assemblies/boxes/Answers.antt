@@ -12,7 +12,11 @@ returns-in_default c =
 
 pub loop-corner-preserved : goal.loop-corner-preserved
 loop-corner-preserved c =
-    subst (λ hulls. AllZip IsHull (map (λ p. box_corners p.0 p.1) (take (c.loop-corner.corner-index + 1) c.args.corners.now)) hulls)
-    (sym c.in_ok-push.ensures.items)
-    (hulls_more (λ p. box_corners p.0 p.1) c.args.corners.now c.loop-corner.corner-index _ c.loop-corner.pieces.items _
-    c.loop-corner-test.true c.loop-corner.invariant (subst (IsHullAnswer _) c.in-Some.is c.in_ok-piece.ensures))
+    let now = c.loop-corner in
+    let hull = subst (IsHullAnswer _) c.in-Some.is c.in_ok-piece.ensures in
+    let more = hulls_more (λ p. box_corners p.0 p.1)
+    c.args.corners.now now.corner-index _ now.pieces.items _
+    c.loop-corner-test.true now.invariant hull in
+    subst (λ hulls. AllZip IsHull
+    (map (λ p. box_corners p.0 p.1) (take (now.corner-index + 1) c.args.corners.now)) hulls)
+    (sym c.in_ok-push.ensures.items) more

@@ -12,7 +12,9 @@ returns-in_default c =
 
 pub loop-base-preserved : goal.loop-base-preserved
 loop-base-preserved c =
-    subst (λ hulls. AllZip IsHull (map prism_corners (take (c.loop-base.base-index + 1) c.args.bases.now)) hulls)
-    (sym c.in_ok-push.ensures.items)
-    (hulls_more prism_corners c.args.bases.now c.loop-base.base-index _ c.loop-base.pieces.items _
-    c.loop-base-test.true c.loop-base.invariant (subst (IsHullAnswer _) c.in-Some.is c.in_ok-piece.ensures))
+    let now = c.loop-base in
+    let hull = subst (IsHullAnswer _) c.in-Some.is c.in_ok-piece.ensures in
+    let more = hulls_more prism_corners c.args.bases.now now.base-index _ now.pieces.items _
+    c.loop-base-test.true now.invariant hull in
+    subst (λ hulls. AllZip IsHull (map prism_corners (take (now.base-index + 1) c.args.bases.now)) hulls)
+    (sym c.in_ok-push.ensures.items) more
