@@ -1,6 +1,8 @@
 -- What a list of words asks for: a function of the words, by what `clap` states of them.
-use Rattle.std.specs.Prelude.{◌≡◌, ◌≢◌, ◌≤◌, ℕ, Bool, true, false, nat_le, nat_lt, List, length, Option, Some, None}
-use Rattle.std.specs.Prelude.{Result, Ok, Err, IfSome, ◌&&◌, if◌then◌else◌, option_and_then, option_map, unwrap_or}
+use Rattle.std.specs.Prelude.{◌≡◌, ◌≢◌, ◌≤◌, ℕ, Bool, true, false, nat_le, nat_lt, List, length}
+use Rattle.std.specs.Prelude.{Option, Some, None}
+use Rattle.std.specs.Prelude.{Result, Ok, Err, IfSome, ◌&&◌, if◌then◌else◌, option_and_then, option_map}
+use Rattle.std.specs.Prelude.{unwrap_or}
 use Rattle.std.specs.Prelude.{codes, is_some, ⊤}
 use Rattle.std.specs.Option.{option_map_or}
 use Rattle.std.specs.Str.{bytes_eq}
@@ -11,6 +13,7 @@ use Rattle.staat_vec.specs.Vectors.{IsWithin, origin}
 use Rattle.staat_off.specs.declared.raw.TheConstants.{MOST_DIGITS}
 use Rattle.staat_model.specs.declared.limits.TheConstants.{MOST_PARTS}
 use Rattle.staat_model.specs.Lines.{IsVersion}
+use Rattle.staat_drill.specs.declared.products.TheConstants.{MOST_BOXES}
 use Rattle.staat_planes.specs.declared.table.TheConstants.{LEAST_PLANES, MOST_CELL_PLANES, MOST_PLANES}
 use Rattle.staat_number.specs.Numbers.{natural_within}
 use Rattle.staat_words.specs.declared.request.Input.{Input}
@@ -21,8 +24,10 @@ use Rattle.staat_words.specs.declared.request.GraphRequest.{GraphRequest}
 use Rattle.staat_words.specs.declared.request.PlanRequest.{PlanRequest}
 use Rattle.staat_words.specs.declared.request.CellsRequest.{CellsRequest}
 use Rattle.staat_words.specs.declared.request.CheckRequest.{CheckRequest}
+use Rattle.staat_words.specs.declared.request.Product.{Product}
+use Rattle.staat_words.specs.declared.request.Product.TheVariants.{Boxes, Cubes}
 use Rattle.staat_words.specs.declared.request.Request.{Request}
-use Rattle.staat_words.specs.declared.request.Request.TheVariants.{Pair, Look, Graph, Plan, Check, Cells}
+use Rattle.staat_words.specs.declared.request.Request.TheVariants.{Pair, Look, Graph, Plan, Check, Cells, Drill}
 use Rattle.staat_words.specs.declared.request.RequestRefusal.{RequestRefusal}
 use Rattle.staat_words.specs.declared.request.RequestRefusal.TheVariants.{Usage, OutOfMemory}
 use Rattle.staat_words.specs.Spelled.{◌>>=◌, vector_within}
@@ -53,6 +58,10 @@ planes_in most rows = planes_from most (first_of (codes "planes") rows)
 -- whether a flag is given
 abbrev pub is_given : Text → List Row → Bool
 is_given id rows = option_map_or (λ text. bytes_eq text (codes "true")) (first_of id rows) false
+
+-- how many planes there may be: in a robust plan no more than those whose cells are listed
+abbrev pub limit_of : Bool → ℕ → ℕ
+limit_of robust planes = if robust && nat_lt MOST_CELL_PLANES planes then MOST_CELL_PLANES else planes
 
 -- the version of certificates that a text spells
 abbrev pub version_within : Text → Option ℕ
@@ -108,12 +117,16 @@ graph_in rows = do
   along ← vector_in (codes "along") DIRECTION rows
   Some (record { asked = asked; along = along })
 
+abbrev pub plan_request : Asked → ℕ → Bool → Option ℕ → PlanRequest
+plan_request asked planes robust certificate =
+    record { asked = asked; planes = limit_of robust planes; robust = robust; certificate = certificate }
+
 unfoldable pub plan_in : List Row → Option PlanRequest
 plan_in rows = do
   asked ← asked_in rows
   planes ← planes_in MOST_PLANES rows
   certificate ← certificate_in rows
-  Some (record { asked = asked; planes = planes; certificate = certificate })
+  Some (plan_request asked planes (is_given (codes "robust") rows) certificate)
 
 unfoldable pub check_in : List Row → Option CheckRequest
 check_in rows = do
@@ -127,6 +140,24 @@ cells_in rows = do
   planes ← planes_in MOST_CELL_PLANES rows
   Some (record { asked = asked; planes = planes })
 
+-- the number from 1 to the greatest one that a text spells
+abbrev pub count_within : ℕ → Text → Option ℕ
+count_within most text = do
+  n ← natural_within most text
+  if nat_le 1 n then Some n else None
+
+-- the product of this kind and size
+abbrev pub product_of : Text → Text → Option Product
+product_of kind number =
+    if bytes_eq kind (codes "row") then option_map Cubes (count_within MOST_PARTS number)
+    else (if bytes_eq kind (codes "box") then option_map Boxes (count_within MOST_BOXES number) else None)
+
+unfoldable pub drill_in : List Row → Option Product
+drill_in rows = do
+  kind ← first_of (codes "kind") rows
+  number ← first_of (codes "number") rows
+  product_of kind number
+
 -- the request of a subcommand and its matches: a line for each command
 unfoldable pub request_in : Option (Text × List Row) → Option Request
 request_in None = None
@@ -136,7 +167,8 @@ request_in (Some found) =
     else (if bytes_eq found.0 (codes "graph") then option_map Graph (graph_in found.1)
     else (if bytes_eq found.0 (codes "plan") then option_map Plan (plan_in found.1)
     else (if bytes_eq found.0 (codes "check") then option_map Check (check_in found.1)
-    else (if bytes_eq found.0 (codes "cells") then option_map Cells (cells_in found.1) else None)))))
+    else (if bytes_eq found.0 (codes "cells") then option_map Cells (cells_in found.1)
+    else (if bytes_eq found.0 (codes "drill") then option_map Drill (drill_in found.1) else None))))))
 
 -- The request of the words: none is a usage fault.
 unfoldable pub request : List Text → Option Request
@@ -168,11 +200,15 @@ IsGraphRequest request = IsAsked request.asked × IsWithin DIRECTION request.alo
 abbrev pub IsPlanRequest : PlanRequest → Type 0
 IsPlanRequest request =
     IsAsked request.asked × (LEAST_PLANES ≤ request.planes) × (request.planes ≤ MOST_PLANES) ×
-    IfSome request.certificate IsVersion
+    (request.robust ≡ true → request.planes ≤ MOST_CELL_PLANES) × IfSome request.certificate IsVersion
 
 abbrev pub IsCellsRequest : CellsRequest → Type 0
 IsCellsRequest request =
     IsAsked request.asked × (LEAST_PLANES ≤ request.planes) × (request.planes ≤ MOST_CELL_PLANES)
+
+abbrev pub IsProduct : Product → Type 0
+IsProduct (Cubes n) = (1 ≤ n) × (n ≤ MOST_PARTS)
+IsProduct (Boxes n) = (1 ≤ n) × (n ≤ MOST_BOXES)
 
 -- the same of a request: a line for each command
 abbrev pub HasBounds : Request → Type 0
@@ -182,3 +218,4 @@ HasBounds (Graph request) = IsGraphRequest request
 HasBounds (Plan request) = IsPlanRequest request
 HasBounds (Check request) = IsAsked request.asked
 HasBounds (Cells request) = IsCellsRequest request
+HasBounds (Drill product) = IsProduct product

@@ -4,16 +4,18 @@ ghost use Rattle.clap.specs.Words.{all_of, first_of, found_of, rows_of};
 ghost use Rattle.staat_vec.specs.Vectors.{IsWithin, origin};
 ghost use Rattle.staat_model.specs.Lines.{IsVersion};
 ghost use Rattle.staat_planes.specs.declared.table.TheConstants.{LEAST_PLANES};
-ghost use Rattle.staat_words.specs.Requests.{ReadsWords, IsInput, certificate_in, digits_asked, input_in, is_given};
+ghost use Rattle.staat_words.specs.Requests.{ReadsWords, IsInput, IsProduct, certificate_in, count_within};
+ghost use Rattle.staat_words.specs.Requests.{digits_asked, input_in, is_given, limit_of, product_of};
 ghost use Rattle.staat_words.specs.Requests.{planes_in, planes_within, vector_in, version_from, version_within};
 
-use crate::request::{Input, RequestRefusal};
+use crate::request::{Input, Product, RequestRefusal};
 use crate::vector::vector_of;
 use clap::ArgMatches;
+use staat_drill::MOST_BOXES;
 use staat_model::MOST_PARTS;
 use staat_number::natural_of;
 use staat_off::MOST_DIGITS;
-use staat_planes::LEAST_PLANES;
+use staat_planes::{LEAST_PLANES, MOST_CELL_PLANES};
 use staat_vec::{DIRECTION, Name, Names, V3};
 use std::alloc::{AllocError, Global};
 
@@ -26,7 +28,8 @@ pub fn value_of<'a>(matches: &ArgMatches<'a>, id: &str) -> Option<&'a str>
 
 // All values of an argument.
 fn values_of<'m, 'a>(matches: &'m ArgMatches<'a>, id: &str) -> Option<&'m [&'a str]>
-    ensures { option_map (λ s. map (λ v. v.now) s.now) result ≡ all_of id.now (rows_of (found_of matches.entry.now)) }
+    ensures { option_map (λ s. map (λ v. v.now) s.now) result
+        ≡ all_of id.now (rows_of (found_of matches.entry.now)) }
 {
     matches.get_strs(id)
 }
@@ -69,13 +72,24 @@ pub fn planes_of(matches: &ArgMatches<'_>, most: u32) -> Option<u32>
     }
 }
 
-// Whether a flag is given.
-fn is_given(matches: &ArgMatches<'_>, id: &str) -> bool
+/// Whether a flag is given.
+pub fn is_given(matches: &ArgMatches<'_>, id: &str) -> bool
     ensures { result ≡ is_given id.now (rows_of (found_of matches.now)) }
 {
     match value_of(matches, id) {
         Some(text) => text == "true",
         None => false,
+    }
+}
+
+/// How many planes there may be: in a robust plan no more than those whose cells are listed.
+pub fn limit_of(robust: bool, planes: u32) -> u32
+    ensures { result ≡ limit_of robust planes }
+{
+    if robust && planes > MOST_CELL_PLANES {
+        MOST_CELL_PLANES
+    } else {
+        planes
     }
 }
 
@@ -116,6 +130,35 @@ pub fn certificate_of(matches: &ArgMatches<'_>) -> Result<Option<u32>, RequestRe
     match value_of(matches, "format") {
         None => Ok(None),
         Some(_) => Err(RequestRefusal::Usage),
+    }
+}
+
+// The number from 1 to the greatest one that a text spells.
+fn count_within(text: &str, most: u32) -> Option<u32>
+    ensures exact { result ≡ count_within most text.now }
+    ensures least { IfSome result (λ n. 1 ≤ n) }
+    ensures most { IfSome result (λ n. n ≤ most) }
+{
+    let n = natural_of(text, u128::from(most))?;
+    if n < 1 {
+        return None;
+    }
+    Some(n as u32)
+}
+
+/// The product of this kind and size.
+pub fn product_of(kind: &str, number: &str) -> Option<Product>
+    ensures exact { result ≡ product_of kind.now number.now }
+    ensures bounds { IfSome result IsProduct }
+{
+    if kind == "row" {
+        let n = count_within(number, MOST_PARTS)?;
+        Some(Product::Cubes(n))
+    } else if kind == "box" {
+        let n = count_within(number, MOST_BOXES)?;
+        Some(Product::Boxes(n))
+    } else {
+        None
     }
 }
 

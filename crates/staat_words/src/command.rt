@@ -1,7 +1,9 @@
 // The command that `clap` reads the words by: long options alone, files as plain words.
 ghost use Rattle.std.specs.Prelude.{◌≡◌, IfOk, true, false};
 ghost use Rattle.clap.specs.Words.{app_of, rule_of, new_rule, with_rule, with_subcommand};
-ghost use Rattle.staat_words.specs.Command.{bare_app, cells_app, check_app, command, flag_rule, graph_app, list_rule, look_app, option_rule, pair_app, pair_options_app, plan_app, plan_options_app, required, is_local};
+ghost use Rattle.staat_words.specs.Command.{bare_app, cells_app, check_app, command, drill_app, flag_rule, graph_app};
+ghost use Rattle.staat_words.specs.Command.{list_rule, look_app, option_rule, pair_app, pair_options_app, plan_app};
+ghost use Rattle.staat_words.specs.Command.{plan_options_app, required, is_local};
 
 use clap::{Arg, ArgAction, Command};
 use std::alloc::{AllocError, Global};
@@ -107,6 +109,7 @@ fn plan_command<'a>(alloc: Global) -> Result<Command<'a>, AllocError>
     ensures local { IfOk result (λ c. is_local c ≡ true) }
 {
     let plan = plan_options(alloc)?;
+    let plan = with_arg(plan, flag(alloc, "robust"))?;
     let plan = with_arg(plan, flag(alloc, "cert"))?;
     let plan = with_arg(plan, option(alloc, "format"))?;
     with_arg(plan, list_of_words(alloc, "files"))
@@ -132,6 +135,15 @@ fn cells_command<'a>(alloc: Global) -> Result<Command<'a>, AllocError>
     let cells = with_arg(cells, option(alloc, "manifest"))?;
     let cells = with_arg(cells, option(alloc, "planes"))?;
     with_arg(cells, list_of_words(alloc, "files"))
+}
+
+fn drill_command<'a>(alloc: Global) -> Result<Command<'a>, AllocError>
+    ensures app { IfOk result (λ c. app_of c ≡ drill_app) }
+    ensures local { IfOk result (λ c. is_local c ≡ true) }
+{
+    let drill = Command::new(alloc, "drill");
+    let drill = with_arg(drill, required_word(alloc, "kind"))?;
+    with_arg(drill, required_word(alloc, "number"))
 }
 
 fn with_command<'a>(command: Command<'a>, inner: Command<'a>) -> Result<Command<'a>, AllocError>
@@ -161,5 +173,6 @@ pub fn staat_command<'a>(alloc: Global) -> Result<Command<'a>, AllocError>
     let staat = with_command(staat, graph_command(alloc)?)?;
     let staat = with_command(staat, plan_command(alloc)?)?;
     let staat = with_command(staat, check_command(alloc)?)?;
-    with_command(staat, cells_command(alloc)?)
+    let staat = with_command(staat, cells_command(alloc)?)?;
+    with_command(staat, drill_command(alloc)?)
 }

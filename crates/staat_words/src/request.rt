@@ -45,8 +45,10 @@ pub struct GraphRequest {
 #[derive(Drop)]
 pub struct PlanRequest {
     pub asked: Asked,
-    /// How many planes all parts may have, 3 to `MOST_PLANES`.
+    /// How many planes all parts may have, 3 to `MOST_PLANES`; where the plan is robust, at most `MOST_CELL_PLANES`.
     pub planes: u32,
+    /// Whether steps lead into open cells where they can.
+    pub robust: bool,
     /// The version, 1 or 2, of the certificate that is asked for in the place of the steps.
     pub certificate: Option<u32>,
 }
@@ -67,6 +69,15 @@ pub struct CheckRequest {
     pub certificate: Name,
 }
 
+/// A product that the program makes itself.
+#[derive(Clone, Copy, Drop)]
+pub enum Product {
+    /// So many cubes in a row, 1 to 32.
+    Cubes(u32),
+    /// A cube in so many boxes, each around the one before, 1 to 6.
+    Boxes(u32),
+}
+
 /// A command with its values.
 #[derive(Drop)]
 pub enum Request {
@@ -77,6 +88,8 @@ pub enum Request {
     Plan(PlanRequest),
     Check(CheckRequest),
     Cells(CellsRequest),
+    /// The program tried on a product of its own.
+    Drill(Product),
 }
 
 /// Why words give no request.

@@ -1,5 +1,5 @@
 // Worked examples of words: which are taken, and what they ask for.
-use crate::{Asked, Input, Request, RequestRefusal, request_of};
+use crate::{Asked, Input, Product, Request, RequestRefusal, request_of};
 use staat_vec::V3;
 use std::alloc::{AllocError, Global};
 use std::test::Fail;
@@ -15,7 +15,7 @@ fn asked(alloc: Global, words: &[&str]) -> Result<Result<Request, RequestRefusal
 #[test]
 fn words_are_taken_or_a_usage_fault(rt: HostRuntime) -> Result<(), Fail> {
     let alloc = rt.alloc();
-    let table: [(&[&str], bool); 67] = [
+    let table: [(&[&str], bool); 78] = [
         (&["pair", "a", "b", "--along=0,0,1", "--wall=1,0,0"], true),
         (&["pair", "--wall=1,0,0", "a", "b", "--along=0,0,1"], true),
         (
@@ -124,7 +124,9 @@ fn words_are_taken_or_a_usage_fault(rt: HostRuntime) -> Result<(), Fail> {
         (&["plan", "a", "--cert", "--format=3"], false),
         (&["plan", "a", "--cert", "--cert"], false),
         (&["plan", "a", "--cert=true"], false),
-        (&["plan", "a", "--robust"], false),
+        (&["plan", "a", "--robust"], true),
+        (&["plan", "--robust", "a", "--planes=1024", "--cert"], true),
+        (&["plan", "a", "--robust", "--robust"], false),
         (&["plan", "a", "--along=0,0,1"], false),
         (&["plan"], false),
         (&["check", "c", "a", "b"], true),
@@ -138,6 +140,15 @@ fn words_are_taken_or_a_usage_fault(rt: HostRuntime) -> Result<(), Fail> {
         (&["cells", "--manifest=m", "--planes=3"], true),
         (&["cells", "a", "--planes=257"], false),
         (&["cells", "a", "--planes=2"], false),
+        (&["drill", "row", "1"], true),
+        (&["drill", "row", "32"], true),
+        (&["drill", "row", "33"], false),
+        (&["drill", "row", "0"], false),
+        (&["drill", "box", "6"], true),
+        (&["drill", "box", "7"], false),
+        (&["drill", "box", "01"], false),
+        (&["drill", "cube", "1"], false),
+        (&["drill", "row"], false),
         (&["help"], false),
         (&[], false),
     ];
@@ -202,6 +213,9 @@ fn shown(alloc: Global, request: &Request) -> Result<String, AllocError> {
         Request::Plan(request) => {
             let planes = request.planes;
             let asked = source(alloc, &request.asked)?;
+            if request.robust {
+                return format!(in alloc; "{asked}, {planes} planes, robust");
+            }
             match request.certificate {
                 None => format!(in alloc; "{asked}, {planes} planes"),
                 Some(version) => format!(in alloc; "{asked}, {planes} planes, version {version}"),
@@ -212,6 +226,8 @@ fn shown(alloc: Global, request: &Request) -> Result<String, AllocError> {
             let asked = source(alloc, &request.asked)?;
             format!(in alloc; "{asked} by {certificate}")
         }
+        Request::Drill(Product::Cubes(n)) => format!(in alloc; "{n} cubes"),
+        Request::Drill(Product::Boxes(n)) => format!(in alloc; "{n} boxes"),
         Request::Cells(request) => {
             let planes = request.planes;
             let asked = source(alloc, &request.asked)?;
@@ -223,7 +239,7 @@ fn shown(alloc: Global, request: &Request) -> Result<String, AllocError> {
 #[test]
 fn a_request_has_the_values_of_its_words(rt: HostRuntime) -> Result<(), Fail> {
     let alloc = rt.alloc();
-    let table: [(&[&str], &str); 12] = [
+    let table: [(&[&str], &str); 16] = [
         (&["check", "c", "--digits=3", "a", "b"], "3: 2 files by c"),
         (
             &[
@@ -256,6 +272,13 @@ fn a_request_has_the_values_of_its_words(rt: HostRuntime) -> Result<(), Fail> {
         ),
         (&["cells", "--digits=1", "a"], "1: 1 files, 256 planes"),
         (&["cells", "--planes=7", "a"], "0: 1 files, 7 planes"),
+        (&["plan", "--robust", "a"], "0: 1 files, 256 planes, robust"),
+        (
+            &["plan", "--planes=7", "a", "--robust"],
+            "0: 1 files, 7 planes, robust",
+        ),
+        (&["drill", "row", "3"], "3 cubes"),
+        (&["drill", "box", "4"], "4 boxes"),
         (
             &["plan", "--cert", "a"],
             "0: 1 files, 1024 planes, version 2",

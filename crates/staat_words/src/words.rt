@@ -3,15 +3,16 @@ ghost use Rattle.std.specs.Prelude.{◌≡◌, map, string_bytes, IfOk, IsErrOf,
 ghost use Rattle.clap.specs.Words.{found_of, rows_of, subcommand_rows_of};
 ghost use Rattle.staat_words.specs.Command.{is_taken, matches as matches_at};
 ghost use Rattle.staat_words.specs.Requests.{ReadsWords, HasBounds, IsAsked, IsCellsRequest, IsGraphRequest};
-ghost use Rattle.staat_words.specs.Requests.{IsPairRequest, IsPlanRequest, asked_in, cells_in, check_in, graph_in};
-ghost use Rattle.staat_words.specs.Requests.{pair_in, plan_in, request, request_in};
+ghost use Rattle.staat_words.specs.Requests.{IsPairRequest, IsPlanRequest, IsProduct, asked_in, cells_in, check_in};
+ghost use Rattle.staat_words.specs.Requests.{drill_in, graph_in, pair_in, plan_in, request, request_in};
 
 use crate::arguments::{
-    certificate_of, digits_of, input_of, name_of, planes_of, value_of, vector_in,
+    certificate_of, digits_of, input_of, is_given, limit_of, name_of, planes_of, product_of,
+    value_of, vector_in,
 };
 use crate::command::staat_command;
 use crate::request::{
-    Asked, CellsRequest, CheckRequest, GraphRequest, PairRequest, PlanRequest, Request,
+    Asked, CellsRequest, CheckRequest, GraphRequest, PairRequest, PlanRequest, Product, Request,
     RequestRefusal,
 };
 use clap::ArgMatches;
@@ -67,9 +68,11 @@ fn plan_of(alloc: Global, matches: &ArgMatches<'_>) -> Result<PlanRequest, Reque
     let asked = asked_of(alloc, matches)?;
     let planes = planes_of(matches, MOST_PLANES).ok_or(RequestRefusal::Usage)?;
     let certificate = certificate_of(matches)?;
+    let robust = is_given(matches, "robust");
     Ok(PlanRequest {
         asked,
-        planes,
+        planes: limit_of(robust, planes),
+        robust,
         certificate,
     })
 }
@@ -93,6 +96,16 @@ fn cells_of(alloc: Global, matches: &ArgMatches<'_>) -> Result<CellsRequest, Req
     let asked = asked_of(alloc, matches)?;
     let planes = planes_of(matches, MOST_CELL_PLANES).ok_or(RequestRefusal::Usage)?;
     Ok(CellsRequest { asked, planes })
+}
+
+#[tactic(auto, unfolding(crate::specs::Requests::drill_in))]
+fn drill_of(matches: &ArgMatches<'_>) -> Result<Product, RequestRefusal>
+    ensures answers { ReadsWords (drill_in (rows_of (found_of matches.now))) result }
+    ensures bounds { IfOk result IsProduct }
+{
+    let kind = value_of(matches, "kind").ok_or(RequestRefusal::Usage)?;
+    let number = value_of(matches, "number").ok_or(RequestRefusal::Usage)?;
+    product_of(kind, number).ok_or(RequestRefusal::Usage)
 }
 
 // The matches of words that `clap` takes.
@@ -131,6 +144,8 @@ fn request_from(alloc: Global, matches: &ArgMatches<'_>) -> Result<Request, Requ
                 Ok(Request::Check(check_of(alloc, inner)?))
             } else if name == "cells" {
                 Ok(Request::Cells(cells_of(alloc, inner)?))
+            } else if name == "drill" {
+                Ok(Request::Drill(drill_of(inner)?))
             } else {
                 Err(RequestRefusal::Usage)
             }

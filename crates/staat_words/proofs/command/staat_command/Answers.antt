@@ -13,5 +13,6 @@ returns c =
     let graph = c.in_ok-staat-3.ensures ∙ ap₂ (λ a b. with_subcommand a b.top) look c.in_ok-graph_command.ensures.app in
     let plan = c.in_ok-staat-4.ensures ∙ ap₂ (λ a b. with_subcommand a b.top) graph c.in_ok-plan_command.ensures.app in
     let check = c.in_ok-staat-5.ensures ∙ ap₂ (λ a b. with_subcommand a b.top) plan c.in_ok-check_command.ensures.app in
-    let cells = ap₂ (λ a b. with_subcommand a b.top) check c.in_ok-cells_command.ensures.app in
-    subst (λ app. IfOk c.with_command-6.result (λ r. app_of r ≡ app)) cells c.with_command-6.ensures
+    let cells = c.in_ok-staat-6.ensures ∙ ap₂ (λ a b. with_subcommand a b.top) check c.in_ok-cells_command.ensures.app in
+    let drill = ap₂ (λ a b. with_subcommand a b.top) cells c.in_ok-drill_command.ensures.app in
+    subst (λ app. IfOk c.with_command-7.result (λ r. app_of r ≡ app)) drill c.with_command-7.ensures

@@ -1,0 +1,9 @@
+//! Products that the program makes itself, to be tried on.
+#![tactic(auto)]
+
+mod products;
+
+pub use products::{MOST_BOXES, nested_boxes, row_of_cubes};
+
+#[cfg(test)]
+mod tests;
