@@ -1,5 +1,6 @@
 -- Vectors as words spell them: three numbers, parted by single commas, not all 0.
-use Rattle.std.specs.Prelude.{◌==◌, ◌&&◌, ℕ, pos, Bool, nat_lt, List, length, Option, Some, None, if◌then◌else◌}
+use Rattle.std.specs.Prelude.{◌==◌, ◌&&◌, ℕ, pos, Bool, nat_lt, List, length, Option, Some, None}
+use Rattle.std.specs.Prelude.{if◌then◌else◌}
 use Rattle.std.specs.Prelude.{option_and_then}
 use Rattle.std.specs.List.{before_first, after_first, position_or_len}
 use Rattle.std.specs.Ordering.{int_eq}

@@ -26,7 +26,8 @@ pub fn value_of<'a>(matches: &ArgMatches<'a>, id: &str) -> Option<&'a str>
 
 // All values of an argument.
 fn values_of<'m, 'a>(matches: &'m ArgMatches<'a>, id: &str) -> Option<&'m [&'a str]>
-    ensures { option_map (λ s. map (λ v. v.now) s.now) result ≡ all_of id.now (rows_of (found_of matches.entry.now)) }
+    ensures { option_map (λ s. map (λ v. v.now) s.now) result
+        ≡ all_of id.now (rows_of (found_of matches.entry.now)) }
 {
     matches.get_strs(id)
 }

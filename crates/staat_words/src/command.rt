@@ -1,7 +1,9 @@
 // The command that `clap` reads the words by: long options alone, files as plain words.
 ghost use Rattle.std.specs.Prelude.{◌≡◌, IfOk, true, false};
 ghost use Rattle.clap.specs.Words.{app_of, rule_of, new_rule, with_rule, with_subcommand};
-ghost use Rattle.staat_words.specs.Command.{bare_app, cells_app, check_app, command, flag_rule, graph_app, list_rule, look_app, option_rule, pair_app, pair_options_app, plan_app, plan_options_app, required, is_local};
+ghost use Rattle.staat_words.specs.Command.{bare_app, cells_app, check_app, command, flag_rule, graph_app, list_rule};
+ghost use Rattle.staat_words.specs.Command.{look_app, option_rule, pair_app, pair_options_app, plan_app};
+ghost use Rattle.staat_words.specs.Command.{plan_options_app, required, is_local};
 
 use clap::{Arg, ArgAction, Command};
 use std::alloc::{AllocError, Global};
