@@ -15,7 +15,7 @@ use Rattle.staat_model.specs.Meeting.{AreWeights, Overlap, mix}
 use Rattle.staat_model.specs.Pieces.{IsPiece}
 use Rattle.staat_model.proofs.Examples.{by_test}
 use Rattle.staat_model.proofs.PieceFacets.{overlap_by_facets_lemma}
-use Rattle.staat_asm.proofs.Soundness.{still}
+use Rattle.staat_asm.proofs.SoundLemmas.{still}
 
 abbrev keeps_within : ℕ → V3 → Bool
 keeps_within bound p = nat_le (unsigned_abs p.x) bound && (nat_le (unsigned_abs p.y) bound && nat_le (unsigned_abs p.z) bound)

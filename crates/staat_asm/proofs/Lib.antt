@@ -1,4 +1,4 @@
-pub mod Searching
-pub mod Soundness
+pub mod SearchLemmas
+pub mod SoundLemmas
 pub mod Cubes
 pub mod PlacingLemmas

@@ -12,5 +12,6 @@ pub fn sound_by_order()
 
 /// There is one first overlap.
 pub fn one_first_overlap()
-    ensures { (parts : List Parted) (one other : Pair) → IsFirstOverlap parts one → IsFirstOverlap parts other → one ≡ other }
+    ensures { (parts : List Parted) (one other : Pair) →
+        IsFirstOverlap parts one → IsFirstOverlap parts other → one ≡ other }
 {}

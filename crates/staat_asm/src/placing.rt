@@ -78,9 +78,9 @@ fn shift(mut points: Vec<V3>, at: V3) -> Vec<V3>
 
 /// The piece moved by `at`: each of its points plus `at`, in the same order.
 ///
-/// The components of `at` are at most [`POINT`] in absolute value. [`PlacedFar`](PlaceRefusal::PlacedFar) comes exactly
-/// where a component of a moved point exceeds it. The piece is consumed, also by a refusal; its points are moved where
-/// they stand, so that no memory is taken.
+/// The components of `at` are at most [`POINT`] in absolute value. [`PlacedFar`](PlaceRefusal::PlacedFar) comes
+/// exactly where a component of a moved point exceeds it. The piece is consumed, also by a refusal; its points are
+/// moved where they stand, so that no memory is taken.
 pub fn place(_alloc: Global, p: Piece, at: V3) -> Result<Piece, PlaceRefusal>
     requires { IsWithin POINT at }
     ensures { MatchResult result (IsPlaced at p) (IsPlaceRefusal at p) }

@@ -12,12 +12,13 @@ use std::alloc::Global;
 /// The assembly, where no pieces of different parts overlap. Otherwise the answer names the first two that do.
 ///
 /// Pieces of one part may overlap, and pieces that only touch do not. The source is asked once at most for each two
-/// pieces of different parts, and not at all where a wall across an axis keeps them apart; the search ends at the first
-/// two that overlap. The assembly is consumed, also by a refusal.
+/// pieces of different parts, and not at all where a wall across an axis keeps them apart; the search ends at the
+/// first two that overlap. The assembly is consumed, also by a refusal.
 pub fn build<F: FacetSource>(alloc: Global, source: &F, a: Assembly) -> Result<Sound, AsmRefusal>
     ensures same { IfOk result (λ sound. sound ≡ a) }
     ensures sound { IfOk result (λ sound. IsSound sound) }
-    ensures overlap { (p i q j : ℕ) → result ≡ Err (AsmRefusal.Overlap p i q j) → IsFirstOverlap a (record { a = p; i = i; b = q; j = j }) }
+    ensures overlap { (p i q j : ℕ) → result ≡ Err (AsmRefusal.Overlap p i q j) →
+        IsFirstOverlap a (record { a = p; i = i; b = q; j = j }) }
 {
     search(alloc, source, &a)?;
     Ok(Sound::seal(a))

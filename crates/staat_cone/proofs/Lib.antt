@@ -1,8 +1,8 @@
-pub mod Ends
-pub mod Adding
+pub mod WallLemmas
+pub mod PairLists
 pub mod PairLemmas
-pub mod Sizes
-pub mod Fewer
-pub mod Growing
+pub mod SourceSizes
+pub mod LawLemmas
+pub mod FewLemmas
 pub mod Sources
 pub mod AxisWallLemmas

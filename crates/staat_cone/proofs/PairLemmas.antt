@@ -15,7 +15,7 @@ use Rattle.staat_model.proofs.Members.{All-from_members}
 use Rattle.staat_model.proofs.CornerLemmas.{above_primitive, dot_multiple}
 use Rattle.staat_model.proofs.FacetLemmas.{across_crosses, swap_zero}
 use Rattle.staat_cone.specs.Pairs.{Adds, FromSome, IsThrough}
-use Rattle.staat_cone.proofs.Adding.{Adds-none, Adds-one, Adds-then, take_more}
+use Rattle.staat_cone.proofs.PairLists.{Adds-none, Adds-one, Adds-then, take_more}
 
 above_multiple : (vs : List V3) (f n : V3) → IsPrimitiveOf f n → IsAbove n vs → IsAbove f vs
 above_multiple vs f n p up =
@@ -59,9 +59,6 @@ through_added vs xs ys zs g h f e some a b =
     of_second : (n : V3) → n ≡ primitive (cross h g) → IsPrimitiveOf (negative f) n
     of_second n i = subst (λ c. IsPrimitiveOf c n) (sym back) (subst (IsPrimitiveOf (cross h g)) (sym i) (primitive-is (cross h g) (λ z. apart (swap_zero g h z))))
 
-pub through_not_added : (vs xs : List V3) (g h f : V3) → f ≡ cross g h → ((f ≢ origin) → ⊥) → Adds (IsThrough vs g h) xs xs
-through_not_added vs xs g h f e none = Adds-none (IsThrough vs g h) xs (λ n t. none (λ z. t.independent (sym e ∙ z)))
-
 -- n is at right angles to v and to one of xs, which are not parallel
 abbrev pub IsAcrossOld : List V3 → V3 → V3 → Type 0
 IsAcrossOld xs v n = (g : V3) × Contains xs g × (cross g v ≢ origin) × (dot g n ≡ pos 0) × (dot v n ≡ pos 0)
@@ -75,9 +72,6 @@ across_grown xs v n t = go (Contains-push_cases xs v t.u t.u_in) (Contains-push_
     go (inl i) (inr e) = inr (t.u, i, (λ z. t.independent (ap (cross t.u) (sym e) ∙ z)), t.u_on, ap (λ w. dot w n) e ∙ t.v_on)
     go (inr e) (inl j) = inr (t.v, j, (λ z. t.independent (ap (λ w. cross w t.v) (sym e) ∙ swap_zero v t.v z)), t.v_on, ap (λ w. dot w n) e ∙ t.u_on)
     go (inr e) (inr f) = absurd (t.independent (ap (λ w. cross w t.v) (sym e) ∙ ap (cross v) (sym f) ∙ cross_self v))
-
-pub across_pushed : (xs : List V3) (v n : V3) → IsAcrossTwo xs n → IsAcrossTwo (xs ++ v ∷ []) n
-across_pushed xs v n t = record { u = t.u; v = t.v; u_in = Contains-append_left xs (v ∷ []) t.u t.u_in; v_in = Contains-append_left xs (v ∷ []) t.v t.v_in; independent = t.independent; u_on = t.u_on; v_on = t.v_on }
 
 -- where a list grows by v, a facet is an old one or goes through v
 pub facet_grown : (few : List V3) (v n : V3) → IsConeFacet (few ++ v ∷ []) n → IsConeFacet few n ⊎ FromSome (λ g. IsThrough few g v) few n

@@ -14,9 +14,9 @@ use Rattle.staat_model.proofs.Members.{here, All-from_members}
 use Rattle.staat_model.proofs.PieceFacets.{AreDifferences, differences_are, from_cone_facet, to_cone_facet, overlap_by_facets_lemma}
 use Rattle.staat_cone.specs.Few.{IsGrown}
 use Rattle.staat_cone.specs.Pairs.{Adds, FromSome}
-use Rattle.staat_cone.proofs.Fewer.{few_facets_lemma}
-use Rattle.staat_cone.proofs.Growing.{grown_enough}
-use Rattle.staat_cone.proofs.Sizes.{difference_within, facet_within}
+use Rattle.staat_cone.proofs.LawLemmas.{few_facets_lemma}
+use Rattle.staat_cone.proofs.FewLemmas.{grown_enough}
+use Rattle.staat_cone.proofs.SourceSizes.{difference_within, facet_within}
 
 -- the facets found, in order, where none is untested
 pub listed_by_few : (p q few found list : List V3) → IsGrown p q few [] found → IsSpanning few → Lists vector_cmp (Contains found) list → Lists vector_cmp (IsFacet p q) list

@@ -1,5 +1,6 @@
 // The facets of two pieces, from few of the differences: a list that grows by those that lie farthest behind a facet.
-ghost use Rattle.std.specs.Prelude.{◌≡◌, ◌++◌, ◌∷◌, [], List, All, Contains, IsTrue, OnOk, IfOk, IfSome, IfNone};
+ghost use Rattle.std.specs.Prelude.{◌≡◌, ◌++◌, ◌∷◌, [], List, All, Contains, IsTrue, OnOk, IfOk};
+ghost use Rattle.std.specs.Prelude.{IfSome, IfNone};
 ghost use Rattle.staat_vec.specs.declared.vector.V3.{V3 as Vector};
 ghost use Rattle.staat_vec.specs.Vectors.{IsWithin, vector_cmp};
 ghost use Rattle.staat_vec.specs.Lists.{Lists};
@@ -47,7 +48,9 @@ impl Few {
         requires members { All (IsWithin DIFF) self.old.members.items }
         requires vector { IsWithin DIFF v }
         ensures members { OnOk result (self.new.members.items ≡ self.old.members.items ++ v ∷ []) }
-        ensures untested { OnOk result (Adds (FromSome (λ g. IsThrough self.old.members.items g v) self.old.members.items) self.old.untested.items self.new.untested.items) }
+        ensures untested { OnOk result (Adds
+            (FromSome (λ g. IsThrough self.old.members.items g v) self.old.members.items)
+            self.old.untested.items self.new.untested.items) }
         ensures found { OnOk result (self.new.found.items ≡ self.old.found.items) }
     {
         let members = self.members.as_slice();
@@ -76,8 +79,10 @@ fn violator(n: V3, p: &Piece, q: &Piece) -> Option<V3>
 // behind it, it is dropped.
 fn settle(few: &mut Few, n: V3, p: &Piece, q: &Piece) -> Result<(), OutOfMemory>
     requires { IsGrown p.now q.now few.old.members.items (few.old.untested.items ++ n ∷ []) few.old.found.items }
-    ensures grown { OnOk result (IsGrown p.now q.now few.new.members.items few.new.untested.items few.new.found.items) }
-    ensures kept { OnOk result ((v : Vector) → Contains few.old.members.items v → Contains few.new.members.items v) }
+    ensures grown { OnOk result
+        (IsGrown p.now q.now few.new.members.items few.new.untested.items few.new.found.items) }
+    ensures kept { OnOk result
+        ((v : Vector) → Contains few.old.members.items v → Contains few.new.members.items v) }
 {
     if !is_above(n, few.members.as_slice()) {
         return Ok(());
@@ -91,7 +96,8 @@ fn settle(few: &mut Few, n: V3, p: &Piece, q: &Piece) -> Result<(), OutOfMemory>
 
 // three of the differences, if such are found that span space
 fn start(alloc: Global, p: &Piece, q: &Piece) -> Result<Option<Few>, OutOfMemory>
-    ensures grown { IfOk result (λ s. IfSome s (λ few. IsGrown p.now q.now few.members.items few.untested.items few.found.items)) }
+    ensures grown { IfOk result (λ s. IfSome s
+        (λ few. IsGrown p.now q.now few.members.items few.untested.items few.found.items)) }
     ensures spanning { IfOk result (λ s. IfSome s (λ few. IsSpanning few.members.items)) }
 {
     let mut few = Few::new(alloc);

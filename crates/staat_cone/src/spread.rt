@@ -1,5 +1,6 @@
 // The differences of the points of two pieces.
-ghost use Rattle.std.specs.Prelude.{◌≡◌, ◌≢◌, ◌≤◌, ◌↔◌, pos, length, List, All, Contains, IsTrue, OnOk, IfOk, IfSome};
+ghost use Rattle.std.specs.Prelude.{◌≡◌, ◌≢◌, ◌≤◌, ◌↔◌, pos, length, List, All, Contains};
+ghost use Rattle.std.specs.Prelude.{IsTrue, OnOk, IfOk, IfSome};
 ghost use Rattle.staat_vec.specs.declared.vector.V3.{V3 as Vector};
 ghost use Rattle.staat_vec.specs.Vectors.{IsWithin, det, minus};
 ghost use Rattle.staat_model.specs.Facets.{IsDifference};
@@ -111,7 +112,8 @@ fn first_off(a: V3, points: &[V3], u: V3, w: V3) -> Option<V3>
 
 /// Three of the differences of q and p that span space, if such are found. They lead from one point of p.
 pub fn three_steps(p: &Piece, q: &Piece) -> Option<(V3, V3, V3)>
-    ensures steps { IfSome result (λ s. IsDifferenceStep p.now q.now s.0 × IsDifferenceStep p.now q.now s.1 × IsDifferenceStep p.now q.now s.2) }
+    ensures steps { IfSome result (λ s. IsDifferenceStep p.now q.now s.0
+        × IsDifferenceStep p.now q.now s.1 × IsDifferenceStep p.now q.now s.2) }
     ensures spanning { IfSome result (λ s. det s.2 s.0 s.1 ≢ pos 0) }
 {
     let a = points_of(p)[0];

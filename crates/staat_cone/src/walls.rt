@@ -1,5 +1,6 @@
 // Walls between two pieces, and whether a direction leads ahead of all of them.
-ghost use Rattle.std.specs.Prelude.{◌≡◌, ◌≢◌, ◌↔◌, ◌⊎◌, ◌≤◌, ◌≤ℤ◌, ◌<ℤ◌, pos, List, length, Contains, All, IsTrue};
+ghost use Rattle.std.specs.Prelude.{◌≡◌, ◌≢◌, ◌↔◌, ◌⊎◌, ◌≤◌, ◌≤ℤ◌, ◌<ℤ◌};
+ghost use Rattle.std.specs.Prelude.{pos, List, length, Contains, All, IsTrue};
 ghost use Rattle.staat_vec.specs.declared.vector.V3.{V3 as Vector};
 ghost use Rattle.staat_vec.specs.Vectors.{IsWithin, dot, origin};
 ghost use Rattle.staat_model.specs.Facets.{IsFacet};
@@ -8,9 +9,7 @@ ghost use Rattle.staat_model.specs.Pieces.{IsPiece};
 ghost use Rattle.staat_model.specs.Walls.{IsBeyond};
 
 use staat_model::Piece;
-use staat_vec::{DIRECTION, NORMAL, POINT, V3, dot};
-
-const ORIGIN: V3 = V3 { x: 0, y: 0, z: 0 };
+use staat_vec::{DIRECTION, NORMAL, ORIGIN, POINT, V3, dot};
 
 /// Whether v is a wall's normal: any vector but zero.
 pub fn is_wall(v: V3) -> bool
@@ -113,8 +112,8 @@ fn is_beyond(n: V3, p: &Piece, q: &Piece) -> bool
     !is_nearer(least, most)
 }
 
-/// Whether `n` is the normal of a wall between the pieces: not zero, and every point of `q` is as far along it as every
-/// point of `p`, or farther.
+/// Whether `n` is the normal of a wall between the pieces: not zero, and every point of `q` is as far along it as
+/// every point of `p`, or farther.
 ///
 /// The components of `n` are at most [`NORMAL`] in absolute value. The time is linear in the number of points.
 pub fn separates(n: V3, p: &Piece, q: &Piece) -> bool
@@ -142,7 +141,8 @@ pub fn blocks(facets: &[V3], d: V3) -> bool
     requires normals { All (IsWithin NORMAL) facets.now }
     requires direction { IsWithin DIRECTION d }
     ensures ahead { IsTrue result ↔ All (λ n. pos 0 <ℤ dot n d) facets.now }
-    ensures meets { (p q : List Vector) → IsPiece p → IsPiece q → ((n : Vector) → Contains facets.now n ↔ IsFacet p q n) → IsTrue result ↔ Meets p q d }
+    ensures meets { (p q : List Vector) → IsPiece p → IsPiece q →
+        ((n : Vector) → Contains facets.now n ↔ IsFacet p q n) → IsTrue result ↔ Meets p q d }
 {
     leads_ahead(facets, d)
 }

@@ -3,19 +3,16 @@ use Rattle.std.specs.Prelude.{◌++◌, ◌∷◌, [], ℕ, List, codes, decimal
 use Rattle.staat_fault.specs.declared.fault.Fault.{Fault}
 use Rattle.staat_fault.specs.declared.fault.Fault.TheVariants as fault
 
-abbrev pub Text : Type 0
-Text = List ℕ
-
 -- `staat: BODY` and LF
-abbrev pub whole : Text → Text
+abbrev pub whole : List ℕ → List ℕ
 whole body = codes "staat: " ++ (body ++ 10 ∷ [])
 
 -- about a file
-abbrev pub of_file : Text → Text → Text
+abbrev pub of_file : List ℕ → List ℕ → List ℕ
 of_file name body = name ++ (codes ": " ++ body)
 
 -- what is said of the fault
-unfoldable pub body_of : Fault → Text
+unfoldable pub body_of : Fault → List ℕ
 body_of fault.Usage = codes "usage"
 body_of (fault.ReadFault name) = codes "cannot read " ++ name
 body_of (fault.TooLong name) = name ++ codes " is too long"
@@ -53,7 +50,7 @@ body_of fault.WriteFault = codes "write fault"
 body_of fault.OutOfMemory = codes "out of memory"
 
 -- the line that says the fault
-unfoldable pub line_of : Fault → Text
+unfoldable pub line_of : Fault → List ℕ
 line_of f = whole (body_of f)
 
 -- the status that the program ends with

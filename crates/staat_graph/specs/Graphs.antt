@@ -1,5 +1,6 @@
 -- Graphs whose nodes are part numbers: walks, the groups of parts that reach each other, and trees.
-use Rattle.std.specs.Prelude.{◌≡◌, ℕ, ◌+◌, ◌<◌, ◌≤◌, ◌↔◌, List, [], ◌∷◌, Contains, map, take, slice_index}
+use Rattle.std.specs.Prelude.{◌≡◌, ℕ, ◌+◌, ◌<◌, ◌≤◌, ◌↔◌, List, [], ◌∷◌, Contains}
+use Rattle.std.specs.Prelude.{map, take, slice_index}
 use Rattle.std.specs.Int.{bit_at}
 use Rattle.std.specs.FinSet as set
 use Rattle.staat_model.specs.declared.set.PartSet.{PartSet}
@@ -47,7 +48,8 @@ pub record IsGroup (R : ℕ → ℕ → Type 0) (w s : PartSet) : Type 0 where
 -- the least part of each set comes before those of the later ones
 abbrev pub InOrder : List PartSet → Type 0
 InOrder [] = Unit {0}
-InOrder (s ∷ rest) = ((t : PartSet) (p q : ℕ) → Contains rest t → IsLeastOf s p → IsLeastOf t q → p < q) × InOrder rest
+InOrder (s ∷ rest) =
+    ((t : PartSet) (p q : ℕ) → Contains rest t → IsLeastOf s p → IsLeastOf t q → p < q) × InOrder rest
 
 -- all the groups, in order of their least part
 pub record AreGroups (R : ℕ → ℕ → Type 0) (w : PartSet) (groups : List PartSet) : Type 0 where
@@ -79,4 +81,5 @@ pub record AreTrees (R : ℕ → ℕ → Type 0) (w : PartSet) (trees : Trees) :
   pub strong : IsStrong R w
   pub count : trees.count + 1 ≡ set.len w
   pub outs : (root : ℕ) → IsLeastOf w root → IsTree R w (single root) (take trees.count trees.outs)
-  pub ins : (root : ℕ) → IsLeastOf w root → IsTree (Back R) w (single root) (map swapped (take trees.count trees.ins))
+  pub ins : (root : ℕ) → IsLeastOf w root →
+      IsTree (Back R) w (single root) (map swapped (take trees.count trees.ins))

@@ -1,5 +1,6 @@
 // Trees of arcs, which show that parts reach each other.
-ghost use Rattle.std.specs.Prelude.{◌≡◌, ℕ, ◌+◌, ◌<◌, ◌≤◌, ◌↔◌, IfNone, IfSome, MatchOption, length, map, take};
+ghost use Rattle.std.specs.Prelude.{◌≡◌, ℕ, ◌+◌, ◌<◌, ◌≤◌, ◌↔◌, IfNone, IfSome};
+ghost use Rattle.std.specs.Prelude.{MatchOption, length, map, take};
 ghost use Rattle.std.specs.FinSet as set;
 ghost use Rattle.staat_model.specs.Bridges.{IsNextBridge, swapped};
 ghost use Rattle.staat_model.specs.Sets.{Has, IsNonempty, IsSubset, single};

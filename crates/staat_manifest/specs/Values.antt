@@ -1,5 +1,6 @@
 -- What a part list reads of a JSON value.
-use Rattle.std.specs.Prelude.{ℕ, Bool, List, [], ◌∷◌, Option, None, if◌then◌else◌, codes, option_and_then}
+use Rattle.std.specs.Prelude.{ℕ, Bool, List, [], ◌∷◌, Option, None, if◌then◌else◌, codes}
+use Rattle.std.specs.Prelude.{option_and_then}
 use Rattle.std.specs.Prelude.{option_map, unwrap_or}
 use Rattle.std.specs.Str.{is_utf8, bytes_eq}
 use Rattle.std.specs.List.{list_all, list_any}
@@ -38,7 +39,8 @@ array_at name d = option_map list_of (option_and_then as_array (get name d))
 
 -- each member of the object has one of these names
 abbrev pub has_only : List Text → Data → Bool
-has_only names d = list_all (λ name. list_any (bytes_eq name) names) (unwrap_or (option_map names_of (as_object d)) [])
+has_only names d =
+    list_all (λ name. list_any (bytes_eq name) names) (unwrap_or (option_map names_of (as_object d)) [])
 
 -- ---- the whole value and its parts
 

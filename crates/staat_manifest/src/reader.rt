@@ -5,7 +5,8 @@ ghost use Rattle.staat_model.specs.declared.limits.TheConstants.{MOST_PARTS};
 ghost use Rattle.staat_manifest.specs.Answers.{AnswersList, JudgesPart};
 ghost use Rattle.staat_manifest.specs.Listings.{IsListing, listed};
 ghost use Rattle.staat_manifest.specs.Values.{parts_in, text_in};
-ghost use Rattle.staat_manifest.specs.Rules.{unless_broken, first_refusal, name_rule, part_list, rules_from, whole_rules};
+ghost use Rattle.staat_manifest.specs.Rules.{unless_broken, first_refusal, name_rule, part_list, rules_from};
+ghost use Rattle.staat_manifest.specs.Rules.{whole_rules};
 
 use crate::json::{array_at, has_only, value_of};
 use crate::listing::{ListedPart, name_of, names_of};

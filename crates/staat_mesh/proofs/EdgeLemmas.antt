@@ -1,8 +1,7 @@
 -- The edges of a polygon, corner by corner.
 use Rattle.std.proofs.Common.{◌≡◌, ◌<◌, ◌≤◌, ◌+◌, ◌-◌, ◌⊎◌, ℕ, List, [], ◌∷◌, ◌++◌, length, take, get_or, Some, inl, inr, refl, ap, sym, subst, ◌∙◌, arith, add-one}
 use Rattle.std.specs.Prelude.{All, min, slice_get, slice_index}
-use Rattle.std.specs.List.{zip, flat_map}
-use Rattle.std.proofs.lemmas.Grind.{flat_map-append}
+use Rattle.std.specs.List.{zip}
 use Rattle.std.proofs.lemmas.List.{append-nil, append_assoc, get_or-append_right, get_or-map, get_or_append_left, length-append, length-map, take_all, take_more}
 use Rattle.std.proofs.lemmas.List.Elements.{All-head, All-push, All-tail}
 use Rattle.std.proofs.lemmas.Option.{get_or_from_slice_get, slice_get-get_or, slice_get_within}
@@ -77,10 +76,6 @@ front_more old table new es i a b e step so_far seen h =
 
 pub front_all : (old new : List ℕ) (es : List (ℕ × ℕ)) (i : ℕ) → length es ≤ i → CountsFront old new es i → (seen : List (ℕ × ℕ)) → Counts old seen → Counts new (seen ++ es)
 front_all old new es i le so_far seen h = subst (λ front. Counts new (seen ++ front)) (take_all i es le) (so_far seen h)
-
--- one more face
-pub flat_map_next : {X Y : Type 0} (f : X → List Y) (xs : List X) (i : ℕ) (d : X) → i < length xs → flat_map f (take (i + 1) xs) ≡ flat_map f (take i xs) ++ f (get_or xs i d)
-flat_map_next f xs i d lt = ap (flat_map f) (take_more xs i d lt) ∙ flat_map-append f (take i xs) (get_or xs i d ∷ []) ∙ ap (λ ys. flat_map f (take i xs) ++ ys) (append-nil (f (get_or xs i d)))
 
 pub length-numbered-edges : (numbers face : List ℕ) → length (edges (numbered numbers face)) ≡ length face
 length-numbered-edges numbers face = length-edges (numbered numbers face) ∙ length-map face (slice_index numbers)

@@ -1,5 +1,6 @@
 -- Edges by the numbers of their points, and a table of how many there are.
-use Rattle.std.specs.Prelude.{◌≡◌, ◌≢◌, ◌==◌, ◌&&◌, ◌+◌, ◌*◌, ◌<◌, ℕ, Bool, List, length, map, min, take, All}
+use Rattle.std.specs.Prelude.{◌≡◌, ◌≢◌, ◌==◌, ◌&&◌, ◌+◌, ◌*◌, ◌<◌, ℕ, Bool, List}
+use Rattle.std.specs.Prelude.{length, map, min, take, All}
 use Rattle.std.specs.Prelude.{Contains, Some, slice_get, slice_index, count_by}
 use Rattle.staat_vec.specs.declared.vector.V3.{V3}
 use Rattle.staat_model.specs.declared.limits.TheConstants.{MOST_POINTS}

@@ -1,5 +1,6 @@
 -- The edges of a mesh.
-use Rattle.std.specs.Prelude.{◌≡◌, ◌≢◌, ◌&&◌, ◌||◌, ℕ, Bool, List, [], ◌∷◌, ◌++◌, count_by}
+use Rattle.std.specs.Prelude.{◌≡◌, ◌≢◌, ◌&&◌, ◌||◌, ℕ, Bool, List, [], ◌∷◌, ◌++◌}
+use Rattle.std.specs.Prelude.{count_by}
 use Rattle.std.specs.List.{zip, flat_map}
 use Rattle.std.specs.Ordering.{is_eq}
 use Rattle.staat_vec.specs.declared.vector.V3.{V3}

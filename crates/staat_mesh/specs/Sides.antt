@@ -17,12 +17,14 @@ OnLine positions =
 -- any four of the positions lie in one plane
 abbrev pub InPlane : List V3 → Type 0
 InPlane positions =
-    (a b c e : V3) → Contains positions a → Contains positions b → Contains positions c → Contains positions e →
+    (a b c e : V3) →
+    Contains positions a → Contains positions b → Contains positions c → Contains positions e →
     det (minus b a) (minus c a) (minus e a) ≡ pos 0
 
 -- the corners have fewer than three positions, or lie on one line, or do not lie in one plane
 pub data IsBadFace (polygon : Polygon) : Type 0 where
-  few : (positions : List V3) → Lists vector_cmp (Contains polygon) positions → length positions < 3 → IsBadFace polygon
+  few : (positions : List V3) → Lists vector_cmp (Contains polygon) positions → length positions < 3 →
+      IsBadFace polygon
   on_line : OnLine polygon → IsBadFace polygon
   off_plane : IsSolid polygon → IsBadFace polygon
 

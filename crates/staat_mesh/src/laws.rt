@@ -16,5 +16,6 @@ pub fn one_answer()
 
 /// The points of an accepted mesh are a piece.
 pub fn accepted_is_a_piece()
-    ensures { (raw : RawMesh) (points : List Vector) → IsIndexed raw → Judges (mesh raw) (Ok points) → IsPiece points }
+    ensures { (raw : RawMesh) (points : List Vector) → IsIndexed raw → Judges (mesh raw) (Ok points) →
+        IsPiece points }
 {}

@@ -23,7 +23,8 @@ pub enum MeshRefusal {
     /// Points lie strictly on both sides of the plane of this face.
     #[error("not convex at face {0}")]
     NotConvex(u32),
-    /// The edge from this corner of this face to the next joins two positions that are not joined by exactly two edges.
+    /// The edge from this corner of this face to the next joins two positions that are not joined by exactly two
+    /// edges.
     #[error("open edge at face {0} corner {1}")]
     OpenEdge(u32, u32),
     /// There was no memory.

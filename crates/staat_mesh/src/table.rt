@@ -1,5 +1,6 @@
 // A table of the edges between points.
-ghost use Rattle.std.specs.Prelude.{◌≡◌, ◌<◌, ◌+◌, ◌∷◌, ◌++◌, [], IfOk, List, ℕ, slice_index};
+ghost use Rattle.std.specs.Prelude.{◌≡◌, ◌<◌, ◌+◌, ◌∷◌, ◌++◌, [], IfOk, List, ℕ};
+ghost use Rattle.std.specs.Prelude.{slice_index};
 ghost use Rattle.staat_mesh.specs.Counts.{Counts, cell};
 
 use staat_model::MOST_POINTS;
@@ -49,7 +50,8 @@ impl EdgeTable {
     pub fn add(&mut self, from: u8, to: u8)
         requires from { from < MOST_POINTS }
         requires to { to < MOST_POINTS }
-        ensures { (edges : List (ℕ × ℕ)) → Counts self.old edges → Counts self.new (edges ++ (from, to) ∷ []) }
+        ensures { (edges : List (ℕ × ℕ)) → Counts self.old edges →
+            Counts self.new (edges ++ (from, to) ∷ []) }
     {
         let at = place(from, to);
         self.counts[at] = self.counts[at].saturating_add(1);

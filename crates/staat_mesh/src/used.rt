@@ -1,5 +1,6 @@
 // The points of a mesh: the positions that its faces use.
-ghost use Rattle.std.specs.Prelude.{◌≡◌, ◌↔◌, ◌<◌, ◌≤◌, ◌⊎◌, ℕ, length, map, filter, All, Contains, IfOk};
+ghost use Rattle.std.specs.Prelude.{◌≡◌, ◌↔◌, ◌<◌, ◌≤◌, ◌⊎◌, ℕ, length, map, filter};
+ghost use Rattle.std.specs.Prelude.{All, Contains, IfOk};
 ghost use Rattle.std.specs.List.{zip};
 ghost use Rattle.staat_vec.specs.Lists.{Lists};
 ghost use Rattle.staat_vec.specs.Vectors.{vector_cmp};
@@ -36,7 +37,8 @@ fn marks_of(alloc: Global, vertices: usize, faces: &[Corners]) -> Result<Vec<boo
 
 // the marked ones of the positions
 fn marked(alloc: Global, positions: &[V3], marks: &[bool]) -> Result<Vec<V3>, AllocError>
-    ensures { IfOk result (λ used. used.items ≡ map (λ e. e.0) (filter (λ e. e.1) (zip positions.now marks.now))) }
+    ensures { IfOk result
+        (λ used. used.items ≡ map (λ e. e.0) (filter (λ e. e.1) (zip positions.now marks.now))) }
 {
     positions
         .iter()
@@ -46,8 +48,8 @@ fn marked(alloc: Global, positions: &[V3], marks: &[bool]) -> Result<Vec<V3>, Al
         .collect(alloc)
 }
 
-/// The positions that the faces use, ascending and each once. The time is n log n in the number of vertices, and linear
-/// in the number of corners.
+/// The positions that the faces use, ascending and each once. The time is n log n in the number of vertices, and
+/// linear in the number of corners.
 pub fn used_points(alloc: Global, raw: &Raw) -> Result<Vec<V3>, AllocError>
     requires { IsIndexed raw.now }
     ensures used { IfOk result (λ points. Lists vector_cmp (IsUsed (mesh raw.now)) points.items) }

@@ -5,7 +5,8 @@ use Rattle.staat_off.specs.declared.refusal.OffRefusal.TheVariants.{OutOfMemory}
 use Rattle.staat_off.specs.Scan.{Rest}
 
 -- the value and what is left of the file, or the refusal
-abbrev pub Reads : {X Y : Type 0} → (X → Y) → Result X OffRefusal → Rest → Result (Y × Rest) OffRefusal → Type 0
+abbrev pub Reads : {X Y : Type 0} →
+    (X → Y) → Result X OffRefusal → Rest → Result (Y × Rest) OffRefusal → Type 0
 Reads view (Ok x) rest reading = reading ≡ Ok (view x, rest)
 Reads view (Err refusal) rest reading = reading ≡ Err refusal
 
@@ -15,7 +16,8 @@ Refuses OutOfMemory reading = Unit {0}
 Refuses refusal reading = reading ≡ Err refusal
 
 -- the same of a call that takes memory
-abbrev pub Gives : {X Y : Type 0} → (X → Y) → Result X OffRefusal → Rest → Result (Y × Rest) OffRefusal → Type 0
+abbrev pub Gives : {X Y : Type 0} →
+    (X → Y) → Result X OffRefusal → Rest → Result (Y × Rest) OffRefusal → Type 0
 Gives view (Ok x) rest reading = reading ≡ Ok (view x, rest)
 Gives view (Err refusal) rest reading = Refuses refusal reading
 

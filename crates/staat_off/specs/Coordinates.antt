@@ -1,5 +1,6 @@
 -- The decision on a coordinate, by division. That it is the one of the value's equation is a law.
-use Rattle.std.specs.Prelude.{◌==◌, ◌+◌, ◌*◌, ◌/◌, ◌%◌, ◌^◌, ℕ, ℤ, Bool, nat_le, length, Option, Some, None, Result}
+use Rattle.std.specs.Prelude.{◌==◌, ◌+◌, ◌*◌, ◌/◌, ◌%◌, ◌^◌, ℕ, ℤ, Bool, nat_le, length}
+use Rattle.std.specs.Prelude.{Option, Some, None, Result}
 use Rattle.std.specs.Prelude.{Ok, Err, if◌then◌else◌}
 use Rattle.staat_vec.specs.declared.vector.TheConstants.{POINT}
 use Rattle.staat_off.specs.declared.refusal.OffRefusal.{OffRefusal}

@@ -8,7 +8,8 @@ abbrev pub Reader : Type 0 → Type 0
 Reader A = Rest → Result (A × Rest) OffRefusal
 
 -- reading goes on behind what was read
-abbrev pub resumed : {A B : Type 0} → Result (A × Rest) OffRefusal → (A → Reader B) → Result (B × Rest) OffRefusal
+abbrev pub resumed : {A B : Type 0} →
+    Result (A × Rest) OffRefusal → (A → Reader B) → Result (B × Rest) OffRefusal
 resumed (Ok read) next = next read.0 read.1
 resumed (Err refusal) next = Err refusal
 

@@ -1,5 +1,6 @@
 -- What an OFF file holds, or the first refusal in reading order.
-use Rattle.std.specs.Prelude.{◌&&◌, ℕ, ℤ, Bool, false, nat_lt, nat_le, List, length, Option, Some, None, Result, Ok}
+use Rattle.std.specs.Prelude.{◌&&◌, ℕ, ℤ, Bool, false, nat_lt, nat_le, List, length, Option, Some, None}
+use Rattle.std.specs.Prelude.{Result, Ok}
 use Rattle.std.specs.Prelude.{Err, if◌then◌else◌, codes}
 use Rattle.std.specs.Char.{is_ascii_digit}
 use Rattle.std.specs.List.{list_all}

@@ -1,5 +1,6 @@
 -- How a word spells a decimal numeral.
-use Rattle.std.specs.Prelude.{◌≡◌, ◌≤◌, ◌+◌, ◌⊎◌, ◌++◌, Bool, true, false, List, ℕ, [], length, codes}
+use Rattle.std.specs.Prelude.{◌≡◌, ◌≤◌, ◌+◌, ◌⊎◌, ◌++◌, Bool, true, false, List, ℕ, []}
+use Rattle.std.specs.Prelude.{length, codes}
 use Rattle.staat_off.specs.declared.numeral.TheConstants.{LONGEST_NUMBER}
 use Rattle.staat_off.specs.Numerals.{IsNumeral, Numeral}
 

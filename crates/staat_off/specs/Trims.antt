@@ -2,7 +2,8 @@
 use Rattle.std.specs.Prelude.{◌≡◌, ◌≢◌, ◌+◌, ◌*◌, ◌^◌, ◌<◌, ◌%◌, ℕ, min}
 use Rattle.staat_vec.specs.declared.vector.TheConstants.{POINT}
 
--- what is kept of a value: what stands before its last zeros, where that is at most POINT, and how many zeros there are
+-- what is kept of a value: what stands before its last zeros, where that is at most POINT, and how many zeros there
+-- are
 pub record Trims (mantissa zeros value : ℕ) : Type 0 where
   pub front : ℕ
   pub split : value ≡ front * 10 ^ zeros

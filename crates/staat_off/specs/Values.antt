@@ -1,5 +1,6 @@
 -- The value of a numeral, scaled by a power of ten, by its equation.
-use Rattle.std.specs.Prelude.{◌≡◌, ◌+◌, ◌-◌, ◌*◌, ◌^◌, ◌<◌, ◌≤◌, ◌++◌, ℕ, ℤ, pos, neg_ℤ, Bool, length, Result, Ok}
+use Rattle.std.specs.Prelude.{◌≡◌, ◌+◌, ◌-◌, ◌*◌, ◌^◌, ◌<◌, ◌≤◌, ◌++◌, ℕ, ℤ}
+use Rattle.std.specs.Prelude.{pos, neg_ℤ, Bool, length, Result, Ok}
 use Rattle.std.specs.Prelude.{Err, if◌then◌else◌}
 use Rattle.std.specs.Str.Parse.{digits_value}
 use Rattle.staat_vec.specs.declared.vector.TheConstants.{POINT}

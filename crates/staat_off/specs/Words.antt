@@ -1,5 +1,6 @@
 -- The words and comments of a file, by the places of their bytes, counted from 0.
-use Rattle.std.specs.Prelude.{◌≡◌, ◌≢◌, ◌==◌, ◌||◌, ◌&&◌, ◌+◌, ◌<◌, ◌≤◌, ◌⊎◌, ℕ, suc, Bool, true, not, nat_le, List}
+use Rattle.std.specs.Prelude.{◌≡◌, ◌≢◌, ◌==◌, ◌||◌, ◌&&◌, ◌+◌, ◌<◌, ◌≤◌}
+use Rattle.std.specs.Prelude.{◌⊎◌, ℕ, suc, Bool, true, not, nat_le, List}
 use Rattle.std.specs.Prelude.{length, take, drop, Some, slice_get}
 use Rattle.staat_off.specs.declared.rest.TheConstants.{HASH, LINE_FEED}
 
@@ -61,7 +62,8 @@ pub record IsNextWord (file : List ℕ) (p : ℕ) (w : Word) : Type 0 where
 
 -- place q is behind the next LF from place p on, or at the file's end where there is none
 abbrev pub IsNextLine : List ℕ → ℕ → ℕ → Type 0
-IsNextLine file p q = ((i : ℕ) × (p ≤ i) × (q ≡ suc i) × (slice_get file i ≡ Some LINE_FEED) × HasNoLineEnd file p i)
+IsNextLine file p q =
+    ((i : ℕ) × (p ≤ i) × (q ≡ suc i) × (slice_get file i ≡ Some LINE_FEED) × HasNoLineEnd file p i)
     ⊎ ((q ≡ length file) × HasNoLineEnd file p q)
 
 -- no word goes on from before place p to it, and no comment does so unless the file ends there

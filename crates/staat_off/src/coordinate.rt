@@ -1,5 +1,6 @@
 // The value of a coordinate.
-ghost use Rattle.std.specs.Prelude.{◌≡◌, ◌<◌, ◌≤◌, ◌+◌, ◌-◌, ℕ, length, min, MatchOption, if◌then◌else◌};
+ghost use Rattle.std.specs.Prelude.{◌≡◌, ◌<◌, ◌≤◌, ◌+◌, ◌-◌, ℕ, length, min, MatchOption};
+ghost use Rattle.std.specs.Prelude.{if◌then◌else◌};
 ghost use Rattle.staat_off.specs.Coordinates.{coordinate_of};
 ghost use Rattle.staat_off.specs.Numerals.{IsNumeral};
 ghost use Rattle.staat_off.specs.Values.{IsDecided, IsMagnitude, down, signed, up};
@@ -50,7 +51,8 @@ fn zeros_behind(zeros: u32, numeral: Numeral<'_>, digits: u32) -> Option<u32>
     requires digits { digits ≤ MOST_DIGITS }
     ensures { let n = numeral_view numeral.entry in MatchOption result
         (zeros + up n digits < length n.fraction + down n digits)
-        (λ x. (y : ℕ) × (y + (length n.fraction + down n digits) ≡ zeros + up n digits) × (x ≡ min y TOO_MANY)) }
+        (λ x. (y : ℕ) × (y + (length n.fraction + down n digits) ≡ zeros + up n digits)
+        × (x ≡ min y TOO_MANY)) }
 {
     let exponent = number_up_to(FAR, numeral.exponent);
     let left = numeral.fraction.len() as u32 + left_of(numeral.is_down, exponent, digits);

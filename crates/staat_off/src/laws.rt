@@ -38,7 +38,8 @@ pub fn line_is_passed()
         × (after_line (rest_at file p) ≡ rest_at file q) }
 {}
 
-/// A word is taken apart into a numeral exactly where it is spelled as a sign, digits, a point, digits and an exponent.
+/// A word is taken apart into a numeral exactly where it is spelled as a sign, digits, a point, digits and an
+/// exponent.
 pub fn numerals_are_spelled()
     ensures { (word : List ℕ) (n : Numeral) → (numeral_of word ≡ Some n) ↔ Spells word n }
 {}
@@ -59,13 +60,16 @@ pub fn refusals_name_words()
 
 /// The corners of what is read are the numbers of its points, no coordinate is too great, and no list too long.
 pub fn corners_are_vertices()
-    ensures indexed { (digits : ℕ) (file : List ℕ) (raw : Raw) → reading digits file ≡ Ok raw → IsIndexed raw }
-    ensures counted { (digits : ℕ) (file : List ℕ) (raw : Raw) → reading digits file ≡ Ok raw → IsCounted raw }
-    ensures corners { (digits : ℕ) (file : List ℕ) (raw : Raw) → reading digits file ≡ Ok raw → HasCorners raw }
+    ensures indexed { (digits : ℕ) (file : List ℕ) (raw : Raw) → reading digits file ≡ Ok raw →
+        IsIndexed raw }
+    ensures counted { (digits : ℕ) (file : List ℕ) (raw : Raw) → reading digits file ≡ Ok raw →
+        IsCounted raw }
+    ensures corners { (digits : ℕ) (file : List ℕ) (raw : Raw) → reading digits file ≡ Ok raw →
+        HasCorners raw }
 {}
 
-/// The bytes and the bounds that the format fixes, as numbers: `#` begins a comment and LF ends it; a coordinate has at
-/// most 64 bytes; vertices, faces and corners number at most 1,000,000 each; `--digits` is at most 6.
+/// The bytes and the bounds that the format fixes, as numbers: `#` begins a comment and LF ends it; a coordinate has
+/// at most 64 bytes; vertices, faces and corners number at most 1,000,000 each; `--digits` is at most 6.
 pub fn constants()
     ensures comment { HASH ≡ 35 }
     ensures line_end { LINE_FEED ≡ 10 }

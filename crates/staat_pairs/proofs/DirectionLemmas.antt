@@ -1,5 +1,5 @@
 -- The directions of a certificate are the vertices.
-use Rattle.std.proofs.Common.{◌≡◌, ◌≢◌, ◌⊎◌, inl, inr, ⊎_elim, ℕ, zero, suc, ◌+◌, ◌<◌, ◌≤◌, arith, refl, sym, ap, subst, ◌∙◌, List, [], ◌∷◌, ◌++◌, length, drop, All, Contains}
+use Rattle.std.proofs.Common.{◌≡◌, ◌≢◌, ◌⊎◌, inl, inr, ⊎_elim, ℕ, ◌+◌, ◌<◌, ◌≤◌, arith, sym, subst, ◌∙◌, List, [], ◌∷◌, ◌++◌, length, drop, Contains}
 use Rattle.std.specs.Prelude.{Some, slice_get}
 use Rattle.std.proofs.lemmas.List.Elements.{Contains-append_cases, Contains-append_left, Contains-append_right, Contains-push, Contains-push_cases}
 use Rattle.staat_vec.specs.declared.vector.V3.{V3}
@@ -10,7 +10,6 @@ use Rattle.staat_vec.proofs.Canons.{IsCanon-canon, canon-either, canon-opposite,
 use Rattle.staat_model.specs.Certify.{IsDirection}
 use Rattle.staat_model.specs.Planes.{crossings, vertices}
 use Rattle.staat_model.proofs.Members.{here, there}
-use Rattle.staat_model.proofs.PlaneLemmas.{NoneParallel}
 use Rattle.staat_pairs.proofs.DropLemmas.{drop_at, drop_end}
 use Rattle.staat_pairs.specs.Directions.{AddsListed, IsOfVersion, ListsBehind}
 
@@ -68,9 +67,6 @@ two_taken version v n old between new other e first second = record {
     later x c = subst (λ l. Contains l x) (sym second) (Contains-append_left between (n ∷ []) x c)
 
 -- ---- one more step, and the end
-
-pub takes_none : (version : ℕ) (whole old : List V3) → ListsBehind version whole whole old old
-takes_none version whole old = record { within = λ v c. c; from = λ v c. inl c; kept = λ v c. c; all = λ v c t. inl c }
 
 pub takes_more : (version : ℕ) (whole front rest old taken new : List V3) → ListsBehind version whole (front ++ rest) old taken → AddsListed version front taken new → ListsBehind version whole rest old new
 takes_more version whole front rest old taken new so_far adds = record {

@@ -5,7 +5,8 @@ ghost use Rattle.staat_vec.specs.Vectors.{IsWithin, cross, origin};
 
 use staat_vec::{DIRECTION, NORMAL, V3, VERTEX, cross_normal, primitive};
 
-/// One of the two primitive vectors along which the planes of the normals `g` and `h` cross; the other is its opposite.
+/// One of the two primitive vectors along which the planes of the normals `g` and `h` cross; the other is its
+/// opposite.
 ///
 /// The normals are not parallel, and their components are at most [`NORMAL`] in absolute value. Those of the crossing
 /// are at most [`VERTEX`](staat_vec::VERTEX), so it is a direction.

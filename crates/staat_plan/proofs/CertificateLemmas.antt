@@ -5,7 +5,7 @@ use Rattle.staat_vec.specs.declared.vector.V3.{V3}
 use Rattle.staat_vec.specs.declared.vector.TheConstants.{NORMAL}
 use Rattle.staat_vec.specs.Vectors.{IsWithin}
 use Rattle.staat_vec.proofs.Canons.{IsWithin-canon}
-use Rattle.staat_cone.proofs.Sizes.{facet_within}
+use Rattle.staat_cone.proofs.SourceSizes.{facet_within}
 use Rattle.staat_model.specs.declared.assembly.Part.{Part}
 use Rattle.staat_model.specs.declared.certificate.Body.{Body}
 use Rattle.staat_model.specs.declared.certificate.Body.TheVariants as body

@@ -8,7 +8,7 @@ use Rattle.staat_vec.specs.declared.vector.V3.{V3}
 use Rattle.staat_vec.specs.declared.vector.TheConstants.{DIRECTION}
 use Rattle.staat_vec.specs.Lists.{IsLeast}
 use Rattle.staat_vec.specs.Vectors.{vector_cmp}
-use Rattle.staat_cone.proofs.Sizes.{facet_within}
+use Rattle.staat_cone.proofs.SourceSizes.{facet_within}
 use Rattle.staat_model.specs.declared.assembly.Part.{Part}
 use Rattle.staat_model.specs.declared.certificate.Node.{Node}
 use Rattle.staat_model.specs.declared.certificate.Node.TheVariants.{Leaf, Split}

@@ -13,7 +13,7 @@ use Rattle.staat_model.specs.Bridges.{Back, IsTree, swapped}
 use Rattle.staat_model.specs.Certificates.{inward, outward}
 use Rattle.staat_model.specs.Certify.{IsLeastArc, IsWitnessAt}
 use Rattle.staat_model.specs.Plans.{IsStuck}
-use Rattle.staat_cone.proofs.Adding.{take_more}
+use Rattle.staat_cone.proofs.PairLists.{take_more}
 use Rattle.staat_graph.specs.declared.trees.Trees.{Trees}
 use Rattle.staat_graph.specs.Blocking.{ShowsBlocking}
 use Rattle.staat_graph.specs.Graphs.{HasArc, IsStrong}

@@ -22,7 +22,7 @@ use Rattle.staat_graph.specs.Blocking.{ShowsBlocking}
 use Rattle.staat_graph.specs.Graphs.{HasArc}
 use Rattle.staat_graph.proofs.Arcs.{row_set}
 use Rattle.staat_model.specs.declared.set.PartSet.{PartSet}
-use Rattle.staat_cone.proofs.Ends.{meets_by_list}
+use Rattle.staat_cone.proofs.WallLemmas.{meets_by_list}
 use Rattle.staat_pairs.specs.Tables.{IsTableArc, IsTable, Table, WasMadeFrom, facets_of}
 use Rattle.staat_planes.specs.Tables.{BlocksIn, IsAhead}
 

@@ -12,7 +12,7 @@ mod used;
 pub use build::tabulate;
 pub use refusal::PlanesRefusal;
 pub use steps::Steps;
-pub use table::{LEAST_PLANES, MOST_PLANES, PlaneTable};
+pub use table::{LEAST_PLANES, MOST_CELL_PLANES, MOST_PLANES, PlaneTable};
 
 #[cfg(test)]
 mod tests;

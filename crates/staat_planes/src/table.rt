@@ -19,6 +19,9 @@ pub const LEAST_PLANES: u32 = 3;
 /// How many planes a table has at most.
 pub const MOST_PLANES: u32 = 1024;
 
+/// How many planes a table has at most whose cells are listed.
+pub const MOST_CELL_PLANES: u32 = 256;
+
 /// The planes of a set of parts, and the facets of each two pieces of different parts of the set.
 ///
 /// A [`FacetTable`] of 3 to [`MOST_PLANES`] planes: the three coordinate planes, then the others ascending. The

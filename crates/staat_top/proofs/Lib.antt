@@ -9,5 +9,6 @@ pub mod TopLemmas
 pub mod InputLemmas
 pub mod SoundLemmas
 pub mod PlanesLemmas
+pub mod CellsLemmas
 pub mod PlanLemmas
 pub mod CertificateLemmas

@@ -18,6 +18,8 @@ use Rattle.staat_model.proofs.Orders.{arc_exact, arc_total}
 use Rattle.staat_graph.specs.Blocking.{ShowsBlocking}
 use Rattle.staat_graph.specs.Graphs.{HasArc}
 use Rattle.staat_planes.specs.declared.table.TheConstants.{MOST_PLANES}
+use Rattle.staat_text.specs.CellTexts.{IsCellsText}
+use Rattle.staat_text.proofs.CellLines.{one_text}
 use Rattle.staat_text.proofs.SameArcs.{same_graph_text}
 use Rattle.staat_asm.specs.Overlaps.{IsFirstOverlap, IsOverlap}
 use Rattle.staat_fault.specs.declared.fault.Fault.TheVariants.{Usage, ReadFault, Overlap, TextTooLong, TooManyPlanes}
@@ -38,7 +40,7 @@ use Rattle.staat_words.specs.declared.request.Asked.{Asked}
 use Rattle.staat_words.specs.declared.request.Input.{Input}
 use Rattle.staat_words.specs.declared.request.Input.TheVariants as input
 use Rattle.staat_words.specs.declared.request.Request.{Request}
-use Rattle.staat_words.specs.declared.request.Request.TheVariants.{Pair, Look, Graph, Plan, Check}
+use Rattle.staat_words.specs.declared.request.Request.TheVariants.{Pair, Look, Graph, Plan, Check, Cells}
 use Rattle.staat_top.specs.declared.read.TheConstants.{FILE_LIMIT}
 use Rattle.staat_top.specs.declared.answer.Answer.{Answer}
 use Rattle.staat_top.specs.Work.{Files, Found, Then, Each, IsTakenWithin, to_read, too_long, taken}
@@ -49,6 +51,7 @@ use Rattle.staat_top.proofs.MovedLemmas.{far_not_within}
 use Rattle.staat_top.specs.Inputs.{SaysListing, no_listing, listing, IsListingOf, IsPartOf, IsInputOf, part_of}
 use Rattle.staat_top.specs.Assembling.{IsTested, overlapping, sound, IsSoundOf}
 use Rattle.staat_top.specs.Graphing.{AreCounted, IsGraphed, all_parts, few, too_many}
+use Rattle.staat_top.specs.CellTables.{AreTabled, tabled, table_too_long}
 use Rattle.staat_top.specs.Planning.{IsPlanned, IsWritten, certificate, outcome_answer, steps, text_too_long}
 use Rattle.staat_model.specs.declared.limits.TheConstants.{TEXT_LIMIT}
 use Rattle.staat_model.specs.Texts.{Reading, IsReading, whole, bad_line, too_short as short_reading}
@@ -407,6 +410,23 @@ checked_one files parts c = record { one = λ f g a b sf sg. one f g a b; held =
     one : (f g : Found Answer) → IsChecked parts c f → IsChecked parts c g → f ≡ g
     one f g a b = a.is ∙ ap (λ v. Ok (verdict_answer v)) (IsVerdict-unique parts c a.verdict b.verdict a.right b.right) ∙ sym b.is
 
+tabled_one : (files : Files) (parts : List Part) → FindsOne files (AreTabled parts)
+tabled_one files parts = record { one = λ f g a b sf sg. one f g a b; held = λ name f at lacks step settled. no_read name at }
+  where
+    same : (text other : List ℕ) → IsCellsText parts (length parts) text → IsCellsText parts (length parts) other → text ≡ other
+    same text other is also = one_text parts (length parts) text other is also
+
+    one : (f g : Found Answer) → AreTabled parts f → AreTabled parts g → f ≡ g
+    one f g (tabled t is short e) (tabled u also few d) = e ∙ ap (λ (x : List ℕ). Ok (answer 0 x)) (same t u is also) ∙ sym d
+    one f g (tabled t is short e) (table_too_long u also many d) = absurd (omega (arith, short, many, ap length (same t u is also)))
+    one f g (table_too_long t is many e) (tabled u also few d) = absurd (omega (arith, few, many, ap length (same t u is also)))
+    one f g (table_too_long t is many e) (table_too_long u also much d) =
+        e ∙ ap (λ (x : List ℕ). Err (TextTooLong (length x))) (same t u is also) ∙ sym d
+
+    no_read : (name : List ℕ) → AreTabled parts (Err (ReadFault name)) → ⊥
+    no_read name (tabled t is short e) = absurd cc
+    no_read name (table_too_long t is many e) = absurd cc
+
 -- ---- the commands
 
 work_one : (request : Request) (files : Files) → FindsOne files (WorkOn request files)
@@ -420,6 +440,8 @@ work_one (Plan request) files = then_one files (IsSoundOf files request.asked) _
     (λ parts. then_one files (AreCounted parts request.planes) _ (counted_one files parts request.planes) (λ planes. planned_one files parts request.certificate))
 work_one (Check request) files = then_one files (IsSoundOf files request.asked) _ (sound_one files request.asked)
     (λ parts. then_one files (IsCertificateIn files request.certificate) _ (certificate_one files request.certificate) (λ c. checked_one files parts c))
+work_one (Cells request) files = then_one files (IsSoundOf files request.asked) _ (sound_one files request.asked)
+    (λ parts. then_one files (AreCounted parts request.planes) _ (counted_one files parts request.planes) (λ planes. tabled_one files parts))
 
 pub words_one : (asked : Option Request) (files : Files) → FindsOne files (WorkOnWords asked files)
 words_one None files = record { one = λ f g a b sf sg. a ∙ sym b; held = λ name f at lacks step settled. absurd (usage_reads name at) }

@@ -18,7 +18,7 @@ use Rattle.staat_words.specs.declared.request.Input.{Input}
 use Rattle.staat_words.specs.declared.request.Input.TheVariants as inputs
 use Rattle.staat_words.specs.declared.request.Asked.{Asked}
 use Rattle.staat_words.specs.declared.request.Request.{Request}
-use Rattle.staat_words.specs.declared.request.Request.TheVariants.{Pair, Look, Graph, Plan, Check}
+use Rattle.staat_words.specs.declared.request.Request.TheVariants.{Pair, Look, Graph, Plan, Check, Cells}
 use Rattle.staat_top.specs.declared.answer.Answer.{Answer}
 use Rattle.staat_top.specs.Work.{Files, Found, Each, to_read, too_long, taken}
 use Rattle.staat_top.specs.Inputs.{alone, SaysListing, no_listing, listing, IsListingOf, IsPartOf, IsInputOf, part_of}
@@ -46,10 +46,14 @@ use Rattle.staat_model.specs.declared.verdict.Verdict.TheVariants.{ValidPlan, Va
 use Rattle.staat_model.specs.Reasons.{IsVerdict}
 use Rattle.staat_model.proofs.PlanLemmas.{plan_is_right_lemma}
 use Rattle.staat_model.proofs.RefusalLemmas.{refusal_is_right_lemma}
+use Rattle.staat_words.specs.declared.request.CellsRequest.{CellsRequest}
 use Rattle.staat_words.specs.declared.request.CheckRequest.{CheckRequest}
 use Rattle.staat_check.specs.Verdicts.{IsPlanOf, IsRefusalWithSet}
 use Rattle.staat_top.specs.Checking.{IsCertificateIn, IsChecked, verdict_answer}
-use Rattle.staat_top.specs.Replies.{AreSoundParts, SaysOutcome, SaysGoodPlan, SaysStuckSet, SaysValid, SaysNotValid, ShowsValid, valid_plan, valid_refusal, free, not_shown, WorkOnWords, IsRight, IsDenied}
+use Rattle.staat_cells.proofs.OneCell.{one_cell}
+use Rattle.staat_text.specs.CellTexts.{IsCellsText}
+use Rattle.staat_top.specs.CellTables.{tabled, table_too_long}
+use Rattle.staat_top.specs.Replies.{AreSoundParts, SaysCells, SaysOutcome, SaysGoodPlan, SaysStuckSet, SaysValid, SaysNotValid, ShowsValid, valid_plan, valid_refusal, free, not_shown, WorkOnWords, IsRight, IsDenied}
 
 -- ---- pieces
 
@@ -202,6 +206,10 @@ same_status : (a b : Answer) → ◌≡◌ {A = Found Answer} (Ok a) (Ok b) → 
 same_status a b e = let same : a ≡ b = cc in ap (λ (x : Answer). x.status) same
 
 -- a wall that is shown keeps the pieces apart, a look or a graph gives sound parts, and a plan takes them apart
+-- the table of an accepted assembly says of every direction in which cell it lies
+cells_are_said : (files : Files) (request : CellsRequest) (parts : List Part) (text : List ℕ) → AreSoundParts files request.asked parts → IsCellsText parts (length parts) text → SaysCells files request text
+cells_are_said files request parts text sound table = record { parts = parts; sound = sound; table = table; one = λ d some. one_cell table.planes d table.cells table.cells_are some }
+
 pub status_is_right : (asked : Option Request) (files : Files) (a : Answer) → HasRequestBounds asked → WorkOnWords asked files (Ok a) → a.status ≡ 0 → IsRight asked files a.text
 status_is_right None files a bounds e zero = absurd cc
 status_is_right (Some (Pair request)) files a bounds (inl (fault, at, e)) zero = absurd cc
@@ -230,6 +238,13 @@ status_is_right (Some (Check request)) files a bounds (inr (built, found, inr (c
     let same : verdict_answer p.verdict ≡ a = same_answer a (verdict_answer p.verdict) p.is in
     subst (λ (b : Answer). SaysValid files request b.text) same
     (certificate_valid files request built c p.verdict (sound_parts files request.asked built bounds found) held p.right (ap (λ (b : Answer). b.status) same ∙ zero))
+status_is_right (Some (Cells request)) files a bounds (inl (fault, at, e)) zero = absurd cc
+status_is_right (Some (Cells request)) files a bounds (inr (built, found, inl (fault, at, e))) zero = absurd cc
+status_is_right (Some (Cells request)) files a bounds (inr (built, found, inr (planes, counted, tabled text is short e))) zero =
+    let same : record { status = 0; text = text } ≡ a = same_answer a (record { status = 0; text = text }) e in
+    subst (λ (b : Answer). SaysCells files request b.text) same
+    (cells_are_said files request built text (sound_parts files request.asked built bounds.0 found) is)
+status_is_right (Some (Cells request)) files a bounds (inr (built, found, inr (planes, counted, table_too_long text is long e))) zero = absurd cc
 
 -- a wall that is not shown is none, and a set that is named as stuck is stuck
 pub status_is_denied : (asked : Option Request) (files : Files) (a : Answer) → HasRequestBounds asked → WorkOnWords asked files (Ok a) → a.status ≡ 1 → IsDenied asked files a.text
@@ -260,3 +275,7 @@ status_is_denied (Some (Check request)) files a bounds (inr (built, found, inr (
     let same : verdict_answer p.verdict ≡ a = same_answer a (verdict_answer p.verdict) p.is in
     subst (λ (b : Answer). SaysNotValid files request b.text) same
     (certificate_not_valid files request built c p.verdict (sound_parts files request.asked built bounds found) held p.right (ap (λ (b : Answer). b.status) same ∙ one))
+status_is_denied (Some (Cells request)) files a bounds (inl (fault, at, e)) one = absurd cc
+status_is_denied (Some (Cells request)) files a bounds (inr (built, found, inl (fault, at, e))) one = absurd cc
+status_is_denied (Some (Cells request)) files a bounds (inr (built, found, inr (planes, counted, tabled text is short e))) one = absurd (omega (arith, one, same_status _ _ e))
+status_is_denied (Some (Cells request)) files a bounds (inr (built, found, inr (planes, counted, table_too_long text is long e))) one = absurd cc

@@ -7,6 +7,7 @@ pub mod Shapes
 pub mod Assembling
 pub mod Graphing
 pub mod Planning
+pub mod CellTables
 pub mod Checking
 pub mod Replies
 pub mod Headline

@@ -1,12 +1,14 @@
 -- The reply to a request over some files, as the order of work finds it.
-use Rattle.std.specs.Prelude.{◌≡◌, ℕ, List, [], Option, Some, None, Ok, Err, codes}
+use Rattle.std.specs.Prelude.{◌≡◌, ◌≢◌, ℕ, List, length, [], Option, Some, None, Ok, Err, codes}
 use Rattle.staat_vec.specs.declared.vector.V3.{V3}
+use Rattle.staat_vec.specs.Vectors.{origin}
 use Rattle.staat_model.specs.declared.assembly.Part.{Part}
 use Rattle.staat_model.specs.declared.certificate.Certificate.{Certificate}
 use Rattle.staat_model.specs.declared.set.PartSet.{PartSet}
 use Rattle.staat_model.specs.declared.tree.Kind.{Kind}
 use Rattle.staat_model.specs.declared.verdict.Reason.{Reason}
 use Rattle.staat_model.specs.declared.verdict.Verdict.TheVariants.{ValidPlan, ValidRefusal, Not}
+use Rattle.staat_model.specs.Cells.{HasOneCell}
 use Rattle.staat_model.specs.Certify.{IsCertificateOf}
 use Rattle.staat_model.specs.Reasons.{IsVerdict}
 use Rattle.staat_model.specs.Outcomes.{Finding, planned, stuck}
@@ -18,16 +20,18 @@ use Rattle.staat_model.specs.Walls.{IsShown}
 use Rattle.staat_model.specs.Meeting.{Meets}
 use Rattle.staat_model.specs.Assemblies.{IsAssembly, IsSound}
 use Rattle.staat_words.specs.declared.request.Asked.{Asked}
+use Rattle.staat_words.specs.declared.request.CellsRequest.{CellsRequest}
 use Rattle.staat_words.specs.declared.request.CheckRequest.{CheckRequest}
 use Rattle.staat_words.specs.declared.request.PlanRequest.{PlanRequest}
 use Rattle.staat_words.specs.declared.request.Request.{Request}
-use Rattle.staat_words.specs.declared.request.Request.TheVariants.{Pair, Look, Graph, Plan, Check}
+use Rattle.staat_words.specs.declared.request.Request.TheVariants.{Pair, Look, Graph, Plan, Check, Cells}
 use Rattle.staat_fault.specs.declared.fault.Fault.{Fault}
 use Rattle.staat_fault.specs.declared.fault.Fault.TheVariants.{Usage, ReadFault}
 use Rattle.staat_fault.specs.Faults.{status_of, line_of}
 use Rattle.staat_planes.specs.declared.table.TheConstants.{MOST_PLANES}
 use Rattle.staat_text.specs.Parts.{look_text}
 use Rattle.staat_check.specs.Verdicts.{IsPlanOf, IsRefusalWithSet}
+use Rattle.staat_text.specs.CellTexts.{IsCellsText}
 use Rattle.staat_text.specs.PlanTexts.{plan_text}
 use Rattle.staat_text.specs.Verdicts.{verdict_text}
 use Rattle.staat_top.specs.declared.answer.Answer.{Answer}
@@ -37,6 +41,7 @@ use Rattle.staat_top.specs.Inputs.{IsInputOf}
 use Rattle.staat_top.specs.Assembling.{IsSoundOf}
 use Rattle.staat_top.specs.Graphing.{AreCounted, IsGraphed, all_parts}
 use Rattle.staat_top.specs.Planning.{IsPlanned}
+use Rattle.staat_top.specs.CellTables.{AreTabled}
 use Rattle.staat_top.specs.Checking.{IsCertificateIn, IsChecked}
 
 -- an answer with this status and this text
@@ -65,6 +70,9 @@ WorkOn (Plan request) files found =
 WorkOn (Check request) files found =
     Then (IsSoundOf files request.asked) (λ parts. Then (IsCertificateIn files request.certificate)
     (λ certificate. IsChecked parts certificate)) found
+WorkOn (Cells request) files found =
+    Then (IsSoundOf files request.asked) (λ parts. Then (AreCounted parts request.planes)
+    (λ planes. AreTabled parts)) found
 
 -- what the work on words finds, which may make no request
 abbrev pub WorkOnWords : Option Request → Files → Found Answer → Type 0
@@ -109,6 +117,14 @@ abbrev pub SaysOutcome : List Part → Finding → Option ℕ → List ℕ → T
 SaysOutcome parts finding None text = text ≡ plan_text finding
 SaysOutcome parts finding (Some version) text =
     (c : Certificate) × (text ≡ text_of c) × IsCertificateOf parts version finding c × IsValidFor parts finding c
+
+-- The text is the table of all cells, each with the arcs that the blocking graph has at every direction of the cell; and
+-- every direction, of any size, lies in exactly one of the cells.
+pub record SaysCells (files : Files) (request : CellsRequest) (text : List ℕ) : Type 0 where
+  pub parts : List Part
+  pub sound : AreSoundParts files request.asked parts
+  pub table : IsCellsText parts (length parts) text
+  pub one : (d : V3) → d ≢ origin → HasOneCell table.planes table.cells d
 
 -- the text is that of a plan that takes all parts apart
 pub record SaysGoodPlan (files : Files) (request : PlanRequest) (text : List ℕ) : Type 0 where
@@ -165,6 +181,7 @@ IsRight (Some (Look asked)) files text = (parts : List Part) × AreSoundParts fi
 IsRight (Some (Graph request)) files text = (parts : List Part) × AreSoundParts files request.asked parts
 IsRight (Some (Plan request)) files text = SaysGoodPlan files request text
 IsRight (Some (Check request)) files text = SaysValid files request text
+IsRight (Some (Cells request)) files text = SaysCells files request text
 
 -- What status 1 means, with the text that is printed. For a pair: the wall does not show that the pieces never meet.
 abbrev pub IsDenied : Option Request → Files → List ℕ → Type 0

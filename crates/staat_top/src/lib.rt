@@ -2,6 +2,7 @@
 #![tactic(auto)]
 
 mod answer;
+mod cells;
 mod certificate;
 mod check;
 mod graph;

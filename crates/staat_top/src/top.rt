@@ -7,6 +7,7 @@ ghost use Rattle.staat_top.specs.Replies.{WorkOn};
 ghost use Rattle.staat_top.specs.Runs.{HasCause, HasRequestBounds, IsExplained, IsFound, Ran, over};
 
 use crate::answer::Answer;
+use crate::cells::cells;
 use crate::check::check;
 use crate::graph::graph;
 use crate::look::look;
@@ -34,6 +35,7 @@ fn work<H: Shelf>(alloc: Global, request: &Request, shelf: &mut H) -> Result<Ans
         Request::Graph(request) => graph(alloc, request, shelf),
         Request::Plan(request) => plan(alloc, request, shelf),
         Request::Check(request) => check(alloc, request, shelf),
+        Request::Cells(request) => cells(alloc, request, shelf),
     }
 }
 

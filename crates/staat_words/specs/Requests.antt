@@ -11,7 +11,7 @@ use Rattle.staat_vec.specs.Vectors.{IsWithin, origin}
 use Rattle.staat_off.specs.declared.raw.TheConstants.{MOST_DIGITS}
 use Rattle.staat_model.specs.declared.limits.TheConstants.{MOST_PARTS}
 use Rattle.staat_model.specs.Lines.{IsVersion}
-use Rattle.staat_planes.specs.declared.table.TheConstants.{LEAST_PLANES, MOST_PLANES}
+use Rattle.staat_planes.specs.declared.table.TheConstants.{LEAST_PLANES, MOST_CELL_PLANES, MOST_PLANES}
 use Rattle.staat_number.specs.Numbers.{natural_within}
 use Rattle.staat_words.specs.declared.request.Input.{Input}
 use Rattle.staat_words.specs.declared.request.Input.TheVariants.{Manifest, Files}
@@ -19,9 +19,10 @@ use Rattle.staat_words.specs.declared.request.Asked.{Asked}
 use Rattle.staat_words.specs.declared.request.PairRequest.{PairRequest}
 use Rattle.staat_words.specs.declared.request.GraphRequest.{GraphRequest}
 use Rattle.staat_words.specs.declared.request.PlanRequest.{PlanRequest}
+use Rattle.staat_words.specs.declared.request.CellsRequest.{CellsRequest}
 use Rattle.staat_words.specs.declared.request.CheckRequest.{CheckRequest}
 use Rattle.staat_words.specs.declared.request.Request.{Request}
-use Rattle.staat_words.specs.declared.request.Request.TheVariants.{Pair, Look, Graph, Plan, Check}
+use Rattle.staat_words.specs.declared.request.Request.TheVariants.{Pair, Look, Graph, Plan, Check, Cells}
 use Rattle.staat_words.specs.declared.request.RequestRefusal.{RequestRefusal}
 use Rattle.staat_words.specs.declared.request.RequestRefusal.TheVariants.{Usage, OutOfMemory}
 use Rattle.staat_words.specs.Spelled.{◌>>=◌, vector_within}
@@ -35,19 +36,19 @@ digits_asked rows = natural_within MOST_DIGITS (unwrap_or (first_of (codes "digi
 unfoldable pub vector_in : Text → ℕ → List Row → Option V3
 vector_in id most rows = option_and_then (vector_within most) (first_of id rows)
 
--- the number of planes that a text spells
-abbrev pub planes_within : Text → Option ℕ
-planes_within text = do
-  planes ← natural_within MOST_PLANES text
+-- the number of planes that a text spells, where there may be so many at most
+abbrev pub planes_within : ℕ → Text → Option ℕ
+planes_within most text = do
+  planes ← natural_within most text
   if nat_le LEAST_PLANES planes then Some planes else None
 
 -- what `--planes` gives, as many as there may be where it is not given
-abbrev pub planes_from : Option Text → Option ℕ
-planes_from None = Some MOST_PLANES
-planes_from (Some text) = planes_within text
+abbrev pub planes_from : ℕ → Option Text → Option ℕ
+planes_from most None = Some most
+planes_from most (Some text) = planes_within most text
 
-unfoldable pub planes_in : List Row → Option ℕ
-planes_in rows = planes_from (first_of (codes "planes") rows)
+unfoldable pub planes_in : ℕ → List Row → Option ℕ
+planes_in most rows = planes_from most (first_of (codes "planes") rows)
 
 -- whether a flag is given
 abbrev pub is_given : Text → List Row → Bool
@@ -110,7 +111,7 @@ graph_in rows = do
 unfoldable pub plan_in : List Row → Option PlanRequest
 plan_in rows = do
   asked ← asked_in rows
-  planes ← planes_in rows
+  planes ← planes_in MOST_PLANES rows
   certificate ← certificate_in rows
   Some (record { asked = asked; planes = planes; certificate = certificate })
 
@@ -120,6 +121,12 @@ check_in rows = do
   certificate ← first_of (codes "certificate") rows
   Some (record { asked = asked; certificate = certificate })
 
+unfoldable pub cells_in : List Row → Option CellsRequest
+cells_in rows = do
+  asked ← asked_in rows
+  planes ← planes_in MOST_CELL_PLANES rows
+  Some (record { asked = asked; planes = planes })
+
 -- the request of a subcommand and its matches: a line for each command
 unfoldable pub request_in : Option (Text × List Row) → Option Request
 request_in None = None
@@ -128,7 +135,8 @@ request_in (Some found) =
     else (if bytes_eq found.0 (codes "look") then option_map Look (asked_in found.1)
     else (if bytes_eq found.0 (codes "graph") then option_map Graph (graph_in found.1)
     else (if bytes_eq found.0 (codes "plan") then option_map Plan (plan_in found.1)
-    else (if bytes_eq found.0 (codes "check") then option_map Check (check_in found.1) else None))))
+    else (if bytes_eq found.0 (codes "check") then option_map Check (check_in found.1)
+    else (if bytes_eq found.0 (codes "cells") then option_map Cells (cells_in found.1) else None)))))
 
 -- The request of the words: none is a usage fault.
 unfoldable pub request : List Text → Option Request
@@ -162,6 +170,10 @@ IsPlanRequest request =
     IsAsked request.asked × (LEAST_PLANES ≤ request.planes) × (request.planes ≤ MOST_PLANES) ×
     IfSome request.certificate IsVersion
 
+abbrev pub IsCellsRequest : CellsRequest → Type 0
+IsCellsRequest request =
+    IsAsked request.asked × (LEAST_PLANES ≤ request.planes) × (request.planes ≤ MOST_CELL_PLANES)
+
 -- the same of a request: a line for each command
 abbrev pub HasBounds : Request → Type 0
 HasBounds (Pair request) = IsPairRequest request
@@ -169,3 +181,4 @@ HasBounds (Look asked) = IsAsked asked
 HasBounds (Graph request) = IsGraphRequest request
 HasBounds (Plan request) = IsPlanRequest request
 HasBounds (Check request) = IsAsked request.asked
+HasBounds (Cells request) = IsCellsRequest request

@@ -3,7 +3,7 @@ ghost use Rattle.std.specs.Prelude.{◌≡◌, ◌≤◌, ◌≢◌, codes, map,
 ghost use Rattle.clap.specs.Words.{all_of, first_of, found_of, rows_of};
 ghost use Rattle.staat_vec.specs.Vectors.{IsWithin, origin};
 ghost use Rattle.staat_model.specs.Lines.{IsVersion};
-ghost use Rattle.staat_planes.specs.declared.table.TheConstants.{LEAST_PLANES, MOST_PLANES};
+ghost use Rattle.staat_planes.specs.declared.table.TheConstants.{LEAST_PLANES};
 ghost use Rattle.staat_words.specs.Requests.{ReadsWords, IsInput, certificate_in, digits_asked, input_in, is_given};
 ghost use Rattle.staat_words.specs.Requests.{planes_in, planes_within, vector_in, version_from, version_within};
 
@@ -13,7 +13,7 @@ use clap::ArgMatches;
 use staat_model::MOST_PARTS;
 use staat_number::natural_of;
 use staat_off::MOST_DIGITS;
-use staat_planes::{LEAST_PLANES, MOST_PLANES};
+use staat_planes::LEAST_PLANES;
 use staat_vec::{DIRECTION, Name, Names, V3};
 use std::alloc::{AllocError, Global};
 
@@ -42,13 +42,13 @@ pub fn digits_of(matches: &ArgMatches<'_>) -> Option<u32>
     Some(n as u32)
 }
 
-// The number of planes that a text spells.
-fn planes_within(text: &str) -> Option<u32>
-    ensures exact { result ≡ planes_within text.now }
+// The number of planes that a text spells, where there may be so many at most.
+fn planes_within(text: &str, most: u32) -> Option<u32>
+    ensures exact { result ≡ planes_within most text.now }
     ensures least { IfSome result (λ n. LEAST_PLANES ≤ n) }
-    ensures most { IfSome result (λ n. n ≤ MOST_PLANES) }
+    ensures most { IfSome result (λ n. n ≤ most) }
 {
-    let planes = natural_of(text, u128::from(MOST_PLANES))?;
+    let planes = natural_of(text, u128::from(most))?;
     if planes < u128::from(LEAST_PLANES) {
         return None;
     }
@@ -57,14 +57,15 @@ fn planes_within(text: &str) -> Option<u32>
 
 /// The option `--planes`, as many as there may be where it is not given.
 #[tactic(auto, unfolding(crate::specs::Requests::planes_in))]
-pub fn planes_of(matches: &ArgMatches<'_>) -> Option<u32>
-    ensures exact { result ≡ planes_in (rows_of (found_of matches.now)) }
+pub fn planes_of(matches: &ArgMatches<'_>, most: u32) -> Option<u32>
+    requires { LEAST_PLANES ≤ most }
+    ensures exact { result ≡ planes_in most (rows_of (found_of matches.now)) }
     ensures least { IfSome result (λ n. LEAST_PLANES ≤ n) }
-    ensures most { IfSome result (λ n. n ≤ MOST_PLANES) }
+    ensures most { IfSome result (λ n. n ≤ most) }
 {
     match value_of(matches, "planes") {
-        None => Some(MOST_PLANES),
-        Some(text) => planes_within(text),
+        None => Some(most),
+        Some(text) => planes_within(text, most),
     }
 }
 

@@ -1,7 +1,7 @@
 // The command that `clap` reads the words by: long options alone, files as plain words.
 ghost use Rattle.std.specs.Prelude.{◌≡◌, IfOk, true, false};
 ghost use Rattle.clap.specs.Words.{app_of, rule_of, new_rule, with_rule, with_subcommand};
-ghost use Rattle.staat_words.specs.Command.{bare_app, check_app, command, flag_rule, graph_app, list_rule, look_app, option_rule, pair_app, pair_options_app, plan_app, plan_options_app, required, is_local};
+ghost use Rattle.staat_words.specs.Command.{bare_app, cells_app, check_app, command, flag_rule, graph_app, list_rule, look_app, option_rule, pair_app, pair_options_app, plan_app, plan_options_app, required, is_local};
 
 use clap::{Arg, ArgAction, Command};
 use std::alloc::{AllocError, Global};
@@ -123,6 +123,17 @@ fn check_command<'a>(alloc: Global) -> Result<Command<'a>, AllocError>
     with_arg(check, list_of_words(alloc, "files"))
 }
 
+fn cells_command<'a>(alloc: Global) -> Result<Command<'a>, AllocError>
+    ensures app { IfOk result (λ c. app_of c ≡ cells_app) }
+    ensures local { IfOk result (λ c. is_local c ≡ true) }
+{
+    let cells = Command::new(alloc, "cells");
+    let cells = with_arg(cells, option(alloc, "digits"))?;
+    let cells = with_arg(cells, option(alloc, "manifest"))?;
+    let cells = with_arg(cells, option(alloc, "planes"))?;
+    with_arg(cells, list_of_words(alloc, "files"))
+}
+
 fn with_command<'a>(command: Command<'a>, inner: Command<'a>) -> Result<Command<'a>, AllocError>
     requires { is_local inner ≡ true }
     ensures { IfOk result (λ r. app_of r ≡ with_subcommand (app_of command.entry) (app_of inner.entry).top) }
@@ -149,5 +160,6 @@ pub fn staat_command<'a>(alloc: Global) -> Result<Command<'a>, AllocError>
     let staat = with_command(staat, look_command(alloc)?)?;
     let staat = with_command(staat, graph_command(alloc)?)?;
     let staat = with_command(staat, plan_command(alloc)?)?;
-    with_command(staat, check_command(alloc)?)
+    let staat = with_command(staat, check_command(alloc)?)?;
+    with_command(staat, cells_command(alloc)?)
 }

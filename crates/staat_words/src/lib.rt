@@ -9,7 +9,8 @@ mod vector;
 mod words;
 
 pub use request::{
-    Asked, CheckRequest, GraphRequest, Input, PairRequest, PlanRequest, Request, RequestRefusal,
+    Asked, CellsRequest, CheckRequest, GraphRequest, Input, PairRequest, PlanRequest, Request,
+    RequestRefusal,
 };
 pub use words::request_of;
 

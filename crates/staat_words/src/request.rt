@@ -51,6 +51,14 @@ pub struct PlanRequest {
     pub certificate: Option<u32>,
 }
 
+/// The cells into which the planes of all parts cut the directions, each with its blocking graph.
+#[derive(Drop)]
+pub struct CellsRequest {
+    pub asked: Asked,
+    /// How many planes all parts may have, 3 to `MOST_CELL_PLANES`.
+    pub planes: u32,
+}
+
 /// Whether a certificate is valid for the parts.
 #[derive(Drop)]
 pub struct CheckRequest {
@@ -68,6 +76,7 @@ pub enum Request {
     Graph(GraphRequest),
     Plan(PlanRequest),
     Check(CheckRequest),
+    Cells(CellsRequest),
 }
 
 /// Why words give no request.

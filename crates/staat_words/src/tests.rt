@@ -15,7 +15,7 @@ fn asked(alloc: Global, words: &[&str]) -> Result<Result<Request, RequestRefusal
 #[test]
 fn words_are_taken_or_a_usage_fault(rt: HostRuntime) -> Result<(), Fail> {
     let alloc = rt.alloc();
-    let table: [(&[&str], bool); 63] = [
+    let table: [(&[&str], bool); 67] = [
         (&["pair", "a", "b", "--along=0,0,1", "--wall=1,0,0"], true),
         (&["pair", "--wall=1,0,0", "a", "b", "--along=0,0,1"], true),
         (
@@ -134,6 +134,10 @@ fn words_are_taken_or_a_usage_fault(rt: HostRuntime) -> Result<(), Fail> {
         (&["check"], false),
         (&["check", "c", "--manifest=m", "a"], false),
         (&["check", "c", "a", "--planes=5"], false),
+        (&["cells", "a", "b", "--planes=256"], true),
+        (&["cells", "--manifest=m", "--planes=3"], true),
+        (&["cells", "a", "--planes=257"], false),
+        (&["cells", "a", "--planes=2"], false),
         (&["help"], false),
         (&[], false),
     ];
@@ -208,13 +212,18 @@ fn shown(alloc: Global, request: &Request) -> Result<String, AllocError> {
             let asked = source(alloc, &request.asked)?;
             format!(in alloc; "{asked} by {certificate}")
         }
+        Request::Cells(request) => {
+            let planes = request.planes;
+            let asked = source(alloc, &request.asked)?;
+            format!(in alloc; "{asked}, {planes} planes")
+        }
     }
 }
 
 #[test]
 fn a_request_has_the_values_of_its_words(rt: HostRuntime) -> Result<(), Fail> {
     let alloc = rt.alloc();
-    let table: [(&[&str], &str); 10] = [
+    let table: [(&[&str], &str); 12] = [
         (&["check", "c", "--digits=3", "a", "b"], "3: 2 files by c"),
         (
             &[
@@ -245,6 +254,8 @@ fn a_request_has_the_values_of_its_words(rt: HostRuntime) -> Result<(), Fail> {
             &["plan", "--manifest=m.json"],
             "0: the part list m.json, 1024 planes",
         ),
+        (&["cells", "--digits=1", "a"], "1: 1 files, 256 planes"),
+        (&["cells", "--planes=7", "a"], "0: 1 files, 7 planes"),
         (
             &["plan", "--cert", "a"],
             "0: 1 files, 1024 planes, version 2",

@@ -2,17 +2,21 @@
 ghost use Rattle.std.specs.Prelude.{◌≡◌, map, string_bytes, IfOk, IsErrOf, true, false};
 ghost use Rattle.clap.specs.Words.{found_of, rows_of, subcommand_rows_of};
 ghost use Rattle.staat_words.specs.Command.{is_taken, matches as matches_at};
-ghost use Rattle.staat_words.specs.Requests.{ReadsWords, HasBounds, IsAsked, IsGraphRequest, IsPairRequest, IsPlanRequest, asked_in, check_in, graph_in, pair_in, plan_in, request, request_in};
+ghost use Rattle.staat_words.specs.Requests.{ReadsWords, HasBounds, IsAsked, IsCellsRequest, IsGraphRequest};
+ghost use Rattle.staat_words.specs.Requests.{IsPairRequest, IsPlanRequest, asked_in, cells_in, check_in, graph_in};
+ghost use Rattle.staat_words.specs.Requests.{pair_in, plan_in, request, request_in};
 
 use crate::arguments::{
     certificate_of, digits_of, input_of, name_of, planes_of, value_of, vector_in,
 };
 use crate::command::staat_command;
 use crate::request::{
-    Asked, CheckRequest, GraphRequest, PairRequest, PlanRequest, Request, RequestRefusal,
+    Asked, CellsRequest, CheckRequest, GraphRequest, PairRequest, PlanRequest, Request,
+    RequestRefusal,
 };
 use clap::ArgMatches;
 use clap::error::ErrorKind;
+use staat_planes::{MOST_CELL_PLANES, MOST_PLANES};
 use staat_vec::{DIRECTION, NORMAL};
 use std::alloc::Global;
 
@@ -61,7 +65,7 @@ fn plan_of(alloc: Global, matches: &ArgMatches<'_>) -> Result<PlanRequest, Reque
     ensures bounds { IfOk result IsPlanRequest }
 {
     let asked = asked_of(alloc, matches)?;
-    let planes = planes_of(matches).ok_or(RequestRefusal::Usage)?;
+    let planes = planes_of(matches, MOST_PLANES).ok_or(RequestRefusal::Usage)?;
     let certificate = certificate_of(matches)?;
     Ok(PlanRequest {
         asked,
@@ -79,6 +83,16 @@ fn check_of(alloc: Global, matches: &ArgMatches<'_>) -> Result<CheckRequest, Req
     let certificate = value_of(matches, "certificate").ok_or(RequestRefusal::Usage)?;
     let certificate = name_of(alloc, certificate)?;
     Ok(CheckRequest { asked, certificate })
+}
+
+#[tactic(auto, unfolding(crate::specs::Requests::cells_in))]
+fn cells_of(alloc: Global, matches: &ArgMatches<'_>) -> Result<CellsRequest, RequestRefusal>
+    ensures answers { ReadsWords (cells_in (rows_of (found_of matches.now))) result }
+    ensures bounds { IfOk result IsCellsRequest }
+{
+    let asked = asked_of(alloc, matches)?;
+    let planes = planes_of(matches, MOST_CELL_PLANES).ok_or(RequestRefusal::Usage)?;
+    Ok(CellsRequest { asked, planes })
 }
 
 // The matches of words that `clap` takes.
@@ -115,6 +129,8 @@ fn request_from(alloc: Global, matches: &ArgMatches<'_>) -> Result<Request, Requ
                 Ok(Request::Plan(plan_of(alloc, inner)?))
             } else if name == "check" {
                 Ok(Request::Check(check_of(alloc, inner)?))
+            } else if name == "cells" {
+                Ok(Request::Cells(cells_of(alloc, inner)?))
             } else {
                 Err(RequestRefusal::Usage)
             }

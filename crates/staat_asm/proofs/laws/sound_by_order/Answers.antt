@@ -1,5 +1,5 @@
 use Rattle.std.proofs.Common.{◌≡◌, ◌<◌, ℕ, arith}
-use Rattle.staat_asm.proofs.Soundness.{sound_from}
+use Rattle.staat_asm.proofs.SoundLemmas.{sound_from}
 use Rattle.staat_asm.proofs.laws.sound_by_order.Goals as goal
 
 apart : (a b : ℕ) → a < b → a ≡ b → ⊥

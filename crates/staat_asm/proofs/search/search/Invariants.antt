@@ -1,5 +1,5 @@
 use Rattle.staat_asm.specs.Overlaps.{IsOverlap}
-use Rattle.staat_asm.proofs.Searching.{NoneBelow}
+use Rattle.staat_asm.proofs.SearchLemmas.{NoneBelow}
 use Rattle.staat_asm.proofs.search.search.Given as goal
 
 abbrev pub invariant-loop-a : goal.invariant-loop-a

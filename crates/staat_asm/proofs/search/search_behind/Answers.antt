@@ -1,5 +1,5 @@
 use Rattle.std.proofs.Common.{arith, ◌<◌, length}
-use Rattle.staat_asm.proofs.Searching.{part_within}
+use Rattle.staat_asm.proofs.SearchLemmas.{part_within}
 use Rattle.staat_asm.proofs.search.search_behind.Goals as goal
 
 pub returns : goal.returns

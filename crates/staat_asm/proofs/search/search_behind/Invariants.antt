@@ -1,5 +1,5 @@
 use Rattle.staat_asm.specs.Overlaps.{IsOverlapOfPiece}
-use Rattle.staat_asm.proofs.Searching.{NoneBelow}
+use Rattle.staat_asm.proofs.SearchLemmas.{NoneBelow}
 use Rattle.staat_asm.proofs.search.search_behind.Given as goal
 
 abbrev pub invariant-loop-b : goal.invariant-loop-b

@@ -1,6 +1,6 @@
 use Rattle.std.proofs.Common.{◌<◌, arith, subst}
 use Rattle.staat_model.specs.Assemblies.{piece_count}
-use Rattle.staat_asm.proofs.Searching.{piece_within}
+use Rattle.staat_asm.proofs.SearchLemmas.{piece_within}
 use Rattle.staat_asm.proofs.search.search_from.Goals as goal
 
 pub returns : goal.returns

@@ -1,5 +1,5 @@
 use Rattle.staat_asm.specs.Overlaps.{IsOverlapOfPart}
-use Rattle.staat_asm.proofs.Searching.{NoneBelow}
+use Rattle.staat_asm.proofs.SearchLemmas.{NoneBelow}
 use Rattle.staat_asm.proofs.search.search_from.Given as goal
 
 abbrev pub invariant-loop-i : goal.invariant-loop-i

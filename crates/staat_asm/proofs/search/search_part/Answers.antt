@@ -1,6 +1,6 @@
 use Rattle.std.proofs.Common.{◌<◌, arith, subst}
 use Rattle.staat_model.specs.Assemblies.{piece_count}
-use Rattle.staat_asm.proofs.Searching.{found, piece_within}
+use Rattle.staat_asm.proofs.SearchLemmas.{found, piece_within}
 use Rattle.staat_asm.proofs.search.search_part.Goals as goal
 
 pub returns-then-branch : goal.returns-then-branch

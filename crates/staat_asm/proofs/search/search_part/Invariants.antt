@@ -1,5 +1,5 @@
 use Rattle.staat_asm.specs.Overlaps.{IsOverlapWithPart}
-use Rattle.staat_asm.proofs.Searching.{NoneBelow}
+use Rattle.staat_asm.proofs.SearchLemmas.{NoneBelow}
 use Rattle.staat_asm.proofs.search.search_part.Given as goal
 
 abbrev pub invariant-loop-j : goal.invariant-loop-j

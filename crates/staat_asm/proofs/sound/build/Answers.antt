@@ -1,6 +1,6 @@
 use Rattle.std.proofs.Common.{subst, sym}
 use Rattle.staat_model.specs.Assemblies.{IsSound}
-use Rattle.staat_asm.proofs.Soundness.{sound_from}
+use Rattle.staat_asm.proofs.SoundLemmas.{sound_from}
 use Rattle.staat_asm.proofs.sound.build.Goals as goal
 
 pub seal-requires : goal.seal-requires

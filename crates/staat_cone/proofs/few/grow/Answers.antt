@@ -1,6 +1,6 @@
 use Rattle.std.proofs.Common.{◌≡◌, [], subst}
 use Rattle.staat_cone.specs.Few.{IsGrown}
-use Rattle.staat_cone.proofs.Growing.{nothing_taken, spanning_grown}
+use Rattle.staat_cone.proofs.FewLemmas.{nothing_taken, spanning_grown}
 use Rattle.staat_cone.proofs.Sources.{listed_by_few}
 use Rattle.staat_cone.proofs.few.grow.Goals as goal
 

@@ -2,7 +2,7 @@ use Rattle.std.proofs.Common.{subst, sym, ◌∷◌, [], Contains}
 use Rattle.std.proofs.lemmas.List.Elements.{Contains-append_left}
 use Rattle.staat_model.specs.Cones.{IsAbove}
 use Rattle.staat_cone.proofs.PairLemmas.{refused}
-use Rattle.staat_cone.proofs.Growing.{grown_dropped, grown_found, grown_violated}
+use Rattle.staat_cone.proofs.FewLemmas.{grown_dropped, grown_found, grown_violated}
 use Rattle.staat_cone.proofs.few.settle.Goals as goal
 
 pub returns-then-not-is_above-clause-grown : goal.returns-then-not-is_above-clause-grown

@@ -1,7 +1,7 @@
 use Rattle.std.proofs.Common.{subst, sym, ◌∷◌, [], Contains}
 use Rattle.std.proofs.lemmas.List.Elements.{Contains-append_left, Contains-push}
 use Rattle.staat_model.proofs.Differences.{span_from_three}
-use Rattle.staat_cone.proofs.Growing.{grown_start, grown_by}
+use Rattle.staat_cone.proofs.FewLemmas.{grown_start, grown_by}
 use Rattle.staat_cone.proofs.few.start.Goals as goal
 
 pub returns-clause-grown : goal.returns-clause-grown

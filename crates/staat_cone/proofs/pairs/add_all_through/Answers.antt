@@ -1,6 +1,6 @@
 use Rattle.staat_vec.specs.Vectors.{origin}
 use Rattle.staat_cone.specs.Pairs.{IsThrough}
-use Rattle.staat_cone.proofs.Adding.{Adds-more, Adds-all}
+use Rattle.staat_cone.proofs.PairLists.{Adds-more, Adds-all}
 use Rattle.staat_cone.proofs.pairs.add_all_through.Goals as goal
 
 pub loop-h-preserved : goal.loop-h-preserved

@@ -2,7 +2,7 @@ use Rattle.std.proofs.Common.{◌≡◌, ◌∙◌, subst, sym, get_or}
 use Rattle.staat_vec.specs.declared.vector.V3.{V3}
 use Rattle.staat_vec.specs.Vectors.{minus, origin}
 use Rattle.staat_cone.specs.Pairs.{Adds}
-use Rattle.staat_cone.proofs.Adding.{Adds-more, Adds-one, Adds-all}
+use Rattle.staat_cone.proofs.PairLists.{Adds-more, Adds-one, Adds-all}
 use Rattle.staat_cone.proofs.spread.add_from.Goals as goal
 
 pub loop-b-preserved : goal.loop-b-preserved

@@ -2,7 +2,7 @@ use Rattle.std.proofs.Common.{◌≡◌, [], subst, sym, take}
 use Rattle.staat_vec.specs.declared.vector.V3.{V3}
 use Rattle.staat_vec.specs.Vectors.{minus, origin}
 use Rattle.staat_cone.specs.Pairs.{Adds, FromSome}
-use Rattle.staat_cone.proofs.Adding.{Adds-start, Adds-more, Adds-all}
+use Rattle.staat_cone.proofs.PairLists.{Adds-start, Adds-more, Adds-all}
 use Rattle.staat_cone.proofs.Sources.{differences_added}
 use Rattle.staat_cone.proofs.spread.differences_between.Goals as goal
 

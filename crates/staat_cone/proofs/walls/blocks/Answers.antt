@@ -1,4 +1,4 @@
-use Rattle.staat_cone.proofs.Ends.{meets_by_list}
+use Rattle.staat_cone.proofs.WallLemmas.{meets_by_list}
 use Rattle.staat_cone.proofs.walls.blocks.Goals as goal
 
 pub returns-clause-meets : goal.returns-clause-meets

@@ -1,6 +1,6 @@
 use Rattle.std.proofs.Common.{subst, ◌≤ℤ◌}
 use Rattle.staat_vec.specs.Vectors.{dot, origin}
-use Rattle.staat_cone.proofs.Ends.{farther_step, placed_step}
+use Rattle.staat_cone.proofs.WallLemmas.{farther_step, placed_step}
 use Rattle.staat_cone.proofs.walls.highest.Goals as goal
 
 pub loop-p-preserved : goal.loop-p-preserved

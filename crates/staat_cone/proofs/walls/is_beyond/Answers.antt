@@ -1,6 +1,6 @@
 use Rattle.std.proofs.Common.{subst, All, Contains, ◌≤ℤ◌}
 use Rattle.staat_vec.specs.Vectors.{dot}
-use Rattle.staat_cone.proofs.Ends.{beyond_by_ends, not_less}
+use Rattle.staat_cone.proofs.WallLemmas.{beyond_by_ends, not_less}
 use Rattle.staat_cone.proofs.walls.is_beyond.Goals as goal
 
 pub returns : goal.returns

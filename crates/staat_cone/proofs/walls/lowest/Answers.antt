@@ -1,6 +1,6 @@
 use Rattle.std.proofs.Common.{subst, ◌≤ℤ◌}
 use Rattle.staat_vec.specs.Vectors.{dot, origin}
-use Rattle.staat_cone.proofs.Ends.{nearer_step, placed_step}
+use Rattle.staat_cone.proofs.WallLemmas.{nearer_step, placed_step}
 use Rattle.staat_cone.proofs.walls.lowest.Goals as goal
 
 pub loop-p-preserved : goal.loop-p-preserved

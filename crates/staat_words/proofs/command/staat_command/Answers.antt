@@ -12,5 +12,6 @@ returns c =
     let look = c.in_ok-staat-2.ensures ∙ ap₂ (λ a b. with_subcommand a b.top) pair c.in_ok-look_command.ensures.app in
     let graph = c.in_ok-staat-3.ensures ∙ ap₂ (λ a b. with_subcommand a b.top) look c.in_ok-graph_command.ensures.app in
     let plan = c.in_ok-staat-4.ensures ∙ ap₂ (λ a b. with_subcommand a b.top) graph c.in_ok-plan_command.ensures.app in
-    let check = ap₂ (λ a b. with_subcommand a b.top) plan c.in_ok-check_command.ensures.app in
-    subst (λ app. IfOk c.with_command-5.result (λ r. app_of r ≡ app)) check c.with_command-5.ensures
+    let check = c.in_ok-staat-5.ensures ∙ ap₂ (λ a b. with_subcommand a b.top) plan c.in_ok-check_command.ensures.app in
+    let cells = ap₂ (λ a b. with_subcommand a b.top) check c.in_ok-cells_command.ensures.app in
+    subst (λ app. IfOk c.with_command-6.result (λ r. app_of r ≡ app)) cells c.with_command-6.ensures

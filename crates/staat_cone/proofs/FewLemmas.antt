@@ -1,9 +1,9 @@
 -- Few of the differences of two pieces, and what is known of the facets of their cone while they grow.
 use Rattle.std.proofs.Common.{◌≡◌, ◌↔◌, ℕ, zero, suc, ◌-◌, ◌<◌, refl, take, None, IsSome, ◌⊎◌, inl, inr, ⊎_elim, sym, ap, subst, ◌∙◌, arith, ℤ, pos, ◌-ℤ◌, ◌≤ℤ◌, ◌<ℤ◌, List, [], ◌∷◌, ◌++◌, All, Contains}
 use Rattle.std.proofs.lemmas.Int.{ints}
-use Rattle.std.proofs.lemmas.List.Elements.{All-contains, All-weaker, All-push, Contains-append_left, Contains-push, Contains-push_cases}
+use Rattle.std.proofs.lemmas.List.Elements.{All-contains, All-push, Contains-append_left, Contains-push, Contains-push_cases}
 use Rattle.staat_vec.specs.declared.vector.V3.{V3}
-use Rattle.staat_vec.specs.declared.vector.TheConstants.{DIFF, NORMAL}
+use Rattle.staat_vec.specs.declared.vector.TheConstants.{DIFF}
 use Rattle.staat_vec.specs.Vectors.{IsWithin, dot, minus}
 use Rattle.staat_vec.proofs.Unique.{Contains-nothing}
 use Rattle.staat_vec.proofs.VecRing.{dot_comm}
@@ -17,10 +17,7 @@ use Rattle.staat_cone.specs.declared.walls.Placed.{Placed}
 use Rattle.staat_cone.specs.Pairs.{Adds, FromSome, IsThrough}
 use Rattle.staat_cone.specs.Few.{IsCandidate, IsEnough, IsGrown, IsDifferenceStep, IsViolator}
 use Rattle.staat_cone.proofs.PairLemmas.{facet_grown, facet_on_side}
-use Rattle.staat_cone.proofs.Sizes.{across_within}
-
-pub steps_within : (p q vs : List V3) → All (IsDifferenceStep p q) vs → All (IsWithin DIFF) vs
-steps_within p q vs steps = All-weaker (IsDifferenceStep p q) (IsWithin DIFF) (λ v s. s.within) vs steps
+use Rattle.staat_cone.proofs.SourceSizes.{across_within}
 
 -- nothing is known of no vectors
 grown_nothing : (p q : List V3) → IsGrown p q [] [] []
@@ -73,9 +70,6 @@ module _ (p q few untested found : List V3) (n : V3) (is : IsGrown p q few (unte
 
   others : All (IsCandidate p q) untested
   others = All-from_members (IsCandidate p q) untested (λ m c. All-contains (IsCandidate p q) (untested ++ n ∷ []) m is.untested_are (Contains-append_left untested (n ∷ []) m c))
-
-  pub last_within : IsWithin NORMAL n
-  last_within = last.within
 
   without : (m : V3) → IsConeFacet few m → (n ≡ m → ⊥) → Contains untested m ⊎ Contains found m
   without m f other = ⊎_elim (λ c. ⊎_elim (λ d. inl d) (λ e. absurd (other e)) (Contains-push_cases untested n m c)) (λ c. inr c) (is.all m f)

@@ -9,7 +9,7 @@ use Rattle.staat_model.specs.declared.certificate.Arc.{Arc}
 use Rattle.staat_model.specs.Assemblies.{IsSound}
 use Rattle.staat_model.specs.Meeting.{Overlap, mix}
 use Rattle.staat_asm.specs.Overlaps.{IsOverlap}
-use Rattle.staat_asm.proofs.Searching.{split}
+use Rattle.staat_asm.proofs.SearchLemmas.{split}
 
 pub still : (m : V3) → plus m (times 0 origin) ≡ m
 still m = ring3 (values (m ∷ []) []) (plusE v0 (timesE (num (pos 0)) originE)) v0 (tt, tt, tt)

@@ -1,0 +1,95 @@
+-- The rows of the graph of a cell, arc by arc.
+use Rattle.std.proofs.Common.{◌≡◌, ◌≢◌, ◌⊎◌, ◌↔◌, inl, inr, ⊎_elim, ℕ, ◌+◌, ◌<◌, ◌≤◌, refl, sym, ap, subst, ◌∙◌, arith}
+use Rattle.std.proofs.Common.{List, [], ◌∷◌, ◌++◌, length, get_or, replicate, take, All, Contains}
+use Rattle.std.specs.Prelude.{slice_index, slice_set}
+use Rattle.std.specs.Int.{bit_at}
+use Rattle.std.proofs.lemmas.List.{get_or_past, get_or-replicate, length-set, take_all, take_more}
+use Rattle.std.proofs.lemmas.Nat.Bits.{bit_at-zero}
+use Rattle.staat_vec.specs.declared.vector.V3.{V3}
+use Rattle.staat_vec.specs.declared.vector.Sign.{Sign}
+use Rattle.staat_model.specs.declared.assembly.Part.{Part}
+use Rattle.staat_model.specs.Cells.{signs_of}
+use Rattle.staat_graph.specs.Blocking.{ShowsBlocking}
+use Rattle.staat_graph.specs.Graphs.{HasArc}
+use Rattle.staat_graph.proofs.Arcs.{row_set}
+use Rattle.staat_pairs.specs.Tables.{Table, WasMadeFrom}
+use Rattle.staat_planes.proofs.GraphLaw.{arcs_are_blocking, shows_blocking}
+use Rattle.staat_cells.specs.declared.piece_arcs.PieceArc.{PieceArc}
+use Rattle.staat_cells.specs.CellGraphs.{HasArcsOf, HasSign, IsArcAt, IsCellGraph}
+use Rattle.staat_cells.proofs.PieceArcs.{arc_pushed}
+
+-- the rows have the arcs of the first pieces
+pub record HasArcsUpTo (rows : List ℕ) (arcs : List PieceArc) (signs : List Sign) (k : ℕ) : Type 0 where
+  pub long : length rows ≡ 32
+  pub has : (a b : ℕ) → HasArc rows a b ↔ IsArcAt (take k arcs) signs a b
+
+lt_or : (a b : ℕ) → (a < b) ⊎ (b ≤ a)
+lt_or a b = grind arith
+
+pub no_rows : (arcs : List PieceArc) (signs : List Sign) → HasArcsUpTo (replicate 32 0) arcs signs 0
+no_rows arcs signs = record { long = refl; has = λ a b. (λ h. absurd (none a b h), λ h. absurd (nothing h.pieces h.listed)) }
+  where
+    zero_row : (a : ℕ) → slice_index (replicate 32 0) a ≡ 0
+    zero_row a = ⊎_elim (λ lt. get_or-replicate 32 a 0 0 lt) (λ le. get_or_past (replicate 32 0) a 0 le) (lt_or a 32)
+
+    none : (a b : ℕ) → HasArc (replicate 32 0) a b → ⊥
+    none a b h = let e : bit_at (slice_index (replicate 32 0) a) b ≡ 0 = ap (λ r. bit_at r b) (zero_row a) ∙ bit_at-zero b in absurd (omega (arith, e, h))
+
+    nothing : (x : PieceArc) → Contains [] x → ⊥
+    nothing x c = let lt = c.1 in omega (arith, lt)
+
+pub rows_set : (rows : List ℕ) (arcs : List PieceArc) (signs : List Sign) (k word : ℕ) (x : PieceArc) → k < length arcs → x ≡ get_or arcs k x → x.a < 32
+    → All (HasSign signs) x.facets → ((q : ℕ) → (bit_at word q ≡ 1) ↔ ((bit_at (slice_index rows x.a) q ≡ 1) ⊎ (q ≡ x.b)))
+    → HasArcsUpTo rows arcs signs k → HasArcsUpTo (slice_set rows x.a word) arcs signs (k + 1)
+rows_set rows arcs signs k word x lt at small ahead bits before = record {
+  long = length-set rows x.a word ∙ before.long;
+  has = λ y. row_set rows x.a y word (IsArcAt (take (k + 1) arcs) signs) (let e = before.long in omega (arith, e, small)) own (other y);
+}
+  where
+    grown : take (k + 1) arcs ≡ take k arcs ++ x ∷ []
+    grown = take_more arcs k x lt ∙ ap (λ y. take k arcs ++ y ∷ []) (sym at)
+
+    more : (a b : ℕ) → IsArcAt (take (k + 1) arcs) signs a b ↔ (IsArcAt (take k arcs) signs a b ⊎ ((x.a ≡ a) × (x.b ≡ b) × All (HasSign signs) x.facets))
+    more a b = subst (λ l. IsArcAt l signs a b ↔ (IsArcAt (take k arcs) signs a b ⊎ ((x.a ≡ a) × (x.b ≡ b) × All (HasSign signs) x.facets))) (sym grown) (arc_pushed (take k arcs) x signs a b)
+
+    own : (q : ℕ) → (bit_at word q ≡ 1) ↔ IsArcAt (take (k + 1) arcs) signs x.a q
+    own q = (
+      λ h. (more x.a q).1 (⊎_elim {C = IsArcAt (take k arcs) signs x.a q ⊎ ((x.a ≡ x.a) × (x.b ≡ q) × All (HasSign signs) x.facets)}
+          (λ l. inl ((before.has x.a q).0 l)) (λ e. inr (refl, sym e, ahead)) ((bits q).0 h)),
+      λ h. (bits q).1 (⊎_elim {C = (bit_at (slice_index rows x.a) q ≡ 1) ⊎ (q ≡ x.b)}
+          (λ l. inl ((before.has x.a q).1 l)) (λ e. inr (sym e.1)) ((more x.a q).0 h)),
+    )
+
+    other : (y q : ℕ) → y ≢ x.a → HasArc rows y q ↔ IsArcAt (take (k + 1) arcs) signs y q
+    other y q ne = (
+      λ h. (more y q).1 (inl ((before.has y q).0 h)),
+      λ h. (before.has y q).1 (⊎_elim {C = IsArcAt (take k arcs) signs y q} (λ l. l) (λ e. absurd (ne (sym e.0))) ((more y q).0 h)),
+    )
+
+pub rows_kept : (rows : List ℕ) (arcs : List PieceArc) (signs : List Sign) (k : ℕ) (x : PieceArc) → k < length arcs → x ≡ get_or arcs k x
+    → (All (HasSign signs) x.facets → ⊥) → HasArcsUpTo rows arcs signs k → HasArcsUpTo rows arcs signs (k + 1)
+rows_kept rows arcs signs k x lt at not before = record {
+  long = before.long;
+  has = λ a b. (
+    λ h. subst (λ l. IsArcAt l signs a b) (sym grown) ((arc_pushed (take k arcs) x signs a b).1 (inl ((before.has a b).0 h))),
+    λ h. (before.has a b).1 (⊎_elim {C = IsArcAt (take k arcs) signs a b} (λ l. l) (λ e. absurd (not e.2))
+        ((arc_pushed (take k arcs) x signs a b).0 (subst (λ l. IsArcAt l signs a b) grown h))),
+  );
+}
+  where
+    grown : take (k + 1) arcs ≡ take k arcs ++ x ∷ []
+    grown = take_more arcs k x lt ∙ ap (λ y. take k arcs ++ y ∷ []) (sym at)
+
+pub graph_is : (t : Table) (arcs : List PieceArc) (signs : List Sign) (rows : List ℕ) (k : ℕ) → length arcs ≤ k → HasArcsUpTo rows arcs signs k → HasArcsOf t arcs
+    → IsCellGraph t signs rows
+graph_is t arcs signs rows k le all tells d e a b = (
+  λ h. (tells d a b).0 (subst (λ s. IsArcAt arcs s a b) (sym e) (subst (λ l. IsArcAt l signs a b) whole ((all.has a b).0 h))),
+  λ h. (all.has a b).1 (subst (λ l. IsArcAt l signs a b) (sym whole) (subst (λ s. IsArcAt arcs s a b) e ((tells d a b).1 h))),
+)
+  where
+    whole : take k arcs ≡ arcs
+    whole = take_all k arcs le
+
+pub graph_shows : (t : Table) (parts : List Part) (d : V3) (signs : List Sign) (rows : List ℕ) → IsCellGraph t signs rows → WasMadeFrom parts t
+    → signs_of t.planes d ≡ signs → ShowsBlocking parts d t.of rows
+graph_shows t parts d signs rows graph made e = shows_blocking parts t d rows (arcs_are_blocking parts t d rows made (graph d e))

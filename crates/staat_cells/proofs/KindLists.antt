@@ -1,0 +1,82 @@
+-- The lists of each kind, from the incidences that were found.
+use Rattle.std.proofs.Common.{◌≡◌, ◌↔◌, ℕ, ◌<◌, ◌≤◌, sym, subst, ◌∙◌, List, length, get_or, map, All, Contains}
+use Rattle.std.proofs.lemmas.List.{length-map}
+use Rattle.staat_vec.specs.declared.vector.V3.{V3}
+use Rattle.staat_vec.specs.Lists.{Lists}
+use Rattle.staat_vec.specs.Vectors.{vector_cmp}
+use Rattle.staat_model.specs.declared.tree.Kind.{Kind}
+use Rattle.staat_model.specs.declared.tree.Kind.TheVariants.{Edge, Open, Point}
+use Rattle.staat_model.specs.Cells.{AreCellsOf}
+use Rattle.staat_model.specs.Planes.{vertices}
+use Rattle.staat_pairs.specs.Tables.{AreTablePlanes}
+use Rattle.staat_cells.specs.declared.cell.Cell.{Cell}
+use Rattle.staat_cells.specs.declared.incidence.Incidence.{Incidence}
+use Rattle.staat_cells.specs.Compositions.{entry_of, composed_up_to, HavePairs}
+use Rattle.staat_cells.specs.Packing.{incidence_cmp}
+use Rattle.staat_cells.specs.Stages.{cell_at, point_entry, IsFilledIncidence, IsOwnIncidence, IsIncidence}
+use Rattle.staat_cells.proofs.EdgeCells.{edge_entry, edge_some, edge_two}
+use Rattle.staat_cells.proofs.Grouping.{composed_are_cells, pairs}
+use Rattle.staat_cells.proofs.Composing.{same_index}
+use Rattle.staat_cells.proofs.Numbered.{listed_was}
+use Rattle.staat_cells.proofs.OpenCells.{open_entry, open_some, open_two}
+use Rattle.staat_cells.proofs.PointCells.{points_are}
+use Rattle.staat_cells.proofs.TableRules.{holds_axes, planes_apart, planes_some}
+use Rattle.staat_cells.proofs.WholeLists.{lists_same, open_incidences_are}
+
+counted : (kind : Kind) (cells : List Cell) (incidences : List Incidence) → HavePairs incidences (length (map entry_of cells)) → HavePairs incidences (length cells)
+counted kind cells incidences have = subst (HavePairs incidences) (length-map cells entry_of) have
+
+module _ (planes : List V3) (are : AreTablePlanes planes) (few : length planes ≤ 256) where
+  -- ---- points
+
+  pub incidences_listed : (raw : List Cell) (found sorted incidences : List Incidence) → incidences ≡ sorted → ((x : Incidence) → Contains found x ↔ IsOwnIncidence (map entry_of raw) x) → Lists incidence_cmp (Contains found) sorted → All (λ x. x.of < length raw) incidences
+  incidences_listed raw found sorted incidences e own lists = subst (All (λ x. x.of < length raw)) (sym e) (all sorted (lists_same (IsOwnIncidence (map entry_of raw)) found sorted own lists))
+    where
+      all : (sorted : List Incidence) → Lists incidence_cmp (IsOwnIncidence (map entry_of raw)) sorted → All (λ x. x.of < length raw) sorted
+      all sorted l k d lt = let o = l.each (get_or sorted k d) (k, lt, same sorted k d lt) in listed_was raw (get_or sorted k d).of o.listed
+        where
+          same : (xs : List Incidence) (k : ℕ) (d : Incidence) → k < length xs → get_or xs k (get_or xs k d) ≡ get_or xs k d
+          same xs k d lt = same_index xs k (get_or xs k d) d lt
+
+  pub points_listed : (raw cells : List Cell) (corners : List V3) (found sorted incidences : List Incidence) → map entry_of raw ≡ map (point_entry planes) corners → Lists vector_cmp (Contains (vertices planes)) corners
+      → incidences ≡ sorted → ((x : Incidence) → Contains found x ↔ IsOwnIncidence (map entry_of raw) x) → Lists incidence_cmp (Contains found) sorted → map entry_of cells ≡ map (λ x. cell_at (map entry_of raw) x.of) incidences → AreCellsOf planes Point (map entry_of cells)
+  points_listed raw cells corners found sorted incidences is listed e own lists made =
+      subst (AreCellsOf planes Point) (sym (made ∙ (λ i. map (λ x. cell_at (is i) x.of) (e i))))
+      (points_are planes (holds_axes planes are) (planes_apart planes are) few corners listed sorted (subst (λ l. Lists incidence_cmp (IsOwnIncidence l) sorted) is (lists_same (IsOwnIncidence (map entry_of raw)) found sorted own lists)))
+
+  -- ---- edges
+
+  module _ (points : List Cell) (points_are : AreCellsOf planes Point (map entry_of points)) (found sorted incidences : List Incidence) (e : incidences ≡ sorted) (same : (x : Incidence) → Contains found x ↔ IsIncidence planes Edge (map entry_of points) x) (lists : Lists incidence_cmp (Contains found) sorted) where
+    edge_lists : Lists incidence_cmp (IsIncidence planes Edge (map entry_of points)) incidences
+    edge_lists = subst (Lists incidence_cmp (IsIncidence planes Edge (map entry_of points))) (sym e) (lists_same (IsIncidence planes Edge (map entry_of points)) found sorted same lists)
+
+    pub edge_pairs : HavePairs incidences (length points)
+    edge_pairs = counted Edge points incidences (pairs planes Edge (map entry_of points) incidences few edge_lists (edge_two planes (holds_axes planes are) (planes_apart planes are) (planes_some planes are) (map entry_of points) points_are))
+
+    pub edges_listed : (cells : List Cell) → map entry_of cells ≡ composed_up_to Edge (map entry_of points) incidences (length incidences) → AreCellsOf planes Edge (map entry_of cells)
+    edges_listed cells made =
+        subst (AreCellsOf planes Edge) (sym made)
+        (composed_are_cells planes Edge (map entry_of points) incidences few edge_lists
+        (edge_two planes (holds_axes planes are) (planes_apart planes are) (planes_some planes are) (map entry_of points) points_are)
+        (edge_entry planes (holds_axes planes are) (planes_apart planes are) (planes_some planes are) (map entry_of points) points_are)
+        (edge_some planes (holds_axes planes are) (planes_apart planes are) (planes_some planes are) (map entry_of points) points_are))
+
+  -- ---- open cells
+
+  module _ (edges : List Cell) (edges_are : AreCellsOf planes Edge (map entry_of edges)) (found sorted incidences : List Incidence) (e : incidences ≡ sorted) (same : (x : Incidence) → Contains found x ↔ IsFilledIncidence (map entry_of edges) x) (lists : Lists incidence_cmp (Contains found) sorted) where
+    open_lists : Lists incidence_cmp (IsIncidence planes Open (map entry_of edges)) incidences
+    open_lists =
+        subst (Lists incidence_cmp (IsIncidence planes Open (map entry_of edges))) (sym e)
+        (lists_same (IsIncidence planes Open (map entry_of edges)) found sorted
+        (λ x. let a = same x in let b = open_incidences_are planes are (map entry_of edges) edges_are x in (λ c. b.0 (a.0 c), λ s. a.1 (b.1 s))) lists)
+
+    pub open_pairs : HavePairs incidences (length edges)
+    open_pairs = counted Open edges incidences (pairs planes Open (map entry_of edges) incidences few open_lists (open_two planes (holds_axes planes are) (planes_apart planes are) (planes_some planes are) (map entry_of edges) edges_are))
+
+    pub opens_listed : (cells : List Cell) → map entry_of cells ≡ composed_up_to Open (map entry_of edges) incidences (length incidences) → AreCellsOf planes Open (map entry_of cells)
+    opens_listed cells made =
+        subst (AreCellsOf planes Open) (sym made)
+        (composed_are_cells planes Open (map entry_of edges) incidences few open_lists
+        (open_two planes (holds_axes planes are) (planes_apart planes are) (planes_some planes are) (map entry_of edges) edges_are)
+        (open_entry planes (holds_axes planes are) (planes_apart planes are) (planes_some planes are) (map entry_of edges) edges_are)
+        (open_some planes (holds_axes planes are) (planes_apart planes are) (planes_some planes are) (map entry_of edges) edges_are))

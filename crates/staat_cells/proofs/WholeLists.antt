@@ -1,0 +1,153 @@
+-- The lists of all cells: each representative lies in its cell, and each direction in one cell.
+use Rattle.std.proofs.Common.{◌≡◌, ◌≢◌, ◌⊎◌, ◌↔◌, inl, inr, ⊎_elim, ℕ, ◌<◌, ◌≤◌, refl, sym, ap, subst, ◌∙◌, arith, lit≤, List, ◌++◌, length, get_or, map, All, Contains}
+use Rattle.std.proofs.lemmas.List.{get_or-map, length-map}
+use Rattle.std.proofs.lemmas.List.Elements.{All-append}
+use Rattle.staat_vec.specs.declared.vector.V3.{V3}
+use Rattle.staat_vec.specs.declared.vector.Sign.{Sign}
+use Rattle.staat_vec.specs.declared.vector.Sign.TheVariants.{Neg, Zero, Pos}
+use Rattle.staat_vec.specs.declared.vector.TheConstants.{DIRECTION, EDGE, VERTEX}
+use Rattle.staat_vec.specs.Lists.{Lists}
+use Rattle.staat_vec.specs.Vectors.{IsWithin, origin}
+use Rattle.staat_vec.proofs.Bounds.{IsWithin-plus, IsWithin-wider}
+use Rattle.staat_vec.proofs.Unique.{IsFirst-in}
+use Rattle.staat_model.specs.declared.tree.Kind.{Kind}
+use Rattle.staat_model.specs.declared.tree.Kind.TheVariants.{Edge, Open, Point}
+use Rattle.staat_model.specs.Cells.{kind_of, signs_of, AreCells, AreCellsOf, CellEntry, IsCell, IsEdgeSum, IsEntry, IsOpenSum}
+use Rattle.staat_model.specs.Planes.{vertices}
+use Rattle.staat_model.proofs.CellLemmas.{edges_add_up_lemma}
+use Rattle.staat_model.proofs.Corners.{HoldsAxes}
+use Rattle.staat_model.proofs.EndLemmas.{edge_sum_in}
+use Rattle.staat_model.proofs.PlaneLemmas.{NoneParallel}
+use Rattle.staat_pairs.specs.Tables.{AreTablePlanes}
+use Rattle.staat_cells.specs.declared.cell.Cell.{Cell}
+use Rattle.staat_cells.specs.declared.incidence.Incidence.{Incidence}
+use Rattle.staat_cells.specs.Compositions.{entry_of, no_cell, HaveEqualLengths}
+use Rattle.staat_cells.specs.Packing.{incidence_cmp, incidence_of}
+use Rattle.staat_cells.specs.Beside.{filled}
+use Rattle.staat_cells.specs.Stages.{cell_at, IsFilledIncidence, IsIncidence, IsVertexPoint}
+use Rattle.staat_cells.proofs.Grouping.{cell_length}
+use Rattle.staat_cells.proofs.Listed.{entry_at}
+use Rattle.staat_cells.proofs.OpenIncidences.{filled_open, open_filled}
+use Rattle.staat_cells.proofs.TableRules.{holds_axes, planes_apart, planes_some, vertex_small}
+
+-- what holds of all entries holds of the cells
+pub of_cells : (P : CellEntry → Type 0) (cells : List Cell) → All P (map entry_of cells) → All (λ c. P (entry_of c)) cells
+of_cells P cells all k d lt = subst P (get_or-map entry_of cells k d no_cell lt) (all k no_cell (let e = length-map cells entry_of in omega (arith, e)))
+
+pub lists_same : (P : Incidence → Type 0) (found incidences : List Incidence) → ((x : Incidence) → Contains found x ↔ P x) → Lists incidence_cmp (Contains found) incidences → Lists incidence_cmp P incidences
+lists_same P found incidences same lists = record { ascending = lists.ascending; each = λ x c. (same x).0 (lists.each x c); all = λ x p. lists.all x ((same x).1 p) }
+
+module _ (planes : List V3) (are : AreTablePlanes planes) where
+  axes : HoldsAxes planes
+  axes = holds_axes planes are
+
+  apart : NoneParallel planes
+  apart = planes_apart planes are
+
+  some : (g : V3) → Contains planes g → g ≢ origin
+  some = planes_some planes are
+
+  small : (v : V3) → Contains (vertices planes) v → IsWithin VERTEX v
+  small v has = vertex_small planes v are has
+
+  -- ---- each representative lies in its cell
+
+  edge_on : (s : List Sign) (d : V3) → IsCell planes s → kind_of s ≡ Edge → IsEdgeSum planes s d → signs_of planes d ≡ s
+  edge_on s d cell edge sum = edge_sum_in planes s axes apart some cell edge d sum
+
+  pub representative_in : (kind : Kind) (c : CellEntry) → IsEntry planes kind c → signs_of planes c.d ≡ c.signs
+  representative_in Point c e = (IsFirst-in (λ v. signs_of planes v ≡ c.signs) (vertices planes) c.d e.representative).1
+  representative_in Edge c e = edge_on c.signs c.d e.cell e.by_count e.representative
+  representative_in Open c e = go e.representative
+    where
+      go : IsOpenSum planes c.signs c.d → signs_of planes c.d ≡ c.signs
+      go sum =
+          let e_first = sum.first in
+          let e_is = e_first.has in
+          let f_second = sum.second in
+          let (f_is, different) = f_second.has in
+          ap (signs_of planes) sum.is
+          ∙ edges_add_up_lemma planes c.signs sum.e sum.f sum.u sum.v e_is.edge f_is.edge e_is.border f_is.border (λ q. different (sym q))
+          (edge_on sum.e sum.u e_is.cell e_is.edge sum.u_is)
+          (edge_on sum.f sum.v f_is.cell f_is.edge sum.v_is)
+
+  pub representatives : (cells : List CellEntry) → AreCells planes cells → All (λ c. signs_of planes c.d ≡ c.signs) cells
+  representatives cells all =
+      let p = all.points_are in
+      let e = all.edges_are in
+      let o = all.opens_are in
+      let P : CellEntry → Type 0 = λ c. signs_of planes c.d ≡ c.signs in
+      subst (All P) (sym all.is) (All-append P (all.points ++ all.edges) all.opens (All-append P all.points all.edges (λ k d l. representative_in Point (get_or all.points k d) (p.each k d l)) (λ k d l. representative_in Edge (get_or all.edges k d) (e.each k d l))) (λ k d l. representative_in Open (get_or all.opens k d) (o.each k d l)))
+
+  -- ---- points, edges and their sizes
+
+  entry_in : (kind : Kind) (cells : List Cell) → AreCellsOf planes kind (map entry_of cells) → (k : ℕ) (d : Cell) → k < length cells → IsEntry planes kind (entry_of (get_or cells k d))
+  entry_in kind cells listed k d lt =
+      subst (IsEntry planes kind) (get_or-map entry_of cells k d no_cell lt) (listed.each k no_cell (let e = length-map cells entry_of in omega (arith, e)))
+
+  pub vertex_points : (cells : List Cell) → AreCellsOf planes Point (map entry_of cells) → All (IsVertexPoint planes) cells
+  vertex_points cells points k d lt =
+      let c = get_or cells k d in
+      let e = entry_in Point cells points k d lt in
+      let f = IsFirst-in (λ v. signs_of planes v ≡ c.signs) (vertices planes) c.d e.representative in
+      record { vertex = f.0; signs = sym f.1 }
+
+  pub equal_lengths : (kind : Kind) (cells : List Cell) → AreCellsOf planes kind (map entry_of cells) → HaveEqualLengths cells
+  equal_lengths kind cells listed = (length planes, λ k d lt. let c = get_or cells k d in let e = entry_in kind cells listed k d lt in cell_length planes c.signs e.cell)
+
+  pub few_signs : (kind : Kind) (cells : List Cell) → AreCellsOf planes kind (map entry_of cells) → length planes ≤ 256 → All (λ c. length c.signs ≤ 256) cells
+  few_signs kind cells listed few k d lt = let c = get_or cells k d in let e = entry_in kind cells listed k d lt in let l = cell_length planes c.signs e.cell in omega (arith, l, few)
+
+  pub points_small : (cells : List Cell) → AreCellsOf planes Point (map entry_of cells) → All (λ c. IsWithin EDGE c.d) cells
+  points_small cells points k d lt = let c = get_or cells k d in let p = vertex_points cells points k d lt in IsWithin-wider VERTEX EDGE c.d (lit≤ tt) (small c.d p.vertex)
+
+  edge_small : (s : List Sign) (d : V3) → IsEdgeSum planes s d → IsWithin EDGE d
+  edge_small s d sum =
+      let l = sum.ends in
+      let a = l.each sum.u (0, omega arith, refl) in
+      let b = l.each sum.v (1, omega arith, refl) in
+      subst (IsWithin EDGE) (sym sum.is) (IsWithin-plus VERTEX VERTEX sum.u sum.v (small sum.u a.vertex) (small sum.v b.vertex))
+
+  pub edges_small : (cells : List Cell) → AreCellsOf planes Edge (map entry_of cells) → All (λ c. IsWithin EDGE c.d) cells
+  edges_small cells edges k d lt = let c = get_or cells k d in let e = entry_in Edge cells edges k d lt in edge_small c.signs c.d e.representative
+
+  cell_small : (kind : Kind) (c : CellEntry) → IsEntry planes kind c → IsWithin DIRECTION c.d
+  cell_small Point c e = IsWithin-wider VERTEX DIRECTION c.d (lit≤ tt) (small c.d (IsFirst-in (λ v. signs_of planes v ≡ c.signs) (vertices planes) c.d e.representative).0)
+  cell_small Edge c e = IsWithin-wider EDGE DIRECTION c.d (lit≤ tt) (edge_small c.signs c.d e.representative)
+  cell_small Open c e = go e.representative
+    where
+      go : IsOpenSum planes c.signs c.d → IsWithin DIRECTION c.d
+      go sum = subst (IsWithin DIRECTION) (sym sum.is) (IsWithin-plus EDGE EDGE sum.u sum.v (edge_small sum.e sum.u sum.u_is) (edge_small sum.f sum.v sum.v_is))
+
+  pub cells_small : (cells : List CellEntry) → AreCells planes cells → All (λ c. IsWithin DIRECTION c.d) cells
+  cells_small cells all =
+      let p = all.points_are in
+      let e = all.edges_are in
+      let o = all.opens_are in
+      let P : CellEntry → Type 0 = λ c. IsWithin DIRECTION c.d in
+      subst (All P) (sym all.is) (All-append P (all.points ++ all.edges) all.opens (All-append P all.points all.edges (λ k d l. cell_small Point (get_or all.points k d) (p.each k d l)) (λ k d l. cell_small Edge (get_or all.edges k d) (e.each k d l))) (λ k d l. cell_small Open (get_or all.opens k d) (o.each k d l)))
+
+  -- ---- the incidences of edges
+
+  pub open_incidences_are : (edges : List CellEntry) → AreCellsOf planes Edge edges → (x : Incidence) → IsFilledIncidence edges x ↔ IsIncidence planes Open edges x
+  open_incidences_are edges listed x = (λ f. ⊎_elim (towards f.listed Neg (λ q. cc)) (towards f.listed Pos (λ q. cc)) f.is, back)
+    where
+      towards : x.of < length edges → (t : Sign) → t ≢ Zero → x ≡ incidence_of (filled t (cell_at edges x.of).signs) x.of → IsIncidence planes Open edges x
+      towards lt t off e =
+          let c = cell_at edges x.of in
+          let entry = entry_at planes Edge edges listed x.of lt in
+          let (cell, kind, border) = filled_open planes c.signs t some entry.cell entry.by_count off in
+          record { signs = filled t c.signs; under = record { cell = cell; by_count = kind; listed = lt; border = border }; is = e }
+
+      back : IsIncidence planes Open edges x → IsFilledIncidence edges x
+      back s =
+          let u = s.under in
+          let c = cell_at edges x.of in
+          let entry = entry_at planes Edge edges listed x.of u.listed in
+          record {
+            listed = u.listed;
+            is = ⊎_elim {C = (x ≡ incidence_of (filled Neg c.signs) x.of) ⊎ (x ≡ incidence_of (filled Pos c.signs) x.of)}
+                (λ e. inl (s.is ∙ ap (λ l. incidence_of l x.of) e))
+                (λ e. inr (s.is ∙ ap (λ l. incidence_of l x.of) e))
+                (open_filled c.signs s.signs entry.by_count u.by_count u.border);
+          }

@@ -1,0 +1,18 @@
+use Rattle.std.proofs.Common.{length, map}
+use Rattle.staat_model.specs.declared.tree.Kind.TheVariants.{Edge}
+use Rattle.staat_cells.specs.Compositions.{entry_of}
+use Rattle.staat_cells.specs.Stages.{IsIncidence}
+use Rattle.staat_cells.proofs.Numbered.{edge_more, holds_all, holds_none, listed_was}
+use Rattle.staat_cells.proofs.edge_incidences.edge_incidences.Goals as goal
+
+pub loop-k-init : goal.loop-k-init
+loop-k-init c = holds_none (IsIncidence c.args.planes.now Edge (map entry_of c.args.points.now)) c.in_ok-incidences.incidences.items c.in_ok-incidences.ensures.items
+
+pub loop-k-preserved : goal.loop-k-preserved
+loop-k-preserved c =
+    edge_more c.args.planes.now c.args.points.now c.loop-k.k c.index-points-k.result c.loop-k.incidences.items c.push_edge_incidences.new.incidences.items c.loop-k-test.true c.index-points-k.is c.requires.points c.in_ok-push_edge_incidences.ensures c.loop-k.invariant
+
+pub returns : goal.returns
+returns c =
+    holds_all (IsIncidence c.args.planes.now Edge (map entry_of c.args.points.now)) (length c.args.points.now) c.loop-k.k c.loop-k.incidences.items c.loop-k-test.false
+    (λ x s. let u = s.under in listed_was c.args.points.now x.of u.listed) c.loop-k.invariant

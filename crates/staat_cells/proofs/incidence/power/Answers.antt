@@ -1,0 +1,5 @@
+use Rattle.staat_cells.proofs.Halves.{power_is}
+use Rattle.staat_cells.proofs.incidence.power.Goals as goal
+
+pub returns : goal.returns
+returns c = power_is c.args.count c.requires

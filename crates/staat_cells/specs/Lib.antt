@@ -1,0 +1,6 @@
+pub mod Beside
+pub mod Packing
+pub mod Compositions
+pub mod Stages
+pub mod Changes
+pub mod CellGraphs

@@ -1,0 +1,106 @@
+// Packed signs in which a zero gives way to another sign.
+ghost use Rattle.std.specs.Prelude.{◌≡◌, ◌<◌, ◌≤◌, ◌-◌, ◌^◌, All, List, length, slice_set, min};
+ghost use Rattle.staat_vec.specs.declared.vector.Sign.{Sign as SignValue};
+ghost use Rattle.staat_vec.specs.Vectors.{IsWithin};
+ghost use Rattle.staat_model.specs.Cells.{is_zero, signs_of};
+ghost use Rattle.staat_cells.specs.Changes.{HasIncidenceZeroAt, HasZeroAt, IsZeroAt};
+ghost use Rattle.staat_cells.specs.Compositions.{composed};
+ghost use Rattle.staat_cells.specs.Packing.{packed, incidence_of};
+ghost use Rattle.staat_cells.specs.Beside.{filled};
+
+use crate::incidence::Incidence;
+use staat_vec::{DIRECTION, NORMAL, Sign, V3, sign_dot};
+
+// how much a digit counts at a place of a word of so many digits
+fn weight(count: usize, k: usize) -> u128
+    requires place { k < count }
+    requires word { count ≤ 64 }
+    ensures { result ≡ 4 ^ (count - 1 - k) }
+{
+    1 << (2 * (count - 1 - k))
+}
+
+// the word with t in place of the zero at k
+fn changed_word(word: u128, count: usize, k: usize, t: Sign) -> u128
+    requires place { k < count }
+    requires word { count ≤ 64 }
+    requires zero_at { HasZeroAt word count k }
+    ensures { (s : List SignValue) → packed s ≡ word → length s ≡ count → IsZeroAt s k → result ≡ packed (slice_set s k t) }
+{
+    match t {
+        Sign::Neg => word - weight(count, k),
+        Sign::Zero => word,
+        Sign::Pos => word + weight(count, k),
+    }
+}
+
+// how many signs a word has, where so many are left
+fn word_count(left: usize) -> usize
+    ensures is { result ≡ min 64 left }
+    ensures most { result ≤ 64 }
+{
+    if left < 64 { left } else { 64 }
+}
+
+/// The incidence with `t` in place of the zero at `k`, of so many signs.
+pub(crate) fn changed(incidence: Incidence, count: usize, k: usize, t: Sign) -> Incidence
+    requires few { count ≤ 256 }
+    requires place { k < count }
+    requires zero_at { HasIncidenceZeroAt incidence count k }
+    ensures { (s : List SignValue) → incidence ≡ incidence_of s incidence.of → length s ≡ count → IsZeroAt s k → result ≡ incidence_of (slice_set s k t) incidence.of }
+{
+    let mut new = incidence;
+    if k < 64 {
+        new.a = changed_word(incidence.a, word_count(count), k, t);
+    } else if k < 128 {
+        new.b = changed_word(incidence.b, word_count(count - 64), k - 64, t);
+    } else if k < 192 {
+        new.c = changed_word(incidence.c, word_count(count - 128), k - 128, t);
+    } else {
+        new.d = changed_word(incidence.d, word_count(count - 192), k - 192, t);
+    }
+    new
+}
+
+fn is_zero(s: Sign) -> bool
+    ensures { result ≡ is_zero s }
+{
+    match s {
+        Sign::Zero => true,
+        _ => false,
+    }
+}
+
+/// The incidence towards `w` of the cell with these signs, whose own incidence is `base`: in place of each zero stands the sign
+/// of the plane at `w`.
+pub(crate) fn incidence_towards(planes: &[V3], signs: &[Sign], base: Incidence, w: V3) -> Incidence
+    requires planes { All (IsWithin NORMAL) planes.now }
+    requires direction { IsWithin DIRECTION w }
+    requires few { length planes.now ≤ 256 }
+    requires signs { length signs.now ≡ length planes.now }
+    requires base { base ≡ incidence_of signs.now base.of }
+    ensures { result ≡ incidence_of (composed signs.now (signs_of planes.now w)) base.of }
+{
+    let mut incidence = base;
+    for j in 0..planes.len() {
+        if is_zero(signs[j]) {
+            incidence = changed(incidence, planes.len(), j, sign_dot(planes[j], w));
+        }
+    }
+    incidence
+}
+
+/// The incidence of the cell with these signs, whose own incidence is `base`, with `t` in place of each zero.
+pub(crate) fn incidence_filled(signs: &[Sign], base: Incidence, t: Sign) -> Incidence
+    requires few { length signs.now ≤ 256 }
+    requires base { base ≡ incidence_of signs.now base.of }
+    ensures { result ≡ incidence_of (filled t signs.now) base.of }
+{
+    let mut incidence = base;
+    for j in 0..signs.len() {
+        if is_zero(signs[j]) {
+            incidence = changed(incidence, signs.len(), j, t);
+        }
+    }
+    incidence
+}

@@ -1,0 +1,86 @@
+// Cells from the first two cells on their borders.
+ghost use Rattle.std.specs.Prelude.{◌≡◌, ◌<◌, ◌+◌, All, IfOk, length, map};
+ghost use Rattle.staat_vec.specs.Vectors.{IsWithin};
+ghost use Rattle.staat_cells.specs.Compositions.{HaveEqualLengths, HavePairs, begins_cell, entry_of, composed, composed_cell, composed_up_to, same_words};
+ghost use Rattle.staat_cells.specs.Beside.{then_sign};
+
+use crate::cell::{Cell, Signs};
+use crate::incidence::Incidence;
+use staat_model::Kind;
+use staat_vec::{EDGE, OutOfMemory, Sign, add};
+use std::alloc::Global;
+
+// the first sign, or the second where the first is zero
+fn then_sign(first: Sign, second: Sign) -> Sign
+    ensures { result ≡ then_sign first second }
+{
+    match first {
+        Sign::Zero => second,
+        _ => first,
+    }
+}
+
+// at each plane the first sign, or the second where the first is zero
+fn composed_signs(alloc: Global, first: &[Sign], second: &[Sign]) -> Result<Vec<Sign>, OutOfMemory>
+    requires { length first.now ≡ length second.now }
+    ensures { IfOk result (λ signs. signs.items ≡ composed first.now second.now) }
+{
+    let mut signs = Vec::with_capacity(alloc, first.len())?;
+    for i in 0..first.len() {
+        signs.push(then_sign(first[i], second[i]))?;
+    }
+    Ok(signs)
+}
+
+// the cell between two cells on its border
+fn composed_cell(alloc: Global, kind: Kind, a: &Cell, b: &Cell) -> Result<Cell, OutOfMemory>
+    requires a_size { IsWithin EDGE a.now.d }
+    requires b_size { IsWithin EDGE b.now.d }
+    requires signs { length a.now.signs ≡ length b.now.signs }
+    ensures { IfOk result (λ cell. entry_of cell ≡ composed_cell kind (entry_of a.now) (entry_of b.now)) }
+{
+    let signs = composed_signs(alloc, a.signs.as_slice(), b.signs.as_slice())?;
+    Ok(Cell {
+        kind,
+        d: add(a.d, b.d),
+        signs: Signs::from_vec(signs),
+    })
+}
+
+// whether two incidences have the same signs
+fn same_words(x: Incidence, y: Incidence) -> bool
+    ensures { result ≡ same_words x y }
+{
+    x.a == y.a && x.b == y.b && x.c == y.c && x.d == y.d
+}
+
+// whether no incidence of the same cell stands just before
+fn begins_cell(incidences: &[Incidence], i: usize) -> bool
+    requires { i < length incidences.now }
+    ensures { result ≡ begins_cell incidences.now i }
+{
+    i == 0 || !same_words(incidences[i - 1], incidences[i])
+}
+
+/// For each cell of the incidences the cell between the first two cells whose incidence it is.
+pub(crate) fn composed_cells(
+    alloc: Global,
+    kind: Kind,
+    lower: &[Cell],
+    incidences: &[Incidence],
+) -> Result<Vec<Cell>, OutOfMemory>
+    requires pairs { HavePairs incidences.now (length lower.now) }
+    requires size { All (λ c. IsWithin EDGE c.d) lower.now }
+    requires signs { HaveEqualLengths lower.now }
+    ensures { IfOk result (λ cells. map entry_of cells.items ≡ composed_up_to kind (map entry_of lower.now) incidences.now (length incidences.now)) }
+{
+    let mut cells = Vec::new(alloc);
+    for i in 0..incidences.len() {
+        if begins_cell(incidences, i) {
+            let first = &lower[incidences[i].of];
+            let second = &lower[incidences[i + 1].of];
+            cells.push(composed_cell(alloc, kind, first, second)?)?;
+        }
+    }
+    Ok(cells)
+}

@@ -1,0 +1,156 @@
+// The incidences of vertices: the edges that end there.
+ghost use Rattle.std.specs.Prelude.{◌≡◌, ◌≢◌, ◌≤◌, ◌↔◌, ◌++◌, All, Contains, IfOk, List, [], ◌∷◌, OnOk, length, map};
+ghost use Rattle.staat_vec.specs.Vectors.{IsWithin, cross, dot, negative, origin, sign};
+ghost use Rattle.staat_model.specs.Cells.{signs_of};
+ghost use Rattle.staat_model.specs.Planes.{vertices};
+ghost use Rattle.staat_pairs.specs.Tables.{AreTablePlanes};
+ghost use Rattle.staat_model.specs.declared.tree.Kind.TheVariants.{Edge};
+ghost use Rattle.staat_cells.specs.declared.incidence.Incidence.{Incidence as IncidenceValue};
+ghost use Rattle.staat_cells.specs.Compositions.{entry_of};
+ghost use Rattle.staat_cells.specs.Packing.{incidence_of};
+ghost use Rattle.staat_cells.specs.Beside.{beside};
+ghost use Rattle.staat_cells.specs.Stages.{GrewByAll, IsAxisOff, IsBesideIncidence, IsEdgeIncidence, IsIncidence, IsVertexPoint};
+
+use crate::cell::Cell;
+use crate::change::incidence_towards;
+use crate::incidence::{Incidence, incidence_of};
+use staat_vec::{DIRECTION, NORMAL, OutOfMemory, Sign, V3, VERTEX, cross_normal, neg};
+use std::alloc::Global;
+
+// an axis whose plane the vector does not lie on
+fn axis_off(v: V3) -> V3
+    requires { v ≢ origin }
+    ensures is { IsAxisOff v result }
+    ensures size { IsWithin NORMAL result }
+{
+    if v.x != 0 {
+        V3 { x: 1, y: 0, z: 0 }
+    } else if v.y != 0 {
+        V3 { x: 0, y: 1, z: 0 }
+    } else {
+        V3 { x: 0, y: 0, z: 1 }
+    }
+}
+
+// adds the incidence of a vertex towards w
+fn push_towards(
+    planes: &[V3],
+    point: &Cell,
+    base: Incidence,
+    w: V3,
+    incidences: &mut Vec<Incidence>,
+) -> Result<(), OutOfMemory>
+    requires planes { All (IsWithin NORMAL) planes.now }
+    requires few { length planes.now ≤ 256 }
+    requires signs { point.now.signs ≡ signs_of planes.now point.now.d }
+    requires base { base ≡ incidence_of point.now.signs base.of }
+    requires size { IsWithin DIRECTION w }
+    ensures { OnOk result (incidences.new.items ≡ incidences.old.items ++ incidence_of (beside planes.now point.now.d w) base.of ∷ []) }
+{
+    incidences.push(incidence_towards(planes, point.signs.as_slice(), base, w))?;
+    Ok(())
+}
+
+// adds the two incidences of a vertex on the plane c
+fn push_both(
+    planes: &[V3],
+    point: &Cell,
+    base: Incidence,
+    c: V3,
+    m: V3,
+    incidences: &mut Vec<Incidence>,
+) -> Result<(), OutOfMemory>
+    requires planes { All (IsWithin NORMAL) planes.now }
+    requires few { length planes.now ≤ 256 }
+    requires signs { point.now.signs ≡ signs_of planes.now point.now.d }
+    requires base { base ≡ incidence_of point.now.signs base.of }
+    requires c { IsWithin NORMAL c }
+    requires m { IsWithin NORMAL m }
+    ensures { OnOk result (incidences.new.items ≡ (incidences.old.items ++ incidence_of (beside planes.now point.now.d (cross c m)) base.of ∷ []) ++ incidence_of (beside planes.now point.now.d (negative (cross c m))) base.of ∷ []) }
+{
+    let w = cross_normal(c, m);
+    push_towards(planes, point, base, w, incidences)?;
+    push_towards(planes, point, base, neg(w), incidences)
+}
+
+// adds the incidences of a vertex on the plane c, if it is through the vertex, which has the sign s there
+fn push_on(
+    planes: &[V3],
+    point: &Cell,
+    base: Incidence,
+    c: V3,
+    s: Sign,
+    m: V3,
+    incidences: &mut Vec<Incidence>,
+) -> Result<(), OutOfMemory>
+    requires planes { All (IsWithin NORMAL) planes.now }
+    requires few { length planes.now ≤ 256 }
+    requires signs { point.now.signs ≡ signs_of planes.now point.now.d }
+    requires base { base ≡ incidence_of point.now.signs base.of }
+    requires c { IsWithin NORMAL c }
+    requires s { s ≡ sign (dot c point.now.d) }
+    requires m { IsWithin NORMAL m }
+    ensures { OnOk result (GrewByAll (IsBesideIncidence (c ∷ []) planes.now point.now.d m base.of) incidences.old.items incidences.new.items) }
+{
+    match s {
+        Sign::Zero => push_both(planes, point, base, c, m, incidences),
+        _ => Ok(()),
+    }
+}
+
+// adds the incidences of a vertex on all planes through it
+fn push_all(
+    planes: &[V3],
+    point: &Cell,
+    base: Incidence,
+    m: V3,
+    incidences: &mut Vec<Incidence>,
+) -> Result<(), OutOfMemory>
+    requires planes { All (IsWithin NORMAL) planes.now }
+    requires few { length planes.now ≤ 256 }
+    requires signs { point.now.signs ≡ signs_of planes.now point.now.d }
+    requires base { base ≡ incidence_of point.now.signs base.of }
+    requires m { IsWithin NORMAL m }
+    ensures { OnOk result (GrewByAll (IsBesideIncidence planes.now planes.now point.now.d m base.of) incidences.old.items incidences.new.items) }
+{
+    for j in 0..planes.len() {
+        let s = point.signs.as_slice()[j];
+        push_on(planes, point, base, planes[j], s, m, incidences)?;
+    }
+    Ok(())
+}
+
+/// Adds the incidences of a vertex, with its number.
+fn push_edge_incidences(
+    planes: &[V3],
+    point: &Cell,
+    k: usize,
+    incidences: &mut Vec<Incidence>,
+) -> Result<(), OutOfMemory>
+    requires planes { AreTablePlanes planes.now }
+    requires few { length planes.now ≤ 256 }
+    requires vertex { Contains (vertices planes.now) point.now.d }
+    requires signs { point.now.signs ≡ signs_of planes.now point.now.d }
+    ensures { OnOk result (GrewByAll (IsEdgeIncidence planes.now point.now.d k) incidences.old.items incidences.new.items) }
+{
+    let base = incidence_of(point.signs.as_slice(), k);
+    push_all(planes, point, base, axis_off(point.d), incidences)
+}
+
+/// The incidences of vertices towards the edges that end there.
+pub(crate) fn edge_incidences(
+    alloc: Global,
+    planes: &[V3],
+    points: &[Cell],
+) -> Result<Vec<Incidence>, OutOfMemory>
+    requires planes { AreTablePlanes planes.now }
+    requires few { length planes.now ≤ 256 }
+    requires points { All (IsVertexPoint planes.now) points.now }
+    ensures { IfOk result (λ incidences. (x : IncidenceValue) → Contains incidences.items x ↔ IsIncidence planes.now Edge (map entry_of points.now) x) }
+{
+    let mut incidences = Vec::with_capacity(alloc, points.len().saturating_mul(4))?;
+    for k in 0..points.len() {
+        push_edge_incidences(planes, &points[k], k, &mut incidences)?;
+    }
+    Ok(incidences)
+}

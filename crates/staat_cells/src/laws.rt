@@ -1,0 +1,11 @@
+//! Laws on lists of cells. Each is a function that does nothing, and its contract is the law.
+ghost use Rattle.std.specs.Prelude.{◌≢◌, List};
+ghost use Rattle.staat_vec.specs.declared.vector.V3.{V3 as Vector};
+ghost use Rattle.staat_vec.specs.Vectors.{origin};
+ghost use Rattle.staat_model.specs.Cells.{AreCells, CellEntry, HasOneCell};
+
+/// Each direction other than zero, of any size, lies in exactly one of all cells of some planes.
+pub fn one_cell()
+    ensures { (planes : List Vector) (cells : List CellEntry) (d : Vector) → AreCells planes cells → d ≢ origin
+        → HasOneCell planes cells d }
+{}

@@ -1,0 +1,37 @@
+// The incidences of edges: the open cells on whose border they are.
+ghost use Rattle.std.specs.Prelude.{◌≡◌, ◌≤◌, ◌↔◌, ◌++◌, All, Contains, IfOk, OnOk, List, [], ◌∷◌, length, map};
+ghost use Rattle.staat_vec.specs.declared.vector.Sign.TheVariants.{Neg, Pos};
+ghost use Rattle.staat_cells.specs.declared.incidence.Incidence.{Incidence as IncidenceValue};
+ghost use Rattle.staat_cells.specs.Compositions.{entry_of};
+ghost use Rattle.staat_cells.specs.Packing.{incidence_of};
+ghost use Rattle.staat_cells.specs.Beside.{filled};
+ghost use Rattle.staat_cells.specs.Stages.{IsFilledIncidence};
+
+use crate::cell::Cell;
+use crate::change::incidence_filled;
+use crate::incidence::{Incidence, incidence_of};
+use staat_vec::{OutOfMemory, Sign};
+use std::alloc::Global;
+
+// adds both incidences of an edge
+fn push_both(edge: &Cell, k: usize, incidences: &mut Vec<Incidence>) -> Result<(), OutOfMemory>
+    requires few { length edge.now.signs ≤ 256 }
+    ensures { OnOk result (incidences.new.items ≡ (incidences.old.items ++ incidence_of (filled Neg edge.now.signs) k ∷ []) ++ incidence_of (filled Pos edge.now.signs) k ∷ []) }
+{
+    let base = incidence_of(edge.signs.as_slice(), k);
+    incidences.push(incidence_filled(edge.signs.as_slice(), base, Sign::Neg))?;
+    incidences.push(incidence_filled(edge.signs.as_slice(), base, Sign::Pos))?;
+    Ok(())
+}
+
+/// Both incidences of each edge.
+pub(crate) fn open_incidences(alloc: Global, edges: &[Cell]) -> Result<Vec<Incidence>, OutOfMemory>
+    requires few { All (λ c. length c.signs ≤ 256) edges.now }
+    ensures { IfOk result (λ incidences. (x : IncidenceValue) → Contains incidences.items x ↔ IsFilledIncidence (map entry_of edges.now) x) }
+{
+    let mut incidences = Vec::with_capacity(alloc, edges.len().saturating_mul(2))?;
+    for k in 0..edges.len() {
+        push_both(&edges[k], k, &mut incidences)?;
+    }
+    Ok(incidences)
+}

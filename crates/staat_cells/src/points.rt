@@ -1,0 +1,83 @@
+// The points, ascending by their signs.
+ghost use Rattle.std.specs.Prelude.{◌≡◌, ◌<◌, ◌++◌, All, Contains, IfOk, List, [], ◌∷◌, length, map, ◌↔◌};
+ghost use Rattle.staat_vec.specs.Vectors.{IsWithin};
+ghost use Rattle.staat_cells.specs.declared.incidence.Incidence.{Incidence as IncidenceValue};
+ghost use Rattle.staat_cells.specs.Compositions.{entry_of};
+ghost use Rattle.staat_cells.specs.Stages.{IsOwnIncidence, cell_at, point_entry};
+
+use crate::cell::{Cell, Signs};
+use crate::incidence::{Incidence, incidence_of};
+use crate::signs::signs_at;
+use staat_model::Kind;
+use staat_vec::{NORMAL, OutOfMemory, V3, VERTEX};
+use std::alloc::Global;
+
+// the point at a vertex
+fn point_at(alloc: Global, planes: &[V3], v: V3) -> Result<Cell, OutOfMemory>
+    requires planes { All (IsWithin NORMAL) planes.now }
+    requires v { IsWithin VERTEX v }
+    ensures { IfOk result (λ cell. entry_of cell ≡ point_entry planes.now v) }
+{
+    let signs = signs_at(alloc, planes, v)?;
+    Ok(Cell {
+        kind: Kind::Point,
+        d: v,
+        signs: Signs::from_vec(signs),
+    })
+}
+
+/// The points at the vertices.
+pub(crate) fn points_at(
+    alloc: Global,
+    planes: &[V3],
+    vertices: &[V3],
+) -> Result<Vec<Cell>, OutOfMemory>
+    requires planes { All (IsWithin NORMAL) planes.now }
+    requires vertices { All (IsWithin VERTEX) vertices.now }
+    ensures { IfOk result (λ cells. map entry_of cells.items ≡ map (point_entry planes.now) vertices.now) }
+{
+    let mut cells = Vec::with_capacity(alloc, vertices.len())?;
+    for v in vertices {
+        cells.push(point_at(alloc, planes, *v)?)?;
+    }
+    Ok(cells)
+}
+
+/// The incidences of cells with their own signs and places.
+pub(crate) fn own_incidences(alloc: Global, cells: &[Cell]) -> Result<Vec<Incidence>, OutOfMemory>
+    ensures { IfOk result (λ incidences. (x : IncidenceValue) → Contains incidences.items x ↔ IsOwnIncidence (map entry_of cells.now) x) }
+{
+    let mut incidences = Vec::with_capacity(alloc, cells.len())?;
+    for k in 0..cells.len() {
+        incidences.push(incidence_of(cells[k].signs.as_slice(), k))?;
+    }
+    Ok(incidences)
+}
+
+// a cell once more
+fn copied(alloc: Global, cell: &Cell) -> Result<Cell, OutOfMemory>
+    ensures { IfOk result (λ same. entry_of same ≡ entry_of cell.now) }
+{
+    let signs = cell.signs.as_slice().to_vec(alloc)?;
+    Ok(Cell {
+        kind: cell.kind,
+        d: cell.d,
+        signs: Signs::from_vec(signs),
+    })
+}
+
+/// The cells of the incidences.
+pub(crate) fn cells_of(
+    alloc: Global,
+    cells: &[Cell],
+    incidences: &[Incidence],
+) -> Result<Vec<Cell>, OutOfMemory>
+    requires { All (λ x. x.of < length cells.now) incidences.now }
+    ensures { IfOk result (λ found. map entry_of found.items ≡ map (λ x. cell_at (map entry_of cells.now) x.of) incidences.now) }
+{
+    let mut found = Vec::with_capacity(alloc, incidences.len())?;
+    for x in incidences {
+        found.push(copied(alloc, &cells[x.of])?)?;
+    }
+    Ok(found)
+}

@@ -1,0 +1,61 @@
+// The command `cells`: all cells of directions, each with its blocking graph.
+ghost use Rattle.std.specs.Prelude.{◌≡◌, ◌≤◌, ◌<◌, Some, IfOk, IfErr, length};
+ghost use Rattle.staat_planes.specs.declared.table.TheConstants.{MOST_CELL_PLANES};
+ghost use Rattle.staat_words.specs.Requests.{IsCellsRequest};
+ghost use Rattle.staat_words.specs.declared.request.Request.TheVariants.{Cells};
+ghost use Rattle.staat_pairs.specs.Tables.{WasMadeFrom};
+ghost use Rattle.staat_top.specs.Work.{Files, Follows};
+ghost use Rattle.staat_top.specs.CellTables.{AreTabled};
+ghost use Rattle.staat_top.specs.Graphing.{all_parts};
+ghost use Rattle.staat_top.specs.Replies.{WorkOn};
+ghost use Rattle.staat_top.specs.Runs.{HasCause, ShelfSide, over};
+
+use crate::answer::Answer;
+use crate::planes::table_of;
+use crate::refusals::text_fault;
+use crate::sound::read_sound;
+use staat_cells::all_cells;
+use staat_edge::Shelf;
+use staat_fault::Fault;
+use staat_model::Sound;
+use staat_planes::PlaneTable;
+use staat_text::cells_text;
+use staat_words::CellsRequest;
+use std::alloc::Global;
+
+// The text of the cells of a table.
+fn tabled(alloc: Global, sound: &Sound, table: &PlaneTable) -> Result<Answer, Fault>
+    requires few { length table.now.planes ≤ MOST_CELL_PLANES }
+    requires made { WasMadeFrom sound.now table.now }
+    requires all { table.now.of ≡ all_parts sound.now }
+    ensures status { IfOk result (λ a. a.status < 2) }
+    ensures tabled { Follows (AreTabled sound.now) result }
+    ensures cause { (shelf : ShelfSide) → IfErr result (HasCause shelf) }
+{
+    let parts = sound.assembly().parts();
+    let cells = all_cells(alloc, table)?;
+    match cells_text(alloc, table, &cells, parts) {
+        Ok(text) => Ok(Answer { status: 0, text }),
+        Err(refusal) => Err(text_fault(refusal)),
+    }
+}
+
+/// The answer to the command `cells`: all cells into which the planes of all parts cut the directions, each with the
+/// arcs of the blocking graph at every direction of the cell.
+pub fn cells<H: Shelf>(
+    alloc: Global,
+    request: &CellsRequest,
+    shelf: &mut H,
+) -> Result<Answer, Fault>
+    requires { IsCellsRequest request.now }
+    ensures holds { (H.told shelf.new).holds ≡ (H.told shelf.old).holds }
+    ensures count { (H.told shelf.old).faults ≤ (H.told shelf.new).faults }
+    ensures status { IfOk result (λ a. a.status < 2) }
+    ensures found { (files : Files) → (H.told shelf.old).holds ≡ Some files →
+        Follows (WorkOn (Cells request.now) files) result }
+    ensures cause { IfErr result (HasCause (over (H.told shelf.old) (H.told shelf.new))) }
+{
+    let sound = read_sound(alloc, shelf, &request.asked)?;
+    let table = table_of(alloc, &sound, request.planes)?;
+    tabled(alloc, &sound, &table)
+}
