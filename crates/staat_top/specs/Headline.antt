@@ -26,15 +26,15 @@ pub record Headline : Type 0 where
   -- `check` answers that a certificate is valid exactly where it keeps the written rules.
   pub exact : (files : Files) (request : CheckRequest) (reply : Reply) → IsAsked request.asked →
       IsReply (Some (Check request)) files reply → (reply.status ≡ 0) ↔ KeepsRules files request
-  -- A valid plan is one that takes all parts apart: at each step one side moves to infinity, and no inner points of the
-  -- two sides ever meet.
-  pub plans : (parts : List Part) (certificate : Certificate) → IsAssembly parts → IsValidPlan parts certificate →
-      IsPlanOf parts certificate.body
+  -- A valid plan is one that takes all parts apart: at each step one side moves to infinity, and no inner points of
+  -- the two sides ever meet.
+  pub plans : (parts : List Part) (certificate : Certificate) → IsAssembly parts →
+      IsValidPlan parts certificate → IsPlanOf parts certificate.body
   -- A valid refusal names a set that is stuck, and no plan for two hands takes all parts apart.
-  pub refusals : (parts : List Part) (certificate : Certificate) → IsAssembly parts → IsValidRefusal parts certificate →
-      IsRefusalWithSet parts certificate.body
-  -- What `plan` prints, where it refuses nothing, is a plan that takes all parts apart or a set that is truly stuck; or,
-  -- if that is asked for, the text of a certificate of either, which is valid.
+  pub refusals : (parts : List Part) (certificate : Certificate) → IsAssembly parts →
+      IsValidRefusal parts certificate → IsRefusalWithSet parts certificate.body
+  -- What `plan` prints, where it refuses nothing, is a plan that takes all parts apart or a set that is truly stuck;
+  -- or, if that is asked for, the text of a certificate of either, which is valid.
   pub planned : (files : Files) (request : PlanRequest) (reply : Reply) → IsPlanRequest request →
       IsReply (Some (Plan request)) files reply → reply.status < 2 →
       SaysGoodPlan files request reply.out ⊎ SaysStuckSet files request reply.out

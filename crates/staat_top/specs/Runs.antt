@@ -1,5 +1,6 @@
 -- What a call of the program does to the outside.
-use Rattle.std.specs.Prelude.{◌≡◌, ◌≢◌, ◌⊎◌, ◌<◌, ◌≤◌, ℕ, List, Option, Some, None, Ok, Err, IsSomeAnd, ⊤}
+use Rattle.std.specs.Prelude.{◌≡◌, ◌≢◌, ◌⊎◌, ◌<◌, ◌≤◌, ℕ, List}
+use Rattle.std.specs.Prelude.{Option, Some, None, Ok, Err, IsSomeAnd, ⊤}
 use Rattle.staat_edge.specs.Causes.{Rose}
 use Rattle.staat_edge.specs.Files.{Lacks, told_name, held_name}
 use Rattle.staat_edge.specs.Sinks.{GrewBy, GrewByPart}
@@ -56,8 +57,8 @@ pub record IsPastLimit (shelf : ShelfSide) (name : List ℕ) : Type 0 where
   pub place : IsSomeAnd shelf.new.place (λ at. FILE_LIMIT < at)
   pub opened : shelf.new.opened ≡ told_name shelf.old.holds name
 
--- What shows why a fault came of the files, whatever the shelf tells. Of a refusal of what a file holds the reply alone
--- says more; want of memory may come anywhere.
+-- What shows why a fault came of the files, whatever the shelf tells. Of a refusal of what a file holds the reply
+-- alone says more; want of memory may come anywhere.
 abbrev pub HasCause : ShelfSide → Fault → Type 0
 HasCause shelf Usage = ⊥
 HasCause shelf (ReadFault name) = IsUnread shelf name
@@ -72,7 +73,8 @@ IsCaused (Some request) shelf fault = HasCause shelf fault
 
 -- where the shelf tells what it holds, the work on the words finds that answer or that fault; want of memory is free
 abbrev pub IsFound : Option Request → ShelfSide → Found Answer → Type 0
-IsFound asked shelf found = (files : Files) → shelf.old.holds ≡ Some files → Follows (WorkOnWords asked files) found
+IsFound asked shelf found =
+    (files : Files) → shelf.old.holds ≡ Some files → Follows (WorkOnWords asked files) found
 
 -- why the fault came, and where the work stands
 pub record IsExplained (asked : Option Request) (shelf : ShelfSide) (fault : Fault) : Type 0 where
@@ -166,8 +168,11 @@ pub record Ran (asked : Option Request) (shelf : ShelfSide) (out err : SinkSide)
   pub usage : asked ≡ None → (status ≡ 2) ⊎ (status ≡ 6) ⊎ (status ≡ 7)
   -- Over a shelf that tells its files: statuses 0 to 4 are the reply; the reply comes where nothing failed and there
   -- was memory; and what status 0 says is so, and what status 1 says.
-  pub reply : status ≤ 4 → (files : Files) → shelf.old.holds ≡ Some files → Replied asked files out err status
-  pub complete : (files : Files) → shelf.old.holds ≡ Some files → NoFault shelf out err → status ≢ 7 → (reply : Reply) →
-      IsReply asked files reply → Gave reply out err status
-  pub right : status ≡ 0 → (files : Files) → shelf.old.holds ≡ Some files → TookRight out (IsRight asked files)
-  pub denied : status ≡ 1 → (files : Files) → shelf.old.holds ≡ Some files → TookRight out (IsDenied asked files)
+  pub reply : status ≤ 4 → (files : Files) → shelf.old.holds ≡ Some files →
+      Replied asked files out err status
+  pub complete : (files : Files) → shelf.old.holds ≡ Some files → NoFault shelf out err → status ≢ 7 →
+      (reply : Reply) → IsReply asked files reply → Gave reply out err status
+  pub right : status ≡ 0 → (files : Files) → shelf.old.holds ≡ Some files →
+      TookRight out (IsRight asked files)
+  pub denied : status ≡ 1 → (files : Files) → shelf.old.holds ≡ Some files →
+      TookRight out (IsDenied asked files)

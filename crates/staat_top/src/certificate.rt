@@ -1,5 +1,6 @@
 // The certificate that a file holds. The file is never whole in memory.
-ghost use Rattle.std.specs.Prelude.{◌≡◌, ◌≤◌, ◌<◌, ◌⊎◌, List, ℕ, Some, [], true, IfOk, IfErr, IsErrOf, IsSomeAnd};
+ghost use Rattle.std.specs.Prelude.{◌≡◌, ◌≤◌, ◌<◌, ◌⊎◌, List, ℕ, Some, [], true};
+ghost use Rattle.std.specs.Prelude.{IfOk, IfErr, IsErrOf, IsSomeAnd};
 ghost use Rattle.staat_cert.specs.Feeds.{WasFed};
 ghost use Rattle.staat_edge.specs.Causes.{Rose};
 ghost use Rattle.staat_edge.specs.Files.{IsLonger, Lacks, failed_at, held_name, told_name};
@@ -109,7 +110,8 @@ pub fn read_certificate<H: Shelf>(
     ensures holds { (H.told shelf.new).holds ≡ (H.told shelf.old).holds }
     ensures count { (H.told shelf.old).faults ≤ (H.told shelf.new).faults }
     ensures formed { IfOk result IsWellFormed }
-    ensures found { (files : Files) → (H.told shelf.old).holds ≡ Some files → Follows (IsCertificateIn files name.now) result }
+    ensures found { (files : Files) → (H.told shelf.old).holds ≡ Some files →
+        Follows (IsCertificateIn files name.now) result }
     ensures cause { IfErr result (HasCause (over (H.told shelf.old) (H.told shelf.new))) }
 {
     let mut reader = CertReader::new(alloc)?;

@@ -44,8 +44,8 @@ fn judged(alloc: Global, sound: &Sound, certificate: &Certificate) -> Result<Ans
     Ok(answer)
 }
 
-/// The answer to the command `check`: whether the certificate is valid for the parts, or the first rule that it breaks.
-/// The parts are read and tested before the certificate's file is opened.
+/// The answer to the command `check`: whether the certificate is valid for the parts, or the first rule that it
+/// breaks. The parts are read and tested before the certificate's file is opened.
 pub fn check<H: Shelf>(
     alloc: Global,
     request: &CheckRequest,
@@ -55,7 +55,8 @@ pub fn check<H: Shelf>(
     ensures holds { (H.told shelf.new).holds ≡ (H.told shelf.old).holds }
     ensures count { (H.told shelf.old).faults ≤ (H.told shelf.new).faults }
     ensures status { IfOk result (λ a. a.status < 2) }
-    ensures found { (files : Files) → (H.told shelf.old).holds ≡ Some files → Follows (WorkOn (Check request.now) files) result }
+    ensures found { (files : Files) → (H.told shelf.old).holds ≡ Some files →
+        Follows (WorkOn (Check request.now) files) result }
     ensures cause { IfErr result (HasCause (over (H.told shelf.old) (H.told shelf.new))) }
 {
     let sound = read_sound(alloc, shelf, &request.asked)?;

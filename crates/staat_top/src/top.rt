@@ -1,5 +1,6 @@
 // The call that does all that the program does.
-ghost use Rattle.std.specs.Prelude.{◌≡◌, ◌≢◌, ◌⊎◌, ◌<◌, ◌≤◌, Some, None, IfOk, IfErr, IsErrAnd, map, string_bytes};
+ghost use Rattle.std.specs.Prelude.{◌≡◌, ◌≢◌, ◌⊎◌, ◌<◌, ◌≤◌, Some, None};
+ghost use Rattle.std.specs.Prelude.{IfOk, IfErr, IsErrAnd, map, string_bytes};
 ghost use Rattle.staat_words.specs.Requests.{HasBounds, request};
 ghost use Rattle.staat_fault.specs.declared.fault.Fault.TheVariants as faults;
 ghost use Rattle.staat_top.specs.Work.{Files, Follows};
