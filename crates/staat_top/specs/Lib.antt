@@ -9,5 +9,6 @@ pub mod Graphing
 pub mod Planning
 pub mod Checking
 pub mod Replies
+pub mod Kept
 pub mod Headline
 pub mod Runs

@@ -8,7 +8,7 @@ ghost use Rattle.staat_model.specs.Texts.{IsWellFormed};
 ghost use Rattle.staat_model.specs.declared.limits.TheConstants.{TEXT_LIMIT as LIMIT};
 ghost use Rattle.staat_top.specs.Work.{Files, Follows, IsNotTakenWithin};
 ghost use Rattle.staat_top.specs.Checking.{IsCertificateIn, IsFed, IsFedFile, SaysCertificate};
-ghost use Rattle.staat_top.specs.Runs.{HasCause, ShelfSide, over};
+ghost use Rattle.staat_top.specs.Runs.{HasCertificateCause, ShelfSide, over};
 
 use crate::refusals::cert_fault;
 use staat_cert::CertReader;
@@ -75,7 +75,7 @@ fn feed_named<H: Shelf>(
     ensures count { (H.told shelf.old).faults ≤ (H.told shelf.new).faults }
     ensures fed { IfOk result (λ _. IsFedFile (H.told shelf.old).holds name.now reader.new) }
     ensures refused { IfErr result (IsNotTakenWithin LIMIT (H.told shelf.old).holds name.now) }
-    ensures cause { IfErr result (HasCause (over (H.told shelf.old) (H.told shelf.new))) }
+    ensures cause { IfErr result (HasCertificateCause name.now (over (H.told shelf.old) (H.told shelf.new))) }
 {
     match feed_file(shelf, name.as_str(), reader) {
         Ok(()) => Ok(()),
@@ -91,7 +91,7 @@ fn certificate_in(alloc: Global, reader: CertReader, name: &Name) -> Result<Cert
     requires { (text : List ℕ) × IsFed reader text }
     ensures says { (text : List ℕ) → IsFed reader text → Follows (SaysCertificate name.now text) result }
     ensures formed { IfOk result IsWellFormed }
-    ensures cause { (shelf : ShelfSide) → IfErr result (HasCause shelf) }
+    ensures cause { (shelf : ShelfSide) → IfErr result (HasCertificateCause name.now shelf) }
 {
     match reader.finish() {
         Ok(certificate) => Ok(certificate),
@@ -112,7 +112,7 @@ pub fn read_certificate<H: Shelf>(
     ensures formed { IfOk result IsWellFormed }
     ensures found { (files : Files) → (H.told shelf.old).holds ≡ Some files →
         Follows (IsCertificateIn files name.now) result }
-    ensures cause { IfErr result (HasCause (over (H.told shelf.old) (H.told shelf.new))) }
+    ensures cause { IfErr result (HasCertificateCause name.now (over (H.told shelf.old) (H.told shelf.new))) }
 {
     let mut reader = CertReader::new(alloc)?;
     feed_named(alloc, shelf, name, &mut reader)?;
