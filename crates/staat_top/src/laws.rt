@@ -23,7 +23,8 @@ pub fn one_reply()
 /// Where the work comes to a file that is to be read next and is not held, there is no reply.
 pub fn no_reply()
     ensures { (asked : Option RequestValue) (files : Files) (name : List ℕ) (r : Reply) →
-        WorkOnWords asked files (Err (ReadFault name)) → bytes_of name files ≡ None → IsReply asked files r → ⊥ }
+        WorkOnWords asked files (Err (ReadFault name)) → bytes_of name files ≡ None →
+        IsReply asked files r → ⊥ }
 {}
 
 /// How many bytes a file of points or a part list may have.
