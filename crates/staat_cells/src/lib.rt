@@ -17,3 +17,6 @@ mod vertices;
 pub use all::{MOST_CELL_PLANES, all_cells};
 pub use cell::{Cell, Cells, Signs};
 pub use graphs::CellGraphs;
+
+#[cfg(test)]
+mod tests;
