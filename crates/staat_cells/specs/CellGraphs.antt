@@ -59,7 +59,8 @@ pub record AddsArcs (t : Table) (P : V3 → ℕ → ℕ → Type 0) (old new : L
 -- the arc from a to b, where d leads ahead of piece i of a and piece j of b
 abbrev pub IsPairAhead : Table → ℕ → ℕ → ℕ → ℕ → V3 → ℕ → ℕ → Type 0
 IsPairAhead t a i b j d x y =
-    (x ≡ a) × (y ≡ b) × IsTableArc t (arc_of a i b j) × All (λ n. pos 0 <ℤ dot n d) (facets_of t (arc_of a i b j))
+    (x ≡ a) × (y ≡ b) × IsTableArc t (arc_of a i b j)
+    × All (λ n. pos 0 <ℤ dot n d) (facets_of t (arc_of a i b j))
 
 -- where d leads ahead of piece i of a and some piece of b
 abbrev pub IsPieceAhead : Table → ℕ → ℕ → ℕ → V3 → ℕ → ℕ → Type 0

@@ -49,8 +49,8 @@ pub(crate) fn changed(incidence: Incidence, count: usize, k: usize, t: Sign) -> 
     requires few { count ≤ 256 }
     requires place { k < count }
     requires zero_at { HasIncidenceZeroAt incidence count k }
-    ensures { (s : List SignValue) → incidence ≡ incidence_of s incidence.of → length s ≡ count → IsZeroAt s k
-        → result ≡ incidence_of (slice_set s k t) incidence.of }
+    ensures { (s : List SignValue) → incidence ≡ incidence_of s incidence.of → length s ≡ count
+        → IsZeroAt s k → result ≡ incidence_of (slice_set s k t) incidence.of }
 {
     let mut new = incidence;
     if k < 64 {
