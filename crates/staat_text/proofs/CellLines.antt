@@ -21,7 +21,7 @@ use Rattle.staat_cells.specs.Compositions.{entry_of}
 use Rattle.staat_cells.specs.declared.cell.Cell.{Cell}
 use Rattle.staat_cells.proofs.GraphRows.{graph_shows}
 use Rattle.staat_text.specs.declared.holding.HeldText.{HeldText}
-use Rattle.staat_text.specs.CellTexts.{EachCell, IsCellsText, IsGraphOfCell, cell_line, cell_lines, cells_text, first_line, kind_count, same_kind}
+use Rattle.staat_text.specs.CellTexts.{EachCell, IsCellsText, IsGraphOfCell, cell_line, cell_lines, cells_text, totals_line, kind_count, same_kind}
 use Rattle.staat_text.specs.CellTexts.{kind_word, short_arcs}
 use Rattle.staat_text.specs.Holding.{Holds, HoldsCells, HoldsMore}
 use Rattle.staat_text.specs.PlanTexts.{numbers_before}
@@ -43,9 +43,6 @@ lines_more n R [] (x ∷ graphs) c rows all = absurd all
 lines_more n R (x ∷ cells) [] c rows all = absurd all
 lines_more n R (x ∷ cells) (y ∷ graphs) c rows all =
     ap (λ l. cell_line n x y ++ l) (lines_more n R cells graphs c rows all.1) ∙ sym (append_assoc (cell_line n x y) (cell_lines n cells graphs) (cell_line n c rows))
-
-pub no_cells : (t : Table) (n : ℕ) (held : HeldText) → HoldsCells t n [] held held
-no_cells t n held text h = ([], tt, subst (Holds held) (sym (append-nil text)) h)
 
 pub cells_more : (t : Table) (n k : ℕ) (cells : List Cell) (c : Cell) (rows line : List ℕ) (old mid new : HeldText) → k < length cells → c ≡ get_or cells k c
     → HoldsCells t n (map entry_of (take k cells)) old mid → IsCellGraph t c.signs rows → line ≡ cell_line n (entry_of c) rows → HoldsMore mid new line
@@ -86,7 +83,7 @@ each_same R S f (x ∷ cells) (y ∷ graphs) all = (f x y all.0, each_same R S f
 
 -- what is held at the end is the text of the cells
 pub whole_text : (all : List Part) (t : Table) (n planes : ℕ) (cells : List CellEntry) (counts : List ℕ) (empty first last : HeldText) → WasMadeFrom all t
-    → t.of ≡ below n → AreCells t.planes cells → planes ≡ length t.planes → counts ≡ first_line planes cells → empty.length ≡ 0 → empty.bytes.items ≡ []
+    → t.of ≡ below n → AreCells t.planes cells → planes ≡ length t.planes → counts ≡ totals_line planes cells → empty.length ≡ 0 → empty.bytes.items ≡ []
     → HoldsMore empty first counts → HoldsCells t n cells first last → (text : List ℕ) × IsCellsText all n text × Holds last text
 whole_text all t n planes cells counts empty first last made of are count is none nothing more adds =
     let (graphs, each, held) = adds counts (more [] (record { long = none; bytes = λ few. nothing })) in (
@@ -99,7 +96,7 @@ whole_text all t n planes cells counts empty first last made of are count is non
         graphs = graphs;
         graphs_are = each_same (λ c rows. IsCellGraph t c.signs rows) (IsGraphOfCell all (below n) t.planes)
             (λ c rows graph d e. subst (λ w. ShowsBlocking all d w rows) of (graph_shows t all d c.signs rows graph made e)) cells graphs each;
-        is = ap (λ l. l ++ cell_lines n cells graphs) (is ∙ ap (λ m. first_line m cells) count);
+        is = ap (λ l. l ++ cell_lines n cells graphs) (is ∙ ap (λ m. totals_line m cells) count);
       },
       held,
     )
@@ -182,5 +179,5 @@ one_text parts n text other a b =
     subst (λ cs. EachCell (IsGraphOfCell parts (below n) b.planes) cs a.graphs) cells
     (subst (λ ps. EachCell (IsGraphOfCell parts (below n) ps) a.cells a.graphs) planes a.graphs_are) in
     a.is ∙ ap₂ (λ ps cs. cells_text (length ps) n cs a.graphs) planes cells
-    ∙ ap (λ l. first_line (length b.planes) b.cells ++ l) (same_lines parts n b.planes b.cells a.graphs b.graphs (each_is_cell b.planes b.cells b.cells_are) graphs b.graphs_are)
+    ∙ ap (λ l. totals_line (length b.planes) b.cells ++ l) (same_lines parts n b.planes b.cells a.graphs b.graphs (each_is_cell b.planes b.cells b.cells_are) graphs b.graphs_are)
     ∙ sym b.is

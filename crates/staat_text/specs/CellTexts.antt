@@ -65,12 +65,12 @@ count_line planes points edges opens =
     ++ codes " edges " ++ decimal edges ++ codes " open " ++ decimal opens ++ codes "\n"
 
 -- that line for the cells
-abbrev pub first_line : ℕ → List CellEntry → List ℕ
-first_line planes cells = count_line planes (kind_count Point cells) (kind_count Edge cells) (kind_count Open cells)
+abbrev pub totals_line : ℕ → List CellEntry → List ℕ
+totals_line planes cells = count_line planes (kind_count Point cells) (kind_count Edge cells) (kind_count Open cells)
 
 -- the line with the numbers, and a line for each cell
 abbrev pub cells_text : ℕ → ℕ → List CellEntry → List (List ℕ) → List ℕ
-cells_text planes n cells graphs = first_line planes cells ++ cell_lines n cells graphs
+cells_text planes n cells graphs = totals_line planes cells ++ cell_lines n cells graphs
 
 -- R holds of each cell and its rows
 abbrev pub EachCell : (CellEntry → List ℕ → Type 0) → List CellEntry → List (List ℕ) → Type 0

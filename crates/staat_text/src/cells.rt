@@ -9,7 +9,7 @@ ghost use Rattle.staat_model.specs.Sets.{below};
 ghost use Rattle.staat_pairs.specs.Tables.{Table, WasMadeFrom};
 ghost use Rattle.staat_cells.specs.CellGraphs.{HasArcsOf};
 ghost use Rattle.staat_cells.specs.Compositions.{entry_of};
-ghost use Rattle.staat_text.specs.CellTexts.{IsCellsAnswer, cell_line, count_line, first_line};
+ghost use Rattle.staat_text.specs.CellTexts.{IsCellsAnswer, cell_line, count_line, totals_line};
 ghost use Rattle.staat_text.specs.CellTexts.{kind_count, kind_word, same_kind, short_arc, short_arcs};
 ghost use Rattle.staat_text.specs.GraphTexts.{arcs_from, arcs_of};
 ghost use Rattle.staat_text.specs.Holding.{HoldsCells};
@@ -152,8 +152,8 @@ fn count_line(
 }
 
 // The line with the numbers of planes and of cells of each kind.
-fn first_line(alloc: Global, planes: u32, cells: &[Cell]) -> Result<String, AllocError>
-    ensures { IfOk result (λ s. string_bytes s ≡ first_line planes (map entry_of cells.now)) }
+fn totals_line(alloc: Global, planes: u32, cells: &[Cell]) -> Result<String, AllocError>
+    ensures { IfOk result (λ s. string_bytes s ≡ totals_line planes (map entry_of cells.now)) }
 {
     let points = kind_count(cells, Kind::Point);
     let edges = kind_count(cells, Kind::Edge);
@@ -211,7 +211,7 @@ pub fn cells_text(
         bytes: Vec::new(alloc),
         length: 0,
     };
-    let first = first_line(alloc, table.len(), cells.as_slice())?;
+    let first = totals_line(alloc, table.len(), cells.as_slice())?;
     hold(&mut held, first.as_bytes())?;
     hold_cells(alloc, &graphs, cells.as_slice(), parts, &mut held)?;
     if held.length > TEXT_LIMIT {

@@ -2,7 +2,7 @@ use Rattle.std.proofs.Common.{◌≡◌, ◌∙◌, ◌≤◌, ap, arith, length
 use Rattle.staat_model.specs.declared.limits.TheConstants.{TEXT_LIMIT}
 use Rattle.staat_cells.specs.Compositions.{entry_of}
 use Rattle.staat_cells.specs.declared.cell.Cell.{Cell}
-use Rattle.staat_text.specs.CellTexts.{IsCellsText, first_line}
+use Rattle.staat_text.specs.CellTexts.{IsCellsText, totals_line}
 use Rattle.staat_text.specs.Holding.{HoldsCells}
 use Rattle.staat_text.proofs.CellLines.{whole_text}
 use Rattle.staat_text.proofs.cells.cells_text.Goals as goal
@@ -12,7 +12,7 @@ returns-then-held-gt-TEXT_LIMIT c all made =
     let cells = c.args.cells.now in
     let (text, is, holds) = whole_text all c.args.table.now c.args.parts c.len.result (map entry_of cells) c.as_bytes.result.now
     (record { bytes = c.new.result; length = 0 }) c.hold.new.held c.hold_cells.new.held made c.requires.set c.requires.cells c.len.ensures.is
-    (c.as_bytes.ensures.value ∙ c.in_ok-first.ensures ∙ ap (λ (l : List Cell). first_line c.len.result (map entry_of l)) c.as_slice.ensures)
+    (c.as_bytes.ensures.value ∙ c.in_ok-first.ensures ∙ ap (λ (l : List Cell). totals_line c.len.result (map entry_of l)) c.as_slice.ensures)
     refl c.new.ensures.items c.in_ok-hold.ensures.more
     (subst (λ (l : List Cell). HoldsCells c.args.table.now c.args.parts (map entry_of l) c.hold.new.held c.hold_cells.new.held) c.as_slice-2.ensures
     (c.in_ok-hold_cells.ensures c.args.table.now c.in_ok-graphs.ensures)) in
@@ -23,7 +23,7 @@ returns c all made =
     let cells = c.args.cells.now in
     let (text, is, holds) = whole_text all c.args.table.now c.args.parts c.len.result (map entry_of cells) c.as_bytes.result.now
     (record { bytes = c.new.result; length = 0 }) c.hold.new.held c.hold_cells.new.held made c.requires.set c.requires.cells c.len.ensures.is
-    (c.as_bytes.ensures.value ∙ c.in_ok-first.ensures ∙ ap (λ (l : List Cell). first_line c.len.result (map entry_of l)) c.as_slice.ensures)
+    (c.as_bytes.ensures.value ∙ c.in_ok-first.ensures ∙ ap (λ (l : List Cell). totals_line c.len.result (map entry_of l)) c.as_slice.ensures)
     refl c.new.ensures.items c.in_ok-hold.ensures.more
     (subst (λ (l : List Cell). HoldsCells c.args.table.now c.args.parts (map entry_of l) c.hold.new.held c.hold_cells.new.held) c.as_slice-2.ensures
     (c.in_ok-hold_cells.ensures c.args.table.now c.in_ok-graphs.ensures)) in
