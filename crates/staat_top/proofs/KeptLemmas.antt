@@ -14,7 +14,7 @@ use Rattle.staat_top.specs.Pieces.{SaysPiece}
 use Rattle.staat_top.specs.Moved.{IsMovedPieceOf}
 use Rattle.staat_top.specs.Inputs.{IsListingOf, IsPartOf, IsInputOf, SaysListing}
 use Rattle.staat_top.specs.Assembling.{IsSoundOf}
-use Rattle.staat_top.specs.Kept.{KeepsNamed, part_list, piece_of}
+use Rattle.staat_top.specs.Kept.{KeepsNamed, names_list, names_piece}
 
 -- both hold the file with the same bytes
 abbrev Keeps : Files → Files → List ℕ → Type 0
@@ -42,7 +42,7 @@ part_kept files others digits n part keeps (inr (pieces, each, e)) =
     inr (pieces, each_kept (IsMovedPieceOf files digits n.at) (IsMovedPieceOf others digits n.at) n.pieces pieces (λ name points c. moved_kept files others digits n.at name points (keeps name c)) each, e)
 
 listing_kept : (files others : Files) (input : Input) (named : List ListedPart) → KeepsNamed files others input → IsListingOf files input (Ok named) → IsListingOf others input (Ok named)
-listing_kept files others (inputs.Manifest name) named keeps found = taken_kept FILE_LIMIT files others name (SaysListing name) named (λ bytes at. keeps name bytes (part_list refl) at) found
+listing_kept files others (inputs.Manifest name) named keeps found = taken_kept FILE_LIMIT files others name (SaysListing name) named (λ bytes at. keeps name bytes (names_list refl) at) found
 listing_kept files others (inputs.Files names) named keeps e = e
 
 input_kept : (files others : Files) (asked : Asked) (parts : List Part) → KeepsNamed files others asked.input → IsInputOf files asked (Ok parts) → IsInputOf others asked (Ok parts)
@@ -52,7 +52,7 @@ input_kept files others asked parts keeps (inr (named, listed, read)) =
       named,
       listing_kept files others asked.input named keeps listed,
       each_kept (IsPartOf files asked.digits) (IsPartOf others asked.digits) named parts
-          (λ n part c. part_kept files others asked.digits n part (λ name there bytes at. keeps name bytes (piece_of named n listed c there) at)) read,
+          (λ n part c. part_kept files others asked.digits n part (λ name there bytes at. keeps name bytes (names_piece named n listed c there) at)) read,
     )
 
 pub sound_kept : (files others : Files) (asked : Asked) (parts : List Part) → KeepsNamed files others asked.input → IsSoundOf files asked (Ok parts) → IsSoundOf others asked (Ok parts)

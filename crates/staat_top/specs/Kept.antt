@@ -9,8 +9,8 @@ use Rattle.staat_top.specs.Inputs.{IsListingOf}
 
 -- The input names this file: it is the part list, or a part that is listed has a piece in it.
 pub data IsNamedBy (files : Files) (input : Input) (name : List ℕ) : Type 0 where
-  part_list : input ≡ inputs.Manifest name → IsNamedBy files input name
-  piece_of : (named : List ListedPart) (part : ListedPart) → IsListingOf files input (Ok named) →
+  names_list : input ≡ inputs.Manifest name → IsNamedBy files input name
+  names_piece : (named : List ListedPart) (part : ListedPart) → IsListingOf files input (Ok named) →
       Contains named part → Contains part.pieces name → IsNamedBy files input name
 
 -- the others hold each file that the input names, with the same bytes

@@ -9,7 +9,8 @@ ghost use Rattle.staat_top.specs.Headline.{Headline};
 ghost use Rattle.staat_top.specs.Replies.{IsReply, Reply, WorkOnWords};
 
 /// What `check` calls valid keeps the written rules, and the other way round; what a valid plan and a valid refusal
-/// show; and that `plan` prints a plan that takes all parts apart, or parts that are stuck.
+/// show; that `plan` prints a plan that takes all parts apart, or parts that are stuck, for all sound parts within its
+/// limits; and that `check` calls the certificate valid that `plan` prints.
 pub fn headline()
     ensures { Headline }
 {}
