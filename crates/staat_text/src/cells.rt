@@ -189,7 +189,7 @@ fn hold_cells(
 
 /// The text of the cells of the table's planes, or its length in bytes where that is above [`TEXT_LIMIT`].
 ///
-/// The table's set is that of the parts below `parts`, which are [`MOST_PARTS`] at most, and the cells are all those of
+/// The table's set is that of the parts below `parts`, at most [`MOST_PARTS`] of them, and the cells are all those of
 /// its planes.
 ///
 /// It has the line `planes N points P edges E open O`; then for each cell in order a line of its kind, the three

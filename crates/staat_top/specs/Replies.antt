@@ -119,7 +119,7 @@ SaysOutcome parts finding None text = text ≡ plan_text finding
 SaysOutcome parts finding (Some version) text =
     (c : Certificate) × (text ≡ text_of c) × IsCertificateOf parts version finding c × IsValidFor parts finding c
 
--- The text is the table of all cells, each with the arcs that the blocking graph has at every direction of the cell; and
+-- The text is the table of all cells, each with the arcs that the blocking graph has at every direction of the cell;
 -- every direction, of any size, lies in exactly one of the cells.
 pub record SaysCells (files : Files) (request : CellsRequest) (text : List ℕ) : Type 0 where
   pub parts : List Part
