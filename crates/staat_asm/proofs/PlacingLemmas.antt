@@ -1,6 +1,6 @@
 -- A piece that is moved by a vector is a piece, and how its points are moved one after another.
-use Rattle.std.proofs.Common.{◌≡◌, ◌≢◌, inl, inr, ◌⊎◌, ◌↔◌, ⊎_elim, ℕ, false, zero, suc, ◌+◌, ◌<◌, ◌≤◌, arith, refl, sym, ap, subst, ◌∙◌, ℤ, pos, ◌+ℤ◌, ◌<ℤ◌, List, [], ◌∷◌, ◌++◌, length, get_or, take, drop, map, All, Contains}
-use Rattle.std.specs.Prelude.{Any, IsTrue, slice_set}
+use Rattle.std.proofs.Common.{◌≡◌, ◌⊎◌, ◌↔◌, ⊎_elim, ℕ, false, zero, suc, ◌+◌, ◌<◌, ◌≤◌, arith, refl, sym, ap, subst, ◌∙◌, ℤ, ◌+ℤ◌, ◌<ℤ◌, List, [], ◌∷◌, length, get_or, All, Contains}
+use Rattle.std.specs.Prelude.{IsTrue, slice_set}
 use Rattle.std.specs.Cmp.{int_cmp_is, int_ranks}
 use Rattle.std.specs.List.{AllByRecursion}
 use Rattle.std.specs.List.Sorted.{IsStrictlySortedBy}
@@ -14,12 +14,11 @@ use Rattle.std.proofs.lemmas.Option.{slice_get-get_or}
 use Rattle.staat_vec.specs.declared.vector.V3.{V3}
 use Rattle.staat_vec.specs.declared.vector.TheConstants.{POINT}
 use Rattle.staat_vec.specs.Vectors.{IsWithin, det, minus, origin, plus, vector_cmp}
-use Rattle.staat_vec.proofs.Ring.{ring}
 use Rattle.staat_vec.proofs.Unique.{Contains-cases, Contains-front, Contains-later, Contains-nothing}
 use Rattle.staat_vec.proofs.VecRing.{minusE, originE, plusE, ring3, values, v0, v1, v2}
 use Rattle.staat_model.specs.Pieces.{IsPiece, IsSolid}
 use Rattle.staat_model.proofs.Places.{Contains-from_place}
-use Rattle.staat_asm.specs.Placing.{IsPlaced, IsPlacedFar, IsTooFar, shifted}
+use Rattle.staat_asm.specs.Placing.{IsPlaced, IsPlacedFar, shifted}
 
 -- ---- points
 

@@ -13,7 +13,7 @@ use Rattle.staat_vec.specs.Vectors.{dot, negative, sign}
 use Rattle.staat_vec.proofs.VecRing.{negative_dot}
 use Rattle.staat_model.specs.declared.limits.TheConstants.{MOST_PARTS}
 use Rattle.staat_model.specs.Cells.{signs_of}
-use Rattle.staat_model.proofs.Places.{one_at_place, place_from_Contains, place_within}
+use Rattle.staat_model.proofs.Places.{place_within}
 use Rattle.staat_model.proofs.CellLemmas.{positive_sign, negative_sign, sign_positive, sign_negative}
 use Rattle.staat_pairs.specs.Searches.{arc_of}
 use Rattle.staat_pairs.specs.Tables.{IsTable, IsTableArc, Table, facets_of, pieces_of}
@@ -214,15 +214,6 @@ facets_more planes facets n f k old new at is e before d = (from, to)
 -- n does not stand before the place k
 abbrev pub IsNotBefore : List V3 → V3 → ℕ → Type 0
 IsNotBefore planes n k = (j : ℕ) → j < k → slice_get planes j ≡ Some n → ⊥
-
-pub not_before : (planes : List V3) (n g : V3) (k : ℕ) → slice_get planes k ≡ Some g → (g ≡ n → ⊥) → IsNotBefore planes n k → IsNotBefore planes n (k + 1)
-not_before planes n g k at other before j lt e =
-    ⊎_elim (λ l. before j l e) (λ i. other (one_at_place planes k g n at (subst (λ (m : ℕ). slice_get planes m ≡ Some n) i e))) (below_or_at j k lt)
-
-pub not_nowhere : (planes : List V3) (n : V3) (k : ℕ) → Contains planes n → length planes ≤ k → IsNotBefore planes n k → ⊥
-not_nowhere planes n k has le before =
-    let (j, at) = place_from_Contains planes n has in
-    before j (let lt = place_within planes j n at in omega (arith, lt, le)) at
 
 pub facets_all : (planes facets : List V3) (k : ℕ) (fs : List FacetSign) → length facets ≤ k → AreFacetSigns planes (take k facets) fs → AreFacetSigns planes facets fs
 facets_all planes facets k fs le = subst (λ l. AreFacetSigns planes l fs) (take_all k facets le)

@@ -1,5 +1,6 @@
 -- The blocking graph of a cell: its arcs at every direction with the signs of the cell.
-use Rattle.std.specs.Prelude.{◌≡◌, ◌↔◌, ◌⊎◌, ◌<◌, ℕ, ◌<ℤ◌, pos, List, All, Contains, Some, slice_get}
+use Rattle.std.specs.Prelude.{◌≡◌, ◌↔◌, ◌⊎◌, ◌<◌, ℕ, ◌<ℤ◌, pos}
+use Rattle.std.specs.Prelude.{List, All, Contains, Some, slice_get}
 use Rattle.staat_vec.specs.declared.vector.V3.{V3}
 use Rattle.staat_vec.specs.declared.vector.Sign.{Sign}
 use Rattle.staat_vec.specs.Vectors.{dot}
@@ -14,7 +15,8 @@ use Rattle.staat_cells.specs.declared.piece_arcs.PieceArc.{PieceArc}
 
 -- the rows have the arcs of the table at every direction with these signs
 abbrev pub IsCellGraph : Table → List Sign → List ℕ → Type 0
-IsCellGraph t signs rows = (d : V3) → signs_of t.planes d ≡ signs → (a b : ℕ) → HasArc rows a b ↔ IsAhead t d a b
+IsCellGraph t signs rows =
+    (d : V3) → signs_of t.planes d ≡ signs → (a b : ℕ) → HasArc rows a b ↔ IsAhead t d a b
 
 -- the plane of the facet has the sign at which directions lead ahead of the facet
 abbrev pub HasSign : List Sign → FacetSign → Type 0
@@ -45,16 +47,20 @@ IsFacetSign planes n f = (d : V3) → HasSign (signs_of planes d) f ↔ (pos 0 <
 
 -- so for a list of facets
 abbrev pub AreFacetSigns : List V3 → List V3 → List FacetSign → Type 0
-AreFacetSigns planes facets fs = (d : V3) → All (HasSign (signs_of planes d)) fs ↔ All (λ n. pos 0 <ℤ dot n d) facets
+AreFacetSigns planes facets fs =
+    (d : V3) → All (HasSign (signs_of planes d)) fs ↔ All (λ n. pos 0 <ℤ dot n d) facets
 
 -- the list has grown by what has the arcs of P
 pub record AddsArcs (t : Table) (P : V3 → ℕ → ℕ → Type 0) (old new : List PieceArc) : Type 0 where
-  pub arcs : (d : V3) (a b : ℕ) → IsArcAt new (signs_of t.planes d) a b ↔ (IsArcAt old (signs_of t.planes d) a b ⊎ P d a b)
+  pub arcs : (d : V3) (a b : ℕ)
+      → IsArcAt new (signs_of t.planes d) a b ↔ (IsArcAt old (signs_of t.planes d) a b ⊎ P d a b)
   pub parts : All HasParts old → All HasParts new
 
 -- the arc from a to b, where d leads ahead of piece i of a and piece j of b
 abbrev pub IsPairAhead : Table → ℕ → ℕ → ℕ → ℕ → V3 → ℕ → ℕ → Type 0
-IsPairAhead t a i b j d x y = (x ≡ a) × (y ≡ b) × IsTableArc t (arc_of a i b j) × All (λ n. pos 0 <ℤ dot n d) (facets_of t (arc_of a i b j))
+IsPairAhead t a i b j d x y =
+    (x ≡ a) × (y ≡ b) × IsTableArc t (arc_of a i b j)
+    × All (λ n. pos 0 <ℤ dot n d) (facets_of t (arc_of a i b j))
 
 -- where d leads ahead of piece i of a and some piece of b
 abbrev pub IsPieceAhead : Table → ℕ → ℕ → ℕ → V3 → ℕ → ℕ → Type 0

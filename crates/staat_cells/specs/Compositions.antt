@@ -1,5 +1,6 @@
 -- Cells as they are listed, and cells composed of the first two cells on their borders.
-use Rattle.std.specs.Prelude.{◌≡◌, ℕ, zero, suc, ◌+◌, ◌<◌, Bool, true, ◌&&◌, not, nat_eq, if◌then◌else◌, List, [], ◌∷◌, ◌++◌, length, slice_index_or, All}
+use Rattle.std.specs.Prelude.{◌≡◌, ℕ, zero, suc, ◌+◌, ◌<◌, Bool, true, ◌&&◌, not, nat_eq}
+use Rattle.std.specs.Prelude.{if◌then◌else◌, List, [], ◌∷◌, ◌++◌, length, slice_index_or, All}
 use Rattle.staat_vec.specs.declared.vector.Sign.{Sign}
 use Rattle.staat_vec.specs.Vectors.{origin, plus}
 use Rattle.staat_model.specs.declared.tree.Kind.{Kind}
@@ -36,16 +37,21 @@ same_words x y = nat_eq x.a y.a && (nat_eq x.b y.b && (nat_eq x.c y.c && nat_eq 
 -- no incidence of the same cell stands just before
 abbrev pub begins_cell : List Incidence → ℕ → Bool
 begins_cell incidences zero = true
-begins_cell incidences (suc i) = not (same_words (slice_index_or incidences i no_incidence) (slice_index_or incidences (suc i) no_incidence))
+begins_cell incidences (suc i) =
+    not (same_words (slice_index_or incidences i no_incidence) (slice_index_or incidences (suc i) no_incidence))
 
 -- the cell of the incidence at place i and of the one behind it
 abbrev pub composed_at : Kind → List CellEntry → List Incidence → ℕ → CellEntry
-composed_at kind lower incidences i = composed_cell kind (slice_index_or lower (slice_index_or incidences i no_incidence).of no_cell) (slice_index_or lower (slice_index_or incidences (i + 1) no_incidence).of no_cell)
+composed_at kind lower incidences i =
+    composed_cell kind (slice_index_or lower (slice_index_or incidences i no_incidence).of no_cell)
+    (slice_index_or lower (slice_index_or incidences (i + 1) no_incidence).of no_cell)
 
 -- the cells of the first incidences
 unfoldable pub composed_up_to : Kind → List CellEntry → List Incidence → ℕ → List CellEntry
 composed_up_to kind lower incidences zero = []
-composed_up_to kind lower incidences (suc i) = composed_up_to kind lower incidences i ++ (if begins_cell incidences i then composed_at kind lower incidences i ∷ [] else [])
+composed_up_to kind lower incidences (suc i) =
+    composed_up_to kind lower incidences i
+    ++ (if begins_cell incidences i then composed_at kind lower incidences i ∷ [] else [])
 
 -- each incidence is of a listed cell, and where a cell begins another incidence of it follows
 pub record HavePairs (incidences : List Incidence) (count : ℕ) : Type 0 where

@@ -17,8 +17,16 @@ packed s = packed_after 0 s
 
 -- the signs s, and the number of the cell whose incidence it is
 abbrev pub incidence_of : List Sign → ℕ → Incidence
-incidence_of s k = record { a = packed (take 64 s); b = packed (take 64 (drop 64 s)); c = packed (take 64 (drop 64 (drop 64 s))); d = packed (take 64 (drop 64 (drop 64 (drop 64 s)))); of = k }
+incidence_of s k = record {
+  a = packed (take 64 s);
+  b = packed (take 64 (drop 64 s));
+  c = packed (take 64 (drop 64 (drop 64 s)));
+  d = packed (take 64 (drop 64 (drop 64 (drop 64 s))));
+  of = k;
+}
 
 -- by the signs, then by the number
 abbrev pub incidence_cmp : Incidence → Incidence → Ordering
-incidence_cmp x y = ordering_then (nat_cmp x.a y.a) (ordering_then (nat_cmp x.b y.b) (ordering_then (nat_cmp x.c y.c) (ordering_then (nat_cmp x.d y.d) (nat_cmp x.of y.of))))
+incidence_cmp x y =
+    ordering_then (nat_cmp x.a y.a) (ordering_then (nat_cmp x.b y.b)
+    (ordering_then (nat_cmp x.c y.c) (ordering_then (nat_cmp x.d y.d) (nat_cmp x.of y.of))))

@@ -1,5 +1,6 @@
 -- The incidences of the cells of one kind with those of the next, on whose borders they are.
-use Rattle.std.specs.Prelude.{◌≡◌, ◌≢◌, ◌⊎◌, ◌↔◌, ℕ, ◌<◌, List, length, slice_index_or, Contains, pos}
+use Rattle.std.specs.Prelude.{◌≡◌, ◌≢◌, ◌⊎◌, ◌↔◌, ℕ, ◌<◌, pos}
+use Rattle.std.specs.Prelude.{List, length, slice_index_or, Contains}
 use Rattle.staat_vec.specs.declared.vector.V3.{V3}
 use Rattle.staat_vec.specs.declared.vector.Sign.{Sign}
 use Rattle.staat_vec.specs.declared.vector.Sign.TheVariants.{Neg, Pos}
@@ -43,7 +44,8 @@ pub record IsOwnIncidence (cells : List CellEntry) (x : Incidence) : Type 0 wher
 -- one of the two incidences of the edge at its place
 pub record IsFilledIncidence (cells : List CellEntry) (x : Incidence) : Type 0 where
   pub listed : x.of < length cells
-  pub is : (x ≡ incidence_of (filled Neg (cell_at cells x.of).signs) x.of) ⊎ (x ≡ incidence_of (filled Pos (cell_at cells x.of).signs) x.of)
+  pub is : (x ≡ incidence_of (filled Neg (cell_at cells x.of).signs) x.of)
+      ⊎ (x ≡ incidence_of (filled Pos (cell_at cells x.of).signs) x.of)
 
 -- the signs s are beside v on a plane c of cs through v, on one of the two sides of v, which the plane m tells apart
 pub record IsBesideOn (cs planes : List V3) (v m : V3) (s : List Sign) : Type 0 where

@@ -1,5 +1,6 @@
 // Packed signs in which a zero gives way to another sign.
-ghost use Rattle.std.specs.Prelude.{◌≡◌, ◌<◌, ◌≤◌, ◌-◌, ◌^◌, All, List, length, slice_set, min};
+ghost use Rattle.std.specs.Prelude.{◌≡◌, ◌<◌, ◌≤◌, ◌-◌, ◌^◌};
+ghost use Rattle.std.specs.Prelude.{All, List, length, slice_set, min};
 ghost use Rattle.staat_vec.specs.declared.vector.Sign.{Sign as SignValue};
 ghost use Rattle.staat_vec.specs.Vectors.{IsWithin};
 ghost use Rattle.staat_model.specs.Cells.{is_zero, signs_of};
@@ -25,7 +26,8 @@ fn changed_word(word: u128, count: usize, k: usize, t: Sign) -> u128
     requires place { k < count }
     requires word { count ≤ 64 }
     requires zero_at { HasZeroAt word count k }
-    ensures { (s : List SignValue) → packed s ≡ word → length s ≡ count → IsZeroAt s k → result ≡ packed (slice_set s k t) }
+    ensures { (s : List SignValue) → packed s ≡ word → length s ≡ count → IsZeroAt s k
+        → result ≡ packed (slice_set s k t) }
 {
     match t {
         Sign::Neg => word - weight(count, k),
@@ -47,7 +49,8 @@ pub(crate) fn changed(incidence: Incidence, count: usize, k: usize, t: Sign) -> 
     requires few { count ≤ 256 }
     requires place { k < count }
     requires zero_at { HasIncidenceZeroAt incidence count k }
-    ensures { (s : List SignValue) → incidence ≡ incidence_of s incidence.of → length s ≡ count → IsZeroAt s k → result ≡ incidence_of (slice_set s k t) incidence.of }
+    ensures { (s : List SignValue) → incidence ≡ incidence_of s incidence.of → length s ≡ count
+        → IsZeroAt s k → result ≡ incidence_of (slice_set s k t) incidence.of }
 {
     let mut new = incidence;
     if k < 64 {
@@ -71,8 +74,8 @@ fn is_zero(s: Sign) -> bool
     }
 }
 
-/// The incidence towards `w` of the cell with these signs, whose own incidence is `base`: in place of each zero stands the sign
-/// of the plane at `w`.
+/// The incidence towards `w` of the cell with these signs, whose own incidence is `base`: in place of each zero stands
+/// the sign of the plane at `w`.
 pub(crate) fn incidence_towards(planes: &[V3], signs: &[Sign], base: Incidence, w: V3) -> Incidence
     requires planes { All (IsWithin NORMAL) planes.now }
     requires direction { IsWithin DIRECTION w }

@@ -1,7 +1,8 @@
 // Cells from the first two cells on their borders.
 ghost use Rattle.std.specs.Prelude.{◌≡◌, ◌<◌, ◌+◌, All, IfOk, length, map};
 ghost use Rattle.staat_vec.specs.Vectors.{IsWithin};
-ghost use Rattle.staat_cells.specs.Compositions.{HaveEqualLengths, HavePairs, begins_cell, entry_of, composed, composed_cell, composed_up_to, same_words};
+ghost use Rattle.staat_cells.specs.Compositions.{HaveEqualLengths, HavePairs, begins_cell, entry_of};
+ghost use Rattle.staat_cells.specs.Compositions.{composed, composed_cell, composed_up_to, same_words};
 ghost use Rattle.staat_cells.specs.Beside.{then_sign};
 
 use crate::cell::{Cell, Signs};
@@ -72,7 +73,8 @@ pub(crate) fn composed_cells(
     requires pairs { HavePairs incidences.now (length lower.now) }
     requires size { All (λ c. IsWithin EDGE c.d) lower.now }
     requires signs { HaveEqualLengths lower.now }
-    ensures { IfOk result (λ cells. map entry_of cells.items ≡ composed_up_to kind (map entry_of lower.now) incidences.now (length incidences.now)) }
+    ensures { IfOk result (λ cells. map entry_of cells.items
+        ≡ composed_up_to kind (map entry_of lower.now) incidences.now (length incidences.now)) }
 {
     let mut cells = Vec::new(alloc);
     for i in 0..incidences.len() {

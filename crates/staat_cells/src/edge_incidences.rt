@@ -1,5 +1,6 @@
 // The incidences of vertices: the edges that end there.
-ghost use Rattle.std.specs.Prelude.{◌≡◌, ◌≢◌, ◌≤◌, ◌↔◌, ◌++◌, All, Contains, IfOk, List, [], ◌∷◌, OnOk, length, map};
+ghost use Rattle.std.specs.Prelude.{◌≡◌, ◌≢◌, ◌≤◌, ◌↔◌, ◌++◌, [], ◌∷◌};
+ghost use Rattle.std.specs.Prelude.{All, Contains, IfOk, List, OnOk, length, map};
 ghost use Rattle.staat_vec.specs.Vectors.{IsWithin, cross, dot, negative, origin, sign};
 ghost use Rattle.staat_model.specs.Cells.{signs_of};
 ghost use Rattle.staat_model.specs.Planes.{vertices};
@@ -9,7 +10,8 @@ ghost use Rattle.staat_cells.specs.declared.incidence.Incidence.{Incidence as In
 ghost use Rattle.staat_cells.specs.Compositions.{entry_of};
 ghost use Rattle.staat_cells.specs.Packing.{incidence_of};
 ghost use Rattle.staat_cells.specs.Beside.{beside};
-ghost use Rattle.staat_cells.specs.Stages.{GrewByAll, IsAxisOff, IsBesideIncidence, IsEdgeIncidence, IsIncidence, IsVertexPoint};
+ghost use Rattle.staat_cells.specs.Stages.{GrewByAll, IsAxisOff, IsBesideIncidence, IsEdgeIncidence};
+ghost use Rattle.staat_cells.specs.Stages.{IsIncidence, IsVertexPoint};
 
 use crate::cell::Cell;
 use crate::change::incidence_towards;
@@ -45,7 +47,8 @@ fn push_towards(
     requires signs { point.now.signs ≡ signs_of planes.now point.now.d }
     requires base { base ≡ incidence_of point.now.signs base.of }
     requires size { IsWithin DIRECTION w }
-    ensures { OnOk result (incidences.new.items ≡ incidences.old.items ++ incidence_of (beside planes.now point.now.d w) base.of ∷ []) }
+    ensures { OnOk result (incidences.new.items
+        ≡ incidences.old.items ++ incidence_of (beside planes.now point.now.d w) base.of ∷ []) }
 {
     incidences.push(incidence_towards(planes, point.signs.as_slice(), base, w))?;
     Ok(())
@@ -66,7 +69,9 @@ fn push_both(
     requires base { base ≡ incidence_of point.now.signs base.of }
     requires c { IsWithin NORMAL c }
     requires m { IsWithin NORMAL m }
-    ensures { OnOk result (incidences.new.items ≡ (incidences.old.items ++ incidence_of (beside planes.now point.now.d (cross c m)) base.of ∷ []) ++ incidence_of (beside planes.now point.now.d (negative (cross c m))) base.of ∷ []) }
+    ensures { OnOk result (incidences.new.items
+        ≡ (incidences.old.items ++ incidence_of (beside planes.now point.now.d (cross c m)) base.of ∷ [])
+        ++ incidence_of (beside planes.now point.now.d (negative (cross c m))) base.of ∷ []) }
 {
     let w = cross_normal(c, m);
     push_towards(planes, point, base, w, incidences)?;
@@ -90,7 +95,8 @@ fn push_on(
     requires c { IsWithin NORMAL c }
     requires s { s ≡ sign (dot c point.now.d) }
     requires m { IsWithin NORMAL m }
-    ensures { OnOk result (GrewByAll (IsBesideIncidence (c ∷ []) planes.now point.now.d m base.of) incidences.old.items incidences.new.items) }
+    ensures { OnOk result (GrewByAll (IsBesideIncidence (c ∷ []) planes.now point.now.d m base.of)
+        incidences.old.items incidences.new.items) }
 {
     match s {
         Sign::Zero => push_both(planes, point, base, c, m, incidences),
@@ -111,7 +117,8 @@ fn push_all(
     requires signs { point.now.signs ≡ signs_of planes.now point.now.d }
     requires base { base ≡ incidence_of point.now.signs base.of }
     requires m { IsWithin NORMAL m }
-    ensures { OnOk result (GrewByAll (IsBesideIncidence planes.now planes.now point.now.d m base.of) incidences.old.items incidences.new.items) }
+    ensures { OnOk result (GrewByAll (IsBesideIncidence planes.now planes.now point.now.d m base.of)
+        incidences.old.items incidences.new.items) }
 {
     for j in 0..planes.len() {
         let s = point.signs.as_slice()[j];
@@ -131,7 +138,8 @@ fn push_edge_incidences(
     requires few { length planes.now ≤ 256 }
     requires vertex { Contains (vertices planes.now) point.now.d }
     requires signs { point.now.signs ≡ signs_of planes.now point.now.d }
-    ensures { OnOk result (GrewByAll (IsEdgeIncidence planes.now point.now.d k) incidences.old.items incidences.new.items) }
+    ensures { OnOk result (GrewByAll (IsEdgeIncidence planes.now point.now.d k)
+        incidences.old.items incidences.new.items) }
 {
     let base = incidence_of(point.signs.as_slice(), k);
     push_all(planes, point, base, axis_off(point.d), incidences)
@@ -146,7 +154,8 @@ pub(crate) fn edge_incidences(
     requires planes { AreTablePlanes planes.now }
     requires few { length planes.now ≤ 256 }
     requires points { All (IsVertexPoint planes.now) points.now }
-    ensures { IfOk result (λ incidences. (x : IncidenceValue) → Contains incidences.items x ↔ IsIncidence planes.now Edge (map entry_of points.now) x) }
+    ensures { IfOk result (λ incidences. (x : IncidenceValue) → Contains incidences.items x
+        ↔ IsIncidence planes.now Edge (map entry_of points.now) x) }
 {
     let mut incidences = Vec::with_capacity(alloc, points.len().saturating_mul(4))?;
     for k in 0..points.len() {

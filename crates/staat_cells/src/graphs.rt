@@ -72,8 +72,8 @@ impl CellGraphs {
     /// Latombe, 1994). It takes no memory and forms no products.
     pub fn graph_of(&self, signs: &[Sign]) -> Graph
         ensures table { (t : Table) → HasArcsOf t self.now → IsCellGraph t signs.now result.rows }
-        ensures shows { (t : Table) (parts : List PartValue) (d : Vector) → HasArcsOf t self.now → WasMadeFrom parts t
-            → signs_of t.planes d ≡ signs.now → ShowsBlocking parts d t.of result.rows }
+        ensures shows { (t : Table) (parts : List PartValue) (d : Vector) → HasArcsOf t self.now
+            → WasMadeFrom parts t → signs_of t.planes d ≡ signs.now → ShowsBlocking parts d t.of result.rows }
     {
         let mut rows = [0u32; 32];
         for pieces in &self.arcs {

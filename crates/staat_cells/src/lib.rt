@@ -18,3 +18,6 @@ mod vertices;
 pub use all::all_cells;
 pub use cell::{Cell, Cells, Signs};
 pub use graphs::CellGraphs;
+
+#[cfg(test)]
+mod tests;

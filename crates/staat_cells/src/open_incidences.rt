@@ -1,5 +1,6 @@
 // The incidences of edges: the open cells on whose border they are.
-ghost use Rattle.std.specs.Prelude.{◌≡◌, ◌≤◌, ◌↔◌, ◌++◌, All, Contains, IfOk, OnOk, List, [], ◌∷◌, length, map};
+ghost use Rattle.std.specs.Prelude.{◌≡◌, ◌≤◌, ◌↔◌, ◌++◌, [], ◌∷◌};
+ghost use Rattle.std.specs.Prelude.{All, Contains, IfOk, List, OnOk, length, map};
 ghost use Rattle.staat_vec.specs.declared.vector.Sign.TheVariants.{Neg, Pos};
 ghost use Rattle.staat_cells.specs.declared.incidence.Incidence.{Incidence as IncidenceValue};
 ghost use Rattle.staat_cells.specs.Compositions.{entry_of};
@@ -16,7 +17,9 @@ use std::alloc::Global;
 // adds both incidences of an edge
 fn push_both(edge: &Cell, k: usize, incidences: &mut Vec<Incidence>) -> Result<(), OutOfMemory>
     requires few { length edge.now.signs ≤ 256 }
-    ensures { OnOk result (incidences.new.items ≡ (incidences.old.items ++ incidence_of (filled Neg edge.now.signs) k ∷ []) ++ incidence_of (filled Pos edge.now.signs) k ∷ []) }
+    ensures { OnOk result (incidences.new.items
+        ≡ (incidences.old.items ++ incidence_of (filled Neg edge.now.signs) k ∷ [])
+        ++ incidence_of (filled Pos edge.now.signs) k ∷ []) }
 {
     let base = incidence_of(edge.signs.as_slice(), k);
     incidences.push(incidence_filled(edge.signs.as_slice(), base, Sign::Neg))?;
@@ -27,7 +30,8 @@ fn push_both(edge: &Cell, k: usize, incidences: &mut Vec<Incidence>) -> Result<(
 /// Both incidences of each edge.
 pub(crate) fn open_incidences(alloc: Global, edges: &[Cell]) -> Result<Vec<Incidence>, OutOfMemory>
     requires few { All (λ c. length c.signs ≤ 256) edges.now }
-    ensures { IfOk result (λ incidences. (x : IncidenceValue) → Contains incidences.items x ↔ IsFilledIncidence (map entry_of edges.now) x) }
+    ensures { IfOk result (λ incidences. (x : IncidenceValue) → Contains incidences.items x
+        ↔ IsFilledIncidence (map entry_of edges.now) x) }
 {
     let mut incidences = Vec::with_capacity(alloc, edges.len().saturating_mul(2))?;
     for k in 0..edges.len() {

@@ -1,5 +1,6 @@
 // The facets of a table, each by the number of its plane.
-ghost use Rattle.std.specs.Prelude.{◌≡◌, ◌≢◌, ◌<◌, ◌≤◌, All, Contains, IfOk, OnOk, Some, length, slice_get};
+ghost use Rattle.std.specs.Prelude.{◌≡◌, ◌≢◌, ◌<◌, ◌≤◌, All, Contains, IfOk, OnOk, Some};
+ghost use Rattle.std.specs.Prelude.{length, slice_get};
 ghost use Rattle.staat_model.specs.Sets.{Has};
 ghost use Rattle.staat_pairs.specs.Tables.{IsTable, IsTableArc, IsTableFacet, facets_of, pieces_of};
 ghost use Rattle.staat_cells.specs.CellGraphs.{AddsArcs, AreFacetSigns, ArePartsAhead, HasArcsOf, HasParts};
@@ -80,7 +81,8 @@ fn push_pair(
 ) -> Result<(), OutOfMemory>
     requires rules { IsTable table.now }
     requires across { IsTableArc table.now arc }
-    ensures { OnOk result (AddsArcs table.now (IsPairAhead table.now arc.a arc.i arc.b arc.j) arcs.old.items arcs.new.items) }
+    ensures { OnOk result (AddsArcs table.now (IsPairAhead table.now arc.a arc.i arc.b arc.j)
+        arcs.old.items arcs.new.items) }
 {
     let facets = Listed::from_vec(facet_signs(alloc, table, arc)?);
     arcs.push(PieceArc {

@@ -1,5 +1,6 @@
 // The points, ascending by their signs.
-ghost use Rattle.std.specs.Prelude.{◌≡◌, ◌<◌, ◌++◌, All, Contains, IfOk, List, [], ◌∷◌, length, map, ◌↔◌};
+ghost use Rattle.std.specs.Prelude.{◌≡◌, ◌<◌, ◌↔◌, ◌++◌, [], ◌∷◌};
+ghost use Rattle.std.specs.Prelude.{All, Contains, IfOk, List, length, map};
 ghost use Rattle.staat_vec.specs.Vectors.{IsWithin};
 ghost use Rattle.staat_cells.specs.declared.incidence.Incidence.{Incidence as IncidenceValue};
 ghost use Rattle.staat_cells.specs.Compositions.{entry_of};
@@ -45,7 +46,8 @@ pub(crate) fn points_at(
 
 /// The incidences of cells with their own signs and places.
 pub(crate) fn own_incidences(alloc: Global, cells: &[Cell]) -> Result<Vec<Incidence>, OutOfMemory>
-    ensures { IfOk result (λ incidences. (x : IncidenceValue) → Contains incidences.items x ↔ IsOwnIncidence (map entry_of cells.now) x) }
+    ensures { IfOk result (λ incidences. (x : IncidenceValue) → Contains incidences.items x
+        ↔ IsOwnIncidence (map entry_of cells.now) x) }
 {
     let mut incidences = Vec::with_capacity(alloc, cells.len())?;
     for k in 0..cells.len() {
@@ -73,7 +75,8 @@ pub(crate) fn cells_of(
     incidences: &[Incidence],
 ) -> Result<Vec<Cell>, OutOfMemory>
     requires { All (λ x. x.of < length cells.now) incidences.now }
-    ensures { IfOk result (λ found. map entry_of found.items ≡ map (λ x. cell_at (map entry_of cells.now) x.of) incidences.now) }
+    ensures { IfOk result (λ found. map entry_of found.items
+        ≡ map (λ x. cell_at (map entry_of cells.now) x.of) incidences.now) }
 {
     let mut found = Vec::with_capacity(alloc, incidences.len())?;
     for x in incidences {

@@ -1,9 +1,9 @@
--- The facets of the arcs of a witness, collected.
-use Rattle.std.proofs.Common.{◌≡◌, ◌⊎◌, ◌↔◌, inl, inr, ⊎_elim, ℕ, ◌+◌, ◌<◌, ◌≤◌, arith, refl, sym, ap, subst, ◌∙◌, List, [], ◌∷◌, ◌++◌, length, get_or, take, pos, ◌<ℤ◌, All, Contains}
-use Rattle.std.specs.Prelude.{Some, slice_get}
-use Rattle.std.proofs.lemmas.List.{get_or_append_left, get_or_push, length-append, take_all, take_more}
+-- The facets of the arcs of a witness, by their numbers.
+use Rattle.std.proofs.Common.{◌≡◌, ◌⊎◌, ◌≢◌, ◌↔◌, inl, inr, ⊎_elim, ℕ, ◌+◌, ◌<◌, ◌≤◌, arith, sym, ap, subst, ◌∙◌, List, [], ◌∷◌, ◌++◌, append_assoc, length, get_or, take, pos, ◌<ℤ◌, All, Contains}
+use Rattle.std.specs.Prelude.{Some, flat_map, map, slice_get}
+use Rattle.std.proofs.lemmas.List.{flat_map_more, get_or-map, get_or_append_left, get_or_push, length-append, length-map, take_all, take_more}
 use Rattle.std.proofs.lemmas.Option.{get_or_from_slice_get}
-use Rattle.std.proofs.lemmas.List.Elements.{All-contains, Contains-append_cases, Contains-append_left, Contains-append_right, Contains-push, Contains-push_cases}
+use Rattle.std.proofs.lemmas.List.Elements.{All-append, All-cons, All-contains, All-head, All-nil, All-tail, Contains-append_cases, Contains-append_left, Contains-append_right, Contains-push, Contains-push_cases}
 use Rattle.staat_vec.specs.declared.vector.V3.{V3}
 use Rattle.staat_vec.specs.declared.vector.TheConstants.{NORMAL}
 use Rattle.staat_vec.specs.Lists.{Lists}
@@ -16,12 +16,15 @@ use Rattle.staat_model.specs.declared.certificate.Arc.{Arc}
 use Rattle.staat_model.specs.declared.certificate.Witness.{Witness}
 use Rattle.staat_model.specs.Certificates.{IsBlocking}
 use Rattle.staat_model.specs.Facets.{IsFacet}
-use Rattle.staat_model.proofs.Members.{All-from_members}
+use Rattle.staat_model.proofs.Differences.{from_map, in_map}
+use Rattle.staat_model.proofs.Members.{All-from_members, all_back, all_front}
 use Rattle.staat_model.proofs.Places.{one_at_place, place_within, same_some}
-use Rattle.staat_pairs.specs.Tables.{IsTableArc, IsTable, IsTableFacet, Table, WasMadeFrom, back, facets_of, reversed_facets}
-use Rattle.staat_pairs.proofs.TableLemmas.{facets_reversed}
+use Rattle.staat_pairs.specs.declared.table.TheConstants.{SLOTS}
+use Rattle.staat_pairs.specs.Tables.{IsTableArc, IsTable, IsTableFacet, Table, WasMadeFrom, back, facets_of, reversed_facets, slot}
+use Rattle.staat_pairs.proofs.TableLemmas.{facets_ahead, facets_reversed}
 use Rattle.staat_pairs.proofs.ReversedFacets.{from_reversed, in_reversed}
-use Rattle.staat_check.specs.Conditions.{AddsFacets, AreConditions, AreFacets, AreLists, AreNumbers, HasFacet, IsAcrossAll, IsEitherOf, LeadsAheadOf}
+use Rattle.staat_check.specs.declared.conditions.FacetNumbers.{FacetNumbers}
+use Rattle.staat_check.specs.Conditions.{AddsNumbers, AreConditions, AreFacetNumbers, AreLists, AreNumbers, AreSlotNumbers, HasNumber, HasOpposites, IsAcrossAll, IsEitherOf, IsNumbered, LeadsAheadOf, asked_facets, facets_at}
 use Rattle.staat_check.specs.Negatives.{AddsNegatives}
 
 -- ---- negatives
@@ -38,85 +41,6 @@ negatives_more facets first old new k d n lt adds e is = subst (λ l. AddsNegati
       (λ same. subst (λ l. Contains l (negative x)) (sym is) (subst (Contains (old ++ n ∷ [])) (e ∙ ap negative same) (Contains-push old n)))
       (Contains-push_cases (take k facets) (get_or facets k d) x c);
 })
-
--- ---- arcs
-
-only_one : (arc x : Arc) → Contains (arc ∷ []) x → x ≡ arc
-only_one arc x c = ⊎_elim (λ e. e) (λ none. absurd (Contains-nothing x none)) (Rattle.staat_vec.proofs.Unique.Contains-cases arc [] x c)
-
-pub arc_ahead : (t : Table) (arc : Arc) (facets old new : List V3) → facets ≡ facets_of t arc → new ≡ old ++ facets → AddsFacets t (arc ∷ []) old new
-arc_ahead t arc facets old new e is = record {
-  from = λ n c. ⊎_elim {C = Contains old n ⊎ HasFacet t (arc ∷ []) n} (λ h. inl h) (λ h. inr (record { arc = arc; listed = (0, omega arith, refl); facet = subst (λ l. Contains l n) e h })) (Contains-append_cases old facets n (subst (λ l. Contains l n) is c));
-  kept = λ n c. subst (λ l. Contains l n) (sym is) (Contains-append_left old facets n c);
-  all = λ n h. subst (λ l. Contains l n) (sym is) (Contains-append_right old facets n (subst (λ l. Contains l n) (sym e) (subst (λ a. Contains (facets_of t a) n) (only_one arc h.arc h.listed) h.facet)));
-}
-
-pub arc_back : (t : Table) (arc other : Arc) (facets old new : List V3) → IsTableArc t arc → arc.b ≤ arc.a → other ≡ back arc → facets ≡ facets_of t other → AddsNegatives facets old new → AddsFacets t (arc ∷ []) old new
-arc_back t arc other facets old new across le e is adds =
-    let turns : facets_of t arc ≡ reversed_facets facets = facets_reversed t arc other facets across le e is in
-    record {
-      from = λ n c. ⊎_elim {C = Contains old n ⊎ HasFacet t (arc ∷ []) n}
-          (λ h. inl h)
-          (λ h. inr (record { arc = arc; listed = (0, omega arith, refl); facet = subst (λ l. Contains l n) (sym turns) (subst (Contains (reversed_facets facets)) (negative-negative n) (in_reversed facets (negative n) h)) }))
-          (adds.from n c);
-      kept = adds.kept;
-      all = λ n h.
-          let here : Contains (facets_of t arc) n = subst (λ a. Contains (facets_of t a) n) (only_one arc h.arc h.listed) h.facet in
-          subst (Contains new) (negative-negative n) (adds.all (negative n) (from_reversed facets n (subst (λ l. Contains l n) turns here)));
-    }
-
-pub arcs_more : (t : Table) (arcs : List Arc) (first old new : List V3) (k : ℕ) (d : Arc) → k < length arcs → AddsFacets t (take k arcs) first old → AddsFacets t (get_or arcs k d ∷ []) old new → AddsFacets t (take (k + 1) arcs) first new
-arcs_more t arcs first old new k d lt before adds = subst (λ l. AddsFacets t l first new) (sym (take_more arcs k d lt)) (record {
-  from = λ n c. ⊎_elim {C = Contains first n ⊎ HasFacet t (take k arcs ++ get_or arcs k d ∷ []) n}
-      (λ early. ⊎_elim {C = Contains first n ⊎ HasFacet t (take k arcs ++ get_or arcs k d ∷ []) n} (λ h. inl h) (λ h. inr (record { arc = h.arc; listed = Contains-append_left (take k arcs) (get_or arcs k d ∷ []) h.arc h.listed; facet = h.facet })) (before.from n early))
-      (λ now. inr (record { arc = now.arc; listed = Contains-append_right (take k arcs) (get_or arcs k d ∷ []) now.arc now.listed; facet = now.facet }))
-      (adds.from n c);
-  kept = λ n c. adds.kept n (before.kept n c);
-  all = λ n h. ⊎_elim
-      (λ early. adds.kept n (before.all n (record { arc = h.arc; listed = early; facet = h.facet })))
-      (λ now. adds.all n (record { arc = h.arc; listed = now; facet = h.facet }))
-      (Contains-append_cases (take k arcs) (get_or arcs k d ∷ []) h.arc h.listed);
-})
-
--- ---- witnesses
-
--- a facet of the table has a plane there, on one of its two sides
-facet_side : (t : Table) (arcs : List Arc) (n : V3) → IsTable t → All (IsTableArc t) arcs → HasFacet t arcs n → IsEitherOf t.planes n
-facet_side t arcs n is across h =
-    let rules = is.facets h.arc (All-contains (IsTableArc t) arcs h.arc across h.listed) in
-    let facet = All-contains (IsTableFacet t.planes) (facets_of t h.arc) n rules.each h.facet in
-    ⊎_elim {C = IsEitherOf t.planes n} (λ e. inl (subst (Contains t.planes) e facet.plane)) (λ e. inr (subst (Contains t.planes) e facet.plane)) (canon-either n)
-
-pub facets_are : (t : Table) (witness : Witness) (none some all : List V3) → none ≡ [] → AddsFacets t witness.outs none some → AddsFacets t witness.ins some all → AreFacets t witness all
-facets_are t witness none some all empty outs ins = record {
-  from = λ n c. ⊎_elim {C = HasFacet t witness.outs n ⊎ HasFacet t witness.ins n}
-      (λ early. ⊎_elim {C = HasFacet t witness.outs n ⊎ HasFacet t witness.ins n} (λ no_one. absurd (Contains-nothing n (subst (λ l. Contains l n) empty no_one))) (λ h. inl h) (outs.from n early))
-      (λ h. inr h)
-      (ins.from n c);
-  outs = λ n h. ins.kept n (outs.all n h);
-  ins = λ n h. ins.all n h;
-}
-
-pub facets_numbered : (t : Table) (witness : Witness) (normals facets : List V3) → IsTable t → IsAcrossAll t witness → Lists vector_cmp (IsEitherOf t.planes) normals → AreFacets t witness facets → All (Contains normals) facets
-facets_numbered t witness normals facets is across lists are = All-from_members (Contains normals) facets (λ n c. lists.all n (⊎_elim {C = IsEitherOf t.planes n}
-    (λ h. facet_side t witness.outs n is across.outs h)
-    (λ h. facet_side t witness.ins n is across.ins h)
-    (are.from n c)))
-
-pub lists_more : (t : Table) (normals : List V3) (witnesses : List Witness) (lists more : List (List ℕ)) (list : List ℕ) (k : ℕ) (witness : Witness) → slice_get witnesses k ≡ Some witness → AreLists t normals witnesses k lists → AreConditions t normals witness list → more ≡ lists ++ list ∷ [] → AreLists t normals witnesses (k + 1) more
-lists_more t normals witnesses lists more list k witness at are conditions e = record {
-  count = ap length e ∙ length-append lists (list ∷ []) ∙ ap (λ n. n + 1) are.count;
-  each = λ m other lt other_at. subst (λ l. AreConditions t normals other (get_or l m [])) (sym e) (⊎_elim
-      (λ early. subst (AreConditions t normals other) (sym (get_or_append_left lists (list ∷ []) [] m (omega (arith, early, are.count)))) (are.each m other early other_at))
-      (λ now.
-      let last : get_or (lists ++ list ∷ []) m [] ≡ list = get_or_push lists list [] m (are.count ∙ sym now) in
-      let same : witness ≡ other = one_at_place witnesses k witness other at (subst (λ j. slice_get witnesses j ≡ Some other) now other_at) in
-      subst (AreConditions t normals other) (sym last) (subst (λ w. AreConditions t normals w list) same conditions))
-      (last_or m k lt));
-}
-  where
-    last_or : (m k : ℕ) → m < k + 1 → (m < k) ⊎ (m ≡ k)
-    last_or m k lt = grind arith
 
 -- ---- numbers
 
@@ -138,11 +62,14 @@ either_within planes normals within lists = All-from_members (IsWithin NORMAL) n
     (λ h. subst (IsWithin NORMAL) (negative-negative n) (IsWithin-negative NORMAL (negative n) (All-contains (IsWithin NORMAL) planes (negative n) within h)))
     (lists.each n c))
 
-pub lists_as : (given planes normals slice : List V3) → given ≡ planes → slice ≡ normals → Lists vector_cmp (IsEitherOf given) normals → Lists vector_cmp (IsEitherOf planes) slice
-lists_as given planes normals slice e is lists = subst (Lists vector_cmp (IsEitherOf planes)) (sym is) (subst (λ ps. Lists vector_cmp (IsEitherOf ps) normals) e lists)
+pub opposites_there : (planes normals : List V3) → Lists vector_cmp (IsEitherOf planes) normals → HasOpposites normals
+opposites_there planes normals lists = λ n c. lists.all (negative n) (⊎_elim {C = IsEitherOf planes (negative n)}
+    (λ h. inr (subst (Contains planes) (sym (negative-negative n)) h))
+    (λ h. inl h)
+    (lists.each n c))
 
-pub numbers_more : (normals facets : List V3) (old new : List ℕ) (k number : ℕ) (d : V3) → k < length facets → AreNumbers normals (take k facets) old → slice_get normals number ≡ Some (get_or facets k d) → new ≡ old ++ number ∷ [] → AreNumbers normals (take (k + 1) facets) new
-numbers_more normals facets old new k number d lt are at is =
+number_more : (normals facets : List V3) (old new : List ℕ) (k number : ℕ) (d : V3) → k < length facets → AreNumbers normals (take k facets) old → slice_get normals number ≡ Some (get_or facets k d) → new ≡ old ++ number ∷ [] → AreNumbers normals (take (k + 1) facets) new
+number_more normals facets old new k number d lt are at is =
     let x : V3 = get_or facets k d in
     subst (λ l. AreNumbers normals l new) (sym (take_more facets k d lt)) (record {
       from = λ m c. ⊎_elim
@@ -155,13 +82,138 @@ numbers_more normals facets old new k number d lt are at is =
           (Contains-push_cases (take k facets) x n c);
     })
 
-pub numbers_end : (normals facets : List V3) (numbers once : List ℕ) (k : ℕ) → length facets ≤ k → AreNumbers normals (take k facets) numbers → ((m : ℕ) → Contains once m ↔ Contains numbers m) → AreNumbers normals facets once
-numbers_end normals facets numbers once k le are same =
-    let whole = subst (λ l. AreNumbers normals l numbers) (take_all k facets le) are in
+-- with more facets, where all of these are among the normals
+pub numbers_more : (normals facets : List V3) (old new : List ℕ) (k number : ℕ) (d : V3) → k < length facets
+    → (All (Contains normals) (take k facets) → AreNumbers normals (take k facets) old)
+    → (Contains normals (get_or facets k d) → slice_get normals number ≡ Some (get_or facets k d))
+    → new ≡ old ++ number ∷ [] → All (Contains normals) (take (k + 1) facets) → AreNumbers normals (take (k + 1) facets) new
+numbers_more normals facets old new k number d lt before found is all =
+    let x : V3 = get_or facets k d in
+    let both : All (Contains normals) (take k facets ++ x ∷ []) = subst (All (Contains normals)) (take_more facets k d lt) all in
+    let here : Contains normals x = All-head (Contains normals) x [] (all_back (Contains normals) (take k facets) (x ∷ []) both) in
+    number_more normals facets old new k number d lt (before (all_front (Contains normals) (take k facets) (x ∷ []) both)) (found here) is
+
+pub opposites_more : (normals facets : List V3) (old new : List ℕ) (k number : ℕ) (d : V3) → k < length facets
+    → (All (Contains normals) (take k (map negative facets)) → AreNumbers normals (take k (map negative facets)) old)
+    → (Contains normals (negative (get_or facets k d)) → slice_get normals number ≡ Some (negative (get_or facets k d)))
+    → new ≡ old ++ number ∷ [] → All (Contains normals) (take (k + 1) (map negative facets)) → AreNumbers normals (take (k + 1) (map negative facets)) new
+opposites_more normals facets old new k number d lt before found is =
+    let same : get_or (map negative facets) k (negative d) ≡ negative (get_or facets k d) = get_or-map negative facets k d (negative d) lt in
+    numbers_more normals (map negative facets) old new k number (negative d) (omega (arith, lt, length-map facets negative)) before
+    (subst (λ x. Contains normals x → slice_get normals number ≡ Some x) (sym same) found) is
+
+pub numbers_end : (normals facets : List V3) (numbers : List ℕ) (k : ℕ) → length facets ≤ k
+    → (All (Contains normals) (take k facets) → AreNumbers normals (take k facets) numbers) → All (Contains normals) facets → AreNumbers normals facets numbers
+numbers_end normals facets numbers k le are = subst (λ l. All (Contains normals) l → AreNumbers normals l numbers) (take_all k facets le) are
+
+pub opposites_end : (normals facets : List V3) (numbers : List ℕ) (k : ℕ) → length facets ≤ k
+    → (All (Contains normals) (take k (map negative facets)) → AreNumbers normals (take k (map negative facets)) numbers)
+    → All (Contains normals) (map negative facets) → AreNumbers normals (map negative facets) numbers
+opposites_end normals facets numbers k le = numbers_end normals (map negative facets) numbers k (omega (arith, le, length-map facets negative))
+
+-- ---- numbers by slots
+
+last_or : (m k : ℕ) → m < k + 1 → (m < k) ⊎ (m ≡ k)
+last_or m k lt = grind arith
+
+pub slots_more : (normals : List V3) (at : ℕ → List V3) (k : ℕ) (lists more : List (List ℕ)) (list : List ℕ) → AreSlotNumbers normals at k lists
+    → (All (Contains normals) (at k) → AreNumbers normals (at k) list) → more ≡ lists ++ list ∷ [] → AreSlotNumbers normals at (k + 1) more
+slots_more normals at k lists more list are here e = record {
+  count = ap length e ∙ length-append lists (list ∷ []) ∙ ap (λ n. n + 1) are.count;
+  each = λ m lt all. subst (λ l. AreNumbers normals (at m) (get_or l m [])) (sym e) (⊎_elim
+      (λ early. subst (AreNumbers normals (at m)) (sym (get_or_append_left lists (list ∷ []) [] m (omega (arith, early, are.count)))) (are.each m early all))
+      (λ now. subst (AreNumbers normals (at m)) (sym (get_or_push lists list [] m (are.count ∙ sym now))) (subst (λ j. All (Contains normals) (at j) → AreNumbers normals (at j) list) (sym now) here all))
+      (last_or m k lt));
+}
+
+-- a facet of the table has a plane there, on one of its two sides
+facets_listed : (t : Table) (normals : List V3) (arc : Arc) → IsTable t → Lists vector_cmp (IsEitherOf t.planes) normals → IsTableArc t arc → All (Contains normals) (facets_of t arc)
+facets_listed t normals arc is lists across = All-from_members (Contains normals) (facets_of t arc) (λ n c.
+    let facet = All-contains (IsTableFacet t.planes) (facets_of t arc) n (is.facets arc across).each c in
+    lists.all n (⊎_elim {C = IsEitherOf t.planes n} (λ e. inl (subst (Contains t.planes) e facet.plane)) (λ e. inr (subst (Contains t.planes) e facet.plane)) (canon-either n)))
+
+pub numbers_ahead : (t : Table) (f : FacetNumbers) (arc : Arc) (k : ℕ) (list : List ℕ) → IsTable t → AreFacetNumbers t f → IsTableArc t arc → arc.a < arc.b → k ≡ slot t.pieces arc → k < SLOTS
+    → list ≡ get_or f.kept.items k [] → AreNumbers f.normals.items (facets_of t arc) list
+numbers_ahead t f arc k list is are across lt e small list_is =
+    let normals : List V3 = f.normals.items in
+    let same : facets_of t arc ≡ facets_at t k = facets_ahead t arc lt ∙ ap (facets_at t) (sym e) in
+    subst (AreNumbers normals (facets_of t arc)) (sym list_is) (subst (λ l. AreNumbers normals l (get_or f.kept.items k [])) (sym same)
+    (are.kept.each k small (subst (All (Contains normals)) same (facets_listed t normals arc is are.normals across))))
+
+-- lists with the same members
+same_numbers : (normals facets others : List V3) (numbers : List ℕ) → ((n : V3) → Contains facets n → Contains others n) → ((n : V3) → Contains others n → Contains facets n)
+    → AreNumbers normals facets numbers → AreNumbers normals others numbers
+same_numbers normals facets others numbers there back are = record {
+  from = λ k c. let h = are.from k c in record { facet = h.facet; at = h.at; listed = there h.facet h.listed };
+  all = λ n c. are.all n (back n c);
+}
+
+to_reversed : (facets : List V3) (n : V3) → Contains (map negative facets) n → Contains (reversed_facets facets) n
+to_reversed facets n c = let (x, listed, e) = from_map negative facets n c in subst (Contains (reversed_facets facets)) (sym e) (in_reversed facets x listed)
+
+to_opposites : (facets : List V3) (n : V3) → Contains (reversed_facets facets) n → Contains (map negative facets) n
+to_opposites facets n c = subst (Contains (map negative facets)) (negative-negative n) (in_map negative facets (negative n) (from_reversed facets n c))
+
+lt_or : (a b : ℕ) → a ≢ b → b ≤ a → b < a
+lt_or a b ne le = omega arith
+
+pub numbers_back : (t : Table) (f : FacetNumbers) (arc other : Arc) (k : ℕ) (list : List ℕ) → IsTable t → AreFacetNumbers t f → IsTableArc t arc → arc.b ≤ arc.a → other ≡ back arc → k ≡ slot t.pieces other → k < SLOTS
+    → list ≡ get_or f.opposite.items k [] → AreNumbers f.normals.items (facets_of t arc) list
+numbers_back t f arc other k list is are across le e slot_is small list_is =
+    let normals : List V3 = f.normals.items in
+    let facets : List V3 = facets_at t k in
+    let here : facets ≡ facets_of t other = ap (facets_at t) slot_is ∙ sym (facets_ahead t other (subst (λ (o : Arc). o.a < o.b) (sym e) (lt_or arc.a arc.b across.different le))) in
+    let turns : facets_of t arc ≡ reversed_facets facets = facets_reversed t arc other facets across le e here in
+    let all : All (Contains normals) (map negative facets) = All-from_members (Contains normals) (map negative facets) (λ n c.
+    All-contains (Contains normals) (facets_of t arc) n (facets_listed t normals arc is are.normals across) (subst (λ l. Contains l n) (sym turns) (to_reversed facets n c))) in
+    subst (AreNumbers normals (facets_of t arc)) (sym list_is) (subst (λ l. AreNumbers normals l (get_or f.opposite.items k [])) (sym turns)
+    (same_numbers normals (map negative facets) (reversed_facets facets) (get_or f.opposite.items k []) (to_reversed facets) (to_opposites facets) (are.opposite.each k small all)))
+
+-- ---- numbers of arcs
+
+numbers_joined : (normals more : List V3) (old list new : List ℕ) → AreNumbers normals more list → new ≡ old ++ list → AddsNumbers normals more old new
+numbers_joined normals more old list new are is = λ facets before. record {
+  from = λ k c. ⊎_elim {C = IsNumbered normals (facets ++ more) k}
+      (λ early. let h = before.from k early in record { facet = h.facet; at = h.at; listed = Contains-append_left facets more h.facet h.listed })
+      (λ now. let h = are.from k now in record { facet = h.facet; at = h.at; listed = Contains-append_right facets more h.facet h.listed })
+      (Contains-append_cases old list k (subst (λ l. Contains l k) is c));
+  all = λ n c. ⊎_elim {C = HasNumber normals new n}
+      (λ early. let h = before.all n early in record { number = h.number; listed = subst (λ l. Contains l h.number) (sym is) (Contains-append_left old list h.number h.listed); at = h.at })
+      (λ now. let h = are.all n now in record { number = h.number; listed = subst (λ l. Contains l h.number) (sym is) (Contains-append_right old list h.number h.listed); at = h.at })
+      (Contains-append_cases facets more n c);
+}
+
+pub arcs_more : (t : Table) (normals : List V3) (arcs : List Arc) (k : ℕ) (d : Arc) (old mid new list : List ℕ) → k < length arcs → AddsNumbers normals (flat_map (facets_of t) (take k arcs)) old mid
+    → AreNumbers normals (facets_of t (get_or arcs k d)) list → new ≡ mid ++ list → AddsNumbers normals (flat_map (facets_of t) (take (k + 1) arcs)) old new
+arcs_more t normals arcs k d old mid new list lt adds are is = λ facets before.
+    let early : List V3 = flat_map (facets_of t) (take k arcs) in
+    let now : List V3 = facets_of t (get_or arcs k d) in
+    let whole : flat_map (facets_of t) (take (k + 1) arcs) ≡ early ++ now = ap (flat_map (facets_of t)) (take_more arcs k d lt) ∙ sym (flat_map_more (facets_of t) [] (take k arcs) (get_or arcs k d)) in
+    subst (λ l. AreNumbers normals l new) (append_assoc facets early now ∙ ap (λ l. facets ++ l) (sym whole)) (numbers_joined normals now mid list new are is (facets ++ early) (adds facets before))
+
+pub conditions_are : (t : Table) (normals : List V3) (witness : Witness) (none some all once : List ℕ) → none ≡ [] → AddsNumbers normals (flat_map (facets_of t) witness.outs) none some
+    → AddsNumbers normals (flat_map (facets_of t) witness.ins) some all → ((m : ℕ) → Contains once m ↔ Contains all m) → AreConditions t normals witness once
+conditions_are t normals witness none some all once empty outs ins same =
+    let first : AreNumbers normals [] none = subst (AreNumbers normals []) (sym empty) (record { from = λ k c. absurd (Contains-nothing k c); all = λ n c. absurd (Contains-nothing n c) }) in
+    let whole = ins (flat_map (facets_of t) witness.outs) (outs [] first) in
     record {
       from = λ m c. whole.from m ((same m).0 c);
       all = λ n c. let h = whole.all n c in record { number = h.number; listed = (same h.number).1 h.listed; at = h.at };
     }
+
+-- ---- lists for witnesses
+
+pub lists_more : (t : Table) (normals : List V3) (witnesses : List Witness) (lists more : List (List ℕ)) (list : List ℕ) (k : ℕ) (witness : Witness) → slice_get witnesses k ≡ Some witness → AreLists t normals witnesses k lists → AreConditions t normals witness list → more ≡ lists ++ list ∷ [] → AreLists t normals witnesses (k + 1) more
+lists_more t normals witnesses lists more list k witness at are conditions e = record {
+  count = ap length e ∙ length-append lists (list ∷ []) ∙ ap (λ n. n + 1) are.count;
+  each = λ m other lt other_at. subst (λ l. AreConditions t normals other (get_or l m [])) (sym e) (⊎_elim
+      (λ early. subst (AreConditions t normals other) (sym (get_or_append_left lists (list ∷ []) [] m (omega (arith, early, are.count)))) (are.each m other early other_at))
+      (λ now.
+      let last : get_or (lists ++ list ∷ []) m [] ≡ list = get_or_push lists list [] m (are.count ∙ sym now) in
+      let same : witness ≡ other = one_at_place witnesses k witness other at (subst (λ j. slice_get witnesses j ≡ Some other) now other_at) in
+      subst (AreConditions t normals other) (sym last) (subst (λ w. AreConditions t normals w list) same conditions))
+      (last_or m k lt));
+}
 
 pub numbers_small : (normals facets : List V3) (numbers : List ℕ) → AreNumbers normals facets numbers → All (λ k. k < length normals) numbers
 numbers_small normals facets numbers are = All-from_members (λ k. k < length normals) numbers (λ k c. let h = are.from k c in place_within normals k h.facet h.at)
@@ -175,7 +227,7 @@ numbers_law normals facets numbers d are = (
 -- ---- what is asked of a direction
 
 module _ (parts : List Part) (t : Table) (made : WasMadeFrom parts t) (d : V3) where
-  Ahead : V3 → Type 0
+  abbrev pub Ahead : V3 → Type 0
   Ahead n = pos 0 <ℤ dot n d
 
   arc_blocking : (arc : Arc) → IsTableArc t arc → ((n : V3) → Contains (facets_of t arc) n → pos 0 <ℤ dot n d) → IsBlocking parts d arc
@@ -188,14 +240,24 @@ module _ (parts : List Part) (t : Table) (made : WasMadeFrom parts t) (d : V3) w
       let second : h.q ≡ b.q = same_some h.q b.q (sym h.q_is ∙ b.q_is) in
       b.holds n (subst (λ p. IsFacet p b.q n) first (subst (λ q. IsFacet h.p q n) second (h.holds.each n c)))
 
-  pub facets_law : (witness : Witness) (facets : List V3) → IsAcrossAll t witness → AreFacets t witness facets → All (λ n. pos 0 <ℤ dot n d) facets ↔ (All (IsBlocking parts d) witness.outs × All (IsBlocking parts d) witness.ins)
-  facets_law witness facets across are = (
-    λ all. (
-      All-from_members (IsBlocking parts d) witness.outs (λ arc c. arc_blocking arc (All-contains (IsTableArc t) witness.outs arc across.outs c) (λ n f. All-contains (λ n. pos 0 <ℤ dot n d) facets n all (are.outs n (record { arc = arc; listed = c; facet = f })))),
-      All-from_members (IsBlocking parts d) witness.ins (λ arc c. arc_blocking arc (All-contains (IsTableArc t) witness.ins arc across.ins c) (λ n f. All-contains (λ n. pos 0 <ℤ dot n d) facets n all (are.ins n (record { arc = arc; listed = c; facet = f })))),
-    ),
-    λ both. All-from_members (λ n. pos 0 <ℤ dot n d) facets (λ n c. ⊎_elim
-        (λ h. arc_ahead_of h.arc (All-contains (IsTableArc t) witness.outs h.arc across.outs h.listed) (All-contains (IsBlocking parts d) witness.outs h.arc both.0 h.listed) n h.facet)
-        (λ h. arc_ahead_of h.arc (All-contains (IsTableArc t) witness.ins h.arc across.ins h.listed) (All-contains (IsBlocking parts d) witness.ins h.arc both.1 h.listed) n h.facet)
-        (are.from n c)),
-  )
+  arcs_law : (arcs : List Arc) → All (IsTableArc t) arcs → All Ahead (flat_map (facets_of t) arcs) ↔ All (IsBlocking parts d) arcs
+  arcs_law [] across = (λ all. All-nil (IsBlocking parts d), λ all. All-nil Ahead)
+  arcs_law (arc ∷ arcs) across =
+      let here : IsTableArc t arc = All-head (IsTableArc t) arc arcs across in
+      let rest = arcs_law arcs (All-tail (IsTableArc t) arc arcs across) in
+      let more : List V3 = flat_map (facets_of t) arcs in (
+        λ all. All-cons (IsBlocking parts d) arc arcs
+            (arc_blocking arc here (λ n c. All-contains Ahead (facets_of t arc) n (all_front Ahead (facets_of t arc) more all) c))
+            (rest.0 (all_back Ahead (facets_of t arc) more all)),
+        λ blocking. All-append Ahead (facets_of t arc) more
+            (All-from_members Ahead (facets_of t arc) (arc_ahead_of arc here (All-head (IsBlocking parts d) arc arcs blocking)))
+            (rest.1 (All-tail (IsBlocking parts d) arc arcs blocking)),
+      )
+
+  pub facets_law : (witness : Witness) → IsAcrossAll t witness → All Ahead (asked_facets t witness) ↔ (All (IsBlocking parts d) witness.outs × All (IsBlocking parts d) witness.ins)
+  facets_law witness across =
+      let first : List V3 = flat_map (facets_of t) witness.outs in
+      let second : List V3 = flat_map (facets_of t) witness.ins in (
+        λ all. ((arcs_law witness.outs across.outs).0 (all_front Ahead first second all), (arcs_law witness.ins across.ins).0 (all_back Ahead first second all)),
+        λ both. All-append Ahead first second ((arcs_law witness.outs across.outs).1 both.0) ((arcs_law witness.ins across.ins).1 both.1),
+      )

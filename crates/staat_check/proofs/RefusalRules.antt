@@ -32,7 +32,7 @@ use Rattle.staat_model.proofs.SetBits.{has-below}
 use Rattle.staat_model.proofs.SetMembers.{has-difference}
 use Rattle.staat_model.proofs.ListedVertices.{all_listed}
 use Rattle.staat_pairs.specs.Tables.{IsTableArc, Table, WasMadeFrom}
-use Rattle.staat_check.specs.Conditions.{AreLists, IsAcrossAll, IsFitDir, LeadsAhead}
+use Rattle.staat_check.specs.Conditions.{AreLists, IsAcrossAll, IsFitDir, LeadsAhead, asked_facets}
 use Rattle.staat_check.specs.Verdicts.{IsRefusalVerdict}
 use Rattle.staat_check.proofs.ConditionLemmas.{facets_law, numbers_law, numbers_small}
 use Rattle.staat_check.proofs.ReadLemmas.{more_all}
@@ -80,8 +80,8 @@ module _ (parts : List Part) (t : Table) (made : WasMadeFrom parts t) (witnesses
       let some = some_at witnesses dir.witness lt in
       let is = All-contains (IsAcrossAll t) witnesses some.0 across (Contains-from_place witnesses dir.witness some.0 some.1) in
       let conditions = are.each dir.witness some.0 lt some.1 in
-      let ahead = numbers_law normals conditions.facets (slice_index_or lists dir.witness []) dir.d conditions.numbers_are in
-      let law = facets_law parts t made dir.d some.0 conditions.facets is conditions.are in (
+      let ahead = numbers_law normals (asked_facets t some.0) (slice_index_or lists dir.witness []) dir.d conditions in
+      let law = facets_law parts t made dir.d some.0 is in (
         λ all. let both = law.0 (ahead.0 all) in record { witness = some.0; witness_is = some.1; outs = both.0; ins = both.1 },
         λ b.
             let same : b.witness ≡ some.0 = one_at_place witnesses dir.witness b.witness some.0 b.witness_is some.1 in
@@ -99,7 +99,7 @@ fit_dirs t normals witnesses dirs lists are named sizes = All-from_members (IsFi
     record {
       named = subst (λ n. dir.witness < n) (sym are.count) lt;
       size = All-contains (λ (dir : Dir). IsWithin DIRECTION dir.d) dirs dir sizes c;
-      numbers = numbers_small normals conditions.facets (slice_index_or lists dir.witness []) conditions.numbers_are;
+      numbers = numbers_small normals (asked_facets t some.0) (slice_index_or lists dir.witness []) conditions;
     })
 
 -- ---- the arcs of witnesses in the table

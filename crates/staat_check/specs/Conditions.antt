@@ -1,32 +1,19 @@
 -- What a witness asks of the directions that name it.
-use Rattle.std.specs.Prelude.{◌≡◌, ◌⊎◌, ◌<◌, ℕ, ◌<ℤ◌, []}
-use Rattle.std.specs.Prelude.{pos, List, All, Contains}
-use Rattle.std.specs.Prelude.{length, Some, slice_get, slice_index_or}
+use Rattle.std.specs.Prelude.{◌≡◌, ◌⊎◌, ◌<◌, ℕ, ◌<ℤ◌, ◌++◌, []}
+use Rattle.std.specs.Prelude.{pos, List, All, Contains, flat_map, length, map, Some, slice_get, slice_index_or}
 use Rattle.staat_vec.specs.declared.vector.V3.{V3}
 use Rattle.staat_vec.specs.declared.vector.TheConstants.{DIRECTION}
-use Rattle.staat_vec.specs.Vectors.{IsWithin, dot, negative, origin}
-use Rattle.staat_model.specs.declared.certificate.Arc.{Arc}
+use Rattle.staat_vec.specs.Lists.{Lists}
+use Rattle.staat_vec.specs.Vectors.{IsWithin, dot, negative, origin, vector_cmp}
 use Rattle.staat_model.specs.declared.certificate.Dir.{Dir}
 use Rattle.staat_model.specs.declared.certificate.Witness.{Witness}
+use Rattle.staat_pairs.specs.declared.table.TheConstants.{SLOTS}
 use Rattle.staat_pairs.specs.Tables.{IsTableArc, Table, facets_of}
+use Rattle.staat_check.specs.declared.conditions.FacetNumbers.{FacetNumbers}
 
 -- the vector or its opposite is one of these
 abbrev pub IsEitherOf : List V3 → V3 → Type 0
 IsEitherOf vs v = Contains vs v ⊎ Contains vs (negative v)
-
--- ---- facets of arcs
-
--- n is a facet of the two pieces of one of the arcs
-pub record HasFacet (t : Table) (arcs : List Arc) (n : V3) : Type 0 where
-  pub arc : Arc
-  pub listed : Contains arcs arc
-  pub facet : Contains (facets_of t arc) n
-
--- a list of normals that has also the facets of these arcs
-pub record AddsFacets (t : Table) (arcs : List Arc) (old new : List V3) : Type 0 where
-  pub from : (n : V3) → Contains new n → Contains old n ⊎ HasFacet t arcs n
-  pub kept : (n : V3) → Contains old n → Contains new n
-  pub all : (n : V3) → HasFacet t arcs n → Contains new n
 
 -- the arcs of the witness join parts of the table's set
 pub record IsAcrossAll (t : Table) (witness : Witness) : Type 0 where
@@ -52,17 +39,45 @@ pub record AreNumbers (normals facets : List V3) (numbers : List ℕ) : Type 0 w
   pub from : (k : ℕ) → Contains numbers k → IsNumbered normals facets k
   pub all : (n : V3) → Contains facets n → HasNumber normals numbers n
 
+-- a list of numbers has also those of more facets
+abbrev pub AddsNumbers : (normals more : List V3) → (old new : List ℕ) → Type 0
+AddsNumbers normals more old new =
+    (facets : List V3) → AreNumbers normals facets old → AreNumbers normals (facets ++ more) new
+
+-- with each normal there is its opposite
+abbrev pub HasOpposites : List V3 → Type 0
+HasOpposites normals = (n : V3) → Contains normals n → Contains normals (negative n)
+
+-- ---- the facets of a table by numbers
+
+-- the facets at a slot, and their opposites
+abbrev pub facets_at : Table → ℕ → List V3
+facets_at t slot = slice_index_or t.facets slot []
+
+abbrev pub opposites_at : Table → ℕ → List V3
+opposites_at t slot = map negative (facets_at t slot)
+
+-- a list for each of the first k slots: the numbers of the vectors there, if all of these are among the normals
+pub record AreSlotNumbers (normals : List V3) (at : ℕ → List V3) (k : ℕ) (lists : List (List ℕ)) : Type 0 where
+  pub count : length lists ≡ k
+  pub each : (slot : ℕ) → slot < k → All (Contains normals) (at slot)
+      → AreNumbers normals (at slot) (slice_index_or lists slot [])
+
+-- the normals are those of both sides of the table's planes, and at each slot stand the numbers of the facets there
+pub record AreFacetNumbers (t : Table) (facets : FacetNumbers) : Type 0 where
+  pub normals : Lists vector_cmp (IsEitherOf t.planes) facets.normals.items
+  pub kept : AreSlotNumbers facets.normals.items (facets_at t) SLOTS facets.kept.items
+  pub opposite : AreSlotNumbers facets.normals.items (opposites_at t) SLOTS facets.opposite.items
+
+-- ---- witnesses
+
 -- the facets of the arcs of a witness, which a direction is to lead ahead of
-pub record AreFacets (t : Table) (witness : Witness) (facets : List V3) : Type 0 where
-  pub from : (n : V3) → Contains facets n → HasFacet t witness.outs n ⊎ HasFacet t witness.ins n
-  pub outs : (n : V3) → HasFacet t witness.outs n → Contains facets n
-  pub ins : (n : V3) → HasFacet t witness.ins n → Contains facets n
+abbrev pub asked_facets : Table → Witness → List V3
+asked_facets t witness = flat_map (facets_of t) witness.outs ++ flat_map (facets_of t) witness.ins
 
 -- the numbers of those facets
-pub record AreConditions (t : Table) (normals : List V3) (witness : Witness) (numbers : List ℕ) : Type 0 where
-  pub facets : List V3
-  pub are : AreFacets t witness facets
-  pub numbers_are : AreNumbers normals facets numbers
+abbrev pub AreConditions : Table → (normals : List V3) → Witness → List ℕ → Type 0
+AreConditions t normals witness numbers = AreNumbers normals (asked_facets t witness) numbers
 
 -- a list for each of the first k witnesses
 pub record AreLists (t : Table) (normals : List V3) (witnesses : List Witness) (k : ℕ) (lists : List (List ℕ))

@@ -1,16 +1,17 @@
 // What the witnesses ask of directions: the facets of their arcs, by their numbers, each once.
-ghost use Rattle.std.specs.Prelude.{◌≡◌, ◌↔◌, ℕ, [], ◌∷◌};
-ghost use Rattle.std.specs.Prelude.{All, Contains, IfOk, OnOk, Some, length, slice_get};
+ghost use Rattle.std.specs.Prelude.{◌≡◌, ◌↔◌, ℕ};
+ghost use Rattle.std.specs.Prelude.{All, Contains, IfOk, OnOk, Some, flat_map, length, map, slice_get};
 ghost use Rattle.std.specs.List.Sorted.{IsStrictlySortedBy};
 ghost use Rattle.staat_vec.specs.Lists.{Lists};
-ghost use Rattle.staat_vec.specs.Vectors.{IsWithin, vector_cmp};
-ghost use Rattle.staat_pairs.specs.Tables.{IsTableArc};
-ghost use Rattle.staat_check.specs.Conditions.{AddsFacets, AreConditions, AreFacets, AreLists, AreNumbers};
-ghost use Rattle.staat_check.specs.Conditions.{IsAcrossAll, IsEitherOf};
+ghost use Rattle.staat_vec.specs.Vectors.{IsWithin, negative, vector_cmp};
+ghost use Rattle.staat_pairs.specs.Tables.{IsTableArc, facets_of};
+ghost use Rattle.staat_check.specs.Conditions.{AddsNumbers, AreConditions, AreLists, AreNumbers, AreSlotNumbers};
+ghost use Rattle.staat_check.specs.Conditions.{AreFacetNumbers, HasOpposites, IsAcrossAll, IsEitherOf};
+ghost use Rattle.staat_check.specs.Conditions.{facets_at, opposites_at};
 ghost use Rattle.staat_check.specs.Negatives.{AddsNegatives};
 
 use staat_model::{Arc, Witness};
-use staat_pairs::{FacetTable, back};
+use staat_pairs::{FacetTable, SLOTS, back};
 use staat_vec::{Listed, NORMAL, OutOfMemory, V3, in_order, neg};
 use std::alloc::Global;
 
@@ -25,8 +26,8 @@ fn push_negatives(normals: &mut Vec<V3>, facets: &[V3]) -> Result<(), OutOfMemor
     Ok(())
 }
 
-/// The normals of both sides of the planes, ascending: each facet is one of them.
-pub fn both_normals(alloc: Global, planes: &[V3]) -> Result<Vec<V3>, OutOfMemory>
+// the normals of both sides of the planes, ascending: each facet is one of them
+fn both_normals(alloc: Global, planes: &[V3]) -> Result<Vec<V3>, OutOfMemory>
     requires { All (IsWithin NORMAL) planes.now }
     ensures { IfOk result (λ normals. Lists vector_cmp (IsEitherOf planes.now) normals.items) }
 {
@@ -36,51 +37,152 @@ pub fn both_normals(alloc: Global, planes: &[V3]) -> Result<Vec<V3>, OutOfMemory
     Ok(in_order(normals))
 }
 
-// adds the facets of the two pieces of an arc
-fn push_arc(table: &FacetTable, arc: Arc, normals: &mut Vec<V3>) -> Result<(), OutOfMemory>
-    requires { IsTableArc table.now arc }
-    ensures { OnOk result (AddsFacets table.now (arc ∷ []) normals.old.items normals.new.items) }
+// where the vector stands among the ascending normals, if it does, by halving
+fn number_of(normals: &[V3], v: V3) -> usize
+    requires { IsStrictlySortedBy vector_cmp normals.now }
+    ensures { Contains normals.now v → slice_get normals.now result ≡ Some v }
 {
-    if arc.a < arc.b {
-        normals.extend_from_slice(table.kept_facets(arc))?;
-    } else {
-        push_negatives(normals, table.kept_facets(back(arc)))?;
+    match normals.binary_search(&v) {
+        Ok(k) => k,
+        Err(k) => k,
     }
-    Ok(())
+}
+
+// where its opposite stands, if it does
+fn number_of_opposite(normals: &[V3], v: V3) -> usize
+    requires ascending { IsStrictlySortedBy vector_cmp normals.now }
+    requires size { All (IsWithin NORMAL) normals.now }
+    requires opposites { HasOpposites normals.now }
+    ensures { Contains normals.now (negative v) → slice_get normals.now result ≡ Some (negative v) }
+{
+    match normals.binary_search(&v) {
+        Ok(_) => number_of(normals, neg(v)),
+        Err(k) => k,
+    }
+}
+
+// where the facets stand among the ascending normals, if they do
+fn numbers_of(alloc: Global, normals: &[V3], facets: &[V3]) -> Result<Vec<usize>, OutOfMemory>
+    requires { IsStrictlySortedBy vector_cmp normals.now }
+    ensures { IfOk result (λ numbers. All (Contains normals.now) facets.now
+        → AreNumbers normals.now facets.now numbers.items) }
+{
+    let mut numbers = Vec::new(alloc);
+    for facet in facets {
+        numbers.push(number_of(normals, *facet))?;
+    }
+    Ok(numbers)
+}
+
+// where their opposites stand, if they do
+fn numbers_of_opposites(
+    alloc: Global,
+    normals: &[V3],
+    facets: &[V3],
+) -> Result<Vec<usize>, OutOfMemory>
+    requires ascending { IsStrictlySortedBy vector_cmp normals.now }
+    requires size { All (IsWithin NORMAL) normals.now }
+    requires opposites { HasOpposites normals.now }
+    ensures { IfOk result (λ numbers. All (Contains normals.now) (map negative facets.now)
+        → AreNumbers normals.now (map negative facets.now) numbers.items) }
+{
+    let mut numbers = Vec::new(alloc);
+    for facet in facets {
+        numbers.push(number_of_opposite(normals, *facet))?;
+    }
+    Ok(numbers)
+}
+
+// for each slot of the table the numbers of its facets
+fn slot_numbers(
+    alloc: Global,
+    table: &FacetTable,
+    normals: &[V3],
+) -> Result<Vec<Listed<usize>>, OutOfMemory>
+    requires { IsStrictlySortedBy vector_cmp normals.now }
+    ensures { IfOk result (λ lists. AreSlotNumbers normals.now (facets_at table.now) SLOTS lists.items) }
+{
+    let mut lists = Vec::new(alloc);
+    for slot in 0..SLOTS {
+        let numbers = numbers_of(alloc, normals, table.facets_at(slot))?;
+        lists.push(Listed::from_vec(numbers))?;
+    }
+    Ok(lists)
+}
+
+// for each slot of the table the numbers of the opposites of its facets
+fn slot_numbers_of_opposites(
+    alloc: Global,
+    table: &FacetTable,
+    normals: &[V3],
+) -> Result<Vec<Listed<usize>>, OutOfMemory>
+    requires ascending { IsStrictlySortedBy vector_cmp normals.now }
+    requires size { All (IsWithin NORMAL) normals.now }
+    requires opposites { HasOpposites normals.now }
+    ensures { IfOk result (λ lists. AreSlotNumbers normals.now (opposites_at table.now) SLOTS lists.items) }
+{
+    let mut lists = Vec::new(alloc);
+    for slot in 0..SLOTS {
+        let numbers = numbers_of_opposites(alloc, normals, table.facets_at(slot))?;
+        lists.push(Listed::from_vec(numbers))?;
+    }
+    Ok(lists)
+}
+
+/// The facets of a table by numbers: the normals of both sides of its planes, ascending, and for each slot the numbers
+/// of the facets there and of their opposites among these normals.
+#[derive(Drop)]
+pub struct FacetNumbers {
+    pub normals: Vec<V3>,
+    pub kept: Vec<Listed<usize>>,
+    pub opposite: Vec<Listed<usize>>,
+}
+
+/// The facets of the table by numbers. Each facet is sought among the normals once.
+pub fn facet_numbers(alloc: Global, table: &FacetTable) -> Result<FacetNumbers, OutOfMemory>
+    ensures { IfOk result (AreFacetNumbers table.now) }
+{
+    let normals = both_normals(alloc, table.planes())?;
+    let kept = slot_numbers(alloc, table, normals.as_slice())?;
+    let opposite = slot_numbers_of_opposites(alloc, table, normals.as_slice())?;
+    Ok(FacetNumbers {
+        normals,
+        kept,
+        opposite,
+    })
+}
+
+// the numbers of the facets of the two pieces of an arc
+fn numbers_at<'a>(table: &FacetTable, facets: &'a FacetNumbers, arc: Arc) -> &'a [usize]
+    requires numbers { AreFacetNumbers table.now facets.now }
+    requires arc { IsTableArc table.now arc }
+    ensures { AreNumbers facets.now.normals.items (facets_of table.now arc) result.now }
+{
+    // the facets of a table have planes there
+    let _set = table.set();
+    if arc.a < arc.b {
+        facets.kept[table.slot(arc) as usize].as_slice()
+    } else {
+        facets.opposite[table.slot(back(arc)) as usize].as_slice()
+    }
 }
 
 // adds those of all arcs
-fn push_arcs(table: &FacetTable, arcs: &[Arc], normals: &mut Vec<V3>) -> Result<(), OutOfMemory>
-    requires { All (IsTableArc table.now) arcs.now }
-    ensures { OnOk result (AddsFacets table.now arcs.now normals.old.items normals.new.items) }
+fn push_arcs(
+    table: &FacetTable,
+    facets: &FacetNumbers,
+    arcs: &[Arc],
+    numbers: &mut Vec<usize>,
+) -> Result<(), OutOfMemory>
+    requires numbers { AreFacetNumbers table.now facets.now }
+    requires arcs { All (IsTableArc table.now) arcs.now }
+    ensures { OnOk result (AddsNumbers facets.now.normals.items (flat_map (facets_of table.now) arcs.now)
+        numbers.old.items numbers.new.items) }
 {
     for arc in arcs {
-        push_arc(table, *arc, normals)?;
+        numbers.extend_from_slice(numbers_at(table, facets, *arc))?;
     }
     Ok(())
-}
-
-// the facets of all arcs of a witness, some of them more than once
-fn facets_of(alloc: Global, table: &FacetTable, witness: &Witness) -> Result<Vec<V3>, OutOfMemory>
-    requires { IsAcrossAll table.now witness.now }
-    ensures { IfOk result (λ facets. AreFacets table.now witness.now facets.items) }
-{
-    let mut facets = Vec::new(alloc);
-    push_arcs(table, witness.outs.as_slice(), &mut facets)?;
-    push_arcs(table, witness.ins.as_slice(), &mut facets)?;
-    Ok(facets)
-}
-
-// where the facet stands among the ascending normals, by halving
-fn number_of(normals: &[V3], facet: V3) -> usize
-    requires ascending { IsStrictlySortedBy vector_cmp normals.now }
-    requires listed { Contains normals.now facet }
-    ensures { slice_get normals.now result ≡ Some facet }
-{
-    match normals.binary_search(&facet) {
-        Ok(k) => k,
-        Err(_) => unreachable!(),
-    }
 }
 
 // the numbers, each once
@@ -92,51 +194,38 @@ fn each_once(mut numbers: Vec<usize>) -> Vec<usize>
     numbers
 }
 
-// where the facets stand among the ascending normals
-fn numbers_of(alloc: Global, normals: &[V3], facets: &[V3]) -> Result<Vec<usize>, OutOfMemory>
-    requires ascending { IsStrictlySortedBy vector_cmp normals.now }
-    requires listed { All (Contains normals.now) facets.now }
-    ensures { IfOk result (λ numbers. AreNumbers normals.now facets.now numbers.items) }
-{
-    let mut numbers = Vec::new(alloc);
-    for facet in facets {
-        numbers.push(number_of(normals, *facet))?;
-    }
-    Ok(each_once(numbers))
-}
-
 // the numbers of the facets of all arcs of a witness, each once
 fn conditions(
     alloc: Global,
     table: &FacetTable,
-    normals: &[V3],
+    facets: &FacetNumbers,
     witness: &Witness,
 ) -> Result<Vec<usize>, OutOfMemory>
-    requires normals { Lists vector_cmp (IsEitherOf table.now.planes) normals.now }
+    requires numbers { AreFacetNumbers table.now facets.now }
     requires across { IsAcrossAll table.now witness.now }
-    ensures { IfOk result (λ numbers. AreConditions table.now normals.now witness.now numbers.items) }
+    ensures { IfOk result (λ numbers. AreConditions table.now facets.now.normals.items witness.now numbers.items) }
 {
-    // the facets of a table have planes there
-    let _set = table.set();
-    let facets = facets_of(alloc, table, witness)?;
-    let numbers = numbers_of(alloc, normals, facets.as_slice())?;
-    Ok(numbers)
+    let mut numbers = Vec::new(alloc);
+    push_arcs(table, facets, witness.outs.as_slice(), &mut numbers)?;
+    push_arcs(table, facets, witness.ins.as_slice(), &mut numbers)?;
+    Ok(each_once(numbers))
 }
 
 /// For each witness the numbers of the facets of its arcs among the ascending normals, each once.
 pub fn all_conditions(
     alloc: Global,
     table: &FacetTable,
-    normals: &[V3],
+    facets: &FacetNumbers,
     witnesses: &[Witness],
 ) -> Result<Vec<Listed<usize>>, OutOfMemory>
-    requires normals { Lists vector_cmp (IsEitherOf table.now.planes) normals.now }
+    requires numbers { AreFacetNumbers table.now facets.now }
     requires across { All (IsAcrossAll table.now) witnesses.now }
-    ensures { IfOk result (λ lists. AreLists table.now normals.now witnesses.now (length witnesses.now) lists.items) }
+    ensures { IfOk result (λ lists. AreLists table.now facets.now.normals.items witnesses.now
+        (length witnesses.now) lists.items) }
 {
     let mut lists = Vec::new(alloc);
     for witness in witnesses {
-        let numbers = conditions(alloc, table, normals, witness)?;
+        let numbers = conditions(alloc, table, facets, witness)?;
         lists.push(Listed::from_vec(numbers))?;
     }
     Ok(lists)

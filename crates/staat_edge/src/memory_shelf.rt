@@ -1,5 +1,7 @@
 // A shelf in memory, which fails at the calls that it is told.
-ghost use Rattle.std.specs.Prelude.{min, ◌^◌, ◌≡◌, ◌≤◌, ◌<◌, ◌+◌, ◌||◌, ◌&&◌, ℕ, List, length, take, drop, Option, Some, None, IsOk, IfOk, is_err, is_some, not, IfNone, IfSome, option_map, slice_get};
+ghost use Rattle.std.specs.Prelude.{min, ◌^◌, ◌≡◌, ◌≤◌, ◌<◌, ◌+◌, ◌||◌, ◌&&◌, ℕ};
+ghost use Rattle.std.specs.Prelude.{List, length, take, drop, Option, Some, None, IsOk, IfOk, is_err, is_some, not};
+ghost use Rattle.std.specs.Prelude.{IfNone, IfSome, option_map, slice_get};
 ghost use Rattle.std.specs.Option.{ForSome};
 ghost use Rattle.std.specs.Io.KnownBytes.{Consumes, IsAtEnd};
 ghost use Rattle.staat_edge.specs.Calls.{is_due, after_call};

@@ -1,5 +1,6 @@
 // A sink in memory, which fails at the calls that it is told.
-ghost use Rattle.std.specs.Prelude.{◌≡◌, ◌≤◌, ◌<◌, ◌-◌, ◌||◌, ◌&&◌, ◌==◌, nat_lt, min, ℕ, [], length, Some, IfOk, is_err, vec_len, vec_capacity};
+ghost use Rattle.std.specs.Prelude.{◌≡◌, ◌≤◌, ◌<◌, ◌-◌, ◌||◌, ◌&&◌, ◌==◌, nat_lt, min};
+ghost use Rattle.std.specs.Prelude.{ℕ, [], length, Some, IfOk, is_err, vec_len, vec_capacity};
 ghost use Rattle.staat_edge.specs.Calls.{is_due, after_call};
 
 use crate::schedule::Schedule;

@@ -1,5 +1,7 @@
 // A shelf of files.
-ghost use Rattle.std.specs.Prelude.{◌≡◌, ◌≤◌, ◌<◌, ◌+◌, ◌⊎◌, ℕ, Bool, List, length, Option, Some, None, Result, IsSome, IsSomeAnd, IsErr, is_err, OnOk, OnErr, IfOk, MatchResult, option_map, ⊤};
+ghost use Rattle.std.specs.Prelude.{◌≡◌, ◌≤◌, ◌<◌, ◌+◌, ◌⊎◌, ℕ, Bool, List, length};
+ghost use Rattle.std.specs.Prelude.{Option, Some, None, Result, IsSome, IsSomeAnd, IsErr, is_err, OnOk, OnErr, IfOk};
+ghost use Rattle.std.specs.Prelude.{MatchResult, option_map, ⊤};
 ghost use Rattle.std.specs.Io.KnownBytes.{ReadConsumes};
 ghost use Rattle.staat_edge.specs.Causes.{Rose};
 ghost use Rattle.staat_edge.specs.Files.{bytes_of, content_of, Lacks, told_name, left_of, failed_at, held_name};
@@ -79,11 +81,13 @@ pub trait Shelf {
 
     /// Where the shelf tells what it holds and a file is open, it tells the name of a held file.
     ghost held_is: { (s : Self) (files : List (List ℕ × List ℕ)) → (told s).holds ≡ Some files →
-        (place : ℕ) → (told s).place ≡ Some place → IsSomeAnd (told s).opened (λ name. IsSome (bytes_of name files)) };
+        (place : ℕ) → (told s).place ≡ Some place →
+        IsSomeAnd (told s).opened (λ name. IsSome (bytes_of name files)) };
 
     /// Where no file is open, the shelf tells no name of one.
     ghost closed_is: { (s : Self) → (told s).place ≡ None → (told s).opened ≡ None };
 
     /// A shelf that does not tell what it holds tells no names.
-    ghost untold_is: { (s : Self) → (told s).holds ≡ None → ((told s).opened ≡ None) × ((told s).failed ≡ None) };
+    ghost untold_is: { (s : Self) → (told s).holds ≡ None →
+        ((told s).opened ≡ None) × ((told s).failed ≡ None) };
 }

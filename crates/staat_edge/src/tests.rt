@@ -134,8 +134,8 @@ fn a_stream_is_flushed_after_each_write(rt: HostRuntime) -> Result<(), Fail> {
     Ok(())
 }
 
-// A file at the limit, one past it, one that is not there after one that is, and the first again: each opening gives its
-// own file or none.
+// A file at the limit, one past it, one that is not there after one that is, and the first again: each opening gives
+// its own file or none.
 #[test]
 fn a_disk_gives_the_file_that_was_opened_last(rt: HostRuntime) -> Result<(), Fail> {
     let alloc = rt.alloc();

@@ -1,5 +1,7 @@
 // Whole files and whole texts.
-ghost use Rattle.std.specs.Prelude.{◌≡◌, ◌≤◌, ◌<◌, ◌+◌, ◌⊎◌, ◌^◌, ℕ, List, length, take, true, Some, IsSome, IsSomeAnd, IsOk, OnOk, OnErr, IfOk, IfErr, IfSome, IsErrOf};
+ghost use Rattle.std.specs.Prelude.{◌≡◌, ◌≤◌, ◌<◌, ◌+◌, ◌⊎◌, ◌^◌, ℕ, List, length};
+ghost use Rattle.std.specs.Prelude.{take, true, Some, IsSome, IsSomeAnd, IsOk, OnOk, OnErr, IfOk, IfErr, IfSome};
+ghost use Rattle.std.specs.Prelude.{IsErrOf};
 ghost use Rattle.staat_edge.specs.Causes.{Rose};
 ghost use Rattle.staat_edge.specs.Files.{content_of, told_name, Lacks, IsWhole, IsLonger, failed_at, held_name};
 ghost use Rattle.staat_edge.specs.declared.whole.ReadRefusal.TheVariants.{OutOfMemory};

@@ -51,6 +51,8 @@ pub not_moved : (part : Data) → get (codes "at") part ≡ None → placement_o
 unfolding placement_of
 not_moved part e = rw e refl
 
+pub ruleset placing = (placed_by, not_placed, not_moved)
+
 -- a test of each name of a map is one of each name of the object
 pub names_from : (p : Text → Bool) (es : List (String Global × Value)) → list_all (λ name. p (string_bytes name)) (map (λ e. e.0) es) ≡ list_all p (names_of (members_view es))
 names_from p [] = refl

@@ -40,7 +40,7 @@ fn three_in(values: &[Value]) -> Option<V3>
 }
 
 /// The vector by which the part is moved, in scaled units, unless its member `at` is none.
-#[tactic(auto, using(crate::proofs::ValueLemmas::placed_by, crate::proofs::ValueLemmas::not_placed, crate::proofs::ValueLemmas::not_moved))]
+#[tactic(auto, using(crate::proofs::ValueLemmas::placing))]
 pub(crate) fn placement_of(part: &Value) -> Option<V3>
     ensures { result ≡ placement_of (view part.now) }
 {

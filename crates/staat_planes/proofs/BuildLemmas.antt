@@ -1,6 +1,5 @@
 -- A table of facets and planes, and its planes beside a limit.
 use Rattle.std.proofs.Common.{◌≡◌, ℕ, ◌<◌, sym, subst, List, length}
-use Rattle.staat_vec.specs.declared.vector.V3.{V3}
 use Rattle.staat_model.specs.declared.assembly.Part.{Part}
 use Rattle.staat_model.specs.declared.set.PartSet.{PartSet}
 use Rattle.staat_model.specs.Planes.{ArePlanes}

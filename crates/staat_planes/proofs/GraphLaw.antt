@@ -1,13 +1,12 @@
 -- The arcs of a table at a direction are those of the blocking graph of each assembly that it was made from.
 use Rattle.std.proofs.Common.{◌≡◌, ◌↔◌, ◌⊎◌, inl, inr, ℕ, ◌+◌, ◌<◌, ◌≤◌, get_or, arith, ap, sym, subst, ◌∙◌, pos, ◌<ℤ◌, List, length, All}
-use Rattle.std.specs.Prelude.{Some, slice_get, slice_set, option_map, unwrap_or}
-use Rattle.std.proofs.lemmas.Option.{option_and_then_some, slice_get_within}
+use Rattle.std.specs.Prelude.{slice_set}
 use Rattle.staat_vec.specs.declared.vector.V3.{V3}
 use Rattle.staat_vec.specs.Lists.{Lists}
 use Rattle.staat_vec.specs.Vectors.{dot, vector_cmp}
 use Rattle.staat_model.specs.declared.assembly.Part.{Part}
 use Rattle.staat_model.specs.declared.certificate.Arc.{Arc}
-use Rattle.staat_model.specs.Assemblies.{HoldsAt, IsAssembly, piece_at, piece_count}
+use Rattle.staat_model.specs.Assemblies.{HoldsAt, IsAssembly}
 use Rattle.staat_model.specs.Facets.{IsFacet}
 use Rattle.staat_model.specs.Meeting.{Meets}
 use Rattle.staat_model.specs.Removal.{MeetsAlong}

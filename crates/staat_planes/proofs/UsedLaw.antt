@@ -1,25 +1,17 @@
 -- The planes of the facets of a table are those of each assembly that it was made from.
-use Rattle.std.proofs.Common.{◌≡◌, ◌≢◌, ◌↔◌, ◌⊎◌, inl, inr, ⊎_elim, ℕ, ◌-◌, ◌<◌, ◌≤◌, arith, ap, sym, subst, ◌∙◌, refl, Bool, List, ◌++◌, length, Contains, get_or}
+use Rattle.std.proofs.Common.{◌≡◌, ◌↔◌, inl, inr, ⊎_elim, ℕ, ◌-◌, ◌<◌, ◌≤◌, arith, ap, sym, subst, ◌∙◌, refl, Bool, List, ◌++◌, length, Contains, get_or}
 use Rattle.std.specs.Prelude.{IsTrue, Some, slice_get}
 use Rattle.std.proofs.lemmas.List.{get_or_append_left, get_or-append_right}
 use Rattle.std.proofs.lemmas.List.Elements.{Contains-append_cases}
 use Rattle.std.proofs.lemmas.Option.{get_or_from_slice_get, slice_get_within}
 use Rattle.staat_vec.specs.declared.vector.V3.{V3}
-use Rattle.staat_vec.specs.Lists.{Lists}
-use Rattle.staat_vec.specs.Vectors.{negative, vector_cmp}
-use Rattle.staat_vec.proofs.Canons.{canon-negative}
-use Rattle.staat_vec.proofs.Primitives.{IsPrimitive-some}
 use Rattle.staat_model.specs.declared.assembly.Part.{Part}
-use Rattle.staat_model.specs.declared.certificate.Arc.{Arc}
 use Rattle.staat_model.specs.declared.set.PartSet.{PartSet}
-use Rattle.staat_model.specs.Assemblies.{HoldsAt, piece_count}
-use Rattle.staat_model.specs.Facets.{IsFacet}
-use Rattle.staat_model.specs.Planes.{ArePlanes, IsFacetPlane, axes}
-use Rattle.staat_model.specs.Sets.{Has, IsSubset}
+use Rattle.staat_model.specs.Planes.{ArePlanes, axes}
+use Rattle.staat_model.specs.Sets.{IsSubset}
 use Rattle.staat_model.proofs.GraphLemmas.{axis_in, plane_in}
-use Rattle.staat_model.proofs.Reversed.{opposite_facets_lemma}
-use Rattle.staat_pairs.specs.Searches.{HasPlane, arc_of}
-use Rattle.staat_pairs.specs.Tables.{IsTableArc, Table, WasMadeFrom, back, facets_of, pieces_of}
+use Rattle.staat_pairs.specs.Searches.{HasPlane}
+use Rattle.staat_pairs.specs.Tables.{Table, WasMadeFrom}
 use Rattle.staat_planes.specs.Tables.{IsPlaneOf}
 use Rattle.staat_pairs.proofs.SearchLemmas.{HasFacetsOf, facet_planes}
 

@@ -82,8 +82,8 @@ impl PlaneTable {
         met
     }
 
-    /// The blocking graph at the direction `d`: an arc from a part of the set to another stands exactly where some piece
-    /// of the first, moved along `d`, meets some piece of the second (Wilson and Latombe, 1994).
+    /// The blocking graph at the direction `d`: an arc from a part of the set to another stands exactly where some
+    /// piece of the first, moved along `d`, meets some piece of the second (Wilson and Latombe, 1994).
     ///
     /// The components of `d` are at most [`DIRECTION`](staat_vec::DIRECTION) in absolute value. For two pieces the
     /// search ends at the first facet that `d` does not lead ahead of, and for two parts at the first two pieces that
@@ -91,8 +91,10 @@ impl PlaneTable {
     pub fn graph_at(&self, d: V3) -> Graph
         requires { IsWithin DIRECTION d }
         ensures table { (a b : ℕ) → HasArc result.rows a b ↔ IsAhead self.now d a b }
-        ensures arcs { (parts : List PartValue) → WasMadeFrom parts self.now → (a b : ℕ) → HasArc result.rows a b ↔ BlocksIn parts self.now.of d a b }
-        ensures shows { (parts : List PartValue) → WasMadeFrom parts self.now → ShowsBlocking parts d self.now.of result.rows }
+        ensures arcs { (parts : List PartValue) → WasMadeFrom parts self.now → (a b : ℕ) →
+            HasArc result.rows a b ↔ BlocksIn parts self.now.of d a b }
+        ensures shows { (parts : List PartValue) → WasMadeFrom parts self.now →
+            ShowsBlocking parts d self.now.of result.rows }
     {
         // parts are below the number of rows
         let _set = self.set();

@@ -4,8 +4,8 @@ ghost use Rattle.std.specs.Prelude.{◌≡◌, ◌<◌, ◌+◌};
 use std::marker::Model;
 use std::sync::ledger::{Blank, Book, Ledger, Share};
 
-/// How many steps were taken, seen as a number. It takes no bytes when the program runs, and only [`tick`](Steps::tick)
-/// changes it.
+/// How many steps were taken, seen as a number. It takes no bytes when the program runs, and only
+/// [`tick`](Steps::tick) changes it.
 #[derive(Drop)]
 pub struct Steps<L: Ledger> {
     book: Book<L>,

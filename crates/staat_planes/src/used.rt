@@ -1,5 +1,6 @@
 // Which planes belong to a smaller set of parts.
-ghost use Rattle.std.specs.Prelude.{◌≡◌, ◌<◌, ◌↔◌, ◌⊎◌, List, Contains, IsTrue, Some, length, slice_get};
+ghost use Rattle.std.specs.Prelude.{◌≡◌, ◌<◌, ◌↔◌, ◌⊎◌, List, Contains, IsTrue, Some, length};
+ghost use Rattle.std.specs.Prelude.{slice_get};
 ghost use Rattle.std.specs.List.{Any};
 ghost use Rattle.staat_vec.specs.declared.vector.V3.{V3 as Vector};
 ghost use Rattle.staat_vec.specs.Vectors.{IsWithin, negative};
@@ -111,8 +112,11 @@ impl PlaneTable {
     pub fn used(&self, k: u32, w: PartSet) -> bool
         requires plane { k < length self.now.planes }
         requires set { IsSubset w self.now.of }
-        ensures plane { (parts : List PartValue) (n : Vector) → WasMadeFrom parts self.now → slice_get self.now.planes k ≡ Some n → IsTrue result ↔ IsPlaneOf parts w n }
-        ensures planes { (parts : List PartValue) (planes : List Vector) (n : Vector) → WasMadeFrom parts self.now → slice_get self.now.planes k ≡ Some n → ArePlanes parts w planes → IsTrue result ↔ Contains planes n }
+        ensures plane { (parts : List PartValue) (n : Vector) → WasMadeFrom parts self.now →
+            slice_get self.now.planes k ≡ Some n → IsTrue result ↔ IsPlaneOf parts w n }
+        ensures planes { (parts : List PartValue) (planes : List Vector) (n : Vector) →
+            WasMadeFrom parts self.now → slice_get self.now.planes k ≡ Some n →
+            ArePlanes parts w planes → IsTrue result ↔ Contains planes n }
     {
         k < LEAST_PLANES || self.has_plane_in(w, self.plane(k))
     }

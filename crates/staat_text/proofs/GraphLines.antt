@@ -8,7 +8,7 @@ use Rattle.std.proofs.lemmas.Grind.{flat_map-append}
 use Rattle.staat_model.specs.declared.set.PartSet.{PartSet}
 use Rattle.staat_model.specs.Lines.{members_from, spaced}
 use Rattle.staat_graph.specs.Graphs.{HasArc}
-use Rattle.staat_text.specs.GraphTexts.{arc_line, arcs_from, has_arc}
+use Rattle.staat_text.specs.GraphTexts.{arcs_from, has_arc}
 
 -- what is left from b on is b, if it is counted, and what is left from b + 1 on
 pub left : (b n : ℕ) → b < n → n - b ≡ suc (n - (b + 1))
@@ -48,28 +48,28 @@ written text line new more whole is e = ap (λ t. t ++ more) is ∙ append_assoc
 pub kept : (text new more less whole : List ℕ) → new ≡ text → more ≡ less → text ++ more ≡ whole → new ++ less ≡ whole
 kept text new more less whole is same e = ap (λ t. t ++ less) is ∙ sym (ap (λ t. text ++ t) same) ∙ e
 
-module _ (rows : List ℕ) (a b parts : ℕ) (text new whole : List ℕ) (lt : b < parts) (so_far : text ++ flat_map arc_line (onward rows a b (parts - b)) ≡ whole) where
+module _ (line_of : ℕ × ℕ → List ℕ) (rows : List ℕ) (a b parts : ℕ) (text new whole : List ℕ) (lt : b < parts) (so_far : text ++ flat_map line_of (onward rows a b (parts - b)) ≡ whole) where
   abbrev pub rest : List (ℕ × ℕ)
   rest = onward rows a (b + 1) (parts - (b + 1))
 
-  pub arc_written : (line : List ℕ) → HasArc rows a b → line ≡ arc_line (a, b) → new ≡ text ++ line → new ++ flat_map arc_line rest ≡ whole
+  pub arc_written : (line : List ℕ) → HasArc rows a b → line ≡ line_of (a, b) → new ≡ text ++ line → new ++ flat_map line_of rest ≡ whole
   arc_written line arc is more =
       let all : onward rows a b (parts - b) ≡ (a, b) ∷ rest = ap (onward rows a b) (left b parts lt) ∙ onward_more rows a b (parts - (b + 1)) (arc_is rows a b arc) in
-      written text (arc_line (a, b)) new (flat_map arc_line rest) whole (more ∙ ap (λ l. text ++ l) is) (sym (ap (λ arcs. text ++ flat_map arc_line arcs) all) ∙ so_far)
+      written text (line_of (a, b)) new (flat_map line_of rest) whole (more ∙ ap (λ l. text ++ l) is) (sym (ap (λ arcs. text ++ flat_map line_of arcs) all) ∙ so_far)
 
-  pub arc_absent : (HasArc rows a b → ⊥) → new ≡ text → new ++ flat_map arc_line rest ≡ whole
+  pub arc_absent : (HasArc rows a b → ⊥) → new ≡ text → new ++ flat_map line_of rest ≡ whole
   arc_absent none same =
       let all : onward rows a b (parts - b) ≡ rest = ap (onward rows a b) (left b parts lt) ∙ onward_same rows a b (parts - (b + 1)) (arc_is_not rows a b none) in
-      kept text new (flat_map arc_line (onward rows a b (parts - b))) (flat_map arc_line rest) whole same (ap (flat_map arc_line) all) so_far
+      kept text new (flat_map line_of (onward rows a b (parts - b))) (flat_map line_of rest) whole same (ap (flat_map line_of) all) so_far
 
-pub row_written : (rows : List ℕ) (a parts : ℕ) (text lines new whole : List ℕ) → a < parts → lines ≡ flat_map arc_line (arcs_from rows parts a) → new ≡ text ++ lines
-    → text ++ flat_map arc_line (rows_onward rows parts a (parts - a)) ≡ whole → new ++ flat_map arc_line (rows_onward rows parts (a + 1) (parts - (a + 1))) ≡ whole
-row_written rows a parts text lines new whole lt is more so_far =
+pub row_written : (line_of : ℕ × ℕ → List ℕ) (rows : List ℕ) (a parts : ℕ) (text lines new whole : List ℕ) → a < parts → lines ≡ flat_map line_of (arcs_from rows parts a) → new ≡ text ++ lines
+    → text ++ flat_map line_of (rows_onward rows parts a (parts - a)) ≡ whole → new ++ flat_map line_of (rows_onward rows parts (a + 1) (parts - (a + 1))) ≡ whole
+row_written line_of rows a parts text lines new whole lt is more so_far =
     let own : List (ℕ × ℕ) = arcs_from rows parts a in
     let rest : List (ℕ × ℕ) = rows_onward rows parts (a + 1) (parts - (a + 1)) in
     let all : rows_onward rows parts a (parts - a) ≡ own ++ rest = ap (rows_onward rows parts a) (left a parts lt) in
-    written text (flat_map arc_line own) new (flat_map arc_line rest) whole (more ∙ ap (λ l. text ++ l) is)
-    (ap (λ t. text ++ t) (sym (flat_map-append arc_line own rest)) ∙ sym (ap (λ arcs. text ++ flat_map arc_line arcs) all) ∙ so_far)
+    written text (flat_map line_of own) new (flat_map line_of rest) whole (more ∙ ap (λ l. text ++ l) is)
+    (ap (λ t. text ++ t) (sym (flat_map-append line_of own rest)) ∙ sym (ap (λ arcs. text ++ flat_map line_of arcs) all) ∙ so_far)
 
 -- ---- groups
 

@@ -5,3 +5,4 @@ pub mod PlanLines
 pub mod PlanSteps
 mod TestParts
 pub mod SameArcs
+pub mod CellLines

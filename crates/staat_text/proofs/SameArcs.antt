@@ -68,14 +68,16 @@ same_bit x y h = elim (ℕ_discrete x 1) [
         by_test true e = let one : z ≡ 1 = grind (arith, nat_tests, e) in absurd (ne one)
         by_test false e = e
 
-pub same_graph_text : (n : ℕ) (d : V3) (rows others text other : List ℕ) → ((a b : ℕ) → Has (below n) a → Has (below n) b → HasArc rows a b ↔ HasArc others a b) → IsGraphText n d rows text → IsGraphText n d others other → text ≡ other
-same_graph_text n d rows others text other same t u = one_text n d others text other (record { groups = t.groups; are = groups; is = t.is ∙ ap (λ arcs. graph_text d arcs t.groups) arcs }) u
+pub same_arcs : (n : ℕ) (rows others : List ℕ) → ((a b : ℕ) → Has (below n) a → Has (below n) b → HasArc rows a b ↔ HasArc others a b) → arcs_of rows n ≡ arcs_of others n
+same_arcs n rows others same =
+    range_flat (arcs_from rows n) (arcs_from others n) 0 n
+    (λ a a_lt. ap (map (λ b. (a, b))) (range_filter (has_arc rows a) (has_arc others a) 0 n (λ b b_lt. same_bit _ _ (same a b (inside a a_lt) (inside b b_lt)))))
   where
-    groups : AreGroups (HasArc others) (below n) t.groups
-    groups = groups_over (HasArc rows) (HasArc others) (below n) t.groups (λ a b a_in b_in. (same a b a_in b_in).0) (λ a b a_in b_in. (same a b a_in b_in).1) t.are
-
     inside : (a : ℕ) → a < 0 + n → Has (below n) a
     inside a lt = (has-below n a).1 (omega (arith, lt))
 
-    arcs : arcs_of rows n ≡ arcs_of others n
-    arcs = range_flat (arcs_from rows n) (arcs_from others n) 0 n (λ a a_lt. ap (map (λ b. (a, b))) (range_filter (has_arc rows a) (has_arc others a) 0 n (λ b b_lt. same_bit _ _ (same a b (inside a a_lt) (inside b b_lt)))))
+pub same_graph_text : (n : ℕ) (d : V3) (rows others text other : List ℕ) → ((a b : ℕ) → Has (below n) a → Has (below n) b → HasArc rows a b ↔ HasArc others a b) → IsGraphText n d rows text → IsGraphText n d others other → text ≡ other
+same_graph_text n d rows others text other same t u = one_text n d others text other (record { groups = t.groups; are = groups; is = t.is ∙ ap (λ arcs. graph_text d arcs t.groups) (same_arcs n rows others same) }) u
+  where
+    groups : AreGroups (HasArc others) (below n) t.groups
+    groups = groups_over (HasArc rows) (HasArc others) (below n) t.groups (λ a b a_in b_in. (same a b a_in b_in).0) (λ a b a_in b_in. (same a b a_in b_in).1) t.are

@@ -1,5 +1,6 @@
 -- The text of the graph of which parts block which along a direction.
-use Rattle.std.specs.Prelude.{◌≡◌, ◌==◌, ◌++◌, ◌∷◌, [], ℕ, pos, Bool, List, map, filter, flat_map, slice_index, codes}
+use Rattle.std.specs.Prelude.{◌≡◌, ◌==◌, ◌++◌, ◌∷◌, [], ℕ, pos, Bool, List}
+use Rattle.std.specs.Prelude.{map, filter, flat_map, slice_index, codes}
 use Rattle.std.specs.List.{range_with_len}
 use Rattle.std.specs.Int.{bit_at}
 use Rattle.staat_vec.specs.declared.vector.V3.{V3}

@@ -1,5 +1,6 @@
 // The text of the graph of which parts block which along a direction.
-ghost use Rattle.std.specs.Prelude.{◌≡◌, ◌<◌, ◌≤◌, ◌++◌, IfOk, codes, decimal, flat_map, string_bytes};
+ghost use Rattle.std.specs.Prelude.{◌≡◌, ◌<◌, ◌≤◌, ◌++◌, IfOk};
+ghost use Rattle.std.specs.Prelude.{codes, decimal, flat_map, string_bytes};
 ghost use Rattle.staat_text.specs.GraphTexts.{IsGraphText, along_line, arc_line, arcs_from, arcs_of, group_line};
 
 use staat_graph::{Graph, strong_parts};

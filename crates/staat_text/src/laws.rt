@@ -6,6 +6,7 @@ ghost use Rattle.staat_model.specs.declared.set.PartSet.{PartSet as PartSetValue
 ghost use Rattle.staat_model.specs.Plans.{IsGood, Plan};
 ghost use Rattle.staat_model.specs.Sets.{Has, below};
 ghost use Rattle.staat_graph.specs.Graphs.{HasArc};
+ghost use Rattle.staat_text.specs.CellTexts.{IsCellsText};
 ghost use Rattle.staat_text.specs.GraphTexts.{IsGraphText};
 ghost use Rattle.staat_text.specs.PlanTexts.{HasLeaves, IsPlanText};
 
@@ -13,7 +14,8 @@ use staat_model::MOST_PARTS;
 
 /// A graph has one text at a direction.
 pub fn one_graph_text()
-    ensures { (parts : ℕ) (d : Vector) (rows text other : List ℕ) → IsGraphText parts d rows text → IsGraphText parts d rows other → text ≡ other }
+    ensures { (parts : ℕ) (d : Vector) (rows text other : List ℕ)
+        → IsGraphText parts d rows text → IsGraphText parts d rows other → text ≡ other }
 {}
 
 /// Graphs with the same arcs among the parts have the same text.
@@ -33,4 +35,10 @@ pub fn one_plan_text()
 pub fn good_plan_is_shown()
     ensures { (parts : List PartValue) (w : PartSetValue) (plan : Plan)
         → ((p : ℕ) → Has w p → p < MOST_PARTS) → IsGood parts w plan → HasLeaves plan }
+{}
+
+/// The cells of parts have one text.
+pub fn one_cells_text()
+    ensures { (parts : List PartValue) (n : ℕ) (text other : List ℕ)
+        → IsCellsText parts n text → IsCellsText parts n other → text ≡ other }
 {}

@@ -1,16 +1,21 @@
 //! The texts that the program prints.
 #![tactic(auto)]
 
+mod cells;
 mod graphs;
+mod holding;
 pub mod laws;
 mod parts;
 mod plans;
 mod verdicts;
 
+pub use cells::cells_text;
 pub use graphs::graph_text;
 pub use parts::{look_text, parts_text};
 pub use plans::plan_text;
 pub use verdicts::verdict_text;
 
+#[cfg(test)]
+mod cell_tests;
 #[cfg(test)]
 mod tests;

@@ -1,5 +1,6 @@
 // The text that lists the parts of an assembly.
-ghost use Rattle.std.specs.Prelude.{◌≡◌, ◌<◌, ◌++◌, IfOk, List, Some, codes, decimal, length, slice_get, string_bytes};
+ghost use Rattle.std.specs.Prelude.{◌≡◌, ◌<◌, ◌++◌, IfOk, List, Some};
+ghost use Rattle.std.specs.Prelude.{codes, decimal, length, slice_get, string_bytes};
 ghost use Rattle.staat_model.specs.declared.assembly.Part.{Part as PartValue};
 ghost use Rattle.staat_model.specs.Assemblies.{piece_count};
 ghost use Rattle.staat_text.specs.Parts.{counted_line, look_text, part_line, parts_text, pieces_at, point_count};

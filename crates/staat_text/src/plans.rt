@@ -1,5 +1,6 @@
 // The text of a plan, or of a set that is stuck.
-ghost use Rattle.std.specs.Prelude.{◌≡◌, ◌+◌, ◌<◌, ◌++◌, ℕ, IfOk, codes, decimal, drop, string_bytes};
+ghost use Rattle.std.specs.Prelude.{◌≡◌, ◌+◌, ◌<◌, ◌++◌, ℕ, IfOk};
+ghost use Rattle.std.specs.Prelude.{codes, decimal, drop, string_bytes};
 ghost use Rattle.staat_model.specs.Outcomes.{finding_of, planned};
 ghost use Rattle.staat_model.specs.Plans.{parts_of, plan_of};
 ghost use Rattle.staat_model.specs.Sets.{Has};

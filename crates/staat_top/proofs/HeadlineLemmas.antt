@@ -1,13 +1,18 @@
 -- What the answers of `check` and `plan` mean.
-use Rattle.std.proofs.Common.{◌≡◌, ◌∙◌, ◌↔◌, ◌⊎◌, ◌<◌, ℕ, zero, suc, List, Option, Some, Ok, Err, refl, sym, ap, subst, arith, inl, inr}
+use Rattle.std.proofs.Common.{◌≡◌, ◌∙◌, ◌↔◌, ◌⊎◌, ◌<◌, ◌≤◌, ℕ, zero, suc, List, length, Option, Some, None, Ok, Err, refl, sym, ap, subst, arith, inl, inr}
 use Rattle.staat_model.specs.declared.assembly.Part.{Part}
 use Rattle.staat_model.specs.declared.certificate.Certificate.{Certificate}
 use Rattle.staat_model.specs.declared.verdict.Verdict.{Verdict}
 use Rattle.staat_model.specs.declared.verdict.Verdict.TheVariants.{ValidPlan, ValidRefusal}
+use Rattle.staat_model.specs.declared.limits.TheConstants.{TEXT_LIMIT}
 use Rattle.staat_model.specs.Assemblies.{IsAssembly}
+use Rattle.staat_model.specs.Certify.{IsCertificateOf}
+use Rattle.staat_model.specs.Outcomes.{Finding, planned, stuck}
+use Rattle.staat_model.specs.Texts.{text_of}
 use Rattle.staat_model.specs.Certificates.{IsValidPlan, IsValidRefusal}
 use Rattle.staat_model.specs.Reasons.{IsVerdict}
 use Rattle.staat_check.specs.Verdicts.{IsPlanOf, IsRefusalWithSet}
+use Rattle.staat_edge.specs.Files.{bytes_of}
 use Rattle.staat_fault.specs.declared.fault.Fault.TheVariants.{ReadFault}
 use Rattle.staat_words.specs.declared.request.CheckRequest.{CheckRequest}
 use Rattle.staat_words.specs.declared.request.PlanRequest.{PlanRequest}
@@ -18,11 +23,17 @@ use Rattle.staat_top.specs.declared.answer.Answer.{Answer}
 use Rattle.staat_top.specs.Work.{Files, Found}
 use Rattle.staat_top.specs.Assembling.{sound}
 use Rattle.staat_top.specs.Checking.{verdict_answer}
-use Rattle.staat_top.specs.Replies.{IsReply, MakesReply, Reply, SaysGoodPlan, SaysStuckSet, SaysValid, ShowsValid, WorkOnWords, answered, valid_plan, valid_refusal}
-use Rattle.staat_top.specs.Headline.{Headline, KeepsRules}
+use Rattle.staat_top.specs.Kept.{KeepsNamed}
+use Rattle.staat_top.specs.Planning.{IsWritten, certificate, outcome_answer, outcome_status, steps}
+use Rattle.staat_top.specs.Graphing.{few}
+use Rattle.staat_text.specs.PlanTexts.{plan_text}
+use Rattle.staat_top.specs.Replies.{AreSoundParts, IsReply, MakesReply, Reply, SaysGoodPlan, SaysStuckSet, SaysValid, ShowsValid, WorkOn, WorkOnWords, answer, answered, valid_plan, valid_refusal}
+use Rattle.staat_top.specs.Headline.{Headline, IsWithinLimits, KeepsRules, valid_line}
 use Rattle.staat_top.proofs.OneReply.{one_reply}
 use Rattle.staat_top.proofs.RightLemmas.{plan_shown, refusal_shown, status_is_right, status_is_denied}
 use Rattle.staat_top.proofs.RunLemmas.{least_status}
+use Rattle.staat_top.proofs.SomeOutcome.{some_outcome}
+use Rattle.staat_top.proofs.PrintedLemmas.{printed_is_valid}
 
 -- a reply with status 0 or 1 is that of an answer
 answer_in : (asked : Option Request) (files : Files) (found : Found Answer) (reply : Reply) → WorkOnWords asked files found → MakesReply found reply → reply.status < 2 → (a : Answer) × WorkOnWords asked files (Ok a) × (reply ≡ answered a)
@@ -73,10 +84,52 @@ is_planned files request reply bounds is lt =
       | inr one ↦ inr (subst (SaysStuckSet files request) text (status_is_denied (Some (Plan request)) files found.0 bounds found.1 one))
     ]
 
+-- the answer of a plan is one whose certificate `check` calls valid
+is_checked : (files others : Files) (request : PlanRequest) (version : ℕ) (reply : Reply) (name : List ℕ) → IsPlanRequest request → request.certificate ≡ Some version → IsReply (Some (Plan request)) files reply → reply.status < 2
+    → KeepsNamed files others request.asked.input → bytes_of name others ≡ Some reply.out → IsReply (Some (Check (record { asked = request.asked; certificate = name }))) others (answered (answer 0 (valid_line reply.status)))
+is_checked files others request version reply name bounds asks is lt keeps held =
+    let found = answer_in (Some (Plan request)) files is.found reply is.work is.makes lt in go found.0 found.1 found.2
+  where
+    go : (a : Answer) → WorkOn (Plan request) files (Ok a) → reply ≡ answered a → IsReply (Some (Check (record { asked = request.asked; certificate = name }))) others (answered (answer 0 (valid_line reply.status)))
+    go a (inl (fault, at, e)) same = absurd cc
+    go a (inr (parts, read, inl (fault, at, e))) same = absurd cc
+    go a (inr (parts, read, inr (planes, counted, p))) same = elim p.written [
+      | inl (fault, at, e) ↦ absurd cc
+      | inr (text, written, e) ↦
+          let own : a ≡ outcome_answer p.finding text = cc in
+          let all : reply ≡ answered (outcome_answer p.finding text) = same ∙ ap answered own in
+          subst (λ (r : Reply). IsReply (Some (Check (record { asked = request.asked; certificate = name }))) others (answered (answer 0 (valid_line r.status)))) (sym all)
+          (printed_is_valid files others request version name parts planes p.finding text bounds asks keeps (held ∙ ap (λ (r : Reply). Some r.out) all) read counted p.outcome written)
+    ]
+
+-- what is written of an outcome that was found
+written_of : (parts : List Part) (f : Finding) (o : Option ℕ) → ((version : ℕ) → o ≡ Some version → (c : Certificate) × IsCertificateOf parts version f c × (length (text_of c) ≤ TEXT_LIMIT)) → (text : List ℕ) × IsWritten parts f o (Ok text)
+written_of parts f None short = (plan_text f, steps refl)
+written_of parts f (Some version) short = let c = short version refl in (text_of c.0, certificate c.0 c.1 c.2 refl)
+
+answered_plan : (files : Files) (request : PlanRequest) (parts : List Part) → AreSoundParts files request.asked parts → IsWithinLimits parts request → (reply : Reply) × IsReply (Some (Plan request)) files reply × (reply.status < 2)
+answered_plan files request parts are limits =
+    let o = some_outcome parts are.assembly in
+    let w = written_of parts o.0 request.certificate (λ version asks. limits.short version o.0 asks o.1) in (
+      answered (outcome_answer o.0 w.0),
+      record {
+        found = Ok (outcome_answer o.0 w.0);
+        work = inr (parts, inr (parts, are.named, sound are.sound refl), inr (limits.planes, few limits.planes limits.planes_are limits.few refl, record { finding = o.0; outcome = o.1; written = inr (w.0, w.1, refl) }));
+        makes = refl;
+      },
+      small o.0,
+    )
+  where
+    small : (f : Finding) → outcome_status f < 2
+    small (planned plan marks) = omega arith
+    small (stuck w) = omega arith
+
 pub headline : Headline
 headline = record {
   exact = exactly;
   plans = λ parts c is h. plan_shown parts c.version c.parts c.body is h;
   refusals = λ parts c is h. refusal_shown parts c.version c.parts c.body is h;
   planned = is_planned;
+  answers = answered_plan;
+  checked = is_checked;
 }

@@ -84,7 +84,7 @@ then_failed First Second f (Err e) h fails = subst (λ g. Follows (Then First Se
 -- ---- causes
 
 -- a shelf on which the count was lower before
-cause_from : (before mid after : ShelfTold) (f : Fault) → before.faults ≤ mid.faults → mid.holds ≡ before.holds → HasCause (over mid after) f → HasCause (over before after) f
+pub cause_from : (before mid after : ShelfTold) (f : Fault) → before.faults ≤ mid.faults → mid.holds ≡ before.holds → HasCause (over mid after) f → HasCause (over before after) f
 cause_from before mid after fault.Usage le same h = h
 cause_from before mid after (fault.ReadFault name) le same (inl lacks) = inl (subst (λ holds. Lacks holds name) same lacks)
 cause_from before mid after (fault.ReadFault name) le same (inr (rose, at)) = inr (risen before.faults mid.faults after.faults le rose, λ e. at (ap (λ holds. held_name holds name) same ∙ e))
@@ -99,10 +99,6 @@ cause_from before mid after f le same h = h
 pub failed_with : {X : Type 0} (P : Fault → Type 0) (f : Fault) (r : Result X Fault) → P f → IsErrAnd r (λ e. e ≡ f) → IfErr r P
 failed_with P f (Ok x) h fails = absurd fails
 failed_with P f (Err e) h fails = subst P (sym fails) h
-
--- a fault of a later step
-pub cause_later : {X : Type 0} (before mid after : ShelfTold) (f : Fault) (r : Result X Fault) → before.faults ≤ mid.faults → mid.holds ≡ before.holds → HasCause (over mid after) f → IsErrAnd r (λ e. e ≡ f) → IfErr r (HasCause (over before after))
-cause_later before mid after f r le same cause fails = failed_with (HasCause (over before after)) f r (cause_from before mid after f le same cause) fails
 
 -- ---- the assembly
 

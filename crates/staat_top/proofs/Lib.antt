@@ -7,6 +7,10 @@ pub mod RunLemmas
 pub mod HeadlineLemmas
 pub mod TopLemmas
 pub mod InputLemmas
+pub mod CauseLemmas
+pub mod KeptLemmas
+pub mod PrintedLemmas
+pub mod SomeOutcome
 pub mod SoundLemmas
 pub mod PlanesLemmas
 pub mod CellsLemmas

@@ -137,7 +137,7 @@ tested_same : (parts built : List Part) → IsTested parts (Ok built) → parts 
 tested_same parts built (overlapping arc first e) = absurd cc
 tested_same parts built (sound is e) = cc
 
-sound_parts : (files : Files) (asked : Asked) (built : List Part) → IsAsked asked → IsSoundOf files asked (Ok built) → AreSoundParts files asked built
+pub sound_parts : (files : Files) (asked : Asked) (built : List Part) → IsAsked asked → IsSoundOf files asked (Ok built) → AreSoundParts files asked built
 sound_parts files asked built bounds (inl (fault, at, e)) = absurd cc
 sound_parts files asked built bounds (inr (parts, found, test)) =
     subst (AreSoundParts files asked) (tested_same parts built test)
@@ -146,7 +146,7 @@ sound_parts files asked built bounds (inr (parts, found, test)) =
 -- ---- outcomes
 
 -- a certificate of an outcome is valid
-certified : (parts : List Part) (version : ℕ) (f : Finding) (c : Certificate) → IsAssembly parts → Settles parts (all_parts parts) f → IsCertificateOf parts version f c → IsValidFor parts f c
+pub certified : (parts : List Part) (version : ℕ) (f : Finding) (c : Certificate) → IsAssembly parts → Settles parts (all_parts parts) f → IsCertificateOf parts version f c → IsValidFor parts f c
 certified parts version (planned tree marks) c assembly good is = plan_certificate_valid parts version tree marks c good is
 certified parts version (stuck w) c assembly settled is = refusal_certificate_valid parts version w c assembly (stuck_exists parts w settled.1) is
 

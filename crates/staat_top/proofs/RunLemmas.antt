@@ -5,6 +5,7 @@ use Rattle.staat_edge.specs.Causes.{Rose}
 use Rattle.staat_edge.specs.Files.{bytes_of, Lacks}
 use Rattle.staat_edge.specs.Sinks.{GrewBy}
 use Rattle.staat_words.specs.declared.request.Request.{Request}
+use Rattle.staat_words.specs.declared.request.Request.TheVariants.{Check}
 use Rattle.staat_fault.specs.declared.fault.Fault.{Fault}
 use Rattle.staat_fault.specs.declared.fault.Fault.TheVariants.{Usage, ReadFault, TooLong, TooManyPlanes, TextTooLong, WriteFault, OutOfMemory}
 use Rattle.staat_fault.specs.Faults.{status_of, line_of}
@@ -74,6 +75,7 @@ least_status fault = omega arith
 -- want of memory has no other cause
 memory_explained : (asked : Option Request) (shelf : ShelfSide) → IsExplained asked shelf OutOfMemory
 memory_explained None shelf = record { cause = inr refl; found = λ files told. tt }
+memory_explained (Some (Check request)) shelf = record { cause = tt; found = λ files told. tt }
 memory_explained (Some request) shelf = record { cause = tt; found = λ files told. tt }
 
 said_explained : (asked : Option Request) (shelf : ShelfSide) (fault said : Fault) → IsExplained asked shelf fault → IsSaid fault said → IsExplained asked shelf said
@@ -94,11 +96,13 @@ unread_lacks shelf files name told well (inr failed) = absurd (well failed.0)
 cause_some : (asked : Option Request) (shelf : ShelfSide) (name : List ℕ) → IsCaused asked shelf (ReadFault name) → IsUnread shelf name
 cause_some None shelf name (inl e) = absurd cc
 cause_some None shelf name (inr e) = absurd cc
+cause_some (Some (Check request)) shelf name unread = unread
 cause_some (Some request) shelf name unread = unread
 
 no_write_fault : (asked : Option Request) (shelf : ShelfSide) → IsCaused asked shelf WriteFault → ⊥
 no_write_fault None shelf (inl e) = absurd cc
 no_write_fault None shelf (inr e) = absurd cc
+no_write_fault (Some (Check request)) shelf caused = caused
 no_write_fault (Some request) shelf caused = caused
 
 -- where nothing failed and there was memory, the reply is that of the fault

@@ -8,7 +8,7 @@ use Rattle.staat_fault.specs.declared.fault.Fault.{Fault}
 use Rattle.staat_fault.specs.declared.fault.Fault.TheVariants.{Usage}
 use Rattle.staat_top.specs.Work.{Files, Follows}
 use Rattle.staat_top.specs.Replies.{WorkOn}
-use Rattle.staat_top.specs.Runs.{ShelfSide, HasCause, HasRequestBounds, IsFound, IsExplained}
+use Rattle.staat_top.specs.Runs.{ShelfSide, HasRequestBounds, HasRequestCause, IsFound, IsExplained}
 
 -- what the work on the request finds, over the files that the shelf holds
 abbrev pub Works : Request → ShelfSide → Result Answer Fault → Type 0
@@ -20,7 +20,7 @@ worked_answer asked request shelf (Ok a) e works = subst (λ o. IsFound o shelf 
 worked_answer asked request shelf (Err f) e works = tt
 
 pub worked_fault : (asked : Option Request) (request : Request) (shelf : ShelfSide) (r : Result Answer Fault) →
-    asked ≡ Some request → Works request shelf r → IfErr r (HasCause shelf) → IfErr r (IsExplained asked shelf)
+    asked ≡ Some request → Works request shelf r → IfErr r (HasRequestCause request shelf) → IfErr r (IsExplained asked shelf)
 worked_fault asked request shelf (Ok a) e works cause = tt
 worked_fault asked request shelf (Err f) e works cause =
     subst (λ o. IsExplained o shelf f) (sym e) (record { cause = cause; found = works })

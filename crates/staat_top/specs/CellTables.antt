@@ -9,7 +9,8 @@ use Rattle.staat_top.specs.Work.{Found}
 
 -- The last step for cells: the text of all cells, each with its blocking graph, or its length where it is too long.
 pub data AreTabled (parts : List Part) : Found Answer → Type 0 where
-  tabled : {found : Found Answer} (text : List ℕ) → IsCellsText parts (length parts) text → length text ≤ TEXT_LIMIT →
+  tabled : {found : Found Answer} (text : List ℕ) → IsCellsText parts (length parts) text →
+      length text ≤ TEXT_LIMIT →
       found ≡ Ok (record { status = 0; text = text }) → AreTabled parts found
   table_too_long : {found : Found Answer} (text : List ℕ) → IsCellsText parts (length parts) text →
       TEXT_LIMIT < length text → found ≡ Err (TextTooLong (length text)) → AreTabled parts found

@@ -15,8 +15,8 @@ use Rattle.staat_text.specs.Verdicts.{verdict_text}
 use Rattle.staat_top.specs.declared.answer.Answer.{Answer}
 use Rattle.staat_top.specs.Work.{Files, Found, IsTakenWithin}
 
--- What the bytes of a certificate's file say: they are the text of this certificate, or a line is the first bad one, or
--- they are too short.
+-- What the bytes of a certificate's file say: they are the text of this certificate, or a line is the first bad one,
+-- or they are too short.
 pub data SaysCertificate (name bytes : List ℕ) : Found Certificate → Type 0 where
   says_whole : {found : Found Certificate} (certificate : Certificate) → IsReading bytes (whole certificate) →
       found ≡ Ok certificate → SaysCertificate name bytes found

@@ -1,9 +1,17 @@
 -- What stands above all else: what the answers of `check` and `plan` mean.
-use Rattle.std.specs.Prelude.{◌≡◌, ◌↔◌, ◌⊎◌, ◌<◌, ℕ, List, Option, Some, Ok}
+use Rattle.std.specs.Prelude.{◌≡◌, ◌↔◌, ◌⊎◌, ◌<◌, ◌≤◌, ℕ, zero, suc, List}
+use Rattle.std.specs.Prelude.{length, Option, Some, Ok, false, codes}
+use Rattle.staat_vec.specs.declared.vector.V3.{V3}
+use Rattle.staat_edge.specs.Files.{bytes_of}
 use Rattle.staat_model.specs.declared.assembly.Part.{Part}
 use Rattle.staat_model.specs.declared.certificate.Certificate.{Certificate}
 use Rattle.staat_model.specs.Assemblies.{IsAssembly}
+use Rattle.staat_model.specs.declared.limits.TheConstants.{TEXT_LIMIT}
 use Rattle.staat_model.specs.Certificates.{IsValidPlan, IsValidRefusal}
+use Rattle.staat_model.specs.Certify.{IsCertificateOf}
+use Rattle.staat_model.specs.Outcomes.{Finding, IsOutcome}
+use Rattle.staat_model.specs.Planes.{ArePlanes}
+use Rattle.staat_model.specs.Texts.{text_of}
 use Rattle.staat_check.specs.Verdicts.{IsPlanOf, IsRefusalWithSet}
 use Rattle.staat_words.specs.declared.request.CheckRequest.{CheckRequest}
 use Rattle.staat_words.specs.declared.request.PlanRequest.{PlanRequest}
@@ -11,7 +19,9 @@ use Rattle.staat_words.specs.declared.request.Request.TheVariants.{Check, Plan}
 use Rattle.staat_words.specs.Requests.{IsAsked, IsPlanRequest}
 use Rattle.staat_top.specs.Work.{Files}
 use Rattle.staat_top.specs.Checking.{IsCertificateIn}
-use Rattle.staat_top.specs.Replies.{AreSoundParts, IsReply, Reply, SaysGoodPlan, SaysStuckSet}
+use Rattle.staat_top.specs.Graphing.{all_parts}
+use Rattle.staat_top.specs.Kept.{KeepsNamed}
+use Rattle.staat_top.specs.Replies.{AreSoundParts, IsReply, Reply, SaysGoodPlan, SaysStuckSet, answer, answered}
 
 -- the files hold sound parts, and the text of a certificate that is a valid plan or a valid refusal for them
 pub record KeepsRules (files : Files) (request : CheckRequest) : Type 0 where
@@ -21,20 +31,48 @@ pub record KeepsRules (files : Files) (request : CheckRequest) : Type 0 where
   pub held : IsCertificateIn files request.certificate (Ok certificate)
   pub valid : IsValidPlan parts certificate ⊎ IsValidRefusal parts certificate
 
+-- what `check` says of the certificate that `plan` printed with this status: of a plan, or of a set that is stuck
+abbrev pub valid_line : ℕ → List ℕ
+valid_line zero = codes "valid plan\n"
+valid_line (suc n) = codes "valid refusal\n"
+
+-- No limit is exceeded: the parts have no more planes than the request allows; and if a certificate is asked for, what
+-- is found for the parts has one that is not too long.
+pub record IsWithinLimits (parts : List Part) (request : PlanRequest) : Type 0 where
+  pub planes : List V3
+  pub planes_are : ArePlanes parts (all_parts parts) planes
+  pub few : length planes ≤ request.planes
+  pub short : (version : ℕ) (finding : Finding) → request.certificate ≡ Some version →
+      IsOutcome false parts (all_parts parts) finding →
+      (c : Certificate) × IsCertificateOf parts version finding c × (length (text_of c) ≤ TEXT_LIMIT)
+
 -- For all files and requests:
 pub record Headline : Type 0 where
   -- `check` answers that a certificate is valid exactly where it keeps the written rules.
   pub exact : (files : Files) (request : CheckRequest) (reply : Reply) → IsAsked request.asked →
       IsReply (Some (Check request)) files reply → (reply.status ≡ 0) ↔ KeepsRules files request
-  -- A valid plan is one that takes all parts apart: at each step one side moves to infinity, and no inner points of the
-  -- two sides ever meet.
-  pub plans : (parts : List Part) (certificate : Certificate) → IsAssembly parts → IsValidPlan parts certificate →
-      IsPlanOf parts certificate.body
+  -- A valid plan is one that takes all parts apart: at each step one side moves to infinity, and no inner points of
+  -- the two sides ever meet.
+  pub plans : (parts : List Part) (certificate : Certificate) → IsAssembly parts →
+      IsValidPlan parts certificate → IsPlanOf parts certificate.body
   -- A valid refusal names a set that is stuck, and no plan for two hands takes all parts apart.
-  pub refusals : (parts : List Part) (certificate : Certificate) → IsAssembly parts → IsValidRefusal parts certificate →
-      IsRefusalWithSet parts certificate.body
-  -- What `plan` prints, where it refuses nothing, is a plan that takes all parts apart or a set that is truly stuck; or,
-  -- if that is asked for, the text of a certificate of either, which is valid.
+  pub refusals : (parts : List Part) (certificate : Certificate) → IsAssembly parts →
+      IsValidRefusal parts certificate → IsRefusalWithSet parts certificate.body
+  -- What `plan` prints, where it refuses nothing, is a plan that takes all parts apart or a set that is truly stuck;
+  -- or, if that is asked for, the text of a certificate of either, which is valid.
   pub planned : (files : Files) (request : PlanRequest) (reply : Reply) → IsPlanRequest request →
       IsReply (Some (Plan request)) files reply → reply.status < 2 →
       SaysGoodPlan files request reply.out ⊎ SaysStuckSet files request reply.out
+  -- For every input whose parts are sound `plan` has such a reply, where no limit is exceeded.
+  pub answers : (files : Files) (request : PlanRequest) (parts : List Part) →
+      AreSoundParts files request.asked parts → IsWithinLimits parts request →
+      (reply : Reply) × IsReply (Some (Plan request)) files reply × (reply.status < 2)
+  -- What `plan --cert` prints, where it refuses nothing, is a certificate that `check` calls valid: over any files
+  -- that hold the printed text under some name, and hold all that the input names as it was, the reply to `check` with
+  -- that name, the same digits and the same input is `valid plan` or `valid refusal`, with status 0.
+  pub checked : (files others : Files) (request : PlanRequest) (version : ℕ) (reply : Reply) (name : List ℕ) →
+      IsPlanRequest request → request.certificate ≡ Some version →
+      IsReply (Some (Plan request)) files reply → reply.status < 2 →
+      KeepsNamed files others request.asked.input → bytes_of name others ≡ Some reply.out →
+      IsReply (Some (Check (record { asked = request.asked; certificate = name }))) others
+      (answered (answer 0 (valid_line reply.status)))

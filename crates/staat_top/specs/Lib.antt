@@ -10,5 +10,6 @@ pub mod Planning
 pub mod CellTables
 pub mod Checking
 pub mod Replies
+pub mod Kept
 pub mod Headline
 pub mod Runs

@@ -12,8 +12,8 @@ use Rattle.staat_top.specs.Pieces.{IsPieceOf}
 pub data MovesPiece (name : List ℕ) (at : V3) (points : List V3) : Found (List V3) → Type 0 where
   too_far : {found : Found (List V3)} → IsPlacedFar at points → found ≡ Err (PlacedFar name) →
       MovesPiece name at points found
-  moved : {found : Found (List V3)} → All (IsWithin POINT) (shifted at points) → found ≡ Ok (shifted at points) →
-      MovesPiece name at points found
+  moved : {found : Found (List V3)} → All (IsWithin POINT) (shifted at points) →
+      found ≡ Ok (shifted at points) → MovesPiece name at points found
 
 -- what the step finds that reads the piece of a file and moves it
 abbrev pub IsMovedPieceOf : Files → ℕ → V3 → List ℕ → Found (List V3) → Type 0

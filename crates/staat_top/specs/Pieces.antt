@@ -10,8 +10,8 @@ use Rattle.staat_mesh.specs.Judging.{Judges}
 use Rattle.staat_top.specs.Work.{Files, Found, IsTaken}
 use Rattle.staat_top.specs.Refusals.{off_fault, mesh_fault}
 
--- What the bytes of a file say, with coordinates scaled by so many decimal digits: it is no OFF file, or its mesh is no
--- piece, or it is this piece.
+-- What the bytes of a file say, with coordinates scaled by so many decimal digits: it is no OFF file, or its mesh is
+-- no piece, or it is this piece.
 pub data SaysPiece (digits : ℕ) (name bytes : List ℕ) : Found (List V3) → Type 0 where
   no_file : {found : Found (List V3)} (refusal : OffRefusal) → reading digits bytes ≡ Err refusal →
       found ≡ Err (off_fault name refusal) → SaysPiece digits name bytes found

@@ -12,13 +12,15 @@ use Rattle.staat_top.specs.declared.answer.Answer.{Answer}
 use Rattle.staat_top.specs.Work.{Found, Then}
 use Rattle.staat_top.specs.Graphing.{all_parts}
 
--- What the step finds that writes an outcome: its steps, or its certificate of the version that is asked for, which may
--- be too long.
+-- What the step finds that writes an outcome: its steps, or its certificate of the version that is asked for, which
+-- may be too long.
 pub data IsWritten (parts : List Part) (finding : Finding) : Option ℕ → Found (List ℕ) → Type 0 where
   steps : {found : Found (List ℕ)} → found ≡ Ok (plan_text finding) → IsWritten parts finding None found
-  certificate : {version : ℕ} {found : Found (List ℕ)} (c : Certificate) → IsCertificateOf parts version finding c →
+  certificate : {version : ℕ} {found : Found (List ℕ)} (c : Certificate) →
+      IsCertificateOf parts version finding c →
       length (text_of c) ≤ TEXT_LIMIT → found ≡ Ok (text_of c) → IsWritten parts finding (Some version) found
-  text_too_long : {version : ℕ} {found : Found (List ℕ)} (c : Certificate) → IsCertificateOf parts version finding c →
+  text_too_long : {version : ℕ} {found : Found (List ℕ)} (c : Certificate) →
+      IsCertificateOf parts version finding c →
       TEXT_LIMIT < length (text_of c) → found ≡ Err (TextTooLong (length (text_of c))) →
       IsWritten parts finding (Some version) found
 

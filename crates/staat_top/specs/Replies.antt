@@ -50,9 +50,10 @@ answer status text = record { status = status; text = text }
 
 -- the last step for two pieces: whether the wall n shows that p never meets q along d
 pub data IsJudged (p q : List V3) (d n : V3) : Found Answer → Type 0 where
-  free : {found : Found Answer} → IsShown p q d n → found ≡ Ok (answer 0 (codes "free\n")) → IsJudged p q d n found
-  not_shown : {found : Found Answer} → (IsShown p q d n → ⊥) → found ≡ Ok (answer 1 (codes "not shown\n")) →
+  free : {found : Found Answer} → IsShown p q d n → found ≡ Ok (answer 0 (codes "free\n")) →
       IsJudged p q d n found
+  not_shown : {found : Found Answer} → (IsShown p q d n → ⊥) →
+      found ≡ Ok (answer 1 (codes "not shown\n")) → IsJudged p q d n found
 
 -- what the work on a request finds: a case for each command
 abbrev pub WorkOn : Request → Files → Found Answer → Type 0
@@ -118,7 +119,7 @@ SaysOutcome parts finding None text = text ≡ plan_text finding
 SaysOutcome parts finding (Some version) text =
     (c : Certificate) × (text ≡ text_of c) × IsCertificateOf parts version finding c × IsValidFor parts finding c
 
--- The text is the table of all cells, each with the arcs that the blocking graph has at every direction of the cell; and
+-- The text is the table of all cells, each with the arcs that the blocking graph has at every direction of the cell;
 -- every direction, of any size, lies in exactly one of the cells.
 pub record SaysCells (files : Files) (request : CellsRequest) (text : List ℕ) : Type 0 where
   pub parts : List Part
@@ -144,11 +145,11 @@ pub record SaysStuckSet (files : Files) (request : PlanRequest) (text : List ℕ
   pub is_stuck : IsStuck parts set
   pub says : SaysOutcome parts (stuck set) request.certificate text
 
--- What a valid certificate shows, and the line that says so: its tree takes all parts apart, or its set is stuck and no
--- plan takes all parts apart.
+-- What a valid certificate shows, and the line that says so: its tree takes all parts apart, or its set is stuck and
+-- no plan takes all parts apart.
 pub data ShowsValid (parts : List Part) (certificate : Certificate) (text : List ℕ) : Type 0 where
-  valid_plan : IsVerdict parts certificate ValidPlan → IsPlanOf parts certificate.body → text ≡ verdict_text ValidPlan →
-      ShowsValid parts certificate text
+  valid_plan : IsVerdict parts certificate ValidPlan → IsPlanOf parts certificate.body →
+      text ≡ verdict_text ValidPlan → ShowsValid parts certificate text
   valid_refusal : IsVerdict parts certificate ValidRefusal → IsRefusalWithSet parts certificate.body →
       text ≡ verdict_text ValidRefusal → ShowsValid parts certificate text
 
@@ -170,8 +171,8 @@ pub record SaysNotValid (files : Files) (request : CheckRequest) (text : List �
   pub broken : IsVerdict parts certificate (Not reason)
   pub text_is : text ≡ verdict_text (Not reason)
 
--- What status 0 means, with the text that is printed. For a pair: the first file's piece never meets the second's along
--- the direction.
+-- What status 0 means, with the text that is printed. For a pair: the first file's piece never meets the second's
+-- along the direction.
 abbrev pub IsRight : Option Request → Files → List ℕ → Type 0
 IsRight None files text = ⊥
 IsRight (Some (Pair request)) files text = (p : List V3) × (q : List V3) ×

@@ -1,5 +1,5 @@
 -- What is known of names and of parts before it is known which files they come from.
-use Rattle.std.specs.Prelude.{◌≡◌, ◌≤◌, List, length, map, sum_by, All}
+use Rattle.std.specs.Prelude.{◌≡◌, ◌≤◌, ℕ, List, length, map, sum_by, All, Contains}
 use Rattle.staat_vec.specs.declared.vector.TheConstants.{POINT}
 use Rattle.staat_vec.specs.Vectors.{IsWithin}
 use Rattle.staat_model.specs.declared.assembly.Part.{Part}
@@ -20,3 +20,9 @@ pub record IsFew (named : List ListedPart) : Type 0 where
 pub record AreRead (named : List ListedPart) (parts : List Part) : Type 0 where
   pub each : map (λ part. length part.pieces) parts ≡ map (λ part. length part.pieces) named
   pub pieces : All (λ part. All IsPiece part.pieces) parts
+
+-- a part that is listed has a piece in this file
+pub record ListsPiece (listing : List ListedPart) (name : List ℕ) : Type 0 where
+  pub part : ListedPart
+  pub listed : Contains listing part
+  pub piece : Contains part.pieces name

@@ -1,5 +1,6 @@
 -- The work on a request: its steps in their order, and what each finds in the files.
-use Rattle.std.specs.Prelude.{◌≡◌, ◌⊎◌, ◌<◌, ◌≤◌, ℕ, List, [], ◌∷◌, length, Result, Ok, Err, Option, Some, ⊤}
+use Rattle.std.specs.Prelude.{◌≡◌, ◌⊎◌, ◌<◌, ◌≤◌, ℕ, List, [], ◌∷◌, length}
+use Rattle.std.specs.Prelude.{Result, Ok, Err, Option, Some, ⊤}
 use Rattle.staat_fault.specs.declared.fault.Fault.{Fault}
 use Rattle.staat_fault.specs.declared.fault.Fault.TheVariants.{ReadFault, TooLong, OutOfMemory}
 use Rattle.staat_edge.specs.Files.{bytes_of, IsLonger}
@@ -22,10 +23,10 @@ abbrev pub Each : {X Y : Type 0} → (X → Found Y → Type 0) → List X → F
 Each Step [] found = found ≡ Ok []
 Each Step (x ∷ xs) found = Then (Step x) (λ y. Then (Each Step xs) (λ ys found. found ≡ Ok (y ∷ ys))) found
 
--- What the step finds that takes a whole file of at most so many bytes: the file is to be read, or is too long, or this
--- is what its bytes say.
-pub data IsTakenWithin {X : Type 0} (limit : ℕ) (files : Files) (name : List ℕ) (Says : List ℕ → Found X → Type 0)
-    : Found X → Type 0 where
+-- What the step finds that takes a whole file of at most so many bytes: the file is to be read, or is too long, or
+-- this is what its bytes say.
+pub data IsTakenWithin {X : Type 0} (limit : ℕ) (files : Files) (name : List ℕ)
+    (Says : List ℕ → Found X → Type 0) : Found X → Type 0 where
   to_read : {found : Found X} → found ≡ Err (ReadFault name) → IsTakenWithin limit files name Says found
   too_long : {found : Found X} (bytes : List ℕ) → bytes_of name files ≡ Some bytes → limit < length bytes →
       found ≡ Err (TooLong name) → IsTakenWithin limit files name Says found

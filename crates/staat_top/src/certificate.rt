@@ -1,5 +1,6 @@
 // The certificate that a file holds. The file is never whole in memory.
-ghost use Rattle.std.specs.Prelude.{◌≡◌, ◌≤◌, ◌<◌, ◌⊎◌, List, ℕ, Some, [], true, IfOk, IfErr, IsErrOf, IsSomeAnd};
+ghost use Rattle.std.specs.Prelude.{◌≡◌, ◌≤◌, ◌<◌, ◌⊎◌, List, ℕ, Some, [], true};
+ghost use Rattle.std.specs.Prelude.{IfOk, IfErr, IsErrOf, IsSomeAnd};
 ghost use Rattle.staat_cert.specs.Feeds.{WasFed};
 ghost use Rattle.staat_edge.specs.Causes.{Rose};
 ghost use Rattle.staat_edge.specs.Files.{IsLonger, Lacks, failed_at, held_name, told_name};
@@ -7,7 +8,7 @@ ghost use Rattle.staat_model.specs.Texts.{IsWellFormed};
 ghost use Rattle.staat_model.specs.declared.limits.TheConstants.{TEXT_LIMIT as LIMIT};
 ghost use Rattle.staat_top.specs.Work.{Files, Follows, IsNotTakenWithin};
 ghost use Rattle.staat_top.specs.Checking.{IsCertificateIn, IsFed, IsFedFile, SaysCertificate};
-ghost use Rattle.staat_top.specs.Runs.{HasCause, ShelfSide, over};
+ghost use Rattle.staat_top.specs.Runs.{HasCertificateCause, ShelfSide, over};
 
 use crate::refusals::cert_fault;
 use staat_cert::CertReader;
@@ -74,7 +75,7 @@ fn feed_named<H: Shelf>(
     ensures count { (H.told shelf.old).faults ≤ (H.told shelf.new).faults }
     ensures fed { IfOk result (λ _. IsFedFile (H.told shelf.old).holds name.now reader.new) }
     ensures refused { IfErr result (IsNotTakenWithin LIMIT (H.told shelf.old).holds name.now) }
-    ensures cause { IfErr result (HasCause (over (H.told shelf.old) (H.told shelf.new))) }
+    ensures cause { IfErr result (HasCertificateCause name.now (over (H.told shelf.old) (H.told shelf.new))) }
 {
     match feed_file(shelf, name.as_str(), reader) {
         Ok(()) => Ok(()),
@@ -90,7 +91,7 @@ fn certificate_in(alloc: Global, reader: CertReader, name: &Name) -> Result<Cert
     requires { (text : List ℕ) × IsFed reader text }
     ensures says { (text : List ℕ) → IsFed reader text → Follows (SaysCertificate name.now text) result }
     ensures formed { IfOk result IsWellFormed }
-    ensures cause { (shelf : ShelfSide) → IfErr result (HasCause shelf) }
+    ensures cause { (shelf : ShelfSide) → IfErr result (HasCertificateCause name.now shelf) }
 {
     match reader.finish() {
         Ok(certificate) => Ok(certificate),
@@ -109,8 +110,9 @@ pub fn read_certificate<H: Shelf>(
     ensures holds { (H.told shelf.new).holds ≡ (H.told shelf.old).holds }
     ensures count { (H.told shelf.old).faults ≤ (H.told shelf.new).faults }
     ensures formed { IfOk result IsWellFormed }
-    ensures found { (files : Files) → (H.told shelf.old).holds ≡ Some files → Follows (IsCertificateIn files name.now) result }
-    ensures cause { IfErr result (HasCause (over (H.told shelf.old) (H.told shelf.new))) }
+    ensures found { (files : Files) → (H.told shelf.old).holds ≡ Some files →
+        Follows (IsCertificateIn files name.now) result }
+    ensures cause { IfErr result (HasCertificateCause name.now (over (H.told shelf.old) (H.told shelf.new))) }
 {
     let mut reader = CertReader::new(alloc)?;
     feed_named(alloc, shelf, name, &mut reader)?;

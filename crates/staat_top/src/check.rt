@@ -6,7 +6,7 @@ ghost use Rattle.staat_words.specs.declared.request.Request.TheVariants.{Check};
 ghost use Rattle.staat_top.specs.Work.{Files, Follows};
 ghost use Rattle.staat_top.specs.Checking.{IsChecked, verdict_answer};
 ghost use Rattle.staat_top.specs.Replies.{WorkOn};
-ghost use Rattle.staat_top.specs.Runs.{HasCause, over};
+ghost use Rattle.staat_top.specs.Runs.{HasCheckCause, over};
 
 use crate::answer::Answer;
 use crate::certificate::read_certificate;
@@ -44,8 +44,9 @@ fn judged(alloc: Global, sound: &Sound, certificate: &Certificate) -> Result<Ans
     Ok(answer)
 }
 
-/// The answer to the command `check`: whether the certificate is valid for the parts, or the first rule that it breaks.
-/// The parts are read and tested before the certificate's file is opened.
+/// The answer to the command `check`: whether the certificate is valid for the parts, or the first rule that it
+/// breaks. The parts are read and tested before the certificate's file is opened.
+#[tactic(auto, using(crate::proofs::CauseLemmas::checking))]
 pub fn check<H: Shelf>(
     alloc: Global,
     request: &CheckRequest,
@@ -55,8 +56,9 @@ pub fn check<H: Shelf>(
     ensures holds { (H.told shelf.new).holds ≡ (H.told shelf.old).holds }
     ensures count { (H.told shelf.old).faults ≤ (H.told shelf.new).faults }
     ensures status { IfOk result (λ a. a.status < 2) }
-    ensures found { (files : Files) → (H.told shelf.old).holds ≡ Some files → Follows (WorkOn (Check request.now) files) result }
-    ensures cause { IfErr result (HasCause (over (H.told shelf.old) (H.told shelf.new))) }
+    ensures found { (files : Files) → (H.told shelf.old).holds ≡ Some files →
+        Follows (WorkOn (Check request.now) files) result }
+    ensures cause { IfErr result (HasCheckCause request.now (over (H.told shelf.old) (H.told shelf.new))) }
 {
     let sound = read_sound(alloc, shelf, &request.asked)?;
     let certificate = read_certificate(alloc, shelf, &request.certificate)?;

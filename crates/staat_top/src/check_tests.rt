@@ -1,7 +1,8 @@
 // Worked examples of `check` over shelves that give a few bytes at a time.
 
+use crate::held::blocks;
 use crate::staat;
-use crate::tests::{NEVER, blocks, sink, words};
+use crate::tests::{NEVER, sink, words};
 use staat_edge::{Calls, Files, MemoryShelf};
 use staat_vec::{Bytes, Name};
 use std::alloc::Global;
@@ -27,7 +28,8 @@ const OUT: &str = "witness 0\nout 0 0 1 1\n";
 const IN: &str = "in 1 0 0 0\n";
 
 const REST: &str =
-    "witness 1\nout 0 0 1 3\nin 1 2 0 0\nwitness 2\nout 0 0 1 5\nin 1 4 0 0\nwitness 3\nout 0 0 1 4\nin 1 5 0 0\nwitness 4\nout 0 0 1 2\nin 1 3 0 0\nwitness 5\nout 0 0 1 0\nin 1 1 0 0\n";
+    "witness 1\nout 0 0 1 3\nin 1 2 0 0\nwitness 2\nout 0 0 1 5\nin 1 4 0 0\nwitness 3\nout 0 0 1 4\n\
+    in 1 5 0 0\nwitness 4\nout 0 0 1 2\nin 1 3 0 0\nwitness 5\nout 0 0 1 0\nin 1 1 0 0\n";
 
 const DOWN: &str = "dir -1 0 0 0\ndir 0 -1 0 1\ndir 0 0 -1 2\n";
 

@@ -1,5 +1,5 @@
 // The parts that an input names.
-ghost use Rattle.std.specs.Prelude.{◌≡◌, ◌≤◌, All, Some, IfOk, IfErr, length, map};
+ghost use Rattle.std.specs.Prelude.{◌≡◌, ◌≤◌, All, Contains, List, ℕ, Some, IfOk, IfErr, length, map};
 ghost use Rattle.staat_off.specs.declared.raw.TheConstants.{MOST_DIGITS};
 ghost use Rattle.staat_vec.specs.Vectors.{IsWithin};
 ghost use Rattle.staat_model.specs.Pieces.{IsPiece};
@@ -7,8 +7,8 @@ ghost use Rattle.staat_words.specs.Requests.{IsAsked, IsInput};
 ghost use Rattle.staat_top.specs.Work.{Each, Files, Follows, IsTaken};
 ghost use Rattle.staat_top.specs.Moved.{IsMovedPieceOf};
 ghost use Rattle.staat_top.specs.Inputs.{alone, IsInputOf, IsListingOf, IsPartOf, SaysListing};
-ghost use Rattle.staat_top.specs.Shapes.{AreRead, IsFew};
-ghost use Rattle.staat_top.specs.Runs.{HasCause, ShelfSide, over};
+ghost use Rattle.staat_top.specs.Shapes.{AreRead, IsFew, ListsPiece};
+ghost use Rattle.staat_top.specs.Runs.{HasCause, IfTooLong, MayName, ShelfSide, over};
 
 use crate::moved::read_moved;
 use crate::read::read_file;
@@ -80,6 +80,9 @@ fn names_of<H: Shelf>(alloc: Global, shelf: &mut H, input: &Input) -> Result<Lis
         Follows (IsListingOf files input.now) result }
     ensures few { IfOk result IsFew }
     ensures cause { IfErr result (HasCause (over (H.told shelf.old) (H.told shelf.new))) }
+    ensures named { IfErr result (IfTooLong (MayName input.now)) }
+    ensures names { IfOk result (λ listing.
+        (name : List ℕ) → ListsPiece listing name → MayName input.now name) }
 {
     match input {
         Input::Manifest(name) => read_listing(alloc, shelf, name),
@@ -114,6 +117,7 @@ fn read_pieces<H: Shelf>(
     ensures pieces { IfOk result (All IsPiece) }
     ensures each { IfOk result (λ pieces. length pieces ≡ length names.now) }
     ensures cause { IfErr result (HasCause (over (H.told shelf.old) (H.told shelf.new))) }
+    ensures named { IfErr result (IfTooLong (Contains names.now)) }
 {
     let mut pieces = Vec::with_capacity(alloc, names.len())?;
     for name in names {
@@ -140,6 +144,7 @@ fn read_part<H: Shelf>(
     ensures pieces { IfOk result (λ part. All IsPiece part.pieces) }
     ensures each { IfOk result (λ part. length part.pieces ≡ length named.now.pieces) }
     ensures cause { IfErr result (HasCause (over (H.told shelf.old) (H.told shelf.new))) }
+    ensures named { IfErr result (IfTooLong (Contains named.now.pieces)) }
 {
     let name = named.name.copied(alloc)?;
     let pieces = read_pieces(alloc, digits, shelf, named.pieces.as_slice(), named.at)?;
@@ -161,6 +166,7 @@ fn read_parts<H: Shelf>(
         Follows (Each (IsPartOf files digits) listing.now) result }
     ensures read { IfOk result (AreRead listing.now) }
     ensures cause { IfErr result (HasCause (over (H.told shelf.old) (H.told shelf.new))) }
+    ensures named { IfErr result (IfTooLong (ListsPiece listing.now)) }
 {
     let mut parts = Vec::with_capacity(alloc, listing.len())?;
     for named in listing {
@@ -178,6 +184,7 @@ pub fn read_input<H: Shelf>(alloc: Global, shelf: &mut H, asked: &Asked) -> Resu
     ensures found { (files : Files) → (H.told shelf.old).holds ≡ Some files →
         Follows (IsInputOf files asked.now) result }
     ensures cause { IfErr result (HasCause (over (H.told shelf.old) (H.told shelf.new))) }
+    ensures named { IfErr result (IfTooLong (MayName asked.now.input)) }
 {
     let listing = names_of(alloc, shelf, &asked.input)?;
     let parts = read_parts(alloc, asked.digits, shelf, listing.as_slice())?;

@@ -9,7 +9,8 @@ ghost use Rattle.staat_top.specs.Headline.{Headline};
 ghost use Rattle.staat_top.specs.Replies.{IsReply, Reply, WorkOnWords};
 
 /// What `check` calls valid keeps the written rules, and the other way round; what a valid plan and a valid refusal
-/// show; and that `plan` prints a plan that takes all parts apart, or parts that are stuck.
+/// show; that `plan` prints a plan that takes all parts apart, or parts that are stuck, for all sound parts within its
+/// limits; and that `check` calls the certificate valid that `plan` prints.
 pub fn headline()
     ensures { Headline }
 {}
@@ -23,7 +24,8 @@ pub fn one_reply()
 /// Where the work comes to a file that is to be read next and is not held, there is no reply.
 pub fn no_reply()
     ensures { (asked : Option RequestValue) (files : Files) (name : List ℕ) (r : Reply) →
-        WorkOnWords asked files (Err (ReadFault name)) → bytes_of name files ≡ None → IsReply asked files r → ⊥ }
+        WorkOnWords asked files (Err (ReadFault name)) → bytes_of name files ≡ None →
+        IsReply asked files r → ⊥ }
 {}
 
 /// How many bytes a file of points or a part list may have.

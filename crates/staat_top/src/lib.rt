@@ -26,4 +26,6 @@ pub use top::staat;
 #[cfg(test)]
 mod check_tests;
 #[cfg(test)]
+mod held;
+#[cfg(test)]
 mod tests;

@@ -4,7 +4,7 @@ ghost use Rattle.staat_off.specs.declared.raw.TheConstants.{MOST_DIGITS};
 ghost use Rattle.staat_vec.specs.Vectors.{IsWithin};
 ghost use Rattle.staat_top.specs.Work.{Files, Follows};
 ghost use Rattle.staat_top.specs.Moved.{IsMovedPieceOf, MovesPiece};
-ghost use Rattle.staat_top.specs.Runs.{HasCause, ShelfSide, over};
+ghost use Rattle.staat_top.specs.Runs.{HasCause, IfTooLong, ShelfSide, over};
 
 use crate::read::read_piece;
 use staat_asm::{PlaceRefusal, place};
@@ -44,6 +44,7 @@ pub fn read_moved<H: Shelf>(
     ensures found { (files : Files) → (H.told shelf.old).holds ≡ Some files
         → Follows (IsMovedPieceOf files digits at name.now) result }
     ensures cause { IfErr result (HasCause (over (H.told shelf.old) (H.told shelf.new))) }
+    ensures named { IfErr result (IfTooLong (λ long. long ≡ name.now)) }
 {
     let piece = read_piece(alloc, digits, shelf, name)?;
     let placed = moved(alloc, name, piece, at)?;

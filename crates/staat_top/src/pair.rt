@@ -1,5 +1,6 @@
 // The command `pair`: whether a wall shows that one piece never meets another.
-ghost use Rattle.std.specs.Prelude.{◌≡◌, ◌≤◌, ◌<◌, ◌↔◌, ◌≤ℤ◌, pos, IsTrue, Some, IfOk, IfErr};
+ghost use Rattle.std.specs.Prelude.{◌≡◌, ◌≤◌, ◌<◌, ◌↔◌, ◌≤ℤ◌, pos};
+ghost use Rattle.std.specs.Prelude.{IsTrue, Some, IfOk, IfErr};
 ghost use Rattle.staat_vec.specs.Vectors.{IsWithin, dot};
 ghost use Rattle.staat_model.specs.Walls.{IsShown};
 ghost use Rattle.staat_words.specs.Requests.{IsPairRequest};

@@ -64,8 +64,9 @@ pub fn print<O: Sink, E: Sink>(answer: &Answer, out: &mut O, err: &mut E) -> u8
     requires { answer.now.status < 2 }
     ensures out_count { (O.told out.old).faults ≤ (O.told out.new).faults }
     ensures err_count { (E.told err.old).faults ≤ (E.told err.new).faults }
-    ensures whole { result ≢ 6 → (result ≡ answer.now.status) × ((E.told err.new).wrote ≡ (E.told err.old).wrote) × Took
-        (over (O.told out.old) (O.told out.new)) answer.now.text }
+    ensures whole { result ≢ 6 → (result ≡ answer.now.status) ×
+        ((E.told err.new).wrote ≡ (E.told err.old).wrote) ×
+        Took (over (O.told out.old) (O.told out.new)) answer.now.text }
     ensures part { result ≡ 6 → TookPart
         (over (O.told out.old) (O.told out.new)) answer.now.text }
     ensures line { result ≡ 6 → Took

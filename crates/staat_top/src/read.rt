@@ -4,7 +4,7 @@ ghost use Rattle.staat_off.specs.declared.raw.TheConstants.{MOST_DIGITS};
 ghost use Rattle.staat_edge.specs.Files.{IsWhole};
 ghost use Rattle.staat_top.specs.Work.{Files, Follows, IsNotTaken};
 ghost use Rattle.staat_top.specs.Pieces.{IsPieceOf, SaysPiece};
-ghost use Rattle.staat_top.specs.Runs.{HasCause, ShelfSide, over};
+ghost use Rattle.staat_top.specs.Runs.{HasCause, IfTooLong, ShelfSide, over};
 
 use crate::refusals::{mesh_fault, off_fault};
 use staat_edge::{ReadRefusal, Shelf, read_whole};
@@ -66,6 +66,7 @@ pub fn read_piece<H: Shelf>(
     ensures found { (files : Files) → (H.told shelf.old).holds ≡ Some files →
         Follows (IsPieceOf files digits name.now) result }
     ensures cause { IfErr result (HasCause (over (H.told shelf.old) (H.told shelf.new))) }
+    ensures named { IfErr result (IfTooLong (λ long. long ≡ name.now)) }
 {
     let bytes = read_file(alloc, shelf, name)?;
     piece_in(alloc, digits, bytes.as_slice(), name)

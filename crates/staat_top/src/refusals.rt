@@ -1,6 +1,7 @@
 // The faults that the refusals of the readers are.
 ghost use Rattle.std.specs.Prelude.{◌≡◌};
-ghost use Rattle.staat_top.specs.Refusals.{asm_fault, cert_fault, manifest_fault, mesh_fault, off_fault, planes_fault, text_fault};
+ghost use Rattle.staat_top.specs.Refusals.{asm_fault, cert_fault, manifest_fault, mesh_fault, off_fault};
+ghost use Rattle.staat_top.specs.Refusals.{planes_fault, text_fault};
 
 use staat_asm::AsmRefusal;
 use staat_cert::CertRefusal;

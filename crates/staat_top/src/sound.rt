@@ -3,7 +3,7 @@ ghost use Rattle.std.specs.Prelude.{◌≡◌, ◌≤◌, Some, IfErr, List};
 ghost use Rattle.staat_words.specs.Requests.{IsAsked};
 ghost use Rattle.staat_top.specs.Work.{Files, Follows};
 ghost use Rattle.staat_top.specs.Assembling.{IsSoundOf, IsTested};
-ghost use Rattle.staat_top.specs.Runs.{HasCause, ShelfSide, over};
+ghost use Rattle.staat_top.specs.Runs.{HasCause, IfTooLong, MayName, ShelfSide, over};
 
 use crate::input::read_input;
 use crate::refusals::asm_fault;
@@ -29,6 +29,7 @@ fn tested(alloc: Global, assembly: Assembly) -> Result<Sound, Fault>
 
 /// The sound assembly that an input gives. The whole input is read first; then the first two pieces of different
 /// parts that overlap are the refusal.
+#[tactic(auto, using(crate::proofs::CauseLemmas::naming))]
 pub fn read_sound<H: Shelf>(alloc: Global, shelf: &mut H, asked: &Asked) -> Result<Sound, Fault>
     requires { IsAsked asked.now }
     ensures holds { (H.told shelf.new).holds ≡ (H.told shelf.old).holds }
@@ -36,6 +37,7 @@ pub fn read_sound<H: Shelf>(alloc: Global, shelf: &mut H, asked: &Asked) -> Resu
     ensures found { (files : Files) → (H.told shelf.old).holds ≡ Some files →
         Follows (IsSoundOf files asked.now) result }
     ensures cause { IfErr result (HasCause (over (H.told shelf.old) (H.told shelf.new))) }
+    ensures named { IfErr result (IfTooLong (MayName asked.now.input)) }
 {
     let assembly = read_input(alloc, shelf, asked)?;
     tested(alloc, assembly)

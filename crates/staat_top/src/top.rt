@@ -1,10 +1,11 @@
 // The call that does all that the program does.
-ghost use Rattle.std.specs.Prelude.{◌≡◌, ◌≢◌, ◌⊎◌, ◌<◌, ◌≤◌, Some, None, IfOk, IfErr, IsErrAnd, map, string_bytes};
+ghost use Rattle.std.specs.Prelude.{◌≡◌, ◌≢◌, ◌⊎◌, ◌<◌, ◌≤◌, Some, None};
+ghost use Rattle.std.specs.Prelude.{IfOk, IfErr, IsErrAnd, map, string_bytes};
 ghost use Rattle.staat_words.specs.Requests.{HasBounds, request};
 ghost use Rattle.staat_fault.specs.declared.fault.Fault.TheVariants as faults;
 ghost use Rattle.staat_top.specs.Work.{Files, Follows};
 ghost use Rattle.staat_top.specs.Replies.{WorkOn};
-ghost use Rattle.staat_top.specs.Runs.{HasCause, HasRequestBounds, IsExplained, IsFound, Ran, over};
+ghost use Rattle.staat_top.specs.Runs.{HasRequestBounds, HasRequestCause, IsExplained, IsFound, Ran, over};
 
 use crate::answer::Answer;
 use crate::cells::cells;
@@ -27,7 +28,7 @@ fn work<H: Shelf>(alloc: Global, request: &Request, shelf: &mut H) -> Result<Ans
     ensures status { IfOk result (λ a. a.status < 2) }
     ensures found { (files : Files) → (H.told shelf.old).holds ≡ Some files →
         Follows (WorkOn request.now files) result }
-    ensures cause { IfErr result (HasCause (over (H.told shelf.old) (H.told shelf.new))) }
+    ensures cause { IfErr result (HasRequestCause request.now (over (H.told shelf.old) (H.told shelf.new))) }
 {
     match request {
         Request::Pair(request) => pair(alloc, request, shelf),

@@ -1,4 +1,4 @@
-use Rattle.std.proofs.Common.{rules, ◌≡◌, refl, sym, ap, ◌∙◌, ◌<◌, arith, subst, length}
+use Rattle.std.proofs.Common.{rules, refl, sym, ap, ◌∙◌, ◌<◌, arith, subst, length}
 use Rattle.staat_vec.specs.declared.vector.TheConstants.{POINT}
 use Rattle.staat_vec.specs.Vectors.{IsWithin, plus}
 use Rattle.staat_asm.proofs.PlacingLemmas.{half_end, half_next, half_within}

@@ -1,4 +1,4 @@
-use Rattle.std.proofs.Common.{◌≡◌, ◌≤◌, length}
+use Rattle.std.proofs.Common.{◌≡◌, length}
 use Rattle.staat_asm.proofs.PlacingLemmas.{half_shifted}
 use Rattle.staat_asm.proofs.placing.shift.Given as goal
 

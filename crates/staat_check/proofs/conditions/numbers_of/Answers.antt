@@ -6,4 +6,4 @@ pub loop-facet-preserved : goal.loop-facet-preserved
 loop-facet-preserved c = numbers_more c.args.normals.now c.args.facets.now c.loop-facet.numbers.items c.push.new.self.items c.loop-facet.facet-index c.number_of.result origin c.loop-facet-test.true c.loop-facet.invariant c.number_of.ensures c.in_ok-push.ensures.items
 
 pub returns : goal.returns
-returns c = numbers_end c.args.normals.now c.args.facets.now c.loop-facet.numbers.items c.each_once.result.items c.loop-facet.facet-index c.loop-facet-test.false c.loop-facet.invariant c.each_once.ensures
+returns c = numbers_end c.args.normals.now c.args.facets.now c.loop-facet.numbers.items c.loop-facet.facet-index c.loop-facet-test.false c.loop-facet.invariant

@@ -1,7 +1,8 @@
-use Rattle.std.proofs.Common.{◌∙◌, ◌+◌, Ok, sym, subst, arith, take}
+use Rattle.std.proofs.Common.{◌∙◌, ◌+◌, Ok, sym, subst, arith, take, Contains}
 use Rattle.staat_top.specs.Work.{Each}
 use Rattle.staat_top.specs.Inputs.{IsPartOf}
-use Rattle.staat_top.specs.Shapes.{AreRead}
+use Rattle.staat_top.specs.Shapes.{AreRead, ListsPiece}
+use Rattle.staat_top.proofs.CauseLemmas.{named_wider}
 use Rattle.staat_top.proofs.InputLemmas.{Continues, each_failed, each_more, each_end, one_read}
 use Rattle.staat_top.proofs.input.read_parts.Goals as goal
 
@@ -9,6 +10,11 @@ pub returns-in_err-read_part-clause-found : goal.returns-in_err-read_part-clause
 returns-in_err-read_part-clause-found g c = λ files told.
     each_failed (IsPartOf files c.args.digits) c.args.listing.now c.loop-named.named-index c.loop-named.parts.items c.named-item.result c.in_err-read_part.field-0.0 c.from_residual-in_err-read_part.result
     c.loop-named-test.true c.named-item.is (c.loop-named.invariant.found files told) (c.in_err-read_part.ensures.found files (c.loop-named.invariant.holds ∙ told)) c.from_residual-in_err-read_part.ensures.1
+
+pub returns-in_err-read_part-clause-named : goal.returns-in_err-read_part-clause-named
+returns-in_err-read_part-clause-named g c =
+    named_wider (Contains c.named-item.result.pieces) (ListsPiece c.args.listing.now) c.in_err-read_part.field-0.0 c.from_residual-in_err-read_part.result
+    (λ name h. record { part = c.named-item.result; listed = (c.loop-named.named-index, c.loop-named-test.true, sym c.named-item.is); piece = h }) c.in_err-read_part.ensures.named c.from_residual-in_err-read_part.ensures.1
 
 pub loop-named-preserved : goal.loop-named-preserved
 loop-named-preserved g c =

@@ -1,9 +1,10 @@
-use Rattle.std.proofs.Common.{◌∙◌, ◌+◌, Ok, sym, subst, ap, arith, [], ◌∷◌, All, length}
+use Rattle.std.proofs.Common.{◌≡◌, ◌∙◌, ◌+◌, Ok, sym, subst, ap, arith, [], ◌∷◌, All, Contains, length}
 use Rattle.std.proofs.lemmas.List.{length_push}
 use Rattle.std.proofs.lemmas.List.Elements.{All-append, All-cons, All-nil}
 use Rattle.staat_model.specs.Pieces.{IsPiece}
 use Rattle.staat_top.specs.Work.{Each}
 use Rattle.staat_top.specs.Moved.{IsMovedPieceOf}
+use Rattle.staat_top.proofs.CauseLemmas.{named_wider}
 use Rattle.staat_top.proofs.InputLemmas.{Continues, each_failed, each_more, each_end}
 use Rattle.staat_top.proofs.input.read_pieces.Goals as goal
 
@@ -11,6 +12,11 @@ pub returns-in_err-piece-clause-found : goal.returns-in_err-piece-clause-found
 returns-in_err-piece-clause-found g c = λ files told.
     each_failed (IsMovedPieceOf files c.args.digits c.args.at) c.args.names.now c.loop-name.name-index c.loop-name.pieces.items c.name-item.result c.in_err-piece.field-0.0 c.from_residual-in_err-piece.result
     c.loop-name-test.true c.name-item.is (c.loop-name.invariant.found files told) (c.in_err-piece.ensures.found files (c.loop-name.invariant.holds ∙ told)) c.from_residual-in_err-piece.ensures.1
+
+pub returns-in_err-piece-clause-named : goal.returns-in_err-piece-clause-named
+returns-in_err-piece-clause-named g c =
+    named_wider (λ long. long ≡ c.name-item.result) (Contains c.args.names.now) c.in_err-piece.field-0.0 c.from_residual-in_err-piece.result
+    (λ name e. subst (Contains c.args.names.now) (sym e) (c.loop-name.name-index, c.loop-name-test.true, sym c.name-item.is)) c.in_err-piece.ensures.named c.from_residual-in_err-piece.ensures.1
 
 pub loop-name-preserved : goal.loop-name-preserved
 loop-name-preserved g c =

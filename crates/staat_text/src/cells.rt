@@ -1,0 +1,221 @@
+// The text of all cells of directions, each with its blocking graph.
+ghost use Rattle.std.specs.Prelude.{◌≡◌, ◌++◌, ◌<◌, ◌≤◌, ◌^◌, [], IfOk, List};
+ghost use Rattle.std.specs.Prelude.{codes, flat_map, map, string_bytes};
+ghost use Rattle.std.specs.Fmt.{signed_decimal};
+ghost use Rattle.staat_model.specs.declared.assembly.Part.{Part as PartValue};
+ghost use Rattle.staat_model.specs.Cells.{AreCells};
+ghost use Rattle.staat_model.specs.Lines.{vector_numbers};
+ghost use Rattle.staat_model.specs.Sets.{below};
+ghost use Rattle.staat_pairs.specs.Tables.{Table, WasMadeFrom};
+ghost use Rattle.staat_cells.specs.CellGraphs.{HasArcsOf};
+ghost use Rattle.staat_cells.specs.Compositions.{entry_of};
+ghost use Rattle.staat_text.specs.CellTexts.{IsCellsAnswer, cell_line, count_line, totals_line};
+ghost use Rattle.staat_text.specs.CellTexts.{kind_count, kind_word, same_kind, short_arc, short_arcs};
+ghost use Rattle.staat_text.specs.GraphTexts.{arcs_from, arcs_of};
+ghost use Rattle.staat_text.specs.Holding.{HoldsCells};
+ghost use Rattle.staat_text.specs.PlanTexts.{numbers_before};
+
+use crate::holding::{HeldText, hold};
+use staat_cells::{Cell, CellGraphs, Cells};
+use staat_graph::Graph;
+use staat_model::{Kind, MOST_PARTS, TEXT_LIMIT, TextRefusal};
+use staat_number::push_number;
+use staat_planes::PlaneTable;
+use staat_vec::{Bytes, V3};
+use std::alloc::{AllocError, Global};
+
+// The word for a kind of cell.
+fn kind_word(kind: Kind) -> &'static [u8]
+    ensures { result.now ≡ kind_word kind }
+{
+    match kind {
+        Kind::Point => b"point",
+        Kind::Edge => b"edge",
+        Kind::Open => b"open",
+    }
+}
+
+// Adds a number after a space.
+fn push_spaced(line: &mut Vec<u8>, z: i128) -> Result<(), AllocError>
+    ensures { IfOk result (λ _. line.new.items ≡ line.old.items ++ (codes " " ++ signed_decimal z)) }
+{
+    line.push(b' ')?;
+    push_number(line, z)
+}
+
+// Adds the components, each after a space.
+fn push_vector(line: &mut Vec<u8>, d: V3) -> Result<(), AllocError>
+    ensures { IfOk result (λ _. line.new.items ≡ line.old.items ++ numbers_before (vector_numbers d) []) }
+{
+    push_spaced(line, d.x)?;
+    push_spaced(line, d.y)?;
+    push_spaced(line, d.z)
+}
+
+// Adds the arc from a to b.
+fn push_arc(line: &mut Vec<u8>, a: u32, b: u32) -> Result<(), AllocError>
+    ensures { IfOk result (λ _. line.new.items ≡ line.old.items ++ short_arc (a, b)) }
+{
+    line.push(b' ')?;
+    push_number(line, a as i128)?;
+    line.push(b'>')?;
+    push_number(line, b as i128)
+}
+
+// Adds the arcs from the part a to parts below `parts`.
+fn push_arcs_from(line: &mut Vec<u8>, g: &Graph, parts: u32, a: u32) -> Result<(), AllocError>
+    requires parts { parts ≤ MOST_PARTS }
+    requires from { a < MOST_PARTS }
+    ensures { IfOk result (λ _. line.new.items
+        ≡ line.old.items ++ flat_map short_arc (arcs_from g.now.rows parts a)) }
+{
+    let targets = g.arcs_from(a);
+    for b in 0..parts {
+        if targets.has(b) {
+            push_arc(line, a, b)?;
+        }
+    }
+    Ok(())
+}
+
+// Adds the arcs among the parts below `parts`.
+fn push_arcs(line: &mut Vec<u8>, g: &Graph, parts: u32) -> Result<(), AllocError>
+    requires { parts ≤ MOST_PARTS }
+    ensures { IfOk result (λ _. line.new.items ≡ line.old.items ++ flat_map short_arc (arcs_of g.now.rows parts)) }
+{
+    for a in 0..parts {
+        push_arcs_from(line, g, parts, a)?;
+    }
+    Ok(())
+}
+
+// Adds the arcs, or a dash where there is none.
+fn push_arcs_or_dash(line: &mut Vec<u8>, g: &Graph, parts: u32) -> Result<(), AllocError>
+    requires { parts ≤ MOST_PARTS }
+    ensures { IfOk result (λ _. line.new.items ≡ line.old.items ++ short_arcs (arcs_of g.now.rows parts)) }
+{
+    let before = line.len();
+    push_arcs(line, g, parts)?;
+    if line.len() == before {
+        line.extend_from_slice(b" -")?;
+    }
+    Ok(())
+}
+
+// Writes the line of a cell in place of what was there.
+fn write_cell(line: &mut Vec<u8>, cell: &Cell, g: &Graph, parts: u32) -> Result<(), AllocError>
+    requires { parts ≤ MOST_PARTS }
+    ensures { IfOk result (λ _. line.new.items ≡ cell_line parts (entry_of cell.now) g.now.rows) }
+{
+    line.clear();
+    line.extend_from_slice(kind_word(cell.kind))?;
+    push_vector(line, cell.d)?;
+    push_arcs_or_dash(line, g, parts)?;
+    line.push(b'\n')?;
+    Ok(())
+}
+
+// Whether two kinds are one.
+fn same_kind(kind: Kind, other: Kind) -> bool
+    ensures { result ≡ same_kind kind other }
+{
+    match (kind, other) {
+        (Kind::Point, Kind::Point) | (Kind::Edge, Kind::Edge) | (Kind::Open, Kind::Open) => true,
+        _ => false,
+    }
+}
+
+// How many cells there are of a kind.
+fn kind_count(cells: &[Cell], kind: Kind) -> usize
+    ensures { result ≡ kind_count kind (map entry_of cells.now) }
+{
+    let mut count = 0;
+    for cell in cells {
+        if same_kind(kind, cell.kind) {
+            count += 1;
+        }
+    }
+    count
+}
+
+// The line with these numbers.
+fn count_line(
+    alloc: Global,
+    planes: u32,
+    points: usize,
+    edges: usize,
+    opens: usize,
+) -> Result<String, AllocError>
+    ensures { IfOk result (λ s. string_bytes s ≡ count_line planes points edges opens) }
+{
+    format!(in alloc; "planes {planes} points {points} edges {edges} open {opens}\n")
+}
+
+// The line with the numbers of planes and of cells of each kind.
+fn totals_line(alloc: Global, planes: u32, cells: &[Cell]) -> Result<String, AllocError>
+    ensures { IfOk result (λ s. string_bytes s ≡ totals_line planes (map entry_of cells.now)) }
+{
+    let points = kind_count(cells, Kind::Point);
+    let edges = kind_count(cells, Kind::Edge);
+    let opens = kind_count(cells, Kind::Open);
+    count_line(alloc, planes, points, edges, opens)
+}
+
+// Adds a line for each cell.
+fn hold_cells(
+    alloc: Global,
+    graphs: &CellGraphs,
+    cells: &[Cell],
+    parts: u32,
+    held: &mut HeldText,
+) -> Result<(), AllocError>
+    requires parts { parts ≤ MOST_PARTS }
+    requires room { held.old.length < 2 ^ 64 }
+    ensures { IfOk result (λ _. (t : Table) → HasArcsOf t graphs.now
+        → HoldsCells t parts (map entry_of cells.now) held.old held.new) }
+{
+    let mut line = Vec::new(alloc);
+    for cell in cells {
+        write_cell(
+            &mut line,
+            cell,
+            &graphs.graph_of(cell.signs.as_slice()),
+            parts,
+        )?;
+        hold(held, line.as_slice())?;
+    }
+    Ok(())
+}
+
+/// The text of the cells of the table's planes, or its length in bytes where that is above [`TEXT_LIMIT`].
+///
+/// The table's set is that of the parts below `parts`, at most [`MOST_PARTS`] of them, and the cells are all those of
+/// its planes.
+///
+/// It has the line `planes N points P edges E open O`; then for each cell in order a line of its kind, the three
+/// numbers of its representative and the arcs ` A>B` of the blocking graph, ascending by `A` and then by `B`, or ` -`
+/// where there is none. The arcs are those at every direction of the cell.
+pub fn cells_text(
+    alloc: Global,
+    table: &PlaneTable,
+    cells: &Cells,
+    parts: u32,
+) -> Result<Bytes, TextRefusal>
+    requires parts { parts ≤ MOST_PARTS }
+    requires set { table.now.of ≡ below parts }
+    requires cells { AreCells table.now.planes (map entry_of cells.now) }
+    ensures { (all : List PartValue) → WasMadeFrom all table.now → IsCellsAnswer all parts result }
+{
+    let graphs = CellGraphs::of(alloc, table)?;
+    let mut held = HeldText {
+        bytes: Vec::new(alloc),
+        length: 0,
+    };
+    let first = totals_line(alloc, table.len(), cells.as_slice())?;
+    hold(&mut held, first.as_bytes())?;
+    hold_cells(alloc, &graphs, cells.as_slice(), parts, &mut held)?;
+    if held.length > TEXT_LIMIT {
+        return Err(TextRefusal::TextTooLong(held.length));
+    }
+    Ok(Bytes::from_vec(held.bytes))
+}
