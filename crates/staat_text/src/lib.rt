@@ -2,6 +2,7 @@
 #![tactic(auto)]
 
 mod cells;
+mod drills;
 mod graphs;
 mod holding;
 pub mod laws;
@@ -10,6 +11,7 @@ mod plans;
 mod verdicts;
 
 pub use cells::cells_text;
+pub use drills::drill_text;
 pub use graphs::graph_text;
 pub use parts::{look_text, parts_text};
 pub use plans::plan_text;

@@ -87,7 +87,7 @@ fn parts_of(tree: &Tree) -> PartSet
 }
 
 // The number of steps.
-fn steps_of(tree: &Tree) -> u32
+pub(crate) fn steps_of(tree: &Tree) -> u32
     requires { steps_of (plan_of tree.now) < MOST_PARTS }
     ensures { result ≡ steps_of (plan_of tree.now) }
 {

@@ -1,4 +1,4 @@
-use Rattle.std.proofs.Common.{◌≡◌, subst, map}
+use Rattle.std.proofs.Common.{subst, map}
 use Rattle.staat_samples.specs.Hulls.{IsUnionAnswer, box_corners}
 use Rattle.staat_drill.proofs.BoxLemmas.{all_have_hulls, union_only}
 use Rattle.staat_drill.proofs.products.union_of.Goals as goal
