@@ -189,8 +189,8 @@ fn hold_cells(
 
 /// The text of the cells of the table's planes, or its length in bytes where that is above [`TEXT_LIMIT`].
 ///
-/// The table's set is that of the parts below `parts`, which are [`MOST_PARTS`] at most, and the cells are all those of
-/// its planes.
+/// The table's set is that of the parts below `parts`, which are [`MOST_PARTS`] at most, and the cells are all cells
+/// of its planes.
 ///
 /// It has the line `planes N points P edges E open O`; then for each cell in order a line of its kind, the three
 /// numbers of its representative and the arcs ` A>B` of the blocking graph, ascending by `A` and then by `B`, or ` -`
