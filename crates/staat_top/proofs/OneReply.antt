@@ -417,9 +417,9 @@ tabled_one files parts = record { one = λ f g a b sf sg. one f g a b; held = λ
     same text other is also = one_text parts (length parts) text other is also
 
     one : (f g : Found Answer) → AreTabled parts f → AreTabled parts g → f ≡ g
-    one f g (tabled t is short e) (tabled u also few d) = e ∙ ap (λ (x : List ℕ). Ok (answer 0 x)) (same t u is also) ∙ sym d
+    one f g (tabled t is short e) (tabled u also fits d) = e ∙ ap (λ (x : List ℕ). Ok (answer 0 x)) (same t u is also) ∙ sym d
     one f g (tabled t is short e) (table_too_long u also many d) = absurd (omega (arith, short, many, ap length (same t u is also)))
-    one f g (table_too_long t is many e) (tabled u also few d) = absurd (omega (arith, few, many, ap length (same t u is also)))
+    one f g (table_too_long t is many e) (tabled u also fits d) = absurd (omega (arith, fits, many, ap length (same t u is also)))
     one f g (table_too_long t is many e) (table_too_long u also much d) =
         e ∙ ap (λ (x : List ℕ). Err (TextTooLong (length x))) (same t u is also) ∙ sym d
 

@@ -205,11 +205,11 @@ same_answer a b e = cc
 same_status : (a b : Answer) → ◌≡◌ {A = Found Answer} (Ok a) (Ok b) → a.status ≡ b.status
 same_status a b e = let same : a ≡ b = cc in ap (λ (x : Answer). x.status) same
 
--- a wall that is shown keeps the pieces apart, a look or a graph gives sound parts, and a plan takes them apart
 -- the table of an accepted assembly says of every direction in which cell it lies
 cells_are_said : (files : Files) (request : CellsRequest) (parts : List Part) (text : List ℕ) → AreSoundParts files request.asked parts → IsCellsText parts (length parts) text → SaysCells files request text
-cells_are_said files request parts text sound table = record { parts = parts; sound = sound; table = table; one = λ d some. one_cell table.planes d table.cells table.cells_are some }
+cells_are_said files request parts text are table = record { parts = parts; sound = are; table = table; one = λ d some. one_cell table.planes d table.cells table.cells_are some }
 
+-- a wall that is shown keeps the pieces apart, a look or a graph gives sound parts, and a plan takes them apart
 pub status_is_right : (asked : Option Request) (files : Files) (a : Answer) → HasRequestBounds asked → WorkOnWords asked files (Ok a) → a.status ≡ 0 → IsRight asked files a.text
 status_is_right None files a bounds e zero = absurd cc
 status_is_right (Some (Pair request)) files a bounds (inl (fault, at, e)) zero = absurd cc

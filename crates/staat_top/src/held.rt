@@ -12,6 +12,14 @@ pub const BESIDE: &[u8] =
     b"OFF\n8 6 12\n2 0 0\n4 0 0\n4 2 0\n2 2 0\n2 0 2\n4 0 2\n4 2 2\n2 2 2\n4 0 3 2 1\n4 4 5 6 7\n4 0 1 5 4\n\
     4 1 2 6 5\n4 2 3 7 6\n4 3 0 4 7\n";
 
+// The cells of both cubes.
+pub const CELLS: &str =
+    "planes 3 points 6 edges 12 open 8\npoint -1 0 0 1>0\npoint 0 -1 0 -\npoint 0 0 -1 -\npoint 0 0 1 -\n\
+    point 0 1 0 -\npoint 1 0 0 0>1\nedge -1 -1 0 1>0\nedge -1 0 -1 1>0\nedge -1 0 1 1>0\nedge -1 1 0 1>0\n\
+    edge 0 -1 -1 -\nedge 0 -1 1 -\nedge 0 1 -1 -\nedge 0 1 1 -\nedge 1 -1 0 0>1\nedge 1 0 -1 0>1\n\
+    edge 1 0 1 0>1\nedge 1 1 0 0>1\nopen -2 -1 -1 1>0\nopen -2 -1 1 1>0\nopen -2 1 -1 1>0\nopen -2 1 1 1>0\n\
+    open 1 -2 -1 0>1\nopen 1 -2 1 0>1\nopen 1 1 -2 0>1\nopen 1 1 2 0>1\n";
+
 pub fn file(alloc: Global, name: &str, text: &[u8]) -> Result<(Name, Bytes), AllocError> {
     let name = Name::from_string(String::from_str(alloc, name)?);
     Ok((name, Bytes::from_vec(text.to_vec(alloc)?)))

@@ -1,7 +1,7 @@
 // Worked examples of whole calls over shelves and sinks in memory.
 ghost use Rattle.std.specs.Prelude.{◌<◌};
 
-use crate::held::{BESIDE, CLOSED, CUBE, HELD, blocks, file};
+use crate::held::{BESIDE, CELLS, CLOSED, CUBE, HELD, blocks, file};
 use crate::staat;
 use staat_edge::{Calls, Files, MemoryShelf, MemorySink};
 use std::alloc::{AllocError, Global};
@@ -465,12 +465,13 @@ fn the_parts_of_an_input_are_listed(rt: HostRuntime) -> Result<(), Fail> {
 #[test]
 fn each_command_reads_a_file_as_often_as_it_is_named(rt: HostRuntime) -> Result<(), Fail> {
     let alloc = rt.alloc();
-    let table: [(&[&str], &[&str]); 6] = [
+    let table: [(&[&str], &[&str]); 7] = [
         (
             &["check", "c.txt", "a.off", "b.off"],
             &["a.off", "b.off", "c.txt"],
         ),
         (&["plan", "b.off", "a.off"], &["b.off", "a.off"]),
+        (&["cells", "b.off", "a.off"], &["b.off", "a.off"]),
         (&FREE, &["a.off", "b.off"]),
         (&["look", "b.off", "a.off"], &["b.off", "a.off"]),
         (
@@ -491,7 +492,7 @@ fn each_command_reads_a_file_as_often_as_it_is_named(rt: HostRuntime) -> Result<
     for (list, files) in table {
         for call in 0..3 * files.len() + 1 {
             let mut shelf = shelf_of(alloc, &HELD, call as u64)?;
-            let mut out = sink(alloc, 128, NEVER, 64)?;
+            let mut out = sink(alloc, 512, NEVER, 64)?;
             let mut err = sink(alloc, 64, NEVER, 64)?;
             let got = staat(alloc, &words(alloc, list)?, &mut shelf, &mut out, &mut err);
             match files.get(call / 3) {
@@ -514,8 +515,9 @@ fn each_command_answers_a_large_input(rt: HostRuntime) -> Result<(), Fail> {
     let alloc = rt.alloc();
     let mut large = CUBE.to_vec(alloc)?;
     large.extend_from_slice(&vec![in alloc; b' '; 1_048_000]?)?;
-    let table: [(&[&str], &str); 4] = [
+    let table: [(&[&str], &str); 5] = [
         (&FREE, "free\n"),
+        (&["cells", "a.off", "b.off"], CELLS),
         (
             &["plan", "a.off", "b.off"],
             "move 0 along 0 0 1 away from 1\nmoves 1\n",
@@ -531,7 +533,7 @@ fn each_command_answers_a_large_input(rt: HostRuntime) -> Result<(), Fail> {
     ];
     for (list, text) in table {
         let mut shelf = shelf(alloc, &large, NEVER)?;
-        let mut out = sink(alloc, 128, NEVER, 64)?;
+        let mut out = sink(alloc, 512, NEVER, 64)?;
         let mut err = sink(alloc, 64, NEVER, 64)?;
         let got = staat(alloc, &words(alloc, list)?, &mut shelf, &mut out, &mut err);
         assert_eq!(rt; got, 0, "at {list:?}");
@@ -547,14 +549,12 @@ fn shelf_of_blocks(alloc: Global) -> Result<MemoryShelf, Fail> {
 }
 
 #[test]
-fn a_graph_says_who_blocks_whom_and_a_plan_how_parts_come_apart(
-    rt: HostRuntime,
-) -> Result<(), Fail> {
+fn graphs_cells_and_plans_of_small_products(rt: HostRuntime) -> Result<(), Fail> {
     let alloc = rt.alloc();
     let usage = "staat: usage\n";
     let first = "move 0 along 0 0 1 away from 1\nmoves 1\n";
     let sideways = "move 0 along 0 -1 0 away from 1\nmoves 1\n";
-    let table: [(&[&str], u8, &str, &str); 25] = [
+    let table: [(&[&str], u8, &str, &str); 28] = [
         (
             &["graph", "--along=0,1,0", "a.off", "b.off"],
             0,
@@ -586,6 +586,14 @@ fn a_graph_says_who_blocks_whom_and_a_plan_how_parts_come_apart(
             "staat: parts 0 and 1 overlap in pieces 0 and 0\n",
         ),
         (&["graph", "a.off", "b.off"], 2, "", "staat: usage\n"),
+        (&["cells", "a.off", "b.off"], 0, CELLS, ""),
+        (&["cells", "a", "--planes=257"], 2, "", usage),
+        (
+            &["cells", "--manifest=dovetail.json", "--planes=4"],
+            4,
+            "",
+            "staat: too many planes (5)\n",
+        ),
         (&["plan", "a.off", "b.off"], 0, first, ""),
         (&["plan", "a", "b"], 0, first, ""),
         (&["plan", "a.off"], 0, "moves 0\n", ""),
@@ -648,7 +656,7 @@ fn a_graph_says_who_blocks_whom_and_a_plan_how_parts_come_apart(
     ];
     for (list, status, out_text, err_text) in table {
         let mut shelf = shelf_of_blocks(alloc)?;
-        let mut out = sink(alloc, 256, NEVER, 64)?;
+        let mut out = sink(alloc, 512, NEVER, 64)?;
         let mut err = sink(alloc, 64, NEVER, 64)?;
         let got = staat(alloc, &words(alloc, list)?, &mut shelf, &mut out, &mut err);
         assert_eq!(rt; got, status, "at {list:?}");
