@@ -36,4 +36,5 @@ pub data IsDrilled (product : Product) (parts : List Part) : Found Answer → Ty
       IsDrilled product parts found
   drill_too_long : {found : Found Answer} (finding : Finding) (c : Certificate) →
       IsOutcome false parts (all_parts parts) finding → IsCertificateOf parts 2 finding c →
-      TEXT_LIMIT < length (text_of c) → found ≡ Err (TextTooLong (length (text_of c))) → IsDrilled product parts found
+      TEXT_LIMIT < length (text_of c) → found ≡ Err (TextTooLong (length (text_of c))) →
+      IsDrilled product parts found

@@ -1,6 +1,6 @@
 -- What stands above all else: what the answers of `check` and `plan` mean.
 use Rattle.std.specs.Prelude.{◌≡◌, ◌↔◌, ◌⊎◌, ◌<◌, ◌≤◌, ℕ, zero, suc, List}
-use Rattle.std.specs.Prelude.{length, Option, Some, Ok, false, codes}
+use Rattle.std.specs.Prelude.{length, Option, Some, Ok, codes}
 use Rattle.staat_vec.specs.declared.vector.V3.{V3}
 use Rattle.staat_edge.specs.Files.{bytes_of}
 use Rattle.staat_model.specs.declared.assembly.Part.{Part}
@@ -43,7 +43,7 @@ pub record IsWithinLimits (parts : List Part) (request : PlanRequest) : Type 0 w
   pub planes_are : ArePlanes parts (all_parts parts) planes
   pub few : length planes ≤ request.planes
   pub short : (version : ℕ) (finding : Finding) → request.certificate ≡ Some version →
-      IsOutcome false parts (all_parts parts) finding →
+      IsOutcome request.robust parts (all_parts parts) finding →
       (c : Certificate) × IsCertificateOf parts version finding c × (length (text_of c) ≤ TEXT_LIMIT)
 
 -- For all files and requests:

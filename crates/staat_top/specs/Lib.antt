@@ -9,6 +9,7 @@ pub mod Graphing
 pub mod Planning
 pub mod CellTables
 pub mod Checking
+pub mod Drills
 pub mod Replies
 pub mod Kept
 pub mod Headline

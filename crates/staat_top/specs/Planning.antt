@@ -1,5 +1,5 @@
 -- The plan that takes all parts apart, or the parts that no plan takes apart, and how either is written.
-use Rattle.std.specs.Prelude.{◌≡◌, ◌<◌, ◌≤◌, ℕ, List, Option, Some, None, length, false, Ok, Err}
+use Rattle.std.specs.Prelude.{◌≡◌, ◌<◌, ◌≤◌, ℕ, List, Option, Some, None, length, Bool, Ok, Err}
 use Rattle.staat_model.specs.declared.assembly.Part.{Part}
 use Rattle.staat_model.specs.declared.certificate.Certificate.{Certificate}
 use Rattle.staat_model.specs.declared.limits.TheConstants.{TEXT_LIMIT}
@@ -34,8 +34,8 @@ abbrev pub outcome_answer : Finding → List ℕ → Answer
 outcome_answer finding text = record { status = outcome_status finding; text = text }
 
 -- The last step for a plan: the outcome of all parts, written.
-pub record IsPlanned (parts : List Part) (certificate : Option ℕ) (found : Found Answer) : Type 0 where
+pub record IsPlanned (parts : List Part) (robust : Bool) (certificate : Option ℕ) (found : Found Answer) : Type 0 where
   pub finding : Finding
-  pub outcome : IsOutcome false parts (all_parts parts) finding
+  pub outcome : IsOutcome robust parts (all_parts parts) finding
   pub written : Then (IsWritten parts finding certificate) (λ text found. found ≡ Ok (outcome_answer finding text))
       found

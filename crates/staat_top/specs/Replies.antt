@@ -1,5 +1,6 @@
 -- The reply to a request over some files, as the order of work finds it.
-use Rattle.std.specs.Prelude.{◌≡◌, ◌≢◌, ℕ, List, length, [], Option, Some, None, Ok, Err, codes}
+use Rattle.std.specs.Prelude.{◌≡◌, ◌≢◌, ◌⊎◌, false, ℕ, List, length, []}
+use Rattle.std.specs.Prelude.{Option, Some, None, Ok, Err, codes}
 use Rattle.staat_vec.specs.declared.vector.V3.{V3}
 use Rattle.staat_vec.specs.Vectors.{origin}
 use Rattle.staat_model.specs.declared.assembly.Part.{Part}
@@ -7,11 +8,12 @@ use Rattle.staat_model.specs.declared.certificate.Certificate.{Certificate}
 use Rattle.staat_model.specs.declared.set.PartSet.{PartSet}
 use Rattle.staat_model.specs.declared.tree.Kind.{Kind}
 use Rattle.staat_model.specs.declared.verdict.Reason.{Reason}
+use Rattle.staat_model.specs.declared.verdict.Verdict.{Verdict}
 use Rattle.staat_model.specs.declared.verdict.Verdict.TheVariants.{ValidPlan, ValidRefusal, Not}
 use Rattle.staat_model.specs.Cells.{HasOneCell}
 use Rattle.staat_model.specs.Certify.{IsCertificateOf}
 use Rattle.staat_model.specs.Reasons.{IsVerdict}
-use Rattle.staat_model.specs.Outcomes.{Finding, planned, stuck}
+use Rattle.staat_model.specs.Outcomes.{Finding, IsOutcome, planned, stuck}
 use Rattle.staat_model.specs.Plans.{IsGood, IsStuck, Plan as Tree}
 use Rattle.staat_model.specs.Sets.{IsSubset}
 use Rattle.staat_model.specs.Texts.{text_of}
@@ -23,8 +25,9 @@ use Rattle.staat_words.specs.declared.request.Asked.{Asked}
 use Rattle.staat_words.specs.declared.request.CellsRequest.{CellsRequest}
 use Rattle.staat_words.specs.declared.request.CheckRequest.{CheckRequest}
 use Rattle.staat_words.specs.declared.request.PlanRequest.{PlanRequest}
+use Rattle.staat_words.specs.declared.request.Product.{Product}
 use Rattle.staat_words.specs.declared.request.Request.{Request}
-use Rattle.staat_words.specs.declared.request.Request.TheVariants.{Pair, Look, Graph, Plan, Check, Cells}
+use Rattle.staat_words.specs.declared.request.Request.TheVariants.{Pair, Look, Graph, Plan, Check, Cells, Drill}
 use Rattle.staat_fault.specs.declared.fault.Fault.{Fault}
 use Rattle.staat_fault.specs.declared.fault.Fault.TheVariants.{Usage, ReadFault}
 use Rattle.staat_fault.specs.Faults.{status_of, line_of}
@@ -38,11 +41,12 @@ use Rattle.staat_top.specs.declared.answer.Answer.{Answer}
 use Rattle.staat_top.specs.Work.{Files, Found, Then}
 use Rattle.staat_top.specs.Pieces.{IsPieceOf}
 use Rattle.staat_top.specs.Inputs.{IsInputOf}
-use Rattle.staat_top.specs.Assembling.{IsSoundOf}
+use Rattle.staat_top.specs.Assembling.{IsSoundOf, IsTested}
 use Rattle.staat_top.specs.Graphing.{AreCounted, IsGraphed, all_parts}
 use Rattle.staat_top.specs.Planning.{IsPlanned}
 use Rattle.staat_top.specs.CellTables.{AreTabled}
 use Rattle.staat_top.specs.Checking.{IsCertificateIn, IsChecked}
+use Rattle.staat_top.specs.Drills.{IsDrilled, drill_line, parts_of_product}
 
 -- an answer with this status and this text
 abbrev pub answer : ℕ → List ℕ → Answer
@@ -67,13 +71,16 @@ WorkOn (Graph request) files found =
     (λ planes. IsGraphed parts request.along)) found
 WorkOn (Plan request) files found =
     Then (IsSoundOf files request.asked) (λ parts. Then (AreCounted parts request.planes)
-    (λ planes. IsPlanned parts request.certificate)) found
+    (λ planes. IsPlanned parts request.robust request.certificate)) found
 WorkOn (Check request) files found =
     Then (IsSoundOf files request.asked) (λ parts. Then (IsCertificateIn files request.certificate)
     (λ certificate. IsChecked parts certificate)) found
 WorkOn (Cells request) files found =
     Then (IsSoundOf files request.asked) (λ parts. Then (AreCounted parts request.planes)
     (λ planes. AreTabled parts)) found
+WorkOn (Drill product) files found =
+    Then (IsTested (parts_of_product product)) (λ parts. Then (AreCounted parts MOST_PLANES)
+    (λ planes. IsDrilled product parts)) found
 
 -- what the work on words finds, which may make no request
 abbrev pub WorkOnWords : Option Request → Files → Found Answer → Type 0
@@ -171,6 +178,20 @@ pub record SaysNotValid (files : Files) (request : CheckRequest) (text : List �
   pub broken : IsVerdict parts certificate (Not reason)
   pub text_is : text ≡ verdict_text (Not reason)
 
+-- The text is the line for a product whose parts are sound: what is found for them, how long its certificate is, and
+-- the verdict on this, which is that it is valid.
+pub record SaysDrilled (product : Product) (text : List ℕ) : Type 0 where
+  pub assembly : IsAssembly (parts_of_product product)
+  pub sound : IsSound (parts_of_product product)
+  pub finding : Finding
+  pub outcome : IsOutcome false (parts_of_product product) (all_parts (parts_of_product product)) finding
+  pub certificate : Certificate
+  pub certified : IsCertificateOf (parts_of_product product) 2 finding certificate
+  pub verdict : Verdict
+  pub judged : IsVerdict (parts_of_product product) certificate verdict
+  pub valid : (verdict ≡ ValidPlan) ⊎ (verdict ≡ ValidRefusal)
+  pub says : text ≡ drill_line product finding (length (text_of certificate)) verdict
+
 -- What status 0 means, with the text that is printed. For a pair: the first file's piece never meets the second's
 -- along the direction.
 abbrev pub IsRight : Option Request → Files → List ℕ → Type 0
@@ -183,6 +204,7 @@ IsRight (Some (Graph request)) files text = (parts : List Part) × AreSoundParts
 IsRight (Some (Plan request)) files text = SaysGoodPlan files request text
 IsRight (Some (Check request)) files text = SaysValid files request text
 IsRight (Some (Cells request)) files text = SaysCells files request text
+IsRight (Some (Drill product)) files text = SaysDrilled product text
 
 -- What status 1 means, with the text that is printed. For a pair: the wall does not show that the pieces never meet.
 abbrev pub IsDenied : Option Request → Files → List ℕ → Type 0

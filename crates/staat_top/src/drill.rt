@@ -103,6 +103,6 @@ pub fn drill(alloc: Global, name: Product) -> Result<Answer, Fault>
 {
     let assembly = product(alloc, name)?;
     let sound = tested(alloc, assembly)?;
-    let outcome = outcome_of(alloc, &sound, MOST_PLANES)?;
+    let outcome = outcome_of(alloc, &sound, MOST_PLANES, false)?;
     drilled(alloc, name, &sound, &outcome)
 }

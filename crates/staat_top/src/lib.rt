@@ -5,6 +5,7 @@ mod answer;
 mod cells;
 mod certificate;
 mod check;
+mod drill;
 mod graph;
 mod input;
 pub mod laws;

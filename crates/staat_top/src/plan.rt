@@ -1,9 +1,9 @@
 // The command `plan`: how all parts come apart, or which parts do not.
-ghost use Rattle.std.specs.Prelude.{◌≡◌, ◌≤◌, ◌<◌, Some, IfOk, IfErr, IfSome, false};
+ghost use Rattle.std.specs.Prelude.{◌≡◌, ◌≤◌, ◌<◌, Some, IfOk, IfErr, IfSome, true};
 ghost use Rattle.staat_model.specs.Assemblies.{IsAssembly};
 ghost use Rattle.staat_model.specs.Lines.{IsVersion};
 ghost use Rattle.staat_model.specs.Outcomes.{IsOutcome, finding_of};
-ghost use Rattle.staat_planes.specs.declared.table.TheConstants.{LEAST_PLANES, MOST_PLANES};
+ghost use Rattle.staat_planes.specs.declared.table.TheConstants.{LEAST_PLANES, MOST_CELL_PLANES, MOST_PLANES};
 ghost use Rattle.staat_plan.specs.Certifying.{CanBeCertified};
 ghost use Rattle.staat_plan.specs.Planning.{HasFewPlanes};
 ghost use Rattle.staat_text.specs.PlanTexts.{CanBeShown};
@@ -36,22 +36,25 @@ fn know(sound: &Sound)
     let _ = sound.assembly().parts();
 }
 
-// The outcome of an assembly that has at most so many planes.
+/// The outcome of an assembly that has at most so many planes, robust or not.
 #[tactic(auto, using(crate::proofs::PlanLemmas::planning))]
-fn outcome_of(alloc: Global, sound: &Sound, planes: u32) -> Result<Outcome, Fault>
+pub fn outcome_of(
+    alloc: Global,
+    sound: &Sound,
+    planes: u32,
+    robust: bool,
+) -> Result<Outcome, Fault>
     requires least { LEAST_PLANES ≤ planes }
     requires most { planes ≤ MOST_PLANES }
-    ensures outcome { IfOk result (λ o. IsOutcome false sound.now (all_parts sound.now) (finding_of o)) }
+    requires cells { robust ≡ true → planes ≤ MOST_CELL_PLANES }
+    ensures outcome { IfOk result (λ o. IsOutcome robust sound.now (all_parts sound.now) (finding_of o)) }
     ensures few { IfOk result (λ _. HasFewPlanes sound.now (all_parts sound.now) planes) }
     ensures shown { IfOk result (λ o. CanBeShown (finding_of o)) }
     ensures certified { IfOk result (λ o. CanBeCertified sound.now (finding_of o)) }
     ensures refused { IfErr result (λ fault. Follows (AreCounted sound.now planes) (Err fault)) }
     ensures cause { (shelf : ShelfSide) → IfErr result (HasCause shelf) }
 {
-    let options = Options {
-        planes,
-        robust: false,
-    };
+    let options = Options { planes, robust };
     know(sound);
     match staat_plan::plan(alloc, &Plain, sound, options) {
         Ok(outcome) => Ok(outcome),
@@ -125,7 +128,7 @@ pub fn plan<H: Shelf>(alloc: Global, request: &PlanRequest, shelf: &mut H) -> Re
     ensures cause { IfErr result (HasCause (over (H.told shelf.old) (H.told shelf.new))) }
 {
     let sound = read_sound(alloc, shelf, &request.asked)?;
-    let outcome = outcome_of(alloc, &sound, request.planes)?;
+    let outcome = outcome_of(alloc, &sound, request.planes, request.robust)?;
     let text = text_of(alloc, &sound, &outcome, request.certificate)?;
     Ok(answer_of(&outcome, text))
 }

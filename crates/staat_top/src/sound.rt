@@ -15,9 +15,9 @@ use staat_model::{Assembly, Sound};
 use staat_words::Asked;
 use std::alloc::Global;
 
-// The assembly, where no pieces of different parts overlap.
+/// The assembly, where no pieces of different parts overlap.
 #[tactic(auto, using(crate::proofs::SoundLemmas::tested))]
-fn tested(alloc: Global, assembly: Assembly) -> Result<Sound, Fault>
+pub fn tested(alloc: Global, assembly: Assembly) -> Result<Sound, Fault>
     ensures found { Follows (IsTested assembly) result }
     ensures cause { (shelf : ShelfSide) → IfErr result (HasCause shelf) }
 {

@@ -10,6 +10,7 @@ ghost use Rattle.staat_top.specs.Runs.{HasRequestBounds, HasRequestCause, IsExpl
 use crate::answer::Answer;
 use crate::cells::cells;
 use crate::check::check;
+use crate::drill::drill;
 use crate::graph::graph;
 use crate::look::look;
 use crate::pair::pair;
@@ -37,6 +38,7 @@ fn work<H: Shelf>(alloc: Global, request: &Request, shelf: &mut H) -> Result<Ans
         Request::Plan(request) => plan(alloc, request, shelf),
         Request::Check(request) => check(alloc, request, shelf),
         Request::Cells(request) => cells(alloc, request, shelf),
+        Request::Drill(product) => drill(alloc, *product),
     }
 }
 
