@@ -1,10 +1,8 @@
 -- The points and edges of planes, and their open cells one after another.
-use Rattle.std.specs.Prelude.{◌≡◌, List, All, MatchOption, length, map, true, false}
-use Rattle.std.specs.Prelude.{ℕ}
+use Rattle.std.specs.Prelude.{◌≡◌, ℕ, List, [], ◌∷◌, All, MatchOption, Option, if◌then◌else◌, length, map, true, false}
 use Rattle.staat_vec.specs.declared.vector.V3.{V3}
 use Rattle.staat_vec.specs.declared.vector.TheConstants.{EDGE}
 use Rattle.staat_vec.specs.Vectors.{IsWithin}
-use Rattle.std.specs.Prelude.{Option}
 use Rattle.staat_model.specs.declared.tree.Kind.{Kind}
 use Rattle.staat_model.specs.declared.tree.Kind.TheVariants.{Edge, Open, Point}
 use Rattle.staat_model.specs.Cells.{AreCellsOf, CellEntry}
@@ -23,6 +21,10 @@ pub record IsComposedAt (kind : Kind) (lower : List CellEntry) (incidences : Lis
 abbrev pub IsFoundAt : Kind → List CellEntry → List Incidence → ℕ → Option Cell → Type 0
 IsFoundAt kind lower incidences i found =
     MatchOption found (begins_cell incidences i ≡ false) (IsComposedAt kind lower incidences i)
+
+-- the open cell that begins at the place, as a list of one or of none
+abbrev pub opens_at : Skeleton → ℕ → List CellEntry
+opens_at s i = if begins_cell s.incidences.items i then composed_at Open (map entry_of s.edges.items) s.incidences.items i ∷ [] else []
 
 -- the open cells that begin at the first places
 abbrev pub opens_before : Skeleton → ℕ → List CellEntry

@@ -30,7 +30,7 @@ pub record AreListed (parts : List Part) (w : PartSet) (keys : List (List ℕ)) 
     (dirs : List Dir) : Type 0 where
   pub keys_are : keys ≡ map key_of witnesses
   pub distinct : (k m : ℕ) (key : List ℕ) → slice_get keys k ≡ Some key → slice_get keys m ≡ Some key
-    → k ≡ m
+      → k ≡ m
   pub each : All (NamesWitness parts w witnesses) dirs
   pub by_first_use : NumbersByFirstUse (length witnesses) (map (λ dir. dir.witness) dirs)
   pub few : length witnesses ≤ length dirs
@@ -43,4 +43,4 @@ pub record IsWitnessNumber (keys : List (List ℕ)) (old new : List Witness) (wi
   pub at : slice_get new i ≡ Some witness
   pub keys_are : keys ≡ map key_of new
   pub distinct : (k m : ℕ) (key : List ℕ) → slice_get keys k ≡ Some key → slice_get keys m ≡ Some key
-    → k ≡ m
+      → k ≡ m
