@@ -1,11 +1,12 @@
 -- Steps of the loops that join lists of signs and cells.
-use Rattle.std.proofs.Common.{◌≡◌, ℕ, zero, suc, ◌+◌, ◌<◌, ap, sym, ◌∙◌, refl, arith, add-one, List, [], ◌∷◌, ◌++◌, length, get_or, map, true, false, if◌then◌else◌}
+use Rattle.std.proofs.Common.{◌≡◌, ℕ, zero, suc, ◌+◌, ◌<◌, ap, sym, ◌∙◌, refl, arith, add-one, List, [], ◌∷◌, ◌++◌, length, get_or, map, false, if◌then◌else◌}
 use Rattle.std.proofs.lemmas.List.{get_or-map, map-append}
 use Rattle.staat_model.specs.declared.tree.Kind.{Kind}
 use Rattle.staat_model.specs.Cells.{CellEntry}
 use Rattle.staat_cells.specs.declared.cell.Cell.{Cell}
 use Rattle.staat_cells.specs.declared.incidence.Incidence.{Incidence}
 use Rattle.staat_cells.specs.Compositions.{begins_cell, entry_of, composed_at, composed_cell, composed_up_to, no_cell, no_incidence}
+use Rattle.staat_cells.specs.Skeletons.{IsComposedAt}
 
 -- ---- cells of the first incidences
 
@@ -18,23 +19,32 @@ pub composed_none : (kind : Kind) (lower : List CellEntry) (incidences : List In
 unfolding composed_up_to
 composed_none kind lower incidences = refl
 
-entry_at : (lower : List Cell) (k : ℕ) (a : Cell) → k < length lower → a ≡ get_or lower k a → entry_of a ≡ get_or (map entry_of lower) k no_cell
+pub composed_with : (kind : Kind) (lower : List CellEntry) (incidences : List Incidence) (i : ℕ) (old new : List Cell) (cell : Cell)
+    → map entry_of old ≡ composed_up_to kind lower incidences i → new ≡ old ++ cell ∷ [] → IsComposedAt kind lower incidences i cell
+    → map entry_of new ≡ composed_up_to kind lower incidences (i + 1)
+unfolding composed_up_to
+composed_with kind lower incidences i old new cell before is at =
+    ap (map entry_of) is ∙ map-append entry_of old (cell ∷ []) ∙ (λ j. before j ++ at.is j ∷ [])
+    ∙ ap (λ b. composed_up_to kind lower incidences i ++ (if b then composed_at kind lower incidences i ∷ [] else [])) (sym at.begins)
+    ∙ ap (composed_up_to kind lower incidences) (sym (add-one i))
+
+entry_at : (lower : List Cell) (k : ℕ) (a : Cell) → k < length lower → a ≡ get_or lower k a
+    → entry_of a ≡ get_or (map entry_of lower) k no_cell
 entry_at lower k a lt e = ap entry_of e ∙ sym (get_or-map entry_of lower k a no_cell lt)
 
-pub composed_more : (kind : Kind) (lower : List Cell) (incidences : List Incidence) (i : ℕ) (old new : List Cell) (cell a b : Cell) (x y : Incidence) → i < length incidences → i + 1 < length incidences → begins_cell incidences i ≡ true
-    → map entry_of old ≡ composed_up_to kind (map entry_of lower) incidences i → new ≡ old ++ cell ∷ [] → entry_of cell ≡ composed_cell kind (entry_of a) (entry_of b)
-    → a ≡ get_or lower (get_or incidences i x).of a → b ≡ get_or lower (get_or incidences (i + 1) y).of b → (get_or incidences i x).of < length lower → (get_or incidences (i + 1) y).of < length lower
-    → map entry_of new ≡ composed_up_to kind (map entry_of lower) incidences (i + 1)
-unfolding composed_up_to
-composed_more kind lower incidences i old new cell a b x y li ln first before is entry a_is b_is la lb =
+pub is_composed_at : (kind : Kind) (lower : List Cell) (incidences : List Incidence) (i : ℕ) (cell a b : Cell) (x y : Incidence)
+    → i < length incidences → i + 1 < length incidences → entry_of cell ≡ composed_cell kind (entry_of a) (entry_of b)
+    → a ≡ get_or lower (get_or incidences i x).of a → b ≡ get_or lower (get_or incidences (i + 1) y).of b
+    → (get_or incidences i x).of < length lower → (get_or incidences (i + 1) y).of < length lower
+    → entry_of cell ≡ composed_at kind (map entry_of lower) incidences i
+is_composed_at kind lower incidences i cell a b x y li ln entry a_is b_is la lb =
     let at_i : get_or incidences i x ≡ get_or incidences i no_incidence = same_index incidences i x no_incidence li in
-    let at_n : get_or incidences (i + 1) y ≡ get_or incidences (i + 1) no_incidence = same_index incidences (i + 1) y no_incidence ln in
+    let at_n : get_or incidences (i + 1) y ≡ get_or incidences (i + 1) no_incidence =
+    same_index incidences (i + 1) y no_incidence ln in
     let left = entry_at lower (get_or incidences i x).of a la a_is ∙ ap (λ s. get_or (map entry_of lower) s.of no_cell) at_i in
-    let right = entry_at lower (get_or incidences (i + 1) y).of b lb b_is ∙ ap (λ s. get_or (map entry_of lower) s.of no_cell) at_n in
-    let here : entry_of cell ≡ composed_at kind (map entry_of lower) incidences i = entry ∙ (λ j. composed_cell kind (left j) (right j)) in
-    ap (map entry_of) is ∙ map-append entry_of old (cell ∷ []) ∙ (λ j. before j ++ here j ∷ [])
-    ∙ ap (λ b. composed_up_to kind (map entry_of lower) incidences i ++ (if b then composed_at kind (map entry_of lower) incidences i ∷ [] else [])) (sym first)
-    ∙ ap (composed_up_to kind (map entry_of lower) incidences) (sym (add-one i))
+    let right = entry_at lower (get_or incidences (i + 1) y).of b lb b_is
+    ∙ ap (λ s. get_or (map entry_of lower) s.of no_cell) at_n in
+    entry ∙ (λ j. composed_cell kind (left j) (right j))
 
 append_nothing : {X : Type 0} (xs : List X) → xs ++ [] ≡ xs
 append_nothing [] = refl

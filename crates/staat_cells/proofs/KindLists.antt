@@ -12,7 +12,9 @@ use Rattle.staat_pairs.specs.Tables.{AreTablePlanes}
 use Rattle.staat_cells.specs.declared.cell.Cell.{Cell}
 use Rattle.staat_cells.specs.declared.incidence.Incidence.{Incidence}
 use Rattle.staat_cells.specs.Compositions.{entry_of, composed_up_to, HavePairs}
+use Rattle.staat_cells.specs.declared.skeleton.Skeleton.{Skeleton}
 use Rattle.staat_cells.specs.Packing.{incidence_cmp}
+use Rattle.staat_cells.specs.Skeletons.{IsSkeleton}
 use Rattle.staat_cells.specs.Stages.{cell_at, point_entry, IsFilledIncidence, IsOwnIncidence, IsIncidence}
 use Rattle.staat_cells.proofs.EdgeCells.{edge_entry, edge_some, edge_two}
 use Rattle.staat_cells.proofs.Grouping.{composed_are_cells, pairs}
@@ -21,7 +23,7 @@ use Rattle.staat_cells.proofs.Numbered.{listed_was}
 use Rattle.staat_cells.proofs.OpenCells.{open_entry, open_some, open_two}
 use Rattle.staat_cells.proofs.PointCells.{points_are}
 use Rattle.staat_cells.proofs.TableRules.{holds_axes, planes_apart, planes_some}
-use Rattle.staat_cells.proofs.WholeLists.{lists_same, open_incidences_are}
+use Rattle.staat_cells.proofs.WholeLists.{edges_small, equal_lengths, lists_same, open_incidences_are}
 
 counted : (kind : Kind) (cells : List Cell) (incidences : List Incidence) → HavePairs incidences (length (map entry_of cells)) → HavePairs incidences (length cells)
 counted kind cells incidences have = subst (HavePairs incidences) (length-map cells entry_of) have
@@ -63,20 +65,36 @@ module _ (planes : List V3) (are : AreTablePlanes planes) (few : length planes �
 
   -- ---- open cells
 
-  module _ (edges : List Cell) (edges_are : AreCellsOf planes Edge (map entry_of edges)) (found sorted incidences : List Incidence) (e : incidences ≡ sorted) (same : (x : Incidence) → Contains found x ↔ IsFilledIncidence (map entry_of edges) x) (lists : Lists incidence_cmp (Contains found) sorted) where
+  module _ (edges : List Cell) (edges_are : AreCellsOf planes Edge (map entry_of edges)) (incidences : List Incidence)
+      (lists : Lists incidence_cmp (IsFilledIncidence (map entry_of edges)) incidences) where
     open_lists : Lists incidence_cmp (IsIncidence planes Open (map entry_of edges)) incidences
-    open_lists =
-        subst (Lists incidence_cmp (IsIncidence planes Open (map entry_of edges))) (sym e)
-        (lists_same (IsIncidence planes Open (map entry_of edges)) found sorted
-        (λ x. let a = same x in let b = open_incidences_are planes are (map entry_of edges) edges_are x in (λ c. b.0 (a.0 c), λ s. a.1 (b.1 s))) lists)
+    open_lists = record {
+      ascending = lists.ascending;
+      each = λ x c. (open_incidences_are planes are (map entry_of edges) edges_are x).0 (lists.each x c);
+      all = λ x s. lists.all x ((open_incidences_are planes are (map entry_of edges) edges_are x).1 s);
+    }
 
-    pub open_pairs : HavePairs incidences (length edges)
-    open_pairs = counted Open edges incidences (pairs planes Open (map entry_of edges) incidences few open_lists (open_two planes (holds_axes planes are) (planes_apart planes are) (planes_some planes are) (map entry_of edges) edges_are))
+    open_pairs : HavePairs incidences (length edges)
+    open_pairs = counted Open edges incidences (pairs planes Open (map entry_of edges) incidences few open_lists
+        (open_two planes (holds_axes planes are) (planes_apart planes are) (planes_some planes are) (map entry_of edges) edges_are))
 
-    pub opens_listed : (cells : List Cell) → map entry_of cells ≡ composed_up_to Open (map entry_of edges) incidences (length incidences) → AreCellsOf planes Open (map entry_of cells)
-    opens_listed cells made =
-        subst (AreCellsOf planes Open) (sym made)
-        (composed_are_cells planes Open (map entry_of edges) incidences few open_lists
+    opens_listed : AreCellsOf planes Open (composed_up_to Open (map entry_of edges) incidences (length incidences))
+    opens_listed =
+        composed_are_cells planes Open (map entry_of edges) incidences few open_lists
         (open_two planes (holds_axes planes are) (planes_apart planes are) (planes_some planes are) (map entry_of edges) edges_are)
         (open_entry planes (holds_axes planes are) (planes_apart planes are) (planes_some planes are) (map entry_of edges) edges_are)
-        (open_some planes (holds_axes planes are) (planes_apart planes are) (planes_some planes are) (map entry_of edges) edges_are))
+        (open_some planes (holds_axes planes are) (planes_apart planes are) (planes_some planes are) (map entry_of edges) edges_are)
+
+  pub skeleton_is : (s : Skeleton) → AreCellsOf planes Point (map entry_of s.points.items)
+      → AreCellsOf planes Edge (map entry_of s.edges.items)
+      → Lists incidence_cmp (IsFilledIncidence (map entry_of s.edges.items)) s.incidences.items → IsSkeleton planes s
+  skeleton_is s points edges lists = record {
+    has = record {
+      pairs = open_pairs s.edges.items edges s.incidences.items lists;
+      size = edges_small planes are s.edges.items edges;
+      signs = equal_lengths planes are Edge s.edges.items edges;
+    };
+    points = points;
+    edges = edges;
+    opens = opens_listed s.edges.items edges s.incidences.items lists;
+  }

@@ -4,6 +4,7 @@ pub mod Changing
 pub mod KindLists
 pub mod WholeLists
 pub mod OneCell
+pub mod SomeCells
 pub mod PointCells
 pub mod Numbered
 pub mod TableRules

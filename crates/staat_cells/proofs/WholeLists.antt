@@ -111,7 +111,7 @@ module _ (planes : List V3) (are : AreTablePlanes planes) where
   pub edges_small : (cells : List Cell) → AreCellsOf planes Edge (map entry_of cells) → All (λ c. IsWithin EDGE c.d) cells
   edges_small cells edges k d lt = let c = get_or cells k d in let e = entry_in Edge cells edges k d lt in edge_small c.signs c.d e.representative
 
-  cell_small : (kind : Kind) (c : CellEntry) → IsEntry planes kind c → IsWithin DIRECTION c.d
+  pub cell_small : (kind : Kind) (c : CellEntry) → IsEntry planes kind c → IsWithin DIRECTION c.d
   cell_small Point c e = IsWithin-wider VERTEX DIRECTION c.d (lit≤ tt) (small c.d (IsFirst-in (λ v. signs_of planes v ≡ c.signs) (vertices planes) c.d e.representative).0)
   cell_small Edge c e = IsWithin-wider EDGE DIRECTION c.d (lit≤ tt) (edge_small c.signs c.d e.representative)
   cell_small Open c e = go e.representative

@@ -4,3 +4,4 @@ pub mod Compositions
 pub mod Stages
 pub mod Changes
 pub mod CellGraphs
+pub mod Skeletons

@@ -3,6 +3,7 @@ ghost use Rattle.std.specs.Prelude.{◌≡◌, ◌<◌, ◌+◌, All, IfOk, leng
 ghost use Rattle.staat_vec.specs.Vectors.{IsWithin};
 ghost use Rattle.staat_cells.specs.Compositions.{HaveEqualLengths, HavePairs, begins_cell, entry_of};
 ghost use Rattle.staat_cells.specs.Compositions.{composed, composed_cell, composed_up_to, same_words};
+ghost use Rattle.staat_cells.specs.Skeletons.{IsFoundAt};
 ghost use Rattle.staat_cells.specs.Beside.{then_sign};
 
 use crate::cell::{Cell, Signs};
@@ -63,7 +64,30 @@ fn begins_cell(incidences: &[Incidence], i: usize) -> bool
     i == 0 || !same_words(incidences[i - 1], incidences[i])
 }
 
-/// For each cell of the incidences the cell between the first two cells whose incidence it is.
+/// The cell that begins at the place `i` of the incidences, if one does: it is between the first two cells whose
+/// incidence it is.
+pub(crate) fn composed_at(
+    alloc: Global,
+    kind: Kind,
+    lower: &[Cell],
+    incidences: &[Incidence],
+    i: usize,
+) -> Result<Option<Cell>, OutOfMemory>
+    requires place { i < length incidences.now }
+    requires pairs { HavePairs incidences.now (length lower.now) }
+    requires size { All (λ c. IsWithin EDGE c.d) lower.now }
+    requires signs { HaveEqualLengths lower.now }
+    ensures { IfOk result (IsFoundAt kind (map entry_of lower.now) incidences.now i) }
+{
+    if !begins_cell(incidences, i) {
+        return Ok(None);
+    }
+    let first = &lower[incidences[i].of];
+    let second = &lower[incidences[i + 1].of];
+    Ok(Some(composed_cell(alloc, kind, first, second)?))
+}
+
+/// The cells of the incidences.
 pub(crate) fn composed_cells(
     alloc: Global,
     kind: Kind,
@@ -78,10 +102,8 @@ pub(crate) fn composed_cells(
 {
     let mut cells = Vec::new(alloc);
     for i in 0..incidences.len() {
-        if begins_cell(incidences, i) {
-            let first = &lower[incidences[i].of];
-            let second = &lower[incidences[i + 1].of];
-            cells.push(composed_cell(alloc, kind, first, second)?)?;
+        if let Some(cell) = composed_at(alloc, kind, lower, incidences, i)? {
+            cells.push(cell)?;
         }
     }
     Ok(cells)

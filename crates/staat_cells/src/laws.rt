@@ -1,11 +1,20 @@
 //! Laws on lists of cells. Each is a function that does nothing, and its contract is the law.
-ghost use Rattle.std.specs.Prelude.{◌≢◌, List};
+ghost use Rattle.std.specs.Prelude.{◌≢◌, ◌≤◌, List, length};
 ghost use Rattle.staat_vec.specs.declared.vector.V3.{V3 as Vector};
 ghost use Rattle.staat_vec.specs.Vectors.{origin};
 ghost use Rattle.staat_model.specs.Cells.{AreCells, CellEntry, HasOneCell};
+ghost use Rattle.staat_pairs.specs.Tables.{AreTablePlanes};
+
+use staat_planes::MOST_CELL_PLANES;
 
 /// Each direction other than zero, of any size, lies in exactly one of all cells of some planes.
 pub fn one_cell()
     ensures { (planes : List Vector) (cells : List CellEntry) (d : Vector) → AreCells planes cells → d ≢ origin
         → HasOneCell planes cells d }
+{}
+
+/// The planes of a table, at most [`MOST_CELL_PLANES`] of them, have a list of all cells.
+pub fn some_cells()
+    ensures { (planes : List Vector) → AreTablePlanes planes → length planes ≤ MOST_CELL_PLANES
+        → (cells : List CellEntry) × AreCells planes cells }
 {}

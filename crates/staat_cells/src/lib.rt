@@ -13,11 +13,13 @@ mod open_incidences;
 mod piece_arcs;
 mod points;
 mod signs;
+mod skeleton;
 mod vertices;
 
 pub use all::all_cells;
 pub use cell::{Cell, Cells, Signs};
 pub use graphs::CellGraphs;
+pub use skeleton::Skeleton;
 
 #[cfg(test)]
 mod tests;

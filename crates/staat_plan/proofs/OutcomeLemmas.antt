@@ -9,7 +9,7 @@ use Rattle.staat_model.specs.declared.set.PartSet.{PartSet}
 use Rattle.staat_model.specs.declared.tree.Kind.{Kind}
 use Rattle.std.specs.Prelude.{Bool}
 use Rattle.std.specs.Option.{option_to_list}
-use Rattle.staat_plan.specs.declared.planner.Marked.{Marked}
+use Rattle.staat_plan.specs.declared.marked.Marked.{Marked}
 use Rattle.staat_model.specs.declared.tree.Tree.{Tree}
 use Rattle.staat_model.specs.declared.tree.Outcome.{Outcome}
 use Rattle.staat_model.specs.declared.tree.Outcome.TheVariants as outcome

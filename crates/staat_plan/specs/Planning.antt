@@ -6,7 +6,7 @@ use Rattle.staat_vec.specs.declared.vector.TheConstants.{DIRECTION}
 use Rattle.staat_vec.specs.Vectors.{IsWithin}
 use Rattle.staat_model.specs.declared.assembly.Part.{Part}
 use Rattle.staat_model.specs.declared.set.PartSet.{PartSet}
-use Rattle.staat_plan.specs.declared.planner.Marked.{Marked}
+use Rattle.staat_plan.specs.declared.marked.Marked.{Marked}
 use Rattle.staat_model.specs.declared.tree.Outcome.{Outcome}
 use Rattle.staat_model.specs.Outcomes.{Finding, HasNoStep, IsOutcome, IsStep, Try, finding_of, planned, stuck}
 use Rattle.staat_model.specs.Planes.{ArePlanes}

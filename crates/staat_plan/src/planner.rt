@@ -1,37 +1,64 @@
 // The outcome of an assembly.
 ghost use Rattle.std.specs.Prelude.{◌≡◌, ℕ, ◌<◌, ◌≤◌, ◌++◌, []};
-ghost use Rattle.std.specs.Prelude.{IfOk, MatchResult, false, length};
+ghost use Rattle.std.specs.Prelude.{IfOk, MatchResult, false, length, true};
 ghost use Rattle.std.specs.FinSet as set;
 ghost use Rattle.std.specs.Option.{option_to_list};
 ghost use Rattle.staat_model.specs.Outcomes.{IsOutcome, finding_of, planned};
 ghost use Rattle.staat_model.specs.Plans.{leaf, plan_of, split};
 ghost use Rattle.staat_model.specs.Sets.{Has, IsNonempty, below};
 ghost use Rattle.staat_planes.specs.Refusals.{IsPlanesRefusal};
+ghost use Rattle.staat_plan.specs.CellSteps.{IsTableStep};
 ghost use Rattle.staat_plan.specs.Certifying.{CanBeCertified};
 ghost use Rattle.staat_plan.specs.Planning.{HasFewPlanes, IsOutcomeOf, Settles, IsSized, IsStepOf};
 
+use crate::cell_steps::cell_step;
+use crate::marked::Marked;
 use crate::step::part_step;
 use staat_cone::FacetSource;
-use staat_model::{Kind, Marks, Outcome, PartSet, Sound, Step, Tree};
-use staat_planes::{LEAST_PLANES, MOST_PLANES, PlanesRefusal, tabulate};
+use staat_model::{Kind, Marks, Outcome, PartSet, Sound, Tree};
+use staat_planes::{
+    LEAST_PLANES, MOST_CELL_PLANES, MOST_PLANES, PlaneTable, PlanesRefusal, tabulate,
+};
 use staat_vec::{OutOfMemory, V3};
 use std::alloc::Global;
 
 /// Why there is no outcome.
 pub type PlanRefusal = PlanesRefusal;
 
-/// How an assembly is planned: with at most this many planes, and whether steps lead into open cells where they can.
+/// How an assembly is planned: with at most this many planes, and whether its plan is robust, so that steps lead into
+/// open cells where they can.
 #[derive(Clone, Copy, Debug, PartialEq, Eq)]
 pub struct Options {
     pub planes: u32,
     pub robust: bool,
 }
 
-/// A step, with the kind of its cell where the plan is robust.
-#[derive(Clone, Copy)]
-pub struct Marked {
-    pub step: Step,
-    pub mark: Option<Kind>,
+// the step of a table's set in a plan that is not robust
+fn vertex_step(table: &PlaneTable) -> Option<Marked>
+    requires two { 2 ≤ set.len table.now.of }
+    ensures { IsTableStep false table.now result }
+{
+    match part_step(table, table.set()) {
+        None => None,
+        Some(step) => Some(Marked { step, mark: None }),
+    }
+}
+
+// the step of a table's set
+fn table_step(
+    alloc: Global,
+    table: &PlaneTable,
+    robust: bool,
+) -> Result<Option<Marked>, OutOfMemory>
+    requires two { 2 ≤ set.len table.now.of }
+    requires cells { robust ≡ true → length table.now.planes ≤ MOST_CELL_PLANES }
+    ensures { IfOk result (IsTableStep robust table.now) }
+{
+    if robust {
+        cell_step(alloc, table)
+    } else {
+        Ok(vertex_step(table))
+    }
 }
 
 // the step of a set of two parts or more, if it has one
@@ -46,15 +73,12 @@ fn step_of<F: FacetSource>(
     requires parts { (p : ℕ) → Has w p → p < length sound.now }
     requires least { LEAST_PLANES ≤ options.planes }
     requires most { options.planes ≤ MOST_PLANES }
-    requires robust { options.robust ≡ false }
+    requires cells { options.robust ≡ true → options.planes ≤ MOST_CELL_PLANES }
     ensures { MatchResult result (IsStepOf options.robust sound.now w options.planes)
         (IsPlanesRefusal sound.now w options.planes) }
 {
     let table = tabulate(alloc, source, sound, w, options.planes)?;
-    match part_step(&table, w) {
-        None => Ok(None),
-        Some(step) => Ok(Some(Marked { step, mark: None })),
-    }
+    Ok(table_step(alloc, &table, options.robust)?)
 }
 
 // the plan of a part by itself
@@ -126,7 +150,7 @@ fn outcome_of<F: FacetSource>(
     requires parts { (p : ℕ) → Has w p → p < length sound.now }
     requires least { LEAST_PLANES ≤ options.planes }
     requires most { options.planes ≤ MOST_PLANES }
-    requires robust { options.robust ≡ false }
+    requires cells { options.robust ≡ true → options.planes ≤ MOST_CELL_PLANES }
     ensures { MatchResult result (IsOutcomeOf options.robust sound.now w options.planes)
         (IsPlanesRefusal sound.now w options.planes) }
 {
@@ -153,10 +177,14 @@ fn outcome_of<F: FacetSource>(
 
 /// The outcome of an assembly: a plan for all its parts, or a set of parts that no step takes apart.
 ///
-/// For a set of parts the step is that of [`part_step`](crate::part_step); the moved side is planned first, then the
-/// rest, and the first set that is stuck is the outcome. There are at most `planes` planes, from 3 to [`MOST_PLANES`];
+/// For a set of parts the step is that of [`part_step`](crate::part_step). In a robust plan it is instead the step along
+/// the representative of the first cell that serves, of the open cells, then the edges, then the points, and its mark
+/// is the kind of the cell. The moved side is planned first, then the rest, and the first set that is stuck is the
+/// outcome. The marks of a plan stand in preorder; a plan that is not robust has none.
+///
+/// There are at most `planes` planes, from 3 to [`MOST_PLANES`], and to [`MOST_CELL_PLANES`] in a robust plan;
 /// [`TooManyPlanes`](PlanesRefusal::TooManyPlanes) comes exactly where all parts together have more, with their
-/// number. Plans are not robust as yet.
+/// number.
 pub fn plan<F: FacetSource>(
     alloc: Global,
     source: &F,
@@ -165,7 +193,7 @@ pub fn plan<F: FacetSource>(
 ) -> Result<Outcome, PlanRefusal>
     requires least { LEAST_PLANES ≤ options.planes }
     requires most { options.planes ≤ MOST_PLANES }
-    requires robust { options.robust ≡ false }
+    requires cells { options.robust ≡ true → options.planes ≤ MOST_CELL_PLANES }
     ensures outcome { IfOk result (λ o.
         IsOutcome options.robust sound.now (below (length sound.now)) (finding_of o)) }
     ensures right { IfOk result (λ o. Settles sound.now (below (length sound.now)) (finding_of o)) }

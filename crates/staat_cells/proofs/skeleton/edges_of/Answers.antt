@@ -5,7 +5,7 @@ use Rattle.staat_model.specs.Cells.{AreCellsOf}
 use Rattle.staat_cells.specs.Compositions.{entry_of, composed_up_to}
 use Rattle.staat_cells.proofs.KindLists.{edge_pairs, edges_listed}
 use Rattle.staat_cells.proofs.WholeLists.{equal_lengths, points_small, vertex_points}
-use Rattle.staat_cells.proofs.all.edges_of.Goals as goal
+use Rattle.staat_cells.proofs.skeleton.edges_of.Goals as goal
 
 pub edge_incidences-requires-clause-points : goal.edge_incidences-requires-clause-points
 edge_incidences-requires-clause-points c = vertex_points c.args.planes.now c.requires.planes c.args.points.now c.requires.points

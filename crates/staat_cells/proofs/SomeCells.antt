@@ -1,0 +1,213 @@
+-- There are lists of all cells.
+use Rattle.std.proofs.Common.{◌≡◌, ◌≢◌, ◌⊎◌, inl, inr, ℕ, ◌<◌, ◌≤◌, ℤ, pos, refl, sym, ap, subst, ◌∙◌, arith}
+use Rattle.std.proofs.Common.{List, [], ◌∷◌, ◌++◌, length, map, Contains}
+use Rattle.std.proofs.lemmas.Int.{ints}
+use Rattle.staat_vec.specs.declared.vector.V3.{V3}
+use Rattle.staat_vec.specs.declared.vector.Sign.{Sign}
+use Rattle.staat_vec.specs.declared.vector.Sign.TheVariants.{Neg, Pos}
+use Rattle.staat_vec.specs.Lists.{Lists}
+use Rattle.staat_vec.specs.Vectors.{cross, dot, negative, origin, vector, vector_cmp}
+use Rattle.staat_vec.proofs.Unique.{Contains-cases, Contains-front, Contains-later, Contains-nothing}
+use Rattle.staat_vec.proofs.VectorOrder.{vector_exact, vector_total}
+use Rattle.staat_model.specs.declared.tree.Kind.TheVariants.{Edge, Open, Point}
+use Rattle.staat_model.specs.Cells.{AreCells, AreCellsOf, CellEntry, IsBorder}
+use Rattle.staat_model.specs.Planes.{vertices}
+use Rattle.staat_model.proofs.Corners.{HoldsAxes}
+use Rattle.staat_model.proofs.Decisions.{Decided, le_or, lt_or}
+use Rattle.staat_model.proofs.Listings.{Listing, listing_and, listing_as, listing_below, listing_image, listing_members, listing_none, listing_over, listing_sorted}
+use Rattle.staat_model.proofs.PlaneLemmas.{NoneParallel}
+use Rattle.staat_pairs.specs.Tables.{AreTablePlanes}
+use Rattle.staat_cells.specs.declared.incidence.Incidence.{Incidence}
+use Rattle.staat_cells.specs.Beside.{beside, filled}
+use Rattle.staat_cells.specs.Compositions.{composed_up_to}
+use Rattle.staat_cells.specs.Packing.{incidence_cmp, incidence_of}
+use Rattle.staat_cells.specs.Stages.{IsAxisOff, IsBesideIncidence, IsBesideOn, IsEdgeIncidence, IsFilledIncidence, IsIncidence, IsOwnIncidence, cell_at, point_entry}
+use Rattle.staat_cells.proofs.EdgeCells.{edge_entry, edge_some, edge_two, point_in}
+use Rattle.staat_cells.proofs.Grouping.{composed_are_cells}
+use Rattle.staat_cells.proofs.IncidenceOrder.{incidence_exact, incidence_total}
+use Rattle.staat_cells.proofs.OpenCells.{open_entry, open_some, open_two}
+use Rattle.staat_cells.proofs.PointCells.{points_are}
+use Rattle.staat_cells.proofs.TableRules.{edge_incidences_are, holds_axes, planes_apart, planes_some, vertex_off}
+use Rattle.staat_cells.proofs.WholeLists.{open_incidences_are}
+
+zero_or : (a : ℤ) → Decided (a ≡ pos 0)
+zero_or a = elim (le_or (pos 0) a) [
+  | inl up ↦ (elim (le_or a (pos 0)) [ inl down ↦ inl (omega (arith, ints, up, down)) | inr n ↦ inr (λ e. n (omega (arith, ints, e))) ])
+  | inr n ↦ inr (λ e. n (omega (arith, ints, e)))
+]
+
+listing_pair : {X : Type 0} (a b : X) → Listing (λ x. (x ≡ a) ⊎ (x ≡ b))
+listing_pair a b = record {
+  xs = a ∷ b ∷ [];
+  from = λ x c. elim (Contains-cases a (b ∷ []) x c) [
+    | inl e ↦ inl e
+    | inr later ↦ (elim (Contains-cases b [] x later) [ inl e ↦ inr e | inr none ↦ absurd (Contains-nothing x none) ])
+  ];
+  all = λ x h. elim h [
+    | inl e ↦ subst (Contains (a ∷ b ∷ [])) (sym e) (Contains-front a (b ∷ []))
+    | inr e ↦ subst (Contains (a ∷ b ∷ [])) (sym e) (Contains-later a (b ∷ []) b (Contains-front b []))
+  ];
+}
+
+axis_off : (v : V3) → v ≢ origin → (m : V3) × IsAxisOff v m
+axis_off v some = elim (zero_or v.x) [
+  | inr n ↦ (vector (pos 1) (pos 0) (pos 0), record { axis = (0, omega arith, refl); off = λ e. n (omega (arith, ints, e)) })
+  | inl x ↦ (elim (zero_or v.y) [
+    | inr n ↦ (vector (pos 0) (pos 1) (pos 0), record { axis = (1, omega arith, refl); off = λ e. n (omega (arith, ints, e)) })
+    | inl y ↦ (
+      vector (pos 0) (pos 0) (pos 1),
+      record {
+        axis = (2, omega arith, refl);
+        off = λ e. let z : v.z ≡ pos 0 = omega (arith, ints, e) in some (λ i. vector (x i) (y i) (z i));
+      },
+    )
+  ])
+]
+
+module _ (planes : List V3) (are : AreTablePlanes planes) (few : length planes ≤ 256) where
+  rules : HoldsAxes planes
+  rules = holds_axes planes are
+
+  apart : NoneParallel planes
+  apart = planes_apart planes are
+
+  some : (g : V3) → Contains planes g → g ≢ origin
+  some = planes_some planes are
+
+  -- ---- points
+
+  corners : (vs : List V3) × Lists vector_cmp (Contains (vertices planes)) vs
+  corners = listing_sorted vector_cmp vector_total vector_exact (listing_members (vertices planes))
+
+  own_listing : (cells : List CellEntry) → Listing (IsOwnIncidence cells)
+  own_listing cells = listing_as from (λ x o. (x.of, o.listed, o.is)) (listing_image at (listing_below (length cells)))
+    where
+      at : ℕ → Incidence
+      at k = incidence_of (cell_at cells k).signs k
+
+      from : (x : Incidence) → (k : ℕ) × (k < length cells) × (x ≡ at k) → IsOwnIncidence cells x
+      from x (k, lt, e) =
+          let of : x.of ≡ k = ap (λ s. s.of) e in
+          record { listed = subst (λ n. n < length cells) (sym of) lt; is = e ∙ ap at (sym of) }
+
+  some_points : (cells : List CellEntry) × AreCellsOf planes Point cells
+  some_points =
+      let (vs, listed) = corners in
+      let (incidences, sorted) = listing_sorted incidence_cmp incidence_total incidence_exact (own_listing (map (point_entry planes) vs)) in
+      (map (λ x. cell_at (map (point_entry planes) vs) x.of) incidences, points_are planes rules apart few vs listed incidences sorted)
+
+  -- ---- edges
+
+  beside_listing : (v m : V3) (k : ℕ) → Listing (IsBesideIncidence planes planes v m k)
+  beside_listing v m k =
+      listing_as (λ x (s, b, e). record { signs = s; beside = b; is = e }) (λ x b. (b.signs, b.beside, b.is))
+      (listing_image (λ s. incidence_of s k) signs)
+    where
+      signs : Listing (IsBesideOn planes planes v m)
+      signs = listing_as
+          (λ s (c, (c_in, on), towards). record { c = c; c_in = c_in; on = on; towards = towards })
+          (λ s b. (b.c, (b.c_in, b.on), b.towards))
+          (listing_over (λ c s. (s ≡ beside planes v (cross c m)) ⊎ (s ≡ beside planes v (negative (cross c m))))
+          (listing_and (λ c. dot c v ≡ pos 0) (λ c. zero_or (dot c v)) (listing_members planes))
+          (λ c. listing_pair (beside planes v (cross c m)) (beside planes v (negative (cross c m)))))
+
+  module _ (points : List CellEntry) (points_of : AreCellsOf planes Point points) where
+    edges_at : (k : ℕ) → k < length points → Listing (IsEdgeIncidence planes (cell_at points k).d k)
+    edges_at k lt =
+        let v = (cell_at points k).d in
+        let has = (point_in planes rules apart some points points_of k lt).0 in
+        let (m, off) = axis_off v (vertex_off planes v are has) in
+        listing_as (λ x. (edge_incidences_are planes v m k x are has off).0) (λ x. (edge_incidences_are planes v m k x are has off).1)
+        (beside_listing v m k)
+
+    at_place : (k : ℕ) → Listing (λ x. (k < length points) × IsEdgeIncidence planes (cell_at points k).d k x)
+    at_place k = elim (lt_or k (length points)) [
+      | inl lt ↦ listing_as (λ x e. (lt, e)) (λ x h. h.1) (edges_at k lt)
+      | inr n ↦ listing_none (λ x h. n h.0)
+    ]
+
+    edge_listing : Listing (IsIncidence planes Edge points)
+    edge_listing = listing_as from to
+        (listing_over (λ k x. (k < length points) × IsEdgeIncidence planes (cell_at points k).d k x)
+        (listing_below (length points)) at_place)
+      where
+        from : (x : Incidence) → (k : ℕ) × (k < length points) × ((k < length points) × IsEdgeIncidence planes (cell_at points k).d k x)
+            → IsIncidence planes Edge points x
+        from x (k, lt, (lt', e)) =
+            let of : x.of ≡ k = ap (λ s. s.of) e.is in
+            let border : IsBorder (cell_at points k).signs e.signs =
+            subst (λ s. IsBorder s e.signs) (point_in planes rules apart some points points_of k lt).1 e.border in
+            record {
+              signs = e.signs;
+              under = record {
+                cell = e.cell;
+                by_count = e.edge;
+                listed = subst (λ n. n < length points) (sym of) lt;
+                border = subst (λ n. IsBorder (cell_at points n).signs e.signs) (sym of) border;
+              };
+              is = e.is ∙ ap (incidence_of e.signs) (sym of);
+            }
+
+        to : (x : Incidence) → IsIncidence planes Edge points x
+            → (k : ℕ) × (k < length points) × ((k < length points) × IsEdgeIncidence planes (cell_at points k).d k x)
+        to x s =
+            let u = s.under in
+            let on = (point_in planes rules apart some points points_of x.of u.listed).1 in (
+              x.of,
+              u.listed,
+              (
+                u.listed,
+                record {
+                  signs = s.signs;
+                  cell = u.cell;
+                  edge = u.by_count;
+                  border = subst (λ t. IsBorder t s.signs) (sym on) u.border;
+                  is = s.is;
+                },
+              ),
+            )
+
+    some_edges : (cells : List CellEntry) × AreCellsOf planes Edge cells
+    some_edges =
+        let (incidences, sorted) = listing_sorted incidence_cmp incidence_total incidence_exact edge_listing in (
+          composed_up_to Edge points incidences (length incidences),
+          composed_are_cells planes Edge points incidences few sorted (edge_two planes rules apart some points points_of)
+              (edge_entry planes rules apart some points points_of) (edge_some planes rules apart some points points_of),
+        )
+
+  -- ---- open cells
+
+  module _ (edges : List CellEntry) (edges_of : AreCellsOf planes Edge edges) where
+    filled_listing : Listing (IsFilledIncidence edges)
+    filled_listing = listing_as from (λ x f. (x.of, f.listed, f.is))
+        (listing_over (λ k x. (x ≡ at Neg k) ⊎ (x ≡ at Pos k)) (listing_below (length edges)) (λ k. listing_pair (at Neg k) (at Pos k)))
+      where
+        at : Sign → ℕ → Incidence
+        at t k = incidence_of (filled t (cell_at edges k).signs) k
+
+        from : (x : Incidence) → (k : ℕ) × (k < length edges) × ((x ≡ at Neg k) ⊎ (x ≡ at Pos k)) → IsFilledIncidence edges x
+        from x (k, lt, inl e) =
+            let of : x.of ≡ k = ap (λ s. s.of) e in
+            record { listed = subst (λ n. n < length edges) (sym of) lt; is = inl (e ∙ ap (at Neg) (sym of)) }
+        from x (k, lt, inr e) =
+            let of : x.of ≡ k = ap (λ s. s.of) e in
+            record { listed = subst (λ n. n < length edges) (sym of) lt; is = inr (e ∙ ap (at Pos) (sym of)) }
+
+    some_opens : (cells : List CellEntry) × AreCellsOf planes Open cells
+    some_opens =
+        let same = open_incidences_are planes are edges edges_of in
+        let (incidences, sorted) = listing_sorted incidence_cmp incidence_total incidence_exact
+        (listing_as (λ x. (same x).0) (λ x. (same x).1) filled_listing) in (
+          composed_up_to Open edges incidences (length incidences),
+          composed_are_cells planes Open edges incidences few sorted (open_two planes rules apart some edges edges_of)
+              (open_entry planes rules apart some edges edges_of) (open_some planes rules apart some edges edges_of),
+        )
+
+  pub some_cells : (cells : List CellEntry) × AreCells planes cells
+  some_cells =
+      let (points, points_of) = some_points in
+      let (edges, edges_of) = some_edges points points_of in
+      let (opens, opens_of) = some_opens edges edges_of in (
+        points ++ edges ++ opens,
+        record { points = points; edges = edges; opens = opens; points_are = points_of; edges_are = edges_of; opens_are = opens_of; is = refl },
+      )
