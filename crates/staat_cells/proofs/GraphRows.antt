@@ -38,10 +38,10 @@ no_rows arcs signs = record { long = refl; has = λ a b. (λ h. absurd (none a b
     nothing : (x : PieceArc) → Contains [] x → ⊥
     nothing x c = let lt = c.1 in omega (arith, lt)
 
-pub rows_set : (rows : List ℕ) (arcs : List PieceArc) (signs : List Sign) (k word : ℕ) (x : PieceArc) → k < length arcs → x ≡ get_or arcs k x → x.a < 32
-    → All (HasSign signs) x.facets → ((q : ℕ) → (bit_at word q ≡ 1) ↔ ((bit_at (slice_index rows x.a) q ≡ 1) ⊎ (q ≡ x.b)))
+pub rows_after : (rows : List ℕ) (arcs : List PieceArc) (signs : List Sign) (k word : ℕ) (x : PieceArc) → k < length arcs → x ≡ get_or arcs k x → x.a < 32
+    → ((q : ℕ) → (bit_at word q ≡ 1) ↔ ((bit_at (slice_index rows x.a) q ≡ 1) ⊎ ((q ≡ x.b) × All (HasSign signs) x.facets)))
     → HasArcsUpTo rows arcs signs k → HasArcsUpTo (slice_set rows x.a word) arcs signs (k + 1)
-rows_set rows arcs signs k word x lt at small ahead bits before = record {
+rows_after rows arcs signs k word x lt at small bits before = record {
   long = length-set rows x.a word ∙ before.long;
   has = λ y. row_set rows x.a y word (IsArcAt (take (k + 1) arcs) signs) (let e = before.long in omega (arith, e, small)) own (other y);
 }
@@ -55,9 +55,9 @@ rows_set rows arcs signs k word x lt at small ahead bits before = record {
     own : (q : ℕ) → (bit_at word q ≡ 1) ↔ IsArcAt (take (k + 1) arcs) signs x.a q
     own q = (
       λ h. (more x.a q).1 (⊎_elim {C = IsArcAt (take k arcs) signs x.a q ⊎ ((x.a ≡ x.a) × (x.b ≡ q) × All (HasSign signs) x.facets)}
-          (λ l. inl ((before.has x.a q).0 l)) (λ e. inr (refl, sym e, ahead)) ((bits q).0 h)),
-      λ h. (bits q).1 (⊎_elim {C = (bit_at (slice_index rows x.a) q ≡ 1) ⊎ (q ≡ x.b)}
-          (λ l. inl ((before.has x.a q).1 l)) (λ e. inr (sym e.1)) ((more x.a q).0 h)),
+          (λ l. inl ((before.has x.a q).0 l)) (λ e. inr (refl, sym e.0, e.1)) ((bits q).0 h)),
+      λ h. (bits q).1 (⊎_elim {C = (bit_at (slice_index rows x.a) q ≡ 1) ⊎ ((q ≡ x.b) × All (HasSign signs) x.facets)}
+          (λ l. inl ((before.has x.a q).1 l)) (λ e. inr (sym e.1, e.2)) ((more x.a q).0 h)),
     )
 
     other : (y q : ℕ) → y ≢ x.a → HasArc rows y q ↔ IsArcAt (take (k + 1) arcs) signs y q
@@ -66,19 +66,16 @@ rows_set rows arcs signs k word x lt at small ahead bits before = record {
       λ h. (before.has y q).1 (⊎_elim {C = IsArcAt (take k arcs) signs y q} (λ l. l) (λ e. absurd (ne (sym e.0))) ((more y q).0 h)),
     )
 
-pub rows_kept : (rows : List ℕ) (arcs : List PieceArc) (signs : List Sign) (k : ℕ) (x : PieceArc) → k < length arcs → x ≡ get_or arcs k x
-    → (All (HasSign signs) x.facets → ⊥) → HasArcsUpTo rows arcs signs k → HasArcsUpTo rows arcs signs (k + 1)
-rows_kept rows arcs signs k x lt at not before = record {
-  long = before.long;
-  has = λ a b. (
-    λ h. subst (λ l. IsArcAt l signs a b) (sym grown) ((arc_pushed (take k arcs) x signs a b).1 (inl ((before.has a b).0 h))),
-    λ h. (before.has a b).1 (⊎_elim {C = IsArcAt (take k arcs) signs a b} (λ l. l) (λ e. absurd (not e.2))
-        ((arc_pushed (take k arcs) x signs a b).0 (subst (λ l. IsArcAt l signs a b) grown h))),
-  );
-}
-  where
-    grown : take (k + 1) arcs ≡ take k arcs ++ x ∷ []
-    grown = take_more arcs k x lt ∙ ap (λ y. take k arcs ++ y ∷ []) (sym at)
+-- what a row is after two pieces: as it was, where it has the arc already or some facet has another sign
+pub row_same : (row b : ℕ) (ahead : Type 0) → (bit_at row b ≡ 1) ⊎ (ahead → ⊥) → (q : ℕ) → (bit_at row q ≡ 1) ↔ ((bit_at row q ≡ 1) ⊎ ((q ≡ b) × ahead))
+row_same row b ahead (inl there) q = (λ h. inl h, λ h. ⊎_elim {C = bit_at row q ≡ 1} (λ l. l) (λ e. subst (λ p. bit_at row p ≡ 1) (sym e.0) there) h)
+row_same row b ahead (inr none) q = (λ h. inl h, λ h. ⊎_elim {C = bit_at row q ≡ 1} (λ l. l) (λ e. absurd (none e.1)) h)
+
+pub row_more : (row word b : ℕ) (ahead : Type 0) → ahead → ((q : ℕ) → (bit_at word q ≡ 1) ↔ ((bit_at row q ≡ 1) ⊎ (q ≡ b))) → (q : ℕ) → (bit_at word q ≡ 1) ↔ ((bit_at row q ≡ 1) ⊎ ((q ≡ b) × ahead))
+row_more row word b ahead is bits q = (
+  λ h. ⊎_elim {C = (bit_at row q ≡ 1) ⊎ ((q ≡ b) × ahead)} (λ l. inl l) (λ e. inr (e, is)) ((bits q).0 h),
+  λ h. (bits q).1 (⊎_elim {C = (bit_at row q ≡ 1) ⊎ (q ≡ b)} (λ l. inl l) (λ e. inr e.0) h),
+)
 
 pub graph_is : (t : Table) (arcs : List PieceArc) (signs : List Sign) (rows : List ℕ) (k : ℕ) → length arcs ≤ k → HasArcsUpTo rows arcs signs k → HasArcsOf t arcs
     → IsCellGraph t signs rows

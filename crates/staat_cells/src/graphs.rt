@@ -59,6 +59,27 @@ fn with_arc(row: u32, b: u32) -> u32
     PartSet::from_bits(row).union(PartSet::single(b)).bits()
 }
 
+// whether the row has the arc to b
+fn has_arc(row: u32, b: u32) -> bool
+    requires { b < MOST_PARTS }
+    ensures { IsTrue result ↔ (bit_at row b ≡ 1) }
+{
+    row >> b & 1 == 1
+}
+
+// The row after two pieces were looked at. What has its arc already is not looked at again.
+fn row_after(row: u32, signs: &[Sign], pieces: &PieceArc) -> u32
+    requires { pieces.now.b < MOST_PARTS }
+    ensures { (q : ℕ) → (bit_at result q ≡ 1)
+        ↔ ((bit_at row q ≡ 1) ⊎ ((q ≡ pieces.now.b) × All (HasSign signs.now) pieces.now.facets)) }
+{
+    if has_arc(row, pieces.b) || !have_signs(signs, pieces.facets.as_slice()) {
+        row
+    } else {
+        with_arc(row, pieces.b)
+    }
+}
+
 impl CellGraphs {
     /// Numbers the plane of each facet of the table, once for all cells.
     pub fn of(alloc: Global, table: &PlaneTable) -> Result<CellGraphs, OutOfMemory>
@@ -77,9 +98,8 @@ impl CellGraphs {
     {
         let mut rows = [0u32; 32];
         for pieces in &self.arcs {
-            if have_signs(signs, pieces.facets.as_slice()) {
-                rows[pieces.a as usize] = with_arc(rows[pieces.a as usize], pieces.b);
-            }
+            let row = rows[pieces.a as usize];
+            rows[pieces.a as usize] = row_after(row, signs, pieces);
         }
         Graph { rows }
     }

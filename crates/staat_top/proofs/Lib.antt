@@ -14,5 +14,6 @@ pub mod SomeOutcome
 pub mod SoundLemmas
 pub mod PlanesLemmas
 pub mod CellsLemmas
+pub mod DrillLemmas
 pub mod PlanLemmas
 pub mod CertificateLemmas

@@ -39,8 +39,9 @@ use Rattle.staat_edge.specs.Files.{bytes_of}
 use Rattle.staat_words.specs.declared.request.Asked.{Asked}
 use Rattle.staat_words.specs.declared.request.Input.{Input}
 use Rattle.staat_words.specs.declared.request.Input.TheVariants as input
+use Rattle.staat_words.specs.declared.request.Product.{Product}
 use Rattle.staat_words.specs.declared.request.Request.{Request}
-use Rattle.staat_words.specs.declared.request.Request.TheVariants.{Pair, Look, Graph, Plan, Check, Cells}
+use Rattle.staat_words.specs.declared.request.Request.TheVariants.{Pair, Look, Graph, Plan, Check, Cells, Drill}
 use Rattle.staat_top.specs.declared.read.TheConstants.{FILE_LIMIT}
 use Rattle.staat_top.specs.declared.answer.Answer.{Answer}
 use Rattle.staat_top.specs.Work.{Files, Found, Then, Each, IsTakenWithin, to_read, too_long, taken}
@@ -51,6 +52,10 @@ use Rattle.staat_top.proofs.MovedLemmas.{far_not_within}
 use Rattle.staat_top.specs.Inputs.{SaysListing, no_listing, listing, IsListingOf, IsPartOf, IsInputOf, part_of}
 use Rattle.staat_top.specs.Assembling.{IsTested, overlapping, sound, IsSoundOf}
 use Rattle.staat_top.specs.Graphing.{AreCounted, IsGraphed, all_parts, few, too_many}
+use Rattle.staat_model.specs.declared.verdict.Verdict.{Verdict}
+use Rattle.staat_model.specs.Certify.{IsCertificateOf}
+use Rattle.staat_model.specs.Reasons.{IsVerdict}
+use Rattle.staat_top.specs.Drills.{IsDrilled, drill_line, drill_too_long, drilled, parts_of_product}
 use Rattle.staat_top.specs.CellTables.{AreTabled, tabled, table_too_long}
 use Rattle.staat_top.specs.Planning.{IsPlanned, IsWritten, certificate, outcome_answer, steps, text_too_long}
 use Rattle.staat_model.specs.declared.limits.TheConstants.{TEXT_LIMIT}
@@ -427,6 +432,32 @@ tabled_one files parts = record { one = λ f g a b sf sg. one f g a b; held = λ
     no_read name (tabled t is short e) = absurd cc
     no_read name (table_too_long t is many e) = absurd cc
 
+drilled_one : (files : Files) (product : Product) (parts : List Part) → FindsOne files (IsDrilled product parts)
+drilled_one files product parts = record { one = λ f g a b sf sg. one f g a b; held = λ name f at lacks step settled. no_read name at }
+  where
+    same_certificate : (x y : Finding) (c d : Certificate) → IsOutcome false parts (all_parts parts) x → IsOutcome false parts (all_parts parts) y → IsCertificateOf parts 2 x c → IsCertificateOf parts 2 y d → (x ≡ y) × (c ≡ d)
+    same_certificate x y c d o p k l =
+        let found : x ≡ y = IsOutcome-unique false parts o p in
+        (found, IsCertificateOf-unique parts 2 y c d (subst (λ z. IsCertificateOf parts 2 z c) found k) l)
+
+    one : (f g : Found Answer) → IsDrilled product parts f → IsDrilled product parts g → f ≡ g
+    one f g (drilled x c v o k short j e) (drilled y d w p l fits h i) =
+        let same = same_certificate x y c d o p k l in
+        let verdicts : v ≡ w = IsVerdict-unique parts d v w (subst (λ z. IsVerdict parts z v) same.1 j) h in
+        e ∙ ap (λ (z : Finding). Ok (answer 0 (drill_line product z (length (text_of c)) v))) same.0 ∙
+        ap (λ (z : Certificate). Ok (answer 0 (drill_line product y (length (text_of z)) v))) same.1 ∙
+        ap (λ (z : Verdict). Ok (answer 0 (drill_line product y (length (text_of d)) z))) verdicts ∙ sym i
+    one f g (drilled x c v o k short j e) (drill_too_long y d p l many i) =
+        absurd (omega (arith, short, many, ap (λ (z : Certificate). length (text_of z)) (same_certificate x y c d o p k l).1))
+    one f g (drill_too_long x c o k many e) (drilled y d w p l fits h i) =
+        absurd (omega (arith, fits, many, ap (λ (z : Certificate). length (text_of z)) (same_certificate x y c d o p k l).1))
+    one f g (drill_too_long x c o k many e) (drill_too_long y d p l much i) =
+        e ∙ ap (λ (z : Certificate). Err (TextTooLong (length (text_of z)))) (same_certificate x y c d o p k l).1 ∙ sym i
+
+    no_read : (name : List ℕ) → IsDrilled product parts (Err (ReadFault name)) → ⊥
+    no_read name (drilled x c v o k short j e) = absurd cc
+    no_read name (drill_too_long x c o k many e) = absurd cc
+
 -- ---- the commands
 
 work_one : (request : Request) (files : Files) → FindsOne files (WorkOn request files)
@@ -442,6 +473,8 @@ work_one (Check request) files = then_one files (IsSoundOf files request.asked) 
     (λ parts. then_one files (IsCertificateIn files request.certificate) _ (certificate_one files request.certificate) (λ c. checked_one files parts c))
 work_one (Cells request) files = then_one files (IsSoundOf files request.asked) _ (sound_one files request.asked)
     (λ parts. then_one files (AreCounted parts request.planes) _ (counted_one files parts request.planes) (λ planes. tabled_one files parts))
+work_one (Drill product) files = then_one files (IsTested (parts_of_product product)) _ (tested_one files (parts_of_product product))
+    (λ parts. then_one files (AreCounted parts MOST_PLANES) _ (counted_one files parts MOST_PLANES) (λ planes. drilled_one files product parts))
 
 pub words_one : (asked : Option Request) (files : Files) → FindsOne files (WorkOnWords asked files)
 words_one None files = record { one = λ f g a b sf sg. a ∙ sym b; held = λ name f at lacks step settled. absurd (usage_reads name at) }

@@ -6,6 +6,7 @@ use Rattle.staat_vec.specs.declared.vector.V3.{V3}
 use Rattle.staat_model.specs.declared.assembly.Part.{Part}
 use Rattle.staat_model.specs.Assemblies.{IsAssembly, IsSound}
 use Rattle.staat_model.specs.Pieces.{IsPiece}
+use Rattle.staat_model.specs.Texts.{text_of}
 use Rattle.staat_model.specs.Outcomes.{Finding, IsOutcome, planned, stuck}
 use Rattle.staat_plan.proofs.Right.{right_lemma}
 use Rattle.staat_manifest.specs.declared.listing.ListedPart.{ListedPart}
@@ -17,8 +18,9 @@ use Rattle.staat_words.specs.Requests.{IsAsked, IsInput}
 use Rattle.staat_words.specs.declared.request.Input.{Input}
 use Rattle.staat_words.specs.declared.request.Input.TheVariants as inputs
 use Rattle.staat_words.specs.declared.request.Asked.{Asked}
+use Rattle.staat_words.specs.declared.request.Product.{Product}
 use Rattle.staat_words.specs.declared.request.Request.{Request}
-use Rattle.staat_words.specs.declared.request.Request.TheVariants.{Pair, Look, Graph, Plan, Check, Cells}
+use Rattle.staat_words.specs.declared.request.Request.TheVariants.{Pair, Look, Graph, Plan, Check, Cells, Drill}
 use Rattle.staat_top.specs.declared.answer.Answer.{Answer}
 use Rattle.staat_top.specs.Work.{Files, Found, Each, to_read, too_long, taken}
 use Rattle.staat_top.specs.Inputs.{alone, SaysListing, no_listing, listing, IsListingOf, IsPartOf, IsInputOf, part_of}
@@ -53,7 +55,10 @@ use Rattle.staat_top.specs.Checking.{IsCertificateIn, IsChecked, verdict_answer}
 use Rattle.staat_cells.proofs.OneCell.{one_cell}
 use Rattle.staat_text.specs.CellTexts.{IsCellsText}
 use Rattle.staat_top.specs.CellTables.{tabled, table_too_long}
-use Rattle.staat_top.specs.Replies.{AreSoundParts, SaysCells, SaysOutcome, SaysGoodPlan, SaysStuckSet, SaysValid, SaysNotValid, ShowsValid, valid_plan, valid_refusal, free, not_shown, WorkOnWords, IsRight, IsDenied}
+use Rattle.staat_words.specs.Requests.{IsProduct}
+use Rattle.staat_top.specs.Drills.{IsDrilled, drill_line, drill_too_long, drilled, parts_of_product}
+use Rattle.staat_top.proofs.DrillLemmas.{says_drilled}
+use Rattle.staat_top.specs.Replies.{AreSoundParts, SaysDrilled, SaysCells, SaysOutcome, SaysGoodPlan, SaysStuckSet, SaysValid, SaysNotValid, ShowsValid, valid_plan, valid_refusal, free, not_shown, WorkOnWords, IsRight, IsDenied}
 
 -- ---- pieces
 
@@ -205,6 +210,19 @@ same_answer a b e = cc
 same_status : (a b : Answer) → ◌≡◌ {A = Found Answer} (Ok a) (Ok b) → a.status ≡ b.status
 same_status a b e = let same : a ≡ b = cc in ap (λ (x : Answer). x.status) same
 
+-- the line of a drill says what it is about
+drill_is_said : (product : Product) (built : List Part) (a : Answer) → IsProduct product → IsTested (parts_of_product product) (Ok built) → IsDrilled product built (Ok a) → SaysDrilled product a.text
+drill_is_said product built a is (overlapping arc first e) step = absurd cc
+drill_is_said product built a is (sound are e) (drill_too_long f c o k long d) = absurd cc
+drill_is_said product built a is (sound are e) (drilled f c v o k short j d) =
+    let same : built ≡ parts_of_product product = cc in
+    let outcome = subst (λ (ps : List Part). IsOutcome false ps (all_parts ps) f) same o in
+    let certificate_is = subst (λ (ps : List Part). IsCertificateOf ps 2 f c) same k in
+    let judged = subst (λ (ps : List Part). IsVerdict ps c v) same j in
+    let valid = λ assembly. certified (parts_of_product product) 2 f c assembly (right_lemma false (parts_of_product product) assembly (all_parts (parts_of_product product)) f outcome) certificate_is in
+    let text : record { status = 0; text = drill_line product f (length (text_of c)) v } ≡ a = same_answer a (record { status = 0; text = drill_line product f (length (text_of c)) v }) d in
+    subst (λ (b : Answer). SaysDrilled product b.text) text (says_drilled product f c v is are valid outcome certificate_is judged)
+
 -- the table of an accepted assembly says of every direction in which cell it lies
 cells_are_said : (files : Files) (request : CellsRequest) (parts : List Part) (text : List ℕ) → AreSoundParts files request.asked parts → IsCellsText parts (length parts) text → SaysCells files request text
 cells_are_said files request parts text are table = record { parts = parts; sound = are; table = table; one = λ d some. one_cell table.planes d table.cells table.cells_are some }
@@ -245,6 +263,9 @@ status_is_right (Some (Cells request)) files a bounds (inr (built, found, inr (p
     subst (λ (b : Answer). SaysCells files request b.text) same
     (cells_are_said files request built text (sound_parts files request.asked built bounds.0 found) is)
 status_is_right (Some (Cells request)) files a bounds (inr (built, found, inr (planes, counted, table_too_long text is long e))) zero = absurd cc
+status_is_right (Some (Drill product)) files a bounds (inl (fault, at, e)) zero = absurd cc
+status_is_right (Some (Drill product)) files a bounds (inr (built, found, inl (fault, at, e))) zero = absurd cc
+status_is_right (Some (Drill product)) files a bounds (inr (built, found, inr (planes, counted, step))) zero = drill_is_said product built a bounds found step
 
 -- a wall that is not shown is none, and a set that is named as stuck is stuck
 pub status_is_denied : (asked : Option Request) (files : Files) (a : Answer) → HasRequestBounds asked → WorkOnWords asked files (Ok a) → a.status ≡ 1 → IsDenied asked files a.text
@@ -279,3 +300,7 @@ status_is_denied (Some (Cells request)) files a bounds (inl (fault, at, e)) one 
 status_is_denied (Some (Cells request)) files a bounds (inr (built, found, inl (fault, at, e))) one = absurd cc
 status_is_denied (Some (Cells request)) files a bounds (inr (built, found, inr (planes, counted, tabled text is short e))) one = absurd (omega (arith, one, same_status _ _ e))
 status_is_denied (Some (Cells request)) files a bounds (inr (built, found, inr (planes, counted, table_too_long text is long e))) one = absurd cc
+status_is_denied (Some (Drill product)) files a bounds (inl (fault, at, e)) one = absurd cc
+status_is_denied (Some (Drill product)) files a bounds (inr (built, found, inl (fault, at, e))) one = absurd cc
+status_is_denied (Some (Drill product)) files a bounds (inr (built, found, inr (planes, counted, drilled f c v o k short j e))) one = absurd (omega (arith, one, same_status _ _ e))
+status_is_denied (Some (Drill product)) files a bounds (inr (built, found, inr (planes, counted, drill_too_long f c o k long e))) one = absurd cc
