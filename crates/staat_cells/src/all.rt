@@ -40,7 +40,8 @@ pub fn all_cells(alloc: Global, table: &PlaneTable) -> Result<Cells, OutOfMemory
     ensures cells { IfOk result (λ cells. AreCells table.now.planes (map entry_of cells)) }
     ensures representatives { IfOk result (λ cells. All (λ c. signs_of table.now.planes c.d ≡ c.signs) cells) }
     ensures size { IfOk result (λ cells. All (λ c. IsWithin DIRECTION c.d) cells) }
-    ensures one { IfOk result (λ cells. (d : Vector) → d ≢ origin → HasOneCell table.now.planes (map entry_of cells) d) }
+    ensures one { IfOk result (λ cells. (d : Vector) → d ≢ origin
+        → HasOneCell table.now.planes (map entry_of cells) d) }
 {
     let cells = cells_of_planes(alloc, table.planes())?;
     Ok(Cells::from_vec(cells))

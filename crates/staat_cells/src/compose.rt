@@ -1,7 +1,8 @@
 // Cells from the first two cells on their borders.
 ghost use Rattle.std.specs.Prelude.{◌≡◌, ◌<◌, ◌+◌, All, IfOk, length, map};
 ghost use Rattle.staat_vec.specs.Vectors.{IsWithin};
-ghost use Rattle.staat_cells.specs.Compositions.{HaveEqualLengths, HavePairs, begins_cell, entry_of, composed, composed_cell, composed_up_to, same_words};
+ghost use Rattle.staat_cells.specs.Compositions.{HaveEqualLengths, HavePairs, begins_cell, entry_of, composed};
+ghost use Rattle.staat_cells.specs.Compositions.{composed_cell, composed_up_to, same_words};
 ghost use Rattle.staat_cells.specs.Skeletons.{IsFoundAt};
 ghost use Rattle.staat_cells.specs.Beside.{then_sign};
 
