@@ -1,5 +1,6 @@
 -- There are lists of all cells.
-use Rattle.std.proofs.Common.{◌≡◌, ◌≢◌, ◌⊎◌, inl, inr, ℕ, ◌<◌, ◌≤◌, ℤ, pos, refl, sym, ap, subst, ◌∙◌, arith}
+use Rattle.std.proofs.Common.{◌≡◌, ◌≢◌, ◌⊎◌, inl, inr, ℕ, ◌<◌, ◌≤◌, ℤ, pos, refl, sym}
+use Rattle.std.proofs.Common.{ap, subst, ◌∙◌, arith}
 use Rattle.std.proofs.Common.{List, [], ◌∷◌, ◌++◌, length, map, Contains}
 use Rattle.std.proofs.lemmas.Int.{ints}
 use Rattle.staat_vec.specs.declared.vector.V3.{V3}
@@ -14,14 +15,16 @@ use Rattle.staat_model.specs.Cells.{AreCells, AreCellsOf, CellEntry, IsBorder}
 use Rattle.staat_model.specs.Planes.{vertices}
 use Rattle.staat_model.proofs.Corners.{HoldsAxes}
 use Rattle.staat_model.proofs.Decisions.{Decided, le_or, lt_or}
-use Rattle.staat_model.proofs.Listings.{Listing, listing_and, listing_as, listing_below, listing_image, listing_members, listing_none, listing_over, listing_sorted}
+use Rattle.staat_model.proofs.Listings.{Listing, listing_and, listing_as, listing_below, listing_image}
+use Rattle.staat_model.proofs.Listings.{listing_members, listing_none, listing_over, listing_sorted}
 use Rattle.staat_model.proofs.PlaneLemmas.{NoneParallel}
 use Rattle.staat_pairs.specs.Tables.{AreTablePlanes}
 use Rattle.staat_cells.specs.declared.incidence.Incidence.{Incidence}
 use Rattle.staat_cells.specs.Beside.{beside, filled}
 use Rattle.staat_cells.specs.Compositions.{composed_up_to}
 use Rattle.staat_cells.specs.Packing.{incidence_cmp, incidence_of}
-use Rattle.staat_cells.specs.Stages.{IsAxisOff, IsBesideIncidence, IsBesideOn, IsEdgeIncidence, IsFilledIncidence, IsIncidence, IsOwnIncidence, cell_at, point_entry}
+use Rattle.staat_cells.specs.Stages.{IsAxisOff, IsBesideIncidence, IsBesideOn, IsEdgeIncidence, IsFilledIncidence}
+use Rattle.staat_cells.specs.Stages.{IsIncidence, IsOwnIncidence, cell_at, point_entry}
 use Rattle.staat_cells.proofs.EdgeCells.{edge_entry, edge_some, edge_two, point_in}
 use Rattle.staat_cells.proofs.Grouping.{composed_are_cells}
 use Rattle.staat_cells.proofs.IncidenceOrder.{incidence_exact, incidence_total}
@@ -32,7 +35,11 @@ use Rattle.staat_cells.proofs.WholeLists.{open_incidences_are}
 
 zero_or : (a : ℤ) → Decided (a ≡ pos 0)
 zero_or a = elim (le_or (pos 0) a) [
-  | inl up ↦ (elim (le_or a (pos 0)) [ inl down ↦ inl (omega (arith, ints, up, down)) | inr n ↦ inr (λ e. n (omega (arith, ints, e))) ])
+  | inl up ↦ (elim (le_or a (pos 0)) [
+    | inl down ↦ inl (omega (arith, ints, up, down))
+    | inr n ↦ inr
+        (λ e. n (omega (arith, ints, e)))
+  ])
   | inr n ↦ inr (λ e. n (omega (arith, ints, e)))
 ]
 
@@ -41,7 +48,11 @@ listing_pair a b = record {
   xs = a ∷ b ∷ [];
   from = λ x c. elim (Contains-cases a (b ∷ []) x c) [
     | inl e ↦ inl e
-    | inr later ↦ (elim (Contains-cases b [] x later) [ inl e ↦ inr e | inr none ↦ absurd (Contains-nothing x none) ])
+    | inr later ↦ (elim (Contains-cases b [] x later) [
+      | inl e ↦ inr e
+      | inr none ↦ absurd
+          (Contains-nothing x none)
+    ])
   ];
   all = λ x h. elim h [
     | inl e ↦ subst (Contains (a ∷ b ∷ [])) (sym e) (Contains-front a (b ∷ []))
@@ -51,9 +62,23 @@ listing_pair a b = record {
 
 axis_off : (v : V3) → v ≢ origin → (m : V3) × IsAxisOff v m
 axis_off v some = elim (zero_or v.x) [
-  | inr n ↦ (vector (pos 1) (pos 0) (pos 0), record { axis = (0, omega arith, refl); off = λ e. n (omega (arith, ints, e)) })
+  | inr n ↦ (
+    vector (pos 1) (pos 0) (pos 0),
+    record {
+      axis = (0, omega arith, refl);
+      off = λ e. n
+          (omega (arith, ints, e));
+    },
+  )
   | inl x ↦ (elim (zero_or v.y) [
-    | inr n ↦ (vector (pos 0) (pos 1) (pos 0), record { axis = (1, omega arith, refl); off = λ e. n (omega (arith, ints, e)) })
+    | inr n ↦ (
+      vector (pos 0) (pos 1) (pos 0),
+      record {
+        axis = (1, omega arith, refl);
+        off = λ e. n
+            (omega (arith, ints, e));
+      },
+    )
     | inl y ↦ (
       vector (pos 0) (pos 0) (pos 1),
       record {
@@ -80,7 +105,8 @@ module _ (planes : List V3) (are : AreTablePlanes planes) (few : length planes �
   corners = listing_sorted vector_cmp vector_total vector_exact (listing_members (vertices planes))
 
   own_listing : (cells : List CellEntry) → Listing (IsOwnIncidence cells)
-  own_listing cells = listing_as from (λ x o. (x.of, o.listed, o.is)) (listing_image at (listing_below (length cells)))
+  own_listing cells = listing_as from (λ x o. (x.of, o.listed, o.is))
+      (listing_image at (listing_below (length cells)))
     where
       at : ℕ → Incidence
       at k = incidence_of (cell_at cells k).signs k
@@ -93,8 +119,11 @@ module _ (planes : List V3) (are : AreTablePlanes planes) (few : length planes �
   some_points : (cells : List CellEntry) × AreCellsOf planes Point cells
   some_points =
       let (vs, listed) = corners in
-      let (incidences, sorted) = listing_sorted incidence_cmp incidence_total incidence_exact (own_listing (map (point_entry planes) vs)) in
-      (map (λ x. cell_at (map (point_entry planes) vs) x.of) incidences, points_are planes rules apart few vs listed incidences sorted)
+      let (incidences, sorted) = listing_sorted incidence_cmp incidence_total incidence_exact
+      (own_listing (map (point_entry planes) vs)) in (
+        map (λ x. cell_at (map (point_entry planes) vs) x.of) incidences,
+        points_are planes rules apart few vs listed incidences sorted,
+      )
 
   -- ---- edges
 
@@ -107,7 +136,8 @@ module _ (planes : List V3) (are : AreTablePlanes planes) (few : length planes �
       signs = listing_as
           (λ s (c, (c_in, on), towards). record { c = c; c_in = c_in; on = on; towards = towards })
           (λ s b. (b.c, (b.c_in, b.on), b.towards))
-          (listing_over (λ c s. (s ≡ beside planes v (cross c m)) ⊎ (s ≡ beside planes v (negative (cross c m))))
+          (listing_over (λ c s. (s ≡ beside planes v (cross c m))
+          ⊎ (s ≡ beside planes v (negative (cross c m))))
           (listing_and (λ c. dot c v ≡ pos 0) (λ c. zero_or (dot c v)) (listing_members planes))
           (λ c. listing_pair (beside planes v (cross c m)) (beside planes v (negative (cross c m)))))
 
@@ -117,7 +147,8 @@ module _ (planes : List V3) (are : AreTablePlanes planes) (few : length planes �
         let v = (cell_at points k).d in
         let has = (point_in planes rules apart some points points_of k lt).0 in
         let (m, off) = axis_off v (vertex_off planes v are has) in
-        listing_as (λ x. (edge_incidences_are planes v m k x are has off).0) (λ x. (edge_incidences_are planes v m k x are has off).1)
+        listing_as (λ x. (edge_incidences_are planes v m k x are has off).0)
+        (λ x. (edge_incidences_are planes v m k x are has off).1)
         (beside_listing v m k)
 
     at_place : (k : ℕ) → Listing (λ x. (k < length points) × IsEdgeIncidence planes (cell_at points k).d k x)
@@ -131,7 +162,8 @@ module _ (planes : List V3) (are : AreTablePlanes planes) (few : length planes �
         (listing_over (λ k x. (k < length points) × IsEdgeIncidence planes (cell_at points k).d k x)
         (listing_below (length points)) at_place)
       where
-        from : (x : Incidence) → (k : ℕ) × (k < length points) × ((k < length points) × IsEdgeIncidence planes (cell_at points k).d k x)
+        from : (x : Incidence) → (k : ℕ) × (k < length points)
+            × ((k < length points) × IsEdgeIncidence planes (cell_at points k).d k x)
             → IsIncidence planes Edge points x
         from x (k, lt, (lt', e)) =
             let of : x.of ≡ k = ap (λ s. s.of) e.is in
@@ -149,7 +181,8 @@ module _ (planes : List V3) (are : AreTablePlanes planes) (few : length planes �
             }
 
         to : (x : Incidence) → IsIncidence planes Edge points x
-            → (k : ℕ) × (k < length points) × ((k < length points) × IsEdgeIncidence planes (cell_at points k).d k x)
+            → (k : ℕ) × (k < length points)
+            × ((k < length points) × IsEdgeIncidence planes (cell_at points k).d k x)
         to x s =
             let u = s.under in
             let on = (point_in planes rules apart some points points_of x.of u.listed).1 in (
@@ -171,8 +204,10 @@ module _ (planes : List V3) (are : AreTablePlanes planes) (few : length planes �
     some_edges =
         let (incidences, sorted) = listing_sorted incidence_cmp incidence_total incidence_exact edge_listing in (
           composed_up_to Edge points incidences (length incidences),
-          composed_are_cells planes Edge points incidences few sorted (edge_two planes rules apart some points points_of)
-              (edge_entry planes rules apart some points points_of) (edge_some planes rules apart some points points_of),
+          composed_are_cells planes Edge points incidences few sorted
+              (edge_two planes rules apart some points points_of)
+              (edge_entry planes rules apart some points points_of)
+              (edge_some planes rules apart some points points_of),
         )
 
   -- ---- open cells
@@ -180,12 +215,14 @@ module _ (planes : List V3) (are : AreTablePlanes planes) (few : length planes �
   module _ (edges : List CellEntry) (edges_of : AreCellsOf planes Edge edges) where
     filled_listing : Listing (IsFilledIncidence edges)
     filled_listing = listing_as from (λ x f. (x.of, f.listed, f.is))
-        (listing_over (λ k x. (x ≡ at Neg k) ⊎ (x ≡ at Pos k)) (listing_below (length edges)) (λ k. listing_pair (at Neg k) (at Pos k)))
+        (listing_over (λ k x. (x ≡ at Neg k) ⊎ (x ≡ at Pos k)) (listing_below (length edges))
+        (λ k. listing_pair (at Neg k) (at Pos k)))
       where
         at : Sign → ℕ → Incidence
         at t k = incidence_of (filled t (cell_at edges k).signs) k
 
-        from : (x : Incidence) → (k : ℕ) × (k < length edges) × ((x ≡ at Neg k) ⊎ (x ≡ at Pos k)) → IsFilledIncidence edges x
+        from : (x : Incidence) → (k : ℕ) × (k < length edges) × ((x ≡ at Neg k) ⊎ (x ≡ at Pos k))
+            → IsFilledIncidence edges x
         from x (k, lt, inl e) =
             let of : x.of ≡ k = ap (λ s. s.of) e in
             record { listed = subst (λ n. n < length edges) (sym of) lt; is = inl (e ∙ ap (at Neg) (sym of)) }
@@ -209,5 +246,13 @@ module _ (planes : List V3) (are : AreTablePlanes planes) (few : length planes �
       let (edges, edges_of) = some_edges points points_of in
       let (opens, opens_of) = some_opens edges edges_of in (
         points ++ edges ++ opens,
-        record { points = points; edges = edges; opens = opens; points_are = points_of; edges_are = edges_of; opens_are = opens_of; is = refl },
+        record {
+          points = points;
+          edges = edges;
+          opens = opens;
+          points_are = points_of;
+          edges_are = edges_of;
+          opens_are = opens_of;
+          is = refl;
+        },
       )

@@ -1,5 +1,6 @@
 -- The points and edges of planes, and their open cells one after another.
-use Rattle.std.specs.Prelude.{◌≡◌, ℕ, List, [], ◌∷◌, All, MatchOption, Option, if◌then◌else◌, length, map, true, false}
+use Rattle.std.specs.Prelude.{◌≡◌, ℕ, List, [], ◌∷◌, All, MatchOption, Option, if◌then◌else◌}
+use Rattle.std.specs.Prelude.{length, map, true, false}
 use Rattle.staat_vec.specs.declared.vector.V3.{V3}
 use Rattle.staat_vec.specs.declared.vector.TheConstants.{EDGE}
 use Rattle.staat_vec.specs.Vectors.{IsWithin}
@@ -9,7 +10,8 @@ use Rattle.staat_model.specs.Cells.{AreCellsOf, CellEntry}
 use Rattle.staat_cells.specs.declared.cell.Cell.{Cell}
 use Rattle.staat_cells.specs.declared.incidence.Incidence.{Incidence}
 use Rattle.staat_cells.specs.declared.skeleton.Skeleton.{Skeleton}
-use Rattle.staat_cells.specs.Compositions.{HaveEqualLengths, HavePairs, begins_cell, composed_at, composed_up_to, entry_of}
+use Rattle.staat_cells.specs.Compositions.{HaveEqualLengths, HavePairs, begins_cell, composed_at, composed_up_to}
+use Rattle.staat_cells.specs.Compositions.{entry_of}
 
 -- a cell begins at the place, and this is it
 pub record IsComposedAt (kind : Kind) (lower : List CellEntry) (incidences : List Incidence) (i : ℕ) (c : Cell)
@@ -24,7 +26,8 @@ IsFoundAt kind lower incidences i found =
 
 -- the open cell that begins at the place, as a list of one or of none
 abbrev pub opens_at : Skeleton → ℕ → List CellEntry
-opens_at s i = if begins_cell s.incidences.items i then composed_at Open (map entry_of s.edges.items) s.incidences.items i ∷ [] else []
+opens_at s i = if begins_cell s.incidences.items i then composed_at Open
+    (map entry_of s.edges.items) s.incidences.items i ∷ [] else []
 
 -- the open cells that begin at the first places
 abbrev pub opens_before : Skeleton → ℕ → List CellEntry

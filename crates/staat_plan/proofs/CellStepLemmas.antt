@@ -1,10 +1,14 @@
 -- The first step along representatives of cells, list by list.
-use Rattle.std.proofs.Common.{◌≡◌, ◌≢◌, ◌⊎◌, inl, inr, ℕ, zero, suc, ◌+◌, ◌<◌, ◌≤◌, true, if◌then◌else◌}
-use Rattle.std.proofs.Common.{refl, sym, ap, subst, ◌∙◌, arith, add-one, List, [], ◌∷◌, ◌++◌, length, get_or, map, take, drop, All, Contains}
+use Rattle.std.proofs.Common.{◌≡◌, ◌≢◌, ◌⊎◌, inl, inr, ℕ, zero, suc, ◌+◌, ◌<◌, ◌≤◌}
+use Rattle.std.proofs.Common.{true, if◌then◌else◌}
+use Rattle.std.proofs.Common.{refl, sym, ap, subst, ◌∙◌, arith, add-one, List, [], ◌∷◌, ◌++◌, length}
+use Rattle.std.proofs.Common.{get_or, map, take, drop, All, Contains}
 use Rattle.std.specs.Prelude.{None, Option, Some}
 use Rattle.std.specs.FinSet as set
-use Rattle.std.proofs.lemmas.List.{append_assoc, get_or-map, length-map, map-append, take-append-drop, take_all, take_more}
-use Rattle.std.proofs.lemmas.List.Elements.{All-append, All-cons, All-contains, All-map, All-nil, Contains-append_left, Contains-append_right}
+use Rattle.std.proofs.lemmas.List.{append_assoc, get_or-map, length-map, map-append, take-append-drop, take_all}
+use Rattle.std.proofs.lemmas.List.{take_more}
+use Rattle.std.proofs.lemmas.List.Elements.{All-append, All-cons, All-contains, All-map, All-nil, Contains-append_left}
+use Rattle.std.proofs.lemmas.List.Elements.{Contains-append_right}
 use Rattle.staat_vec.specs.declared.vector.TheConstants.{DIRECTION}
 use Rattle.staat_vec.specs.Lists.{IsFirst}
 use Rattle.staat_vec.specs.Vectors.{IsWithin, origin}
@@ -33,18 +37,35 @@ use Rattle.staat_plan.proofs.Tries.{tries_decide_lemma, zero_alone}
 -- ---- one cell
 
 pub none_in : (t : Table) (c : CellEntry) → ServesNot t c.d → IsStepAmong t (c ∷ []) None
-none_in t c not = record { side = tt; size = tt; step = All-cons (λ (x : CellEntry). ServesNot t x.d) c [] not (All-nil (λ (x : CellEntry). ServesNot t x.d)) }
+none_in t c not = record {
+  side = tt;
+  size = tt;
+  step = All-cons (λ (x : CellEntry). ServesNot t x.d) c [] not
+      (All-nil (λ (x : CellEntry). ServesNot t x.d));
+}
 
-pub step_in : (t : Table) (c : CellEntry) (m : Marked) → IsTableCell t c → IsSide t.of m.step.moved → MovesAlong t c.d m.step.moved
+pub step_in : (t : Table) (c : CellEntry) (m : Marked) → IsTableCell t c → IsSide t.of m.step.moved
+    → MovesAlong t c.d m.step.moved
     → m.step.d ≡ c.d → m.mark ≡ Some c.kind → IsStepAmong t (c ∷ []) (Some m)
 step_in t c m cell side moves d mark = record {
   side = side;
   size = subst (IsWithin DIRECTION) (sym d) cell.size;
-  step = record { before = []; cell = c; after = []; is = refl; none = All-nil (λ (x : CellEntry). ServesNot t x.d); moves = moves; d_is = d; mark_is = mark };
+  step = record {
+    before = [];
+    cell = c;
+    after = [];
+    is = refl;
+    none = All-nil
+        (λ (x : CellEntry). ServesNot t x.d);
+    moves = moves;
+    d_is = d;
+    mark_is = mark;
+  };
 }
 
 -- a cell that is listed holds its representative
-pub cell_in : (t : Table) → AreTablePlanes t.planes → (kind : Kind) (c : CellEntry) → IsEntry t.planes kind c → IsTableCell t c
+pub cell_in : (t : Table) → AreTablePlanes t.planes → (kind : Kind) (c : CellEntry) → IsEntry t.planes kind c
+    → IsTableCell t c
 cell_in t are kind c e = record { signs = signs; some = some; size = cell_small t.planes are kind c e }
   where
     signs : signs_of t.planes c.d ≡ c.signs
@@ -53,9 +74,11 @@ cell_in t are kind c e = record { signs = signs; some = some; size = cell_small 
     some : c.d ≢ origin
     some same =
         let cell = e.cell in
-        cell.nonzero (zero_alone t.planes (holds_axes t.planes are) cell.d (ap (signs_of t.planes) (sym same) ∙ signs ∙ sym cell.is))
+        cell.nonzero (zero_alone t.planes (holds_axes t.planes are) cell.d
+        (ap (signs_of t.planes) (sym same) ∙ signs ∙ sym cell.is))
 
-pub cells_in : (t : Table) → AreTablePlanes t.planes → (kind : Kind) (cells : List CellEntry) → AreCellsOf t.planes kind cells → All (IsTableCell t) cells
+pub cells_in : (t : Table) → AreTablePlanes t.planes → (kind : Kind) (cells : List CellEntry)
+    → AreCellsOf t.planes kind cells → All (IsTableCell t) cells
 cells_in t are kind cells of k d lt = cell_in t are kind (get_or cells k d) (of.each k d lt)
 
 -- ---- lists one after another
@@ -76,7 +99,8 @@ module _ (t : Table) (xs ys : List CellEntry) where
     mark_is = f.mark_is;
   }
 
-  pub none_then : (found : Option Marked) → IsStepAmong t xs None → IsStepAmong t ys found → IsStepAmong t (xs ++ ys) found
+  pub none_then : (found : Option Marked) → IsStepAmong t xs None → IsStepAmong t ys found
+      → IsStepAmong t (xs ++ ys) found
   none_then None none a = record { side = tt; size = tt; step = All-append Not xs ys none.step a.step }
   none_then (Some m) none a = record { side = a.side; size = a.size; step = along_later m none.step a.step }
 
@@ -110,7 +134,8 @@ pub cell_at : (t : Table) (cells : List Cell) (k : ℕ) (c : Cell) → k < lengt
     → All (IsTableCell t) (map entry_of cells) → IsTableCell t (entry_of c)
 cell_at t cells k c lt at all =
     let far : k < length (map entry_of cells) = (let e = length-map cells entry_of in omega (arith, e, lt)) in
-    subst (IsTableCell t) (get_or-map entry_of cells k c (entry_of c) lt ∙ ap entry_of (sym at)) (all k (entry_of c) far)
+    subst (IsTableCell t) (get_or-map entry_of cells k c (entry_of c) lt ∙ ap entry_of (sym at))
+    (all k (entry_of c) far)
 
 pub none_more : (t : Table) (cells : List Cell) (k : ℕ) (c : Cell) → k < length cells → c ≡ get_or cells k c
     → IsStepAmong t (map entry_of (take k cells)) None → IsStepAmong t (entry_of c ∷ []) None
@@ -119,17 +144,20 @@ none_more t cells k c lt at before here =
     subst (λ l. IsStepAmong t l None) (sym (one_later cells k c lt at))
     (none_then t (map entry_of (take k cells)) (entry_of c ∷ []) None before here)
 
-pub some_more : (t : Table) (cells : List Cell) (k : ℕ) (c : Cell) (m : Marked) → k < length cells → c ≡ get_or cells k c
+pub some_more : (t : Table) (cells : List Cell) (k : ℕ) (c : Cell) (m : Marked) → k < length cells
+    → c ≡ get_or cells k c
     → IsStepAmong t (map entry_of (take k cells)) None → IsStepAmong t (entry_of c ∷ []) (Some m)
     → IsStepAmong t (map entry_of cells) (Some m)
 some_more t cells k c m lt at before here =
     let first = subst (λ l. IsStepAmong t l (Some m)) (sym (one_later cells k c lt at))
     (none_then t (map entry_of (take k cells)) (entry_of c ∷ []) (Some m) before here) in
     subst (λ l. IsStepAmong t l (Some m))
-    (sym (map-append entry_of (take (k + 1) cells) (drop (k + 1) cells)) ∙ ap (map entry_of) (take-append-drop (k + 1) cells))
+    (sym (map-append entry_of (take (k + 1) cells) (drop (k + 1) cells)) ∙ ap (map entry_of)
+    (take-append-drop (k + 1) cells))
     (some_then t (map entry_of (take (k + 1) cells)) (map entry_of (drop (k + 1) cells)) m first)
 
-pub none_at_all : (t : Table) (cells : List Cell) (k : ℕ) → length cells ≤ k → IsStepAmong t (map entry_of (take k cells)) None
+pub none_at_all : (t : Table) (cells : List Cell) (k : ℕ) → length cells ≤ k
+    → IsStepAmong t (map entry_of (take k cells)) None
     → IsStepAmong t (map entry_of cells) None
 none_at_all t cells k le a = subst (λ l. IsStepAmong t (map entry_of l) None) (take_all k cells le) a
 
@@ -150,7 +178,8 @@ append_nothing (x ∷ xs) = ap (λ l. x ∷ l) (append_nothing xs)
 at_most : (i n : ℕ) → i ≤ suc n → (i ≤ n) ⊎ (i ≡ suc n)
 at_most i n le = grind arith
 
-later_opens : (s : Skeleton) (i n : ℕ) → i ≤ n → (rest : List CellEntry) × (opens_before s n ≡ opens_before s i ++ rest)
+later_opens : (s : Skeleton) (i n : ℕ) → i ≤ n
+    → (rest : List CellEntry) × (opens_before s n ≡ opens_before s i ++ rest)
 unfolding composed_up_to
 later_opens s i zero le =
     let none : 0 ≡ i = omega (arith, le) in
@@ -162,57 +191,88 @@ later_opens s i (suc n) le = elim (at_most i n le) [
   | inr same ↦ ([], ap (opens_before s) (sym same) ∙ append_nothing (opens_before s i))
 ]
 
-from_place : (s : Skeleton) (i n : ℕ) → i < n → (rest : List CellEntry) × (opens_before s n ≡ opens_before s i ++ opens_at s i ++ rest)
+from_place : (s : Skeleton) (i n : ℕ) → i < n
+    → (rest : List CellEntry) × (opens_before s n ≡ opens_before s i ++ opens_at s i ++ rest)
 from_place s i n lt =
     let (rest, is) = later_opens s (i + 1) n (omega (arith, lt)) in
     (rest, is ∙ ap (λ l. l ++ rest) (next_open s i))
 
-pub open_none : (t : Table) (s : Skeleton) (i : ℕ) → IsStepAmong t (opens_before s i) None → IsStepAmong t (opens_at s i) None
+pub open_none : (t : Table) (s : Skeleton) (i : ℕ) → IsStepAmong t (opens_before s i) None
+    → IsStepAmong t (opens_at s i) None
     → IsStepAmong t (opens_before s (i + 1)) None
 open_none t s i before here =
-    subst (λ l. IsStepAmong t l None) (sym (next_open s i)) (none_then t (opens_before s i) (opens_at s i) None before here)
+    subst (λ l. IsStepAmong t l None) (sym (next_open s i))
+    (none_then t (opens_before s i) (opens_at s i) None before here)
 
 pub open_some : (t : Table) (s : Skeleton) (i n : ℕ) (m : Marked) → i < n → IsStepAmong t (opens_before s i) None
     → IsStepAmong t (opens_at s i) (Some m) → IsStepAmong t (opens_before s n) (Some m)
 open_some t s i n m lt before here =
     let (rest, is) = from_place s i n lt in
     subst (λ l. IsStepAmong t l (Some m)) (sym is)
-    (some_then t (opens_before s i ++ opens_at s i) rest m (none_then t (opens_before s i) (opens_at s i) (Some m) before here))
+    (some_then t (opens_before s i ++ opens_at s i) rest m
+    (none_then t (opens_before s i) (opens_at s i) (Some m) before here))
 
 -- the open cell at a place
-pub one_open : (s : Skeleton) (i : ℕ) (c : Cell) → IsComposedAt Open (map entry_of s.edges.items) s.incidences.items i c
+pub one_open : (s : Skeleton) (i : ℕ) (c : Cell)
+    → IsComposedAt Open (map entry_of s.edges.items) s.incidences.items i c
     → opens_at s i ≡ entry_of c ∷ []
-one_open s i c at = (λ j. if at.begins j then composed_at Open (map entry_of s.edges.items) s.incidences.items i ∷ [] else []) ∙ ap (λ x. x ∷ []) (sym at.is)
+one_open s i c at = (λ j. if at.begins j then composed_at Open
+    (map entry_of s.edges.items) s.incidences.items i ∷ [] else []) ∙ ap (λ x. x ∷ []) (sym at.is)
 
-pub open_in : (t : Table) (s : Skeleton) (i : ℕ) (c : Cell) → AreTablePlanes t.planes → IsSkeleton t.planes s → i < length s.incidences.items
+pub open_in : (t : Table) (s : Skeleton) (i : ℕ) (c : Cell) → AreTablePlanes t.planes → IsSkeleton t.planes s
+    → i < length s.incidences.items
     → IsComposedAt Open (map entry_of s.edges.items) s.incidences.items i c → IsTableCell t (entry_of c)
 open_in t s i c are whole lt at =
     let (rest, is) = from_place s i (length s.incidences.items) lt in
-    let here : Contains (opens_at s i) (entry_of c) = subst (λ l. Contains l (entry_of c)) (sym (one_open s i c at)) (Contains-front (entry_of c) []) in
-    let listed : Contains (opens_before s (length s.incidences.items)) (entry_of c) = subst (λ l. Contains l (entry_of c)) (sym is)
-    (Contains-append_left (opens_before s i ++ opens_at s i) rest (entry_of c) (Contains-append_right (opens_before s i) (opens_at s i) (entry_of c) here)) in
-    cell_in t are Open (entry_of c) (All-contains (IsEntry t.planes Open) (opens_before s (length s.incidences.items)) (entry_of c) whole.opens.each listed)
+    let here : Contains (opens_at s i) (entry_of c) = subst (λ l. Contains l (entry_of c)) (sym (one_open s i c at))
+    (Contains-front (entry_of c) []) in
+    let listed : Contains (opens_before s (length s.incidences.items)) (entry_of c) = subst
+    (λ l. Contains l (entry_of c)) (sym is)
+    (Contains-append_left (opens_before s i ++ opens_at s i) rest (entry_of c)
+    (Contains-append_right (opens_before s i) (opens_at s i) (entry_of c) here)) in
+    cell_in t are Open (entry_of c) (All-contains (IsEntry t.planes Open) (opens_before s (length s.incidences.items))
+    (entry_of c) whole.opens.each listed)
 
 -- ---- all cells
 
-first_along : (t : Table) (parts : List Part) → WasMadeFrom parts t → (before : List CellEntry) (cell : CellEntry) (after : List CellEntry)
-    → ServeNot t before → Serves parts t.of cell.d → IsFirst (λ (x : Try). Serves parts t.of x.d) (map try_cell (before ++ cell ∷ after)) (try_cell cell)
+first_along : (t : Table) (parts : List Part) → WasMadeFrom parts t
+    → (before : List CellEntry) (cell : CellEntry) (after : List CellEntry)
+    → ServeNot t before → Serves parts t.of cell.d
+    → IsFirst (λ (x : Try). Serves parts t.of x.d) (map try_cell (before ++ cell ∷ after)) (try_cell cell)
 first_along t parts made [] cell after none serves = inl (refl, serves)
 first_along t parts made (c ∷ before) cell after none serves =
-    inr (none 0 c (omega arith) parts made, first_along t parts made before cell after (λ k d lt. none (suc k) d (omega (arith, lt))) serves)
+    inr (
+      none 0 c (omega arith) parts made,
+      first_along t parts made before cell after
+          (λ k d lt. none (suc k) d (omega (arith, lt))) serves,
+    )
 
-module _ (t : Table) (opens edges points : List CellEntry) (opens_are : AreCellsOf t.planes Open opens) (edges_are : AreCellsOf t.planes Edge edges) (points_are : AreCellsOf t.planes Point points) where
+module _ (t : Table) (opens edges points : List CellEntry) (opens_are : AreCellsOf t.planes Open opens)
+    (edges_are : AreCellsOf t.planes Edge edges) (points_are : AreCellsOf t.planes Point points) where
   module _ (parts : List Part) (made : WasMadeFrom parts t) where
     tries : AreCellTries parts t.of (map try_cell (opens ++ edges ++ points))
-    tries = record { planes = t.planes; planes_are = made.planes; opens = opens; edges = edges; points = points; opens_are = opens_are; edges_are = edges_are; points_are = points_are; is = refl }
+    tries = record {
+      planes = t.planes;
+      planes_are = made.planes;
+      opens = opens;
+      edges = edges;
+      points = points;
+      opens_are = opens_are;
+      edges_are = edges_are;
+      points_are = points_are;
+      is = refl;
+    }
 
-    step_is : (m : Marked) → IsStepAlongFirst t (opens ++ edges ++ points) m → IsStep true parts t.of (try_of m) m.step.moved
+    step_is : (m : Marked) → IsStepAlongFirst t (opens ++ edges ++ points) m
+        → IsStep true parts t.of (try_of m) m.step.moved
     step_is m f =
-        let same : try_of m ≡ try_cell f.cell = (λ i. record { d = f.d_is i; mark = Rattle.std.specs.Option.option_to_list (f.mark_is i) }) in
+        let same : try_of m ≡ try_cell f.cell =
+        (λ i. record { d = f.d_is i; mark = Rattle.std.specs.Option.option_to_list (f.mark_is i) }) in
         subst (λ (x : Try). IsStep true parts t.of x m.step.moved) (sym same) (record {
           tries = map try_cell (opens ++ edges ++ points);
           tries_are = tries;
-          first = subst (λ l. IsFirst (λ (x : Try). Serves parts t.of x.d) (map try_cell l) (try_cell f.cell)) (sym f.is)
+          first = subst (λ l. IsFirst (λ (x : Try). Serves parts t.of x.d) (map try_cell l) (try_cell f.cell))
+              (sym f.is)
               (first_along t parts made f.before f.cell f.after f.none (f.moves parts made).0);
           moved = (f.moves parts made).1;
         })
@@ -221,10 +281,12 @@ module _ (t : Table) (opens edges points : List CellEntry) (opens_are : AreCells
     no_step none = record {
       tries = map try_cell (opens ++ edges ++ points);
       tries_are = tries;
-      none = All-map (λ (x : Try). Serves parts t.of x.d → ⊥) try_cell (opens ++ edges ++ points) (λ k d lt. none k d lt parts made);
+      none = All-map (λ (x : Try). Serves parts t.of x.d → ⊥) try_cell (opens ++ edges ++ points)
+          (λ k d lt. none k d lt parts made);
     }
 
-  pub table_step : (found : Option Marked) → IsStepAmong t (opens ++ edges ++ points) found → IsTableStep true t found
+  pub table_step : (found : Option Marked) → IsStepAmong t (opens ++ edges ++ points) found
+      → IsTableStep true t found
   table_step None a = record { side = a.side; size = a.size; step = λ parts made. no_step parts made a.step }
   table_step (Some m) a = record { side = a.side; size = a.size; step = λ parts made. step_is parts made m a.step }
 
@@ -243,27 +305,38 @@ module _ (t : Table) (s : Skeleton) (whole : IsSkeleton t.planes s) where
   unfolding opens edges points
   found_in found a = table_step t opens edges points whole.opens whole.edges whole.points found a
 
-  pub open_found : (m : Marked) → IsStepAmong t (opens_before s (length s.incidences.items)) (Some m) → IsTableStep true t (Some m)
+  pub open_found : (m : Marked) → IsStepAmong t (opens_before s (length s.incidences.items)) (Some m)
+      → IsTableStep true t (Some m)
   unfolding opens
   open_found m a = found_in (Some m) (some_then t (opens ++ edges) points m (some_then t opens edges m a))
 
   pub edge_found : (m : Marked) → IsStepAmong t (opens_before s (length s.incidences.items)) None
       → IsStepAmong t (map entry_of s.edges.items) (Some m) → IsTableStep true t (Some m)
   unfolding opens edges
-  edge_found m none a = found_in (Some m) (some_then t (opens ++ edges) points m (none_then t opens edges (Some m) none a))
+  edge_found m none a = found_in (Some m) (some_then t (opens ++ edges) points m
+      (none_then t opens edges (Some m) none a))
 
   pub point_found : (found : Option Marked) → IsStepAmong t (opens_before s (length s.incidences.items)) None
-      → IsStepAmong t (map entry_of s.edges.items) None → IsStepAmong t (map entry_of s.points.items) found → IsTableStep true t found
+      → IsStepAmong t (map entry_of s.edges.items) None → IsStepAmong t (map entry_of s.points.items) found
+      → IsTableStep true t found
   unfolding opens edges points
-  point_found found first second a = found_in found (none_then t (opens ++ edges) points found (none_then t opens edges None first second) a)
+  point_found found first second a = found_in found
+      (none_then t (opens ++ edges) points found (none_then t opens edges None first second) a)
 
 -- a set that is stuck has no step in a robust plan
 pub stuck_step : (t : Table) → AreTablePlanes t.planes → length t.planes ≤ 256 → 2 ≤ set.len t.of
     → ((parts : List Part) → WasMadeFrom parts t → IsStuck parts t.of) → IsTableStep true t None
-stuck_step t are few two stuck = record { side = tt; size = tt; step = λ parts made. none parts made (some_cells t.planes are few) }
+stuck_step t are few two stuck =
+    record { side = tt; size = tt; step = λ parts made. none parts made (some_cells t.planes are few) }
   where
-    none : (parts : List Part) → WasMadeFrom parts t → (cells : List CellEntry) × AreCells t.planes cells → HasNoStep true parts t.of
+    none : (parts : List Part) → WasMadeFrom parts t → (cells : List CellEntry) × AreCells t.planes cells
+        → HasNoStep true parts t.of
     none parts made (cells, all) =
         let are_tries = tries t all.opens all.edges all.points all.opens_are all.edges_are all.points_are parts made in
         let list = map try_cell (all.opens ++ all.edges ++ all.points) in
-        record { tries = list; tries_are = are_tries; none = (tries_decide_lemma true parts t.of list made.assembly two are_tries).0 (stuck parts made) }
+        record {
+          tries = list;
+          tries_are = are_tries;
+          none =
+              (tries_decide_lemma true parts t.of list made.assembly two are_tries).0 (stuck parts made);
+        }

@@ -17,7 +17,7 @@ use Rattle.staat_plan.specs.Planning.{Settles}
 use Rattle.staat_plan.proofs.Tries.{tries_held}
 
 -- the leaves of the plan are the parts of the set, too
-abbrev IsRightOf : List Part → PartSet → Finding → Type 0
+abbrev pub IsRightOf : List Part → PartSet → Finding → Type 0
 IsRightOf parts w (planned plan marks) = (parts_of plan ≡ w) × IsGood parts w plan
 IsRightOf parts w (stuck a) = IsSubset a w × IsStuck parts a
 
@@ -38,7 +38,7 @@ module _ (robust : Bool) (parts : List Part) (is : IsAssembly parts) where
       let clear : IsFree parts (parts_of m) (parts_of r) d = subst (λ (x : PartSet). IsFree parts x (parts_of r) d) (sym a.0) (subst (λ (y : PartSet). IsFree parts s y d) (sym b.0) free) in
       (both, (sym both, apart, clear, subst (λ (x : PartSet). IsGood parts x m) (sym a.0) a.1, subst (λ (x : PartSet). IsGood parts x r) (sym b.0) b.1))
 
-  right : (w : PartSet) (f : Finding) → IsOutcome robust parts w f → IsRightOf parts w f
+  pub right : (w : PartSet) (f : Finding) → IsOutcome robust parts w f → IsRightOf parts w f
   right w f (one_part e) = (sym e, e)
   right w f (no_step two none) = ((λ q h. h), held w two none)
   right w f (moved_stuck {side} {a} two step sub) =

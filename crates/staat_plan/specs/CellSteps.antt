@@ -1,5 +1,6 @@
 -- The first step along representatives of cells.
-use Rattle.std.specs.Prelude.{◌≡◌, ◌≢◌, List, ◌∷◌, ◌++◌, All, Bool, IfSome, MatchOption, Option, Some}
+use Rattle.std.specs.Prelude.{◌≡◌, ◌≢◌, List, ◌∷◌, ◌++◌, All, Bool, IfSome, MatchOption, Option}
+use Rattle.std.specs.Prelude.{Some}
 use Rattle.staat_vec.specs.declared.vector.TheConstants.{DIRECTION}
 use Rattle.staat_vec.specs.Vectors.{IsWithin, origin}
 use Rattle.staat_model.specs.declared.assembly.Part.{Part}

@@ -91,7 +91,8 @@ fn open_step(
     Ok(None)
 }
 
-// The first step along representatives of all cells. The points and edges stand in the skeleton already, since the open
+// The first step along representatives of all cells. The points and edges stand in the skeleton already, since the
+// open
 // cells are composed of them.
 fn first_step(
     alloc: Global,
@@ -104,13 +105,15 @@ fn first_step(
     requires skeleton { IsSkeleton table.now.planes skeleton.now }
     ensures { IfOk result (IsTableStep true table.now) }
 {
-    if let Some(found) = open_step(alloc, table, graphs, skeleton)? {
+    if let Some(first) = open_step(alloc, table, graphs, skeleton)? {
+        return Ok(Some(first));
+    }
+    let edges = skeleton.edges();
+    let points = skeleton.points();
+    if let Some(found) = step_among(table, graphs, edges) {
         return Ok(Some(found));
     }
-    if let Some(found) = step_among(table, graphs, skeleton.edges()) {
-        return Ok(Some(found));
-    }
-    Ok(step_among(table, graphs, skeleton.points()))
+    Ok(step_among(table, graphs, points))
 }
 
 /// The step of the table's set of parts in a robust plan: that along the representative of the first cell that serves,

@@ -1,5 +1,5 @@
 //! Laws on what the planner finds. Each is a function that does nothing, and its contract is the law.
-ghost use Rattle.std.specs.Prelude.{◌≡◌, ◌↔◌, ◌≤◌, ℕ, All, Bool, List, length, map, take};
+ghost use Rattle.std.specs.Prelude.{◌≡◌, ◌↔◌, ◌≤◌, ℕ, All, Bool, List, length, map, take, true};
 ghost use Rattle.std.specs.FinSet as set;
 ghost use Rattle.staat_vec.specs.declared.vector.V3.{V3 as Vector};
 ghost use Rattle.staat_vec.specs.Vectors.{negative};
@@ -10,13 +10,15 @@ ghost use Rattle.staat_model.specs.Assemblies.{IsAssembly};
 ghost use Rattle.staat_model.specs.Bridges.{swapped};
 ghost use Rattle.staat_model.specs.Certificates.{inward, outward};
 ghost use Rattle.staat_model.specs.Certify.{IsLeastArc, IsWitnessAt};
-ghost use Rattle.staat_model.specs.Outcomes.{AreTries, Finding, IsOutcome, Serves, Try};
+ghost use Rattle.staat_model.specs.declared.tree.Kind.{Kind as KindValue};
+ghost use Rattle.staat_model.specs.Outcomes.{AreTries, Finding, IsOutcome, IsStep, Serves, Try, planned};
 ghost use Rattle.staat_model.specs.Planes.{ArePlanes};
-ghost use Rattle.staat_model.specs.Plans.{IsStuck};
+ghost use Rattle.staat_model.specs.Plans.{IsStuck, Plan};
 ghost use Rattle.staat_model.specs.Sets.{IsLeastOf, IsSubset};
 ghost use Rattle.staat_graph.specs.declared.trees.Trees.{Trees as TreesValue};
 ghost use Rattle.staat_graph.specs.Blocking.{ShowsBlocking};
 ghost use Rattle.staat_graph.specs.Graphs.{AreTrees, HasArc};
+ghost use Rattle.staat_plan.specs.Marks.{HasMark, MarksHold};
 ghost use Rattle.staat_plan.specs.Planning.{Settles};
 
 /// Some side of a set is free of the rest along a direction exactly where one is along the opposite direction.
@@ -45,6 +47,21 @@ pub fn tries_decide()
     ensures { (robust : Bool) (parts : List PartValue) (w : PartSetValue) (tries : List Try)
         → IsAssembly parts → 2 ≤ set.len w → AreTries robust parts w tries
         → IsStuck parts w ↔ All (λ t. Serves parts w t.d → ⊥) tries }
+{}
+
+/// In a robust plan a step has one mark. It is an edge or a point only where no direction off all planes of the set
+/// serves it, and a point only where each direction that serves it is a positive multiple of a vertex.
+pub fn mark_holds()
+    ensures { (parts : List PartValue) (w : PartSetValue) (try : Try) (side : PartSetValue)
+        → IsAssembly parts → IsStep true parts w try side → HasMark parts w try.mark }
+{}
+
+/// A robust plan has one mark for each split, in preorder, and each of them says of the set that is split what the
+/// mark
+/// of its step says.
+pub fn marks_hold()
+    ensures { (parts : List PartValue) (w : PartSetValue) (plan : Plan) (marks : List KindValue)
+        → IsAssembly parts → IsOutcome true parts w (planned plan marks) → MarksHold parts plan marks }
 {}
 
 /// Arcs with the ends of the trees of a graph that shows who blocks whom along a direction, each with the least

@@ -177,7 +177,8 @@ fn outcome_of<F: FacetSource>(
 
 /// The outcome of an assembly: a plan for all its parts, or a set of parts that no step takes apart.
 ///
-/// For a set of parts the step is that of [`part_step`](crate::part_step). In a robust plan it is instead the step along
+/// For a set of parts the step is that of [`part_step`](crate::part_step). In a robust plan it is instead the step
+/// along
 /// the representative of the first cell that serves, of the open cells, then the edges, then the points, and its mark
 /// is the kind of the cell. The moved side is planned first, then the rest, and the first set that is stuck is the
 /// outcome. The marks of a plan stand in preorder; a plan that is not robust has none.

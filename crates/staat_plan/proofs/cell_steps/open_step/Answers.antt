@@ -21,7 +21,8 @@ pub loop-i-preserved : goal.loop-i-preserved
 loop-i-preserved c =
     let t = c.args.table.now in
     let s = c.args.skeleton.now in
-    open_none t s c.loop-i.i c.loop-i.invariant (subst (IsStepAmong t (opens_at s c.loop-i.i)) c.in_default.is c.in_ok-found.ensures)
+    open_none t s c.loop-i.i c.loop-i.invariant
+    (subst (IsStepAmong t (opens_at s c.loop-i.i)) c.in_default.is c.in_ok-found.ensures)
 
 pub returns : goal.returns
 returns c =

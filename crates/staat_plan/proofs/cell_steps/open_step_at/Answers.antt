@@ -10,12 +10,14 @@ pub step_in-requires-clause-cell : goal.step_in-requires-clause-cell
 step_in-requires-clause-cell c =
     let s = c.args.skeleton.now in
     open_in c.args.table.now s c.args.i c.in-Some.cell c.requires.planes c.requires.skeleton c.requires.place
-    (subst (IsFoundAt Open (map entry_of s.edges.items) s.incidences.items c.args.i) c.in-Some.is c.in_ok-open_at.ensures)
+    (subst (IsFoundAt Open (map entry_of s.edges.items) s.incidences.items c.args.i) c.in-Some.is
+    c.in_ok-open_at.ensures)
 
 pub returns-in-Some : goal.returns-in-Some
 returns-in-Some c =
     let s = c.args.skeleton.now in
     subst (λ l. IsStepAmong c.args.table.now l c.step_in.result)
     (sym (one_open s c.args.i c.in-Some.cell
-    (subst (IsFoundAt Open (map entry_of s.edges.items) s.incidences.items c.args.i) c.in-Some.is c.in_ok-open_at.ensures)))
+    (subst (IsFoundAt Open (map entry_of s.edges.items) s.incidences.items c.args.i) c.in-Some.is
+    c.in_ok-open_at.ensures)))
     c.step_in.ensures

@@ -6,12 +6,13 @@ use Rattle.staat_plan.proofs.cell_steps.step_among.Goals as goal
 
 pub step_in-requires-clause-cell : goal.step_in-requires-clause-cell
 step_in-requires-clause-cell c =
-    cell_at c.args.table.now c.args.cells.now c.loop-cell.cell-index c.cell-item.result c.loop-cell-test.true c.cell-item.is c.requires.cells
+    cell_at c.args.table.now c.args.cells.now c.loop-cell.cell-index c.cell-item.result c.loop-cell-test.true
+    c.cell-item.is c.requires.cells
 
 pub returns-in-Some : goal.returns-in-Some
 returns-in-Some c =
-    some_more c.args.table.now c.args.cells.now c.loop-cell.cell-index c.cell-item.result c.in-Some.found c.loop-cell-test.true
-    c.cell-item.is c.loop-cell.invariant
+    some_more c.args.table.now c.args.cells.now c.loop-cell.cell-index c.cell-item.result c.in-Some.found
+    c.loop-cell-test.true c.cell-item.is c.loop-cell.invariant
     (subst (IsStepAmong c.args.table.now (entry_of c.cell-item.result ∷ [])) c.in-Some.is c.step_in.ensures)
 
 pub loop-cell-preserved : goal.loop-cell-preserved
@@ -21,4 +22,5 @@ loop-cell-preserved c =
     (subst (IsStepAmong c.args.table.now (entry_of c.cell-item.result ∷ [])) c.in_default.is c.step_in.ensures)
 
 pub returns : goal.returns
-returns c = none_at_all c.args.table.now c.args.cells.now c.loop-cell.cell-index c.loop-cell-test.false c.loop-cell.invariant
+returns c =
+    none_at_all c.args.table.now c.args.cells.now c.loop-cell.cell-index c.loop-cell-test.false c.loop-cell.invariant

@@ -17,8 +17,10 @@ incidences_of-requires c = record {
 
 pub returns : goal.returns
 returns c =
-    let lists : Lists incidence_cmp (IsFilledIncidence (map entry_of c.in_ok-edges.edges.items)) c.in_ok-incidences.incidences.items =
-    subst (λ (l : List Cell). Lists incidence_cmp (IsFilledIncidence (map entry_of l)) c.in_ok-incidences.incidences.items)
+    let lists : Lists incidence_cmp (IsFilledIncidence
+    (map entry_of c.in_ok-edges.edges.items)) c.in_ok-incidences.incidences.items =
+    subst (λ (l : List Cell). Lists incidence_cmp
+    (IsFilledIncidence (map entry_of l)) c.in_ok-incidences.incidences.items)
     c.deref-3.ensures.value c.in_ok-incidences.ensures in
     skeleton_is c.args.planes.now c.requires.planes c.requires.few
     (record { points = c.in_ok-points.points; edges = c.in_ok-edges.edges; incidences = c.in_ok-incidences.incidences })

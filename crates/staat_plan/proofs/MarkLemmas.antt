@@ -1,0 +1,176 @@
+-- The marks of a robust plan hold.
+use Rattle.std.proofs.Common.{◌≡◌, ◌≢◌, ◌⊎◌, inl, inr, refl, sym, ap, subst, ◌∙◌, true, pos}
+use Rattle.std.proofs.Common.{◌+◌, List, [], ◌∷◌, ◌++◌, All, Contains, map}
+use Rattle.std.specs.Prelude.{cond, false}
+use Rattle.std.proofs.lemmas.List.{map-append}
+use Rattle.std.proofs.lemmas.List.Elements.{All-contains}
+use Rattle.std.specs.FinSet as set
+use Rattle.staat_vec.specs.declared.vector.V3.{V3}
+use Rattle.staat_vec.specs.declared.vector.Sign.{Sign}
+use Rattle.staat_vec.specs.declared.vector.Sign.TheVariants.{Neg, Pos, Zero}
+use Rattle.staat_vec.specs.Lists.{IsFirst}
+use Rattle.staat_vec.specs.Primitives.{IsPrimitiveOf, primitive}
+use Rattle.staat_vec.specs.Vectors.{dot, sign}
+use Rattle.staat_vec.proofs.Primitives.{primitive-is}
+use Rattle.staat_vec.proofs.Unique.{Contains-cases, Contains-front, Contains-later, Contains-nothing, IsFirst-in}
+use Rattle.staat_model.specs.declared.assembly.Part.{Part}
+use Rattle.staat_model.specs.declared.set.PartSet.{PartSet}
+use Rattle.staat_model.specs.declared.tree.Kind.{Kind}
+use Rattle.staat_model.specs.declared.tree.Kind.TheVariants.{Edge, Open, Point}
+use Rattle.staat_model.specs.Assemblies.{IsAssembly}
+use Rattle.staat_model.specs.Cells.{AreCellsOf, CellEntry, IsEntry, is_zero, kind_by_count, kind_of, signs_of}
+use Rattle.staat_model.specs.Outcomes.{AreCellTries, IsOutcome, IsStep, Serves, Try, both_planned, one_part, planned}
+use Rattle.staat_model.specs.Outcomes.{try_cell}
+use Rattle.staat_model.specs.Planes.{ArePlanes, vertices}
+use Rattle.staat_model.specs.Plans.{Plan, parts_of, split}
+use Rattle.staat_model.proofs.CellLemmas.{zeros, zeros-cons}
+use Rattle.staat_model.proofs.Differences.{from_map}
+use Rattle.staat_model.proofs.GraphLemmas.{zero_sign}
+use Rattle.staat_model.proofs.OneTable.{ArePlanes-unique}
+use Rattle.staat_model.proofs.PointLemmas.{point_is_vertex_lemma}
+use Rattle.staat_plan.specs.Marks.{HasMark, MarkHolds, MarksHold, OnlyPlanesServe, OnlyVerticesServe, at_leaf}
+use Rattle.staat_plan.specs.Marks.{at_split}
+use Rattle.staat_plan.proofs.Right.{right}
+use Rattle.staat_plan.proofs.Tries.{cell_serves, in_kind, mapped}
+
+-- ---- the first, in one list after another
+
+first_in : {X : Type 0} (P : X → Type 0) (xs ys : List X) (x : X) → IsFirst P (xs ++ ys) x
+    → IsFirst P xs x ⊎ (((y : X) → Contains xs y → P y → ⊥) × IsFirst P ys x)
+first_in P [] ys x first = inr ((λ y c. absurd (Contains-nothing y c)), first)
+first_in P (y ∷ xs) ys x (inl h) = inl (inl h)
+first_in P (y ∷ xs) ys x (inr h) = elim (first_in P xs ys x h.1) [
+  | inl a ↦ inl (inr (h.0, a))
+  | inr b ↦ inr (
+    (λ z c p. elim (Contains-cases y xs z c) [
+      | inl e ↦ h.0
+          (subst P e p)
+      | inr later ↦ b.0 z later p
+    ]),
+    b.1,
+  )
+]
+
+-- ---- directions off all planes
+
+not_zero : (s : Sign) → s ≢ Zero → is_zero s ≡ false
+not_zero Neg n = refl
+not_zero Zero n = absurd (n refl)
+not_zero Pos n = refl
+
+no_zeros : (planes : List V3) (d : V3) → ((n : V3) → Contains planes n → dot n d ≢ pos 0)
+    → zeros (signs_of planes d) ≡ 0
+no_zeros [] d off = refl
+no_zeros (n ∷ planes) d off =
+    let s = not_zero (sign (dot n d)) (λ z. off n (Contains-front n planes) (zero_sign (dot n d) z)) in
+    let rest = no_zeros planes d (λ m c. off m (Contains-later n planes m c)) in
+    zeros-cons (sign (dot n d)) (signs_of planes d) ∙ (λ i. cond (s i) 1 0 + rest i)
+
+open_off : (planes : List V3) (d : V3) → All (λ n. dot n d ≢ pos 0) planes
+    → kind_of (signs_of planes d) ≡ Open
+open_off planes d off =
+    ap kind_by_count (no_zeros planes d (λ n c. All-contains (λ m. dot m d ≢ pos 0) planes n off c))
+
+-- ---- the mark of a step
+
+module _ (parts : List Part) (is : IsAssembly parts) (w : PartSet) (planes : List V3)
+    (are : ArePlanes parts w planes) where
+  abbrev NoneServes : List CellEntry → Type 0
+  NoneServes cells = (c : CellEntry) → Contains cells c → Serves parts w c.d → ⊥
+
+  -- what serves has not the signs of one of the cells
+  not_in : (kind : Kind) (cells : List CellEntry) → AreCellsOf planes kind cells → NoneServes cells → (d : V3)
+      → Serves parts w d
+      → kind_of (signs_of planes d) ≡ kind → ⊥
+  not_in kind cells of none d serves e =
+      let free = serves.free in
+      let (c, c_in, same) = in_kind parts w planes are d free.moves kind cells of e in
+      none c c_in (cell_serves parts w serves.side planes d c.d is are serves.is_side free same)
+
+  module _ (opens : List CellEntry) (opens_are : AreCellsOf planes Open opens) (none : NoneServes opens) where
+    only_planes : OnlyPlanesServe parts w
+    only_planes others d others_are off serves =
+        let same : others ≡ planes = ArePlanes-unique parts w others planes others_are are in
+        not_in Open opens opens_are none d serves (open_off planes d (subst (All (λ n. dot n d ≢ pos 0)) same off))
+
+    only_vertices : (edges : List CellEntry) → AreCellsOf planes Edge edges → NoneServes edges
+        → OnlyVerticesServe parts w
+    only_vertices edges edges_are no_edge others d others_are serves = by_kind (kind_of (signs_of planes d)) refl
+      where
+        by_kind : (kind : Kind) → kind_of (signs_of planes d) ≡ kind
+            → (v : V3) × Contains (vertices others) v × IsPrimitiveOf d v
+        by_kind Open e = absurd (not_in Open opens opens_are none d serves e)
+        by_kind Edge e = absurd (not_in Edge edges edges_are no_edge d serves e)
+        by_kind Point e =
+            let free = serves.free in
+            let same : planes ≡ others = ArePlanes-unique parts w planes others are others_are in (
+              primitive d,
+              point_is_vertex_lemma parts w others d others_are free.moves
+                  (subst (λ l. kind_of (signs_of l d) ≡ Point) same e),
+              primitive-is d free.moves,
+            )
+
+  none_tried : (cells : List CellEntry) →
+      ((t : Try) → Contains (map try_cell cells) t → Serves parts w t.d → ⊥) → NoneServes cells
+  none_tried cells none c c_in = none (try_cell c) (mapped try_cell cells c c_in)
+
+  marked : (kind : Kind) (cells : List CellEntry) (try : Try) → AreCellsOf planes kind cells
+      → IsFirst (λ t. Serves parts w t.d) (map try_cell cells) try → MarkHolds parts w kind
+      → HasMark parts w try.mark
+  marked kind cells try of first holds =
+      let found = IsFirst-in (λ (t : Try). Serves parts w t.d) (map try_cell cells) try first in
+      let (c, c_in, e) = from_map try_cell cells try found.0 in
+      let entry = All-contains (IsEntry planes kind) cells c of.each c_in in
+      record { mark = kind; is = ap (λ (t : Try). t.mark) e ∙ ap (λ k. k ∷ []) entry.kind_is; holds = holds }
+
+pub mark_holds_lemma : (parts : List Part) → IsAssembly parts → (w : PartSet) (try : Try) (side : PartSet)
+    → IsStep true parts w try side
+    → HasMark parts w try.mark
+mark_holds_lemma parts is w try side step = go step.tries_are
+  where
+    P : Try → Type 0
+    P t = Serves parts w t.d
+
+    go : AreCellTries parts w step.tries → HasMark parts w try.mark
+    go are =
+        let o = map try_cell are.opens in
+        let e = map try_cell are.edges in
+        let p = map try_cell are.points in
+        let lists : step.tries ≡ o ++ e ++ p = are.is ∙ map-append try_cell (are.opens ++ are.edges) are.points
+        ∙ ap (λ l. l ++ p) (map-append try_cell are.opens are.edges) in
+        let first : IsFirst (λ (t : Try). Serves parts w t.d) (o ++ e ++ p) try = subst
+        (λ l. IsFirst (λ (t : Try). Serves parts w t.d) l try) lists step.first in
+        let planes_are = are.planes_are in
+        elim (first_in (λ (t : Try). Serves parts w t.d) (o ++ e) p try first) [
+          | inl early ↦ (elim (first_in (λ (t : Try). Serves parts w t.d) o e try early) [
+            | inl a ↦ marked parts is w are.planes planes_are Open are.opens try are.opens_are a tt
+            | inr b ↦ marked parts is w are.planes planes_are Edge are.edges try are.edges_are b.1
+                (only_planes parts is w are.planes planes_are are.opens are.opens_are
+                (none_tried parts is w are.planes planes_are are.opens b.0))
+          ])
+          | inr c ↦ (
+              let no_open = none_tried parts is w are.planes planes_are are.opens
+              (λ t t_in. c.0 t (Rattle.std.proofs.lemmas.List.Elements.Contains-append_left o e t t_in)) in
+              let no_edge = none_tried parts is w are.planes planes_are are.edges
+              (λ t t_in. c.0 t (Rattle.std.proofs.lemmas.List.Elements.Contains-append_right o e t t_in)) in
+              marked parts is w are.planes planes_are Point are.points try are.points_are c.1 (
+                only_planes parts is w are.planes planes_are are.opens are.opens_are no_open,
+                only_vertices parts is w are.planes planes_are are.opens are.opens_are no_open are.edges are.edges_are
+                    no_edge,
+              ))
+        ]
+
+-- ---- the marks of a plan
+
+module _ (parts : List Part) (is : IsAssembly parts) where
+  pub marks_hold_lemma : (w : PartSet) (plan : Plan) (marks : List Kind)
+      → IsOutcome true parts w (planned plan marks)
+      → MarksHold parts plan marks
+  marks_hold_lemma w plan marks (one_part e) = at_leaf
+  marks_hold_lemma w plan marks (both_planned {side} {try} {moved} {rest} {d} {ms} {rs} two step one sub e marks_are) =
+      let whole : set.union (parts_of moved) (parts_of rest) ≡ w =
+      (right true parts is w (planned (split d moved rest) marks) (both_planned two step one sub e marks_are)).0 in
+      let own = mark_holds_lemma parts is w try side step in
+      at_split (subst (λ u. MarkHolds parts u own.mark) (sym whole) own.holds)
+      (marks_hold_lemma side moved ms one) (marks_hold_lemma (set.difference w side) rest rs sub)
+      (marks_are ∙ ap (λ l. l ++ ms ++ rs) own.is)
