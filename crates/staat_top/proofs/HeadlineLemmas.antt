@@ -109,7 +109,7 @@ written_of parts f (Some version) short = let c = short version refl in (text_of
 
 answered_plan : (files : Files) (request : PlanRequest) (parts : List Part) → AreSoundParts files request.asked parts → IsWithinLimits parts request → (reply : Reply) × IsReply (Some (Plan request)) files reply × (reply.status < 2)
 answered_plan files request parts are limits =
-    let o = some_outcome parts are.assembly in
+    let o = some_outcome request.robust parts are.assembly (λ robust. record { planes = limits.planes; planes_are = limits.planes_are; few = limits.cells robust }) in
     let w = written_of parts o.0 request.certificate (λ version asks. limits.short version o.0 asks o.1) in (
       answered (outcome_answer o.0 w.0),
       record {

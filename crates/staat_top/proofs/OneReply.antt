@@ -1,5 +1,5 @@
 -- There is one reply to a request over some files, and none where a file that is reached is not there.
-use Rattle.std.proofs.Common.{◌≡◌, ◌↔◌, ℕ, ◌<◌, ◌≤◌, List, [], ◌∷◌, length, Option, Some, None, false, refl, ap, sym, ◌∙◌, subst, arith, inl, inr}
+use Rattle.std.proofs.Common.{◌≡◌, ◌↔◌, ℕ, ◌<◌, ◌≤◌, Bool, List, [], ◌∷◌, length, Option, Some, None, refl, ap, sym, ◌∙◌, subst, arith, inl, inr}
 use Rattle.std.specs.Prelude.{Ok, Err}
 use Rattle.staat_vec.proofs.Unique.{IsLeast-unique}
 use Rattle.staat_model.specs.declared.assembly.Part.{Part}
@@ -353,8 +353,8 @@ written_one files parts finding version = record { one = λ f g a b sf sg. one v
     no_read (Some v) name (certificate c is short e) = absurd cc
     no_read (Some v) name (text_too_long c is many e) = absurd cc
 
-planned_one : (files : Files) (parts : List Part) (version : Option ℕ) → FindsOne files (IsPlanned parts version)
-planned_one files parts version = record {
+planned_one : (files : Files) (parts : List Part) (robust : Bool) (version : Option ℕ) → FindsOne files (IsPlanned parts robust version)
+planned_one files parts robust version = record {
   one = λ f g a b sf sg. (writes b.finding).one f g (written_as f a b.finding b.outcome) b.written sf sg;
   held = λ name f at lacks step settled. (writes step.finding).held name f (written_as (Err (ReadFault name)) at step.finding step.outcome) lacks step.written settled;
 }
@@ -362,9 +362,9 @@ planned_one files parts version = record {
     writes : (finding : Finding) → FindsOne files (Then (IsWritten parts finding version) (λ text found. found ≡ Ok (outcome_answer finding text)))
     writes finding = then_one files (IsWritten parts finding version) _ (written_one files parts finding version) (λ text. known_one files (outcome_answer finding text))
 
-    written_as : (f : Found Answer) (p : IsPlanned parts version f) (finding : Finding) → IsOutcome false parts (all_parts parts) finding → Then (IsWritten parts finding version) (λ text found. found ≡ Ok (outcome_answer finding text)) f
+    written_as : (f : Found Answer) (p : IsPlanned parts robust version f) (finding : Finding) → IsOutcome robust parts (all_parts parts) finding → Then (IsWritten parts finding version) (λ text found. found ≡ Ok (outcome_answer finding text)) f
     written_as f p finding outcome =
-        subst (λ (x : Finding). Then (IsWritten parts x version) (λ text found. found ≡ Ok (outcome_answer x text)) f) (IsOutcome-unique false parts p.outcome outcome) p.written
+        subst (λ (x : Finding). Then (IsWritten parts x version) (λ text found. found ≡ Ok (outcome_answer x text)) f) (IsOutcome-unique robust parts p.outcome outcome) p.written
 
 judged_one : (files : Files) (p q : List V3) (d n : V3) → FindsOne files (IsJudged p q d n)
 judged_one files p q d n = record { one = λ f g a b sf sg. one f g a b; held = λ name f at lacks step settled. no_read name at }
@@ -468,7 +468,7 @@ work_one (Look asked) files = then_one files (IsSoundOf files asked) _ (sound_on
 work_one (Graph request) files = then_one files (IsSoundOf files request.asked) _ (sound_one files request.asked)
     (λ parts. then_one files (AreCounted parts MOST_PLANES) _ (counted_one files parts MOST_PLANES) (λ planes. graphed_one files parts request.along))
 work_one (Plan request) files = then_one files (IsSoundOf files request.asked) _ (sound_one files request.asked)
-    (λ parts. then_one files (AreCounted parts request.planes) _ (counted_one files parts request.planes) (λ planes. planned_one files parts request.certificate))
+    (λ parts. then_one files (AreCounted parts request.planes) _ (counted_one files parts request.planes) (λ planes. planned_one files parts request.robust request.certificate))
 work_one (Check request) files = then_one files (IsSoundOf files request.asked) _ (sound_one files request.asked)
     (λ parts. then_one files (IsCertificateIn files request.certificate) _ (certificate_one files request.certificate) (λ c. checked_one files parts c))
 work_one (Cells request) files = then_one files (IsSoundOf files request.asked) _ (sound_one files request.asked)

@@ -1,5 +1,5 @@
 -- The outcome of an assembly, and how it is written.
-use Rattle.std.proofs.Common.{◌≡◌, ◌<◌, ◌≤◌, ℕ, List, length, Option, Some, None, Ok, Err, false, refl, ap, sym, subst, arith, inl}
+use Rattle.std.proofs.Common.{◌≡◌, ◌<◌, ◌≤◌, ℕ, Bool, List, length, Option, Some, None, Ok, Err, refl, ap, sym, subst, arith, inl}
 use Rattle.std.specs.Prelude.{Result, IsErrAnd}
 use Rattle.staat_model.specs.declared.assembly.Part.{Part}
 use Rattle.staat_model.specs.declared.certificate.Certificate.{Certificate}
@@ -48,9 +48,9 @@ written_long parts f version c refusal.OutOfMemory is answer = tt
 pub ruleset writing = (written_steps, written_certificate, written_long)
 
 -- the outcome was not written
-pub planned_failed : (parts : List Part) (f : Finding) (o : Option ℕ) (e : Fault) (r : Result Answer Fault) → IsOutcome false parts (all_parts parts) f → Follows (IsWritten parts f o) (Err e) → IsErrAnd r (λ x. x ≡ e) → Follows (IsPlanned parts o) r
-planned_failed parts f o e (Ok a) outcome h fails = absurd fails
-planned_failed parts f o e (Err x) outcome h fails = subst (λ g. Follows (IsPlanned parts o) (Err g)) (sym fails)
-    (follows_fault (IsWritten parts f o) (IsPlanned parts o) e (λ g at. record { finding = f; outcome = outcome; written = inl (g, at, refl) }) h)
+pub planned_failed : (parts : List Part) (robust : Bool) (f : Finding) (o : Option ℕ) (e : Fault) (r : Result Answer Fault) → IsOutcome robust parts (all_parts parts) f → Follows (IsWritten parts f o) (Err e) → IsErrAnd r (λ x. x ≡ e) → Follows (IsPlanned parts robust o) r
+planned_failed parts robust f o e (Ok a) outcome h fails = absurd fails
+planned_failed parts robust f o e (Err x) outcome h fails = subst (λ g. Follows (IsPlanned parts robust o) (Err g)) (sym fails)
+    (follows_fault (IsWritten parts f o) (IsPlanned parts robust o) e (λ g at. record { finding = f; outcome = outcome; written = inl (g, at, refl) }) h)
 
 pub ruleset planning = (can_be_shown, counted_many)

@@ -1,7 +1,8 @@
 -- The certificate that is printed is one that `check` calls valid.
-use Rattle.std.proofs.Common.{◌≡◌, ◌∙◌, ◌<◌, ◌≤◌, ℕ, zero, suc, List, Contains, length, Option, Some, None, Ok, Err, false, refl, sym, ap, subst, arith, inl, inr}
+use Rattle.std.proofs.Common.{◌≡◌, ◌∙◌, ◌<◌, ◌≤◌, ℕ, zero, suc, Bool, true, false, List, ◌++◌, Contains, length, Option, Some, None, Ok, Err, refl, sym, ap, subst, arith, inl, inr}
 use Rattle.std.specs.Prelude.{codes, IfSome}
 use Rattle.std.specs.FinSet as set
+use Rattle.std.proofs.lemmas.List.Elements.{All-contains, Contains-append_cases}
 use Rattle.staat_vec.specs.declared.vector.V3.{V3}
 use Rattle.staat_vec.specs.declared.vector.TheConstants.{DIRECTION}
 use Rattle.staat_vec.specs.Vectors.{IsWithin}
@@ -12,10 +13,12 @@ use Rattle.staat_model.specs.declared.limits.TheConstants.{TEXT_LIMIT}
 use Rattle.staat_model.specs.declared.set.PartSet.{PartSet}
 use Rattle.staat_model.specs.declared.verdict.Verdict.{Verdict}
 use Rattle.staat_model.specs.declared.verdict.Verdict.TheVariants.{ValidPlan, ValidRefusal}
+use Rattle.staat_model.specs.declared.tree.Kind.TheVariants.{Edge, Open, Point}
 use Rattle.staat_model.specs.Assemblies.{IsAssembly}
+use Rattle.staat_model.specs.Cells.{IsEntry}
 use Rattle.staat_model.specs.Certify.{IsBodyOf, IsCertificateOf}
 use Rattle.staat_model.specs.Lines.{IsVersion}
-use Rattle.staat_model.specs.Outcomes.{Finding, IsOutcome, IsStep, Serves, Try, both_planned, moved_stuck, no_step, one_part, planned, rest_stuck, stuck, try_vertex}
+use Rattle.staat_model.specs.Outcomes.{Finding, IsOutcome, IsStep, Serves, Try, both_planned, moved_stuck, no_step, one_part, planned, rest_stuck, stuck, try_cell, try_vertex}
 use Rattle.staat_model.specs.Planes.{vertices}
 use Rattle.staat_model.specs.Reasons.{IsVerdict}
 use Rattle.staat_model.specs.Texts.{IsBodyInOrder, IsTextOf, IsWellFormed, text_of}
@@ -23,6 +26,7 @@ use Rattle.staat_model.proofs.Differences.{from_map}
 use Rattle.staat_model.proofs.PlaneLemmas.{planes_apart}
 use Rattle.staat_model.proofs.SomePlanes.{some_planes}
 use Rattle.staat_edge.specs.Files.{bytes_of}
+use Rattle.staat_cells.proofs.WholeLists.{cell_small}
 use Rattle.staat_plan.specs.Certifying.{CanBeCertified, IsValidFor}
 use Rattle.staat_plan.specs.Planning.{HasFewPlanes, IsSized, Settles}
 use Rattle.staat_plan.proofs.CertificateLemmas.{formed, planes_within}
@@ -44,26 +48,40 @@ use Rattle.staat_top.specs.Kept.{KeepsNamed}
 use Rattle.staat_top.specs.Replies.{IsReply, answer, answered}
 use Rattle.staat_top.specs.Headline.{valid_line}
 use Rattle.staat_top.proofs.KeptLemmas.{sound_kept}
+use Rattle.staat_top.proofs.PlanesLemmas.{table_planes}
 use Rattle.staat_top.proofs.RightLemmas.{certified, sound_parts}
 
 -- ---- directions are within the bound
 
-step_sized : (parts : List Part) (w side : PartSet) (try : Try) → IsAssembly parts → IsStep false parts w try side → IsWithin DIRECTION try.d
-step_sized parts w side try is step =
+step_sized : (robust : Bool) (parts : List Part) (w side : PartSet) (try : Try) → IsAssembly parts → IsStep robust parts w try side → IsWithin DIRECTION try.d
+step_sized false parts w side try is step =
     let are = step.tries_are in
     let there = (IsFirst-in (λ (t : Try). Serves parts w t.d) step.tries try step.first).0 in
     let v = from_map try_vertex (vertices are.planes) try (subst (λ ts. Contains ts try) are.is there) in
     subst (IsWithin DIRECTION) (ap (λ (t : Try). t.d) (sym v.2))
     (vertex_sized are.planes v.0 (planes_within parts w are.planes is are.planes_are) (planes_apart parts w are.planes are.planes_are) v.1).size
+step_sized true parts w side try is step =
+    let are = step.tries_are in
+    let there = (IsFirst-in (λ (t : Try). Serves parts w t.d) step.tries try step.first).0 in
+    let c = from_map try_cell (are.opens ++ are.edges ++ are.points) try (subst (λ ts. Contains ts try) are.is there) in
+    let rules = table_planes parts w are.planes is are.planes_are in
+    let small : IsWithin DIRECTION c.0.d = elim (Contains-append_cases (are.opens ++ are.edges) are.points c.0 c.1) [
+      | inl before ↦ elim (Contains-append_cases are.opens are.edges c.0 before) [
+        | inl h ↦ cell_small are.planes rules Open c.0 (All-contains (IsEntry are.planes Open) are.opens c.0 are.opens_are.each h)
+        | inr h ↦ cell_small are.planes rules Edge c.0 (All-contains (IsEntry are.planes Edge) are.edges c.0 are.edges_are.each h)
+      ]
+      | inr h ↦ cell_small are.planes rules Point c.0 (All-contains (IsEntry are.planes Point) are.points c.0 are.points_are.each h)
+    ] in
+    subst (IsWithin DIRECTION) (ap (λ (t : Try). t.d) (sym c.2)) small
 
-module _ (parts : List Part) (is : IsAssembly parts) where
-  sized : (w : PartSet) (f : Finding) → IsOutcome false parts w f → IsSized f
+module _ (robust : Bool) (parts : List Part) (is : IsAssembly parts) where
+  sized : (w : PartSet) (f : Finding) → IsOutcome robust parts w f → IsSized f
   sized w f (one_part e) = tt
   sized w f (no_step two none) = tt
   sized w f (moved_stuck two step sub) = tt
   sized w f (rest_stuck two step one sub) = tt
   sized w f (both_planned {side} {try} {moved} {rest} {d} {ms} {rs} two step one sub e marks) =
-      (subst (IsWithin DIRECTION) (sym e) (step_sized parts w side try is step), sized side (planned moved ms) one, sized (set.difference w side) (planned rest rs) sub)
+      (subst (IsWithin DIRECTION) (sym e) (step_sized robust parts w side try is step), sized side (planned moved ms) one, sized (set.difference w side) (planned rest rs) sub)
 
 -- ---- the certificate keeps its form
 
@@ -115,13 +133,13 @@ module _ (others : Files) (asked : Asked) (name text : List ℕ) (parts : List P
   calls_valid (stuck w) valid = replies ValidRefusal valid
 
 pub printed_is_valid : (files others : Files) (request : PlanRequest) (version : ℕ) (name : List ℕ) (parts : List Part) (planes : List V3) (f : Finding) (text : List ℕ) → IsPlanRequest request → request.certificate ≡ Some version → KeepsNamed files others request.asked.input → bytes_of name others ≡ Some text
-    → IsSoundOf files request.asked (Ok parts) → AreCounted parts request.planes (Ok planes) → IsOutcome false parts (all_parts parts) f → IsWritten parts f request.certificate (Ok text)
+    → IsSoundOf files request.asked (Ok parts) → AreCounted parts request.planes (Ok planes) → IsOutcome request.robust parts (all_parts parts) f → IsWritten parts f request.certificate (Ok text)
     → IsReply (Some (Check (record { asked = request.asked; certificate = name }))) others (answered (answer 0 (valid_line (outcome_status f))))
 printed_is_valid files others request version name parts planes f text bounds asks keeps held read counted outcome written =
     let is = (sound_parts files request.asked parts bounds.0 read).assembly in
-    let settled = right_lemma false parts is (all_parts parts) f outcome in
-    let can = can_be parts request.planes f is bounds.2 settled (sized parts is (all_parts parts) f outcome) (few_planes parts request.planes planes counted) in
+    let settled = right_lemma request.robust parts is (all_parts parts) f outcome in
+    let can = can_be parts request.planes f is bounds.2 settled (sized request.robust parts is (all_parts parts) f outcome) (few_planes parts request.planes planes counted) in
     let w = writes_text parts f version request.certificate text asks written in
-    let form = keeps_form parts version f w.c is (subst (λ o. IfSome o IsVersion) asks bounds.3) can w.of in
+    let form = keeps_form parts version f w.c is (subst (λ o. IfSome o IsVersion) asks bounds.4) can w.of in
     calls_valid others request.asked name text parts w.c (sound_kept files others request.asked parts keeps read) held (record { form = form; is = w.is })
     (subst (λ t. length t ≤ TEXT_LIMIT) (sym w.is) w.short) f (certified parts version f w.c is settled w.of)

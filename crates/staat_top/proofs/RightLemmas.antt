@@ -1,5 +1,5 @@
 -- What statuses 0 and 1 mean.
-use Rattle.std.proofs.Common.{◌≡◌, ℕ, suc, List, [], ◌∷◌, map, length, All, Option, Some, None, false, refl, ap, ap₂, sym, ◌∙◌, subst, arith, inl, inr}
+use Rattle.std.proofs.Common.{◌≡◌, ℕ, suc, List, [], ◌∷◌, map, length, All, Option, Some, None, refl, ap, ap₂, sym, ◌∙◌, subst, arith, inl, inr}
 use Rattle.std.proofs.lemmas.List.Elements.{All-nil, All-cons}
 use Rattle.std.specs.Prelude.{Ok}
 use Rattle.staat_vec.specs.declared.vector.V3.{V3}
@@ -165,17 +165,17 @@ says_outcome parts f (Some version) text assembly settled (certificate c is few 
 says_outcome parts f (Some version) text assembly settled (text_too_long c is many e) = absurd cc
 
 -- the answer of a plan takes all parts apart
-plan_is_good : (files : Files) (request : PlanRequest) (parts : List Part) (f : Finding) (text : List ℕ) → AreSoundParts files request.asked parts → IsOutcome false parts (all_parts parts) f → IsWritten parts f request.certificate (Ok text) → outcome_status f ≡ 0 → SaysGoodPlan files request text
+plan_is_good : (files : Files) (request : PlanRequest) (parts : List Part) (f : Finding) (text : List ℕ) → AreSoundParts files request.asked parts → IsOutcome request.robust parts (all_parts parts) f → IsWritten parts f request.certificate (Ok text) → outcome_status f ≡ 0 → SaysGoodPlan files request text
 plan_is_good files request parts (planned tree marks) text are outcome written zero =
-    let good = right_lemma false parts are.assembly (all_parts parts) (planned tree marks) outcome in
+    let good = right_lemma request.robust parts are.assembly (all_parts parts) (planned tree marks) outcome in
     record { parts = parts; sound = are; tree = tree; marks = marks; good = good; says = says_outcome parts (planned tree marks) request.certificate text are.assembly good written }
 plan_is_good files request parts (stuck w) text are outcome written zero = absurd (omega (arith, zero))
 
 -- the set that an answer names as stuck is stuck
-set_is_stuck : (files : Files) (request : PlanRequest) (parts : List Part) (f : Finding) (text : List ℕ) → AreSoundParts files request.asked parts → IsOutcome false parts (all_parts parts) f → IsWritten parts f request.certificate (Ok text) → outcome_status f ≡ 1 → SaysStuckSet files request text
+set_is_stuck : (files : Files) (request : PlanRequest) (parts : List Part) (f : Finding) (text : List ℕ) → AreSoundParts files request.asked parts → IsOutcome request.robust parts (all_parts parts) f → IsWritten parts f request.certificate (Ok text) → outcome_status f ≡ 1 → SaysStuckSet files request text
 set_is_stuck files request parts (planned tree marks) text are outcome written one = absurd (omega (arith, one))
 set_is_stuck files request parts (stuck w) text are outcome written one =
-    let settled = right_lemma false parts are.assembly (all_parts parts) (stuck w) outcome in
+    let settled = right_lemma request.robust parts are.assembly (all_parts parts) (stuck w) outcome in
     record { parts = parts; sound = are; set = w; within = settled.0; is_stuck = settled.1; says = says_outcome parts (stuck w) request.certificate text are.assembly settled written }
 
 -- ---- certificates

@@ -1,5 +1,5 @@
 -- Each assembly has an outcome.
-use Rattle.std.proofs.Common.{◌≡◌, ◌≢◌, ◌⊎◌, ◌∙◌, ℕ, zero, suc, ◌<◌, ◌≤◌, List, [], ◌∷◌, ◌++◌, All, Contains, length, map, false, refl, ap, sym, subst, arith, inl, inr}
+use Rattle.std.proofs.Common.{◌≡◌, ◌≢◌, ◌⊎◌, ◌∙◌, ℕ, zero, suc, ◌<◌, ◌≤◌, List, [], ◌∷◌, ◌++◌, All, Contains, length, map, Bool, true, false, refl, ap, sym, subst, arith, inl, inr}
 use Rattle.std.specs.Prelude.{ℤ, pos, ◌<ℤ◌}
 use Rattle.std.specs.FinSet as set
 use Rattle.std.proofs.lemmas.List.Elements.{All-contains, All-cons, All-nil, Contains-append_left, Contains-append_right}
@@ -14,7 +14,7 @@ use Rattle.staat_model.specs.Assemblies.{HoldsAt, IsAssembly}
 use Rattle.staat_model.specs.Certificates.{IsAcross}
 use Rattle.staat_model.specs.Facets.{IsFacet}
 use Rattle.staat_model.specs.Meeting.{Meets}
-use Rattle.staat_model.specs.Outcomes.{AreVertexTries, Finding, IsMinimal, IsMovedSide, IsOutcome, IsStep, Serves, Try, both_planned, moved_stuck, no_step, one_part, planned, rest_stuck, stuck, try_vertex}
+use Rattle.staat_model.specs.Outcomes.{AreTries, Finding, IsMinimal, IsMovedSide, IsOutcome, IsStep, Serves, Try, both_planned, moved_stuck, no_step, one_part, planned, rest_stuck, stuck, try_cell, try_vertex}
 use Rattle.staat_model.specs.Planes.{vertices}
 use Rattle.staat_model.specs.Plans.{leaf, split}
 use Rattle.staat_model.specs.Removal.{IsFree, MeetsAlong}
@@ -34,8 +34,13 @@ use Rattle.staat_model.proofs.SetWords.{same_members}
 use Rattle.staat_model.proofs.SomePlanes.{arcs_listing, facets_listing, holds_or, some_planes, vector_or}
 use Rattle.staat_model.proofs.PlanLemmas.{there_is}
 use Rattle.staat_graph.proofs.Finite.{len_some}
+use Rattle.staat_cells.proofs.SomeCells.{some_cells}
+use Rattle.staat_planes.specs.declared.table.TheConstants.{MOST_CELL_PLANES}
+use Rattle.staat_plan.specs.Planning.{HasFewPlanes}
+use Rattle.staat_plan.proofs.Fewer.{fewer_planes_lemma}
 use Rattle.staat_plan.proofs.Opposites.{rest_some}
 use Rattle.staat_plan.proofs.OutcomeLemmas.{rest_fewer, side_fewer}
+use Rattle.staat_top.proofs.PlanesLemmas.{table_planes}
 
 -- ---- searches
 
@@ -213,39 +218,69 @@ module _ (parts : List Part) (is : IsAssembly parts) where
       proper = λ e. moved.is.minimal serves.side (subst (λ (t : PartSet). IsSide t serves.side) (sym e) serves.is_side) serves.free;
     }
 
-  -- ---- the outcome
+-- ---- the directions to try
 
+-- the planes of all parts are few enough for a list of all cells, which a robust plan takes
+abbrev pub HasCells : Bool → List Part → Type 0
+HasCells robust parts = robust ≡ true → HasFewPlanes parts (below (length parts)) MOST_CELL_PLANES
+
+some_tries : (robust : Bool) (parts : List Part) (w : PartSet) → IsAssembly parts → HasCells robust parts → IsSubset w (below (length parts)) → (tries : List Try) × AreTries robust parts w tries
+some_tries false parts w is few within =
+    let table = some_planes parts w in
+    (map try_vertex (vertices table.0), record { planes = table.0; planes_are = table.1; is = refl })
+some_tries true parts w is few within =
+    let table = some_planes parts w in
+    let fit = few refl in
+    let le : length table.0 ≤ length fit.planes = fewer_planes_lemma parts w (below (length parts)) table.0 fit.planes within table.1 fit.planes_are in
+    let most : length fit.planes ≤ 256 = fit.few in
+    let cells = (some_cells table.0 (table_planes parts w table.0 is table.1) (omega (arith, le, most))).1 in (
+      map try_cell (cells.opens ++ cells.edges ++ cells.points),
+      record {
+        planes = table.0;
+        planes_are = table.1;
+        opens = cells.opens;
+        edges = cells.edges;
+        points = cells.points;
+        opens_are = cells.opens_are;
+        edges_are = cells.edges_are;
+        points_are = cells.points_are;
+        is = refl;
+      },
+    )
+
+-- ---- the outcome
+
+module _ (robust : Bool) (parts : List Part) (is : IsAssembly parts) (few : HasCells robust parts) where
   abbrev Found : PartSet → Type 0
-  Found w = (f : Finding) × IsOutcome false parts w f
+  Found w = (f : Finding) × IsOutcome robust parts w f
 
-  joined : (w side : PartSet) (try : Try) → 2 ≤ set.len w → IsStep false parts w try side → Found side → Found (set.difference w side) → Found w
+  joined : (w side : PartSet) (try : Try) → 2 ≤ set.len w → IsStep robust parts w try side → Found side → Found (set.difference w side) → Found w
   joined w side try two step (stuck a, moved) rest = (stuck a, moved_stuck two step moved)
   joined w side try two step (planned p ms, moved) (stuck b, rest) = (stuck b, rest_stuck two step moved rest)
   joined w side try two step (planned p ms, moved) (planned r rs, rest) = (planned (split try.d p r) (try.mark ++ ms ++ rs), both_planned two step moved rest refl refl)
 
-  found_in : (n k : ℕ) (w : PartSet) → set.len w ≤ k → IsNonempty w → IsSubset w (below n) → Found w
-  found_in n zero w le some small = (let pos = len_some w some.0 some.1 in absurd (omega (arith, pos, le)))
-  found_in n (suc k) w le some small = elim (lt_or 1 (set.len w)) [
+  found_in : (k : ℕ) (w : PartSet) → set.len w ≤ k → IsNonempty w → IsSubset w (below (length parts)) → Found w
+  found_in zero w le some small = (let pos = len_some w some.0 some.1 in absurd (omega (arith, pos, le)))
+  found_in (suc k) w le some small = elim (lt_or 1 (set.len w)) [
     | inr one ↦ (planned (leaf some.0) [], one_part (one_is w some.0 some.1 (one_within w some.0 some.1 (omega (arith, one)))))
     | inl two ↦
-        let table = some_planes parts w in
-        let tries = map try_vertex (vertices table.0) in
-        let are : AreVertexTries parts w tries = record { planes = table.0; planes_are = table.1; is = refl } in
-        elim (first_in (λ (t : Try). Serves parts w t.d) (λ (t : Try). serves_or n w small t.d) tries) [
+        let n = length parts in
+        let (tries, are) = some_tries robust parts w is few small in
+        elim (first_in (λ (t : Try). Serves parts w t.d) (λ (t : Try). serves_or parts is n w small t.d) tries) [
           | inr none ↦ (stuck w, no_step (omega (arith, two)) (record { tries = tries; tries_are = are; none = none }))
           | inl (try, first) ↦
               let serves : Serves parts w try.d = (IsFirst-in (λ (t : Try). Serves parts w t.d) tries try first).1 in
-              let moved = moved_side n w small try.d serves in
-              let side : IsSide w moved.0 = moved_is_side n w small try.d moved.0 serves moved.1 in
+              let moved = moved_side parts is n w small try.d serves in
+              let side : IsSide w moved.0 = moved_is_side parts is n w small try.d moved.0 serves moved.1 in
               let fewer = side_fewer w moved.0 side in
               let less = rest_fewer w moved.0 (set.difference w moved.0) side refl in
               joined w moved.0 try (omega (arith, two)) (record { tries = tries; tries_are = are; first = first; moved = moved.1 })
-              (found_in n k moved.0 (omega (arith, fewer, le)) side.nonempty (λ q h. small q (side.within q h)))
-              (found_in n k (set.difference w moved.0) (omega (arith, less, le)) (rest_some w moved.0 side) (λ q h. small q (rest_within w moved.0 q h)))
+              (found_in k moved.0 (omega (arith, fewer, le)) side.nonempty (λ q h. small q (side.within q h)))
+              (found_in k (set.difference w moved.0) (omega (arith, less, le)) (rest_some w moved.0 side) (λ q h. small q (rest_within w moved.0 q h)))
         ]
   ]
 
-  pub some_outcome : (f : Finding) × IsOutcome false parts (below (length parts)) f
+  pub some_outcome : (f : Finding) × IsOutcome robust parts (below (length parts)) f
   some_outcome =
       let first : Has (below (length parts)) 0 = (has-below (length parts) 0).1 (omega (arith, is.at_least)) in
-      found_in (length parts) (set.len (below (length parts))) (below (length parts)) (omega arith) (0, first) (λ q h. h)
+      found_in (set.len (below (length parts))) (below (length parts)) (omega arith) (0, first) (λ q h. h)

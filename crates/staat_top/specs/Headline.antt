@@ -1,5 +1,5 @@
 -- What stands above all else: what the answers of `check` and `plan` mean.
-use Rattle.std.specs.Prelude.{◌≡◌, ◌↔◌, ◌⊎◌, ◌<◌, ◌≤◌, ℕ, zero, suc, List}
+use Rattle.std.specs.Prelude.{◌≡◌, ◌↔◌, ◌⊎◌, ◌<◌, ◌≤◌, ℕ, zero, suc, true, List}
 use Rattle.std.specs.Prelude.{length, Option, Some, Ok, codes}
 use Rattle.staat_vec.specs.declared.vector.V3.{V3}
 use Rattle.staat_edge.specs.Files.{bytes_of}
@@ -12,6 +12,7 @@ use Rattle.staat_model.specs.Certify.{IsCertificateOf}
 use Rattle.staat_model.specs.Outcomes.{Finding, IsOutcome}
 use Rattle.staat_model.specs.Planes.{ArePlanes}
 use Rattle.staat_model.specs.Texts.{text_of}
+use Rattle.staat_planes.specs.declared.table.TheConstants.{MOST_CELL_PLANES}
 use Rattle.staat_check.specs.Verdicts.{IsPlanOf, IsRefusalWithSet}
 use Rattle.staat_words.specs.declared.request.CheckRequest.{CheckRequest}
 use Rattle.staat_words.specs.declared.request.PlanRequest.{PlanRequest}
@@ -36,12 +37,13 @@ abbrev pub valid_line : ℕ → List ℕ
 valid_line zero = codes "valid plan\n"
 valid_line (suc n) = codes "valid refusal\n"
 
--- No limit is exceeded: the parts have no more planes than the request allows; and if a certificate is asked for, what
--- is found for the parts has one that is not too long.
+-- No limit is exceeded: the parts have no more planes than the request allows, and for a robust plan no more than
+-- where cells are listed; and if a certificate is asked for, what is found for the parts has one that is not too long.
 pub record IsWithinLimits (parts : List Part) (request : PlanRequest) : Type 0 where
   pub planes : List V3
   pub planes_are : ArePlanes parts (all_parts parts) planes
   pub few : length planes ≤ request.planes
+  pub cells : request.robust ≡ true → length planes ≤ MOST_CELL_PLANES
   pub short : (version : ℕ) (finding : Finding) → request.certificate ≡ Some version →
       IsOutcome request.robust parts (all_parts parts) finding →
       (c : Certificate) × IsCertificateOf parts version finding c × (length (text_of c) ≤ TEXT_LIMIT)

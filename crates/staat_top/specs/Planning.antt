@@ -34,7 +34,8 @@ abbrev pub outcome_answer : Finding → List ℕ → Answer
 outcome_answer finding text = record { status = outcome_status finding; text = text }
 
 -- The last step for a plan: the outcome of all parts, written.
-pub record IsPlanned (parts : List Part) (robust : Bool) (certificate : Option ℕ) (found : Found Answer) : Type 0 where
+pub record IsPlanned (parts : List Part) (robust : Bool) (certificate : Option ℕ) (found : Found Answer)
+    : Type 0 where
   pub finding : Finding
   pub outcome : IsOutcome robust parts (all_parts parts) finding
   pub written : Then (IsWritten parts finding certificate) (λ text found. found ≡ Ok (outcome_answer finding text))

@@ -38,12 +38,7 @@ fn know(sound: &Sound)
 
 /// The outcome of an assembly that has at most so many planes, robust or not.
 #[tactic(auto, using(crate::proofs::PlanLemmas::planning))]
-pub fn outcome_of(
-    alloc: Global,
-    sound: &Sound,
-    planes: u32,
-    robust: bool,
-) -> Result<Outcome, Fault>
+pub fn outcome_of(alloc: Global, sound: &Sound, planes: u32, robust: bool) -> Result<Outcome, Fault>
     requires least { LEAST_PLANES ≤ planes }
     requires most { planes ≤ MOST_PLANES }
     requires cells { robust ≡ true → planes ≤ MOST_CELL_PLANES }
