@@ -1,5 +1,5 @@
 -- What is said of a product that the program makes itself.
-use Rattle.std.proofs.Common.{◌≡◌, ◌<◌, ◌⊎◌, ℕ, List, length, Ok, Err, false, refl, ap, subst, inl, inr}
+use Rattle.std.proofs.Common.{◌≡◌, ◌∙◌, ◌<◌, ◌≤◌, ◌⊎◌, ℕ, List, length, Ok, Err, false, refl, ap, subst, inl, inr}
 use Rattle.std.specs.Prelude.{Result}
 use Rattle.staat_model.specs.declared.assembly.Part.{Part}
 use Rattle.staat_model.specs.declared.certificate.Certificate.{Certificate}
@@ -14,7 +14,11 @@ use Rattle.staat_model.specs.Outcomes.{Finding, IsOutcome, planned, stuck}
 use Rattle.staat_model.specs.Reasons.{IsVerdict}
 use Rattle.staat_model.specs.Texts.{text_of}
 use Rattle.staat_model.proofs.OneReason.{IsVerdict-unique}
+use Rattle.staat_cert.specs.declared.cert_refusal.CertRefusal.{CertRefusal}
+use Rattle.staat_cert.specs.declared.cert_refusal.CertRefusal.TheVariants.{BadLine, OutOfMemory as NoMemory}
+use Rattle.staat_cert.specs.Feeds.{IsReadAnswer}
 use Rattle.staat_cert.specs.Writing.{IsTextAnswer}
+use Rattle.staat_cert.proofs.AnswerLemmas.{one_read_answer}
 use Rattle.staat_drill.proofs.ProductLemmas.{nest_is_assembly, row_is_assembly}
 use Rattle.staat_fault.specs.declared.fault.Fault.TheVariants.{TextTooLong}
 use Rattle.staat_plan.specs.Certifying.{IsValidFor}
@@ -62,3 +66,35 @@ pub drill_refused : (product : Product) (parts : List Part) (f : Finding) (c : C
 drill_refused product parts f c (refusal.TextTooLong n) outcome is (e, many) =
     drill_too_long f c outcome is (subst (λ n. TEXT_LIMIT < n) e many) (ap (λ n. Err (TextTooLong n)) e)
 drill_refused product parts f c refusal.OutOfMemory outcome is answer = tt
+
+-- what is read in the text that was written, unless there is no memory
+pub read_is : (c : Certificate) (text : List ℕ) (r : Result Certificate CertRefusal) → IsTextAnswer c (Ok text) → IsReadAnswer text r → (r ≡ Err NoMemory → ⊥) → r ≡ Ok c
+read_is c text r written read some = one_read_answer text r (Ok c) read (written.1, written.0) some no_fault
+  where
+    no_fault : ◌≡◌ {A = Result Certificate CertRefusal} (Ok c) (Err NoMemory) → ⊥
+    no_fault e = cc
+
+pub read_same : (c d : Certificate) (text : List ℕ) → IsTextAnswer c (Ok text) → IsReadAnswer text (Ok d) → d ≡ c
+read_same c d text written read = given (read_is c text (Ok d) written read (λ e. no_fault e))
+  where
+    given : ◌≡◌ {A = Result Certificate CertRefusal} (Ok d) (Ok c) → d ≡ c
+    given e = cc
+
+    no_fault : ◌≡◌ {A = Result Certificate CertRefusal} (Ok d) (Err NoMemory) → ⊥
+    no_fault e = cc
+
+pub no_bad_line : (c : Certificate) (text : List ℕ) (k : ℕ) → IsTextAnswer c (Ok text) → IsReadAnswer text (Err (BadLine k)) → ⊥
+no_bad_line c text k written read = other (read_is c text (Err (BadLine k)) written read (λ e. no_fault e))
+  where
+    other : ◌≡◌ {A = Result Certificate CertRefusal} (Err (BadLine k)) (Ok c) → ⊥
+    other e = cc
+
+    no_fault : ◌≡◌ {A = Result Certificate CertRefusal} (Err (BadLine k)) (Err NoMemory) → ⊥
+    no_fault e = cc
+
+-- the line for what was written, read and judged
+pub drill_answer : (product : Product) (parts : List Part) (f : Finding) (c d : Certificate) (v : Verdict) (bytes line : List ℕ) (n : ℕ) → IsOutcome false parts (all_parts parts) f → IsCertificateOf parts 2 f c → IsTextAnswer c (Ok bytes) → d ≡ c → IsVerdict parts d v → n ≡ length bytes
+    → line ≡ drill_line product f n v → IsDrilled product parts (Ok (record { status = 0; text = line }))
+drill_answer product parts f c d v bytes line n outcome is (written, short) same judged long says =
+    drilled f c v outcome is (subst (λ (t : List ℕ). length t ≤ TEXT_LIMIT) written.is short) (subst (λ (x : Certificate). IsVerdict parts x v) same judged)
+    (ap (λ (t : List ℕ). Ok (record { status = 0; text = t })) (says ∙ ap (λ m. drill_line product f m v) (long ∙ ap length written.is)))

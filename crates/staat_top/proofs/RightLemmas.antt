@@ -219,7 +219,7 @@ drill_is_said product built a is (sound are e) (drilled f c v o k short j d) =
     let outcome = subst (λ (ps : List Part). IsOutcome false ps (all_parts ps) f) same o in
     let certificate_is = subst (λ (ps : List Part). IsCertificateOf ps 2 f c) same k in
     let judged = subst (λ (ps : List Part). IsVerdict ps c v) same j in
-    let valid = λ assembly. certified (parts_of_product product) 2 f c assembly (right_lemma false (parts_of_product product) assembly (all_parts (parts_of_product product)) f outcome) certificate_is in
+    let valid : (assembly : IsAssembly (parts_of_product product)) → IsValidFor (parts_of_product product) f c = λ assembly. certified (parts_of_product product) 2 f c assembly (right_lemma false (parts_of_product product) assembly (all_parts (parts_of_product product)) f outcome) certificate_is in
     let text : record { status = 0; text = drill_line product f (length (text_of c)) v } ≡ a = same_answer a (record { status = 0; text = drill_line product f (length (text_of c)) v }) d in
     subst (λ (b : Answer). SaysDrilled product b.text) text (says_drilled product f c v is are valid outcome certificate_is judged)
 

@@ -1,5 +1,5 @@
 // The command `drill`: the program tried on a product of its own.
-ghost use Rattle.std.specs.Prelude.{◌≡◌, ◌<◌, ◌≤◌, Ok, IfOk, IfErr, MatchResult, length};
+ghost use Rattle.std.specs.Prelude.{◌≡◌, ◌<◌, Ok, IfOk, IfErr, false};
 ghost use Rattle.staat_model.specs.declared.certificate.Certificate.{Certificate as CertificateValue};
 ghost use Rattle.staat_model.specs.Certify.{IsCertificateOf};
 ghost use Rattle.staat_model.specs.Outcomes.{IsOutcome, finding_of};
@@ -51,7 +51,9 @@ fn read_again(alloc: Global, text: &Bytes) -> Result<Certificate, OutOfMemory>
     match read_cert(alloc, text.as_slice()) {
         Ok(certificate) => Ok(certificate),
         Err(CertRefusal::OutOfMemory) => Err(OutOfMemory),
-        Err(_) => unreachable!(),
+        Err(CertRefusal::BadLine(_)) => unreachable!(),
+        Err(CertRefusal::ShortCert) => unreachable!(),
+        Err(CertRefusal::TooLong) => unreachable!(),
     }
 }
 
