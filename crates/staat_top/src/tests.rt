@@ -548,13 +548,17 @@ fn shelf_of_blocks(alloc: Global) -> Result<MemoryShelf, Fail> {
     Ok(MemoryShelf::new(alloc, Files::from_vec(blocks(alloc)?), failing, 4096)?)
 }
 
+const ROW: &str = "drill row 2: 1 splits, 69 bytes, valid\n";
+
+const BOX: &str = "drill box 1: stuck 2 parts, 165 bytes, valid\n";
+
 #[test]
-fn graphs_cells_and_plans_of_small_products(rt: HostRuntime) -> Result<(), Fail> {
+fn answers_for_small_products(rt: HostRuntime) -> Result<(), Fail> {
     let alloc = rt.alloc();
     let usage = "staat: usage\n";
     let first = "move 0 along 0 0 1 away from 1\nmoves 1\n";
     let sideways = "move 0 along 0 -1 0 away from 1\nmoves 1\n";
-    let table: [(&[&str], u8, &str, &str); 28] = [
+    let table: [(&[&str], u8, &str, &str); 33] = [
         (
             &["graph", "--along=0,1,0", "a.off", "b.off"],
             0,
@@ -587,6 +591,21 @@ fn graphs_cells_and_plans_of_small_products(rt: HostRuntime) -> Result<(), Fail>
         ),
         (&["graph", "a.off", "b.off"], 2, "", "staat: usage\n"),
         (&["cells", "a.off", "b.off"], 0, CELLS, ""),
+        (&["drill", "row", "2"], 0, ROW, ""),
+        (&["drill", "box", "1"], 0, BOX, ""),
+        (&["drill", "box", "7"], 2, "", usage),
+        (
+            &["plan", "--robust", "a.off", "b.off"],
+            0,
+            "move 0 along -2 -1 -1 away from 1 by open\nmoves 1\n",
+            "",
+        ),
+        (
+            &["plan", "--manifest=dovetail.json", "--robust"],
+            0,
+            "move 0 along 0 -1 0 away from 1 by point\nmoves 1\n",
+            "",
+        ),
         (&["cells", "a", "--planes=257"], 2, "", usage),
         (
             &["cells", "--manifest=dovetail.json", "--planes=4"],
