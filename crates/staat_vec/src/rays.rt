@@ -1,6 +1,6 @@
 // The primitive vector on a ray, and the canonical one of two opposite vectors.
-ghost use Rattle.std.specs.Prelude.{◌≡◌, ◌≢◌, ◌≤◌, ◌^◌, ℕ, pos, int_div};
-ghost use Rattle.std.specs.Int.{IsGcd};
+ghost use Rattle.std.specs.Prelude.{◌≡◌, ◌≢◌, ◌≤◌, ◌≤ℤ◌, ◌*◌, ◌%◌, ◌^◌, ℕ, min, pos, int_div};
+ghost use Rattle.std.specs.Int.{IsGcd, trailing_zeros, w64};
 ghost use Rattle.staat_vec.specs.Vectors.{IsWithin, origin};
 ghost use Rattle.staat_vec.specs.Primitives.{
   IsPrimitiveOf,
@@ -14,18 +14,56 @@ ghost use Rattle.staat_vec.specs.Primitives.{
 use crate::products::neg;
 use crate::vector::{DIRECTION, V3};
 
-// by Euclid's algorithm, on words of the machine
+// the odd part of a number other than 0
+fn odd_part(a: u64) -> u64
+    requires { 1 ≤ a }
+    ensures odd { result % 2 ≡ 1 }
+    ensures whole { a ≡ result * 2 ^ trailing_zeros w64 a }
+{
+    a >> a.trailing_zeros()
+}
+
+// by differences of odd numbers (Stein 1967), without a division
+fn gcd_with_odd(odd: u64, other: u64) -> u64
+    requires { odd % 2 ≡ 1 }
+    ensures { IsGcd odd other result }
+{
+    let mut x = odd;
+    let mut y = other;
+    while y != 0 && x != 1 {
+        let z = odd_part(y);
+        if x < z {
+            y = z - x;
+        } else {
+            y = x - z;
+            x = z;
+        }
+    }
+    x
+}
+
+// how often 2 divides both numbers, which are not 0
+fn common_twos(a: u64, b: u64) -> u32
+    requires a { 1 ≤ a }
+    requires b { 1 ≤ b }
+    ensures { result ≡ min (trailing_zeros w64 a) (trailing_zeros w64 b) }
+{
+    let first = a.trailing_zeros();
+    let second = b.trailing_zeros();
+    if first <= second { first } else { second }
+}
+
+// on words of the machine
 fn gcd_of_words(a: u64, b: u64) -> u64
     ensures { IsGcd a b result }
 {
-    let mut x = a;
-    let mut y = b;
-    while y != 0 {
-        let remainder = x % y;
-        x = y;
-        y = remainder;
+    if a == 0 {
+        return b;
     }
-    x
+    if b == 0 {
+        return a;
+    }
+    gcd_with_odd(odd_part(a), odd_part(b)) << common_twos(a, b)
 }
 
 // by Euclid's algorithm; most vectors have small components
@@ -59,7 +97,18 @@ fn content(v: V3) -> u128
     )
 }
 
-// a component without the divisor; most vectors are primitive as they are
+// the greatest number of a signed word
+const WORD: u128 = i64::MAX as u128;
+
+// a component without the divisor, where both are words of the machine
+fn quotient_of_words(a: i64, divisor: i64) -> i64
+    requires { pos 1 ≤ℤ divisor }
+    ensures { result ≡ int_div a divisor }
+{
+    a / divisor
+}
+
+// a component without the divisor; most vectors are primitive as they are, and most have small components
 fn quotient(a: i128, divisor: u128) -> i128
     requires some { 1 ≤ divisor }
     requires size { divisor ≤ DIRECTION }
@@ -67,6 +116,9 @@ fn quotient(a: i128, divisor: u128) -> i128
 {
     if divisor == 1 {
         return a;
+    }
+    if a.unsigned_abs() <= WORD && divisor <= WORD {
+        return quotient_of_words(a as i64, divisor as i64) as i128;
     }
     a / divisor as i128
 }
