@@ -2,6 +2,8 @@ pub mod WallLemmas
 pub mod PairLists
 pub mod PairLemmas
 pub mod SourceSizes
+pub mod EdgeLemmas
+pub mod SearchLemmas
 pub mod LawLemmas
 pub mod FewLemmas
 pub mod Sources

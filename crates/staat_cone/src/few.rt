@@ -7,10 +7,11 @@ ghost use Rattle.staat_vec.specs.Lists.{Lists};
 ghost use Rattle.staat_model.specs.Cones.{IsSpanning};
 ghost use Rattle.staat_model.specs.Facets.{IsFacet};
 ghost use Rattle.staat_model.specs.Walls.{IsBeyond};
-ghost use Rattle.staat_cone.specs.Pairs.{Adds, FromSome, IsThrough};
+ghost use Rattle.staat_cone.specs.Pairs.{Adds, FromSome, IsEdge};
 ghost use Rattle.staat_cone.specs.Few.{IsCandidate, IsGrown, IsDifferenceStep, IsViolator};
 
-use crate::pairs::{add_all_through, is_above};
+use crate::edges::{add_all_edges, primitive_normal};
+use crate::pairs::is_above;
 use crate::spread::three_steps;
 use crate::walls::{highest, is_nearer, lowest, points_of};
 use staat_model::Piece;
@@ -22,7 +23,8 @@ use std::alloc::Global;
 const ROUNDS: u32 = 1 << 20;
 
 // Few of the differences of two pieces, and the facets of their cone: those that were not tested against all
-// differences yet, among which some may lie before one of the few, and those that were.
+// differences yet, which are not made primitive and among which some may lie before one of the few, and those that
+// were.
 #[derive(Drop)]
 struct Few {
     members: Vec<V3>,
@@ -43,25 +45,25 @@ impl Few {
         }
     }
 
-    // one more member, and the facets through it and another
+    // one more member, and the walls through it and another
     fn insert(&mut self, v: V3) -> Result<(), OutOfMemory>
         requires members { All (IsWithin DIFF) self.old.members.items }
         requires vector { IsWithin DIFF v }
         ensures members { OnOk result (self.new.members.items ≡ self.old.members.items ++ v ∷ []) }
         ensures untested { OnOk result (Adds
-            (FromSome (λ g. IsThrough self.old.members.items g v) self.old.members.items)
+            (FromSome (λ g. IsEdge self.old.members.items g v) self.old.members.items)
             self.old.untested.items self.new.untested.items) }
         ensures found { OnOk result (self.new.found.items ≡ self.old.found.items) }
     {
         let members = self.members.as_slice();
-        add_all_through(members, members, v, &mut self.untested)?;
+        add_all_edges(members, v, &mut self.untested)?;
         self.members.push(v)?;
         Ok(())
     }
 }
 
-// the difference that lies farthest behind n, if one does
-fn violator(n: V3, p: &Piece, q: &Piece) -> Option<V3>
+/// The difference that lies farthest behind n, if one does.
+pub fn violator(n: V3, p: &Piece, q: &Piece) -> Option<V3>
     requires normal { IsWithin NORMAL n }
     ensures some { IfSome result (IsViolator p.now q.now n) }
     ensures none { IfNone result (IsBeyond p.now q.now n) }
@@ -75,8 +77,8 @@ fn violator(n: V3, p: &Piece, q: &Piece) -> Option<V3>
     }
 }
 
-// Tests n against all differences: it is found to be a facet of the pieces, or the few grow. Where one of the few lies
-// behind it, it is dropped.
+// Tests n against all differences: the primitive vector on its ray is found to be a facet of the pieces, or the few
+// grow. Where one of the few lies behind it, it is dropped.
 fn settle(few: &mut Few, n: V3, p: &Piece, q: &Piece) -> Result<(), OutOfMemory>
     requires { IsGrown p.now q.now few.old.members.items (few.old.untested.items ++ n ∷ []) few.old.found.items }
     ensures grown { OnOk result
@@ -89,7 +91,7 @@ fn settle(few: &mut Few, n: V3, p: &Piece, q: &Piece) -> Result<(), OutOfMemory>
     }
     match violator(n, p, q) {
         Some(v) => few.insert(v)?,
-        None => few.found.push(n)?,
+        None => few.found.push(primitive_normal(n))?,
     }
     Ok(())
 }

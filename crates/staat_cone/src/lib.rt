@@ -2,10 +2,13 @@
 #![tactic(auto)]
 
 mod apart;
+mod edges;
 mod few;
 pub mod laws;
+mod narrow;
 mod pairs;
 mod plain;
+mod search;
 mod source;
 mod spread;
 #[cfg(test)]

@@ -8,9 +8,10 @@ ghost use Rattle.staat_model.specs.Pieces.{IsPiece};
 ghost use Rattle.staat_cone.specs.Pairs.{Adds, FromSome};
 ghost use Rattle.staat_cone.specs.Few.{IsDifferenceStep};
 
+use crate::narrow::{narrow_cross, narrow_dot};
 use crate::walls::{is_wall, points_of};
 use staat_model::Piece;
-use staat_vec::{DIFF, OutOfMemory, POINT, V3, cross_diff, det, sub};
+use staat_vec::{DIFF, OutOfMemory, POINT, V3, sub};
 use std::alloc::Global;
 
 // adds what leads from the point a to each of the points
@@ -74,7 +75,7 @@ fn first_apart(a: V3, points: &[V3], u: V3) -> Option<V3>
 {
     for b in points {
         let v = sub(*b, a);
-        if is_wall(cross_diff(u, v)) {
+        if is_wall(narrow_cross(u, v)) {
             return Some(v);
         }
     }
@@ -88,7 +89,7 @@ fn is_off(v: V3, u: V3, w: V3) -> bool
     requires third { IsWithin DIFF w }
     ensures { IsTrue result ↔ (det v u w ≢ pos 0) }
 {
-    det(v, u, w) != 0
+    narrow_dot(narrow_cross(u, w), v) != 0
 }
 
 // the first step from a to one of the points that lies off the plane of u and w

@@ -1,0 +1,12 @@
+use Rattle.std.proofs.Common.{subst}
+use Rattle.staat_cone.specs.Pairs.{Adds}
+use Rattle.staat_cone.proofs.EdgeLemmas.{edges_added, IsOnly}
+use Rattle.staat_cone.proofs.edges.add_edges.Goals as goal
+
+pub returns-in_ok-add_edge-2 : goal.returns-in_ok-add_edge-2
+returns-in_ok-add_edge-2 c =
+    let vs = c.args.vs.now in
+    let old = c.add_edge.new.out.items in
+    let new = c.add_edge-then-is_wall.new.out.items in
+    edges_added vs c.args.out.now.items old new c.args.g c.args.h c.narrow_cross-f.result c.narrow_cross-f.ensures.value (c.is_wall.ensures.0 c.if-is_wall.true) c.in_ok-add_edge.ensures
+    (subst (λ f. Adds (IsOnly vs f) old new) c.neg.ensures.value c.in_ok-add_edge-2.ensures)
