@@ -10,12 +10,12 @@ ghost use Rattle.staat_model.specs.Walls.{IsBeyond};
 ghost use Rattle.staat_cone.specs.Pairs.{Adds, FromSome, IsEdge};
 ghost use Rattle.staat_cone.specs.Few.{IsCandidate, IsGrown, IsDifferenceStep, IsViolator};
 
+use crate::behind::violator;
 use crate::edges::{add_all_edges, primitive_normal};
 use crate::pairs::is_above;
 use crate::spread::three_steps;
-use crate::walls::{highest, is_nearer, lowest, points_of};
 use staat_model::Piece;
-use staat_vec::{DIFF, NORMAL, OutOfMemory, V3, in_order, sub};
+use staat_vec::{DIFF, OutOfMemory, V3, in_order};
 use std::alloc::Global;
 
 // How many facets of the few are tested at most. Each test finds a facet of the pieces, or a difference that was not
@@ -59,21 +59,6 @@ impl Few {
         add_all_edges(members, v, &mut self.untested)?;
         self.members.push(v)?;
         Ok(())
-    }
-}
-
-/// The difference that lies farthest behind n, if one does.
-pub fn violator(n: V3, p: &Piece, q: &Piece) -> Option<V3>
-    requires normal { IsWithin NORMAL n }
-    ensures some { IfSome result (IsViolator p.now q.now n) }
-    ensures none { IfNone result (IsBeyond p.now q.now n) }
-{
-    let least = lowest(n, points_of(q));
-    let most = highest(n, points_of(p));
-    if is_nearer(least, most) {
-        Some(sub(least.point, most.point))
-    } else {
-        None
     }
 }
 

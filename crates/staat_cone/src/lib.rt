@@ -2,6 +2,7 @@
 #![tactic(auto)]
 
 mod apart;
+mod behind;
 mod edges;
 mod few;
 pub mod laws;

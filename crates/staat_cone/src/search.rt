@@ -4,7 +4,7 @@ ghost use Rattle.staat_vec.specs.Vectors.{IsWithin};
 ghost use Rattle.staat_model.specs.Walls.{IsBeyond};
 ghost use Rattle.staat_cone.specs.AxisWalls.{IsWallBetween};
 
-use crate::few::violator;
+use crate::behind::violator;
 use crate::narrow::multiple;
 use crate::walls::{is_wall, points_of};
 use staat_model::{MOST_POINTS, Piece};

@@ -51,7 +51,7 @@ fn farther(a: Placed, b: Placed) -> Placed
     ensures first { a.along ≤ℤ result.along }
     ensures second { b.along ≤ℤ result.along }
 {
-    if b.along < a.along { a } else { b }
+    if a.along < b.along { b } else { a }
 }
 
 /// One of the points that lie least far along n.
