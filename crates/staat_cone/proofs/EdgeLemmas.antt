@@ -43,8 +43,8 @@ edges_added vs xs ys zs g h f e some a b =
     back : negative f ≡ cross h g
     back = ap negative e ∙ sym (cross_turned h g)
 
-pub edges_not_added : (vs xs : List V3) (g h f : V3) → f ≡ cross g h → f ≡ origin → Adds (IsEdge vs g h) xs xs
-edges_not_added vs xs g h f e flat = Adds-none (IsEdge vs g h) xs (λ n t. t.some (⊎_elim (λ i. i ∙ sym e ∙ flat) (λ i. i ∙ swap_zero h g (sym e ∙ flat)) t.is))
+pub edges_not_added : (vs xs : List V3) (g h f : V3) → f ≡ cross g h → (f ≢ origin → ⊥) → Adds (IsEdge vs g h) xs xs
+edges_not_added vs xs g h f e none = Adds-none (IsEdge vs g h) xs (λ n t. none (λ z. t.some (⊎_elim (λ i. i ∙ sym e ∙ z) (λ i. i ∙ swap_zero h g (sym e ∙ z)) t.is)))
 
 -- each facet through g and h lies on the ray of an edge
 pub edge_of : (vs : List V3) (g h n : V3) → IsThrough vs g h n → (f : V3) × IsEdge vs g h f × IsPrimitiveOf f n

@@ -3,6 +3,7 @@ pub mod PairLists
 pub mod PairLemmas
 pub mod SourceSizes
 pub mod EdgeLemmas
+pub mod NarrowLemmas
 pub mod SearchLemmas
 pub mod LawLemmas
 pub mod FewLemmas

@@ -1,10 +1,9 @@
 -- How great the normals of the search for a wall are.
-use Rattle.std.proofs.Common.{◌≡◌, ℕ, ◌+◌, ◌*◌, ◌≤◌, sym, subst, arith, ℤ, ◌*ℤ◌}
-use Rattle.std.specs.Prelude.{unsigned_abs}
+use Rattle.std.proofs.Common.{◌≡◌, ℕ, ◌+◌, ◌*◌, ◌≤◌, sym, subst, arith}
 use Rattle.staat_vec.specs.declared.vector.V3.{V3}
 use Rattle.staat_vec.specs.declared.vector.TheConstants.{POINT, EDGE}
-use Rattle.staat_vec.specs.Vectors.{IsWithin, plus, vector}
-use Rattle.staat_vec.proofs.Bounds.{IsWithin-plus, IsWithin-wider, abs_mul_le}
+use Rattle.staat_vec.specs.Vectors.{IsWithin, plus}
+use Rattle.staat_vec.proofs.Bounds.{IsWithin-plus, IsWithin-wider}
 
 -- a sum of k points and one more
 pub sum_step : (k : ℕ) (s p t : V3) → IsWithin (k * POINT) s → IsWithin POINT p → t ≡ plus s p → IsWithin ((k + 1) * POINT) t
@@ -12,9 +11,6 @@ sum_step k s p t h g e = IsWithin-wider (k * POINT + POINT) ((k + 1) * POINT) t 
 
 pub sum_is_edge : (k : ℕ) (s : V3) → IsWithin (k * POINT) s → k ≤ 64 → IsWithin EDGE s
 sum_is_edge k s h le = IsWithin-wider (k * POINT) EDGE s (omega arith) h
-
-pub multiple_within : (v : V3) (factor : ℤ) (bound most : ℕ) → IsWithin bound v → unsigned_abs factor ≤ most → IsWithin (bound * most) (vector (v.x *ℤ factor) (v.y *ℤ factor) (v.z *ℤ factor))
-multiple_within v factor bound most h le = record { x = abs_mul_le v.x factor bound most h.x le; y = abs_mul_le v.y factor bound most h.y le; z = abs_mul_le v.z factor bound most h.z le }
 
 -- the sum of two vectors
 pub plus_within : (m n : ℕ) (a b c : V3) → IsWithin m a → IsWithin n b → c ≡ plus a b → IsWithin (m + n) c

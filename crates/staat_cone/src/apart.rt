@@ -5,7 +5,7 @@ ghost use Rattle.staat_vec.specs.Vectors.{IsWithin};
 ghost use Rattle.staat_model.specs.Meeting.{Overlap};
 ghost use Rattle.staat_cone.specs.AxisWalls.{IsWallBetween, axis_walls};
 
-use crate::search::find_wall;
+use crate::search::finds_wall;
 use crate::source::FacetSource;
 use crate::walls::separates;
 use staat_model::Piece;
@@ -42,7 +42,7 @@ fn is_apart(p: &Piece, q: &Piece) -> bool
     ensures wall { IsTrue result → (n : Vector) × IsWallBetween p.now q.now n }
     ensures axes { Any (IsWallBetween p.now q.now) axis_walls → IsTrue result }
 {
-    is_apart_along_axis(p, q) || find_wall(p, q).is_some()
+    is_apart_along_axis(p, q) || finds_wall(p, q)
 }
 
 /// Whether the pieces overlap. The source is asked only where no wall that is easily found keeps them apart.

@@ -1,5 +1,5 @@
 // The walls of the cone of a list of vectors that go through two of them, by cross products as they are.
-ghost use Rattle.std.specs.Prelude.{◌≡◌, ◌≢◌, ◌×◌, All, OnOk};
+ghost use Rattle.std.specs.Prelude.{◌≡◌, ◌≢◌, All, OnOk};
 ghost use Rattle.staat_vec.specs.Vectors.{IsWithin, origin};
 ghost use Rattle.staat_vec.specs.Primitives.{IsPrimitiveOf};
 ghost use Rattle.staat_model.specs.Cones.{IsAbove};

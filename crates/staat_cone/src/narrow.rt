@@ -23,6 +23,14 @@ fn product(a: i64, b: i64) -> i64
     a * b
 }
 
+// the product as a number of 128 bits
+fn long(a: i64) -> i128
+    requires { unsigned_abs a ≤ NORMAL * DIFF }
+    ensures { result ≡ a }
+{
+    a as i128
+}
+
 // the exact sum of three products
 fn sum(x: i64, y: i64, z: i64) -> i64
     requires x { unsigned_abs x ≤ NORMAL * DIFF }
@@ -57,6 +65,16 @@ fn square(a: i128, b: i128) -> i64
     product(word(a), word(b))
 }
 
+// the exact difference of two such products
+fn difference(x: i64, y: i64) -> i64
+    requires x { unsigned_abs x ≤ DIFF * DIFF }
+    requires y { unsigned_abs y ≤ DIFF * DIFF }
+    ensures value { result ≡ x -ℤ y }
+    ensures size { unsigned_abs result ≤ NORMAL }
+{
+    x - y
+}
+
 // the minor of the rows (a, b) and (c, d), of components of two differences
 fn minor(a: i128, b: i128, c: i128, d: i128) -> i128
     requires a { unsigned_abs a ≤ DIFF }
@@ -66,8 +84,7 @@ fn minor(a: i128, b: i128, c: i128, d: i128) -> i128
     ensures value { result ≡ (a *ℤ d) -ℤ (b *ℤ c) }
     ensures size { unsigned_abs result ≤ NORMAL }
 {
-    let minor = square(a, d) - square(b, c);
-    minor as i128
+    long(difference(square(a, d), square(b, c)))
 }
 
 /// The cross product of two differences of points, exact.
@@ -84,6 +101,17 @@ pub fn narrow_cross(a: V3, b: V3) -> V3
     }
 }
 
+// the exact product of a component and a factor
+fn scaled(a: i128, factor: i128) -> i128
+    requires a { unsigned_abs a ≤ NORMAL }
+    requires factor { unsigned_abs factor ≤ DIFF }
+    ensures value { result ≡ a *ℤ factor }
+    ensures size { (bound most : ℕ) → unsigned_abs a ≤ bound → unsigned_abs factor ≤ most →
+        unsigned_abs result ≤ bound * most }
+{
+    long(product(word(a), word(factor)))
+}
+
 /// A multiple of a vector, exact.
 pub fn multiple(v: V3, factor: i128) -> V3
     requires vector { IsWithin NORMAL v }
@@ -92,10 +120,9 @@ pub fn multiple(v: V3, factor: i128) -> V3
     ensures size { (bound most : ℕ) → IsWithin bound v → unsigned_abs factor ≤ most →
         IsWithin (bound * most) result }
 {
-    let factor = word(factor);
     V3 {
-        x: product(word(v.x), factor) as i128,
-        y: product(word(v.y), factor) as i128,
-        z: product(word(v.z), factor) as i128,
+        x: scaled(v.x, factor),
+        y: scaled(v.y, factor),
+        z: scaled(v.z, factor),
     }
 }

@@ -1,7 +1,7 @@
 // The search for a wall between two pieces. It takes no memory.
-ghost use Rattle.std.specs.Prelude.{◌≤◌, ◌*◌, ◌+◌, ℕ, length, All, IfSome, unsigned_abs};
+ghost use Rattle.std.specs.Prelude.{◌≤◌, ◌*◌, ◌+◌, ℕ, length, All, IsTrue, unsigned_abs};
+ghost use Rattle.staat_vec.specs.declared.vector.V3.{V3 as Vector};
 ghost use Rattle.staat_vec.specs.Vectors.{IsWithin};
-ghost use Rattle.staat_model.specs.Walls.{IsBeyond};
 ghost use Rattle.staat_cone.specs.AxisWalls.{IsWallBetween};
 
 use crate::behind::violator;
@@ -32,6 +32,14 @@ fn sum_of(points: &[V3]) -> V3
     sum
 }
 
+// the number of the points
+fn count_of(points: &[V3]) -> i128
+    requires { length points.now ≤ MOST_POINTS }
+    ensures { unsigned_abs result ≤ MOST_POINTS }
+{
+    points.len() as i128
+}
+
 // the sum of the points as many times as there are others
 fn weighted(points: &[V3], others: &[V3]) -> V3
     requires few { length points.now ≤ MOST_POINTS }
@@ -39,7 +47,7 @@ fn weighted(points: &[V3], others: &[V3]) -> V3
     requires others { length others.now ≤ MOST_POINTS }
     ensures { IsWithin (MOST_POINTS * POINT * MOST_POINTS) result }
 {
-    multiple(sum_of(points), others.len() as i128)
+    multiple(sum_of(points), count_of(others))
 }
 
 // what leads from the centre of p to that of q, times the numbers of their points
@@ -69,29 +77,21 @@ fn eased(weight: i128, round: u32) -> i128
     if round % 2 == 0 { weight } else { weight / 2 }
 }
 
-// n, if it is not zero
-fn as_wall(n: V3, p: &Piece, q: &Piece) -> Option<V3>
-    requires { IsBeyond p.now q.now n }
-    ensures { IfSome result (IsWallBetween p.now q.now) }
-{
-    if is_wall(n) { Some(n) } else { None }
-}
-
-/// A wall between the pieces, if one is found in few steps.
+/// Whether a wall between the pieces is found in few steps.
 ///
-/// It begins with the line from centre to centre, and turns the normal to the difference that lies farthest behind it
-/// (Rosenblatt, 1958), less each time.
-pub fn find_wall(p: &Piece, q: &Piece) -> Option<V3>
-    ensures { IfSome result (IsWallBetween p.now q.now) }
+/// The search begins with the line from centre to centre, and turns the normal to the difference that lies farthest
+/// behind it (Rosenblatt, 1958), less as it goes on.
+pub fn finds_wall(p: &Piece, q: &Piece) -> bool
+    ensures { IsTrue result → (n : Vector) × IsWallBetween p.now q.now n }
 {
     let mut n = from_centre_to_centre(p, q);
     let mut weight = WEIGHT;
     for round in 0..CORRECTIONS {
         let Some(v) = violator(n, p, q) else {
-            return as_wall(n, p, q);
+            return is_wall(n);
         };
         n = corrected(n, v, weight);
         weight = eased(weight, round);
     }
-    None
+    false
 }

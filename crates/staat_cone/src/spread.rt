@@ -1,5 +1,5 @@
 // The differences of the points of two pieces.
-ghost use Rattle.std.specs.Prelude.{◌≡◌, ◌≢◌, ◌≤◌, ◌↔◌, pos, length, List, All, Contains};
+ghost use Rattle.std.specs.Prelude.{◌≡◌, ◌≢◌, ◌<◌, ◌↔◌, pos, length, List, All, Contains};
 ghost use Rattle.std.specs.Prelude.{OnOk, IfOk, IfSome};
 ghost use Rattle.staat_vec.specs.declared.vector.V3.{V3 as Vector};
 ghost use Rattle.staat_vec.specs.Vectors.{IsWithin, det, dot, minus};
@@ -89,10 +89,24 @@ fn off_plane(n: V3, p: &Piece, q: &Piece) -> Option<V3>
     ensures step { IfSome result (IsDifferenceStep p.now q.now) }
     ensures off { IfSome result (λ v. dot v n ≢ pos 0) }
 {
-    match violator(n, p, q) {
-        Some(v) => Some(v),
-        None => violator(neg(n), p, q),
+    if let Some(v) = violator(n, p, q) {
+        return Some(v);
     }
+    if let Some(v) = violator(neg(n), p, q) {
+        return Some(v);
+    }
+    None
+}
+
+// what leads from one of the points ps to one of the points qs
+fn step(ps: &[V3], i: usize, qs: &[V3], j: usize) -> V3
+    requires from { i < length ps.now }
+    requires to { j < length qs.now }
+    requires ps { All (IsWithin POINT) ps.now }
+    requires qs { All (IsWithin POINT) qs.now }
+    ensures { IsDifferenceStep ps.now qs.now result }
+{
+    sub(qs[j], ps[i])
 }
 
 // The least and the greatest difference, by the order of vectors, which lie on the border of all; or else two steps from
@@ -103,8 +117,8 @@ fn two_steps(p: &Piece, q: &Piece) -> Option<(V3, V3)>
 {
     let ps = points_of(p);
     let qs = points_of(q);
-    let u = sub(qs[0], ps[ps.len() - 1]);
-    let v = sub(qs[qs.len() - 1], ps[0]);
+    let u = step(ps, ps.len() - 1, qs, 0);
+    let v = step(ps, 0, qs, qs.len() - 1);
     if is_wall(narrow_cross(u, v)) {
         return Some((u, v));
     }

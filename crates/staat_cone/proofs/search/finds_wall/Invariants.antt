@@ -2,7 +2,7 @@ use Rattle.std.proofs.Common.{◌*◌, ◌+◌, ◌≤◌}
 use Rattle.std.specs.Prelude.{unsigned_abs}
 use Rattle.staat_vec.specs.Vectors.{IsWithin}
 use Rattle.staat_cone.specs.declared.search.TheConstants.{STEP, WEIGHT}
-use Rattle.staat_cone.proofs.search.find_wall.Given as goal
+use Rattle.staat_cone.proofs.search.finds_wall.Given as goal
 
 abbrev pub invariant-loop-round : goal.invariant-loop-round
 invariant-loop-round l = record {
