@@ -34,8 +34,8 @@ fn add_above(vs: &[V3], f: V3, out: &mut Vec<V3>) -> Result<(), OutOfMemory>
     Ok(())
 }
 
-// adds the facets that are at right angles to both g and h: one, two that are opposite, or none
-fn add_through(vs: &[V3], g: V3, h: V3, out: &mut Vec<V3>) -> Result<(), OutOfMemory>
+/// Adds the facets that are at right angles to both g and h: one, two that are opposite, or none.
+pub fn add_through(vs: &[V3], g: V3, h: V3, out: &mut Vec<V3>) -> Result<(), OutOfMemory>
     requires vectors { All (IsWithin DIFF) vs.now }
     requires first { IsWithin DIFF g }
     requires second { IsWithin DIFF h }

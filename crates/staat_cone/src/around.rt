@@ -1,0 +1,114 @@
+// The facets of the cone of a list of vectors, by two scans around each of the vectors.
+ghost use Rattle.std.specs.Prelude.{◌≡◌, ◌↔◌, All, Any, Contains, IsTrue, OnOk, IfOk};
+ghost use Rattle.staat_vec.specs.Vectors.{IsWithin, vector_cmp};
+ghost use Rattle.staat_vec.specs.Lists.{Lists};
+ghost use Rattle.staat_model.specs.Cones.{IsConeFacet};
+ghost use Rattle.staat_cone.specs.Pairs.{Adds, FromSome, IsThrough};
+ghost use Rattle.staat_cone.specs.Scans.{AreFurthest, IsApart, IsLeftmost};
+
+use crate::pairs::add_through;
+use crate::walls::is_wall;
+use staat_vec::{DIFF, OutOfMemory, V3, cross_diff, dot, in_order, neg};
+use std::alloc::Global;
+
+// whether x is not parallel to v
+fn is_apart(x: V3, v: V3) -> bool
+    requires vector { IsWithin DIFF x }
+    requires around { IsWithin DIFF v }
+    ensures { IsTrue result ↔ IsApart v x }
+{
+    is_wall(cross_diff(x, v))
+}
+
+// whether some of the vectors is not parallel to v
+fn is_any_apart(vs: &[V3], v: V3) -> bool
+    requires vectors { All (IsWithin DIFF) vs.now }
+    requires around { IsWithin DIFF v }
+    ensures { IsTrue result ↔ Any (IsApart v) vs.now }
+{
+    vs.iter().any(|x| is_apart(*x, v))
+}
+
+// the first of the vectors that is not parallel to v
+fn first_candidate(vs: &[V3], v: V3) -> V3
+    requires vectors { All (IsWithin DIFF) vs.now }
+    requires around { IsWithin DIFF v }
+    requires some { Any (IsApart v) vs.now }
+    ensures member { Contains vs.now result }
+    ensures apart { IsApart v result }
+{
+    for x in vs {
+        if is_apart(*x, v) {
+            return *x;
+        }
+    }
+    unreachable!()
+}
+
+// The vector furthest to the left of v, by one scan that begins at first. The determinant of v, the best so far and a
+// vector that is parallel to v is 0, so that such a vector is passed over.
+fn leftmost(vs: &[V3], v: V3, first: V3) -> V3
+    requires vectors { All (IsWithin DIFF) vs.now }
+    requires around { IsWithin DIFF v }
+    requires member { Contains vs.now first }
+    requires apart { IsApart v first }
+    ensures member { Contains vs.now result }
+    ensures apart { IsApart v result }
+    ensures furthest { IsLeftmost vs.now vs.now v first result }
+{
+    let mut best = first;
+    let mut normal = cross_diff(best, v);
+    for x in vs {
+        if dot(*x, normal) > 0 {
+            best = *x;
+            normal = cross_diff(best, v);
+        }
+    }
+    best
+}
+
+/// The two of the differences that lie furthest to either side of `v`, by two scans. Each wall through `v` and a
+/// difference that is not parallel to it goes through one of the two: where all of the differences lie on the positive
+/// side of `n`, and `v` and such a difference lie on its plane, so does one of the two.
+///
+/// Some of the differences is not parallel to `v`, nor are the two. Components are at most [`DIFF`] in absolute value.
+/// It takes no memory. The idea is that of wrapping a gift (Chand and Kapur, 1970): about an edge the hull is turned to
+/// the point that lies furthest.
+pub fn furthest(diffs: &[V3], v: V3) -> (V3, V3)
+    requires differences { All (IsWithin DIFF) diffs.now }
+    requires around { IsWithin DIFF v }
+    requires some { Any (IsApart v) diffs.now }
+    ensures { AreFurthest diffs.now v result.0 result.1 }
+{
+    let first = first_candidate(diffs, v);
+    let left = leftmost(diffs, v, first);
+    let right = leftmost(diffs, neg(v), first);
+    (left, right)
+}
+
+/// Adds the facets that are at right angles to v and to one of the vectors that is not parallel to it, each once or
+/// twice.
+pub fn add_furthest(vs: &[V3], v: V3, out: &mut Vec<V3>) -> Result<(), OutOfMemory>
+    requires vectors { All (IsWithin DIFF) vs.now }
+    requires around { IsWithin DIFF v }
+    ensures { OnOk result (Adds (FromSome (λ h. IsThrough vs.now h v) vs.now) out.old.items out.new.items) }
+{
+    if is_any_apart(vs, v) {
+        let (left, right) = furthest(vs, v);
+        add_through(vs, left, v, out)?;
+        add_through(vs, right, v, out)?;
+    }
+    Ok(())
+}
+
+/// The facets of the cone of the vectors, ascending, from two scans around each of them.
+pub fn facets_by_scans(alloc: Global, vs: &[V3]) -> Result<Vec<V3>, OutOfMemory>
+    requires vectors { All (IsWithin DIFF) vs.now }
+    ensures { IfOk result (λ list. Lists vector_cmp (IsConeFacet vs.now) list.items) }
+{
+    let mut list = Vec::new(alloc);
+    for v in vs {
+        add_furthest(vs, *v, &mut list)?;
+    }
+    Ok(in_order(list))
+}
