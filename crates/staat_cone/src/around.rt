@@ -59,7 +59,8 @@ fn leftmost(vs: &[V3], v: V3, first: V3) -> V3
     let mut best = first;
     let mut normal = cross_diff(best, v);
     for x in vs {
-        if dot(*x, normal) > 0 {
+        let turn = dot(*x, normal);
+        if turn > 0 {
             best = *x;
             normal = cross_diff(best, v);
         }
