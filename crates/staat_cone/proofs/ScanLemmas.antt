@@ -1,21 +1,23 @@
 -- Two scans around a vector miss no wall through it.
-use Rattle.std.proofs.Common.{◌≡◌, ◌≢◌, ℕ, zero, suc, ◌+◌, ◌<◌, ◌≤◌, refl, sym, ap, subst, ◌∙◌, arith, ℤ, pos, negsuc, neg_ℤ, ◌-ℤ◌, ◌*ℤ◌, ◌≤ℤ◌, ◌<ℤ◌, ◌⊎◌, inl, inr, ⊎_elim, List, [], ◌∷◌, ◌++◌, length, get_or, take, Contains}
+use Rattle.std.proofs.Common.{◌≡◌, ◌≢◌, ◌↔◌, Bool, false, IsTrue, ℕ, zero, suc, ◌+◌, ◌<◌, ◌≤◌, refl, sym, ap, subst, ◌∙◌, arith, ℤ, pos, negsuc, neg_ℤ, ◌-ℤ◌, ◌*ℤ◌, ◌≤ℤ◌, ◌<ℤ◌, ◌⊎◌, inl, inr, ⊎_elim, List, [], ◌∷◌, ◌++◌, length, get_or, take, Contains}
 use Rattle.std.specs.Prelude.{Any}
 use Rattle.std.proofs.lemmas.Int.{ints}
 use Rattle.std.proofs.lemmas.List.{take_all}
 use Rattle.std.proofs.lemmas.List.Elements.{All-contains, Contains-get_or, Contains-push_cases}
 use Rattle.staat_vec.specs.declared.vector.V3.{V3}
-use Rattle.staat_vec.specs.Vectors.{cross, det, dot, negative, origin, vector_cmp}
+use Rattle.staat_vec.specs.declared.vector.TheConstants.{NORMAL}
+use Rattle.staat_vec.specs.Vectors.{IsWithin, cross, det, dot, negative, origin, vector_cmp}
 use Rattle.staat_vec.specs.Lists.{Lists}
 use Rattle.staat_vec.proofs.Order.{as_positive, cancel_zero, nonneg_mul, pos_mul, positive_nonneg}
 use Rattle.staat_vec.proofs.Ring.{num, ◌⊖◌, ◌⊗◌, opp, ring, ring_by, zero-mul_ℤ}
 use Rattle.staat_vec.proofs.Unique.{Contains-nothing}
-use Rattle.staat_vec.proofs.VecRing.{crossE, dotE, detE, negativeE, originE, values, ring3, v0, v1, v2, v3, scale, same_vector, negative_dot}
+use Rattle.staat_vec.proofs.VecRing.{crossE, dotE, detE, negativeE, originE, values, ring3, v0, v1, v2, v3, scale, same_vector, dot_scale, negative_dot}
 use Rattle.staat_model.specs.Cones.{IsAbove, IsConeFacet}
 use Rattle.staat_model.proofs.CornerLemmas.{some_square}
 use Rattle.staat_model.proofs.FacetLemmas.{along, swap_zero}
 use Rattle.staat_cone.specs.Pairs.{Adds, FromSome, IsThrough}
 use Rattle.staat_cone.specs.Scans.{AreFurthest, IsApart, IsLeftOf, IsLeftmost, IsWallThrough}
+use Rattle.staat_cone.proofs.PairLemmas.{refused}
 use Rattle.staat_cone.proofs.PairLists.{Adds-none, Adds-then, take_more}
 
 -- ---- the two sides of v on the plane of n
@@ -46,7 +48,7 @@ is_positive (negsuc n) = inr (λ h. h.lt)
 
 left_or_not : (n v x : V3) → IsLeftOf n v x ⊎ (IsLeftOf n v x → ⊥)
 left_or_not n v x =
-    ⊎_elim (λ on. ⊎_elim (λ side. inl (record { on = on; side = side })) (λ no. inr (λ l. no l.side)) (is_positive (det n v x)))
+    ⊎_elim (λ on. ⊎_elim (λ side. inl (record { on = on; side = side })) (λ low. inr (λ l. low l.side)) (is_positive (det n v x)))
     (λ off. inr (λ l. off l.on)) (is_zero (dot x n))
 
 -- what lies on the plane of n and is not parallel to v does not lie in line with v
@@ -145,25 +147,25 @@ side_of : (vs : List V3) (v n x : V3) → IsWallThrough vs v n → Contains vs x
 side_of vs v n x wall c = All-contains (λ w. pos 0 ≤ℤ dot w n) vs x wall.above c
 
 -- nothing is seen yet
-pub leftmost_start : (vs : List V3) (v first : V3) → IsLeftmost vs (take 0 vs) v first first
-leftmost_start vs v first n some wall no = (no, λ x c l. absurd (Contains-nothing x c))
+leftmost_start : (vs : List V3) (v first : V3) → IsLeftmost vs (take 0 vs) v first first
+leftmost_start vs v first n some wall away = (away, λ x c l. absurd (Contains-nothing x c))
 
 module _ (vs seen : List V3) (v first a x : V3) (is : IsLeftmost vs seen v first a) (a_in : Contains vs a) (x_in : Contains vs x) where
   moved : pos 0 <ℤ dot x (cross a v) → IsLeftmost vs (seen ++ x ∷ []) v first x
-  moved turn n some wall no =
-      let old = is n some wall no in (
+  moved turn n some wall away =
+      let old = is n some wall away in (
         (λ r. not_taken n v a x some wall.on (side_of vs v n a wall a_in) r turn),
         (λ y c l. ⊎_elim
-          (λ d. absurd (stays n v a x some wall.on (side_of vs v n x wall x_in) (old.1 y d l) turn))
-          (λ e. subst (IsLeftOf n v) (sym e) l)
-          (Contains-push_cases seen x y c)),
+            (λ d. absurd (stays n v a x some wall.on (side_of vs v n x wall x_in) (old.1 y d l) turn))
+            (λ e. subst (IsLeftOf n v) (sym e) l)
+            (Contains-push_cases seen x y c)),
       )
 
   kept : IsApart v a → (pos 0 <ℤ dot x (cross a v) → ⊥) → IsLeftmost vs (seen ++ x ∷ []) v first a
-  kept apart none n some wall no = (old.0, λ y c l. ⊎_elim (λ d. old.1 y d l) (λ e. now (subst (IsLeftOf n v) (sym e) l)) (Contains-push_cases seen x y c))
+  kept apart none n some wall away = (old.0, λ y c l. ⊎_elim (λ d. old.1 y d l) (λ e. now (subst (IsLeftOf n v) (sym e) l)) (Contains-push_cases seen x y c))
     where
       old : (IsLeftOf n (negative v) a → ⊥) × ((y : V3) → Contains seen y → IsLeftOf n v y → IsLeftOf n v a)
-      old = is n some wall no
+      old = is n some wall away
 
       now : IsLeftOf n v x → IsLeftOf n v a
       now l =
@@ -172,12 +174,12 @@ module _ (vs seen : List V3) (v first a x : V3) (is : IsLeftmost vs seen v first
           (λ off. absurd (none (taken n v a x some wall.on (above_zero (dot a n) (side_of vs v n a wall a_in) off) l)))
           (is_zero (dot a n))
 
-pub leftmost_moved : (vs : List V3) (v first a : V3) (i : ℕ) (z : V3) → i < length vs → IsLeftmost vs (take i vs) v first a → Contains vs a → pos 0 <ℤ dot (get_or vs i z) (cross a v) → IsLeftmost vs (take (i + 1) vs) v first (get_or vs i z)
+leftmost_moved : (vs : List V3) (v first a : V3) (i : ℕ) (z : V3) → i < length vs → IsLeftmost vs (take i vs) v first a → Contains vs a → pos 0 <ℤ dot (get_or vs i z) (cross a v) → IsLeftmost vs (take (i + 1) vs) v first (get_or vs i z)
 leftmost_moved vs v first a i z lt is a_in turn =
     subst (λ seen. IsLeftmost vs seen v first (get_or vs i z)) (sym (take_more vs i z lt))
     (moved vs (take i vs) v first a (get_or vs i z) is a_in (Contains-get_or vs i z lt) turn)
 
-pub leftmost_kept : (vs : List V3) (v first a : V3) (i : ℕ) (z : V3) → i < length vs → IsLeftmost vs (take i vs) v first a → Contains vs a → IsApart v a → (pos 0 <ℤ dot (get_or vs i z) (cross a v) → ⊥) → IsLeftmost vs (take (i + 1) vs) v first a
+leftmost_kept : (vs : List V3) (v first a : V3) (i : ℕ) (z : V3) → i < length vs → IsLeftmost vs (take i vs) v first a → Contains vs a → IsApart v a → (pos 0 <ℤ dot (get_or vs i z) (cross a v) → ⊥) → IsLeftmost vs (take (i + 1) vs) v first a
 leftmost_kept vs v first a i z lt is a_in apart none =
     subst (λ seen. IsLeftmost vs seen v first a) (sym (take_more vs i z lt))
     (kept vs (take i vs) v first a (get_or vs i z) is a_in (Contains-get_or vs i z lt) apart none)
@@ -186,7 +188,7 @@ pub leftmost_whole : (vs : List V3) (v first a : V3) (i : ℕ) → length vs ≤
 leftmost_whole vs v first a i le is = subst (λ seen. IsLeftmost vs seen v first a) (take_all i vs le) is
 
 -- what is taken is not parallel to v
-pub taken_apart : (v a x : V3) → pos 0 <ℤ dot x (cross a v) → IsApart v x
+taken_apart : (v a x : V3) → pos 0 <ℤ dot x (cross a v) → IsApart v x
 taken_apart v a x turn z = none (dot x (cross a v)) turn (turn_of v a x ∙ ap (dot a) (swap_zero v x z) ∙ flat a)
   where
     turn_of : (v a x : V3) → dot x (cross a v) ≡ dot a (cross v x)
@@ -197,6 +199,40 @@ taken_apart v a x turn z = none (dot x (cross a v)) turn (turn_of v a x ∙ ap (
 
     none : (e : ℤ) → pos 0 <ℤ e → e ≡ pos 0 → ⊥
     none e h g = omega (arith, ints)
+
+-- how far a scan is: the best so far, and the normal across it and v
+pub record IsScanned (vs seen : List V3) (v first a m : V3) : Type 0 where
+  pub member : Contains vs a
+  pub apart : IsApart v a
+  pub normal : m ≡ cross a v
+  pub size : IsWithin NORMAL m
+  pub left : IsLeftmost vs seen v first a
+
+pub scanned_start : (vs : List V3) (v first m : V3) → Contains vs first → IsApart v first → m ≡ cross first v → IsWithin NORMAL m → IsScanned vs (take 0 vs) v first first m
+scanned_start vs v first m first_in first_apart e size = record { member = first_in; apart = first_apart; normal = e; size = size; left = leftmost_start vs v first }
+
+pub scanned_moved : (vs : List V3) (v first a m b m' : V3) (i : ℕ) (z : V3) → i < length vs → IsScanned vs (take i vs) v first a m → pos 0 <ℤ dot (get_or vs i z) m → b ≡ get_or vs i z → m' ≡ cross b v → IsWithin NORMAL m' → IsScanned vs (take (i + 1) vs) v first b m'
+scanned_moved vs v first a m b m' i z lt is up same across size =
+    let x = get_or vs i z in
+    let turned : pos 0 <ℤ dot x (cross a v) = subst (λ t. pos 0 <ℤ dot x t) is.normal up in
+    subst (λ y. IsScanned vs (take (i + 1) vs) v first y m') (sym same) (record {
+      member = Contains-get_or vs i z lt;
+      apart = taken_apart v a x turned;
+      normal = across ∙ ap (λ y. cross y v) same;
+      size = size;
+      left = leftmost_moved vs v first a i z lt is.left is.member turned;
+    })
+
+pub scanned_kept : (vs : List V3) (v first a m b m' : V3) (i : ℕ) (z : V3) → i < length vs → IsScanned vs (take i vs) v first a m → (pos 0 <ℤ dot (get_or vs i z) m → ⊥) → b ≡ a → m' ≡ m → IsScanned vs (take (i + 1) vs) v first b m'
+scanned_kept vs v first a m b m' i z lt is low same same_normal =
+    let x = get_or vs i z in
+    subst (λ y. IsScanned vs (take (i + 1) vs) v first y m') (sym same) (subst (IsScanned vs (take (i + 1) vs) v first a) (sym same_normal) (record {
+      member = is.member;
+      apart = is.apart;
+      normal = is.normal;
+      size = is.size;
+      left = leftmost_kept vs v first a i z lt is.left is.member is.apart (λ up. low (subst (λ t. pos 0 <ℤ dot x t) (sym is.normal) up));
+    }))
 
 -- ---- both scans
 
@@ -209,7 +245,7 @@ on_one_left : (vs : List V3) (v first a b n w : V3) → IsLeftmost vs vs v first
 on_one_left vs v first a b n w left right first_in some wall w_in l =
     ⊎_elim
     (λ r. inr (((right n some (wall_turned vs v n wall) (λ back. not_both n (negative v) first r back)).1 first first_in r).on))
-    (λ no. inl (((left n some wall no).1 w w_in l).on))
+    (λ away. inl (((left n some wall away).1 w w_in l).on))
     (left_or_not n (negative v) first)
 
 flat_none : (a n : V3) → n ≡ origin → dot a n ≡ pos 0
@@ -264,10 +300,25 @@ furthest_added vs xs ys zs v a b are first second =
     (λ n t. (a, are.a_in, t))
     (λ n t. (b, are.b_in, t))
     (λ n (h, h_in, t). ⊎_elim
-      (λ on. inl (record { primitive = t.primitive; above = t.above; independent = are.a_apart; g_on = on; h_on = t.h_on }))
-      (λ on. inr (record { primitive = t.primitive; above = t.above; independent = are.b_apart; g_on = on; h_on = t.h_on }))
-      (are.on_one n h (record { above = t.above; on = t.h_on }) h_in t.independent t.g_on))
+    (λ on. inl (record { primitive = t.primitive; above = t.above; independent = are.a_apart; g_on = on; h_on = t.h_on }))
+    (λ on. inr (record { primitive = t.primitive; above = t.above; independent = are.b_apart; g_on = on; h_on = t.h_on }))
+    (are.on_one n h (record { above = t.above; on = t.h_on }) h_in t.independent t.g_on))
     first second
+
+-- where a, b and v lie in one plane, what goes through b and v goes through a
+on_first : (n v a b : V3) → dot b n ≡ pos 0 → dot v n ≡ pos 0 → cross b v ≢ origin → det a b v ≡ pos 0 → dot a n ≡ pos 0
+on_first n v a b on_b on_v apart flat =
+    let c = cross b v in
+    let k = as_positive (dot c c) (some_square c apart) in
+    cancel_zero k.0 (dot a n) k.1
+    (ap (λ z. z *ℤ dot a n) (sym k.2) ∙ sym (dot_scale (dot c c) a n) ∙ ap (dot a) (along n b v on_b on_v) ∙ dot_scale (dot n c) a c ∙ times_none (dot n c) (dot a c) flat)
+
+pub first_is_enough : (vs xs ys : List V3) (v a b : V3) → AreFurthest vs v a b → det a b v ≡ pos 0 → Adds (IsThrough vs a v) xs ys → Adds (IsThrough vs b v) ys ys
+first_is_enough vs xs ys v a b are flat first = record {
+  kept = λ n c. c;
+  added = λ n t. first.added n (record { primitive = t.primitive; above = t.above; independent = are.a_apart; g_on = on_first n v a b t.g_on t.h_on t.independent flat; h_on = t.h_on });
+  only = λ n c. inl c;
+}
 
 -- where all are parallel to v, none goes through it
 pub none_added : (vs xs : List V3) (v : V3) → (Any (IsApart v) vs → ⊥) → Adds (FromSome (λ h. IsThrough vs h v) vs) xs xs
@@ -289,7 +340,22 @@ scans_all vs list list' adds l = record {
       l.all n (adds.added n (t.v, t.v_in, (t.u, t.u_in, record { primitive = f.primitive; above = f.above; independent = t.independent; g_on = t.u_on; h_on = t.v_on })));
 }
 
+pub flat_where_not_off : (r : Bool) (d : ℤ) → IsTrue r ↔ (d ≢ pos 0) → r ≡ false → d ≡ pos 0
+flat_where_not_off r d h e = ⊎_elim (λ flat. flat) (λ off. absurd (refused r (d ≢ pos 0) h e off)) (is_zero d)
+
 -- ---- the first candidate
 
-pub none_left : (vs : List V3) (v : V3) (i : ℕ) → length vs ≤ i → ((k : ℕ) (d : V3) → k < i → IsApart v (get_or vs k d) → ⊥) → Any (IsApart v) vs → ⊥
-none_left vs v i le none (k, x, lt, at, apart) = none k x (omega arith) (subst (IsApart v) (sym at) apart)
+-- none of xs is one
+abbrev pub HasNoCandidate : List V3 → V3 → Type 0
+HasNoCandidate xs v = (x : V3) → Contains xs x → IsApart v x → ⊥
+
+pub none_more : (vs : List V3) (v : V3) (i : ℕ) (z : V3) → i < length vs → HasNoCandidate (take i vs) v → (IsApart v (get_or vs i z) → ⊥) → HasNoCandidate (take (i + 1) vs) v
+none_more vs v i z lt none next =
+    subst (λ xs. HasNoCandidate xs v) (sym (take_more vs i z lt))
+    (λ x c apart. ⊎_elim (λ old. none x old apart) (λ e. next (subst (IsApart v) (sym e) apart)) (Contains-push_cases (take i vs) (get_or vs i z) x c))
+
+pub none_left : (vs : List V3) (v : V3) (i : ℕ) → length vs ≤ i → HasNoCandidate (take i vs) v → Any (IsApart v) vs → ⊥
+none_left vs v i le none (k, x, lt, same, apart) = none x (subst (λ xs. Contains xs x) (sym (take_all i vs le)) (k, lt, same)) apart
+
+pub none_yet : (vs : List V3) (v : V3) → HasNoCandidate (take 0 vs) v
+none_yet vs v x c apart = Contains-nothing x c

@@ -1,14 +1,15 @@
 // The facets of the cone of a list of vectors, by two scans around each of the vectors.
-ghost use Rattle.std.specs.Prelude.{◌≡◌, ◌↔◌, All, Any, Contains, IsTrue, OnOk, IfOk};
-ghost use Rattle.staat_vec.specs.Vectors.{IsWithin, vector_cmp};
+ghost use Rattle.std.specs.Prelude.{◌↔◌, pos, ◌<ℤ◌, All, Any, Contains, IsTrue, OnOk, IfOk, IfSome, IfNone};
+ghost use Rattle.staat_vec.specs.Vectors.{IsWithin, dot, vector_cmp};
 ghost use Rattle.staat_vec.specs.Lists.{Lists};
 ghost use Rattle.staat_model.specs.Cones.{IsConeFacet};
 ghost use Rattle.staat_cone.specs.Pairs.{Adds, FromSome, IsThrough};
 ghost use Rattle.staat_cone.specs.Scans.{AreFurthest, IsApart, IsLeftmost};
 
 use crate::pairs::add_through;
+use crate::spread::is_off;
 use crate::walls::is_wall;
-use staat_vec::{DIFF, OutOfMemory, V3, cross_diff, dot, in_order, neg};
+use staat_vec::{DIFF, NORMAL, OutOfMemory, V3, cross_diff, dot, in_order, neg};
 use std::alloc::Global;
 
 // whether x is not parallel to v
@@ -20,29 +21,29 @@ fn is_apart(x: V3, v: V3) -> bool
     is_wall(cross_diff(x, v))
 }
 
-// whether some of the vectors is not parallel to v
-fn is_any_apart(vs: &[V3], v: V3) -> bool
-    requires vectors { All (IsWithin DIFF) vs.now }
-    requires around { IsWithin DIFF v }
-    ensures { IsTrue result ↔ Any (IsApart v) vs.now }
-{
-    vs.iter().any(|x| is_apart(*x, v))
-}
-
 // the first of the vectors that is not parallel to v
-fn first_candidate(vs: &[V3], v: V3) -> V3
+fn first_candidate(vs: &[V3], v: V3) -> Option<V3>
     requires vectors { All (IsWithin DIFF) vs.now }
     requires around { IsWithin DIFF v }
-    requires some { Any (IsApart v) vs.now }
-    ensures member { Contains vs.now result }
-    ensures apart { IsApart v result }
+    ensures member { IfSome result (Contains vs.now) }
+    ensures apart { IfSome result (IsApart v) }
+    ensures none { IfNone result (¬ Any (IsApart v) vs.now) }
 {
     for x in vs {
         if is_apart(*x, v) {
-            return *x;
+            return Some(*x);
         }
     }
-    unreachable!()
+    None
+}
+
+// whether x lies to the left of v and the vector whose cross product with v is the normal
+fn is_farther(x: V3, normal: V3) -> bool
+    requires vector { IsWithin DIFF x }
+    requires normal { IsWithin NORMAL normal }
+    ensures { IsTrue result ↔ (pos 0 <ℤ dot x normal) }
+{
+    dot(x, normal) > 0
 }
 
 // The vector furthest to the left of v, by one scan that begins at first. The determinant of v, the best so far and a
@@ -59,13 +60,25 @@ fn leftmost(vs: &[V3], v: V3, first: V3) -> V3
     let mut best = first;
     let mut normal = cross_diff(best, v);
     for x in vs {
-        let turn = dot(*x, normal);
-        if turn > 0 {
+        if is_farther(*x, normal) {
             best = *x;
             normal = cross_diff(best, v);
         }
     }
     best
+}
+
+// the two scans, which begin at first
+fn furthest_from(vs: &[V3], v: V3, first: V3) -> (V3, V3)
+    requires vectors { All (IsWithin DIFF) vs.now }
+    requires around { IsWithin DIFF v }
+    requires member { Contains vs.now first }
+    requires apart { IsApart v first }
+    ensures { AreFurthest vs.now v result.0 result.1 }
+{
+    let left = leftmost(vs, v, first);
+    let right = leftmost(vs, neg(v), first);
+    (left, right)
 }
 
 /// The two of the differences that lie furthest to either side of `v`, by two scans. Each wall through `v` and a
@@ -81,25 +94,43 @@ pub fn furthest(diffs: &[V3], v: V3) -> (V3, V3)
     requires some { Any (IsApart v) diffs.now }
     ensures { AreFurthest diffs.now v result.0 result.1 }
 {
-    let first = first_candidate(diffs, v);
-    let left = leftmost(diffs, v, first);
-    let right = leftmost(diffs, neg(v), first);
-    (left, right)
+    match first_candidate(diffs, v) {
+        Some(first) => furthest_from(diffs, v, first),
+        None => unreachable!(),
+    }
 }
 
-/// Adds the facets that are at right angles to v and to one of the vectors that is not parallel to it, each once or
-/// twice.
+// adds the facets that are at right angles to v and to one of the two
+fn add_through_either(
+    vs: &[V3],
+    v: V3,
+    ends: (V3, V3),
+    out: &mut Vec<V3>,
+) -> Result<(), OutOfMemory>
+    requires vectors { All (IsWithin DIFF) vs.now }
+    requires around { IsWithin DIFF v }
+    requires ends { AreFurthest vs.now v ends.0 ends.1 }
+    ensures { OnOk result (Adds (FromSome (λ h. IsThrough vs.now h v) vs.now) out.old.items out.new.items) }
+{
+    let (left, right) = ends;
+    add_through(vs, left, v, out)?;
+    // else the two normals are one, or opposite
+    if is_off(left, right, v) {
+        add_through(vs, right, v, out)?;
+    }
+    Ok(())
+}
+
+/// Adds the facets that are at right angles to v and to one of the vectors that is not parallel to it, each once.
 pub fn add_furthest(vs: &[V3], v: V3, out: &mut Vec<V3>) -> Result<(), OutOfMemory>
     requires vectors { All (IsWithin DIFF) vs.now }
     requires around { IsWithin DIFF v }
     ensures { OnOk result (Adds (FromSome (λ h. IsThrough vs.now h v) vs.now) out.old.items out.new.items) }
 {
-    if is_any_apart(vs, v) {
-        let (left, right) = furthest(vs, v);
-        add_through(vs, left, v, out)?;
-        add_through(vs, right, v, out)?;
+    match first_candidate(vs, v) {
+        Some(first) => add_through_either(vs, v, furthest_from(vs, v, first), out),
+        None => Ok(()),
     }
-    Ok(())
 }
 
 /// The facets of the cone of the vectors, ascending, from two scans around each of them.

@@ -15,7 +15,12 @@ use staat_vec::{NORMAL, OutOfMemory, V3};
 use std::alloc::Global;
 
 // the facets of the cone of all the differences
-fn facets_by_all(alloc: Global, method: Method, p: &Piece, q: &Piece) -> Result<Vec<V3>, OutOfMemory>
+fn facets_by_all(
+    alloc: Global,
+    method: Method,
+    p: &Piece,
+    q: &Piece,
+) -> Result<Vec<V3>, OutOfMemory>
     ensures { IfOk result (λ list. Lists vector_cmp (IsFacet p.now q.now) list.items) }
 {
     let vs = differences(alloc, p, q)?;
@@ -45,7 +50,12 @@ fn find_facets(alloc: Global, method: Method, p: &Piece, q: &Piece) -> Result<Ve
 
 /// The facets of the ordered pair (p, q), ascending, from few of the differences where they are found within a bounded
 /// number of rounds, and else from all.
-pub fn facets_of(alloc: Global, method: Method, p: &Piece, q: &Piece) -> Result<Vec<V3>, OutOfMemory>
+pub fn facets_of(
+    alloc: Global,
+    method: Method,
+    p: &Piece,
+    q: &Piece,
+) -> Result<Vec<V3>, OutOfMemory>
     ensures facets { IfOk result (λ list. Lists vector_cmp (IsFacet p.now q.now) list.items) }
     ensures overlap { IfOk result (λ list. (list.items ≡ []) ↔ Overlap p.now q.now) }
     ensures size { IfOk result (λ list. All (IsWithin NORMAL) list.items) }

@@ -20,7 +20,12 @@ pub enum Method {
 }
 
 /// Adds the facets that are at right angles to v and to one of the vectors that is not parallel to it.
-pub fn add_facets_through(method: Method, vs: &[V3], v: V3, out: &mut Vec<V3>) -> Result<(), OutOfMemory>
+pub fn add_facets_through(
+    method: Method,
+    vs: &[V3],
+    v: V3,
+    out: &mut Vec<V3>,
+) -> Result<(), OutOfMemory>
     requires vectors { All (IsWithin DIFF) vs.now }
     requires around { IsWithin DIFF v }
     ensures { OnOk result (Adds (FromSome (λ h. IsThrough vs.now h v) vs.now) out.old.items out.new.items) }

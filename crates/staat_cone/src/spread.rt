@@ -81,8 +81,8 @@ fn first_apart(a: V3, points: &[V3], u: V3) -> Option<V3>
     None
 }
 
-// whether v lies off the plane of u and w
-fn is_off(v: V3, u: V3, w: V3) -> bool
+/// Whether v lies off the plane of u and w.
+pub fn is_off(v: V3, u: V3, w: V3) -> bool
     requires first { IsWithin DIFF v }
     requires second { IsWithin DIFF u }
     requires third { IsWithin DIFF w }

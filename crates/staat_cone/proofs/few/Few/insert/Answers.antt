@@ -4,4 +4,4 @@ use Rattle.staat_cone.proofs.few.Few.insert.Goals as goal
 
 pub returns-clause-untested : goal.returns-clause-untested
 returns-clause-untested c =
-    subst (λ vs. Adds (FromSome (λ g. IsThrough vs g c.args.v) vs) c.args.self.now.untested.items c.add_all_through.new.out.items) c.as_slice-members.ensures.value c.in_ok-add_all_through.ensures
+    subst (λ vs. Adds (FromSome (λ g. IsThrough vs g c.args.v) vs) c.args.self.now.untested.items c.add_facets_through.new.out.items) c.as_slice-members.ensures.value c.in_ok-add_facets_through.ensures
