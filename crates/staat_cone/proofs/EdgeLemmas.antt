@@ -14,7 +14,7 @@ use Rattle.staat_model.specs.Cones.{differences}
 use Rattle.staat_model.proofs.CornerLemmas.{above_primitive}
 use Rattle.staat_model.proofs.FacetLemmas.{across_crosses, swap_zero}
 use Rattle.staat_model.proofs.PieceFacets.{differences_are, above_is_beyond, beyond_is_above}
-use Rattle.staat_cone.specs.Pairs.{Adds, IsEdge, IsThrough}
+use Rattle.staat_cone.specs.Pairs.{Adds, AddsEdges, FromSome, IsEdge, IsThrough}
 use Rattle.staat_cone.specs.Few.{IsCandidate, IsDifferenceStep}
 use Rattle.staat_cone.proofs.PairLemmas.{above_multiple, on_plane}
 use Rattle.staat_cone.proofs.PairLists.{Adds-none, Adds-one, Adds-then}
@@ -95,3 +95,11 @@ facet_on_ray p q n r ray up t =
         independent = t.independent;
       };
     }
+
+-- the edges through v and each member are a multiple of each facet through v
+pub all_edges : (vs xs ys : List V3) (v : V3) → Adds (FromSome (λ h. IsEdge vs h v) vs) xs ys → AddsEdges vs v xs ys
+all_edges vs xs ys v adds = record {
+  kept = adds.kept;
+  added = λ n (h, h_in, t). let e = edge_of vs h v n t in (e.0, adds.added e.0 (h, h_in, e.1), e.2);
+  only = adds.only;
+}

@@ -18,9 +18,9 @@ use Rattle.staat_model.proofs.CornerLemmas.{dot_multiple}
 use Rattle.staat_model.proofs.WallLaws.{dot-minus}
 use Rattle.staat_model.proofs.PieceFacets.{differences_are, beyond_is_above}
 use Rattle.staat_cone.specs.declared.walls.Placed.{Placed}
-use Rattle.staat_cone.specs.Pairs.{Adds, FromSome, HasMultiple, IsEdge}
+use Rattle.staat_cone.specs.Pairs.{AddsEdges, HasMultiple}
 use Rattle.staat_cone.specs.Few.{IsCandidate, IsEnough, IsGrown, IsDifferenceStep, IsViolator}
-use Rattle.staat_cone.proofs.EdgeLemmas.{edge_candidate, edge_of, facet_on_ray}
+use Rattle.staat_cone.proofs.EdgeLemmas.{edge_candidate, facet_on_ray}
 use Rattle.staat_cone.proofs.PairLemmas.{above_multiple, facet_grown, facet_on_side}
 
 -- nothing is known of no vectors
@@ -38,7 +38,7 @@ grown_start p q few untested found e f g = subst (λ xs. IsGrown p q xs untested
 -- one more difference, with the walls through it, where facets that it lies behind may have been left out
 grown_with : (p q few untested found few' untested' : List V3) (v : V3) → All (IsDifferenceStep p q) few → All (IsCandidate p q) untested → All (IsFacet p q) found
     → ((n : V3) → IsConeFacet few n → pos 0 ≤ℤ dot v n → HasMultiple untested n ⊎ Contains found n) → IsDifferenceStep p q v → few' ≡ few ++ v ∷ []
-    → Adds (FromSome (λ g. IsEdge few g v) few) untested untested' → IsGrown p q few' untested' found
+    → AddsEdges few v untested untested' → IsGrown p q few' untested' found
 grown_with p q few untested found few' untested' v steps candidates facets all' step e adds =
     subst (λ vs. IsGrown p q vs untested' found) (sym e) (record {
       steps = All-push (IsDifferenceStep p q) few v steps step;
@@ -49,12 +49,12 @@ grown_with p q few untested found few' untested' v steps candidates facets all' 
       found_are = facets;
       all = λ n f. ⊎_elim
           (λ old. ⊎_elim (λ (g, c, ray). inl (g, adds.kept g c, ray)) (λ c. inr c) (all' n old (facet_on_side few v n f)))
-          (λ (g, in_g, t). let e = edge_of few g v n t in inl (e.0, adds.added e.0 (g, in_g, e.1), e.2))
+          (λ through. inl (adds.added n through))
           (facet_grown few v n f);
     })
 
 pub grown_by : (p q few untested found few' untested' found' : List V3) (v : V3) → IsGrown p q few untested found → IsDifferenceStep p q v → few' ≡ few ++ v ∷ []
-    → Adds (FromSome (λ g. IsEdge few g v) few) untested untested' → found' ≡ found → IsGrown p q few' untested' found'
+    → AddsEdges few v untested untested' → found' ≡ found → IsGrown p q few' untested' found'
 grown_by p q few untested found few' untested' found' v is step e adds same =
     subst (IsGrown p q few' untested') (sym same)
     (grown_with p q few untested found few' untested' v is.steps is.untested_are is.found_are (λ n f side. is.all n f) step e adds)
@@ -90,7 +90,7 @@ module _ (p q few untested found : List V3) (n : V3) (is : IsGrown p q few (unte
       here_found m on = subst (Contains (found ++ r ∷ [])) (primitive-only n r ray ∙ sym (primitive-only n m on)) (Contains-push found r)
 
   -- since the difference v, which joins the few, lies behind it
-  pub grown_violated : (few' untested' found' : List V3) (v : V3) → IsViolator p q n v → few' ≡ few ++ v ∷ [] → Adds (FromSome (λ g. IsEdge few g v) few) untested untested' → found' ≡ found → IsGrown p q few' untested' found'
+  pub grown_violated : (few' untested' found' : List V3) (v : V3) → IsViolator p q n v → few' ≡ few ++ v ∷ [] → AddsEdges few v untested untested' → found' ≡ found → IsGrown p q few' untested' found'
   grown_violated few' untested' found' v violator e adds same =
       subst (IsGrown p q few' untested') (sym same)
       (grown_with p q few untested found few' untested' v is.steps others is.found_are

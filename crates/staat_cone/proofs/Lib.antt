@@ -1,6 +1,7 @@
 pub mod WallLemmas
 pub mod PairLists
 pub mod PairLemmas
+pub mod ScanLemmas
 pub mod SourceSizes
 pub mod EdgeLemmas
 pub mod NarrowLemmas

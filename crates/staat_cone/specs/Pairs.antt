@@ -27,6 +27,12 @@ HasMultiple fs n = (f : V3) × Contains fs f × IsPrimitiveOf f n
 abbrev pub FromSome : (V3 → V3 → Type 0) → List V3 → V3 → Type 0
 FromSome R hs n = (h : V3) × Contains hs h × R h n
 
+-- the list has grown by edges through v and members of vs, among them a multiple of each facet through v and a member
+pub record AddsEdges (vs : List V3) (v : V3) (old new : List V3) : Type 0 where
+  pub kept : (f : V3) → Contains old f → Contains new f
+  pub added : (n : V3) → FromSome (λ h. IsThrough vs h v) vs n → HasMultiple new n
+  pub only : (f : V3) → Contains new f → Contains old f ⊎ FromSome (λ h. IsEdge vs h v) vs f
+
 -- new has what old has and what has P, and nothing else
 pub record Adds (P : V3 → Type 0) (old new : List V3) : Type 0 where
   pub kept : (x : V3) → Contains old x → Contains new x

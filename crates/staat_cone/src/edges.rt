@@ -3,7 +3,7 @@ ghost use Rattle.std.specs.Prelude.{◌≡◌, ◌≢◌, All, OnOk};
 ghost use Rattle.staat_vec.specs.Vectors.{IsWithin, origin};
 ghost use Rattle.staat_vec.specs.Primitives.{IsPrimitiveOf};
 ghost use Rattle.staat_model.specs.Cones.{IsAbove};
-ghost use Rattle.staat_cone.specs.Pairs.{Adds, FromSome, IsEdge};
+ghost use Rattle.staat_cone.specs.Pairs.{Adds, AddsEdges, IsEdge};
 
 use crate::narrow::narrow_cross;
 use crate::pairs::is_above;
@@ -22,8 +22,8 @@ fn add_edge(vs: &[V3], f: V3, out: &mut Vec<V3>) -> Result<(), OutOfMemory>
     Ok(())
 }
 
-// adds the cross products of g and h that have all the vectors on their positive side: one, two, or none
-fn add_edges(vs: &[V3], g: V3, h: V3, out: &mut Vec<V3>) -> Result<(), OutOfMemory>
+/// Adds the cross products of g and h that have all the vectors on their positive side: one, two, or none.
+pub fn add_edges(vs: &[V3], g: V3, h: V3, out: &mut Vec<V3>) -> Result<(), OutOfMemory>
     requires vectors { All (IsWithin DIFF) vs.now }
     requires first { IsWithin DIFF g }
     requires second { IsWithin DIFF h }
@@ -41,7 +41,7 @@ fn add_edges(vs: &[V3], g: V3, h: V3, out: &mut Vec<V3>) -> Result<(), OutOfMemo
 pub fn add_all_edges(vs: &[V3], g: V3, out: &mut Vec<V3>) -> Result<(), OutOfMemory>
     requires vectors { All (IsWithin DIFF) vs.now }
     requires vector { IsWithin DIFF g }
-    ensures { OnOk result (Adds (FromSome (λ h. IsEdge vs.now h g) vs.now) out.old.items out.new.items) }
+    ensures { OnOk result (AddsEdges vs.now g out.old.items out.new.items) }
 {
     for h in vs {
         add_edges(vs, *h, g, out)?;

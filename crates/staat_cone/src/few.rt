@@ -7,11 +7,12 @@ ghost use Rattle.staat_vec.specs.Lists.{Lists};
 ghost use Rattle.staat_model.specs.Cones.{IsSpanning};
 ghost use Rattle.staat_model.specs.Facets.{IsFacet};
 ghost use Rattle.staat_model.specs.Walls.{IsBeyond};
-ghost use Rattle.staat_cone.specs.Pairs.{Adds, FromSome, IsEdge};
+ghost use Rattle.staat_cone.specs.Pairs.{AddsEdges};
 ghost use Rattle.staat_cone.specs.Few.{IsCandidate, IsGrown, IsDifferenceStep, IsViolator};
 
 use crate::behind::violator;
-use crate::edges::{add_all_edges, primitive_normal};
+use crate::edges::primitive_normal;
+use crate::method::{Method, add_edges_through};
 use crate::pairs::is_above;
 use crate::spread::three_steps;
 use staat_model::Piece;
@@ -27,18 +28,20 @@ const ROUNDS: u32 = 1 << 20;
 // were.
 #[derive(Drop)]
 struct Few {
+    method: Method,
     members: Vec<V3>,
     untested: Vec<V3>,
     found: Vec<V3>,
 }
 
 impl Few {
-    fn new(alloc: Global) -> Few
+    fn new(alloc: Global, method: Method) -> Few
         ensures members { result.members.items ≡ [] }
         ensures untested { result.untested.items ≡ [] }
         ensures found { result.found.items ≡ [] }
     {
         Few {
+            method,
             members: Vec::new(alloc),
             untested: Vec::new(alloc),
             found: Vec::new(alloc),
@@ -50,13 +53,12 @@ impl Few {
         requires members { All (IsWithin DIFF) self.old.members.items }
         requires vector { IsWithin DIFF v }
         ensures members { OnOk result (self.new.members.items ≡ self.old.members.items ++ v ∷ []) }
-        ensures untested { OnOk result (Adds
-            (FromSome (λ g. IsEdge self.old.members.items g v) self.old.members.items)
-            self.old.untested.items self.new.untested.items) }
+        ensures untested { OnOk result
+            (AddsEdges self.old.members.items v self.old.untested.items self.new.untested.items) }
         ensures found { OnOk result (self.new.found.items ≡ self.old.found.items) }
     {
         let members = self.members.as_slice();
-        add_all_edges(members, v, &mut self.untested)?;
+        add_edges_through(self.method, members, v, &mut self.untested)?;
         self.members.push(v)?;
         Ok(())
     }
@@ -82,12 +84,12 @@ fn settle(few: &mut Few, n: V3, p: &Piece, q: &Piece) -> Result<(), OutOfMemory>
 }
 
 // three of the differences, if such are found that span space
-fn start(alloc: Global, p: &Piece, q: &Piece) -> Result<Option<Few>, OutOfMemory>
+fn start(alloc: Global, method: Method, p: &Piece, q: &Piece) -> Result<Option<Few>, OutOfMemory>
     ensures grown { IfOk result (λ s. IfSome s
         (λ few. IsGrown p.now q.now few.members.items few.untested.items few.found.items)) }
     ensures spanning { IfOk result (λ s. IfSome s (λ few. IsSpanning few.members.items)) }
 {
-    let mut few = Few::new(alloc);
+    let mut few = Few::new(alloc, method);
     let Some((u, v, w)) = three_steps(p, q) else {
         return Ok(None);
     };
@@ -113,10 +115,15 @@ fn grow(mut few: Few, p: &Piece, q: &Piece) -> Result<Option<Vec<V3>>, OutOfMemo
 }
 
 /// The facets of the pieces from few of their differences, if they are found within a bounded number of rounds.
-pub fn facets_by_few(alloc: Global, p: &Piece, q: &Piece) -> Result<Option<Vec<V3>>, OutOfMemory>
+pub fn facets_by_few(
+    alloc: Global,
+    method: Method,
+    p: &Piece,
+    q: &Piece,
+) -> Result<Option<Vec<V3>>, OutOfMemory>
     ensures { IfOk result (λ a. IfSome a (λ list. Lists vector_cmp (IsFacet p.now q.now) list.items)) }
 {
-    match start(alloc, p, q)? {
+    match start(alloc, method, p, q)? {
         Some(few) => grow(few, p, q),
         None => Ok(None),
     }
