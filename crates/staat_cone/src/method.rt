@@ -17,7 +17,12 @@ pub enum Method {
 }
 
 /// Adds edges through v and others of the vectors, among them a multiple of each facet that goes through v.
-pub fn add_edges_through(method: Method, vs: &[V3], v: V3, out: &mut Vec<V3>) -> Result<(), OutOfMemory>
+pub fn add_edges_through(
+    method: Method,
+    vs: &[V3],
+    v: V3,
+    out: &mut Vec<V3>,
+) -> Result<(), OutOfMemory>
     requires vectors { All (IsWithin DIFF) vs.now }
     requires around { IsWithin DIFF v }
     ensures { OnOk result (AddsEdges vs.now v out.old.items out.new.items) }
