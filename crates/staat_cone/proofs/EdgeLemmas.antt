@@ -1,5 +1,5 @@
 -- Walls of the cone of few vectors by cross products, and the facets on whose rays they lie.
-use Rattle.std.proofs.Common.{◌≡◌, ◌≢◌, ◌⊎◌, inl, inr, ⊎_elim, refl, sym, ap, subst, ◌∙◌, pos, ◌≤ℤ◌, List, [], ◌∷◌, ◌++◌, Contains}
+use Rattle.std.proofs.Common.{◌≡◌, ◌≢◌, inl, inr, ⊎_elim, refl, sym, ap, subst, ◌∙◌, List, [], ◌∷◌, ◌++◌}
 use Rattle.staat_vec.specs.declared.vector.V3.{V3}
 use Rattle.staat_vec.specs.declared.vector.TheConstants.{DIFF, NORMAL}
 use Rattle.staat_vec.specs.Vectors.{IsWithin, dot, cross, negative, origin}

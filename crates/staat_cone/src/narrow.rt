@@ -1,6 +1,6 @@
 // Products of normals and differences in words of 64 bits, which hold them: three products of a normal's and a
 // difference's component are below 2^60.
-ghost use Rattle.std.specs.Prelude.{◌≡◌, ◌≤◌, ◌*◌, ◌*ℤ◌, ◌+ℤ◌, ◌-ℤ◌, ℕ, unsigned_abs};
+ghost use Rattle.std.specs.Prelude.{◌≡◌, ◌≤◌, ◌*◌, ◌*ℤ◌, ◌+ℤ◌, ◌-ℤ◌, unsigned_abs};
 ghost use Rattle.staat_vec.specs.Vectors.{IsWithin, cross, dot, vector};
 
 use staat_vec::{DIFF, NORMAL, V3};
@@ -45,8 +45,7 @@ fn sum(x: i64, y: i64, z: i64) -> i64
 pub fn narrow_dot(n: V3, v: V3) -> i64
     requires normal { IsWithin NORMAL n }
     requires difference { IsWithin DIFF v }
-    ensures value { result ≡ dot n v }
-    ensures turned { result ≡ dot v n }
+    ensures { result ≡ dot n v }
 {
     sum(
         product(word(n.x), word(v.x)),
@@ -65,16 +64,6 @@ fn square(a: i128, b: i128) -> i64
     product(word(a), word(b))
 }
 
-// the exact difference of two such products
-fn difference(x: i64, y: i64) -> i64
-    requires x { unsigned_abs x ≤ DIFF * DIFF }
-    requires y { unsigned_abs y ≤ DIFF * DIFF }
-    ensures value { result ≡ x -ℤ y }
-    ensures size { unsigned_abs result ≤ NORMAL }
-{
-    x - y
-}
-
 // the minor of the rows (a, b) and (c, d), of components of two differences
 fn minor(a: i128, b: i128, c: i128, d: i128) -> i128
     requires a { unsigned_abs a ≤ DIFF }
@@ -84,7 +73,7 @@ fn minor(a: i128, b: i128, c: i128, d: i128) -> i128
     ensures value { result ≡ (a *ℤ d) -ℤ (b *ℤ c) }
     ensures size { unsigned_abs result ≤ NORMAL }
 {
-    long(difference(square(a, d), square(b, c)))
+    long(square(a, d) - square(b, c))
 }
 
 /// The cross product of two differences of points, exact.
@@ -105,9 +94,7 @@ pub fn narrow_cross(a: V3, b: V3) -> V3
 fn scaled(a: i128, factor: i128) -> i128
     requires a { unsigned_abs a ≤ NORMAL }
     requires factor { unsigned_abs factor ≤ DIFF }
-    ensures value { result ≡ a *ℤ factor }
-    ensures size { (bound most : ℕ) → unsigned_abs a ≤ bound → unsigned_abs factor ≤ most →
-        unsigned_abs result ≤ bound * most }
+    ensures { result ≡ a *ℤ factor }
 {
     long(product(word(a), word(factor)))
 }
@@ -116,9 +103,7 @@ fn scaled(a: i128, factor: i128) -> i128
 pub fn multiple(v: V3, factor: i128) -> V3
     requires vector { IsWithin NORMAL v }
     requires factor { unsigned_abs factor ≤ DIFF }
-    ensures value { result ≡ vector (v.x *ℤ factor) (v.y *ℤ factor) (v.z *ℤ factor) }
-    ensures size { (bound most : ℕ) → IsWithin bound v → unsigned_abs factor ≤ most →
-        IsWithin (bound * most) result }
+    ensures { result ≡ vector (v.x *ℤ factor) (v.y *ℤ factor) (v.z *ℤ factor) }
 {
     V3 {
         x: scaled(v.x, factor),

@@ -1,6 +1,6 @@
 // The facets of the cone of a list of vectors, by pairs of the vectors.
-ghost use Rattle.std.specs.Prelude.{◌≢◌, ◌↔◌, All, Contains, IsTrue, OnOk, IfOk};
-ghost use Rattle.staat_vec.specs.Vectors.{IsWithin, origin, vector_cmp};
+ghost use Rattle.std.specs.Prelude.{◌≡◌, ◌≢◌, ◌↔◌, All, Contains, IsTrue, OnOk, IfOk};
+ghost use Rattle.staat_vec.specs.Vectors.{IsWithin, dot, origin, vector_cmp};
 ghost use Rattle.staat_vec.specs.Primitives.{IsPrimitiveOf};
 ghost use Rattle.staat_vec.specs.Lists.{Lists};
 ghost use Rattle.staat_model.specs.Cones.{IsAbove, IsConeFacet};
@@ -11,6 +11,15 @@ use crate::walls::is_wall;
 use staat_vec::{DIFF, NORMAL, OutOfMemory, V3, in_order, neg, primitive};
 use std::alloc::Global;
 
+// how far v lies along n
+fn along(v: V3, n: V3) -> i64
+    requires vector { IsWithin DIFF v }
+    requires normal { IsWithin NORMAL n }
+    ensures { result ≡ dot v n }
+{
+    narrow_dot(n, v)
+}
+
 /// Whether each of the vectors lies on the positive side of n, or across n.
 ///
 /// The search ends at the first that does not.
@@ -19,7 +28,7 @@ pub fn is_above(n: V3, vs: &[V3]) -> bool
     requires vectors { All (IsWithin DIFF) vs.now }
     ensures { IsTrue result ↔ IsAbove n vs.now }
 {
-    vs.iter().all(|v| narrow_dot(n, *v) >= 0)
+    vs.iter().all(|v| along(*v, n) >= 0)
 }
 
 // adds the primitive vector on the ray of f, if it has all the vectors on its positive side
