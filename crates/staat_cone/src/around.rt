@@ -5,7 +5,8 @@ ghost use Rattle.staat_cone.specs.Pairs.{AddsEdges};
 ghost use Rattle.staat_cone.specs.Scans.{AreFurthest, IsApart, IsLeftmost};
 
 use crate::edges::add_edges;
-use crate::narrow::{narrow_cross, narrow_dot};
+use crate::narrow::narrow_cross;
+use crate::pairs::along;
 use crate::walls::is_wall;
 use staat_vec::{DIFF, NORMAL, OutOfMemory, V3, det, neg};
 
@@ -40,7 +41,7 @@ fn is_farther(x: V3, normal: V3) -> bool
     requires normal { IsWithin NORMAL normal }
     ensures { IsTrue result ↔ (pos 0 <ℤ dot x normal) }
 {
-    narrow_dot(normal, x) > 0
+    along(x, normal) > 0
 }
 
 // The vector furthest to the left of v, by one scan that begins at first. The determinant of v, the best so far and a

@@ -11,8 +11,8 @@ use crate::walls::is_wall;
 use staat_vec::{DIFF, NORMAL, OutOfMemory, V3, in_order, neg, primitive};
 use std::alloc::Global;
 
-// how far v lies along n
-fn along(v: V3, n: V3) -> i64
+/// How far v lies along n.
+pub fn along(v: V3, n: V3) -> i64
     requires vector { IsWithin DIFF v }
     requires normal { IsWithin NORMAL n }
     ensures { result ≡ dot v n }
