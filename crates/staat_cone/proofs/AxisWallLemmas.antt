@@ -1,6 +1,5 @@
--- A wall across an axis shows that pieces do not overlap.
+-- A wall shows that pieces do not overlap.
 use Rattle.std.proofs.Common.{◌≡◌, pos, List, [], ◌∷◌, arith}
-use Rattle.std.specs.Prelude.{Any}
 use Rattle.std.proofs.lemmas.Int.{ints}
 use Rattle.staat_vec.specs.declared.vector.V3.{V3}
 use Rattle.staat_vec.specs.Vectors.{dot, origin}
@@ -14,8 +13,5 @@ use Rattle.staat_cone.specs.AxisWalls.{IsWallBetween}
 dot_origin : (n : V3) → dot n origin ≡ pos 0
 dot_origin n = ring (values (n ∷ []) []) (dotE v0 originE) (num (pos 0)) tt
 
-kept_apart : (p q : List V3) (n : V3) → IsPiece p → IsWallBetween p q n → Overlap p q → ⊥
+pub kept_apart : (p q : List V3) (n : V3) → IsPiece p → IsWallBetween p q n → Overlap p q → ⊥
 kept_apart p q n piece wall o = wall_keeps_apart p q origin n piece.solid (record { wall = wall.0; beyond = wall.1; away = let e : dot n origin ≡ pos 0 = dot_origin n in omega (arith, ints, e) }) (record { t = 0; meeting = o })
-
-pub apart_along : (p q : List V3) (normals : List V3) → IsPiece p → Any (IsWallBetween p q) normals → Overlap p q → ⊥
-apart_along p q normals piece some = kept_apart p q some.1 piece some.4

@@ -1,23 +1,27 @@
 -- Few of the differences of two pieces, and what is known of the facets of their cone while they grow.
-use Rattle.std.proofs.Common.{◌≡◌, ◌↔◌, ℕ, zero, suc, ◌-◌, ◌<◌, refl, take, None, IsSome, ◌⊎◌, inl, inr, ⊎_elim, sym, ap, subst, ◌∙◌, arith, ℤ, pos, ◌-ℤ◌, ◌≤ℤ◌, ◌<ℤ◌, List, [], ◌∷◌, ◌++◌, All, Contains}
+use Rattle.std.proofs.Common.{◌≡◌, ◌↔◌, ℕ, zero, suc, ◌-◌, ◌<◌, refl, take, None, IsSome, ◌⊎◌, inl, inr, ⊎_elim, sym, ap, subst, ◌∙◌, arith, ℤ, pos, ◌-ℤ◌, ◌*ℤ◌, ◌≤ℤ◌, ◌<ℤ◌, List, [], ◌∷◌, ◌++◌, All, Contains}
 use Rattle.std.proofs.lemmas.Int.{ints}
 use Rattle.std.proofs.lemmas.List.Elements.{All-contains, All-push, Contains-append_left, Contains-push, Contains-push_cases}
 use Rattle.staat_vec.specs.declared.vector.V3.{V3}
 use Rattle.staat_vec.specs.declared.vector.TheConstants.{DIFF}
 use Rattle.staat_vec.specs.Vectors.{IsWithin, dot, minus}
 use Rattle.staat_vec.proofs.Unique.{Contains-nothing}
+use Rattle.staat_vec.specs.Primitives.{IsPrimitiveOf}
+use Rattle.staat_vec.proofs.Order.{nonneg_is, nonneg_mul, nonneg_pos}
+use Rattle.staat_vec.proofs.Primitives.{primitive-only}
 use Rattle.staat_vec.proofs.VecRing.{dot_comm}
 use Rattle.staat_model.specs.Cones.{IsAbove, IsConeFacet, IsSpanning, differences}
 use Rattle.staat_model.specs.Facets.{IsFacet}
 use Rattle.staat_model.specs.Walls.{IsBeyond}
 use Rattle.staat_model.proofs.Members.{All-from_members}
+use Rattle.staat_model.proofs.CornerLemmas.{dot_multiple}
 use Rattle.staat_model.proofs.WallLaws.{dot-minus}
 use Rattle.staat_model.proofs.PieceFacets.{differences_are, beyond_is_above}
 use Rattle.staat_cone.specs.declared.walls.Placed.{Placed}
-use Rattle.staat_cone.specs.Pairs.{Adds, FromSome, IsThrough}
+use Rattle.staat_cone.specs.Pairs.{AddsEdges, HasMultiple}
 use Rattle.staat_cone.specs.Few.{IsCandidate, IsEnough, IsGrown, IsDifferenceStep, IsViolator}
-use Rattle.staat_cone.proofs.PairLemmas.{facet_grown, facet_on_side}
-use Rattle.staat_cone.proofs.SourceSizes.{across_within}
+use Rattle.staat_cone.proofs.EdgeLemmas.{edge_candidate, facet_on_ray}
+use Rattle.staat_cone.proofs.PairLemmas.{above_multiple, facet_grown, facet_on_side}
 
 -- nothing is known of no vectors
 grown_nothing : (p q : List V3) → IsGrown p q [] [] []
@@ -31,34 +35,26 @@ grown_nothing p q = record {
 pub grown_start : (p q few untested found : List V3) → few ≡ [] → untested ≡ [] → found ≡ [] → IsGrown p q few untested found
 grown_start p q few untested found e f g = subst (λ xs. IsGrown p q xs untested found) (sym e) (subst (λ xs. IsGrown p q [] xs found) (sym f) (subst (IsGrown p q [] []) (sym g) (grown_nothing p q)))
 
--- what goes through two differences may be a facet of the pieces
-candidate : (p q few : List V3) (g v n : V3) → IsDifferenceStep p q g → IsDifferenceStep p q v → IsThrough few g v n → IsCandidate p q n
-candidate p q few g v n is_g is_v t = record {
-  primitive = t.primitive;
-  touches = record { u = g; v = v; u_is = is_g.difference; v_is = is_v.difference; u_on = dot_comm n g ∙ t.g_on; v_on = dot_comm n v ∙ t.h_on; independent = t.independent };
-  within = across_within n g v t.primitive t.independent t.g_on t.h_on is_g.within is_v.within;
-}
-
--- one more difference, with the facets through it, where facets that it lies behind may have been left out
+-- one more difference, with the walls through it, where facets that it lies behind may have been left out
 grown_with : (p q few untested found few' untested' : List V3) (v : V3) → All (IsDifferenceStep p q) few → All (IsCandidate p q) untested → All (IsFacet p q) found
-    → ((n : V3) → IsConeFacet few n → pos 0 ≤ℤ dot v n → Contains untested n ⊎ Contains found n) → IsDifferenceStep p q v → few' ≡ few ++ v ∷ []
-    → Adds (FromSome (λ g. IsThrough few g v) few) untested untested' → IsGrown p q few' untested' found
+    → ((n : V3) → IsConeFacet few n → pos 0 ≤ℤ dot v n → HasMultiple untested n ⊎ Contains found n) → IsDifferenceStep p q v → few' ≡ few ++ v ∷ []
+    → AddsEdges few v untested untested' → IsGrown p q few' untested' found
 grown_with p q few untested found few' untested' v steps candidates facets all' step e adds =
     subst (λ vs. IsGrown p q vs untested' found) (sym e) (record {
       steps = All-push (IsDifferenceStep p q) few v steps step;
       untested_are = All-from_members (IsCandidate p q) untested' (λ n c. ⊎_elim
           (λ old. All-contains (IsCandidate p q) untested n candidates old)
-          (λ (g, in_g, t). candidate p q few g v n (All-contains (IsDifferenceStep p q) few g steps in_g) step t)
+          (λ (g, in_g, t). edge_candidate p q few g v n (All-contains (IsDifferenceStep p q) few g steps in_g) step t)
           (adds.only n c));
       found_are = facets;
       all = λ n f. ⊎_elim
-          (λ old. ⊎_elim (λ c. inl (adds.kept n c)) (λ c. inr c) (all' n old (facet_on_side few v n f)))
-          (λ new. inl (adds.added n new))
+          (λ old. ⊎_elim (λ (g, c, ray). inl (g, adds.kept g c, ray)) (λ c. inr c) (all' n old (facet_on_side few v n f)))
+          (λ through. inl (adds.added n through))
           (facet_grown few v n f);
     })
 
 pub grown_by : (p q few untested found few' untested' found' : List V3) (v : V3) → IsGrown p q few untested found → IsDifferenceStep p q v → few' ≡ few ++ v ∷ []
-    → Adds (FromSome (λ g. IsThrough few g v) few) untested untested' → found' ≡ found → IsGrown p q few' untested' found'
+    → AddsEdges few v untested untested' → found' ≡ found → IsGrown p q few' untested' found'
 grown_by p q few untested found few' untested' found' v is step e adds same =
     subst (IsGrown p q few' untested') (sym same)
     (grown_with p q few untested found few' untested' v is.steps is.untested_are is.found_are (λ n f side. is.all n f) step e adds)
@@ -71,31 +67,34 @@ module _ (p q few untested found : List V3) (n : V3) (is : IsGrown p q few (unte
   others : All (IsCandidate p q) untested
   others = All-from_members (IsCandidate p q) untested (λ m c. All-contains (IsCandidate p q) (untested ++ n ∷ []) m is.untested_are (Contains-append_left untested (n ∷ []) m c))
 
-  without : (m : V3) → IsConeFacet few m → (n ≡ m → ⊥) → Contains untested m ⊎ Contains found m
-  without m f other = ⊎_elim (λ c. ⊎_elim (λ d. inl d) (λ e. absurd (other e)) (Contains-push_cases untested n m c)) (λ c. inr c) (is.all m f)
+  without : (m : V3) → IsConeFacet few m → (IsPrimitiveOf n m → ⊥) → HasMultiple untested m ⊎ Contains found m
+  without m f other = ⊎_elim (λ (g, c, ray). ⊎_elim (λ d. inl (g, d, ray)) (λ e. absurd (other (subst (λ z. IsPrimitiveOf z m) (sym e) ray))) (Contains-push_cases untested n g c)) (λ c. inr c) (is.all m f)
 
   -- since one of the few lies behind it
   pub grown_dropped : (IsAbove n few → ⊥) → IsGrown p q few untested found
-  grown_dropped behind = record { steps = is.steps; untested_are = others; found_are = is.found_are; all = λ m f. without m f (λ e. behind (subst (λ z. IsAbove z few) (sym e) f.above)) }
+  grown_dropped behind = record { steps = is.steps; untested_are = others; found_are = is.found_are; all = λ m f. without m f (λ ray. behind (above_multiple few n m ray f.above)) }
 
   -- since no difference lies behind it
-  pub grown_found : (found' : List V3) → IsBeyond p q n → found' ≡ found ++ n ∷ [] → IsGrown p q few untested found'
-  grown_found found' beyond e = subst (IsGrown p q few untested) (sym e) (record {
+  pub grown_found : (found' : List V3) (r : V3) → IsBeyond p q n → IsPrimitiveOf n r → found' ≡ found ++ r ∷ [] → IsGrown p q few untested found'
+  grown_found found' r beyond ray e = subst (IsGrown p q few untested) (sym e) (record {
     steps = is.steps;
     untested_are = others;
-    found_are = All-push (IsFacet p q) found n is.found_are (record { primitive = last.primitive; beyond = beyond; touches = last.touches });
+    found_are = All-push (IsFacet p q) found r is.found_are (facet_on_ray p q n r ray beyond last.touches);
     all = λ m f. ⊎_elim
-        (λ c. ⊎_elim (λ d. inl d) (λ e. inr (subst (Contains (found ++ n ∷ [])) e (Contains-push found n))) (Contains-push_cases untested n m c))
-        (λ c. inr (Contains-append_left found (n ∷ []) m c))
+        (λ (g, c, on). ⊎_elim (λ d. inl (g, d, on)) (λ same. inr (here_found m (subst (λ z. IsPrimitiveOf z m) (sym same) on))) (Contains-push_cases untested n g c))
+        (λ c. inr (Contains-append_left found (r ∷ []) m c))
         (is.all m f);
   })
+    where
+      here_found : (m : V3) → IsPrimitiveOf n m → Contains (found ++ r ∷ []) m
+      here_found m on = subst (Contains (found ++ r ∷ [])) (primitive-only n r ray ∙ sym (primitive-only n m on)) (Contains-push found r)
 
   -- since the difference v, which joins the few, lies behind it
-  pub grown_violated : (few' untested' found' : List V3) (v : V3) → IsViolator p q n v → few' ≡ few ++ v ∷ [] → Adds (FromSome (λ g. IsThrough few g v) few) untested untested' → found' ≡ found → IsGrown p q few' untested' found'
+  pub grown_violated : (few' untested' found' : List V3) (v : V3) → IsViolator p q n v → few' ≡ few ++ v ∷ [] → AddsEdges few v untested untested' → found' ≡ found → IsGrown p q few' untested' found'
   grown_violated few' untested' found' v violator e adds same =
       subst (IsGrown p q few' untested') (sym same)
       (grown_with p q few untested found few' untested' v is.steps others is.found_are
-      (λ m f side. without m f (λ e. clash (dot v m) (subst (λ z. dot v z <ℤ pos 0) e violator.behind) side)) violator.step e adds)
+      (λ m f side. without m f (λ ray. clash (dot v n) violator.behind (nonneg_is (dot v n) (pos ray.factor *ℤ dot v m) (dot_multiple v n m ray.factor ray.multiple) (nonneg_mul (pos ray.factor) (dot v m) (nonneg_pos ray.factor) side)))) violator.step e adds)
     where
       clash : (a : ℤ) → a <ℤ pos 0 → pos 0 ≤ℤ a → ⊥
       clash a h g = omega (arith, ints)
@@ -106,7 +105,7 @@ grown_enough p q few found is spans =
     let are = differences_are p q in record {
       spanning = spans;
       members = λ v c. are.all v (All-contains (IsDifferenceStep p q) few v is.steps c).difference;
-      none_behind = λ n f. beyond_is_above p q (differences p q) n are (All-contains (IsFacet p q) found n is.found_are (⊎_elim (λ c. absurd (Contains-nothing n c)) (λ c. c) (is.all n f))).beyond;
+      none_behind = λ n f. beyond_is_above p q (differences p q) n are (All-contains (IsFacet p q) found n is.found_are (⊎_elim (λ (g, c, ray). absurd (Contains-nothing g c)) (λ c. c) (is.all n f))).beyond;
     }
 
 -- a list that grew still spans space

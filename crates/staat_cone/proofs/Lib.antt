@@ -1,7 +1,11 @@
 pub mod WallLemmas
 pub mod PairLists
 pub mod PairLemmas
+pub mod ScanLemmas
 pub mod SourceSizes
+pub mod EdgeLemmas
+pub mod NarrowLemmas
+pub mod SearchLemmas
 pub mod LawLemmas
 pub mod FewLemmas
 pub mod Sources

@@ -17,7 +17,7 @@ use Rattle.staat_model.proofs.FacetLemmas.{across_crosses, swap_zero}
 use Rattle.staat_cone.specs.Pairs.{Adds, FromSome, IsThrough}
 use Rattle.staat_cone.proofs.PairLists.{Adds-none, Adds-one, Adds-then, take_more}
 
-above_multiple : (vs : List V3) (f n : V3) → IsPrimitiveOf f n → IsAbove n vs → IsAbove f vs
+pub above_multiple : (vs : List V3) (f n : V3) → IsPrimitiveOf f n → IsAbove n vs → IsAbove f vs
 above_multiple vs f n p up =
     All-weaker (λ v. pos 0 ≤ℤ dot v n) (λ v. pos 0 ≤ℤ dot v f)
     (λ v q. nonneg_is (dot v f) (pos p.factor *ℤ dot v n) (dot_multiple v f n p.factor p.multiple) (nonneg_mul (pos p.factor) (dot v n) (nonneg_pos p.factor) q)) vs up
@@ -34,7 +34,7 @@ above_added vs xs ys f n up p e =
 pub above_not_added : (vs xs : List V3) (f : V3) → (IsAbove f vs → ⊥) → Adds (IsEdgeOf vs f) xs xs
 above_not_added vs xs f fails = Adds-none (IsEdgeOf vs f) xs (λ n (up, p). fails (above_multiple vs f n p up))
 
-on_plane : (v f n : V3) → IsPrimitiveOf f n → dot v f ≡ pos 0 → dot v n ≡ pos 0
+pub on_plane : (v f n : V3) → IsPrimitiveOf f n → dot v f ≡ pos 0 → dot v n ≡ pos 0
 on_plane v f n p e = cancel_zero p.factor (dot v n) p.positive (sym (dot_multiple v f n p.factor p.multiple) ∙ e)
 
 pub through_added : (vs xs ys zs : List V3) (g h f : V3) → f ≡ cross g h → f ≢ origin → Adds (IsEdgeOf vs f) xs ys → Adds (IsEdgeOf vs (negative f)) ys zs → Adds (IsThrough vs g h) xs zs

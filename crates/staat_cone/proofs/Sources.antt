@@ -23,7 +23,7 @@ pub listed_by_few : (p q few found list : List V3) → IsGrown p q few [] found 
 listed_by_few p q few found list is spans l = record {
   ascending = l.ascending;
   each = λ n c. All-contains (IsFacet p q) found n is.found_are (l.each n c);
-  all = λ n f. l.all n (⊎_elim (λ c. absurd (Contains-nothing n c)) (λ c. c) (is.all n ((few_facets_lemma few (differences p q) n (grown_enough p q few found is spans)).1 (to_cone_facet p q (differences p q) n (differences_are p q) f))));
+  all = λ n f. l.all n (⊎_elim (λ (g, c, ray). absurd (Contains-nothing g c)) (λ c. c) (is.all n ((few_facets_lemma few (differences p q) n (grown_enough p q few found is spans)).1 (to_cone_facet p q (differences p q) n (differences_are p q) f))));
 }
 
 -- the facets of all the differences

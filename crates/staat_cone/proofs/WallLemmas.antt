@@ -1,10 +1,11 @@
 -- Points that lie least and farthest along a normal, and what they say of all points.
-use Rattle.std.proofs.Common.{◌≡◌, ℕ, ◌+◌, ◌<◌, ◌↔◌, ◌⊎◌, inl, inr, arith, sym, ap, subst, ◌∙◌, refl, Bool, true, false, not, ℤ, ◌≤ℤ◌, ◌<ℤ◌, List, get_or, length, below_more, IsTrue, Contains, All, ◌-ℤ◌, pos}
+use Rattle.std.proofs.Common.{◌≡◌, ℕ, ◌+◌, ◌<◌, ◌↔◌, ◌⊎◌, inl, inr, arith, sym, ap, subst, ◌∙◌, refl, Bool, true, false, not, ℤ, ◌≤ℤ◌, ◌<ℤ◌, List, get_or, length, below_more, IsTrue, Contains, All, ◌-ℤ◌, pos, neg_ℤ}
 use Rattle.std.proofs.lemmas.Int.{ints, by_lt_z}
 use Rattle.std.proofs.lemmas.List.{get_or_default}
 use Rattle.std.proofs.lemmas.List.Elements.{All-contains}
 use Rattle.staat_vec.specs.declared.vector.V3.{V3}
-use Rattle.staat_vec.specs.Vectors.{dot, minus}
+use Rattle.staat_vec.specs.Vectors.{dot, minus, negative}
+use Rattle.staat_vec.proofs.VecRing.{dot_negative}
 use Rattle.staat_cone.specs.declared.walls.Placed.{Placed}
 use Rattle.staat_model.specs.Facets.{IsFacet}
 use Rattle.staat_model.specs.Meeting.{Meets}
@@ -66,3 +67,10 @@ meets_by_list p q facets d is_p is_q are =
       (λ m. All-from_members (λ n. pos 0 <ℤ dot n d) facets (λ n n_in. law.0 m n ((are n).0 n_in))),
       (λ ahead. law.1 (λ n f. All-contains (λ n. pos 0 <ℤ dot n d) facets n ahead ((are n).1 f))),
     )
+
+-- what lies behind the other side of a plane lies off the plane
+pub off_behind : (v n m : V3) → m ≡ negative n → dot v m <ℤ pos 0 → dot v n ≡ pos 0 → ⊥
+off_behind v n m e h z = below (dot v m) (dot v n) (ap (dot v) e ∙ dot_negative v n) z h
+  where
+    below : (a b : ℤ) → a ≡ neg_ℤ b → b ≡ pos 0 → a <ℤ pos 0 → ⊥
+    below a b e z h = omega (arith, ints)

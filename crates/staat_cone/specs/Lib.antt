@@ -1,3 +1,4 @@
 pub mod AxisWalls
 pub mod Few
 pub mod Pairs
+pub mod Scans

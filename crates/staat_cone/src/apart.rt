@@ -1,9 +1,11 @@
 // Whether two pieces overlap.
 ghost use Rattle.std.specs.Prelude.{◌↔◌, All, Any, IfOk, IsTrue};
+ghost use Rattle.staat_vec.specs.declared.vector.V3.{V3 as Vector};
 ghost use Rattle.staat_vec.specs.Vectors.{IsWithin};
 ghost use Rattle.staat_model.specs.Meeting.{Overlap};
 ghost use Rattle.staat_cone.specs.AxisWalls.{IsWallBetween, axis_walls};
 
+use crate::search::finds_wall;
 use crate::source::FacetSource;
 use crate::walls::separates;
 use staat_model::Piece;
@@ -35,7 +37,15 @@ fn is_apart_along_axis(p: &Piece, q: &Piece) -> bool
     is_apart_along(&AXES, p, q)
 }
 
-/// Whether the pieces overlap. The source is asked only where no wall across an axis keeps them apart.
+// whether a wall that is easily found keeps the pieces apart: one across an axis, or else one that a short search finds
+fn is_apart(p: &Piece, q: &Piece) -> bool
+    ensures wall { IsTrue result → (n : Vector) × IsWallBetween p.now q.now n }
+    ensures axes { Any (IsWallBetween p.now q.now) axis_walls → IsTrue result }
+{
+    is_apart_along_axis(p, q) || finds_wall(p, q)
+}
+
+/// Whether the pieces overlap. The source is asked only where no wall that is easily found keeps them apart.
 pub fn overlap<F: FacetSource>(
     alloc: Global,
     source: &F,
@@ -46,7 +56,7 @@ pub fn overlap<F: FacetSource>(
 {
     // a piece's points span space, so that no wall leads through it
     let _points = p.points();
-    if is_apart_along_axis(p, q) {
+    if is_apart(p, q) {
         return Ok(false);
     }
     let facets = source.facets(alloc, p, q)?;

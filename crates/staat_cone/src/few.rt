@@ -7,14 +7,16 @@ ghost use Rattle.staat_vec.specs.Lists.{Lists};
 ghost use Rattle.staat_model.specs.Cones.{IsSpanning};
 ghost use Rattle.staat_model.specs.Facets.{IsFacet};
 ghost use Rattle.staat_model.specs.Walls.{IsBeyond};
-ghost use Rattle.staat_cone.specs.Pairs.{Adds, FromSome, IsThrough};
+ghost use Rattle.staat_cone.specs.Pairs.{AddsEdges};
 ghost use Rattle.staat_cone.specs.Few.{IsCandidate, IsGrown, IsDifferenceStep, IsViolator};
 
-use crate::pairs::{add_all_through, is_above};
+use crate::behind::violator;
+use crate::edges::primitive_normal;
+use crate::method::{Method, add_edges_through};
+use crate::pairs::is_above;
 use crate::spread::three_steps;
-use crate::walls::{highest, is_nearer, lowest, points_of};
 use staat_model::Piece;
-use staat_vec::{DIFF, NORMAL, OutOfMemory, V3, in_order, sub};
+use staat_vec::{DIFF, OutOfMemory, V3, in_order};
 use std::alloc::Global;
 
 // How many facets of the few are tested at most. Each test finds a facet of the pieces, or a difference that was not
@@ -22,61 +24,48 @@ use std::alloc::Global;
 const ROUNDS: u32 = 1 << 20;
 
 // Few of the differences of two pieces, and the facets of their cone: those that were not tested against all
-// differences yet, among which some may lie before one of the few, and those that were.
+// differences yet, which are not made primitive and among which some may lie before one of the few, and those that
+// were.
 #[derive(Drop)]
 struct Few {
+    method: Method,
     members: Vec<V3>,
     untested: Vec<V3>,
     found: Vec<V3>,
 }
 
 impl Few {
-    fn new(alloc: Global) -> Few
+    fn new(alloc: Global, method: Method) -> Few
         ensures members { result.members.items ≡ [] }
         ensures untested { result.untested.items ≡ [] }
         ensures found { result.found.items ≡ [] }
     {
         Few {
+            method,
             members: Vec::new(alloc),
             untested: Vec::new(alloc),
             found: Vec::new(alloc),
         }
     }
 
-    // one more member, and the facets through it and another
+    // one more member, and the walls through it and another
     fn insert(&mut self, v: V3) -> Result<(), OutOfMemory>
         requires members { All (IsWithin DIFF) self.old.members.items }
         requires vector { IsWithin DIFF v }
         ensures members { OnOk result (self.new.members.items ≡ self.old.members.items ++ v ∷ []) }
-        ensures untested { OnOk result (Adds
-            (FromSome (λ g. IsThrough self.old.members.items g v) self.old.members.items)
-            self.old.untested.items self.new.untested.items) }
+        ensures untested { OnOk result
+            (AddsEdges self.old.members.items v self.old.untested.items self.new.untested.items) }
         ensures found { OnOk result (self.new.found.items ≡ self.old.found.items) }
     {
         let members = self.members.as_slice();
-        add_all_through(members, members, v, &mut self.untested)?;
+        add_edges_through(self.method, members, v, &mut self.untested)?;
         self.members.push(v)?;
         Ok(())
     }
 }
 
-// the difference that lies farthest behind n, if one does
-fn violator(n: V3, p: &Piece, q: &Piece) -> Option<V3>
-    requires normal { IsWithin NORMAL n }
-    ensures some { IfSome result (IsViolator p.now q.now n) }
-    ensures none { IfNone result (IsBeyond p.now q.now n) }
-{
-    let least = lowest(n, points_of(q));
-    let most = highest(n, points_of(p));
-    if is_nearer(least, most) {
-        Some(sub(least.point, most.point))
-    } else {
-        None
-    }
-}
-
-// Tests n against all differences: it is found to be a facet of the pieces, or the few grow. Where one of the few lies
-// behind it, it is dropped.
+// Tests n against all differences: the primitive vector on its ray is found to be a facet of the pieces, or the few
+// grow. Where one of the few lies behind it, it is dropped.
 fn settle(few: &mut Few, n: V3, p: &Piece, q: &Piece) -> Result<(), OutOfMemory>
     requires { IsGrown p.now q.now few.old.members.items (few.old.untested.items ++ n ∷ []) few.old.found.items }
     ensures grown { OnOk result
@@ -89,18 +78,18 @@ fn settle(few: &mut Few, n: V3, p: &Piece, q: &Piece) -> Result<(), OutOfMemory>
     }
     match violator(n, p, q) {
         Some(v) => few.insert(v)?,
-        None => few.found.push(n)?,
+        None => few.found.push(primitive_normal(n))?,
     }
     Ok(())
 }
 
 // three of the differences, if such are found that span space
-fn start(alloc: Global, p: &Piece, q: &Piece) -> Result<Option<Few>, OutOfMemory>
+fn start(alloc: Global, method: Method, p: &Piece, q: &Piece) -> Result<Option<Few>, OutOfMemory>
     ensures grown { IfOk result (λ s. IfSome s
         (λ few. IsGrown p.now q.now few.members.items few.untested.items few.found.items)) }
     ensures spanning { IfOk result (λ s. IfSome s (λ few. IsSpanning few.members.items)) }
 {
-    let mut few = Few::new(alloc);
+    let mut few = Few::new(alloc, method);
     let Some((u, v, w)) = three_steps(p, q) else {
         return Ok(None);
     };
@@ -126,10 +115,15 @@ fn grow(mut few: Few, p: &Piece, q: &Piece) -> Result<Option<Vec<V3>>, OutOfMemo
 }
 
 /// The facets of the pieces from few of their differences, if they are found within a bounded number of rounds.
-pub fn facets_by_few(alloc: Global, p: &Piece, q: &Piece) -> Result<Option<Vec<V3>>, OutOfMemory>
+pub fn facets_by_few(
+    alloc: Global,
+    method: Method,
+    p: &Piece,
+    q: &Piece,
+) -> Result<Option<Vec<V3>>, OutOfMemory>
     ensures { IfOk result (λ a. IfSome a (λ list. Lists vector_cmp (IsFacet p.now q.now) list.items)) }
 {
-    match start(alloc, p, q)? {
+    match start(alloc, method, p, q)? {
         Some(few) => grow(few, p, q),
         None => Ok(None),
     }

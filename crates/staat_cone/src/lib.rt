@@ -2,10 +2,20 @@
 #![tactic(auto)]
 
 mod apart;
+mod around;
+mod behind;
+mod edges;
+mod facets;
 mod few;
 pub mod laws;
+mod method;
+mod narrow;
 mod pairs;
 mod plain;
+mod scan;
+#[cfg(test)]
+mod scan_tests;
+mod search;
 mod source;
 mod spread;
 #[cfg(test)]
@@ -13,6 +23,8 @@ mod tests;
 mod walls;
 
 pub use apart::overlap;
+pub use around::furthest;
 pub use plain::Plain;
+pub use scan::Scan;
 pub use source::FacetSource;
 pub use walls::{blocks, separates};

@@ -1,14 +1,24 @@
 // The facets of the cone of a list of vectors, by pairs of the vectors.
-ghost use Rattle.std.specs.Prelude.{◌≢◌, ◌↔◌, All, Contains, IsTrue, OnOk, IfOk};
-ghost use Rattle.staat_vec.specs.Vectors.{IsWithin, origin, vector_cmp};
+ghost use Rattle.std.specs.Prelude.{◌≡◌, ◌≢◌, ◌↔◌, All, Contains, IsTrue, OnOk, IfOk};
+ghost use Rattle.staat_vec.specs.Vectors.{IsWithin, dot, origin, vector_cmp};
 ghost use Rattle.staat_vec.specs.Primitives.{IsPrimitiveOf};
 ghost use Rattle.staat_vec.specs.Lists.{Lists};
 ghost use Rattle.staat_model.specs.Cones.{IsAbove, IsConeFacet};
 ghost use Rattle.staat_cone.specs.Pairs.{Adds, FromSome, IsThrough};
 
+use crate::narrow::{narrow_cross, narrow_dot};
 use crate::walls::is_wall;
-use staat_vec::{DIFF, NORMAL, OutOfMemory, V3, cross_diff, dot, in_order, neg, primitive};
+use staat_vec::{DIFF, NORMAL, OutOfMemory, V3, in_order, neg, primitive};
 use std::alloc::Global;
+
+/// How far v lies along n.
+pub fn along(v: V3, n: V3) -> i64
+    requires vector { IsWithin DIFF v }
+    requires normal { IsWithin NORMAL n }
+    ensures { result ≡ dot v n }
+{
+    narrow_dot(n, v)
+}
 
 /// Whether each of the vectors lies on the positive side of n, or across n.
 ///
@@ -18,7 +28,7 @@ pub fn is_above(n: V3, vs: &[V3]) -> bool
     requires vectors { All (IsWithin DIFF) vs.now }
     ensures { IsTrue result ↔ IsAbove n vs.now }
 {
-    vs.iter().all(|v| dot(*v, n) >= 0)
+    vs.iter().all(|v| along(*v, n) >= 0)
 }
 
 // adds the primitive vector on the ray of f, if it has all the vectors on its positive side
@@ -41,7 +51,7 @@ fn add_through(vs: &[V3], g: V3, h: V3, out: &mut Vec<V3>) -> Result<(), OutOfMe
     requires second { IsWithin DIFF h }
     ensures { OnOk result (Adds (IsThrough vs.now g h) out.old.items out.new.items) }
 {
-    let f = cross_diff(g, h);
+    let f = narrow_cross(g, h);
     if is_wall(f) {
         add_above(vs, f, out)?;
         add_above(vs, neg(f), out)?;

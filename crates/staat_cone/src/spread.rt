@@ -1,16 +1,18 @@
 // The differences of the points of two pieces.
-ghost use Rattle.std.specs.Prelude.{◌≡◌, ◌≢◌, ◌≤◌, ◌↔◌, pos, length, List, All, Contains};
-ghost use Rattle.std.specs.Prelude.{IsTrue, OnOk, IfOk, IfSome};
+ghost use Rattle.std.specs.Prelude.{◌≡◌, ◌≢◌, ◌<◌, ◌↔◌, pos, length, List, All, Contains};
+ghost use Rattle.std.specs.Prelude.{OnOk, IfOk, IfSome};
 ghost use Rattle.staat_vec.specs.declared.vector.V3.{V3 as Vector};
-ghost use Rattle.staat_vec.specs.Vectors.{IsWithin, det, minus};
+ghost use Rattle.staat_vec.specs.Vectors.{IsWithin, det, dot, minus};
 ghost use Rattle.staat_model.specs.Facets.{IsDifference};
 ghost use Rattle.staat_model.specs.Pieces.{IsPiece};
 ghost use Rattle.staat_cone.specs.Pairs.{Adds, FromSome};
 ghost use Rattle.staat_cone.specs.Few.{IsDifferenceStep};
 
+use crate::behind::violator;
+use crate::narrow::narrow_cross;
 use crate::walls::{is_wall, points_of};
 use staat_model::Piece;
-use staat_vec::{DIFF, OutOfMemory, POINT, V3, cross_diff, det, sub};
+use staat_vec::{DIFF, NORMAL, OutOfMemory, POINT, V3, neg, sub};
 use std::alloc::Global;
 
 // adds what leads from the point a to each of the points
@@ -74,52 +76,65 @@ fn first_apart(a: V3, points: &[V3], u: V3) -> Option<V3>
 {
     for b in points {
         let v = sub(*b, a);
-        if is_wall(cross_diff(u, v)) {
+        if is_wall(narrow_cross(u, v)) {
             return Some(v);
         }
     }
     None
 }
 
-// whether v lies off the plane of u and w
-fn is_off(v: V3, u: V3, w: V3) -> bool
-    requires first { IsWithin DIFF v }
-    requires second { IsWithin DIFF u }
-    requires third { IsWithin DIFF w }
-    ensures { IsTrue result ↔ (det v u w ≢ pos 0) }
+// a difference that lies farthest off the plane of n to one of the sides, if one lies off it
+fn off_plane(n: V3, p: &Piece, q: &Piece) -> Option<V3>
+    requires { IsWithin NORMAL n }
+    ensures step { IfSome result (IsDifferenceStep p.now q.now) }
+    ensures off { IfSome result (λ v. dot v n ≢ pos 0) }
 {
-    det(v, u, w) != 0
-}
-
-// the first step from a to one of the points that lies off the plane of u and w
-fn first_off(a: V3, points: &[V3], u: V3, w: V3) -> Option<V3>
-    requires from { IsWithin POINT a }
-    requires to { All (IsWithin POINT) points.now }
-    requires first { IsWithin DIFF u }
-    requires second { IsWithin DIFF w }
-    ensures step { IfSome result (FromSome (λ b v. v ≡ minus b a) points.now) }
-    ensures within { IfSome result (IsWithin DIFF) }
-    ensures off { IfSome result (λ v. det v u w ≢ pos 0) }
-{
-    for b in points {
-        let v = sub(*b, a);
-        if is_off(v, u, w) {
-            return Some(v);
-        }
+    if let Some(v) = violator(n, p, q) {
+        return Some(v);
+    }
+    if let Some(v) = violator(neg(n), p, q) {
+        return Some(v);
     }
     None
 }
 
-/// Three of the differences of q and p that span space, if such are found. They lead from one point of p.
+// what leads from one of the points ps to one of the points qs
+fn step(ps: &[V3], i: usize, qs: &[V3], j: usize) -> V3
+    requires from { i < length ps.now }
+    requires to { j < length qs.now }
+    requires ps { All (IsWithin POINT) ps.now }
+    requires qs { All (IsWithin POINT) qs.now }
+    ensures { IsDifferenceStep ps.now qs.now result }
+{
+    sub(qs[j], ps[i])
+}
+
+// The least and the greatest difference, by the order of vectors, which lie on the border of all; or else two steps from
+// one point.
+fn two_steps(p: &Piece, q: &Piece) -> Option<(V3, V3)>
+    ensures first { IfSome result (λ s. IsDifferenceStep p.now q.now s.0) }
+    ensures second { IfSome result (λ s. IsDifferenceStep p.now q.now s.1) }
+{
+    let ps = points_of(p);
+    let qs = points_of(q);
+    let u = step(ps, ps.len() - 1, qs, 0);
+    let v = step(ps, 0, qs, qs.len() - 1);
+    if is_wall(narrow_cross(u, v)) {
+        return Some((u, v));
+    }
+    let u = first_step(ps[0], qs)?;
+    let v = first_apart(ps[0], qs, u)?;
+    Some((u, v))
+}
+
+/// Three of the differences of q and p that span space, if such are found.
 pub fn three_steps(p: &Piece, q: &Piece) -> Option<(V3, V3, V3)>
     ensures steps { IfSome result (λ s. IsDifferenceStep p.now q.now s.0
         × IsDifferenceStep p.now q.now s.1 × IsDifferenceStep p.now q.now s.2) }
     ensures spanning { IfSome result (λ s. det s.2 s.0 s.1 ≢ pos 0) }
 {
-    let a = points_of(p)[0];
-    let points = points_of(q);
-    let u = first_step(a, points)?;
-    let v = first_apart(a, points, u)?;
-    let w = first_off(a, points, u, v)?;
+    let (u, v) = two_steps(p, q)?;
+    let n = narrow_cross(u, v);
+    let w = off_plane(n, p, q)?;
     Some((u, v, w))
 }

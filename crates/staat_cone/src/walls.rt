@@ -8,6 +8,7 @@ ghost use Rattle.staat_model.specs.Meeting.{Meets};
 ghost use Rattle.staat_model.specs.Pieces.{IsPiece};
 ghost use Rattle.staat_model.specs.Walls.{IsBeyond};
 
+use crate::narrow::narrow_dot;
 use staat_model::Piece;
 use staat_vec::{DIRECTION, NORMAL, ORIGIN, POINT, V3, dot};
 
@@ -22,7 +23,7 @@ pub fn is_wall(v: V3) -> bool
 #[derive(Clone, Copy, Debug)]
 pub struct Placed {
     pub point: V3,
-    pub along: i128,
+    pub along: i64,
 }
 
 fn place(n: V3, point: V3) -> Placed
@@ -33,7 +34,7 @@ fn place(n: V3, point: V3) -> Placed
 {
     Placed {
         point,
-        along: dot(n, point),
+        along: narrow_dot(n, point),
     }
 }
 
@@ -50,7 +51,7 @@ fn farther(a: Placed, b: Placed) -> Placed
     ensures first { a.along ≤ℤ result.along }
     ensures second { b.along ≤ℤ result.along }
 {
-    if b.along < a.along { a } else { b }
+    if a.along < b.along { b } else { a }
 }
 
 /// One of the points that lie least far along n.

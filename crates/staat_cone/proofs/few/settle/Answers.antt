@@ -25,4 +25,4 @@ returns-in_ok-insert-in-Some-clause-kept c v h =
 pub returns-in_ok-push-in-None-clause-grown : goal.returns-in_ok-push-in-None-clause-grown
 returns-in_ok-push-in-None-clause-grown c =
     let few = c.args.few.now in
-    grown_found c.args.p.now c.args.q.now few.members.items few.untested.items few.found.items c.args.n c.requires c.push.new.self.items c.in-None.ensures.none c.in_ok-push-in-None.ensures.items
+    grown_found c.args.p.now c.args.q.now few.members.items few.untested.items few.found.items c.args.n c.requires c.push.new.self.items c.primitive_normal.result c.in-None.ensures.none c.primitive_normal.ensures c.in_ok-push-in-None.ensures.items

@@ -2,7 +2,7 @@ use Rattle.std.proofs.Common.{subst, All, Contains, ◌≤ℤ◌}
 use Rattle.staat_vec.specs.Vectors.{dot}
 use Rattle.staat_cone.proofs.WallLemmas.{beyond_by_ends, less_false}
 use Rattle.staat_cone.proofs.FewLemmas.{violator_by_ends}
-use Rattle.staat_cone.proofs.few.violator.Goals as goal
+use Rattle.staat_cone.proofs.behind.violator.Goals as goal
 
 pub returns-then-is_nearer-clause-some : goal.returns-then-is_nearer-clause-some
 returns-then-is_nearer-clause-some c =

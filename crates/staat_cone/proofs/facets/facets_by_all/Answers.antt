@@ -3,7 +3,7 @@ use Rattle.staat_vec.specs.Vectors.{vector_cmp}
 use Rattle.staat_vec.specs.Lists.{Lists}
 use Rattle.staat_model.specs.Cones.{IsConeFacet}
 use Rattle.staat_cone.proofs.Sources.{listed_by_all}
-use Rattle.staat_cone.proofs.plain.facets_by_all.Goals as goal
+use Rattle.staat_cone.proofs.facets.facets_by_all.Goals as goal
 
 pub returns : goal.returns
 returns c =

@@ -1,0 +1,16 @@
+use Rattle.std.proofs.Common.{◌∙◌, ◌<◌, ◌^◌, sym, subst, arith}
+use Rattle.std.specs.Prelude.{unsigned_abs}
+use Rattle.staat_vec.specs.declared.vector.TheConstants.{DIFF, NORMAL}
+use Rattle.staat_vec.specs.Vectors.{dot}
+use Rattle.staat_vec.proofs.Bounds.{abs_dot_le}
+use Rattle.staat_vec.proofs.VecRing.{dot_comm}
+use Rattle.staat_cone.proofs.NarrowLemmas.{reads_word}
+use Rattle.staat_cone.proofs.pairs.along.Goals as goal
+
+pub returns : goal.returns
+returns c =
+    let n = c.args.n in
+    let v = c.args.v in
+    let size = abs_dot_le NORMAL DIFF n v c.requires.normal c.requires.vector in
+    let small : unsigned_abs (dot n v) < 2 ^ 63 = omega (arith, size) in
+    reads_word c.narrow_dot.result (subst (λ z. unsigned_abs z < 2 ^ 63) (sym c.narrow_dot.ensures) small) ∙ c.narrow_dot.ensures ∙ dot_comm n v
