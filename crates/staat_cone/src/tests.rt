@@ -2,10 +2,10 @@
 ghost use Rattle.std.specs.Prelude.{All, IfOk};
 ghost use Rattle.staat_vec.specs.Vectors.{IsWithin};
 
-use crate::{FacetSource, Plain, blocks, separates};
+use crate::{FacetSource, Plain, blocks, overlap, separates};
 use staat_model::Piece;
-use staat_samples::{at, boxed};
-use staat_vec::{NORMAL, V3};
+use staat_samples::{at, boxed, prism};
+use staat_vec::{NORMAL, OutOfMemory, V3};
 use std::alloc::Global;
 use std::test::Fail;
 
@@ -99,5 +99,23 @@ fn walls_between_cubes(rt: HostRuntime) -> Result<(), Fail> {
     assert!(rt; !separates(at(0, 1, 0), &p, &q));
     assert!(rt; !separates(at(0, 0, 0), &p, &q));
     assert!(rt; !separates(at(1, 0, 0), &q, &p));
+    Ok(())
+}
+
+struct NoMemory;
+
+impl FacetSource for NoMemory {
+    fn facets(&self, _alloc: Global, _p: &Piece, _q: &Piece) -> Result<Vec<V3>, OutOfMemory> {
+        Err(OutOfMemory)
+    }
+}
+
+// the boxes about the two overlap, so that no axis serves
+#[test]
+fn one_slanted_wall_is_found(rt: HostRuntime) -> Result<(), Fail> {
+    let low = prism(rt.alloc(), [(0, 0), (4, 0), (3, 1), (0, 4)])?.ok_or("no piece")?;
+    let high = prism(rt.alloc(), [(4, 1), (4, 4), (1, 4), (2, 3)])?.ok_or("no piece")?;
+    let found = overlap(rt.alloc(), &NoMemory, &low, &high)?;
+    assert!(rt; !found);
     Ok(())
 }
