@@ -21,7 +21,7 @@ use crate::refusals::text_fault;
 use crate::sound::tested;
 use staat_cert::{CertRefusal, cert_text, read_cert};
 use staat_check::check;
-use staat_cone::Plain;
+use staat_cone::Scan;
 use staat_drill::{nested_boxes, row_of_cubes};
 use staat_fault::Fault;
 use staat_model::{Assembly, Certificate, Outcome, Sound, Verdict};
@@ -83,7 +83,7 @@ fn drilled(alloc: Global, name: Product, sound: &Sound, outcome: &Outcome) -> Re
     ensures drilled { Follows (IsDrilled name sound.now) result }
     ensures cause { (shelf : ShelfSide) → IfErr result (HasCause shelf) }
 {
-    let certificate = certify(alloc, &Plain, sound, outcome, 2)?;
+    let certificate = certify(alloc, &Scan, sound, outcome, 2)?;
     match cert_text(alloc, &certificate) {
         Ok(text) => {
             let read = read_again(alloc, &text)?;

@@ -19,7 +19,7 @@ use crate::answer::Answer;
 use crate::refusals::{planes_fault, text_fault};
 use crate::sound::read_sound;
 use staat_cert::cert_text;
-use staat_cone::Plain;
+use staat_cone::Scan;
 use staat_edge::Shelf;
 use staat_fault::Fault;
 use staat_model::{Outcome, Sound};
@@ -51,7 +51,7 @@ pub fn outcome_of(alloc: Global, sound: &Sound, planes: u32, robust: bool) -> Re
 {
     let options = Options { planes, robust };
     know(sound);
-    match staat_plan::plan(alloc, &Plain, sound, options) {
+    match staat_plan::plan(alloc, &Scan, sound, options) {
         Ok(outcome) => Ok(outcome),
         Err(refusal) => Err(planes_fault(refusal)),
     }
@@ -70,7 +70,7 @@ fn certificate_text(
     ensures written { Follows (IsWritten sound.now (finding_of outcome.now) (Some version)) result }
     ensures cause { (shelf : ShelfSide) → IfErr result (HasCause shelf) }
 {
-    let certificate = certify(alloc, &Plain, sound, outcome, version)?;
+    let certificate = certify(alloc, &Scan, sound, outcome, version)?;
     match cert_text(alloc, &certificate) {
         Ok(text) => Ok(text),
         Err(refusal) => Err(text_fault(refusal)),

@@ -7,7 +7,7 @@ ghost use Rattle.staat_top.specs.Work.{Follows};
 ghost use Rattle.staat_top.specs.Runs.{HasCause, ShelfSide};
 
 use crate::refusals::planes_fault;
-use staat_cone::Plain;
+use staat_cone::Scan;
 use staat_fault::Fault;
 use staat_model::{PartSet, Sound};
 use staat_planes::{PlaneTable, tabulate};
@@ -25,7 +25,7 @@ pub fn table_of(alloc: Global, sound: &Sound, limit: u32) -> Result<PlaneTable, 
     ensures cause { (shelf : ShelfSide) → IfErr result (HasCause shelf) }
 {
     let all = PartSet::first(sound.assembly().parts());
-    match tabulate(alloc, &Plain, sound, all, limit) {
+    match tabulate(alloc, &Scan, sound, all, limit) {
         Ok(table) => Ok(table),
         Err(refusal) => Err(planes_fault(refusal)),
     }

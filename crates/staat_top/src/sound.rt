@@ -8,7 +8,7 @@ ghost use Rattle.staat_top.specs.Runs.{HasCause, IfTooLong, MayName, ShelfSide, 
 use crate::input::read_input;
 use crate::refusals::asm_fault;
 use staat_asm::build;
-use staat_cone::Plain;
+use staat_cone::Scan;
 use staat_edge::Shelf;
 use staat_fault::Fault;
 use staat_model::{Assembly, Sound};
@@ -21,7 +21,7 @@ pub fn tested(alloc: Global, assembly: Assembly) -> Result<Sound, Fault>
     ensures found { Follows (IsTested assembly) result }
     ensures cause { (shelf : ShelfSide) → IfErr result (HasCause shelf) }
 {
-    match build(alloc, &Plain, assembly) {
+    match build(alloc, &Scan, assembly) {
         Ok(sound) => Ok(sound),
         Err(refusal) => Err(asm_fault(refusal)),
     }
