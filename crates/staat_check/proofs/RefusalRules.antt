@@ -1,36 +1,41 @@
 -- The rules of a refusal, by what was found of them.
-use Rattle.std.proofs.Common.{◌≡◌, ◌⊎◌, ◌↔◌, inl, inr, ⊎_elim, ℕ, ◌+◌, ◌*◌, ◌<◌, ◌≤◌, arith, refl, sym, ap, subst, ◌∙◌, List, [], length, All, Contains}
+use Rattle.std.proofs.Common.{◌≡◌, ◌⊎◌, ◌↔◌, inl, inr, ⊎_elim, ℕ, ◌+◌, ◌*◌, ◌<◌, ◌≤◌, arith, refl, sym, ap, subst, ◌∙◌, List, [], length, take, get_or, All, Contains}
 use Rattle.std.specs.Prelude.{Option, None, Some, slice_index_or, MatchOption, sum_by}
 use Rattle.std.specs.FinSet as set
 use Rattle.std.proofs.lemmas.List.Elements.{All-contains, All-weaker}
+use Rattle.std.proofs.lemmas.Option.{slice_get-get_or}
 use Rattle.std.proofs.lemmas.List.Sums.{sum_by-le}
 use Rattle.staat_vec.specs.declared.vector.V3.{V3}
 use Rattle.staat_vec.specs.declared.vector.TheConstants.{DIRECTION}
-use Rattle.staat_vec.specs.Lists.{FailsFirst, IsFirst}
-use Rattle.staat_vec.specs.Vectors.{IsWithin}
+use Rattle.staat_vec.specs.Lists.{FailsFirst, IsFirst, Lists}
+use Rattle.staat_vec.specs.Vectors.{IsWithin, vector_cmp}
 use Rattle.staat_model.specs.declared.assembly.Part.{Part}
 use Rattle.staat_model.specs.declared.certificate.Arc.{Arc}
 use Rattle.staat_model.specs.declared.certificate.Dir.{Dir}
 use Rattle.staat_model.specs.declared.certificate.Witness.{Witness}
 use Rattle.staat_model.specs.declared.set.PartSet.{PartSet}
-use Rattle.staat_model.specs.Certificates.{IsArcWithin, IsBlocked, IsBlocking, IsListed, IsStuckSet, IsWitness, RefusalHolds}
+use Rattle.staat_model.specs.Certificates.{HasLine, IsArcWithin, IsBlocked, IsBlocking, IsListed, IsStuckSet, IsWitness, RefusalHolds}
 use Rattle.staat_model.specs.declared.verdict.Reason.TheVariants.{BadArc, MissingDirection}
 use Rattle.staat_model.specs.declared.verdict.Verdict.{Verdict}
 use Rattle.staat_model.specs.declared.verdict.Verdict.TheVariants.{ValidRefusal, Not}
+use Rattle.staat_model.specs.Certify.{IsDirection}
 use Rattle.staat_model.specs.Planes.{ArePlanes, vertices}
 use Rattle.staat_model.proofs.PlaneLemmas.{NoneParallel, planes_apart}
 use Rattle.staat_model.specs.Reasons.{IsNoStuckSet, IsRefusalReason, bad_arc, missing_direction, witness_size}
 use Rattle.staat_model.specs.Sets.{Has, IsNonempty, IsSubset, below}
 use Rattle.staat_model.specs.Texts.{IsWitnessInOrder}
+use Rattle.staat_model.proofs.Differences.{in_map}
 use Rattle.staat_model.proofs.Members.{All-from_members}
 use Rattle.staat_model.proofs.Places.{Contains-from_place, one_at_place, some_at}
 use Rattle.staat_model.proofs.RestrictLemmas.{nonempty_or, member_or_not}
 use Rattle.staat_model.proofs.SetBits.{has-below}
 use Rattle.staat_model.proofs.SetMembers.{has-difference}
+use Rattle.staat_model.proofs.ListedVertices.{all_listed}
 use Rattle.staat_pairs.specs.Tables.{IsTableArc, Table, WasMadeFrom}
 use Rattle.staat_check.specs.Conditions.{AreLists, IsAcrossAll, IsFitDir, LeadsAhead, asked_facets}
 use Rattle.staat_check.specs.Verdicts.{IsRefusalVerdict}
 use Rattle.staat_check.proofs.ConditionLemmas.{facets_law, numbers_law, numbers_small}
+use Rattle.staat_check.proofs.ReadLemmas.{more_all}
 
 -- ---- the set
 
@@ -139,3 +144,15 @@ refusal_said parts version w witnesses dirs t (Some d) v set_is trees e made blo
 
 pub planes_not_parallel : (parts : List Part) (t : Table) → WasMadeFrom parts t → NoneParallel t.planes
 planes_not_parallel parts t made = planes_apart parts t.of t.planes made.planes
+
+-- ---- directions
+
+pub next_line : (directions : List V3) (dirs : List Dir) (found k : ℕ) (u : V3) (e : Dir) → found < length directions → k < length dirs → get_or directions found u ≡ (get_or dirs k e).d → All (HasLine dirs) (take found directions) → All (HasLine dirs) (take (found + 1) directions)
+next_line directions dirs found k u e lt in_dirs same all =
+    let x : Dir = get_or dirs k e in
+    let c : Contains dirs x = Contains-from_place dirs k x (slice_get-get_or dirs k e in_dirs) in
+    more_all (HasLine dirs) directions found (get_or directions found u) (slice_get-get_or directions found u lt) all (subst (HasLine dirs) (sym same) (in_map (λ (dir : Dir). dir.d) dirs x c))
+
+pub each_listed : (version : ℕ) (planes given ds wanted : List V3) (dirs : List Dir) → given ≡ planes → wanted ≡ ds → NoneParallel planes → Lists vector_cmp (IsDirection version given) ds → All (HasLine dirs) wanted → All (IsListed version dirs) (vertices planes)
+each_listed version planes given ds wanted dirs e is apart lists all =
+    all_listed version planes dirs apart (λ v d. All-contains (HasLine dirs) wanted v all (subst (λ l. Contains l v) (sym is) (lists.all v (subst (λ ps. IsDirection version ps v) (sym e) d))))
