@@ -6,10 +6,10 @@ ghost use Rattle.staat_vec.specs.Vectors.{IsWithin, dot};
 use staat_vec::V3;
 
 /// How great a component of a narrow normal is at most.
-pub const NARROW_NORMAL: u128 = 1 << 20;
+pub const NARROW_NORMAL: u128 = 1 << 22;
 
 /// How great a component of a narrow direction is at most.
-pub const NARROW_DIRECTION: u128 = 1 << 41;
+pub const NARROW_DIRECTION: u128 = 1 << 39;
 
 /// Whether each component is at most the bound in absolute value.
 pub fn is_within(v: V3, bound: u128) -> bool

@@ -71,7 +71,7 @@ int_reversed a b = sym (int_cmp_is (neg_ℤ a) (neg_ℤ b) (int_cmp b a) (go (in
 pub cmp_reversed : (a b : V3) → vector_cmp (negative a) (negative b) ≡ vector_cmp b a
 cmp_reversed a b = λ i. ordering_then (int_reversed a.x b.x i) (ordering_then (int_reversed a.y b.y i) (int_reversed a.z b.z i))
 
-sorted_push : (xs : List V3) (y : V3) → IsStrictlySortedBy vector_cmp xs → ((x : V3) → Contains xs x → vector_cmp x y ≡ Less) → IsStrictlySortedBy vector_cmp (xs ++ y ∷ [])
+pub sorted_push : (xs : List V3) (y : V3) → IsStrictlySortedBy vector_cmp xs → ((x : V3) → Contains xs x → vector_cmp x y ≡ Less) → IsStrictlySortedBy vector_cmp (xs ++ y ∷ [])
 unfolding IsStrictlySortedBy
 sorted_push [] y s below = (tt, tt)
 sorted_push (x ∷ xs) y s below = (
