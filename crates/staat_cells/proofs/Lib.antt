@@ -22,5 +22,8 @@ pub mod VertexSigns
 pub mod EdgeIncidences
 pub mod Zeros
 pub mod Beside
-pub mod PieceArcs
+pub mod PlaneSets
+pub mod Cones
+pub mod FacetPlanes
+pub mod PartArcs
 pub mod GraphRows

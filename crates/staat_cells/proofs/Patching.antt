@@ -13,6 +13,7 @@ use Rattle.staat_cells.specs.Changes.{HasIncidenceZeroAt, IsZeroAt}
 use Rattle.staat_cells.specs.Compositions.{composed}
 use Rattle.staat_cells.specs.Packing.{incidence_of}
 use Rattle.staat_cells.specs.Beside.{filled, then_sign}
+use Rattle.staat_cells.proofs.Composing.{same_index}
 
 -- the first signs are those of b
 abbrev pub patched : ℕ → List Sign → List Sign → List Sign
@@ -49,6 +50,11 @@ module _ (j : ℕ) (b s : List Sign) (same : length b ≡ length s) (lt : j < le
   patched_zero d z =
       ap (λ l. get_or l j Pos) (split d) ∙ ap (λ n. get_or (take j b ++ get_or s j d ∷ drop (suc j) s) n Pos) (sym before) ∙ get_or-append_seam (take j b) (get_or s j d) (drop (suc j) s) Pos ∙ z
 
+  pub patched_at : (d : Sign) → get_or (patched j b s) j d ≡ get_or s j d
+  patched_at d =
+      ap (λ l. get_or l j d) (split d) ∙ ap (λ n. get_or (take j b ++ get_or s j d ∷ drop (suc j) s) n d) (sym before)
+      ∙ get_or-append_seam (take j b) (get_or s j d) (drop (suc j) s) d
+
   next : (d t : Sign) → get_or b j d ≡ t → take j b ++ t ∷ drop (suc j) s ≡ patched (j + 1) b s
   next d t e =
       sym (append_assoc (take j b) (t ∷ []) (drop (suc j) s))
@@ -78,6 +84,24 @@ composed_long : (a b : List Sign) → length a ≡ length b → length (composed
 composed_long [] b e = refl
 composed_long (x ∷ a) [] e = absurd (omega arith)
 composed_long (x ∷ a) (y ∷ b) e = let h = composed_long a b (omega arith) in omega (arith, h)
+
+pub compose_none : (a b items : List Sign) → items ≡ a → items ≡ patched 0 (composed a b) a
+compose_none a b items is = is
+
+pub compose_next : (a b items : List Sign) (j : ℕ) (d e : Sign) → length a ≡ length b → j < length a
+    → items ≡ patched j (composed a b) a
+    → slice_set items j (then_sign (get_or items j d) (get_or b j e)) ≡ patched (j + 1) (composed a b) a
+compose_next a b items j d e same lt is =
+    let long = composed_long a b same in
+    let at : then_sign (get_or items j d) (get_or b j e) ≡ then_sign (get_or a j d) (get_or b j d) =
+    (λ i. then_sign ((ap (λ l. get_or l j d) is ∙ patched_at j (composed a b) a long lt d) i)
+    (same_index b j e d (omega (arith, same, lt)) i)) in
+    (λ i. slice_set (is i) j (at i))
+    ∙ patched_changed j (composed a b) a long lt d (then_sign (get_or a j d) (get_or b j d)) (composed_at a b j d lt same)
+
+pub compose_end : (a b items : List Sign) (j : ℕ) → length a ≡ length b → length a ≤ j
+    → items ≡ patched j (composed a b) a → items ≡ composed a b
+compose_end a b items j same le is = is ∙ patched_end j (composed a b) a (composed_long a b same) le
 
 module _ (planes : List V3) (s : List Sign) (w : V3) (long : length s ≡ length planes) where
   even : length s ≡ length (signs_of planes w)

@@ -27,9 +27,9 @@ fn composed_signs(alloc: Global, first: &[Sign], second: &[Sign]) -> Result<Vec<
     requires { length first.now ≡ length second.now }
     ensures { IfOk result (λ signs. signs.items ≡ composed first.now second.now) }
 {
-    let mut signs = Vec::with_capacity(alloc, first.len())?;
+    let mut signs = first.to_vec(alloc)?;
     for i in 0..first.len() {
-        signs.push(then_sign(first[i], second[i]))?;
+        signs[i] = then_sign(signs[i], second[i]);
     }
     Ok(signs)
 }
