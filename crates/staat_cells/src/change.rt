@@ -4,7 +4,7 @@ ghost use Rattle.std.specs.Prelude.{All, List, length, slice_set, min};
 ghost use Rattle.staat_vec.specs.declared.vector.Sign.{Sign as SignValue};
 ghost use Rattle.staat_vec.specs.Vectors.{IsWithin};
 ghost use Rattle.staat_model.specs.Cells.{is_zero, signs_of};
-ghost use Rattle.staat_cells.specs.Changes.{HasIncidenceZeroAt, HasZeroAt, IsZeroAt};
+ghost use Rattle.staat_cells.specs.Changes.{HasFewSigns, HasIncidenceZeroAt, HasZeroAt, IsWord, IsZeroAt};
 ghost use Rattle.staat_cells.specs.Compositions.{composed};
 ghost use Rattle.staat_cells.specs.Packing.{packed, incidence_of};
 ghost use Rattle.staat_cells.specs.Beside.{filled};
@@ -93,17 +93,33 @@ pub(crate) fn incidence_towards(planes: &[V3], signs: &[Sign], base: Incidence, 
     incidence
 }
 
-/// The incidence of the cell with these signs, whose own incidence is `base`, with `t` in place of each zero.
-pub(crate) fn incidence_filled(signs: &[Sign], base: Incidence, t: Sign) -> Incidence
-    requires few { length signs.now ≤ 256 }
-    requires base { base ≡ incidence_of signs.now base.of }
-    ensures { result ≡ incidence_of (filled t signs.now) base.of }
+/// A one in each digit of a word.
+const ONES: u128 = 0x5555_5555_5555_5555_5555_5555_5555_5555;
+
+// the word with t in place of each zero, which alone has an odd digit
+fn filled_word(word: u128, t: Sign) -> u128
+    requires word { IsWord word }
+    ensures { (s : List SignValue) → packed s ≡ word → length s ≤ 64 → result ≡ packed (filled t s) }
 {
-    let mut incidence = base;
-    for j in 0..signs.len() {
-        if is_zero(signs[j]) {
-            incidence = changed(incidence, signs.len(), j, t);
-        }
+    let zeros = word & ONES;
+    match t {
+        Sign::Neg => word - zeros,
+        Sign::Zero => word,
+        Sign::Pos => word + zeros,
     }
-    incidence
+}
+
+/// The incidence with `t` in place of each zero.
+pub(crate) fn incidence_filled(base: Incidence, t: Sign) -> Incidence
+    requires few { HasFewSigns base }
+    ensures { (s : List SignValue) → base ≡ incidence_of s base.of → length s ≤ 256
+        → result ≡ incidence_of (filled t s) base.of }
+{
+    Incidence {
+        a: filled_word(base.a, t),
+        b: filled_word(base.b, t),
+        c: filled_word(base.c, t),
+        d: filled_word(base.d, t),
+        of: base.of,
+    }
 }
