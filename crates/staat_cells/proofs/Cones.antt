@@ -1,8 +1,9 @@
 -- Cones as half-spaces: which directions are in them.
-use Rattle.std.proofs.Common.{◌≡◌, ◌⊎◌, ◌↔◌, inl, inr, ⊎_elim, ℕ, ◌<◌, refl, sym, ap, subst, ◌∙◌, arith, eq-eqb}
+use Rattle.std.proofs.Common.{◌≡◌, ◌⊎◌, ◌↔◌, inl, inr, ⊎_elim, ℕ, zero, suc, ◌+◌, ◌-◌, ◌<◌, ◌≤◌, drop, drop-cons, get_or, refl, sym, ap, subst, ◌∙◌, arith, eq-eqb}
 use Rattle.std.proofs.Common.{List, [], ◌∷◌, ◌++◌, length, Contains, Any, IsTrue, nat_eq, true}
 use Rattle.std.specs.Prelude.{bit_or, Some, slice_get}
 use Rattle.std.proofs.lemmas.Bool.Decides.{nat_tests}
+use Rattle.std.proofs.lemmas.List.{drop_all}
 use Rattle.std.proofs.lemmas.List.Elements.{Contains-append_left, Contains-push, Contains-push_cases}
 use Rattle.staat_vec.specs.declared.vector.Sign.{Sign}
 use Rattle.staat_vec.specs.declared.vector.Sign.TheVariants.{Neg, Pos}
@@ -52,6 +53,56 @@ cone_left_out signs cones cone (k, wider, lt, e, among) = (
   λ h. inl h,
   ⊎_elim {C = Any (AreInside signs) cones} (λ h. h) (λ i. (k, wider, lt, e, inside_wider signs wider cone among i)),
 )
+
+-- ---- from the last cone on
+
+any_first : {X : Type 0} (P : X → Type 0) (x : X) (xs : List X) → Any P (x ∷ xs) ↔ (Any P xs ⊎ P x)
+any_first P x xs = (from, to)
+  where
+    from : Any P (x ∷ xs) → Any P xs ⊎ P x
+    from (zero, y, lt, e, p) = inr (subst P (sym e) p)
+    from (suc k, y, lt, e, p) = inl (k, y, omega (arith, lt), e, p)
+
+    to : Any P xs ⊎ P x → Any P (x ∷ xs)
+    to (inl (k, y, lt, e, p)) = (suc k, y, omega (arith, lt), e, p)
+    to (inr p) = (0, x, omega arith, refl, p)
+
+-- the wide cones hold what the last k of the cones hold
+abbrev pub HoldsLast : List HalfSpaces → ℕ → List HalfSpaces → Type 0
+HoldsLast cones k wide = (signs : List Sign) → Any (AreInside signs) wide ↔ Any (AreInside signs) (drop (length cones - k) cones)
+
+pub last_none : (cones wide : List HalfSpaces) → wide ≡ [] → HoldsLast cones 0 wide
+last_none cones wide none signs =
+    let e : wide ≡ drop (length cones - 0) cones = none ∙ sym (drop_all (length cones - 0) cones (omega arith)) in
+    (λ h. subst (Any (AreInside signs)) e h, λ h. subst (Any (AreInside signs)) (sym e) h)
+
+pub last_more : (cones old new : List HalfSpaces) (cone d : HalfSpaces) (k : ℕ) → k < length cones
+    → cone ≡ get_or cones (length cones - 1 - k) d
+    → ((signs : List Sign) → Any (AreInside signs) new ↔ (Any (AreInside signs) old ⊎ AreInside signs cone))
+    → HoldsLast cones k old → HoldsLast cones (k + 1) new
+last_more cones old new cone d k lt at grew before signs = (
+  λ h. subst (Any (AreInside signs)) (sym split) ((any_first (AreInside signs) cone rest).1
+      (⊎_elim {C = Any (AreInside signs) rest ⊎ AreInside signs cone} (λ o. inl ((before signs).0 o)) (λ i. inr i) ((grew signs).0 h))),
+  λ h. (grew signs).1
+      (⊎_elim {C = Any (AreInside signs) old ⊎ AreInside signs cone} (λ o. inl ((before signs).1 o)) (λ i. inr i)
+      ((any_first (AreInside signs) cone rest).0 (subst (Any (AreInside signs)) split h))),
+)
+  where
+    rest : List HalfSpaces
+    rest = drop (length cones - k) cones
+
+    split : drop (length cones - (k + 1)) cones ≡ cone ∷ drop (length cones - k) cones
+    split =
+        let place : length cones - (k + 1) ≡ length cones - 1 - k = omega arith in
+        let next : suc (length cones - 1 - k) ≡ length cones - k = omega (arith, lt) in
+        ap (λ n. drop n cones) place ∙ drop-cons cones (length cones - 1 - k) d (omega (arith, lt))
+        ∙ (λ i. sym at i ∷ drop (next i) cones)
+
+pub last_all : (cones wide : List HalfSpaces) (k : ℕ) → length cones ≤ k → HoldsLast cones k wide → (signs : List Sign)
+    → Any (AreInside signs) wide ↔ Any (AreInside signs) cones
+last_all cones wide k le all signs =
+    let e : drop (length cones - k) cones ≡ cones = ap (λ n. drop n cones) (let z : length cones - k ≡ 0 = omega (arith, le) in z) in
+    (λ h. subst (Any (AreInside signs)) e ((all signs).0 h), λ h. (all signs).1 (subst (Any (AreInside signs)) (sym e) h))
 
 -- ---- the half-spaces round a cell
 

@@ -1,12 +1,13 @@
 -- The bits of sets of planes.
 use Rattle.std.proofs.Common.{◌≡◌, ◌≢◌, ◌⊎◌, ◌↔◌, inl, inr, ⊎_elim, ℕ, zero, suc, ◌+◌, ◌-◌, ◌*◌, ◌/◌, ◌%◌, ◌^◌, ◌<◌}
-use Rattle.std.proofs.Common.{◌≤◌, min, max, refl, sym, ap, subst, ◌∙◌, arith, List, [], ◌∷◌, length}
+use Rattle.std.proofs.Common.{◌≤◌, min, max, refl, sym, ap, subst, ◌∙◌, arith, add-one, List, [], ◌∷◌, length}
 use Rattle.std.proofs.Common.{get_or-set_other, get_or-set_same}
 use Rattle.std.specs.Prelude.{bit_and, bit_or, bit_xor, Some, slice_get, slice_index, slice_set}
 use Rattle.std.specs.Int.{bit_at, w64}
 use Rattle.std.proofs.lemmas.List.{get_or_past}
 use Rattle.std.proofs.lemmas.Option.{slice_get_within}
-use Rattle.std.proofs.lemmas.Nat.Bits.{bit_at-lt, bit_at-zero, bit_at_above, bit_at_and, bit_at_or, bit_at_set_other}
+use Rattle.std.proofs.Math.Nat.{pow-le-pow_right, pow-suc}
+use Rattle.std.proofs.lemmas.Nat.Bits.{bit_at-lt, bit_at-suc, bit_at_lowest, bit_at-zero, bit_at_above, bit_at_and, bit_at_or, bit_at_set_other}
 use Rattle.std.proofs.lemmas.Nat.Bits.{bit_at_set_same, bit_at_xor, same_from_bits}
 
 same_or : (a b : ℕ) → (a ≡ b) ⊎ (a ≡ b → ⊥)
@@ -197,48 +198,48 @@ no_places signs s from q = (λ e. absurd (apart (bit_at 0 q) (bit_at-zero q) e),
     apart : (n : ℕ) → n ≡ 0 → n ≡ 1 → ⊥
     apart n e f = omega arith
 
-module _ {X : Type 0} (signs : List X) (s : X) (from word k : ℕ) (before : HasPlaces signs s from word k) where
-  pub place_kept : (slice_get signs (from + k) ≡ Some s → ⊥) → HasPlaces signs s from word (k + 1)
-  place_kept none q = (
-    λ e. let h = (before q).0 e in (let lt = h.0 in omega (arith, lt), h.1),
-    λ h. ⊎_elim {C = bit_at word q ≡ 1} (λ low. (before q).1 (low, h.1))
-        (λ le. let lt = h.0 in let is : q ≡ k = omega (arith, lt, le) in
-        absurd (none (subst (λ n. slice_get signs (from + n) ≡ Some s) is h.1)))
-        (lt_or q k),
-  )
+pub next_fits : (word bit j : ℕ) → word < 2 ^ j → bit < 2 → word * 2 + bit < 2 ^ (j + 1)
+next_fits word bit j lt small = let e = pow-suc 2 j in let f : 2 ^ (j + 1) ≡ 2 ^ suc j = ap (λ n. 2 ^ n) (add-one j) in omega (arith, lt, small, e, f)
 
-  pub place_more : k < 64 → slice_get signs (from + k) ≡ Some s
-      → HasPlaces signs s from (bit_or word (1 * 2 ^ k % 2 ^ 64)) (k + 1)
-  place_more small here q = ⊎_elim {C = (bit_at (bit_or word (1 * 2 ^ k % 2 ^ 64)) q ≡ 1) ↔ ((q < k + 1) × (slice_get signs (from + q) ≡ Some s))}
-      same other (same_or q k)
-    where
-      same : q ≡ k → (bit_at (bit_or word (1 * 2 ^ k % 2 ^ 64)) q ≡ 1) ↔ ((q < k + 1) × (slice_get signs (from + q) ≡ Some s))
-      same e = (
-        λ h. (omega (arith, e), subst (λ n. slice_get signs (from + n) ≡ Some s) (sym e) here),
-        λ h. ap (bit_at (bit_or word (1 * 2 ^ k % 2 ^ 64))) e ∙ bit_at_set_same w64 word k small,
-      )
+pub next_within : (word bit j : ℕ) → word < 2 ^ j → bit < 2 → j < 64 → word * 2 + bit < 2 ^ 64
+next_within word bit j lt small few =
+    let h = next_fits word bit j lt small in
+    let power : 2 ^ (j + 1) ≤ 2 ^ 64 = pow-le-pow_right {n = 2} (omega arith) {i = j + 1} {j = 64} (omega (arith, few)) in
+    omega (arith, h, power)
 
-      other : (q ≡ k → ⊥) → (bit_at (bit_or word (1 * 2 ^ k % 2 ^ 64)) q ≡ 1) ↔ ((q < k + 1) × (slice_get signs (from + q) ≡ Some s))
-      other ne =
-          let is : bit_at (bit_or word (1 * 2 ^ k % 2 ^ 64)) q ≡ bit_at word q = bit_at_set_other w64 word k small q ne in (
-            λ h. let old = (before q).0 (sym is ∙ h) in (let lt = old.0 in omega (arith, lt), old.1),
-            λ h. is ∙ (before q).1 (let lt = h.0 in lower q k lt ne, h.1),
-          )
-        where
-          lower : (m n : ℕ) → m < n + 1 → (m ≡ n → ⊥) → m < n
-          lower m n lt ne = ⊎_elim {C = m < n} (λ h. h) (λ le. absurd (ne (omega (arith, lt, le)))) (lt_or m n)
+-- the place before those that the word has
+pub place_before : {X : Type 0} (signs : List X) (s : X) (from later word bit k : ℕ) → later ≡ from + 1
+    → ((bit ≡ 1) ↔ (slice_get signs from ≡ Some s)) → bit < 2
+    → HasPlaces signs s later word k → HasPlaces signs s from (word * 2 + bit) (k + 1)
+place_before signs s from later word bit k next here small before zero =
+    let low : bit_at (word * 2 + bit) 0 ≡ bit = bit_at_lowest (word * 2 + bit) ∙ (let e : (word * 2 + bit) % 2 ≡ bit = omega (arith, small) in e) in
+    let first : from ≡ from + 0 = omega arith in (
+      λ e. (omega arith, subst (λ n. slice_get signs n ≡ Some s) first (here.0 (sym low ∙ e))),
+      λ h. low ∙ here.1 (subst (λ n. slice_get signs n ≡ Some s) (sym first) h.1),
+    )
+place_before signs s from later word bit k next here small before (suc q) =
+    let high : bit_at (word * 2 + bit) (suc q) ≡ bit_at word q =
+    bit_at-suc (word * 2 + bit) q ∙ ap (λ n. bit_at n q) (let e : (word * 2 + bit) / 2 ≡ word = omega (arith, small) in e) in
+    let place : later + q ≡ from + suc q = omega (arith, next) in (
+      λ e. let h = (before q).0 (sym high ∙ e) in
+          (let lt = h.0 in omega (arith, lt), subst (λ n. slice_get signs n ≡ Some s) place h.1),
+      λ h. high ∙ (before q).1 (let lt = h.0 in omega (arith, lt), subst (λ n. slice_get signs n ≡ Some s) (sym place) h.1),
+    )
 
-pub all_places : {X : Type 0} (signs : List X) (s : X) (from word k count : ℕ) → HasPlaces signs s from word k
-    → count ≡ min 64 (length signs - from) → count ≤ k → k ≤ count → HasPlaces signs s from word 64
-all_places signs s from word k count has is le most q = (
-  λ e. let h = (has q).0 e in (let lt = h.0 in omega (arith, lt, is, most), h.1),
-  λ h. (has q).1 (
-    let lt = h.0 in
-        let within : from + q < length signs = slice_get_within signs (from + q) s h.1 in
-        omega (arith, lt, within, is, le),
-    h.1,
-  ),
-)
+pub all_places : {X : Type 0} (signs : List X) (s : X) (from word k count : ℕ)
+    → HasPlaces signs s (from + (count - k)) word k → count ≡ min 64 (length signs - from) → count ≤ k → k ≤ count
+    → HasPlaces signs s from word 64
+all_places signs s from word k count has is le most q =
+    let start : from + (count - k) ≡ from = omega (arith, le) in
+    let at : HasPlaces signs s from word k = subst (λ n. HasPlaces signs s n word k) start has in (
+      λ e. let h = (at q).0 e in (let lt = h.0 in omega (arith, lt, is, most), h.1),
+      λ h. (at q).1 (
+        let lt = h.0 in
+            let within : from + q < length signs = slice_get_within signs (from + q) s h.1 in
+            omega (arith, lt, within, is, le),
+        h.1,
+      ),
+    )
 
 -- ---- four words
 

@@ -1,6 +1,6 @@
 // The directions ahead of two pieces, as half-spaces.
 ghost use Rattle.std.specs.Prelude.{◌≡◌, ◌≤◌, ◌<◌, ◌⊎◌, ◌↔◌, ◌<ℤ◌, pos};
-ghost use Rattle.std.specs.Prelude.{All, Any, Contains, IsTrue, List, OnOk, Some, length, slice_get};
+ghost use Rattle.std.specs.Prelude.{All, Any, Contains, IfOk, IsTrue, List, OnOk, Some, length, slice_get};
 ghost use Rattle.staat_vec.specs.declared.vector.V3.{V3 as Vector};
 ghost use Rattle.staat_vec.specs.declared.vector.Sign.{Sign as SignValue};
 ghost use Rattle.staat_vec.specs.Vectors.{dot};
@@ -12,6 +12,7 @@ use crate::plane_set::{PlaneSet, planes_with};
 use staat_model::Arc;
 use staat_planes::{MOST_CELL_PLANES, PlaneTable};
 use staat_vec::{OutOfMemory, Sign, V3, canon, is_same};
+use std::alloc::Global;
 
 /// Open half-spaces: on the positive side of some planes, and on the negative side of others.
 #[derive(Clone, Copy)]
@@ -117,4 +118,19 @@ pub(crate) fn push_cone(cones: &mut Vec<HalfSpaces>, cone: HalfSpaces) -> Result
     }
     cones.push(cone)?;
     Ok(())
+}
+
+/// The cones without those that lie in a later one, from the last on.
+pub(crate) fn wide_cones(
+    alloc: Global,
+    cones: &[HalfSpaces],
+) -> Result<Vec<HalfSpaces>, OutOfMemory>
+    ensures { IfOk result (λ wide. (signs : List SignValue)
+        → Any (AreInside signs) wide.items ↔ Any (AreInside signs) cones.now) }
+{
+    let mut wide = Vec::new(alloc);
+    for k in 0..cones.len() {
+        push_cone(&mut wide, cones[cones.len() - 1 - k])?;
+    }
+    Ok(wide)
 }

@@ -9,7 +9,7 @@ ghost use Rattle.staat_cells.specs.CellGraphs.{AddsArcs, AddsCones, ArePartsAhea
 ghost use Rattle.staat_cells.specs.CellGraphs.{IsFromPart, IsPairAhead, IsPieceAhead};
 ghost use Rattle.staat_cells.specs.HalfSpaces.{AreInside};
 
-use crate::half_spaces::{HalfSpaces, half_spaces, push_cone};
+use crate::half_spaces::{HalfSpaces, half_spaces, push_cone, wide_cones};
 use staat_model::{Arc, MOST_PARTS, PartSet};
 use staat_planes::{MOST_CELL_PLANES, PlaneTable};
 use staat_vec::{Listed, OutOfMemory};
@@ -82,7 +82,8 @@ fn push_pair(
     requires different { a ≢ b }
     ensures { OnOk result (AddsArcs table.now (ArePartsAhead table.now a b) arcs.old.items arcs.new.items) }
 {
-    let cones = Listed::from_vec(cones_of(alloc, table, a, b)?);
+    let all = cones_of(alloc, table, a, b)?;
+    let cones = Listed::from_vec(wide_cones(alloc, &all)?);
     arcs.push(PartArc { a, b, cones })?;
     Ok(())
 }

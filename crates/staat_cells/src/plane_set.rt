@@ -1,5 +1,5 @@
 // Sets of planes by their numbers, as bits.
-ghost use Rattle.std.specs.Prelude.{◌≡◌, ◌<◌, ◌≤◌, ◌+◌, ◌-◌, ◌⊎◌, ◌↔◌, ℕ, IsTrue, Some, min, slice_get};
+ghost use Rattle.std.specs.Prelude.{◌≡◌, ◌<◌, ◌≤◌, ◌+◌, ◌-◌, ◌⊎◌, ◌↔◌, ℕ, Some, length, min, slice_get};
 ghost use Rattle.std.specs.Int.{bit_at};
 ghost use Rattle.staat_cells.specs.HalfSpaces.{AreIn, HasPlane};
 
@@ -24,14 +24,13 @@ fn word_outside(a: u64, b: u64) -> u64
     a & b ^ a
 }
 
-// whether the sign at the place is s
-fn is_sign_at(signs: &[Sign], k: usize, s: Sign) -> bool
-    ensures { IsTrue result ↔ (slice_get signs.now k ≡ Some s) }
+// 1 if the sign at the place is s, else 0
+fn bit_of(signs: &[Sign], k: usize, s: Sign) -> u64
+    requires { k < length signs.now }
+    ensures is { (result ≡ 1) ↔ (slice_get signs.now k ≡ Some s) }
+    ensures small { result < 2 }
 {
-    match signs.get(k) {
-        None => false,
-        Some(t) => *t == s,
-    }
+    if signs[k] == s { 1 } else { 0 }
 }
 
 // how many signs there are from a place on, at most as many as a word tells of
@@ -52,11 +51,10 @@ fn word_from(signs: &[Sign], from: usize, s: Sign) -> u64
     requires { from ≤ 192 }
     ensures { (j : ℕ) → (bit_at result j ≡ 1) ↔ ((j < 64) × (slice_get signs.now (from + j) ≡ Some s)) }
 {
+    let count = count_from(signs.len(), from);
     let mut word: u64 = 0;
-    for j in 0..count_from(signs.len(), from) {
-        if is_sign_at(signs, from + j, s) {
-            word |= 1 << j;
-        }
+    for j in 0..count {
+        word = word * 2 + bit_of(signs, from + (count - 1 - j), s);
     }
     word
 }
