@@ -1,6 +1,7 @@
 pub mod Halves
 pub mod Patching
 pub mod Changing
+pub mod ZeroPlaces
 pub mod Filling
 pub mod KindLists
 pub mod WholeLists

@@ -1,5 +1,6 @@
 -- Packed signs in which a zero gives way to another sign.
-use Rattle.std.specs.Prelude.{◌≡◌, ◌≤◌, ℕ, List, length, slice_index_or}
+use Rattle.std.specs.Prelude.{◌≡◌, ◌≤◌, ℕ, suc, List, [], ◌∷◌, if◌then◌else◌, length, slice_index_or}
+use Rattle.staat_model.specs.Cells.{is_zero}
 use Rattle.staat_vec.specs.declared.vector.Sign.{Sign}
 use Rattle.staat_vec.specs.declared.vector.Sign.TheVariants.{Pos, Zero}
 use Rattle.staat_cells.specs.declared.incidence.Incidence.{Incidence}
@@ -34,3 +35,8 @@ pub record HasFewSigns (x : Incidence) : Type 0 where
   pub signs : List Sign
   pub is : x ≡ incidence_of signs x.of
   pub few : length signs ≤ 256
+
+-- the places of the zeros, the first sign at place k
+abbrev pub zero_places : ℕ → List Sign → List ℕ
+zero_places k [] = []
+zero_places k (x ∷ s) = if is_zero x then k ∷ zero_places (suc k) s else zero_places (suc k) s

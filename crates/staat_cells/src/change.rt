@@ -1,16 +1,18 @@
 // Packed signs in which a zero gives way to another sign.
 ghost use Rattle.std.specs.Prelude.{◌≡◌, ◌<◌, ◌≤◌, ◌-◌, ◌^◌};
-ghost use Rattle.std.specs.Prelude.{All, List, length, slice_set, min};
+ghost use Rattle.std.specs.Prelude.{All, IfOk, List, length, slice_set, min};
 ghost use Rattle.staat_vec.specs.declared.vector.Sign.{Sign as SignValue};
 ghost use Rattle.staat_vec.specs.Vectors.{IsWithin};
 ghost use Rattle.staat_model.specs.Cells.{is_zero, signs_of};
 ghost use Rattle.staat_cells.specs.Changes.{HasFewSigns, HasIncidenceZeroAt, HasZeroAt, IsWord, IsZeroAt};
+ghost use Rattle.staat_cells.specs.Changes.{zero_places};
 ghost use Rattle.staat_cells.specs.Compositions.{composed};
 ghost use Rattle.staat_cells.specs.Packing.{packed, incidence_of};
 ghost use Rattle.staat_cells.specs.Beside.{filled};
 
 use crate::incidence::Incidence;
-use staat_vec::{DIRECTION, NORMAL, Sign, V3, sign_dot};
+use staat_vec::{DIRECTION, NORMAL, OutOfMemory, Sign, V3, sign_dot};
+use std::alloc::Global;
 
 // how much a digit counts at a place of a word of so many digits
 fn weight(count: usize, k: usize) -> u128
@@ -74,21 +76,40 @@ fn is_zero(s: Sign) -> bool
     }
 }
 
-/// The incidence towards `w` of the cell with these signs, whose own incidence is `base`: in place of each zero stands
-/// the sign of the plane at `w`.
-pub(crate) fn incidence_towards(planes: &[V3], signs: &[Sign], base: Incidence, w: V3) -> Incidence
+/// The places of the zeros.
+pub(crate) fn zeros_of(alloc: Global, signs: &[Sign]) -> Result<Vec<usize>, OutOfMemory>
+    ensures { IfOk result (λ zeros. zeros.items ≡ zero_places 0 signs.now) }
+{
+    let mut zeros = Vec::new(alloc);
+    for j in 0..signs.len() {
+        if is_zero(signs[j]) {
+            zeros.push(j)?;
+        }
+    }
+    Ok(zeros)
+}
+
+/// The incidence towards `w` of the cell with these signs, the zeros at these places, whose own incidence is `base`:
+/// in place of each zero stands the sign of the plane at `w`.
+pub(crate) fn incidence_towards(
+    planes: &[V3],
+    signs: &[Sign],
+    zeros: &[usize],
+    base: Incidence,
+    w: V3,
+) -> Incidence
     requires planes { All (IsWithin NORMAL) planes.now }
     requires direction { IsWithin DIRECTION w }
     requires few { length planes.now ≤ 256 }
     requires signs { length signs.now ≡ length planes.now }
+    requires zeros { zeros.now ≡ zero_places 0 signs.now }
     requires base { base ≡ incidence_of signs.now base.of }
     ensures { result ≡ incidence_of (composed signs.now (signs_of planes.now w)) base.of }
 {
     let mut incidence = base;
-    for j in 0..planes.len() {
-        if is_zero(signs[j]) {
-            incidence = changed(incidence, planes.len(), j, sign_dot(planes[j], w));
-        }
+    for i in 0..zeros.len() {
+        let j = zeros[i];
+        incidence = changed(incidence, signs.len(), j, sign_dot(planes[j], w));
     }
     incidence
 }
