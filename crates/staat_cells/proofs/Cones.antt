@@ -1,5 +1,7 @@
 -- Cones as half-spaces: which directions are in them.
-use Rattle.std.proofs.Common.{◌≡◌, ◌⊎◌, ◌↔◌, inl, inr, ⊎_elim, ℕ, zero, suc, ◌+◌, ◌-◌, ◌<◌, ◌≤◌, drop, drop-cons, get_or, refl, sym, ap, subst, ◌∙◌, arith, eq-eqb}
+use Rattle.std.proofs.Common.{◌≡◌, ◌⊎◌, ◌↔◌, inl, inr, ⊎_elim, ℕ, zero, suc, ◌+◌, ◌-◌}
+use Rattle.std.proofs.Common.{◌<◌, ◌≤◌, drop, drop-cons, get_or, refl, sym, ap, subst, ◌∙◌, arith}
+use Rattle.std.proofs.Common.{eq-eqb}
 use Rattle.std.proofs.Common.{List, [], ◌∷◌, ◌++◌, length, Contains, Any, IsTrue, nat_eq, true}
 use Rattle.std.specs.Prelude.{bit_or, Some, slice_get}
 use Rattle.std.proofs.lemmas.Bool.Decides.{nat_tests}
@@ -15,27 +17,32 @@ use Rattle.staat_cells.proofs.PlaneSets.{or_zero, plane_small}
 zero_of_test : (n : ℕ) → nat_eq n 0 ≡ true → n ≡ 0
 zero_of_test n h = grind (arith, nat_tests)
 
-pub among_test : (h o : HalfSpaces) (x y : ℕ) → (x ≡ 0) ↔ AreIn h.positive o.positive → (y ≡ 0) ↔ AreIn h.negative o.negative
+pub among_test : (h o : HalfSpaces) (x y : ℕ) → (x ≡ 0) ↔ AreIn h.positive o.positive → (y ≡ 0)
+    ↔ AreIn h.negative o.negative
     → IsTrue (nat_eq (bit_or x y) 0) ↔ AreAmong h o
 among_test h o x y p q = (
-  λ t. let both = (or_zero x y).0 (zero_of_test (bit_or x y) t) in record { positive = p.0 both.0; negative = q.0 both.1 },
+  λ t. let both = (or_zero x y).0 (zero_of_test (bit_or x y) t) in
+      record { positive = p.0 both.0; negative = q.0 both.1 },
   λ a. eq-eqb (bit_or x y) 0 ((or_zero x y).1 (p.1 a.positive, q.1 a.negative)),
 )
 
 -- ---- a cone more
 
-pub any_pushed : {X : Type 0} (P : X → Type 0) (xs : List X) (x : X) → Any P (xs ++ x ∷ []) ↔ (Any P xs ⊎ P x)
+pub any_pushed : {X : Type 0} (P : X → Type 0) (xs : List X) (x : X) → Any P (xs ++ x ∷ [])
+    ↔ (Any P xs ⊎ P x)
 any_pushed P xs x = (from, to)
   where
     from : Any P (xs ++ x ∷ []) → Any P xs ⊎ P x
-    from (k, y, lt, e, p) = ⊎_elim {C = Any P xs ⊎ P x} (λ c. inl (c.0, y, c.1, c.2, p)) (λ same. inr (subst P (sym same) p))
+    from (k, y, lt, e, p) = ⊎_elim {C = Any P xs ⊎ P x} (λ c. inl (c.0, y, c.1, c.2, p))
+        (λ same. inr (subst P (sym same) p))
         (Contains-push_cases xs x y (k, lt, e))
 
     to : Any P xs ⊎ P x → Any P (xs ++ x ∷ [])
     to (inl (k, y, lt, e, p)) = let c = Contains-append_left xs (x ∷ []) y (k, lt, e) in (c.0, y, c.1, c.2, p)
     to (inr p) = let c = Contains-push xs x in (c.0, x, c.1, c.2, p)
 
-pub cone_pushed : (signs : List Sign) (cones new : List HalfSpaces) (cone : HalfSpaces) → new ≡ cones ++ cone ∷ []
+pub cone_pushed : (signs : List Sign) (cones new : List HalfSpaces) (cone : HalfSpaces)
+    → new ≡ cones ++ cone ∷ []
     → Any (AreInside signs) new ↔ (Any (AreInside signs) cones ⊎ AreInside signs cone)
 cone_pushed signs cones new cone is =
     subst (λ l. Any (AreInside signs) l ↔ (Any (AreInside signs) cones ⊎ AreInside signs cone)) (sym is)
@@ -47,11 +54,13 @@ inside_wider signs h o among i = record {
   negative = λ k has. i.negative k (among.negative k has);
 }
 
-pub cone_left_out : (signs : List Sign) (cones : List HalfSpaces) (cone : HalfSpaces) → Any (λ wider. AreAmong wider cone) cones
+pub cone_left_out : (signs : List Sign) (cones : List HalfSpaces) (cone : HalfSpaces)
+    → Any (λ wider. AreAmong wider cone) cones
     → Any (AreInside signs) cones ↔ (Any (AreInside signs) cones ⊎ AreInside signs cone)
 cone_left_out signs cones cone (k, wider, lt, e, among) = (
   λ h. inl h,
-  ⊎_elim {C = Any (AreInside signs) cones} (λ h. h) (λ i. (k, wider, lt, e, inside_wider signs wider cone among i)),
+  ⊎_elim {C = Any (AreInside signs) cones} (λ h. h)
+      (λ i. (k, wider, lt, e, inside_wider signs wider cone among i)),
 )
 
 -- ---- from the last cone on
@@ -69,7 +78,8 @@ any_first P x xs = (from, to)
 
 -- the wide cones hold what the last k of the cones hold
 abbrev pub HoldsLast : List HalfSpaces → ℕ → List HalfSpaces → Type 0
-HoldsLast cones k wide = (signs : List Sign) → Any (AreInside signs) wide ↔ Any (AreInside signs) (drop (length cones - k) cones)
+HoldsLast cones k wide = (signs : List Sign) → Any (AreInside signs) wide ↔ Any (AreInside signs)
+    (drop (length cones - k) cones)
 
 pub last_none : (cones wide : List HalfSpaces) → wide ≡ [] → HoldsLast cones 0 wide
 last_none cones wide none signs =
@@ -82,7 +92,8 @@ pub last_more : (cones old new : List HalfSpaces) (cone d : HalfSpaces) (k : ℕ
     → HoldsLast cones k old → HoldsLast cones (k + 1) new
 last_more cones old new cone d k lt at grew before signs = (
   λ h. subst (Any (AreInside signs)) (sym split) ((any_first (AreInside signs) cone rest).1
-      (⊎_elim {C = Any (AreInside signs) rest ⊎ AreInside signs cone} (λ o. inl ((before signs).0 o)) (λ i. inr i) ((grew signs).0 h))),
+      (⊎_elim {C = Any (AreInside signs) rest ⊎ AreInside signs cone} (λ o. inl ((before signs).0 o))
+      (λ i. inr i) ((grew signs).0 h))),
   λ h. (grew signs).1
       (⊎_elim {C = Any (AreInside signs) old ⊎ AreInside signs cone} (λ o. inl ((before signs).1 o)) (λ i. inr i)
       ((any_first (AreInside signs) cone rest).0 (subst (Any (AreInside signs)) split h))),
@@ -98,15 +109,20 @@ last_more cones old new cone d k lt at grew before signs = (
         ap (λ n. drop n cones) place ∙ drop-cons cones (length cones - 1 - k) d (omega (arith, lt))
         ∙ (λ i. sym at i ∷ drop (next i) cones)
 
-pub last_all : (cones wide : List HalfSpaces) (k : ℕ) → length cones ≤ k → HoldsLast cones k wide → (signs : List Sign)
+pub last_all : (cones wide : List HalfSpaces) (k : ℕ) → length cones ≤ k → HoldsLast cones k wide
+    → (signs : List Sign)
     → Any (AreInside signs) wide ↔ Any (AreInside signs) cones
 last_all cones wide k le all signs =
-    let e : drop (length cones - k) cones ≡ cones = ap (λ n. drop n cones) (let z : length cones - k ≡ 0 = omega (arith, le) in z) in
-    (λ h. subst (Any (AreInside signs)) e ((all signs).0 h), λ h. (all signs).1 (subst (Any (AreInside signs)) (sym e) h))
+    let e : drop (length cones - k) cones ≡ cones =
+    ap (λ n. drop n cones) (let z : length cones - k ≡ 0 = omega (arith, le) in z) in (
+      λ h. subst (Any (AreInside signs)) e ((all signs).0 h),
+      λ h. (all signs).1 (subst (Any (AreInside signs)) (sym e) h),
+    )
 
 -- ---- the half-spaces round a cell
 
-around_one : (signs : List Sign) (cell h : HalfSpaces) → AreAround signs cell → AreAmong h cell ↔ AreInside signs h
+around_one : (signs : List Sign) (cell h : HalfSpaces) → AreAround signs cell → AreAmong h cell
+    ↔ AreInside signs h
 around_one signs cell h around = (
   λ among. record {
     positive = λ k has. ((around.positive k).0 (among.positive k has)).1;
@@ -132,11 +148,15 @@ around_any signs cell cones around = (from, to)
 
 -- ---- a facet more
 
-pub with_positive : (h : HalfSpaces) (grown : PlaneSet) (k : ℕ) → ((q : ℕ) → HasPlane grown q ↔ (HasPlane h.positive q ⊎ (q ≡ k)))
+pub with_positive : (h : HalfSpaces) (grown : PlaneSet) (k : ℕ)
+    → ((q : ℕ) → HasPlane grown q ↔ (HasPlane h.positive q ⊎ (q ≡ k)))
     → (signs : List Sign) → AreInside signs (record { positive = grown; negative = h.negative })
     ↔ (AreInside signs h × (slice_get signs k ≡ Some Pos))
 with_positive h grown k has signs = (
-  λ i. (record { positive = λ q p. i.positive q ((has q).1 (inl p)); negative = i.negative }, i.positive k ((has k).1 (inr refl))),
+  λ i. (
+    record { positive = λ q p. i.positive q ((has q).1 (inl p)); negative = i.negative },
+    i.positive k ((has k).1 (inr refl)),
+  ),
   λ i. record {
     positive = λ q p. ⊎_elim {C = slice_get signs q ≡ Some Pos} (λ old. i.0.positive q old)
         (λ e. subst (λ n. slice_get signs n ≡ Some Pos) (sym e) i.1) ((has q).0 p);
@@ -144,11 +164,15 @@ with_positive h grown k has signs = (
   },
 )
 
-pub with_negative : (h : HalfSpaces) (grown : PlaneSet) (k : ℕ) → ((q : ℕ) → HasPlane grown q ↔ (HasPlane h.negative q ⊎ (q ≡ k)))
+pub with_negative : (h : HalfSpaces) (grown : PlaneSet) (k : ℕ)
+    → ((q : ℕ) → HasPlane grown q ↔ (HasPlane h.negative q ⊎ (q ≡ k)))
     → (signs : List Sign) → AreInside signs (record { positive = h.positive; negative = grown })
     ↔ (AreInside signs h × (slice_get signs k ≡ Some Neg))
 with_negative h grown k has signs = (
-  λ i. (record { positive = i.positive; negative = λ q p. i.negative q ((has q).1 (inl p)) }, i.negative k ((has k).1 (inr refl))),
+  λ i. (
+    record { positive = i.positive; negative = λ q p. i.negative q ((has q).1 (inl p)) },
+    i.negative k ((has k).1 (inr refl)),
+  ),
   λ i. record {
     positive = i.0.positive;
     negative = λ q p. ⊎_elim {C = slice_get signs q ≡ Some Neg} (λ old. i.0.negative q old)

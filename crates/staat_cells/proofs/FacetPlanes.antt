@@ -1,5 +1,6 @@
 -- The facets of two pieces by their planes, one more at a time.
-use Rattle.std.proofs.Common.{◌≡◌, ◌↔◌, ℕ, zero, suc, ◌+◌, ◌<◌, ◌≤◌, refl, sym, ap, subst, ◌∙◌, arith, ⊎_elim, ◌⊎◌}
+use Rattle.std.proofs.Common.{◌≡◌, ◌↔◌, ℕ, zero, suc, ◌+◌, ◌<◌, ◌≤◌, refl, sym, ap, subst}
+use Rattle.std.proofs.Common.{◌∙◌, arith, ⊎_elim, ◌⊎◌}
 use Rattle.std.proofs.Common.{ℤ, pos, neg_ℤ, ◌<ℤ◌, List, [], ◌∷◌, ◌++◌, length, take, All}
 use Rattle.std.specs.Prelude.{Some, slice_get}
 use Rattle.std.proofs.lemmas.Int.{ints}
@@ -58,7 +59,8 @@ same_last : {A B C D : Type 0} → A ↔ (B × C) → C ↔ D → A ↔ (B × D)
 same_last f g = (λ a. let h = f.0 a in (h.0, g.0 h.1), λ h. f.1 (h.0, g.1 h.1))
 
 module _ (planes : List V3) (n : V3) (h : HalfSpaces) (grown : PlaneSet) (k : ℕ) where
-  pub facet_positive : slice_get planes k ≡ Some n → ((q : ℕ) → HasPlane grown q ↔ (HasPlane h.positive q ⊎ (q ≡ k)))
+  pub facet_positive : slice_get planes k ≡ Some n
+      → ((q : ℕ) → HasPlane grown q ↔ (HasPlane h.positive q ⊎ (q ≡ k)))
       → (d : V3) → AreInside (signs_of planes d) (record { positive = grown; negative = h.negative })
       ↔ (AreInside (signs_of planes d) h × (pos 0 <ℤ dot n d))
   facet_positive at has d =
@@ -77,12 +79,14 @@ pub no_facets : (planes facets : List V3) (h : HalfSpaces) → ((signs : List Si
     → AreAhead planes (take 0 facets) h
 no_facets planes facets h all d = (λ i. All-nil (λ n. pos 0 <ℤ dot n d), λ none. all (signs_of planes d))
 
-taken : {X : Type 0} (xs : List X) (k : ℕ) (x : X) → slice_get xs k ≡ Some x → take (k + 1) xs ≡ take k xs ++ x ∷ []
+taken : {X : Type 0} (xs : List X) (k : ℕ) (x : X) → slice_get xs k ≡ Some x
+    → take (k + 1) xs ≡ take k xs ++ x ∷ []
 taken xs k x at =
     take_more xs k x (place_within xs k x at) ∙ ap (λ y. take k xs ++ y ∷ []) (get_or_from_slice_get xs k x x at)
 
 pub facet_more : (planes facets : List V3) (n : V3) (k : ℕ) (old new : HalfSpaces) → slice_get facets k ≡ Some n
-    → ((d : V3) → AreInside (signs_of planes d) new ↔ (AreInside (signs_of planes d) old × (pos 0 <ℤ dot n d)))
+    → ((d : V3) → AreInside (signs_of planes d) new
+    ↔ (AreInside (signs_of planes d) old × (pos 0 <ℤ dot n d)))
     → AreAhead planes (take k facets) old → AreAhead planes (take (k + 1) facets) new
 facet_more planes facets n k old new at grew before d = (from, to)
   where

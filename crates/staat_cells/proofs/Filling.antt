@@ -1,5 +1,6 @@
 -- Packed signs in which each zero gives way to one sign.
-use Rattle.std.proofs.Common.{◌≡◌, ℕ, zero, suc, ◌+◌, ◌-◌, ◌*◌, ◌/◌, ◌%◌, ◌^◌, ◌<◌, ◌≤◌, refl, sym, ap, ◌∙◌, arith}
+use Rattle.std.proofs.Common.{◌≡◌, ℕ, zero, suc, ◌+◌, ◌-◌, ◌*◌, ◌/◌, ◌%◌, ◌^◌, ◌<◌}
+use Rattle.std.proofs.Common.{◌≤◌, refl, sym, ap, ◌∙◌, arith}
 use Rattle.std.proofs.Common.{List, [], ◌∷◌, length, take, drop}
 use Rattle.std.specs.Prelude.{bit_and}
 use Rattle.std.proofs.Math.Nat.{pow-le-pow_right}
@@ -41,7 +42,8 @@ filled_up a b (x ∷ s) =
     step Zero = omega arith
     step Pos = omega arith
 
-filled_down : (a b : ℕ) (s : List Sign) → packed_after a (filled Neg s) + zeros_after b s ≡ packed_after (a + b) s
+filled_down : (a b : ℕ) (s : List Sign) → packed_after a (filled Neg s) + zeros_after b s ≡ packed_after
+    (a + b) s
 unfolding zeros_after digit
 filled_down a b [] = refl
 filled_down a b (x ∷ s) =
@@ -96,7 +98,8 @@ and_ones : (a k : ℕ) (s : List Sign)
 unfolding zeros_after ones
 and_ones a k [] = ap (λ n. bit_and a (ones n)) (let e : k + 0 ≡ k = omega arith in e)
 and_ones a k (x ∷ s) =
-    ap (λ n. bit_and (packed_after (a * 4 + sign_place x) s) (ones n)) (let e : k + suc (length s) ≡ suc k + length s = omega arith in e)
+    ap (λ n. bit_and (packed_after (a * 4 + sign_place x) s) (ones n))
+    (let e : k + suc (length s) ≡ suc k + length s = omega arith in e)
     ∙ and_ones (a * 4 + sign_place x) (suc k) s ∙ ap (λ n. zeros_after n s) (and_digit a (ones k) x)
 
 -- a one in each digit of a word
@@ -113,7 +116,8 @@ zeros_are s le =
     ∙ ap (λ n. bit_and (packed s) (ones n)) (let e : 64 ≡ (64 - length s) + length s = omega (arith, le) in e)
     ∙ and_ones 0 (64 - length s) s
 
-pub word_neg : (s : List Sign) (word : ℕ) → packed s ≡ word → length s ≤ 64 → word - bit_and word ALL ≡ packed (filled Neg s)
+pub word_neg : (s : List Sign) (word : ℕ) → packed s ≡ word → length s ≤ 64
+    → word - bit_and word ALL ≡ packed (filled Neg s)
 word_neg s word e le =
     let z = ap (λ n. bit_and n ALL) (sym e) ∙ zeros_are s le in
     let h = filled_down 0 0 s in
@@ -122,7 +126,8 @@ word_neg s word e le =
 pub word_zero : (s : List Sign) (word : ℕ) → packed s ≡ word → word ≡ packed (filled Zero s)
 word_zero s word e = sym e ∙ ap packed (sym (filled_same s))
 
-pub word_pos : (s : List Sign) (word : ℕ) → packed s ≡ word → length s ≤ 64 → word + bit_and word ALL ≡ packed (filled Pos s)
+pub word_pos : (s : List Sign) (word : ℕ) → packed s ≡ word → length s ≤ 64
+    → word + bit_and word ALL ≡ packed (filled Pos s)
 word_pos s word e le =
     let z = ap (λ n. bit_and n ALL) (sym e) ∙ zeros_are s le in
     let h = filled_up 0 0 s in
@@ -133,7 +138,8 @@ word_fits word h =
     let s = filled Pos h.signs in
     let e = word_pos h.signs word h.is h.few in
     let b = below 0 s in
-    let l : length s ≤ 64 = (let m = length-map h.signs (λ x. then_sign x Pos) in let f = h.few in omega (arith, m, f)) in
+    let l : length s ≤ 64 = (let m = length-map h.signs (λ x. then_sign x Pos) in let f = h.few in
+    omega (arith, m, f)) in
     let power : 4 ^ length s ≤ 4 ^ 64 = pow-le-pow_right {n = 4} (omega arith) {i = length s} {j = 64} l in
     omega (arith, e, b, power)
 
@@ -165,8 +171,11 @@ filled_words t s x a b c d is fa fb fc fd =
     let r3 : filled t s3 ≡ drop 64 (drop 64 (drop 64 (filled t s))) = sym (rest_filled t s2) ∙ ap (drop 64) r2 in
     λ i. record {
       a = (fa (take 64 s) (sym (ap (λ y. y.a) is)) (length_taken s) ∙ first_filled t s) i;
-      b = (fb (take 64 s1) (sym (ap (λ y. y.b) is)) (length_taken s1) ∙ first_filled t s1 ∙ ap (λ l. packed (take 64 l)) r1) i;
-      c = (fc (take 64 s2) (sym (ap (λ y. y.c) is)) (length_taken s2) ∙ first_filled t s2 ∙ ap (λ l. packed (take 64 l)) r2) i;
-      d = (fd (take 64 s3) (sym (ap (λ y. y.d) is)) (length_taken s3) ∙ first_filled t s3 ∙ ap (λ l. packed (take 64 l)) r3) i;
+      b = (fb (take 64 s1) (sym (ap (λ y. y.b) is)) (length_taken s1) ∙ first_filled t s1
+          ∙ ap (λ l. packed (take 64 l)) r1) i;
+      c = (fc (take 64 s2) (sym (ap (λ y. y.c) is)) (length_taken s2) ∙ first_filled t s2
+          ∙ ap (λ l. packed (take 64 l)) r2) i;
+      d = (fd (take 64 s3) (sym (ap (λ y. y.d) is)) (length_taken s3) ∙ first_filled t s3
+          ∙ ap (λ l. packed (take 64 l)) r3) i;
       of = x.of;
     }

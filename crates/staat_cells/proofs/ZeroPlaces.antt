@@ -1,5 +1,6 @@
 -- Signs that give way at the places of their zeros, one after another.
-use Rattle.std.proofs.Common.{◌≡◌, ◌⊎◌, inl, inr, ℕ, zero, suc, ◌+◌, ◌-◌, ◌<◌, ◌≤◌, Bool, true, false, refl, sym, ap, subst, ◌∙◌, arith}
+use Rattle.std.proofs.Common.{◌≡◌, ◌⊎◌, inl, inr, ℕ, zero, suc, ◌+◌, ◌-◌, ◌<◌, ◌≤◌}
+use Rattle.std.proofs.Common.{Bool, true, false, refl, sym, ap, subst, ◌∙◌, arith}
 use Rattle.std.proofs.Common.{add-one, append_assoc, drop-cons, List, [], ◌∷◌, ◌++◌, drop, get_or, length}
 use Rattle.std.proofs.lemmas.List.{drop_all}
 use Rattle.std.specs.Prelude.{if◌then◌else◌, slice_set}
@@ -27,25 +28,32 @@ nothing_left [] = refl
 nothing_left (x ∷ xs) = ap (λ l. x ∷ l) (nothing_left xs)
 
 next_places : (s : List Sign) (k : ℕ) (d : Sign) → k < length s
-    → zero_places k (drop k s) ≡ (if is_zero (get_or s k d) then k ∷ zero_places (k + 1) (drop (k + 1) s) else zero_places (k + 1) (drop (k + 1) s))
+    → zero_places k (drop k s) ≡ (if is_zero (get_or s k d) then k ∷ zero_places (k + 1)
+    (drop (k + 1) s) else zero_places (k + 1) (drop (k + 1) s))
 next_places s k d lt =
     ap (zero_places k) (drop-cons s k d lt)
-    ∙ ap (λ n. if is_zero (get_or s k d) then k ∷ zero_places n (drop n s) else zero_places n (drop n s)) (sym (add-one k))
+    ∙ ap (λ n. if is_zero (get_or s k d) then k ∷ zero_places n (drop n s) else zero_places n (drop n s))
+    (sym (add-one k))
 
-module _ (s : List Sign) (k : ℕ) (found : List ℕ) (d : Sign) (lt : k < length s) (before : HasZerosTo s k found) where
-  pub zero_found : (new : List ℕ) → is_zero (get_or s k d) ≡ true → new ≡ found ++ k ∷ [] → HasZerosTo s (k + 1) new
+module _ (s : List Sign) (k : ℕ) (found : List ℕ) (d : Sign) (lt : k < length s)
+    (before : HasZerosTo s k found) where
+  pub zero_found : (new : List ℕ) → is_zero (get_or s k d) ≡ true → new ≡ found ++ k ∷ []
+      → HasZerosTo s (k + 1) new
   zero_found new z is =
       ap (λ l. l ++ zero_places (k + 1) (drop (k + 1) s)) is
       ∙ append_assoc found (k ∷ []) (zero_places (k + 1) (drop (k + 1) s))
-      ∙ ap (λ b. found ++ (if b then k ∷ zero_places (k + 1) (drop (k + 1) s) else zero_places (k + 1) (drop (k + 1) s))) (sym z)
+      ∙ ap (λ b. found ++ (if b then k ∷ zero_places (k + 1) (drop (k + 1) s) else zero_places (k + 1)
+      (drop (k + 1) s))) (sym z)
       ∙ ap (λ l. found ++ l) (sym (next_places s k d lt)) ∙ before
 
   pub other_found : is_zero (get_or s k d) ≡ false → HasZerosTo s (k + 1) found
   other_found z =
-      ap (λ b. found ++ (if b then k ∷ zero_places (k + 1) (drop (k + 1) s) else zero_places (k + 1) (drop (k + 1) s))) (sym z)
+      ap (λ b. found ++ (if b then k ∷ zero_places (k + 1) (drop (k + 1) s) else zero_places (k + 1)
+      (drop (k + 1) s))) (sym z)
       ∙ ap (λ l. found ++ l) (sym (next_places s k d lt)) ∙ before
 
-pub all_found : (s : List Sign) (k : ℕ) (found : List ℕ) → length s ≤ k → HasZerosTo s k found → found ≡ zero_places 0 s
+pub all_found : (s : List Sign) (k : ℕ) (found : List ℕ) → length s ≤ k → HasZerosTo s k found
+    → found ≡ zero_places 0 s
 all_found s k found le has =
     sym (nothing_left found) ∙ ap (λ l. found ++ zero_places k l) (sym (drop_all k s le)) ∙ has
 
@@ -53,7 +61,8 @@ all_found s k found le has =
 
 -- b and s differ at zeros of s alone
 abbrev pub DifferAtZeros : List Sign → List Sign → Type 0
-DifferAtZeros b s = (j : ℕ) → j < length s → is_zero (get_or s j Pos) ≡ false → get_or b j Pos ≡ get_or s j Pos
+DifferAtZeros b s = (j : ℕ) → j < length s → is_zero (get_or s j Pos) ≡ false
+    → get_or b j Pos ≡ get_or s j Pos
 
 -- the signs before some place have given way, and the zeros from there on are left
 pub record IsPatchedBefore (b s : List Sign) (x : Incidence) (of : ℕ) (left : List ℕ) : Type 0 where
@@ -106,7 +115,8 @@ module _ (b s : List Sign) (same : length b ≡ length s) (differ : DifferAtZero
       by_sign true t later =
           let split : z ∷ rest ≡ k ∷ zero_places (k + 1) (drop (k + 1) s) =
           left ∙ next_places s k Pos lt
-          ∙ ap (λ c. if c then k ∷ zero_places (k + 1) (drop (k + 1) s) else zero_places (k + 1) (drop (k + 1) s)) t in
+          ∙ ap (λ c. if c then k ∷ zero_places (k + 1) (drop (k + 1) s) else zero_places (k + 1) (drop (k + 1) s))
+          t in
           let here = same_head z k rest (zero_places (k + 1) (drop (k + 1) s)) split in
           record {
             within = subst (λ m. m < length s) (sym here) lt;
@@ -118,9 +128,11 @@ module _ (b s : List Sign) (same : length b ≡ length s) (differ : DifferAtZero
       by_sign false t later =
           later (is ∙ ap (λ l. incidence_of l of) (patched_kept k b s same lt Pos (differ k lt t)))
           (left ∙ next_places s k Pos lt
-          ∙ ap (λ c. if c then k ∷ zero_places (k + 1) (drop (k + 1) s) else zero_places (k + 1) (drop (k + 1) s)) t)
+          ∙ ap (λ c. if c then k ∷ zero_places (k + 1) (drop (k + 1) s) else zero_places (k + 1) (drop (k + 1) s))
+          t)
 
-  finish : (n k : ℕ) → k + n ≡ length s → x ≡ incidence_of (patched k b s) of → [] ≡ zero_places k (drop k s)
+  finish : (n k : ℕ) → k + n ≡ length s → x ≡ incidence_of (patched k b s) of
+      → [] ≡ zero_places k (drop k s)
       → x ≡ incidence_of b of
   finish zero k e is left = is ∙ ap (λ l. incidence_of l of) (patched_end k b s same (omega (arith, e)))
   finish (suc n) k e is left =
@@ -133,15 +145,18 @@ module _ (b s : List Sign) (same : length b ≡ length s) (differ : DifferAtZero
       none p = cc
 
       by_sign : (t : Bool) → is_zero (get_or s k Pos) ≡ t
-          → (x ≡ incidence_of (patched (k + 1) b s) of → [] ≡ zero_places (k + 1) (drop (k + 1) s) → x ≡ incidence_of b of)
+          → (x ≡ incidence_of (patched (k + 1) b s) of → [] ≡ zero_places (k + 1) (drop (k + 1) s)
+          → x ≡ incidence_of b of)
           → x ≡ incidence_of b of
       by_sign true t later =
           absurd (none (left ∙ next_places s k Pos lt
-          ∙ ap (λ c. if c then k ∷ zero_places (k + 1) (drop (k + 1) s) else zero_places (k + 1) (drop (k + 1) s)) t))
+          ∙ ap (λ c. if c then k ∷ zero_places (k + 1) (drop (k + 1) s) else zero_places (k + 1) (drop (k + 1) s))
+          t))
       by_sign false t later =
           later (is ∙ ap (λ l. incidence_of l of) (patched_kept k b s same lt Pos (differ k lt t)))
           (left ∙ next_places s k Pos lt
-          ∙ ap (λ c. if c then k ∷ zero_places (k + 1) (drop (k + 1) s) else zero_places (k + 1) (drop (k + 1) s)) t)
+          ∙ ap (λ c. if c then k ∷ zero_places (k + 1) (drop (k + 1) s) else zero_places (k + 1) (drop (k + 1) s))
+          t)
 
   pub patched_none : (zeros : List ℕ) → zeros ≡ zero_places 0 s → x ≡ incidence_of s of
       → IsPatchedBefore b s x of (drop 0 zeros)
@@ -169,14 +184,18 @@ differ_towards planes s w long j lt z =
     towards_at planes s w long j Pos origin lt
     ∙ other_is (get_or s j Pos) (sign (dot (get_or planes j origin) w)) z
 
-pub towards_none : (planes : List V3) (s : List Sign) (w : V3) → length s ≡ length planes → (x : Incidence) (of : ℕ)
+pub towards_none : (planes : List V3) (s : List Sign) (w : V3) → length s ≡ length planes
+    → (x : Incidence) (of : ℕ)
     (zeros : List ℕ) → zeros ≡ zero_places 0 s → x ≡ incidence_of s of
     → IsPatchedBefore (composed s (signs_of planes w)) s x of (drop 0 zeros)
 towards_none planes s w long x of =
-    patched_none (composed s (signs_of planes w)) s (towards_long planes s w long) (differ_towards planes s w long) x of
+    patched_none (composed s (signs_of planes w)) s (towards_long planes s w long) (differ_towards planes s w long) x
+    of
 
-pub towards_all : (planes : List V3) (s : List Sign) (w : V3) → length s ≡ length planes → (x : Incidence) (of : ℕ)
-    (zeros : List ℕ) (i : ℕ) → length zeros ≤ i → IsPatchedBefore (composed s (signs_of planes w)) s x of (drop i zeros)
+pub towards_all : (planes : List V3) (s : List Sign) (w : V3) → length s ≡ length planes
+    → (x : Incidence) (of : ℕ)
+    (zeros : List ℕ) (i : ℕ) → length zeros ≤ i → IsPatchedBefore (composed s (signs_of planes w)) s x of
+    (drop i zeros)
     → x ≡ incidence_of (composed s (signs_of planes w)) of
 towards_all planes s w long x of =
     patched_all (composed s (signs_of planes w)) s (towards_long planes s w long) (differ_towards planes s w long) x of
@@ -186,7 +205,8 @@ module _ (planes : List V3) (s : List Sign) (w : V3) (long : length s ≡ length
     (before : IsPatchedBefore (composed s (signs_of planes w)) s x of (drop i zeros)) where
   next : IsPatchedAt (composed s (signs_of planes w)) s x of (get_or zeros i 0) (drop (i + 1) zeros)
   next =
-      patched_next (composed s (signs_of planes w)) s (towards_long planes s w long) (differ_towards planes s w long) x of
+      patched_next (composed s (signs_of planes w)) s (towards_long planes s w long) (differ_towards planes s w long) x
+      of
       zeros i lt before
 
   pub zero_within : get_or zeros i 0 < length s
@@ -195,7 +215,8 @@ module _ (planes : List V3) (s : List Sign) (w : V3) (long : length s ≡ length
   pub zero_there : HasIncidenceZeroAt x (length s) (get_or zeros i 0)
   zero_there =
       let h = next in
-      zero_incidence x (get_or zeros i 0) of (composed s (signs_of planes w)) s (towards_long planes s w long) h.within h.is
+      zero_incidence x (get_or zeros i 0) of (composed s (signs_of planes w)) s (towards_long planes s w long) h.within
+      h.is
       (length s) Pos refl h.zero_at
 
   pub zero_changed : (new : Incidence) (t : Sign) → t ≡ sign (dot (get_or planes (get_or zeros i 0) origin) w)
@@ -212,7 +233,8 @@ module _ (planes : List V3) (s : List Sign) (w : V3) (long : length s ≡ length
       record {
         place = z + 1;
         most = omega (arith, within);
-        is = changed_incidence x z of (composed s (signs_of planes w)) s (towards_long planes s w long) within h.is (length s) Pos t
+        is = changed_incidence x z of (composed s (signs_of planes w)) s (towards_long planes s w long) within h.is
+            (length s) Pos t
             new refl h.zero_at there change;
         zeros = h.zeros;
       }

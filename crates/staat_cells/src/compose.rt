@@ -100,7 +100,7 @@ pub(crate) fn composed_cells(
     ensures { IfOk result (λ cells. map entry_of cells.items
         ≡ composed_up_to kind (map entry_of lower.now) incidences.now (length incidences.now)) }
 {
-    let mut cells = Vec::new(alloc);
+    let mut cells = Vec::with_capacity(alloc, incidences.len() / 2)?;
     for i in 0..incidences.len() {
         if let Some(cell) = composed_at(alloc, kind, lower, incidences, i)? {
             cells.push(cell)?;

@@ -1,5 +1,6 @@
 // Sets of planes by their numbers, as bits.
-ghost use Rattle.std.specs.Prelude.{◌≡◌, ◌<◌, ◌≤◌, ◌+◌, ◌-◌, ◌⊎◌, ◌↔◌, ℕ, Some, length, min, slice_get};
+ghost use Rattle.std.specs.Prelude.{◌≡◌, ◌<◌, ◌≤◌, ◌+◌, ◌-◌, ◌⊎◌, ◌↔◌, ℕ};
+ghost use Rattle.std.specs.Prelude.{Some, length, min, slice_get};
 ghost use Rattle.std.specs.Int.{bit_at};
 ghost use Rattle.staat_cells.specs.HalfSpaces.{AreIn, HasPlane};
 

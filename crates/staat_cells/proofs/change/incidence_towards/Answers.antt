@@ -5,12 +5,14 @@ use Rattle.staat_cells.proofs.change.incidence_towards.Goals as goal
 
 pub loop-i-init : goal.loop-i-init
 loop-i-init c =
-    towards_none c.args.planes.now c.args.signs.now c.args.w c.requires.signs c.args.base c.args.base.of c.args.zeros.now
+    towards_none c.args.planes.now c.args.signs.now c.args.w c.requires.signs c.args.base c.args.base.of
+    c.args.zeros.now
     c.requires.zeros c.requires.base
 
 pub offset_bounds-planes-j : goal.offset_bounds-planes-j
 offset_bounds-planes-j c =
-    let within = zero_within c.args.planes.now c.args.signs.now c.args.w c.requires.signs c.loop-i.incidence c.args.base.of
+    let within = zero_within c.args.planes.now c.args.signs.now c.args.w c.requires.signs c.loop-i.incidence
+    c.args.base.of
     c.args.zeros.now c.loop-i.i c.loop-i-test.true c.loop-i.invariant in
     let long = c.requires.signs in
     let few = c.requires.few in
@@ -18,14 +20,16 @@ offset_bounds-planes-j c =
 
 pub bounds-planes-j : goal.bounds-planes-j
 bounds-planes-j c =
-    let within = zero_within c.args.planes.now c.args.signs.now c.args.w c.requires.signs c.loop-i.incidence c.args.base.of
+    let within = zero_within c.args.planes.now c.args.signs.now c.args.w c.requires.signs c.loop-i.incidence
+    c.args.base.of
     c.args.zeros.now c.loop-i.i c.loop-i-test.true c.loop-i.invariant in
     let long = c.requires.signs in
     omega (arith, within, long)
 
 pub sign_dot-requires-clause-n : goal.sign_dot-requires-clause-n
 sign_dot-requires-clause-n c =
-    let within = zero_within c.args.planes.now c.args.signs.now c.args.w c.requires.signs c.loop-i.incidence c.args.base.of
+    let within = zero_within c.args.planes.now c.args.signs.now c.args.w c.requires.signs c.loop-i.incidence
+    c.args.base.of
     c.args.zeros.now c.loop-i.i c.loop-i-test.true c.loop-i.invariant in
     let long = c.requires.signs in
     c.requires.planes (get_or c.args.zeros.now c.loop-i.i 0) origin (omega (arith, within, long))

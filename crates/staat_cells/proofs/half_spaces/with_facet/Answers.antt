@@ -21,6 +21,7 @@ returns-else-is_same c =
     facet_negative c.args.planes.now c.args.n c.args.h c.with-else-is_same.result c.number_of-plane.result
     (c.number_of-plane.ensures.is ∙ ap Some
     (⊎_elim {C = c.canon-normal.result ≡ negative c.args.n}
-    (λ e. absurd (true≢false (sym (c.is_same.ensures.1 (c.canon-normal.ensures.value ∙ e)) ∙ c.if-is_same.false)))
+    (λ e. absurd (true≢false (sym (c.is_same.ensures.1 (c.canon-normal.ensures.value ∙ e))
+    ∙ c.if-is_same.false)))
     (λ e. c.canon-normal.ensures.value ∙ e) (canon-either c.args.n)))
     c.with-else-is_same.ensures

@@ -8,7 +8,8 @@ use Rattle.staat_cells.specs.Packing.{incidence_of}
 use Rattle.staat_cells.proofs.Patching.{own_number}
 use Rattle.staat_cells.proofs.open_incidences.push_both.Goals as goal
 
-few_signs : (s l : List Sign) (base : Incidence) (k : ℕ) → length s ≤ 256 → base ≡ incidence_of l k → l ≡ s → HasFewSigns base
+few_signs : (s l : List Sign) (base : Incidence) (k : ℕ) → length s ≤ 256 → base ≡ incidence_of l k
+    → l ≡ s → HasFewSigns base
 few_signs s l base k few is same =
     record { signs = s; is = own_number base s k (is ∙ ap (λ m. incidence_of m k) same); few = few }
 

@@ -7,9 +7,11 @@ loop-b-init c = below_none c.args.table.now (ArePartsAhead c.args.table.now c.ar
 
 pub loop-b-preserved : goal.loop-b-preserved
 loop-b-preserved c =
-    below_more c.args.table.now (ArePartsAhead c.args.table.now c.args.a) c.loop-b.b c.args.arcs.now.items c.loop-b.arcs.items c.push_parts.new.arcs.items
+    below_more c.args.table.now (ArePartsAhead c.args.table.now c.args.a) c.loop-b.b c.args.arcs.now.items
+    c.loop-b.arcs.items c.push_parts.new.arcs.items
     c.loop-b.invariant c.in_ok-push_parts.ensures
 
 pub returns : goal.returns
 returns c =
-    from_listed c.args.table.now c.args.a c.loop-b.b c.args.arcs.now.items c.loop-b.arcs.items c.requires.rules c.loop-b-test.false c.loop-b.invariant
+    from_listed c.args.table.now c.args.a c.loop-b.b c.args.arcs.now.items c.loop-b.arcs.items c.requires.rules
+    c.loop-b-test.false c.loop-b.invariant

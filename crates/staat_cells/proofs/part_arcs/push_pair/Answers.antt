@@ -15,10 +15,12 @@ returns c =
     let t = c.args.table.now in
     let a = c.args.a in
     let b = c.args.b in
-    let ahead = subst (λ (l : List HalfSpaces). (d : V3) → Any (AreInside (signs_of t.planes d)) l ↔ IsAhead t d a b)
+    let ahead = subst (λ (l : List HalfSpaces). (d : V3) → Any (AreInside (signs_of t.planes d)) l
+    ↔ IsAhead t d a b)
     (sym c.deref.ensures.value) c.in_ok-all.ensures in
     pair_added t a b (record { a = a; b = b; cones = c.from_vec-cones.result }) c.args.arcs.now.items
-    c.push.new.self.items (c.requires.rules.small a c.requires.a_in) (c.requires.rules.small b c.requires.b_in) refl refl
+    c.push.new.self.items (c.requires.rules.small a c.requires.a_in) (c.requires.rules.small b c.requires.b_in) refl
+    refl
     (subst (λ (l : List HalfSpaces). (d : V3) → Any (AreInside (signs_of t.planes d)) l ↔ IsAhead t d a b)
     (sym c.from_vec-cones.ensures) (λ d. both (c.in_ok-wide_cones.ensures (signs_of t.planes d)) (ahead d)))
     c.in_ok-push.ensures.items

@@ -13,14 +13,17 @@ loop-j-preserved c =
     ≡ c.args.from + (c.count_from-count.result - (c.loop-j.j + 1)) = omega arith in
     let next : c.args.from + (c.count_from-count.result - c.loop-j.j)
     ≡ c.args.from + (c.count_from-count.result - (c.loop-j.j + 1)) + 1 = omega (arith, lt) in (
-      place_before c.args.signs.now c.args.s (from + (count - (j + 1))) (from + (count - j)) c.loop-j.word c.bit_of.result j
+      place_before c.args.signs.now c.args.s (from + (count - (j + 1))) (from + (count - j)) c.loop-j.word
+          c.bit_of.result j
           next
-          (subst (λ n. (c.bit_of.result ≡ 1) ↔ (slice_get c.args.signs.now n ≡ Some c.args.s)) here c.bit_of.ensures.is)
+          (subst (λ n. (c.bit_of.result ≡ 1) ↔ (slice_get c.args.signs.now n ≡ Some c.args.s)) here
+          c.bit_of.ensures.is)
           c.bit_of.ensures.small c.loop-j.invariant.0,
       next_fits c.loop-j.word c.bit_of.result j c.loop-j.invariant.1 c.bit_of.ensures.small,
     )
 
 pub returns : goal.returns
 returns c =
-    all_places c.args.signs.now c.args.s c.args.from c.loop-j.word c.loop-j.j c.count_from-count.result c.loop-j.invariant.0
+    all_places c.args.signs.now c.args.s c.args.from c.loop-j.word c.loop-j.j c.count_from-count.result
+    c.loop-j.invariant.0
     c.count_from-count.ensures c.loop-j-test.false c.loop-j.auto.j-end
