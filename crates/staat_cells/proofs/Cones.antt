@@ -2,7 +2,7 @@
 use Rattle.std.proofs.Common.{◌≡◌, ◌⊎◌, ◌↔◌, inl, inr, ⊎_elim, ℕ, zero, suc, ◌+◌, ◌-◌}
 use Rattle.std.proofs.Common.{◌<◌, ◌≤◌, drop, drop-cons, get_or, refl, sym, ap, subst, ◌∙◌, arith}
 use Rattle.std.proofs.Common.{eq-eqb}
-use Rattle.std.proofs.Common.{List, [], ◌∷◌, ◌++◌, length, Contains, Any, IsTrue, nat_eq, true}
+use Rattle.std.proofs.Common.{List, [], ◌∷◌, ◌++◌, length, Any, IsTrue, nat_eq, true}
 use Rattle.std.specs.Prelude.{bit_or, Some, slice_get}
 use Rattle.std.proofs.lemmas.Bool.Decides.{nat_tests}
 use Rattle.std.proofs.lemmas.List.{drop_all}

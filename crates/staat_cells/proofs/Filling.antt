@@ -4,14 +4,14 @@ use Rattle.std.proofs.Common.{◌≤◌, refl, sym, ap, ◌∙◌, arith}
 use Rattle.std.proofs.Common.{List, [], ◌∷◌, length, take, drop}
 use Rattle.std.specs.Prelude.{bit_and}
 use Rattle.std.proofs.Math.Nat.{pow-le-pow_right}
-use Rattle.std.proofs.lemmas.List.{drop-map, length-drop, length-map, take-map}
+use Rattle.std.proofs.lemmas.List.{drop-map, length-map, take-map}
 use Rattle.std.proofs.lemmas.Nat.{and_mod, and_shr}
 use Rattle.staat_vec.specs.declared.vector.Sign.{Sign}
 use Rattle.staat_vec.specs.declared.vector.Sign.TheVariants.{Neg, Zero, Pos}
 use Rattle.staat_model.specs.Cells.{sign_place}
 use Rattle.staat_cells.specs.declared.incidence.Incidence.{Incidence}
 use Rattle.staat_cells.specs.Beside.{filled, then_sign}
-use Rattle.staat_cells.specs.Changes.{HasFewSigns, IsWord}
+use Rattle.staat_cells.specs.Changes.{IsWord}
 use Rattle.staat_cells.specs.Packing.{incidence_of, packed, packed_after}
 use Rattle.staat_cells.proofs.Changing.{below}
 use Rattle.staat_cells.proofs.Words.{length_taken}

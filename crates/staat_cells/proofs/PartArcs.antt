@@ -1,11 +1,10 @@
 -- Steps of the loops that list parts with the cones of their pieces.
 use Rattle.std.proofs.Common.{◌≡◌, ◌⊎◌, ◌↔◌, inl, inr, ⊎_elim, ℕ, ◌+◌, ◌<◌, ◌≤◌}
 use Rattle.std.proofs.Common.{refl, sym, ap, subst, ◌∙◌, arith}
-use Rattle.std.proofs.Common.{◌<ℤ◌, pos, List, [], ◌∷◌, ◌++◌, All, Any, Contains}
+use Rattle.std.proofs.Common.{List, [], ◌∷◌, ◌++◌, All, Any, Contains}
 use Rattle.std.proofs.lemmas.List.Elements.{All-push, Contains-append_left, Contains-push, Contains-push_cases}
 use Rattle.staat_vec.specs.declared.vector.V3.{V3}
 use Rattle.staat_vec.specs.declared.vector.Sign.{Sign}
-use Rattle.staat_vec.specs.Vectors.{dot}
 use Rattle.staat_model.specs.declared.limits.TheConstants.{MOST_PARTS}
 use Rattle.staat_model.specs.Cells.{signs_of}
 use Rattle.staat_pairs.specs.Searches.{arc_of}

@@ -1,4 +1,4 @@
-use Rattle.std.proofs.Common.{◌≡◌, ◌<◌, arith, get_or, length, sym}
+use Rattle.std.proofs.Common.{arith, get_or}
 use Rattle.staat_vec.specs.Vectors.{origin}
 use Rattle.staat_cells.proofs.ZeroPlaces.{towards_all, towards_none, zero_changed, zero_there, zero_within}
 use Rattle.staat_cells.proofs.change.incidence_towards.Goals as goal

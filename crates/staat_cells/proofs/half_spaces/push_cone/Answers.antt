@@ -1,4 +1,4 @@
-use Rattle.staat_cells.proofs.Cones.{cone_left_out, cone_pushed}
+use Rattle.staat_cells.proofs.Cones.{cone_pushed}
 use Rattle.staat_cells.proofs.half_spaces.push_cone.Goals as goal
 
 pub returns : goal.returns

@@ -1,6 +1,5 @@
 use Rattle.std.proofs.Common.{◌≡◌, ◌∙◌, ⊎_elim, sym, true≢false}
-use Rattle.std.specs.Prelude.{Some, slice_get}
-use Rattle.staat_vec.specs.declared.vector.V3.{V3}
+use Rattle.std.specs.Prelude.{Some}
 use Rattle.staat_vec.specs.Vectors.{negative}
 use Rattle.staat_vec.proofs.Canons.{canon-either}
 use Rattle.staat_vec.proofs.Primitives.{IsPrimitive-some}

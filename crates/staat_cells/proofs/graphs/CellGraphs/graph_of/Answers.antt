@@ -1,4 +1,4 @@
-use Rattle.std.proofs.Common.{◌∙◌, ◌+◌, ◌≤◌, length, sym, subst, List, All}
+use Rattle.std.proofs.Common.{◌∙◌, ◌≤◌, length, sym, subst, List, All}
 use Rattle.std.proofs.lemmas.List.Elements.{All-get_or}
 use Rattle.staat_cells.specs.declared.part_arcs.PartArc.{PartArc}
 use Rattle.staat_cells.specs.CellGraphs.{HasParts}
