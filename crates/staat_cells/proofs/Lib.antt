@@ -1,6 +1,8 @@
 pub mod Halves
 pub mod Patching
 pub mod Changing
+pub mod ZeroPlaces
+pub mod Filling
 pub mod KindLists
 pub mod WholeLists
 pub mod OneCell
@@ -22,5 +24,8 @@ pub mod VertexSigns
 pub mod EdgeIncidences
 pub mod Zeros
 pub mod Beside
-pub mod PieceArcs
+pub mod PlaneSets
+pub mod Cones
+pub mod FacetPlanes
+pub mod PartArcs
 pub mod GraphRows

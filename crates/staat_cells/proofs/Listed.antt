@@ -1,5 +1,6 @@
 -- Cells of one kind in their list, and the signs of a sum.
-use Rattle.std.proofs.Common.{◌≡◌, ◌≢◌, ◌⊎◌, inl, inr, ⊎_elim, ℕ, zero, suc, ◌<◌, refl, sym, ap, subst, ◌∙◌, arith, ℤ, pos, ◌+ℤ◌, List, [], ◌∷◌, length, map}
+use Rattle.std.proofs.Common.{◌≡◌, ◌≢◌, ◌⊎◌, inl, inr, ⊎_elim, ℕ, zero, suc, ◌<◌, refl, sym}
+use Rattle.std.proofs.Common.{ap, subst, ◌∙◌, arith, ℤ, pos, ◌+ℤ◌, List, [], ◌∷◌, length, map}
 use Rattle.std.specs.declared.cmp.Ordering.TheVariants.{Less}
 use Rattle.std.proofs.lemmas.Int.{ints}
 use Rattle.std.proofs.lemmas.List.{get_or-map, length-map}
@@ -8,10 +9,9 @@ use Rattle.staat_vec.specs.declared.vector.V3.{V3}
 use Rattle.staat_vec.specs.declared.vector.Sign.{Sign}
 use Rattle.staat_vec.specs.declared.vector.Sign.TheVariants.{Neg, Zero, Pos}
 use Rattle.staat_vec.specs.Vectors.{dot, plus, sign}
-use Rattle.staat_vec.proofs.Ring.{◌⊕◌, ring}
-use Rattle.staat_vec.proofs.VecRing.{dotE, plusE, values, v0, v1, v2}
 use Rattle.staat_model.specs.declared.tree.Kind.{Kind}
 use Rattle.staat_model.specs.Cells.{kind_of, signs_of, signs_cmp, CellEntry, IsBorder, IsCell, IsEntry, AreCellsOf}
+use Rattle.staat_model.proofs.CellLemmas.{dot_plus}
 use Rattle.staat_model.proofs.GraphLemmas.{zero_sign}
 use Rattle.staat_cells.specs.Compositions.{composed, no_cell}
 use Rattle.staat_cells.specs.Beside.{then_sign}
@@ -36,32 +36,37 @@ module _ (planes : List V3) (kind : Kind) (cells : List CellEntry) (are : AreCel
       (k, record { lt = below; is = sym (get_or-map (λ (c : CellEntry). c.signs) cells k no_cell s below) ∙ e })
 
   -- later cells have greater signs
-  pub rising : (j k : ℕ) → j < k → k < length cells → signs_cmp (cell_at cells j).signs (cell_at cells k).signs ≡ Less
+  pub rising : (j k : ℕ) → j < k → k < length cells → signs_cmp (cell_at cells j).signs
+      (cell_at cells k).signs ≡ Less
   rising j k lt below =
       let signs = are.signs in
       let before : j < length cells = omega arith in
-      (λ i. signs_cmp (sym (get_or-map (λ (c : CellEntry). c.signs) cells j no_cell [] before) i) (sym (get_or-map (λ (c : CellEntry). c.signs) cells k no_cell [] below) i))
-      ∙ Less-from_sorted signs_cmp (map (λ c. c.signs) cells) j k [] signs.ascending lt (omega (arith, below, length-map cells (λ c. c.signs)))
+      (λ i. signs_cmp (sym (get_or-map (λ (c : CellEntry). c.signs) cells j no_cell [] before) i)
+      (sym (get_or-map (λ (c : CellEntry). c.signs) cells k no_cell [] below) i))
+      ∙ Less-from_sorted signs_cmp (map (λ c. c.signs) cells) j k [] signs.ascending lt
+      (omega (arith, below, length-map cells (λ c. c.signs)))
 
-  pub not_same : (j k : ℕ) → j < k → k < length cells → (cell_at cells j).signs ≡ (cell_at cells k).signs → ⊥
-  not_same j k lt below e = not_below_itself (cell_at cells k).signs (ap (λ s. signs_cmp s (cell_at cells k).signs) (sym e) ∙ rising j k lt below)
+  pub not_same : (j k : ℕ) → j < k → k < length cells → (cell_at cells j).signs ≡ (cell_at cells k).signs
+      → ⊥
+  not_same j k lt below e = not_below_itself (cell_at cells k).signs
+      (ap (λ s. signs_cmp s (cell_at cells k).signs) (sym e) ∙ rising j k lt below)
 
 pub decide : (j k : ℕ) → (j ≡ k) ⊎ (j ≢ k)
 decide zero zero = inl refl
 decide zero (suc k) = inr (λ e. omega arith)
 decide (suc j) zero = inr (λ e. omega arith)
-decide (suc j) (suc k) = ⊎_elim {C = (suc j ≡ suc k) ⊎ (suc j ≢ suc k)} (λ e. inl (ap suc e)) (λ n. inr (λ e. n (omega arith))) (decide j k)
+decide (suc j) (suc k) = ⊎_elim {C = (suc j ≡ suc k) ⊎ (suc j ≢ suc k)} (λ e. inl (ap suc e))
+    (λ n. inr (λ e. n (omega arith))) (decide j k)
 
 -- ---- the signs of a sum
 
-dot_plus : (g u v : V3) → dot g (plus u v) ≡ dot g u +ℤ dot g v
-dot_plus g u v = ring (values (g ∷ u ∷ v ∷ []) []) (dotE v0 (plusE v1 v2)) (dotE v0 v1 ⊕ dotE v0 v2) tt
-
-pub composed_map : (f g : V3 → Sign) (gs : List V3) → composed (map f gs) (map g gs) ≡ map (λ n. then_sign (f n) (g n)) gs
+pub composed_map : (f g : V3 → Sign) (gs : List V3) → composed (map f gs) (map g gs) ≡ map
+    (λ n. then_sign (f n) (g n)) gs
 composed_map f g [] = refl
 composed_map f g (n ∷ gs) = ap (λ l. then_sign (f n) (g n) ∷ l) (composed_map f g gs)
 
-by_signs : (s t u : Sign) → (s ≡ u) ⊎ (s ≡ Zero) → (t ≡ u) ⊎ (t ≡ Zero) → (s ≡ Zero → t ≡ Zero → u ≡ Zero) → then_sign s t ≡ u
+by_signs : (s t u : Sign) → (s ≡ u) ⊎ (s ≡ Zero) → (t ≡ u) ⊎ (t ≡ Zero)
+    → (s ≡ Zero → t ≡ Zero → u ≡ Zero) → then_sign s t ≡ u
 by_signs Neg t u (inl e) h z = e
 by_signs Neg t u (inr e) h z = cc
 by_signs Pos t u (inl e) h z = e
@@ -73,12 +78,17 @@ both_zero : (a b : ℤ) → a ≡ pos 0 → b ≡ pos 0 → a +ℤ b ≡ pos 0
 both_zero a b e f = omega (arith, ints)
 
 -- two cells on the border of the cell of their sum have its signs together
-pub composed_signs : (planes : List V3) (u v : V3) (s : List Sign) → signs_of planes (plus u v) ≡ s → IsBorder (signs_of planes u) s → IsBorder (signs_of planes v) s → composed (signs_of planes u) (signs_of planes v) ≡ s
+pub composed_signs : (planes : List V3) (u v : V3) (s : List Sign) → signs_of planes (plus u v) ≡ s
+    → IsBorder (signs_of planes u) s → IsBorder (signs_of planes v) s → composed (signs_of planes u)
+    (signs_of planes v) ≡ s
 composed_signs planes u v s is bu bv =
     composed_map (λ n. sign (dot n u)) (λ n. sign (dot n v)) planes
     ∙ from_planes (λ n. then_sign (sign (dot n u)) (sign (dot n v))) (λ n. sign (dot n (plus u v))) planes
     (λ n c. by_signs (sign (dot n u)) (sign (dot n v)) (sign (dot n (plus u v)))
-    (border_at (λ n. sign (dot n u)) (λ n. sign (dot n (plus u v))) planes n (subst (IsBorder (signs_of planes u)) (sym is) bu) c)
-    (border_at (λ n. sign (dot n v)) (λ n. sign (dot n (plus u v))) planes n (subst (IsBorder (signs_of planes v)) (sym is) bv) c)
-    (λ zu zv. ap sign (dot_plus n u v ∙ both_zero (dot n u) (dot n v) (zero_sign (dot n u) zu) (zero_sign (dot n v) zv))))
+    (border_at (λ n. sign (dot n u)) (λ n. sign (dot n (plus u v))) planes n
+    (subst (IsBorder (signs_of planes u)) (sym is) bu) c)
+    (border_at (λ n. sign (dot n v)) (λ n. sign (dot n (plus u v))) planes n
+    (subst (IsBorder (signs_of planes v)) (sym is) bv) c)
+    (λ zu zv. ap sign (dot_plus n u v ∙ both_zero (dot n u) (dot n v) (zero_sign (dot n u) zu)
+    (zero_sign (dot n v) zv))))
     ∙ is

@@ -1,16 +1,18 @@
 // Packed signs in which a zero gives way to another sign.
 ghost use Rattle.std.specs.Prelude.{◌≡◌, ◌<◌, ◌≤◌, ◌-◌, ◌^◌};
-ghost use Rattle.std.specs.Prelude.{All, List, length, slice_set, min};
+ghost use Rattle.std.specs.Prelude.{All, IfOk, List, length, slice_set, min};
 ghost use Rattle.staat_vec.specs.declared.vector.Sign.{Sign as SignValue};
 ghost use Rattle.staat_vec.specs.Vectors.{IsWithin};
 ghost use Rattle.staat_model.specs.Cells.{is_zero, signs_of};
-ghost use Rattle.staat_cells.specs.Changes.{HasIncidenceZeroAt, HasZeroAt, IsZeroAt};
+ghost use Rattle.staat_cells.specs.Changes.{HasFewSigns, HasIncidenceZeroAt, HasZeroAt, IsWord, IsZeroAt};
+ghost use Rattle.staat_cells.specs.Changes.{zero_places};
 ghost use Rattle.staat_cells.specs.Compositions.{composed};
 ghost use Rattle.staat_cells.specs.Packing.{packed, incidence_of};
 ghost use Rattle.staat_cells.specs.Beside.{filled};
 
 use crate::incidence::Incidence;
-use staat_vec::{DIRECTION, NORMAL, Sign, V3, sign_dot};
+use staat_vec::{DIRECTION, NORMAL, OutOfMemory, Sign, V3, sign_dot};
+use std::alloc::Global;
 
 // how much a digit counts at a place of a word of so many digits
 fn weight(count: usize, k: usize) -> u128
@@ -74,36 +76,71 @@ fn is_zero(s: Sign) -> bool
     }
 }
 
-/// The incidence towards `w` of the cell with these signs, whose own incidence is `base`: in place of each zero stands
-/// the sign of the plane at `w`.
-pub(crate) fn incidence_towards(planes: &[V3], signs: &[Sign], base: Incidence, w: V3) -> Incidence
+/// The places of the zeros.
+pub(crate) fn zeros_of(alloc: Global, signs: &[Sign]) -> Result<Vec<usize>, OutOfMemory>
+    ensures { IfOk result (λ zeros. zeros.items ≡ zero_places 0 signs.now) }
+{
+    let mut zeros = Vec::new(alloc);
+    for j in 0..signs.len() {
+        if is_zero(signs[j]) {
+            zeros.push(j)?;
+        }
+    }
+    Ok(zeros)
+}
+
+/// The incidence towards `w` of the cell with these signs, the zeros at these places, whose own incidence is `base`:
+/// in place of each zero stands the sign of the plane at `w`.
+pub(crate) fn incidence_towards(
+    planes: &[V3],
+    signs: &[Sign],
+    zeros: &[usize],
+    base: Incidence,
+    w: V3,
+) -> Incidence
     requires planes { All (IsWithin NORMAL) planes.now }
     requires direction { IsWithin DIRECTION w }
     requires few { length planes.now ≤ 256 }
     requires signs { length signs.now ≡ length planes.now }
+    requires zeros { zeros.now ≡ zero_places 0 signs.now }
     requires base { base ≡ incidence_of signs.now base.of }
     ensures { result ≡ incidence_of (composed signs.now (signs_of planes.now w)) base.of }
 {
     let mut incidence = base;
-    for j in 0..planes.len() {
-        if is_zero(signs[j]) {
-            incidence = changed(incidence, planes.len(), j, sign_dot(planes[j], w));
-        }
+    for i in 0..zeros.len() {
+        let j = zeros[i];
+        incidence = changed(incidence, signs.len(), j, sign_dot(planes[j], w));
     }
     incidence
 }
 
-/// The incidence of the cell with these signs, whose own incidence is `base`, with `t` in place of each zero.
-pub(crate) fn incidence_filled(signs: &[Sign], base: Incidence, t: Sign) -> Incidence
-    requires few { length signs.now ≤ 256 }
-    requires base { base ≡ incidence_of signs.now base.of }
-    ensures { result ≡ incidence_of (filled t signs.now) base.of }
+/// A one in each digit of a word.
+const ONES: u128 = 0x5555_5555_5555_5555_5555_5555_5555_5555;
+
+// the word with t in place of each zero, which alone has an odd digit
+fn filled_word(word: u128, t: Sign) -> u128
+    requires word { IsWord word }
+    ensures { (s : List SignValue) → packed s ≡ word → length s ≤ 64 → result ≡ packed (filled t s) }
 {
-    let mut incidence = base;
-    for j in 0..signs.len() {
-        if is_zero(signs[j]) {
-            incidence = changed(incidence, signs.len(), j, t);
-        }
+    let zeros = word & ONES;
+    match t {
+        Sign::Neg => word - zeros,
+        Sign::Zero => word,
+        Sign::Pos => word + zeros,
     }
-    incidence
+}
+
+/// The incidence with `t` in place of each zero.
+pub(crate) fn incidence_filled(base: Incidence, t: Sign) -> Incidence
+    requires few { HasFewSigns base }
+    ensures { (s : List SignValue) → base ≡ incidence_of s base.of → length s ≤ 256
+        → result ≡ incidence_of (filled t s) base.of }
+{
+    Incidence {
+        a: filled_word(base.a, t),
+        b: filled_word(base.b, t),
+        c: filled_word(base.c, t),
+        d: filled_word(base.d, t),
+        of: base.of,
+    }
 }

@@ -27,9 +27,9 @@ fn composed_signs(alloc: Global, first: &[Sign], second: &[Sign]) -> Result<Vec<
     requires { length first.now ≡ length second.now }
     ensures { IfOk result (λ signs. signs.items ≡ composed first.now second.now) }
 {
-    let mut signs = Vec::with_capacity(alloc, first.len())?;
+    let mut signs = first.to_vec(alloc)?;
     for i in 0..first.len() {
-        signs.push(then_sign(first[i], second[i]))?;
+        signs[i] = then_sign(signs[i], second[i]);
     }
     Ok(signs)
 }
@@ -100,7 +100,7 @@ pub(crate) fn composed_cells(
     ensures { IfOk result (λ cells. map entry_of cells.items
         ≡ composed_up_to kind (map entry_of lower.now) incidences.now (length incidences.now)) }
 {
-    let mut cells = Vec::new(alloc);
+    let mut cells = Vec::with_capacity(alloc, incidences.len() / 2)?;
     for i in 0..incidences.len() {
         if let Some(cell) = composed_at(alloc, kind, lower, incidences, i)? {
             cells.push(cell)?;

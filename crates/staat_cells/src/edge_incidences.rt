@@ -7,6 +7,7 @@ ghost use Rattle.staat_model.specs.Planes.{vertices};
 ghost use Rattle.staat_pairs.specs.Tables.{AreTablePlanes};
 ghost use Rattle.staat_model.specs.declared.tree.Kind.TheVariants.{Edge};
 ghost use Rattle.staat_cells.specs.declared.incidence.Incidence.{Incidence as IncidenceValue};
+ghost use Rattle.staat_cells.specs.Changes.{zero_places};
 ghost use Rattle.staat_cells.specs.Compositions.{entry_of};
 ghost use Rattle.staat_cells.specs.Packing.{incidence_of};
 ghost use Rattle.staat_cells.specs.Beside.{beside};
@@ -14,7 +15,7 @@ ghost use Rattle.staat_cells.specs.Stages.{GrewByAll, IsAxisOff, IsBesideInciden
 ghost use Rattle.staat_cells.specs.Stages.{IsIncidence, IsVertexPoint};
 
 use crate::cell::Cell;
-use crate::change::incidence_towards;
+use crate::change::{incidence_towards, zeros_of};
 use crate::incidence::{Incidence, incidence_of};
 use staat_vec::{DIRECTION, NORMAL, OutOfMemory, Sign, V3, VERTEX, cross_normal, neg};
 use std::alloc::Global;
@@ -38,6 +39,7 @@ fn axis_off(v: V3) -> V3
 fn push_towards(
     planes: &[V3],
     point: &Cell,
+    zeros: &[usize],
     base: Incidence,
     w: V3,
     incidences: &mut Vec<Incidence>,
@@ -45,12 +47,13 @@ fn push_towards(
     requires planes { All (IsWithin NORMAL) planes.now }
     requires few { length planes.now ≤ 256 }
     requires signs { point.now.signs ≡ signs_of planes.now point.now.d }
+    requires zeros { zeros.now ≡ zero_places 0 point.now.signs }
     requires base { base ≡ incidence_of point.now.signs base.of }
     requires size { IsWithin DIRECTION w }
     ensures { OnOk result (incidences.new.items
         ≡ incidences.old.items ++ incidence_of (beside planes.now point.now.d w) base.of ∷ []) }
 {
-    incidences.push(incidence_towards(planes, point.signs.as_slice(), base, w))?;
+    incidences.push(incidence_towards(planes, point.signs.as_slice(), zeros, base, w))?;
     Ok(())
 }
 
@@ -58,6 +61,7 @@ fn push_towards(
 fn push_both(
     planes: &[V3],
     point: &Cell,
+    zeros: &[usize],
     base: Incidence,
     c: V3,
     m: V3,
@@ -66,6 +70,7 @@ fn push_both(
     requires planes { All (IsWithin NORMAL) planes.now }
     requires few { length planes.now ≤ 256 }
     requires signs { point.now.signs ≡ signs_of planes.now point.now.d }
+    requires zeros { zeros.now ≡ zero_places 0 point.now.signs }
     requires base { base ≡ incidence_of point.now.signs base.of }
     requires c { IsWithin NORMAL c }
     requires m { IsWithin NORMAL m }
@@ -74,14 +79,15 @@ fn push_both(
         ++ incidence_of (beside planes.now point.now.d (negative (cross c m))) base.of ∷ []) }
 {
     let w = cross_normal(c, m);
-    push_towards(planes, point, base, w, incidences)?;
-    push_towards(planes, point, base, neg(w), incidences)
+    push_towards(planes, point, zeros, base, w, incidences)?;
+    push_towards(planes, point, zeros, base, neg(w), incidences)
 }
 
 // adds the incidences of a vertex on the plane c, if it is through the vertex, which has the sign s there
 fn push_on(
     planes: &[V3],
     point: &Cell,
+    zeros: &[usize],
     base: Incidence,
     c: V3,
     s: Sign,
@@ -91,6 +97,7 @@ fn push_on(
     requires planes { All (IsWithin NORMAL) planes.now }
     requires few { length planes.now ≤ 256 }
     requires signs { point.now.signs ≡ signs_of planes.now point.now.d }
+    requires zeros { zeros.now ≡ zero_places 0 point.now.signs }
     requires base { base ≡ incidence_of point.now.signs base.of }
     requires c { IsWithin NORMAL c }
     requires s { s ≡ sign (dot c point.now.d) }
@@ -99,7 +106,7 @@ fn push_on(
         incidences.old.items incidences.new.items) }
 {
     match s {
-        Sign::Zero => push_both(planes, point, base, c, m, incidences),
+        Sign::Zero => push_both(planes, point, zeros, base, c, m, incidences),
         _ => Ok(()),
     }
 }
@@ -108,6 +115,7 @@ fn push_on(
 fn push_all(
     planes: &[V3],
     point: &Cell,
+    zeros: &[usize],
     base: Incidence,
     m: V3,
     incidences: &mut Vec<Incidence>,
@@ -115,6 +123,7 @@ fn push_all(
     requires planes { All (IsWithin NORMAL) planes.now }
     requires few { length planes.now ≤ 256 }
     requires signs { point.now.signs ≡ signs_of planes.now point.now.d }
+    requires zeros { zeros.now ≡ zero_places 0 point.now.signs }
     requires base { base ≡ incidence_of point.now.signs base.of }
     requires m { IsWithin NORMAL m }
     ensures { OnOk result (GrewByAll (IsBesideIncidence planes.now planes.now point.now.d m base.of)
@@ -122,13 +131,14 @@ fn push_all(
 {
     for j in 0..planes.len() {
         let s = point.signs.as_slice()[j];
-        push_on(planes, point, base, planes[j], s, m, incidences)?;
+        push_on(planes, point, zeros, base, planes[j], s, m, incidences)?;
     }
     Ok(())
 }
 
 /// Adds the incidences of a vertex, with its number.
 fn push_edge_incidences(
+    alloc: Global,
     planes: &[V3],
     point: &Cell,
     k: usize,
@@ -142,7 +152,8 @@ fn push_edge_incidences(
         incidences.old.items incidences.new.items) }
 {
     let base = incidence_of(point.signs.as_slice(), k);
-    push_all(planes, point, base, axis_off(point.d), incidences)
+    let zeros = zeros_of(alloc, point.signs.as_slice())?;
+    push_all(planes, point, &zeros, base, axis_off(point.d), incidences)
 }
 
 /// The incidences of vertices towards the edges that end there.
@@ -159,7 +170,7 @@ pub(crate) fn edge_incidences(
 {
     let mut incidences = Vec::with_capacity(alloc, points.len().saturating_mul(4))?;
     for k in 0..points.len() {
-        push_edge_incidences(planes, &points[k], k, &mut incidences)?;
+        push_edge_incidences(alloc, planes, &points[k], k, &mut incidences)?;
     }
     Ok(incidences)
 }

@@ -1,54 +1,39 @@
 // The blocking graph of a cell, from its signs.
-ghost use Rattle.std.specs.Prelude.{◌≡◌, ◌<◌, ◌⊎◌, ◌↔◌, ℕ, All, IfOk, IsTrue, List};
+ghost use Rattle.std.specs.Prelude.{◌≡◌, ◌<◌, ◌≤◌, ◌⊎◌, ◌↔◌, ℕ, Any, IfOk, List, length};
 ghost use Rattle.std.specs.Int.{bit_at};
 ghost use Rattle.staat_vec.specs.declared.vector.V3.{V3 as Vector};
 ghost use Rattle.staat_model.specs.declared.assembly.Part.{Part as PartValue};
 ghost use Rattle.staat_model.specs.Cells.{signs_of};
 ghost use Rattle.staat_graph.specs.Blocking.{ShowsBlocking};
 ghost use Rattle.staat_pairs.specs.Tables.{Table, WasMadeFrom};
-ghost use Rattle.staat_cells.specs.CellGraphs.{HasArcsOf, HasSign, IsCellGraph};
+ghost use Rattle.staat_cells.specs.CellGraphs.{HasArcsOf, IsCellGraph};
+ghost use Rattle.staat_cells.specs.HalfSpaces.{AreAmong};
 
-use crate::piece_arcs::{FacetSign, PieceArc, all_arcs};
+use crate::half_spaces::{HalfSpaces, any_among};
+use crate::part_arcs::{PartArc, all_arcs};
 use staat_graph::Graph;
 use staat_model::{MOST_PARTS, PartSet};
-use staat_planes::PlaneTable;
+use staat_planes::{MOST_CELL_PLANES, PlaneTable};
 use staat_vec::{OutOfMemory, Sign};
 use std::alloc::Global;
 use std::marker::Model;
 
-/// The facets of a table by the numbers of their planes, so that signs alone tell which parts block which.
+/// The facets of a table as half-spaces of its planes, so that signs alone tell which parts block which.
 #[derive(Drop)]
 pub struct CellGraphs {
-    arcs: Vec<PieceArc>,
+    arcs: Vec<PartArc>,
 }
 
 impl Model for CellGraphs {
     ghost use Rattle.std.specs.Prelude.{All, List};
-    ghost use Rattle.staat_cells.specs.declared.piece_arcs.PieceArc.{PieceArc};
+    ghost use Rattle.staat_cells.specs.declared.part_arcs.PartArc.{PartArc};
     ghost use Rattle.staat_cells.specs.CellGraphs.{HasParts};
 
-    ghost Value = { List PieceArc };
+    ghost Value = { List PartArc };
 
     ghost view = { λ g. g.arcs.items };
 
     ghost invariant = { λ g. All HasParts g.arcs.items };
-}
-
-// whether the plane of a facet has the sign at which directions lead ahead of the facet
-fn has_sign(signs: &[Sign], f: FacetSign) -> bool
-    ensures { IsTrue result ↔ HasSign signs.now f }
-{
-    match signs.get(f.plane as usize) {
-        None => false,
-        Some(s) => *s == f.ahead,
-    }
-}
-
-// whether that is so for all the facets
-fn have_signs(signs: &[Sign], facets: &[FacetSign]) -> bool
-    ensures { IsTrue result ↔ All (HasSign signs.now) facets.now }
-{
-    facets.iter().all(|f| has_sign(signs, *f))
 }
 
 // the row with the arc to b
@@ -59,30 +44,24 @@ fn with_arc(row: u32, b: u32) -> u32
     PartSet::from_bits(row).union(PartSet::single(b)).bits()
 }
 
-// whether the row has the arc to b
-fn has_arc(row: u32, b: u32) -> bool
-    requires { b < MOST_PARTS }
-    ensures { IsTrue result ↔ (bit_at row b ≡ 1) }
-{
-    row >> b & 1 == 1
-}
-
-// The row after two pieces were looked at. What has its arc already is not looked at again.
-fn row_after(row: u32, signs: &[Sign], pieces: &PieceArc) -> u32
-    requires { pieces.now.b < MOST_PARTS }
+// the row after two parts were looked at, at the directions in the half-spaces `cell`
+fn row_after(row: u32, cell: &HalfSpaces, parts: &PartArc) -> u32
+    requires { parts.now.b < MOST_PARTS }
     ensures { (q : ℕ) → (bit_at result q ≡ 1)
-        ↔ ((bit_at row q ≡ 1) ⊎ ((q ≡ pieces.now.b) × All (HasSign signs.now) pieces.now.facets)) }
+        ↔ ((bit_at row q ≡ 1) ⊎ ((q ≡ parts.now.b) × Any (λ cone. AreAmong cone cell.now) parts.now.cones)) }
 {
-    if has_arc(row, pieces.b) || !have_signs(signs, pieces.facets.as_slice()) {
-        row
+    if any_among(parts.cones.as_slice(), cell) {
+        with_arc(row, parts.b)
     } else {
-        with_arc(row, pieces.b)
+        row
     }
 }
 
 impl CellGraphs {
-    /// Numbers the plane of each facet of the table, once for all cells.
+    /// Finds the half-spaces ahead of the pieces of a table, which has at most [`MOST_CELL_PLANES`] planes, once for
+    /// all cells. A cone that lies in another of the same two parts is left out.
     pub fn of(alloc: Global, table: &PlaneTable) -> Result<CellGraphs, OutOfMemory>
+        requires { length table.now.planes ≤ MOST_CELL_PLANES }
         ensures { IfOk result (λ graphs. HasArcsOf table.now graphs) }
     {
         let arcs = all_arcs(alloc, table)?;
@@ -96,10 +75,11 @@ impl CellGraphs {
         ensures shows { (t : Table) (parts : List PartValue) (d : Vector) → HasArcsOf t self.now
             → WasMadeFrom parts t → signs_of t.planes d ≡ signs.now → ShowsBlocking parts d t.of result.rows }
     {
+        let cell = HalfSpaces::around(signs);
         let mut rows = [0u32; 32];
-        for pieces in &self.arcs {
-            let row = rows[pieces.a as usize];
-            rows[pieces.a as usize] = row_after(row, signs, pieces);
+        for parts in &self.arcs {
+            let row = rows[parts.a as usize];
+            rows[parts.a as usize] = row_after(row, &cell, parts);
         }
         Graph { rows }
     }

@@ -22,8 +22,8 @@ fn push_both(edge: &Cell, k: usize, incidences: &mut Vec<Incidence>) -> Result<(
         ++ incidence_of (filled Pos edge.now.signs) k ∷ []) }
 {
     let base = incidence_of(edge.signs.as_slice(), k);
-    incidences.push(incidence_filled(edge.signs.as_slice(), base, Sign::Neg))?;
-    incidences.push(incidence_filled(edge.signs.as_slice(), base, Sign::Pos))?;
+    incidences.push(incidence_filled(base, Sign::Neg))?;
+    incidences.push(incidence_filled(base, Sign::Pos))?;
     Ok(())
 }
 

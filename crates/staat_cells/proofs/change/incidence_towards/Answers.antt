@@ -1,37 +1,56 @@
-use Rattle.std.proofs.Common.{◌<◌, ◌∙◌, sym, ap, length, get_or, arith}
-use Rattle.staat_vec.specs.Vectors.{dot, origin, sign}
-use Rattle.staat_model.specs.Cells.{signs_of}
-use Rattle.staat_cells.specs.Compositions.{composed}
-use Rattle.staat_cells.specs.Packing.{incidence_of}
-use Rattle.staat_cells.specs.Beside.{then_sign}
-use Rattle.staat_cells.proofs.Patching.{changed_incidence, kept_incidence, other_is, patched_end, towards_at, towards_long, zero_is, zero_incidence}
+use Rattle.std.proofs.Common.{arith, get_or}
+use Rattle.staat_vec.specs.Vectors.{origin}
+use Rattle.staat_cells.proofs.ZeroPlaces.{towards_all, towards_none, zero_changed, zero_there, zero_within}
 use Rattle.staat_cells.proofs.change.incidence_towards.Goals as goal
-use Rattle.staat_cells.proofs.change.incidence_towards.Goals.{then-is_zero, else-is_zero}
+
+pub loop-i-init : goal.loop-i-init
+loop-i-init c =
+    towards_none c.args.planes.now c.args.signs.now c.args.w c.requires.signs c.args.base c.args.base.of
+    c.args.zeros.now
+    c.requires.zeros c.requires.base
+
+pub offset_bounds-planes-j : goal.offset_bounds-planes-j
+offset_bounds-planes-j c =
+    let within = zero_within c.args.planes.now c.args.signs.now c.args.w c.requires.signs c.loop-i.incidence
+    c.args.base.of
+    c.args.zeros.now c.loop-i.i c.loop-i-test.true c.loop-i.invariant in
+    let long = c.requires.signs in
+    let few = c.requires.few in
+    omega (arith, within, long, few)
+
+pub bounds-planes-j : goal.bounds-planes-j
+bounds-planes-j c =
+    let within = zero_within c.args.planes.now c.args.signs.now c.args.w c.requires.signs c.loop-i.incidence
+    c.args.base.of
+    c.args.zeros.now c.loop-i.i c.loop-i-test.true c.loop-i.invariant in
+    let long = c.requires.signs in
+    omega (arith, within, long)
+
+pub sign_dot-requires-clause-n : goal.sign_dot-requires-clause-n
+sign_dot-requires-clause-n c =
+    let within = zero_within c.args.planes.now c.args.signs.now c.args.w c.requires.signs c.loop-i.incidence
+    c.args.base.of
+    c.args.zeros.now c.loop-i.i c.loop-i-test.true c.loop-i.invariant in
+    let long = c.requires.signs in
+    c.requires.planes (get_or c.args.zeros.now c.loop-i.i 0) origin (omega (arith, within, long))
+
+pub changed-incidence-requires-clause-place : goal.changed-incidence-requires-clause-place
+changed-incidence-requires-clause-place c =
+    zero_within c.args.planes.now c.args.signs.now c.args.w c.requires.signs c.loop-i.incidence c.args.base.of
+    c.args.zeros.now c.loop-i.i c.loop-i-test.true c.loop-i.invariant
 
 pub changed-incidence-requires-clause-zero_at : goal.changed-incidence-requires-clause-zero_at
 changed-incidence-requires-clause-zero_at c =
-    let s = c.args.signs.now in
-    let lt : c.loop-j.j < length s = omega (arith, c.requires.signs) in
-    zero_incidence c.loop-j.incidence c.loop-j.j c.args.base.of (composed s (signs_of c.args.planes.now c.args.w)) s (towards_long c.args.planes.now s c.args.w c.requires.signs) lt c.loop-j.invariant (length c.args.planes.now) _ c.requires.signs (zero_is _ (sym c.is_zero.ensures ∙ c.if-is_zero.true))
+    zero_there c.args.planes.now c.args.signs.now c.args.w c.requires.signs c.loop-i.incidence c.args.base.of
+    c.args.zeros.now c.loop-i.i c.loop-i-test.true c.loop-i.invariant
 
-pub loop-j-preserved : goal.loop-j-preserved
-loop-j-preserved c =
-    let s = c.args.signs.now in
-    let b = composed s (signs_of c.args.planes.now c.args.w) in
-    let long = towards_long c.args.planes.now s c.args.w c.requires.signs in
-    let lt : c.loop-j.j < length s = omega (arith, c.requires.signs) in
-    elim c.if-is_zero.branch [
-      | then-is_zero w ↦
-          w.incidence-is
-          ∙ (let z = zero_is _ (sym c.is_zero.ensures ∙ w.if-is_zero.true) in
-          changed_incidence c.loop-j.incidence c.loop-j.j c.args.base.of b s long lt c.loop-j.invariant (length c.args.planes.now) _ w.sign_dot.result w.changed-incidence.result c.requires.signs z
-          (towards_at c.args.planes.now s c.args.w c.requires.signs c.loop-j.j _ origin lt ∙ ap (λ x. then_sign x (sign (dot (get_or c.args.planes.now c.loop-j.j origin) c.args.w))) z ∙ sym w.sign_dot.ensures) w.changed-incidence.ensures)
-      | else-is_zero w ↦
-          w.incidence-is
-          ∙ kept_incidence c.loop-j.incidence c.loop-j.j c.args.base.of b s long lt c.loop-j.invariant _ (towards_at c.args.planes.now s c.args.w c.requires.signs c.loop-j.j _ origin lt ∙ other_is _ _ (sym c.is_zero.ensures ∙ w.if-is_zero.false))
-    ]
+pub loop-i-preserved : goal.loop-i-preserved
+loop-i-preserved c =
+    zero_changed c.args.planes.now c.args.signs.now c.args.w c.requires.signs c.loop-i.incidence c.args.base.of
+    c.args.zeros.now c.loop-i.i c.loop-i-test.true c.loop-i.invariant c.changed-incidence.result c.sign_dot.result
+    c.sign_dot.ensures c.changed-incidence.ensures
 
 pub returns : goal.returns
 returns c =
-    let s = c.args.signs.now in
-    c.loop-j.invariant ∙ ap (λ l. incidence_of l c.args.base.of) (patched_end c.loop-j.j (composed s (signs_of c.args.planes.now c.args.w)) s (towards_long c.args.planes.now s c.args.w c.requires.signs) (omega (arith, c.requires.signs, c.loop-j-test.false)))
+    towards_all c.args.planes.now c.args.signs.now c.args.w c.requires.signs c.loop-i.incidence c.args.base.of
+    c.args.zeros.now c.loop-i.i c.loop-i-test.false c.loop-i.invariant

@@ -1,10 +1,10 @@
-use Rattle.std.proofs.Common.{◌≡◌}
+use Rattle.std.proofs.Common.{drop}
 use Rattle.staat_model.specs.Cells.{signs_of}
 use Rattle.staat_cells.specs.Compositions.{composed}
-use Rattle.staat_cells.specs.Packing.{incidence_of}
-use Rattle.staat_cells.proofs.Patching.{patched}
+use Rattle.staat_cells.proofs.ZeroPlaces.{IsPatchedBefore}
 use Rattle.staat_cells.proofs.change.incidence_towards.Given as goal
 
--- the signs of the planes that were passed are changed
-abbrev pub invariant-loop-j : goal.invariant-loop-j
-invariant-loop-j l = l.incidence ≡ incidence_of (patched l.j (composed l.signs (signs_of l.planes l.w)) l.signs) l.fn.base.of
+-- the signs are changed up to some place, and the zeros from there on are left
+abbrev pub invariant-loop-i : goal.invariant-loop-i
+invariant-loop-i l =
+    IsPatchedBefore (composed l.signs (signs_of l.planes l.w)) l.signs l.incidence l.fn.base.of (drop l.i l.zeros)

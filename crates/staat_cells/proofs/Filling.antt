@@ -1,0 +1,181 @@
+-- Packed signs in which each zero gives way to one sign.
+use Rattle.std.proofs.Common.{◌≡◌, ℕ, zero, suc, ◌+◌, ◌-◌, ◌*◌, ◌/◌, ◌%◌, ◌^◌, ◌<◌}
+use Rattle.std.proofs.Common.{◌≤◌, refl, sym, ap, ◌∙◌, arith}
+use Rattle.std.proofs.Common.{List, [], ◌∷◌, length, take, drop}
+use Rattle.std.specs.Prelude.{bit_and}
+use Rattle.std.proofs.Math.Nat.{pow-le-pow_right}
+use Rattle.std.proofs.lemmas.List.{drop-map, length-map, take-map}
+use Rattle.std.proofs.lemmas.Nat.{and_mod, and_shr}
+use Rattle.staat_vec.specs.declared.vector.Sign.{Sign}
+use Rattle.staat_vec.specs.declared.vector.Sign.TheVariants.{Neg, Zero, Pos}
+use Rattle.staat_model.specs.Cells.{sign_place}
+use Rattle.staat_cells.specs.declared.incidence.Incidence.{Incidence}
+use Rattle.staat_cells.specs.Beside.{filled, then_sign}
+use Rattle.staat_cells.specs.Changes.{IsWord}
+use Rattle.staat_cells.specs.Packing.{incidence_of, packed, packed_after}
+use Rattle.staat_cells.proofs.Changing.{below}
+use Rattle.staat_cells.proofs.Words.{length_taken}
+
+-- ---- the zeros as digits
+
+digit : Sign → ℕ
+digit Neg = 0
+digit Zero = 1
+digit Pos = 0
+
+zeros_after : ℕ → List Sign → ℕ
+zeros_after b [] = b
+zeros_after b (x ∷ s) = zeros_after (b * 4 + digit x) s
+
+ones : ℕ → ℕ
+ones zero = 0
+ones (suc k) = ones k * 4 + 1
+
+filled_up : (a b : ℕ) (s : List Sign) → packed_after (a + b) (filled Pos s) ≡ packed_after a s + zeros_after b s
+unfolding zeros_after digit
+filled_up a b [] = refl
+filled_up a b (x ∷ s) =
+    ap (λ n. packed_after n (filled Pos s)) (step x) ∙ filled_up (a * 4 + sign_place x) (b * 4 + digit x) s
+  where
+    step : (x : Sign) → (a + b) * 4 + sign_place (then_sign x Pos) ≡ (a * 4 + sign_place x) + (b * 4 + digit x)
+    step Neg = omega arith
+    step Zero = omega arith
+    step Pos = omega arith
+
+filled_down : (a b : ℕ) (s : List Sign) → packed_after a (filled Neg s) + zeros_after b s ≡ packed_after
+    (a + b) s
+unfolding zeros_after digit
+filled_down a b [] = refl
+filled_down a b (x ∷ s) =
+    filled_down (a * 4 + sign_place (then_sign x Neg)) (b * 4 + digit x) s ∙ ap (λ n. packed_after n s) (step x)
+  where
+    step : (x : Sign) → (a * 4 + sign_place (then_sign x Neg)) + (b * 4 + digit x) ≡ (a + b) * 4 + sign_place x
+    step Neg = omega arith
+    step Zero = omega arith
+    step Pos = omega arith
+
+filled_same : (s : List Sign) → filled Zero s ≡ s
+filled_same [] = refl
+filled_same (Neg ∷ s) = ap (λ l. Neg ∷ l) (filled_same s)
+filled_same (Zero ∷ s) = ap (λ l. Zero ∷ l) (filled_same s)
+filled_same (Pos ∷ s) = ap (λ l. Pos ∷ l) (filled_same s)
+
+-- ---- they are the odd digits
+
+and_digit : (n m : ℕ) (x : Sign) → bit_and (n * 4 + sign_place x) (m * 4 + 1) ≡ bit_and n m * 4 + digit x
+unfolding digit
+and_digit n m x =
+    let v = bit_and (n * 4 + sign_place x) (m * 4 + 1) in
+    let high : v / 4 ≡ bit_and n m =
+    and_shr (n * 4 + sign_place x) (m * 4 + 1) 2 ∙ (λ i. bit_and (quotient x i) (above i)) in
+    let low : v % 4 ≡ digit x =
+    and_mod (n * 4 + sign_place x) (m * 4 + 1) 2 ∙ (λ i. bit_and (rest x i) (last i)) ∙ small x in
+    omega (arith, high, low)
+  where
+    quotient : (x : Sign) → (n * 4 + sign_place x) / 4 ≡ n
+    quotient Neg = omega arith
+    quotient Zero = omega arith
+    quotient Pos = omega arith
+
+    above : (m * 4 + 1) / 4 ≡ m
+    above = omega arith
+
+    rest : (x : Sign) → (n * 4 + sign_place x) % 4 ≡ sign_place x
+    rest Neg = omega arith
+    rest Zero = omega arith
+    rest Pos = omega arith
+
+    last : (m * 4 + 1) % 4 ≡ 1
+    last = omega arith
+
+    small : (x : Sign) → bit_and (sign_place x) 1 ≡ digit x
+    small Neg = refl
+    small Zero = refl
+    small Pos = refl
+
+and_ones : (a k : ℕ) (s : List Sign)
+    → bit_and (packed_after a s) (ones (k + length s)) ≡ zeros_after (bit_and a (ones k)) s
+unfolding zeros_after ones
+and_ones a k [] = ap (λ n. bit_and a (ones n)) (let e : k + 0 ≡ k = omega arith in e)
+and_ones a k (x ∷ s) =
+    ap (λ n. bit_and (packed_after (a * 4 + sign_place x) s) (ones n))
+    (let e : k + suc (length s) ≡ suc k + length s = omega arith in e)
+    ∙ and_ones (a * 4 + sign_place x) (suc k) s ∙ ap (λ n. zeros_after n s) (and_digit a (ones k) x)
+
+-- a one in each digit of a word
+abbrev pub ALL : ℕ
+ALL = 113427455640312821154458202477256070485
+
+all_ones : ones 64 ≡ ALL
+unfolding ones
+all_ones = refl
+
+zeros_are : (s : List Sign) → length s ≤ 64 → bit_and (packed s) ALL ≡ zeros_after 0 s
+zeros_are s le =
+    ap (bit_and (packed s)) (sym all_ones)
+    ∙ ap (λ n. bit_and (packed s) (ones n)) (let e : 64 ≡ (64 - length s) + length s = omega (arith, le) in e)
+    ∙ and_ones 0 (64 - length s) s
+
+pub word_neg : (s : List Sign) (word : ℕ) → packed s ≡ word → length s ≤ 64
+    → word - bit_and word ALL ≡ packed (filled Neg s)
+word_neg s word e le =
+    let z = ap (λ n. bit_and n ALL) (sym e) ∙ zeros_are s le in
+    let h = filled_down 0 0 s in
+    omega (arith, z, h, e)
+
+pub word_zero : (s : List Sign) (word : ℕ) → packed s ≡ word → word ≡ packed (filled Zero s)
+word_zero s word e = sym e ∙ ap packed (sym (filled_same s))
+
+pub word_pos : (s : List Sign) (word : ℕ) → packed s ≡ word → length s ≤ 64
+    → word + bit_and word ALL ≡ packed (filled Pos s)
+word_pos s word e le =
+    let z = ap (λ n. bit_and n ALL) (sym e) ∙ zeros_are s le in
+    let h = filled_up 0 0 s in
+    omega (arith, z, h, e)
+
+pub word_fits : (word : ℕ) → IsWord word → word + bit_and word ALL < 2 ^ 128
+word_fits word h =
+    let s = filled Pos h.signs in
+    let e = word_pos h.signs word h.is h.few in
+    let b = below 0 s in
+    let l : length s ≤ 64 = (let m = length-map h.signs (λ x. then_sign x Pos) in let f = h.few in
+    omega (arith, m, f)) in
+    let power : 4 ^ length s ≤ 4 ^ 64 = pow-le-pow_right {n = 4} (omega arith) {i = length s} {j = 64} l in
+    omega (arith, e, b, power)
+
+-- ---- four words
+
+pub word_of : (word : ℕ) (s : List Sign) → word ≡ packed (take 64 s) → IsWord word
+word_of word s e = record { signs = take 64 s; is = sym e; few = length_taken s }
+
+-- the rest of a filled list is the filled rest
+rest_filled : (t : Sign) (s : List Sign) → drop 64 (filled t s) ≡ filled t (drop 64 s)
+rest_filled t s = drop-map (λ x. then_sign x t) 64 s
+
+first_filled : (t : Sign) (s : List Sign) → packed (filled t (take 64 s)) ≡ packed (take 64 (filled t s))
+first_filled t s = ap packed (sym (take-map (λ x. then_sign x t) 64 s))
+
+-- the words of the filled signs, given that the four new words are filled
+pub filled_words : (t : Sign) (s : List Sign) (x : Incidence) (a b c d : ℕ) → x ≡ incidence_of s x.of
+    → ((l : List Sign) → packed l ≡ x.a → length l ≤ 64 → a ≡ packed (filled t l))
+    → ((l : List Sign) → packed l ≡ x.b → length l ≤ 64 → b ≡ packed (filled t l))
+    → ((l : List Sign) → packed l ≡ x.c → length l ≤ 64 → c ≡ packed (filled t l))
+    → ((l : List Sign) → packed l ≡ x.d → length l ≤ 64 → d ≡ packed (filled t l))
+    → record { a = a; b = b; c = c; d = d; of = x.of } ≡ incidence_of (filled t s) x.of
+filled_words t s x a b c d is fa fb fc fd =
+    let s1 = drop 64 s in
+    let s2 = drop 64 s1 in
+    let s3 = drop 64 s2 in
+    let r1 : filled t s1 ≡ drop 64 (filled t s) = sym (rest_filled t s) in
+    let r2 : filled t s2 ≡ drop 64 (drop 64 (filled t s)) = sym (rest_filled t s1) ∙ ap (drop 64) r1 in
+    let r3 : filled t s3 ≡ drop 64 (drop 64 (drop 64 (filled t s))) = sym (rest_filled t s2) ∙ ap (drop 64) r2 in
+    λ i. record {
+      a = (fa (take 64 s) (sym (ap (λ y. y.a) is)) (length_taken s) ∙ first_filled t s) i;
+      b = (fb (take 64 s1) (sym (ap (λ y. y.b) is)) (length_taken s1) ∙ first_filled t s1
+          ∙ ap (λ l. packed (take 64 l)) r1) i;
+      c = (fc (take 64 s2) (sym (ap (λ y. y.c) is)) (length_taken s2) ∙ first_filled t s2
+          ∙ ap (λ l. packed (take 64 l)) r2) i;
+      d = (fd (take 64 s3) (sym (ap (λ y. y.d) is)) (length_taken s3) ∙ first_filled t s3
+          ∙ ap (λ l. packed (take 64 l)) r3) i;
+      of = x.of;
+    }

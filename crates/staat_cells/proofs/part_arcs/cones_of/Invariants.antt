@@ -1,0 +1,7 @@
+use Rattle.std.proofs.Common.{[]}
+use Rattle.staat_cells.specs.CellGraphs.{AddsCones, IsPieceAhead}
+use Rattle.staat_cells.proofs.PartArcs.{Below}
+use Rattle.staat_cells.proofs.part_arcs.cones_of.Given as goal
+
+abbrev pub invariant-loop-i : goal.invariant-loop-i
+invariant-loop-i l = AddsCones l.table (Below l.table (IsPieceAhead l.table l.a l.b) l.i) [] l.cones.items

@@ -1,6 +1,0 @@
-use Rattle.staat_cells.specs.CellGraphs.{AddsArcs, ArePartsAhead}
-use Rattle.staat_cells.proofs.PieceArcs.{Below}
-use Rattle.staat_cells.proofs.piece_arcs.push_from.Given as goal
-
-abbrev pub invariant-loop-b : goal.invariant-loop-b
-invariant-loop-b l = AddsArcs l.table (Below (ArePartsAhead l.table l.a) l.b) l.initial.arcs.items l.arcs.items
