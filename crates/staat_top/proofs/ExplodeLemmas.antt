@@ -1,5 +1,5 @@
 -- The exploded view: what the steps find, and that they find one thing.
-use Rattle.std.proofs.Common.{◌≡◌, ◌∙◌, ℕ, zero, suc, ◌+◌, ◌*◌, ◌<◌, ◌≤◌, ◌++◌, Bool, true, false, List, [], ◌∷◌, map, length, All, Ok, Err, refl, ap, sym, subst, arith}
+use Rattle.std.proofs.Common.{◌≡◌, ◌∙◌, ℕ, zero, suc, ◌+◌, ◌*◌, ◌^◌, ◌<◌, ◌≤◌, ◌++◌, Bool, true, false, List, [], ◌∷◌, map, length, All, Ok, Err, refl, ap, sym, subst, arith}
 use Rattle.std.specs.List.{range_with_len}
 use Rattle.std.proofs.lemmas.List.{length-map, length-append}
 use Rattle.std.proofs.lemmas.List.FromFn.{length-range_with_len}
@@ -69,10 +69,10 @@ faces_few before (s ∷ ss) all =
     let both = length-append (map (map (λ corner. before + corner)) s.raw.faces) (faces_behind (before + length s.raw.points) ss) in
     omega (arith, here, rest, own, both)
 
-pub points_counted : (parts : ℕ) (solids : List Solid) → AreSmall parts MOST_PIECES solids → count_of_points solids < 4294967296
+pub points_counted : (parts : ℕ) (solids : List Solid) → AreSmall parts MOST_PIECES solids → count_of_points solids < 2 ^ 32
 points_counted parts solids h = (let le = points_few solids h.counted in omega (arith, le, h.few))
 
-pub faces_counted : (parts : ℕ) (solids : List Solid) → AreSmall parts MOST_PIECES solids → length (faces_behind 0 solids) < 4294967296
+pub faces_counted : (parts : ℕ) (solids : List Solid) → AreSmall parts MOST_PIECES solids → length (faces_behind 0 solids) < 2 ^ 32
 faces_counted parts solids h = (let le = faces_few 0 solids h.counted in omega (arith, le, h.few))
 
 -- ---- texts
@@ -84,7 +84,7 @@ pub viewed_refused : (solids : List Solid) (shifts : List V3) (r : TextRefusal) 
 viewed_refused solids shifts (text.TextTooLong n) h = scene_too_long h.1 (ap (λ k. Err (TextTooLong k)) h.0)
 viewed_refused solids shifts text.OutOfMemory h = tt
 
-pub ruleset viewing = (viewed_scene, viewed_refused)
+pub ruleset viewing = (viewed_scene, viewed_refused, points_counted, faces_counted)
 
 -- where no scene is asked for, the solids are free
 pub viewed_with : (a b : List Solid) (shifts : List V3) (off : Bool) (found : Found (List ℕ)) → (off ≡ true → a ≡ b) → IsViewed a shifts off found → IsViewed b shifts off found

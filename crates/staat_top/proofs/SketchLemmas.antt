@@ -1,7 +1,8 @@
 -- How sketches grow.
 use Rattle.std.proofs.Common.{◌≡◌, ◌∙◌, ℕ, zero, suc, ◌+◌, ◌<◌, ◌≤◌, ◌++◌, Bool, true, false, List, [], ◌∷◌, map, take, get_or, length, All, refl, ap, ap₂, sym, subst, arith, append_assoc, append-nil}
 use Rattle.std.specs.Prelude.{sum_by}
-use Rattle.std.proofs.lemmas.List.{length_push, map_more, length-append}
+use Rattle.std.proofs.lemmas.List.{length_push, map_more, take_more}
+use Rattle.std.proofs.lemmas.List.Sums.{sum_by_push}
 use Rattle.std.proofs.lemmas.List.Elements.{All-append, All-cons, All-nil}
 use Rattle.staat_off.specs.Raws.{IsCounted}
 use Rattle.staat_manifest.specs.declared.listing.ListedPart.{ListedPart}
@@ -50,3 +51,24 @@ solids_more files digits part (n ∷ named) (suc i) d lt =
     let next = rest ∙ ap (λ k. solids_from files digits (part + 1) (take i named) ++ solids_of_part files digits k (get_or named i d)) number in
     ap (λ (zs : List Solid). solids_of_part files digits part n ++ zs) next
     ∙ sym (append_assoc (solids_of_part files digits part n) (solids_from files digits (part + 1) (take i named)) (solids_of_part files digits (part + suc i) (get_or named i d)))
+
+-- ---- loops
+
+-- the solid of one file more
+pub pieces_more : (f : List ℕ → Solid) (names : List (List ℕ)) (i : ℕ) (name : List ℕ) (a b c : Sketch) → i < length names → name ≡ get_or names i name → Drew a b (map f (take i names)) → Drew b c (f name ∷ []) → Drew a c (map f (take (i + 1) names))
+pieces_more f names i name a b c lt at first second =
+    subst (Drew a c) (sym (map_more f names i name lt))
+    (drew_then a b c (map f (take i names)) (f (get_or names i name) ∷ []) first (subst (λ (n : List ℕ). Drew b c (f n ∷ [])) at second))
+
+pub parts_more : (files : Files) (digits : ℕ) (named : List ListedPart) (i : ℕ) (n : ListedPart) (a b c : Sketch) → i < length named → n ≡ get_or named i n → Drew a b (solids_from files digits 0 (take i named)) → Drew b c (solids_of_part files digits i n) → Drew a c (solids_from files digits 0 (take (i + 1) named))
+parts_more files digits named i n a b c lt at first second =
+    subst (Drew a c) (sym (solids_more files digits 0 named i n lt))
+    (drew_then a b c (solids_from files digits 0 (take i named)) (solids_of_part files digits i (get_or named i n)) first (subst (λ (m : ListedPart). Drew b c (solids_of_part files digits i m)) at second))
+
+abbrev piece_count : List ListedPart → ℕ
+piece_count named = sum_by (λ (n : ListedPart). length n.pieces) named
+
+pub pieces_counted : (named : List ListedPart) (i : ℕ) (n : ListedPart) → i < length named → n ≡ get_or named i n → piece_count (take (i + 1) named) ≡ piece_count (take i named) + length n.pieces
+pieces_counted named i n lt at =
+    ap piece_count (take_more named i n lt) ∙ sum_by_push (λ (n : ListedPart). length n.pieces) (take i named) (get_or named i n)
+    ∙ ap (λ (m : ListedPart). piece_count (take i named) + length m.pieces) (sym at)

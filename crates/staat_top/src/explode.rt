@@ -32,6 +32,7 @@ use staat_words::ExplodeRequest;
 use std::alloc::Global;
 
 // The vector of each part of a plan.
+#[tactic(auto, using(crate::proofs::ExplodeLemmas::shifting))]
 fn shifts_of(alloc: Global, sound: &Sound, tree: &Tree) -> Result<Shifts, Fault>
     requires good { IsGood sound.now (all_parts sound.now) (plan_of tree.now) }
     requires directions { HasDirections (plan_of tree.now) }
@@ -47,6 +48,7 @@ fn shifts_of(alloc: Global, sound: &Sound, tree: &Tree) -> Result<Shifts, Fault>
 }
 
 // The scene of the solids, each moved by its part's vector.
+#[tactic(auto, using(crate::proofs::ExplodeLemmas::viewing))]
 fn drawn(alloc: Global, solids: &Solids, shifts: &Shifts) -> Result<Bytes, Fault>
     requires small { AreSmall (length shifts.now) MOST_PIECES solids.now }
     requires near { All (IsWithin FARTHEST) shifts.now }
