@@ -1,5 +1,5 @@
 -- The exploded view: what the steps find, and that they find one thing.
-use Rattle.std.proofs.Common.{◌≡◌, ◌∙◌, ℕ, zero, suc, ◌+◌, ◌*◌, ◌^◌, ◌<◌, ◌≤◌, ◌++◌, Bool, true, false, List, [], ◌∷◌, map, length, All, Ok, Err, refl, ap, sym, subst, arith}
+use Rattle.std.proofs.Common.{◌≡◌, ◌∙◌, ℕ, zero, suc, ◌+◌, ◌*◌, ◌^◌, ◌<◌, ◌≤◌, ◌++◌, Bool, true, false, List, [], ◌∷◌, map, length, All, Ok, Err, refl, ap, sym, subst, arith, inl, inr}
 use Rattle.std.specs.List.{range_with_len}
 use Rattle.std.proofs.lemmas.List.{length-map, length-append}
 use Rattle.std.proofs.lemmas.List.FromFn.{length-range_with_len}
@@ -24,9 +24,18 @@ use Rattle.staat_explode.specs.Shifts.{shifted_of, shifts_of, vector_of_part}
 use Rattle.staat_explode.specs.Sizes.{HasDirections}
 use Rattle.staat_explode.specs.Splits.{Explodes}
 use Rattle.staat_fault.specs.declared.fault.Fault.TheVariants.{TextTooLong, TooFar}
-use Rattle.staat_top.specs.Work.{Follows, Found}
-use Rattle.staat_top.specs.Drawing.{AreSmall}
-use Rattle.staat_top.specs.Exploding.{AreShifted, IsViewed, scene, scene_too_long, shifted_far, shifted_near, vectors}
+use Rattle.staat_top.specs.Work.{Files, Follows, Found}
+use Rattle.std.specs.Prelude.{Result}
+use Rattle.staat_model.specs.Outcomes.{Finding, IsOutcome, planned, stuck}
+use Rattle.staat_manifest.specs.declared.listing.ListedPart.{ListedPart}
+use Rattle.staat_fault.specs.declared.fault.Fault.{Fault}
+use Rattle.staat_words.specs.declared.request.ExplodeRequest.{ExplodeRequest}
+use Rattle.staat_top.specs.declared.answer.Answer.{Answer}
+use Rattle.staat_top.specs.Graphing.{all_parts}
+use Rattle.staat_top.specs.Inputs.{IsListingOf}
+use Rattle.staat_top.proofs.InputLemmas.{follows_fault}
+use Rattle.staat_top.specs.Drawing.{AreSmall, solids_of}
+use Rattle.staat_top.specs.Exploding.{AreShifted, IsExploded, IsPlanViewed, IsShownOf, IsViewed, scene, scene_too_long, shifted_far, shifted_near, vectors}
 use Rattle.staat_top.specs.Refusals.{explode_fault, text_fault}
 
 -- the directions of a plan that is found are within the bound
@@ -90,3 +99,30 @@ pub ruleset viewing = (viewed_scene, viewed_refused, points_counted, faces_count
 pub viewed_with : (a b : List Solid) (shifts : List V3) (off : Bool) (found : Found (List ℕ)) → (off ≡ true → a ≡ b) → IsViewed a shifts off found → IsViewed b shifts off found
 viewed_with a b shifts false found same (vectors e) = vectors e
 viewed_with a b shifts true found same h = subst (λ (s : List Solid). IsViewed s shifts true found) (same refl) h
+
+plan_viewed_with : (parts : List Part) (a b : List Solid) (off : Bool) (plan : Plan) (found : Found (List ℕ)) → (off ≡ true → a ≡ b) → IsPlanViewed parts a off plan found → IsPlanViewed parts b off plan found
+plan_viewed_with parts a b off plan found same (inl h) = inl h
+plan_viewed_with parts a b off plan found same (inr (shifts, shifted, h)) = inr (shifts, shifted, viewed_with a b shifts off found same h)
+
+shown_with : (parts : List Part) (a b : List Solid) (off : Bool) (f : Finding) (found : Found Answer) → (off ≡ true → a ≡ b) → IsShownOf parts a off f found → IsShownOf parts b off f found
+shown_with parts a b off (stuck w) found same h = h
+shown_with parts a b off (planned plan marks) found same (inl (fault, h, e)) = inl (fault, plan_viewed_with parts a b off plan (Err fault) same h, e)
+shown_with parts a b off (planned plan marks) found same (inr (text, h, e)) = inr (text, plan_viewed_with parts a b off plan (Ok text) same h, e)
+
+-- ---- the whole
+
+pub exploded_found : (files : Files) (request : ExplodeRequest) (parts : List Part) (solids : List Solid) (named : List ListedPart) (f : Finding) (r : Result Answer Fault) → IsListingOf files request.asked.input (Ok named) → IsOutcome false parts (all_parts parts) f → (request.off ≡ true → solids ≡ solids_of files request.asked.digits named) → Follows (IsShownOf parts solids request.off f) r → Follows (IsExploded files request parts) r
+exploded_found files request parts solids named f r listed outcome same h = go r h
+  where
+    whole : (found : Found Answer) → IsShownOf parts solids request.off f found → IsExploded files request parts found
+    whole found shown = record {
+      named = named;
+      listed = listed;
+      finding = f;
+      outcome = outcome;
+      shown = shown_with parts solids (solids_of files request.asked.digits named) request.off f found same shown;
+    }
+
+    go : (r : Result Answer Fault) → Follows (IsShownOf parts solids request.off f) r → Follows (IsExploded files request parts) r
+    go (Ok a) h = whole (Ok a) h
+    go (Err e) h = follows_fault (IsShownOf parts solids request.off f) (IsExploded files request parts) e (λ g at. whole (Err g) at) h

@@ -44,7 +44,9 @@ small_none parts = record { placed = All-nil (IsSolidIn parts); counted = All-ni
 -- the solids of one part more
 pub solids_more : (files : Files) (digits part : ℕ) (named : List ListedPart) (i : ℕ) (d : ListedPart) → i < length named → solids_from files digits part (take (i + 1) named) ≡ solids_from files digits part (take i named) ++ solids_of_part files digits (part + i) (get_or named i d)
 solids_more files digits part [] i d lt = absurd (omega (arith, lt))
-solids_more files digits part (n ∷ named) zero d lt = append-nil (solids_of_part files digits part n)
+solids_more files digits part (n ∷ named) zero d lt =
+    let number : part ≡ part + 0 = omega arith in
+    append-nil (solids_of_part files digits part n) ∙ ap (λ k. solids_of_part files digits k n) number
 solids_more files digits part (n ∷ named) (suc i) d lt =
     let rest = solids_more files digits (part + 1) named i d (omega (arith, lt)) in
     let number : part + 1 + i ≡ part + suc i = omega arith in
@@ -62,7 +64,9 @@ pieces_more f names i name a b c lt at first second =
 
 pub parts_more : (files : Files) (digits : ℕ) (named : List ListedPart) (i : ℕ) (n : ListedPart) (a b c : Sketch) → i < length named → n ≡ get_or named i n → Drew a b (solids_from files digits 0 (take i named)) → Drew b c (solids_of_part files digits i n) → Drew a c (solids_from files digits 0 (take (i + 1) named))
 parts_more files digits named i n a b c lt at first second =
-    subst (Drew a c) (sym (solids_more files digits 0 named i n lt))
+    let number : 0 + i ≡ i = omega arith in
+    let more = solids_more files digits 0 named i n lt ∙ ap (λ k. solids_from files digits 0 (take i named) ++ solids_of_part files digits k (get_or named i n)) number in
+    subst (Drew a c) (sym more)
     (drew_then a b c (solids_from files digits 0 (take i named)) (solids_of_part files digits i (get_or named i n)) first (subst (λ (m : ListedPart). Drew b c (solids_of_part files digits i m)) at second))
 
 abbrev piece_count : List ListedPart → ℕ

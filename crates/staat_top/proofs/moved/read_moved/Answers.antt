@@ -1,7 +1,10 @@
+use Rattle.std.proofs.Common.{◌≡◌, List, Err}
+use Rattle.staat_vec.specs.declared.vector.V3.{V3}
 use Rattle.std.proofs.lemmas.Result.{err_from_is_err_and}
 use Rattle.staat_top.specs.Pieces.{IsPieceOf}
 use Rattle.staat_top.specs.Moved.{MovesPiece}
-use Rattle.staat_top.specs.Runs.{HasCause, over}
+use Rattle.staat_top.specs.Runs.{HasCause, IfTooLong, over}
+use Rattle.staat_top.proofs.CauseLemmas.{never_long}
 use Rattle.staat_top.proofs.InputLemmas.{failed_with, then_failed, then_given}
 use Rattle.staat_top.proofs.moved.read_moved.Goals as goal
 
@@ -21,3 +24,8 @@ pub returns-in_err-placed-clause-cause : goal.returns-in_err-placed-clause-cause
 returns-in_err-placed-clause-cause g c =
     failed_with (HasCause (over (g.H.Shelf.told c.args.shelf.now) (g.H.Shelf.told c.read_drawn.new.shelf))) c.in_err-placed.field-0.0
     c.from_residual-in_err-placed.result (c.in_err-placed.ensures.cause _) c.from_residual-in_err-placed.ensures.1
+
+pub returns-in_err-placed-clause-named : goal.returns-in_err-placed-clause-named
+returns-in_err-placed-clause-named g c =
+    failed_with (IfTooLong (λ long. long ≡ c.args.name.now)) c.in_err-placed.field-0.0 c.from_residual-in_err-placed.result
+    (never_long {X = List V3} (λ long. long ≡ c.args.name.now) (Err c.in_err-placed.field-0.0) c.in_err-placed.ensures.cause) c.from_residual-in_err-placed.ensures.1
