@@ -51,7 +51,9 @@ solids_more files digits part (n ∷ named) (suc i) d lt =
     let rest = solids_more files digits (part + 1) named i d (omega (arith, lt)) in
     let number : part + 1 + i ≡ part + suc i = omega arith in
     let next = rest ∙ ap (λ k. solids_from files digits (part + 1) (take i named) ++ solids_of_part files digits k (get_or named i d)) number in
-    ap (λ (zs : List Solid). solids_of_part files digits part n ++ zs) next
+    let turned : suc i + 1 ≡ suc (i + 1) = omega arith in
+    ap (λ k. solids_from files digits part (take k (n ∷ named))) turned
+    ∙ ap (λ (zs : List Solid). solids_of_part files digits part n ++ zs) next
     ∙ sym (append_assoc (solids_of_part files digits part n) (solids_from files digits (part + 1) (take i named)) (solids_of_part files digits (part + suc i) (get_or named i d)))
 
 -- ---- loops

@@ -2,6 +2,7 @@ use Rattle.std.proofs.Common.{◌≡◌, ◌∙◌, ◌+◌, ◌++◌, ℕ, [], 
 use Rattle.staat_top.specs.Shapes.{IsFew}
 use Rattle.std.specs.Prelude.{sum_by}
 use Rattle.staat_manifest.specs.declared.listing.ListedPart.{ListedPart}
+use Rattle.staat_model.specs.declared.assembly.Part.{Part}
 use Rattle.staat_model.specs.declared.limits.TheConstants.{MOST_PIECES}
 use Rattle.staat_explode.specs.declared.scene.Solid.{Solid}
 use Rattle.staat_top.specs.Drawing.{AreSmall, solids_of}
@@ -28,5 +29,6 @@ returns-clause-small g c = λ empty.
     let count = same_length c.as_slice.result.now c.in_ok-parts.parts c.in_ok-parts.ensures.read in
     let start = subst (AreSmall (length c.in_ok-parts.parts) 0) (sym empty) (small_none (length c.in_ok-parts.parts)) in
     let pieces = sum_by (λ (n : ListedPart). length n.pieces) c.as_slice.result.now in
-    small_more (length c.in_ok-parts.parts) (0 + pieces) MOST_PIECES c.read_parts.new.sketch.solids.items (omega (arith, few.pieces))
-    (c.in_ok-parts.ensures.small (length c.in_ok-parts.parts) 0 (omega (arith, count)) start)
+    subst (λ (parts : List Part). AreSmall (length parts) MOST_PIECES c.read_parts.new.sketch.solids.items) (sym c.seal.ensures)
+    (small_more (length c.in_ok-parts.parts) (0 + pieces) MOST_PIECES c.read_parts.new.sketch.solids.items (omega (arith, few.pieces))
+    (c.in_ok-parts.ensures.small (length c.in_ok-parts.parts) 0 (omega (arith, count)) start))
