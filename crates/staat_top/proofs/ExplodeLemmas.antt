@@ -1,5 +1,5 @@
 -- The exploded view: what the steps find, and that they find one thing.
-use Rattle.std.proofs.Common.{◌≡◌, ◌∙◌, ℕ, zero, suc, ◌+◌, ◌*◌, ◌^◌, ◌<◌, ◌≤◌, ◌++◌, Bool, true, false, List, [], ◌∷◌, map, length, All, Ok, Err, refl, ap, sym, subst, arith, inl, inr}
+use Rattle.std.proofs.Common.{◌≡◌, ◌∙◌, ℕ, ◌+◌, ◌*◌, ◌^◌, ◌<◌, ◌≤◌, Bool, true, false, List, [], ◌∷◌, map, length, All, Ok, Err, refl, ap, subst, arith, inl, inr}
 use Rattle.std.specs.List.{range_with_len}
 use Rattle.std.proofs.lemmas.List.{length-map, length-append}
 use Rattle.std.proofs.lemmas.List.FromFn.{length-range_with_len}
@@ -9,7 +9,7 @@ use Rattle.staat_vec.specs.declared.vector.TheConstants.{DIRECTION}
 use Rattle.staat_off.specs.declared.raw.TheConstants.{MOST_COUNT}
 use Rattle.staat_off.specs.Raws.{IsCounted}
 use Rattle.staat_model.specs.declared.assembly.Part.{Part}
-use Rattle.staat_model.specs.declared.limits.TheConstants.{MOST_PIECES, TEXT_LIMIT}
+use Rattle.staat_model.specs.declared.limits.TheConstants.{MOST_PIECES}
 use Rattle.staat_model.specs.declared.refusal.TextRefusal.{TextRefusal}
 use Rattle.staat_model.specs.declared.refusal.TextRefusal.TheVariants as text
 use Rattle.staat_model.specs.Plans.{Plan, leaf, split}

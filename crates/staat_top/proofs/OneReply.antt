@@ -68,7 +68,6 @@ use Rattle.staat_model.specs.Outcomes.{planned, stuck}
 use Rattle.staat_model.specs.Plans.{Plan as Tree}
 use Rattle.staat_explode.specs.declared.scene.Solid.{Solid}
 use Rattle.staat_explode.specs.Boxes.{boxes_of}
-use Rattle.staat_explode.specs.Scenes.{off_text, scene_of}
 use Rattle.staat_explode.specs.Splits.{AllNear, IsFar, IsTooFarAt, SplitAt, splits_from}
 use Rattle.staat_words.specs.declared.request.ExplodeRequest.{ExplodeRequest}
 use Rattle.staat_top.specs.Drawing.{solids_of}

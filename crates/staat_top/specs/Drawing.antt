@@ -1,6 +1,6 @@
 -- The solids that a drawing is made of: the points and faces of the files, as they were read.
-use Rattle.std.specs.Prelude.{◌≡◌, ◌+◌, ◌++◌, ◌≤◌, ℕ, List, [], ◌∷◌, map, length, All, Bool, true}
-use Rattle.std.specs.Prelude.{Option, Some, None, Result, Ok, Err}
+use Rattle.std.specs.Prelude.{◌≡◌, ◌+◌, ◌++◌, ◌≤◌, ℕ, List, [], ◌∷◌, map, length, All}
+use Rattle.std.specs.Prelude.{Bool, true, Option, Some, None, Result, Ok, Err}
 use Rattle.staat_vec.specs.declared.vector.V3.{V3}
 use Rattle.staat_off.specs.declared.raw.Raw.{Raw}
 use Rattle.staat_off.specs.declared.refusal.OffRefusal.{OffRefusal}

@@ -2,7 +2,7 @@
 ghost use Rattle.std.specs.Prelude.{◌≡◌, ◌≤◌, ◌<◌, Some, IfOk, IfErr, All, length, true};
 ghost use Rattle.staat_vec.specs.Vectors.{IsWithin};
 ghost use Rattle.staat_model.specs.declared.limits.TheConstants.{MOST_PIECES};
-ghost use Rattle.staat_model.specs.Outcomes.{IsOutcome, finding_of};
+ghost use Rattle.staat_model.specs.Outcomes.{finding_of};
 ghost use Rattle.staat_model.specs.Plans.{IsGood, plan_of};
 ghost use Rattle.staat_explode.specs.declared.grow.TheConstants.{FARTHEST};
 ghost use Rattle.staat_explode.specs.Sizes.{HasDirections};

@@ -1,6 +1,6 @@
 // The parts that an input names.
-ghost use Rattle.std.specs.Prelude.{◌≡◌, ◌≤◌, ◌<◌, ◌+◌, [], All, Contains, List, ℕ, Some, IfOk, IfErr, OnOk};
-ghost use Rattle.std.specs.Prelude.{length, map, sum_by};
+ghost use Rattle.std.specs.Prelude.{◌≡◌, ◌≤◌, ◌<◌, ◌+◌, [], All, Contains, List, ℕ, Some};
+ghost use Rattle.std.specs.Prelude.{IfOk, IfErr, OnOk, length, map, sum_by};
 ghost use Rattle.staat_off.specs.declared.raw.TheConstants.{MOST_DIGITS};
 ghost use Rattle.staat_vec.specs.Vectors.{IsWithin};
 ghost use Rattle.staat_model.specs.Pieces.{IsPiece};
@@ -186,8 +186,9 @@ fn read_parts<H: Shelf>(
     ensures read { IfOk result (AreRead listing.now) }
     ensures drawn { (files : Files) → (H.told shelf.old).holds ≡ Some files →
         OnOk result (Drew sketch.old sketch.new (solids_of files digits listing.now)) }
-    ensures small { (parts most : ℕ) → length listing.now ≤ parts → AreSmall parts most sketch.old.solids.items →
-        OnOk result (AreSmall parts (most + sum_by (λ part. length part.pieces) listing.now) sketch.new.solids.items) }
+    ensures small { (parts most : ℕ) → length listing.now ≤ parts →
+        AreSmall parts most sketch.old.solids.items → OnOk result (AreSmall parts (most +
+        sum_by (λ part. length part.pieces) listing.now) sketch.new.solids.items) }
     ensures cause { IfErr result (HasCause (over (H.told shelf.old) (H.told shelf.new))) }
     ensures named { IfErr result (IfTooLong (ListsPiece listing.now)) }
 {

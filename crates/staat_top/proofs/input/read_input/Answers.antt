@@ -1,4 +1,4 @@
-use Rattle.std.proofs.Common.{◌≡◌, ◌∙◌, ◌+◌, ◌++◌, ℕ, [], List, ap, length, sym, subst, arith}
+use Rattle.std.proofs.Common.{◌∙◌, ◌+◌, ◌++◌, List, ap, length, sym, subst, arith}
 use Rattle.staat_top.specs.Shapes.{IsFew}
 use Rattle.std.specs.Prelude.{sum_by}
 use Rattle.staat_manifest.specs.declared.listing.ListedPart.{ListedPart}
