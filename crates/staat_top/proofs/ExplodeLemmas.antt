@@ -35,7 +35,7 @@ use Rattle.staat_top.specs.Graphing.{all_parts}
 use Rattle.staat_top.specs.Inputs.{IsListingOf}
 use Rattle.staat_top.proofs.InputLemmas.{follows_fault}
 use Rattle.staat_top.specs.Drawing.{AreSmall, solids_of}
-use Rattle.staat_top.specs.Exploding.{AreShifted, IsExploded, IsPlanViewed, IsShownOf, IsViewed, scene, scene_too_long, shifted_far, shifted_near, vectors}
+use Rattle.staat_top.specs.Exploding.{AreShifted, IsExploded, IsPlanViewed, IsOutcomeViewed, IsViewed, scene, scene_too_long, shifted_far, shifted_near, vectors}
 use Rattle.staat_top.specs.Refusals.{explode_fault, text_fault}
 
 -- the directions of a plan that is found are within the bound
@@ -104,17 +104,17 @@ plan_viewed_with : (parts : List Part) (a b : List Solid) (off : Bool) (plan : P
 plan_viewed_with parts a b off plan found same (inl h) = inl h
 plan_viewed_with parts a b off plan found same (inr (shifts, shifted, h)) = inr (shifts, shifted, viewed_with a b shifts off found same h)
 
-shown_with : (parts : List Part) (a b : List Solid) (off : Bool) (f : Finding) (found : Found Answer) → (off ≡ true → a ≡ b) → IsShownOf parts a off f found → IsShownOf parts b off f found
+shown_with : (parts : List Part) (a b : List Solid) (off : Bool) (f : Finding) (found : Found Answer) → (off ≡ true → a ≡ b) → IsOutcomeViewed parts a off f found → IsOutcomeViewed parts b off f found
 shown_with parts a b off (stuck w) found same h = h
 shown_with parts a b off (planned plan marks) found same (inl (fault, h, e)) = inl (fault, plan_viewed_with parts a b off plan (Err fault) same h, e)
 shown_with parts a b off (planned plan marks) found same (inr (text, h, e)) = inr (text, plan_viewed_with parts a b off plan (Ok text) same h, e)
 
 -- ---- the whole
 
-pub exploded_found : (files : Files) (request : ExplodeRequest) (parts : List Part) (solids : List Solid) (named : List ListedPart) (f : Finding) (r : Result Answer Fault) → IsListingOf files request.asked.input (Ok named) → IsOutcome false parts (all_parts parts) f → (request.off ≡ true → solids ≡ solids_of files request.asked.digits named) → Follows (IsShownOf parts solids request.off f) r → Follows (IsExploded files request parts) r
+pub exploded_found : (files : Files) (request : ExplodeRequest) (parts : List Part) (solids : List Solid) (named : List ListedPart) (f : Finding) (r : Result Answer Fault) → IsListingOf files request.asked.input (Ok named) → IsOutcome false parts (all_parts parts) f → (request.off ≡ true → solids ≡ solids_of files request.asked.digits named) → Follows (IsOutcomeViewed parts solids request.off f) r → Follows (IsExploded files request parts) r
 exploded_found files request parts solids named f r listed outcome same h = go r h
   where
-    whole : (found : Found Answer) → IsShownOf parts solids request.off f found → IsExploded files request parts found
+    whole : (found : Found Answer) → IsOutcomeViewed parts solids request.off f found → IsExploded files request parts found
     whole found shown = record {
       named = named;
       listed = listed;
@@ -123,6 +123,6 @@ exploded_found files request parts solids named f r listed outcome same h = go r
       shown = shown_with parts solids (solids_of files request.asked.digits named) request.off f found same shown;
     }
 
-    go : (r : Result Answer Fault) → Follows (IsShownOf parts solids request.off f) r → Follows (IsExploded files request parts) r
+    go : (r : Result Answer Fault) → Follows (IsOutcomeViewed parts solids request.off f) r → Follows (IsExploded files request parts) r
     go (Ok a) h = whole (Ok a) h
-    go (Err e) h = follows_fault (IsShownOf parts solids request.off f) (IsExploded files request parts) e (λ g at. whole (Err g) at) h
+    go (Err e) h = follows_fault (IsOutcomeViewed parts solids request.off f) (IsExploded files request parts) e (λ g at. whole (Err g) at) h

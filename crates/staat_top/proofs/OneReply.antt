@@ -71,7 +71,7 @@ use Rattle.staat_explode.specs.Boxes.{boxes_of}
 use Rattle.staat_explode.specs.Splits.{AllNear, IsFar, IsTooFarAt, SplitAt, splits_from}
 use Rattle.staat_words.specs.declared.request.ExplodeRequest.{ExplodeRequest}
 use Rattle.staat_top.specs.Drawing.{solids_of}
-use Rattle.staat_top.specs.Exploding.{AreShifted, IsExploded, IsPlanViewed, IsShownOf, IsViewed, scene, scene_too_long, shifted_far, shifted_near, vectors}
+use Rattle.staat_top.specs.Exploding.{AreShifted, IsExploded, IsPlanViewed, IsOutcomeViewed, IsViewed, scene, scene_too_long, shifted_far, shifted_near, vectors}
 use Rattle.staat_top.specs.Checking.{SaysCertificate, says_whole, says_bad, says_short, IsCertificateIn, IsChecked, verdict_answer}
 use Rattle.staat_top.specs.Replies.{IsJudged, answer, free, not_shown, WorkOn, WorkOnWords, Reply, MakesReply, IsReply}
 
@@ -503,7 +503,7 @@ viewed_one files solids shifts off = record { one = λ f g a b sf sg. one off f 
     no_read true name (scene short e) = absurd cc
     no_read true name (scene_too_long many e) = absurd cc
 
-shown_one : (files : Files) (parts : List Part) (solids : List Solid) (off : Bool) (finding : Finding) → FindsOne files (IsShownOf parts solids off finding)
+shown_one : (files : Files) (parts : List Part) (solids : List Solid) (off : Bool) (finding : Finding) → FindsOne files (IsOutcomeViewed parts solids off finding)
 shown_one files parts solids off (stuck w) = known_one files _
 shown_one files parts solids off (planned plan marks) =
     then_one files (IsPlanViewed parts solids off plan) _
@@ -516,14 +516,14 @@ exploded_one files request parts = record {
   held = λ name f at lacks step settled. (shows step).held name f (shown_as (Err (ReadFault name)) at step.named step.finding step.listed step.outcome) lacks step.shown settled;
 }
   where
-    shows : {f : Found Answer} (b : IsExploded files request parts f) → FindsOne files (IsShownOf parts (solids_of files request.asked.digits b.named) request.off b.finding)
+    shows : {f : Found Answer} (b : IsExploded files request parts f) → FindsOne files (IsOutcomeViewed parts (solids_of files request.asked.digits b.named) request.off b.finding)
     shows b = shown_one files parts (solids_of files request.asked.digits b.named) request.off b.finding
 
-    shown_as : (f : Found Answer) (a : IsExploded files request parts f) (named : List ListedPart) (finding : Finding) → IsListingOf files request.asked.input (Ok named) → IsOutcome false parts (all_parts parts) finding → IsShownOf parts (solids_of files request.asked.digits named) request.off finding f
+    shown_as : (f : Found Answer) (a : IsExploded files request parts f) (named : List ListedPart) (finding : Finding) → IsListingOf files request.asked.input (Ok named) → IsOutcome false parts (all_parts parts) finding → IsOutcomeViewed parts (solids_of files request.asked.digits named) request.off finding f
     shown_as f a named finding listed outcome =
         let names : a.named ≡ named = given_one a.named named ((listing_one files request.asked.input).one (Ok a.named) (Ok named) a.listed listed tt tt) in
-        subst (λ (x : Finding). IsShownOf parts (solids_of files request.asked.digits named) request.off x f) (IsOutcome-unique false parts a.outcome outcome)
-        (subst (λ (ns : List ListedPart). IsShownOf parts (solids_of files request.asked.digits ns) request.off a.finding f) names a.shown)
+        subst (λ (x : Finding). IsOutcomeViewed parts (solids_of files request.asked.digits named) request.off x f) (IsOutcome-unique false parts a.outcome outcome)
+        (subst (λ (ns : List ListedPart). IsOutcomeViewed parts (solids_of files request.asked.digits ns) request.off a.finding f) names a.shown)
 
 -- ---- the commands
 

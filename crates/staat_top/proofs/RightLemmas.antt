@@ -64,7 +64,7 @@ use Rattle.staat_explode.proofs.Viewing as view
 use Rattle.staat_model.specs.Plans.{IsGood, Plan as Tree}
 use Rattle.staat_text.specs.PlanTexts.{plan_text}
 use Rattle.staat_top.specs.Drawing.{solids_of}
-use Rattle.staat_top.specs.Exploding.{AreShifted, IsPlanViewed, IsShownOf, IsViewed, scene, scene_too_long, shifted_far, shifted_near, vectors}
+use Rattle.staat_top.specs.Exploding.{AreShifted, IsPlanViewed, IsOutcomeViewed, IsViewed, scene, scene_too_long, shifted_far, shifted_near, vectors}
 use Rattle.staat_top.specs.Replies.{AreSoundParts, SaysApart, SaysView, plan_asked, SaysDrilled, SaysCells, SaysOutcome, SaysGoodPlan, SaysStuckSet, SaysValid, SaysNotValid, ShowsValid, valid_plan, valid_refusal, free, not_shown, WorkOnWords, IsRight, IsDenied}
 
 -- ---- pieces
@@ -258,7 +258,7 @@ plan_is_said files request parts named plan text are listed good (inr (shifts, s
 }
 
 -- what is shown with status 0 is a view of a plan
-apart_is_said : (files : Files) (request : ExplodeRequest) (parts : List Part) (named : List ListedPart) (f : Finding) (a : Answer) → AreSoundParts files request.asked parts → IsListingOf files request.asked.input (Ok named) → IsOutcome false parts (all_parts parts) f → IsShownOf parts (solids_of files request.asked.digits named) request.off f (Ok a) → a.status ≡ 0 → SaysApart files request a.text
+apart_is_said : (files : Files) (request : ExplodeRequest) (parts : List Part) (named : List ListedPart) (f : Finding) (a : Answer) → AreSoundParts files request.asked parts → IsListingOf files request.asked.input (Ok named) → IsOutcome false parts (all_parts parts) f → IsOutcomeViewed parts (solids_of files request.asked.digits named) request.off f (Ok a) → a.status ≡ 0 → SaysApart files request a.text
 apart_is_said files request parts named (stuck w) a are listed outcome e zero = absurd (omega (arith, zero, same_status _ _ e))
 apart_is_said files request parts named (planned plan marks) a are listed outcome (inl (f, at, e)) zero = absurd cc
 apart_is_said files request parts named (planned plan marks) a are listed outcome (inr (text, viewed, e)) zero =
@@ -266,7 +266,7 @@ apart_is_said files request parts named (planned plan marks) a are listed outcom
     (plan_is_said files request parts named plan text are listed (right_lemma false parts are.assembly (all_parts parts) (planned plan marks) outcome) viewed)
 
 -- with status 1 it is a set that is stuck
-stuck_is_said : (files : Files) (request : ExplodeRequest) (parts : List Part) (named : List ListedPart) (f : Finding) (a : Answer) → AreSoundParts files request.asked parts → IsOutcome false parts (all_parts parts) f → IsShownOf parts (solids_of files request.asked.digits named) request.off f (Ok a) → a.status ≡ 1 → SaysStuckSet files (plan_asked request) a.text
+stuck_is_said : (files : Files) (request : ExplodeRequest) (parts : List Part) (named : List ListedPart) (f : Finding) (a : Answer) → AreSoundParts files request.asked parts → IsOutcome false parts (all_parts parts) f → IsOutcomeViewed parts (solids_of files request.asked.digits named) request.off f (Ok a) → a.status ≡ 1 → SaysStuckSet files (plan_asked request) a.text
 stuck_is_said files request parts named (stuck w) a are outcome e one =
     subst (λ (b : Answer). SaysStuckSet files (plan_asked request) b.text) (same_answer a (outcome_answer (stuck w) (plan_text (stuck w))) e)
     (set_is_stuck files (plan_asked request) parts (stuck w) (plan_text (stuck w)) are outcome (steps refl) refl)

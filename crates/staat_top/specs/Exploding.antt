@@ -43,9 +43,9 @@ abbrev pub IsPlanViewed : List Part → List Solid → Bool → Plan → Found (
 IsPlanViewed parts solids off plan = Then (AreShifted parts plan) (λ shifts. IsViewed solids shifts off)
 
 -- What the steps find for an outcome: a set that is stuck is named, and a plan is viewed.
-abbrev pub IsShownOf : List Part → List Solid → Bool → Finding → Found Answer → Type 0
-IsShownOf parts solids off (stuck w) found = found ≡ Ok (outcome_answer (stuck w) (plan_text (stuck w)))
-IsShownOf parts solids off (planned plan marks) found =
+abbrev pub IsOutcomeViewed : List Part → List Solid → Bool → Finding → Found Answer → Type 0
+IsOutcomeViewed parts solids off (stuck w) found = found ≡ Ok (outcome_answer (stuck w) (plan_text (stuck w)))
+IsOutcomeViewed parts solids off (planned plan marks) found =
     Then (IsPlanViewed parts solids off plan)
     (λ text found. found ≡ Ok (outcome_answer (planned plan marks) text)) found
 
@@ -56,4 +56,4 @@ pub record IsExploded (files : Files) (request : ExplodeRequest) (parts : List P
   pub listed : IsListingOf files request.asked.input (Ok named)
   pub finding : Finding
   pub outcome : IsOutcome false parts (all_parts parts) finding
-  pub shown : IsShownOf parts (solids_of files request.asked.digits named) request.off finding found
+  pub shown : IsOutcomeViewed parts (solids_of files request.asked.digits named) request.off finding found

@@ -171,8 +171,8 @@ SaysView files asked false shifts text = text ≡ shifts_text shifts
 SaysView files asked true shifts text = (named : List ListedPart) × IsListingOf files asked.input (Ok named) ×
     (text ≡ off_text (scene_of (solids_of files asked.digits named) shifts))
 
--- The text shows the parts of a plan that takes all parts apart: each is moved by multiples of the directions of the
--- plan, one for each split, and so the boxes of any two parts are parted.
+-- The text shows the parts of a plan that takes all parts apart: each is moved by a sum of multiples of the directions
+-- of the plan, one for each split, and the boxes of any two parts, so moved, are parted.
 pub record SaysApart (files : Files) (request : ExplodeRequest) (text : List ℕ) : Type 0 where
   pub parts : List Part
   pub sound : AreSoundParts files request.asked parts

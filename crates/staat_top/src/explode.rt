@@ -12,7 +12,7 @@ ghost use Rattle.staat_words.specs.Requests.{IsExplodeRequest};
 ghost use Rattle.staat_words.specs.declared.request.Request.TheVariants.{Explode};
 ghost use Rattle.staat_top.specs.Work.{Files, Follows};
 ghost use Rattle.staat_top.specs.Drawing.{AreSmall};
-ghost use Rattle.staat_top.specs.Exploding.{AreShifted, IsPlanViewed, IsShownOf, IsViewed};
+ghost use Rattle.staat_top.specs.Exploding.{AreShifted, IsPlanViewed, IsOutcomeViewed, IsViewed};
 ghost use Rattle.staat_top.specs.Graphing.{all_parts};
 ghost use Rattle.staat_top.specs.Replies.{WorkOn};
 ghost use Rattle.staat_top.specs.Runs.{HasCause, ShelfSide, over};
@@ -105,7 +105,7 @@ fn shown(
     requires shown { CanBeShown (finding_of outcome.now) }
     requires certified { CanBeCertified sound.now (finding_of outcome.now) }
     ensures status { IfOk result (λ a. a.status < 2) }
-    ensures shown { Follows (IsShownOf sound.now solids.now off (finding_of outcome.now)) result }
+    ensures shown { Follows (IsOutcomeViewed sound.now solids.now off (finding_of outcome.now)) result }
     ensures cause { (shelf : ShelfSide) → IfErr result (HasCause shelf) }
 {
     match outcome {
