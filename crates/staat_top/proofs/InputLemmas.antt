@@ -102,7 +102,7 @@ failed_with P f (Err e) h fails = subst P (sym fails) h
 
 -- ---- the assembly
 
-same_length : (named : List ListedPart) (parts : List Part) → AreRead named parts → length parts ≡ length named
+pub same_length : (named : List ListedPart) (parts : List Part) → AreRead named parts → length parts ≡ length named
 same_length named parts read = sym (length-map parts (λ part. length part.pieces)) ∙ ap length read.each ∙ length-map named (λ (part : ListedPart). length part.pieces)
 
 filled : (named : List ListedPart) (parts : List Part) → map (λ part. length part.pieces) parts ≡ map (λ (part : ListedPart). length part.pieces) named → All (λ (part : ListedPart). 1 ≤ length part.pieces) named → All (λ part. All IsPiece part.pieces) parts → All IsPart parts

@@ -7,6 +7,7 @@ pub mod RunLemmas
 pub mod HeadlineLemmas
 pub mod TopLemmas
 pub mod InputLemmas
+pub mod SketchLemmas
 pub mod CauseLemmas
 pub mod KeptLemmas
 pub mod PrintedLemmas
@@ -15,5 +16,6 @@ pub mod SoundLemmas
 pub mod PlanesLemmas
 pub mod CellsLemmas
 pub mod DrillLemmas
+pub mod ExplodeLemmas
 pub mod PlanLemmas
 pub mod CertificateLemmas

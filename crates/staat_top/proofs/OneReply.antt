@@ -1,7 +1,8 @@
 -- There is one reply to a request over some files, and none where a file that is reached is not there.
-use Rattle.std.proofs.Common.{false, ◌≡◌, ◌↔◌, ℕ, ◌<◌, ◌≤◌, Bool, List, [], ◌∷◌, length, Option, Some, None, refl, ap, sym, ◌∙◌, subst, arith, inl, inr}
+use Rattle.std.proofs.Common.{true, false, ◌≡◌, ◌↔◌, ℕ, ◌<◌, ◌≤◌, Bool, List, [], ◌∷◌, length, Option, Some, None, refl, ap, sym, ◌∙◌, subst, arith, inl, inr}
 use Rattle.std.specs.Prelude.{Ok, Err}
-use Rattle.staat_vec.proofs.Unique.{IsLeast-unique}
+use Rattle.std.proofs.lemmas.List.Elements.{All-contains}
+use Rattle.staat_vec.proofs.Unique.{IsFirst-in, IsFirst-unique, IsLeast-unique}
 use Rattle.staat_model.specs.declared.assembly.Part.{Part}
 use Rattle.staat_model.specs.declared.certificate.Arc.{Arc}
 use Rattle.staat_model.specs.Assemblies.{IsSound}
@@ -22,7 +23,7 @@ use Rattle.staat_text.specs.CellTexts.{IsCellsText}
 use Rattle.staat_text.proofs.CellLines.{one_text}
 use Rattle.staat_text.proofs.SameArcs.{same_graph_text}
 use Rattle.staat_asm.specs.Overlaps.{IsFirstOverlap, IsOverlap}
-use Rattle.staat_fault.specs.declared.fault.Fault.TheVariants.{Usage, ReadFault, Overlap, TextTooLong, TooManyPlanes}
+use Rattle.staat_fault.specs.declared.fault.Fault.TheVariants.{Usage, ReadFault, Overlap, TextTooLong, TooFar, TooManyPlanes}
 use Rattle.staat_fault.specs.declared.fault.Fault.{Fault}
 use Rattle.staat_mesh.specs.declared.refusal.MeshRefusal.{MeshRefusal}
 use Rattle.staat_mesh.specs.declared.refusal.MeshRefusal.TheVariants as mesh_refusal
@@ -41,7 +42,7 @@ use Rattle.staat_words.specs.declared.request.Input.{Input}
 use Rattle.staat_words.specs.declared.request.Input.TheVariants as input
 use Rattle.staat_words.specs.declared.request.Product.{Product}
 use Rattle.staat_words.specs.declared.request.Request.{Request}
-use Rattle.staat_words.specs.declared.request.Request.TheVariants.{Pair, Look, Graph, Plan, Check, Cells, Drill}
+use Rattle.staat_words.specs.declared.request.Request.TheVariants.{Pair, Look, Graph, Plan, Check, Cells, Drill, Explode}
 use Rattle.staat_top.specs.declared.read.TheConstants.{FILE_LIMIT}
 use Rattle.staat_top.specs.declared.answer.Answer.{Answer}
 use Rattle.staat_top.specs.Work.{Files, Found, Then, Each, IsTakenWithin, to_read, too_long, taken}
@@ -63,6 +64,14 @@ use Rattle.staat_model.specs.Texts.{Reading, IsReading, whole, bad_line, too_sho
 use Rattle.staat_model.proofs.OneReading.{IsReading-unique}
 use Rattle.staat_model.proofs.OneReason.{IsVerdict-unique}
 use Rattle.staat_fault.specs.declared.fault.Fault.TheVariants.{BadLine, ShortCert}
+use Rattle.staat_model.specs.Outcomes.{planned, stuck}
+use Rattle.staat_model.specs.Plans.{Plan as Tree}
+use Rattle.staat_explode.specs.declared.scene.Solid.{Solid}
+use Rattle.staat_explode.specs.Boxes.{boxes_of}
+use Rattle.staat_explode.specs.Splits.{AllNear, IsFar, IsTooFarAt, SplitAt, splits_from}
+use Rattle.staat_words.specs.declared.request.ExplodeRequest.{ExplodeRequest}
+use Rattle.staat_top.specs.Drawing.{solids_of}
+use Rattle.staat_top.specs.Exploding.{AreShifted, IsExploded, IsPlanViewed, IsOutcomeViewed, IsViewed, scene, scene_too_long, shifted_far, shifted_near, vectors}
 use Rattle.staat_top.specs.Checking.{SaysCertificate, says_whole, says_bad, says_short, IsCertificateIn, IsChecked, verdict_answer}
 use Rattle.staat_top.specs.Replies.{IsJudged, answer, free, not_shown, WorkOn, WorkOnWords, Reply, MakesReply, IsReply}
 
@@ -458,6 +467,64 @@ drilled_one files product parts = record { one = λ f g a b sf sg. one f g a b; 
     no_read name (drilled x c v o k short j e) = absurd cc
     no_read name (drill_too_long x c o k many e) = absurd cc
 
+-- no split is too far where all are near
+not_near : (parts : List Part) (plan : Tree) (node : ℕ) → IsTooFarAt (boxes_of parts) 0 plan node → AllNear (boxes_of parts) 0 plan → ⊥
+not_near parts plan node far near =
+    let there = IsFirst-in (IsFar (boxes_of parts)) (splits_from 0 plan) far.s far.first in
+    All-contains (λ s. IsFar (boxes_of parts) s → ⊥) (splits_from 0 plan) far.s near there.0 there.1
+
+shifted_one : (files : Files) (parts : List Part) (plan : Tree) → FindsOne files (AreShifted parts plan)
+shifted_one files parts plan = record { one = λ f g a b sf sg. one f g a b; held = λ name f at lacks step settled. no_read name at }
+  where
+    one : (f g : Found (List V3)) → AreShifted parts plan f → AreShifted parts plan g → f ≡ g
+    one f g (shifted_far n is e) (shifted_far m also d) =
+        let same = IsFirst-unique (IsFar (boxes_of parts)) (splits_from 0 plan) is.s also.s is.first also.first in
+        e ∙ ap (λ k. Err (TooFar k)) (is.is ∙ ap (λ (s : SplitAt). s.node) same ∙ sym also.is) ∙ sym d
+    one f g (shifted_far n is e) (shifted_near near d) = absurd (not_near parts plan n is near)
+    one f g (shifted_near near e) (shifted_far m is d) = absurd (not_near parts plan m is near)
+    one f g (shifted_near near e) (shifted_near also d) = e ∙ sym d
+
+    no_read : (name : List ℕ) → AreShifted parts plan (Err (ReadFault name)) → ⊥
+    no_read name (shifted_far n is e) = absurd cc
+    no_read name (shifted_near near e) = absurd cc
+
+viewed_one : (files : Files) (solids : List Solid) (shifts : List V3) (off : Bool) → FindsOne files (IsViewed solids shifts off)
+viewed_one files solids shifts off = record { one = λ f g a b sf sg. one off f g a b; held = λ name f at lacks step settled. no_read off name at }
+  where
+    one : (off : Bool) (f g : Found (List ℕ)) → IsViewed solids shifts off f → IsViewed solids shifts off g → f ≡ g
+    one false f g (vectors e) (vectors d) = e ∙ sym d
+    one true f g (scene short e) (scene fits d) = e ∙ sym d
+    one true f g (scene short e) (scene_too_long many d) = absurd (omega (arith, short, many))
+    one true f g (scene_too_long many e) (scene fits d) = absurd (omega (arith, fits, many))
+    one true f g (scene_too_long many e) (scene_too_long much d) = e ∙ sym d
+
+    no_read : (off : Bool) (name : List ℕ) → IsViewed solids shifts off (Err (ReadFault name)) → ⊥
+    no_read false name (vectors e) = absurd cc
+    no_read true name (scene short e) = absurd cc
+    no_read true name (scene_too_long many e) = absurd cc
+
+shown_one : (files : Files) (parts : List Part) (solids : List Solid) (off : Bool) (finding : Finding) → FindsOne files (IsOutcomeViewed parts solids off finding)
+shown_one files parts solids off (stuck w) = known_one files _
+shown_one files parts solids off (planned plan marks) =
+    then_one files (IsPlanViewed parts solids off plan) _
+    (then_one files (AreShifted parts plan) _ (shifted_one files parts plan) (λ shifts. viewed_one files solids shifts off))
+    (λ text. known_one files _)
+
+exploded_one : (files : Files) (request : ExplodeRequest) (parts : List Part) → FindsOne files (IsExploded files request parts)
+exploded_one files request parts = record {
+  one = λ f g a b sf sg. (shows b).one f g (shown_as f a b.named b.finding b.listed b.outcome) b.shown sf sg;
+  held = λ name f at lacks step settled. (shows step).held name f (shown_as (Err (ReadFault name)) at step.named step.finding step.listed step.outcome) lacks step.shown settled;
+}
+  where
+    shows : {f : Found Answer} (b : IsExploded files request parts f) → FindsOne files (IsOutcomeViewed parts (solids_of files request.asked.digits b.named) request.off b.finding)
+    shows b = shown_one files parts (solids_of files request.asked.digits b.named) request.off b.finding
+
+    shown_as : (f : Found Answer) (a : IsExploded files request parts f) (named : List ListedPart) (finding : Finding) → IsListingOf files request.asked.input (Ok named) → IsOutcome false parts (all_parts parts) finding → IsOutcomeViewed parts (solids_of files request.asked.digits named) request.off finding f
+    shown_as f a named finding listed outcome =
+        let names : a.named ≡ named = given_one a.named named ((listing_one files request.asked.input).one (Ok a.named) (Ok named) a.listed listed tt tt) in
+        subst (λ (x : Finding). IsOutcomeViewed parts (solids_of files request.asked.digits named) request.off x f) (IsOutcome-unique false parts a.outcome outcome)
+        (subst (λ (ns : List ListedPart). IsOutcomeViewed parts (solids_of files request.asked.digits ns) request.off a.finding f) names a.shown)
+
 -- ---- the commands
 
 work_one : (request : Request) (files : Files) → FindsOne files (WorkOn request files)
@@ -475,6 +542,8 @@ work_one (Cells request) files = then_one files (IsSoundOf files request.asked) 
     (λ parts. then_one files (AreCounted parts request.planes) _ (counted_one files parts request.planes) (λ planes. tabled_one files parts))
 work_one (Drill product) files = then_one files (IsTested (parts_of_product product)) _ (tested_one files (parts_of_product product))
     (λ parts. then_one files (AreCounted parts MOST_PLANES) _ (counted_one files parts MOST_PLANES) (λ planes. drilled_one files product parts))
+work_one (Explode request) files = then_one files (IsSoundOf files request.asked) _ (sound_one files request.asked)
+    (λ parts. then_one files (AreCounted parts request.planes) _ (counted_one files parts request.planes) (λ planes. exploded_one files request parts))
 
 pub words_one : (asked : Option Request) (files : Files) → FindsOne files (WorkOnWords asked files)
 words_one None files = record { one = λ f g a b sf sg. a ∙ sym b; held = λ name f at lacks step settled. absurd (usage_reads name at) }

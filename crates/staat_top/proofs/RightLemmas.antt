@@ -1,5 +1,5 @@
 -- What statuses 0 and 1 mean.
-use Rattle.std.proofs.Common.{false, ◌≡◌, ℕ, suc, List, [], ◌∷◌, map, length, All, Option, Some, None, refl, ap, ap₂, sym, ◌∙◌, subst, arith, inl, inr}
+use Rattle.std.proofs.Common.{true, false, Bool, ◌≡◌, ℕ, suc, List, [], ◌∷◌, map, length, All, Option, Some, None, refl, ap, ap₂, sym, ◌∙◌, subst, arith, inl, inr}
 use Rattle.std.proofs.lemmas.List.Elements.{All-nil, All-cons}
 use Rattle.std.specs.Prelude.{Ok}
 use Rattle.staat_vec.specs.declared.vector.V3.{V3}
@@ -20,7 +20,7 @@ use Rattle.staat_words.specs.declared.request.Input.TheVariants as inputs
 use Rattle.staat_words.specs.declared.request.Asked.{Asked}
 use Rattle.staat_words.specs.declared.request.Product.{Product}
 use Rattle.staat_words.specs.declared.request.Request.{Request}
-use Rattle.staat_words.specs.declared.request.Request.TheVariants.{Pair, Look, Graph, Plan, Check, Cells, Drill}
+use Rattle.staat_words.specs.declared.request.Request.TheVariants.{Pair, Look, Graph, Plan, Check, Cells, Drill, Explode}
 use Rattle.staat_top.specs.declared.answer.Answer.{Answer}
 use Rattle.staat_top.specs.Work.{Files, Found, Each, to_read, too_long, taken}
 use Rattle.staat_top.specs.Inputs.{alone, SaysListing, no_listing, listing, IsListingOf, IsPartOf, IsInputOf, part_of}
@@ -50,6 +50,7 @@ use Rattle.staat_model.proofs.PlanLemmas.{plan_is_right_lemma}
 use Rattle.staat_model.proofs.RefusalLemmas.{refusal_is_right_lemma}
 use Rattle.staat_words.specs.declared.request.CellsRequest.{CellsRequest}
 use Rattle.staat_words.specs.declared.request.CheckRequest.{CheckRequest}
+use Rattle.staat_words.specs.declared.request.ExplodeRequest.{ExplodeRequest}
 use Rattle.staat_check.specs.Verdicts.{IsPlanOf, IsRefusalWithSet}
 use Rattle.staat_top.specs.Checking.{IsCertificateIn, IsChecked, verdict_answer}
 use Rattle.staat_cells.proofs.OneCell.{one_cell}
@@ -58,7 +59,13 @@ use Rattle.staat_top.specs.CellTables.{tabled, table_too_long}
 use Rattle.staat_words.specs.Requests.{IsProduct}
 use Rattle.staat_top.specs.Drills.{IsDrilled, drill_line, drill_too_long, drilled, parts_of_product}
 use Rattle.staat_top.proofs.DrillLemmas.{says_drilled}
-use Rattle.staat_top.specs.Replies.{AreSoundParts, SaysDrilled, SaysCells, SaysOutcome, SaysGoodPlan, SaysStuckSet, SaysValid, SaysNotValid, ShowsValid, valid_plan, valid_refusal, free, not_shown, WorkOnWords, IsRight, IsDenied}
+use Rattle.staat_explode.specs.Shifts.{shifts_of}
+use Rattle.staat_explode.proofs.Viewing as view
+use Rattle.staat_model.specs.Plans.{IsGood, Plan as Tree}
+use Rattle.staat_text.specs.PlanTexts.{plan_text}
+use Rattle.staat_top.specs.Drawing.{solids_of}
+use Rattle.staat_top.specs.Exploding.{AreShifted, IsPlanViewed, IsOutcomeViewed, IsViewed, scene, scene_too_long, shifted_far, shifted_near, vectors}
+use Rattle.staat_top.specs.Replies.{AreSoundParts, SaysApart, SaysView, plan_asked, SaysDrilled, SaysCells, SaysOutcome, SaysGoodPlan, SaysStuckSet, SaysValid, SaysNotValid, ShowsValid, valid_plan, valid_refusal, free, not_shown, WorkOnWords, IsRight, IsDenied}
 
 -- ---- pieces
 
@@ -227,6 +234,45 @@ drill_is_said product built a is (sound are e) (drilled f c v o k short j d) =
 cells_are_said : (files : Files) (request : CellsRequest) (parts : List Part) (text : List ℕ) → AreSoundParts files request.asked parts → IsCellsText parts (length parts) text → SaysCells files request text
 cells_are_said files request parts text are table = record { parts = parts; sound = are; table = table; one = λ d some. one_cell table.planes d table.cells table.cells_are some }
 
+-- what is written of vectors says them, or shows the files moved by them
+view_is_said : (files : Files) (asked : Asked) (named : List ListedPart) (off : Bool) (shifts : List V3) (text : List ℕ) → IsListingOf files asked.input (Ok named) → IsViewed (solids_of files asked.digits named) shifts off (Ok text) → SaysView files asked off shifts text
+view_is_said files asked named false shifts text listed (vectors e) = same_text text _ e
+view_is_said files asked named true shifts text listed (scene short e) = (named, listed, same_text text _ e)
+view_is_said files asked named true shifts text listed (scene_too_long many e) = absurd cc
+
+-- the vectors that are found are those of the plan
+shifts_found : (parts : List Part) (plan : Tree) (shifts : List V3) → AreShifted parts plan (Ok shifts) → shifts ≡ shifts_of parts plan
+shifts_found parts plan shifts (shifted_far node far e) = absurd cc
+shifts_found parts plan shifts (shifted_near near e) = given_one (shifts_of parts plan) shifts (sym e)
+
+plan_is_said : (files : Files) (request : ExplodeRequest) (parts : List Part) (named : List ListedPart) (plan : Tree) (text : List ℕ) → AreSoundParts files request.asked parts → IsListingOf files request.asked.input (Ok named) → IsGood parts (all_parts parts) plan → IsPlanViewed parts (solids_of files request.asked.digits named) request.off plan (Ok text) → SaysApart files request text
+plan_is_said files request parts named plan text are listed good (inl (f, at, e)) = absurd cc
+plan_is_said files request parts named plan text are listed good (inr (shifts, shifted, viewed)) = record {
+  parts = parts;
+  sound = are;
+  tree = plan;
+  good = good;
+  sums = view.sums parts plan good;
+  apart = view.apart parts plan good;
+  says = subst (λ (vs : List V3). SaysView files request.asked request.off vs text) (shifts_found parts plan shifts shifted) (view_is_said files request.asked named request.off shifts text listed viewed);
+}
+
+-- what is shown with status 0 is a view of a plan
+apart_is_said : (files : Files) (request : ExplodeRequest) (parts : List Part) (named : List ListedPart) (f : Finding) (a : Answer) → AreSoundParts files request.asked parts → IsListingOf files request.asked.input (Ok named) → IsOutcome false parts (all_parts parts) f → IsOutcomeViewed parts (solids_of files request.asked.digits named) request.off f (Ok a) → a.status ≡ 0 → SaysApart files request a.text
+apart_is_said files request parts named (stuck w) a are listed outcome e zero = absurd (omega (arith, zero, same_status _ _ e))
+apart_is_said files request parts named (planned plan marks) a are listed outcome (inl (f, at, e)) zero = absurd cc
+apart_is_said files request parts named (planned plan marks) a are listed outcome (inr (text, viewed, e)) zero =
+    subst (λ (b : Answer). SaysApart files request b.text) (same_answer a (outcome_answer (planned plan marks) text) e)
+    (plan_is_said files request parts named plan text are listed (right_lemma false parts are.assembly (all_parts parts) (planned plan marks) outcome) viewed)
+
+-- with status 1 it is a set that is stuck
+stuck_is_said : (files : Files) (request : ExplodeRequest) (parts : List Part) (named : List ListedPart) (f : Finding) (a : Answer) → AreSoundParts files request.asked parts → IsOutcome false parts (all_parts parts) f → IsOutcomeViewed parts (solids_of files request.asked.digits named) request.off f (Ok a) → a.status ≡ 1 → SaysStuckSet files (plan_asked request) a.text
+stuck_is_said files request parts named (stuck w) a are outcome e one =
+    subst (λ (b : Answer). SaysStuckSet files (plan_asked request) b.text) (same_answer a (outcome_answer (stuck w) (plan_text (stuck w))) e)
+    (set_is_stuck files (plan_asked request) parts (stuck w) (plan_text (stuck w)) are outcome (steps refl) refl)
+stuck_is_said files request parts named (planned plan marks) a are outcome (inl (f, at, e)) one = absurd cc
+stuck_is_said files request parts named (planned plan marks) a are outcome (inr (text, viewed, e)) one = absurd (omega (arith, one, same_status _ _ e))
+
 -- a wall that is shown keeps the pieces apart, a look or a graph gives sound parts, and a plan takes them apart
 pub status_is_right : (asked : Option Request) (files : Files) (a : Answer) → HasRequestBounds asked → WorkOnWords asked files (Ok a) → a.status ≡ 0 → IsRight asked files a.text
 status_is_right None files a bounds e zero = absurd cc
@@ -266,6 +312,10 @@ status_is_right (Some (Cells request)) files a bounds (inr (built, found, inr (p
 status_is_right (Some (Drill product)) files a bounds (inl (fault, at, e)) zero = absurd cc
 status_is_right (Some (Drill product)) files a bounds (inr (built, found, inl (fault, at, e))) zero = absurd cc
 status_is_right (Some (Drill product)) files a bounds (inr (built, found, inr (planes, counted, step))) zero = drill_is_said product built a bounds found step
+status_is_right (Some (Explode request)) files a bounds (inl (fault, at, e)) zero = absurd cc
+status_is_right (Some (Explode request)) files a bounds (inr (built, found, inl (fault, at, e))) zero = absurd cc
+status_is_right (Some (Explode request)) files a bounds (inr (built, found, inr (planes, counted, p))) zero =
+    apart_is_said files request built p.named p.finding a (sound_parts files request.asked built bounds.0 found) p.listed p.outcome p.shown zero
 
 -- a wall that is not shown is none, and a set that is named as stuck is stuck
 pub status_is_denied : (asked : Option Request) (files : Files) (a : Answer) → HasRequestBounds asked → WorkOnWords asked files (Ok a) → a.status ≡ 1 → IsDenied asked files a.text
@@ -304,3 +354,7 @@ status_is_denied (Some (Drill product)) files a bounds (inl (fault, at, e)) one 
 status_is_denied (Some (Drill product)) files a bounds (inr (built, found, inl (fault, at, e))) one = absurd cc
 status_is_denied (Some (Drill product)) files a bounds (inr (built, found, inr (planes, counted, drilled f c v o k short j e))) one = absurd (omega (arith, one, same_status _ _ e))
 status_is_denied (Some (Drill product)) files a bounds (inr (built, found, inr (planes, counted, drill_too_long f c o k long e))) one = absurd cc
+status_is_denied (Some (Explode request)) files a bounds (inl (fault, at, e)) one = absurd cc
+status_is_denied (Some (Explode request)) files a bounds (inr (built, found, inl (fault, at, e))) one = absurd cc
+status_is_denied (Some (Explode request)) files a bounds (inr (built, found, inr (planes, counted, p))) one =
+    stuck_is_said files request built p.named p.finding a (sound_parts files request.asked built bounds.0 found) p.outcome p.shown one

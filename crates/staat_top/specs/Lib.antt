@@ -3,10 +3,12 @@ pub mod Refusals
 pub mod Pieces
 pub mod Moved
 pub mod Inputs
+pub mod Drawing
 pub mod Shapes
 pub mod Assembling
 pub mod Graphing
 pub mod Planning
+pub mod Exploding
 pub mod CellTables
 pub mod Checking
 pub mod Drills

@@ -12,6 +12,8 @@ use Rattle.staat_model.specs.declared.refusal.TextRefusal.{TextRefusal}
 use Rattle.staat_model.specs.declared.refusal.TextRefusal.TheVariants as text
 use Rattle.staat_planes.specs.declared.refusal.PlanesRefusal.{PlanesRefusal}
 use Rattle.staat_planes.specs.declared.refusal.PlanesRefusal.TheVariants as planes
+use Rattle.staat_explode.specs.declared.refusal.ExplodeRefusal.{ExplodeRefusal}
+use Rattle.staat_explode.specs.declared.refusal.ExplodeRefusal.TheVariants as explode
 use Rattle.staat_cert.specs.declared.cert_refusal.CertRefusal.{CertRefusal}
 use Rattle.staat_cert.specs.declared.cert_refusal.CertRefusal.TheVariants as cert
 use Rattle.staat_manifest.specs.declared.refusal.ManifestRefusal.{ManifestRefusal}
@@ -57,6 +59,10 @@ text_fault text.OutOfMemory = fault.OutOfMemory
 abbrev pub planes_fault : PlanesRefusal → Fault
 planes_fault (planes.TooManyPlanes found) = fault.TooManyPlanes found
 planes_fault planes.OutOfMemory = fault.OutOfMemory
+
+abbrev pub explode_fault : ExplodeRefusal → Fault
+explode_fault (explode.TooFar node) = fault.TooFar node
+explode_fault explode.OutOfMemory = fault.OutOfMemory
 
 abbrev pub cert_fault : List ℕ → CertRefusal → Fault
 cert_fault name (cert.BadLine line) = fault.BadLine name line

@@ -1,5 +1,5 @@
 -- The reply to a request over some files, as the order of work finds it.
-use Rattle.std.specs.Prelude.{◌≡◌, ◌≢◌, ◌⊎◌, false, ℕ, List, length, []}
+use Rattle.std.specs.Prelude.{◌≡◌, ◌≢◌, ◌⊎◌, Bool, true, false, ℕ, List, length, []}
 use Rattle.std.specs.Prelude.{Option, Some, None, Ok, Err, codes}
 use Rattle.staat_vec.specs.declared.vector.V3.{V3}
 use Rattle.staat_vec.specs.Vectors.{origin}
@@ -24,15 +24,23 @@ use Rattle.staat_model.specs.Assemblies.{IsAssembly, IsSound}
 use Rattle.staat_words.specs.declared.request.Asked.{Asked}
 use Rattle.staat_words.specs.declared.request.CellsRequest.{CellsRequest}
 use Rattle.staat_words.specs.declared.request.CheckRequest.{CheckRequest}
+use Rattle.staat_words.specs.declared.request.ExplodeRequest.{ExplodeRequest}
 use Rattle.staat_words.specs.declared.request.PlanRequest.{PlanRequest}
 use Rattle.staat_words.specs.declared.request.Product.{Product}
 use Rattle.staat_words.specs.declared.request.Request.{Request}
-use Rattle.staat_words.specs.declared.request.Request.TheVariants.{Pair, Look, Graph, Plan, Check, Cells, Drill}
+use Rattle.staat_words.specs.declared.request.Request.TheVariants.{Pair, Look, Graph, Plan, Check, Cells}
+use Rattle.staat_words.specs.declared.request.Request.TheVariants.{Drill, Explode}
 use Rattle.staat_fault.specs.declared.fault.Fault.{Fault}
 use Rattle.staat_fault.specs.declared.fault.Fault.TheVariants.{Usage, ReadFault}
 use Rattle.staat_fault.specs.Faults.{status_of, line_of}
 use Rattle.staat_planes.specs.declared.table.TheConstants.{MOST_PLANES}
 use Rattle.staat_text.specs.Parts.{look_text}
+use Rattle.staat_explode.specs.Apart.{StandApart}
+use Rattle.staat_explode.specs.Scenes.{off_text, scene_of}
+use Rattle.staat_explode.specs.ShiftTexts.{shifts_text}
+use Rattle.staat_explode.specs.Shifts.{shifts_of}
+use Rattle.staat_explode.specs.Splits.{AreSums}
+use Rattle.staat_manifest.specs.declared.listing.ListedPart.{ListedPart}
 use Rattle.staat_check.specs.Verdicts.{IsPlanOf, IsRefusalWithSet}
 use Rattle.staat_text.specs.CellTexts.{IsCellsText}
 use Rattle.staat_text.specs.PlanTexts.{plan_text}
@@ -40,10 +48,12 @@ use Rattle.staat_text.specs.Verdicts.{verdict_text}
 use Rattle.staat_top.specs.declared.answer.Answer.{Answer}
 use Rattle.staat_top.specs.Work.{Files, Found, Then}
 use Rattle.staat_top.specs.Pieces.{IsPieceOf}
-use Rattle.staat_top.specs.Inputs.{IsInputOf}
+use Rattle.staat_top.specs.Inputs.{IsInputOf, IsListingOf}
 use Rattle.staat_top.specs.Assembling.{IsSoundOf, IsTested}
 use Rattle.staat_top.specs.Graphing.{AreCounted, IsGraphed, all_parts}
 use Rattle.staat_top.specs.Planning.{IsPlanned}
+use Rattle.staat_top.specs.Drawing.{solids_of}
+use Rattle.staat_top.specs.Exploding.{IsExploded}
 use Rattle.staat_top.specs.CellTables.{AreTabled}
 use Rattle.staat_top.specs.Checking.{IsCertificateIn, IsChecked}
 use Rattle.staat_top.specs.Drills.{IsDrilled, drill_line, parts_of_product}
@@ -81,6 +91,9 @@ WorkOn (Cells request) files found =
 WorkOn (Drill product) files found =
     Then (IsTested (parts_of_product product)) (λ parts. Then (AreCounted parts MOST_PLANES)
     (λ planes. IsDrilled product parts)) found
+WorkOn (Explode request) files found =
+    Then (IsSoundOf files request.asked) (λ parts. Then (AreCounted parts request.planes)
+    (λ planes. IsExploded files request parts)) found
 
 -- what the work on words finds, which may make no request
 abbrev pub WorkOnWords : Option Request → Files → Found Answer → Type 0
@@ -152,6 +165,27 @@ pub record SaysStuckSet (files : Files) (request : PlanRequest) (text : List ℕ
   pub is_stuck : IsStuck parts set
   pub says : SaysOutcome parts (stuck set) request.certificate text
 
+-- the text has the vectors of the parts; or, where the drawing is asked for, it is that of the scene of the files
+abbrev pub SaysView : Files → Asked → Bool → List V3 → List ℕ → Type 0
+SaysView files asked false shifts text = text ≡ shifts_text shifts
+SaysView files asked true shifts text = (named : List ListedPart) × IsListingOf files asked.input (Ok named) ×
+    (text ≡ off_text (scene_of (solids_of files asked.digits named) shifts))
+
+-- The text shows the parts of a plan that takes all parts apart: each is moved by a sum of multiples of the directions
+-- of the plan, one for each split, and the boxes of any two parts, so moved, are parted.
+pub record SaysApart (files : Files) (request : ExplodeRequest) (text : List ℕ) : Type 0 where
+  pub parts : List Part
+  pub sound : AreSoundParts files request.asked parts
+  pub tree : Tree
+  pub good : IsGood parts (all_parts parts) tree
+  pub sums : AreSums tree (shifts_of parts tree)
+  pub apart : StandApart parts (shifts_of parts tree)
+  pub says : SaysView files request.asked request.off (shifts_of parts tree) text
+
+-- the plan of which a view is asked for
+abbrev pub plan_asked : ExplodeRequest → PlanRequest
+plan_asked request = record { asked = request.asked; planes = request.planes; robust = false; certificate = None }
+
 -- What a valid certificate shows, and the line that says so: its tree takes all parts apart, or its set is stuck and
 -- no plan takes all parts apart.
 pub data ShowsValid (parts : List Part) (certificate : Certificate) (text : List ℕ) : Type 0 where
@@ -205,6 +239,7 @@ IsRight (Some (Plan request)) files text = SaysGoodPlan files request text
 IsRight (Some (Check request)) files text = SaysValid files request text
 IsRight (Some (Cells request)) files text = SaysCells files request text
 IsRight (Some (Drill product)) files text = SaysDrilled product text
+IsRight (Some (Explode request)) files text = SaysApart files request text
 
 -- What status 1 means, with the text that is printed. For a pair: the wall does not show that the pieces never meet.
 abbrev pub IsDenied : Option Request → Files → List ℕ → Type 0
@@ -213,4 +248,5 @@ IsDenied (Some (Pair request)) files text = (p : List V3) × (q : List V3) ×
     (IsShown p q request.along request.wall → ⊥)
 IsDenied (Some (Plan request)) files text = SaysStuckSet files request text
 IsDenied (Some (Check request)) files text = SaysNotValid files request text
+IsDenied (Some (Explode request)) files text = SaysStuckSet files (plan_asked request) text
 IsDenied asked files text = ⊥

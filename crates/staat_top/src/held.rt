@@ -20,6 +20,12 @@ pub const CELLS: &str =
     edge 1 0 1 0>1\nedge 1 1 0 0>1\nopen -2 -1 -1 1>0\nopen -2 -1 1 1>0\nopen -2 1 -1 1>0\nopen -2 1 1 1>0\n\
     open 1 -2 -1 0>1\nopen 1 -2 1 0>1\nopen 1 1 -2 0>1\nopen 1 1 2 0>1\n";
 
+// The scene of both cubes, the first of them lifted.
+pub const SCENE: &str =
+    "OFF\n16 12 0\n0 0 3\n2 0 3\n2 2 3\n0 2 3\n0 0 5\n2 0 5\n2 2 5\n0 2 5\n2 0 0\n4 0 0\n4 2 0\n2 2 0\n\
+    2 0 2\n4 0 2\n4 2 2\n2 2 2\n4 0 3 2 1\n4 4 5 6 7\n4 0 1 5 4\n4 1 2 6 5\n4 2 3 7 6\n4 3 0 4 7\n\
+    4 8 11 10 9\n4 12 13 14 15\n4 8 9 13 12\n4 9 10 14 13\n4 10 11 15 14\n4 11 8 12 15\n";
+
 pub fn file(alloc: Global, name: &str, text: &[u8]) -> Result<(Name, Bytes), AllocError> {
     let name = Name::from_string(String::from_str(alloc, name)?);
     Ok((name, Bytes::from_vec(text.to_vec(alloc)?)))

@@ -6,6 +6,7 @@ mod cells;
 mod certificate;
 mod check;
 mod drill;
+mod explode;
 mod graph;
 mod input;
 pub mod laws;
@@ -17,6 +18,7 @@ mod planes;
 mod print;
 mod read;
 mod refusals;
+mod sketch;
 mod sound;
 mod top;
 

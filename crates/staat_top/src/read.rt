@@ -1,8 +1,11 @@
 // The files of a request.
-ghost use Rattle.std.specs.Prelude.{◌≡◌, ◌≤◌, Some, IfErr, IfOk, List, ℕ, length};
+ghost use Rattle.std.specs.Prelude.{◌≡◌, ◌≤◌, Some, IfErr, IfOk, List, Ok, ℕ, length};
 ghost use Rattle.staat_off.specs.declared.raw.TheConstants.{MOST_DIGITS};
-ghost use Rattle.staat_edge.specs.Files.{IsWhole};
 ghost use Rattle.staat_top.specs.Work.{Files, Follows, IsNotTaken};
+ghost use Rattle.staat_off.specs.Raws.{IsCounted, IsIndexed};
+ghost use Rattle.staat_off.specs.Reading.{reading};
+ghost use Rattle.staat_edge.specs.Files.{IsWhole, bytes_of};
+ghost use Rattle.staat_top.specs.Drawing.{piece_found, raw_in};
 ghost use Rattle.staat_top.specs.Pieces.{IsPieceOf, SaysPiece};
 ghost use Rattle.staat_top.specs.Runs.{HasCause, IfTooLong, ShelfSide, over};
 
@@ -11,7 +14,7 @@ use staat_edge::{ReadRefusal, Shelf, read_whole};
 use staat_fault::Fault;
 use staat_mesh::make_piece;
 use staat_model::Piece;
-use staat_off::read_off;
+use staat_off::{Raw, read_off};
 use staat_vec::{Bytes, Name};
 use std::alloc::Global;
 
@@ -35,11 +38,21 @@ pub fn read_file<H: Shelf>(alloc: Global, shelf: &mut H, name: &Name) -> Result<
     }
 }
 
-// The piece that the bytes of a file hold.
+/// What was read in a file: its points and faces, and the piece that they bound.
+#[derive(Drop)]
+pub struct Drawn {
+    pub raw: Raw,
+    pub piece: Piece,
+}
+
+// The points and faces that the bytes of a file hold, and their piece.
 #[tactic(auto, using(crate::proofs::ReadLemmas::saying))]
-fn piece_in(alloc: Global, digits: u32, bytes: &[u8], name: &Name) -> Result<Piece, Fault>
+fn drawn_in(alloc: Global, digits: u32, bytes: &[u8], name: &Name) -> Result<Drawn, Fault>
     requires { digits ≤ MOST_DIGITS }
-    ensures says { Follows (SaysPiece digits name.now bytes.now) result }
+    ensures says { Follows (SaysPiece digits name.now bytes.now) (piece_found result) }
+    ensures raw { IfOk result (λ drawn. reading digits bytes.now ≡ Ok drawn.raw) }
+    ensures indexed { IfOk result (λ drawn. IsIndexed drawn.raw) }
+    ensures counted { IfOk result (λ drawn. IsCounted drawn.raw) }
     ensures cause { (shelf : ShelfSide) → IfErr result (HasCause shelf) }
 {
     let raw = match read_off(alloc, bytes, digits) {
@@ -47,13 +60,36 @@ fn piece_in(alloc: Global, digits: u32, bytes: &[u8], name: &Name) -> Result<Pie
         Err(refusal) => return Err(off_fault(name.copied(alloc)?, refusal)),
     };
     match make_piece(alloc, &raw) {
-        Ok(piece) => Ok(piece),
+        Ok(piece) => Ok(Drawn { raw, piece }),
         Err(refusal) => Err(mesh_fault(name.copied(alloc)?, refusal)),
     }
 }
 
-/// The piece that a file holds, with coordinates scaled by so many decimal digits.
+/// The points and faces that a file holds, with coordinates scaled by so many decimal digits, and their piece.
 #[tactic(auto, using(crate::proofs::ReadLemmas::taking))]
+pub fn read_drawn<H: Shelf>(
+    alloc: Global,
+    digits: u32,
+    shelf: &mut H,
+    name: &Name,
+) -> Result<Drawn, Fault>
+    requires { digits ≤ MOST_DIGITS }
+    ensures holds { (H.told shelf.new).holds ≡ (H.told shelf.old).holds }
+    ensures count { (H.told shelf.old).faults ≤ (H.told shelf.new).faults }
+    ensures found { (files : Files) → (H.told shelf.old).holds ≡ Some files →
+        Follows (IsPieceOf files digits name.now) (piece_found result) }
+    ensures raw { (files : Files) → (H.told shelf.old).holds ≡ Some files →
+        IfOk result (λ drawn. drawn.raw ≡ raw_in digits (bytes_of name.now files)) }
+    ensures indexed { IfOk result (λ drawn. IsIndexed drawn.raw) }
+    ensures counted { IfOk result (λ drawn. IsCounted drawn.raw) }
+    ensures cause { IfErr result (HasCause (over (H.told shelf.old) (H.told shelf.new))) }
+    ensures named { IfErr result (IfTooLong (λ long. long ≡ name.now)) }
+{
+    let bytes = read_file(alloc, shelf, name)?;
+    drawn_in(alloc, digits, bytes.as_slice(), name)
+}
+
+/// The piece that a file holds, with coordinates scaled by so many decimal digits.
 pub fn read_piece<H: Shelf>(
     alloc: Global,
     digits: u32,
@@ -68,6 +104,6 @@ pub fn read_piece<H: Shelf>(
     ensures cause { IfErr result (HasCause (over (H.told shelf.old) (H.told shelf.new))) }
     ensures named { IfErr result (IfTooLong (λ long. long ≡ name.now)) }
 {
-    let bytes = read_file(alloc, shelf, name)?;
-    piece_in(alloc, digits, bytes.as_slice(), name)
+    let drawn = read_drawn(alloc, digits, shelf, name)?;
+    Ok(drawn.piece)
 }

@@ -1,10 +1,11 @@
 // The faults that the refusals of the readers are.
 ghost use Rattle.std.specs.Prelude.{◌≡◌};
 ghost use Rattle.staat_top.specs.Refusals.{asm_fault, cert_fault, manifest_fault, mesh_fault, off_fault};
-ghost use Rattle.staat_top.specs.Refusals.{planes_fault, text_fault};
+ghost use Rattle.staat_top.specs.Refusals.{explode_fault, planes_fault, text_fault};
 
 use staat_asm::AsmRefusal;
 use staat_cert::CertRefusal;
+use staat_explode::ExplodeRefusal;
 use staat_fault::Fault;
 use staat_manifest::ManifestRefusal;
 use staat_mesh::MeshRefusal;
@@ -77,6 +78,16 @@ pub fn planes_fault(refusal: PlanesRefusal) -> Fault
     match refusal {
         PlanesRefusal::TooManyPlanes(found) => Fault::TooManyPlanes(found),
         PlanesRefusal::OutOfMemory => Fault::OutOfMemory,
+    }
+}
+
+/// The fault of a plan whose parts are moved too far.
+pub fn explode_fault(refusal: ExplodeRefusal) -> Fault
+    ensures { result ≡ explode_fault refusal }
+{
+    match refusal {
+        ExplodeRefusal::TooFar(node) => Fault::TooFar(node),
+        ExplodeRefusal::OutOfMemory => Fault::OutOfMemory,
     }
 }
 

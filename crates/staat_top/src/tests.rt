@@ -1,7 +1,7 @@
 // Worked examples of whole calls over shelves and sinks in memory.
 ghost use Rattle.std.specs.Prelude.{◌<◌};
 
-use crate::held::{BESIDE, CELLS, CLOSED, CUBE, HELD, blocks, file};
+use crate::held::{BESIDE, CELLS, CLOSED, CUBE, HELD, SCENE, blocks, file};
 use crate::staat;
 use staat_edge::{Calls, Files, MemoryShelf, MemorySink};
 use std::alloc::{AllocError, Global};
@@ -465,7 +465,7 @@ fn the_parts_of_an_input_are_listed(rt: HostRuntime) -> Result<(), Fail> {
 #[test]
 fn each_command_reads_a_file_as_often_as_it_is_named(rt: HostRuntime) -> Result<(), Fail> {
     let alloc = rt.alloc();
-    let table: [(&[&str], &[&str]); 7] = [
+    let table: [(&[&str], &[&str]); 8] = [
         (
             &["check", "c.txt", "a.off", "b.off"],
             &["a.off", "b.off", "c.txt"],
@@ -474,6 +474,10 @@ fn each_command_reads_a_file_as_often_as_it_is_named(rt: HostRuntime) -> Result<
         (&["cells", "b.off", "a.off"], &["b.off", "a.off"]),
         (&FREE, &["a.off", "b.off"]),
         (&["look", "b.off", "a.off"], &["b.off", "a.off"]),
+        (
+            &["explode", "--off", "--manifest=m.json"],
+            &["m.json", "a.off", "b.off", "b.off"],
+        ),
         (
             &["look", "--manifest=m.json"],
             &["m.json", "a.off", "b.off", "b.off"],
@@ -558,7 +562,7 @@ fn answers_for_small_products(rt: HostRuntime) -> Result<(), Fail> {
     let usage = "staat: usage\n";
     let first = "move 0 along 0 0 1 away from 1\nmoves 1\n";
     let sideways = "move 0 along 0 -1 0 away from 1\nmoves 1\n";
-    let table: [(&[&str], u8, &str, &str); 33] = [
+    let table: [(&[&str], u8, &str, &str); 38] = [
         (
             &["graph", "--along=0,1,0", "a.off", "b.off"],
             0,
@@ -609,6 +613,31 @@ fn answers_for_small_products(rt: HostRuntime) -> Result<(), Fail> {
         (&["cells", "a", "--planes=257"], 2, "", usage),
         (
             &["cells", "--manifest=dovetail.json", "--planes=4"],
+            4,
+            "",
+            "staat: too many planes (5)\n",
+        ),
+        (
+            &["explode", "a.off", "b.off"],
+            0,
+            "shift 0 by 0 0 3\nshift 1 by 0 0 0\n",
+            "",
+        ),
+        (&["explode", "a.off", "--off", "b.off"], 0, SCENE, ""),
+        (
+            &["explode", "--manifest=lidded"],
+            0,
+            "shift 0 by 0 0 4\nshift 1 by 0 0 0\nshift 2 by 0 0 5\n",
+            "",
+        ),
+        (
+            &["explode", "--off", "--manifest=closed"],
+            1,
+            "stuck 0 1\n",
+            "",
+        ),
+        (
+            &["explode", "--manifest=dovetail.json", "--planes=4"],
             4,
             "",
             "staat: too many planes (5)\n",

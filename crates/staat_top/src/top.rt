@@ -11,6 +11,7 @@ use crate::answer::Answer;
 use crate::cells::cells;
 use crate::check::check;
 use crate::drill::drill;
+use crate::explode::explode;
 use crate::graph::graph;
 use crate::look::look;
 use crate::pair::pair;
@@ -39,6 +40,7 @@ fn work<H: Shelf>(alloc: Global, request: &Request, shelf: &mut H) -> Result<Ans
         Request::Check(request) => check(alloc, request, shelf),
         Request::Cells(request) => cells(alloc, request, shelf),
         Request::Drill(product) => drill(alloc, *product),
+        Request::Explode(request) => explode(alloc, request, shelf),
     }
 }
 

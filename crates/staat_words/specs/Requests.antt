@@ -24,10 +24,12 @@ use Rattle.staat_words.specs.declared.request.GraphRequest.{GraphRequest}
 use Rattle.staat_words.specs.declared.request.PlanRequest.{PlanRequest}
 use Rattle.staat_words.specs.declared.request.CellsRequest.{CellsRequest}
 use Rattle.staat_words.specs.declared.request.CheckRequest.{CheckRequest}
+use Rattle.staat_words.specs.declared.request.ExplodeRequest.{ExplodeRequest}
 use Rattle.staat_words.specs.declared.request.Product.{Product}
 use Rattle.staat_words.specs.declared.request.Product.TheVariants.{Boxes, Cubes}
 use Rattle.staat_words.specs.declared.request.Request.{Request}
-use Rattle.staat_words.specs.declared.request.Request.TheVariants.{Pair, Look, Graph, Plan, Check, Cells, Drill}
+use Rattle.staat_words.specs.declared.request.Request.TheVariants.{Pair, Look, Graph, Plan, Check, Cells}
+use Rattle.staat_words.specs.declared.request.Request.TheVariants.{Drill, Explode}
 use Rattle.staat_words.specs.declared.request.RequestRefusal.{RequestRefusal}
 use Rattle.staat_words.specs.declared.request.RequestRefusal.TheVariants.{Usage, OutOfMemory}
 use Rattle.staat_words.specs.Spelled.{◌>>=◌, vector_within}
@@ -158,6 +160,12 @@ drill_in rows = do
   number ← first_of (codes "number") rows
   product_of kind number
 
+unfoldable pub explode_in : List Row → Option ExplodeRequest
+explode_in rows = do
+  asked ← asked_in rows
+  planes ← planes_in MOST_PLANES rows
+  Some (record { asked = asked; planes = planes; off = is_given (codes "off") rows })
+
 -- the request of a subcommand and its matches: a line for each command
 unfoldable pub request_in : Option (Text × List Row) → Option Request
 request_in None = None
@@ -168,7 +176,8 @@ request_in (Some found) =
     else (if bytes_eq found.0 (codes "plan") then option_map Plan (plan_in found.1)
     else (if bytes_eq found.0 (codes "check") then option_map Check (check_in found.1)
     else (if bytes_eq found.0 (codes "cells") then option_map Cells (cells_in found.1)
-    else (if bytes_eq found.0 (codes "drill") then option_map Drill (drill_in found.1) else None))))))
+    else (if bytes_eq found.0 (codes "drill") then option_map Drill (drill_in found.1)
+    else (if bytes_eq found.0 (codes "explode") then option_map Explode (explode_in found.1) else None)))))))
 
 -- The request of the words: none is a usage fault.
 unfoldable pub request : List Text → Option Request
@@ -210,6 +219,10 @@ abbrev pub IsProduct : Product → Type 0
 IsProduct (Cubes n) = (1 ≤ n) × (n ≤ MOST_PARTS)
 IsProduct (Boxes n) = (1 ≤ n) × (n ≤ MOST_BOXES)
 
+abbrev pub IsExplodeRequest : ExplodeRequest → Type 0
+IsExplodeRequest request =
+    IsAsked request.asked × (LEAST_PLANES ≤ request.planes) × (request.planes ≤ MOST_PLANES)
+
 -- the same of a request: a line for each command
 abbrev pub HasBounds : Request → Type 0
 HasBounds (Pair request) = IsPairRequest request
@@ -219,3 +232,4 @@ HasBounds (Plan request) = IsPlanRequest request
 HasBounds (Check request) = IsAsked request.asked
 HasBounds (Cells request) = IsCellsRequest request
 HasBounds (Drill product) = IsProduct product
+HasBounds (Explode request) = IsExplodeRequest request

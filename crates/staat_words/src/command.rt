@@ -1,7 +1,8 @@
 // The command that `clap` reads the words by: long options alone, files as plain words.
 ghost use Rattle.std.specs.Prelude.{◌≡◌, IfOk, true, false};
 ghost use Rattle.clap.specs.Words.{app_of, rule_of, new_rule, with_rule, with_subcommand};
-ghost use Rattle.staat_words.specs.Command.{bare_app, cells_app, check_app, command, drill_app, flag_rule, graph_app};
+ghost use Rattle.staat_words.specs.Command.{bare_app, cells_app, check_app, command, drill_app, explode_app};
+ghost use Rattle.staat_words.specs.Command.{explode_options_app, flag_rule, graph_app};
 ghost use Rattle.staat_words.specs.Command.{list_rule, look_app, option_rule, pair_app, pair_options_app, plan_app};
 ghost use Rattle.staat_words.specs.Command.{plan_options_app, required, is_local};
 
@@ -146,6 +147,25 @@ fn drill_command<'a>(alloc: Global) -> Result<Command<'a>, AllocError>
     with_arg(drill, required_word(alloc, "number"))
 }
 
+fn explode_options<'a>(alloc: Global) -> Result<Command<'a>, AllocError>
+    ensures app { IfOk result (λ c. app_of c ≡ explode_options_app) }
+    ensures local { IfOk result (λ c. is_local c ≡ true) }
+{
+    let explode = Command::new(alloc, "explode");
+    let explode = with_arg(explode, option(alloc, "digits"))?;
+    let explode = with_arg(explode, option(alloc, "manifest"))?;
+    with_arg(explode, option(alloc, "planes"))
+}
+
+fn explode_command<'a>(alloc: Global) -> Result<Command<'a>, AllocError>
+    ensures app { IfOk result (λ c. app_of c ≡ explode_app) }
+    ensures local { IfOk result (λ c. is_local c ≡ true) }
+{
+    let explode = explode_options(alloc)?;
+    let explode = with_arg(explode, flag(alloc, "off"))?;
+    with_arg(explode, list_of_words(alloc, "files"))
+}
+
 fn with_command<'a>(command: Command<'a>, inner: Command<'a>) -> Result<Command<'a>, AllocError>
     requires { is_local inner ≡ true }
     ensures { IfOk result (λ r. app_of r ≡ with_subcommand (app_of command.entry) (app_of inner.entry).top) }
@@ -174,5 +194,6 @@ pub fn staat_command<'a>(alloc: Global) -> Result<Command<'a>, AllocError>
     let staat = with_command(staat, plan_command(alloc)?)?;
     let staat = with_command(staat, check_command(alloc)?)?;
     let staat = with_command(staat, cells_command(alloc)?)?;
-    with_command(staat, drill_command(alloc)?)
+    let staat = with_command(staat, drill_command(alloc)?)?;
+    with_command(staat, explode_command(alloc)?)
 }

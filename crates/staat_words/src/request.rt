@@ -61,6 +61,16 @@ pub struct CellsRequest {
     pub planes: u32,
 }
 
+/// How far each part moves, so that all parts stand apart for a drawing.
+#[derive(Drop)]
+pub struct ExplodeRequest {
+    pub asked: Asked,
+    /// How many planes all parts may have, 3 to `MOST_PLANES`.
+    pub planes: u32,
+    /// Whether the drawing itself is asked for, as an OFF file.
+    pub off: bool,
+}
+
 /// Whether a certificate is valid for the parts.
 #[derive(Drop)]
 pub struct CheckRequest {
@@ -90,6 +100,7 @@ pub enum Request {
     Cells(CellsRequest),
     /// The program tried on a product of its own.
     Drill(Product),
+    Explode(ExplodeRequest),
 }
 
 /// Why words give no request.

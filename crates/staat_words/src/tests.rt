@@ -15,7 +15,7 @@ fn asked(alloc: Global, words: &[&str]) -> Result<Result<Request, RequestRefusal
 #[test]
 fn words_are_taken_or_a_usage_fault(rt: HostRuntime) -> Result<(), Fail> {
     let alloc = rt.alloc();
-    let table: [(&[&str], bool); 78] = [
+    let table: [(&[&str], bool); 83] = [
         (&["pair", "a", "b", "--along=0,0,1", "--wall=1,0,0"], true),
         (&["pair", "--wall=1,0,0", "a", "b", "--along=0,0,1"], true),
         (
@@ -149,6 +149,11 @@ fn words_are_taken_or_a_usage_fault(rt: HostRuntime) -> Result<(), Fail> {
         (&["drill", "box", "01"], false),
         (&["drill", "cube", "1"], false),
         (&["drill", "row"], false),
+        (&["explode", "a", "--planes=1024", "--off"], true),
+        (&["explode", "--manifest=m", "--planes=3"], true),
+        (&["explode", "a", "--planes=1025"], false),
+        (&["explode", "a", "--off=true"], false),
+        (&["explode", "a", "--robust"], false),
         (&["help"], false),
         (&[], false),
     ];
@@ -228,6 +233,12 @@ fn shown(alloc: Global, request: &Request) -> Result<String, AllocError> {
         }
         Request::Drill(Product::Cubes(n)) => format!(in alloc; "{n} cubes"),
         Request::Drill(Product::Boxes(n)) => format!(in alloc; "{n} boxes"),
+        Request::Explode(request) => {
+            let planes = request.planes;
+            let drawn = if request.off { ", as a drawing" } else { "" };
+            let asked = source(alloc, &request.asked)?;
+            format!(in alloc; "{asked}, {planes} planes{drawn}")
+        }
         Request::Cells(request) => {
             let planes = request.planes;
             let asked = source(alloc, &request.asked)?;
@@ -239,7 +250,7 @@ fn shown(alloc: Global, request: &Request) -> Result<String, AllocError> {
 #[test]
 fn a_request_has_the_values_of_its_words(rt: HostRuntime) -> Result<(), Fail> {
     let alloc = rt.alloc();
-    let table: [(&[&str], &str); 16] = [
+    let table: [(&[&str], &str); 18] = [
         (&["check", "c", "--digits=3", "a", "b"], "3: 2 files by c"),
         (
             &[
@@ -277,6 +288,11 @@ fn a_request_has_the_values_of_its_words(rt: HostRuntime) -> Result<(), Fail> {
             &["plan", "--planes=7", "a", "--robust"],
             "0: 1 files, 7 planes, robust",
         ),
+        (
+            &["explode", "--off", "a", "b"],
+            "0: 2 files, 1024 planes, as a drawing",
+        ),
+        (&["explode", "--planes=7", "a"], "0: 1 files, 7 planes"),
         (&["drill", "row", "3"], "3 cubes"),
         (&["drill", "box", "4"], "4 boxes"),
         (

@@ -2,9 +2,10 @@
 ghost use Rattle.std.specs.Prelude.{◌≡◌, map, string_bytes, IfOk, IsErrOf, true, false};
 ghost use Rattle.clap.specs.Words.{found_of, rows_of, subcommand_rows_of};
 ghost use Rattle.staat_words.specs.Command.{is_taken, matches as matches_at};
-ghost use Rattle.staat_words.specs.Requests.{ReadsWords, HasBounds, IsAsked, IsCellsRequest, IsGraphRequest};
-ghost use Rattle.staat_words.specs.Requests.{IsPairRequest, IsPlanRequest, IsProduct, asked_in, cells_in, check_in};
-ghost use Rattle.staat_words.specs.Requests.{drill_in, graph_in, pair_in, plan_in, request, request_in};
+ghost use Rattle.staat_words.specs.Requests.{ReadsWords, HasBounds, IsAsked, IsCellsRequest, IsExplodeRequest};
+ghost use Rattle.staat_words.specs.Requests.{IsGraphRequest, IsPairRequest, IsPlanRequest, IsProduct, asked_in};
+ghost use Rattle.staat_words.specs.Requests.{cells_in, check_in, drill_in, explode_in, graph_in, pair_in, plan_in};
+ghost use Rattle.staat_words.specs.Requests.{request, request_in};
 
 use crate::arguments::{
     certificate_of, digits_of, input_of, is_given, limit_of, name_of, planes_of, product_of,
@@ -12,8 +13,8 @@ use crate::arguments::{
 };
 use crate::command::staat_command;
 use crate::request::{
-    Asked, CellsRequest, CheckRequest, GraphRequest, PairRequest, PlanRequest, Product, Request,
-    RequestRefusal,
+    Asked, CellsRequest, CheckRequest, ExplodeRequest, GraphRequest, PairRequest, PlanRequest,
+    Product, Request, RequestRefusal,
 };
 use clap::ArgMatches;
 use clap::error::ErrorKind;
@@ -108,6 +109,17 @@ fn drill_of(matches: &ArgMatches<'_>) -> Result<Product, RequestRefusal>
     product_of(kind, number).ok_or(RequestRefusal::Usage)
 }
 
+#[tactic(auto, unfolding(crate::specs::Requests::explode_in))]
+fn explode_of(alloc: Global, matches: &ArgMatches<'_>) -> Result<ExplodeRequest, RequestRefusal>
+    ensures answers { ReadsWords (explode_in (rows_of (found_of matches.now))) result }
+    ensures bounds { IfOk result IsExplodeRequest }
+{
+    let asked = asked_of(alloc, matches)?;
+    let planes = planes_of(matches, MOST_PLANES).ok_or(RequestRefusal::Usage)?;
+    let off = is_given(matches, "off");
+    Ok(ExplodeRequest { asked, planes, off })
+}
+
 // The matches of words that `clap` takes.
 fn matches_of<'a>(alloc: Global, words: &'a [String]) -> Result<ArgMatches<'a>, RequestRefusal>
     ensures taken { IfOk result (λ m. is_taken (map string_bytes words.entry.now) ≡ true) }
@@ -146,6 +158,8 @@ fn request_from(alloc: Global, matches: &ArgMatches<'_>) -> Result<Request, Requ
                 Ok(Request::Cells(cells_of(alloc, inner)?))
             } else if name == "drill" {
                 Ok(Request::Drill(drill_of(inner)?))
+            } else if name == "explode" {
+                Ok(Request::Explode(explode_of(alloc, inner)?))
             } else {
                 Err(RequestRefusal::Usage)
             }

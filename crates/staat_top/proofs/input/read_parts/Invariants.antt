@@ -1,5 +1,7 @@
-use Rattle.std.proofs.Common.{◌≡◌, ◌≤◌, Some, take}
+use Rattle.std.proofs.Common.{◌≡◌, ◌≤◌, ◌+◌, ℕ, Some, take, length}
+use Rattle.std.specs.Prelude.{sum_by}
 use Rattle.staat_top.specs.Work.{Files}
+use Rattle.staat_top.specs.Drawing.{AreSmall, Drew, solids_of}
 use Rattle.staat_top.specs.Inputs.{IsPartOf}
 use Rattle.staat_top.specs.Shapes.{AreRead}
 use Rattle.staat_top.proofs.InputLemmas.{Continues}
@@ -11,4 +13,7 @@ invariant-loop-named g l = record {
   count : (g.H.Shelf.told l.fn.shelf).faults ≤ (g.H.Shelf.told l.shelf).faults;
   found : (files : Files) → (g.H.Shelf.told l.fn.shelf).holds ≡ Some files → Continues (IsPartOf files l.digits) l.listing l.named-index l.parts.items;
   read : AreRead (take l.named-index l.listing) l.parts.items;
+  number : l.number ≡ l.named-index;
+  drawn : (files : Files) → (g.H.Shelf.told l.fn.shelf).holds ≡ Some files → Drew l.fn.sketch l.sketch (solids_of files l.digits (take l.named-index l.listing));
+  small : (parts most : ℕ) → length l.listing ≤ parts → AreSmall parts most l.fn.sketch.solids.items → AreSmall parts (most + sum_by (λ part. length part.pieces) (take l.named-index l.listing)) l.sketch.solids.items;
 }

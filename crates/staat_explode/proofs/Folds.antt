@@ -1,0 +1,214 @@
+-- The least and the greatest of numbers, found from the first on.
+use Rattle.std.proofs.Common.{◌≡◌, ℕ, ◌+◌, ◌<◌, ◌≤◌, ◌+ℤ◌, ◌-ℤ◌, pos, subst}
+use Rattle.std.proofs.Common.{append-nil, Option, Some, None, FitsSigned, to_z, of_z, List, [], ◌∷◌, ◌++◌}
+use Rattle.std.proofs.Common.{map, length, get_or, take, ap, sym, refl, ◌∙◌, arith, ℤ, Bool, true, false, cond}
+use Rattle.std.proofs.Common.{flat_map}
+use Rattle.std.specs.Int.{int_max, int_min}
+use Rattle.std.specs.List.{fold}
+use Rattle.std.specs.Prelude.{int_lt, All, if◌then◌else◌, slice_get, option_map, option_and_then, unwrap_or}
+use Rattle.std.proofs.lemmas.List.{take_more, take_all, map-append}
+use Rattle.std.proofs.lemmas.Option.{slice_get_within, get_or_from_slice_get}
+use Rattle.staat_model.proofs.Places.{some_at}
+use Rattle.staat_model.specs.declared.assembly.Part.{Part}
+use Rattle.staat_model.specs.Assemblies.{IsAssembly, IsPart, piece_at, piece_count}
+use Rattle.std.specs.Int.{w128}
+use Rattle.std.proofs.lemmas.Int.{to_z-of_z, clamps, ints}
+use Rattle.std.proofs.lemmas.Grind.{flat_map-append}
+use Rattle.std.proofs.lemmas.List.Sums.{fold-append}
+use Rattle.staat_vec.specs.declared.vector.V3.{V3}
+use Rattle.staat_vec.specs.declared.vector.TheConstants.{POINT}
+use Rattle.staat_vec.specs.Vectors.{vector, IsWithin}
+use Rattle.staat_explode.specs.Sizes.{AreBounds}
+use Rattle.std.proofs.lemmas.List.Elements.{All-head, All-tail}
+use Rattle.staat_explode.specs.declared.axis.Axis.{Axis}
+use Rattle.staat_explode.specs.declared.axis.Axis.TheVariants.{X, Y, Z}
+use Rattle.staat_explode.specs.declared.boxes.Bounds.{Bounds}
+use Rattle.staat_explode.specs.declared.shifted.Shifted.{Shifted}
+use Rattle.staat_explode.specs.Boxes.{around, box_of, component, covering, pieces_of_part, points_at, points_of}
+use Rattle.staat_explode.specs.Shifts.{gap_along, high_along, highest, low_along, lowest}
+
+same_either : {A : Type 0} (b : Bool) (x : A) → cond b x x ≡ x
+same_either true x = refl
+same_either false x = refl
+
+fold_map : {A B C : Type 0} (f : C → B → C) (g : A → B) (a : C) (xs : List A) → fold (λ c x. f c (g x)) a xs
+    ≡ fold f a (map g xs)
+fold_map f g a [] = refl
+fold_map f g a (x ∷ xs) = fold_map f g (f a (g x)) xs
+
+abbrev pub lower : List Bounds → Axis → ℤ → Shifted → ℤ
+lower boxes axis z p = int_min z (low_along boxes axis p)
+
+abbrev pub higher : List Bounds → Axis → ℤ → Shifted → ℤ
+higher boxes axis z p = int_max z (high_along boxes axis p)
+
+pub lowest_is : (boxes : List Bounds) (axis : Axis) (ps : List Shifted) (d : Shifted) → 1 ≤ length ps
+    → fold (lower boxes axis) (low_along boxes axis (get_or ps 0 d)) ps ≡ lowest boxes axis ps
+unfolding lowest
+lowest_is boxes axis [] d h = absurd (omega arith)
+lowest_is boxes axis (p ∷ ps) d h =
+    let z = low_along boxes axis p in
+    ap (λ a. fold (lower boxes axis) a ps) (same_either (int_lt z z) z) ∙ fold_map int_min (low_along boxes axis) z ps
+
+pub highest_is : (boxes : List Bounds) (axis : Axis) (ps : List Shifted) (d : Shifted) → 1 ≤ length ps
+    → fold (higher boxes axis) (high_along boxes axis (get_or ps 0 d)) ps ≡ highest boxes axis ps
+unfolding highest
+highest_is boxes axis [] d h = absurd (omega arith)
+highest_is boxes axis (p ∷ ps) d h =
+    let z = high_along boxes axis p in
+    ap (λ a. fold (higher boxes axis) a ps) (same_either (int_lt z z) z) ∙ fold_map int_max (high_along boxes axis) z ps
+
+-- the box that covers a box and points, by its numbers
+covered : (b : Bounds) (ps : List V3) → fold covering b ps ≡ record {
+  low = vector (fold int_min b.low.x (map (component X) ps)) (fold int_min b.low.y (map (component Y) ps)) (fold int_min b.low.z (map (component Z) ps));
+  high = vector (fold int_max b.high.x (map (component X) ps)) (fold int_max b.high.y (map (component Y) ps)) (fold int_max b.high.z (map (component Z) ps));
+}
+covered b [] = refl
+covered b (p ∷ ps) = covered (covering b p) ps
+
+pub box_is : (ps : List V3) (d : V3) → 1 ≤ length ps → fold covering (around (get_or ps 0 d)) ps ≡ box_of ps
+unfolding box_of
+box_is [] d h = absurd (omega arith)
+box_is (p ∷ ps) d h = ap (λ b. fold covering b ps) once ∙ covered (around p) ps
+  where
+    once : covering (around p) p ≡ around p
+    once = λ i. record {
+      low = vector (same_either (int_lt p.x p.x) p.x i) (same_either (int_lt p.y p.y) p.y i) (same_either (int_lt p.z p.z) p.z i);
+      high = vector (same_either (int_lt p.x p.x) p.x i) (same_either (int_lt p.y p.y) p.y i) (same_either (int_lt p.z p.z) p.z i);
+    }
+
+pub gap_down : (boxes : List Bounds) (axis : Axis) (step h l : ℤ) (moved rest : List Shifted) → int_lt (pos 0) step
+    ≡ false → h ≡ highest boxes axis moved → l ≡ lowest boxes axis rest → (h +ℤ pos 1) -ℤ l
+    ≡ gap_along boxes axis step moved rest
+gap_down boxes axis step h l moved rest e p q =
+    (λ i. (p i +ℤ pos 1) -ℤ q i) ∙ ap (λ b. if b then (highest boxes axis rest +ℤ pos 1) -ℤ lowest boxes axis moved else (highest boxes axis moved +ℤ pos 1) -ℤ lowest boxes axis rest) (sym e)
+
+pub min_read : (x y r : ℤ) → FitsSigned w128 x → FitsSigned w128 y → FitsSigned w128 r → r
+    ≡ int_min (to_z w128 (of_z w128 x)) (to_z w128 (of_z w128 y)) → to_z w128 (of_z w128 r) ≡ int_min x y
+min_read x y r f g small e =
+    to_z-of_z w128 r small ∙ e ∙ (λ i. int_min (to_z-of_z w128 x f i) (to_z-of_z w128 y g i))
+
+pub max_read : (x y r : ℤ) → FitsSigned w128 x → FitsSigned w128 y → FitsSigned w128 r → r
+    ≡ int_max (to_z w128 (of_z w128 x)) (to_z w128 (of_z w128 y)) → to_z w128 (of_z w128 r) ≡ int_max x y
+max_read x y r f g small e =
+    to_z-of_z w128 r small ∙ e ∙ (λ i. int_max (to_z-of_z w128 x f i) (to_z-of_z w128 y g i))
+
+-- ---- pieces
+
+fold_pieces : (b : Bounds) (pieces : List (List V3)) (piece : List V3)
+    → fold covering b (flat_map (λ p. p) (pieces ++ piece ∷ []))
+    ≡ fold covering (fold covering b (flat_map (λ p. p) pieces)) piece
+fold_pieces b pieces piece =
+    ap (fold covering b) (flat_map-append (λ p. p) pieces (piece ∷ []) ∙ ap (λ l. flat_map (λ p. p) pieces
+    ++ l) (append-nil piece)) ∙ fold-append covering b (flat_map (λ p. p) pieces) piece
+
+-- the box with the points of one more piece
+pub points_more : (parts : List Part) (a i : ℕ) (b : Bounds) (p : List V3) → piece_at parts a i ≡ Some p
+    → fold covering b (flat_map (λ q. q) (take (i + 1) (pieces_of_part parts a)))
+    ≡ fold covering (fold covering b (flat_map (λ q. q) (take i (pieces_of_part parts a)))) p
+points_more parts a i b p is = go (slice_get parts a) is
+  where
+    go : (o : Option Part) → option_and_then (λ part. slice_get part.pieces i) o ≡ Some p
+        → fold covering b (flat_map (λ q. q) (take (i + 1) (unwrap_or (option_map (λ part. part.pieces) o) [])))
+        ≡ fold covering (fold covering b (flat_map (λ q. q) (take i (unwrap_or (option_map (λ part. part.pieces) o) [])))) p
+    go None e = absurd cc
+    go (Some part) e =
+        ap (λ ps. fold covering b (flat_map (λ q. q) ps)) (take_more part.pieces i p (slice_get_within part.pieces i p e) ∙ ap (λ x. take i part.pieces ++ x ∷ []) (get_or_from_slice_get part.pieces i p p e))
+        ∙ fold_pieces b (take i part.pieces) p
+
+pub pieces_counted : (parts : List Part) (a : ℕ) → piece_count parts a ≡ length (pieces_of_part parts a)
+pieces_counted parts a = go (slice_get parts a)
+  where
+    go : (o : Option Part) → unwrap_or (option_map (λ part. length part.pieces) o) 0
+        ≡ length (unwrap_or (option_map (λ part. part.pieces) o) [])
+    go None = refl
+    go (Some part) = refl
+
+pub at_member : {X : Type 0} (P : X → Type 0) (xs : List X) (k : ℕ) (x : X) → All P xs → slice_get xs k
+    ≡ Some x → P x
+at_member P xs k x all is = subst P (get_or_from_slice_get xs k x x is) (all k x (slice_get_within xs k x is))
+
+-- a part of an assembly has a piece
+pub has_piece : (parts : List Part) (a : ℕ) → IsAssembly parts → a < length parts → 1 ≤ piece_count parts a
+has_piece parts a h lt = go (slice_get parts a) (some_at parts a lt)
+  where
+    go : (o : Option Part) → (part : Part) × (slice_get parts a ≡ Some part)
+        → 1 ≤ unwrap_or (option_map (λ part. length part.pieces) (slice_get parts a)) 0
+    go o (part, e) =
+        subst (λ (q : Option Part). 1 ≤ unwrap_or (option_map (λ part. length part.pieces) q) 0) (sym e) (at_member IsPart parts a part h.each e).nonempty
+
+-- the first point of a part
+pub first_point : (parts : List Part) (a : ℕ) (p : List V3) (d : V3) → piece_at parts a 0 ≡ Some p
+    → 1 ≤ length p → (get_or p 0 d ≡ get_or (points_at parts a) 0 d) × (1 ≤ length (points_at parts a))
+first_point parts a p d is some = go (slice_get parts a) is
+  where
+    head : (xs ys : List V3) → 1 ≤ length xs → (get_or xs 0 d ≡ get_or (xs ++ ys) 0 d)
+        × (1 ≤ length (xs ++ ys))
+    head [] ys h = absurd (omega arith)
+    head (x ∷ xs) ys h = (refl, omega arith)
+
+    at : (pieces : List (List V3)) → slice_get pieces 0 ≡ Some p
+        → (get_or p 0 d ≡ get_or (flat_map (λ q. q) pieces) 0 d) × (1 ≤ length (flat_map (λ q. q) pieces))
+    at [] e = absurd cc
+    at (q ∷ qs) e = let same : q ≡ p =
+        cc in subst (λ r. (get_or r 0 d ≡ get_or (q ++ flat_map (λ t. t) qs) 0 d)
+        × (1 ≤ length (q ++ flat_map (λ t. t) qs))) same (head q (flat_map (λ t. t) qs) (rw same some))
+
+    go : (o : Option Part) → option_and_then (λ part. slice_get part.pieces 0) o ≡ Some p
+        → (get_or p 0 d ≡ get_or (flat_map (λ q. q) (unwrap_or (option_map (λ part. part.pieces) o) [])) 0 d)
+        × (1 ≤ length (flat_map (λ q. q) (unwrap_or (option_map (λ part. part.pieces) o) [])))
+    go None e = absurd cc
+    go (Some part) e = at part.pieces e
+
+pub part_box : (parts : List Part) (a n : ℕ) (p : List V3) (d : V3) → piece_at parts a 0 ≡ Some p
+    → 1 ≤ length p → piece_count parts a ≤ n
+    → fold covering (around (get_or p 0 d)) (flat_map (λ q. q) (take n (pieces_of_part parts a)))
+    ≡ box_of (points_at parts a)
+part_box parts a n p d is some all =
+    let first = first_point parts a p d is some in
+    ap (λ ps. fold covering (around (get_or p 0 d)) (flat_map (λ q. q) ps)) (take_all n (pieces_of_part parts a) (omega (arith, pieces_counted parts a)))
+    ∙ ap (λ v. fold covering (around v) (points_at parts a)) first.0
+    ∙ box_is (points_at parts a) d first.1
+
+-- ---- sizes
+
+around_small : (p : V3) → IsWithin POINT p → AreBounds (around p)
+around_small p h = record { low = h; high = h }
+
+covering_small : (b : Bounds) (p : V3) → AreBounds b → IsWithin POINT p → AreBounds (covering b p)
+covering_small b p h k = record {
+  low = record {
+    x = omega (arith, ints, clamps, h.low.x, k.x);
+    y = omega (arith, ints, clamps, h.low.y, k.y);
+    z =
+        omega (arith, ints, clamps, h.low.z, k.z);
+  };
+  high = record {
+    x = omega (arith, ints, clamps, h.high.x, k.x);
+    y = omega (arith, ints, clamps, h.high.y, k.y);
+    z =
+        omega (arith, ints, clamps, h.high.z, k.z);
+  };
+}
+
+pub fold_small : (b : Bounds) (ps : List V3) → AreBounds b → All (IsWithin POINT) ps
+    → AreBounds (fold covering b ps)
+fold_small b [] h all = h
+fold_small b (p ∷ ps) h all =
+    fold_small (covering b p) ps (covering_small b p h (All-head (IsWithin POINT) p ps all)) (All-tail (IsWithin POINT) p ps all)
+
+-- ---- parts
+
+-- one more box
+pub boxes_more : (parts : List Part) (a : ℕ) (boxes : List Bounds) → a < length parts → boxes
+    ≡ map (λ part. box_of (points_of part)) (take a parts) → boxes ++ box_of (points_at parts a) ∷ []
+    ≡ map (λ part. box_of (points_of part)) (take (a + 1) parts)
+boxes_more parts a boxes lt e = go (some_at parts a lt)
+  where
+    go : (part : Part) × (slice_get parts a ≡ Some part) → boxes ++ box_of (points_at parts a) ∷ []
+        ≡ map (λ part. box_of (points_of part)) (take (a + 1) parts)
+    go (part, is) =
+        (λ i. e i ++ box_of (flat_map (λ piece. piece) (unwrap_or (option_map (λ part. part.pieces) (is i)) [])) ∷ [])
+        ∙ sym (map-append (λ part. box_of (points_of part)) (take a parts) (part ∷ []))
+        ∙ ap (map (λ part. box_of (points_of part))) (ap (λ x. take a parts
+        ++ x ∷ []) (sym (get_or_from_slice_get parts a part part is)) ∙ sym (take_more parts a part lt))

@@ -1,0 +1,366 @@
+-- What is read in the text of points and faces: those points and faces.
+use Rattle.std.proofs.Common.{◌≡◌, ℕ, suc, ◌+◌, ◌^◌, ◌<◌, ◌≤◌, Bool, true, false, List, []}
+use Rattle.std.proofs.Common.{◌∷◌, ◌++◌, map, length, All, ap, sym, subst, refl, ◌∙◌, arith, decimal}
+use Rattle.std.proofs.Common.{ℤ, pos, unsigned_abs, Some, None, Ok, Err, append_assoc, flat_map}
+use Rattle.std.specs.Prelude.{◌==◌, ◌&&◌, nat_le, nat_lt, codes, if◌then◌else◌}
+use Rattle.std.specs.Char.{is_ascii_digit}
+use Rattle.std.specs.List.{list_all, prefix_len}
+use Rattle.std.specs.Fmt.{signed_decimal}
+use Rattle.std.specs.Str.Parse.{digits_value}
+use Rattle.std.proofs.lemmas.Bool.Decides.{nat_tests}
+use Rattle.std.proofs.lemmas.Fmt.{length-decimal-le_wide}
+use Rattle.std.proofs.lemmas.List.Elements.{All-head, All-tail}
+use Rattle.staat_vec.specs.declared.vector.V3.{V3}
+use Rattle.staat_vec.specs.declared.vector.TheConstants.{POINT}
+use Rattle.staat_vec.specs.Vectors.{IsWithin}
+use Rattle.staat_model.specs.Lines.{spaced}
+use Rattle.staat_off.specs.declared.raw.Raw.{Raw}
+use Rattle.staat_off.specs.declared.raw.TheConstants.{MOST_COUNT}
+use Rattle.staat_off.specs.declared.refusal.OffRefusal.{OffRefusal}
+use Rattle.staat_off.specs.declared.refusal.OffRefusal.TheVariants.{BadCount, BadIndex, NoHeader}
+use Rattle.staat_off.specs.Raws.{HasCorners, IsCounted, IsIndexed}
+use Rattle.staat_off.specs.Readers.{Reader, ◌>>=◌, decided, many, refuse, resumed, return, value_in}
+use Rattle.staat_off.specs.Coordinates.{coordinate_of}
+use Rattle.staat_off.specs.Reading.{accepted, coordinate, corner_count, count, end, end_or_trailing, face, file}
+use Rattle.staat_off.specs.Reading.{is_header, header, index, line_passed, point, reading, short_number, word}
+use Rattle.staat_off.specs.Reading.{word_or_short}
+use Rattle.staat_off.specs.Scan.{after_line, line_len}
+use Rattle.staat_off.specs.Words.{Word, is_plain}
+use Rattle.staat_explode.specs.Scenes.{face_line, numbers_line, off_text, point_line}
+use Rattle.staat_explode.proofs.WordTexts.{coordinate_read, decimal_digits, decimal_some, decimal_value, digits_plain}
+use Rattle.staat_explode.proofs.WordTexts.{digits_tested, no_word_left, signed_plain, signed_some, word_behind_blank}
+use Rattle.staat_explode.proofs.WordTexts.{word_front}
+
+-- from the bytes t a reader gives x and leaves u, wherever they stand in the file
+abbrev Gets : {A : Type 0} → Reader A → List ℕ → A → List ℕ → Type 0
+Gets r t x u =
+    (at : ℕ) → (after : ℕ) × (r (record { bytes = t; at = at }) ≡ Ok (x, record { bytes = u; at = after }))
+
+then_gets : {A B : Type 0} (r : Reader A) (next : A → Reader B) (t u v : List ℕ) (x : A) (y : B) → Gets r t x u
+    → Gets (next x) u y v → Gets (r >>= next) t y v
+then_gets r next t u v x y first second at =
+    let p = first at in
+    let q = second p.0 in
+    (q.0, ap (λ z. resumed z next) p.1 ∙ q.1)
+
+-- the same after a reader of nothing
+passed_gets : {B : Type 0} (r : Reader (Unit {0})) (next : Reader B) (t u v : List ℕ) (y : B) → Gets r t tt u
+    → Gets next u y v → Gets (r >>= (λ x. next)) t y v
+passed_gets r next t u v y first second = then_gets r (λ x. next) t u v tt y first second
+
+returned : {A : Type 0} (x : A) (t : List ℕ) → Gets (return x) t x t
+returned x t at = (at, refl)
+
+-- what follows a word
+abbrev IsParted : List ℕ → Type 0
+IsParted s = prefix_len is_plain s ≡ 0
+
+-- a word, after a blank
+abbrev IsPlainWord : List ℕ → Type 0
+IsPlainWord w = (list_all is_plain w ≡ true) × (0 < length w)
+
+-- a reader that begins with a word passes over a blank
+abbrev Skips : {A : Type 0} → Reader A → Type 0
+Skips r = (b : ℕ) (t : List ℕ) (at : ℕ) → is_plain b ≡ false → (b == 35) ≡ false
+    → r (record { bytes = b ∷ t; at = at }) ≡ r (record { bytes = t; at = suc at })
+
+skipped : {A : Type 0} (r : Reader A) (b : ℕ) (t u : List ℕ) (x : A) → Skips r → is_plain b ≡ false
+    → (b == 35) ≡ false → Gets r t x u → Gets r (b ∷ t) x u
+skipped r b t u x skips blank other gets at = let p = gets (suc at) in (p.0, skips b t at blank other ∙ p.1)
+
+skips_then : {A B : Type 0} (r : Reader A) (next : A → Reader B) → Skips r → Skips (r >>= next)
+skips_then r next skips b t at blank other = ap (λ z. resumed z next) (skips b t at blank other)
+
+word_skips : Skips word
+unfolding word
+word_skips b t at blank other = ap (λ found. word_or_short found.0 found.1) (word_behind_blank b t at blank other)
+
+word_gets : (w s : List ℕ) → IsPlainWord w → IsParted s → (at : ℕ)
+    → word (record { bytes = w ++ s; at = at })
+    ≡ Ok (record { text = w; at = at }, record { bytes = s; at = at + length w })
+unfolding word
+word_gets w s h parted at = ap (λ found. word_or_short found.0 found.1) (word_front w s at h.0 h.1 parted)
+
+-- ---- counts and indices
+
+natural_word : (n : ℕ) → n ≤ MOST_COUNT → IsPlainWord (decimal n)
+natural_word n small =
+    let wide : n < 10 ^ 64 = omega arith in (digits_plain (decimal n) (decimal_digits n wide), decimal_some n wide)
+
+short_is : (n : ℕ) → n ≤ MOST_COUNT → short_number (decimal n) ≡ Some n
+unfolding short_number
+short_is n small =
+    let wide : n < 10 ^ 64 = omega arith in
+    let few = length-decimal-le_wide 7 n (omega arith) (omega arith) wide in
+    let some = decimal_some n wide in
+    tests (nat_lt 0 (length (decimal n))) (nat_le (length (decimal n)) 7) (list_all is_ascii_digit (decimal n)) (digits_value 10 (decimal n))
+    (below 0 (length (decimal n)) some) (within (length (decimal n)) 7 few) (digits_tested (decimal n) (decimal_digits n wide)) (decimal_value n wide)
+  where
+    tests : (a b c : Bool) (v : ℕ) → a ≡ true → b ≡ true → c ≡ true → v ≡ n
+        → (if a && (b && c) then Some v else None) ≡ Some n
+    tests a b c v e f g h = grind arith
+
+    below : (x y : ℕ) → x < y → nat_lt x y ≡ true
+    below x y h = grind (arith, nat_tests)
+
+    within : (x y : ℕ) → x ≤ y → nat_le x y ≡ true
+    within x y h = grind (arith, nat_tests)
+
+-- a number that passes a test is read
+accepted_gets : (r : Reader ℕ) (test : ℕ → Bool) (refusal : Word → OffRefusal) (n : ℕ) (s : List ℕ)
+    → n ≤ MOST_COUNT → IsParted s → test n ≡ true
+    → ((at : ℕ)
+    → (word >>= (λ w. accepted test (short_number w.text) (refusal w))) (record {
+      bytes =
+          decimal n ++ s;
+      at = at;
+    }) ≡ r (record { bytes = decimal n ++ s; at = at }))
+    → Gets r (decimal n ++ s) n s
+accepted_gets r test refusal n s small parted passes same at = (
+  at + length (decimal n),
+  sym (same at)
+      ∙ ap (λ z. resumed z (λ w. accepted test (short_number w.text) (refusal w))) (word_gets (decimal n) s (natural_word n small) parted at)
+      ∙ ap (λ o. accepted test o (refusal (record { text = decimal n; at = at })) (record {
+        bytes =
+            s;
+        at = at + length (decimal n);
+      })) (short_is n small)
+      ∙ ap (λ (b : Bool). (if b then return n else refuse (refusal (record {
+        text =
+            decimal n;
+        at = at;
+      }))) (record { bytes = s; at = at + length (decimal n) })) passes,
+)
+
+at_most : (n m : ℕ) → n ≤ m → nat_le n m ≡ true
+at_most n m h = grind (arith, nat_tests)
+
+less : (n m : ℕ) → n < m → nat_lt n m ≡ true
+less n m h = grind (arith, nat_tests)
+
+count_gets : (n : ℕ) (s : List ℕ) → n ≤ MOST_COUNT → IsParted s → Gets count (decimal n ++ s) n s
+unfolding count
+count_gets n s small parted =
+    accepted_gets count (λ n. nat_le n MOST_COUNT) (λ w. BadCount w.at) n s small parted (at_most n MOST_COUNT small) (λ at. refl)
+
+count_skips : Skips count
+unfolding count
+count_skips = skips_then word _ word_skips
+
+corner_count_gets : (n : ℕ) (s : List ℕ) → 1 ≤ n → n ≤ MOST_COUNT → IsParted s
+    → Gets corner_count (decimal n ++ s) n s
+unfolding corner_count
+corner_count_gets n s some small parted =
+    accepted_gets corner_count (λ n. nat_le 1 n && nat_le n MOST_COUNT) (λ w. BadCount w.at) n s small parted (both (nat_le 1 n) (nat_le n MOST_COUNT) (at_most 1 n some) (at_most n MOST_COUNT small)) (λ at. refl)
+  where
+    both : (a b : Bool) → a ≡ true → b ≡ true → (a && b) ≡ true
+    both a b e f = grind arith
+
+corner_count_skips : Skips corner_count
+unfolding corner_count
+corner_count_skips = skips_then word _ word_skips
+
+index_gets : (vertices n : ℕ) (s : List ℕ) → n < vertices → vertices ≤ MOST_COUNT → IsParted s
+    → Gets (index vertices) (decimal n ++ s) n s
+unfolding index
+index_gets vertices n s lt small parted =
+    accepted_gets (index vertices) (λ n. nat_lt n vertices) (λ w. BadIndex w.at) n s (omega arith) parted (less n vertices lt) (λ at. refl)
+
+index_skips : (vertices : ℕ) → Skips (index vertices)
+unfolding index
+index_skips vertices = skips_then word _ word_skips
+
+-- ---- coordinates
+
+coordinate_gets : (z : ℤ) (s : List ℕ) → unsigned_abs z ≤ POINT → IsParted s
+    → Gets (coordinate 0) (signed_decimal z ++ s) z s
+unfolding coordinate
+coordinate_gets z s small parted at =
+    let wide : unsigned_abs z < 10 ^ 64 = omega arith in (
+      at + length (signed_decimal z),
+      ap (λ t. resumed t (λ w. decided (coordinate_of 0 w))) (word_gets (signed_decimal z) s (signed_plain z wide, signed_some z wide) parted at)
+          ∙ ap (λ d. decided d (record {
+            bytes =
+                s;
+            at = at + length (signed_decimal z);
+          })) (coordinate_read z at small),
+    )
+
+coordinate_skips : Skips (coordinate 0)
+unfolding coordinate
+coordinate_skips = skips_then word _ word_skips
+
+-- ---- a blank, and what follows a number
+
+space_blank : is_plain 32 ≡ false
+space_blank = refl
+
+feed_blank : is_plain 10 ≡ false
+feed_blank = refl
+
+parted_spaced : (zs : List ℤ) (t : List ℕ) → IsParted (spaced zs ++ t)
+parted_spaced [] t = refl
+parted_spaced (z ∷ zs) t = refl
+
+-- a reader that skips, after a line feed
+after_feed : {A : Type 0} (r : Reader A) (t u : List ℕ) (x : A) → Skips r → Gets r t x u
+    → Gets r (10 ∷ t) x u
+after_feed r t u x skips gets = skipped r 10 t u x skips feed_blank refl gets
+
+after_space : {A : Type 0} (r : Reader A) (t u : List ℕ) (x : A) → Skips r → Gets r t x u
+    → Gets r (32 ∷ t) x u
+after_space r t u x skips gets = skipped r 32 t u x skips space_blank refl gets
+
+-- ---- points
+
+point_gets : (p : V3) (t : List ℕ) → IsWithin POINT p → Gets (point 0) (10 ∷ (point_line p ++ t)) p (10 ∷ t)
+unfolding point
+point_gets p t small =
+    let third : List ℕ = 10 ∷ t in
+    let second : List ℕ = signed_decimal p.z ++ third in
+    let first : List ℕ = signed_decimal p.y ++ (32 ∷ second) in
+    let bytes : 10 ∷ (signed_decimal p.x
+    ++ (32 ∷ (signed_decimal p.y ++ (32 ∷ (signed_decimal p.z ++ (10 ∷ t))))))
+    ≡ 10 ∷ (point_line p ++ t) = simp append_assoc in
+    subst (λ l. Gets (coordinate 0 >>= (λ x. coordinate 0 >>= (λ y. coordinate 0 >>= (λ z. return (record {
+      x =
+          x;
+      y = y;
+      z = z;
+    }))))) l p (10 ∷ t)) bytes
+    (then_gets (coordinate 0) _ _ (32 ∷ first) (10 ∷ t) p.x p
+    (after_feed (coordinate 0) _ (32 ∷ first) p.x coordinate_skips (coordinate_gets p.x (32 ∷ first) small.x refl))
+    (then_gets (coordinate 0) _ _ (32 ∷ second) (10 ∷ t) p.y p
+    (after_space (coordinate 0) _ (32 ∷ second) p.y coordinate_skips (coordinate_gets p.y (32 ∷ second) small.y refl))
+    (then_gets (coordinate 0) _ _ third (10 ∷ t) p.z p
+    (after_space (coordinate 0) _ third p.z coordinate_skips (coordinate_gets p.z third small.z refl))
+    (returned p (10 ∷ t)))))
+
+points_get : (ps : List V3) (t : List ℕ) → All (IsWithin POINT) ps
+    → Gets (many (length ps) (point 0)) (10 ∷ (flat_map point_line ps ++ t)) ps (10 ∷ t)
+unfolding many
+points_get [] t small = returned [] (10 ∷ t)
+points_get (p ∷ ps) t small =
+    let bytes : 10 ∷ (point_line p ++ (flat_map point_line ps ++ t))
+    ≡ 10 ∷ (flat_map point_line (p ∷ ps) ++ t) =
+    ap (λ (l : List ℕ). 10 ∷ l) (sym (append_assoc (point_line p) (flat_map point_line ps) t)) in
+    subst (λ l. Gets (point 0 >>= (λ x. many (length ps) (point 0) >>= (λ xs. return (x ∷ xs)))) l (p ∷ ps) (10 ∷ t)) bytes
+    (then_gets (point 0) _ _ (10 ∷ (flat_map point_line ps ++ t)) (10 ∷ t) p (p ∷ ps)
+    (point_gets p (flat_map point_line ps ++ t) (All-head (IsWithin POINT) p ps small))
+    (then_gets (many (length ps) (point 0)) _ _ (10 ∷ t) (10 ∷ t) ps (p ∷ ps)
+    (points_get ps t (All-tail (IsWithin POINT) p ps small))
+    (returned (p ∷ ps) (10 ∷ t))))
+
+-- ---- faces
+
+indices_get : (vertices : ℕ) (ks : List ℕ) (t : List ℕ) → vertices ≤ MOST_COUNT
+    → All (λ k. k < vertices) ks
+    → Gets (many (length ks) (index vertices)) (spaced (map pos ks) ++ t) ks (10 ∷ t)
+unfolding many
+indices_get vertices [] t small all = returned [] (10 ∷ t)
+indices_get vertices (k ∷ ks) t small all =
+    let bytes : 32 ∷ (decimal k ++ (spaced (map pos ks) ++ t)) ≡ spaced (map pos (k ∷ ks)) ++ t =
+    ap (λ (l : List ℕ). 32 ∷ l) (sym (append_assoc (decimal k) (spaced (map pos ks)) t)) in
+    subst (λ l. Gets (index vertices >>= (λ x. many (length ks) (index vertices) >>= (λ xs. return (x ∷ xs)))) l (k ∷ ks) (10 ∷ t)) bytes
+    (then_gets (index vertices) _ _ (spaced (map pos ks) ++ t) (10 ∷ t) k (k ∷ ks)
+    (after_space (index vertices) _ (spaced (map pos ks)
+    ++ t) k (index_skips vertices) (index_gets vertices k (spaced (map pos ks)
+    ++ t) (All-head (λ j. j < vertices) k ks all) small (parted_spaced (map pos ks) t)))
+    (then_gets (many (length ks) (index vertices)) _ _ (10 ∷ t) (10 ∷ t) ks (k ∷ ks)
+    (indices_get vertices ks t small (All-tail (λ j. j < vertices) k ks all))
+    (returned (k ∷ ks) (10 ∷ t))))
+
+line_gets : (t : List ℕ) → Gets line_passed (10 ∷ t) tt t
+unfolding after_line line_len
+line_gets t at = (at + 1, refl)
+
+-- what a face must be
+pub record IsFaceOf (vertices : ℕ) (ks : List ℕ) : Type 0 where
+  pub some : 1 ≤ length ks
+  pub few : length ks ≤ MOST_COUNT
+  pub corners : All (λ k. k < vertices) ks
+
+face_gets : (vertices : ℕ) (ks : List ℕ) (t : List ℕ) → vertices ≤ MOST_COUNT → IsFaceOf vertices ks
+    → Gets (face vertices) (face_line ks ++ t) ks t
+unfolding face
+face_gets vertices ks t small h =
+    let bytes : decimal (length ks) ++ (spaced (map pos ks) ++ t) ≡ face_line ks ++ t =
+    sym (append_assoc (decimal (length ks)) (spaced (map pos ks)) t) in
+    subst (λ l. Gets (corner_count >>= (λ corners. many corners (index vertices) >>= (λ indices. line_passed >>= (λ passed. return indices)))) l ks t) bytes
+    (then_gets corner_count _ _ (spaced (map pos ks) ++ t) t (length ks) ks
+    (corner_count_gets (length ks) (spaced (map pos ks) ++ t) h.some h.few (parted_spaced (map pos ks) t))
+    (then_gets (many (length ks) (index vertices)) _ _ (10 ∷ t) t ks ks
+    (indices_get vertices ks t small h.corners)
+    (passed_gets line_passed (return ks) _ t t ks (line_gets t) (returned ks t))))
+
+face_skips : (vertices : ℕ) → Skips (face vertices)
+unfolding face
+face_skips vertices = skips_then corner_count _ corner_count_skips
+
+faces_get : (vertices : ℕ) (fs : List (List ℕ)) → vertices ≤ MOST_COUNT → All (IsFaceOf vertices) fs
+    → Gets (many (length fs) (face vertices)) (flat_map face_line fs) fs []
+unfolding many
+faces_get vertices [] small all = returned [] []
+faces_get vertices (f ∷ fs) small all =
+    then_gets (face vertices) _ (face_line f ++ flat_map face_line fs) (flat_map face_line fs) [] f (f ∷ fs)
+    (face_gets vertices f (flat_map face_line fs) small (All-head (IsFaceOf vertices) f fs all))
+    (then_gets (many (length fs) (face vertices)) _ _ [] [] fs (f ∷ fs)
+    (faces_get vertices fs small (All-tail (IsFaceOf vertices) f fs all))
+    (returned (f ∷ fs) []))
+
+-- what is left behind the faces: the line feed of the last point, where there is no face
+abbrev left_behind : List (List ℕ) → List ℕ
+left_behind [] = 10 ∷ []
+left_behind (f ∷ fs) = []
+
+faces_after_feed : (vertices : ℕ) (fs : List (List ℕ)) → vertices ≤ MOST_COUNT → All (IsFaceOf vertices) fs
+    → Gets (many (length fs) (face vertices)) (10 ∷ flat_map face_line fs) fs (left_behind fs)
+unfolding many
+faces_after_feed vertices [] small all = returned [] (10 ∷ [])
+faces_after_feed vertices (f ∷ fs) small all =
+    skipped (many (length (f ∷ fs)) (face vertices)) 10 (flat_map face_line (f ∷ fs)) [] (f ∷ fs) (skips_then (face vertices) _ (face_skips vertices)) feed_blank refl (faces_get vertices (f ∷ fs) small all)
+
+end_gets : (fs : List (List ℕ)) → Gets end (left_behind fs) tt []
+unfolding end
+end_gets [] at =
+    (suc at, ap (λ found. end_or_trailing found.0 found.1) (word_behind_blank 10 [] at feed_blank refl ∙ no_word_left (suc at)))
+end_gets (f ∷ fs) at = (at, ap (λ found. end_or_trailing found.0 found.1) (no_word_left at))
+
+-- ---- the file
+
+header_gets : (t : List ℕ) → Gets header (codes "OFF\n" ++ t) tt (10 ∷ t)
+unfolding header
+header_gets t at =
+    (at + 3, ap (λ found. if is_header found.0 then Ok (tt, found.1) else Err NoHeader) (word_front (codes "OFF") (10 ∷ t) at refl (omega arith) refl))
+
+faces_are : (raw : Raw) → IsIndexed raw → IsCounted raw → HasCorners raw
+    → All (IsFaceOf (length raw.points)) raw.faces
+faces_are raw indexed counted corners =
+    λ k d lt. record { some = corners k d lt; few = counted.corners k d lt; corners = indexed.corners k d lt }
+
+file_gets : (raw : Raw) → IsIndexed raw → IsCounted raw → HasCorners raw → Gets (file 0) (off_text raw) raw []
+unfolding file off_text
+file_gets raw indexed counted corners =
+    let v = length raw.points in
+    let f = length raw.faces in
+    let faces : List ℕ = flat_map face_line raw.faces in
+    let points : List ℕ = flat_map point_line raw.points ++ faces in
+    let edges : List ℕ = decimal 0 ++ (10 ∷ points) in
+    let others : List ℕ = decimal f ++ (32 ∷ edges) in
+    let bytes : codes "OFF\n" ++ (decimal v ++ (32 ∷ others)) ≡ codes "OFF\n"
+    ++ (numbers_line (pos v) (pos f ∷ pos 0 ∷ []) ++ points) = simp append_assoc in
+    subst (λ l. Gets (header >>= (λ first. count >>= (λ vertices. count >>= (λ faces. count >>= (λ edges. many vertices (point 0) >>= (λ points. many faces (face vertices) >>= (λ lists. end >>= (λ last. return (record { points = points; faces = lists }))))))))) l raw []) bytes
+    (passed_gets header _ _ (10 ∷ (decimal v ++ (32 ∷ others))) [] raw (header_gets (decimal v ++ (32 ∷ others)))
+    (then_gets count _ _ (32 ∷ others) [] v raw (after_feed count _ (32 ∷ others) v count_skips (count_gets v (32 ∷ others) counted.points refl))
+    (then_gets count _ _ (32 ∷ edges) [] f raw (after_space count _ (32 ∷ edges) f count_skips (count_gets f (32 ∷ edges) counted.faces refl))
+    (then_gets count _ _ (10 ∷ points) [] 0 raw (after_space count _ (10 ∷ points) 0 count_skips (count_gets 0 (10 ∷ points) (omega arith) refl))
+    (then_gets (many v (point 0)) _ _ (10 ∷ faces) [] raw.points raw (points_get raw.points faces indexed.within)
+    (then_gets (many f (face v)) _ _ (left_behind raw.faces) [] raw.faces raw (faces_after_feed v raw.faces counted.points (faces_are raw indexed counted corners))
+    (passed_gets end _ _ [] [] raw (end_gets raw.faces)
+    (returned raw []))))))))
+
+-- reading the text gives the points and faces that were written
+pub reading_again : (raw : Raw) → IsIndexed raw → IsCounted raw → HasCorners raw → reading 0 (off_text raw)
+    ≡ Ok raw
+unfolding reading
+reading_again raw indexed counted corners = ap value_in (file_gets raw indexed counted corners 0).1

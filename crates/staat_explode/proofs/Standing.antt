@@ -1,0 +1,179 @@
+-- The boxes of the parts of a plan stand apart.
+use Rattle.std.proofs.Common.{◌≡◌, ◌≢◌, ℕ, zero, suc, ◌≤◌, List, [], ◌∷◌, map, length}
+use Rattle.std.proofs.Common.{Contains, ap, sym, subst, refl, ◌∙◌, arith, ◌⊎◌, inl, inr, ◌+ℤ◌}
+use Rattle.std.proofs.Common.{◌*ℤ◌, ◌<ℤ◌, ◌≤ℤ◌, pos, ℤ}
+use Rattle.std.specs.Int.{int_max, int_min}
+use Rattle.std.specs.List.{fold}
+use Rattle.std.proofs.lemmas.Int.{ints, fold-int_max_bounds, fold-int_max_reached, fold-int_min_bounds}
+use Rattle.std.proofs.lemmas.Int.{fold-int_min_reached}
+use Rattle.std.proofs.lemmas.List.Elements.{All-contains, All-cons, Contains-append_cases}
+use Rattle.staat_vec.specs.declared.vector.V3.{V3}
+use Rattle.staat_vec.specs.Vectors.{plus, times}
+use Rattle.staat_model.proofs.Members.{here, there}
+use Rattle.staat_model.specs.Plans.{Plan, leaf, split}
+use Rattle.staat_explode.specs.declared.axis.Axis.{Axis}
+use Rattle.staat_explode.specs.declared.axis.Axis.TheVariants.{X, Y, Z}
+use Rattle.staat_explode.specs.declared.boxes.Bounds.{Bounds}
+use Rattle.staat_explode.specs.declared.shifted.Shifted.{Shifted}
+use Rattle.staat_explode.specs.Apart.{AreParted, IsIn, moved_box}
+use Rattle.staat_explode.specs.Boxes.{IsBoxOf, box_of, by_component, component, greatest, least}
+use Rattle.staat_explode.specs.Shifts.{ArePast, axis_of, box_at, high_along, highest, low_along, lowest, moved_on}
+use Rattle.staat_explode.specs.Shifts.{shifted_of, steps_apart}
+use Rattle.staat_explode.specs.Sizes.{IsShiftable}
+use Rattle.staat_explode.proofs.Stepping.{past}
+
+-- ---- members
+
+contains_nil : {X : Type 0} (x : X) → Contains [] x → ⊥
+contains_nil x h = absurd (omega (arith, h.1))
+
+contains_cons : {X : Type 0} (y x : X) (xs : List X) → Contains (y ∷ xs) x → (y ≡ x) ⊎ Contains xs x
+contains_cons y x xs (zero, lt, e) = inl e
+contains_cons y x xs (suc k, lt, e) = inr (k, omega arith, e)
+
+map_there : {X Y : Type 0} (f : X → Y) (xs : List X) (x : X) → Contains xs x → Contains (map f xs) (f x)
+map_there f [] x h = absurd (contains_nil x h)
+map_there f (y ∷ xs) x h =
+    elim (contains_cons y x xs h) [ inl e ↦ subst (λ z. Contains (f y ∷ map f xs) (f z)) e (here (f y) (map f xs)) | inr k ↦ there (f y) (f x) (map f xs) (map_there f xs x k) ]
+
+map_back : {X Y : Type 0} (f : X → Y) (xs : List X) (y : Y) → Contains (map f xs) y → (x : X) × Contains xs x
+    × (f x ≡ y)
+map_back f [] y h = absurd (contains_nil y h)
+map_back f (z ∷ xs) y h = elim (contains_cons (f z) y (map f xs) h) [
+  | inl e ↦ (z, here z xs, e)
+  | inr k ↦ let r = map_back f xs y k in (r.0, there z r.0 xs r.1, r.2)
+]
+
+-- ---- the least and the greatest
+
+least_le : (zs : List ℤ) (z : ℤ) → Contains zs z → least zs ≤ℤ z
+least_le [] z h = absurd (contains_nil z h)
+least_le (y ∷ zs) z h = let bound =
+    fold-int_min_bounds y zs (fold int_min y zs) refl in All-contains (λ x. fold int_min y zs ≤ℤ x) (y ∷ zs) z (All-cons (λ x. fold int_min y zs ≤ℤ x) y zs bound.0 bound.1) h
+
+le_greatest : (zs : List ℤ) (z : ℤ) → Contains zs z → z ≤ℤ greatest zs
+le_greatest [] z h = absurd (contains_nil z h)
+le_greatest (y ∷ zs) z h = let bound =
+    fold-int_max_bounds y zs (fold int_max y zs) refl in All-contains (λ x. x ≤ℤ fold int_max y zs) (y ∷ zs) z (All-cons (λ x. x ≤ℤ fold int_max y zs) y zs bound.0 bound.1) h
+
+lowest_le : (boxes : List Bounds) (axis : Axis) (ps : List Shifted) (p : Shifted) → Contains ps p
+    → lowest boxes axis ps ≤ℤ low_along boxes axis p
+unfolding lowest
+lowest_le boxes axis ps p h =
+    least_le (map (low_along boxes axis) ps) (low_along boxes axis p) (map_there (low_along boxes axis) ps p h)
+
+le_highest : (boxes : List Bounds) (axis : Axis) (ps : List Shifted) (p : Shifted) → Contains ps p
+    → high_along boxes axis p ≤ℤ highest boxes axis ps
+unfolding highest
+le_highest boxes axis ps p h =
+    le_greatest (map (high_along boxes axis) ps) (high_along boxes axis p) (map_there (high_along boxes axis) ps p h)
+
+-- ---- two parts
+
+abbrev Parted : List Bounds → Shifted → Shifted → Type 0
+Parted boxes x y = (axis : Axis)
+    × ((high_along boxes axis x <ℤ low_along boxes axis y)
+    ⊎ (high_along boxes axis y <ℤ low_along boxes axis x))
+
+turned : (boxes : List Bounds) (x y : Shifted) → Parted boxes x y → Parted boxes y x
+turned boxes x y (axis, inl h) = (axis, inr h)
+turned boxes x y (axis, inr h) = (axis, inl h)
+
+component-moved : (axis : Axis) (v d : V3) (m : ℕ) → component axis (plus v (times m d))
+    ≡ component axis v +ℤ (pos m *ℤ component axis d)
+component-moved X v d m = refl
+component-moved Y v d m = refl
+component-moved Z v d m = refl
+
+low-moved : (boxes : List Bounds) (axis : Axis) (m : ℕ) (d : V3) (p : Shifted)
+    → low_along boxes axis (moved_on m d p) ≡ low_along boxes axis p +ℤ (pos m *ℤ component axis d)
+low-moved boxes axis m d p =
+    ap (λ z. component axis (box_at boxes p.part).low +ℤ z) (component-moved axis p.by d m) ∙ omega (arith, ints)
+
+high-moved : (boxes : List Bounds) (axis : Axis) (m : ℕ) (d : V3) (p : Shifted)
+    → high_along boxes axis (moved_on m d p) ≡ high_along boxes axis p +ℤ (pos m *ℤ component axis d)
+high-moved boxes axis m d p =
+    ap (λ z. component axis (box_at boxes p.part).high +ℤ z) (component-moved axis p.by d m) ∙ omega (arith, ints)
+
+-- two parts that move alike stay parted
+both_moved : (boxes : List Bounds) (m : ℕ) (d : V3) (x y : Shifted) → Parted boxes x y
+    → Parted boxes (moved_on m d x) (moved_on m d y)
+both_moved boxes m d x y (axis, inl h) =
+    (axis, inl (rw (high-moved boxes axis m d x, low-moved boxes axis m d y) (omega (arith, ints))))
+both_moved boxes m d x y (axis, inr h) =
+    (axis, inr (rw (high-moved boxes axis m d y, low-moved boxes axis m d x) (omega (arith, ints))))
+
+-- a moved part is past a resting one
+across : (boxes : List Bounds) (d : V3) (ms rs : List Shifted) (m : ℕ) (x y : Shifted) → ArePast boxes d ms rs m
+    → Contains ms x → Contains rs y → Parted boxes (moved_on m d x) y
+across boxes d ms rs m x y (inl (up, h)) hx hy =
+    let low = lowest_le boxes (axis_of d) ms x hx in
+    let high = le_highest boxes (axis_of d) rs y hy in
+    (axis_of d, inr (rw (low-moved boxes (axis_of d) m d x) (omega (arith, ints, h))))
+across boxes d ms rs m x y (inr (down, h)) hx hy =
+    let high = le_highest boxes (axis_of d) ms x hx in
+    let low = lowest_le boxes (axis_of d) rs y hy in
+    (axis_of d, inl (rw (high-moved boxes (axis_of d) m d x) (omega (arith, ints, h))))
+
+pub all_apart : (boxes : List Bounds) (n : ℕ) (plan : Plan) → IsShiftable n plan → (x y : Shifted)
+    → Contains (shifted_of boxes plan) x → Contains (shifted_of boxes plan) y → x.part ≢ y.part
+    → Parted boxes x y
+all_apart boxes n (leaf p) h x y hx hy differ =
+    absurd (elim (contains_cons _ x [] hx) [ inl e ↦ elim (contains_cons _ y [] hy) [ inl f ↦ differ (ap (λ (q : Shifted). q.part) (sym e ∙ f)) | inr k ↦ contains_nil y k ] | inr k ↦ contains_nil x k ])
+all_apart boxes n (split d moved rest) h x y hx hy differ =
+    let m = steps_apart boxes d (shifted_of boxes moved) (shifted_of boxes rest) in
+    let beyond = past boxes d (shifted_of boxes moved) (shifted_of boxes rest) h.0 in
+    let f = moved_on m d in
+    elim (Contains-append_cases (map f (shifted_of boxes moved)) (shifted_of boxes rest) x hx) [
+      | inl a ↦ let u =
+          map_back f (shifted_of boxes moved) x a in elim (Contains-append_cases (map f (shifted_of boxes moved)) (shifted_of boxes rest) y hy) [
+            | inl b ↦ let v = map_back f (shifted_of boxes moved) y b in
+                let inner =
+                all_apart boxes n moved h.1 u.0 v.0 u.1 v.1 (λ e. differ (ap (λ (q : Shifted). q.part) (sym u.2) ∙ e ∙ ap (λ (q : Shifted). q.part) v.2)) in
+                subst (λ q. Parted boxes x q) v.2 (subst (λ q. Parted boxes q (f v.0)) u.2 (both_moved boxes m d u.0 v.0 inner))
+            | inr b ↦ subst (λ q. Parted boxes q y) u.2 (across boxes d (shifted_of boxes moved) (shifted_of boxes rest) m u.0 y beyond u.1 b)
+          ]
+      | inr a ↦ elim (Contains-append_cases (map f (shifted_of boxes moved)) (shifted_of boxes rest) y hy) [
+        | inl b ↦ let v =
+            map_back f (shifted_of boxes moved) y b in turned boxes y x (subst (λ q. Parted boxes q x) v.2 (across boxes d (shifted_of boxes moved) (shifted_of boxes rest) m v.0 x beyond v.1 a))
+        | inr b ↦ all_apart boxes n rest h.2 x y a b differ
+      ]
+    ]
+
+-- ---- boxes
+
+pub parted_boxes : (boxes : List Bounds) (x y : Shifted) → Parted boxes x y
+    → AreParted (moved_box (box_at boxes x.part) x.by) (moved_box (box_at boxes y.part) y.by)
+parted_boxes boxes x y (X, h) = (X, h)
+parted_boxes boxes x y (Y, h) = (Y, h)
+parted_boxes boxes x y (Z, h) = (Z, h)
+
+-- parted boxes have no point in common
+pub no_common : (a b : Bounds) (x : V3) → AreParted a b → IsIn a x → IsIn b x → ⊥
+no_common a b x (axis, inl h) p q = let u = p axis in let v = q axis in absurd (omega (arith, ints, u.1, v.0))
+no_common a b x (axis, inr h) p q = let u = p axis in let v = q axis in absurd (omega (arith, ints, u.0, v.1))
+
+-- ---- the box of points
+
+least_there : (z : ℤ) (zs : List ℤ) → Contains (z ∷ zs) (fold int_min z zs)
+least_there z zs =
+    elim (fold-int_min_reached z zs (fold int_min z zs) refl) [ inl e ↦ subst (λ x. Contains (z ∷ zs) x) (sym e) (here z zs) | inr h ↦ there z (fold int_min z zs) zs h ]
+
+greatest_there : (z : ℤ) (zs : List ℤ) → Contains (z ∷ zs) (fold int_max z zs)
+greatest_there z zs =
+    elim (fold-int_max_reached z zs (fold int_max z zs) refl) [ inl e ↦ subst (λ x. Contains (z ∷ zs) x) (sym e) (here z zs) | inr h ↦ there z (fold int_max z zs) zs h ]
+
+component_by : (f : Axis → ℤ) (axis : Axis) → component axis (by_component f) ≡ f axis
+component_by f X = refl
+component_by f Y = refl
+component_by f Z = refl
+
+pub box_least : (points : List V3) → 1 ≤ length points → IsBoxOf points (box_of points)
+unfolding box_of
+box_least [] h = absurd (omega arith)
+box_least (v ∷ vs) h = record {
+  low = λ axis p k. subst (λ z. z ≤ℤ component axis p) (sym (component_by (λ a. least (map (component a) (v ∷ vs))) axis)) (least_le (map (component axis) (v ∷ vs)) (component axis p) (map_there (component axis) (v ∷ vs) p k));
+  high = λ axis p k. subst (λ z. component axis p ≤ℤ z) (sym (component_by (λ a. greatest (map (component a) (v ∷ vs))) axis)) (le_greatest (map (component axis) (v ∷ vs)) (component axis p) (map_there (component axis) (v ∷ vs) p k));
+  lowest = λ axis. subst (λ z. Contains (map (component axis) (v ∷ vs)) z) (sym (component_by (λ a. least (map (component a) (v ∷ vs))) axis)) (least_there (component axis v) (map (component axis) vs));
+  highest = λ axis. subst (λ z. Contains (map (component axis) (v ∷ vs)) z) (sym (component_by (λ a. greatest (map (component a) (v ∷ vs))) axis)) (greatest_there (component axis v) (map (component axis) vs));
+}

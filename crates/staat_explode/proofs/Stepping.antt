@@ -1,0 +1,104 @@
+-- The least number of steps that takes the moved parts past the resting ones.
+use Rattle.std.proofs.Common.{◌≡◌, ◌≢◌, ℕ, zero, suc, ◌+◌, ◌*◌, ◌<◌, ◌≤◌, ℤ, pos}
+use Rattle.std.proofs.Common.{negsuc, ◌+ℤ◌, ◌-ℤ◌, ◌*ℤ◌, ◌<ℤ◌, ◌≤ℤ◌, unsigned_abs, Bool}
+use Rattle.std.proofs.Common.{true, false, List, ap, refl, arith, ◌⊎◌, inl, inr}
+use Rattle.std.specs.Prelude.{int_lt, if◌then◌else◌}
+use Rattle.std.specs.Int.{div_ceil}
+use Rattle.std.proofs.lemmas.Int.{ints}
+use Rattle.std.proofs.lemmas.Grind.{div_ceil_times}
+use Rattle.std.proofs.Math.Nat.{mul-le-mul_right}
+use Rattle.staat_vec.specs.declared.vector.V3.{V3}
+use Rattle.staat_vec.specs.Vectors.{origin, vector}
+use Rattle.staat_explode.specs.declared.axis.Axis.TheVariants.{X, Y, Z}
+use Rattle.staat_explode.specs.declared.boxes.Bounds.{Bounds}
+use Rattle.staat_explode.specs.declared.shifted.Shifted.{Shifted}
+use Rattle.staat_explode.specs.Boxes.{component}
+use Rattle.staat_explode.specs.Shifts.{ArePast, axis_of, axis_or_next, highest, lowest, rounds, steps_apart}
+use Rattle.staat_explode.proofs.Products.{times_up, times_down, size_some}
+
+enough : (gap : ℤ) (step : ℕ) → 0 < step → gap ≤ℤ pos (rounds gap step * step)
+enough (pos g) step some = let h = div_ceil_times g step some in omega (arith, ints, h.0)
+enough (negsuc g) step some = omega (arith, ints)
+
+fewest : (gap : ℤ) (step k : ℕ) → 0 < step → gap ≤ℤ pos (k * step) → rounds gap step ≤ k
+fewest (negsuc g) step k some h = omega arith
+fewest (pos g) step k some h = by_order (div_ceil g step) (div_ceil_times g step some).1
+  where
+    by_order : (r : ℕ) → r * step < g + step → r ≤ k
+    by_order r lt =
+        by_lt r k (λ more. let big : (k + 1) * step ≤ r * step =
+        mul-le-mul_right step more in absurd (omega (arith, ints)))
+      where
+        by_lt : (a b : ℕ) → (b + 1 ≤ a → a ≤ b) → a ≤ b
+        by_lt a b f = grind arith
+
+pub axis_some : (d : V3) → d ≢ origin → component (axis_of d) d ≢ pos 0
+axis_some d = go d.x d.y d.z
+  where
+    go : (x y z : ℤ) → vector x y z ≢ origin
+        → component (axis_or_next x X (axis_or_next y Y Z)) (vector x y z) ≢ pos 0
+    go (pos zero) (pos zero) z h e = h (ap (λ t. vector (pos 0) (pos 0) t) e)
+    go (pos zero) (pos (suc n)) z h e = cc
+    go (pos zero) (negsuc n) z h e = cc
+    go (pos (suc n)) y z h e = cc
+    go (negsuc n) y z h e = cc
+
+up_past : (l g s : ℤ) (m : ℕ) → pos 0 <ℤ s → ((g +ℤ pos 1) -ℤ l) ≤ℤ pos (m * unsigned_abs s)
+    → (g +ℤ pos 1) ≤ℤ (l +ℤ (pos m *ℤ s))
+up_past l g s m up h = rw (times_up m s up) (omega (arith, ints))
+
+past_up : (l g s : ℤ) (m : ℕ) → pos 0 <ℤ s → (g +ℤ pos 1) ≤ℤ (l +ℤ (pos m *ℤ s))
+    → ((g +ℤ pos 1) -ℤ l) ≤ℤ pos (m * unsigned_abs s)
+past_up l g s m up h =
+    let k : (g +ℤ pos 1) ≤ℤ (l +ℤ pos (m * unsigned_abs s)) = rw (times_up m s up) at h in omega (arith, ints)
+
+down_past : (h l s : ℤ) (m : ℕ) → s ≤ℤ pos 0 → ((h +ℤ pos 1) -ℤ l) ≤ℤ pos (m * unsigned_abs s)
+    → (h +ℤ (pos m *ℤ s)) ≤ℤ (l -ℤ pos 1)
+down_past h l s m down e = rw (times_down m s down) (omega (arith, ints))
+
+past_down : (h l s : ℤ) (m : ℕ) → s ≤ℤ pos 0 → (h +ℤ (pos m *ℤ s)) ≤ℤ (l -ℤ pos 1)
+    → ((h +ℤ pos 1) -ℤ l) ≤ℤ pos (m * unsigned_abs s)
+past_down h l s m down e = let t = times_down m s down in let k = rw t at e in omega (arith, ints)
+
+module _ (boxes : List Bounds) (d : V3) (moved rest : List Shifted) (some : d ≢ origin) where
+  -- the steps are enough
+  pub past : ArePast boxes d moved rest (steps_apart boxes d moved rest)
+  unfolding steps_apart
+  past =
+      let axis = axis_of d in
+      let s = component (axis_of d) d in
+      let size = size_some s (axis_some d some) in
+      let hm = highest boxes axis moved in
+      let lm = lowest boxes axis moved in
+      let hr = highest boxes axis rest in
+      let lr = lowest boxes axis rest in
+      go (int_lt (pos 0) s) refl size
+    where
+      go : (b : Bool) → int_lt (pos 0) (component (axis_of d) d) ≡ b → 0 < unsigned_abs (component (axis_of d) d)
+          → ((pos 0 <ℤ component (axis_of d) d)
+          × ((highest boxes (axis_of d) rest +ℤ pos 1) ≤ℤ (lowest boxes (axis_of d) moved +ℤ (pos (rounds (if b then (highest boxes (axis_of d) rest +ℤ pos 1) -ℤ lowest boxes (axis_of d) moved else (highest boxes (axis_of d) moved +ℤ pos 1) -ℤ lowest boxes (axis_of d) rest) (unsigned_abs (component (axis_of d) d))) *ℤ component (axis_of d) d))))
+          ⊎ ((component (axis_of d) d <ℤ pos 0)
+          × ((highest boxes (axis_of d) moved +ℤ (pos (rounds (if b then (highest boxes (axis_of d) rest +ℤ pos 1) -ℤ lowest boxes (axis_of d) moved else (highest boxes (axis_of d) moved +ℤ pos 1) -ℤ lowest boxes (axis_of d) rest) (unsigned_abs (component (axis_of d) d))) *ℤ component (axis_of d) d)) ≤ℤ (lowest boxes (axis_of d) rest -ℤ pos 1)))
+      go true e size =
+          let up : pos 0 <ℤ component (axis_of d) d = grind (arith, ints) in
+          inl (up, up_past (lowest boxes (axis_of d) moved) (highest boxes (axis_of d) rest) (component (axis_of d) d) _ up (enough ((highest boxes (axis_of d) rest +ℤ pos 1) -ℤ lowest boxes (axis_of d) moved) (unsigned_abs (component (axis_of d) d)) size))
+      go false e size =
+          let low : component (axis_of d) d ≤ℤ pos 0 = grind (arith, ints) in
+          let down : component (axis_of d) d <ℤ pos 0 = omega (arith, ints) in
+          inr (down, down_past (highest boxes (axis_of d) moved) (lowest boxes (axis_of d) rest) (component (axis_of d) d) _ low (enough ((highest boxes (axis_of d) moved +ℤ pos 1) -ℤ lowest boxes (axis_of d) rest) (unsigned_abs (component (axis_of d) d)) size))
+
+  -- and no fewer are
+  pub least_past : (k : ℕ) → ArePast boxes d moved rest k → steps_apart boxes d moved rest ≤ k
+  unfolding steps_apart
+  least_past k h =
+      go (int_lt (pos 0) (component (axis_of d) d)) refl (size_some (component (axis_of d) d) (axis_some d some)) h
+    where
+      go : (b : Bool) → int_lt (pos 0) (component (axis_of d) d) ≡ b → 0 < unsigned_abs (component (axis_of d) d)
+          → ArePast boxes d moved rest k
+          → rounds (if b then (highest boxes (axis_of d) rest +ℤ pos 1) -ℤ lowest boxes (axis_of d) moved else (highest boxes (axis_of d) moved +ℤ pos 1) -ℤ lowest boxes (axis_of d) rest) (unsigned_abs (component (axis_of d) d)) ≤ k
+      go true e size (inl a) =
+          fewest _ (unsigned_abs (component (axis_of d) d)) k size (past_up (lowest boxes (axis_of d) moved) (highest boxes (axis_of d) rest) (component (axis_of d) d) k a.0 a.1)
+      go true e size (inr a) = let wrong = a.0 in absurd (grind (arith, ints))
+      go false e size (inl a) = let wrong = a.0 in absurd (grind (arith, ints))
+      go false e size (inr a) = let down =
+          a.0 in fewest _ (unsigned_abs (component (axis_of d) d)) k size (past_down (highest boxes (axis_of d) moved) (lowest boxes (axis_of d) rest) (component (axis_of d) d) k (omega (arith, ints)) a.1)

@@ -1,0 +1,106 @@
+// The boxes round parts.
+ghost use Rattle.std.specs.Prelude.{◌≡◌, ◌<◌, ◌≤◌, All, IfOk, length};
+ghost use Rattle.std.specs.Int.{int_max, int_min};
+ghost use Rattle.std.specs.List.{fold};
+ghost use Rattle.staat_vec.specs.Vectors.{IsWithin};
+ghost use Rattle.staat_explode.specs.Boxes.{around, box_of, boxes_of, covering, high_corner, low_corner, points_at};
+ghost use Rattle.staat_explode.specs.Sizes.{AreBounds};
+
+use staat_model::Assembly;
+use staat_vec::V3;
+use std::alloc::{AllocError, Global};
+
+/// A box, by the least and the greatest number of its points in each component.
+#[derive(Clone, Copy, Debug, PartialEq, Eq)]
+pub struct Bounds {
+    pub low: V3,
+    pub high: V3,
+}
+
+// The box of one point.
+fn around(p: V3) -> Bounds
+    ensures { result ≡ around p }
+{
+    Bounds { low: p, high: p }
+}
+
+pub(crate) fn lesser(a: i128, b: i128) -> i128
+    ensures { result ≡ int_min a b }
+{
+    a.min(b)
+}
+
+pub(crate) fn greater(a: i128, b: i128) -> i128
+    ensures { result ≡ int_max a b }
+{
+    a.max(b)
+}
+
+// The corner with the lesser number in each component.
+fn low_corner(a: V3, b: V3) -> V3
+    ensures { result ≡ low_corner a b }
+{
+    V3 {
+        x: lesser(a.x, b.x),
+        y: lesser(a.y, b.y),
+        z: lesser(a.z, b.z),
+    }
+}
+
+// The corner with the greater number in each component.
+fn high_corner(a: V3, b: V3) -> V3
+    ensures { result ≡ high_corner a b }
+{
+    V3 {
+        x: greater(a.x, b.x),
+        y: greater(a.y, b.y),
+        z: greater(a.z, b.z),
+    }
+}
+
+// The box that covers a box and a point.
+fn covering(b: Bounds, p: V3) -> Bounds
+    ensures { result ≡ covering b p }
+{
+    Bounds {
+        low: low_corner(b.low, p),
+        high: high_corner(b.high, p),
+    }
+}
+
+// The box that covers a box and points.
+fn covering_all(b: Bounds, points: &[V3]) -> Bounds
+    ensures { result ≡ fold covering b points.now }
+{
+    let mut bounds = b;
+    for p in points {
+        bounds = covering(bounds, *p);
+    }
+    bounds
+}
+
+// The box of the part a.
+fn box_of(assembly: &Assembly, a: u32) -> Bounds
+    requires { a < length assembly.now }
+    ensures value { result ≡ box_of (points_at assembly.now a) }
+    ensures size { AreBounds result }
+{
+    let _parts = assembly.parts();
+    let mut bounds = around(assembly.piece(a, 0).points()[0]);
+    for i in 0..assembly.pieces(a) {
+        bounds = covering_all(bounds, assembly.piece(a, i).points());
+    }
+    bounds
+}
+
+/// The boxes of the parts.
+pub(crate) fn boxes_of(alloc: Global, assembly: &Assembly) -> Result<Vec<Bounds>, AllocError>
+    ensures boxes { IfOk result (λ boxes. boxes.items ≡ boxes_of assembly.now) }
+    ensures size { IfOk result (λ boxes. All AreBounds boxes.items) }
+{
+    let mut boxes = Vec::new(alloc);
+    for a in 0..assembly.parts() {
+        boxes.push(box_of(assembly, a))?;
+    }
+    Ok(boxes)
+}
