@@ -1,5 +1,7 @@
 -- The half circle of a plane, and the planes through its vertices, while they are built.
-use Rattle.std.specs.Prelude.{◌≡◌, ◌≢◌, ◌⊎◌, ℕ, ◌<◌, ℤ, Bool, not, List, [], ◌∷◌, map, length, All, Contains, pos, ◌<ℤ◌, slice_index_or, ◌++◌}
+use Rattle.std.specs.Prelude.{◌≡◌, ◌≢◌, ◌⊎◌, ℕ, ◌<◌, ℤ, Bool, not, List, [], ◌∷◌, map, length, All, Contains, pos}
+use Rattle.std.specs.Prelude.{◌<ℤ◌, ◌++◌, Some, slice_get, slice_index_or}
+use Rattle.staat_model.specs.Circles.{axis_beside}
 use Rattle.std.specs.Ordering.{nat_cmp}
 use Rattle.staat_vec.specs.declared.vector.V3.{V3}
 use Rattle.staat_vec.specs.declared.vector.TheConstants.{NORMAL}
@@ -49,7 +51,9 @@ pub record AreAhead (planes : List V3) (g axis : V3) (n : ℕ) (hs : List V3) : 
 
 -- the plane was put at the end, turned ahead, unless it crosses on the line of the axis
 abbrev pub IsPut : V3 → V3 → V3 → List V3 → List V3 → Type 0
-IsPut g axis h old new = ((det g axis h ≡ pos 0) × (new ≡ old)) ⊎ ((t : Bool) × (pos 0 <ℤ det g axis (facet_by t h)) × IsWithin NORMAL (facet_by t h) × (new ≡ old ++ facet_by t h ∷ []))
+IsPut g axis h old new = ((det g axis h ≡ pos 0) × (new ≡ old))
+    ⊎ ((t : Bool) × (pos 0 <ℤ det g axis (facet_by t h)) × IsWithin NORMAL (facet_by t h)
+    × (new ≡ old ++ facet_by t h ∷ []))
 
 -- the crossing with the plane j lies on the half circle, or opposite
 pub record IsMet (g : V3) (half : List V3) (h : V3) : Type 0 where
@@ -65,6 +69,11 @@ pub record IsHalfCircle (planes : List V3) (c : ℕ) (g axis : V3) (half : List 
   pub rises : (i k : ℕ) → i < k → k < length half → pos 0 <ℤ det g (normal_at half i) (normal_at half k)
   pub each : (k : ℕ) → k < length half → IsFromPlane planes c (normal_at half k)
   pub all : (j : ℕ) → j < length planes → j ≢ c → IsMet g half (plane_at planes j)
+
+-- the same, for the normal of plane c and the axis beside it
+abbrev pub IsHalfOfCircle : List V3 → ℕ → List V3 → Type 0
+IsHalfOfCircle planes c half = (g axis : V3) → slice_get planes c ≡ Some g → slice_get planes (axis_beside c) ≡ Some axis
+    → IsHalfCircle planes c g axis half
 
 -- h is ahead of the axis, or crosses where it does
 abbrev pub IsUpper : V3 → V3 → V3 → Type 0
@@ -86,9 +95,14 @@ abbrev pub slot_at : List (List Entry) → ℕ → List Entry
 slot_at slots k = slice_index_or slots k []
 
 -- the planes below j stand at their places
-pub record AreFilled (planes : List V3) (c : ℕ) (g : V3) (half : List V3) (j : ℕ) (slots : List (List Entry)) : Type 0 where
+pub record AreFilled (planes : List V3) (c : ℕ) (g : V3) (half : List V3) (j : ℕ) (slots : List (List Entry))
+    : Type 0 where
   pub size : length slots ≡ length half
   pub each : (k : ℕ) → k < length half → IsThrough planes c g (normal_at half k) j (slot_at slots k)
+
+-- the same, for the normal of plane c
+abbrev pub AreFilledTo : List V3 → ℕ → List V3 → ℕ → List (List Entry) → Type 0
+AreFilledTo planes c half j slots = (g : V3) → slice_get planes c ≡ Some g → AreFilled planes c g half j slots
 
 -- the same plane, seen from the opposite vertex
 abbrev pub opposite : Entry → Entry

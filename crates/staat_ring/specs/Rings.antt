@@ -1,5 +1,6 @@
 -- The circles of the linked planes, as they are kept: stops with the entries of the planes through them.
-use Rattle.std.specs.Prelude.{◌≡◌, ◌≢◌, ◌⊎◌, ℕ, ◌+◌, ◌*◌, ◌<◌, List, [], ◌∷◌, length, map, take, All, Bool, true, false}
+use Rattle.std.specs.Prelude.{◌≡◌, ◌≢◌, ◌⊎◌, ℕ, ◌+◌, ◌*◌, ◌<◌, List, [], ◌∷◌, length, map, take, All, Bool}
+use Rattle.std.specs.Prelude.{true, false}
 use Rattle.std.specs.Prelude.{Contains, Some, slice_get, slice_index_or, if◌then◌else◌}
 use Rattle.std.specs.List.Sorted.{IsStrictlySortedBy}
 use Rattle.std.specs.Ordering.{nat_cmp}
@@ -64,7 +65,8 @@ pub record IsRingOf (planes : List V3) (linked : List ℕ) (r : Ring) : Type 0 w
 
 -- no two linked planes are parallel
 pub record AreLinkedApart (planes : List V3) (linked : List ℕ) : Type 0 where
-  pub apart : (i j : ℕ) (g h : V3) → IsLinked planes linked i g → IsLinked planes linked j h → i ≢ j → cross g h ≢ origin
+  pub apart : (i j : ℕ) (g h : V3) → IsLinked planes linked i g → IsLinked planes linked j h
+      → i ≢ j → cross g h ≢ origin
 
 -- ---- made from a table
 

@@ -1,5 +1,6 @@
 -- What the arrays stand for: for each circle the list of its vertices, for each vertex the list of its entries.
-use Rattle.std.specs.Prelude.{◌≡◌, ℕ, ◌<◌, List, [], ◌∷◌, ◌++◌, length, slice_index, Bool, true, false, not, ◌==◌, if◌then◌else◌, Contains, All}
+use Rattle.std.specs.Prelude.{◌≡◌, ℕ, ◌<◌, List, [], ◌∷◌, length, slice_index, Bool, true, false, not, ◌==◌, Contains}
+use Rattle.std.specs.Prelude.{All, if◌then◌else◌}
 use Rattle.std.specs.List.{filter}
 use Rattle.staat_ring.specs.Links.{Apart, Links, Ring, Distinct, Arrays}
 
@@ -10,7 +11,8 @@ abbrev pub is_empty : List ℕ → Bool
 is_empty [] = true
 is_empty (x ∷ xs) = false
 
--- The vertex of each entry and the circle of each vertex never change. A node of a ring and its head have the ring's tag.
+-- The vertex of each entry and the circle of each vertex never change. A node of a ring and its head have the ring's
+-- tag.
 abbrev pub Tagged : (ℕ → ℕ) → ℕ → List ℕ → Type 0
 Tagged tag t [] = Unit {0}
 Tagged tag t (x ∷ xs) = (tag x ≡ t) × Tagged tag t xs
@@ -23,7 +25,8 @@ pub record IsRing (s : Links) (tag : ℕ → ℕ) (h : ℕ) (xs : List ℕ) : Ty
 
 -- every word is a node
 abbrev pub InRange : Links → Type 0
-InRange s = ((x : ℕ) → x < length s.next → slice_index s.prev x < length s.next) × ((x : ℕ) → x < length s.next → slice_index s.next x < length s.next) × (length s.prev ≡ length s.next)
+InRange s = ((x : ℕ) → x < length s.next → slice_index s.prev x < length s.next)
+    × ((x : ℕ) → x < length s.next → slice_index s.next x < length s.next) × (length s.prev ≡ length s.next)
 
 -- the head of each circle, the circle of each node of the circles' rings, and how many circles there are
 pub record Shape : Type 0 where
@@ -55,7 +58,8 @@ pub record Stands (g : Shape) (l : Lists) (a : Arrays) : Type 0 where
   pub owns : (c v : ℕ) → c < g.count → Contains (l.vertices c) v → home_of a v ≡ v
   pub vertices : (c v : ℕ) → c < g.count → Contains (l.vertices c) v → IsRing a.vertices (home_of a) v (l.entries v)
   pub within : (c v : ℕ) → c < g.count → Contains (l.vertices c) v → v < length a.circles.next
-  pub entries_within : (c v e : ℕ) → c < g.count → Contains (l.vertices c) v → Contains (l.entries v) e → e < length a.vertices.next
+  pub entries_within : (c v e : ℕ) → c < g.count → Contains (l.vertices c) v → Contains (l.entries v) e
+      → e < length a.vertices.next
 
 -- the entry stands at its vertex, and the vertex on its circle
 pub record IsPresent (g : Shape) (l : Lists) (a : Arrays) (e : ℕ) : Type 0 where

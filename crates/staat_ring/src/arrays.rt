@@ -10,6 +10,7 @@ ghost use Rattle.staat_ring.specs.RingViews.{shape};
 use crate::circle::Through;
 use crate::linking::link_stops;
 use crate::nodes::{NodeLinks, counted};
+use staat_planes::MOST_PLANES;
 use staat_vec::OutOfMemory;
 use std::alloc::Global;
 use std::marker::Model;
@@ -37,7 +38,7 @@ impl Model for RingArrays {
 
 /// The number of the first of the two entries of a plane on a circle.
 fn entry(planes: u32, c: u32, p: u32) -> u32
-    requires planes { planes ≤ 1024 }
+    requires planes { planes ≤ MOST_PLANES }
     requires circle { c < planes }
     requires plane { p < planes }
     ensures is { result ≡ 2 * (c * planes + p) }
@@ -76,7 +77,7 @@ impl RingArrays {
 
     /// Takes all entries of a plane out.
     pub fn take_plane(&mut self, planes: u32, p: u32)
-        requires planes { planes ≤ 1024 }
+        requires planes { planes ≤ MOST_PLANES }
         requires plane { p < planes }
         requires room { 2 * (planes * planes) ≤ length self.old.home }
         ensures arrays { self.new ≡ take_all (entries_of planes p planes) self.old }
@@ -93,7 +94,7 @@ impl RingArrays {
 
     /// Puts them back, the last first.
     pub fn give_plane(&mut self, planes: u32, p: u32)
-        requires planes { planes ≤ 1024 }
+        requires planes { planes ≤ MOST_PLANES }
         requires plane { p < planes }
         requires room { 2 * (planes * planes) ≤ length self.old.home }
         ensures arrays { self.new ≡ give_all (entries_of planes p planes) self.old }
@@ -141,7 +142,7 @@ impl RingArrays {
 
 /// The head of the circle `c`: the number that an entry of its own plane would have.
 pub fn head_of(planes: u32, c: u32) -> u32
-    requires planes { planes ≤ 1024 }
+    requires planes { planes ≤ MOST_PLANES }
     requires circle { c < planes }
     ensures is { result ≡ head_number planes c }
     ensures within { result < 2 * (planes * planes) }
@@ -152,7 +153,7 @@ pub fn head_of(planes: u32, c: u32) -> u32
 impl RingArrays {
     /// Arrays for so many planes, in which each node is a ring of its own.
     pub fn alone(alloc: Global, planes: u32) -> Result<RingArrays, OutOfMemory>
-        requires { planes ≤ 1024 }
+        requires { planes ≤ MOST_PLANES }
         ensures sizes { IfOk result (AreSized planes) }
         ensures alone { IfOk result (λ a. (x : ℕ) → x < 4 * (planes * planes) → IsAlone a x) }
         ensures home { IfOk result (λ a. (x : ℕ) → x < 4 * (planes * planes) → slice_index a.home x ≡ x) }
@@ -170,7 +171,7 @@ impl RingArrays {
 
     /// Links the circle `c`, whose nodes stand alone, to these stops.
     pub fn link_circle(&mut self, planes: u32, c: u32, nodes: &[u32], stops: &[Through])
-        requires planes { planes ≤ 1024 }
+        requires planes { planes ≤ MOST_PLANES }
         requires circle { c < planes }
         requires sizes { AreSized planes self.old }
         requires stops { CanBeLinked planes c stops.now }
@@ -179,7 +180,8 @@ impl RingArrays {
         ensures sizes { AreSized planes self.new }
         ensures holds { HoldsCircle planes self.new c stops.now }
         ensures others { (x : ℕ) → (shape planes).circle x ≢ c → IsKeptAt self.old self.new x }
-        ensures home { (x : ℕ) → 2 * (planes * planes) ≤ x → slice_index self.new.home x ≡ slice_index self.old.home x }
+        ensures home { (x : ℕ) → 2 * (planes * planes) ≤ x
+            → slice_index self.new.home x ≡ slice_index self.old.home x }
     {
         self.circles.link(head_of(planes, c), nodes);
         link_stops(&mut self.vertices, &mut self.home, planes, c, stops);

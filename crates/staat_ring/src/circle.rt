@@ -1,10 +1,11 @@
 // The circle of a plane, by the entries of its stops.
-ghost use Rattle.std.specs.Prelude.{◌≡◌, ◌≢◌, ℕ, ◌+◌, ◌<◌, ◌≤◌, ◌++◌, List, [], ◌∷◌, All, Contains, IfOk, OnOk, Some, length, map, replicate, slice_get, slice_set};
+ghost use Rattle.std.specs.Prelude.{◌≡◌, ◌≢◌, ℕ, ◌+◌, ◌<◌, ◌++◌, List, [], ◌∷◌, All, Contains, IfOk, OnOk, length};
+ghost use Rattle.std.specs.Prelude.{map, replicate, slice_set};
 ghost use Rattle.staat_vec.specs.declared.vector.V3.{V3 as Vector};
 ghost use Rattle.staat_vec.specs.Vectors.{IsWithin, cross, origin};
 ghost use Rattle.staat_model.specs.Circles.{axis_beside};
 ghost use Rattle.staat_ring.specs.declared.entry.Entry.{Entry as EntryValue};
-ghost use Rattle.staat_ring.specs.Builds.{AreFilled, IsHalfCircle, IsPlaceOf, all_around, opposite, ring_by, slot_at};
+ghost use Rattle.staat_ring.specs.Builds.{AreFilledTo, IsHalfOfCircle, IsPlaceOf, all_around, opposite, ring_by, slot_at};
 ghost use Rattle.staat_ring.specs.Rings.{IsRingOf, facet_by, plane_at};
 
 use crate::entry::Entry;
@@ -113,9 +114,9 @@ fn fill(
     requires c { c < length table.now.planes }
     requires j { j < length table.now.planes }
     requires different { j ≢ c }
-    requires half { (g axis : Vector) → slice_get table.now.planes c ≡ Some g → slice_get table.now.planes (axis_beside c) ≡ Some axis → IsHalfCircle table.now.planes c g axis half.now }
-    requires slots { (g : Vector) → slice_get table.now.planes c ≡ Some g → AreFilled table.now.planes c g half.now j slots.old.items }
-    ensures { OnOk result ((g : Vector) → slice_get table.now.planes c ≡ Some g → AreFilled table.now.planes c g half.now (j + 1) slots.new.items) }
+    requires half { IsHalfOfCircle table.now.planes c half.now }
+    requires slots { AreFilledTo table.now.planes c half.now j slots.old.items }
+    ensures { OnOk result (AreFilledTo table.now.planes c half.now (j + 1) slots.new.items) }
 {
     let _set = table.set();
     let _planes = table.len();
@@ -138,9 +139,9 @@ fn fill_other(
 ) -> Result<(), OutOfMemory>
     requires c { c < length table.now.planes }
     requires j { j < length table.now.planes }
-    requires half { (g axis : Vector) → slice_get table.now.planes c ≡ Some g → slice_get table.now.planes (axis_beside c) ≡ Some axis → IsHalfCircle table.now.planes c g axis half.now }
-    requires slots { (g : Vector) → slice_get table.now.planes c ≡ Some g → AreFilled table.now.planes c g half.now j slots.old.items }
-    ensures { OnOk result ((g : Vector) → slice_get table.now.planes c ≡ Some g → AreFilled table.now.planes c g half.now (j + 1) slots.new.items) }
+    requires half { IsHalfOfCircle table.now.planes c half.now }
+    requires slots { AreFilledTo table.now.planes c half.now j slots.old.items }
+    ensures { OnOk result (AreFilledTo table.now.planes c half.now (j + 1) slots.new.items) }
 {
     if j == c {
         return Ok(());
@@ -156,8 +157,9 @@ fn all_filled(
     half: &[V3],
 ) -> Result<Vec<Through>, OutOfMemory>
     requires c { c < length table.now.planes }
-    requires half { (g axis : Vector) → slice_get table.now.planes c ≡ Some g → slice_get table.now.planes (axis_beside c) ≡ Some axis → IsHalfCircle table.now.planes c g axis half.now }
-    ensures { IfOk result (λ v. (g : Vector) → slice_get table.now.planes c ≡ Some g → AreFilled table.now.planes c g half.now (length table.now.planes) v.items) }
+    requires half { IsHalfOfCircle table.now.planes c half.now }
+    ensures { IfOk result (λ v.
+        AreFilledTo table.now.planes c half.now (length table.now.planes) v.items) }
 {
     let mut slots = empty_slots(alloc, half.len())?;
     for j in 0..table.len() {
@@ -182,7 +184,9 @@ fn both_halves(alloc: Global, half: Vec<Through>) -> Result<Vec<Through>, OutOfM
 /// The circle of plane `c` among all planes of the table, from the crossing with the least other axis on.
 pub fn circle_of(alloc: Global, table: &PlaneTable, c: u32) -> Result<Vec<Through>, OutOfMemory>
     requires { c < length table.now.planes }
-    ensures { IfOk result (λ v. (linked : List ℕ) → ((j : ℕ) → j < length table.now.planes → Contains linked j) → IsRingOf table.now.planes linked (ring_by c v.items)) }
+    ensures { IfOk result (λ v. (linked : List ℕ)
+        → ((j : ℕ) → j < length table.now.planes → Contains linked j)
+        → IsRingOf table.now.planes linked (ring_by c v.items)) }
 {
     let _set = table.set();
     let _planes = table.len();

@@ -3,6 +3,8 @@ ghost use Rattle.std.specs.Prelude.{◌≡◌, ◌+◌, ◌*◌, ◌<◌, ◌≤
 ghost use Rattle.staat_ring.specs.Numbered.{HasEntry, node_number};
 ghost use Rattle.staat_ring.specs.Rings.{entry_number};
 
+use staat_planes::MOST_PLANES;
+
 /// A plane through a stop of a circle.
 #[derive(Clone, Copy)]
 pub struct Entry {
@@ -14,7 +16,7 @@ pub struct Entry {
 
 /// The number of an entry on the circle `c`.
 pub fn number_of_entry(planes: u32, c: u32, e: Entry) -> u32
-    requires planes { planes ≤ 1024 }
+    requires planes { planes ≤ MOST_PLANES }
     requires circle { c < planes }
     requires plane { e.plane < planes }
     ensures is { result ≡ entry_number planes c e }
@@ -27,7 +29,7 @@ pub fn number_of_entry(planes: u32, c: u32, e: Entry) -> u32
 
 /// The node of a stop on the circle `c`: it is numbered by its first entry, beyond all entries.
 pub fn node_of(planes: u32, c: u32, entries: &[Entry]) -> u32
-    requires planes { planes ≤ 1024 }
+    requires planes { planes ≤ MOST_PLANES }
     requires circle { c < planes }
     requires entries { All (λ e. e.plane < planes) entries.now }
     requires some { HasEntry entries.now }

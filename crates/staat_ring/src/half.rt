@@ -1,9 +1,9 @@
 // The half circle of a plane: the crossings on the half turn from its axis, in order.
-ghost use Rattle.std.specs.Prelude.{◌≡◌, ◌≢◌, ◌↔◌, ◌⊎◌, ℕ, ◌<◌, All, Bool, IfOk, MatchOption, OnOk, Some, length, pos, ◌<ℤ◌, slice_get};
+ghost use Rattle.std.specs.Prelude.{◌≡◌, ◌≢◌, ◌<◌, IfOk, OnOk, length};
 ghost use Rattle.staat_vec.specs.declared.vector.V3.{V3 as Vector};
 ghost use Rattle.staat_vec.specs.Vectors.{IsWithin, cross, det, origin};
 ghost use Rattle.staat_model.specs.Circles.{axis_beside};
-ghost use Rattle.staat_ring.specs.Builds.{AreAhead, IsHalfCircle, IsPut, IsUpper};
+ghost use Rattle.staat_ring.specs.Builds.{AreAhead, IsHalfOfCircle, IsPut, IsUpper};
 ghost use Rattle.staat_ring.specs.Rings.{facet_by};
 
 use crate::keys::in_order;
@@ -94,7 +94,7 @@ fn ahead_in_order(
 /// The normals whose crossings with plane `c` are those of the half turn from the axis, in order, each once.
 pub fn half_circle(alloc: Global, table: &PlaneTable, c: u32) -> Result<Vec<V3>, OutOfMemory>
     requires { c < length table.now.planes }
-    ensures { IfOk result (λ v. (g axis : Vector) → slice_get table.now.planes c ≡ Some g → slice_get table.now.planes (axis_beside c) ≡ Some axis → IsHalfCircle table.now.planes c g axis v.items) }
+    ensures { IfOk result (λ v. IsHalfOfCircle table.now.planes c v.items) }
 {
     let _set = table.set();
     let _planes = table.len();

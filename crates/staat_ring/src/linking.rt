@@ -9,6 +9,7 @@ ghost use Rattle.staat_ring.specs.Rings.{entry_number};
 use crate::circle::Through;
 use crate::entry::{Entry, node_of, number_of_entry};
 use crate::nodes::NodeLinks;
+use staat_planes::MOST_PLANES;
 use staat_vec::OutOfMemory;
 use std::alloc::Global;
 
@@ -37,7 +38,7 @@ pub fn nodes_of(
     c: u32,
     stops: &[Through],
 ) -> Result<Vec<u32>, OutOfMemory>
-    requires planes { planes ≤ 1024 }
+    requires planes { planes ≤ MOST_PLANES }
     requires circle { c < planes }
     requires stops { CanBeLinked planes c stops.now }
     ensures { IfOk result (λ v. v.items ≡ map (node_number planes c) stops.now) }
@@ -58,7 +59,7 @@ fn link_entries(
     v: u32,
     entries: &[Entry],
 )
-    requires planes { planes ≤ 1024 }
+    requires planes { planes ≤ MOST_PLANES }
     requires circle { c < planes }
     requires node { v < length vertices.old.next }
     requires room { 4 * (planes * planes) ≤ length vertices.old.next }
@@ -90,14 +91,15 @@ pub fn link_stops(
     c: u32,
     stops: &[Through],
 )
-    requires planes { planes ≤ 1024 }
+    requires planes { planes ≤ MOST_PLANES }
     requires circle { c < planes }
     requires room { 4 * (planes * planes) ≤ length vertices.old.next }
     requires homes { length home.old.items ≡ length vertices.old.next }
     requires stops { CanBeLinked planes c stops.now }
     requires alone { AreLinked vertices.old (rows_of planes c stops.now) 0 }
     requires within { All (λ x. x < length home.old.items) home.old.items }
-    ensures { AreStopsLinked planes c stops.now (length stops.now) vertices.old vertices.new home.old.items home.new.items }
+    ensures { AreStopsLinked planes c stops.now (length stops.now) vertices.old vertices.new home.old.items
+        home.new.items }
 {
     for stop in stops {
         let entries = stop.entries();

@@ -1,5 +1,5 @@
 // The order of crossings on a half circle.
-ghost use Rattle.std.specs.Prelude.{◌≡◌, ℕ, ◌+◌, ◌-◌, ◌<◌, ◌≤◌, All, Bool, IfOk, OnOk, if◌then◌else◌, length, slice_get, slice_index_or};
+ghost use Rattle.std.specs.Prelude.{◌≡◌, ℕ, All, Bool, IfOk, OnOk, if◌then◌else◌};
 ghost use Rattle.staat_vec.specs.declared.vector.V3.{V3 as Vector};
 ghost use Rattle.staat_vec.specs.declared.vector.Sign.TheVariants.{Neg, Pos, Zero};
 ghost use Rattle.staat_vec.specs.Vectors.{IsWithin, det, sign};
@@ -9,8 +9,8 @@ ghost use Rattle.staat_ring.specs.Order.{IsHalfOf, IsPlace};
 use staat_vec::{NORMAL, OutOfMemory, Sign, V3, order_on};
 use std::alloc::Global;
 
-/// Where the crossing of the plane of `g` with that of `h` comes among others that rise, and whether it is one of them.
-/// The search goes from the last one back: where they come nearly in order, it takes a step or two.
+/// Where the crossing of the plane of `g` with that of `h` comes among others that rise, and whether it is one of
+/// them. The search goes from the last one back: where they come nearly in order, it takes a step or two.
 fn place_in(g: V3, hs: &[V3], h: V3) -> (usize, bool)
     requires g { IsWithin NORMAL g }
     requires h { IsWithin NORMAL h }
@@ -33,7 +33,8 @@ pub fn insert(g: V3, hs: &mut Vec<V3>, h: V3) -> Result<(), OutOfMemory>
     requires g { IsWithin NORMAL g }
     requires h { IsWithin NORMAL h }
     requires hs { All (IsWithin NORMAL) hs.old.items }
-    ensures { OnOk result ((i : ℕ) × (same : Bool) × IsPlace g hs.old.items h i same × (hs.new.items ≡ (if same then hs.old.items else insert hs.old.items i h))) }
+    ensures { OnOk result ((i : ℕ) × (same : Bool) × IsPlace g hs.old.items h i same
+        × (hs.new.items ≡ (if same then hs.old.items else insert hs.old.items i h))) }
 {
     let (i, same) = place_in(g, hs.as_slice(), h);
     if !same {

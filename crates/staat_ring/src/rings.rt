@@ -16,7 +16,8 @@ use std::marker::Model;
 /// it. A plane has two entries on each circle other than its own, one at each of the two vertices in which they cross.
 ///
 /// The nodes are linked by index, both ways, so that a node that was taken out knows the place to which it comes back
-/// (Knuth, "Dancing links", 2000). For n planes there are five arrays of 4 n n words of 32 bits: 40 bytes for an entry.
+/// (Knuth, "Dancing links", 2000). For n planes there are five arrays of 4 n n words of 32 bits, which is 40 bytes for
+/// each of the 2 n n entries.
 #[derive(Drop)]
 pub struct Rings {
     pub(crate) arrays: RingArrays,
