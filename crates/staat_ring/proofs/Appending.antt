@@ -55,26 +55,3 @@ pub ring-append : (s : Links) (h x : ℕ) (xs : List ℕ) → x < length s.next 
 ring-append s h x xs ln lp li lh d ax c =
     let e = prev_last s h h xs c in
     chain_grows s h x (get_or s.prev h 0) h xs e (λ q. apart_last x h xs ax (q ∙ e)) (λ q. ax.0 (sym q)) ln lp li lh d d.0 ax c
-
-chain_kept : (s : Links) (h x i a : ℕ) (xs : List ℕ) (b : ℕ) → Apart x (a ∷ xs) → Apart i (a ∷ xs) → Apart x xs → Apart h xs → b ≢ x → b ≢ h → Chain s a xs b → Chain (two s h x i) a xs b
-chain_kept s h x i a [] b ax ai bx bh nx nh c = (kept s.next x h i x a ax.0 ai.0 ∙ c.0, kept s.prev x i h x b nx nh ∙ c.1)
-chain_kept s h x i a (y ∷ xs) b ax ai bx bh nx nh c = (
-  kept s.next x h i x a ax.0 ai.0 ∙ c.0,
-  (
-    kept s.prev x i h x y bx.0 bh.0 ∙ c.1.0,
-    chain_kept s h x i y xs b ax.1 ai.1 bx.1 bh.1 nx nh c.1.1,
-  ),
-)
-
--- a ring with another tag stays, if x is not in it
-pub ring-append_other : (s : Links) (tag : ℕ → ℕ) (h x r : ℕ) (xs ys : List ℕ) → Ring s h xs → Tagged tag (tag h) (h ∷ xs) → Tagged tag (tag r) (r ∷ ys) → tag h ≢ tag r → Apart x (r ∷ ys) → Ring s r ys → Ring (append h x s) r ys
-ring-append_other s tag h x r xs ys c th tr n ax d =
-    let e = prev_last s h h xs c in
-    let tl : tag (get_or s.prev h 0) ≡ tag h = ap tag e ∙ last_tag h xs th in
-    chain_kept s h x (get_or s.prev h 0) r ys r ax
-    (tagged_apart tag (tag r) (get_or s.prev h 0) (r ∷ ys) tr (λ q. n (sym tl ∙ q)))
-    ax.1 (tagged_apart tag (tag r) h ys tr.1 n) ax.0 (λ q. n (ap tag (sym q))) d
-  where
-    last_tag : (a : ℕ) (xs : List ℕ) → Tagged tag (tag h) (a ∷ xs) → tag (last_of a xs) ≡ tag h
-    last_tag a [] t = t.0
-    last_tag a (y ∷ xs) t = last_tag y xs t.1

@@ -83,11 +83,6 @@ filled_own planes c j g half slots e a = record {
 
 -- ---- one plane more
 
-positive_sign : (z : ℤ) → pos 0 <ℤ z → sign z ≡ Pos
-positive_sign (pos zero) h = absurd h.lt
-positive_sign (pos (suc n)) h = refl
-positive_sign (negsuc n) h = absurd h.lt
-
 zero_positive : (z : ℤ) → z ≡ pos 0 → pos 0 <ℤ z → ⊥
 zero_positive z e h = omega (arith, ints)
 

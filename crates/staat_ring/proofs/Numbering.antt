@@ -73,11 +73,6 @@ head_small n c lc = let s = number_small n c c 0 lc lc (omega arith) in let e = 
 pub head_circle : (n c : ℕ) → c < n → (shape n).circle (head_number n c) ≡ c
 head_circle n c lc = ap (shape n).circle (head_is n c) ∙ circle_of_number n c c 0 lc lc (omega arith)
 
--- no entry of another plane has the number of the head
-pub head_apart : (n c : ℕ) (e : Entry) → c < n → e.plane < n → e.plane ≢ c → entry_number n c e ≢ head_number n c
-head_apart n c e lc le ne q =
-    let (_, p, _) = number_once n c e.plane (bit e.turned) c c 0 le lc (bit_small e.turned) (omega arith) (q ∙ head_is n c) in ne p
-
 -- ---- an entry stands at one stop
 
 pub entry_once : (planes : List V3) (linked : List ℕ) (r : Ring) → IsRingOf planes linked r → (k m : ℕ) (s t : RingStop) (e : Entry) → slice_get r.stops k ≡ Some s → slice_get r.stops m ≡ Some t → Contains s.entries e → Contains t.entries e → k ≡ m

@@ -126,27 +126,5 @@ linked_more s t rows m n lm rules ring others l = record {
     further : (k : ℕ) → k < m → k < m + 1
     further k lt = omega (arith, lt)
 
--- a row, by its place
-pub row_rules : (rows : List Row) (r : Row) (m n : ℕ) → m < length rows → row_at rows m ≡ r → AreRows n rows → (r.head < n) × All (λ x. x < n) r.nodes × Distinct (all_of r)
-row_rules rows r m n lt e rules =
-    let w = subst (λ (x : Row). All (λ y. y < n) (all_of x)) e (rules.within m lt) in (
-      All-contains (λ y. y < n) (all_of r) r.head w (0, omega arith, refl),
-      (λ k d lt. w (suc k) d (omega (arith, lt))),
-      subst (λ (x : Row). Distinct (all_of x)) e (rules.distinct m lt),
-    )
-
 pub linked_row : (s t : Links) (rows : List Row) (r : Row) (m n : ℕ) → m < length rows → row_at rows m ≡ r → AreRows n rows → Ring t r.head r.nodes → ((y : ℕ) → Apart y (all_of r) → IsSameAt s t y) → AreLinked s rows m → AreLinked t rows (m + 1)
 linked_row s t rows r m n lm e rules ring others l = linked_more s t rows m n lm rules (subst (λ (x : Row). Ring t x.head x.nodes) (sym e) ring) (λ y a. others y (subst (λ (x : Row). Apart y (all_of x)) e a)) l
-
-pub alone_row : (s : Links) (rows : List Row) (r : Row) (m : ℕ) → m < length rows → row_at rows m ≡ r → AreLinked s rows m → Ring s r.head []
-alone_row s rows r m lt e l = subst (λ (x : Row). Ring s x.head []) e (l.alone m (λ q. absurd (omega (arith, q))) lt)
-
-pub told : (rows : List Row) (r : Row) (m h : ℕ) (xs : List ℕ) → m < length rows → r ≡ get_or rows m r → h ≡ r.head → xs ≡ r.nodes → row_at rows m ≡ record { head = h; nodes = xs }
-told rows r m h xs lt e eh ex = get_or_default rows m no_row r lt ∙ (sym e ∙ (λ i. record { head = sym eh i; nodes = sym ex i }))
-
--- where each node stands alone no row is linked yet
-pub none_linked : (s : Links) (rows : List Row) (n : ℕ) → AreRows n rows → ((x : ℕ) → x < n → get_or s.next x 0 ≡ x) → ((x : ℕ) → x < n → get_or s.prev x 0 ≡ x) → AreLinked s rows 0
-none_linked s rows n rules next prev = record {
-  linked = λ k lt lk. absurd (omega (arith, lt));
-  alone = λ k no lk. let w = All-contains (λ y. y < n) (all_of (row_at rows k)) (row_at rows k).head (rules.within k lk) (0, omega arith, refl) in (next (row_at rows k).head w, prev (row_at rows k).head w);
-}

@@ -37,21 +37,12 @@ size_positive v some = go (square_sign v.x) (square_sign v.y) (square_sign v.z)
 no_turn_origin : (v w : V3) → turn origin v w ≡ pos 0
 no_turn_origin v w = ring (values (v ∷ w ∷ []) []) (turnE (record { x = num (pos 0); y = num (pos 0); z = num (pos 0) }) v0 v1) (num (pos 0)) tt
 
-normal_positive : (g v w : V3) → pos 0 <ℤ turn g v w → pos 0 <ℤ dot g g
-normal_positive g v w h = size_positive g (λ e. none (turn g v w) h (ap (λ x. turn x v w) e ∙ no_turn_origin v w))
-  where
-    none : (a : ℤ) → pos 0 <ℤ a → a ≡ pos 0 → ⊥
-    none a h e = omega (arith, ints)
-
 -- ---- a crossing lies on the plane
 pub own_side : (g h : V3) → dot g (cross g h) ≡ pos 0
 own_side g h = ring (values (g ∷ h ∷ []) []) (dotE v0 (crossE v0 v1)) (num (pos 0)) tt
 
 dot_times : (g v : V3) (k : ℤ) → dot g (record { x = k *ℤ v.x; y = k *ℤ v.y; z = k *ℤ v.z }) ≡ k *ℤ dot g v
 dot_times g v k = ring (values (g ∷ v ∷ []) (k ∷ [])) (dotE v0 (timesE (at 6) v1)) (at 6 ⊗ dotE v0 v1) tt
-
-dot_origin : (g : V3) → dot g origin ≡ pos 0
-dot_origin g = ring (values (g ∷ []) []) (dotE v0 (record { x = num (pos 0); y = num (pos 0); z = num (pos 0) })) (num (pos 0)) tt
 
 pub primitive_on : (g u : V3) → dot g u ≡ pos 0 → u ≢ origin → dot g (primitive u) ≡ pos 0
 primitive_on g u e some =
@@ -91,14 +82,6 @@ not_both g h v w ahead ev ew apart hv hw =
 
     none : (a : ℤ) → pos 0 <ℤ a → a ≡ pos 0 → ⊥
     none a h e = omega (arith, ints)
-
-sign_zero : (a : ℤ) → a ≡ pos 0 → sign a ≡ Zero
-sign_zero a e = ap sign e
-
-zero_sign : (a : ℤ) → sign a ≡ Zero → a ≡ pos 0
-zero_sign (pos zero) e = refl
-zero_sign (pos (suc n)) e = cc
-zero_sign (negsuc n) e = cc
 
 -- a vertex of the circle lies on its plane
 pub on_plane : (table : List V3) (linked : List ℕ) (c : ℕ) (g v : V3) → AreLinkedApart table linked → IsLinked table linked c g → IsOnCircle table linked c g v → dot g v ≡ pos 0
