@@ -1,0 +1,372 @@
+-- Arrays in which all circles stand are good, and show the circles of the planes.
+use Rattle.std.proofs.Common.{◌≡◌, ◌≢◌, ◌⊎◌, inl, inr, ⊎_elim, ℕ, zero, suc, ◌+◌, ◌*◌, ◌/◌, ◌%◌, ◌<◌, ◌≤◌, Bool, true, false, not, arith, ap, refl, sym, subst, ◌∙◌, List, [], ◌∷◌, ◌++◌, length, get_or, All, Contains, take, eq-eqb, add-one}
+use Rattle.std.specs.Prelude.{Some, map, slice_get, ◌==◌}
+use Rattle.std.specs.List.{filter}
+use Rattle.std.specs.Ordering.{nat_cmp}
+use Rattle.std.specs.List.Sorted.{IsStrictlySortedBy}
+use Rattle.std.proofs.Math.Nat.{mul-le-mul}
+use Rattle.std.proofs.Math.ListN.{length-append}
+use Rattle.std.proofs.lemmas.List.{get_or_default, length-map}
+use Rattle.std.proofs.lemmas.List.Elements.{All-contains, Contains-append_cases, Contains-append_left, Contains-append_right}
+use Rattle.std.proofs.lemmas.Map.Keys.{sorted_from_strictly_increasing}
+use Rattle.std.proofs.lemmas.Option.{get_or_from_slice_get, slice_get_within}
+use Rattle.staat_vec.specs.declared.vector.V3.{V3}
+use Rattle.staat_vec.specs.Vectors.{origin}
+use Rattle.staat_pairs.specs.Tables.{AreTablePlanes}
+use Rattle.staat_model.proofs.Members.{All-from_members}
+use Rattle.staat_model.specs.Circles.{IsLinked, Stop}
+use Rattle.staat_ring.specs.declared.entry.Entry.{Entry}
+use Rattle.staat_ring.specs.Builds.{ring_by, slot_at}
+use Rattle.staat_ring.specs.Links.{Arrays, Distinct}
+use Rattle.staat_ring.specs.Linking.{AreLinkedBelow, CanBeLinked, HasCircle}
+use Rattle.staat_ring.specs.Numbered.{head_number, node_number}
+use Rattle.staat_ring.specs.Planes.{entries_of, entries_on}
+use Rattle.staat_ring.specs.Rings.{AreRings, IsRingOf, Ring, RingStop, WereMadeFrom, entry_number, linked_of, plane_at, stop_of, vertex_of}
+use Rattle.staat_ring.specs.RingInvariant.{AreKept}
+use Rattle.staat_ring.specs.RingViews.{IsGood, IsSound, arrangement_of, below, entry_of, listed, plane_of, ring_of, rings_at, rings_of, shape, still_linked}
+use Rattle.staat_ring.specs.Stands.{AllPresent, InRange, IsPresent, IsRing, Stands, Tagged, home_of, is_empty}
+use Rattle.staat_ring.specs.Views.{lists_of}
+use Rattle.staat_ring.proofs.Covered.{entry_there}
+use Rattle.staat_ring.proofs.Linkable.{can_be_linked, other_plane}
+use Rattle.staat_ring.proofs.Mapped.{few_below, from_map, in_map}
+use Rattle.staat_ring.proofs.Numbering.{entry_back, head_circle, head_small}
+use Rattle.staat_ring.proofs.RingLemmas.{below_small, map_same, map_twice}
+use Rattle.staat_ring.proofs.RowRules as rules
+use Rattle.staat_ring.proofs.SoundLemmas.{plane_of_entry, two_cases}
+use Rattle.staat_ring.proofs.Stops.{none_parallel}
+use Rattle.staat_ring.proofs.Unlinking.{planes_of_rings}
+use Rattle.staat_ring.proofs.ViewLemmas.{nodes_of_is}
+
+-- ---- the planes below n
+
+take_none : (xs : List ℕ) → take 0 xs ≡ []
+take_none [] = refl
+take_none (x ∷ xs) = refl
+
+all_stay : (xs : List ℕ) → filter (λ c. not (listed [] c)) xs ≡ xs
+all_stay [] = refl
+all_stay (x ∷ xs) = ap (λ ys. x ∷ ys) (all_stay xs)
+
+length_below : (n : ℕ) → length (below n) ≡ n
+length_below zero = refl
+length_below (suc n) = length-append (below n) (n ∷ []) ∙ (let e = length_below n in omega (arith, e))
+
+pub below_all : (n c : ℕ) → c < n → Contains (below n) c
+below_all zero c lt = absurd (omega (arith, lt))
+below_all (suc n) c lt = ⊎_elim {C = Contains (below (suc n)) c} (λ l. Contains-append_left (below n) (n ∷ []) c (below_all n c l)) (λ e. Contains-append_right (below n) (n ∷ []) c (zero, omega arith, sym e)) (last c n lt)
+  where
+    last : (c n : ℕ) → c < suc n → (c < n) ⊎ (c ≡ n)
+    last c n lt = grind arith
+
+below_at : (n k : ℕ) → k < n → get_or (below n) k 0 ≡ k
+below_at zero k lt = absurd (omega (arith, lt))
+below_at (suc n) k lt = go (below n) (length_below n) (below_at n k)
+  where
+    last : (c n : ℕ) → c < suc n → (c < n) ⊎ (c ≡ n)
+    last c n lt = grind arith
+
+    go : (xs : List ℕ) → length xs ≡ n → (k < n → get_or xs k 0 ≡ k) → get_or (xs ++ n ∷ []) k 0 ≡ k
+    go xs e ih = ⊎_elim {C = get_or (xs ++ n ∷ []) k 0 ≡ k}
+        (λ l. Rattle.std.proofs.lemmas.List.get_or_append_left xs (n ∷ []) 0 k (let q : k < length xs = omega (arith, l, e) in q) ∙ ih l)
+        (λ q. Rattle.std.proofs.lemmas.List.get_or_push xs n 0 k (e ∙ sym q) ∙ sym q) (last k n lt)
+
+-- ---- the entries of a plane
+
+entry_in : (n p k e : ℕ) → Contains (entries_of n p k) e → (c : ℕ) × (c < k) × Contains (entries_on n p c) e
+entry_in n p zero e c = absurd (omega (arith, c.1))
+entry_in n p (suc k) e c = ⊎_elim {C = (c : ℕ) × (c < suc k) × Contains (entries_on n p c) e}
+    (λ a. let (d, l, x) = entry_in n p k e a in (d, omega (arith, l), x))
+    (λ b. (k, omega arith, b))
+    (Contains-append_cases (entries_of n p k) (entries_on n p k) e c)
+
+pub in_entries : (n p k c e : ℕ) → c < k → Contains (entries_on n p c) e → Contains (entries_of n p k) e
+in_entries n p zero c e lt x = absurd (omega (arith, lt))
+in_entries n p (suc k) c e lt x = ⊎_elim {C = Contains (entries_of n p (suc k)) e}
+    (λ l. Contains-append_left (entries_of n p k) (entries_on n p k) e (in_entries n p k c e l x))
+    (λ q. Contains-append_right (entries_of n p k) (entries_on n p k) e (subst (λ d. Contains (entries_on n p d) e) q x)) (last c k lt)
+  where
+    last : (c n : ℕ) → c < suc n → (c < n) ⊎ (c ≡ n)
+    last c n lt = grind arith
+
+on_other : (n p c e : ℕ) → Contains (entries_on n p c) e → c ≢ p
+on_other n p c e x q = none (c == p) (eq-eqb c p q) x
+  where
+    none : (b : Bool) → b ≡ true → Contains (Rattle.std.specs.Prelude.if◌then◌else◌ b [] ((2 * (c * n + p)) ∷ (2 * (c * n + p) + 1) ∷ [])) e → ⊥
+    none true h (k, lt, w) = absurd (omega (arith, lt))
+    none false h x = cc
+
+on_circle : (n c : ℕ) (e : Entry) → c ≢ e.plane → Contains (entries_on n e.plane c) (entry_number n c e)
+on_circle n c e ne = go (c == e.plane) (Rattle.staat_ring.proofs.Mapped.differ c e.plane ne) e.turned
+  where
+    go : (b : Bool) → b ≡ false → (t : Bool) → Contains (Rattle.std.specs.Prelude.if◌then◌else◌ b [] ((2 * (c * n + e.plane)) ∷ (2 * (c * n + e.plane) + 1) ∷ [])) (2 * (c * n + e.plane) + (Rattle.std.specs.Prelude.if◌then◌else◌ t 1 0))
+    go true h t = cc
+    go false h true = (1, omega arith, refl)
+    go false h false = (0, omega arith, omega arith)
+
+some_list : {X : Type 0} (f : X → ℕ) (xs : List X) → 0 < length xs → is_empty (map f xs) ≡ false
+some_list f [] h = absurd (omega (arith, h))
+some_list f (x ∷ xs) h = refl
+
+tagged_by : (tag : ℕ → ℕ) (t : ℕ) (xs : List ℕ) → ((x : ℕ) → Contains xs x → tag x ≡ t) → Tagged tag t xs
+tagged_by tag t [] h = tt
+tagged_by tag t (x ∷ xs) h = (h x (zero, omega arith, refl), tagged_by tag t xs (λ y c. h y (suc c.0, omega (arith, c.1), c.2)))
+
+-- ---- nodes do not matter to a circle
+
+ring_renamed : (planes : List V3) (linked : List ℕ) (c : ℕ) (f : List Entry → ℕ) (stops : List (List Entry)) → IsRingOf planes linked (ring_by c stops)
+    → IsRingOf planes linked (record { plane = c; stops = map (λ es. record { node = f es; entries = es }) stops })
+ring_renamed planes linked c f stops is = record {
+  circle = subst (Rattle.staat_model.specs.Circles.IsCircle planes linked c) (map_twice' zero_stop ∙ sym (map_twice' named)) is.circle;
+  agree = All-from_members (λ s. All (λ e. Rattle.staat_ring.specs.Rings.crossing planes c e ≡ vertex_of planes c s.entries) s.entries) (map named stops) (λ s cs.
+      let (es, ce, q) = from_map named stops s cs in
+      subst (λ (x : RingStop). All (λ e. Rattle.staat_ring.specs.Rings.crossing planes c e ≡ vertex_of planes c x.entries) x.entries) q
+      (All-contains (λ s. All (λ e. Rattle.staat_ring.specs.Rings.crossing planes c e ≡ vertex_of planes c s.entries) s.entries) (map zero_stop stops) (zero_stop es) is.agree (in_map zero_stop stops es ce)));
+}
+  where
+    zero_stop : List Entry → RingStop
+    zero_stop es = record { node = 0; entries = es }
+
+    named : List Entry → RingStop
+    named es = record { node = f es; entries = es }
+
+    map_twice' : (g : List Entry → RingStop) → map (stop_of planes c) (map g stops) ≡ map (λ es. stop_of planes c (g es)) stops
+    map_twice' g = go stops
+      where
+        go : (xs : List (List Entry)) → map (stop_of planes c) (map g xs) ≡ map (λ es. stop_of planes c (g es)) xs
+        go [] = refl
+        go (x ∷ xs) = ap (λ ys. stop_of planes c (g x) ∷ ys) (go xs)
+
+module _ (planes : List V3) (table : AreTablePlanes planes) (few : length planes ≤ 1024) (least : 3 ≤ length planes) (a : Arrays)
+    (circles_in : InRange a.circles) (vertices_in : InRange a.vertices) (are : AreLinkedBelow planes (length planes) (length planes) a) where
+  abbrev n : ℕ
+  n = length planes
+
+  abbrev l : Rattle.staat_ring.specs.Stands.Lists
+  l = lists_of (shape n) a
+
+  abbrev has : (c : ℕ) → c < n → HasCircle planes n a c
+  has c lc = are.circles c lc
+
+  abbrev stops : (c : ℕ) → c < n → List (List Entry)
+  stops c lc = (has c lc).stops
+
+  can : (c : ℕ) (lc : c < n) → CanBeLinked n c (stops c lc)
+  can c lc = can_be_linked planes table (below n) c (stops c lc) (has c lc).ring
+
+  abbrev slot : (c : ℕ) → c < n → ℕ → List Entry
+  slot c lc k = slot_at (stops c lc) k
+
+  abbrev node : (c : ℕ) → c < n → ℕ → ℕ
+  node c lc k = node_number n c (slot c lc k)
+
+  abbrev nodes : (c : ℕ) → c < n → List ℕ
+  nodes c lc = map (node_number n c) (stops c lc)
+
+  abbrev numbers : (c : ℕ) → c < n → ℕ → List ℕ
+  numbers c lc k = map (entry_number n c) (slot c lc k)
+
+  square : 4 * n ≤ 4 * (n * n)
+  square = let m : 1 * n ≤ n * n = mul-le-mul (let x : 1 ≤ n = omega (arith, least) in x) (let y : n ≤ n = omega arith in y) in omega (arith, m)
+
+  -- ---- the circle of a plane
+
+  circle_ring : (c : ℕ) (lc : c < n) → IsRing a.circles (shape n).circle (head_number n c) (nodes c lc)
+  circle_ring c lc = record {
+    ring = (has c lc).holds.circle;
+    distinct = rules.circle_distinct n c lc (stops c lc) (can c lc);
+    tagged = tagged_by (shape n).circle ((shape n).circle (head_number n c)) (head_number n c ∷ nodes c lc) (λ x cx. rules.circle_of_ring n c lc (stops c lc) (can c lc) x cx ∙ sym (head_circle n c lc));
+  }
+
+  all_within : (c : ℕ) (lc : c < n) (x : ℕ) → Contains (head_number n c ∷ nodes c lc) x → x < 4 * (n * n)
+  all_within c lc x (zero, lt, e) = let h = head_small n c lc in omega (arith, h, e)
+  all_within c lc x (suc k, lt, e) = All-contains (λ x. x < 4 * (n * n)) (nodes c lc) x (rules.nodes_within n c lc (stops c lc) (can c lc)) (k, omega (arith, lt), e)
+
+  short_circle : (c : ℕ) (lc : c < n) → length (nodes c lc) < length a.circles.next
+  short_circle c lc = let f = few_below (4 * (n * n)) (head_number n c ∷ nodes c lc) (rules.circle_distinct n c lc (stops c lc) (can c lc)) (all_within c lc) in let s = are.sizes.circles in omega (arith, f, s)
+
+  pub vertices_are : (c : ℕ) (lc : c < n) → l.vertices c ≡ nodes c lc
+  vertices_are c lc = nodes_of_is a.circles (shape n).circle (head_number n c) (nodes c lc) (short_circle c lc) (circle_ring c lc)
+
+  -- ---- the ring of a stop
+
+  own : (c : ℕ) (lc : c < n) (k : ℕ) → k < length (stops c lc) → home_of a (node c lc k) ≡ node c lc k
+  own c lc k lk = are.own (node c lc k) (rules.great n c lc (stops c lc) (can c lc) k lk) (rules.node_within n c lc (stops c lc) (can c lc) k lk)
+
+  home_at : (c : ℕ) (lc : c < n) (k : ℕ) → k < length (stops c lc) → (e : Entry) → Contains (slot c lc k) e → home_of a (entry_number n c e) ≡ node c lc k
+  home_at c lc k lk e ce = All-contains (λ e. get_or a.home (entry_number n c e) 0 ≡ node c lc k) (slot c lc k) e ((has c lc).holds.homes k lk) ce
+
+  home_of_row : (c : ℕ) (lc : c < n) (k : ℕ) → k < length (stops c lc) → (x : ℕ) → Contains (node c lc k ∷ numbers c lc k) x → home_of a x ≡ home_of a (node c lc k)
+  home_of_row c lc k lk x (zero, lt, e) = ap (home_of a) (sym e)
+  home_of_row c lc k lk x (suc i, lt, e) = let (y, cy, q) = from_map (entry_number n c) (slot c lc k) x (i, omega (arith, lt), e) in ap (home_of a) (sym q) ∙ (home_at c lc k lk y cy ∙ sym (own c lc k lk))
+
+  stop_ring : (c : ℕ) (lc : c < n) (k : ℕ) → k < length (stops c lc) → IsRing a.vertices (home_of a) (node c lc k) (numbers c lc k)
+  stop_ring c lc k lk = record {
+    ring = (has c lc).holds.vertices k lk;
+    distinct = rules.row_distinct n c lc (stops c lc) (can c lc) k lk;
+    tagged = tagged_by (home_of a) (home_of a (node c lc k)) (node c lc k ∷ numbers c lc k) (home_of_row c lc k lk);
+  }
+
+  short_stop : (c : ℕ) (lc : c < n) (k : ℕ) → k < length (stops c lc) → length (numbers c lc k) < length a.vertices.next
+  short_stop c lc k lk =
+      let f = few_below (4 * (n * n)) (node c lc k ∷ numbers c lc k) (rules.row_distinct n c lc (stops c lc) (can c lc) k lk) (λ x cx. rules.row_within n c lc (stops c lc) (can c lc) k x lk cx) in
+      let s = are.sizes.vertices in omega (arith, f, s)
+
+  pub entries_are : (c : ℕ) (lc : c < n) (k : ℕ) → k < length (stops c lc) → l.entries (node c lc k) ≡ numbers c lc k
+  entries_are c lc k lk = nodes_of_is a.vertices (home_of a) (node c lc k) (numbers c lc k) (short_stop c lc k lk) (stop_ring c lc k lk)
+
+  -- ---- a vertex of the lists is the node of a stop
+
+  record IsNode (c : ℕ) (lc : c < n) (v : ℕ) : Type 0 where
+    place : ℕ
+    within : place < length (stops c lc)
+    is : node c lc place ≡ v
+
+  node_of : (c : ℕ) (lc : c < n) (v : ℕ) → Contains (l.vertices c) v → IsNode c lc v
+  node_of c lc v cv = let (k, lk, q) = rules.node_in n c lc (stops c lc) (can c lc) v (subst (λ xs. Contains xs v) (vertices_are c lc) cv) in record { place = k; within = lk; is = q }
+
+  entries_at : (c : ℕ) (lc : c < n) (v : ℕ) (o : IsNode c lc v) → l.entries v ≡ numbers c lc o.place
+  entries_at c lc v o = ap l.entries (sym o.is) ∙ entries_are c lc o.place o.within
+
+  stands : Stands (shape n) l a
+  stands = record {
+    circles_in_range = circles_in;
+    vertices_in_range = vertices_in;
+    heads = λ c lc. head_circle n c lc;
+    circles = λ c lc. subst (λ xs. IsRing a.circles (shape n).circle (head_number n c) xs) (sym (vertices_are c lc)) (circle_ring c lc);
+    owns = λ c v lc cv. let o = node_of c lc v cv in subst (λ x. home_of a x ≡ x) o.is (own c lc o.place o.within);
+    vertices = λ c v lc cv. let o = node_of c lc v cv in
+        subst (λ x. IsRing a.vertices (home_of a) x (l.entries x)) o.is (subst (λ xs. IsRing a.vertices (home_of a) (node c lc o.place) xs) (sym (entries_are c lc o.place o.within)) (stop_ring c lc o.place o.within));
+    within = λ c v lc cv. let o = node_of c lc v cv in let w = rules.node_within n c lc (stops c lc) (can c lc) o.place o.within in let s = are.sizes.circles in let q = o.is in omega (arith, w, s, q);
+    entries_within = λ c v e lc cv ce.
+        let o = node_of c lc v cv in
+        let (x, cx, q) = from_map (entry_number n c) (slot c lc o.place) e (subst (λ xs. Contains xs e) (entries_at c lc v o) ce) in
+        let w = rules.number_within n c lc (stops c lc) (can c lc) o.place o.within x cx in
+        let s = are.sizes.vertices in omega (arith, w, s, q);
+  }
+
+  -- ---- each entry stands somewhere
+
+  linked_at : (p : ℕ) → p < n → IsLinked planes (below n) p (plane_at planes p)
+  linked_at p lp = record { listed = below_all n p lp; is = Rattle.std.proofs.lemmas.Option.slice_get-get_or planes p origin lp }
+
+  present_at : (c : ℕ) (lc : c < n) (e : Entry) → e.plane < n → e.plane ≢ c → IsPresent (shape n) l a (entry_number n c e)
+  present_at c lc e lp ne =
+      let t = entry_there planes (below n) (ring_by c (stops c lc)) (none_parallel planes (below n) table) (has c lc).ring e (plane_at planes e.plane) (linked_at e.plane lp) ne in
+      let lk : t.place < length (stops c lc) = subst (λ m. t.place < m) (length-map (stops c lc) (λ es. record { node = 0; entries = es })) (slice_get_within (map (λ es. record { node = 0; entries = es }) (stops c lc)) t.place t.stop t.is) in
+      let ce : Contains (slot c lc t.place) e = subst (λ (s : RingStop). Contains s.entries e) (same t.place t.stop lk t.is) t.listed in
+      let h : home_of a (entry_number n c e) ≡ node c lc t.place = home_at c lc t.place lk e ce in
+      let q : (shape n).circle (home_of a (entry_number n c e)) ≡ c = ap (shape n).circle h ∙ rules.circle_of_node n c lc (stops c lc) (can c lc) t.place lk in
+      record {
+        circle = subst (λ d. d < n) (sym q) lc;
+        vertex = subst (λ d. Contains (l.vertices d) (home_of a (entry_number n c e))) (sym q) (subst (Contains (l.vertices c)) (sym h) (subst (λ xs. Contains xs (node c lc t.place)) (sym (vertices_are c lc)) (in_map (node_number n c) (stops c lc) (slot c lc t.place) (rules.slot_in n c lc (stops c lc) (can c lc) t.place lk))));
+        entry = subst (λ v. Contains (l.entries v) (entry_number n c e)) (sym h) (subst (λ xs. Contains xs (entry_number n c e)) (sym (entries_are c lc t.place lk)) (in_map (entry_number n c) (slot c lc t.place) e ce));
+      }
+    where
+      same : (k : ℕ) (s : RingStop) (lk : k < length (stops c lc)) → slice_get (map (λ es. record { node = 0; entries = es }) (stops c lc)) k ≡ Some s → s ≡ record { node = 0; entries = slot c lc k }
+      same k s lk e = Rattle.std.proofs.lemmas.Option.same_Some s (record { node = 0; entries = slot c lc k }) (sym e ∙ (Rattle.std.proofs.lemmas.Option.slice_get-map (λ es. record { node = 0; entries = es }) (stops c lc) k ∙ ap (Rattle.std.specs.Prelude.option_map (λ es. record { node = 0; entries = es })) (Rattle.std.proofs.lemmas.Option.slice_get-get_or (stops c lc) k [] lk)))
+
+  present_number : (p : ℕ) → p < n → (e : ℕ) → Contains (entries_of n p n) e → IsPresent (shape n) l a e
+  present_number p lp e ce =
+      let (c, lc, x) = entry_in n p n e ce in
+      let (s, ls, q) = two_cases n p c e x in
+      by c lc (λ w. on_other n p c e x (sym w)) s ls q
+    where
+      by : (c : ℕ) → c < n → p ≢ c → (s : ℕ) → s < 2 → e ≡ 2 * (c * n + p) + s → IsPresent (shape n) l a e
+      by c lc ne zero ls q = subst (IsPresent (shape n) l a) (sym q) (present_at c lc (record { plane = p; turned = false }) lp ne)
+      by c lc ne (suc zero) ls q = subst (IsPresent (shape n) l a) (sym q) (present_at c lc (record { plane = p; turned = true }) lp ne)
+      by c lc ne (suc (suc s)) ls q = absurd (omega (arith, ls))
+
+  all_present : (es : List ℕ) → ((e : ℕ) → Contains es e → IsPresent (shape n) l a e) → AllPresent (shape n) l a es
+  all_present [] h = tt
+  all_present (e ∷ es) h = (h e (zero, omega arith, refl), all_present es (λ x c. h x (suc c.0, omega (arith, c.1), c.2)))
+
+  pub good : IsGood n [] a
+  good = record {
+    stands = stands;
+    full = λ c v lc cv. let o = node_of c lc v cv in ap is_empty (entries_at c lc v o) ∙ some_list (entry_number n c) (slot c lc o.place) (rules.some n c lc (stops c lc) (can c lc) o.place o.within);
+    short_circles = λ c lc. subst (λ xs. length xs < length a.circles.next) (sym (vertices_are c lc)) (short_circle c lc);
+    short_vertices = λ c v lc cv. let o = node_of c lc v cv in subst (λ xs. length xs < length a.vertices.next) (sym (entries_at c lc v o)) (short_stop c lc o.place o.within);
+    present = λ p lp no. all_present (entries_of n p n) (present_number p lp);
+    known = λ c v e lc cv ce.
+        let o = node_of c lc v cv in
+        let (x, cx, q) = from_map (entry_number n c) (slot c lc o.place) e (subst (λ xs. Contains xs e) (entries_at c lc v o) ce) in
+        let lx = rules.small n c lc (stops c lc) (can c lc) o.place o.within x cx in
+        let ne = other_plane planes table (below n) c (stops c lc) (has c lc).ring (slot c lc o.place) x (rules.slot_in n c lc (stops c lc) (can c lc) o.place o.within) cx in
+        let w = in_entries n x.plane n c (entry_number n c x) lc (on_circle n c x (λ z. ne (sym z))) in
+        let p : plane_of n e ≡ x.plane = ap (plane_of n) (sym q) ∙ ap (λ (y : Entry). y.plane) (entry_back n c x lx) in
+        subst (λ i. Contains (entries_of n i n) e) (sym p) (subst (Contains (entries_of n x.plane n)) q w);
+  }
+
+  -- ---- the circles that the arrays show
+
+  abbrev named : (c : ℕ) → List Entry → RingStop
+  named c es = record { node = node_number n c es; entries = es }
+
+  entries_read : (c : ℕ) (lc : c < n) (es : List Entry) → Contains (stops c lc) es → map (entry_of n) (l.entries (node_number n c es)) ≡ es
+  entries_read c lc es (k, lk, e) =
+      let q : slot c lc k ≡ es = get_or_default (stops c lc) k [] es lk ∙ e in
+      subst (λ xs. map (entry_of n) (l.entries (node_number n c xs)) ≡ xs) q
+      (ap (map (entry_of n)) (entries_are c lc k lk) ∙ back (slot c lc k) (rules.small n c lc (stops c lc) (can c lc) k lk))
+    where
+      back : (xs : List Entry) → ((x : Entry) → Contains xs x → x.plane < n) → map (entry_of n) (map (entry_number n c) xs) ≡ xs
+      back [] h = refl
+      back (x ∷ xs) h = λ i. entry_back n c x (h x (zero, omega arith, refl)) i ∷ back xs (λ y cy. h y (suc cy.0, omega (arith, cy.1), cy.2)) i
+
+  stops_read : (c : ℕ) (lc : c < n) → (ring_of n l c).stops ≡ map (named c) (stops c lc)
+  stops_read c lc = ap (map read) (vertices_are c lc) ∙ go (stops c lc) (entries_read c lc)
+    where
+      read : ℕ → RingStop
+      read v = record { node = v; entries = map (entry_of n) (l.entries v) }
+
+      go : (xs : List (List Entry)) → ((es : List Entry) → Contains xs es → map (entry_of n) (l.entries (node_number n c es)) ≡ es) → map read (map (node_number n c) xs) ≡ map (named c) xs
+      go [] h = refl
+      go (x ∷ xs) h = λ i. (record { node = node_number n c x; entries = h x (zero, omega arith, refl) i }) ∷ go xs (λ y cy. h y (suc cy.0, omega (arith, cy.1), cy.2)) i
+
+  ring_read : (c : ℕ) (lc : c < n) → ring_of n l c ≡ record { plane = c; stops = map (named c) (stops c lc) }
+  ring_read c lc = λ i. record { plane = c; stops = stops_read c lc i }
+
+  planes_read : linked_of (rings_of n [] l) ≡ below n
+  planes_read = planes_of_rings n [] l ∙ all_stay (below n)
+
+  pub rings : AreRings planes (rings_of n [] l) []
+  rings = record {
+    each = All-from_members (IsRingOf planes (linked_of (rings_of n [] l))) (rings_of n [] l) (λ r cr.
+        let (c, cc', q) = from_map (ring_of n l) (filter (λ c. not (listed [] c)) (below n)) r cr in
+        let lc : c < n = below_small n c (subst (λ xs. Contains xs c) (all_stay (below n)) cc') in
+        subst (IsRingOf planes (linked_of (rings_of n [] l))) q (subst (λ ks. IsRingOf planes ks (ring_of n l c)) (sym planes_read)
+        (subst (IsRingOf planes (below n)) (sym (ring_read c lc)) (ring_renamed planes (below n) c (node_number n c) (stops c lc) (has c lc).ring))));
+    ascending = subst (IsStrictlySortedBy nat_cmp) (sym planes_read) (below_sorted n);
+    axes = λ k lt. subst (λ xs. Contains xs k) (sym planes_read) (below_all n k (omega (arith, lt, least)));
+    all = λ k lt. inl (subst (λ xs. Contains xs k) (sym planes_read) (below_all n k lt));
+  }
+    where
+      below_sorted : (m : ℕ) → IsStrictlySortedBy nat_cmp (below m)
+      below_sorted m = sorted_from_strictly_increasing (below m) (λ k lt. let e = length_below m in let a = below_at m k (omega (arith, lt, e)) in let b = below_at m (k + 1) (omega (arith, lt, e)) in omega (arith, a, b))
+
+  sound : IsSound n [] a
+  sound zero lt = good
+  sound (suc k) lt = absurd (omega (arith, lt))
+
+  pub kept : (order : List ℕ) → length order ≡ n → AreKept n 0 order a
+  kept order size = record {
+    few = few;
+    room = are.sizes.home;
+    size = size;
+    most = omega arith;
+    all = all;
+    planes = λ k lt. absurd (omega (arith, lt));
+    sound = subst (λ (o : List ℕ). IsSound n o a) (sym (take_none order)) sound;
+  }
+    where
+      all : (k : ℕ) → k ≤ 0 → k + length (still_linked n (take k order)) ≡ n
+      all zero le = let e : length (still_linked n (take 0 order)) ≡ n = ap (λ (o : List ℕ). length (still_linked n o)) (take_none order) ∙ (ap length (all_stay (below n)) ∙ length_below n) in omega (arith, e)
+      all (suc k) le = absurd (omega (arith, le))
+
+  pub made : (order : List ℕ) → WereMadeFrom planes (arrangement_of n (take 0 order) a)
+  made order = subst (λ (o : List ℕ). WereMadeFrom planes (arrangement_of n o a)) (sym (take_none order)) (record {
+    now = rings;
+    before = λ k kept e. absurd (let lt = slice_get_within [] k kept e in omega (arith, lt));
+  })
+
+  pub none_out : (order : List ℕ) → (arrangement_of n (take 0 order) a).unlinked ≡ []
+  none_out order = ap (λ (o : List ℕ). (arrangement_of n o a).unlinked) (take_none order)

@@ -1,0 +1,97 @@
+-- Taking a node out of a chain.
+use Rattle.std.proofs.Common.{◌≡◌, ◌≢◌, ℕ, ◌<◌, sym, ap, subst, ◌∙◌, List, [], ◌∷◌, ◌++◌, length, get_or, set}
+use Rattle.std.proofs.lemmas.List.{get_or-set_other}
+use Rattle.std.proofs.lemmas.Grind.{get_or-set_at}
+use Rattle.staat_ring.specs.Links.{Links, Chain, Ring, Apart, Distinct, last_of, first_of, unlink, IsBetween}
+
+-- links with one word written in each array
+abbrev written : Links → ℕ → ℕ → ℕ → ℕ → Links
+written s i u j w = record { next = set s.next i u; prev = set s.prev j w }
+
+-- a chain stays where no word of it is written
+pub chain_stays : (s : Links) (i u j w a : ℕ) (xs : List ℕ) (b : ℕ) → a ≢ i → Apart i xs → Apart j xs → b ≢ j → Chain s a xs b → Chain (written s i u j w) a xs b
+chain_stays s i u j w a [] b ai ix jx bj h = (get_or-set_other s.next i a u 0 ai ∙ h.0, get_or-set_other s.prev j b w 0 bj ∙ h.1)
+chain_stays s i u j w a (x ∷ xs) b ai ix jx bj h =
+    (get_or-set_other s.next i a u 0 ai ∙ h.0, (get_or-set_other s.prev j x w 0 jx.0 ∙ h.1.0, chain_stays s i u j w x xs b ix.0 ix.1 jx.1 bj h.1.1))
+
+pub prev_in : (s : Links) (x a : ℕ) (l r : List ℕ) (b : ℕ) → Chain s a (l ++ x ∷ r) b → get_or s.prev x 0 ≡ last_of a l
+prev_in s x a [] r b h = h.1.0
+prev_in s x a (y ∷ l) r b h = prev_in s x y l r b h.1.1
+
+pub next_in : (s : Links) (x a : ℕ) (l r : List ℕ) (b : ℕ) → Chain s a (l ++ x ∷ r) b → get_or s.next x 0 ≡ first_of r b
+next_in s x a [] [] b h = h.1.1.0
+next_in s x a [] (z ∷ r) b h = h.1.1.0
+next_in s x a (y ∷ l) r b h = next_in s x y l r b h.1.1
+
+apart-last : (a y : ℕ) (l r : List ℕ) → Apart a (y ∷ l ++ r) → last_of y l ≢ a
+apart-last a y [] r h = h.0
+apart-last a y (z ∷ l) r h = apart-last a z l r h.1
+
+turned : (a b : ℕ) → a ≢ b → b ≢ a
+turned a b h e = h (sym e)
+
+apart-right : (x : ℕ) (l r : List ℕ) → Apart x (l ++ r) → Apart x r
+apart-right x [] r h = h
+apart-right x (y ∷ l) r h = apart-right x l r h.1
+
+-- the first of r is a node of r or the end b
+apart-first : (y : ℕ) (r : List ℕ) (b : ℕ) → Apart y r → b ≢ y → first_of r b ≢ y
+apart-first y [] b h g = g
+apart-first y (z ∷ r) b h g = h.0
+
+pub removed : (s : Links) (x a : ℕ) (l r : List ℕ) (b i j : ℕ) → i ≡ last_of a l → j ≡ first_of r b → i < length s.next → j < length s.prev
+    → Distinct (a ∷ l ++ x ∷ r) → Apart b (l ++ x ∷ r) → Chain s a (l ++ x ∷ r) b → Chain (written s i j j i) a (l ++ r) b
+removed s x a [] [] b i j ei ej li lj d ab h =
+    (get_or-set_at s.next i a j 0 (sym ei) li ∙ ej, get_or-set_at s.prev j b i 0 (sym ej) lj ∙ ei)
+removed s x a [] (z ∷ r) b i j ei ej li lj d ab h = (
+  get_or-set_at s.next i a j 0 (sym ei) li ∙ ej,
+  (
+    get_or-set_at s.prev j z i 0 (sym ej) lj ∙ ei,
+    chain_stays s i j j i z r b (λ e. d.0.1.0 (e ∙ ei)) (subst (λ k. Apart k r) (sym ei) d.0.1.1) (subst (λ k. Apart k r) (sym ej) d.1.1.0) (λ e. ab.1.0 (sym (e ∙ ej))) h.1.1.1.1,
+  ),
+)
+removed s x a (y ∷ l) r b i j ei ej li lj d ab h = (
+  get_or-set_other s.next i a j 0 (λ e. apart-last a y l (x ∷ r) d.0 (sym (e ∙ ei))) ∙ h.0,
+  (
+    get_or-set_other s.prev j y i 0 (λ e. apart-first y r b (apart-right y l (x ∷ r) d.1.0).1 (turned y b ab.0) (sym (e ∙ ej))) ∙ h.1.0,
+    removed s x y l r b i j ei ej li lj d.1 ab.1 h.1.1,
+  ),
+)
+
+next_last : (s : Links) (x a : ℕ) (l r : List ℕ) (b : ℕ) → Chain s a (l ++ x ∷ r) b → get_or s.next (last_of a l) 0 ≡ x
+next_last s x a [] r b h = h.0
+next_last s x a (y ∷ l) r b h = next_last s x y l r b h.1.1
+
+prev_first : (s : Links) (x a : ℕ) (l r : List ℕ) (b : ℕ) → Chain s a (l ++ x ∷ r) b → get_or s.prev (first_of r b) 0 ≡ x
+prev_first s x a [] [] b h = h.1.1.1
+prev_first s x a [] (z ∷ r) b h = h.1.1.1.0
+prev_first s x a (y ∷ l) r b h = prev_first s x y l r b h.1.1
+
+x_last : (x a : ℕ) (l r : List ℕ) → Distinct (a ∷ l ++ x ∷ r) → x ≢ last_of a l
+x_last x a [] r d = d.0.0
+x_last x a (y ∷ l) r d = x_last x y l r d.1
+
+x_first : (x a : ℕ) (l r : List ℕ) (b : ℕ) → Distinct (a ∷ l ++ x ∷ r) → Apart b (l ++ x ∷ r) → x ≢ first_of r b
+x_first x a [] [] b d ab = ab.0
+x_first x a [] (z ∷ r) b d ab = λ e. d.1.0.0 (sym e)
+x_first x a (y ∷ l) r b d ab = x_first x y l r b d.1 ab.1
+
+-- a node of a ring stands between its neighbours
+pub between : (s : Links) (x a : ℕ) (l r : List ℕ) (b : ℕ) → Distinct (a ∷ l ++ x ∷ r) → Apart b (l ++ x ∷ r) → Chain s a (l ++ x ∷ r) b → IsBetween s x
+between s x a l r b d ab h =
+    let p = prev_in s x a l r b h in
+    let n = next_in s x a l r b h in
+    record {
+      back = ap (λ k. get_or s.next k 0) p ∙ next_last s x a l r b h;
+      forth = ap (λ k. get_or s.prev k 0) n ∙ prev_first s x a l r b h;
+      left = λ e. x_last x a l r d (e ∙ p);
+      right = λ e. x_first x a l r b d ab (e ∙ n);
+    }
+
+-- each node's links are nodes
+abbrev pub InRange : Links → ℕ → Type 0
+InRange s x = (get_or s.prev x 0 < length s.next) × (get_or s.next x 0 < length s.prev)
+
+-- unlink takes the node out of the list
+pub ring-unlink : (s : Links) (x h : ℕ) (l r : List ℕ) → InRange s x → Distinct (h ∷ l ++ x ∷ r) → Ring s h (l ++ x ∷ r) → Ring (unlink x s) h (l ++ r)
+ring-unlink s x h l r g d c = removed s x h l r h (get_or s.prev x 0) (get_or s.next x 0) (prev_in s x h l r h c) (next_in s x h l r h c) g.0 g.1 d d.0 c

@@ -1,0 +1,184 @@
+-- Taking a plane's entries out one after another filters the lists.
+use Rattle.std.proofs.Common.{◌≡◌, ◌≢◌, ℕ, zero, suc, ◌<◌, refl, sym, ap, subst, ◌∙◌, arith, List, [], ◌∷◌, Bool, true, false, not, ◌&&◌, cond, if◌then◌else◌, eqb, Contains, ◌⊎◌, inl, inr, eq-eqb}
+use Rattle.std.specs.List.{filter}
+use Rattle.std.specs.Prelude.{◌==◌}
+use Rattle.std.proofs.lemmas.Bool.Decides.{nat_tests}
+use Rattle.staat_ring.specs.Links.{Arrays, Distinct, take}
+use Rattle.staat_ring.specs.Stands.{without, is_empty, Shape, Lists, home_of, Stands, IsPresent, lists_without, lists_without_all, AllPresent, lists_without_plane}
+use Rattle.staat_ring.specs.Views.{AreSame}
+use Rattle.staat_ring.proofs.Without.{without_none, tagged_apart}
+use Rattle.staat_ring.proofs.TwoLevels.{decide, stands-take, all-after, contains_before}
+
+abbrev dropped : List ℕ → List ℕ → List ℕ
+dropped [] xs = xs
+dropped (e ∷ es) xs = dropped es (without e xs)
+
+abbrev keeps : List ℕ → ℕ → Bool
+keeps [] y = true
+keeps (e ∷ es) y = not (y == e) && keeps es y
+
+entries_are : (home : ℕ → ℕ) (es : List ℕ) (l : Lists) (v : ℕ) → (lists_without_all home es l).entries v ≡ dropped es (l.entries v)
+entries_are home [] l v = refl
+entries_are home (e ∷ es) l v = entries_are home es (lists_without (home e) e l) v
+
+filter_twice : (p q : ℕ → Bool) (xs : List ℕ) → filter q (filter p xs) ≡ filter (λ y. p y && q y) xs
+filter_twice p q [] = refl
+filter_twice p q (x ∷ xs) = step (p x) (filter_twice p q xs)
+  where
+    step : (a : Bool) → filter q (filter p xs) ≡ filter (λ y. p y && q y) xs
+        → filter q (cond a (x ∷ filter p xs) (filter p xs)) ≡ cond (a && q x) (x ∷ filter (λ y. p y && q y) xs) (filter (λ y. p y && q y) xs)
+    step true ih = ap (λ r. cond (q x) (x ∷ r) r) ih
+    step false ih = ih
+
+dropped_is : (es xs : List ℕ) → dropped es xs ≡ filter (keeps es) xs
+dropped_is [] xs = sym (all_kept xs)
+  where
+    all_kept : (xs : List ℕ) → filter (keeps []) xs ≡ xs
+    all_kept [] = refl
+    all_kept (x ∷ xs) = ap (λ r. x ∷ r) (all_kept xs)
+dropped_is (e ∷ es) xs = dropped_is es (without e xs) ∙ filter_twice (λ y. not (y == e)) (keeps es) xs
+
+filter_same : (p q : ℕ → Bool) (xs : List ℕ) → ((x : ℕ) → Contains xs x → p x ≡ q x) → filter p xs ≡ filter q xs
+filter_same p q [] h = refl
+filter_same p q (x ∷ xs) h =
+    (λ i. cond (h x (zero, omega arith, refl) i) (x ∷ filter_same p q xs (λ y c. h y (suc c.0, omega (arith, c.1), c.2)) i) (filter_same p q xs (λ y c. h y (suc c.0, omega (arith, c.1), c.2)) i))
+
+-- what is kept: what is not listed
+keeps_not : (es : List ℕ) (y : ℕ) → (Contains es y → ⊥) → keeps es y ≡ true
+keeps_not [] y h = refl
+keeps_not (e ∷ es) y h =
+    (λ i. not (unlike i) && keeps_not es y (λ c. h (suc c.0, omega (arith, c.1), c.2)) i)
+  where
+    unlike : (y == e) ≡ false
+    unlike = elim (decide y e) [ inl q ↦ absurd (h (zero, omega arith, sym q)) | inr n ↦ off y e n ]
+      where
+        off : (x y : ℕ) → x ≢ y → eqb x y ≡ false
+        off x y h = grind (arith, nat_tests)
+
+keeps_listed : (es : List ℕ) (y : ℕ) → Contains es y → keeps es y ≡ false
+keeps_listed [] y (k, lt, q) = absurd (omega arith)
+keeps_listed (e ∷ es) y (zero, lt, q) = ap (λ b. not b && keeps es y) (eq-eqb y e (sym q))
+keeps_listed (e ∷ es) y (suc k, lt, q) = last (not (y == e)) (keeps es y) (keeps_listed es y (k, omega arith, q))
+  where
+    last : (a b : Bool) → b ≡ false → (a && b) ≡ false
+    last true b h = h
+    last false b h = refl
+
+-- a node that fails the test may be left out first
+filter_without : (test : ℕ → Bool) (x : ℕ) (xs : List ℕ) → test x ≡ false → filter test (without x xs) ≡ filter test xs
+filter_without test x [] h = refl
+filter_without test x (y ∷ xs) h = elim (decide y x) [
+  | inl q ↦ ap (λ b. filter test (cond (not b) (y ∷ without x xs) (without x xs))) (eq-eqb y x q) ∙ (filter_without test x xs h ∙ sym (ap (λ b. cond b (y ∷ filter test xs) (filter test xs)) (ap test q ∙ h)))
+  | inr n ↦ ap (λ b. filter test (cond (not b) (y ∷ without x xs) (without x xs))) (off y x n) ∙ ap (λ r. cond (test y) (y ∷ r) r) (filter_without test x xs h)
+]
+  where
+    off : (x y : ℕ) → x ≢ y → eqb x y ≡ false
+    off x y h = grind (arith, nat_tests)
+
+dropped_nil : (es : List ℕ) → dropped es [] ≡ []
+dropped_nil [] = refl
+dropped_nil (e ∷ es) = dropped_nil es
+
+empty_is : (xs : List ℕ) → is_empty xs ≡ true → xs ≡ []
+empty_is [] h = refl
+empty_is (x ∷ xs) h = cc
+
+-- every vertex on a circle has an entry
+abbrev pub AreFull : Shape → Lists → Type 0
+AreFull g l = (c v : ℕ) → c < g.count → Contains (l.vertices c) v → is_empty (l.entries v) ≡ false
+
+not_in_without : (x : ℕ) (xs : List ℕ) → Contains (without x xs) x → ⊥
+not_in_without x [] (k, lt, q) = omega arith
+not_in_without x (y ∷ xs) h = elim (decide y x) [
+  | inl q ↦ not_in_without x xs (subst (λ b. Contains (cond (not b) (y ∷ without x xs) (without x xs)) x) (eq-eqb y x q) h)
+  | inr n ↦ later n (subst (λ b. Contains (cond (not b) (y ∷ without x xs) (without x xs)) x) (off y x n) h) (not_in_without x xs)
+]
+  where
+    off : (x y : ℕ) → x ≢ y → eqb x y ≡ false
+    off x y h = grind (arith, nat_tests)
+
+    later : y ≢ x → Contains (y ∷ without x xs) x → (Contains (without x xs) x → ⊥) → ⊥
+    later n (zero, lt, q) ih = n q
+    later n (suc k, lt, q) ih = ih (k, omega arith, q)
+
+full-after : (g : Shape) (l : Lists) (a : Arrays) (e : ℕ) → Stands g l a → IsPresent g l a e → AreFull g l → AreFull g (lists_without (home_of a e) e l)
+full-after g l a e st pr full c w hc cw = go (is_empty (without e (l.entries (home_of a e)))) refl cw
+  where
+    kept : w ≢ home_of a e → Contains (l.vertices c) w → is_empty (without e (l.entries w)) ≡ false
+    kept n cv =
+        let r = st.vertices c w hc cv in
+        ap is_empty (without_none e (l.entries w) (tagged_apart (home_of a) (home_of a w) e (l.entries w) r.tagged.1 (λ q. n (sym (q ∙ st.owns c w hc cv))))) ∙ full c w hc cv
+
+    go : (b : Bool) → is_empty (without e (l.entries (home_of a e))) ≡ b → Contains (if b then without (home_of a e) (l.vertices c) else l.vertices c) w → is_empty (without e (l.entries w)) ≡ false
+    go true h cv = elim (decide w (home_of a e)) [
+      | inl q ↦ absurd (not_in_without (home_of a e) (l.vertices c) (subst (λ x. Contains (without (home_of a e) (l.vertices c)) x) q cv))
+      | inr n ↦ kept n (contains_before (home_of a e) w (l.vertices c) cv)
+    ]
+    go false h cv = elim (decide w (home_of a e)) [
+      | inl q ↦ ap (λ x. is_empty (without e (l.entries x))) q ∙ h
+      | inr n ↦ kept n cv
+    ]
+
+vertices_are : (g : Shape) (es : List ℕ) (l : Lists) (a : Arrays) → Stands g l a → Distinct es → AllPresent g l a es → AreFull g l → (c : ℕ) → c < g.count
+    → (lists_without_all (home_of a) es l).vertices c ≡ filter (λ v. not (is_empty (dropped es (l.entries v)))) (l.vertices c)
+vertices_are g [] l a st d pr full c hc = sym (all_kept (l.vertices c) (λ v cv. full c v hc cv))
+  where
+    all_kept : (vs : List ℕ) → ((v : ℕ) → Contains vs v → is_empty (l.entries v) ≡ false) → filter (λ v. not (is_empty (l.entries v))) vs ≡ vs
+    all_kept [] h = refl
+    all_kept (v ∷ vs) h = (λ i. cond (not (h v (zero, omega arith, refl) i)) (v ∷ all_kept vs (λ w cw. h w (suc cw.0, omega (arith, cw.1), cw.2)) i) (all_kept vs (λ w cw. h w (suc cw.0, omega (arith, cw.1), cw.2)) i))
+vertices_are g (e ∷ es) l a st d pr full c hc =
+    vertices_are g es (lists_without (home_of a e) e l) (take e a) (stands-take g l a e st pr.0) d.1 (all-after g l a e es d.0 pr.1) (full-after g l a e st pr.0 full) c hc
+    ∙ go (is_empty (without e (l.entries (home_of a e)))) refl
+  where
+    go : (b : Bool) → is_empty (without e (l.entries (home_of a e))) ≡ b
+        → filter (λ v. not (is_empty (dropped es (without e (l.entries v))))) (if b then without (home_of a e) (l.vertices c) else l.vertices c) ≡ filter (λ v. not (is_empty (dropped es (without e (l.entries v))))) (l.vertices c)
+    go true h = filter_without (λ v. not (is_empty (dropped es (without e (l.entries v))))) (home_of a e) (l.vertices c) (ap (λ xs. not (is_empty (dropped es xs))) (empty_is (without e (l.entries (home_of a e))) h) ∙ ap (λ xs. not (is_empty xs)) (dropped_nil es))
+    go false h = refl
+
+-- the entries listed are those of the plane
+pub record AreEntriesOf (g : Shape) (l : Lists) (plane_of : ℕ → ℕ) (p : ℕ) (es : List ℕ) : Type 0 where
+  pub each : (e : ℕ) → Contains es e → plane_of e ≡ p
+  pub all : (c v e : ℕ) → c < g.count → Contains (l.vertices c) v → Contains (l.entries v) e → plane_of e ≡ p → Contains es e
+
+contains_or_not : (es : List ℕ) (y : ℕ) → Contains es y ⊎ (Contains es y → ⊥)
+contains_or_not [] y = inr (λ c. let q = c.1 in omega arith)
+contains_or_not (e ∷ es) y = elim (decide e y) [
+  | inl q ↦ inl (zero, omega arith, q)
+  | inr n ↦ elim (contains_or_not es y) [
+    | inl c ↦ inl (suc c.0, omega (arith, c.1), c.2)
+    | inr m ↦ inr (λ c. later n m c)
+  ]
+]
+  where
+    later : e ≢ y → (Contains es y → ⊥) → Contains (e ∷ es) y → ⊥
+    later n m (zero, lt, q) = n q
+    later n m (suc k, lt, q) = m (k, omega arith, q)
+
+pub without-plane : (g : Shape) (plane_of : ℕ → ℕ) (p : ℕ) (es : List ℕ) (l : Lists) (a : Arrays) → Stands g l a → Distinct es → AllPresent g l a es → AreFull g l → AreEntriesOf g l plane_of p es
+    → AreSame g (lists_without_plane plane_of p l) (lists_without_all (home_of a) es l)
+without-plane g plane_of p es l a st d pr full of = record {
+  vertices = λ c hc. filter_same (λ v. not (is_empty (filter (λ e. not (plane_of e == p)) (l.entries v)))) (λ v. not (is_empty (dropped es (l.entries v)))) (l.vertices c)
+      (λ v cv. ap (λ xs. not (is_empty xs)) (at c v hc cv)) ∙ sym (vertices_are g es l a st d pr full c hc);
+  entries = λ c v hc cv. at c v hc (inside (λ w. not (is_empty (filter (λ e. not (plane_of e == p)) (l.entries w)))) (l.vertices c) v cv) ∙ sym (entries_are (home_of a) es l v);
+}
+  where
+    test_is : (c v e : ℕ) → c < g.count → Contains (l.vertices c) v → Contains (l.entries v) e → not (plane_of e == p) ≡ keeps es e
+    test_is c v e hc cv ce = elim (contains_or_not es e) [
+      | inl m ↦ ap not (eq-eqb (plane_of e) p (of.each e m)) ∙ sym (keeps_listed es e m)
+      | inr n ↦ ap not (off (plane_of e) p (λ q. n (of.all c v e hc cv ce q))) ∙ sym (keeps_not es e n)
+    ]
+      where
+        off : (x y : ℕ) → x ≢ y → eqb x y ≡ false
+        off x y h = grind (arith, nat_tests)
+
+    at : (c v : ℕ) → c < g.count → Contains (l.vertices c) v → filter (λ e. not (plane_of e == p)) (l.entries v) ≡ dropped es (l.entries v)
+    at c v hc cv = filter_same (λ e. not (plane_of e == p)) (keeps es) (l.entries v) (λ e ce. test_is c v e hc cv ce) ∙ sym (dropped_is es (l.entries v))
+
+    inside : (test : ℕ → Bool) (xs : List ℕ) (v : ℕ) → Contains (filter test xs) v → Contains xs v
+    inside test [] v c = c
+    inside test (x ∷ xs) v c = go (test x) (inside test xs v) c
+      where
+        go : (b : Bool) → (Contains (filter test xs) v → Contains xs v) → Contains (cond b (x ∷ filter test xs) (filter test xs)) v → Contains (x ∷ xs) v
+        go false ih c = let r = ih c in (suc r.0, omega (arith, r.1), r.2)
+        go true ih (zero, lt, q) = (zero, omega arith, q)
+        go true ih (suc k, lt, q) = let r = ih (k, omega arith, q) in (suc r.0, omega (arith, r.1), r.2)

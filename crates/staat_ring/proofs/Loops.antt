@@ -1,0 +1,49 @@
+-- The loops over the circles.
+use Rattle.std.proofs.Common.{◌≡◌, ◌≢◌, ℕ, suc, ◌+◌, ◌*◌, refl, sym, ap, ◌∙◌, List, [], ◌∷◌, ◌++◌, false, arith, add-one, eq-eqb, eqb}
+use Rattle.std.specs.Prelude.{if◌then◌else◌}
+use Rattle.std.proofs.lemmas.Bool.Decides.{nat_tests}
+use Rattle.staat_ring.specs.Links.{Arrays, take, give, take_all, give_all}
+use Rattle.staat_ring.specs.Planes.{entries_on, entries_of}
+
+pub take_all-append : (xs ys : List ℕ) (a : Arrays) → take_all (xs ++ ys) a ≡ take_all ys (take_all xs a)
+take_all-append [] ys a = refl
+take_all-append (x ∷ xs) ys a = take_all-append xs ys (take x a)
+
+pub give_all-append : (xs ys : List ℕ) (a : Arrays) → give_all (xs ++ ys) a ≡ give_all xs (give_all ys a)
+give_all-append [] ys a = refl
+give_all-append (x ∷ xs) ys a = ap (give x) (give_all-append xs ys a)
+
+differs : (x y : ℕ) → x ≢ y → eqb x y ≡ false
+differs x y h = grind (arith, nat_tests)
+
+two_entries : (n p c : ℕ) → c ≢ p → entries_on n p c ≡ (2 * (c * n + p)) ∷ (2 * (c * n + p) + 1) ∷ []
+two_entries n p c h = ap (λ b. if b then [] else (2 * (c * n + p)) ∷ (2 * (c * n + p) + 1) ∷ []) (differs c p h)
+
+no_entries : (n p c : ℕ) → c ≡ p → entries_on n p c ≡ []
+no_entries n p c h = ap (λ b. if b then [] else (2 * (c * n + p)) ∷ (2 * (c * n + p) + 1) ∷ []) (eq-eqb c p h)
+
+pub taken : (n p c e : ℕ) (a b : Arrays) → c ≢ p → e ≡ 2 * (c * n + p) → b ≡ take_all (entries_of n p c) a → take (e + 1) (take e b) ≡ take_all (entries_of n p (c + 1)) a
+taken n p c e a b h ee eb =
+    ap (λ x. take (x + 1) (take x b)) ee
+    ∙ (ap (λ x. take (2 * (c * n + p) + 1) (take (2 * (c * n + p)) x)) eb
+    ∙ (sym (ap (λ l. take_all l (take_all (entries_of n p c) a)) (two_entries n p c h))
+    ∙ (sym (take_all-append (entries_of n p c) (entries_on n p c) a)
+    ∙ ap (λ k. take_all (entries_of n p k) a) (sym (add-one c)))))
+
+pub skipped : (n p c : ℕ) (a b : Arrays) → c ≡ p → b ≡ take_all (entries_of n p c) a → b ≡ take_all (entries_of n p (c + 1)) a
+skipped n p c a b h eb =
+    eb
+    ∙ (sym (ap (λ l. take_all l (take_all (entries_of n p c) a)) (no_entries n p c h))
+    ∙ (sym (take_all-append (entries_of n p c) (entries_on n p c) a)
+    ∙ ap (λ k. take_all (entries_of n p k) a) (sym (add-one c))))
+
+pub given : (n p c e : ℕ) (b t : Arrays) → c ≢ p → e ≡ 2 * (c * n + p) → give_all (entries_of n p (suc c)) b ≡ t → give_all (entries_of n p c) (give e (give (e + 1) b)) ≡ t
+given n p c e b t h ee eb =
+    ap (λ x. give_all (entries_of n p c) (give x (give (x + 1) b))) ee
+    ∙ (sym (ap (λ l. give_all (entries_of n p c) (give_all l b)) (two_entries n p c h))
+    ∙ (sym (give_all-append (entries_of n p c) (entries_on n p c) b) ∙ eb))
+
+pub passed : (n p c : ℕ) (b t : Arrays) → c ≡ p → give_all (entries_of n p (suc c)) b ≡ t → give_all (entries_of n p c) b ≡ t
+passed n p c b t h eb =
+    sym (ap (λ l. give_all (entries_of n p c) (give_all l b)) (no_entries n p c h))
+    ∙ (sym (give_all-append (entries_of n p c) (entries_on n p c) b) ∙ eb)

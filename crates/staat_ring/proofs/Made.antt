@@ -1,0 +1,138 @@
+-- Unlinking and relinking keep what rings were made from, and what lists of them do.
+use Rattle.std.proofs.Common.{◌≡◌, ◌≢◌, ◌⊎◌, ◌↔◌, inl, inr, ⊎_elim, ℕ, zero, suc, ◌+◌, ◌<◌, ◌≤◌, Bool, true, false, not, arith, ap, refl, sym, subst, ◌∙◌, List, [], ◌∷◌, ◌++◌, length, take, All, Contains}
+use Rattle.std.specs.Prelude.{◌==◌, Some, map, slice_get}
+use Rattle.std.specs.List.{filter}
+use Rattle.std.proofs.lemmas.List.{append-nil, append_assoc}
+use Rattle.std.proofs.lemmas.List.Elements.{All-contains, Contains-append_cases, Contains-append_left, Contains-append_right}
+use Rattle.std.proofs.lemmas.Option.{same_Some, slice_get_within}
+use Rattle.staat_vec.specs.declared.vector.V3.{V3}
+use Rattle.staat_vec.proofs.Unique.{Contains-front, Contains-later, Contains-cases, Contains-nothing}
+use Rattle.staat_model.specs.declared.assembly.Part.{Part}
+use Rattle.staat_model.specs.declared.set.PartSet.{PartSet}
+use Rattle.staat_pairs.specs.Tables.{AreTablePlanes}
+use Rattle.staat_planes.specs.Tables.{IsPlaneOf}
+use Rattle.staat_ring.specs.Laws.{AreOtherPlanes, AreRelinked, AreRingsOfSet, AreUnlinked, HasNoAxis}
+use Rattle.staat_ring.specs.Rings.{AreRings, Arrangement, Kept, Ring, WereMadeFrom, linked_of, unlinked_of}
+use Rattle.staat_ring.specs.Without.{IsRelinked, IsUnlinked, kept, rings_without}
+use Rattle.staat_ring.proofs.CircleWithout.{planes_without}
+use Rattle.staat_ring.proofs.RingsWithout.{linked_without, rings_stay}
+use Rattle.staat_ring.proofs.WithoutLemmas.{filter_from, filter_in}
+use Rattle.staat_ring.proofs.Mapped.{differ}
+
+abbrev Unlinks : Type 0
+Unlinks = List (Kept (List Ring))
+
+unlinked_push : (us : Unlinks) (u : Kept (List Ring)) → unlinked_of (us ++ u ∷ []) ≡ unlinked_of us ++ u.plane ∷ []
+unlinked_push [] u = refl
+unlinked_push (x ∷ us) u = ap (λ ks. x.plane ∷ ks) (unlinked_push us u)
+
+-- a place in a list with one more at its end
+at_push : (us : Unlinks) (u : Kept (List Ring)) (k : ℕ) (x : Kept (List Ring)) → slice_get (us ++ u ∷ []) k ≡ Some x
+    → ((slice_get us k ≡ Some x) × (take k (us ++ u ∷ []) ≡ take k us)) ⊎ ((u ≡ x) × (take k (us ++ u ∷ []) ≡ us))
+at_push [] u zero x e = inr (same_Some u x e, refl)
+at_push [] u (suc k) x e = cc
+at_push (y ∷ us) u zero x e = inl (e, refl)
+at_push (y ∷ us) u (suc k) x e = ⊎_elim {C = ((slice_get us k ≡ Some x) × (take (suc k) (y ∷ us ++ u ∷ []) ≡ take (suc k) (y ∷ us))) ⊎ ((u ≡ x) × (take (suc k) (y ∷ us ++ u ∷ []) ≡ y ∷ us))}
+    (λ a. inl (a.0, ap (λ xs. y ∷ xs) a.1)) (λ b. inr (b.0, ap (λ xs. y ∷ xs) b.1)) (at_push us u k x e)
+
+at_front : (us : Unlinks) (u : Kept (List Ring)) (k : ℕ) (x : Kept (List Ring)) → slice_get us k ≡ Some x → (slice_get (us ++ u ∷ []) k ≡ Some x) × (take k (us ++ u ∷ []) ≡ take k us)
+at_front [] u k x e = absurd (let lt = slice_get_within [] k x e in omega (arith, lt))
+at_front (y ∷ us) u zero x e = (e, refl)
+at_front (y ∷ us) u (suc k) x e = let r = at_front us u k x e in (r.0, ap (λ xs. y ∷ xs) r.1)
+
+at_end : (us : Unlinks) (u : Kept (List Ring)) → (slice_get (us ++ u ∷ []) (length us) ≡ Some u) × (take (length us) (us ++ u ∷ []) ≡ us)
+at_end [] u = (refl, refl)
+at_end (y ∷ us) u = let r = at_end us u in (r.0, ap (λ xs. y ∷ xs) r.1)
+
+pub unlinked_made : (planes : List V3) (p : ℕ) (a b : Arrangement) → AreTablePlanes planes → 3 ≤ p → IsUnlinked p a b → WereMadeFrom planes a → WereMadeFrom planes b
+unlinked_made planes p a b table no_axis is made = record {
+  now = subst (λ (rs : List Ring). AreRings planes rs (unlinked_of b.unlinked)) (sym is.rings)
+      (subst (AreRings planes (rings_without p a.rings)) (sym (ap unlinked_of is.unlinked ∙ unlinked_push a.unlinked (kept p a.rings))) (rings_stay planes a.rings (unlinked_of a.unlinked) p table made.now no_axis));
+  before = λ k x e. subst (λ (us : Unlinks). AreRings planes x.before (unlinked_of (take k us))) (sym is.unlinked) (by k x (at_push a.unlinked (kept p a.rings) k x (subst (λ (us : Unlinks). slice_get us k ≡ Some x) is.unlinked e)));
+}
+  where
+    by : (k : ℕ) (x : Kept (List Ring)) → ((slice_get a.unlinked k ≡ Some x) × (take k (a.unlinked ++ kept p a.rings ∷ []) ≡ take k a.unlinked)) ⊎ ((kept p a.rings ≡ x) × (take k (a.unlinked ++ kept p a.rings ∷ []) ≡ a.unlinked)) → AreRings planes x.before (unlinked_of (take k (a.unlinked ++ kept p a.rings ∷ [])))
+    by k x (inl (e, t)) = subst (λ (us : Unlinks). AreRings planes x.before (unlinked_of us)) (sym t) (made.before k x e)
+    by k x (inr (e, t)) = subst (λ (us : Unlinks). AreRings planes x.before (unlinked_of us)) (sym t) (subst (λ (y : Kept (List Ring)). AreRings planes y.before (unlinked_of a.unlinked)) e made.now)
+
+pub relinked_made : (planes : List V3) (p : ℕ) (a b : Arrangement) → IsRelinked p a b → WereMadeFrom planes a → WereMadeFrom planes b
+relinked_made planes p a b is made = record {
+  now =
+      let (e, t) = at_end b.unlinked (kept p b.rings) in
+      subst (λ (us : Unlinks). AreRings planes b.rings (unlinked_of us)) (ap (take (length b.unlinked)) is ∙ t) (made.before (length b.unlinked) (kept p b.rings) (subst (λ (us : Unlinks). slice_get us (length b.unlinked) ≡ Some (kept p b.rings)) (sym is) e));
+  before = λ k x e.
+      let (f, t) = at_front b.unlinked (kept p b.rings) k x e in
+      subst (λ (us : Unlinks). AreRings planes x.before (unlinked_of us)) (ap (take k) is ∙ t) (made.before k x (subst (λ (us : Unlinks). slice_get us k ≡ Some x) (sym is) f));
+}
+
+-- ---- lists of unlinks and relinks
+
+last_or : {X : Type 0} → X → List X → X
+last_or d [] = d
+last_or d (x ∷ xs) = last_or x xs
+
+last_is : {X : Type 0} (d : X) (xs : List X) (x : X) → last_or d (xs ++ x ∷ []) ≡ x
+unfolding last_or
+last_is d [] x = refl
+last_is d (y ∷ xs) x = last_is y xs x
+
+same_push : {X : Type 0} (xs ys : List X) (x y : X) → xs ++ x ∷ [] ≡ ys ++ y ∷ [] → (xs ≡ ys) × (x ≡ y)
+same_push xs ys x y e =
+    let q : x ≡ y = sym (last_is x xs x) ∙ (ap (last_or x) e ∙ last_is x ys y) in
+    (Rattle.std.proofs.lemmas.List.append_cancel_right xs ys (y ∷ []) (subst (λ z. xs ++ z ∷ [] ≡ ys ++ y ∷ []) q e), q)
+
+pub relinked_back : (p : ℕ) (a m b : Arrangement) → IsUnlinked p a m → IsRelinked p m b → b ≡ a
+relinked_back p a m b u r =
+    let (us, k) = same_push b.unlinked a.unlinked (kept p b.rings) (kept p a.rings) (sym r ∙ u.unlinked) in
+    λ i. record { rings = (ap (λ (x : Kept (List Ring)). x.before) k) i; unlinked = us i }
+
+pub undone : (ps : List ℕ) (a b c : Arrangement) → AreUnlinked ps a b → AreRelinked ps b c → c ≡ a
+undone [] a b c u r = sym r ∙ sym u
+undone (p ∷ ps) a b c (m, is, us) (w, rs, back) = relinked_back p a m c is (subst (λ (x : Arrangement). IsRelinked p x c) (undone ps m b w us rs) back)
+
+-- ---- the circles of a set
+
+pub all_made : (planes : List V3) (ps : List ℕ) (a b : Arrangement) → AreTablePlanes planes → HasNoAxis ps → AreUnlinked ps a b → WereMadeFrom planes a → WereMadeFrom planes b
+all_made planes [] a b table none u made = subst (WereMadeFrom planes) u made
+all_made planes (p ∷ ps) a b table none (m, is, us) made =
+    all_made planes ps m b table (λ k d lt. none (suc k) d (omega (arith, lt))) us
+    (unlinked_made planes p a m table (All-contains (λ p. 3 ≤ p) (p ∷ ps) p none (Contains-front p ps)) is made)
+
+out_of : (ps : List ℕ) (a b : Arrangement) → AreUnlinked ps a b → unlinked_of b.unlinked ≡ unlinked_of a.unlinked ++ ps
+out_of [] a b u = ap (λ (x : Arrangement). unlinked_of x.unlinked) (sym u) ∙ sym (append-nil (unlinked_of a.unlinked))
+out_of (p ∷ ps) a b (m, is, us) = out_of ps m b us ∙ (ap (λ ks. ks ++ ps) (ap unlinked_of is.unlinked ∙ unlinked_push a.unlinked (kept p a.rings)) ∙ append_assoc (unlinked_of a.unlinked) (p ∷ []) ps)
+
+-- no plane of the list is linked any more
+gone : (ps : List ℕ) (a b : Arrangement) → AreUnlinked ps a b → (k : ℕ) → Contains (linked_of b.rings) k → Contains (linked_of a.rings) k × (Contains ps k → ⊥)
+gone [] a b u k c = (subst (λ (x : Arrangement). Contains (linked_of x.rings) k) (sym u) c, Contains-nothing k)
+gone (p ∷ ps) a b (m, is, us) k c =
+    let (cm, absent) = gone ps m b us k c in
+    let f = filter_from (λ k. not (k == p)) (linked_of a.rings) k (subst (λ ks. Contains ks k) (ap linked_of is.rings ∙ linked_without p a.rings) cm) in
+    (f.0, λ cp. ⊎_elim {C = ⊥} (λ e. not_same k p f.1 e) absent (Contains-cases p ps k cp))
+  where
+    not_same : (k p : ℕ) → not (k == p) ≡ true → k ≢ p
+    not_same k p h e = off (k == p) (Rattle.std.proofs.Common.eq-eqb k p e) h
+      where
+        off : (b : Bool) → b ≡ true → not b ≡ true → ⊥
+        off true a c = cc
+        off false a c = cc
+
+pub of_a_set : (parts : List Part) (w : PartSet) (planes : List V3) (ps : List ℕ) (a b : Arrangement) → AreTablePlanes planes → WereMadeFrom planes a → a.unlinked ≡ [] → HasNoAxis ps
+    → AreOtherPlanes parts w planes ps → AreUnlinked ps a b → AreRingsOfSet parts w planes b
+of_a_set parts w planes ps a b table made none no_axis others us = record {
+  linked = λ k n at. (
+    (λ c. (others k n at).0 (gone ps a b us k c).1),
+    (λ is. stays k ((others k n at).1 is) (now.all k (slice_get_within planes k n at))),
+  );
+  circles = now.each;
+}
+  where
+    now : AreRings planes b.rings (unlinked_of b.unlinked)
+    now = (all_made planes ps a b table no_axis us made).now
+
+    out : unlinked_of b.unlinked ≡ ps
+    out = out_of ps a b us ∙ ap (λ (xs : Unlinks). unlinked_of xs ++ ps) none
+
+    stays : (k : ℕ) → (Contains ps k → ⊥) → Contains (linked_of b.rings) k ⊎ Contains (unlinked_of b.unlinked) k → Contains (linked_of b.rings) k
+    stays k absent (inl c) = c
+    stays k absent (inr c) = absurd (absent (subst (λ ks. Contains ks k) out c))

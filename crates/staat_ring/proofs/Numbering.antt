@@ -1,0 +1,89 @@
+-- The numbers of entries tell them apart, and each entry stands at one stop of its circle.
+use Rattle.std.proofs.Common.{◌≡◌, ◌≢◌, ◌+◌, ◌*◌, ◌/◌, ◌%◌, ◌<◌, ◌≤◌, refl, Bool, true, false, if◌then◌else◌, ℕ, zero, suc, [], ◌∷◌, arith, ap, sym, subst, ◌∙◌, List, All, Contains, eq-eqb, length}
+use Rattle.std.specs.Prelude.{Some, map, slice_get, ◌==◌}
+use Rattle.std.proofs.lemmas.List.Elements.{All-contains}
+use Rattle.std.proofs.lemmas.Option.{slice_get-map, same_Some}
+use Rattle.staat_vec.specs.declared.vector.V3.{V3}
+use Rattle.staat_model.proofs.GraphLemmas.{from_slice_get}
+use Rattle.staat_ring.specs.declared.entry.Entry.{Entry}
+use Rattle.staat_ring.specs.Numbered.{HasEntry, head_number, node_number}
+use Rattle.staat_ring.specs.Rings.{IsRingOf, Ring, RingStop, crossing, entry_number, stop_of, vertex_of}
+use Rattle.staat_ring.specs.RingViews.{entry_of, shape}
+use Rattle.staat_ring.proofs.Mapped.{differ}
+use Rattle.staat_ring.proofs.Numbers.{circle_of_number, circle_of_vertex, number_once, number_small}
+use Rattle.staat_ring.proofs.SoundLemmas.{plane_of_entry}
+
+abbrev bit : Bool → ℕ
+bit b = if b then 1 else 0
+
+bit_small : (b : Bool) → bit b < 2
+bit_small true = omega arith
+bit_small false = omega arith
+
+bit_once : (a b : Bool) → bit a ≡ bit b → a ≡ b
+bit_once true true e = refl
+bit_once false false e = refl
+bit_once true false e = absurd (omega (arith, e))
+bit_once false true e = absurd (omega (arith, e))
+
+pub one_entry : (n c : ℕ) (e f : Entry) → e.plane < n → f.plane < n → entry_number n c e ≡ entry_number n c f → e ≡ f
+one_entry n c e f le lf q =
+    let (_, p, b) = number_once n c e.plane (bit e.turned) c f.plane (bit f.turned) le lf (bit_small e.turned) (bit_small f.turned) q in
+    λ i. record { plane = p i; turned = bit_once e.turned f.turned b i }
+
+pub entry_small : (n c : ℕ) (e : Entry) → c < n → e.plane < n → entry_number n c e < 2 * (n * n)
+entry_small n c e lc le = number_small n c e.plane (bit e.turned) lc le (bit_small e.turned)
+
+pub entry_circle : (n c : ℕ) (e : Entry) → c < n → e.plane < n → (shape n).circle (entry_number n c e) ≡ c
+entry_circle n c e lc le = circle_of_number n c e.plane (bit e.turned) lc le (bit_small e.turned)
+
+-- the entry that a number tells
+pub entry_back : (n c : ℕ) (e : Entry) → e.plane < n → entry_of n (entry_number n c e) ≡ e
+entry_back n c e le = λ i. record { plane = plane_of_entry n e.plane c (bit e.turned) le (bit_small e.turned) i; turned = odd e.turned i }
+  where
+    rest : (x s : ℕ) → s < 2 → (2 * x + s) % 2 ≡ s
+    rest x s lt = omega arith
+
+    odd : (b : Bool) → ((2 * (c * n + e.plane) + bit b) % 2 == 1) ≡ b
+    odd true = eq-eqb ((2 * (c * n + e.plane) + 1) % 2) 1 (rest (c * n + e.plane) 1 (omega arith))
+    odd false = differ ((2 * (c * n + e.plane) + 0) % 2) 1 (λ q. let r = rest (c * n + e.plane) 0 (omega arith) in omega (arith, q, r))
+
+-- ---- the nodes of a circle
+
+pub first_entry : (n c : ℕ) (es : List Entry) → HasEntry es → (e : Entry) × Contains es e × (node_number n c es ≡ 2 * (n * n) + entry_number n c e)
+first_entry n c [] h = absurd (omega (arith, h))
+first_entry n c (e ∷ es) h = (e, (zero, omega arith, refl), refl)
+
+module _ (n c : ℕ) (lc : c < n) (es : List Entry) (some : HasEntry es) (small : (e : Entry) → Contains es e → e.plane < n) where
+  pub node_great : 2 * (n * n) ≤ node_number n c es
+  node_great = let (e, ce, q) = first_entry n c es some in omega (arith, q)
+
+  pub node_small : node_number n c es < 4 * (n * n)
+  node_small = let (e, ce, q) = first_entry n c es some in let s = entry_small n c e lc (small e ce) in omega (arith, q, s)
+
+  pub node_circle : (shape n).circle (node_number n c es) ≡ c
+  node_circle = let (e, ce, q) = first_entry n c es some in ap (shape n).circle q ∙ circle_of_vertex n c e.plane (bit e.turned) lc (small e ce) (bit_small e.turned)
+
+head_is : (n c : ℕ) → head_number n c ≡ 2 * (c * n + c) + 0
+head_is n c = omega arith
+
+pub head_small : (n c : ℕ) → c < n → head_number n c < 2 * (n * n)
+head_small n c lc = let s = number_small n c c 0 lc lc (omega arith) in let e = head_is n c in omega (arith, s, e)
+
+pub head_circle : (n c : ℕ) → c < n → (shape n).circle (head_number n c) ≡ c
+head_circle n c lc = ap (shape n).circle (head_is n c) ∙ circle_of_number n c c 0 lc lc (omega arith)
+
+-- ---- an entry stands at one stop
+
+pub entry_once : (planes : List V3) (linked : List ℕ) (r : Ring) → IsRingOf planes linked r → (k m : ℕ) (s t : RingStop) (e : Entry) → slice_get r.stops k ≡ Some s → slice_get r.stops m ≡ Some t → Contains s.entries e → Contains t.entries e → k ≡ m
+entry_once planes linked r is k m s t e ks mt ce de =
+    is.circle.vertices.once k m (vertex_of planes r.plane s.entries) (place k s ks) (place m t mt ∙ ap (λ v. Some v) (sym (agree m t de mt) ∙ agree k s ce ks))
+  where
+    at_map : {X Y : Type 0} (f : X → Y) (xs : List X) (k : ℕ) (x : X) → slice_get xs k ≡ Some x → slice_get (map f xs) k ≡ Some (f x)
+    at_map f xs k x e = slice_get-map f xs k ∙ ap (Rattle.std.specs.Prelude.option_map f) e
+
+    place : (k : ℕ) (s : RingStop) → slice_get r.stops k ≡ Some s → slice_get (map (λ s. s.vertex) (map (stop_of planes r.plane) r.stops)) k ≡ Some (vertex_of planes r.plane s.entries)
+    place k s ks = at_map (λ s. s.vertex) (map (stop_of planes r.plane) r.stops) k (stop_of planes r.plane s) (at_map (stop_of planes r.plane) r.stops k s ks)
+
+    agree : (k : ℕ) (s : RingStop) → Contains s.entries e → slice_get r.stops k ≡ Some s → crossing planes r.plane e ≡ vertex_of planes r.plane s.entries
+    agree k s ce ks = All-contains (λ e. crossing planes r.plane e ≡ vertex_of planes r.plane s.entries) s.entries e (All-contains (λ s. All (λ e. crossing planes r.plane e ≡ vertex_of planes r.plane s.entries) s.entries) r.stops s is.agree (from_slice_get r.stops k s ks)) ce

@@ -1,0 +1,169 @@
+-- Going round a ring.
+use Rattle.std.proofs.Common.{◌≡◌, ◌≢◌, ◌⊎◌, inl, inr, ⊎_elim, ℕ, zero, suc, ◌+◌, ◌*◌, ◌<◌, ◌≤◌, arith, ap, refl, sym, subst, ◌∙◌, not, List, [], ◌∷◌, ◌++◌, length, get_or, take, All, Contains, Bool, true, false, ◌||◌, eq-eqb}
+use Rattle.std.specs.Prelude.{◌==◌, map, nat_lt}
+use Rattle.std.proofs.lemmas.Bool.Decides.{nat_tests}
+use Rattle.std.specs.List.{filter}
+use Rattle.std.proofs.lemmas.List.{get_or_append_left, get_or_push, length-map}
+use Rattle.staat_model.proofs.Members.{All-from_members}
+use Rattle.staat_ring.specs.Links.{Arrays, Chain, Links, Ring}
+use Rattle.staat_ring.specs.RingInvariant.{AreKept}
+use Rattle.staat_ring.specs.RingViews.{IsGood, arrangement_of, below, entry_of, listed, ring_of, shape, still_linked}
+use Rattle.staat_ring.specs.Rings.{Arrangement, RingStop, linked_of}
+use Rattle.staat_ring.specs.Rings as rings
+use Rattle.staat_ring.specs.Stands.{IsRing, IsShortRing}
+use Rattle.staat_ring.specs.Numbered.{head_number}
+use Rattle.staat_ring.proofs.Numbering.{head_small}
+use Rattle.staat_ring.specs.Views.{lists_of}
+use Rattle.staat_ring.proofs.Mapped.{differ, from_apart, from_map}
+use Rattle.staat_ring.proofs.RingLemmas.{below_small}
+use Rattle.staat_ring.proofs.SoundLemmas.{filter_inside}
+use Rattle.staat_ring.proofs.Unlinking.{linked_plane, planes_of_rings, sound_is_good}
+use Rattle.staat_ring.proofs.Built.{below_all}
+use Rattle.staat_ring.proofs.WithoutLemmas.{filter_in}
+
+chain_step : (s : Links) (a : ℕ) (xs : List ℕ) (b k : ℕ) → Chain s a xs b → k ≤ length xs → get_or s.next (get_or (a ∷ xs) k 0) 0 ≡ get_or (xs ++ b ∷ []) k 0
+chain_step s a [] b zero c le = c.0
+chain_step s a [] b (suc k) c le = absurd (omega (arith, le))
+chain_step s a (x ∷ xs) b zero c le = c.0
+chain_step s a (x ∷ xs) b (suc k) c le = chain_step s x xs b k c.1.1 (omega (arith, le))
+
+-- the node is the one at this place, or the head after the last one
+pub record IsAtPlace (head : ℕ) (xs : List ℕ) (node k : ℕ) : Type 0 where
+  pub within : k ≤ length xs
+  pub is : node ≡ get_or (xs ++ head ∷ []) k 0
+
+pub at_start : (s : Links) (head : ℕ) (xs : List ℕ) → Ring s head xs → IsAtPlace head xs (get_or s.next head 0) 0
+at_start s head xs r = record { within = omega arith; is = chain_step s head xs head 0 r (omega arith) }
+
+before_end : (head : ℕ) (xs : List ℕ) (k : ℕ) → k < length xs → get_or (xs ++ head ∷ []) k 0 ≡ get_or xs k 0
+before_end head xs k lt = get_or_append_left xs (head ∷ []) 0 k lt
+
+at_end : (head : ℕ) (xs : List ℕ) (k : ℕ) → k ≡ length xs → get_or (xs ++ head ∷ []) k 0 ≡ head
+at_end head xs k e = get_or_push xs head 0 k (sym e)
+
+cases : (k m : ℕ) → k ≤ m → (k < m) ⊎ (k ≡ m)
+cases k m le = grind arith
+
+pub goes_on : (head : ℕ) (xs : List ℕ) (node k : ℕ) → IsAtPlace head xs node k → node ≢ head → k < length xs
+goes_on head xs node k at ne = ⊎_elim {C = k < length xs} (λ lt. lt) (λ e. absurd (ne (at.is ∙ at_end head xs k e))) (cases k (length xs) at.within)
+
+pub ends : (s : Links) (head : ℕ) (xs : List ℕ) (node k : ℕ) → IsShortRing s head xs → IsAtPlace head xs node k → node ≡ head → k ≡ length xs
+ends s head xs node k short at e = ⊎_elim {C = k ≡ length xs}
+    (λ lt. absurd (from_apart head xs (get_or xs k 0) short.apart (k, lt, Rattle.std.proofs.lemmas.List.get_or_default xs k (get_or xs k 0) 0 lt) (sym (before_end head xs k lt) ∙ (sym at.is ∙ e))))
+    (λ q. q) (cases k (length xs) at.within)
+
+pub at_next : (s : Links) (head : ℕ) (xs : List ℕ) (node k : ℕ) → IsShortRing s head xs → IsAtPlace head xs node k → node ≢ head → IsAtPlace head xs (get_or s.next node 0) (k + 1)
+at_next s head xs node k short at ne =
+    let lt = goes_on head xs node k at ne in
+    record {
+      within = omega (arith, lt);
+      is = ap (λ x. get_or s.next x 0) (at.is ∙ before_end head xs k lt)
+          ∙ (chain_step s head xs head (suc k) short.ring (omega (arith, lt)) ∙ ap (λ j. get_or (xs ++ head ∷ []) j 0) (let e : suc k ≡ k + 1 = omega arith in e));
+    }
+
+pub node_within : (s : Links) (head : ℕ) (xs : List ℕ) (node k : ℕ) → IsShortRing s head xs → IsAtPlace head xs node k → node < length s.next
+node_within s head xs node k short at = ⊎_elim {C = node < length s.next}
+    (λ lt. subst (λ x. x < length s.next) (sym (at.is ∙ before_end head xs k lt)) (short.within (suc k) 0 (omega (arith, lt))))
+    (λ e. subst (λ x. x < length s.next) (sym (at.is ∙ at_end head xs k e)) (short.within 0 0 (omega arith)))
+    (cases k (length xs) at.within)
+
+-- ---- what is out
+
+pub listed_in : (out : List ℕ) (p : ℕ) → Contains out p → listed out p ≡ true
+listed_in [] p (k, lt, e) = absurd (omega (arith, lt))
+listed_in (q ∷ out) p (zero, lt, e) = first (q == p) (eq-eqb q p e)
+  where
+    first : (b : Bool) → b ≡ true → (b || listed out p) ≡ true
+    first true e = refl
+    first false e = cc
+listed_in (q ∷ out) p (suc k, lt, e) = later (q == p) (listed_in out p (k, omega (arith, lt), e))
+  where
+    later : (b : Bool) → listed out p ≡ true → (b || listed out p) ≡ true
+    later true e = refl
+    later false e = e
+
+unlisted : (out : List ℕ) (p : ℕ) → (Contains out p → ⊥) → listed out p ≡ false
+unlisted [] p absent = refl
+unlisted (q ∷ out) p absent = both (q == p) (differ q p (λ e. absent (zero, omega arith, e))) (unlisted out p (λ c. absent (suc c.0, omega (arith, c.1), c.2)))
+  where
+    both : (b : Bool) → b ≡ false → listed out p ≡ false → (b || listed out p) ≡ false
+    both true e f = cc
+    both false e f = f
+
+pub unless : (b : Bool) (P : Type 0) → (b ≡ true → P) × (P → b ≡ true) → (not b ≡ true → P → ⊥) × ((P → ⊥) → not b ≡ true)
+unless true P h = ((λ e p. off e), (λ absent. absurd (absent (h.0 refl))))
+  where
+    off : false ≡ true → ⊥
+    off e = cc
+unless false P h = ((λ e p. off (h.1 p)), (λ absent. refl))
+  where
+    off : false ≡ true → ⊥
+    off e = cc
+
+pub is_below : (a b : ℕ) → a < b → nat_lt a b ≡ true
+is_below a b h = grind (arith, nat_tests)
+
+pub not_below : (a b : ℕ) → b ≤ a → nat_lt a b ≡ true → ⊥
+not_below a b h e = let lt : a < b = grind (arith, nat_tests) in omega (arith, h, lt)
+
+-- ---- the circle of a linked plane
+
+abbrev pub circle_nodes : ℕ → Arrays → ℕ → List ℕ
+circle_nodes n a c = (lists_of (shape n) a).vertices c
+
+module _ (n count : ℕ) (order : List ℕ) (a : Arrays) (now : Arrangement) (view : arrangement_of n (take count order) a ≡ now) (is : AreKept n count order a) where
+  abbrev out : List ℕ
+  out = take count order
+
+  good : IsGood n out a
+  good = sound_is_good n out a is.sound
+
+  ring_there : (r : rings.Ring) → Contains now.rings r → (c : ℕ) × (c < n) × (ring_of n (lists_of (shape n) a) c ≡ r)
+  ring_there r cr =
+      let (c, cc', q) = from_map (ring_of n (lists_of (shape n) a)) (filter (λ c. not (listed out c)) (below n)) r (subst (λ (v : Arrangement). Contains v.rings r) (sym view) cr) in
+      (c, below_small n c (filter_inside (λ c. not (listed out c)) (below n) c cc').0, q)
+
+  pub linked_small : (c : ℕ) → Contains (linked_of now.rings) c → c < n
+  linked_small c cc' =
+      let (r, cr, e) = from_map (λ (r : rings.Ring). r.plane) now.rings c cc' in
+      let (d, ld, q) = ring_there r cr in
+      subst (λ x. x < n) (ap (λ (r : rings.Ring). r.plane) q ∙ e) ld
+
+  pub short_ring : length a.circles.next ≡ length a.home → (c : ℕ) → Contains (linked_of now.rings) c → (head : ℕ) → head ≡ head_number n c → IsShortRing a.circles head (circle_nodes n a c)
+  short_ring same c linked head e = subst (λ h. IsShortRing a.circles h (circle_nodes n a c)) (sym e) (record {
+    ring = ring.ring;
+    apart = ring.distinct.0;
+    short = good.short_circles c lc;
+    within = All-from_members (λ x. x < length a.circles.next) (head_number n c ∷ circle_nodes n a c) within;
+  })
+    where
+      lc : c < n
+      lc = linked_small c linked
+
+      ring : IsRing a.circles (shape n).circle (head_number n c) (circle_nodes n a c)
+      ring = good.stands.circles c lc
+
+      within : (x : ℕ) → Contains (head_number n c ∷ circle_nodes n a c) x → x < length a.circles.next
+      within x (zero, lt, e) = let h = head_small n c lc in let r = is.room in omega (arith, h, e, same, r)
+      within x (suc k, lt, e) = good.stands.within c x lc (k, omega (arith, lt), e)
+
+  pub vertices_are : (r : rings.Ring) (c : ℕ) → Contains now.rings r → r.plane ≡ c → length ((lists_of (shape n) a).vertices c) ≡ length r.stops
+  vertices_are r c cr e =
+      let (d, ld, q) = ring_there r cr in
+      let same : d ≡ c = ap (λ (r : rings.Ring). r.plane) q ∙ e in
+      ap (λ k. length ((lists_of (shape n) a).vertices k)) (sym same)
+      ∙ (sym (length-map ((lists_of (shape n) a).vertices d) (λ v. record { node = v; entries = map (entry_of n) ((lists_of (shape n) a).entries v) })) ∙ ap (λ (r : rings.Ring). length r.stops) q)
+
+  linked_are : linked_of now.rings ≡ still_linked n out
+  linked_are = ap (λ (v : Arrangement). linked_of v.rings) (sym view) ∙ planes_of_rings n out (lists_of (shape n) a)
+
+  -- a plane is linked if it is not out
+  pub linked_if : (p : ℕ) → p < n → (Contains out p → ⊥) → Contains (linked_of now.rings) p
+  linked_if p lp absent = subst (λ ks. Contains ks p) (sym linked_are) (filter_in (λ c. not (listed out c)) (below n) p (below_all n p lp) (ap not (unlisted out p absent)))
+
+  pub linked_then : (p : ℕ) → Contains (linked_of now.rings) p → (p < n) × (Contains out p → ⊥)
+  linked_then p c = let (lp, e) = linked_plane n out p (subst (λ ks. Contains ks p) linked_are c) in (lp, λ o. not_both (listed out p) e (listed_in out p o))
+    where
+      not_both : (b : Bool) → b ≡ false → b ≡ true → ⊥
+      not_both true e f = cc
+      not_both false e f = cc

@@ -1,0 +1,167 @@
+-- What unlink and relink do to the view and the invariant.
+use Rattle.std.proofs.Common.{◌≡◌, ℕ, zero, suc, ◌+◌, ◌-◌, ◌<◌, ◌≤◌, refl, sym, ap, subst, ◌∙◌, arith, List, [], ◌∷◌, ◌++◌, map, length, take, Contains, ◌⊎◌, inl, inr, set, get_or, add-one}
+use Rattle.std.proofs.Math.Seq.{take-suc-set, take-suc}
+use Rattle.std.proofs.lemmas.List.{take-set-le, get_or-set_other}
+use Rattle.std.proofs.lemmas.Grind.{get_or-set_at}
+use Rattle.std.proofs.Math.ListN.{length-set}
+use Rattle.staat_ring.specs.Links.{Arrays, take_all, give_all}
+use Rattle.staat_ring.specs.Planes.{entries_of}
+use Rattle.staat_ring.specs.Views.{kept_of}
+use Rattle.staat_ring.specs.RingViews.{rings_at, rings_of, undo, arrangement_of, IsSound, still_linked, shape}
+use Rattle.staat_ring.specs.Rings.{Arrangement, Kept, Ring}
+use Rattle.staat_ring.specs.Without.{IsRelinked, IsUnlinked, kept, rings_without}
+use Rattle.staat_ring.specs.Views.{lists_of}
+use Rattle.staat_ring.specs.RingInvariant.{AreKept}
+use Rattle.staat_ring.proofs.ViewLemmas.{kept-push}
+use Rattle.staat_ring.proofs.SoundLemmas.{good-unlink, undone, rings-unlink}
+use Rattle.staat_ring.proofs.Unlinking.{sound_is_good, sound-push, sound-pop, planes_of_rings, linked_plane, one_less}
+use Rattle.staat_ring.proofs.TwoLevels.{decide}
+
+pub is_linked : (n : ℕ) (out : List ℕ) (a : Arrays) (v : Arrangement) (p : ℕ) → arrangement_of n out a ≡ v → Contains (map (λ r. r.plane) v.rings) p → Contains (still_linked n out) p
+is_linked n out a v p e c = subst (λ xs. Contains xs p) (ap (λ x. map (λ r. r.plane) x.rings) (sym e) ∙ planes_of_rings n out (lists_of (shape n) a)) c
+
+pub is_small : (n : ℕ) (out : List ℕ) (a : Arrays) (v : Arrangement) (p : ℕ) → arrangement_of n out a ≡ v → Contains (map (λ r. r.plane) v.rings) p → p < n
+is_small n out a v p e c = (linked_plane n out p (is_linked n out a v p e c)).0
+
+pub has_room : (n count : ℕ) (order : List ℕ) (a : Arrays) (v : Arrangement) (p : ℕ) → AreKept n count order a → arrangement_of n (take count order) a ≡ v → Contains (map (λ r. r.plane) v.rings) p → count < n
+has_room n count order a v p k e c =
+    let l = is_linked n (take count order) a v p e c in
+    let s = l.1 in
+    let t = k.all count (omega arith) in
+    omega arith
+
+order_push : (count : ℕ) (order : List ℕ) (p : ℕ) → count < length order → take (count + 1) (set order count p) ≡ take count order ++ p ∷ []
+order_push count order p lt = ap (λ k. take k (set order count p)) (add-one count) ∙ take-suc-set order count p lt
+
+module _ (n count : ℕ) (order : List ℕ) (a b : Arrays) (v : Arrangement) (p : ℕ) (k : AreKept n count order a) (e : arrangement_of n (take count order) a ≡ v) (c : Contains (map (λ r. r.plane) v.rings) p) (is : b ≡ take_all (entries_of n p n) a) where
+  linked : Contains (still_linked n (take count order)) p
+  linked = is_linked n (take count order) a v p e c
+
+  room : count < length order
+  room = let r = has_room n count order a v p k e c in let s = k.size in omega arith
+
+  back : undo n p b ≡ a
+  back =
+      let l = linked_plane n (take count order) p linked in
+      ap (undo n p) is ∙ undone n p (take count order) a l.0 l.1 (sound_is_good n (take count order) a k.sound)
+
+  pub unlink_rings : rings_at n (take (count + 1) (set order count p)) b ≡ rings_without p v.rings
+  unlink_rings =
+      let l = linked_plane n (take count order) p linked in
+      ap (λ o. rings_at n o b) (order_push count order p room)
+      ∙ (ap (rings_at n (take count order ++ p ∷ [])) is
+      ∙ (rings-unlink n p (take count order) a l.0 l.1 (sound_is_good n (take count order) a k.sound)
+      ∙ ap (λ x. rings_without p x.rings) e))
+
+  pub unlink_kept : kept_of (undo n) (rings_at n) [] (take (count + 1) (set order count p)) b ≡ v.unlinked ++ (record { plane = p; before = v.rings }) ∷ []
+  unlink_kept =
+      ap (λ o. kept_of (undo n) (rings_at n) [] o b) (order_push count order p room)
+      ∙ (kept-push (undo n) (rings_at n) [] (take count order) p b
+      ∙ (ap (λ x. kept_of (undo n) (rings_at n) [] (take count order) x ++ (record { plane = p; before = rings_at n (take count order) x }) ∷ []) back
+      ∙ ap (λ x. x.unlinked ++ (record { plane = p; before = x.rings }) ∷ []) e))
+
+  pub unlink_is : IsUnlinked p v (arrangement_of n (take (count + 1) (set order count p)) b)
+  unlink_is = record { rings = unlink_rings; unlinked = unlink_kept }
+
+  pub unlink_invariant : length b.home ≡ length a.home → AreKept n (count + 1) (set order count p) b
+  unlink_invariant h =
+      let l = linked_plane n (take count order) p linked in
+      let s = k.size in
+      let r = room in
+      let ls = length-set order count p in
+      record {
+        few = k.few;
+        room = let q = k.room in omega arith;
+        size = omega arith;
+        most = omega arith;
+        all = λ j le. elim (at_most j count) [
+          | inl g ↦ subst (λ o. j + length (still_linked n o) ≡ n) (sym (take-set-le j order count p g)) (k.all j g)
+          | inr g ↦ let m = one_less n p (take count order) linked in
+              let t = k.all count (omega arith) in
+              let j' : j ≡ count + 1 = omega arith in
+              let w = ap (λ o. length (still_linked n o)) (ap (λ i. take i (set order count p)) j' ∙ order_push count order p room) in
+              omega arith
+        ];
+        planes = λ j lt. elim (decide j count) [
+          | inl q ↦ subst (λ x. x < n) (sym (get_or-set_at order count j p 0 q room)) l.0
+          | inr q ↦ subst (λ x. x < n) (sym (get_or-set_other order count j p 0 q)) (k.planes j (omega arith))
+        ];
+        sound = subst (λ o. IsSound n o b) (sym (order_push count order p room))
+            (sound-push n p (take count order) a b back
+            (subst (λ x. Rattle.staat_ring.specs.RingViews.IsGood n (take count order ++ p ∷ []) x) (sym is) (good-unlink n p (take count order) a l.0 l.1 (sound_is_good n (take count order) a k.sound))) k.sound);
+      }
+    where
+      at_most : (k m : ℕ) → (k ≤ m) ⊎ (m + 1 ≤ k)
+      at_most k m = grind arith
+
+-- ---- relink
+last_or : {X : Type 0} → X → List X → X
+last_or d [] = d
+last_or d (x ∷ xs) = last_or x xs
+
+last_is : {X : Type 0} (d : X) (xs : List X) (x : X) → last_or d (xs ++ x ∷ []) ≡ x
+unfolding last_or
+last_is d [] x = refl
+last_is d (y ∷ xs) x = last_is y xs x
+
+same_last : {X : Type 0} (xs ys : List X) (x y : X) → xs ++ x ∷ [] ≡ ys ++ y ∷ [] → x ≡ y
+same_last xs ys x y e = sym (last_is x xs x) ∙ (ap (last_or x) e ∙ last_is x ys y)
+
+not_nil : {X : Type 0} (xs : List X) (x : X) → [] ≡ xs ++ x ∷ [] → ⊥
+not_nil [] x e = cc
+not_nil (y ∷ xs) x e = cc
+
+module _ (n count : ℕ) (order : List ℕ) (a : Arrays) (v : Arrangement) (p : ℕ) (k : AreKept n count order a) (e : arrangement_of n (take count order) a ≡ v)
+    (u : List (Kept (List Ring))) (before : List Ring) (last : v.unlinked ≡ u ++ kept p before ∷ []) where
+  pub some : 0 < count
+  some = go count refl
+    where
+      go : (m : ℕ) → m ≡ count → 0 < count
+      go zero q = absurd (not_nil u (record { plane = p; before = before }) (ap (λ m. kept_of (undo n) (rings_at n) [] (take m order) a) q ∙ (ap (λ x. x.unlinked) e ∙ last)))
+      go (suc m) q = omega arith
+
+  split_order : take count order ≡ take (count - 1) order ++ get_or order (count - 1) 0 ∷ []
+  split_order =
+      let s = some in
+      let q : count ≡ suc (count - 1) = omega arith in
+      let z = k.size in
+      let m = k.most in
+      ap (λ i. take i order) q ∙ take-suc order (count - 1) 0 (omega arith)
+
+  pushed : v.unlinked ≡ kept_of (undo n) (rings_at n) [] (take (count - 1) order) (undo n (get_or order (count - 1) 0) a)
+      ++ (record { plane = get_or order (count - 1) 0; before = rings_at n (take (count - 1) order) (undo n (get_or order (count - 1) 0) a) }) ∷ []
+  pushed =
+      ap (λ x. x.unlinked) (sym e)
+      ∙ (ap (λ o. kept_of (undo n) (rings_at n) [] o a) split_order
+      ∙ kept-push (undo n) (rings_at n) [] (take (count - 1) order) (get_or order (count - 1) 0) a)
+
+  pub is_last : get_or order (count - 1) 0 ≡ p
+  is_last = ap (λ x. x.plane) (same_last
+      (kept_of (undo n) (rings_at n) [] (take (count - 1) order) (undo n (get_or order (count - 1) 0) a)) u
+      (record { plane = get_or order (count - 1) 0; before = rings_at n (take (count - 1) order) (undo n (get_or order (count - 1) 0) a) }) (record { plane = p; before = before })
+      (sym pushed ∙ last))
+
+  pub last_small : p < n
+  last_small = let s = some in subst (λ x. x < n) is_last (k.planes (count - 1) (omega arith))
+
+  pub relink_kept : (b : Arrays) → b ≡ give_all (entries_of n p n) a
+      → v.unlinked ≡ kept_of (undo n) (rings_at n) [] (take (count - 1) order) b ++ (record { plane = p; before = rings_at n (take (count - 1) order) b }) ∷ []
+  relink_kept b is =
+      pushed
+      ∙ (ap (λ q. kept_of (undo n) (rings_at n) [] (take (count - 1) order) (undo n q a) ++ (record { plane = q; before = rings_at n (take (count - 1) order) (undo n q a) }) ∷ []) is_last
+      ∙ ap (λ x. kept_of (undo n) (rings_at n) [] (take (count - 1) order) x ++ (record { plane = p; before = rings_at n (take (count - 1) order) x }) ∷ []) (sym is))
+
+  pub relink_invariant : (b : Arrays) → b ≡ give_all (entries_of n p n) a → length b.home ≡ length a.home → AreKept n (count - 1) order b
+  relink_invariant b is h =
+      let s = some in
+      let m = k.most in
+      record {
+        few = k.few;
+        room = let q = k.room in omega arith;
+        size = k.size;
+        most = omega arith;
+        all = λ j le. k.all j (omega arith);
+        planes = λ j lt. k.planes j (omega arith);
+        sound = subst (λ x. IsSound n (take (count - 1) order) x) (sym is)
+            (sound-pop n p (take (count - 1) order) a (subst (λ o. IsSound n o a) (split_order ∙ ap (λ q. take (count - 1) order ++ q ∷ []) is_last) k.sound));
+      }

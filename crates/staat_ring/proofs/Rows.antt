@@ -1,0 +1,130 @@
+-- A ring is linked node by node, and rings one after another.
+use Rattle.std.proofs.Common.{◌≡◌, ◌≢◌, ◌⊎◌, inl, inr, ⊎_elim, ℕ, zero, suc, ◌+◌, ◌<◌, refl, sym, ap, subst, ◌∙◌, List, [], ◌∷◌, ◌++◌, length, get_or, take, All, Contains, arith}
+use Rattle.std.proofs.Math.ListN.{length-set}
+use Rattle.std.proofs.lemmas.List.{get_or_default}
+use Rattle.std.proofs.lemmas.List.Elements.{All-contains}
+use Rattle.staat_ring.specs.Links.{Apart, Chain, Distinct, Links, Ring, append, last_of}
+use Rattle.staat_ring.specs.Linking.{AreLinked, AreRows, IsSameAt}
+use Rattle.staat_ring.specs.Rows.{Row, all_of, no_row, row_at}
+use Rattle.staat_ring.proofs.Appending.{apart_last, kept, prev_last, ring-append}
+
+-- ---- lists
+
+pub apart_take : (y k : ℕ) (xs : List ℕ) → Apart y xs → Apart y (take k xs)
+apart_take y zero xs a = tt
+apart_take y (suc k) [] a = tt
+apart_take y (suc k) (x ∷ xs) a = (a.0, apart_take y k xs a.1)
+
+pub distinct_take : (k : ℕ) (xs : List ℕ) → Distinct xs → Distinct (take k xs)
+distinct_take zero xs d = tt
+distinct_take (suc k) [] d = tt
+distinct_take (suc k) (x ∷ xs) d = (apart_take x k xs d.0, distinct_take k xs d.1)
+
+pub apart_nth : (y k d : ℕ) (xs : List ℕ) → k < length xs → Apart y xs → get_or xs k d ≢ y
+apart_nth y k d [] lt a = absurd (omega arith)
+apart_nth y zero d (x ∷ xs) lt a = a.0
+apart_nth y (suc k) d (x ∷ xs) lt a = apart_nth y k d xs (omega arith) a.1
+
+pub nth_apart : (k d : ℕ) (xs : List ℕ) → k < length xs → Distinct xs → Apart (get_or xs k d) (take k xs)
+nth_apart k d [] lt s = absurd (omega arith)
+nth_apart zero d (x ∷ xs) lt s = tt
+nth_apart (suc k) d (x ∷ xs) lt s = (λ e. apart_nth x k d xs (omega arith) s.0 (sym e), nth_apart k d xs (omega arith) s.1)
+
+apart_front : (y x : ℕ) (xs : List ℕ) → Apart y (xs ++ x ∷ []) → Apart y xs × (x ≢ y)
+apart_front y x [] a = (tt, a.0)
+apart_front y x (z ∷ xs) a = let r = apart_front y x xs a.1 in ((a.0, r.0), r.1)
+
+last_in : (a : ℕ) (xs : List ℕ) → Contains (a ∷ xs) (last_of a xs)
+last_in a [] = (0, omega arith, refl)
+last_in a (x ∷ xs) = let r = last_in x xs in (suc r.0, omega (arith, r.1), r.2)
+
+-- ---- one node more
+
+same_append : (s : Links) (h x : ℕ) (xs : List ℕ) → Ring s h xs → (y : ℕ) → Apart y (h ∷ xs ++ x ∷ []) → IsSameAt s (append h x s) y
+same_append s h x xs ring y a =
+    let f = apart_front y x xs a.1 in
+    record {
+      next = kept s.next x h (get_or s.prev h 0) x y (λ e. f.1 (sym e)) (λ e. apart_last y h xs (a.0, f.0) (e ∙ prev_last s h h xs ring));
+      prev = kept s.prev x (get_or s.prev h 0) h x y (λ e. f.1 (sym e)) (λ e. a.0 (sym e));
+    }
+
+-- so far: the ring goes over the nodes done, and the words of others are as at first
+pub record IsPartly (first s : Links) (h : ℕ) (done : List ℕ) : Type 0 where
+  pub ring : Ring s h done
+  pub others : (y : ℕ) → Apart y (h ∷ done) → IsSameAt first s y
+  pub size : length s.next ≡ length first.next
+  pub same : length s.prev ≡ length s.next
+
+pub partly_none : (s : Links) (h : ℕ) → Ring s h [] → length s.prev ≡ length s.next → IsPartly s s h []
+partly_none s h r e = record { ring = r; others = λ y a. record { next = refl; prev = refl }; size = refl; same = e }
+
+pub partly_more : (first s new : Links) (h x : ℕ) (done more : List ℕ) → new ≡ append h x s → more ≡ done ++ x ∷ [] → h < length s.next → x < length s.next → All (λ y. y < length s.next) done → Distinct (h ∷ done) → Apart x (h ∷ done)
+    → IsPartly first s h done → IsPartly first new h more
+partly_more first s new h x done more e em lh lx ld d a p = subst (λ (t : Links). IsPartly first t h more) (sym e) (subst (λ (m : List ℕ). IsPartly first (append h x s) h m) (sym em) (record {
+  ring = ring-append s h x done lx (let q = p.same in omega (arith, q, lx)) (subst (λ i. i < length s.next) (sym (prev_last s h h done p.ring)) within) (let q = p.same in omega (arith, q, lh)) d a p.ring;
+  others = λ y ay.
+      let f = apart_front y x done ay.1 in
+      let old = p.others y (ay.0, f.0) in
+      let now = same_append s h x done p.ring y ay in
+      record { next = now.next ∙ old.next; prev = now.prev ∙ old.prev };
+  size = length-set (Rattle.std.proofs.Common.set s.next x h) (get_or s.prev h 0) x ∙ (length-set s.next x h ∙ p.size);
+  same = length-set (Rattle.std.proofs.Common.set s.prev x (get_or s.prev h 0)) h x ∙ (length-set s.prev x (get_or s.prev h 0) ∙ (p.same ∙ sym (length-set (Rattle.std.proofs.Common.set s.next x h) (get_or s.prev h 0) x ∙ length-set s.next x h)));
+}))
+  where
+    within : last_of h done < length s.next
+    within = inside (last_in h done)
+      where
+        inside : Contains (h ∷ done) (last_of h done) → last_of h done < length s.next
+        inside (zero, lt, q) = subst (λ i. i < length s.next) q lh
+        inside (suc k, lt, q) = All-contains (λ y. y < length s.next) done (last_of h done) ld (k, omega arith, q)
+
+-- ---- rings
+
+chain_same : (s t : Links) (a : ℕ) (xs : List ℕ) (b : ℕ) → ((y : ℕ) → Contains (b ∷ a ∷ xs) y → IsSameAt s t y) → Chain s a xs b → Chain t a xs b
+chain_same s t a [] b same c = ((same a (1, omega arith, refl)).next ∙ c.0, (same b (0, omega arith, refl)).prev ∙ c.1)
+chain_same s t a (x ∷ xs) b same c = (
+  (same a (1, omega arith, refl)).next ∙ c.0,
+  ((same x (2, omega arith, refl)).prev ∙ c.1.0, chain_same s t x xs b (λ y cy. same y (further y cy)) c.1.1),
+)
+  where
+    further : (y : ℕ) → Contains (b ∷ x ∷ xs) y → Contains (b ∷ a ∷ x ∷ xs) y
+    further y (zero, lt, e) = (zero, omega arith, e)
+    further y (suc k, lt, e) = (suc (suc k), omega arith, e)
+
+pub ring_same : (s t : Links) (h : ℕ) (xs : List ℕ) → ((y : ℕ) → Contains (h ∷ xs) y → IsSameAt s t y) → Ring s h xs → Ring t h xs
+ring_same s t h xs same c = chain_same s t h xs h (λ y cy. same y (once y cy)) c
+  where
+    once : (y : ℕ) → Contains (h ∷ h ∷ xs) y → Contains (h ∷ xs) y
+    once y (zero, lt, e) = (zero, omega arith, e)
+    once y (suc k, lt, e) = (k, omega arith, e)
+
+head_in : (r : Row) (y : ℕ) → Contains (r.head ∷ []) y → Contains (all_of r) y
+head_in r y (zero, lt, e) = (zero, omega arith, e)
+head_in r y (suc k, lt, e) = absurd (omega arith)
+
+pub linked_more : (s t : Links) (rows : List Row) (m n : ℕ) → m < length rows → AreRows n rows → Ring t (row_at rows m).head (row_at rows m).nodes → ((y : ℕ) → Apart y (all_of (row_at rows m)) → IsSameAt s t y) → AreLinked s rows m → AreLinked t rows (m + 1)
+linked_more s t rows m n lm rules ring others l = record {
+  linked = λ k lt lk. ⊎_elim {C = Ring t (row_at rows k).head (row_at rows k).nodes}
+      (λ e. subst (λ i. Ring t (row_at rows i).head (row_at rows i).nodes) (sym e) ring)
+      (λ ne. ring_same s t (row_at rows k).head (row_at rows k).nodes (λ y cy. others y (rules.apart k m y lk lm ne cy)) (l.linked k (before k lt ne) lk))
+      (same_or k m);
+  alone = λ k no lk. ring_same s t (row_at rows k).head [] (λ y cy. others y (rules.apart k m y lk lm (λ e. no (below k e)) (head_in (row_at rows k) y cy))) (l.alone k (λ lt. no (further k lt)) lk);
+}
+  where
+    same_or : (a b : ℕ) → (a ≡ b) ⊎ (a ≢ b)
+    same_or a b = elim (three a b) [ inl e ↦ inl e | inr o ↦ inr (elim o [ inl x ↦ λ e. absurd (omega arith) | inr x ↦ λ e. absurd (omega arith) ]) ]
+      where
+        three : (a b : ℕ) → (a ≡ b) ⊎ ((a < b) ⊎ (b < a))
+        three a b = grind arith
+
+    before : (k : ℕ) → k < m + 1 → k ≢ m → k < m
+    before k lt ne = omega (arith, lt, ne)
+
+    below : (k : ℕ) → k ≡ m → k < m + 1
+    below k e = omega (arith, e)
+
+    further : (k : ℕ) → k < m → k < m + 1
+    further k lt = omega (arith, lt)
+
+pub linked_row : (s t : Links) (rows : List Row) (r : Row) (m n : ℕ) → m < length rows → row_at rows m ≡ r → AreRows n rows → Ring t r.head r.nodes → ((y : ℕ) → Apart y (all_of r) → IsSameAt s t y) → AreLinked s rows m → AreLinked t rows (m + 1)
+linked_row s t rows r m n lm e rules ring others l = linked_more s t rows m n lm rules (subst (λ (x : Row). Ring t x.head x.nodes) (sym e) ring) (λ y a. others y (subst (λ (x : Row). Apart y (all_of x)) e a)) l

@@ -1,0 +1,151 @@
+-- Lists without one number.
+use Rattle.std.proofs.Common.{◌≡◌, ◌≢◌, ℕ, zero, suc, refl, sym, ap, subst, ◌∙◌, List, [], ◌∷◌, ◌++◌, Bool, true, false, not, cond, eqb, eq-eqb, get_or, arith, Contains}
+use Rattle.std.specs.List.{filter}
+use Rattle.std.proofs.lemmas.Bool.Decides.{nat_tests}
+use Rattle.staat_ring.specs.Links.{Links, Ring, Apart, Distinct, last_of, first_of, unlink, IsBetween, is_bare}
+use Rattle.staat_ring.specs.Stands.{without, is_empty, Tagged, IsRing}
+use Rattle.staat_ring.proofs.Chains.{ring-unlink, between, chain_stays, prev_in, next_in, InRange as NodeInRange}
+
+pub without_same : (x : ℕ) (r : List ℕ) → without x (x ∷ r) ≡ without x r
+without_same x r = ap (λ b. cond (not b) (x ∷ without x r) (without x r)) (eq-eqb x x refl)
+
+differs : (x y : ℕ) → y ≢ x → eqb y x ≡ false
+differs x y h = grind (arith, nat_tests)
+
+pub without_other : (x y : ℕ) (r : List ℕ) → y ≢ x → without x (y ∷ r) ≡ y ∷ without x r
+without_other x y r h = ap (λ b. cond (not b) (y ∷ without x r) (without x r)) (differs x y h)
+
+pub without_none : (x : ℕ) (xs : List ℕ) → Apart x xs → without x xs ≡ xs
+without_none x [] h = refl
+without_none x (y ∷ xs) h = without_other x y xs h.0 ∙ ap (λ zs. y ∷ zs) (without_none x xs h.1)
+
+apart-right : (x : ℕ) (l r : List ℕ) → Apart x (l ++ r) → Apart x r
+apart-right x [] r h = h
+apart-right x (y ∷ l) r h = apart-right x l r h.1
+
+apart_mid : (y x : ℕ) (l r : List ℕ) → Apart y (l ++ x ∷ r) → x ≢ y
+apart_mid y x [] r h = h.0
+apart_mid y x (z ∷ l) r h = apart_mid y x l r h.1
+
+pub without_mid : (x : ℕ) (l r : List ℕ) → Distinct (l ++ x ∷ r) → without x (l ++ x ∷ r) ≡ l ++ r
+without_mid x [] r d = without_same x r ∙ without_none x r d.0
+without_mid x (y ∷ l) r d = without_other x y (l ++ x ∷ r) (λ e. apart_mid y x l r d.0 (sym e)) ∙ ap (λ zs. y ∷ zs) (without_mid x l r d.1)
+
+-- a list that holds x, split there
+pub record SplitAt (x : ℕ) (xs : List ℕ) : Type 0 where
+  pub left : List ℕ
+  pub right : List ℕ
+  pub is : xs ≡ left ++ x ∷ right
+
+pub split : (xs : List ℕ) (x : ℕ) → Contains xs x → SplitAt x xs
+split [] x (k, lt, e) = absurd (omega arith)
+split (y ∷ xs) x (zero, lt, e) = record { left = []; right = xs; is = ap (λ z. z ∷ xs) e }
+split (y ∷ xs) x (suc k, lt, e) =
+    let s = split xs x (k, omega arith, e) in
+    record { left = y ∷ s.left; right = s.right; is = ap (λ zs. y ∷ zs) s.is }
+
+pub ring_without : (s : Links) (x h : ℕ) (xs : List ℕ) → NodeInRange s x → Distinct (h ∷ xs) → Contains xs x → Ring s h xs → Ring (unlink x s) h (without x xs)
+ring_without s x h xs g d c r =
+    let p = split xs x c in
+    let d' : Distinct (h ∷ p.left ++ x ∷ p.right) = subst (λ ys. Distinct (h ∷ ys)) p.is d in
+    subst (λ ys. Ring (unlink x s) h ys) (sym (ap (without x) p.is ∙ without_mid x p.left p.right d'.1))
+    (ring-unlink s x h p.left p.right g d' (subst (λ ys. Ring s h ys) p.is r))
+
+pub node_between : (s : Links) (x h : ℕ) (xs : List ℕ) → Distinct (h ∷ xs) → Contains xs x → Ring s h xs → IsBetween s x
+node_between s x h xs d c r =
+    let p = split xs x c in
+    let d' : Distinct (h ∷ p.left ++ x ∷ p.right) = subst (λ ys. Distinct (h ∷ ys)) p.is d in
+    between s x h p.left p.right h d' d'.0 (subst (λ ys. Ring s h ys) p.is r)
+
+pub apart_without : (x y : ℕ) (xs : List ℕ) → Apart y xs → Apart y (without x xs)
+apart_without x y [] h = tt
+apart_without x y (z ∷ xs) h = step (eqb z x) (apart_without x y xs h.1)
+  where
+    step : (b : Bool) → Apart y (without x xs) → Apart y (cond (not b) (z ∷ without x xs) (without x xs))
+    step true g = g
+    step false g = (h.0, g)
+
+pub distinct_without : (x : ℕ) (xs : List ℕ) → Distinct xs → Distinct (without x xs)
+distinct_without x [] h = tt
+distinct_without x (z ∷ xs) h = step (eqb z x) (distinct_without x xs h.1)
+  where
+    step : (b : Bool) → Distinct (without x xs) → Distinct (cond (not b) (z ∷ without x xs) (without x xs))
+    step true g = g
+    step false g = (apart_without x z xs h.0, g)
+
+pub tagged_without : (tag : ℕ → ℕ) (t x : ℕ) (xs : List ℕ) → Tagged tag t xs → Tagged tag t (without x xs)
+tagged_without tag t x [] h = tt
+tagged_without tag t x (z ∷ xs) h = step (eqb z x) (tagged_without tag t x xs h.1)
+  where
+    step : (b : Bool) → Tagged tag t (without x xs) → Tagged tag t (cond (not b) (z ∷ without x xs) (without x xs))
+    step true g = g
+    step false g = (h.0, g)
+
+-- a node with another tag is apart
+pub tagged_apart : (tag : ℕ → ℕ) (t x : ℕ) (xs : List ℕ) → Tagged tag t xs → tag x ≢ t → Apart x xs
+tagged_apart tag t x [] h n = tt
+tagged_apart tag t x (y ∷ xs) h n = (λ e. n (ap tag (sym e) ∙ h.0), tagged_apart tag t x xs h.1 n)
+
+tagged_last : (tag : ℕ → ℕ) (t a : ℕ) (l r : List ℕ) → Tagged tag t (a ∷ l ++ r) → tag (last_of a l) ≡ t
+tagged_last tag t a [] r h = h.0
+tagged_last tag t a (x ∷ l) r h = tagged_last tag t x l r h.1
+
+tagged_right : (tag : ℕ → ℕ) (t : ℕ) (l r : List ℕ) → Tagged tag t (l ++ r) → Tagged tag t r
+tagged_right tag t [] r h = h
+tagged_right tag t (x ∷ l) r h = tagged_right tag t l r h.1
+
+tagged_first : (tag : ℕ → ℕ) (t : ℕ) (r : List ℕ) (b : ℕ) → Tagged tag t r → tag b ≡ t → tag (first_of r b) ≡ t
+tagged_first tag t [] b h e = e
+tagged_first tag t (x ∷ r) b h e = h.0
+
+-- the neighbours of a node have its tag
+pub prev_tag : (s : Links) (tag : ℕ → ℕ) (x h : ℕ) (xs : List ℕ) → Contains xs x → IsRing s tag h xs → tag (get_or s.prev x 0) ≡ tag h
+prev_tag s tag x h xs c r =
+    let p = split xs x c in
+    ap tag (prev_in s x h p.left p.right h (subst (λ ys. Ring s h ys) p.is r.ring))
+    ∙ tagged_last tag (tag h) h p.left (x ∷ p.right) (subst (λ ys. Tagged tag (tag h) (h ∷ ys)) p.is r.tagged)
+
+pub next_tag : (s : Links) (tag : ℕ → ℕ) (x h : ℕ) (xs : List ℕ) → Contains xs x → IsRing s tag h xs → tag (get_or s.next x 0) ≡ tag h
+next_tag s tag x h xs c r =
+    let p = split xs x c in
+    let t : Tagged tag (tag h) (p.left ++ x ∷ p.right) = subst (λ ys. Tagged tag (tag h) ys) p.is r.tagged.1 in
+    ap tag (next_in s x h p.left p.right h (subst (λ ys. Ring s h ys) p.is r.ring))
+    ∙ tagged_first tag (tag h) p.right h (tagged_right tag (tag h) p.left (x ∷ p.right) t).1 refl
+
+-- a ring with another tag stays
+pub ring_stays : (s : Links) (tag : ℕ → ℕ) (x h : ℕ) (xs : List ℕ) → tag (get_or s.prev x 0) ≢ tag h → tag (get_or s.next x 0) ≢ tag h → IsRing s tag h xs → IsRing (unlink x s) tag h xs
+ring_stays s tag x h xs p n r = record {
+  ring = chain_stays s (get_or s.prev x 0) (get_or s.next x 0) (get_or s.next x 0) (get_or s.prev x 0) h xs h
+      (λ e. p (ap tag (sym e))) (tagged_apart tag (tag h) _ xs r.tagged.1 p) (tagged_apart tag (tag h) _ xs r.tagged.1 n) (λ e. n (ap tag (sym e))) r.ring;
+  distinct = r.distinct;
+  tagged = r.tagged;
+}
+
+-- the ring of the node goes over the list without it
+pub ring_shrinks : (s : Links) (tag : ℕ → ℕ) (x h : ℕ) (xs : List ℕ) → NodeInRange s x → Contains xs x → IsRing s tag h xs → IsRing (unlink x s) tag h (without x xs)
+ring_shrinks s tag x h xs g c r = record {
+  ring = ring_without s x h xs g r.distinct c r.ring;
+  distinct = (apart_without x h xs r.distinct.0, distinct_without x xs r.distinct.1);
+  tagged = (refl, tagged_without tag (tag h) x xs r.tagged.1);
+}
+
+-- a vertex is bare where its list is empty
+pub bare_is : (s : Links) (v : ℕ) (ys : List ℕ) → Apart v ys → Ring s v ys → is_bare s v ≡ is_empty ys
+bare_is s v [] a r = eq-eqb (get_or s.next v 0) v r.0
+bare_is s v (y ∷ ys) a r = differs v (get_or s.next v 0) (λ e. a.0 (sym r.0 ∙ e))
+
+apart_filter : (test : ℕ → Bool) (y : ℕ) (xs : List ℕ) → Apart y xs → Apart y (filter test xs)
+apart_filter test y [] h = tt
+apart_filter test y (z ∷ xs) h = step (test z) (apart_filter test y xs h.1)
+  where
+    step : (b : Bool) → Apart y (filter test xs) → Apart y (cond b (z ∷ filter test xs) (filter test xs))
+    step true g = (h.0, g)
+    step false g = g
+
+pub distinct_filter : (test : ℕ → Bool) (xs : List ℕ) → Distinct xs → Distinct (filter test xs)
+distinct_filter test [] h = tt
+distinct_filter test (z ∷ xs) h = step (test z) (distinct_filter test xs h.1)
+  where
+    step : (b : Bool) → Distinct (filter test xs) → Distinct (cond b (z ∷ filter test xs) (filter test xs))
+    step true g = (apart_filter test z xs h.0, g)
+    step false g = g

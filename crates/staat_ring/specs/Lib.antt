@@ -1,0 +1,16 @@
+pub mod Rings
+pub mod Without
+pub mod Laws
+pub mod Links
+pub mod Stands
+pub mod Within
+pub mod Planes
+pub mod Views
+pub mod RingViews
+pub mod RingInvariant
+pub mod Turns
+pub mod Order
+pub mod Builds
+pub mod Rows
+pub mod Numbered
+pub mod Linking

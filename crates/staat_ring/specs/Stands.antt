@@ -1,0 +1,91 @@
+-- What the arrays stand for: for each circle the list of its vertices, for each vertex the list of its entries.
+use Rattle.std.specs.Prelude.{◌≡◌, ℕ, ◌<◌, List, [], ◌∷◌, length, slice_index, Bool, true, false, not, ◌==◌, Contains}
+use Rattle.std.specs.Prelude.{All, if◌then◌else◌}
+use Rattle.std.specs.List.{filter}
+use Rattle.staat_ring.specs.Links.{Apart, Links, Ring, Distinct, Arrays}
+
+abbrev pub without : ℕ → List ℕ → List ℕ
+without x xs = filter (λ y. not (y == x)) xs
+
+abbrev pub is_empty : List ℕ → Bool
+is_empty [] = true
+is_empty (x ∷ xs) = false
+
+-- The vertex of each entry and the circle of each vertex never change. A node of a ring and its head have the ring's
+-- tag.
+abbrev pub Tagged : (ℕ → ℕ) → ℕ → List ℕ → Type 0
+Tagged tag t [] = Unit {0}
+Tagged tag t (x ∷ xs) = (tag x ≡ t) × Tagged tag t xs
+
+-- one ring of a family: its nodes are distinct, have its tag, and have links within the arrays
+pub record IsRing (s : Links) (tag : ℕ → ℕ) (h : ℕ) (xs : List ℕ) : Type 0 where
+  pub ring : Ring s h xs
+  pub distinct : Distinct (h ∷ xs)
+  pub tagged : Tagged tag (tag h) (h ∷ xs)
+
+-- every word is a node
+abbrev pub InRange : Links → Type 0
+InRange s = ((x : ℕ) → x < length s.next → slice_index s.prev x < length s.next)
+    × ((x : ℕ) → x < length s.next → slice_index s.next x < length s.next) × (length s.prev ≡ length s.next)
+
+-- the head of each circle, the circle of each node of the circles' rings, and how many circles there are
+pub record Shape : Type 0 where
+  pub head : ℕ → ℕ
+  pub circle : ℕ → ℕ
+  pub count : ℕ
+
+-- the ring of the head h within the links: its nodes are not the head, and fewer than there are words
+pub record IsShortRing (s : Links) (h : ℕ) (xs : List ℕ) : Type 0 where
+  pub ring : Ring s h xs
+  pub apart : Apart h xs
+  pub short : length xs < length s.next
+  pub within : All (λ x. x < length s.next) (h ∷ xs)
+
+-- what the arrays stand for
+pub record Lists : Type 0 where
+  pub vertices : ℕ → List ℕ
+  pub entries : ℕ → List ℕ
+
+abbrev pub home_of : Arrays → ℕ → ℕ
+home_of a e = slice_index a.home e
+
+pub record Stands (g : Shape) (l : Lists) (a : Arrays) : Type 0 where
+  pub circles_in_range : InRange a.circles
+  pub vertices_in_range : InRange a.vertices
+  pub heads : (c : ℕ) → c < g.count → g.circle (g.head c) ≡ c
+  pub circles : (c : ℕ) → c < g.count → IsRing a.circles g.circle (g.head c) (l.vertices c)
+  -- the ring of each vertex on a circle is headed by the vertex itself
+  pub owns : (c v : ℕ) → c < g.count → Contains (l.vertices c) v → home_of a v ≡ v
+  pub vertices : (c v : ℕ) → c < g.count → Contains (l.vertices c) v → IsRing a.vertices (home_of a) v (l.entries v)
+  pub within : (c v : ℕ) → c < g.count → Contains (l.vertices c) v → v < length a.circles.next
+  pub entries_within : (c v e : ℕ) → c < g.count → Contains (l.vertices c) v → Contains (l.entries v) e
+      → e < length a.vertices.next
+
+-- the entry stands at its vertex, and the vertex on its circle
+pub record IsPresent (g : Shape) (l : Lists) (a : Arrays) (e : ℕ) : Type 0 where
+  pub circle : g.circle (home_of a e) < g.count
+  pub vertex : Contains (l.vertices (g.circle (home_of a e))) (home_of a e)
+  pub entry : Contains (l.entries (home_of a e)) e
+
+-- the lists without the entry e at the vertex v: the vertex leaves with its last entry
+abbrev pub lists_without : ℕ → ℕ → Lists → Lists
+lists_without v e l = record {
+  vertices = λ c. if is_empty (without e (l.entries v)) then without v (l.vertices c) else l.vertices c;
+  entries = λ u. without e (l.entries u);
+}
+
+-- the lists without these entries, in their order
+abbrev pub lists_without_all : (ℕ → ℕ) → List ℕ → Lists → Lists
+lists_without_all home [] l = l
+lists_without_all home (e ∷ es) l = lists_without_all home es (lists_without (home e) e l)
+
+abbrev pub AllPresent : Shape → Lists → Arrays → List ℕ → Type 0
+AllPresent g l a [] = Unit {0}
+AllPresent g l a (e ∷ es) = IsPresent g l a e × AllPresent g l a es
+
+-- the lists without a plane: its entries are out, and the vertices that have none left
+abbrev pub lists_without_plane : (ℕ → ℕ) → ℕ → Lists → Lists
+lists_without_plane plane_of p l = record {
+  vertices = λ c. filter (λ v. not (is_empty (filter (λ e. not (plane_of e == p)) (l.entries v)))) (l.vertices c);
+  entries = λ v. filter (λ e. not (plane_of e == p)) (l.entries v);
+}

@@ -1,0 +1,14 @@
+-- Every word is within the arrays.
+use Rattle.std.specs.Prelude.{◌≡◌, ℕ, ◌<◌, List, length, slice_index}
+use Rattle.staat_ring.specs.Links.{Links}
+
+pub record AreWithin (next prev : List ℕ) : Type 0 where
+  pub same : length prev ≡ length next
+  pub next_within : (x : ℕ) → x < length next → slice_index next x < length next
+  pub prev_within : (x : ℕ) → x < length next → slice_index prev x < length next
+
+pub record AreArrays (circles vertices : Links) (home : List ℕ) : Type 0 where
+  pub entries : length vertices.next ≡ length home
+  pub nodes : length circles.next ≡ length home
+  pub home_in_circles : (e : ℕ) → e < length home → slice_index home e < length circles.next
+  pub home_in_vertices : (e : ℕ) → e < length home → slice_index home e < length home

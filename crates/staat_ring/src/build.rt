@@ -1,0 +1,64 @@
+// The making of rings.
+ghost use Rattle.std.specs.Prelude.{◌≡◌, ◌+◌, ◌<◌, [], IfOk, OnOk, length};
+ghost use Rattle.staat_pairs.specs.Tables.{AreTablePlanes};
+ghost use Rattle.staat_ring.specs.Linking.{AreLinkedBelow};
+ghost use Rattle.staat_ring.specs.Rings.{WereMadeFrom};
+
+use crate::arrays::RingArrays;
+use crate::circle::circle_of;
+use crate::linking::nodes_of;
+use crate::nodes::counted;
+use crate::rings::Rings;
+use staat_planes::PlaneTable;
+use staat_vec::OutOfMemory;
+use std::alloc::Global;
+
+// makes and links the circle of the plane `c`
+fn link_next(
+    alloc: Global,
+    table: &PlaneTable,
+    arrays: &mut RingArrays,
+    c: u32,
+) -> Result<(), OutOfMemory>
+    requires plane { c < length table.now.planes }
+    requires below { AreLinkedBelow table.now.planes (length table.now.planes) c arrays.old }
+    ensures { OnOk result (AreLinkedBelow table.now.planes (length table.now.planes) (c + 1) arrays.new) }
+{
+    let planes = table.len();
+    let stops = circle_of(alloc, table, c)?;
+    let nodes = nodes_of(alloc, planes, c, stops.as_slice())?;
+    arrays.link_circle(planes, c, nodes.as_slice(), stops.as_slice());
+    Ok(())
+}
+
+// the arrays of all circles
+fn linked_arrays(alloc: Global, table: &PlaneTable) -> Result<RingArrays, OutOfMemory>
+    ensures { IfOk result (AreLinkedBelow table.now.planes (length table.now.planes) (length table.now.planes)) }
+{
+    let mut arrays = RingArrays::alone(alloc, table.len())?;
+    for c in 0..table.len() {
+        link_next(alloc, table, &mut arrays, c)?;
+    }
+    Ok(arrays)
+}
+
+impl Rings {
+    /// The rings of the planes of a table, all of them linked.
+    ///
+    /// For n planes it takes about n n log n determinants of normals; no two vertices are multiplied.
+    pub fn build(alloc: Global, table: &PlaneTable) -> Result<Rings, OutOfMemory>
+        ensures made { IfOk result (WereMadeFrom table.now.planes) }
+        ensures all { IfOk result (λ r. r.unlinked ≡ []) }
+    {
+        let arrays = linked_arrays(alloc, table)?;
+        arrays.all_in_range();
+        let planes = table.len();
+        let order = counted(alloc, planes)?;
+        Ok(Rings {
+            arrays,
+            planes,
+            order,
+            count: 0,
+        })
+    }
+}

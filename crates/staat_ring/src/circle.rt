@@ -1,0 +1,199 @@
+// The circle of a plane, by the entries of its stops.
+ghost use Rattle.std.specs.Prelude.{◌≡◌, ◌≢◌, ℕ, ◌+◌, ◌<◌, ◌++◌, List, [], ◌∷◌, All, Contains, IfOk, OnOk, length};
+ghost use Rattle.std.specs.Prelude.{map, replicate, slice_set};
+ghost use Rattle.staat_vec.specs.declared.vector.V3.{V3 as Vector};
+ghost use Rattle.staat_vec.specs.Vectors.{IsWithin, cross, origin};
+ghost use Rattle.staat_model.specs.Circles.{axis_beside};
+ghost use Rattle.staat_ring.specs.declared.entry.Entry.{Entry as EntryValue};
+ghost use Rattle.staat_ring.specs.Builds.{AreFilledTo, IsHalfOfCircle, IsPlaceOf, all_around, opposite, ring_by, slot_at};
+ghost use Rattle.staat_ring.specs.Rings.{IsRingOf, facet_by, plane_at};
+
+use crate::entry::Entry;
+use crate::half::{axis_of, facet, half_circle, is_opposite};
+use staat_planes::PlaneTable;
+use staat_vec::{NORMAL, OutOfMemory, Sign, V3, order_on};
+use std::alloc::Global;
+use std::marker::Model;
+
+/// The planes through a vertex, in ascending order.
+#[derive(Drop)]
+pub struct Through {
+    entries: Vec<Entry>,
+}
+
+impl Model for Through {
+    ghost use Rattle.std.specs.Prelude.{List};
+    ghost use Rattle.staat_ring.specs.declared.entry.Entry.{Entry};
+
+    ghost Value = { List Entry };
+
+    ghost view = { λ t. t.entries.items };
+}
+
+impl Through {
+    /// The entries.
+    pub fn entries(&self) -> &[Entry]
+        ensures { result.now ≡ self.now }
+    {
+        self.entries.as_slice()
+    }
+
+    // one plane more
+    fn push(&mut self, e: Entry) -> Result<(), OutOfMemory>
+        ensures { OnOk result (self.new ≡ self.old ++ e ∷ []) }
+    {
+        self.entries.push(e)?;
+        Ok(())
+    }
+
+    // the planes as they are seen from the opposite vertex
+    fn opposite(&self, alloc: Global) -> Result<Through, OutOfMemory>
+        ensures { IfOk result (λ t. t ≡ map opposite self.now) }
+    {
+        let mut entries = Vec::new(alloc);
+        for e in self.entries.as_slice() {
+            entries.push(Entry {
+                plane: e.plane,
+                turned: !e.turned,
+            })?;
+        }
+        Ok(Through { entries })
+    }
+}
+
+// puts one plane more at a place
+fn push_at(slots: &mut Vec<Through>, k: usize, e: Entry) -> Result<(), OutOfMemory>
+    requires { k < length slots.old.items }
+    ensures { OnOk result (slots.new.items ≡ slice_set slots.old.items k (slot_at slots.old.items k ++ e ∷ [])) }
+{
+    slots[k].push(e)
+}
+
+// where the crossing with h lies on the half circle; there is such a place
+fn place_of(g: V3, half: &[V3], h: V3) -> usize
+    requires g { IsWithin NORMAL g }
+    requires h { IsWithin NORMAL h }
+    requires half { All (IsWithin NORMAL) half.now }
+    requires some { (i : ℕ) × IsPlaceOf g half.now h i }
+    ensures { IsPlaceOf g half.now h result }
+{
+    let mut low = 0;
+    let mut high = half.len();
+    'search: while low < high {
+        let middle = low + (high - low) / 2;
+        match order_on(g, half[middle], h) {
+            Sign::Pos => low = middle + 1,
+            Sign::Neg => high = middle,
+            Sign::Zero => return middle,
+        }
+    }
+    unreachable!()
+}
+
+// so many places through which no plane goes yet
+fn empty_slots(alloc: Global, count: usize) -> Result<Vec<Through>, OutOfMemory>
+    ensures { IfOk result (λ v. v.items ≡ replicate count []) }
+{
+    let mut slots = Vec::new(alloc);
+    for _k in 0..count {
+        slots.push(Through {
+            entries: Vec::new(alloc),
+        })?;
+    }
+    Ok(slots)
+}
+
+// puts the plane j at its place
+fn fill(
+    slots: &mut Vec<Through>,
+    table: &PlaneTable,
+    c: u32,
+    half: &[V3],
+    j: u32,
+) -> Result<(), OutOfMemory>
+    requires c { c < length table.now.planes }
+    requires j { j < length table.now.planes }
+    requires different { j ≢ c }
+    requires half { IsHalfOfCircle table.now.planes c half.now }
+    requires slots { AreFilledTo table.now.planes c half.now j slots.old.items }
+    ensures { OnOk result (AreFilledTo table.now.planes c half.now (j + 1) slots.new.items) }
+{
+    let _set = table.set();
+    let _planes = table.len();
+    let g = table.plane(c);
+    let axis = table.plane(axis_of(c));
+    let h = table.plane(j);
+    let turned = is_opposite(g, axis, h);
+    let at = place_of(g, half, facet(turned, h));
+    push_at(slots, at, Entry { plane: j, turned })?;
+    Ok(())
+}
+
+// puts the plane j at its place, unless it is plane c itself
+fn fill_other(
+    slots: &mut Vec<Through>,
+    table: &PlaneTable,
+    c: u32,
+    half: &[V3],
+    j: u32,
+) -> Result<(), OutOfMemory>
+    requires c { c < length table.now.planes }
+    requires j { j < length table.now.planes }
+    requires half { IsHalfOfCircle table.now.planes c half.now }
+    requires slots { AreFilledTo table.now.planes c half.now j slots.old.items }
+    ensures { OnOk result (AreFilledTo table.now.planes c half.now (j + 1) slots.new.items) }
+{
+    if j == c {
+        return Ok(());
+    }
+    fill(slots, table, c, half, j)
+}
+
+// all planes at their places
+fn all_filled(
+    alloc: Global,
+    table: &PlaneTable,
+    c: u32,
+    half: &[V3],
+) -> Result<Vec<Through>, OutOfMemory>
+    requires c { c < length table.now.planes }
+    requires half { IsHalfOfCircle table.now.planes c half.now }
+    ensures { IfOk result (λ v.
+        AreFilledTo table.now.planes c half.now (length table.now.planes) v.items) }
+{
+    let mut slots = empty_slots(alloc, half.len())?;
+    for j in 0..table.len() {
+        fill_other(&mut slots, table, c, half, j)?;
+    }
+    Ok(slots)
+}
+
+// the places and their opposites
+fn both_halves(alloc: Global, half: Vec<Through>) -> Result<Vec<Through>, OutOfMemory>
+    ensures { IfOk result (λ v. v.items ≡ all_around half.items) }
+{
+    let mut slots = half;
+    let count = slots.len();
+    for k in 0..count {
+        let opposite = slots[k].opposite(alloc)?;
+        slots.push(opposite)?;
+    }
+    Ok(slots)
+}
+
+/// The circle of plane `c` among all planes of the table, from the crossing with the least other axis on.
+pub fn circle_of(alloc: Global, table: &PlaneTable, c: u32) -> Result<Vec<Through>, OutOfMemory>
+    requires { c < length table.now.planes }
+    ensures { IfOk result (λ v. (linked : List ℕ)
+        → ((j : ℕ) → j < length table.now.planes → Contains linked j)
+        → IsRingOf table.now.planes linked (ring_by c v.items)) }
+{
+    let _set = table.set();
+    let _planes = table.len();
+    let _g = table.plane(c);
+    let _axis = table.plane(axis_of(c));
+    let half = half_circle(alloc, table, c)?;
+    let slots = all_filled(alloc, table, c, half.as_slice())?;
+    let circle = both_halves(alloc, slots)?;
+    Ok(circle)
+}

@@ -1,0 +1,109 @@
+// The rings of a circle and of its stops, linked to their nodes.
+ghost use Rattle.std.specs.Prelude.{◌≡◌, ℕ, ◌*◌, ◌<◌, ◌≤◌, ◌∷◌, [], All, IfOk, length, map};
+ghost use Rattle.staat_ring.specs.Builds.{slot_at};
+ghost use Rattle.staat_ring.specs.Links.{Apart, Distinct, Ring};
+ghost use Rattle.staat_ring.specs.Linking.{AreHomedAt, AreLinked, AreStopsLinked, CanBeLinked, IsSameAt, rows_of};
+ghost use Rattle.staat_ring.specs.Numbered.{node_number};
+ghost use Rattle.staat_ring.specs.Rings.{entry_number};
+
+use crate::circle::Through;
+use crate::entry::{Entry, node_of, number_of_entry};
+use crate::nodes::NodeLinks;
+use staat_planes::MOST_PLANES;
+use staat_vec::OutOfMemory;
+use std::alloc::Global;
+
+impl NodeLinks {
+    /// Links a head that stands alone and these nodes to a ring, in their order.
+    pub fn link(&mut self, head: u32, nodes: &[u32])
+        requires head { head < length self.old.next }
+        requires nodes { All (λ x. x < length self.old.next) nodes.now }
+        requires distinct { Distinct (head ∷ nodes.now) }
+        requires alone { Ring self.old head [] }
+        ensures ring { Ring self.new head nodes.now }
+        ensures others { (y : ℕ) → Apart y (head ∷ nodes.now) → IsSameAt self.old self.new y }
+        ensures length { length self.new.next ≡ length self.old.next }
+    {
+        self.sizes();
+        for x in nodes {
+            self.append(head, *x);
+        }
+    }
+}
+
+/// The nodes of the stops of the circle `c`.
+pub fn nodes_of(
+    alloc: Global,
+    planes: u32,
+    c: u32,
+    stops: &[Through],
+) -> Result<Vec<u32>, OutOfMemory>
+    requires planes { planes ≤ MOST_PLANES }
+    requires circle { c < planes }
+    requires stops { CanBeLinked planes c stops.now }
+    ensures { IfOk result (λ v. v.items ≡ map (node_number planes c) stops.now) }
+{
+    let mut nodes = Vec::new(alloc);
+    for stop in stops {
+        nodes.push(node_of(planes, c, stop.entries()))?;
+    }
+    Ok(nodes)
+}
+
+// links the entries of a stop to a ring, whose head is the node `v`, their home
+fn link_entries(
+    vertices: &mut NodeLinks,
+    home: &mut Vec<u32>,
+    planes: u32,
+    c: u32,
+    v: u32,
+    entries: &[Entry],
+)
+    requires planes { planes ≤ MOST_PLANES }
+    requires circle { c < planes }
+    requires node { v < length vertices.old.next }
+    requires room { 4 * (planes * planes) ≤ length vertices.old.next }
+    requires homes { length home.old.items ≡ length vertices.old.next }
+    requires entries { All (λ e. e.plane < planes) entries.now }
+    requires distinct { Distinct (v ∷ map (entry_number planes c) entries.now) }
+    requires alone { Ring vertices.old v [] }
+    requires within { All (λ x. x < length home.old.items) home.old.items }
+    ensures ring { Ring vertices.new v (map (entry_number planes c) entries.now) }
+    ensures others { (y : ℕ) → Apart y (v ∷ map (entry_number planes c) entries.now)
+        → IsSameAt vertices.old vertices.new y }
+    ensures length { length vertices.new.next ≡ length vertices.old.next }
+    ensures homes { AreHomedAt home.old.items home.new.items v (map (entry_number planes c) entries.now) }
+    ensures within { All (λ x. x < length home.old.items) home.new.items }
+{
+    vertices.sizes();
+    for e in entries {
+        let x = number_of_entry(planes, c, *e);
+        vertices.append(v, x);
+        home[x as usize] = v;
+    }
+}
+
+/// Links the entries of each stop of the circle `c` to a ring, whose head is the node of the stop, their home.
+pub fn link_stops(
+    vertices: &mut NodeLinks,
+    home: &mut Vec<u32>,
+    planes: u32,
+    c: u32,
+    stops: &[Through],
+)
+    requires planes { planes ≤ MOST_PLANES }
+    requires circle { c < planes }
+    requires room { 4 * (planes * planes) ≤ length vertices.old.next }
+    requires homes { length home.old.items ≡ length vertices.old.next }
+    requires stops { CanBeLinked planes c stops.now }
+    requires alone { AreLinked vertices.old (rows_of planes c stops.now) 0 }
+    requires within { All (λ x. x < length home.old.items) home.old.items }
+    ensures { AreStopsLinked planes c stops.now (length stops.now) vertices.old vertices.new home.old.items
+        home.new.items }
+{
+    for stop in stops {
+        let entries = stop.entries();
+        let v = node_of(planes, c, entries);
+        link_entries(vertices, home, planes, c, v, entries);
+    }
+}
