@@ -11,7 +11,7 @@ use Rattle.staat_vec.specs.declared.vector.Sign.{Sign}
 use Rattle.staat_vec.specs.declared.vector.Sign.TheVariants.{Neg, Pos}
 use Rattle.staat_cells.specs.declared.plane_set.PlaneSet.{PlaneSet}
 use Rattle.staat_cells.specs.declared.half_spaces.HalfSpaces.{HalfSpaces}
-use Rattle.staat_cells.specs.HalfSpaces.{AreAmong, AreAround, AreIn, AreInside, HasPlane}
+use Rattle.staat_cells.specs.HalfSpaces.{AreAmong, AreAround, AreIn, AreInside, IsPlaneIn}
 use Rattle.staat_cells.proofs.PlaneSets.{or_zero, plane_small}
 
 zero_of_test : (n : ℕ) → nat_eq n 0 ≡ true → n ≡ 0
@@ -149,7 +149,7 @@ around_any signs cell cones around = (from, to)
 -- ---- a facet more
 
 pub with_positive : (h : HalfSpaces) (grown : PlaneSet) (k : ℕ)
-    → ((q : ℕ) → HasPlane grown q ↔ (HasPlane h.positive q ⊎ (q ≡ k)))
+    → ((q : ℕ) → IsPlaneIn grown q ↔ (IsPlaneIn h.positive q ⊎ (q ≡ k)))
     → (signs : List Sign) → AreInside signs (record { positive = grown; negative = h.negative })
     ↔ (AreInside signs h × (slice_get signs k ≡ Some Pos))
 with_positive h grown k has signs = (
@@ -165,7 +165,7 @@ with_positive h grown k has signs = (
 )
 
 pub with_negative : (h : HalfSpaces) (grown : PlaneSet) (k : ℕ)
-    → ((q : ℕ) → HasPlane grown q ↔ (HasPlane h.negative q ⊎ (q ≡ k)))
+    → ((q : ℕ) → IsPlaneIn grown q ↔ (IsPlaneIn h.negative q ⊎ (q ≡ k)))
     → (signs : List Sign) → AreInside signs (record { positive = h.positive; negative = grown })
     ↔ (AreInside signs h × (slice_get signs k ≡ Some Neg))
 with_negative h grown k has signs = (

@@ -17,7 +17,7 @@ use Rattle.staat_model.proofs.Places.{place_within}
 use Rattle.staat_model.proofs.CellLemmas.{positive_sign, negative_sign, sign_positive, sign_negative}
 use Rattle.staat_cells.specs.declared.plane_set.PlaneSet.{PlaneSet}
 use Rattle.staat_cells.specs.declared.half_spaces.HalfSpaces.{HalfSpaces}
-use Rattle.staat_cells.specs.HalfSpaces.{AreAhead, AreInside, HasPlane}
+use Rattle.staat_cells.specs.HalfSpaces.{AreAhead, AreInside, IsPlaneIn}
 use Rattle.staat_cells.proofs.Cones.{with_negative, with_positive}
 
 sign_at : (planes : List V3) (k : ℕ) (g d : V3) → slice_get planes k ≡ Some g
@@ -60,14 +60,14 @@ same_last f g = (λ a. let h = f.0 a in (h.0, g.0 h.1), λ h. f.1 (h.0, g.1 h.1)
 
 module _ (planes : List V3) (n : V3) (h : HalfSpaces) (grown : PlaneSet) (k : ℕ) where
   pub facet_positive : slice_get planes k ≡ Some n
-      → ((q : ℕ) → HasPlane grown q ↔ (HasPlane h.positive q ⊎ (q ≡ k)))
+      → ((q : ℕ) → IsPlaneIn grown q ↔ (IsPlaneIn h.positive q ⊎ (q ≡ k)))
       → (d : V3) → AreInside (signs_of planes d) (record { positive = grown; negative = h.negative })
       ↔ (AreInside (signs_of planes d) h × (pos 0 <ℤ dot n d))
   facet_positive at has d =
       same_last (with_positive h grown k has (signs_of planes d)) (plane_positive planes n d k at)
 
   pub facet_negative : slice_get planes k ≡ Some (negative n)
-      → ((q : ℕ) → HasPlane grown q ↔ (HasPlane h.negative q ⊎ (q ≡ k)))
+      → ((q : ℕ) → IsPlaneIn grown q ↔ (IsPlaneIn h.negative q ⊎ (q ≡ k)))
       → (d : V3) → AreInside (signs_of planes d) (record { positive = h.positive; negative = grown })
       ↔ (AreInside (signs_of planes d) h × (pos 0 <ℤ dot n d))
   facet_negative at has d =

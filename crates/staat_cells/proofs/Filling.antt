@@ -11,7 +11,7 @@ use Rattle.staat_vec.specs.declared.vector.Sign.TheVariants.{Neg, Zero, Pos}
 use Rattle.staat_model.specs.Cells.{sign_place}
 use Rattle.staat_cells.specs.declared.incidence.Incidence.{Incidence}
 use Rattle.staat_cells.specs.Beside.{filled, then_sign}
-use Rattle.staat_cells.specs.Changes.{IsWord}
+use Rattle.staat_cells.specs.Changes.{IsSignWord}
 use Rattle.staat_cells.specs.Packing.{incidence_of, packed, packed_after}
 use Rattle.staat_cells.proofs.Changing.{below}
 use Rattle.staat_cells.proofs.Words.{length_taken}
@@ -133,7 +133,7 @@ word_pos s word e le =
     let h = filled_up 0 0 s in
     omega (arith, z, h, e)
 
-pub word_fits : (word : ℕ) → IsWord word → word + bit_and word ALL < 2 ^ 128
+pub word_fits : (word : ℕ) → IsSignWord word → word + bit_and word ALL < 2 ^ 128
 word_fits word h =
     let s = filled Pos h.signs in
     let e = word_pos h.signs word h.is h.few in
@@ -145,7 +145,7 @@ word_fits word h =
 
 -- ---- four words
 
-pub word_of : (word : ℕ) (s : List Sign) → word ≡ packed (take 64 s) → IsWord word
+pub word_of : (word : ℕ) (s : List Sign) → word ≡ packed (take 64 s) → IsSignWord word
 word_of word s e = record { signs = take 64 s; is = sym e; few = length_taken s }
 
 -- the rest of a filled list is the filled rest

@@ -26,7 +26,7 @@ pub record HasIncidenceZeroAt (x : Incidence) (count k : ℕ) : Type 0 where
   pub zero_at : IsZeroAt signs k
 
 -- the word is of at most 64 signs
-pub record IsWord (word : ℕ) : Type 0 where
+pub record IsSignWord (word : ℕ) : Type 0 where
   pub signs : List Sign
   pub is : packed signs ≡ word
   pub few : length signs ≤ 64

@@ -14,12 +14,12 @@ abbrev pub words_of : PlaneSet → List ℕ
 words_of s = s.a ∷ s.b ∷ s.c ∷ s.d ∷ []
 
 -- plane k is in the set
-abbrev pub HasPlane : PlaneSet → ℕ → Type 0
-HasPlane s k = bit_at (slice_index (words_of s) (k / 64)) (k % 64) ≡ 1
+abbrev pub IsPlaneIn : PlaneSet → ℕ → Type 0
+IsPlaneIn s k = bit_at (slice_index (words_of s) (k / 64)) (k % 64) ≡ 1
 
 -- each plane of s is in o
 abbrev pub AreIn : PlaneSet → PlaneSet → Type 0
-AreIn s o = (k : ℕ) → HasPlane s k → HasPlane o k
+AreIn s o = (k : ℕ) → IsPlaneIn s k → IsPlaneIn o k
 
 -- each of the half-spaces h is one of o
 pub record AreAmong (h o : HalfSpaces) : Type 0 where
@@ -28,13 +28,13 @@ pub record AreAmong (h o : HalfSpaces) : Type 0 where
 
 -- directions with these signs are in each of the half-spaces
 pub record AreInside (signs : List Sign) (h : HalfSpaces) : Type 0 where
-  pub positive : (k : ℕ) → HasPlane h.positive k → slice_get signs k ≡ Some Pos
-  pub negative : (k : ℕ) → HasPlane h.negative k → slice_get signs k ≡ Some Neg
+  pub positive : (k : ℕ) → IsPlaneIn h.positive k → slice_get signs k ≡ Some Pos
+  pub negative : (k : ℕ) → IsPlaneIn h.negative k → slice_get signs k ≡ Some Neg
 
 -- all half-spaces of the first 256 planes that directions with these signs are in
 pub record AreAround (signs : List Sign) (h : HalfSpaces) : Type 0 where
-  pub positive : (k : ℕ) → HasPlane h.positive k ↔ ((k < 256) × (slice_get signs k ≡ Some Pos))
-  pub negative : (k : ℕ) → HasPlane h.negative k ↔ ((k < 256) × (slice_get signs k ≡ Some Neg))
+  pub positive : (k : ℕ) → IsPlaneIn h.positive k ↔ ((k < 256) × (slice_get signs k ≡ Some Pos))
+  pub negative : (k : ℕ) → IsPlaneIn h.negative k ↔ ((k < 256) × (slice_get signs k ≡ Some Neg))
 
 -- the directions ahead of all the facets are those in the half-spaces
 abbrev pub AreAhead : List V3 → List V3 → HalfSpaces → Type 0

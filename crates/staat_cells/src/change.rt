@@ -4,7 +4,7 @@ ghost use Rattle.std.specs.Prelude.{All, IfOk, List, length, slice_set, min};
 ghost use Rattle.staat_vec.specs.declared.vector.Sign.{Sign as SignValue};
 ghost use Rattle.staat_vec.specs.Vectors.{IsWithin};
 ghost use Rattle.staat_model.specs.Cells.{is_zero, signs_of};
-ghost use Rattle.staat_cells.specs.Changes.{HasFewSigns, HasIncidenceZeroAt, HasZeroAt, IsWord, IsZeroAt};
+ghost use Rattle.staat_cells.specs.Changes.{HasFewSigns, HasIncidenceZeroAt, HasZeroAt, IsSignWord, IsZeroAt};
 ghost use Rattle.staat_cells.specs.Changes.{zero_places};
 ghost use Rattle.staat_cells.specs.Compositions.{composed};
 ghost use Rattle.staat_cells.specs.Packing.{packed, incidence_of};
@@ -119,7 +119,7 @@ const ONES: u128 = 0x5555_5555_5555_5555_5555_5555_5555_5555;
 
 // the word with t in place of each zero, which alone has an odd digit
 fn filled_word(word: u128, t: Sign) -> u128
-    requires word { IsWord word }
+    requires word { IsSignWord word }
     ensures { (s : List SignValue) → packed s ≡ word → length s ≤ 64 → result ≡ packed (filled t s) }
 {
     let zeros = word & ONES;

@@ -2,7 +2,7 @@
 ghost use Rattle.std.specs.Prelude.{◌≡◌, ◌<◌, ◌≤◌, ◌+◌, ◌-◌, ◌⊎◌, ◌↔◌, ℕ};
 ghost use Rattle.std.specs.Prelude.{Some, length, min, slice_get};
 ghost use Rattle.std.specs.Int.{bit_at};
-ghost use Rattle.staat_cells.specs.HalfSpaces.{AreIn, HasPlane};
+ghost use Rattle.staat_cells.specs.HalfSpaces.{AreIn, IsPlaneIn};
 
 use staat_vec::Sign;
 
@@ -62,7 +62,7 @@ fn word_from(signs: &[Sign], from: usize, s: Sign) -> u64
 
 /// The planes, of the first 256, whose sign is `s`.
 pub(crate) fn planes_with(signs: &[Sign], s: Sign) -> PlaneSet
-    ensures { (k : ℕ) → HasPlane result k ↔ ((k < 256) × (slice_get signs.now k ≡ Some s)) }
+    ensures { (k : ℕ) → IsPlaneIn result k ↔ ((k < 256) × (slice_get signs.now k ≡ Some s)) }
 {
     PlaneSet {
         a: word_from(signs, 0, s),
@@ -75,7 +75,7 @@ pub(crate) fn planes_with(signs: &[Sign], s: Sign) -> PlaneSet
 impl PlaneSet {
     /// No plane.
     pub(crate) fn empty() -> PlaneSet
-        ensures { (k : ℕ) → HasPlane result k → ⊥ }
+        ensures { (k : ℕ) → IsPlaneIn result k → ⊥ }
     {
         PlaneSet {
             a: 0,
@@ -88,7 +88,7 @@ impl PlaneSet {
     /// The set with the plane `k`.
     pub(crate) fn with(self, k: usize) -> PlaneSet
         requires { k < 256 }
-        ensures { (q : ℕ) → HasPlane result q ↔ (HasPlane self q ⊎ (q ≡ k)) }
+        ensures { (q : ℕ) → IsPlaneIn result q ↔ (IsPlaneIn self q ⊎ (q ≡ k)) }
     {
         let bit = 1 << (k % WORD);
         let mut new = self;

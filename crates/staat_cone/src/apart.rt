@@ -37,7 +37,7 @@ fn is_apart_along_axis(p: &Piece, q: &Piece) -> bool
     is_apart_along(&AXES, p, q)
 }
 
-// whether a wall that is easily found keeps the pieces apart: one across an axis, or else one that a short search finds
+// whether a wall that is easily found keeps the pieces apart: one across an axis, or one that a short search finds
 fn is_apart(p: &Piece, q: &Piece) -> bool
     ensures wall { IsTrue result → (n : Vector) × IsWallBetween p.now q.now n }
     ensures axes { Any (IsWallBetween p.now q.now) axis_walls → IsTrue result }

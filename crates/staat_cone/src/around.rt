@@ -1,5 +1,6 @@
 // The walls of the cone of a list of vectors that go through one of them, by two scans around it.
-ghost use Rattle.std.specs.Prelude.{◌≢◌, ◌↔◌, pos, ◌<ℤ◌, All, Any, Contains, IsTrue, OnOk, IfSome, IfNone};
+ghost use Rattle.std.specs.Prelude.{◌≢◌, ◌↔◌, pos, ◌<ℤ◌, All, Any, Contains, IsTrue, OnOk, IfSome};
+ghost use Rattle.std.specs.Prelude.{IfNone};
 ghost use Rattle.staat_vec.specs.Vectors.{IsWithin, det, dot};
 ghost use Rattle.staat_cone.specs.Pairs.{AddsEdges};
 ghost use Rattle.staat_cone.specs.Scans.{AreFurthest, IsApart, IsLeftmost};
@@ -84,8 +85,8 @@ fn furthest_from(vs: &[V3], v: V3, first: V3) -> (V3, V3)
 /// side of `n`, and `v` and such a difference lie on its plane, so does one of the two.
 ///
 /// Some of the differences is not parallel to `v`, nor are the two. Components are at most [`DIFF`] in absolute value.
-/// It takes no memory. The idea is that of wrapping a gift (Chand and Kapur, 1970): about an edge the hull is turned to
-/// the point that lies furthest.
+/// It takes no memory. The idea is that of wrapping a gift (Chand and Kapur, 1970): about an edge the hull is turned
+/// to the point that lies furthest.
 pub fn furthest(diffs: &[V3], v: V3) -> (V3, V3)
     requires differences { All (IsWithin DIFF) diffs.now }
     requires around { IsWithin DIFF v }

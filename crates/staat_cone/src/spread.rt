@@ -109,8 +109,8 @@ fn step(ps: &[V3], i: usize, qs: &[V3], j: usize) -> V3
     sub(qs[j], ps[i])
 }
 
-// The least and the greatest difference, by the order of vectors, which lie on the border of all; or else two steps from
-// one point.
+// The least and the greatest difference, by the order of vectors, which lie on the border of all; or else two steps
+// from one point.
 fn two_steps(p: &Piece, q: &Piece) -> Option<(V3, V3)>
     ensures first { IfSome result (λ s. IsDifferenceStep p.now q.now s.0) }
     ensures second { IfSome result (λ s. IsDifferenceStep p.now q.now s.1) }

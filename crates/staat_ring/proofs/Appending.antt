@@ -3,7 +3,7 @@ use Rattle.std.proofs.Common.{◌≡◌, ◌≢◌, ℕ, ◌<◌, refl, sym, ap,
 use Rattle.std.proofs.Math.ListN.{length-set}
 use Rattle.std.proofs.lemmas.List.{get_or-set_other}
 use Rattle.std.proofs.lemmas.Grind.{get_or-set_at}
-use Rattle.staat_ring.specs.Links.{Links, Chain, Ring, Apart, Distinct, last_of, append}
+use Rattle.staat_ring.specs.Links.{Links, Chain, IsLinkedRing, Apart, Distinct, last_of, append}
 use Rattle.staat_ring.specs.Stands.{Tagged}
 use Rattle.staat_ring.proofs.Without.{tagged_apart}
 
@@ -51,7 +51,7 @@ apart_last x a (y ∷ xs) h = apart_last x y xs h.1
 
 -- the ring has x at its end
 pub ring-append : (s : Links) (h x : ℕ) (xs : List ℕ) → x < length s.next → x < length s.prev → get_or s.prev h 0 < length s.next → h < length s.prev
-    → Distinct (h ∷ xs) → Apart x (h ∷ xs) → Ring s h xs → Ring (append h x s) h (xs ++ x ∷ [])
+    → Distinct (h ∷ xs) → Apart x (h ∷ xs) → IsLinkedRing s h xs → IsLinkedRing (append h x s) h (xs ++ x ∷ [])
 ring-append s h x xs ln lp li lh d ax c =
     let e = prev_last s h h xs c in
     chain_grows s h x (get_or s.prev h 0) h xs e (λ q. apart_last x h xs ax (q ∙ e)) (λ q. ax.0 (sym q)) ln lp li lh d d.0 ax c

@@ -2,7 +2,7 @@
 use Rattle.std.proofs.Common.{◌≡◌, ◌≢◌, ℕ, ◌*◌, ◌<◌, ◌≤◌, arith, ap, sym, subst, ◌∙◌, List, [], ◌∷◌, length, get_or, map, All}
 use Rattle.staat_model.proofs.Members.{All-from_members}
 use Rattle.staat_ring.specs.declared.entry.Entry.{Entry}
-use Rattle.staat_ring.specs.Links.{Apart, Arrays, Distinct, Ring}
+use Rattle.staat_ring.specs.Links.{Apart, Arrays, Distinct, IsLinkedRing}
 use Rattle.staat_ring.specs.Linking.{AreLinked, AreSized, AreStopsLinked, CanBeLinked, HoldsCircle, IsAlone, IsKeptAt, IsSameAt, rows_of}
 use Rattle.staat_ring.specs.Numbered.{head_number, node_number}
 use Rattle.staat_ring.specs.RingViews.{shape}
@@ -18,8 +18,8 @@ module _ (n c : ℕ) (lc : c < n) (stops : List (List Entry)) (can : CanBeLinked
   pub nodes_apart : Distinct (head ∷ nodes)
   nodes_apart = subst (λ h. Distinct (h ∷ nodes)) (sym head_is) (subst (λ xs. Distinct (head_number n c ∷ xs)) (sym nodes_is) (circle_distinct n c lc stops can))
 
-  pub alone_head : Ring a.circles head []
-  alone_head = subst (λ h. Ring a.circles h []) (sym head_is) (alone (head_number n c) (let s = head_small n c lc in omega (arith, s)) (head_circle n c lc)).circles
+  pub alone_head : IsLinkedRing a.circles head []
+  alone_head = subst (λ h. IsLinkedRing a.circles h []) (sym head_is) (alone (head_number n c) (let s = head_small n c lc in omega (arith, s)) (head_circle n c lc)).circles
 
   pub alone_stops : AreLinked a.vertices (rows_of n c stops) 0
   alone_stops = alone_rows n c lc stops can a.vertices (λ y ly e. (alone y ly e).vertices)
@@ -27,10 +27,10 @@ module _ (n c : ℕ) (lc : c < n) (stops : List (List Entry)) (can : CanBeLinked
   pub homes_in : ((e : ℕ) → e < length a.home → get_or a.home e 0 < length a.home) → All (λ x. x < length a.home) a.home
   homes_in h = λ k d lt. subst (λ x. x < length a.home) (Rattle.std.proofs.lemmas.List.get_or_default a.home k 0 d lt) (h k lt)
 
-  module _ (b : Arrays) (ring : Ring b.circles head nodes) (others : (y : ℕ) → Apart y (head ∷ nodes) → IsSameAt a.circles b.circles y) (size : length b.circles.next ≡ length a.circles.next)
+  module _ (b : Arrays) (ring : IsLinkedRing b.circles head nodes) (others : (y : ℕ) → Apart y (head ∷ nodes) → IsSameAt a.circles b.circles y) (size : length b.circles.next ≡ length a.circles.next)
       (linked : AreStopsLinked n c stops (length stops) a.vertices b.vertices a.home b.home) where
-    ring' : Ring b.circles (head_number n c) (map (node_number n c) stops)
-    ring' = subst (λ h. Ring b.circles h (map (node_number n c) stops)) head_is (subst (Ring b.circles head) nodes_is ring)
+    ring' : IsLinkedRing b.circles (head_number n c) (map (node_number n c) stops)
+    ring' = subst (λ h. IsLinkedRing b.circles h (map (node_number n c) stops)) head_is (subst (IsLinkedRing b.circles head) nodes_is ring)
 
     others' : (y : ℕ) → Apart y (head_number n c ∷ map (node_number n c) stops) → IsSameAt a.circles b.circles y
     others' y p = others y (subst (λ h. Apart y (h ∷ nodes)) (sym head_is) (subst (λ xs. Apart y (head_number n c ∷ xs)) (sym nodes_is) p))

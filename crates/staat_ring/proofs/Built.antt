@@ -23,8 +23,8 @@ use Rattle.staat_ring.specs.Numbered.{head_number, node_number}
 use Rattle.staat_ring.specs.Planes.{entries_of, entries_on}
 use Rattle.staat_ring.specs.Rings.{AreRings, IsRingOf, Ring, RingStop, WereMadeFrom, entry_number, linked_of, plane_at, stop_of, vertex_of}
 use Rattle.staat_ring.specs.RingInvariant.{AreKept}
-use Rattle.staat_ring.specs.RingViews.{IsGood, IsSound, arrangement_of, below, entry_of, listed, plane_of, ring_of, rings_at, rings_of, shape, still_linked}
-use Rattle.staat_ring.specs.Stands.{AllPresent, InRange, IsPresent, IsRing, Stands, Tagged, home_of, is_empty}
+use Rattle.staat_ring.specs.RingViews.{StandForCircles, CanBeUndone, arrangement_of, numbers_below, entry_numbered, is_out, plane_of, ring_of, rings_at, rings_of, shape, still_linked}
+use Rattle.staat_ring.specs.Stands.{AllPresent, InRange, IsPresent, IsRing, StandFor, Tagged, home_of, is_empty}
 use Rattle.staat_ring.specs.Views.{lists_of}
 use Rattle.staat_ring.proofs.Covered.{entry_there}
 use Rattle.staat_ring.proofs.Linkable.{can_be_linked, other_plane}
@@ -43,24 +43,24 @@ take_none : (xs : List ℕ) → take 0 xs ≡ []
 take_none [] = refl
 take_none (x ∷ xs) = refl
 
-all_stay : (xs : List ℕ) → filter (λ c. not (listed [] c)) xs ≡ xs
+all_stay : (xs : List ℕ) → filter (λ c. not (is_out [] c)) xs ≡ xs
 all_stay [] = refl
 all_stay (x ∷ xs) = ap (λ ys. x ∷ ys) (all_stay xs)
 
-length_below : (n : ℕ) → length (below n) ≡ n
+length_below : (n : ℕ) → length (numbers_below n) ≡ n
 length_below zero = refl
-length_below (suc n) = length-append (below n) (n ∷ []) ∙ (let e = length_below n in omega (arith, e))
+length_below (suc n) = length-append (numbers_below n) (n ∷ []) ∙ (let e = length_below n in omega (arith, e))
 
-pub below_all : (n c : ℕ) → c < n → Contains (below n) c
+pub below_all : (n c : ℕ) → c < n → Contains (numbers_below n) c
 below_all zero c lt = absurd (omega (arith, lt))
-below_all (suc n) c lt = ⊎_elim {C = Contains (below (suc n)) c} (λ l. Contains-append_left (below n) (n ∷ []) c (below_all n c l)) (λ e. Contains-append_right (below n) (n ∷ []) c (zero, omega arith, sym e)) (last c n lt)
+below_all (suc n) c lt = ⊎_elim {C = Contains (numbers_below (suc n)) c} (λ l. Contains-append_left (numbers_below n) (n ∷ []) c (below_all n c l)) (λ e. Contains-append_right (numbers_below n) (n ∷ []) c (zero, omega arith, sym e)) (last c n lt)
   where
     last : (c n : ℕ) → c < suc n → (c < n) ⊎ (c ≡ n)
     last c n lt = grind arith
 
-below_at : (n k : ℕ) → k < n → get_or (below n) k 0 ≡ k
+below_at : (n k : ℕ) → k < n → get_or (numbers_below n) k 0 ≡ k
 below_at zero k lt = absurd (omega (arith, lt))
-below_at (suc n) k lt = go (below n) (length_below n) (below_at n k)
+below_at (suc n) k lt = go (numbers_below n) (length_below n) (below_at n k)
   where
     last : (c n : ℕ) → c < suc n → (c < n) ⊎ (c ≡ n)
     last c n lt = grind arith
@@ -151,7 +151,7 @@ module _ (planes : List V3) (table : AreTablePlanes planes) (few : length planes
   stops c lc = (has c lc).stops
 
   can : (c : ℕ) (lc : c < n) → CanBeLinked n c (stops c lc)
-  can c lc = can_be_linked planes table (below n) c (stops c lc) (has c lc).ring
+  can c lc = can_be_linked planes table (numbers_below n) c (stops c lc) (has c lc).ring
 
   abbrev slot : (c : ℕ) → c < n → ℕ → List Entry
   slot c lc k = slot_at (stops c lc) k
@@ -227,7 +227,7 @@ module _ (planes : List V3) (table : AreTablePlanes planes) (few : length planes
   entries_at : (c : ℕ) (lc : c < n) (v : ℕ) (o : IsNode c lc v) → l.entries v ≡ numbers c lc o.place
   entries_at c lc v o = ap l.entries (sym o.is) ∙ entries_are c lc o.place o.within
 
-  stands : Stands (shape n) l a
+  stands : StandFor (shape n) l a
   stands = record {
     circles_in_range = circles_in;
     vertices_in_range = vertices_in;
@@ -246,12 +246,12 @@ module _ (planes : List V3) (table : AreTablePlanes planes) (few : length planes
 
   -- ---- each entry stands somewhere
 
-  linked_at : (p : ℕ) → p < n → IsLinked planes (below n) p (plane_at planes p)
+  linked_at : (p : ℕ) → p < n → IsLinked planes (numbers_below n) p (plane_at planes p)
   linked_at p lp = record { listed = below_all n p lp; is = Rattle.std.proofs.lemmas.Option.slice_get-get_or planes p origin lp }
 
   present_at : (c : ℕ) (lc : c < n) (e : Entry) → e.plane < n → e.plane ≢ c → IsPresent (shape n) l a (entry_number n c e)
   present_at c lc e lp ne =
-      let t = entry_there planes (below n) (ring_by c (stops c lc)) (none_parallel planes (below n) table) (has c lc).ring e (plane_at planes e.plane) (linked_at e.plane lp) ne in
+      let t = entry_there planes (numbers_below n) (ring_by c (stops c lc)) (none_parallel planes (numbers_below n) table) (has c lc).ring e (plane_at planes e.plane) (linked_at e.plane lp) ne in
       let lk : t.place < length (stops c lc) = subst (λ m. t.place < m) (length-map (stops c lc) (λ es. record { node = 0; entries = es })) (slice_get_within (map (λ es. record { node = 0; entries = es }) (stops c lc)) t.place t.stop t.is) in
       let ce : Contains (slot c lc t.place) e = subst (λ (s : RingStop). Contains s.entries e) (same t.place t.stop lk t.is) t.listed in
       let h : home_of a (entry_number n c e) ≡ node c lc t.place = home_at c lc t.place lk e ce in
@@ -280,7 +280,7 @@ module _ (planes : List V3) (table : AreTablePlanes planes) (few : length planes
   all_present [] h = tt
   all_present (e ∷ es) h = (h e (zero, omega arith, refl), all_present es (λ x c. h x (suc c.0, omega (arith, c.1), c.2)))
 
-  pub good : IsGood n [] a
+  pub good : StandForCircles n [] a
   good = record {
     stands = stands;
     full = λ c v lc cv. let o = node_of c lc v cv in ap is_empty (entries_at c lc v o) ∙ some_list (entry_number n c) (slot c lc o.place) (rules.some n c lc (stops c lc) (can c lc) o.place o.within);
@@ -291,7 +291,7 @@ module _ (planes : List V3) (table : AreTablePlanes planes) (few : length planes
         let o = node_of c lc v cv in
         let (x, cx, q) = from_map (entry_number n c) (slot c lc o.place) e (subst (λ xs. Contains xs e) (entries_at c lc v o) ce) in
         let lx = rules.small n c lc (stops c lc) (can c lc) o.place o.within x cx in
-        let ne = other_plane planes table (below n) c (stops c lc) (has c lc).ring (slot c lc o.place) x (rules.slot_in n c lc (stops c lc) (can c lc) o.place o.within) cx in
+        let ne = other_plane planes table (numbers_below n) c (stops c lc) (has c lc).ring (slot c lc o.place) x (rules.slot_in n c lc (stops c lc) (can c lc) o.place o.within) cx in
         let w = in_entries n x.plane n c (entry_number n c x) lc (on_circle n c x (λ z. ne (sym z))) in
         let p : plane_of n e ≡ x.plane = ap (plane_of n) (sym q) ∙ ap (λ (y : Entry). y.plane) (entry_back n c x lx) in
         subst (λ i. Contains (entries_of n i n) e) (sym p) (subst (Contains (entries_of n x.plane n)) q w);
@@ -302,13 +302,13 @@ module _ (planes : List V3) (table : AreTablePlanes planes) (few : length planes
   abbrev named : (c : ℕ) → List Entry → RingStop
   named c es = record { node = node_number n c es; entries = es }
 
-  entries_read : (c : ℕ) (lc : c < n) (es : List Entry) → Contains (stops c lc) es → map (entry_of n) (l.entries (node_number n c es)) ≡ es
+  entries_read : (c : ℕ) (lc : c < n) (es : List Entry) → Contains (stops c lc) es → map (entry_numbered n) (l.entries (node_number n c es)) ≡ es
   entries_read c lc es (k, lk, e) =
       let q : slot c lc k ≡ es = get_or_default (stops c lc) k [] es lk ∙ e in
-      subst (λ xs. map (entry_of n) (l.entries (node_number n c xs)) ≡ xs) q
-      (ap (map (entry_of n)) (entries_are c lc k lk) ∙ back (slot c lc k) (rules.small n c lc (stops c lc) (can c lc) k lk))
+      subst (λ xs. map (entry_numbered n) (l.entries (node_number n c xs)) ≡ xs) q
+      (ap (map (entry_numbered n)) (entries_are c lc k lk) ∙ back (slot c lc k) (rules.small n c lc (stops c lc) (can c lc) k lk))
     where
-      back : (xs : List Entry) → ((x : Entry) → Contains xs x → x.plane < n) → map (entry_of n) (map (entry_number n c) xs) ≡ xs
+      back : (xs : List Entry) → ((x : Entry) → Contains xs x → x.plane < n) → map (entry_numbered n) (map (entry_number n c) xs) ≡ xs
       back [] h = refl
       back (x ∷ xs) h = λ i. entry_back n c x (h x (zero, omega arith, refl)) i ∷ back xs (λ y cy. h y (suc cy.0, omega (arith, cy.1), cy.2)) i
 
@@ -316,34 +316,34 @@ module _ (planes : List V3) (table : AreTablePlanes planes) (few : length planes
   stops_read c lc = ap (map read) (vertices_are c lc) ∙ go (stops c lc) (entries_read c lc)
     where
       read : ℕ → RingStop
-      read v = record { node = v; entries = map (entry_of n) (l.entries v) }
+      read v = record { node = v; entries = map (entry_numbered n) (l.entries v) }
 
-      go : (xs : List (List Entry)) → ((es : List Entry) → Contains xs es → map (entry_of n) (l.entries (node_number n c es)) ≡ es) → map read (map (node_number n c) xs) ≡ map (named c) xs
+      go : (xs : List (List Entry)) → ((es : List Entry) → Contains xs es → map (entry_numbered n) (l.entries (node_number n c es)) ≡ es) → map read (map (node_number n c) xs) ≡ map (named c) xs
       go [] h = refl
       go (x ∷ xs) h = λ i. (record { node = node_number n c x; entries = h x (zero, omega arith, refl) i }) ∷ go xs (λ y cy. h y (suc cy.0, omega (arith, cy.1), cy.2)) i
 
   ring_read : (c : ℕ) (lc : c < n) → ring_of n l c ≡ record { plane = c; stops = map (named c) (stops c lc) }
   ring_read c lc = λ i. record { plane = c; stops = stops_read c lc i }
 
-  planes_read : linked_of (rings_of n [] l) ≡ below n
-  planes_read = planes_of_rings n [] l ∙ all_stay (below n)
+  planes_read : linked_of (rings_of n [] l) ≡ numbers_below n
+  planes_read = planes_of_rings n [] l ∙ all_stay (numbers_below n)
 
   pub rings : AreRings planes (rings_of n [] l) []
   rings = record {
     each = All-from_members (IsRingOf planes (linked_of (rings_of n [] l))) (rings_of n [] l) (λ r cr.
-        let (c, cc', q) = from_map (ring_of n l) (filter (λ c. not (listed [] c)) (below n)) r cr in
-        let lc : c < n = below_small n c (subst (λ xs. Contains xs c) (all_stay (below n)) cc') in
+        let (c, cc', q) = from_map (ring_of n l) (filter (λ c. not (is_out [] c)) (numbers_below n)) r cr in
+        let lc : c < n = below_small n c (subst (λ xs. Contains xs c) (all_stay (numbers_below n)) cc') in
         subst (IsRingOf planes (linked_of (rings_of n [] l))) q (subst (λ ks. IsRingOf planes ks (ring_of n l c)) (sym planes_read)
-        (subst (IsRingOf planes (below n)) (sym (ring_read c lc)) (ring_renamed planes (below n) c (node_number n c) (stops c lc) (has c lc).ring))));
+        (subst (IsRingOf planes (numbers_below n)) (sym (ring_read c lc)) (ring_renamed planes (numbers_below n) c (node_number n c) (stops c lc) (has c lc).ring))));
     ascending = subst (IsStrictlySortedBy nat_cmp) (sym planes_read) (below_sorted n);
     axes = λ k lt. subst (λ xs. Contains xs k) (sym planes_read) (below_all n k (omega (arith, lt, least)));
     all = λ k lt. inl (subst (λ xs. Contains xs k) (sym planes_read) (below_all n k lt));
   }
     where
-      below_sorted : (m : ℕ) → IsStrictlySortedBy nat_cmp (below m)
-      below_sorted m = sorted_from_strictly_increasing (below m) (λ k lt. let e = length_below m in let a = below_at m k (omega (arith, lt, e)) in let b = below_at m (k + 1) (omega (arith, lt, e)) in omega (arith, a, b))
+      below_sorted : (m : ℕ) → IsStrictlySortedBy nat_cmp (numbers_below m)
+      below_sorted m = sorted_from_strictly_increasing (numbers_below m) (λ k lt. let e = length_below m in let a = below_at m k (omega (arith, lt, e)) in let b = below_at m (k + 1) (omega (arith, lt, e)) in omega (arith, a, b))
 
-  sound : IsSound n [] a
+  sound : CanBeUndone n [] a
   sound zero lt = good
   sound (suc k) lt = absurd (omega (arith, lt))
 
@@ -355,11 +355,11 @@ module _ (planes : List V3) (table : AreTablePlanes planes) (few : length planes
     most = omega arith;
     all = all;
     planes = λ k lt. absurd (omega (arith, lt));
-    sound = subst (λ (o : List ℕ). IsSound n o a) (sym (take_none order)) sound;
+    sound = subst (λ (o : List ℕ). CanBeUndone n o a) (sym (take_none order)) sound;
   }
     where
       all : (k : ℕ) → k ≤ 0 → k + length (still_linked n (take k order)) ≡ n
-      all zero le = let e : length (still_linked n (take 0 order)) ≡ n = ap (λ (o : List ℕ). length (still_linked n o)) (take_none order) ∙ (ap length (all_stay (below n)) ∙ length_below n) in omega (arith, e)
+      all zero le = let e : length (still_linked n (take 0 order)) ≡ n = ap (λ (o : List ℕ). length (still_linked n o)) (take_none order) ∙ (ap length (all_stay (numbers_below n)) ∙ length_below n) in omega (arith, e)
       all (suc k) le = absurd (omega (arith, le))
 
   pub made : (order : List ℕ) → WereMadeFrom planes (arrangement_of n (take 0 order) a)

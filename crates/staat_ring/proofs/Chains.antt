@@ -2,7 +2,7 @@
 use Rattle.std.proofs.Common.{◌≡◌, ◌≢◌, ℕ, ◌<◌, sym, ap, subst, ◌∙◌, List, [], ◌∷◌, ◌++◌, length, get_or, set}
 use Rattle.std.proofs.lemmas.List.{get_or-set_other}
 use Rattle.std.proofs.lemmas.Grind.{get_or-set_at}
-use Rattle.staat_ring.specs.Links.{Links, Chain, Ring, Apart, Distinct, last_of, first_of, unlink, IsBetween}
+use Rattle.staat_ring.specs.Links.{Links, Chain, IsLinkedRing, Apart, Distinct, last_of, first_of, unlink, IsBetween}
 
 -- links with one word written in each array
 abbrev written : Links → ℕ → ℕ → ℕ → ℕ → Links
@@ -93,5 +93,5 @@ abbrev pub InRange : Links → ℕ → Type 0
 InRange s x = (get_or s.prev x 0 < length s.next) × (get_or s.next x 0 < length s.prev)
 
 -- unlink takes the node out of the list
-pub ring-unlink : (s : Links) (x h : ℕ) (l r : List ℕ) → InRange s x → Distinct (h ∷ l ++ x ∷ r) → Ring s h (l ++ x ∷ r) → Ring (unlink x s) h (l ++ r)
+pub ring-unlink : (s : Links) (x h : ℕ) (l r : List ℕ) → InRange s x → Distinct (h ∷ l ++ x ∷ r) → IsLinkedRing s h (l ++ x ∷ r) → IsLinkedRing (unlink x s) h (l ++ r)
 ring-unlink s x h l r g d c = removed s x h l r h (get_or s.prev x 0) (get_or s.next x 0) (prev_in s x h l r h c) (next_in s x h l r h c) g.0 g.1 d d.0 c

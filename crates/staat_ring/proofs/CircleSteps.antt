@@ -7,7 +7,7 @@ use Rattle.staat_ring.specs.Builds.{ring_by}
 use Rattle.staat_ring.specs.Links.{Arrays}
 use Rattle.staat_ring.specs.Linking.{AreLinkedBelow, AreSized, CanBeLinked, HasCircle, HoldsCircle, IsAlone, IsKeptAt}
 use Rattle.staat_ring.specs.Rings.{IsRingOf}
-use Rattle.staat_ring.specs.RingViews.{below, shape}
+use Rattle.staat_ring.specs.RingViews.{numbers_below, shape}
 use Rattle.staat_ring.proofs.Linkable.{can_be_linked}
 use Rattle.staat_ring.proofs.Mapped.{same_or}
 use Rattle.staat_ring.proofs.Rows.{ring_same}
@@ -21,7 +21,7 @@ none_below planes n a sizes alone home = record {
   own = λ x le lx. home x lx;
 }
 
-module _ (planes : List V3) (table : AreTablePlanes planes) (c : ℕ) (lc : c < length planes) (stops : List (List Entry)) (is : IsRingOf planes (below (length planes)) (ring_by c stops))
+module _ (planes : List V3) (table : AreTablePlanes planes) (c : ℕ) (lc : c < length planes) (stops : List (List Entry)) (is : IsRingOf planes (numbers_below (length planes)) (ring_by c stops))
     (a b : Arrays) (so_far : AreLinkedBelow planes (length planes) c a) (sizes : AreSized (length planes) b) (holds : HoldsCircle (length planes) b c stops)
     (others : (x : ℕ) → (shape (length planes)).circle x ≢ c → IsKeptAt a b x)
     (home : (x : ℕ) → 2 * (length planes * length planes) ≤ x → get_or b.home x 0 ≡ get_or a.home x 0) where
@@ -32,7 +32,7 @@ module _ (planes : List V3) (table : AreTablePlanes planes) (c : ℕ) (lc : c < 
       record {
         stops = old.stops;
         ring = old.ring;
-        holds = holds_still (length planes) d ld old.stops (can_be_linked planes table (below (length planes)) d old.stops old.ring) a b
+        holds = holds_still (length planes) d ld old.stops (can_be_linked planes table (numbers_below (length planes)) d old.stops old.ring) a b
             (λ y e. others y (λ q. let s : d ≡ c = sym e ∙ q in absurd (omega (arith, s, lt)))) old.holds;
       }
 
@@ -57,13 +57,13 @@ pub next_alone : (planes : List V3) (n c : ℕ) (a : Arrays) → AreLinkedBelow 
 next_alone planes n c a so_far x lx e = so_far.alone x lx (λ lt. absurd (omega (arith, lt, e)))
 
 -- as the code has it: the number of planes and the stops by other names
-module _ (planes : List V3) (table : AreTablePlanes planes) (c : ℕ) (lc : c < length planes) (stops : List (List Entry)) (is : IsRingOf planes (below (length planes)) (ring_by c stops))
+module _ (planes : List V3) (table : AreTablePlanes planes) (c : ℕ) (lc : c < length planes) (stops : List (List Entry)) (is : IsRingOf planes (numbers_below (length planes)) (ring_by c stops))
     (n : ℕ) (n_is : n ≡ length planes) (xs : List (List Entry)) (xs_is : xs ≡ stops) where
   both : (P : ℕ → List (List Entry) → Type 0) → P n xs → P (length planes) stops
   both P p = subst (λ ys. P (length planes) ys) xs_is (subst (λ m. P m xs) n_is p)
 
   pub next_can : CanBeLinked n c xs
-  next_can = subst (λ m. CanBeLinked m c xs) (sym n_is) (subst (CanBeLinked (length planes) c) (sym xs_is) (can_be_linked planes table (below (length planes)) c stops is))
+  next_can = subst (λ m. CanBeLinked m c xs) (sym n_is) (subst (CanBeLinked (length planes) c) (sym xs_is) (can_be_linked planes table (numbers_below (length planes)) c stops is))
 
   pub next_linked : (a b : Arrays) → AreLinkedBelow planes (length planes) c a → AreSized n b → HoldsCircle n b c xs → ((x : ℕ) → (shape n).circle x ≢ c → IsKeptAt a b x)
       → ((x : ℕ) → 2 * (n * n) ≤ x → get_or b.home x 0 ≡ get_or a.home x 0) → AreLinkedBelow planes (length planes) (c + 1) b

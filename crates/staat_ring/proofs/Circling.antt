@@ -18,10 +18,10 @@ use Rattle.staat_vec.proofs.Ring.{num, ring}
 use Rattle.staat_model.proofs.Members.{All-from_members}
 use Rattle.staat_model.specs.Circles.{IsLinked, IsOnCircle, PassesThrough, Stop, axis_beside}
 use Rattle.staat_ring.specs.declared.entry.Entry.{Entry}
-use Rattle.staat_ring.specs.Builds.{AreFilled, IsFromPlane, IsHalfCircle, IsThrough, all_around, opposite, ray, ring_by, slot_at}
+use Rattle.staat_ring.specs.Builds.{AreFilled, IsFromPlane, IsHalfCircle, AreThroughCrossing, all_around, opposite, ray, ring_by, slot_at}
 use Rattle.staat_ring.specs.Order.{normal_at}
 use Rattle.staat_ring.specs.Rings.{IsRingOf, RingStop, crossing, stop_of, vertex_of}
-use Rattle.staat_ring.specs.Turns.{IsHalf, Rises, around, turn}
+use Rattle.staat_ring.specs.Turns.{IsHalf, Rises, whole_circle, turn}
 use Rattle.staat_ring.specs.Rings.{facet_by, plane_at}
 use Rattle.staat_ring.proofs.Mapped.{from_map}
 use Rattle.staat_ring.proofs.Around.{around_closed, at_contains}
@@ -157,7 +157,7 @@ module _ (planes : List V3) (linked : List ℕ) (c : ℕ) (g axis : V3) (half : 
   there : (k : ℕ) → k < length half → Contains vertices (ray g (normal_at half k))
   there k lt = subst (Contains vertices) (vertex_is k lt) (at_contains vertices k (let n = length-map half (ray g) in omega (arith, n, lt)))
 
-  met : (j : ℕ) (h : V3) → IsLinked planes linked j h → j ≢ c → Contains (around vertices) (ray g h)
+  met : (j : ℕ) (h : V3) → IsLinked planes linked j h → j ≢ c → Contains (whole_circle vertices) (ray g h)
   met j h hj ne =
       let lt = slice_get_within planes j h hj.is in
       let m = is.all j lt ne in
@@ -165,8 +165,8 @@ module _ (planes : List V3) (linked : List ℕ) (c : ℕ) (g axis : V3) (half : 
       let sm = flat_at m.place m.within in
       let sh = apart c j g h gi hj.is (λ q. ne (sym q)) in
       let here = Contains-append_left vertices (map negative vertices) (ray g (normal_at half m.place)) (there m.place m.within) in
-      ⊎_elim {C = Contains (around vertices) (ray g h)} (λ q. subst (Contains (around vertices)) q here)
-      (λ q. subst (Contains (around vertices)) (ap negative q ∙ negative-negative (ray g h)) (around_closed vertices (ray g (normal_at half m.place)) here))
+      ⊎_elim {C = Contains (whole_circle vertices) (ray g h)} (λ q. subst (Contains (whole_circle vertices)) q here)
+      (λ q. subst (Contains (whole_circle vertices)) (ap negative q ∙ negative-negative (ray g h)) (around_closed vertices (ray g (normal_at half m.place)) here))
       (same_way (normal_at half m.place) h sm sh (ap (det g (normal_at half m.place)) (sym e) ∙ m.flat))
 
   pub half_is : IsHalf planes linked c g axis vertices
@@ -182,7 +182,7 @@ module _ (planes : List V3) (linked : List ℕ) (c : ℕ) (g axis : V3) (half : 
     abbrev vertex : List Entry → V3
     vertex es = vertex_of planes c es
 
-    named : (m : V3) → IsFromPlane planes c m → (es : List Entry) → IsThrough planes c g m (length planes) es → vertex es ≡ ray g m
+    named : (m : V3) → IsFromPlane planes c m → (es : List Entry) → AreThroughCrossing planes c g m (length planes) es → vertex es ≡ ray g m
     named m f [] t = absurd (none (t.listed.all f.number (f.within, f.different, flat f.turned f.is)))
       where
         flat : (b : Bool) → m ≡ facet_by b (plane_at planes f.number) → det g m (plane_at planes f.number) ≡ pos 0
@@ -213,7 +213,7 @@ module _ (planes : List V3) (linked : List ℕ) (c : ℕ) (g axis : V3) (half : 
     unwrapped [] = refl
     unwrapped (x ∷ xs) = ap (λ zs. vertex x ∷ zs) (unwrapped xs)
 
-    vertices_are : map (λ s. s.vertex) (map (stop_of planes c) stops) ≡ around vertices
+    vertices_are : map (λ s. s.vertex) (map (stop_of planes c) stops) ≡ whole_circle vertices
     vertices_are = unwrapped (all_around slots) ∙ (maps_append vertex slots (map (λ es. map opposite es) slots) ∙ (λ i. first i ++ second i))
       where
         first : map vertex slots ≡ vertices

@@ -20,7 +20,7 @@ use Rattle.staat_model.specs.Circles.{axis_beside}
 use Rattle.staat_pairs.specs.Tables.{AreTablePlanes}
 use Rattle.staat_ring.proofs.Mapped.{same_or}
 use Rattle.staat_ring.specs.declared.entry.Entry.{Entry}
-use Rattle.staat_ring.specs.Builds.{AreFilled, IsHalfCircle, IsPlaceOf, IsThrough, IsUpper, ray, slot_at}
+use Rattle.staat_ring.specs.Builds.{AreFilled, IsHalfCircle, IsPlaceOf, AreThroughCrossing, IsUpper, ray, slot_at}
 use Rattle.staat_ring.specs.Order.{normal_at}
 use Rattle.staat_ring.specs.Rings.{crossing}
 use Rattle.staat_ring.specs.Turns.{turn}
@@ -59,7 +59,7 @@ map_push (x ∷ es) e = ap (λ zs. x.plane ∷ zs) (map_push es e)
 pub filled_none : (planes : List V3) (c : ℕ) (g : V3) (half : List V3) (slots : List (List Entry)) → slots ≡ replicate (length half) [] → AreFilled planes c g half 0 slots
 filled_none planes c g half slots e = subst (λ (v : List (List Entry)). AreFilled planes c g half 0 v) (sym e) (record {
   size = length-replicate {A = List Entry} (length half) [];
-  each = λ k lt. subst (λ (es : List Entry). IsThrough planes c g (normal_at half k) 0 es) (sym (get_or-replicate (length half) k [] [] lt)) (record {
+  each = λ k lt. subst (λ (es : List Entry). AreThroughCrossing planes c g (normal_at half k) 0 es) (sym (get_or-replicate (length half) k [] [] lt)) (record {
     listed = record { ascending = none_sorted; each = λ x cx. absurd (Contains-nothing x cx); all = λ x h. absurd (let l = h.0 in omega (arith, l)) };
     ways = All-nil (λ e. crossing planes c e ≡ ray g (normal_at half k));
   });
@@ -176,10 +176,10 @@ module _ (planes : List V3) (c : ℕ) (g axis : V3) (half : List V3) (rules : Ar
   pub filled_more : (i : ℕ) (old new : List (List Entry)) → IsPlaceOf g half H i → new ≡ slice_set old i (slot_at old i ++ this ∷ []) → AreFilled planes c g half j old → AreFilled planes c g half (j + 1) new
   filled_more i old new p e a = subst (λ (v : List (List Entry)). AreFilled planes c g half (j + 1) v) (sym e) (record {
     size = length-set old i (slot_at old i ++ this ∷ []) ∙ a.size;
-    each = λ k lt. ⊎_elim {C = IsThrough planes c g (normal_at half k) (j + 1) (slot_at (slice_set old i (slot_at old i ++ this ∷ [])) k)}
-        (λ q. subst (λ (x : ℕ). IsThrough planes c g (normal_at half x) (j + 1) (slot_at (slice_set old i (slot_at old i ++ this ∷ [])) x)) q
-        (subst (λ (es : List Entry). IsThrough planes c g (normal_at half i) (j + 1) es) (sym (get_or-set_same old i (slot_at old i ++ this ∷ []) [] (let s = a.size in let w = p.within in omega (arith, s, w)))) more))
-        (λ d. subst (λ (es : List Entry). IsThrough planes c g (normal_at half k) (j + 1) es) (sym (get_or-set_other old i k (slot_at old i ++ this ∷ []) [] (λ q. d (sym q)))) (same k lt (λ q. d (sym q))))
+    each = λ k lt. ⊎_elim {C = AreThroughCrossing planes c g (normal_at half k) (j + 1) (slot_at (slice_set old i (slot_at old i ++ this ∷ [])) k)}
+        (λ q. subst (λ (x : ℕ). AreThroughCrossing planes c g (normal_at half x) (j + 1) (slot_at (slice_set old i (slot_at old i ++ this ∷ [])) x)) q
+        (subst (λ (es : List Entry). AreThroughCrossing planes c g (normal_at half i) (j + 1) es) (sym (get_or-set_same old i (slot_at old i ++ this ∷ []) [] (let s = a.size in let w = p.within in omega (arith, s, w)))) more))
+        (λ d. subst (λ (es : List Entry). AreThroughCrossing planes c g (normal_at half k) (j + 1) es) (sym (get_or-set_other old i k (slot_at old i ++ this ∷ []) [] (λ q. d (sym q)))) (same k lt (λ q. d (sym q))))
         (same_or i k);
   })
     where
@@ -194,7 +194,7 @@ module _ (planes : List V3) (c : ℕ) (g axis : V3) (half : List V3) (rules : Ar
           side : (k i : ℕ) → (k < i) ⊎ ((k ≡ i) ⊎ (i < k))
           side k i = grind arith
 
-      same : (k : ℕ) → k < length half → k ≢ i → IsThrough planes c g (normal_at half k) (j + 1) (slot_at old k)
+      same : (k : ℕ) → k < length half → k ≢ i → AreThroughCrossing planes c g (normal_at half k) (j + 1) (slot_at old k)
       same k lt d = let th = a.each k lt in record {
         listed = record {
           ascending = th.listed.ascending;
@@ -207,7 +207,7 @@ module _ (planes : List V3) (c : ℕ) (g axis : V3) (half : List V3) (rules : Ar
       here : det g (normal_at half i) (plane_at planes j) ≡ pos 0
       here = ap (det g (normal_at half i)) plane_is ∙ facet_det g (normal_at half i) h t p.here
 
-      more : IsThrough planes c g (normal_at half i) (j + 1) (slot_at old i ++ this ∷ [])
+      more : AreThroughCrossing planes c g (normal_at half i) (j + 1) (slot_at old i ++ this ∷ [])
       more = let th = a.each i p.within in record {
         listed = subst (λ (xs : List ℕ). Lists nat_cmp (λ x. (x < j + 1) × (x ≢ c) × (det g (normal_at half i) (plane_at planes x) ≡ pos 0)) xs) (sym (map_push (slot_at old i) this)) (record {
           ascending = sorted_push (map (λ e. e.plane) (slot_at old i)) j th.listed.ascending (λ x cx. (th.listed.each x cx).0);

@@ -4,7 +4,7 @@ use Rattle.std.specs.List.{filter}
 use Rattle.std.specs.Prelude.{◌==◌}
 use Rattle.std.proofs.lemmas.Bool.Decides.{nat_tests}
 use Rattle.staat_ring.specs.Links.{Arrays, Distinct, take}
-use Rattle.staat_ring.specs.Stands.{without, is_empty, Shape, Lists, home_of, Stands, IsPresent, lists_without, lists_without_all, AllPresent, lists_without_plane}
+use Rattle.staat_ring.specs.Stands.{without, is_empty, Shape, RingLists, home_of, StandFor, IsPresent, lists_without, lists_without_all, AllPresent, lists_without_plane}
 use Rattle.staat_ring.specs.Views.{AreSame}
 use Rattle.staat_ring.proofs.Without.{without_none, tagged_apart}
 use Rattle.staat_ring.proofs.TwoLevels.{decide, stands-take, all-after, contains_before}
@@ -17,7 +17,7 @@ abbrev keeps : List ℕ → ℕ → Bool
 keeps [] y = true
 keeps (e ∷ es) y = not (y == e) && keeps es y
 
-entries_are : (home : ℕ → ℕ) (es : List ℕ) (l : Lists) (v : ℕ) → (lists_without_all home es l).entries v ≡ dropped es (l.entries v)
+entries_are : (home : ℕ → ℕ) (es : List ℕ) (l : RingLists) (v : ℕ) → (lists_without_all home es l).entries v ≡ dropped es (l.entries v)
 entries_are home [] l v = refl
 entries_are home (e ∷ es) l v = entries_are home es (lists_without (home e) e l) v
 
@@ -84,7 +84,7 @@ empty_is [] h = refl
 empty_is (x ∷ xs) h = cc
 
 -- every vertex on a circle has an entry
-abbrev pub AreFull : Shape → Lists → Type 0
+abbrev pub AreFull : Shape → RingLists → Type 0
 AreFull g l = (c v : ℕ) → c < g.count → Contains (l.vertices c) v → is_empty (l.entries v) ≡ false
 
 not_in_without : (x : ℕ) (xs : List ℕ) → Contains (without x xs) x → ⊥
@@ -101,7 +101,7 @@ not_in_without x (y ∷ xs) h = elim (decide y x) [
     later n (zero, lt, q) ih = n q
     later n (suc k, lt, q) ih = ih (k, omega arith, q)
 
-full-after : (g : Shape) (l : Lists) (a : Arrays) (e : ℕ) → Stands g l a → IsPresent g l a e → AreFull g l → AreFull g (lists_without (home_of a e) e l)
+full-after : (g : Shape) (l : RingLists) (a : Arrays) (e : ℕ) → StandFor g l a → IsPresent g l a e → AreFull g l → AreFull g (lists_without (home_of a e) e l)
 full-after g l a e st pr full c w hc cw = go (is_empty (without e (l.entries (home_of a e)))) refl cw
   where
     kept : w ≢ home_of a e → Contains (l.vertices c) w → is_empty (without e (l.entries w)) ≡ false
@@ -119,7 +119,7 @@ full-after g l a e st pr full c w hc cw = go (is_empty (without e (l.entries (ho
       | inr n ↦ kept n cv
     ]
 
-vertices_are : (g : Shape) (es : List ℕ) (l : Lists) (a : Arrays) → Stands g l a → Distinct es → AllPresent g l a es → AreFull g l → (c : ℕ) → c < g.count
+vertices_are : (g : Shape) (es : List ℕ) (l : RingLists) (a : Arrays) → StandFor g l a → Distinct es → AllPresent g l a es → AreFull g l → (c : ℕ) → c < g.count
     → (lists_without_all (home_of a) es l).vertices c ≡ filter (λ v. not (is_empty (dropped es (l.entries v)))) (l.vertices c)
 vertices_are g [] l a st d pr full c hc = sym (all_kept (l.vertices c) (λ v cv. full c v hc cv))
   where
@@ -136,7 +136,7 @@ vertices_are g (e ∷ es) l a st d pr full c hc =
     go false h = refl
 
 -- the entries listed are those of the plane
-pub record AreEntriesOf (g : Shape) (l : Lists) (plane_of : ℕ → ℕ) (p : ℕ) (es : List ℕ) : Type 0 where
+pub record AreEntriesOf (g : Shape) (l : RingLists) (plane_of : ℕ → ℕ) (p : ℕ) (es : List ℕ) : Type 0 where
   pub each : (e : ℕ) → Contains es e → plane_of e ≡ p
   pub all : (c v e : ℕ) → c < g.count → Contains (l.vertices c) v → Contains (l.entries v) e → plane_of e ≡ p → Contains es e
 
@@ -154,7 +154,7 @@ contains_or_not (e ∷ es) y = elim (decide e y) [
     later n m (zero, lt, q) = n q
     later n m (suc k, lt, q) = m (k, omega arith, q)
 
-pub without-plane : (g : Shape) (plane_of : ℕ → ℕ) (p : ℕ) (es : List ℕ) (l : Lists) (a : Arrays) → Stands g l a → Distinct es → AllPresent g l a es → AreFull g l → AreEntriesOf g l plane_of p es
+pub without-plane : (g : Shape) (plane_of : ℕ → ℕ) (p : ℕ) (es : List ℕ) (l : RingLists) (a : Arrays) → StandFor g l a → Distinct es → AllPresent g l a es → AreFull g l → AreEntriesOf g l plane_of p es
     → AreSame g (lists_without_plane plane_of p l) (lists_without_all (home_of a) es l)
 without-plane g plane_of p es l a st d pr full of = record {
   vertices = λ c hc. filter_same (λ v. not (is_empty (filter (λ e. not (plane_of e == p)) (l.entries v)))) (λ v. not (is_empty (dropped es (l.entries v)))) (l.vertices c)

@@ -14,7 +14,7 @@ use Rattle.std.specs.Prelude.{All}
 use Rattle.std.proofs.Common.{refl, [], ◌∷◌}
 use Rattle.staat_model.specs.Circles.{Stop, IsLinked, IsOnCircle, IsNext, IsCircle, IsAfter, PassesThrough, axis_beside}
 use Rattle.staat_ring.proofs.Mapped.{in_map}
-use Rattle.staat_ring.specs.Turns.{turn, Rises, around, IsHalf}
+use Rattle.staat_ring.specs.Turns.{turn, Rises, whole_circle, IsHalf}
 use Rattle.staat_ring.proofs.Turning.{turn_same, turn_negative_left, turn_negative_right}
 use Rattle.staat_ring.proofs.Around.{on_around, around_closed, negative_twice, next_around, first_half, length_around, where_in}
 
@@ -73,15 +73,15 @@ apart_half g hs i k r two li lk e = elim (cases i k) [
     self zero l q = zero_or (turn g (at hs 0) (at hs 1)) (ap (λ v. turn g v (at hs 1)) q ∙ turn_negative_left g (at hs 0) (at hs 1)) (r 0 1 (omega arith) two)
     self (suc i) l q = zero_or (turn g (at hs 0) (at hs (suc i))) (ap (λ v. turn g (at hs 0) v) q ∙ turn_negative_right g (at hs 0) (at hs (suc i))) (r 0 (suc i) (omega arith) l)
 
-pub distinct_around : (g : V3) (hs : List V3) (i k : ℕ) → Rises g hs → 1 < length hs → i < length (around hs) → k < length (around hs) → at (around hs) i ≡ at (around hs) k → i ≡ k
+pub distinct_around : (g : V3) (hs : List V3) (i k : ℕ) → Rises g hs → 1 < length hs → i < length (whole_circle hs) → k < length (whole_circle hs) → at (whole_circle hs) i ≡ at (whole_circle hs) k → i ≡ k
 distinct_around g hs i k r two li lk e =
     let p = where_in hs i li in
     let q = where_in hs k lk in
     go p.0 q.0 p.1 q.1 p.2 q.2
   where
     go : (m n : ℕ) → m < length hs → n < length hs
-        → ((i ≡ m) × (at (around hs) i ≡ at hs m)) ⊎ ((i ≡ length hs + m) × (at (around hs) i ≡ negative (at hs m)))
-        → ((k ≡ n) × (at (around hs) k ≡ at hs n)) ⊎ ((k ≡ length hs + n) × (at (around hs) k ≡ negative (at hs n))) → i ≡ k
+        → ((i ≡ m) × (at (whole_circle hs) i ≡ at hs m)) ⊎ ((i ≡ length hs + m) × (at (whole_circle hs) i ≡ negative (at hs m)))
+        → ((k ≡ n) × (at (whole_circle hs) k ≡ at hs n)) ⊎ ((k ≡ length hs + n) × (at (whole_circle hs) k ≡ negative (at hs n))) → i ≡ k
     go m n lm ln (inl a) (inl b) = let s = distinct_half g hs m n r lm ln (sym a.1 ∙ (e ∙ b.1)) in omega (arith, a.0, b.0)
     go m n lm ln (inl a) (inr b) = absurd (apart_half g hs m n r two lm ln (sym a.1 ∙ (e ∙ b.1)))
     go m n lm ln (inr a) (inl b) = absurd (apart_half g hs n m r two ln lm (sym b.1 ∙ (sym e ∙ a.1)))
@@ -90,7 +90,7 @@ distinct_around g hs i k r two li lk e =
 
 -- the stops at the half circle's vertices and their negatives are the circle
 pub circle_from_half : (table : List V3) (linked : List ℕ) (c : ℕ) (g axis : V3) (hs : List V3) (stops : List Stop) → IsLinked table linked c g → IsLinked table linked (axis_beside c) axis
-    → IsHalf table linked c g axis hs → vertices_of stops ≡ around hs
+    → IsHalf table linked c g axis hs → vertices_of stops ≡ whole_circle hs
     → All (λ s. Lists nat_cmp (PassesThrough table linked c s.vertex) s.through) stops
     → IsCircle table linked c stops
 circle_from_half table linked c g axis hs stops gi ai half vs through = record {
@@ -114,23 +114,23 @@ circle_from_half table linked c g axis hs stops gi ai half vs through = record {
     crossing v k lt (inl e) = subst (λ u. IsOnCircle table linked c g u) (sym e) (half.each k lt)
     crossing v k lt (inr e) = subst (λ u. IsOnCircle table linked c g u) (sym e) (crossing_turned table linked c g (at hs k) (half.each k lt))
 
-    listed : (v : V3) → IsOnCircle table linked c g v → Contains (around hs) v
+    listed : (v : V3) → IsOnCircle table linked c g v → Contains (whole_circle hs) v
     listed v x = elim x.is [
-      | inl e ↦ subst (λ u. Contains (around hs) u) (sym e) (half.all x.other x.h x.other_is x.different)
-      | inr e ↦ subst (λ u. Contains (around hs) u) (sym e) (around_closed hs (primitive (cross g x.h)) (half.all x.other x.h x.other_is x.different))
+      | inl e ↦ subst (λ u. Contains (whole_circle hs) u) (sym e) (half.all x.other x.h x.other_is x.different)
+      | inr e ↦ subst (λ u. Contains (whole_circle hs) u) (sym e) (around_closed hs (primitive (cross g x.h)) (half.all x.other x.h x.other_is x.different))
     ]
 
-    once : (k m : ℕ) (x : V3) → slice_get (around hs) k ≡ Some x → slice_get (around hs) m ≡ Some x → k ≡ m
-    once k m x ks mt = distinct_around g hs k m half.rises half.two (slice_get_within (around hs) k x ks) (slice_get_within (around hs) m x mt)
-        (get_or_from_slice_get (around hs) k x origin ks ∙ sym (get_or_from_slice_get (around hs) m x origin mt))
+    once : (k m : ℕ) (x : V3) → slice_get (whole_circle hs) k ≡ Some x → slice_get (whole_circle hs) m ≡ Some x → k ≡ m
+    once k m x ks mt = distinct_around g hs k m half.rises half.two (slice_get_within (whole_circle hs) k x ks) (slice_get_within (whole_circle hs) m x mt)
+        (get_or_from_slice_get (whole_circle hs) k x origin ks ∙ sym (get_or_from_slice_get (whole_circle hs) m x origin mt))
 
-    within : (k : ℕ) (s : Stop) → slice_get stops k ≡ Some s → k < length (around hs)
+    within : (k : ℕ) (s : Stop) → slice_get stops k ≡ Some s → k < length (whole_circle hs)
     within k s e = subst (λ xs. k < length xs) vs (let l = slice_get_within stops k s e in subst (λ n. k < n) (sym (length-map stops (λ s. s.vertex))) l)
 
-    place : (k : ℕ) (s : Stop) → slice_get stops k ≡ Some s → at (around hs) k ≡ s.vertex
+    place : (k : ℕ) (s : Stop) → slice_get stops k ≡ Some s → at (whole_circle hs) k ≡ s.vertex
     place k s e = sym (ap (λ xs. at xs k) vs) ∙ vertex_at stops k s e
 
-    same_length : length stops ≡ length (around hs)
+    same_length : length stops ≡ length (whole_circle hs)
     same_length = sym (length-map stops (λ s. s.vertex)) ∙ ap length vs
 
     at_first : (s : Stop) × (slice_get stops 0 ≡ Some s)
@@ -143,11 +143,11 @@ circle_from_half table linked c g axis hs stops gi ai half vs through = record {
     next : (k : ℕ) (s t : Stop) → slice_get stops k ≡ Some s → slice_get stops ((k + 1) % length stops) ≡ Some t → IsNext g stops s.vertex t.vertex
     next k s t ks kt =
         let n = next_around g hs k half.rises half.two (within k s ks) in
-        let kt' : slice_get stops ((k + 1) % length (around hs)) ≡ Some t = subst (λ m. slice_get stops ((k + 1) % m) ≡ Some t) same_length kt in
+        let kt' : slice_get stops ((k + 1) % length (whole_circle hs)) ≡ Some t = subst (λ m. slice_get stops ((k + 1) % m) ≡ Some t) same_length kt in
         let ev = place k s ks in
-        let ew = place ((k + 1) % length (around hs)) t kt' in
+        let ew = place ((k + 1) % length (whole_circle hs)) t kt' in
         record {
-          after = subst (λ v. pos 0 <ℤ turn g v t.vertex) ev (subst (λ w. pos 0 <ℤ turn g (at (around hs) k) w) ew n.ahead);
+          after = subst (λ v. pos 0 <ℤ turn g v t.vertex) ev (subst (λ w. pos 0 <ℤ turn g (at (whole_circle hs) k) w) ew n.ahead);
           nothing_between = All-from_members (λ s'. IsAfter g s.vertex s'.vertex → IsAfter g s'.vertex t.vertex → ⊥) stops (λ u cu vu uw. n.nothing_between u.vertex (subst (λ xs. Contains xs u.vertex) vs (in_map (λ s. s.vertex) stops u cu))
               (subst (λ v. pos 0 <ℤ turn g v u.vertex) (sym ev) vu) (subst (λ w. pos 0 <ℤ turn g u.vertex w) (sym ew) uw));
         }

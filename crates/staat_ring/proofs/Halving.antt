@@ -17,7 +17,7 @@ use Rattle.staat_model.specs.Circles.{axis_beside}
 use Rattle.staat_model.specs.Planes.{axes}
 use Rattle.staat_pairs.specs.Tables.{AreTablePlanes, IsPlaneNormal}
 use Rattle.staat_ring.proofs.Mapped.{same_or}
-use Rattle.staat_ring.specs.Builds.{AreAhead, IsAheadOf, IsFromPlane, IsHalfCircle, IsMet, IsPut, IsPutIn}
+use Rattle.staat_ring.specs.Builds.{AreTurnedAhead, IsAheadOf, IsFromPlane, IsHalfCircle, IsCrossedAt, IsPut, IsPutIn}
 use Rattle.staat_ring.specs.Order.{HasRay, IsHalfOf, normal_at}
 use Rattle.staat_ring.specs.Rings.{facet_by, plane_at}
 use Rattle.staat_ring.proofs.Circling.{zero_cross}
@@ -32,20 +32,20 @@ later w u ws (k, lt, e) = (suc k, omega arith, e)
 
 -- ---- one plane more
 
-pub ahead_none : (planes : List V3) (g axis : V3) → AreAhead planes g axis 0 []
+pub ahead_none : (planes : List V3) (g axis : V3) → AreTurnedAhead planes g axis 0 []
 ahead_none planes g axis = record {
   small = All-nil (IsWithin NORMAL);
   each = λ h c. absurd (Contains-nothing h c);
   all = λ j lt. absurd (omega (arith, lt));
 }
 
-pub ahead_more : (planes : List V3) (g axis h : V3) (j : ℕ) (old new : List V3) → slice_get planes j ≡ Some h → IsPut g axis h old new → AreAhead planes g axis j old → AreAhead planes g axis (j + 1) new
-ahead_more planes g axis h j old new is (inl (z, e)) a = subst (λ (v : List V3). AreAhead planes g axis (j + 1) v) (sym e) (record {
+pub ahead_more : (planes : List V3) (g axis h : V3) (j : ℕ) (old new : List V3) → slice_get planes j ≡ Some h → IsPut g axis h old new → AreTurnedAhead planes g axis j old → AreTurnedAhead planes g axis (j + 1) new
+ahead_more planes g axis h j old new is (inl (z, e)) a = subst (λ (v : List V3). AreTurnedAhead planes g axis (j + 1) v) (sym e) (record {
   small = a.small;
   each = a.each;
   all = λ i lt. ⊎_elim {C = (det g axis (plane_at planes i) ≡ pos 0) ⊎ IsPutIn old (plane_at planes i)} (λ s. inl (ap (λ k. det g axis (plane_at planes k)) s ∙ (ap (det g axis) (get_or_from_slice_get planes j h origin is) ∙ z))) (λ ne. a.all i (omega arith)) (same_or i j);
 })
-ahead_more planes g axis h j old new is (inr (t, ahead, small, e)) a = subst (λ (v : List V3). AreAhead planes g axis (j + 1) v) (sym e) (record {
+ahead_more planes g axis h j old new is (inr (t, ahead, small, e)) a = subst (λ (v : List V3). AreTurnedAhead planes g axis (j + 1) v) (sym e) (record {
   small = All-from_members (IsWithin NORMAL) (old ++ facet_by t h ∷ []) (λ x c. ⊎_elim {C = IsWithin NORMAL x} (λ d. All-contains (IsWithin NORMAL) old x a.small d) (λ d. subst (IsWithin NORMAL) (sym (only_one (facet_by t h) x d)) small) (Contains-append_cases old (facet_by t h ∷ []) x c));
   each = λ x c. ⊎_elim {C = IsAheadOf planes g axis x} (λ d. a.each x d) (λ d. subst (IsAheadOf planes g axis) (sym (only_one (facet_by t h) x d)) this) (Contains-append_cases old (facet_by t h ∷ []) x c);
   all = λ i lt. ⊎_elim {C = (det g axis (plane_at planes i) ≡ pos 0) ⊎ IsPutIn (old ++ facet_by t h ∷ []) (plane_at planes i)}
@@ -106,7 +106,7 @@ some_off g axis some none = some (same_vector (cross g axis) origin (x g axis �
     z g a = ring (values (g ∷ a ∷ []) []) (Rattle.staat_vec.proofs.VecRing.crossE v0 v1).z (detE v0 v1 (record { x = num (pos 0); y = num (pos 0); z = num (pos 1) })) tt
 
 module _ (planes : List V3) (c : ℕ) (g axis : V3) (hs rest : List V3) (rules : AreTablePlanes planes) (gi : slice_get planes c ≡ Some g) (ai : slice_get planes (axis_beside c) ≡ Some axis)
-    (ahead : AreAhead planes g axis (length planes) hs) (of : IsHalfOf g hs rest) where
+    (ahead : AreTurnedAhead planes g axis (length planes) hs) (of : IsHalfOf g hs rest) where
   flat : cross g axis ≢ origin
   flat = rules.apart c (axis_beside c) g axis gi ai (λ e. axis_differs c (sym e))
 
@@ -133,8 +133,8 @@ module _ (planes : List V3) (c : ℕ) (g axis : V3) (hs rest : List V3) (rules :
   rise : Rattle.staat_ring.specs.Order.RiseFrom g axis rest
   rise = of.rises axis gg (λ h ch. (ahead.each h ch).ahead)
 
-  met : (j : ℕ) → j < length planes → IsMet g (axis ∷ rest) (plane_at planes j)
-  met j lt = ⊎_elim {C = IsMet g (axis ∷ rest) (plane_at planes j)}
+  met : (j : ℕ) → j < length planes → IsCrossedAt g (axis ∷ rest) (plane_at planes j)
+  met j lt = ⊎_elim {C = IsCrossedAt g (axis ∷ rest) (plane_at planes j)}
       (λ z. record { place = 0; within = omega arith; flat = z })
       (λ p. let r = of.each (facet_by p.turned (plane_at planes j)) p.listed in
       let (k, l, e) = r.listed in
@@ -192,7 +192,7 @@ negative_ahead g a b h = let e = det_negative g a b in turned (det g a b) (det g
     turned : (x y : ℤ) → y ≡ neg_ℤ x → x <ℤ pos 0 → pos 0 <ℤ y
     turned x y e h = omega (arith, ints)
 
-pub half_circle_told : (planes : List V3) (c a : ℕ) (g axis : V3) (hs rest half : List V3) → AreTablePlanes planes → slice_get planes c ≡ Some g → slice_get planes a ≡ Some axis → a ≡ axis_beside c → AreAhead planes g axis (length planes) hs → IsHalfOf g hs rest → half ≡ axis ∷ rest
+pub half_circle_told : (planes : List V3) (c a : ℕ) (g axis : V3) (hs rest half : List V3) → AreTablePlanes planes → slice_get planes c ≡ Some g → slice_get planes a ≡ Some axis → a ≡ axis_beside c → AreTurnedAhead planes g axis (length planes) hs → IsHalfOf g hs rest → half ≡ axis ∷ rest
     → (h b : V3) → slice_get planes c ≡ Some h → slice_get planes (axis_beside c) ≡ Some b → IsHalfCircle planes c h b half
 half_circle_told planes c a g axis hs rest half rules gi ai ea ahead of e h b hi bi =
     let at : slice_get planes (axis_beside c) ≡ Some axis = subst (λ k. slice_get planes k ≡ Some axis) ea ai in
@@ -201,7 +201,7 @@ half_circle_told planes c a g axis hs rest half rules gi ai ea ahead of e h b hi
 pub det_back : (g a b : V3) → det g a b ≡ pos 0 -ℤ det g b a
 det_back g a b = ring (values (g ∷ a ∷ b ∷ []) []) (detE v0 v1 v2) (num (pos 0) ⊖ detE v0 v2 v1) tt
 
-pub ahead_same : (planes : List V3) (g axis : V3) (n : ℕ) (hs new : List V3) → ((h : V3) → Contains new h ↔ Contains hs h) → AreAhead planes g axis n hs → AreAhead planes g axis n new
+pub ahead_same : (planes : List V3) (g axis : V3) (n : ℕ) (hs new : List V3) → ((h : V3) → Contains new h ↔ Contains hs h) → AreTurnedAhead planes g axis n hs → AreTurnedAhead planes g axis n new
 ahead_same planes g axis n hs new same a = record {
   small = All-from_members (IsWithin NORMAL) new (λ x c. All-contains (IsWithin NORMAL) hs x a.small ((same x).0 c));
   each = λ x c. a.each x ((same x).0 c);

@@ -9,15 +9,15 @@ use Rattle.staat_vec.specs.Vectors.{origin}
 use Rattle.staat_vec.proofs.Unique.{Contains-front}
 use Rattle.staat_model.proofs.Members.{All-from_members}
 use Rattle.staat_ring.proofs.Mapped.{same_or}
-use Rattle.staat_ring.specs.Builds.{AreNumbers}
+use Rattle.staat_ring.specs.Builds.{AreKeysBelow}
 use Rattle.staat_ring.specs.Order.{normal_at}
 use Rattle.staat_ring.proofs.Mapped.{from_map, in_map}
 
-pub numbers_none : AreNumbers 0 []
+pub numbers_none : AreKeysBelow 0 []
 numbers_none = record { within = All-nil (λ (k : ℤ × ℕ). k.1 < 0); each = λ i lt. absurd (omega (arith, lt)) }
 
-pub numbers_more : (n : ℕ) (key : ℤ) (keys new : List (ℤ × ℕ)) → new ≡ keys ++ (key, n) ∷ [] → AreNumbers n keys → AreNumbers (n + 1) new
-numbers_more n key keys new e a = subst (λ (v : List (ℤ × ℕ)). AreNumbers (n + 1) v) (sym e) (record {
+pub numbers_more : (n : ℕ) (key : ℤ) (keys new : List (ℤ × ℕ)) → new ≡ keys ++ (key, n) ∷ [] → AreKeysBelow n keys → AreKeysBelow (n + 1) new
+numbers_more n key keys new e a = subst (λ (v : List (ℤ × ℕ)). AreKeysBelow (n + 1) v) (sym e) (record {
   within = All-from_members (λ (k : ℤ × ℕ). k.1 < n + 1) (keys ++ (key, n) ∷ []) (λ x c. ⊎_elim {C = x.1 < n + 1}
       (λ d. let l = All-contains (λ (k : ℤ × ℕ). k.1 < n) keys x a.within d in omega (arith, l))
       (λ q. let z = ap (λ (k : ℤ × ℕ). k.1) q in omega (arith, z))
@@ -28,10 +28,10 @@ numbers_more n key keys new e a = subst (λ (v : List (ℤ × ℕ)). AreNumbers 
       (same_or i n);
 })
 
-pub picks_within : (hs : List V3) (keys order : List (ℤ × ℕ)) → AreNumbers (length hs) keys → IsPermutation keys order → All (λ (k : ℤ × ℕ). k.1 < length hs) order
+pub picks_within : (hs : List V3) (keys order : List (ℤ × ℕ)) → AreKeysBelow (length hs) keys → IsPermutation keys order → All (λ (k : ℤ × ℕ). k.1 < length hs) order
 picks_within hs keys order a p = All-from_members (λ (k : ℤ × ℕ). k.1 < length hs) order (λ x c. All-contains (λ (k : ℤ × ℕ). k.1 < length hs) keys x a.within (Contains-permutation order keys x (IsPermutation-sym keys order p) c))
 
-pub picks_same : (hs new : List V3) (keys order : List (ℤ × ℕ)) → AreNumbers (length hs) keys → IsPermutation keys order → new ≡ map (λ (k : ℤ × ℕ). normal_at hs k.1) order → (h : V3) → Contains new h ↔ Contains hs h
+pub picks_same : (hs new : List V3) (keys order : List (ℤ × ℕ)) → AreKeysBelow (length hs) keys → IsPermutation keys order → new ≡ map (λ (k : ℤ × ℕ). normal_at hs k.1) order → (h : V3) → Contains new h ↔ Contains hs h
 picks_same hs new keys order a p e h = (
   λ c. let (x, cx, ex) = from_map (λ (k : ℤ × ℕ). normal_at hs k.1) order h (subst (λ (v : List V3). Contains v h) e c) in
       let l = All-contains (λ (k : ℤ × ℕ). k.1 < length hs) order x (picks_within hs keys order a p) cx in

@@ -8,7 +8,7 @@ use Rattle.staat_model.proofs.GraphLemmas.{from_slice_get}
 use Rattle.staat_ring.specs.declared.entry.Entry.{Entry}
 use Rattle.staat_ring.specs.Numbered.{HasEntry, head_number, node_number}
 use Rattle.staat_ring.specs.Rings.{IsRingOf, Ring, RingStop, crossing, entry_number, stop_of, vertex_of}
-use Rattle.staat_ring.specs.RingViews.{entry_of, shape}
+use Rattle.staat_ring.specs.RingViews.{entry_numbered, shape}
 use Rattle.staat_ring.proofs.Mapped.{differ}
 use Rattle.staat_ring.proofs.Numbers.{circle_of_number, circle_of_vertex, number_once, number_small}
 use Rattle.staat_ring.proofs.SoundLemmas.{plane_of_entry}
@@ -38,7 +38,7 @@ pub entry_circle : (n c : ℕ) (e : Entry) → c < n → e.plane < n → (shape 
 entry_circle n c e lc le = circle_of_number n c e.plane (bit e.turned) lc le (bit_small e.turned)
 
 -- the entry that a number tells
-pub entry_back : (n c : ℕ) (e : Entry) → e.plane < n → entry_of n (entry_number n c e) ≡ e
+pub entry_back : (n c : ℕ) (e : Entry) → e.plane < n → entry_numbered n (entry_number n c e) ≡ e
 entry_back n c e le = λ i. record { plane = plane_of_entry n e.plane c (bit e.turned) le (bit_small e.turned) i; turned = odd e.turned i }
   where
     rest : (x s : ℕ) → s < 2 → (2 * x + s) % 2 ≡ s

@@ -3,9 +3,9 @@ use Rattle.std.proofs.Common.{◌≡◌, ℕ, zero, suc, ◌<◌, refl, sym, ap,
 use Rattle.std.specs.List.{filter}
 use Rattle.std.specs.Prelude.{◌==◌}
 use Rattle.std.proofs.lemmas.Bool.Decides.{nat_tests}
-use Rattle.staat_ring.specs.Stands.{Lists, is_empty, lists_without_plane}
+use Rattle.staat_ring.specs.Stands.{RingLists, is_empty, lists_without_plane}
 use Rattle.staat_ring.specs.Views.{AreSame}
-use Rattle.staat_ring.specs.RingViews.{shape, plane_of, entry_of, listed, below, ring_of, rings_of}
+use Rattle.staat_ring.specs.RingViews.{shape, plane_of, entry_numbered, is_out, numbers_below, ring_of, rings_of}
 use Rattle.staat_ring.specs.declared.entry.Entry.{Entry}
 use Rattle.staat_ring.specs.Rings.{RingStop}
 use Rattle.staat_ring.specs.Without.{has_some, other_than, stays, stop_without, ring_without, rings_without}
@@ -36,13 +36,13 @@ filter_twice p q (x ∷ xs) = step (p x) (filter_twice p q xs)
     step true ih = ap (λ r. cond (q x) (x ∷ r) r) ih
     step false ih = ih
 
-pub listed-push : (out : List ℕ) (p c : ℕ) → not (listed (out ++ p ∷ []) c) ≡ (not (listed out c) && not (p == c))
+pub listed-push : (out : List ℕ) (p c : ℕ) → not (is_out (out ++ p ∷ []) c) ≡ (not (is_out out c) && not (p == c))
 listed-push [] p c = flat (p == c)
   where
     flat : (b : Bool) → not (b || false) ≡ not b
     flat true = refl
     flat false = refl
-listed-push (q ∷ out) p c = step (q == c) (listed (out ++ p ∷ []) c) (listed out c) (p == c) (listed-push out p c)
+listed-push (q ∷ out) p c = step (q == c) (is_out (out ++ p ∷ []) c) (is_out out c) (p == c) (listed-push out p c)
   where
     step : (a b d e : Bool) → not b ≡ (not d && not e) → not (a || b) ≡ (not (a || d) && not e)
     step true b d e h = refl
@@ -60,24 +60,24 @@ map_same f g [] h = refl
 map_same f g (x ∷ xs) h = λ i. h x (zero, omega arith, refl) i ∷ map_same f g xs (λ y c. h y (suc c.0, omega (arith, c.1), c.2)) i
 
 -- one ring without the plane
-module _ (n p : ℕ) (l : Lists) (c : ℕ) where
+module _ (n p : ℕ) (l : RingLists) (c : ℕ) where
   abbrev left : ℕ → List ℕ
   left v = filter (λ e. not (plane_of n e == p)) (l.entries v)
 
   abbrev stop : ℕ → RingStop
-  stop v = record { node = v; entries = map (entry_of n) (l.entries v) }
+  stop v = record { node = v; entries = map (entry_numbered n) (l.entries v) }
 
   abbrev stop_left : ℕ → RingStop
-  stop_left v = record { node = v; entries = map (entry_of n) (left v) }
+  stop_left v = record { node = v; entries = map (entry_numbered n) (left v) }
 
   abbrev kept : List ℕ
   kept = filter (λ v. not (is_empty (left v))) (l.vertices c)
 
-  entries : (v : ℕ) → filter (other_than p) (map (entry_of n) (l.entries v)) ≡ map (entry_of n) (left v)
-  entries v = map_filter (entry_of n) (other_than p) (l.entries v)
+  entries : (v : ℕ) → filter (other_than p) (map (entry_numbered n) (l.entries v)) ≡ map (entry_numbered n) (left v)
+  entries v = map_filter (entry_numbered n) (other_than p) (l.entries v)
 
   stays_is : (v : ℕ) → stays p (stop v) ≡ not (is_empty (left v))
-  stays_is v = ap has_some (entries v) ∙ some_map (entry_of n) (left v)
+  stays_is v = ap has_some (entries v) ∙ some_map (entry_numbered n) (left v)
 
   stop_is : (v : ℕ) → stop_without p (stop v) ≡ stop_left v
   stop_is v = λ i. record { node = v; entries = entries v i }
@@ -92,22 +92,22 @@ module _ (n p : ℕ) (l : Lists) (c : ℕ) where
   ring-without : ring_of n (lists_without_plane (plane_of n) p l) c ≡ ring_without p (ring_of n l c)
   ring-without = λ i. record { plane = c; stops = sym stops i }
 
-pub rings-without : (n p : ℕ) (out : List ℕ) (l : Lists) → rings_of n (out ++ p ∷ []) (lists_without_plane (plane_of n) p l) ≡ rings_without p (rings_of n out l)
+pub rings-without : (n p : ℕ) (out : List ℕ) (l : RingLists) → rings_of n (out ++ p ∷ []) (lists_without_plane (plane_of n) p l) ≡ rings_without p (rings_of n out l)
 rings-without n p out l =
     ap (λ cs. map (ring_of n (lists_without_plane (plane_of n) p l)) cs) planes
-    ∙ (map_same (ring_of n (lists_without_plane (plane_of n) p l)) (λ c. ring_without p (ring_of n l c)) (filter (λ c. not (c == p)) (filter (λ c. not (listed out c)) (below n))) (λ c _. ring-without n p l c)
-    ∙ (sym (map_twice (ring_of n l) (ring_without p) (filter (λ c. not (c == p)) (filter (λ c. not (listed out c)) (below n))))
-    ∙ ap (map (ring_without p)) (sym (map_filter (ring_of n l) (λ r. not (r.plane == p)) (filter (λ c. not (listed out c)) (below n))))))
+    ∙ (map_same (ring_of n (lists_without_plane (plane_of n) p l)) (λ c. ring_without p (ring_of n l c)) (filter (λ c. not (c == p)) (filter (λ c. not (is_out out c)) (numbers_below n))) (λ c _. ring-without n p l c)
+    ∙ (sym (map_twice (ring_of n l) (ring_without p) (filter (λ c. not (c == p)) (filter (λ c. not (is_out out c)) (numbers_below n))))
+    ∙ ap (map (ring_without p)) (sym (map_filter (ring_of n l) (λ r. not (r.plane == p)) (filter (λ c. not (is_out out c)) (numbers_below n))))))
   where
-    planes : filter (λ c. not (listed (out ++ p ∷ []) c)) (below n) ≡ filter (λ c. not (c == p)) (filter (λ c. not (listed out c)) (below n))
+    planes : filter (λ c. not (is_out (out ++ p ∷ []) c)) (numbers_below n) ≡ filter (λ c. not (c == p)) (filter (λ c. not (is_out out c)) (numbers_below n))
     planes =
-        filter_by (λ c. not (listed (out ++ p ∷ []) c)) (λ c. not (listed out c) && not (c == p)) (below n) (λ c. listed-push out p c ∙ ap (λ b. not (listed out c) && not b) (eqb_turned p c))
-        ∙ sym (filter_twice (λ c. not (listed out c)) (λ c. not (c == p)) (below n))
+        filter_by (λ c. not (is_out (out ++ p ∷ []) c)) (λ c. not (is_out out c) && not (c == p)) (numbers_below n) (λ c. listed-push out p c ∙ ap (λ b. not (is_out out c) && not b) (eqb_turned p c))
+        ∙ sym (filter_twice (λ c. not (is_out out c)) (λ c. not (c == p)) (numbers_below n))
 
 -- lists that agree give the same rings
-pub below_small : (n c : ℕ) → Contains (below n) c → c < n
+pub below_small : (n c : ℕ) → Contains (numbers_below n) c → c < n
 below_small zero c (k, lt, e) = absurd (omega arith)
-below_small (suc n) c h = go (below n) (below_small n c) h
+below_small (suc n) c h = go (numbers_below n) (below_small n c) h
   where
     go : (xs : List ℕ) → (Contains xs c → c < n) → Contains (xs ++ n ∷ []) c → c < suc n
     go [] ih (zero, lt, e) = omega arith
@@ -124,13 +124,13 @@ filter_inside test (x ∷ xs) v c = go (test x) (filter_inside test xs v) c
     go true ih (zero, lt, q) = (zero, omega arith, q)
     go true ih (suc k, lt, q) = let r = ih (k, omega arith, q) in (suc r.0, omega (arith, r.1), r.2)
 
-pub rings-same : (n : ℕ) (out : List ℕ) (l m : Lists) → AreSame (shape n) l m → rings_of n out l ≡ rings_of n out m
-rings-same n out l m s = map_same (ring_of n l) (ring_of n m) (filter (λ c. not (listed out c)) (below n))
-    (λ c cc'. let hc = below_small n c (filter_inside (λ c. not (listed out c)) (below n) c cc') in
+pub rings-same : (n : ℕ) (out : List ℕ) (l m : RingLists) → AreSame (shape n) l m → rings_of n out l ≡ rings_of n out m
+rings-same n out l m s = map_same (ring_of n l) (ring_of n m) (filter (λ c. not (is_out out c)) (numbers_below n))
+    (λ c cc'. let hc = below_small n c (filter_inside (λ c. not (is_out out c)) (numbers_below n) c cc') in
     (λ i. record { plane = c; stops = stops c hc i }))
   where
-    stops : (c : ℕ) → c < n → map {B = RingStop} (λ v. record { node = v; entries = map (entry_of n) (l.entries v) }) (l.vertices c) ≡ map {B = RingStop} (λ v. record { node = v; entries = map (entry_of n) (m.entries v) }) (m.vertices c)
+    stops : (c : ℕ) → c < n → map {B = RingStop} (λ v. record { node = v; entries = map (entry_numbered n) (l.entries v) }) (l.vertices c) ≡ map {B = RingStop} (λ v. record { node = v; entries = map (entry_numbered n) (m.entries v) }) (m.vertices c)
     stops c hc =
-        map_same (λ v. record { node = v; entries = map (entry_of n) (l.entries v) }) (λ v. record { node = v; entries = map (entry_of n) (m.entries v) }) (l.vertices c)
-        (λ v cv. ap (λ es. record { node = v; entries = map (entry_of n) es }) (s.entries c v hc cv))
-        ∙ ap (λ vs. map {B = RingStop} (λ v. record { node = v; entries = map (entry_of n) (m.entries v) }) vs) (s.vertices c hc)
+        map_same (λ v. record { node = v; entries = map (entry_numbered n) (l.entries v) }) (λ v. record { node = v; entries = map (entry_numbered n) (m.entries v) }) (l.vertices c)
+        (λ v cv. ap (λ es. record { node = v; entries = map (entry_numbered n) es }) (s.entries c v hc cv))
+        ∙ ap (λ vs. map {B = RingStop} (λ v. record { node = v; entries = map (entry_numbered n) (m.entries v) }) vs) (s.vertices c hc)

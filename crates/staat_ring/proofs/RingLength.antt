@@ -5,9 +5,9 @@ use Rattle.std.proofs.lemmas.Bool.Decides.{nat_tests}
 use Rattle.std.specs.List.{filter}
 use Rattle.std.proofs.lemmas.List.{get_or_append_left, get_or_push, length-map}
 use Rattle.staat_model.proofs.Members.{All-from_members}
-use Rattle.staat_ring.specs.Links.{Arrays, Chain, Links, Ring}
+use Rattle.staat_ring.specs.Links.{Arrays, Chain, Links, IsLinkedRing}
 use Rattle.staat_ring.specs.RingInvariant.{AreKept}
-use Rattle.staat_ring.specs.RingViews.{IsGood, arrangement_of, below, entry_of, listed, ring_of, shape, still_linked}
+use Rattle.staat_ring.specs.RingViews.{StandForCircles, arrangement_of, numbers_below, entry_numbered, is_out, ring_of, shape, still_linked}
 use Rattle.staat_ring.specs.Rings.{Arrangement, RingStop, linked_of}
 use Rattle.staat_ring.specs.Rings as rings
 use Rattle.staat_ring.specs.Stands.{IsRing, IsShortRing}
@@ -32,7 +32,7 @@ pub record IsAtPlace (head : ℕ) (xs : List ℕ) (node k : ℕ) : Type 0 where
   pub within : k ≤ length xs
   pub is : node ≡ get_or (xs ++ head ∷ []) k 0
 
-pub at_start : (s : Links) (head : ℕ) (xs : List ℕ) → Ring s head xs → IsAtPlace head xs (get_or s.next head 0) 0
+pub at_start : (s : Links) (head : ℕ) (xs : List ℕ) → IsLinkedRing s head xs → IsAtPlace head xs (get_or s.next head 0) 0
 at_start s head xs r = record { within = omega arith; is = chain_step s head xs head 0 r (omega arith) }
 
 before_end : (head : ℕ) (xs : List ℕ) (k : ℕ) → k < length xs → get_or (xs ++ head ∷ []) k 0 ≡ get_or xs k 0
@@ -69,24 +69,24 @@ node_within s head xs node k short at = ⊎_elim {C = node < length s.next}
 
 -- ---- what is out
 
-pub listed_in : (out : List ℕ) (p : ℕ) → Contains out p → listed out p ≡ true
+pub listed_in : (out : List ℕ) (p : ℕ) → Contains out p → is_out out p ≡ true
 listed_in [] p (k, lt, e) = absurd (omega (arith, lt))
 listed_in (q ∷ out) p (zero, lt, e) = first (q == p) (eq-eqb q p e)
   where
-    first : (b : Bool) → b ≡ true → (b || listed out p) ≡ true
+    first : (b : Bool) → b ≡ true → (b || is_out out p) ≡ true
     first true e = refl
     first false e = cc
 listed_in (q ∷ out) p (suc k, lt, e) = later (q == p) (listed_in out p (k, omega (arith, lt), e))
   where
-    later : (b : Bool) → listed out p ≡ true → (b || listed out p) ≡ true
+    later : (b : Bool) → is_out out p ≡ true → (b || is_out out p) ≡ true
     later true e = refl
     later false e = e
 
-unlisted : (out : List ℕ) (p : ℕ) → (Contains out p → ⊥) → listed out p ≡ false
+unlisted : (out : List ℕ) (p : ℕ) → (Contains out p → ⊥) → is_out out p ≡ false
 unlisted [] p absent = refl
 unlisted (q ∷ out) p absent = both (q == p) (differ q p (λ e. absent (zero, omega arith, e))) (unlisted out p (λ c. absent (suc c.0, omega (arith, c.1), c.2)))
   where
-    both : (b : Bool) → b ≡ false → listed out p ≡ false → (b || listed out p) ≡ false
+    both : (b : Bool) → b ≡ false → is_out out p ≡ false → (b || is_out out p) ≡ false
     both true e f = cc
     both false e f = f
 
@@ -115,13 +115,13 @@ module _ (n count : ℕ) (order : List ℕ) (a : Arrays) (now : Arrangement) (vi
   abbrev out : List ℕ
   out = take count order
 
-  good : IsGood n out a
+  good : StandForCircles n out a
   good = sound_is_good n out a is.sound
 
   ring_there : (r : rings.Ring) → Contains now.rings r → (c : ℕ) × (c < n) × (ring_of n (lists_of (shape n) a) c ≡ r)
   ring_there r cr =
-      let (c, cc', q) = from_map (ring_of n (lists_of (shape n) a)) (filter (λ c. not (listed out c)) (below n)) r (subst (λ (v : Arrangement). Contains v.rings r) (sym view) cr) in
-      (c, below_small n c (filter_inside (λ c. not (listed out c)) (below n) c cc').0, q)
+      let (c, cc', q) = from_map (ring_of n (lists_of (shape n) a)) (filter (λ c. not (is_out out c)) (numbers_below n)) r (subst (λ (v : Arrangement). Contains v.rings r) (sym view) cr) in
+      (c, below_small n c (filter_inside (λ c. not (is_out out c)) (numbers_below n) c cc').0, q)
 
   pub linked_small : (c : ℕ) → Contains (linked_of now.rings) c → c < n
   linked_small c cc' =
@@ -152,17 +152,17 @@ module _ (n count : ℕ) (order : List ℕ) (a : Arrays) (now : Arrangement) (vi
       let (d, ld, q) = ring_there r cr in
       let same : d ≡ c = ap (λ (r : rings.Ring). r.plane) q ∙ e in
       ap (λ k. length ((lists_of (shape n) a).vertices k)) (sym same)
-      ∙ (sym (length-map ((lists_of (shape n) a).vertices d) (λ v. record { node = v; entries = map (entry_of n) ((lists_of (shape n) a).entries v) })) ∙ ap (λ (r : rings.Ring). length r.stops) q)
+      ∙ (sym (length-map ((lists_of (shape n) a).vertices d) (λ v. record { node = v; entries = map (entry_numbered n) ((lists_of (shape n) a).entries v) })) ∙ ap (λ (r : rings.Ring). length r.stops) q)
 
   linked_are : linked_of now.rings ≡ still_linked n out
   linked_are = ap (λ (v : Arrangement). linked_of v.rings) (sym view) ∙ planes_of_rings n out (lists_of (shape n) a)
 
   -- a plane is linked if it is not out
   pub linked_if : (p : ℕ) → p < n → (Contains out p → ⊥) → Contains (linked_of now.rings) p
-  linked_if p lp absent = subst (λ ks. Contains ks p) (sym linked_are) (filter_in (λ c. not (listed out c)) (below n) p (below_all n p lp) (ap not (unlisted out p absent)))
+  linked_if p lp absent = subst (λ ks. Contains ks p) (sym linked_are) (filter_in (λ c. not (is_out out c)) (numbers_below n) p (below_all n p lp) (ap not (unlisted out p absent)))
 
   pub linked_then : (p : ℕ) → Contains (linked_of now.rings) p → (p < n) × (Contains out p → ⊥)
-  linked_then p c = let (lp, e) = linked_plane n out p (subst (λ ks. Contains ks p) linked_are c) in (lp, λ o. not_both (listed out p) e (listed_in out p o))
+  linked_then p c = let (lp, e) = linked_plane n out p (subst (λ ks. Contains ks p) linked_are c) in (lp, λ o. not_both (is_out out p) e (listed_in out p o))
     where
       not_both : (b : Bool) → b ≡ false → b ≡ true → ⊥
       not_both true e f = cc

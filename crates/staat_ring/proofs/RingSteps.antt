@@ -7,9 +7,9 @@ use Rattle.std.proofs.Math.ListN.{length-set}
 use Rattle.staat_ring.specs.Links.{Arrays, take_all, give_all}
 use Rattle.staat_ring.specs.Planes.{entries_of}
 use Rattle.staat_ring.specs.Views.{kept_of}
-use Rattle.staat_ring.specs.RingViews.{rings_at, rings_of, undo, arrangement_of, IsSound, still_linked, shape}
+use Rattle.staat_ring.specs.RingViews.{rings_at, rings_of, undo, arrangement_of, CanBeUndone, still_linked, shape}
 use Rattle.staat_ring.specs.Rings.{Arrangement, Kept, Ring}
-use Rattle.staat_ring.specs.Without.{IsRelinked, IsUnlinked, kept, rings_without}
+use Rattle.staat_ring.specs.Without.{IsRelinked, IsUnlinked, kept_plane, rings_without}
 use Rattle.staat_ring.specs.Views.{lists_of}
 use Rattle.staat_ring.specs.RingInvariant.{AreKept}
 use Rattle.staat_ring.proofs.ViewLemmas.{kept-push}
@@ -86,7 +86,7 @@ module _ (n count : ℕ) (order : List ℕ) (a b : Arrays) (v : Arrangement) (p 
           | inl q ↦ subst (λ x. x < n) (sym (get_or-set_at order count j p 0 q room)) l.0
           | inr q ↦ subst (λ x. x < n) (sym (get_or-set_other order count j p 0 q)) (k.planes j (omega arith))
         ];
-        sound = subst (λ o. IsSound n o b) (sym (order_push count order p room))
+        sound = subst (λ o. CanBeUndone n o b) (sym (order_push count order p room))
             (sound-push n p (take count order) a b back
             (subst (λ x. Rattle.staat_ring.specs.RingViews.IsGood n (take count order ++ p ∷ []) x) (sym is) (good-unlink n p (take count order) a l.0 l.1 (sound_is_good n (take count order) a k.sound))) k.sound);
       }
@@ -112,7 +112,7 @@ not_nil [] x e = cc
 not_nil (y ∷ xs) x e = cc
 
 module _ (n count : ℕ) (order : List ℕ) (a : Arrays) (v : Arrangement) (p : ℕ) (k : AreKept n count order a) (e : arrangement_of n (take count order) a ≡ v)
-    (u : List (Kept (List Ring))) (before : List Ring) (last : v.unlinked ≡ u ++ kept p before ∷ []) where
+    (u : List (Kept (List Ring))) (before : List Ring) (last : v.unlinked ≡ u ++ kept_plane p before ∷ []) where
   pub some : 0 < count
   some = go count refl
     where
@@ -162,6 +162,6 @@ module _ (n count : ℕ) (order : List ℕ) (a : Arrays) (v : Arrangement) (p : 
         most = omega arith;
         all = λ j le. k.all j (omega arith);
         planes = λ j lt. k.planes j (omega arith);
-        sound = subst (λ x. IsSound n (take (count - 1) order) x) (sym is)
-            (sound-pop n p (take (count - 1) order) a (subst (λ o. IsSound n o a) (split_order ∙ ap (λ q. take (count - 1) order ++ q ∷ []) is_last) k.sound));
+        sound = subst (λ x. CanBeUndone n (take (count - 1) order) x) (sym is)
+            (sound-pop n p (take (count - 1) order) a (subst (λ o. CanBeUndone n o a) (split_order ∙ ap (λ q. take (count - 1) order ++ q ∷ []) is_last) k.sound));
       }

@@ -3,7 +3,7 @@ use Rattle.std.proofs.Common.{◌≡◌, ◌≢◌, ◌⊎◌, inl, inr, ⊎_eli
 use Rattle.std.proofs.Math.ListN.{length-set}
 use Rattle.std.proofs.lemmas.List.{get_or_default}
 use Rattle.std.proofs.lemmas.List.Elements.{All-contains}
-use Rattle.staat_ring.specs.Links.{Apart, Chain, Distinct, Links, Ring, append, last_of}
+use Rattle.staat_ring.specs.Links.{Apart, Chain, Distinct, Links, IsLinkedRing, append, last_of}
 use Rattle.staat_ring.specs.Linking.{AreLinked, AreRows, IsSameAt}
 use Rattle.staat_ring.specs.Rows.{Row, all_of, no_row, row_at}
 use Rattle.staat_ring.proofs.Appending.{apart_last, kept, prev_last, ring-append}
@@ -40,7 +40,7 @@ last_in a (x ∷ xs) = let r = last_in x xs in (suc r.0, omega (arith, r.1), r.2
 
 -- ---- one node more
 
-same_append : (s : Links) (h x : ℕ) (xs : List ℕ) → Ring s h xs → (y : ℕ) → Apart y (h ∷ xs ++ x ∷ []) → IsSameAt s (append h x s) y
+same_append : (s : Links) (h x : ℕ) (xs : List ℕ) → IsLinkedRing s h xs → (y : ℕ) → Apart y (h ∷ xs ++ x ∷ []) → IsSameAt s (append h x s) y
 same_append s h x xs ring y a =
     let f = apart_front y x xs a.1 in
     record {
@@ -50,12 +50,12 @@ same_append s h x xs ring y a =
 
 -- so far: the ring goes over the nodes done, and the words of others are as at first
 pub record IsPartly (first s : Links) (h : ℕ) (done : List ℕ) : Type 0 where
-  pub ring : Ring s h done
+  pub ring : IsLinkedRing s h done
   pub others : (y : ℕ) → Apart y (h ∷ done) → IsSameAt first s y
   pub size : length s.next ≡ length first.next
   pub same : length s.prev ≡ length s.next
 
-pub partly_none : (s : Links) (h : ℕ) → Ring s h [] → length s.prev ≡ length s.next → IsPartly s s h []
+pub partly_none : (s : Links) (h : ℕ) → IsLinkedRing s h [] → length s.prev ≡ length s.next → IsPartly s s h []
 partly_none s h r e = record { ring = r; others = λ y a. record { next = refl; prev = refl }; size = refl; same = e }
 
 pub partly_more : (first s new : Links) (h x : ℕ) (done more : List ℕ) → new ≡ append h x s → more ≡ done ++ x ∷ [] → h < length s.next → x < length s.next → All (λ y. y < length s.next) done → Distinct (h ∷ done) → Apart x (h ∷ done)
@@ -91,7 +91,7 @@ chain_same s t a (x ∷ xs) b same c = (
     further y (zero, lt, e) = (zero, omega arith, e)
     further y (suc k, lt, e) = (suc (suc k), omega arith, e)
 
-pub ring_same : (s t : Links) (h : ℕ) (xs : List ℕ) → ((y : ℕ) → Contains (h ∷ xs) y → IsSameAt s t y) → Ring s h xs → Ring t h xs
+pub ring_same : (s t : Links) (h : ℕ) (xs : List ℕ) → ((y : ℕ) → Contains (h ∷ xs) y → IsSameAt s t y) → IsLinkedRing s h xs → IsLinkedRing t h xs
 ring_same s t h xs same c = chain_same s t h xs h (λ y cy. same y (once y cy)) c
   where
     once : (y : ℕ) → Contains (h ∷ h ∷ xs) y → Contains (h ∷ xs) y
@@ -102,10 +102,10 @@ head_in : (r : Row) (y : ℕ) → Contains (r.head ∷ []) y → Contains (all_o
 head_in r y (zero, lt, e) = (zero, omega arith, e)
 head_in r y (suc k, lt, e) = absurd (omega arith)
 
-pub linked_more : (s t : Links) (rows : List Row) (m n : ℕ) → m < length rows → AreRows n rows → Ring t (row_at rows m).head (row_at rows m).nodes → ((y : ℕ) → Apart y (all_of (row_at rows m)) → IsSameAt s t y) → AreLinked s rows m → AreLinked t rows (m + 1)
+pub linked_more : (s t : Links) (rows : List Row) (m n : ℕ) → m < length rows → AreRows n rows → IsLinkedRing t (row_at rows m).head (row_at rows m).nodes → ((y : ℕ) → Apart y (all_of (row_at rows m)) → IsSameAt s t y) → AreLinked s rows m → AreLinked t rows (m + 1)
 linked_more s t rows m n lm rules ring others l = record {
-  linked = λ k lt lk. ⊎_elim {C = Ring t (row_at rows k).head (row_at rows k).nodes}
-      (λ e. subst (λ i. Ring t (row_at rows i).head (row_at rows i).nodes) (sym e) ring)
+  linked = λ k lt lk. ⊎_elim {C = IsLinkedRing t (row_at rows k).head (row_at rows k).nodes}
+      (λ e. subst (λ i. IsLinkedRing t (row_at rows i).head (row_at rows i).nodes) (sym e) ring)
       (λ ne. ring_same s t (row_at rows k).head (row_at rows k).nodes (λ y cy. others y (rules.apart k m y lk lm ne cy)) (l.linked k (before k lt ne) lk))
       (same_or k m);
   alone = λ k no lk. ring_same s t (row_at rows k).head [] (λ y cy. others y (rules.apart k m y lk lm (λ e. no (below k e)) (head_in (row_at rows k) y cy))) (l.alone k (λ lt. no (further k lt)) lk);
@@ -126,5 +126,5 @@ linked_more s t rows m n lm rules ring others l = record {
     further : (k : ℕ) → k < m → k < m + 1
     further k lt = omega (arith, lt)
 
-pub linked_row : (s t : Links) (rows : List Row) (r : Row) (m n : ℕ) → m < length rows → row_at rows m ≡ r → AreRows n rows → Ring t r.head r.nodes → ((y : ℕ) → Apart y (all_of r) → IsSameAt s t y) → AreLinked s rows m → AreLinked t rows (m + 1)
-linked_row s t rows r m n lm e rules ring others l = linked_more s t rows m n lm rules (subst (λ (x : Row). Ring t x.head x.nodes) (sym e) ring) (λ y a. others y (subst (λ (x : Row). Apart y (all_of x)) e a)) l
+pub linked_row : (s t : Links) (rows : List Row) (r : Row) (m n : ℕ) → m < length rows → row_at rows m ≡ r → AreRows n rows → IsLinkedRing t r.head r.nodes → ((y : ℕ) → Apart y (all_of r) → IsSameAt s t y) → AreLinked s rows m → AreLinked t rows (m + 1)
+linked_row s t rows r m n lm e rules ring others l = linked_more s t rows m n lm rules (subst (λ (x : Row). IsLinkedRing t x.head x.nodes) (sym e) ring) (λ y a. others y (subst (λ (x : Row). Apart y (all_of x)) e a)) l

@@ -6,10 +6,10 @@ use Rattle.std.proofs.Math.Nat.{mul-add-mod_self_left, mod-eq_of_lt}
 use Rattle.std.proofs.Math.ListN.{length-set}
 use Rattle.std.proofs.lemmas.List.Elements.{Contains-append_cases}
 use Rattle.staat_ring.specs.Links.{Links, Arrays, Apart, Distinct, unlink, is_bare, take, take_all, CanTakeAll}
-use Rattle.staat_ring.specs.Stands.{Shape, Lists, Stands, is_empty, home_of, lists_without, lists_without_all, lists_without_plane, IsPresent, AllPresent}
+use Rattle.staat_ring.specs.Stands.{Shape, RingLists, StandFor, is_empty, home_of, lists_without, lists_without_all, lists_without_plane, IsPresent, AllPresent}
 use Rattle.staat_ring.specs.Planes.{entries_of, entries_on}
 use Rattle.staat_ring.specs.Views.{AreSame, lists_of}
-use Rattle.staat_ring.specs.RingViews.{shape, plane_of, listed, undo, rings_at, IsGood}
+use Rattle.staat_ring.specs.RingViews.{shape, plane_of, is_out, undo, rings_at, StandForCircles}
 use Rattle.staat_ring.specs.Without.{rings_without}
 use Rattle.staat_ring.proofs.Undo.{give_all-take_all}
 use Rattle.staat_ring.proofs.TwoLevels.{stands-take_all, present-after}
@@ -75,26 +75,26 @@ entries_distinct n p (suc k) h = distinct_append (entries_of n p k) (entries_on 
     (λ x y cx cy. let b = entries_below n p k x h cx in let t = two_cases n p k y cy in omega (arith, t.2))
 
 -- ---- presence
-present_all : (g : Shape) (es : List ℕ) (l : Lists) (a : Arrays) (f : ℕ) → Apart f es → IsPresent g l a f → IsPresent g (lists_without_all (home_of a) es l) (take_all es a) f
+present_all : (g : Shape) (es : List ℕ) (l : RingLists) (a : Arrays) (f : ℕ) → Apart f es → IsPresent g l a f → IsPresent g (lists_without_all (home_of a) es l) (take_all es a) f
 present_all g [] l a f d h = h
 present_all g (e ∷ es) l a f d h = present_all g es (lists_without (home_of a e) e l) (take e a) f d.1 (present-after g l a e f (λ q. d.0 (sym q)) h)
 
-each_present : (g : Shape) (es fs : List ℕ) (l : Lists) (a : Arrays) → ((f : ℕ) → Contains fs f → Apart f es) → AllPresent g l a fs → AllPresent g (lists_without_all (home_of a) es l) (take_all es a) fs
+each_present : (g : Shape) (es fs : List ℕ) (l : RingLists) (a : Arrays) → ((f : ℕ) → Contains fs f → Apart f es) → AllPresent g l a fs → AllPresent g (lists_without_all (home_of a) es l) (take_all es a) fs
 each_present g es [] l a d h = tt
 each_present g es (f ∷ fs) l a d h = (present_all g es l a f (d f (zero, omega arith, refl)) h.0, each_present g es fs l a (λ x c. d x (suc c.0, omega (arith, c.1), c.2)) h.1)
 
-present_same : (g : Shape) (l m : Lists) (a : Arrays) (f : ℕ) → AreSame g l m → IsPresent g l a f → IsPresent g m a f
+present_same : (g : Shape) (l m : RingLists) (a : Arrays) (f : ℕ) → AreSame g l m → IsPresent g l a f → IsPresent g m a f
 present_same g l m a f s h = record {
   circle = h.circle;
   vertex = subst (λ xs. Contains xs (home_of a f)) (s.vertices (g.circle (home_of a f)) h.circle) h.vertex;
   entry = subst (λ xs. Contains xs f) (s.entries (g.circle (home_of a f)) (home_of a f) h.circle h.vertex) h.entry;
 }
 
-each_same : (g : Shape) (l m : Lists) (a : Arrays) (fs : List ℕ) → AreSame g l m → AllPresent g l a fs → AllPresent g m a fs
+each_same : (g : Shape) (l m : RingLists) (a : Arrays) (fs : List ℕ) → AreSame g l m → AllPresent g l a fs → AllPresent g m a fs
 each_same g l m a [] s h = tt
 each_same g l m a (f ∷ fs) s h = (present_same g l m a f s h.0, each_same g l m a fs s h.1)
 
-pub same_trans : (g : Shape) (l m k : Lists) → AreSame g l m → AreSame g m k → AreSame g l k
+pub same_trans : (g : Shape) (l m k : RingLists) → AreSame g l m → AreSame g m k → AreSame g l k
 same_trans g l m k s t = record {
   vertices = λ c hc. s.vertices c hc ∙ t.vertices c hc;
   entries = λ c v hc cv. s.entries c v hc cv ∙ t.entries c v hc (subst (λ xs. Contains xs v) (s.vertices c hc) cv);
@@ -132,7 +132,7 @@ not_true : (b : Bool) → not b ≡ true → b ≡ false
 not_true true h = cc
 not_true false h = refl
 
-listed_apart : (out : List ℕ) (p q : ℕ) → listed (out ++ p ∷ []) q ≡ false → (listed out q ≡ false) × (q ≢ p)
+listed_apart : (out : List ℕ) (p q : ℕ) → is_out (out ++ p ∷ []) q ≡ false → (is_out out q ≡ false) × (q ≢ p)
 listed_apart [] p q h = (refl, λ e. last (p == q) (eq-eqb p q (sym e)) h)
   where
     last : (b : Bool) → b ≡ true → (b || false) ≡ false → ⊥
@@ -140,28 +140,28 @@ listed_apart [] p q h = (refl, λ e. last (p == q) (eq-eqb p q (sym e)) h)
     last false e f = cc
 listed_apart (x ∷ out) p q h = go (x == q) h (listed_apart out p q)
   where
-    go : (b : Bool) → (b || listed (out ++ p ∷ []) q) ≡ false → (listed (out ++ p ∷ []) q ≡ false → (listed out q ≡ false) × (q ≢ p)) → ((b || listed out q) ≡ false) × (q ≢ p)
+    go : (b : Bool) → (b || is_out (out ++ p ∷ []) q) ≡ false → (is_out (out ++ p ∷ []) q ≡ false → (is_out out q ≡ false) × (q ≢ p)) → ((b || is_out out q) ≡ false) × (q ≢ p)
     go true e ih = cc
     go false e ih = ih e
 
 -- ---- one plane is unlinked
-module _ (n p : ℕ) (out : List ℕ) (a : Arrays) (in' : p < n) (linked : listed out p ≡ false) (good : IsGood n out a) where
+module _ (n p : ℕ) (out : List ℕ) (a : Arrays) (in' : p < n) (linked : is_out out p ≡ false) (good : StandForCircles n out a) where
   abbrev es : List ℕ
   es = entries_of n p n
 
-  abbrev old : Lists
+  abbrev old : RingLists
   old = lists_of (shape n) a
 
-  abbrev mid : Lists
+  abbrev mid : RingLists
   mid = lists_without_all (home_of a) es old
 
-  abbrev cut : Lists
+  abbrev cut : RingLists
   cut = lists_without_plane (plane_of n) p old
 
-  abbrev new : Lists
+  abbrev new : RingLists
   new = lists_of (shape n) (take_all es a)
 
-  taken : CanTakeAll es a × Stands (shape n) mid (take_all es a)
+  taken : CanTakeAll es a × StandFor (shape n) mid (take_all es a)
   taken = stands-take_all (shape n) es old a good.stands (entries_distinct n p n in') (good.present p in' linked)
 
   pub undone : undo n p (take_all es a) ≡ a
@@ -203,7 +203,7 @@ module _ (n p : ℕ) (out : List ℕ) (a : Arrays) (in' : p < n) (linked : liste
   new_mid : (c v : ℕ) → c < n → Contains (new.vertices c) v → Contains (mid.vertices c) v
   new_mid c v hc cv = subst (λ xs. Contains xs v) (sym (mid_new.vertices c hc)) cv
 
-  pub good-unlink : IsGood n (out ++ p ∷ []) (take_all es a)
+  pub good-unlink : StandForCircles n (out ++ p ∷ []) (take_all es a)
   good-unlink = record {
     stands = stands_same (shape n) mid new (take_all es a) mid_new taken.1;
     full = λ c v hc cv.

@@ -6,7 +6,7 @@ use Rattle.std.proofs.lemmas.List.Elements.{All-contains}
 use Rattle.staat_model.proofs.Members.{All-from_members}
 use Rattle.staat_ring.specs.declared.entry.Entry.{Entry}
 use Rattle.staat_ring.specs.Builds.{slot_at}
-use Rattle.staat_ring.specs.Links.{Apart, Arrays, Distinct, Links, Ring}
+use Rattle.staat_ring.specs.Links.{Apart, Arrays, Distinct, Links, IsLinkedRing}
 use Rattle.staat_ring.specs.Linking.{AreHomedAt, AreLinked, AreRows, AreSized, AreStopsLinked, CanBeLinked, HoldsCircle, IsAlone, IsKeptAt, IsSameAt, rows_of}
 use Rattle.staat_ring.specs.Numbered.{head_number, node_number, vertex_row}
 use Rattle.staat_ring.specs.Rings.{entry_number}
@@ -44,7 +44,7 @@ module _ (n c : ℕ) (lc : c < n) (stops : List (List Entry)) (can : CanBeLinked
   -- ---- one more
 
   module _ (m : ℕ) (lm : m < length stops) (first s t : Links) (old now new : List ℕ) (so_far : AreStopsLinked n c stops m first s old now)
-      (ring : Ring t (node_number n c (slot m)) (map (entry_number n c) (slot m)))
+      (ring : IsLinkedRing t (node_number n c (slot m)) (map (entry_number n c) (slot m)))
       (others : (y : ℕ) → Apart y (all_of (row m)) → IsSameAt s t y) (length_same : length t.next ≡ length s.next)
       (homed : AreHomedAt now new (node_number n c (slot m)) (map (entry_number n c) (slot m)))
       (within : All (λ x. x < length now) new) where
@@ -90,15 +90,15 @@ module _ (n c : ℕ) (lc : c < n) (stops : List (List Entry)) (can : CanBeLinked
     pub stop_distinct : Distinct (v ∷ map (entry_number n c) es)
     stop_distinct = back (λ w xs. Distinct (w ∷ map (entry_number n c) xs)) (rules.row_distinct n c lc stops can m lm)
 
-    pub stop_alone : (first s : Links) (old now : List ℕ) → AreStopsLinked n c stops m first s old now → Ring s v []
-    stop_alone first s old now so_far = back (λ w xs. Ring s w [])
-        (subst (λ (r : Row). Ring s r.head []) (rules.row_is n c lc stops can m lm) (so_far.linked.alone m (λ q. absurd (omega (arith, q))) (subst (λ k. m < k) (sym (rules.rows_length n c lc stops can)) lm)))
+    pub stop_alone : (first s : Links) (old now : List ℕ) → AreStopsLinked n c stops m first s old now → IsLinkedRing s v []
+    stop_alone first s old now so_far = back (λ w xs. IsLinkedRing s w [])
+        (subst (λ (r : Row). IsLinkedRing s r.head []) (rules.row_is n c lc stops can m lm) (so_far.linked.alone m (λ q. absurd (omega (arith, q))) (subst (λ k. m < k) (sym (rules.rows_length n c lc stops can)) lm)))
 
-    pub stop_linked : (first s t : Links) (old now new : List ℕ) → AreStopsLinked n c stops m first s old now → Ring t v (map (entry_number n c) es)
+    pub stop_linked : (first s t : Links) (old now new : List ℕ) → AreStopsLinked n c stops m first s old now → IsLinkedRing t v (map (entry_number n c) es)
         → ((y : ℕ) → Apart y (v ∷ map (entry_number n c) es) → IsSameAt s t y) → length t.next ≡ length s.next
         → AreHomedAt now new v (map (entry_number n c) es) → All (λ x. x < length now) new → AreStopsLinked n c stops (m + 1) first t old new
     stop_linked first s t old now new so_far ring others size homed within = stops_more m lm first s t old now new so_far
-        (both (λ w xs. Ring t w (map (entry_number n c) xs)) ring) (both (λ w xs. (y : ℕ) → Apart y (w ∷ map (entry_number n c) xs) → IsSameAt s t y) others) size
+        (both (λ w xs. IsLinkedRing t w (map (entry_number n c) xs)) ring) (both (λ w xs. (y : ℕ) → Apart y (w ∷ map (entry_number n c) xs) → IsSameAt s t y) others) size
         (both (λ w xs. AreHomedAt now new w (map (entry_number n c) xs)) homed) within
 
   -- ---- the circle
@@ -120,18 +120,18 @@ module _ (n c : ℕ) (lc : c < n) (stops : List (List Entry)) (can : CanBeLinked
       let s = rules.number_within n c lc stops can k lk e ce in absurd (omega (arith, s, w, q, le)))
 
   -- before, each of its nodes stands alone
-  pub alone_rows : (s : Links) → ((y : ℕ) → y < 4 * (n * n) → (shape n).circle y ≡ c → Ring s y []) → AreLinked s (rows_of n c stops) 0
+  pub alone_rows : (s : Links) → ((y : ℕ) → y < 4 * (n * n) → (shape n).circle y ≡ c → IsLinkedRing s y []) → AreLinked s (rows_of n c stops) 0
   alone_rows s alone = record {
     linked = λ k lt lk. absurd (omega (arith, lt));
     alone = λ k no lk.
         let lk' : k < length stops = subst (λ m. k < m) (rules.rows_length n c lc stops can) lk in
-        subst (λ (r : Row). Ring s r.head []) (sym (rules.row_is n c lc stops can k lk'))
+        subst (λ (r : Row). IsLinkedRing s r.head []) (sym (rules.row_is n c lc stops can k lk'))
         (alone (node_number n c (slot k)) (rules.node_within n c lc stops can k lk') (rules.circle_of_node n c lc stops can k lk'));
   }
 
   -- the arrays before and after
   module _ (a b : Arrays) (sizes : AreSized n a)
-      (ring : Ring b.circles (head_number n c) (map (node_number n c) stops))
+      (ring : IsLinkedRing b.circles (head_number n c) (map (node_number n c) stops))
       (ring_others : (y : ℕ) → Apart y (head_number n c ∷ map (node_number n c) stops) → IsSameAt a.circles b.circles y)
       (ring_length : length b.circles.next ≡ length a.circles.next)
       (linked : AreStopsLinked n c stops (length stops) a.vertices b.vertices a.home b.home) where
@@ -143,7 +143,7 @@ module _ (n c : ℕ) (lc : c < n) (stops : List (List Entry)) (can : CanBeLinked
       circle = ring;
       vertices = λ k lk.
           let lk' : k < length (rows_of n c stops) = subst (λ m. k < m) (sym (rules.rows_length n c lc stops can)) lk in
-          subst (λ (r : Row). Ring b.vertices r.head r.nodes) (rules.row_is n c lc stops can k lk) (linked.linked.linked k lk lk');
+          subst (λ (r : Row). IsLinkedRing b.vertices r.head r.nodes) (rules.row_is n c lc stops can k lk) (linked.linked.linked k lk lk');
       homes = λ k lk. linked.homed k lk lk;
     }
 

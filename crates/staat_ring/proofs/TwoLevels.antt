@@ -5,7 +5,7 @@ use Rattle.std.proofs.lemmas.Grind.{get_or-set_at}
 use Rattle.std.proofs.Math.ListN.{length-set}
 use Rattle.std.proofs.lemmas.Bool.Decides.{Decides-eqb}
 use Rattle.staat_ring.specs.Links.{Links, Apart, Distinct, unlink, Arrays, is_bare, take, take_all, give_all, CanTake, CanTakeAll}
-use Rattle.staat_ring.specs.Stands.{without, is_empty, Tagged, IsRing, InRange, Shape, Lists, home_of, Stands, IsPresent, lists_without, lists_without_all, AllPresent}
+use Rattle.staat_ring.specs.Stands.{without, is_empty, Tagged, IsRing, InRange, Shape, RingLists, home_of, StandFor, IsPresent, lists_without, lists_without_all, AllPresent}
 use Rattle.staat_ring.proofs.Undo.{give_all-take_all}
 use Rattle.staat_ring.proofs.Without.{without_other, without_none, node_between, tagged_apart, prev_tag, next_tag, ring_stays, ring_shrinks, bare_is}
 
@@ -108,26 +108,26 @@ ring_if true s tag x h' xs' h xs lt g c r' same r = ring_after s tag x h' xs' h 
 ring_if false s tag x h' xs' h xs lt g c r' same r = r
 
 -- after the entry is out its vertex is bare exactly where its list is empty
-bare_after : (g : Shape) (l : Lists) (a : Arrays) (e : ℕ) → Stands g l a → IsPresent g l a e
+bare_after : (g : Shape) (l : RingLists) (a : Arrays) (e : ℕ) → StandFor g l a → IsPresent g l a e
     → IsRing (unlink e a.vertices) (home_of a) (home_of a e) (without e (l.entries (home_of a e)))
 bare_after g l a e st pr =
     ring_shrinks a.vertices (home_of a) e (home_of a e) (l.entries (home_of a e))
     (node_in_range a.vertices e (st.entries_within (g.circle (home_of a e)) (home_of a e) e pr.circle pr.vertex pr.entry) st.vertices_in_range)
     pr.entry (st.vertices (g.circle (home_of a e)) (home_of a e) pr.circle pr.vertex)
 
-same_circle : (g : Shape) (l : Lists) (a : Arrays) (c d : ℕ) → Stands g l a → c < g.count → d < g.count → g.circle (g.head c) ≡ g.circle (g.head d)
+same_circle : (g : Shape) (l : RingLists) (a : Arrays) (c d : ℕ) → StandFor g l a → c < g.count → d < g.count → g.circle (g.head c) ≡ g.circle (g.head d)
     → (g.head c ≡ g.head d) × (l.vertices c ≡ l.vertices d)
 same_circle g l a c d st hc hd e =
     let q : c ≡ d = sym (st.heads c hc) ∙ (e ∙ st.heads d hd) in
     (ap g.head q, ap l.vertices q)
 
-same_vertex : (g : Shape) (l : Lists) (a : Arrays) (c d v w : ℕ) → Stands g l a → c < g.count → d < g.count → Contains (l.vertices c) v → Contains (l.vertices d) w
+same_vertex : (g : Shape) (l : RingLists) (a : Arrays) (c d v w : ℕ) → StandFor g l a → c < g.count → d < g.count → Contains (l.vertices c) v → Contains (l.vertices d) w
     → home_of a v ≡ home_of a w → (v ≡ w) × (l.entries v ≡ l.entries w)
 same_vertex g l a c d v w st hc hd cv cw e =
     let q : v ≡ w = sym (st.owns c v hc cv) ∙ (e ∙ st.owns d w hd cw) in
     (q, ap l.entries q)
 
-pub stands-take : (g : Shape) (l : Lists) (a : Arrays) (e : ℕ) → Stands g l a → IsPresent g l a e → Stands g (lists_without (home_of a e) e l) (take e a)
+pub stands-take : (g : Shape) (l : RingLists) (a : Arrays) (e : ℕ) → StandFor g l a → IsPresent g l a e → StandFor g (lists_without (home_of a e) e l) (take e a)
 stands-take g l a e st pr =
     let v : ℕ = home_of a e in
     let d : ℕ = g.circle v in
@@ -153,7 +153,7 @@ stands-take g l a e st pr =
           (st.entries_within c w f hc (contains_if (is_empty es') v w (l.vertices c) cw) (contains_before e f (l.entries w) cf));
     }
 
-pub can-take : (g : Shape) (l : Lists) (a : Arrays) (e : ℕ) → Stands g l a → IsPresent g l a e → CanTake e a
+pub can-take : (g : Shape) (l : RingLists) (a : Arrays) (e : ℕ) → StandFor g l a → IsPresent g l a e → CanTake e a
 can-take g l a e st pr =
     let v : ℕ = home_of a e in
     let d : ℕ = g.circle v in
@@ -165,7 +165,7 @@ can-take g l a e st pr =
     }
 
 -- another entry is still there
-pub present-after : (g : Shape) (l : Lists) (a : Arrays) (e f : ℕ) → f ≢ e → IsPresent g l a f → IsPresent g (lists_without (home_of a e) e l) (take e a) f
+pub present-after : (g : Shape) (l : RingLists) (a : Arrays) (e f : ℕ) → f ≢ e → IsPresent g l a f → IsPresent g (lists_without (home_of a e) e l) (take e a) f
 present-after g l a e f n pf = record {
   circle = pf.circle;
   vertex = keeps (is_empty (without e (l.entries (home_of a e)))) refl;
@@ -182,11 +182,11 @@ present-after g l a e f n pf = record {
     keeps true h = contains_after (home_of a e) (home_of a f) (l.vertices (g.circle (home_of a f)))
         (λ q. none (without e (l.entries (home_of a e))) h (contains_after e f (l.entries (home_of a e)) n (subst (λ w. Contains (l.entries w) f) q pf.entry))) pf.vertex
 
-pub all-after : (g : Shape) (l : Lists) (a : Arrays) (e : ℕ) (es : List ℕ) → Apart e es → AllPresent g l a es → AllPresent g (lists_without (home_of a e) e l) (take e a) es
+pub all-after : (g : Shape) (l : RingLists) (a : Arrays) (e : ℕ) (es : List ℕ) → Apart e es → AllPresent g l a es → AllPresent g (lists_without (home_of a e) e l) (take e a) es
 all-after g l a e [] ap h = tt
 all-after g l a e (f ∷ es) ap h = (present-after g l a e f ap.0 h.0, all-after g l a e es ap.1 h.1)
 
-pub stands-take_all : (g : Shape) (es : List ℕ) (l : Lists) (a : Arrays) → Stands g l a → Distinct es → AllPresent g l a es → CanTakeAll es a × Stands g (lists_without_all (home_of a) es l) (take_all es a)
+pub stands-take_all : (g : Shape) (es : List ℕ) (l : RingLists) (a : Arrays) → StandFor g l a → Distinct es → AllPresent g l a es → CanTakeAll es a × StandFor g (lists_without_all (home_of a) es l) (take_all es a)
 stands-take_all g [] l a st d h = (tt, st)
 stands-take_all g (e ∷ es) l a st d h =
     let next = stands-take_all g es (lists_without (home_of a e) e l) (take e a) (stands-take g l a e st h.0) d.1 (all-after g l a e es d.0 h.1) in

@@ -3,8 +3,8 @@ use Rattle.std.proofs.Common.{◌≡◌, ◌≢◌, ℕ, zero, suc, ◌<◌, ref
 use Rattle.std.specs.Prelude.{if◌then◌else◌}
 use Rattle.std.proofs.lemmas.Bool.Decides.{nat_tests}
 use Rattle.staat_ring.specs.Links.{Links, Chain, Apart, Arrays}
-use Rattle.staat_ring.specs.Stands.{Shape, Lists, Stands, IsRing}
-use Rattle.staat_ring.specs.Views.{nodes_from, nodes_of, lists_of, AreSame, undo_all, kept_of}
+use Rattle.staat_ring.specs.Stands.{Shape, RingLists, StandFor, IsRing}
+use Rattle.staat_ring.specs.Views.{nodes_from, ring_nodes, lists_of, AreSame, undo_all, kept_of}
 
 pub undo-push : {A : Type 0} (undo : ℕ → A → A) (ps : List ℕ) (q : ℕ) (a : A) → undo_all undo (ps ++ q ∷ []) a ≡ undo_all undo ps (undo q a)
 undo-push undo [] q a = refl
@@ -36,21 +36,21 @@ nodes_from_is (suc n) s h a (x ∷ xs) lt d c =
     ∙ ap (λ l. x ∷ l) (nodes_from_is n s h x xs (omega arith) d.1 c.1.1))
 
 -- what the arrays give is what they stand for
-pub nodes_of_is : (s : Links) (tag : ℕ → ℕ) (h : ℕ) (xs : List ℕ) → length xs < length s.next → IsRing s tag h xs → nodes_of s h ≡ xs
+pub nodes_of_is : (s : Links) (tag : ℕ → ℕ) (h : ℕ) (xs : List ℕ) → length xs < length s.next → IsRing s tag h xs → ring_nodes s h ≡ xs
 nodes_of_is s tag h xs lt r = nodes_from_is (length s.next) s h h xs lt r.distinct.0 r.ring
 
-pub record AreShort (g : Shape) (l : Lists) (a : Arrays) : Type 0 where
+pub record AreShort (g : Shape) (l : RingLists) (a : Arrays) : Type 0 where
   pub vertices : (c : ℕ) → c < g.count → length (l.vertices c) < length a.circles.next
   pub entries : (c v : ℕ) → c < g.count → Contains (l.vertices c) v → length (l.entries v) < length a.vertices.next
 
-pub lists_of_is : (g : Shape) (l : Lists) (a : Arrays) → AreShort g l a → Stands g l a → AreSame g l (lists_of g a)
+pub lists_of_is : (g : Shape) (l : RingLists) (a : Arrays) → AreShort g l a → StandFor g l a → AreSame g l (lists_of g a)
 lists_of_is g l a short st = record {
   vertices = λ c hc. sym (nodes_of_is a.circles g.circle (g.head c) (l.vertices c) (short.vertices c hc) (st.circles c hc));
   entries = λ c v hc cv. sym (nodes_of_is a.vertices (λ e. get_or a.home e 0) v (l.entries v) (short.entries c v hc cv) (st.vertices c v hc cv));
 }
 
 -- lists that agree stand for the same arrays
-pub stands_same : (g : Shape) (l m : Lists) (a : Arrays) → AreSame g l m → Stands g l a → Stands g m a
+pub stands_same : (g : Shape) (l m : RingLists) (a : Arrays) → AreSame g l m → StandFor g l a → StandFor g m a
 stands_same g l m a s st =
     let back : (c v : ℕ) → c < g.count → Contains (m.vertices c) v → Contains (l.vertices c) v = λ c v hc cv. subst (λ xs. Contains xs v) (sym (s.vertices c hc)) cv in
     record {

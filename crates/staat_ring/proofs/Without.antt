@@ -2,7 +2,7 @@
 use Rattle.std.proofs.Common.{◌≡◌, ◌≢◌, ℕ, zero, suc, refl, sym, ap, subst, ◌∙◌, List, [], ◌∷◌, ◌++◌, Bool, true, false, not, cond, eqb, eq-eqb, get_or, arith, Contains}
 use Rattle.std.specs.List.{filter}
 use Rattle.std.proofs.lemmas.Bool.Decides.{nat_tests}
-use Rattle.staat_ring.specs.Links.{Links, Ring, Apart, Distinct, last_of, first_of, unlink, IsBetween, is_bare}
+use Rattle.staat_ring.specs.Links.{Links, IsLinkedRing, Apart, Distinct, last_of, first_of, unlink, IsBetween, is_bare}
 use Rattle.staat_ring.specs.Stands.{without, is_empty, Tagged, IsRing}
 use Rattle.staat_ring.proofs.Chains.{ring-unlink, between, chain_stays, prev_in, next_in, InRange as NodeInRange}
 
@@ -44,18 +44,18 @@ split (y ∷ xs) x (suc k, lt, e) =
     let s = split xs x (k, omega arith, e) in
     record { left = y ∷ s.left; right = s.right; is = ap (λ zs. y ∷ zs) s.is }
 
-pub ring_without : (s : Links) (x h : ℕ) (xs : List ℕ) → NodeInRange s x → Distinct (h ∷ xs) → Contains xs x → Ring s h xs → Ring (unlink x s) h (without x xs)
+pub ring_without : (s : Links) (x h : ℕ) (xs : List ℕ) → NodeInRange s x → Distinct (h ∷ xs) → Contains xs x → IsLinkedRing s h xs → IsLinkedRing (unlink x s) h (without x xs)
 ring_without s x h xs g d c r =
     let p = split xs x c in
     let d' : Distinct (h ∷ p.left ++ x ∷ p.right) = subst (λ ys. Distinct (h ∷ ys)) p.is d in
-    subst (λ ys. Ring (unlink x s) h ys) (sym (ap (without x) p.is ∙ without_mid x p.left p.right d'.1))
-    (ring-unlink s x h p.left p.right g d' (subst (λ ys. Ring s h ys) p.is r))
+    subst (λ ys. IsLinkedRing (unlink x s) h ys) (sym (ap (without x) p.is ∙ without_mid x p.left p.right d'.1))
+    (ring-unlink s x h p.left p.right g d' (subst (λ ys. IsLinkedRing s h ys) p.is r))
 
-pub node_between : (s : Links) (x h : ℕ) (xs : List ℕ) → Distinct (h ∷ xs) → Contains xs x → Ring s h xs → IsBetween s x
+pub node_between : (s : Links) (x h : ℕ) (xs : List ℕ) → Distinct (h ∷ xs) → Contains xs x → IsLinkedRing s h xs → IsBetween s x
 node_between s x h xs d c r =
     let p = split xs x c in
     let d' : Distinct (h ∷ p.left ++ x ∷ p.right) = subst (λ ys. Distinct (h ∷ ys)) p.is d in
-    between s x h p.left p.right h d' d'.0 (subst (λ ys. Ring s h ys) p.is r)
+    between s x h p.left p.right h d' d'.0 (subst (λ ys. IsLinkedRing s h ys) p.is r)
 
 pub apart_without : (x y : ℕ) (xs : List ℕ) → Apart y xs → Apart y (without x xs)
 apart_without x y [] h = tt
@@ -102,14 +102,14 @@ tagged_first tag t (x ∷ r) b h e = h.0
 pub prev_tag : (s : Links) (tag : ℕ → ℕ) (x h : ℕ) (xs : List ℕ) → Contains xs x → IsRing s tag h xs → tag (get_or s.prev x 0) ≡ tag h
 prev_tag s tag x h xs c r =
     let p = split xs x c in
-    ap tag (prev_in s x h p.left p.right h (subst (λ ys. Ring s h ys) p.is r.ring))
+    ap tag (prev_in s x h p.left p.right h (subst (λ ys. IsLinkedRing s h ys) p.is r.ring))
     ∙ tagged_last tag (tag h) h p.left (x ∷ p.right) (subst (λ ys. Tagged tag (tag h) (h ∷ ys)) p.is r.tagged)
 
 pub next_tag : (s : Links) (tag : ℕ → ℕ) (x h : ℕ) (xs : List ℕ) → Contains xs x → IsRing s tag h xs → tag (get_or s.next x 0) ≡ tag h
 next_tag s tag x h xs c r =
     let p = split xs x c in
     let t : Tagged tag (tag h) (p.left ++ x ∷ p.right) = subst (λ ys. Tagged tag (tag h) ys) p.is r.tagged.1 in
-    ap tag (next_in s x h p.left p.right h (subst (λ ys. Ring s h ys) p.is r.ring))
+    ap tag (next_in s x h p.left p.right h (subst (λ ys. IsLinkedRing s h ys) p.is r.ring))
     ∙ tagged_first tag (tag h) p.right h (tagged_right tag (tag h) p.left (x ∷ p.right) t).1 refl
 
 -- a ring with another tag stays
@@ -130,7 +130,7 @@ ring_shrinks s tag x h xs g c r = record {
 }
 
 -- a vertex is bare where its list is empty
-pub bare_is : (s : Links) (v : ℕ) (ys : List ℕ) → Apart v ys → Ring s v ys → is_bare s v ≡ is_empty ys
+pub bare_is : (s : Links) (v : ℕ) (ys : List ℕ) → Apart v ys → IsLinkedRing s v ys → is_bare s v ≡ is_empty ys
 bare_is s v [] a r = eq-eqb (get_or s.next v 0) v r.0
 bare_is s v (y ∷ ys) a r = differs v (get_or s.next v 0) (λ e. a.0 (sym r.0 ∙ e))
 

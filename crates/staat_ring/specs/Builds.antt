@@ -1,5 +1,6 @@
 -- The half circle of a plane, and the planes through its vertices, while they are built.
-use Rattle.std.specs.Prelude.{◌≡◌, ◌≢◌, ◌⊎◌, ℕ, ◌<◌, ℤ, Bool, not, List, [], ◌∷◌, map, length, All, Contains, pos}
+use Rattle.std.specs.Prelude.{◌≡◌, ◌≢◌, ◌⊎◌, ℕ, ◌<◌, ℤ, Bool, not, List, [], ◌∷◌, map}
+use Rattle.std.specs.Prelude.{length, All, Contains, pos}
 use Rattle.std.specs.Prelude.{◌<ℤ◌, ◌++◌, Some, slice_get, slice_index_or}
 use Rattle.staat_model.specs.Circles.{axis_beside}
 use Rattle.std.specs.Ordering.{nat_cmp}
@@ -26,7 +27,7 @@ pub record IsFromPlane (planes : List V3) (c : ℕ) (m : V3) : Type 0 where
   pub is : m ≡ facet_by turned (plane_at planes number)
 
 -- the numbers below n, each with some key
-pub record AreNumbers (n : ℕ) (keys : List (ℤ × ℕ)) : Type 0 where
+pub record AreKeysBelow (n : ℕ) (keys : List (ℤ × ℕ)) : Type 0 where
   pub within : All (λ (k : ℤ × ℕ). k.1 < n) keys
   pub each : (i : ℕ) → i < n → (key : ℤ) × Contains keys (key, i)
 
@@ -44,7 +45,7 @@ pub record IsAheadOf (planes : List V3) (g axis h : V3) : Type 0 where
   pub is : h ≡ facet_by turned (plane_at planes number)
 
 -- of the planes below n those that do not cross on the line of the axis, each turned so that it is ahead of it
-pub record AreAhead (planes : List V3) (g axis : V3) (n : ℕ) (hs : List V3) : Type 0 where
+pub record AreTurnedAhead (planes : List V3) (g axis : V3) (n : ℕ) (hs : List V3) : Type 0 where
   pub small : All (IsWithin NORMAL) hs
   pub each : (h : V3) → Contains hs h → IsAheadOf planes g axis h
   pub all : (j : ℕ) → j < n → (det g axis (plane_at planes j) ≡ pos 0) ⊎ IsPutIn hs (plane_at planes j)
@@ -56,7 +57,7 @@ IsPut g axis h old new = ((det g axis h ≡ pos 0) × (new ≡ old))
     × (new ≡ old ++ facet_by t h ∷ []))
 
 -- the crossing with the plane j lies on the half circle, or opposite
-pub record IsMet (g : V3) (half : List V3) (h : V3) : Type 0 where
+pub record IsCrossedAt (g : V3) (half : List V3) (h : V3) : Type 0 where
   pub place : ℕ
   pub within : place < length half
   pub flat : det g (normal_at half place) h ≡ pos 0
@@ -68,11 +69,12 @@ pub record IsHalfCircle (planes : List V3) (c : ℕ) (g axis : V3) (half : List 
   pub small : All (IsWithin NORMAL) half
   pub rises : (i k : ℕ) → i < k → k < length half → pos 0 <ℤ det g (normal_at half i) (normal_at half k)
   pub each : (k : ℕ) → k < length half → IsFromPlane planes c (normal_at half k)
-  pub all : (j : ℕ) → j < length planes → j ≢ c → IsMet g half (plane_at planes j)
+  pub all : (j : ℕ) → j < length planes → j ≢ c → IsCrossedAt g half (plane_at planes j)
 
 -- the same, for the normal of plane c and the axis beside it
 abbrev pub IsHalfOfCircle : List V3 → ℕ → List V3 → Type 0
-IsHalfOfCircle planes c half = (g axis : V3) → slice_get planes c ≡ Some g → slice_get planes (axis_beside c) ≡ Some axis
+IsHalfOfCircle planes c half =
+    (g axis : V3) → slice_get planes c ≡ Some g → slice_get planes (axis_beside c) ≡ Some axis
     → IsHalfCircle planes c g axis half
 
 -- h is ahead of the axis, or crosses where it does
@@ -87,8 +89,9 @@ pub record IsPlaceOf (g : V3) (half : List V3) (h : V3) (i : ℕ) : Type 0 where
   pub after : (k : ℕ) → i < k → k < length half → det g (normal_at half k) h <ℤ pos 0
 
 -- the planes below j, but c, that meet the crossing of m
-pub record IsThrough (planes : List V3) (c : ℕ) (g m : V3) (j : ℕ) (es : List Entry) : Type 0 where
-  pub listed : Lists nat_cmp (λ i. (i < j) × (i ≢ c) × (det g m (plane_at planes i) ≡ pos 0)) (map (λ e. e.plane) es)
+pub record AreThroughCrossing (planes : List V3) (c : ℕ) (g m : V3) (j : ℕ) (es : List Entry) : Type 0 where
+  pub listed : Lists nat_cmp (λ i. (i < j) × (i ≢ c)
+      × (det g m (plane_at planes i) ≡ pos 0)) (map (λ e. e.plane) es)
   pub ways : All (λ e. crossing planes c e ≡ ray g m) es
 
 abbrev pub slot_at : List (List Entry) → ℕ → List Entry
@@ -98,7 +101,7 @@ slot_at slots k = slice_index_or slots k []
 pub record AreFilled (planes : List V3) (c : ℕ) (g : V3) (half : List V3) (j : ℕ) (slots : List (List Entry))
     : Type 0 where
   pub size : length slots ≡ length half
-  pub each : (k : ℕ) → k < length half → IsThrough planes c g (normal_at half k) j (slot_at slots k)
+  pub each : (k : ℕ) → k < length half → AreThroughCrossing planes c g (normal_at half k) j (slot_at slots k)
 
 -- the same, for the normal of plane c
 abbrev pub AreFilledTo : List V3 → ℕ → List V3 → ℕ → List (List Entry) → Type 0

@@ -1,13 +1,14 @@
 -- The circles while they are linked, one after another.
-use Rattle.std.specs.Prelude.{◌≡◌, ◌≢◌, ℕ, ◌+◌, ◌*◌, ◌<◌, ◌≤◌, List, [], ◌∷◌, length, map, All, Contains, slice_index}
+use Rattle.std.specs.Prelude.{◌≡◌, ◌≢◌, ℕ, ◌+◌, ◌*◌, ◌<◌, ◌≤◌, List, [], ◌∷◌}
+use Rattle.std.specs.Prelude.{length, map, All, Contains, slice_index}
 use Rattle.std.specs.Prelude.{slice_index_or}
 use Rattle.staat_vec.specs.declared.vector.V3.{V3}
 use Rattle.staat_ring.specs.declared.entry.Entry.{Entry}
 use Rattle.staat_ring.specs.Builds.{ring_by, slot_at}
-use Rattle.staat_ring.specs.Links.{Apart, Arrays, Distinct, Links, Ring}
+use Rattle.staat_ring.specs.Links.{Apart, Arrays, Distinct, Links, IsLinkedRing}
 use Rattle.staat_ring.specs.Numbered.{HasEntry, head_number, node_number, vertex_row}
 use Rattle.staat_ring.specs.Rings.{IsRingOf, entry_number}
-use Rattle.staat_ring.specs.RingViews.{below, shape}
+use Rattle.staat_ring.specs.RingViews.{numbers_below, shape}
 use Rattle.staat_ring.specs.Rows.{Row, all_of, row_at}
 
 -- the words of y are the same
@@ -19,13 +20,14 @@ pub record IsSameAt (s t : Links) (y : ℕ) : Type 0 where
 pub record AreRows (n : ℕ) (rows : List Row) : Type 0 where
   pub within : (k : ℕ) → k < length rows → All (λ x. x < n) (all_of (row_at rows k))
   pub distinct : (k : ℕ) → k < length rows → Distinct (all_of (row_at rows k))
-  pub apart : (i k : ℕ) (y : ℕ) → i < length rows → k < length rows → i ≢ k → Contains (all_of (row_at rows i)) y
+  pub apart : (i k : ℕ) (y : ℕ) → i < length rows → k < length rows → i ≢ k
+      → Contains (all_of (row_at rows i)) y
       → Apart y (all_of (row_at rows k))
 
 -- the rows below m are linked, and the heads of the others stand alone
 pub record AreLinked (s : Links) (rows : List Row) (m : ℕ) : Type 0 where
-  pub linked : (k : ℕ) → k < m → k < length rows → Ring s (row_at rows k).head (row_at rows k).nodes
-  pub alone : (k : ℕ) → (k < m → ⊥) → k < length rows → Ring s (row_at rows k).head []
+  pub linked : (k : ℕ) → k < m → k < length rows → IsLinkedRing s (row_at rows k).head (row_at rows k).nodes
+  pub alone : (k : ℕ) → (k < m → ⊥) → k < length rows → IsLinkedRing s (row_at rows k).head []
 
 -- the vertex v is the home of these entries now, and the words of others are the same
 pub record AreHomedAt (old new : List ℕ) (v : ℕ) (entries : List ℕ) : Type 0 where
@@ -64,16 +66,16 @@ pub record AreStopsLinked (n c : ℕ) (stops : List (List Entry)) (m : ℕ) (fir
 
 -- the circle c stands in the arrays with these stops
 pub record HoldsCircle (n : ℕ) (a : Arrays) (c : ℕ) (stops : List (List Entry)) : Type 0 where
-  pub circle : Ring a.circles (head_number n c) (map (node_number n c) stops)
+  pub circle : IsLinkedRing a.circles (head_number n c) (map (node_number n c) stops)
   pub vertices : (k : ℕ) → k < length stops
-      → Ring a.vertices (node_number n c (slot_at stops k)) (map (entry_number n c) (slot_at stops k))
+      → IsLinkedRing a.vertices (node_number n c (slot_at stops k)) (map (entry_number n c) (slot_at stops k))
   pub homes : (k : ℕ) → k < length stops
       → All (λ e. slice_index a.home (entry_number n c e) ≡ node_number n c (slot_at stops k)) (slot_at stops k)
 
 -- x is a ring of its own, on both levels
 pub record IsAlone (a : Arrays) (x : ℕ) : Type 0 where
-  pub circles : Ring a.circles x []
-  pub vertices : Ring a.vertices x []
+  pub circles : IsLinkedRing a.circles x []
+  pub vertices : IsLinkedRing a.vertices x []
 
 -- the words of x are the same
 pub record IsKeptAt (a b : Arrays) (x : ℕ) : Type 0 where
@@ -86,7 +88,7 @@ pub record IsKeptAt (a b : Arrays) (x : ℕ) : Type 0 where
 -- the circle c of these n planes stands in the arrays
 pub record HasCircle (planes : List V3) (n : ℕ) (a : Arrays) (c : ℕ) : Type 0 where
   pub stops : List (List Entry)
-  pub ring : IsRingOf planes (below n) (ring_by c stops)
+  pub ring : IsRingOf planes (numbers_below n) (ring_by c stops)
   pub holds : HoldsCircle n a c stops
 
 -- arrays for n planes

@@ -1,8 +1,9 @@
 -- What the arrays stand for: for each circle the list of its vertices, for each vertex the list of its entries.
-use Rattle.std.specs.Prelude.{◌≡◌, ℕ, ◌<◌, List, [], ◌∷◌, length, slice_index, Bool, true, false, not, ◌==◌, Contains}
+use Rattle.std.specs.Prelude.{◌≡◌, ℕ, ◌<◌, List, [], ◌∷◌, length, slice_index, Bool, true, false}
+use Rattle.std.specs.Prelude.{not, ◌==◌, Contains}
 use Rattle.std.specs.Prelude.{All, if◌then◌else◌}
 use Rattle.std.specs.List.{filter}
-use Rattle.staat_ring.specs.Links.{Apart, Links, Ring, Distinct, Arrays}
+use Rattle.staat_ring.specs.Links.{Apart, Links, IsLinkedRing, Distinct, Arrays}
 
 abbrev pub without : ℕ → List ℕ → List ℕ
 without x xs = filter (λ y. not (y == x)) xs
@@ -19,7 +20,7 @@ Tagged tag t (x ∷ xs) = (tag x ≡ t) × Tagged tag t xs
 
 -- one ring of a family: its nodes are distinct, have its tag, and have links within the arrays
 pub record IsRing (s : Links) (tag : ℕ → ℕ) (h : ℕ) (xs : List ℕ) : Type 0 where
-  pub ring : Ring s h xs
+  pub ring : IsLinkedRing s h xs
   pub distinct : Distinct (h ∷ xs)
   pub tagged : Tagged tag (tag h) (h ∷ xs)
 
@@ -36,55 +37,56 @@ pub record Shape : Type 0 where
 
 -- the ring of the head h within the links: its nodes are not the head, and fewer than there are words
 pub record IsShortRing (s : Links) (h : ℕ) (xs : List ℕ) : Type 0 where
-  pub ring : Ring s h xs
+  pub ring : IsLinkedRing s h xs
   pub apart : Apart h xs
   pub short : length xs < length s.next
   pub within : All (λ x. x < length s.next) (h ∷ xs)
 
 -- what the arrays stand for
-pub record Lists : Type 0 where
+pub record RingLists : Type 0 where
   pub vertices : ℕ → List ℕ
   pub entries : ℕ → List ℕ
 
 abbrev pub home_of : Arrays → ℕ → ℕ
 home_of a e = slice_index a.home e
 
-pub record Stands (g : Shape) (l : Lists) (a : Arrays) : Type 0 where
+pub record StandFor (g : Shape) (l : RingLists) (a : Arrays) : Type 0 where
   pub circles_in_range : InRange a.circles
   pub vertices_in_range : InRange a.vertices
   pub heads : (c : ℕ) → c < g.count → g.circle (g.head c) ≡ c
   pub circles : (c : ℕ) → c < g.count → IsRing a.circles g.circle (g.head c) (l.vertices c)
   -- the ring of each vertex on a circle is headed by the vertex itself
   pub owns : (c v : ℕ) → c < g.count → Contains (l.vertices c) v → home_of a v ≡ v
-  pub vertices : (c v : ℕ) → c < g.count → Contains (l.vertices c) v → IsRing a.vertices (home_of a) v (l.entries v)
+  pub vertices : (c v : ℕ) → c < g.count → Contains (l.vertices c) v
+      → IsRing a.vertices (home_of a) v (l.entries v)
   pub within : (c v : ℕ) → c < g.count → Contains (l.vertices c) v → v < length a.circles.next
   pub entries_within : (c v e : ℕ) → c < g.count → Contains (l.vertices c) v → Contains (l.entries v) e
       → e < length a.vertices.next
 
 -- the entry stands at its vertex, and the vertex on its circle
-pub record IsPresent (g : Shape) (l : Lists) (a : Arrays) (e : ℕ) : Type 0 where
+pub record IsPresent (g : Shape) (l : RingLists) (a : Arrays) (e : ℕ) : Type 0 where
   pub circle : g.circle (home_of a e) < g.count
   pub vertex : Contains (l.vertices (g.circle (home_of a e))) (home_of a e)
   pub entry : Contains (l.entries (home_of a e)) e
 
 -- the lists without the entry e at the vertex v: the vertex leaves with its last entry
-abbrev pub lists_without : ℕ → ℕ → Lists → Lists
+abbrev pub lists_without : ℕ → ℕ → RingLists → RingLists
 lists_without v e l = record {
   vertices = λ c. if is_empty (without e (l.entries v)) then without v (l.vertices c) else l.vertices c;
   entries = λ u. without e (l.entries u);
 }
 
 -- the lists without these entries, in their order
-abbrev pub lists_without_all : (ℕ → ℕ) → List ℕ → Lists → Lists
+abbrev pub lists_without_all : (ℕ → ℕ) → List ℕ → RingLists → RingLists
 lists_without_all home [] l = l
 lists_without_all home (e ∷ es) l = lists_without_all home es (lists_without (home e) e l)
 
-abbrev pub AllPresent : Shape → Lists → Arrays → List ℕ → Type 0
+abbrev pub AllPresent : Shape → RingLists → Arrays → List ℕ → Type 0
 AllPresent g l a [] = Unit {0}
 AllPresent g l a (e ∷ es) = IsPresent g l a e × AllPresent g l a es
 
 -- the lists without a plane: its entries are out, and the vertices that have none left
-abbrev pub lists_without_plane : (ℕ → ℕ) → ℕ → Lists → Lists
+abbrev pub lists_without_plane : (ℕ → ℕ) → ℕ → RingLists → RingLists
 lists_without_plane plane_of p l = record {
   vertices = λ c. filter (λ v. not (is_empty (filter (λ e. not (plane_of e == p)) (l.entries v)))) (l.vertices c);
   entries = λ v. filter (λ e. not (plane_of e == p)) (l.entries v);

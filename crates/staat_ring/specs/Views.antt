@@ -1,9 +1,10 @@
 -- The lists as the arrays give them, and the planes that are unlinked, each with what stood before.
-use Rattle.std.specs.Prelude.{◌≡◌, ℕ, zero, suc, ◌<◌, List, [], ◌∷◌, ◌++◌, length, slice_index, ◌==◌, Contains}
+use Rattle.std.specs.Prelude.{◌≡◌, ℕ, zero, suc, ◌<◌, List, [], ◌∷◌, ◌++◌, length, slice_index}
+use Rattle.std.specs.Prelude.{◌==◌, Contains}
 use Rattle.std.specs.Prelude.{if◌then◌else◌}
 use Rattle.staat_ring.specs.Links.{Links, Arrays}
 use Rattle.staat_ring.specs.Rings.{Kept}
-use Rattle.staat_ring.specs.Stands.{Shape, Lists}
+use Rattle.staat_ring.specs.Stands.{Shape, RingLists}
 
 -- the nodes from x on until the head comes, at most so many
 abbrev pub nodes_from : ℕ → List ℕ → ℕ → ℕ → List ℕ
@@ -11,15 +12,15 @@ nodes_from zero next head x = []
 nodes_from (suc n) next head x = if x == head then [] else x ∷ nodes_from n next head (slice_index next x)
 
 -- the ring of a head
-abbrev pub nodes_of : Links → ℕ → List ℕ
-nodes_of s head = nodes_from (length s.next) s.next head (slice_index s.next head)
+abbrev pub ring_nodes : Links → ℕ → List ℕ
+ring_nodes s head = nodes_from (length s.next) s.next head (slice_index s.next head)
 
 -- what the arrays give
-abbrev pub lists_of : Shape → Arrays → Lists
-lists_of g a = record { vertices = λ c. nodes_of a.circles (g.head c); entries = nodes_of a.vertices }
+abbrev pub lists_of : Shape → Arrays → RingLists
+lists_of g a = record { vertices = λ c. ring_nodes a.circles (g.head c); entries = ring_nodes a.vertices }
 
 -- the lists agree where anything is asked of them
-pub record AreSame (g : Shape) (l m : Lists) : Type 0 where
+pub record AreSame (g : Shape) (l m : RingLists) : Type 0 where
   pub vertices : (c : ℕ) → c < g.count → l.vertices c ≡ m.vertices c
   pub entries : (c v : ℕ) → c < g.count → Contains (l.vertices c) v → l.entries v ≡ m.entries v
 
@@ -29,7 +30,9 @@ undo_all undo [] a = a
 undo_all undo (p ∷ ps) a = undo p (undo_all undo ps a)
 
 -- the unlinked planes in the order of their unlinking; done are those before
-abbrev pub kept_of : {A R : Type 0} → (ℕ → A → A) → (List ℕ → A → R) → List ℕ → List ℕ → A → List (Kept R)
+abbrev pub kept_of : {A R : Type 0} → (ℕ → A → A) → (List ℕ → A → R) → List ℕ → List ℕ → A
+    → List (Kept R)
 kept_of undo rings done [] a = []
 kept_of undo rings done (p ∷ ps) a =
-    (record { plane = p; before = rings done (undo p (undo_all undo ps a)) }) ∷ kept_of undo rings (done ++ p ∷ []) ps a
+    (record { plane = p; before = rings done (undo p (undo_all undo ps a)) }) ∷ kept_of undo rings (done
+    ++ p ∷ []) ps a

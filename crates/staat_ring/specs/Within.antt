@@ -2,7 +2,7 @@
 use Rattle.std.specs.Prelude.{◌≡◌, ℕ, ◌<◌, List, length, slice_index}
 use Rattle.staat_ring.specs.Links.{Links}
 
-pub record AreWithin (next prev : List ℕ) : Type 0 where
+pub record AreLinkWords (next prev : List ℕ) : Type 0 where
   pub same : length prev ≡ length next
   pub next_within : (x : ℕ) → x < length next → slice_index next x < length next
   pub prev_within : (x : ℕ) → x < length next → slice_index prev x < length next

@@ -3,7 +3,7 @@ ghost use Rattle.std.specs.Prelude.{◌≡◌, ◌≢◌, ◌<◌, IfOk, OnOk, l
 ghost use Rattle.staat_vec.specs.declared.vector.V3.{V3 as Vector};
 ghost use Rattle.staat_vec.specs.Vectors.{IsWithin, cross, det, origin};
 ghost use Rattle.staat_model.specs.Circles.{axis_beside};
-ghost use Rattle.staat_ring.specs.Builds.{AreAhead, IsHalfOfCircle, IsPut, IsUpper};
+ghost use Rattle.staat_ring.specs.Builds.{AreTurnedAhead, IsHalfOfCircle, IsPut, IsUpper};
 ghost use Rattle.staat_ring.specs.Rings.{facet_by};
 
 use crate::keys::in_order;
@@ -66,7 +66,7 @@ fn push_ahead(hs: &mut Vec<V3>, g: V3, axis: V3, h: V3) -> Result<(), OutOfMemor
 fn all_ahead(alloc: Global, table: &PlaneTable, g: V3, axis: V3) -> Result<Vec<V3>, OutOfMemory>
     requires g { IsWithin NORMAL g }
     requires axis { IsWithin NORMAL axis }
-    ensures { IfOk result (λ v. AreAhead table.now.planes g axis (length table.now.planes) v.items) }
+    ensures { IfOk result (λ v. AreTurnedAhead table.now.planes g axis (length table.now.planes) v.items) }
 {
     let mut hs = Vec::new(alloc);
     for j in 0..table.len() {
@@ -84,7 +84,7 @@ fn ahead_in_order(
 ) -> Result<Vec<V3>, OutOfMemory>
     requires g { IsWithin NORMAL g }
     requires axis { IsWithin NORMAL axis }
-    ensures { IfOk result (λ v. AreAhead table.now.planes g axis (length table.now.planes) v.items) }
+    ensures { IfOk result (λ v. AreTurnedAhead table.now.planes g axis (length table.now.planes) v.items) }
 {
     let ahead = all_ahead(alloc, table, g, axis)?;
     let ordered = in_order(alloc, g, axis, ahead.as_slice())?;

@@ -3,7 +3,7 @@ ghost use Rattle.std.specs.Prelude.{◌≡◌, ◌↔◌, ℕ, ◌<◌, ℤ, All
 ghost use Rattle.std.specs.Prelude.{IsPermutation};
 ghost use Rattle.staat_vec.specs.declared.vector.V3.{V3 as Vector};
 ghost use Rattle.staat_vec.specs.Vectors.{IsWithin};
-ghost use Rattle.staat_ring.specs.Builds.{AreNumbers};
+ghost use Rattle.staat_ring.specs.Builds.{AreKeysBelow};
 ghost use Rattle.staat_ring.specs.Order.{normal_at};
 
 use staat_vec::{NORMAL, OutOfMemory, V3, det, dot};
@@ -34,7 +34,7 @@ fn keys_of(alloc: Global, g: V3, axis: V3, hs: &[V3]) -> Result<Vec<(i128, usize
     requires g { IsWithin NORMAL g }
     requires axis { IsWithin NORMAL axis }
     requires hs { All (IsWithin NORMAL) hs.now }
-    ensures { IfOk result (λ v. AreNumbers (length hs.now) v.items) }
+    ensures { IfOk result (λ v. AreKeysBelow (length hs.now) v.items) }
 {
     let mut keys = Vec::new(alloc);
     for i in 0..hs.len() {

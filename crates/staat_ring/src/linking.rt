@@ -1,7 +1,8 @@
 // The rings of a circle and of its stops, linked to their nodes.
-ghost use Rattle.std.specs.Prelude.{◌≡◌, ℕ, ◌*◌, ◌<◌, ◌≤◌, ◌∷◌, [], All, IfOk, length, map};
+ghost use Rattle.std.specs.Prelude.{◌≡◌, ℕ, ◌*◌, ◌<◌, ◌≤◌, ◌∷◌, [], All, IfOk, length};
+ghost use Rattle.std.specs.Prelude.{map};
 ghost use Rattle.staat_ring.specs.Builds.{slot_at};
-ghost use Rattle.staat_ring.specs.Links.{Apart, Distinct, Ring};
+ghost use Rattle.staat_ring.specs.Links.{Apart, Distinct, IsLinkedRing};
 ghost use Rattle.staat_ring.specs.Linking.{AreHomedAt, AreLinked, AreStopsLinked, CanBeLinked, IsSameAt, rows_of};
 ghost use Rattle.staat_ring.specs.Numbered.{node_number};
 ghost use Rattle.staat_ring.specs.Rings.{entry_number};
@@ -19,8 +20,8 @@ impl NodeLinks {
         requires head { head < length self.old.next }
         requires nodes { All (λ x. x < length self.old.next) nodes.now }
         requires distinct { Distinct (head ∷ nodes.now) }
-        requires alone { Ring self.old head [] }
-        ensures ring { Ring self.new head nodes.now }
+        requires alone { IsLinkedRing self.old head [] }
+        ensures ring { IsLinkedRing self.new head nodes.now }
         ensures others { (y : ℕ) → Apart y (head ∷ nodes.now) → IsSameAt self.old self.new y }
         ensures length { length self.new.next ≡ length self.old.next }
     {
@@ -66,9 +67,9 @@ fn link_entries(
     requires homes { length home.old.items ≡ length vertices.old.next }
     requires entries { All (λ e. e.plane < planes) entries.now }
     requires distinct { Distinct (v ∷ map (entry_number planes c) entries.now) }
-    requires alone { Ring vertices.old v [] }
+    requires alone { IsLinkedRing vertices.old v [] }
     requires within { All (λ x. x < length home.old.items) home.old.items }
-    ensures ring { Ring vertices.new v (map (entry_number planes c) entries.now) }
+    ensures ring { IsLinkedRing vertices.new v (map (entry_number planes c) entries.now) }
     ensures others { (y : ℕ) → Apart y (v ∷ map (entry_number planes c) entries.now)
         → IsSameAt vertices.old vertices.new y }
     ensures length { length vertices.new.next ≡ length vertices.old.next }

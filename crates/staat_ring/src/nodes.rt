@@ -16,7 +16,7 @@ pub struct NodeLinks {
 
 impl Model for NodeLinks {
     ghost use Rattle.staat_ring.specs.Links.{Links, coded_links};
-    ghost use Rattle.staat_ring.specs.Within.{AreWithin};
+    ghost use Rattle.staat_ring.specs.Within.{AreLinkWords};
 
     ghost Value = { Links };
 
@@ -24,7 +24,7 @@ impl Model for NodeLinks {
 
     ghost view = { λ a. record { next = a.next.items; prev = a.prev.items } };
 
-    ghost invariant = { λ a. AreWithin a.next.items a.prev.items };
+    ghost invariant = { λ a. AreLinkWords a.next.items a.prev.items };
 }
 
 /// The numbers below a number.
