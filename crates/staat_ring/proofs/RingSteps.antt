@@ -9,7 +9,7 @@ use Rattle.staat_ring.specs.Planes.{entries_of}
 use Rattle.staat_ring.specs.Views.{kept_of}
 use Rattle.staat_ring.specs.RingViews.{rings_at, rings_of, undo, arrangement_of, IsSound, still_linked, shape}
 use Rattle.staat_ring.specs.Rings.{Arrangement, Kept, Ring}
-use Rattle.staat_ring.specs.Without.{IsRelinked, IsUnlinked, kept, rings_without}
+use Rattle.staat_ring.specs.Without.{IsUnlinked, kept, rings_without}
 use Rattle.staat_ring.specs.Views.{lists_of}
 use Rattle.staat_ring.specs.RingInvariant.{AreKept}
 use Rattle.staat_ring.proofs.ViewLemmas.{kept-push}

@@ -5,7 +5,6 @@ use Rattle.staat_ring.specs.Links.{Arrays, Apart, Distinct}
 use Rattle.staat_ring.specs.Stands.{Lists, without}
 use Rattle.staat_ring.specs.Views.{undo_all}
 use Rattle.staat_ring.specs.RingViews.{rings_of, rings_at, undo, IsGood, IsSound, still_linked, listed, below, shape}
-use Rattle.staat_ring.specs.Rings.{Ring}
 use Rattle.staat_ring.proofs.ViewLemmas.{undo-push}
 use Rattle.staat_ring.proofs.SoundLemmas.{filter_inside}
 use Rattle.staat_ring.proofs.RingLemmas.{listed-push, filter_twice, filter_by, eqb_turned, below_small}

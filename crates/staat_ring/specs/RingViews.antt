@@ -4,7 +4,7 @@ use Rattle.std.specs.Prelude.{drop, Bool, false, not, ◌||◌, ◌==◌, Contai
 use Rattle.std.specs.List.{filter}
 use Rattle.staat_ring.specs.declared.entry.Entry.{Entry}
 use Rattle.staat_ring.specs.Links.{Arrays, give_all}
-use Rattle.staat_ring.specs.Rings.{Arrangement, Ring, RingStop}
+use Rattle.staat_ring.specs.Rings.{Arrangement, Ring}
 use Rattle.staat_ring.specs.Stands.{Shape, Lists, Stands, AllPresent, is_empty}
 use Rattle.staat_ring.specs.Planes.{entries_of}
 use Rattle.staat_ring.specs.Views.{lists_of, undo_all, kept_of}
