@@ -1,11 +1,9 @@
 -- A node comes to the end of a ring.
-use Rattle.std.proofs.Common.{◌≡◌, ◌≢◌, ℕ, ◌<◌, refl, sym, ap, ◌∙◌, List, [], ◌∷◌, ◌++◌, length, get_or, set, arith}
+use Rattle.std.proofs.Common.{◌≡◌, ◌≢◌, ℕ, ◌<◌, refl, sym, ◌∙◌, List, [], ◌∷◌, ◌++◌, length, get_or, set, arith}
 use Rattle.std.proofs.Math.ListN.{length-set}
 use Rattle.std.proofs.lemmas.List.{get_or-set_other}
 use Rattle.std.proofs.lemmas.Grind.{get_or-set_at}
 use Rattle.staat_ring.specs.Links.{Links, Chain, IsLinkedRing, Apart, Distinct, last_of, append}
-use Rattle.staat_ring.specs.Stands.{Tagged}
-use Rattle.staat_ring.proofs.Without.{tagged_apart}
 
 -- the word at k after the two writes, where neither is at k
 pub kept : (l : List ℕ) (x u i w k : ℕ) → k ≢ x → k ≢ i → get_or (set (set l x u) i w) k 0 ≡ get_or l k 0

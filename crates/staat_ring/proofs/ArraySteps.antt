@@ -1,6 +1,5 @@
 -- One circle more is linked in the arrays.
-use Rattle.std.proofs.Common.{◌≡◌, ◌≢◌, ℕ, ◌*◌, ◌<◌, ◌≤◌, arith, ap, sym, subst, ◌∙◌, List, [], ◌∷◌, length, get_or, map, All}
-use Rattle.staat_model.proofs.Members.{All-from_members}
+use Rattle.std.proofs.Common.{◌≡◌, ◌≢◌, ℕ, ◌*◌, ◌<◌, ◌≤◌, arith, sym, subst, List, [], ◌∷◌, length, get_or, map, All}
 use Rattle.staat_ring.specs.declared.entry.Entry.{Entry}
 use Rattle.staat_ring.specs.Links.{Apart, Arrays, Distinct, IsLinkedRing}
 use Rattle.staat_ring.specs.Linking.{AreLinked, AreSized, AreStopsLinked, CanBeLinked, HoldsCircle, IsAlone, IsKeptAt, IsSameAt, rows_of}

@@ -1,5 +1,5 @@
 -- Arrays in which all circles stand are good, and show the circles of the planes.
-use Rattle.std.proofs.Common.{◌≡◌, ◌≢◌, ◌⊎◌, inl, inr, ⊎_elim, ℕ, zero, suc, ◌+◌, ◌*◌, ◌/◌, ◌%◌, ◌<◌, ◌≤◌, Bool, true, false, not, arith, ap, refl, sym, subst, ◌∙◌, List, [], ◌∷◌, ◌++◌, length, get_or, All, Contains, take, eq-eqb, add-one}
+use Rattle.std.proofs.Common.{◌≡◌, ◌≢◌, ◌⊎◌, inl, ⊎_elim, ℕ, zero, suc, ◌+◌, ◌*◌, ◌<◌, ◌≤◌, Bool, true, false, not, arith, ap, refl, sym, subst, ◌∙◌, List, [], ◌∷◌, ◌++◌, length, get_or, All, Contains, take, eq-eqb}
 use Rattle.std.specs.Prelude.{Some, map, slice_get, ◌==◌}
 use Rattle.std.specs.List.{filter}
 use Rattle.std.specs.Ordering.{nat_cmp}
@@ -17,22 +17,22 @@ use Rattle.staat_model.proofs.Members.{All-from_members}
 use Rattle.staat_model.specs.Circles.{IsLinked, Stop}
 use Rattle.staat_ring.specs.declared.entry.Entry.{Entry}
 use Rattle.staat_ring.specs.Builds.{ring_by, slot_at}
-use Rattle.staat_ring.specs.Links.{Arrays, Distinct}
+use Rattle.staat_ring.specs.Links.{Arrays}
 use Rattle.staat_ring.specs.Linking.{AreLinkedBelow, CanBeLinked, HasCircle}
 use Rattle.staat_ring.specs.Numbered.{head_number, node_number}
 use Rattle.staat_ring.specs.Planes.{entries_of, entries_on}
 use Rattle.staat_ring.specs.Rings.{AreRings, IsRingOf, Ring, RingStop, WereMadeFrom, entry_number, linked_of, plane_at, stop_of, vertex_of}
 use Rattle.staat_ring.specs.RingInvariant.{AreKept}
-use Rattle.staat_ring.specs.RingViews.{StandForCircles, CanBeUndone, arrangement_of, numbers_below, entry_numbered, is_out, plane_of, ring_of, rings_at, rings_of, shape, still_linked}
+use Rattle.staat_ring.specs.RingViews.{StandForCircles, CanBeUndone, arrangement_of, numbers_below, entry_numbered, is_out, plane_of, ring_of, rings_of, shape, still_linked}
 use Rattle.staat_ring.specs.Stands.{AllPresent, InRange, IsPresent, IsRing, StandFor, Tagged, home_of, is_empty}
 use Rattle.staat_ring.specs.Views.{lists_of}
 use Rattle.staat_ring.proofs.Covered.{entry_there}
 use Rattle.staat_ring.proofs.Linkable.{can_be_linked, other_plane}
 use Rattle.staat_ring.proofs.Mapped.{few_below, from_map, in_map}
 use Rattle.staat_ring.proofs.Numbering.{entry_back, head_circle, head_small}
-use Rattle.staat_ring.proofs.RingLemmas.{below_small, map_same, map_twice}
+use Rattle.staat_ring.proofs.RingLemmas.{below_small}
 use Rattle.staat_ring.proofs.RowRules as rules
-use Rattle.staat_ring.proofs.SoundLemmas.{plane_of_entry, two_cases}
+use Rattle.staat_ring.proofs.SoundLemmas.{two_cases}
 use Rattle.staat_ring.proofs.Stops.{none_parallel}
 use Rattle.staat_ring.proofs.Unlinking.{planes_of_rings}
 use Rattle.staat_ring.proofs.ViewLemmas.{nodes_of_is}
@@ -141,7 +141,7 @@ module _ (planes : List V3) (table : AreTablePlanes planes) (few : length planes
   abbrev n : ℕ
   n = length planes
 
-  abbrev l : Rattle.staat_ring.specs.Stands.Lists
+  abbrev l : Rattle.staat_ring.specs.Stands.RingLists
   l = lists_of (shape n) a
 
   abbrev has : (c : ℕ) → c < n → HasCircle planes n a c

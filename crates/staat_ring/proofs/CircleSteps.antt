@@ -1,5 +1,5 @@
 -- The circles are linked one after another.
-use Rattle.std.proofs.Common.{◌≡◌, ◌≢◌, ◌⊎◌, inl, inr, ⊎_elim, ℕ, zero, suc, ◌+◌, ◌*◌, ◌<◌, ◌≤◌, arith, ap, refl, sym, subst, ◌∙◌, List, [], ◌∷◌, length, get_or, Contains}
+use Rattle.std.proofs.Common.{◌≡◌, ◌≢◌, ⊎_elim, ℕ, ◌+◌, ◌*◌, ◌<◌, ◌≤◌, arith, sym, subst, ◌∙◌, List, length, get_or}
 use Rattle.staat_vec.specs.declared.vector.V3.{V3}
 use Rattle.staat_pairs.specs.Tables.{AreTablePlanes}
 use Rattle.staat_ring.specs.declared.entry.Entry.{Entry}
@@ -10,7 +10,6 @@ use Rattle.staat_ring.specs.Rings.{IsRingOf}
 use Rattle.staat_ring.specs.RingViews.{numbers_below, shape}
 use Rattle.staat_ring.proofs.Linkable.{can_be_linked}
 use Rattle.staat_ring.proofs.Mapped.{same_or}
-use Rattle.staat_ring.proofs.Rows.{ring_same}
 use Rattle.staat_ring.proofs.StopSteps.{holds_still}
 
 pub none_below : (planes : List V3) (n : ℕ) (a : Arrays) → AreSized n a → ((x : ℕ) → x < 4 * (n * n) → IsAlone a x) → ((x : ℕ) → x < 4 * (n * n) → get_or a.home x 0 ≡ x) → AreLinkedBelow planes n 0 a

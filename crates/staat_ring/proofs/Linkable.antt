@@ -14,7 +14,7 @@ use Rattle.staat_vec.specs.Vectors.{cross, dot, origin}
 use Rattle.staat_vec.proofs.Unique.{Contains-later, Contains-front}
 use Rattle.staat_vec.proofs.VecRing.{dot_cross_right}
 use Rattle.staat_pairs.specs.Tables.{AreTablePlanes}
-use Rattle.staat_model.specs.Circles.{PassesThrough, Stop}
+use Rattle.staat_model.specs.Circles.{PassesThrough}
 use Rattle.staat_model.proofs.Members.{All-from_members}
 use Rattle.staat_ring.specs.declared.entry.Entry.{Entry}
 use Rattle.staat_ring.specs.Builds.{ring_by, slot_at}

@@ -1,23 +1,19 @@
 -- Unlinking and relinking keep what rings were made from, and what lists of them do.
 use Rattle.std.proofs.Common.{◌≡◌, ◌≢◌, ◌⊎◌, ◌↔◌, inl, inr, ⊎_elim, ℕ, zero, suc, ◌+◌, ◌<◌, ◌≤◌, Bool, true, false, not, arith, ap, refl, sym, subst, ◌∙◌, List, [], ◌∷◌, ◌++◌, length, take, All, Contains}
-use Rattle.std.specs.Prelude.{◌==◌, Some, map, slice_get}
-use Rattle.std.specs.List.{filter}
+use Rattle.std.specs.Prelude.{◌==◌, Some, slice_get}
 use Rattle.std.proofs.lemmas.List.{append-nil, append_assoc}
-use Rattle.std.proofs.lemmas.List.Elements.{All-contains, Contains-append_cases, Contains-append_left, Contains-append_right}
+use Rattle.std.proofs.lemmas.List.Elements.{All-contains}
 use Rattle.std.proofs.lemmas.Option.{same_Some, slice_get_within}
 use Rattle.staat_vec.specs.declared.vector.V3.{V3}
-use Rattle.staat_vec.proofs.Unique.{Contains-front, Contains-later, Contains-cases, Contains-nothing}
+use Rattle.staat_vec.proofs.Unique.{Contains-front, Contains-cases, Contains-nothing}
 use Rattle.staat_model.specs.declared.assembly.Part.{Part}
 use Rattle.staat_model.specs.declared.set.PartSet.{PartSet}
 use Rattle.staat_pairs.specs.Tables.{AreTablePlanes}
-use Rattle.staat_planes.specs.Tables.{IsPlaneOf}
 use Rattle.staat_ring.specs.Laws.{AreOtherPlanes, AreRelinked, AreRingsOfSet, AreUnlinked, HasNoAxis}
 use Rattle.staat_ring.specs.Rings.{AreRings, Arrangement, Kept, Ring, WereMadeFrom, linked_of, unlinked_of}
 use Rattle.staat_ring.specs.Without.{IsRelinked, IsUnlinked, kept_plane, rings_without}
-use Rattle.staat_ring.proofs.CircleWithout.{planes_without}
 use Rattle.staat_ring.proofs.RingsWithout.{linked_without, rings_stay}
-use Rattle.staat_ring.proofs.WithoutLemmas.{filter_from, filter_in}
-use Rattle.staat_ring.proofs.Mapped.{differ}
+use Rattle.staat_ring.proofs.WithoutLemmas.{filter_from}
 
 abbrev Unlinks : Type 0
 Unlinks = List (Kept (List Ring))

@@ -1,8 +1,8 @@
 -- The numbers of entries tell them apart, and each entry stands at one stop of its circle.
-use Rattle.std.proofs.Common.{◌≡◌, ◌≢◌, ◌+◌, ◌*◌, ◌/◌, ◌%◌, ◌<◌, ◌≤◌, refl, Bool, true, false, if◌then◌else◌, ℕ, zero, suc, [], ◌∷◌, arith, ap, sym, subst, ◌∙◌, List, All, Contains, eq-eqb, length}
+use Rattle.std.proofs.Common.{◌≡◌, ◌+◌, ◌*◌, ◌%◌, ◌<◌, ◌≤◌, refl, Bool, true, false, if◌then◌else◌, ℕ, zero, [], ◌∷◌, arith, ap, sym, ◌∙◌, List, All, Contains, eq-eqb}
 use Rattle.std.specs.Prelude.{Some, map, slice_get, ◌==◌}
 use Rattle.std.proofs.lemmas.List.Elements.{All-contains}
-use Rattle.std.proofs.lemmas.Option.{slice_get-map, same_Some}
+use Rattle.std.proofs.lemmas.Option.{slice_get-map}
 use Rattle.staat_vec.specs.declared.vector.V3.{V3}
 use Rattle.staat_model.proofs.GraphLemmas.{from_slice_get}
 use Rattle.staat_ring.specs.declared.entry.Entry.{Entry}

@@ -1,5 +1,5 @@
 -- Going round a ring.
-use Rattle.std.proofs.Common.{◌≡◌, ◌≢◌, ◌⊎◌, inl, inr, ⊎_elim, ℕ, zero, suc, ◌+◌, ◌*◌, ◌<◌, ◌≤◌, arith, ap, refl, sym, subst, ◌∙◌, not, List, [], ◌∷◌, ◌++◌, length, get_or, take, All, Contains, Bool, true, false, ◌||◌, eq-eqb}
+use Rattle.std.proofs.Common.{◌≡◌, ◌≢◌, ◌⊎◌, ⊎_elim, ℕ, zero, suc, ◌+◌, ◌<◌, ◌≤◌, arith, ap, refl, sym, subst, ◌∙◌, not, List, [], ◌∷◌, ◌++◌, length, get_or, take, Contains, Bool, true, false, ◌||◌, eq-eqb}
 use Rattle.std.specs.Prelude.{◌==◌, map, nat_lt}
 use Rattle.std.proofs.lemmas.Bool.Decides.{nat_tests}
 use Rattle.std.specs.List.{filter}

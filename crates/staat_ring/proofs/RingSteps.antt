@@ -9,7 +9,7 @@ use Rattle.staat_ring.specs.Planes.{entries_of}
 use Rattle.staat_ring.specs.Views.{kept_of}
 use Rattle.staat_ring.specs.RingViews.{rings_at, rings_of, undo, arrangement_of, CanBeUndone, still_linked, shape}
 use Rattle.staat_ring.specs.Rings.{Arrangement, Kept, Ring}
-use Rattle.staat_ring.specs.Without.{IsRelinked, IsUnlinked, kept_plane, rings_without}
+use Rattle.staat_ring.specs.Without.{IsUnlinked, kept_plane, rings_without}
 use Rattle.staat_ring.specs.Views.{lists_of}
 use Rattle.staat_ring.specs.RingInvariant.{AreKept}
 use Rattle.staat_ring.proofs.ViewLemmas.{kept-push}
@@ -88,7 +88,7 @@ module _ (n count : ℕ) (order : List ℕ) (a b : Arrays) (v : Arrangement) (p 
         ];
         sound = subst (λ o. CanBeUndone n o b) (sym (order_push count order p room))
             (sound-push n p (take count order) a b back
-            (subst (λ x. Rattle.staat_ring.specs.RingViews.IsGood n (take count order ++ p ∷ []) x) (sym is) (good-unlink n p (take count order) a l.0 l.1 (sound_is_good n (take count order) a k.sound))) k.sound);
+            (subst (λ x. Rattle.staat_ring.specs.RingViews.StandForCircles n (take count order ++ p ∷ []) x) (sym is) (good-unlink n p (take count order) a l.0 l.1 (sound_is_good n (take count order) a k.sound))) k.sound);
       }
     where
       at_most : (k m : ℕ) → (k ≤ m) ⊎ (m + 1 ≤ k)

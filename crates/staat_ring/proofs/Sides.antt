@@ -1,14 +1,13 @@
 -- On which side of a plane a vertex lies, by the turn to a crossing.
-use Rattle.std.proofs.Common.{◌≡◌, ◌≢◌, ℕ, zero, suc, ◌≤◌, refl, sym, ap, subst, ◌∙◌, arith, ℤ, pos, negsuc, ◌-ℤ◌, ◌*ℤ◌, ◌<ℤ◌, List, [], ◌∷◌, Contains}
+use Rattle.std.proofs.Common.{◌≡◌, ◌≢◌, ap, ◌∙◌, arith, ℤ, pos, ◌-ℤ◌, ◌*ℤ◌, [], ◌∷◌}
 use Rattle.std.proofs.lemmas.Int.{ints}
 use Rattle.staat_vec.specs.declared.vector.V3.{V3}
-use Rattle.staat_vec.specs.Vectors.{dot, cross, negative, origin, sign}
+use Rattle.staat_vec.specs.Vectors.{dot, cross, origin}
 use Rattle.staat_vec.specs.Primitives.{primitive, content}
-use Rattle.staat_ring.specs.Turns.{turn, NextIn}
-use Rattle.staat_vec.proofs.Ring.{at, num, ◌⊖◌, ◌⊗◌, ring}
+use Rattle.staat_ring.specs.Turns.{turn}
+use Rattle.staat_vec.proofs.Ring.{at, ◌⊖◌, ◌⊗◌, ring}
 use Rattle.staat_vec.proofs.VecRing.{dotE, crossE, values, v0, v1, v2, timesE}
-use Rattle.staat_vec.proofs.Order.{pos_mul}
-use Rattle.staat_ring.proofs.Turning.{turnE, turn_back, turn_negative_left, turn_negative_right, cancel_positive}
+use Rattle.staat_ring.proofs.Turning.{turnE}
 use Rattle.staat_ring.proofs.Content.{content_divides}
 
 -- on which side of the plane h a vertex is, by the turning sense from it to the crossing with h

@@ -1,15 +1,10 @@
 -- Crossings lie on their planes, and two planes do not meet in two vertices that follow each other.
-use Rattle.std.proofs.Common.{◌≡◌, ◌≢◌, ℕ, zero, suc, refl, sym, ap, subst, ◌∙◌, arith, ℤ, pos, negsuc, ◌+ℤ◌, ◌-ℤ◌, ◌*ℤ◌, neg_ℤ, ◌≤ℤ◌, ◌<ℤ◌, List, [], ◌∷◌, map, ◌⊎◌, inl, inr, Contains}
+use Rattle.std.proofs.Common.{◌≡◌, ◌≢◌, ℕ, sym, ap, ◌∙◌, arith, ℤ, pos, ◌+ℤ◌, ◌-ℤ◌, ◌*ℤ◌, neg_ℤ, ◌≤ℤ◌, ◌<ℤ◌, List, [], ◌∷◌, ◌⊎◌, inl, inr}
 use Rattle.std.proofs.lemmas.Int.{ints}
-use Rattle.std.proofs.lemmas.Option.{same_Some}
 use Rattle.staat_vec.specs.declared.vector.V3.{V3}
-use Rattle.staat_vec.specs.declared.vector.Sign.TheVariants.{Zero}
-use Rattle.staat_vec.specs.Vectors.{dot, cross, det, negative, origin, sign}
+use Rattle.staat_vec.specs.Vectors.{dot, cross, det, negative, origin}
 use Rattle.staat_vec.specs.Primitives.{primitive, content}
-use Rattle.staat_model.specs.Circles.{Stop, IsLinked, IsOnCircle, IsNext, IsCircle, IsAfter, PassesThrough}
-use Rattle.staat_vec.specs.Lists.{Lists}
-use Rattle.std.specs.Ordering.{nat_cmp}
-use Rattle.std.proofs.lemmas.List.Elements.{All-contains}
+use Rattle.staat_model.specs.Circles.{IsLinked, IsOnCircle}
 use Rattle.staat_ring.specs.Turns.{turn}
 use Rattle.staat_ring.specs.Rings.{AreLinkedApart}
 use Rattle.staat_vec.proofs.Ring.{at, num, ◌⊕◌, ◌⊖◌, ◌⊗◌, ring}

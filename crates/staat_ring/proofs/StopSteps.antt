@@ -1,5 +1,5 @@
 -- The stops of a circle are linked one after another.
-use Rattle.std.proofs.Common.{◌≡◌, ◌≢◌, ◌⊎◌, inl, inr, ⊎_elim, ℕ, zero, suc, ◌+◌, ◌*◌, ◌<◌, ◌≤◌, arith, ap, refl, sym, subst, ◌∙◌, List, [], ◌∷◌, length, get_or, All, Contains}
+use Rattle.std.proofs.Common.{◌≡◌, ◌≢◌, ⊎_elim, ℕ, ◌+◌, ◌*◌, ◌<◌, ◌≤◌, arith, ap, refl, sym, subst, ◌∙◌, List, [], ◌∷◌, length, get_or, All}
 use Rattle.std.specs.Prelude.{map}
 use Rattle.std.proofs.lemmas.List.{get_or_default}
 use Rattle.std.proofs.lemmas.List.Elements.{All-contains}
@@ -7,12 +7,12 @@ use Rattle.staat_model.proofs.Members.{All-from_members}
 use Rattle.staat_ring.specs.declared.entry.Entry.{Entry}
 use Rattle.staat_ring.specs.Builds.{slot_at}
 use Rattle.staat_ring.specs.Links.{Apart, Arrays, Distinct, Links, IsLinkedRing}
-use Rattle.staat_ring.specs.Linking.{AreHomedAt, AreLinked, AreRows, AreSized, AreStopsLinked, CanBeLinked, HoldsCircle, IsAlone, IsKeptAt, IsSameAt, rows_of}
+use Rattle.staat_ring.specs.Linking.{AreHomedAt, AreLinked, AreSized, AreStopsLinked, CanBeLinked, HoldsCircle, IsKeptAt, IsSameAt, rows_of}
 use Rattle.staat_ring.specs.Numbered.{head_number, node_number, vertex_row}
 use Rattle.staat_ring.specs.Rings.{entry_number}
 use Rattle.staat_ring.specs.RingViews.{shape}
-use Rattle.staat_ring.specs.Rows.{Row, all_of, row_at}
-use Rattle.staat_ring.proofs.Mapped.{apart_from, from_apart, from_map, in_map, same_or}
+use Rattle.staat_ring.specs.Rows.{Row, all_of}
+use Rattle.staat_ring.proofs.Mapped.{apart_from, from_map, in_map, same_or}
 use Rattle.staat_ring.proofs.Numbering.{entry_circle}
 use Rattle.staat_ring.proofs.RowRules as rules
 use Rattle.staat_ring.proofs.Rows.{linked_row, ring_same}

@@ -5,7 +5,6 @@ use Rattle.staat_ring.specs.Links.{Arrays, Apart, Distinct}
 use Rattle.staat_ring.specs.Stands.{RingLists, without}
 use Rattle.staat_ring.specs.Views.{undo_all}
 use Rattle.staat_ring.specs.RingViews.{rings_of, rings_at, undo, StandForCircles, CanBeUndone, still_linked, is_out, numbers_below, shape}
-use Rattle.staat_ring.specs.Rings.{Ring}
 use Rattle.staat_ring.proofs.ViewLemmas.{undo-push}
 use Rattle.staat_ring.proofs.SoundLemmas.{filter_inside}
 use Rattle.staat_ring.proofs.RingLemmas.{listed-push, filter_twice, filter_by, eqb_turned, below_small}

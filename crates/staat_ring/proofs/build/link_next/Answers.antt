@@ -1,7 +1,7 @@
 use Rattle.std.proofs.Common.{length}
 use Rattle.staat_ring.specs.RingViews.{numbers_below}
 use Rattle.staat_ring.proofs.Built.{below_all}
-use Rattle.staat_ring.proofs.CircleSteps.{next_alone, next_can, next_linked}
+use Rattle.staat_ring.proofs.CircleSteps.{next_can, next_linked}
 use Rattle.staat_ring.proofs.build.link_next.Goals as goal
 
 pub nodes_of-requires-clause-stops : goal.nodes_of-requires-clause-stops

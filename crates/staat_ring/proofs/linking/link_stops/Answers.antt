@@ -1,4 +1,3 @@
-use Rattle.std.proofs.Common.{◌∙◌}
 use Rattle.staat_ring.proofs.StopSteps.{slot_is, stop_alone, stop_distinct, stop_linked}
 use Rattle.staat_ring.proofs.linking.link_stops.Goals as goal
 

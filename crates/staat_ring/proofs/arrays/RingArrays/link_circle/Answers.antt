@@ -1,7 +1,7 @@
 use Rattle.std.proofs.Common.{ap, get_or, sym, subst, ◌∙◌}
 use Rattle.staat_ring.specs.Links.{Arrays}
 use Rattle.staat_ring.specs.Linking.{AreSized, IsAlone}
-use Rattle.staat_ring.proofs.ArraySteps.{alone_head, alone_stops, holds_after, homes_after, homes_in, kept_from, nodes_apart, nodes_in, others_after, sizes_after}
+use Rattle.staat_ring.proofs.ArraySteps.{alone_head, alone_stops, holds_after, homes_after, homes_in, kept_from, nodes_apart, nodes_in, others_after}
 use Rattle.staat_ring.proofs.arrays.RingArrays.link_circle.Goals as goal
 
 pub link-requires-clause-nodes : goal.link-requires-clause-nodes

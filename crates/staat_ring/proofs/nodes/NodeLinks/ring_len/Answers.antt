@@ -1,5 +1,5 @@
 use Rattle.std.proofs.Common.{◌+◌, subst, sym}
-use Rattle.staat_ring.proofs.RingLength.{IsAtPlace, at_next, at_start, ends, node_within}
+use Rattle.staat_ring.proofs.RingLength.{IsAtPlace, at_next, ends, node_within}
 use Rattle.staat_ring.proofs.nodes.NodeLinks.ring_len.Goals as goal
 
 pub returns-then-node-head : goal.returns-then-node-head

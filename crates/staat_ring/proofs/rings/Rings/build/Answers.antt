@@ -1,4 +1,4 @@
-use Rattle.std.proofs.Common.{◌≤◌, length, subst, sym, take, ◌∙◌}
+use Rattle.std.proofs.Common.{◌≤◌, subst, sym, take, ◌∙◌}
 use Rattle.staat_ring.specs.RingInvariant.{AreKept}
 use Rattle.staat_ring.specs.Rings.{WereMadeFrom}
 use Rattle.staat_ring.specs.RingViews.{arrangement_of}

@@ -1,5 +1,4 @@
-use Rattle.std.proofs.Common.{arith, ◌*◌, ◌<◌, ◌∙◌, subst, sym}
-use Rattle.staat_ring.specs.Stands.{IsShortRing}
+use Rattle.std.proofs.Common.{◌∙◌}
 use Rattle.staat_ring.proofs.RingLength.{circle_nodes, linked_small, short_ring, vertices_are}
 use Rattle.staat_ring.proofs.rings.Rings.circle_vertices.Goals as goal
 

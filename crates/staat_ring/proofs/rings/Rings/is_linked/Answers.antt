@@ -1,4 +1,4 @@
-use Rattle.std.proofs.Common.{◌≡◌, Bool, true, Contains, subst, take}
+use Rattle.std.proofs.Common.{◌≡◌, true, Contains, subst, take}
 use Rattle.staat_ring.proofs.RingLength.{is_below, linked_if, linked_then, not_below, unless}
 use Rattle.staat_ring.proofs.rings.Rings.is_linked.Goals as goal
 

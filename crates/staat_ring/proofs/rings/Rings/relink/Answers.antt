@@ -1,5 +1,5 @@
 use Rattle.staat_ring.proofs.Made.{relinked_made}
-use Rattle.staat_ring.proofs.RingSteps.{last_small, relink_invariant, relink_kept, some}
+use Rattle.staat_ring.proofs.RingSteps.{last_small, relink_invariant, relink_kept}
 use Rattle.staat_ring.proofs.rings.Rings.relink.Goals as goal
 
 pub give_plane-requires-clause-plane : goal.give_plane-requires-clause-plane
