@@ -9,7 +9,7 @@ use crate::edges::add_edges;
 use crate::narrow::narrow_cross;
 use crate::pairs::along;
 use crate::walls::is_wall;
-use staat_vec::{DIFF, NORMAL, OutOfMemory, V3, det, neg};
+use staat_vec::{DIFF, NORMAL, OutOfMemory, V3, neg};
 
 // whether x is not parallel to v
 fn is_apart(x: V3, v: V3) -> bool
@@ -106,7 +106,7 @@ fn is_off(v: V3, u: V3, w: V3) -> bool
     requires third { IsWithin DIFF w }
     ensures { IsTrue result ↔ (det v u w ≢ pos 0) }
 {
-    det(v, u, w) != 0
+    along(v, narrow_cross(u, w)) != 0
 }
 
 // adds the edges through v and one of the two
