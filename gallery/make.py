@@ -109,7 +109,8 @@ def product(make):
     return make
 
 
-# Each function answers a list of parts: (name, [(file, points), ..]).
+# Each function answers a list of parts: (name, [(file, points), ..]), and behind that the vector `at` where there is one. A file
+# without points is one of another product.
 
 # ---------------------------------------------------------------- joints
 
@@ -455,7 +456,7 @@ def six_piece_burr():
 
 @product
 def locked_burr():
-    """Six cubes in the middle are left out or given to other sticks, so that no stick comes out at once."""
+    """Four cubes in the middle are left out: the south stick can go up by one cube, and only then the upper stick slides out."""
     return sticks([
         "...... ..EE.. ..EE.. ..FF.. ..FF.. ......",
         "...... ..EE.. BBBBBB BBF.BB ..FF.. ......",
@@ -464,6 +465,13 @@ def locked_burr():
         "...... ..EE.. AAAAAA AAFAAA ..FF.. ......",
         "...... ..EE.. ..EE.. ..FF.. ..FF.. ......",
     ])
+
+
+@product
+def lifted_burr():
+    """The files of the locked burr, with the south stick one cube higher."""
+    return [(name, [("../locked-burr/" + file, None) for file, _ in pieces], (0, 0, 1) if name == STICKS["F"] else None)
+            for name, pieces in locked_burr()]
 
 
 # ---------------------------------------------------------------- files
@@ -476,15 +484,17 @@ def main():
             if old.endswith(".off"):
                 os.remove(os.path.join(folder, old))
         lines = []
-        for part, pieces in make():
+        for part, pieces, *at in make():
             files = []
             for label, points in pieces:
                 path = os.path.join(folder, label + ".off")
-                assert not os.path.exists(path), path
-                with open(path, "w") as f:
-                    f.write(hull_off(points))
-                files.append("gallery/%s/%s.off" % (name, label))
-            lines.append('  {"name":%s,"pieces":[%s]}' % (json.dumps(part), ", ".join(json.dumps(f) for f in files)))
+                if points is not None:
+                    assert not os.path.exists(path), path
+                    with open(path, "w") as f:
+                        f.write(hull_off(points))
+                files.append(os.path.normpath("gallery/%s/%s.off" % (name, label)))
+            place = ',"at":[%d,%d,%d]' % at[0] if at and at[0] else ""
+            lines.append('  {"name":%s,"pieces":[%s]%s}' % (json.dumps(part), ", ".join(json.dumps(f) for f in files), place))
         with open(os.path.join(folder, "parts.json"), "w") as f:
             f.write('{"parts":[\n' + ",\n".join(lines) + "\n]}\n")
 
