@@ -254,5 +254,6 @@ def draw(name):
     print(name, page.size, os.path.getsize(path))
 
 
-for wanted in sys.argv[1:] or sorted(VIEWS):
-    draw(wanted)
+if __name__ == "__main__":
+    for wanted in sys.argv[1:] or sorted(VIEWS):
+        draw(wanted)
