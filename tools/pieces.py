@@ -1,0 +1,647 @@
+#!/usr/bin/python3
+"""From the meshes of a CAD program to pieces and a part list for staat.
+
+Each file is a part, and so is each folder of files. Its solids are the pieces. Points are rounded to a grid, and each
+solid becomes the exact convex hull of its rounded points. tools/README.md says more, docs/INPUT.md shows it at work.
+
+Nothing here is proved. What it writes are files like any others: staat judges them.
+"""
+import argparse
+import json
+import math
+import os
+import re
+import sys
+from fractions import Fraction
+
+import numpy
+from scipy.spatial import ConvexHull, QhullError, cKDTree
+
+GREATEST = 262144    # the greatest coordinate that staat reads
+MOST_CORNERS = 64    # of a piece
+MOST_PARTS = 32
+MOST_PIECES = 64     # of all parts
+SUFFIXES = (".stl", ".obj", ".ply", ".off")
+SPLIT = "split it into convex pieces in the CAD program and export each as a file of its own, all in one folder"
+
+
+class Refusal(Exception):
+    """A line that says why nothing is written."""
+
+
+def short(number):
+    """A length as people read it."""
+    text = f"{number:.3g}" if abs(number) < 1000 else f"{number:.6g}"
+    return format(float(text), "f").rstrip("0").rstrip(".") if abs(number) >= 1e-6 else text
+
+
+# Reading
+
+
+def read_mesh(name):
+    """The points, as rows of three numbers, and the faces, as lists of the numbers of their corners."""
+    suffix = os.path.splitext(name)[1].lower()
+    try:
+        if suffix in (".stl", ".obj", ".ply"):
+            points, faces = read_by_meshio(name)
+        else:
+            with open(name, "rb") as file:
+                points, faces = read_off(file.read())
+    except Refusal as fault:
+        raise Refusal(f"{name}: {fault}")
+    except OSError as fault:
+        raise Refusal(f"cannot read {name}: {fault.strerror or fault}")
+    except (Exception, SystemExit) as fault:  # meshio answers a bad file by exceptions of many kinds
+        raise Refusal(f"{name}: no mesh that can be read ({type(fault).__name__}: {str(fault).splitlines()[:1]})")
+    points = numpy.array(points, float).reshape(len(points), -1)
+    if not faces:
+        raise Refusal(f"{name}: no faces")
+    if points.shape[1] < 3 or not numpy.isfinite(points).all():
+        raise Refusal(f"{name}: a point has no three finite coordinates")
+    least, most = min(map(min, faces)), max(map(max, faces))
+    if least < 0 or most >= len(points):
+        raise Refusal(f"{name}: a face names point {least if least < 0 else most}, and there is no such point")
+    return points[:, :3], faces
+
+
+def read_by_meshio(name):
+    import meshio
+    with open(name, "rb"):
+        pass
+    mesh = meshio.read(name)
+    faces = []
+    for block in mesh.cells:
+        if block.type in ("triangle", "quad") or block.type.startswith("polygon"):
+            faces += [[int(corner) for corner in face] for face in block.data]
+    return mesh.points, faces
+
+
+def read_off(data):
+    """Geomview's OFF in the variants that are met: a header with a prefix or none, inside braces, with colours."""
+    text = re.sub("#[^\n]*", "", data.decode("latin-1"))
+    header = re.search(r"(?<!\S)\{?\s*((?:ST)?C?N?)(4?)(n?)OFF(?!\S)", text)
+    if header:
+        prefix, four, many = header.groups()
+        text = text[header.end():]
+        if four or many:
+            raise Refusal("points of other than three coordinates")
+        if re.match(r"\s*BINARY", text):
+            raise Refusal("binary OFF is not read; export it as text, or as STL, OBJ or PLY")
+    elif re.match(r"\s*\d+\s+\d+\s+\d+\s", text):
+        prefix = ""
+    else:
+        raise Refusal("no mesh that can be read (STL, OBJ, PLY or OFF)")
+    counts = re.match(r"\s*(\d+)\s+(\d+)(?:[ \t]+\d+)?", text)
+    if not counts:
+        raise Refusal("no counts behind the header")
+    many_points, many_faces = int(counts.group(1)), int(counts.group(2))
+    text = text[counts.end():]
+    try:
+        if prefix:  # the numbers of a colour are three or four, so only lines tell points apart
+            lines = [line for line in text.split("\n") if line.strip()]
+            points = [[float(word) for word in line.split()[:3]] for line in lines[:many_points]]
+            lines = lines[many_points:]
+        else:
+            words = re.compile(r"\s*" + r"(\S+)\s+" * 3)
+            points, at = [], 0
+            for _ in range(many_points):
+                found = words.match(text, at)
+                points.append([float(word) for word in found.groups()])
+                at = found.end()
+            lines = [line for line in text[at:].split("\n") if line.strip()]
+        faces = []
+        for line in lines[:many_faces]:
+            numbers = line.split()
+            corners = [int(word) for word in numbers[1:1 + int(numbers[0])]]
+            if len(corners) != int(numbers[0]):
+                raise Refusal(f"face {len(faces)} has fewer corners than it says")
+            faces.append(corners)
+    except (AttributeError, ValueError, IndexError):
+        raise Refusal("a number is missing or is none")
+    if len(points) < many_points or len(faces) < many_faces or any(len(point) < 3 for point in points):
+        raise Refusal("the file ends too early")
+    return points, faces
+
+
+# Solids
+
+
+class Groups:
+    """Numbers that are joined to groups."""
+
+    def __init__(self, many):
+        self.above = list(range(many))
+
+    def of(self, number):
+        while self.above[number] != number:
+            self.above[number] = self.above[self.above[number]]
+            number = self.above[number]
+        return number
+
+    def join(self, one, other):
+        self.above[self.of(one)] = self.of(other)
+
+
+def edges_of(face):
+    return [(min(one, other), max(one, other)) for one, other in zip(face, face[1:] + face[:1])]
+
+
+def connected(faces):
+    """The faces in lists, each of faces that hang together by edges, in order of the first face."""
+    groups, seen = Groups(len(faces)), {}
+    for number, face in enumerate(faces):
+        for edge in edges_of(face):
+            groups.join(number, seen.setdefault(edge, number))
+    lists = {}
+    for number, face in enumerate(faces):
+        lists.setdefault(groups.of(number), []).append(face)
+    return list(lists.values())
+
+
+def open_edges(faces):
+    """How many edges are not shared by exactly two faces."""
+    times = {}
+    for face in faces:
+        for edge in edges_of(face):
+            times[edge] = times.get(edge, 0) + 1
+    return sum(1 for number in times.values() if number != 2)
+
+
+def proper(faces):
+    """The faces without repeated corners; those that have no three corners are left out."""
+    kept = []
+    for face in faces:
+        face = [corner for corner, next_one in zip(face, face[1:] + face[:1]) if corner != next_one]
+        if len(set(face)) >= 3:
+            kept.append(face)
+    return kept
+
+
+def split_edges(points, faces, near):
+    """The faces, where the edges that are not shared by two are split at points that lie on them."""
+    times, used = {}, sorted({corner for face in faces for corner in face})
+    for face in faces:
+        for edge in edges_of(face):
+            times[edge] = times.get(edge, 0) + 1
+    places, between = points[used], {}
+    for one, other in (edge for edge, number in times.items() if number != 2):
+        way = points[other] - points[one]
+        length = float(numpy.linalg.norm(way))
+        along = (places - points[one]) @ way / (length or 1)
+        off = numpy.linalg.norm(places - points[one] - numpy.outer(along, way / (length or 1)), axis=1)
+        on = [(along[at], used[at]) for at in numpy.nonzero((off <= near) & (along > near) & (along < length - near))[0]]
+        between[one, other] = [number for _, number in sorted(on)]
+    new = []
+    for face in faces:
+        new.append([])
+        for one, other in zip(face, face[1:] + face[:1]):
+            inner = between.get((min(one, other), max(one, other)), [])
+            new[-1] += [one] + (inner if one < other else inner[::-1])
+    return new
+
+
+def solids_of(points, faces, merge, near):
+    """The closed surfaces of a mesh, each as its points and its faces, and how many edges of each are open."""
+    closed, rest = [], []
+    for some in connected(proper(faces)):
+        if open_edges(some) == 0:
+            closed.append(some)
+        else:
+            rest += some
+    if rest:  # points that lie together are one; so triangles that were written one by one hang together
+        groups = Groups(len(points))
+        for one, other in cKDTree(points).query_pairs(merge):
+            groups.join(one, other)
+        rest = proper([[groups.of(corner) for corner in face] for face in rest])
+        if open_edges(rest):
+            rest = proper(split_edges(points, rest, near))
+    solids = []
+    for some in closed + connected(rest):
+        used = sorted({corner for face in some for corner in face})
+        place = {corner: number for number, corner in enumerate(used)}
+        solids.append((points[used], [[place[corner] for corner in face] for face in some], open_edges(some)))
+    return solids
+
+
+def dent_of(points, faces, hull):
+    """How far a face lies inside the hull: nothing at all where the solid is convex."""
+    depth = -(points @ hull.equations[:, :3].T + hull.equations[:, 3])
+    return max(float(depth[face].max(axis=0).min()) for face in faces)
+
+
+# Exact hulls, by whole numbers
+
+
+def less(one, other):
+    return (one[0] - other[0], one[1] - other[1], one[2] - other[2])
+
+
+def cross(one, other):
+    return (one[1] * other[2] - one[2] * other[1], one[2] * other[0] - one[0] * other[2],
+            one[0] * other[1] - one[1] * other[0])
+
+
+def dot(one, other):
+    return one[0] * other[0] + one[1] * other[1] + one[2] * other[2]
+
+
+def primitive(vector):
+    divisor = math.gcd(*vector)
+    return tuple(number // divisor for number in vector)
+
+
+def spans_space(points):
+    base = points[0]
+    rest = [less(point, base) for point in points[1:]]
+    first = next((vector for vector in rest if any(vector)), None)
+    normal = first and next((n for n in (cross(first, vector) for vector in rest) if any(n)), None)
+    return bool(normal) and any(dot(normal, vector) for vector in rest)
+
+
+def turned(points, at, along, normal):
+    """The plane through a point and a direction, turned about them from a plane with no point ahead until it meets one."""
+    inward, best = cross(normal, along), None
+    for point in points:
+        step = less(point, at)
+        place = (-dot(inward, step), -dot(normal, step))
+        if place != (0, 0) and (best is None or place[0] * best[0][1] > place[1] * best[0][0]):
+            best = (place, step)
+    return primitive(cross(best[1], along))
+
+
+def face_on(points, normal):
+    """The corners of the face with this outward normal, in order, seen from outside against the clock."""
+    height = max(dot(normal, point) for point in points)
+    flat = [point for point in points if dot(normal, point) == height]
+    drop = max(range(3), key=lambda axis: abs(normal[axis]))
+    keep = [(drop + 1) % 3, (drop + 2) % 3]
+    flat.sort(key=lambda point: (point[keep[0]], point[keep[1]]))
+
+    def chain(row):
+        kept = []
+        for point in row:
+            while len(kept) > 1:
+                one, other = less(kept[-1], kept[-2]), less(point, kept[-1])
+                if one[keep[0]] * other[keep[1]] - one[keep[1]] * other[keep[0]] > 0:
+                    break
+                kept.pop()
+            kept.append(point)
+        return kept[:-1]
+
+    corners = chain(flat) + chain(flat[::-1])
+    return corners if normal[drop] > 0 else corners[::-1]
+
+
+def exact_hull(points):
+    """The faces of the hull of whole points that span space: outward normals with their corners.
+
+    The hull of scipy, which is made with rounded numbers, proposes planes. Only planes with no point ahead are kept, by
+    whole numbers; what is missing then is found by turning planes about edges that lack a face.
+    """
+    table = numpy.array(points, numpy.int64)  # below 2^19 as differences, so that all products here stay below 2^62
+    normals = set()
+    try:
+        for simplex in ConvexHull(table.astype(float)).simplices:
+            one, two, three = (points[number] for number in simplex)
+            normal = cross(less(two, one), less(three, one))
+            if any(normal):
+                heights = table @ numpy.array(normal, numpy.int64)
+                height = dot(normal, one)
+                if heights.max() == height:
+                    normals.add(primitive(normal))
+                elif heights.min() == height:
+                    normals.add(primitive(tuple(-number for number in normal)))
+    except QhullError:
+        pass
+    return wrapped(points, normals)
+
+
+def wrapped(points, normals):
+    if not normals:
+        first = min(points)
+        half = turned(points, first, (0, 0, 1), (-1, 0, 0))
+        second = next(p for p in points if dot(half, less(p, first)) == 0 and p[:2] != first[:2])
+        normals = {turned(points, first, less(second, first), half)}
+    faces = {normal: face_on(points, normal) for normal in normals}
+    waiting = list(faces)
+    owner = {}
+    for normal, face in faces.items():
+        owner.update({edge: normal for edge in zip(face, face[1:] + face[:1])})
+    while waiting:
+        normal = waiting.pop()
+        face = faces[normal]
+        for one, other in zip(face, face[1:] + face[:1]):
+            if (other, one) not in owner:
+                new = turned(points, one, less(other, one), normal)
+                faces[new] = face_on(points, new)
+                owner.update({edge: new for edge in zip(faces[new], faces[new][1:] + faces[new][:1])})
+                waiting.append(new)
+    return faces
+
+
+def is_hull(points, faces):
+    """Whether these are the faces of the hull: closed, and with no point ahead of any."""
+    corners = {corner for face in faces.values() for corner in face}
+    edges = [edge for face in faces.values() for edge in zip(face, face[1:] + face[:1])]
+    return (len(set(edges)) == len(edges) and all((other, one) in set(edges) for one, other in edges)
+            and len(corners) - len(edges) // 2 + len(faces) == 2
+            and all(len(face) >= 3 and all(dot(normal, less(point, face[0])) <= 0 for point in points)
+                    and all(dot(normal, less(corner, face[0])) == 0 for corner in face)
+                    for normal, face in faces.items()))
+
+
+# Pieces
+
+
+class Piece:
+    def __init__(self, name, label, points, hull, dent):
+        self.name, self.label, self.drawn, self.hull, self.dent = name, label, points, hull, dent
+
+    def round(self, grid, shrink):
+        """Takes the exact hull of the rounded points, and where it is asked for again of the corners moved inwards."""
+        steps = self.drawn / grid
+        self.take(numpy.rint(steps), steps)
+        if shrink:
+            corners, moved = numpy.array(list(self.source)), []
+            normals = {normal: numpy.array(normal) / math.sqrt(dot(normal, normal)) for normal in self.faces}
+            sources = numpy.array(list(self.source.values()))
+            centre = sources.mean(axis=0)
+            for corner, source in zip(map(tuple, corners.tolist()), sources):
+                around = numpy.array([normals[normal] for normal, face in self.faces.items() if corner in face])
+                moved.append(source + inwards(around, shrink, centre - source))
+            self.take(numpy.rint(numpy.array(moved)), sources)
+            self.out = float((numpy.array(list(self.source)) @ self.hull.equations[:, :3].T
+                              + self.hull.equations[:, 3] / grid).max()) * grid
+        self.moved = max(math.dist(corner, source) for corner, source in self.source.items()) * grid
+
+    def take(self, rounded, steps):
+        source = {}
+        for point, step in zip(rounded.astype(int).tolist(), steps.tolist()):
+            point = tuple(point)
+            if point not in source or math.dist(point, step) > math.dist(point, source[point]):
+                source[point] = step
+        points = sorted(source)
+        if len(points) < 4 or not spans_space(points):
+            raise Refusal(f"{self.label} is flat on this grid; give a finer --grid")
+        self.faces = exact_hull(points)
+        corners = sorted({corner for face in self.faces.values() for corner in face})
+        if len(corners) > MOST_CORNERS:
+            raise Refusal(f"{self.label} has {len(corners)} corners on this grid, more than {MOST_CORNERS}; draw round "
+                          "faces with fewer sides, or split it")
+        if not is_hull(points, self.faces):
+            raise Refusal(f"{self.label}: its hull could not be made")
+        self.corners = corners
+        self.source = {corner: source[corner] for corner in corners}
+
+    def text(self):
+        place = {corner: number for number, corner in enumerate(self.corners)}
+        lines = ["OFF", f"{len(self.corners)} {len(self.faces)} 0"]
+        lines += [" ".join(map(str, corner)) for corner in self.corners]
+        for face in sorted([place[corner] for corner in face] for face in self.faces.values()):
+            lines.append(" ".join(map(str, [len(face)] + face)))
+        return "\n".join(lines) + "\n"
+
+    def directions(self):
+        """The normals of the faces, and one direction for each edge."""
+        edges = set()
+        for face in self.faces.values():
+            for one, other in zip(face, face[1:] + face[:1]):
+                edges.add(max(primitive(less(one, other)), primitive(less(other, one))))
+        return list(self.faces), sorted(edges)
+
+
+def inwards(normals, shrink, to_centre):
+    """The way of a corner by which each face around it goes inwards by so many steps; the least, where that is clear."""
+    way = numpy.linalg.lstsq(normals, numpy.full(len(normals), -float(shrink)), rcond=0.05)[0]
+    least = -(normals @ way).max()
+    if least < shrink / 8:
+        way = to_centre
+        least = -(normals @ way).max()
+    return way * max(1.0, shrink / least) if least >= shrink / 8 else way * (shrink / max(least, 1e-9))
+
+
+def overlap_of(one, other, grid):
+    """Nothing where two pieces share no inner point, by whole numbers; else how deep they overlap as drawn.
+
+    Two convex pieces share none exactly where a wall stands between them whose normal is that of a face or is
+    perpendicular to an edge of either piece.
+    """
+    first, second = (numpy.array(piece.corners, numpy.int64) for piece in (one, other))
+    if (first.max(axis=0) <= second.min(axis=0)).any() or (second.max(axis=0) <= first.min(axis=0)).any():
+        return None
+    faces, edges = one.directions()
+    more_faces, more_edges = other.directions()
+    walls = numpy.array(faces + [tuple(-number for number in normal) for normal in more_faces], numpy.int64)
+    crossed = numpy.cross(numpy.array(edges)[:, None, :], numpy.array(more_edges)[None, :, :]).reshape(-1, 3)
+    crossed = crossed[crossed.any(axis=1)]
+    walls = numpy.concatenate([walls, crossed, -crossed])
+    if ((walls @ first.T).max(axis=1) <= (walls @ second.T).min(axis=1)).any():
+        return None
+    units = walls / numpy.linalg.norm(walls.astype(float), axis=1)[:, None]
+    drawn = (units @ (one.drawn / grid).T).max(axis=1) - (units @ (other.drawn / grid).T).min(axis=1)
+    return max(0.0, float(drawn.min()) * grid)
+
+
+# The whole
+
+
+def grid_of(text):
+    try:
+        grid = Fraction(text)
+    except (ValueError, ZeroDivisionError):
+        raise argparse.ArgumentTypeError(f"{text} is no number")
+    if grid <= 0:
+        raise argparse.ArgumentTypeError(f"{text} is not above 0")
+    return grid
+
+
+def length_of(text):
+    return float(grid_of(text))
+
+
+def steps_of(text):
+    if not text.isdigit():
+        raise argparse.ArgumentTypeError(f"{text} is no whole number from 0 on")
+    return int(text)
+
+
+def finest(greatest):
+    """The finest grid of 1, 2 or 5 times a power of ten that keeps all coordinates within the greatest."""
+    power = math.floor(math.log10(greatest / GREATEST)) - 1 if greatest else 0
+    while True:
+        for digit in (1, 2, 5):
+            grid = digit * Fraction(10) ** power
+            if Fraction(greatest) <= GREATEST * grid:
+                return grid
+        power += 1
+
+
+def written(grid):
+    """A grid as it is given: a decimal number where it is one, else a fraction."""
+    if 10 ** 12 % grid.denominator:
+        return str(grid)
+    return format(grid.numerator * 10 ** 12 // grid.denominator / 10 ** 12, ".12f").rstrip("0").rstrip(".")
+
+
+def sources_of(words):
+    """The parts as their names and files: a word is a file, or a folder of files."""
+    parts = []
+    for word in words:
+        name = os.path.basename(os.path.normpath(word))
+        if os.path.isdir(word):
+            files = sorted(file for file in os.listdir(word) if file.lower().endswith(SUFFIXES))
+            if not files:
+                raise Refusal(f"{word}: no file in this folder ends in {', '.join(SUFFIXES)}")
+            parts.append((name, [os.path.join(word, file) for file in files]))
+        else:
+            parts.append((os.path.splitext(name)[0] or name, [word]))
+    return parts
+
+
+def pieces_of(name, options):
+    """The pieces of one file, before they are rounded."""
+    points, faces = read_mesh(name)
+    extent = float((points.max(axis=0) - points.min(axis=0)).max())
+    merge = extent / 1e6 if options.merge is None else options.merge
+    near = extent / 10000 if options.tolerance is None else options.tolerance
+    solids = solids_of(points, faces, merge, near)
+    if not solids:
+        raise Refusal(f"{name}: no face has three different corners")
+    pieces = []
+    for number, (points, faces, gaps) in enumerate(solids):
+        label = name if len(solids) == 1 else f"{name}: solid {number}"
+        if gaps:
+            raise Refusal(f"{label} is not closed: {gaps} edges are not shared by exactly two faces; repair the mesh, "
+                          "or export solids that touch as files of their own")
+        try:
+            hull = ConvexHull(points)
+        except QhullError:
+            raise Refusal(f"{label} is flat: all its points lie in one plane, or nearly so")
+        tolerance = options.tolerance
+        if tolerance is None:
+            tolerance = float((points.max(axis=0) - points.min(axis=0)).max()) / 10000
+        dent = max(0.0, dent_of(points, faces, hull))
+        if dent > tolerance:
+            raise Refusal(f"{label} is not convex: a face lies {short(dent)} inside its hull, and the tolerance is "
+                          f"{short(tolerance)}; {SPLIT}")
+        if len(hull.vertices) > 16 * MOST_CORNERS:
+            raise Refusal(f"{label} has about {len(hull.vertices)} corners, more than {MOST_CORNERS}; draw round faces "
+                          "with fewer sides")
+        pieces.append(Piece(name, label, points, hull, dent))
+        pieces[-1].tolerance = tolerance
+    for inner in range(len(pieces)):
+        for outer in range(len(pieces)):
+            if inner != outer:
+                equations = pieces[outer].hull.equations
+                if (pieces[inner].drawn @ equations[:, :3].T + equations[:, 3]).max() < 0:
+                    raise Refusal(f"{name}: solid {inner} lies inside solid {outer}; if it is a hollow space, {SPLIT}")
+    return pieces
+
+
+def parts_of(options):
+    """The parts as their names and pieces, before they are rounded."""
+    parts, taken = [], set()
+    for name, files in sources_of(options.meshes):
+        pieces = [piece for file in files for piece in pieces_of(file, options)]
+        if options.each_solid_a_part and len(pieces) > 1:
+            found = [(f"{name}-{number}", [piece]) for number, piece in enumerate(pieces)]
+        else:
+            found = [(name, pieces)]
+        for name, pieces in found:
+            free, number = name, 1
+            while free in taken:
+                number += 1
+                free = f"{name}-{number}"
+            taken.add(free)
+            parts.append((free, pieces))
+    if len(parts) > MOST_PARTS:
+        raise Refusal(f"{len(parts)} parts, and staat takes at most {MOST_PARTS}")
+    many = sum(len(pieces) for _, pieces in parts)
+    if many > MOST_PIECES:
+        raise Refusal(f"{many} pieces, and staat takes at most {MOST_PIECES}")
+    return parts
+
+
+def run(options):
+    parts = parts_of(options)
+    greatest = max(float(numpy.abs(piece.drawn).max()) for _, pieces in parts for piece in pieces)
+    best = finest(greatest)
+    grid = best if options.grid is None else options.grid
+    step = float(grid)
+    if numpy.rint(greatest / step) > GREATEST:
+        raise Refusal(f"a grid of {written(grid)} is too fine: a coordinate of {short(greatest)} is more than {GREATEST} "
+                      f"steps; the finest is {written(best)}")
+    print(f"grid {written(grid)}")
+    listed, texts, lines = [], [], []
+    for number, (name, pieces) in enumerate(parts):
+        lines.append(f"part {number} pieces {len(pieces)} name {name}")
+        files = []
+        for place, piece in enumerate(pieces):
+            piece.round(step, options.shrink)
+            file = os.path.join(options.out, f"{name}.off" if len(pieces) == 1 else f"{name}-{place}.off")
+            files.append(file)
+            texts.append((file, piece.text()))
+            lines.append(f"piece {place} points {len(piece.corners)} faces {len(piece.faces)} moved {short(piece.moved)} "
+                         f"dent {short(piece.dent)} from {piece.label}")
+            if options.shrink and piece.out > 1e-9 * greatest:
+                lines.append(f"piece {place} reaches {short(piece.out)} out of the solid as drawn")
+        listed.append({"name": name, "pieces": files})
+    print("\n".join(lines))
+    try:
+        os.makedirs(options.out, exist_ok=True)
+        for file, text in texts:
+            with open(file, "w") as output:
+                output.write(text)
+        file = os.path.join(options.out, "parts.json")
+        with open(file, "w") as output:
+            rows = ",\n".join("  " + json.dumps(part) for part in listed)
+            output.write('{"parts":[\n' + rows + "\n]}\n")
+    except OSError as fault:
+        raise Refusal(f"cannot write to {options.out}: {fault.strerror}")
+    print(f"written {file}")
+    return told_overlaps(parts, step, options.shrink)
+
+
+def told_overlaps(parts, grid, shrink):
+    """Tells all pieces of different parts that overlap; the status is 1 where there are any."""
+    status = 0
+    for a, (_, some) in enumerate(parts):
+        for b, (_, others) in list(enumerate(parts))[a + 1:]:
+            for i, one in enumerate(some):
+                for j, other in enumerate(others):
+                    depth = overlap_of(one, other, grid)
+                    if depth is None:
+                        continue
+                    status = 1
+                    if depth <= max(one.tolerance, other.tolerance, 2 * grid):
+                        why = f"as drawn by no more than {short(depth)}, so by rounding; try --shrink={shrink + 1}"
+                    else:
+                        why = f"as drawn by {short(depth)}; correct the model"
+                    print(f"parts {a} and {b} overlap in pieces {i} and {j}, {why}")
+    return status
+
+
+def main(words):
+    parser = argparse.ArgumentParser(
+        prog="pieces.py", description="Turns meshes (STL, OBJ, PLY, OFF) into convex pieces with whole coordinates and a "
+        "part list for staat. It is not proved: staat judges what it writes.")
+    parser.add_argument("meshes", nargs="+", metavar="FILE", help="a part: a file, or a folder of files of its pieces")
+    parser.add_argument("--out", required=True, metavar="FOLDER", help="where the pieces and parts.json are written")
+    parser.add_argument("--grid", type=grid_of, metavar="G", help="the step to which points are rounded, in the unit of the "
+                        "files, as 0.01 or 1/64; else the finest of 1, 2 or 5 times a power of ten that fits")
+    parser.add_argument("--tolerance", type=length_of, metavar="T", help="how far a face may lie inside the hull of its "
+                        "solid; else a ten-thousandth of the solid's extent")
+    parser.add_argument("--merge", type=length_of, metavar="M", help="points so near each other are one where a surface is "
+                        "open; else a millionth of the extent of the file")
+    parser.add_argument("--each-solid-a-part", action="store_true", help="each solid of a file is a part of its own")
+    parser.add_argument("--shrink", type=steps_of, default=0, metavar="K", help="move corners inwards so that each face "
+                        "goes in by K steps of the grid")
+    try:
+        return run(parser.parse_args(words))
+    except Refusal as fault:
+        print(f"pieces.py: {fault}", file=sys.stderr)
+        return 3
+
+
+if __name__ == "__main__":
+    sys.exit(main(sys.argv[1:]))
