@@ -12,6 +12,7 @@ import math
 import os
 import re
 import sys
+import tempfile
 from fractions import Fraction
 
 import numpy
@@ -22,7 +23,9 @@ MOST_CORNERS = 64    # of a piece
 MOST_PARTS = 32
 MOST_PIECES = 64     # of all parts
 SUFFIXES = (".stl", ".obj", ".ply", ".off")
+SIX_DIGITS = 1e-5    # exports often have six digits, so numbers may be wrong by so much of the greatest
 SPLIT = "split it into convex pieces in the CAD program and export each as a file of its own, all in one folder"
+FEWER = "draw round faces with fewer sides, or split it"
 
 
 class Refusal(Exception):
@@ -31,6 +34,8 @@ class Refusal(Exception):
 
 def short(number):
     """A length as people read it."""
+    if abs(number) < 1e-12:
+        return "0"
     text = f"{number:.3g}" if abs(number) < 1000 else f"{number:.6g}"
     return format(float(text), "f").rstrip("0").rstrip(".") if abs(number) >= 1e-6 else text
 
@@ -52,23 +57,34 @@ def read_mesh(name):
     except OSError as fault:
         raise Refusal(f"cannot read {name}: {fault.strerror or fault}")
     except (Exception, SystemExit) as fault:  # meshio answers a bad file by exceptions of many kinds
-        raise Refusal(f"{name}: no mesh that can be read ({type(fault).__name__}: {str(fault).splitlines()[:1]})")
-    points = numpy.array(points, float).reshape(len(points), -1)
+        cause = " ".join([type(fault).__name__, *str(fault).split()])[:200]
+        raise Refusal(f"{name}: no mesh that can be read ({cause})")
+    many = len(points)
     if not faces:
         raise Refusal(f"{name}: no faces")
-    if points.shape[1] < 3 or not numpy.isfinite(points).all():
+    points = numpy.array([list(point[:3]) for point in points if len(point) >= 3], float).reshape(-1, 3)
+    if len(points) < many or not numpy.isfinite(points).all():
         raise Refusal(f"{name}: a point has no three finite coordinates")
     least, most = min(map(min, faces)), max(map(max, faces))
     if least < 0 or most >= len(points):
         raise Refusal(f"{name}: a face names point {least if least < 0 else most}, and there is no such point")
-    return points[:, :3], faces
+    return points, faces
 
 
 def read_by_meshio(name):
     import meshio
-    with open(name, "rb"):
-        pass
-    mesh = meshio.read(name)
+    with open(name, "rb") as file:
+        data = file.read()
+    if name.lower().endswith(".ply"):
+        if not re.search(rb"\bend_header\r?\n", data):  # without it meshio would read for ever
+            raise Refusal("no mesh that can be read (a PLY file without the line end_header)")
+        # meshio knows the corners of faces by one of their two usual names
+        with tempfile.NamedTemporaryFile(suffix=".ply") as copy:
+            copy.write(re.sub(rb"\bvertex_index(?=\r?\n)", b"vertex_indices", data, count=1))
+            copy.flush()
+            mesh = meshio.read(copy.name)
+    else:
+        mesh = meshio.read(name)
     faces = []
     for block in mesh.cells:
         if block.type in ("triangle", "quad") or block.type.startswith("polygon"):
@@ -189,8 +205,8 @@ def split_edges(points, faces, near):
         length = float(numpy.linalg.norm(way))
         along = (places - points[one]) @ way / (length or 1)
         off = numpy.linalg.norm(places - points[one] - numpy.outer(along, way / (length or 1)), axis=1)
-        on = [(along[at], used[at]) for at in numpy.nonzero((off <= near) & (along > near) & (along < length - near))[0]]
-        between[one, other] = [number for _, number in sorted(on)]
+        on = numpy.nonzero((off <= near) & (along > near) & (along < length - near))[0]
+        between[one, other] = [used[number] for number in sorted(on, key=lambda number: along[number])]
     new = []
     for face in faces:
         new.append([])
@@ -213,7 +229,7 @@ def solids_of(points, faces, merge, near):
         for one, other in cKDTree(points).query_pairs(merge):
             groups.join(one, other)
         rest = proper([[groups.of(corner) for corner in face] for face in rest])
-        if open_edges(rest):
+        if 0 < open_edges(rest) <= 2000:
             rest = proper(split_edges(points, rest, near))
     solids = []
     for some in closed + connected(rest):
@@ -225,8 +241,14 @@ def solids_of(points, faces, merge, near):
 
 def dent_of(points, faces, hull):
     """How far a face lies inside the hull: nothing at all where the solid is convex."""
-    depth = -(points @ hull.equations[:, :3].T + hull.equations[:, 3])
-    return max(float(depth[face].max(axis=0).min()) for face in faces)
+    deepest = 0.0
+    for start in range(0, len(faces), 256):  # few at a time, for the sake of memory
+        some = faces[start:start + 256]
+        used = sorted({corner for face in some for corner in face})
+        place = {corner: number for number, corner in enumerate(used)}
+        depth = -(points[used] @ hull.equations[:, :3].T + hull.equations[:, 3])
+        deepest = max([deepest] + [float(depth[[place[corner] for corner in face]].max(axis=0).min()) for face in some])
+    return deepest
 
 
 # Exact hulls, by whole numbers
@@ -259,7 +281,7 @@ def spans_space(points):
 
 
 def turned(points, at, along, normal):
-    """The plane through a point and a direction, turned about them from a plane with no point ahead until it meets one."""
+    """The normal of a plane with no point ahead, after it is turned about a line in it until it meets a point."""
     inward, best = cross(normal, along), None
     for point in points:
         step = less(point, at)
@@ -295,8 +317,8 @@ def face_on(points, normal):
 def exact_hull(points):
     """The faces of the hull of whole points that span space: outward normals with their corners.
 
-    The hull of scipy, which is made with rounded numbers, proposes planes. Only planes with no point ahead are kept, by
-    whole numbers; what is missing then is found by turning planes about edges that lack a face.
+    The hull of scipy, which is made with rounded numbers, proposes planes. Only planes with no point ahead are kept,
+    by whole numbers; what is missing then is found by turning planes about edges that lack a face.
     """
     table = numpy.array(points, numpy.int64)  # below 2^19 as differences, so that all products here stay below 2^62
     normals = set()
@@ -354,8 +376,8 @@ def is_hull(points, faces):
 
 
 class Piece:
-    def __init__(self, name, label, points, hull, dent):
-        self.name, self.label, self.drawn, self.hull, self.dent = name, label, points, hull, dent
+    def __init__(self, label, points, hull, dent):
+        self.label, self.drawn, self.hull, self.dent = label, points, hull, dent
 
     def round(self, grid, shrink):
         """Takes the exact hull of the rounded points, and where it is asked for again of the corners moved inwards."""
@@ -386,8 +408,7 @@ class Piece:
         self.faces = exact_hull(points)
         corners = sorted({corner for face in self.faces.values() for corner in face})
         if len(corners) > MOST_CORNERS:
-            raise Refusal(f"{self.label} has {len(corners)} corners on this grid, more than {MOST_CORNERS}; draw round "
-                          "faces with fewer sides, or split it")
+            raise Refusal(f"{self.label} has {len(corners)} corners on this grid, more than {MOST_CORNERS}; {FEWER}")
         if not is_hull(points, self.faces):
             raise Refusal(f"{self.label}: its hull could not be made")
         self.corners = corners
@@ -411,7 +432,7 @@ class Piece:
 
 
 def inwards(normals, shrink, to_centre):
-    """The way of a corner by which each face around it goes inwards by so many steps; the least, where that is clear."""
+    """The way of a corner by which each face around it goes inwards by so many steps, or by a few more."""
     way = numpy.linalg.lstsq(normals, numpy.full(len(normals), -float(shrink)), rcond=0.05)[0]
     least = -(normals @ way).max()
     if least < shrink / 8:
@@ -471,7 +492,7 @@ def finest(greatest):
     while True:
         for digit in (1, 2, 5):
             grid = digit * Fraction(10) ** power
-            if Fraction(greatest) <= GREATEST * grid:
+            if numpy.rint(greatest / float(grid)) <= GREATEST:
                 return grid
         power += 1
 
@@ -487,7 +508,9 @@ def sources_of(words):
     """The parts as their names and files: a word is a file, or a folder of files."""
     parts = []
     for word in words:
-        name = os.path.basename(os.path.normpath(word))
+        name = os.path.basename(os.path.realpath(word))
+        if any(ord(letter) < 32 for letter in name):
+            raise Refusal(f"{name!r}: such a name cannot be that of a part")
         if os.path.isdir(word):
             files = sorted(file for file in os.listdir(word) if file.lower().endswith(SUFFIXES))
             if not files:
@@ -496,6 +519,10 @@ def sources_of(words):
         else:
             parts.append((os.path.splitext(name)[0] or name, [word]))
     return parts
+
+
+def inputs_of(options):
+    return {os.path.realpath(file) for _, files in sources_of(options.meshes) for file in files}
 
 
 def pieces_of(name, options):
@@ -517,18 +544,16 @@ def pieces_of(name, options):
             hull = ConvexHull(points)
         except QhullError:
             raise Refusal(f"{label} is flat: all its points lie in one plane, or nearly so")
+        if len(hull.vertices) > 16 * MOST_CORNERS:  # so many that rounding does not help
+            raise Refusal(f"{label} has about {len(hull.vertices)} corners, more than {MOST_CORNERS}; {FEWER}")
         tolerance = options.tolerance
         if tolerance is None:
             tolerance = float((points.max(axis=0) - points.min(axis=0)).max()) / 10000
-        dent = max(0.0, dent_of(points, faces, hull))
+        dent = dent_of(points, faces, hull)
         if dent > tolerance:
             raise Refusal(f"{label} is not convex: a face lies {short(dent)} inside its hull, and the tolerance is "
-                          f"{short(tolerance)}; {SPLIT}")
-        if len(hull.vertices) > 16 * MOST_CORNERS:
-            raise Refusal(f"{label} has about {len(hull.vertices)} corners, more than {MOST_CORNERS}; draw round faces "
-                          "with fewer sides")
-        pieces.append(Piece(name, label, points, hull, dent))
-        pieces[-1].tolerance = tolerance
+                          f"{short(tolerance)}; {SPLIT}, or take the hull by a greater --tolerance")
+        pieces.append(Piece(label, points, hull, dent))
     for inner in range(len(pieces)):
         for outer in range(len(pieces)):
             if inner != outer:
@@ -569,20 +594,24 @@ def run(options):
     grid = best if options.grid is None else options.grid
     step = float(grid)
     if numpy.rint(greatest / step) > GREATEST:
-        raise Refusal(f"a grid of {written(grid)} is too fine: a coordinate of {short(greatest)} is more than {GREATEST} "
-                      f"steps; the finest is {written(best)}")
-    print(f"grid {written(grid)}")
-    listed, texts, lines = [], [], []
+        raise Refusal(f"a grid of {written(grid)} is too fine: a coordinate of {short(greatest)} is more than "
+                      f"{GREATEST} steps; the finest is {written(best)}")
+    listed, texts, lines, kept = [], [], [f"grid {written(grid)}"], inputs_of(options)
     for number, (name, pieces) in enumerate(parts):
         lines.append(f"part {number} pieces {len(pieces)} name {name}")
         files = []
         for place, piece in enumerate(pieces):
             piece.round(step, options.shrink)
-            file = os.path.join(options.out, f"{name}.off" if len(pieces) == 1 else f"{name}-{place}.off")
+            stem = name if len(pieces) == 1 else f"{name}-{place}"
+            while os.path.join(options.out, f"{stem}.off") in [file for file, _ in texts]:
+                stem += "-again"
+            file = os.path.join(options.out, f"{stem}.off")
+            if os.path.realpath(file) in kept:
+                raise Refusal(f"{file} is read, so it is not written; give another --out")
             files.append(file)
             texts.append((file, piece.text()))
-            lines.append(f"piece {place} points {len(piece.corners)} faces {len(piece.faces)} moved {short(piece.moved)} "
-                         f"dent {short(piece.dent)} from {piece.label}")
+            lines.append(f"piece {place} points {len(piece.corners)} faces {len(piece.faces)} "
+                         f"moved {short(piece.moved)} dent {short(piece.dent)} from {piece.label}")
             if options.shrink and piece.out > 1e-9 * greatest:
                 lines.append(f"piece {place} reaches {short(piece.out)} out of the solid as drawn")
         listed.append({"name": name, "pieces": files})
@@ -599,43 +628,53 @@ def run(options):
     except OSError as fault:
         raise Refusal(f"cannot write to {options.out}: {fault.strerror}")
     print(f"written {file}")
-    return told_overlaps(parts, step, options.shrink)
+    return told_overlaps(parts, step, max(2 * step, SIX_DIGITS * greatest), options.shrink)
 
 
-def told_overlaps(parts, grid, shrink):
-    """Tells all pieces of different parts that overlap; the status is 1 where there are any."""
+def told_overlaps(parts, grid, near, shrink):
+    """Tells all pieces of different parts that overlap, in the order of staat; the status is 1 where there are any."""
+    pieces = [(a, i, piece) for a, (_, some) in enumerate(parts) for i, piece in enumerate(some)]
     status = 0
-    for a, (_, some) in enumerate(parts):
-        for b, (_, others) in list(enumerate(parts))[a + 1:]:
-            for i, one in enumerate(some):
-                for j, other in enumerate(others):
-                    depth = overlap_of(one, other, grid)
-                    if depth is None:
-                        continue
-                    status = 1
-                    if depth <= max(one.tolerance, other.tolerance, 2 * grid):
-                        why = f"as drawn by no more than {short(depth)}, so by rounding; try --shrink={shrink + 1}"
-                    else:
-                        why = f"as drawn by {short(depth)}; correct the model"
-                    print(f"parts {a} and {b} overlap in pieces {i} and {j}, {why}")
+    for a, i, one in pieces:
+        for b, j, other in pieces:
+            depth = overlap_of(one, other, grid) if a < b else None
+            if depth is not None:
+                status = 1
+                if depth <= near:
+                    why = f"only {short(depth)} as drawn, so it comes from rounding; try --shrink={shrink + 1}"
+                else:
+                    why = f"{short(depth)} as drawn; correct the model"
+                print(f"parts {a} and {b} overlap in pieces {i} and {j}: {why}")
     return status
 
 
+class Words(argparse.ArgumentParser):
+    def error(self, message):
+        print(f"pieces.py: {message}; --help tells more", file=sys.stderr)
+        sys.exit(2)
+
+
 def main(words):
-    parser = argparse.ArgumentParser(
-        prog="pieces.py", description="Turns meshes (STL, OBJ, PLY, OFF) into convex pieces with whole coordinates and a "
-        "part list for staat. It is not proved: staat judges what it writes.")
+    parser = Words(
+        prog="pieces.py",
+        description="Turns meshes (STL, OBJ, PLY, OFF) into convex pieces with whole coordinates and a part list for "
+        "staat. It is not proved: staat judges what it writes.")
     parser.add_argument("meshes", nargs="+", metavar="FILE", help="a part: a file, or a folder of files of its pieces")
     parser.add_argument("--out", required=True, metavar="FOLDER", help="where the pieces and parts.json are written")
-    parser.add_argument("--grid", type=grid_of, metavar="G", help="the step to which points are rounded, in the unit of the "
-                        "files, as 0.01 or 1/64; else the finest of 1, 2 or 5 times a power of ten that fits")
-    parser.add_argument("--tolerance", type=length_of, metavar="T", help="how far a face may lie inside the hull of its "
-                        "solid; else a ten-thousandth of the solid's extent")
-    parser.add_argument("--merge", type=length_of, metavar="M", help="points so near each other are one where a surface is "
-                        "open; else a millionth of the extent of the file")
+    parser.add_argument(
+        "--grid", type=grid_of, metavar="G",
+        help="the step to which points are rounded, in the unit of the files, as 0.01 or 1/64; else the finest of 1, "
+        "2 or 5 times a power of ten that fits")
+    parser.add_argument(
+        "--tolerance", type=length_of, metavar="T",
+        help="how far a face may lie inside the hull of its solid; else a ten-thousandth of the extent of the solid")
+    parser.add_argument(
+        "--merge", type=length_of, metavar="M",
+        help="points so near each other are one where a surface is open; else a millionth of the extent of the file")
     parser.add_argument("--each-solid-a-part", action="store_true", help="each solid of a file is a part of its own")
-    parser.add_argument("--shrink", type=steps_of, default=0, metavar="K", help="move corners inwards so that each face "
-                        "goes in by K steps of the grid")
+    parser.add_argument(
+        "--shrink", type=steps_of, default=0, metavar="K",
+        help="move corners inwards so that each face goes in by K steps of the grid")
     try:
         return run(parser.parse_args(words))
     except Refusal as fault:
