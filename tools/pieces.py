@@ -24,7 +24,6 @@ MOST_PARTS = 32
 MOST_PIECES = 64     # of all parts
 SUFFIXES = (".stl", ".obj", ".ply", ".off")
 SIX_DIGITS = 1e-5    # exports often have six digits, so numbers may be wrong by so much of the greatest
-SPLIT = "split it into convex pieces in the CAD program and export each as a file of its own, all in one folder"
 FEWER = "draw round faces with fewer sides, or split it"
 
 
@@ -247,7 +246,8 @@ def dent_of(points, faces, hull):
         used = sorted({corner for face in some for corner in face})
         place = {corner: number for number, corner in enumerate(used)}
         depth = -(points[used] @ hull.equations[:, :3].T + hull.equations[:, 3])
-        deepest = max([deepest] + [float(depth[[place[corner] for corner in face]].max(axis=0).min()) for face in some])
+        for face in some:
+            deepest = max(deepest, float(depth[[place[corner] for corner in face]].max(axis=0).min()))
     return deepest
 
 
@@ -365,7 +365,8 @@ def is_hull(points, faces):
     """Whether these are the faces of the hull: closed, and with no point ahead of any."""
     corners = {corner for face in faces.values() for corner in face}
     edges = [edge for face in faces.values() for edge in zip(face, face[1:] + face[:1])]
-    return (len(set(edges)) == len(edges) and all((other, one) in set(edges) for one, other in edges)
+    distinct = set(edges)
+    return (len(distinct) == len(edges) and all((other, one) in distinct for one, other in edges)
             and len(corners) - len(edges) // 2 + len(faces) == 2
             and all(len(face) >= 3 and all(dot(normal, less(point, face[0])) <= 0 for point in points)
                     and all(dot(normal, less(corner, face[0])) == 0 for corner in face)
@@ -538,8 +539,8 @@ def pieces_of(name, options):
     for number, (points, faces, gaps) in enumerate(solids):
         label = name if len(solids) == 1 else f"{name}: solid {number}"
         if gaps:
-            raise Refusal(f"{label} is not closed: {gaps} edges are not shared by exactly two faces; repair the mesh, "
-                          "or export solids that touch as files of their own")
+            raise Refusal(f"{label} is not closed at {gaps} edges: repair the mesh; solids that touch need files of "
+                          "their own")
         try:
             hull = ConvexHull(points)
         except QhullError:
@@ -551,15 +552,16 @@ def pieces_of(name, options):
             tolerance = float((points.max(axis=0) - points.min(axis=0)).max()) / 10000
         dent = dent_of(points, faces, hull)
         if dent > tolerance:
-            raise Refusal(f"{label} is not convex: a face lies {short(dent)} inside its hull, and the tolerance is "
-                          f"{short(tolerance)}; {SPLIT}, or take the hull by a greater --tolerance")
+            raise Refusal(f"{label} is not convex ({short(dent)} deep, tolerance {short(tolerance)}): split it into "
+                          "convex pieces, files of one folder")
         pieces.append(Piece(label, points, hull, dent))
     for inner in range(len(pieces)):
         for outer in range(len(pieces)):
             if inner != outer:
                 equations = pieces[outer].hull.equations
                 if (pieces[inner].drawn @ equations[:, :3].T + equations[:, 3]).max() < 0:
-                    raise Refusal(f"{name}: solid {inner} lies inside solid {outer}; if it is a hollow space, {SPLIT}")
+                    raise Refusal(f"{name}: solid {inner} lies inside solid {outer}: if it is a hollow space, split "
+                                  "what is around it")
     return pieces
 
 
@@ -567,9 +569,15 @@ def parts_of(options):
     """The parts as their names and pieces, before they are rounded."""
     parts, taken = [], set()
     for name, files in sources_of(options.meshes):
-        pieces = [piece for file in files for piece in pieces_of(file, options)]
+        pieces = []
+        for file in files:
+            some = pieces_of(file, options)
+            for number, piece in enumerate(some):
+                stem = os.path.splitext(os.path.basename(file))[0]
+                piece.tag = str(number) if len(files) == 1 else stem if len(some) == 1 else f"{stem}-{number}"
+            pieces += some
         if options.each_solid_a_part and len(pieces) > 1:
-            found = [(f"{name}-{number}", [piece]) for number, piece in enumerate(pieces)]
+            found = [(f"{name}-{piece.tag}", [piece]) for piece in pieces]
         else:
             found = [(name, pieces)]
         for name, pieces in found:
@@ -602,7 +610,7 @@ def run(options):
         files = []
         for place, piece in enumerate(pieces):
             piece.round(step, options.shrink)
-            stem = name if len(pieces) == 1 else f"{name}-{place}"
+            stem = name if len(pieces) == 1 else f"{name}-{piece.tag}"
             while os.path.join(options.out, f"{stem}.off") in [file for file, _ in texts]:
                 stem += "-again"
             file = os.path.join(options.out, f"{stem}.off")
@@ -623,8 +631,7 @@ def run(options):
                 output.write(text)
         file = os.path.join(options.out, "parts.json")
         with open(file, "w") as output:
-            rows = ",\n".join("  " + json.dumps(part) for part in listed)
-            output.write('{"parts":[\n' + rows + "\n]}\n")
+            output.write(json.dumps({"parts": listed}, indent=1) + "\n")
     except OSError as fault:
         raise Refusal(f"cannot write to {options.out}: {fault.strerror}")
     print(f"written {file}")

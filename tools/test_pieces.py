@@ -10,6 +10,7 @@ import json
 import math
 import os
 import random
+import re
 import shutil
 import subprocess
 import sys
@@ -25,7 +26,8 @@ except ImportError as fault:
 
 STAAT = os.environ.get("STAAT")
 GEOMVIEW = "/usr/share/geomview/geom"
-STL = os.path.join(os.path.dirname(os.path.abspath(__file__)), "example", "stl")
+HERE = os.path.dirname(os.path.abspath(__file__))
+STL = os.path.join(HERE, "example", "stl")
 SIDES = [[0, 1, 3, 2], [4, 6, 7, 5], [0, 4, 5, 1], [2, 3, 7, 6], [0, 2, 6, 4], [1, 5, 7, 3]]
 
 
@@ -285,12 +287,37 @@ class Tests(unittest.TestCase):
 
     @unittest.skipUnless(os.path.isdir(STL), "the example is not exported")
     def test_pencil_box(self):
-        parts = self.accepted(*(os.path.join(STL, name) for name in ("box", "lid", "pin", "pencil.stl")))
+        names = [os.path.join(STL, name) for name in ("box", "lid", "pin", "pencil.stl")]
+        parts = self.accepted("--grid=0.001", *names)
         self.assertEqual([(name, len(some)) for name, some in parts.items()],
                          [("box", 12), ("lid", 4), ("pin", 2), ("pencil", 1)])
+        for name in os.listdir(os.path.join(HERE, "example", "pieces")):
+            if name.endswith(".off"):
+                with open(os.path.join(HERE, "example", "pieces", name)) as kept, open(self.path("out/" + name)) as new:
+                    self.assertEqual(kept.read(), new.read(), name)
         if STAAT:
             self.assertEqual(self.ask("plan").stdout, "move 2 along 0 0 1 away from 0 1 3\n"
                              "move 1 along 1 0 0 away from 0 3\nmove 3 along 0 0 1 away from 0\nmoves 3\n")
+
+    @unittest.skipUnless(STAAT and shutil.which("openscad"), "no program is named by STAAT, or there is no openscad")
+    def test_commands_of_the_page(self):
+        """The commands of tools/README.md and docs/INPUT.md print what stands there."""
+        os.makedirs(self.path("top/docs"))
+        shutil.copytree(HERE, self.path("top/tools"))
+        shutil.copy(os.path.abspath(STAAT), self.path("top/staat"))
+        text, asked = "", 0
+        for page in (os.path.join(HERE, "README.md"), os.path.join(HERE, "..", "docs", "INPUT.md")):
+            with open(page) as file:
+                text += file.read()
+        for block in re.findall(r"(?m)(?:^(?:    .*)?\n)+", text):
+            lines = [line[4:] for line in block.strip("\n").split("\n")]
+            for part in re.split(r"(?m)^\$ ", "\n".join(lines))[1:]:
+                words = re.match(r"(?:.*\\\n)*.*", part).group()
+                got = subprocess.run(["sh", "-c", words], cwd=self.path("top"), capture_output=True, text=True,
+                                     env={**os.environ, "QT_QPA_PLATFORM": "offscreen"})
+                self.assertEqual((got.stdout + got.stderr).strip(), part[len(words):].strip(), words)
+                asked += 1
+        self.assertGreater(asked, 20)
 
 
 if __name__ == "__main__":
