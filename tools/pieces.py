@@ -7,6 +7,8 @@ solid becomes the exact convex hull of its rounded points. tools/README.md says 
 Nothing here is proved. What it writes are files like any others: staat judges them.
 """
 import argparse
+import contextlib
+import io
 import json
 import math
 import os
@@ -16,6 +18,7 @@ import tempfile
 from fractions import Fraction
 
 import numpy
+from scipy.optimize import nnls
 from scipy.spatial import ConvexHull, QhullError, cKDTree
 
 GREATEST = 262144    # the greatest coordinate that staat reads
@@ -58,7 +61,7 @@ def read_mesh(name):
     except (Exception, SystemExit) as fault:  # meshio answers a bad file by exceptions of many kinds
         cause = " ".join([type(fault).__name__, *str(fault).split()])[:200]
         raise Refusal(f"{name}: no mesh that can be read ({cause})")
-    many = len(points)
+    many, faces = len(points), [face for face in faces if len(face)]
     if not faces:
         raise Refusal(f"{name}: no faces")
     points = numpy.array([list(point[:3]) for point in points if len(point) >= 3], float).reshape(-1, 3)
@@ -81,9 +84,11 @@ def read_by_meshio(name):
         with tempfile.NamedTemporaryFile(suffix=".ply") as copy:
             copy.write(re.sub(rb"\bvertex_index(?=\r?\n)", b"vertex_indices", data, count=1))
             copy.flush()
-            mesh = meshio.read(copy.name)
+            with contextlib.redirect_stdout(io.StringIO()), contextlib.redirect_stderr(io.StringIO()):
+                mesh = meshio.ply.read(copy.name)
     else:
-        mesh = meshio.read(name)
+        with contextlib.redirect_stdout(io.StringIO()), contextlib.redirect_stderr(io.StringIO()):
+            mesh = (meshio.stl if name.lower().endswith(".stl") else meshio.obj).read(name)
     faces = []
     for block in mesh.cells:
         if block.type in ("triangle", "quad") or block.type.startswith("polygon"):
@@ -381,20 +386,19 @@ class Piece:
         self.label, self.drawn, self.hull, self.dent = label, points, hull, dent
 
     def round(self, grid, shrink):
-        """Takes the exact hull of the rounded points, and where it is asked for again of the corners moved inwards."""
+        """Takes the exact hull of the rounded points, or of the rounded corners after they are moved inwards."""
         steps = self.drawn / grid
-        self.take(numpy.rint(steps), steps)
-        if shrink:
-            corners, moved = numpy.array(list(self.source)), []
-            normals = {normal: numpy.array(normal) / math.sqrt(dot(normal, normal)) for normal in self.faces}
-            sources = numpy.array(list(self.source.values()))
-            centre = sources.mean(axis=0)
-            for corner, source in zip(map(tuple, corners.tolist()), sources):
-                around = numpy.array([normals[normal] for normal, face in self.faces.items() if corner in face])
-                moved.append(source + inwards(around, shrink, centre - source))
-            self.take(numpy.rint(numpy.array(moved)), sources)
-            self.out = float((numpy.array(list(self.source)) @ self.hull.equations[:, :3].T
-                              + self.hull.equations[:, 3] / grid).max()) * grid
+        if not shrink:
+            self.take(numpy.rint(steps), steps)
+        else:
+            normals, heights = self.hull.equations[:, :3], -self.hull.equations[:, 3] / grid
+            steps = steps[self.hull.vertices]
+            ways = [inwards(normals, normals @ corner - heights + shrink) for corner in steps]
+            if any(way is None for way in ways):
+                raise Refusal(f"{self.label} is too thin to be shrunk by {shrink} steps; give a finer --grid")
+            self.take(numpy.rint(steps + ways), steps)
+            if ((normals @ numpy.transpose(self.corners)).max(axis=1) > heights).any():
+                raise Refusal(f"{self.label} could not be moved inwards; give a finer --grid")
         self.moved = max(math.dist(corner, source) for corner, source in self.source.items()) * grid
 
     def take(self, rounded, steps):
@@ -432,14 +436,18 @@ class Piece:
         return list(self.faces), sorted(edges)
 
 
-def inwards(normals, shrink, to_centre):
-    """The way of a corner by which each face around it goes inwards by so many steps, or by a few more."""
-    way = numpy.linalg.lstsq(normals, numpy.full(len(normals), -float(shrink)), rcond=0.05)[0]
-    least = -(normals @ way).max()
-    if least < shrink / 8:
-        way = to_centre
-        least = -(normals @ way).max()
-    return way * max(1.0, shrink / least) if least >= shrink / 8 else way * (shrink / max(least, 1e-9))
+def inwards(normals, depths):
+    """The shortest way by which a point goes as deep against each normal as is asked for; nothing where there is none.
+
+    It is the least distance problem of Lawson and Hanson, which they turn into least squares with weights from 0 on.
+    """
+    rows = numpy.vstack([-normals.T, depths])
+    try:
+        weights = nnls(rows, numpy.array([0.0, 0.0, 0.0, 1.0]))[0]
+    except RuntimeError:  # too many rounds
+        return None
+    rest = rows @ weights - (0, 0, 0, 1)
+    return None if abs(rest[3]) < 1e-12 else -rest[:3] / rest[3]
 
 
 def overlap_of(one, other, grid):
@@ -620,8 +628,6 @@ def run(options):
             texts.append((file, piece.text()))
             lines.append(f"piece {place} points {len(piece.corners)} faces {len(piece.faces)} "
                          f"moved {short(piece.moved)} dent {short(piece.dent)} from {piece.label}")
-            if options.shrink and piece.out > 1e-9 * greatest:
-                lines.append(f"piece {place} reaches {short(piece.out)} out of the solid as drawn")
         listed.append({"name": name, "pieces": files})
     print("\n".join(lines))
     try:
