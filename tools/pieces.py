@@ -450,7 +450,7 @@ def inwards(normals, depths):
     return None if abs(rest[3]) < 1e-12 else -rest[:3] / rest[3]
 
 
-def overlap_of(one, other, grid):
+def overlap_of(one, other):
     """Nothing where two pieces share no inner point, by whole numbers; else how deep they overlap as drawn.
 
     Two convex pieces share none exactly where a wall stands between them whose normal is that of a face or is
@@ -467,9 +467,22 @@ def overlap_of(one, other, grid):
     walls = numpy.concatenate([walls, crossed, -crossed])
     if ((walls @ first.T).max(axis=1) <= (walls @ second.T).min(axis=1)).any():
         return None
-    units = walls / numpy.linalg.norm(walls.astype(float), axis=1)[:, None]
-    drawn = (units @ (one.drawn / grid).T).max(axis=1) - (units @ (other.drawn / grid).T).min(axis=1)
-    return max(0.0, float(drawn.min()) * grid)
+    return depth_of(one, other)
+
+
+def depth_of(one, other):
+    """How deep the solids of two pieces overlap as drawn, at most: the least over the walls of the drawn hulls."""
+    edges = []
+    for piece in (one, other):
+        pairs = numpy.array(sorted({pair for face in piece.hull.simplices.tolist() for pair in edges_of(face)}))
+        edges.append(piece.drawn[pairs[:, 1]] - piece.drawn[pairs[:, 0]])
+        edges[-1] /= numpy.linalg.norm(edges[-1], axis=1)[:, None]
+    crossed = numpy.cross(edges[0][:, None, :], edges[1][None, :, :]).reshape(-1, 3)
+    lengths = numpy.linalg.norm(crossed, axis=1)
+    crossed = crossed[lengths > 1e-9] / lengths[lengths > 1e-9][:, None]
+    walls = numpy.concatenate([one.hull.equations[:, :3], -other.hull.equations[:, :3], crossed, -crossed])
+    first, second = (piece.drawn[piece.hull.vertices] for piece in (one, other))
+    return max(0.0, float(((walls @ first.T).max(axis=1) - (walls @ second.T).min(axis=1)).min()))
 
 
 # The whole
@@ -641,16 +654,16 @@ def run(options):
     except OSError as fault:
         raise Refusal(f"cannot write to {options.out}: {fault.strerror}")
     print(f"written {file}")
-    return told_overlaps(parts, step, max(2 * step, SIX_DIGITS * greatest), options.shrink)
+    return told_overlaps(parts, max(2 * step, SIX_DIGITS * greatest), options.shrink)
 
 
-def told_overlaps(parts, grid, near, shrink):
+def told_overlaps(parts, near, shrink):
     """Tells all pieces of different parts that overlap, in the order of staat; the status is 1 where there are any."""
     pieces = [(a, i, piece) for a, (_, some) in enumerate(parts) for i, piece in enumerate(some)]
     status = 0
     for a, i, one in pieces:
         for b, j, other in pieces:
-            depth = overlap_of(one, other, grid) if a < b else None
+            depth = overlap_of(one, other) if a < b else None
             if depth is not None:
                 status = 1
                 if depth <= near:

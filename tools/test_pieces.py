@@ -303,14 +303,15 @@ class Tests(unittest.TestCase):
 
     @unittest.skipUnless(STAAT and shutil.which("openscad"), "no program is named by STAAT, or there is no openscad")
     def test_commands_of_the_page(self):
-        """The commands of tools/README.md and docs/INPUT.md print what stands there."""
+        """The commands of docs/INPUT.md and of the section in tools/README.md print what stands there."""
         os.makedirs(self.path("top/docs"))
         shutil.copytree(HERE, self.path("top/tools"))
         shutil.copy(os.path.abspath(STAAT), self.path("top/staat"))
-        text, asked = "", 0
-        for page in (os.path.join(HERE, "README.md"), os.path.join(HERE, "..", "docs", "INPUT.md")):
-            with open(page) as file:
-                text += file.read()
+        asked = 0
+        with open(os.path.join(HERE, "README.md")) as file:
+            text = re.search(r"(?ms)^## pieces\.py.*?(?=^## |\Z)", file.read()).group()
+        with open(os.path.join(HERE, "..", "docs", "INPUT.md")) as file:
+            text += file.read()
         for block in re.findall(r"(?m)(?:^(?:    .*)?\n)+", text):
             lines = [line[4:] for line in block.strip("\n").split("\n")]
             for part in re.split(r"(?m)^\$ ", "\n".join(lines))[1:]:
