@@ -39,6 +39,7 @@ VIEWS = {
     "locked-burr": dict(look=(-4, 6, -4), second=(-3, 5, -5), second_cut={k: (0, 0, 1, 0.5) for k in range(6)}),
     "lifted-burr": dict(look=(-4, 6, -4), apart=(-6, 5, -4)),
     "split-star": dict(look=(-5, 7, -4), apart=(-7, 3, -3)),
+    "pencil-box": dict(look=(-3, 6, -4), cut={0: (0, -1, 0, -15000), 1: (0, -1, 0, -15000)}),
 }
 
 
