@@ -38,15 +38,11 @@ def primitive(a):
     divisor = math.gcd(*a)
     return a[0] // divisor, a[1] // divisor, a[2] // divisor
 
-def lies_before(first, second, normal):
-    """Whether each point of the second piece is at least as far along the normal as each of the first."""
-    return max(dot(normal, p) for p in first) <= min(dot(normal, q) for q in second)
-
 class Product:
     """A list of parts, each a list of pieces, each a list of points; and what was found of them so far."""
 
     def __init__(self, parts):
-        self.parts, self.known_facets, self.known_vertices = parts, {}, {}
+        self.parts, self.known_facets, self.known_planes = parts, {}, {}
 
     def arcs(self, starts, ends):
         """All arcs from a piece of the one parts to a piece of another part among the others."""
@@ -66,23 +62,23 @@ class Product:
             for two_of, one_of in (first, second), (second, first):
                 for (x, y), z in tuples(combinations(two_of, 2), one_of):
                     normal = cross(minus(y, x), minus(z, x))
-                    normals = (normal, negative(normal)) if normal != ORIGIN else ()
-                    found.update(primitive(n) for n in normals if lies_before(first, second, n))
+                    for n in (normal, negative(normal)) if normal != ORIGIN else ():
+                        level = dot(n, x)
+                        if all(dot(n, p) <= level for p in first) and all(dot(n, q) >= level for q in second):
+                            found.add(primitive(n))
             self.known_facets[a, i, b, j] = found
             self.known_facets[b, j, a, i] = set(map(negative, found))  # the same planes, seen from the other side
         return self.known_facets[a, i, b, j]
 
-    def vertices(self, members):
-        """The directions in which two planes of the parts cross, in the order of the pairs, each where it first is."""
-        if members not in self.known_vertices:
+    def planes(self, members):
+        """The axes, and then, ascending, the canonical normals of all other facets of pieces of different parts."""
+        if members not in self.known_planes:
             normals = {max(n, negative(n)) for arc in self.arcs(members, members) for n in self.facets(*arc)}
-            planes = AXES + sorted(normals.difference(AXES))
-            crossings = (primitive(cross(g, h)) for g, h in combinations(planes, 2))
-            self.known_vertices[members] = list(dict.fromkeys(v for c in crossings for v in (c, negative(c))))
-        return self.known_vertices[members]
+            self.known_planes[members] = AXES + sorted(normals.difference(AXES))
+        return self.known_planes[members]
 
 class Refused(Exception):
-    """There is no verdict: the status and the line that tells why."""
+    """There is no verdict. It holds the status and the line that tells why."""
 
 def read_file(name):
     try:
@@ -96,7 +92,7 @@ def read_coordinate(word, digits):
     mantissa = (whole + behind + alone).rstrip(b"0")  # with a point after as many digits as the whole ones
     places = len(whole) + int(exponent or 0) + digits - len(mantissa)
     if mantissa and not 0 <= places <= 6:
-        raise ValueError("a number that is not whole or too big")
+        raise ValueError("not whole or too big")
     return int(sign + mantissa) * 10**places if mantissa else 0
 
 def read_piece(name, digits, at):
@@ -151,13 +147,12 @@ class Lines:
         """The numbers of the line ahead, which has this word, and numbers that are in bounds and keep the rule."""
         first, *numbers = self.ahead()
         short = len(self.lines[self.number - 1]) < LONGEST_LINE
-        if not short or first != word or len(numbers) != len(bounds) or not all(map(NUMBER.fullmatch, numbers)):
-            raise self.bad()
-        values = tuple(map(int, numbers))
-        if not all(least <= value <= most for value, (least, most) in zip(values, bounds)) or not rule(values):
-            raise self.bad()
-        self.number += 1
-        return values
+        if short and first == word and len(numbers) == len(bounds) and all(map(NUMBER.fullmatch, numbers)):
+            values = tuple(map(int, numbers))
+            if all(least <= value <= most for value, (least, most) in zip(values, bounds)) and rule(values):
+                self.number += 1
+                return values
+        raise self.bad()
 
 def read_certificate(name, text):
     """The stated number of parts, the version, and what the plan or the refusal holds; the other one is None."""
@@ -167,8 +162,7 @@ def read_certificate(name, text):
     (version,) = lines.take(b"STAAT", [(1, 2)])
     (stated,) = lines.take(b"parts", [(1, 32)])
     is_plan = lines.ahead()[0] == b"plan"
-    nodes = read_nodes(lines, stated) if is_plan else None
-    refusal = None if is_plan else read_refusal(lines, version)
+    nodes, refusal = (read_nodes(lines, stated), None) if is_plan else (None, read_refusal(lines, version))
     lines.take(b"end")
     if lines.lines[lines.number - 1:] or lines.rest:
         raise lines.bad()
@@ -219,7 +213,7 @@ def plan_fault(product, nodes):
         seen.update([part] if kind == "leaf" else [])
     if len(seen) < len(product.parts):
         return f"bad leaves at node {len(nodes)}"
-    sides, trees = {}, []  # the two sides of each split; the parts of the trees that begin behind the node
+    sides, trees = {}, []  # the two sides of each split; the parts of each tree behind the node, the next one last
     for k, node in reversed(list(enumerate(nodes))):
         if node[0] == "split":
             sides[k] = trees.pop(), trees.pop()
@@ -233,8 +227,10 @@ def split_fault(product, k, moved, rest, direction, walls):
         return f"zero direction at node {k}"
     across = product.arcs(moved, rest)
     for line, (a, i, b, j, *normal) in walls:
-        if (a, i, b, j) not in across or not any(normal) or dot(normal, direction) > 0 \
-                or not lies_before(product.parts[a][i], product.parts[b][j], normal):
+        if (a, i, b, j) not in across or not any(normal) or dot(normal, direction) > 0:
+            return f"bad separator on line {line}"
+        first, second = product.parts[a][i], product.parts[b][j]
+        if max(dot(normal, p) for p in first) > min(dot(normal, q) for q in second):
             return f"bad separator on line {line}"
     missing = across - {values[:4] for _, values in walls}
     return "missing separator %d %d %d %d" % min(missing) if missing else None
@@ -248,16 +244,19 @@ def refusal_fault(product, version, members, witnesses, directions):
         there, here = [(a, b) for a, _, b, _ in outwards], [(b, a) for a, _, b, _ in back]
         if not arcs_within.issuperset(outwards + back) or not all(reaches_all(members, way) for way in (there, here)):
             return f"bad tree in witness {k}"
-    facets = {}  # of all arcs of a witness
+    named = {values[3] for _, values in directions}
+    facets = {k: {n for arcs in witnesses[k] for arc in arcs for n in product.facets(*arc)} for k in named}
     for line, (*direction, k) in directions:
-        if k not in facets:
-            facets[k] = {n for arcs in witnesses[k] for arc in arcs for n in product.facets(*arc)}
         if not all(dot(n, direction) > 0 for n in facets[k]):
             return f"bad arc on line {line}"
     listed = {values[:3] for _, values in directions}
     listed |= {negative(direction) for direction in listed if version == 2}
-    missing = (vertex for vertex in product.vertices(members) if vertex not in listed)
-    return next(("missing direction %d %d %d" % vertex for vertex in missing), None)
+    for g, h in combinations(product.planes(members), 2):
+        vertex = primitive(cross(g, h))
+        for v in vertex, negative(vertex):
+            if v not in listed:
+                return "missing direction %d %d %d" % v
+    return None
 
 def reaches_all(members, pairs):
     """Whether each pair leads from a reached part to a new one, beginning with the least part, and all are reached."""

@@ -370,6 +370,14 @@ def arcs_exchanged(chance, lines):
         lines[places[k]], lines[places[k + 1]] = lines[places[k + 1]], lines[places[k]]
 
 
+def arcs_repeated(chance, lines):
+    """A witness has at most 31 arcs of each kind."""
+    places = lines_with(lines, "out", "in")
+    if places:
+        k = chance.choice(places)
+        lines[k:k] = [lines[k]] * chance.randint(1, 33)
+
+
 def members_changed(chance, lines):
     for k in lines_with(lines, "stuck"):
         members = set(lines[k].split(" ")[1:]) ^ {str(chance.randint(0, 6))}
@@ -389,8 +397,8 @@ def version_changed(chance, lines):
 WAYS = [number_changed, number_changed, line_left_out, line_left_out, lines_exchanged, lines_exchanged, line_doubled,
         word_changed, line_too_long, line_put_in, direction_changed, direction_changed, direction_multiplied,
         direction_put_in, direction_left_out, wall_changed, wall_changed, wall_multiplied, wall_left_out, arc_changed,
-        arc_changed, witness_changed, leaves_exchanged, leaf_changed, arcs_exchanged, members_changed, count_changed,
-        version_changed]
+        arc_changed, witness_changed, leaves_exchanged, leaf_changed, arcs_exchanged, arcs_repeated, members_changed,
+        count_changed, version_changed]
 
 
 def broken(chance, text):
