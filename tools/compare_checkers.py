@@ -182,11 +182,19 @@ def written_subject(chance, folder, number, parts):
     return subject_of(f"made {number}", folder, [], f"{number}.json", digits)
 
 
-def listed_subject(path):
-    """The product of a part list, whose files are named from the working folder or else from the list's own folder."""
+def listed_subject(program, path):
+    """The product of a part list with the least digits that it takes, or None.
+
+    Its files are named from the top folder of the repository, or else from the list's own folder.
+    """
     first = json.loads(path.read_text())["parts"][0]["pieces"][0]
     folder = TOP if (TOP / first).exists() else path.parent
-    return subject_of(str(path), folder, [], str(path), 0)
+    for digits in range(7):
+        look = [program, "look", f"--manifest={path}", f"--digits={digits}"]
+        if subprocess.run(look, cwd=folder, capture_output=True, check=False).returncode == 0:
+            return subject_of(str(path), folder, [], str(path), digits)
+    print(f"refused: {path}")
+    return None
 
 
 def certificates_of(program, subject):
@@ -408,8 +416,10 @@ def broken(chance, text):
         lines, names = text.decode("ascii").split("\n")[:-1], []
         for _ in range(chance.choice((1, 1, 1, 1, 2, 3))):
             way = chance.choice(WAYS)
+            before = list(lines)
             if lines:
                 way(chance, lines)
+            if lines != before:
                 names.append(way.__name__)
         changed = "".join(line + "\n" for line in lines).encode("ascii")
         if chance.random() < 0.08:
@@ -463,7 +473,7 @@ def main(words):
     began = time.monotonic()
     with tempfile.TemporaryDirectory() as folder:
         chance = random.Random(f"products {given.seed}")
-        subjects = [listed_subject(path) for path in paths]
+        subjects = list(filter(None, (listed_subject(program, path) for path in paths)))
         subjects += [written_subject(chance, folder, k, parts) for k, parts in enumerate(made_products(chance))]
         comparison = Comparison(program, pathlib.Path(folder, "certificate"))
         texts = {True: [], False: []}  # of plans, and of refusals
