@@ -55,6 +55,15 @@ def jar(chance):
     return [[box((-1, -1, -1), (1, 1, 1))], chance.sample(slabs, chance.randint(1, 6))]
 
 
+def cage(chance):
+    """An octahedron or a tetrahedron in a box without a gap, or with one slab left out."""
+    [[(points, faces)]] = chance.choice((octahedra, tetrahedra))(chance, 1)
+    least, most = ([choose(values) for values in zip(*points)] for choose in (min, max))
+    points = [tuple(2 * value - low - high for value, low, high in zip(point, least, most)) for point in points]
+    reach = max(abs(value) for point in points for value in point) + chance.choice((0, 0, 3))
+    return [[(points, faces)], chance.sample(shell(reach, reach + 2), chance.choice((5, 6, 6)))]
+
+
 def colouring(chance, sizes, parts):
     """A grid of cubes, each of a part by chance."""
     owners = [[] for _ in range(parts)]
@@ -138,6 +147,8 @@ def made_products(chance):
     for _ in range(4):
         yield jar(chance)
         yield sheared(chance, jar(chance))
+        yield cage(chance)
+        yield sheared(chance, cage(chance))
     for parts in (2, 2, 3, 4):
         yield colouring(chance, (2, 2, 2), parts)
         yield colouring(chance, (3, 2, 2), parts)
@@ -221,7 +232,7 @@ def lines_with(lines, *words):
 def number_after(chance, number):
     """Another number in the place of this one."""
     return chance.choice([number + 1, number - 1, -number, 2 * number, 0, chance.randint(-3, 3), chance.randint(0, 70),
-                          chance.choice(STRANGE)])
+                          chance.choice((31, 32, 63, 64)), chance.choice(STRANGE)])
 
 
 def change_place(chance, lines, k, least, most):
@@ -425,7 +436,8 @@ def broken(chance, text):
         if chance.random() < 0.08:
             names.append("text_cut_off")
             changed = changed[:chance.choice([-1, chance.randrange(len(changed) + 1)])]
-            changed = changed[:changed.rfind(b"\n") + 1] if chance.random() < 0.3 else changed
+            if chance.random() < 0.5:  # at the end of a line, where so many bytes may follow
+                changed = changed[:changed.rfind(b"\n") + 1] + b"0" * chance.choice((0, 0, 126, 127, 128, 129))
         if chance.random() < 0.04:
             names.append("bytes_added")
             changed += chance.choice([b"\n", b"x", b"end\n", b"0" * 127, b"0" * 128, b"0" * 129, b"\xff"])
