@@ -3,8 +3,9 @@
 
     python3 tools/check.py CERTIFICATE [--digits=K] (--manifest=FILE | FILES..)
 
-It prints the line that `staat check` prints, with the same status. It was written from docs/FORMATS.md,
-docs/DEFINITIONS.md and docs/CHECKING.md alone and shares no code with staat. Nothing here is proved.
+It prints the line that `staat check` prints, with the same status. It was written from the documents alone, of which
+docs/FORMATS.md, docs/DEFINITIONS.md and docs/CHECKING.md say all that is needed, and shares no code with staat.
+Nothing here is proved.
 
 The certificate is read and judged in full. Of the parts it is trusted that `staat look` accepts them: that each file
 is a closed convex piece within the limits, and that no pieces of different parts overlap. So a refused file may be
