@@ -309,7 +309,7 @@ class Tests(unittest.TestCase):
         shutil.copy(os.path.abspath(STAAT), self.path("top/staat"))
         asked = 0
         with open(os.path.join(HERE, "README.md")) as file:
-            text = re.search(r"(?ms)^## pieces\.py.*?(?=^## |\Z)", file.read()).group()
+            text = re.search(r"(?ms)^## `pieces\.py.*?(?=^## |\Z)", file.read()).group()
         with open(os.path.join(HERE, "..", "docs", "INPUT.md")) as file:
             text += file.read()
         for block in re.findall(r"(?m)(?:^(?:    .*)?\n)+", text):
