@@ -1,12 +1,13 @@
 #!/usr/bin/python3
 """Draws the pictures of the gallery: gallery/draw.py [NAME ..], gallery/NAME/picture.png
 
-It needs numpy and PIL, which come with the Debian package python3-matplotlib, and is no part of any check. It reads the part
-list, the OFF files and the stored answer of `explode`, so gallery/run should pass before.
+It needs numpy and PIL, which come with the Debian package python3-matplotlib, and is no part of any check. It reads
+the part list, the OFF files and the stored answer of `explode`, so gallery/run should pass before.
 
-Each piece is convex, so the line of sight of a pixel enters it once and leaves it once: where it enters is the greatest of
-the places where it crosses a plane of a face from outside, where it leaves the least of those from inside. The piece that is
-entered first is seen. A cut is one more plane, for the parts that are cut. Lines are drawn where the part or the plane changes.
+Each piece is convex, so the line of sight of a pixel enters it once and leaves it once: where it enters is the
+greatest of the places where it crosses a plane of a face from outside, where it leaves the least of those from
+inside. The piece that is entered first is seen. A cut is one more plane, for the parts that are cut. Lines are drawn
+where the part or the plane changes.
 """
 import json
 import os
@@ -20,11 +21,12 @@ TOP = os.path.dirname(HERE)
 FINE = 3  # so many pixels are drawn for each one that is kept, along and across
 
 COLOURS = [
-    (226, 88, 70), (84, 140, 204), (240, 184, 64), (96, 172, 104), (160, 112, 188), (72, 186, 186), (228, 136, 178), (150, 120, 90),
+    (226, 88, 70), (84, 140, 204), (240, 184, 64), (96, 172, 104), (160, 112, 188),
+    (72, 186, 186), (228, 136, 178), (150, 120, 90),
 ]
 
-# the way one looks (from the viewer into the picture) and, for some, what is cut: parts and a plane (x, y, z, least value
-# that is cut away)
+# the way one looks (from the viewer into the picture) and, for some, what is cut: parts and a plane (x, y, z, least
+# value that is cut away)
 VIEWS = {
     "dovetail": dict(look=(-3, 4, -3)),
     "slanted-slot": dict(look=(8, 5, -5)),
@@ -113,7 +115,8 @@ class Scene:
         return np.array([p @ self.right, p @ self.up])
 
     def bounds(self):
-        flat = np.concatenate([np.stack([points @ self.right, points @ self.up], axis=1) for _, _, points, _ in self.items])
+        flat = np.concatenate(
+            [np.stack([points @ self.right, points @ self.up], axis=1) for _, _, points, _ in self.items])
         return flat.min(axis=0), flat.max(axis=0)
 
     def paint(self, scale, width, height):

@@ -87,14 +87,15 @@ def box(x0, x1, y0, y1, z0, z1):
 
 
 def prism(axis, outline, low, high):
-    """The prism over a convex outline in the two other coordinates, in their order, from low to high along the axis."""
+    """The prism over a convex outline in the two other coordinates, in their order, from low to high on the axis."""
     at = "xyz".index(axis)
     return [tuple(p[:at]) + (h,) + tuple(p[at:]) for p in outline for h in (low, high)]
 
 
 def octagon(far, near):
     """Eight corners around zero; with far = 12 and near = 5 they lie on the circle of radius 13."""
-    return [(far, near), (near, far), (-near, far), (-far, near), (-far, -near), (-near, -far), (near, -far), (far, -near)]
+    return [(far, near), (near, far), (-near, far), (-far, near),
+            (-far, -near), (-near, -far), (near, -far), (far, -near)]
 
 
 def moved(points, by):
@@ -109,8 +110,8 @@ def product(make):
     return make
 
 
-# Each function answers a list of parts: (name, [(file, points), ..]), and behind that the vector `at` where there is one. A file
-# without points is one of another product.
+# Each function answers a list of parts: (name, [(file, points), ..]), and behind that the vector `at` where there is
+# one. A file without points is one of another product.
 
 # ---------------------------------------------------------------- joints
 
@@ -364,9 +365,9 @@ def linked_rings():
 def split_star():
     """The first stellation of the rhombic dodecahedron |x|+|y|, |y|+|z|, |z|+|x| <= 2, split into six parts.
 
-    The part upwards is the octahedron with the corners (0,0,0), (0,0,2) and (+-1,+-1,1), which is the part of the dodecahedron
-    where z is at least |x| and |y|, and the two points of the star over its rhombs towards (1,0,1) and (-1,0,1). The others
-    come from it by turning x, y and z round and by turning it over. All is twice as large here.
+    The part upwards is the octahedron with the corners (0,0,0), (0,0,2) and (+-1,+-1,1), which is the part of the
+    dodecahedron where z is at least |x| and |y|, and the two points of the star over its rhombs towards (1,0,1) and
+    (-1,0,1). The others come from it by turning x, y and z round and by turning it over. All is twice as large here.
     """
     def up(sign):
         s = sign
@@ -404,8 +405,8 @@ STICKS = {
 def sticks(layers):
     """A burr from its layers: each letter is a unit cube and names the stick that has it, a dot is none.
 
-    The layers go up along z; within one the lines go down along y and the letters along x. The cubes of a stick are put
-    together to boxes, the greatest first.
+    The layers go up along z; within one the lines go down along y and the letters along x. The cubes of a stick are
+    put together to boxes, the greatest first.
     """
     owner = {}
     for k, layer in enumerate(layers):
@@ -456,7 +457,7 @@ def six_piece_burr():
 
 @product
 def locked_burr():
-    """Four cubes in the middle are left out: the south stick can go up by one cube, and only then the upper stick slides out."""
+    """Four cubes in the middle are left out: the south stick can go up by one cube, and then the upper slides out."""
     return sticks([
         "...... ..EE.. ..EE.. ..FF.. ..FF.. ......",
         "...... ..EE.. BBBBBB BBF.BB ..FF.. ......",
@@ -470,7 +471,8 @@ def locked_burr():
 @product
 def lifted_burr():
     """The files of the locked burr, with the south stick one cube higher."""
-    return [(name, [("../locked-burr/" + file, None) for file, _ in pieces], (0, 0, 1) if name == STICKS["F"] else None)
+    up = (0, 0, 1)
+    return [(name, [("../locked-burr/" + file, None) for file, _ in pieces], up if name == STICKS["F"] else None)
             for name, pieces in locked_burr()]
 
 
@@ -494,7 +496,8 @@ def main():
                         f.write(hull_off(points))
                 files.append(os.path.normpath("gallery/%s/%s.off" % (name, label)))
             place = ',"at":[%d,%d,%d]' % at[0] if at and at[0] else ""
-            lines.append('  {"name":%s,"pieces":[%s]%s}' % (json.dumps(part), ", ".join(json.dumps(f) for f in files), place))
+            listed = ", ".join(json.dumps(f) for f in files)
+            lines.append('  {"name":%s,"pieces":[%s]%s}' % (json.dumps(part), listed, place))
         with open(os.path.join(folder, "parts.json"), "w") as f:
             f.write('{"parts":[\n' + ",\n".join(lines) + "\n]}\n")
 
