@@ -1,5 +1,6 @@
 -- The half circle of a plane, and the planes through its vertices, while they are built.
-use Rattle.std.specs.Prelude.{◌≡◌, ◌≢◌, ◌⊎◌, ℕ, ◌<◌, ℤ, Bool, not, List, [], ◌∷◌, map, length, All, Contains, pos}
+use Rattle.std.specs.Prelude.{◌≡◌, ◌≢◌, ◌⊎◌, ℕ, ◌<◌, ℤ, Bool, not, List, [], ◌∷◌, map}
+use Rattle.std.specs.Prelude.{length, All, Contains, pos}
 use Rattle.std.specs.Prelude.{◌<ℤ◌, ◌++◌, Some, slice_get, slice_index_or}
 use Rattle.staat_model.specs.Circles.{axis_beside}
 use Rattle.std.specs.Ordering.{nat_cmp}
@@ -72,7 +73,8 @@ pub record IsHalfCircle (planes : List V3) (c : ℕ) (g axis : V3) (half : List 
 
 -- the same, for the normal of plane c and the axis beside it
 abbrev pub IsHalfOfCircle : List V3 → ℕ → List V3 → Type 0
-IsHalfOfCircle planes c half = (g axis : V3) → slice_get planes c ≡ Some g → slice_get planes (axis_beside c) ≡ Some axis
+IsHalfOfCircle planes c half =
+    (g axis : V3) → slice_get planes c ≡ Some g → slice_get planes (axis_beside c) ≡ Some axis
     → IsHalfCircle planes c g axis half
 
 -- h is ahead of the axis, or crosses where it does
@@ -88,7 +90,8 @@ pub record IsPlaceOf (g : V3) (half : List V3) (h : V3) (i : ℕ) : Type 0 where
 
 -- the planes below j, but c, that meet the crossing of m
 pub record AreThroughCrossing (planes : List V3) (c : ℕ) (g m : V3) (j : ℕ) (es : List Entry) : Type 0 where
-  pub listed : Lists nat_cmp (λ i. (i < j) × (i ≢ c) × (det g m (plane_at planes i) ≡ pos 0)) (map (λ e. e.plane) es)
+  pub listed : Lists nat_cmp (λ i. (i < j) × (i ≢ c) × (det g m (plane_at planes i) ≡ pos 0))
+      (map (λ e. e.plane) es)
   pub ways : All (λ e. crossing planes c e ≡ ray g m) es
 
 abbrev pub slot_at : List (List Entry) → ℕ → List Entry

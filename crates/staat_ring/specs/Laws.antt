@@ -1,5 +1,6 @@
 -- What the laws on rings speak of: lists of unlinks and relinks, and the circles of a set of parts.
-use Rattle.std.specs.Prelude.{◌≡◌, ◌↔◌, ℕ, ◌≤◌, List, [], ◌∷◌, All, Contains, Some, slice_get}
+use Rattle.std.specs.Prelude.{◌≡◌, ◌↔◌, ℕ, ◌≤◌, List, [], ◌∷◌, All, Contains, Some}
+use Rattle.std.specs.Prelude.{slice_get}
 use Rattle.staat_vec.specs.declared.vector.V3.{V3}
 use Rattle.staat_model.specs.declared.assembly.Part.{Part}
 use Rattle.staat_model.specs.declared.set.PartSet.{PartSet}
@@ -28,5 +29,6 @@ AreOtherPlanes parts w planes ps = (k : ℕ) (n : V3) → slice_get planes k ≡
 
 -- the circles are those of the planes of w: these planes are linked, and no others
 pub record AreRingsOfSet (parts : List Part) (w : PartSet) (planes : List V3) (a : Arrangement) : Type 0 where
-  pub linked : (k : ℕ) (n : V3) → slice_get planes k ≡ Some n → Contains (linked_of a.rings) k ↔ IsPlaneOf parts w n
+  pub linked : (k : ℕ) (n : V3) → slice_get planes k ≡ Some n → Contains (linked_of a.rings) k
+      ↔ IsPlaneOf parts w n
   pub circles : All (IsRingOf planes (linked_of a.rings)) a.rings

@@ -1,5 +1,6 @@
 -- The circles while they are linked, one after another.
-use Rattle.std.specs.Prelude.{◌≡◌, ◌≢◌, ℕ, ◌*◌, ◌<◌, ◌≤◌, List, [], length, map, All, Contains, slice_index}
+use Rattle.std.specs.Prelude.{◌≡◌, ◌≢◌, ℕ, ◌*◌, ◌<◌, ◌≤◌, List, [], length, map, All}
+use Rattle.std.specs.Prelude.{Contains, slice_index}
 use Rattle.staat_vec.specs.declared.vector.V3.{V3}
 use Rattle.staat_ring.specs.declared.entry.Entry.{Entry}
 use Rattle.staat_ring.specs.Builds.{ring_by, slot_at}
@@ -18,7 +19,8 @@ pub record IsSameAt (s t : Links) (y : ℕ) : Type 0 where
 pub record AreRows (n : ℕ) (rows : List Row) : Type 0 where
   pub within : (k : ℕ) → k < length rows → All (λ x. x < n) (all_of (row_at rows k))
   pub distinct : (k : ℕ) → k < length rows → Distinct (all_of (row_at rows k))
-  pub apart : (i k : ℕ) (y : ℕ) → i < length rows → k < length rows → i ≢ k → Contains (all_of (row_at rows i)) y
+  pub apart : (i k : ℕ) (y : ℕ) → i < length rows → k < length rows → i ≢ k
+      → Contains (all_of (row_at rows i)) y
       → Apart y (all_of (row_at rows k))
 
 -- the rows below m are linked, and the heads of the others stand alone

@@ -1,5 +1,6 @@
 -- The arrangement that the arrays show, and when they stand for one.
-use Rattle.std.specs.Prelude.{◌≡◌, ℕ, zero, suc, ◌+◌, ◌*◌, ◌/◌, ◌%◌, ◌<◌, ◌≤◌, List, [], ◌∷◌, ◌++◌, map, length, take}
+use Rattle.std.specs.Prelude.{◌≡◌, ℕ, zero, suc, ◌+◌, ◌*◌, ◌/◌, ◌%◌, ◌<◌, ◌≤◌, List}
+use Rattle.std.specs.Prelude.{[], ◌∷◌, ◌++◌, map, length, take}
 use Rattle.std.specs.Prelude.{drop, Bool, false, not, ◌||◌, ◌==◌, Contains}
 use Rattle.std.specs.List.{filter}
 use Rattle.staat_ring.specs.declared.entry.Entry.{Entry}
@@ -66,7 +67,8 @@ pub record StandForCircles (n : ℕ) (out : List ℕ) (a : Arrays) : Type 0 wher
 
 -- undoing the unlinked planes in reverse order gives arrays that stand for lists, at each of them
 abbrev pub CanBeUndone : ℕ → List ℕ → Arrays → Type 0
-CanBeUndone n out a = (k : ℕ) → k ≤ length out → StandForCircles n (take k out) (undo_all (undo n) (drop k out) a)
+CanBeUndone n out a =
+    (k : ℕ) → k ≤ length out → StandForCircles n (take k out) (undo_all (undo n) (drop k out) a)
 
 abbrev pub still_linked : ℕ → List ℕ → List ℕ
 still_linked n out = filter (λ c. not (is_out out c)) (numbers_below n)

@@ -1,5 +1,6 @@
 -- The circles of the linked planes, as they are kept: stops with the entries of the planes through them.
-use Rattle.std.specs.Prelude.{◌≡◌, ◌≢◌, ◌⊎◌, ℕ, ◌+◌, ◌*◌, ◌<◌, List, [], ◌∷◌, length, map, take, All, Bool}
+use Rattle.std.specs.Prelude.{◌≡◌, ◌≢◌, ◌⊎◌, ℕ, ◌+◌, ◌*◌, ◌<◌, List, [], ◌∷◌}
+use Rattle.std.specs.Prelude.{length, map, take, All, Bool}
 use Rattle.std.specs.Prelude.{true, false}
 use Rattle.std.specs.Prelude.{Contains, Some, slice_get, slice_index_or, if◌then◌else◌}
 use Rattle.std.specs.List.Sorted.{IsStrictlySortedBy}
@@ -61,7 +62,8 @@ stop_of planes c s = record { vertex = vertex_of planes c s.entries; through = m
 -- the circle of a plane among the linked ones, where each entry names its stop's vertex
 pub record IsRingOf (planes : List V3) (linked : List ℕ) (r : Ring) : Type 0 where
   pub circle : IsCircle planes linked r.plane (map (stop_of planes r.plane) r.stops)
-  pub agree : All (λ s. All (λ e. crossing planes r.plane e ≡ vertex_of planes r.plane s.entries) s.entries) r.stops
+  pub agree :
+      All (λ s. All (λ e. crossing planes r.plane e ≡ vertex_of planes r.plane s.entries) s.entries) r.stops
 
 -- no two linked planes are parallel
 pub record AreLinkedApart (planes : List V3) (linked : List ℕ) : Type 0 where

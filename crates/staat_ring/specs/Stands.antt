@@ -1,5 +1,6 @@
 -- What the arrays stand for: for each circle the list of its vertices, for each vertex the list of its entries.
-use Rattle.std.specs.Prelude.{◌≡◌, ℕ, ◌<◌, List, [], ◌∷◌, length, slice_index, Bool, true, false, not, ◌==◌, Contains}
+use Rattle.std.specs.Prelude.{◌≡◌, ℕ, ◌<◌, List, [], ◌∷◌, length, slice_index, Bool, true, false}
+use Rattle.std.specs.Prelude.{not, ◌==◌, Contains}
 use Rattle.std.specs.Prelude.{All, if◌then◌else◌}
 use Rattle.std.specs.List.{filter}
 use Rattle.staat_ring.specs.Links.{Apart, Links, IsLinkedRing, Distinct, Arrays}
@@ -56,7 +57,8 @@ pub record StandFor (g : Shape) (l : RingLists) (a : Arrays) : Type 0 where
   pub circles : (c : ℕ) → c < g.count → IsRing a.circles g.circle (g.head c) (l.vertices c)
   -- the ring of each vertex on a circle is headed by the vertex itself
   pub owns : (c v : ℕ) → c < g.count → Contains (l.vertices c) v → home_of a v ≡ v
-  pub vertices : (c v : ℕ) → c < g.count → Contains (l.vertices c) v → IsRing a.vertices (home_of a) v (l.entries v)
+  pub vertices : (c v : ℕ) → c < g.count → Contains (l.vertices c) v
+      → IsRing a.vertices (home_of a) v (l.entries v)
   pub within : (c v : ℕ) → c < g.count → Contains (l.vertices c) v → v < length a.circles.next
   pub entries_within : (c v e : ℕ) → c < g.count → Contains (l.vertices c) v → Contains (l.entries v) e
       → e < length a.vertices.next

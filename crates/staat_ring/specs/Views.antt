@@ -1,5 +1,6 @@
 -- The lists as the arrays give them, and the planes that are unlinked, each with what stood before.
-use Rattle.std.specs.Prelude.{◌≡◌, ℕ, zero, suc, ◌<◌, List, [], ◌∷◌, ◌++◌, length, slice_index, ◌==◌, Contains}
+use Rattle.std.specs.Prelude.{◌≡◌, ℕ, zero, suc, ◌<◌, List, [], ◌∷◌, ◌++◌, length, slice_index}
+use Rattle.std.specs.Prelude.{◌==◌, Contains}
 use Rattle.std.specs.Prelude.{if◌then◌else◌}
 use Rattle.staat_ring.specs.Links.{Links, Arrays}
 use Rattle.staat_ring.specs.Rings.{Kept}
@@ -29,7 +30,9 @@ undo_all undo [] a = a
 undo_all undo (p ∷ ps) a = undo p (undo_all undo ps a)
 
 -- the unlinked planes in the order of their unlinking; done are those before
-abbrev pub kept_of : {A R : Type 0} → (ℕ → A → A) → (List ℕ → A → R) → List ℕ → List ℕ → A → List (Kept R)
+abbrev pub kept_of : {A R : Type 0} → (ℕ → A → A) → (List ℕ → A → R) → List ℕ → List ℕ → A
+    → List (Kept R)
 kept_of undo rings done [] a = []
 kept_of undo rings done (p ∷ ps) a =
-    (record { plane = p; before = rings done (undo p (undo_all undo ps a)) }) ∷ kept_of undo rings (done ++ p ∷ []) ps a
+    (record { plane = p; before = rings done (undo p (undo_all undo ps a)) })
+    ∷ kept_of undo rings (done ++ p ∷ []) ps a

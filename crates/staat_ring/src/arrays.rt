@@ -1,5 +1,6 @@
 // The arrays of all rings.
-ghost use Rattle.std.specs.Prelude.{◌≡◌, ◌≢◌, ℕ, ◌+◌, ◌*◌, ◌<◌, ◌≤◌, ◌^◌, IfOk, List, length, map, slice_index};
+ghost use Rattle.std.specs.Prelude.{◌≡◌, ◌≢◌, ℕ, ◌+◌, ◌*◌, ◌<◌, ◌≤◌, ◌^◌, IfOk};
+ghost use Rattle.std.specs.Prelude.{List, length, map, slice_index};
 ghost use Rattle.staat_ring.specs.Links.{take, give, take_all, give_all};
 ghost use Rattle.staat_ring.specs.Stands.{InRange, IsShortRing};
 ghost use Rattle.staat_ring.specs.Planes.{entries_of};
@@ -176,7 +177,8 @@ impl RingArrays {
         requires sizes { AreSized planes self.old }
         requires stops { CanBeLinked planes c stops.now }
         requires nodes { nodes.now ≡ map (node_number planes c) stops.now }
-        requires alone { (x : ℕ) → x < 4 * (planes * planes) → (shape planes).circle x ≡ c → IsAlone self.old x }
+        requires alone { (x : ℕ) → x < 4 * (planes * planes) → (shape planes).circle x ≡ c
+            → IsAlone self.old x }
         ensures sizes { AreSized planes self.new }
         ensures holds { HoldsCircle planes self.new c stops.now }
         ensures others { (x : ℕ) → (shape planes).circle x ≢ c → IsKeptAt self.old self.new x }
