@@ -199,6 +199,57 @@ class Texts(InFolder):
         self.assertEqual(check.verdict(self.cubes, "c", text), (4, "staat: c is too long"))
 
 
+# what is said of the plan of the cubes, with the first text of each pair changed into the second
+OF_PLANS = {
+    "valid plan": [
+        (),
+        ("STAAT 2", "STAAT 1"),
+        ("1 0 0\nleaf", "7 0 0\nleaf"),
+        ("split 0 0 1", f"split {-(2**81)} 5 5"),
+    ],
+    "not valid: wrong parts 3": [("parts 2", "parts 3", "leaf 1", "leaf 0")],
+    "not valid: bad leaves at node 2": [("leaf 1", "leaf 0")],
+    "not valid: bad leaves at node 1": [
+        ("leaf 0", "leaf 2", "leaf 1", "leaf 2"),
+        ("split 0 0 1\nsep 0 0 1 0 1 0 0\nleaf 0\nleaf 1", "leaf 1"),
+    ],
+    "not valid: zero direction at node 0": [("split 0 0 1", "split 0 0 0", "sep 0", "sep 1")],
+    "not valid: bad separator on line 5": [
+        ("split 0 0 1", "split 1 0 0"),
+        ("1 0 0\nleaf", "-1 0 0\nleaf"),
+        ("1 0 0\nleaf", "0 0 0\nleaf"),
+        ("1 0 0\nleaf", "1 1 0\nleaf"),
+        ("sep 0 0 1 0", "sep 0 1 1 0"),
+        ("leaf 0\nleaf 1", "leaf 1\nleaf 0"),
+    ],
+    "not valid: missing separator 0 0 1 0": [("sep 0 0 1 0 1 0 0\n", "")],
+}
+
+# the same of the refusal of the closed box
+OF_REFUSALS = {
+    "valid refusal": [
+        (),
+        ("dir 1 0 0 2", "dir 1 0 0 2\ndir 5 0 0 2"),
+        ("witness 2\n", "witness 2\nout 0 0 1 1\nin 1 0 0 0\nwitness 3\n", "dir 1 0 0 2", "dir 1 0 0 3"),
+    ],
+    "not valid: wrong parts 1": [("parts 2", "parts 1", "stuck 0 1", "stuck 0")],
+    "not valid: bad stuck set": [("stuck 0 1", "stuck 0"), ("stuck 0 1", "stuck 0 1 2")],
+    "not valid: bad tree in witness 1": [
+        ("out 0 0 1 2", "out 1 2 0 0"),
+        ("in 1 3 0 0", "in 1 6 0 0"),
+        ("out 0 0 1 2\n", ""),
+        ("in 1 3 0 0\n", "in 1 3 0 0\nin 1 3 0 0\n"),
+    ],
+    "not valid: bad tree in witness 2": [("in 1 1 0 0\n", "in 1 1 1 0\n")],
+    "not valid: bad arc on line 14": [("dir 0 1 0 1", "dir 0 1 0 0")],
+    "not valid: bad arc on line 13": [("STAAT 2", "STAAT 1", "dir 0 0 1 0", "dir 0 0 0 0")],
+    "not valid: missing direction 0 0 1": [("dir 0 0 1 0\n", "")],
+    "not valid: missing direction 0 -1 0": [("dir 0 1 0 1\n", "")],
+    "not valid: missing direction 1 0 0": [("dir 1 0 0 2\n", "")],
+    "not valid: missing direction 0 0 -1": [("STAAT 2", "STAAT 1")],
+}
+
+
 class Verdicts(InFolder):
     """What is said of a certificate that is read."""
 
@@ -207,11 +258,11 @@ class Verdicts(InFolder):
         self.cubes = check.read_product(CUBES, None, 0)
         self.closed = check.read_product([], "examples/closed-box/parts.json", 0)
 
-    def assert_plan(self, said, *changes):
-        self.assert_said(said, self.cubes, CUBES_PLAN, changes)
-
-    def assert_refusal(self, said, *changes):
-        self.assert_said(said, self.closed, CLOSED_BOX_REFUSAL, changes)
+    def assert_all(self, table, product, text):
+        for said, rows in table.items():
+            for changes in rows:
+                with self.subTest(said, changes=changes):
+                    self.assert_said(said, product, text, changes)
 
     def assert_said(self, said, product, text, changes):
         for old, new in zip(changes[::2], changes[1::2]):
@@ -220,22 +271,7 @@ class Verdicts(InFolder):
         self.assertEqual(judged(product, text), (int(not said.startswith("valid")), said))
 
     def test_plans(self):
-        self.assert_plan("valid plan")
-        self.assert_plan("valid plan", "STAAT 2", "STAAT 1")
-        self.assert_plan("valid plan", "1 0 0\nleaf", "7 0 0\nleaf")
-        self.assert_plan("valid plan", "split 0 0 1", f"split {-(2**81)} 5 5")
-        self.assert_plan("not valid: wrong parts 3", "parts 2", "parts 3", "leaf 1", "leaf 0")
-        self.assert_plan("not valid: bad leaves at node 2", "leaf 1", "leaf 0")
-        self.assert_plan("not valid: bad leaves at node 1", "leaf 0", "leaf 2", "leaf 1", "leaf 2")
-        self.assert_plan("not valid: bad leaves at node 1", "split 0 0 1\nsep 0 0 1 0 1 0 0\nleaf 0\nleaf 1", "leaf 1")
-        self.assert_plan("not valid: zero direction at node 0", "split 0 0 1", "split 0 0 0", "sep 0", "sep 1")
-        self.assert_plan("not valid: bad separator on line 5", "split 0 0 1", "split 1 0 0")
-        self.assert_plan("not valid: bad separator on line 5", "1 0 0\nleaf", "-1 0 0\nleaf")
-        self.assert_plan("not valid: bad separator on line 5", "1 0 0\nleaf", "0 0 0\nleaf")
-        self.assert_plan("not valid: bad separator on line 5", "1 0 0\nleaf", "1 1 0\nleaf")
-        self.assert_plan("not valid: bad separator on line 5", "sep 0 0 1 0", "sep 0 1 1 0")
-        self.assert_plan("not valid: bad separator on line 5", "leaf 0\nleaf 1", "leaf 1\nleaf 0")
-        self.assert_plan("not valid: missing separator 0 0 1 0", "sep 0 0 1 0 1 0 0\n", "")
+        self.assert_all(OF_PLANS, self.cubes, CUBES_PLAN)
 
     def test_the_first_split_in_preorder_is_told(self):
         row = check.read_product([], "examples/row-of-cubes/parts.json", 0)
@@ -250,24 +286,7 @@ class Verdicts(InFolder):
         self.assertEqual(judged(row, text), (0, "valid plan"))
 
     def test_refusals(self):
-        self.assert_refusal("valid refusal")
-        self.assert_refusal("valid refusal", "dir 1 0 0 2", "dir 1 0 0 2\ndir 5 0 0 2")
-        self.assert_refusal("valid refusal", "witness 2\n", "witness 2\nout 0 0 1 1\nin 1 0 0 0\nwitness 3\n",
-                            "dir 1 0 0 2", "dir 1 0 0 3")
-        self.assert_refusal("not valid: wrong parts 1", "parts 2", "parts 1", "stuck 0 1", "stuck 0")
-        self.assert_refusal("not valid: bad stuck set", "stuck 0 1", "stuck 0")
-        self.assert_refusal("not valid: bad stuck set", "stuck 0 1", "stuck 0 1 2")
-        self.assert_refusal("not valid: bad tree in witness 1", "out 0 0 1 2", "out 1 2 0 0")
-        self.assert_refusal("not valid: bad tree in witness 1", "in 1 3 0 0", "in 1 6 0 0")
-        self.assert_refusal("not valid: bad tree in witness 1", "out 0 0 1 2\n", "")
-        self.assert_refusal("not valid: bad tree in witness 1", "in 1 3 0 0\n", "in 1 3 0 0\nin 1 3 0 0\n")
-        self.assert_refusal("not valid: bad tree in witness 2", "in 1 1 0 0\n", "in 1 1 1 0\n")
-        self.assert_refusal("not valid: bad arc on line 14", "dir 0 1 0 1", "dir 0 1 0 0")
-        self.assert_refusal("not valid: bad arc on line 13", "STAAT 2", "STAAT 1", "dir 0 0 1 0", "dir 0 0 0 0")
-        self.assert_refusal("not valid: missing direction 0 0 1", "dir 0 0 1 0\n", "")
-        self.assert_refusal("not valid: missing direction 0 -1 0", "dir 0 1 0 1\n", "")
-        self.assert_refusal("not valid: missing direction 1 0 0", "dir 1 0 0 2\n", "")
-        self.assert_refusal("not valid: missing direction 0 0 -1", "STAAT 2", "STAAT 1")
+        self.assert_all(OF_REFUSALS, self.closed, CLOSED_BOX_REFUSAL)
 
 
 class Command(InFolder):
