@@ -1,5 +1,5 @@
 -- The arcs of the trees of a table's graph, and the witness that they make.
-use Rattle.std.proofs.Common.{◌≡◌, ◌≢◌, ◌↔◌, ◌∙◌, ◌<◌, ◌+◌, ℕ, ap, refl, sym, List, [], ◌∷◌, ◌++◌, map, take, length, All}
+use Rattle.std.proofs.Common.{◌≡◌, ◌≢◌, ◌∙◌, ◌<◌, ◌+◌, ℕ, ap, refl, sym, List, [], ◌∷◌, ◌++◌, map, take, length, All}
 use Rattle.std.specs.Prelude.{get_or}
 use Rattle.std.proofs.lemmas.List.{map-append}
 use Rattle.std.specs.FinSet as set
@@ -24,14 +24,14 @@ use Rattle.staat_plan.specs.Witnesses.{AreTreesAlong, AreEndsAhead}
 use Rattle.staat_plan.proofs.WitnessLemmas.{witness_is}
 use Rattle.staat_plan.proofs.Tries.{stuck_serves_not}
 
-module _ (t : Table) (d : V3) (rows : List ℕ) (says : (a b : ℕ) → HasArc rows a b ↔ IsAhead t d a b) (w : PartSet) where
+module _ (t : Table) (d : V3) (rows : List ℕ) (says : (a b : ℕ) → HasArc rows a b → IsAhead t d a b) (w : PartSet) where
   pub outs_lead : (reached : PartSet) (pairs : List (ℕ × ℕ)) → IsTree (HasArc rows) w reached pairs → All (AreEndsAhead t d) pairs
   outs_lead reached [] tree = All-nil (AreEndsAhead t d)
-  outs_lead reached (pair ∷ pairs) tree = All-cons (AreEndsAhead t d) pair pairs ((says pair.0 pair.1).0 tree.0.is.arc) (outs_lead (set.insert reached pair.1) pairs tree.1)
+  outs_lead reached (pair ∷ pairs) tree = All-cons (AreEndsAhead t d) pair pairs (says pair.0 pair.1 tree.0.is.arc) (outs_lead (set.insert reached pair.1) pairs tree.1)
 
   pub ins_lead : (reached : PartSet) (pairs : List (ℕ × ℕ)) → IsTree (Back (HasArc rows)) w reached (map swapped pairs) → All (AreEndsAhead t d) pairs
   ins_lead reached [] tree = All-nil (AreEndsAhead t d)
-  ins_lead reached (pair ∷ pairs) tree = All-cons (AreEndsAhead t d) pair pairs ((says pair.0 pair.1).0 tree.0.is.arc) (ins_lead (set.insert reached pair.0) pairs tree.1)
+  ins_lead reached (pair ∷ pairs) tree = All-cons (AreEndsAhead t d) pair pairs (says pair.0 pair.1 tree.0.is.arc) (ins_lead (set.insert reached pair.0) pairs tree.1)
 
 -- the graph of a stuck set is strong
 pub stuck_is_strong : (parts : List Part) (w : PartSet) (d : V3) (rows : List ℕ) → d ≢ origin → ShowsBlocking parts d w rows → IsStuck parts w → (IsStrong (HasArc rows) w → ⊥) → ⊥

@@ -27,12 +27,12 @@ returns-clause-trees c =
 pub returns-clause-outs : goal.returns-clause-outs
 returns-clause-outs c =
     let root = c.least-root.result in
-    outs_lead c.args.table.now c.args.d c.graph_at-graph.result.rows c.graph_at-graph.ensures.table c.set-w.result (single root) (take c.in-Some.trees.count c.in-Some.trees.outs) (c.in-Some.ensures.trees.outs root c.least-root.ensures.least)
+    outs_lead c.args.table.now c.args.d c.graph_at-graph.result.rows (λ a b. (c.graph_at-graph.ensures.table a b).0) c.set-w.result (single root) (take c.in-Some.trees.count c.in-Some.trees.outs) (c.in-Some.ensures.trees.outs root c.least-root.ensures.least)
 
 pub returns-clause-ins : goal.returns-clause-ins
 returns-clause-ins c =
     let root = c.least-root.result in
-    ins_lead c.args.table.now c.args.d c.graph_at-graph.result.rows c.graph_at-graph.ensures.table c.set-w.result (single root) (take c.in-Some.trees.count c.in-Some.trees.ins) (c.in-Some.ensures.trees.ins root c.least-root.ensures.least)
+    ins_lead c.args.table.now c.args.d c.graph_at-graph.result.rows (λ a b. (c.graph_at-graph.ensures.table a b).0) c.set-w.result (single root) (take c.in-Some.trees.count c.in-Some.trees.ins) (c.in-Some.ensures.trees.ins root c.least-root.ensures.least)
 
 pub returns-clause-few : goal.returns-clause-few
 returns-clause-few c =

@@ -1,0 +1,60 @@
+// The trial that looks for a side of a set of parts that is free of the rest.
+ghost use Rattle.staat_model.specs.declared.set.PartSet.{PartSet as PartSetValue};
+ghost use Rattle.staat_model.specs.Outcomes.{IsMovedSide, Serves};
+ghost use Rattle.staat_model.specs.Sets.{IsNonempty, IsSide};
+ghost use Rattle.staat_pairs.specs.Tables.{Table};
+ghost use Rattle.staat_plan.specs.StrongArcs.{KeepsStrong};
+
+use crate::strong_arcs::StrongArcs;
+use staat_graph::{sink_of, trees_of};
+use staat_model::PartSet;
+use staat_planes::{PlaneTable, Trial, Tried};
+use staat_vec::V3;
+
+/// Looks for the side of a set of parts that moves along a direction.
+///
+/// It keeps the arcs that last showed a blocking graph strong. Where they still stand, nothing else is computed.
+#[derive(Drop)]
+pub(crate) struct SideTrial {
+    strong: StrongArcs,
+}
+
+impl SideTrial {
+    /// A trial for any set of parts, which has kept nothing yet.
+    pub(crate) fn new() -> SideTrial
+        ensures { (t : Table) (w : PartSetValue) → IsNonempty w → KeepsStrong t w result.strong }
+    {
+        SideTrial {
+            strong: StrongArcs::none(),
+        }
+    }
+}
+
+impl Trial for SideTrial {
+    type Found = PartSet;
+
+    ghost fits = { λ s t w. KeepsStrong t w s.strong };
+
+    ghost knows = { λ s parts. Unit {0} };
+
+    ghost serves = { Serves };
+
+    ghost finds = { IsMovedSide };
+
+    ghost among = { IsSide };
+
+    // By the law `opposite_serves` a side moves along the opposite direction exactly where one moves along d.
+    fn ask(&mut self, table: &PlaneTable, w: PartSet, d: V3) -> Tried<PartSet> {
+        if self.strong.stand_at(table, d) {
+            return Tried::Neither;
+        }
+        let graph = table.graph_in(w, d);
+        match trees_of(&graph, w) {
+            None => Tried::Ahead(sink_of(&graph, w)),
+            Some(trees) => {
+                self.strong.keep(table, w, d, &graph, &trees);
+                Tried::Neither
+            }
+        }
+    }
+}
