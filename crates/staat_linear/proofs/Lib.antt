@@ -1,2 +1,5 @@
 pub mod Locked
 pub mod Lines
+pub mod Searching
+pub mod Freeing
+pub mod Choosing

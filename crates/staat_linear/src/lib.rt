@@ -2,6 +2,7 @@
 #![tactic(auto)]
 
 pub mod laws;
+mod holders;
 mod order;
 mod text;
 
