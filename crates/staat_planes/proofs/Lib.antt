@@ -4,3 +4,6 @@ pub mod GraphLaw
 pub mod NotFound
 pub mod UsedLaw
 pub mod BuildLemmas
+pub mod UsedPlanes
+pub mod PairSteps
+pub mod SearchSteps

@@ -1,0 +1,58 @@
+-- What a search over directions has found.
+use Rattle.std.proofs.Common.{◌≡◌, inl, inr, ℕ, ◌+◌, ◌*◌, arith, ap, sym, subst, ◌∙◌, refl, List, [], ◌∷◌, ◌++◌, length, length-append, All, Contains}
+use Rattle.std.specs.Prelude.{None, Option, Some}
+use Rattle.std.proofs.lemmas.List.{append-nil, append_assoc}
+use Rattle.std.proofs.lemmas.List.Elements.{All-append, All-cons, All-contains, All-nil}
+use Rattle.staat_vec.specs.declared.vector.V3.{V3}
+use Rattle.staat_vec.specs.Lists.{IsFirst}
+use Rattle.staat_vec.specs.Vectors.{negative}
+use Rattle.staat_vec.proofs.Unique.{Contains-front, Contains-later}
+use Rattle.staat_planes.specs.declared.search.Served.{Served}
+use Rattle.staat_planes.specs.declared.search.Tried.{Tried}
+use Rattle.staat_planes.specs.declared.search.Tried.TheVariants.{Neither, Ahead, Opposite}
+use Rattle.staat_planes.specs.VertexSearch.{ArePassed, AreSearched, IsFirstServed, IsTried}
+
+module _ (serves : V3 → Type 0) where
+  abbrev Not : V3 → Type 0
+  Not v = serves v → ⊥
+
+  first_behind : (xs ys : List V3) (x : V3) → ((y : V3) → Contains xs y → serves y → ⊥) → IsFirst serves ys x → IsFirst serves (xs ++ ys) x
+  first_behind [] ys x none h = h
+  first_behind (y ∷ xs) ys x none h = inr (none y (Contains-front y xs), first_behind xs ys x (λ z c. none z (Contains-later y xs z c)) h)
+
+  first_before : (xs ys : List V3) (x : V3) → IsFirst serves xs x → IsFirst serves (xs ++ ys) x
+  first_before [] ys x h = absurd h
+  first_before (y ∷ xs) ys x (inl h) = inl h
+  first_before (y ∷ xs) ys x (inr h) = inr (h.0, first_before xs ys x h.1)
+
+  -- two more of which neither serves
+  pub two_passed : (vs left later : List V3) (d : V3) → (p : ArePassed serves vs left) → left ≡ d ∷ negative d ∷ later → All Not (d ∷ negative d ∷ []) → ArePassed serves vs later
+  two_passed vs left later d p e none = record {
+    before = p.before ++ d ∷ negative d ∷ [];
+    is = p.is ∙ (ap (λ l. p.before ++ l) e ∙ sym (append_assoc p.before (d ∷ negative d ∷ []) later));
+    none = All-append Not p.before (d ∷ negative d ∷ []) p.none none;
+  }
+
+  pub two_longer : (vs left later : List V3) (d : V3) (k : ℕ) → (p : ArePassed serves vs left) (e : left ≡ d ∷ negative d ∷ later) (none : All Not (d ∷ negative d ∷ [])) → length p.before ≡ 2 * k → length (two_passed vs left later d p e none).before ≡ 2 * (k + 1)
+  unfolding two_passed
+  two_longer vs left later d k p e none is = omega (arith, is, length-append p.before (d ∷ negative d ∷ []))
+
+  pub all_passed : (vs left : List V3) → ArePassed serves vs left → left ≡ [] → All Not vs
+  all_passed vs left p e = subst (All Not) (sym (p.is ∙ (ap (λ l. p.before ++ l) e ∙ append-nil p.before))) p.none
+
+  module _ {F : Type 0} (finds : V3 → F → Type 0) where
+    -- the first of two directions that serves, where those before do not
+    pub first_of : (vs left later : List V3) (d : V3) (s : Served F) → ArePassed serves vs left → left ≡ d ∷ negative d ∷ later → IsFirstServed serves finds (d ∷ negative d ∷ []) s → IsFirstServed serves finds vs s
+    first_of vs left later d s p e h = record {
+      first = subst (λ l. IsFirst serves l s.d) (sym p.is) (first_behind p.before left s.d (λ v c. All-contains Not p.before v p.none c) (subst (λ l. IsFirst serves l s.d) (sym e) (first_before (d ∷ negative d ∷ []) later s.d h.first)));
+      found_is = h.found_is;
+    }
+
+    pub neither : (d : V3) → (serves d → ⊥) × (serves (negative d) → ⊥) → AreSearched serves finds (d ∷ negative d ∷ []) None
+    neither d h = All-cons Not d (negative d ∷ []) h.0 (All-cons Not (negative d) [] h.1 (All-nil Not))
+
+    pub ahead : (d : V3) (s : Served F) → s.d ≡ d → serves d × finds d s.found → AreSearched serves finds (d ∷ negative d ∷ []) (Some s)
+    ahead d s e h = record { first = inl (e, h.0); found_is = subst (λ v. finds v s.found) (sym e) h.1 }
+
+    pub opposite : (d : V3) (s : Served F) → s.d ≡ negative d → (serves d → ⊥) × serves (negative d) × finds (negative d) s.found → AreSearched serves finds (d ∷ negative d ∷ []) (Some s)
+    opposite d s e h = record { first = inr (h.0, inl (e, h.1)); found_is = subst (λ v. finds v s.found) (sym e) h.2 }

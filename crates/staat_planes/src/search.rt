@@ -1,0 +1,185 @@
+// The search for the first vertex of the planes of a set of parts that serves.
+ghost use Rattle.std.specs.Prelude.{◌≡◌, ◌≢◌, List, ◌∷◌, [], IfSome};
+ghost use Rattle.staat_vec.specs.declared.vector.V3.{V3 as Vector};
+ghost use Rattle.staat_vec.specs.Vectors.{IsWithin, negative, origin};
+ghost use Rattle.staat_model.specs.declared.assembly.Part.{Part as PartValue};
+ghost use Rattle.staat_model.specs.declared.set.PartSet.{PartSet as PartSetValue};
+ghost use Rattle.staat_model.specs.Planes.{ArePlanes, vertices};
+ghost use Rattle.staat_model.specs.Sets.{IsSubset};
+ghost use Rattle.staat_pairs.specs.Tables.{Table, WasMadeFrom};
+ghost use Rattle.staat_planes.specs.VertexSearch.{AreSearched, IsPlaceIn, IsSearched, IsSearchedAmong};
+ghost use Rattle.staat_planes.specs.VertexSearch.{IsServedAmong, IsTried, IsTriedAmong, vertices_left};
+
+use crate::pairs::PlanePairs;
+use crate::table::PlaneTable;
+use staat_model::PartSet;
+use staat_vec::{DIRECTION, V3, neg};
+
+/// What a trial finds at a direction and at its opposite.
+#[derive(Drop)]
+pub enum Tried<F> {
+    /// Neither serves.
+    Neither,
+    /// The direction serves, and this is found there.
+    Ahead(F),
+    /// The direction does not serve, its opposite does, and this is found there.
+    Opposite(F),
+}
+
+/// A direction that serves, and what is found there.
+#[derive(Drop)]
+pub struct Served<F> {
+    pub d: V3,
+    pub found: F,
+}
+
+/// What a search finds that ends after some number of pairs of planes.
+#[derive(Drop)]
+pub enum Search<F> {
+    /// The first direction that serves.
+    First(Served<F>),
+    /// No direction serves.
+    Nothing,
+    /// None of those that were tried serves, and others are left.
+    Undecided,
+}
+
+/// What is looked for at the vertices of the planes of a set of parts.
+///
+/// A trial takes no memory. It may keep what helps it at later directions, and what it answers does not hang on that.
+pub trait Trial {
+    /// What is found at a direction that serves.
+    type Found;
+
+    // the trial may be asked about this set of parts of this table
+    ghost fits: { Self → Table → PartSetValue → Type 0 };
+
+    // the trial speaks of this assembly
+    ghost knows: { Self → List PartValue → Type 0 };
+
+    // something is found for a set of parts of an assembly at a direction
+    ghost serves: { List PartValue → PartSetValue → Vector → Type 0 };
+
+    // this is found
+    ghost finds: { List PartValue → PartSetValue → Vector → Self.Found → Type 0 };
+
+    // what is found for the set is one of these, whatever the assembly
+    ghost among: { PartSetValue → Self.Found → Type 0 };
+
+    /// Looks at a direction, and at its opposite if the direction does not serve.
+    fn ask(&mut self, table: &PlaneTable, w: PartSet, d: V3) -> Tried<Self::Found>
+        requires fits { fits self.old table.now w }
+        requires within { IsSubset w table.now.of }
+        requires size { IsWithin DIRECTION d }
+        requires some { d ≢ origin }
+        ensures fits { fits self.new table.now w }
+        ensures knows { (parts : List PartValue) → knows self.old parts → knows self.new parts }
+        ensures among { IsTriedAmong (among w) result }
+        ensures tried { (parts : List PartValue) → WasMadeFrom parts table.now → knows self.old parts
+            → IsTried (serves parts w) (finds parts w) d result };
+}
+
+// what a trial finds at a direction or at its opposite
+fn served_at<T: Trial>(
+    table: &PlaneTable,
+    w: PartSet,
+    d: V3,
+    trial: &mut T,
+) -> Option<Served<T::Found>>
+    requires fits { T.fits trial.old table.now w }
+    requires within { IsSubset w table.now.of }
+    requires size { IsWithin DIRECTION d }
+    requires some { d ≢ origin }
+    ensures fits { T.fits trial.new table.now w }
+    ensures knows { (parts : List PartValue) → T.knows trial.old parts → T.knows trial.new parts }
+    ensures among { IfSome result (IsServedAmong (T.among w)) }
+    ensures served { (parts : List PartValue) → WasMadeFrom parts table.now → T.knows trial.old parts
+        → AreSearched (T.serves parts w) (T.finds parts w) (d ∷ negative d ∷ []) result }
+{
+    match trial.ask(table, w, d) {
+        Tried::Neither => None,
+        Tried::Ahead(found) => Some(Served { d, found }),
+        Tried::Opposite(found) => Some(Served { d: neg(d), found }),
+    }
+}
+
+/// The first of the vertices that are left that serves, and what is found there. None exactly where none of them
+/// serves.
+///
+/// The pairs were made for this table and this set, and the trial may be asked about them.
+pub fn first_left<T: Trial>(
+    pairs: &mut PlanePairs,
+    table: &PlaneTable,
+    w: PartSet,
+    trial: &mut T,
+) -> Option<Served<T::Found>>
+    requires place { IsPlaceIn table.now.planes pairs.old }
+    requires fits { T.fits trial.old table.now w }
+    requires within { IsSubset w table.now.of }
+    ensures fits { T.fits trial.new table.now w }
+    ensures knows { (parts : List PartValue) → T.knows trial.old parts → T.knows trial.new parts }
+    ensures among { IfSome result (IsServedAmong (T.among w)) }
+    ensures first { (parts : List PartValue) → WasMadeFrom parts table.now → T.knows trial.old parts
+        → AreSearched (T.serves parts w) (T.finds parts w) (vertices_left table.now.planes pairs.old) result }
+{
+    while let Some(d) = pairs.next_crossing(table) {
+        if let Some(found) = served_at(table, w, d, trial) {
+            return Some(found);
+        }
+    }
+    None
+}
+
+/// The same with a limit on the pairs of planes whose crossings are tried. Where it ends undecided, the pairs stand at
+/// the next one, so that [`first_left`] goes on from there.
+pub fn first_few<T: Trial>(
+    pairs: &mut PlanePairs,
+    table: &PlaneTable,
+    w: PartSet,
+    trial: &mut T,
+    limit: u32,
+) -> Search<T::Found>
+    requires place { IsPlaceIn table.now.planes pairs.old }
+    requires fits { T.fits trial.old table.now w }
+    requires within { IsSubset w table.now.of }
+    ensures place { IsPlaceIn table.now.planes pairs.new }
+    ensures fits { T.fits trial.new table.now w }
+    ensures knows { (parts : List PartValue) → T.knows trial.old parts → T.knows trial.new parts }
+    ensures among { IsSearchedAmong (T.among w) result }
+    ensures first { (parts : List PartValue) → WasMadeFrom parts table.now → T.knows trial.old parts
+        → IsSearched (T.serves parts w) (T.finds parts w) (vertices_left table.now.planes pairs.old)
+        (vertices_left table.now.planes pairs.new) limit result }
+{
+    for _k in 0..limit {
+        let Some(d) = pairs.next_crossing(table) else {
+            return Search::Nothing;
+        };
+        if let Some(found) = served_at(table, w, d, trial) {
+            return Search::First(found);
+        }
+    }
+    Search::Undecided
+}
+
+/// The first of the vertices of the planes of `w`, in pair order, that serves, and what is found there. None exactly
+/// where none of them serves.
+///
+/// `w` lies in the table's set, and the trial may be asked about it. The direction is not zero, and its components are
+/// at most [`DIRECTION`] in absolute value. It takes no memory.
+pub fn first_vertex<T: Trial>(
+    table: &PlaneTable,
+    w: PartSet,
+    trial: &mut T,
+) -> Option<Served<T::Found>>
+    requires fits { T.fits trial.old table.now w }
+    requires within { IsSubset w table.now.of }
+    ensures fits { T.fits trial.new table.now w }
+    ensures knows { (parts : List PartValue) → T.knows trial.old parts → T.knows trial.new parts }
+    ensures among { IfSome result (IsServedAmong (T.among w)) }
+    ensures first { (parts : List PartValue) (planes : List Vector) → WasMadeFrom parts table.now
+        → T.knows trial.old parts → ArePlanes parts w planes
+        → AreSearched (T.serves parts w) (T.finds parts w) (vertices planes) result }
+{
+    let mut pairs = PlanePairs::of(table, w);
+    first_left(&mut pairs, table, w, trial)
+}
