@@ -77,11 +77,11 @@ inside w u z p within e q h = within q (rest_within w (single p) q (subst (λ (t
 -- ---- what is chosen is right
 
 pub chosen_settles : (parts : List Part) (w : PartSet) (order : Order) → IsAssembly parts → IsChosen parts w order → SettlesOrder parts w order
-chosen_settles parts w order is (one_part {w} {p} e) = record { order = e; free = tt }
-chosen_settles parts w order is (no_leave {w} two none) = ((λ q h. h), locked_at_vertices parts w is two none)
-chosen_settles parts w order is (then_whole {w} {leave} {leaves} {last} two step later) =
+chosen_settles parts w order is (one_part e) = record { order = e; free = tt }
+chosen_settles parts w order is (no_leave two none) = ((λ q h. h), locked_at_vertices parts w is two none)
+chosen_settles parts w order is (then_whole {leave} {leaves} {last} two step later) =
     let good = chosen_settles parts (without w leave.part) (Whole leaves last) is later in
     record { order = (step.leaves.member, good.order); free = (step.leaves.free, good.free) }
-chosen_settles parts w order is (then_locked {w} {a} {leave} two step later) =
+chosen_settles parts w order is (then_locked {a} {leave} two step later) =
     let t = chosen_settles parts (without w leave.part) (Locked a) is later in
     ((λ q h. rest_within w (single leave.part) q (t.0 q h)), t.1)

@@ -3,3 +3,4 @@ pub mod Lines
 pub mod Searching
 pub mod Freeing
 pub mod Choosing
+pub mod OneOrder

@@ -1,8 +1,9 @@
 -- The search for what holds a part.
-use Rattle.std.proofs.Common.{◌≡◌, ◌≢◌, ◌⊎◌, inl, inr, ⊎_elim, ℕ, ◌+◌, ◌<◌, ◌≤◌, get_or, arith, false, refl, sym, subst, ◌∙◌, pos, ◌<ℤ◌, All, Bool, List, length}
+use Rattle.std.proofs.Common.{◌≡◌, ◌≢◌, ◌⊎◌, inl, inr, ⊎_elim, ℕ, ◌+◌, ◌<◌, ◌≤◌, get_or, arith, false, sym, subst, ap, ◌∙◌, pos, ◌<ℤ◌, All, Bool, List, length}
 use Rattle.std.specs.Bool.{IsTrue}
 use Rattle.std.specs.FinSet as set
 use Rattle.std.specs.Prelude.{Some, slice_get, slice_set}
+use Rattle.std.proofs.Math.ListN.{length-set}
 use Rattle.std.proofs.lemmas.Bool.{false≢true}
 use Rattle.std.proofs.lemmas.Grind.{get_or-set_at}
 use Rattle.std.proofs.lemmas.List.{get_or-set_other}
@@ -79,23 +80,47 @@ some_other w others p two same = go (nonempty_or others)
 
 -- ---- the pieces that are kept
 
-pub put_outward : (t : Table) (w : PartSet) (arcs new : List Arc) (p : ℕ) (arc : Arc) → AreOutward t w arcs → IsOutward t w p arc → new ≡ slice_set arcs p arc → length new ≡ length arcs → AreOutward t w new
-put_outward t w arcs new p arc are is set_is long = record {
-  room = long ∙ are.room;
-  each = λ q other has at. go q other has at (same_or q p);
-}
+-- what is read after other pieces were put at p
+read_put : (arcs new : List Arc) (p q : ℕ) (arc other : Arc) → new ≡ slice_set arcs p arc → slice_get new q ≡ Some other → ((q ≡ p) × (other ≡ arc)) ⊎ ((q ≢ p) × (slice_get arcs q ≡ Some other))
+read_put arcs new p q arc other is at = go (same_or q p)
   where
-    go : (q : ℕ) (other : Arc) → Has w q → slice_get new q ≡ Some other → (q ≡ p) ⊎ (q ≢ p) → IsOutward t w q other
-    go q other has at (inl e) =
-        let within : q < length new = slice_get_within new q other at in
-        let read : get_or (slice_set arcs p arc) q other ≡ other = subst (λ (xs : List Arc). get_or xs q other ≡ other) set_is (get_or_from_slice_get new q other other at) in
-        let kept : get_or (slice_set arcs p arc) q other ≡ arc = get_or-set_at arcs p q arc other e (omega (arith, within, e, long)) in
-        subst (λ (x : Arc). IsOutward t w q x) (sym kept ∙ read) (subst (λ k. IsOutward t w k arc) (sym e) is)
-    go q other has at (inr apart) =
-        let within : q < length new = slice_get_within new q other at in
-        let read : get_or (slice_set arcs p arc) q other ≡ other = subst (λ (xs : List Arc). get_or xs q other ≡ other) set_is (get_or_from_slice_get new q other other at) in
-        let kept : get_or (slice_set arcs p arc) q other ≡ get_or arcs q other = get_or-set_other arcs p q arc other apart in
-        are.each q other has (slice_get_read arcs (length new) q other long within (sym read ∙ kept))
+    long : length new ≡ length arcs
+    long = ap length is ∙ length-set arcs p arc
+
+    within : q < length new
+    within = slice_get_within new q other at
+
+    read : get_or (slice_set arcs p arc) q other ≡ other
+    read = subst (λ (xs : List Arc). get_or xs q other ≡ other) is (get_or_from_slice_get new q other other at)
+
+    go : (q ≡ p) ⊎ (q ≢ p) → ((q ≡ p) × (other ≡ arc)) ⊎ ((q ≢ p) × (slice_get arcs q ≡ Some other))
+    go (inl e) = inl (e, sym read ∙ get_or-set_at arcs p q arc other e (omega (arith, within, e, long)))
+    go (inr apart) = inr (apart, slice_get_read arcs (length new) q other long within (sym read ∙ get_or-set_other arcs p q arc other apart))
+
+-- the pieces of the parts below n lead outward
+abbrev pub OutwardBelow : Table → PartSet → ℕ → List Arc → Type 0
+OutwardBelow t w n arcs = (q : ℕ) (arc : Arc) → q < n → Has w q → slice_get arcs q ≡ Some arc → IsOutward t w q arc
+
+pub put_below : (t : Table) (w : PartSet) (n : ℕ) (arcs new : List Arc) (arc : Arc) → OutwardBelow t w n arcs → IsOutward t w n arc → new ≡ slice_set arcs n arc → OutwardBelow t w (n + 1) new
+put_below t w n arcs new arc below is set_is q other lt has at = ⊎_elim {C = IsOutward t w q other}
+    (λ here. subst (λ (x : Arc). IsOutward t w q x) (sym here.1) (subst (λ k. IsOutward t w k arc) (sym here.0) is))
+    (λ apart. below q other (omega (arith, lt, apart.0)) has apart.1)
+    (read_put arcs new n q arc other set_is at)
+
+pub none_put_below : (t : Table) (w : PartSet) (n : ℕ) (arcs new : List Arc) → OutwardBelow t w n arcs → set.contains w n ≡ false → new ≡ arcs → OutwardBelow t w (n + 1) new
+none_put_below t w n arcs new below out same q other lt has at = ⊎_elim {C = IsOutward t w q other}
+    (λ less. below q other less has (subst (λ (xs : List Arc). slice_get xs q ≡ Some other) same at))
+    (λ e. absurd (false≢true (sym out ∙ subst (Has w) e has)))
+    (last_or q n lt)
+
+pub put_outward : (t : Table) (w : PartSet) (arcs new : List Arc) (p : ℕ) (arc : Arc) → AreOutward t w arcs → IsOutward t w p arc → new ≡ slice_set arcs p arc → AreOutward t w new
+put_outward t w arcs new p arc are is set_is = record {
+  room = ap length set_is ∙ length-set arcs p arc ∙ are.room;
+  each = λ q other has at. ⊎_elim {C = IsOutward t w q other}
+      (λ here. subst (λ (x : Arc). IsOutward t w q x) (sym here.1) (subst (λ k. IsOutward t w k arc) (sym here.0) is))
+      (λ apart. are.each q other has apart.1)
+      (read_put arcs new p q arc other set_is at);
+}
 
 -- what holds a part leads from it to another part
 pub outward_of : (t : Table) (w : PartSet) (d : V3) (p : ℕ) (arc : Arc) → Holds t w d p arc → IsOutward t w p arc

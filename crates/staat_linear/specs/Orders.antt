@@ -8,6 +8,8 @@ use Rattle.staat_model.specs.declared.set.PartSet.{PartSet}
 use Rattle.staat_model.specs.Planes.{ArePlanes, vertices}
 use Rattle.staat_model.specs.Removal.{IsFree}
 use Rattle.staat_model.specs.Sets.{Has, IsSubset, single}
+use Rattle.staat_pairs.specs.Tables.{Table}
+use Rattle.staat_planes.specs.Refusals.{IsTableWithin}
 use Rattle.staat_linear.specs.declared.order.Leave.{Leave}
 use Rattle.staat_linear.specs.declared.order.Order.{Order}
 use Rattle.staat_linear.specs.declared.order.Order.TheVariants.{Whole, Locked}
@@ -78,3 +80,7 @@ pub data IsChosen (parts : List Part) : PartSet → Order → Type 0 where
 abbrev pub SettlesOrder : List Part → PartSet → Order → Type 0
 SettlesOrder parts w (Whole leaves last) = IsGoodOrder parts w leaves last
 SettlesOrder parts w (Locked a) = IsSubset a w × IsLocked parts a
+
+-- a table of the parts of w has no more planes than the limit
+abbrev pub HasTableWithin : List Part → PartSet → ℕ → Type 0
+HasTableWithin parts w limit = (t : Table) × IsTableWithin parts w limit t

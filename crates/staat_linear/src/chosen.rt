@@ -3,8 +3,8 @@ ghost use Rattle.std.specs.Prelude.{◌≡◌, ◌≤◌, List, IfOk, MatchResul
 ghost use Rattle.staat_model.specs.declared.assembly.Part.{Part as PartValue};
 ghost use Rattle.staat_model.specs.Sets.{IsNonempty, IsSubset, below};
 ghost use Rattle.staat_pairs.specs.Tables.{WasMadeFrom};
-ghost use Rattle.staat_planes.specs.Refusals.{IsPlanesRefusal, IsTableWithin};
-ghost use Rattle.staat_linear.specs.Orders.{IsChosen, SettlesOrder};
+ghost use Rattle.staat_planes.specs.Refusals.{IsPlanesRefusal};
+ghost use Rattle.staat_linear.specs.Orders.{HasTableWithin, IsChosen, SettlesOrder};
 
 use crate::order::{Leaves, Order};
 use crate::step::linear_step;
@@ -55,7 +55,7 @@ pub fn linear<F: FacetSource>(
     requires most { planes ≤ MOST_PLANES }
     ensures order { IfOk result (IsChosen sound.now (below (length sound.now))) }
     ensures right { IfOk result (SettlesOrder sound.now (below (length sound.now))) }
-    ensures planes { MatchResult result (λ order. HasFewPlanes sound.now (below (length sound.now)) planes)
+    ensures planes { MatchResult result (λ _. HasTableWithin sound.now (below (length sound.now)) planes)
         (IsPlanesRefusal sound.now (below (length sound.now)) planes) }
 {
     let all = PartSet::first(sound.assembly().parts());
