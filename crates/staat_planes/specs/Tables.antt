@@ -29,6 +29,12 @@ pub record IsAhead (t : Table) (d : V3) (a b : ℕ) : Type 0 where
   pub across : IsTableArc t (arc_of a i b j)
   pub ahead : All (λ n. pos 0 <ℤ dot n d) (facets_of t (arc_of a i b j))
 
+-- the same of two parts of w
+pub record IsAheadIn (t : Table) (w : PartSet) (d : V3) (a b : ℕ) : Type 0 where
+  pub a_in : Has w a
+  pub b_in : Has w b
+  pub ahead : IsAhead t d a b
+
 -- an arc of the blocking graph at d between parts of w
 pub record BlocksIn (parts : List Part) (w : PartSet) (d : V3) (a b : ℕ) : Type 0 where
   pub a_in : Has w a

@@ -46,6 +46,6 @@ returns-clause-left c =
     let first : p.first < p.count = (let a = place.order in let b = c.requires.some in omega (arith, a, b)) in
     let second : p.second < p.count = c.requires.some in
     let left = pair_left planes (numbers_of p) p.first p.second c.plane-g.result c.plane-h.result (omega (arith, second, long))
-        (ap (λ k. slice_index_or planes k origin) (number_at p.numbers p.count p.first first) ∙ get_or_from_slice_get planes (slice_index p.numbers p.first) c.plane-g.result origin c.plane-g.ensures.is)
-        (ap (λ k. slice_index_or planes k origin) (number_at p.numbers p.count p.second second) ∙ get_or_from_slice_get planes (slice_index p.numbers p.second) c.plane-h.result origin c.plane-h.ensures.is) in
+    (ap (λ k. slice_index_or planes k origin) (number_at p.numbers p.count p.first first) ∙ get_or_from_slice_get planes (slice_index p.numbers p.first) c.plane-g.result origin c.plane-g.ensures.is)
+    (ap (λ k. slice_index_or planes k origin) (number_at p.numbers p.count p.second second) ∙ get_or_from_slice_get planes (slice_index p.numbers p.second) c.plane-h.result origin c.plane-h.ensures.is) in
     subst (λ (d : V3). vertices_left planes p ≡ d ∷ negative d ∷ vertices_left planes (record { numbers = p.numbers; count = p.count; first = p.first; second = p.second + 1 })) (sym c.crossing.ensures.value) left

@@ -10,17 +10,17 @@ loop-k-init c = record { room = refl; few = omega arith; used = none_used c.args
 pub loop-k-preserved : goal.loop-k-preserved
 loop-k-preserved c = elim c.if-is_used.branch [
   | then-is_used w ↦ (record {
-      room = ap length w.numbers-is ∙ w.push_number.array_long;
-      few = let a = c.loop-k.invariant.few in let e = w.count-is in omega (arith, a, e);
-      used = subst (AreUsedBelow c.args.table.now c.args.w (c.loop-k.k + 1)) (sym ((λ i. take (w.count-is i) (w.numbers-is i)) ∙ w.push_number.ensures))
-          (one_used c.args.table.now c.args.w c.loop-k.k (take c.loop-k.count c.loop-k.numbers) c.is_used.result c.loop-k.invariant.used c.is_used.ensures w.if-is_used.true);
-    })
+    room = ap length w.numbers-is ∙ w.push_number.array_long;
+    few = let a = c.loop-k.invariant.few in let e = w.count-is in omega (arith, a, e);
+    used = subst (AreUsedBelow c.args.table.now c.args.w (c.loop-k.k + 1)) (sym ((λ i. take (w.count-is i) (w.numbers-is i)) ∙ w.push_number.ensures))
+        (one_used c.args.table.now c.args.w c.loop-k.k (take c.loop-k.count c.loop-k.numbers) c.is_used.result c.loop-k.invariant.used c.is_used.ensures w.if-is_used.true);
+  })
   | else-is_used w ↦ (record {
-      room = ap length w.numbers-is ∙ c.loop-k.invariant.room;
-      few = let a = c.loop-k.invariant.few in let e = w.count-is in omega (arith, a, e);
-      used = subst (AreUsedBelow c.args.table.now c.args.w (c.loop-k.k + 1)) (sym (λ i. take (w.count-is i) (w.numbers-is i)))
-          (none_more c.args.table.now c.args.w c.loop-k.k (take c.loop-k.count c.loop-k.numbers) c.is_used.result c.loop-k.invariant.used c.is_used.ensures (λ told. true≢false (sym told ∙ w.if-is_used.false)));
-    })
+    room = ap length w.numbers-is ∙ c.loop-k.invariant.room;
+    few = let a = c.loop-k.invariant.few in let e = w.count-is in omega (arith, a, e);
+    used = subst (AreUsedBelow c.args.table.now c.args.w (c.loop-k.k + 1)) (sym (λ i. take (w.count-is i) (w.numbers-is i)))
+        (none_more c.args.table.now c.args.w c.loop-k.k (take c.loop-k.count c.loop-k.numbers) c.is_used.result c.loop-k.invariant.used c.is_used.ensures (λ told. true≢false (sym told ∙ w.if-is_used.false)));
+  })
 ]
 
 pub returns-clause-place : goal.returns-clause-place

@@ -1,15 +1,14 @@
-use Rattle.std.proofs.Common.{rules}
-use Rattle.staat_planes.proofs.GraphLaw.{arcs_are_blocking, row_written, shows_blocking, whole_rows}
+use Rattle.std.proofs.Common.{◌↔◌, ℕ, subst}
+use Rattle.staat_model.specs.declared.set.PartSet.{PartSet}
+use Rattle.staat_graph.specs.Blocking.{ShowsBlocking}
+use Rattle.staat_graph.specs.Graphs.{HasArc}
+use Rattle.staat_planes.specs.Tables.{BlocksIn}
 use Rattle.staat_planes.proofs.table.PlaneTable.graph_at.Goals as goal
 
-pub loop-a-preserved : goal.loop-a-preserved
-loop-a-preserved c = record { long = search rules; rows = row_written c.args.self.now c.args.d c.loop-a.rows c.loop-a.a c.bits.result c.met_by.result c.loop-a.invariant.long c.loop-a-test.true c.loop-a.invariant.rows c.met_by.ensures c.bits.ensures.bit }
-
-pub returns-clause-table : goal.returns-clause-table
-returns-clause-table c = whole_rows c.args.self.now c.args.d c.loop-a.rows c.loop-a.a c.set-set.ensures.rules c.loop-a.invariant.long c.loop-a-test.false c.loop-a.invariant.rows
-
 pub returns-clause-arcs : goal.returns-clause-arcs
-returns-clause-arcs c parts made = arcs_are_blocking parts c.args.self.now c.args.d c.loop-a.rows made (returns-clause-table c)
+returns-clause-arcs c parts made =
+    subst (λ (w : PartSet). (a b : ℕ) → HasArc c.graph_in.result.rows a b ↔ BlocksIn parts w c.args.d a b) c.set.ensures.is (c.graph_in.ensures.arcs parts made)
 
 pub returns-clause-shows : goal.returns-clause-shows
-returns-clause-shows c parts made = shows_blocking parts c.args.self.now c.args.d c.loop-a.rows (returns-clause-arcs c parts made)
+returns-clause-shows c parts made =
+    subst (λ (w : PartSet). ShowsBlocking parts c.args.d w c.graph_in.result.rows) c.set.ensures.is (c.graph_in.ensures.shows parts made)
