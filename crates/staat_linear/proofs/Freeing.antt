@@ -54,8 +54,7 @@ module _ (t : Table) (w : PartSet) (parts : List Part) (made : WasMadeFrom parts
             a_in = within arc.a (subst (Has w) (sym from) has);
             b_in = within arc.b to.0;
             blocks = record { i = arc.i; j = arc.j; different = λ e. to.1 ((has-single p arc.b).1 (sym e ∙ from)); meets = meets };
-          }) in
-          (
+          }) in (
             record { a = arc.a; i = ahead.i; b = arc.b; j = ahead.j },
             record { from = from; to = to.0; ahead = record { across = ahead.across; ahead = ahead.ahead } },
           )

@@ -30,6 +30,8 @@ fn order_of(alloc: Global, table: &PlaneTable, w: PartSet) -> Result<Order, OutO
         let Some(leave) = linear_step(table, left) else {
             return Ok(Order::Locked(left));
         };
+        // all members are below the number of bits
+        let _bits = left.bits();
         left = left.without(PartSet::single(leave.part));
         leaves.push(leave)?;
     }

@@ -96,7 +96,12 @@ fn first_pieces(table: &PlaneTable, w: PartSet, p: u32) -> Arc
     let b = others.least();
     // each part has a piece
     let _pieces = (table.pieces(p), table.pieces(b));
-    Arc { a: p, i: 0, b, j: 0 }
+    Arc {
+        a: p,
+        i: 0,
+        b,
+        j: 0,
+    }
 }
 
 /// For each part of a set a piece of it and a piece of another part of the set: those that held the part when it was
@@ -113,7 +118,12 @@ impl Holders {
         requires two { 2 ≤ set.len w }
         ensures { AreOutward table.now w result.arcs }
     {
-        let none = Arc { a: 0, i: 0, b: 0, j: 0 };
+        let none = Arc {
+            a: 0,
+            i: 0,
+            b: 0,
+            j: 0,
+        };
         let mut holders = Holders { arcs: [none; 32] };
         for p in 0..MOST_PARTS {
             if w.has(p) {
