@@ -12,3 +12,6 @@ pub use chosen::{LinearRefusal, linear};
 pub use order::{Leave, Leaves, Order};
 pub use step::linear_step;
 pub use text::linear_text;
+
+#[cfg(test)]
+mod tests;
