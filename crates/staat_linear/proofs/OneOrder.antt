@@ -1,0 +1,70 @@
+-- A set of parts has one chosen order.
+use Rattle.std.proofs.Common.{◌≡◌, ◌≤◌, ℕ, List, [], ◌∷◌, Contains, arith, ap, sym, ◌∙◌, subst, refl}
+use Rattle.std.proofs.lemmas.List.Elements.{All-contains}
+use Rattle.std.specs.FinSet as set
+use Rattle.staat_vec.specs.declared.vector.V3.{V3}
+use Rattle.staat_vec.specs.Lists.{IsFirst}
+use Rattle.staat_vec.proofs.Unique.{IsFirst-in, IsFirst-unique}
+use Rattle.staat_model.specs.declared.assembly.Part.{Part}
+use Rattle.staat_model.specs.declared.set.PartSet.{PartSet}
+use Rattle.staat_model.specs.Planes.{vertices}
+use Rattle.staat_model.specs.Sets.{Has, single}
+use Rattle.staat_model.proofs.OneTable.{ArePlanes-unique}
+use Rattle.staat_model.proofs.SetMembers.{has-single}
+use Rattle.staat_model.proofs.SetSizes.{len-single}
+use Rattle.staat_linear.specs.declared.order.Leave.{Leave}
+use Rattle.staat_linear.specs.declared.order.Order.{Order}
+use Rattle.staat_linear.specs.declared.order.Order.TheVariants.{Whole, Locked}
+use Rattle.staat_linear.specs.Orders.{HasNoLeave, IsChosen, IsLeave, LeavesAlong, LetsLeave, no_leave, one_part, then_locked, then_whole, without}
+
+module _ (parts : List Part) where
+  leave_unique : (w : PartSet) (x y : Leave) → IsLeave parts w x → IsLeave parts w y → x ≡ y
+  leave_unique w x y a b =
+      let planes = ArePlanes-unique parts w a.planes b.planes a.planes_are b.planes_are in
+      let d : x.d ≡ y.d = IsFirst-unique (LetsLeave parts w) (vertices b.planes) x.d y.d (subst (λ ps. IsFirst (LetsLeave parts w) (vertices ps) x.d) planes a.first) b.first in
+      let le : x.part ≤ y.part = a.least y.part (subst (λ v. LeavesAlong parts w v y.part) (sym d) b.leaves) in
+      let ge : y.part ≤ x.part = b.least x.part (subst (λ v. LeavesAlong parts w v x.part) d a.leaves) in
+      let part : x.part ≡ y.part = omega (arith, le, ge) in
+      λ i. record { part = part i; d = d i }
+
+  no_leave_and_leave : (w : PartSet) (x : Leave) → HasNoLeave parts w → IsLeave parts w x → ⊥
+  no_leave_and_leave w x a b =
+      let planes = ArePlanes-unique parts w a.planes b.planes a.planes_are b.planes_are in
+      let found = IsFirst-in (LetsLeave parts w) (vertices b.planes) x.d b.first in
+      All-contains (λ v. LetsLeave parts w v → ⊥) (vertices a.planes) x.d a.none (subst (λ ps. Contains (vertices ps) x.d) (sym planes) found.0) found.1
+
+  not_single : (w : PartSet) (p : ℕ) → w ≡ single p → 2 ≤ set.len w → ⊥
+  not_single w p is two = let one : set.len w ≡ 1 = ap set.len is ∙ len-single p in absurd (omega arith)
+
+  one_alone : (p q : ℕ) → single p ≡ single q → p ≡ q
+  one_alone p q e = sym ((has-single p q).0 (subst (λ (u : PartSet). Has u q) (sym e) ((has-single q q).1 refl)))
+
+  along : (w : PartSet) (x y : Leave) (o : Order) → x ≡ y → IsChosen parts (without w y.part) o → IsChosen parts (without w x.part) o
+  along w x y o e = subst (λ (l : Leave). IsChosen parts (without w l.part) o) (sym e)
+
+  whole_is : (x y : Leave) (xs ys : List Leave) (p q : ℕ) → x ≡ y → Whole xs p ≡ Whole ys q → Whole (x ∷ xs) p ≡ Whole (y ∷ ys) q
+  whole_is x y xs ys p q e f = cc
+
+  -- a set has one chosen order
+  pub IsChosen-unique : {w : PartSet} {o p : Order} → IsChosen parts w o → IsChosen parts w p → o ≡ p
+  IsChosen-unique (one_part {p = p} e) (one_part {p = q} e') = ap (λ n. Whole [] n) (one_alone p q (sym e ∙ e'))
+  IsChosen-unique (one_part {p = p} e) (no_leave two' none') = absurd (not_single _ p e two')
+  IsChosen-unique (one_part {p = p} e) (then_whole two' s' l') = absurd (not_single _ p e two')
+  IsChosen-unique (one_part {p = p} e) (then_locked two' s' l') = absurd (not_single _ p e two')
+  IsChosen-unique (no_leave two none) (one_part {p = q} e') = absurd (not_single _ q e' two)
+  IsChosen-unique (no_leave two none) (no_leave two' none') = refl
+  IsChosen-unique (no_leave two none) (then_whole two' s' l') = absurd (no_leave_and_leave _ _ none s')
+  IsChosen-unique (no_leave two none) (then_locked two' s' l') = absurd (no_leave_and_leave _ _ none s')
+  IsChosen-unique (then_whole two s l) (one_part {p = q} e') = absurd (not_single _ q e' two)
+  IsChosen-unique (then_whole two s l) (no_leave two' none') = absurd (no_leave_and_leave _ _ none' s)
+  IsChosen-unique {w = w} (then_whole {leave = x} {leaves = xs} {last = p} two s l) (then_whole {leave = y} {leaves = ys} {last = q} two' s' l') =
+      let e : x ≡ y = leave_unique w x y s s' in
+      whole_is x y xs ys p q e (IsChosen-unique l (along w x y (Whole ys q) e l'))
+  IsChosen-unique {w = w} (then_whole {leave = x} {leaves = xs} {last = p} two s l) (then_locked {a = a} {leave = y} two' s' l') =
+      let wrong : Whole xs p ≡ Locked a = IsChosen-unique l (along w x y (Locked a) (leave_unique w x y s s') l') in absurd cc
+  IsChosen-unique (then_locked two s l) (one_part {p = q} e') = absurd (not_single _ q e' two)
+  IsChosen-unique (then_locked two s l) (no_leave two' none') = absurd (no_leave_and_leave _ _ none' s)
+  IsChosen-unique {w = w} (then_locked {a = a} {leave = x} two s l) (then_whole {leave = y} {leaves = ys} {last = q} two' s' l') =
+      let wrong : Locked a ≡ Whole ys q = IsChosen-unique l (along w x y (Whole ys q) (leave_unique w x y s s') l') in absurd cc
+  IsChosen-unique {w = w} (then_locked {a = a} {leave = x} two s l) (then_locked {a = b} {leave = y} two' s' l') =
+      IsChosen-unique l (along w x y (Locked b) (leave_unique w x y s s') l')

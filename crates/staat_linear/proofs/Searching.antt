@@ -1,0 +1,131 @@
+-- The search for what holds a part.
+use Rattle.std.proofs.Common.{◌≡◌, ◌≢◌, ◌⊎◌, inl, inr, ⊎_elim, ℕ, ◌+◌, ◌<◌, ◌≤◌, get_or, arith, false, sym, subst, ap, ◌∙◌, pos, ◌<ℤ◌, All, Bool, List, length}
+use Rattle.std.specs.Bool.{IsTrue}
+use Rattle.std.specs.FinSet as set
+use Rattle.std.specs.Prelude.{Some, slice_get, slice_set}
+use Rattle.std.proofs.Math.ListN.{length-set}
+use Rattle.std.proofs.lemmas.Bool.{false≢true}
+use Rattle.std.proofs.lemmas.Grind.{get_or-set_at}
+use Rattle.std.proofs.lemmas.List.{get_or-set_other}
+use Rattle.std.proofs.lemmas.Option.{get_or_from_slice_get, slice_get_read, slice_get_within}
+use Rattle.staat_vec.specs.declared.vector.V3.{V3}
+use Rattle.staat_vec.specs.Vectors.{dot}
+use Rattle.staat_model.specs.declared.certificate.Arc.{Arc}
+use Rattle.staat_model.specs.declared.set.PartSet.{PartSet}
+use Rattle.staat_model.specs.Sets.{Has, IsNonempty, single}
+use Rattle.staat_model.proofs.RestrictLemmas.{nonempty_or}
+use Rattle.staat_model.proofs.SetMembers.{has-difference, has-single}
+use Rattle.staat_model.proofs.SetSizes.{len-single}
+use Rattle.staat_graph.proofs.Finite.{len_subset}
+use Rattle.staat_model.proofs.FreeSides.{member_or}
+use Rattle.staat_pairs.specs.Searches.{arc_of}
+use Rattle.staat_pairs.specs.Tables.{Table, facets_of, pieces_of}
+use Rattle.staat_linear.specs.Holding.{AreHeld, AreOutward, Holds, IsArcAhead, IsHeld, IsLeastFree, IsOutward}
+use Rattle.staat_linear.specs.Orders.{without}
+
+last_or : (m k : ℕ) → m < k + 1 → (m < k) ⊎ (m ≡ k)
+last_or m k lt = grind arith
+
+same_or : (m k : ℕ) → (m ≡ k) ⊎ (m ≢ k)
+same_or m k = grind arith
+
+-- ---- pieces
+
+-- piece i of a meets none of the pieces of b below the j-th
+abbrev pub NoneBefore : Table → V3 → ℕ → ℕ → ℕ → ℕ → Type 0
+NoneBefore t d a i b j = (k : ℕ) → k < j → IsArcAhead t d (arc_of a i b k) → ⊥
+
+-- no piece of a before the i-th meets one of b
+abbrev pub NoPieceBefore : Table → V3 → ℕ → ℕ → ℕ → Type 0
+NoPieceBefore t d a b i = (k j : ℕ) → k < i → IsArcAhead t d (arc_of a k b j) → ⊥
+
+-- no piece of b holds p, if b is another part of w
+abbrev pub NoneIn : Table → PartSet → V3 → ℕ → ℕ → Type 0
+NoneIn t w d p b = (i j : ℕ) → Has w b → IsArcAhead t d (arc_of p i b j) → ⊥
+
+pub none_more : (t : Table) (d : V3) (a i b j : ℕ) (test : Bool) → NoneBefore t d a i b j → test ≡ false → (All (λ n. pos 0 <ℤ dot n d) (facets_of t (arc_of a i b j)) → IsTrue test) → NoneBefore t d a i b (j + 1)
+none_more t d a i b j test before said gives k lt met = ⊎_elim {C = ⊥}
+    (λ less. before k less met)
+    (λ e. false≢true (sym said ∙ gives (subst (λ k. IsArcAhead t d (arc_of a i b k)) e met).ahead))
+    (last_or k j lt)
+
+pub none_ahead : (t : Table) (d : V3) (a i b j : ℕ) → pieces_of t b ≤ j → NoneBefore t d a i b j → (k : ℕ) → IsArcAhead t d (arc_of a i b k) → ⊥
+none_ahead t d a i b j le before k met = let within : k < pieces_of t b = met.across.j_is in before k (omega (arith, within, le)) met
+
+pub piece_more : (t : Table) (d : V3) (a b i : ℕ) → NoPieceBefore t d a b i → ((j : ℕ) → IsArcAhead t d (arc_of a i b j) → ⊥) → NoPieceBefore t d a b (i + 1)
+piece_more t d a b i before none k j lt met = ⊎_elim {C = ⊥} (λ less. before k j less met) (λ e. none j (subst (λ k. IsArcAhead t d (arc_of a k b j)) e met)) (last_or k i lt)
+
+pub no_piece : (t : Table) (d : V3) (a b i : ℕ) → pieces_of t a ≤ i → NoPieceBefore t d a b i → (k j : ℕ) → IsArcAhead t d (arc_of a k b j) → ⊥
+no_piece t d a b i le before k j met = let within : k < pieces_of t a = met.across.i_is in before k j (omega (arith, within, le)) met
+
+pub part_more : (t : Table) (w : PartSet) (d : V3) (p b : ℕ) → ((k : ℕ) → k < b → NoneIn t w d p k) → NoneIn t w d p b → (k : ℕ) → k < b + 1 → NoneIn t w d p k
+part_more t w d p b before none k lt = ⊎_elim {C = NoneIn t w d p k} (λ less. before k less) (λ e. subst (λ k. NoneIn t w d p k) (sym e) none) (last_or k b lt)
+
+pub not_held : (t : Table) (w : PartSet) (d : V3) (p b : ℕ) → ((q : ℕ) → Has w q → q < b) → ((k : ℕ) → k < b → NoneIn t w d p k) → IsHeld t w d p → ⊥
+not_held t w d p b small none held =
+    let arc : Arc = held.0 in
+    let h = held.1 in
+    none arc.b (small arc.b h.to) arc.i arc.j h.to (subst (λ a. IsArcAhead t d (record { a = a; i = arc.i; b = arc.b; j = arc.j })) h.from h.ahead)
+
+-- a part of a set of two has another one beside it
+pub some_other : (w others : PartSet) (p : ℕ) → 2 ≤ set.len w → others ≡ without w p → IsNonempty others
+some_other w others p two same = go (nonempty_or others)
+  where
+    go : IsNonempty others ⊎ ((q : ℕ) → Has others q → ⊥) → IsNonempty others
+    go (inl some) = some
+    go (inr none) =
+        let le : set.len w ≤ set.len (single p) = len_subset w (single p) (λ q h. ⊎_elim {C = Has (single p) q} (λ m. m) (λ out. absurd (none q (subst (λ (s : PartSet). Has s q) (sym same) ((has-difference w (single p) q).1 (h, out))))) (member_or (single p) q)) in
+        let one = len-single p in
+        absurd (omega (arith, le, one, two))
+
+-- ---- the pieces that are kept
+
+-- what is read after other pieces were put at p
+read_put : (arcs new : List Arc) (p q : ℕ) (arc other : Arc) → new ≡ slice_set arcs p arc → slice_get new q ≡ Some other → ((q ≡ p) × (other ≡ arc)) ⊎ ((q ≢ p) × (slice_get arcs q ≡ Some other))
+read_put arcs new p q arc other is at = go (same_or q p)
+  where
+    long : length new ≡ length arcs
+    long = ap length is ∙ length-set arcs p arc
+
+    within : q < length new
+    within = slice_get_within new q other at
+
+    read : get_or (slice_set arcs p arc) q other ≡ other
+    read = subst (λ (xs : List Arc). get_or xs q other ≡ other) is (get_or_from_slice_get new q other other at)
+
+    go : (q ≡ p) ⊎ (q ≢ p) → ((q ≡ p) × (other ≡ arc)) ⊎ ((q ≢ p) × (slice_get arcs q ≡ Some other))
+    go (inl e) = inl (e, sym read ∙ get_or-set_at arcs p q arc other e (omega (arith, within, e, long)))
+    go (inr apart) = inr (apart, slice_get_read arcs (length new) q other long within (sym read ∙ get_or-set_other arcs p q arc other apart))
+
+-- the pieces of the parts below n lead outward
+abbrev pub OutwardBelow : Table → PartSet → ℕ → List Arc → Type 0
+OutwardBelow t w n arcs = (q : ℕ) (arc : Arc) → q < n → Has w q → slice_get arcs q ≡ Some arc → IsOutward t w q arc
+
+pub put_below : (t : Table) (w : PartSet) (n : ℕ) (arcs new : List Arc) (arc : Arc) → OutwardBelow t w n arcs → IsOutward t w n arc → new ≡ slice_set arcs n arc → OutwardBelow t w (n + 1) new
+put_below t w n arcs new arc below is set_is q other lt has at = ⊎_elim {C = IsOutward t w q other}
+    (λ here. subst (λ (x : Arc). IsOutward t w q x) (sym here.1) (subst (λ k. IsOutward t w k arc) (sym here.0) is))
+    (λ apart. below q other (omega (arith, lt, apart.0)) has apart.1)
+    (read_put arcs new n q arc other set_is at)
+
+pub none_put_below : (t : Table) (w : PartSet) (n : ℕ) (arcs new : List Arc) → OutwardBelow t w n arcs → set.contains w n ≡ false → new ≡ arcs → OutwardBelow t w (n + 1) new
+none_put_below t w n arcs new below out same q other lt has at = ⊎_elim {C = IsOutward t w q other}
+    (λ less. below q other less has (subst (λ (xs : List Arc). slice_get xs q ≡ Some other) same at))
+    (λ e. absurd (false≢true (sym out ∙ subst (Has w) e has)))
+    (last_or q n lt)
+
+pub put_outward : (t : Table) (w : PartSet) (arcs new : List Arc) (p : ℕ) (arc : Arc) → AreOutward t w arcs → IsOutward t w p arc → new ≡ slice_set arcs p arc → AreOutward t w new
+put_outward t w arcs new p arc are is set_is = record {
+  room = ap length set_is ∙ length-set arcs p arc ∙ are.room;
+  each = λ q other has at. ⊎_elim {C = IsOutward t w q other}
+      (λ here. subst (λ (x : Arc). IsOutward t w q x) (sym here.1) (subst (λ k. IsOutward t w k arc) (sym here.0) is))
+      (λ apart. are.each q other has apart.1)
+      (read_put arcs new p q arc other set_is at);
+}
+
+-- what holds a part leads from it to another part
+pub outward_of : (t : Table) (w : PartSet) (d : V3) (p : ℕ) (arc : Arc) → Holds t w d p arc → IsOutward t w p arc
+outward_of t w d p arc h = record { from = h.from; to = h.to; across = h.ahead.across }
+
+-- the parts before the next one
+pub held_more : (t : Table) (w : PartSet) (d : V3) (p : ℕ) → ((q : ℕ) → q < p → Has w q → IsHeld t w d q) → (Has w p → IsHeld t w d p) → (q : ℕ) → q < p + 1 → Has w q → IsHeld t w d q
+held_more t w d p before now q lt has = ⊎_elim {C = IsHeld t w d q} (λ less. before q less has) (λ e. subst (λ k. IsHeld t w d k) (sym e) (now (subst (Has w) e has))) (last_or q p lt)

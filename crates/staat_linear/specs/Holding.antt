@@ -1,0 +1,60 @@
+-- What holds a part along a direction, in a table of facets: two pieces that would meet.
+use Rattle.std.specs.Prelude.{◌≡◌, ℕ, ◌<◌, ◌≤◌, List, All, Some, length, pos, ◌<ℤ◌, slice_get}
+use Rattle.staat_vec.specs.declared.vector.V3.{V3}
+use Rattle.staat_vec.specs.Vectors.{dot, negative}
+use Rattle.staat_model.specs.declared.assembly.Part.{Part}
+use Rattle.staat_model.specs.declared.certificate.Arc.{Arc}
+use Rattle.staat_model.specs.declared.limits.TheConstants.{MOST_PARTS}
+use Rattle.staat_model.specs.declared.set.PartSet.{PartSet}
+use Rattle.staat_model.specs.Sets.{Has}
+use Rattle.staat_pairs.specs.Tables.{IsTableArc, Table, facets_of}
+use Rattle.staat_planes.specs.declared.search.Tried.{Tried}
+use Rattle.staat_planes.specs.declared.search.Tried.TheVariants.{Neither, Ahead, Opposite}
+use Rattle.staat_linear.specs.Orders.{LeavesAlong}
+
+-- d leads ahead of all facets of the two pieces, so that the first meets the second
+pub record IsArcAhead (t : Table) (d : V3) (arc : Arc) : Type 0 where
+  pub across : IsTableArc t arc
+  pub ahead : All (λ n. pos 0 <ℤ dot n d) (facets_of t arc)
+
+-- the arc leads from a piece of p to a piece of another part of w
+pub record IsOutward (t : Table) (w : PartSet) (p : ℕ) (arc : Arc) : Type 0 where
+  pub from : arc.a ≡ p
+  pub to : Has w arc.b
+  pub across : IsTableArc t arc
+
+-- moved along d, the arc's piece of p meets its piece of another part of w
+pub record Holds (t : Table) (w : PartSet) (d : V3) (p : ℕ) (arc : Arc) : Type 0 where
+  pub from : arc.a ≡ p
+  pub to : Has w arc.b
+  pub ahead : IsArcAhead t d arc
+
+-- along d some piece of p meets a piece of another part of w
+abbrev pub IsHeld : Table → PartSet → V3 → ℕ → Type 0
+IsHeld t w d p = (arc : Arc) × Holds t w d p arc
+
+-- for each part of w an arc from it to another part of w
+pub record AreOutward (t : Table) (w : PartSet) (arcs : List Arc) : Type 0 where
+  pub room : length arcs ≡ MOST_PARTS
+  pub each : (p : ℕ) (arc : Arc) → Has w p → slice_get arcs p ≡ Some arc → IsOutward t w p arc
+
+-- the least part of w that nothing holds
+pub record IsLeastFree (t : Table) (w : PartSet) (d : V3) (p : ℕ) : Type 0 where
+  pub member : Has w p
+  pub free : IsHeld t w d p → ⊥
+  pub before : (q : ℕ) → Has w q → q < p → IsHeld t w d q
+
+-- each part of w is held along d
+abbrev pub AreHeld : Table → PartSet → V3 → Type 0
+AreHeld t w d = (p : ℕ) → Has w p → IsHeld t w d p
+
+-- what is seen along a direction and, where all parts are held, along its opposite
+abbrev pub IsSeen : Table → PartSet → V3 → Tried ℕ → Type 0
+IsSeen t w d Neither = AreHeld t w d × AreHeld t w (negative d)
+IsSeen t w d (Ahead p) = IsLeastFree t w d p
+IsSeen t w d (Opposite p) = AreHeld t w d × IsLeastFree t w (negative d) p
+
+-- the least part of w that is free of the others along d
+pub record IsLeastLeaving (parts : List Part) (w : PartSet) (d : V3) (p : ℕ) : Type 0 where
+  pub leaves : LeavesAlong parts w d p
+  pub least : (q : ℕ) → LeavesAlong parts w d q → p ≤ q

@@ -1,0 +1,95 @@
+// The step of a set of parts: the part that is taken away next, and its direction.
+ghost use Rattle.std.specs.Prelude.{◌≡◌, ◌≢◌, ◌≤◌, ◌↔◌, List, IfSome, MatchOption, None};
+ghost use Rattle.std.specs.FinSet as set;
+ghost use Rattle.staat_vec.specs.Vectors.{IsWithin, negative, origin};
+ghost use Rattle.staat_model.specs.declared.assembly.Part.{Part as PartValue};
+ghost use Rattle.staat_model.specs.Sets.{Has, IsSubset};
+ghost use Rattle.staat_pairs.specs.Tables.{WasMadeFrom};
+ghost use Rattle.staat_linear.specs.Holding.{AreHeld, AreOutward, IsLeastFree, IsSeen};
+ghost use Rattle.staat_linear.specs.Orders.{HasNoLeave, IsLeave, IsLocked};
+
+use crate::holders::Holders;
+use crate::order::Leave;
+use staat_model::PartSet;
+use staat_planes::{PlaneTable, Trial, Tried, first_vertex};
+use staat_vec::{DIRECTION, V3, neg};
+
+// The search for a part that leaves. For each part it keeps what held it last along a direction, and what held it last
+// along an opposite direction, since from one vertex to the next these seldom change.
+#[derive(Drop)]
+struct Taking {
+    ahead: Holders,
+    back: Holders,
+}
+
+impl Taking {
+    // looks at a direction and, if all parts are held, at its opposite
+    fn look(&mut self, table: &PlaneTable, w: PartSet, d: V3) -> Tried<u32>
+        requires ahead { AreOutward table.now w self.old.ahead.arcs }
+        requires back { AreOutward table.now w self.old.back.arcs }
+        requires within { IsSubset w table.now.of }
+        requires direction { IsWithin DIRECTION d }
+        ensures ahead { AreOutward table.now w self.new.ahead.arcs }
+        ensures back { AreOutward table.now w self.new.back.arcs }
+        ensures seen { IsSeen table.now w d result }
+    {
+        match self.ahead.least_free(table, w, d) {
+            Some(p) => Tried::Ahead(p),
+            None => match self.back.least_free(table, w, neg(d)) {
+                Some(p) => Tried::Opposite(p),
+                None => Tried::Neither,
+            },
+        }
+    }
+}
+
+impl Trial for Taking {
+    ghost use Rattle.std.specs.Prelude.{⊤};
+    ghost use Rattle.staat_model.specs.Sets.{Has};
+    ghost use Rattle.staat_linear.specs.Holding.{AreOutward, IsLeastLeaving};
+    ghost use Rattle.staat_linear.specs.Orders.{LetsLeave};
+
+    type Found = u32;
+
+    ghost fits = { λ s t w. AreOutward t w s.ahead.arcs × AreOutward t w s.back.arcs };
+
+    ghost knows = { λ s parts. ⊤ };
+
+    ghost serves = { λ parts w d. LetsLeave parts w d };
+
+    ghost finds = { λ parts w d p. IsLeastLeaving parts w d p };
+
+    ghost among = { λ w p. Has w p };
+
+    fn ask(&mut self, table: &PlaneTable, w: PartSet, d: V3) -> Tried<u32> {
+        self.look(table, w, d)
+    }
+}
+
+/// The step of the set `w`: of the vertices of its planes, in pair order, the first along which some part of `w` is
+/// free of all others of `w`, and the least such part. None exactly where `w` is locked.
+///
+/// `w` lies in the table's set, and has at least two parts. A part is free where its row of the blocking graph has no
+/// arc to another part of `w`; a direction and its opposite are looked at together. It takes no memory.
+pub fn linear_step(table: &PlaneTable, w: PartSet) -> Option<Leave>
+    requires set { IsSubset w table.now.of }
+    requires two { 2 ≤ set.len w }
+    ensures member { IfSome result (λ leave. Has w leave.part) }
+    ensures size { IfSome result (λ leave. IsWithin DIRECTION leave.d) }
+    ensures step { (parts : List PartValue) → WasMadeFrom parts table.now
+        → MatchOption result (HasNoLeave parts w) (IsLeave parts w) }
+    ensures locked { (parts : List PartValue) → WasMadeFrom parts table.now
+        → (result ≡ None) ↔ IsLocked parts w }
+{
+    let mut taking = Taking {
+        ahead: Holders::new(table, w),
+        back: Holders::new(table, w),
+    };
+    match first_vertex(table, w, &mut taking) {
+        None => None,
+        Some(served) => Some(Leave {
+            part: served.found,
+            d: served.d,
+        }),
+    }
+}
