@@ -45,3 +45,5 @@ pub mod CircleSteps
 pub mod Built
 pub mod Made
 pub mod RingLength
+pub mod StopReading
+pub mod Flags

@@ -14,3 +14,4 @@ pub mod Builds
 pub mod Rows
 pub mod Numbered
 pub mod Linking
+pub mod Places

@@ -12,6 +12,7 @@ pub mod laws;
 mod linking;
 mod nodes;
 mod order;
+mod reading;
 mod rings;
 
 pub use entry::Entry;
