@@ -45,3 +45,11 @@ pub mod CircleSteps
 pub mod Built
 pub mod Made
 pub mod RingLength
+pub mod PairLemmas
+pub mod SignLemmas
+pub mod Totals
+pub mod ArcLaw
+pub mod PushLemmas
+pub mod IndexLemmas
+pub mod Telling
+pub mod Starting

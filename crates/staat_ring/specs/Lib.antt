@@ -14,3 +14,8 @@ pub mod Builds
 pub mod Rows
 pub mod Numbered
 pub mod Linking
+pub mod Blocks
+pub mod Pairs
+pub mod Signs
+pub mod Belonging
+pub mod Index
