@@ -47,3 +47,11 @@ pub mod Made
 pub mod RingLength
 pub mod StopReading
 pub mod Flags
+pub mod PairLemmas
+pub mod SignLemmas
+pub mod Totals
+pub mod ArcLaw
+pub mod PushLemmas
+pub mod IndexLemmas
+pub mod Telling
+pub mod Starting

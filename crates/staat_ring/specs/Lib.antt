@@ -15,3 +15,8 @@ pub mod Rows
 pub mod Numbered
 pub mod Linking
 pub mod Places
+pub mod Blocks
+pub mod Pairs
+pub mod Signs
+pub mod Belonging
+pub mod Index

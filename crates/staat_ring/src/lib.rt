@@ -3,17 +3,21 @@
 #![tactic(auto)]
 
 mod arrays;
+mod blocks;
 mod build;
 mod circle;
 mod entry;
 mod half;
+mod index;
 mod keys;
 pub mod laws;
 mod linking;
 mod nodes;
 mod order;
+mod pairs;
 mod reading;
 mod rings;
+mod signs;
 
 pub use entry::Entry;
 pub use rings::Rings;
