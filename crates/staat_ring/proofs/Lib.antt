@@ -55,3 +55,12 @@ pub mod PushLemmas
 pub mod IndexLemmas
 pub mod Telling
 pub mod Starting
+pub mod Walking
+pub mod Leaving
+pub mod StepLaw
+pub mod Marking
+pub mod CrossLaw
+pub mod SignAll
+pub mod StopLemmas
+pub mod Entering
+pub mod CrossSteps

@@ -20,3 +20,7 @@ pub mod Pairs
 pub mod Signs
 pub mod Belonging
 pub mod Index
+pub mod StepSigns
+pub mod Stepping
+pub mod Marks
+pub mod Walked
