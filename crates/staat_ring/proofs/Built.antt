@@ -39,7 +39,7 @@ use Rattle.staat_ring.proofs.ViewLemmas.{nodes_of_is}
 
 -- ---- the planes below n
 
-take_none : (xs : List ℕ) → take 0 xs ≡ []
+pub take_none : (xs : List ℕ) → take 0 xs ≡ []
 take_none [] = refl
 take_none (x ∷ xs) = refl
 
@@ -295,6 +295,11 @@ module _ (planes : List V3) (table : AreTablePlanes planes) (few : length planes
         let w = in_entries n x.plane n c (entry_number n c x) lc (on_circle n c x (λ z. ne (sym z))) in
         let p : plane_of n e ≡ x.plane = ap (plane_of n) (sym q) ∙ ap (λ (y : Entry). y.plane) (entry_back n c x lx) in
         subst (λ i. Contains (entries_of n i n) e) (sym p) (subst (Contains (entries_of n x.plane n)) q w);
+    numbered = λ c v e lc cv ce.
+        let o = node_of c lc v cv in
+        let (x, cx, q) = from_map (entry_number n c) (slot c lc o.place) e (subst (λ xs. Contains xs e) (entries_at c lc v o) ce) in
+        let lx = rules.small n c lc (stops c lc) (can c lc) o.place o.within x cx in
+        ap (λ y. entry_number n c (entry_numbered n y)) (sym q) ∙ (ap (entry_number n c) (entry_back n c x lx) ∙ q);
   }
 
   -- ---- the circles that the arrays show

@@ -1,12 +1,12 @@
 -- Going round a ring.
-use Rattle.std.proofs.Common.{◌≡◌, ◌≢◌, ◌⊎◌, ⊎_elim, ℕ, zero, suc, ◌+◌, ◌<◌, ◌≤◌, arith, ap, refl, sym, subst, ◌∙◌, not, List, [], ◌∷◌, ◌++◌, length, get_or, take, Contains, Bool, true, false, ◌||◌, eq-eqb}
-use Rattle.std.specs.Prelude.{◌==◌, map, nat_lt}
+use Rattle.std.proofs.Common.{◌≡◌, ◌≢◌, ◌⊎◌, ⊎_elim, ℕ, zero, suc, ◌+◌, ◌<◌, ◌≤◌, arith, ap, sym, subst, ◌∙◌, not, List, [], ◌∷◌, ◌++◌, length, get_or, take, Contains, Bool, true, false}
+use Rattle.std.specs.Prelude.{map, nat_lt}
 use Rattle.std.proofs.lemmas.Bool.Decides.{nat_tests}
 use Rattle.std.specs.List.{filter}
 use Rattle.std.proofs.lemmas.List.{get_or_append_left, get_or_push, length-map}
 use Rattle.staat_model.proofs.Members.{All-from_members}
 use Rattle.staat_ring.specs.Links.{Arrays, Chain, Links, IsLinkedRing}
-use Rattle.staat_ring.specs.RingInvariant.{AreKept}
+use Rattle.staat_ring.specs.RingInvariant.{AreFlags, AreKept}
 use Rattle.staat_ring.specs.RingViews.{StandForCircles, arrangement_of, numbers_below, entry_numbered, is_out, ring_of, shape, still_linked}
 use Rattle.staat_ring.specs.Rings.{Arrangement, RingStop, linked_of}
 use Rattle.staat_ring.specs.Rings as rings
@@ -14,7 +14,7 @@ use Rattle.staat_ring.specs.Stands.{IsRing, IsShortRing}
 use Rattle.staat_ring.specs.Numbered.{head_number}
 use Rattle.staat_ring.proofs.Numbering.{head_small}
 use Rattle.staat_ring.specs.Views.{lists_of}
-use Rattle.staat_ring.proofs.Mapped.{differ, from_apart, from_map}
+use Rattle.staat_ring.proofs.Mapped.{from_apart, from_map}
 use Rattle.staat_ring.proofs.RingLemmas.{below_small}
 use Rattle.staat_ring.proofs.SoundLemmas.{filter_inside}
 use Rattle.staat_ring.proofs.Unlinking.{linked_plane, planes_of_rings, sound_is_good}
@@ -35,7 +35,7 @@ pub record IsAtPlace (head : ℕ) (xs : List ℕ) (node k : ℕ) : Type 0 where
 pub at_start : (s : Links) (head : ℕ) (xs : List ℕ) → IsLinkedRing s head xs → IsAtPlace head xs (get_or s.next head 0) 0
 at_start s head xs r = record { within = omega arith; is = chain_step s head xs head 0 r (omega arith) }
 
-before_end : (head : ℕ) (xs : List ℕ) (k : ℕ) → k < length xs → get_or (xs ++ head ∷ []) k 0 ≡ get_or xs k 0
+pub before_end : (head : ℕ) (xs : List ℕ) (k : ℕ) → k < length xs → get_or (xs ++ head ∷ []) k 0 ≡ get_or xs k 0
 before_end head xs k lt = get_or_append_left xs (head ∷ []) 0 k lt
 
 at_end : (head : ℕ) (xs : List ℕ) (k : ℕ) → k ≡ length xs → get_or (xs ++ head ∷ []) k 0 ≡ head
@@ -67,38 +67,7 @@ node_within s head xs node k short at = ⊎_elim {C = node < length s.next}
     (λ e. subst (λ x. x < length s.next) (sym (at.is ∙ at_end head xs k e)) (short.within 0 0 (omega arith)))
     (cases k (length xs) at.within)
 
--- ---- what is out
-
-pub listed_in : (out : List ℕ) (p : ℕ) → Contains out p → is_out out p ≡ true
-listed_in [] p (k, lt, e) = absurd (omega (arith, lt))
-listed_in (q ∷ out) p (zero, lt, e) = first (q == p) (eq-eqb q p e)
-  where
-    first : (b : Bool) → b ≡ true → (b || is_out out p) ≡ true
-    first true e = refl
-    first false e = cc
-listed_in (q ∷ out) p (suc k, lt, e) = later (q == p) (listed_in out p (k, omega (arith, lt), e))
-  where
-    later : (b : Bool) → is_out out p ≡ true → (b || is_out out p) ≡ true
-    later true e = refl
-    later false e = e
-
-unlisted : (out : List ℕ) (p : ℕ) → (Contains out p → ⊥) → is_out out p ≡ false
-unlisted [] p absent = refl
-unlisted (q ∷ out) p absent = both (q == p) (differ q p (λ e. absent (zero, omega arith, e))) (unlisted out p (λ c. absent (suc c.0, omega (arith, c.1), c.2)))
-  where
-    both : (b : Bool) → b ≡ false → is_out out p ≡ false → (b || is_out out p) ≡ false
-    both true e f = cc
-    both false e f = f
-
-pub unless : (b : Bool) (P : Type 0) → (b ≡ true → P) × (P → b ≡ true) → (not b ≡ true → P → ⊥) × ((P → ⊥) → not b ≡ true)
-unless true P h = ((λ e p. off e), (λ absent. absurd (absent (h.0 refl))))
-  where
-    off : false ≡ true → ⊥
-    off e = cc
-unless false P h = ((λ e p. off (h.1 p)), (λ absent. refl))
-  where
-    off : false ≡ true → ⊥
-    off e = cc
+-- ---- tests
 
 pub is_below : (a b : ℕ) → a < b → nat_lt a b ≡ true
 is_below a b h = grind (arith, nat_tests)
@@ -118,7 +87,7 @@ module _ (n count : ℕ) (order : List ℕ) (a : Arrays) (now : Arrangement) (vi
   good : StandForCircles n out a
   good = sound_is_good n out a is.sound
 
-  ring_there : (r : rings.Ring) → Contains now.rings r → (c : ℕ) × (c < n) × (ring_of n (lists_of (shape n) a) c ≡ r)
+  pub ring_there : (r : rings.Ring) → Contains now.rings r → (c : ℕ) × (c < n) × (ring_of n (lists_of (shape n) a) c ≡ r)
   ring_there r cr =
       let (c, cc', q) = from_map (ring_of n (lists_of (shape n) a)) (filter (λ c. not (is_out out c)) (numbers_below n)) r (subst (λ (v : Arrangement). Contains v.rings r) (sym view) cr) in
       (c, below_small n c (filter_inside (λ c. not (is_out out c)) (numbers_below n) c cc').0, q)
@@ -154,16 +123,12 @@ module _ (n count : ℕ) (order : List ℕ) (a : Arrays) (now : Arrangement) (vi
       ap (λ k. length ((lists_of (shape n) a).vertices k)) (sym same)
       ∙ (sym (length-map ((lists_of (shape n) a).vertices d) (λ v. record { node = v; entries = map (entry_numbered n) ((lists_of (shape n) a).entries v) })) ∙ ap (λ (r : rings.Ring). length r.stops) q)
 
-  linked_are : linked_of now.rings ≡ still_linked n out
+  pub linked_are : linked_of now.rings ≡ still_linked n out
   linked_are = ap (λ (v : Arrangement). linked_of v.rings) (sym view) ∙ planes_of_rings n out (lists_of (shape n) a)
 
-  -- a plane is linked if it is not out
-  pub linked_if : (p : ℕ) → p < n → (Contains out p → ⊥) → Contains (linked_of now.rings) p
-  linked_if p lp absent = subst (λ ks. Contains ks p) (sym linked_are) (filter_in (λ c. not (is_out out c)) (numbers_below n) p (below_all n p lp) (ap not (unlisted out p absent)))
+  -- a flag that is set is that of a linked plane
+  pub flag_linked : (flags : List Bool) → AreFlags n out flags → (p : ℕ) → p < n → get_or flags p false ≡ true → Contains (linked_of now.rings) p
+  flag_linked flags are p lp e = subst (λ ks. Contains ks p) (sym linked_are) (filter_in (λ c. not (is_out out c)) (numbers_below n) p (below_all n p lp) (sym (are.each p lp) ∙ e))
 
-  pub linked_then : (p : ℕ) → Contains (linked_of now.rings) p → (p < n) × (Contains out p → ⊥)
-  linked_then p c = let (lp, e) = linked_plane n out p (subst (λ ks. Contains ks p) linked_are c) in (lp, λ o. not_both (is_out out p) e (listed_in out p o))
-    where
-      not_both : (b : Bool) → b ≡ false → b ≡ true → ⊥
-      not_both true e f = cc
-      not_both false e f = cc
+  pub linked_flag : (flags : List Bool) → AreFlags n out flags → (p : ℕ) → Contains (linked_of now.rings) p → (p < n) × (get_or flags p false ≡ true)
+  linked_flag flags are p c = let (lp, e) = linked_plane n out p (subst (λ ks. Contains ks p) linked_are c) in (lp, are.each p lp ∙ ap not e)

@@ -30,7 +30,7 @@ has_room n count order a v p k e c =
     let t = k.all count (omega arith) in
     omega arith
 
-order_push : (count : ℕ) (order : List ℕ) (p : ℕ) → count < length order → take (count + 1) (set order count p) ≡ take count order ++ p ∷ []
+pub order_push : (count : ℕ) (order : List ℕ) (p : ℕ) → count < length order → take (count + 1) (set order count p) ≡ take count order ++ p ∷ []
 order_push count order p lt = ap (λ k. take k (set order count p)) (add-one count) ∙ take-suc-set order count p lt
 
 module _ (n count : ℕ) (order : List ℕ) (a b : Arrays) (v : Arrangement) (p : ℕ) (k : AreKept n count order a) (e : arrangement_of n (take count order) a ≡ v) (c : Contains (map (λ r. r.plane) v.rings) p) (is : b ≡ take_all (entries_of n p n) a) where
@@ -141,6 +141,9 @@ module _ (n count : ℕ) (order : List ℕ) (a : Arrays) (v : Arrangement) (p : 
       (record { plane = get_or order (count - 1) 0; before = rings_at n (take (count - 1) order) (undo n (get_or order (count - 1) 0) a) }) (record { plane = p; before = before })
       (sym pushed ∙ last))
 
+  pub split_is : take count order ≡ take (count - 1) order ++ p ∷ []
+  split_is = split_order ∙ ap (λ q. take (count - 1) order ++ q ∷ []) is_last
+
   pub last_small : p < n
   last_small = let s = some in subst (λ x. x < n) is_last (k.planes (count - 1) (omega arith))
 
@@ -163,5 +166,5 @@ module _ (n count : ℕ) (order : List ℕ) (a : Arrays) (v : Arrangement) (p : 
         all = λ j le. k.all j (omega arith);
         planes = λ j lt. k.planes j (omega arith);
         sound = subst (λ x. CanBeUndone n (take (count - 1) order) x) (sym is)
-            (sound-pop n p (take (count - 1) order) a (subst (λ o. CanBeUndone n o a) (split_order ∙ ap (λ q. take (count - 1) order ++ q ∷ []) is_last) k.sound));
+            (sound-pop n p (take (count - 1) order) a (subst (λ o. CanBeUndone n o a) split_is k.sound));
       }

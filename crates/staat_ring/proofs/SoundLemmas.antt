@@ -222,6 +222,10 @@ module _ (n p : ℕ) (out : List ℕ) (a : Arrays) (in' : p < n) (linked : is_ou
         let cv' = new_mid c v hc cv in
         good.known c v e hc (in_old c v hc cv')
         (filter_inside (λ e. not (plane_of n e == p)) (old.entries v) e (subst (λ xs. Contains xs e) (sym (cut_new.entries c v hc (in_cut c v hc cv'))) ce)).0;
+    numbered = λ c v e hc cv ce.
+        let cv' = new_mid c v hc cv in
+        good.numbered c v e hc (in_old c v hc cv')
+        (filter_inside (λ e. not (plane_of n e == p)) (old.entries v) e (subst (λ xs. Contains xs e) (sym (cut_new.entries c v hc (in_cut c v hc cv'))) ce)).0;
   }
 
   pub rings-unlink : rings_at n (out ++ p ∷ []) (take_all es a) ≡ rings_without p (rings_at n out a)

@@ -29,7 +29,7 @@ size_positive v some = go (square_sign v.x) (square_sign v.y) (square_sign v.z)
     go (inl e) (inl f) (inr c) = sum (v.x *ℤ v.x) (v.y *ℤ v.y) (v.z *ℤ v.z) (square_nonneg v.x) (square_nonneg v.y) (square_nonneg v.z) (inr (inr c))
     go (inl e) (inl f) (inl k) = absurd (some (λ i. record { x = e i; y = f i; z = k i }))
 
-no_turn_origin : (v w : V3) → turn origin v w ≡ pos 0
+pub no_turn_origin : (v w : V3) → turn origin v w ≡ pos 0
 no_turn_origin v w = ring (values (v ∷ w ∷ []) []) (turnE (record { x = num (pos 0); y = num (pos 0); z = num (pos 0) }) v0 v1) (num (pos 0)) tt
 
 -- ---- a crossing lies on the plane

@@ -14,3 +14,13 @@ pub mod Builds
 pub mod Rows
 pub mod Numbered
 pub mod Linking
+pub mod Places
+pub mod Blocks
+pub mod Pairs
+pub mod Signs
+pub mod Belonging
+pub mod Index
+pub mod StepSigns
+pub mod Stepping
+pub mod Marks
+pub mod Walked

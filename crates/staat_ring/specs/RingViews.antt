@@ -5,7 +5,7 @@ use Rattle.std.specs.Prelude.{drop, Bool, false, not, ◌||◌, ◌==◌, Contai
 use Rattle.std.specs.List.{filter}
 use Rattle.staat_ring.specs.declared.entry.Entry.{Entry}
 use Rattle.staat_ring.specs.Links.{Arrays, give_all}
-use Rattle.staat_ring.specs.Rings.{Arrangement, Ring}
+use Rattle.staat_ring.specs.Rings.{Arrangement, Ring, entry_number}
 use Rattle.staat_ring.specs.Stands.{Shape, RingLists, StandFor, AllPresent, is_empty}
 use Rattle.staat_ring.specs.Planes.{entries_of}
 use Rattle.staat_ring.specs.Views.{lists_of, undo_all, kept_of}
@@ -64,6 +64,9 @@ pub record StandForCircles (n : ℕ) (out : List ℕ) (a : Arrays) : Type 0 wher
       → AllPresent (shape n) (lists_of (shape n) a) a (entries_of n p n)
   pub known : (c v e : ℕ) → c < n → Contains ((lists_of (shape n) a).vertices c) v
       → Contains ((lists_of (shape n) a).entries v) e → Contains (entries_of n (plane_of n e) n) e
+  -- an entry has the number of its plane and its sense on the circle on which it stands
+  pub numbered : (c v e : ℕ) → c < n → Contains ((lists_of (shape n) a).vertices c) v
+      → Contains ((lists_of (shape n) a).entries v) e → entry_number n c (entry_numbered n e) ≡ e
 
 -- undoing the unlinked planes in reverse order gives arrays that stand for lists, at each of them
 abbrev pub CanBeUndone : ℕ → List ℕ → Arrays → Type 0

@@ -131,6 +131,22 @@ impl RingArrays {
         let _count = self.home.len();
     }
 
+    /// The node that follows on a circle.
+    pub fn next_vertex(&self, v: u32) -> u32
+        requires { v < length self.now.circles.next }
+        ensures { result ≡ slice_index self.now.circles.next v }
+    {
+        self.circles.next(v)
+    }
+
+    /// The node that follows at a vertex: an entry, or the vertex itself.
+    pub fn next_entry(&self, e: u32) -> u32
+        requires { e < length self.now.vertices.next }
+        ensures { result ≡ slice_index self.now.vertices.next e }
+    {
+        self.vertices.next(e)
+    }
+
     /// The number of vertices on the circle with this head.
     pub fn circle_len(&self, head: u32) -> u32
         requires some { (nodes : List ℕ) × IsShortRing self.now.circles head nodes }

@@ -1,5 +1,17 @@
 // The making of rings.
-ghost use Rattle.std.specs.Prelude.{◌≡◌, ◌+◌, ◌<◌, [], IfOk, OnOk, length};
+ghost use Rattle.std.specs.Prelude.{
+  ◌≡◌,
+  ℕ,
+  ◌+◌,
+  ◌<◌,
+  [],
+  IfOk,
+  OnOk,
+  false,
+  length,
+  slice_index_or,
+  true,
+};
 ghost use Rattle.staat_pairs.specs.Tables.{AreTablePlanes};
 ghost use Rattle.staat_ring.specs.Linking.{AreLinkedBelow};
 ghost use Rattle.staat_ring.specs.Rings.{WereMadeFrom};
@@ -12,6 +24,15 @@ use crate::rings::Rings;
 use staat_planes::PlaneTable;
 use staat_vec::OutOfMemory;
 use std::alloc::Global;
+
+// so many flags that are set
+fn all_true(alloc: Global, count: u32) -> Result<Vec<bool>, OutOfMemory>
+    ensures length { IfOk result (λ v. length v.items ≡ count) }
+    ensures each { IfOk result (λ v. (x : ℕ) → x < count → slice_index_or v.items x false ≡ true) }
+{
+    let flags = (0..count).map(|_plane| true).collect(alloc)?;
+    Ok(flags)
+}
 
 // makes and links the circle of the plane `c`
 fn link_next(
@@ -54,11 +75,13 @@ impl Rings {
         arrays.all_in_range();
         let planes = table.len();
         let order = counted(alloc, planes)?;
+        let linked = all_true(alloc, planes)?;
         Ok(Rings {
             arrays,
             planes,
             order,
             count: 0,
+            linked,
         })
     }
 }

@@ -1,5 +1,5 @@
 // The circles of the linked planes, and the planes that are unlinked.
-ghost use Rattle.std.specs.Prelude.{◌≡◌, ◌↔◌, ◌≤◌, Contains, IsTrue, List, length, take};
+ghost use Rattle.std.specs.Prelude.{◌≡◌, ◌↔◌, ◌≤◌, Contains, IsTrue, List, length};
 ghost use Rattle.staat_vec.specs.declared.vector.V3.{V3 as Vector};
 ghost use Rattle.staat_pairs.specs.Tables.{AreTablePlanes};
 ghost use Rattle.staat_ring.specs.Rings.{Ring as RingValue, WereMadeFrom, linked_of};
@@ -25,27 +25,21 @@ pub struct Rings {
     // the planes that are unlinked are the first `count` of these
     pub(crate) order: Vec<u32>,
     pub(crate) count: u32,
+    // for each plane, whether it is linked
+    pub(crate) linked: Vec<bool>,
 }
 
 impl Model for Rings {
     ghost use Rattle.std.specs.Prelude.{take};
     ghost use Rattle.staat_ring.specs.Rings.{Arrangement};
     ghost use Rattle.staat_ring.specs.RingViews.{arrangement_of};
-    ghost use Rattle.staat_ring.specs.RingInvariant.{AreKept};
+    ghost use Rattle.staat_ring.specs.RingInvariant.{IsKept};
 
     ghost Value = { Arrangement };
 
     ghost view = { λ r. arrangement_of r.planes (take r.count r.order.items) r.arrays };
 
-    ghost invariant = { λ r. AreKept r.planes r.count r.order.items r.arrays };
-}
-
-// whether a plane is one of the first `count`
-fn is_among(planes: &[u32], count: usize, plane: u32) -> bool
-    requires { count ≤ length planes.now }
-    ensures { IsTrue result ↔ Contains (take count planes.now) plane }
-{
-    planes[..count].contains(&plane)
+    ghost invariant = { λ r. IsKept r.planes r.count r.order.items r.linked.items r.arrays };
 }
 
 impl Rings {
@@ -63,6 +57,7 @@ impl Rings {
         self.arrays.take_plane(self.planes, plane);
         self.order[self.count as usize] = plane;
         self.count += 1;
+        self.linked[plane as usize] = false;
     }
 
     /// Puts back the plane that was unlinked last: the circles are those that stood before.
@@ -73,13 +68,14 @@ impl Rings {
     {
         self.count -= 1;
         self.arrays.give_plane(self.planes, plane);
+        self.linked[plane as usize] = true;
     }
 
-    /// Whether there is such a plane, and it is linked. It looks through the unlinked ones.
+    /// Whether there is such a plane, and it is linked.
     pub fn is_linked(&self, plane: u32) -> bool
         ensures { IsTrue result ↔ Contains (linked_of self.now.rings) plane }
     {
-        plane < self.planes && !is_among(self.order.as_slice(), self.count as usize, plane)
+        plane < self.planes && self.linked[plane as usize]
     }
 
     /// The number of vertices on the circle of a linked plane.

@@ -1,16 +1,30 @@
+use Rattle.std.proofs.Common.{arith}
+use Rattle.staat_ring.proofs.Flags.{flags_relinked}
 use Rattle.staat_ring.proofs.Made.{relinked_made}
-use Rattle.staat_ring.proofs.RingSteps.{last_small, relink_invariant, relink_kept}
+use Rattle.staat_ring.proofs.RingSteps.{last_small, relink_invariant, relink_kept, some, split_is}
 use Rattle.staat_ring.proofs.rings.Rings.relink.Goals as goal
 
 pub give_plane-requires-clause-plane : goal.give_plane-requires-clause-plane
-give_plane-requires-clause-plane c = last_small c.self.inside.planes c.self.inside.count c.self.inside.order.items c.self.inside.arrays c.args.self.now c.args.plane c.self.invariant c.self.view_is c.requires.others c.requires.before c.requires.is
+give_plane-requires-clause-plane c = last_small c.self.inside.planes c.self.inside.count c.self.inside.order.items c.self.inside.arrays c.args.self.now c.args.plane c.self.invariant.arrays c.self.view_is c.requires.others c.requires.before c.requires.is
 
 pub invariant_of-self : goal.invariant_of-self
-invariant_of-self c = relink_invariant c.self.inside.planes c.self.inside.count c.self.inside.order.items c.self.inside.arrays c.args.self.now c.args.plane c.self.invariant c.self.view_is c.requires.others c.requires.before c.requires.is c.give_plane.new.self c.give_plane.ensures.arrays c.give_plane.ensures.length
+invariant_of-self c = record {
+  arrays = relink_invariant c.self.inside.planes c.self.inside.count c.self.inside.order.items c.self.inside.arrays c.args.self.now c.args.plane c.self.invariant.arrays c.self.view_is c.requires.others c.requires.before c.requires.is c.give_plane.new.self c.give_plane.ensures.arrays c.give_plane.ensures.length;
+  flags = flags_relinked c.self.inside.planes c.self.inside.count c.self.inside.order.items c.self.inside.linked.items c.self.inside.arrays c.args.plane c.self.invariant
+      (some c.self.inside.planes c.self.inside.count c.self.inside.order.items c.self.inside.arrays c.args.self.now c.args.plane c.self.invariant.arrays c.self.view_is c.requires.others c.requires.before c.requires.is)
+      (last_small c.self.inside.planes c.self.inside.count c.self.inside.order.items c.self.inside.arrays c.args.self.now c.args.plane c.self.invariant.arrays c.self.view_is c.requires.others c.requires.before c.requires.is)
+      (split_is c.self.inside.planes c.self.inside.count c.self.inside.order.items c.self.inside.arrays c.args.self.now c.args.plane c.self.invariant.arrays c.self.view_is c.requires.others c.requires.before c.requires.is);
+}
 
 pub returns-clause-is : goal.returns-clause-is
-returns-clause-is c = relink_kept c.self.inside.planes c.self.inside.count c.self.inside.order.items c.self.inside.arrays c.args.self.now c.args.plane c.self.invariant c.self.view_is c.requires.others c.requires.before c.requires.is c.give_plane.new.self c.give_plane.ensures.arrays
+returns-clause-is c = relink_kept c.self.inside.planes c.self.inside.count c.self.inside.order.items c.self.inside.arrays c.args.self.now c.args.plane c.self.invariant.arrays c.self.view_is c.requires.others c.requires.before c.requires.is c.give_plane.new.self c.give_plane.ensures.arrays
 
 pub returns-clause-made : goal.returns-clause-made
 returns-clause-made c = λ planes made. relinked_made planes c.args.plane c.args.self.now _
-    (relink_kept c.self.inside.planes c.self.inside.count c.self.inside.order.items c.self.inside.arrays c.args.self.now c.args.plane c.self.invariant c.self.view_is c.requires.others c.requires.before c.requires.is c.give_plane.new.self c.give_plane.ensures.arrays) made
+    (relink_kept c.self.inside.planes c.self.inside.count c.self.inside.order.items c.self.inside.arrays c.args.self.now c.args.plane c.self.invariant.arrays c.self.view_is c.requires.others c.requires.before c.requires.is c.give_plane.new.self c.give_plane.ensures.arrays) made
+
+pub index_mut-requires : goal.index_mut-requires
+index_mut-requires c =
+    let small = last_small c.self.inside.planes c.self.inside.count c.self.inside.order.items c.self.inside.arrays c.args.self.now c.args.plane c.self.invariant.arrays c.self.view_is c.requires.others c.requires.before c.requires.is in
+    let size = c.self.invariant.flags.size in
+    omega (arith, small, size)

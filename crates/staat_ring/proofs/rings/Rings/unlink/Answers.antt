@@ -1,17 +1,29 @@
-use Rattle.std.proofs.Common.{take}
+use Rattle.std.proofs.Common.{arith, take}
+use Rattle.staat_ring.proofs.Flags.{flags_unlinked}
 use Rattle.staat_ring.proofs.Made.{unlinked_made}
-use Rattle.staat_ring.proofs.RingSteps.{is_small, unlink_invariant, unlink_is}
+use Rattle.staat_ring.proofs.RingSteps.{has_room, is_small, unlink_invariant, unlink_is}
 use Rattle.staat_ring.proofs.rings.Rings.unlink.Goals as goal
 
 pub take_plane-requires-clause-plane : goal.take_plane-requires-clause-plane
 take_plane-requires-clause-plane c = is_small c.self.inside.planes (take c.self.inside.count c.self.inside.order.items) c.self.inside.arrays c.args.self.now c.args.plane c.self.view_is c.requires.linked
 
 pub invariant_of-self : goal.invariant_of-self
-invariant_of-self c = unlink_invariant c.self.inside.planes c.self.inside.count c.self.inside.order.items c.self.inside.arrays c.take_plane.new.self c.args.self.now c.args.plane c.self.invariant c.self.view_is c.requires.linked c.take_plane.ensures.arrays c.take_plane.ensures.length
+invariant_of-self c = record {
+  arrays = unlink_invariant c.self.inside.planes c.self.inside.count c.self.inside.order.items c.self.inside.arrays c.take_plane.new.self c.args.self.now c.args.plane c.self.invariant.arrays c.self.view_is c.requires.linked c.take_plane.ensures.arrays c.take_plane.ensures.length;
+  flags = flags_unlinked c.self.inside.planes c.self.inside.count c.self.inside.order.items c.self.inside.linked.items c.self.inside.arrays c.args.plane c.self.invariant
+      (has_room c.self.inside.planes c.self.inside.count c.self.inside.order.items c.self.inside.arrays c.args.self.now c.args.plane c.self.invariant.arrays c.self.view_is c.requires.linked)
+      (is_small c.self.inside.planes (take c.self.inside.count c.self.inside.order.items) c.self.inside.arrays c.args.self.now c.args.plane c.self.view_is c.requires.linked);
+}
 
 pub returns-clause-is : goal.returns-clause-is
-returns-clause-is c = unlink_is c.self.inside.planes c.self.inside.count c.self.inside.order.items c.self.inside.arrays c.take_plane.new.self c.args.self.now c.args.plane c.self.invariant c.self.view_is c.requires.linked c.take_plane.ensures.arrays
+returns-clause-is c = unlink_is c.self.inside.planes c.self.inside.count c.self.inside.order.items c.self.inside.arrays c.take_plane.new.self c.args.self.now c.args.plane c.self.invariant.arrays c.self.view_is c.requires.linked c.take_plane.ensures.arrays
 
 pub returns-clause-made : goal.returns-clause-made
 returns-clause-made c = λ planes table made. unlinked_made planes c.args.plane c.args.self.now _ table c.requires.no_axis
-    (unlink_is c.self.inside.planes c.self.inside.count c.self.inside.order.items c.self.inside.arrays c.take_plane.new.self c.args.self.now c.args.plane c.self.invariant c.self.view_is c.requires.linked c.take_plane.ensures.arrays) made
+    (unlink_is c.self.inside.planes c.self.inside.count c.self.inside.order.items c.self.inside.arrays c.take_plane.new.self c.args.self.now c.args.plane c.self.invariant.arrays c.self.view_is c.requires.linked c.take_plane.ensures.arrays) made
+
+pub index_mut-requires-2 : goal.index_mut-requires-2
+index_mut-requires-2 c =
+    let small = is_small c.self.inside.planes (take c.self.inside.count c.self.inside.order.items) c.self.inside.arrays c.args.self.now c.args.plane c.self.view_is c.requires.linked in
+    let size = c.self.invariant.flags.size in
+    omega (arith, small, size)

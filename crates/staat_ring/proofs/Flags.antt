@@ -1,0 +1,79 @@
+-- The flags of the linked planes.
+use Rattle.std.proofs.Common.{◌≡◌, ◌≢◌, ⊎_elim, ℕ, ◌+◌, ◌-◌, ◌<◌, arith, ap, refl, sym, subst, ◌∙◌, List, [], ◌∷◌, ◌++◌, length, get_or, set, take, Bool, true, false, not, ◌&&◌, eq-eqb}
+use Rattle.std.specs.Prelude.{◌==◌}
+use Rattle.std.proofs.Math.ListN.{length-set}
+use Rattle.std.proofs.lemmas.List.{get_or-set_other}
+use Rattle.std.proofs.lemmas.Grind.{get_or-set_at}
+use Rattle.staat_ring.specs.Links.{Arrays}
+use Rattle.staat_ring.specs.RingInvariant.{AreFlags, AreKept, IsKept}
+use Rattle.staat_ring.specs.RingViews.{is_out, numbers_below, still_linked}
+use Rattle.staat_ring.proofs.Mapped.{differ, same_or}
+use Rattle.staat_ring.proofs.RingLemmas.{filter_by, listed-push}
+use Rattle.staat_ring.proofs.RingSteps.{order_push}
+
+other_stays : (out : List ℕ) (p q : ℕ) → p ≢ q → not (is_out (out ++ p ∷ []) q) ≡ not (is_out out q)
+other_stays out p q ne = listed-push out p q ∙ go (p == q) (not (is_out out q)) (differ p q ne)
+  where
+    go : (b d : Bool) → b ≡ false → (d && not b) ≡ d
+    go true d e = cc
+    go false true e = refl
+    go false false e = refl
+
+self_out : (out : List ℕ) (p q : ℕ) → p ≡ q → not (is_out (out ++ p ∷ []) q) ≡ false
+self_out out p q e = listed-push out p q ∙ go (p == q) (not (is_out out q)) (eq-eqb p q e)
+  where
+    go : (b d : Bool) → b ≡ true → (d && not b) ≡ false
+    go true true e = refl
+    go true false e = refl
+    go false d e = cc
+
+pub all_linked : (n : ℕ) (flags : List Bool) → length flags ≡ n → ((p : ℕ) → p < n → get_or flags p false ≡ true) → AreFlags n [] flags
+all_linked n flags size each = record { size = size; each = each }
+
+pushed : (n p : ℕ) (out : List ℕ) (flags : List Bool) → p < n → AreFlags n out flags → AreFlags n (out ++ p ∷ []) (set flags p false)
+pushed n p out flags lp are = record {
+  size = length-set flags p false ∙ are.size;
+  each = λ q lq. ⊎_elim {C = get_or (set flags p false) q false ≡ not (is_out (out ++ p ∷ []) q)}
+      (λ e. get_or-set_at flags p q false false (sym e) (let s = are.size in omega (arith, lp, s)) ∙ sym (self_out out p q e))
+      (λ ne. get_or-set_other flags p q false false (λ e. ne (sym e)) ∙ (are.each q lq ∙ sym (other_stays out p q ne)))
+      (same_or p q);
+}
+
+popped : (n p : ℕ) (out : List ℕ) (flags : List Bool) → p < n → is_out out p ≡ false → AreFlags n (out ++ p ∷ []) flags → AreFlags n out (set flags p true)
+popped n p out flags lp free are = record {
+  size = length-set flags p true ∙ are.size;
+  each = λ q lq. ⊎_elim {C = get_or (set flags p true) q false ≡ not (is_out out q)}
+      (λ e. get_or-set_at flags p q true false (sym e) (let s = are.size in omega (arith, lp, s)) ∙ sym (ap (λ k. not (is_out out k)) (sym e) ∙ ap not free))
+      (λ ne. get_or-set_other flags p q true false (λ e. ne (sym e)) ∙ (are.each q lq ∙ other_stays out p q ne))
+      (same_or p q);
+}
+
+-- the plane that was unlinked last was linked before
+once_out : (n count : ℕ) (order : List ℕ) (a : Arrays) (p : ℕ) → AreKept n count order a → 0 < count → take count order ≡ take (count - 1) order ++ p ∷ [] → is_out (take (count - 1) order) p ≡ false
+once_out n count order a p k some split = go (is_out (take (count - 1) order) p) refl
+  where
+    twice : is_out (take (count - 1) order) p ≡ true → ⊥
+    twice e =
+        let same : still_linked n (take (count - 1) order ++ p ∷ []) ≡ still_linked n (take (count - 1) order) =
+        filter_by (λ c. not (is_out (take (count - 1) order ++ p ∷ []) c)) (λ c. not (is_out (take (count - 1) order) c)) (numbers_below n)
+        (λ q. ⊎_elim {C = not (is_out (take (count - 1) order ++ p ∷ []) q) ≡ not (is_out (take (count - 1) order) q)}
+        (λ s. self_out (take (count - 1) order) p q s ∙ sym (ap (λ x. not (is_out (take (count - 1) order) x)) (sym s) ∙ ap not e))
+        (λ ne. other_stays (take (count - 1) order) p q ne) (same_or p q)) in
+        let now = k.all count (omega arith) in
+        let before = k.all (count - 1) (omega arith) in
+        let lengths = ap (λ o. length (still_linked n o)) split ∙ ap length same in
+        omega (arith, now, before, lengths, some)
+
+    go : (b : Bool) → is_out (take (count - 1) order) p ≡ b → is_out (take (count - 1) order) p ≡ false
+    go true e = absurd (twice e)
+    go false e = e
+
+pub flags_unlinked : (n count : ℕ) (order : List ℕ) (linked : List Bool) (a : Arrays) (p : ℕ) → IsKept n count order linked a → count < n → p < n
+    → AreFlags n (take (count + 1) (set order count p)) (set linked p false)
+flags_unlinked n count order linked a p k room lp =
+    subst (λ (o : List ℕ). AreFlags n o (set linked p false)) (sym (order_push count order p (let s = k.arrays.size in omega (arith, room, s)))) (pushed n p (take count order) linked lp k.flags)
+
+pub flags_relinked : (n count : ℕ) (order : List ℕ) (linked : List Bool) (a : Arrays) (p : ℕ) → IsKept n count order linked a → 0 < count → p < n → take count order ≡ take (count - 1) order ++ p ∷ []
+    → AreFlags n (take (count - 1) order) (set linked p true)
+flags_relinked n count order linked a p k some lp split =
+    popped n p (take (count - 1) order) linked lp (once_out n count order a p k.arrays some split) (subst (λ (o : List ℕ). AreFlags n o linked) split k.flags)

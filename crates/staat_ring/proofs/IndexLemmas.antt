@@ -1,0 +1,229 @@
+-- The facets of a pair are put down one after another.
+use Rattle.std.proofs.Common.{◌≡◌, ◌≢◌, ⊎_elim, ℕ, zero, suc, ◌+◌, ◌*◌, ◌<◌, ◌≤◌, arith, ap, sym, subst, ◌∙◌, refl, List, [], ◌∷◌, ◌++◌, length, take, set, All, length-set, get_or-set_same, get_or-set_other, eq-eqb, add-one}
+use Rattle.std.specs.Prelude.{◌==◌, ◌&&◌, Bool, true, false, not, map, Result, Ok, Err, OnOk, Some, slice_get}
+use Rattle.std.specs.List.{count_by}
+use Rattle.std.proofs.lemmas.List.{get_or_past, length-map}
+use Rattle.std.proofs.lemmas.List.Elements.{All-append, All-cons, All-nil}
+use Rattle.std.proofs.lemmas.List.Sums.{sum_by_push, sum_by-cons}
+use Rattle.std.proofs.lemmas.Option.{get_or_from_slice_get, slice_get_within}
+use Rattle.staat_vec.specs.declared.vector.V3.{V3}
+use Rattle.staat_vec.specs.declared.vector.Sign.TheVariants.{Neg, Zero, Pos}
+use Rattle.staat_vec.specs.Primitives.{canon}
+use Rattle.staat_vec.specs.Vectors.{negative}
+use Rattle.staat_vec.proofs.Canons.{canon-either, negative-negative}
+use Rattle.staat_graph.proofs.Finite.{same_or}
+use Rattle.staat_model.specs.declared.certificate.Arc.{Arc}
+use Rattle.staat_pairs.specs.Tables.{Table, facets_of, slot}
+use Rattle.staat_ring.specs.Blocks.{parts_at}
+use Rattle.staat_ring.specs.Index.{AreSameBut, AreZero, IsFresh, IsPartly, IsPairKept, with_facet}
+use Rattle.staat_ring.specs.Pairs.{fresh, no_pair, occurs, pair_at}
+use Rattle.staat_ring.specs.Signs.{Side, Signed, no_side, positives, side_at, uses, with_pair}
+use Rattle.staat_ring.specs.Belonging.{IsPairIndexed, IsPairOf, PlaneFacet, facet_at, is_positive}
+use Rattle.staat_ring.specs.Rings.{facet_by}
+use Rattle.staat_ring.proofs.ArcLaw.{positives-none}
+use Rattle.staat_ring.proofs.PairLemmas.{differ, one}
+use Rattle.staat_ring.proofs.PushLemmas.{occurs-push, sign_with}
+use Rattle.staat_ring.proofs.Totals.{hits, sum_by-total, total-hits, total-plus, total-same}
+
+pub on_ok : {X E : Type 0} (r : Result X E) (P Q : Type 0) → OnOk r P → (P → Q) → OnOk r Q
+on_ok (Ok x) P Q h f = f h
+on_ok (Err e) P Q h f = tt
+
+-- the wall of a facet
+pub plane_facet_is : (facet n : V3) (turned : Bool) → n ≡ canon facet → (turned ≡ true → n ≢ facet) → (turned ≡ false → n ≡ facet) → facet_by turned n ≡ facet
+plane_facet_is facet n false e t f = f refl
+plane_facet_is facet n true e t f = ⊎_elim {C = negative n ≡ facet} (λ same. absurd (t refl (e ∙ same))) (λ turned. ap negative (e ∙ turned) ∙ negative-negative facet) (canon-either facet)
+
+-- ---- one wall more
+
+abbrev both : Bool → Bool → Bool
+both a b = a && b
+
+along_with : (p q : ℕ) (turned : Bool) (s : Side) → occurs p (with_pair turned q s).along ≡ occurs p s.along + one ((q == p) && not turned)
+along_with p q false s = occurs-push p q s.along ∙ ap (λ b. occurs p s.along + one b) (sym (and_true (q == p)))
+  where
+    and_true : (b : Bool) → (b && true) ≡ b
+    and_true true = refl
+    and_true false = refl
+along_with p q true s = plus_none (occurs p s.along) (q == p)
+  where
+    plus_none : (n : ℕ) (b : Bool) → n ≡ n + one (b && false)
+    plus_none n true = omega arith
+    plus_none n false = omega arith
+
+against_with : (p q : ℕ) (turned : Bool) (s : Side) → occurs p (with_pair turned q s).against ≡ occurs p s.against + one ((q == p) && turned)
+against_with p q true s = occurs-push p q s.against ∙ ap (λ b. occurs p s.against + one b) (sym (and_true (q == p)))
+  where
+    and_true : (b : Bool) → (b && true) ≡ b
+    and_true true = refl
+    and_true false = refl
+against_with p q false s = plus_none (occurs p s.against) (q == p)
+  where
+    plus_none : (n : ℕ) (b : Bool) → n ≡ n + one (b && false)
+    plus_none n true = omega arith
+    plus_none n false = omega arith
+
+module _ (s : Signed) (w : PlaneFacet) (q : ℕ) (lt : w.plane < length s.sides) where
+  abbrev new : Signed
+  new = with_facet w q s
+
+  at_plane : side_at new.sides w.plane ≡ with_pair w.turned q (side_at s.sides w.plane)
+  at_plane = get_or-set_same s.sides w.plane (with_pair w.turned q (side_at s.sides w.plane)) no_side lt
+
+  elsewhere : (k : ℕ) → k ≢ w.plane → side_at new.sides k ≡ side_at s.sides k
+  elsewhere k ne = get_or-set_other s.sides w.plane k (with_pair w.turned q (side_at s.sides w.plane)) no_side ne
+
+  pub along_after : (p k : ℕ) → occurs p (side_at new.sides k).along ≡ occurs p (side_at s.sides k).along + one ((w.plane == k) && ((q == p) && not w.turned))
+  along_after p k = ⊎_elim {C = occurs p (side_at new.sides k).along ≡ occurs p (side_at s.sides k).along + one ((w.plane == k) && ((q == p) && not w.turned))}
+      (λ e. subst (λ k. occurs p (side_at new.sides k).along ≡ occurs p (side_at s.sides k).along + one ((w.plane == k) && ((q == p) && not w.turned))) (sym e)
+      (ap (λ x. occurs p x.along) at_plane ∙ (along_with p q w.turned (side_at s.sides w.plane) ∙ ap (λ b. occurs p (side_at s.sides w.plane).along + one (b && ((q == p) && not w.turned))) (sym (eq-eqb w.plane w.plane refl)))))
+      (λ ne. ap (λ x. occurs p x.along) (elsewhere k ne) ∙ (add_none (occurs p (side_at s.sides k).along) ∙ ap (λ b. occurs p (side_at s.sides k).along + one (b && ((q == p) && not w.turned))) (sym (differ w.plane k (λ e. ne (sym e))))))
+      (same_or k w.plane)
+    where
+      add_none : (n : ℕ) → n ≡ n + 0
+      add_none n = omega arith
+
+  pub against_after : (p k : ℕ) → occurs p (side_at new.sides k).against ≡ occurs p (side_at s.sides k).against + one ((w.plane == k) && ((q == p) && w.turned))
+  against_after p k = ⊎_elim {C = occurs p (side_at new.sides k).against ≡ occurs p (side_at s.sides k).against + one ((w.plane == k) && ((q == p) && w.turned))}
+      (λ e. subst (λ k. occurs p (side_at new.sides k).against ≡ occurs p (side_at s.sides k).against + one ((w.plane == k) && ((q == p) && w.turned))) (sym e)
+      (ap (λ x. occurs p x.against) at_plane ∙ (against_with p q w.turned (side_at s.sides w.plane) ∙ ap (λ b. occurs p (side_at s.sides w.plane).against + one (b && ((q == p) && w.turned))) (sym (eq-eqb w.plane w.plane refl)))))
+      (λ ne. ap (λ x. occurs p x.against) (elsewhere k ne) ∙ (add_none (occurs p (side_at s.sides k).against) ∙ ap (λ b. occurs p (side_at s.sides k).against + one (b && ((q == p) && w.turned))) (sym (differ w.plane k (λ e. ne (sym e))))))
+      (same_or k w.plane)
+    where
+      add_none : (n : ℕ) → n ≡ n + 0
+      add_none n = omega arith
+
+  pub zero_after : AreZero s → AreZero new
+  zero_after z k = ⊎_elim {C = (side_at new.sides k).sign ≡ Zero} (λ e. subst (λ k. (side_at new.sides k).sign ≡ Zero) (sym e) (ap (λ x. x.sign) at_plane ∙ (sign_with w.turned q (side_at s.sides w.plane) ∙ z w.plane))) (λ ne. ap (λ x. x.sign) (elsewhere k ne) ∙ z k) (same_or k w.plane)
+
+  -- other pairs keep theirs
+  pub others_after : (p : ℕ) → p ≢ q → IsPairKept s new p
+  others_after p ne = record {
+    pair = refl;
+    along = λ k. let e = along_after p k in let z = off (w.plane == k) (not w.turned) (differ q p (λ x. ne (sym x))) in omega (arith, e, z);
+    against = λ k. let e = against_after p k in let z = off (w.plane == k) w.turned (differ q p (λ x. ne (sym x))) in omega (arith, e, z);
+  }
+    where
+      off : (a c : Bool) → (q == p) ≡ false → one (a && ((q == p) && c)) ≡ 0
+      off true c e = ap (λ b. one (b && c)) e
+      off false c e = refl
+
+pub same_at_trans : (s u v : Signed) (p : ℕ) → IsPairKept s u p → IsPairKept u v p → IsPairKept s v p
+same_at_trans s u v p a b = record { pair = b.pair ∙ a.pair; along = λ k. b.along k ∙ a.along k; against = λ k. b.against k ∙ a.against k }
+
+-- ---- how many uses
+
+halves : (by_plane : List PlaneFacet) → count_by (λ w. is_positive Pos w.turned) by_plane + count_by (λ w. is_positive Neg w.turned) by_plane ≡ length by_plane
+halves [] = refl
+halves (w ∷ by_plane) = let r = halves by_plane in let o = split w.turned in omega (arith, r, o, sum_by-cons (λ w. one (is_positive Pos w.turned)) w by_plane, sum_by-cons (λ w. one (is_positive Neg w.turned)) w by_plane)
+  where
+    split : (b : Bool) → one (not b) + one b ≡ 1
+    split true = refl
+    split false = refl
+
+pub uses-by_plane : (planes facets : List V3) (sides : List Side) (q : ℕ) (is : IsPairIndexed planes facets sides q) → length sides ≡ length planes → uses q sides ≡ length is.by_plane
+uses-by_plane planes facets sides q is e =
+    sum_by-total (λ s. occurs q s.along + occurs q s.against) sides no_side
+    ∙ (total-same (λ k. occurs q (side_at sides k).along + occurs q (side_at sides k).against) (λ k. hits Pos k is.by_plane + hits Neg k is.by_plane) 0 (length sides) (λ k. (λ i. is.along k i + is.against k i))
+    ∙ (total-plus (λ k. hits Pos k is.by_plane) (λ k. hits Neg k is.by_plane) 0 (length sides)
+    ∙ ((λ i. total-hits (λ _. Pos) (length sides) is.by_plane within i + total-hits (λ _. Neg) (length sides) is.by_plane within i) ∙ halves is.by_plane)))
+  where
+    within : All (λ w. w.plane < length sides) is.by_plane
+    within = subst (λ n. All (λ w. w.plane < n) is.by_plane) (sym e) is.within
+
+-- ---- the steps of the loop
+
+fresh_index : (planes facets : List V3) (sides : List Side) (q : ℕ) → ((k : ℕ) → occurs q (side_at sides k).along ≡ 0) → ((k : ℕ) → occurs q (side_at sides k).against ≡ 0) → IsPairIndexed planes (take 0 facets) sides q
+fresh_index planes facets sides q a b = record { by_plane = []; are = refl; within = All-nil (λ w. w.plane < length planes); along = a; against = b }
+
+pub partly_start : (planes facets : List V3) (s : Signed) (q : ℕ) → AreZero s → ((k : ℕ) → occurs q (side_at s.sides k).along ≡ 0) → ((k : ℕ) → occurs q (side_at s.sides k).against ≡ 0) → IsPartly planes facets s s q 0
+partly_start planes facets s q z a b = record {
+  index = fresh_index planes facets s.sides q a b;
+  sides = refl;
+  pairs = refl;
+  zero = z;
+  others = λ p ne. record { pair = refl; along = λ k. refl; against = λ k. refl };
+}
+
+take_more : (xs : List V3) (m : ℕ) (x : V3) → slice_get xs m ≡ Some x → take (m + 1) xs ≡ take m xs ++ x ∷ []
+take_more xs m x at = ap (λ n. take n xs) (add-one m) ∙ go xs m at
+  where
+    go : (xs : List V3) (m : ℕ) → slice_get xs m ≡ Some x → take (suc m) xs ≡ take m xs ++ x ∷ []
+    go [] m at = absurd (let lt = slice_get_within [] m x at in omega (arith, lt))
+    go (y ∷ xs) zero at = let e : y ≡ x = get_or_from_slice_get (y ∷ xs) zero x x at in λ i. e i ∷ []
+    go (y ∷ xs) (suc m) at = ap (λ r. y ∷ r) (go xs m at)
+
+map_push : (planes : List V3) (by_plane : List PlaneFacet) (w : PlaneFacet) → map (facet_at planes) (by_plane ++ w ∷ []) ≡ map (facet_at planes) by_plane ++ facet_at planes w ∷ []
+map_push planes [] w = refl
+map_push planes (x ∷ by_plane) w = ap (λ r. facet_at planes x ∷ r) (map_push planes by_plane w)
+
+pub partly_more : (planes facets : List V3) (first s after : Signed) (q m : ℕ) (facet : V3) (w : PlaneFacet) → length s.sides ≡ length planes → slice_get facets m ≡ Some facet → w.plane < length planes → facet_at planes w ≡ facet → after ≡ with_facet w q s → IsPartly planes facets first s q m → IsPartly planes facets first after q (m + 1)
+partly_more planes facets first s after q m facet w size at lt is e p = subst (λ (u : Signed). IsPartly planes facets first u q (m + 1)) (sym e) (record {
+  index = record {
+    by_plane = p.index.by_plane ++ w ∷ [];
+    are = map_push planes p.index.by_plane w ∙ ((λ i. p.index.are i ++ is i ∷ []) ∙ sym (take_more facets m facet at));
+    within = All-append (λ w. w.plane < length planes) p.index.by_plane (w ∷ []) p.index.within (All-cons (λ w. w.plane < length planes) w [] lt (All-nil (λ w. w.plane < length planes)));
+    along = λ k. along_after s w q small q k ∙ ((λ i. p.index.along k i + one ((w.plane == k) && (own i && not w.turned))) ∙ sym (sum_by_push (λ w. one ((w.plane == k) && not w.turned)) p.index.by_plane w));
+    against = λ k. against_after s w q small q k ∙ ((λ i. p.index.against k i + one ((w.plane == k) && (own i && w.turned))) ∙ sym (sum_by_push (λ w. one ((w.plane == k) && w.turned)) p.index.by_plane w));
+  };
+  sides = length-set s.sides w.plane (with_pair w.turned q (side_at s.sides w.plane)) ∙ p.sides;
+  pairs = p.pairs;
+  zero = zero_after s w q small p.zero;
+  others = λ x ne. same_at_trans first s (with_facet w q s) x (p.others x ne) (others_after s w q small x ne);
+})
+  where
+    small : w.plane < length s.sides
+    small = subst (λ n. w.plane < n) (sym size) lt
+
+    own : (q == q) ≡ true
+    own = eq-eqb q q refl
+
+pub no_positives : (s : Signed) (q : ℕ) → IsFresh s q → positives q s.sides ≡ 0
+no_positives s q f = positives-none s.sides q f.along f.against
+
+pub partly_room : (planes facets : List V3) (first s : Signed) (q m n : ℕ) → length s.sides ≡ length planes → length facets ≤ 2 * n → n ≤ 1024 → IsPartly planes facets first s q m → uses q s.sides + 1 < 65536
+partly_room planes facets first s q m n size few small p =
+    let u = uses-by_plane planes (take m facets) s.sides q p.index size in
+    let e = ap length p.index.are in
+    let l = length-map p.index.by_plane (facet_at planes) in
+    let t = length_take m facets in
+    omega (arith, u, e, l, t, few, small)
+  where
+    length_take : (m : ℕ) (xs : List V3) → length (take m xs) ≤ length xs
+    length_take zero xs = omega arith
+    length_take (suc m) [] = omega arith
+    length_take (suc m) (x ∷ xs) = let r = length_take m xs in omega (arith, r)
+
+-- ---- the pair of an arc is told
+
+pub told_start : (planes facets : List V3) (s told : Signed) (q wanted parts : ℕ) → told ≡ record { sides = s.sides; pairs = set s.pairs q (fresh wanted parts) } → AreZero s → IsFresh s q → IsPartly planes facets told told q 0
+told_start planes facets s told q wanted parts e z f = partly_start planes facets told q
+    (λ k. ap (λ (u : Signed). (side_at u.sides k).sign) e ∙ z k) (λ k. ap (λ (u : Signed). occurs q (side_at u.sides k).along) e ∙ f.along k) (λ k. ap (λ (u : Signed). occurs q (side_at u.sides k).against) e ∙ f.against k)
+
+module _ (t : Table) (arc : Arc) (s told new : Signed) (q wanted parts m : ℕ) (told_is : told ≡ record { sides = s.sides; pairs = set s.pairs q (fresh wanted parts) }) (at : slot t.pieces arc ≡ q) (lt : q < length s.pairs)
+    (count : wanted ≡ length (facets_of t arc)) (parts_is : parts ≡ parts_at arc.a arc.b) (whole : length (facets_of t arc) ≤ m) (p : IsPartly t.planes (facets_of t arc) told new q m) where
+  pairs_are : new.pairs ≡ set s.pairs q (fresh wanted parts)
+  pairs_are = p.pairs ∙ ap (λ (u : Signed). u.pairs) told_is
+
+  pair_is : pair_at new.pairs (slot t.pieces arc) ≡ fresh wanted parts
+  pair_is = (λ i. pair_at (pairs_are i) (at i)) ∙ get_or-set_same s.pairs q (fresh wanted parts) no_pair lt
+
+  pub pair_told : IsPairOf t new arc
+  pair_told = record {
+    within = (let e = ap length pairs_are in let l = length-set s.pairs q (fresh wanted parts) in omega (arith, e, l, at, lt));
+    parts = ap (λ x. x.parts) pair_is ∙ parts_is;
+    wanted = ap (λ x. x.wanted) pair_is ∙ count;
+    index = subst (IsPairIndexed t.planes (facets_of t arc) new.sides) (sym at) (subst (λ fs. IsPairIndexed t.planes fs new.sides q) (Rattle.std.proofs.lemmas.List.take_all m (facets_of t arc) whole) p.index);
+  }
+
+  pub same_but : AreSameBut s new q
+  same_but = record {
+    sides = p.sides ∙ ap (λ (u : Signed). length u.sides) told_is;
+    pairs = ap length pairs_are ∙ length-set s.pairs q (fresh wanted parts);
+    zero = p.zero;
+    others = λ x ne. record {
+      pair = ap (λ ps. pair_at ps x) pairs_are ∙ get_or-set_other s.pairs q x (fresh wanted parts) no_pair ne;
+      along = λ k. (p.others x ne).along k ∙ ap (λ (u : Signed). occurs x (side_at u.sides k).along) told_is;
+      against = λ k. (p.others x ne).against k ∙ ap (λ (u : Signed). occurs x (side_at u.sides k).against) told_is;
+    };
+  }

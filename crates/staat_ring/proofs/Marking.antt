@@ -1,0 +1,154 @@
+-- The signs of the planes through a stop.
+use Rattle.std.proofs.Common.{◌≡◌, ◌≢◌, ℕ, zero, suc, ◌+◌, ◌<◌, ◌≤◌, Bool, arith, ap, sym, subst, ◌∙◌, refl, List, [], ◌∷◌, length, drop, take, set, add-one, drop-cons, ◌⊎◌, inl, inr, ⊎_elim, Contains, length-set, get_or-set_same, get_or-set_other}
+use Rattle.std.specs.Prelude.{Some, slice_get}
+use Rattle.std.proofs.lemmas.Option.{get_or_from_slice_get, slice_get_within}
+use Rattle.staat_ring.specs.declared.entry.Entry.{Entry}
+use Rattle.std.proofs.Math.ListN.{drop_of_length-le}
+use Rattle.staat_vec.specs.declared.vector.Sign.{Sign}
+use Rattle.staat_vec.specs.Lists.{IsFirst}
+use Rattle.staat_vec.proofs.Unique.{Contains-cases, Contains-front, Contains-later, Contains-nothing}
+use Rattle.staat_graph.proofs.Finite.{same_or}
+use Rattle.staat_model.specs.declared.certificate.Arc.{Arc}
+use Rattle.staat_pairs.specs.Tables.{IsTableArc, Table, slot}
+use Rattle.staat_ring.specs.declared.pairs.PairCount.{PairCount}
+use Rattle.staat_ring.specs.Pairs.{occurs, pair_at}
+use Rattle.staat_ring.specs.Belonging.{BelongTo, IsUnused}
+use Rattle.staat_ring.specs.Signs.{Side, Signed, no_side, side_at, with_sign}
+use Rattle.staat_ring.specs.Marks.{mark_of, marked, signed}
+
+pub drop_next : (es : List Entry) (i : ℕ) (e : Entry) → slice_get es i ≡ Some e → drop i es ≡ e ∷ drop (i + 1) es
+drop_next es i e at = drop-cons es i e (slice_get_within es i e at) ∙ ((λ k. get_or_from_slice_get es i e e at k ∷ drop (suc i) es) ∙ ap (λ n. e ∷ drop n es) (sym (add-one i)))
+
+-- one entry more
+pub mark_next : (leaves : Bool) (es : List Entry) (i : ℕ) (e : Entry) (sign : Sign) (now new first : Signed) → slice_get es i ≡ Some e → sign ≡ mark_of leaves e.turned → new ≡ signed e.plane sign now → marked leaves (drop i es) now ≡ first → marked leaves (drop (i + 1) es) new ≡ first
+mark_next leaves es i e sign now new first at is set rest =
+    ap (marked leaves (drop (i + 1) es)) (set ∙ ap (λ s. signed e.plane s now) is) ∙ (sym (ap (λ r. marked leaves r now) (drop_next es i e at)) ∙ rest)
+
+-- none left
+pub mark_end : (leaves : Bool) (es : List Entry) (i : ℕ) (now first : Signed) → length es ≤ i → marked leaves (drop i es) now ≡ first → now ≡ first
+mark_end leaves es i now first past rest = sym (ap (λ r. marked leaves r now) (drop_of_length-le es past)) ∙ rest
+
+-- ---- what is kept
+
+-- the same planes and pairs, whatever the signs
+pub record SameLists (s t : Signed) : Type 0 where
+  pub size : length s.sides ≡ length t.sides
+  pub along : (k : ℕ) → (side_at s.sides k).along ≡ (side_at t.sides k).along
+  pub against : (k : ℕ) → (side_at s.sides k).against ≡ (side_at t.sides k).against
+  pub pairs : s.pairs ≡ t.pairs
+
+pub same_itself : (s : Signed) → SameLists s s
+same_itself s = record { size = refl; along = λ k. refl; against = λ k. refl; pairs = refl }
+
+pub same_trans : (s t u : Signed) → SameLists s t → SameLists t u → SameLists s u
+same_trans s t u p q = record { size = p.size ∙ q.size; along = λ k. p.along k ∙ q.along k; against = λ k. p.against k ∙ q.against k; pairs = p.pairs ∙ q.pairs }
+
+pub lt_or : (a b : ℕ) → (a < b) ⊎ (b ≤ a)
+lt_or a b = grind arith
+
+pub set_past : (xs : List Side) (k : ℕ) (x : Side) → length xs ≤ k → set xs k x ≡ xs
+set_past [] k x h = refl
+set_past (y ∷ xs) zero x h = absurd (omega arith)
+set_past (y ∷ xs) (suc k) x h = ap (λ r. y ∷ r) (set_past xs k x (omega arith))
+
+-- what a plane keeps of what the change at a plane leaves
+kept_at : {X : Type 0} (f : Side → X) (sides : List Side) (k : ℕ) (sign : Sign) (j : ℕ) → ((s : Side) → f (with_sign sign s) ≡ f s) → f (side_at (set sides k (with_sign sign (side_at sides k))) j) ≡ f (side_at sides j)
+kept_at {X = X} f sides k sign j same = ⊎_elim {C = f (side_at (set sides k (with_sign sign (side_at sides k))) j) ≡ f (side_at sides j)}
+    (λ e. ⊎_elim {C = f (side_at (set sides k (with_sign sign (side_at sides k))) j) ≡ f (side_at sides j)}
+    (λ lt. ap (λ i. f (side_at (set sides k (with_sign sign (side_at sides k))) i)) e ∙ (ap f (get_or-set_same sides k (with_sign sign (side_at sides k)) no_side lt) ∙ (same (side_at sides k) ∙ ap (λ i. f (side_at sides i)) (sym e))))
+    (λ le. ap (λ xs. f (side_at xs j)) (set_past sides k (with_sign sign (side_at sides k)) le))
+    (lt_or k (length sides)))
+    (λ ne. ap f (get_or-set_other sides k j (with_sign sign (side_at sides k)) no_side ne))
+    (same_or j k)
+
+pub signed_same : (k : ℕ) (sign : Sign) (s : Signed) → SameLists (signed k sign s) s
+signed_same k sign s = record {
+  size = length-set s.sides k (with_sign sign (side_at s.sides k));
+  along = λ j. kept_at (λ x. x.along) s.sides k sign j (λ x. refl);
+  against = λ j. kept_at (λ x. x.against) s.sides k sign j (λ x. refl);
+  pairs = refl;
+}
+
+pub marked_same : (leaves : Bool) (es : List Entry) (s : Signed) → SameLists (marked leaves es s) s
+marked_same leaves [] s = same_itself s
+marked_same leaves (e ∷ es) s =
+    let next : Signed = signed e.plane (mark_of leaves e.turned) s in
+    same_trans (marked leaves es next) next s (marked_same leaves es next) (signed_same e.plane (mark_of leaves e.turned) s)
+
+-- signs that belong to a table still do
+pub belong_same : (t : Table) (s u : Signed) → SameLists u s → BelongTo t s → BelongTo t u
+belong_same t s u same to = record {
+  sides = same.size ∙ to.sides;
+  all = λ arc across.
+      let p = to.all arc across in
+      let i = p.index in
+      record {
+        within = subst (λ (ps : List PairCount). slot t.pieces arc < length ps) (sym same.pairs) p.within;
+        parts = ap (λ ps. (pair_at ps (slot t.pieces arc)).parts) same.pairs ∙ p.parts;
+        wanted = ap (λ ps. (pair_at ps (slot t.pieces arc)).wanted) same.pairs ∙ p.wanted;
+        index = record {
+          by_plane = i.by_plane;
+          are = i.are;
+          within = i.within;
+          along = λ k. ap (occurs (slot t.pieces arc)) (same.along k) ∙ i.along k;
+          against = λ k. ap (occurs (slot t.pieces arc)) (same.against k) ∙ i.against k;
+        };
+      };
+  only = λ q lt. ⊎_elim {C = ((arc : Arc) × IsTableArc t arc × (slot t.pieces arc ≡ q)) ⊎ IsUnused u q} (λ h. inl h)
+      (λ n. inr (record {
+        wanted = subst (λ (ps : List PairCount). 1 ≤ (pair_at ps q).wanted) (sym same.pairs) n.wanted;
+        along = λ k. ap (occurs q) (same.along k) ∙ n.along k;
+        against = λ k. ap (occurs q) (same.against k) ∙ n.against k;
+      }))
+      (to.only q (subst (λ (ps : List PairCount). q < length ps) same.pairs lt));
+}
+
+-- ---- the signs
+
+pub sign_of_set : (sides : List Side) (k : ℕ) (sign : Sign) → k < length sides → (side_at (set sides k (with_sign sign (side_at sides k))) k).sign ≡ sign
+sign_of_set sides k sign lt = ap (λ s. s.sign) (get_or-set_same sides k (with_sign sign (side_at sides k)) no_side lt)
+
+-- a plane through which no entry goes keeps its sign
+pub marked_other : (leaves : Bool) (es : List Entry) (s : Signed) (j : ℕ) → ((e : Entry) → Contains es e → e.plane ≢ j) → (side_at (marked leaves es s).sides j).sign ≡ (side_at s.sides j).sign
+marked_other leaves [] s j none = refl
+marked_other leaves (e ∷ es) s j none =
+    marked_other leaves es (signed e.plane (mark_of leaves e.turned) s) j (λ x c. none x (Contains-later e es x c))
+    ∙ ap (λ x. x.sign) (get_or-set_other s.sides e.plane j (with_sign (mark_of leaves e.turned) (side_at s.sides e.plane)) no_side (λ q. none e (Contains-front e es) (sym q)))
+
+-- one through which some entry goes gets the sign that all of them give
+pub marked_there : (leaves : Bool) (es : List Entry) (s : Signed) (j : ℕ) (sign : Sign) → j < length s.sides → ((e : Entry) → Contains es e → e.plane ≡ j → mark_of leaves e.turned ≡ sign) → (x : Entry) → Contains es x → x.plane ≡ j
+    → (side_at (marked leaves es s).sides j).sign ≡ sign
+marked_there leaves [] s j sign lt all x c is = absurd (Contains-nothing x c)
+marked_there leaves (e ∷ es) s j sign lt all x c is = by (marked_there leaves es next j sign small (λ y cy. all y (Contains-later e es y cy))) (some_or es j)
+  where
+    next : Signed
+    next = signed e.plane (mark_of leaves e.turned) s
+
+    small : j < length next.sides
+    small = subst (λ n. j < n) (sym (length-set s.sides e.plane (with_sign (mark_of leaves e.turned) (side_at s.sides e.plane)))) lt
+
+    some_or : (es : List Entry) (j : ℕ) → ((x : Entry) × Contains es x × (x.plane ≡ j)) ⊎ ((x : Entry) → Contains es x → x.plane ≢ j)
+    some_or [] j = inr (λ x c e. Contains-nothing x c)
+    some_or (y ∷ ys) j = ⊎_elim {C = ((x : Entry) × Contains (y ∷ ys) x × (x.plane ≡ j)) ⊎ ((x : Entry) → Contains (y ∷ ys) x → x.plane ≢ j)} (λ e. inl (y, Contains-front y ys, e))
+        (λ ne. ⊎_elim {C = ((x : Entry) × Contains (y ∷ ys) x × (x.plane ≡ j)) ⊎ ((x : Entry) → Contains (y ∷ ys) x → x.plane ≢ j)} (λ h. inl (h.0, Contains-later y ys h.0 h.1, h.2))
+        (λ none. inr (λ x c e. ⊎_elim (λ q. ne (sym (ap (λ z. z.plane) q) ∙ e)) (λ l. none x l e) (Contains-cases y ys x c)))
+        (some_or ys j))
+        (same_or y.plane j)
+
+    first : ((x : Entry) → Contains es x → x.plane ≢ j) → (side_at (marked leaves es next).sides j).sign ≡ sign
+    first none =
+        let e_is : e.plane ≡ j = ⊎_elim (λ q. sym (ap (λ z. z.plane) q) ∙ is) (λ l. absurd (none x l is)) (Contains-cases e es x c) in
+        marked_other leaves es next j none
+        ∙ (ap (λ i. (side_at next.sides i).sign) (sym e_is)
+        ∙ (sign_of_set s.sides e.plane (mark_of leaves e.turned) (subst (λ i. i < length s.sides) (sym e_is) lt) ∙ all e (Contains-front e es) e_is))
+
+    by : ((x : Entry) → Contains es x → x.plane ≡ j → (side_at (marked leaves es next).sides j).sign ≡ sign) → ((x : Entry) × Contains es x × (x.plane ≡ j)) ⊎ ((x : Entry) → Contains es x → x.plane ≢ j) → (side_at (marked leaves es next).sides j).sign ≡ sign
+    by rest (inl (y, cy, ey)) = rest y cy ey
+    by rest (inr none) = first none
+
+-- ---- the first entry with a property
+
+pub first_after : (P : Entry → Type 0) (es : List Entry) (i : ℕ) (e : Entry) → slice_get es i ≡ Some e → ((x : Entry) → Contains (take i es) x → P x → ⊥) → P e → IsFirst P es e
+first_after P [] i e at none p = absurd (let lt = slice_get_within [] i e at in omega (arith, lt))
+first_after P (x ∷ es) zero e at none p = let q : x ≡ e = get_or_from_slice_get (x ∷ es) zero e e at in inl (sym q, subst P (sym q) p)
+first_after P (x ∷ es) (suc i) e at none p = inr (none x (Contains-front x (take i es)), first_after P es i e at (λ y c. none y (Contains-later x (take i es) y c)) p)

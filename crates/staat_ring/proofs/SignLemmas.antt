@@ -1,0 +1,136 @@
+-- One plane gets another sign.
+use Rattle.std.proofs.Common.{◌≡◌, ℕ, zero, suc, ◌+◌, ◌<◌, ◌≤◌, arith, ap, sym, subst, ◌∙◌, refl, List, [], ◌∷◌, length, set, cond, All, get_or-set_same}
+use Rattle.std.specs.Prelude.{◌==◌, ◌↔◌, ◌&&◌, Bool, true, false, map}
+use Rattle.std.proofs.Math.ListN.{get_or-map}
+use Rattle.std.proofs.lemmas.List.{ext_get_or, length-map}
+use Rattle.std.proofs.lemmas.List.Elements.{All-set, All-get_or}
+use Rattle.std.proofs.lemmas.List.Sums.{sum_by-set, sum_by-cons, get_or-le-sum_by}
+use Rattle.std.proofs.lemmas.Bool.Decides.{nat_tests, Decides-eqb}
+use Rattle.staat_vec.specs.declared.vector.Sign.{Sign}
+use Rattle.staat_vec.specs.declared.vector.Sign.TheVariants.{Neg, Zero, Pos}
+use Rattle.staat_ring.specs.declared.pairs.PairCount.{PairCount}
+use Rattle.staat_ring.specs.Pairs.{blocks, gained, is_block, is_full, no_pair, occurs, pair_at}
+use Rattle.staat_ring.specs.Signs.{AreSigned, IsBlockingPair, Side, Signed, emptied, no_side, pairs_by, positive_pairs, positives, side_at, uses, with_sign}
+
+positive_part : (s : Sign) (along against : List ℕ) (q : ℕ) → occurs q (pairs_by s along against) ≤ occurs q along + occurs q against
+positive_part Neg along against q = omega arith
+positive_part Zero along against q = omega arith
+positive_part Pos along against q = omega arith
+
+pub positives-le-uses : (q : ℕ) (sides : List Side) → positives q sides ≤ uses q sides
+positives-le-uses q [] = omega arith
+positives-le-uses q (s ∷ sides) =
+    let r = positives-le-uses q sides in
+    let h = positive_part s.sign s.along s.against q in
+    omega (arith, r, h, sum_by-cons (λ s. occurs q (positive_pairs s)) s sides, sum_by-cons (λ s. occurs q s.along + occurs q s.against) s sides)
+
+module _ (sides : List Side) (k : ℕ) (sign : Sign) (lt : k < length sides) where
+  abbrev there : Side
+  there = side_at sides k
+
+  abbrev after : List Side
+  after = set sides k (with_sign sign there)
+
+  pub positives-set : (q : ℕ) → positives q after + occurs q (positive_pairs there) ≡ positives q sides + occurs q (positive_pairs (with_sign sign there))
+  positives-set q = sum_by-set (λ s. occurs q (positive_pairs s)) sides k (with_sign sign there) no_side lt
+
+  pub uses-set : (q : ℕ) → uses q after ≡ uses q sides
+  uses-set q = let e = sum_by-set (λ s. occurs q s.along + occurs q s.against) sides k (with_sign sign there) no_side lt in omega (arith, e)
+
+  module _ (old lost : List PairCount) (is : AreSigned sides old) (less : (q : ℕ) → pair_at old q ≡ gained (occurs q (positive_pairs there)) (pair_at lost q)) where
+    left : (q : ℕ) → (pair_at lost q).positive + occurs q (positive_pairs there) ≡ positives q sides
+    left q = sym (ap (λ p. p.positive) (less q)) ∙ is.each q
+
+    pub room : (q : ℕ) → (pair_at lost q).positive + occurs q (positive_pairs (with_sign sign there)) < 65536
+    room q = let e = positives-set q in let l = left q in let u = uses-set q in let m = positives-le-uses q after in let f = is.few q in omega (arith, e, l, u, m, f)
+
+    module _ (new : List PairCount) (more : (q : ℕ) → pair_at new q ≡ gained (occurs q (positive_pairs (with_sign sign there))) (pair_at lost q)) (same : length new ≡ length old) where
+      pub set_signed : AreSigned after new
+      set_signed = record {
+        each = λ q. let e = positives-set q in let l = left q in let m = ap (λ p. p.positive) (more q) in omega (arith, e, l, m);
+        few = λ q. subst (λ n. n < 65536) (sym (uses-set q)) (is.few q);
+        along = subst (λ n. All (λ s. All (λ q. q < n) s.along) after) (sym same) (All-set (λ s. All (λ q. q < length old) s.along) sides k (with_sign sign there) (All-get_or (λ s. All (λ q. q < length old) s.along) sides k no_side lt is.along) is.along);
+        against = subst (λ n. All (λ s. All (λ q. q < n) s.against) after) (sym same) (All-set (λ s. All (λ q. q < length old) s.against) sides k (with_sign sign there) (All-get_or (λ s. All (λ q. q < length old) s.against) sides k no_side lt is.against) is.against);
+      }
+
+      pub set_pairs : map emptied new ≡ map emptied old
+      set_pairs = ext_get_or no_pair (map emptied new) (map emptied old) (length-map new emptied ∙ same ∙ sym (length-map old emptied))
+          (λ q small. get_or-map emptied new q no_pair ∙ ap emptied (more q) ∙ ap emptied (sym (less q)) ∙ sym (get_or-map emptied old q no_pair))
+
+-- ---- the step, as the code takes it
+module _ (now : Signed) (sides after : List Side) (old lost : List PairCount) (k : ℕ) (sign : Sign) (first second : List ℕ)
+    (view : record { sides = sides; pairs = map emptied old } ≡ now) (is : AreSigned sides old) (lt : k < length now.sides)
+    (first_is : first ≡ positive_pairs (side_at sides k)) (after_is : after ≡ set sides k (with_sign sign (side_at sides k))) (second_is : second ≡ positive_pairs (side_at after k))
+    (less : (q : ℕ) → pair_at old q ≡ gained (occurs q first) (pair_at lost q)) where
+  place : k < length sides
+  place = subst (λ (s : Signed). k < length s.sides) (sym view) lt
+
+  less_is : (q : ℕ) → pair_at old q ≡ gained (occurs q (positive_pairs (side_at sides k))) (pair_at lost q)
+  less_is q = less q ∙ ap (λ qs. gained (occurs q qs) (pair_at lost q)) first_is
+
+  second_by : second ≡ positive_pairs (with_sign sign (side_at sides k))
+  second_by = second_is ∙ ap positive_pairs (ap (λ xs. side_at xs k) after_is ∙ get_or-set_same sides k (with_sign sign (side_at sides k)) no_side place)
+
+  pub step_room : (q : ℕ) → (pair_at lost q).positive + occurs q second < 65536
+  step_room q = subst (λ qs. (pair_at lost q).positive + occurs q qs < 65536) (sym second_by) (room sides k sign place old lost is less_is q)
+
+  module _ (new : List PairCount) (more : (q : ℕ) → pair_at new q ≡ gained (occurs q second) (pair_at lost q)) (short : length lost ≡ length old) (same : length new ≡ length lost) where
+    more_is : (q : ℕ) → pair_at new q ≡ gained (occurs q (positive_pairs (with_sign sign (side_at sides k)))) (pair_at lost q)
+    more_is q = more q ∙ ap (λ qs. gained (occurs q qs) (pair_at lost q)) second_by
+
+    pub step_signed : AreSigned after new
+    step_signed = subst (λ xs. AreSigned xs new) (sym after_is) (set_signed sides k sign place old lost is less_is new more_is (same ∙ short))
+
+    pub step_value : ◌≡◌ {A = Signed} (record { sides = after; pairs = map emptied new }) (record { sides = set now.sides k (with_sign sign (side_at now.sides k)); pairs = now.pairs })
+    step_value =
+        (λ i. record { sides = after_is i; pairs = set_pairs sides k sign place old lost is less_is new more_is (same ∙ short) i })
+        ∙ (λ i. record { sides = set (view i).sides k (with_sign sign (side_at (view i).sides k)); pairs = (view i).pairs })
+
+-- ---- the graph
+
+full_le : (p : PairCount) → is_full p ≡ true → p.wanted ≤ p.positive
+full_le p h = grind (arith, nat_tests)
+
+le_full : (p : PairCount) → p.wanted ≤ p.positive → is_full p ≡ true
+le_full p h = grind (arith, nat_tests)
+
+both : (a b : Bool) → (a && b) ≡ true → (a ≡ true) × (b ≡ true)
+both true true h = (refl, refl)
+both true false h = cc
+both false b h = cc
+
+all_of : (a b : Bool) → a ≡ true → b ≡ true → (a && b) ≡ true
+all_of true true h g = refl
+all_of true false h g = cc
+all_of false b h g = cc
+
+-- a pair that is counted
+found : (x : ℕ) (pairs : List PairCount) → 0 < blocks x pairs → (q : ℕ) × (q < length pairs) × (is_block x (pair_at pairs q) ≡ true)
+found x [] h = absurd (omega arith)
+found x (p ∷ pairs) h = go (is_block x p) refl (found x pairs) (let e = sum_by-cons (λ r. cond (is_block x r) 1 0) p pairs in omega (arith, e))
+  where
+    go : (b : Bool) → is_block x p ≡ b → (0 < blocks x pairs → (q : ℕ) × (q < length pairs) × (is_block x (pair_at pairs q) ≡ true)) → 0 < cond (is_block x p) 1 0 + blocks x pairs → (q : ℕ) × (q < length (p ∷ pairs)) × (is_block x (pair_at (p ∷ pairs) q) ≡ true)
+    go true e rest lt = (zero, omega arith, e)
+    go false e rest lt = let z = ap {B = ℕ} (λ b. cond b 1 0) e in let (q, small, is) = rest (omega (arith, z)) in (suc q, omega (arith, small), is)
+
+counted : (x : ℕ) (pairs : List PairCount) (q : ℕ) → q < length pairs → is_block x (pair_at pairs q) ≡ true → 0 < blocks x pairs
+counted x pairs q lt e = let le = get_or-le-sum_by (λ r. cond (is_block x r) 1 0) pairs q no_pair lt in let o = ap {B = ℕ} (λ b. cond b 1 0) e in omega (arith, le, o)
+
+pub blocking_is : (now : Signed) (sides : List Side) (pairs : List PairCount) → record { sides = sides; pairs = map emptied pairs } ≡ now → AreSigned sides pairs → (x : ℕ) → (0 < blocks x pairs) ↔ ((q : ℕ) × IsBlockingPair now x q)
+blocking_is now sides pairs view is x = (
+  λ h.
+      let (q, lt, b) = found x pairs h in
+      let t = both ((pair_at pairs q).parts == x) (is_full (pair_at pairs q)) b in (
+        q,
+        subst (λ (s : Signed). IsBlockingPair s x q) view (record {
+          within = subst (λ n. q < n) (sym (length-map pairs emptied)) lt;
+          parts = ap (λ p. p.parts) (get_or-map emptied pairs q no_pair) ∙ (Decides-eqb (pair_at pairs q).parts x).0 t.0;
+          full = subst (λ (p : PairCount). p.wanted ≤ positives q sides) (sym (get_or-map emptied pairs q no_pair)) (subst (λ n. (pair_at pairs q).wanted ≤ n) (is.each q) (full_le (pair_at pairs q) t.1));
+        }),
+      ),
+  λ (q, h).
+      let k = subst (λ (s : Signed). IsBlockingPair s x q) (sym view) h in
+      counted x pairs q (subst (λ n. q < n) (length-map pairs emptied) k.within)
+      (all_of ((pair_at pairs q).parts == x) (is_full (pair_at pairs q)) ((Decides-eqb (pair_at pairs q).parts x).1 (sym (ap (λ p. p.parts) (get_or-map emptied pairs q no_pair)) ∙ k.parts))
+      (le_full (pair_at pairs q) (subst (λ n. (pair_at pairs q).wanted ≤ n) (sym (is.each q)) (subst (λ (p : PairCount). p.wanted ≤ positives q sides) (get_or-map emptied pairs q no_pair) k.full)))),
+)

@@ -1,0 +1,119 @@
+-- What a step along a circle changes: only planes through the vertex left and the vertex reached.
+use Rattle.std.proofs.Common.{◌≡◌, ◌≢◌, ℕ, zero, suc, ◌≤◌, refl, sym, ap, subst, ◌∙◌, arith, ℤ, pos, negsuc, ◌-ℤ◌, ◌*ℤ◌, ◌<ℤ◌, List, [], ◌∷◌, Contains}
+use Rattle.std.proofs.lemmas.Int.{ints}
+use Rattle.staat_vec.specs.declared.vector.V3.{V3}
+use Rattle.staat_vec.specs.Vectors.{dot, cross, negative, origin, sign}
+use Rattle.staat_vec.specs.Primitives.{primitive, content}
+use Rattle.staat_ring.specs.Turns.{turn, NextIn}
+use Rattle.staat_vec.proofs.Ring.{num, ring}
+use Rattle.staat_vec.proofs.VecRing.{values, v0, v1}
+use Rattle.staat_vec.proofs.Order.{pos_mul}
+use Rattle.staat_ring.proofs.Turning.{turnE, turn_back, turn_negative_left, turn_negative_right, cancel_positive}
+use Rattle.staat_ring.proofs.Content.{content_divides}
+use Rattle.staat_ring.proofs.Sides.{turn_is_side, turn_times_right}
+
+-- the crossing, and with it its primitive vector, is ahead of what is on the positive side of h
+crossing_ahead : (g h v : V3) → pos 0 <ℤ dot g g → dot g v ≡ pos 0 → pos 0 <ℤ dot h v → pos 0 <ℤ turn g v (cross g h)
+crossing_ahead g h v gg e p = subst (λ z. pos 0 <ℤ z) (sym (turn_is_side g h v e)) (pos_mul (dot h v) (dot g g) p gg)
+
+negative_part : (a b : ℤ) → a <ℤ pos 0 → pos 0 <ℤ b → pos 0 <ℤ (pos 0 -ℤ a *ℤ b)
+negative_part (pos a) b h g = absurd (omega (arith, ints))
+negative_part (negsuc a) (pos zero) h g = absurd g.lt
+negative_part (negsuc a) (pos (suc b)) h g = omega (arith, ints)
+negative_part (negsuc a) (negsuc b) h g = absurd g.lt
+
+-- and behind what is on its negative side
+crossing_behind : (g h w : V3) → pos 0 <ℤ dot g g → dot g w ≡ pos 0 → dot h w <ℤ pos 0 → pos 0 <ℤ turn g (cross g h) w
+crossing_behind g h w gg e p = subst (λ z. pos 0 <ℤ z) (sym (turn_back g (cross g h) w ∙ ap (λ z. pos 0 -ℤ z) (turn_is_side g h w e))) (negative_part (dot h w) (dot g g) p gg)
+
+not_origin : (g v u : V3) → pos 0 <ℤ turn g v u → u ≢ origin
+not_origin g v u h e = zero_turn (subst (λ x. pos 0 <ℤ turn g v x) e h)
+  where
+    none : turn g v origin ≡ pos 0
+    none = ring (values (g ∷ v ∷ []) []) (turnE v0 v1 (record { x = num (pos 0); y = num (pos 0); z = num (pos 0) })) (num (pos 0)) tt
+
+    zero_turn : pos 0 <ℤ turn g v origin → ⊥
+    zero_turn q = let e = none in omega (arith, ints)
+
+positive_content : (k : ℕ) → 1 ≤ k → pos 0 <ℤ pos k
+positive_content k h = omega (arith, ints)
+
+-- the sides of a vector are those of its primitive vector
+primitive_ahead : (g v u : V3) → pos 0 <ℤ turn g v u → pos 0 <ℤ turn g v (primitive u)
+primitive_ahead g v u h =
+    let c = content_divides u (not_origin g v u h) in
+    cancel_positive (pos (content u)) (turn g v (primitive u)) (positive_content (content u) c.0)
+    (subst (λ z. pos 0 <ℤ z) (ap (λ x. turn g v x) c.1 ∙ turn_times_right g v (primitive u) (pos (content u))) h)
+
+primitive_behind : (g u w : V3) → pos 0 <ℤ turn g u w → pos 0 <ℤ turn g (primitive u) w
+primitive_behind g u w h = flip (primitive_ahead' (behind h))
+  where
+    behind : pos 0 <ℤ turn g u w → turn g w u <ℤ pos 0
+    behind q = let e = turn_back g u w in omega (arith, ints)
+
+    flip : turn g w (primitive u) <ℤ pos 0 → pos 0 <ℤ turn g (primitive u) w
+    flip q = let e = turn_back g (primitive u) w in omega (arith, ints)
+
+    some : turn g w u <ℤ pos 0 → u ≢ origin
+    some q e = none (subst (λ x. turn g w x <ℤ pos 0) e q)
+      where
+        zero_is : turn g w origin ≡ pos 0
+        zero_is = ring (values (g ∷ w ∷ []) []) (turnE v0 v1 (record { x = num (pos 0); y = num (pos 0); z = num (pos 0) })) (num (pos 0)) tt
+
+        none : turn g w origin <ℤ pos 0 → ⊥
+        none r = let e = zero_is in omega (arith, ints)
+
+    cancel_negative : (a t : ℤ) → pos 0 <ℤ a → (a *ℤ t) <ℤ pos 0 → t <ℤ pos 0
+    cancel_negative (pos zero) t h q = absurd h.lt
+    cancel_negative (pos (suc a)) (pos t) h q = absurd (omega (arith, ints))
+    cancel_negative (pos (suc a)) (negsuc t) h q = omega (arith, ints)
+    cancel_negative (negsuc a) t h q = absurd h.lt
+
+    primitive_ahead' : turn g w u <ℤ pos 0 → turn g w (primitive u) <ℤ pos 0
+    primitive_ahead' q =
+        let c = content_divides u (some q) in
+        cancel_negative (pos (content u)) (turn g w (primitive u)) (positive_content (content u) c.0)
+        (subst (λ z. z <ℤ pos 0) (ap (λ x. turn g w x) c.1 ∙ turn_times_right g w (primitive u) (pos (content u))) q)
+
+-- the crossings of h are on the circle
+pub record HasCrossings (g h : V3) (us : List V3) : Type 0 where
+  pub one : Contains us (primitive (cross g h))
+  pub other : Contains us (negative (primitive (cross g h)))
+
+-- No plane goes from its positive to its negative side between a vertex and the next.
+pub stays_positive : (g h v w : V3) (us : List V3) → pos 0 <ℤ dot g g → dot g v ≡ pos 0 → dot g w ≡ pos 0 → HasCrossings g h us → NextIn g us v w → pos 0 <ℤ dot h v → dot h w <ℤ pos 0 → ⊥
+stays_positive g h v w us gg ev ew c n p q =
+    n.nothing_between (primitive (cross g h)) c.one
+    (primitive_ahead g v (cross g h) (crossing_ahead g h v gg ev p))
+    (primitive_behind g (cross g h) w (crossing_behind g h w gg ew q))
+
+turned_ahead : (g v u : V3) → turn g v u <ℤ pos 0 → pos 0 <ℤ turn g v (negative u)
+turned_ahead g v u h = let e = turn_negative_right g v u in omega (arith, ints)
+
+turned_behind : (g u w : V3) → turn g u w <ℤ pos 0 → pos 0 <ℤ turn g (negative u) w
+turned_behind g u w h = let e = turn_negative_left g u w in omega (arith, ints)
+
+back_negative : (g u v : V3) → pos 0 <ℤ turn g u v → turn g v u <ℤ pos 0
+back_negative g u v h = let e = turn_back g u v in omega (arith, ints)
+
+-- nor back
+pub stays_negative : (g h v w : V3) (us : List V3) → pos 0 <ℤ dot g g → dot g v ≡ pos 0 → dot g w ≡ pos 0 → HasCrossings g h us → NextIn g us v w → dot h v <ℤ pos 0 → pos 0 <ℤ dot h w → ⊥
+stays_negative g h v w us gg ev ew c n p q =
+    let u : V3 = primitive (cross g h) in
+    n.nothing_between (negative u) c.other
+    (turned_ahead g v u (back_negative g u v (primitive_behind g (cross g h) v (crossing_behind g h v gg ev p))))
+    (turned_behind g u w (back_negative g w u (primitive_ahead g w (cross g h) (crossing_ahead g h w gg ew q))))
+
+-- a plane through neither vertex keeps its sign
+pub sign_stays : (g h v w : V3) (us : List V3) → pos 0 <ℤ dot g g → dot g v ≡ pos 0 → dot g w ≡ pos 0 → HasCrossings g h us → NextIn g us v w
+    → dot h v ≢ pos 0 → dot h w ≢ pos 0 → sign (dot h w) ≡ sign (dot h v)
+sign_stays g h v w us gg ev ew c n nv nw = same (dot h v) (dot h w) nv nw (stays_positive g h v w us gg ev ew c n) (stays_negative g h v w us gg ev ew c n)
+  where
+    same : (a b : ℤ) → a ≢ pos 0 → b ≢ pos 0 → (pos 0 <ℤ a → b <ℤ pos 0 → ⊥) → (a <ℤ pos 0 → pos 0 <ℤ b → ⊥) → sign b ≡ sign a
+    same (pos zero) b na nb p q = absurd (na refl)
+    same (pos (suc a)) (pos zero) na nb p q = absurd (nb refl)
+    same (pos (suc a)) (pos (suc b)) na nb p q = refl
+    same (pos (suc a)) (negsuc b) na nb p q = absurd (p (omega (arith, ints)) (omega (arith, ints)))
+    same (negsuc a) (pos zero) na nb p q = absurd (nb refl)
+    same (negsuc a) (pos (suc b)) na nb p q = absurd (q (omega (arith, ints)) (omega (arith, ints)))
+    same (negsuc a) (negsuc b) na nb p q = refl

@@ -1,0 +1,70 @@
+-- While the facets of a table are put down.
+use Rattle.std.specs.Prelude.{◌≡◌, ◌≢◌, ◌⊎◌, ℕ, ◌<◌, ◌≤◌, List, length, take, sum}
+use Rattle.std.specs.Prelude.{Some, slice_get, slice_set}
+use Rattle.staat_vec.specs.declared.vector.V3.{V3}
+use Rattle.staat_vec.specs.declared.vector.Sign.TheVariants.{Zero}
+use Rattle.staat_model.specs.declared.certificate.Arc.{Arc}
+use Rattle.staat_model.specs.Sets.{Has}
+use Rattle.staat_pairs.specs.Tables.{IsTableArc, Table, pieces_of, place, slot}
+use Rattle.staat_ring.specs.declared.index.PiecePlace.{PiecePlace}
+use Rattle.staat_ring.specs.Pairs.{no_pair, occurs, pair_at}
+use Rattle.staat_ring.specs.Signs.{Signed, side_at, with_pair}
+use Rattle.staat_ring.specs.Belonging.{IsPairIndexed, IsPairOf, IsUnused, PlaneFacet}
+
+-- the pieces of the parts below n, numbered through
+pub record ArePlaces (t : Table) (n : ℕ) (places : List PiecePlace) : Type 0 where
+  pub size : length places ≡ sum (take n t.pieces)
+  pub part : (p : ℕ) (x : PiecePlace) → slice_get places p ≡ Some x → Has t.of x.part
+  pub piece : (p : ℕ) (x : PiecePlace) → slice_get places p ≡ Some x → x.piece < pieces_of t x.part
+  pub is : (p : ℕ) (x : PiecePlace) → slice_get places p ≡ Some x → place t.pieces x.part x.piece ≡ p
+
+-- every plane has the sign Zero
+abbrev pub AreZero : Signed → Type 0
+AreZero s = (k : ℕ) → (side_at s.sides k).sign ≡ Zero
+
+-- nothing is known of the pair
+pub record IsFresh (s : Signed) (q : ℕ) : Type 0 where
+  pub pair : pair_at s.pairs q ≡ no_pair
+  pub along : (k : ℕ) → occurs q (side_at s.sides k).along ≡ 0
+  pub against : (k : ℕ) → occurs q (side_at s.sides k).against ≡ 0
+
+-- what is known of the pair is as before
+pub record IsPairKept (s u : Signed) (q : ℕ) : Type 0 where
+  pub pair : pair_at u.pairs q ≡ pair_at s.pairs q
+  pub along : (k : ℕ) → occurs q (side_at u.sides k).along ≡ occurs q (side_at s.sides k).along
+  pub against : (k : ℕ) → occurs q (side_at u.sides k).against ≡ occurs q (side_at s.sides k).against
+
+-- the pairs but q are as before
+pub record AreSameBut (s u : Signed) (q : ℕ) : Type 0 where
+  pub sides : length u.sides ≡ length s.sides
+  pub pairs : length u.pairs ≡ length s.pairs
+  pub zero : AreZero u
+  pub others : (p : ℕ) → p ≢ q → IsPairKept s u p
+
+-- the number is a pair's, or no pair's
+abbrev pub IsTold : Table → Signed → ℕ → Type 0
+IsTold t s q = ((arc : Arc) × IsTableArc t arc × (slot t.pieces arc ≡ q) × IsPairOf t s arc) ⊎ (IsUnused s q
+    × ((arc : Arc) → IsTableArc t arc → slot t.pieces arc ≡ q → ⊥))
+
+-- the numbers below n are told, and of the others nothing is known
+pub record AreToldBelow (t : Table) (s : Signed) (n : ℕ) : Type 0 where
+  pub sides : length s.sides ≡ length t.planes
+  pub pairs : length s.pairs ≡ 4096
+  pub zero : AreZero s
+  pub told : (q : ℕ) → q < n → IsTold t s q
+  pub rest : (q : ℕ) → n ≤ q → IsFresh s q
+
+-- one more facet of pair q
+abbrev pub with_facet : PlaneFacet → ℕ → Signed → Signed
+with_facet w q s = record {
+  sides = slice_set s.sides w.plane (with_pair w.turned q (side_at s.sides w.plane));
+  pairs = s.pairs;
+}
+
+-- of the facets of pair q so many are put down
+pub record IsPartly (planes facets : List V3) (first s : Signed) (q m : ℕ) : Type 0 where
+  pub index : IsPairIndexed planes (take m facets) s.sides q
+  pub sides : length s.sides ≡ length first.sides
+  pub pairs : s.pairs ≡ first.pairs
+  pub zero : AreZero s
+  pub others : (p : ℕ) → p ≢ q → IsPairKept first s p

@@ -1,0 +1,23 @@
+-- What a walk changes at a stop: the signs of the planes through it.
+use Rattle.std.specs.Prelude.{ℕ, List, [], ◌∷◌, Bool, true, false, slice_set}
+use Rattle.staat_vec.specs.declared.vector.Sign.{Sign}
+use Rattle.staat_vec.specs.declared.vector.Sign.TheVariants.{Neg, Zero, Pos}
+use Rattle.staat_ring.specs.declared.entry.Entry.{Entry}
+use Rattle.staat_ring.specs.Signs.{Signed, side_at, with_sign}
+
+-- the plane k gets the sign
+abbrev pub signed : ℕ → Sign → Signed → Signed
+signed k sign s = record { sides = slice_set s.sides k (with_sign sign (side_at s.sides k)); pairs = s.pairs }
+
+-- The sign of a plane just after the stop, if the walk leaves it, and at it, if not. The walk leaves a plane's
+-- crossing
+-- to the plane's negative side, and the opposite one to its positive side.
+abbrev pub mark_of : Bool → Bool → Sign
+mark_of false turned = Zero
+mark_of true false = Neg
+mark_of true true = Pos
+
+-- all planes through the stop get their signs
+abbrev pub marked : Bool → List Entry → Signed → Signed
+marked leaves [] s = s
+marked leaves (e ∷ es) s = marked leaves es (signed e.plane (mark_of leaves e.turned) s)

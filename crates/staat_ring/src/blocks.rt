@@ -1,0 +1,116 @@
+// How many pairs of pieces block for each ordered pair of parts, and the graph that shows where there are some.
+ghost use Rattle.std.specs.Prelude.{◌≡◌, ℕ, ◌+◌, ◌*◌, ◌<◌, ◌≤◌, ◌^◌, ◌↔◌};
+ghost use Rattle.std.specs.Prelude.{◌⊎◌, IfOk, replicate, slice_index, slice_set, ◌-◌};
+ghost use Rattle.staat_graph.specs.Graphs.{HasArc};
+ghost use Rattle.staat_ring.specs.Blocks.{ShowsCounts, parts_at};
+ghost use Rattle.std.specs.Int.{bit_at};
+
+use staat_graph::Graph;
+use staat_model::PartSet;
+use staat_vec::OutOfMemory;
+use std::alloc::Global;
+use std::marker::Model;
+
+/// How many pairs of pieces block for each ordered pair of parts, seen as the list of these numbers.
+#[derive(Drop)]
+pub struct BlockCounts {
+    counts: Vec<u16>,
+    rows: [u32; 32],
+    back: [u32; 32],
+}
+
+impl Model for BlockCounts {
+    ghost use Rattle.std.specs.Prelude.{ℕ, List};
+    ghost use Rattle.staat_ring.specs.Blocks.{ShowsCounts};
+
+    ghost Value = { List ℕ };
+
+    ghost view = { λ b. b.counts.items };
+
+    ghost invariant = { λ b. ShowsCounts b.counts.items b.rows b.back };
+}
+
+// the word with the bit b set
+fn with_bit(word: u32, b: u32) -> u32
+    requires { b < 32 }
+    ensures { (q : ℕ) → (bit_at result q ≡ 1) ↔ ((bit_at word q ≡ 1) ⊎ (q ≡ b)) }
+{
+    PartSet::from_bits(word).union(PartSet::single(b)).bits()
+}
+
+// the word with the bit b cleared
+fn without_bit(word: u32, b: u32) -> u32
+    requires { b < 32 }
+    ensures { (q : ℕ) → (bit_at result q ≡ 1) ↔ ((bit_at word q ≡ 1) × (q ≡ b → ⊥)) }
+{
+    PartSet::from_bits(word).without(PartSet::single(b)).bits()
+}
+
+// puts an arc into the graph
+fn set_arc(rows: &mut [u32; 32], a: u32, b: u32)
+    requires from { a < 32 }
+    requires to { b < 32 }
+    ensures { (p q : ℕ) → HasArc rows.new p q ↔ (HasArc rows.old p q ⊎ ((p ≡ a) × (q ≡ b))) }
+{
+    rows[a as usize] = with_bit(rows[a as usize], b);
+}
+
+// takes it out
+fn clear_arc(rows: &mut [u32; 32], a: u32, b: u32)
+    requires from { a < 32 }
+    requires to { b < 32 }
+    ensures { (p q : ℕ) → HasArc rows.new p q ↔ (HasArc rows.old p q × ((p ≡ a) → (q ≡ b) → ⊥)) }
+{
+    rows[a as usize] = without_bit(rows[a as usize], b);
+}
+
+impl BlockCounts {
+    /// No pair blocks.
+    pub fn new(alloc: Global) -> Result<BlockCounts, OutOfMemory>
+        ensures { IfOk result (λ b. b ≡ replicate 1024 0) }
+    {
+        let counts = vec![in alloc; 0u16; 1024]?;
+        let rows = [0; 32];
+        let back = [0; 32];
+        Ok(BlockCounts { counts, rows, back })
+    }
+
+    /// One more pair of pieces blocks.
+    pub fn more(&mut self, x: u16)
+        requires place { x < 1024 }
+        requires room { slice_index self.old x + 1 < 2 ^ 16 }
+        ensures { self.new ≡ slice_set self.old x (slice_index self.old x + 1) }
+    {
+        let count = self.counts[x as usize] + 1;
+        self.counts[x as usize] = count;
+        if count == 1 {
+            let (a, b) = (x as u32 / 32, x as u32 % 32);
+            set_arc(&mut self.rows, a, b);
+            set_arc(&mut self.back, b, a);
+        }
+    }
+
+    /// One less blocks.
+    pub fn less(&mut self, x: u16)
+        requires place { x < 1024 }
+        requires some { 0 < slice_index self.old x }
+        ensures { self.new ≡ slice_set self.old x (slice_index self.old x - 1) }
+    {
+        let count = self.counts[x as usize] - 1;
+        self.counts[x as usize] = count;
+        if count == 0 {
+            let (a, b) = (x as u32 / 32, x as u32 % 32);
+            clear_arc(&mut self.rows, a, b);
+            clear_arc(&mut self.back, b, a);
+        }
+    }
+
+    /// The graph in which an arc stands where some pair of pieces blocks.
+    pub fn graph(&self) -> Graph
+        ensures { (a b : ℕ) → a < 32 → b < 32 → HasArc result.rows a b
+            ↔ (0 < slice_index self.now (parts_at a b)) }
+    {
+        let rows = self.rows;
+        Graph { rows }
+    }
+}

@@ -1,0 +1,164 @@
+// Which facets lie on which plane, made from a table.
+ghost use Rattle.std.specs.Prelude.{◌≡◌, ◌≢◌, ◌↔◌, true, ℕ, ◌+◌, ◌*◌, ◌<◌};
+ghost use Rattle.std.specs.Prelude.{◌≤◌, List, Contains, IfOk, OnOk, Some, length, slice_get};
+ghost use Rattle.staat_vec.specs.Primitives.{canon};
+ghost use Rattle.staat_vec.specs.declared.vector.V3.{V3 as Vector};
+ghost use Rattle.staat_pairs.specs.Tables.{IsTableArc, IsTable, IsTableFacet, slot, facets_of, pieces_of, place};
+ghost use Rattle.staat_model.specs.Sets.{Has};
+ghost use Rattle.staat_ring.specs.Index.{with_facet, AreSameBut, AreToldBelow, AreZero, ArePlaces, IsFresh};
+ghost use Rattle.staat_ring.specs.Signs.{side_at, uses};
+ghost use Rattle.staat_ring.specs.Belonging.{BelongTo, IsPairOf, PlaneFacet as PlaneFacetValue, facet_at};
+ghost use Rattle.staat_ring.specs.Rings.{facet_by, plane_at};
+
+use crate::signs::Signs;
+use staat_model::{Arc, MOST_PARTS};
+use staat_planes::PlaneTable;
+use staat_vec::{OutOfMemory, V3, canon, is_same};
+use std::alloc::Global;
+
+/// A piece of a part.
+#[derive(Clone, Copy)]
+pub struct PiecePlace {
+    pub part: u32,
+    pub piece: u32,
+}
+
+// the number of the plane with this normal
+fn number_of(table: &PlaneTable, n: V3) -> u32
+    requires { Contains table.now.planes n }
+    ensures within { result < length table.now.planes }
+    ensures is { plane_at table.now.planes result ≡ n }
+{
+    for k in 0..table.len() {
+        if is_same(table.plane(k), n) {
+            return k;
+        }
+    }
+    unreachable!()
+}
+
+// adds the pieces of one part
+fn add_places(places: &mut Vec<PiecePlace>, table: &PlaneTable, a: u32) -> Result<(), OutOfMemory>
+    requires part { a < MOST_PARTS }
+    requires places { ArePlaces table.now a places.old.items }
+    ensures { OnOk result (ArePlaces table.now (a + 1) places.new.items) }
+{
+    let set = table.set();
+    if set.has(a) {
+        for i in 0..table.pieces(a) {
+            places.push(PiecePlace { part: a, piece: i })?;
+        }
+    }
+    Ok(())
+}
+
+// all pieces, numbered through
+fn places_of(alloc: Global, table: &PlaneTable) -> Result<Vec<PiecePlace>, OutOfMemory>
+    ensures { IfOk result (λ v. ArePlaces table.now 32 v.items) }
+{
+    let mut places = Vec::new(alloc);
+    for a in 0..MOST_PARTS {
+        add_places(&mut places, table, a)?;
+    }
+    Ok(places)
+}
+
+// the facet m of the pair q lies on some plane
+fn push_facet(signs: &mut Signs, table: &PlaneTable, facet: V3, q: u16) -> Result<(), OutOfMemory>
+    requires facet { IsTableFacet table.now.planes facet }
+    requires sides { length signs.old.sides ≡ length table.now.planes }
+    requires zero { AreZero signs.old }
+    requires pair { q < length signs.old.pairs }
+    requires room { uses q signs.old.sides + 1 < 65536 }
+    ensures { OnOk result ((w : PlaneFacetValue) × (w.plane < length table.now.planes)
+        × (facet_at table.now.planes w ≡ facet) × (signs.new ≡ with_facet w q signs.old)) }
+{
+    let n = canon(facet);
+    let k = number_of(table, n);
+    signs.push(k, !is_same(n, facet), q)
+}
+
+// the facets of a pair are put down
+fn add_pair(signs: &mut Signs, table: &PlaneTable, arc: Arc, q: u16) -> Result<(), OutOfMemory>
+    requires across { IsTableArc table.now arc }
+    requires slot { slot table.now.pieces arc ≡ q }
+    requires sides { length signs.old.sides ≡ length table.now.planes }
+    requires pairs { q < length signs.old.pairs }
+    requires zero { AreZero signs.old }
+    requires fresh { IsFresh signs.old q }
+    ensures pair { OnOk result (IsPairOf table.now signs.new arc) }
+    ensures others { OnOk result (AreSameBut signs.old signs.new q) }
+{
+    let set = table.set();
+    let _small = set.bits();
+    let count = table.facet_count(arc);
+    signs.want(q, count as u16, (32 * arc.a + arc.b) as u16);
+    for m in 0..count {
+        push_facet(signs, table, table.facet(arc, m), q)?;
+    }
+    Ok(())
+}
+
+// the pair of the pieces x and y, where they are of different parts
+fn add_places_pair(
+    signs: &mut Signs,
+    table: &PlaneTable,
+    x: PiecePlace,
+    y: PiecePlace,
+    q: u32,
+) -> Result<(), OutOfMemory>
+    requires x { Has table.now.of x.part × (x.piece < pieces_of table.now x.part) }
+    requires y { Has table.now.of y.part × (y.piece < pieces_of table.now y.part) }
+    requires slot { 64 * place table.now.pieces x.part x.piece + place table.now.pieces y.part y.piece ≡ q }
+    requires pair { q < 4096 }
+    requires told { AreToldBelow table.now signs.old q }
+    ensures { OnOk result (AreToldBelow table.now signs.new (q + 1)) }
+{
+    let _set = table.set();
+    if x.part == y.part {
+        return Ok(());
+    }
+    let arc = Arc {
+        a: x.part,
+        i: x.piece,
+        b: y.part,
+        j: y.piece,
+    };
+    add_pair(signs, table, arc, q as u16)
+}
+
+// the pair of the number q, if there is one
+fn add_slot(
+    signs: &mut Signs,
+    table: &PlaneTable,
+    places: &[PiecePlace],
+    q: u32,
+) -> Result<(), OutOfMemory>
+    requires places { ArePlaces table.now 32 places.now }
+    requires pair { q < 4096 }
+    requires told { AreToldBelow table.now signs.old q }
+    ensures { OnOk result (AreToldBelow table.now signs.new (q + 1)) }
+{
+    let _set = table.set();
+    let (p, r) = ((q / 64) as usize, (q % 64) as usize);
+    if p >= places.len() {
+        return Ok(());
+    }
+    if r >= places.len() {
+        return Ok(());
+    }
+    add_places_pair(signs, table, places[p], places[r], q)
+}
+
+/// The signs of the planes of a table, all Zero, with its pairs of pieces and their facets.
+pub fn signs_of(alloc: Global, table: &PlaneTable) -> Result<Signs, OutOfMemory>
+    ensures { IfOk result (λ s. BelongTo table.now s) }
+{
+    let _set = table.set();
+    let places = places_of(alloc, table)?;
+    let mut signs = Signs::new(alloc, table.len(), 4096)?;
+    for q in 0..4096 {
+        add_slot(&mut signs, table, places.as_slice(), q)?;
+    }
+    Ok(signs)
+}

@@ -1,0 +1,193 @@
+// The signs of the planes at a vertex, and the graph there.
+ghost use Rattle.std.specs.Prelude.{◌≡◌, ℕ, ◌+◌, ◌*◌, ◌<◌, ◌≤◌, ◌^◌, ◌↔◌, All};
+ghost use Rattle.std.specs.Prelude.{IfOk, OnErr, OnOk, length, replicate, slice_index, slice_set};
+ghost use Rattle.staat_graph.specs.Graphs.{HasArc};
+ghost use Rattle.staat_vec.specs.declared.vector.Sign.TheVariants.{Zero};
+ghost use Rattle.staat_ring.specs.Blocks.{parts_at};
+ghost use Rattle.staat_ring.specs.Pairs.{fresh, no_pair, occurs, pair_at};
+ghost use Rattle.staat_ring.specs.Signs.{IsBlockingPair, no_side, positive_pairs, positives, side_at, uses};
+ghost use Rattle.staat_ring.specs.Signs.{with_pair, with_sign};
+
+use crate::pairs::PairCounts;
+use staat_graph::Graph;
+use staat_vec::{OutOfMemory, Sign};
+use std::alloc::Global;
+use std::marker::Model;
+
+/// A plane: its sign, the ordered pairs of pieces of which its normal is a facet, and those of which the negative is.
+#[derive(Drop)]
+pub struct PlaneSide {
+    sign: Sign,
+    along: Vec<u16>,
+    against: Vec<u16>,
+}
+
+impl Model for PlaneSide {
+    ghost use Rattle.staat_ring.specs.Signs.{Side};
+
+    ghost Value = { Side };
+
+    ghost view = { λ s. record { sign = s.sign; along = s.along.items; against = s.against.items } };
+}
+
+impl PlaneSide {
+    // the pairs whose facet on the plane is positive
+    fn positive_pairs(&self) -> &[u16]
+        ensures { result.now ≡ positive_pairs self.now }
+    {
+        match self.sign {
+            Sign::Neg => self.against.as_slice(),
+            Sign::Zero => &[],
+            Sign::Pos => self.along.as_slice(),
+        }
+    }
+
+    // gives the plane another sign
+    fn turn(&mut self, sign: Sign)
+        ensures { self.new ≡ with_sign sign self.old }
+    {
+        self.sign = sign;
+    }
+}
+
+// the pairs whose facet on the plane k is positive
+fn pairs_at(sides: &Vec<PlaneSide>, k: u32) -> &[u16]
+    requires { k < length sides.now.items }
+    ensures { result.now ≡ positive_pairs (side_at sides.now.items k) }
+{
+    sides[k as usize].positive_pairs()
+}
+
+// gives the plane k another sign
+fn turn_at(sides: &mut Vec<PlaneSide>, k: u32, sign: Sign)
+    requires { k < length sides.old.items }
+    ensures { sides.new.items ≡ slice_set sides.old.items k (with_sign sign (side_at sides.old.items k)) }
+{
+    sides[k as usize].turn(sign);
+}
+
+/// The signs of planes, with the graph in which an arc stands where all facets of some pair of pieces are positive.
+#[derive(Drop)]
+pub struct Signs {
+    sides: Vec<PlaneSide>,
+    counts: PairCounts,
+}
+
+impl Model for Signs {
+    ghost use Rattle.std.specs.Prelude.{map};
+    ghost use Rattle.staat_ring.specs.Signs.{AreSigned, Signed, emptied};
+
+    ghost Value = { Signed };
+
+    ghost view = { λ s. record { sides = s.sides.items; pairs = map emptied s.counts } };
+
+    ghost invariant = { λ s. AreSigned s.sides.items s.counts };
+}
+
+// planes of the sign Zero through no facet
+fn empty_sides(alloc: Global, count: u32) -> Result<Vec<PlaneSide>, OutOfMemory>
+    ensures { IfOk result (λ v. v.items ≡ replicate count no_side) }
+{
+    let mut sides = Vec::new(alloc);
+    for _k in 0..count {
+        sides.push(PlaneSide {
+            sign: Sign::Zero,
+            along: Vec::new(alloc),
+            against: Vec::new(alloc),
+        })?;
+    }
+    Ok(sides)
+}
+
+impl PlaneSide {
+    // one more pair has the normal as a facet, or its negative
+    fn push(&mut self, turned: bool, q: u16) -> Result<(), OutOfMemory>
+        ensures ok { OnOk result (self.new ≡ with_pair turned q self.old) }
+        ensures err { OnErr result (self.new ≡ self.old) }
+    {
+        if turned {
+            self.against.push(q)?;
+        } else {
+            self.along.push(q)?;
+        }
+        Ok(())
+    }
+}
+
+// the same of the plane k
+fn push_at(sides: &mut Vec<PlaneSide>, k: u32, turned: bool, q: u16) -> Result<(), OutOfMemory>
+    requires { k < length sides.old.items }
+    ensures ok { OnOk result (sides.new.items ≡ slice_set sides.old.items k (with_pair turned q (side_at
+        sides.old.items k))) }
+    ensures err { OnErr result (sides.new.items ≡ sides.old.items) }
+{
+    sides[k as usize].push(turned, q)
+}
+
+impl Signs {
+    /// So many planes of the sign Zero, and so many numbers that are no pairs.
+    pub fn new(alloc: Global, planes: u32, pairs: u32) -> Result<Signs, OutOfMemory>
+        requires { pairs ≤ 4096 }
+        ensures { IfOk result (λ s. s ≡ record {
+          sides = replicate planes no_side;
+          pairs = replicate pairs
+              no_pair;
+        }) }
+    {
+        let sides = empty_sides(alloc, planes)?;
+        let counts = PairCounts::new(alloc, pairs)?;
+        Ok(Signs { sides, counts })
+    }
+
+    /// One more facet of the pair `q` lies on the plane `k`. The plane has the sign Zero.
+    pub fn push(&mut self, k: u32, turned: bool, q: u16) -> Result<(), OutOfMemory>
+        requires plane { k < length self.old.sides }
+        requires zero { (side_at self.old.sides k).sign ≡ Zero }
+        requires pair { q < length self.old.pairs }
+        requires room { uses q self.old.sides + 1 < 65536 }
+        ensures { OnOk result (self.new ≡ record {
+          sides = slice_set self.old.sides k (with_pair turned q (side_at
+              self.old.sides k));
+          pairs = self.old.pairs;
+        }) }
+    {
+        push_at(&mut self.sides, k, turned, q)?;
+        Ok(())
+    }
+
+    /// Tells the parts of a pair and how many facets it has. None of them is positive.
+    pub fn want(&mut self, q: u16, wanted: u16, parts: u16)
+        requires place { q < length self.old.pairs }
+        requires fresh { pair_at self.old.pairs q ≡ no_pair }
+        requires none { positives q self.old.sides ≡ 0 }
+        requires parts { parts < 1024 }
+        ensures { self.new ≡ record {
+          sides = self.old.sides;
+          pairs = slice_set self.old.pairs q (fresh wanted
+              parts);
+        } }
+    {
+        self.counts.want(q, wanted, parts);
+    }
+    /// Gives a plane another sign.
+    pub fn set(&mut self, k: u32, sign: Sign)
+        requires { k < length self.old.sides }
+        ensures { self.new ≡ record {
+          sides = slice_set self.old.sides k (with_sign sign (side_at self.old.sides
+              k));
+          pairs = self.old.pairs;
+        } }
+    {
+        self.counts.lose_all(pairs_at(&self.sides, k));
+        turn_at(&mut self.sides, k, sign);
+        self.counts.gain_all(pairs_at(&self.sides, k));
+    }
+
+    /// The graph in which an arc stands where all facets of some pair of pieces are positive.
+    pub fn graph(&self) -> Graph
+        ensures { (a b : ℕ) → a < 32 → b < 32 → HasArc result.rows a b ↔ ((q : ℕ)
+            × IsBlockingPair self.now (parts_at a b) q) }
+    {
+        self.counts.graph()
+    }
+}

@@ -1,0 +1,64 @@
+// The vertex in which two planes cross.
+ghost use Rattle.std.specs.Prelude.{◌≡◌, ◌≢◌, ◌<◌, length};
+ghost use Rattle.staat_vec.specs.Primitives.{primitive};
+ghost use Rattle.staat_vec.specs.Vectors.{IsWithin, cross};
+ghost use Rattle.staat_ring.specs.Rings.{crossing, facet_by};
+ghost use Rattle.staat_ring.specs.Walked.{DoCross};
+
+use crate::Entry;
+use staat_pairs::crossing;
+use staat_planes::PlaneTable;
+use staat_vec::{DIRECTION, V3, neg};
+use std::marker::Model;
+
+/// The crossing of two planes, seen as its direction. It is computed only when it is asked for.
+#[derive(Drop)]
+pub struct Crossing {
+    own: V3,
+    other: V3,
+    turned: bool,
+}
+
+impl Model for Crossing {
+    ghost use Rattle.staat_vec.specs.declared.vector.V3.{V3};
+    ghost use Rattle.staat_vec.specs.Vectors.{cross};
+    ghost use Rattle.staat_vec.specs.Primitives.{primitive};
+    ghost use Rattle.staat_ring.specs.Rings.{facet_by};
+    ghost use Rattle.staat_ring.specs.Walked.{DoCross};
+
+    ghost Value = { V3 };
+
+    ghost view = { λ c. facet_by c.turned (primitive (cross c.own c.other)) };
+
+    ghost invariant = { λ c. DoCross c.own c.other };
+}
+
+impl Crossing {
+    // the crossing of two planes that are not parallel, or its negative
+    fn new(own: V3, other: V3, turned: bool) -> Crossing
+        requires { DoCross own other }
+        ensures { result ≡ facet_by turned (primitive (cross own other)) }
+    {
+        Crossing { own, other, turned }
+    }
+
+    /// The crossing of the plane `c` of a table and the plane of an entry.
+    pub fn of(table: &PlaneTable, c: u32, entry: Entry) -> Crossing
+        requires c { c < length table.now.planes }
+        requires plane { entry.plane < length table.now.planes }
+        requires different { entry.plane ≢ c }
+        ensures { result ≡ crossing table.now.planes c entry }
+    {
+        let _set = table.set();
+        Crossing::new(table.plane(c), table.plane(entry.plane), entry.turned)
+    }
+
+    /// The direction.
+    pub fn direction(&self) -> V3
+        ensures is { result ≡ self.now }
+        ensures within { IsWithin DIRECTION result }
+    {
+        let ray = crossing(self.own, self.other);
+        if self.turned { neg(ray) } else { ray }
+    }
+}
