@@ -26,7 +26,9 @@ use Rattle.staat_graph.proofs.Finite.{len_fewer, len_some, nonempty_or}
 use Rattle.staat_planes.specs.declared.refusal.PlanesRefusal.{PlanesRefusal}
 use Rattle.staat_planes.specs.Refusals.{IsPlanesRefusal}
 use Rattle.staat_plan.specs.Certifying.{CanBeCertified}
-use Rattle.staat_plan.specs.Planning.{HasFewPlanes, IsOutcomeOf, Settles, IsSized, IsStepOf}
+use Rattle.staat_plan.specs.Planning.{HasFewPlanes, IsOutcomeOf, Settles, IsSetStep, IsSized, IsStepOf}
+use Rattle.staat_pairs.specs.Tables.{Table, WasMadeFrom}
+use Rattle.staat_plan.specs.CellSteps.{IsTableStep}
 use Rattle.staat_model.specs.Assemblies.{IsAssembly}
 use Rattle.staat_plan.proofs.Right.{right_lemma}
 use Rattle.staat_plan.proofs.Fewer.{fewer_planes_lemma, single_planes, sub_refused}
@@ -52,6 +54,26 @@ rest_is_some w s r side e = subst (λ (t : PartSet). IsNonempty t) (sym e) (rest
 
 pub rest_inside : (w s r : PartSet) → r ≡ set.difference w s → IsSubset r w
 rest_inside w s r e q h = rest_within w s q (subst (λ (t : PartSet). Has t q) e h)
+
+-- ---- a step of a set of parts of a larger table
+
+pub few_in_table : (parts : List Part) (t : Table) (w : PartSet) (limit : ℕ) → WasMadeFrom parts t → IsSubset w t.of → length t.planes ≤ limit → HasFewPlanes parts w limit
+few_in_table parts t w limit made within few =
+    let some = some_planes parts w in
+    let le = fewer_planes_lemma parts w t.of some.0 t.planes within some.1 made.planes in
+    record { planes = some.0; planes_are = some.1; few = omega (arith, le, few) }
+
+pub step_in_table : (robust : Bool) (parts : List Part) (t : Table) (w : PartSet) (limit : ℕ) (found : Option Marked) → WasMadeFrom parts t → IsSubset w t.of → length t.planes ≤ limit → IsSetStep robust t w found → IsStepOf robust parts w limit found
+step_in_table robust parts t w limit found made within few step = record {
+  few = few_in_table parts t w limit made within few;
+  side = step.side;
+  size = step.size;
+  step_is = step.step parts made;
+}
+
+-- the whole set of the table
+pub whole_step : (robust : Bool) (t : Table) (w : PartSet) (found : Option Marked) → IsSubset w t.of → IsSubset t.of w → IsTableStep robust t found → IsSetStep robust t w found
+whole_step robust t w found within over step = subst (λ (u : PartSet). IsSetStep robust t u found) (same_members t.of w over within) (record { side = step.side; size = step.size; step = step.step })
 
 -- a part by itself
 pub leaf_found : (robust : Bool) (parts : List Part) (w : PartSet) (limit p : ℕ) (o : Outcome) → set.len w ≡ 1 → Has w p → 3 ≤ limit → finding_of o ≡ planned (leaf p) [] → IsOutcomeOf robust parts w limit o

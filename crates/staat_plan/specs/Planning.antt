@@ -12,6 +12,7 @@ use Rattle.staat_model.specs.Outcomes.{Finding, HasNoStep, IsOutcome, IsStep, Tr
 use Rattle.staat_model.specs.Planes.{ArePlanes}
 use Rattle.staat_model.specs.Plans.{IsGood, IsStuck, Plan, leaf, split}
 use Rattle.staat_model.specs.Sets.{IsSide, IsSubset}
+use Rattle.staat_pairs.specs.Tables.{Table, WasMadeFrom}
 
 -- the parts of w have no more planes than the limit
 pub record HasFewPlanes (parts : List Part) (w : PartSet) (limit : ℕ) : Type 0 where
@@ -40,6 +41,13 @@ pub record IsStepOf (robust : Bool) (parts : List Part) (w : PartSet) (limit : �
   pub side : IfSome found (λ m. IsSide w m.step.moved)
   pub size : IfSome found (λ m. IsWithin DIRECTION m.step.d)
   pub step_is : MatchOption found (HasNoStep robust parts w) (λ m. IsStep robust parts w (try_of m) m.step.moved)
+
+-- the step of a set w of parts of a table, if it has one
+pub record IsSetStep (robust : Bool) (t : Table) (w : PartSet) (found : Option Marked) : Type 0 where
+  pub side : IfSome found (λ m. IsSide w m.step.moved)
+  pub size : IfSome found (λ m. IsWithin DIRECTION m.step.d)
+  pub step : (parts : List Part) → WasMadeFrom parts t
+      → MatchOption found (HasNoStep robust parts w) (λ m. IsStep robust parts w (try_of m) m.step.moved)
 
 -- the outcome of w, whose planes are no more than the limit
 pub record IsOutcomeOf (robust : Bool) (parts : List Part) (w : PartSet) (limit : ℕ) (o : Outcome) : Type 0 where

@@ -5,15 +5,15 @@ ghost use Rattle.std.specs.FinSet as set;
 ghost use Rattle.std.specs.Option.{option_to_list};
 ghost use Rattle.staat_model.specs.Outcomes.{IsOutcome, finding_of, planned};
 ghost use Rattle.staat_model.specs.Plans.{leaf, plan_of, split};
-ghost use Rattle.staat_model.specs.Sets.{Has, IsNonempty, below};
+ghost use Rattle.staat_model.specs.Sets.{Has, IsNonempty, IsSubset, below};
+ghost use Rattle.staat_pairs.specs.Tables.{WasMadeFrom};
 ghost use Rattle.staat_planes.specs.Refusals.{IsPlanesRefusal};
-ghost use Rattle.staat_plan.specs.CellSteps.{IsTableStep};
 ghost use Rattle.staat_plan.specs.Certifying.{CanBeCertified};
-ghost use Rattle.staat_plan.specs.Planning.{HasFewPlanes, IsOutcomeOf, Settles, IsSized, IsStepOf};
+ghost use Rattle.staat_plan.specs.Planning.{HasFewPlanes, IsOutcomeOf, Settles, IsSetStep, IsSized, IsStepOf};
 
 use crate::cell_steps::cell_step;
 use crate::marked::Marked;
-use crate::step::part_step;
+use crate::step::step_of;
 use staat_cone::FacetSource;
 use staat_model::{Kind, Marks, Outcome, PartSet, Sound, Tree};
 use staat_planes::{
@@ -33,52 +33,67 @@ pub struct Options {
     pub robust: bool,
 }
 
-// the step of a table's set in a plan that is not robust
-fn vertex_step(table: &PlaneTable) -> Option<Marked>
-    requires two { 2 ≤ set.len table.now.of }
-    ensures { IsTableStep false table.now result }
+// the step of a set of parts of the table in a plan that is not robust
+fn vertex_step(table: &PlaneTable, w: PartSet) -> Option<Marked>
+    requires within { IsSubset w table.now.of }
+    requires two { 2 ≤ set.len w }
+    ensures { IsSetStep false table.now w result }
 {
-    match part_step(table, table.set()) {
+    match step_of(table, w) {
         None => None,
         Some(step) => Some(Marked { step, mark: None }),
     }
 }
 
-// the step of a table's set
-fn table_step(
-    alloc: Global,
-    table: &PlaneTable,
-    robust: bool,
-) -> Result<Option<Marked>, OutOfMemory>
-    requires two { 2 ≤ set.len table.now.of }
-    requires cells { robust ≡ true → length table.now.planes ≤ MOST_CELL_PLANES }
-    ensures { IfOk result (IsTableStep robust table.now) }
-{
-    if robust {
-        cell_step(alloc, table)
-    } else {
-        Ok(vertex_step(table))
-    }
-}
-
-// the step of a set of two parts or more, if it has one
-fn step_of<F: FacetSource>(
+// The step of a set of parts of the table in a robust plan. The cells of a smaller set are those of a table of its own.
+fn robust_step<F: FacetSource>(
     alloc: Global,
     source: &F,
     sound: &Sound,
+    table: &PlaneTable,
+    w: PartSet,
+    limit: u32,
+) -> Result<Option<Marked>, PlanRefusal>
+    requires two { 2 ≤ set.len w }
+    requires parts { (p : ℕ) → Has w p → p < length sound.now }
+    requires made { WasMadeFrom sound.now table.now }
+    requires within { IsSubset w table.now.of }
+    requires few { length table.now.planes ≤ limit }
+    requires least { LEAST_PLANES ≤ limit }
+    requires most { limit ≤ MOST_CELL_PLANES }
+    ensures { MatchResult result (IsStepOf true sound.now w limit) (IsPlanesRefusal sound.now w limit) }
+{
+    if table.set().within(w) {
+        return Ok(cell_step(alloc, table)?);
+    }
+    let own = tabulate(alloc, source, sound, w, limit)?;
+    Ok(cell_step(alloc, &own)?)
+}
+
+// the step of a set of two parts or more of the table, if it has one
+fn next_step<F: FacetSource>(
+    alloc: Global,
+    source: &F,
+    sound: &Sound,
+    table: &PlaneTable,
     w: PartSet,
     options: Options,
 ) -> Result<Option<Marked>, PlanRefusal>
     requires two { 2 ≤ set.len w }
     requires parts { (p : ℕ) → Has w p → p < length sound.now }
+    requires made { WasMadeFrom sound.now table.now }
+    requires within { IsSubset w table.now.of }
+    requires few { length table.now.planes ≤ options.planes }
     requires least { LEAST_PLANES ≤ options.planes }
-    requires most { options.planes ≤ MOST_PLANES }
     requires cells { options.robust ≡ true → options.planes ≤ MOST_CELL_PLANES }
     ensures { MatchResult result (IsStepOf options.robust sound.now w options.planes)
         (IsPlanesRefusal sound.now w options.planes) }
 {
-    let table = tabulate(alloc, source, sound, w, options.planes)?;
-    Ok(table_step(alloc, &table, options.robust)?)
+    if options.robust {
+        robust_step(alloc, source, sound, table, w, options.planes)
+    } else {
+        Ok(vertex_step(table, w))
+    }
 }
 
 // the plan of a part by itself
@@ -138,16 +153,20 @@ fn join(
     })
 }
 
-// the outcome of a set of parts: the moved side is planned first, and then the rest
+// the outcome of a set of parts of the table: the moved side is planned first, and then the rest
 fn outcome_of<F: FacetSource>(
     alloc: Global,
     source: &F,
     sound: &Sound,
+    table: &PlaneTable,
     w: PartSet,
     options: Options,
 ) -> Result<Outcome, PlanRefusal>
     requires some { IsNonempty w }
     requires parts { (p : ℕ) → Has w p → p < length sound.now }
+    requires made { WasMadeFrom sound.now table.now }
+    requires within { IsSubset w table.now.of }
+    requires few { length table.now.planes ≤ options.planes }
     requires least { LEAST_PLANES ≤ options.planes }
     requires most { options.planes ≤ MOST_PLANES }
     requires cells { options.robust ≡ true → options.planes ≤ MOST_CELL_PLANES }
@@ -157,14 +176,14 @@ fn outcome_of<F: FacetSource>(
     if w.count() == 1 {
         return Ok(leaf(alloc, w.least()));
     }
-    let Some(found) = step_of(alloc, source, sound, w, options)? else {
+    let Some(found) = next_step(alloc, source, sound, table, w, options)? else {
         return Ok(Outcome::Stuck(w));
     };
     let step = found.step;
-    match outcome_of(alloc, source, sound, step.moved, options)? {
+    match outcome_of(alloc, source, sound, table, step.moved, options)? {
         Outcome::Stuck(a) => Ok(Outcome::Stuck(a)),
         Outcome::Plan { tree, marks } => {
-            match outcome_of(alloc, source, sound, w.without(step.moved), options)? {
+            match outcome_of(alloc, source, sound, table, w.without(step.moved), options)? {
                 Outcome::Stuck(b) => Ok(Outcome::Stuck(b)),
                 Outcome::Plan {
                     tree: rest,
@@ -177,11 +196,12 @@ fn outcome_of<F: FacetSource>(
 
 /// The outcome of an assembly: a plan for all its parts, or a set of parts that no step takes apart.
 ///
-/// For a set of parts the step is that of [`part_step`](crate::part_step). In a robust plan it is instead the step
-/// along
+/// For a set of parts the step is that of [`part_step`](crate::part_step). In a robust plan it is instead the step along
 /// the representative of the first cell that serves, of the open cells, then the edges, then the points, and its mark
 /// is the kind of the cell. The moved side is planned first, then the rest, and the first set that is stuck is the
 /// outcome. The marks of a plan stand in preorder; a plan that is not robust has none.
+///
+/// One table is made for all parts, and in a robust plan one more for each smaller set.
 ///
 /// There are at most `planes` planes, from 3 to [`MOST_PLANES`], and to [`MOST_CELL_PLANES`] in a robust plan;
 /// [`TooManyPlanes`](PlanesRefusal::TooManyPlanes) comes exactly where all parts together have more, with their
@@ -204,5 +224,6 @@ pub fn plan<F: FacetSource>(
         (IsPlanesRefusal sound.now (below (length sound.now)) options.planes) }
 {
     let all = PartSet::first(sound.assembly().parts());
-    outcome_of(alloc, source, sound, all, options)
+    let table = tabulate(alloc, source, sound, all, options.planes)?;
+    outcome_of(alloc, source, sound, &table, all, options)
 }
