@@ -53,3 +53,6 @@ pub mod PushLemmas
 pub mod IndexLemmas
 pub mod Telling
 pub mod Starting
+pub mod Strength
+pub mod BlockSteps
+pub mod Searching

@@ -4,6 +4,7 @@ use Rattle.std.specs.Prelude.{true, false, length, All, slice_index_or}
 use Rattle.std.specs.List.{sum_by}
 use Rattle.staat_vec.specs.declared.vector.Sign.{Sign}
 use Rattle.staat_vec.specs.declared.vector.Sign.TheVariants.{Neg, Zero, Pos}
+use Rattle.staat_ring.specs.Blocks.{parts_at}
 use Rattle.staat_ring.specs.declared.pairs.PairCount.{PairCount}
 use Rattle.staat_ring.specs.Pairs.{occurs, pair_at}
 
@@ -54,6 +55,10 @@ pub record IsBlockingPair (s : Signed) (x q : ℕ) : Type 0 where
   pub within : q < length s.pairs
   pub parts : (pair_at s.pairs q).parts ≡ x
   pub full : (pair_at s.pairs q).wanted ≤ positives q s.sides
+
+-- some pair of pieces of these parts has positive facets alone
+abbrev pub HasBlockingPair : Signed → ℕ → ℕ → Type 0
+HasBlockingPair s a b = (q : ℕ) × IsBlockingPair s (parts_at a b) q
 
 -- the counts are those of the signs
 pub record AreSigned (sides : List Side) (pairs : List PairCount) : Type 0 where

@@ -10,6 +10,7 @@ ghost use Rattle.staat_ring.specs.Signs.{side_at, uses};
 ghost use Rattle.staat_ring.specs.Belonging.{BelongTo, IsPairOf, PlaneFacet as PlaneFacetValue, facet_at};
 ghost use Rattle.staat_ring.specs.Rings.{facet_by, plane_at};
 
+use crate::plane_number::number_of_plane;
 use crate::signs::Signs;
 use staat_model::{Arc, MOST_PARTS};
 use staat_planes::PlaneTable;
@@ -21,20 +22,6 @@ use std::alloc::Global;
 pub struct PiecePlace {
     pub part: u32,
     pub piece: u32,
-}
-
-// the number of the plane with this normal
-fn number_of(table: &PlaneTable, n: V3) -> u32
-    requires { Contains table.now.planes n }
-    ensures within { result < length table.now.planes }
-    ensures is { plane_at table.now.planes result ≡ n }
-{
-    for k in 0..table.len() {
-        if is_same(table.plane(k), n) {
-            return k;
-        }
-    }
-    unreachable!()
 }
 
 // adds the pieces of one part
@@ -74,7 +61,7 @@ fn push_facet(signs: &mut Signs, table: &PlaneTable, facet: V3, q: u16) -> Resul
         × (facet_at table.now.planes w ≡ facet) × (signs.new ≡ with_facet w q signs.old)) }
 {
     let n = canon(facet);
-    let k = number_of(table, n);
+    let k = number_of_plane(table, n);
     signs.push(k, !is_same(n, facet), q)
 }
 

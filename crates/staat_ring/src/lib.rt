@@ -15,6 +15,7 @@ mod linking;
 mod nodes;
 mod order;
 mod pairs;
+mod plane_number;
 mod rings;
 mod signs;
 

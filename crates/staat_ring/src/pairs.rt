@@ -1,12 +1,13 @@
 // How many facets of each ordered pair of pieces are positive.
 ghost use Rattle.std.specs.Prelude.{◌≡◌, ℕ, ◌+◌, ◌*◌, ◌<◌, ◌≤◌, ◌^◌, ◌↔◌};
-ghost use Rattle.std.specs.Prelude.{◌⊎◌, ◌-◌, All, IfOk, length, replicate, slice_index, slice_set};
-ghost use Rattle.staat_graph.specs.Graphs.{HasArc};
-ghost use Rattle.staat_ring.specs.Blocks.{parts_at};
-ghost use Rattle.staat_ring.specs.Pairs.{CountBlocks, blocks, fresh, gained, no_pair, occurs, pair_at};
+ghost use Rattle.std.specs.Prelude.{◌⊎◌, ◌-◌, All, IfOk, IsTrue, length, replicate, slice_index, slice_set};
+ghost use Rattle.staat_model.specs.Sets.{IsNonempty};
+ghost use Rattle.staat_graph.specs.Graphs.{HasArc, IsStrong};
+ghost use Rattle.staat_ring.specs.Pairs.{CountBlocks, HasFullPair, blocks, fresh, gained, no_pair, occurs, pair_at};
 
 use crate::blocks::BlockCounts;
 use staat_graph::Graph;
+use staat_model::PartSet;
 use staat_vec::OutOfMemory;
 use std::alloc::Global;
 use std::marker::Model;
@@ -128,9 +129,18 @@ impl PairCounts {
 
     /// The graph in which an arc stands where some pair blocks.
     pub fn graph(&self) -> Graph
-        ensures { (a b : ℕ) → a < 32 → b < 32 → HasArc result.rows a b
-            ↔ (0 < blocks (parts_at a b) self.now) }
+        ensures { (a b : ℕ) → a < 32 → b < 32 → HasArc result.rows a b ↔ HasFullPair self.now a b }
     {
         self.blocked.graph()
+    }
+
+    /// Whether each part of `w` reaches each other by a walk inside `w` along the arcs of the graph. `w` is not empty.
+    pub fn is_strong(&self, w: PartSet) -> bool
+        requires { IsNonempty w }
+        ensures { IsTrue result ↔ IsStrong (HasFullPair self.now) w }
+    {
+        // all members are below the number of bits
+        let _bits = w.bits();
+        self.blocked.is_strong(w)
     }
 }

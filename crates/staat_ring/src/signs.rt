@@ -1,15 +1,17 @@
 // The signs of the planes at a vertex, and the graph there.
 ghost use Rattle.std.specs.Prelude.{◌≡◌, ℕ, ◌+◌, ◌*◌, ◌<◌, ◌≤◌, ◌^◌, ◌↔◌, All};
-ghost use Rattle.std.specs.Prelude.{IfOk, OnErr, OnOk, length, replicate, slice_index, slice_set};
-ghost use Rattle.staat_graph.specs.Graphs.{HasArc};
+ghost use Rattle.std.specs.Prelude.{IfOk, IsTrue, OnErr, OnOk, length, replicate, slice_index, slice_set};
+ghost use Rattle.staat_model.specs.Sets.{IsNonempty};
+ghost use Rattle.staat_graph.specs.Graphs.{HasArc, IsStrong};
 ghost use Rattle.staat_vec.specs.declared.vector.Sign.TheVariants.{Zero};
 ghost use Rattle.staat_ring.specs.Blocks.{parts_at};
 ghost use Rattle.staat_ring.specs.Pairs.{fresh, no_pair, occurs, pair_at};
-ghost use Rattle.staat_ring.specs.Signs.{IsBlockingPair, no_side, positive_pairs, positives, side_at, uses};
+ghost use Rattle.staat_ring.specs.Signs.{HasBlockingPair, no_side, positive_pairs, positives, side_at, uses};
 ghost use Rattle.staat_ring.specs.Signs.{with_pair, with_sign};
 
 use crate::pairs::PairCounts;
 use staat_graph::Graph;
+use staat_model::PartSet;
 use staat_vec::{OutOfMemory, Sign};
 use std::alloc::Global;
 use std::marker::Model;
@@ -42,6 +44,13 @@ impl PlaneSide {
         }
     }
 
+    // whether the plane has the sign
+    fn has_sign(&self, sign: Sign) -> bool
+        ensures { IsTrue result ↔ (self.now.sign ≡ sign) }
+    {
+        self.sign == sign
+    }
+
     // gives the plane another sign
     fn turn(&mut self, sign: Sign)
         ensures { self.new ≡ with_sign sign self.old }
@@ -56,6 +65,14 @@ fn pairs_at(sides: &Vec<PlaneSide>, k: u32) -> &[u16]
     ensures { result.now ≡ positive_pairs (side_at sides.now.items k) }
 {
     sides[k as usize].positive_pairs()
+}
+
+// whether the plane k has the sign
+fn has_sign(sides: &Vec<PlaneSide>, k: u32, sign: Sign) -> bool
+    requires { k < length sides.now.items }
+    ensures { IsTrue result ↔ ((side_at sides.now.items k).sign ≡ sign) }
+{
+    sides[k as usize].has_sign(sign)
 }
 
 // gives the plane k another sign
@@ -169,12 +186,12 @@ impl Signs {
     {
         self.counts.want(q, wanted, parts);
     }
-    /// Gives a plane another sign.
-    pub fn set(&mut self, k: u32, sign: Sign)
+
+    // the pairs whose facet on the plane lost its positive sign, and those whose facet got one, are counted anew
+    fn change(&mut self, k: u32, sign: Sign)
         requires { k < length self.old.sides }
         ensures { self.new ≡ record {
-          sides = slice_set self.old.sides k (with_sign sign (side_at self.old.sides
-              k));
+          sides = slice_set self.old.sides k (with_sign sign (side_at self.old.sides k));
           pairs = self.old.pairs;
         } }
     {
@@ -183,11 +200,31 @@ impl Signs {
         self.counts.gain_all(pairs_at(&self.sides, k));
     }
 
+    /// Gives the plane `k` a sign. Where it has that sign, nothing is done.
+    pub fn set(&mut self, k: u32, sign: Sign)
+        requires { k < length self.old.sides }
+        ensures { self.new ≡ record {
+          sides = slice_set self.old.sides k (with_sign sign (side_at self.old.sides k));
+          pairs = self.old.pairs;
+        } }
+    {
+        if !has_sign(&self.sides, k, sign) {
+            self.change(k, sign);
+        }
+    }
+
     /// The graph in which an arc stands where all facets of some pair of pieces are positive.
     pub fn graph(&self) -> Graph
-        ensures { (a b : ℕ) → a < 32 → b < 32 → HasArc result.rows a b ↔ ((q : ℕ)
-            × IsBlockingPair self.now (parts_at a b) q) }
+        ensures { (a b : ℕ) → a < 32 → b < 32 → HasArc result.rows a b ↔ HasBlockingPair self.now a b }
     {
         self.counts.graph()
+    }
+
+    /// Whether each part of `w` reaches each other by a walk inside `w` along the arcs of the graph. `w` is not empty.
+    pub fn is_strong(&self, w: PartSet) -> bool
+        requires { IsNonempty w }
+        ensures { IsTrue result ↔ IsStrong (HasBlockingPair self.now) w }
+    {
+        self.counts.is_strong(w)
     }
 }
