@@ -1,5 +1,5 @@
 -- One arc less in the words of both graphs.
-use Rattle.std.proofs.Common.{◌≡◌, ◌≢◌, ⊎_elim, ℕ, ◌+◌, ◌*◌, ◌/◌, ◌%◌, ◌<◌, ◌≤◌, ◌↔◌, arith, ap, sym, subst, ◌∙◌, List, length, get_or-set_other, get_or-set_same}
+use Rattle.std.proofs.Common.{◌≡◌, ◌≢◌, ⊎_elim, ℕ, ◌/◌, ◌%◌, ◌<◌, ◌↔◌, arith, ap, sym, subst, ◌∙◌, List, length, get_or-set_other, get_or-set_same}
 use Rattle.std.specs.Prelude.{slice_index, slice_set}
 use Rattle.staat_graph.specs.Graphs.{AreReversed, HasArc}
 use Rattle.staat_graph.proofs.Finite.{same_or}

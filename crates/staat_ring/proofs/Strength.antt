@@ -1,7 +1,6 @@
 -- Walks by relations that agree inside a set, and strength from what is reached and what reaches.
 use Rattle.std.specs.Prelude.{ℕ, ◌<◌, ◌↔◌, List}
 use Rattle.staat_model.specs.declared.set.PartSet.{PartSet}
-use Rattle.staat_model.specs.Bridges.{Back}
 use Rattle.staat_model.specs.Sets.{Has, IsSubset}
 use Rattle.staat_graph.specs.Graphs.{HasArc, IsReach, IsStrong, Walks, here, along}
 use Rattle.staat_graph.proofs.Walking.{joined, reach_back, turned, turned_back, walk_starts}

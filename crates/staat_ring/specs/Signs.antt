@@ -1,6 +1,6 @@
 -- The signs of planes, and the pairs of pieces whose facets are positive with them.
 use Rattle.std.specs.Prelude.{◌≡◌, ℕ, ◌+◌, ◌<◌, ◌≤◌, List, [], ◌∷◌, ◌++◌, Bool}
-use Rattle.std.specs.Prelude.{true, false, length, All, slice_index_or}
+use Rattle.std.specs.Prelude.{true, false, length, All, slice_index_or, slice_set}
 use Rattle.std.specs.List.{sum_by}
 use Rattle.staat_vec.specs.declared.vector.Sign.{Sign}
 use Rattle.staat_vec.specs.declared.vector.Sign.TheVariants.{Neg, Zero, Pos}
@@ -49,6 +49,10 @@ emptied p = record { positive = 0; wanted = p.wanted; parts = p.parts }
 pub record Signed : Type 0 where
   pub sides : List Side
   pub pairs : List PairCount
+
+-- the plane k is this one
+abbrev pub with_side : ℕ → Side → Signed → Signed
+with_side k side s = record { sides = slice_set s.sides k side; pairs = s.pairs }
 
 -- pair q is one of these parts, and all its facets are positive
 pub record IsBlockingPair (s : Signed) (x q : ℕ) : Type 0 where

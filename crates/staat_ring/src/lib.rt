@@ -23,4 +23,6 @@ pub use entry::Entry;
 pub use rings::Rings;
 
 #[cfg(test)]
+mod sign_tests;
+#[cfg(test)]
 mod tests;

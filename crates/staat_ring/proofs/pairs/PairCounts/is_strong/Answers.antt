@@ -1,4 +1,3 @@
-use Rattle.std.proofs.Common.{ℕ, List, subst, sym}
 use Rattle.staat_ring.proofs.PairLemmas.{full_strong}
 use Rattle.staat_ring.proofs.pairs.PairCounts.is_strong.Goals as goal
 
