@@ -15,6 +15,7 @@ mod linking;
 mod nodes;
 mod order;
 mod pairs;
+mod plane_number;
 mod reading;
 mod rings;
 mod signs;
@@ -25,5 +26,7 @@ pub use entry::Entry;
 pub use rings::Rings;
 pub use walk::Walk;
 
+#[cfg(test)]
+mod sign_tests;
 #[cfg(test)]
 mod tests;
