@@ -218,7 +218,6 @@ pub fn part_step_rings<L: Ledger>(
     requires made { BelongTo table.now walk.old.signs }
     requires rings { WereMadeFrom table.now.planes rings.now }
     requires set { IsSubset w table.now.of }
-    requires some { IsNonempty w }
     requires two { 2 ≤ set.len w }
     requires linked { (parts : List PartValue) → WasMadeFrom parts table.now → (k : ℕ) (n : Vector)
         → slice_get table.now.planes k ≡ Some n → Contains (linked_of rings.now.rings) k

@@ -9,6 +9,7 @@ use Rattle.staat_ring.specs.Rings.{Ring, linked_of}
 use Rattle.staat_ring.specs.Stepping.{count_below}
 use Rattle.staat_ring.proofs.SignAll.{count_all}
 use Rattle.staat_plan.specs.RingSearches.{NoneServes, lengths_below}
+use Rattle.staat_plan.proofs.OutcomeLemmas.{some_member}
 use Rattle.staat_plan.proofs.RingLengths.{lengths_past, lengths_rise}
 use Rattle.staat_plan.proofs.RingStepLaw.{has_no_step, is_stuck}
 use Rattle.staat_plan.proofs.ring_step.part_step_rings.Goals as goal
@@ -119,3 +120,6 @@ returns-clause-step g c parts made =
       has_no_step parts c.args.table.now c.args.w c.len-len.ensures.rules rings (unlinked_of c.args.rings.now.unlinked) c.requires.rings.now made c.requires.set (c.requires.linked parts made) none,
       is_stuck parts c.args.table.now c.args.w c.len-len.ensures.rules rings (unlinked_of c.args.rings.now.unlinked) c.requires.rings.now made c.requires.set (c.requires.linked parts made) none c.requires.two,
     )
+
+pub search-requires-clause-some : goal.search-requires-clause-some
+search-requires-clause-some g c = some_member c.args.w (let two = c.requires.two in omega (arith, two))
