@@ -24,6 +24,7 @@ mod walk;
 
 pub use entry::Entry;
 pub use rings::Rings;
+pub use vertex::Crossing;
 pub use walk::Walk;
 
 #[cfg(test)]

@@ -1,0 +1,32 @@
+use Rattle.std.proofs.Common.{◌≡◌, inl, inr, arith, ap, sym, ◌∙◌, refl}
+use Rattle.std.specs.Prelude.{Some, None}
+use Rattle.staat_plan.specs.declared.ring_step.Serving.{Serving}
+use Rattle.staat_plan.specs.RingSearches.{pair_key}
+use Rattle.staat_plan.proofs.ring_step.better.Goals as goal
+
+same : (x y : Serving) → Some x ≡ Some y → x ≡ y
+same x y e = cc
+
+pub returns-in-None : goal.returns-in-None
+returns-in-None c = record { one = c.args.f; is = refl; least = omega arith; which = inl refl; before = λ h e. absurd (none h (sym c.in-None.is ∙ e)) }
+  where
+    none : (h : Serving) → None ≡ Some h → ⊥
+    none h e = cc
+
+pub returns-then-pair_key : goal.returns-then-pair_key
+returns-then-pair_key c = record {
+  one = c.in-Some.h;
+  is = refl;
+  least = (let a = c.pair_key.ensures in let b = c.pair_key-in-Some.ensures in let t = c.if-pair_key.true in omega (arith, a, b, t));
+  which = inr c.in-Some.is;
+  before = λ h e. let q = ap (λ (x : Serving). pair_key x.entry) (same c.in-Some.h h (sym c.in-Some.is ∙ e)) in omega (arith, q);
+}
+
+pub returns-else-pair_key : goal.returns-else-pair_key
+returns-else-pair_key c = record {
+  one = c.args.f;
+  is = refl;
+  least = omega arith;
+  which = inl refl;
+  before = λ h e. let q = ap (λ (x : Serving). pair_key x.entry) (same c.in-Some.h h (sym c.in-Some.is ∙ e)) in let a = c.pair_key.ensures in let b = c.pair_key-in-Some.ensures in let t = c.if-pair_key.false in omega (arith, a, b, t, q);
+}

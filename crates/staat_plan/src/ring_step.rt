@@ -1,0 +1,242 @@
+// The step of a set of parts, by a walk along the circles of its planes.
+ghost use Rattle.std.specs.Prelude.{
+  ◌≡◌,
+  ◌↔◌,
+  ℕ,
+  ◌+◌,
+  ◌-◌,
+  ◌*◌,
+  ◌^◌,
+  ◌<◌,
+  ◌≤◌,
+  List,
+  Contains,
+};
+ghost use Rattle.std.specs.Prelude.{MatchOption, None, Some, false, length, min, slice_get};
+ghost use Rattle.std.specs.FinSet as set;
+ghost use Rattle.staat_vec.specs.declared.vector.V3.{V3 as Vector};
+ghost use Rattle.staat_vec.specs.Vectors.{IsWithin};
+ghost use Rattle.staat_model.specs.declared.assembly.Part.{Part as PartValue};
+ghost use Rattle.staat_model.specs.Outcomes.{HasNoStep, IsStep, try_vertex};
+ghost use Rattle.staat_model.specs.Plans.{IsStuck};
+ghost use Rattle.staat_model.specs.Sets.{IsNonempty, IsSubset};
+ghost use Rattle.staat_pairs.specs.Tables.{WasMadeFrom};
+ghost use Rattle.staat_planes.specs.Tables.{IsPlaneOf};
+ghost use Rattle.staat_plan.specs.RingSearches.{HasServing, IsBest, IsBetter, IsLater, NoStopServes, NoneServes};
+ghost use Rattle.staat_plan.specs.RingSearches.{lengths_below, pair_key};
+ghost use Rattle.staat_ring.specs.Belonging.{BelongTo, HasAll};
+ghost use Rattle.staat_ring.specs.Places.{IsStopAt};
+ghost use Rattle.staat_ring.specs.Rings.{Ring, RingStop, WereMadeFrom, crossing, linked_of};
+ghost use Rattle.staat_ring.specs.Stepping.{count_below};
+ghost use Rattle.staat_ring.specs.Walked.{IsEntered};
+
+use staat_graph::{is_strong, sink_of};
+use staat_model::{PartSet, Step};
+use staat_planes::{PlaneTable, Steps};
+use staat_ring::{Crossing, Entry, Rings, Walk};
+use staat_vec::DIRECTION;
+use std::sync::ledger::Ledger;
+
+// A plane through a vertex of a circle that serves, and the side that moves along the vertex.
+#[derive(Clone, Copy)]
+struct Serving {
+    entry: Entry,
+    moved: PartSet,
+}
+
+// where a plane and its sense stand in the order of the vertices of a circle
+fn pair_key(e: Entry) -> u32
+    requires { e.plane < 1024 }
+    ensures { result ≡ pair_key e }
+{
+    2 * e.plane + e.turned as u32
+}
+
+// the one that comes first in the order of pairs
+fn better(best: Option<Serving>, f: Serving) -> Option<Serving>
+    requires small { f.entry.plane < 1024 }
+    requires best { (h : Serving) → best ≡ Some h → h.entry.plane < 1024 }
+    ensures { IsBetter best f result }
+{
+    match best {
+        None => Some(f),
+        Some(h) => {
+            if pair_key(h.entry) < pair_key(f.entry) {
+                Some(h)
+            } else {
+                Some(f)
+            }
+        }
+    }
+}
+
+// the best of what was found before, and what the walk finds at its vertex on the circle i
+fn look(
+    table: &PlaneTable,
+    rings: &Rings,
+    walk: &Walk,
+    w: PartSet,
+    i: u32,
+    best: Option<Serving>,
+) -> Option<Serving>
+    requires made { BelongTo table.now walk.now.signs }
+    requires rings { WereMadeFrom table.now.planes rings.now }
+    requires entered { IsEntered table.now.planes rings.now.rings walk.now }
+    requires circle { walk.now.circle ≡ i }
+    requires set { IsSubset w table.now.of }
+    requires some { IsNonempty w }
+    requires linked { (parts : List PartValue) → WasMadeFrom parts table.now
+        → HasAll parts w table.now.planes (linked_of rings.now.rings) }
+    requires best { (h : Serving) → best ≡ Some h → IsLater i (length table.now.planes) h }
+    ensures placed { (h : Serving) → result ≡ Some h → IsLater i (length table.now.planes) h }
+    ensures best { (parts : List PartValue) → WasMadeFrom parts table.now → (s : RingStop)
+        → (at : IsStopAt rings.now.rings i walk.now.place s) → s.node ≡ walk.now.node
+        → IsBest parts table.now.planes w i at.ring.stops walk.now.place best
+        → IsBest parts table.now.planes w i at.ring.stops (walk.now.place + 1) result }
+{
+    let _len = table.len();
+    let graph = walk.graph();
+    if is_strong(&graph, w) {
+        return best;
+    }
+    match walk.entry_after(table, rings, i) {
+        None => best,
+        Some(entry) => better(
+            best,
+            Serving {
+                entry,
+                moved: sink_of(&graph, w),
+            },
+        ),
+    }
+}
+
+// the best of what the walk finds on the circle i
+fn search_circle<L: Ledger>(
+    table: &PlaneTable,
+    rings: &Rings,
+    walk: &mut Walk,
+    w: PartSet,
+    i: u32,
+    steps: &mut Steps<L>,
+) -> Option<Serving>
+    requires made { BelongTo table.now walk.old.signs }
+    requires rings { WereMadeFrom table.now.planes rings.now }
+    requires circle { Contains (linked_of rings.now.rings) i }
+    requires set { IsSubset w table.now.of }
+    requires some { IsNonempty w }
+    requires linked { (parts : List PartValue) → WasMadeFrom parts table.now
+        → HasAll parts w table.now.planes (linked_of rings.now.rings) }
+    ensures made { BelongTo table.now walk.new.signs }
+    ensures steps { steps.new ≤ steps.old + length rings.now.rings }
+    ensures crossed { (r : Ring) → Contains rings.now.rings r → r.plane ≡ i
+        → walk.new.crossed ≡ min (walk.old.crossed + length r.stops) (2 ^ 64 - 1) }
+    ensures placed { (h : Serving) → result ≡ Some h → IsLater i (length table.now.planes) h }
+    ensures best { (parts : List PartValue) → WasMadeFrom parts table.now → (r : Ring)
+        → Contains rings.now.rings r → r.plane ≡ i
+        → IsBest parts table.now.planes w i r.stops (length r.stops) result }
+{
+    walk.enter(table, rings, i, steps);
+    let mut best = None;
+    'stops: loop {
+        best = look(table, rings, walk, w, i, best);
+        if !walk.cross(table, rings) {
+            return best;
+        }
+    }
+}
+
+// the same, and nothing where the plane i is not linked
+fn search<L: Ledger>(
+    table: &PlaneTable,
+    rings: &Rings,
+    walk: &mut Walk,
+    w: PartSet,
+    i: u32,
+    steps: &mut Steps<L>,
+) -> Option<Serving>
+    requires plane { i < length table.now.planes }
+    requires made { BelongTo table.now walk.old.signs }
+    requires rings { WereMadeFrom table.now.planes rings.now }
+    requires set { IsSubset w table.now.of }
+    requires some { IsNonempty w }
+    requires linked { (parts : List PartValue) → WasMadeFrom parts table.now → (k : ℕ) (n : Vector)
+        → slice_get table.now.planes k ≡ Some n → Contains (linked_of rings.now.rings) k
+        ↔ IsPlaneOf parts w n }
+    ensures made { BelongTo table.now walk.new.signs }
+    ensures steps { steps.new + count_below i (linked_of rings.now.rings) * length rings.now.rings
+        ≤ steps.old + count_below (i + 1) (linked_of rings.now.rings) * length rings.now.rings }
+    ensures crossed { (more : ℕ)
+        → lengths_below (i + 1) rings.now.rings ≡ lengths_below i rings.now.rings + more
+        → min (walk.old.crossed + more) (2 ^ 64 - 1) ≤ walk.new.crossed }
+    ensures placed { (f : Serving) → result ≡ Some f → IsLater i (length table.now.planes) f }
+    ensures some { (parts : List PartValue) (f : Serving) → WasMadeFrom parts table.now → result ≡ Some f
+        → HasServing parts table.now.planes w rings.now.rings i }
+    ensures step { (parts : List PartValue) (f : Serving) → WasMadeFrom parts table.now → result ≡ Some f
+        → NoneServes parts table.now.planes w (linked_of rings.now.rings) i
+        → IsStep false parts w (try_vertex (crossing table.now.planes i f.entry)) f.moved }
+    ensures none { (parts : List PartValue) → WasMadeFrom parts table.now → result ≡ None
+        → NoneServes parts table.now.planes w (linked_of rings.now.rings) i
+        → NoneServes parts table.now.planes w (linked_of rings.now.rings) (i + 1) }
+{
+    let _len = table.len();
+    if !rings.is_linked(i) {
+        return None;
+    }
+    search_circle(table, rings, walk, w, i, steps)
+}
+
+// the step along the vertex that was found on the circle i
+fn step_of(table: &PlaneTable, i: u32, found: Serving) -> Step
+    requires i { i < length table.now.planes }
+    requires plane { found.entry.plane < length table.now.planes }
+    requires later { i < found.entry.plane }
+    ensures moved { result.moved ≡ found.moved }
+    ensures d { result.d ≡ crossing table.now.planes i found.entry }
+    ensures within { IsWithin DIRECTION result.d }
+{
+    let d = Crossing::of(table, i, found.entry).direction();
+    Step {
+        moved: found.moved,
+        d,
+    }
+}
+
+/// The step of the set `w` of parts: along the first vertex of its planes, in the order of pairs, that serves. None
+/// where the set is stuck. For a table of `w` it is the answer of [`part_step`](crate::part_step).
+///
+/// The linked planes are those of `w`. The walk goes along whole circles, in the order of the table, up to the first
+/// on which a vertex serves. For n linked planes it computes at most n n signs, n where it enters a circle. It takes
+/// no memory.
+pub fn part_step_rings<L: Ledger>(
+    table: &PlaneTable,
+    rings: &Rings,
+    walk: &mut Walk,
+    w: PartSet,
+    steps: &mut Steps<L>,
+) -> Option<Step>
+    requires made { BelongTo table.now walk.old.signs }
+    requires rings { WereMadeFrom table.now.planes rings.now }
+    requires set { IsSubset w table.now.of }
+    requires two { 2 ≤ set.len w }
+    requires linked { (parts : List PartValue) → WasMadeFrom parts table.now → (k : ℕ) (n : Vector)
+        → slice_get table.now.planes k ≡ Some n → Contains (linked_of rings.now.rings) k
+        ↔ IsPlaneOf parts w n }
+    ensures made { BelongTo table.now walk.new.signs }
+    ensures steps { steps.new ≤ steps.old + length rings.now.rings * length rings.now.rings }
+    ensures crossed { (parts : List PartValue) (k : ℕ) → WasMadeFrom parts table.now
+        → k < length table.now.planes
+        → NoStopServes parts table.now.planes w rings.now.rings k
+        → min (walk.old.crossed + lengths_below (k + 1) rings.now.rings) (2 ^ 64 - 1) ≤ walk.new.crossed }
+    ensures step { (parts : List PartValue) → WasMadeFrom parts table.now
+        → MatchOption result (HasNoStep false parts w × IsStuck parts w)
+        (λ s. IsStep false parts w (try_vertex s.d) s.moved) }
+{
+    let _len = table.len();
+    for i in 0..table.len() {
+        if let Some(found) = search(table, rings, walk, w, i, steps) {
+            return Some(step_of(table, i, found));
+        }
+    }
+    None
+}
