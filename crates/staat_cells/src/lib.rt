@@ -2,6 +2,7 @@
 #![tactic(auto)]
 
 mod all;
+mod blocks;
 mod cell;
 mod change;
 mod compose;
@@ -12,7 +13,6 @@ mod incidence;
 pub mod laws;
 mod open_incidences;
 mod part_arcs;
-mod plane_set;
 mod points;
 mod signs;
 mod skeleton;

@@ -20,7 +20,7 @@ use staat_cells::{Cell, CellGraphs, Cells};
 use staat_graph::Graph;
 use staat_model::{Kind, MOST_PARTS, TEXT_LIMIT, TextRefusal};
 use staat_number::push_number;
-use staat_planes::{MOST_CELL_PLANES, PlaneTable};
+use staat_planes::PlaneTable;
 use staat_vec::{Bytes, V3};
 use std::alloc::{AllocError, Global};
 
@@ -189,8 +189,8 @@ fn hold_cells(
 
 /// The text of the cells of the table's planes, or its length in bytes where that is above [`TEXT_LIMIT`].
 ///
-/// The table has at most [`MOST_CELL_PLANES`] planes, its set is that of the parts below `parts`, at most
-/// [`MOST_PARTS`] of them, and the cells are all those of its planes.
+/// The table's set is that of the parts below `parts`, at most [`MOST_PARTS`] of them, and the cells are all those of
+/// its planes.
 ///
 /// It has the line `planes N points P edges E open O`; then for each cell in order a line of its kind, the three
 /// numbers of its representative and the arcs ` A>B` of the blocking graph, ascending by `A` and then by `B`, or ` -`
@@ -202,7 +202,6 @@ pub fn cells_text(
     parts: u32,
 ) -> Result<Bytes, TextRefusal>
     requires parts { parts ≤ MOST_PARTS }
-    requires few { length table.now.planes ≤ MOST_CELL_PLANES }
     requires set { table.now.of ≡ below parts }
     requires cells { AreCells table.now.planes (map entry_of cells.now) }
     ensures { (all : List PartValue) → WasMadeFrom all table.now → IsCellsAnswer all parts result }
