@@ -11,6 +11,7 @@ mod graphs;
 mod half_spaces;
 mod incidence;
 pub mod laws;
+mod narrow;
 mod open_incidences;
 mod part_arcs;
 mod points;
