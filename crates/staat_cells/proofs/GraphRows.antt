@@ -1,10 +1,10 @@
--- The rows of the graph of a cell, arc by arc.
+-- The rows of the graph of a cell, block by block.
 use Rattle.std.proofs.Common.{◌≡◌, ◌≢◌, ◌⊎◌, ◌↔◌, inl, inr, ⊎_elim, ℕ, ◌+◌, ◌<◌}
 use Rattle.std.proofs.Common.{◌≤◌, refl, sym, ap, subst, ◌∙◌, arith}
-use Rattle.std.proofs.Common.{List, [], ◌∷◌, ◌++◌, length, get_or, replicate, take, Any, Contains}
+use Rattle.std.proofs.Common.{List, [], length, get_or, replicate, take, Any}
 use Rattle.std.specs.Prelude.{slice_index, slice_set}
 use Rattle.std.specs.Int.{bit_at}
-use Rattle.std.proofs.lemmas.List.{get_or_past, get_or-replicate, length-set, take_all, take_more}
+use Rattle.std.proofs.lemmas.List.{get_or_past, get_or-replicate, length-set, take_all}
 use Rattle.std.proofs.lemmas.Nat.Bits.{bit_at-zero}
 use Rattle.staat_vec.specs.declared.vector.V3.{V3}
 use Rattle.staat_vec.specs.declared.vector.Sign.{Sign}
@@ -15,104 +15,146 @@ use Rattle.staat_graph.specs.Graphs.{HasArc}
 use Rattle.staat_graph.proofs.Arcs.{row_set}
 use Rattle.staat_pairs.specs.Tables.{Table, WasMadeFrom}
 use Rattle.staat_planes.proofs.GraphLaw.{arcs_are_blocking, shows_blocking}
-use Rattle.staat_cells.specs.declared.part_arcs.PartArc.{PartArc}
+use Rattle.staat_cells.specs.declared.blocks.ArcCones.{ArcCones}
+use Rattle.staat_cells.specs.declared.blocks.Block.{Block}
+use Rattle.staat_cells.specs.declared.blocks.PlaneTest.{PlaneTest}
+use Rattle.staat_cells.specs.Blocks.{IsBlockArc, IsLeft, PassesAll}
 use Rattle.staat_cells.specs.CellGraphs.{HasArcsOf, IsArcAt, IsCellGraph}
-use Rattle.staat_cells.specs.HalfSpaces.{AreAmong, AreAround, AreInside}
-use Rattle.staat_cells.specs.declared.half_spaces.HalfSpaces.{HalfSpaces}
-use Rattle.staat_cells.proofs.Cones.{around_any}
-use Rattle.staat_cells.proofs.PartArcs.{arc_pushed}
-
--- the rows have the arcs of the first pieces
-pub record HasArcsUpTo (rows : List ℕ) (arcs : List PartArc) (signs : List Sign) (k : ℕ) : Type 0 where
-  pub long : length rows ≡ 32
-  pub has : (a b : ℕ) → HasArc rows a b ↔ IsArcAt (take k arcs) signs a b
+use Rattle.staat_cells.proofs.Elements.{any_more}
+use Rattle.staat_cells.proofs.PushingIncidences.{either_more}
 
 lt_or : (a b : ℕ) → (a < b) ⊎ (b ≤ a)
 lt_or a b = grind arith
 
-pub no_rows : (arcs : List PartArc) (signs : List Sign) → HasArcsUpTo (replicate 32 0) arcs signs 0
-no_rows arcs signs = record {
-  long = refl;
-  has = λ a b. (
-    λ h. absurd (none a b h),
-    λ h. absurd (nothing h.parts h.listed),
-  );
+-- ---- the arcs of a block
+
+-- these are parts with a cone that is not ruled out
+abbrev pub IsArcLeft : ℕ → ℕ → ℕ → ArcCones → Type 0
+IsArcLeft outside a b arc = (arc.a ≡ a) × (arc.b ≡ b) × IsLeft arc outside
+
+-- the rows have grown by the parts with a cone that is not ruled out
+pub record AddsLeft (outside : ℕ) (arcs : List ArcCones) (old new : List ℕ) : Type 0 where
+  pub long : length old ≡ 32 → length new ≡ 32
+  pub has : (a b : ℕ) → HasArc new a b ↔ (HasArc old a b ⊎ Any (IsArcLeft outside a b) arcs)
+
+pub none_left : (outside : ℕ) (rows : List ℕ) → AddsLeft outside [] rows rows
+none_left outside rows = record {
+  long = λ e. e;
+  has = λ a b. (λ h. inl h, ⊎_elim (λ h. h) (λ p. absurd (let lt = p.2 in omega (arith, lt))));
 }
+
+one_left : (outside word : ℕ) (x : ArcCones) (rows : List ℕ) → x.a < length rows
+    → ((q : ℕ) → (bit_at word q ≡ 1) ↔ ((bit_at (slice_index rows x.a) q ≡ 1) ⊎ ((q ≡ x.b)
+    × IsLeft x outside)))
+    → (a b : ℕ) → HasArc (slice_set rows x.a word) a b ↔ (HasArc rows a b ⊎ IsArcLeft outside a b x)
+one_left outside word x rows lt bits a =
+    row_set rows x.a a word (λ p q. HasArc rows p q ⊎ IsArcLeft outside p q x) lt own other
   where
-    zero_row : (a : ℕ) → slice_index (replicate 32 0) a ≡ 0
-    zero_row a = ⊎_elim (λ lt. get_or-replicate 32 a 0 0 lt) (λ le. get_or_past (replicate 32 0) a 0 le)
-        (lt_or a 32)
-
-    none : (a b : ℕ) → HasArc (replicate 32 0) a b → ⊥
-    none a b h = let e : bit_at (slice_index (replicate 32 0) a) b ≡ 0 =
-        ap (λ r. bit_at r b) (zero_row a) ∙ bit_at-zero b in absurd (omega (arith, e, h))
-
-    nothing : (x : PartArc) → Contains [] x → ⊥
-    nothing x c = let lt = c.1 in omega (arith, lt)
-
-pub rows_after : (rows : List ℕ) (arcs : List PartArc) (signs : List Sign) (k word : ℕ) (x : PartArc)
-    → k < length arcs → x ≡ get_or arcs k x → x.a < 32
-    → ((q : ℕ) → (bit_at word q ≡ 1) ↔
-    ((bit_at (slice_index rows x.a) q ≡ 1) ⊎ ((q ≡ x.b) × Any (AreInside signs) x.cones)))
-    → HasArcsUpTo rows arcs signs k → HasArcsUpTo (slice_set rows x.a word) arcs signs (k + 1)
-rows_after rows arcs signs k word x lt at small bits before = record {
-  long = length-set rows x.a word ∙ before.long;
-  has = λ y. row_set rows x.a y word (IsArcAt (take (k + 1) arcs) signs) (let e = before.long in
-      omega (arith, e, small)) own (other y);
-}
-  where
-    grown : take (k + 1) arcs ≡ take k arcs ++ x ∷ []
-    grown = take_more arcs k x lt ∙ ap (λ y. take k arcs ++ y ∷ []) (sym at)
-
-    more : (a b : ℕ) → IsArcAt (take (k + 1) arcs) signs a b
-        ↔ (IsArcAt (take k arcs) signs a b ⊎ ((x.a ≡ a) × (x.b ≡ b) × Any (AreInside signs) x.cones))
-    more a b = subst (λ l. IsArcAt l signs a b
-        ↔ (IsArcAt (take k arcs) signs a b ⊎ ((x.a ≡ a) × (x.b ≡ b) × Any (AreInside signs) x.cones)))
-        (sym grown) (arc_pushed (take k arcs) x signs a b)
-
-    own : (q : ℕ) → (bit_at word q ≡ 1) ↔ IsArcAt (take (k + 1) arcs) signs x.a q
+    own : (q : ℕ) → (bit_at word q ≡ 1) ↔ (HasArc rows x.a q ⊎ IsArcLeft outside x.a q x)
     own q = (
-      λ h. (more x.a q).1 (⊎_elim {C = IsArcAt (take k arcs) signs x.a q
-          ⊎ ((x.a ≡ x.a) × (x.b ≡ q) × Any (AreInside signs) x.cones)}
-          (λ l. inl ((before.has x.a q).0 l)) (λ e. inr (refl, sym e.0, e.1)) ((bits q).0 h)),
-      λ h. (bits q).1 (⊎_elim {C = (bit_at (slice_index rows x.a) q ≡ 1)
-          ⊎ ((q ≡ x.b) × Any (AreInside signs) x.cones)}
-          (λ l. inl ((before.has x.a q).1 l)) (λ e. inr (sym e.1, e.2)) ((more x.a q).0 h)),
+      λ h. ⊎_elim {C = HasArc rows x.a q ⊎ IsArcLeft outside x.a q x} (λ o. inl o)
+          (λ p. inr (refl, sym p.0, p.1)) ((bits q).0 h),
+      λ h. (bits q).1 (⊎_elim {C = HasArc rows x.a q ⊎ ((q ≡ x.b) × IsLeft x outside)} (λ o. inl o)
+          (λ p. inr (sym p.1, p.2)) h),
     )
 
-    other : (y q : ℕ) → y ≢ x.a → HasArc rows y q ↔ IsArcAt (take (k + 1) arcs) signs y q
-    other y q ne = (
-      λ h. (more y q).1 (inl ((before.has y q).0 h)),
-      λ h. (before.has y q).1 (⊎_elim {C = IsArcAt (take k arcs) signs y q} (λ l. l) (λ e. absurd (ne (sym e.0)))
-          ((more y q).0 h)),
-    )
+    other : (q : ℕ) → a ≢ x.a → HasArc rows a q ↔ (HasArc rows a q ⊎ IsArcLeft outside a q x)
+    other q ne = (λ h. inl h, ⊎_elim {C = HasArc rows a q} (λ h. h) (λ p. absurd (ne (sym p.0))))
 
--- the half-spaces round the cell tell whether a row gets an arc
-pub row_by_cell : (signs : List Sign) (cell : HalfSpaces) (x : PartArc) (row word : ℕ) → AreAround signs cell
-    → ((q : ℕ) → (bit_at word q ≡ 1) ↔
-    ((bit_at row q ≡ 1) ⊎ ((q ≡ x.b) × Any (λ cone. AreAmong cone cell) x.cones)))
-    → (q : ℕ) → (bit_at word q ≡ 1) ↔
-    ((bit_at row q ≡ 1) ⊎ ((q ≡ x.b) × Any (AreInside signs) x.cones))
-row_by_cell signs cell x row word around bits q = (
-  λ h. ⊎_elim {C = (bit_at row q ≡ 1) ⊎ ((q ≡ x.b) × Any (AreInside signs) x.cones)} (λ l. inl l)
-      (λ e. inr (e.0, (around_any signs cell x.cones around).0 e.1)) ((bits q).0 h),
-  λ h. (bits q).1 (⊎_elim {C = (bit_at row q ≡ 1) ⊎ ((q ≡ x.b) × Any (λ cone. AreAmong cone cell) x.cones)}
-      (λ l. inl l)
-      (λ e. inr (e.0, (around_any signs cell x.cones around).1 e.1)) h),
-)
+pub left_more : (outside word k : ℕ) (arcs : List ArcCones) (x : ArcCones) (old mid : List ℕ) → length old ≡ 32
+    → k < length arcs → x ≡ get_or arcs k x → x.a < 32
+    → ((q : ℕ) → (bit_at word q ≡ 1) ↔ ((bit_at (slice_index mid x.a) q ≡ 1) ⊎ ((q ≡ x.b)
+    × IsLeft x outside)))
+    → AddsLeft outside (take k arcs) old mid → AddsLeft outside (take (k + 1) arcs) old (slice_set mid x.a word)
+left_more outside word k arcs x old mid is lt at small bits before = record {
+  long = λ e. length-set mid x.a word ∙ before.long e;
+  has = λ a b. either_more (before.has a b)
+      (one_left outside word x mid (let e = before.long is in omega (arith, e, small)) bits a b)
+      (any_more (IsArcLeft outside a b) arcs k x lt at);
+}
 
-pub graph_is : (t : Table) (arcs : List PartArc) (signs : List Sign) (rows : List ℕ) (k : ℕ) → length arcs ≤ k
-    → HasArcsUpTo rows arcs signs k → HasArcsOf t arcs
-    → IsCellGraph t signs rows
-graph_is t arcs signs rows k le all tells d e a b = (
-  λ h. (tells d a b).0 (subst (λ s. IsArcAt arcs s a b) (sym e)
-      (subst (λ l. IsArcAt l signs a b) whole ((all.has a b).0 h))),
-  λ h. (all.has a b).1 (subst (λ l. IsArcAt l signs a b) (sym whole)
-      (subst (λ s. IsArcAt arcs s a b) e ((tells d a b).1 h))),
+pub block_arcs : (block : Block) (signs : List Sign) (outside k : ℕ) (arcs : List ArcCones) (tests : List PlaneTest)
+    (old new : List ℕ) → arcs ≡ block.arcs.items → tests ≡ block.tests.items → length arcs ≤ k
+    → ((j : ℕ) → (bit_at outside j ≡ 0) ↔ PassesAll signs tests j)
+    → AddsLeft outside (take k arcs) old new
+    → (a b : ℕ) → HasArc new a b ↔ (HasArc old a b ⊎ IsBlockArc block signs a b)
+block_arcs block signs outside k arcs tests old new arcs_are tests_are le ruled all a b = (
+  λ h. ⊎_elim {C = HasArc old a b ⊎ IsBlockArc block signs a b} (λ o. inl o) (λ p. inr (from (whole.0 p)))
+      ((all.has a b).0 h),
+  ⊎_elim {C = HasArc new a b} (λ o. (all.has a b).1 (inl o)) (λ p. (all.has a b).1 (inr (whole.1 (to p)))),
 )
   where
-    whole : take k arcs ≡ arcs
-    whole = take_all k arcs le
+    Left : List ArcCones → Type 0
+    Left l = Any (IsArcLeft outside a b) l
+
+    whole : Left (take k arcs) ↔ Left block.arcs.items
+    whole = (subst Left (take_all k arcs le ∙ arcs_are), subst Left (sym (take_all k arcs le ∙ arcs_are)))
+
+    from : Left block.arcs.items → IsBlockArc block signs a b
+    from (i, x, lt, e, (a_is, b_is, (j, one, out))) = record {
+      cone = j;
+      has = (i, x, lt, e, (a_is, b_is, one));
+      passes = subst (λ l. PassesAll signs l j) tests_are ((ruled j).0 out);
+    }
+
+    to : IsBlockArc block signs a b → Left block.arcs.items
+    to h = let (i, x, lt, e, (a_is, b_is, one)) = h.has in (
+      i,
+      x,
+      lt,
+      e,
+      (
+        a_is,
+        b_is,
+        (
+          h.cone,
+          one,
+          (ruled h.cone).1 (subst (λ l. PassesAll signs l h.cone) (sym tests_are) h.passes),
+        ),
+      ),
+    )
+
+-- ---- all blocks
+
+-- the rows have the arcs of the first blocks
+abbrev pub HasArcsUpTo : List ℕ → List Block → List Sign → ℕ → Type 0
+HasArcsUpTo rows blocks signs k = (a b : ℕ) → HasArc rows a b ↔ IsArcAt (take k blocks) signs a b
+
+pub no_rows : (blocks : List Block) (signs : List Sign) → HasArcsUpTo (replicate 32 0) blocks signs 0
+no_rows blocks signs a b = (λ h. absurd (none h), λ h. absurd (let lt = h.2 in omega (arith, lt)))
+  where
+    zero_row : slice_index (replicate 32 0) a ≡ 0
+    zero_row = ⊎_elim (λ lt. get_or-replicate 32 a 0 0 lt) (λ le. get_or_past (replicate 32 0) a 0 le) (lt_or a 32)
+
+    none : HasArc (replicate 32 0) a b → ⊥
+    none h = let e : bit_at (slice_index (replicate 32 0) a) b ≡ 0 =
+        ap (λ r. bit_at r b) zero_row ∙ bit_at-zero b in absurd (omega (arith, e, h))
+
+pub rows_after : (blocks : List Block) (signs : List Sign) (k : ℕ) (x : Block) (old new : List ℕ)
+    → k < length blocks → x ≡ get_or blocks k x
+    → ((a b : ℕ) → HasArc new a b ↔ (HasArc old a b ⊎ IsBlockArc x signs a b))
+    → HasArcsUpTo old blocks signs k → HasArcsUpTo new blocks signs (k + 1)
+rows_after blocks signs k x old new lt at grew before a b =
+    let more = any_more (λ block. IsBlockArc block signs a b) blocks k x lt at in (
+      λ h. more.1 (⊎_elim {C = IsArcAt (take k blocks) signs a b ⊎ IsBlockArc x signs a b}
+          (λ o. inl ((before a b).0 o)) (λ p. inr p) ((grew a b).0 h)),
+      λ h. (grew a b).1 (⊎_elim {C = HasArc old a b ⊎ IsBlockArc x signs a b}
+          (λ o. inl ((before a b).1 o)) (λ p. inr p) (more.0 h)),
+    )
+
+pub graph_is : (t : Table) (blocks : List Block) (signs : List Sign) (rows : List ℕ) (k : ℕ)
+    → length blocks ≤ k
+    → HasArcsUpTo rows blocks signs k → HasArcsOf t blocks
+    → IsCellGraph t signs rows
+graph_is t blocks signs rows k le all tells d e a b = (
+  λ h. (tells d a b).0 (subst (λ s. IsArcAt blocks s a b) (sym e)
+      (subst (λ l. IsArcAt l signs a b) whole ((all a b).0 h))),
+  λ h. (all a b).1 (subst (λ l. IsArcAt l signs a b) (sym whole)
+      (subst (λ s. IsArcAt blocks s a b) e ((tells d a b).1 h))),
+)
+  where
+    whole : take k blocks ≡ blocks
+    whole = take_all k blocks le
 
 pub graph_shows : (t : Table) (parts : List Part) (d : V3) (signs : List Sign) (rows : List ℕ)
     → IsCellGraph t signs rows → WasMadeFrom parts t

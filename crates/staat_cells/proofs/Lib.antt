@@ -24,8 +24,10 @@ pub mod VertexSigns
 pub mod EdgeIncidences
 pub mod Zeros
 pub mod Beside
-pub mod PlaneSets
+pub mod Elements
 pub mod Cones
+pub mod ConeTests
+pub mod BlockCones
 pub mod FacetPlanes
 pub mod PartArcs
 pub mod GraphRows

@@ -1,20 +1,21 @@
 -- Steps of the loops that list parts with the cones of their pieces.
 use Rattle.std.proofs.Common.{◌≡◌, ◌⊎◌, ◌↔◌, inl, inr, ⊎_elim, ℕ, ◌+◌, ◌<◌, ◌≤◌}
 use Rattle.std.proofs.Common.{refl, sym, ap, subst, ◌∙◌, arith}
-use Rattle.std.proofs.Common.{List, [], ◌∷◌, ◌++◌, All, Any, Contains}
-use Rattle.std.proofs.lemmas.List.Elements.{All-push, Contains-append_left, Contains-push, Contains-push_cases}
+use Rattle.std.proofs.Common.{List, [], ◌∷◌, ◌++◌, length, get_or, take, All, Any}
+use Rattle.std.proofs.lemmas.List.{take_all}
 use Rattle.staat_vec.specs.declared.vector.V3.{V3}
 use Rattle.staat_vec.specs.declared.vector.Sign.{Sign}
-use Rattle.staat_model.specs.declared.limits.TheConstants.{MOST_PARTS}
 use Rattle.staat_model.specs.Cells.{signs_of}
 use Rattle.staat_pairs.specs.Searches.{arc_of}
 use Rattle.staat_pairs.specs.Tables.{IsTable, IsTableArc, Table, facets_of, pieces_of}
 use Rattle.staat_planes.specs.Tables.{IsAhead}
-use Rattle.staat_cells.specs.declared.half_spaces.HalfSpaces.{HalfSpaces}
-use Rattle.staat_cells.specs.declared.part_arcs.PartArc.{PartArc}
-use Rattle.staat_cells.specs.CellGraphs.{AddsArcs, AddsCones, ArePartsAhead, HasArcsOf, HasParts, IsArcAt}
+use Rattle.staat_cells.specs.declared.blocks.Block.{Block}
+use Rattle.staat_cells.specs.declared.half_spaces.Side.{Side}
+use Rattle.staat_cells.specs.Blocks.{IsBlock}
+use Rattle.staat_cells.specs.CellGraphs.{AddsArcs, AddsCone, AddsCones, AddsConesOf, ArePartsAhead, HasArcsOf, IsArcAt}
 use Rattle.staat_cells.specs.CellGraphs.{IsFromPart, IsPairAhead, IsPieceAhead}
 use Rattle.staat_cells.specs.HalfSpaces.{AreAhead, AreInside}
+use Rattle.staat_cells.proofs.Elements.{any_more}
 use Rattle.staat_cells.proofs.Numbered.{below_or_at}
 use Rattle.staat_cells.proofs.PushingIncidences.{either_more}
 
@@ -25,10 +26,10 @@ module _ (t : Table) where
   abbrev pub Below : (ℕ → V3 → Type 0) → ℕ → V3 → Type 0
   Below F k d = (j : ℕ) × (j < k) × F j d
 
-  pub no_cones : (F : ℕ → V3 → Type 0) (old : List HalfSpaces) → AddsCones t (Below F 0) old old
+  pub no_cones : (F : ℕ → V3 → Type 0) (old : List (List Side)) → AddsCones t (Below F 0) old old
   no_cones F old d = (λ h. inl h, ⊎_elim (λ h. h) (λ p. absurd (let lt = p.1 in omega (arith, lt))))
 
-  pub more_cones : (F : ℕ → V3 → Type 0) (k : ℕ) (old mid new : List HalfSpaces)
+  pub more_cones : (F : ℕ → V3 → Type 0) (k : ℕ) (old mid new : List (List Side))
       → AddsCones t (Below F k) old mid
       → AddsCones t (F k) mid new → AddsCones t (Below F (k + 1)) old new
   more_cones F k old mid new p q d = either_more (p d) (q d) (from, to)
@@ -42,7 +43,7 @@ module _ (t : Table) where
       to (inl (j, lt, h)) = (j, omega (arith, lt), h)
       to (inr h) = (k, omega arith, h)
 
-  same_cones : (P Q : V3 → Type 0) (old new : List HalfSpaces) → AddsCones t P old new
+  same_cones : (P Q : V3 → Type 0) (old new : List (List Side)) → AddsCones t P old new
       → ((d : V3) → P d ↔ Q d)
       → AddsCones t Q old new
   same_cones P Q old new p both d = (
@@ -53,7 +54,7 @@ module _ (t : Table) where
   )
 
 -- a pair of pieces more
-pub pair_more : (t : Table) (a i b j : ℕ) (old mid new : List HalfSpaces) (cone : HalfSpaces)
+pub pair_more : (t : Table) (a i b j : ℕ) (old mid new : List (List Side)) (cone : List Side)
     → IsTableArc t (arc_of a i b j)
     → AreAhead t.planes (facets_of t (arc_of a i b j)) cone
     → ((signs : List Sign) → Any (AreInside signs) new ↔ (Any (AreInside signs) mid ⊎ AreInside signs cone))
@@ -67,7 +68,7 @@ pair_more t a i b j old mid new cone across ahead grew before =
           (λ p. (grew (signs_of t.planes d)).1 (inr ((ahead d).1 p.1))),
     ))
 
-pub pieces_listed : (t : Table) (a i b k : ℕ) (old new : List HalfSpaces) → pieces_of t b ≤ k
+pub pieces_listed : (t : Table) (a i b k : ℕ) (old new : List (List Side)) → pieces_of t b ≤ k
     → AddsCones t (Below t (IsPairAhead t a i b) k) old new → AddsCones t (IsPieceAhead t a b i) old new
 pieces_listed t a i b k old new le p =
     same_cones t (Below t (IsPairAhead t a i b) k) (IsPieceAhead t a b i) old new p (λ d. (from d, to d))
@@ -79,7 +80,7 @@ pieces_listed t a i b k old new le p =
     to d h = (h.j, (let lt = h.across.j_is in omega (arith, lt, le)), (h.across, h.ahead))
 
 -- all pairs of pieces of two parts, with nothing before
-pub parts_listed : (t : Table) (a b k : ℕ) (new : List HalfSpaces) → pieces_of t a ≤ k
+pub parts_listed : (t : Table) (a b k : ℕ) (new : List (List Side)) → pieces_of t a ≤ k
     → AddsCones t (Below t (IsPieceAhead t a b) k) [] new
     → (d : V3) → Any (AreInside (signs_of t.planes d)) new ↔ IsAhead t d a b
 parts_listed t a b k new le p d = (
@@ -96,22 +97,22 @@ parts_listed t a b k new le p d = (
 
 -- ---- parts
 
-pub adds_none : (t : Table) (P : V3 → ℕ → ℕ → Type 0) (old : List PartArc)
+pub adds_none : (t : Table) (P : V3 → ℕ → ℕ → Type 0) (old : List Block) → All IsBlock old
     → ((d : V3) (a b : ℕ) → P d a b → ⊥) → AddsArcs t P old old
-adds_none t P old none = record {
+adds_none t P old rules none = record {
   arcs = λ d a b. (λ h. inl h, ⊎_elim (λ h. h) (λ p. absurd (none d a b p)));
-  parts = λ h. h;
+  blocks = rules;
 }
 
-adds_both : (t : Table) (P Q R : V3 → ℕ → ℕ → Type 0) (old mid new : List PartArc) → AddsArcs t P old mid
+adds_both : (t : Table) (P Q R : V3 → ℕ → ℕ → Type 0) (old mid new : List Block) → AddsArcs t P old mid
     → AddsArcs t Q mid new
     → ((d : V3) (a b : ℕ) → R d a b ↔ (P d a b ⊎ Q d a b)) → AddsArcs t R old new
 adds_both t P Q R old mid new p q either = record {
   arcs = λ d a b. either_more (p.arcs d a b) (q.arcs d a b) (either d a b);
-  parts = λ h. q.parts (p.parts h);
+  blocks = q.blocks;
 }
 
-pub adds_same : (t : Table) (P Q : V3 → ℕ → ℕ → Type 0) (old new : List PartArc) → AddsArcs t P old new
+pub adds_same : (t : Table) (P Q : V3 → ℕ → ℕ → Type 0) (old new : List Block) → AddsArcs t P old new
     → ((d : V3) (a b : ℕ) → P d a b ↔ Q d a b) → AddsArcs t Q old new
 adds_same t P Q old new p both = record {
   arcs = λ d a b. (
@@ -120,18 +121,19 @@ adds_same t P Q old new p both = record {
     ⊎_elim {C = IsArcAt new (signs_of t.planes d) a b} (λ h. (p.arcs d a b).1 (inl h))
         (λ h. (p.arcs d a b).1 (inr ((both d a b).1 h))),
   );
-  parts = p.parts;
+  blocks = p.blocks;
 }
 
 -- F holds of some number below k
 abbrev pub BelowParts : (ℕ → V3 → ℕ → ℕ → Type 0) → ℕ → V3 → ℕ → ℕ → Type 0
 BelowParts F k d a b = (j : ℕ) × (j < k) × F j d a b
 
-pub below_none : (t : Table) (F : ℕ → V3 → ℕ → ℕ → Type 0) (old : List PartArc)
+pub below_none : (t : Table) (F : ℕ → V3 → ℕ → ℕ → Type 0) (old : List Block) → All IsBlock old
     → AddsArcs t (BelowParts F 0) old old
-below_none t F old = adds_none t (BelowParts F 0) old (λ d a b h. absurd (let lt = h.1 in omega (arith, lt)))
+below_none t F old rules = adds_none t (BelowParts F 0) old rules
+    (λ d a b h. absurd (let lt = h.1 in omega (arith, lt)))
 
-pub below_more : (t : Table) (F : ℕ → V3 → ℕ → ℕ → Type 0) (k : ℕ) (old mid new : List PartArc)
+pub below_more : (t : Table) (F : ℕ → V3 → ℕ → ℕ → Type 0) (k : ℕ) (old mid new : List Block)
     → AddsArcs t (BelowParts F k) old mid
     → AddsArcs t (F k) mid new → AddsArcs t (BelowParts F (k + 1)) old new
 below_more t F k old mid new p q = adds_both t (BelowParts F k) (F k) (BelowParts F (k + 1)) old mid new p q
@@ -145,7 +147,7 @@ below_more t F k old mid new p q = adds_both t (BelowParts F k) (F k) (BelowPart
     to d a b (inl (j, lt, h)) = (j, omega (arith, lt), h)
     to d a b (inr h) = (k, omega arith, h)
 
-pub from_listed : (t : Table) (a k : ℕ) (old new : List PartArc) → IsTable t → 32 ≤ k
+pub from_listed : (t : Table) (a k : ℕ) (old new : List Block) → IsTable t → 32 ≤ k
     → AddsArcs t (BelowParts (ArePartsAhead t a) k) old new
     → AddsArcs t (IsFromPart t a) old new
 from_listed t a k old new is le p = adds_same t (BelowParts (ArePartsAhead t a) k) (IsFromPart t a) old new p
@@ -157,68 +159,58 @@ from_listed t a k old new is le p = adds_same t (BelowParts (ArePartsAhead t a) 
     to : (d : V3) (x y : ℕ) → IsFromPart t a d x y → BelowParts (ArePartsAhead t a) k d x y
     to d x y (e, h) = (y, (let lt = is.small y h.across.b_in in omega (arith, lt, le)), (e, refl, h))
 
-pub all_listed : (t : Table) (k : ℕ) (new : List PartArc) → IsTable t → 32 ≤ k
+pub all_listed : (t : Table) (k : ℕ) (new : List Block) → IsTable t → 32 ≤ k
     → AddsArcs t (BelowParts (IsFromPart t) k) [] new → HasArcsOf t new
 all_listed t k new is le p d a b = (
-  λ h. ⊎_elim {C = IsAhead t d a b} (λ none. absurd (nothing none.parts none.listed)) (λ f. from f)
+  λ h. ⊎_elim {C = IsAhead t d a b} (λ none. absurd (let lt = none.2 in omega (arith, lt))) (λ f. from f)
       ((p.arcs d a b).0 h),
   λ h. (p.arcs d a b).1 (inr (a, (let lt = is.small a h.across.a_in in omega (arith, lt, le)), (refl, h))),
 )
   where
-    nothing : (x : PartArc) → Contains [] x → ⊥
-    nothing x c = let lt = c.1 in omega (arith, lt)
-
     from : BelowParts (IsFromPart t) k d a b → IsAhead t d a b
     from (x, lt, (e, h)) = subst (λ y. IsAhead t d y b) (sym e) h
 
--- ---- two parts more
+-- ---- cones of two parts
 
-pub arc_pushed : (arcs : List PartArc) (x : PartArc) (signs : List Sign) (a b : ℕ)
-    → IsArcAt (arcs ++ x ∷ []) signs a b
-    ↔ (IsArcAt arcs signs a b ⊎ ((x.a ≡ a) × (x.b ≡ b) × Any (AreInside signs) x.cones))
-arc_pushed arcs x signs a b = (from, to)
+pub no_cones_added : (a b : ℕ) (old : List Block) → All IsBlock old → AddsConesOf [] a b old old
+no_cones_added a b old rules = record {
+  arcs = λ signs x y. (λ h. inl h, ⊎_elim (λ h. h) (λ p. absurd (let lt = p.2.2 in omega (arith, lt))));
+  blocks = rules;
+}
+
+pub cone_added : (cones : List (List Side)) (cone : List Side) (k a b : ℕ) (old mid new : List Block)
+    → k < length cones → cone ≡ get_or cones k cone → AddsConesOf (take k cones) a b old mid
+    → AddsCone cone a b mid new → AddsConesOf (take (k + 1) cones) a b old new
+cone_added cones cone k a b old mid new lt at before one = record {
+  arcs = λ signs x y. either_more (before.arcs signs x y) (one.arcs signs x y) (either signs x y);
+  blocks = one.blocks;
+}
   where
-    Last : Type 0
-    Last = (x.a ≡ a) × (x.b ≡ b) × Any (AreInside signs) x.cones
+    either : (signs : List Sign) (x y : ℕ) → ((x ≡ a) × (y ≡ b) × Any (AreInside signs) (take (k + 1) cones))
+        ↔ (((x ≡ a) × (y ≡ b) × Any (AreInside signs) (take k cones)) ⊎ ((x ≡ a) × (y ≡ b)
+        × AreInside signs cone))
+    either signs x y =
+        let more = any_more (AreInside signs) cones k cone lt at in (
+          λ h. ⊎_elim {C = ((x ≡ a) × (y ≡ b) × Any (AreInside signs) (take k cones))
+              ⊎ ((x ≡ a) × (y ≡ b) × AreInside signs cone)}
+              (λ o. inl (h.0, h.1, o)) (λ p. inr (h.0, h.1, p)) (more.0 h.2),
+          ⊎_elim {C = (x ≡ a) × (y ≡ b) × Any (AreInside signs) (take (k + 1) cones)}
+              (λ o. (o.0, o.1, more.1 (inl o.2))) (λ p. (p.0, p.1, more.1 (inr p.2))),
+        )
 
-    from : IsArcAt (arcs ++ x ∷ []) signs a b → IsArcAt arcs signs a b ⊎ Last
-    from h = ⊎_elim {C = IsArcAt arcs signs a b ⊎ Last}
-        (λ c. inl (record { parts = h.parts; listed = c; a_is = h.a_is; b_is = h.b_is; ahead = h.ahead }))
-        (λ e. inr (
-          ap (λ y. y.a) e ∙ h.a_is,
-          ap (λ y. y.b) e ∙ h.b_is,
-          subst (λ (y : PartArc). Any (AreInside signs) y.cones) (sym e) h.ahead,
-        ))
-        (Contains-push_cases arcs x h.parts h.listed)
+pub cones_added : (cones : List (List Side)) (k a b : ℕ) (old new : List Block) → length cones ≤ k
+    → AddsConesOf (take k cones) a b old new → AddsConesOf cones a b old new
+cones_added cones k a b old new le = subst (λ l. AddsConesOf l a b old new) (take_all k cones le)
 
-    to : IsArcAt arcs signs a b ⊎ Last → IsArcAt (arcs ++ x ∷ []) signs a b
-    to (inl h) = record {
-      parts = h.parts;
-      listed = Contains-append_left arcs (x ∷ []) h.parts h.listed;
-      a_is = h.a_is;
-      b_is = h.b_is;
-      ahead = h.ahead;
-    }
-    to (inr (e, f, h)) = record { parts = x; listed = Contains-push arcs x; a_is = e; b_is = f; ahead = h }
-
-pub pair_added : (t : Table) (a b : ℕ) (x : PartArc) (old new : List PartArc) → a < MOST_PARTS → b < MOST_PARTS
-    → x.a ≡ a
-    → x.b ≡ b → ((d : V3) → Any (AreInside (signs_of t.planes d)) x.cones ↔ IsAhead t d a b)
-    → new ≡ old ++ x ∷ []
-    → AddsArcs t (ArePartsAhead t a b) old new
-pair_added t a b x old new a_small b_small a_is b_is ahead e = record {
-  arcs = λ d p q. (
-    λ h. ⊎_elim {C = IsArcAt old (signs_of t.planes d) p q ⊎ ArePartsAhead t a b d p q} (λ o. inl o)
-        (λ l. inr (sym l.0 ∙ a_is, sym l.1 ∙ b_is, (ahead d).0 l.2))
-        ((arc_pushed old x (signs_of t.planes d) p q).0 (subst (λ l. IsArcAt l (signs_of t.planes d) p q) e h)),
-    λ h. subst (λ l. IsArcAt l (signs_of t.planes d) p q) (sym e)
-        ((arc_pushed old x (signs_of t.planes d) p q).1
-        (⊎_elim {C = IsArcAt old (signs_of t.planes d) p q
-        ⊎ ((x.a ≡ p) × (x.b ≡ q) × Any (AreInside (signs_of t.planes d)) x.cones)} (λ o. inl o)
-        (λ l. inr (a_is ∙ sym l.0, b_is ∙ sym l.1, (ahead d).1 l.2)) h)),
+pub pair_added : (t : Table) (a b : ℕ) (cones : List (List Side)) (old new : List Block)
+    → ((d : V3) → Any (AreInside (signs_of t.planes d)) cones ↔ IsAhead t d a b)
+    → AddsConesOf cones a b old new → AddsArcs t (ArePartsAhead t a b) old new
+pair_added t a b cones old new ahead added = record {
+  arcs = λ d x y. (
+    λ h. ⊎_elim {C = IsArcAt old (signs_of t.planes d) x y ⊎ ArePartsAhead t a b d x y} (λ o. inl o)
+        (λ p. inr (p.0, p.1, (ahead d).0 p.2)) ((added.arcs (signs_of t.planes d) x y).0 h),
+    ⊎_elim {C = IsArcAt new (signs_of t.planes d) x y} (λ o. (added.arcs (signs_of t.planes d) x y).1 (inl o))
+        (λ p. (added.arcs (signs_of t.planes d) x y).1 (inr (p.0, p.1, (ahead d).1 p.2))),
   );
-  parts = λ h. subst (All HasParts) (sym e) (All-push HasParts old x h (record {
-    a_is = subst (λ n. n < MOST_PARTS) (sym a_is) a_small;
-    b_is = subst (λ n. n < MOST_PARTS) (sym b_is) b_small;
-  }));
+  blocks = added.blocks;
 }

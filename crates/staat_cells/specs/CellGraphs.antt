@@ -1,17 +1,17 @@
 -- The blocking graph of a cell: its arcs at every direction with the signs of the cell.
 use Rattle.std.specs.Prelude.{◌≡◌, ◌↔◌, ◌⊎◌, ◌<◌, ℕ, ◌<ℤ◌, pos}
-use Rattle.std.specs.Prelude.{List, All, Any, Contains}
+use Rattle.std.specs.Prelude.{List, All, Any}
 use Rattle.staat_vec.specs.declared.vector.V3.{V3}
 use Rattle.staat_vec.specs.declared.vector.Sign.{Sign}
 use Rattle.staat_vec.specs.Vectors.{dot}
-use Rattle.staat_model.specs.declared.limits.TheConstants.{MOST_PARTS}
 use Rattle.staat_model.specs.Cells.{signs_of}
 use Rattle.staat_graph.specs.Graphs.{HasArc}
 use Rattle.staat_pairs.specs.Searches.{arc_of}
 use Rattle.staat_pairs.specs.Tables.{IsTableArc, Table, facets_of}
 use Rattle.staat_planes.specs.Tables.{IsAhead, IsAheadFrom}
-use Rattle.staat_cells.specs.declared.half_spaces.HalfSpaces.{HalfSpaces}
-use Rattle.staat_cells.specs.declared.part_arcs.PartArc.{PartArc}
+use Rattle.staat_cells.specs.declared.blocks.Block.{Block}
+use Rattle.staat_cells.specs.declared.half_spaces.Side.{Side}
+use Rattle.staat_cells.specs.Blocks.{IsBlock, IsBlockArc}
 use Rattle.staat_cells.specs.HalfSpaces.{AreInside}
 
 -- the rows have the arcs of the table at every direction with these signs
@@ -20,34 +20,37 @@ IsCellGraph t signs rows =
     (d : V3) → signs_of t.planes d ≡ signs → (a b : ℕ) → HasArc rows a b ↔ IsAhead t d a b
 
 -- directions with these signs lead ahead of some two pieces of the parts a and b
-pub record IsArcAt (arcs : List PartArc) (signs : List Sign) (a b : ℕ) : Type 0 where
-  pub parts : PartArc
-  pub listed : Contains arcs parts
-  pub a_is : parts.a ≡ a
-  pub b_is : parts.b ≡ b
-  pub ahead : Any (AreInside signs) parts.cones
-
--- there can be two such parts
-pub record HasParts (parts : PartArc) : Type 0 where
-  pub a_is : parts.a < MOST_PARTS
-  pub b_is : parts.b < MOST_PARTS
+abbrev pub IsArcAt : List Block → List Sign → ℕ → ℕ → Type 0
+IsArcAt blocks signs a b = Any (λ block. IsBlockArc block signs a b) blocks
 
 -- the signs tell of each direction which arcs the table has there
-abbrev pub HasArcsOf : Table → List PartArc → Type 0
-HasArcsOf t arcs = (d : V3) (a b : ℕ) → IsArcAt arcs (signs_of t.planes d) a b ↔ IsAhead t d a b
+abbrev pub HasArcsOf : Table → List Block → Type 0
+HasArcsOf t blocks = (d : V3) (a b : ℕ) → IsArcAt blocks (signs_of t.planes d) a b ↔ IsAhead t d a b
 
 -- ---- while the cones and the arcs are listed
 
 -- the list has grown by cones of the directions with P
-abbrev pub AddsCones : Table → (V3 → Type 0) → List HalfSpaces → List HalfSpaces → Type 0
+abbrev pub AddsCones : Table → (V3 → Type 0) → List (List Side) → List (List Side) → Type 0
 AddsCones t P old new =
     (d : V3) → Any (AreInside (signs_of t.planes d)) new ↔ (Any (AreInside (signs_of t.planes d)) old ⊎ P d)
 
--- the list has grown by what has the arcs of P
-pub record AddsArcs (t : Table) (P : V3 → ℕ → ℕ → Type 0) (old new : List PartArc) : Type 0 where
+-- the blocks have grown by a cone of the parts a and b
+pub record AddsCone (cone : List Side) (a b : ℕ) (old new : List Block) : Type 0 where
+  pub arcs : (signs : List Sign) (x y : ℕ)
+      → IsArcAt new signs x y ↔ (IsArcAt old signs x y ⊎ ((x ≡ a) × (y ≡ b) × AreInside signs cone))
+  pub blocks : All IsBlock new
+
+-- by cones of the parts a and b
+pub record AddsConesOf (cones : List (List Side)) (a b : ℕ) (old new : List Block) : Type 0 where
+  pub arcs : (signs : List Sign) (x y : ℕ)
+      → IsArcAt new signs x y ↔ (IsArcAt old signs x y ⊎ ((x ≡ a) × (y ≡ b) × Any (AreInside signs) cones))
+  pub blocks : All IsBlock new
+
+-- the blocks have grown by what has the arcs of P
+pub record AddsArcs (t : Table) (P : V3 → ℕ → ℕ → Type 0) (old new : List Block) : Type 0 where
   pub arcs : (d : V3) (a b : ℕ)
       → IsArcAt new (signs_of t.planes d) a b ↔ (IsArcAt old (signs_of t.planes d) a b ⊎ P d a b)
-  pub parts : All HasParts old → All HasParts new
+  pub blocks : All IsBlock new
 
 -- d leads ahead of piece i of a and piece j of b
 abbrev pub IsPairAhead : Table → ℕ → ℕ → ℕ → ℕ → V3 → Type 0

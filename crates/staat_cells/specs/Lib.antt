@@ -4,5 +4,6 @@ pub mod Compositions
 pub mod Stages
 pub mod Changes
 pub mod HalfSpaces
+pub mod Blocks
 pub mod CellGraphs
 pub mod Skeletons

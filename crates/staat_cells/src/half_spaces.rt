@@ -1,54 +1,27 @@
 // The directions ahead of two pieces, as half-spaces.
-ghost use Rattle.std.specs.Prelude.{◌≡◌, ◌≤◌, ◌<◌, ◌⊎◌, ◌↔◌, ◌<ℤ◌, pos};
+ghost use Rattle.std.specs.Prelude.{◌≡◌, ◌<◌, ◌⊎◌, ◌↔◌, ◌<ℤ◌, pos};
 ghost use Rattle.std.specs.Prelude.{All, Any, Contains, IfOk, IsTrue, List, OnOk, Some, length, slice_get};
 ghost use Rattle.staat_vec.specs.declared.vector.V3.{V3 as Vector};
 ghost use Rattle.staat_vec.specs.declared.vector.Sign.{Sign as SignValue};
 ghost use Rattle.staat_vec.specs.Vectors.{dot};
 ghost use Rattle.staat_model.specs.Cells.{signs_of};
 ghost use Rattle.staat_pairs.specs.Tables.{IsTableArc, IsTableFacet, facets_of};
-ghost use Rattle.staat_cells.specs.HalfSpaces.{AreAhead, AreAmong, AreAround, AreInside};
+ghost use Rattle.staat_cells.specs.HalfSpaces.{AreAhead, AreAmong, AreInside, IsOnSide};
 
-use crate::plane_set::{PlaneSet, planes_with};
 use staat_model::Arc;
-use staat_planes::{MOST_CELL_PLANES, PlaneTable};
-use staat_vec::{OutOfMemory, Sign, V3, canon, is_same};
+use staat_planes::PlaneTable;
+use staat_vec::{Listed, OutOfMemory, Sign, V3, canon, is_same};
 use std::alloc::Global;
 
-/// Open half-spaces: on the positive side of some planes, and on the negative side of others.
-#[derive(Clone, Copy)]
-pub struct HalfSpaces {
-    pub(crate) positive: PlaneSet,
-    pub(crate) negative: PlaneSet,
+/// A side of a plane of a table: the number of the plane, and its sign on that side.
+#[derive(Clone, Copy, PartialEq, Eq)]
+pub struct Side {
+    pub(crate) plane: usize,
+    pub(crate) sign: Sign,
 }
 
-impl HalfSpaces {
-    /// All half-spaces, of the first 256 planes, that the directions with these signs are in.
-    pub(crate) fn around(signs: &[Sign]) -> HalfSpaces
-        ensures { AreAround signs.now result }
-    {
-        HalfSpaces {
-            positive: planes_with(signs, Sign::Pos),
-            negative: planes_with(signs, Sign::Neg),
-        }
-    }
-
-    /// No half-space.
-    pub(crate) fn none() -> HalfSpaces
-        ensures { (signs : List SignValue) → AreInside signs result }
-    {
-        HalfSpaces {
-            positive: PlaneSet::empty(),
-            negative: PlaneSet::empty(),
-        }
-    }
-
-    /// Whether each of the half-spaces is one of the others.
-    pub(crate) fn are_among(&self, o: &HalfSpaces) -> bool
-        ensures { IsTrue result ↔ AreAmong self.now o.now }
-    {
-        self.positive.outside(o.positive) | self.negative.outside(o.negative) == 0
-    }
-}
+/// Open half-spaces, each a side of a plane.
+pub type HalfSpaces = Listed<Side>;
 
 // the number of a plane
 fn number_of(planes: &[V3], n: V3) -> usize
@@ -65,59 +38,98 @@ fn number_of(planes: &[V3], n: V3) -> usize
     0
 }
 
-// the half-spaces with that ahead of a facet
-fn with_facet(planes: &[V3], h: HalfSpaces, n: V3) -> HalfSpaces
-    requires facet { IsTableFacet planes.now n }
-    requires few { length planes.now ≤ MOST_CELL_PLANES }
-    ensures { (d : Vector) → AreInside (signs_of planes.now d) result
-        ↔ (AreInside (signs_of planes.now d) h × (pos 0 <ℤ dot n d)) }
+// the side of a plane that is ahead of a facet
+fn side_ahead(planes: &[V3], n: V3) -> Side
+    requires { IsTableFacet planes.now n }
+    ensures { (d : Vector) → IsOnSide (signs_of planes.now d) result ↔ (pos 0 <ℤ dot n d) }
 {
     let normal = canon(n);
     let plane = number_of(planes, normal);
     if is_same(normal, n) {
-        HalfSpaces {
-            positive: h.positive.with(plane),
-            negative: h.negative,
+        Side {
+            plane,
+            sign: Sign::Pos,
         }
     } else {
-        HalfSpaces {
-            positive: h.positive,
-            negative: h.negative.with(plane),
+        Side {
+            plane,
+            sign: Sign::Neg,
         }
     }
 }
 
 /// The half-spaces of the directions ahead of an ordered pair of pieces.
-pub(crate) fn half_spaces(table: &PlaneTable, arc: Arc) -> HalfSpaces
-    requires across { IsTableArc table.now arc }
-    requires few { length table.now.planes ≤ MOST_CELL_PLANES }
-    ensures { AreAhead table.now.planes (facets_of table.now arc) result }
+pub(crate) fn half_spaces(
+    alloc: Global,
+    table: &PlaneTable,
+    arc: Arc,
+) -> Result<Vec<Side>, OutOfMemory>
+    requires { IsTableArc table.now arc }
+    ensures { IfOk result (λ sides. AreAhead table.now.planes (facets_of table.now arc) sides.items) }
 {
     let planes = table.planes();
-    let mut found = HalfSpaces::none();
+    let mut found = Vec::new(alloc);
     for m in 0..table.facet_count(arc) {
-        found = with_facet(planes, found, table.facet(arc, m));
+        found.push(side_ahead(planes, table.facet(arc, m)))?;
     }
-    found
+    Ok(found)
 }
 
-/// Whether the half-spaces of one of the cones are all among `h`.
-pub(crate) fn any_among(cones: &[HalfSpaces], h: &HalfSpaces) -> bool
-    ensures { IsTrue result ↔ Any (λ cone. AreAmong cone h.now) cones.now }
+// whether a side is listed
+fn has_side(sides: &[Side], side: Side) -> bool
+    ensures { IsTrue result ↔ Contains sides.now side }
 {
-    cones.iter().any(|cone| cone.are_among(h))
+    sides.contains(&side)
+}
+
+// whether each side of one cone is a side of the other
+fn are_among(cone: &[Side], other: &[Side]) -> bool
+    ensures { IsTrue result ↔ AreAmong cone.now other.now }
+{
+    for side in cone {
+        if !has_side(other, *side) {
+            return false;
+        }
+    }
+    true
+}
+
+// whether one of the cones holds all that the cone holds
+fn any_wider(cones: &[HalfSpaces], cone: &[Side]) -> bool
+    ensures { IsTrue result ↔ Any (λ wider. AreAmong wider cone.now) cones.now }
+{
+    for wider in cones {
+        if are_among(wider.as_slice(), cone) {
+            return true;
+        }
+    }
+    false
+}
+
+/// Whether two cones have the same sides in the same order.
+pub(crate) fn is_same_cone(cone: &[Side], other: &[Side]) -> bool
+    ensures { IsTrue result ↔ (cone.now ≡ other.now) }
+{
+    cone == other
 }
 
 /// Adds a cone, unless it lies in one that is listed.
-pub(crate) fn push_cone(cones: &mut Vec<HalfSpaces>, cone: HalfSpaces) -> Result<(), OutOfMemory>
+pub(crate) fn push_cone(cones: &mut Vec<HalfSpaces>, cone: Vec<Side>) -> Result<(), OutOfMemory>
     ensures { OnOk result ((signs : List SignValue) → Any (AreInside signs) cones.new.items
-        ↔ (Any (AreInside signs) cones.old.items ⊎ AreInside signs cone)) }
+        ↔ (Any (AreInside signs) cones.old.items ⊎ AreInside signs cone.items)) }
 {
-    if any_among(cones, &cone) {
+    if any_wider(cones, &cone) {
         return Ok(());
     }
-    cones.push(cone)?;
+    cones.push(Listed::from_vec(cone))?;
     Ok(())
+}
+
+/// A cone once more.
+pub(crate) fn copied(alloc: Global, cone: &[Side]) -> Result<Vec<Side>, OutOfMemory>
+    ensures { IfOk result (λ same. same.items ≡ cone.now) }
+{
+    Ok(cone.to_vec(alloc)?)
 }
 
 /// The cones without those that lie in a later one, from the last on.
@@ -130,7 +142,8 @@ pub(crate) fn wide_cones(
 {
     let mut wide = Vec::new(alloc);
     for k in 0..cones.len() {
-        push_cone(&mut wide, cones[cones.len() - 1 - k])?;
+        let cone = copied(alloc, cones[cones.len() - 1 - k].as_slice())?;
+        push_cone(&mut wide, cone)?;
     }
     Ok(wide)
 }

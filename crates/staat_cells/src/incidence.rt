@@ -24,7 +24,7 @@ pub(crate) struct Incidence {
 }
 
 // where the sign stands in the order of signs
-fn place(s: Sign) -> u64
+pub(crate) fn place(s: Sign) -> u64
     ensures is { result ≡ sign_place s }
     ensures small { result ≤ 2 }
 {

@@ -2,6 +2,7 @@
 #![tactic(auto)]
 
 mod all;
+mod blocks;
 mod cell;
 mod change;
 mod compose;
@@ -10,9 +11,9 @@ mod graphs;
 mod half_spaces;
 mod incidence;
 pub mod laws;
+mod narrow;
 mod open_incidences;
 mod part_arcs;
-mod plane_set;
 mod points;
 mod signs;
 mod skeleton;

@@ -1,30 +1,25 @@
 // The facets of a table, for each ordered pair of parts the half-spaces ahead of their pieces.
-ghost use Rattle.std.specs.Prelude.{◌≡◌, ◌≢◌, ◌<◌, ◌≤◌, ◌↔◌, All, Any, IfOk, OnOk, length};
+ghost use Rattle.std.specs.Prelude.{◌≡◌, ◌≢◌, ◌<◌, ◌↔◌, All, Any, IfOk, OnOk};
 ghost use Rattle.staat_vec.specs.declared.vector.V3.{V3 as Vector};
 ghost use Rattle.staat_model.specs.Cells.{signs_of};
 ghost use Rattle.staat_model.specs.Sets.{Has};
 ghost use Rattle.staat_pairs.specs.Tables.{IsTable, IsTableArc, pieces_of};
 ghost use Rattle.staat_planes.specs.Tables.{IsAhead, IsAheadFrom};
-ghost use Rattle.staat_cells.specs.CellGraphs.{AddsArcs, AddsCones, ArePartsAhead, HasArcsOf, HasParts};
+ghost use Rattle.staat_cells.specs.Blocks.{IsBlock};
+ghost use Rattle.staat_cells.specs.CellGraphs.{AddsArcs, AddsCones, AddsConesOf, ArePartsAhead, HasArcsOf};
 ghost use Rattle.staat_cells.specs.CellGraphs.{IsFromPart, IsPairAhead, IsPieceAhead};
 ghost use Rattle.staat_cells.specs.HalfSpaces.{AreInside};
 
+use crate::blocks::{Block, add_cone};
 use crate::half_spaces::{HalfSpaces, half_spaces, push_cone, wide_cones};
 use staat_model::{Arc, MOST_PARTS, PartSet};
-use staat_planes::{MOST_CELL_PLANES, PlaneTable};
-use staat_vec::{Listed, OutOfMemory};
+use staat_planes::PlaneTable;
+use staat_vec::OutOfMemory;
 use std::alloc::Global;
-
-/// Two parts `a` and `b`, and the cones of the directions ahead of a piece of `a` and a piece of `b`.
-#[derive(Drop)]
-pub struct PartArc {
-    pub(crate) a: u32,
-    pub(crate) b: u32,
-    pub(crate) cones: Listed<HalfSpaces>,
-}
 
 // adds the cone of a piece of the part a with each piece of the part b
 fn push_piece(
+    alloc: Global,
     table: &PlaneTable,
     a: u32,
     i: u32,
@@ -32,7 +27,6 @@ fn push_piece(
     cones: &mut Vec<HalfSpaces>,
 ) -> Result<(), OutOfMemory>
     requires rules { IsTable table.now }
-    requires few { length table.now.planes ≤ MOST_CELL_PLANES }
     requires a_in { Has table.now.of a }
     requires b_in { Has table.now.of b }
     requires different { a ≢ b }
@@ -40,7 +34,7 @@ fn push_piece(
     ensures { OnOk result (AddsCones table.now (IsPieceAhead table.now a b i) cones.old.items cones.new.items) }
 {
     for j in 0..table.pieces(b) {
-        push_cone(cones, half_spaces(table, Arc { a, i, b, j }))?;
+        push_cone(cones, half_spaces(alloc, table, Arc { a, i, b, j })?)?;
     }
     Ok(())
 }
@@ -53,7 +47,6 @@ fn cones_of(
     b: u32,
 ) -> Result<Vec<HalfSpaces>, OutOfMemory>
     requires rules { IsTable table.now }
-    requires few { length table.now.planes ≤ MOST_CELL_PLANES }
     requires a_in { Has table.now.of a }
     requires b_in { Has table.now.of b }
     requires different { a ≢ b }
@@ -62,9 +55,28 @@ fn cones_of(
 {
     let mut cones = Vec::new(alloc);
     for i in 0..table.pieces(a) {
-        push_piece(table, a, i, b, &mut cones)?;
+        push_piece(alloc, table, a, i, b, &mut cones)?;
     }
     Ok(cones)
+}
+
+// adds cones of the parts a and b
+fn add_cones(
+    alloc: Global,
+    cones: &[HalfSpaces],
+    a: u32,
+    b: u32,
+    blocks: &mut Vec<Block>,
+) -> Result<(), OutOfMemory>
+    requires blocks { All IsBlock blocks.old.items }
+    requires a { a < MOST_PARTS }
+    requires b { b < MOST_PARTS }
+    ensures { OnOk result (AddsConesOf cones.now a b blocks.old.items blocks.new.items) }
+{
+    for k in 0..cones.len() {
+        add_cone(alloc, blocks, cones[k].as_slice(), a, b)?;
+    }
+    Ok(())
 }
 
 // adds two parts
@@ -73,19 +85,18 @@ fn push_pair(
     table: &PlaneTable,
     a: u32,
     b: u32,
-    arcs: &mut Vec<PartArc>,
+    blocks: &mut Vec<Block>,
 ) -> Result<(), OutOfMemory>
     requires rules { IsTable table.now }
-    requires few { length table.now.planes ≤ MOST_CELL_PLANES }
+    requires blocks { All IsBlock blocks.old.items }
     requires a_in { Has table.now.of a }
     requires b_in { Has table.now.of b }
     requires different { a ≢ b }
-    ensures { OnOk result (AddsArcs table.now (ArePartsAhead table.now a b) arcs.old.items arcs.new.items) }
+    ensures { OnOk result (AddsArcs table.now (ArePartsAhead table.now a b) blocks.old.items blocks.new.items) }
 {
     let all = cones_of(alloc, table, a, b)?;
-    let cones = Listed::from_vec(wide_cones(alloc, &all)?);
-    arcs.push(PartArc { a, b, cones })?;
-    Ok(())
+    let wide = wide_cones(alloc, &all)?;
+    add_cones(alloc, &wide, a, b, blocks)
 }
 
 // adds two parts, and none where they are one or not both in the set
@@ -95,17 +106,17 @@ fn push_parts(
     set: PartSet,
     a: u32,
     b: u32,
-    arcs: &mut Vec<PartArc>,
+    blocks: &mut Vec<Block>,
 ) -> Result<(), OutOfMemory>
     requires rules { IsTable table.now }
-    requires few { length table.now.planes ≤ MOST_CELL_PLANES }
+    requires blocks { All IsBlock blocks.old.items }
     requires set { set ≡ table.now.of }
     requires a { a < MOST_PARTS }
     requires b { b < MOST_PARTS }
-    ensures { OnOk result (AddsArcs table.now (ArePartsAhead table.now a b) arcs.old.items arcs.new.items) }
+    ensures { OnOk result (AddsArcs table.now (ArePartsAhead table.now a b) blocks.old.items blocks.new.items) }
 {
     if a != b && set.has(a) && set.has(b) {
-        push_pair(alloc, table, a, b, arcs)
+        push_pair(alloc, table, a, b, blocks)
     } else {
         Ok(())
     }
@@ -117,30 +128,29 @@ fn push_from(
     table: &PlaneTable,
     set: PartSet,
     a: u32,
-    arcs: &mut Vec<PartArc>,
+    blocks: &mut Vec<Block>,
 ) -> Result<(), OutOfMemory>
     requires rules { IsTable table.now }
-    requires few { length table.now.planes ≤ MOST_CELL_PLANES }
+    requires blocks { All IsBlock blocks.old.items }
     requires set { set ≡ table.now.of }
     requires a { a < MOST_PARTS }
-    ensures { OnOk result (AddsArcs table.now (IsFromPart table.now a) arcs.old.items arcs.new.items) }
+    ensures { OnOk result (AddsArcs table.now (IsFromPart table.now a) blocks.old.items blocks.new.items) }
 {
     for b in 0..MOST_PARTS {
-        push_parts(alloc, table, set, a, b, arcs)?;
+        push_parts(alloc, table, set, a, b, blocks)?;
     }
     Ok(())
 }
 
-/// Each ordered pair of different parts of the table's set.
-pub(crate) fn all_arcs(alloc: Global, table: &PlaneTable) -> Result<Vec<PartArc>, OutOfMemory>
-    requires { length table.now.planes ≤ MOST_CELL_PLANES }
-    ensures arcs { IfOk result (λ arcs. HasArcsOf table.now arcs.items) }
-    ensures parts { IfOk result (λ arcs. All HasParts arcs.items) }
+/// The cones of each ordered pair of different parts of the table's set, in blocks.
+pub(crate) fn all_blocks(alloc: Global, table: &PlaneTable) -> Result<Vec<Block>, OutOfMemory>
+    ensures arcs { IfOk result (λ blocks. HasArcsOf table.now blocks.items) }
+    ensures blocks { IfOk result (λ blocks. All IsBlock blocks.items) }
 {
     let set = table.set();
-    let mut arcs = Vec::new(alloc);
+    let mut blocks = Vec::new(alloc);
     for a in 0..MOST_PARTS {
-        push_from(alloc, table, set, a, &mut arcs)?;
+        push_from(alloc, table, set, a, &mut blocks)?;
     }
-    Ok(arcs)
+    Ok(blocks)
 }

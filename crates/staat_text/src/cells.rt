@@ -1,6 +1,6 @@
 // The text of all cells of directions, each with its blocking graph.
 ghost use Rattle.std.specs.Prelude.{◌≡◌, ◌++◌, ◌<◌, ◌≤◌, ◌^◌, [], IfOk, List};
-ghost use Rattle.std.specs.Prelude.{codes, flat_map, length, map, string_bytes};
+ghost use Rattle.std.specs.Prelude.{codes, decimal, flat_map, length, map, string_bytes};
 ghost use Rattle.std.specs.Fmt.{signed_decimal};
 ghost use Rattle.staat_model.specs.declared.assembly.Part.{Part as PartValue};
 ghost use Rattle.staat_model.specs.Cells.{AreCells};
@@ -20,7 +20,7 @@ use staat_cells::{Cell, CellGraphs, Cells};
 use staat_graph::Graph;
 use staat_model::{Kind, MOST_PARTS, TEXT_LIMIT, TextRefusal};
 use staat_number::push_number;
-use staat_planes::{MOST_CELL_PLANES, PlaneTable};
+use staat_planes::PlaneTable;
 use staat_vec::{Bytes, V3};
 use std::alloc::{AllocError, Global};
 
@@ -52,14 +52,40 @@ fn push_vector(line: &mut Vec<u8>, d: V3) -> Result<(), AllocError>
     push_spaced(line, d.z)
 }
 
+// Adds a digit.
+#[tactic(auto, using(staat_number::proofs::DecimalLemmas::one_digit))]
+fn push_digit(line: &mut Vec<u8>, d: u32) -> Result<(), AllocError>
+    requires { d < 10 }
+    ensures { IfOk result (λ _. line.new.items ≡ line.old.items ++ decimal d) }
+{
+    line.push(b'0' + (d % 10) as u8)?;
+    Ok(())
+}
+
+// Adds the number of a part, which has one digit or two.
+#[tactic(auto, using(staat_number::proofs::DecimalLemmas::one_digit_more))]
+fn push_part(line: &mut Vec<u8>, a: u32) -> Result<(), AllocError>
+    requires { a < MOST_PARTS }
+    ensures { IfOk result (λ _. line.new.items ≡ line.old.items ++ decimal a) }
+{
+    if a < 10 {
+        return push_digit(line, a);
+    }
+    push_digit(line, a / 10)?;
+    line.push(b'0' + (a % 10) as u8)?;
+    Ok(())
+}
+
 // Adds the arc from a to b.
 fn push_arc(line: &mut Vec<u8>, a: u32, b: u32) -> Result<(), AllocError>
+    requires a { a < MOST_PARTS }
+    requires b { b < MOST_PARTS }
     ensures { IfOk result (λ _. line.new.items ≡ line.old.items ++ short_arc (a, b)) }
 {
     line.push(b' ')?;
-    push_number(line, a as i128)?;
+    push_part(line, a)?;
     line.push(b'>')?;
-    push_number(line, b as i128)
+    push_part(line, b)
 }
 
 // Adds the arcs from the part a to parts below `parts`.
@@ -189,8 +215,8 @@ fn hold_cells(
 
 /// The text of the cells of the table's planes, or its length in bytes where that is above [`TEXT_LIMIT`].
 ///
-/// The table has at most [`MOST_CELL_PLANES`] planes, its set is that of the parts below `parts`, at most
-/// [`MOST_PARTS`] of them, and the cells are all those of its planes.
+/// The table's set is that of the parts below `parts`, at most [`MOST_PARTS`] of them, and the cells are all those of
+/// its planes.
 ///
 /// It has the line `planes N points P edges E open O`; then for each cell in order a line of its kind, the three
 /// numbers of its representative and the arcs ` A>B` of the blocking graph, ascending by `A` and then by `B`, or ` -`
@@ -202,7 +228,6 @@ pub fn cells_text(
     parts: u32,
 ) -> Result<Bytes, TextRefusal>
     requires parts { parts ≤ MOST_PARTS }
-    requires few { length table.now.planes ≤ MOST_CELL_PLANES }
     requires set { table.now.of ≡ below parts }
     requires cells { AreCells table.now.planes (map entry_of cells.now) }
     ensures { (all : List PartValue) → WasMadeFrom all table.now → IsCellsAnswer all parts result }

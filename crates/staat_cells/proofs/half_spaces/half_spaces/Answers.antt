@@ -3,24 +3,24 @@ use Rattle.staat_vec.specs.declared.vector.V3.{V3}
 use Rattle.staat_vec.specs.Vectors.{dot}
 use Rattle.staat_model.specs.Cells.{signs_of}
 use Rattle.staat_pairs.specs.Tables.{facets_of}
-use Rattle.staat_cells.specs.HalfSpaces.{AreInside}
+use Rattle.staat_cells.specs.HalfSpaces.{IsOnSide}
 use Rattle.staat_cells.proofs.FacetPlanes.{facet_more, facets_all, no_facets}
 use Rattle.staat_cells.proofs.half_spaces.half_spaces.Goals as goal
 
 pub loop-m-init : goal.loop-m-init
 loop-m-init c =
-    no_facets c.args.table.now.planes (facets_of c.args.table.now c.args.arc) c.none-found.result c.none-found.ensures
+    no_facets c.args.table.now.planes (facets_of c.args.table.now c.args.arc) c.new-found.result.items
+    c.new-found.ensures.items
 
 pub loop-m-preserved : goal.loop-m-preserved
 loop-m-preserved c =
-    facet_more c.args.table.now.planes (facets_of c.args.table.now c.args.arc) c.facet.result c.loop-m.m c.loop-m.found
-    c.with_facet-found.result c.facet.ensures.is
-    (subst (λ (l : List V3). (d : V3) → AreInside (signs_of l d) c.with_facet-found.result
-    ↔ (AreInside (signs_of l d) c.loop-m.found × (pos 0 <ℤ dot c.facet.result d)))
-    c.planes-planes.ensures.is c.with_facet-found.ensures)
-    c.loop-m.invariant
+    facet_more c.args.table.now.planes (facets_of c.args.table.now c.args.arc) c.facet.result c.loop-m.m
+    c.loop-m.found.items c.push.new.self.items c.side_ahead.result c.facet.ensures.is
+    (subst (λ (l : List V3). (d : V3) → IsOnSide (signs_of l d) c.side_ahead.result ↔ (pos 0 <ℤ dot c.facet.result d))
+    c.planes-planes.ensures.is c.side_ahead.ensures)
+    c.in_ok-push.ensures.items c.loop-m.invariant
 
 pub returns : goal.returns
 returns c =
-    facets_all c.args.table.now.planes (facets_of c.args.table.now c.args.arc) c.loop-m.m c.loop-m.found
+    facets_all c.args.table.now.planes (facets_of c.args.table.now c.args.arc) c.loop-m.m c.loop-m.found.items
     (subst (λ n. n ≤ c.loop-m.m) c.facet_count-m-end.ensures.is c.loop-m-test.false) c.loop-m.invariant

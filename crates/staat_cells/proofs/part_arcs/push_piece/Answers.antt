@@ -19,7 +19,7 @@ loop-j-preserved c =
       j_is = subst (λ n. c.loop-j.j < n) c.pieces-j-end.ensures.is c.loop-j-test.true;
     } in
     pair_more c.args.table.now c.args.a c.args.i c.args.b c.loop-j.j c.args.cones.now.items c.loop-j.cones.items
-    c.push_cone.new.cones.items c.half_spaces.result across c.half_spaces.ensures c.in_ok-push_cone.ensures
+    c.push_cone.new.cones.items c.in_ok-half_spaces.field-0.items across c.in_ok-half_spaces.ensures c.in_ok-push_cone.ensures
     c.loop-j.invariant
 
 pub returns : goal.returns

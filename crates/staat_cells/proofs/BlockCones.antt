@@ -1,0 +1,231 @@
+-- Blocks of cones, as one cone or its parts are added.
+use Rattle.std.proofs.Common.{
+  ◌≡◌,
+  ◌⊎◌,
+  ◌↔◌,
+  inl,
+  inr,
+  ⊎_elim,
+  ℕ,
+  zero,
+  suc,
+  ◌+◌,
+  ◌<◌,
+  ◌≤◌,
+  refl,
+  sym,
+  ap,
+  subst,
+}
+use Rattle.std.proofs.Common.{◌∙◌, arith, List, [], ◌∷◌, ◌++◌, length, get_or, All, Any, Vec, Global}
+use Rattle.std.specs.Prelude.{Some, slice_get, slice_set}
+use Rattle.std.proofs.lemmas.List.{length_push}
+use Rattle.std.proofs.lemmas.List.Elements.{All-nil, All-push, All-set}
+use Rattle.staat_vec.specs.declared.vector.Sign.{Sign}
+use Rattle.staat_model.proofs.Places.{one_at_place, place_within}
+use Rattle.staat_cells.specs.declared.blocks.ArcCones.{ArcCones}
+use Rattle.staat_cells.specs.declared.blocks.Block.{Block}
+use Rattle.staat_cells.specs.declared.half_spaces.Side.{Side}
+use Rattle.staat_cells.specs.HalfSpaces.{AreInside}
+use Rattle.staat_cells.specs.Blocks.{AddsToBlock, HasCone, HasParts, IsBlock, IsBlockArc, PassesAll}
+use Rattle.staat_cells.specs.CellGraphs.{AddsCone}
+use Rattle.staat_cells.proofs.ConeTests.{AddsSides}
+use Rattle.staat_cells.proofs.Elements.{any_pushed, any_set}
+
+-- the arcs have grown by the cone j of the parts a and b
+abbrev pub AddsArc : ℕ → ℕ → ℕ → List ArcCones → List ArcCones → Type 0
+AddsArc a b j old new = (x y k : ℕ) → HasCone new x y k ↔ (HasCone old x y k ⊎ ((x ≡ a) × (y ≡ b)
+    × (k ≡ j)))
+
+-- ---- a list with one more at the end
+
+push_cases : {X : Type 0} (xs : List X) (y x : X) (k : ℕ) → slice_get (xs ++ y ∷ []) k ≡ Some x
+    → (slice_get xs k ≡ Some x) ⊎ ((k ≡ length xs) × (y ≡ x))
+push_cases [] y x zero e = inr (refl, (let same : y ≡ x = cc in same))
+push_cases [] y x (suc k) e = absurd cc
+push_cases (z ∷ xs) y x zero e = inl e
+push_cases (z ∷ xs) y x (suc k) e = ⊎_elim (λ h. inl h) (λ h. inr (ap suc h.0, h.1)) (push_cases xs y x k e)
+
+push_front : {X : Type 0} (xs : List X) (y x : X) (k : ℕ) → slice_get xs k ≡ Some x
+    → slice_get (xs ++ y ∷ []) k ≡ Some x
+push_front [] y x k e = absurd cc
+push_front (z ∷ xs) y x zero e = e
+push_front (z ∷ xs) y x (suc k) e = push_front xs y x k e
+
+push_end : {X : Type 0} (xs : List X) (y : X) → slice_get (xs ++ y ∷ []) (length xs) ≡ Some y
+push_end [] y = refl
+push_end (z ∷ xs) y = push_end xs y
+
+-- ---- parts more
+
+pub parts_block : (old new : Block) (cone : List Side) (a b j : ℕ) → IsBlock old
+    → new.cones.items ≡ old.cones.items
+    → new.tests.items ≡ old.tests.items → slice_get old.cones.items j ≡ Some cone
+    → All HasParts new.arcs.items
+    → AddsArc a b j old.arcs.items new.arcs.items → AddsToBlock cone a b old new
+parts_block old new cone a b j rules cones_are tests_are at parts adds = record {
+  block = record {
+    few = subst (λ l. length l ≤ 64) (sym cones_are) rules.few;
+    tests = λ signs k. subst (λ l. PassesAll signs l k ↔ ((o : List Side)
+        → slice_get new.cones.items k ≡ Some o
+        → AreInside signs o)) (sym tests_are)
+        (subst (λ l. PassesAll signs old.tests.items k ↔ ((o : List Side) → slice_get l k ≡ Some o
+        → AreInside signs o)) (sym cones_are) (rules.tests signs k));
+    within = λ x y k h. subst (λ l. k < length l) (sym cones_are) (⊎_elim {C = k < length old.cones.items}
+        (λ o. rules.within x y k o)
+        (λ p. subst (λ n. n < length old.cones.items) (sym p.2) (place_within old.cones.items j cone at))
+        ((adds x y k).0 h));
+    parts = parts;
+  };
+  arcs = λ signs x y. (from signs x y, to signs x y);
+}
+  where
+    from : (signs : List Sign) (x y : ℕ) → IsBlockArc new signs x y
+        → IsBlockArc old signs x y ⊎ ((x ≡ a) × (y ≡ b) × AreInside signs cone)
+    from signs x y h =
+        let passes = subst (λ l. PassesAll signs l h.cone) tests_are h.passes in
+        ⊎_elim {C = IsBlockArc old signs x y ⊎ ((x ≡ a) × (y ≡ b) × AreInside signs cone)}
+        (λ o. inl (record { cone = h.cone; has = o; passes = passes }))
+        (λ p. inr (
+          p.0,
+          p.1,
+          (rules.tests signs j).0 (subst (PassesAll signs old.tests.items) p.2 passes) cone at,
+        ))
+        ((adds x y h.cone).0 h.has)
+
+    to : (signs : List Sign) (x y : ℕ) → IsBlockArc old signs x y ⊎ ((x ≡ a) × (y ≡ b)
+        × AreInside signs cone)
+        → IsBlockArc new signs x y
+    to signs x y (inl h) = record {
+      cone = h.cone;
+      has = (adds x y h.cone).1 (inl h.has);
+      passes = subst (λ l. PassesAll signs l h.cone) (sym tests_are) h.passes;
+    }
+    to signs x y (inr (e, f, inside)) = record {
+      cone = j;
+      has = (adds x y j).1 (inr (e, f, refl));
+      passes = subst (λ l. PassesAll signs l j) (sym tests_are) ((rules.tests signs j).1
+          (λ o is. subst (AreInside signs) (one_at_place old.cones.items j cone o at is) inside));
+    }
+
+-- ---- a cone more
+
+pub cone_block : (old new : Block) (cone : List Side) (a b j : ℕ) → IsBlock old → j ≡ length old.cones.items
+    → length old.cones.items < 64 → new.cones.items ≡ old.cones.items ++ cone ∷ []
+    → AddsSides (λ signs. AreInside signs cone) j old.tests.items new.tests.items → All HasParts new.arcs.items
+    → AddsArc a b j old.arcs.items new.arcs.items → AddsToBlock cone a b old new
+cone_block old new cone a b j rules last room cones_are sides parts adds = record {
+  block = record {
+    few = subst (λ l. length l ≤ 64) (sym cones_are) (let e = length_push old.cones.items cone in omega (
+      arith,
+      e,
+      room,
+    ));
+    tests = λ signs k. (tested signs k, untested signs k);
+    within = λ x y k h. subst (λ l. k < length l) (sym cones_are) (⊎_elim {C = k < length (old.cones.items ++
+        cone ∷ [])}
+        (λ o. let lt = rules.within x y k o in let e = length_push old.cones.items cone in omega (arith, e, lt))
+        (λ p. let is = p.2 in let e = length_push old.cones.items cone in omega (arith, e, is, last))
+        ((adds x y k).0 h));
+    parts = parts;
+  };
+  arcs = λ signs x y. (from signs x y, to signs x y);
+}
+  where
+    tested : (signs : List Sign) (k : ℕ) → PassesAll signs new.tests.items k
+        → (o : List Side) → slice_get new.cones.items k ≡ Some o → AreInside signs o
+    tested signs k h o at =
+        let both = (sides signs k).0 h in
+        ⊎_elim {C = AreInside signs o} (λ e. (rules.tests signs k).0 both.0 o e)
+        (λ p. subst (AreInside signs) p.1 (both.1 (p.0 ∙ sym last)))
+        (push_cases old.cones.items cone o k (subst (λ l. slice_get l k ≡ Some o) cones_are at))
+
+    untested : (signs : List Sign) (k : ℕ)
+        → ((o : List Side) → slice_get new.cones.items k ≡ Some o → AreInside signs o)
+        → PassesAll signs new.tests.items k
+    untested signs k all = (sides signs k).1 (
+      (rules.tests signs k).1 (λ o e. all o (subst (λ l. slice_get l k ≡ Some o) (sym cones_are)
+          (push_front old.cones.items cone o k e))),
+      λ e. all cone (subst (λ l. slice_get l k ≡ Some cone) (sym cones_are)
+          (subst (λ n. slice_get (old.cones.items ++ cone ∷ []) n ≡ Some cone) (sym (e ∙ last))
+          (push_end old.cones.items cone))),
+    )
+
+    from : (signs : List Sign) (x y : ℕ) → IsBlockArc new signs x y
+        → IsBlockArc old signs x y ⊎ ((x ≡ a) × (y ≡ b) × AreInside signs cone)
+    from signs x y h =
+        let both = (sides signs h.cone).0 h.passes in
+        ⊎_elim {C = IsBlockArc old signs x y ⊎ ((x ≡ a) × (y ≡ b) × AreInside signs cone)}
+        (λ o. inl (record { cone = h.cone; has = o; passes = both.0 }))
+        (λ p. inr (p.0, p.1, both.1 p.2))
+        ((adds x y h.cone).0 h.has)
+
+    to : (signs : List Sign) (x y : ℕ) → IsBlockArc old signs x y ⊎ ((x ≡ a) × (y ≡ b)
+        × AreInside signs cone)
+        → IsBlockArc new signs x y
+    to signs x y (inl h) = record {
+      cone = h.cone;
+      has = (adds x y h.cone).1 (inl h.has);
+      passes = (sides signs h.cone).1 (
+        h.passes,
+        λ e. absurd (let lt = rules.within x y h.cone h.has in omega (arith, lt, e, last)),
+      );
+    }
+    to signs x y (inr (e, f, inside)) = record {
+      cone = j;
+      has = (adds x y j).1 (inr (e, f, refl));
+      passes = (sides signs j).1 (
+        (rules.tests signs j).1 (λ o is. absurd (let lt = place_within old.cones.items j o is in
+            omega (arith, lt, last))),
+        λ same. inside,
+      );
+    }
+
+pub no_block_arcs : (block : Block) → block.arcs.items ≡ [] → (signs : List Sign) (x y : ℕ)
+    → IsBlockArc block signs x y
+    → ⊥
+no_block_arcs block none signs x y h =
+    let (k, arc, lt, e, is) = h.has in
+    let few : length block.arcs.items ≡ 0 = ap length none in omega (arith, lt, few)
+
+-- ---- all blocks
+
+pub block_set : (blocks : List Block) (k : ℕ) (old new : Block) (cone : List Side) (a b : ℕ) → k < length blocks
+    → old ≡ get_or blocks k old → All IsBlock blocks → AddsToBlock cone a b old new
+    → AddsCone cone a b blocks (slice_set blocks k new)
+block_set blocks k old new cone a b lt at rules added = record {
+  arcs = λ signs x y. any_set (λ block. IsBlockArc block signs x y) blocks k old new
+      ((x ≡ a) × (y ≡ b) × AreInside signs cone) lt
+      (subst (λ block. IsBlockArc new signs x y
+      ↔ (IsBlockArc block signs x y ⊎ ((x ≡ a) × (y ≡ b)
+      × AreInside signs cone))) at (added.arcs signs x y));
+  blocks = All-set IsBlock blocks k new added.block rules;
+}
+
+pub block_pushed : (blocks grown : List Block) (none new : Block) (cone : List Side) (a b : ℕ)
+    → none.arcs.items ≡ [] → grown ≡ blocks ++ new ∷ [] → All IsBlock blocks
+    → AddsToBlock cone a b none new
+    → AddsCone cone a b blocks grown
+block_pushed blocks grown none new cone a b empty is rules added =
+    subst (λ l. AddsCone cone a b blocks l) (sym is) (record {
+      arcs = λ signs x y. (from signs x y, to signs x y);
+      blocks = All-push IsBlock blocks new rules added.block;
+    })
+  where
+    Arc : List Sign → ℕ → ℕ → Block → Type 0
+    Arc signs x y block = IsBlockArc block signs x y
+
+    New : List Sign → ℕ → ℕ → Type 0
+    New signs x y = (x ≡ a) × (y ≡ b) × AreInside signs cone
+
+    from : (signs : List Sign) (x y : ℕ) → Any (Arc signs x y) (blocks ++ new ∷ [])
+        → Any (Arc signs x y) blocks ⊎ New signs x y
+    from signs x y h = ⊎_elim {C = Any (Arc signs x y) blocks ⊎ New signs x y} (λ o. inl o)
+        (λ p. ⊎_elim {C = Any (Arc signs x y) blocks ⊎ New signs x y}
+        (λ o. absurd (no_block_arcs none empty signs x y o)) (λ q. inr q) ((added.arcs signs x y).0 p))
+        ((any_pushed (Arc signs x y) blocks new).0 h)
+
+    to : (signs : List Sign) (x y : ℕ) → Any (Arc signs x y) blocks ⊎ New signs x y
+        → Any (Arc signs x y) (blocks ++ new ∷ [])
+    to signs x y (inl o) = (any_pushed (Arc signs x y) blocks new).1 (inl o)
+    to signs x y (inr q) = (any_pushed (Arc signs x y) blocks new).1 (inr ((added.arcs signs x y).1 (inr q)))

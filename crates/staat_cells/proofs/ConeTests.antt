@@ -1,0 +1,308 @@
+-- Words of which each bit tells of a cone.
+use Rattle.std.proofs.Common.{
+  ◌≡◌,
+  ◌≢◌,
+  ◌⊎◌,
+  ◌↔◌,
+  inl,
+  inr,
+  ⊎_elim,
+  ℕ,
+  zero,
+  suc,
+  ◌+◌,
+  ◌-◌,
+  ◌*◌,
+  ◌/◌,
+  ◌%◌,
+  ◌^◌,
+  ◌<◌,
+}
+use Rattle.std.proofs.Common.{
+  ◌≤◌,
+  min,
+  max,
+  refl,
+  sym,
+  ap,
+  subst,
+  ◌∙◌,
+  arith,
+  List,
+  [],
+  ◌∷◌,
+  ◌++◌,
+  length,
+  get_or,
+  take,
+  All,
+  Any,
+}
+use Rattle.std.specs.Prelude.{bit_and, bit_or, bit_xor, Some, slice_get, slice_index, slice_set}
+use Rattle.std.specs.Int.{bit_at, w64}
+use Rattle.std.proofs.lemmas.List.{length_push, take_all}
+use Rattle.std.proofs.lemmas.Nat.Bits.{
+  bit_at-lt,
+  bit_at-suc,
+  bit_at_lowest,
+  bit_at-zero,
+  bit_at_above,
+  bit_at_and,
+  bit_at_or,
+}
+use Rattle.std.proofs.lemmas.Nat.Bits.{bit_at_set_other, bit_at_set_same, bit_at_xor}
+use Rattle.std.proofs.lemmas.Option.{get_or_from_slice_get}
+use Rattle.staat_vec.specs.declared.vector.Sign.{Sign}
+use Rattle.staat_vec.specs.declared.vector.Sign.TheVariants.{Neg, Zero, Pos}
+use Rattle.staat_model.specs.Cells.{sign_place}
+use Rattle.staat_model.proofs.Places.{place_within}
+use Rattle.staat_cells.specs.declared.blocks.PlaneTest.{PlaneTest}
+use Rattle.staat_cells.specs.declared.half_spaces.Side.{Side}
+use Rattle.staat_cells.specs.HalfSpaces.{AreInside, IsOnSide, sign_at}
+use Rattle.staat_cells.specs.Blocks.{IsPassedAt, PassesAll}
+use Rattle.staat_cells.proofs.Elements.{all_more, all_pushed, all_set}
+
+same_or : (a b : ℕ) → (a ≡ b) ⊎ (a ≡ b → ⊥)
+same_or a b = grind arith
+
+-- ---- a bit more
+
+pub set_bit : (x j k : ℕ) → j < 64
+    → (bit_at (bit_or x (1 * 2 ^ j % 2 ^ 64)) k ≡ 1) ↔ ((bit_at x k ≡ 1) ⊎ (k ≡ j))
+set_bit x j k lt = ⊎_elim {C = (bit_at (bit_or x (1 * 2 ^ j % 2 ^ 64)) k ≡ 1) ↔ ((bit_at x k ≡ 1)
+    ⊎ (k ≡ j))}
+    (λ e. (λ h. inr e, λ h. ap (bit_at (bit_or x (1 * 2 ^ j % 2 ^ 64))) e ∙ bit_at_set_same w64 x j lt))
+    (λ ne. let kept = bit_at_set_other w64 x j lt k ne in
+    (λ h. inl (sym kept ∙ h), ⊎_elim (λ o. kept ∙ o) (λ e. absurd (ne e))))
+    (same_or k j)
+
+-- a bit that is set to no purpose of Q
+clear_bit : (x j k : ℕ) (Q : Type 0) → j < 64 → (Q → ⊥)
+    → (bit_at (bit_or x (1 * 2 ^ j % 2 ^ 64)) k ≡ 0) ↔ ((bit_at x k ≡ 0) × (k ≡ j → Q))
+clear_bit x j k Q lt never = ⊎_elim {C = (bit_at (bit_or x (1 * 2 ^ j % 2 ^ 64)) k ≡ 0) ↔ ((bit_at x k ≡ 0)
+    × (k ≡ j → Q))}
+    (λ e. let one = ap (bit_at (bit_or x (1 * 2 ^ j % 2 ^ 64))) e ∙ bit_at_set_same w64 x j lt in
+    (λ h. absurd (apart (bit_at (bit_or x (1 * 2 ^ j % 2 ^ 64)) k) h one), λ h. absurd (never (h.1 e))))
+    (λ ne. let kept = bit_at_set_other w64 x j lt k ne in
+    (λ h. (sym kept ∙ h, λ e. absurd (ne e)), λ h. kept ∙ h.0))
+    (same_or k j)
+  where
+    apart : (n : ℕ) → n ≡ 0 → n ≡ 1 → ⊥
+    apart n e f = omega arith
+
+same_bit : (x j k : ℕ) (s : Sign) → (bit_at x k ≡ 0) ↔ ((bit_at x k ≡ 0) × (k ≡ j → s ≡ s))
+same_bit x j k s = (λ h. (h, λ e. refl), λ h. h.0)
+
+module _ (o : List ℕ) (j : ℕ) (lt : j < 64) where
+  abbrev Bit : ℕ
+  Bit = 1 * 2 ^ j % 2 ^ 64
+
+  -- the words are those with the cone j on the side s
+  abbrev IsGrown : List ℕ → Sign → Type 0
+  IsGrown new s = (t : Sign) (k : ℕ) → (bit_at (slice_index new (sign_place t)) k ≡ 0)
+      ↔ ((bit_at (slice_index o (sign_place t)) k ≡ 0) × (k ≡ j → t ≡ s))
+
+  below_it : IsGrown (slice_index o 0 ∷ bit_or (slice_index o 1) Bit ∷ bit_or (slice_index o 2) Bit ∷ []) Neg
+  below_it Neg k = same_bit (slice_index o 0) j k Neg
+  below_it Zero k = clear_bit (slice_index o 1) j k (Zero ≡ Neg) lt (λ e. cc)
+  below_it Pos k = clear_bit (slice_index o 2) j k (Pos ≡ Neg) lt (λ e. cc)
+
+  on_it : IsGrown (bit_or (slice_index o 0) Bit ∷ slice_index o 1 ∷ bit_or (slice_index o 2) Bit ∷ []) Zero
+  on_it Neg k = clear_bit (slice_index o 0) j k (Neg ≡ Zero) lt (λ e. cc)
+  on_it Zero k = same_bit (slice_index o 1) j k Zero
+  on_it Pos k = clear_bit (slice_index o 2) j k (Pos ≡ Zero) lt (λ e. cc)
+
+  above_it : IsGrown (bit_or (slice_index o 0) Bit ∷ bit_or (slice_index o 1) Bit ∷ slice_index o 2 ∷ []) Pos
+  above_it Neg k = clear_bit (slice_index o 0) j k (Neg ≡ Pos) lt (λ e. cc)
+  above_it Zero k = clear_bit (slice_index o 1) j k (Zero ≡ Pos) lt (λ e. cc)
+  above_it Pos k = same_bit (slice_index o 2) j k Pos
+
+  pub grown_below : (s : Sign) → s ≡ Neg
+      → IsGrown (slice_index o 0 ∷ bit_or (slice_index o 1) Bit ∷ bit_or (slice_index o 2) Bit ∷ []) s
+  grown_below s e =
+      subst (IsGrown (slice_index o 0 ∷ bit_or (slice_index o 1) Bit ∷ bit_or (slice_index o 2) Bit ∷ []))
+      (sym e)
+      below_it
+
+  pub grown_on : (s : Sign) → s ≡ Zero
+      → IsGrown (bit_or (slice_index o 0) Bit ∷ slice_index o 1 ∷ bit_or (slice_index o 2) Bit ∷ []) s
+  grown_on s e =
+      subst (IsGrown (bit_or (slice_index o 0) Bit ∷ slice_index o 1 ∷ bit_or (slice_index o 2) Bit ∷ []))
+      (sym e)
+      on_it
+
+  pub grown_above : (s : Sign) → s ≡ Pos
+      → IsGrown (bit_or (slice_index o 0) Bit ∷ bit_or (slice_index o 1) Bit ∷ slice_index o 2 ∷ []) s
+  grown_above s e =
+      subst (IsGrown (bit_or (slice_index o 0) Bit ∷ bit_or (slice_index o 1) Bit ∷ slice_index o 2 ∷ []))
+      (sym e)
+      above_it
+
+-- ---- all tests
+
+pub none_out : (signs : List Sign) (tests : List PlaneTest) (j : ℕ)
+    → (bit_at 0 j ≡ 0) ↔ PassesAll signs (take 0 tests) j
+none_out signs tests j = (λ h k d lt. absurd (omega (arith, lt)), λ h. bit_at-zero j)
+
+pub more_out : (signs : List Sign) (tests : List PlaneTest) (k found : ℕ) (x : PlaneTest) → k < length tests
+    → x ≡ get_or tests k x
+    → ((j : ℕ) → (bit_at found j ≡ 0) ↔ PassesAll signs (take k tests) j)
+    → (j : ℕ) → (bit_at (bit_or found (slice_index x.outside (sign_place (sign_at signs x.plane)))) j ≡ 0)
+    ↔ PassesAll signs (take (k + 1) tests) j
+more_out signs tests k found x lt at before j =
+    let word = slice_index x.outside (sign_place (sign_at signs x.plane)) in
+    let bits = bit_at_or found word j in
+    let more = all_more (λ t. IsPassedAt t (sign_at signs t.plane) j) tests k x lt at in (
+      λ h. let z = sym bits ∙ h in
+          more.1 ((before j).0 (left (bit_at found j) (bit_at word j) z), right (bit_at found j) (bit_at word j) z),
+      λ h. let both = more.0 h in bits ∙ neither (bit_at found j) (bit_at word j) ((before j).1 both.0) both.1,
+    )
+  where
+    left : (m n : ℕ) → max m n ≡ 0 → m ≡ 0
+    left m n e = omega arith
+
+    right : (m n : ℕ) → max m n ≡ 0 → n ≡ 0
+    right m n e = omega arith
+
+    neither : (m n : ℕ) → m ≡ 0 → n ≡ 0 → max m n ≡ 0
+    neither m n e f = omega arith
+
+pub all_out : (signs : List Sign) (tests : List PlaneTest) (k found : ℕ) → length tests ≤ k
+    → ((j : ℕ) → (bit_at found j ≡ 0) ↔ PassesAll signs (take k tests) j)
+    → (j : ℕ) → (bit_at found j ≡ 0) ↔ PassesAll signs tests j
+all_out signs tests k found le h = subst (λ l. (j : ℕ) → (bit_at found j ≡ 0) ↔ PassesAll signs l j)
+    (take_all k tests le) h
+
+-- ---- a side more
+
+-- the tests have grown by what has Q of the cone j
+abbrev pub AddsSides : (List Sign → Type 0) → ℕ → List PlaneTest → List PlaneTest → Type 0
+AddsSides Q j old new = (signs : List Sign) (k : ℕ)
+    → PassesAll signs new k ↔ (PassesAll signs old k × (k ≡ j → Q signs))
+
+-- the test of a plane with the side s of the cone j
+abbrev pub HasGrown : PlaneTest → PlaneTest → Sign → ℕ → Type 0
+HasGrown old new s j = (t : Sign) (k : ℕ) → IsPassedAt new t k ↔ (IsPassedAt old t k × (k ≡ j → t ≡ s))
+
+pub side_set : (tests : List PlaneTest) (side : Side) (j at : ℕ) (d x : PlaneTest) → at < length tests
+    → d ≡ get_or tests at d → d.plane ≡ side.plane → x.plane ≡ d.plane → HasGrown d x side.sign j
+    → AddsSides (λ signs. IsOnSide signs side) j tests (slice_set tests at x)
+side_set tests side j at d x lt is plane same grown signs k =
+    all_set (λ t. IsPassedAt t (sign_at signs t.plane) k) tests at d x (k ≡ j → IsOnSide signs side) lt own
+  where
+    own : IsPassedAt x (sign_at signs x.plane) k
+        ↔ (IsPassedAt (get_or tests at d) (sign_at signs (get_or tests at d).plane) k × (k ≡ j
+        → IsOnSide signs side))
+    own = subst (λ (y : PlaneTest). IsPassedAt x (sign_at signs x.plane) k
+        ↔ (IsPassedAt y (sign_at signs y.plane) k × (k ≡ j → IsOnSide signs side))) is
+        (subst (λ n. IsPassedAt x (sign_at signs n) k
+        ↔ (IsPassedAt d (sign_at signs d.plane) k × (k ≡ j → IsOnSide signs side))) (sym same)
+        (subst (λ n. IsPassedAt x (sign_at signs d.plane) k
+        ↔ (IsPassedAt d (sign_at signs d.plane) k × (k ≡ j → sign_at signs n ≡ side.sign))) plane
+        (grown (sign_at signs d.plane) k)))
+
+pub side_pushed : (tests new : List PlaneTest) (side : Side) (j : ℕ) (x : PlaneTest) → x.plane ≡ side.plane
+    → HasGrown (record { plane = side.plane; outside = 0 ∷ 0 ∷ 0 ∷ [] }) x side.sign j
+    → new ≡ tests ++ x ∷ []
+    → AddsSides (λ signs. IsOnSide signs side) j tests new
+side_pushed tests new side j x same grown is signs k =
+    subst (λ l. PassesAll signs l k ↔ (PassesAll signs tests k × (k ≡ j
+    → IsOnSide signs side))) (sym is) (from, to)
+  where
+    P : PlaneTest → Type 0
+    P t = IsPassedAt t (sign_at signs t.plane) k
+
+    passed : (t : Sign) → IsPassedAt (record { plane = side.plane; outside = 0 ∷ 0 ∷ 0 ∷ [] }) t k
+    passed Neg = bit_at-zero k
+    passed Zero = bit_at-zero k
+    passed Pos = bit_at-zero k
+
+    own : P x ↔ (k ≡ j → IsOnSide signs side)
+    own = subst (λ n. IsPassedAt x (sign_at signs n) k ↔ (k ≡ j → IsOnSide signs side)) (sym same) (
+      λ h. ((grown (sign_at signs side.plane) k).0 h).1,
+      λ h. (grown (sign_at signs side.plane) k).1 (passed (sign_at signs side.plane), h),
+    )
+
+    from : PassesAll signs (tests ++ x ∷ []) k → PassesAll signs tests k × (k ≡ j → IsOnSide signs side)
+    from h = let both = (all_pushed P tests x).0 h in (both.0, own.0 both.1)
+
+    to : PassesAll signs tests k × (k ≡ j → IsOnSide signs side) → PassesAll signs (tests ++ x ∷ []) k
+    to h = (all_pushed P tests x).1 (h.0, own.1 h.1)
+
+pub no_sides : (tests : List PlaneTest) (cone : List Side) (j : ℕ)
+    → AddsSides (λ signs. AreInside signs (take 0 cone)) j tests tests
+no_sides tests cone j signs k = (λ h. (h, λ e i d lt. absurd (omega (arith, lt))), λ h. h.0)
+
+pub more_sides : (cone : List Side) (x : Side) (i j : ℕ) (old mid new : List PlaneTest) → i < length cone
+    → x ≡ get_or cone i x → AddsSides (λ signs. AreInside signs (take i cone)) j old mid
+    → AddsSides (λ signs. IsOnSide signs x) j mid new
+    → AddsSides (λ signs. AreInside signs (take (i + 1) cone)) j old new
+more_sides cone x i j old mid new lt at before one signs k =
+    let more = all_more (IsOnSide signs) cone i x lt at in (
+      λ h. let last = (one signs k).0 h in
+          let first = (before signs k).0 last.0 in
+          (first.0, λ e. more.1 (first.1 e, last.1 e)),
+      λ h. (one signs k).1 ((before signs k).1 (h.0, λ e. (more.0 (h.1 e)).0), λ e. (more.0 (h.1 e)).1),
+    )
+
+pub all_sides : (cone : List Side) (i j : ℕ) (old new : List PlaneTest) → length cone ≤ i
+    → AddsSides (λ signs. AreInside signs (take i cone)) j old new
+    → AddsSides (λ signs. AreInside signs cone) j old new
+all_sides cone i j old new le h = subst (λ l. AddsSides (λ signs. AreInside signs l) j old new) (take_all i cone
+    le) h
+
+-- ---- what is in one word and not in another
+
+some_bit : (k n : ℕ) → n ≤ k → n ≢ 0 → (j : ℕ) × (bit_at n j ≡ 1)
+some_bit zero n le ne = absurd (ne (omega (arith, le)))
+some_bit (suc k) n le ne = ⊎_elim {C = (j : ℕ) × (bit_at n j ≡ 1)}
+    (λ odd. (0, bit_at_lowest n ∙ odd))
+    (λ even. let h = some_bit k (n / 2) (half n k le) (λ z. ne (whole n z even)) in
+    (suc h.0, bit_at-suc n h.0 ∙ h.1))
+    (parity n)
+  where
+    parity : (n : ℕ) → (n % 2 ≡ 1) ⊎ (n % 2 ≡ 0)
+    parity n = grind arith
+
+    half : (n k : ℕ) → n ≤ suc k → n / 2 ≤ k
+    half n k le = omega (arith, le)
+
+    whole : (n : ℕ) → n / 2 ≡ 0 → n % 2 ≡ 0 → n ≡ 0
+    whole n z even = omega (arith, z, even)
+
+pub without_some : (x y : ℕ)
+    → (bit_xor (bit_and x y) x ≢ 0) ↔ ((j : ℕ) × (bit_at x j ≡ 1) × (bit_at y j ≡ 0))
+without_some x y = (from, to)
+  where
+    bit : (j : ℕ) → bit_at (bit_xor (bit_and x y) x) j ≡ (min (bit_at x j) (bit_at y j) + bit_at x j) % 2
+    bit j = bit_at_xor (bit_and x y) x j ∙ ap (λ n. (n + bit_at x j) % 2) (bit_at_and x y j)
+
+    in_first : (m n : ℕ) → m < 2 → n < 2 → (min m n + m) % 2 ≡ 1 → m ≡ 1
+    in_first zero n lt small e = let z : min 0 n ≡ 0 = omega arith in absurd (omega (arith, e, z))
+    in_first (suc zero) n lt small e = refl
+    in_first (suc (suc m)) n lt small e = absurd (omega (arith, lt))
+
+    not_second : (m n : ℕ) → m < 2 → n < 2 → (min m n + m) % 2 ≡ 1 → n ≡ 0
+    not_second m zero lt small e = refl
+    not_second zero (suc n) lt small e = let z : min 0 (suc n) ≡ 0 = omega arith in absurd (omega (arith, e, z))
+    not_second (suc zero) (suc zero) lt small e = absurd (omega (arith, e))
+    not_second (suc (suc m)) (suc n) lt small e = absurd (omega (arith, lt))
+    not_second (suc zero) (suc (suc n)) lt small e = absurd (omega (arith, small))
+
+    from : bit_xor (bit_and x y) x ≢ 0 → (j : ℕ) × (bit_at x j ≡ 1) × (bit_at y j ≡ 0)
+    from ne = let (j, one) = some_bit (bit_xor (bit_and x y) x) (bit_xor (bit_and x y) x) (omega arith) ne in
+        let e = sym (bit j) ∙ one in (
+          j,
+          in_first (bit_at x j) (bit_at y j) (bit_at-lt x j) (bit_at-lt y j) e,
+          not_second (bit_at x j) (bit_at y j) (bit_at-lt x j) (bit_at-lt y j) e,
+        )
+
+    out : (m n : ℕ) → m ≡ 1 → n ≡ 0 → (min m n + m) % 2 ≡ 1
+    out m n e f = omega (arith, e, f)
+
+    apart : (n : ℕ) → n ≡ 0 → n ≡ 1 → ⊥
+    apart n e f = omega arith
+
+    to : ((j : ℕ) × (bit_at x j ≡ 1) × (bit_at y j ≡ 0)) → bit_xor (bit_and x y) x ≢ 0
+    to (j, one, none) z = apart (bit_at (bit_xor (bit_and x y) x) j)
+        (ap (λ n. bit_at n j) z ∙ bit_at-zero j) (bit j ∙ out (bit_at x j) (bit_at y j) one none)

@@ -1,0 +1,111 @@
+-- Lists of which all members, or some, have a property, as a member is added or changed.
+use Rattle.std.proofs.Common.{
+  ◌≡◌,
+  ◌⊎◌,
+  ◌↔◌,
+  inl,
+  inr,
+  ⊎_elim,
+  ℕ,
+  zero,
+  suc,
+  ◌+◌,
+  ◌<◌,
+  refl,
+  sym,
+  ap,
+  subst,
+  arith,
+}
+use Rattle.std.proofs.Common.{◌∙◌, List, [], ◌∷◌, ◌++◌, length, get_or, take, All, Any}
+use Rattle.std.specs.Prelude.{slice_set}
+use Rattle.std.proofs.lemmas.List.{take_more}
+use Rattle.std.proofs.lemmas.List.Elements.{All-cons, All-head, All-pop, All-push, All-tail}
+use Rattle.std.proofs.lemmas.List.Elements.{Contains-append_left, Contains-push, Contains-push_cases}
+use Rattle.std.specs.Prelude.{Some}
+
+module _ {X : Type 0} (P : X → Type 0) where
+  pub any_pushed : (xs : List X) (x : X) → Any P (xs ++ x ∷ []) ↔ (Any P xs ⊎ P x)
+  any_pushed xs x = (from, to)
+    where
+      from : Any P (xs ++ x ∷ []) → Any P xs ⊎ P x
+      from (k, y, lt, e, p) = ⊎_elim {C = Any P xs ⊎ P x} (λ c. inl (c.0, y, c.1, c.2, p))
+          (λ same. inr (subst P (sym same) p))
+          (Contains-push_cases xs x y (k, lt, e))
+
+      to : Any P xs ⊎ P x → Any P (xs ++ x ∷ [])
+      to (inl (k, y, lt, e, p)) = let c = Contains-append_left xs (x ∷ []) y (k, lt, e) in (c.0, y, c.1, c.2, p)
+      to (inr p) = let c = Contains-push xs x in (c.0, x, c.1, c.2, p)
+
+  pub any_first : (x : X) (xs : List X) → Any P (x ∷ xs) ↔ (Any P xs ⊎ P x)
+  any_first x xs = (from, to)
+    where
+      from : Any P (x ∷ xs) → Any P xs ⊎ P x
+      from (zero, y, lt, e, p) = inr (subst P (sym e) p)
+      from (suc k, y, lt, e, p) = inl (k, y, omega (arith, lt), e, p)
+
+      to : Any P xs ⊎ P x → Any P (x ∷ xs)
+      to (inl (k, y, lt, e, p)) = (suc k, y, omega (arith, lt), e, p)
+      to (inr p) = (0, x, omega arith, refl, p)
+
+  pub all_pushed : (xs : List X) (x : X) → All P (xs ++ x ∷ []) ↔ (All P xs × P x)
+  all_pushed xs x = (All-pop P (xs ++ x ∷ []) xs (Some x) refl, λ h. All-push P xs x h.0 h.1)
+
+  pub all_first : (x : X) (xs : List X) → All P (x ∷ xs) ↔ (P x × All P xs)
+  all_first x xs = (λ h. (All-head P x xs h, All-tail P x xs h), λ h. All-cons P x xs h.0 h.1)
+
+  pub all_more : (xs : List X) (k : ℕ) (x : X) → k < length xs → x ≡ get_or xs k x
+      → All P (take (k + 1) xs) ↔ (All P (take k xs) × P x)
+  all_more xs k x lt at = subst (λ l. All P l ↔ (All P (take k xs) × P x)) (sym grown) (all_pushed (take k xs) x)
+    where
+      grown : take (k + 1) xs ≡ take k xs ++ x ∷ []
+      grown = take_more xs k x lt ∙ ap (λ y. take k xs ++ y ∷ []) (sym at)
+
+  pub any_more : (xs : List X) (k : ℕ) (x : X) → k < length xs → x ≡ get_or xs k x
+      → Any P (take (k + 1) xs) ↔ (Any P (take k xs) ⊎ P x)
+  any_more xs k x lt at = subst (λ l. Any P l ↔ (Any P (take k xs) ⊎ P x)) (sym grown) (any_pushed (take k xs) x)
+    where
+      grown : take (k + 1) xs ≡ take k xs ++ x ∷ []
+      grown = take_more xs k x lt ∙ ap (λ y. take k xs ++ y ∷ []) (sym at)
+
+  -- a member gives way to one with P exactly where it has P and Q holds
+  pub all_set : (xs : List X) (k : ℕ) (d y : X) (Q : Type 0) → k < length xs → P y ↔ (P (get_or xs k d) × Q)
+      → All P (slice_set xs k y) ↔ (All P xs × Q)
+  all_set [] k d y Q lt own = absurd (omega (arith, lt))
+  all_set (x ∷ xs) zero d y Q lt own = (
+    λ h. let both = own.0 (All-head P y xs h) in (All-cons P x xs both.0 (All-tail P y xs h), both.1),
+    λ h. All-cons P y xs (own.1 (All-head P x xs h.0, h.1)) (All-tail P x xs h.0),
+  )
+  all_set (x ∷ xs) (suc k) d y Q lt own =
+      let rest = all_set xs k d y Q (omega (arith, lt)) own in (
+        λ h. let both = rest.0 (All-tail P x (slice_set xs k y) h) in
+            (All-cons P x xs (All-head P x (slice_set xs k y) h) both.0, both.1),
+        λ h. All-cons P x (slice_set xs k y) (All-head P x xs h.0) (rest.1 (All-tail P x xs h.0, h.1)),
+      )
+
+  -- or to one with P exactly where it has P or Q holds
+  pub any_set : (xs : List X) (k : ℕ) (d y : X) (Q : Type 0) → k < length xs → P y ↔ (P (get_or xs k d) ⊎ Q)
+      → Any P (slice_set xs k y) ↔ (Any P xs ⊎ Q)
+  any_set [] k d y Q lt own = absurd (omega (arith, lt))
+  any_set (x ∷ xs) zero d y Q lt own = (
+    λ h. ⊎_elim {C = Any P (x ∷ xs) ⊎ Q} (λ o. inl ((any_first x xs).1 (inl o)))
+        (λ p. ⊎_elim {C = Any P (x ∷ xs) ⊎ Q} (λ o. inl ((any_first x xs).1 (inr o))) (λ q. inr q) (own.0 p))
+        ((any_first y xs).0 h),
+    ⊎_elim {C = Any P (y ∷ xs)}
+        (λ o. ⊎_elim {C = Any P (y ∷ xs)} (λ r. (any_first y xs).1 (inl r))
+        (λ p. (any_first y xs).1 (inr (own.1 (inl p)))) ((any_first x xs).0 o))
+        (λ q. (any_first y xs).1 (inr (own.1 (inr q)))),
+  )
+  any_set (x ∷ xs) (suc k) d y Q lt own =
+      let rest = any_set xs k d y Q (omega (arith, lt)) own in (
+        λ h. ⊎_elim {C = Any P (x ∷ xs) ⊎ Q}
+            (λ o. ⊎_elim {C = Any P (x ∷ xs)
+            ⊎ Q} (λ r. inl ((any_first x xs).1 (inl r))) (λ q. inr q) (rest.0 o))
+            (λ p. inl ((any_first x xs).1 (inr p)))
+            ((any_first x (slice_set xs k y)).0 h),
+        ⊎_elim {C = Any P (x ∷ slice_set xs k y)}
+            (λ o. ⊎_elim {C = Any P (x ∷ slice_set xs k y)}
+            (λ r. (any_first x (slice_set xs k y)).1 (inl (rest.1 (inl r))))
+            (λ p. (any_first x (slice_set xs k y)).1 (inr p)) ((any_first x xs).0 o))
+            (λ q. (any_first x (slice_set xs k y)).1 (inl (rest.1 (inr q)))),
+      )

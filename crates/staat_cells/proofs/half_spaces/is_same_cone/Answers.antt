@@ -1,0 +1,13 @@
+use Rattle.std.proofs.Common.{◌≡◌, ◌∙◌, sym, true}
+use Rattle.std.proofs.Common.{rules, arith}
+use lib.Pointwise.{pointwise_decides}
+use Rattle.staat_cells.specs.declared.half_spaces.Side.{Side}
+use Rattle.staat_cells.specs.contracts.half_spaces.SidePartialEq.TheImpl.{eq-value}
+use Rattle.staat_cells.proofs.half_spaces.is_same_cone.Goals as goal
+
+decides : (x y : Side) → (eq-value.it x y ≡ true → x ≡ y) × (x ≡ y → eq-value.it x y ≡ true)
+decides x y = search rules
+
+pub returns : goal.returns
+returns c = let d = pointwise_decides {E = eq-value.it} decides c.args.cone.now c.args.other.now in
+    (λ t. d.0 (sym c.eq.ensures ∙ t), λ e. c.eq.ensures ∙ d.1 e)

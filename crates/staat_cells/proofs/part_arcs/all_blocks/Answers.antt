@@ -1,0 +1,23 @@
+use Rattle.std.proofs.Common.{sym, subst, [], List}
+use Rattle.std.proofs.lemmas.List.Elements.{All-nil}
+use Rattle.staat_cells.specs.declared.blocks.Block.{Block}
+use Rattle.staat_cells.specs.Blocks.{IsBlock}
+use Rattle.staat_cells.specs.CellGraphs.{AddsArcs, IsFromPart}
+use Rattle.staat_cells.proofs.PartArcs.{BelowParts, all_listed, below_more, below_none}
+use Rattle.staat_cells.proofs.part_arcs.all_blocks.Goals as goal
+
+pub loop-a-init : goal.loop-a-init
+loop-a-init c =
+    subst (λ (l : List Block). AddsArcs c.args.table.now (BelowParts (IsFromPart c.args.table.now) 0) [] l)
+    (sym c.new-blocks.ensures.items)
+    (below_none c.args.table.now (IsFromPart c.args.table.now) [] (All-nil IsBlock))
+
+pub loop-a-preserved : goal.loop-a-preserved
+loop-a-preserved c =
+    below_more c.args.table.now (IsFromPart c.args.table.now) c.loop-a.a [] c.loop-a.blocks.items
+    c.push_from.new.blocks.items
+    c.loop-a.invariant c.in_ok-push_from.ensures
+
+pub returns-clause-arcs : goal.returns-clause-arcs
+returns-clause-arcs c = all_listed c.args.table.now c.loop-a.a c.loop-a.blocks.items c.set-set.ensures.rules
+    c.loop-a-test.false c.loop-a.invariant

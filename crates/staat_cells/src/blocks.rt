@@ -1,0 +1,337 @@
+// Blocks of cones that are tested at once, a bit for each.
+ghost use Rattle.std.specs.Prelude.{
+  ◌≡◌,
+  ◌≢◌,
+  ◌<◌,
+  ◌-◌,
+  ◌⊎◌,
+  ◌↔◌,
+  ℕ,
+  List,
+  All,
+  IsTrue,
+  OnOk,
+};
+ghost use Rattle.std.specs.Prelude.{length, Some, slice_get, slice_index_or};
+ghost use Rattle.std.specs.Int.{bit_at};
+ghost use Rattle.staat_vec.specs.declared.vector.Sign.{Sign as SignValue};
+ghost use Rattle.staat_graph.specs.Graphs.{HasArc};
+ghost use Rattle.staat_cells.specs.declared.blocks.ArcCones.{ArcCones as ArcValue};
+ghost use Rattle.staat_cells.specs.declared.blocks.Block.{Block as BlockValue};
+ghost use Rattle.staat_cells.specs.declared.blocks.PlaneTest.{PlaneTest as TestValue};
+ghost use Rattle.staat_cells.specs.declared.half_spaces.Side.{Side as SideValue};
+ghost use Rattle.staat_cells.specs.HalfSpaces.{AreInside, IsOnSide, sign_at};
+ghost use Rattle.staat_cells.specs.Blocks.{AddsToBlock, HasCone, HasParts, IsBlock, IsBlockArc};
+ghost use Rattle.staat_cells.specs.Blocks.{IsLeft, IsPassedAt, PassesAll};
+ghost use Rattle.staat_cells.specs.CellGraphs.{AddsCone};
+
+use crate::half_spaces::{HalfSpaces, Side, copied, is_same_cone};
+use crate::incidence::place;
+use staat_model::{MOST_PARTS, PartSet};
+use staat_vec::{Listed, OutOfMemory, Sign};
+use std::alloc::Global;
+
+/// How many cones a block has at most.
+const BLOCK: usize = 64;
+
+/// What a plane rules out of the cones of a block: those that no direction below the plane is in, none on it, and none
+/// above it, as bits.
+#[derive(Clone, Copy)]
+pub struct PlaneTest {
+    pub(crate) plane: usize,
+    pub(crate) outside: [u64; 3],
+}
+
+/// Two parts `a` and `b`, and which cones of a block are those of a piece of `a` and a piece of `b`, as bits.
+#[derive(Clone, Copy)]
+pub struct ArcCones {
+    pub(crate) a: u32,
+    pub(crate) b: u32,
+    pub(crate) cones: u64,
+}
+
+/// At most 64 different cones, what the planes rule out of them, and the parts that they belong to.
+#[derive(Drop)]
+pub struct Block {
+    pub(crate) cones: Vec<HalfSpaces>,
+    pub(crate) tests: Vec<PlaneTest>,
+    pub(crate) arcs: Vec<ArcCones>,
+}
+
+// ---- tests of cones
+
+// the sign of the plane k, and zero where there is none
+fn sign_at(signs: &[Sign], k: usize) -> Sign
+    ensures { result ≡ sign_at signs.now k }
+{
+    if k < signs.len() {
+        signs[k]
+    } else {
+        Sign::Zero
+    }
+}
+
+// the cones that are ruled out at directions with these signs
+fn ruled_out(tests: &[PlaneTest], signs: &[Sign]) -> u64
+    ensures { (j : ℕ) → (bit_at result j ≡ 0) ↔ PassesAll signs.now tests.now j }
+{
+    let mut found: u64 = 0;
+    for test in tests {
+        found |= test.outside[place(sign_at(signs, test.plane)) as usize];
+    }
+    found
+}
+
+// the test with the cone j, which is on the side s of its plane
+fn with_cone(test: PlaneTest, s: Sign, j: usize) -> PlaneTest
+    requires { j < 64 }
+    ensures plane { result.plane ≡ test.plane }
+    ensures passed { (t : SignValue) (k : ℕ) → IsPassedAt result t k ↔ (IsPassedAt test t k × (k ≡ j
+        → t ≡ s)) }
+{
+    let bit: u64 = 1 << j;
+    let below = test.outside[0];
+    let on = test.outside[1];
+    let above = test.outside[2];
+    let outside = match s {
+        Sign::Neg => [below, on | bit, above | bit],
+        Sign::Zero => [below | bit, on, above | bit],
+        Sign::Pos => [below | bit, on | bit, above],
+    };
+    PlaneTest {
+        plane: test.plane,
+        outside,
+    }
+}
+
+// where the test of a plane stands, or how many there are
+fn place_of_plane(tests: &[PlaneTest], plane: usize) -> usize
+    ensures { result < length tests.now
+        → (d : TestValue) → (slice_index_or tests.now result d).plane ≡ plane }
+{
+    for k in 0..tests.len() {
+        if tests[k].plane == plane {
+            return k;
+        }
+    }
+    tests.len()
+}
+
+// adds a side of the cone j
+fn add_side(tests: &mut Vec<PlaneTest>, side: Side, j: usize) -> Result<(), OutOfMemory>
+    requires { j < 64 }
+    ensures { OnOk result ((signs : List SignValue) (k : ℕ) → PassesAll signs tests.new.items k
+        ↔ (PassesAll signs tests.old.items k × (k ≡ j → IsOnSide signs side))) }
+{
+    let at = place_of_plane(tests, side.plane);
+    if at < tests.len() {
+        tests[at] = with_cone(tests[at], side.sign, j);
+        return Ok(());
+    }
+    let none = PlaneTest {
+        plane: side.plane,
+        outside: [0, 0, 0],
+    };
+    tests.push(with_cone(none, side.sign, j))?;
+    Ok(())
+}
+
+// adds the sides of the cone j
+fn add_sides(tests: &mut Vec<PlaneTest>, cone: &[Side], j: usize) -> Result<(), OutOfMemory>
+    requires { j < 64 }
+    ensures { OnOk result ((signs : List SignValue) (k : ℕ) → PassesAll signs tests.new.items k
+        ↔ (PassesAll signs tests.old.items k × (k ≡ j → AreInside signs cone.now))) }
+{
+    for side in cone {
+        add_side(tests, *side, j)?;
+    }
+    Ok(())
+}
+
+// ---- cones of parts
+
+// whether the last listed are the parts a and b
+fn is_last(arcs: &[ArcCones], a: u32, b: u32) -> bool
+    ensures some { IsTrue result → 0 < length arcs.now }
+    ensures last { IsTrue result → (d : ArcValue) → ((slice_index_or arcs.now (length arcs.now - 1) d).a ≡ a)
+        × ((slice_index_or arcs.now (length arcs.now - 1) d).b ≡ b) }
+{
+    let count = arcs.len();
+    count > 0 && arcs[count - 1].a == a && arcs[count - 1].b == b
+}
+
+// the parts with the cone j
+fn with_bit(arc: ArcCones, j: usize) -> ArcCones
+    requires { j < 64 }
+    ensures a { result.a ≡ arc.a }
+    ensures b { result.b ≡ arc.b }
+    ensures cones { (k : ℕ) → (bit_at result.cones k ≡ 1) ↔ ((bit_at arc.cones k ≡ 1) ⊎ (k ≡ j)) }
+{
+    ArcCones {
+        a: arc.a,
+        b: arc.b,
+        cones: arc.cones | 1 << j,
+    }
+}
+
+// adds the cone j to those of the parts a and b
+fn add_arc(arcs: &mut Vec<ArcCones>, a: u32, b: u32, j: usize) -> Result<(), OutOfMemory>
+    requires cone { j < 64 }
+    requires a { a < MOST_PARTS }
+    requires b { b < MOST_PARTS }
+    requires parts { All HasParts arcs.old.items }
+    ensures parts { OnOk result (All HasParts arcs.new.items) }
+    ensures cones { OnOk result ((x y k : ℕ) → HasCone arcs.new.items x y k
+        ↔ (HasCone arcs.old.items x y k ⊎ ((x ≡ a) × (y ≡ b) × (k ≡ j)))) }
+{
+    if is_last(arcs, a, b) {
+        let last = arcs.len() - 1;
+        arcs[last] = with_bit(arcs[last], j);
+        return Ok(());
+    }
+    let none = ArcCones { a, b, cones: 0 };
+    arcs.push(with_bit(none, j))?;
+    Ok(())
+}
+
+// adds a cone to a block
+fn add_new(
+    alloc: Global,
+    block: &mut Block,
+    cone: &[Side],
+    a: u32,
+    b: u32,
+) -> Result<(), OutOfMemory>
+    requires rules { IsBlock block.old }
+    requires room { length block.old.cones.items < 64 }
+    requires a { a < MOST_PARTS }
+    requires b { b < MOST_PARTS }
+    ensures { OnOk result (AddsToBlock cone.now a b block.old block.new) }
+{
+    let j = block.cones.len();
+    add_sides(&mut block.tests, cone, j)?;
+    add_arc(&mut block.arcs, a, b, j)?;
+    block.cones.push(Listed::from_vec(copied(alloc, cone)?))?;
+    Ok(())
+}
+
+// adds the parts a and b to those of the cone j
+fn add_parts(block: &mut Block, j: usize, a: u32, b: u32) -> Result<(), OutOfMemory>
+    requires rules { IsBlock block.old }
+    requires cone { j < length block.old.cones.items }
+    requires a { a < MOST_PARTS }
+    requires b { b < MOST_PARTS }
+    ensures { OnOk result ((cone : List SideValue) → slice_get block.old.cones.items j ≡ Some cone
+        → AddsToBlock cone a b block.old block.new) }
+{
+    add_arc(&mut block.arcs, a, b, j)?;
+    Ok(())
+}
+
+// the place of a cone
+fn place_of_cone(cones: &[HalfSpaces], cone: &[Side]) -> Option<usize>
+    ensures { (j : ℕ) → result ≡ Some j → slice_get cones.now j ≡ Some cone.now }
+{
+    for k in 0..cones.len() {
+        if is_same_cone(cones[k].as_slice(), cone) {
+            return Some(k);
+        }
+    }
+    None
+}
+
+// the block of a cone, and its place there
+fn find(blocks: &[Block], cone: &[Side]) -> Option<(usize, usize)>
+    ensures block { (k j : ℕ) → result ≡ Some (k, j) → k < length blocks.now }
+    ensures cone { (k j : ℕ) → result ≡ Some (k, j) → (d : BlockValue)
+        → slice_get (slice_index_or blocks.now k d).cones.items j ≡ Some cone.now }
+{
+    for k in 0..blocks.len() {
+        if let Some(j) = place_of_cone(&blocks[k].cones, cone) {
+            return Some((k, j));
+        }
+    }
+    None
+}
+
+// whether there is room for a cone in the last block
+fn has_room(blocks: &[Block]) -> bool
+    ensures some { IsTrue result → 0 < length blocks.now }
+    ensures last { IsTrue result → (d : BlockValue)
+        → length (slice_index_or blocks.now (length blocks.now - 1) d).cones.items < 64 }
+{
+    let count = blocks.len();
+    count > 0 && blocks[count - 1].cones.len() < BLOCK
+}
+
+/// Adds a cone of the parts `a` and `b`. A cone that is in a block already gets these parts too.
+pub(crate) fn add_cone(
+    alloc: Global,
+    blocks: &mut Vec<Block>,
+    cone: &[Side],
+    a: u32,
+    b: u32,
+) -> Result<(), OutOfMemory>
+    requires rules { All IsBlock blocks.old.items }
+    requires a { a < MOST_PARTS }
+    requires b { b < MOST_PARTS }
+    ensures { OnOk result (AddsCone cone.now a b blocks.old.items blocks.new.items) }
+{
+    if let Some((k, j)) = find(blocks, cone) {
+        return add_parts(&mut blocks[k], j, a, b);
+    }
+    if has_room(blocks) {
+        let last = blocks.len() - 1;
+        return add_new(alloc, &mut blocks[last], cone, a, b);
+    }
+    let mut block = Block {
+        cones: Vec::new(alloc),
+        tests: Vec::new(alloc),
+        arcs: Vec::new(alloc),
+    };
+    add_new(alloc, &mut block, cone, a, b)?;
+    blocks.push(block)?;
+    Ok(())
+}
+
+// ---- the arcs of a block
+
+// the row with the arc to b
+fn with_arc(row: u32, b: u32) -> u32
+    requires { b < MOST_PARTS }
+    ensures { (q : ℕ) → (bit_at result q ≡ 1) ↔ ((bit_at row q ≡ 1) ⊎ (q ≡ b)) }
+{
+    PartSet::from_bits(row).union(PartSet::single(b)).bits()
+}
+
+// the bits of the first word that are not in the second
+fn word_without(x: u64, y: u64) -> u64
+    ensures { (result ≢ 0) ↔ ((j : ℕ) × (bit_at x j ≡ 1) × (bit_at y j ≡ 0)) }
+{
+    x & y ^ x
+}
+
+// the row after two parts were looked at, where these cones are ruled out
+fn row_after(row: u32, outside: u64, arc: &ArcCones) -> u32
+    requires { arc.now.b < MOST_PARTS }
+    ensures { (q : ℕ) → (bit_at result q ≡ 1) ↔ ((bit_at row q ≡ 1) ⊎ ((q ≡ arc.now.b)
+        × IsLeft arc.now outside)) }
+{
+    if word_without(arc.cones, outside) != 0 {
+        with_arc(row, arc.b)
+    } else {
+        row
+    }
+}
+
+/// Adds the arcs of a block at directions with these signs.
+pub(crate) fn add_block_arcs(rows: &mut [u32; 32], block: &Block, signs: &[Sign])
+    requires { All HasParts block.now.arcs.items }
+    ensures { (a b : ℕ) → HasArc rows.new a b ↔ (HasArc rows.old a b ⊎ IsBlockArc block.now signs.now a b) }
+{
+    let outside = ruled_out(&block.tests, signs);
+    for arc in &block.arcs {
+        let row = rows[arc.a as usize];
+        rows[arc.a as usize] = row_after(row, outside, arc);
+    }
+}
