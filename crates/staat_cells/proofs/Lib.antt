@@ -29,3 +29,6 @@ pub mod Cones
 pub mod FacetPlanes
 pub mod PartArcs
 pub mod GraphRows
+pub mod Narrowing
+pub mod LowEdges
+pub mod LeastCell

@@ -6,3 +6,4 @@ pub mod Changes
 pub mod HalfSpaces
 pub mod CellGraphs
 pub mod Skeletons
+pub mod FirstCell
