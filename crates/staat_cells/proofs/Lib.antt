@@ -31,3 +31,6 @@ pub mod BlockCones
 pub mod FacetPlanes
 pub mod PartArcs
 pub mod GraphRows
+pub mod Narrowing
+pub mod LowEdges
+pub mod LeastCell

@@ -7,3 +7,4 @@ pub mod HalfSpaces
 pub mod Blocks
 pub mod CellGraphs
 pub mod Skeletons
+pub mod FirstCell

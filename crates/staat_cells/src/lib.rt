@@ -7,6 +7,7 @@ mod cell;
 mod change;
 mod compose;
 mod edge_incidences;
+mod first_cell;
 mod graphs;
 mod half_spaces;
 mod incidence;
@@ -21,6 +22,7 @@ mod vertices;
 
 pub use all::all_cells;
 pub use cell::{Cell, Cells, Signs};
+pub use first_cell::first_open;
 pub use graphs::CellGraphs;
 pub use skeleton::Skeleton;
 

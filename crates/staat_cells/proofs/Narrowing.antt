@@ -1,0 +1,368 @@
+-- The ends of what is left on a plane, as one plane after another is passed.
+use Rattle.std.proofs.Common.{◌≡◌, ◌≢◌, ⊎_elim, zero, suc, refl, sym, ap}
+use Rattle.std.proofs.Common.{subst, ◌∙◌, arith}
+use Rattle.std.proofs.Common.{ℤ, pos, negsuc, neg_ℤ, ◌+ℤ◌, ◌-ℤ◌, ◌*ℤ◌, ◌<ℤ◌, ◌≤ℤ◌}
+use Rattle.std.proofs.Common.{List, [], ◌∷◌, ◌++◌}
+use Rattle.std.proofs.Common.{Contains}
+use Rattle.std.proofs.lemmas.Int.{ints, by_lt_z}
+use Rattle.std.proofs.lemmas.List.Elements.{All-append, All-cons, All-nil, All-weaker}
+use Rattle.staat_vec.specs.declared.vector.V3.{V3}
+use Rattle.staat_vec.specs.declared.vector.TheConstants.{VERTEX}
+use Rattle.staat_vec.specs.Vectors.{IsWithin, cross, dot, minus, origin, vector}
+use Rattle.staat_vec.proofs.Ring.{num, ◌⊕◌, ◌⊖◌, ◌⊗◌, opp, ring}
+use Rattle.staat_vec.proofs.VecRing.{crossE, dotE, minusE, timesE, values, vectorE, v0, v1, v2, v3, v4, ring3}
+use Rattle.staat_vec.proofs.VecRing.{same_vector, scale}
+use Rattle.staat_vec.proofs.VecRing.{cross_self, dot_cross_left, dot_cross_right}
+use Rattle.staat_vec.proofs.Order.{negative_mul}
+use Rattle.staat_model.proofs.Edge.{dot_origin_right}
+use Rattle.staat_model.specs.Planes.{axes}
+use Rattle.staat_cells.specs.declared.first_cell.Ends.{Ends}
+use Rattle.staat_cells.specs.FirstCell.{AreEnds, AreNotAbove, HasNoLow}
+
+-- ---- signs of products
+
+low_product : (a b : ℤ) → a <ℤ pos 0 → b <ℤ pos 0 → pos 0 <ℤ (a *ℤ b)
+low_product (pos n) b h k = absurd (omega (arith, ints))
+low_product (negsuc a) (pos n) h k = absurd (omega (arith, ints))
+low_product (negsuc a) (negsuc b) h k = omega (arith, ints)
+
+not_above_product : (a b : ℤ) → a ≤ℤ pos 0 → b ≤ℤ pos 0 → pos 0 ≤ℤ (a *ℤ b)
+not_above_product (pos zero) b h k = omega (arith, ints)
+not_above_product (pos (suc n)) b h k = absurd (omega (arith, ints))
+not_above_product (negsuc a) (pos zero) h k = omega (arith, ints)
+not_above_product (negsuc a) (pos (suc n)) h k = absurd (omega (arith, ints))
+not_above_product (negsuc a) (negsuc b) h k = omega (arith, ints)
+
+mixed_product : (a b : ℤ) → a ≤ℤ pos 0 → pos 0 ≤ℤ b → (a *ℤ b) ≤ℤ pos 0
+mixed_product (pos zero) b h k = omega (arith, ints)
+mixed_product (pos (suc n)) b h k = absurd (omega (arith, ints))
+mixed_product (negsuc a) (pos n) h k = omega (arith, ints)
+mixed_product (negsuc a) (negsuc b) h k = absurd (omega (arith, ints))
+
+-- ---- the numbers of three planes and a direction
+
+not_both : (x y : ℤ) → x <ℤ pos 0 → pos 0 ≤ℤ y → x ≡ y → ⊥
+not_both x y h k e = omega (arith, ints)
+
+differ_nonneg : (a b : ℤ) → pos 0 ≤ℤ a → b ≤ℤ pos 0 → pos 0 ≤ℤ (a -ℤ b)
+differ_nonneg a b h k = omega (arith, ints)
+
+still_low : (x det p q s t : ℤ) → det <ℤ pos 0 → p ≤ℤ pos 0 → pos 0 ≤ℤ q → s ≤ℤ pos 0
+    → t ≤ℤ pos 0
+    → x *ℤ det ≡ p *ℤ s -ℤ t *ℤ q → x ≤ℤ pos 0
+still_low x det p q s t d hp hq hs ht e = by_lt_z {P = x ≤ℤ pos 0} (pos 0) x
+    (λ up. absurd (not_both (x *ℤ det) (p *ℤ s -ℤ t *ℤ q) (negative_mul x det up d)
+    (differ_nonneg (p *ℤ s) (t *ℤ q) (not_above_product p s hp hs) (mixed_product t q ht hq)) e))
+    (λ le. le)
+
+three_low : (a b c : ℤ) → a ≤ℤ pos 0 → b ≤ℤ pos 0 → c ≡ pos 0 → ((a +ℤ b) +ℤ c) ≤ℤ pos 0
+three_low a b c h k e = omega (arith, ints)
+
+over : (x y : ℤ) → pos 0 <ℤ x → y ≤ℤ pos 0 → x ≡ y → ⊥
+over x y h k e = omega (arith, ints)
+
+zero_times : (a b : ℤ) → a ≡ pos 0 → a *ℤ b ≡ pos 0
+zero_times a b e = ap (λ z. z *ℤ b) e ∙ nothing b
+  where
+    nothing : (b : ℤ) → pos 0 *ℤ b ≡ pos 0
+    nothing b = omega (arith, ints)
+
+pub zero_low : (a : ℤ) → a ≡ pos 0 → a ≤ℤ pos 0
+zero_low a e = omega (arith, ints)
+
+pub low_le : (a : ℤ) → a <ℤ pos 0 → a ≤ℤ pos 0
+low_le a h = omega (arith, ints)
+
+low_not_above : (a b : ℤ) → a ≡ b → b <ℤ pos 0 → a ≤ℤ pos 0
+low_not_above a b e h = omega (arith, ints)
+
+pub not_low : (a : ℤ) → a ≡ pos 0 → a <ℤ pos 0 → ⊥
+not_low a e h = omega (arith, ints)
+
+-- ---- a number as it was computed
+
+pub at_least : (a r : ℤ) → r ≡ a → pos 0 <ℤ r → pos 0 ≤ℤ a
+at_least a r e h = omega (arith, ints)
+
+pub not_above : (a r : ℤ) → r ≡ a → pos 0 <ℤ r → a ≤ℤ pos 0 → ⊥
+not_above a r e h k = omega (arith, ints)
+
+pub same_nonneg : (a r : ℤ) → r ≡ a → pos 0 ≤ℤ r → pos 0 ≤ℤ a
+same_nonneg a r e h = omega (arith, ints)
+
+pub same_low : (a r : ℤ) → r ≡ a → r <ℤ pos 0 → a <ℤ pos 0
+same_low a r e h = omega (arith, ints)
+
+pub same_not_above : (a r : ℤ) → r ≡ a → r ≤ℤ pos 0 → a ≤ℤ pos 0
+same_not_above a r e h = omega (arith, ints)
+
+-- ---- equations
+
+-- each direction by the three edges at which two of three planes cross
+by_edges : (g a b h d : V3) → dot h d *ℤ dot b (cross g a)
+    ≡ (dot b d *ℤ dot h (cross g a) +ℤ dot a d *ℤ dot h (cross b g)) +ℤ dot g d *ℤ dot h (cross a b)
+by_edges g a b h d = ring (values (g ∷ a ∷ b ∷ h ∷ d ∷ []) []) (dotE v3 v4 ⊗ dotE v2 (crossE v0 v1))
+    ((dotE v2 v4 ⊗ dotE v3 (crossE v0 v1) ⊕ dotE v1 v4 ⊗ dotE v3 (crossE v2 v0))
+    ⊕ dotE v0 v4 ⊗ dotE v3 (crossE v1 v2)) tt
+
+first_moved : (g a b h m : V3) → dot m (cross g h) *ℤ dot b (cross g a)
+    ≡ dot h (cross b g) *ℤ dot m (cross g a) -ℤ dot m (cross b g) *ℤ dot h (cross g a)
+first_moved g a b h m = ring (values (g ∷ a ∷ b ∷ h ∷ m ∷ []) []) (dotE v4
+    (crossE v0 v3) ⊗ dotE v2 (crossE v0 v1))
+    (dotE v3 (crossE v2 v0) ⊗ dotE v4 (crossE v0 v1) ⊖ dotE v4 (crossE v2 v0) ⊗ dotE v3 (crossE v0 v1)) tt
+
+second_moved : (g a b h m : V3) → dot m (cross h g) *ℤ dot b (cross g a)
+    ≡ dot h (cross g a) *ℤ dot m (cross b g) -ℤ dot m (cross g a) *ℤ dot h (cross b g)
+second_moved g a b h m = ring (values (g ∷ a ∷ b ∷ h ∷ m ∷ []) []) (dotE v4
+    (crossE v3 v0) ⊗ dotE v2 (crossE v0 v1))
+    (dotE v3 (crossE v0 v1) ⊗ dotE v4 (crossE v2 v0) ⊖ dotE v4 (crossE v0 v1) ⊗ dotE v3 (crossE v2 v0)) tt
+
+pub turn_about : (b g h : V3) → dot b (cross g h) ≡ dot h (cross b g)
+turn_about b g h = ring (values (b ∷ g ∷ h ∷ []) []) (dotE v0 (crossE v1 v2)) (dotE v2 (crossE v0 v1)) tt
+
+-- a plane on whose border both ends lie is parallel to g
+pub ends_apart : (g a b m : V3) → scale (dot b (cross g a)) (cross m g)
+    ≡ minus (scale (dot m (cross g a)) (cross b g)) (scale (dot m (cross b g)) (cross g a))
+ends_apart g a b m = ring3 (values (g ∷ a ∷ b ∷ m ∷ []) [])
+    (timesE (dotE v2 (crossE v0 v1)) (crossE v3 v0))
+    (minusE (timesE (dotE v3 (crossE v0 v1)) (crossE v2 v0)) (timesE (dotE v3 (crossE v2 v0)) (crossE v0 v1)))
+    (tt, tt, tt)
+
+-- ---- the ends after a plane was passed
+
+module _ (planes passed : List V3) (g h : V3) (e : Ends) (are : AreEnds planes g passed e) where
+  at_first : dot h e.first ≡ dot h (cross g are.a)
+  at_first = ap (dot h) are.first_is
+
+  at_second : dot h e.second ≡ dot h (cross are.b g)
+  at_second = ap (dot h) are.second_is
+
+  pub both_kept : dot h e.first ≤ℤ pos 0 → dot h e.second ≤ℤ pos 0
+      → AreEnds planes g (passed ++ h ∷ []) e
+  both_kept p q = record {
+    a = are.a;
+    b = are.b;
+    a_in = are.a_in;
+    b_in = are.b_in;
+    first_is = are.first_is;
+    second_is = are.second_is;
+    turn = are.turn;
+    first_size = are.first_size;
+    second_size = are.second_size;
+    passed_are = All-append (AreNotAbove e) passed (h ∷ []) are.passed_are
+        (All-cons (AreNotAbove e) h [] (record { first = p; second = q }) (All-nil (AreNotAbove e)));
+  }
+
+  -- all that is known of one plane that was passed, and of h, with one end moved
+  pub first_cut : (n : Ends) → Contains planes h → n.first ≡ cross g h → n.second ≡ e.second
+      → IsWithin VERTEX n.first → pos 0 ≤ℤ dot h e.first → dot h e.second <ℤ pos 0
+      → AreEnds planes g (passed ++ h ∷ []) n
+  first_cut n h_in first second size up low = record {
+    a = h;
+    b = are.b;
+    a_in = h_in;
+    b_in = are.b_in;
+    first_is = first;
+    second_is = second ∙ are.second_is;
+    turn = subst (λ z. z <ℤ pos 0) (at_second ∙ sym (turn_about are.b g h)) low;
+    first_size = size;
+    second_size = subst (IsWithin VERTEX) (sym second) are.second_size;
+    passed_are = All-append (AreNotAbove n) passed (h ∷ [])
+        (All-weaker (AreNotAbove e) (AreNotAbove n) still passed are.passed_are)
+        (All-cons (AreNotAbove n) h [] here (All-nil (AreNotAbove n)));
+  }
+    where
+      here : AreNotAbove n h
+      here = record {
+        first = zero_low (dot h n.first) (ap (dot h) first ∙ dot_cross_right g h);
+        second = low_not_above (dot h n.second) (dot h e.second) (ap (dot h) second) low;
+      }
+
+      still : (m : V3) → AreNotAbove e m → AreNotAbove n m
+      still m k = record {
+        first = subst (λ z. z ≤ℤ pos 0) (ap (dot m) (sym first))
+            (still_low (dot m (cross g h)) (dot are.b (cross g are.a)) (dot h (cross are.b g))
+            (dot h (cross g are.a)) (dot m (cross g are.a)) (dot m (cross are.b g)) are.turn
+            (low_not_above (dot h (cross are.b g)) (dot h e.second) (sym at_second) low)
+            (subst (λ z. pos 0 ≤ℤ z) at_first up)
+            (subst (λ z. z ≤ℤ pos 0) (ap (dot m) are.first_is) k.first)
+            (subst (λ z. z ≤ℤ pos 0) (ap (dot m) are.second_is) k.second)
+            (first_moved g are.a are.b h m));
+        second = subst (λ z. z ≤ℤ pos 0) (ap (dot m) (sym second)) k.second;
+      }
+
+  pub second_cut : (n : Ends) → Contains planes h → n.first ≡ e.first → n.second ≡ cross h g
+      → IsWithin VERTEX n.second → dot h e.first <ℤ pos 0 → pos 0 ≤ℤ dot h e.second
+      → AreEnds planes g (passed ++ h ∷ []) n
+  second_cut n h_in first second size low up = record {
+    a = are.a;
+    b = h;
+    a_in = are.a_in;
+    b_in = h_in;
+    first_is = first ∙ are.first_is;
+    second_is = second;
+    turn = subst (λ z. z <ℤ pos 0) at_first low;
+    first_size = subst (IsWithin VERTEX) (sym first) are.first_size;
+    second_size = size;
+    passed_are = All-append (AreNotAbove n) passed (h ∷ [])
+        (All-weaker (AreNotAbove e) (AreNotAbove n) still passed are.passed_are)
+        (All-cons (AreNotAbove n) h [] here (All-nil (AreNotAbove n)));
+  }
+    where
+      here : AreNotAbove n h
+      here = record {
+        first = low_not_above (dot h n.first) (dot h e.first) (ap (dot h) first) low;
+        second = zero_low (dot h n.second) (ap (dot h) second ∙ dot_cross_left h g);
+      }
+
+      still : (m : V3) → AreNotAbove e m → AreNotAbove n m
+      still m k = record {
+        first = subst (λ z. z ≤ℤ pos 0) (ap (dot m) (sym first)) k.first;
+        second = subst (λ z. z ≤ℤ pos 0) (ap (dot m) (sym second))
+            (still_low (dot m (cross h g)) (dot are.b (cross g are.a)) (dot h (cross g are.a))
+            (dot h (cross are.b g)) (dot m (cross are.b g)) (dot m (cross g are.a)) are.turn
+            (low_not_above (dot h (cross g are.a)) (dot h e.first) (sym at_first) low)
+            (subst (λ z. pos 0 ≤ℤ z) at_second up)
+            (subst (λ z. z ≤ℤ pos 0) (ap (dot m) are.second_is) k.second)
+            (subst (λ z. z ≤ℤ pos 0) (ap (dot m) are.first_is) k.first)
+            (second_moved g are.a are.b h m));
+      }
+
+  pub none_left : Contains planes h → pos 0 ≤ℤ dot h e.first → pos 0 ≤ℤ dot h e.second
+      → (dot h e.first ≤ℤ pos 0 → dot h e.second ≤ℤ pos 0 → ⊥) → HasNoLow planes g
+  none_left h_in up also not_both_zero d low = ⊎_elim on_g beside (low.below h h_in)
+    where
+      on_g : h ≡ g → ⊥
+      on_g same = not_both_zero
+          (zero_low (dot h e.first) (at_first ∙ ap (λ z. dot z (cross g are.a)) same ∙ dot_cross_left g are.a))
+          (zero_low (dot h e.second) (at_second ∙ ap (λ z. dot z (cross are.b g)) same ∙ dot_cross_right are.b g))
+
+      under_a : dot are.a d <ℤ pos 0
+      under_a = ⊎_elim {C = dot are.a d <ℤ pos 0}
+          (λ same. absurd (not_low (dot are.b (cross g are.a)) (ap (λ z. dot are.b (cross g z)) same
+          ∙ ap (dot are.b) (cross_self g) ∙ dot_origin_right are.b) are.turn)) (λ h. h)
+          (low.below are.a are.a_in)
+
+      under_b : dot are.b d <ℤ pos 0
+      under_b = ⊎_elim {C = dot are.b d <ℤ pos 0}
+          (λ same. absurd (not_low (dot are.b (cross g are.a)) (ap (λ z. dot z (cross g are.a)) same
+          ∙ dot_cross_left g are.a) are.turn)) (λ h. h)
+          (low.below are.b are.b_in)
+
+      beside : dot h d <ℤ pos 0 → ⊥
+      beside under = over (dot h d *ℤ dot are.b (cross g are.a))
+          ((dot are.b d *ℤ dot h (cross g are.a) +ℤ dot are.a d *ℤ dot h (cross are.b g))
+          +ℤ dot g d *ℤ dot h (cross are.a are.b))
+          (low_product (dot h d) (dot are.b (cross g are.a)) under are.turn)
+          (three_low (dot are.b d *ℤ dot h (cross g are.a)) (dot are.a d *ℤ dot h (cross are.b g))
+          (dot g d *ℤ dot h (cross are.a are.b))
+          (mixed_product (dot are.b d) (dot h (cross g are.a)) (low_le (dot are.b d) under_b)
+          (subst (λ z. pos 0 ≤ℤ z) at_first up))
+          (mixed_product (dot are.a d) (dot h (cross are.b g)) (low_le (dot are.a d) under_a)
+          (subst (λ z. pos 0 ≤ℤ z) at_second also))
+          (zero_times (dot g d) (dot h (cross are.a are.b)) low.on))
+          (by_edges g are.a are.b h d)
+
+-- ---- the ends by two coordinate planes
+
+module _ (g : V3) (e : Ends) where
+  abbrev pub IsBetween : V3 → V3 → Type 0
+  IsBetween a b = (e.first ≡ cross g a) × (e.second ≡ cross b g) × IsWithin VERTEX e.first
+      × IsWithin VERTEX e.second
+
+  ends_at : (a b : V3) → Contains axes a → Contains axes b → IsBetween a b → dot b (cross g a) <ℤ pos 0
+      → AreEnds axes g [] e
+  ends_at a b a_in b_in (first, second, first_size, second_size) turn = record {
+    a = a;
+    b = b;
+    a_in = a_in;
+    b_in = b_in;
+    first_is = first;
+    second_is = second;
+    turn = turn;
+    first_size = first_size;
+    second_size = second_size;
+    passed_are = All-nil (AreNotAbove e);
+  }
+
+  abbrev pub ex : V3
+  ex = vector (pos 1) (pos 0) (pos 0)
+
+  abbrev pub ey : V3
+  ey = vector (pos 0) (pos 1) (pos 0)
+
+  abbrev pub ez : V3
+  ez = vector (pos 0) (pos 0) (pos 1)
+
+  x_in : Contains axes ex
+  x_in = (0, omega arith, refl)
+
+  y_in : Contains axes ey
+  y_in = (1, omega arith, refl)
+
+  z_in : Contains axes ez
+  z_in = (2, omega arith, refl)
+
+  up : (a z : ℤ) → a ≡ neg_ℤ z → pos 0 <ℤ z → a <ℤ pos 0
+  up a z e h = omega (arith, ints)
+
+  down : (a z : ℤ) → a ≡ z → z <ℤ pos 0 → a <ℤ pos 0
+  down a z e h = omega (arith, ints)
+
+  pub z_up : pos 0 <ℤ g.z → IsBetween ey ex → AreEnds axes g [] e
+  z_up h b = ends_at ey ex y_in x_in b (up (dot ex (cross g ey)) g.z is h)
+    where
+      is : dot ex (cross g ey) ≡ neg_ℤ g.z
+      is = ring (values (g ∷ []) []) (dotE (vectorE (num (pos 1)) (num (pos 0)) (num (pos 0)))
+          (crossE v0 (vectorE (num (pos 0)) (num (pos 1)) (num (pos 0))))) (opp v0.z) tt
+
+  pub z_down : g.z <ℤ pos 0 → IsBetween ex ey → AreEnds axes g [] e
+  z_down h b = ends_at ex ey x_in y_in b (down (dot ey (cross g ex)) g.z is h)
+    where
+      is : dot ey (cross g ex) ≡ g.z
+      is = ring (values (g ∷ []) []) (dotE (vectorE (num (pos 0)) (num (pos 1)) (num (pos 0)))
+          (crossE v0 (vectorE (num (pos 1)) (num (pos 0)) (num (pos 0))))) v0.z tt
+
+  pub y_up : pos 0 <ℤ g.y → IsBetween ex ez → AreEnds axes g [] e
+  y_up h b = ends_at ex ez x_in z_in b (up (dot ez (cross g ex)) g.y is h)
+    where
+      is : dot ez (cross g ex) ≡ neg_ℤ g.y
+      is = ring (values (g ∷ []) []) (dotE (vectorE (num (pos 0)) (num (pos 0)) (num (pos 1)))
+          (crossE v0 (vectorE (num (pos 1)) (num (pos 0)) (num (pos 0))))) (opp v0.y) tt
+
+  pub y_down : g.y <ℤ pos 0 → IsBetween ez ex → AreEnds axes g [] e
+  y_down h b = ends_at ez ex z_in x_in b (down (dot ex (cross g ez)) g.y is h)
+    where
+      is : dot ex (cross g ez) ≡ g.y
+      is = ring (values (g ∷ []) []) (dotE (vectorE (num (pos 1)) (num (pos 0)) (num (pos 0)))
+          (crossE v0 (vectorE (num (pos 0)) (num (pos 0)) (num (pos 1))))) v0.y tt
+
+  pub x_up : pos 0 <ℤ g.x → IsBetween ez ey → AreEnds axes g [] e
+  x_up h b = ends_at ez ey z_in y_in b (up (dot ey (cross g ez)) g.x is h)
+    where
+      is : dot ey (cross g ez) ≡ neg_ℤ g.x
+      is = ring (values (g ∷ []) []) (dotE (vectorE (num (pos 0)) (num (pos 1)) (num (pos 0)))
+          (crossE v0 (vectorE (num (pos 0)) (num (pos 0)) (num (pos 1))))) (opp v0.x) tt
+
+  pub x_down : g.x <ℤ pos 0 → IsBetween ey ez → AreEnds axes g [] e
+  x_down h b = ends_at ey ez y_in z_in b (down (dot ez (cross g ey)) g.x is h)
+    where
+      is : dot ez (cross g ey) ≡ g.x
+      is = ring (values (g ∷ []) []) (dotE (vectorE (num (pos 0)) (num (pos 0)) (num (pos 1)))
+          (crossE v0 (vectorE (num (pos 0)) (num (pos 1)) (num (pos 0))))) v0.x tt
+
+-- a vector with no other component below or above 0 has its first below
+pub last_down : (g : V3) → g ≢ origin → (pos 0 <ℤ g.z → ⊥) → (g.z <ℤ pos 0 → ⊥)
+    → (pos 0 <ℤ g.y → ⊥)
+    → (g.y <ℤ pos 0 → ⊥) → (pos 0 <ℤ g.x → ⊥) → g.x <ℤ pos 0
+last_down g some z_up z_down y_up y_down x_up = by_lt_z {P = g.x <ℤ pos 0} g.x (pos 0) (λ h. h)
+    (λ le. absurd (some (same_vector g origin
+    (between g.x x_up (at_least g.x le)) (between g.y y_up y_down) (between g.z z_up z_down))))
+  where
+    between : (a : ℤ) → (pos 0 <ℤ a → ⊥) → (a <ℤ pos 0 → ⊥) → a ≡ pos 0
+    between (pos zero) u d = refl
+    between (pos (suc n)) u d = absurd (u (omega (arith, ints)))
+    between (negsuc n) u d = absurd (d (omega (arith, ints)))
+
+    at_least : (a : ℤ) → pos 0 ≤ℤ a → a <ℤ pos 0 → ⊥
+    at_least a h k = omega (arith, ints)

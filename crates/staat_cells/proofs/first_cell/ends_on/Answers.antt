@@ -1,0 +1,21 @@
+use Rattle.std.proofs.Common.{take}
+use Rattle.std.proofs.lemmas.List.Elements.{Contains-get_or}
+use Rattle.staat_cells.proofs.LowEdges.{from_axes, one_more}
+use Rattle.staat_cells.proofs.first_cell.ends_on.Goals as goal
+
+pub loop-h-init : goal.loop-h-init
+loop-h-init c = from_axes c.args.planes.now c.args.g c.axis_ends-ends.result c.requires.planes c.axis_ends-ends.ensures
+
+pub returns-in-None : goal.returns-in-None
+returns-in-None c =
+    let planes = c.args.planes.now in
+    c.in-None.ensures planes (take c.loop-h.h-index planes)
+    (Contains-get_or planes c.loop-h.h-index _ c.loop-h-test.true)
+    c.loop-h.invariant
+
+pub loop-h-preserved : goal.loop-h-preserved
+loop-h-preserved c =
+    let planes = c.args.planes.now in
+    one_more planes c.args.g c.in-Some.new c.loop-h.h-index _ c.loop-h-test.true
+    (c.in-Some.ensures planes (take c.loop-h.h-index planes)
+    (Contains-get_or planes c.loop-h.h-index _ c.loop-h-test.true) c.loop-h.invariant)
