@@ -12,7 +12,7 @@ ghost use Rattle.std.specs.Prelude.{
   List,
   Contains,
 };
-ghost use Rattle.std.specs.Prelude.{MatchOption, None, Some, false, length, min, slice_get};
+ghost use Rattle.std.specs.Prelude.{IfSome, MatchOption, None, Some, false, length, min, slice_get};
 ghost use Rattle.std.specs.FinSet as set;
 ghost use Rattle.staat_vec.specs.declared.vector.V3.{V3 as Vector};
 ghost use Rattle.staat_vec.specs.Vectors.{IsWithin};
@@ -228,6 +228,7 @@ pub fn part_step_rings<L: Ledger>(
         → k < length table.now.planes
         → NoStopServes parts table.now.planes w rings.now.rings k
         → min (walk.old.crossed + lengths_below (k + 1) rings.now.rings) (2 ^ 64 - 1) ≤ walk.new.crossed }
+    ensures size { IfSome result (λ s. IsWithin DIRECTION s.d) }
     ensures step { (parts : List PartValue) → WasMadeFrom parts table.now
         → MatchOption result (HasNoStep false parts w × IsStuck parts w)
         (λ s. IsStep false parts w (try_vertex s.d) s.moved) }

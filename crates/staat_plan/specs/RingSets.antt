@@ -1,0 +1,23 @@
+-- Rings of a table from which the planes that are none of a set of parts are taken out in their turn.
+use Rattle.std.specs.Prelude.{◌≡◌, ◌↔◌, ℕ, ◌<◌, ◌≤◌, List, [], Contains, Some, length, slice_get}
+use Rattle.staat_vec.specs.declared.vector.V3.{V3}
+use Rattle.staat_model.specs.declared.assembly.Part.{Part}
+use Rattle.staat_model.specs.declared.set.PartSet.{PartSet}
+use Rattle.staat_pairs.specs.Tables.{Table}
+use Rattle.staat_planes.specs.Tables.{IsPlaneOf}
+use Rattle.staat_ring.specs.Belonging.{BelongTo}
+use Rattle.staat_ring.specs.Rings.{Arrangement, WereMadeFrom}
+use Rattle.staat_ring.specs.Signs.{Signed}
+
+-- of the planes before k those of w are linked and no others, and from k on all are
+pub record AreLinkedPast (parts : List Part) (planes : List V3) (w : PartSet) (linked : List ℕ) (k : ℕ)
+    : Type 0 where
+  pub before : (j : ℕ) (n : V3) → slice_get planes j ≡ Some n → j < k
+      → Contains linked j ↔ IsPlaneOf parts w n
+  pub past : (j : ℕ) → k ≤ j → j < length planes → Contains linked j
+
+-- rings with all planes of the table, and the signs of a walk that was made from it
+pub record AreForTable (t : Table) (rings : Arrangement) (signs : Signed) : Type 0 where
+  pub made : WereMadeFrom t.planes rings
+  pub whole : rings.unlinked ≡ []
+  pub signs_are : BelongTo t signs

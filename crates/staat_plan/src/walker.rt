@@ -1,0 +1,116 @@
+// The step of a set of parts by a walk along rings that are made once, for all parts.
+ghost use Rattle.std.specs.Prelude.{◌≡◌, ◌↔◌, ℕ, ◌<◌, ◌≤◌, List, IfOk, IfSome, MatchOption, false, length};
+ghost use Rattle.std.specs.FinSet as set;
+ghost use Rattle.staat_vec.specs.Vectors.{IsWithin};
+ghost use Rattle.staat_model.specs.declared.assembly.Part.{Part as PartValue};
+ghost use Rattle.staat_model.specs.Outcomes.{HasNoStep, IsStep, try_vertex};
+ghost use Rattle.staat_model.specs.Sets.{IsSubset};
+ghost use Rattle.staat_pairs.specs.Tables.{WasMadeFrom};
+ghost use Rattle.staat_plan.specs.RingSets.{AreForTable, AreLinkedPast};
+ghost use Rattle.staat_ring.specs.Belonging.{BelongTo};
+ghost use Rattle.staat_ring.specs.Rings.{WereMadeFrom, linked_of};
+
+use crate::ring_step::part_step_rings;
+use staat_model::{PartSet, Step};
+use staat_planes::{LEAST_PLANES, PlaneTable, Steps};
+use staat_ring::{Rings, Walk};
+use staat_vec::{DIRECTION, OutOfMemory};
+use std::alloc::Global;
+use std::marker::Brand;
+use std::sync::ledger::{Blank, Ledger};
+
+/// Rings with all planes of a table, and a walk along their circles.
+#[derive(Drop)]
+pub(crate) struct Walker {
+    rings: Rings,
+    walk: Walk,
+}
+
+// The step of w where of the planes before k those of w alone are linked. Each plane from k on that is none of w is
+// taken out before the later ones and put back after them, so that the rings are left as they were.
+fn step_past<L: Ledger>(
+    table: &PlaneTable,
+    rings: &mut Rings,
+    walk: &mut Walk,
+    w: PartSet,
+    k: u32,
+    steps: &mut Steps<L>,
+) -> Option<Step>
+    requires made { BelongTo table.now walk.old.signs }
+    requires rings { WereMadeFrom table.now.planes rings.old }
+    requires within { IsSubset w table.now.of }
+    requires two { 2 ≤ set.len w }
+    requires axes { LEAST_PLANES ≤ k }
+    requires place { k ≤ length table.now.planes }
+    requires linked { (parts : List PartValue) → WasMadeFrom parts table.now
+        → AreLinkedPast parts table.now.planes w (linked_of rings.old.rings) k }
+    ensures rings { rings.new ≡ rings.old }
+    ensures made { BelongTo table.now walk.new.signs }
+    ensures size { IfSome result (λ s. IsWithin DIRECTION s.d) }
+    ensures step { (parts : List PartValue) → WasMadeFrom parts table.now
+        → MatchOption result (HasNoStep false parts w) (λ s. IsStep false parts w (try_vertex s.d) s.moved) }
+{
+    if k >= table.len() {
+        return part_step_rings(table, rings, walk, w, steps);
+    }
+    if table.used(k, w) {
+        return step_past(table, rings, walk, w, k + 1, steps);
+    }
+    rings.unlink(k);
+    let step = step_past(table, rings, walk, w, k + 1, steps);
+    rings.relink(k);
+    step
+}
+
+// the step of w, with a count of steps of its own
+fn counted_step<L: Ledger>(
+    table: &PlaneTable,
+    rings: &mut Rings,
+    walk: &mut Walk,
+    w: PartSet,
+    blank: Blank,
+) -> Option<Step>
+    requires name { blank.name ≡ L.name }
+    requires parts { blank.parts ≡ L.parts }
+    requires some { 0 < blank.parts }
+    requires ready { AreForTable table.now rings.old walk.old.signs }
+    requires within { IsSubset w table.now.of }
+    requires two { 2 ≤ set.len w }
+    ensures ready { AreForTable table.now rings.new walk.new.signs }
+    ensures size { IfSome result (λ s. IsWithin DIRECTION s.d) }
+    ensures step { (parts : List PartValue) → WasMadeFrom parts table.now
+        → MatchOption result (HasNoStep false parts w) (λ s. IsStep false parts w (try_vertex s.d) s.moved) }
+{
+    let mut steps = Steps::<L>::new(blank);
+    if table.set().within(w) {
+        return part_step_rings(table, rings, walk, w, &mut steps);
+    }
+    step_past(table, rings, walk, w, LEAST_PLANES, &mut steps)
+}
+
+impl Walker {
+    /// Rings and a walk for a table.
+    pub(crate) fn new(alloc: Global, table: &PlaneTable) -> Result<Walker, OutOfMemory>
+        ensures { IfOk result (λ x. AreForTable table.now x.rings x.walk.signs) }
+    {
+        let rings = Rings::build(alloc, table)?;
+        let walk = Walk::new(alloc, table)?;
+        Ok(Walker { rings, walk })
+    }
+
+    /// The step of a set of at least two parts that lies in the table's set, by a walk along the circles of its planes.
+    /// It takes no memory.
+    ///
+    /// The planes that are none of the set are unlinked before, and linked again behind it.
+    pub(crate) fn step(&mut self, table: &PlaneTable, w: PartSet) -> Option<Step>
+        requires ready { AreForTable table.now self.old.rings self.old.walk.signs }
+        requires within { IsSubset w table.now.of }
+        requires two { 2 ≤ set.len w }
+        ensures ready { AreForTable table.now self.new.rings self.new.walk.signs }
+        ensures size { IfSome result (λ s. IsWithin DIRECTION s.d) }
+        ensures step { (parts : List PartValue) → WasMadeFrom parts table.now
+            → MatchOption result (HasNoStep false parts w) (λ s. IsStep false parts w (try_vertex s.d) s.moved) }
+    {
+        counted_step::<Brand>(table, &mut self.rings, &mut self.walk, w, Blank::new(1))
+    }
+}
