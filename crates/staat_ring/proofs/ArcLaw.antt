@@ -132,7 +132,7 @@ module _ (parts : List Part) (t : Table) (s : Signed) (linked : List ℕ) (v : V
     is : IsPairOf t s arc
     is = to.all arc across
 
-    -- the plane of a wall is linked
+    -- the plane of such a facet is linked
     linked_is : (x : PlaneFacet) → Contains is.index.by_plane x → IsLinked t.planes linked x.plane (plane_at t.planes x.plane)
     linked_is x c =
         let lt : x.plane < length t.planes = All-contains (λ x. x.plane < length t.planes) is.index.by_plane x is.index.within c in

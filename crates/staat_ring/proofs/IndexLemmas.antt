@@ -29,12 +29,12 @@ pub on_ok : {X E : Type 0} (r : Result X E) (P Q : Type 0) → OnOk r P → (P �
 on_ok (Ok x) P Q h f = f h
 on_ok (Err e) P Q h f = tt
 
--- the wall of a facet
+-- a facet by its plane and sense
 pub plane_facet_is : (facet n : V3) (turned : Bool) → n ≡ canon facet → (turned ≡ true → n ≢ facet) → (turned ≡ false → n ≡ facet) → facet_by turned n ≡ facet
 plane_facet_is facet n false e t f = f refl
 plane_facet_is facet n true e t f = ⊎_elim {C = negative n ≡ facet} (λ same. absurd (t refl (e ∙ same))) (λ turned. ap negative (e ∙ turned) ∙ negative-negative facet) (canon-either facet)
 
--- ---- one wall more
+-- ---- one facet more
 
 abbrev both : Bool → Bool → Bool
 both a b = a && b

@@ -54,7 +54,7 @@ hits s k by_plane = count_by (λ w. (w.plane == k) && is_positive s w.turned) by
 hit_off : (w : PlaneFacet) (k : ℕ) (s : Sign) → k ≢ w.plane → one ((w.plane == k) && is_positive s w.turned) ≡ 0
 hit_off w k s ne = ap (λ b. one (b && is_positive s w.turned)) (differ w.plane k (λ e. ne (sym e)))
 
--- each wall is counted at its plane
+-- each facet is counted at its plane
 pub total-hits : (sg : ℕ → Sign) (n : ℕ) (by_plane : List PlaneFacet) → All (λ w. w.plane < n) by_plane → total (λ k. hits (sg k) k by_plane) 0 n ≡ count_by (λ w. is_positive (sg w.plane) w.turned) by_plane
 total-hits sg n [] h = total-zero (λ k. 0) 0 n (λ j le. refl)
 total-hits sg n (w ∷ by_plane) h =
