@@ -18,19 +18,21 @@ use Rattle.staat_model.specs.declared.assembly.Part.{Part}
 use Rattle.staat_model.specs.declared.certificate.Arc.{Arc}
 use Rattle.staat_model.specs.declared.set.PartSet.{PartSet}
 use Rattle.staat_model.specs.Circles.{IsLinked}
+use Rattle.staat_model.specs.Removal.{Blocks}
 use Rattle.staat_model.specs.Sets.{Has, IsSubset}
 use Rattle.staat_model.proofs.Members.{All-from_members}
 use Rattle.staat_graph.specs.Blocking.{ShowsBlocking}
-use Rattle.staat_graph.specs.Graphs.{HasArc}
+use Rattle.staat_graph.specs.Graphs.{HasArc, IsStrong}
 use Rattle.staat_planes.specs.Tables.{IsAhead}
 use Rattle.staat_pairs.specs.Tables.{IsTableArc, IsPlaneNormal, IsTable, Table, WasMadeFrom, facets_of, slot}
 use Rattle.staat_planes.proofs.GraphLaw.{ahead_is_blocking}
 use Rattle.staat_ring.specs.Blocks.{parts_at}
 use Rattle.staat_ring.specs.Pairs.{occurs, pair_at}
-use Rattle.staat_ring.specs.Signs.{IsBlockingPair, Side, Signed, no_side, pairs_by, positive_pairs, positives, side_at}
+use Rattle.staat_ring.specs.Signs.{HasBlockingPair, IsBlockingPair, Side, Signed, no_side, pairs_by, positive_pairs, positives, side_at}
 use Rattle.staat_ring.specs.Belonging.{BelongTo, HasAll, HoldSigns, IsPairIndexed, IsPairOf, IsUnused, PlaneFacet, facet_at, is_positive}
 use Rattle.staat_ring.specs.Rings.{facet_by, plane_at}
 use Rattle.staat_ring.proofs.PairLemmas.{one}
+use Rattle.staat_ring.proofs.Strength.{strong_same}
 use Rattle.staat_ring.proofs.Totals.{hits, sum_by-total, total-hits, total-same, total-zero}
 
 -- ---- the count of positive facets is the count of by_plane that are ahead
@@ -202,17 +204,25 @@ module _ (parts : List Part) (t : Table) (s : Signed) (linked : List ℕ) (v : V
             let o = u.wanted in
             absurd (omega (arith, z, f, o))
 
-    blocks_of : IsAhead t v a b → (q : ℕ) × IsBlockingPair s (parts_at a b) q
+    blocks_of : IsAhead t v a b → HasBlockingPair s a b
     blocks_of h =
         let arc : Arc = record { a = a; i = h.i; b = b; j = h.j } in
         let pair = to.all arc h.across in
         let e = full_of_ahead arc h.across a_in b_in (λ n c. All-contains (λ n. pos 0 <ℤ dot n v) (facets_of t arc) n h.ahead c) in
         (slot t.pieces arc, record { within = pair.within; parts = pair.parts; full = (let g = pair.wanted in omega (arith, g, e)) })
 
-  pub shows_blocking : (rows : List ℕ) → ((a b : ℕ) → a < 32 → b < 32 → HasArc rows a b ↔ ((q : ℕ) × IsBlockingPair s (parts_at a b) q)) → ShowsBlocking parts v w rows
+  pub pairs_block : (a b : ℕ) → Has w a → Has w b → HasBlockingPair s a b ↔ Blocks parts v a b
+  pairs_block a b a_in b_in =
+      let arcs = ahead_is_blocking parts t v a b made in (
+        λ h. let (q, is) = h in (arcs.0 (blocked a b a_in b_in q is)).blocks,
+        λ h. blocks_of a b a_in b_in (arcs.1 (record { a_in = within a a_in; b_in = within b b_in; blocks = h })),
+      )
+
+  pub shows_blocking : (rows : List ℕ) → ((a b : ℕ) → a < 32 → b < 32 → HasArc rows a b ↔ HasBlockingPair s a b) → ShowsBlocking parts v w rows
   shows_blocking rows told a b a_in b_in =
       let law = told a b (table.small a (within a a_in)) (table.small b (within b b_in)) in
-      let arcs = ahead_is_blocking parts t v a b made in (
-        λ h. let (q, is) = law.0 h in (arcs.0 (blocked a b a_in b_in q is)).blocks,
-        λ h. law.1 (blocks_of a b a_in b_in (arcs.1 (record { a_in = within a a_in; b_in = within b b_in; blocks = h }))),
-      )
+      let pairs = pairs_block a b a_in b_in in
+      (λ h. pairs.0 (law.0 h), λ h. law.1 (pairs.1 h))
+
+  pub strong_blocking : IsStrong (HasBlockingPair s) w ↔ IsStrong (Blocks parts v) w
+  strong_blocking = strong_same (HasBlockingPair s) (Blocks parts v) w pairs_block

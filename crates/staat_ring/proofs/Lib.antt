@@ -64,3 +64,6 @@ pub mod SignAll
 pub mod StopLemmas
 pub mod Entering
 pub mod CrossSteps
+pub mod Strength
+pub mod BlockSteps
+pub mod Searching

@@ -1,13 +1,18 @@
 -- One more or one less positive facet of one pair.
 use Rattle.std.proofs.Common.{◌≡◌, ◌≢◌, ◌⊎◌, ⊎_elim, ℕ, zero, suc, ◌+◌, ◌-◌, ◌<◌, ◌≤◌, Bool, true, false, not, ◌&&◌, arith, ap, sym, subst, ◌∙◌, refl, List, [], ◌∷◌, length, take, get_or, set, cond, eq-eqb, get_or-set_other, get_or-set_same, length-set}
-use Rattle.std.specs.Prelude.{◌==◌, nat_lt, slice_index, slice_set}
+use Rattle.std.specs.Prelude.{IsTrue, ◌↔◌, ◌==◌, nat_lt, slice_index, slice_set}
 use Rattle.std.specs.Prelude.{replicate}
 use Rattle.std.proofs.lemmas.Bool.Decides.{nat_tests, Decides-eqb}
 use Rattle.std.proofs.lemmas.List.{set-get_or, get_or_default, get_or-replicate, get_or_past, length-replicate}
 use Rattle.std.proofs.lemmas.List.Sums.{sum_by-cons, sum_by-set, get_or-le-sum_by, count_by-le-length, count_by_more_yes, sum_by-take-le}
 use Rattle.staat_graph.proofs.Finite.{same_or}
 use Rattle.staat_ring.specs.declared.pairs.PairCount.{PairCount}
-use Rattle.staat_ring.specs.Pairs.{CountBlocks, blocks, fresh, gained, is_block, no_pair, occurs, pair_at}
+use Rattle.staat_model.specs.declared.set.PartSet.{PartSet}
+use Rattle.staat_model.specs.Sets.{Has}
+use Rattle.staat_graph.specs.Graphs.{IsStrong}
+use Rattle.staat_ring.specs.Blocks.{HasBlock, parts_at}
+use Rattle.staat_ring.proofs.Strength.{strong_same}
+use Rattle.staat_ring.specs.Pairs.{HasFullPair, CountBlocks, blocks, fresh, gained, is_block, no_pair, occurs, pair_at}
 
 abbrev pub one : Bool → ℕ
 one b = cond b 1 0
@@ -232,3 +237,16 @@ counted_start n le = record {
     none : (x n : ℕ) → blocks x (replicate n no_pair) ≡ 0
     none x zero = refl
     none x (suc n) = let r = none x n in let b = ap one (none_blocks x no_pair (omega arith)) in omega (arith, r, b, sum_by-cons (λ p. one (is_block x p)) no_pair (replicate n no_pair))
+
+-- ---- strength
+
+pub full_strong : (pairs now : List PairCount) (counts : List ℕ) (w : PartSet) (b : Bool) → pairs ≡ now → CountBlocks pairs counts → ((q : ℕ) → Has w q → q < 32) → IsTrue b ↔ IsStrong (HasBlock counts) w → IsTrue b ↔ IsStrong (HasFullPair now) w
+full_strong pairs now counts w b view is small told =
+    let same = strong_same (HasBlock counts) (HasFullPair now) w (λ p q p_in q_in. subst (λ (xs : List PairCount). HasBlock counts p q ↔ HasFullPair xs p q) view (each p q (small p p_in) (small q q_in))) in
+    (λ e. same.0 (told.0 e), λ s. told.1 (same.1 s))
+  where
+    place : (p q : ℕ) → p < 32 → q < 32 → parts_at p q < 1024
+    place p q lp lq = omega arith
+
+    each : (p q : ℕ) → p < 32 → q < 32 → HasBlock counts p q ↔ HasFullPair pairs p q
+    each p q lp lq = let e = is.each (parts_at p q) (place p q lp lq) in (λ h. subst (λ n. 0 < n) e h, λ h. subst (λ n. 0 < n) (sym e) h)

@@ -1,6 +1,6 @@
 -- One plane gets another sign.
 use Rattle.std.proofs.Common.{◌≡◌, ℕ, zero, suc, ◌+◌, ◌<◌, ◌≤◌, arith, ap, sym, subst, ◌∙◌, refl, List, [], ◌∷◌, length, set, cond, All, get_or-set_same}
-use Rattle.std.specs.Prelude.{◌==◌, ◌↔◌, ◌&&◌, Bool, true, false, map}
+use Rattle.std.specs.Prelude.{IsTrue, ◌==◌, ◌↔◌, ◌&&◌, Bool, true, false, map}
 use Rattle.std.proofs.Math.ListN.{get_or-map}
 use Rattle.std.proofs.lemmas.List.{ext_get_or, length-map}
 use Rattle.std.proofs.lemmas.List.Elements.{All-set, All-get_or}
@@ -9,8 +9,12 @@ use Rattle.std.proofs.lemmas.Bool.Decides.{nat_tests, Decides-eqb}
 use Rattle.staat_vec.specs.declared.vector.Sign.{Sign}
 use Rattle.staat_vec.specs.declared.vector.Sign.TheVariants.{Neg, Zero, Pos}
 use Rattle.staat_ring.specs.declared.pairs.PairCount.{PairCount}
-use Rattle.staat_ring.specs.Pairs.{blocks, gained, is_block, is_full, no_pair, occurs, pair_at}
-use Rattle.staat_ring.specs.Signs.{AreSigned, IsBlockingPair, Side, Signed, emptied, no_side, pairs_by, positive_pairs, positives, side_at, uses, with_sign}
+use Rattle.staat_model.specs.declared.set.PartSet.{PartSet}
+use Rattle.staat_graph.specs.Graphs.{IsStrong}
+use Rattle.staat_ring.specs.Blocks.{parts_at}
+use Rattle.staat_ring.proofs.Strength.{strong_same}
+use Rattle.staat_ring.specs.Pairs.{HasFullPair, blocks, gained, is_block, is_full, no_pair, occurs, pair_at}
+use Rattle.staat_ring.specs.Signs.{AreSigned, HasBlockingPair, IsBlockingPair, Side, Signed, emptied, no_side, pairs_by, positive_pairs, positives, side_at, uses, with_sign}
 
 positive_part : (s : Sign) (along against : List ℕ) (q : ℕ) → occurs q (pairs_by s along against) ≤ occurs q along + occurs q against
 positive_part Neg along against q = omega arith
@@ -134,3 +138,8 @@ blocking_is now sides pairs view is x = (
       (all_of ((pair_at pairs q).parts == x) (is_full (pair_at pairs q)) ((Decides-eqb (pair_at pairs q).parts x).1 (sym (ap (λ p. p.parts) (get_or-map emptied pairs q no_pair)) ∙ k.parts))
       (le_full (pair_at pairs q) (subst (λ n. (pair_at pairs q).wanted ≤ n) (sym (is.each q)) (subst (λ (p : PairCount). p.wanted ≤ positives q sides) (get_or-map emptied pairs q no_pair) k.full)))),
 )
+
+pub blocking_strong : (now : Signed) (sides : List Side) (pairs : List PairCount) (w : PartSet) (b : Bool) → record { sides = sides; pairs = map emptied pairs } ≡ now → AreSigned sides pairs → IsTrue b ↔ IsStrong (HasFullPair pairs) w → IsTrue b ↔ IsStrong (HasBlockingPair now) w
+blocking_strong now sides pairs w b view is told =
+    let same = strong_same (HasFullPair pairs) (HasBlockingPair now) w (λ p q p_in q_in. blocking_is now sides pairs view is (parts_at p q)) in
+    (λ e. same.0 (told.0 e), λ s. told.1 (same.1 s))

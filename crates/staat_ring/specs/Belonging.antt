@@ -1,11 +1,11 @@
 -- Signs that belong to a table: each facet of each ordered pair of pieces is known by its plane and sense.
 use Rattle.std.specs.Prelude.{◌≡◌, ◌⊎◌, ℕ, ◌<◌, ◌≤◌, List, length, map, All, Contains, Some}
-use Rattle.std.specs.Prelude.{Bool, true, false, not, ◌==◌, ◌&&◌, slice_get, slice_index_or}
+use Rattle.std.specs.Prelude.{Bool, false, not, ◌==◌, ◌&&◌, slice_get}
 use Rattle.std.specs.List.{count_by}
 use Rattle.staat_vec.specs.declared.vector.V3.{V3}
 use Rattle.staat_vec.specs.declared.vector.Sign.{Sign}
 use Rattle.staat_vec.specs.declared.vector.Sign.TheVariants.{Neg, Zero, Pos}
-use Rattle.staat_vec.specs.Vectors.{dot, negative, origin, sign}
+use Rattle.staat_vec.specs.Vectors.{dot, sign}
 use Rattle.staat_model.specs.declared.assembly.Part.{Part}
 use Rattle.staat_model.specs.declared.certificate.Arc.{Arc}
 use Rattle.staat_model.specs.declared.set.PartSet.{PartSet}

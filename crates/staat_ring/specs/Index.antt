@@ -1,6 +1,6 @@
 -- While the facets of a table are put down.
 use Rattle.std.specs.Prelude.{◌≡◌, ◌≢◌, ◌⊎◌, ℕ, ◌<◌, ◌≤◌, List, length, take, sum}
-use Rattle.std.specs.Prelude.{Some, slice_get, slice_set}
+use Rattle.std.specs.Prelude.{Some, slice_get}
 use Rattle.staat_vec.specs.declared.vector.V3.{V3}
 use Rattle.staat_vec.specs.declared.vector.Sign.TheVariants.{Zero}
 use Rattle.staat_model.specs.declared.certificate.Arc.{Arc}
@@ -8,7 +8,7 @@ use Rattle.staat_model.specs.Sets.{Has}
 use Rattle.staat_pairs.specs.Tables.{IsTableArc, Table, pieces_of, place, slot}
 use Rattle.staat_ring.specs.declared.index.PiecePlace.{PiecePlace}
 use Rattle.staat_ring.specs.Pairs.{no_pair, occurs, pair_at}
-use Rattle.staat_ring.specs.Signs.{Signed, side_at, with_pair}
+use Rattle.staat_ring.specs.Signs.{Signed, side_at, with_pair, with_side}
 use Rattle.staat_ring.specs.Belonging.{IsPairIndexed, IsPairOf, IsUnused, PlaneFacet}
 
 -- the pieces of the parts below n, numbered through
@@ -56,10 +56,7 @@ pub record AreToldBelow (t : Table) (s : Signed) (n : ℕ) : Type 0 where
 
 -- one more facet of pair q
 abbrev pub with_facet : PlaneFacet → ℕ → Signed → Signed
-with_facet w q s = record {
-  sides = slice_set s.sides w.plane (with_pair w.turned q (side_at s.sides w.plane));
-  pairs = s.pairs;
-}
+with_facet w q s = with_side w.plane (with_pair w.turned q (side_at s.sides w.plane)) s
 
 -- of the facets of pair q so many are put down
 pub record IsPartly (planes facets : List V3) (first s : Signed) (q m : ℕ) : Type 0 where

@@ -2,6 +2,7 @@
 use Rattle.std.specs.Prelude.{◌≡◌, ℕ, ◌+◌, ◌<◌, ◌≤◌, List, length, Bool, not, nat_lt}
 use Rattle.std.specs.Prelude.{◌==◌, ◌&&◌, slice_index, slice_index_or}
 use Rattle.std.specs.List.{count_by}
+use Rattle.staat_ring.specs.Blocks.{parts_at}
 use Rattle.staat_ring.specs.declared.pairs.PairCount.{PairCount}
 
 -- a pair that does not block
@@ -22,6 +23,10 @@ is_block x p = (p.parts == x) && is_full p
 -- how many pairs of these parts block
 abbrev pub blocks : ℕ → List PairCount → ℕ
 blocks x pairs = count_by (is_block x) pairs
+
+-- some pair of pieces of these parts blocks
+abbrev pub HasFullPair : List PairCount → ℕ → ℕ → Type 0
+HasFullPair pairs a b = 0 < blocks (parts_at a b) pairs
 
 -- so many more of its facets are positive
 abbrev pub gained : ℕ → PairCount → PairCount

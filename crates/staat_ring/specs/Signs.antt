@@ -1,9 +1,10 @@
 -- The signs of planes, and the pairs of pieces whose facets are positive with them.
 use Rattle.std.specs.Prelude.{◌≡◌, ℕ, ◌+◌, ◌<◌, ◌≤◌, List, [], ◌∷◌, ◌++◌, Bool}
-use Rattle.std.specs.Prelude.{true, false, length, All, slice_index_or}
+use Rattle.std.specs.Prelude.{true, false, length, All, slice_index_or, slice_set}
 use Rattle.std.specs.List.{sum_by}
 use Rattle.staat_vec.specs.declared.vector.Sign.{Sign}
 use Rattle.staat_vec.specs.declared.vector.Sign.TheVariants.{Neg, Zero, Pos}
+use Rattle.staat_ring.specs.Blocks.{parts_at}
 use Rattle.staat_ring.specs.declared.pairs.PairCount.{PairCount}
 use Rattle.staat_ring.specs.Pairs.{occurs, pair_at}
 
@@ -49,11 +50,19 @@ pub record Signed : Type 0 where
   pub sides : List Side
   pub pairs : List PairCount
 
+-- the plane k is this one
+abbrev pub with_side : ℕ → Side → Signed → Signed
+with_side k side s = record { sides = slice_set s.sides k side; pairs = s.pairs }
+
 -- pair q is one of these parts, and all its facets are positive
 pub record IsBlockingPair (s : Signed) (x q : ℕ) : Type 0 where
   pub within : q < length s.pairs
   pub parts : (pair_at s.pairs q).parts ≡ x
   pub full : (pair_at s.pairs q).wanted ≤ positives q s.sides
+
+-- some pair of pieces of these parts has positive facets alone
+abbrev pub HasBlockingPair : Signed → ℕ → ℕ → Type 0
+HasBlockingPair s a b = (q : ℕ) × IsBlockingPair s (parts_at a b) q
 
 -- the counts are those of the signs
 pub record AreSigned (sides : List Side) (pairs : List PairCount) : Type 0 where

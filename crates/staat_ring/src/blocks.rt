@@ -1,22 +1,28 @@
 // How many pairs of pieces block for each ordered pair of parts, and the graph that shows where there are some.
 ghost use Rattle.std.specs.Prelude.{◌≡◌, ℕ, ◌+◌, ◌*◌, ◌<◌, ◌≤◌, ◌^◌, ◌↔◌};
-ghost use Rattle.std.specs.Prelude.{◌⊎◌, IfOk, replicate, slice_index, slice_set, ◌-◌};
-ghost use Rattle.staat_graph.specs.Graphs.{HasArc};
-ghost use Rattle.staat_ring.specs.Blocks.{ShowsCounts, parts_at};
+ghost use Rattle.std.specs.Prelude.{◌⊎◌, IfOk, IsTrue};
+ghost use Rattle.std.specs.Prelude.{replicate, slice_index, slice_set, ◌-◌};
+ghost use Rattle.staat_model.specs.Sets.{IsNonempty};
+ghost use Rattle.staat_graph.specs.Graphs.{HasArc, IsStrong};
+ghost use Rattle.staat_ring.specs.Blocks.{HasBlock, parts_at};
 ghost use Rattle.std.specs.Int.{bit_at};
 
-use staat_graph::Graph;
+use staat_graph::{Graph, reach};
 use staat_model::PartSet;
 use staat_vec::OutOfMemory;
 use std::alloc::Global;
 use std::marker::Model;
 
-/// How many pairs of pieces block for each ordered pair of parts, seen as the list of these numbers.
+/// How many pairs of pieces block for each ordered pair of parts, seen as the list of these numbers: that of the part
+/// `a` against the part `b` stands at 32 a + b.
+///
+/// Beside them stand the words of the graph in which an arc stands exactly where the number is not 0, and those of the
+/// same graph with each arc turned round, so that arcs are found from either end.
 #[derive(Drop)]
 pub struct BlockCounts {
     counts: Vec<u16>,
-    rows: [u32; 32],
-    back: [u32; 32],
+    graph: Graph,
+    back: Graph,
 }
 
 impl Model for BlockCounts {
@@ -27,7 +33,7 @@ impl Model for BlockCounts {
 
     ghost view = { λ b. b.counts.items };
 
-    ghost invariant = { λ b. ShowsCounts b.counts.items b.rows b.back };
+    ghost invariant = { λ b. ShowsCounts b.counts.items b.graph.rows b.back.rows };
 }
 
 // the word with the bit b set
@@ -70,12 +76,16 @@ impl BlockCounts {
         ensures { IfOk result (λ b. b ≡ replicate 1024 0) }
     {
         let counts = vec![in alloc; 0u16; 1024]?;
-        let rows = [0; 32];
-        let back = [0; 32];
-        Ok(BlockCounts { counts, rows, back })
+        let graph = Graph { rows: [0; 32] };
+        let back = Graph { rows: [0; 32] };
+        Ok(BlockCounts {
+            counts,
+            graph,
+            back,
+        })
     }
 
-    /// One more pair of pieces blocks.
+    /// One more pair of pieces blocks for the parts whose number stands at `x`.
     pub fn more(&mut self, x: u16)
         requires place { x < 1024 }
         requires room { slice_index self.old x + 1 < 2 ^ 16 }
@@ -85,8 +95,8 @@ impl BlockCounts {
         self.counts[x as usize] = count;
         if count == 1 {
             let (a, b) = (x as u32 / 32, x as u32 % 32);
-            set_arc(&mut self.rows, a, b);
-            set_arc(&mut self.back, b, a);
+            set_arc(&mut self.graph.rows, a, b);
+            set_arc(&mut self.back.rows, b, a);
         }
     }
 
@@ -100,17 +110,28 @@ impl BlockCounts {
         self.counts[x as usize] = count;
         if count == 0 {
             let (a, b) = (x as u32 / 32, x as u32 % 32);
-            clear_arc(&mut self.rows, a, b);
-            clear_arc(&mut self.back, b, a);
+            clear_arc(&mut self.graph.rows, a, b);
+            clear_arc(&mut self.back.rows, b, a);
         }
     }
 
     /// The graph in which an arc stands where some pair of pieces blocks.
     pub fn graph(&self) -> Graph
-        ensures { (a b : ℕ) → a < 32 → b < 32 → HasArc result.rows a b
-            ↔ (0 < slice_index self.now (parts_at a b)) }
+        ensures { (a b : ℕ) → a < 32 → b < 32 → HasArc result.rows a b ↔ HasBlock self.now a b }
     {
-        let rows = self.rows;
-        Graph { rows }
+        self.graph
+    }
+
+    /// Whether each part of `w` reaches each other by a walk inside `w` along the arcs of the graph. `w` is not empty.
+    ///
+    /// What reaches a part is found in the turned graph, which is kept and not made anew.
+    pub fn is_strong(&self, w: PartSet) -> bool
+        requires { IsNonempty w }
+        ensures { IsTrue result ↔ IsStrong (HasBlock self.now) w }
+    {
+        // all members are below the number of bits
+        let _bits = w.bits();
+        let p = w.least();
+        w.within(reach(&self.graph, w, p)) && w.within(reach(&self.back, w, p))
     }
 }

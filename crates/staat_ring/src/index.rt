@@ -10,8 +10,10 @@ ghost use Rattle.staat_ring.specs.Signs.{side_at, uses};
 ghost use Rattle.staat_ring.specs.Belonging.{BelongTo, IsPairOf, PlaneFacet as PlaneFacetValue, facet_at};
 ghost use Rattle.staat_ring.specs.Rings.{facet_by, plane_at};
 
+use crate::plane_number::number_of_plane;
 use crate::signs::Signs;
-use staat_model::{Arc, MOST_PARTS};
+use staat_model::{Arc, MOST_PARTS, MOST_PIECES};
+use staat_pairs::SLOTS;
 use staat_planes::PlaneTable;
 use staat_vec::{OutOfMemory, V3, canon, is_same};
 use std::alloc::Global;
@@ -23,21 +25,7 @@ pub struct PiecePlace {
     pub piece: u32,
 }
 
-// the number of the plane with this normal
-fn number_of(table: &PlaneTable, n: V3) -> u32
-    requires { Contains table.now.planes n }
-    ensures within { result < length table.now.planes }
-    ensures is { plane_at table.now.planes result ≡ n }
-{
-    for k in 0..table.len() {
-        if is_same(table.plane(k), n) {
-            return k;
-        }
-    }
-    unreachable!()
-}
-
-// adds the pieces of one part
+// adds the pieces of one part, if it is in the table's set
 fn add_places(places: &mut Vec<PiecePlace>, table: &PlaneTable, a: u32) -> Result<(), OutOfMemory>
     requires part { a < MOST_PARTS }
     requires places { ArePlaces table.now a places.old.items }
@@ -63,7 +51,7 @@ fn places_of(alloc: Global, table: &PlaneTable) -> Result<Vec<PiecePlace>, OutOf
     Ok(places)
 }
 
-// the facet m of the pair q lies on some plane
+// puts down one facet of the pair q, in the list of its plane and sense
 fn push_facet(signs: &mut Signs, table: &PlaneTable, facet: V3, q: u16) -> Result<(), OutOfMemory>
     requires facet { IsTableFacet table.now.planes facet }
     requires sides { length signs.old.sides ≡ length table.now.planes }
@@ -74,11 +62,11 @@ fn push_facet(signs: &mut Signs, table: &PlaneTable, facet: V3, q: u16) -> Resul
         × (facet_at table.now.planes w ≡ facet) × (signs.new ≡ with_facet w q signs.old)) }
 {
     let n = canon(facet);
-    let k = number_of(table, n);
+    let k = number_of_plane(table, n);
     signs.push(k, !is_same(n, facet), q)
 }
 
-// the facets of a pair are put down
+// tells the pair q, and puts down its facets
 fn add_pair(signs: &mut Signs, table: &PlaneTable, arc: Arc, q: u16) -> Result<(), OutOfMemory>
     requires across { IsTableArc table.now arc }
     requires slot { slot table.now.pieces arc ≡ q }
@@ -89,8 +77,8 @@ fn add_pair(signs: &mut Signs, table: &PlaneTable, arc: Arc, q: u16) -> Result<(
     ensures pair { OnOk result (IsPairOf table.now signs.new arc) }
     ensures others { OnOk result (AreSameBut signs.old signs.new q) }
 {
-    let set = table.set();
-    let _small = set.bits();
+    // all parts are below the number of bits
+    let _bits = table.set().bits();
     let count = table.facet_count(arc);
     signs.want(q, count as u16, (32 * arc.a + arc.b) as u16);
     for m in 0..count {
@@ -99,7 +87,7 @@ fn add_pair(signs: &mut Signs, table: &PlaneTable, arc: Arc, q: u16) -> Result<(
     Ok(())
 }
 
-// the pair of the pieces x and y, where they are of different parts
+// adds the pair of the pieces x and y, where they are of different parts
 fn add_places_pair(
     signs: &mut Signs,
     table: &PlaneTable,
@@ -109,8 +97,8 @@ fn add_places_pair(
 ) -> Result<(), OutOfMemory>
     requires x { Has table.now.of x.part × (x.piece < pieces_of table.now x.part) }
     requires y { Has table.now.of y.part × (y.piece < pieces_of table.now y.part) }
-    requires slot { 64 * place table.now.pieces x.part x.piece + place table.now.pieces y.part y.piece ≡ q }
-    requires pair { q < 4096 }
+    requires slot { MOST_PIECES * place table.now.pieces x.part x.piece + place table.now.pieces y.part y.piece ≡ q }
+    requires pair { q < SLOTS }
     requires told { AreToldBelow table.now signs.old q }
     ensures { OnOk result (AreToldBelow table.now signs.new (q + 1)) }
 {
@@ -127,7 +115,7 @@ fn add_places_pair(
     add_pair(signs, table, arc, q as u16)
 }
 
-// the pair of the number q, if there is one
+// adds the pair of the number q, if there is one
 fn add_slot(
     signs: &mut Signs,
     table: &PlaneTable,
@@ -135,29 +123,27 @@ fn add_slot(
     q: u32,
 ) -> Result<(), OutOfMemory>
     requires places { ArePlaces table.now 32 places.now }
-    requires pair { q < 4096 }
+    requires pair { q < SLOTS }
     requires told { AreToldBelow table.now signs.old q }
     ensures { OnOk result (AreToldBelow table.now signs.new (q + 1)) }
 {
     let _set = table.set();
-    let (p, r) = ((q / 64) as usize, (q % 64) as usize);
-    if p >= places.len() {
-        return Ok(());
-    }
-    if r >= places.len() {
+    let (p, r) = ((q / MOST_PIECES) as usize, (q % MOST_PIECES) as usize);
+    if p >= places.len() || r >= places.len() {
         return Ok(());
     }
     add_places_pair(signs, table, places[p], places[r], q)
 }
 
-/// The signs of the planes of a table, all Zero, with its pairs of pieces and their facets.
+/// The signs of the planes of a table, all Zero, with its ordered pairs of pieces by their slots, and for each plane
+/// the pairs that have its normal or the negative as a facet.
 pub fn signs_of(alloc: Global, table: &PlaneTable) -> Result<Signs, OutOfMemory>
     ensures { IfOk result (λ s. BelongTo table.now s) }
 {
     let _set = table.set();
     let places = places_of(alloc, table)?;
-    let mut signs = Signs::new(alloc, table.len(), 4096)?;
-    for q in 0..4096 {
+    let mut signs = Signs::new(alloc, table.len(), SLOTS)?;
+    for q in 0..SLOTS {
         add_slot(&mut signs, table, places.as_slice(), q)?;
     }
     Ok(signs)

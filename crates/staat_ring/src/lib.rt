@@ -15,6 +15,7 @@ mod linking;
 mod nodes;
 mod order;
 mod pairs;
+mod plane_number;
 mod reading;
 mod rings;
 mod signs;
@@ -26,5 +27,7 @@ pub use rings::Rings;
 pub use vertex::Crossing;
 pub use walk::Walk;
 
+#[cfg(test)]
+mod sign_tests;
 #[cfg(test)]
 mod tests;

@@ -1,26 +1,31 @@
 // How many facets of each ordered pair of pieces are positive.
 ghost use Rattle.std.specs.Prelude.{◌≡◌, ℕ, ◌+◌, ◌*◌, ◌<◌, ◌≤◌, ◌^◌, ◌↔◌};
-ghost use Rattle.std.specs.Prelude.{◌⊎◌, ◌-◌, All, IfOk, length, replicate, slice_index, slice_set};
-ghost use Rattle.staat_graph.specs.Graphs.{HasArc};
-ghost use Rattle.staat_ring.specs.Blocks.{parts_at};
-ghost use Rattle.staat_ring.specs.Pairs.{CountBlocks, blocks, fresh, gained, no_pair, occurs, pair_at};
+ghost use Rattle.std.specs.Prelude.{◌⊎◌, ◌-◌, All, IfOk, IsTrue, length, replicate, slice_index, slice_set};
+ghost use Rattle.staat_model.specs.Sets.{IsNonempty};
+ghost use Rattle.staat_graph.specs.Graphs.{HasArc, IsStrong};
+ghost use Rattle.staat_ring.specs.Pairs.{CountBlocks, HasFullPair, blocks, fresh, gained, no_pair, occurs, pair_at};
 
 use crate::blocks::BlockCounts;
 use staat_graph::Graph;
+use staat_model::PartSet;
 use staat_vec::OutOfMemory;
 use std::alloc::Global;
 use std::marker::Model;
 
-/// An ordered pair of pieces: how many of its facets are positive, with how many it blocks, and the place
-/// of its parts.
+/// An ordered pair of pieces of different parts.
 #[derive(Clone, Copy)]
 pub struct PairCount {
+    /// How many of its facets are positive.
     pub positive: u16,
+    /// How many facets it has. It blocks where all are positive.
     pub wanted: u16,
+    /// The place of its parts: 32 a + b for a piece of the part `a` and one of the part `b`.
     pub parts: u16,
 }
 
-/// The ordered pairs of pieces, with the graph of their parts in which an arc stands where some pair blocks.
+/// The ordered pairs of pieces by number, with the graph of their parts in which an arc stands where some pair blocks.
+///
+/// There are at most 4,096 numbers. One that is no pair's wants one facet and has none, so it does not block.
 #[derive(Drop)]
 pub struct PairCounts {
     pairs: Vec<PairCount>,
@@ -55,7 +60,7 @@ impl PairCounts {
         Ok(PairCounts { pairs, blocked })
     }
 
-    /// Tells the parts of a pair and how many facets it has.
+    /// Tells the place of the parts of a pair and how many facets it has. Nothing was told of it before.
     pub fn want(&mut self, q: u16, wanted: u16, parts: u16)
         requires place { q < length self.old }
         requires fresh { pair_at self.old q ≡ no_pair }
@@ -72,7 +77,7 @@ impl PairCounts {
         }
     }
 
-    /// One more facet of the pair is positive.
+    // one more facet of the pair is positive
     fn gain(&mut self, q: u16)
         requires place { q < length self.old }
         requires room { (pair_at self.old q).positive + 1 < 2 ^ 16 }
@@ -86,7 +91,7 @@ impl PairCounts {
         }
     }
 
-    /// One less is.
+    // one less is
     fn lose(&mut self, q: u16)
         requires place { q < length self.old }
         requires some { 0 < (pair_at self.old q).positive }
@@ -102,7 +107,7 @@ impl PairCounts {
         }
     }
 
-    /// One more facet of each pair in the list is positive.
+    /// One more facet of each pair in the list is positive, for a pair that stands twice two more.
     pub fn gain_all(&mut self, qs: &[u16])
         requires places { All (λ q. q < length self.old) qs.now }
         requires room { (q : ℕ) → (pair_at self.old q).positive + occurs q qs.now < 2 ^ 16 }
@@ -114,7 +119,7 @@ impl PairCounts {
         }
     }
 
-    /// One less of each is.
+    /// One less of each is positive.
     pub fn lose_all(&mut self, qs: &[u16])
         requires places { All (λ q. q < length self.old) qs.now }
         requires some { (q : ℕ) → occurs q qs.now ≤ (pair_at self.old q).positive }
@@ -128,9 +133,18 @@ impl PairCounts {
 
     /// The graph in which an arc stands where some pair blocks.
     pub fn graph(&self) -> Graph
-        ensures { (a b : ℕ) → a < 32 → b < 32 → HasArc result.rows a b
-            ↔ (0 < blocks (parts_at a b) self.now) }
+        ensures { (a b : ℕ) → a < 32 → b < 32 → HasArc result.rows a b ↔ HasFullPair self.now a b }
     {
         self.blocked.graph()
+    }
+
+    /// Whether each part of `w` reaches each other by a walk inside `w` along the arcs of the graph. `w` is not empty.
+    pub fn is_strong(&self, w: PartSet) -> bool
+        requires { IsNonempty w }
+        ensures { IsTrue result ↔ IsStrong (HasFullPair self.now) w }
+    {
+        // all members are below the number of bits
+        let _bits = w.bits();
+        self.blocked.is_strong(w)
     }
 }

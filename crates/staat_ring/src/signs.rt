@@ -1,20 +1,23 @@
 // The signs of the planes at a vertex, and the graph there.
 ghost use Rattle.std.specs.Prelude.{◌≡◌, ℕ, ◌+◌, ◌*◌, ◌<◌, ◌≤◌, ◌^◌, ◌↔◌, All};
-ghost use Rattle.std.specs.Prelude.{IfOk, OnErr, OnOk, length, replicate, slice_index, slice_set};
-ghost use Rattle.staat_graph.specs.Graphs.{HasArc};
+ghost use Rattle.std.specs.Prelude.{IfOk, IsTrue, OnErr, OnOk, length, replicate, slice_index, slice_set};
+ghost use Rattle.staat_model.specs.Sets.{IsNonempty};
+ghost use Rattle.staat_graph.specs.Graphs.{HasArc, IsStrong};
 ghost use Rattle.staat_vec.specs.declared.vector.Sign.TheVariants.{Zero};
 ghost use Rattle.staat_ring.specs.Blocks.{parts_at};
 ghost use Rattle.staat_ring.specs.Pairs.{fresh, no_pair, occurs, pair_at};
-ghost use Rattle.staat_ring.specs.Signs.{IsBlockingPair, no_side, positive_pairs, positives, side_at, uses};
-ghost use Rattle.staat_ring.specs.Signs.{with_pair, with_sign};
+ghost use Rattle.staat_ring.specs.Signs.{HasBlockingPair, no_side, positive_pairs, positives, side_at, uses};
+ghost use Rattle.staat_ring.specs.Signs.{with_pair, with_side, with_sign};
 
 use crate::pairs::PairCounts;
 use staat_graph::Graph;
+use staat_model::PartSet;
 use staat_vec::{OutOfMemory, Sign};
 use std::alloc::Global;
 use std::marker::Model;
 
-/// A plane: its sign, the ordered pairs of pieces of which its normal is a facet, and those of which the negative is.
+/// A plane: its sign, the numbers of the ordered pairs of pieces of which its normal is a facet, and those of which
+/// the negative is. A number stands as often as the pair has the facet.
 #[derive(Drop)]
 pub struct PlaneSide {
     sign: Sign,
@@ -42,8 +45,15 @@ impl PlaneSide {
         }
     }
 
+    // whether the plane has the sign
+    fn has_sign(&self, sign: Sign) -> bool
+        ensures { IsTrue result ↔ (self.now.sign ≡ sign) }
+    {
+        self.sign == sign
+    }
+
     // gives the plane another sign
-    fn turn(&mut self, sign: Sign)
+    fn set_sign(&mut self, sign: Sign)
         ensures { self.new ≡ with_sign sign self.old }
     {
         self.sign = sign;
@@ -58,15 +68,28 @@ fn pairs_at(sides: &Vec<PlaneSide>, k: u32) -> &[u16]
     sides[k as usize].positive_pairs()
 }
 
+// whether the plane k has the sign
+fn has_sign(sides: &Vec<PlaneSide>, k: u32, sign: Sign) -> bool
+    requires { k < length sides.now.items }
+    ensures { IsTrue result ↔ ((side_at sides.now.items k).sign ≡ sign) }
+{
+    sides[k as usize].has_sign(sign)
+}
+
 // gives the plane k another sign
-fn turn_at(sides: &mut Vec<PlaneSide>, k: u32, sign: Sign)
+fn set_sign_at(sides: &mut Vec<PlaneSide>, k: u32, sign: Sign)
     requires { k < length sides.old.items }
     ensures { sides.new.items ≡ slice_set sides.old.items k (with_sign sign (side_at sides.old.items k)) }
 {
-    sides[k as usize].turn(sign);
+    sides[k as usize].set_sign(sign);
 }
 
 /// The signs of planes, with the graph in which an arc stands where all facets of some pair of pieces are positive.
+///
+/// A facet is positive where its plane has the sign Pos, or Neg if it is the negative of the plane's normal. Seen are
+/// the planes, each with its sign and its pairs, and the pairs, each with its parts and the number of its facets.
+/// There are at most 4,096 numbers of ordered pairs of pieces. The counts and the graph follow from these, and are
+/// kept up to date: a sign that changes costs the pairs of its plane alone.
 #[derive(Drop)]
 pub struct Signs {
     sides: Vec<PlaneSide>,
@@ -117,21 +140,20 @@ impl PlaneSide {
 // the same of the plane k
 fn push_at(sides: &mut Vec<PlaneSide>, k: u32, turned: bool, q: u16) -> Result<(), OutOfMemory>
     requires { k < length sides.old.items }
-    ensures ok { OnOk result (sides.new.items ≡ slice_set sides.old.items k (with_pair turned q (side_at
-        sides.old.items k))) }
+    ensures ok { OnOk result
+        (sides.new.items ≡ slice_set sides.old.items k (with_pair turned q (side_at sides.old.items k))) }
     ensures err { OnErr result (sides.new.items ≡ sides.old.items) }
 {
     sides[k as usize].push(turned, q)
 }
 
 impl Signs {
-    /// So many planes of the sign Zero, and so many numbers that are no pairs.
+    /// So many planes of the sign Zero through no facet, and so many numbers that are no pairs.
     pub fn new(alloc: Global, planes: u32, pairs: u32) -> Result<Signs, OutOfMemory>
         requires { pairs ≤ 4096 }
         ensures { IfOk result (λ s. s ≡ record {
           sides = replicate planes no_side;
-          pairs = replicate pairs
-              no_pair;
+          pairs = replicate pairs no_pair;
         }) }
     {
         let sides = empty_sides(alloc, planes)?;
@@ -139,23 +161,22 @@ impl Signs {
         Ok(Signs { sides, counts })
     }
 
-    /// One more facet of the pair `q` lies on the plane `k`. The plane has the sign Zero.
+    /// One more facet of the pair `q` lies on the plane `k`: its normal, or the negative if `turned`. The plane has
+    /// the sign Zero.
     pub fn push(&mut self, k: u32, turned: bool, q: u16) -> Result<(), OutOfMemory>
         requires plane { k < length self.old.sides }
         requires zero { (side_at self.old.sides k).sign ≡ Zero }
         requires pair { q < length self.old.pairs }
         requires room { uses q self.old.sides + 1 < 65536 }
-        ensures { OnOk result (self.new ≡ record {
-          sides = slice_set self.old.sides k (with_pair turned q (side_at
-              self.old.sides k));
-          pairs = self.old.pairs;
-        }) }
+        ensures { OnOk result
+            (self.new ≡ with_side k (with_pair turned q (side_at self.old.sides k)) self.old) }
     {
         push_at(&mut self.sides, k, turned, q)?;
         Ok(())
     }
 
-    /// Tells the parts of a pair and how many facets it has. None of them is positive.
+    /// Tells the place of the parts of a pair, 32 a + b for the parts `a` and `b`, and how many facets it has. Nothing
+    /// was told of the pair before, and none of its facets is positive.
     pub fn want(&mut self, q: u16, wanted: u16, parts: u16)
         requires place { q < length self.old.pairs }
         requires fresh { pair_at self.old.pairs q ≡ no_pair }
@@ -163,31 +184,44 @@ impl Signs {
         requires parts { parts < 1024 }
         ensures { self.new ≡ record {
           sides = self.old.sides;
-          pairs = slice_set self.old.pairs q (fresh wanted
-              parts);
+          pairs = slice_set self.old.pairs q (fresh wanted parts);
         } }
     {
         self.counts.want(q, wanted, parts);
     }
-    /// Gives a plane another sign.
-    pub fn set(&mut self, k: u32, sign: Sign)
+
+    // gives the plane another sign: a facet less of each pair in one list is positive, one more of each in the other
+    fn change(&mut self, k: u32, sign: Sign)
         requires { k < length self.old.sides }
-        ensures { self.new ≡ record {
-          sides = slice_set self.old.sides k (with_sign sign (side_at self.old.sides
-              k));
-          pairs = self.old.pairs;
-        } }
+        ensures { self.new ≡ with_side k (with_sign sign (side_at self.old.sides k)) self.old }
     {
         self.counts.lose_all(pairs_at(&self.sides, k));
-        turn_at(&mut self.sides, k, sign);
+        set_sign_at(&mut self.sides, k, sign);
         self.counts.gain_all(pairs_at(&self.sides, k));
+    }
+
+    /// Gives the plane `k` a sign. Where it has that sign, nothing is done.
+    pub fn set(&mut self, k: u32, sign: Sign)
+        requires { k < length self.old.sides }
+        ensures { self.new ≡ with_side k (with_sign sign (side_at self.old.sides k)) self.old }
+    {
+        if !has_sign(&self.sides, k, sign) {
+            self.change(k, sign);
+        }
     }
 
     /// The graph in which an arc stands where all facets of some pair of pieces are positive.
     pub fn graph(&self) -> Graph
-        ensures { (a b : ℕ) → a < 32 → b < 32 → HasArc result.rows a b ↔ ((q : ℕ)
-            × IsBlockingPair self.now (parts_at a b) q) }
+        ensures { (a b : ℕ) → a < 32 → b < 32 → HasArc result.rows a b ↔ HasBlockingPair self.now a b }
     {
         self.counts.graph()
+    }
+
+    /// Whether each part of `w` reaches each other by a walk inside `w` along the arcs of the graph. `w` is not empty.
+    pub fn is_strong(&self, w: PartSet) -> bool
+        requires { IsNonempty w }
+        ensures { IsTrue result ↔ IsStrong (HasBlockingPair self.now) w }
+    {
+        self.counts.is_strong(w)
     }
 }

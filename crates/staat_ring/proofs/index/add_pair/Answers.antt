@@ -20,7 +20,7 @@ push_facet-requires-clause-room c =
     partly_room c.args.table.now.planes (facets_of c.args.table.now c.args.arc) c.want.new.self c.loop-m.signs c.args.q c.loop-m.m (length c.args.table.now.planes)
     (c.loop-m.invariant.partly.sides ∙ (ap (λ s. length s.sides) c.want.ensures ∙ c.requires.sides))
     (let e = c.facet_count-count.ensures.is in let m = c.facet_count-count.ensures.most in omega (arith, e, m))
-    c.set-set.ensures.most c.loop-m.invariant.partly
+    c.set.ensures.most c.loop-m.invariant.partly
 
 pub loop-m-preserved : goal.loop-m-preserved
 loop-m-preserved c =
