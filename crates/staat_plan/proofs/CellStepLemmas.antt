@@ -10,6 +10,7 @@ use Rattle.std.proofs.lemmas.List.{take_more}
 use Rattle.std.proofs.lemmas.List.Elements.{All-append, All-cons, All-contains, All-map, All-nil, Contains-append_left}
 use Rattle.std.proofs.lemmas.List.Elements.{Contains-append_right}
 use Rattle.staat_vec.specs.declared.vector.TheConstants.{DIRECTION}
+use Rattle.staat_vec.specs.declared.vector.V3.{V3}
 use Rattle.staat_vec.specs.Lists.{IsFirst}
 use Rattle.staat_vec.specs.Vectors.{IsWithin, origin}
 use Rattle.staat_vec.proofs.Unique.{Contains-front}
@@ -24,7 +25,9 @@ use Rattle.staat_pairs.specs.Tables.{AreTablePlanes, Table, WasMadeFrom}
 use Rattle.staat_cells.specs.declared.cell.Cell.{Cell}
 use Rattle.staat_cells.specs.declared.skeleton.Skeleton.{Skeleton}
 use Rattle.staat_cells.specs.Compositions.{composed_at, composed_up_to, entry_of}
+use Rattle.staat_cells.specs.FirstCell.{first_entry}
 use Rattle.staat_cells.specs.Skeletons.{IsComposedAt, IsSkeleton, opens_at, opens_before}
+use Rattle.staat_cells.proofs.LeastCell.{first_listed}
 use Rattle.staat_cells.proofs.SomeCells.{some_cells}
 use Rattle.staat_cells.proofs.TableRules.{holds_axes}
 use Rattle.staat_cells.proofs.WholeLists.{cell_small, representative_in}
@@ -340,3 +343,18 @@ stuck_step t are few two stuck =
           none =
               (tries_decide_lemma true parts t.of list made.assembly two are_tries).0 (stuck parts made);
         }
+
+-- ---- the first open cell by itself
+
+pub first_found : (t : Table) (d : V3) (m : Marked) → AreTablePlanes t.planes → length t.planes ≤ 256
+    → IsEntry t.planes Open (first_entry t.planes d) → IsStepAmong t (first_entry t.planes d ∷ []) (Some m)
+    → IsTableStep true t (Some m)
+first_found t d m are few entry a = found (some_cells t.planes are few)
+  where
+    found : (cells : List CellEntry) × AreCells t.planes cells → IsTableStep true t (Some m)
+    found (cells, all) =
+        let (rest, opens) = first_listed t.planes are d entry all.opens all.opens_are in
+        let first = first_entry t.planes d ∷ [] in
+        table_step t (first ++ rest) all.edges all.points opens all.edges_are all.points_are (Some m)
+        (some_then t ((first ++ rest) ++ all.edges) all.points m
+        (some_then t (first ++ rest) all.edges m (some_then t first rest m a)))

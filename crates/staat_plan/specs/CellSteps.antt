@@ -1,13 +1,17 @@
 -- The first step along representatives of cells.
-use Rattle.std.specs.Prelude.{◌≡◌, ◌≢◌, List, ◌∷◌, ◌++◌, All, Bool, IfSome, MatchOption, Option}
+use Rattle.std.specs.Prelude.{◌≡◌, ◌≢◌, List, [], ◌∷◌, ◌++◌, All, Bool, IfSome, MatchOption}
+use Rattle.std.specs.Prelude.{Option}
 use Rattle.std.specs.Prelude.{Some}
 use Rattle.staat_vec.specs.declared.vector.TheConstants.{DIRECTION}
 use Rattle.staat_vec.specs.Vectors.{IsWithin, origin}
 use Rattle.staat_model.specs.declared.assembly.Part.{Part}
-use Rattle.staat_model.specs.Cells.{CellEntry, signs_of}
+use Rattle.staat_vec.specs.declared.vector.V3.{V3}
+use Rattle.staat_model.specs.declared.tree.Kind.TheVariants.{Open}
+use Rattle.staat_model.specs.Cells.{CellEntry, IsEntry, signs_of}
 use Rattle.staat_model.specs.Outcomes.{HasNoStep, IsStep}
 use Rattle.staat_model.specs.Sets.{IsSide}
 use Rattle.staat_pairs.specs.Tables.{Table, WasMadeFrom}
+use Rattle.staat_cells.specs.FirstCell.{first_entry}
 use Rattle.staat_plan.specs.declared.marked.Marked.{Marked}
 use Rattle.staat_plan.specs.Planning.{try_of}
 use Rattle.staat_plan.specs.Searches.{MovesAlong, ServesNot}
@@ -38,6 +42,12 @@ pub record IsStepAmong (t : Table) (cells : List CellEntry) (found : Option Mark
   pub side : IfSome found (λ m. IsSide t.of m.step.moved)
   pub size : IfSome found (λ m. IsWithin DIRECTION m.step.d)
   pub step : MatchOption found (ServeNot t cells) (IsStepAlongFirst t cells)
+
+-- the step along the representative of the first open cell, if that serves
+pub record IsFirstOpenStep (t : Table) (found : Option Marked) : Type 0 where
+  pub d : V3
+  pub entry : IsEntry t.planes Open (first_entry t.planes d)
+  pub step : IsStepAmong t (first_entry t.planes d ∷ []) found
 
 -- the step of the table's set, if it has one
 pub record IsTableStep (robust : Bool) (t : Table) (found : Option Marked) : Type 0 where

@@ -5,16 +5,36 @@ ghost use Rattle.staat_pairs.specs.Tables.{AreTablePlanes};
 ghost use Rattle.staat_cells.specs.CellGraphs.{HasArcsOf};
 ghost use Rattle.staat_cells.specs.Compositions.{entry_of};
 ghost use Rattle.staat_cells.specs.Skeletons.{IsSkeleton, opens_at, opens_before};
-ghost use Rattle.staat_plan.specs.CellSteps.{IsStepAmong, IsTableCell, IsTableStep};
+ghost use Rattle.staat_plan.specs.CellSteps.{IsFirstOpenStep, IsStepAmong, IsTableCell, IsTableStep};
 
 use crate::marked::Marked;
 use crate::step::part_step;
-use staat_cells::{Cell, CellGraphs, Skeleton};
+use staat_cells::{Cell, CellGraphs, Skeleton, first_open};
 use staat_graph::{is_strong, sink_of};
-use staat_model::Step;
+use staat_model::{Kind, Step};
 use staat_planes::{MOST_CELL_PLANES, PlaneTable};
 use staat_vec::OutOfMemory;
 use std::alloc::Global;
+
+// the step along the representative of the first open cell, if a side moves along it; no other cell is made
+fn first_open_step(table: &PlaneTable) -> Option<Marked>
+    ensures { IsFirstOpenStep table.now result }
+{
+    let w = table.set();
+    let d = first_open(table);
+    let graph = table.graph_at(d);
+    if is_strong(&graph, w) {
+        return None;
+    }
+    let step = Step {
+        moved: sink_of(&graph, w),
+        d,
+    };
+    Some(Marked {
+        step,
+        mark: Some(Kind::Open),
+    })
+}
 
 // The step along the representative of a cell, if a side moves along it. The graph comes from the cell's signs.
 fn step_in(table: &PlaneTable, graphs: &CellGraphs, cell: &Cell) -> Option<Marked>
@@ -91,8 +111,7 @@ fn open_step(
     Ok(None)
 }
 
-// The first step along representatives of all cells. The points and edges stand in the skeleton already, since the
-// open
+// The first step along representatives of all cells. The points and edges stand in the skeleton already, since the open
 // cells are composed of them.
 fn first_step(
     alloc: Global,
@@ -119,15 +138,20 @@ fn first_step(
 /// The step of the table's set of parts in a robust plan: that along the representative of the first cell that serves,
 /// of the open cells, then the edges, then the points, each kind ascending by signs. None where the set is stuck.
 ///
-/// The table has at most [`MOST_CELL_PLANES`] planes, and its set at least two parts. A set that no vertex serves is
-/// stuck, by [`tries_decide`](crate::laws::tries_decide), and then no cell is made. Else the points and the edges are
-/// made once, and the open cells one at a time, up to the first that serves.
+/// The table has at most [`MOST_CELL_PLANES`] planes, and its set at least two parts. The first open cell serves most
+/// sets that come apart, and it is made by itself. A set that no vertex serves is stuck, by
+/// [`tries_decide`](crate::laws::tries_decide), and then no other cell is made. Else the points and the edges are made
+/// once, and the open cells one at a time, up to the first that serves.
 pub(crate) fn cell_step(alloc: Global, table: &PlaneTable) -> Result<Option<Marked>, OutOfMemory>
     requires few { length table.now.planes ≤ MOST_CELL_PLANES }
     requires two { 2 ≤ set.len table.now.of }
     ensures { IfOk result (IsTableStep true table.now) }
 {
-    let Some(_) = part_step(table, table.set()) else {
+    let w = table.set();
+    if let Some(found) = first_open_step(table) {
+        return Ok(Some(found));
+    }
+    let Some(_) = part_step(table, w) else {
         return Ok(None);
     };
     let graphs = CellGraphs::of(alloc, table)?;
