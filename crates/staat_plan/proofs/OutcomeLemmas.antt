@@ -1,9 +1,10 @@
 -- The outcome of a set from those of its two sides.
-use Rattle.std.proofs.Common.{◌≡◌, ⊎_elim, ℕ, ◌<◌, ◌≤◌, arith, ap, sym, ◌∙◌, subst, refl, List, [], ◌++◌, length}
-use Rattle.std.specs.Prelude.{Option, None, Some, Result, Ok, Err, IfOk, MatchResult}
+use Rattle.std.proofs.Common.{◌≡◌, inl, inr, ⊎_elim, ℕ, ◌<◌, ◌≤◌, arith, ap, sym, ◌∙◌, subst, refl, List, [], ◌∷◌, ◌++◌, length}
+use Rattle.std.specs.Prelude.{Option, None, Some, Result, Ok, Err, IfOk, IfSome, MatchOption, MatchResult}
 use Rattle.std.specs.Result.{IsErrAnd}
 use Rattle.std.specs.FinSet as set
 use Rattle.std.specs.Ordering.{nat_cmp}
+use Rattle.staat_vec.specs.Lists.{IsFirst}
 use Rattle.staat_model.specs.declared.assembly.Part.{Part}
 use Rattle.staat_model.specs.declared.set.PartSet.{PartSet}
 use Rattle.staat_model.specs.declared.tree.Kind.{Kind}
@@ -13,7 +14,7 @@ use Rattle.staat_plan.specs.declared.marked.Marked.{Marked}
 use Rattle.staat_model.specs.declared.tree.Tree.{Tree}
 use Rattle.staat_model.specs.declared.tree.Outcome.{Outcome}
 use Rattle.staat_model.specs.declared.tree.Outcome.TheVariants as outcome
-use Rattle.staat_model.specs.Outcomes.{Finding, IsOutcome, both_planned, finding_of, moved_stuck, no_step, one_part, planned, rest_stuck, stuck}
+use Rattle.staat_model.specs.Outcomes.{Finding, HasNoStep, IsOutcome, IsStep, Serves, Try, both_planned, finding_of, moved_stuck, no_step, one_part, planned, rest_stuck, stuck}
 use Rattle.staat_model.specs.Plans.{leaf, plan_of, split}
 use Rattle.staat_model.specs.Planes.{axes}
 use Rattle.staat_model.specs.Sets.{Has, IsNonempty, IsSide, IsSubset, below, single}
@@ -26,7 +27,7 @@ use Rattle.staat_graph.proofs.Finite.{len_fewer, len_some, nonempty_or}
 use Rattle.staat_planes.specs.declared.refusal.PlanesRefusal.{PlanesRefusal}
 use Rattle.staat_planes.specs.Refusals.{IsPlanesRefusal}
 use Rattle.staat_plan.specs.Certifying.{CanBeCertified}
-use Rattle.staat_plan.specs.Planning.{HasFewPlanes, IsOutcomeOf, Settles, IsSetStep, IsSized, IsStepOf}
+use Rattle.staat_plan.specs.Planning.{HasFewPlanes, IsOutcomeOf, Settles, IsSetStep, IsSized, IsStepOf, try_of}
 use Rattle.staat_pairs.specs.Tables.{Table, WasMadeFrom}
 use Rattle.staat_plan.specs.CellSteps.{IsTableStep}
 use Rattle.staat_model.specs.Assemblies.{IsAssembly}
@@ -63,17 +64,35 @@ few_in_table parts t w limit made within few =
     let le = fewer_planes_lemma parts w t.of some.0 t.planes within some.1 made.planes in
     record { planes = some.0; planes_are = some.1; few = omega (arith, le, few) }
 
+served : (parts : List Part) (w : PartSet) (tries : List Try) (try : Try) → IsFirst (λ t. Serves parts w t.d) tries try → Serves parts w try.d
+served parts w [] try first = absurd first
+served parts w (t ∷ tries) try (inl h) = subst (λ (x : Try). Serves parts w x.d) h.0 h.1
+served parts w (t ∷ tries) try (inr h) = served parts w tries try h.1
+
+-- what moves in a step is a side, since some side is free and what moves has none that is
+step_side : (robust : Bool) (parts : List Part) (w : PartSet) (try : Try) (side : PartSet) → IsStep robust parts w try side → IsSide w side
+step_side robust parts w try side step =
+    let serves = served parts w step.tries try step.first in record {
+      nonempty = step.moved.is.nonempty;
+      within = step.moved.is.within;
+      proper = λ e. step.moved.is.minimal serves.side (subst (λ (u : PartSet). IsSide u serves.side) (sym e) serves.is_side) serves.free;
+    }
+
+side_in : (robust : Bool) (parts : List Part) (w : PartSet) (found : Option Marked) → MatchOption found (HasNoStep robust parts w) (λ m. IsStep robust parts w (try_of m) m.step.moved) → IfSome found (λ m. IsSide w m.step.moved)
+side_in robust parts w None is = tt
+side_in robust parts w (Some m) is = step_side robust parts w (try_of m) m.step.moved is
+
 pub step_in_table : (robust : Bool) (parts : List Part) (t : Table) (w : PartSet) (limit : ℕ) (found : Option Marked) → WasMadeFrom parts t → IsSubset w t.of → length t.planes ≤ limit → IsSetStep robust t w found → IsStepOf robust parts w limit found
 step_in_table robust parts t w limit found made within few step = record {
   few = few_in_table parts t w limit made within few;
-  side = step.side;
+  side = side_in robust parts w found (step.step parts made);
   size = step.size;
   step_is = step.step parts made;
 }
 
 -- the whole set of the table
 pub whole_step : (robust : Bool) (t : Table) (w : PartSet) (found : Option Marked) → IsSubset w t.of → IsSubset t.of w → IsTableStep robust t found → IsSetStep robust t w found
-whole_step robust t w found within over step = subst (λ (u : PartSet). IsSetStep robust t u found) (same_members t.of w over within) (record { side = step.side; size = step.size; step = step.step })
+whole_step robust t w found within over step = subst (λ (u : PartSet). IsSetStep robust t u found) (same_members t.of w over within) (record { size = step.size; step = step.step })
 
 -- a part by itself
 pub leaf_found : (robust : Bool) (parts : List Part) (w : PartSet) (limit p : ℕ) (o : Outcome) → set.len w ≡ 1 → Has w p → 3 ≤ limit → finding_of o ≡ planned (leaf p) [] → IsOutcomeOf robust parts w limit o

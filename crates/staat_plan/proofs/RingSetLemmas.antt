@@ -1,17 +1,15 @@
--- Which planes are linked while those that are none of a set of parts are taken out, and which side moves.
+-- Which planes are linked while those that are none of a set of parts are taken out.
 use Rattle.std.proofs.Common.{◌≡◌, ◌≢◌, ◌⊎◌, ◌↔◌, inl, inr, ⊎_elim, ℕ, ◌+◌, ◌<◌, ◌≤◌, Bool, true, false, not, arith, ap, sym, subst, ◌∙◌, List, [], ◌∷◌, ◌++◌, length, Contains, get_or, eq-eqb}
 use Rattle.std.specs.Prelude.{◌==◌, Some, slice_get}
 use Rattle.std.specs.List.{filter}
 use Rattle.std.proofs.lemmas.List.{get_or_append_left, get_or_default}
 use Rattle.std.proofs.lemmas.Option.{same_Some, slice_get-get_or, slice_get_within}
 use Rattle.staat_vec.specs.declared.vector.V3.{V3}
-use Rattle.staat_vec.specs.Lists.{IsFirst}
 use Rattle.staat_vec.proofs.Unique.{Contains-nothing}
 use Rattle.staat_model.specs.declared.assembly.Part.{Part}
 use Rattle.staat_model.specs.declared.set.PartSet.{PartSet}
-use Rattle.staat_model.specs.Outcomes.{IsStep, Serves, Try}
 use Rattle.staat_model.specs.Planes.{axes}
-use Rattle.staat_model.specs.Sets.{IsSide, IsSubset}
+use Rattle.staat_model.specs.Sets.{IsSubset}
 use Rattle.staat_pairs.specs.Tables.{Table, WasMadeFrom}
 use Rattle.staat_planes.specs.Tables.{IsPlaneOf}
 use Rattle.staat_planes.proofs.PairSteps.{whole_used}
@@ -111,18 +109,3 @@ module _ (k : ℕ) (a b : Arrangement) (is : IsUnlinked k a b) where
 pub all_past : (parts : List Part) (planes : List V3) (w : PartSet) (linked : List ℕ) (k : ℕ) → AreLinkedPast parts planes w linked k → length planes ≤ k
     → (j : ℕ) (n : V3) → slice_get planes j ≡ Some n → Contains linked j ↔ IsPlaneOf parts w n
 all_past parts planes w linked k old le j n at = old.before j n at (let lt = slice_get_within planes j n at in omega (arith, lt, le))
-
--- ---- the side that moves
-
-served : (parts : List Part) (w : PartSet) (tries : List Try) (try : Try) → IsFirst (λ t. Serves parts w t.d) tries try → Serves parts w try.d
-served parts w [] try first = absurd first
-served parts w (t ∷ tries) try (inl h) = subst (λ (x : Try). Serves parts w x.d) h.0 h.1
-served parts w (t ∷ tries) try (inr h) = served parts w tries try h.1
-
-pub step_side : (parts : List Part) (w : PartSet) (try : Try) (side : PartSet) → IsStep false parts w try side → IsSide w side
-step_side parts w try side step =
-    let serves = served parts w step.tries try step.first in record {
-      nonempty = step.moved.is.nonempty;
-      within = step.moved.is.within;
-      proper = λ e. step.moved.is.minimal serves.side (subst (λ (u : PartSet). IsSide u serves.side) (sym e) serves.is_side) serves.free;
-    }

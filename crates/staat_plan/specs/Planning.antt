@@ -44,7 +44,6 @@ pub record IsStepOf (robust : Bool) (parts : List Part) (w : PartSet) (limit : �
 
 -- the step of a set w of parts of a table, if it has one
 pub record IsSetStep (robust : Bool) (t : Table) (w : PartSet) (found : Option Marked) : Type 0 where
-  pub side : IfSome found (λ m. IsSide w m.step.moved)
   pub size : IfSome found (λ m. IsWithin DIRECTION m.step.d)
   pub step : (parts : List Part) → WasMadeFrom parts t
       → MatchOption found (HasNoStep robust parts w) (λ m. IsStep robust parts w (try_of m) m.step.moved)

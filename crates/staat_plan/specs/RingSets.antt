@@ -1,10 +1,12 @@
 -- Rings of a table from which the planes that are none of a set of parts are taken out in their turn.
-use Rattle.std.specs.Prelude.{◌≡◌, ◌↔◌, ℕ, ◌<◌, ◌≤◌, List, [], Contains, Some, length, slice_get}
+use Rattle.std.specs.Prelude.{◌≡◌, ◌↔◌, ℕ, ◌<◌, ◌≤◌, List, [], Contains, Option, Some, IfSome, length}
+use Rattle.std.specs.Prelude.{slice_get}
 use Rattle.staat_vec.specs.declared.vector.V3.{V3}
 use Rattle.staat_model.specs.declared.assembly.Part.{Part}
 use Rattle.staat_model.specs.declared.set.PartSet.{PartSet}
 use Rattle.staat_pairs.specs.Tables.{Table}
 use Rattle.staat_planes.specs.Tables.{IsPlaneOf}
+use Rattle.staat_plan.specs.declared.walker.Walker.{Walker}
 use Rattle.staat_ring.specs.Belonging.{BelongTo}
 use Rattle.staat_ring.specs.Rings.{Arrangement, WereMadeFrom}
 use Rattle.staat_ring.specs.Signs.{Signed}
@@ -21,3 +23,7 @@ pub record AreForTable (t : Table) (rings : Arrangement) (signs : Signed) : Type
   pub made : WereMadeFrom t.planes rings
   pub whole : rings.unlinked ≡ []
   pub signs_are : BelongTo t signs
+
+-- a walker, if there is one, is one for the table
+abbrev pub IsReadyFor : Table → Option Walker → Type 0
+IsReadyFor t walker = IfSome walker (λ x. AreForTable t x.rings x.walk.signs)

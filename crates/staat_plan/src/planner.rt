@@ -1,6 +1,6 @@
 // The outcome of an assembly.
 ghost use Rattle.std.specs.Prelude.{◌≡◌, ℕ, ◌<◌, ◌≤◌, ◌++◌, []};
-ghost use Rattle.std.specs.Prelude.{IfOk, MatchResult, false, length, true};
+ghost use Rattle.std.specs.Prelude.{IfOk, MatchOption, MatchResult, None, Some, false, length, true};
 ghost use Rattle.std.specs.FinSet as set;
 ghost use Rattle.std.specs.Option.{option_to_list};
 ghost use Rattle.staat_model.specs.Outcomes.{IsOutcome, finding_of, planned};
@@ -10,12 +10,14 @@ ghost use Rattle.staat_pairs.specs.Tables.{WasMadeFrom};
 ghost use Rattle.staat_planes.specs.Refusals.{IsPlanesRefusal};
 ghost use Rattle.staat_plan.specs.Certifying.{CanBeCertified};
 ghost use Rattle.staat_plan.specs.Planning.{HasFewPlanes, IsOutcomeOf, Settles, IsSetStep, IsSized, IsStepOf};
+ghost use Rattle.staat_plan.specs.RingSets.{IsReadyFor};
 
 use crate::cell_steps::cell_step;
 use crate::marked::Marked;
-use crate::step::step_of;
+use crate::step::early_step;
+use crate::walker::Walker;
 use staat_cone::FacetSource;
-use staat_model::{Kind, Marks, Outcome, PartSet, Sound, Tree};
+use staat_model::{Kind, Marks, Outcome, PartSet, Sound, Step, Tree};
 use staat_planes::{
     LEAST_PLANES, MOST_CELL_PLANES, MOST_PLANES, PlaneTable, PlanesRefusal, tabulate,
 };
@@ -33,15 +35,55 @@ pub struct Options {
     pub robust: bool,
 }
 
-// the step of a set of parts of the table in a plan that is not robust
-fn vertex_step(table: &PlaneTable, w: PartSet) -> Option<Marked>
-    requires within { IsSubset w table.now.of }
-    requires two { 2 ≤ set.len w }
-    ensures { IsSetStep false table.now w result }
+// a step without a mark
+fn unmarked(step: Option<Step>) -> Option<Marked>
+    ensures { MatchOption result (step ≡ None) (λ m. (step ≡ Some m.step) × (m.mark ≡ None)) }
 {
-    match step_of(table, w) {
+    match step {
         None => None,
         Some(step) => Some(Marked { step, mark: None }),
+    }
+}
+
+// the step of a set of parts of the table, by a walk along rings, which are made if they are not there yet
+fn walked_step(
+    alloc: Global,
+    table: &PlaneTable,
+    w: PartSet,
+    walker: &mut Option<Walker>,
+) -> Result<Option<Marked>, OutOfMemory>
+    requires ready { IsReadyFor table.now walker.old }
+    requires within { IsSubset w table.now.of }
+    requires two { 2 ≤ set.len w }
+    ensures ready { IsReadyFor table.now walker.new }
+    ensures step { IfOk result (IsSetStep false table.now w) }
+{
+    let mut own = match walker.take() {
+        Some(walker) => walker,
+        None => Walker::new(alloc, table)?,
+    };
+    let step = own.step(table, w);
+    *walker = Some(own);
+    Ok(unmarked(step))
+}
+
+// The step of a set of parts of the table in a plan that is not robust. The first vertices decide nearly every set that
+// comes apart; only where they do not are all gone through, by a walk.
+fn vertex_step(
+    alloc: Global,
+    table: &PlaneTable,
+    w: PartSet,
+    walker: &mut Option<Walker>,
+) -> Result<Option<Marked>, OutOfMemory>
+    requires ready { IsReadyFor table.now walker.old }
+    requires within { IsSubset w table.now.of }
+    requires two { 2 ≤ set.len w }
+    ensures ready { IsReadyFor table.now walker.new }
+    ensures step { IfOk result (IsSetStep false table.now w) }
+{
+    match early_step(table, w) {
+        Some(found) => Ok(found),
+        None => walked_step(alloc, table, w, walker),
     }
 }
 
@@ -76,9 +118,11 @@ fn next_step<F: FacetSource>(
     source: &F,
     sound: &Sound,
     table: &PlaneTable,
+    walker: &mut Option<Walker>,
     w: PartSet,
     options: Options,
 ) -> Result<Option<Marked>, PlanRefusal>
+    requires ready { IsReadyFor table.now walker.old }
     requires two { 2 ≤ set.len w }
     requires parts { (p : ℕ) → Has w p → p < length sound.now }
     requires made { WasMadeFrom sound.now table.now }
@@ -86,13 +130,14 @@ fn next_step<F: FacetSource>(
     requires few { length table.now.planes ≤ options.planes }
     requires least { LEAST_PLANES ≤ options.planes }
     requires cells { options.robust ≡ true → options.planes ≤ MOST_CELL_PLANES }
-    ensures { MatchResult result (IsStepOf options.robust sound.now w options.planes)
+    ensures ready { IsReadyFor table.now walker.new }
+    ensures step { MatchResult result (IsStepOf options.robust sound.now w options.planes)
         (IsPlanesRefusal sound.now w options.planes) }
 {
     if options.robust {
         robust_step(alloc, source, sound, table, w, options.planes)
     } else {
-        Ok(vertex_step(table, w))
+        Ok(vertex_step(alloc, table, w, walker)?)
     }
 }
 
@@ -159,9 +204,11 @@ fn outcome_of<F: FacetSource>(
     source: &F,
     sound: &Sound,
     table: &PlaneTable,
+    walker: &mut Option<Walker>,
     w: PartSet,
     options: Options,
 ) -> Result<Outcome, PlanRefusal>
+    requires ready { IsReadyFor table.now walker.old }
     requires some { IsNonempty w }
     requires parts { (p : ℕ) → Has w p → p < length sound.now }
     requires made { WasMadeFrom sound.now table.now }
@@ -170,20 +217,21 @@ fn outcome_of<F: FacetSource>(
     requires least { LEAST_PLANES ≤ options.planes }
     requires most { options.planes ≤ MOST_PLANES }
     requires cells { options.robust ≡ true → options.planes ≤ MOST_CELL_PLANES }
-    ensures { MatchResult result (IsOutcomeOf options.robust sound.now w options.planes)
+    ensures ready { IsReadyFor table.now walker.new }
+    ensures outcome { MatchResult result (IsOutcomeOf options.robust sound.now w options.planes)
         (IsPlanesRefusal sound.now w options.planes) }
 {
     if w.count() == 1 {
         return Ok(leaf(alloc, w.least()));
     }
-    let Some(found) = next_step(alloc, source, sound, table, w, options)? else {
+    let Some(found) = next_step(alloc, source, sound, table, walker, w, options)? else {
         return Ok(Outcome::Stuck(w));
     };
     let step = found.step;
-    match outcome_of(alloc, source, sound, table, step.moved, options)? {
+    match outcome_of(alloc, source, sound, table, walker, step.moved, options)? {
         Outcome::Stuck(a) => Ok(Outcome::Stuck(a)),
         Outcome::Plan { tree, marks } => {
-            match outcome_of(alloc, source, sound, table, w.without(step.moved), options)? {
+            match outcome_of(alloc, source, sound, table, walker, w.without(step.moved), options)? {
                 Outcome::Stuck(b) => Ok(Outcome::Stuck(b)),
                 Outcome::Plan {
                     tree: rest,
@@ -201,7 +249,8 @@ fn outcome_of<F: FacetSource>(
 /// is the kind of the cell. The moved side is planned first, then the rest, and the first set that is stuck is the
 /// outcome. The marks of a plan stand in preorder; a plan that is not robust has none.
 ///
-/// One table is made for all parts, and in a robust plan one more for each smaller set.
+/// One table is made for all parts, and in a robust plan one more for each smaller set. Where the first vertices of a set
+/// do not decide, its vertices are gone through by a walk along rings, which are made once.
 ///
 /// There are at most `planes` planes, from 3 to [`MOST_PLANES`], and to [`MOST_CELL_PLANES`] in a robust plan;
 /// [`TooManyPlanes`](PlanesRefusal::TooManyPlanes) comes exactly where all parts together have more, with their
@@ -225,5 +274,6 @@ pub fn plan<F: FacetSource>(
 {
     let all = PartSet::first(sound.assembly().parts());
     let table = tabulate(alloc, source, sound, all, options.planes)?;
-    outcome_of(alloc, source, sound, &table, all, options)
+    let mut walker = None;
+    outcome_of(alloc, source, sound, &table, &mut walker, all, options)
 }

@@ -8,10 +8,12 @@ ghost use Rattle.staat_model.specs.Outcomes.{HasNoStep, IsStep, try_vertex};
 ghost use Rattle.staat_model.specs.Plans.{IsStuck};
 ghost use Rattle.staat_model.specs.Sets.{IsSide, IsSubset};
 ghost use Rattle.staat_pairs.specs.Tables.{WasMadeFrom};
+ghost use Rattle.staat_plan.specs.Planning.{IsSetStep};
 
+use crate::marked::Marked;
 use crate::side_trial::SideTrial;
 use staat_model::{PartSet, Step};
-use staat_planes::{PlaneTable, first_vertex};
+use staat_planes::{PlanePairs, PlaneTable, Search, first_few, first_vertex};
 use staat_vec::DIRECTION;
 
 /// The step of a set of at least two parts that lies in the table's set: the first of the vertices of its planes along
@@ -37,6 +39,31 @@ pub(crate) fn step_of(table: &PlaneTable, w: PartSet) -> Option<Step>
             moved: served.found,
             d: served.d,
         }),
+    }
+}
+
+/// How many pairs of planes are tried one by one before rings are made.
+const FEW_PAIRS: u32 = 24;
+
+/// The step of a set of at least two parts that lies in the table's set, if the first vertices of its planes decide it:
+/// the step along one of them, or none where there are no others. It takes no memory.
+pub(crate) fn early_step(table: &PlaneTable, w: PartSet) -> Option<Option<Marked>>
+    requires within { IsSubset w table.now.of }
+    requires two { 2 ≤ set.len w }
+    ensures { IfSome result (IsSetStep false table.now w) }
+{
+    let mut pairs = PlanePairs::of(table, w);
+    let mut trial = SideTrial::new();
+    match first_few(&mut pairs, table, w, &mut trial, FEW_PAIRS) {
+        Search::Undecided => None,
+        Search::Nothing => Some(None),
+        Search::First(served) => Some(Some(Marked {
+            step: Step {
+                moved: served.found,
+                d: served.d,
+            },
+            mark: None,
+        })),
     }
 }
 
