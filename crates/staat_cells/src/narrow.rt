@@ -5,10 +5,10 @@ ghost use Rattle.staat_vec.specs.Vectors.{IsWithin, dot, sign};
 use staat_vec::{DIRECTION, NORMAL, Sign, V3, sign_dot};
 
 /// How great a component of a direction is at most that fits a word.
-const SHORT: u128 = 1 << 62;
+pub(crate) const SHORT: u128 = 1 << 62;
 
-// whether the components fit words
-fn is_short(d: V3) -> bool
+/// Whether the components fit words.
+pub(crate) fn is_short(d: V3) -> bool
     ensures { IsTrue result → IsWithin SHORT d }
 {
     d.x.unsigned_abs() <= SHORT && d.y.unsigned_abs() <= SHORT && d.z.unsigned_abs() <= SHORT
@@ -65,6 +65,15 @@ fn sign_of(value: i128) -> Sign
     }
 }
 
+/// The sign of a plane at a direction whose components fit words.
+pub(crate) fn short_sign(n: V3, d: V3) -> Sign
+    requires n { IsWithin NORMAL n }
+    requires d { IsWithin SHORT d }
+    ensures { result ≡ sign (dot n d) }
+{
+    sign_of(short_dot(narrowed(n), narrowed(d)))
+}
+
 /// The sign of a plane at a direction.
 pub(crate) fn sign_there(n: V3, d: V3) -> Sign
     requires n { IsWithin NORMAL n }
@@ -72,7 +81,7 @@ pub(crate) fn sign_there(n: V3, d: V3) -> Sign
     ensures { result ≡ sign (dot n d) }
 {
     if is_short(d) {
-        sign_of(short_dot(narrowed(n), narrowed(d)))
+        short_sign(n, d)
     } else {
         sign_dot(n, d)
     }
