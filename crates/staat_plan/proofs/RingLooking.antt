@@ -1,5 +1,5 @@
 -- What the walk finds at its vertex.
-use Rattle.std.proofs.Common.{◌≡◌, ◌≢◌, ◌⊎◌, inl, inr, ⊎_elim, ℕ, ◌+◌, ◌*◌, ◌<◌, ◌≤◌, Bool, true, false, if◌then◌else◌, arith, ap, sym, subst, ◌∙◌, List, [], ◌∷◌, length, Contains}
+use Rattle.std.proofs.Common.{◌≡◌, ◌≢◌, ◌⊎◌, ◌↔◌, inl, inr, ⊎_elim, ℕ, ◌+◌, ◌*◌, ◌<◌, ◌≤◌, Bool, true, false, if◌then◌else◌, arith, ap, sym, subst, ◌∙◌, List, [], ◌∷◌, length, Contains}
 use Rattle.std.specs.Prelude.{Option, Some, map, slice_get}
 use Rattle.std.specs.Ordering.{nat_cmp}
 use Rattle.std.specs.List.Sorted.{IsStrictlySortedBy}
@@ -11,6 +11,7 @@ use Rattle.staat_vec.proofs.Unique.{Contains-cases, IsFirst-in}
 use Rattle.staat_model.specs.declared.assembly.Part.{Part}
 use Rattle.staat_model.specs.declared.set.PartSet.{PartSet}
 use Rattle.staat_model.specs.Outcomes.{Serves}
+use Rattle.staat_model.specs.Removal.{Blocks}
 use Rattle.staat_model.proofs.GraphLemmas.{from_slice_get}
 use Rattle.staat_graph.specs.Blocking.{ShowsBlocking}
 use Rattle.staat_graph.specs.Graphs.{HasArc, IsFirstSink, IsStrong}
@@ -23,6 +24,7 @@ use Rattle.staat_ring.specs.Rings.{AreRings}
 use Rattle.staat_ring.specs.Walked.{IsEntered, Walked}
 use Rattle.staat_ring.proofs.StopLemmas.{entries_ascend, entry_small, one_stop, vertex_some}
 use Rattle.staat_ring.proofs.Mapped.{in_map}
+use Rattle.staat_ring.proofs.Strength.{strong_same}
 use Rattle.staat_plan.specs.declared.ring_step.Serving.{Serving}
 use Rattle.staat_plan.specs.RingSearches.{IsBest, IsBetter, IsLater, IsServing, pair_key}
 use Rattle.staat_plan.proofs.RingPairs.{head_less, tail_sorted}
@@ -87,16 +89,19 @@ module _ (parts : List Part) (planes : List V3) (w : PartSet) (i : ℕ) (stops :
 -- ---- at a vertex whose graph is known
 
 module _ (parts : List Part) (planes : List V3) (w : PartSet) (i : ℕ) (s : RingStop) (rows : List ℕ) (moves : vertex_of planes i s.entries ≢ origin) (shows : ShowsBlocking parts (vertex_of planes i s.entries) w rows) where
-  pub strong_serves_not : IsStrong (HasArc rows) w → Serves parts w (vertex_of planes i s.entries) → ⊥
-  strong_serves_not strong serves = weak_of_serves parts (vertex_of planes i s.entries) w rows moves shows serves strong
+  rows_strong : IsStrong (HasArc rows) w ↔ IsStrong (Blocks parts (vertex_of planes i s.entries)) w
+  rows_strong = strong_same (HasArc rows) (Blocks parts (vertex_of planes i s.entries)) w shows
 
-  pub right_is : (f : Serving) → (IsStrong (HasArc rows) w → ⊥) → IsFirst (λ x. i < x.plane) s.entries f.entry → IsFirstSink (HasArc rows) w f.moved → IsServing parts planes w i s f
+  pub strong_serves_not : IsStrong (Blocks parts (vertex_of planes i s.entries)) w → Serves parts w (vertex_of planes i s.entries) → ⊥
+  strong_serves_not strong serves = weak_of_serves parts (vertex_of planes i s.entries) w rows moves shows serves (rows_strong.1 strong)
+
+  pub right_is : (f : Serving) → (IsStrong (Blocks parts (vertex_of planes i s.entries)) w → ⊥) → IsFirst (λ x. i < x.plane) s.entries f.entry → IsFirstSink (HasArc rows) w f.moved → IsServing parts planes w i s f
   right_is f weak first sink =
       let h = IsFirst-in (λ x. i < x.plane) s.entries f.entry first in
       record {
         listed = h.0;
         later = h.1;
-        serves = serves_of_weak parts (vertex_of planes i s.entries) w rows moves shows weak;
+        serves = serves_of_weak parts (vertex_of planes i s.entries) w rows moves shows (λ strong. weak (rows_strong.0 strong));
         moved = moved_of_first parts (vertex_of planes i s.entries) w rows moves shows f.moved sink;
       }
 

@@ -30,7 +30,7 @@ ghost use Rattle.staat_ring.specs.Rings.{Ring, RingStop, WereMadeFrom, crossing,
 ghost use Rattle.staat_ring.specs.Stepping.{count_below};
 ghost use Rattle.staat_ring.specs.Walked.{IsEntered};
 
-use staat_graph::{is_strong, sink_of};
+use staat_graph::sink_of;
 use staat_model::{PartSet, Step};
 use staat_planes::{PlaneTable, Steps};
 use staat_ring::{Crossing, Entry, Rings, Walk};
@@ -95,19 +95,16 @@ fn look(
         → IsBest parts table.now.planes w i at.ring.stops (walk.now.place + 1) result }
 {
     let _len = table.len();
-    let graph = walk.graph();
-    if is_strong(&graph, w) {
-        return best;
-    }
     match walk.entry_after(table, rings, i) {
         None => best,
-        Some(entry) => better(
-            best,
-            Serving {
-                entry,
-                moved: sink_of(&graph, w),
-            },
-        ),
+        Some(entry) => {
+            let graph = walk.graph();
+            if walk.is_strong(w) {
+                return best;
+            }
+            let moved = sink_of(&graph, w);
+            better(best, Serving { entry, moved })
+        }
     }
 }
 
