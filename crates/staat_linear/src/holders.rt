@@ -1,6 +1,6 @@
 // What holds the parts of a set along a direction.
-ghost use Rattle.std.specs.Prelude.{◌≡◌, ◌≢◌, ◌<◌, ◌≤◌, ◌↔◌, ℕ, IsTrue, MatchOption, Some, false};
-ghost use Rattle.std.specs.Prelude.{length, slice_get, slice_set};
+ghost use Rattle.std.specs.Prelude.{◌≡◌, ◌≢◌, ◌<◌, ◌≤◌, ◌↔◌, ℕ, IsTrue, MatchOption};
+ghost use Rattle.std.specs.Prelude.{Some, false, length, slice_get, slice_set};
 ghost use Rattle.std.specs.FinSet as set;
 ghost use Rattle.staat_vec.specs.Vectors.{IsWithin};
 ghost use Rattle.staat_model.specs.Sets.{Has, IsSubset};
