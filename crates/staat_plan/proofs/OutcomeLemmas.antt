@@ -66,7 +66,7 @@ few_in_table parts t w limit made within few =
 
 served : (parts : List Part) (w : PartSet) (tries : List Try) (try : Try) → IsFirst (λ t. Serves parts w t.d) tries try → Serves parts w try.d
 served parts w [] try first = absurd first
-served parts w (t ∷ tries) try (inl h) = subst (λ (x : Try). Serves parts w x.d) h.0 h.1
+served parts w (t ∷ tries) try (inl h) = subst (λ (x : Try). Serves parts w x.d) (sym h.0) h.1
 served parts w (t ∷ tries) try (inr h) = served parts w tries try h.1
 
 -- what moves in a step is a side, since some side is free and what moves has none that is

@@ -1,5 +1,5 @@
 -- Which planes are linked while those that are none of a set of parts are taken out.
-use Rattle.std.proofs.Common.{◌≡◌, ◌≢◌, ◌⊎◌, ◌↔◌, inl, inr, ⊎_elim, ℕ, ◌+◌, ◌<◌, ◌≤◌, Bool, true, false, not, arith, ap, sym, subst, ◌∙◌, List, [], ◌∷◌, ◌++◌, length, Contains, get_or, eq-eqb}
+use Rattle.std.proofs.Common.{◌≡◌, ◌≢◌, ◌⊎◌, ◌↔◌, inl, inr, ⊎_elim, ℕ, ◌+◌, ◌<◌, ◌≤◌, Bool, true, false, not, arith, ap, refl, sym, subst, ◌∙◌, List, [], ◌∷◌, ◌++◌, length, Contains, get_or, eq-eqb}
 use Rattle.std.specs.Prelude.{◌==◌, Some, slice_get}
 use Rattle.std.specs.List.{filter}
 use Rattle.std.proofs.lemmas.List.{get_or_append_left, get_or_default}
@@ -46,7 +46,7 @@ past_axes parts t w rings made from whole = record {
 pub whole_linked : (parts : List Part) (t : Table) (w : PartSet) (rings : Arrangement) → WasMadeFrom parts t → WereMadeFrom t.planes rings → rings.unlinked ≡ [] → IsSubset w t.of → IsSubset t.of w
     → (k : ℕ) (n : V3) → slice_get t.planes k ≡ Some n → Contains (linked_of rings.rings) k ↔ IsPlaneOf parts w n
 whole_linked parts t w rings made from whole within over k n at = (
-  (λ _. (whole_used parts t w k n true made within over at tt).0 tt),
+  (λ _. (whole_used parts t w k n true made within over at refl).0 refl),
   (λ _. all_linked t rings from whole k (slice_get_within t.planes k n at)),
 )
 
