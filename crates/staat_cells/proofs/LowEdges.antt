@@ -34,7 +34,7 @@ use Rattle.staat_model.proofs.EndLemmas.{edge_has_sum}
 use Rattle.staat_model.proofs.VertexLemmas.{in_vertices}
 use Rattle.staat_pairs.specs.Tables.{AreTablePlanes}
 use Rattle.staat_cells.specs.declared.first_cell.Ends.{Ends}
-use Rattle.staat_cells.specs.FirstCell.{AreEnds, AreNotAbove, IsLowEdge, IsLowOn}
+use Rattle.staat_cells.specs.FirstCell.{AreArcEnds, AreNotAbove, IsLowEdge, IsLowOn}
 use Rattle.staat_cells.proofs.Beside.{border_from}
 use Rattle.staat_cells.proofs.EdgeIncidences.{other_factor}
 use Rattle.staat_cells.proofs.Listed.{decide}
@@ -44,8 +44,8 @@ use Rattle.staat_cells.proofs.Zeros.{edge_kind, one_zero}
 
 -- ---- the loop over the planes
 
-pub from_axes : (planes : List V3) (g : V3) (e : Ends) → AreTablePlanes planes → AreEnds axes g [] e
-    → AreEnds planes g [] e
+pub from_axes : (planes : List V3) (g : V3) (e : Ends) → AreTablePlanes planes → AreArcEnds axes g [] e
+    → AreArcEnds planes g [] e
 from_axes planes g e are ends = record {
   a = ends.a;
   b = ends.b;
@@ -63,8 +63,8 @@ from_axes planes g e are ends = record {
     axis m c = subst (λ l. Contains l m) (sym are.is) (Contains-append_left axes are.others m c)
 
 pub one_more : (planes : List V3) (g : V3) (e : Ends) (k : ℕ) (d : V3) → k < length planes
-    → AreEnds planes g (take k planes ++ get_or planes k d ∷ []) e → AreEnds planes g (take (k + 1) planes) e
-one_more planes g e k d lt ends = subst (λ l. AreEnds planes g l e) (sym (take_more planes k d lt)) ends
+    → AreArcEnds planes g (take k planes ++ get_or planes k d ∷ []) e → AreArcEnds planes g (take (k + 1) planes) e
+one_more planes g e k d lt ends = subst (λ l. AreArcEnds planes g l e) (sym (take_more planes k d lt)) ends
 
 -- ---- planes
 
@@ -173,7 +173,7 @@ no_difference p q x y e f = (λ i. e i *ℤ x -ℤ f i *ℤ y) ∙ nothing x y
     nothing x y = omega (arith, ints)
 
 module _ (planes : List V3) (are : AreTablePlanes planes) (g : V3) (g_in : Contains planes g) (e : Ends)
-    (ends : AreEnds planes g planes e) where
+    (ends : AreArcEnds planes g planes e) where
   pub first_some : e.first ≢ origin
   first_some = some_low ends.b e.first (subst (λ z. dot ends.b z <ℤ pos 0) (sym ends.first_is) ends.turn)
 

@@ -17,7 +17,7 @@ use Rattle.staat_vec.proofs.Order.{negative_mul}
 use Rattle.staat_model.proofs.Edge.{dot_origin_right}
 use Rattle.staat_model.specs.Planes.{axes}
 use Rattle.staat_cells.specs.declared.first_cell.Ends.{Ends}
-use Rattle.staat_cells.specs.FirstCell.{AreEnds, AreNotAbove, HasNoLow}
+use Rattle.staat_cells.specs.FirstCell.{AreArcEnds, AreNotAbove, HasNoLow}
 
 -- ---- signs of products
 
@@ -130,7 +130,7 @@ ends_apart g a b m = ring3 (values (g ∷ a ∷ b ∷ m ∷ []) [])
 
 -- ---- the ends after a plane was passed
 
-module _ (planes passed : List V3) (g h : V3) (e : Ends) (are : AreEnds planes g passed e) where
+module _ (planes passed : List V3) (g h : V3) (e : Ends) (are : AreArcEnds planes g passed e) where
   at_first : dot h e.first ≡ dot h (cross g are.a)
   at_first = ap (dot h) are.first_is
 
@@ -138,7 +138,7 @@ module _ (planes passed : List V3) (g h : V3) (e : Ends) (are : AreEnds planes g
   at_second = ap (dot h) are.second_is
 
   pub both_kept : dot h e.first ≤ℤ pos 0 → dot h e.second ≤ℤ pos 0
-      → AreEnds planes g (passed ++ h ∷ []) e
+      → AreArcEnds planes g (passed ++ h ∷ []) e
   both_kept p q = record {
     a = are.a;
     b = are.b;
@@ -156,7 +156,7 @@ module _ (planes passed : List V3) (g h : V3) (e : Ends) (are : AreEnds planes g
   -- all that is known of one plane that was passed, and of h, with one end moved
   pub first_cut : (n : Ends) → Contains planes h → n.first ≡ cross g h → n.second ≡ e.second
       → IsWithin VERTEX n.first → pos 0 ≤ℤ dot h e.first → dot h e.second <ℤ pos 0
-      → AreEnds planes g (passed ++ h ∷ []) n
+      → AreArcEnds planes g (passed ++ h ∷ []) n
   first_cut n h_in first second size up low = record {
     a = h;
     b = are.b;
@@ -193,7 +193,7 @@ module _ (planes passed : List V3) (g h : V3) (e : Ends) (are : AreEnds planes g
 
   pub second_cut : (n : Ends) → Contains planes h → n.first ≡ e.first → n.second ≡ cross h g
       → IsWithin VERTEX n.second → dot h e.first <ℤ pos 0 → pos 0 ≤ℤ dot h e.second
-      → AreEnds planes g (passed ++ h ∷ []) n
+      → AreArcEnds planes g (passed ++ h ∷ []) n
   second_cut n h_in first second size low up = record {
     a = are.a;
     b = h;
@@ -271,7 +271,7 @@ module _ (g : V3) (e : Ends) where
       × IsWithin VERTEX e.second
 
   ends_at : (a b : V3) → Contains axes a → Contains axes b → IsBetween a b → dot b (cross g a) <ℤ pos 0
-      → AreEnds axes g [] e
+      → AreArcEnds axes g [] e
   ends_at a b a_in b_in (first, second, first_size, second_size) turn = record {
     a = a;
     b = b;
@@ -309,42 +309,42 @@ module _ (g : V3) (e : Ends) where
   down : (a z : ℤ) → a ≡ z → z <ℤ pos 0 → a <ℤ pos 0
   down a z e h = omega (arith, ints)
 
-  pub z_up : pos 0 <ℤ g.z → IsBetween ey ex → AreEnds axes g [] e
+  pub z_up : pos 0 <ℤ g.z → IsBetween ey ex → AreArcEnds axes g [] e
   z_up h b = ends_at ey ex y_in x_in b (up (dot ex (cross g ey)) g.z is h)
     where
       is : dot ex (cross g ey) ≡ neg_ℤ g.z
       is = ring (values (g ∷ []) []) (dotE (vectorE (num (pos 1)) (num (pos 0)) (num (pos 0)))
           (crossE v0 (vectorE (num (pos 0)) (num (pos 1)) (num (pos 0))))) (opp v0.z) tt
 
-  pub z_down : g.z <ℤ pos 0 → IsBetween ex ey → AreEnds axes g [] e
+  pub z_down : g.z <ℤ pos 0 → IsBetween ex ey → AreArcEnds axes g [] e
   z_down h b = ends_at ex ey x_in y_in b (down (dot ey (cross g ex)) g.z is h)
     where
       is : dot ey (cross g ex) ≡ g.z
       is = ring (values (g ∷ []) []) (dotE (vectorE (num (pos 0)) (num (pos 1)) (num (pos 0)))
           (crossE v0 (vectorE (num (pos 1)) (num (pos 0)) (num (pos 0))))) v0.z tt
 
-  pub y_up : pos 0 <ℤ g.y → IsBetween ex ez → AreEnds axes g [] e
+  pub y_up : pos 0 <ℤ g.y → IsBetween ex ez → AreArcEnds axes g [] e
   y_up h b = ends_at ex ez x_in z_in b (up (dot ez (cross g ex)) g.y is h)
     where
       is : dot ez (cross g ex) ≡ neg_ℤ g.y
       is = ring (values (g ∷ []) []) (dotE (vectorE (num (pos 0)) (num (pos 0)) (num (pos 1)))
           (crossE v0 (vectorE (num (pos 1)) (num (pos 0)) (num (pos 0))))) (opp v0.y) tt
 
-  pub y_down : g.y <ℤ pos 0 → IsBetween ez ex → AreEnds axes g [] e
+  pub y_down : g.y <ℤ pos 0 → IsBetween ez ex → AreArcEnds axes g [] e
   y_down h b = ends_at ez ex z_in x_in b (down (dot ex (cross g ez)) g.y is h)
     where
       is : dot ex (cross g ez) ≡ g.y
       is = ring (values (g ∷ []) []) (dotE (vectorE (num (pos 1)) (num (pos 0)) (num (pos 0)))
           (crossE v0 (vectorE (num (pos 0)) (num (pos 0)) (num (pos 1))))) v0.y tt
 
-  pub x_up : pos 0 <ℤ g.x → IsBetween ez ey → AreEnds axes g [] e
+  pub x_up : pos 0 <ℤ g.x → IsBetween ez ey → AreArcEnds axes g [] e
   x_up h b = ends_at ez ey z_in y_in b (up (dot ey (cross g ez)) g.x is h)
     where
       is : dot ey (cross g ez) ≡ neg_ℤ g.x
       is = ring (values (g ∷ []) []) (dotE (vectorE (num (pos 0)) (num (pos 1)) (num (pos 0)))
           (crossE v0 (vectorE (num (pos 0)) (num (pos 0)) (num (pos 1))))) (opp v0.x) tt
 
-  pub x_down : g.x <ℤ pos 0 → IsBetween ey ez → AreEnds axes g [] e
+  pub x_down : g.x <ℤ pos 0 → IsBetween ey ez → AreArcEnds axes g [] e
   x_down h b = ends_at ey ez y_in z_in b (down (dot ez (cross g ey)) g.x is h)
     where
       is : dot ez (cross g ey) ≡ g.x

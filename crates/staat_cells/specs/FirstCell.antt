@@ -35,7 +35,7 @@ pub record AreNotAbove (e : Ends) (m : V3) : Type 0 where
 
 -- On the plane g the ends of what is on the positive side of none of the planes that were passed: the directions in
 -- which g crosses a and b, each on the negative side of the other.
-pub record AreEnds (planes : List V3) (g : V3) (passed : List V3) (e : Ends) : Type 0 where
+pub record AreArcEnds (planes : List V3) (g : V3) (passed : List V3) (e : Ends) : Type 0 where
   pub a : V3
   pub b : V3
   pub a_in : Contains planes a

@@ -7,7 +7,7 @@ ghost use Rattle.staat_model.specs.declared.tree.Kind.TheVariants.{Open};
 ghost use Rattle.staat_model.specs.Cells.{IsEntry};
 ghost use Rattle.staat_model.specs.Planes.{axes};
 ghost use Rattle.staat_pairs.specs.Tables.{AreTablePlanes};
-ghost use Rattle.staat_cells.specs.FirstCell.{AreEnds, HasNoLow, HasNoLowEdge, IsLastLowEdge, IsLowEdge};
+ghost use Rattle.staat_cells.specs.FirstCell.{AreArcEnds, HasNoLow, HasNoLowEdge, IsLastLowEdge, IsLowEdge};
 ghost use Rattle.staat_cells.specs.FirstCell.{first_entry};
 
 use staat_planes::PlaneTable;
@@ -47,7 +47,7 @@ fn ends_between(g: V3, a: V3, b: V3) -> Ends
 fn axis_ends(g: V3) -> Ends
     requires size { IsWithin NORMAL g }
     requires some { g ≢ origin }
-    ensures { AreEnds axes g [] result }
+    ensures { AreArcEnds axes g [] result }
 {
     let x = V3 { x: 1, y: 0, z: 0 };
     let y = V3 { x: 0, y: 1, z: 0 };
@@ -73,8 +73,8 @@ fn narrowed(g: V3, h: V3, ends: Ends) -> Option<Ends>
     requires h { IsWithin NORMAL h }
     requires first { IsWithin VERTEX ends.first }
     requires second { IsWithin VERTEX ends.second }
-    ensures { (planes passed : List Vector) → Contains planes h → AreEnds planes g passed ends
-        → MatchOption result (HasNoLow planes g) (AreEnds planes g (passed ++ h ∷ [])) }
+    ensures { (planes passed : List Vector) → Contains planes h → AreArcEnds planes g passed ends
+        → MatchOption result (HasNoLow planes g) (AreArcEnds planes g (passed ++ h ∷ [])) }
 {
     let first = dot(h, ends.first);
     let second = dot(h, ends.second);
@@ -99,7 +99,7 @@ fn narrowed(g: V3, h: V3, ends: Ends) -> Option<Ends>
 fn ends_on(planes: &[V3], g: V3) -> Option<Ends>
     requires planes { AreTablePlanes planes.now }
     requires g { Contains planes.now g }
-    ensures { MatchOption result (HasNoLow planes.now g) (AreEnds planes.now g planes.now) }
+    ensures { MatchOption result (HasNoLow planes.now g) (AreArcEnds planes.now g planes.now) }
 {
     let mut ends = axis_ends(g);
     for h in planes {

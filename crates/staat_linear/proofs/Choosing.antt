@@ -22,7 +22,7 @@ use Rattle.staat_linear.specs.declared.order.Leave.{Leave}
 use Rattle.staat_linear.specs.declared.order.Order.{Order}
 use Rattle.staat_linear.specs.declared.order.Order.TheVariants.{Whole, Locked}
 use Rattle.staat_linear.specs.Holding.{IsLeastLeaving}
-use Rattle.staat_linear.specs.Orders.{AreFreeInTurn, HasNoLeave, IsChosen, IsGoodOrder, IsLeave, IsLocked, IsOrder, LeavesAlong, LetsLeave, SettlesOrder, no_leave, one_part, then_locked, then_whole, without}
+use Rattle.staat_linear.specs.Orders.{AreFreeInTurn, HasNoLeave, IsChosen, IsGoodOrder, IsLeave, IsLocked, IsOrder, LeavesAlong, LetsLeave, SettlesOrder, no_leave, one_part, then_locked, then_whole, all_but}
 
 -- ---- one step
 
@@ -31,7 +31,7 @@ pub locked_at_vertices : (parts : List Part) (w : PartSet) → IsAssembly parts 
 locked_at_vertices parts w is two none = record {
   two = two;
   held = λ p d has free.
-      let at = vertices_decide_lemma parts w (single p) (without w p) none.planes d is none.planes_are (λ q h. subst (Has w) (sym ((has-single p q).0 h)) has) (rest_within w (single p)) (rest_apart w (single p)) free in
+      let at = vertices_decide_lemma parts w (single p) (all_but w p) none.planes d is none.planes_are (λ q h. subst (Has w) (sym ((has-single p q).0 h)) has) (rest_within w (single p)) (rest_apart w (single p)) free in
       All-contains (λ v. LetsLeave parts w v → ⊥) (vertices none.planes) at.v none.none at.vertex (p, record { member = has; free = at.free });
 }
 
@@ -48,30 +48,30 @@ served_is_leave parts w planes s are h = record { planes = planes; planes_are = 
 -- by these steps w comes down to u
 abbrev pub ComesDown : List Part → PartSet → List Leave → PartSet → Type 0
 ComesDown parts w [] u = w ≡ u
-ComesDown parts w (leave ∷ leaves) u = (2 ≤ set.len w) × IsLeave parts w leave × ComesDown parts (without w leave.part) leaves u
+ComesDown parts w (leave ∷ leaves) u = (2 ≤ set.len w) × IsLeave parts w leave × ComesDown parts (all_but w leave.part) leaves u
 
-pub one_more : (parts : List Part) (w : PartSet) (leaves : List Leave) (u : PartSet) (leave : Leave) → ComesDown parts w leaves u → 2 ≤ set.len u → IsLeave parts u leave → ComesDown parts w (leaves ++ leave ∷ []) (without u leave.part)
+pub one_more : (parts : List Part) (w : PartSet) (leaves : List Leave) (u : PartSet) (leave : Leave) → ComesDown parts w leaves u → 2 ≤ set.len u → IsLeave parts u leave → ComesDown parts w (leaves ++ leave ∷ []) (all_but u leave.part)
 one_more parts w [] u leave down two is =
-    (subst (λ (s : PartSet). 2 ≤ set.len s) (sym down) two, subst (λ (s : PartSet). IsLeave parts s leave) (sym down) is, ap (λ (s : PartSet). without s leave.part) down)
-one_more parts w (first ∷ leaves) u leave down two is = (down.0, down.1, one_more parts (without w first.part) leaves u leave down.2 two is)
+    (subst (λ (s : PartSet). 2 ≤ set.len s) (sym down) two, subst (λ (s : PartSet). IsLeave parts s leave) (sym down) is, ap (λ (s : PartSet). all_but s leave.part) down)
+one_more parts w (first ∷ leaves) u leave down two is = (down.0, down.1, one_more parts (all_but w first.part) leaves u leave down.2 two is)
 
 pub down_to_last : (parts : List Part) (w : PartSet) (leaves : List Leave) (u : PartSet) (last : ℕ) → ComesDown parts w leaves u → u ≡ single last → IsChosen parts w (Whole leaves last)
 down_to_last parts w [] u last down one = one_part (down ∙ one)
-down_to_last parts w (leave ∷ leaves) u last down one = then_whole down.0 down.1 (down_to_last parts (without w leave.part) leaves u last down.2 one)
+down_to_last parts w (leave ∷ leaves) u last down one = then_whole down.0 down.1 (down_to_last parts (all_but w leave.part) leaves u last down.2 one)
 
 pub down_to_locked : (parts : List Part) (w : PartSet) (leaves : List Leave) (u : PartSet) → ComesDown parts w leaves u → 2 ≤ set.len u → HasNoLeave parts u → IsChosen parts w (Locked u)
 down_to_locked parts w [] u down two none = subst (λ (s : PartSet). IsChosen parts s (Locked u)) (sym down) (no_leave two none)
-down_to_locked parts w (leave ∷ leaves) u down two none = then_locked down.0 down.1 (down_to_locked parts (without w leave.part) leaves u down.2 two none)
+down_to_locked parts w (leave ∷ leaves) u down two none = then_locked down.0 down.1 (down_to_locked parts (all_but w leave.part) leaves u down.2 two none)
 
 -- a set with one part alone, which is its least
 pub alone_is : (u : PartSet) (p : ℕ) → Has u p → set.len u ≤ 1 → u ≡ single p
 alone_is u p has le = one_is u p has (one_within u p has le)
 
 -- without one part a set of two is smaller, and has others
-pub fewer : (w u : PartSet) (p : ℕ) → Has w p → u ≡ without w p → set.len u < set.len w
-fewer w u p has e = subst (λ (t : PartSet). set.len t < set.len w) (sym e) (len_fewer (without w p) w p (rest_within w (single p)) has (λ h. ((has-difference w (single p) p).0 h).1 ((has-single p p).1 refl)))
+pub fewer : (w u : PartSet) (p : ℕ) → Has w p → u ≡ all_but w p → set.len u < set.len w
+fewer w u p has e = subst (λ (t : PartSet). set.len t < set.len w) (sym e) (len_fewer (all_but w p) w p (rest_within w (single p)) has (λ h. ((has-difference w (single p) p).0 h).1 ((has-single p p).1 refl)))
 
-pub inside : (w u z : PartSet) (p : ℕ) → IsSubset w z → u ≡ without w p → IsSubset u z
+pub inside : (w u z : PartSet) (p : ℕ) → IsSubset w z → u ≡ all_but w p → IsSubset u z
 inside w u z p within e q h = within q (rest_within w (single p) q (subst (λ (t : PartSet). Has t q) e h))
 
 -- ---- what is chosen is right
@@ -80,8 +80,8 @@ pub chosen_settles : (parts : List Part) (w : PartSet) (order : Order) → IsAss
 chosen_settles parts w order is (one_part e) = record { order = e; free = tt }
 chosen_settles parts w order is (no_leave two none) = ((λ q h. h), locked_at_vertices parts w is two none)
 chosen_settles parts w order is (then_whole {leave} {leaves} {last} two step later) =
-    let good = chosen_settles parts (without w leave.part) (Whole leaves last) is later in
+    let good = chosen_settles parts (all_but w leave.part) (Whole leaves last) is later in
     record { order = (step.leaves.member, good.order); free = (step.leaves.free, good.free) }
 chosen_settles parts w order is (then_locked {a} {leave} two step later) =
-    let t = chosen_settles parts (without w leave.part) (Locked a) is later in
+    let t = chosen_settles parts (all_but w leave.part) (Locked a) is later in
     ((λ q h. rest_within w (single leave.part) q (t.0 q h)), t.1)

@@ -9,17 +9,17 @@ use Rattle.staat_model.proofs.SetMembers.{has-difference, has-single}
 use Rattle.staat_model.proofs.SetSizes.{len-single}
 use Rattle.staat_graph.proofs.Finite.{len_subset}
 use Rattle.staat_linear.specs.declared.order.Leave.{Leave}
-use Rattle.staat_linear.specs.Orders.{AreFreeInTurn, IsGoodOrder, IsLocked, IsOrder, without}
+use Rattle.staat_linear.specs.Orders.{AreFreeInTurn, IsGoodOrder, IsLocked, IsOrder, all_but}
 
 -- a member other than p
-pub has-without : (w : PartSet) (p q : ℕ) → Has w q → (q ≡ p → ⊥) → Has (without w p) q
+pub has-without : (w : PartSet) (p q : ℕ) → Has w q → (q ≡ p → ⊥) → Has (all_but w p) q
 has-without w p q h other = (has-difference w (single p) q).1 (h, λ is. other ((has-single p q).0 is))
 
 -- a set without p lies in a set without p that held it
-pub within_without : (a w : PartSet) (p : ℕ) → IsSubset a w → (Has a p → ⊥) → IsSubset a (without w p)
+pub within_without : (a w : PartSet) (p : ℕ) → IsSubset a w → (Has a p → ⊥) → IsSubset a (all_but w p)
 within_without a w p within out q h = has-without w p q (within q h) (λ e. out (subst (Has a) e h))
 
-pub without_within : (a w : PartSet) (p : ℕ) → IsSubset a w → IsSubset (without a p) (without w p)
+pub without_within : (a w : PartSet) (p : ℕ) → IsSubset a w → IsSubset (all_but a p) (all_but w p)
 without_within a w p within q h =
     let t = (has-difference a (single p) q).0 h in
     (has-difference w (single p) q).1 (within q t.0, t.1)
@@ -35,5 +35,5 @@ locked_lemma parts a w (leave ∷ leaves) last locked within order free = elim (
     moves = free.0.moves;
     clear = λ arc from to. free.0.clear arc from (without_within a w leave.part within arc.b to);
   })
-  | inr out ↦ locked_lemma parts a (without w leave.part) leaves last locked (within_without a w leave.part within out) order.1 free.1
+  | inr out ↦ locked_lemma parts a (all_but w leave.part) leaves last locked (within_without a w leave.part within out) order.1 free.1
 ]

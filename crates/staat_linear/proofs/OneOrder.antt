@@ -15,7 +15,7 @@ use Rattle.staat_model.proofs.SetSizes.{len-single}
 use Rattle.staat_linear.specs.declared.order.Leave.{Leave}
 use Rattle.staat_linear.specs.declared.order.Order.{Order}
 use Rattle.staat_linear.specs.declared.order.Order.TheVariants.{Whole, Locked}
-use Rattle.staat_linear.specs.Orders.{HasNoLeave, IsChosen, IsLeave, LeavesAlong, LetsLeave, no_leave, one_part, then_locked, then_whole, without}
+use Rattle.staat_linear.specs.Orders.{HasNoLeave, IsChosen, IsLeave, LeavesAlong, LetsLeave, no_leave, one_part, then_locked, then_whole, all_but}
 
 module _ (parts : List Part) where
   leave_unique : (w : PartSet) (x y : Leave) → IsLeave parts w x → IsLeave parts w y → x ≡ y
@@ -39,8 +39,8 @@ module _ (parts : List Part) where
   one_alone : (p q : ℕ) → single p ≡ single q → p ≡ q
   one_alone p q e = sym ((has-single p q).0 (subst (λ (u : PartSet). Has u q) (sym e) ((has-single q q).1 refl)))
 
-  along : (w : PartSet) (x y : Leave) (o : Order) → x ≡ y → IsChosen parts (without w y.part) o → IsChosen parts (without w x.part) o
-  along w x y o e = subst (λ (l : Leave). IsChosen parts (without w l.part) o) (sym e)
+  along : (w : PartSet) (x y : Leave) (o : Order) → x ≡ y → IsChosen parts (all_but w y.part) o → IsChosen parts (all_but w x.part) o
+  along w x y o e = subst (λ (l : Leave). IsChosen parts (all_but w l.part) o) (sym e)
 
   whole_is : (x y : Leave) (xs ys : List Leave) (p q : ℕ) → x ≡ y → Whole xs p ≡ Whole ys q → Whole (x ∷ xs) p ≡ Whole (y ∷ ys) q
   whole_is x y xs ys p q e f = cc

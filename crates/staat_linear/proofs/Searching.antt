@@ -20,8 +20,8 @@ use Rattle.staat_graph.proofs.Finite.{len_subset}
 use Rattle.staat_model.proofs.FreeSides.{member_or}
 use Rattle.staat_pairs.specs.Searches.{arc_of}
 use Rattle.staat_pairs.specs.Tables.{Table, facets_of, pieces_of}
-use Rattle.staat_linear.specs.Holding.{AreHeld, AreOutward, Holds, IsArcAhead, IsHeld, IsLeastFree, IsOutward}
-use Rattle.staat_linear.specs.Orders.{without}
+use Rattle.staat_linear.specs.Holding.{AreHeld, AreOutward, HoldsBack, IsArcAhead, IsHeld, IsLeastFree, IsOutward}
+use Rattle.staat_linear.specs.Orders.{all_but}
 
 last_or : (m k : ℕ) → m < k + 1 → (m < k) ⊎ (m ≡ k)
 last_or m k lt = grind arith
@@ -68,7 +68,7 @@ not_held t w d p b small none held =
     none arc.b (small arc.b h.to) arc.i arc.j h.to (subst (λ a. IsArcAhead t d (record { a = a; i = arc.i; b = arc.b; j = arc.j })) h.from h.ahead)
 
 -- a part of a set of two has another one beside it
-pub some_other : (w others : PartSet) (p : ℕ) → 2 ≤ set.len w → others ≡ without w p → IsNonempty others
+pub some_other : (w others : PartSet) (p : ℕ) → 2 ≤ set.len w → others ≡ all_but w p → IsNonempty others
 some_other w others p two same = go (nonempty_or others)
   where
     go : IsNonempty others ⊎ ((q : ℕ) → Has others q → ⊥) → IsNonempty others
@@ -123,7 +123,7 @@ put_outward t w arcs new p arc are is set_is = record {
 }
 
 -- what holds a part leads from it to another part
-pub outward_of : (t : Table) (w : PartSet) (d : V3) (p : ℕ) (arc : Arc) → Holds t w d p arc → IsOutward t w p arc
+pub outward_of : (t : Table) (w : PartSet) (d : V3) (p : ℕ) (arc : Arc) → HoldsBack t w d p arc → IsOutward t w p arc
 outward_of t w d p arc h = record { from = h.from; to = h.to; across = h.ahead.across }
 
 -- the parts before the next one

@@ -15,20 +15,20 @@ use Rattle.staat_linear.specs.declared.order.Order.{Order}
 use Rattle.staat_linear.specs.declared.order.Order.TheVariants.{Whole, Locked}
 
 -- the set without the part p
-abbrev pub without : PartSet → ℕ → PartSet
-without w p = set.difference w (single p)
+abbrev pub all_but : PartSet → ℕ → PartSet
+all_but w p = set.difference w (single p)
 
 -- the parts that leave, and then the last one, are those of w, each once
 abbrev pub IsOrder : PartSet → List Leave → ℕ → Type 0
 IsOrder w [] last = w ≡ single last
-IsOrder w (leave ∷ leaves) last = Has w leave.part × IsOrder (without w leave.part) leaves last
+IsOrder w (leave ∷ leaves) last = Has w leave.part × IsOrder (all_but w leave.part) leaves last
 
 -- each part that leaves is free, along its direction, of all parts of w that are left then
 abbrev pub AreFreeInTurn : List Part → PartSet → List Leave → Type 0
 AreFreeInTurn parts w [] = Unit {0}
 AreFreeInTurn parts w (leave ∷ leaves) =
-    IsFree parts (single leave.part) (without w leave.part) leave.d
-    × AreFreeInTurn parts (without w leave.part) leaves
+    IsFree parts (single leave.part) (all_but w leave.part) leave.d
+    × AreFreeInTurn parts (all_but w leave.part) leaves
 
 -- the order takes w apart, one part at a time
 pub record IsGoodOrder (parts : List Part) (w : PartSet) (leaves : List Leave) (last : ℕ) : Type 0 where
@@ -38,12 +38,12 @@ pub record IsGoodOrder (parts : List Part) (w : PartSet) (leaves : List Leave) (
 -- p is a part of w, and free along d of all others of w
 pub record LeavesAlong (parts : List Part) (w : PartSet) (d : V3) (p : ℕ) : Type 0 where
   pub member : Has w p
-  pub free : IsFree parts (single p) (without w p) d
+  pub free : IsFree parts (single p) (all_but w p) d
 
 -- w has at least two parts, and no part of it is free of the others along any direction
 pub record IsLocked (parts : List Part) (w : PartSet) : Type 0 where
   pub two : 2 ≤ set.len w
-  pub held : (p : ℕ) (d : V3) → Has w p → IsFree parts (single p) (without w p) d → ⊥
+  pub held : (p : ℕ) (d : V3) → Has w p → IsFree parts (single p) (all_but w p) d → ⊥
 
 -- ---- the chosen order
 
@@ -71,10 +71,10 @@ pub data IsChosen (parts : List Part) : PartSet → Order → Type 0 where
   one_part : {w : PartSet} {p : ℕ} → w ≡ single p → IsChosen parts w (Whole [] p)
   no_leave : {w : PartSet} → 2 ≤ set.len w → HasNoLeave parts w → IsChosen parts w (Locked w)
   then_whole : {w : PartSet} {leave : Leave} {leaves : List Leave} {last : ℕ} → 2 ≤ set.len w
-      → IsLeave parts w leave → IsChosen parts (without w leave.part) (Whole leaves last)
+      → IsLeave parts w leave → IsChosen parts (all_but w leave.part) (Whole leaves last)
       → IsChosen parts w (Whole (leave ∷ leaves) last)
   then_locked : {w a : PartSet} {leave : Leave} → 2 ≤ set.len w → IsLeave parts w leave
-      → IsChosen parts (without w leave.part) (Locked a) → IsChosen parts w (Locked a)
+      → IsChosen parts (all_but w leave.part) (Locked a) → IsChosen parts w (Locked a)
 
 -- the order is good for w; or the set that is named lies in w and is locked
 abbrev pub SettlesOrder : List Part → PartSet → Order → Type 0

@@ -20,7 +20,7 @@ use Rattle.staat_pairs.specs.Tables.{AreTablePlanes, Table, WasMadeFrom}
 use Rattle.staat_pairs.proofs.DropLemmas.{drop_at, drop_end}
 use Rattle.staat_planes.specs.declared.pairs.PlanePairs.{PlanePairs}
 use Rattle.staat_planes.specs.Tables.{IsPlaneOf}
-use Rattle.staat_planes.specs.VertexSearch.{AreNumbers, IsPlaceIn, numbers_of, planes_at, vertices_left}
+use Rattle.staat_planes.specs.VertexSearch.{AreRisingNumbers, IsPlaceIn, numbers_of, planes_at, vertices_left}
 use Rattle.staat_planes.proofs.UsedLaw.{listed_used}
 use Rattle.staat_planes.proofs.UsedPlanes.{numbered_are, one_behind, places_rise}
 
@@ -142,6 +142,6 @@ length_used ns count le = length-take-le count ns le
 pub number_in : (ks : List ℕ) (i : ℕ) → i < length ks → Contains ks (slice_index ks i)
 number_in ks i lt = (i, lt, Rattle.std.proofs.lemmas.List.get_or_default ks i (slice_index ks i) 0 lt)
 
-pub apart_at : (planes : List V3) (ks : List ℕ) (i j : ℕ) (g h : V3) → AreTablePlanes planes → AreNumbers planes ks → i < j → j < length ks
+pub apart_at : (planes : List V3) (ks : List ℕ) (i j : ℕ) (g h : V3) → AreTablePlanes planes → AreRisingNumbers planes ks → i < j → j < length ks
     → slice_get planes (slice_index ks i) ≡ Some g → slice_get planes (slice_index ks j) ≡ Some h → cross g h ≢ origin
 apart_at planes ks i j g h are numbers lt small eg eh = are.apart (slice_index ks i) (slice_index ks j) g h eg eh (λ e. let rise = places_rise ks i j numbers.ascending lt small in absurd (omega (arith, rise, e)))

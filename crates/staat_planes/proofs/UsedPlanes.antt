@@ -19,7 +19,7 @@ use Rattle.staat_model.proofs.Differences.{from_map, in_map}
 use Rattle.staat_model.proofs.OneTable.{ArePlanes-unique}
 use Rattle.staat_pairs.specs.Tables.{Table, WasMadeFrom}
 use Rattle.staat_planes.specs.Tables.{IsPlaneOf}
-use Rattle.staat_planes.specs.VertexSearch.{AreNumbers, planes_at}
+use Rattle.staat_planes.specs.VertexSearch.{AreRisingNumbers, planes_at}
 
 -- ---- ascending numbers
 
@@ -87,7 +87,7 @@ begins n (k ∷ ks) s low c =
 
 -- ---- the planes with these numbers
 
-module _ (parts : List Part) (t : Table) (w : PartSet) (ks : List ℕ) (made : WasMadeFrom parts t) (within : IsSubset w t.of) (numbers : AreNumbers t.planes ks)
+module _ (parts : List Part) (t : Table) (w : PartSet) (ks : List ℕ) (made : WasMadeFrom parts t) (within : IsSubset w t.of) (numbers : AreRisingNumbers t.planes ks)
     (used : (k : ℕ) (n : V3) → slice_get t.planes k ≡ Some n → Contains ks k ↔ IsPlaneOf parts w n) where
   abbrev at : ℕ → V3
   at k = slice_index_or t.planes k origin

@@ -5,7 +5,7 @@ use Rattle.std.proofs.Math.ListN.{length-set}
 use Rattle.std.proofs.lemmas.List.{get_or-set_other}
 use Rattle.std.proofs.lemmas.Grind.{get_or-set_at}
 use Rattle.staat_ring.specs.Links.{Arrays}
-use Rattle.staat_ring.specs.RingInvariant.{AreFlags, AreKept, IsKept}
+use Rattle.staat_ring.specs.RingInvariant.{AreFlags, AreKept, AreFlagged}
 use Rattle.staat_ring.specs.RingViews.{is_out, numbers_below, still_linked}
 use Rattle.staat_ring.proofs.Mapped.{differ, same_or}
 use Rattle.staat_ring.proofs.RingLemmas.{filter_by, listed-push}
@@ -68,12 +68,12 @@ once_out n count order a p k some split = go (is_out (take (count - 1) order) p)
     go true e = absurd (twice e)
     go false e = e
 
-pub flags_unlinked : (n count : ℕ) (order : List ℕ) (linked : List Bool) (a : Arrays) (p : ℕ) → IsKept n count order linked a → count < n → p < n
+pub flags_unlinked : (n count : ℕ) (order : List ℕ) (linked : List Bool) (a : Arrays) (p : ℕ) → AreFlagged n count order linked a → count < n → p < n
     → AreFlags n (take (count + 1) (set order count p)) (set linked p false)
 flags_unlinked n count order linked a p k room lp =
     subst (λ (o : List ℕ). AreFlags n o (set linked p false)) (sym (order_push count order p (let s = k.arrays.size in omega (arith, room, s)))) (pushed n p (take count order) linked lp k.flags)
 
-pub flags_relinked : (n count : ℕ) (order : List ℕ) (linked : List Bool) (a : Arrays) (p : ℕ) → IsKept n count order linked a → 0 < count → p < n → take count order ≡ take (count - 1) order ++ p ∷ []
+pub flags_relinked : (n count : ℕ) (order : List ℕ) (linked : List Bool) (a : Arrays) (p : ℕ) → AreFlagged n count order linked a → 0 < count → p < n → take count order ≡ take (count - 1) order ++ p ∷ []
     → AreFlags n (take (count - 1) order) (set linked p true)
 flags_relinked n count order linked a p k some lp split =
     popped n p (take (count - 1) order) linked lp (once_out n count order a p k.arrays some split) (subst (λ (o : List ℕ). AreFlags n o linked) split k.flags)

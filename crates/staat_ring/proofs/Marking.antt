@@ -14,15 +14,15 @@ use Rattle.staat_ring.specs.declared.pairs.PairCount.{PairCount}
 use Rattle.staat_ring.specs.Pairs.{occurs, pair_at}
 use Rattle.staat_ring.specs.Belonging.{BelongTo, IsUnused}
 use Rattle.staat_ring.specs.Signs.{Side, Signed, no_side, side_at, with_sign}
-use Rattle.staat_ring.specs.Marks.{mark_of, marked, signed}
+use Rattle.staat_ring.specs.Marks.{mark_of, marked, with_plane_sign}
 
 pub drop_next : (es : List Entry) (i : ℕ) (e : Entry) → slice_get es i ≡ Some e → drop i es ≡ e ∷ drop (i + 1) es
 drop_next es i e at = drop-cons es i e (slice_get_within es i e at) ∙ ((λ k. get_or_from_slice_get es i e e at k ∷ drop (suc i) es) ∙ ap (λ n. e ∷ drop n es) (sym (add-one i)))
 
 -- one entry more
-pub mark_next : (leaves : Bool) (es : List Entry) (i : ℕ) (e : Entry) (sign : Sign) (now new first : Signed) → slice_get es i ≡ Some e → sign ≡ mark_of leaves e.turned → new ≡ signed e.plane sign now → marked leaves (drop i es) now ≡ first → marked leaves (drop (i + 1) es) new ≡ first
+pub mark_next : (leaves : Bool) (es : List Entry) (i : ℕ) (e : Entry) (sign : Sign) (now new first : Signed) → slice_get es i ≡ Some e → sign ≡ mark_of leaves e.turned → new ≡ with_plane_sign e.plane sign now → marked leaves (drop i es) now ≡ first → marked leaves (drop (i + 1) es) new ≡ first
 mark_next leaves es i e sign now new first at is set rest =
-    ap (marked leaves (drop (i + 1) es)) (set ∙ ap (λ s. signed e.plane s now) is) ∙ (sym (ap (λ r. marked leaves r now) (drop_next es i e at)) ∙ rest)
+    ap (marked leaves (drop (i + 1) es)) (set ∙ ap (λ s. with_plane_sign e.plane s now) is) ∙ (sym (ap (λ r. marked leaves r now) (drop_next es i e at)) ∙ rest)
 
 -- none left
 pub mark_end : (leaves : Bool) (es : List Entry) (i : ℕ) (now first : Signed) → length es ≤ i → marked leaves (drop i es) now ≡ first → now ≡ first
@@ -61,7 +61,7 @@ kept_at {X = X} f sides k sign j same = ⊎_elim {C = f (side_at (set sides k (w
     (λ ne. ap f (get_or-set_other sides k j (with_sign sign (side_at sides k)) no_side ne))
     (same_or j k)
 
-pub signed_same : (k : ℕ) (sign : Sign) (s : Signed) → SameLists (signed k sign s) s
+pub signed_same : (k : ℕ) (sign : Sign) (s : Signed) → SameLists (with_plane_sign k sign s) s
 signed_same k sign s = record {
   size = length-set s.sides k (with_sign sign (side_at s.sides k));
   along = λ j. kept_at (λ x. x.along) s.sides k sign j (λ x. refl);
@@ -72,7 +72,7 @@ signed_same k sign s = record {
 pub marked_same : (leaves : Bool) (es : List Entry) (s : Signed) → SameLists (marked leaves es s) s
 marked_same leaves [] s = same_itself s
 marked_same leaves (e ∷ es) s =
-    let next : Signed = signed e.plane (mark_of leaves e.turned) s in
+    let next : Signed = with_plane_sign e.plane (mark_of leaves e.turned) s in
     same_trans (marked leaves es next) next s (marked_same leaves es next) (signed_same e.plane (mark_of leaves e.turned) s)
 
 -- signs that belong to a table still do
@@ -112,7 +112,7 @@ sign_of_set sides k sign lt = ap (λ s. s.sign) (get_or-set_same sides k (with_s
 pub marked_other : (leaves : Bool) (es : List Entry) (s : Signed) (j : ℕ) → ((e : Entry) → Contains es e → e.plane ≢ j) → (side_at (marked leaves es s).sides j).sign ≡ (side_at s.sides j).sign
 marked_other leaves [] s j none = refl
 marked_other leaves (e ∷ es) s j none =
-    marked_other leaves es (signed e.plane (mark_of leaves e.turned) s) j (λ x c. none x (Contains-later e es x c))
+    marked_other leaves es (with_plane_sign e.plane (mark_of leaves e.turned) s) j (λ x c. none x (Contains-later e es x c))
     ∙ ap (λ x. x.sign) (get_or-set_other s.sides e.plane j (with_sign (mark_of leaves e.turned) (side_at s.sides e.plane)) no_side (λ q. none e (Contains-front e es) (sym q)))
 
 -- one through which some entry goes gets the sign that all of them give
@@ -122,7 +122,7 @@ marked_there leaves [] s j sign lt all x c is = absurd (Contains-nothing x c)
 marked_there leaves (e ∷ es) s j sign lt all x c is = by (marked_there leaves es next j sign small (λ y cy. all y (Contains-later e es y cy))) (some_or es j)
   where
     next : Signed
-    next = signed e.plane (mark_of leaves e.turned) s
+    next = with_plane_sign e.plane (mark_of leaves e.turned) s
 
     small : j < length next.sides
     small = subst (λ n. j < n) (sym (length-set s.sides e.plane (with_sign (mark_of leaves e.turned) (side_at s.sides e.plane)))) lt

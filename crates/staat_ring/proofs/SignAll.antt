@@ -9,7 +9,7 @@ use Rattle.staat_vec.specs.Vectors.{dot, sign}
 use Rattle.staat_vec.proofs.Unique.{Contains-cases, Contains-nothing}
 use Rattle.staat_graph.proofs.Finite.{same_or}
 use Rattle.staat_model.specs.Circles.{IsLinked}
-use Rattle.staat_ring.specs.Marks.{signed}
+use Rattle.staat_ring.specs.Marks.{with_plane_sign}
 use Rattle.staat_ring.specs.Signs.{Signed, no_side, side_at, with_sign}
 use Rattle.staat_ring.specs.Stepping.{count_below}
 use Rattle.staat_ring.proofs.Marking.{sign_of_set}
@@ -17,9 +17,9 @@ use Rattle.staat_ring.proofs.Marking.{sign_of_set}
 abbrev pub Done : List V3 → List ℕ → V3 → Signed → ℕ → Type 0
 Done planes linked d s k = (j : ℕ) (n : V3) → j < k → IsLinked planes linked j n → (side_at s.sides j).sign ≡ sign (dot n d)
 
-pub more_done : (planes : List V3) (linked : List ℕ) (d : V3) (now new : Signed) (k : ℕ) (sg : Sign) → k < length now.sides → ((n : V3) → slice_get planes k ≡ Some n → sg ≡ sign (dot n d)) → new ≡ signed k sg now → Done planes linked d now k → Done planes linked d new (k + 1)
-more_done planes linked d now new k sg lt is set done j n small h = ap (λ s. (side_at s.sides j).sign) set ∙ ⊎_elim {C = (side_at (signed k sg now).sides j).sign ≡ sign (dot n d)}
-    (λ e. ap (λ i. (side_at (signed k sg now).sides i).sign) e ∙ (sign_of_set now.sides k sg lt ∙ is n (subst (λ i. slice_get planes i ≡ Some n) e h.is)))
+pub more_done : (planes : List V3) (linked : List ℕ) (d : V3) (now new : Signed) (k : ℕ) (sg : Sign) → k < length now.sides → ((n : V3) → slice_get planes k ≡ Some n → sg ≡ sign (dot n d)) → new ≡ with_plane_sign k sg now → Done planes linked d now k → Done planes linked d new (k + 1)
+more_done planes linked d now new k sg lt is set done j n small h = ap (λ s. (side_at s.sides j).sign) set ∙ ⊎_elim {C = (side_at (with_plane_sign k sg now).sides j).sign ≡ sign (dot n d)}
+    (λ e. ap (λ i. (side_at (with_plane_sign k sg now).sides i).sign) e ∙ (sign_of_set now.sides k sg lt ∙ is n (subst (λ i. slice_get planes i ≡ Some n) e h.is)))
     (λ ne. ap (λ s. s.sign) (get_or-set_other now.sides k j (with_sign sg (side_at now.sides k)) no_side ne) ∙ done j n (omega arith) h)
     (same_or j k)
 

@@ -6,8 +6,8 @@ use Rattle.staat_ring.specs.declared.entry.Entry.{Entry}
 use Rattle.staat_ring.specs.Signs.{Signed, side_at, with_sign}
 
 -- the plane k gets the sign
-abbrev pub signed : ℕ → Sign → Signed → Signed
-signed k sign s = record { sides = slice_set s.sides k (with_sign sign (side_at s.sides k)); pairs = s.pairs }
+abbrev pub with_plane_sign : ℕ → Sign → Signed → Signed
+with_plane_sign k sign s = record { sides = slice_set s.sides k (with_sign sign (side_at s.sides k)); pairs = s.pairs }
 
 -- The sign of a plane just after the stop, if the walk leaves it, and at it, if not. The walk leaves a plane's
 -- crossing
@@ -20,4 +20,4 @@ mark_of true true = Pos
 -- all planes through the stop get their signs
 abbrev pub marked : Bool → List Entry → Signed → Signed
 marked leaves [] s = s
-marked leaves (e ∷ es) s = marked leaves es (signed e.plane (mark_of leaves e.turned) s)
+marked leaves (e ∷ es) s = marked leaves es (with_plane_sign e.plane (mark_of leaves e.turned) s)

@@ -33,6 +33,6 @@ pub record AreFlags (n : ℕ) (out : List ℕ) (flags : List Bool) : Type 0 wher
   pub each : (p : ℕ) → p < n → slice_index_or flags p false ≡ not (is_out out p)
 
 -- what rings keep
-pub record IsKept (n count : ℕ) (order : List ℕ) (linked : List Bool) (a : Arrays) : Type 0 where
+pub record AreFlagged (n count : ℕ) (order : List ℕ) (linked : List Bool) (a : Arrays) : Type 0 where
   pub arrays : AreKept n count order a
   pub flags : AreFlags n (take count order) linked

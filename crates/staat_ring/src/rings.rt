@@ -33,13 +33,13 @@ impl Model for Rings {
     ghost use Rattle.std.specs.Prelude.{take};
     ghost use Rattle.staat_ring.specs.Rings.{Arrangement};
     ghost use Rattle.staat_ring.specs.RingViews.{arrangement_of};
-    ghost use Rattle.staat_ring.specs.RingInvariant.{IsKept};
+    ghost use Rattle.staat_ring.specs.RingInvariant.{AreFlagged};
 
     ghost Value = { Arrangement };
 
     ghost view = { λ r. arrangement_of r.planes (take r.count r.order.items) r.arrays };
 
-    ghost invariant = { λ r. IsKept r.planes r.count r.order.items r.linked.items r.arrays };
+    ghost invariant = { λ r. AreFlagged r.planes r.count r.order.items r.linked.items r.arrays };
 }
 
 impl Rings {

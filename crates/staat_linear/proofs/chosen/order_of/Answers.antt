@@ -3,7 +3,7 @@ use Rattle.std.specs.FinSet as set
 use Rattle.staat_model.specs.declared.set.PartSet.{PartSet}
 use Rattle.staat_linear.specs.declared.order.Leave.{Leave}
 use Rattle.staat_linear.specs.declared.order.Order.TheVariants.{Whole}
-use Rattle.staat_linear.specs.Orders.{IsChosen, without}
+use Rattle.staat_linear.specs.Orders.{IsChosen, all_but}
 use Rattle.staat_linear.proofs.Choosing.{ComesDown, alone_is, down_to_last, down_to_locked, fewer, inside, one_more}
 use Rattle.staat_linear.proofs.Searching.{some_other}
 use Rattle.staat_linear.proofs.chosen.order_of.Goals as goal
@@ -23,13 +23,13 @@ loop-leave-smaller c = fewer c.loop-leave.left c.without-left.result c.in-Some.l
 pub loop-leave-preserved : goal.loop-leave-preserved
 loop-leave-preserved c =
     let two : 2 ≤ set.len c.loop-leave.left = omega (arith, c.loop-leave-test.true, c.count.ensures.is) in
-    let same : c.without-left.result ≡ without c.loop-leave.left c.in-Some.leave.part = c.without-left.ensures.is ∙ ap (λ s. set.difference c.loop-leave.left s) c.single.ensures.is in
+    let same : c.without-left.result ≡ all_but c.loop-leave.left c.in-Some.leave.part = c.without-left.ensures.is ∙ ap (λ s. set.difference c.loop-leave.left s) c.single.ensures.is in
     record {
       some = some_other c.loop-leave.left c.without-left.result c.in-Some.leave.part two same;
       within = inside c.loop-leave.left c.without-left.result c.args.table.now.of c.in-Some.leave.part c.loop-leave.invariant.within same;
       down = λ parts made.
           subst (λ (u : PartSet). ComesDown parts c.args.w c.push.new.self.items u) (sym same)
-          (subst (λ (ls : List Leave). ComesDown parts c.args.w ls (without c.loop-leave.left c.in-Some.leave.part)) (sym c.in_ok-push.ensures.items)
+          (subst (λ (ls : List Leave). ComesDown parts c.args.w ls (all_but c.loop-leave.left c.in-Some.leave.part)) (sym c.in_ok-push.ensures.items)
           (one_more parts c.args.w c.loop-leave.leaves.items c.loop-leave.left c.in-Some.leave (c.loop-leave.invariant.down parts made) two (c.in-Some.ensures.step parts made)));
     }
 

@@ -4,7 +4,7 @@ use Rattle.std.proofs.lemmas.List.{length-map}
 use Rattle.std.proofs.lemmas.Option.{slice_get_within}
 use Rattle.staat_ring.specs.Rings.{linked_of}
 use Rattle.staat_ring.specs.Signs.{Signed}
-use Rattle.staat_ring.specs.Marks.{signed}
+use Rattle.staat_ring.specs.Marks.{with_plane_sign}
 use Rattle.staat_ring.specs.Belonging.{BelongTo}
 use Rattle.staat_ring.proofs.Marking.{belong_same, signed_same}
 use Rattle.staat_ring.proofs.SignAll.{Done, count_all, count_more, count_same, more_done, same_done}
@@ -21,7 +21,7 @@ loop-k-preserved g c = elim c.if-is_linked.branch [
       let set = w.signs-is ∙ w.set.ensures in
       record {
         all = c.loop-k.invariant.all;
-        made = subst (BelongTo c.args.table.now) (sym set) (belong_same c.args.table.now c.loop-k.signs (signed c.loop-k.k w.sign_at.result c.loop-k.signs) (signed_same c.loop-k.k w.sign_at.result c.loop-k.signs) c.loop-k.invariant.made);
+        made = subst (BelongTo c.args.table.now) (sym set) (belong_same c.args.table.now c.loop-k.signs (with_plane_sign c.loop-k.k w.sign_at.result c.loop-k.signs) (signed_same c.loop-k.k w.sign_at.result c.loop-k.signs) c.loop-k.invariant.made);
         done = more_done c.args.table.now.planes (linked_of c.args.rings.now.rings) c.args.d c.loop-k.signs c.if-is_linked.signs c.loop-k.k w.sign_at.result lt w.sign_at.ensures.sign set c.loop-k.invariant.done;
         few = (let m = count_more c.loop-k.k (linked_of c.args.rings.now.rings) (c.is_linked.ensures.0 w.if-is_linked.true) in let s = w.steps-is in let e = w.sign_at.ensures.step in let f = c.loop-k.invariant.few in omega (arith, m, s, e, f));
       }
