@@ -10,8 +10,7 @@ abbrev pub with_plane_sign : ℕ → Sign → Signed → Signed
 with_plane_sign k sign s = record { sides = slice_set s.sides k (with_sign sign (side_at s.sides k)); pairs = s.pairs }
 
 -- The sign of a plane just after the stop, if the walk leaves it, and at it, if not. The walk leaves a plane's
--- crossing
--- to the plane's negative side, and the opposite one to its positive side.
+-- crossing to the plane's negative side, and the opposite one to its positive side.
 abbrev pub mark_of : Bool → Bool → Sign
 mark_of false turned = Zero
 mark_of true false = Neg
