@@ -10,7 +10,6 @@ mod explode;
 mod graph;
 mod input;
 pub mod laws;
-mod linear;
 mod look;
 mod moved;
 mod pair;
