@@ -20,7 +20,7 @@ use Rattle.staat_words.specs.declared.request.Input.TheVariants as inputs
 use Rattle.staat_words.specs.declared.request.Asked.{Asked}
 use Rattle.staat_words.specs.declared.request.Product.{Product}
 use Rattle.staat_words.specs.declared.request.Request.{Request}
-use Rattle.staat_words.specs.declared.request.Request.TheVariants.{Pair, Look, Graph, Plan, Check, Cells, Drill, Explode}
+use Rattle.staat_words.specs.declared.request.Request.TheVariants.{Pair, Look, Graph, Plan, Check, Cells, Drill, Explode, Linear}
 use Rattle.staat_top.specs.declared.answer.Answer.{Answer}
 use Rattle.staat_top.specs.Work.{Files, Found, Each, to_read, too_long, taken}
 use Rattle.staat_top.specs.Inputs.{alone, SaysListing, no_listing, listing, IsListingOf, IsPartOf, IsInputOf, part_of}
@@ -51,6 +51,14 @@ use Rattle.staat_model.proofs.RefusalLemmas.{refusal_is_right_lemma}
 use Rattle.staat_words.specs.declared.request.CellsRequest.{CellsRequest}
 use Rattle.staat_words.specs.declared.request.CheckRequest.{CheckRequest}
 use Rattle.staat_words.specs.declared.request.ExplodeRequest.{ExplodeRequest}
+use Rattle.staat_words.specs.declared.request.LinearRequest.{LinearRequest}
+use Rattle.staat_linear.specs.declared.order.Order.{Order}
+use Rattle.staat_linear.specs.declared.order.Order.TheVariants.{Whole, Locked}
+use Rattle.staat_linear.specs.Orders.{IsChosen}
+use Rattle.staat_linear.specs.OrderTexts.{order_text}
+use Rattle.staat_linear.proofs.Choosing.{chosen_settles}
+use Rattle.staat_linear.proofs.Locked.{locked_lemma}
+use Rattle.staat_top.specs.Ordering.{order_answer, order_status}
 use Rattle.staat_check.specs.Verdicts.{IsPlanOf, IsRefusalWithSet}
 use Rattle.staat_top.specs.Checking.{IsCertificateIn, IsChecked, verdict_answer}
 use Rattle.staat_cells.proofs.OneCell.{one_cell}
@@ -65,7 +73,7 @@ use Rattle.staat_model.specs.Plans.{IsGood, Plan as Tree}
 use Rattle.staat_text.specs.PlanTexts.{plan_text}
 use Rattle.staat_top.specs.Drawing.{solids_of}
 use Rattle.staat_top.specs.Exploding.{AreShifted, IsPlanViewed, IsOutcomeViewed, IsViewed, scene, scene_too_long, shifted_far, shifted_near, vectors}
-use Rattle.staat_top.specs.Replies.{AreSoundParts, SaysApart, SaysView, plan_asked, SaysDrilled, SaysCells, SaysOutcome, SaysGoodPlan, SaysStuckSet, SaysValid, SaysNotValid, ShowsValid, valid_plan, valid_refusal, free, not_shown, WorkOnWords, IsRight, IsDenied}
+use Rattle.staat_top.specs.Replies.{AreSoundParts, SaysApart, SaysLocked, SaysOrder, SaysView, plan_asked, SaysDrilled, SaysCells, SaysOutcome, SaysGoodPlan, SaysStuckSet, SaysValid, SaysNotValid, ShowsValid, valid_plan, valid_refusal, free, not_shown, WorkOnWords, IsRight, IsDenied}
 
 -- ---- pieces
 
@@ -273,6 +281,18 @@ stuck_is_said files request parts named (stuck w) a are outcome e one =
 stuck_is_said files request parts named (planned plan marks) a are outcome (inl (f, at, e)) one = absurd cc
 stuck_is_said files request parts named (planned plan marks) a are outcome (inr (text, viewed, e)) one = absurd (omega (arith, one, same_status _ _ e))
 
+-- an order that is said takes all parts apart, and a set that is said to be locked is
+order_is_said : (files : Files) (request : LinearRequest) (parts : List Part) (o : Order) → AreSoundParts files request.asked parts → IsChosen parts (all_parts parts) o → order_status o ≡ 0 → SaysOrder files request (order_text o)
+order_is_said files request parts (Whole leaves last) are chosen zero =
+    record { parts = parts; sound = are; leaves = leaves; last = last; good = chosen_settles parts (all_parts parts) (Whole leaves last) are.assembly chosen; says = refl }
+order_is_said files request parts (Locked w) are chosen zero = absurd (omega (arith, zero))
+
+locked_is_said : (files : Files) (request : LinearRequest) (parts : List Part) (o : Order) → AreSoundParts files request.asked parts → IsChosen parts (all_parts parts) o → order_status o ≡ 1 → SaysLocked files request (order_text o)
+locked_is_said files request parts (Whole leaves last) are chosen one = absurd (omega (arith, one))
+locked_is_said files request parts (Locked w) are chosen one =
+    let settled = chosen_settles parts (all_parts parts) (Locked w) are.assembly chosen in
+    record { parts = parts; sound = are; set = w; within = settled.0; locked = settled.1; none = λ leaves last good. locked_lemma parts w (all_parts parts) leaves last settled.1 settled.0 good.order good.free; says = refl }
+
 -- a wall that is shown keeps the pieces apart, a look or a graph gives sound parts, and a plan takes them apart
 pub status_is_right : (asked : Option Request) (files : Files) (a : Answer) → HasRequestBounds asked → WorkOnWords asked files (Ok a) → a.status ≡ 0 → IsRight asked files a.text
 status_is_right None files a bounds e zero = absurd cc
@@ -316,6 +336,12 @@ status_is_right (Some (Explode request)) files a bounds (inl (fault, at, e)) zer
 status_is_right (Some (Explode request)) files a bounds (inr (built, found, inl (fault, at, e))) zero = absurd cc
 status_is_right (Some (Explode request)) files a bounds (inr (built, found, inr (planes, counted, p))) zero =
     apart_is_said files request built p.named p.finding a (sound_parts files request.asked built bounds.0 found) p.listed p.outcome p.shown zero
+status_is_right (Some (Linear request)) files a bounds (inl (fault, at, e)) zero = absurd cc
+status_is_right (Some (Linear request)) files a bounds (inr (built, found, inl (fault, at, e))) zero = absurd cc
+status_is_right (Some (Linear request)) files a bounds (inr (built, found, inr (planes, counted, p))) zero =
+    let same : order_answer p.order ≡ a = same_answer a (order_answer p.order) p.is in
+    subst (λ (b : Answer). SaysOrder files request b.text) same
+    (order_is_said files request built p.order (sound_parts files request.asked built bounds.0 found) p.chosen (ap (λ (b : Answer). b.status) same ∙ zero))
 
 -- a wall that is not shown is none, and a set that is named as stuck is stuck
 pub status_is_denied : (asked : Option Request) (files : Files) (a : Answer) → HasRequestBounds asked → WorkOnWords asked files (Ok a) → a.status ≡ 1 → IsDenied asked files a.text
@@ -358,3 +384,9 @@ status_is_denied (Some (Explode request)) files a bounds (inl (fault, at, e)) on
 status_is_denied (Some (Explode request)) files a bounds (inr (built, found, inl (fault, at, e))) one = absurd cc
 status_is_denied (Some (Explode request)) files a bounds (inr (built, found, inr (planes, counted, p))) one =
     stuck_is_said files request built p.named p.finding a (sound_parts files request.asked built bounds.0 found) p.outcome p.shown one
+status_is_denied (Some (Linear request)) files a bounds (inl (fault, at, e)) one = absurd cc
+status_is_denied (Some (Linear request)) files a bounds (inr (built, found, inl (fault, at, e))) one = absurd cc
+status_is_denied (Some (Linear request)) files a bounds (inr (built, found, inr (planes, counted, p))) one =
+    let same : order_answer p.order ≡ a = same_answer a (order_answer p.order) p.is in
+    subst (λ (b : Answer). SaysLocked files request b.text) same
+    (locked_is_said files request built p.order (sound_parts files request.asked built bounds.0 found) p.chosen (ap (λ (b : Answer). b.status) same ∙ one))

@@ -128,11 +128,16 @@ const BLOCKS: [(&str, [i32; 6]); 17] = [
     ("w", [5, 3, 4, 11, 5, 6]),
 ];
 
-const LISTS: [(&str, &[u8]); 5] = [
+const LISTS: [(&str, &[u8]); 6] = [
     (
         "closed",
         b"{\"parts\":[{\"name\":\"c\",\"pieces\":[\"a\"]},{\"name\":\"box\",\"pieces\":[\"east\",\"west\",\
         \"north\",\"south\",\"top\",\"floor\"]}]}",
+    ),
+    (
+        "beside",
+        b"{\"parts\":[{\"name\":\"c\",\"pieces\":[\"a\"]},{\"name\":\"box\",\"pieces\":[\"east\",\"west\",\
+        \"north\",\"south\",\"top\",\"floor\"]},{\"name\":\"d\",\"pieces\":[\"a\"],\"at\":[10,0,0]}]}",
     ),
     (
         "open",

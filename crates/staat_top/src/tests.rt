@@ -465,13 +465,14 @@ fn the_parts_of_an_input_are_listed(rt: HostRuntime) -> Result<(), Fail> {
 #[test]
 fn each_command_reads_a_file_as_often_as_it_is_named(rt: HostRuntime) -> Result<(), Fail> {
     let alloc = rt.alloc();
-    let table: [(&[&str], &[&str]); 8] = [
+    let table: [(&[&str], &[&str]); 9] = [
         (
             &["check", "c.txt", "a.off", "b.off"],
             &["a.off", "b.off", "c.txt"],
         ),
         (&["plan", "b.off", "a.off"], &["b.off", "a.off"]),
         (&["cells", "b.off", "a.off"], &["b.off", "a.off"]),
+        (&["linear", "b.off", "a.off"], &["b.off", "a.off"]),
         (&FREE, &["a.off", "b.off"]),
         (&["look", "b.off", "a.off"], &["b.off", "a.off"]),
         (
@@ -562,7 +563,7 @@ fn answers_for_small_products(rt: HostRuntime) -> Result<(), Fail> {
     let usage = "staat: usage\n";
     let first = "move 0 along 0 0 1 away from 1\nmoves 1\n";
     let sideways = "move 0 along 0 -1 0 away from 1\nmoves 1\n";
-    let table: [(&[&str], u8, &str, &str); 38] = [
+    let table: [(&[&str], u8, &str, &str); 43] = [
         (
             &["graph", "--along=0,1,0", "a.off", "b.off"],
             0,
@@ -642,6 +643,21 @@ fn answers_for_small_products(rt: HostRuntime) -> Result<(), Fail> {
             "",
             "staat: too many planes (5)\n",
         ),
+        (
+            &["linear", "--manifest=lidded"],
+            0,
+            "take 2 along 0 0 1\ntake 0 along 0 0 1\nlast 1\n",
+            "",
+        ),
+        (&["linear", "a.off"], 0, "last 0\n", ""),
+        (&["linear", "--manifest=beside"], 1, "locked 0 1\n", ""),
+        (
+            &["linear", "--manifest=dovetail.json", "--planes=4"],
+            4,
+            "",
+            "staat: too many planes (5)\n",
+        ),
+        (&["linear"], 2, "", usage),
         (&["plan", "a.off", "b.off"], 0, first, ""),
         (&["plan", "a", "b"], 0, first, ""),
         (&["plan", "a.off"], 0, "moves 0\n", ""),

@@ -71,6 +71,14 @@ pub struct ExplodeRequest {
     pub off: bool,
 }
 
+/// In what order the parts can be taken away, one at a time.
+#[derive(Drop)]
+pub struct LinearRequest {
+    pub asked: Asked,
+    /// How many planes all parts may have, 3 to `MOST_PLANES`.
+    pub planes: u32,
+}
+
 /// Whether a certificate is valid for the parts.
 #[derive(Drop)]
 pub struct CheckRequest {
@@ -101,6 +109,7 @@ pub enum Request {
     /// The program tried on a product of its own.
     Drill(Product),
     Explode(ExplodeRequest),
+    Linear(LinearRequest),
 }
 
 /// Why words give no request.

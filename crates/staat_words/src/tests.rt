@@ -15,7 +15,7 @@ fn asked(alloc: Global, words: &[&str]) -> Result<Result<Request, RequestRefusal
 #[test]
 fn words_are_taken_or_a_usage_fault(rt: HostRuntime) -> Result<(), Fail> {
     let alloc = rt.alloc();
-    let table: [(&[&str], bool); 83] = [
+    let table: [(&[&str], bool); 87] = [
         (&["pair", "a", "b", "--along=0,0,1", "--wall=1,0,0"], true),
         (&["pair", "--wall=1,0,0", "a", "b", "--along=0,0,1"], true),
         (
@@ -154,6 +154,10 @@ fn words_are_taken_or_a_usage_fault(rt: HostRuntime) -> Result<(), Fail> {
         (&["explode", "a", "--planes=1025"], false),
         (&["explode", "a", "--off=true"], false),
         (&["explode", "a", "--robust"], false),
+        (&["linear", "a", "--planes=1024"], true),
+        (&["linear", "--manifest=m", "--planes=3"], true),
+        (&["linear", "a", "--planes=2"], false),
+        (&["linear", "a", "--robust"], false),
         (&["help"], false),
         (&[], false),
     ];
@@ -239,6 +243,11 @@ fn shown(alloc: Global, request: &Request) -> Result<String, AllocError> {
             let asked = source(alloc, &request.asked)?;
             format!(in alloc; "{asked}, {planes} planes{drawn}")
         }
+        Request::Linear(request) => {
+            let planes = request.planes;
+            let asked = source(alloc, &request.asked)?;
+            format!(in alloc; "{asked}, {planes} planes")
+        }
         Request::Cells(request) => {
             let planes = request.planes;
             let asked = source(alloc, &request.asked)?;
@@ -250,7 +259,7 @@ fn shown(alloc: Global, request: &Request) -> Result<String, AllocError> {
 #[test]
 fn a_request_has_the_values_of_its_words(rt: HostRuntime) -> Result<(), Fail> {
     let alloc = rt.alloc();
-    let table: [(&[&str], &str); 18] = [
+    let table: [(&[&str], &str); 19] = [
         (&["check", "c", "--digits=3", "a", "b"], "3: 2 files by c"),
         (
             &[
@@ -293,6 +302,10 @@ fn a_request_has_the_values_of_its_words(rt: HostRuntime) -> Result<(), Fail> {
             "0: 2 files, 1024 planes, as a drawing",
         ),
         (&["explode", "--planes=7", "a"], "0: 1 files, 7 planes"),
+        (
+            &["linear", "--planes=7", "a", "--digits=1"],
+            "1: 1 files, 7 planes",
+        ),
         (&["drill", "row", "3"], "3 cubes"),
         (&["drill", "box", "4"], "4 boxes"),
         (
