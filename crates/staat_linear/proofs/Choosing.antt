@@ -1,28 +1,25 @@
 -- The chosen order: its steps, and that it is good or names a set that is locked.
-use Rattle.std.proofs.Common.{◌≡◌, ◌⊎◌, inl, inr, ⊎_elim, ℕ, ◌+◌, ◌<◌, ◌≤◌, arith, refl, sym, subst, ap, ◌∙◌, List, [], ◌∷◌, ◌++◌, All, Contains}
-use Rattle.std.specs.Prelude.{MatchOption, None, Option, Some}
+use Rattle.std.proofs.Common.{◌≡◌, ℕ, ◌<◌, ◌≤◌, refl, sym, subst, ap, ◌∙◌, List, [], ◌∷◌, ◌++◌}
 use Rattle.std.proofs.lemmas.List.Elements.{All-contains}
 use Rattle.std.specs.FinSet as set
 use Rattle.staat_vec.specs.declared.vector.V3.{V3}
-use Rattle.staat_vec.proofs.Unique.{IsFirst-in}
 use Rattle.staat_model.specs.declared.assembly.Part.{Part}
 use Rattle.staat_model.specs.declared.set.PartSet.{PartSet}
 use Rattle.staat_model.specs.Assemblies.{IsAssembly}
 use Rattle.staat_model.specs.Planes.{ArePlanes, vertices}
-use Rattle.staat_model.specs.Sets.{Has, IsNonempty, IsSubset, single}
+use Rattle.staat_model.specs.Sets.{Has, IsSubset, single}
 use Rattle.staat_model.proofs.RestrictLemmas.{rest_apart, rest_within}
 use Rattle.staat_model.proofs.SetMembers.{has-difference, has-single}
-use Rattle.staat_model.proofs.SetSizes.{many, one_is, one_within}
-use Rattle.staat_model.proofs.SomePlanes.{some_planes}
+use Rattle.staat_model.proofs.SetSizes.{one_is, one_within}
 use Rattle.staat_model.proofs.VertexLemmas.{vertices_decide_lemma}
-use Rattle.staat_graph.proofs.Finite.{len_fewer, len_some}
+use Rattle.staat_graph.proofs.Finite.{len_fewer}
 use Rattle.staat_planes.specs.declared.search.Served.{Served}
-use Rattle.staat_planes.specs.VertexSearch.{AreSearched, IsFirstServed}
+use Rattle.staat_planes.specs.VertexSearch.{IsFirstServed}
 use Rattle.staat_linear.specs.declared.order.Leave.{Leave}
 use Rattle.staat_linear.specs.declared.order.Order.{Order}
 use Rattle.staat_linear.specs.declared.order.Order.TheVariants.{Whole, Locked}
 use Rattle.staat_linear.specs.Holding.{IsLeastLeaving}
-use Rattle.staat_linear.specs.Orders.{AreFreeInTurn, HasNoLeave, IsChosen, IsGoodOrder, IsLeave, IsLocked, IsOrder, LeavesAlong, LetsLeave, SettlesOrder, no_leave, one_part, then_locked, then_whole, all_but}
+use Rattle.staat_linear.specs.Orders.{HasNoLeave, IsChosen, IsLeave, IsLocked, LetsLeave, SettlesOrder, no_leave, one_part, then_locked, then_whole, all_but}
 
 -- ---- one step
 

@@ -1,6 +1,5 @@
 -- A part is free of the others of a set along a direction exactly where nothing holds it.
-use Rattle.std.proofs.Common.{◌≡◌, ◌≢◌, ◌⊎◌, inl, inr, ⊎_elim, ℕ, ◌<◌, ◌≤◌, arith, sym, subst, ap, ◌∙◌, List}
-use Rattle.std.specs.FinSet as set
+use Rattle.std.proofs.Common.{◌≡◌, ◌≢◌, ◌⊎◌, ⊎_elim, ℕ, ◌<◌, ◌≤◌, arith, sym, subst, ap, ◌∙◌, List}
 use Rattle.staat_vec.specs.declared.vector.V3.{V3}
 use Rattle.staat_vec.specs.Vectors.{negative, origin}
 use Rattle.staat_model.specs.declared.assembly.Part.{Part}
@@ -11,7 +10,6 @@ use Rattle.staat_model.specs.Sets.{Has, IsSubset, single}
 use Rattle.staat_model.proofs.SetMembers.{has-difference, has-single}
 use Rattle.staat_vec.proofs.Canons.{negative-negative}
 use Rattle.staat_pairs.specs.Tables.{Table, WasMadeFrom}
-use Rattle.staat_planes.specs.Tables.{BlocksIn}
 use Rattle.staat_planes.specs.declared.search.Tried.{Tried}
 use Rattle.staat_planes.specs.declared.search.Tried.TheVariants.{Neither, Ahead, Opposite}
 use Rattle.staat_planes.specs.VertexSearch.{IsTried, IsTriedAmong}

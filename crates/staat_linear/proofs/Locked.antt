@@ -1,5 +1,5 @@
 -- A set that is locked rules out every order of a set that holds it.
-use Rattle.std.proofs.Common.{◌≡◌, ◌≤◌, ◌⊎◌, ℕ, List, [], ◌∷◌, arith, subst, inl, inr}
+use Rattle.std.proofs.Common.{◌≡◌, ◌≤◌, ℕ, List, [], ◌∷◌, arith, subst, inl, inr}
 use Rattle.std.specs.FinSet as set
 use Rattle.staat_model.specs.declared.assembly.Part.{Part}
 use Rattle.staat_model.specs.declared.set.PartSet.{PartSet}
@@ -9,7 +9,7 @@ use Rattle.staat_model.proofs.SetMembers.{has-difference, has-single}
 use Rattle.staat_model.proofs.SetSizes.{len-single}
 use Rattle.staat_graph.proofs.Finite.{len_subset}
 use Rattle.staat_linear.specs.declared.order.Leave.{Leave}
-use Rattle.staat_linear.specs.Orders.{AreFreeInTurn, IsGoodOrder, IsLocked, IsOrder, all_but}
+use Rattle.staat_linear.specs.Orders.{AreFreeInTurn, IsLocked, IsOrder, all_but}
 
 -- a member other than p
 pub has-without : (w : PartSet) (p q : ℕ) → Has w q → (q ≡ p → ⊥) → Has (all_but w p) q

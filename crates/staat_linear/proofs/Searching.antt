@@ -14,13 +14,13 @@ use Rattle.staat_model.specs.declared.certificate.Arc.{Arc}
 use Rattle.staat_model.specs.declared.set.PartSet.{PartSet}
 use Rattle.staat_model.specs.Sets.{Has, IsNonempty, single}
 use Rattle.staat_model.proofs.RestrictLemmas.{nonempty_or}
-use Rattle.staat_model.proofs.SetMembers.{has-difference, has-single}
+use Rattle.staat_model.proofs.SetMembers.{has-difference}
 use Rattle.staat_model.proofs.SetSizes.{len-single}
 use Rattle.staat_graph.proofs.Finite.{len_subset}
 use Rattle.staat_model.proofs.FreeSides.{member_or}
 use Rattle.staat_pairs.specs.Searches.{arc_of}
 use Rattle.staat_pairs.specs.Tables.{Table, facets_of, pieces_of}
-use Rattle.staat_linear.specs.Holding.{AreHeld, AreOutward, HoldsBack, IsArcAhead, IsHeld, IsLeastFree, IsOutward}
+use Rattle.staat_linear.specs.Holding.{AreOutward, HoldsBack, IsArcAhead, IsHeld, IsOutward}
 use Rattle.staat_linear.specs.Orders.{all_but}
 
 last_or : (m k : ℕ) → m < k + 1 → (m < k) ⊎ (m ≡ k)

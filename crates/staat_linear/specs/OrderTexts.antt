@@ -1,6 +1,5 @@
 -- The text of an order, or of a set that is locked.
-use Rattle.std.specs.Prelude.{ℕ, List, [], ◌∷◌, ◌++◌, pos, map, codes, decimal, flat_map}
-use Rattle.staat_vec.specs.declared.vector.V3.{V3}
+use Rattle.std.specs.Prelude.{ℕ, List, ◌++◌, pos, map, codes, decimal, flat_map}
 use Rattle.staat_model.specs.declared.set.PartSet.{PartSet}
 use Rattle.staat_model.specs.Lines.{members, spaced, vector_numbers}
 use Rattle.staat_linear.specs.declared.order.Leave.{Leave}

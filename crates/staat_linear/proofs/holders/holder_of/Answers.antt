@@ -1,4 +1,4 @@
-use Rattle.std.proofs.Common.{◌<◌, arith}
+use Rattle.std.proofs.Common.{arith}
 use Rattle.staat_linear.proofs.Searching.{not_held, part_more}
 use Rattle.staat_linear.proofs.holders.holder_of.Goals as goal
 
