@@ -1,2 +1,4 @@
 pub mod Weights
 pub mod Contacts
+pub mod Points
+pub mod ByFacets

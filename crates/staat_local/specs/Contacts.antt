@@ -1,6 +1,7 @@
 -- Pieces that touch, and pieces of which one collides with the other as soon as it moves.
-use Rattle.std.specs.Prelude.{◌≡◌, ℕ, ◌*◌, ◌≤◌, List, length, sum}
+use Rattle.std.specs.Prelude.{◌≡◌, ℕ, ◌*◌, ◌≤◌, List, [], ◌∷◌, length, sum}
 use Rattle.staat_vec.specs.declared.vector.V3.{V3}
+use Rattle.staat_vec.specs.Vectors.{origin, plus}
 use Rattle.staat_model.specs.Meeting.{MeetsAt, mix}
 
 -- p and q have a point in common, be it inside or on the border: a weighted mean of the points of p, with weights of at
@@ -23,3 +24,8 @@ pub record MeetsWithin (p q : List V3) (d : V3) (k : ℕ) : Type 0 where
 -- it does so at arbitrarily small times: as soon as p begins to move
 abbrev pub Starts : List V3 → List V3 → V3 → Type 0
 Starts p q d = (k : ℕ) → 1 ≤ k → MeetsWithin p q d k
+
+-- the sum of vectors
+abbrev pub total : List V3 → V3
+total [] = origin
+total (v ∷ vs) = plus v (total vs)
