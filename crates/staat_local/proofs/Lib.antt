@@ -2,3 +2,4 @@ pub mod Weights
 pub mod Contacts
 pub mod Points
 pub mod ByFacets
+pub mod Marks

@@ -121,7 +121,10 @@ impl PlaneTable {
         requires { IsTableArc self.now arc }
         ensures is { result ≡ slot self.now.pieces arc }
         ensures small { result < SLOTS }
+        ensures table { IsTable self.now }
     {
+        // the table keeps its rules
+        let _set = self.set();
         self.table.slot(arc)
     }
 }
