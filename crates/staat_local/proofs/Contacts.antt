@@ -283,7 +283,7 @@ soon_weights p q d k c met =
     great n zero r one = absurd (omega arith)
     great n (suc s) r one = omega arith
 
-meets_of_start : (p q : List V3) (d : V3) → Starts p q d → Meets p q d
+pub meets_of_start : (p q : List V3) (d : V3) → Starts p q d → Meets p q d
 meets_of_start p q d starts = let first = starts 1 (omega arith) in record { t = first.t; meeting = first.meeting }
 
 pub starts_by_contact_lemma : (p q : List V3) (d : V3) → IsPiece p → IsPiece q → Starts p q d ↔ (Contact p q × Meets p q d)

@@ -3,3 +3,4 @@ pub mod Contacts
 pub mod Points
 pub mod ByFacets
 pub mod Marks
+pub mod Holding

@@ -1,2 +1,3 @@
 pub mod Contacts
 pub mod Touching
+pub mod Beginnings

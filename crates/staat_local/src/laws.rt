@@ -1,8 +1,12 @@
 //! Laws on moves that begin. Each is a function that does nothing, and its contract is the law.
 ghost use Rattle.std.specs.Prelude.{◌↔◌, List};
 ghost use Rattle.staat_vec.specs.declared.vector.V3.{V3 as Vector};
+ghost use Rattle.staat_model.specs.declared.assembly.Part.{Part as PartValue};
+ghost use Rattle.staat_model.specs.declared.set.PartSet.{PartSet as PartSetValue};
 ghost use Rattle.staat_model.specs.Meeting.{Meets};
 ghost use Rattle.staat_model.specs.Pieces.{IsPiece};
+ghost use Rattle.staat_model.specs.Plans.{IsStuck};
+ghost use Rattle.staat_local.specs.Beginnings.{IsTight};
 ghost use Rattle.staat_local.specs.Contacts.{Contact, Starts};
 
 /// A piece collides with another as soon as it moves along a direction exactly where the two touch and the first, on
@@ -10,4 +14,9 @@ ghost use Rattle.staat_local.specs.Contacts.{Contact, Starts};
 pub fn starts_by_contact()
     ensures { (p q : List Vector) (d : Vector) → IsPiece p → IsPiece q
         → Starts p q d ↔ (Contact p q × Meets p q d) }
+{}
+
+/// A set of which no side begins to move away from the rest is stuck.
+pub fn tight_is_stuck()
+    ensures { (parts : List PartValue) (w : PartSetValue) → IsTight parts w → IsStuck parts w }
 {}

@@ -1,6 +1,12 @@
 //! Moves that begin: the pieces that touch, and the sides of a set of parts that they do not hold.
 #![tactic(auto)]
 
+mod graph;
 pub mod laws;
-mod touch;
+mod pieces;
+mod side;
 mod touching;
+
+pub use graph::local_graph;
+pub use pieces::touch;
+pub use side::Loose;

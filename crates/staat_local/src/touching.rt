@@ -5,7 +5,7 @@ ghost use Rattle.staat_pairs.specs.Tables.{IsTableArc, WasMadeFrom, pieces_of};
 ghost use Rattle.staat_local.specs.Touching.{AreMarks, IsBetween, IsFromPiece, IsMarked, IsToGreater, IsUpward};
 ghost use Rattle.staat_local.specs.Touching.{MarksTouching};
 
-use crate::touch::touch;
+use crate::pieces::touch;
 use staat_model::{Arc, MOST_PARTS, Sound};
 use staat_pairs::back;
 use staat_planes::PlaneTable;

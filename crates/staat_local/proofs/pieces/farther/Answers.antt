@@ -1,6 +1,6 @@
 use Rattle.std.proofs.Common.{sym, true≢false}
 use Rattle.staat_local.proofs.Points.{itself, other_way}
-use Rattle.staat_local.proofs.touch.farther.Goals as goal
+use Rattle.staat_local.proofs.pieces.farther.Goals as goal
 
 pub returns-then-is_no_farther-clause-first : goal.returns-then-is_no_farther-clause-first
 returns-then-is_no_farther-clause-first c = itself c.args.n c.args.a

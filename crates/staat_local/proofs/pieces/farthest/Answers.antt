@@ -1,5 +1,5 @@
 use Rattle.staat_local.proofs.Points.{farthest_more, member_more}
-use Rattle.staat_local.proofs.touch.farthest.Goals as goal
+use Rattle.staat_local.proofs.pieces.farthest.Goals as goal
 
 pub loop-p-preserved : goal.loop-p-preserved
 loop-p-preserved c = record {

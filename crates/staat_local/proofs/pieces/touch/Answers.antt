@@ -3,7 +3,7 @@ use Rattle.std.specs.Prelude.{Some}
 use Rattle.staat_model.specs.Assemblies.{piece_at}
 use Rattle.staat_pairs.specs.Tables.{facets_of}
 use Rattle.staat_local.proofs.ByFacets.{touching_is}
-use Rattle.staat_local.proofs.touch.touch.Goals as goal
+use Rattle.staat_local.proofs.pieces.touch.Goals as goal
 
 pub returns : goal.returns
 returns c =

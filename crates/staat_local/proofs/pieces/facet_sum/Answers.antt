@@ -2,7 +2,7 @@ use Rattle.std.proofs.Common.{ap, ◌∙◌, sym}
 use Rattle.staat_vec.specs.Vectors.{plus}
 use Rattle.staat_pairs.specs.Tables.{facets_of}
 use Rattle.staat_local.proofs.Points.{sum_within, total_more}
-use Rattle.staat_local.proofs.touch.facet_sum.Goals as goal
+use Rattle.staat_local.proofs.pieces.facet_sum.Goals as goal
 
 pub loop-m-preserved : goal.loop-m-preserved
 loop-m-preserved c = record {

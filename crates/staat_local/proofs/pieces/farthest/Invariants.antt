@@ -1,7 +1,7 @@
 use Rattle.std.proofs.Common.{ℕ, ◌<◌, Contains, get_or}
 use Rattle.staat_vec.specs.declared.vector.V3.{V3}
 use Rattle.staat_local.specs.Touching.{IsNoFarther}
-use Rattle.staat_local.proofs.touch.farthest.Given as goal
+use Rattle.staat_local.proofs.pieces.farthest.Given as goal
 
 abbrev pub invariant-loop-p : goal.invariant-loop-p
 invariant-loop-p l = record {
