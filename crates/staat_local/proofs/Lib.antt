@@ -4,3 +4,4 @@ pub mod Points
 pub mod ByFacets
 pub mod Marks
 pub mod Holding
+pub mod Beginning

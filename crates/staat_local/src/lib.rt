@@ -5,8 +5,10 @@ mod graph;
 pub mod laws;
 mod pieces;
 mod side;
+mod step;
 mod touching;
 
 pub use graph::local_graph;
 pub use pieces::touch;
 pub use side::Loose;
+pub use step::local_step;
