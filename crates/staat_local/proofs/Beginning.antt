@@ -1,5 +1,5 @@
 -- The first vertex along which some side begins to move, and that none does where the set is tight.
-use Rattle.std.proofs.Common.{◌≡◌, ◌≢◌, ◌↔◌, ◌≤◌, ℕ, refl, sym, subst, Bool, List, [], ◌∷◌, All, Contains}
+use Rattle.std.proofs.Common.{◌≡◌, ◌≢◌, ◌↔◌, ◌<◌, ◌≤◌, inl, inr, Option, None, Some, arith, ap, ℕ, refl, sym, subst, Bool, List, [], ◌∷◌, All, Contains}
 use Rattle.std.specs.FinSet as set
 use Rattle.std.proofs.lemmas.List.Elements.{All-contains}
 use Rattle.staat_vec.specs.declared.vector.V3.{V3}
@@ -16,7 +16,7 @@ use Rattle.staat_graph.specs.Graphs.{HasArc, IsFirstSink, IsStrong}
 use Rattle.staat_graph.proofs.Sides.{moved_of_first, serves_of_weak, weak_of_serves}
 use Rattle.staat_pairs.specs.Tables.{Table, WasMadeFrom}
 use Rattle.staat_local.specs.declared.side.Loose.{Loose}
-use Rattle.staat_local.specs.Beginnings.{HoldsBetween, IsBeginning, IsTight, Loosens}
+use Rattle.staat_local.specs.Beginnings.{HoldsBetween, IsBeginning, IsFoundIn, IsTight, Loosens}
 use Rattle.staat_local.specs.Contacts.{Starts}
 use Rattle.staat_local.specs.Touching.{AreMarks}
 use Rattle.staat_local.proofs.Holding.{loosens_turned, shows_starts, tight_at_vertices}
@@ -51,3 +51,12 @@ one_beginning_lemma parts w x y a b =
     let d : x.d ≡ y.d = IsFirst-unique (Loosens parts w) (vertices b.planes) x.d y.d (subst (λ ps. IsFirst (Loosens parts w) (vertices ps) x.d) planes a.first) b.first in
     let side : x.side ≡ y.side = IsMovedSide-unique parts w y.d x.side y.side (subst (λ v. IsMovedSideBy Starts parts w v x.side) d a.moved) b.moved in
     λ i. record { side = side i; d = d i }
+
+-- one thing is found of a set
+pub one_found_lemma : (parts : List Part) (w : PartSet) (x y : Option Loose) → IsFoundIn parts w x → IsFoundIn parts w y → x ≡ y
+one_found_lemma parts w (Some x) (Some y) a b = ap (λ l. Some l) (one_beginning_lemma parts w x y a.1 b.1)
+one_found_lemma parts w (Some x) None (two, a) (inl few) = absurd (omega (arith, two, few))
+one_found_lemma parts w (Some x) None (two, a) (inr tight) = absurd (none_loosens parts w x a tight)
+one_found_lemma parts w None (Some y) (inl few) (two, b) = absurd (omega (arith, two, few))
+one_found_lemma parts w None (Some y) (inr tight) (two, b) = absurd (none_loosens parts w y b tight)
+one_found_lemma parts w None None a b = refl

@@ -135,7 +135,7 @@ touching_is parts facets p q arc n far near is h p_is q_is sum far_in most test 
       let contact : Contact p q = subst (λ x. Contact x q) (same_piece (piece_at parts arc.a arc.i) touch.p p touch.p_is p_is) (subst (λ y. Contact touch.p y) (same_piece (piece_at parts arc.b arc.j) touch.q q touch.q_is q_is) touch.holds) in
       ⊎_elim {C = IsTrue near} (λ t. t)
       (λ off. absurd (no_contact_where_far p q facets piece_p piece_q are n far most
-          (λ b b_in close. off (test.1 (b_in.0, b, b_in.1, b_in.2, close))) contact))
+      (λ b b_in close. off (test.1 (b_in.0, b, b_in.1, b_in.2, close))) contact))
       (true_or near),
 )
   where

@@ -191,8 +191,12 @@ farthest x v [] = (v, here v [], All-cons (λ u. dot u x ≤ℤ dot v x) v [] (i
 farthest x v (u ∷ us) =
     let (m, m_in, most) = farthest x u us in
     by_lt_z {P = (m : V3) × Contains (v ∷ u ∷ us) m × All (λ w. dot w x ≤ℤ dot m x) (v ∷ u ∷ us)} (dot m x) (dot v x)
-    (λ less. (v, here v (u ∷ us), All-cons (λ w. dot w x ≤ℤ dot v x) v (u ∷ us) (itself (dot v x))
-        (All-weaker (λ w. dot w x ≤ℤ dot m x) (λ w. dot w x ≤ℤ dot v x) (λ w h. below (dot w x) (dot m x) (dot v x) h less) (u ∷ us) most)))
+    (λ less. (
+      v,
+      here v (u ∷ us),
+      All-cons (λ w. dot w x ≤ℤ dot v x) v (u ∷ us) (itself (dot v x))
+          (All-weaker (λ w. dot w x ≤ℤ dot m x) (λ w. dot w x ≤ℤ dot v x) (λ w h. below (dot w x) (dot m x) (dot v x) h less) (u ∷ us) most),
+    ))
     (λ more. (m, there v m (u ∷ us) m_in, All-cons (λ w. dot w x ≤ℤ dot m x) v (u ∷ us) more most))
   where
     itself : (a : ℤ) → a ≤ℤ a

@@ -182,8 +182,10 @@ module _ (parts : List Part) (w : PartSet) (planes : List V3) (is : IsAssembly p
     moves = some;
     clear = λ arc a_in b_in starts.
         let both = (starts_at parts v arc is).0 starts in
-        free.clear arc a_in b_in ((starts_at parts d arc is).1 (both.0,
-        arc_from_border parts w planes d v arc is are border (s_in arc.a a_in) (r_in arc.b b_in) (λ e. apart arc.a a_in (subst (Has r) (sym e) b_in)) both.1));
+        free.clear arc a_in b_in ((starts_at parts d arc is).1 (
+          both.0,
+          arc_from_border parts w planes d v arc is are border (s_in arc.a a_in) (r_in arc.b b_in) (λ e. apart arc.a a_in (subst (Has r) (sym e) b_in)) both.1,
+        ));
   }
 
   pub tight_at_vertices : 2 ≤ set.len w → ((v : V3) → Contains (vertices planes) v → Loosens parts w v → ⊥) → IsTight parts w

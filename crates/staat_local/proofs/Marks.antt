@@ -66,9 +66,9 @@ module _ (parts : List Part) (t : Table) (is : IsTable t) where
     (λ h. ⊎_elim {C = IsMarked new (slot t.pieces x)}
         (λ o. (second (slot t.pieces x)).1 (inl ((first (slot t.pieces x)).1 (inl o))))
         (λ r. ⊎_elim {C = IsMarked new (slot t.pieces x)}
-            (λ e. (second (slot t.pieces x)).1 (inl ((first (slot t.pieces x)).1 (inr (ap (slot t.pieces) e)))))
-            (λ e. (second (slot t.pieces x)).1 (inr (ap (λ y. slot t.pieces (back y)) e)))
-            r.0)
+        (λ e. (second (slot t.pieces x)).1 (inl ((first (slot t.pieces x)).1 (inr (ap (slot t.pieces) e)))))
+        (λ e. (second (slot t.pieces x)).1 (inr (ap (λ y. slot t.pieces (back y)) e)))
+        r.0)
         h),
   )
     where
@@ -105,9 +105,9 @@ marked_both parts t R S T old mid new first second split left right x at = (
   (λ h. ⊎_elim {C = IsMarked new (slot t.pieces x)}
       (λ o. (second x at).1 (inl ((first x at).1 (inl o))))
       (λ r. ⊎_elim {C = IsMarked new (slot t.pieces x)}
-          (λ here. ⊎_elim {C = IsMarked new (slot t.pieces x)} (λ a. (second x at).1 (inl ((first x at).1 (inr (inl a, r.1))))) (λ b. (second x at).1 (inr (inl b, r.1))) (split x at here))
-          (λ there. ⊎_elim {C = IsMarked new (slot t.pieces x)} (λ a. (second x at).1 (inl ((first x at).1 (inr (inr a, r.1))))) (λ b. (second x at).1 (inr (inr b, r.1))) (split (back x) (back_across t x at) there))
-          r.0)
+      (λ here. ⊎_elim {C = IsMarked new (slot t.pieces x)} (λ a. (second x at).1 (inl ((first x at).1 (inr (inl a, r.1))))) (λ b. (second x at).1 (inr (inl b, r.1))) (split x at here))
+      (λ there. ⊎_elim {C = IsMarked new (slot t.pieces x)} (λ a. (second x at).1 (inl ((first x at).1 (inr (inr a, r.1))))) (λ b. (second x at).1 (inr (inr b, r.1))) (split (back x) (back_across t x at) there))
+      r.0)
       h),
 )
   where
@@ -125,10 +125,13 @@ below_or j n lt = grind arith
 pub all_marked : (parts : List Part) (t : Table) (n : ℕ) (start marks : List Bool) → IsTable t → 32 ≤ n → ((s : ℕ) → IsMarked start s → ⊥) → MarksTouching parts t (IsUpward n) start marks → AreMarks parts t marks
 all_marked parts t n start marks is most none all x at = (
   (λ h. ⊎_elim {C = HoldsAt parts x Contact} (λ o. absurd (none (slot t.pieces x) o)) (λ r. r.1) ((all x at).0 h)),
-  (λ touch. (all x at).1 (inr (⊎_elim {C = IsUpward n x ⊎ IsUpward n (back x)}
-      (λ lt. inl (record { order = lt; below = small x.a at.a_in }))
-      (λ gt. inr (record { order = gt; below = small x.b at.b_in }))
-      (ways x.a x.b at.different), touch))),
+  (λ touch. (all x at).1 (inr (
+    ⊎_elim {C = IsUpward n x ⊎ IsUpward n (back x)}
+        (λ lt. inl (record { order = lt; below = small x.a at.a_in }))
+        (λ gt. inr (record { order = gt; below = small x.b at.b_in }))
+        (ways x.a x.b at.different),
+    touch,
+  ))),
 )
   where
     small : (a : ℕ) → Has t.of a → a < n

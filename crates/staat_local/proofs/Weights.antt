@@ -106,7 +106,12 @@ leads_one p q n v d =
     let (a, a_each, a_sum, a_is) = one_of n p d.a d.a_in in
     let (b, b_each, b_sum, b_is) = one_of n q d.b d.b_in in
     record {
-      a = a; b = b; a_each = a_each; b_each = b_each; a_sum = a_sum; b_sum = b_sum;
+      a = a;
+      b = b;
+      a_each = a_each;
+      b_each = b_each;
+      a_sum = a_sum;
+      b_sum = b_sum;
       leads = (λ i. plus (a_is i) (times n (d.is i))) ∙ there_and_on d.a d.a d.b n ∙ sym b_is;
     }
 

@@ -1,5 +1,6 @@
 -- Moves that begin: the sides of a set of parts that no contact holds, and the one that is chosen.
-use Rattle.std.specs.Prelude.{◌≡◌, ℕ, pos, ◌<ℤ◌, List, Bool, All}
+use Rattle.std.specs.Prelude.{◌≡◌, ◌⊎◌, ◌<◌, ◌≤◌, ℕ, pos, ◌<ℤ◌, List, Bool, All, Option, None, Some}
+use Rattle.std.specs.FinSet as set
 use Rattle.staat_vec.specs.declared.vector.V3.{V3}
 use Rattle.staat_vec.specs.Lists.{IsFirst}
 use Rattle.staat_vec.specs.Vectors.{dot}
@@ -40,6 +41,11 @@ pub record IsBeginning (parts : List Part) (w : PartSet) (loose : Loose) : Type 
   pub planes_are : ArePlanes parts w planes
   pub first : IsFirst (Loosens parts w) (vertices planes) loose.d
   pub moved : IsMovedSideBy Starts parts w loose.d loose.side
+
+-- what is found of a set: its chosen beginning, or none where the set is tight or a part alone
+abbrev pub IsFoundIn : List Part → PartSet → Option Loose → Type 0
+IsFoundIn parts w (Some loose) = (2 ≤ set.len w) × IsBeginning parts w loose
+IsFoundIn parts w None = (set.len w < 2) ⊎ IsTight parts w
 
 -- ---- in a table whose touching pairs are marked
 

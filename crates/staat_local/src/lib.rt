@@ -6,9 +6,14 @@ pub mod laws;
 mod pieces;
 mod side;
 mod step;
+mod texts;
 mod touching;
 
 pub use graph::local_graph;
 pub use pieces::touch;
 pub use side::Loose;
 pub use step::local_step;
+pub use texts::local_text;
+
+#[cfg(test)]
+mod tests;
