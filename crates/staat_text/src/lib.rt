@@ -14,7 +14,7 @@ pub use cells::cells_text;
 pub use drills::drill_text;
 pub use graphs::graph_text;
 pub use parts::{look_text, parts_text};
-pub use plans::plan_text;
+pub use plans::{direction_text, parts_listed, plan_text};
 pub use verdicts::verdict_text;
 
 #[cfg(test)]

@@ -18,9 +18,9 @@ fn number_text(alloc: Global, p: u32) -> Result<String, AllocError>
     format!(in alloc; " {p}")
 }
 
-// The parts of a set, each after a space.
+/// The parts of a set, ascending, each after a space.
 #[tactic(auto, unfolding(staat_model::specs::Lines::members))]
-fn parts_listed(alloc: Global, w: PartSet) -> Result<Vec<u8>, AllocError>
+pub fn parts_listed(alloc: Global, w: PartSet) -> Result<Vec<u8>, AllocError>
     ensures { IfOk result (λ text. text.items ≡ parts_listed w) }
 {
     let mut text = Vec::new(alloc);
@@ -33,8 +33,8 @@ fn parts_listed(alloc: Global, w: PartSet) -> Result<Vec<u8>, AllocError>
     Ok(text)
 }
 
-// The direction between the two sides.
-fn direction_text(alloc: Global, d: V3) -> Result<String, AllocError>
+/// The words ` along X Y Z away from`, which stand between two sides.
+pub fn direction_text(alloc: Global, d: V3) -> Result<String, AllocError>
     ensures { IfOk result (λ s. string_bytes s ≡ direction_text d) }
 {
     let V3 { x, y, z } = d;

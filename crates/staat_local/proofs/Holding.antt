@@ -1,0 +1,204 @@
+-- The graph of the parts that hold each other back, and the sides that begin to move.
+use Rattle.std.proofs.Common.{◌≡◌, ◌≢◌, ◌↔◌, ◌⊎◌, inl, inr, ⊎_elim, ℕ, ◌+◌, ◌<◌, ◌≤◌, refl, sym, ap, subst, ◌∙◌, arith, pos, ◌<ℤ◌, Bool, List, get_or, length, All, Contains}
+use Rattle.std.specs.Prelude.{Option, Some, slice_set}
+use Rattle.std.specs.FinSet as set
+use Rattle.std.specs.Int.{bit_at}
+use Rattle.std.proofs.lemmas.List.{get_or_past}
+use Rattle.std.proofs.lemmas.Nat.Bits.{bit_at-zero}
+use Rattle.staat_vec.specs.declared.vector.V3.{V3}
+use Rattle.staat_vec.specs.Vectors.{dot, negative, origin}
+use Rattle.staat_model.specs.declared.assembly.Part.{Part}
+use Rattle.staat_model.specs.declared.certificate.Arc.{Arc}
+use Rattle.staat_model.specs.declared.set.PartSet.{PartSet}
+use Rattle.staat_model.specs.Assemblies.{HoldsAt, IsAssembly, piece_at}
+use Rattle.staat_model.specs.Cells.{IsBorder, signs_of}
+use Rattle.staat_model.specs.Meeting.{Meets}
+use Rattle.staat_model.specs.Planes.{ArePlanes, vertices}
+use Rattle.staat_model.specs.Plans.{IsStuck}
+use Rattle.staat_model.specs.Removal.{HoldsAlong, MeetsAlong}
+use Rattle.staat_model.specs.Sets.{AreApart, Has, IsNonempty, IsSide, IsSubset}
+use Rattle.staat_model.proofs.FreeSides.{member_or}
+use Rattle.staat_model.proofs.GraphLemmas.{arc_from_border, piece_is}
+use Rattle.staat_model.proofs.PlanLemmas.{there_is}
+use Rattle.staat_model.proofs.RestrictLemmas.{rest_apart, rest_within}
+use Rattle.staat_model.proofs.Reversed.{meets_opposite_lemma}
+use Rattle.staat_model.proofs.SetMembers.{has-difference}
+use Rattle.staat_model.proofs.SetWords.{same_members}
+use Rattle.staat_model.proofs.VertexLemmas.{holds_axes, vertex_on_border_lemma}
+use Rattle.staat_graph.specs.Blocking.{ShowsBlockingBy}
+use Rattle.staat_graph.specs.Graphs.{HasArc}
+use Rattle.staat_graph.proofs.Arcs.{row_set}
+use Rattle.staat_graph.proofs.Finite.{nonempty_or}
+use Rattle.staat_pairs.specs.Searches.{arc_of}
+use Rattle.staat_pairs.specs.Tables.{IsTableArc, Table, WasMadeFrom, back}
+use Rattle.staat_planes.proofs.GraphLaw.{meets_at}
+use Rattle.staat_local.specs.Beginnings.{HoldsBack, HoldsBetween, IsLoose, IsTight, Loosens}
+use Rattle.staat_local.specs.Contacts.{Contact, Starts}
+use Rattle.staat_local.specs.Touching.{AreMarks}
+use Rattle.staat_local.proofs.Contacts.{meets_of_start, starts_by_contact_lemma}
+use Rattle.staat_local.proofs.Marks.{contact_back}
+
+-- ---- rows of a graph
+
+module _ (R : ℕ → ℕ → Type 0) (rows : List ℕ) (n : ℕ) where
+  -- one more row
+  pub row_more : (word : ℕ) (held : PartSet) → length rows ≡ 32 → n < 32 → ((a b : ℕ) → a < n → HasArc rows a b ↔ R a b) → ((b : ℕ) → Has held b ↔ R n b) → ((b : ℕ) → Has held b ↔ (bit_at word b ≡ 1))
+      → (a b : ℕ) → a < n + 1 → HasArc (slice_set rows n word) a b ↔ R a b
+  row_more word held long lt before now bits a b below =
+      row_set rows n a word R (omega arith)
+      (λ q. (λ h. (now q).0 ((bits q).1 h), λ h. (bits q).0 ((now q).1 h)))
+      (λ q ne. before a q (omega arith)) b
+
+  below_or_past : (a : ℕ) → (a < 32) ⊎ (32 ≤ a)
+  below_or_past a = grind arith
+
+  no_row : (a b : ℕ) → length rows ≤ a → HasArc rows a b → ⊥
+  no_row a b past h =
+      let e : bit_at (get_or rows a 0) b ≡ 0 = ap (λ r. bit_at r b) (get_or_past rows a 0 past) ∙ bit_at-zero b in
+      absurd (omega arith)
+
+  -- all rows: what stands in none of them does not hold
+  pub whole_rows : length rows ≡ 32 → 32 ≤ n → ((a b : ℕ) → R a b → a < 32) → ((a b : ℕ) → a < n → HasArc rows a b ↔ R a b) → (a b : ℕ) → HasArc rows a b ↔ R a b
+  whole_rows long all small each a b = ⊎_elim {C = HasArc rows a b ↔ R a b}
+      (λ lt. each a b (omega arith))
+      (λ past. (λ h. absurd (no_row a b (omega (arith, past, long)) h), λ r. absurd (let lt : a < 32 = small a b r in omega arith)))
+      (below_or_past a)
+
+-- ---- what the marked graph says of an assembly
+
+same_piece : (o : Option (List V3)) (p q : List V3) → o ≡ Some p → o ≡ Some q → p ≡ q
+same_piece o p q e f = cc
+
+-- the pieces of an arc collide at once where they touch and meet
+pub starts_at : (parts : List Part) (d : V3) (arc : Arc) → IsAssembly parts → HoldsAlong Starts parts d arc ↔ (HoldsAt parts arc Contact × MeetsAlong parts d arc)
+starts_at parts d arc is = (
+  (λ h.
+      let both = (starts_by_contact_lemma h.p h.q d (piece_is parts arc.a arc.i h.p is h.p_is) (piece_is parts arc.b arc.j h.q is h.q_is)).0 h.holds in (
+        record { p = h.p; q = h.q; p_is = h.p_is; q_is = h.q_is; holds = both.0 },
+        record { p = h.p; q = h.q; p_is = h.p_is; q_is = h.q_is; holds = both.1 },
+      )),
+  λ both.
+      let c = both.0 in
+      let m = both.1 in
+      let first : m.p ≡ c.p = same_piece (piece_at parts arc.a arc.i) m.p c.p m.p_is c.p_is in
+      let second : m.q ≡ c.q = same_piece (piece_at parts arc.b arc.j) m.q c.q m.q_is c.q_is in
+      let meets : Meets c.p c.q d = subst (λ x. Meets x c.q d) first (subst (λ y. Meets m.p y d) second m.holds) in record {
+        p = c.p;
+        q = c.q;
+        p_is = c.p_is;
+        q_is = c.q_is;
+        holds = (starts_by_contact_lemma c.p c.q d (piece_is parts arc.a arc.i c.p is c.p_is) (piece_is parts arc.b arc.j c.q is c.q_is)).1 (c.holds, meets);
+      },
+)
+
+module _ (parts : List Part) (t : Table) (marks : List Bool) (made : WasMadeFrom parts t) (are : AreMarks parts t marks) (d : V3) where
+  pub holding_is : (a b : ℕ) → HoldsBetween t marks d a b ↔ HoldsBack parts t.of d a b
+  holding_is a b = (
+    (λ h.
+        let arc : Arc = arc_of a h.i b h.j in
+        let meets : MeetsAlong parts d (arc_of a h.i b h.j) = (meets_at parts t d (arc_of a h.i b h.j) made.assembly (made.facets (arc_of a h.i b h.j) h.across)).1 h.ahead in record {
+          a_in = h.across.a_in;
+          b_in = h.across.b_in;
+          starts = record {
+            i = h.i;
+            j = h.j;
+            different = h.across.different;
+            meets = (starts_at parts d (arc_of a h.i b h.j) made.assembly).1 ((are (arc_of a h.i b h.j) h.across).0 h.marked, meets);
+          };
+        }),
+    λ h.
+        let block = h.starts in
+        let m = block.meets in
+        let arc : Arc = arc_of a block.i b block.j in
+        let across : IsTableArc t (arc_of a block.i b block.j) = record {
+          a_in = h.a_in;
+          b_in = h.b_in;
+          different = block.different;
+          i_is = subst (λ n. block.i < n) (sym (made.pieces a h.a_in)) (there_is parts a block.i m.p m.p_is);
+          j_is = subst (λ n. block.j < n) (sym (made.pieces b h.b_in)) (there_is parts b block.j m.q m.q_is);
+        } in
+        let both = (starts_at parts d (arc_of a block.i b block.j) made.assembly).0 m in record {
+          i = block.i;
+          j = block.j;
+          across = across;
+          marked = (are (arc_of a block.i b block.j) across).1 both.0;
+          ahead = (meets_at parts t d (arc_of a block.i b block.j) made.assembly (made.facets (arc_of a block.i b block.j) across)).0 both.1;
+        },
+  )
+
+  module _ (rows : List ℕ) (arcs : (a b : ℕ) → HasArc rows a b ↔ HoldsBetween t marks d a b) where
+    pub arcs_hold_back : (a b : ℕ) → HasArc rows a b ↔ HoldsBack parts t.of d a b
+    arcs_hold_back a b = let law = holding_is a b in (λ h. law.0 ((arcs a b).0 h), λ h. (arcs a b).1 (law.1 h))
+
+    pub shows_starts : ShowsBlockingBy Starts parts d t.of rows
+    shows_starts a b a_in b_in = (λ h. ((arcs_hold_back a b).0 h).starts, λ h. (arcs_hold_back a b).1 (record { a_in = a_in; b_in = b_in; starts = h }))
+
+-- ---- the opposite direction
+
+-- the second piece collides at once with the first where the first does with the second the other way
+starts_turned : (parts : List Part) (d : V3) (arc : Arc) → IsAssembly parts → HoldsAlong Starts parts d arc → HoldsAlong Starts parts (negative d) (back arc)
+starts_turned parts d arc is h =
+    let both = (starts_at parts d arc is).0 h in
+    let m = both.1 in
+    (starts_at parts (negative d) (back arc) is).1
+    (contact_back parts arc both.0, record { p = m.q; q = m.p; p_is = m.q_is; q_is = m.p_is; holds = (meets_opposite_lemma m.q m.p d).1 m.holds })
+
+-- a member of w that is not in the rest without s is in s
+back_in : (w s : PartSet) (q : ℕ) → Has (set.difference w (set.difference w s)) q → Has s q
+back_in w s q h =
+    let t = (has-difference w (set.difference w s) q).0 h in
+    ⊎_elim {C = Has s q} (λ m. m) (λ out. absurd (t.1 ((has-difference w s q).1 (t.0, out)))) (member_or s q)
+
+rest_side : (w s : PartSet) → IsSide w s → IsSide w (set.difference w s)
+rest_side w s side = record {
+  nonempty = ⊎_elim {C = IsNonempty (set.difference w s)} (λ some. some)
+      (λ none. absurd (side.proper (same_members s w side.within (λ q h. ⊎_elim {C = Has s q} (λ m. m) (λ out. absurd (none q ((has-difference w s q).1 (h, out)))) (member_or s q)))))
+      (nonempty_or (set.difference w s));
+  within = rest_within w s;
+  proper = λ e.
+      let p = side.nonempty in
+      let h : Has (set.difference w s) p.0 = subst (λ (u : PartSet). Has u p.0) (sym e) (side.within p.0 p.1) in
+      ((has-difference w s p.0).0 h).1 p.1;
+}
+
+-- where a side is loose along the opposite of d, the rest is loose along d
+pub loosens_turned : (parts : List Part) (w : PartSet) (d : V3) → IsAssembly parts → Loosens parts w (negative d) → Loosens parts w d
+loosens_turned parts w d is l =
+    let free = l.free in record {
+      side = set.difference w l.side;
+      is_side = rest_side w l.side l.is_side;
+      free = record {
+        moves = λ e. free.moves (ap negative e);
+        clear = λ arc ha hb starts. free.clear (back arc) (back_in w l.side arc.b hb) ha (starts_turned parts d arc is starts);
+      };
+    }
+
+-- ---- vertices decide
+
+module _ (parts : List Part) (w : PartSet) (planes : List V3) (is : IsAssembly parts) (are : ArePlanes parts w planes) where
+  -- what is loose along a direction is loose on the border of its cell
+  loose_on_border : (s r : PartSet) (d v : V3) → IsSubset s w → IsSubset r w → AreApart s r → v ≢ origin → IsBorder (signs_of planes v) (signs_of planes d) → IsLoose parts s r d → IsLoose parts s r v
+  loose_on_border s r d v s_in r_in apart some border free = record {
+    moves = some;
+    clear = λ arc a_in b_in starts.
+        let both = (starts_at parts v arc is).0 starts in
+        free.clear arc a_in b_in ((starts_at parts d arc is).1 (
+          both.0,
+          arc_from_border parts w planes d v arc is are border (s_in arc.a a_in) (r_in arc.b b_in) (λ e. apart arc.a a_in (subst (Has r) (sym e) b_in)) both.1,
+        ));
+  }
+
+  pub tight_at_vertices : 2 ≤ set.len w → ((v : V3) → Contains (vertices planes) v → Loosens parts w v → ⊥) → IsTight parts w
+  tight_at_vertices two none = record {
+    two = two;
+    held = λ s d side free.
+        let at = vertex_on_border_lemma planes d (holds_axes parts w planes are) free.moves in
+        none at.v at.vertex (record { side = s; is_side = side; free = loose_on_border s (set.difference w s) d at.v side.within (rest_within w s) (rest_apart w s) at.nonzero at.border free });
+  }
+
+-- a set that no move begins to take apart is stuck
+pub tight_is_stuck_lemma : (parts : List Part) (w : PartSet) → IsTight parts w → IsStuck parts w
+tight_is_stuck_lemma parts w tight = record {
+  two = tight.two;
+  held = λ s d side free. tight.held s d side (record { moves = free.moves; clear = λ arc ha hb h. free.clear arc ha hb (record { p = h.p; q = h.q; p_is = h.p_is; q_is = h.q_is; holds = meets_of_start h.p h.q d h.holds }) });
+}

@@ -1,0 +1,7 @@
+pub mod Weights
+pub mod Contacts
+pub mod Points
+pub mod ByFacets
+pub mod Marks
+pub mod Holding
+pub mod Beginning

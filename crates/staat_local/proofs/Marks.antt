@@ -1,0 +1,149 @@
+-- Marks for pairs of pieces that touch: a slot stands for one pair, and marks for some arcs and then for others are marks for both.
+use Rattle.std.proofs.Common.{◌≡◌, ◌≢◌, ◌↔◌, ◌⊎◌, inl, inr, ⊎_elim, ℕ, zero, suc, replicate, ◌+◌, ◌*◌, ◌/◌, ◌%◌, ◌<◌, ◌≤◌, refl, sym, ap, subst, ◌∙◌, arith, Bool, true, false, IsTrue, List, length, sum}
+use Rattle.std.specs.Prelude.{slice_index, slice_index_or}
+use Rattle.staat_vec.specs.declared.vector.V3.{V3}
+use Rattle.staat_model.specs.declared.assembly.Part.{Part}
+use Rattle.staat_model.specs.declared.certificate.Arc.{Arc}
+use Rattle.staat_model.specs.Assemblies.{HoldsAt}
+use Rattle.staat_model.specs.Meeting.{mix}
+use Rattle.staat_model.specs.Sets.{Has}
+use Rattle.staat_pairs.specs.Tables.{IsTable, IsTableArc, Table, back, pieces_of, place, slot}
+use Rattle.staat_pairs.specs.Tabulating.{IsPieceAt}
+use Rattle.staat_pairs.proofs.NumberingLemmas.{below_64, one_number, one_part}
+use Rattle.staat_local.specs.Contacts.{Contact}
+use Rattle.staat_local.specs.Touching.{AreMarks, IsBetween, IsFromPiece, IsMarked, IsToGreater, IsUpward, MarksTouching}
+
+-- ---- slots
+
+same_parts : (p q r s : ℕ) → q < 64 → s < 64 → 64 * p + q ≡ 64 * r + s → (p ≡ r) × (q ≡ s)
+same_parts p q r s h g e = (omega arith, omega arith)
+
+one_slot : (t : Table) (x y : Arc) → IsTable t → IsTableArc t x → IsTableArc t y → slot t.pieces x ≡ slot t.pieces y → x ≡ y
+one_slot t x y is at there e =
+    let low : place t.pieces x.b x.j < 64 = below_64 t.pieces x.b x.j is.most at.j_is in
+    let down : place t.pieces y.b y.j < 64 = below_64 t.pieces y.b y.j is.most there.j_is in
+    let places = same_parts (place t.pieces x.a x.i) (place t.pieces x.b x.j) (place t.pieces y.a y.i) (place t.pieces y.b y.j) low down e in
+    let xa = piece (place t.pieces x.a x.i) x.a x.i at.a_in at.i_is refl in
+    let ya = piece (place t.pieces x.a x.i) y.a y.i there.a_in there.i_is (sym places.0) in
+    let xb = piece (place t.pieces x.b x.j) x.b x.j at.b_in at.j_is refl in
+    let yb = piece (place t.pieces x.b x.j) y.b y.j there.b_in there.j_is (sym places.1) in
+    let a : x.a ≡ y.a = one_part t.pieces (place t.pieces x.a x.i) x.a y.a x.i y.i xa ya in
+    let b : x.b ≡ y.b = one_part t.pieces (place t.pieces x.b x.j) x.b y.b x.j y.j xb yb in
+    let i : x.i ≡ y.i = one_number t.pieces (place t.pieces x.a x.i) y.a x.i y.i (subst (λ c. IsPieceAt t.pieces (place t.pieces x.a x.i) c x.i) a xa) ya in
+    let j : x.j ≡ y.j = one_number t.pieces (place t.pieces x.b x.j) y.b x.j y.j (subst (λ c. IsPieceAt t.pieces (place t.pieces x.b x.j) c x.j) b xb) yb in
+    λ k. record { a = a k; i = i k; b = b k; j = j k }
+  where
+    piece : (n a i : ℕ) → Has t.of a → i < pieces_of t a → place t.pieces a i ≡ n → IsPieceAt t.pieces n a i
+    piece n a i has lt at = record { small = is.small a has; there = lt; is = at }
+
+-- the pieces of an arc touch the other way round too
+pub contact_back : (parts : List Part) (arc : Arc) → HoldsAt parts arc Contact → HoldsAt parts (back arc) Contact
+contact_back parts arc h =
+    let c = h.holds in
+    let some = c.some in
+    let same = c.same_sum in
+    record {
+      p = h.q;
+      q = h.p;
+      p_is = h.q_is;
+      q_is = h.p_is;
+      holds = record { a = c.b; b = c.a; a_each = c.b_each; b_each = c.a_each; some = omega (arith, some, same); same_sum = sym same; same_place = sym c.same_place };
+    }
+
+pub back_across : (t : Table) (arc : Arc) → IsTableArc t arc → IsTableArc t (back arc)
+back_across t arc h = record { a_in = h.b_in; b_in = h.a_in; different = λ e. h.different (sym e); i_is = h.j_is; j_is = h.i_is }
+
+module _ (parts : List Part) (t : Table) (is : IsTable t) where
+  -- two slots are marked
+  pub marked_arc : (arc : Arc) (old mid new : List Bool) → IsTableArc t arc → HoldsAt parts arc Contact
+      → ((s : ℕ) → IsMarked mid s ↔ (IsMarked old s ⊎ (s ≡ slot t.pieces arc)))
+      → ((s : ℕ) → IsMarked new s ↔ (IsMarked mid s ⊎ (s ≡ slot t.pieces (back arc)))) → MarksTouching parts t (λ x. x ≡ arc) old new
+  marked_arc arc old mid new across touch first second x at = (
+    (λ h. ⊎_elim {C = Goal}
+        (λ m. ⊎_elim {C = Goal} inl (λ e. inr (this_way e)) ((first (slot t.pieces x)).0 m))
+        (λ e. inr (other_way e))
+        ((second (slot t.pieces x)).0 h)),
+    (λ h. ⊎_elim {C = IsMarked new (slot t.pieces x)}
+        (λ o. (second (slot t.pieces x)).1 (inl ((first (slot t.pieces x)).1 (inl o))))
+        (λ r. ⊎_elim {C = IsMarked new (slot t.pieces x)}
+        (λ e. (second (slot t.pieces x)).1 (inl ((first (slot t.pieces x)).1 (inr (ap (slot t.pieces) e)))))
+        (λ e. (second (slot t.pieces x)).1 (inr (ap (λ y. slot t.pieces (back y)) e)))
+        r.0)
+        h),
+  )
+    where
+      Both : Type 0
+      Both = ((x ≡ arc) ⊎ (back x ≡ arc)) × HoldsAt parts x Contact
+
+      Goal : Type 0
+      Goal = IsMarked old (slot t.pieces x) ⊎ Both
+
+      this_way : slot t.pieces x ≡ slot t.pieces arc → Both
+      this_way e = let same : x ≡ arc = one_slot t x arc is at across e in (inl same, subst (λ y. HoldsAt parts y Contact) (sym same) touch)
+
+      other_way : slot t.pieces x ≡ slot t.pieces (back arc) → Both
+      other_way e =
+          let same : x ≡ back arc = one_slot t x (back arc) is at (back_across t arc across) e in
+          (inr (ap back same), subst (λ y. HoldsAt parts y Contact) (sym same) (contact_back parts arc touch))
+
+-- nothing is marked
+pub marked_none : (parts : List Part) (t : Table) (R : Arc → Type 0) (marks : List Bool) → ((arc : Arc) → R arc → HoldsAt parts arc Contact → ⊥) → MarksTouching parts t R marks marks
+marked_none parts t R marks none x at = (
+  inl,
+  λ h. ⊎_elim {C = IsMarked marks (slot t.pieces x)} (λ o. o)
+      (λ r. ⊎_elim {C = IsMarked marks (slot t.pieces x)} (λ here. absurd (none x here r.1)) (λ there. absurd (none (back x) there (contact_back parts x r.1))) r.0) h,
+)
+
+-- marks for some arcs, then for others
+pub marked_both : (parts : List Part) (t : Table) (R S T : Arc → Type 0) (old mid new : List Bool) → MarksTouching parts t R old mid → MarksTouching parts t S mid new
+    → ((arc : Arc) → IsTableArc t arc → T arc → R arc ⊎ S arc) → ((arc : Arc) → R arc → T arc) → ((arc : Arc) → S arc → T arc) → MarksTouching parts t T old new
+marked_both parts t R S T old mid new first second split left right x at = (
+  (λ h. ⊎_elim {C = Goal}
+      (λ m. ⊎_elim {C = Goal} inl (λ r. inr (either R left r.0, r.1)) ((first x at).0 m))
+      (λ r. inr (either S right r.0, r.1))
+      ((second x at).0 h)),
+  (λ h. ⊎_elim {C = IsMarked new (slot t.pieces x)}
+      (λ o. (second x at).1 (inl ((first x at).1 (inl o))))
+      (λ r. ⊎_elim {C = IsMarked new (slot t.pieces x)}
+      (λ here. ⊎_elim {C = IsMarked new (slot t.pieces x)} (λ a. (second x at).1 (inl ((first x at).1 (inr (inl a, r.1))))) (λ b. (second x at).1 (inr (inl b, r.1))) (split x at here))
+      (λ there. ⊎_elim {C = IsMarked new (slot t.pieces x)} (λ a. (second x at).1 (inl ((first x at).1 (inr (inr a, r.1))))) (λ b. (second x at).1 (inr (inr b, r.1))) (split (back x) (back_across t x at) there))
+      r.0)
+      h),
+)
+  where
+    Goal : Type 0
+    Goal = IsMarked old (slot t.pieces x) ⊎ ((T x ⊎ T (back x)) × HoldsAt parts x Contact)
+
+    either : (Q : Arc → Type 0) → ((arc : Arc) → Q arc → T arc) → Q x ⊎ Q (back x) → T x ⊎ T (back x)
+    either Q f (inl q) = inl (f x q)
+    either Q f (inr q) = inr (f (back x) q)
+
+below_or : (j n : ℕ) → j < n + 1 → (j < n) ⊎ (j ≡ n)
+below_or j n lt = grind arith
+
+-- all arcs lead to a greater part, this way round or the other
+pub all_marked : (parts : List Part) (t : Table) (n : ℕ) (start marks : List Bool) → IsTable t → 32 ≤ n → ((s : ℕ) → IsMarked start s → ⊥) → MarksTouching parts t (IsUpward n) start marks → AreMarks parts t marks
+all_marked parts t n start marks is most none all x at = (
+  (λ h. ⊎_elim {C = HoldsAt parts x Contact} (λ o. absurd (none (slot t.pieces x) o)) (λ r. r.1) ((all x at).0 h)),
+  (λ touch. (all x at).1 (inr (
+    ⊎_elim {C = IsUpward n x ⊎ IsUpward n (back x)}
+        (λ lt. inl (record { order = lt; below = small x.a at.a_in }))
+        (λ gt. inr (record { order = gt; below = small x.b at.b_in }))
+        (ways x.a x.b at.different),
+    touch,
+  ))),
+)
+  where
+    small : (a : ℕ) → Has t.of a → a < n
+    small a has = let lt : a < 32 = is.small a has in omega arith
+
+    ways : (a b : ℕ) → a ≢ b → (a < b) ⊎ (b < a)
+    ways a b ne = grind arith
+
+none_in : (n s : ℕ) → IsMarked (replicate n false) s → ⊥
+none_in zero s h = absurd cc
+none_in (suc n) zero h = absurd cc
+none_in (suc n) (suc s) h = none_in n s h
+
+pub nothing_marked : (s : ℕ) → IsMarked (replicate 4096 false) s → ⊥
+nothing_marked s h = none_in 4096 s h

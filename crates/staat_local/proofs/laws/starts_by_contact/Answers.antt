@@ -1,0 +1,5 @@
+use Rattle.staat_local.proofs.Contacts.{starts_by_contact_lemma}
+use Rattle.staat_local.proofs.laws.starts_by_contact.Goals as goal
+
+pub returns : goal.returns
+returns c = starts_by_contact_lemma

@@ -1,0 +1,4 @@
+pub mod Contacts
+pub mod Touching
+pub mod Beginnings
+pub mod LocalTexts

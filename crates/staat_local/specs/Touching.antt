@@ -1,0 +1,54 @@
+-- Which pieces touch: how far points lie along a vector, and marks for pairs of pieces.
+use Rattle.std.specs.Prelude.{◌≡◌, ◌⊎◌, ◌↔◌, ℕ, ◌<◌, pos, ◌≤ℤ◌, Bool, false, List, IsTrue, slice_index_or}
+use Rattle.staat_vec.specs.declared.vector.V3.{V3}
+use Rattle.staat_vec.specs.Vectors.{dot, minus}
+use Rattle.staat_model.specs.declared.assembly.Part.{Part}
+use Rattle.staat_model.specs.declared.certificate.Arc.{Arc}
+use Rattle.staat_model.specs.Assemblies.{HoldsAt}
+use Rattle.staat_pairs.specs.Tables.{IsTableArc, Table, back, slot}
+use Rattle.staat_local.specs.Contacts.{Contact}
+
+-- b lies as far along n as a, or less far
+abbrev pub IsNoFarther : V3 → V3 → V3 → Type 0
+IsNoFarther n a b = dot (minus b a) n ≤ℤ pos 0
+
+-- ---- pairs of pieces that touch
+
+-- the pair of pieces with this slot is marked
+abbrev pub IsMarked : List Bool → ℕ → Type 0
+IsMarked marks slot = IsTrue (slice_index_or marks slot false)
+
+-- of the arcs of the table that R has, this way round or the other, those whose pieces touch are marked too
+abbrev pub MarksTouching : List Part → Table → (Arc → Type 0) → List Bool → List Bool → Type 0
+MarksTouching parts t R old new =
+    (arc : Arc) → IsTableArc t arc → IsMarked new (slot t.pieces arc)
+    ↔ (IsMarked old (slot t.pieces arc) ⊎ ((R arc ⊎ R (back arc)) × HoldsAt parts arc Contact))
+
+-- those whose pieces touch are marked
+abbrev pub AreMarks : List Part → Table → List Bool → Type 0
+AreMarks parts t marks =
+    (arc : Arc) → IsTableArc t arc → IsMarked marks (slot t.pieces arc) ↔ HoldsAt parts arc Contact
+
+-- the arcs from piece i of the part a to one of the first n pieces of the part b
+pub record IsFromPiece (a i b n : ℕ) (arc : Arc) : Type 0 where
+  pub first : arc.a ≡ a
+  pub piece : arc.i ≡ i
+  pub second : arc.b ≡ b
+  pub below : arc.j < n
+
+-- the arcs from one of the first n pieces of the part a to a piece of the part b
+pub record IsBetween (a b n : ℕ) (arc : Arc) : Type 0 where
+  pub first : arc.a ≡ a
+  pub second : arc.b ≡ b
+  pub below : arc.i < n
+
+-- the arcs from the part a to a greater one below n
+pub record IsToGreater (a n : ℕ) (arc : Arc) : Type 0 where
+  pub first : arc.a ≡ a
+  pub order : arc.a < arc.b
+  pub below : arc.b < n
+
+-- the arcs from one of the parts below n to a greater one
+pub record IsUpward (n : ℕ) (arc : Arc) : Type 0 where
+  pub order : arc.a < arc.b
+  pub below : arc.a < n

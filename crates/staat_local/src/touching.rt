@@ -1,0 +1,90 @@
+// Which pieces of the parts of a table touch.
+ghost use Rattle.std.specs.Prelude.{◌≡◌, ◌≢◌, ◌<◌, ◌↔◌, ◌⊎◌, ℕ, IsTrue};
+ghost use Rattle.staat_model.specs.Sets.{Has};
+ghost use Rattle.staat_pairs.specs.Tables.{IsTableArc, WasMadeFrom, pieces_of};
+ghost use Rattle.staat_local.specs.Touching.{AreMarks, IsBetween, IsFromPiece, IsMarked, IsToGreater, IsUpward};
+ghost use Rattle.staat_local.specs.Touching.{MarksTouching};
+
+use crate::pieces::touch;
+use staat_model::{Arc, MOST_PARTS, Sound};
+use staat_pairs::back;
+use staat_planes::PlaneTable;
+
+/// For each slot of an ordered pair of pieces whether it is marked.
+pub(crate) type Marks = [bool; 4096];
+
+// marks a slot
+fn mark(marks: &mut Marks, slot: u32)
+    requires { slot < 4096 }
+    ensures { (s : ℕ) → IsMarked marks.new s ↔ (IsMarked marks.old s ⊎ (s ≡ slot)) }
+{
+    marks[slot as usize] = true;
+}
+
+// marks the pieces of an arc, both ways round, if they touch
+fn mark_arc(marks: &mut Marks, table: &PlaneTable, sound: &Sound, arc: Arc)
+    requires made { WasMadeFrom sound.now table.now }
+    requires across { IsTableArc table.now arc }
+    ensures { MarksTouching sound.now table.now (λ x. x ≡ arc) marks.old marks.new }
+{
+    if touch(table, sound, arc) {
+        mark(marks, table.slot(arc));
+        mark(marks, table.slot(back(arc)));
+    }
+}
+
+// marks those of piece i of the part a and a piece of the part b
+fn mark_from(marks: &mut Marks, table: &PlaneTable, sound: &Sound, a: u32, i: u32, b: u32)
+    requires made { WasMadeFrom sound.now table.now }
+    requires a_in { Has table.now.of a }
+    requires b_in { Has table.now.of b }
+    requires different { a ≢ b }
+    requires piece { i < pieces_of table.now a }
+    ensures { MarksTouching sound.now table.now (IsFromPiece a i b (pieces_of table.now b)) marks.old marks.new }
+{
+    for j in 0..table.pieces(b) {
+        mark_arc(marks, table, sound, Arc { a, i, b, j });
+    }
+}
+
+// marks those of a piece of the part a and a piece of the part b
+fn mark_between(marks: &mut Marks, table: &PlaneTable, sound: &Sound, a: u32, b: u32)
+    requires made { WasMadeFrom sound.now table.now }
+    requires a_in { Has table.now.of a }
+    requires b_in { Has table.now.of b }
+    requires different { a ≢ b }
+    ensures { MarksTouching sound.now table.now (IsBetween a b (pieces_of table.now a)) marks.old marks.new }
+{
+    for i in 0..table.pieces(a) {
+        mark_from(marks, table, sound, a, i, b);
+    }
+}
+
+// marks those of the part a and a greater part
+fn mark_greater(marks: &mut Marks, table: &PlaneTable, sound: &Sound, a: u32)
+    requires made { WasMadeFrom sound.now table.now }
+    requires a_in { Has table.now.of a }
+    ensures { MarksTouching sound.now table.now (IsToGreater a 32) marks.old marks.new }
+{
+    let set = table.set();
+    for b in 0..MOST_PARTS {
+        if a < b && set.has(b) {
+            mark_between(marks, table, sound, a, b);
+        }
+    }
+}
+
+/// Marks for the pairs of pieces of different parts of the table's set that touch. Each unordered pair is tested once.
+pub(crate) fn touching(table: &PlaneTable, sound: &Sound) -> Marks
+    requires { WasMadeFrom sound.now table.now }
+    ensures { AreMarks sound.now table.now result }
+{
+    let set = table.set();
+    let mut marks = [false; 4096];
+    for a in 0..MOST_PARTS {
+        if set.has(a) {
+            mark_greater(&mut marks, table, sound, a);
+        }
+    }
+    marks
+}
