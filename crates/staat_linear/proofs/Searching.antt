@@ -20,7 +20,7 @@ use Rattle.staat_graph.proofs.Finite.{len_subset}
 use Rattle.staat_model.proofs.FreeSides.{member_or}
 use Rattle.staat_pairs.specs.Searches.{arc_of}
 use Rattle.staat_pairs.specs.Tables.{Table, facets_of, pieces_of}
-use Rattle.staat_linear.specs.Holding.{AreOutward, HoldsBack, IsArcAhead, IsHeld, IsOutward}
+use Rattle.staat_linear.specs.Holding.{AreOutward, HoldsPart, IsArcAhead, IsHeld, IsOutward}
 use Rattle.staat_linear.specs.Orders.{all_but}
 
 last_or : (m k : ℕ) → m < k + 1 → (m < k) ⊎ (m ≡ k)
@@ -123,7 +123,7 @@ put_outward t w arcs new p arc are is set_is = record {
 }
 
 -- what holds a part leads from it to another part
-pub outward_of : (t : Table) (w : PartSet) (d : V3) (p : ℕ) (arc : Arc) → HoldsBack t w d p arc → IsOutward t w p arc
+pub outward_of : (t : Table) (w : PartSet) (d : V3) (p : ℕ) (arc : Arc) → HoldsPart t w d p arc → IsOutward t w p arc
 outward_of t w d p arc h = record { from = h.from; to = h.to; across = h.ahead.across }
 
 -- the parts before the next one

@@ -24,14 +24,14 @@ pub record IsOutward (t : Table) (w : PartSet) (p : ℕ) (arc : Arc) : Type 0 wh
   pub across : IsTableArc t arc
 
 -- moved along d, the arc's piece of p meets its piece of another part of w
-pub record HoldsBack (t : Table) (w : PartSet) (d : V3) (p : ℕ) (arc : Arc) : Type 0 where
+pub record HoldsPart (t : Table) (w : PartSet) (d : V3) (p : ℕ) (arc : Arc) : Type 0 where
   pub from : arc.a ≡ p
   pub to : Has w arc.b
   pub ahead : IsArcAhead t d arc
 
 -- along d some piece of p meets a piece of another part of w
 abbrev pub IsHeld : Table → PartSet → V3 → ℕ → Type 0
-IsHeld t w d p = (arc : Arc) × HoldsBack t w d p arc
+IsHeld t w d p = (arc : Arc) × HoldsPart t w d p arc
 
 -- for each part of w an arc from it to another part of w
 pub record AreOutward (t : Table) (w : PartSet) (arcs : List Arc) : Type 0 where

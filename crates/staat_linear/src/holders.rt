@@ -6,7 +6,7 @@ ghost use Rattle.staat_vec.specs.Vectors.{IsWithin};
 ghost use Rattle.staat_model.specs.Sets.{Has, IsSubset};
 ghost use Rattle.staat_pairs.specs.Searches.{arc_of};
 ghost use Rattle.staat_pairs.specs.Tables.{IsTableArc, pieces_of};
-ghost use Rattle.staat_linear.specs.Holding.{AreHeld, AreOutward, HoldsBack, IsArcAhead, IsHeld, IsLeastFree, IsOutward};
+ghost use Rattle.staat_linear.specs.Holding.{AreHeld, AreOutward, HoldsPart, IsArcAhead, IsHeld, IsLeastFree, IsOutward};
 
 use staat_model::{Arc, MOST_PARTS, PartSet};
 use staat_planes::PlaneTable;
@@ -55,7 +55,7 @@ fn holder_in(table: &PlaneTable, w: PartSet, p: u32, b: u32, d: V3) -> Option<Ar
     requires small { b < MOST_PARTS }
     requires direction { IsWithin DIRECTION d }
     ensures { MatchOption result ((i j : ℕ) → Has w b → IsArcAhead table.now d (arc_of p i b j) → ⊥)
-        (HoldsBack table.now w d p) }
+        (HoldsPart table.now w d p) }
 {
     if b == p || !w.has(b) {
         return None;
@@ -71,7 +71,7 @@ fn holder_of(table: &PlaneTable, w: PartSet, p: u32, d: V3) -> Option<Arc>
     requires within { IsSubset w table.now.of }
     requires member { Has w p }
     requires direction { IsWithin DIRECTION d }
-    ensures { MatchOption result (IsHeld table.now w d p → ⊥) (HoldsBack table.now w d p) }
+    ensures { MatchOption result (IsHeld table.now w d p → ⊥) (HoldsPart table.now w d p) }
 {
     // all members are below the number of bits
     let _bits = w.bits();

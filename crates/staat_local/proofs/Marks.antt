@@ -11,7 +11,7 @@ use Rattle.staat_pairs.specs.Tables.{IsTable, IsTableArc, Table, back, pieces_of
 use Rattle.staat_pairs.specs.Tabulating.{IsPieceAt}
 use Rattle.staat_pairs.proofs.NumberingLemmas.{below_64, one_number, one_part}
 use Rattle.staat_local.specs.Contacts.{Contact}
-use Rattle.staat_local.specs.Touching.{AreMarks, IsBetween, IsFromPiece, IsMarked, IsToGreater, IsUpward, MarksTouching}
+use Rattle.staat_local.specs.Touching.{AreMarks, LinksParts, IsFromPiece, IsPairMarked, IsToGreater, IsUpward, MarksTouching}
 
 -- ---- slots
 
@@ -56,16 +56,16 @@ back_across t arc h = record { a_in = h.b_in; b_in = h.a_in; different = λ e. h
 module _ (parts : List Part) (t : Table) (is : IsTable t) where
   -- two slots are marked
   pub marked_arc : (arc : Arc) (old mid new : List Bool) → IsTableArc t arc → HoldsAt parts arc Contact
-      → ((s : ℕ) → IsMarked mid s ↔ (IsMarked old s ⊎ (s ≡ slot t.pieces arc)))
-      → ((s : ℕ) → IsMarked new s ↔ (IsMarked mid s ⊎ (s ≡ slot t.pieces (back arc)))) → MarksTouching parts t (λ x. x ≡ arc) old new
+      → ((s : ℕ) → IsPairMarked mid s ↔ (IsPairMarked old s ⊎ (s ≡ slot t.pieces arc)))
+      → ((s : ℕ) → IsPairMarked new s ↔ (IsPairMarked mid s ⊎ (s ≡ slot t.pieces (back arc)))) → MarksTouching parts t (λ x. x ≡ arc) old new
   marked_arc arc old mid new across touch first second x at = (
     (λ h. ⊎_elim {C = Goal}
         (λ m. ⊎_elim {C = Goal} inl (λ e. inr (this_way e)) ((first (slot t.pieces x)).0 m))
         (λ e. inr (other_way e))
         ((second (slot t.pieces x)).0 h)),
-    (λ h. ⊎_elim {C = IsMarked new (slot t.pieces x)}
+    (λ h. ⊎_elim {C = IsPairMarked new (slot t.pieces x)}
         (λ o. (second (slot t.pieces x)).1 (inl ((first (slot t.pieces x)).1 (inl o))))
-        (λ r. ⊎_elim {C = IsMarked new (slot t.pieces x)}
+        (λ r. ⊎_elim {C = IsPairMarked new (slot t.pieces x)}
         (λ e. (second (slot t.pieces x)).1 (inl ((first (slot t.pieces x)).1 (inr (ap (slot t.pieces) e)))))
         (λ e. (second (slot t.pieces x)).1 (inr (ap (λ y. slot t.pieces (back y)) e)))
         r.0)
@@ -76,7 +76,7 @@ module _ (parts : List Part) (t : Table) (is : IsTable t) where
       Both = ((x ≡ arc) ⊎ (back x ≡ arc)) × HoldsAt parts x Contact
 
       Goal : Type 0
-      Goal = IsMarked old (slot t.pieces x) ⊎ Both
+      Goal = IsPairMarked old (slot t.pieces x) ⊎ Both
 
       this_way : slot t.pieces x ≡ slot t.pieces arc → Both
       this_way e = let same : x ≡ arc = one_slot t x arc is at across e in (inl same, subst (λ y. HoldsAt parts y Contact) (sym same) touch)
@@ -90,8 +90,8 @@ module _ (parts : List Part) (t : Table) (is : IsTable t) where
 pub marked_none : (parts : List Part) (t : Table) (R : Arc → Type 0) (marks : List Bool) → ((arc : Arc) → R arc → HoldsAt parts arc Contact → ⊥) → MarksTouching parts t R marks marks
 marked_none parts t R marks none x at = (
   inl,
-  λ h. ⊎_elim {C = IsMarked marks (slot t.pieces x)} (λ o. o)
-      (λ r. ⊎_elim {C = IsMarked marks (slot t.pieces x)} (λ here. absurd (none x here r.1)) (λ there. absurd (none (back x) there (contact_back parts x r.1))) r.0) h,
+  λ h. ⊎_elim {C = IsPairMarked marks (slot t.pieces x)} (λ o. o)
+      (λ r. ⊎_elim {C = IsPairMarked marks (slot t.pieces x)} (λ here. absurd (none x here r.1)) (λ there. absurd (none (back x) there (contact_back parts x r.1))) r.0) h,
 )
 
 -- marks for some arcs, then for others
@@ -102,17 +102,17 @@ marked_both parts t R S T old mid new first second split left right x at = (
       (λ m. ⊎_elim {C = Goal} inl (λ r. inr (either R left r.0, r.1)) ((first x at).0 m))
       (λ r. inr (either S right r.0, r.1))
       ((second x at).0 h)),
-  (λ h. ⊎_elim {C = IsMarked new (slot t.pieces x)}
+  (λ h. ⊎_elim {C = IsPairMarked new (slot t.pieces x)}
       (λ o. (second x at).1 (inl ((first x at).1 (inl o))))
-      (λ r. ⊎_elim {C = IsMarked new (slot t.pieces x)}
-      (λ here. ⊎_elim {C = IsMarked new (slot t.pieces x)} (λ a. (second x at).1 (inl ((first x at).1 (inr (inl a, r.1))))) (λ b. (second x at).1 (inr (inl b, r.1))) (split x at here))
-      (λ there. ⊎_elim {C = IsMarked new (slot t.pieces x)} (λ a. (second x at).1 (inl ((first x at).1 (inr (inr a, r.1))))) (λ b. (second x at).1 (inr (inr b, r.1))) (split (back x) (back_across t x at) there))
+      (λ r. ⊎_elim {C = IsPairMarked new (slot t.pieces x)}
+      (λ here. ⊎_elim {C = IsPairMarked new (slot t.pieces x)} (λ a. (second x at).1 (inl ((first x at).1 (inr (inl a, r.1))))) (λ b. (second x at).1 (inr (inl b, r.1))) (split x at here))
+      (λ there. ⊎_elim {C = IsPairMarked new (slot t.pieces x)} (λ a. (second x at).1 (inl ((first x at).1 (inr (inr a, r.1))))) (λ b. (second x at).1 (inr (inr b, r.1))) (split (back x) (back_across t x at) there))
       r.0)
       h),
 )
   where
     Goal : Type 0
-    Goal = IsMarked old (slot t.pieces x) ⊎ ((T x ⊎ T (back x)) × HoldsAt parts x Contact)
+    Goal = IsPairMarked old (slot t.pieces x) ⊎ ((T x ⊎ T (back x)) × HoldsAt parts x Contact)
 
     either : (Q : Arc → Type 0) → ((arc : Arc) → Q arc → T arc) → Q x ⊎ Q (back x) → T x ⊎ T (back x)
     either Q f (inl q) = inl (f x q)
@@ -122,7 +122,7 @@ below_or : (j n : ℕ) → j < n + 1 → (j < n) ⊎ (j ≡ n)
 below_or j n lt = grind arith
 
 -- all arcs lead to a greater part, this way round or the other
-pub all_marked : (parts : List Part) (t : Table) (n : ℕ) (start marks : List Bool) → IsTable t → 32 ≤ n → ((s : ℕ) → IsMarked start s → ⊥) → MarksTouching parts t (IsUpward n) start marks → AreMarks parts t marks
+pub all_marked : (parts : List Part) (t : Table) (n : ℕ) (start marks : List Bool) → IsTable t → 32 ≤ n → ((s : ℕ) → IsPairMarked start s → ⊥) → MarksTouching parts t (IsUpward n) start marks → AreMarks parts t marks
 all_marked parts t n start marks is most none all x at = (
   (λ h. ⊎_elim {C = HoldsAt parts x Contact} (λ o. absurd (none (slot t.pieces x) o)) (λ r. r.1) ((all x at).0 h)),
   (λ touch. (all x at).1 (inr (
@@ -140,10 +140,10 @@ all_marked parts t n start marks is most none all x at = (
     ways : (a b : ℕ) → a ≢ b → (a < b) ⊎ (b < a)
     ways a b ne = grind arith
 
-none_in : (n s : ℕ) → IsMarked (replicate n false) s → ⊥
+none_in : (n s : ℕ) → IsPairMarked (replicate n false) s → ⊥
 none_in zero s h = absurd cc
 none_in (suc n) zero h = absurd cc
 none_in (suc n) (suc s) h = none_in n s h
 
-pub nothing_marked : (s : ℕ) → IsMarked (replicate 4096 false) s → ⊥
+pub nothing_marked : (s : ℕ) → IsPairMarked (replicate 4096 false) s → ⊥
 nothing_marked s h = none_in 4096 s h

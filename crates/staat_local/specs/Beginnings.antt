@@ -15,7 +15,7 @@ use Rattle.staat_pairs.specs.Searches.{arc_of}
 use Rattle.staat_pairs.specs.Tables.{IsTableArc, Table, facets_of, slot}
 use Rattle.staat_local.specs.declared.side.Loose.{Loose}
 use Rattle.staat_local.specs.Contacts.{Starts}
-use Rattle.staat_local.specs.Touching.{IsMarked}
+use Rattle.staat_local.specs.Touching.{IsPairMarked}
 
 -- the parts of s begin to move along d: no piece of the one collides at once with a piece of r
 abbrev pub IsLoose : List Part → (s r : PartSet) → V3 → Type 0
@@ -53,7 +53,7 @@ IsFoundIn parts w None = (set.len w < 2) ⊎ IsTight parts w
 pub record HoldsFrom (t : Table) (marks : List Bool) (d : V3) (a i b : ℕ) : Type 0 where
   pub j : ℕ
   pub across : IsTableArc t (arc_of a i b j)
-  pub marked : IsMarked marks (slot t.pieces (arc_of a i b j))
+  pub marked : IsPairMarked marks (slot t.pieces (arc_of a i b j))
   pub ahead : All (λ n. pos 0 <ℤ dot n d) (facets_of t (arc_of a i b j))
 
 -- some piece of the part a does so
@@ -61,5 +61,5 @@ pub record HoldsBetween (t : Table) (marks : List Bool) (d : V3) (a b : ℕ) : T
   pub i : ℕ
   pub j : ℕ
   pub across : IsTableArc t (arc_of a i b j)
-  pub marked : IsMarked marks (slot t.pieces (arc_of a i b j))
+  pub marked : IsPairMarked marks (slot t.pieces (arc_of a i b j))
   pub ahead : All (λ n. pos 0 <ℤ dot n d) (facets_of t (arc_of a i b j))

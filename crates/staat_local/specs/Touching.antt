@@ -15,19 +15,19 @@ IsNoFarther n a b = dot (minus b a) n ≤ℤ pos 0
 -- ---- pairs of pieces that touch
 
 -- the pair of pieces with this slot is marked
-abbrev pub IsMarked : List Bool → ℕ → Type 0
-IsMarked marks slot = IsTrue (slice_index_or marks slot false)
+abbrev pub IsPairMarked : List Bool → ℕ → Type 0
+IsPairMarked marks slot = IsTrue (slice_index_or marks slot false)
 
 -- of the arcs of the table that R has, this way round or the other, those whose pieces touch are marked too
 abbrev pub MarksTouching : List Part → Table → (Arc → Type 0) → List Bool → List Bool → Type 0
 MarksTouching parts t R old new =
-    (arc : Arc) → IsTableArc t arc → IsMarked new (slot t.pieces arc)
-    ↔ (IsMarked old (slot t.pieces arc) ⊎ ((R arc ⊎ R (back arc)) × HoldsAt parts arc Contact))
+    (arc : Arc) → IsTableArc t arc → IsPairMarked new (slot t.pieces arc)
+    ↔ (IsPairMarked old (slot t.pieces arc) ⊎ ((R arc ⊎ R (back arc)) × HoldsAt parts arc Contact))
 
 -- those whose pieces touch are marked
 abbrev pub AreMarks : List Part → Table → List Bool → Type 0
 AreMarks parts t marks =
-    (arc : Arc) → IsTableArc t arc → IsMarked marks (slot t.pieces arc) ↔ HoldsAt parts arc Contact
+    (arc : Arc) → IsTableArc t arc → IsPairMarked marks (slot t.pieces arc) ↔ HoldsAt parts arc Contact
 
 -- the arcs from piece i of the part a to one of the first n pieces of the part b
 pub record IsFromPiece (a i b n : ℕ) (arc : Arc) : Type 0 where
@@ -37,7 +37,7 @@ pub record IsFromPiece (a i b n : ℕ) (arc : Arc) : Type 0 where
   pub below : arc.j < n
 
 -- the arcs from one of the first n pieces of the part a to a piece of the part b
-pub record IsBetween (a b n : ℕ) (arc : Arc) : Type 0 where
+pub record LinksParts (a b n : ℕ) (arc : Arc) : Type 0 where
   pub first : arc.a ≡ a
   pub second : arc.b ≡ b
   pub below : arc.i < n

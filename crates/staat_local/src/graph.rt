@@ -7,7 +7,7 @@ ghost use Rattle.staat_graph.specs.Graphs.{HasArc};
 ghost use Rattle.staat_pairs.specs.Tables.{IsTableArc, WasMadeFrom, facets_of, pieces_of, slot};
 ghost use Rattle.staat_local.specs.Beginnings.{HoldsBack, HoldsBetween, HoldsFrom};
 ghost use Rattle.staat_local.specs.Contacts.{Starts};
-ghost use Rattle.staat_local.specs.Touching.{IsMarked};
+ghost use Rattle.staat_local.specs.Touching.{IsPairMarked};
 
 use crate::touching::{Marks, touching};
 use staat_graph::Graph;
@@ -19,7 +19,7 @@ use staat_vec::{DIRECTION, V3};
 fn holds(marks: &Marks, table: &PlaneTable, arc: Arc, d: V3) -> bool
     requires across { IsTableArc table.now arc }
     requires direction { IsWithin DIRECTION d }
-    ensures { IsTrue result ↔ (IsMarked marks.now (slot table.now.pieces arc)
+    ensures { IsTrue result ↔ (IsPairMarked marks.now (slot table.now.pieces arc)
         × All (λ n. pos 0 <ℤ dot n d) (facets_of table.now arc)) }
 {
     marks[table.slot(arc) as usize] && table.leads_ahead(arc, d)

@@ -2,7 +2,7 @@
 ghost use Rattle.std.specs.Prelude.{◌≡◌, ◌≢◌, ◌<◌, ◌↔◌, ◌⊎◌, ℕ, IsTrue};
 ghost use Rattle.staat_model.specs.Sets.{Has};
 ghost use Rattle.staat_pairs.specs.Tables.{IsTableArc, WasMadeFrom, pieces_of};
-ghost use Rattle.staat_local.specs.Touching.{AreMarks, IsBetween, IsFromPiece, IsMarked, IsToGreater, IsUpward};
+ghost use Rattle.staat_local.specs.Touching.{AreMarks, LinksParts, IsFromPiece, IsPairMarked, IsToGreater, IsUpward};
 ghost use Rattle.staat_local.specs.Touching.{MarksTouching};
 
 use crate::pieces::touch;
@@ -16,7 +16,7 @@ pub(crate) type Marks = [bool; 4096];
 // marks a slot
 fn mark(marks: &mut Marks, slot: u32)
     requires { slot < 4096 }
-    ensures { (s : ℕ) → IsMarked marks.new s ↔ (IsMarked marks.old s ⊎ (s ≡ slot)) }
+    ensures { (s : ℕ) → IsPairMarked marks.new s ↔ (IsPairMarked marks.old s ⊎ (s ≡ slot)) }
 {
     marks[slot as usize] = true;
 }
@@ -53,7 +53,7 @@ fn mark_between(marks: &mut Marks, table: &PlaneTable, sound: &Sound, a: u32, b:
     requires a_in { Has table.now.of a }
     requires b_in { Has table.now.of b }
     requires different { a ≢ b }
-    ensures { MarksTouching sound.now table.now (IsBetween a b (pieces_of table.now a)) marks.old marks.new }
+    ensures { MarksTouching sound.now table.now (LinksParts a b (pieces_of table.now a)) marks.old marks.new }
 {
     for i in 0..table.pieces(a) {
         mark_from(marks, table, sound, a, i, b);
