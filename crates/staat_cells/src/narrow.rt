@@ -1,4 +1,5 @@
-// Signs of planes at directions. Where the components of a direction fit words of 64 bits, each product is one of words.
+// Signs of planes at directions. Where the components of a direction fit words of 64 bits, each product is one of
+// words.
 ghost use Rattle.std.specs.Prelude.{◌≡◌, ◌≤◌, ◌*◌, ◌*ℤ◌, IsTrue, unsigned_abs};
 ghost use Rattle.staat_vec.specs.Vectors.{IsWithin, dot, sign};
 

@@ -6,7 +6,8 @@ ghost use Rattle.staat_vec.specs.Vectors.{IsWithin};
 ghost use Rattle.staat_model.specs.Sets.{Has, IsSubset};
 ghost use Rattle.staat_pairs.specs.Searches.{arc_of};
 ghost use Rattle.staat_pairs.specs.Tables.{IsTableArc, pieces_of};
-ghost use Rattle.staat_linear.specs.Holding.{AreHeld, AreOutward, HoldsPart, IsArcAhead, IsHeld, IsLeastFree, IsOutward};
+ghost use Rattle.staat_linear.specs.Holding.{AreHeld, AreOutward, HoldsPart};
+ghost use Rattle.staat_linear.specs.Holding.{IsArcAhead, IsHeld, IsLeastFree, IsOutward};
 
 use staat_model::{Arc, MOST_PARTS, PartSet};
 use staat_planes::PlaneTable;

@@ -1,5 +1,6 @@
 -- Rings of a table from which the planes that are none of a set of parts are taken out in their turn.
-use Rattle.std.specs.Prelude.{◌≡◌, ◌↔◌, ℕ, ◌<◌, ◌≤◌, List, [], Contains, Option, Some, IfSome, length}
+use Rattle.std.specs.Prelude.{◌≡◌, ◌↔◌, ℕ, ◌<◌, ◌≤◌, List, [], Contains, Option, Some,
+    IfSome, length}
 use Rattle.std.specs.Prelude.{slice_get}
 use Rattle.staat_vec.specs.declared.vector.V3.{V3}
 use Rattle.staat_model.specs.declared.assembly.Part.{Part}

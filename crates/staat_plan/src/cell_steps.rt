@@ -111,8 +111,8 @@ fn open_step(
     Ok(None)
 }
 
-// The first step along representatives of all cells. The points and edges stand in the skeleton already, since the open
-// cells are composed of them.
+// The first step along representatives of all cells. The points and edges stand in the skeleton already, since the
+// open cells are composed of them.
 fn first_step(
     alloc: Global,
     table: &PlaneTable,

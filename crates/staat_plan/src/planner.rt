@@ -67,8 +67,8 @@ fn walked_step(
     Ok(unmarked(step))
 }
 
-// The step of a set of parts of the table in a plan that is not robust. The first vertices decide nearly every set that
-// comes apart; only where they do not are all gone through, by a walk.
+// The step of a set of parts of the table in a plan that is not robust. The first vertices decide nearly every set
+// that comes apart; only where they do not are all gone through, by a walk.
 fn vertex_step(
     alloc: Global,
     table: &PlaneTable,
@@ -87,7 +87,8 @@ fn vertex_step(
     }
 }
 
-// The step of a set of parts of the table in a robust plan. The cells of a smaller set are those of a table of its own.
+// The step of a set of parts of the table in a robust plan. The cells of a smaller set are those of a table of its
+// own.
 fn robust_step<F: FacetSource>(
     alloc: Global,
     source: &F,
@@ -244,13 +245,13 @@ fn outcome_of<F: FacetSource>(
 
 /// The outcome of an assembly: a plan for all its parts, or a set of parts that no step takes apart.
 ///
-/// For a set of parts the step is that of [`part_step`](crate::part_step). In a robust plan it is instead the step along
-/// the representative of the first cell that serves, of the open cells, then the edges, then the points, and its mark
-/// is the kind of the cell. The moved side is planned first, then the rest, and the first set that is stuck is the
-/// outcome. The marks of a plan stand in preorder; a plan that is not robust has none.
+/// For a set of parts the step is that of [`part_step`](crate::part_step). In a robust plan it is instead the step
+/// along the representative of the first cell that serves, of the open cells, then the edges, then the points, and
+/// its mark is the kind of the cell. The moved side is planned first, then the rest, and the first set that is
+/// stuck is the outcome. The marks of a plan stand in preorder; a plan that is not robust has none.
 ///
-/// One table is made for all parts, and in a robust plan one more for each smaller set. Where the first vertices of a set
-/// do not decide, its vertices are gone through by a walk along rings, which are made once.
+/// One table is made for all parts, and in a robust plan one more for each smaller set. Where the first vertices of
+/// a set do not decide, its vertices are gone through by a walk along rings, which are made once.
 ///
 /// There are at most `planes` planes, from 3 to [`MOST_PLANES`], and to [`MOST_CELL_PLANES`] in a robust plan;
 /// [`TooManyPlanes`](PlanesRefusal::TooManyPlanes) comes exactly where all parts together have more, with their

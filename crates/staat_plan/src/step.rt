@@ -45,8 +45,8 @@ pub(crate) fn step_of(table: &PlaneTable, w: PartSet) -> Option<Step>
 /// How many pairs of planes are tried one by one before rings are made.
 const FEW_PAIRS: u32 = 24;
 
-/// The step of a set of at least two parts that lies in the table's set, if the first vertices of its planes decide it:
-/// the step along one of them, or none where there are no others. It takes no memory.
+/// The step of a set of at least two parts that lies in the table's set, if the first vertices of its planes decide
+/// it: the step along one of them, or none where there are no others. It takes no memory.
 pub(crate) fn early_step(table: &PlaneTable, w: PartSet) -> Option<Option<Marked>>
     requires within { IsSubset w table.now.of }
     requires two { 2 ≤ set.len w }

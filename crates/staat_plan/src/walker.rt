@@ -1,5 +1,6 @@
 // The step of a set of parts by a walk along rings that are made once, for all parts.
-ghost use Rattle.std.specs.Prelude.{◌≡◌, ◌↔◌, ℕ, ◌<◌, ◌≤◌, List, IfOk, IfSome, MatchOption, false, length};
+ghost use Rattle.std.specs.Prelude.{◌≡◌, ◌↔◌, ℕ, ◌<◌, ◌≤◌};
+ghost use Rattle.std.specs.Prelude.{List, IfOk, IfSome, MatchOption, false, length};
 ghost use Rattle.std.specs.FinSet as set;
 ghost use Rattle.staat_vec.specs.Vectors.{IsWithin};
 ghost use Rattle.staat_model.specs.declared.assembly.Part.{Part as PartValue};
@@ -98,8 +99,8 @@ impl Walker {
         Ok(Walker { rings, walk })
     }
 
-    /// The step of a set of at least two parts that lies in the table's set, by a walk along the circles of its planes.
-    /// It takes no memory.
+    /// The step of a set of at least two parts that lies in the table's set, by a walk along the circles of its
+    /// planes. It takes no memory.
     ///
     /// The planes that are none of the set are unlinked before, and linked again behind it.
     pub(crate) fn step(&mut self, table: &PlaneTable, w: PartSet) -> Option<Step>
