@@ -1,6 +1,6 @@
 -- Which planes are linked while those that are none of a set of parts are taken out.
 use Rattle.std.proofs.Common.{◌≡◌, ◌≢◌, ◌⊎◌, ◌↔◌, inl, inr, ⊎_elim, ℕ, ◌+◌, ◌<◌, ◌≤◌, Bool, true, false, not, arith, ap, refl, sym, subst, ◌∙◌, List, [], ◌∷◌, ◌++◌, length, Contains, get_or, eq-eqb}
-use Rattle.std.specs.Prelude.{◌==◌, Some, slice_get}
+use Rattle.std.specs.Prelude.{◌==◌, IsTrue, Some, slice_get}
 use Rattle.std.specs.List.{filter}
 use Rattle.std.proofs.lemmas.List.{get_or_append_left, get_or_default}
 use Rattle.std.proofs.lemmas.Option.{same_Some, slice_get-get_or, slice_get_within}
@@ -18,7 +18,7 @@ use Rattle.staat_ring.specs.Without.{IsUnlinked}
 use Rattle.staat_ring.proofs.Mapped.{differ}
 use Rattle.staat_ring.proofs.RingsWithout.{linked_without}
 use Rattle.staat_ring.proofs.WithoutLemmas.{filter_from, filter_in}
-use Rattle.staat_plan.specs.RingSets.{AreLinkedPast}
+use Rattle.staat_plan.specs.RingSets.{AreAllLinkedFrom, AreThoseLinked}
 
 -- ---- all planes are linked at first
 
@@ -33,14 +33,14 @@ axis_of others j n at lt = (j, lt, get_or_default axes j n n lt ∙ go)
     go : get_or axes j n ≡ n
     go = sym (get_or_append_left axes others n j lt) ∙ same_Some (get_or (axes ++ others) j n) n (sym (slice_get-get_or (axes ++ others) j n (slice_get_within (axes ++ others) j n at)) ∙ at)
 
-pub past_axes : (parts : List Part) (t : Table) (w : PartSet) (rings : Arrangement) → WasMadeFrom parts t → WereMadeFrom t.planes rings → rings.unlinked ≡ [] → AreLinkedPast parts t.planes w (linked_of rings.rings) 3
-past_axes parts t w rings made from whole = record {
-  before = λ j n at lt. (
-    (λ _. inl (axis_of made.planes.others j n (subst (λ ps. slice_get ps j ≡ Some n) made.planes.is at) lt)),
-    (λ _. all_linked t rings from whole j (slice_get_within t.planes j n at)),
-  );
-  past = λ j le lt. all_linked t rings from whole j lt;
-}
+pub past_axes : (t : Table) (rings : Arrangement) → WereMadeFrom t.planes rings → rings.unlinked ≡ [] → AreAllLinkedFrom t.planes (linked_of rings.rings) 3
+past_axes t rings from whole j le lt = all_linked t rings from whole j lt
+
+pub before_axes : (parts : List Part) (t : Table) (w : PartSet) (rings : Arrangement) → WasMadeFrom parts t → WereMadeFrom t.planes rings → rings.unlinked ≡ [] → AreThoseLinked parts t.planes w (linked_of rings.rings) 3
+before_axes parts t w rings made from whole j n at lt = (
+  (λ _. inl (axis_of made.planes.others j n (subst (λ ps. slice_get ps j ≡ Some n) made.planes.is at) lt)),
+  (λ _. all_linked t rings from whole j (slice_get_within t.planes j n at)),
+)
 
 -- for the whole set of the table nothing is taken out
 pub whole_linked : (parts : List Part) (t : Table) (w : PartSet) (rings : Arrangement) → WasMadeFrom parts t → WereMadeFrom t.planes rings → rings.unlinked ≡ [] → IsSubset w t.of → IsSubset t.of w
@@ -55,19 +55,20 @@ whole_linked parts t w rings made from whole within over k n at = (
 one_more : (j k : ℕ) → j < k + 1 → (j < k) ⊎ (j ≡ k)
 one_more j k lt = grind arith
 
+-- the planes past it are linked as before
+pub past_next : (planes : List V3) (linked : List ℕ) (k : ℕ) → AreAllLinkedFrom planes linked k → AreAllLinkedFrom planes linked (k + 1)
+past_next planes linked k past j le lt = past j (omega (arith, le)) lt
+
 -- it is one of w
-pub used_past : (parts : List Part) (planes : List V3) (w : PartSet) (linked : List ℕ) (k : ℕ) → AreLinkedPast parts planes w linked k → ((n : V3) → slice_get planes k ≡ Some n → IsPlaneOf parts w n)
-    → AreLinkedPast parts planes w linked (k + 1)
-used_past parts planes w linked k old is = record {
-  before = λ j n at less. ⊎_elim {C = Contains linked j ↔ IsPlaneOf parts w n}
-      (λ lower. old.before j n at lower)
-      (λ e. (
-        (λ _. is n (subst (λ m. slice_get planes m ≡ Some n) e at)),
-        (λ _. old.past j (omega (arith, e)) (slice_get_within planes j n at)),
-      ))
-      (one_more j k less);
-  past = λ j le lt. old.past j (omega (arith, le)) lt;
-}
+pub used_before : (parts : List Part) (planes : List V3) (w : PartSet) (linked : List ℕ) (k : ℕ) → AreAllLinkedFrom planes linked k → AreThoseLinked parts planes w linked k → ((n : V3) → slice_get planes k ≡ Some n → IsPlaneOf parts w n)
+    → AreThoseLinked parts planes w linked (k + 1)
+used_before parts planes w linked k past before is j n at less = ⊎_elim {C = Contains linked j ↔ IsPlaneOf parts w n}
+    (λ lower. before j n at lower)
+    (λ e. (
+      (λ _. is n (subst (λ m. slice_get planes m ≡ Some n) e at)),
+      (λ _. past j (omega (arith, e)) (slice_get_within planes j n at)),
+    ))
+    (one_more j k less)
 
 not_same : (k p : ℕ) → not (k == p) ≡ true → k ≢ p
 not_same k p h e = off (k == p) (eq-eqb k p e) h
@@ -89,23 +90,31 @@ module _ (k : ℕ) (a b : Arrangement) (is : IsUnlinked k a b) where
   kept : (j : ℕ) → Contains (linked_of a.rings) j → j ≢ k → Contains (linked_of b.rings) j
   kept j c ne = subst (λ ks. Contains ks j) (sym linked_is) (filter_in (λ j. not (j == k)) (linked_of a.rings) j c (ap not (differ j k ne)))
 
-  pub unlinked_past : (parts : List Part) (planes : List V3) (w : PartSet) → AreLinkedPast parts planes w (linked_of a.rings) k → ((n : V3) → slice_get planes k ≡ Some n → IsPlaneOf parts w n → ⊥)
-      → AreLinkedPast parts planes w (linked_of b.rings) (k + 1)
-  unlinked_past parts planes w old none = record {
-    before = λ j n at less. ⊎_elim {C = Contains (linked_of b.rings) j ↔ IsPlaneOf parts w n}
-        (λ lower. (
-          (λ c. (old.before j n at lower).0 (out j c).0),
-          (λ p. kept j ((old.before j n at lower).1 p) (λ e. omega (arith, lower, e))),
-        ))
-        (λ e. (
-          (λ c. absurd ((out j c).1 e)),
-          (λ p. absurd (none n (subst (λ m. slice_get planes m ≡ Some n) e at) p)),
-        ))
-        (one_more j k less);
-    past = λ j le lt. kept j (old.past j (omega (arith, le)) lt) (λ e. omega (arith, le, e));
-  }
+  pub unlinked_past : (planes : List V3) → AreAllLinkedFrom planes (linked_of a.rings) k → AreAllLinkedFrom planes (linked_of b.rings) (k + 1)
+  unlinked_past planes past j le lt = kept j (past j (omega (arith, le)) lt) (λ e. omega (arith, le, e))
+
+  pub unlinked_before : (parts : List Part) (planes : List V3) (w : PartSet) → AreThoseLinked parts planes w (linked_of a.rings) k → ((n : V3) → slice_get planes k ≡ Some n → IsPlaneOf parts w n → ⊥)
+      → AreThoseLinked parts planes w (linked_of b.rings) (k + 1)
+  unlinked_before parts planes w before none j n at less = ⊎_elim {C = Contains (linked_of b.rings) j ↔ IsPlaneOf parts w n}
+      (λ lower. (
+        (λ c. (before j n at lower).0 (out j c).0),
+        (λ p. kept j ((before j n at lower).1 p) (λ e. omega (arith, lower, e))),
+      ))
+      (λ e. (
+        (λ c. absurd ((out j c).1 e)),
+        (λ p. absurd (none n (subst (λ m. slice_get planes m ≡ Some n) e at) p)),
+      ))
+      (one_more j k less)
 
 -- past the last plane those of w are linked and no others
-pub all_past : (parts : List Part) (planes : List V3) (w : PartSet) (linked : List ℕ) (k : ℕ) → AreLinkedPast parts planes w linked k → length planes ≤ k
+pub all_past : (parts : List Part) (planes : List V3) (w : PartSet) (linked : List ℕ) (k : ℕ) → AreThoseLinked parts planes w linked k → length planes ≤ k
     → (j : ℕ) (n : V3) → slice_get planes j ≡ Some n → Contains linked j ↔ IsPlaneOf parts w n
-all_past parts planes w linked k old le j n at = old.before j n at (let lt = slice_get_within planes j n at in omega (arith, lt, le))
+all_past parts planes w linked k before le j n at = before j n at (let lt = slice_get_within planes j n at in omega (arith, lt, le))
+
+-- ---- what tests say
+
+pub told_true : {P : Type 0} → IsTrue true ↔ P → P
+told_true h = h.0 refl
+
+pub told_false : {P : Type 0} → IsTrue false ↔ P → P → ⊥
+told_false h p = let e = h.1 p in cc

@@ -1,6 +1,18 @@
 -- What a walk along a circle finds: the first of the vertices that serve, in the order of pairs of planes.
-use Rattle.std.specs.Prelude.{◌≡◌, ◌⊎◌, ℕ, ◌+◌, ◌*◌, ◌<◌, ◌≤◌, ◌==◌, List,
-    Option, Some, Contains}
+use Rattle.std.specs.Prelude.{
+  ◌≡◌,
+  ◌⊎◌,
+  ℕ,
+  ◌+◌,
+  ◌*◌,
+  ◌<◌,
+  ◌≤◌,
+  ◌==◌,
+  List,
+  Option,
+  Some,
+  Contains,
+}
 use Rattle.std.specs.Prelude.{cond, if◌then◌else◌, length, nat_lt, slice_get}
 use Rattle.std.specs.List.{sum_by}
 use Rattle.staat_vec.specs.declared.vector.V3.{V3}

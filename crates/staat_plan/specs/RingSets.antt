@@ -1,6 +1,18 @@
 -- Rings of a table from which the planes that are none of a set of parts are taken out in their turn.
-use Rattle.std.specs.Prelude.{◌≡◌, ◌↔◌, ℕ, ◌<◌, ◌≤◌, List, [], Contains, Option, Some,
-    IfSome, length}
+use Rattle.std.specs.Prelude.{
+  ◌≡◌,
+  ◌↔◌,
+  ℕ,
+  ◌<◌,
+  ◌≤◌,
+  List,
+  [],
+  Contains,
+  Option,
+  Some,
+  IfSome,
+  length,
+}
 use Rattle.std.specs.Prelude.{slice_get}
 use Rattle.staat_vec.specs.declared.vector.V3.{V3}
 use Rattle.staat_model.specs.declared.assembly.Part.{Part}
@@ -12,12 +24,14 @@ use Rattle.staat_ring.specs.Belonging.{BelongTo}
 use Rattle.staat_ring.specs.Rings.{Arrangement, WereMadeFrom}
 use Rattle.staat_ring.specs.Signs.{Signed}
 
--- of the planes before k those of w are linked and no others, and from k on all are
-pub record AreLinkedPast (parts : List Part) (planes : List V3) (w : PartSet) (linked : List ℕ) (k : ℕ)
-    : Type 0 where
-  pub before : (j : ℕ) (n : V3) → slice_get planes j ≡ Some n → j < k
-      → Contains linked j ↔ IsPlaneOf parts w n
-  pub past : (j : ℕ) → k ≤ j → j < length planes → Contains linked j
+-- from k on all planes are linked
+abbrev pub AreAllLinkedFrom : List V3 → List ℕ → ℕ → Type 0
+AreAllLinkedFrom planes linked k = (j : ℕ) → k ≤ j → j < length planes → Contains linked j
+
+-- of the planes before k those of w are linked, and no others
+abbrev pub AreThoseLinked : List Part → List V3 → PartSet → List ℕ → ℕ → Type 0
+AreThoseLinked parts planes w linked k = (j : ℕ) (n : V3) → slice_get planes j ≡ Some n → j < k
+    → Contains linked j ↔ IsPlaneOf parts w n
 
 -- rings with all planes of the table, and the signs of a walk that was made from it
 pub record AreForTable (t : Table) (rings : Arrangement) (signs : Signed) : Type 0 where

@@ -232,7 +232,15 @@ fn outcome_of<F: FacetSource>(
     match outcome_of(alloc, source, sound, table, walker, step.moved, options)? {
         Outcome::Stuck(a) => Ok(Outcome::Stuck(a)),
         Outcome::Plan { tree, marks } => {
-            match outcome_of(alloc, source, sound, table, walker, w.without(step.moved), options)? {
+            match outcome_of(
+                alloc,
+                source,
+                sound,
+                table,
+                walker,
+                w.without(step.moved),
+                options,
+            )? {
                 Outcome::Stuck(b) => Ok(Outcome::Stuck(b)),
                 Outcome::Plan {
                     tree: rest,

@@ -7,7 +7,7 @@ ghost use Rattle.staat_model.specs.declared.assembly.Part.{Part as PartValue};
 ghost use Rattle.staat_model.specs.Outcomes.{HasNoStep, IsStep, try_vertex};
 ghost use Rattle.staat_model.specs.Sets.{IsSubset};
 ghost use Rattle.staat_pairs.specs.Tables.{WasMadeFrom};
-ghost use Rattle.staat_plan.specs.RingSets.{AreForTable, AreLinkedPast};
+ghost use Rattle.staat_plan.specs.RingSets.{AreAllLinkedFrom, AreForTable, AreThoseLinked};
 ghost use Rattle.staat_ring.specs.Belonging.{BelongTo};
 ghost use Rattle.staat_ring.specs.Rings.{WereMadeFrom, linked_of};
 
@@ -43,8 +43,9 @@ fn step_past<L: Ledger>(
     requires two { 2 ≤ set.len w }
     requires axes { LEAST_PLANES ≤ k }
     requires place { k ≤ length table.now.planes }
-    requires linked { (parts : List PartValue) → WasMadeFrom parts table.now
-        → AreLinkedPast parts table.now.planes w (linked_of rings.old.rings) k }
+    requires past { AreAllLinkedFrom table.now.planes (linked_of rings.old.rings) k }
+    requires before { (parts : List PartValue) → WasMadeFrom parts table.now
+        → AreThoseLinked parts table.now.planes w (linked_of rings.old.rings) k }
     ensures rings { rings.new ≡ rings.old }
     ensures made { BelongTo table.now walk.new.signs }
     ensures size { IfSome result (λ s. IsWithin DIRECTION s.d) }

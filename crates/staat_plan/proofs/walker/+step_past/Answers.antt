@@ -1,0 +1,77 @@
+use Rattle.std.proofs.Common.{◌<◌, ◌≤◌, ◌-◌, ◌+◌, arith, length}
+use Rattle.staat_ring.specs.Rings.{linked_of}
+use Rattle.staat_plan.proofs.RingSetLemmas.{all_past, past_next, told_false, told_true, unlinked_before, unlinked_past, used_before}
+use Rattle.staat_plan.proofs.walker.+step_past.Goals as goal
+
+pub part_step_rings-requires-clause-linked : goal.part_step_rings-requires-clause-linked
+part_step_rings-requires-clause-linked g t c parts made =
+    all_past parts c.args.table.now.planes c.args.w (linked_of c.args.rings.now.rings) c.args.k (c.requires.before parts made) (omega (arith, c.if-k-len.true, c.len.ensures.is))
+
+pub step_past-requires : goal.step_past-requires
+step_past-requires g t c κs within =
+    let lt : c.args.k < length c.args.table.now.planes = omega (arith, c.if-k-len.false, c.len.ensures.is) in
+    let less : length c.args.table.now.planes - (c.args.k + 1) < length c.args.table.now.planes - c.args.k = omega (arith, lt) in
+    let axes = c.requires.axes in (
+      omega (arith, less, c.decreases),
+      (
+        within,
+        (
+          c.requires.made,
+          (
+            c.requires.rings,
+            (
+              c.requires.within,
+              (
+                c.requires.two,
+                (
+                  omega (arith, axes),
+                  (
+                    omega (arith, lt),
+                    (
+                      past_next c.args.table.now.planes (linked_of c.args.rings.now.rings) c.args.k c.requires.past,
+                      λ parts made. used_before parts c.args.table.now.planes c.args.w (linked_of c.args.rings.now.rings) c.args.k c.requires.past (c.requires.before parts made) (λ n at. told_true (c.if-used.ensures.plane parts n made at)),
+                    ),
+                  ),
+                ),
+              ),
+            ),
+          ),
+        ),
+      ),
+    )
+
+pub unlink-requires-clause-linked : goal.unlink-requires-clause-linked
+unlink-requires-clause-linked g t c = c.requires.past c.args.k (omega arith) (omega (arith, c.if-k-len.false, c.len.ensures.is))
+
+pub step_past-step-requires : goal.step_past-step-requires
+step_past-step-requires g t c κs within =
+    let lt : c.args.k < length c.args.table.now.planes = omega (arith, c.if-k-len.false, c.len.ensures.is) in
+    let less : length c.args.table.now.planes - (c.args.k + 1) < length c.args.table.now.planes - c.args.k = omega (arith, lt) in
+    let axes = c.requires.axes in (
+      omega (arith, less, c.decreases),
+      (
+        within,
+        (
+          c.requires.made,
+          (
+            c.unlink.ensures.made c.args.table.now.planes c.len.ensures.rules.planes c.requires.rings,
+            (
+              c.requires.within,
+              (
+                c.requires.two,
+                (
+                  omega (arith, axes),
+                  (
+                    omega (arith, lt),
+                    (
+                      unlinked_past c.args.k c.args.rings.now c.unlink.new.self c.unlink.ensures.is c.args.table.now.planes c.requires.past,
+                      λ parts made. unlinked_before c.args.k c.args.rings.now c.unlink.new.self c.unlink.ensures.is parts c.args.table.now.planes c.args.w (c.requires.before parts made) (λ n at. told_false (c.if-used.ensures.plane parts n made at)),
+                    ),
+                  ),
+                ),
+              ),
+            ),
+          ),
+        ),
+      ),
+    )

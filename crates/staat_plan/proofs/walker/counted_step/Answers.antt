@@ -1,0 +1,16 @@
+use Rattle.std.proofs.Common.{subst, sym}
+use Rattle.staat_model.specs.declared.set.PartSet.{PartSet}
+use Rattle.staat_model.specs.Sets.{Has, IsSubset}
+use Rattle.staat_plan.proofs.RingSetLemmas.{before_axes, past_axes, whole_linked}
+use Rattle.staat_plan.proofs.walker.counted_step.Goals as goal
+
+pub part_step_rings-requires-clause-linked : goal.part_step_rings-requires-clause-linked
+part_step_rings-requires-clause-linked g c parts made =
+    let over : IsSubset c.args.table.now.of c.args.w = λ p h. c.within.ensures.0 c.if-within.true p (subst (λ (s : PartSet). Has s p) (sym c.set.ensures.is) h) in
+    whole_linked parts c.args.table.now c.args.w c.args.rings.now made c.requires.ready.made c.requires.ready.whole c.requires.within over
+
+pub step_past-requires-clause-past : goal.step_past-requires-clause-past
+step_past-requires-clause-past g c = past_axes c.args.table.now c.args.rings.now c.requires.ready.made c.requires.ready.whole
+
+pub step_past-requires-clause-before : goal.step_past-requires-clause-before
+step_past-requires-clause-before g c parts made = before_axes parts c.args.table.now c.args.w c.args.rings.now made c.requires.ready.made c.requires.ready.whole
