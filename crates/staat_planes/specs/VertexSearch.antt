@@ -1,5 +1,19 @@
 -- A search over the vertices of the planes of a set of parts: what it has left, and what it finds.
-use Rattle.std.specs.Prelude.{◌≡◌, ◌≢◌, ℕ, ◌+◌, ◌*◌, ◌<◌, ◌≤◌, List, ◌++◌, All, Contains, Option, MatchOption}
+use Rattle.std.specs.Prelude.{
+  ◌≡◌,
+  ◌≢◌,
+  ℕ,
+  ◌+◌,
+  ◌*◌,
+  ◌<◌,
+  ◌≤◌,
+  List,
+  ◌++◌,
+  All,
+  Contains,
+  Option,
+  MatchOption,
+}
 use Rattle.std.specs.Prelude.{drop, length, map, slice_index, slice_index_or, take}
 use Rattle.std.specs.Ordering.{nat_cmp}
 use Rattle.std.specs.List.Sorted.{IsStrictlySortedBy}
@@ -67,8 +81,10 @@ pub record IsFirstServed {F : Type 0} (serves : V3 → Type 0) (finds : V3 → F
   pub found_is : finds s.d s.found
 
 -- it is there, or none of the directions serves
-abbrev pub AreSearched : {F : Type 0} → (V3 → Type 0) → (V3 → F → Type 0) → List V3 → Option (Served F) → Type 0
-AreSearched serves finds vs result = MatchOption result (All (λ v. serves v → ⊥) vs) (IsFirstServed serves finds vs)
+abbrev pub AreSearched : {F : Type 0} → (V3 → Type 0) → (V3 → F → Type 0) → List V3
+    → Option (Served F) → Type 0
+AreSearched serves finds vs result = MatchOption result (All (λ v. serves v
+    → ⊥) vs) (IsFirstServed serves finds vs)
 
 -- these directions are left, and none of those before them serves
 pub record ArePassed (serves : V3 → Type 0) (vs left : List V3) : Type 0 where
@@ -77,7 +93,8 @@ pub record ArePassed (serves : V3 → Type 0) (vs left : List V3) : Type 0 where
   pub none : All (λ v. serves v → ⊥) before
 
 -- the same of a search that ends undecided after so many pairs of planes
-abbrev pub IsSearched : {F : Type 0} → (V3 → Type 0) → (V3 → F → Type 0) → List V3 → List V3 → ℕ → Search F
+abbrev pub IsSearched : {F : Type 0} → (V3 → Type 0) → (V3 → F → Type 0) → List V3 → List V3 → ℕ
+    → Search F
     → Type 0
 IsSearched serves finds vs left pairs (First s) = IsFirstServed serves finds vs s
 IsSearched serves finds vs left pairs Nothing = All (λ v. serves v → ⊥) vs

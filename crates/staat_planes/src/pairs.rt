@@ -1,6 +1,6 @@
 // The pairs of the planes of a set of parts, in pair order.
-ghost use Rattle.std.specs.Prelude.{◌≡◌, ◌≢◌, ◌+◌, ◌<◌, ◌≤◌, ◌↔◌, List, [], ◌∷◌, ◌++◌, IfSome, IsTrue};
-ghost use Rattle.std.specs.Prelude.{MatchOption, Some, length, slice_get, take};
+ghost use Rattle.std.specs.Prelude.{◌≡◌, ◌≢◌, ◌+◌, ◌<◌, ◌≤◌, ◌↔◌, List, []};
+ghost use Rattle.std.specs.Prelude.{◌∷◌, ◌++◌, IfSome, IsTrue, MatchOption, Some, length, slice_get, take};
 ghost use Rattle.staat_vec.specs.declared.vector.V3.{V3 as Vector};
 ghost use Rattle.staat_vec.specs.Vectors.{IsWithin, negative, origin};
 ghost use Rattle.staat_model.specs.declared.assembly.Part.{Part as PartValue};
