@@ -12,6 +12,10 @@ use Rattle.staat_plan.specs.declared.strong_arcs.StrongArcs.{StrongArcs}
 abbrev pub kept_arcs : StrongArcs → List Arc
 kept_arcs k = take k.count k.arcs
 
+-- the two parts that each of them joins
+abbrev pub ends_of : StrongArcs → List (ℕ × ℕ)
+ends_of k = map outward (kept_arcs k)
+
 -- one of the arcs leads from a piece of the part a to a piece of the part b
 abbrev pub Joins : List Arc → ℕ → ℕ → Type 0
 Joins arcs a b = Contains (map outward arcs) (a, b)

@@ -45,7 +45,7 @@ fn vertex_step(table: &PlaneTable, w: PartSet) -> Option<Marked>
     }
 }
 
-// The step of a set of parts of the table in a robust plan. The cells of a smaller set are those of a table of its own.
+// The step of a set of parts of the table in a robust plan. The cells of a smaller set come from a table of its own.
 fn robust_step<F: FacetSource>(
     alloc: Global,
     source: &F,
@@ -196,10 +196,10 @@ fn outcome_of<F: FacetSource>(
 
 /// The outcome of an assembly: a plan for all its parts, or a set of parts that no step takes apart.
 ///
-/// For a set of parts the step is that of [`part_step`](crate::part_step). In a robust plan it is instead the step along
-/// the representative of the first cell that serves, of the open cells, then the edges, then the points, and its mark
-/// is the kind of the cell. The moved side is planned first, then the rest, and the first set that is stuck is the
-/// outcome. The marks of a plan stand in preorder; a plan that is not robust has none.
+/// For a set of parts the step is that of [`part_step`](crate::part_step). In a robust plan it is instead the step
+/// along the representative of the first cell that serves, of the open cells, then the edges, then the points, and its
+/// mark is the kind of the cell. The moved side is planned first, then the rest, and the first set that is stuck is
+/// the outcome. The marks of a plan stand in preorder; a plan that is not robust has none.
 ///
 /// One table is made for all parts, and in a robust plan one more for each smaller set.
 ///

@@ -1,13 +1,12 @@
 // Arcs that show a blocking graph strong, kept from one direction to the next.
-ghost use Rattle.std.specs.Prelude.{◌≡◌, ℕ, ◌+◌, ◌<◌, ◌≤◌, ◌↔◌, List, [], ◌∷◌, ◌++◌, All, IsTrue, length, map, take};
+ghost use Rattle.std.specs.Prelude.{◌≡◌, ℕ, ◌+◌, ◌<◌, ◌≤◌, ◌↔◌, List, []};
+ghost use Rattle.std.specs.Prelude.{◌∷◌, ◌++◌, All, IsTrue, length, take};
 ghost use Rattle.staat_vec.specs.Vectors.{IsWithin};
-ghost use Rattle.staat_model.specs.Certificates.{outward};
-ghost use Rattle.staat_model.specs.Sets.{IsNonempty};
 ghost use Rattle.staat_graph.specs.Graphs.{AreTrees, HasArc};
 ghost use Rattle.staat_pairs.specs.Tables.{IsTableArc, Table};
 ghost use Rattle.staat_planes.specs.Tables.{IsAheadIn};
 ghost use Rattle.staat_plan.specs.Arcs.{IsMet};
-ghost use Rattle.staat_plan.specs.StrongArcs.{HoldsArcs, KeepsStrong, kept_arcs};
+ghost use Rattle.staat_plan.specs.StrongArcs.{HoldsArcs, KeepsStrong, ends_of, kept_arcs};
 ghost use Rattle.staat_plan.specs.Witnesses.{AreEndsAhead};
 
 use crate::arcs::least_arc;
@@ -85,7 +84,7 @@ impl StrongArcs {
         requires direction { IsWithin DIRECTION d }
         requires ahead { AreEndsAhead table.now d ends }
         ensures holds { HoldsArcs table.now self.new }
-        ensures put { IsTrue result → map outward (kept_arcs self.new) ≡ map outward (kept_arcs self.old) ++ ends ∷ [] }
+        ensures put { IsTrue result → ends_of self.new ≡ ends_of self.old ++ ends ∷ [] }
     {
         if self.count >= 62 {
             return false;
@@ -105,7 +104,7 @@ impl StrongArcs {
         requires direction { IsWithin DIRECTION d }
         requires ahead { All (AreEndsAhead table.now d) pairs.now }
         ensures holds { HoldsArcs table.now self.new }
-        ensures put { IsTrue result → map outward (kept_arcs self.new) ≡ map outward (kept_arcs self.old) ++ pairs.now }
+        ensures put { IsTrue result → ends_of self.new ≡ ends_of self.old ++ pairs.now }
     {
         for ends in pairs {
             if !self.put_least(table, d, *ends) {
@@ -123,7 +122,8 @@ impl StrongArcs {
         requires outs { All (AreEndsAhead table.now d) (take trees.now.count trees.now.outs) }
         requires ins { All (AreEndsAhead table.now d) (take trees.now.count trees.now.ins) }
         ensures holds { HoldsArcs table.now self.new }
-        ensures put { IsTrue result → map outward (kept_arcs self.new) ≡ take trees.now.count trees.now.outs ++ take trees.now.count trees.now.ins }
+        ensures put { IsTrue result → ends_of self.new
+            ≡ take trees.now.count trees.now.outs ++ take trees.now.count trees.now.ins }
     {
         let count = trees.count as usize;
         self.count = 0;
