@@ -1,5 +1,6 @@
 -- Moves that begin: the sides of a set of parts that no contact holds, and the one that is chosen.
-use Rattle.std.specs.Prelude.{◌≡◌, ◌⊎◌, ◌<◌, ◌≤◌, ℕ, pos, ◌<ℤ◌, List, Bool, All, Option, None, Some}
+use Rattle.std.specs.Prelude.{◌≡◌, ◌⊎◌, ◌<◌, ◌≤◌, ℕ, pos, ◌<ℤ◌, List, Bool, All}
+use Rattle.std.specs.Prelude.{Option, None, Some}
 use Rattle.std.specs.FinSet as set
 use Rattle.staat_vec.specs.declared.vector.V3.{V3}
 use Rattle.staat_vec.specs.Lists.{IsFirst}
@@ -35,7 +36,7 @@ pub record HoldsBack (parts : List Part) (w : PartSet) (d : V3) (a b : ℕ) : Ty
   pub b_in : Has w b
   pub starts : BlocksBy Starts parts d a b
 
--- the chosen beginning: the first vertex of the planes of w along which some side begins to move, and the side that does
+-- the chosen beginning: the first vertex of the planes of w along which some side begins to move, and that side
 pub record IsBeginning (parts : List Part) (w : PartSet) (loose : Loose) : Type 0 where
   pub planes : List V3
   pub planes_are : ArePlanes parts w planes

@@ -1,5 +1,6 @@
 -- Which pieces touch: how far points lie along a vector, and marks for pairs of pieces.
-use Rattle.std.specs.Prelude.{◌≡◌, ◌⊎◌, ◌↔◌, ℕ, ◌<◌, pos, ◌≤ℤ◌, Bool, false, List, IsTrue, slice_index_or}
+use Rattle.std.specs.Prelude.{◌≡◌, ◌⊎◌, ◌↔◌, ℕ, ◌<◌, pos, ◌≤ℤ◌, Bool, false, List}
+use Rattle.std.specs.Prelude.{IsTrue, slice_index_or}
 use Rattle.staat_vec.specs.declared.vector.V3.{V3}
 use Rattle.staat_vec.specs.Vectors.{dot, minus}
 use Rattle.staat_model.specs.declared.assembly.Part.{Part}

@@ -1,5 +1,6 @@
 // Which parts hold which back from beginning to move along a direction.
-ghost use Rattle.std.specs.Prelude.{◌≡◌, ◌≢◌, ◌<◌, ◌↔◌, ℕ, All, IsTrue, length, pos, ◌<ℤ◌};
+ghost use Rattle.std.specs.Prelude.{◌≡◌, ◌≢◌, ◌<◌, ◌↔◌, ℕ, All, IsTrue, length, pos};
+ghost use Rattle.std.specs.Prelude.{◌<ℤ◌};
 ghost use Rattle.staat_vec.specs.Vectors.{IsWithin, dot};
 ghost use Rattle.staat_model.specs.Sets.{Has};
 ghost use Rattle.staat_graph.specs.Blocking.{ShowsBlockingBy};

@@ -1,5 +1,6 @@
 // Whether two pieces touch.
-ghost use Rattle.std.specs.Prelude.{◌≡◌, ◌≤◌, ◌*◌, ◌↔◌, ◌⊎◌, unsigned_abs, All, Any, Contains, IsTrue, length};
+ghost use Rattle.std.specs.Prelude.{◌≡◌, ◌≤◌, ◌*◌, ◌↔◌, ◌⊎◌, All, Any, Contains, IsTrue};
+ghost use Rattle.std.specs.Prelude.{length, unsigned_abs};
 ghost use Rattle.staat_vec.specs.Vectors.{IsWithin, dot, minus};
 ghost use Rattle.staat_model.specs.Assemblies.{HoldsAt};
 ghost use Rattle.staat_pairs.specs.Tables.{IsTableArc, WasMadeFrom, facets_of};
@@ -90,8 +91,8 @@ fn has_no_farther(n: V3, a: V3, points: &[V3]) -> bool
 /// borders.
 ///
 /// The table was made from this assembly. The facets' sum leads from the first piece to the second, and two points
-/// that it does not part lie on the planes of all facets; so the time is linear in the numbers of facets and of points.
-/// It takes no memory.
+/// that it does not part lie on the planes of all facets; so the time is linear in the numbers of facets and of
+/// points. It takes no memory.
 pub fn touch(table: &PlaneTable, sound: &Sound, arc: Arc) -> bool
     requires made { WasMadeFrom sound.now table.now }
     requires across { IsTableArc table.now arc }

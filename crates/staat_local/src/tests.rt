@@ -46,8 +46,8 @@ fn text_of(alloc: Global, planes: &PlaneTable, sound: &Sound) -> Result<Bytes, O
     }
 }
 
-// Boxes at a corner of the cube, at a face and apart: whether they touch, and the parts that hold the cube back along x
-// at once, and sooner or later.
+// Boxes at a corner of the cube, at a face and apart: whether they touch, and the parts that hold the cube back along
+// x at once, and sooner or later.
 #[test]
 fn a_cube_and_a_box(rt: HostRuntime) -> Result<(), Fail> {
     let alloc = rt.alloc();

@@ -42,8 +42,8 @@ fn held_line(alloc: Global, of: PartSet) -> Result<Vec<u8>, AllocError>
     Ok(line)
 }
 
-/// The line `loose P .. along X Y Z away from Q ..` for a side of `of` that begins to move. For none it is `tight P ..`,
-/// or `single P` where `of` has one part.
+/// The line `loose P .. along X Y Z away from Q ..` for a side of `of` that begins to move. For none it is
+/// `tight P ..`, or `single P` where `of` has one part.
 ///
 /// `of` is not empty, and the side is neither empty nor all of it.
 pub fn local_text(alloc: Global, of: PartSet, found: &Option<Loose>) -> Result<Bytes, OutOfMemory>
