@@ -9,6 +9,7 @@ pub mod Assembling
 pub mod Graphing
 pub mod Planning
 pub mod Exploding
+pub mod Beginning
 pub mod CellTables
 pub mod Checking
 pub mod Drills

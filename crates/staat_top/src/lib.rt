@@ -10,6 +10,7 @@ mod explode;
 mod graph;
 mod input;
 pub mod laws;
+mod local;
 mod look;
 mod moved;
 mod pair;

@@ -13,6 +13,7 @@ use crate::check::check;
 use crate::drill::drill;
 use crate::explode::explode;
 use crate::graph::graph;
+use crate::local::local;
 use crate::look::look;
 use crate::pair::pair;
 use crate::plan::plan;
@@ -41,6 +42,7 @@ fn work<H: Shelf>(alloc: Global, request: &Request, shelf: &mut H) -> Result<Ans
         Request::Cells(request) => cells(alloc, request, shelf),
         Request::Drill(product) => drill(alloc, *product),
         Request::Explode(request) => explode(alloc, request, shelf),
+        Request::Local(request) => local(alloc, request, shelf),
     }
 }
 

@@ -25,11 +25,12 @@ use Rattle.staat_words.specs.declared.request.PlanRequest.{PlanRequest}
 use Rattle.staat_words.specs.declared.request.CellsRequest.{CellsRequest}
 use Rattle.staat_words.specs.declared.request.CheckRequest.{CheckRequest}
 use Rattle.staat_words.specs.declared.request.ExplodeRequest.{ExplodeRequest}
+use Rattle.staat_words.specs.declared.request.LocalRequest.{LocalRequest}
 use Rattle.staat_words.specs.declared.request.Product.{Product}
 use Rattle.staat_words.specs.declared.request.Product.TheVariants.{Boxes, Cubes}
 use Rattle.staat_words.specs.declared.request.Request.{Request}
 use Rattle.staat_words.specs.declared.request.Request.TheVariants.{Pair, Look, Graph, Plan, Check, Cells}
-use Rattle.staat_words.specs.declared.request.Request.TheVariants.{Drill, Explode}
+use Rattle.staat_words.specs.declared.request.Request.TheVariants.{Drill, Explode, Local}
 use Rattle.staat_words.specs.declared.request.RequestRefusal.{RequestRefusal}
 use Rattle.staat_words.specs.declared.request.RequestRefusal.TheVariants.{Usage, OutOfMemory}
 use Rattle.staat_words.specs.Spelled.{◌>>=◌, vector_within}
@@ -166,6 +167,12 @@ explode_in rows = do
   planes ← planes_in MOST_PLANES rows
   Some (record { asked = asked; planes = planes; off = is_given (codes "off") rows })
 
+unfoldable pub local_in : List Row → Option LocalRequest
+local_in rows = do
+  asked ← asked_in rows
+  planes ← planes_in MOST_PLANES rows
+  Some (record { asked = asked; planes = planes })
+
 -- the request of a subcommand and its matches: a line for each command
 unfoldable pub request_in : Option (Text × List Row) → Option Request
 request_in None = None
@@ -177,7 +184,8 @@ request_in (Some found) =
     else (if bytes_eq found.0 (codes "check") then option_map Check (check_in found.1)
     else (if bytes_eq found.0 (codes "cells") then option_map Cells (cells_in found.1)
     else (if bytes_eq found.0 (codes "drill") then option_map Drill (drill_in found.1)
-    else (if bytes_eq found.0 (codes "explode") then option_map Explode (explode_in found.1) else None)))))))
+    else (if bytes_eq found.0 (codes "explode") then option_map Explode (explode_in found.1)
+    else (if bytes_eq found.0 (codes "local") then option_map Local (local_in found.1) else None))))))))
 
 -- The request of the words: none is a usage fault.
 unfoldable pub request : List Text → Option Request
@@ -223,6 +231,10 @@ abbrev pub IsExplodeRequest : ExplodeRequest → Type 0
 IsExplodeRequest request =
     IsAsked request.asked × (LEAST_PLANES ≤ request.planes) × (request.planes ≤ MOST_PLANES)
 
+abbrev pub IsLocalRequest : LocalRequest → Type 0
+IsLocalRequest request =
+    IsAsked request.asked × (LEAST_PLANES ≤ request.planes) × (request.planes ≤ MOST_PLANES)
+
 -- the same of a request: a line for each command
 abbrev pub HasBounds : Request → Type 0
 HasBounds (Pair request) = IsPairRequest request
@@ -233,3 +245,4 @@ HasBounds (Check request) = IsAsked request.asked
 HasBounds (Cells request) = IsCellsRequest request
 HasBounds (Drill product) = IsProduct product
 HasBounds (Explode request) = IsExplodeRequest request
+HasBounds (Local request) = IsLocalRequest request

@@ -9,8 +9,8 @@ mod vector;
 mod words;
 
 pub use request::{
-    Asked, CellsRequest, CheckRequest, ExplodeRequest, GraphRequest, Input, PairRequest,
-    PlanRequest, Product, Request, RequestRefusal,
+    Asked, CellsRequest, CheckRequest, ExplodeRequest, GraphRequest, Input, LocalRequest,
+    PairRequest, PlanRequest, Product, Request, RequestRefusal,
 };
 pub use words::request_of;
 

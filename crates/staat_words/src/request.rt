@@ -71,6 +71,14 @@ pub struct ExplodeRequest {
     pub off: bool,
 }
 
+/// Whether some side of the parts begins to move.
+#[derive(Drop)]
+pub struct LocalRequest {
+    pub asked: Asked,
+    /// How many planes all parts may have, 3 to `MOST_PLANES`.
+    pub planes: u32,
+}
+
 /// Whether a certificate is valid for the parts.
 #[derive(Drop)]
 pub struct CheckRequest {
@@ -101,6 +109,7 @@ pub enum Request {
     /// The program tried on a product of its own.
     Drill(Product),
     Explode(ExplodeRequest),
+    Local(LocalRequest),
 }
 
 /// Why words give no request.

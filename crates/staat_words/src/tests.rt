@@ -15,7 +15,7 @@ fn asked(alloc: Global, words: &[&str]) -> Result<Result<Request, RequestRefusal
 #[test]
 fn words_are_taken_or_a_usage_fault(rt: HostRuntime) -> Result<(), Fail> {
     let alloc = rt.alloc();
-    let table: [(&[&str], bool); 83] = [
+    let table: [(&[&str], bool); 86] = [
         (&["pair", "a", "b", "--along=0,0,1", "--wall=1,0,0"], true),
         (&["pair", "--wall=1,0,0", "a", "b", "--along=0,0,1"], true),
         (
@@ -154,6 +154,9 @@ fn words_are_taken_or_a_usage_fault(rt: HostRuntime) -> Result<(), Fail> {
         (&["explode", "a", "--planes=1025"], false),
         (&["explode", "a", "--off=true"], false),
         (&["explode", "a", "--robust"], false),
+        (&["local", "--manifest=m", "--planes=3"], true),
+        (&["local", "a", "--planes=1025"], false),
+        (&["local", "a", "--off"], false),
         (&["help"], false),
         (&[], false),
     ];
@@ -244,13 +247,18 @@ fn shown(alloc: Global, request: &Request) -> Result<String, AllocError> {
             let asked = source(alloc, &request.asked)?;
             format!(in alloc; "{asked}, {planes} planes")
         }
+        Request::Local(request) => {
+            let planes = request.planes;
+            let asked = source(alloc, &request.asked)?;
+            format!(in alloc; "{asked}, {planes} planes")
+        }
     }
 }
 
 #[test]
 fn a_request_has_the_values_of_its_words(rt: HostRuntime) -> Result<(), Fail> {
     let alloc = rt.alloc();
-    let table: [(&[&str], &str); 18] = [
+    let table: [(&[&str], &str); 20] = [
         (&["check", "c", "--digits=3", "a", "b"], "3: 2 files by c"),
         (
             &[
@@ -293,6 +301,11 @@ fn a_request_has_the_values_of_its_words(rt: HostRuntime) -> Result<(), Fail> {
             "0: 2 files, 1024 planes, as a drawing",
         ),
         (&["explode", "--planes=7", "a"], "0: 1 files, 7 planes"),
+        (
+            &["local", "--digits=2", "a", "b"],
+            "2: 2 files, 1024 planes",
+        ),
+        (&["local", "--planes=7", "a"], "0: 1 files, 7 planes"),
         (&["drill", "row", "3"], "3 cubes"),
         (&["drill", "box", "4"], "4 boxes"),
         (

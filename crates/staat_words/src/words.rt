@@ -5,7 +5,7 @@ ghost use Rattle.staat_words.specs.Command.{is_taken, matches as matches_at};
 ghost use Rattle.staat_words.specs.Requests.{ReadsWords, HasBounds, IsAsked, IsCellsRequest, IsExplodeRequest};
 ghost use Rattle.staat_words.specs.Requests.{IsGraphRequest, IsPairRequest, IsPlanRequest, IsProduct, asked_in};
 ghost use Rattle.staat_words.specs.Requests.{cells_in, check_in, drill_in, explode_in, graph_in, pair_in, plan_in};
-ghost use Rattle.staat_words.specs.Requests.{request, request_in};
+ghost use Rattle.staat_words.specs.Requests.{IsLocalRequest, local_in, request, request_in};
 
 use crate::arguments::{
     certificate_of, digits_of, input_of, is_given, limit_of, name_of, planes_of, product_of,
@@ -13,8 +13,8 @@ use crate::arguments::{
 };
 use crate::command::staat_command;
 use crate::request::{
-    Asked, CellsRequest, CheckRequest, ExplodeRequest, GraphRequest, PairRequest, PlanRequest,
-    Product, Request, RequestRefusal,
+    Asked, CellsRequest, CheckRequest, ExplodeRequest, GraphRequest, LocalRequest, PairRequest,
+    PlanRequest, Product, Request, RequestRefusal,
 };
 use clap::ArgMatches;
 use clap::error::ErrorKind;
@@ -120,6 +120,16 @@ fn explode_of(alloc: Global, matches: &ArgMatches<'_>) -> Result<ExplodeRequest,
     Ok(ExplodeRequest { asked, planes, off })
 }
 
+#[tactic(auto, unfolding(crate::specs::Requests::local_in))]
+fn local_of(alloc: Global, matches: &ArgMatches<'_>) -> Result<LocalRequest, RequestRefusal>
+    ensures answers { ReadsWords (local_in (rows_of (found_of matches.now))) result }
+    ensures bounds { IfOk result IsLocalRequest }
+{
+    let asked = asked_of(alloc, matches)?;
+    let planes = planes_of(matches, MOST_PLANES).ok_or(RequestRefusal::Usage)?;
+    Ok(LocalRequest { asked, planes })
+}
+
 // The matches of words that `clap` takes.
 fn matches_of<'a>(alloc: Global, words: &'a [String]) -> Result<ArgMatches<'a>, RequestRefusal>
     ensures taken { IfOk result (λ m. is_taken (map string_bytes words.entry.now) ≡ true) }
@@ -160,6 +170,8 @@ fn request_from(alloc: Global, matches: &ArgMatches<'_>) -> Result<Request, Requ
                 Ok(Request::Drill(drill_of(inner)?))
             } else if name == "explode" {
                 Ok(Request::Explode(explode_of(alloc, inner)?))
+            } else if name == "local" {
+                Ok(Request::Local(local_of(alloc, inner)?))
             } else {
                 Err(RequestRefusal::Usage)
             }

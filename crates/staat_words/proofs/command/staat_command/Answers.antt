@@ -15,5 +15,6 @@ returns c =
     let check = c.in_ok-staat-5.ensures ∙ ap₂ (λ a b. with_subcommand a b.top) plan c.in_ok-check_command.ensures.app in
     let cells = c.in_ok-staat-6.ensures ∙ ap₂ (λ a b. with_subcommand a b.top) check c.in_ok-cells_command.ensures.app in
     let drill = c.in_ok-staat-7.ensures ∙ ap₂ (λ a b. with_subcommand a b.top) cells c.in_ok-drill_command.ensures.app in
-    let explode = ap₂ (λ a b. with_subcommand a b.top) drill c.in_ok-explode_command.ensures.app in
-    subst (λ app. IfOk c.with_command-8.result (λ r. app_of r ≡ app)) explode c.with_command-8.ensures
+    let explode = c.in_ok-staat-8.ensures ∙ ap₂ (λ a b. with_subcommand a b.top) drill c.in_ok-explode_command.ensures.app in
+    let local = ap₂ (λ a b. with_subcommand a b.top) explode c.in_ok-local_command.ensures.app in
+    subst (λ app. IfOk c.with_command-9.result (λ r. app_of r ≡ app)) local c.with_command-9.ensures
