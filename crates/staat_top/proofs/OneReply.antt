@@ -42,7 +42,7 @@ use Rattle.staat_words.specs.declared.request.Input.{Input}
 use Rattle.staat_words.specs.declared.request.Input.TheVariants as input
 use Rattle.staat_words.specs.declared.request.Product.{Product}
 use Rattle.staat_words.specs.declared.request.Request.{Request}
-use Rattle.staat_words.specs.declared.request.Request.TheVariants.{Pair, Look, Graph, Plan, Check, Cells, Drill, Explode, Linear}
+use Rattle.staat_words.specs.declared.request.Request.TheVariants.{Pair, Look, Graph, Plan, Check, Cells, Drill, Explode, Linear, Local}
 use Rattle.staat_top.specs.declared.read.TheConstants.{FILE_LIMIT}
 use Rattle.staat_top.specs.declared.answer.Answer.{Answer}
 use Rattle.staat_top.specs.Work.{Files, Found, Then, Each, IsTakenWithin, to_read, too_long, taken}
@@ -75,6 +75,8 @@ use Rattle.staat_linear.proofs.OneOrder.{IsChosen-unique}
 use Rattle.staat_top.specs.Ordering.{IsOrdered, order_answer}
 use Rattle.staat_top.specs.Drawing.{solids_of}
 use Rattle.staat_top.specs.Exploding.{AreShifted, IsExploded, IsPlanViewed, IsOutcomeViewed, IsViewed, scene, scene_too_long, shifted_far, shifted_near, vectors}
+use Rattle.staat_local.proofs.Beginning.{one_found_lemma}
+use Rattle.staat_top.specs.Beginning.{IsBegun, local_answer}
 use Rattle.staat_top.specs.Checking.{SaysCertificate, says_whole, says_bad, says_short, IsCertificateIn, IsChecked, verdict_answer}
 use Rattle.staat_top.specs.Replies.{IsJudged, answer, free, not_shown, WorkOn, WorkOnWords, Reply, MakesReply, IsReply}
 
@@ -534,6 +536,12 @@ ordered_one files parts = record { one = λ f g a b sf sg. one f g a b; held = �
     one : (f g : Found Answer) → IsOrdered parts f → IsOrdered parts g → f ≡ g
     one f g a b = a.is ∙ ap (λ (o : Order). Ok (order_answer o)) (IsChosen-unique parts a.chosen b.chosen) ∙ sym b.is
 
+begun_one : (files : Files) (parts : List Part) → FindsOne files (IsBegun parts)
+begun_one files parts = record {
+  one = λ f g a b sf sg. a.is ∙ ap (λ begins. Ok (local_answer (all_parts parts) begins)) (one_found_lemma parts (all_parts parts) a.begins b.begins a.is_found b.is_found) ∙ sym b.is;
+  held = λ name f at lacks step settled. given_not_fault _ (ReadFault name) (sym at.is);
+}
+
 -- ---- the commands
 
 work_one : (request : Request) (files : Files) → FindsOne files (WorkOn request files)
@@ -555,6 +563,8 @@ work_one (Explode request) files = then_one files (IsSoundOf files request.asked
     (λ parts. then_one files (AreCounted parts request.planes) _ (counted_one files parts request.planes) (λ planes. exploded_one files request parts))
 work_one (Linear request) files = then_one files (IsSoundOf files request.asked) _ (sound_one files request.asked)
     (λ parts. then_one files (AreCounted parts request.planes) _ (counted_one files parts request.planes) (λ planes. ordered_one files parts))
+work_one (Local request) files = then_one files (IsSoundOf files request.asked) _ (sound_one files request.asked)
+    (λ parts. then_one files (AreCounted parts request.planes) _ (counted_one files parts request.planes) (λ planes. begun_one files parts))
 
 pub words_one : (asked : Option Request) (files : Files) → FindsOne files (WorkOnWords asked files)
 words_one None files = record { one = λ f g a b sf sg. a ∙ sym b; held = λ name f at lacks step settled. absurd (usage_reads name at) }

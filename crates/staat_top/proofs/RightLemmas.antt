@@ -1,7 +1,9 @@
 -- What statuses 0 and 1 mean.
-use Rattle.std.proofs.Common.{true, false, Bool, ◌≡◌, ℕ, suc, List, [], ◌∷◌, map, length, All, Option, Some, None, refl, ap, ap₂, sym, ◌∙◌, subst, arith, inl, inr}
+use Rattle.std.proofs.Common.{true, false, Bool, ◌≡◌, ◌<◌, ◌≤◌, ℕ, suc, List, [], ◌∷◌, map, length, All, Option, Some, None, refl, ap, ap₂, sym, ◌∙◌, subst, arith, inl, inr}
 use Rattle.std.proofs.lemmas.List.Elements.{All-nil, All-cons}
-use Rattle.std.specs.Prelude.{Ok}
+use Rattle.std.specs.Prelude.{Ok, nat_lt, if◌then◌else◌}
+use Rattle.std.specs.FinSet as set
+use Rattle.std.proofs.lemmas.Bool.Decides.{nat_tests}
 use Rattle.staat_vec.specs.declared.vector.V3.{V3}
 use Rattle.staat_model.specs.declared.assembly.Part.{Part}
 use Rattle.staat_model.specs.Assemblies.{IsAssembly, IsSound}
@@ -20,7 +22,7 @@ use Rattle.staat_words.specs.declared.request.Input.TheVariants as inputs
 use Rattle.staat_words.specs.declared.request.Asked.{Asked}
 use Rattle.staat_words.specs.declared.request.Product.{Product}
 use Rattle.staat_words.specs.declared.request.Request.{Request}
-use Rattle.staat_words.specs.declared.request.Request.TheVariants.{Pair, Look, Graph, Plan, Check, Cells, Drill, Explode, Linear}
+use Rattle.staat_words.specs.declared.request.Request.TheVariants.{Pair, Look, Graph, Plan, Check, Cells, Drill, Explode, Linear, Local}
 use Rattle.staat_top.specs.declared.answer.Answer.{Answer}
 use Rattle.staat_top.specs.Work.{Files, Found, Each, to_read, too_long, taken}
 use Rattle.staat_top.specs.Inputs.{alone, SaysListing, no_listing, listing, IsListingOf, IsPartOf, IsInputOf, part_of}
@@ -59,6 +61,12 @@ use Rattle.staat_linear.specs.OrderTexts.{order_text}
 use Rattle.staat_linear.proofs.Choosing.{chosen_settles}
 use Rattle.staat_linear.proofs.Locked.{locked_lemma}
 use Rattle.staat_top.specs.Ordering.{order_answer, order_status}
+use Rattle.staat_words.specs.declared.request.LocalRequest.{LocalRequest}
+use Rattle.staat_local.specs.declared.side.Loose.{Loose}
+use Rattle.staat_local.specs.Beginnings.{IsFoundIn, IsTight}
+use Rattle.staat_local.proofs.Beginning.{none_loosens}
+use Rattle.staat_local.proofs.Holding.{tight_is_stuck_lemma}
+use Rattle.staat_top.specs.Beginning.{IsBegun, local_answer, local_status}
 use Rattle.staat_check.specs.Verdicts.{IsPlanOf, IsRefusalWithSet}
 use Rattle.staat_top.specs.Checking.{IsCertificateIn, IsChecked, verdict_answer}
 use Rattle.staat_cells.proofs.OneCell.{one_cell}
@@ -73,7 +81,14 @@ use Rattle.staat_model.specs.Plans.{IsGood, Plan as Tree}
 use Rattle.staat_text.specs.PlanTexts.{plan_text}
 use Rattle.staat_top.specs.Drawing.{solids_of}
 use Rattle.staat_top.specs.Exploding.{AreShifted, IsPlanViewed, IsOutcomeViewed, IsViewed, scene, scene_too_long, shifted_far, shifted_near, vectors}
-use Rattle.staat_top.specs.Replies.{AreSoundParts, SaysApart, SaysLocked, SaysOrder, SaysView, plan_asked, SaysDrilled, SaysCells, SaysOutcome, SaysGoodPlan, SaysStuckSet, SaysValid, SaysNotValid, ShowsValid, valid_plan, valid_refusal, free, not_shown, WorkOnWords, IsRight, IsDenied}
+use Rattle.staat_top.specs.Replies.{AreSoundParts, SaysApart, SaysLocked, SaysOrder, SaysView, plan_asked, SaysDrilled, SaysCells, SaysOutcome, SaysGoodPlan, SaysStuckSet, SaysValid, SaysNotValid, ShowsValid, valid_plan, valid_refusal, free, not_shown, WorkOnWords, IsRight, IsDenied, SaysBeginning, SaysTight}
+
+-- the status of a set of parts no side of which begins to move
+no_status : (n : ℕ) → 2 ≤ n → (if nat_lt n 2 then 0 else 1) ≡ 0 → ⊥
+no_status n two zero = grind (arith, nat_tests)
+
+no_status_one : (n : ℕ) → n < 2 → (if nat_lt n 2 then 0 else 1) ≡ 1 → ⊥
+no_status_one n few one = grind (arith, nat_tests)
 
 -- ---- pieces
 
@@ -293,6 +308,20 @@ locked_is_said files request parts (Locked w) are chosen one =
     let settled = chosen_settles parts (all_parts parts) (Locked w) are.assembly chosen in
     record { parts = parts; sound = are; set = w; within = settled.0; locked = settled.1; none = λ leaves last good. locked_lemma parts w (all_parts parts) leaves last settled.1 settled.0 good.order good.free; says = refl }
 
+-- with status 0 some side begins to move, or there is one part
+beginning_is_said : (files : Files) (request : LocalRequest) (parts : List Part) (begins : Option Loose) → AreSoundParts files request.asked parts → IsFoundIn parts (all_parts parts) begins → local_status (all_parts parts) begins ≡ 0 → SaysBeginning files request (local_answer (all_parts parts) begins).text
+beginning_is_said files request parts begins are found zero = record { parts = parts; sound = are; begins = begins; is_found = found; not_tight = λ tight. open begins found zero tight; says = refl }
+  where
+    open : (begins : Option Loose) → IsFoundIn parts (all_parts parts) begins → local_status (all_parts parts) begins ≡ 0 → IsTight parts (all_parts parts) → ⊥
+    open (Some loose) (two, is) zero tight = none_loosens parts (all_parts parts) loose is tight
+    open None is zero tight = let two = tight.two in no_status (set.len (all_parts parts)) two zero
+
+-- with status 1 none does
+tight_is_said : (files : Files) (request : LocalRequest) (parts : List Part) (begins : Option Loose) → AreSoundParts files request.asked parts → IsFoundIn parts (all_parts parts) begins → local_status (all_parts parts) begins ≡ 1 → SaysTight files request (local_answer (all_parts parts) begins).text
+tight_is_said files request parts (Some loose) are found one = absurd (omega (arith, one))
+tight_is_said files request parts None are (inl few) one = absurd (no_status_one (set.len (all_parts parts)) few one)
+tight_is_said files request parts None are (inr tight) one = record { parts = parts; sound = are; is_tight = tight; is_stuck = tight_is_stuck_lemma parts (all_parts parts) tight; says = refl }
+
 -- a wall that is shown keeps the pieces apart, a look or a graph gives sound parts, and a plan takes them apart
 pub status_is_right : (asked : Option Request) (files : Files) (a : Answer) → HasRequestBounds asked → WorkOnWords asked files (Ok a) → a.status ≡ 0 → IsRight asked files a.text
 status_is_right None files a bounds e zero = absurd cc
@@ -342,6 +371,12 @@ status_is_right (Some (Linear request)) files a bounds (inr (built, found, inr (
     let same : order_answer p.order ≡ a = same_answer a (order_answer p.order) p.is in
     subst (λ (b : Answer). SaysOrder files request b.text) same
     (order_is_said files request built p.order (sound_parts files request.asked built bounds.0 found) p.chosen (ap (λ (b : Answer). b.status) same ∙ zero))
+status_is_right (Some (Local request)) files a bounds (inl (fault, at, e)) zero = absurd cc
+status_is_right (Some (Local request)) files a bounds (inr (built, found, inl (fault, at, e))) zero = absurd cc
+status_is_right (Some (Local request)) files a bounds (inr (built, found, inr (planes, counted, p))) zero =
+    let same : local_answer (all_parts built) p.begins ≡ a = same_answer a (local_answer (all_parts built) p.begins) p.is in
+    subst (λ (b : Answer). SaysBeginning files request b.text) same
+    (beginning_is_said files request built p.begins (sound_parts files request.asked built bounds.0 found) p.is_found (ap (λ (b : Answer). b.status) same ∙ zero))
 
 -- a wall that is not shown is none, and a set that is named as stuck is stuck
 pub status_is_denied : (asked : Option Request) (files : Files) (a : Answer) → HasRequestBounds asked → WorkOnWords asked files (Ok a) → a.status ≡ 1 → IsDenied asked files a.text
@@ -390,3 +425,9 @@ status_is_denied (Some (Linear request)) files a bounds (inr (built, found, inr 
     let same : order_answer p.order ≡ a = same_answer a (order_answer p.order) p.is in
     subst (λ (b : Answer). SaysLocked files request b.text) same
     (locked_is_said files request built p.order (sound_parts files request.asked built bounds.0 found) p.chosen (ap (λ (b : Answer). b.status) same ∙ one))
+status_is_denied (Some (Local request)) files a bounds (inl (fault, at, e)) one = absurd cc
+status_is_denied (Some (Local request)) files a bounds (inr (built, found, inl (fault, at, e))) one = absurd cc
+status_is_denied (Some (Local request)) files a bounds (inr (built, found, inr (planes, counted, p))) one =
+    let same : local_answer (all_parts built) p.begins ≡ a = same_answer a (local_answer (all_parts built) p.begins) p.is in
+    subst (λ (b : Answer). SaysTight files request b.text) same
+    (tight_is_said files request built p.begins (sound_parts files request.asked built bounds.0 found) p.is_found (ap (λ (b : Answer). b.status) same ∙ one))

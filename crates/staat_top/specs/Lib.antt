@@ -10,6 +10,7 @@ pub mod Graphing
 pub mod Planning
 pub mod Exploding
 pub mod Ordering
+pub mod Beginning
 pub mod CellTables
 pub mod Checking
 pub mod Drills

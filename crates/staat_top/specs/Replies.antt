@@ -26,11 +26,12 @@ use Rattle.staat_words.specs.declared.request.CellsRequest.{CellsRequest}
 use Rattle.staat_words.specs.declared.request.CheckRequest.{CheckRequest}
 use Rattle.staat_words.specs.declared.request.ExplodeRequest.{ExplodeRequest}
 use Rattle.staat_words.specs.declared.request.LinearRequest.{LinearRequest}
+use Rattle.staat_words.specs.declared.request.LocalRequest.{LocalRequest}
 use Rattle.staat_words.specs.declared.request.PlanRequest.{PlanRequest}
 use Rattle.staat_words.specs.declared.request.Product.{Product}
 use Rattle.staat_words.specs.declared.request.Request.{Request}
 use Rattle.staat_words.specs.declared.request.Request.TheVariants.{Pair, Look, Graph, Plan, Check, Cells}
-use Rattle.staat_words.specs.declared.request.Request.TheVariants.{Drill, Explode, Linear}
+use Rattle.staat_words.specs.declared.request.Request.TheVariants.{Drill, Explode, Linear, Local}
 use Rattle.staat_fault.specs.declared.fault.Fault.{Fault}
 use Rattle.staat_fault.specs.declared.fault.Fault.TheVariants.{Usage, ReadFault}
 use Rattle.staat_fault.specs.Faults.{status_of, line_of}
@@ -45,6 +46,9 @@ use Rattle.staat_linear.specs.declared.order.Leave.{Leave}
 use Rattle.staat_linear.specs.declared.order.Order.TheVariants.{Whole, Locked}
 use Rattle.staat_linear.specs.Orders.{IsGoodOrder, IsLocked}
 use Rattle.staat_linear.specs.OrderTexts.{order_text}
+use Rattle.staat_local.specs.declared.side.Loose.{Loose}
+use Rattle.staat_local.specs.Beginnings.{IsFoundIn, IsTight}
+use Rattle.staat_local.specs.LocalTexts.{local_text}
 use Rattle.staat_manifest.specs.declared.listing.ListedPart.{ListedPart}
 use Rattle.staat_check.specs.Verdicts.{IsPlanOf, IsRefusalWithSet}
 use Rattle.staat_text.specs.CellTexts.{IsCellsText}
@@ -60,6 +64,7 @@ use Rattle.staat_top.specs.Planning.{IsPlanned}
 use Rattle.staat_top.specs.Drawing.{solids_of}
 use Rattle.staat_top.specs.Exploding.{IsExploded}
 use Rattle.staat_top.specs.Ordering.{IsOrdered}
+use Rattle.staat_top.specs.Beginning.{IsBegun}
 use Rattle.staat_top.specs.CellTables.{AreTabled}
 use Rattle.staat_top.specs.Checking.{IsCertificateIn, IsChecked}
 use Rattle.staat_top.specs.Drills.{IsDrilled, drill_line, parts_of_product}
@@ -103,6 +108,9 @@ WorkOn (Explode request) files found =
 WorkOn (Linear request) files found =
     Then (IsSoundOf files request.asked) (λ parts. Then (AreCounted parts request.planes)
     (λ planes. IsOrdered parts)) found
+WorkOn (Local request) files found =
+    Then (IsSoundOf files request.asked) (λ parts. Then (AreCounted parts request.planes)
+    (λ planes. IsBegun parts)) found
 
 -- what the work on words finds, which may make no request
 abbrev pub WorkOnWords : Option Request → Files → Found Answer → Type 0
@@ -214,6 +222,23 @@ pub record SaysLocked (files : Files) (request : LinearRequest) (text : List ℕ
   pub none : (leaves : List Leave) (last : ℕ) → IsGoodOrder parts (all_parts parts) leaves last → ⊥
   pub says : text ≡ order_text (Locked set)
 
+-- the text says which side of all parts begins to move, or that there is one part alone; the parts are not tight
+pub record SaysBeginning (files : Files) (request : LocalRequest) (text : List ℕ) : Type 0 where
+  pub parts : List Part
+  pub sound : AreSoundParts files request.asked parts
+  pub begins : Option Loose
+  pub is_found : IsFoundIn parts (all_parts parts) begins
+  pub not_tight : IsTight parts (all_parts parts) → ⊥
+  pub says : text ≡ local_text (all_parts parts) begins
+
+-- the text says that no side of all parts begins to move, so that they are stuck
+pub record SaysTight (files : Files) (request : LocalRequest) (text : List ℕ) : Type 0 where
+  pub parts : List Part
+  pub sound : AreSoundParts files request.asked parts
+  pub is_tight : IsTight parts (all_parts parts)
+  pub is_stuck : IsStuck parts (all_parts parts)
+  pub says : text ≡ local_text (all_parts parts) None
+
 -- What a valid certificate shows, and the line that says so: its tree takes all parts apart, or its set is stuck and
 -- no plan takes all parts apart.
 pub data ShowsValid (parts : List Part) (certificate : Certificate) (text : List ℕ) : Type 0 where
@@ -269,6 +294,7 @@ IsRight (Some (Cells request)) files text = SaysCells files request text
 IsRight (Some (Drill product)) files text = SaysDrilled product text
 IsRight (Some (Explode request)) files text = SaysApart files request text
 IsRight (Some (Linear request)) files text = SaysOrder files request text
+IsRight (Some (Local request)) files text = SaysBeginning files request text
 
 -- What status 1 means, with the text that is printed. For a pair: the wall does not show that the pieces never meet.
 abbrev pub IsDenied : Option Request → Files → List ℕ → Type 0
@@ -279,4 +305,5 @@ IsDenied (Some (Plan request)) files text = SaysStuckSet files request text
 IsDenied (Some (Check request)) files text = SaysNotValid files request text
 IsDenied (Some (Explode request)) files text = SaysStuckSet files (plan_asked request) text
 IsDenied (Some (Linear request)) files text = SaysLocked files request text
+IsDenied (Some (Local request)) files text = SaysTight files request text
 IsDenied asked files text = ⊥

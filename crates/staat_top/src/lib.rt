@@ -11,6 +11,7 @@ mod graph;
 mod input;
 pub mod laws;
 mod linear;
+mod local;
 mod look;
 mod moved;
 mod pair;

@@ -465,7 +465,7 @@ fn the_parts_of_an_input_are_listed(rt: HostRuntime) -> Result<(), Fail> {
 #[test]
 fn each_command_reads_a_file_as_often_as_it_is_named(rt: HostRuntime) -> Result<(), Fail> {
     let alloc = rt.alloc();
-    let table: [(&[&str], &[&str]); 9] = [
+    let table: [(&[&str], &[&str]); 10] = [
         (
             &["check", "c.txt", "a.off", "b.off"],
             &["a.off", "b.off", "c.txt"],
@@ -473,6 +473,7 @@ fn each_command_reads_a_file_as_often_as_it_is_named(rt: HostRuntime) -> Result<
         (&["plan", "b.off", "a.off"], &["b.off", "a.off"]),
         (&["cells", "b.off", "a.off"], &["b.off", "a.off"]),
         (&["linear", "b.off", "a.off"], &["b.off", "a.off"]),
+        (&["local", "b.off", "a.off"], &["b.off", "a.off"]),
         (&FREE, &["a.off", "b.off"]),
         (&["look", "b.off", "a.off"], &["b.off", "a.off"]),
         (
@@ -563,7 +564,7 @@ fn answers_for_small_products(rt: HostRuntime) -> Result<(), Fail> {
     let usage = "staat: usage\n";
     let first = "move 0 along 0 0 1 away from 1\nmoves 1\n";
     let sideways = "move 0 along 0 -1 0 away from 1\nmoves 1\n";
-    let table: [(&[&str], u8, &str, &str); 43] = [
+    let table: [(&[&str], u8, &str, &str); 48] = [
         (
             &["graph", "--along=0,1,0", "a.off", "b.off"],
             0,
@@ -653,6 +654,26 @@ fn answers_for_small_products(rt: HostRuntime) -> Result<(), Fail> {
         (&["linear", "--manifest=beside"], 1, "locked 0 1\n", ""),
         (
             &["linear", "--manifest=dovetail.json", "--planes=4"],
+            4,
+            "",
+            "staat: too many planes (5)\n",
+        ),
+        (
+            &["local", "--manifest=rings"],
+            0,
+            "loose 0 along 0 0 1 away from 1\n",
+            "",
+        ),
+        (&["local", "--manifest=closed"], 1, "tight 0 1\n", ""),
+        (
+            &["local", "--manifest=dovetail.json"],
+            0,
+            "loose 0 along 0 -1 0 away from 1\n",
+            "",
+        ),
+        (&["local", "a.off"], 0, "single 0\n", ""),
+        (
+            &["local", "--manifest=dovetail.json", "--planes=4"],
             4,
             "",
             "staat: too many planes (5)\n",

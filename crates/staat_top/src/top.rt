@@ -14,6 +14,7 @@ use crate::drill::drill;
 use crate::explode::explode;
 use crate::graph::graph;
 use crate::linear::linear;
+use crate::local::local;
 use crate::look::look;
 use crate::pair::pair;
 use crate::plan::plan;
@@ -43,6 +44,7 @@ fn work<H: Shelf>(alloc: Global, request: &Request, shelf: &mut H) -> Result<Ans
         Request::Drill(product) => drill(alloc, *product),
         Request::Explode(request) => explode(alloc, request, shelf),
         Request::Linear(request) => linear(alloc, request, shelf),
+        Request::Local(request) => local(alloc, request, shelf),
     }
 }
 

@@ -26,11 +26,12 @@ use Rattle.staat_words.specs.declared.request.CellsRequest.{CellsRequest}
 use Rattle.staat_words.specs.declared.request.CheckRequest.{CheckRequest}
 use Rattle.staat_words.specs.declared.request.ExplodeRequest.{ExplodeRequest}
 use Rattle.staat_words.specs.declared.request.LinearRequest.{LinearRequest}
+use Rattle.staat_words.specs.declared.request.LocalRequest.{LocalRequest}
 use Rattle.staat_words.specs.declared.request.Product.{Product}
 use Rattle.staat_words.specs.declared.request.Product.TheVariants.{Boxes, Cubes}
 use Rattle.staat_words.specs.declared.request.Request.{Request}
 use Rattle.staat_words.specs.declared.request.Request.TheVariants.{Pair, Look, Graph, Plan, Check, Cells}
-use Rattle.staat_words.specs.declared.request.Request.TheVariants.{Drill, Explode, Linear}
+use Rattle.staat_words.specs.declared.request.Request.TheVariants.{Drill, Explode, Linear, Local}
 use Rattle.staat_words.specs.declared.request.RequestRefusal.{RequestRefusal}
 use Rattle.staat_words.specs.declared.request.RequestRefusal.TheVariants.{Usage, OutOfMemory}
 use Rattle.staat_words.specs.Spelled.{◌>>=◌, vector_within}
@@ -173,6 +174,12 @@ linear_in rows = do
   planes ← planes_in MOST_PLANES rows
   Some (record { asked = asked; planes = planes })
 
+unfoldable pub local_in : List Row → Option LocalRequest
+local_in rows = do
+  asked ← asked_in rows
+  planes ← planes_in MOST_PLANES rows
+  Some (record { asked = asked; planes = planes })
+
 -- the request of a subcommand and its matches: a line for each command
 unfoldable pub request_in : Option (Text × List Row) → Option Request
 request_in None = None
@@ -185,7 +192,8 @@ request_in (Some found) =
     else (if bytes_eq found.0 (codes "cells") then option_map Cells (cells_in found.1)
     else (if bytes_eq found.0 (codes "drill") then option_map Drill (drill_in found.1)
     else (if bytes_eq found.0 (codes "explode") then option_map Explode (explode_in found.1)
-    else (if bytes_eq found.0 (codes "linear") then option_map Linear (linear_in found.1) else None))))))))
+    else (if bytes_eq found.0 (codes "linear") then option_map Linear (linear_in found.1)
+    else (if bytes_eq found.0 (codes "local") then option_map Local (local_in found.1) else None)))))))))
 
 -- The request of the words: none is a usage fault.
 unfoldable pub request : List Text → Option Request
@@ -235,6 +243,10 @@ abbrev pub IsLinearRequest : LinearRequest → Type 0
 IsLinearRequest request =
     IsAsked request.asked × (LEAST_PLANES ≤ request.planes) × (request.planes ≤ MOST_PLANES)
 
+abbrev pub IsLocalRequest : LocalRequest → Type 0
+IsLocalRequest request =
+    IsAsked request.asked × (LEAST_PLANES ≤ request.planes) × (request.planes ≤ MOST_PLANES)
+
 -- the same of a request: a line for each command
 abbrev pub HasBounds : Request → Type 0
 HasBounds (Pair request) = IsPairRequest request
@@ -246,3 +258,4 @@ HasBounds (Cells request) = IsCellsRequest request
 HasBounds (Drill product) = IsProduct product
 HasBounds (Explode request) = IsExplodeRequest request
 HasBounds (Linear request) = IsLinearRequest request
+HasBounds (Local request) = IsLocalRequest request

@@ -3,8 +3,8 @@ ghost use Rattle.std.specs.Prelude.{◌≡◌, IfOk, true, false};
 ghost use Rattle.clap.specs.Words.{app_of, rule_of, new_rule, with_rule, with_subcommand};
 ghost use Rattle.staat_words.specs.Command.{bare_app, cells_app, check_app, command, drill_app, explode_app};
 ghost use Rattle.staat_words.specs.Command.{explode_options_app, flag_rule, graph_app, linear_app};
-ghost use Rattle.staat_words.specs.Command.{list_rule, look_app, option_rule, pair_app, pair_options_app, plan_app};
-ghost use Rattle.staat_words.specs.Command.{plan_options_app, required, is_local};
+ghost use Rattle.staat_words.specs.Command.{list_rule, local_app, look_app, option_rule, pair_app};
+ghost use Rattle.staat_words.specs.Command.{pair_options_app, plan_app, plan_options_app, required, is_local};
 
 use clap::{Arg, ArgAction, Command};
 use std::alloc::{AllocError, Global};
@@ -177,6 +177,17 @@ fn linear_command<'a>(alloc: Global) -> Result<Command<'a>, AllocError>
     with_arg(linear, list_of_words(alloc, "files"))
 }
 
+fn local_command<'a>(alloc: Global) -> Result<Command<'a>, AllocError>
+    ensures app { IfOk result (λ c. app_of c ≡ local_app) }
+    ensures local { IfOk result (λ c. is_local c ≡ true) }
+{
+    let local = Command::new(alloc, "local");
+    let local = with_arg(local, option(alloc, "digits"))?;
+    let local = with_arg(local, option(alloc, "manifest"))?;
+    let local = with_arg(local, option(alloc, "planes"))?;
+    with_arg(local, list_of_words(alloc, "files"))
+}
+
 fn with_command<'a>(command: Command<'a>, inner: Command<'a>) -> Result<Command<'a>, AllocError>
     requires { is_local inner ≡ true }
     ensures { IfOk result (λ r. app_of r ≡ with_subcommand (app_of command.entry) (app_of inner.entry).top) }
@@ -207,5 +218,6 @@ pub fn staat_command<'a>(alloc: Global) -> Result<Command<'a>, AllocError>
     let staat = with_command(staat, cells_command(alloc)?)?;
     let staat = with_command(staat, drill_command(alloc)?)?;
     let staat = with_command(staat, explode_command(alloc)?)?;
-    with_command(staat, linear_command(alloc)?)
+    let staat = with_command(staat, linear_command(alloc)?)?;
+    with_command(staat, local_command(alloc)?)
 }

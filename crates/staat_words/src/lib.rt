@@ -10,7 +10,7 @@ mod words;
 
 pub use request::{
     Asked, CellsRequest, CheckRequest, ExplodeRequest, GraphRequest, Input, LinearRequest,
-    PairRequest, PlanRequest, Product, Request, RequestRefusal,
+    LocalRequest, PairRequest, PlanRequest, Product, Request, RequestRefusal,
 };
 pub use words::request_of;
 

@@ -79,6 +79,14 @@ pub struct LinearRequest {
     pub planes: u32,
 }
 
+/// Whether some side of the parts begins to move.
+#[derive(Drop)]
+pub struct LocalRequest {
+    pub asked: Asked,
+    /// How many planes all parts may have, 3 to `MOST_PLANES`.
+    pub planes: u32,
+}
+
 /// Whether a certificate is valid for the parts.
 #[derive(Drop)]
 pub struct CheckRequest {
@@ -110,6 +118,7 @@ pub enum Request {
     Drill(Product),
     Explode(ExplodeRequest),
     Linear(LinearRequest),
+    Local(LocalRequest),
 }
 
 /// Why words give no request.

@@ -15,7 +15,7 @@ fn asked(alloc: Global, words: &[&str]) -> Result<Result<Request, RequestRefusal
 #[test]
 fn words_are_taken_or_a_usage_fault(rt: HostRuntime) -> Result<(), Fail> {
     let alloc = rt.alloc();
-    let table: [(&[&str], bool); 87] = [
+    let table: [(&[&str], bool); 90] = [
         (&["pair", "a", "b", "--along=0,0,1", "--wall=1,0,0"], true),
         (&["pair", "--wall=1,0,0", "a", "b", "--along=0,0,1"], true),
         (
@@ -158,6 +158,9 @@ fn words_are_taken_or_a_usage_fault(rt: HostRuntime) -> Result<(), Fail> {
         (&["linear", "--manifest=m", "--planes=3"], true),
         (&["linear", "a", "--planes=2"], false),
         (&["linear", "a", "--robust"], false),
+        (&["local", "--manifest=m", "--planes=3"], true),
+        (&["local", "a", "--planes=1025"], false),
+        (&["local", "a", "--off"], false),
         (&["help"], false),
         (&[], false),
     ];
@@ -259,7 +262,7 @@ fn shown(alloc: Global, request: &Request) -> Result<String, AllocError> {
 #[test]
 fn a_request_has_the_values_of_its_words(rt: HostRuntime) -> Result<(), Fail> {
     let alloc = rt.alloc();
-    let table: [(&[&str], &str); 19] = [
+    let table: [(&[&str], &str); 20] = [
         (&["check", "c", "--digits=3", "a", "b"], "3: 2 files by c"),
         (
             &[
@@ -305,6 +308,10 @@ fn a_request_has_the_values_of_its_words(rt: HostRuntime) -> Result<(), Fail> {
         (
             &["linear", "--planes=7", "a", "--digits=1"],
             "1: 1 files, 7 planes",
+        ),
+        (
+            &["local", "--digits=2", "a", "b"],
+            "2: 2 files, 1024 planes",
         ),
         (&["drill", "row", "3"], "3 cubes"),
         (&["drill", "box", "4"], "4 boxes"),

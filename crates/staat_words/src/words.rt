@@ -3,8 +3,8 @@ ghost use Rattle.std.specs.Prelude.{◌≡◌, map, string_bytes, IfOk, IsErrOf,
 ghost use Rattle.clap.specs.Words.{found_of, rows_of, subcommand_rows_of};
 ghost use Rattle.staat_words.specs.Command.{is_taken, matches as matches_at};
 ghost use Rattle.staat_words.specs.Requests.{ReadsWords, HasBounds, IsAsked, IsCellsRequest, IsExplodeRequest};
-ghost use Rattle.staat_words.specs.Requests.{IsGraphRequest, IsLinearRequest, IsPairRequest, IsPlanRequest};
-ghost use Rattle.staat_words.specs.Requests.{IsProduct, asked_in, linear_in};
+ghost use Rattle.staat_words.specs.Requests.{IsGraphRequest, IsLinearRequest, IsLocalRequest, IsPairRequest};
+ghost use Rattle.staat_words.specs.Requests.{IsPlanRequest, IsProduct, asked_in, linear_in, local_in};
 ghost use Rattle.staat_words.specs.Requests.{cells_in, check_in, drill_in, explode_in, graph_in, pair_in, plan_in};
 ghost use Rattle.staat_words.specs.Requests.{request, request_in};
 
@@ -14,8 +14,8 @@ use crate::arguments::{
 };
 use crate::command::staat_command;
 use crate::request::{
-    Asked, CellsRequest, CheckRequest, ExplodeRequest, GraphRequest, LinearRequest, PairRequest,
-    PlanRequest, Product, Request, RequestRefusal,
+    Asked, CellsRequest, CheckRequest, ExplodeRequest, GraphRequest, LinearRequest, LocalRequest,
+    PairRequest, PlanRequest, Product, Request, RequestRefusal,
 };
 use clap::ArgMatches;
 use clap::error::ErrorKind;
@@ -131,6 +131,16 @@ fn linear_of(alloc: Global, matches: &ArgMatches<'_>) -> Result<LinearRequest, R
     Ok(LinearRequest { asked, planes })
 }
 
+#[tactic(auto, unfolding(crate::specs::Requests::local_in))]
+fn local_of(alloc: Global, matches: &ArgMatches<'_>) -> Result<LocalRequest, RequestRefusal>
+    ensures answers { ReadsWords (local_in (rows_of (found_of matches.now))) result }
+    ensures bounds { IfOk result IsLocalRequest }
+{
+    let asked = asked_of(alloc, matches)?;
+    let planes = planes_of(matches, MOST_PLANES).ok_or(RequestRefusal::Usage)?;
+    Ok(LocalRequest { asked, planes })
+}
+
 // The matches of words that `clap` takes.
 fn matches_of<'a>(alloc: Global, words: &'a [String]) -> Result<ArgMatches<'a>, RequestRefusal>
     ensures taken { IfOk result (λ m. is_taken (map string_bytes words.entry.now) ≡ true) }
@@ -173,6 +183,8 @@ fn request_from(alloc: Global, matches: &ArgMatches<'_>) -> Result<Request, Requ
                 Ok(Request::Explode(explode_of(alloc, inner)?))
             } else if name == "linear" {
                 Ok(Request::Linear(linear_of(alloc, inner)?))
+            } else if name == "local" {
+                Ok(Request::Local(local_of(alloc, inner)?))
             } else {
                 Err(RequestRefusal::Usage)
             }

@@ -16,5 +16,6 @@ returns c =
     let cells = c.in_ok-staat-6.ensures ∙ ap₂ (λ a b. with_subcommand a b.top) check c.in_ok-cells_command.ensures.app in
     let drill = c.in_ok-staat-7.ensures ∙ ap₂ (λ a b. with_subcommand a b.top) cells c.in_ok-drill_command.ensures.app in
     let explode = c.in_ok-staat-8.ensures ∙ ap₂ (λ a b. with_subcommand a b.top) drill c.in_ok-explode_command.ensures.app in
-    let linear = ap₂ (λ a b. with_subcommand a b.top) explode c.in_ok-linear_command.ensures.app in
-    subst (λ app. IfOk c.with_command-9.result (λ r. app_of r ≡ app)) linear c.with_command-9.ensures
+    let linear = c.in_ok-staat-9.ensures ∙ ap₂ (λ a b. with_subcommand a b.top) explode c.in_ok-linear_command.ensures.app in
+    let local = ap₂ (λ a b. with_subcommand a b.top) linear c.in_ok-local_command.ensures.app in
+    subst (λ app. IfOk c.with_command-10.result (λ r. app_of r ≡ app)) local c.with_command-10.ensures
