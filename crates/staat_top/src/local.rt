@@ -43,13 +43,7 @@ fn status_of(of: PartSet, found: &Option<Loose>) -> u8
 {
     match found {
         Some(_) => 0,
-        None => {
-            if of.count() < 2 {
-                0
-            } else {
-                1
-            }
-        }
+        None => { if of.count() < 2 { 0 } else { 1 } }
     }
 }
 

@@ -1,4 +1,4 @@
 use Rattle.staat_plan.proofs.walker.Walker.step.Given as goal
 
 abbrev pub ghosts-counted_step : goal.ghosts-counted_step
-ghosts-counted_step g = record { name = 0; parts = 1 }
+ghosts-counted_step a = record { name = a.blank.name; parts = a.blank.parts }
