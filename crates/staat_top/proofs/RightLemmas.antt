@@ -84,10 +84,10 @@ use Rattle.staat_top.specs.Exploding.{AreShifted, IsPlanViewed, IsOutcomeViewed,
 use Rattle.staat_top.specs.Replies.{AreSoundParts, SaysApart, SaysLocked, SaysOrder, SaysView, plan_asked, SaysDrilled, SaysCells, SaysOutcome, SaysGoodPlan, SaysStuckSet, SaysValid, SaysNotValid, ShowsValid, valid_plan, valid_refusal, free, not_shown, WorkOnWords, IsRight, IsDenied, SaysBeginning, SaysTight}
 
 -- the status of a set of parts no side of which begins to move
-no_status : (n : ℕ) → 2 ≤ n → (if nat_lt n 2 then 0 else 1) ≡ 0 → ⊥
+no_status : (n : ℕ) → 2 ≤ n → ◌≡◌ {A = ℕ} (if nat_lt n 2 then 0 else 1) 0 → ⊥
 no_status n two zero = grind (arith, nat_tests)
 
-no_status_one : (n : ℕ) → n < 2 → (if nat_lt n 2 then 0 else 1) ≡ 1 → ⊥
+no_status_one : (n : ℕ) → n < 2 → ◌≡◌ {A = ℕ} (if nat_lt n 2 then 0 else 1) 1 → ⊥
 no_status_one n few one = grind (arith, nat_tests)
 
 -- ---- pieces
@@ -310,11 +310,11 @@ locked_is_said files request parts (Locked w) are chosen one =
 
 -- with status 0 some side begins to move, or there is one part
 beginning_is_said : (files : Files) (request : LocalRequest) (parts : List Part) (begins : Option Loose) → AreSoundParts files request.asked parts → IsFoundIn parts (all_parts parts) begins → local_status (all_parts parts) begins ≡ 0 → SaysBeginning files request (local_answer (all_parts parts) begins).text
-beginning_is_said files request parts begins are found zero = record { parts = parts; sound = are; begins = begins; is_found = found; not_tight = λ tight. open begins found zero tight; says = refl }
+beginning_is_said files request parts begins are found zero = record { parts = parts; sound = are; begins = begins; is_found = found; not_tight = λ tight. loosened begins found zero tight; says = refl }
   where
-    open : (begins : Option Loose) → IsFoundIn parts (all_parts parts) begins → local_status (all_parts parts) begins ≡ 0 → IsTight parts (all_parts parts) → ⊥
-    open (Some loose) (two, is) zero tight = none_loosens parts (all_parts parts) loose is tight
-    open None is zero tight = let two = tight.two in no_status (set.len (all_parts parts)) two zero
+    loosened : (begins : Option Loose) → IsFoundIn parts (all_parts parts) begins → local_status (all_parts parts) begins ≡ 0 → IsTight parts (all_parts parts) → ⊥
+    loosened (Some loose) (two, is) zero tight = none_loosens parts (all_parts parts) loose is tight
+    loosened None is zero tight = let two = tight.two in no_status (set.len (all_parts parts)) two zero
 
 -- with status 1 none does
 tight_is_said : (files : Files) (request : LocalRequest) (parts : List Part) (begins : Option Loose) → AreSoundParts files request.asked parts → IsFoundIn parts (all_parts parts) begins → local_status (all_parts parts) begins ≡ 1 → SaysTight files request (local_answer (all_parts parts) begins).text
