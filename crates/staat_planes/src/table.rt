@@ -4,11 +4,11 @@ ghost use Rattle.staat_vec.specs.declared.vector.V3.{V3 as Vector};
 ghost use Rattle.staat_vec.specs.Vectors.{IsWithin, dot, sign};
 ghost use Rattle.staat_model.specs.Sets.{Has};
 ghost use Rattle.staat_pairs.specs.Tables.{AreTableFacets, AreTablePlanes, IsPlaneNormal, IsTable, IsTableArc};
-ghost use Rattle.staat_pairs.specs.Tables.{IsTableFacet, facets_of, pieces_of, reversed_facets};
+ghost use Rattle.staat_pairs.specs.Tables.{IsTableFacet, facets_of, pieces_of, reversed_facets, slot};
 
 use crate::steps::Steps;
 use staat_model::{Arc, MOST_PIECES, PartSet};
-use staat_pairs::{FacetTable, back};
+use staat_pairs::{FacetTable, SLOTS, back};
 use staat_vec::{DIRECTION, NORMAL, Sign, V3, neg, sign_dot};
 use std::marker::Model;
 use std::sync::ledger::Ledger;
@@ -113,6 +113,17 @@ impl PlaneTable {
         ensures most { result ≤ MOST_PIECES }
     {
         self.table.pieces(a)
+    }
+
+    /// The number of two pieces of different parts of the set among all ordered pairs of pieces.
+    pub fn slot(&self, arc: Arc) -> u32
+        requires { IsTableArc self.now arc }
+        ensures is { result ≡ slot self.now.pieces arc }
+        ensures small { result < SLOTS }
+        ensures rules { IsTable self.now }
+    {
+        let _set = self.table.set();
+        self.table.slot(arc)
     }
 }
 

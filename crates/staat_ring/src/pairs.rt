@@ -1,6 +1,6 @@
 // How many facets of each ordered pair of pieces are positive.
 ghost use Rattle.std.specs.Prelude.{◌≡◌, ℕ, ◌+◌, ◌*◌, ◌<◌, ◌≤◌, ◌^◌, ◌↔◌};
-ghost use Rattle.std.specs.Prelude.{◌⊎◌, ◌-◌, All, IfOk, length, replicate, slice_index, slice_set};
+ghost use Rattle.std.specs.Prelude.{◌⊎◌, ◌-◌, All, IfOk, IsTrue, length, replicate, slice_index, slice_set};
 ghost use Rattle.staat_graph.specs.Graphs.{HasArc};
 ghost use Rattle.staat_ring.specs.Blocks.{parts_at};
 ghost use Rattle.staat_ring.specs.Pairs.{CountBlocks, blocks, fresh, gained, no_pair, occurs, pair_at};
@@ -124,6 +124,15 @@ impl PairCounts {
         for q in qs {
             self.lose(*q);
         }
+    }
+
+    /// Whether all facets of the pair are positive.
+    pub fn is_full(&self, q: u16) -> bool
+        requires { q < length self.now }
+        ensures { IsTrue result ↔ ((pair_at self.now q).wanted ≤ (pair_at self.now q).positive) }
+    {
+        let pair = self.pairs[q as usize];
+        pair.wanted <= pair.positive
     }
 
     /// The graph in which an arc stands where some pair blocks.

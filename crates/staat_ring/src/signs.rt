@@ -1,6 +1,6 @@
 // The signs of the planes at a vertex, and the graph there.
 ghost use Rattle.std.specs.Prelude.{◌≡◌, ℕ, ◌+◌, ◌*◌, ◌<◌, ◌≤◌, ◌^◌, ◌↔◌, All};
-ghost use Rattle.std.specs.Prelude.{IfOk, OnErr, OnOk, length, replicate, slice_index, slice_set};
+ghost use Rattle.std.specs.Prelude.{IfOk, IsTrue, OnErr, OnOk, length, replicate, slice_index, slice_set};
 ghost use Rattle.staat_graph.specs.Graphs.{HasArc};
 ghost use Rattle.staat_vec.specs.declared.vector.Sign.TheVariants.{Zero};
 ghost use Rattle.staat_ring.specs.Blocks.{parts_at};
@@ -181,6 +181,14 @@ impl Signs {
         self.counts.lose_all(pairs_at(&self.sides, k));
         turn_at(&mut self.sides, k, sign);
         self.counts.gain_all(pairs_at(&self.sides, k));
+    }
+
+    /// Whether all facets of the pair `q` are positive.
+    pub fn is_full(&self, q: u16) -> bool
+        requires { q < length self.now.pairs }
+        ensures { IsTrue result ↔ ((pair_at self.now.pairs q).wanted ≤ positives q self.now.sides) }
+    {
+        self.counts.is_full(q)
     }
 
     /// The graph in which an arc stands where all facets of some pair of pieces are positive.
