@@ -1,5 +1,5 @@
 -- The arcs of the trees of a table's graph, and the witness that they make.
-use Rattle.std.proofs.Common.{◌≡◌, ◌≢◌, ◌↔◌, ◌∙◌, ◌<◌, ◌+◌, ℕ, ⊎_elim, ap, arith, refl, subst, sym, List, [], ◌∷◌, ◌++◌, map, take, length, All}
+use Rattle.std.proofs.Common.{◌≡◌, ◌≢◌, ◌∙◌, ◌<◌, ◌+◌, ℕ, ⊎_elim, ap, arith, refl, subst, sym, List, [], ◌∷◌, ◌++◌, map, take, length, All}
 use Rattle.std.specs.Prelude.{get_or, Bool, true, false, not, ◌&&◌, ◌==◌}
 use Rattle.std.proofs.lemmas.Bool.Decides.{Decides-eqb}
 use Rattle.std.proofs.lemmas.List.{map-append}

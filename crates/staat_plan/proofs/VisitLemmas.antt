@@ -1,6 +1,6 @@
 -- What a walk over the vertices of a table's planes finds.
 use Rattle.std.proofs.Common.{◌≡◌, ◌≢◌, ◌⊎◌, inl, inr, ⊎_elim, ℕ, zero, suc, ◌+◌, ◌%◌, ◌<◌, ◌≤◌, Bool, true, false, not, arith, ap, sym, subst, ◌∙◌, refl, List, [], ◌∷◌, length, All, Contains, set, get_or}
-use Rattle.std.specs.Prelude.{Option, None, Some, slice_get, map, replicate}
+use Rattle.std.specs.Prelude.{Option, None, Some, slice_get, replicate}
 use Rattle.std.specs.List.Sorted.{IsStrictlySortedBy}
 use Rattle.std.proofs.lemmas.List.Elements.{All-contains}
 use Rattle.std.proofs.lemmas.Option.{get_or_from_slice_get, slice_get-get_or, slice_get_within}

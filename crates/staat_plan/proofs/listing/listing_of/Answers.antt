@@ -1,6 +1,5 @@
-use Rattle.std.proofs.Common.{◌≡◌, ◌<◌, ◌+◌, ◌∷◌, [], ◌++◌, ◌∙◌, ℕ, List, ap, arith, length, map, subst, sym, take, get_or}
-use Rattle.std.specs.Prelude.{Option, None, Some, replicate, slice_get}
-use Rattle.std.proofs.lemmas.List.{length-map}
+use Rattle.std.proofs.Common.{◌≡◌, ◌<◌, ◌∷◌, [], ◌++◌, ◌∙◌, List, ap, arith, length, map, subst, sym, get_or}
+use Rattle.std.specs.Prelude.{Some, slice_get}
 use Rattle.std.proofs.lemmas.Option.{slice_get-get_or}
 use Rattle.staat_cone.proofs.PairLists.{take_more}
 use Rattle.staat_vec.specs.declared.vector.V3.{V3}

@@ -1,5 +1,5 @@
-use Rattle.std.proofs.Common.{◌≡◌, ◌≤◌, ◌∙◌, ℕ, List, [], ap, arith, length, map, subst, sym, refl}
-use Rattle.std.specs.Prelude.{Option, None, Some, replicate, slice_get}
+use Rattle.std.proofs.Common.{◌≡◌, ◌∙◌, List, [], ap, arith, length, map, subst, sym}
+use Rattle.std.specs.Prelude.{Some, slice_get}
 use Rattle.staat_model.proofs.PlaneLemmas.{planes_apart}
 use Rattle.staat_ring.specs.Rings.{AreRings, Kept, Ring, unlinked_of}
 use Rattle.staat_plan.proofs.VisitLemmas.{all_found, none_there, size_none}

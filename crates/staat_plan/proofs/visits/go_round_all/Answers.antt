@@ -1,4 +1,4 @@
-use Rattle.std.proofs.Common.{◌≡◌, ◌<◌, ℕ, List, [], length, subst, arith}
+use Rattle.std.proofs.Common.{List, [], subst, arith}
 use Rattle.staat_ring.specs.Rings.{AreRings, Kept, Ring, unlinked_of}
 use Rattle.staat_plan.proofs.VisitLemmas.{linked}
 use Rattle.staat_plan.proofs.visits.go_round_all.Goals as goal

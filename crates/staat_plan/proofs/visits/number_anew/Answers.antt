@@ -1,4 +1,4 @@
-use Rattle.std.proofs.Common.{List, ℕ, map}
+use Rattle.std.proofs.Common.{map}
 use Rattle.staat_plan.proofs.VisitLemmas.{number_is_here}
 use Rattle.staat_plan.proofs.visits.number_anew.Goals as goal
 

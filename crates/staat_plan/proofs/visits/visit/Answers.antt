@@ -1,5 +1,5 @@
-use Rattle.std.proofs.Common.{◌≡◌, ◌∙◌, Contains, List, ℕ, ap, map, set, subst, sym}
-use Rattle.std.specs.Prelude.{Option, Some, slice_get}
+use Rattle.std.proofs.Common.{◌∙◌, Contains, List, ℕ, ap, map, set, subst, sym}
+use Rattle.std.specs.Prelude.{Option, Some}
 use Rattle.staat_model.proofs.GraphLemmas.{from_slice_get}
 use Rattle.staat_plan.proofs.VisitLemmas.{found_here, named_more, still_found}
 use Rattle.staat_plan.proofs.visits.visit.Goals as goal

@@ -1,6 +1,5 @@
-use Rattle.std.proofs.Common.{◌≡◌, ◌<◌, ◌∙◌, List, [], length, sym, subst, ap}
-use Rattle.std.specs.Prelude.{map}
-use Rattle.staat_ring.specs.Rings.{AreRings, Kept, Ring, unlinked_of, vertex_of}
+use Rattle.std.proofs.Common.{◌<◌, List, [], sym, subst}
+use Rattle.staat_ring.specs.Rings.{AreRings, Kept, Ring, unlinked_of}
 use Rattle.staat_ring.proofs.StopLemmas.{circle_small}
 use Rattle.staat_plan.specs.Visits.{IsFound}
 use Rattle.staat_plan.proofs.VisitLemmas.{found_earlier, linked}

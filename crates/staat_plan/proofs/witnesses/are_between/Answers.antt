@@ -1,4 +1,4 @@
-use Rattle.std.proofs.Common.{ℕ, length, ◌<◌, arith, get_or, sym}
+use Rattle.std.proofs.Common.{arith, get_or}
 use Rattle.staat_model.specs.declared.certificate.Arc.{Arc}
 use Rattle.staat_plan.proofs.TreeArcs.{next_between, same_arc}
 use Rattle.staat_plan.proofs.witnesses.are_between.Goals as goal

@@ -1,6 +1,4 @@
 use Rattle.std.proofs.Common.{List, subst, sym, arith}
-use Rattle.staat_model.specs.declared.certificate.Arc.{Arc}
-use Rattle.staat_model.specs.Certify.{IsWitnessAt}
 use Rattle.staat_plan.specs.Witnesses.{AreEndsAndLeast}
 use Rattle.staat_plan.proofs.TreeArcs.{few_arcs, ins_ahead, outs_ahead, witness_along}
 use Rattle.staat_plan.proofs.witnesses.is_witness.Goals as goal
