@@ -1,5 +1,19 @@
 // The directions of a refusal: the vertices of the planes or, in version 2, one of each two opposite.
-ghost use Rattle.std.specs.Prelude.{◌≡◌, ◌≢◌, [], ◌∷◌, ◌≤◌, All, Contains, IfOk, MatchOption, OnOk, Some, drop, length};
+ghost use Rattle.std.specs.Prelude.{
+  ◌≡◌,
+  ◌≢◌,
+  [],
+  ◌∷◌,
+  ◌≤◌,
+  All,
+  Contains,
+  IfOk,
+  MatchOption,
+  OnOk,
+  Some,
+  drop,
+  length,
+};
 ghost use Rattle.std.specs.Prelude.{slice_get};
 ghost use Rattle.std.specs.List.Sorted.{IsStrictlySortedBy};
 ghost use Rattle.staat_vec.specs.Lists.{Lists};

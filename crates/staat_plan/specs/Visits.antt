@@ -60,7 +60,8 @@ AreStillFound directions old new = (v : V3) → IsFound directions old v → IsF
 
 -- each of the directions has been found
 abbrev pub AreAllFound : List V3 → List (Option ℕ) → Type 0
-AreAllFound directions numbers = (k : ℕ) (d : V3) → slice_get directions k ≡ Some d → IsFound directions numbers d
+AreAllFound directions numbers = (k : ℕ) (d : V3) → slice_get directions k ≡ Some d
+    → IsFound directions numbers d
 
 -- the vertices on the circles of the planes below c have been found
 abbrev pub AreFoundBelow : List V3 → List Ring → List V3 → List (Option ℕ) → ℕ → Type 0

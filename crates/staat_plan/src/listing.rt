@@ -1,5 +1,18 @@
 // The lines of a refusal: each direction with the number of its witness.
-ghost use Rattle.std.specs.Prelude.{◌≡◌, ◌<◌, ◌++◌, ◌∷◌, [], IfOk, OnOk, Some, flat_map, length, map, slice_get};
+ghost use Rattle.std.specs.Prelude.{
+  ◌≡◌,
+  ◌<◌,
+  ◌++◌,
+  ◌∷◌,
+  [],
+  IfOk,
+  OnOk,
+  Some,
+  flat_map,
+  length,
+  map,
+  slice_get,
+};
 ghost use Rattle.staat_vec.specs.declared.vector.V3.{V3 as Vector};
 ghost use Rattle.staat_model.specs.declared.certificate.Witness.{Witness as WitnessValue};
 ghost use Rattle.staat_model.specs.Certify.{NamesWitness};

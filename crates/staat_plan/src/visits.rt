@@ -1,5 +1,19 @@
 // The witness at each vertex of a table's planes, found in a walk along all circles.
-ghost use Rattle.std.specs.Prelude.{◌≡◌, ◌≢◌, ◌<◌, ◌+◌, All, Contains, IfOk, IsTrue, None, OnOk, Some, [], length};
+ghost use Rattle.std.specs.Prelude.{
+  ◌≡◌,
+  ◌≢◌,
+  ◌<◌,
+  ◌+◌,
+  All,
+  Contains,
+  IfOk,
+  IsTrue,
+  None,
+  OnOk,
+  Some,
+  [],
+  length,
+};
 ghost use Rattle.std.specs.Prelude.{map, replicate, slice_get};
 ghost use Rattle.std.specs.List.Sorted.{IsStrictlySortedBy};
 ghost use Rattle.staat_vec.specs.Lists.{Lists};

@@ -12,7 +12,19 @@ ghost use Rattle.std.specs.Prelude.{
   ◌≤◌,
   All,
 };
-ghost use Rattle.std.specs.Prelude.{Contains, IfOk, IsTrue, List, MatchOption, Some, length, min, pos, slice_get, ◌<ℤ◌};
+ghost use Rattle.std.specs.Prelude.{
+  Contains,
+  IfOk,
+  IsTrue,
+  List,
+  MatchOption,
+  Some,
+  length,
+  min,
+  pos,
+  slice_get,
+  ◌<ℤ◌,
+};
 ghost use Rattle.staat_vec.specs.declared.vector.V3.{V3 as Vector};
 ghost use Rattle.staat_vec.specs.Lists.{IsFirst};
 ghost use Rattle.staat_vec.specs.Vectors.{IsWithin, dot};
