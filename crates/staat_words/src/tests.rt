@@ -256,6 +256,11 @@ fn shown(alloc: Global, request: &Request) -> Result<String, AllocError> {
             let asked = source(alloc, &request.asked)?;
             format!(in alloc; "{asked}, {planes} planes")
         }
+        Request::Local(request) => {
+            let planes = request.planes;
+            let asked = source(alloc, &request.asked)?;
+            format!(in alloc; "{asked}, {planes} planes")
+        }
     }
 }
 
