@@ -16,6 +16,7 @@ mod scan;
 #[cfg(test)]
 mod scan_tests;
 mod search;
+mod shorts;
 mod source;
 mod spread;
 #[cfg(test)]

@@ -9,6 +9,7 @@ ghost use Rattle.staat_model.specs.Pieces.{IsPiece};
 ghost use Rattle.staat_model.specs.Walls.{IsBeyond};
 
 use crate::narrow::narrow_dot;
+use crate::shorts::{SHORT, is_short, short_dot};
 use staat_model::Piece;
 use staat_vec::{DIRECTION, NORMAL, ORIGIN, POINT, V3, dot};
 
@@ -124,13 +125,35 @@ pub fn separates(n: V3, p: &Piece, q: &Piece) -> bool
     is_wall(n) && is_beyond(n, p, q)
 }
 
-// whether d leads ahead of all the normals
-fn leads_ahead(facets: &[V3], d: V3) -> bool
+// whether a short direction leads ahead of all the normals
+fn short_leads_ahead(facets: &[V3], d: V3) -> bool
+    requires normals { All (IsWithin NORMAL) facets.now }
+    requires short { IsWithin SHORT d }
+    ensures { IsTrue result ↔ All (λ n. pos 0 <ℤ dot n d) facets.now }
+{
+    facets.iter().all(|n| short_dot(*n, d) > 0)
+}
+
+// whether any direction does
+fn any_leads_ahead(facets: &[V3], d: V3) -> bool
     requires normals { All (IsWithin NORMAL) facets.now }
     requires direction { IsWithin DIRECTION d }
     ensures { IsTrue result ↔ All (λ n. pos 0 <ℤ dot n d) facets.now }
 {
     facets.iter().all(|n| dot(*n, d) > 0)
+}
+
+// Whether d leads ahead of all the normals. Most directions are short, and products of words take a third of the time.
+fn leads_ahead(facets: &[V3], d: V3) -> bool
+    requires normals { All (IsWithin NORMAL) facets.now }
+    requires direction { IsWithin DIRECTION d }
+    ensures { IsTrue result ↔ All (λ n. pos 0 <ℤ dot n d) facets.now }
+{
+    if is_short(d) {
+        short_leads_ahead(facets, d)
+    } else {
+        any_leads_ahead(facets, d)
+    }
 }
 
 /// Whether `d` leads ahead of all the facets. Of the facets of two pieces it says whether the first, moved along `d`,

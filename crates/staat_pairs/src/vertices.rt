@@ -1,5 +1,21 @@
 // The directions of a refusal: the vertices of the planes or, in version 2, one of each two opposite.
-ghost use Rattle.std.specs.Prelude.{◌≡◌, ◌≢◌, [], ◌∷◌, ◌≤◌, All, IfOk, OnOk, drop, length};
+ghost use Rattle.std.specs.Prelude.{
+  ◌≡◌,
+  ◌≢◌,
+  [],
+  ◌∷◌,
+  ◌≤◌,
+  All,
+  Contains,
+  IfOk,
+  MatchOption,
+  OnOk,
+  Some,
+  drop,
+  length,
+};
+ghost use Rattle.std.specs.Prelude.{slice_get};
+ghost use Rattle.std.specs.List.Sorted.{IsStrictlySortedBy};
 ghost use Rattle.staat_vec.specs.Lists.{Lists};
 ghost use Rattle.staat_vec.specs.Primitives.{primitive};
 ghost use Rattle.staat_vec.specs.Vectors.{IsWithin, cross, negative, origin, vector_cmp};
@@ -54,4 +70,15 @@ pub fn directions(alloc: Global, version: u32, planes: &[V3]) -> Result<Vec<V3>,
         push_crossings(&mut taken, version, *g, planes_from(planes, k + 1))?;
     }
     Ok(in_order(taken))
+}
+
+/// The place of a vector in an ascending list, if it is there, by halving.
+pub fn place_among(listed: &[V3], v: V3) -> Option<usize>
+    requires { IsStrictlySortedBy vector_cmp listed.now }
+    ensures { MatchOption result (Contains listed.now v → ⊥) (λ k. slice_get listed.now k ≡ Some v) }
+{
+    match listed.binary_search(&v) {
+        Ok(k) => Some(k),
+        Err(_) => None,
+    }
 }

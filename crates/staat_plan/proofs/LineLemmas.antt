@@ -1,5 +1,5 @@
 -- One more line.
-use Rattle.std.proofs.Common.{◌≡◌, ◌⊎◌, inl, inr, ⊎_elim, ℕ, ◌<◌, ◌+◌, List, [], ◌∷◌, ◌++◌, length, map, sym, ap, ◌∙◌, subst, arith, length-append}
+use Rattle.std.proofs.Common.{◌≡◌, ◌⊎◌, inl, inr, ⊎_elim, ℕ, ◌<◌, ◌≤◌, ◌+◌, List, [], ◌∷◌, ◌++◌, length, map, sym, ap, ◌∙◌, subst, arith, length-append}
 use Rattle.std.specs.Prelude.{Some, slice_get}
 use Rattle.std.proofs.lemmas.List.{map-append}
 use Rattle.std.proofs.lemmas.List.Elements.{All-push, All-weaker}
@@ -13,7 +13,7 @@ use Rattle.staat_plan.specs.Listings.{AreListed, IsWitnessNumber}
 use Rattle.staat_plan.proofs.NumberLemmas.{numbers_next, push_front}
 
 module _ (parts : List Part) (w : PartSet) (keys more : List (List ℕ)) (old now : List Witness) (witness : Witness) (i : ℕ) (of : IsWitnessNumber more old now witness i) where
-  kept : (k : ℕ) (x : Witness) → slice_get old k ≡ Some x → slice_get now k ≡ Some x
+  pub kept : (k : ℕ) (x : Witness) → slice_get old k ≡ Some x → slice_get now k ≡ Some x
   kept k x at = ⊎_elim
       (λ same. subst (λ ws. slice_get ws k ≡ Some x) (sym same.0) at)
       (λ new. subst (λ ws. slice_get ws k ≡ Some x) (sym new.0) (push_front old witness x k at))
@@ -40,3 +40,10 @@ module _ (parts : List Part) (w : PartSet) (keys more : List (List ℕ)) (old no
     where
       line : Dir
       line = record { d = d; witness = i }
+
+  pub number_small : i ≤ length old
+  number_small = ⊎_elim (λ same. let lt = same.1 in omega (arith, lt)) (λ new. let e = new.1 in omega (arith, e)) of.which
+
+pub line_pushed : (dirs next : List Dir) (x d : V3) (i : ℕ) → next ≡ dirs ++ (record { d = x; witness = i }) ∷ [] → x ≡ d → map (λ (dir : Dir). dir.d) next ≡ map (λ (dir : Dir). dir.d) dirs ++ d ∷ []
+line_pushed dirs next x d i e same =
+    ap (map (λ (dir : Dir). dir.d)) e ∙ map-append (λ (dir : Dir). dir.d) dirs ((record { d = x; witness = i }) ∷ []) ∙ ap (λ (v : V3). map (λ (dir : Dir). dir.d) dirs ++ v ∷ []) same

@@ -1,7 +1,8 @@
 -- The lines of a refusal, and how many they are.
-use Rattle.std.proofs.Common.{◌≡◌, ⊎_elim, ℕ, ◌*◌, ◌<◌, ◌≤◌, arith, refl, sym, subst, List, [], ◌∷◌, length, length-append, map, All, Contains}
+use Rattle.std.proofs.Common.{◌≡◌, ◌∙◌, take, ap, ⊎_elim, ℕ, ◌*◌, ◌<◌, ◌≤◌, arith, refl, sym, subst, List, [], ◌∷◌, length, length-append, map, All, Contains}
 use Rattle.std.specs.Prelude.{Err, IfOk, Ok, Result, Some, slice_get}
-use Rattle.std.proofs.lemmas.List.Elements.{All-contains}
+use Rattle.std.proofs.lemmas.List.{length-map, length-take-le}
+use Rattle.std.proofs.lemmas.List.Elements.{All-contains, All-nil}
 use Rattle.staat_vec.specs.declared.vector.V3.{V3}
 use Rattle.staat_vec.specs.declared.vector.TheConstants.{DIRECTION, NORMAL}
 use Rattle.staat_vec.specs.declared.memory.OutOfMemory.{OutOfMemory}
@@ -15,7 +16,7 @@ use Rattle.staat_model.specs.declared.certificate.Dir.{Dir}
 use Rattle.staat_model.specs.declared.certificate.Witness.{Witness}
 use Rattle.staat_model.specs.declared.limits.TheConstants.{LIST_LIMIT}
 use Rattle.staat_model.specs.declared.set.PartSet.{PartSet}
-use Rattle.staat_model.specs.Certify.{IsDirection, IsRefusalOf}
+use Rattle.staat_model.specs.Certify.{IsDirection, IsRefusalOf, NamesWitness}
 use Rattle.staat_model.specs.Planes.{ArePlanes, crossings, vertices}
 use Rattle.staat_model.proofs.EndLemmas.{from_vertices}
 use Rattle.staat_model.proofs.Members.{All-from_members}
@@ -26,7 +27,7 @@ use Rattle.staat_planes.specs.Refusals.{IsTableWithin}
 use Rattle.staat_planes.proofs.FacetCounts.{no_longer}
 use Rattle.staat_plan.specs.declared.listing.Listing.{Listing}
 use Rattle.staat_plan.specs.Listings.{AreListed, IsSizedDirection, key_of}
-use Rattle.staat_plan.proofs.NumberLemmas.{get_map}
+use Rattle.staat_plan.proofs.NumberLemmas.{get_map, numbers_none}
 
 -- the lines so far are those of these directions
 pub record HasLines (parts : List Part) (w : PartSet) (keys : List (List ℕ)) (witnesses : List Witness) (dirs : List Dir) (ds : List V3) : Type 0 where
@@ -86,3 +87,24 @@ pub listed_end : (parts : List Part) (version : ℕ) (w of : PartSet) (planes ds
     → IfOk answer (λ l. AreListed parts of (map (λ v. v.items) l.keys.keys) l.witnesses.items l.dirs.items) → IfOk answer (λ l. map (λ dir. dir.d) l.dirs.items ≡ ds) → IfOk answer (λ l. IsRefusalOf parts version w l.witnesses.items l.dirs.items)
 listed_end parts version w of planes ds (Ok l) e are lists listed lines = refusal_listed parts version w planes ds (map (λ v. v.items) l.keys.keys) l.witnesses.items l.dirs.items are lists (subst (λ (u : PartSet). AreListed parts u (map (λ v. v.items) l.keys.keys) l.witnesses.items l.dirs.items) e listed) lines
 listed_end parts version w of planes ds (Err x) e are lists listed lines = tt
+
+-- ---- the lines so far
+
+pub no_lines : (parts : List Part) (w : PartSet) (keys : List (List ℕ)) (witnesses : List Witness) (dirs : List Dir) → keys ≡ [] → witnesses ≡ [] → dirs ≡ [] → HasLines parts w keys witnesses dirs []
+no_lines parts w keys witnesses dirs k x d =
+    subst (λ ks. HasLines parts w ks witnesses dirs []) (sym k) (subst (λ ws. HasLines parts w [] ws dirs []) (sym x) (subst (λ ds. HasLines parts w [] [] ds []) (sym d) (record {
+      listed = record {
+        keys_are = refl;
+        distinct = λ i j key a b. cc;
+        each = All-nil (NamesWitness parts w []);
+        by_first_use = numbers_none;
+        few = omega arith;
+      };
+      lines = refl;
+    })))
+
+pub few_lines : (ds : List V3) (dirs : List Dir) (k : ℕ) → map (λ dir. dir.d) dirs ≡ take k ds → k < length ds → length ds < LIST_LIMIT → length dirs < LIST_LIMIT
+few_lines ds dirs k lines lt few =
+    let e : length dirs ≡ length (take k ds) = sym (length-map dirs (λ (dir : Dir). dir.d)) ∙ ap length lines in
+    let t = length-take-le k ds (omega (arith, lt)) in
+    omega (arith, e, t, lt, few)

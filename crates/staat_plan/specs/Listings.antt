@@ -1,6 +1,6 @@
 -- The lines of a refusal that have been listed so far, and the key by which a witness is found again.
 use Rattle.std.specs.Prelude.{◌≡◌, ◌≢◌, ◌⊎◌, ◌≤◌, ◌<◌, ◌∷◌, [], ◌++◌, ℕ}
-use Rattle.std.specs.Prelude.{List, All, Some}
+use Rattle.std.specs.Prelude.{List, All, Option, Some}
 use Rattle.std.specs.Prelude.{flat_map, length, map, slice_get}
 use Rattle.staat_vec.specs.declared.vector.V3.{V3}
 use Rattle.staat_vec.specs.declared.vector.TheConstants.{DIRECTION}
@@ -44,3 +44,15 @@ pub record IsWitnessNumber (keys : List (List ℕ)) (old new : List Witness) (wi
   pub keys_are : keys ≡ map key_of new
   pub distinct : (k m : ℕ) (key : List ℕ) → slice_get keys k ≡ Some key → slice_get keys m ≡ Some key
       → k ≡ m
+
+-- these are the keys of the witnesses, and they are different
+pub record AreKeys (keys : List (List ℕ)) (witnesses : List Witness) : Type 0 where
+  pub are : keys ≡ map key_of witnesses
+  pub distinct : (k m : ℕ) (key : List ℕ) → slice_get keys k ≡ Some key → slice_get keys m ≡ Some key
+      → k ≡ m
+
+-- the number, where there is one, at which a witness that was found stands among those that are listed
+pub record AreNames (found listed : List Witness) (names : List (Option ℕ)) : Type 0 where
+  pub size : length names ≡ length found
+  pub each : (p i : ℕ) → slice_get names p ≡ Some (Some i)
+      → (x : Witness) × (slice_get found p ≡ Some x) × (slice_get listed i ≡ Some x)

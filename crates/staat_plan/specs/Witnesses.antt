@@ -1,7 +1,10 @@
 -- What the search for a witness finds.
-use Rattle.std.specs.Prelude.{ℕ, List}
+use Rattle.std.specs.Prelude.{◌≡◌, ℕ, List, All, map}
 use Rattle.staat_vec.specs.declared.vector.V3.{V3}
 use Rattle.staat_model.specs.declared.assembly.Part.{Part}
+use Rattle.staat_model.specs.declared.certificate.Arc.{Arc}
+use Rattle.staat_model.specs.Certificates.{outward}
+use Rattle.staat_model.specs.Certify.{IsLeastArc}
 use Rattle.staat_model.specs.Sets.{IsLeastOf}
 use Rattle.staat_graph.specs.declared.trees.Trees.{Trees}
 use Rattle.staat_graph.specs.Blocking.{ShowsBlocking}
@@ -20,3 +23,8 @@ pub record AreTreesAlong (parts : List Part) (t : Table) (d : V3) (trees : Trees
   pub rows : List ℕ
   pub shows : ShowsBlocking parts d t.of rows
   pub trees_are : AreTrees (HasArc rows) t.of trees
+
+-- the arcs join these pairs of parts, each with the first pieces with which the one blocks the other
+pub record AreEndsAndLeast (parts : List Part) (d : V3) (pairs : List (ℕ × ℕ)) (arcs : List Arc) : Type 0 where
+  pub ends : map outward arcs ≡ pairs
+  pub least : All (IsLeastArc parts d) arcs

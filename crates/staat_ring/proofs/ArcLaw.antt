@@ -179,6 +179,12 @@ module _ (parts : List Part) (t : Table) (s : Signed) (linked : List ℕ) (v : V
         (all (facet_at t.planes x) (subst (λ fs. Contains fs (facet_at t.planes x)) is.index.are (in_map (facet_at t.planes) is.index.by_plane x c)))))
         ∙ sym size)
 
+    pub full_says : (length (facets_of t arc) ≤ positives q s.sides) ↔ All (λ n. pos 0 <ℤ dot n v) (facets_of t arc)
+    full_says = (
+      λ le. All-from_members (λ n. pos 0 <ℤ dot n v) (facets_of t arc) (ahead_of_full le),
+      λ all. (let e = full_of_ahead (λ n c. All-contains (λ n. pos 0 <ℤ dot n v) (facets_of t arc) n all c) in omega (arith, e)),
+    )
+
   -- an arc stands for some pair of pieces that blocks, and the other way round
   module _ (a b : ℕ) (a_in : Has w a) (b_in : Has w b) where
     blocked : (q : ℕ) → IsBlockingPair s (parts_at a b) q → IsAhead t v a b

@@ -131,6 +131,15 @@ impl PairCounts {
         }
     }
 
+    /// Whether all facets of the pair are positive.
+    pub fn is_full(&self, q: u16) -> bool
+        requires { q < length self.now }
+        ensures { IsTrue result ↔ ((pair_at self.now q).wanted ≤ (pair_at self.now q).positive) }
+    {
+        let pair = self.pairs[q as usize];
+        pair.wanted <= pair.positive
+    }
+
     /// The graph in which an arc stands where some pair blocks.
     pub fn graph(&self) -> Graph
         ensures { (a b : ℕ) → a < 32 → b < 32 → HasArc result.rows a b ↔ HasFullPair self.now a b }

@@ -210,6 +210,14 @@ impl Signs {
         }
     }
 
+    /// Whether all facets of the pair `q` are positive.
+    pub fn is_full(&self, q: u16) -> bool
+        requires { q < length self.now.pairs }
+        ensures { IsTrue result ↔ ((pair_at self.now.pairs q).wanted ≤ positives q self.now.sides) }
+    {
+        self.counts.is_full(q)
+    }
+
     /// The graph in which an arc stands where all facets of some pair of pieces are positive.
     pub fn graph(&self) -> Graph
         ensures { (a b : ℕ) → a < 32 → b < 32 → HasArc result.rows a b ↔ HasBlockingPair self.now a b }

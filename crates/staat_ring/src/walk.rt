@@ -12,17 +12,29 @@ ghost use Rattle.std.specs.Prelude.{
   ◌≤◌,
   All,
 };
-ghost use Rattle.std.specs.Prelude.{Contains, IfOk, IsTrue, List, MatchOption, Some, length, min, slice_get};
+ghost use Rattle.std.specs.Prelude.{
+  Contains,
+  IfOk,
+  IsTrue,
+  List,
+  MatchOption,
+  Some,
+  length,
+  min,
+  pos,
+  slice_get,
+  ◌<ℤ◌,
+};
 ghost use Rattle.staat_vec.specs.declared.vector.V3.{V3 as Vector};
 ghost use Rattle.staat_vec.specs.Lists.{IsFirst};
-ghost use Rattle.staat_vec.specs.Vectors.{IsWithin};
+ghost use Rattle.staat_vec.specs.Vectors.{IsWithin, dot};
 ghost use Rattle.staat_model.specs.declared.assembly.Part.{Part as PartValue};
 ghost use Rattle.staat_model.specs.declared.set.PartSet.{PartSet as PartSetValue};
 ghost use Rattle.staat_model.specs.Removal.{Blocks};
-ghost use Rattle.staat_model.specs.Sets.{IsNonempty, IsSubset};
+ghost use Rattle.staat_model.specs.Sets.{Has, IsNonempty, IsSubset};
 ghost use Rattle.staat_graph.specs.Blocking.{ShowsBlocking};
 ghost use Rattle.staat_graph.specs.Graphs.{IsStrong};
-ghost use Rattle.staat_pairs.specs.Tables.{IsTable, Table, WasMadeFrom};
+ghost use Rattle.staat_pairs.specs.Tables.{IsTable, IsTableArc, Table, WasMadeFrom, facets_of};
 ghost use Rattle.staat_ring.specs.Belonging.{BelongTo, HasAll, HoldSigns};
 ghost use Rattle.staat_ring.specs.Marks.{mark_of, marked};
 ghost use Rattle.staat_ring.specs.Places.{HasNode, IsStopAt};
@@ -34,7 +46,7 @@ use crate::signs::Signs;
 use crate::vertex::Crossing;
 use crate::{Entry, Rings};
 use staat_graph::Graph;
-use staat_model::PartSet;
+use staat_model::{Arc, PartSet};
 use staat_planes::{PlaneTable, Steps};
 use staat_vec::{DIRECTION, OutOfMemory, Sign, V3};
 use std::alloc::Global;
@@ -226,6 +238,19 @@ impl Walk {
         self.signs.is_strong(w)
     }
 
+    /// Whether the vertex leads ahead of all facets of an ordered pair of pieces, of which all planes are linked. It
+    /// looks at two counts.
+    pub fn leads_ahead(&self, table: &PlaneTable, arc: Arc) -> bool
+        requires made { BelongTo table.now self.now.signs }
+        requires across { IsTableArc table.now arc }
+        ensures { (parts : List PartValue) (rings : List Ring) (w : PartSetValue) → WasMadeFrom parts table.now
+            → IsEntered table.now.planes rings self.now → IsSubset w table.now.of → Has w arc.a → Has w arc.b
+            → HasAll parts w table.now.planes (linked_of rings)
+            → IsTrue result ↔ All (λ n. pos 0 <ℤ dot n self.now.vertex) (facets_of table.now arc) }
+    {
+        self.signs.is_full(table.slot(arc) as u16)
+    }
+
     /// Of the planes through the vertex with a number greater than `i` the first one, if there is any.
     pub fn entry_after(&self, table: &PlaneTable, rings: &Rings, i: u32) -> Option<Entry>
         requires rings { WereMadeFrom table.now.planes rings.now }
@@ -236,6 +261,17 @@ impl Walk {
             s.entries e) }
     {
         entry_after(rings, self.circle, self.node, table.len(), i)
+    }
+
+    /// Of the planes through the vertex, without that of the circle, the first one.
+    pub fn first_entry(&self, table: &PlaneTable, rings: &Rings) -> Entry
+        requires rings { WereMadeFrom table.now.planes rings.now }
+        requires entered { IsEntered table.now.planes rings.now.rings self.now }
+        ensures { (s : RingStop) → IsStopAt rings.now.rings self.now.circle self.now.place s
+            → s.node ≡ self.now.node → slice_get s.entries 0 ≡ Some result }
+    {
+        let _len = table.len();
+        entry_of(rings, self.circle, self.node)
     }
 
     /// Goes to the next vertex of the circle, and tells whether that is another one than the first.

@@ -31,6 +31,8 @@ pub use top::staat;
 #[cfg(test)]
 mod check_tests;
 #[cfg(test)]
+mod fault_tests;
+#[cfg(test)]
 mod held;
 #[cfg(test)]
 mod tests;

@@ -1,4 +1,5 @@
-use Rattle.std.proofs.Common.{arith, length, subst, sym}
+use Rattle.std.proofs.Common.{List, arith, length, subst, sym}
+use Rattle.staat_vec.specs.declared.vector.V3.{V3}
 use Rattle.staat_vec.specs.Lists.{Lists}
 use Rattle.staat_vec.specs.Vectors.{vector_cmp}
 use Rattle.staat_model.specs.Certify.{IsDirection}
@@ -27,8 +28,8 @@ directions-requires-clause-apart g c =
     let within : IsTableWithin parts c.args.w 1024 c.in-Ok.table = c.in-Ok.ensures in
     planes_apart parts c.args.w c.planes.result.now (planes_of parts c.args.w 1024 c.in-Ok.table c.planes.result.now within c.planes.ensures.is)
 
-pub listing_of-requires-clause-each : goal.listing_of-requires-clause-each
-listing_of-requires-clause-each g c =
+pub lines_at-requires-clause-each : goal.lines_at-requires-clause-each
+lines_at-requires-clause-each g c =
     let parts = c.args.sound.now in
     let planes = c.planes.result.now in
     let within : IsTableWithin parts c.args.w 1024 c.in-Ok.table = c.in-Ok.ensures in
@@ -36,8 +37,13 @@ listing_of-requires-clause-each g c =
     sized_directions c.args.version planes c.as_slice.result.now (planes_within parts c.args.w planes within.table.made.assembly are) (planes_apart parts c.args.w planes are)
     (subst (Lists vector_cmp (IsDirection c.args.version planes)) (sym c.as_slice.ensures.value) c.in_ok-taken.ensures)
 
-pub listing_of-requires-clause-few : goal.listing_of-requires-clause-few
-listing_of-requires-clause-few g c = few_directions c.args.version c.planes.result.now c.as_slice.result.now c.planes.ensures.most
+pub lines_at-requires-clause-lists : goal.lines_at-requires-clause-lists
+lines_at-requires-clause-lists g c =
+    subst (λ (planes : List V3). Lists vector_cmp (IsDirection c.args.version planes) c.as_slice.result.now) c.planes.ensures.is
+    (subst (Lists vector_cmp (IsDirection c.args.version c.planes.result.now)) (sym c.as_slice.ensures.value) c.in_ok-taken.ensures)
+
+pub lines_at-requires-clause-few : goal.lines_at-requires-clause-few
+lines_at-requires-clause-few g c = few_directions c.args.version c.planes.result.now c.as_slice.result.now c.planes.ensures.most
     (subst (Lists vector_cmp (IsDirection c.args.version c.planes.result.now)) (sym c.as_slice.ensures.value) c.in_ok-taken.ensures)
 
 pub returns : goal.returns
@@ -45,7 +51,7 @@ returns g c =
     let parts = c.args.sound.now in
     let planes = c.planes.result.now in
     let within : IsTableWithin parts c.args.w 1024 c.in-Ok.table = c.in-Ok.ensures in
-    listed_end parts c.args.version c.args.w c.in-Ok.table.of planes c.as_slice.result.now c.listing_of.result within.table.set
+    listed_end parts c.args.version c.args.w c.in-Ok.table.of planes c.as_slice.result.now c.lines_at.result within.table.set
     (planes_of parts c.args.w 1024 c.in-Ok.table planes within c.planes.ensures.is)
     (subst (Lists vector_cmp (IsDirection c.args.version planes)) (sym c.as_slice.ensures.value) c.in_ok-taken.ensures)
-    c.listing_of.ensures.listed c.listing_of.ensures.lines
+    c.lines_at.ensures.listed c.lines_at.ensures.lines

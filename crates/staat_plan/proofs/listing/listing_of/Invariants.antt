@@ -1,6 +1,10 @@
 use Rattle.std.proofs.Common.{map, take}
+use Rattle.staat_plan.specs.Listings.{AreNames}
 use Rattle.staat_plan.proofs.ListedLemmas.{HasLines}
 use Rattle.staat_plan.proofs.listing.listing_of.Given as goal
 
-abbrev pub invariant-loop-d : goal.invariant-loop-d
-invariant-loop-d l = HasLines l.sound l.table.of (map (λ v. v.items) l.listing.keys.keys) l.listing.witnesses.items l.listing.dirs.items (take l.d-index l.directions)
+abbrev pub invariant-loop-k : goal.invariant-loop-k
+invariant-loop-k l = record {
+  lines : HasLines l.sound l.table.of (map (λ v. v.items) l.listing.keys.keys) l.listing.witnesses.items l.listing.dirs.items (take l.k l.directions);
+  names : AreNames l.found.witnesses.items l.listing.witnesses.items l.names.items;
+}

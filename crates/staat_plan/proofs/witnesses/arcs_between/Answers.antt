@@ -7,7 +7,7 @@ use Rattle.staat_plan.proofs.witnesses.arcs_between.Goals as goal
 
 pub loop-ends-preserved : goal.loop-ends-preserved
 loop-ends-preserved c =
-    let is = c.in_ok-push.ensures.items in (
-      ends_more c.args.pairs.now c.loop-ends.ends-index (0, 0) c.loop-ends.arcs.items c.push.new.self.items c.arc_between.result c.loop-ends-test.true c.loop-ends.invariant.0 c.arc_between.ensures.ends is,
-      subst (λ (arcs : List Arc). All (IsLeastArc c.args.sound.now c.args.d) arcs) (sym is) (All-push (IsLeastArc c.args.sound.now c.args.d) c.loop-ends.arcs.items c.arc_between.result c.loop-ends.invariant.1 c.arc_between.ensures.least),
-    )
+    let is = c.in_ok-push.ensures.items in record {
+      ends = ends_more c.args.pairs.now c.loop-ends.ends-index (0, 0) c.loop-ends.arcs.items c.push.new.self.items c.arc_between.result c.loop-ends-test.true c.loop-ends.invariant.ends c.arc_between.ensures.ends is;
+      least = subst (λ (arcs : List Arc). All (IsLeastArc c.args.sound.now c.args.walk.now.vertex) arcs) (sym is) (All-push (IsLeastArc c.args.sound.now c.args.walk.now.vertex) c.loop-ends.arcs.items c.arc_between.result c.loop-ends.invariant.least c.arc_between.ensures.least);
+    }
