@@ -1,5 +1,5 @@
 -- Arcs that stay where they block keep a graph strong.
-use Rattle.std.proofs.Common.{◌≡◌, ◌≢◌, ◌↔◌, inl, inr, ⊎_elim, ℕ, ◌+◌, ◌<◌, ◌≤◌, arith, ap, sym, subst, ◌∙◌, refl, List, [], ◌∷◌, ◌++◌, All, Contains, length, map, take}
+use Rattle.std.proofs.Common.{◌≡◌, ⊎_elim, ℕ, ap, sym, subst, List, [], ◌∷◌, ◌++◌, All, Contains, map, take}
 use Rattle.std.specs.FinSet as set
 use Rattle.std.proofs.lemmas.List.Elements.{All-contains, Contains-append_left, Contains-append_right}
 use Rattle.staat_vec.specs.declared.vector.V3.{V3}
@@ -12,7 +12,7 @@ use Rattle.staat_model.specs.Bridges.{Back, IsTree, swapped}
 use Rattle.staat_model.specs.Certificates.{outward}
 use Rattle.staat_model.specs.Outcomes.{Serves}
 use Rattle.staat_model.specs.Removal.{MeetsAlong}
-use Rattle.staat_model.specs.Sets.{Has, IsLeastOf, IsNonempty, IsSubset, single}
+use Rattle.staat_model.specs.Sets.{Has, IsLeastOf, single}
 use Rattle.staat_model.proofs.Differences.{from_map}
 use Rattle.staat_model.proofs.FreeSides.{member_or}
 use Rattle.staat_model.proofs.SetMembers.{has-difference, has-insert, has-single}

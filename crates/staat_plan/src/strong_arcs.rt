@@ -89,7 +89,7 @@ impl StrongArcs {
         if self.count >= 62 {
             return false;
         }
-        match least_arc(table, ends.0, ends.1, d) {
+        match least_arc(table, &d, ends.0, ends.1) {
             None => false,
             Some(arc) => {
                 self.put(arc);

@@ -10,7 +10,7 @@ ghost use Rattle.staat_pairs.specs.Tables.{WasMadeFrom};
 ghost use Rattle.staat_plan.specs.Witnesses.{AreEndsAhead, AreEndsAndLeast, AreTreesAlong};
 ghost use Rattle.staat_plan.specs.Visits.{AreKept, StandsAmong};
 
-use crate::walk_arcs::least_arc;
+use crate::arcs::least_arc;
 use staat_graph::{Graph, Trees, trees_of};
 use staat_model::{Arc, Arcs, MOST_PARTS, Sound, Witness};
 use staat_planes::PlaneTable;

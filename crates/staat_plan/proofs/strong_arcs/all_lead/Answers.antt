@@ -1,4 +1,4 @@
-use Rattle.std.proofs.Common.{◌≡◌, ◌≤◌, All, length, refl, subst, take, true}
+use Rattle.std.proofs.Common.{◌≡◌, All, refl, subst, true}
 use Rattle.std.proofs.lemmas.List.Elements.{All-get_or, All-more}
 use Rattle.std.proofs.lemmas.List.{take_all}
 use Rattle.staat_pairs.specs.Tables.{IsTableArc}

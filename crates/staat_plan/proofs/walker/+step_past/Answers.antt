@@ -1,4 +1,4 @@
-use Rattle.std.proofs.Common.{◌<◌, ◌≤◌, ◌-◌, ◌+◌, arith, length}
+use Rattle.std.proofs.Common.{◌<◌, ◌-◌, ◌+◌, arith, length}
 use Rattle.staat_ring.specs.Rings.{linked_of}
 use Rattle.staat_plan.proofs.RingSetLemmas.{all_past, past_next, told_false, told_true, unlinked_before, unlinked_past, used_before}
 use Rattle.staat_plan.proofs.walker.+step_past.Goals as goal

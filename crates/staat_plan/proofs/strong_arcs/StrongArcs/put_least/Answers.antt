@@ -1,4 +1,4 @@
-use Rattle.std.proofs.Common.{◌≡◌, ◌+◌, ◌<◌, ◌≤◌, arith, sym, subst, All}
+use Rattle.std.proofs.Common.{arith, sym, subst, All}
 use Rattle.std.proofs.lemmas.List.Elements.{All-push}
 use Rattle.staat_pairs.specs.Tables.{IsTableArc}
 use Rattle.staat_plan.specs.StrongArcs.{kept_arcs}
