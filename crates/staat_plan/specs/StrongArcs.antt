@@ -1,5 +1,6 @@
 -- Arcs that let all parts of a set reach each other, kept from one direction to the next.
 use Rattle.std.specs.Prelude.{◌≡◌, ℕ, ◌<◌, ◌≤◌, List, All, Contains, length, map, take}
+use Rattle.staat_vec.specs.declared.vector.V3.{V3}
 use Rattle.staat_model.specs.declared.certificate.Arc.{Arc}
 use Rattle.staat_model.specs.declared.set.PartSet.{PartSet}
 use Rattle.staat_model.specs.Certificates.{outward}
@@ -7,6 +8,8 @@ use Rattle.staat_model.specs.Sets.{IsNonempty}
 use Rattle.staat_graph.specs.Graphs.{IsStrong}
 use Rattle.staat_pairs.specs.Tables.{IsTableArc, Table}
 use Rattle.staat_plan.specs.declared.strong_arcs.StrongArcs.{StrongArcs}
+use Rattle.staat_plan.specs.declared.strong_arcs.TheConstants.{LISTS}
+use Rattle.staat_plan.specs.Arcs.{IsMet}
 
 -- the arcs that are kept
 abbrev pub kept_arcs : StrongArcs → List Arc
@@ -31,3 +34,15 @@ pub record KeepsStrong (t : Table) (w : PartSet) (k : StrongArcs) : Type 0 where
   pub some : IsNonempty w
   pub holds : HoldsArcs t k
   pub strong : 0 < k.count → IsStrong (Joins (kept_arcs k)) w
+
+-- so with each of several lists of arcs
+pub record AreStrong (t : Table) (w : PartSet) (lists : List StrongArcs) : Type 0 where
+  pub some : IsNonempty w
+  pub room : length lists ≡ LISTS
+  pub each : All (KeepsStrong t w) lists
+
+-- some arcs block along d, and by them each part of w reaches each other
+pub record HasStrongArcs (t : Table) (w : PartSet) (d : V3) : Type 0 where
+  pub arcs : List Arc
+  pub met : All (IsMet t d) arcs
+  pub strong : IsStrong (Joins arcs) w

@@ -3,9 +3,9 @@ ghost use Rattle.staat_model.specs.declared.set.PartSet.{PartSet as PartSetValue
 ghost use Rattle.staat_model.specs.Outcomes.{IsMovedSide, Serves};
 ghost use Rattle.staat_model.specs.Sets.{IsNonempty, IsSide};
 ghost use Rattle.staat_pairs.specs.Tables.{Table};
-ghost use Rattle.staat_plan.specs.StrongArcs.{KeepsStrong};
+ghost use Rattle.staat_plan.specs.StrongArcs.{AreStrong};
 
-use crate::strong_arcs::StrongArcs;
+use crate::strong_lists::StrongLists;
 use staat_graph::{sink_of, trees_of};
 use staat_model::PartSet;
 use staat_planes::{PlaneTable, Trial, Tried};
@@ -13,19 +13,19 @@ use staat_vec::V3;
 
 /// Looks for the side of a set of parts that moves along a direction.
 ///
-/// It keeps the arcs that last showed a blocking graph strong. Where they still stand, nothing else is computed.
+/// It keeps the arcs that showed the last blocking graphs strong. Where those of one still stand, nothing else is computed.
 #[derive(Drop)]
 pub(crate) struct SideTrial {
-    strong: StrongArcs,
+    strong: StrongLists,
 }
 
 impl SideTrial {
     /// A trial for any set of parts, which has kept nothing yet.
     pub(crate) fn new() -> SideTrial
-        ensures { (t : Table) (w : PartSetValue) → IsNonempty w → KeepsStrong t w result.strong }
+        ensures { (t : Table) (w : PartSetValue) → IsNonempty w → AreStrong t w result.strong.lists }
     {
         SideTrial {
-            strong: StrongArcs::none(),
+            strong: StrongLists::none(),
         }
     }
 }
@@ -33,7 +33,7 @@ impl SideTrial {
 impl Trial for SideTrial {
     type Found = PartSet;
 
-    ghost fits = { λ s t w. KeepsStrong t w s.strong };
+    ghost fits = { λ s t w. AreStrong t w s.strong.lists };
 
     ghost knows = { λ s parts. Unit {0} };
 
@@ -45,7 +45,7 @@ impl Trial for SideTrial {
 
     // By the law `opposite_serves` a side moves along the opposite direction exactly where one moves along d.
     fn ask(&mut self, table: &PlaneTable, w: PartSet, d: V3) -> Tried<PartSet> {
-        if self.strong.stand_at(table, d) {
+        if self.strong.stand_at(table, w, d) {
             return Tried::Neither;
         }
         let graph = table.graph_in(w, d);

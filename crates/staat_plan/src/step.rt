@@ -42,8 +42,20 @@ pub(crate) fn step_of(table: &PlaneTable, w: PartSet) -> Option<Step>
     }
 }
 
-/// How many pairs of planes are tried one by one before rings are made.
+/// How many pairs of planes are tried one by one before rings are made, at least.
 const FEW_PAIRS: u32 = 24;
+
+// How many pairs of the planes of w are tried one by one. Rings are made of all planes of the table, and a smaller set
+// seldom has most of them: for it as many pairs are tried as take a small part of the time of making rings.
+fn few_pairs(table: &PlaneTable, w: PartSet) -> u32
+    ensures { FEW_PAIRS ≤ result }
+{
+    if table.set().within(w) {
+        FEW_PAIRS
+    } else {
+        FEW_PAIRS + table.len() * table.len() / 8
+    }
+}
 
 /// The step of a set of at least two parts that lies in the table's set, if the first vertices of its planes decide
 /// it: the step along one of them, or none where there are no others. It takes no memory.
@@ -54,7 +66,7 @@ pub(crate) fn early_step(table: &PlaneTable, w: PartSet) -> Option<Option<Marked
 {
     let mut pairs = PlanePairs::of(table, w);
     let mut trial = SideTrial::new();
-    match first_few(&mut pairs, table, w, &mut trial, FEW_PAIRS) {
+    match first_few(&mut pairs, table, w, &mut trial, few_pairs(table, w)) {
         Search::Undecided => None,
         Search::Nothing => Some(None),
         Search::First(served) => Some(Some(Marked {

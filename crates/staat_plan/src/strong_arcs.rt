@@ -15,11 +15,14 @@ use staat_model::{Arc, PartSet};
 use staat_planes::PlaneTable;
 use staat_vec::{DIRECTION, V3};
 
+/// How many lists of arcs are kept.
+pub(crate) const LISTS: u32 = 8;
+
 /// Arcs between pieces by which each part of a set reaches each other. The first `count` are in use.
 ///
 /// Where a direction leads ahead of the facets of all of them, the blocking graph there has all these arcs, so that it
 /// is strong. From one vertex to the next they seldom change.
-#[derive(Drop)]
+#[derive(Clone, Copy)]
 pub(crate) struct StrongArcs {
     arcs: [Arc; 62],
     count: u32,

@@ -1,13 +1,12 @@
 use Rattle.staat_graph.proofs.Sides.{moved_of_first, serves_of_weak, weak_of_serves}
-use Rattle.staat_plan.specs.StrongArcs.{kept_arcs}
 use Rattle.staat_plan.proofs.Opposites.{serves_opposite}
 use Rattle.staat_plan.proofs.StrongLemmas.{neither_serves}
 use Rattle.staat_plan.proofs.side_trial.SideTrialTrial.ask.Goals as goal
 
 pub returns-then-stand_at-clause-tried : goal.returns-then-stand_at-clause-tried
 returns-then-stand_at-clause-tried c parts made all =
-    let stand = c.stand_at.ensures.0 c.if-stand_at.true in
-    neither_serves parts c.args.table.now c.args.w c.args.d (kept_arcs c.args.self.now.strong) made stand.1 (c.requires.fits.strong stand.0)
+    let has = c.stand_at.ensures.stand c.if-stand_at.true in
+    neither_serves parts c.args.table.now c.args.w c.args.d has.arcs made has.met has.strong
 
 pub returns-in-None-clause-tried : goal.returns-in-None-clause-tried
 returns-in-None-clause-tried c parts made all =
