@@ -3,6 +3,7 @@ pub mod CanonSearch
 pub mod GraphLaw
 pub mod NotFound
 pub mod UsedLaw
+pub mod Marking
 pub mod BuildLemmas
 pub mod UsedPlanes
 pub mod PairSteps

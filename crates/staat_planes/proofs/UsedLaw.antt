@@ -23,7 +23,7 @@ facets_from parts t made = record { pieces = made.pieces; facets = made.facets }
 axis_at : (planes others : List V3) (k : ℕ) (n : V3) → planes ≡ axes ++ others → k < 3 → slice_get planes k ≡ Some n → Contains axes n
 axis_at planes others k n e lt at = (k, lt, sym (get_or_append_left axes others n k lt) ∙ ap (λ ps. get_or ps k n) (sym e) ∙ get_or_from_slice_get planes k n n at)
 
-other_at : (planes others : List V3) (k : ℕ) (n : V3) → planes ≡ axes ++ others → 3 ≤ k → slice_get planes k ≡ Some n → Contains others n
+pub other_at : (planes others : List V3) (k : ℕ) (n : V3) → planes ≡ axes ++ others → 3 ≤ k → slice_get planes k ≡ Some n → Contains others n
 other_at planes others k n e le at =
     let lt : k < length (axes ++ others) = subst (λ ps. k < length ps) e (slice_get_within planes k n at) in
     (k - 3, omega arith, sym (get_or-append_right axes others 3 k n refl le) ∙ ap (λ ps. get_or ps k n) (sym e) ∙ get_or_from_slice_get planes k n n at)

@@ -4,6 +4,7 @@
 mod build;
 mod graph;
 pub mod laws;
+mod marks;
 mod pairs;
 mod refusal;
 mod search;

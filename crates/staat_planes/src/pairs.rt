@@ -1,13 +1,12 @@
 // The pairs of the planes of a set of parts, in pair order.
-ghost use Rattle.std.specs.Prelude.{◌≡◌, ◌≢◌, ◌+◌, ◌<◌, ◌≤◌, ◌↔◌, List, []};
-ghost use Rattle.std.specs.Prelude.{◌∷◌, ◌++◌, IfSome, IsTrue, MatchOption, Some, length, slice_get, take};
+ghost use Rattle.std.specs.Prelude.{◌≡◌, ◌≢◌, ◌+◌, ◌<◌, ◌≤◌, List, []};
+ghost use Rattle.std.specs.Prelude.{◌∷◌, ◌++◌, IfSome, MatchOption, take};
 ghost use Rattle.staat_vec.specs.declared.vector.V3.{V3 as Vector};
 ghost use Rattle.staat_vec.specs.Vectors.{IsWithin, negative, origin};
 ghost use Rattle.staat_model.specs.declared.assembly.Part.{Part as PartValue};
 ghost use Rattle.staat_model.specs.Planes.{ArePlanes, vertices};
 ghost use Rattle.staat_model.specs.Sets.{IsSubset};
 ghost use Rattle.staat_pairs.specs.Tables.{WasMadeFrom};
-ghost use Rattle.staat_planes.specs.Tables.{IsPlaneOf};
 ghost use Rattle.staat_planes.specs.VertexSearch.{IsPlaceIn, vertices_left};
 
 use crate::table::PlaneTable;
@@ -27,17 +26,6 @@ pub struct PlanePairs {
     second: u32,
 }
 
-// whether the plane k is one of the planes of w; if w is the whole set of the table, all of them are
-fn is_used(table: &PlaneTable, k: u32, w: PartSet, whole: bool) -> bool
-    requires plane { k < length table.now.planes }
-    requires set { IsSubset w table.now.of }
-    requires whole { IsTrue whole → IsSubset table.now.of w }
-    ensures { (parts : List PartValue) (n : Vector) → WasMadeFrom parts table.now →
-        slice_get table.now.planes k ≡ Some n → IsTrue result ↔ IsPlaneOf parts w n }
-{
-    whole || table.used(k, w)
-}
-
 // puts a number behind those in use
 fn push_number(numbers: &mut [u32; 1024], count: u32, k: u32)
     requires { count < 1024 }
@@ -54,11 +42,11 @@ impl PlanePairs {
         ensures vertices { (parts : List PartValue) (planes : List Vector) → WasMadeFrom parts table.now →
             ArePlanes parts w planes → vertices_left table.now.planes result ≡ vertices planes }
     {
-        let whole = table.set().within(w);
+        let marks = table.used_marks(w);
         let mut numbers = [0u32; 1024];
         let mut count = 0;
         for k in 0..table.len() {
-            if is_used(table, k, w, whole) {
+            if marks[k as usize] {
                 push_number(&mut numbers, count, k);
                 count += 1;
             }

@@ -1,25 +1,24 @@
-use Rattle.std.proofs.Common.{◌≡◌, ◌+◌, ◌<◌, ◌≤◌, ◌∙◌, ap, arith, refl, subst, sym, true≢false, length, take}
-use Rattle.staat_planes.specs.VertexSearch.{IsPlaceIn}
+use Rattle.std.proofs.Common.{◌≡◌, ◌+◌, ◌<◌, ◌∙◌, ap, arith, refl, subst, sym, true≢false, false, get_or, length, take}
 use Rattle.staat_planes.proofs.PairSteps.{AreUsedBelow, first_vertices, none_more, none_used, one_used}
-use Rattle.staat_planes.proofs.pairs.PlanePairs.of.Goals.{then-is_used, else-is_used}
+use Rattle.staat_planes.proofs.pairs.PlanePairs.of.Goals.{then-marks-k, else-marks-k}
 use Rattle.staat_planes.proofs.pairs.PlanePairs.of.Goals as goal
 
 pub loop-k-init : goal.loop-k-init
 loop-k-init c = record { room = refl; few = omega arith; used = none_used c.args.table.now c.args.w }
 
 pub loop-k-preserved : goal.loop-k-preserved
-loop-k-preserved c = elim c.if-is_used.branch [
-  | then-is_used w ↦ (record {
+loop-k-preserved c = elim c.if-marks-k.branch [
+  | then-marks-k w ↦ (record {
     room = ap length w.numbers-is ∙ w.push_number.array_long;
     few = let a = c.loop-k.invariant.few in let e = w.count-is in omega (arith, a, e);
     used = subst (AreUsedBelow c.args.table.now c.args.w (c.loop-k.k + 1)) (sym ((λ i. take (w.count-is i) (w.numbers-is i)) ∙ w.push_number.ensures))
-        (one_used c.args.table.now c.args.w c.loop-k.k (take c.loop-k.count c.loop-k.numbers) c.is_used.result c.loop-k.invariant.used c.is_used.ensures w.if-is_used.true);
+        (one_used c.args.table.now c.args.w c.loop-k.k (take c.loop-k.count c.loop-k.numbers) (get_or c.used_marks-marks.result c.loop-k.k false) c.loop-k.invariant.used (λ parts n made at. c.used_marks-marks.ensures.each parts c.loop-k.k n made at) w.if-marks-k.true);
   })
-  | else-is_used w ↦ (record {
+  | else-marks-k w ↦ (record {
     room = ap length w.numbers-is ∙ c.loop-k.invariant.room;
     few = let a = c.loop-k.invariant.few in let e = w.count-is in omega (arith, a, e);
     used = subst (AreUsedBelow c.args.table.now c.args.w (c.loop-k.k + 1)) (sym (λ i. take (w.count-is i) (w.numbers-is i)))
-        (none_more c.args.table.now c.args.w c.loop-k.k (take c.loop-k.count c.loop-k.numbers) c.is_used.result c.loop-k.invariant.used c.is_used.ensures (λ told. true≢false (sym told ∙ w.if-is_used.false)));
+        (none_more c.args.table.now c.args.w c.loop-k.k (take c.loop-k.count c.loop-k.numbers) (get_or c.used_marks-marks.result c.loop-k.k false) c.loop-k.invariant.used (λ parts n made at. c.used_marks-marks.ensures.each parts c.loop-k.k n made at) (λ told. true≢false (sym told ∙ w.if-marks-k.false)));
   })
 ]
 

@@ -6,5 +6,5 @@ abbrev pub invariant-loop-k : goal.invariant-loop-k
 invariant-loop-k l = record {
   room : length l.numbers ≡ 1024;
   few : l.count ≤ l.k;
-  used : AreUsedBelow l.table l.w l.k (take l.count l.numbers);
+  used : AreUsedBelow l.table l.fn.w l.k (take l.count l.numbers);
 }
