@@ -1,11 +1,11 @@
 // What holds the parts of a set along a direction.
-ghost use Rattle.std.specs.Prelude.{◌≡◌, ◌≢◌, ◌<◌, ◌≤◌, ◌↔◌, ℕ, IsTrue, MatchOption};
+ghost use Rattle.std.specs.Prelude.{◌≡◌, ◌≢◌, ◌<◌, ◌+◌, ◌*◌, ◌↔◌, ℕ, IfSome, IsTrue, MatchOption};
 ghost use Rattle.std.specs.Prelude.{Some, false, length, slice_get, slice_set};
-ghost use Rattle.std.specs.FinSet as set;
 ghost use Rattle.staat_vec.specs.Vectors.{IsWithin};
+ghost use Rattle.staat_model.specs.declared.set.PartSet.{PartSet as PartSetValue};
 ghost use Rattle.staat_model.specs.Sets.{Has, IsSubset};
 ghost use Rattle.staat_pairs.specs.Searches.{arc_of};
-ghost use Rattle.staat_pairs.specs.Tables.{IsTableArc, pieces_of};
+ghost use Rattle.staat_pairs.specs.Tables.{IsTableArc, Table as TableValue, pieces_of};
 ghost use Rattle.staat_linear.specs.Holding.{AreHeld, AreOutward, HoldsPart};
 ghost use Rattle.staat_linear.specs.Holding.{IsArcAhead, IsHeld, IsLeastFree, IsOutward};
 
@@ -85,73 +85,115 @@ fn holder_of(table: &PlaneTable, w: PartSet, p: u32, d: V3) -> Option<Arc>
     None
 }
 
-// the first pieces of p and of the least other part of w
-fn first_pieces(table: &PlaneTable, w: PartSet, p: u32) -> Arc
-    requires within { IsSubset w table.now.of }
-    requires two { 2 ≤ set.len w }
-    requires member { Has w p }
-    requires small { p < MOST_PARTS }
-    ensures { IsOutward table.now w p result }
-{
-    let others = w.without(PartSet::single(p));
-    let b = others.least();
-    // each part has a piece
-    let _pieces = (table.pieces(p), table.pieces(b));
-    Arc {
-        a: p,
-        i: 0,
-        b,
-        j: 0,
-    }
-}
+/// How many pairs of pieces are kept for each part.
+pub const KEPT: u32 = 6;
 
-/// For each part of a set a piece of it and a piece of another part of the set: those that held the part when it was
-/// last looked at. It takes no memory.
+/// For each part of a set pairs of a piece of it and a piece of another part of the set: those that held the part when
+/// it was looked at before. It takes no memory.
 #[derive(Drop)]
 pub struct Holders {
-    arcs: [Arc; 32],
+    // KEPT places for each part
+    arcs: [Option<Arc>; 192],
 }
 
 impl Holders {
-    /// The first pieces of each part of `w`, which lies in the table's set and has at least two parts.
-    pub fn new(table: &PlaneTable, w: PartSet) -> Holders
-        requires within { IsSubset w table.now.of }
-        requires two { 2 ≤ set.len w }
-        ensures { AreOutward table.now w result.arcs }
+    /// No pieces yet.
+    pub fn new() -> Holders
+        ensures { (t : TableValue) (w : PartSetValue) → AreOutward t w result.arcs }
     {
-        let none = Arc {
-            a: 0,
-            i: 0,
-            b: 0,
-            j: 0,
-        };
-        let mut holders = Holders { arcs: [none; 32] };
-        for p in 0..MOST_PARTS {
-            if w.has(p) {
-                let arc = first_pieces(table, w, p);
-                holders.put(p, arc);
+        Holders { arcs: [None; 192] }
+    }
+
+    // the pieces at the place k of the part p
+    fn at(&self, p: u32, k: u32) -> Option<Arc>
+        requires room { length self.now.arcs ≡ KEPT * MOST_PARTS }
+        requires part { p < MOST_PARTS }
+        requires place { k < KEPT }
+        ensures { slice_get self.now.arcs (KEPT * p + k) ≡ Some result }
+    {
+        self.arcs[(KEPT * p + k) as usize]
+    }
+
+    // takes other pieces at the place k of the part p
+    fn put(&mut self, p: u32, k: u32, arc: Option<Arc>)
+        requires room { length self.old.arcs ≡ KEPT * MOST_PARTS }
+        requires part { p < MOST_PARTS }
+        requires place { k < KEPT }
+        ensures { self.new.arcs ≡ slice_set self.old.arcs (KEPT * p + k) arc }
+    {
+        self.arcs[(KEPT * p + k) as usize] = arc;
+    }
+
+    // brings the pieces at the place k of the part p one place forward
+    fn bring_forward(&mut self, p: u32, k: u32)
+        requires room { length self.old.arcs ≡ KEPT * MOST_PARTS }
+        requires part { p < MOST_PARTS }
+        requires place { k < KEPT }
+        ensures { (t : TableValue) (w : PartSetValue) → AreOutward t w self.old.arcs → AreOutward t w self.new.arcs }
+    {
+        if k > 0 {
+            let before = self.at(p, k - 1);
+            let arc = self.at(p, k);
+            self.put(p, k - 1, arc);
+            self.put(p, k, before);
+        }
+    }
+
+    // whether the pieces at the place k hold the part p along d
+    fn holds_at(&self, table: &PlaneTable, w: PartSet, p: u32, k: u32, d: V3) -> bool
+        requires outward { AreOutward table.now w self.now.arcs }
+        requires member { Has w p }
+        requires small { p < MOST_PARTS }
+        requires place { k < KEPT }
+        requires direction { IsWithin DIRECTION d }
+        ensures { IsTrue result → IsHeld table.now w d p }
+    {
+        if let Some(arc) = self.at(p, k) {
+            table.leads_ahead(arc, d)
+        } else {
+            false
+        }
+    }
+
+    // the first place at which pieces are kept that hold the part p along d
+    fn place_of(&self, table: &PlaneTable, w: PartSet, p: u32, d: V3) -> Option<u32>
+        requires outward { AreOutward table.now w self.now.arcs }
+        requires member { Has w p }
+        requires small { p < MOST_PARTS }
+        requires direction { IsWithin DIRECTION d }
+        ensures place { IfSome result (λ k. k < KEPT) }
+        ensures held { IfSome result (λ _. IsHeld table.now w d p) }
+    {
+        for k in 0..KEPT {
+            if self.holds_at(table, w, p, k, d) {
+                return Some(k);
             }
         }
-        holders
+        None
     }
 
-    // the pieces of the part p
-    fn at(&self, p: u32) -> Arc
-        requires { p < length self.now.arcs }
-        ensures { slice_get self.now.arcs p ≡ Some result }
+    // Whether something holds the part p along d, where nothing that is kept does. What does is kept at the last place.
+    fn finds_holder(&mut self, table: &PlaneTable, w: PartSet, p: u32, d: V3) -> bool
+        requires outward { AreOutward table.now w self.old.arcs }
+        requires within { IsSubset w table.now.of }
+        requires member { Has w p }
+        requires small { p < MOST_PARTS }
+        requires direction { IsWithin DIRECTION d }
+        ensures outward { AreOutward table.now w self.new.arcs }
+        ensures held { IsTrue result → IsHeld table.now w d p }
+        ensures free { result ≡ false → IsHeld table.now w d p → ⊥ }
     {
-        self.arcs[p as usize]
+        match holder_of(table, w, p, d) {
+            None => false,
+            Some(arc) => {
+                self.put(p, KEPT - 1, Some(arc));
+                true
+            }
+        }
     }
 
-    // takes other pieces for the part p
-    fn put(&mut self, p: u32, arc: Arc)
-        requires { p < length self.old.arcs }
-        ensures { self.new.arcs ≡ slice_set self.old.arcs p arc }
-    {
-        self.arcs[p as usize] = arc;
-    }
-
-    // Whether something holds the part p along d. What held it last is tried first.
+    // Whether something holds the part p along d. What is kept is tried first, and what holds comes forward, so that
+    // what holds often is tried early.
     fn is_held(&mut self, table: &PlaneTable, w: PartSet, p: u32, d: V3) -> bool
         requires outward { AreOutward table.now w self.old.arcs }
         requires within { IsSubset w table.now.of }
@@ -162,14 +204,10 @@ impl Holders {
         ensures held { IsTrue result → IsHeld table.now w d p }
         ensures free { result ≡ false → IsHeld table.now w d p → ⊥ }
     {
-        let last = self.at(p);
-        if table.leads_ahead(last, d) {
-            return true;
-        }
-        match holder_of(table, w, p, d) {
-            None => false,
-            Some(arc) => {
-                self.put(p, arc);
+        match self.place_of(table, w, p, d) {
+            None => self.finds_holder(table, w, p, d),
+            Some(k) => {
+                self.bring_forward(p, k);
                 true
             }
         }

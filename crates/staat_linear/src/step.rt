@@ -14,8 +14,8 @@ use staat_model::PartSet;
 use staat_planes::{PlaneTable, Trial, Tried, first_vertex};
 use staat_vec::{DIRECTION, V3, neg};
 
-// The search for a part that leaves. For each part it keeps what held it last along a direction, and what held it last
-// along an opposite direction, since from one vertex to the next these seldom change.
+// The search for a part that leaves. For each part it keeps what held it along directions before, and what held it along
+// their opposites, since a part is mostly held by one of few.
 #[derive(Drop)]
 struct Taking {
     ahead: Holders,
@@ -82,8 +82,8 @@ pub fn linear_step(table: &PlaneTable, w: PartSet) -> Option<Leave>
         → (result ≡ None) ↔ IsLocked parts w }
 {
     let mut taking = Taking {
-        ahead: Holders::new(table, w),
-        back: Holders::new(table, w),
+        ahead: Holders::new(),
+        back: Holders::new(),
     };
     match first_vertex(table, w, &mut taking) {
         None => None,
