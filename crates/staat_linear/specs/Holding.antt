@@ -11,6 +11,8 @@ use Rattle.staat_pairs.specs.Tables.{IsTableArc, Table, facets_of}
 use Rattle.staat_planes.specs.declared.search.Tried.{Tried}
 use Rattle.staat_planes.specs.declared.search.Tried.TheVariants.{Neither, Ahead, Opposite}
 use Rattle.staat_linear.specs.declared.holders.TheConstants.{KEPT}
+use Rattle.staat_linear.specs.declared.holders.Sight.{Sight}
+use Rattle.staat_linear.specs.declared.holders.Sight.TheVariants.{Free, Held}
 use Rattle.staat_linear.specs.Orders.{LeavesAlong}
 
 -- d leads ahead of all facets of the two pieces, so that the first meets the second
@@ -46,9 +48,22 @@ pub record IsLeastFree (t : Table) (w : PartSet) (d : V3) (p : ℕ) : Type 0 whe
   pub free : IsHeld t w d p → ⊥
   pub before : (q : ℕ) → Has w q → q < p → IsHeld t w d q
 
+-- each part of s is held along d by another part of w
+abbrev pub AreHeldIn : Table → PartSet → PartSet → V3 → Type 0
+AreHeldIn t s w d = (p : ℕ) → Has s p → IsHeld t w d p
+
+-- each part of w that is not in s is held along d
+abbrev pub AreHeldBut : Table → PartSet → V3 → PartSet → Type 0
+AreHeldBut t w d s = (p : ℕ) → Has w p → (Has s p → ⊥) → IsHeld t w d p
+
 -- each part of w is held along d
 abbrev pub AreHeld : Table → PartSet → V3 → Type 0
 AreHeld t w d = (p : ℕ) → Has w p → IsHeld t w d p
+
+-- what is seen along a direction; the parts that hold others are held along its opposite
+abbrev pub IsSighted : Table → PartSet → V3 → Sight → Type 0
+IsSighted t w d (Free p) = IsLeastFree t w d p
+IsSighted t w d (Held holding) = AreHeld t w d × AreHeldIn t holding w (negative d)
 
 -- what is seen along a direction and, where all parts are held, along its opposite
 abbrev pub IsSeen : Table → PartSet → V3 → Tried ℕ → Type 0

@@ -6,8 +6,8 @@ ghost use Rattle.staat_model.specs.declared.set.PartSet.{PartSet as PartSetValue
 ghost use Rattle.staat_model.specs.Sets.{Has, IsSubset};
 ghost use Rattle.staat_pairs.specs.Searches.{arc_of};
 ghost use Rattle.staat_pairs.specs.Tables.{IsTableArc, Table as TableValue, pieces_of};
-ghost use Rattle.staat_linear.specs.Holding.{AreHeld, AreOutward, HoldsPart};
-ghost use Rattle.staat_linear.specs.Holding.{IsArcAhead, IsHeld, IsLeastFree, IsOutward};
+ghost use Rattle.staat_linear.specs.Holding.{AreHeldBut, AreOutward, HoldsPart};
+ghost use Rattle.staat_linear.specs.Holding.{IsArcAhead, IsHeld, IsSighted};
 
 use staat_model::{Arc, MOST_PARTS, PartSet};
 use staat_planes::PlaneTable;
@@ -85,6 +85,15 @@ fn holder_of(table: &PlaneTable, w: PartSet, p: u32, d: V3) -> Option<Arc>
     None
 }
 
+/// What is seen of the parts of a set along a direction.
+#[derive(Drop)]
+pub enum Sight {
+    /// Nothing holds this part, which is the least such.
+    Free(u32),
+    /// Each part is held, and these hold others.
+    Held(PartSet),
+}
+
 /// How many pairs of pieces are kept for each part.
 pub const KEPT: u32 = 6;
 
@@ -139,109 +148,102 @@ impl Holders {
         }
     }
 
-    // whether the pieces at the place k hold the part p along d
-    fn holds_at(&self, table: &PlaneTable, w: PartSet, p: u32, k: u32, d: V3) -> bool
+    // the pieces at the place k, if they hold the part p along d
+    fn holder_at(&self, table: &PlaneTable, w: PartSet, p: u32, k: u32, d: V3) -> Option<Arc>
         requires outward { AreOutward table.now w self.now.arcs }
         requires member { Has w p }
         requires small { p < MOST_PARTS }
         requires place { k < KEPT }
         requires direction { IsWithin DIRECTION d }
-        ensures { IsTrue result → IsHeld table.now w d p }
+        ensures { IfSome result (HoldsPart table.now w d p) }
     {
-        if let Some(arc) = self.at(p, k) {
-            table.leads_ahead(arc, d)
-        } else {
-            false
+        match self.at(p, k) {
+            None => None,
+            Some(arc) => {
+                if table.leads_ahead(arc, d) {
+                    Some(arc)
+                } else {
+                    None
+                }
+            }
         }
     }
 
-    // the first place at which pieces are kept that hold the part p along d
-    fn place_of(&self, table: &PlaneTable, w: PartSet, p: u32, d: V3) -> Option<u32>
-        requires outward { AreOutward table.now w self.now.arcs }
+    // The first pieces that are kept that hold the part p along d. They come forward, so that what holds often is
+    // tried early.
+    fn kept_holder(&mut self, table: &PlaneTable, w: PartSet, p: u32, d: V3) -> Option<Arc>
+        requires outward { AreOutward table.now w self.old.arcs }
         requires member { Has w p }
         requires small { p < MOST_PARTS }
         requires direction { IsWithin DIRECTION d }
-        ensures place { IfSome result (λ k. k < KEPT) }
-        ensures held { IfSome result (λ _. IsHeld table.now w d p) }
+        ensures outward { AreOutward table.now w self.new.arcs }
+        ensures held { IfSome result (HoldsPart table.now w d p) }
     {
         for k in 0..KEPT {
-            if self.holds_at(table, w, p, k, d) {
-                return Some(k);
+            if let Some(arc) = self.holder_at(table, w, p, k, d) {
+                self.bring_forward(p, k);
+                return Some(arc);
             }
         }
         None
     }
 
-    // Whether something holds the part p along d, where nothing that is kept does. What does is kept at the last place.
-    fn finds_holder(&mut self, table: &PlaneTable, w: PartSet, p: u32, d: V3) -> bool
+    // two pieces that hold the part p along d, if it is held, which are kept from then on
+    fn new_holder(&mut self, table: &PlaneTable, w: PartSet, p: u32, d: V3) -> Option<Arc>
         requires outward { AreOutward table.now w self.old.arcs }
         requires within { IsSubset w table.now.of }
         requires member { Has w p }
         requires small { p < MOST_PARTS }
         requires direction { IsWithin DIRECTION d }
         ensures outward { AreOutward table.now w self.new.arcs }
-        ensures held { IsTrue result → IsHeld table.now w d p }
-        ensures free { result ≡ false → IsHeld table.now w d p → ⊥ }
+        ensures held { MatchOption result (IsHeld table.now w d p → ⊥) (HoldsPart table.now w d p) }
     {
-        match holder_of(table, w, p, d) {
-            None => false,
-            Some(arc) => {
-                self.put(p, KEPT - 1, Some(arc));
-                true
-            }
+        let found = holder_of(table, w, p, d);
+        if let Some(arc) = found {
+            self.put(p, KEPT - 1, Some(arc));
         }
+        found
     }
 
-    // Whether something holds the part p along d. What is kept is tried first, and what holds comes forward, so that
-    // what holds often is tried early.
-    fn is_held(&mut self, table: &PlaneTable, w: PartSet, p: u32, d: V3) -> bool
+    // two pieces that hold the part p along d, if it is held: those that are kept are tried first
+    fn holder(&mut self, table: &PlaneTable, w: PartSet, p: u32, d: V3) -> Option<Arc>
         requires outward { AreOutward table.now w self.old.arcs }
         requires within { IsSubset w table.now.of }
         requires member { Has w p }
         requires small { p < MOST_PARTS }
         requires direction { IsWithin DIRECTION d }
         ensures outward { AreOutward table.now w self.new.arcs }
-        ensures held { IsTrue result → IsHeld table.now w d p }
-        ensures free { result ≡ false → IsHeld table.now w d p → ⊥ }
+        ensures held { MatchOption result (IsHeld table.now w d p → ⊥) (HoldsPart table.now w d p) }
     {
-        match self.place_of(table, w, p, d) {
-            None => self.finds_holder(table, w, p, d),
-            Some(k) => {
-                self.bring_forward(p, k);
-                true
-            }
+        match self.kept_holder(table, w, p, d) {
+            None => self.new_holder(table, w, p, d),
+            Some(arc) => Some(arc),
         }
     }
 
-    // whether p is no part of w, or is held
-    fn stays(&mut self, table: &PlaneTable, w: PartSet, p: u32, d: V3) -> bool
+    /// What is seen along `d`, where the parts of `w` that are not in `among` are known to be held. The pieces are of
+    /// this table and of parts of `w`.
+    pub fn sight(&mut self, table: &PlaneTable, w: PartSet, among: PartSet, d: V3) -> Sight
         requires outward { AreOutward table.now w self.old.arcs }
         requires within { IsSubset w table.now.of }
-        requires small { p < MOST_PARTS }
+        requires among { IsSubset among w }
+        requires others { AreHeldBut table.now w d among }
         requires direction { IsWithin DIRECTION d }
         ensures outward { AreOutward table.now w self.new.arcs }
-        ensures held { IsTrue result → Has w p → IsHeld table.now w d p }
-        ensures member { result ≡ false → Has w p }
-        ensures free { result ≡ false → IsHeld table.now w d p → ⊥ }
-    {
-        !w.has(p) || self.is_held(table, w, p, d)
-    }
-
-    /// The least part of `w` that nothing holds along `d`. The pieces are of this table and of parts of `w`.
-    pub fn least_free(&mut self, table: &PlaneTable, w: PartSet, d: V3) -> Option<u32>
-        requires outward { AreOutward table.now w self.old.arcs }
-        requires within { IsSubset w table.now.of }
-        requires direction { IsWithin DIRECTION d }
-        ensures outward { AreOutward table.now w self.new.arcs }
-        ensures free { MatchOption result (AreHeld table.now w d) (IsLeastFree table.now w d) }
+        ensures sight { IsSighted table.now w d result }
     {
         // all members are below the number of bits
         let _bits = w.bits();
-        for p in 0..MOST_PARTS {
-            if !self.stays(table, w, p, d) {
-                return Some(p);
-            }
+        let mut left = among;
+        let mut holding = PartSet::empty();
+        while left.count() > 0 {
+            let p = left.least();
+            let Some(arc) = self.holder(table, w, p, d) else {
+                return Sight::Free(p);
+            };
+            holding = holding.union(PartSet::single(arc.b));
+            left = left.without(PartSet::single(p));
         }
-        None
+        Sight::Held(holding)
     }
 }
