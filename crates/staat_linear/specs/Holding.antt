@@ -1,5 +1,5 @@
 -- What holds a part along a direction, in a table of facets: two pieces that would meet.
-use Rattle.std.specs.Prelude.{◌≡◌, ℕ, ◌<◌, ◌≤◌, List, All, Some, length, pos, ◌<ℤ◌, slice_get}
+use Rattle.std.specs.Prelude.{◌≡◌, ℕ, ◌+◌, ◌*◌, ◌<◌, ◌≤◌, List, All, Option, Some, length, pos, ◌<ℤ◌, slice_get}
 use Rattle.staat_vec.specs.declared.vector.V3.{V3}
 use Rattle.staat_vec.specs.Vectors.{dot, negative}
 use Rattle.staat_model.specs.declared.assembly.Part.{Part}
@@ -10,6 +10,9 @@ use Rattle.staat_model.specs.Sets.{Has}
 use Rattle.staat_pairs.specs.Tables.{IsTableArc, Table, facets_of}
 use Rattle.staat_planes.specs.declared.search.Tried.{Tried}
 use Rattle.staat_planes.specs.declared.search.Tried.TheVariants.{Neither, Ahead, Opposite}
+use Rattle.staat_linear.specs.declared.holders.TheConstants.{KEPT}
+use Rattle.staat_linear.specs.declared.holders.Sight.{Sight}
+use Rattle.staat_linear.specs.declared.holders.Sight.TheVariants.{Free, Held}
 use Rattle.staat_linear.specs.Orders.{LeavesAlong}
 
 -- d leads ahead of all facets of the two pieces, so that the first meets the second
@@ -33,10 +36,11 @@ pub record HoldsPart (t : Table) (w : PartSet) (d : V3) (p : ℕ) (arc : Arc) : 
 abbrev pub IsHeld : Table → PartSet → V3 → ℕ → Type 0
 IsHeld t w d p = (arc : Arc) × HoldsPart t w d p arc
 
--- for each part of w an arc from it to another part of w
-pub record AreOutward (t : Table) (w : PartSet) (arcs : List Arc) : Type 0 where
-  pub room : length arcs ≡ MOST_PARTS
-  pub each : (p : ℕ) (arc : Arc) → Has w p → slice_get arcs p ≡ Some arc → IsOutward t w p arc
+-- what is kept for each part of w are arcs from it to other parts of w
+pub record AreOutward (t : Table) (w : PartSet) (arcs : List (Option Arc)) : Type 0 where
+  pub room : length arcs ≡ KEPT * MOST_PARTS
+  pub each : (p k : ℕ) (arc : Arc) → Has w p → k < KEPT → slice_get arcs (KEPT * p + k) ≡ Some (Some arc)
+      → IsOutward t w p arc
 
 -- the least part of w that nothing holds
 pub record IsLeastFree (t : Table) (w : PartSet) (d : V3) (p : ℕ) : Type 0 where
@@ -44,9 +48,22 @@ pub record IsLeastFree (t : Table) (w : PartSet) (d : V3) (p : ℕ) : Type 0 whe
   pub free : IsHeld t w d p → ⊥
   pub before : (q : ℕ) → Has w q → q < p → IsHeld t w d q
 
+-- each part of s is held along d by another part of w
+abbrev pub AreHeldIn : Table → PartSet → PartSet → V3 → Type 0
+AreHeldIn t s w d = (p : ℕ) → Has s p → IsHeld t w d p
+
+-- each part of w that is not in s is held along d
+abbrev pub AreHeldBut : Table → PartSet → V3 → PartSet → Type 0
+AreHeldBut t w d s = (p : ℕ) → Has w p → (Has s p → ⊥) → IsHeld t w d p
+
 -- each part of w is held along d
 abbrev pub AreHeld : Table → PartSet → V3 → Type 0
 AreHeld t w d = (p : ℕ) → Has w p → IsHeld t w d p
+
+-- what is seen along a direction; the parts that hold others are held along its opposite
+abbrev pub IsSighted : Table → PartSet → V3 → Sight → Type 0
+IsSighted t w d (Free p) = IsLeastFree t w d p
+IsSighted t w d (Held holding) = AreHeld t w d × AreHeldIn t holding w (negative d)
 
 -- what is seen along a direction and, where all parts are held, along its opposite
 abbrev pub IsSeen : Table → PartSet → V3 → Tried ℕ → Type 0

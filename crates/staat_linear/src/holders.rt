@@ -1,13 +1,13 @@
 // What holds the parts of a set along a direction.
-ghost use Rattle.std.specs.Prelude.{◌≡◌, ◌≢◌, ◌<◌, ◌≤◌, ◌↔◌, ℕ, IsTrue, MatchOption};
+ghost use Rattle.std.specs.Prelude.{◌≡◌, ◌≢◌, ◌<◌, ◌+◌, ◌*◌, ◌↔◌, ℕ, IfSome, IsTrue, MatchOption};
 ghost use Rattle.std.specs.Prelude.{Some, false, length, slice_get, slice_set};
-ghost use Rattle.std.specs.FinSet as set;
 ghost use Rattle.staat_vec.specs.Vectors.{IsWithin};
+ghost use Rattle.staat_model.specs.declared.set.PartSet.{PartSet as PartSetValue};
 ghost use Rattle.staat_model.specs.Sets.{Has, IsSubset};
 ghost use Rattle.staat_pairs.specs.Searches.{arc_of};
-ghost use Rattle.staat_pairs.specs.Tables.{IsTableArc, pieces_of};
-ghost use Rattle.staat_linear.specs.Holding.{AreHeld, AreOutward, HoldsPart};
-ghost use Rattle.staat_linear.specs.Holding.{IsArcAhead, IsHeld, IsLeastFree, IsOutward};
+ghost use Rattle.staat_pairs.specs.Tables.{IsTableArc, Table as TableValue, pieces_of};
+ghost use Rattle.staat_linear.specs.Holding.{AreHeldBut, AreOutward, HoldsPart};
+ghost use Rattle.staat_linear.specs.Holding.{IsArcAhead, IsHeld, IsSighted};
 
 use staat_model::{Arc, MOST_PARTS, PartSet};
 use staat_planes::PlaneTable;
@@ -85,125 +85,165 @@ fn holder_of(table: &PlaneTable, w: PartSet, p: u32, d: V3) -> Option<Arc>
     None
 }
 
-// the first pieces of p and of the least other part of w
-fn first_pieces(table: &PlaneTable, w: PartSet, p: u32) -> Arc
-    requires within { IsSubset w table.now.of }
-    requires two { 2 ≤ set.len w }
-    requires member { Has w p }
-    requires small { p < MOST_PARTS }
-    ensures { IsOutward table.now w p result }
-{
-    let others = w.without(PartSet::single(p));
-    let b = others.least();
-    // each part has a piece
-    let _pieces = (table.pieces(p), table.pieces(b));
-    Arc {
-        a: p,
-        i: 0,
-        b,
-        j: 0,
-    }
+/// What is seen of the parts of a set along a direction.
+#[derive(Drop)]
+pub enum Sight {
+    /// Nothing holds this part, which is the least such.
+    Free(u32),
+    /// Each part is held, and these hold others.
+    Held(PartSet),
 }
 
-/// For each part of a set a piece of it and a piece of another part of the set: those that held the part when it was
-/// last looked at. It takes no memory.
+/// How many pairs of pieces are kept for each part.
+pub const KEPT: u32 = 6;
+
+/// For each part of a set pairs of a piece of it and a piece of another part of the set: those that held the part when
+/// it was looked at before. It takes no memory.
 #[derive(Drop)]
 pub struct Holders {
-    arcs: [Arc; 32],
+    // KEPT places for each part
+    arcs: [Option<Arc>; 192],
 }
 
 impl Holders {
-    /// The first pieces of each part of `w`, which lies in the table's set and has at least two parts.
-    pub fn new(table: &PlaneTable, w: PartSet) -> Holders
-        requires within { IsSubset w table.now.of }
-        requires two { 2 ≤ set.len w }
-        ensures { AreOutward table.now w result.arcs }
+    /// No pieces yet.
+    pub fn new() -> Holders
+        ensures { (t : TableValue) (w : PartSetValue) → AreOutward t w result.arcs }
     {
-        let none = Arc {
-            a: 0,
-            i: 0,
-            b: 0,
-            j: 0,
-        };
-        let mut holders = Holders { arcs: [none; 32] };
-        for p in 0..MOST_PARTS {
-            if w.has(p) {
-                let arc = first_pieces(table, w, p);
-                holders.put(p, arc);
+        Holders { arcs: [None; 192] }
+    }
+
+    // the pieces at the place k of the part p
+    fn at(&self, p: u32, k: u32) -> Option<Arc>
+        requires room { length self.now.arcs ≡ KEPT * MOST_PARTS }
+        requires part { p < MOST_PARTS }
+        requires place { k < KEPT }
+        ensures { slice_get self.now.arcs (KEPT * p + k) ≡ Some result }
+    {
+        self.arcs[(KEPT * p + k) as usize]
+    }
+
+    // takes other pieces at the place k of the part p
+    fn put(&mut self, p: u32, k: u32, arc: Option<Arc>)
+        requires room { length self.old.arcs ≡ KEPT * MOST_PARTS }
+        requires part { p < MOST_PARTS }
+        requires place { k < KEPT }
+        ensures { self.new.arcs ≡ slice_set self.old.arcs (KEPT * p + k) arc }
+    {
+        self.arcs[(KEPT * p + k) as usize] = arc;
+    }
+
+    // brings the pieces at the place k of the part p one place forward
+    fn bring_forward(&mut self, p: u32, k: u32)
+        requires room { length self.old.arcs ≡ KEPT * MOST_PARTS }
+        requires part { p < MOST_PARTS }
+        requires place { k < KEPT }
+        ensures { (t : TableValue) (w : PartSetValue) → AreOutward t w self.old.arcs → AreOutward t w self.new.arcs }
+    {
+        if k > 0 {
+            let before = self.at(p, k - 1);
+            let arc = self.at(p, k);
+            self.put(p, k - 1, arc);
+            self.put(p, k, before);
+        }
+    }
+
+    // the pieces at the place k, if they hold the part p along d
+    fn holder_at(&self, table: &PlaneTable, w: PartSet, p: u32, k: u32, d: V3) -> Option<Arc>
+        requires outward { AreOutward table.now w self.now.arcs }
+        requires member { Has w p }
+        requires small { p < MOST_PARTS }
+        requires place { k < KEPT }
+        requires direction { IsWithin DIRECTION d }
+        ensures { IfSome result (HoldsPart table.now w d p) }
+    {
+        match self.at(p, k) {
+            None => None,
+            Some(arc) => {
+                if table.leads_ahead(arc, d) {
+                    Some(arc)
+                } else {
+                    None
+                }
             }
         }
-        holders
     }
 
-    // the pieces of the part p
-    fn at(&self, p: u32) -> Arc
-        requires { p < length self.now.arcs }
-        ensures { slice_get self.now.arcs p ≡ Some result }
+    // The first pieces that are kept that hold the part p along d. They come forward, so that what holds often is
+    // tried early.
+    fn kept_holder(&mut self, table: &PlaneTable, w: PartSet, p: u32, d: V3) -> Option<Arc>
+        requires outward { AreOutward table.now w self.old.arcs }
+        requires member { Has w p }
+        requires small { p < MOST_PARTS }
+        requires direction { IsWithin DIRECTION d }
+        ensures outward { AreOutward table.now w self.new.arcs }
+        ensures held { IfSome result (HoldsPart table.now w d p) }
     {
-        self.arcs[p as usize]
+        for k in 0..KEPT {
+            if let Some(arc) = self.holder_at(table, w, p, k, d) {
+                self.bring_forward(p, k);
+                return Some(arc);
+            }
+        }
+        None
     }
 
-    // takes other pieces for the part p
-    fn put(&mut self, p: u32, arc: Arc)
-        requires { p < length self.old.arcs }
-        ensures { self.new.arcs ≡ slice_set self.old.arcs p arc }
-    {
-        self.arcs[p as usize] = arc;
-    }
-
-    // Whether something holds the part p along d. What held it last is tried first.
-    fn is_held(&mut self, table: &PlaneTable, w: PartSet, p: u32, d: V3) -> bool
+    // two pieces that hold the part p along d, if it is held, which are kept from then on
+    fn new_holder(&mut self, table: &PlaneTable, w: PartSet, p: u32, d: V3) -> Option<Arc>
         requires outward { AreOutward table.now w self.old.arcs }
         requires within { IsSubset w table.now.of }
         requires member { Has w p }
         requires small { p < MOST_PARTS }
         requires direction { IsWithin DIRECTION d }
         ensures outward { AreOutward table.now w self.new.arcs }
-        ensures held { IsTrue result → IsHeld table.now w d p }
-        ensures free { result ≡ false → IsHeld table.now w d p → ⊥ }
+        ensures held { MatchOption result (IsHeld table.now w d p → ⊥) (HoldsPart table.now w d p) }
     {
-        let last = self.at(p);
-        if table.leads_ahead(last, d) {
-            return true;
+        let found = holder_of(table, w, p, d);
+        if let Some(arc) = found {
+            self.put(p, KEPT - 1, Some(arc));
         }
-        match holder_of(table, w, p, d) {
-            None => false,
-            Some(arc) => {
-                self.put(p, arc);
-                true
-            }
-        }
+        found
     }
 
-    // whether p is no part of w, or is held
-    fn stays(&mut self, table: &PlaneTable, w: PartSet, p: u32, d: V3) -> bool
+    // two pieces that hold the part p along d, if it is held: those that are kept are tried first
+    fn holder(&mut self, table: &PlaneTable, w: PartSet, p: u32, d: V3) -> Option<Arc>
         requires outward { AreOutward table.now w self.old.arcs }
         requires within { IsSubset w table.now.of }
+        requires member { Has w p }
         requires small { p < MOST_PARTS }
         requires direction { IsWithin DIRECTION d }
         ensures outward { AreOutward table.now w self.new.arcs }
-        ensures held { IsTrue result → Has w p → IsHeld table.now w d p }
-        ensures member { result ≡ false → Has w p }
-        ensures free { result ≡ false → IsHeld table.now w d p → ⊥ }
+        ensures held { MatchOption result (IsHeld table.now w d p → ⊥) (HoldsPart table.now w d p) }
     {
-        !w.has(p) || self.is_held(table, w, p, d)
+        match self.kept_holder(table, w, p, d) {
+            None => self.new_holder(table, w, p, d),
+            Some(arc) => Some(arc),
+        }
     }
 
-    /// The least part of `w` that nothing holds along `d`. The pieces are of this table and of parts of `w`.
-    pub fn least_free(&mut self, table: &PlaneTable, w: PartSet, d: V3) -> Option<u32>
+    /// What is seen along `d`, where the parts of `w` that are not in `among` are known to be held. The pieces are of
+    /// this table and of parts of `w`.
+    pub fn sight(&mut self, table: &PlaneTable, w: PartSet, among: PartSet, d: V3) -> Sight
         requires outward { AreOutward table.now w self.old.arcs }
         requires within { IsSubset w table.now.of }
+        requires among { IsSubset among w }
+        requires others { AreHeldBut table.now w d among }
         requires direction { IsWithin DIRECTION d }
         ensures outward { AreOutward table.now w self.new.arcs }
-        ensures free { MatchOption result (AreHeld table.now w d) (IsLeastFree table.now w d) }
+        ensures sight { IsSighted table.now w d result }
     {
         // all members are below the number of bits
         let _bits = w.bits();
-        for p in 0..MOST_PARTS {
-            if !self.stays(table, w, p, d) {
-                return Some(p);
-            }
+        let mut left = among;
+        let mut holding = PartSet::empty();
+        while left.count() > 0 {
+            let p = left.least();
+            let Some(arc) = self.holder(table, w, p, d) else {
+                return Sight::Free(p);
+            };
+            holding = holding.union(PartSet::single(arc.b));
+            left = left.without(PartSet::single(p));
         }
-        None
+        Sight::Held(holding)
     }
 }

@@ -8,14 +8,14 @@ ghost use Rattle.staat_pairs.specs.Tables.{WasMadeFrom};
 ghost use Rattle.staat_linear.specs.Holding.{AreHeld, AreOutward, IsLeastFree, IsSeen};
 ghost use Rattle.staat_linear.specs.Orders.{HasNoLeave, IsLeave, IsLocked};
 
-use crate::holders::Holders;
+use crate::holders::{Holders, Sight};
 use crate::order::Leave;
 use staat_model::PartSet;
 use staat_planes::{PlaneTable, Trial, Tried, first_vertex};
 use staat_vec::{DIRECTION, V3, neg};
 
-// The search for a part that leaves. For each part it keeps what held it last along a direction, and what held it last
-// along an opposite direction, since from one vertex to the next these seldom change.
+// The search for a part that leaves. For each part it keeps what held it along directions before, and what held it
+// along their opposites, since a part is mostly held by one of few.
 #[derive(Drop)]
 struct Taking {
     ahead: Holders,
@@ -33,12 +33,14 @@ impl Taking {
         ensures back { AreOutward table.now w self.new.back.arcs }
         ensures seen { IsSeen table.now w d result }
     {
-        match self.ahead.least_free(table, w, d) {
-            Some(p) => Tried::Ahead(p),
-            None => match self.back.least_free(table, w, neg(d)) {
-                Some(p) => Tried::Opposite(p),
-                None => Tried::Neither,
-            },
+        let holding = match self.ahead.sight(table, w, w, d) {
+            Sight::Free(p) => return Tried::Ahead(p),
+            Sight::Held(holding) => holding,
+        };
+        // what holds another part along d is held by it along the opposite
+        match self.back.sight(table, w, w.without(holding), neg(d)) {
+            Sight::Free(p) => Tried::Opposite(p),
+            Sight::Held(_) => Tried::Neither,
         }
     }
 }
@@ -82,8 +84,8 @@ pub fn linear_step(table: &PlaneTable, w: PartSet) -> Option<Leave>
         → (result ≡ None) ↔ IsLocked parts w }
 {
     let mut taking = Taking {
-        ahead: Holders::new(table, w),
-        back: Holders::new(table, w),
+        ahead: Holders::new(),
+        back: Holders::new(),
     };
     match first_vertex(table, w, &mut taking) {
         None => None,
