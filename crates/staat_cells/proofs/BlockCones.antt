@@ -65,7 +65,7 @@ pub parts_block : (old new : Block) (cone : List Side) (a b j : ℕ) → IsBlock
     → AddsArc a b j old.arcs.items new.arcs.items → AddsToBlock cone a b old new
 parts_block old new cone a b j rules cones_are tests_are at parts adds = record {
   block = record {
-    few = subst (λ l. length l ≤ 64) (sym cones_are) rules.few;
+    few = subst (λ l. length l ≤ 128) (sym cones_are) rules.few;
     tests = λ signs k. subst (λ l. PassesAll signs l k ↔ ((o : List Side)
         → slice_get new.cones.items k ≡ Some o
         → AreInside signs o)) (sym tests_are)
@@ -111,12 +111,12 @@ parts_block old new cone a b j rules cones_are tests_are at parts adds = record 
 -- ---- a cone more
 
 pub cone_block : (old new : Block) (cone : List Side) (a b j : ℕ) → IsBlock old → j ≡ length old.cones.items
-    → length old.cones.items < 64 → new.cones.items ≡ old.cones.items ++ cone ∷ []
+    → length old.cones.items < 128 → new.cones.items ≡ old.cones.items ++ cone ∷ []
     → AddsSides (λ signs. AreInside signs cone) j old.tests.items new.tests.items → All HasParts new.arcs.items
     → AddsArc a b j old.arcs.items new.arcs.items → AddsToBlock cone a b old new
 cone_block old new cone a b j rules last room cones_are sides parts adds = record {
   block = record {
-    few = subst (λ l. length l ≤ 64) (sym cones_are) (let e = length_push old.cones.items cone in omega (
+    few = subst (λ l. length l ≤ 128) (sym cones_are) (let e = length_push old.cones.items cone in omega (
       arith,
       e,
       room,

@@ -39,7 +39,7 @@ use Rattle.std.proofs.Common.{
   Any,
 }
 use Rattle.std.specs.Prelude.{bit_and, bit_or, bit_xor, Some, slice_get, slice_index, slice_set}
-use Rattle.std.specs.Int.{bit_at, w64}
+use Rattle.std.specs.Int.{bit_at, w128}
 use Rattle.std.proofs.lemmas.List.{length_push, take_all}
 use Rattle.std.proofs.lemmas.Nat.Bits.{
   bit_at-lt,
@@ -67,23 +67,23 @@ same_or a b = grind arith
 
 -- ---- a bit more
 
-pub set_bit : (x j k : ℕ) → j < 64
-    → (bit_at (bit_or x (1 * 2 ^ j % 2 ^ 64)) k ≡ 1) ↔ ((bit_at x k ≡ 1) ⊎ (k ≡ j))
-set_bit x j k lt = ⊎_elim {C = (bit_at (bit_or x (1 * 2 ^ j % 2 ^ 64)) k ≡ 1) ↔ ((bit_at x k ≡ 1)
+pub set_bit : (x j k : ℕ) → j < 128
+    → (bit_at (bit_or x (1 * 2 ^ j % 2 ^ 128)) k ≡ 1) ↔ ((bit_at x k ≡ 1) ⊎ (k ≡ j))
+set_bit x j k lt = ⊎_elim {C = (bit_at (bit_or x (1 * 2 ^ j % 2 ^ 128)) k ≡ 1) ↔ ((bit_at x k ≡ 1)
     ⊎ (k ≡ j))}
-    (λ e. (λ h. inr e, λ h. ap (bit_at (bit_or x (1 * 2 ^ j % 2 ^ 64))) e ∙ bit_at_set_same w64 x j lt))
-    (λ ne. let kept = bit_at_set_other w64 x j lt k ne in
+    (λ e. (λ h. inr e, λ h. ap (bit_at (bit_or x (1 * 2 ^ j % 2 ^ 128))) e ∙ bit_at_set_same w128 x j lt))
+    (λ ne. let kept = bit_at_set_other w128 x j lt k ne in
     (λ h. inl (sym kept ∙ h), ⊎_elim (λ o. kept ∙ o) (λ e. absurd (ne e))))
     (same_or k j)
 
 -- a bit that is set to no purpose of Q
-clear_bit : (x j k : ℕ) (Q : Type 0) → j < 64 → (Q → ⊥)
-    → (bit_at (bit_or x (1 * 2 ^ j % 2 ^ 64)) k ≡ 0) ↔ ((bit_at x k ≡ 0) × (k ≡ j → Q))
-clear_bit x j k Q lt never = ⊎_elim {C = (bit_at (bit_or x (1 * 2 ^ j % 2 ^ 64)) k ≡ 0) ↔ ((bit_at x k ≡ 0)
+clear_bit : (x j k : ℕ) (Q : Type 0) → j < 128 → (Q → ⊥)
+    → (bit_at (bit_or x (1 * 2 ^ j % 2 ^ 128)) k ≡ 0) ↔ ((bit_at x k ≡ 0) × (k ≡ j → Q))
+clear_bit x j k Q lt never = ⊎_elim {C = (bit_at (bit_or x (1 * 2 ^ j % 2 ^ 128)) k ≡ 0) ↔ ((bit_at x k ≡ 0)
     × (k ≡ j → Q))}
-    (λ e. let one = ap (bit_at (bit_or x (1 * 2 ^ j % 2 ^ 64))) e ∙ bit_at_set_same w64 x j lt in
-    (λ h. absurd (apart (bit_at (bit_or x (1 * 2 ^ j % 2 ^ 64)) k) h one), λ h. absurd (never (h.1 e))))
-    (λ ne. let kept = bit_at_set_other w64 x j lt k ne in
+    (λ e. let one = ap (bit_at (bit_or x (1 * 2 ^ j % 2 ^ 128))) e ∙ bit_at_set_same w128 x j lt in
+    (λ h. absurd (apart (bit_at (bit_or x (1 * 2 ^ j % 2 ^ 128)) k) h one), λ h. absurd (never (h.1 e))))
+    (λ ne. let kept = bit_at_set_other w128 x j lt k ne in
     (λ h. (sym kept ∙ h, λ e. absurd (ne e)), λ h. kept ∙ h.0))
     (same_or k j)
   where
@@ -93,9 +93,9 @@ clear_bit x j k Q lt never = ⊎_elim {C = (bit_at (bit_or x (1 * 2 ^ j % 2 ^ 64
 same_bit : (x j k : ℕ) (s : Sign) → (bit_at x k ≡ 0) ↔ ((bit_at x k ≡ 0) × (k ≡ j → s ≡ s))
 same_bit x j k s = (λ h. (h, λ e. refl), λ h. h.0)
 
-module _ (o : List ℕ) (j : ℕ) (lt : j < 64) where
+module _ (o : List ℕ) (j : ℕ) (lt : j < 128) where
   abbrev Bit : ℕ
-  Bit = 1 * 2 ^ j % 2 ^ 64
+  Bit = 1 * 2 ^ j % 2 ^ 128
 
   -- the words are those with the cone j on the side s
   abbrev IsGrown : List ℕ → Sign → Type 0

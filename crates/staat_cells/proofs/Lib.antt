@@ -31,6 +31,7 @@ pub mod BlockCones
 pub mod FacetPlanes
 pub mod PartArcs
 pub mod GraphRows
+pub mod MachineWords
 pub mod Narrowing
 pub mod LowEdges
 pub mod LeastCell

@@ -53,7 +53,7 @@ pub record HasParts (arc : ArcCones) : Type 0 where
 
 -- the tests rule out what is not in a cone
 pub record IsBlock (block : Block) : Type 0 where
-  pub few : length block.cones.items ≤ 64
+  pub few : length block.cones.items ≤ 128
   pub tests : (signs : List Sign) (j : ℕ) → PassesAll signs block.tests.items j
       ↔ ((cone : List Side) → slice_get block.cones.items j ≡ Some cone → AreInside signs cone)
   pub within : (a b j : ℕ) → HasCone block.arcs.items a b j → j < length block.cones.items

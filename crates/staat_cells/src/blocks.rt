@@ -32,14 +32,14 @@ use staat_vec::{Listed, OutOfMemory, Sign};
 use std::alloc::Global;
 
 /// How many cones a block has at most.
-const BLOCK: usize = 64;
+const BLOCK: usize = 128;
 
 /// What a plane rules out of the cones of a block: those that no direction below the plane is in, none on it, and none
 /// above it, as bits.
 #[derive(Clone, Copy)]
 pub struct PlaneTest {
     pub(crate) plane: usize,
-    pub(crate) outside: [u64; 3],
+    pub(crate) outside: [u128; 3],
 }
 
 /// Two parts `a` and `b`, and which cones of a block are those of a piece of `a` and a piece of `b`, as bits.
@@ -47,10 +47,10 @@ pub struct PlaneTest {
 pub struct ArcCones {
     pub(crate) a: u32,
     pub(crate) b: u32,
-    pub(crate) cones: u64,
+    pub(crate) cones: u128,
 }
 
-/// At most 64 different cones, what the planes rule out of them, and the parts that they belong to.
+/// At most 128 different cones, what the planes rule out of them, and the parts that they belong to.
 #[derive(Drop)]
 pub struct Block {
     pub(crate) cones: Vec<HalfSpaces>,
@@ -72,10 +72,10 @@ fn sign_at(signs: &[Sign], k: usize) -> Sign
 }
 
 // the cones that are ruled out at directions with these signs
-fn ruled_out(tests: &[PlaneTest], signs: &[Sign]) -> u64
+fn ruled_out(tests: &[PlaneTest], signs: &[Sign]) -> u128
     ensures { (j : ℕ) → (bit_at result j ≡ 0) ↔ PassesAll signs.now tests.now j }
 {
-    let mut found: u64 = 0;
+    let mut found: u128 = 0;
     for test in tests {
         found |= test.outside[place(sign_at(signs, test.plane)) as usize];
     }
@@ -84,12 +84,12 @@ fn ruled_out(tests: &[PlaneTest], signs: &[Sign]) -> u64
 
 // the test with the cone j, which is on the side s of its plane
 fn with_cone(test: PlaneTest, s: Sign, j: usize) -> PlaneTest
-    requires { j < 64 }
+    requires { j < 128 }
     ensures plane { result.plane ≡ test.plane }
     ensures passed { (t : SignValue) (k : ℕ) → IsPassedAt result t k ↔ (IsPassedAt test t k × (k ≡ j
         → t ≡ s)) }
 {
-    let bit: u64 = 1 << j;
+    let bit: u128 = 1 << j;
     let below = test.outside[0];
     let on = test.outside[1];
     let above = test.outside[2];
@@ -119,7 +119,7 @@ fn place_of_plane(tests: &[PlaneTest], plane: usize) -> usize
 
 // adds a side of the cone j
 fn add_side(tests: &mut Vec<PlaneTest>, side: Side, j: usize) -> Result<(), OutOfMemory>
-    requires { j < 64 }
+    requires { j < 128 }
     ensures { OnOk result ((signs : List SignValue) (k : ℕ) → PassesAll signs tests.new.items k
         ↔ (PassesAll signs tests.old.items k × (k ≡ j → IsOnSide signs side))) }
 {
@@ -138,7 +138,7 @@ fn add_side(tests: &mut Vec<PlaneTest>, side: Side, j: usize) -> Result<(), OutO
 
 // adds the sides of the cone j
 fn add_sides(tests: &mut Vec<PlaneTest>, cone: &[Side], j: usize) -> Result<(), OutOfMemory>
-    requires { j < 64 }
+    requires { j < 128 }
     ensures { OnOk result ((signs : List SignValue) (k : ℕ) → PassesAll signs tests.new.items k
         ↔ (PassesAll signs tests.old.items k × (k ≡ j → AreInside signs cone.now))) }
 {
@@ -162,7 +162,7 @@ fn is_last(arcs: &[ArcCones], a: u32, b: u32) -> bool
 
 // the parts with the cone j
 fn with_bit(arc: ArcCones, j: usize) -> ArcCones
-    requires { j < 64 }
+    requires { j < 128 }
     ensures a { result.a ≡ arc.a }
     ensures b { result.b ≡ arc.b }
     ensures cones { (k : ℕ) → (bit_at result.cones k ≡ 1) ↔ ((bit_at arc.cones k ≡ 1) ⊎ (k ≡ j)) }
@@ -176,7 +176,7 @@ fn with_bit(arc: ArcCones, j: usize) -> ArcCones
 
 // adds the cone j to those of the parts a and b
 fn add_arc(arcs: &mut Vec<ArcCones>, a: u32, b: u32, j: usize) -> Result<(), OutOfMemory>
-    requires cone { j < 64 }
+    requires cone { j < 128 }
     requires a { a < MOST_PARTS }
     requires b { b < MOST_PARTS }
     requires parts { All HasParts arcs.old.items }
@@ -203,7 +203,7 @@ fn add_new(
     b: u32,
 ) -> Result<(), OutOfMemory>
     requires rules { IsBlock block.old }
-    requires room { length block.old.cones.items < 64 }
+    requires room { length block.old.cones.items < 128 }
     requires a { a < MOST_PARTS }
     requires b { b < MOST_PARTS }
     ensures { OnOk result (AddsToBlock cone.now a b block.old block.new) }
@@ -258,7 +258,7 @@ fn find(blocks: &[Block], cone: &[Side]) -> Option<(usize, usize)>
 fn has_room(blocks: &[Block]) -> bool
     ensures some { IsTrue result → 0 < length blocks.now }
     ensures last { IsTrue result → (d : BlockValue)
-        → length (slice_index_or blocks.now (length blocks.now - 1) d).cones.items < 64 }
+        → length (slice_index_or blocks.now (length blocks.now - 1) d).cones.items < 128 }
 {
     let count = blocks.len();
     count > 0 && blocks[count - 1].cones.len() < BLOCK
@@ -305,14 +305,14 @@ fn with_arc(row: u32, b: u32) -> u32
 }
 
 // the bits of the first word that are not in the second
-fn word_without(x: u64, y: u64) -> u64
+fn word_without(x: u128, y: u128) -> u128
     ensures { (result ≢ 0) ↔ ((j : ℕ) × (bit_at x j ≡ 1) × (bit_at y j ≡ 0)) }
 {
     x & y ^ x
 }
 
 // the row after two parts were looked at, where these cones are ruled out
-fn row_after(row: u32, outside: u64, arc: &ArcCones) -> u32
+fn row_after(row: u32, outside: u128, arc: &ArcCones) -> u32
     requires { arc.now.b < MOST_PARTS }
     ensures { (q : ℕ) → (bit_at result q ≡ 1) ↔ ((bit_at row q ≡ 1) ⊎ ((q ≡ arc.now.b)
         × IsLeft arc.now outside)) }

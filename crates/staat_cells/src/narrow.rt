@@ -1,6 +1,6 @@
 // Signs of planes at directions. Where the components of a direction fit words of 64 bits, each product is one of
 // words.
-ghost use Rattle.std.specs.Prelude.{◌≡◌, ◌≤◌, ◌*◌, ◌*ℤ◌, IsTrue, unsigned_abs};
+ghost use Rattle.std.specs.Prelude.{◌≡◌, ◌≤◌, ◌+◌, ◌*◌, ◌+ℤ◌, ◌*ℤ◌, All, IsTrue, unsigned_abs};
 ghost use Rattle.staat_vec.specs.Vectors.{IsWithin, dot, sign};
 
 use staat_vec::{DIRECTION, NORMAL, Sign, V3, sign_dot};
@@ -86,4 +86,105 @@ pub(crate) fn sign_there(n: V3, d: V3) -> Sign
     } else {
         sign_dot(n, d)
     }
+}
+
+// ---- small planes and directions, whose products are words
+
+/// How great a component of a small normal is at most.
+pub(crate) const SMALL_NORMAL: u128 = 1 << 20;
+
+/// How great a component of a small direction is at most: so the product with a small normal fits a word.
+pub(crate) const SMALL: u128 = 1 << 41;
+
+fn is_small_normal(n: V3) -> bool
+    ensures { IsTrue result → IsWithin SMALL_NORMAL n }
+{
+    n.x.unsigned_abs() <= SMALL_NORMAL
+        && n.y.unsigned_abs() <= SMALL_NORMAL
+        && n.z.unsigned_abs() <= SMALL_NORMAL
+}
+
+/// Whether all these normals are small.
+pub(crate) fn are_small(planes: &[V3]) -> bool
+    ensures { IsTrue result → All (IsWithin SMALL_NORMAL) planes.now }
+{
+    planes.iter().all(|n| is_small_normal(*n))
+}
+
+/// Whether a direction is small.
+pub(crate) fn is_small(d: V3) -> bool
+    ensures { IsTrue result → IsWithin SMALL d }
+{
+    d.x.unsigned_abs() <= SMALL && d.y.unsigned_abs() <= SMALL && d.z.unsigned_abs() <= SMALL
+}
+
+// a component as a word
+fn word_of(a: i128) -> i64
+    requires { unsigned_abs a ≤ SMALL }
+    ensures { result ≡ a }
+{
+    a as i64
+}
+
+// the exact product of words
+fn word_product(a: i64, b: i64) -> i64
+    requires a { unsigned_abs a ≤ SMALL_NORMAL }
+    requires b { unsigned_abs b ≤ SMALL }
+    ensures value { result ≡ a *ℤ b }
+    ensures size { unsigned_abs result ≤ SMALL_NORMAL * SMALL }
+{
+    a * b
+}
+
+// the exact product of a small normal's and a small direction's component
+fn small_product(a: i128, b: i128) -> i64
+    requires a { unsigned_abs a ≤ SMALL_NORMAL }
+    requires b { unsigned_abs b ≤ SMALL }
+    ensures value { result ≡ a *ℤ b }
+    ensures size { unsigned_abs result ≤ SMALL_NORMAL * SMALL }
+{
+    word_product(word_of(a), word_of(b))
+}
+
+// the exact sum
+fn small_sum(a: i64, b: i64) -> i64
+    requires a { unsigned_abs a ≤ 2 * SMALL_NORMAL * SMALL }
+    requires b { unsigned_abs b ≤ SMALL_NORMAL * SMALL }
+    ensures value { result ≡ a +ℤ b }
+    ensures size { unsigned_abs result ≤ unsigned_abs a + unsigned_abs b }
+{
+    a + b
+}
+
+// the exact product of a small normal and a small direction
+fn small_dot(n: V3, d: V3) -> i64
+    requires n { IsWithin SMALL_NORMAL n }
+    requires d { IsWithin SMALL d }
+    ensures { result ≡ dot n d }
+{
+    let x = small_product(n.x, d.x);
+    let y = small_product(n.y, d.y);
+    let z = small_product(n.z, d.z);
+    small_sum(small_sum(x, y), z)
+}
+
+fn sign_of_word(value: i64) -> Sign
+    ensures { result ≡ sign value }
+{
+    if value < 0 {
+        Sign::Neg
+    } else if value == 0 {
+        Sign::Zero
+    } else {
+        Sign::Pos
+    }
+}
+
+/// The sign of a small plane at a small direction.
+pub(crate) fn small_sign(n: V3, d: V3) -> Sign
+    requires n { IsWithin SMALL_NORMAL n }
+    requires d { IsWithin SMALL d }
+    ensures { result ≡ sign (dot n d) }
+{
+    sign_of_word(small_dot(n, d))
 }

@@ -12,7 +12,6 @@ use crate::cell::Cell;
 use crate::change::incidence_filled;
 use crate::incidence::{Incidence, incidence_of};
 use staat_vec::{OutOfMemory, Sign};
-use std::alloc::Global;
 
 // adds both incidences of an edge
 fn push_both(edge: &Cell, k: usize, incidences: &mut Vec<Incidence>) -> Result<(), OutOfMemory>
@@ -27,13 +26,16 @@ fn push_both(edge: &Cell, k: usize, incidences: &mut Vec<Incidence>) -> Result<(
     Ok(())
 }
 
-/// Both incidences of each edge.
-pub(crate) fn open_incidences(alloc: Global, edges: &[Cell]) -> Result<Vec<Incidence>, OutOfMemory>
+/// Both incidences of each edge, in place of what was listed: there is room for them where the ends of the edges were.
+pub(crate) fn open_incidences(
+    mut incidences: Vec<Incidence>,
+    edges: &[Cell],
+) -> Result<Vec<Incidence>, OutOfMemory>
     requires few { All (λ c. length c.signs ≤ 256) edges.now }
-    ensures { IfOk result (λ incidences. (x : IncidenceValue) → Contains incidences.items x
+    ensures { IfOk result (λ found. (x : IncidenceValue) → Contains found.items x
         ↔ IsFilledIncidence (map entry_of edges.now) x) }
 {
-    let mut incidences = Vec::with_capacity(alloc, edges.len().saturating_mul(2))?;
+    incidences.clear();
     for k in 0..edges.len() {
         push_both(&edges[k], k, &mut incidences)?;
     }

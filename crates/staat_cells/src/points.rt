@@ -1,6 +1,6 @@
 // The points, ascending by their signs.
 ghost use Rattle.std.specs.Prelude.{◌≡◌, ◌<◌, ◌↔◌, ◌++◌, [], ◌∷◌};
-ghost use Rattle.std.specs.Prelude.{All, Contains, IfOk, List, length, map};
+ghost use Rattle.std.specs.Prelude.{All, Contains, IfOk, IsTrue, List, length, map};
 ghost use Rattle.staat_vec.specs.Vectors.{IsWithin};
 ghost use Rattle.staat_cells.specs.declared.incidence.Incidence.{Incidence as IncidenceValue};
 ghost use Rattle.staat_cells.specs.Compositions.{entry_of};
@@ -8,18 +8,20 @@ ghost use Rattle.staat_cells.specs.Stages.{IsOwnIncidence, cell_at, point_entry}
 
 use crate::cell::{Cell, Signs};
 use crate::incidence::{Incidence, incidence_of};
-use crate::signs::signs_at;
+use crate::narrow::{SMALL_NORMAL, are_small};
+use crate::signs::signs_where;
 use staat_model::Kind;
 use staat_vec::{NORMAL, OutOfMemory, V3, VERTEX};
 use std::alloc::Global;
 
 // the point at a vertex
-fn point_at(alloc: Global, planes: &[V3], v: V3) -> Result<Cell, OutOfMemory>
+fn point_at(alloc: Global, planes: &[V3], small: bool, v: V3) -> Result<Cell, OutOfMemory>
     requires planes { All (IsWithin NORMAL) planes.now }
+    requires small { IsTrue small → All (IsWithin SMALL_NORMAL) planes.now }
     requires v { IsWithin VERTEX v }
     ensures { IfOk result (λ cell. entry_of cell ≡ point_entry planes.now v) }
 {
-    let signs = signs_at(alloc, planes, v)?;
+    let signs = signs_where(alloc, planes, small, v)?;
     Ok(Cell {
         kind: Kind::Point,
         d: v,
@@ -37,9 +39,10 @@ pub(crate) fn points_at(
     requires vertices { All (IsWithin VERTEX) vertices.now }
     ensures { IfOk result (λ cells. map entry_of cells.items ≡ map (point_entry planes.now) vertices.now) }
 {
+    let small = are_small(planes);
     let mut cells = Vec::with_capacity(alloc, vertices.len())?;
     for v in vertices {
-        cells.push(point_at(alloc, planes, *v)?)?;
+        cells.push(point_at(alloc, planes, small, *v)?)?;
     }
     Ok(cells)
 }

@@ -44,23 +44,28 @@ fn points_of(alloc: Global, planes: &[V3], corners: &[V3]) -> Result<Vec<Cell>, 
     cells_of(alloc, &raw, &incidences)
 }
 
-// the edges, ascending by signs
-fn edges_of(alloc: Global, planes: &[V3], points: &[Cell]) -> Result<Vec<Cell>, OutOfMemory>
+// the edges, ascending by signs, and the memory of their incidences, which is to be used once more
+fn edges_of(
+    alloc: Global,
+    planes: &[V3],
+    points: &[Cell],
+) -> Result<(Vec<Cell>, Vec<Incidence>), OutOfMemory>
     requires planes { AreTablePlanes planes.now }
     requires few { length planes.now ≤ MOST_CELL_PLANES }
     requires points { AreCellsOf planes.now Point (map entry_of points.now) }
-    ensures { IfOk result (λ cells. AreCellsOf planes.now Edge (map entry_of cells.items)) }
+    ensures { IfOk result (λ found. AreCellsOf planes.now Edge (map entry_of found.0.items)) }
 {
     let incidences = in_order(edge_incidences(alloc, planes, points)?);
-    composed_cells(alloc, Kind::Edge, points, &incidences)
+    let edges = composed_cells(alloc, Kind::Edge, points, &incidences)?;
+    Ok((edges, incidences))
 }
 
 // the incidences of edges with open cells, in the order of these
-fn incidences_of(alloc: Global, edges: &[Cell]) -> Result<Vec<Incidence>, OutOfMemory>
+fn incidences_of(room: Vec<Incidence>, edges: &[Cell]) -> Result<Vec<Incidence>, OutOfMemory>
     requires few { All (λ c. length c.signs ≤ 256) edges.now }
     ensures { IfOk result (λ found. Lists incidence_cmp (IsFilledIncidence (map entry_of edges.now)) found.items) }
 {
-    let found = open_incidences(alloc, edges)?;
+    let found = open_incidences(room, edges)?;
     Ok(in_order(found))
 }
 
@@ -73,8 +78,8 @@ impl Skeleton {
     {
         let corners = vertices_of(alloc, planes)?;
         let points = points_of(alloc, planes, &corners)?;
-        let edges = edges_of(alloc, planes, &points)?;
-        let incidences = incidences_of(alloc, &edges)?;
+        let (edges, room) = edges_of(alloc, planes, &points)?;
+        let incidences = incidences_of(room, &edges)?;
         Ok(Skeleton {
             points,
             edges,

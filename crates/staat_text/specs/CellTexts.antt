@@ -37,6 +37,10 @@ abbrev pub cell_line : ℕ → CellEntry → List ℕ → List ℕ
 cell_line n c rows =
     kind_word c.kind ++ numbers_before (vector_numbers c.d) (short_arcs (arcs_of rows n) ++ codes "\n")
 
+-- the same, where the arcs have this text
+abbrev pub line_with : CellEntry → List ℕ → List ℕ
+line_with c arcs = kind_word c.kind ++ numbers_before (vector_numbers c.d) (arcs ++ codes "\n")
+
 -- a line for each cell, with the rows of its graph
 abbrev pub cell_lines : ℕ → List CellEntry → List (List ℕ) → List ℕ
 cell_lines n [] graphs = []

@@ -9,7 +9,7 @@ ghost use Rattle.staat_model.specs.Sets.{below};
 ghost use Rattle.staat_pairs.specs.Tables.{Table, WasMadeFrom};
 ghost use Rattle.staat_cells.specs.CellGraphs.{HasArcsOf};
 ghost use Rattle.staat_cells.specs.Compositions.{entry_of};
-ghost use Rattle.staat_text.specs.CellTexts.{IsCellsAnswer, cell_line, count_line, totals_line};
+ghost use Rattle.staat_text.specs.CellTexts.{IsCellsAnswer, count_line, line_with, totals_line};
 ghost use Rattle.staat_text.specs.CellTexts.{kind_count, kind_word, same_kind, short_arc, short_arcs};
 ghost use Rattle.staat_text.specs.GraphTexts.{arcs_from, arcs_of};
 ghost use Rattle.staat_text.specs.Holding.{HoldsCells};
@@ -128,15 +128,29 @@ fn push_arcs_or_dash(line: &mut Vec<u8>, g: &Graph, parts: u32) -> Result<(), Al
     Ok(())
 }
 
-// Writes the line of a cell in place of what was there.
-fn write_cell(line: &mut Vec<u8>, cell: &Cell, g: &Graph, parts: u32) -> Result<(), AllocError>
-    requires { parts ≤ MOST_PARTS }
-    ensures { IfOk result (λ _. line.new.items ≡ cell_line parts (entry_of cell.now) g.now.rows) }
+// Makes the text of the arcs that of g, where it was that of the last graph: mostly these have the same arcs.
+fn renew_arcs(arcs: &mut Vec<u8>, last: &mut Graph, g: &Graph, parts: u32) -> Result<(), AllocError>
+    requires parts { parts ≤ MOST_PARTS }
+    requires before { arcs.old.items ≡ short_arcs (arcs_of last.old.rows parts) }
+    ensures last { IfOk result (λ _. last.new.rows ≡ g.now.rows) }
+    ensures arcs { IfOk result (λ _. arcs.new.items ≡ short_arcs (arcs_of g.now.rows parts)) }
+{
+    if last.rows != g.rows {
+        arcs.clear();
+        push_arcs_or_dash(arcs, g, parts)?;
+        last.rows = g.rows;
+    }
+    Ok(())
+}
+
+// Writes the line of a cell with these arcs in place of what was there.
+fn write_cell(line: &mut Vec<u8>, cell: &Cell, arcs: &[u8]) -> Result<(), AllocError>
+    ensures { IfOk result (λ _. line.new.items ≡ line_with (entry_of cell.now) arcs.now) }
 {
     line.clear();
     line.extend_from_slice(kind_word(cell.kind))?;
     push_vector(line, cell.d)?;
-    push_arcs_or_dash(line, g, parts)?;
+    line.extend_from_slice(arcs)?;
     line.push(b'\n')?;
     Ok(())
 }
@@ -201,13 +215,13 @@ fn hold_cells(
         → HoldsCells t parts (map entry_of cells.now) held.old held.new) }
 {
     let mut line = Vec::new(alloc);
+    let mut arcs = Vec::new(alloc);
+    let mut last = Graph { rows: [0; 32] };
+    push_arcs_or_dash(&mut arcs, &last, parts)?;
     for cell in cells {
-        write_cell(
-            &mut line,
-            cell,
-            &graphs.graph_of(cell.signs.as_slice()),
-            parts,
-        )?;
+        let g = graphs.graph_of(cell.signs.as_slice());
+        renew_arcs(&mut arcs, &mut last, &g, parts)?;
+        write_cell(&mut line, cell, &arcs)?;
         hold(held, line.as_slice())?;
     }
     Ok(())

@@ -5,8 +5,7 @@ use Rattle.staat_cells.proofs.Numbered.{filled_more, holds_all, holds_none, list
 use Rattle.staat_cells.proofs.open_incidences.open_incidences.Goals as goal
 
 pub loop-k-init : goal.loop-k-init
-loop-k-init c = holds_none (IsFilledIncidence (map entry_of c.args.edges.now)) c.in_ok-incidences.incidences.items
-    c.in_ok-incidences.ensures.items
+loop-k-init c = holds_none (IsFilledIncidence (map entry_of c.args.edges.now)) c.clear.new.self.items c.clear.ensures.items
 
 pub loop-k-preserved : goal.loop-k-preserved
 loop-k-preserved c = filled_more c.args.edges.now c.loop-k.k c.index-edges-k.result c.loop-k.incidences.items

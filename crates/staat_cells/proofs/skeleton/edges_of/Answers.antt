@@ -1,5 +1,4 @@
 use Rattle.std.proofs.Common.{◌≡◌, map, length}
-use Rattle.std.proofs.lemmas.Result.{IfOk-weaker}
 use Rattle.staat_model.specs.declared.tree.Kind.TheVariants.{Edge, Point}
 use Rattle.staat_model.specs.Cells.{AreCellsOf}
 use Rattle.staat_cells.specs.Compositions.{entry_of, composed_up_to}
@@ -22,8 +21,5 @@ composed_cells-requires-clause-signs c = equal_lengths c.args.planes.now c.requi
 
 pub returns : goal.returns
 returns c =
-    IfOk-weaker c.composed_cells.result (λ cells. map entry_of cells.items ≡ composed_up_to Edge (map entry_of c.args.points.now) c.deref.result.now (length c.deref.result.now)) (λ cells. AreCellsOf c.args.planes.now Edge (map entry_of cells.items))
-    (λ cells made.
     edges_listed c.args.planes.now c.requires.planes c.requires.few c.args.points.now c.requires.points c.in_ok-edge_incidences.field-0.items c.in_order-incidences.result.items c.deref.result.now c.deref.ensures.value c.in_ok-edge_incidences.ensures c.in_order-incidences.ensures
-    cells.items made)
-    c.composed_cells.ensures
+    c.in_ok-edges.edges.items c.in_ok-edges.ensures
