@@ -24,6 +24,9 @@ use staat_planes::PlaneTable;
 use staat_vec::{Bytes, V3};
 use std::alloc::{AllocError, Global};
 
+/// How many bytes a line is mostly at most: the text then grows in the room that it has.
+const LINE: usize = 128;
+
 // The word for a kind of cell.
 fn kind_word(kind: Kind) -> &'static [u8]
     ensures { result.now ≡ kind_word kind }
@@ -247,10 +250,8 @@ pub fn cells_text(
     ensures { (all : List PartValue) → WasMadeFrom all table.now → IsCellsAnswer all parts result }
 {
     let graphs = CellGraphs::of(alloc, table)?;
-    let mut held = HeldText {
-        bytes: Vec::new(alloc),
-        length: 0,
-    };
+    let bytes = Vec::with_capacity(alloc, cells.as_slice().len().saturating_mul(LINE))?;
+    let mut held = HeldText { bytes, length: 0 };
     let first = totals_line(alloc, table.len(), cells.as_slice())?;
     hold(&mut held, first.as_bytes())?;
     hold_cells(alloc, &graphs, cells.as_slice(), parts, &mut held)?;

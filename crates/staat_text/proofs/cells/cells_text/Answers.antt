@@ -11,10 +11,10 @@ pub returns-then-held-gt-TEXT_LIMIT : goal.returns-then-held-gt-TEXT_LIMIT
 returns-then-held-gt-TEXT_LIMIT c all made =
     let cells = c.args.cells.now in
     let (text, is, holds) = whole_text all c.args.table.now c.args.parts c.len.result (map entry_of cells) c.as_bytes.result.now
-    (record { bytes = c.new.result; length = 0 }) c.hold.new.held c.hold_cells.new.held made c.requires.set c.requires.cells c.len.ensures.is
-    (c.as_bytes.ensures.value ∙ c.in_ok-first.ensures ∙ ap (λ (l : List Cell). totals_line c.len.result (map entry_of l)) c.as_slice.ensures)
-    refl c.new.ensures.items c.in_ok-hold.ensures.more
-    (subst (λ (l : List Cell). HoldsCells c.args.table.now c.args.parts (map entry_of l) c.hold.new.held c.hold_cells.new.held) c.as_slice-2.ensures
+    (record { bytes = c.in_ok-bytes.bytes; length = 0 }) c.hold.new.held c.hold_cells.new.held made c.requires.set c.requires.cells c.len.ensures.is
+    (c.as_bytes.ensures.value ∙ c.in_ok-first.ensures ∙ ap (λ (l : List Cell). totals_line c.len.result (map entry_of l)) c.as_slice-2.ensures)
+    refl c.in_ok-bytes.ensures.items c.in_ok-hold.ensures.more
+    (subst (λ (l : List Cell). HoldsCells c.args.table.now c.args.parts (map entry_of l) c.hold.new.held c.hold_cells.new.held) c.as_slice-3.ensures
     (c.in_ok-hold_cells.ensures c.args.table.now c.in_ok-graphs.ensures)) in
     (text, is, holds.long, c.if-held-gt-TEXT_LIMIT.true)
 
@@ -22,10 +22,10 @@ pub returns : goal.returns
 returns c all made =
     let cells = c.args.cells.now in
     let (text, is, holds) = whole_text all c.args.table.now c.args.parts c.len.result (map entry_of cells) c.as_bytes.result.now
-    (record { bytes = c.new.result; length = 0 }) c.hold.new.held c.hold_cells.new.held made c.requires.set c.requires.cells c.len.ensures.is
-    (c.as_bytes.ensures.value ∙ c.in_ok-first.ensures ∙ ap (λ (l : List Cell). totals_line c.len.result (map entry_of l)) c.as_slice.ensures)
-    refl c.new.ensures.items c.in_ok-hold.ensures.more
-    (subst (λ (l : List Cell). HoldsCells c.args.table.now c.args.parts (map entry_of l) c.hold.new.held c.hold_cells.new.held) c.as_slice-2.ensures
+    (record { bytes = c.in_ok-bytes.bytes; length = 0 }) c.hold.new.held c.hold_cells.new.held made c.requires.set c.requires.cells c.len.ensures.is
+    (c.as_bytes.ensures.value ∙ c.in_ok-first.ensures ∙ ap (λ (l : List Cell). totals_line c.len.result (map entry_of l)) c.as_slice-2.ensures)
+    refl c.in_ok-bytes.ensures.items c.in_ok-hold.ensures.more
+    (subst (λ (l : List Cell). HoldsCells c.args.table.now c.args.parts (map entry_of l) c.hold.new.held c.hold_cells.new.held) c.as_slice-3.ensures
     (c.in_ok-hold_cells.ensures c.args.table.now c.in_ok-graphs.ensures)) in
     let fits : length text ≤ TEXT_LIMIT = let long = holds.long in let few = c.if-held-gt-TEXT_LIMIT.false in omega (arith, long, few) in
     let same : c.from_vec.result ≡ text = c.from_vec.ensures ∙ holds.bytes fits in
