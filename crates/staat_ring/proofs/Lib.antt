@@ -67,3 +67,4 @@ pub mod CrossSteps
 pub mod Strength
 pub mod BlockSteps
 pub mod Searching
+pub mod Turned

@@ -3,7 +3,7 @@ ghost use Rattle.std.specs.Prelude.{◌≡◌, ◌≢◌, ℕ, ◌+◌, ◌<◌,
 ghost use Rattle.std.specs.Prelude.{Contains, IfOk, OnOk, length};
 ghost use Rattle.std.specs.Prelude.{map, replicate, slice_set};
 ghost use Rattle.staat_vec.specs.declared.vector.V3.{V3 as Vector};
-ghost use Rattle.staat_vec.specs.Vectors.{IsWithin, cross, origin};
+ghost use Rattle.staat_vec.specs.Vectors.{IsWithin, cross, det, origin, sign};
 ghost use Rattle.staat_model.specs.Circles.{axis_beside};
 ghost use Rattle.staat_ring.specs.declared.entry.Entry.{Entry as EntryValue};
 ghost use Rattle.staat_ring.specs.Builds.{AreFilledTo, IsHalfOfCircle, IsPlaceOf, all_around, opposite, ring_by};
@@ -13,7 +13,7 @@ ghost use Rattle.staat_ring.specs.Rings.{IsRingOf, facet_by, plane_at};
 use crate::entry::Entry;
 use crate::half::{axis_of, facet, half_circle, is_opposite};
 use staat_planes::PlaneTable;
-use staat_vec::{NORMAL, OutOfMemory, Sign, V3, order_on};
+use staat_vec::{DIRECTION, NORMAL, OutOfMemory, Sign, V3, cross_normal, sign_dot};
 use std::alloc::Global;
 use std::marker::Model;
 
@@ -71,6 +71,15 @@ fn push_at(slots: &mut Vec<Through>, k: usize, e: Entry) -> Result<(), OutOfMemo
     slots[k].push(e)
 }
 
+// The sign of det(g, a, h), where `across` is the cross product of h with g: one product with `a` decides it.
+fn order_across(across: V3, a: V3) -> Sign
+    requires across { IsWithin DIRECTION across }
+    requires a { IsWithin NORMAL a }
+    ensures { (g h : Vector) → across ≡ cross h g → result ≡ sign (det g a h) }
+{
+    sign_dot(a, across)
+}
+
 // where the crossing with h lies on the half circle; there is such a place
 fn place_of(g: V3, half: &[V3], h: V3) -> usize
     requires g { IsWithin NORMAL g }
@@ -79,11 +88,12 @@ fn place_of(g: V3, half: &[V3], h: V3) -> usize
     requires some { (i : ℕ) × IsPlaceOf g half.now h i }
     ensures { IsPlaceOf g half.now h result }
 {
+    let across = cross_normal(h, g);
     let mut low = 0;
     let mut high = half.len();
     'search: while low < high {
         let middle = low + (high - low) / 2;
-        match order_on(g, half[middle], h) {
+        match order_across(across, half[middle]) {
             Sign::Pos => low = middle + 1,
             Sign::Neg => high = middle,
             Sign::Zero => return middle,

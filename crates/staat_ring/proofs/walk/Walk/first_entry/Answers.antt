@@ -1,4 +1,4 @@
-use Rattle.std.proofs.Common.{◌≡◌, sym, subst, ap, ◌∙◌}
+use Rattle.std.proofs.Common.{sym, subst, ap, ◌∙◌}
 use Rattle.staat_ring.specs.Places.{HasNode, IsStopAt}
 use Rattle.staat_ring.specs.Rings.{unlinked_of}
 use Rattle.staat_ring.specs.Walked.{Walked}

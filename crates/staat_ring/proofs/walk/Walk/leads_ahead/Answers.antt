@@ -1,6 +1,6 @@
-use Rattle.std.proofs.Common.{◌≡◌, ◌<◌, ◌≤◌, ◌↔◌, ◌∙◌, length, subst, sym, arith}
+use Rattle.std.proofs.Common.{◌≤◌, ◌↔◌, subst, sym}
 use Rattle.std.specs.Prelude.{IsTrue}
-use Rattle.staat_pairs.specs.Tables.{facets_of, slot}
+use Rattle.staat_pairs.specs.Tables.{slot}
 use Rattle.staat_ring.specs.Pairs.{pair_at}
 use Rattle.staat_ring.specs.Signs.{positives}
 use Rattle.staat_ring.specs.Walked.{Walked}
