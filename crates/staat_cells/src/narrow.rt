@@ -91,10 +91,10 @@ pub(crate) fn sign_there(n: V3, d: V3) -> Sign
 // ---- small planes and directions, whose products are words
 
 /// How great a component of a small normal is at most.
-pub(crate) const SMALL_NORMAL: u128 = 1 << 20;
+pub(crate) const SMALL_NORMAL: u128 = 1 << 22;
 
 /// How great a component of a small direction is at most: so the product with a small normal fits a word.
-pub(crate) const SMALL: u128 = 1 << 41;
+pub(crate) const SMALL: u128 = 1 << 39;
 
 fn is_small_normal(n: V3) -> bool
     ensures { IsTrue result → IsWithin SMALL_NORMAL n }
