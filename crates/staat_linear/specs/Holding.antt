@@ -1,5 +1,6 @@
 -- What holds a part along a direction, in a table of facets: two pieces that would meet.
-use Rattle.std.specs.Prelude.{◌≡◌, ℕ, ◌+◌, ◌*◌, ◌<◌, ◌≤◌, List, All, Option, Some, length, pos, ◌<ℤ◌, slice_get}
+use Rattle.std.specs.Prelude.{◌≡◌, ℕ, ◌+◌, ◌*◌, ◌<◌, ◌≤◌, List, All, Option, Some, length, pos, ◌<ℤ◌}
+use Rattle.std.specs.Prelude.{slice_get}
 use Rattle.staat_vec.specs.declared.vector.V3.{V3}
 use Rattle.staat_vec.specs.Vectors.{dot, negative}
 use Rattle.staat_model.specs.declared.assembly.Part.{Part}

@@ -22,7 +22,7 @@ use Rattle.staat_model.proofs.GraphLemmas.{from_slice_get}
 use Rattle.staat_model.proofs.PlaneLemmas.{NoneParallel}
 use Rattle.staat_pairs.specs.Tables.{AreTablePlanes, Table}
 use Rattle.staat_plan.specs.Listings.{IsWitnessNumber}
-use Rattle.staat_plan.specs.Visits.{AreAllFound, AreFound, AreFoundBelow, AreFoundOn, AreStillFound, IsFound, IsNumberHere, StandsAmong}
+use Rattle.staat_plan.specs.Visits.{AreAllFound, AreFound, AreFoundBelow, AreFoundOn, AreStillFound, IsDirectionFound, IsNumberHere, StandsAmong}
 use Rattle.staat_plan.proofs.LineLemmas.{kept}
 use Rattle.staat_ring.specs.declared.entry.Entry.{Entry}
 use Rattle.staat_ring.specs.Belonging.{HasAll}
@@ -93,7 +93,7 @@ module _ (parts : List Part) (w : PartSet) (ds : List V3) (keys : List (List ℕ
         (set_cases numbers k j (Some p) (Some q) (subst (λ ns. slice_get ns j ≡ Some (Some q)) is at_q));
   }
 
-  pub found_here : IsFound ds more v
+  pub found_here : IsDirectionFound ds more v
   found_here = record {
     number = λ j at_j.
         let same : j ≡ k = sorted_once vector_cmp vector_total vector_exact ds sorted j k v at_j at in
@@ -120,12 +120,12 @@ module _ (planes : List V3) (rings : List Ring) (table : AreTablePlanes planes) 
 
   module _ (ds : List V3) (numbers : List (Option ℕ)) (n : ℕ) (before : AreFoundBelow planes rings ds numbers n) where
     -- the crossing of two planes is the vertex of a stop on the circle of the first
-    pub found_crossing : (k j : ℕ) (turned : Bool) → k < n → k < length planes → j < length planes → j ≢ k → IsFound ds numbers (crossing planes k (record { plane = j; turned = turned }))
+    pub found_crossing : (k j : ℕ) (turned : Bool) → k < n → k < length planes → j < length planes → j ≢ k → IsDirectionFound ds numbers (crossing planes k (record { plane = j; turned = turned }))
     found_crossing k j turned below lt small ne =
         let e : Entry = record { plane = j; turned = turned } in
         let (r, listed, is) = from_map (λ (r : Ring). r.plane) rings k (linked k lt) in
         let there = entry_there planes (linked_of rings) r (none_parallel planes (linked_of rings) table) (All-contains (IsRingOf planes (linked_of rings)) rings r are.each listed) e (plane_at planes j) (record { listed = linked j small; is = slice_get-get_or planes j origin small }) (λ q. ne (q ∙ is)) in
-        subst (IsFound ds numbers) (subst (λ c. vertex_of planes c there.stop.entries ≡ crossing planes c e) is there.vertex)
+        subst (IsDirectionFound ds numbers) (subst (λ c. vertex_of planes c there.stop.entries ≡ crossing planes c e) is there.vertex)
         (before k there.place there.stop below (record { ring = r; listed = listed; plane = is; is = there.is }))
 
     crossing_back : (b c : ℕ) (turned : Bool) → crossing planes b (record { plane = c; turned = not turned }) ≡ crossing planes c (record { plane = b; turned = turned })
@@ -142,9 +142,9 @@ module _ (planes : List V3) (rings : List Ring) (table : AreTablePlanes planes) 
         go true = back
 
     -- a vertex through which a plane before that of the circle passes
-    pub found_earlier : (c m : ℕ) (s : RingStop) (e : Entry) → n ≡ c → c < length planes → slice_get s.entries 0 ≡ Some e → e.plane < c → IsFound ds numbers (vertex_of planes c s.entries)
+    pub found_earlier : (c m : ℕ) (s : RingStop) (e : Entry) → n ≡ c → c < length planes → slice_get s.entries 0 ≡ Some e → e.plane < c → IsDirectionFound ds numbers (vertex_of planes c s.entries)
     found_earlier c m s e same small at lt =
-        subst (IsFound ds numbers) (crossing_back e.plane c e.turned ∙ vertex_first planes c s.entries e at)
+        subst (IsDirectionFound ds numbers) (crossing_back e.plane c e.turned ∙ vertex_first planes c s.entries e at)
         (found_crossing e.plane c (not e.turned) (omega (arith, same, lt)) (omega (arith, small, lt)) small (λ q. omega (arith, q, lt)))
 
     -- all directions
@@ -159,20 +159,20 @@ module _ (planes : List V3) (rings : List Ring) (table : AreTablePlanes planes) 
         let h_is = get_or_from_slice_get planes j f.h origin at_h in
         let ne : j ≢ i = λ q. f.independent (ap (λ z. cross z f.h) (sym g_is ∙ (ap (plane_at planes) (sym q) ∙ h_is)) ∙ cross_self f.h) in
         let u : primitive (cross (plane_at planes i) (plane_at planes j)) ≡ primitive (cross f.g f.h) = λ t. primitive (cross (g_is t) (h_is t)) in
-        ⊎_elim {C = IsFound ds numbers d}
-        (λ e. subst (IsFound ds numbers) (u ∙ sym e) (found_crossing i j false (omega (arith, lt, most)) lt small ne))
-        (λ e. subst (IsFound ds numbers) (ap negative u ∙ sym e) (found_crossing i j true (omega (arith, lt, most)) lt small ne))
+        ⊎_elim {C = IsDirectionFound ds numbers d}
+        (λ e. subst (IsDirectionFound ds numbers) (u ∙ sym e) (found_crossing i j false (omega (arith, lt, most)) lt small ne))
+        (λ e. subst (IsDirectionFound ds numbers) (ap negative u ∙ sym e) (found_crossing i j true (omega (arith, lt, most)) lt small ne))
         f.is
 
   -- one more stop of the circle c
   module _ (ds : List V3) (old new : List (Option ℕ)) (c n : ℕ) (kept_found : AreStillFound ds old new) where
-    pub on_more : (w : Walked) → IsEntered planes rings w → w.circle ≡ c → w.place ≡ n → IsFound ds new w.vertex → AreFoundOn planes rings ds old c n → AreFoundOn planes rings ds new c (n + 1)
+    pub on_more : (w : Walked) → IsEntered planes rings w → w.circle ≡ c → w.place ≡ n → IsDirectionFound ds new w.vertex → AreFoundOn planes rings ds old c n → AreFoundOn planes rings ds new c (n + 1)
     on_more w entered circle place here on m s lt at = ⊎_elim
         (λ less. kept_found (vertex_of planes c s.entries) (on m s less at))
         (λ e.
         let there : IsStopAt rings c m entered.stop = subst (λ k. IsStopAt rings k m entered.stop) circle (subst (λ k. IsStopAt rings w.circle k entered.stop) (place ∙ sym e) entered.at) in
         let same = one_stop rings c m s entered.stop are.ascending at there in
-        subst (IsFound ds new) (entered.vertex ∙ ((λ i. vertex_of planes (circle i) entered.stop.entries) ∙ ap (λ (x : RingStop). vertex_of planes c x.entries) (sym same))) here)
+        subst (IsDirectionFound ds new) (entered.vertex ∙ ((λ i. vertex_of planes (circle i) entered.stop.entries) ∙ ap (λ (x : RingStop). vertex_of planes c x.entries) (sym same))) here)
         (last_or m n lt)
 
     pub below_still : AreFoundBelow planes rings ds old c → AreFoundBelow planes rings ds new c
@@ -186,5 +186,5 @@ module _ (planes : List V3) (rings : List Ring) (table : AreTablePlanes planes) 
       let there : IsStopAt rings c m s = subst (λ k. IsStopAt rings k m s) e at in
       let l = slice_get_within there.ring.stops m s there.is in
       let z = size there.ring there.listed there.plane in
-      subst (λ k. IsFound ds numbers (vertex_of planes k s.entries)) (sym e) (on m s (omega (arith, l, z, le)) there))
+      subst (λ k. IsDirectionFound ds numbers (vertex_of planes k s.entries)) (sym e) (on m s (omega (arith, l, z, le)) there))
       (last_or b c lt)

@@ -26,7 +26,7 @@ pub record StandsAmong (t : Table) (w : Walked) : Type 0 where
   pub from : WasMadeFrom parts t
 
 -- the trees are those of the graph, if any graph was looked at
-pub record AreKept (w : PartSet) (kept : GraphTrees) : Type 0 where
+pub record KeepsTrees (w : PartSet) (kept : GraphTrees) : Type 0 where
   pub trees : kept.known ≡ true → AreTrees (HasArc kept.graph.rows) w kept.trees
 
 -- the number of a witness, where there is one, names that of the direction
@@ -38,7 +38,7 @@ pub record AreFound (parts : List Part) (w : PartSet) (directions : List V3) (wi
 
 -- what the walk has found so far, with the trees that it keeps and the keys of the witnesses
 pub record HasFound (parts : List Part) (w : PartSet) (directions : List V3) (found : Found) : Type 0 where
-  pub kept : AreKept w found.kept
+  pub kept : KeepsTrees w found.kept
   pub keys_are : map (λ v. v.items) found.keys.keys ≡ map key_of found.witnesses.items
   pub named : AreFound parts w directions found.witnesses.items found.numbers.items
 
@@ -51,24 +51,24 @@ pub record IsNumberHere (parts : List Part) (w : PartSet) (d : V3) (keys : List 
   pub names : NamesWitness parts w new (record { d = d; witness = p })
 
 -- where the vector is among the directions, there is a number
-pub record IsFound (directions : List V3) (numbers : List (Option ℕ)) (v : V3) : Type 0 where
+pub record IsDirectionFound (directions : List V3) (numbers : List (Option ℕ)) (v : V3) : Type 0 where
   pub number : (k : ℕ) → slice_get directions k ≡ Some v → (p : ℕ) × (slice_get numbers k ≡ Some (Some p))
 
 -- what has been found stays found
 abbrev pub AreStillFound : List V3 → List (Option ℕ) → List (Option ℕ) → Type 0
-AreStillFound directions old new = (v : V3) → IsFound directions old v → IsFound directions new v
+AreStillFound directions old new = (v : V3) → IsDirectionFound directions old v → IsDirectionFound directions new v
 
 -- each of the directions has been found
 abbrev pub AreAllFound : List V3 → List (Option ℕ) → Type 0
 AreAllFound directions numbers = (k : ℕ) (d : V3) → slice_get directions k ≡ Some d
-    → IsFound directions numbers d
+    → IsDirectionFound directions numbers d
 
 -- the vertices on the circles of the planes below c have been found
 abbrev pub AreFoundBelow : List V3 → List Ring → List V3 → List (Option ℕ) → ℕ → Type 0
 AreFoundBelow planes rings directions numbers c = (b m : ℕ) (s : RingStop) → b < c → IsStopAt rings b m s
-    → IsFound directions numbers (vertex_of planes b s.entries)
+    → IsDirectionFound directions numbers (vertex_of planes b s.entries)
 
 -- those at the places below n of the circle c have been found
 abbrev pub AreFoundOn : List V3 → List Ring → List V3 → List (Option ℕ) → ℕ → ℕ → Type 0
 AreFoundOn planes rings directions numbers c n = (m : ℕ) (s : RingStop) → m < n → IsStopAt rings c m s
-    → IsFound directions numbers (vertex_of planes c s.entries)
+    → IsDirectionFound directions numbers (vertex_of planes c s.entries)

@@ -25,8 +25,8 @@ ghost use Rattle.staat_ring.specs.Belonging.{BelongTo};
 ghost use Rattle.staat_ring.specs.Rings.{WereMadeFrom, linked_of};
 ghost use Rattle.staat_ring.specs.Walked.{IsEntered};
 ghost use Rattle.staat_plan.specs.Listings.{IsSizedDirection, key_of};
-ghost use Rattle.staat_plan.specs.Visits.{AreAllFound, AreFound, AreFoundBelow, AreKept, AreStillFound, HasFound};
-ghost use Rattle.staat_plan.specs.Visits.{IsFound, IsNumberHere, StandsAmong};
+ghost use Rattle.staat_plan.specs.Visits.{AreAllFound, AreFound, AreFoundBelow, KeepsTrees, AreStillFound, HasFound};
+ghost use Rattle.staat_plan.specs.Visits.{IsDirectionFound, IsNumberHere, StandsAmong};
 ghost use Rattle.staat_plan.specs.Witnesses.{AreTreesAlong};
 
 use crate::listing::number_witness;
@@ -118,11 +118,11 @@ fn number_here(
     requires stuck { IsStuck sound.now table.now.of }
     requires stands { StandsAmong table.now walk.now }
     requires some { walk.now.vertex ≢ origin }
-    requires kept { AreKept table.now.of found.old.kept }
+    requires kept { KeepsTrees table.now.of found.old.kept }
     requires keys { map (λ v. v.items) found.old.keys.keys ≡ map key_of found.old.witnesses.items }
     ensures number { IfOk result (IsNumberHere sound.now table.now.of walk.now.vertex
         (map (λ v. v.items) found.new.keys.keys) found.old.witnesses.items found.new.witnesses.items) }
-    ensures kept { OnOk result (AreKept table.now.of found.new.kept) }
+    ensures kept { OnOk result (KeepsTrees table.now.of found.new.kept) }
     ensures numbers { found.new.numbers.items ≡ found.old.numbers.items }
 {
     renew_trees(&mut found.kept, sound, table, walk);
@@ -148,7 +148,7 @@ fn visit(
     requires each { All IsSizedDirection directions.now }
     requires found { HasFound sound.now table.now.of directions.now found.old }
     ensures found { OnOk result (HasFound sound.now table.now.of directions.now found.new) }
-    ensures here { OnOk result (IsFound directions.now found.new.numbers.items walk.now.vertex) }
+    ensures here { OnOk result (IsDirectionFound directions.now found.new.numbers.items walk.now.vertex) }
     ensures kept { OnOk result (AreStillFound directions.now found.old.numbers.items found.new.numbers.items) }
 {
     let v = walk.at();
@@ -185,7 +185,7 @@ fn visit_once(
     requires found { HasFound sound.now table.now.of directions.now found.old }
     requires below { AreFoundBelow table.now.planes rings.now.rings directions.now found.old.numbers.items circle }
     ensures found { OnOk result (HasFound sound.now table.now.of directions.now found.new) }
-    ensures here { OnOk result (IsFound directions.now found.new.numbers.items walk.now.vertex) }
+    ensures here { OnOk result (IsDirectionFound directions.now found.new.numbers.items walk.now.vertex) }
     ensures kept { OnOk result (AreStillFound directions.now found.old.numbers.items found.new.numbers.items) }
 {
     let _set = table.set();

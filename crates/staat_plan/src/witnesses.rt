@@ -8,7 +8,7 @@ ghost use Rattle.staat_graph.specs.Blocking.{ShowsBlocking};
 ghost use Rattle.staat_graph.specs.Graphs.{AreTrees, HasArc};
 ghost use Rattle.staat_pairs.specs.Tables.{WasMadeFrom};
 ghost use Rattle.staat_plan.specs.Witnesses.{AreEndsAhead, AreEndsAndLeast, AreTreesAlong};
-ghost use Rattle.staat_plan.specs.Visits.{AreKept, StandsAmong};
+ghost use Rattle.staat_plan.specs.Visits.{KeepsTrees, StandsAmong};
 
 use crate::arcs::least_arc;
 use staat_graph::{Graph, Trees, trees_of};
@@ -74,8 +74,8 @@ pub fn renew_trees(kept: &mut GraphTrees, sound: &Sound, table: &PlaneTable, wal
     requires stuck { IsStuck sound.now table.now.of }
     requires stands { StandsAmong table.now walk.now }
     requires some { walk.now.vertex ≢ origin }
-    requires kept { AreKept table.now.of kept.old }
-    ensures kept { AreKept table.now.of kept.new }
+    requires kept { KeepsTrees table.now.of kept.old }
+    ensures kept { KeepsTrees table.now.of kept.new }
     ensures along { AreTreesAlong sound.now table.now walk.now.vertex kept.new.trees }
 {
     let w = table.set();

@@ -15,7 +15,7 @@ use Rattle.staat_model.specs.Sets.{IsSubset}
 use Rattle.staat_model.proofs.Places.{one_at_place, place_within}
 use Rattle.staat_pairs.specs.Searches.{HasPlane, IsCanonOf}
 use Rattle.staat_pairs.specs.Tables.{AreTablePlanes, Table}
-use Rattle.staat_planes.specs.Marks.{AddsMarks, AreUsedMarks, IsMarked}
+use Rattle.staat_planes.specs.Marks.{AddsMarks, AreUsedMarks, IsPlaneMarked}
 use Rattle.staat_planes.specs.Tables.{IsPlaneOf}
 use Rattle.staat_planes.proofs.PairSteps.{whole_used}
 use Rattle.staat_planes.proofs.UsedLaw.{axis_used, other_at, other_used}
@@ -31,14 +31,14 @@ pub record IsBelow (P : ℕ → V3 → Type 0) (m : ℕ) (n : V3) : Type 0 where
 pub adds_as : (planes : List V3) (P R : V3 → Type 0) (old new : List Bool) → AddsMarks planes P old new → ((n : V3) → P n → R n) → ((n : V3) → R n → P n) → AddsMarks planes R old new
 adds_as planes P R old new adds to from = record {
   each = λ k n le at. (
-    (λ m. ⊎_elim {C = IsMarked old k ⊎ R n} (λ o. inl o) (λ p. inr (to n p)) ((adds.each k n le at).0 m)),
-    (λ h. (adds.each k n le at).1 (⊎_elim {C = IsMarked old k ⊎ P n} (λ o. inl o) (λ r. inr (from n r)) h)),
+    (λ m. ⊎_elim {C = IsPlaneMarked old k ⊎ R n} (λ o. inl o) (λ p. inr (to n p)) ((adds.each k n le at).0 m)),
+    (λ h. (adds.each k n le at).1 (⊎_elim {C = IsPlaneMarked old k ⊎ P n} (λ o. inl o) (λ r. inr (from n r)) h)),
   );
 }
 
 pub adds_none : (planes : List V3) (P : V3 → Type 0) (old : List Bool) → ((n : V3) → P n → ⊥) → AddsMarks planes P old old
 adds_none planes P old none = record {
-  each = λ k n le at. ((λ m. inl m), (λ h. ⊎_elim {C = IsMarked old k} (λ o. o) (λ p. absurd (none n p)) h));
+  each = λ k n le at. ((λ m. inl m), (λ h. ⊎_elim {C = IsPlaneMarked old k} (λ o. o) (λ p. absurd (none n p)) h));
 }
 
 -- beside a fact that holds
@@ -60,13 +60,13 @@ below_old P m n b = record { j = b.j; lt = (let lt = b.lt in omega (arith, lt));
 pub adds_more : (planes : List V3) (P : ℕ → V3 → Type 0) (m : ℕ) (old mid new : List Bool) → AddsMarks planes (IsBelow P m) old mid → AddsMarks planes (P m) mid new → AddsMarks planes (IsBelow P (m + 1)) old new
 adds_more planes P m old mid new before here = record {
   each = λ k n le at. (
-    (λ h. ⊎_elim {C = IsMarked old k ⊎ IsBelow P (m + 1) n}
-        (λ h. ⊎_elim {C = IsMarked old k ⊎ IsBelow P (m + 1) n} (λ o. inl o) (λ b. inr (below_old P m n b)) ((before.each k n le at).0 h))
+    (λ h. ⊎_elim {C = IsPlaneMarked old k ⊎ IsBelow P (m + 1) n}
+        (λ h. ⊎_elim {C = IsPlaneMarked old k ⊎ IsBelow P (m + 1) n} (λ o. inl o) (λ b. inr (below_old P m n b)) ((before.each k n le at).0 h))
         (λ p. inr (record { j = m; lt = omega arith; holds = p }))
         ((here.each k n le at).0 h)),
-    (λ h. (here.each k n le at).1 (⊎_elim {C = IsMarked mid k ⊎ P m n}
+    (λ h. (here.each k n le at).1 (⊎_elim {C = IsPlaneMarked mid k ⊎ P m n}
         (λ o. inl ((before.each k n le at).1 (inl o)))
-        (λ b. ⊎_elim {C = IsMarked mid k ⊎ P m n} (λ b. inl ((before.each k n le at).1 (inr b))) (λ p. inr p) (below_more P m n b))
+        (λ b. ⊎_elim {C = IsPlaneMarked mid k ⊎ P m n} (λ b. inl ((before.each k n le at).1 (inr b))) (λ p. inr p) (below_more P m n b))
         h)),
   );
 }
@@ -87,14 +87,14 @@ place_beyond planes others v j e at =
 
 pub one_mark : (planes : List V3) (v : V3) (j : ℕ) (old : List Bool) → AreTablePlanes planes → slice_get (drop 3 planes) j ≡ Some v → length planes ≤ length old → AddsMarks planes (λ n. n ≡ v) old (set old (3 + j) true)
 one_mark planes v j old are found room = record {
-  each = λ k n le at. ⊎_elim {C = IsMarked (set old (3 + j) true) k ↔ (IsMarked old k ⊎ (n ≡ v))}
+  each = λ k n le at. ⊎_elim {C = IsPlaneMarked (set old (3 + j) true) k ↔ (IsPlaneMarked old k ⊎ (n ≡ v))}
       (λ e. (
         (λ _. inr (one_at_place planes (3 + j) n v (subst (λ m. slice_get planes m ≡ Some n) e at) there)),
         (λ _. get_or-set_at old (3 + j) k true false e (let lt = place_within planes (3 + j) v there in omega (arith, lt, room))),
       ))
       (λ ne. let stays : get_or (set old (3 + j) true) k false ≡ get_or old k false = get_or-set_other old (3 + j) k true false ne in (
         (λ m. inl (sym stays ∙ m)),
-        (λ h. ⊎_elim {C = IsMarked (set old (3 + j) true) k} (λ o. stays ∙ o)
+        (λ h. ⊎_elim {C = IsPlaneMarked (set old (3 + j) true) k} (λ o. stays ∙ o)
             (λ e. absurd (are.apart k (3 + j) n v at there ne (ap (λ u. cross u v) e ∙ cross_self v))) h),
       ))
       (same_or k (3 + j));
@@ -107,7 +107,7 @@ pub no_mark : (planes : List V3) (v : V3) (old : List Bool) → AreTablePlanes p
 no_mark planes v old are none = record {
   each = λ k n le at. (
     (λ m. inl m),
-    (λ h. ⊎_elim {C = IsMarked old k} (λ o. o)
+    (λ h. ⊎_elim {C = IsPlaneMarked old k} (λ o. o)
         (λ e. absurd (none (subst (Contains (drop 3 planes)) e (subst (λ ps. Contains ps n) (sym (ap (drop 3) are.is)) (other_at planes are.others k n are.is le at))))) h),
   );
 }
@@ -130,9 +130,9 @@ none_marked zero k = refl
 none_marked (suc n) zero = refl
 none_marked (suc n) (suc k) = none_marked n k
 
-pub used_marked : (t : Table) (w : PartSet) (marks final : List Bool) → IsSubset w t.of → AddsMarks t.planes (λ n. HasPlane t w n) (replicate 1024 false) marks → ((k : ℕ) → k < 3 → IsMarked final k) → ((k : ℕ) → 3 ≤ k → get_or final k false ≡ get_or marks k false) → AreUsedMarks t w final
+pub used_marked : (t : Table) (w : PartSet) (marks final : List Bool) → IsSubset w t.of → AddsMarks t.planes (λ n. HasPlane t w n) (replicate 1024 false) marks → ((k : ℕ) → k < 3 → IsPlaneMarked final k) → ((k : ℕ) → 3 ≤ k → get_or final k false ≡ get_or marks k false) → AreUsedMarks t w final
 used_marked t w marks final within adds axes same = record {
-  each = λ parts k n made at. ⊎_elim {C = IsMarked final k ↔ IsPlaneOf parts w n}
+  each = λ parts k n made at. ⊎_elim {C = IsPlaneMarked final k ↔ IsPlaneOf parts w n}
       (λ lt. axis_used parts t w k n (get_or final k false) made at lt (axes k lt))
       (λ le. other_used parts t w k n (get_or final k false) made within at le (
         (λ m. ⊎_elim {C = HasPlane t w n} (λ o. absurd (true≢false (sym o ∙ none_marked 1024 k))) (λ p. p) ((adds.each k n le at).0 (sym (same k le) ∙ m))),

@@ -3,7 +3,7 @@ ghost use Rattle.std.specs.Prelude.{◌≡◌, ◌<◌, ◌≤◌, ℕ, All, fal
 ghost use Rattle.staat_model.specs.Sets.{Has, IsSubset};
 ghost use Rattle.staat_pairs.specs.Searches.{HasPlane, HasPlaneBetween, HasPlaneFrom, HasPlaneOf, IsCanonOf};
 ghost use Rattle.staat_pairs.specs.Tables.{AreTablePlanes, IsTableFacet, pieces_of};
-ghost use Rattle.staat_planes.specs.Marks.{AddsMarks, AreUsedMarks, IsMarked};
+ghost use Rattle.staat_planes.specs.Marks.{AddsMarks, AreUsedMarks, IsPlaneMarked};
 
 use crate::table::{MOST_PLANES, PlaneTable};
 use staat_model::{Arc, MOST_PARTS, PartSet};
@@ -35,7 +35,7 @@ fn mark_facets(planes: &[V3], facets: &[V3], marks: &mut [bool; 1024])
 
 // marks the coordinate planes
 fn mark_axes(marks: &mut [bool; 1024])
-    ensures axes { (k : ℕ) → k < 3 → IsMarked marks.new k }
+    ensures axes { (k : ℕ) → k < 3 → IsPlaneMarked marks.new k }
     ensures others { (k : ℕ) → 3 ≤ k → slice_index_or marks.new k false ≡ slice_index_or marks.old k false }
 {
     marks[0] = true;

@@ -1,7 +1,7 @@
 use Rattle.std.proofs.Common.{◌<◌, List, [], sym, subst}
 use Rattle.staat_ring.specs.Rings.{AreRings, Kept, Ring, unlinked_of}
 use Rattle.staat_ring.proofs.StopLemmas.{circle_small}
-use Rattle.staat_plan.specs.Visits.{IsFound}
+use Rattle.staat_plan.specs.Visits.{IsDirectionFound}
 use Rattle.staat_plan.proofs.VisitLemmas.{found_earlier, linked}
 use Rattle.staat_plan.proofs.visits.visit_once.Goals as goal
 
@@ -15,7 +15,7 @@ returns-then-first_entry-circle-clause-here c =
     let entered = c.requires.entered in
     let small = circle_small planes rings [] table are walk.circle walk.place entered.stop entered.at in
     let e = c.first_entry.ensures entered.stop entered.at entered.node in
-    subst (IsFound c.args.directions.now c.args.found.now.numbers.items) (sym entered.vertex)
+    subst (IsDirectionFound c.args.directions.now c.args.found.now.numbers.items) (sym entered.vertex)
     (found_earlier planes rings table are c.args.directions.now c.args.found.now.numbers.items c.args.circle c.requires.below walk.circle walk.place entered.stop c.first_entry.result (sym c.requires.circle) small e
     (subst (λ k. c.first_entry.result.plane < k) (sym c.requires.circle) c.if-first_entry-circle.true))
 
