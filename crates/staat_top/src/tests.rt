@@ -465,12 +465,13 @@ fn the_parts_of_an_input_are_listed(rt: HostRuntime) -> Result<(), Fail> {
 #[test]
 fn each_command_reads_a_file_as_often_as_it_is_named(rt: HostRuntime) -> Result<(), Fail> {
     let alloc = rt.alloc();
-    let table: [(&[&str], &[&str]); 10] = [
+    let table: [(&[&str], &[&str]); 11] = [
         (
             &["check", "c.txt", "a.off", "b.off"],
             &["a.off", "b.off", "c.txt"],
         ),
         (&["plan", "b.off", "a.off"], &["b.off", "a.off"]),
+        (&["plan", "--cert", "b.off", "a.off"], &["b.off", "a.off"]),
         (&["cells", "b.off", "a.off"], &["b.off", "a.off"]),
         (&["linear", "b.off", "a.off"], &["b.off", "a.off"]),
         (&["local", "b.off", "a.off"], &["b.off", "a.off"]),
