@@ -8,3 +8,6 @@ pub mod BuildLemmas
 pub mod UsedPlanes
 pub mod PairSteps
 pub mod SearchSteps
+pub mod HolderSearch
+pub mod Circling
+pub mod CircleSteps

@@ -2,7 +2,9 @@
 #![tactic(auto)]
 
 mod build;
+mod circle;
 mod graph;
+mod holding;
 pub mod laws;
 mod marks;
 mod pairs;
