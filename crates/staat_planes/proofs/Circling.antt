@@ -1,14 +1,13 @@
 -- Going round the circle of directions on a plane, from one end to a later one.
-use Rattle.std.proofs.Common.{◌≡◌, ◌≢◌, ◌⊎◌, inl, inr, ⊎_elim, ℕ, zero, suc, refl, sym, ap, subst, ◌∙◌, arith}
-use Rattle.std.proofs.Common.{ℤ, pos, negsuc, neg_ℤ, ◌+ℤ◌, ◌-ℤ◌, ◌*ℤ◌, ◌<ℤ◌, ◌≤ℤ◌}
-use Rattle.std.proofs.Common.{List, [], ◌∷◌, All, Contains}
+use Rattle.std.proofs.Common.{◌≡◌, zero, suc, refl, sym, ap, ◌∙◌, arith}
+use Rattle.std.proofs.Common.{ℤ, pos, negsuc, neg_ℤ, ◌-ℤ◌, ◌*ℤ◌, ◌<ℤ◌, ◌≤ℤ◌}
+use Rattle.std.proofs.Common.{[], ◌∷◌}
 use Rattle.std.proofs.lemmas.Int.{ints, by_lt_z}
-use Rattle.std.proofs.lemmas.List.Elements.{All-contains}
 use Rattle.staat_vec.specs.declared.vector.V3.{V3}
 use Rattle.staat_vec.specs.Vectors.{cross, dot, negative, origin, vector}
 use Rattle.staat_vec.proofs.Ring.{num, ◌⊖◌, ◌⊗◌, opp, ring, ring_by}
 use Rattle.staat_vec.proofs.VecRing.{crossE, dotE, negativeE, values, vectorE, v0, v1, v2, v3, v4}
-use Rattle.staat_vec.proofs.VecRing.{negative_dot, same_vector}
+use Rattle.staat_vec.proofs.VecRing.{same_vector}
 use Rattle.staat_vec.proofs.Order.{negative_mul, nonneg_mul, pos_mul}
 
 -- ---- signs of products
@@ -74,7 +73,7 @@ three_ends g x y z d e = ring_by (values (g ∷ x ∷ y ∷ z ∷ d ∷ []) []) 
 turned_end : (g x y : V3) → dot y (cross g x) ≡ neg_ℤ (dot x (cross g y))
 turned_end g x y = ring (values (g ∷ x ∷ y ∷ []) []) (dotE v2 (crossE v0 v1)) (opp (dotE v1 (crossE v0 v2))) tt
 
-opposite_end : (g a m : V3) → dot m (cross g (negative a)) ≡ neg_ℤ (dot m (cross g a))
+pub opposite_end : (g a m : V3) → dot m (cross g (negative a)) ≡ neg_ℤ (dot m (cross g a))
 opposite_end g a m = ring (values (g ∷ a ∷ m ∷ []) []) (dotE v2 (crossE v0 (negativeE v1))) (opp (dotE v2 (crossE v0 v1))) tt
 
 turned_up : (p q : ℤ) → p ≡ neg_ℤ q → q <ℤ pos 0 → pos 0 <ℤ p

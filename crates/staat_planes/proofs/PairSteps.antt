@@ -1,15 +1,21 @@
 -- What a place among the pairs of planes has left.
-use Rattle.std.proofs.Common.{◌≡◌, ◌≢◌, ◌↔◌, ◌⊎◌, inl, inr, ⊎_elim, ℕ, zero, suc, ◌+◌, ◌<◌, ◌≤◌, arith, ap, sym, subst, ◌∙◌, refl, Bool, List, [], ◌∷◌, ◌++◌, length, get_or, take, drop, Contains}
-use Rattle.std.specs.Prelude.{IsTrue, Some, map, slice_get, slice_index, slice_index_or}
+use Rattle.std.proofs.Common.{◌≡◌, ◌≢◌, ◌↔◌, ◌⊎◌, inl, inr, ⊎_elim, ℕ, zero, suc, ◌+◌, ◌<◌, ◌≤◌, arith, ap, sym, subst, ◌∙◌, refl, Bool, List, [], ◌∷◌, ◌++◌, length, take, drop, Contains}
+use Rattle.std.specs.Prelude.{IsTrue, Some, slice_get, slice_index, slice_index_or}
 use Rattle.std.specs.Ordering.{nat_cmp}
 use Rattle.std.specs.List.Sorted.{IsStrictlySortedBy}
-use Rattle.std.proofs.lemmas.List.{get_or-take, length-take-le}
+use Rattle.std.proofs.Common.{length-append, pos, neg_ℤ}
+use Rattle.std.proofs.lemmas.List.{get_or_default, get_or-drop, get_or-take, length-drop, length-take-le}
 use Rattle.std.proofs.lemmas.List.Elements.{Contains-append_cases, Contains-append_left, Contains-append_right}
-use Rattle.std.proofs.lemmas.Option.{get_or_from_slice_get, slice_get-get_or}
+use Rattle.std.proofs.lemmas.Option.{slice_get-get_or}
 use Rattle.staat_vec.specs.declared.vector.V3.{V3}
 use Rattle.staat_vec.specs.Primitives.{primitive}
-use Rattle.staat_vec.specs.Vectors.{cross, negative, origin}
-use Rattle.staat_vec.proofs.Unique.{Contains-cases, Contains-front, Contains-nothing}
+use Rattle.staat_vec.specs.Vectors.{cross, dot, negative, origin}
+use Rattle.staat_vec.proofs.Canons.{negative-negative}
+use Rattle.staat_vec.proofs.Order.{cancel_zero}
+use Rattle.staat_vec.proofs.Primitives.{IsPrimitive-some, primitive-is}
+use Rattle.staat_vec.proofs.VecRing.{dot_cross_left, dot_negative}
+use Rattle.staat_model.proofs.CornerLemmas.{dot_multiple}
+use Rattle.staat_vec.proofs.Unique.{Contains-cases, Contains-front, Contains-later, Contains-nothing}
 use Rattle.staat_model.specs.declared.assembly.Part.{Part}
 use Rattle.staat_model.specs.declared.set.PartSet.{PartSet}
 use Rattle.staat_model.specs.Planes.{ArePlanes, axes, crossings, vertices}
@@ -20,8 +26,7 @@ use Rattle.staat_pairs.specs.Tables.{AreTablePlanes, Table, WasMadeFrom}
 use Rattle.staat_pairs.proofs.DropLemmas.{drop_at, drop_end}
 use Rattle.staat_planes.specs.declared.pairs.PlanePairs.{PlanePairs}
 use Rattle.staat_planes.specs.Tables.{IsPlaneOf}
-use Rattle.staat_planes.specs.VertexSearch.{AreRisingNumbers, IsPlaceIn, numbers_of, planes_at, vertices_left}
-use Rattle.staat_planes.proofs.UsedLaw.{listed_used}
+use Rattle.staat_planes.specs.VertexSearch.{AreRisingNumbers, HasRowBefore, IsPlaceIn, numbers_of, planes_at, vertices_left}
 use Rattle.staat_planes.proofs.UsedPlanes.{numbered_are, one_behind, places_rise}
 
 -- ---- the numbers of the used planes, as far as they were looked at
@@ -145,3 +150,62 @@ number_in ks i lt = (i, lt, Rattle.std.proofs.lemmas.List.get_or_default ks i (s
 pub apart_at : (planes : List V3) (ks : List ℕ) (i j : ℕ) (g h : V3) → AreTablePlanes planes → AreRisingNumbers planes ks → i < j → j < length ks
     → slice_get planes (slice_index ks i) ≡ Some g → slice_get planes (slice_index ks j) ≡ Some h → cross g h ≢ origin
 apart_at planes ks i j g h are numbers lt small eg eh = are.apart (slice_index ks i) (slice_index ks j) g h eg eh (λ e. let rise = places_rise ks i j numbers.ascending lt small in absurd (omega (arith, rise, e)))
+
+-- ---- the vertices of a row
+
+abbrev pub IsOn : V3 → V3 → Type 0
+IsOn g d = (dot g d ≡ pos 0) × (d ≢ origin)
+
+negative_some : (d : V3) → d ≢ origin → negative d ≢ origin
+negative_some d some e = some (sym (negative-negative d) ∙ ap negative e)
+
+crossing_on : (g h : V3) → cross g h ≢ origin → IsOn g (primitive (cross g h))
+crossing_on g h apart =
+    let p = primitive-is (cross g h) apart in (
+      cancel_zero p.factor (dot g (primitive (cross g h))) p.positive (sym (dot_multiple g (cross g h) (primitive (cross g h)) p.factor p.multiple) ∙ dot_cross_left g h),
+      IsPrimitive-some (primitive (cross g h)) p.primitive,
+    )
+
+opposite_on : (g d : V3) → IsOn g d → IsOn g (negative d)
+opposite_on g d on = (dot_negative g d ∙ ap neg_ℤ on.0, negative_some d on.1)
+
+pub on_row : (planes : List V3) (g : V3) (ns : List ℕ) → ((n : ℕ) → Contains ns n → cross g (slice_index_or planes n origin) ≢ origin)
+    → (d : V3) → Contains (crossings g (planes_at planes ns)) d → IsOn g d
+on_row planes g [] apart d c = absurd (Contains-nothing d c)
+on_row planes g (n ∷ ns) apart d c =
+    let h : V3 = slice_index_or planes n origin in
+    let v : V3 = primitive (cross g h) in
+    let here = crossing_on g h (apart n (Contains-front n ns)) in
+    ⊎_elim {C = IsOn g d} (λ e. subst (IsOn g) (sym e) here)
+    (λ later. ⊎_elim {C = IsOn g d} (λ e. subst (IsOn g) (sym e) (opposite_on g v here))
+    (λ behind. on_row planes g ns (λ m c. apart m (Contains-later n ns m c)) d behind)
+    (Contains-cases (negative v) (crossings g (planes_at planes ns)) d later))
+    (Contains-cases v (negative v ∷ crossings g (planes_at planes ns)) d c)
+
+-- each plane behind the place in a row crosses that of the row
+pub apart_behind : (planes : List V3) (ks : List ℕ) (i j : ℕ) (g : V3) → AreTablePlanes planes → AreRisingNumbers planes ks → i < j
+    → slice_get planes (slice_index ks i) ≡ Some g → (n : ℕ) → Contains (drop j ks) n → cross g (slice_index_or planes n origin) ≢ origin
+apart_behind planes ks i j g are numbers lt eg n (k, small, at) =
+    let long = length-drop j ks in
+    let within : j + k < length ks = omega (arith, small, long) in
+    let place : slice_index ks (j + k) ≡ n = get_or_default ks (j + k) 0 n within ∙ (sym (get_or-drop j ks k n) ∙ at) in
+    let is : slice_get planes n ≡ Some (slice_index_or planes n origin) = slice_get-get_or planes n origin (numbers.small n (subst (Contains ks) place (number_in ks (j + k) within))) in
+    apart_at planes ks i (j + k) g (slice_index_or planes n origin) are numbers (omega (arith, lt)) within eg
+    (subst (λ m. slice_get planes m ≡ Some (slice_index_or planes n origin)) (sym place) is)
+
+row_some : (planes : List V3) (g : V3) (ns : List ℕ) → 0 < length ns → 0 < length (crossings g (planes_at planes ns))
+row_some planes g [] some = absurd (omega arith)
+row_some planes g (n ∷ ns) some = omega arith
+
+-- behind the rest of a row less is left
+pub row_shorter : (planes : List V3) (p q : PlanePairs) (vs : List V3) → IsPlaceIn planes p → p.second < p.count → HasRowBefore planes p q
+    → vertices_left planes p ≡ vs → length (vertices_left planes q) < length vs
+row_shorter planes p q vs place some before is =
+    let row : List V3 = crossings (slice_index_or planes (slice_index (numbers_of p) p.first) origin) (planes_at planes (drop p.second (numbers_of p))) in
+    let long : length (numbers_of p) ≡ p.count = length_used p.numbers p.count (let a = place.room in let b = place.most in omega (arith, a, b)) in
+    let left = length-drop p.second (numbers_of p) in
+    let more : 0 < length row = row_some planes (slice_index_or planes (slice_index (numbers_of p) p.first) origin) (drop p.second (numbers_of p)) (omega (arith, left, long, some)) in
+    let sum = length-append row (vertices_left planes q) in
+    let same = ap length before in
+    let end = ap length is in
+    omega (arith, more, sum, same, end)

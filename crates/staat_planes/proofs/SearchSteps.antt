@@ -1,6 +1,7 @@
 -- What a search over directions has found.
-use Rattle.std.proofs.Common.{◌≡◌, inl, inr, ℕ, ◌+◌, ◌*◌, arith, ap, sym, subst, ◌∙◌, refl, List, [], ◌∷◌, ◌++◌, length, length-append, All, Contains}
-use Rattle.std.specs.Prelude.{None, Option, Some}
+use Rattle.std.proofs.Common.{◌≡◌, inl, inr, ℕ, ◌+◌, ◌*◌, ◌<◌, ◌≤◌, Bool, not, true≢false, arith, ap, sym, subst, ◌∙◌, refl, List, [], ◌∷◌, ◌++◌, length, length-append, All, Contains}
+use Rattle.std.specs.Prelude.{IsTrue, MatchOption, None, Option, Some}
+use Rattle.std.specs.Option.{is_some}
 use Rattle.std.proofs.lemmas.List.{append-nil, append_assoc}
 use Rattle.std.proofs.lemmas.List.Elements.{All-append, All-cons, All-contains, All-nil}
 use Rattle.staat_vec.specs.declared.vector.V3.{V3}
@@ -8,9 +9,16 @@ use Rattle.staat_vec.specs.Lists.{IsFirst}
 use Rattle.staat_vec.specs.Vectors.{negative}
 use Rattle.staat_vec.proofs.Unique.{Contains-front, Contains-later}
 use Rattle.staat_planes.specs.declared.search.Served.{Served}
-use Rattle.staat_planes.specs.declared.search.Tried.{Tried}
-use Rattle.staat_planes.specs.declared.search.Tried.TheVariants.{Neither, Ahead, Opposite}
-use Rattle.staat_planes.specs.VertexSearch.{ArePassed, AreSearched, IsFirstServed, IsTried}
+use Rattle.staat_planes.specs.VertexSearch.{ArePassed, AreSearched, IsFirstServed}
+
+-- what is left behind a pair, or less, is less than what was left at it
+pub shorter : (left later less : List V3) (d : V3) → left ≡ d ∷ negative d ∷ later → length less ≤ length later → length less < length left
+shorter left later less d e le = let long = ap length e in omega (arith, long, le)
+
+-- what a clause says of no value holds where there is none
+pub nothing_there : {X P : Type 0} (Q : X → Type 0) (r : Option X) (none : Bool) → is_some r ≡ not none → IsTrue none → MatchOption r P Q → P
+nothing_there Q None none e told h = h
+nothing_there Q (Some x) none e told h = absurd (true≢false (e ∙ ap not told))
 
 module _ (serves : V3 → Type 0) where
   abbrev Not : V3 → Type 0
@@ -32,6 +40,21 @@ module _ (serves : V3 → Type 0) where
     is = p.is ∙ (ap (λ l. p.before ++ l) e ∙ sym (append_assoc p.before (d ∷ negative d ∷ []) later));
     none = All-append Not p.before (d ∷ negative d ∷ []) p.none none;
   }
+
+  -- a row more of which none serves
+  pub row_passed : (vs left later row : List V3) → (p : ArePassed serves vs left) → left ≡ row ++ later → All Not row → ArePassed serves vs later
+  row_passed vs left later row p e none = record {
+    before = p.before ++ row;
+    is = p.is ∙ (ap (λ l. p.before ++ l) e ∙ sym (append_assoc p.before row later));
+    none = All-append Not p.before row p.none none;
+  }
+
+  -- one search after another
+  pub passed_both : (vs mid left : List V3) → ArePassed serves vs mid → ArePassed serves mid left → ArePassed serves vs left
+  passed_both vs mid left p q = row_passed vs mid left q.before p q.is q.none
+
+  pub none_passed : (vs : List V3) → ArePassed serves vs vs
+  none_passed vs = record { before = []; is = refl; none = All-nil Not }
 
   pub two_longer : (vs left later : List V3) (d : V3) (k : ℕ) → (p : ArePassed serves vs left) (e : left ≡ d ∷ negative d ∷ later) (none : All Not (d ∷ negative d ∷ [])) → length p.before ≡ 2 * k → length (two_passed vs left later d p e none).before ≡ 2 * (k + 1)
   unfolding two_passed

@@ -13,6 +13,7 @@ use Rattle.std.specs.Prelude.{
   Contains,
   Option,
   MatchOption,
+  pos,
 }
 use Rattle.std.specs.Prelude.{drop, length, map, slice_index, slice_index_or, take}
 use Rattle.std.specs.Ordering.{nat_cmp}
@@ -20,8 +21,9 @@ use Rattle.std.specs.List.Sorted.{IsStrictlySortedBy}
 use Rattle.staat_vec.specs.declared.vector.V3.{V3}
 use Rattle.staat_vec.specs.declared.vector.TheConstants.{DIRECTION}
 use Rattle.staat_vec.specs.Lists.{IsFirst}
-use Rattle.staat_vec.specs.Vectors.{IsWithin, negative, origin}
+use Rattle.staat_vec.specs.Vectors.{IsWithin, dot, negative, origin}
 use Rattle.staat_model.specs.Planes.{crossings, vertices}
+use Rattle.staat_pairs.specs.Tables.{IsPlaneNormal}
 use Rattle.staat_planes.specs.declared.pairs.PlanePairs.{PlanePairs}
 use Rattle.staat_planes.specs.declared.table.TheConstants.{MOST_PLANES}
 use Rattle.staat_planes.specs.declared.search.Search.{Search}
@@ -59,6 +61,19 @@ vertices_left planes p =
     crossings (slice_index_or planes (slice_index (numbers_of p) p.first) origin)
     (planes_at planes (drop p.second (numbers_of p)))
     ++ vertices (planes_at planes (drop (p.first + 1) (numbers_of p)))
+
+-- g is the plane of the row of the pair
+pub record IsRowOf (planes : List V3) (p : PlanePairs) (g : V3) : Type 0 where
+  pub plane : IsPlaneNormal g
+  pub is : slice_index_or planes (slice_index (numbers_of p) p.first) origin ≡ g
+  pub some : p.second < p.count
+  pub on : All (λ d. (dot g d ≡ pos 0) × (d ≢ origin)) (crossings g (planes_at planes (drop p.second (numbers_of p))))
+
+-- the rest of a row is left before what the second place has left
+abbrev pub HasRowBefore : List V3 → PlanePairs → PlanePairs → Type 0
+HasRowBefore planes p q =
+    vertices_left planes p ≡ crossings (slice_index_or planes (slice_index (numbers_of p) p.first) origin)
+    (planes_at planes (drop p.second (numbers_of p))) ++ vertices_left planes q
 
 -- ---- what is found
 

@@ -7,7 +7,7 @@ ghost use Rattle.staat_model.specs.declared.assembly.Part.{Part as PartValue};
 ghost use Rattle.staat_model.specs.Planes.{ArePlanes, vertices};
 ghost use Rattle.staat_model.specs.Sets.{IsSubset};
 ghost use Rattle.staat_pairs.specs.Tables.{WasMadeFrom};
-ghost use Rattle.staat_planes.specs.VertexSearch.{IsPlaceIn, vertices_left};
+ghost use Rattle.staat_planes.specs.VertexSearch.{HasRowBefore, IsPlaceIn, IsRowOf, vertices_left};
 
 use crate::table::PlaneTable;
 use staat_model::PartSet;
@@ -70,6 +70,33 @@ impl PlanePairs {
             self.first += 1;
             self.second = self.first + 1;
         }
+    }
+
+    /// The plane of the row that begins at the place, if a row with pairs does. Where a row has ended, the next one is
+    /// gone to first.
+    pub(crate) fn row_begun(&mut self, table: &PlaneTable) -> Option<V3>
+        requires { IsPlaceIn table.now.planes self.old }
+        ensures place { IsPlaceIn table.now.planes self.new }
+        ensures left { vertices_left table.now.planes self.new ≡ vertices_left table.now.planes self.old }
+        ensures row { IfSome result (IsRowOf table.now.planes self.new) }
+    {
+        self.enter_row(table);
+        if self.second != self.first + 1 || self.second >= self.count {
+            return None;
+        }
+        // the number is that of a plane
+        let _len = table.len();
+        Some(table.plane(self.numbers[self.first as usize]))
+    }
+
+    /// Passes over the rest of a row.
+    pub(crate) fn end_row(&mut self, table: &PlaneTable)
+        requires place { IsPlaceIn table.now.planes self.old }
+        requires some { self.old.second < self.old.count }
+        ensures place { IsPlaceIn table.now.planes self.new }
+        ensures left { HasRowBefore table.now.planes self.old self.new }
+    {
+        self.second = self.count;
     }
 
     // the direction of the pair, which is no place behind the last

@@ -1,19 +1,19 @@
 // The search for the first vertex of the planes of a set of parts that serves.
-ghost use Rattle.std.specs.Prelude.{◌≡◌, ◌≢◌, List, ◌∷◌, [], IfSome};
+ghost use Rattle.std.specs.Prelude.{◌≡◌, ◌≢◌, ◌≤◌, List, ◌∷◌, [], All, IfSome, IsTrue, length, pos};
 ghost use Rattle.staat_vec.specs.declared.vector.V3.{V3 as Vector};
-ghost use Rattle.staat_vec.specs.Vectors.{IsWithin, negative, origin};
+ghost use Rattle.staat_vec.specs.Vectors.{IsWithin, dot, negative, origin};
 ghost use Rattle.staat_model.specs.declared.assembly.Part.{Part as PartValue};
 ghost use Rattle.staat_model.specs.declared.set.PartSet.{PartSet as PartSetValue};
 ghost use Rattle.staat_model.specs.Planes.{ArePlanes, vertices};
 ghost use Rattle.staat_model.specs.Sets.{IsSubset};
 ghost use Rattle.staat_pairs.specs.Tables.{Table, WasMadeFrom};
-ghost use Rattle.staat_planes.specs.VertexSearch.{AreSearched, IsPlaceIn, IsSearched, IsSearchedAmong};
+ghost use Rattle.staat_planes.specs.VertexSearch.{ArePassed, AreSearched, IsPlaceIn, IsSearched, IsSearchedAmong};
 ghost use Rattle.staat_planes.specs.VertexSearch.{IsServedAmong, IsTried, IsTriedAmong, vertices_left};
 
 use crate::pairs::PlanePairs;
 use crate::table::PlaneTable;
 use staat_model::PartSet;
-use staat_vec::{DIRECTION, V3, neg};
+use staat_vec::{DIRECTION, NORMAL, V3, neg};
 
 /// What a trial finds at a direction and at its opposite.
 #[derive(Drop)]
@@ -77,6 +77,55 @@ pub trait Trial {
         ensures among { IsTriedAmong (among w) result }
         ensures tried { (parts : List PartValue) → WasMadeFrom parts table.now → knows self.old parts
             → IsTried (serves parts w) (finds parts w) d result };
+
+    /// Whether it is seen at once that no direction on the plane with the normal `g` serves, so that none of them is
+    /// looked at. Where it answers no, nothing is known.
+    fn rules_out(&mut self, table: &PlaneTable, w: PartSet, g: V3) -> bool
+        requires fits { fits self.old table.now w }
+        requires within { IsSubset w table.now.of }
+        requires size { IsWithin NORMAL g }
+        ensures fits { fits self.new table.now w }
+        ensures knows { (parts : List PartValue) → knows self.old parts → knows self.new parts }
+        ensures none { IsTrue result → (parts : List PartValue) (d : Vector) → WasMadeFrom parts table.now
+            → knows self.old parts → dot g d ≡ pos 0 → d ≢ origin → serves parts w d → ⊥ };
+}
+
+// Passes over the rows of pairs whose plane has no direction that serves, from a row that begins at the place. On a row
+// that is not passed over nothing changes.
+fn pass_rows<T: Trial>(pairs: &mut PlanePairs, table: &PlaneTable, w: PartSet, trial: &mut T)
+    requires place { IsPlaceIn table.now.planes pairs.old }
+    requires fits { T.fits trial.old table.now w }
+    requires within { IsSubset w table.now.of }
+    ensures place { IsPlaceIn table.now.planes pairs.new }
+    ensures fits { T.fits trial.new table.now w }
+    ensures knows { (parts : List PartValue) → T.knows trial.old parts → T.knows trial.new parts }
+    ensures passed { (parts : List PartValue) → WasMadeFrom parts table.now → T.knows trial.old parts
+        → ArePassed (T.serves parts w) (vertices_left table.now.planes pairs.old)
+        (vertices_left table.now.planes pairs.new) }
+    ensures fewer { length (vertices_left table.now.planes pairs.new)
+        ≤ length (vertices_left table.now.planes pairs.old) }
+{
+    while let Some(g) = pairs.row_begun(table) {
+        if !trial.rules_out(table, w, g) {
+            return;
+        }
+        pairs.end_row(table);
+    }
+}
+
+/// Whether the trial rules out the planes of all vertices of `w`, so that no direction serves at all.
+pub fn all_ruled_out<T: Trial>(table: &PlaneTable, w: PartSet, trial: &mut T) -> bool
+    requires fits { T.fits trial.old table.now w }
+    requires within { IsSubset w table.now.of }
+    ensures fits { T.fits trial.new table.now w }
+    ensures knows { (parts : List PartValue) → T.knows trial.old parts → T.knows trial.new parts }
+    ensures none { IsTrue result → (parts : List PartValue) (planes : List Vector) → WasMadeFrom parts table.now
+        → T.knows trial.old parts → ArePlanes parts w planes
+        → All (λ v. T.serves parts w v → ⊥) (vertices planes) }
+{
+    let mut pairs = PlanePairs::of(table, w);
+    pass_rows(&mut pairs, table, w, trial);
+    pairs.next_crossing(table).is_none()
 }
 
 // what a trial finds at a direction or at its opposite
@@ -126,6 +175,7 @@ pub fn first_left<T: Trial>(
         if let Some(found) = served_at(table, w, d, trial) {
             return Some(found);
         }
+        pass_rows(pairs, table, w, trial);
     }
     None
 }

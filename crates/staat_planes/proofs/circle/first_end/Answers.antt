@@ -16,28 +16,28 @@ loop-n-preserved c =
     let size = c.dot.ensures.size in
     elim c.if-dot-lt0.branch [
       | then-dot-lt0 w ↦ (
-        let test = w.if-dot-lt0.true in
-        let low : c.dot.result <ℤ pos 0 = omega (arith, wide, size, test) in
-        record {
-          listed = subst (λ v. Contains facets v) (sym w.first-is) (Contains-get_or facets j origin c.loop-n-test.true);
-          within = subst (IsWithin NORMAL) (sym w.first-is) (All-get_or (IsWithin NORMAL) facets j origin c.loop-n-test.true c.requires.facets);
-          size = subst (IsWithin VERTEX) (sym w.end-is) w.cross_normal-end-then-dot-lt0.ensures.size;
-          end = w.end-is ∙ (w.cross_normal-end-then-dot-lt0.ensures.value ∙ ap (cross c.args.g) (sym w.first-is));
-          later = subst (λ e. AreLaterEnds facets c.args.g e (j + 1)) (sym (w.end-is ∙ w.cross_normal-end-then-dot-lt0.ensures.value))
-              (taken_later facets c.args.g c.loop-n.first c.loop-n.end j c.loop-n-test.true c.loop-n.invariant.listed c.loop-n.invariant.end
-              (under (dot (get_or facets j origin) c.loop-n.end) c.dot.result value low) c.loop-n.invariant.later);
-        })
+          let test = w.if-dot-lt0.true in
+          let low : c.dot.result <ℤ pos 0 = omega (arith, wide, size, test) in
+          record {
+            listed = subst (λ v. Contains facets v) (sym w.first-is) (Contains-get_or facets j origin c.loop-n-test.true);
+            within = subst (IsWithin NORMAL) (sym w.first-is) (All-get_or (IsWithin NORMAL) facets j origin c.loop-n-test.true c.requires.facets);
+            size = subst (IsWithin VERTEX) (sym w.end-is) w.cross_normal-end-then-dot-lt0.ensures.size;
+            end = w.end-is ∙ (w.cross_normal-end-then-dot-lt0.ensures.value ∙ ap (cross c.args.g) (sym w.first-is));
+            later = subst (λ e. AreLaterEnds facets c.args.g e (j + 1)) (sym (w.end-is ∙ w.cross_normal-end-then-dot-lt0.ensures.value))
+                (taken_later facets c.args.g c.loop-n.first c.loop-n.end j c.loop-n-test.true c.loop-n.invariant.listed c.loop-n.invariant.end
+                (under (dot (get_or facets j origin) c.loop-n.end) c.dot.result value low) c.loop-n.invariant.later);
+          })
       | else-dot-lt0 w ↦ (
-        let test = w.if-dot-lt0.false in
-        let high : pos 0 ≤ℤ c.dot.result = omega (arith, wide, size, test) in
-        record {
-          listed = subst (λ v. Contains facets v) (sym w.first-is) c.loop-n.invariant.listed;
-          within = subst (IsWithin NORMAL) (sym w.first-is) c.loop-n.invariant.within;
-          size = subst (IsWithin VERTEX) (sym w.end-is) c.loop-n.invariant.size;
-          end = w.end-is ∙ (c.loop-n.invariant.end ∙ ap (cross c.args.g) (sym w.first-is));
-          later = subst (λ e. AreLaterEnds facets c.args.g e (j + 1)) (sym w.end-is)
-              (kept_later facets c.args.g c.loop-n.end j (not_low (dot (get_or facets j origin) c.loop-n.end) c.dot.result value high) c.loop-n.invariant.later);
-        })
+          let test = w.if-dot-lt0.false in
+          let high : pos 0 ≤ℤ c.dot.result = omega (arith, wide, size, test) in
+          record {
+            listed = subst (λ v. Contains facets v) (sym w.first-is) c.loop-n.invariant.listed;
+            within = subst (IsWithin NORMAL) (sym w.first-is) c.loop-n.invariant.within;
+            size = subst (IsWithin VERTEX) (sym w.end-is) c.loop-n.invariant.size;
+            end = w.end-is ∙ (c.loop-n.invariant.end ∙ ap (cross c.args.g) (sym w.first-is));
+            later = subst (λ e. AreLaterEnds facets c.args.g e (j + 1)) (sym w.end-is)
+                (kept_later facets c.args.g c.loop-n.end j (not_low (dot (get_or facets j origin) c.loop-n.end) c.dot.result value high) c.loop-n.invariant.later);
+          })
     ]
 
 pub returns : goal.returns

@@ -1,8 +1,5 @@
-use Rattle.std.proofs.Common.{◌≡◌, subst, [], ◌∷◌, All}
-use Rattle.std.specs.Prelude.{None, Some}
-use Rattle.staat_vec.specs.Vectors.{negative}
-use Rattle.staat_planes.specs.VertexSearch.{AreSearched, vertices_left}
-use Rattle.staat_planes.proofs.SearchSteps.{first_of, two_passed}
+use Rattle.staat_planes.specs.VertexSearch.{vertices_left}
+use Rattle.staat_planes.proofs.SearchSteps.{first_of, passed_both, shorter, two_passed}
 use Rattle.staat_planes.proofs.search.first_left.Goals as goal
 
 pub returns-in-Some-served_at-clause-first : goal.returns-in-Some-served_at-clause-first
@@ -14,13 +11,22 @@ returns-in-Some-served_at-clause-first g c parts made knows =
     (c.loop-d.invariant.passed parts made knows) c.in-Some.ensures.crossing
     (c.in-Some-served_at.ensures.served parts made (c.loop-d.invariant.knows parts knows))
 
+pub loop-d-smaller : goal.loop-d-smaller
+loop-d-smaller g c =
+    let left = vertices_left c.args.table.now.planes in
+    shorter (left c.loop-d.pairs) (left c.next_crossing.new.self) (left c.pass_rows.new.pairs) c.in-Some.d c.in-Some.ensures.crossing c.pass_rows.ensures.fewer
+
 pub loop-d-preserved : goal.loop-d-preserved
 loop-d-preserved g c = record {
-  place = c.in-Some.ensures.place;
-  fits = c.served_at.ensures.fits;
-  knows = λ parts knows. c.served_at.ensures.knows parts (c.loop-d.invariant.knows parts knows);
+  place = c.pass_rows.ensures.place;
+  fits = c.pass_rows.ensures.fits;
+  knows = λ parts knows. c.pass_rows.ensures.knows parts (c.served_at.ensures.knows parts (c.loop-d.invariant.knows parts knows));
   passed = λ parts made knows.
-      two_passed (g.T.Trial.serves parts c.args.w) (vertices_left c.args.table.now.planes c.args.pairs.now) (vertices_left c.args.table.now.planes c.loop-d.pairs) (vertices_left c.args.table.now.planes c.next_crossing.new.self) c.in-Some.d
+      let serves = g.T.Trial.serves parts c.args.w in
+      let left = vertices_left c.args.table.now.planes in
+      passed_both serves (left c.args.pairs.now) (left c.next_crossing.new.self) (left c.pass_rows.new.pairs)
+      (two_passed serves (left c.args.pairs.now) (left c.loop-d.pairs) (left c.next_crossing.new.self) c.in-Some.d
       (c.loop-d.invariant.passed parts made knows) c.in-Some.ensures.crossing
-      (c.in_default-served_at.ensures.served parts made (c.loop-d.invariant.knows parts knows));
+      (c.in_default-served_at.ensures.served parts made (c.loop-d.invariant.knows parts knows)))
+      (c.pass_rows.ensures.passed parts made (c.served_at.ensures.knows parts (c.loop-d.invariant.knows parts knows)));
 }
