@@ -1,7 +1,7 @@
 -- A part is free of the others of a set along a direction exactly where nothing holds it.
-use Rattle.std.proofs.Common.{◌≡◌, ◌≢◌, ◌⊎◌, ⊎_elim, ℕ, ◌<◌, ◌≤◌, arith, sym, subst, ap, ◌∙◌, List}
+use Rattle.std.proofs.Common.{◌≡◌, ◌≢◌, ◌⊎◌, ⊎_elim, ℕ, ◌<◌, ◌≤◌, arith, sym, subst, ap, ◌∙◌, List, pos}
 use Rattle.staat_vec.specs.declared.vector.V3.{V3}
-use Rattle.staat_vec.specs.Vectors.{negative, origin}
+use Rattle.staat_vec.specs.Vectors.{dot, negative, origin}
 use Rattle.staat_model.specs.declared.assembly.Part.{Part}
 use Rattle.staat_model.specs.declared.certificate.Arc.{Arc}
 use Rattle.staat_model.specs.declared.set.PartSet.{PartSet}
@@ -14,7 +14,8 @@ use Rattle.staat_planes.specs.declared.search.Tried.{Tried}
 use Rattle.staat_planes.specs.declared.search.Tried.TheVariants.{Neither, Ahead, Opposite}
 use Rattle.staat_planes.specs.VertexSearch.{IsTried, IsTriedAmong}
 use Rattle.staat_planes.proofs.GraphLaw.{ahead_is_blocking}
-use Rattle.staat_linear.specs.Holding.{AreHeld, IsHeld, IsLeastFree, IsLeastLeaving, IsSeen}
+use Rattle.staat_planes.specs.Holding.{IsHeld}
+use Rattle.staat_linear.specs.Holding.{AreHeld, AreHeldOnCircle, IsLeastFree, IsLeastLeaving, IsSeen}
 use Rattle.staat_linear.specs.Orders.{LeavesAlong, LetsLeave}
 use Rattle.staat_linear.proofs.Locked.{has-without}
 
@@ -59,6 +60,10 @@ module _ (t : Table) (w : PartSet) (parts : List Part) (made : WasMadeFrom parts
 
   none_leaves : (d : V3) → AreHeld t w d → LetsLeave parts w d → ⊥
   none_leaves d held (p, leaves) = held_stays d p (held p leaves.member) leaves
+
+  -- where each part is held on a circle, none leaves
+  pub none_leaves_on : (g d : V3) → AreHeldOnCircle t w g → dot g d ≡ pos 0 → d ≢ origin → LetsLeave parts w d → ⊥
+  none_leaves_on g d held on some = none_leaves d (λ p has. held p has d on some)
 
   least_leaves : (d : V3) (p : ℕ) → d ≢ origin → IsLeastFree t w d p → IsLeastLeaving parts w d p
   least_leaves d p some h = record {

@@ -1,11 +1,9 @@
 -- The search for what holds a part.
-use Rattle.std.proofs.Common.{◌≡◌, ◌≢◌, ◌⊎◌, inl, inr, ⊎_elim, refl, ℕ, ◌+◌, ◌-◌, ◌<◌, ◌≤◌, get_or, arith, false, sym, subst, ap, ◌∙◌, pos, ◌<ℤ◌, All, Bool, List, length}
-use Rattle.std.specs.Bool.{IsTrue}
+use Rattle.std.proofs.Common.{◌≡◌, ◌≢◌, ◌⊎◌, inl, inr, ⊎_elim, refl, ℕ, ◌+◌, ◌-◌, ◌<◌, ◌≤◌, get_or, arith, sym, subst, ap, ◌∙◌, pos, ◌<ℤ◌, All, List, length}
 use Rattle.std.specs.FinSet as set
 use Rattle.std.specs.Ordering.{nat_cmp}
 use Rattle.std.specs.Prelude.{◌*◌, Option, None, Some, slice_get, slice_set}
 use Rattle.std.proofs.Math.ListN.{length-set, replicate}
-use Rattle.std.proofs.lemmas.Bool.{false≢true}
 use Rattle.std.proofs.lemmas.Grind.{get_or-set_at}
 use Rattle.std.proofs.lemmas.List.{get_or-replicate, get_or-set_other, length-replicate}
 use Rattle.std.proofs.lemmas.Option.{get_or_from_slice_get, slice_get_read, slice_get_within}
@@ -20,61 +18,20 @@ use Rattle.staat_model.proofs.SetMembers.{has-difference, has-single, has-union}
 use Rattle.staat_model.proofs.SetSizes.{len-single}
 use Rattle.staat_graph.proofs.Finite.{len_subset}
 use Rattle.staat_model.proofs.FreeSides.{member_or}
-use Rattle.staat_pairs.specs.Searches.{arc_of}
-use Rattle.staat_pairs.specs.Tables.{Table, back, facets_of, pieces_of}
+use Rattle.staat_pairs.specs.Tables.{Table, back, facets_of}
 use Rattle.staat_pairs.proofs.TableLemmas.{back_across, facets_back}
 use Rattle.staat_pairs.proofs.ReversedFacets.{ahead_reversed}
 use Rattle.staat_linear.specs.declared.holders.TheConstants.{KEPT}
-use Rattle.staat_linear.specs.Holding.{AreHeldBut, AreHeldIn, AreOutward, HoldsPart, IsArcAhead, IsHeld, IsLeastFree, IsOutward}
+use Rattle.staat_planes.specs.Holding.{HoldsPart, IsArcAhead, IsHeld, IsHeldOnCircle}
+use Rattle.staat_linear.specs.Holding.{AreHeldBut, AreHeldIn, AreOutward, IsLeastFree, IsOutward}
 use Rattle.staat_linear.specs.Orders.{all_but}
 use Rattle.staat_linear.proofs.Locked.{has-without}
-
-last_or : (m k : ℕ) → m < k + 1 → (m < k) ⊎ (m ≡ k)
-last_or m k lt = grind arith
 
 apart_or : (m k : ℕ) → m ≢ k → (m < k) ⊎ (k < m)
 apart_or m k ne = grind arith
 
 same_or : (m k : ℕ) → (m ≡ k) ⊎ (m ≢ k)
 same_or m k = grind arith
-
--- ---- pieces
-
--- piece i of a meets none of the pieces of b below the j-th
-abbrev pub NoneBefore : Table → V3 → ℕ → ℕ → ℕ → ℕ → Type 0
-NoneBefore t d a i b j = (k : ℕ) → k < j → IsArcAhead t d (arc_of a i b k) → ⊥
-
--- no piece of a before the i-th meets one of b
-abbrev pub NoPieceBefore : Table → V3 → ℕ → ℕ → ℕ → Type 0
-NoPieceBefore t d a b i = (k j : ℕ) → k < i → IsArcAhead t d (arc_of a k b j) → ⊥
-
--- no piece of b holds p, if b is another part of w
-abbrev pub NoneIn : Table → PartSet → V3 → ℕ → ℕ → Type 0
-NoneIn t w d p b = (i j : ℕ) → Has w b → IsArcAhead t d (arc_of p i b j) → ⊥
-
-pub none_more : (t : Table) (d : V3) (a i b j : ℕ) (test : Bool) → NoneBefore t d a i b j → test ≡ false → (All (λ n. pos 0 <ℤ dot n d) (facets_of t (arc_of a i b j)) → IsTrue test) → NoneBefore t d a i b (j + 1)
-none_more t d a i b j test before said gives k lt met = ⊎_elim {C = ⊥}
-    (λ less. before k less met)
-    (λ e. false≢true (sym said ∙ gives (subst (λ k. IsArcAhead t d (arc_of a i b k)) e met).ahead))
-    (last_or k j lt)
-
-pub none_ahead : (t : Table) (d : V3) (a i b j : ℕ) → pieces_of t b ≤ j → NoneBefore t d a i b j → (k : ℕ) → IsArcAhead t d (arc_of a i b k) → ⊥
-none_ahead t d a i b j le before k met = let within : k < pieces_of t b = met.across.j_is in before k (omega (arith, within, le)) met
-
-pub piece_more : (t : Table) (d : V3) (a b i : ℕ) → NoPieceBefore t d a b i → ((j : ℕ) → IsArcAhead t d (arc_of a i b j) → ⊥) → NoPieceBefore t d a b (i + 1)
-piece_more t d a b i before none k j lt met = ⊎_elim {C = ⊥} (λ less. before k j less met) (λ e. none j (subst (λ k. IsArcAhead t d (arc_of a k b j)) e met)) (last_or k i lt)
-
-pub no_piece : (t : Table) (d : V3) (a b i : ℕ) → pieces_of t a ≤ i → NoPieceBefore t d a b i → (k j : ℕ) → IsArcAhead t d (arc_of a k b j) → ⊥
-no_piece t d a b i le before k j met = let within : k < pieces_of t a = met.across.i_is in before k j (omega (arith, within, le)) met
-
-pub part_more : (t : Table) (w : PartSet) (d : V3) (p b : ℕ) → ((k : ℕ) → k < b → NoneIn t w d p k) → NoneIn t w d p b → (k : ℕ) → k < b + 1 → NoneIn t w d p k
-part_more t w d p b before none k lt = ⊎_elim {C = NoneIn t w d p k} (λ less. before k less) (λ e. subst (λ k. NoneIn t w d p k) (sym e) none) (last_or k b lt)
-
-pub not_held : (t : Table) (w : PartSet) (d : V3) (p b : ℕ) → ((q : ℕ) → Has w q → q < b) → ((k : ℕ) → k < b → NoneIn t w d p k) → IsHeld t w d p → ⊥
-not_held t w d p b small none held =
-    let arc : Arc = held.0 in
-    let h = held.1 in
-    none arc.b (small arc.b h.to) arc.i arc.j h.to (subst (λ a. IsArcAhead t d (record { a = a; i = arc.i; b = arc.b; j = arc.j })) h.from h.ahead)
 
 -- a part of a set of two has another one beside it
 pub some_other : (w others : PartSet) (p : ℕ) → 2 ≤ set.len w → others ≡ all_but w p → IsNonempty others
@@ -208,3 +165,18 @@ pub held_others : (t : Table) (w holding rest : PartSet) (d e : V3) → AreHeldI
 held_others t w holding rest d e are is opposite p has out = ⊎_elim {C = IsHeld t w e p} (λ among. subst (λ v. IsHeld t w v p) (sym opposite) (are p among))
     (λ apart. absurd (out (subst (λ (s : PartSet). Has s p) (sym is) ((has-difference w holding p).1 (has, apart)))))
     (member_or holding p)
+
+-- ---- circles
+
+-- what one part of w holds by itself, w holds
+pub held_alone : (t : Table) (w one : PartSet) (p b : ℕ) (g : V3) → Has w b → one ≡ single b → IsHeldOnCircle t one p g → IsHeldOnCircle t w p g
+held_alone t w one p b g has is held d on some =
+    let h = held d on some in
+    let holds = h.1 in
+    (h.0, record { from = holds.from; to = subst (Has w) (sym ((has-single b h.0.b).0 (subst (λ (s : PartSet). Has s h.0.b) is holds.to))) has; ahead = holds.ahead })
+
+pub circles_more : (t : Table) (w : PartSet) (g : V3) (j : ℕ) → ((p : ℕ) → Has w p → p < j → IsHeldOnCircle t w p g) → (Has w j → IsHeldOnCircle t w j g) → (p : ℕ) → Has w p → p < j + 1 → IsHeldOnCircle t w p g
+circles_more t w g j before here p has lt = ⊎_elim {C = IsHeldOnCircle t w p g} (λ less. before p has less) (λ e. subst (λ k. IsHeldOnCircle t w k g) (sym e) (here (subst (Has w) e has))) (below_or p j lt)
+  where
+    below_or : (m k : ℕ) → m < k + 1 → (m < k) ⊎ (m ≡ k)
+    below_or m k lt = grind arith

@@ -1,41 +1,27 @@
--- What holds a part along a direction, in a table of facets: two pieces that would meet.
-use Rattle.std.specs.Prelude.{◌≡◌, ℕ, ◌+◌, ◌*◌, ◌<◌, ◌≤◌, List, All, Option, Some, length, pos, ◌<ℤ◌}
+-- What is kept of what holds parts, and what is seen of them along a direction or on the circle of a plane.
+use Rattle.std.specs.Prelude.{◌≡◌, ℕ, ◌+◌, ◌*◌, ◌<◌, ◌≤◌, List, Option, Some, length}
 use Rattle.std.specs.Prelude.{slice_get}
 use Rattle.staat_vec.specs.declared.vector.V3.{V3}
-use Rattle.staat_vec.specs.Vectors.{dot, negative}
+use Rattle.staat_vec.specs.Vectors.{negative}
 use Rattle.staat_model.specs.declared.assembly.Part.{Part}
 use Rattle.staat_model.specs.declared.certificate.Arc.{Arc}
 use Rattle.staat_model.specs.declared.limits.TheConstants.{MOST_PARTS}
 use Rattle.staat_model.specs.declared.set.PartSet.{PartSet}
 use Rattle.staat_model.specs.Sets.{Has}
-use Rattle.staat_pairs.specs.Tables.{IsTableArc, Table, facets_of}
+use Rattle.staat_pairs.specs.Tables.{IsTableArc, Table}
 use Rattle.staat_planes.specs.declared.search.Tried.{Tried}
 use Rattle.staat_planes.specs.declared.search.Tried.TheVariants.{Neither, Ahead, Opposite}
+use Rattle.staat_planes.specs.Holding.{IsHeld, IsHeldOnCircle}
 use Rattle.staat_linear.specs.declared.holders.TheConstants.{KEPT}
 use Rattle.staat_linear.specs.declared.holders.Sight.{Sight}
 use Rattle.staat_linear.specs.declared.holders.Sight.TheVariants.{Free, Held}
 use Rattle.staat_linear.specs.Orders.{LeavesAlong}
-
--- d leads ahead of all facets of the two pieces, so that the first meets the second
-pub record IsArcAhead (t : Table) (d : V3) (arc : Arc) : Type 0 where
-  pub across : IsTableArc t arc
-  pub ahead : All (λ n. pos 0 <ℤ dot n d) (facets_of t arc)
 
 -- the arc leads from a piece of p to a piece of another part of w
 pub record IsOutward (t : Table) (w : PartSet) (p : ℕ) (arc : Arc) : Type 0 where
   pub from : arc.a ≡ p
   pub to : Has w arc.b
   pub across : IsTableArc t arc
-
--- moved along d, the arc's piece of p meets its piece of another part of w
-pub record HoldsPart (t : Table) (w : PartSet) (d : V3) (p : ℕ) (arc : Arc) : Type 0 where
-  pub from : arc.a ≡ p
-  pub to : Has w arc.b
-  pub ahead : IsArcAhead t d arc
-
--- along d some piece of p meets a piece of another part of w
-abbrev pub IsHeld : Table → PartSet → V3 → ℕ → Type 0
-IsHeld t w d p = (arc : Arc) × HoldsPart t w d p arc
 
 -- what is kept for each part of w are arcs from it to other parts of w
 pub record AreOutward (t : Table) (w : PartSet) (arcs : List (Option Arc)) : Type 0 where
@@ -60,6 +46,10 @@ AreHeldBut t w d s = (p : ℕ) → Has w p → (Has s p → ⊥) → IsHeld t w 
 -- each part of w is held along d
 abbrev pub AreHeld : Table → PartSet → V3 → Type 0
 AreHeld t w d = (p : ℕ) → Has w p → IsHeld t w d p
+
+-- each part of w is held along each direction on the plane g
+abbrev pub AreHeldOnCircle : Table → PartSet → V3 → Type 0
+AreHeldOnCircle t w g = (p : ℕ) → Has w p → IsHeldOnCircle t w p g
 
 -- what is seen along a direction; the parts that hold others are held along its opposite
 abbrev pub IsSighted : Table → PartSet → V3 → Sight → Type 0

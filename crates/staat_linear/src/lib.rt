@@ -4,6 +4,7 @@
 mod chosen;
 mod holders;
 pub mod laws;
+mod lone_holders;
 mod order;
 mod step;
 mod text;

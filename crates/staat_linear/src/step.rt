@@ -9,17 +9,19 @@ ghost use Rattle.staat_linear.specs.Holding.{AreHeld, AreOutward, IsLeastFree, I
 ghost use Rattle.staat_linear.specs.Orders.{HasNoLeave, IsLeave, IsLocked};
 
 use crate::holders::{Holders, Sight};
+use crate::lone_holders::LoneHolders;
 use crate::order::Leave;
 use staat_model::PartSet;
 use staat_planes::{PlaneTable, Trial, Tried, first_vertex};
 use staat_vec::{DIRECTION, V3, neg};
 
 // The search for a part that leaves. For each part it keeps what held it along directions before, and what held it
-// along their opposites, since a part is mostly held by one of few.
+// along their opposites, since a part is mostly held by one of few; and what held it by itself on a whole circle.
 #[derive(Drop)]
 struct Taking {
     ahead: Holders,
     back: Holders,
+    alone: LoneHolders,
 }
 
 impl Taking {
@@ -31,6 +33,7 @@ impl Taking {
         requires direction { IsWithin DIRECTION d }
         ensures ahead { AreOutward table.now w self.new.ahead.arcs }
         ensures back { AreOutward table.now w self.new.back.arcs }
+        ensures alone { self.new.alone ≡ self.old.alone }
         ensures seen { IsSeen table.now w d result }
     {
         let holding = match self.ahead.sight(table, w, w, d) {
@@ -46,14 +49,16 @@ impl Taking {
 }
 
 impl Trial for Taking {
-    ghost use Rattle.std.specs.Prelude.{⊤};
+    ghost use Rattle.std.specs.Prelude.{◌≡◌, ⊤, length};
+    ghost use Rattle.staat_model.specs.declared.limits.TheConstants.{MOST_PARTS};
     ghost use Rattle.staat_model.specs.Sets.{Has};
     ghost use Rattle.staat_linear.specs.Holding.{AreOutward, IsLeastLeaving};
     ghost use Rattle.staat_linear.specs.Orders.{LetsLeave};
 
     type Found = u32;
 
-    ghost fits = { λ s t w. AreOutward t w s.ahead.arcs × AreOutward t w s.back.arcs };
+    ghost fits = { λ s t w. AreOutward t w s.ahead.arcs × AreOutward t w s.back.arcs
+        × (length s.alone.parts ≡ MOST_PARTS) };
 
     ghost knows = { λ s parts. ⊤ };
 
@@ -65,6 +70,11 @@ impl Trial for Taking {
 
     fn ask(&mut self, table: &PlaneTable, w: PartSet, d: V3) -> Tried<u32> {
         self.look(table, w, d)
+    }
+
+    // no direction lets a part leave where each is held
+    fn rules_out(&mut self, table: &PlaneTable, w: PartSet, g: V3) -> bool {
+        self.alone.hold_all(table, w, g)
     }
 }
 
@@ -86,6 +96,7 @@ pub fn linear_step(table: &PlaneTable, w: PartSet) -> Option<Leave>
     let mut taking = Taking {
         ahead: Holders::new(),
         back: Holders::new(),
+        alone: LoneHolders::new(),
     };
     match first_vertex(table, w, &mut taking) {
         None => None,

@@ -24,4 +24,4 @@ returns-in-Some-clause-locked c parts made =
     (λ none. absurd cc, λ locked. absurd (leave_unlocks parts c.args.w _ (served_is_leave parts c.args.w some.0 c.in-Some.served some.1 (c.in-Some.ensures.first parts some.0 made tt some.1)) locked))
 
 pub first_vertex-requires-clause-fits : goal.first_vertex-requires-clause-fits
-first_vertex-requires-clause-fits c = (c.new.ensures c.args.table.now c.args.w, c.new-2.ensures c.args.table.now c.args.w)
+first_vertex-requires-clause-fits c = (c.new.ensures c.args.table.now c.args.w, c.new-2.ensures c.args.table.now c.args.w, c.new-3.ensures)
