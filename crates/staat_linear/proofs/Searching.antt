@@ -22,7 +22,7 @@ use Rattle.staat_pairs.specs.Tables.{Table, back, facets_of}
 use Rattle.staat_pairs.proofs.TableLemmas.{back_across, facets_back}
 use Rattle.staat_pairs.proofs.ReversedFacets.{ahead_reversed}
 use Rattle.staat_linear.specs.declared.holders.TheConstants.{KEPT}
-use Rattle.staat_planes.specs.Holding.{HoldsPart, IsArcAhead, IsHeld, IsHeldOnCircle}
+use Rattle.staat_planes.specs.Holding.{HoldsPart, IsArcAhead, IsHeld}
 use Rattle.staat_linear.specs.Holding.{AreHeldBut, AreHeldIn, AreOutward, IsLeastFree, IsOutward}
 use Rattle.staat_linear.specs.Orders.{all_but}
 use Rattle.staat_linear.proofs.Locked.{has-without}
@@ -165,18 +165,3 @@ pub held_others : (t : Table) (w holding rest : PartSet) (d e : V3) → AreHeldI
 held_others t w holding rest d e are is opposite p has out = ⊎_elim {C = IsHeld t w e p} (λ among. subst (λ v. IsHeld t w v p) (sym opposite) (are p among))
     (λ apart. absurd (out (subst (λ (s : PartSet). Has s p) (sym is) ((has-difference w holding p).1 (has, apart)))))
     (member_or holding p)
-
--- ---- circles
-
--- what one part of w holds by itself, w holds
-pub held_alone : (t : Table) (w one : PartSet) (p b : ℕ) (g : V3) → Has w b → one ≡ single b → IsHeldOnCircle t one p g → IsHeldOnCircle t w p g
-held_alone t w one p b g has is held d on some =
-    let h = held d on some in
-    let holds = h.1 in
-    (h.0, record { from = holds.from; to = subst (Has w) (sym ((has-single b h.0.b).0 (subst (λ (s : PartSet). Has s h.0.b) is holds.to))) has; ahead = holds.ahead })
-
-pub circles_more : (t : Table) (w : PartSet) (g : V3) (j : ℕ) → ((p : ℕ) → Has w p → p < j → IsHeldOnCircle t w p g) → (Has w j → IsHeldOnCircle t w j g) → (p : ℕ) → Has w p → p < j + 1 → IsHeldOnCircle t w p g
-circles_more t w g j before here p has lt = ⊎_elim {C = IsHeldOnCircle t w p g} (λ less. before p has less) (λ e. subst (λ k. IsHeldOnCircle t w k g) (sym e) (here (subst (Has w) e has))) (below_or p j lt)
-  where
-    below_or : (m k : ℕ) → m < k + 1 → (m < k) ⊎ (m ≡ k)
-    below_or m k lt = grind arith
