@@ -49,6 +49,11 @@ impl<'a> Trial for Contacts<'a> {
             Tried::Ahead(sink_of(&graph, w))
         }
     }
+
+    // what touches blocks along too little of a circle for that
+    fn rules_out(&mut self, _table: &PlaneTable, _w: PartSet, _g: V3) -> bool {
+        false
+    }
 }
 
 /// The side of the table's set of parts that begins to move: along the first of the vertices of its planes along which

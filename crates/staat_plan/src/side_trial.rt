@@ -5,6 +5,7 @@ ghost use Rattle.staat_model.specs.Sets.{IsNonempty, IsSide};
 ghost use Rattle.staat_pairs.specs.Tables.{Table};
 ghost use Rattle.staat_plan.specs.StrongArcs.{AreStrong};
 
+use crate::hub::{find_hub, is_hub};
 use crate::strong_lists::StrongLists;
 use staat_graph::{sink_of, trees_of};
 use staat_model::PartSet;
@@ -13,10 +14,13 @@ use staat_vec::V3;
 
 /// Looks for the side of a set of parts that moves along a direction.
 ///
-/// It keeps the arcs that showed the last blocking graphs strong. Where those of one still stand, nothing else is computed.
+/// It keeps the arcs that showed the last blocking graphs strong. Where those of one still stand, nothing else is
+/// computed. Where one part holds each other part by itself, as a closed box holds what is in it, no side moves; so it
+/// keeps the part that did so on the circle of the last plane, up to a plane on which none does.
 #[derive(Drop)]
 pub(crate) struct SideTrial {
     strong: StrongLists,
+    hub: Option<u32>,
 }
 
 impl SideTrial {
@@ -26,6 +30,7 @@ impl SideTrial {
     {
         SideTrial {
             strong: StrongLists::none(),
+            hub: Some(0),
         }
     }
 }
@@ -55,6 +60,20 @@ impl Trial for SideTrial {
                 self.strong.keep(table, w, d, &graph, &trees);
                 Tried::Neither
             }
+        }
+    }
+
+    fn rules_out(&mut self, table: &PlaneTable, w: PartSet, g: V3) -> bool {
+        let Some(last) = self.hub else {
+            return false;
+        };
+        if is_hub(table, w, last, g) {
+            return true;
+        }
+        self.hub = find_hub(table, w, g);
+        match self.hub {
+            None => false,
+            Some(_) => true,
         }
     }
 }

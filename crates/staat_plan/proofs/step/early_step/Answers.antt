@@ -28,3 +28,11 @@ returns-in-First c = record {
       step_is parts c.args.w some.0 some.1 c.in-First.served
       (subst (λ vs. IsFirstServed (Serves parts c.args.w) (IsMovedSide parts c.args.w) vs c.in-First.served) (c.of-pairs.ensures.vertices parts some.0 made some.1) (c.in-First.ensures.first parts made tt));
 }
+
+pub returns-then-all_ruled_out : goal.returns-then-all_ruled_out
+returns-then-all_ruled_out c = record {
+  size = tt;
+  step = λ parts made.
+      let some = some_planes parts c.args.w in
+      no_step parts c.args.w some.0 some.1 (c.all_ruled_out.ensures.none c.if-all_ruled_out.true parts some.0 made tt some.1);
+}
