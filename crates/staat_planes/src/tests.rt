@@ -309,3 +309,31 @@ fn refusals_are_told(rt: HostRuntime) -> Result<(), Fail> {
     }
     Ok(())
 }
+
+// on which planes the part 1 is seen to hold the part 0 along each direction
+fn circles_held(alloc: Global, table: &PlaneTable) -> Result<Vec<bool>, OutOfMemory> {
+    let wall = PartSet::single(1);
+    let mut held = Vec::new(alloc);
+    if has_parts(table, 0, 1) && wall.within(table.set()) {
+        for k in 0..table.len() {
+            held.push(table.is_held_on_circle(wall, 0, table.plane(k)))?;
+        }
+    }
+    Ok(held)
+}
+
+#[test]
+fn a_box_holds_a_cube_on_all_circles_unless_it_is_open(rt: HostRuntime) -> Result<(), Fail> {
+    let alloc = rt.alloc();
+    let closed = [RIGHT, LEFT, BEHIND, BEFORE, ABOVE, BELOW];
+    let cases: [(&[(V3, V3)], [bool; 3]); 2] = [
+        (&closed, [true, true, true]),
+        (&[RIGHT, LEFT, BEHIND, BEFORE, BELOW], [false, false, true]),
+    ];
+    for (walls, held) in cases {
+        let parts = vec![in alloc; boxes_of(alloc, &CUBE)?, boxes_of(alloc, walls)?]?;
+        let table = table_of(alloc, &sound(alloc, parts)?, LEAST_PLANES)?;
+        assert_eq!(rt; circles_held(alloc, &table)?.as_slice(), held.as_slice());
+    }
+    Ok(())
+}
