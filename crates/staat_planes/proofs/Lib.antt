@@ -8,3 +8,4 @@ pub mod BuildLemmas
 pub mod UsedPlanes
 pub mod PairSteps
 pub mod SearchSteps
+pub mod SetPlanes
