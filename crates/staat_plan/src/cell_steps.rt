@@ -15,8 +15,8 @@ use staat_planes::{MOST_CELL_PLANES, PlaneTable};
 use staat_vec::OutOfMemory;
 use std::alloc::Global;
 
-/// The step of the set `w` of parts along the representative of the first open cell of its planes, if a side moves along
-/// it.
+/// The step of the set `w` of parts along the representative of the first open cell of its planes, if a side moves
+/// along it.
 ///
 /// `w` is not empty, and lies in the table's set. Its planes are picked from the table, and no other cell is made. It
 /// fails for want of memory alone.

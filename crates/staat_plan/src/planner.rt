@@ -88,8 +88,8 @@ fn vertex_step(
 }
 
 // The step of a set of parts of the table in a robust plan. Most sets that come apart do so in their first open cell,
-// and where no vertex serves a set, no cell does, by the law `tries_decide`. For both the one table is enough. Only where
-// neither decides are all cells made; those of a smaller set are the cells of a table of its own.
+// and where no vertex serves a set, no cell does, by the law `tries_decide`: for both the one table is enough. Only
+// where neither decides are all cells made; those of a smaller set are the cells of a table of its own.
 fn robust_step<F: FacetSource>(
     alloc: Global,
     source: &F,
