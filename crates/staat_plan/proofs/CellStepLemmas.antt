@@ -35,7 +35,8 @@ use Rattle.staat_cells.proofs.SomeCells.{some_cells}
 use Rattle.staat_cells.proofs.TableRules.{holds_axes}
 use Rattle.staat_cells.proofs.WholeLists.{cell_small, representative_in}
 use Rattle.staat_plan.specs.declared.marked.Marked.{Marked}
-use Rattle.staat_plan.specs.CellSteps.{IsFirstOpenStep, IsOpenStep, IsStepAlongFirst, IsStepAmong, IsTableCell, IsTableStep, ServeNot}
+use Rattle.staat_plan.specs.CellSteps.{IsFirstOpenStep, IsOpenStep, IsStepAlongFirst, IsStepAmong, IsTableCell}
+use Rattle.staat_plan.specs.CellSteps.{IsTableStep, ServeNot}
 use Rattle.staat_plan.specs.Planning.{IsSetStep, try_of}
 use Rattle.staat_plan.specs.Searches.{MovesAlong, ServesNot}
 use Rattle.staat_plan.proofs.Tries.{tries_decide_lemma, zero_alone}

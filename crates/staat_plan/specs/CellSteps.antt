@@ -1,5 +1,5 @@
 -- The first step along representatives of cells.
-use Rattle.std.specs.Prelude.{◌≡◌, ◌≢◌, List, [], ◌∷◌, ◌++◌, All, Bool, IfSome, MatchOption}
+use Rattle.std.specs.Prelude.{◌≡◌, ◌≢◌, List, ◌∷◌, ◌++◌, All, Bool, IfSome, MatchOption}
 use Rattle.std.specs.Prelude.{Option}
 use Rattle.std.specs.Prelude.{Some}
 use Rattle.staat_vec.specs.declared.vector.TheConstants.{DIRECTION}
