@@ -1,4 +1,4 @@
-// The first open cell of the planes of a table, made by itself: it is on the negative side of each plane.
+// The first open cell of planes, made by itself: it is on the negative side of each plane.
 ghost use Rattle.std.specs.Prelude.{◌≡◌, ◌≢◌, ◌<◌, ◌≤◌, ◌++◌, [], ◌∷◌};
 ghost use Rattle.std.specs.Prelude.{Contains, List, MatchOption, length};
 ghost use Rattle.staat_vec.specs.declared.vector.V3.{V3 as Vector};
@@ -10,7 +10,6 @@ ghost use Rattle.staat_pairs.specs.Tables.{AreTablePlanes};
 ghost use Rattle.staat_cells.specs.FirstCell.{AreArcEnds, HasNoLow, HasNoLowEdge, IsLastLowEdge, IsLowEdge};
 ghost use Rattle.staat_cells.specs.FirstCell.{first_entry};
 
-use staat_planes::PlaneTable;
 use staat_vec::{DIRECTION, NORMAL, V3, VERTEX, add, cross_normal, dot, primitive};
 
 /// Two directions on a plane between which directions lie.
@@ -139,8 +138,14 @@ fn edge_before(planes: &[V3], end: usize) -> Option<LowEdge>
     None
 }
 
-// the representative of the first open cell of planes
-fn first_of_planes(planes: &[V3]) -> V3
+/// The representative of the first open cell of planes that keep the rules of a table's: the cell on the negative side
+/// of each plane.
+///
+/// Its first edge on the border is on the last plane that has one, since there `Neg` gives way to `Zero` latest, and
+/// its second edge is on the last plane but that. On a plane the two ends of the edge are found at once by narrowing
+/// from plane to plane the directions that are left, and most planes are refused after few others. So it takes no
+/// memory, and time linear in the planes for each plane that is looked at, where all points and edges are cubic.
+pub fn first_open(planes: &[V3]) -> V3
     requires { AreTablePlanes planes.now }
     ensures entry { IsEntry planes.now Open (first_entry planes.now result) }
     ensures size { IsWithin DIRECTION result }
@@ -152,17 +157,4 @@ fn first_of_planes(planes: &[V3]) -> V3
         unreachable!();
     };
     add(first.d, second.d)
-}
-
-/// The representative of the first open cell of the planes of the table: the cell on the negative side of each plane.
-///
-/// Its first edge on the border is on the last plane that has one, since there `Neg` gives way to `Zero` latest, and
-/// its second edge is on the last plane but that. On a plane the two ends of the edge are found at once by narrowing
-/// from plane to plane the directions that are left, and most planes are refused after few others. So it takes no
-/// memory, and time linear in the planes for each plane that is looked at, where all points and edges are cubic.
-pub fn first_open(table: &PlaneTable) -> V3
-    ensures entry { IsEntry table.now.planes Open (first_entry table.now.planes result) }
-    ensures size { IsWithin DIRECTION result }
-{
-    first_of_planes(table.planes())
 }

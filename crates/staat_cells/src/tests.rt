@@ -24,7 +24,7 @@ fn each_cell_has_the_graph_of_its_directions(rt: HostRuntime) -> Result<(), Fail
     let sound = two_cubes(alloc)?;
     let all = PartSet::first(sound.assembly().parts());
     let table = tabulate(alloc, &Plain, &sound, all, 3)?;
-    assert_eq!(rt; first_open(&table), at(-2, -1, -1));
+    assert_eq!(rt; first_open(table.planes()), at(-2, -1, -1));
     let cells = all_cells(alloc, &table)?;
     let graphs = CellGraphs::of(alloc, &table)?;
     assert_eq!(rt; cells.as_slice().len(), 26);

@@ -15,13 +15,16 @@ use Rattle.staat_vec.specs.Lists.{IsFirst}
 use Rattle.staat_vec.specs.Vectors.{IsWithin, origin}
 use Rattle.staat_vec.proofs.Unique.{Contains-front}
 use Rattle.staat_model.specs.declared.assembly.Part.{Part}
+use Rattle.staat_model.specs.declared.set.PartSet.{PartSet}
 use Rattle.staat_model.specs.declared.tree.Kind.{Kind}
 use Rattle.staat_model.specs.declared.tree.Kind.TheVariants.{Edge, Open, Point}
 use Rattle.staat_model.specs.Cells.{AreCells, AreCellsOf, CellEntry, IsEntry, signs_of}
 use Rattle.staat_model.specs.Outcomes.{AreCellTries, HasNoStep, IsStep, Serves, Try, try_cell}
+use Rattle.staat_model.specs.Planes.{ArePlanes}
 use Rattle.staat_model.specs.Plans.{IsStuck}
 use Rattle.staat_model.specs.Sets.{IsSide}
 use Rattle.staat_pairs.specs.Tables.{AreTablePlanes, Table, WasMadeFrom}
+use Rattle.staat_planes.specs.SetPlanes.{ArePlanesIn}
 use Rattle.staat_cells.specs.declared.cell.Cell.{Cell}
 use Rattle.staat_cells.specs.declared.skeleton.Skeleton.{Skeleton}
 use Rattle.staat_cells.specs.Compositions.{composed_at, composed_up_to, entry_of}
@@ -32,23 +35,24 @@ use Rattle.staat_cells.proofs.SomeCells.{some_cells}
 use Rattle.staat_cells.proofs.TableRules.{holds_axes}
 use Rattle.staat_cells.proofs.WholeLists.{cell_small, representative_in}
 use Rattle.staat_plan.specs.declared.marked.Marked.{Marked}
-use Rattle.staat_plan.specs.CellSteps.{IsStepAlongFirst, IsStepAmong, IsTableCell, IsTableStep, ServeNot}
-use Rattle.staat_plan.specs.Planning.{try_of}
+use Rattle.staat_plan.specs.CellSteps.{IsFirstOpenStep, IsOpenStep, IsStepAlongFirst, IsStepAmong, IsTableCell}
+use Rattle.staat_plan.specs.CellSteps.{IsTableStep, ServeNot}
+use Rattle.staat_plan.specs.Planning.{IsSetStep, try_of}
 use Rattle.staat_plan.specs.Searches.{MovesAlong, ServesNot}
 use Rattle.staat_plan.proofs.Tries.{tries_decide_lemma, zero_alone}
 
 -- ---- one cell
 
-pub none_in : (t : Table) (c : CellEntry) → ServesNot t c.d → IsStepAmong t (c ∷ []) None
+pub none_in : (t : Table) (c : CellEntry) → ServesNot t t.of c.d → IsStepAmong t (c ∷ []) None
 none_in t c not = record {
   side = tt;
   size = tt;
-  step = All-cons (λ (x : CellEntry). ServesNot t x.d) c [] not
-      (All-nil (λ (x : CellEntry). ServesNot t x.d));
+  step = All-cons (λ (x : CellEntry). ServesNot t t.of x.d) c [] not
+      (All-nil (λ (x : CellEntry). ServesNot t t.of x.d));
 }
 
 pub step_in : (t : Table) (c : CellEntry) (m : Marked) → IsTableCell t c → IsSide t.of m.step.moved
-    → MovesAlong t c.d m.step.moved
+    → MovesAlong t t.of c.d m.step.moved
     → m.step.d ≡ c.d → m.mark ≡ Some c.kind → IsStepAmong t (c ∷ []) (Some m)
 step_in t c m cell side moves d mark = record {
   side = side;
@@ -59,26 +63,29 @@ step_in t c m cell side moves d mark = record {
     after = [];
     is = refl;
     none = All-nil
-        (λ (x : CellEntry). ServesNot t x.d);
+        (λ (x : CellEntry). ServesNot t t.of x.d);
     moves = moves;
     d_is = d;
     mark_is = mark;
   };
 }
 
+-- the representative of a cell is not zero
+pub cell_some : (planes : List V3) → AreTablePlanes planes → (kind : Kind) (c : CellEntry) → IsEntry planes kind c
+    → c.d ≢ origin
+cell_some planes are kind c e same =
+    let cell = e.cell in
+    cell.nonzero (zero_alone planes (holds_axes planes are) cell.d
+    (ap (signs_of planes) (sym same) ∙ representative_in planes are kind c e ∙ sym cell.is))
+
 -- a cell that is listed holds its representative
 pub cell_in : (t : Table) → AreTablePlanes t.planes → (kind : Kind) (c : CellEntry) → IsEntry t.planes kind c
     → IsTableCell t c
-cell_in t are kind c e = record { signs = signs; some = some; size = cell_small t.planes are kind c e }
-  where
-    signs : signs_of t.planes c.d ≡ c.signs
-    signs = representative_in t.planes are kind c e
-
-    some : c.d ≢ origin
-    some same =
-        let cell = e.cell in
-        cell.nonzero (zero_alone t.planes (holds_axes t.planes are) cell.d
-        (ap (signs_of t.planes) (sym same) ∙ signs ∙ sym cell.is))
+cell_in t are kind c e = record {
+  signs = representative_in t.planes are kind c e;
+  some = cell_some t.planes are kind c e;
+  size = cell_small t.planes are kind c e;
+}
 
 pub cells_in : (t : Table) → AreTablePlanes t.planes → (kind : Kind) (cells : List CellEntry)
     → AreCellsOf t.planes kind cells → All (IsTableCell t) cells
@@ -88,7 +95,7 @@ cells_in t are kind cells of k d lt = cell_in t are kind (get_or cells k d) (of.
 
 module _ (t : Table) (xs ys : List CellEntry) where
   abbrev Not : CellEntry → Type 0
-  Not x = ServesNot t x.d
+  Not x = ServesNot t t.of x.d
 
   along_later : (m : Marked) → ServeNot t xs → IsStepAlongFirst t ys m → IsStepAlongFirst t (xs ++ ys) m
   along_later m none f = record {
@@ -125,7 +132,7 @@ module _ (t : Table) (xs ys : List CellEntry) where
 -- ---- a list, cell by cell
 
 pub none_at_first : (t : Table) (cells : List Cell) → IsStepAmong t (map entry_of (take 0 cells)) None
-none_at_first t cells = record { side = tt; size = tt; step = All-nil (λ (x : CellEntry). ServesNot t x.d) }
+none_at_first t cells = record { side = tt; size = tt; step = All-nil (λ (x : CellEntry). ServesNot t t.of x.d) }
 
 one_later : (cells : List Cell) (k : ℕ) (c : Cell) → k < length cells → c ≡ get_or cells k c
     → map entry_of (take (k + 1) cells) ≡ map entry_of (take k cells) ++ entry_of c ∷ []
@@ -168,7 +175,7 @@ none_at_all t cells k le a = subst (λ l. IsStepAmong t (map entry_of l) None) (
 
 pub no_opens : (t : Table) (s : Skeleton) → IsStepAmong t (opens_before s 0) None
 unfolding composed_up_to
-no_opens t s = record { side = tt; size = tt; step = All-nil (λ (x : CellEntry). ServesNot t x.d) }
+no_opens t s = record { side = tt; size = tt; step = All-nil (λ (x : CellEntry). ServesNot t t.of x.d) }
 
 next_open : (s : Skeleton) (i : ℕ) → opens_before s (i + 1) ≡ opens_before s i ++ opens_at s i
 unfolding composed_up_to
@@ -250,21 +257,28 @@ first_along t parts made (c ∷ before) cell after none serves =
           (λ k d lt. none (suc k) d (omega (arith, lt))) serves,
     )
 
+-- the directions that are tried for w
+cell_tries : (parts : List Part) (w : PartSet) (planes : List V3) → ArePlanes parts w planes
+    → (opens edges points : List CellEntry) → AreCellsOf planes Open opens → AreCellsOf planes Edge edges
+    → AreCellsOf planes Point points
+    → AreCellTries parts w (map try_cell (opens ++ edges ++ points))
+cell_tries parts w planes are opens edges points opens_are edges_are points_are = record {
+  planes = planes;
+  planes_are = are;
+  opens = opens;
+  edges = edges;
+  points = points;
+  opens_are = opens_are;
+  edges_are = edges_are;
+  points_are = points_are;
+  is = refl;
+}
+
 module _ (t : Table) (opens edges points : List CellEntry) (opens_are : AreCellsOf t.planes Open opens)
     (edges_are : AreCellsOf t.planes Edge edges) (points_are : AreCellsOf t.planes Point points) where
   module _ (parts : List Part) (made : WasMadeFrom parts t) where
     tries : AreCellTries parts t.of (map try_cell (opens ++ edges ++ points))
-    tries = record {
-      planes = t.planes;
-      planes_are = made.planes;
-      opens = opens;
-      edges = edges;
-      points = points;
-      opens_are = opens_are;
-      edges_are = edges_are;
-      points_are = points_are;
-      is = refl;
-    }
+    tries = cell_tries parts t.of t.planes made.planes opens edges points opens_are edges_are points_are
 
     step_is : (m : Marked) → IsStepAlongFirst t (opens ++ edges ++ points) m
         → IsStep true parts t.of (try_of m) m.step.moved
@@ -326,35 +340,56 @@ module _ (t : Table) (s : Skeleton) (whole : IsSkeleton t.planes s) where
   point_found found first second a = found_in found
       (none_then t (opens ++ edges) points found (none_then t opens edges None first second) a)
 
--- a set that is stuck has no step in a robust plan
-pub stuck_step : (t : Table) → AreTablePlanes t.planes → length t.planes ≤ 256 → 2 ≤ set.len t.of
-    → ((parts : List Part) → WasMadeFrom parts t → IsStuck parts t.of) → IsTableStep true t None
-stuck_step t are few two stuck =
-    record { side = tt; size = tt; step = λ parts made. none parts made (some_cells t.planes are few) }
-  where
-    none : (parts : List Part) → WasMadeFrom parts t → (cells : List CellEntry) × AreCells t.planes cells
-        → HasNoStep true parts t.of
-    none parts made (cells, all) =
-        let are_tries = tries t all.opens all.edges all.points all.opens_are all.edges_are all.points_are parts made in
-        let list = map try_cell (all.opens ++ all.edges ++ all.points) in
-        record {
-          tries = list;
-          tries_are = are_tries;
-          none =
-              (tries_decide_lemma true parts t.of list made.assembly two are_tries).0 (stuck parts made);
-        }
+-- ---- a set of parts of the table, from the cells of its planes
 
--- ---- the first open cell by itself
-
-pub first_found : (t : Table) (d : V3) (m : Marked) → AreTablePlanes t.planes → length t.planes ≤ 256
-    → IsEntry t.planes Open (first_entry t.planes d) → IsStepAmong t (first_entry t.planes d ∷ []) (Some m)
-    → IsTableStep true t (Some m)
-first_found t d m are few entry a = found (some_cells t.planes are few)
+module _ (t : Table) (w : PartSet) (planes : List V3) (are : ArePlanesIn t w planes) (most : length t.planes ≤ 256)
   where
-    found : (cells : List CellEntry) × AreCells t.planes cells → IsTableStep true t (Some m)
-    found (cells, all) =
-        let (rest, opens) = first_listed t.planes are d entry all.opens all.opens_are in
-        let first = first_entry t.planes d ∷ [] in
-        table_step t (first ++ rest) all.edges all.points opens all.edges_are all.points_are (Some m)
-        (some_then t ((first ++ rest) ++ all.edges) all.points m
-        (some_then t (first ++ rest) all.edges m (some_then t first rest m a)))
+    few : length planes ≤ 256
+    few = let le = are.few in omega (arith, le, most)
+
+    -- a set that is stuck has no step in a robust plan
+    pub stuck_step : 2 ≤ set.len w → ((parts : List Part) → WasMadeFrom parts t → IsStuck parts w)
+        → IsSetStep true t w None
+    stuck_step two stuck =
+        record { size = tt; step = λ parts made. none parts made (some_cells planes are.rules few) }
+      where
+        none : (parts : List Part) → WasMadeFrom parts t → (cells : List CellEntry) × AreCells planes cells
+            → HasNoStep true parts w
+        none parts made (cells, all) =
+            let are_tries = cell_tries parts w planes (are.are parts made) all.opens all.edges all.points all.opens_are
+            all.edges_are all.points_are in
+            let list = map try_cell (all.opens ++ all.edges ++ all.points) in
+            record {
+              tries = list;
+              tries_are = are_tries;
+              none = (tries_decide_lemma true parts w list made.assembly two are_tries).0 (stuck parts made);
+            }
+
+    -- the step into the first open cell is the first of all
+    pub first_step_is : (d : V3) (m : Marked) → IsEntry planes Open (first_entry planes d) → IsOpenStep t w d m
+        → IsSetStep true t w (Some m)
+    first_step_is d m entry step = record {
+      size = subst (IsWithin DIRECTION) (sym step.d_is)
+          (cell_small planes are.rules Open (first_entry planes d) entry);
+      step = λ parts made. found parts made (some_cells planes are.rules few);
+    }
+      where
+        same : try_of m ≡ try_cell (first_entry planes d)
+        same = λ i. record { d = step.d_is i; mark = Rattle.std.specs.Option.option_to_list (step.mark_is i) }
+
+        found : (parts : List Part) → WasMadeFrom parts t → (cells : List CellEntry) × AreCells planes cells
+            → IsStep true parts w (try_of m) m.step.moved
+        found parts made (cells, all) =
+            let (rest, opens_are) = first_listed planes are.rules d entry all.opens all.opens_are in
+            let opens = first_entry planes d ∷ rest in
+            subst (λ (x : Try). IsStep true parts w x m.step.moved) (sym same) (record {
+              tries = map try_cell (opens ++ all.edges ++ all.points);
+              tries_are = cell_tries parts w planes (are.are parts made) opens all.edges all.points opens_are
+                  all.edges_are all.points_are;
+              first = inl (refl, (step.moves parts made).0);
+              moved = (step.moves parts made).1;
+            })
+
+pub first_found : (t : Table) (w : PartSet) (m : Marked) → length t.planes ≤ 256 → IsFirstOpenStep t w (Some m)
+    → IsSetStep true t w (Some m)
+first_found t w m most first = first_step_is t w first.planes first.planes_are most first.d m first.entry first.step

@@ -8,7 +8,7 @@ use Rattle.staat_vec.specs.Lists.{IsFirst}
 use Rattle.staat_model.specs.declared.assembly.Part.{Part}
 use Rattle.staat_model.specs.declared.set.PartSet.{PartSet}
 use Rattle.staat_model.specs.declared.tree.Kind.{Kind}
-use Rattle.std.specs.Prelude.{Bool}
+use Rattle.std.specs.Prelude.{Bool, true}
 use Rattle.std.specs.Option.{option_to_list}
 use Rattle.staat_plan.specs.declared.marked.Marked.{Marked}
 use Rattle.staat_model.specs.declared.tree.Tree.{Tree}
@@ -25,7 +25,7 @@ use Rattle.staat_model.proofs.SetSizes.{one_is, one_within}
 use Rattle.staat_model.proofs.SetWords.{same_members}
 use Rattle.staat_graph.proofs.Finite.{len_fewer, len_some, nonempty_or}
 use Rattle.staat_planes.specs.declared.refusal.PlanesRefusal.{PlanesRefusal}
-use Rattle.staat_planes.specs.Refusals.{IsPlanesRefusal}
+use Rattle.staat_planes.specs.Refusals.{IsPlanesRefusal, IsTableWithin}
 use Rattle.staat_plan.specs.Certifying.{CanBeCertified}
 use Rattle.staat_plan.specs.Planning.{HasFewPlanes, IsOutcomeOf, Settles, IsSetStep, IsSized, IsStepOf, try_of}
 use Rattle.staat_pairs.specs.Tables.{Table, WasMadeFrom}
@@ -93,6 +93,12 @@ step_in_table robust parts t w limit found made within few step = record {
 -- the whole set of the table
 pub whole_step : (robust : Bool) (t : Table) (w : PartSet) (found : Option Marked) → IsSubset w t.of → IsSubset t.of w → IsTableStep robust t found → IsSetStep robust t w found
 whole_step robust t w found within over step = subst (λ (u : PartSet). IsSetStep robust t u found) (same_members t.of w over within) (record { size = step.size; step = step.step })
+
+-- the set of a table of its own
+pub own_step : (parts : List Part) (w : PartSet) (limit : ℕ) (t : Table) (found : Option Marked) → IsTableWithin parts w limit t → IsTableStep true t found → IsStepOf true parts w limit found
+own_step parts w limit t found own step =
+    let same : IsSetStep true t w found = subst (λ (u : PartSet). IsSetStep true t u found) own.table.set (record { size = step.size; step = step.step }) in
+    step_in_table true parts t w limit found own.table.made (λ p h. subst (λ (u : PartSet). Has u p) (sym own.table.set) h) own.few same
 
 -- a part by itself
 pub leaf_found : (robust : Bool) (parts : List Part) (w : PartSet) (limit p : ℕ) (o : Outcome) → set.len w ≡ 1 → Has w p → 3 ≤ limit → finding_of o ≡ planned (leaf p) [] → IsOutcomeOf robust parts w limit o

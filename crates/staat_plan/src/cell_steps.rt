@@ -1,6 +1,6 @@
 // The step of a set of parts in a robust plan.
 ghost use Rattle.std.specs.Prelude.{◌≡◌, ◌≤◌, ◌<◌, [], ◌∷◌, All, IfOk, length, map, true};
-ghost use Rattle.std.specs.FinSet as set;
+ghost use Rattle.staat_model.specs.Sets.{IsNonempty, IsSubset};
 ghost use Rattle.staat_pairs.specs.Tables.{AreTablePlanes};
 ghost use Rattle.staat_cells.specs.CellGraphs.{HasArcsOf};
 ghost use Rattle.staat_cells.specs.Compositions.{entry_of};
@@ -8,32 +8,41 @@ ghost use Rattle.staat_cells.specs.Skeletons.{IsSkeleton, opens_at, opens_before
 ghost use Rattle.staat_plan.specs.CellSteps.{IsFirstOpenStep, IsStepAmong, IsTableCell, IsTableStep};
 
 use crate::marked::Marked;
-use crate::step::part_step;
 use staat_cells::{Cell, CellGraphs, Skeleton, first_open};
 use staat_graph::{is_strong, sink_of};
-use staat_model::{Kind, Step};
+use staat_model::{Kind, PartSet, Step};
 use staat_planes::{MOST_CELL_PLANES, PlaneTable};
 use staat_vec::OutOfMemory;
 use std::alloc::Global;
 
-// the step along the representative of the first open cell, if a side moves along it; no other cell is made
-fn first_open_step(table: &PlaneTable) -> Option<Marked>
-    ensures { IsFirstOpenStep table.now result }
+/// The step of the set `w` of parts along the representative of the first open cell of its planes, if a side moves
+/// along it.
+///
+/// `w` is not empty, and lies in the table's set. Its planes are picked from the table, and no other cell is made. It
+/// fails for want of memory alone.
+pub(crate) fn first_open_step(
+    alloc: Global,
+    table: &PlaneTable,
+    w: PartSet,
+) -> Result<Option<Marked>, OutOfMemory>
+    requires some { IsNonempty w }
+    requires within { IsSubset w table.now.of }
+    ensures { IfOk result (IsFirstOpenStep table.now w) }
 {
-    let w = table.set();
-    let d = first_open(table);
-    let graph = table.graph_at(d);
+    let planes = table.planes_of(alloc, w)?;
+    let d = first_open(planes.as_slice());
+    let graph = table.graph_in(w, d);
     if is_strong(&graph, w) {
-        return None;
+        return Ok(None);
     }
     let step = Step {
         moved: sink_of(&graph, w),
         d,
     };
-    Some(Marked {
+    Ok(Some(Marked {
         step,
         mark: Some(Kind::Open),
-    })
+    }))
 }
 
 // The step along the representative of a cell, if a side moves along it. The graph comes from the cell's signs.
@@ -138,22 +147,14 @@ fn first_step(
 /// The step of the table's set of parts in a robust plan: that along the representative of the first cell that serves,
 /// of the open cells, then the edges, then the points, each kind ascending by signs. None where the set is stuck.
 ///
-/// The table has at most [`MOST_CELL_PLANES`] planes, and its set at least two parts. The first open cell serves most
-/// sets that come apart, and it is made by itself. A set that no vertex serves is stuck, by
-/// [`tries_decide`](crate::laws::tries_decide), and then no other cell is made. Else the points and the edges are made
-/// once, and the open cells one at a time, up to the first that serves.
+/// The table has at most [`MOST_CELL_PLANES`] planes. The points and the edges are made once, and the open cells one at
+/// a time, up to the first that serves.
 pub(crate) fn cell_step(alloc: Global, table: &PlaneTable) -> Result<Option<Marked>, OutOfMemory>
-    requires few { length table.now.planes ≤ MOST_CELL_PLANES }
-    requires two { 2 ≤ set.len table.now.of }
+    requires { length table.now.planes ≤ MOST_CELL_PLANES }
     ensures { IfOk result (IsTableStep true table.now) }
 {
-    let w = table.set();
-    if let Some(found) = first_open_step(table) {
-        return Ok(Some(found));
-    }
-    let Some(_) = part_step(table, w) else {
-        return Ok(None);
-    };
+    // the planes of a table keep its rules
+    let _planes = table.planes();
     let graphs = CellGraphs::of(alloc, table)?;
     let skeleton = Skeleton::of(alloc, table)?;
     first_step(alloc, table, &graphs, &skeleton)

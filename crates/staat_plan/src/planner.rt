@@ -12,9 +12,9 @@ ghost use Rattle.staat_plan.specs.Certifying.{CanBeCertified};
 ghost use Rattle.staat_plan.specs.Planning.{HasFewPlanes, IsOutcomeOf, Settles, IsSetStep, IsSized, IsStepOf};
 ghost use Rattle.staat_plan.specs.RingSets.{IsReadyFor};
 
-use crate::cell_steps::cell_step;
+use crate::cell_steps::{cell_step, first_open_step};
 use crate::marked::Marked;
-use crate::step::early_step;
+use crate::step::{early_step, step_of};
 use crate::walker::Walker;
 use staat_cone::FacetSource;
 use staat_model::{Kind, Marks, Outcome, PartSet, Sound, Step, Tree};
@@ -88,8 +88,9 @@ fn vertex_step(
     }
 }
 
-// The step of a set of parts of the table in a robust plan. The cells of a smaller set are those of a table of its
-// own.
+// The step of a set of parts of the table in a robust plan. Most sets that come apart do so in their first open cell,
+// and where no vertex serves a set, no cell does, by the law `tries_decide`: for both the one table is enough. Only
+// where neither decides are all cells made; those of a smaller set are the cells of a table of its own.
 fn robust_step<F: FacetSource>(
     alloc: Global,
     source: &F,
@@ -107,6 +108,12 @@ fn robust_step<F: FacetSource>(
     requires most { limit ≤ MOST_CELL_PLANES }
     ensures { MatchResult result (IsStepOf true sound.now w limit) (IsPlanesRefusal sound.now w limit) }
 {
+    if let Some(found) = first_open_step(alloc, table, w)? {
+        return Ok(Some(found));
+    }
+    let Some(_) = step_of(table, w) else {
+        return Ok(None);
+    };
     if table.set().within(w) {
         return Ok(cell_step(alloc, table)?);
     }
@@ -259,8 +266,9 @@ fn outcome_of<F: FacetSource>(
 /// its mark is the kind of the cell. The moved side is planned first, then the rest, and the first set that is
 /// stuck is the outcome. The marks of a plan stand in preorder; a plan that is not robust has none.
 ///
-/// One table is made for all parts, and in a robust plan one more for each smaller set. Where the first vertices of
-/// a set do not decide, its vertices are gone through by a walk along rings, which are made once.
+/// One table is made for all parts, and in a robust plan one more for each smaller set that comes apart, but not in its
+/// first open cell. Where the first vertices of a set do not decide in a plan that is not robust, its vertices are gone
+/// through by a walk along rings, which are made once.
 ///
 /// There are at most `planes` planes, from 3 to [`MOST_PLANES`], and to [`MOST_CELL_PLANES`] in a robust plan;
 /// [`TooManyPlanes`](PlanesRefusal::TooManyPlanes) comes exactly where all parts together have more, with their

@@ -11,3 +11,4 @@ pub mod SearchSteps
 pub mod HolderSearch
 pub mod Circling
 pub mod CircleSteps
+pub mod SetPlanes

@@ -132,6 +132,7 @@ none_marked (suc n) (suc k) = none_marked n k
 
 pub used_marked : (t : Table) (w : PartSet) (marks final : List Bool) → IsSubset w t.of → AddsMarks t.planes (λ n. HasPlane t w n) (replicate 1024 false) marks → ((k : ℕ) → k < 3 → IsPlaneMarked final k) → ((k : ℕ) → 3 ≤ k → get_or final k false ≡ get_or marks k false) → AreUsedMarks t w final
 used_marked t w marks final within adds axes same = record {
+  axes = axes;
   each = λ parts k n made at. ⊎_elim {C = IsPlaneMarked final k ↔ IsPlaneOf parts w n}
       (λ lt. axis_used parts t w k n (get_or final k false) made at lt (axes k lt))
       (λ le. other_used parts t w k n (get_or final k false) made within at le (
@@ -143,6 +144,7 @@ used_marked t w marks final within adds axes same = record {
 
 pub all_marked : (t : Table) (w : PartSet) → IsSubset w t.of → IsSubset t.of w → length t.planes ≤ 1024 → AreUsedMarks t w (replicate 1024 true)
 all_marked t w within over most = record {
+  axes = λ k lt. get_or-replicate 1024 k true false (omega (arith, lt));
   each = λ parts k n made at. whole_used parts t w k n (get_or (replicate 1024 true) k false) made within over at
       (get_or-replicate 1024 k true false (let lt = place_within t.planes k n at in omega (arith, lt, most)));
 }

@@ -62,7 +62,7 @@ places_rise (k ∷ ks) (suc i) (suc j) s lt small = places_rise ks i j (tail_sor
 
 -- ---- a sorted list by its places
 
-sorted_places : (xs : List V3) (i j : ℕ) → IsStrictlySortedBy vector_cmp xs → i < j → j < length xs → vector_cmp (get_or xs i origin) (get_or xs j origin) ≡ Less
+pub sorted_places : (xs : List V3) (i j : ℕ) → IsStrictlySortedBy vector_cmp xs → i < j → j < length xs → vector_cmp (get_or xs i origin) (get_or xs j origin) ≡ Less
 unfolding IsStrictlySortedBy
 sorted_places [] i j s lt small = absurd (omega arith)
 sorted_places (x ∷ xs) zero zero s lt small = absurd (omega arith)
@@ -70,7 +70,7 @@ sorted_places (x ∷ xs) zero (suc j) s lt small = All-contains (λ z. vector_cm
 sorted_places (x ∷ xs) (suc i) zero s lt small = absurd (omega arith)
 sorted_places (x ∷ xs) (suc i) (suc j) s lt small = sorted_places xs i j s.1 (omega arith) (omega arith)
 
-picked_sorted : (f : ℕ → V3) (ks : List ℕ) → IsStrictlySortedBy nat_cmp ks → ((i j : ℕ) → Contains ks i → Contains ks j → i < j → vector_cmp (f i) (f j) ≡ Less) → IsStrictlySortedBy vector_cmp (map f ks)
+pub picked_sorted : (f : ℕ → V3) (ks : List ℕ) → IsStrictlySortedBy nat_cmp ks → ((i j : ℕ) → Contains ks i → Contains ks j → i < j → vector_cmp (f i) (f j) ≡ Less) → IsStrictlySortedBy vector_cmp (map f ks)
 unfolding IsStrictlySortedBy
 picked_sorted f [] s h = tt
 picked_sorted f (k ∷ ks) s h = (
@@ -79,7 +79,7 @@ picked_sorted f (k ∷ ks) s h = (
 )
 
 -- an ascending list of numbers from n on that has n begins with it
-begins : (n : ℕ) (ks : List ℕ) → IsStrictlySortedBy nat_cmp ks → ((k : ℕ) → Contains ks k → n ≤ k) → Contains ks n → (rest : List ℕ) × (ks ≡ n ∷ rest) × IsStrictlySortedBy nat_cmp rest × ((k : ℕ) → Contains rest k → n + 1 ≤ k) × ((k : ℕ) → Contains ks k → n < k → Contains rest k)
+pub begins : (n : ℕ) (ks : List ℕ) → IsStrictlySortedBy nat_cmp ks → ((k : ℕ) → Contains ks k → n ≤ k) → Contains ks n → (rest : List ℕ) × (ks ≡ n ∷ rest) × IsStrictlySortedBy nat_cmp rest × ((k : ℕ) → Contains rest k → n + 1 ≤ k) × ((k : ℕ) → Contains ks k → n < k → Contains rest k)
 begins n [] s low c = absurd (Contains-nothing n c)
 begins n (k ∷ ks) s low c =
     let e : n ≡ k = ⊎_elim {C = n ≡ k} (λ e. e) (λ later. absurd (let a = head_less k ks n s later in let b = low k (Contains-front k ks) in omega (arith, a, b))) (Contains-cases k ks n c) in

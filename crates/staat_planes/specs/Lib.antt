@@ -3,3 +3,4 @@ pub mod Refusals
 pub mod VertexSearch
 pub mod Marks
 pub mod Holding
+pub mod SetPlanes

@@ -10,6 +10,7 @@ mod marks;
 mod pairs;
 mod refusal;
 mod search;
+mod set_planes;
 mod steps;
 mod table;
 mod used;

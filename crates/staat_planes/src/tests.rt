@@ -298,6 +298,31 @@ fn planes_of_fewer_parts(rt: HostRuntime) -> Result<(), Fail> {
     Ok(())
 }
 
+// the planes of the parts of a word
+fn planes_of(alloc: Global, table: &PlaneTable, word: u32) -> Result<Vec<V3>, OutOfMemory> {
+    let parts = PartSet::from_bits(word);
+    if parts.within(table.set()) {
+        table.planes_of(alloc, parts)
+    } else {
+        Ok(Vec::new(alloc))
+    }
+}
+
+#[test]
+fn planes_are_picked(rt: HostRuntime) -> Result<(), Fail> {
+    let alloc = rt.alloc();
+    let parts = box_with_lid(alloc)?;
+    let table = table_of(alloc, &parts, 7)?;
+    let axes = [at(1, 0, 0), at(0, 1, 0), at(0, 0, 1)];
+    assert_eq!(rt;
+        planes_of(alloc, &table, 0b011)?.as_slice(),
+        axes.as_slice()
+    );
+    assert_eq!(rt; planes_of(alloc, &table, 0b110)?.as_slice(), table.planes());
+    assert_eq!(rt; planes_of(alloc, &table, 0b111)?.as_slice(), table.planes());
+    Ok(())
+}
+
 #[test]
 fn refusals_are_told(rt: HostRuntime) -> Result<(), Fail> {
     let table = [

@@ -1,41 +1,50 @@
-use Rattle.std.proofs.Common.{refl, sym, true≢false}
-use Rattle.std.specs.Prelude.{Some}
+use Rattle.std.proofs.Common.{refl, subst, sym, true≢false}
 use Rattle.staat_model.specs.declared.tree.Kind.TheVariants.{Open}
+use Rattle.staat_graph.specs.Graphs.{HasArc, IsStrong}
+use Rattle.staat_planes.specs.SetPlanes.{ArePlanesIn}
 use Rattle.staat_cells.specs.FirstCell.{first_entry}
-use Rattle.staat_plan.proofs.CellStepLemmas.{cell_in, none_in, step_in}
-use Rattle.staat_plan.proofs.StepLemmas.{moves_along, serves_not, sink_side}
+use Rattle.staat_plan.proofs.CellStepLemmas.{cell_some}
+use Rattle.staat_plan.proofs.StepLemmas.{moves_along, serves_not}
 use Rattle.staat_plan.proofs.cell_steps.first_open_step.Goals as goal
 
 pub returns-then-is_strong : goal.returns-then-is_strong
 returns-then-is_strong c =
     let t = c.args.table.now in
+    let planes = c.as_slice.result.now in
     let d = c.first_open-d.result in
-    let entry = first_entry t.planes d in
-    let cell = cell_in t c.set-w.ensures.rules.planes Open entry c.first_open-d.ensures.entry in
+    let entry = c.first_open-d.ensures.entry in
+    let are : ArePlanesIn t c.args.w planes =
+    subst (ArePlanesIn t c.args.w) (sym c.as_slice.ensures.value) c.in_ok-planes.ensures in
     record {
+      planes = planes;
+      planes_are = are;
       d = d;
-      entry = c.first_open-d.ensures.entry;
-      step = none_in t entry
-          (serves_not t d c.set-w.result c.graph_at-graph.result.rows c.set-w.ensures.is cell.some
-          c.graph_at-graph.ensures.shows (c.if-is_strong.ensures.0 refl));
+      entry = entry;
+      step = serves_not t c.args.w d c.graph_in-graph.result.rows
+          (cell_some planes are.rules Open (first_entry planes d) entry) c.graph_in-graph.ensures.shows
+          (c.if-is_strong.ensures.0 refl);
     }
 
 pub returns : goal.returns
 returns c =
     let t = c.args.table.now in
+    let planes = c.as_slice.result.now in
     let d = c.first_open-d.result in
-    let entry = first_entry t.planes d in
-    let rows = c.graph_at-graph.result.rows in
-    let cell = cell_in t c.set-w.ensures.rules.planes Open entry c.first_open-d.ensures.entry in
+    let rows = c.graph_in-graph.result.rows in
+    let entry = c.first_open-d.ensures.entry in
+    let are : ArePlanesIn t c.args.w planes =
+    subst (ArePlanesIn t c.args.w) (sym c.as_slice.ensures.value) c.in_ok-planes.ensures in
+    let weak : IsStrong (HasArc rows) c.args.w → ⊥ = λ strong. true≢false (sym (c.if-is_strong.ensures.1 strong)) in
     record {
+      planes = planes;
+      planes_are = are;
       d = d;
-      entry = c.first_open-d.ensures.entry;
-      step = step_in t entry
-          (record { step = record { moved = c.sink_of.result; d = d }; mark = Some Open }) cell
-          (sink_side rows c.set-w.result t.of c.sink_of.result c.set-w.ensures.is
-          (λ strong. true≢false (sym (c.if-is_strong.ensures.1 strong))) c.sink_of.ensures)
-          (moves_along t d c.set-w.result c.sink_of.result rows c.set-w.ensures.is cell.some
-          c.graph_at-graph.ensures.shows
-          (λ strong. true≢false (sym (c.if-is_strong.ensures.1 strong))) c.sink_of.ensures)
-          refl refl;
+      entry = entry;
+      step = record {
+        moves = moves_along t c.args.w d c.sink_of.result rows
+            (cell_some planes are.rules Open (first_entry planes d) entry) c.graph_in-graph.ensures.shows weak
+            c.sink_of.ensures;
+        d_is = refl;
+        mark_is = refl;
+      };
     }

@@ -1,21 +1,53 @@
-use Rattle.std.proofs.Common.{◌≤◌, arith, sym, subst}
+use Rattle.std.proofs.Common.{◌≤◌, arith, length, sym, subst}
+use Rattle.std.specs.Prelude.{None, Some}
 use Rattle.std.specs.FinSet as set
 use Rattle.staat_model.specs.declared.set.PartSet.{PartSet}
 use Rattle.staat_model.specs.Sets.{Has, IsSubset}
-use Rattle.staat_model.proofs.SetWords.{same_members}
-use Rattle.staat_plan.proofs.OutcomeLemmas.{some_member, step_in_table, whole_step}
+use Rattle.staat_plan.specs.CellSteps.{IsFirstOpenStep}
+use Rattle.staat_plan.proofs.CellStepLemmas.{first_found, stuck_step}
+use Rattle.staat_plan.proofs.OutcomeLemmas.{own_step, some_member, step_in_table, whole_step}
 use Rattle.staat_plan.proofs.planner.robust_step.Goals as goal
 
-pub tabulate-requires-clause-some : goal.tabulate-requires-clause-some
-tabulate-requires-clause-some g c = let two : 2 ≤ set.len c.args.w = c.requires.two in some_member c.args.w (omega (arith, two))
+pub first_open_step-requires-clause-some : goal.first_open_step-requires-clause-some
+first_open_step-requires-clause-some g c =
+    let two : 2 ≤ set.len c.args.w = c.requires.two in some_member c.args.w (omega (arith, two))
 
-pub cell_step-requires-clause-two : goal.cell_step-requires-clause-two
-cell_step-requires-clause-two g c =
-    let over : IsSubset c.args.table.now.of c.args.w = λ p h. c.within.ensures.0 c.if-within.true p (subst (λ (s : PartSet). Has s p) (sym c.set.ensures.is) h) in
-    subst (λ (s : PartSet). 2 ≤ set.len s) (same_members c.args.w c.args.table.now.of c.requires.within over) c.requires.two
+pub returns-in-Some : goal.returns-in-Some
+returns-in-Some g c =
+    let t = c.args.table.now in
+    let few = c.requires.few in
+    let limit = c.requires.most in
+    let most : length t.planes ≤ 256 = omega (arith, few, limit) in
+    step_in_table _ c.args.sound.now t c.args.w c.args.limit (Some c.in-Some.found) c.requires.made
+    c.requires.within c.requires.few
+    (first_found t c.args.w c.in-Some.found most
+    (subst (IsFirstOpenStep t c.args.w) c.in-Some.is c.in_ok-found.ensures))
+
+pub returns-in_default-step_of : goal.returns-in_default-step_of
+returns-in_default-step_of g c =
+    let t = c.args.table.now in
+    let few = c.requires.few in
+    let limit = c.requires.most in
+    let most : length t.planes ≤ 256 = omega (arith, few, limit) in
+    let first : IsFirstOpenStep t c.args.w c.in_ok-found.field-0 = c.in_ok-found.ensures in
+    step_in_table _ c.args.sound.now t c.args.w c.args.limit None c.requires.made c.requires.within c.requires.few
+    (stuck_step t c.args.w first.planes first.planes_are most c.requires.two
+    (λ parts made. (c.step_of.ensures.stuck parts made).0 c.in_default-step_of.is))
+
+pub tabulate-requires-clause-some : goal.tabulate-requires-clause-some
+tabulate-requires-clause-some g c =
+    let two : 2 ≤ set.len c.args.w = c.requires.two in some_member c.args.w (omega (arith, two))
 
 pub returns-then-within : goal.returns-then-within
 returns-then-within g c =
-    let over : IsSubset c.args.table.now.of c.args.w = λ p h. c.within.ensures.0 c.if-within.true p (subst (λ (s : PartSet). Has s p) (sym c.set.ensures.is) h) in
-    step_in_table _ c.args.sound.now c.args.table.now c.args.w c.args.limit c.in_ok-cell_step.field-0 c.requires.made c.requires.within c.requires.few
-    (whole_step _ c.args.table.now c.args.w c.in_ok-cell_step.field-0 c.requires.within over c.in_ok-cell_step.ensures)
+    let t = c.args.table.now in
+    let over : IsSubset t.of c.args.w = λ p h.
+    c.within.ensures.0 c.if-within.true p (subst (λ (s : PartSet). Has s p) (sym c.set.ensures.is) h) in
+    step_in_table _ c.args.sound.now t c.args.w c.args.limit c.in_ok-cell_step.field-0 c.requires.made
+    c.requires.within c.requires.few
+    (whole_step _ t c.args.w c.in_ok-cell_step.field-0 c.requires.within over c.in_ok-cell_step.ensures)
+
+pub returns : goal.returns
+returns g c =
+    own_step c.args.sound.now c.args.w c.args.limit c.in_ok-own.own c.in_ok-cell_step-2.field-0 c.in_ok-own.ensures
+    c.in_ok-cell_step-2.ensures

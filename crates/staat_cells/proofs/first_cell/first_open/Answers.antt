@@ -1,5 +1,5 @@
 use Rattle.staat_cells.proofs.LeastCell.{first_cell, some_first, some_second}
-use Rattle.staat_cells.proofs.first_cell.first_of_planes.Goals as goal
+use Rattle.staat_cells.proofs.first_cell.first_open.Goals as goal
 
 pub unreachable-requires : goal.unreachable-requires
 unreachable-requires c = some_first c.args.planes.now c.requires c.in_default.ensures
