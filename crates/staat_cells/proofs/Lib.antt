@@ -30,6 +30,7 @@ pub mod ConeTests
 pub mod BlockCones
 pub mod FacetPlanes
 pub mod PartArcs
+pub mod JoinedTests
 pub mod GraphRows
 pub mod MachineWords
 pub mod Narrowing

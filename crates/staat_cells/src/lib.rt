@@ -11,6 +11,7 @@ mod first_cell;
 mod graphs;
 mod half_spaces;
 mod incidence;
+mod joined;
 pub mod laws;
 mod narrow;
 mod open_incidences;

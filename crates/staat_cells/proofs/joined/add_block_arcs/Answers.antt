@@ -1,13 +1,10 @@
-use Rattle.std.proofs.Common.{◌≡◌, All, List, arith, get_or, length, subst, sym}
+use Rattle.std.proofs.Common.{◌≡◌, All, arith, get_or, length, subst, sym}
 use Rattle.std.proofs.lemmas.List.{get_or_default}
 use Rattle.std.proofs.lemmas.List.Elements.{All-get_or}
 use Rattle.staat_cells.specs.declared.blocks.ArcCones.{ArcCones}
-use Rattle.staat_cells.specs.declared.blocks.PlaneTest.{PlaneTest}
-use Rattle.staat_cells.specs.Blocks.{HasParts, PassesAll}
-use Rattle.std.proofs.Common.{◌↔◌, ℕ}
-use Rattle.std.specs.Int.{bit_at}
+use Rattle.staat_cells.specs.Blocks.{HasParts}
 use Rattle.staat_cells.proofs.GraphRows.{block_arcs, left_more, none_left}
-use Rattle.staat_cells.proofs.blocks.add_block_arcs.Goals as goal
+use Rattle.staat_cells.proofs.joined.add_block_arcs.Goals as goal
 
 pub loop-arc-init : goal.loop-arc-init
 loop-arc-init c = none_left c.ruled_out-outside.result c.args.rows.now
