@@ -19,6 +19,7 @@ pub mod SignOrder
 pub mod Composing
 pub mod Words
 pub mod IncidenceOrder
+pub mod Mirrors
 pub mod OpenIncidences
 pub mod VertexSigns
 pub mod EdgeIncidences

@@ -15,6 +15,7 @@ mod joined;
 pub mod laws;
 mod narrow;
 mod open_incidences;
+mod order;
 mod part_arcs;
 mod points;
 mod signs;

@@ -11,7 +11,7 @@ edge_incidences-requires-clause-points c = vertex_points c.args.planes.now c.req
 
 pub composed_cells-requires-clause-pairs : goal.composed_cells-requires-clause-pairs
 composed_cells-requires-clause-pairs c =
-    edge_pairs c.args.planes.now c.requires.planes c.requires.few c.args.points.now c.requires.points c.in_ok-edge_incidences.field-0.items c.in_order-incidences.result.items c.deref.result.now c.deref.ensures.value c.in_ok-edge_incidences.ensures c.in_order-incidences.ensures
+    edge_pairs c.args.planes.now c.requires.planes c.requires.few c.args.points.now c.requires.points c.in_ok-edge_incidences.field-0.items c.in_ok-incidences.incidences.items c.deref.result.now c.deref.ensures.value c.in_ok-edge_incidences.ensures c.in_ok-incidences.ensures
 
 pub composed_cells-requires-clause-size : goal.composed_cells-requires-clause-size
 composed_cells-requires-clause-size c = points_small c.args.planes.now c.requires.planes c.args.points.now c.requires.points
@@ -21,5 +21,5 @@ composed_cells-requires-clause-signs c = equal_lengths c.args.planes.now c.requi
 
 pub returns : goal.returns
 returns c =
-    edges_listed c.args.planes.now c.requires.planes c.requires.few c.args.points.now c.requires.points c.in_ok-edge_incidences.field-0.items c.in_order-incidences.result.items c.deref.result.now c.deref.ensures.value c.in_ok-edge_incidences.ensures c.in_order-incidences.ensures
+    edges_listed c.args.planes.now c.requires.planes c.requires.few c.args.points.now c.requires.points c.in_ok-edge_incidences.field-0.items c.in_ok-incidences.incidences.items c.deref.result.now c.deref.ensures.value c.in_ok-edge_incidences.ensures c.in_ok-incidences.ensures
     c.in_ok-edges.edges.items c.in_ok-edges.ensures
