@@ -8,6 +8,7 @@ pub mod WholeLists
 pub mod OneCell
 pub mod SomeCells
 pub mod PointCells
+pub mod OppositePoints
 pub mod Numbered
 pub mod TableRules
 pub mod PushingIncidences
