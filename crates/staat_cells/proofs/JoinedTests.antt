@@ -1,4 +1,5 @@
 -- Tests of a block that are joined by threes.
+use Rattle.std.proofs.Common.{All}
 use Rattle.std.proofs.Common.{◌≡◌, ◌⊎◌, ◌↔◌, inl, inr, ⊎_elim, ℕ, ◌+◌, ◌*◌, ◌/◌, ◌%◌, ◌<◌, ◌≤◌, max, sym, ap, subst, ◌∙◌, arith, below_more}
 use Rattle.std.proofs.Common.{List, ◌∷◌, [], ◌++◌, length, get_or, take}
 use Rattle.std.specs.Prelude.{bit_or, slice_index, slice_set}
@@ -15,7 +16,7 @@ use Rattle.staat_cells.specs.declared.joined.JoinedBlock.{JoinedBlock}
 use Rattle.staat_cells.specs.declared.joined.JoinedTest.{JoinedTest}
 use Rattle.staat_cells.specs.HalfSpaces.{sign_at}
 use Rattle.staat_cells.specs.CellGraphs.{HasArcsOf, IsArcAt, IsListedArc, ListsArcsOf}
-use Rattle.staat_cells.specs.Blocks.{HasCone, IsBlockArc, IsJoinedArc}
+use Rattle.staat_cells.specs.Blocks.{HasCone, HasPlanesUpTo, IsBlockArc, IsJoinedArc}
 use Rattle.staat_cells.specs.Blocks.{IsJoinedPassed, IsPassed, PassesAll, PassesJoined, joined_place, joined_word, no_test}
 use Rattle.staat_cells.proofs.Elements.{all_more, all_pushed, any_more, any_pushed}
 
@@ -159,6 +160,22 @@ pub all_out : (signs : List Sign) (tests : List JoinedTest) (k found : ℕ) → 
     → (j : ℕ) → (bit_at found j ≡ 0) ↔ PassesJoined signs tests j
 all_out signs tests k found le =
     subst (λ l. (j : ℕ) → (bit_at found j ≡ 0) ↔ PassesJoined signs l j) (take_all k tests le)
+
+pub more_planes : (tests : List JoinedTest) (k last new : ℕ) (x : JoinedTest) → k < length tests → x ≡ get_or tests k x
+    → All (HasPlanesUpTo last) (take k tests) → last ≤ new → HasPlanesUpTo new x → All (HasPlanesUpTo new) (take (k + 1) tests)
+more_planes tests k last new x lt at before le own =
+    (all_more (HasPlanesUpTo new) tests k x lt at).1 (λ i d l. wider (before i d l), own)
+  where
+    wider : {t : JoinedTest} → HasPlanesUpTo last t → HasPlanesUpTo new t
+    wider h =
+        let a = h.first in
+        let b = h.second in
+        let c = h.third in
+        record { first = omega (arith, a, le); second = omega (arith, b, le); third = omega (arith, c, le) }
+
+pub all_planes : (tests : List JoinedTest) (k last : ℕ) → length tests ≤ k → All (HasPlanesUpTo last) (take k tests)
+    → All (HasPlanesUpTo last) tests
+all_planes tests k last le = subst (All (HasPlanesUpTo last)) (take_all k tests le)
 
 -- ---- blocks
 

@@ -42,7 +42,7 @@ pub opposite_is : (planes vertices : List V3) (cells : List Cell) (k m : ℕ) (p
 opposite_is planes vertices cells k m point u v le long lt are is u_is same =
     let at = point_at planes vertices cells k m point le long lt are is in
     let signs : map flipped point.signs ≡ signs_of planes v = ap (λ (e : CellEntry). map flipped e.signs) at
-        ∙ sym (signs_flipped planes (get_or vertices m origin)) ∙ ap (signs_of planes) (sym u_is ∙ same) in
+    ∙ sym (signs_flipped planes (get_or vertices m origin)) ∙ ap (signs_of planes) (sym u_is ∙ same) in
     λ i. record { kind = Point; d = v; signs = signs i }
 
 pub points_more : (planes vertices : List V3) (k : ℕ) (old new : List Cell) (cell : Cell) → k < length vertices

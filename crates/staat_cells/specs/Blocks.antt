@@ -93,8 +93,16 @@ pub record HasParts (arc : ArcCones) : Type 0 where
   pub a_is : arc.a < MOST_PARTS
   pub b_is : arc.b < MOST_PARTS
 
-abbrev pub HasJoinedParts : JoinedBlock → Type 0
-HasJoinedParts block = All HasParts block.arcs.items
+-- the planes of the test have numbers of at most last
+pub record HasPlanesUpTo (last : ℕ) (test : JoinedTest) : Type 0 where
+  pub first : test.first ≤ last
+  pub second : test.second ≤ last
+  pub third : test.third ≤ last
+
+-- no test has a plane behind the last, and there can be the parts
+pub record IsJoinedBlock (block : JoinedBlock) : Type 0 where
+  pub planes : All (HasPlanesUpTo block.last) block.tests.items
+  pub parts : All HasParts block.arcs.items
 
 -- the tests rule out what is not in a cone
 pub record IsBlock (block : Block) : Type 0 where

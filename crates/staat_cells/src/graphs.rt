@@ -24,13 +24,13 @@ pub struct CellGraphs {
 impl Model for CellGraphs {
     ghost use Rattle.std.specs.Prelude.{All, List};
     ghost use Rattle.staat_cells.specs.declared.joined.JoinedBlock.{JoinedBlock};
-    ghost use Rattle.staat_cells.specs.Blocks.{HasJoinedParts};
+    ghost use Rattle.staat_cells.specs.Blocks.{IsJoinedBlock};
 
     ghost Value = { List JoinedBlock };
 
     ghost view = { λ g. g.blocks.items };
 
-    ghost invariant = { λ g. All HasJoinedParts g.blocks.items };
+    ghost invariant = { λ g. All IsJoinedBlock g.blocks.items };
 }
 
 impl CellGraphs {

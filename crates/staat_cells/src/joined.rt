@@ -1,11 +1,12 @@
 // Blocks as they are tested at the signs of a cell: their tests are joined by threes, so that three signs choose a word
 // at once.
-ghost use Rattle.std.specs.Prelude.{◌≡◌, ◌≢◌, ◌⊎◌, ◌↔◌, ◌+◌, ◌*◌, ◌<◌, ℕ, List, All, Any, IfOk, length};
+ghost use Rattle.std.specs.Prelude.{◌≡◌, ◌≢◌, ◌⊎◌, ◌↔◌, ◌+◌, ◌*◌, ◌<◌, ◌≤◌, ℕ, List, All, Any, IfOk, length};
 ghost use Rattle.std.specs.Prelude.{slice_index, slice_index_or};
 ghost use Rattle.std.specs.Int.{bit_at};
 ghost use Rattle.staat_vec.specs.declared.vector.Sign.{Sign as SignValue};
 ghost use Rattle.staat_graph.specs.Graphs.{HasArc};
-ghost use Rattle.staat_cells.specs.Blocks.{HasJoinedParts, HasParts, IsBlock, IsBlockArc, IsLeft, PassesAll, no_test};
+ghost use Rattle.staat_cells.specs.Blocks.{HasParts, HasPlanesUpTo, IsBlock, IsBlockArc, IsLeft, PassesAll, no_test};
+ghost use Rattle.staat_cells.specs.Blocks.{IsJoinedBlock};
 ghost use Rattle.staat_cells.specs.Blocks.{IsJoinedArc, IsJoinedPassed, IsPassed, PassesJoined, joined_place, joined_word};
 ghost use Rattle.staat_cells.specs.CellGraphs.{IsArcAt, IsListedArc};
 ghost use Rattle.staat_cells.specs.HalfSpaces.{sign_at};
@@ -26,10 +27,11 @@ pub struct JoinedTest {
     pub(crate) outside: [u128; 27],
 }
 
-/// What planes rule out of the cones of a block, and the parts that these belong to.
+/// What planes rule out of the cones of a block, the last of these planes, and the parts that the cones belong to.
 #[derive(Drop)]
 pub struct JoinedBlock {
     pub(crate) tests: Vec<JoinedTest>,
+    pub(crate) last: usize,
     pub(crate) arcs: Vec<ArcCones>,
 }
 
@@ -89,6 +91,24 @@ fn joined_tests(alloc: Global, tests: &[PlaneTest]) -> Result<Vec<JoinedTest>, O
     Ok(found)
 }
 
+fn greater(x: usize, y: usize) -> usize
+    ensures first { x ≤ result }
+    ensures second { y ≤ result }
+{
+    if x < y { y } else { x }
+}
+
+// the greatest number of a plane of the tests
+fn last_plane(tests: &[JoinedTest]) -> usize
+    ensures { All (HasPlanesUpTo result) tests.now }
+{
+    let mut last = 0;
+    for test in tests {
+        last = greater(greater(last, test.first), greater(test.second, test.third));
+    }
+    last
+}
+
 // parts with their cones once more
 fn copied_arcs(alloc: Global, arcs: &[ArcCones]) -> Result<Vec<ArcCones>, OutOfMemory>
     ensures { IfOk result (λ same. same.items ≡ arcs.now) }
@@ -99,14 +119,14 @@ fn copied_arcs(alloc: Global, arcs: &[ArcCones]) -> Result<Vec<ArcCones>, OutOfM
 // a block with joined tests
 fn joined_block(alloc: Global, block: &Block) -> Result<JoinedBlock, OutOfMemory>
     requires { All HasParts block.now.arcs.items }
-    ensures parts { IfOk result HasJoinedParts }
+    ensures rules { IfOk result IsJoinedBlock }
     ensures arcs { IfOk result (λ found. (signs : List SignValue) (a b : ℕ)
         → IsJoinedArc found signs a b ↔ IsBlockArc block.now signs a b) }
 {
-    Ok(JoinedBlock {
-        tests: joined_tests(alloc, &block.tests)?,
-        arcs: copied_arcs(alloc, &block.arcs)?,
-    })
+    let tests = joined_tests(alloc, &block.tests)?;
+    let last = last_plane(&tests);
+    let arcs = copied_arcs(alloc, &block.arcs)?;
+    Ok(JoinedBlock { tests, last, arcs })
 }
 
 /// The blocks with joined tests.
@@ -115,7 +135,7 @@ pub(crate) fn joined_blocks(
     blocks: &[Block],
 ) -> Result<Vec<JoinedBlock>, OutOfMemory>
     requires { All IsBlock blocks.now }
-    ensures parts { IfOk result (λ found. All HasJoinedParts found.items) }
+    ensures rules { IfOk result (λ found. All IsJoinedBlock found.items) }
     ensures arcs { IfOk result (λ found. (signs : List SignValue) (a b : ℕ)
         → IsArcAt found.items signs a b ↔ IsListedArc blocks.now signs a b) }
 {
@@ -139,7 +159,7 @@ fn sign_at(signs: &[Sign], k: usize) -> Sign
     }
 }
 
-// the word of a test that the signs choose
+// the word of a test that the signs choose, where there may be no sign of one of its planes
 fn word_at(test: &JoinedTest, signs: &[Sign]) -> u128
     ensures { result ≡ slice_index test.now.outside (joined_place signs.now test.now) }
 {
@@ -149,7 +169,32 @@ fn word_at(test: &JoinedTest, signs: &[Sign]) -> u128
     test.outside[(9 * first + 3 * second + third) as usize]
 }
 
-// the cones that are ruled out at directions with these signs
+// the word of a test that the signs choose
+fn word_within(test: &JoinedTest, signs: &[Sign], last: usize) -> u128
+    requires planes { HasPlanesUpTo last test.now }
+    requires signs { last < length signs.now }
+    ensures { result ≡ slice_index test.now.outside (joined_place signs.now test.now) }
+{
+    let first = place(signs[test.first]);
+    let second = place(signs[test.second]);
+    let third = place(signs[test.third]);
+    test.outside[(9 * first + 3 * second + third) as usize]
+}
+
+// the cones that are ruled out at directions with these signs, at least one for each plane up to the last
+fn ruled_out_within(tests: &[JoinedTest], signs: &[Sign], last: usize) -> u128
+    requires planes { All (HasPlanesUpTo last) tests.now }
+    requires signs { last < length signs.now }
+    ensures { (j : ℕ) → (bit_at result j ≡ 0) ↔ PassesJoined signs.now tests.now j }
+{
+    let mut found: u128 = 0;
+    for test in tests {
+        found |= word_within(test, signs, last);
+    }
+    found
+}
+
+// the same where there may be fewer signs
 fn ruled_out(tests: &[JoinedTest], signs: &[Sign]) -> u128
     ensures { (j : ℕ) → (bit_at result j ≡ 0) ↔ PassesJoined signs.now tests.now j }
 {
@@ -190,12 +235,24 @@ fn row_after(row: u32, outside: u128, arc: &ArcCones) -> u32
     }
 }
 
+// the cones of a block that are ruled out
+fn ruled_out_of(block: &JoinedBlock, signs: &[Sign]) -> u128
+    requires { IsJoinedBlock block.now }
+    ensures { (j : ℕ) → (bit_at result j ≡ 0) ↔ PassesJoined signs.now block.now.tests.items j }
+{
+    if block.last < signs.len() {
+        ruled_out_within(&block.tests, signs, block.last)
+    } else {
+        ruled_out(&block.tests, signs)
+    }
+}
+
 /// Adds the arcs of a block at directions with these signs.
 pub(crate) fn add_block_arcs(rows: &mut [u32; 32], block: &JoinedBlock, signs: &[Sign])
-    requires { All HasParts block.now.arcs.items }
+    requires { IsJoinedBlock block.now }
     ensures { (a b : ℕ) → HasArc rows.new a b ↔ (HasArc rows.old a b ⊎ IsJoinedArc block.now signs.now a b) }
 {
-    let outside = ruled_out(&block.tests, signs);
+    let outside = ruled_out_of(block, signs);
     for arc in &block.arcs {
         let row = rows[arc.a as usize];
         rows[arc.a as usize] = row_after(row, outside, arc);

@@ -1,7 +1,7 @@
 use Rattle.std.proofs.Common.{◌∙◌, ◌≤◌, length, sym, subst, List, All}
 use Rattle.std.proofs.lemmas.List.Elements.{All-get_or}
 use Rattle.staat_cells.specs.declared.joined.JoinedBlock.{JoinedBlock}
-use Rattle.staat_cells.specs.Blocks.{HasJoinedParts}
+use Rattle.staat_cells.specs.Blocks.{IsJoinedBlock}
 use Rattle.staat_cells.proofs.GraphRows.{HasArcsUpTo, graph_is, graph_shows, no_rows, rows_after}
 use Rattle.staat_cells.proofs.graphs.CellGraphs.graph_of.Goals as goal
 
@@ -11,9 +11,9 @@ loop-block-init c = no_rows c.deref-block-items.result.now c.args.signs.now
 pub add_block_arcs-requires : goal.add_block_arcs-requires
 add_block_arcs-requires c =
     let blocks = c.deref-block-items.result.now in
-    let rules : All HasJoinedParts blocks = subst (All HasJoinedParts) (sym c.deref-block-items.ensures.value) c.self.invariant in
-    let own : HasJoinedParts c.block-item.result = subst HasJoinedParts (sym c.block-item.is)
-    (All-get_or HasJoinedParts blocks c.loop-block.block-index c.block-item.result c.loop-block-test.true rules) in
+    let rules : All IsJoinedBlock blocks = subst (All IsJoinedBlock) (sym c.deref-block-items.ensures.value) c.self.invariant in
+    let own : IsJoinedBlock c.block-item.result = subst IsJoinedBlock (sym c.block-item.is)
+    (All-get_or IsJoinedBlock blocks c.loop-block.block-index c.block-item.result c.loop-block-test.true rules) in
     own
 
 pub loop-block-preserved : goal.loop-block-preserved
