@@ -1,4 +1,4 @@
-use Rattle.std.proofs.Common.{◌≤◌, [], arith, get_or}
+use Rattle.std.proofs.Common.{[], arith, get_or}
 use Rattle.std.proofs.lemmas.List.{get_or_default}
 use Rattle.staat_cells.specs.declared.joined.JoinedTest.{JoinedTest}
 use Rattle.staat_cells.proofs.JoinedTests.{all_planes, more_planes}

@@ -1,5 +1,4 @@
-use Rattle.std.proofs.Common.{◌≡◌, ◌∙◌, ap, arith, length, subst, sym, List}
-use Rattle.staat_cells.specs.declared.cell.Cell.{Cell}
+use Rattle.std.proofs.Common.{◌∙◌, ap, arith, length, subst, sym}
 use Rattle.staat_cells.proofs.OppositePoints.{ArePointsAt, points_all, points_more}
 use Rattle.staat_cells.proofs.points.points_at.Goals as goal
 

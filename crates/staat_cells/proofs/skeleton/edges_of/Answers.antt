@@ -1,7 +1,4 @@
-use Rattle.std.proofs.Common.{◌≡◌, map, length}
-use Rattle.staat_model.specs.declared.tree.Kind.TheVariants.{Edge, Point}
-use Rattle.staat_model.specs.Cells.{AreCellsOf}
-use Rattle.staat_cells.specs.Compositions.{entry_of, composed_up_to}
+use Rattle.staat_model.specs.declared.tree.Kind.TheVariants.{Point}
 use Rattle.staat_cells.proofs.KindLists.{edge_pairs, edges_listed}
 use Rattle.staat_cells.proofs.WholeLists.{equal_lengths, points_small, vertex_points}
 use Rattle.staat_cells.proofs.skeleton.edges_of.Goals as goal
