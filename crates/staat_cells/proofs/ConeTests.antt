@@ -1,61 +1,14 @@
 -- Words of which each bit tells of a cone.
-use Rattle.std.proofs.Common.{
-  ◌≡◌,
-  ◌≢◌,
-  ◌⊎◌,
-  ◌↔◌,
-  inl,
-  inr,
-  ⊎_elim,
-  ℕ,
-  zero,
-  suc,
-  ◌+◌,
-  ◌-◌,
-  ◌*◌,
-  ◌/◌,
-  ◌%◌,
-  ◌^◌,
-  ◌<◌,
-}
-use Rattle.std.proofs.Common.{
-  ◌≤◌,
-  min,
-  max,
-  refl,
-  sym,
-  ap,
-  subst,
-  ◌∙◌,
-  arith,
-  List,
-  [],
-  ◌∷◌,
-  ◌++◌,
-  length,
-  get_or,
-  take,
-  All,
-  Any,
-}
-use Rattle.std.specs.Prelude.{bit_and, bit_or, bit_xor, Some, slice_get, slice_index, slice_set}
+use Rattle.std.proofs.Common.{◌≡◌, ◌≢◌, ◌⊎◌, ◌↔◌, inl, inr, ⊎_elim, ℕ, zero, suc, ◌+◌, ◌*◌, ◌/◌, ◌%◌, ◌^◌, ◌<◌}
+use Rattle.std.proofs.Common.{◌≤◌, min, refl, sym, ap, subst, ◌∙◌, arith, List, [], ◌∷◌, ◌++◌, length, get_or, take}
+use Rattle.std.specs.Prelude.{bit_and, bit_or, bit_xor, slice_index, slice_set}
 use Rattle.std.specs.Int.{bit_at, w128}
-use Rattle.std.proofs.lemmas.List.{length_push, take_all}
-use Rattle.std.proofs.lemmas.Nat.Bits.{
-  bit_at-lt,
-  bit_at-suc,
-  bit_at_lowest,
-  bit_at-zero,
-  bit_at_above,
-  bit_at_and,
-  bit_at_or,
-}
+use Rattle.std.proofs.lemmas.List.{take_all}
+use Rattle.std.proofs.lemmas.Nat.Bits.{bit_at-lt, bit_at-suc, bit_at_lowest, bit_at-zero, bit_at_and}
 use Rattle.std.proofs.lemmas.Nat.Bits.{bit_at_set_other, bit_at_set_same, bit_at_xor}
-use Rattle.std.proofs.lemmas.Option.{get_or_from_slice_get}
 use Rattle.staat_vec.specs.declared.vector.Sign.{Sign}
 use Rattle.staat_vec.specs.declared.vector.Sign.TheVariants.{Neg, Zero, Pos}
 use Rattle.staat_model.specs.Cells.{sign_place}
-use Rattle.staat_model.proofs.Places.{place_within}
 use Rattle.staat_cells.specs.declared.blocks.PlaneTest.{PlaneTest}
 use Rattle.staat_cells.specs.declared.half_spaces.Side.{Side}
 use Rattle.staat_cells.specs.HalfSpaces.{AreInside, IsOnSide, sign_at}
@@ -137,41 +90,6 @@ module _ (o : List ℕ) (j : ℕ) (lt : j < 128) where
       subst (IsGrown (bit_or (slice_index o 0) Bit ∷ bit_or (slice_index o 1) Bit ∷ slice_index o 2 ∷ []))
       (sym e)
       above_it
-
--- ---- all tests
-
-pub none_out : (signs : List Sign) (tests : List PlaneTest) (j : ℕ)
-    → (bit_at 0 j ≡ 0) ↔ PassesAll signs (take 0 tests) j
-none_out signs tests j = (λ h k d lt. absurd (omega (arith, lt)), λ h. bit_at-zero j)
-
-pub more_out : (signs : List Sign) (tests : List PlaneTest) (k found : ℕ) (x : PlaneTest) → k < length tests
-    → x ≡ get_or tests k x
-    → ((j : ℕ) → (bit_at found j ≡ 0) ↔ PassesAll signs (take k tests) j)
-    → (j : ℕ) → (bit_at (bit_or found (slice_index x.outside (sign_place (sign_at signs x.plane)))) j ≡ 0)
-    ↔ PassesAll signs (take (k + 1) tests) j
-more_out signs tests k found x lt at before j =
-    let word = slice_index x.outside (sign_place (sign_at signs x.plane)) in
-    let bits = bit_at_or found word j in
-    let more = all_more (λ t. IsPassedAt t (sign_at signs t.plane) j) tests k x lt at in (
-      λ h. let z = sym bits ∙ h in
-          more.1 ((before j).0 (left (bit_at found j) (bit_at word j) z), right (bit_at found j) (bit_at word j) z),
-      λ h. let both = more.0 h in bits ∙ neither (bit_at found j) (bit_at word j) ((before j).1 both.0) both.1,
-    )
-  where
-    left : (m n : ℕ) → max m n ≡ 0 → m ≡ 0
-    left m n e = omega arith
-
-    right : (m n : ℕ) → max m n ≡ 0 → n ≡ 0
-    right m n e = omega arith
-
-    neither : (m n : ℕ) → m ≡ 0 → n ≡ 0 → max m n ≡ 0
-    neither m n e f = omega arith
-
-pub all_out : (signs : List Sign) (tests : List PlaneTest) (k found : ℕ) → length tests ≤ k
-    → ((j : ℕ) → (bit_at found j ≡ 0) ↔ PassesAll signs (take k tests) j)
-    → (j : ℕ) → (bit_at found j ≡ 0) ↔ PassesAll signs tests j
-all_out signs tests k found le h = subst (λ l. (j : ℕ) → (bit_at found j ≡ 0) ↔ PassesAll signs l j)
-    (take_all k tests le) h
 
 -- ---- a side more
 

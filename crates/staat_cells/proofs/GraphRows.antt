@@ -16,9 +16,9 @@ use Rattle.staat_graph.proofs.Arcs.{row_set}
 use Rattle.staat_pairs.specs.Tables.{Table, WasMadeFrom}
 use Rattle.staat_planes.proofs.GraphLaw.{arcs_are_blocking, shows_blocking}
 use Rattle.staat_cells.specs.declared.blocks.ArcCones.{ArcCones}
-use Rattle.staat_cells.specs.declared.blocks.Block.{Block}
-use Rattle.staat_cells.specs.declared.blocks.PlaneTest.{PlaneTest}
-use Rattle.staat_cells.specs.Blocks.{IsBlockArc, IsLeft, PassesAll}
+use Rattle.staat_cells.specs.declared.joined.JoinedBlock.{JoinedBlock}
+use Rattle.staat_cells.specs.declared.joined.JoinedTest.{JoinedTest}
+use Rattle.staat_cells.specs.Blocks.{IsJoinedArc, IsLeft, PassesJoined}
 use Rattle.staat_cells.specs.CellGraphs.{HasArcsOf, IsArcAt, IsCellGraph}
 use Rattle.staat_cells.proofs.Elements.{any_more}
 use Rattle.staat_cells.proofs.PushingIncidences.{either_more}
@@ -73,13 +73,13 @@ left_more outside word k arcs x old mid is lt at small bits before = record {
       (any_more (IsArcLeft outside a b) arcs k x lt at);
 }
 
-pub block_arcs : (block : Block) (signs : List Sign) (outside k : ℕ) (arcs : List ArcCones) (tests : List PlaneTest)
+pub block_arcs : (block : JoinedBlock) (signs : List Sign) (outside k : ℕ) (arcs : List ArcCones) (tests : List JoinedTest)
     (old new : List ℕ) → arcs ≡ block.arcs.items → tests ≡ block.tests.items → length arcs ≤ k
-    → ((j : ℕ) → (bit_at outside j ≡ 0) ↔ PassesAll signs tests j)
+    → ((j : ℕ) → (bit_at outside j ≡ 0) ↔ PassesJoined signs tests j)
     → AddsLeft outside (take k arcs) old new
-    → (a b : ℕ) → HasArc new a b ↔ (HasArc old a b ⊎ IsBlockArc block signs a b)
+    → (a b : ℕ) → HasArc new a b ↔ (HasArc old a b ⊎ IsJoinedArc block signs a b)
 block_arcs block signs outside k arcs tests old new arcs_are tests_are le ruled all a b = (
-  λ h. ⊎_elim {C = HasArc old a b ⊎ IsBlockArc block signs a b} (λ o. inl o) (λ p. inr (from (whole.0 p)))
+  λ h. ⊎_elim {C = HasArc old a b ⊎ IsJoinedArc block signs a b} (λ o. inl o) (λ p. inr (from (whole.0 p)))
       ((all.has a b).0 h),
   ⊎_elim {C = HasArc new a b} (λ o. (all.has a b).1 (inl o)) (λ p. (all.has a b).1 (inr (whole.1 (to p)))),
 )
@@ -90,14 +90,14 @@ block_arcs block signs outside k arcs tests old new arcs_are tests_are le ruled 
     whole : Left (take k arcs) ↔ Left block.arcs.items
     whole = (subst Left (take_all k arcs le ∙ arcs_are), subst Left (sym (take_all k arcs le ∙ arcs_are)))
 
-    from : Left block.arcs.items → IsBlockArc block signs a b
+    from : Left block.arcs.items → IsJoinedArc block signs a b
     from (i, x, lt, e, (a_is, b_is, (j, one, out))) = record {
       cone = j;
       has = (i, x, lt, e, (a_is, b_is, one));
-      passes = subst (λ l. PassesAll signs l j) tests_are ((ruled j).0 out);
+      passes = subst (λ l. PassesJoined signs l j) tests_are ((ruled j).0 out);
     }
 
-    to : IsBlockArc block signs a b → Left block.arcs.items
+    to : IsJoinedArc block signs a b → Left block.arcs.items
     to h = let (i, x, lt, e, (a_is, b_is, one)) = h.has in (
       i,
       x,
@@ -109,7 +109,7 @@ block_arcs block signs outside k arcs tests old new arcs_are tests_are le ruled 
         (
           h.cone,
           one,
-          (ruled h.cone).1 (subst (λ l. PassesAll signs l h.cone) (sym tests_are) h.passes),
+          (ruled h.cone).1 (subst (λ l. PassesJoined signs l h.cone) (sym tests_are) h.passes),
         ),
       ),
     )
@@ -117,10 +117,10 @@ block_arcs block signs outside k arcs tests old new arcs_are tests_are le ruled 
 -- ---- all blocks
 
 -- the rows have the arcs of the first blocks
-abbrev pub HasArcsUpTo : List ℕ → List Block → List Sign → ℕ → Type 0
+abbrev pub HasArcsUpTo : List ℕ → List JoinedBlock → List Sign → ℕ → Type 0
 HasArcsUpTo rows blocks signs k = (a b : ℕ) → HasArc rows a b ↔ IsArcAt (take k blocks) signs a b
 
-pub no_rows : (blocks : List Block) (signs : List Sign) → HasArcsUpTo (replicate 32 0) blocks signs 0
+pub no_rows : (blocks : List JoinedBlock) (signs : List Sign) → HasArcsUpTo (replicate 32 0) blocks signs 0
 no_rows blocks signs a b = (λ h. absurd (none h), λ h. absurd (let lt = h.2 in omega (arith, lt)))
   where
     zero_row : slice_index (replicate 32 0) a ≡ 0
@@ -130,19 +130,19 @@ no_rows blocks signs a b = (λ h. absurd (none h), λ h. absurd (let lt = h.2 in
     none h = let e : bit_at (slice_index (replicate 32 0) a) b ≡ 0 =
         ap (λ r. bit_at r b) zero_row ∙ bit_at-zero b in absurd (omega (arith, e, h))
 
-pub rows_after : (blocks : List Block) (signs : List Sign) (k : ℕ) (x : Block) (old new : List ℕ)
+pub rows_after : (blocks : List JoinedBlock) (signs : List Sign) (k : ℕ) (x : JoinedBlock) (old new : List ℕ)
     → k < length blocks → x ≡ get_or blocks k x
-    → ((a b : ℕ) → HasArc new a b ↔ (HasArc old a b ⊎ IsBlockArc x signs a b))
+    → ((a b : ℕ) → HasArc new a b ↔ (HasArc old a b ⊎ IsJoinedArc x signs a b))
     → HasArcsUpTo old blocks signs k → HasArcsUpTo new blocks signs (k + 1)
 rows_after blocks signs k x old new lt at grew before a b =
-    let more = any_more (λ block. IsBlockArc block signs a b) blocks k x lt at in (
-      λ h. more.1 (⊎_elim {C = IsArcAt (take k blocks) signs a b ⊎ IsBlockArc x signs a b}
+    let more = any_more (λ block. IsJoinedArc block signs a b) blocks k x lt at in (
+      λ h. more.1 (⊎_elim {C = IsArcAt (take k blocks) signs a b ⊎ IsJoinedArc x signs a b}
           (λ o. inl ((before a b).0 o)) (λ p. inr p) ((grew a b).0 h)),
-      λ h. (grew a b).1 (⊎_elim {C = HasArc old a b ⊎ IsBlockArc x signs a b}
+      λ h. (grew a b).1 (⊎_elim {C = HasArc old a b ⊎ IsJoinedArc x signs a b}
           (λ o. inl ((before a b).1 o)) (λ p. inr p) (more.0 h)),
     )
 
-pub graph_is : (t : Table) (blocks : List Block) (signs : List Sign) (rows : List ℕ) (k : ℕ)
+pub graph_is : (t : Table) (blocks : List JoinedBlock) (signs : List Sign) (rows : List ℕ) (k : ℕ)
     → length blocks ≤ k
     → HasArcsUpTo rows blocks signs k → HasArcsOf t blocks
     → IsCellGraph t signs rows

@@ -8,6 +8,7 @@ pub mod WholeLists
 pub mod OneCell
 pub mod SomeCells
 pub mod PointCells
+pub mod OppositePoints
 pub mod Numbered
 pub mod TableRules
 pub mod PushingIncidences
@@ -19,6 +20,7 @@ pub mod SignOrder
 pub mod Composing
 pub mod Words
 pub mod IncidenceOrder
+pub mod Mirrors
 pub mod OpenIncidences
 pub mod VertexSigns
 pub mod EdgeIncidences
@@ -30,6 +32,7 @@ pub mod ConeTests
 pub mod BlockCones
 pub mod FacetPlanes
 pub mod PartArcs
+pub mod JoinedTests
 pub mod GraphRows
 pub mod MachineWords
 pub mod Narrowing

@@ -1,7 +1,7 @@
 -- Steps of the loops that list parts with the cones of their pieces.
 use Rattle.std.proofs.Common.{◌≡◌, ◌⊎◌, ◌↔◌, inl, inr, ⊎_elim, ℕ, ◌+◌, ◌<◌, ◌≤◌}
-use Rattle.std.proofs.Common.{refl, sym, ap, subst, ◌∙◌, arith}
-use Rattle.std.proofs.Common.{List, [], ◌∷◌, ◌++◌, length, get_or, take, All, Any}
+use Rattle.std.proofs.Common.{refl, sym, subst, arith}
+use Rattle.std.proofs.Common.{List, [], length, get_or, take, All, Any}
 use Rattle.std.proofs.lemmas.List.{take_all}
 use Rattle.staat_vec.specs.declared.vector.V3.{V3}
 use Rattle.staat_vec.specs.declared.vector.Sign.{Sign}
@@ -12,7 +12,7 @@ use Rattle.staat_planes.specs.Tables.{IsAhead}
 use Rattle.staat_cells.specs.declared.blocks.Block.{Block}
 use Rattle.staat_cells.specs.declared.half_spaces.Side.{Side}
 use Rattle.staat_cells.specs.Blocks.{IsBlock}
-use Rattle.staat_cells.specs.CellGraphs.{AddsArcs, AddsCone, AddsCones, AddsConesOf, ArePartsAhead, HasArcsOf, IsArcAt}
+use Rattle.staat_cells.specs.CellGraphs.{AddsArcs, AddsCone, AddsCones, AddsConesOf, ArePartsAhead, ListsArcsOf, IsListedArc}
 use Rattle.staat_cells.specs.CellGraphs.{IsFromPart, IsPairAhead, IsPieceAhead}
 use Rattle.staat_cells.specs.HalfSpaces.{AreAhead, AreInside}
 use Rattle.staat_cells.proofs.Elements.{any_more}
@@ -116,9 +116,9 @@ pub adds_same : (t : Table) (P Q : V3 → ℕ → ℕ → Type 0) (old new : Lis
     → ((d : V3) (a b : ℕ) → P d a b ↔ Q d a b) → AddsArcs t Q old new
 adds_same t P Q old new p both = record {
   arcs = λ d a b. (
-    λ c. ⊎_elim {C = IsArcAt old (signs_of t.planes d) a b ⊎ Q d a b} (λ h. inl h) (λ h. inr ((both d a b).0 h))
+    λ c. ⊎_elim {C = IsListedArc old (signs_of t.planes d) a b ⊎ Q d a b} (λ h. inl h) (λ h. inr ((both d a b).0 h))
         ((p.arcs d a b).0 c),
-    ⊎_elim {C = IsArcAt new (signs_of t.planes d) a b} (λ h. (p.arcs d a b).1 (inl h))
+    ⊎_elim {C = IsListedArc new (signs_of t.planes d) a b} (λ h. (p.arcs d a b).1 (inl h))
         (λ h. (p.arcs d a b).1 (inr ((both d a b).1 h))),
   );
   blocks = p.blocks;
@@ -160,7 +160,7 @@ from_listed t a k old new is le p = adds_same t (BelowParts (ArePartsAhead t a) 
     to d x y (e, h) = (y, (let lt = is.small y h.across.b_in in omega (arith, lt, le)), (e, refl, h))
 
 pub all_listed : (t : Table) (k : ℕ) (new : List Block) → IsTable t → 32 ≤ k
-    → AddsArcs t (BelowParts (IsFromPart t) k) [] new → HasArcsOf t new
+    → AddsArcs t (BelowParts (IsFromPart t) k) [] new → ListsArcsOf t new
 all_listed t k new is le p d a b = (
   λ h. ⊎_elim {C = IsAhead t d a b} (λ none. absurd (let lt = none.2 in omega (arith, lt))) (λ f. from f)
       ((p.arcs d a b).0 h),
@@ -207,9 +207,9 @@ pub pair_added : (t : Table) (a b : ℕ) (cones : List (List Side)) (old new : L
     → AddsConesOf cones a b old new → AddsArcs t (ArePartsAhead t a b) old new
 pair_added t a b cones old new ahead added = record {
   arcs = λ d x y. (
-    λ h. ⊎_elim {C = IsArcAt old (signs_of t.planes d) x y ⊎ ArePartsAhead t a b d x y} (λ o. inl o)
+    λ h. ⊎_elim {C = IsListedArc old (signs_of t.planes d) x y ⊎ ArePartsAhead t a b d x y} (λ o. inl o)
         (λ p. inr (p.0, p.1, (ahead d).0 p.2)) ((added.arcs (signs_of t.planes d) x y).0 h),
-    ⊎_elim {C = IsArcAt new (signs_of t.planes d) x y} (λ o. (added.arcs (signs_of t.planes d) x y).1 (inl o))
+    ⊎_elim {C = IsListedArc new (signs_of t.planes d) x y} (λ o. (added.arcs (signs_of t.planes d) x y).1 (inl o))
         (λ p. (added.arcs (signs_of t.planes d) x y).1 (inr (p.0, p.1, (ahead d).1 p.2))),
   );
   blocks = added.blocks;

@@ -20,8 +20,9 @@ use Rattle.staat_model.proofs.PlaneLemmas.{NoneParallel}
 use Rattle.staat_pairs.specs.Tables.{AreTablePlanes, IsPlaneNormal}
 use Rattle.staat_cells.specs.declared.incidence.Incidence.{Incidence}
 use Rattle.staat_cells.specs.Beside.{beside}
-use Rattle.staat_cells.specs.Stages.{IsAxisOff, IsBesideIncidence, IsEdgeIncidence}
+use Rattle.staat_cells.specs.Stages.{GrewByAll, IsAxisOff, IsBesideIncidence, IsEdgeIncidence}
 use Rattle.staat_cells.proofs.EdgeIncidences.{beside_edge, edge_is_beside}
+use Rattle.staat_cells.proofs.PushingIncidences.{grew_same}
 use Rattle.staat_cells.proofs.VertexSigns.{vertex_crossed, vertex_some}
 
 axis_in : (planes : List V3) (g : V3) → AreTablePlanes planes → Contains axes g → Contains planes g
@@ -97,3 +98,12 @@ edge_incidences_are planes v m k x are has off = (from, to)
 
     to : IsEdgeIncidence planes v k x → IsBesideIncidence planes planes v m k x
     to e = record { signs = e.signs; beside = edge_is_beside planes v m e.signs (planes_some planes are) off.off (vertex_crossed planes v apart has) e.cell e.edge e.border; is = e.is }
+
+-- a list that has grown by the incidences beside a vertex has grown by those of its edges
+pub edge_incidences_grew : (planes : List V3) (v m : V3) (k of : ℕ) (old new : List Incidence) → AreTablePlanes planes
+    → Contains (vertices planes) v → IsAxisOff v m → of ≡ k → GrewByAll (IsBesideIncidence planes planes v m of) old new
+    → GrewByAll (IsEdgeIncidence planes v k) old new
+edge_incidences_grew planes v m k of old new are has off number grew =
+    grew_same (IsBesideIncidence planes planes v m k) (IsEdgeIncidence planes v k) old new
+    (λ x. edge_incidences_are planes v m k x are has off)
+    (subst (λ n. GrewByAll (IsBesideIncidence planes planes v m n) old new) number grew)

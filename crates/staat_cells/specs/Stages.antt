@@ -1,9 +1,9 @@
 -- The incidences of the cells of one kind with those of the next, on whose borders they are.
 use Rattle.std.specs.Prelude.{◌≡◌, ◌≢◌, ◌⊎◌, ◌↔◌, ℕ, ◌<◌, pos}
-use Rattle.std.specs.Prelude.{List, length, slice_index_or, Contains}
+use Rattle.std.specs.Prelude.{List, length, map, slice_index_or, Contains}
 use Rattle.staat_vec.specs.declared.vector.V3.{V3}
 use Rattle.staat_vec.specs.declared.vector.Sign.{Sign}
-use Rattle.staat_vec.specs.declared.vector.Sign.TheVariants.{Neg, Pos}
+use Rattle.staat_vec.specs.declared.vector.Sign.TheVariants.{Neg, Zero, Pos}
 use Rattle.staat_vec.specs.Vectors.{cross, dot, negative}
 use Rattle.staat_model.specs.declared.tree.Kind.{Kind}
 use Rattle.staat_model.specs.declared.tree.Kind.TheVariants.{Edge, Point}
@@ -35,6 +35,16 @@ pub record IsIncidence (planes : List V3) (kind : Kind) (lower : List CellEntry)
 -- the point at a vertex, as it is listed
 abbrev pub point_entry : List V3 → V3 → CellEntry
 point_entry planes v = record { kind = Point; d = v; signs = signs_of planes v }
+
+-- the sign of a plane at the opposite direction
+abbrev pub flipped : Sign → Sign
+flipped Neg = Pos
+flipped Zero = Zero
+flipped Pos = Neg
+
+-- a point at v, which is opposite to the point p
+abbrev pub opposite_entry : CellEntry → V3 → CellEntry
+opposite_entry p v = record { kind = Point; d = v; signs = map flipped p.signs }
 
 -- the incidence of the cell at its own place, with its own signs
 pub record IsOwnIncidence (cells : List CellEntry) (x : Incidence) : Type 0 where

@@ -1,7 +1,6 @@
 // Blocks of cones that are tested at once, a bit for each.
 ghost use Rattle.std.specs.Prelude.{
   ◌≡◌,
-  ◌≢◌,
   ◌<◌,
   ◌-◌,
   ◌⊎◌,
@@ -15,19 +14,16 @@ ghost use Rattle.std.specs.Prelude.{
 ghost use Rattle.std.specs.Prelude.{length, Some, slice_get, slice_index_or};
 ghost use Rattle.std.specs.Int.{bit_at};
 ghost use Rattle.staat_vec.specs.declared.vector.Sign.{Sign as SignValue};
-ghost use Rattle.staat_graph.specs.Graphs.{HasArc};
 ghost use Rattle.staat_cells.specs.declared.blocks.ArcCones.{ArcCones as ArcValue};
 ghost use Rattle.staat_cells.specs.declared.blocks.Block.{Block as BlockValue};
 ghost use Rattle.staat_cells.specs.declared.blocks.PlaneTest.{PlaneTest as TestValue};
 ghost use Rattle.staat_cells.specs.declared.half_spaces.Side.{Side as SideValue};
-ghost use Rattle.staat_cells.specs.HalfSpaces.{AreInside, IsOnSide, sign_at};
-ghost use Rattle.staat_cells.specs.Blocks.{AddsToBlock, HasCone, HasParts, IsBlock, IsBlockArc};
-ghost use Rattle.staat_cells.specs.Blocks.{IsLeft, IsPassedAt, PassesAll};
+ghost use Rattle.staat_cells.specs.HalfSpaces.{AreInside, IsOnSide};
+ghost use Rattle.staat_cells.specs.Blocks.{AddsToBlock, HasCone, HasParts, IsBlock, IsPassedAt, PassesAll};
 ghost use Rattle.staat_cells.specs.CellGraphs.{AddsCone};
 
 use crate::half_spaces::{HalfSpaces, Side, copied, is_same_cone};
-use crate::incidence::place;
-use staat_model::{MOST_PARTS, PartSet};
+use staat_model::MOST_PARTS;
 use staat_vec::{Listed, OutOfMemory, Sign};
 use std::alloc::Global;
 
@@ -59,28 +55,6 @@ pub struct Block {
 }
 
 // ---- tests of cones
-
-// the sign of the plane k, and zero where there is none
-fn sign_at(signs: &[Sign], k: usize) -> Sign
-    ensures { result ≡ sign_at signs.now k }
-{
-    if k < signs.len() {
-        signs[k]
-    } else {
-        Sign::Zero
-    }
-}
-
-// the cones that are ruled out at directions with these signs
-fn ruled_out(tests: &[PlaneTest], signs: &[Sign]) -> u128
-    ensures { (j : ℕ) → (bit_at result j ≡ 0) ↔ PassesAll signs.now tests.now j }
-{
-    let mut found: u128 = 0;
-    for test in tests {
-        found |= test.outside[place(sign_at(signs, test.plane)) as usize];
-    }
-    found
-}
 
 // the test with the cone j, which is on the side s of its plane
 fn with_cone(test: PlaneTest, s: Sign, j: usize) -> PlaneTest
@@ -292,46 +266,4 @@ pub(crate) fn add_cone(
     add_new(alloc, &mut block, cone, a, b)?;
     blocks.push(block)?;
     Ok(())
-}
-
-// ---- the arcs of a block
-
-// the row with the arc to b
-fn with_arc(row: u32, b: u32) -> u32
-    requires { b < MOST_PARTS }
-    ensures { (q : ℕ) → (bit_at result q ≡ 1) ↔ ((bit_at row q ≡ 1) ⊎ (q ≡ b)) }
-{
-    PartSet::from_bits(row).union(PartSet::single(b)).bits()
-}
-
-// the bits of the first word that are not in the second
-fn word_without(x: u128, y: u128) -> u128
-    ensures { (result ≢ 0) ↔ ((j : ℕ) × (bit_at x j ≡ 1) × (bit_at y j ≡ 0)) }
-{
-    x & y ^ x
-}
-
-// the row after two parts were looked at, where these cones are ruled out
-fn row_after(row: u32, outside: u128, arc: &ArcCones) -> u32
-    requires { arc.now.b < MOST_PARTS }
-    ensures { (q : ℕ) → (bit_at result q ≡ 1) ↔ ((bit_at row q ≡ 1) ⊎ ((q ≡ arc.now.b)
-        × IsLeft arc.now outside)) }
-{
-    if word_without(arc.cones, outside) != 0 {
-        with_arc(row, arc.b)
-    } else {
-        row
-    }
-}
-
-/// Adds the arcs of a block at directions with these signs.
-pub(crate) fn add_block_arcs(rows: &mut [u32; 32], block: &Block, signs: &[Sign])
-    requires { All HasParts block.now.arcs.items }
-    ensures { (a b : ℕ) → HasArc rows.new a b ↔ (HasArc rows.old a b ⊎ IsBlockArc block.now signs.now a b) }
-{
-    let outside = ruled_out(&block.tests, signs);
-    for arc in &block.arcs {
-        let row = rows[arc.a as usize];
-        rows[arc.a as usize] = row_after(row, outside, arc);
-    }
 }

@@ -136,12 +136,40 @@ fn push_all(
     Ok(())
 }
 
-/// Adds the incidences of a vertex, with its number.
+// the same, from the last plane on
+fn push_all_back(
+    planes: &[V3],
+    point: &Cell,
+    zeros: &[usize],
+    base: Incidence,
+    m: V3,
+    incidences: &mut Vec<Incidence>,
+) -> Result<(), OutOfMemory>
+    requires planes { All (IsWithin NORMAL) planes.now }
+    requires few { length planes.now ≤ 256 }
+    requires signs { point.now.signs ≡ signs_of planes.now point.now.d }
+    requires zeros { zeros.now ≡ zero_places 0 point.now.signs }
+    requires base { base ≡ incidence_of point.now.signs base.of }
+    requires m { IsWithin NORMAL m }
+    ensures { OnOk result (GrewByAll (IsBesideIncidence planes.now planes.now point.now.d m base.of)
+        incidences.old.items incidences.new.items) }
+{
+    for i in 0..planes.len() {
+        let j = planes.len() - 1 - i;
+        let s = point.signs.as_slice()[j];
+        push_on(planes, point, zeros, base, planes[j], s, m, incidences)?;
+    }
+    Ok(())
+}
+
+/// Adds the incidences of a vertex, with its number, on its planes from the last one on or from the first one on: so
+/// those of the opposite vertex are added in the opposite order.
 fn push_edge_incidences(
     alloc: Global,
     planes: &[V3],
     point: &Cell,
     k: usize,
+    back: bool,
     incidences: &mut Vec<Incidence>,
 ) -> Result<(), OutOfMemory>
     requires planes { AreTablePlanes planes.now }
@@ -153,7 +181,12 @@ fn push_edge_incidences(
 {
     let base = incidence_of(point.signs.as_slice(), k);
     let zeros = zeros_of(alloc, point.signs.as_slice())?;
-    push_all(planes, point, &zeros, base, axis_off(point.d), incidences)
+    let m = axis_off(point.d);
+    if back {
+        push_all_back(planes, point, &zeros, base, m, incidences)
+    } else {
+        push_all(planes, point, &zeros, base, m, incidences)
+    }
 }
 
 /// The incidences of vertices towards the edges that end there.
@@ -170,7 +203,8 @@ pub(crate) fn edge_incidences(
 {
     let mut incidences = Vec::with_capacity(alloc, points.len().saturating_mul(4))?;
     for k in 0..points.len() {
-        push_edge_incidences(alloc, planes, &points[k], k, &mut incidences)?;
+        let back = k >= points.len() / 2;
+        push_edge_incidences(alloc, planes, &points[k], k, back, &mut incidences)?;
     }
     Ok(incidences)
 }

@@ -7,7 +7,7 @@ ghost use Rattle.staat_graph.specs.Blocking.{ShowsBlocking};
 ghost use Rattle.staat_pairs.specs.Tables.{Table, WasMadeFrom};
 ghost use Rattle.staat_cells.specs.CellGraphs.{HasArcsOf, IsCellGraph};
 
-use crate::blocks::{Block, add_block_arcs};
+use crate::joined::{JoinedBlock, add_block_arcs, joined_blocks};
 use crate::part_arcs::all_blocks;
 use staat_graph::Graph;
 use staat_planes::PlaneTable;
@@ -18,19 +18,19 @@ use std::marker::Model;
 /// The cones of the directions ahead of the pieces of a table, so that signs alone tell which parts block which.
 #[derive(Drop)]
 pub struct CellGraphs {
-    blocks: Vec<Block>,
+    blocks: Vec<JoinedBlock>,
 }
 
 impl Model for CellGraphs {
     ghost use Rattle.std.specs.Prelude.{All, List};
-    ghost use Rattle.staat_cells.specs.declared.blocks.Block.{Block};
-    ghost use Rattle.staat_cells.specs.Blocks.{IsBlock};
+    ghost use Rattle.staat_cells.specs.declared.joined.JoinedBlock.{JoinedBlock};
+    ghost use Rattle.staat_cells.specs.Blocks.{IsJoinedBlock};
 
-    ghost Value = { List Block };
+    ghost Value = { List JoinedBlock };
 
     ghost view = { λ g. g.blocks.items };
 
-    ghost invariant = { λ g. All IsBlock g.blocks.items };
+    ghost invariant = { λ g. All IsJoinedBlock g.blocks.items };
 }
 
 impl CellGraphs {
@@ -40,7 +40,9 @@ impl CellGraphs {
         ensures { IfOk result (λ graphs. HasArcsOf table.now graphs) }
     {
         let blocks = all_blocks(alloc, table)?;
-        Ok(CellGraphs { blocks })
+        Ok(CellGraphs {
+            blocks: joined_blocks(alloc, &blocks)?,
+        })
     }
 
     /// The blocking graph of the cell with these signs: its arcs are those at every direction of the cell (Wilson and

@@ -1,9 +1,8 @@
 // Incidences: the signs of a cell, packed so that they are compared at once, and the number of a lower cell on its
 // border.
-ghost use Rattle.std.specs.Prelude.{◌≡◌, ◌≤◌, ◌^◌, Contains, length, take, drop};
-ghost use Rattle.staat_vec.specs.Lists.{Lists};
+ghost use Rattle.std.specs.Prelude.{◌≡◌, ◌≤◌, ◌^◌, length, take, drop};
 ghost use Rattle.staat_model.specs.Cells.{sign_place};
-ghost use Rattle.staat_cells.specs.Packing.{packed, incidence_cmp, incidence_of};
+ghost use Rattle.staat_cells.specs.Packing.{packed, incidence_of};
 
 use staat_vec::Sign;
 
@@ -104,13 +103,4 @@ pub(crate) fn incidence_of(signs: &[Sign], of: usize) -> Incidence
         d: word(head(last)),
         of,
     }
-}
-
-/// The incidences, ascending and each once. It takes no memory.
-pub(crate) fn in_order(mut incidences: Vec<Incidence>) -> Vec<Incidence>
-    ensures { Lists incidence_cmp (Contains incidences.items) result.items }
-{
-    incidences.sort_unstable();
-    incidences.dedup();
-    incidences
 }

@@ -6,7 +6,7 @@ ghost use Rattle.staat_model.specs.Sets.{Has};
 ghost use Rattle.staat_pairs.specs.Tables.{IsTable, IsTableArc, pieces_of};
 ghost use Rattle.staat_planes.specs.Tables.{IsAhead, IsAheadFrom};
 ghost use Rattle.staat_cells.specs.Blocks.{IsBlock};
-ghost use Rattle.staat_cells.specs.CellGraphs.{AddsArcs, AddsCones, AddsConesOf, ArePartsAhead, HasArcsOf};
+ghost use Rattle.staat_cells.specs.CellGraphs.{AddsArcs, AddsCones, AddsConesOf, ArePartsAhead, ListsArcsOf};
 ghost use Rattle.staat_cells.specs.CellGraphs.{IsFromPart, IsPairAhead, IsPieceAhead};
 ghost use Rattle.staat_cells.specs.HalfSpaces.{AreInside};
 
@@ -144,7 +144,7 @@ fn push_from(
 
 /// The cones of each ordered pair of different parts of the table's set, in blocks.
 pub(crate) fn all_blocks(alloc: Global, table: &PlaneTable) -> Result<Vec<Block>, OutOfMemory>
-    ensures arcs { IfOk result (λ blocks. HasArcsOf table.now blocks.items) }
+    ensures arcs { IfOk result (λ blocks. ListsArcsOf table.now blocks.items) }
     ensures blocks { IfOk result (λ blocks. All IsBlock blocks.items) }
 {
     let set = table.set();

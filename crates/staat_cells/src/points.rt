@@ -1,17 +1,17 @@
 // The points, ascending by their signs.
 ghost use Rattle.std.specs.Prelude.{◌≡◌, ◌<◌, ◌↔◌, ◌++◌, [], ◌∷◌};
-ghost use Rattle.std.specs.Prelude.{All, Contains, IfOk, IsTrue, List, length, map};
-ghost use Rattle.staat_vec.specs.Vectors.{IsWithin};
+ghost use Rattle.std.specs.Prelude.{All, Contains, IfOk, IsTrue, List, length, map, slice_index_or, take};
+ghost use Rattle.staat_vec.specs.Vectors.{IsWithin, origin};
 ghost use Rattle.staat_cells.specs.declared.incidence.Incidence.{Incidence as IncidenceValue};
 ghost use Rattle.staat_cells.specs.Compositions.{entry_of};
-ghost use Rattle.staat_cells.specs.Stages.{IsOwnIncidence, cell_at, point_entry};
+ghost use Rattle.staat_cells.specs.Stages.{IsOwnIncidence, cell_at, opposite_entry, point_entry};
 
 use crate::cell::{Cell, Signs};
 use crate::incidence::{Incidence, incidence_of};
 use crate::narrow::{SMALL_NORMAL, are_small};
-use crate::signs::signs_where;
+use crate::signs::{flipped_signs, signs_where};
 use staat_model::Kind;
-use staat_vec::{NORMAL, OutOfMemory, V3, VERTEX};
+use staat_vec::{NORMAL, OutOfMemory, V3, VERTEX, is_same, neg};
 use std::alloc::Global;
 
 // the point at a vertex
@@ -29,6 +29,44 @@ fn point_at(alloc: Global, planes: &[V3], small: bool, v: V3) -> Result<Cell, Ou
     })
 }
 
+// the point at v, which is opposite to a point
+fn opposite_point(alloc: Global, point: &Cell, v: V3) -> Result<Cell, OutOfMemory>
+    ensures { IfOk result (λ cell. entry_of cell ≡ opposite_entry (entry_of point.now) v) }
+{
+    let signs = flipped_signs(alloc, point.signs.as_slice())?;
+    Ok(Cell {
+        kind: Kind::Point,
+        d: v,
+        signs: Signs::from_vec(signs),
+    })
+}
+
+// the point at the vertex k, where those at the vertices before it are listed: mostly one of these is opposite to it
+fn point_after(
+    alloc: Global,
+    planes: &[V3],
+    small: bool,
+    vertices: &[V3],
+    cells: &[Cell],
+    k: usize,
+) -> Result<Cell, OutOfMemory>
+    requires planes { All (IsWithin NORMAL) planes.now }
+    requires small { IsTrue small → All (IsWithin SMALL_NORMAL) planes.now }
+    requires vertices { All (IsWithin VERTEX) vertices.now }
+    requires place { k < length vertices.now }
+    requires long { length cells.now ≡ k }
+    requires before { map entry_of cells.now ≡ map (point_entry planes.now) (take k vertices.now) }
+    ensures { IfOk result (λ cell. entry_of cell ≡ point_entry planes.now (slice_index_or vertices.now k origin)) }
+{
+    let v = vertices[k];
+    let mirror = vertices.len() - 1 - k;
+    if mirror < k && is_same(neg(vertices[mirror]), v) {
+        opposite_point(alloc, &cells[mirror], v)
+    } else {
+        point_at(alloc, planes, small, v)
+    }
+}
+
 /// The points at the vertices.
 pub(crate) fn points_at(
     alloc: Global,
@@ -41,8 +79,9 @@ pub(crate) fn points_at(
 {
     let small = are_small(planes);
     let mut cells = Vec::with_capacity(alloc, vertices.len())?;
-    for v in vertices {
-        cells.push(point_at(alloc, planes, small, *v)?)?;
+    for k in 0..vertices.len() {
+        let cell = point_after(alloc, planes, small, vertices, &cells, k)?;
+        cells.push(cell)?;
     }
     Ok(cells)
 }

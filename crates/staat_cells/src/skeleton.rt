@@ -14,8 +14,9 @@ ghost use Rattle.staat_cells.specs.Stages.{IsFilledIncidence};
 use crate::cell::Cell;
 use crate::compose::{composed_at, composed_cells};
 use crate::edge_incidences::edge_incidences;
-use crate::incidence::{Incidence, in_order};
+use crate::incidence::Incidence;
 use crate::open_incidences::open_incidences;
+use crate::order::in_order;
 use crate::points::{cells_of, own_incidences, points_at};
 use crate::vertices::vertices_of;
 use staat_model::Kind;
@@ -40,7 +41,7 @@ fn points_of(alloc: Global, planes: &[V3], corners: &[V3]) -> Result<Vec<Cell>, 
     ensures { IfOk result (λ cells. AreCellsOf planes.now Point (map entry_of cells.items)) }
 {
     let raw = points_at(alloc, planes, corners)?;
-    let incidences = in_order(own_incidences(alloc, &raw)?);
+    let incidences = in_order(own_incidences(alloc, &raw)?)?;
     cells_of(alloc, &raw, &incidences)
 }
 
@@ -55,7 +56,7 @@ fn edges_of(
     requires points { AreCellsOf planes.now Point (map entry_of points.now) }
     ensures { IfOk result (λ found. AreCellsOf planes.now Edge (map entry_of found.0.items)) }
 {
-    let incidences = in_order(edge_incidences(alloc, planes, points)?);
+    let incidences = in_order(edge_incidences(alloc, planes, points)?)?;
     let edges = composed_cells(alloc, Kind::Edge, points, &incidences)?;
     Ok((edges, incidences))
 }
@@ -66,7 +67,7 @@ fn incidences_of(room: Vec<Incidence>, edges: &[Cell]) -> Result<Vec<Incidence>,
     ensures { IfOk result (λ found. Lists incidence_cmp (IsFilledIncidence (map entry_of edges.now)) found.items) }
 {
     let found = open_incidences(room, edges)?;
-    Ok(in_order(found))
+    in_order(found)
 }
 
 impl Skeleton {

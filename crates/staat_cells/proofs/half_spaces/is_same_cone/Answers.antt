@@ -1,5 +1,5 @@
 use Rattle.std.proofs.Common.{◌≡◌, ◌∙◌, sym, true}
-use Rattle.std.proofs.Common.{rules, arith}
+use Rattle.std.proofs.Common.{rules}
 use lib.Pointwise.{pointwise_decides}
 use Rattle.staat_cells.specs.declared.half_spaces.Side.{Side}
 use Rattle.staat_cells.specs.contracts.half_spaces.SidePartialEq.TheImpl.{eq-value}

@@ -1,5 +1,4 @@
-use Rattle.std.proofs.Common.{◌∙◌, []}
-use Rattle.std.proofs.lemmas.List.{get_or_default}
+use Rattle.std.proofs.Common.{◌∙◌}
 use Rattle.staat_cells.proofs.Cones.{last_all, last_more, last_none}
 use Rattle.staat_cells.proofs.half_spaces.wide_cones.Goals as goal
 

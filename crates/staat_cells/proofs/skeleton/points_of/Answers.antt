@@ -18,13 +18,13 @@ cells_of-requires c =
     let raw = c.in_ok-raw.raw.items in
     let own : (x : Incidence) → Contains c.in_ok-own_incidences.field-0.items x ↔ IsOwnIncidence (map entry_of raw) x = subst (λ (l : List Cell). (x : Incidence) → Contains c.in_ok-own_incidences.field-0.items x ↔ IsOwnIncidence (map entry_of l) x) c.deref.ensures.value c.in_ok-own_incidences.ensures in
     subst (λ (l : List Cell). All (λ x. x.of < length l) c.deref-3.result.now) (sym c.deref-2.ensures.value)
-    (incidences_listed c.args.planes.now c.requires.planes c.requires.few raw c.in_ok-own_incidences.field-0.items c.in_order-incidences.result.items c.deref-3.result.now c.deref-3.ensures.value own c.in_order-incidences.ensures)
+    (incidences_listed c.args.planes.now c.requires.planes c.requires.few raw c.in_ok-own_incidences.field-0.items c.in_ok-incidences.incidences.items c.deref-3.result.now c.deref-3.ensures.value own c.in_ok-incidences.ensures)
 
 pub returns : goal.returns
 returns c =
     let raw = c.in_ok-raw.raw.items in
     let own : (x : Incidence) → Contains c.in_ok-own_incidences.field-0.items x ↔ IsOwnIncidence (map entry_of raw) x = subst (λ (l : List Cell). (x : Incidence) → Contains c.in_ok-own_incidences.field-0.items x ↔ IsOwnIncidence (map entry_of l) x) c.deref.ensures.value c.in_ok-own_incidences.ensures in
     IfOk-weaker c.cells_of.result (λ cells. map entry_of cells.items ≡ map (λ x. cell_at (map entry_of c.deref-2.result.now) x.of) c.deref-3.result.now) (λ cells. AreCellsOf c.args.planes.now Point (map entry_of cells.items))
-    (λ cells made. points_listed c.args.planes.now c.requires.planes c.requires.few raw cells.items c.args.corners.now c.in_ok-own_incidences.field-0.items c.in_order-incidences.result.items c.deref-3.result.now c.in_ok-raw.ensures c.requires.corners c.deref-3.ensures.value own c.in_order-incidences.ensures
+    (λ cells made. points_listed c.args.planes.now c.requires.planes c.requires.few raw cells.items c.args.corners.now c.in_ok-own_incidences.field-0.items c.in_ok-incidences.incidences.items c.deref-3.result.now c.in_ok-raw.ensures c.requires.corners c.deref-3.ensures.value own c.in_ok-incidences.ensures
     (made ∙ ap (λ (l : List Cell). map (λ (x : Incidence). cell_at (map entry_of l) x.of) c.deref-3.result.now) c.deref-2.ensures.value))
     c.cells_of.ensures

@@ -1,7 +1,7 @@
 use Rattle.std.proofs.Common.{◌∙◌, ◌≤◌, length, sym, subst, List, All}
 use Rattle.std.proofs.lemmas.List.Elements.{All-get_or}
-use Rattle.staat_cells.specs.declared.blocks.Block.{Block}
-use Rattle.staat_cells.specs.Blocks.{IsBlock}
+use Rattle.staat_cells.specs.declared.joined.JoinedBlock.{JoinedBlock}
+use Rattle.staat_cells.specs.Blocks.{IsJoinedBlock}
 use Rattle.staat_cells.proofs.GraphRows.{HasArcsUpTo, graph_is, graph_shows, no_rows, rows_after}
 use Rattle.staat_cells.proofs.graphs.CellGraphs.graph_of.Goals as goal
 
@@ -11,10 +11,10 @@ loop-block-init c = no_rows c.deref-block-items.result.now c.args.signs.now
 pub add_block_arcs-requires : goal.add_block_arcs-requires
 add_block_arcs-requires c =
     let blocks = c.deref-block-items.result.now in
-    let rules : All IsBlock blocks = subst (All IsBlock) (sym c.deref-block-items.ensures.value) c.self.invariant in
-    let own : IsBlock c.block-item.result = subst IsBlock (sym c.block-item.is)
-    (All-get_or IsBlock blocks c.loop-block.block-index c.block-item.result c.loop-block-test.true rules) in
-    own.parts
+    let rules : All IsJoinedBlock blocks = subst (All IsJoinedBlock) (sym c.deref-block-items.ensures.value) c.self.invariant in
+    let own : IsJoinedBlock c.block-item.result = subst IsJoinedBlock (sym c.block-item.is)
+    (All-get_or IsJoinedBlock blocks c.loop-block.block-index c.block-item.result c.loop-block-test.true rules) in
+    own
 
 pub loop-block-preserved : goal.loop-block-preserved
 loop-block-preserved c =
@@ -25,9 +25,9 @@ loop-block-preserved c =
 pub returns-clause-table : goal.returns-clause-table
 returns-clause-table c t tells =
     graph_is t c.args.self.now c.args.signs.now c.loop-block.rows c.loop-block.block-index
-    (subst (λ (l : List Block). length l ≤ c.loop-block.block-index)
+    (subst (λ (l : List JoinedBlock). length l ≤ c.loop-block.block-index)
     (c.deref-block-items.ensures.value ∙ c.self.view_is) c.loop-block-test.false)
-    (subst (λ (l : List Block). HasArcsUpTo c.loop-block.rows l c.args.signs.now c.loop-block.block-index)
+    (subst (λ (l : List JoinedBlock). HasArcsUpTo c.loop-block.rows l c.args.signs.now c.loop-block.block-index)
     (c.deref-block-items.ensures.value ∙ c.self.view_is) c.loop-block.invariant)
     tells
 

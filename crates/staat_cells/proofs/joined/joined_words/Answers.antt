@@ -1,0 +1,12 @@
+use Rattle.std.proofs.Common.{◌∙◌, arith, refl}
+use Rattle.std.proofs.lemmas.List.{length-set}
+use Rattle.staat_cells.specs.Blocks.{joined_word}
+use Rattle.staat_cells.proofs.JoinedTests.{set_more}
+use Rattle.staat_cells.proofs.joined.joined_words.Goals as goal
+
+pub loop-i-preserved : goal.loop-i-preserved
+loop-i-preserved c = record {
+  long = length-set c.loop-i.words c.loop-i.i _ ∙ c.loop-i.invariant.long;
+  first = set_more c.loop-i.words c.loop-i.i _ (joined_word c.args.x.now c.args.y.now c.args.z.now) (omega arith) refl
+      c.loop-i.invariant.first;
+}

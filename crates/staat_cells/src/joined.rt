@@ -1,0 +1,260 @@
+// Blocks as they are tested at the signs of a cell: their tests are joined by threes, so that three signs choose a word
+// at once.
+ghost use Rattle.std.specs.Prelude.{◌≡◌, ◌≢◌, ◌⊎◌, ◌↔◌, ◌+◌, ◌*◌, ◌<◌, ◌≤◌, ℕ, List, All, Any, IfOk, length};
+ghost use Rattle.std.specs.Prelude.{slice_index, slice_index_or};
+ghost use Rattle.std.specs.Int.{bit_at};
+ghost use Rattle.staat_vec.specs.declared.vector.Sign.{Sign as SignValue};
+ghost use Rattle.staat_graph.specs.Graphs.{HasArc};
+ghost use Rattle.staat_cells.specs.Blocks.{HasParts, HasPlanesUpTo, IsBlock, IsBlockArc, IsLeft, PassesAll, no_test};
+ghost use Rattle.staat_cells.specs.Blocks.{IsJoinedBlock};
+ghost use Rattle.staat_cells.specs.Blocks.{IsJoinedArc, IsJoinedPassed, IsPassed, PassesJoined, joined_place, joined_word};
+ghost use Rattle.staat_cells.specs.CellGraphs.{IsArcAt, IsListedArc};
+ghost use Rattle.staat_cells.specs.HalfSpaces.{sign_at};
+
+use crate::blocks::{ArcCones, Block, PlaneTest};
+use crate::incidence::place;
+use staat_model::{MOST_PARTS, PartSet};
+use staat_vec::{OutOfMemory, Sign};
+use std::alloc::Global;
+
+/// What three planes rule out of the cones of a block: for each three signs there the cones that no direction with
+/// these signs is in, as bits.
+#[derive(Clone, Copy)]
+pub struct JoinedTest {
+    pub(crate) first: usize,
+    pub(crate) second: usize,
+    pub(crate) third: usize,
+    pub(crate) outside: [u128; 27],
+}
+
+/// What planes rule out of the cones of a block, the last of these planes, and the parts that the cones belong to.
+#[derive(Drop)]
+pub struct JoinedBlock {
+    pub(crate) tests: Vec<JoinedTest>,
+    pub(crate) last: usize,
+    pub(crate) arcs: Vec<ArcCones>,
+}
+
+// the test at a place, and behind the last one that rules out nothing
+fn test_at(tests: &[PlaneTest], k: usize) -> PlaneTest
+    ensures { result ≡ slice_index_or tests.now k no_test }
+{
+    if k < tests.len() {
+        tests[k]
+    } else {
+        PlaneTest {
+            plane: 0,
+            outside: [0, 0, 0],
+        }
+    }
+}
+
+// the words of three tests, together for each three signs
+fn joined_words(x: &PlaneTest, y: &PlaneTest, z: &PlaneTest) -> [u128; 27]
+    ensures { (i : ℕ) → i < 27 → slice_index result i ≡ joined_word x.now y.now z.now i }
+{
+    let mut words = [0u128; 27];
+    for i in 0..27 {
+        words[i] = x.outside[i / 9] | y.outside[i / 3 % 3] | z.outside[i % 3];
+    }
+    words
+}
+
+// three tests as one
+fn joined(x: PlaneTest, y: PlaneTest, z: PlaneTest) -> JoinedTest
+    ensures { (signs : List SignValue) (j : ℕ) → IsJoinedPassed signs j result
+        ↔ (IsPassed signs j x × IsPassed signs j y × IsPassed signs j z) }
+{
+    JoinedTest {
+        first: x.plane,
+        second: y.plane,
+        third: z.plane,
+        outside: joined_words(&x, &y, &z),
+    }
+}
+
+// the tests, joined by threes
+fn joined_tests(alloc: Global, tests: &[PlaneTest]) -> Result<Vec<JoinedTest>, OutOfMemory>
+    ensures { IfOk result (λ found. (signs : List SignValue) (j : ℕ)
+        → PassesJoined signs found.items j ↔ PassesAll signs tests.now j) }
+{
+    let count = tests.len().div_ceil(3);
+    let mut found = Vec::with_capacity(alloc, count)?;
+    for i in 0..count {
+        let k = 3 * i;
+        found.push(joined(
+            test_at(tests, k),
+            test_at(tests, k + 1),
+            test_at(tests, k + 2),
+        ))?;
+    }
+    Ok(found)
+}
+
+fn greater(x: usize, y: usize) -> usize
+    ensures first { x ≤ result }
+    ensures second { y ≤ result }
+{
+    if x < y { y } else { x }
+}
+
+// the greatest number of a plane of the tests
+fn last_plane(tests: &[JoinedTest]) -> usize
+    ensures { All (HasPlanesUpTo result) tests.now }
+{
+    let mut last = 0;
+    for test in tests {
+        last = greater(greater(last, test.first), greater(test.second, test.third));
+    }
+    last
+}
+
+// parts with their cones once more
+fn copied_arcs(alloc: Global, arcs: &[ArcCones]) -> Result<Vec<ArcCones>, OutOfMemory>
+    ensures { IfOk result (λ same. same.items ≡ arcs.now) }
+{
+    Ok(arcs.to_vec(alloc)?)
+}
+
+// a block with joined tests
+fn joined_block(alloc: Global, block: &Block) -> Result<JoinedBlock, OutOfMemory>
+    requires { All HasParts block.now.arcs.items }
+    ensures rules { IfOk result IsJoinedBlock }
+    ensures arcs { IfOk result (λ found. (signs : List SignValue) (a b : ℕ)
+        → IsJoinedArc found signs a b ↔ IsBlockArc block.now signs a b) }
+{
+    let tests = joined_tests(alloc, &block.tests)?;
+    let last = last_plane(&tests);
+    let arcs = copied_arcs(alloc, &block.arcs)?;
+    Ok(JoinedBlock { tests, last, arcs })
+}
+
+/// The blocks with joined tests.
+pub(crate) fn joined_blocks(
+    alloc: Global,
+    blocks: &[Block],
+) -> Result<Vec<JoinedBlock>, OutOfMemory>
+    requires { All IsBlock blocks.now }
+    ensures rules { IfOk result (λ found. All IsJoinedBlock found.items) }
+    ensures arcs { IfOk result (λ found. (signs : List SignValue) (a b : ℕ)
+        → IsArcAt found.items signs a b ↔ IsListedArc blocks.now signs a b) }
+{
+    let mut found = Vec::with_capacity(alloc, blocks.len())?;
+    for block in blocks {
+        found.push(joined_block(alloc, block)?)?;
+    }
+    Ok(found)
+}
+
+// ---- the tests at signs
+
+// the sign of the plane k, and zero where there is none
+fn sign_at(signs: &[Sign], k: usize) -> Sign
+    ensures { result ≡ sign_at signs.now k }
+{
+    if k < signs.len() {
+        signs[k]
+    } else {
+        Sign::Zero
+    }
+}
+
+// the word of a test that the signs choose, where there may be no sign of one of its planes
+fn word_at(test: &JoinedTest, signs: &[Sign]) -> u128
+    ensures { result ≡ slice_index test.now.outside (joined_place signs.now test.now) }
+{
+    let first = place(sign_at(signs, test.first));
+    let second = place(sign_at(signs, test.second));
+    let third = place(sign_at(signs, test.third));
+    test.outside[(9 * first + 3 * second + third) as usize]
+}
+
+// the word of a test that the signs choose
+fn word_within(test: &JoinedTest, signs: &[Sign], last: usize) -> u128
+    requires planes { HasPlanesUpTo last test.now }
+    requires signs { last < length signs.now }
+    ensures { result ≡ slice_index test.now.outside (joined_place signs.now test.now) }
+{
+    let first = place(signs[test.first]);
+    let second = place(signs[test.second]);
+    let third = place(signs[test.third]);
+    test.outside[(9 * first + 3 * second + third) as usize]
+}
+
+// the cones that are ruled out at directions with these signs, at least one for each plane up to the last
+fn ruled_out_within(tests: &[JoinedTest], signs: &[Sign], last: usize) -> u128
+    requires planes { All (HasPlanesUpTo last) tests.now }
+    requires signs { last < length signs.now }
+    ensures { (j : ℕ) → (bit_at result j ≡ 0) ↔ PassesJoined signs.now tests.now j }
+{
+    let mut found: u128 = 0;
+    for test in tests {
+        found |= word_within(test, signs, last);
+    }
+    found
+}
+
+// the same where there may be fewer signs
+fn ruled_out(tests: &[JoinedTest], signs: &[Sign]) -> u128
+    ensures { (j : ℕ) → (bit_at result j ≡ 0) ↔ PassesJoined signs.now tests.now j }
+{
+    let mut found: u128 = 0;
+    for test in tests {
+        found |= word_at(test, signs);
+    }
+    found
+}
+
+// ---- the arcs of a block
+
+// the row with the arc to b
+fn with_arc(row: u32, b: u32) -> u32
+    requires { b < MOST_PARTS }
+    ensures { (q : ℕ) → (bit_at result q ≡ 1) ↔ ((bit_at row q ≡ 1) ⊎ (q ≡ b)) }
+{
+    PartSet::from_bits(row).union(PartSet::single(b)).bits()
+}
+
+// the bits of the first word that are not in the second
+fn word_without(x: u128, y: u128) -> u128
+    ensures { (result ≢ 0) ↔ ((j : ℕ) × (bit_at x j ≡ 1) × (bit_at y j ≡ 0)) }
+{
+    x & y ^ x
+}
+
+// the row after two parts were looked at, where these cones are ruled out
+fn row_after(row: u32, outside: u128, arc: &ArcCones) -> u32
+    requires { arc.now.b < MOST_PARTS }
+    ensures { (q : ℕ) → (bit_at result q ≡ 1) ↔ ((bit_at row q ≡ 1) ⊎ ((q ≡ arc.now.b)
+        × IsLeft arc.now outside)) }
+{
+    if word_without(arc.cones, outside) != 0 {
+        with_arc(row, arc.b)
+    } else {
+        row
+    }
+}
+
+// the cones of a block that are ruled out
+fn ruled_out_of(block: &JoinedBlock, signs: &[Sign]) -> u128
+    requires { IsJoinedBlock block.now }
+    ensures { (j : ℕ) → (bit_at result j ≡ 0) ↔ PassesJoined signs.now block.now.tests.items j }
+{
+    if block.last < signs.len() {
+        ruled_out_within(&block.tests, signs, block.last)
+    } else {
+        ruled_out(&block.tests, signs)
+    }
+}
+
+/// Adds the arcs of a block at directions with these signs.
+pub(crate) fn add_block_arcs(rows: &mut [u32; 32], block: &JoinedBlock, signs: &[Sign])
+    requires { IsJoinedBlock block.now }
+    ensures { (a b : ℕ) → HasArc rows.new a b ↔ (HasArc rows.old a b ⊎ IsJoinedArc block.now signs.now a b) }
+{
+    let outside = ruled_out_of(block, signs);
+    for arc in &block.arcs {
+        let row = rows[arc.a as usize];
+        rows[arc.a as usize] = row_after(row, outside, arc);
+    }
+}

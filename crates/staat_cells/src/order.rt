@@ -1,0 +1,150 @@
+// Incidences in order. Mostly a cell and the cell of the opposite directions stand at one place of their list, the one
+// from the beginning and the other from the end: then half of the incidences are sorted, and the others follow as their
+// mirror images.
+ghost use Rattle.std.specs.Prelude.{◌≡◌, ◌≤◌, ◌-◌, ◌/◌, ◌<◌, ℕ, All, Contains, IfOk, IfSome, IsTrue, OnOk, Some, length};
+ghost use Rattle.staat_vec.specs.Lists.{Lists};
+ghost use Rattle.staat_cells.specs.declared.incidence.Incidence.{Incidence as IncidenceValue};
+ghost use Rattle.staat_cells.specs.Mirrors.{AddsMirrors, AreMirrors, HoldsLesser, IsLesser, IsMirrored, IsUpTo};
+ghost use Rattle.staat_cells.specs.Mirrors.{mirrored};
+ghost use Rattle.staat_cells.specs.Packing.{incidence_cmp};
+
+use crate::incidence::Incidence;
+use staat_vec::OutOfMemory;
+use std::cmp::Ordering;
+
+// the sum of the numbers of two incidences, where it fits
+fn sum_of(x: Incidence, y: Incidence) -> Option<Incidence>
+    ensures { IfSome result (λ sum. IsUpTo sum x) }
+{
+    Some(Incidence {
+        a: x.a.checked_add(y.a)?,
+        b: x.b.checked_add(y.b)?,
+        c: x.c.checked_add(y.c)?,
+        d: x.d.checked_add(y.d)?,
+        of: x.of.checked_add(y.of)?,
+    })
+}
+
+// whether the numbers of an incidence are at most those of `sum`
+fn is_up_to(sum: Incidence, x: Incidence) -> bool
+    ensures { IsTrue result → IsUpTo sum x }
+{
+    x.a <= sum.a && x.b <= sum.b && x.c <= sum.c && x.d <= sum.d && x.of <= sum.of
+}
+
+// the mirror image
+fn mirrored(sum: Incidence, x: Incidence) -> Incidence
+    requires { IsUpTo sum x }
+    ensures { result ≡ mirrored sum x }
+{
+    Incidence {
+        a: sum.a - x.a,
+        b: sum.b - x.b,
+        c: sum.c - x.c,
+        d: sum.d - x.d,
+        of: sum.of - x.of,
+    }
+}
+
+// whether y is the mirror image of x, and not x itself
+fn are_mirrors(sum: Incidence, x: Incidence, y: Incidence) -> bool
+    ensures { IsTrue result → AreMirrors sum x y }
+{
+    is_up_to(sum, x) && mirrored(sum, x) == y && x != y
+}
+
+// whether the incidences are the mirror images of one another, from both ends on
+fn is_mirrored(sum: Incidence, incidences: &[Incidence]) -> bool
+    ensures { IsTrue result → IsMirrored sum incidences.now }
+{
+    let count = incidences.len();
+    if count % 2 != 0 {
+        return false;
+    }
+    for i in 0..count / 2 {
+        if !are_mirrors(sum, incidences[i], incidences[count - 1 - i]) {
+            return false;
+        }
+    }
+    true
+}
+
+// the sum of two mirror images, where the incidences are such from both ends on
+fn mirror_sum(incidences: &[Incidence]) -> Option<Incidence>
+    ensures { IfSome result (λ sum. IsMirrored sum incidences.now) }
+{
+    let first = incidences.first()?;
+    let last = incidences.last()?;
+    let sum = sum_of(*first, *last)?;
+    if is_mirrored(sum, incidences) {
+        Some(sum)
+    } else {
+        None
+    }
+}
+
+fn lesser(x: Incidence, y: Incidence) -> Incidence
+    ensures { IsLesser x y result }
+{
+    match x.cmp(&y) {
+        Ordering::Less => x,
+        _ => y,
+    }
+}
+
+// leaves the lesser of each two mirror images
+fn keep_lesser(incidences: &mut Vec<Incidence>)
+    ensures { HoldsLesser incidences.old.items incidences.new.items }
+{
+    let count = incidences.len();
+    for i in 0..count / 2 {
+        incidences[i] = lesser(incidences[i], incidences[count - 1 - i]);
+    }
+    incidences.truncate(count / 2);
+}
+
+// adds the mirror images, from the last on
+fn push_mirrors(sum: Incidence, incidences: &mut Vec<Incidence>) -> Result<(), OutOfMemory>
+    requires { All (IsUpTo sum) incidences.old.items }
+    ensures { OnOk result (AddsMirrors sum incidences.old.items incidences.new.items) }
+{
+    let count = incidences.len();
+    for i in 0..count {
+        let image = mirrored(sum, incidences[count - 1 - i]);
+        incidences.push(image)?;
+    }
+    Ok(())
+}
+
+// the incidences, ascending and each once
+fn sorted(mut incidences: Vec<Incidence>) -> Vec<Incidence>
+    ensures { Lists incidence_cmp (Contains incidences.items) result.items }
+{
+    incidences.sort_unstable();
+    incidences.dedup();
+    incidences
+}
+
+// the same of mirror images
+fn mirrors_sorted(
+    sum: Incidence,
+    mut incidences: Vec<Incidence>,
+) -> Result<Vec<Incidence>, OutOfMemory>
+    requires { IsMirrored sum incidences.items }
+    ensures { IfOk result (λ found. Lists incidence_cmp (Contains incidences.items) found.items) }
+{
+    keep_lesser(&mut incidences);
+    let mut found = sorted(incidences);
+    push_mirrors(sum, &mut found)?;
+    Ok(found)
+}
+
+/// The incidences, ascending and each once, in the memory that they have.
+pub(crate) fn in_order(incidences: Vec<Incidence>) -> Result<Vec<Incidence>, OutOfMemory>
+    ensures { IfOk result (λ found. Lists incidence_cmp (Contains incidences.items) found.items) }
+{
+    match mirror_sum(&incidences) {
+        Some(sum) => mirrors_sorted(sum, incidences),
+        None => Ok(sorted(incidences)),
+    }
+}
