@@ -51,7 +51,8 @@ pub record AddsCone (cone : List Side) (a b : ℕ) (old new : List Block) : Type
 -- by cones of the parts a and b
 pub record AddsConesOf (cones : List (List Side)) (a b : ℕ) (old new : List Block) : Type 0 where
   pub arcs : (signs : List Sign) (x y : ℕ)
-      → IsListedArc new signs x y ↔ (IsListedArc old signs x y ⊎ ((x ≡ a) × (y ≡ b) × Any (AreInside signs) cones))
+      → IsListedArc new signs x y ↔
+      (IsListedArc old signs x y ⊎ ((x ≡ a) × (y ≡ b) × Any (AreInside signs) cones))
   pub blocks : All IsBlock new
 
 -- the blocks have grown by what has the arcs of P

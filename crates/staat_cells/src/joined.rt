@@ -6,8 +6,8 @@ ghost use Rattle.std.specs.Int.{bit_at};
 ghost use Rattle.staat_vec.specs.declared.vector.Sign.{Sign as SignValue};
 ghost use Rattle.staat_graph.specs.Graphs.{HasArc};
 ghost use Rattle.staat_cells.specs.Blocks.{HasParts, HasPlanesUpTo, IsBlock, IsBlockArc, IsLeft, PassesAll, no_test};
-ghost use Rattle.staat_cells.specs.Blocks.{IsJoinedBlock};
-ghost use Rattle.staat_cells.specs.Blocks.{IsJoinedArc, IsJoinedPassed, IsPassed, PassesJoined, joined_place, joined_word};
+ghost use Rattle.staat_cells.specs.Blocks.{IsJoinedArc, IsJoinedBlock, IsJoinedPassed, IsPassed, PassesJoined};
+ghost use Rattle.staat_cells.specs.Blocks.{joined_place, joined_word};
 ghost use Rattle.staat_cells.specs.CellGraphs.{IsArcAt, IsListedArc};
 ghost use Rattle.staat_cells.specs.HalfSpaces.{sign_at};
 

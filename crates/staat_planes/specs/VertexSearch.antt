@@ -67,7 +67,8 @@ pub record IsRowOf (planes : List V3) (p : PlanePairs) (g : V3) : Type 0 where
   pub plane : IsPlaneNormal g
   pub is : slice_index_or planes (slice_index (numbers_of p) p.first) origin ≡ g
   pub some : p.second < p.count
-  pub on : All (λ d. (dot g d ≡ pos 0) × (d ≢ origin)) (crossings g (planes_at planes (drop p.second (numbers_of p))))
+  pub on : All (λ d. (dot g d ≡ pos 0) × (d ≢ origin))
+      (crossings g (planes_at planes (drop p.second (numbers_of p))))
 
 -- the rest of a row is left before what the second place has left
 abbrev pub HasRowBefore : List V3 → PlanePairs → PlanePairs → Type 0
