@@ -5,9 +5,9 @@ ghost use Rattle.std.specs.Prelude.{slice_index, slice_index_or};
 ghost use Rattle.std.specs.Int.{bit_at};
 ghost use Rattle.staat_vec.specs.declared.vector.Sign.{Sign as SignValue};
 ghost use Rattle.staat_graph.specs.Graphs.{HasArc};
-ghost use Rattle.staat_cells.specs.Blocks.{HasParts, HasPlanesUpTo, IsBlock, IsBlockArc, IsLeft, PassesAll, no_test};
-ghost use Rattle.staat_cells.specs.Blocks.{IsJoinedArc, IsJoinedBlock, IsJoinedPassed, IsPassed, PassesJoined};
-ghost use Rattle.staat_cells.specs.Blocks.{joined_place, joined_word};
+ghost use Rattle.staat_cells.specs.Blocks.{HasParts, HasPlanesUpTo, IsBlock, IsBlockArc, IsJoinedArc, IsJoinedBlock};
+ghost use Rattle.staat_cells.specs.Blocks.{IsJoinedPassed, IsLeft, IsPassed, PassesAll, PassesJoined};
+ghost use Rattle.staat_cells.specs.Blocks.{joined_place, joined_word, no_test};
 ghost use Rattle.staat_cells.specs.CellGraphs.{IsArcAt, IsListedArc};
 ghost use Rattle.staat_cells.specs.HalfSpaces.{sign_at};
 

@@ -1,10 +1,8 @@
 // Incidences in order. Mostly a cell and the cell of the opposite directions stand at one place of their list, the one
 // from the beginning and the other from the end: then half of the incidences are sorted, and the others follow as their
 // mirror images.
-ghost use Rattle.std.specs.Prelude.{◌≡◌, ◌≤◌, ◌-◌, ◌/◌, ◌<◌, ℕ, All, Contains};
-ghost use Rattle.std.specs.Prelude.{IfOk, IfSome, IsTrue, OnOk, Some, length};
+ghost use Rattle.std.specs.Prelude.{◌≡◌, All, Contains, IfOk, IfSome, IsTrue, OnOk};
 ghost use Rattle.staat_vec.specs.Lists.{Lists};
-ghost use Rattle.staat_cells.specs.declared.incidence.Incidence.{Incidence as IncidenceValue};
 ghost use Rattle.staat_cells.specs.Mirrors.{AddsMirrors, AreMirrors, HoldsLesser, IsLesser, IsMirrored, IsUpTo};
 ghost use Rattle.staat_cells.specs.Mirrors.{mirrored};
 ghost use Rattle.staat_cells.specs.Packing.{incidence_cmp};
