@@ -1,6 +1,5 @@
 -- Steps of the loops that list the incidences of vertices.
-use Rattle.std.proofs.Common.{◌≡◌, ◌⊎◌, ◌↔◌, inl, inr, ⊎_elim, ℕ, suc, ◌+◌, ◌-◌, ◌<◌, ◌≤◌, refl, sym, ap, subst, ◌∙◌, arith, List, [], ◌∷◌, ◌++◌, length, get_or, take, drop, drop-cons, Contains}
-use Rattle.std.proofs.lemmas.List.{drop_all, take_all, take_more}
+use Rattle.std.proofs.Common.{◌≡◌, ◌⊎◌, ◌↔◌, inl, inr, ⊎_elim, ℕ, refl, sym, ap, subst, ◌∙◌, List, [], ◌∷◌, ◌++◌, Contains}
 use Rattle.std.proofs.lemmas.List.Elements.{Contains-append_left, Contains-append_right, Contains-append_cases, Contains-push, Contains-push_cases}
 use Rattle.staat_vec.specs.declared.vector.V3.{V3}
 use Rattle.staat_vec.specs.declared.vector.Sign.TheVariants.{Zero}
@@ -83,60 +82,10 @@ more_planes cs ds planes v m k x = (
       (λ b. let o = b.beside in record { signs = b.signs; beside = record { c = o.c; c_in = Contains-append_right cs ds o.c o.c_in; on = o.on; towards = o.towards }; is = b.is }),
 )
 
-pub next_plane : (planes : List V3) (v m d : V3) (k j : ℕ) (old mid new : List Incidence) → j < length planes → GrewByAll (IsBesideIncidence (take j planes) planes v m k) old mid → GrewByAll (IsBesideIncidence (get_or planes j d ∷ []) planes v m k) mid new
-    → GrewByAll (IsBesideIncidence (take (j + 1) planes) planes v m k) old new
-next_plane planes v m d k j old mid new lt p q =
-    subst (λ cs. GrewByAll (IsBesideIncidence cs planes v m k) old new) (sym (take_more planes j d lt))
-    (grew_both (IsBesideIncidence (take j planes) planes v m k) (IsBesideIncidence (get_or planes j d ∷ []) planes v m k) (IsBesideIncidence (take j planes ++ get_or planes j d ∷ []) planes v m k) old mid new p q (more_planes (take j planes) (get_or planes j d ∷ []) planes v m k))
+pub planes_more : (cs ds planes : List V3) (v m : V3) (k : ℕ) (old mid new : List Incidence) → GrewByAll (IsBesideIncidence cs planes v m k) old mid
+    → GrewByAll (IsBesideIncidence ds planes v m k) mid new → GrewByAll (IsBesideIncidence (cs ++ ds) planes v m k) old new
+planes_more cs ds planes v m k old mid new p q =
+    grew_both (IsBesideIncidence cs planes v m k) (IsBesideIncidence ds planes v m k) (IsBesideIncidence (cs ++ ds) planes v m k) old mid new p q (more_planes cs ds planes v m k)
 
 pub no_planes : (planes : List V3) (v m : V3) (k : ℕ) (incidences : List Incidence) → GrewByAll (IsBesideIncidence [] planes v m k) incidences incidences
 no_planes planes v m k incidences = grew_none (IsBesideIncidence [] planes v m k) incidences (λ x b. let o = b.beside in Contains-nothing o.c o.c_in)
-
-pub all_planes : (planes : List V3) (v m : V3) (k j : ℕ) (old new : List Incidence) → length planes ≤ j → GrewByAll (IsBesideIncidence (take j planes) planes v m k) old new → GrewByAll (IsBesideIncidence planes planes v m k) old new
-all_planes planes v m k j old new le grew = subst (λ cs. GrewByAll (IsBesideIncidence cs planes v m k) old new) (take_all j planes le) grew
-
--- ---- from the last plane on
-
-pub last_planes : (planes : List V3) (v m : V3) (k : ℕ) (incidences : List Incidence)
-    → GrewByAll (IsBesideIncidence (drop (length planes - 0) planes) planes v m k) incidences incidences
-last_planes planes v m k incidences =
-    subst (λ cs. GrewByAll (IsBesideIncidence cs planes v m k) incidences incidences)
-    (sym (drop_all (length planes - 0) planes (omega arith))) (no_planes planes v m k incidences)
-
-pub plane_before : (planes : List V3) (v m d : V3) (k i : ℕ) (old mid new : List Incidence) → i < length planes
-    → GrewByAll (IsBesideIncidence (drop (length planes - i) planes) planes v m k) old mid
-    → GrewByAll (IsBesideIncidence (get_or planes (length planes - 1 - i) d ∷ []) planes v m k) mid new
-    → GrewByAll (IsBesideIncidence (drop (length planes - (i + 1)) planes) planes v m k) old new
-plane_before planes v m d k i old mid new lt p q =
-    subst (λ cs. GrewByAll (IsBesideIncidence cs planes v m k) old new) (sym split)
-    (grew_both (IsBesideIncidence rest planes v m k) (IsBesideIncidence (c ∷ []) planes v m k)
-    (IsBesideIncidence ((c ∷ []) ++ rest) planes v m k) old mid new p q (λ x. swapped (more_planes (c ∷ []) rest planes v m k x)))
-  where
-    c : V3
-    c = get_or planes (length planes - 1 - i) d
-
-    rest : List V3
-    rest = drop (length planes - i) planes
-
-    next : suc (length planes - 1 - i) ≡ length planes - i
-    next = omega (arith, lt)
-
-    first : length planes - (i + 1) ≡ length planes - 1 - i
-    first = omega (arith, lt)
-
-    split : drop (length planes - (i + 1)) planes ≡ (c ∷ []) ++ rest
-    split = ap (λ n. drop n planes) first ∙ drop-cons planes (length planes - 1 - i) d (omega (arith, lt))
-        ∙ ap (λ n. c ∷ drop n planes) next
-
-    swapped : {A B C : Type 0} → A ↔ (B ⊎ C) → A ↔ (C ⊎ B)
-    swapped {A} {B} {C} h = (
-      λ a. ⊎_elim {C = C ⊎ B} (λ b. inr b) (λ c. inl c) (h.0 a),
-      λ r. h.1 (⊎_elim {C = B ⊎ C} (λ c. inr c) (λ b. inl b) r),
-    )
-
-pub planes_back : (planes : List V3) (v m : V3) (k i : ℕ) (old new : List Incidence) → length planes ≤ i
-    → GrewByAll (IsBesideIncidence (drop (length planes - i) planes) planes v m k) old new
-    → GrewByAll (IsBesideIncidence planes planes v m k) old new
-planes_back planes v m k i old new le grew =
-    let none : length planes - i ≡ 0 = omega (arith, le) in
-    subst (λ cs. GrewByAll (IsBesideIncidence cs planes v m k) old new) (ap (λ n. drop n planes) none) grew

@@ -1,6 +1,6 @@
 // The incidences of vertices: the edges that end there.
 ghost use Rattle.std.specs.Prelude.{◌≡◌, ◌≢◌, ◌≤◌, ◌↔◌, ◌++◌, [], ◌∷◌};
-ghost use Rattle.std.specs.Prelude.{All, Contains, IfOk, List, OnOk, length, map};
+ghost use Rattle.std.specs.Prelude.{All, Contains, IfOk, List, OnOk, length, map, slice_index_or};
 ghost use Rattle.staat_vec.specs.Vectors.{IsWithin, cross, dot, negative, origin, sign};
 ghost use Rattle.staat_model.specs.Cells.{signs_of};
 ghost use Rattle.staat_model.specs.Planes.{vertices};
@@ -111,6 +111,30 @@ fn push_on(
     }
 }
 
+// adds the incidences of a vertex on a plane at which it has a zero
+fn push_at(
+    planes: &[V3],
+    point: &Cell,
+    zeros: &[usize],
+    base: Incidence,
+    j: usize,
+    m: V3,
+    incidences: &mut Vec<Incidence>,
+) -> Result<(), OutOfMemory>
+    requires planes { All (IsWithin NORMAL) planes.now }
+    requires few { length planes.now ≤ 256 }
+    requires signs { point.now.signs ≡ signs_of planes.now point.now.d }
+    requires zeros { zeros.now ≡ zero_places 0 point.now.signs }
+    requires base { base ≡ incidence_of point.now.signs base.of }
+    requires listed { Contains zeros.now j }
+    requires m { IsWithin NORMAL m }
+    ensures { OnOk result (GrewByAll (IsBesideIncidence (slice_index_or planes.now j origin ∷ []) planes.now
+        point.now.d m base.of) incidences.old.items incidences.new.items) }
+{
+    let s = point.signs.as_slice()[j];
+    push_on(planes, point, zeros, base, planes[j], s, m, incidences)
+}
+
 // adds the incidences of a vertex on all planes through it
 fn push_all(
     planes: &[V3],
@@ -129,9 +153,8 @@ fn push_all(
     ensures { OnOk result (GrewByAll (IsBesideIncidence planes.now planes.now point.now.d m base.of)
         incidences.old.items incidences.new.items) }
 {
-    for j in 0..planes.len() {
-        let s = point.signs.as_slice()[j];
-        push_on(planes, point, zeros, base, planes[j], s, m, incidences)?;
+    for i in 0..zeros.len() {
+        push_at(planes, point, zeros, base, zeros[i], m, incidences)?;
     }
     Ok(())
 }
@@ -154,10 +177,9 @@ fn push_all_back(
     ensures { OnOk result (GrewByAll (IsBesideIncidence planes.now planes.now point.now.d m base.of)
         incidences.old.items incidences.new.items) }
 {
-    for i in 0..planes.len() {
-        let j = planes.len() - 1 - i;
-        let s = point.signs.as_slice()[j];
-        push_on(planes, point, zeros, base, planes[j], s, m, incidences)?;
+    for i in 0..zeros.len() {
+        let j = zeros[zeros.len() - 1 - i];
+        push_at(planes, point, zeros, base, j, m, incidences)?;
     }
     Ok(())
 }

@@ -1,12 +1,21 @@
-use Rattle.staat_vec.specs.Vectors.{origin}
-use Rattle.staat_cells.proofs.PushingIncidences.{all_planes, next_plane, no_planes}
+use Rattle.std.proofs.Common.{◌∙◌, ap}
+use Rattle.staat_cells.specs.Changes.{zero_places}
+use Rattle.std.proofs.lemmas.List.Elements.{Contains-get_or}
+use Rattle.staat_cells.proofs.ZeroPlanes.{all_zeros, next_zero, no_zeros}
 use Rattle.staat_cells.proofs.edge_incidences.push_all.Goals as goal
 
-pub loop-j-init : goal.loop-j-init
-loop-j-init c = no_planes c.args.planes.now c.args.point.now.d c.args.m c.args.base.of c.args.incidences.now.items
+pub loop-i-init : goal.loop-i-init
+loop-i-init c = no_zeros c.args.planes.now c.args.point.now.d c.args.m c.args.base.of c.args.zeros.now c.args.incidences.now.items
 
-pub loop-j-preserved : goal.loop-j-preserved
-loop-j-preserved c = next_plane c.args.planes.now c.args.point.now.d c.args.m origin c.args.base.of c.loop-j.j c.args.incidences.now.items c.loop-j.incidences.items c.push_on.new.incidences.items c.loop-j-test.true c.loop-j.invariant c.in_ok-push_on.ensures
+pub push_at-requires-clause-listed : goal.push_at-requires-clause-listed
+push_at-requires-clause-listed c = Contains-get_or c.args.zeros.now c.loop-i.i 0 c.loop-i-test.true
+
+pub loop-i-preserved : goal.loop-i-preserved
+loop-i-preserved c =
+    next_zero c.args.planes.now c.args.point.now.d c.args.m c.args.base.of c.args.zeros.now c.loop-i.i c.args.incidences.now.items
+    c.loop-i.incidences.items c.push_at.new.incidences.items c.loop-i-test.true c.loop-i.invariant c.in_ok-push_at.ensures
 
 pub returns : goal.returns
-returns c = all_planes c.args.planes.now c.args.point.now.d c.args.m c.args.base.of c.loop-j.j c.args.incidences.now.items c.loop-j.incidences.items c.loop-j-test.false c.loop-j.invariant
+returns c =
+    all_zeros c.args.planes.now c.args.point.now.d c.args.m c.args.base.of c.args.zeros.now c.loop-i.i c.args.incidences.now.items
+    c.loop-i.incidences.items c.loop-i-test.false (c.requires.zeros ∙ ap (zero_places 0) c.requires.signs) c.loop-i.invariant

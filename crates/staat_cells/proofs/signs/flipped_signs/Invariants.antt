@@ -1,6 +1,6 @@
-use Rattle.std.proofs.Common.{◌≡◌, ◌++◌, drop, map}
-use Rattle.staat_cells.specs.Stages.{flipped}
+use Rattle.std.proofs.Common.{◌≡◌}
+use Rattle.staat_cells.proofs.Flipping.{flipped_to}
 use Rattle.staat_cells.proofs.signs.flipped_signs.Given as goal
 
 abbrev pub invariant-loop-s : goal.invariant-loop-s
-invariant-loop-s l = l.found.items ++ map flipped (drop l.s-index l.signs) ≡ map flipped l.signs
+invariant-loop-s l = l.s-items ≡ flipped_to l.s-index l.signs
