@@ -74,11 +74,11 @@ module _ (planes : List V3) (are : AreTablePlanes planes) (few : length planes â
       all = Î» x s. lists.all x ((open_incidences_are planes are (map entry_of edges) edges_are x).1 s);
     }
 
-    open_pairs : HavePairs incidences (length edges)
+    pub open_pairs : HavePairs incidences (length edges)
     open_pairs = counted Open edges incidences (pairs planes Open (map entry_of edges) incidences few open_lists
         (open_two planes (holds_axes planes are) (planes_apart planes are) (planes_some planes are) (map entry_of edges) edges_are))
 
-    opens_listed : AreCellsOf planes Open (composed_up_to Open (map entry_of edges) incidences (length incidences))
+    pub opens_listed : AreCellsOf planes Open (composed_up_to Open (map entry_of edges) incidences (length incidences))
     opens_listed =
         composed_are_cells planes Open (map entry_of edges) incidences few open_lists
         (open_two planes (holds_axes planes are) (planes_apart planes are) (planes_some planes are) (map entry_of edges) edges_are)

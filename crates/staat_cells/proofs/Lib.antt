@@ -18,6 +18,7 @@ pub mod OpenCells
 pub mod Grouping
 pub mod SignOrder
 pub mod Composing
+pub mod AddedCells
 pub mod Words
 pub mod IncidenceOrder
 pub mod Mirrors

@@ -1,6 +1,6 @@
 -- Cells as they are listed, and cells composed of the first two cells on their borders.
 use Rattle.std.specs.Prelude.{◌≡◌, ℕ, zero, suc, ◌+◌, ◌<◌, Bool, true, ◌&&◌, not, nat_eq}
-use Rattle.std.specs.Prelude.{if◌then◌else◌, List, [], ◌∷◌, ◌++◌, length, slice_index_or, All}
+use Rattle.std.specs.Prelude.{if◌then◌else◌, List, [], ◌∷◌, ◌++◌, length, slice_index_or, All, drop, map}
 use Rattle.staat_vec.specs.declared.vector.Sign.{Sign}
 use Rattle.staat_vec.specs.Vectors.{origin, plus}
 use Rattle.staat_model.specs.declared.tree.Kind.{Kind}
@@ -52,6 +52,13 @@ composed_up_to kind lower incidences zero = []
 composed_up_to kind lower incidences (suc i) =
     composed_up_to kind lower incidences i
     ++ (if begins_cell incidences i then composed_at kind lower incidences i ∷ [] else [])
+
+-- the cells of the incidences, whose lower cells stand in the list from a place on, were added to it
+pub record AddsComposed (kind : Kind) (from : ℕ) (incidences : List Incidence) (old new : List Cell) : Type 0 where
+  pub added : List Cell
+  pub composed : map entry_of added
+      ≡ composed_up_to kind (map entry_of (drop from old)) incidences (length incidences)
+  pub is : new ≡ old ++ added
 
 -- each incidence is of a listed cell, and where a cell begins another incidence of it follows
 pub record HavePairs (incidences : List Incidence) (count : ℕ) : Type 0 where

@@ -7,8 +7,8 @@ ghost use Rattle.staat_pairs.specs.Tables.{AreTablePlanes};
 ghost use Rattle.staat_cells.specs.Compositions.{entry_of};
 
 use crate::cell::{Cell, Cells};
-use crate::compose::composed_cells;
-use crate::skeleton::Skeleton;
+use crate::compose::push_composed;
+use crate::lower::LowerCells;
 use staat_model::Kind;
 use staat_planes::{MOST_CELL_PLANES, PlaneTable};
 use staat_vec::{DIRECTION, OutOfMemory, V3};
@@ -20,12 +20,9 @@ fn cells_of_planes(alloc: Global, planes: &[V3]) -> Result<Vec<Cell>, OutOfMemor
     requires few { length planes.now ≤ MOST_CELL_PLANES }
     ensures { IfOk result (λ cells. AreCells planes.now (map entry_of cells.items)) }
 {
-    let skeleton = Skeleton::of_planes(alloc, planes)?;
-    let mut cells = skeleton.points;
-    let mut edges = skeleton.edges;
-    let mut opens = composed_cells(alloc, Kind::Open, &edges, &skeleton.incidences)?;
-    cells.append(&mut edges)?;
-    cells.append(&mut opens)?;
+    let lower = LowerCells::of_planes(alloc, planes)?;
+    let mut cells = lower.cells;
+    push_composed(alloc, Kind::Open, &mut cells, lower.points, &lower.incidences)?;
     Ok(cells)
 }
 

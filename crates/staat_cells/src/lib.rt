@@ -13,6 +13,7 @@ mod half_spaces;
 mod incidence;
 mod joined;
 pub mod laws;
+mod lower;
 mod narrow;
 mod open_incidences;
 mod order;

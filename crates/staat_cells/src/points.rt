@@ -110,7 +110,8 @@ fn copied(alloc: Global, cell: &Cell) -> Result<Cell, OutOfMemory>
     })
 }
 
-/// The cells of the incidences.
+/// The cells of the incidences, with room for the edges and the open cells behind them: for planes in general position
+/// that are all cells, by Euler's formula.
 pub(crate) fn cells_of(
     alloc: Global,
     cells: &[Cell],
@@ -120,7 +121,8 @@ pub(crate) fn cells_of(
     ensures { IfOk result (λ found. map entry_of found.items
         ≡ map (λ x. cell_at (map entry_of cells.now) x.of) incidences.now) }
 {
-    let mut found = Vec::with_capacity(alloc, incidences.len())?;
+    let room = incidences.len().saturating_mul(4).saturating_add(2);
+    let mut found = Vec::with_capacity(alloc, room)?;
     for x in incidences {
         found.push(copied(alloc, &cells[x.of])?)?;
     }

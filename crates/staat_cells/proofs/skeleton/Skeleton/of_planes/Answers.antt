@@ -1,27 +1,22 @@
-use Rattle.std.proofs.Common.{◌≤◌, All, List, length, map, subst, sym}
-use Rattle.staat_model.specs.declared.tree.Kind.TheVariants.{Edge}
+use Rattle.std.proofs.Common.{List, map, subst, sym}
+use Rattle.staat_model.specs.declared.tree.Kind.TheVariants.{Edge, Point}
+use Rattle.staat_model.specs.Cells.{AreCellsOf}
+use Rattle.staat_vec.specs.Lists.{Lists}
 use Rattle.staat_cells.specs.declared.cell.Cell.{Cell}
 use Rattle.staat_cells.specs.Compositions.{entry_of}
 use Rattle.staat_cells.specs.Packing.{incidence_cmp}
 use Rattle.staat_cells.specs.Stages.{IsFilledIncidence}
-use Rattle.staat_vec.specs.Lists.{Lists}
 use Rattle.staat_cells.proofs.KindLists.{skeleton_is}
-use Rattle.staat_cells.proofs.WholeLists.{few_signs}
 use Rattle.staat_cells.proofs.skeleton.Skeleton.of_planes.Goals as goal
-
-pub incidences_of-requires : goal.incidences_of-requires
-incidences_of-requires c = record {
-  few = subst (All (λ (x : Cell). length x.signs ≤ 256)) (sym c.deref-3.ensures.value)
-      (few_signs c.args.planes.now c.requires.planes Edge c.in_ok-edges.edges.items c.in_ok-edges.ensures c.requires.few);
-}
 
 pub returns : goal.returns
 returns c =
-    let lists : Lists incidence_cmp (IsFilledIncidence
-    (map entry_of c.in_ok-edges.edges.items)) c.in_ok-incidences.incidences.items =
-    subst (λ (l : List Cell). Lists incidence_cmp
-    (IsFilledIncidence (map entry_of l)) c.in_ok-incidences.incidences.items)
-    c.deref-3.ensures.value c.in_ok-incidences.ensures in
-    skeleton_is c.args.planes.now c.requires.planes c.requires.few
-    (record { points = c.in_ok-points.points; edges = c.in_ok-edges.edges; incidences = c.in_ok-incidences.incidences })
-    c.in_ok-points.ensures c.in_ok-edges.ensures lists
+    let planes = c.args.planes.now in
+    let lower = c.in_ok-lower.ensures in
+    let split = c.in_ok-edges.ensures in
+    skeleton_is planes c.requires.planes c.requires.few
+    (record { points = c.split_off.new.self; edges = c.in_ok-edges.edges; incidences = c.in_ok-lower.lower.incidences })
+    (subst (λ (l : List Cell). AreCellsOf planes Point (map entry_of l)) (sym split.items) lower.points)
+    (subst (λ (l : List Cell). AreCellsOf planes Edge (map entry_of l)) (sym split.tail) lower.edges)
+    (subst (λ (l : List Cell). Lists incidence_cmp (IsFilledIncidence (map entry_of l))
+    c.in_ok-lower.lower.incidences.items) (sym split.tail) lower.incidences)

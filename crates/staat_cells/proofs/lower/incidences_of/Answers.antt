@@ -5,7 +5,7 @@ use Rattle.staat_cells.specs.Compositions.{entry_of}
 use Rattle.staat_cells.specs.Packing.{incidence_cmp}
 use Rattle.staat_cells.specs.Stages.{IsFilledIncidence}
 use Rattle.staat_cells.proofs.WholeLists.{lists_same}
-use Rattle.staat_cells.proofs.skeleton.incidences_of.Goals as goal
+use Rattle.staat_cells.proofs.lower.incidences_of.Goals as goal
 
 pub returns : goal.returns
 returns c =

@@ -8,7 +8,7 @@ use Rattle.staat_cells.specs.Compositions.{entry_of}
 use Rattle.staat_cells.specs.Stages.{IsOwnIncidence, cell_at}
 use Rattle.staat_cells.proofs.KindLists.{points_listed, incidences_listed}
 use Rattle.staat_cells.proofs.TableRules.{listed_small}
-use Rattle.staat_cells.proofs.skeleton.points_of.Goals as goal
+use Rattle.staat_cells.proofs.lower.points_of.Goals as goal
 
 pub points_at-requires-clause-vertices : goal.points_at-requires-clause-vertices
 points_at-requires-clause-vertices c = listed_small c.args.planes.now c.args.corners.now c.requires.planes c.requires.corners
