@@ -1,5 +1,5 @@
 -- Steps of a loop that adds composed cells to the list of the lower ones, and what is then listed.
-use Rattle.std.proofs.Common.{◌≡◌, ◌∙◌, ℕ, ◌+◌, ◌<◌, ◌≤◌, refl, sym, ap, subst, arith, List, [], ◌∷◌, ◌++◌, length, map, false}
+use Rattle.std.proofs.Common.{◌≡◌, ◌∙◌, ℕ, ◌+◌, ◌≤◌, refl, sym, ap, subst, arith, List, [], ◌∷◌, ◌++◌, length, map, false}
 use Rattle.std.proofs.Common.{drop, take}
 use Rattle.std.specs.List.{between}
 use Rattle.std.proofs.lemmas.List.{append_assoc, length-append, map-append, take-append-drop}
@@ -14,23 +14,19 @@ use Rattle.staat_pairs.specs.Tables.{AreTablePlanes}
 use Rattle.staat_cells.specs.declared.cell.Cell.{Cell}
 use Rattle.staat_cells.specs.declared.incidence.Incidence.{Incidence}
 use Rattle.staat_cells.specs.declared.lower.LowerCells.{LowerCells}
-use Rattle.staat_cells.specs.Compositions.{AddsComposed, begins_cell, composed_up_to}
+use Rattle.staat_cells.specs.Compositions.{AddsComposed, begins_cell, begun_up_to, composed_up_to}
 use Rattle.staat_cells.specs.Compositions.{entry_of}
 use Rattle.staat_cells.specs.Packing.{incidence_cmp}
 use Rattle.staat_cells.specs.Skeletons.{AddsCellsOf, AreLowerCells, IsComposedAt}
-use Rattle.staat_cells.specs.Stages.{IsFilledIncidence}
-use Rattle.staat_cells.proofs.Composing.{composed_none, composed_same, composed_with}
-use Rattle.staat_cells.proofs.KindLists.{opens_listed}
+use Rattle.staat_cells.specs.Stages.{HaveSigns, IsFilledIncidence, IsIncidence}
+use Rattle.staat_cells.proofs.Composing.{append_nothing, composed_none, composed_same, composed_with}
+use Rattle.staat_cells.proofs.KindLists.{edge_signs, edges_listed, opens_listed}
 
 -- the cells of the first incidences were added
 pub record HasAdded (kind : Kind) (from : ℕ) (incidences : List Incidence) (i : ℕ) (old new : List Cell) : Type 0 where
   pub added : List Cell
   pub composed : map entry_of added ≡ composed_up_to kind (map entry_of (drop from old)) incidences i
   pub is : new ≡ old ++ added
-
-append_none : {X : Type 0} (xs : List X) → xs ≡ xs ++ []
-append_none [] = refl
-append_none (x ∷ xs) = ap (λ l. x ∷ l) (append_none xs)
 
 pub lower_stay : (from end : ℕ) (old new added : List Cell) → end ≡ length old → new ≡ old ++ added
     → between from end new ≡ drop from old
@@ -42,7 +38,7 @@ module _ (kind : Kind) (from : ℕ) (incidences : List Incidence) (old : List Ce
   added_none = record {
     added = [];
     composed = composed_none kind (map entry_of (drop from old)) incidences;
-    is = append_none old;
+    is = sym (append_nothing old);
   }
 
   pub added_same : (i : ℕ) (cells new : List Cell) → HasAdded kind from incidences i old cells → new ≡ cells
@@ -78,6 +74,24 @@ pub added_behind : (old added new : List Cell) (count : ℕ) → count ≡ lengt
 added_behind old added new count e is = (λ i. drop (e i) (is i)) ∙ drop-append_seam old added
 
 -- ---- the points, the edges and the open cells of planes in one list
+
+-- the edges that were composed behind the points, and incidences with their signs
+module _ (planes : List V3) (rules : AreTablePlanes planes) (few : length planes ≤ 256) (points cells : List Cell)
+    (are : AreCellsOf planes Point (map entry_of points)) (ends : List Incidence)
+    (lists : Lists incidence_cmp (IsIncidence planes Edge (map entry_of points)) ends)
+    (adds : AddsComposed Edge 0 ends points cells) where
+  pub edges_are : AreCellsOf planes Edge (map entry_of adds.added)
+  edges_are = edges_listed planes rules few points are ends lists adds.added adds.composed
+
+  pub edges_added : AddsCellsOf planes Edge points cells
+  edges_added = record { added = adds.added; are = edges_are; is = adds.is }
+
+  pub own_added : (own : List Incidence) → own ≡ begun_up_to ends (length ends)
+      → HaveSigns (map entry_of adds.added) own
+  own_added own is =
+      subst (HaveSigns (map entry_of adds.added)) (sym is)
+      (subst (λ l. HaveSigns l (begun_up_to ends (length ends))) (sym adds.composed)
+      (edge_signs planes rules few points are ends lists))
 
 module _ (planes : List V3) where
   -- the edges behind the points are what was added to these

@@ -1,11 +1,11 @@
 -- Steps of the loops that join lists of signs and cells.
-use Rattle.std.proofs.Common.{◌≡◌, ℕ, zero, suc, ◌+◌, ◌<◌, ap, sym, ◌∙◌, refl, arith, add-one, List, [], ◌∷◌, ◌++◌, length, get_or, map, false, if◌then◌else◌}
+use Rattle.std.proofs.Common.{◌≡◌, ℕ, zero, suc, ◌+◌, ◌<◌, ap, sym, ◌∙◌, refl, arith, add-one, List, [], ◌∷◌, ◌++◌, length, get_or, map, false, true, if◌then◌else◌}
 use Rattle.std.proofs.lemmas.List.{get_or-map, map-append}
 use Rattle.staat_model.specs.declared.tree.Kind.{Kind}
 use Rattle.staat_model.specs.Cells.{CellEntry}
 use Rattle.staat_cells.specs.declared.cell.Cell.{Cell}
 use Rattle.staat_cells.specs.declared.incidence.Incidence.{Incidence}
-use Rattle.staat_cells.specs.Compositions.{begins_cell, entry_of, composed_at, composed_cell, composed_up_to, no_cell, no_incidence}
+use Rattle.staat_cells.specs.Compositions.{begins_cell, begun_up_to, entry_of, composed_at, composed_cell, composed_up_to, no_cell, no_incidence}
 use Rattle.staat_cells.specs.Skeletons.{IsComposedAt}
 
 -- ---- cells of the first incidences
@@ -46,7 +46,7 @@ is_composed_at kind lower incidences i cell a b x y li ln entry a_is b_is la lb 
     ∙ ap (λ s. get_or (map entry_of lower) s.of no_cell) at_n in
     entry ∙ (λ j. composed_cell kind (left j) (right j))
 
-append_nothing : {X : Type 0} (xs : List X) → xs ++ [] ≡ xs
+pub append_nothing : {X : Type 0} (xs : List X) → xs ++ [] ≡ xs
 append_nothing [] = refl
 append_nothing (x ∷ xs) = ap (λ l. x ∷ l) (append_nothing xs)
 
@@ -56,3 +56,26 @@ composed_same kind lower incidences i cells none is =
     is ∙ sym (append_nothing (composed_up_to kind lower incidences i))
     ∙ ap (λ b. composed_up_to kind lower incidences i ++ (if b then composed_at kind lower incidences i ∷ [] else [])) (sym none)
     ∙ ap (composed_up_to kind lower incidences) (sym (add-one i))
+
+-- ---- the incidences at which cells begin
+
+pub begun_none : (incidences : List Incidence) → [] ≡ begun_up_to incidences 0
+unfolding begun_up_to
+begun_none incidences = refl
+
+pub begun_more : (incidences : List Incidence) (i : ℕ) (old new : List Incidence) (x : Incidence)
+    → old ≡ begun_up_to incidences i → new ≡ old ++ x ∷ [] → x ≡ get_or incidences i no_incidence
+    → begins_cell incidences i ≡ true → new ≡ begun_up_to incidences (i + 1)
+unfolding begun_up_to
+begun_more incidences i old new x before is at begins =
+    is ∙ (λ j. before j ++ at j ∷ [])
+    ∙ ap (λ b. begun_up_to incidences i ++ (if b then get_or incidences i no_incidence ∷ [] else [])) (sym begins)
+    ∙ ap (begun_up_to incidences) (sym (add-one i))
+
+pub begun_same : (incidences : List Incidence) (i : ℕ) (found : List Incidence) → found ≡ begun_up_to incidences i
+    → begins_cell incidences i ≡ false → found ≡ begun_up_to incidences (i + 1)
+unfolding begun_up_to
+begun_same incidences i found before none =
+    before ∙ sym (append_nothing (begun_up_to incidences i))
+    ∙ ap (λ b. begun_up_to incidences i ++ (if b then get_or incidences i no_incidence ∷ [] else [])) (sym none)
+    ∙ ap (begun_up_to incidences) (sym (add-one i))

@@ -1,12 +1,12 @@
 -- The incidences of a cell stand together in the list, and its cells are composed from the first two.
-use Rattle.std.proofs.Common.{◌≡◌, ◌≢◌, ◌⊎◌, inl, inr, ⊎_elim, ℕ, zero, suc, ◌<◌, ◌≤◌, Bool, true, false, ◌&&◌, not, if◌then◌else◌, refl, sym, ap, subst, ◌∙◌, arith, add-one, List, [], ◌∷◌, ◌++◌, length, get_or, map, All, Contains}
+use Rattle.std.proofs.Common.{◌≡◌, ◌≢◌, ◌⊎◌, inl, inr, ⊎_elim, ℕ, zero, suc, ◌+◌, ◌<◌, ◌≤◌, Bool, true, false, ◌&&◌, not, if◌then◌else◌, refl, sym, ap, subst, ◌∙◌, arith, add-one, List, [], ◌∷◌, ◌++◌, length, get_or, map, All, Contains}
 use Rattle.std.specs.Prelude.{nat_eq}
 use Rattle.std.specs.Ordering.{nat_cmp, ordering_then}
 use Rattle.std.specs.declared.cmp.Ordering.TheVariants.{Less}
 use Rattle.std.specs.List.Sorted.{IsStrictlySortedBy}
 use Rattle.std.proofs.lemmas.Bool.{eq-eqb, eqb-true}
 use Rattle.std.proofs.lemmas.Cmp.{tied_itself, ranked}
-use Rattle.std.proofs.lemmas.List.{length-map, map-append}
+use Rattle.std.proofs.lemmas.List.{get_or_append_left, get_or_push, length-map, length_push, map-append}
 use Rattle.std.proofs.lemmas.List.Elements.{All-nil, All-append, All-cons, Contains-get_or, Contains-push, Contains-push_cases, Contains-append_left}
 use Rattle.std.proofs.lemmas.Map.Keys.{Less-from_sorted}
 use Rattle.staat_vec.specs.declared.vector.V3.{V3}
@@ -17,11 +17,12 @@ use Rattle.staat_vec.proofs.Unique.{Contains-nothing}
 use Rattle.staat_model.specs.declared.tree.Kind.{Kind}
 use Rattle.staat_model.specs.Cells.{kind_of, signs_cmp, CellEntry, IsCell, IsEntry, AreCellsOf}
 use Rattle.staat_cells.specs.declared.incidence.Incidence.{Incidence}
-use Rattle.staat_cells.specs.Compositions.{begins_cell, composed, composed_at, composed_cell, composed_up_to, no_incidence, same_words, HavePairs}
+use Rattle.staat_cells.specs.Compositions.{begins_cell, begun_up_to, composed, composed_at, composed_cell, composed_up_to, no_cell, no_incidence, same_words, HavePairs}
 use Rattle.staat_cells.specs.Packing.{incidence_cmp, incidence_of}
-use Rattle.staat_cells.specs.Stages.{cell_at, IsIncidence, IsUnder}
-use Rattle.staat_cells.proofs.Composing.{same_index}
+use Rattle.staat_cells.specs.Stages.{cell_at, HaveSigns, IsIncidence, IsUnder}
+use Rattle.staat_cells.proofs.Composing.{append_nothing, same_index}
 use Rattle.staat_cells.proofs.IncidenceOrder.{incidence_total}
+use Rattle.staat_cells.proofs.Numbered.{below_or_at}
 use Rattle.staat_cells.proofs.SignOrder.{not_below_itself, signs_exact, signs_total, sorted_push, then_equal, then_less}
 use Rattle.staat_cells.proofs.Words.{incidence_order}
 
@@ -47,6 +48,35 @@ not_false false e = cc
 not_true : (b : Bool) → not b ≡ true → b ≡ true → ⊥
 not_true true e f = cc
 not_true false e f = cc
+
+-- one cell more, and one incidence more with its signs
+more_signs : (cells : List CellEntry) (c : CellEntry) (incidences : List Incidence) (x : Incidence)
+    → HaveSigns cells incidences → x ≡ incidence_of c.signs x.of → HaveSigns (cells ++ c ∷ []) (incidences ++ x ∷ [])
+more_signs cells c incidences x have is = record { long = long; each = each }
+  where
+    long : length (incidences ++ x ∷ []) ≡ length (cells ++ c ∷ [])
+    long = length_push incidences x ∙ ap (λ n. n + 1) have.long ∙ sym (length_push cells c)
+
+    Here : ℕ → Type 0
+    Here k = get_or (incidences ++ x ∷ []) k no_incidence
+        ≡ incidence_of (cell_at (cells ++ c ∷ []) k).signs (get_or (incidences ++ x ∷ []) k no_incidence).of
+
+    early : (k : ℕ) → k < length cells → Here k
+    early k lt =
+        let x_at = get_or_append_left incidences (x ∷ []) no_incidence k (omega (arith, lt, have.long)) in
+        let c_at = get_or_append_left cells (c ∷ []) no_cell k lt in
+        x_at ∙ have.each k lt
+        ∙ (λ i. incidence_of (sym c_at i).signs (sym x_at i).of)
+
+    last : (k : ℕ) → length cells ≡ k → Here k
+    last k e =
+        let x_at = get_or_push incidences x no_incidence k (have.long ∙ e) in
+        let c_at = get_or_push cells c no_cell k e in
+        x_at ∙ is ∙ (λ i. incidence_of (sym c_at i).signs (sym x_at i).of)
+
+    each : (k : ℕ) → k < length (cells ++ c ∷ []) → Here k
+    each k lt = ⊎_elim {C = Here k} (λ l. early k l) (λ e. last k (sym e))
+        (below_or_at k (length cells) (omega (arith, lt, length_push cells c)))
 
 module _ (planes : List V3) (kind : Kind) (lower : List CellEntry) (incidences : List Incidence) (few : length planes ≤ 256) (lists : Lists incidence_cmp (IsIncidence planes kind lower) incidences) where
   -- the signs of the incidence at a place
@@ -273,13 +303,52 @@ module _ (planes : List V3) (kind : Kind) (lower : List CellEntry) (incidences :
       up_to zero le = none
       up_to (suc i) le = by_start (begins_cell incidences i) refl (up_to i (omega arith))
         where
-          append_nothing : {X : Type 0} (xs : List X) → xs ≡ xs ++ []
-          append_nothing [] = refl
-          append_nothing (x ∷ xs) = ap (λ l. x ∷ l) (append_nothing xs)
-
           by_start : (b : Bool) → begins_cell incidences i ≡ b → AreUpTo i (composed_up_to kind lower incidences i) → AreUpTo (suc i) (composed_up_to kind lower incidences i ++ (if begins_cell incidences i then composed_at kind lower incidences i ∷ [] else []))
           by_start true e up = subst (λ b. AreUpTo (suc i) (composed_up_to kind lower incidences i ++ (if b then composed_at kind lower incidences i ∷ [] else []))) (sym e) (more i (composed_up_to kind lower incidences i) (omega arith) e up)
-          by_start false e up = subst (λ b. AreUpTo (suc i) (composed_up_to kind lower incidences i ++ (if b then composed_at kind lower incidences i ∷ [] else []))) (sym e) (subst (AreUpTo (suc i)) (append_nothing (composed_up_to kind lower incidences i)) (same i (composed_up_to kind lower incidences i) (omega arith) e up))
+          by_start false e up = subst (λ b. AreUpTo (suc i) (composed_up_to kind lower incidences i ++ (if b then composed_at kind lower incidences i ∷ [] else []))) (sym e) (subst (AreUpTo (suc i)) (sym (append_nothing (composed_up_to kind lower incidences i))) (same i (composed_up_to kind lower incidences i) (omega arith) e up))
+
+      -- an incidence at which a cell begins has the signs of what is composed there
+      begun_at : (i : ℕ) → i < length incidences → begins_cell incidences i ≡ true
+          → get_or incidences i no_incidence
+          ≡ incidence_of (composed_at kind lower incidences i).signs (get_or incidences i no_incidence).of
+      begun_at i lt first =
+          let (s, a) = signs_at i lt in
+          let b = second i s a first in
+          let j = (get_or incidences i no_incidence).of in
+          let k = (get_or incidences (suc i) no_incidence).of in
+          let made = entry s j k a.under b.under (first_less i s a first) (first_two i s a first) in
+          let at_new : composed_at kind lower incidences i ≡ composed_cell kind (cell_at lower j) (cell_at lower k) =
+          ap (λ n. composed_cell kind (cell_at lower j) (cell_at lower (get_or incidences n no_incidence).of)) (add-one i) in
+          let signs : (composed_at kind lower incidences i).signs ≡ s = ap (λ c. c.signs) at_new ∙ made.1 in
+          a.is ∙ ap (λ t. incidence_of t j) (sym signs)
+
+      begun_to : (i : ℕ) → i ≤ length incidences
+          → HaveSigns (composed_up_to kind lower incidences i) (begun_up_to incidences i)
+      unfolding composed_up_to begun_up_to
+      begun_to zero le = record { long = refl; each = λ k lt. absurd (omega arith) }
+      begun_to (suc i) le = by_start (begins_cell incidences i) refl (begun_to i (omega arith))
+        where
+          cells : List CellEntry
+          cells = composed_up_to kind lower incidences i
+
+          found : List Incidence
+          found = begun_up_to incidences i
+
+          With : Bool → Type 0
+          With b = HaveSigns (cells ++ (if b then composed_at kind lower incidences i ∷ [] else []))
+              (found ++ (if b then get_or incidences i no_incidence ∷ [] else []))
+
+          by_start : (b : Bool) → begins_cell incidences i ≡ b → HaveSigns cells found → With (begins_cell incidences i)
+          by_start true e before = subst With (sym e)
+              (more_signs cells (composed_at kind lower incidences i) found (get_or incidences i no_incidence) before
+              (begun_at i (omega arith) e))
+          by_start false e before = subst With (sym e)
+              (subst (λ l. HaveSigns l (found ++ [])) (sym (append_nothing cells))
+              (subst (HaveSigns cells) (sym (append_nothing found)) before))
+
+      pub begun_signs : HaveSigns (composed_up_to kind lower incidences (length incidences))
+          (begun_up_to incidences (length incidences))
+      begun_signs = begun_to (length incidences) (omega arith)
 
       -- the composed cells are all cells of the kind
       pub composed_are_cells : AreCellsOf planes kind (composed_up_to kind lower incidences (length incidences))

@@ -1,23 +1,24 @@
 -- The lists of each kind, from the incidences that were found.
-use Rattle.std.proofs.Common.{◌≡◌, ◌↔◌, ℕ, ◌<◌, ◌≤◌, sym, subst, ◌∙◌, List, length, get_or, map, All, Contains}
-use Rattle.std.proofs.lemmas.List.{length-map}
+use Rattle.std.proofs.Common.{◌≡◌, ◌↔◌, ℕ, ◌<◌, ◌≤◌, ap, arith, sym, subst, ◌∙◌, List, length, get_or, map, All, Contains}
+use Rattle.std.proofs.lemmas.List.{get_or-map, length-map}
+use Rattle.std.proofs.lemmas.List.Elements.{Contains-get_or}
 use Rattle.staat_vec.specs.declared.vector.V3.{V3}
 use Rattle.staat_vec.specs.Lists.{Lists}
 use Rattle.staat_vec.specs.Vectors.{vector_cmp}
 use Rattle.staat_model.specs.declared.tree.Kind.{Kind}
 use Rattle.staat_model.specs.declared.tree.Kind.TheVariants.{Edge, Open, Point}
-use Rattle.staat_model.specs.Cells.{AreCellsOf}
+use Rattle.staat_model.specs.Cells.{AreCellsOf, CellEntry}
 use Rattle.staat_model.specs.Planes.{vertices}
 use Rattle.staat_pairs.specs.Tables.{AreTablePlanes}
 use Rattle.staat_cells.specs.declared.cell.Cell.{Cell}
 use Rattle.staat_cells.specs.declared.incidence.Incidence.{Incidence}
-use Rattle.staat_cells.specs.Compositions.{entry_of, composed_up_to, HavePairs}
+use Rattle.staat_cells.specs.Compositions.{begun_up_to, composed_up_to, entry_of, no_cell, no_incidence, HavePairs}
 use Rattle.staat_cells.specs.declared.skeleton.Skeleton.{Skeleton}
-use Rattle.staat_cells.specs.Packing.{incidence_cmp}
+use Rattle.staat_cells.specs.Packing.{incidence_cmp, incidence_of}
 use Rattle.staat_cells.specs.Skeletons.{IsSkeleton}
-use Rattle.staat_cells.specs.Stages.{cell_at, point_entry, IsFilledIncidence, IsOwnIncidence, IsIncidence}
+use Rattle.staat_cells.specs.Stages.{cell_at, point_entry, HaveSigns, IsFilledIncidence, IsOwnIncidence, IsIncidence}
 use Rattle.staat_cells.proofs.EdgeCells.{edge_entry, edge_some, edge_two}
-use Rattle.staat_cells.proofs.Grouping.{composed_are_cells, pairs}
+use Rattle.staat_cells.proofs.Grouping.{begun_signs, composed_are_cells, pairs}
 use Rattle.staat_cells.proofs.Composing.{same_index}
 use Rattle.staat_cells.proofs.Numbered.{listed_was}
 use Rattle.staat_cells.proofs.OpenCells.{open_entry, open_some, open_two}
@@ -46,12 +47,38 @@ module _ (planes : List V3) (are : AreTablePlanes planes) (few : length planes �
       subst (AreCellsOf planes Point) (sym (made ∙ (λ i. map (λ x. cell_at (is i) x.of) (e i))))
       (points_are planes (holds_axes planes are) (planes_apart planes are) few corners listed sorted (subst (λ l. Lists incidence_cmp (IsOwnIncidence l) sorted) is (lists_same (IsOwnIncidence (map entry_of raw)) found sorted own lists)))
 
+  pub points_signs : (raw cells : List Cell) (found sorted incidences : List Incidence) → incidences ≡ sorted
+      → ((x : Incidence) → Contains found x ↔ IsOwnIncidence (map entry_of raw) x)
+      → Lists incidence_cmp (Contains found) sorted
+      → map entry_of cells ≡ map (λ x. cell_at (map entry_of raw) x.of) incidences
+      → HaveSigns (map entry_of cells) incidences
+  points_signs raw cells found sorted incidences e own lists made =
+      record { long = sym long; each = each }
+    where
+      cell : Incidence → CellEntry
+      cell x = cell_at (map entry_of raw) x.of
+
+      long : length (map entry_of cells) ≡ length incidences
+      long = ap length made ∙ length-map incidences cell
+
+      own_lists : Lists incidence_cmp (IsOwnIncidence (map entry_of raw)) incidences
+      own_lists = subst (Lists incidence_cmp (IsOwnIncidence (map entry_of raw))) (sym e)
+          (lists_same (IsOwnIncidence (map entry_of raw)) found sorted own lists)
+
+      each : (k : ℕ) → k < length (map entry_of cells) → get_or incidences k no_incidence
+          ≡ incidence_of (cell_at (map entry_of cells) k).signs (get_or incidences k no_incidence).of
+      each k lt =
+          let below : k < length incidences = omega (arith, lt, long) in
+          let x = get_or incidences k no_incidence in
+          let o = own_lists.each x (Contains-get_or incidences k no_incidence below) in
+          let at : cell_at (map entry_of cells) k ≡ cell x =
+          ap (λ l. cell_at l k) made ∙ get_or-map cell incidences k no_incidence no_cell below in
+          o.is ∙ ap (λ (c : CellEntry). incidence_of c.signs x.of) (sym at)
+
   -- ---- edges
 
-  module _ (points : List Cell) (points_are : AreCellsOf planes Point (map entry_of points)) (found sorted incidences : List Incidence) (e : incidences ≡ sorted) (same : (x : Incidence) → Contains found x ↔ IsIncidence planes Edge (map entry_of points) x) (lists : Lists incidence_cmp (Contains found) sorted) where
-    edge_lists : Lists incidence_cmp (IsIncidence planes Edge (map entry_of points)) incidences
-    edge_lists = subst (Lists incidence_cmp (IsIncidence planes Edge (map entry_of points))) (sym e) (lists_same (IsIncidence planes Edge (map entry_of points)) found sorted same lists)
-
+  module _ (points : List Cell) (points_are : AreCellsOf planes Point (map entry_of points)) (incidences : List Incidence)
+      (edge_lists : Lists incidence_cmp (IsIncidence planes Edge (map entry_of points)) incidences) where
     pub edge_pairs : HavePairs incidences (length points)
     edge_pairs = counted Edge points incidences (pairs planes Edge (map entry_of points) incidences few edge_lists (edge_two planes (holds_axes planes are) (planes_apart planes are) (planes_some planes are) (map entry_of points) points_are))
 
@@ -62,6 +89,14 @@ module _ (planes : List V3) (are : AreTablePlanes planes) (few : length planes �
         (edge_two planes (holds_axes planes are) (planes_apart planes are) (planes_some planes are) (map entry_of points) points_are)
         (edge_entry planes (holds_axes planes are) (planes_apart planes are) (planes_some planes are) (map entry_of points) points_are)
         (edge_some planes (holds_axes planes are) (planes_apart planes are) (planes_some planes are) (map entry_of points) points_are))
+
+    pub edge_signs : HaveSigns (composed_up_to Edge (map entry_of points) incidences (length incidences))
+        (begun_up_to incidences (length incidences))
+    edge_signs =
+        begun_signs planes Edge (map entry_of points) incidences few edge_lists
+        (edge_two planes (holds_axes planes are) (planes_apart planes are) (planes_some planes are) (map entry_of points) points_are)
+        (edge_entry planes (holds_axes planes are) (planes_apart planes are) (planes_some planes are) (map entry_of points) points_are)
+        (edge_some planes (holds_axes planes are) (planes_apart planes are) (planes_some planes are) (map entry_of points) points_are)
 
   -- ---- open cells
 

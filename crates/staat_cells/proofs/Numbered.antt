@@ -5,15 +5,18 @@ use Rattle.std.proofs.lemmas.List.Elements.{Contains-append_left, Contains-push,
 use Rattle.staat_vec.specs.declared.vector.V3.{V3}
 use Rattle.staat_vec.specs.declared.vector.Sign.{Sign}
 use Rattle.staat_vec.specs.declared.vector.Sign.TheVariants.{Neg, Pos}
+use Rattle.staat_vec.specs.Vectors.{origin}
 use Rattle.staat_vec.proofs.Unique.{Contains-nothing}
-use Rattle.staat_model.specs.declared.tree.Kind.TheVariants.{Edge}
-use Rattle.staat_model.specs.Cells.{signs_of, IsBorder}
+use Rattle.staat_model.specs.declared.tree.Kind.TheVariants.{Edge, Open}
+use Rattle.staat_model.specs.Cells.{signs_of, CellEntry, IsBorder}
 use Rattle.staat_cells.specs.declared.cell.Cell.{Cell}
 use Rattle.staat_cells.specs.declared.incidence.Incidence.{Incidence}
-use Rattle.staat_cells.specs.Compositions.{entry_of, no_cell}
+use Rattle.staat_cells.specs.Changes.{HasFewSigns}
+use Rattle.staat_cells.specs.Compositions.{entry_of, no_cell, no_incidence}
 use Rattle.staat_cells.specs.Packing.{incidence_of}
 use Rattle.staat_cells.specs.Beside.{filled}
-use Rattle.staat_cells.specs.Stages.{cell_at, GrewByAll, IsEdgeIncidence, IsFilledIncidence, IsOwnIncidence, IsIncidence, IsVertexPoint}
+use Rattle.staat_cells.specs.Stages.{cell_at, GrewByAll, HaveSigns, IsEdgeIncidence, IsFilledIncidence, IsOwnIncidence, IsIncidence, IsVertexPoint}
+use Rattle.staat_cells.proofs.Composing.{same_index}
 use Rattle.staat_cells.proofs.PushingIncidences.{grew_pair}
 
 -- the list holds the incidences with P of the first cells
@@ -49,6 +52,29 @@ listed_is cells k lt = let e = length-map cells entry_of in omega (arith, e)
 
 pub listed_was : (cells : List Cell) (k : ℕ) → k < length (map entry_of cells) → k < length cells
 listed_was cells k lt = let e = length-map cells entry_of in omega (arith, e)
+
+-- ---- incidences that stand where the cells do
+
+no_listed : Cell
+no_listed = record { kind = Open; d = origin; signs = [] }
+
+module _ (cells : List Cell) (own : List Incidence) (have : HaveSigns (map entry_of cells) own) where
+  pub own_place : (k : ℕ) → k < length cells → k < length own
+  own_place k lt = let long = have.long in omega (arith, lt, long, length-map cells entry_of)
+
+  pub own_at : (k : ℕ) (a : Cell) → k < length cells → a ≡ get_or cells k a
+      → get_or own k no_incidence ≡ incidence_of a.signs (get_or own k no_incidence).of
+  own_at k a lt a_is =
+      have.each k (listed_is cells k lt)
+      ∙ ap (λ (c : CellEntry). incidence_of c.signs (get_or own k no_incidence).of) (entry_is cells k a lt a_is)
+
+  pub own_few : (k : ℕ) → All (λ c. length c.signs ≤ 256) cells → k < length cells
+      → HasFewSigns (get_or own k no_incidence)
+  own_few k few lt = record {
+    signs = (get_or cells k no_listed).signs;
+    is = own_at k (get_or cells k no_listed) lt (same_index cells k no_listed (get_or cells k no_listed) lt);
+    few = few k no_listed lt;
+  }
 
 -- ---- incidences with the cells' own signs
 
@@ -106,6 +132,18 @@ filled_more cells k a old new lt at is before =
 
     to : (x : Incidence) → (x.of ≡ k) × IsFilledIncidence (map entry_of cells) x → Two x
     to x (of, f) = ⊎_elim {C = Two x} (λ e. inl (back Neg x of e)) (λ e. inr (back Pos x of e)) f.is
+
+-- the two incidences of the edge at place k were added, from one with its signs
+pub own_filled : (cells : List Cell) (own old new : List Incidence) (k : ℕ) → HaveSigns (map entry_of cells) own
+    → All (λ c. length c.signs ≤ 256) cells → k < length cells
+    → ((s : List Sign) → get_or own k no_incidence ≡ incidence_of s (get_or own k no_incidence).of → length s ≤ 256
+    → new ≡ (old ++ incidence_of (filled Neg s) k ∷ []) ++ incidence_of (filled Pos s) k ∷ [])
+    → HoldsFirst (IsFilledIncidence (map entry_of cells)) k old
+    → HoldsFirst (IsFilledIncidence (map entry_of cells)) (k + 1) new
+own_filled cells own old new k have few lt made before =
+    let a = get_or cells k no_listed in
+    let at : a ≡ get_or cells k a = same_index cells k no_listed a lt in
+    filled_more cells k a old new lt at (made a.signs (own_at cells own have k a lt at) (few k no_listed lt)) before
 
 -- ---- the incidences of vertices
 

@@ -53,6 +53,13 @@ composed_up_to kind lower incidences (suc i) =
     composed_up_to kind lower incidences i
     ++ (if begins_cell incidences i then composed_at kind lower incidences i ∷ [] else [])
 
+-- the incidences at which a cell begins, of the first ones
+unfoldable pub begun_up_to : List Incidence → ℕ → List Incidence
+begun_up_to incidences zero = []
+begun_up_to incidences (suc i) =
+    begun_up_to incidences i
+    ++ (if begins_cell incidences i then slice_index_or incidences i no_incidence ∷ [] else [])
+
 -- the cells of the incidences, whose lower cells stand in the list from a place on, were added to it
 pub record AddsComposed (kind : Kind) (from : ℕ) (incidences : List Incidence) (old new : List Cell) : Type 0 where
   pub added : List Cell

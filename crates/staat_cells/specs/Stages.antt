@@ -11,7 +11,7 @@ use Rattle.staat_model.specs.Planes.{axes, vertices}
 use Rattle.staat_model.specs.Cells.{kind_of, signs_of, CellEntry, IsBorder, IsCell}
 use Rattle.staat_cells.specs.declared.cell.Cell.{Cell}
 use Rattle.staat_cells.specs.declared.incidence.Incidence.{Incidence}
-use Rattle.staat_cells.specs.Compositions.{no_cell}
+use Rattle.staat_cells.specs.Compositions.{no_cell, no_incidence}
 use Rattle.staat_cells.specs.Packing.{incidence_of}
 use Rattle.staat_cells.specs.Beside.{beside, filled}
 
@@ -50,6 +50,12 @@ opposite_entry p v = record { kind = Point; d = v; signs = map flipped p.signs }
 pub record IsOwnIncidence (cells : List CellEntry) (x : Incidence) : Type 0 where
   pub listed : x.of < length cells
   pub is : x ≡ incidence_of (cell_at cells x.of).signs x.of
+
+-- at each place the incidence has the signs of the cell there
+pub record HaveSigns (cells : List CellEntry) (incidences : List Incidence) : Type 0 where
+  pub long : length incidences ≡ length cells
+  pub each : (k : ℕ) → k < length cells → slice_index_or incidences k no_incidence
+      ≡ incidence_of (cell_at cells k).signs (slice_index_or incidences k no_incidence).of
 
 -- one of the two incidences of the edge at its place
 pub record IsFilledIncidence (cells : List CellEntry) (x : Incidence) : Type 0 where

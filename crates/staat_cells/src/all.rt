@@ -22,7 +22,13 @@ fn cells_of_planes(alloc: Global, planes: &[V3]) -> Result<Vec<Cell>, OutOfMemor
 {
     let lower = LowerCells::of_planes(alloc, planes)?;
     let mut cells = lower.cells;
-    push_composed(alloc, Kind::Open, &mut cells, lower.points, &lower.incidences)?;
+    push_composed(
+        alloc,
+        Kind::Open,
+        &mut cells,
+        lower.points,
+        &lower.incidences,
+    )?;
     Ok(cells)
 }
 

@@ -2,7 +2,7 @@
 ghost use Rattle.std.specs.Prelude.{◌≡◌, ◌<◌, ◌≤◌, ◌+◌, All, IfOk, OnOk, drop, length, map};
 ghost use Rattle.std.specs.List.{between};
 ghost use Rattle.staat_vec.specs.Vectors.{IsWithin};
-ghost use Rattle.staat_cells.specs.Compositions.{AddsComposed, HaveEqualLengths, HavePairs, begins_cell};
+ghost use Rattle.staat_cells.specs.Compositions.{AddsComposed, HaveEqualLengths, HavePairs, begins_cell, begun_up_to};
 ghost use Rattle.staat_cells.specs.Compositions.{composed, composed_cell, entry_of, same_words};
 ghost use Rattle.staat_cells.specs.Skeletons.{IsFoundAt};
 ghost use Rattle.staat_cells.specs.Beside.{then_sign};
@@ -86,6 +86,19 @@ pub(crate) fn composed_at(
     let first = &lower[incidences[i].of];
     let second = &lower[incidences[i + 1].of];
     Ok(Some(composed_cell(alloc, kind, first, second)?))
+}
+
+/// The incidences at which the cells begin.
+pub(crate) fn begun(alloc: Global, incidences: &[Incidence]) -> Result<Vec<Incidence>, OutOfMemory>
+    ensures { IfOk result (λ found. found.items ≡ begun_up_to incidences.now (length incidences.now)) }
+{
+    let mut found = Vec::with_capacity(alloc, incidences.len() / 2)?;
+    for i in 0..incidences.len() {
+        if begins_cell(incidences, i) {
+            found.push(incidences[i])?;
+        }
+    }
+    Ok(found)
 }
 
 // the cell that begins at the place `i`, if one does, where the lower cells stand from one place of a list up to another

@@ -11,12 +11,12 @@ ghost use Rattle.staat_cells.specs.Changes.{zero_places};
 ghost use Rattle.staat_cells.specs.Compositions.{entry_of};
 ghost use Rattle.staat_cells.specs.Packing.{incidence_of};
 ghost use Rattle.staat_cells.specs.Beside.{beside};
-ghost use Rattle.staat_cells.specs.Stages.{GrewByAll, IsAxisOff, IsBesideIncidence, IsEdgeIncidence};
+ghost use Rattle.staat_cells.specs.Stages.{GrewByAll, HaveSigns, IsAxisOff, IsBesideIncidence, IsEdgeIncidence};
 ghost use Rattle.staat_cells.specs.Stages.{IsIncidence, IsVertexPoint};
 
 use crate::cell::Cell;
 use crate::change::{incidence_towards, zeros_of};
-use crate::incidence::{Incidence, incidence_of};
+use crate::incidence::Incidence;
 use staat_vec::{DIRECTION, NORMAL, OutOfMemory, Sign, V3, VERTEX, cross_normal, neg};
 use std::alloc::Global;
 
@@ -190,6 +190,7 @@ fn push_edge_incidences(
     alloc: Global,
     planes: &[V3],
     point: &Cell,
+    own: Incidence,
     k: usize,
     back: bool,
     incidences: &mut Vec<Incidence>,
@@ -198,10 +199,11 @@ fn push_edge_incidences(
     requires few { length planes.now ≤ 256 }
     requires vertex { Contains (vertices planes.now) point.now.d }
     requires signs { point.now.signs ≡ signs_of planes.now point.now.d }
+    requires own { own ≡ incidence_of point.now.signs own.of }
     ensures { OnOk result (GrewByAll (IsEdgeIncidence planes.now point.now.d k)
         incidences.old.items incidences.new.items) }
 {
-    let base = incidence_of(point.signs.as_slice(), k);
+    let base = Incidence { of: k, ..own };
     let zeros = zeros_of(alloc, point.signs.as_slice())?;
     let m = axis_off(point.d);
     if back {
@@ -211,22 +213,24 @@ fn push_edge_incidences(
     }
 }
 
-/// The incidences of vertices towards the edges that end there.
+/// The incidences of vertices towards the edges that end there, from those with the signs of the vertices.
 pub(crate) fn edge_incidences(
     alloc: Global,
     planes: &[V3],
     points: &[Cell],
+    own: &[Incidence],
 ) -> Result<Vec<Incidence>, OutOfMemory>
     requires planes { AreTablePlanes planes.now }
     requires few { length planes.now ≤ 256 }
     requires points { All (IsVertexPoint planes.now) points.now }
+    requires own { HaveSigns (map entry_of points.now) own.now }
     ensures { IfOk result (λ incidences. (x : IncidenceValue) → Contains incidences.items x
         ↔ IsIncidence planes.now Edge (map entry_of points.now) x) }
 {
     let mut incidences = Vec::with_capacity(alloc, points.len().saturating_mul(4))?;
     for k in 0..points.len() {
         let back = k >= points.len() / 2;
-        push_edge_incidences(alloc, planes, &points[k], k, back, &mut incidences)?;
+        push_edge_incidences(alloc, planes, &points[k], own[k], k, back, &mut incidences)?;
     }
     Ok(incidences)
 }

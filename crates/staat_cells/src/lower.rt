@@ -1,5 +1,5 @@
 // The points and edges of planes, in one list.
-ghost use Rattle.std.specs.Prelude.{◌≡◌, ◌<◌, ◌≤◌, All, Contains, IfOk, OnOk, length, map};
+ghost use Rattle.std.specs.Prelude.{◌≡◌, ◌≤◌, All, Contains, IfOk, length, map};
 ghost use Rattle.staat_vec.specs.Lists.{Lists};
 ghost use Rattle.staat_vec.specs.Vectors.{vector_cmp};
 ghost use Rattle.staat_model.specs.declared.tree.Kind.TheVariants.{Edge, Point};
@@ -8,11 +8,11 @@ ghost use Rattle.staat_model.specs.Planes.{vertices};
 ghost use Rattle.staat_pairs.specs.Tables.{AreTablePlanes};
 ghost use Rattle.staat_cells.specs.Compositions.{entry_of};
 ghost use Rattle.staat_cells.specs.Packing.{incidence_cmp};
-ghost use Rattle.staat_cells.specs.Skeletons.{AddsCellsOf, AreLowerCells};
-ghost use Rattle.staat_cells.specs.Stages.{IsFilledIncidence};
+ghost use Rattle.staat_cells.specs.Skeletons.{AreLowerCells};
+ghost use Rattle.staat_cells.specs.Stages.{HaveSigns, IsFilledIncidence, IsIncidence};
 
 use crate::cell::Cell;
-use crate::compose::push_composed;
+use crate::compose::{begun, push_composed};
 use crate::edge_incidences::edge_incidences;
 use crate::incidence::Incidence;
 use crate::open_incidences::open_incidences;
@@ -33,40 +33,53 @@ pub(crate) struct LowerCells {
     pub(crate) incidences: Vec<Incidence>,
 }
 
-// the points, ascending by signs
-fn points_of(alloc: Global, planes: &[V3], corners: &[V3]) -> Result<Vec<Cell>, OutOfMemory>
+// the points, ascending by signs, and incidences with their signs
+fn points_of(
+    alloc: Global,
+    planes: &[V3],
+    corners: &[V3],
+) -> Result<(Vec<Cell>, Vec<Incidence>), OutOfMemory>
     requires planes { AreTablePlanes planes.now }
     requires few { length planes.now ≤ MOST_CELL_PLANES }
     requires corners { Lists vector_cmp (Contains (vertices planes.now)) corners.now }
-    ensures { IfOk result (λ cells. AreCellsOf planes.now Point (map entry_of cells.items)) }
+    ensures points { IfOk result (λ found. AreCellsOf planes.now Point (map entry_of found.0.items)) }
+    ensures signs { IfOk result (λ found. HaveSigns (map entry_of found.0.items) found.1.items) }
 {
     let raw = points_at(alloc, planes, corners)?;
     let incidences = in_order(own_incidences(alloc, &raw)?)?;
-    cells_of(alloc, &raw, &incidences)
+    let points = cells_of(alloc, &raw, &incidences)?;
+    Ok((points, incidences))
 }
 
-// adds the edges, ascending by signs, to the points: the memory of their incidences is to be used once more
-fn push_edges(
+// the incidences of the points with edges, in the order of these, from those with the signs of the points
+fn incidences_of_points(
     alloc: Global,
     planes: &[V3],
-    cells: &mut Vec<Cell>,
+    points: &[Cell],
+    own: Vec<Incidence>,
 ) -> Result<Vec<Incidence>, OutOfMemory>
     requires planes { AreTablePlanes planes.now }
     requires few { length planes.now ≤ MOST_CELL_PLANES }
-    requires points { AreCellsOf planes.now Point (map entry_of cells.old.items) }
-    ensures { OnOk result (AddsCellsOf planes.now Edge cells.old.items cells.new.items) }
+    requires points { AreCellsOf planes.now Point (map entry_of points.now) }
+    requires own { HaveSigns (map entry_of points.now) own.items }
+    ensures { IfOk result (λ found. Lists incidence_cmp (IsIncidence planes.now Edge (map entry_of points.now))
+        found.items) }
 {
-    let incidences = in_order(edge_incidences(alloc, planes, cells)?)?;
-    push_composed(alloc, Kind::Edge, cells, 0, &incidences)?;
-    Ok(incidences)
+    let found = edge_incidences(alloc, planes, points, &own)?;
+    in_order(found)
 }
 
-// the incidences of edges with open cells, in the order of these
-fn incidences_of(room: Vec<Incidence>, edges: &[Cell]) -> Result<Vec<Incidence>, OutOfMemory>
+// the incidences of edges with open cells, in the order of these, from those with the signs of the edges
+fn incidences_of_edges(
+    room: Vec<Incidence>,
+    edges: &[Cell],
+    own: &[Incidence],
+) -> Result<Vec<Incidence>, OutOfMemory>
     requires few { All (λ c. length c.signs ≤ 256) edges.now }
+    requires own { HaveSigns (map entry_of edges.now) own.now }
     ensures { IfOk result (λ found. Lists incidence_cmp (IsFilledIncidence (map entry_of edges.now)) found.items) }
 {
-    let found = open_incidences(room, edges)?;
+    let found = open_incidences(room, edges, own)?;
     in_order(found)
 }
 
@@ -78,10 +91,12 @@ impl LowerCells {
         ensures { IfOk result (AreLowerCells planes.now) }
     {
         let corners = vertices_of(alloc, planes)?;
-        let mut cells = points_of(alloc, planes, &corners)?;
+        let (mut cells, own) = points_of(alloc, planes, &corners)?;
         let points = cells.len();
-        let room = push_edges(alloc, planes, &mut cells)?;
-        let incidences = incidences_of(room, &cells[points..])?;
+        let ends = incidences_of_points(alloc, planes, &cells, own)?;
+        push_composed(alloc, Kind::Edge, &mut cells, 0, &ends)?;
+        let own = begun(alloc, &ends)?;
+        let incidences = incidences_of_edges(ends, &cells[points..], &own)?;
         Ok(LowerCells {
             cells,
             points,

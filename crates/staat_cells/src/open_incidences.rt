@@ -1,43 +1,48 @@
 // The incidences of edges: the open cells on whose border they are.
 ghost use Rattle.std.specs.Prelude.{◌≡◌, ◌≤◌, ◌↔◌, ◌++◌, [], ◌∷◌};
 ghost use Rattle.std.specs.Prelude.{All, Contains, IfOk, List, OnOk, length, map};
+ghost use Rattle.staat_vec.specs.declared.vector.Sign.{Sign as SignValue};
 ghost use Rattle.staat_vec.specs.declared.vector.Sign.TheVariants.{Neg, Pos};
 ghost use Rattle.staat_cells.specs.declared.incidence.Incidence.{Incidence as IncidenceValue};
+ghost use Rattle.staat_cells.specs.Changes.{HasFewSigns};
 ghost use Rattle.staat_cells.specs.Compositions.{entry_of};
 ghost use Rattle.staat_cells.specs.Packing.{incidence_of};
 ghost use Rattle.staat_cells.specs.Beside.{filled};
-ghost use Rattle.staat_cells.specs.Stages.{IsFilledIncidence};
+ghost use Rattle.staat_cells.specs.Stages.{HaveSigns, IsFilledIncidence};
 
 use crate::cell::Cell;
 use crate::change::incidence_filled;
-use crate::incidence::{Incidence, incidence_of};
+use crate::incidence::Incidence;
 use staat_vec::{OutOfMemory, Sign};
 
-// adds both incidences of an edge
-fn push_both(edge: &Cell, k: usize, incidences: &mut Vec<Incidence>) -> Result<(), OutOfMemory>
-    requires few { length edge.now.signs ≤ 256 }
-    ensures { OnOk result (incidences.new.items
-        ≡ (incidences.old.items ++ incidence_of (filled Neg edge.now.signs) k ∷ [])
-        ++ incidence_of (filled Pos edge.now.signs) k ∷ []) }
+// adds both incidences of the edge with the number k, from one with its signs
+fn push_both(own: Incidence, k: usize, incidences: &mut Vec<Incidence>) -> Result<(), OutOfMemory>
+    requires { HasFewSigns own }
+    ensures { OnOk result ((s : List SignValue) → own ≡ incidence_of s own.of → length s ≤ 256
+        → incidences.new.items ≡ (incidences.old.items ++ incidence_of (filled Neg s) k ∷ [])
+        ++ incidence_of (filled Pos s) k ∷ []) }
 {
-    let base = incidence_of(edge.signs.as_slice(), k);
+    let base = Incidence { of: k, ..own };
     incidences.push(incidence_filled(base, Sign::Neg))?;
     incidences.push(incidence_filled(base, Sign::Pos))?;
     Ok(())
 }
 
-/// Both incidences of each edge, in place of what was listed: there is room for them where the ends of the edges were.
+/// Both incidences of each edge, from those with the signs of the edges. They take the place of what was listed: there
+/// is room for them where the ends of the edges were.
 pub(crate) fn open_incidences(
     mut incidences: Vec<Incidence>,
     edges: &[Cell],
+    own: &[Incidence],
 ) -> Result<Vec<Incidence>, OutOfMemory>
     requires few { All (λ c. length c.signs ≤ 256) edges.now }
+    requires own { HaveSigns (map entry_of edges.now) own.now }
     ensures { IfOk result (λ found. (x : IncidenceValue) → Contains found.items x
         ↔ IsFilledIncidence (map entry_of edges.now) x) }
 {
     incidences.clear();
     for k in 0..edges.len() {
-        push_both(&edges[k], k, &mut incidences)?;
+        push_both(own[k], k, &mut incidences)?;
     }
     Ok(incidences)
 }

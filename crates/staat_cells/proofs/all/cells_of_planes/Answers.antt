@@ -1,4 +1,4 @@
-use Rattle.std.proofs.Common.{◌≡◌, drop, length, map, subst, sym}
+use Rattle.std.proofs.Common.{drop, length, subst, sym}
 use Rattle.staat_model.specs.declared.tree.Kind.TheVariants.{Edge, Open}
 use Rattle.staat_cells.specs.Compositions.{AddsComposed, HavePairs}
 use Rattle.staat_cells.proofs.AddedCells.{all_cells_are}

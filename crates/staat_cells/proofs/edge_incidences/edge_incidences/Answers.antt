@@ -2,11 +2,16 @@ use Rattle.std.proofs.Common.{length, map}
 use Rattle.staat_model.specs.declared.tree.Kind.TheVariants.{Edge}
 use Rattle.staat_cells.specs.Compositions.{entry_of}
 use Rattle.staat_cells.specs.Stages.{IsIncidence}
-use Rattle.staat_cells.proofs.Numbered.{edge_more, holds_all, holds_none, listed_was}
+use Rattle.staat_cells.proofs.Numbered.{edge_more, holds_all, holds_none, listed_was, own_at}
 use Rattle.staat_cells.proofs.edge_incidences.edge_incidences.Goals as goal
 
 pub loop-k-init : goal.loop-k-init
 loop-k-init c = holds_none (IsIncidence c.args.planes.now Edge (map entry_of c.args.points.now)) c.in_ok-incidences.incidences.items c.in_ok-incidences.ensures.items
+
+pub push_edge_incidences-requires-clause-own : goal.push_edge_incidences-requires-clause-own
+push_edge_incidences-requires-clause-own c =
+    own_at c.args.points.now c.args.own.now c.requires.own c.loop-k.k c.index-points-k.result c.loop-k-test.true
+    c.index-points-k.is
 
 pub loop-k-preserved : goal.loop-k-preserved
 loop-k-preserved c =

@@ -1,6 +1,5 @@
-use Rattle.std.proofs.Common.{ap}
+use Rattle.std.proofs.Common.{refl}
 use Rattle.std.proofs.lemmas.Result.{on_ok_weaker}
-use Rattle.staat_cells.specs.declared.incidence.Incidence.{Incidence}
 use Rattle.staat_cells.proofs.TableRules.{edge_incidences_grew, vertex_off}
 use Rattle.staat_cells.proofs.edge_incidences.push_edge_incidences.Goals as goal
 
@@ -9,12 +8,12 @@ axis_off-m-requires c = vertex_off c.args.planes.now c.args.point.now.d c.requir
 
 pub returns-then-back : goal.returns-then-back
 returns-then-back c = on_ok_weaker c.push_all_back.result
-    (edge_incidences_grew c.args.planes.now c.args.point.now.d c.axis_off-m.result c.args.k c.incidence_of-base.result.of c.args.incidences.now.items
-    c.push_all_back.new.incidences.items c.requires.planes c.requires.vertex c.axis_off-m.ensures.is
-    (ap (λ (x : Incidence). x.of) c.incidence_of-base.ensures)) c.push_all_back.ensures
+    (edge_incidences_grew c.args.planes.now c.args.point.now.d c.axis_off-m.result c.args.k c.args.k
+    c.args.incidences.now.items c.push_all_back.new.incidences.items c.requires.planes c.requires.vertex
+    c.axis_off-m.ensures.is refl) c.push_all_back.ensures
 
 pub returns : goal.returns
 returns c = on_ok_weaker c.push_all.result
-    (edge_incidences_grew c.args.planes.now c.args.point.now.d c.axis_off-m.result c.args.k c.incidence_of-base.result.of c.args.incidences.now.items
-    c.push_all.new.incidences.items c.requires.planes c.requires.vertex c.axis_off-m.ensures.is
-    (ap (λ (x : Incidence). x.of) c.incidence_of-base.ensures)) c.push_all.ensures
+    (edge_incidences_grew c.args.planes.now c.args.point.now.d c.axis_off-m.result c.args.k c.args.k
+    c.args.incidences.now.items c.push_all.new.incidences.items c.requires.planes c.requires.vertex
+    c.axis_off-m.ensures.is refl) c.push_all.ensures

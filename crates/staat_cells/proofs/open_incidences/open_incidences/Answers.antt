@@ -1,15 +1,20 @@
 use Rattle.std.proofs.Common.{length, map}
 use Rattle.staat_cells.specs.Compositions.{entry_of}
 use Rattle.staat_cells.specs.Stages.{IsFilledIncidence}
-use Rattle.staat_cells.proofs.Numbered.{filled_more, holds_all, holds_none, listed_was}
+use Rattle.staat_cells.proofs.Numbered.{holds_all, holds_none, listed_was, own_few, own_filled}
 use Rattle.staat_cells.proofs.open_incidences.open_incidences.Goals as goal
 
 pub loop-k-init : goal.loop-k-init
 loop-k-init c = holds_none (IsFilledIncidence (map entry_of c.args.edges.now)) c.clear.new.self.items c.clear.ensures.items
 
+pub push_both-requires : goal.push_both-requires
+push_both-requires c =
+    own_few c.args.edges.now c.args.own.now c.requires.own c.loop-k.k c.requires.few c.loop-k-test.true
+
 pub loop-k-preserved : goal.loop-k-preserved
-loop-k-preserved c = filled_more c.args.edges.now c.loop-k.k c.index-edges-k.result c.loop-k.incidences.items
-    c.push_both.new.incidences.items c.loop-k-test.true c.index-edges-k.is c.in_ok-push_both.ensures c.loop-k.invariant
+loop-k-preserved c = own_filled c.args.edges.now c.args.own.now c.loop-k.incidences.items
+    c.push_both.new.incidences.items c.loop-k.k c.requires.own c.requires.few c.loop-k-test.true
+    c.in_ok-push_both.ensures c.loop-k.invariant
 
 pub returns : goal.returns
 returns c = holds_all (IsFilledIncidence (map entry_of c.args.edges.now)) (length c.args.edges.now) c.loop-k.k

@@ -1,0 +1,22 @@
+use Rattle.std.proofs.Common.{◌∙◌, ap, get_or, refl, sym}
+use Rattle.staat_cells.specs.Compositions.{no_incidence}
+use Rattle.staat_cells.proofs.Composing.{begun_more, begun_none, begun_same}
+use Rattle.staat_cells.proofs.compose.begun.Goals as goal
+use Rattle.staat_cells.proofs.compose.begun.Goals.{then-begins_cell+in_ok-push, else-begins_cell}
+
+pub loop-i-init : goal.loop-i-init
+loop-i-init c = c.in_ok-found.ensures.items ∙ begun_none c.args.incidences.now
+
+pub loop-i-preserved : goal.loop-i-preserved
+loop-i-preserved c =
+    let incidences = c.args.incidences.now in
+    let i = c.loop-i.i in
+    elim c.if-begins_cell.branch [
+      | then-begins_cell+in_ok-push w ↦
+          begun_more incidences i c.loop-i.found.items c.if-begins_cell.found.items (get_or incidences i no_incidence)
+          c.loop-i.invariant (ap (λ v. v.items) w.found-is ∙ w.in_ok-push.ensures.items) refl
+          (sym c.begins_cell.ensures ∙ w.if-begins_cell.true)
+      | else-begins_cell w ↦
+          begun_same incidences i c.if-begins_cell.found.items (ap (λ v. v.items) w.found-is ∙ c.loop-i.invariant)
+          (sym c.begins_cell.ensures ∙ w.if-begins_cell.false)
+    ]
