@@ -1,6 +1,6 @@
 -- The points and edges of planes, and their open cells one after another.
-use Rattle.std.specs.Prelude.{◌≡◌, ◌≤◌, ℕ, List, [], ◌∷◌, ◌++◌, All, MatchOption, Option, if◌then◌else◌}
-use Rattle.std.specs.Prelude.{drop, length, map, take, true, false}
+use Rattle.std.specs.Prelude.{◌≡◌, ◌≤◌, ℕ, List, [], ◌∷◌, ◌++◌, All, MatchOption, Option}
+use Rattle.std.specs.Prelude.{if◌then◌else◌, drop, length, map, take, true, false}
 use Rattle.staat_vec.specs.declared.vector.V3.{V3}
 use Rattle.staat_vec.specs.Lists.{Lists}
 use Rattle.staat_vec.specs.declared.vector.TheConstants.{EDGE}

@@ -101,7 +101,7 @@ pub(crate) fn begun(alloc: Global, incidences: &[Incidence]) -> Result<Vec<Incid
     Ok(found)
 }
 
-// the cell that begins at the place `i`, if one does, where the lower cells stand from one place of a list up to another
+// the cell that begins at the place `i`, if one does, where the lower cells stand between two places of a list
 fn composed_within(
     alloc: Global,
     kind: Kind,
