@@ -23,7 +23,7 @@ use Rattle.std.specs.Prelude.{
 }
 use Rattle.std.specs.Int.{bit_at}
 use Rattle.staat_vec.specs.declared.vector.Sign.{Sign}
-use Rattle.staat_model.specs.declared.limits.TheConstants.{MOST_PARTS}
+use Rattle.staat_limits.specs.declared.limits.TheConstants.{MOST_PARTS}
 use Rattle.staat_model.specs.Cells.{sign_place}
 use Rattle.staat_cells.specs.declared.blocks.ArcCones.{ArcCones}
 use Rattle.staat_cells.specs.declared.blocks.Block.{Block}

@@ -9,8 +9,9 @@ ghost use Rattle.staat_cells.specs.Compositions.{entry_of};
 use crate::cell::{Cell, Cells};
 use crate::compose::push_composed;
 use crate::lower::LowerCells;
+use staat_limits::MOST_CELL_PLANES;
 use staat_model::Kind;
-use staat_planes::{MOST_CELL_PLANES, PlaneTable};
+use staat_planes::PlaneTable;
 use staat_vec::{DIRECTION, OutOfMemory, V3};
 use std::alloc::Global;
 

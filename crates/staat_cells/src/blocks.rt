@@ -23,7 +23,7 @@ ghost use Rattle.staat_cells.specs.Blocks.{AddsToBlock, HasCone, HasParts, IsBlo
 ghost use Rattle.staat_cells.specs.CellGraphs.{AddsCone};
 
 use crate::half_spaces::{HalfSpaces, Side, copied, is_same_cone};
-use staat_model::MOST_PARTS;
+use staat_limits::MOST_PARTS;
 use staat_vec::{Listed, OutOfMemory, Sign};
 use std::alloc::Global;
 

@@ -13,7 +13,8 @@ ghost use Rattle.staat_cells.specs.HalfSpaces.{sign_at};
 
 use crate::blocks::{ArcCones, Block, PlaneTest};
 use crate::incidence::place;
-use staat_model::{MOST_PARTS, PartSet};
+use staat_limits::MOST_PARTS;
+use staat_model::PartSet;
 use staat_vec::{OutOfMemory, Sign};
 use std::alloc::Global;
 

@@ -5,8 +5,6 @@ ghost use Rattle.staat_vec.specs.Vectors.{origin};
 ghost use Rattle.staat_model.specs.Cells.{AreCells, CellEntry, HasOneCell};
 ghost use Rattle.staat_pairs.specs.Tables.{AreTablePlanes};
 
-use staat_planes::MOST_CELL_PLANES;
-
 /// Each direction other than zero, of any size, lies in exactly one of all cells of some planes.
 pub fn one_cell()
     ensures { (planes : List Vector) (cells : List CellEntry) (d : Vector) → AreCells planes cells → d ≢ origin
@@ -14,6 +12,9 @@ pub fn one_cell()
 {}
 
 /// The planes of a table, at most [`MOST_CELL_PLANES`] of them, have a list of all cells.
+
+use staat_limits::MOST_CELL_PLANES;
+
 pub fn some_cells()
     ensures { (planes : List Vector) → AreTablePlanes planes → length planes ≤ MOST_CELL_PLANES
         → (cells : List CellEntry) × AreCells planes cells }

@@ -19,8 +19,8 @@ use crate::open_incidences::open_incidences;
 use crate::order::in_order;
 use crate::points::{cells_of, own_incidences, points_at};
 use crate::vertices::vertices_of;
+use staat_limits::MOST_CELL_PLANES;
 use staat_model::Kind;
-use staat_planes::MOST_CELL_PLANES;
 use staat_vec::{OutOfMemory, V3};
 use std::alloc::Global;
 

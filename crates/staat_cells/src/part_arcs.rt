@@ -12,7 +12,8 @@ ghost use Rattle.staat_cells.specs.HalfSpaces.{AreInside};
 
 use crate::blocks::{Block, add_cone};
 use crate::half_spaces::{HalfSpaces, half_spaces, push_cone, wide_cones};
-use staat_model::{Arc, MOST_PARTS, PartSet};
+use staat_limits::MOST_PARTS;
+use staat_model::{Arc, PartSet};
 use staat_planes::PlaneTable;
 use staat_vec::OutOfMemory;
 use std::alloc::Global;

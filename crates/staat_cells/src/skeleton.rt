@@ -9,8 +9,9 @@ use crate::cell::Cell;
 use crate::compose::composed_at;
 use crate::incidence::Incidence;
 use crate::lower::LowerCells;
+use staat_limits::MOST_CELL_PLANES;
 use staat_model::Kind;
-use staat_planes::{MOST_CELL_PLANES, PlaneTable};
+use staat_planes::PlaneTable;
 use staat_vec::{OutOfMemory, V3};
 use std::alloc::Global;
 

@@ -7,7 +7,8 @@ ghost use Rattle.staat_cone.specs.AxisWalls.{IsWallBetween};
 use crate::behind::violator;
 use crate::narrow::multiple;
 use crate::walls::{is_wall, points_of};
-use staat_model::{MOST_POINTS, Piece};
+use staat_limits::MOST_POINTS;
+use staat_model::Piece;
 use staat_vec::{DIFF, NORMAL, ORIGIN, POINT, V3, add, neg};
 
 // how often a normal is tested, and corrected where something lies behind it

@@ -3,7 +3,7 @@
 
 mod products;
 
-pub use products::{MOST_BOXES, nested_boxes, row_of_cubes};
+pub use products::{nested_boxes, row_of_cubes};
 
 #[cfg(test)]
 mod tests;

@@ -3,13 +3,11 @@ ghost use Rattle.std.specs.Prelude.{◌≡◌, ◌<◌, ◌≤◌, All, IfOk};
 ghost use Rattle.staat_model.specs.Assemblies.{IsAssembly};
 ghost use Rattle.staat_drill.specs.Products.{IsBox, core, cube_at, nested_boxes, row_of_cubes, slabs, union_of};
 
-use staat_model::{Assembly, MOST_PARTS, Part};
+use staat_limits::{MOST_BOXES, MOST_PARTS};
+use staat_model::{Assembly, Part};
 use staat_samples::{assembly_of, at, boxes};
 use staat_vec::{OutOfMemory, V3};
 use std::alloc::Global;
-
-/// How many boxes there are around the cube at most.
-pub const MOST_BOXES: u32 = 6;
 
 // the union of boxes
 fn union_of(alloc: Global, corners: &[(V3, V3)]) -> Result<Part, OutOfMemory>

@@ -15,7 +15,7 @@ use Rattle.staat_vec.specs.declared.vector.TheConstants.{POINT}
 use Rattle.staat_vec.specs.Vectors.{IsWithin}
 use Rattle.staat_model.specs.Lines.{spaced}
 use Rattle.staat_off.specs.declared.raw.Raw.{Raw}
-use Rattle.staat_off.specs.declared.raw.TheConstants.{MOST_COUNT}
+use Rattle.staat_limits.specs.declared.limits.TheConstants.{MOST_COUNT}
 use Rattle.staat_off.specs.declared.refusal.OffRefusal.{OffRefusal}
 use Rattle.staat_off.specs.declared.refusal.OffRefusal.TheVariants.{BadCount, BadIndex, NoHeader}
 use Rattle.staat_off.specs.Raws.{HasCorners, IsCounted, IsIndexed}

@@ -16,7 +16,8 @@ use crate::grow::{FARTHEST, grown_vector};
 use crate::refusal::ExplodeRefusal;
 use crate::shifted::{Shifted, steps_apart, vector_of_part};
 use crate::shifts::Shifts;
-use staat_model::{MOST_PARTS, Sound, Tree};
+use staat_limits::MOST_PARTS;
+use staat_model::{Sound, Tree};
 use staat_vec::{DIRECTION, V3};
 use std::alloc::{AllocError, Global};
 

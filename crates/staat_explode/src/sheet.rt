@@ -4,7 +4,7 @@ ghost use Rattle.std.specs.Prelude.{IfOk, OnOk, length};
 ghost use Rattle.staat_explode.specs.Sheets.{Keeps, Written};
 
 use crate::refusal::SceneRefusal;
-use staat_model::TEXT_LIMIT;
+use staat_limits::TEXT_LIMIT;
 use staat_vec::Bytes;
 use std::alloc::{AllocError, Global};
 

@@ -3,7 +3,8 @@ ghost use Rattle.std.specs.Prelude.{◌≡◌, ℕ, ◌<◌, ◌↔◌};
 ghost use Rattle.staat_model.specs.Sets.{Has};
 ghost use Rattle.staat_graph.specs.Graphs.{AreReversed, HasArc};
 
-use staat_model::{MOST_PARTS, PartSet};
+use staat_limits::MOST_PARTS;
+use staat_model::PartSet;
 
 /// A graph on the parts: bit `b` of row `a` is the arc from the part `a` to the part `b`.
 #[derive(Clone, Copy, Debug, PartialEq, Eq)]

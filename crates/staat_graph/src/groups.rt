@@ -8,7 +8,8 @@ ghost use Rattle.staat_graph.specs.Graphs.{AreGroups, HasArc, IsFirstSink, IsGro
 use crate::both_ways::BothWays;
 use crate::graph::Graph;
 use crate::walks::reach;
-use staat_model::{MOST_PARTS, PartSet};
+use staat_limits::MOST_PARTS;
+use staat_model::PartSet;
 
 /// Groups of parts: the first `count` sets are in use.
 #[derive(Clone, Copy, Debug)]

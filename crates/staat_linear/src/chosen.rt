@@ -9,8 +9,9 @@ ghost use Rattle.staat_linear.specs.Orders.{HasTableWithin, IsChosen, SettlesOrd
 use crate::order::{Leaves, Order};
 use crate::step::linear_step;
 use staat_cone::FacetSource;
+use staat_limits::{LEAST_PLANES, MOST_PLANES};
 use staat_model::{PartSet, Sound};
-use staat_planes::{LEAST_PLANES, MOST_PLANES, PlaneTable, PlanesRefusal, tabulate};
+use staat_planes::{PlaneTable, PlanesRefusal, tabulate};
 use staat_vec::OutOfMemory;
 use std::alloc::Global;
 

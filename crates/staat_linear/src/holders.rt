@@ -8,7 +8,8 @@ ghost use Rattle.staat_pairs.specs.Tables.{Table as TableValue};
 ghost use Rattle.staat_planes.specs.Holding.{HoldsPart, IsHeld};
 ghost use Rattle.staat_linear.specs.Holding.{AreHeldBut, AreOutward, IsSighted};
 
-use staat_model::{Arc, MOST_PARTS, PartSet};
+use staat_limits::MOST_PARTS;
+use staat_model::{Arc, PartSet};
 use staat_planes::PlaneTable;
 use staat_vec::{DIRECTION, V3};
 

@@ -5,7 +5,8 @@ ghost use Rattle.staat_model.specs.Sets.{Has, IsSubset};
 ghost use Rattle.staat_planes.specs.Holding.{IsHeldOnCircle};
 ghost use Rattle.staat_linear.specs.Holding.{AreHeldOnCircle};
 
-use staat_model::{MOST_PARTS, PartSet};
+use staat_limits::MOST_PARTS;
+use staat_model::PartSet;
 use staat_planes::PlaneTable;
 use staat_vec::{NORMAL, V3};
 

@@ -50,7 +50,7 @@ impl Taking {
 
 impl Trial for Taking {
     ghost use Rattle.std.specs.Prelude.{◌≡◌, ⊤, length};
-    ghost use Rattle.staat_model.specs.declared.limits.TheConstants.{MOST_PARTS};
+    ghost use Rattle.staat_limits.specs.declared.limits.TheConstants.{MOST_PARTS};
     ghost use Rattle.staat_model.specs.Sets.{Has};
     ghost use Rattle.staat_linear.specs.Holding.{AreOutward, IsLeastLeaving};
     ghost use Rattle.staat_linear.specs.Orders.{LetsLeave};

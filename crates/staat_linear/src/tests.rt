@@ -2,8 +2,9 @@
 use crate::{Leave, linear, linear_step, linear_text};
 use staat_asm::build;
 use staat_cone::Plain;
+use staat_limits::LEAST_PLANES;
 use staat_model::{PartSet, Sound};
-use staat_planes::{LEAST_PLANES, tabulate};
+use staat_planes::tabulate;
 use staat_samples::{assembly_of, at, boxes};
 use staat_vec::V3;
 use std::alloc::Global;

@@ -3,7 +3,8 @@ ghost use Rattle.std.specs.Prelude.{◌≡◌, ◌∷◌, ◌++◌, IfOk, decima
 ghost use Rattle.staat_linear.specs.OrderTexts.{last_line, locked_line, order_text, take_line};
 
 use crate::order::{Leave, Order};
-use staat_model::{MOST_PARTS, PartSet};
+use staat_limits::MOST_PARTS;
+use staat_model::PartSet;
 use staat_vec::{Bytes, OutOfMemory, V3};
 use std::alloc::{AllocError, Global};
 

@@ -12,7 +12,8 @@ ghost use Rattle.staat_local.specs.Touching.{IsPairMarked};
 
 use crate::touching::{Marks, touching};
 use staat_graph::Graph;
-use staat_model::{Arc, MOST_PARTS, PartSet, Sound};
+use staat_limits::MOST_PARTS;
+use staat_model::{Arc, PartSet, Sound};
 use staat_planes::PlaneTable;
 use staat_vec::{DIRECTION, V3};
 

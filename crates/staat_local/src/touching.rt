@@ -6,7 +6,8 @@ ghost use Rattle.staat_local.specs.Touching.{AreMarks, LinksParts, IsFromPiece, 
 ghost use Rattle.staat_local.specs.Touching.{MarksTouching};
 
 use crate::pieces::touch;
-use staat_model::{Arc, MOST_PARTS, Sound};
+use staat_limits::MOST_PARTS;
+use staat_model::{Arc, Sound};
 use staat_pairs::back;
 use staat_planes::PlaneTable;
 

@@ -12,7 +12,7 @@ use Rattle.std.proofs.lemmas.Slice.Eq.{bytes_eq-Decides}
 use Rattle.serde_json.specs.Data.{Data}
 use Rattle.staat_manifest.specs.declared.refusal.ManifestRefusal.{ManifestRefusal}
 use Rattle.staat_manifest.specs.declared.refusal.ManifestRefusal.TheVariants as refusal
-use Rattle.staat_model.specs.declared.limits.TheConstants.{MOST_PARTS, MOST_PIECES}
+use Rattle.staat_limits.specs.declared.limits.TheConstants.{MOST_PARTS, MOST_PIECES}
 use Rattle.staat_manifest.specs.declared.listing.ListedPart.{ListedPart}
 use Rattle.staat_manifest.specs.Values.{Text, json_of, name_of, parts_in, pieces_in, text_in}
 use Rattle.staat_manifest.specs.Answers.{AnswersList}

@@ -9,7 +9,7 @@ use Rattle.serde_json.specs.Find.{as_object}
 use Rattle.staat_manifest.specs.declared.refusal.ManifestRefusal.{ManifestRefusal}
 use Rattle.staat_manifest.specs.declared.refusal.ManifestRefusal.TheVariants.{NotJson, BadShape, RepeatedName}
 use Rattle.staat_manifest.specs.declared.refusal.ManifestRefusal.TheVariants.{NoPieces, TooManyParts, TooManyPieces}
-use Rattle.staat_model.specs.declared.limits.TheConstants.{MOST_PARTS, MOST_PIECES}
+use Rattle.staat_limits.specs.declared.limits.TheConstants.{MOST_PARTS, MOST_PIECES}
 use Rattle.staat_manifest.specs.declared.listing.ListedPart.{ListedPart}
 use Rattle.staat_manifest.specs.Listings.{listed}
 use Rattle.staat_manifest.specs.Placements.{placement_of}

@@ -1,7 +1,7 @@
 // The whole part list: its shape, its parts one after another, and what they may not share.
 ghost use Rattle.std.specs.Prelude.{◌≡◌, ◌≤◌, ◌++◌, ◌∷◌, [], IfOk, OnOk, length, map};
 ghost use Rattle.serde_json.specs.View.{view};
-ghost use Rattle.staat_model.specs.declared.limits.TheConstants.{MOST_PARTS};
+ghost use Rattle.staat_limits.specs.declared.limits.TheConstants.{MOST_PARTS};
 ghost use Rattle.staat_manifest.specs.Answers.{AnswersList, JudgesPart};
 ghost use Rattle.staat_manifest.specs.Listings.{IsListing, listed};
 ghost use Rattle.staat_manifest.specs.Values.{parts_in, text_in};
@@ -15,7 +15,7 @@ use crate::paths::{bad_shape, repeated_name};
 use crate::{Listing, ManifestRefusal};
 use indexmap::IndexSet;
 use serde_json::Value;
-use staat_model::{MOST_PARTS, MOST_PIECES};
+use staat_limits::{MOST_PARTS, MOST_PIECES};
 use std::alloc::{AllocError, Global};
 
 // The values of the parts, unless the whole breaks a rule.

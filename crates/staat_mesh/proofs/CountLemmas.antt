@@ -3,7 +3,7 @@ use Rattle.std.proofs.Common.{◌≡◌, ◌≢◌, ◌<◌, ◌+◌, ◌*◌, �
 use Rattle.std.specs.Prelude.{count_by, min, replicate, slice_index}
 use Rattle.std.proofs.lemmas.Bool.{cases_eq}
 use Rattle.std.proofs.lemmas.List.Sums.{sum_by_push}
-use Rattle.staat_model.specs.declared.limits.TheConstants.{MOST_POINTS}
+use Rattle.staat_limits.specs.declared.limits.TheConstants.{MOST_POINTS}
 use Rattle.staat_mesh.specs.Counts.{Counts, cell, leads}
 
 -- ---- a table of nothing

@@ -7,7 +7,7 @@ use Rattle.staat_vec.specs.declared.vector.V3.{V3}
 use Rattle.staat_vec.specs.declared.vector.TheConstants.{POINT}
 use Rattle.staat_vec.specs.Lists.{Lists}
 use Rattle.staat_vec.specs.Vectors.{IsWithin, det, minus, vector_cmp}
-use Rattle.staat_model.specs.declared.limits.TheConstants.{LEAST_POINTS, MOST_POINTS}
+use Rattle.staat_limits.specs.declared.limits.TheConstants.{LEAST_POINTS, MOST_POINTS}
 use Rattle.staat_model.specs.Pieces.{IsPiece, IsSolid}
 use Rattle.staat_model.proofs.GraphLemmas.{from_slice_get}
 use Rattle.staat_model.proofs.Members.{All-from_members}

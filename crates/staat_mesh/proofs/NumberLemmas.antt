@@ -12,7 +12,7 @@ use Rattle.std.proofs.lemmas.Option.{slice_get-get_or}
 use Rattle.staat_vec.specs.declared.vector.V3.{V3}
 use Rattle.staat_vec.specs.Vectors.{vector_cmp}
 use Rattle.staat_vec.proofs.VectorOrder.{vector_exact, vector_total}
-use Rattle.staat_model.specs.declared.limits.TheConstants.{MOST_POINTS}
+use Rattle.staat_limits.specs.declared.limits.TheConstants.{MOST_POINTS}
 use Rattle.staat_mesh.specs.Counts.{Numbers}
 use Rattle.staat_mesh.proofs.SameLemmas.{vector_cmp-same}
 

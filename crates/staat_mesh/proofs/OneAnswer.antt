@@ -8,7 +8,7 @@ use Rattle.staat_vec.specs.declared.vector.V3.{V3}
 use Rattle.staat_vec.specs.Vectors.{vector_cmp}
 use Rattle.staat_vec.proofs.Unique.{Lists-unique}
 use Rattle.staat_vec.proofs.VectorOrder.{vector_exact, vector_total}
-use Rattle.staat_model.specs.declared.limits.TheConstants.{LEAST_POINTS, MOST_POINTS}
+use Rattle.staat_limits.specs.declared.limits.TheConstants.{LEAST_POINTS, MOST_POINTS}
 use Rattle.staat_model.specs.Pieces.{IsSolid}
 use Rattle.staat_mesh.specs.declared.refusal.MeshRefusal.{MeshRefusal}
 use Rattle.staat_mesh.specs.declared.refusal.MeshRefusal.TheVariants.{TooFewPoints, TooManyPoints, Flat, BadFace, NotConvex, OpenEdge}

@@ -12,7 +12,7 @@ use Rattle.staat_vec.specs.declared.vector.V3.{V3}
 use Rattle.staat_vec.specs.Lists.{Lists}
 use Rattle.staat_vec.specs.Vectors.{origin, vector_cmp}
 use Rattle.staat_vec.proofs.Unique.{Contains-front, Contains-later}
-use Rattle.staat_model.specs.declared.limits.TheConstants.{MOST_POINTS}
+use Rattle.staat_limits.specs.declared.limits.TheConstants.{MOST_POINTS}
 use Rattle.staat_model.proofs.GraphLemmas.{from_slice_get}
 use Rattle.staat_model.proofs.Members.{All-from_members, both as joined}
 use Rattle.staat_off.specs.declared.raw.Raw.{Raw}

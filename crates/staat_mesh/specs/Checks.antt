@@ -1,7 +1,7 @@
 -- What the checks of points, faces and edges answer.
 use Rattle.std.specs.Prelude.{◌≡◌, ◌<◌, ◌≤◌, List, length, All, Result, Ok, Err}
 use Rattle.staat_vec.specs.declared.vector.V3.{V3}
-use Rattle.staat_model.specs.declared.limits.TheConstants.{LEAST_POINTS, MOST_POINTS}
+use Rattle.staat_limits.specs.declared.limits.TheConstants.{LEAST_POINTS, MOST_POINTS}
 use Rattle.staat_model.specs.Pieces.{IsSolid}
 use Rattle.staat_mesh.specs.declared.refusal.MeshRefusal.{MeshRefusal}
 use Rattle.staat_mesh.specs.declared.refusal.MeshRefusal.TheVariants.{TooFewPoints, TooManyPoints, Flat, OutOfMemory}

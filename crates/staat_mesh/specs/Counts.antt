@@ -3,7 +3,7 @@ use Rattle.std.specs.Prelude.{◌≡◌, ◌≢◌, ◌==◌, ◌&&◌, ◌+◌,
 use Rattle.std.specs.Prelude.{length, map, min, take, All}
 use Rattle.std.specs.Prelude.{Contains, Some, slice_get, slice_index, count_by}
 use Rattle.staat_vec.specs.declared.vector.V3.{V3}
-use Rattle.staat_model.specs.declared.limits.TheConstants.{MOST_POINTS}
+use Rattle.staat_limits.specs.declared.limits.TheConstants.{MOST_POINTS}
 
 -- the number of each vertex whose position is among the points says which point it is
 pub record Numbers (points positions : List V3) (numbers : List ℕ) : Type 0 where

@@ -15,7 +15,7 @@ ghost use Rattle.staat_mesh.specs.Polygons.{IsUsed, mesh};
 use crate::numbers::numbers_of;
 use crate::refusal::MeshRefusal;
 use crate::table::EdgeTable;
-use staat_model::MOST_POINTS;
+use staat_limits::MOST_POINTS;
 use staat_off::{Corners, Raw};
 use staat_vec::V3;
 use std::alloc::{AllocError, Global};

@@ -10,8 +10,9 @@ use crate::edges::check_edges;
 use crate::faces::check_faces;
 use crate::refusal::MeshRefusal;
 use crate::used::used_points;
-use staat_model::{LEAST_POINTS, MOST_POINTS, Piece, Points, is_solid};
-use staat_off::{MOST_COUNT, Raw};
+use staat_limits::{LEAST_POINTS, MOST_COUNT, MOST_POINTS};
+use staat_model::{Piece, Points, is_solid};
+use staat_off::Raw;
 use staat_vec::{POINT, V3};
 use std::alloc::Global;
 

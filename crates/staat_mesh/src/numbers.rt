@@ -4,7 +4,7 @@ ghost use Rattle.std.specs.List.Sorted.{IsStrictlySortedBy};
 ghost use Rattle.staat_vec.specs.Vectors.{vector_cmp};
 ghost use Rattle.staat_mesh.specs.Counts.{Numbers};
 
-use staat_model::MOST_POINTS;
+use staat_limits::MOST_POINTS;
 use staat_vec::V3;
 use std::alloc::{AllocError, Global};
 

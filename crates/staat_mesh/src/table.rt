@@ -3,7 +3,7 @@ ghost use Rattle.std.specs.Prelude.{◌≡◌, ◌<◌, ◌+◌, ◌∷◌, ◌+
 ghost use Rattle.std.specs.Prelude.{slice_index};
 ghost use Rattle.staat_mesh.specs.Counts.{Counts, cell};
 
-use staat_model::MOST_POINTS;
+use staat_limits::MOST_POINTS;
 use std::alloc::{AllocError, Global};
 use std::marker::Model;
 

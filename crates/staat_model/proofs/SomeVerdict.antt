@@ -21,7 +21,7 @@ use Rattle.staat_model.specs.declared.certificate.Witness.{Witness}
 use Rattle.staat_model.specs.declared.certificate.Body.{Body}
 use Rattle.staat_model.specs.declared.certificate.Body.TheVariants as body
 use Rattle.staat_model.specs.declared.certificate.Certificate.{Certificate}
-use Rattle.staat_model.specs.declared.limits.TheConstants.{MOST_PARTS}
+use Rattle.staat_limits.specs.declared.limits.TheConstants.{MOST_PARTS}
 use Rattle.staat_model.specs.declared.line.Line.{Line}
 use Rattle.staat_model.specs.declared.line.Line.TheVariants as line
 use Rattle.staat_model.specs.declared.verdict.Verdict.{Verdict}

@@ -14,7 +14,8 @@ use Rattle.staat_model.specs.declared.certificate.Certificate.{Certificate}
 use Rattle.staat_model.specs.declared.certificate.Witness.{Witness}
 use Rattle.staat_model.specs.Certificates.{HasLine, IsListed, walled_leaf}
 use Rattle.staat_model.specs.Certify.{IsDirection}
-use Rattle.staat_model.specs.Lines.{IsInBounds, IsVersion}
+use Rattle.staat_limits.specs.Versions.{IsVersion}
+use Rattle.staat_model.specs.Lines.{IsInBounds}
 use Rattle.staat_model.specs.Planes.{axes, vertices}
 use Rattle.staat_model.specs.Texts.{IsNodeInOrder, IsReading, IsRefusalInOrder, IsWitnessInOrder, lines_of, text_of, whole}
 use Rattle.staat_model.proofs.Examples.{v, m, axis_vertices}

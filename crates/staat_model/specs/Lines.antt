@@ -10,7 +10,8 @@ use Rattle.staat_model.specs.declared.set.PartSet.{PartSet}
 use Rattle.staat_model.specs.declared.certificate.Arc.{Arc}
 use Rattle.staat_model.specs.declared.line.Line.{Line}
 use Rattle.staat_model.specs.declared.line.Line.TheVariants as line
-use Rattle.staat_model.specs.declared.limits.TheConstants.{MOST_PARTS, MOST_PIECES, LIST_LIMIT}
+use Rattle.staat_limits.specs.Versions.{IsVersion}
+use Rattle.staat_limits.specs.declared.limits.TheConstants.{MOST_PARTS, MOST_PIECES, LIST_LIMIT}
 use Rattle.staat_model.specs.Sets.{IsNonempty, IsSubset, below}
 
 -- the members among the n numbers from p on, ascending
@@ -82,10 +83,6 @@ pub record IsArcInBounds (arc : Arc) : Type 0 where
   pub i : arc.i < MOST_PIECES
   pub b : arc.b < MOST_PARTS
   pub j : arc.j < MOST_PIECES
-
--- the versions of the format
-abbrev pub IsVersion : ℕ → Type 0
-IsVersion version = (1 ≤ version) × (version ≤ 2)
 
 -- the bounds of a line's numbers
 abbrev pub IsInBounds : Line → Type 0

@@ -14,7 +14,7 @@ use Rattle.staat_model.specs.declared.certificate.Body.TheVariants as body
 use Rattle.staat_model.specs.declared.certificate.Certificate.{Certificate}
 use Rattle.staat_model.specs.declared.line.Line.{Line}
 use Rattle.staat_model.specs.declared.line.Line.TheVariants as line
-use Rattle.staat_model.specs.declared.limits.TheConstants.{MOST_PARTS, LIST_LIMIT, LINE_LIMIT}
+use Rattle.staat_limits.specs.declared.limits.TheConstants.{MOST_PARTS, LIST_LIMIT, LINE_LIMIT}
 use Rattle.staat_model.specs.Certificates.{WalledPlan, nodes_of, arc_cmp}
 use Rattle.staat_model.specs.Lines.{line_text, IsInBounds}
 

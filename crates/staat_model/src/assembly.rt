@@ -2,8 +2,8 @@
 ghost use Rattle.std.specs.Prelude.{◌≡◌, ◌<◌, ◌≤◌, Some, length};
 ghost use Rattle.staat_model.specs.Assemblies.{IsAssembly, IsSound, name_at, piece_at, piece_count};
 
-use crate::limits::{MOST_PARTS, MOST_PIECES};
 use crate::piece::{Piece, Pieces};
+use staat_limits::{MOST_PARTS, MOST_PIECES};
 use staat_vec::{Listed, Name};
 use std::marker::Model;
 

@@ -13,9 +13,6 @@ pub use crate::cone_laws::{
     combine, corner, differences_span, facet_is_crossing, farkas, one_primitive, reached_by_facets,
     two_borders, weights_and_numbers,
 };
-use crate::limits::{
-    LEAST_POINTS, LINE_LIMIT, LIST_LIMIT, MOST_PARTS, MOST_PIECES, MOST_POINTS, TEXT_LIMIT,
-};
 pub use crate::one_laws::{
     no_reason_if_valid, one_certificate, one_outcome, one_reading, one_reason, one_spelling,
     one_verdict, some_verdict,
@@ -29,19 +26,9 @@ pub use crate::plan_laws::{
     refusal_is_right, restrict, stuck_at_vertices, vertices_decide,
 };
 
-/// How many points, pieces and parts there may be, and how long lists, lines and texts may be, as numbers.
-pub fn constants()
-    ensures least_points { LEAST_POINTS ≡ 4 }
-    ensures most_points { MOST_POINTS ≡ 64 }
-    ensures most_parts { MOST_PARTS ≡ 32 }
-    ensures most_pieces { MOST_PIECES ≡ 64 }
-    ensures list_limit { LIST_LIMIT ≡ 2 ^ 25 }
-    ensures line_limit { LINE_LIMIT ≡ 128 }
-    ensures text_limit { TEXT_LIMIT ≡ 2 ^ 27 }
-{}
-
 /// A wall that shows a piece apart from a list of points along a direction keeps them apart for ever: the piece
 /// never meets what the points span.
+
 pub fn wall_keeps_apart()
     ensures { (p q : List Vector) (d n : Vector) → IsPiece p → IsShown p q d n → Meets p q d → ⊥ }
 {}

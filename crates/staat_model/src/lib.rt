@@ -6,7 +6,6 @@ mod cell_laws;
 mod certificate;
 mod cone_laws;
 pub mod laws;
-mod limits;
 mod line;
 mod one_laws;
 mod piece;
@@ -23,9 +22,6 @@ mod verdict;
 pub use assembly::{Assembly, Part, Parts, Sound};
 pub use certificate::{
     Arc, Arcs, Body, Certificate, Dir, Dirs, Node, Nodes, Sep, Seps, Witness, Witnesses,
-};
-pub use limits::{
-    LEAST_POINTS, LINE_LIMIT, LIST_LIMIT, MOST_PARTS, MOST_PIECES, MOST_POINTS, TEXT_LIMIT,
 };
 pub use line::Line;
 pub use piece::{Piece, Pieces, Points};

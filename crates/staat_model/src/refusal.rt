@@ -9,7 +9,7 @@ use thiserror::Error;
 /// Why there is no text.
 #[derive(Clone, Copy, Debug, PartialEq, Eq, Error)]
 pub enum TextRefusal {
-    /// The text has this length in bytes, which is above [`TEXT_LIMIT`](crate::TEXT_LIMIT).
+    /// The text has this length in bytes, which is above [`TEXT_LIMIT`](staat_limits::TEXT_LIMIT).
     #[error("text too long ({0})")]
     TextTooLong(u128),
     /// There was no memory.

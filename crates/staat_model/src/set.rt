@@ -4,7 +4,7 @@ ghost use Rattle.std.specs.FinSet as set;
 ghost use Rattle.std.specs.Int.{bit_at};
 ghost use Rattle.staat_model.specs.Sets.{Has, IsLeastOf, IsNonempty, IsSubset, below, equal_sets, single};
 
-use crate::limits::MOST_PARTS;
+use staat_limits::MOST_PARTS;
 use std::marker::Model;
 
 /// A set of part numbers below [`MOST_PARTS`], seen as the finite set of its members.

@@ -3,7 +3,8 @@ ghost use Rattle.std.specs.Prelude.{◌≡◌, IfOk};
 ghost use Rattle.staat_vec.specs.Vectors.{vector};
 ghost use Rattle.staat_model.specs.Pieces.{IsPiece};
 
-use crate::{Assembly, MOST_PARTS, Part, PartSet, Parts, Piece, Pieces, Points, Sound, is_solid};
+use crate::{Assembly, Part, PartSet, Parts, Piece, Pieces, Points, Sound, is_solid};
+use staat_limits::MOST_PARTS;
 use staat_vec::{Name, V3};
 use std::alloc::{AllocError, Global};
 use std::test::Fail;

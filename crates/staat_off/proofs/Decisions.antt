@@ -7,7 +7,7 @@ use Rattle.std.proofs.lemmas.Bool.Decides.{nat_tests}
 use Rattle.staat_vec.specs.declared.vector.TheConstants.{POINT}
 use Rattle.staat_off.specs.declared.coordinate.TheConstants.{FAR, TOO_MANY}
 use Rattle.staat_off.specs.declared.trim.TheConstants.{BEYOND}
-use Rattle.staat_off.specs.declared.raw.TheConstants.{MOST_DIGITS}
+use Rattle.staat_limits.specs.declared.limits.TheConstants.{MOST_DIGITS}
 use Rattle.staat_off.specs.declared.refusal.OffRefusal.{OffRefusal}
 use Rattle.staat_off.specs.declared.refusal.OffRefusal.TheVariants.{BadCount, BadIndex, BadNumber, NoHeader, NotWhole, OutOfMemory, ShortFile, TooBig, Trailing}
 use Rattle.staat_off.specs.Coordinates.{coordinate_of, decision_of, denominator, numerator, quotient_of, within_limit}

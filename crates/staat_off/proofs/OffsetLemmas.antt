@@ -6,7 +6,7 @@ use Rattle.staat_vec.specs.declared.vector.V3.{V3}
 use Rattle.staat_vec.specs.declared.vector.TheConstants.{POINT}
 use Rattle.staat_vec.specs.Vectors.{vector}
 use Rattle.staat_off.specs.declared.raw.Raw.{Raw}
-use Rattle.staat_off.specs.declared.raw.TheConstants.{MOST_COUNT}
+use Rattle.staat_limits.specs.declared.limits.TheConstants.{MOST_COUNT}
 use Rattle.staat_off.specs.declared.refusal.OffRefusal.{OffRefusal}
 use Rattle.staat_off.specs.declared.refusal.OffRefusal.TheVariants.{BadCount, BadIndex, NoHeader, NotWhole, TooBig}
 use Rattle.staat_off.specs.Coordinates.{coordinate_of, decision_of, denominator, numerator, within_limit}

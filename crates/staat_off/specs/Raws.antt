@@ -3,7 +3,7 @@ use Rattle.std.specs.Prelude.{◌<◌, ◌≤◌, length, All}
 use Rattle.staat_vec.specs.declared.vector.TheConstants.{POINT}
 use Rattle.staat_vec.specs.Vectors.{IsWithin}
 use Rattle.staat_off.specs.declared.raw.Raw.{Raw}
-use Rattle.staat_off.specs.declared.raw.TheConstants.{MOST_COUNT}
+use Rattle.staat_limits.specs.declared.limits.TheConstants.{MOST_COUNT}
 
 -- no point is too far out, and each corner of a face is the number of a point
 pub record IsIndexed (raw : Raw) : Type 0 where

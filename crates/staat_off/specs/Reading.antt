@@ -9,7 +9,7 @@ use Rattle.std.specs.Str.Parse.{digits_value}
 use Rattle.staat_vec.specs.declared.vector.V3.{V3}
 use Rattle.staat_vec.specs.Vectors.{vector}
 use Rattle.staat_off.specs.declared.raw.Raw.{Raw}
-use Rattle.staat_off.specs.declared.raw.TheConstants.{MOST_COUNT}
+use Rattle.staat_limits.specs.declared.limits.TheConstants.{MOST_COUNT}
 use Rattle.staat_off.specs.declared.refusal.OffRefusal.{OffRefusal}
 use Rattle.staat_off.specs.declared.refusal.OffRefusal.TheVariants.{NoHeader, BadCount, BadIndex, ShortFile, Trailing}
 use Rattle.staat_off.specs.Coordinates.{coordinate_of}

@@ -8,10 +8,10 @@ ghost use Rattle.staat_off.specs.Views.{numeral_view, word_view};
 
 use crate::digits::number_up_to;
 use crate::numeral::{LONGEST_NUMBER, Numeral, read_numeral};
-use crate::raw::MOST_DIGITS;
 use crate::refusal::OffRefusal;
 use crate::rest::Word;
 use crate::trim::{BEYOND, trimmed_of, with_zeros};
+use staat_limits::MOST_DIGITS;
 
 /// Every exponent above this decides alike, since a word has fewer digits.
 const FAR: u32 = 1000;

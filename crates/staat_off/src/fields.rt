@@ -6,9 +6,9 @@ ghost use Rattle.staat_off.specs.Views.{word_view};
 
 use crate::coordinate::coordinate_of;
 use crate::digits::short_number;
-use crate::raw::{MOST_COUNT, MOST_DIGITS};
 use crate::refusal::OffRefusal;
 use crate::rest::{Rest, Word};
+use staat_limits::{MOST_COUNT, MOST_DIGITS};
 use staat_vec::V3;
 
 // A word, where one is wanted.

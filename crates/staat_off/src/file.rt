@@ -6,9 +6,10 @@ ghost use Rattle.staat_off.specs.Readers.{many};
 ghost use Rattle.staat_off.specs.Reading.{face, file, index, point, reading};
 
 use crate::fields::{read_corner_count, read_count, read_end, read_header, read_index, read_point};
-use crate::raw::{Corners, Faces, MOST_DIGITS, Raw};
+use crate::raw::{Corners, Faces, Raw};
 use crate::refusal::OffRefusal;
 use crate::rest::Rest;
+use staat_limits::MOST_DIGITS;
 use staat_model::Points;
 use std::alloc::Global;
 
@@ -91,7 +92,7 @@ fn read_file(alloc: Global, digits: u32, rest: &mut Rest<'_>) -> Result<Raw, Off
 ///
 /// The answer is what the file holds, or the first fault in reading order. The bytes are passed over once, and memory
 /// is taken for the points and the faces alone. Coordinates are at most [`POINT`](staat_vec::POINT) in absolute value,
-/// points, faces and the corners of a face number at most [`MOST_COUNT`](crate::MOST_COUNT) each, and each face has a
+/// points, faces and the corners of a face number at most [`MOST_COUNT`](staat_limits::MOST_COUNT) each, and each face has a
 /// corner.
 #[tactic(auto, unfolding(crate::specs::Reading::reading))]
 pub fn read_off(alloc: Global, bytes: &[u8], digits: u32) -> Result<Raw, OffRefusal>

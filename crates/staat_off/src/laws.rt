@@ -14,7 +14,6 @@ ghost use Rattle.staat_off.specs.Values.{IsDecided};
 ghost use Rattle.staat_off.specs.Words.{IsNextLine, IsNextWord, IsStop, IsWordPlace, Word, end_of};
 
 use crate::numeral::LONGEST_NUMBER;
-use crate::raw::{MOST_COUNT, MOST_DIGITS};
 use crate::rest::{HASH, LINE_FEED};
 
 /// The word that the scan finds is the next word of the file: a longest run of bytes that are neither blank nor `#`
@@ -68,12 +67,10 @@ pub fn corners_are_vertices()
         HasCorners raw }
 {}
 
-/// The bytes and the bounds that the format fixes, as numbers: `#` begins a comment and LF ends it; a coordinate has
-/// at most 64 bytes; vertices, faces and corners number at most 1,000,000 each; `--digits` is at most 6.
+/// The bytes and the bound that the format fixes, as numbers: `#` begins a comment and LF ends it; a coordinate has
+/// at most 64 bytes.
 pub fn constants()
     ensures comment { HASH ≡ 35 }
     ensures line_end { LINE_FEED ≡ 10 }
     ensures number { LONGEST_NUMBER ≡ 64 }
-    ensures count { MOST_COUNT ≡ 1000000 }
-    ensures digits { MOST_DIGITS ≡ 6 }
 {}

@@ -13,7 +13,7 @@ mod rest;
 mod trim;
 
 pub use file::read_off;
-pub use raw::{Corners, Faces, MOST_COUNT, MOST_DIGITS, Raw};
+pub use raw::{Corners, Faces, Raw};
 pub use refusal::OffRefusal;
 
 #[cfg(test)]

@@ -8,12 +8,6 @@ pub type Corners = Listed<u32>;
 /// A list of faces.
 pub type Faces = Listed<Corners>;
 
-/// How great a count in a file may be: of points, of faces, or of the corners of a face.
-pub const MOST_COUNT: u32 = 1_000_000;
-
-/// How many decimal places the coordinates may be scaled by at most.
-pub const MOST_DIGITS: u32 = 6;
-
 /// The vertices and faces of a file, as it lists them. Points are numbered from 0.
 #[derive(Drop)]
 pub struct Raw {

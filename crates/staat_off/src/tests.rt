@@ -1,7 +1,8 @@
 // Worked files and numbers: what was computed by hand or by another program.
 ghost use Rattle.std.specs.Prelude.{◌≤◌};
 
-use crate::{MOST_DIGITS, OffRefusal, Raw, read_off};
+use crate::{OffRefusal, Raw, read_off};
+use staat_limits::MOST_DIGITS;
 use std::alloc::Global;
 use std::test::Fail;
 

@@ -16,7 +16,8 @@ use Rattle.staat_model.specs.declared.tree.Kind.{Kind}
 use Rattle.staat_model.specs.Assemblies.{IsAssembly}
 use Rattle.staat_model.specs.Certificates.{RefusalHolds}
 use Rattle.staat_model.specs.Certify.{IsBodyOf, IsCertificateOf, IsRefusalOf}
-use Rattle.staat_model.specs.Lines.{IsInBounds, IsVersion}
+use Rattle.staat_limits.specs.Versions.{IsVersion}
+use Rattle.staat_model.specs.Lines.{IsInBounds}
 use Rattle.staat_model.specs.Outcomes.{Finding, planned, stuck}
 use Rattle.staat_model.specs.Planes.{ArePlanes, IsFacetPlane, axes}
 use Rattle.staat_model.specs.Plans.{Plan}

@@ -14,7 +14,7 @@ use Rattle.staat_vec.proofs.Primitives.{IsPrimitive-some, IsWithin-primitive, pr
 use Rattle.staat_model.specs.declared.assembly.Part.{Part}
 use Rattle.staat_model.specs.declared.certificate.Dir.{Dir}
 use Rattle.staat_model.specs.declared.certificate.Witness.{Witness}
-use Rattle.staat_model.specs.declared.limits.TheConstants.{LIST_LIMIT}
+use Rattle.staat_limits.specs.declared.limits.TheConstants.{LIST_LIMIT}
 use Rattle.staat_model.specs.declared.set.PartSet.{PartSet}
 use Rattle.staat_model.specs.Certify.{IsDirection, IsRefusalOf, NamesWitness}
 use Rattle.staat_model.specs.Planes.{ArePlanes, crossings, vertices}

@@ -13,7 +13,7 @@ use Rattle.staat_model.specs.declared.assembly.Part.{Part}
 use Rattle.staat_model.specs.declared.certificate.Arc.{Arc}
 use Rattle.staat_model.specs.declared.certificate.Dir.{Dir}
 use Rattle.staat_model.specs.declared.certificate.Witness.{Witness}
-use Rattle.staat_model.specs.declared.limits.TheConstants.{LIST_LIMIT, MOST_PARTS}
+use Rattle.staat_limits.specs.declared.limits.TheConstants.{LIST_LIMIT, MOST_PARTS}
 use Rattle.staat_model.specs.declared.line.Line.TheVariants as line
 use Rattle.staat_model.specs.declared.set.PartSet.{PartSet}
 use Rattle.staat_model.specs.Assemblies.{IsAssembly}

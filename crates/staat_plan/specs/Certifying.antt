@@ -7,7 +7,7 @@ use Rattle.staat_model.specs.Certificates.{IsValidPlan, IsValidRefusal}
 use Rattle.staat_model.specs.Outcomes.{Finding, planned, stuck}
 use Rattle.staat_model.specs.Plans.{IsGood, IsStuck}
 use Rattle.staat_model.specs.Sets.{below}
-use Rattle.staat_planes.specs.declared.table.TheConstants.{MOST_PLANES}
+use Rattle.staat_limits.specs.declared.limits.TheConstants.{MOST_PLANES}
 use Rattle.staat_plan.specs.Planning.{AreWithin, HasFewPlanes}
 
 -- a plan that takes all parts apart along directions within the bound, or a set that is stuck and has few planes

@@ -10,8 +10,9 @@ ghost use Rattle.staat_plan.specs.CellSteps.{IsFirstOpenStep, IsStepAmong, IsTab
 use crate::marked::Marked;
 use staat_cells::{Cell, CellGraphs, Skeleton, first_open};
 use staat_graph::{is_strong, sink_of};
+use staat_limits::MOST_CELL_PLANES;
 use staat_model::{Kind, PartSet, Step};
-use staat_planes::{MOST_CELL_PLANES, PlaneTable};
+use staat_planes::PlaneTable;
 use staat_vec::OutOfMemory;
 use std::alloc::Global;
 

@@ -4,7 +4,8 @@ ghost use Rattle.staat_vec.specs.Vectors.{IsWithin};
 ghost use Rattle.staat_model.specs.Sets.{Has, IsSubset};
 ghost use Rattle.staat_plan.specs.Hubs.{IsHub};
 
-use staat_model::{MOST_PARTS, PartSet};
+use staat_limits::MOST_PARTS;
+use staat_model::PartSet;
 use staat_planes::PlaneTable;
 use staat_vec::{NORMAL, V3};
 

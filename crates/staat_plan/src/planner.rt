@@ -17,10 +17,9 @@ use crate::marked::Marked;
 use crate::step::{early_step, step_of};
 use crate::walker::Walker;
 use staat_cone::FacetSource;
+use staat_limits::{LEAST_PLANES, MOST_CELL_PLANES, MOST_PLANES};
 use staat_model::{Kind, Marks, Outcome, PartSet, Sound, Step, Tree};
-use staat_planes::{
-    LEAST_PLANES, MOST_CELL_PLANES, MOST_PLANES, PlaneTable, PlanesRefusal, tabulate,
-};
+use staat_planes::{PlaneTable, PlanesRefusal, tabulate};
 use staat_vec::{OutOfMemory, V3};
 use std::alloc::Global;
 

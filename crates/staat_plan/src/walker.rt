@@ -12,8 +12,9 @@ ghost use Rattle.staat_ring.specs.Belonging.{BelongTo};
 ghost use Rattle.staat_ring.specs.Rings.{WereMadeFrom, linked_of};
 
 use crate::ring_step::part_step_rings;
+use staat_limits::LEAST_PLANES;
 use staat_model::{PartSet, Step};
-use staat_planes::{LEAST_PLANES, PlaneTable, Steps};
+use staat_planes::{PlaneTable, Steps};
 use staat_ring::{Rings, Walk};
 use staat_vec::{DIRECTION, OutOfMemory};
 use std::alloc::Global;

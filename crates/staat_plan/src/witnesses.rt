@@ -12,7 +12,8 @@ ghost use Rattle.staat_plan.specs.Visits.{KeepsTrees, StandsAmong};
 
 use crate::arcs::least_arc;
 use staat_graph::{Graph, Trees, trees_of};
-use staat_model::{Arc, Arcs, MOST_PARTS, Sound, Witness};
+use staat_limits::MOST_PARTS;
+use staat_model::{Arc, Arcs, Sound, Witness};
 use staat_planes::PlaneTable;
 use staat_ring::Walk;
 use staat_vec::OutOfMemory;

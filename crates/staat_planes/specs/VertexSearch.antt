@@ -25,7 +25,7 @@ use Rattle.staat_vec.specs.Vectors.{IsWithin, dot, negative, origin}
 use Rattle.staat_model.specs.Planes.{crossings, vertices}
 use Rattle.staat_pairs.specs.Tables.{IsPlaneNormal}
 use Rattle.staat_planes.specs.declared.pairs.PlanePairs.{PlanePairs}
-use Rattle.staat_planes.specs.declared.table.TheConstants.{MOST_PLANES}
+use Rattle.staat_limits.specs.declared.limits.TheConstants.{MOST_PLANES}
 use Rattle.staat_planes.specs.declared.search.Search.{Search}
 use Rattle.staat_planes.specs.declared.search.Search.TheVariants.{First, Nothing, Undecided}
 use Rattle.staat_planes.specs.declared.search.Served.{Served}

@@ -4,8 +4,9 @@ ghost use Rattle.staat_model.specs.Sets.{Has, IsNonempty};
 ghost use Rattle.staat_planes.specs.Refusals.{IsPlanesRefusal, IsTableWithin};
 
 use crate::refusal::PlanesRefusal;
-use crate::table::{LEAST_PLANES, MOST_PLANES, PlaneTable};
+use crate::table::PlaneTable;
 use staat_cone::FacetSource;
+use staat_limits::{LEAST_PLANES, MOST_PLANES};
 use staat_model::{PartSet, Sound};
 use staat_pairs::facet_table;
 use std::alloc::Global;

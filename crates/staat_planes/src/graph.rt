@@ -11,7 +11,8 @@ ghost use Rattle.staat_planes.specs.Tables.{BlocksIn, IsAhead, IsAheadFrom, IsAh
 use crate::table::PlaneTable;
 use staat_cone::blocks;
 use staat_graph::Graph;
-use staat_model::{Arc, MOST_PARTS, PartSet};
+use staat_limits::MOST_PARTS;
+use staat_model::{Arc, PartSet};
 use staat_pairs::back;
 use staat_vec::{DIRECTION, V3, neg};
 

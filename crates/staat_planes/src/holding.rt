@@ -7,7 +7,8 @@ ghost use Rattle.staat_pairs.specs.Tables.{pieces_of};
 ghost use Rattle.staat_planes.specs.Holding.{HoldsPart, IsArcAhead, IsHeld};
 
 use crate::table::PlaneTable;
-use staat_model::{Arc, MOST_PARTS, PartSet};
+use staat_limits::MOST_PARTS;
+use staat_model::{Arc, PartSet};
 use staat_vec::{DIRECTION, V3};
 
 // a piece of b that piece i of a meets along d

@@ -5,7 +5,6 @@ mod build;
 mod circle;
 mod graph;
 mod holding;
-pub mod laws;
 mod marks;
 mod pairs;
 mod refusal;
@@ -22,7 +21,7 @@ pub use search::{
     Search, Served, Trial, Tried, all_ruled_out, first_few, first_left, first_vertex,
 };
 pub use steps::Steps;
-pub use table::{LEAST_PLANES, MOST_CELL_PLANES, MOST_PLANES, PlaneTable};
+pub use table::PlaneTable;
 
 #[cfg(test)]
 mod tests;

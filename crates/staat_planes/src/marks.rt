@@ -5,8 +5,9 @@ ghost use Rattle.staat_pairs.specs.Searches.{HasPlane, HasPlaneBetween, HasPlane
 ghost use Rattle.staat_pairs.specs.Tables.{AreTablePlanes, IsTableFacet, pieces_of};
 ghost use Rattle.staat_planes.specs.Marks.{AddsMarks, AreUsedMarks, IsPlaneMarked};
 
-use crate::table::{MOST_PLANES, PlaneTable};
-use staat_model::{Arc, MOST_PARTS, PartSet};
+use crate::table::PlaneTable;
+use staat_limits::{MOST_PARTS, MOST_PLANES};
+use staat_model::{Arc, PartSet};
 use staat_pairs::{place_among, planes_from};
 use staat_vec::{V3, canon};
 

@@ -7,20 +7,12 @@ ghost use Rattle.staat_pairs.specs.Tables.{AreTableFacets, AreTablePlanes, IsPla
 ghost use Rattle.staat_pairs.specs.Tables.{IsTableFacet, facets_of, pieces_of, reversed_facets, slot};
 
 use crate::steps::Steps;
-use staat_model::{Arc, MOST_PIECES, PartSet};
+use staat_limits::{LEAST_PLANES, MOST_PIECES, MOST_PLANES};
+use staat_model::{Arc, PartSet};
 use staat_pairs::{FacetTable, SLOTS, back};
 use staat_vec::{DIRECTION, NORMAL, Sign, V3, neg, sign_dot};
 use std::marker::Model;
 use std::sync::ledger::Ledger;
-
-/// How many planes a table has at least: the coordinate planes.
-pub const LEAST_PLANES: u32 = 3;
-
-/// How many planes a table has at most.
-pub const MOST_PLANES: u32 = 1024;
-
-/// How many planes a table has at most whose cells are listed.
-pub const MOST_CELL_PLANES: u32 = 256;
 
 /// The planes of a set of parts, and the facets of each two pieces of different parts of the set.
 ///
@@ -34,7 +26,7 @@ pub struct PlaneTable {
 impl Model for PlaneTable {
     ghost use Rattle.std.specs.Prelude.{◌≤◌, length};
     ghost use Rattle.staat_pairs.specs.Tables.{Table, coded_table};
-    ghost use Rattle.staat_planes.specs.declared.table.TheConstants.{MOST_PLANES};
+    ghost use Rattle.staat_limits.specs.declared.limits.TheConstants.{MOST_PLANES};
 
     ghost Value = { Table };
 

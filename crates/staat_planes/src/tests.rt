@@ -4,11 +4,12 @@ ghost use Rattle.staat_vec.specs.Vectors.{IsWithin};
 ghost use Rattle.staat_model.specs.Sets.{Has};
 ghost use Rattle.staat_pairs.specs.Tables.{IsTableArc};
 
-use crate::{LEAST_PLANES, MOST_PLANES, PlaneTable, PlanesRefusal, Steps, tabulate};
+use crate::{PlaneTable, PlanesRefusal, Steps, tabulate};
 use staat_asm::build;
 use staat_cone::Plain;
 use staat_graph::{strong_parts, trees_of};
-use staat_model::{Arc, MOST_PARTS, Part, PartSet, Sound};
+use staat_limits::{LEAST_PLANES, MOST_PARTS, MOST_PLANES};
+use staat_model::{Arc, Part, PartSet, Sound};
 use staat_samples::{assembly_of, at, boxes, prisms};
 use staat_vec::{DIRECTION, OutOfMemory, Sign, V3};
 use std::alloc::Global;

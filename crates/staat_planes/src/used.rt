@@ -11,8 +11,9 @@ ghost use Rattle.staat_pairs.specs.Searches.{HasPlane, HasPlaneBetween, HasPlane
 ghost use Rattle.staat_pairs.specs.Tables.{IsPlaneNormal, WasMadeFrom, pieces_of};
 ghost use Rattle.staat_planes.specs.Tables.{IsPlaneOf};
 
-use crate::table::{LEAST_PLANES, PlaneTable};
-use staat_model::{Arc, MOST_PARTS, PartSet};
+use crate::table::PlaneTable;
+use staat_limits::{LEAST_PLANES, MOST_PARTS};
+use staat_model::{Arc, PartSet};
 use staat_vec::{NORMAL, V3, is_same, neg};
 
 // whether the facet is n or its negative

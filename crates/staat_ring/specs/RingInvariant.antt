@@ -14,7 +14,7 @@ use Rattle.std.specs.Prelude.{
   take,
 }
 use Rattle.std.specs.Prelude.{slice_index, slice_index_or}
-use Rattle.staat_planes.specs.declared.table.TheConstants.{MOST_PLANES}
+use Rattle.staat_limits.specs.declared.limits.TheConstants.{MOST_PLANES}
 use Rattle.staat_ring.specs.Links.{Arrays}
 use Rattle.staat_ring.specs.RingViews.{CanBeUndone, is_out, still_linked}
 

@@ -11,7 +11,7 @@ ghost use Rattle.staat_ring.specs.RingViews.{shape};
 use crate::circle::Through;
 use crate::linking::link_stops;
 use crate::nodes::{NodeLinks, counted};
-use staat_planes::MOST_PLANES;
+use staat_limits::MOST_PLANES;
 use staat_vec::OutOfMemory;
 use std::alloc::Global;
 use std::marker::Model;

@@ -3,8 +3,6 @@ ghost use Rattle.std.specs.Prelude.{◌≡◌, ◌+◌, ◌*◌, ◌<◌, ◌≤
 ghost use Rattle.staat_ring.specs.Numbered.{HasEntry, node_number};
 ghost use Rattle.staat_ring.specs.Rings.{entry_number};
 
-use staat_planes::MOST_PLANES;
-
 /// A plane through a stop of a circle.
 #[derive(Clone, Copy)]
 pub struct Entry {
@@ -28,6 +26,9 @@ pub fn number_of_entry(planes: u32, c: u32, e: Entry) -> u32
 }
 
 /// The node of a stop on the circle `c`: it is numbered by its first entry, beyond all entries.
+
+use staat_limits::MOST_PLANES;
+
 pub fn node_of(planes: u32, c: u32, entries: &[Entry]) -> u32
     requires planes { planes ≤ MOST_PLANES }
     requires circle { c < planes }

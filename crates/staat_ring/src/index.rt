@@ -12,7 +12,8 @@ ghost use Rattle.staat_ring.specs.Rings.{facet_by, plane_at};
 
 use crate::plane_number::number_of_plane;
 use crate::signs::Signs;
-use staat_model::{Arc, MOST_PARTS, MOST_PIECES};
+use staat_limits::{MOST_PARTS, MOST_PIECES};
+use staat_model::Arc;
 use staat_pairs::SLOTS;
 use staat_planes::PlaneTable;
 use staat_vec::{OutOfMemory, V3, canon, is_same};

@@ -10,7 +10,7 @@ ghost use Rattle.staat_ring.specs.Rings.{entry_number};
 use crate::circle::Through;
 use crate::entry::{Entry, node_of, number_of_entry};
 use crate::nodes::NodeLinks;
-use staat_planes::MOST_PLANES;
+use staat_limits::MOST_PLANES;
 use staat_vec::OutOfMemory;
 use std::alloc::Global;
 

@@ -5,8 +5,9 @@ ghost use Rattle.std.specs.List.Sorted.{IsStrictlySortedBy};
 ghost use Rattle.staat_vec.specs.Vectors.{vector_cmp};
 ghost use Rattle.staat_ring.specs.Rings.{plane_at};
 
+use staat_limits::LEAST_PLANES;
 use staat_pairs::planes_from;
-use staat_planes::{LEAST_PLANES, PlaneTable};
+use staat_planes::PlaneTable;
 use staat_vec::{V3, is_same};
 
 // the number of the coordinate plane with this normal, if it is one

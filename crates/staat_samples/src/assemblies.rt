@@ -6,7 +6,8 @@ ghost use Rattle.staat_model.specs.Pieces.{IsPiece};
 ghost use Rattle.staat_samples.specs.Hulls.{IsUnionAnswer, box_corners, prism_corners};
 
 use crate::pieces::{boxed, prism};
-use staat_model::{Assembly, MOST_PARTS, MOST_PIECES, Part, Parts, Piece, Pieces};
+use staat_limits::{MOST_PARTS, MOST_PIECES};
+use staat_model::{Assembly, Part, Parts, Piece, Pieces};
 use staat_vec::{Name, OutOfMemory, V3};
 use std::alloc::Global;
 

@@ -5,7 +5,8 @@ ghost use Rattle.staat_vec.specs.Vectors.{IsWithin, vector, vector_cmp};
 ghost use Rattle.staat_model.specs.Pieces.{IsPiece};
 ghost use Rattle.staat_samples.specs.Hulls.{IsHullAnswer, box_corners, prism_corners};
 
-use staat_model::{LEAST_POINTS, MOST_POINTS, Piece, Points, is_solid};
+use staat_limits::{LEAST_POINTS, MOST_POINTS};
+use staat_model::{Piece, Points, is_solid};
 use staat_vec::{OutOfMemory, POINT, V3, in_order};
 use std::alloc::Global;
 

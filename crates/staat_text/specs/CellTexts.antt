@@ -3,7 +3,7 @@ use Rattle.std.specs.Prelude.{◌≡◌, ◌++◌, ◌∷◌, [], ℕ, ◌<◌, 
 use Rattle.std.specs.Prelude.{length, flat_map, count_by, codes, decimal, Bool, true, false}
 use Rattle.staat_vec.specs.declared.vector.V3.{V3}
 use Rattle.staat_model.specs.declared.assembly.Part.{Part}
-use Rattle.staat_model.specs.declared.limits.TheConstants.{TEXT_LIMIT}
+use Rattle.staat_limits.specs.declared.limits.TheConstants.{TEXT_LIMIT}
 use Rattle.staat_model.specs.declared.refusal.TextRefusal.{TextRefusal}
 use Rattle.staat_model.specs.declared.refusal.TextRefusal.TheVariants.{TextTooLong, OutOfMemory}
 use Rattle.staat_model.specs.declared.set.PartSet.{PartSet}

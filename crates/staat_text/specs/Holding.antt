@@ -1,6 +1,6 @@
 -- What is held of a text that may be too long.
 use Rattle.std.specs.Prelude.{◌≡◌, ◌++◌, ◌≤◌, ℕ, List, length}
-use Rattle.staat_model.specs.declared.limits.TheConstants.{TEXT_LIMIT}
+use Rattle.staat_limits.specs.declared.limits.TheConstants.{TEXT_LIMIT}
 use Rattle.staat_model.specs.Cells.{CellEntry}
 use Rattle.staat_pairs.specs.Tables.{Table}
 use Rattle.staat_cells.specs.CellGraphs.{IsCellGraph}

@@ -4,7 +4,8 @@ ghost use Rattle.std.specs.Prelude.{codes, decimal, flat_map, string_bytes};
 ghost use Rattle.staat_text.specs.GraphTexts.{IsGraphText, along_line, arc_line, arcs_from, arcs_of, group_line};
 
 use staat_graph::{Graph, strong_parts};
-use staat_model::{MOST_PARTS, PartSet};
+use staat_limits::MOST_PARTS;
+use staat_model::PartSet;
 use staat_vec::{Bytes, OutOfMemory, V3};
 use std::alloc::{AllocError, Global};
 

@@ -2,7 +2,7 @@
 ghost use Rattle.std.specs.Prelude.{◌≡◌, ◌<◌, ◌+◌, ◌^◌, IfOk, length};
 ghost use Rattle.staat_text.specs.Holding.{HoldsMore};
 
-use staat_model::TEXT_LIMIT;
+use staat_limits::TEXT_LIMIT;
 use std::alloc::AllocError;
 
 /// The length of a text, and its bytes as long as they are at most [`TEXT_LIMIT`].

@@ -10,8 +10,6 @@ ghost use Rattle.staat_text.specs.CellTexts.{IsCellsText};
 ghost use Rattle.staat_text.specs.GraphTexts.{IsGraphText};
 ghost use Rattle.staat_text.specs.PlanTexts.{HasLeaves, IsPlanText};
 
-use staat_model::MOST_PARTS;
-
 /// A graph has one text at a direction.
 pub fn one_graph_text()
     ensures { (parts : ℕ) (d : Vector) (rows text other : List ℕ)
@@ -38,6 +36,9 @@ pub fn good_plan_is_shown()
 {}
 
 /// The cells of parts have one text.
+
+use staat_limits::MOST_PARTS;
+
 pub fn one_cells_text()
     ensures { (parts : List PartValue) (n : ℕ) (text other : List ℕ)
         → IsCellsText parts n text → IsCellsText parts n other → text ≡ other }

@@ -7,7 +7,8 @@ ghost use Rattle.staat_model.specs.Sets.{Has};
 ghost use Rattle.staat_text.specs.PlanTexts.{CanBeShown, HasLeaves, move_line, move_lines, plan_text, steps_of};
 ghost use Rattle.staat_text.specs.PlanTexts.{direction_text, kind_text, mark_text, number_text, parts_listed};
 
-use staat_model::{Kind, MOST_PARTS, Outcome, PartSet, Tree};
+use staat_limits::MOST_PARTS;
+use staat_model::{Kind, Outcome, PartSet, Tree};
 use staat_vec::{Bytes, OutOfMemory, V3};
 use std::alloc::{AllocError, Global};
 

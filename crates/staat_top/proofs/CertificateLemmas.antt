@@ -12,7 +12,7 @@ use Rattle.staat_cert.specs.Feeds.{IsReadAnswer, WasFed}
 use Rattle.staat_fault.specs.declared.fault.Fault.{Fault}
 use Rattle.staat_model.specs.declared.assembly.Part.{Part}
 use Rattle.staat_model.specs.declared.certificate.Certificate.{Certificate}
-use Rattle.staat_model.specs.declared.limits.TheConstants.{TEXT_LIMIT}
+use Rattle.staat_limits.specs.declared.limits.TheConstants.{TEXT_LIMIT}
 use Rattle.staat_model.specs.declared.verdict.Verdict.{Verdict}
 use Rattle.staat_model.specs.Reasons.{IsVerdict}
 use Rattle.staat_model.specs.Texts.{IsWellFormed}

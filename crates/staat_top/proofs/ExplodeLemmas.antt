@@ -6,10 +6,10 @@ use Rattle.std.proofs.lemmas.List.FromFn.{length-range_with_len}
 use Rattle.std.proofs.lemmas.List.Elements.{All-head, All-tail}
 use Rattle.staat_vec.specs.declared.vector.V3.{V3}
 use Rattle.staat_vec.specs.declared.vector.TheConstants.{DIRECTION}
-use Rattle.staat_off.specs.declared.raw.TheConstants.{MOST_COUNT}
+use Rattle.staat_limits.specs.declared.limits.TheConstants.{MOST_COUNT}
 use Rattle.staat_off.specs.Raws.{IsCounted}
 use Rattle.staat_model.specs.declared.assembly.Part.{Part}
-use Rattle.staat_model.specs.declared.limits.TheConstants.{MOST_PIECES}
+use Rattle.staat_limits.specs.declared.limits.TheConstants.{MOST_PIECES}
 use Rattle.staat_model.specs.declared.refusal.TextRefusal.{TextRefusal}
 use Rattle.staat_model.specs.declared.refusal.TextRefusal.TheVariants as text
 use Rattle.staat_model.specs.Plans.{Plan, leaf, split}

@@ -8,7 +8,7 @@ use Rattle.staat_manifest.specs.declared.listing.ListedPart.{ListedPart}
 use Rattle.staat_words.specs.declared.request.Asked.{Asked}
 use Rattle.staat_words.specs.declared.request.Input.{Input}
 use Rattle.staat_words.specs.declared.request.Input.TheVariants as inputs
-use Rattle.staat_top.specs.declared.read.TheConstants.{FILE_LIMIT}
+use Rattle.staat_limits.specs.declared.limits.TheConstants.{FILE_LIMIT}
 use Rattle.staat_top.specs.Work.{Files, Found, Each, IsTakenWithin, to_read, too_long, taken}
 use Rattle.staat_top.specs.Pieces.{SaysPiece}
 use Rattle.staat_top.specs.Moved.{IsMovedPieceOf}

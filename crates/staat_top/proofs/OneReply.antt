@@ -18,7 +18,7 @@ use Rattle.staat_model.proofs.OneTable.{ArePlanes-unique}
 use Rattle.staat_model.proofs.Orders.{arc_exact, arc_total}
 use Rattle.staat_graph.specs.Blocking.{ShowsBlocking}
 use Rattle.staat_graph.specs.Graphs.{HasArc}
-use Rattle.staat_planes.specs.declared.table.TheConstants.{MOST_PLANES}
+use Rattle.staat_limits.specs.declared.limits.TheConstants.{MOST_PLANES}
 use Rattle.staat_text.specs.CellTexts.{IsCellsText}
 use Rattle.staat_text.proofs.CellLines.{one_text}
 use Rattle.staat_text.proofs.SameArcs.{same_graph_text}
@@ -43,7 +43,7 @@ use Rattle.staat_words.specs.declared.request.Input.TheVariants as input
 use Rattle.staat_words.specs.declared.request.Product.{Product}
 use Rattle.staat_words.specs.declared.request.Request.{Request}
 use Rattle.staat_words.specs.declared.request.Request.TheVariants.{Pair, Look, Graph, Plan, Check, Cells, Drill, Explode, Linear, Local}
-use Rattle.staat_top.specs.declared.read.TheConstants.{FILE_LIMIT}
+use Rattle.staat_limits.specs.declared.limits.TheConstants.{FILE_LIMIT}
 use Rattle.staat_top.specs.declared.answer.Answer.{Answer}
 use Rattle.staat_top.specs.Work.{Files, Found, Then, Each, IsTakenWithin, to_read, too_long, taken}
 use Rattle.staat_top.specs.Refusals.{off_fault, mesh_fault, manifest_fault}
@@ -59,7 +59,7 @@ use Rattle.staat_model.specs.Reasons.{IsVerdict}
 use Rattle.staat_top.specs.Drills.{IsDrilled, drill_line, drill_too_long, drilled, parts_of_product}
 use Rattle.staat_top.specs.CellTables.{AreTabled, tabled, table_too_long}
 use Rattle.staat_top.specs.Planning.{IsPlanned, IsWritten, certificate, outcome_answer, steps, text_too_long}
-use Rattle.staat_model.specs.declared.limits.TheConstants.{TEXT_LIMIT}
+use Rattle.staat_limits.specs.declared.limits.TheConstants.{TEXT_LIMIT}
 use Rattle.staat_model.specs.Texts.{Reading, IsReading, whole, bad_line, too_short as short_reading}
 use Rattle.staat_model.proofs.OneReading.{IsReading-unique}
 use Rattle.staat_model.proofs.OneReason.{IsVerdict-unique}

@@ -3,7 +3,7 @@ use Rattle.std.proofs.Common.{◌≡◌, ◌<◌, ◌≤◌, ℕ, Bool, List, le
 use Rattle.std.specs.Prelude.{Result, IsErrAnd}
 use Rattle.staat_model.specs.declared.assembly.Part.{Part}
 use Rattle.staat_model.specs.declared.certificate.Certificate.{Certificate}
-use Rattle.staat_model.specs.declared.limits.TheConstants.{MOST_PARTS, TEXT_LIMIT}
+use Rattle.staat_limits.specs.declared.limits.TheConstants.{MOST_PARTS, TEXT_LIMIT}
 use Rattle.staat_model.specs.declared.refusal.TextRefusal.{TextRefusal}
 use Rattle.staat_model.specs.declared.refusal.TextRefusal.TheVariants as refusal
 use Rattle.staat_model.specs.Certify.{IsCertificateOf}

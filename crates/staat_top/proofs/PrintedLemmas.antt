@@ -9,7 +9,7 @@ use Rattle.staat_vec.specs.Vectors.{IsWithin}
 use Rattle.staat_vec.proofs.Unique.{IsFirst-in}
 use Rattle.staat_model.specs.declared.assembly.Part.{Part}
 use Rattle.staat_model.specs.declared.certificate.Certificate.{Certificate}
-use Rattle.staat_model.specs.declared.limits.TheConstants.{TEXT_LIMIT}
+use Rattle.staat_limits.specs.declared.limits.TheConstants.{TEXT_LIMIT}
 use Rattle.staat_model.specs.declared.set.PartSet.{PartSet}
 use Rattle.staat_model.specs.declared.verdict.Verdict.{Verdict}
 use Rattle.staat_model.specs.declared.verdict.Verdict.TheVariants.{ValidPlan, ValidRefusal}
@@ -17,7 +17,7 @@ use Rattle.staat_model.specs.declared.tree.Kind.TheVariants.{Edge, Open, Point}
 use Rattle.staat_model.specs.Assemblies.{IsAssembly}
 use Rattle.staat_model.specs.Cells.{IsEntry}
 use Rattle.staat_model.specs.Certify.{IsBodyOf, IsCertificateOf}
-use Rattle.staat_model.specs.Lines.{IsVersion}
+use Rattle.staat_limits.specs.Versions.{IsVersion}
 use Rattle.staat_model.specs.Outcomes.{Finding, IsOutcome, IsStep, Serves, Try, both_planned, moved_stuck, no_step, one_part, planned, rest_stuck, stuck, try_cell, try_vertex}
 use Rattle.staat_model.specs.Planes.{vertices}
 use Rattle.staat_model.specs.Reasons.{IsVerdict}

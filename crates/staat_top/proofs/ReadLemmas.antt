@@ -19,7 +19,7 @@ use Rattle.staat_manifest.specs.declared.refusal.ManifestRefusal.TheVariants as 
 use Rattle.staat_manifest.specs.Answers.{AnswersList}
 use Rattle.staat_manifest.specs.declared.listing.ListedPart.{ListedPart}
 use Rattle.staat_manifest.specs.Rules.{part_list}
-use Rattle.staat_top.specs.declared.read.TheConstants.{FILE_LIMIT}
+use Rattle.staat_limits.specs.declared.limits.TheConstants.{FILE_LIMIT}
 use Rattle.staat_top.specs.Work.{Files, Found, Follows, IsNotTaken, IsNotTakenWithin, IsTaken, IsTakenWithin, to_read, too_long, taken}
 use Rattle.staat_top.specs.Refusals.{off_fault, mesh_fault, manifest_fault}
 use Rattle.staat_top.specs.Pieces.{SaysPiece, no_file, no_piece, piece}

@@ -6,13 +6,13 @@ use Rattle.staat_edge.specs.Files.{bytes_of}
 use Rattle.staat_model.specs.declared.assembly.Part.{Part}
 use Rattle.staat_model.specs.declared.certificate.Certificate.{Certificate}
 use Rattle.staat_model.specs.Assemblies.{IsAssembly}
-use Rattle.staat_model.specs.declared.limits.TheConstants.{TEXT_LIMIT}
+use Rattle.staat_limits.specs.declared.limits.TheConstants.{TEXT_LIMIT}
 use Rattle.staat_model.specs.Certificates.{IsValidPlan, IsValidRefusal}
 use Rattle.staat_model.specs.Certify.{IsCertificateOf}
 use Rattle.staat_model.specs.Outcomes.{Finding, IsOutcome}
 use Rattle.staat_model.specs.Planes.{ArePlanes}
 use Rattle.staat_model.specs.Texts.{text_of}
-use Rattle.staat_planes.specs.declared.table.TheConstants.{MOST_CELL_PLANES}
+use Rattle.staat_limits.specs.declared.limits.TheConstants.{MOST_CELL_PLANES}
 use Rattle.staat_check.specs.Verdicts.{IsPlanOf, IsRefusalWithSet}
 use Rattle.staat_words.specs.declared.request.CheckRequest.{CheckRequest}
 use Rattle.staat_words.specs.declared.request.PlanRequest.{PlanRequest}

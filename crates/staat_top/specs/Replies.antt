@@ -35,7 +35,7 @@ use Rattle.staat_words.specs.declared.request.Request.TheVariants.{Drill, Explod
 use Rattle.staat_fault.specs.declared.fault.Fault.{Fault}
 use Rattle.staat_fault.specs.declared.fault.Fault.TheVariants.{Usage, ReadFault}
 use Rattle.staat_fault.specs.Faults.{status_of, line_of}
-use Rattle.staat_planes.specs.declared.table.TheConstants.{MOST_PLANES}
+use Rattle.staat_limits.specs.declared.limits.TheConstants.{MOST_PLANES}
 use Rattle.staat_text.specs.Parts.{look_text}
 use Rattle.staat_explode.specs.Apart.{StandApart}
 use Rattle.staat_explode.specs.Scenes.{off_text, scene_of}

@@ -5,7 +5,7 @@ use Rattle.staat_edge.specs.Causes.{Rose}
 use Rattle.staat_edge.specs.Files.{Lacks, told_name, held_name}
 use Rattle.staat_edge.specs.Sinks.{GrewBy, GrewByPart}
 use Rattle.staat_edge.specs.Told.{ShelfTold, SinkTold}
-use Rattle.staat_model.specs.declared.limits.TheConstants.{TEXT_LIMIT}
+use Rattle.staat_limits.specs.declared.limits.TheConstants.{TEXT_LIMIT}
 use Rattle.staat_words.specs.declared.request.Asked.{Asked}
 use Rattle.staat_words.specs.declared.request.CheckRequest.{CheckRequest}
 use Rattle.staat_words.specs.declared.request.Input.{Input}
@@ -15,7 +15,7 @@ use Rattle.staat_words.specs.declared.request.Request.TheVariants.{Check}
 use Rattle.staat_words.specs.Requests.{HasBounds}
 use Rattle.staat_fault.specs.declared.fault.Fault.{Fault}
 use Rattle.staat_fault.specs.declared.fault.Fault.TheVariants.{Usage, ReadFault, TooLong, WriteFault, OutOfMemory}
-use Rattle.staat_top.specs.declared.read.TheConstants.{FILE_LIMIT}
+use Rattle.staat_limits.specs.declared.limits.TheConstants.{FILE_LIMIT}
 use Rattle.staat_fault.specs.Faults.{status_of, line_of}
 use Rattle.staat_top.specs.declared.answer.Answer.{Answer}
 use Rattle.staat_top.specs.Work.{Files, Found, Follows}

@@ -4,7 +4,7 @@ use Rattle.std.specs.Prelude.{Result, Ok, Err, Option, Some, ⊤}
 use Rattle.staat_fault.specs.declared.fault.Fault.{Fault}
 use Rattle.staat_fault.specs.declared.fault.Fault.TheVariants.{ReadFault, TooLong, OutOfMemory}
 use Rattle.staat_edge.specs.Files.{bytes_of, IsLonger}
-use Rattle.staat_top.specs.declared.read.TheConstants.{FILE_LIMIT}
+use Rattle.staat_limits.specs.declared.limits.TheConstants.{FILE_LIMIT}
 
 abbrev pub Files : Type 0
 Files = List (List ℕ × List ℕ)

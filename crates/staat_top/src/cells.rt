@@ -1,6 +1,6 @@
 // The command `cells`: all cells of directions, each with its blocking graph.
 ghost use Rattle.std.specs.Prelude.{◌≡◌, ◌≤◌, ◌<◌, Some, IfOk, IfErr, length};
-ghost use Rattle.staat_planes.specs.declared.table.TheConstants.{MOST_CELL_PLANES};
+ghost use Rattle.staat_limits.specs.declared.limits.TheConstants.{MOST_CELL_PLANES};
 ghost use Rattle.staat_words.specs.Requests.{IsCellsRequest};
 ghost use Rattle.staat_words.specs.declared.request.Request.TheVariants.{Cells};
 ghost use Rattle.staat_pairs.specs.Tables.{WasMadeFrom};

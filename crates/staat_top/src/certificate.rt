@@ -5,7 +5,7 @@ ghost use Rattle.staat_cert.specs.Feeds.{WasFed};
 ghost use Rattle.staat_edge.specs.Causes.{Rose};
 ghost use Rattle.staat_edge.specs.Files.{IsLonger, Lacks, failed_at, held_name, told_name};
 ghost use Rattle.staat_model.specs.Texts.{IsWellFormed};
-ghost use Rattle.staat_model.specs.declared.limits.TheConstants.{TEXT_LIMIT as LIMIT};
+ghost use Rattle.staat_limits.specs.declared.limits.TheConstants.{TEXT_LIMIT as LIMIT};
 ghost use Rattle.staat_top.specs.Work.{Files, Follows, IsNotTakenWithin};
 ghost use Rattle.staat_top.specs.Checking.{IsCertificateIn, IsFed, IsFedFile, SaysCertificate};
 ghost use Rattle.staat_top.specs.Runs.{HasCertificateCause, ShelfSide, over};
@@ -14,7 +14,8 @@ use crate::refusals::cert_fault;
 use staat_cert::CertReader;
 use staat_edge::{ReadRefusal, Shelf};
 use staat_fault::Fault;
-use staat_model::{Certificate, TEXT_LIMIT};
+use staat_limits::TEXT_LIMIT;
+use staat_model::Certificate;
 use staat_vec::Name;
 use std::alloc::Global;
 

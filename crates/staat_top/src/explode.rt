@@ -1,7 +1,7 @@
 // The command `explode`: how far each part moves, so that all parts stand apart for a drawing.
 ghost use Rattle.std.specs.Prelude.{◌≡◌, ◌≤◌, ◌<◌, Some, IfOk, IfErr, All, length, true};
 ghost use Rattle.staat_vec.specs.Vectors.{IsWithin};
-ghost use Rattle.staat_model.specs.declared.limits.TheConstants.{MOST_PIECES};
+ghost use Rattle.staat_limits.specs.declared.limits.TheConstants.{MOST_PIECES};
 ghost use Rattle.staat_model.specs.Outcomes.{finding_of};
 ghost use Rattle.staat_model.specs.Plans.{IsGood, plan_of};
 ghost use Rattle.staat_explode.specs.declared.grow.TheConstants.{FARTHEST};

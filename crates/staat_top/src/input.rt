@@ -1,10 +1,10 @@
 // The parts that an input names.
 ghost use Rattle.std.specs.Prelude.{◌≡◌, ◌≤◌, ◌<◌, ◌+◌, [], All, Contains, List, ℕ, Some};
 ghost use Rattle.std.specs.Prelude.{IfOk, IfErr, OnOk, length, map, sum_by};
-ghost use Rattle.staat_off.specs.declared.raw.TheConstants.{MOST_DIGITS};
+ghost use Rattle.staat_limits.specs.declared.limits.TheConstants.{MOST_DIGITS};
 ghost use Rattle.staat_vec.specs.Vectors.{IsWithin};
 ghost use Rattle.staat_model.specs.Pieces.{IsPiece};
-ghost use Rattle.staat_model.specs.declared.limits.TheConstants.{MOST_PARTS, MOST_PIECES};
+ghost use Rattle.staat_limits.specs.declared.limits.TheConstants.{MOST_PARTS, MOST_PIECES};
 ghost use Rattle.staat_words.specs.Requests.{IsAsked, IsInput};
 ghost use Rattle.staat_top.specs.Work.{Each, Files, Follows, IsTaken};
 ghost use Rattle.staat_top.specs.Drawing.{AreSmall, Drew, IsDrawn, solid_of, solids_of, solids_of_part};

@@ -3,7 +3,6 @@ ghost use Rattle.std.specs.Prelude.{◌≡◌, List, ℕ, Option, Err, None};
 ghost use Rattle.staat_edge.specs.Files.{bytes_of};
 ghost use Rattle.staat_fault.specs.declared.fault.Fault.TheVariants.{ReadFault};
 ghost use Rattle.staat_words.specs.declared.request.Request.{Request as RequestValue};
-ghost use Rattle.staat_top.specs.declared.read.TheConstants.{FILE_LIMIT};
 ghost use Rattle.staat_top.specs.Work.{Files};
 ghost use Rattle.staat_top.specs.Headline.{Headline};
 ghost use Rattle.staat_top.specs.Replies.{IsReply, Reply, WorkOnWords};
@@ -26,9 +25,4 @@ pub fn no_reply()
     ensures { (asked : Option RequestValue) (files : Files) (name : List ℕ) (r : Reply) →
         WorkOnWords asked files (Err (ReadFault name)) → bytes_of name files ≡ None →
         IsReply asked files r → ⊥ }
-{}
-
-/// How many bytes a file of points or a part list may have.
-pub fn limits()
-    ensures { FILE_LIMIT ≡ 1048576 }
 {}

@@ -1,6 +1,6 @@
 // The command `linear`: in what order the parts are taken away, one at a time.
 ghost use Rattle.std.specs.Prelude.{◌≡◌, ◌≤◌, ◌<◌, Some, IfOk, IfErr};
-ghost use Rattle.staat_planes.specs.declared.table.TheConstants.{LEAST_PLANES, MOST_PLANES};
+ghost use Rattle.staat_limits.specs.declared.limits.TheConstants.{LEAST_PLANES, MOST_PLANES};
 ghost use Rattle.staat_linear.specs.Orders.{HasTableWithin, IsChosen};
 ghost use Rattle.staat_words.specs.Requests.{IsLinearRequest};
 ghost use Rattle.staat_words.specs.declared.request.Request.TheVariants.{Linear};

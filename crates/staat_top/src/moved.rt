@@ -1,6 +1,6 @@
 // The pieces of a part, each read from its file and moved as the part is.
 ghost use Rattle.std.specs.Prelude.{◌≡◌, ◌≤◌, ◌<◌, ◌+◌, [], ◌∷◌, ℕ, Some, IfErr, OnOk};
-ghost use Rattle.staat_off.specs.declared.raw.TheConstants.{MOST_DIGITS};
+ghost use Rattle.staat_limits.specs.declared.limits.TheConstants.{MOST_DIGITS};
 ghost use Rattle.staat_vec.specs.Vectors.{IsWithin};
 ghost use Rattle.staat_top.specs.Work.{Files, Follows};
 ghost use Rattle.staat_top.specs.Drawing.{AreSmall, Drew, solid_of};

@@ -1,9 +1,9 @@
 // The command `plan`: how all parts come apart, or which parts do not.
 ghost use Rattle.std.specs.Prelude.{◌≡◌, ◌≤◌, ◌<◌, Some, IfOk, IfErr, IfSome, true};
 ghost use Rattle.staat_model.specs.Assemblies.{IsAssembly};
-ghost use Rattle.staat_model.specs.Lines.{IsVersion};
+ghost use Rattle.staat_limits.specs.Versions.{IsVersion};
 ghost use Rattle.staat_model.specs.Outcomes.{IsOutcome, finding_of};
-ghost use Rattle.staat_planes.specs.declared.table.TheConstants.{LEAST_PLANES, MOST_CELL_PLANES, MOST_PLANES};
+ghost use Rattle.staat_limits.specs.declared.limits.TheConstants.{LEAST_PLANES, MOST_CELL_PLANES, MOST_PLANES};
 ghost use Rattle.staat_plan.specs.Certifying.{CanBeCertified};
 ghost use Rattle.staat_plan.specs.Planning.{HasFewPlanes};
 ghost use Rattle.staat_text.specs.PlanTexts.{CanBeShown};

@@ -1,6 +1,6 @@
 // The files of a request.
 ghost use Rattle.std.specs.Prelude.{◌≡◌, ◌≤◌, Some, IfErr, IfOk, List, Ok, ℕ, length};
-ghost use Rattle.staat_off.specs.declared.raw.TheConstants.{MOST_DIGITS};
+ghost use Rattle.staat_limits.specs.declared.limits.TheConstants.{MOST_DIGITS};
 ghost use Rattle.staat_top.specs.Work.{Files, Follows, IsNotTaken};
 ghost use Rattle.staat_off.specs.Raws.{IsCounted, IsIndexed};
 ghost use Rattle.staat_off.specs.Reading.{reading};
@@ -12,14 +12,12 @@ ghost use Rattle.staat_top.specs.Runs.{HasCause, IfTooLong, ShelfSide, over};
 use crate::refusals::{mesh_fault, off_fault};
 use staat_edge::{ReadRefusal, Shelf, read_whole};
 use staat_fault::Fault;
+use staat_limits::FILE_LIMIT;
 use staat_mesh::make_piece;
 use staat_model::Piece;
 use staat_off::{Raw, read_off};
 use staat_vec::{Bytes, Name};
 use std::alloc::Global;
-
-/// How many bytes a file of points or a part list may have.
-pub const FILE_LIMIT: usize = 1_048_576;
 
 /// The bytes of a whole file.
 pub fn read_file<H: Shelf>(alloc: Global, shelf: &mut H, name: &Name) -> Result<Bytes, Fault>

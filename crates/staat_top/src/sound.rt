@@ -1,6 +1,6 @@
 // The sound assembly that an input gives.
 ghost use Rattle.std.specs.Prelude.{◌≡◌, ◌≤◌, [], Some, IfErr, IfOk, List, OnOk, length};
-ghost use Rattle.staat_model.specs.declared.limits.TheConstants.{MOST_PIECES};
+ghost use Rattle.staat_limits.specs.declared.limits.TheConstants.{MOST_PIECES};
 ghost use Rattle.staat_words.specs.Requests.{IsAsked};
 ghost use Rattle.staat_top.specs.Work.{Files, Follows};
 ghost use Rattle.staat_top.specs.Assembling.{IsSoundOf, IsTested};

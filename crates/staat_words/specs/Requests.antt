@@ -10,11 +10,11 @@ use Rattle.clap.specs.Walk.{Row, Text, all_of, first_of}
 use Rattle.staat_vec.specs.declared.vector.V3.{V3}
 use Rattle.staat_vec.specs.declared.vector.TheConstants.{DIRECTION, NORMAL}
 use Rattle.staat_vec.specs.Vectors.{IsWithin, origin}
-use Rattle.staat_off.specs.declared.raw.TheConstants.{MOST_DIGITS}
-use Rattle.staat_model.specs.declared.limits.TheConstants.{MOST_PARTS}
-use Rattle.staat_model.specs.Lines.{IsVersion}
-use Rattle.staat_drill.specs.declared.products.TheConstants.{MOST_BOXES}
-use Rattle.staat_planes.specs.declared.table.TheConstants.{LEAST_PLANES, MOST_CELL_PLANES, MOST_PLANES}
+use Rattle.staat_limits.specs.declared.limits.TheConstants.{MOST_DIGITS}
+use Rattle.staat_limits.specs.declared.limits.TheConstants.{MOST_PARTS}
+use Rattle.staat_limits.specs.Versions.{IsVersion}
+use Rattle.staat_limits.specs.declared.limits.TheConstants.{MOST_BOXES}
+use Rattle.staat_limits.specs.declared.limits.TheConstants.{LEAST_PLANES, MOST_CELL_PLANES, MOST_PLANES}
 use Rattle.staat_number.specs.Numbers.{natural_within}
 use Rattle.staat_words.specs.declared.request.Input.{Input}
 use Rattle.staat_words.specs.declared.request.Input.TheVariants.{Manifest, Files}

@@ -2,8 +2,8 @@
 ghost use Rattle.std.specs.Prelude.{◌≡◌, ◌≤◌, ◌≢◌, codes, map, option_map, IfSome, IfOk};
 ghost use Rattle.clap.specs.Words.{all_of, first_of, found_of, rows_of};
 ghost use Rattle.staat_vec.specs.Vectors.{IsWithin, origin};
-ghost use Rattle.staat_model.specs.Lines.{IsVersion};
-ghost use Rattle.staat_planes.specs.declared.table.TheConstants.{LEAST_PLANES};
+ghost use Rattle.staat_limits.specs.Versions.{IsVersion};
+ghost use Rattle.staat_limits.specs.declared.limits.TheConstants.{LEAST_PLANES};
 ghost use Rattle.staat_words.specs.Requests.{ReadsWords, IsInput, IsProduct, certificate_in, count_within};
 ghost use Rattle.staat_words.specs.Requests.{digits_asked, input_in, is_given, limit_of, product_of};
 ghost use Rattle.staat_words.specs.Requests.{planes_in, planes_within, vector_in, version_from, version_within};
@@ -11,11 +11,8 @@ ghost use Rattle.staat_words.specs.Requests.{planes_in, planes_within, vector_in
 use crate::request::{Input, Product, RequestRefusal};
 use crate::vector::vector_of;
 use clap::ArgMatches;
-use staat_drill::MOST_BOXES;
-use staat_model::MOST_PARTS;
+use staat_limits::{LEAST_PLANES, MOST_BOXES, MOST_CELL_PLANES, MOST_DIGITS, MOST_PARTS};
 use staat_number::natural_of;
-use staat_off::MOST_DIGITS;
-use staat_planes::{LEAST_PLANES, MOST_CELL_PLANES};
 use staat_vec::{DIRECTION, Name, Names, V3};
 use std::alloc::{AllocError, Global};
 

@@ -3,7 +3,6 @@
 
 mod arguments;
 mod command;
-pub mod laws;
 mod request;
 mod vector;
 mod words;

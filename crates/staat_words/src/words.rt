@@ -19,7 +19,7 @@ use crate::request::{
 };
 use clap::ArgMatches;
 use clap::error::ErrorKind;
-use staat_planes::{MOST_CELL_PLANES, MOST_PLANES};
+use staat_limits::{MOST_CELL_PLANES, MOST_PLANES};
 use staat_vec::{DIRECTION, NORMAL};
 use std::alloc::Global;
 

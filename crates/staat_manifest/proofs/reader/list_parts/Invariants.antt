@@ -1,7 +1,7 @@
 use Rattle.std.proofs.Common.{◌≡◌, ◌≤◌, [], drop, length, map, take}
 use Rattle.std.specs.List.{sum_by}
 use Rattle.serde_json.specs.View.{view}
-use Rattle.staat_model.specs.declared.limits.TheConstants.{MOST_PIECES}
+use Rattle.staat_limits.specs.declared.limits.TheConstants.{MOST_PIECES}
 use Rattle.staat_manifest.specs.Listings.{listed}
 use Rattle.staat_manifest.specs.Rules.{first_refusal, rules_from}
 use Rattle.staat_manifest.proofs.reader.list_parts.Given as goal

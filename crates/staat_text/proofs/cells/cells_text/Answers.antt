@@ -1,5 +1,5 @@
 use Rattle.std.proofs.Common.{◌≡◌, ◌∙◌, ◌≤◌, ap, arith, length, List, map, refl, subst, sym, ℕ}
-use Rattle.staat_model.specs.declared.limits.TheConstants.{TEXT_LIMIT}
+use Rattle.staat_limits.specs.declared.limits.TheConstants.{TEXT_LIMIT}
 use Rattle.staat_cells.specs.Compositions.{entry_of}
 use Rattle.staat_cells.specs.declared.cell.Cell.{Cell}
 use Rattle.staat_text.specs.CellTexts.{IsCellsText, totals_line}

@@ -1,6 +1,6 @@
 use Rattle.std.proofs.Common.{◌+◌, ◌-◌, ◌≡◌, ◌≤◌, Some}
 use Rattle.staat_edge.specs.Files.{Lacks, content_of, told_name}
-use Rattle.staat_model.specs.declared.limits.TheConstants.{TEXT_LIMIT}
+use Rattle.staat_limits.specs.declared.limits.TheConstants.{TEXT_LIMIT}
 use Rattle.staat_top.proofs.CertificateLemmas.{IsFedSoFar}
 use Rattle.staat_top.proofs.certificate.feed_file.Given as goal
 

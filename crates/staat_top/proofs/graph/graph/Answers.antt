@@ -1,5 +1,5 @@
 use Rattle.std.proofs.Common.{Ok}
-use Rattle.staat_planes.specs.declared.table.TheConstants.{MOST_PLANES}
+use Rattle.staat_limits.specs.declared.limits.TheConstants.{MOST_PLANES}
 use Rattle.staat_top.specs.Work.{Then}
 use Rattle.staat_top.specs.Assembling.{IsSoundOf}
 use Rattle.staat_top.specs.Graphing.{AreCounted, IsGraphed}

@@ -3,7 +3,7 @@ use Rattle.staat_top.specs.Shapes.{IsFew}
 use Rattle.std.specs.Prelude.{sum_by}
 use Rattle.staat_manifest.specs.declared.listing.ListedPart.{ListedPart}
 use Rattle.staat_model.specs.declared.assembly.Part.{Part}
-use Rattle.staat_model.specs.declared.limits.TheConstants.{MOST_PIECES}
+use Rattle.staat_limits.specs.declared.limits.TheConstants.{MOST_PIECES}
 use Rattle.staat_explode.specs.declared.scene.Solid.{Solid}
 use Rattle.staat_top.specs.Drawing.{AreSmall, solids_of}
 use Rattle.staat_top.proofs.InputLemmas.{assembly_read, same_length}

@@ -1,5 +1,5 @@
 use Rattle.std.proofs.Common.{◌≡◌, ◌<◌, ℕ, length}
-use Rattle.staat_model.specs.declared.limits.TheConstants.{MOST_PARTS}
+use Rattle.staat_limits.specs.declared.limits.TheConstants.{MOST_PARTS}
 use Rattle.staat_model.specs.Sets.{Has}
 use Rattle.staat_planes.specs.Holding.{IsHeldOnCircle}
 use Rattle.staat_linear.proofs.lone_holders.LoneHolders.hold_all.Given as goal
