@@ -33,13 +33,13 @@ fn values_of<'m, 'a>(matches: &'m ArgMatches<'a>, id: &str) -> Option<&'m [&'a s
 
 /// The option `--digits`, 0 where it is not given.
 #[tactic(auto, unfolding(crate::specs::Requests::digits_asked))]
-pub fn digits_of(matches: &ArgMatches<'_>) -> Option<u32>
-    ensures exact { result ≡ digits_asked (rows_of (found_of matches.now)) }
-    ensures bound { IfSome result (λ n. n ≤ MOST_DIGITS) }
+pub fn digits_of(matches: &ArgMatches<'_>) -> Result<u32, RequestRefusal>
+    ensures answers { ReadsWords (digits_asked (rows_of (found_of matches.now))) result }
+    ensures bound { IfOk result (λ n. n ≤ MOST_DIGITS) }
 {
     let text = value_of(matches, "digits").unwrap_or("0");
-    let n = natural_of(text, u128::from(MOST_DIGITS))?;
-    Some(n as u32)
+    let n = natural_of(text, u128::from(MOST_DIGITS)).ok_or(RequestRefusal::Usage)?;
+    Ok(n as u32)
 }
 
 // The number of planes that a text spells, where there may be so many at most.
@@ -57,15 +57,15 @@ fn planes_within(text: &str, most: u32) -> Option<u32>
 
 /// The option `--planes`, as many as there may be where it is not given.
 #[tactic(auto, unfolding(crate::specs::Requests::planes_in))]
-pub fn planes_of(matches: &ArgMatches<'_>, most: u32) -> Option<u32>
+pub fn planes_of(matches: &ArgMatches<'_>, most: u32) -> Result<u32, RequestRefusal>
     requires { LEAST_PLANES ≤ most }
-    ensures exact { result ≡ planes_in most (rows_of (found_of matches.now)) }
-    ensures least { IfSome result (λ n. LEAST_PLANES ≤ n) }
-    ensures most { IfSome result (λ n. n ≤ most) }
+    ensures answers { ReadsWords (planes_in most (rows_of (found_of matches.now))) result }
+    ensures least { IfOk result (λ n. LEAST_PLANES ≤ n) }
+    ensures most { IfOk result (λ n. n ≤ most) }
 {
     match value_of(matches, "planes") {
-        None => Some(most),
-        Some(text) => planes_within(text, most),
+        None => Ok(most),
+        Some(text) => planes_within(text, most).ok_or(RequestRefusal::Usage),
     }
 }
 
@@ -161,23 +161,33 @@ pub fn product_of(kind: &str, number: &str) -> Option<Product>
 
 /// The vector that an option gives.
 #[tactic(auto, unfolding(crate::specs::Requests::vector_in))]
-pub fn vector_in(matches: &ArgMatches<'_>, id: &str, most: u128) -> Option<V3>
+pub fn vector_in(matches: &ArgMatches<'_>, id: &str, most: u128) -> Result<V3, RequestRefusal>
     requires { most ≤ DIRECTION }
-    ensures exact { result ≡ vector_in id.now most (rows_of (found_of matches.now)) }
-    ensures bound { IfSome result (IsWithin most) }
-    ensures moves { IfSome result (λ v. v ≢ origin) }
+    ensures answers { ReadsWords (vector_in id.now most (rows_of (found_of matches.now))) result }
+    ensures bound { IfOk result (IsWithin most) }
+    ensures moves { IfOk result (λ v. v ≢ origin) }
 {
     match value_of(matches, id) {
-        Some(text) => vector_of(text, most),
-        None => None,
+        Some(text) => vector_of(text, most).ok_or(RequestRefusal::Usage),
+        None => Err(RequestRefusal::Usage),
     }
 }
 
-/// The name that a word is.
-pub fn name_of(alloc: Global, word: &str) -> Result<Name, AllocError>
+// The name that a word is.
+fn name_of(alloc: Global, word: &str) -> Result<Name, AllocError>
     ensures { IfOk result (λ n. n ≡ word.now) }
 {
     Ok(Name::from_string(String::from_str(alloc, word)?))
+}
+
+/// The name that an argument gives.
+pub fn name_in(alloc: Global, matches: &ArgMatches<'_>, id: &str) -> Result<Name, RequestRefusal>
+    ensures { ReadsWords (first_of id.now (rows_of (found_of matches.now))) result }
+{
+    match value_of(matches, id) {
+        Some(word) => Ok(name_of(alloc, word)?),
+        None => Err(RequestRefusal::Usage),
+    }
 }
 
 // The names that words are.

@@ -1,21 +1,21 @@
 // The reading of the command words.
-ghost use Rattle.std.specs.Prelude.{◌≡◌, map, string_bytes, IfOk, IsErrOf, true, false};
+ghost use Rattle.std.specs.Prelude.{◌≡◌, map, string_bytes, IfOk, IsErrOf, Some, option_map, true, false};
 ghost use Rattle.clap.specs.Words.{found_of, rows_of, subcommand_rows_of};
 ghost use Rattle.staat_words.specs.Command.{is_taken, matches as matches_at};
-ghost use Rattle.staat_words.specs.Requests.{ReadsWords, HasBounds, IsAsked, IsCellsRequest, IsExplodeRequest};
-ghost use Rattle.staat_words.specs.Requests.{IsGraphRequest, IsLinearRequest, IsLocalRequest, IsPairRequest};
-ghost use Rattle.staat_words.specs.Requests.{IsPlanRequest, IsProduct, asked_in, linear_in, local_in};
-ghost use Rattle.staat_words.specs.Requests.{cells_in, check_in, drill_in, explode_in, graph_in, pair_in, plan_in};
-ghost use Rattle.staat_words.specs.Requests.{request, request_in};
+ghost use Rattle.staat_words.specs.Requests.{ReadsWords, HasBounds, IsAsked, asked_in, cells_in, check_in};
+ghost use Rattle.staat_words.specs.Requests.{drill_in, explode_in, graph_in, linear_in, local_in, pair_in};
+ghost use Rattle.staat_words.specs.Requests.{plan_in, request, request_in};
+ghost use Rattle.staat_words.specs.declared.request.Request.TheVariants.{Pair, Look, Graph, Plan, Check};
+ghost use Rattle.staat_words.specs.declared.request.Request.TheVariants.{Cells, Drill, Explode, Linear, Local};
 
 use crate::arguments::{
-    certificate_of, digits_of, input_of, is_given, limit_of, name_of, planes_of, product_of,
+    certificate_of, digits_of, input_of, is_given, limit_of, name_in, planes_of, product_of,
     value_of, vector_in,
 };
 use crate::command::staat_command;
 use crate::request::{
     Asked, CellsRequest, CheckRequest, ExplodeRequest, GraphRequest, LinearRequest, LocalRequest,
-    PairRequest, PlanRequest, Product, Request, RequestRefusal,
+    PairRequest, PlanRequest, Request, RequestRefusal,
 };
 use clap::ArgMatches;
 use clap::error::ErrorKind;
@@ -28,117 +28,124 @@ fn asked_of(alloc: Global, matches: &ArgMatches<'_>) -> Result<Asked, RequestRef
     ensures answers { ReadsWords (asked_in (rows_of (found_of matches.now))) result }
     ensures bounds { IfOk result IsAsked }
 {
-    let digits = digits_of(matches).ok_or(RequestRefusal::Usage)?;
+    let digits = digits_of(matches)?;
     let input = input_of(alloc, matches)?;
     Ok(Asked { digits, input })
 }
 
 #[tactic(auto, unfolding(crate::specs::Requests::pair_in))]
-fn pair_of(alloc: Global, matches: &ArgMatches<'_>) -> Result<PairRequest, RequestRefusal>
-    ensures answers { ReadsWords (pair_in (rows_of (found_of matches.now))) result }
-    ensures bounds { IfOk result IsPairRequest }
+fn pair_of(alloc: Global, matches: &ArgMatches<'_>) -> Result<Request, RequestRefusal>
+    ensures answers { ReadsWords (option_map Pair (pair_in (rows_of (found_of matches.now)))) result }
+    ensures bounds { IfOk result HasBounds }
 {
-    let digits = digits_of(matches).ok_or(RequestRefusal::Usage)?;
-    let along = vector_in(matches, "along", DIRECTION).ok_or(RequestRefusal::Usage)?;
-    let wall = vector_in(matches, "wall", NORMAL).ok_or(RequestRefusal::Usage)?;
-    let first = value_of(matches, "first").ok_or(RequestRefusal::Usage)?;
-    let second = value_of(matches, "second").ok_or(RequestRefusal::Usage)?;
-    Ok(PairRequest {
+    let digits = digits_of(matches)?;
+    let along = vector_in(matches, "along", DIRECTION)?;
+    let wall = vector_in(matches, "wall", NORMAL)?;
+    let first = name_in(alloc, matches, "first")?;
+    let second = name_in(alloc, matches, "second")?;
+    Ok(Request::Pair(PairRequest {
         digits,
         along,
         wall,
-        first: name_of(alloc, first)?,
-        second: name_of(alloc, second)?,
-    })
+        first,
+        second,
+    }))
+}
+
+fn look_of(alloc: Global, matches: &ArgMatches<'_>) -> Result<Request, RequestRefusal>
+    ensures answers { ReadsWords (option_map Look (asked_in (rows_of (found_of matches.now)))) result }
+    ensures bounds { IfOk result HasBounds }
+{
+    Ok(Request::Look(asked_of(alloc, matches)?))
 }
 
 #[tactic(auto, unfolding(crate::specs::Requests::graph_in))]
-fn graph_of(alloc: Global, matches: &ArgMatches<'_>) -> Result<GraphRequest, RequestRefusal>
-    ensures answers { ReadsWords (graph_in (rows_of (found_of matches.now))) result }
-    ensures bounds { IfOk result IsGraphRequest }
+fn graph_of(alloc: Global, matches: &ArgMatches<'_>) -> Result<Request, RequestRefusal>
+    ensures answers { ReadsWords (option_map Graph (graph_in (rows_of (found_of matches.now)))) result }
+    ensures bounds { IfOk result HasBounds }
 {
     let asked = asked_of(alloc, matches)?;
-    let along = vector_in(matches, "along", DIRECTION).ok_or(RequestRefusal::Usage)?;
-    Ok(GraphRequest { asked, along })
+    let along = vector_in(matches, "along", DIRECTION)?;
+    Ok(Request::Graph(GraphRequest { asked, along }))
 }
 
 #[tactic(auto, unfolding(crate::specs::Requests::plan_in))]
-fn plan_of(alloc: Global, matches: &ArgMatches<'_>) -> Result<PlanRequest, RequestRefusal>
-    ensures answers { ReadsWords (plan_in (rows_of (found_of matches.now))) result }
-    ensures bounds { IfOk result IsPlanRequest }
+fn plan_of(alloc: Global, matches: &ArgMatches<'_>) -> Result<Request, RequestRefusal>
+    ensures answers { ReadsWords (option_map Plan (plan_in (rows_of (found_of matches.now)))) result }
+    ensures bounds { IfOk result HasBounds }
 {
     let asked = asked_of(alloc, matches)?;
-    let planes = planes_of(matches, MOST_PLANES).ok_or(RequestRefusal::Usage)?;
+    let planes = planes_of(matches, MOST_PLANES)?;
     let certificate = certificate_of(matches)?;
     let robust = is_given(matches, "robust");
-    Ok(PlanRequest {
+    Ok(Request::Plan(PlanRequest {
         asked,
         planes: limit_of(robust, planes),
         robust,
         certificate,
-    })
+    }))
 }
 
 #[tactic(auto, unfolding(crate::specs::Requests::check_in))]
-fn check_of(alloc: Global, matches: &ArgMatches<'_>) -> Result<CheckRequest, RequestRefusal>
-    ensures answers { ReadsWords (check_in (rows_of (found_of matches.now))) result }
-    ensures bounds { IfOk result (λ request. IsAsked request.asked) }
+fn check_of(alloc: Global, matches: &ArgMatches<'_>) -> Result<Request, RequestRefusal>
+    ensures answers { ReadsWords (option_map Check (check_in (rows_of (found_of matches.now)))) result }
+    ensures bounds { IfOk result HasBounds }
 {
     let asked = asked_of(alloc, matches)?;
-    let certificate = value_of(matches, "certificate").ok_or(RequestRefusal::Usage)?;
-    let certificate = name_of(alloc, certificate)?;
-    Ok(CheckRequest { asked, certificate })
+    let certificate = name_in(alloc, matches, "certificate")?;
+    Ok(Request::Check(CheckRequest { asked, certificate }))
 }
 
 #[tactic(auto, unfolding(crate::specs::Requests::cells_in))]
-fn cells_of(alloc: Global, matches: &ArgMatches<'_>) -> Result<CellsRequest, RequestRefusal>
-    ensures answers { ReadsWords (cells_in (rows_of (found_of matches.now))) result }
-    ensures bounds { IfOk result IsCellsRequest }
+fn cells_of(alloc: Global, matches: &ArgMatches<'_>) -> Result<Request, RequestRefusal>
+    ensures answers { ReadsWords (option_map Cells (cells_in (rows_of (found_of matches.now)))) result }
+    ensures bounds { IfOk result HasBounds }
 {
     let asked = asked_of(alloc, matches)?;
-    let planes = planes_of(matches, MOST_CELL_PLANES).ok_or(RequestRefusal::Usage)?;
-    Ok(CellsRequest { asked, planes })
+    let planes = planes_of(matches, MOST_CELL_PLANES)?;
+    Ok(Request::Cells(CellsRequest { asked, planes }))
 }
 
 #[tactic(auto, unfolding(crate::specs::Requests::drill_in))]
-fn drill_of(matches: &ArgMatches<'_>) -> Result<Product, RequestRefusal>
-    ensures answers { ReadsWords (drill_in (rows_of (found_of matches.now))) result }
-    ensures bounds { IfOk result IsProduct }
+fn drill_of(matches: &ArgMatches<'_>) -> Result<Request, RequestRefusal>
+    ensures answers { ReadsWords (option_map Drill (drill_in (rows_of (found_of matches.now)))) result }
+    ensures bounds { IfOk result HasBounds }
 {
     let kind = value_of(matches, "kind").ok_or(RequestRefusal::Usage)?;
     let number = value_of(matches, "number").ok_or(RequestRefusal::Usage)?;
-    product_of(kind, number).ok_or(RequestRefusal::Usage)
+    let product = product_of(kind, number).ok_or(RequestRefusal::Usage)?;
+    Ok(Request::Drill(product))
 }
 
 #[tactic(auto, unfolding(crate::specs::Requests::explode_in))]
-fn explode_of(alloc: Global, matches: &ArgMatches<'_>) -> Result<ExplodeRequest, RequestRefusal>
-    ensures answers { ReadsWords (explode_in (rows_of (found_of matches.now))) result }
-    ensures bounds { IfOk result IsExplodeRequest }
+fn explode_of(alloc: Global, matches: &ArgMatches<'_>) -> Result<Request, RequestRefusal>
+    ensures answers { ReadsWords (option_map Explode (explode_in (rows_of (found_of matches.now)))) result }
+    ensures bounds { IfOk result HasBounds }
 {
     let asked = asked_of(alloc, matches)?;
-    let planes = planes_of(matches, MOST_PLANES).ok_or(RequestRefusal::Usage)?;
+    let planes = planes_of(matches, MOST_PLANES)?;
     let off = is_given(matches, "off");
-    Ok(ExplodeRequest { asked, planes, off })
+    Ok(Request::Explode(ExplodeRequest { asked, planes, off }))
 }
 
 #[tactic(auto, unfolding(crate::specs::Requests::linear_in))]
-fn linear_of(alloc: Global, matches: &ArgMatches<'_>) -> Result<LinearRequest, RequestRefusal>
-    ensures answers { ReadsWords (linear_in (rows_of (found_of matches.now))) result }
-    ensures bounds { IfOk result IsLinearRequest }
+fn linear_of(alloc: Global, matches: &ArgMatches<'_>) -> Result<Request, RequestRefusal>
+    ensures answers { ReadsWords (option_map Linear (linear_in (rows_of (found_of matches.now)))) result }
+    ensures bounds { IfOk result HasBounds }
 {
     let asked = asked_of(alloc, matches)?;
-    let planes = planes_of(matches, MOST_PLANES).ok_or(RequestRefusal::Usage)?;
-    Ok(LinearRequest { asked, planes })
+    let planes = planes_of(matches, MOST_PLANES)?;
+    Ok(Request::Linear(LinearRequest { asked, planes }))
 }
 
 #[tactic(auto, unfolding(crate::specs::Requests::local_in))]
-fn local_of(alloc: Global, matches: &ArgMatches<'_>) -> Result<LocalRequest, RequestRefusal>
-    ensures answers { ReadsWords (local_in (rows_of (found_of matches.now))) result }
-    ensures bounds { IfOk result IsLocalRequest }
+fn local_of(alloc: Global, matches: &ArgMatches<'_>) -> Result<Request, RequestRefusal>
+    ensures answers { ReadsWords (option_map Local (local_in (rows_of (found_of matches.now)))) result }
+    ensures bounds { IfOk result HasBounds }
 {
     let asked = asked_of(alloc, matches)?;
-    let planes = planes_of(matches, MOST_PLANES).ok_or(RequestRefusal::Usage)?;
-    Ok(LocalRequest { asked, planes })
+    let planes = planes_of(matches, MOST_PLANES)?;
+    Ok(Request::Local(LocalRequest { asked, planes }))
 }
 
 // The matches of words that `clap` takes.
@@ -159,36 +166,47 @@ fn matches_of<'a>(alloc: Global, words: &'a [String]) -> Result<ArgMatches<'a>, 
 
 // The request of a subcommand: a line for each command.
 #[tactic(auto, unfolding(crate::specs::Requests::request_in))]
+fn request_named(
+    alloc: Global,
+    name: &str,
+    matches: &ArgMatches<'_>,
+) -> Result<Request, RequestRefusal>
+    ensures answers { ReadsWords (request_in (Some (name.now, rows_of (found_of matches.now)))) result }
+    ensures bounds { IfOk result HasBounds }
+{
+    if name == "pair" {
+        pair_of(alloc, matches)
+    } else if name == "look" {
+        look_of(alloc, matches)
+    } else if name == "graph" {
+        graph_of(alloc, matches)
+    } else if name == "plan" {
+        plan_of(alloc, matches)
+    } else if name == "check" {
+        check_of(alloc, matches)
+    } else if name == "cells" {
+        cells_of(alloc, matches)
+    } else if name == "drill" {
+        drill_of(matches)
+    } else if name == "explode" {
+        explode_of(alloc, matches)
+    } else if name == "linear" {
+        linear_of(alloc, matches)
+    } else if name == "local" {
+        local_of(alloc, matches)
+    } else {
+        Err(RequestRefusal::Usage)
+    }
+}
+
+// The request of the subcommand that was entered.
+#[tactic(auto, unfolding(crate::specs::Requests::request_in))]
 fn request_from(alloc: Global, matches: &ArgMatches<'_>) -> Result<Request, RequestRefusal>
     ensures answers { ReadsWords (request_in (subcommand_rows_of matches.now)) result }
     ensures bounds { IfOk result HasBounds }
 {
     match matches.subcommand() {
-        Some((name, inner)) => {
-            if name == "pair" {
-                Ok(Request::Pair(pair_of(alloc, inner)?))
-            } else if name == "look" {
-                Ok(Request::Look(asked_of(alloc, inner)?))
-            } else if name == "graph" {
-                Ok(Request::Graph(graph_of(alloc, inner)?))
-            } else if name == "plan" {
-                Ok(Request::Plan(plan_of(alloc, inner)?))
-            } else if name == "check" {
-                Ok(Request::Check(check_of(alloc, inner)?))
-            } else if name == "cells" {
-                Ok(Request::Cells(cells_of(alloc, inner)?))
-            } else if name == "drill" {
-                Ok(Request::Drill(drill_of(inner)?))
-            } else if name == "explode" {
-                Ok(Request::Explode(explode_of(alloc, inner)?))
-            } else if name == "linear" {
-                Ok(Request::Linear(linear_of(alloc, inner)?))
-            } else if name == "local" {
-                Ok(Request::Local(local_of(alloc, inner)?))
-            } else {
-                Err(RequestRefusal::Usage)
-            }
-        }
+        Some((name, inner)) => request_named(alloc, name, inner),
         None => Err(RequestRefusal::Usage),
     }
 }
