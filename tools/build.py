@@ -147,19 +147,14 @@ class Job:
     """`rt` at work on one crate. The files of the locks stay open in it, so that they hold as long as it runs."""
 
     def __init__(self, crate: Crate, jobs: int, locks: list[int]) -> None:
-        self.crate, self.jobs, self.began = crate, jobs, time.monotonic()
+        self.crate, self.jobs, self._began = crate, jobs, time.monotonic()
         self.seconds = self.used = 0.0
         self.log = crate.folder / "out" / "build.log"
         self._room = Room(crate)
         self._room.open()
-        is_program = (crate.folder / "src" / "main.rt").exists()
-        words = [
-            "rt",
-            "run" if is_program else "lib",
-            "--jobs",
-            str(jobs),
-            *(("--", *TRY) if is_program else ()),
-        ]
+        words = ["rt", "lib", "--jobs", str(jobs)]
+        if (crate.folder / "src" / "main.rt").exists():
+            words = ["rt", "run", "--jobs", str(jobs), "--", *TRY]
         with self.log.open("wb") as log:
             self._process = subprocess.Popen(
                 words,
@@ -176,10 +171,8 @@ class Job:
             number, status, usage = os.wait4(self._process.pid, 0 if wait else os.WNOHANG)
             if number:
                 self._process.returncode = os.waitstatus_to_exitcode(status)
-                self.seconds, self.used = (
-                    time.monotonic() - self.began,
-                    usage.ru_utime + usage.ru_stime,
-                )
+                self.seconds = time.monotonic() - self._began
+                self.used = usage.ru_utime + usage.ru_stime
                 self._room.close()
         return self._process.returncode
 
@@ -199,69 +192,59 @@ class Progress:
     """Tells how far the run is: on a terminal in one line that is rewritten, elsewhere in a line for each crate."""
 
     def __init__(self, crates: list[Crate], at_once: int, to: TextIO) -> None:
-        self._crates, self._at_once, self._to = crates, at_once, to
-        self._began, self._shown = time.monotonic(), -1.0
-        self._proved: list[Crate] = []
+        self._at_once, self._to = at_once, to
+        self._blank = "\r\033[K" if to.isatty() else ""
+        self._began, self._shown = time.monotonic(), 0.0
+        self._all, self._left = len(crates), list(crates)
         self._here: list[Job] = []
-
-    def _minutes(self, seconds: float) -> str:
-        return f"{seconds / 60:.1f} minutes"
 
     def say(self, text: str) -> None:
         """A line that stays."""
         print(f"{self._blank}staat: {text}", file=self._to, flush=True)
 
-    @property
-    def _blank(self) -> str:
-        return "\r\033[K" if self._to.isatty() else ""
+    def _so_far(self) -> str:
+        return f"{self._all - len(self._left)} of {self._all} crates proved"
+
+    def _minutes(self) -> str:
+        return f"{(time.monotonic() - self._began) / 60:.1f} minutes"
 
     def ended(self, job: Job) -> None:
         """Takes note that a crate is proved."""
-        self._proved.append(job.crate)
-        self._here += [job] * job.is_proved_here
-        if not self._to.isatty():
+        self._left.remove(job.crate)
+        if job.is_proved_here:
+            self._here.append(job)
             how = f"{job.seconds:.0f} seconds, {job.used:.0f} of a processor, {job.jobs} jobs"
-            how = how if job.is_proved_here else "was so"
-            self.say(
-                f"{len(self._proved)} of {len(self._crates)} crates proved: {job.crate.name} ({how})"
-            )
+        else:
+            how = "was so"
+        if not self._blank:
+            self.say(f"{self._so_far()}: {job.crate.name} ({how})")
 
-    def left(self) -> float | None:
-        """An estimate of the seconds left, by what was proved here, once that is a fifth of the lines to prove.
+    def estimate(self) -> float | None:
+        """The seconds left by what was proved here, once that is a fifth of the lines to prove.
 
-        The work left is shared by the processors, or the longest chain takes longer than that.
+        The processors share what is left, but the longest chain of crates goes one after another.
         """
-        here = sum(job.crate.lines for job in self._here)
-        rest = [crate for crate in self._crates if crate not in self._proved]
-        lines = sum(crate.lines for crate in rest)
-        if 4 * here < lines or not here:
+        here, lines = (
+            sum(crate.lines for crate in it)
+            for it in ([job.crate for job in self._here], self._left)
+        )
+        if not here or 4 * here < lines:
             return None
-        by_processors = (
-            lines * sum(job.jobs * job.seconds for job in self._here) / here / self._at_once
-        )
-        by_chain = (
-            max((crate.chain for crate in rest), default=0)
-            * sum(job.seconds for job in self._here)
-            / here
-        )
-        return max(by_processors, by_chain)
+        busy = sum(job.jobs * job.seconds for job in self._here) / self._at_once
+        walked = sum(job.seconds for job in self._here)
+        chain = max((crate.chain for crate in self._left), default=0)
+        return max(lines * busy, chain * walked) / here
 
     def show(self, working: list[Job]) -> None:
         """Rewrites the line, once a second."""
-        now = time.monotonic()
-        if not self._to.isatty() or now - self._shown < 1:
+        if not self._blank or time.monotonic() - self._shown < 1:
             return
-        self._shown, left = now, self.left()
-        text = f"{len(self._proved)} of {len(self._crates)} crates proved, {self._minutes(now - self._began)}"
-        text += f", about {self._minutes(left)} left" if left is not None else ""
-        text += ": " + ", ".join(job.crate.name for job in working) if working else ""
-        width = os.get_terminal_size(self._to.fileno()).columns
-        print(
-            f"{self._blank}staat: {text}"[: width + len(self._blank) - 1],
-            end="",
-            file=self._to,
-            flush=True,
-        )
+        self._shown, left = time.monotonic(), self.estimate()
+        text = f"staat: {self._so_far()}, {self._minutes()}"
+        text += f", about {left / 60:.0f} more" if left is not None else ""
+        text += f": {', '.join(job.crate.name for job in working)}"
+        columns = os.get_terminal_size(self._to.fileno()).columns or 80
+        print(self._blank + text[: columns - 1], end="", file=self._to, flush=True)
 
     def refused(self, job: Job) -> None:
         """Tells of a crate that was refused: its last lines, and where all of them are."""
@@ -271,14 +254,12 @@ class Progress:
 
     def built(self) -> None:
         """Tells that the program is built."""
-        used = sum(job.used for job in self._here)
-        self.say(
-            f"built in {self._minutes(time.monotonic() - self._began)}, with {self._minutes(used)} of a processor"
-        )
+        used = sum(job.used for job in self._here) / 60
+        self.say(f"built in {self._minutes()}, with {used:.1f} of a processor")
 
 
 class Builder:
-    """Proves crates, each once those below it are proved, with so many jobs at once."""
+    """Proves crates, each once those below it are proved, on so many processors."""
 
     def __init__(self, crates: list[Crate], at_once: int, to: TextIO) -> None:
         self._left = sorted(crates, key=lambda crate: -crate.chain)
@@ -288,13 +269,19 @@ class Builder:
         self._progress = Progress(crates, at_once, to)
 
     def _start(self, locks: list[int]) -> None:
-        """Gives the processors that are idle to the crates that can be proved now."""
+        """Gives the idle processors to the crates that can be proved now.
+
+        The crate with the longest chain gets half of all processors at least: the others wait for it in the end.
+        """
+        chain = max(crate.chain for crate in [*self._left, *(job.crate for job in self._working)])
         ready = [crate for crate in self._left if self._done.issuperset(crate.below)]
         for place, crate in enumerate(ready):
             idle = self._at_once - sum(job.jobs for job in self._working)
             if idle > 0:
+                share = -(-idle // (len(ready) - place))
+                jobs = max(share, -(-self._at_once // 2)) if crate.chain == chain else share
                 self._left.remove(crate)
-                self._working.append(Job(crate, -(-idle // (len(ready) - place)), locks))
+                self._working.append(Job(crate, jobs, locks))
 
     def _ended(self) -> Iterator[Job]:
         for job in list(self._working):
@@ -322,7 +309,7 @@ class Builder:
         return True
 
 
-def lock(crates: list[Crate]) -> list[int]:
+def lock(crates: list[Crate], to: TextIO) -> list[int]:
     """Keeps every other build, and every `rt`, out of the crates until the files that it answers are closed."""
     held = []
     for folder in sorted(str(crate.folder.resolve()) for crate in crates):
@@ -332,7 +319,7 @@ def lock(crates: list[Crate]) -> list[int]:
         except BlockingIOError:
             print(
                 f"staat: waiting for another build, or another rt, to end in {folder}",
-                file=sys.stderr,
+                file=to,
                 flush=True,
             )
             fcntl.flock(held[-1], fcntl.LOCK_EX)
@@ -351,7 +338,7 @@ def checksum(top: Path) -> str:
 def build(top: Path, at_once: int, to: TextIO) -> bool:
     """Whether the program is proved and built of the sources that stand there."""
     crates = crates_of(top, PROGRAM)
-    locks = lock(crates)
+    locks = lock(crates, to)
     out = top / "crates" / PROGRAM / "out"
     try:
         before = checksum(top)
