@@ -2,7 +2,7 @@
 """Proves the crates that the program stands on, side by side, and builds it: tools/build.py
 
 Each crate is proved by `rt lib` as soon as those below it are, first those behind which the longest chain of others
-stands, by lines of sources, and with as many jobs as there are processors to spare. The program is
+stands, by lines of sources: that one has all processors, and the others what it leaves idle. The program is
 `crates/staat_cli/out/staat_cli`, and `sources` beside it holds the checksum of what it was built from (tools/sources).
 What is proved stays, so a run that is cut off goes on from there. Status 0 if the program is built, 1 if a crate was
 refused, 2 if something else was in the way.
@@ -32,6 +32,8 @@ PROGRAM = "staat_cli"
 TRY = ("drill", "row", "2")  # what the program is run on once it is built
 SOURCES = ("src", "specs", "proofs")
 MEMORY = 2 << 30  # bytes that a job may take
+NEAR = 0.75  # the part of the longest chain from which another is nearly as long
+NICE = 10  # how far a crate gives way to those with the longest chains
 TICK = 0.05  # seconds from one look at what is at work to the next
 TAIL = 20  # lines that are shown of a refusal
 
@@ -146,7 +148,7 @@ class Room:
 class Job:
     """`rt` at work on one crate. The files of the locks stay open in it, so that they hold as long as it runs."""
 
-    def __init__(self, crate: Crate, jobs: int, locks: list[int]) -> None:
+    def __init__(self, crate: Crate, jobs: int, gives_way: bool, locks: list[int]) -> None:
         self.crate, self.jobs, self._began = crate, jobs, time.monotonic()
         self.seconds = self.used = 0.0
         self.log = crate.folder / "out" / "build.log"
@@ -155,6 +157,8 @@ class Job:
         words = ["rt", "lib", "--jobs", str(jobs)]
         if (crate.folder / "src" / "main.rt").exists():
             words = ["rt", "run", "--jobs", str(jobs), "--", *TRY]
+        if gives_way:
+            words = ["nice", "-n", str(NICE), *words]
         with self.log.open("wb") as log:
             self._process = subprocess.Popen(
                 words,
@@ -269,19 +273,19 @@ class Builder:
         self._progress = Progress(crates, at_once, to)
 
     def _start(self, locks: list[int]) -> None:
-        """Gives the idle processors to the crates that can be proved now.
+        """Starts the crates that can be proved now, those with the longest chains first, at most one a processor.
 
-        The crate with the longest chain gets half of all processors at least: the others wait for it in the end.
+        The crate with the longest chain, which is always among them, shares all processors with those whose chains are
+        nearly as long. The others have one job each, and what of the processors these leave idle.
         """
-        chain = max(crate.chain for crate in [*self._left, *(job.crate for job in self._working)])
+        at_work = [job.crate for job in self._working]
         ready = [crate for crate in self._left if self._done.issuperset(crate.below)]
-        for place, crate in enumerate(ready):
-            idle = self._at_once - sum(job.jobs for job in self._working)
-            if idle > 0:
-                share = -(-idle // (len(ready) - place))
-                jobs = max(share, -(-self._at_once // 2)) if crate.chain == chain else share
-                self._left.remove(crate)
-                self._working.append(Job(crate, jobs, locks))
+        longest = max((crate.chain for crate in [*at_work, *ready]), default=0)
+        first = [crate for crate in [*at_work, *ready] if crate.chain >= NEAR * longest]
+        for crate in ready[: self._at_once - len(at_work)]:
+            jobs = max(1, self._at_once // len(first)) if crate in first else 1
+            self._left.remove(crate)
+            self._working.append(Job(crate, jobs, crate not in first, locks))
 
     def _ended(self) -> Iterator[Job]:
         for job in list(self._working):

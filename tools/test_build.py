@@ -43,11 +43,28 @@ LINES = {"low": 3, "left": 20, "right": 9, "middle": 5, "alone": 1}
 class InRepository(unittest.TestCase):
     """Tests in a repository of a few crates, committed, with the stand-in in the folder `kit` beside it."""
 
+    has_program = False  # whether bin/ is in it
+    kept: dict[bool, tempfile.TemporaryDirectory[str]] = {}  # what is copied for each test
+
     def setUp(self) -> None:
         room = tempfile.TemporaryDirectory()
         self.addCleanup(room.cleanup)
         self.room = pathlib.Path(room.name).resolve()
         self.top = self.room / "repository"
+        self.log = self.room / "rt.log"
+        kept = self.kept.get(self.has_program)
+        if kept:
+            shutil.copytree(kept.name, self.room, symlinks=True, dirs_exist_ok=True)
+            return
+        self.make()
+        self.kept[self.has_program] = tempfile.TemporaryDirectory()
+        unittest.addModuleCleanup(self.kept[self.has_program].cleanup)
+        shutil.copytree(
+            self.room, self.kept[self.has_program].name, symlinks=True, dirs_exist_ok=True
+        )
+
+    def make(self) -> None:
+        """Makes the repository and the stand-in."""
         for name, lines in LINES.items():
             self.write(f"crates/{name}/src/lib.rt", "fn f()\n" * lines)
         self.write("crates/staat_cli/src/main.rt", 'echo "ran $*"')
@@ -59,9 +76,10 @@ class InRepository(unittest.TestCase):
             shutil.copy2(TOP / name, self.top)
         self.write("../kit/rt", RT)
         (self.room / "kit" / "rt").chmod(0o755)
-        self.log = self.room / "rt.log"
         self.git("init", "-q")
         self.commit()
+        if self.has_program:
+            self.release()
 
     def write(self, name: str, text: str) -> None:
         path = self.top / name
@@ -109,23 +127,6 @@ class InRepository(unittest.TestCase):
         return self.log.read_text(encoding="utf-8").splitlines() if self.log.exists() else []
 
 
-class InReleased(InRepository):
-    """Tests in such a repository with bin/, of which a first one is kept for the others."""
-
-    kept: tempfile.TemporaryDirectory[str] | None = None
-
-    def setUp(self) -> None:
-        super().setUp()
-        if InReleased.kept is None:
-            self.release()
-            InReleased.kept = tempfile.TemporaryDirectory()
-            unittest.addModuleCleanup(InReleased.kept.cleanup)
-            shutil.copytree(self.top, f"{InReleased.kept.name}/repository", symlinks=True)
-        else:
-            shutil.rmtree(self.top)
-            shutil.copytree(f"{InReleased.kept.name}/repository", self.top, symlinks=True)
-
-
 class OrderTest(InRepository):
     def built(self, at_once: int, **setting: str) -> str:
         """What is said of a build with so many jobs at once."""
@@ -149,13 +150,23 @@ class OrderTest(InRepository):
         begun = [line.split()[1] for line in self.told() if line.startswith("begin")]
         self.assertEqual(begun, ["low", "left", "right", "middle", "staat_cli"])
 
-    def test_spare_processors_are_given_out(self) -> None:
-        self.built(3)
-        jobs = {
-            line.split()[1]: line.split()[4] for line in self.told() if line.startswith("begin")
-        }
+    def jobs(self, at_once: int) -> dict[str, int]:
+        """How many jobs each crate is given."""
+        self.built(at_once)
+        begun = [line.split() for line in self.told() if line.startswith("begin")]
+        return {words[1]: int(words[4]) for words in begun}
+
+    def test_the_longest_chain_has_all_processors(self) -> None:
+        jobs = self.jobs(4)
         self.assertEqual(
-            (jobs["low"], jobs["left"], jobs["right"], jobs["staat_cli"]), ("3", "2", "1", "3")
+            [jobs[name] for name in ("low", "left", "right", "staat_cli")], [4, 4, 1, 4]
+        )
+
+    def test_chains_that_are_nearly_as_long_share_them(self) -> None:
+        self.write("crates/right/src/lib.rt", "fn f()\n" * 20)
+        jobs = self.jobs(4)
+        self.assertEqual(
+            [jobs[name] for name in ("low", "left", "right", "staat_cli")], [4, 2, 2, 4]
         )
 
     def test_no_crate_before_those_below_it(self) -> None:
@@ -232,7 +243,9 @@ class OrderTest(InRepository):
         self.assertEqual(list(self.top.glob("crates/*/out/room")), [])
 
 
-class StartTest(InReleased):
+class StartTest(InRepository):
+    has_program = True
+
     def test_a_fresh_clone_answers_at_once_without_rt(self) -> None:
         self.git("clone", "-q", str(self.top), str(self.room / "clone"))
         done = self.run_in(self.room / "clone" / "staat", "plan", "x", kit=False, PWD="/")
@@ -300,7 +313,9 @@ class StartTest(InReleased):
         self.assertEqual(self.staat("--from-source", "x"), (0, "ran x\n", ""))
 
 
-class ComparisonTest(InReleased):
+class ComparisonTest(InRepository):
+    has_program = True
+
     def setUp(self) -> None:
         super().setUp()
         self.assertEqual(self.staat("--from-source", kit=True)[0], 0)
