@@ -5,6 +5,7 @@ from __future__ import annotations
 import io
 import os
 import pathlib
+import pty
 import shutil
 import signal
 import subprocess
@@ -12,6 +13,7 @@ import sys
 import tempfile
 import time
 import unittest
+from typing import TextIO
 
 import build
 
@@ -128,16 +130,22 @@ class InRepository(unittest.TestCase):
 
 
 class OrderTest(InRepository):
-    def built(self, at_once: int, **setting: str) -> str:
-        """What is said of a build with so many jobs at once."""
+    def build(self, at_once: int, to: TextIO, **setting: str) -> bool:
+        """Builds with so many jobs at once."""
         before = dict(os.environ)
-        self.addCleanup(os.environ.update, before)
         os.environ.update(
             {"PATH": f"{self.room}/kit:{PLAIN_PATH}", "RT_LOG": str(self.log), **setting}
         )
+        try:
+            return build.build(self.top, at_once, to)
+        finally:
+            os.environ.clear()
+            os.environ.update(before)
+
+    def built(self, at_once: int, **setting: str) -> str:
+        """What is said, where it is no terminal, of a build that is refused exactly where RT_REFUSES is set."""
         said = io.StringIO()
-        self.assertEqual(build.build(self.top, at_once, said), "RT_REFUSES" not in setting)
-        os.environ.pop("RT_REFUSES", None)
+        self.assertEqual(self.build(at_once, said, **setting), "RT_REFUSES" not in setting)
         return said.getvalue()
 
     def test_chains(self) -> None:
@@ -189,6 +197,17 @@ class OrderTest(InRepository):
         )
         self.assertRegex(lines[0], r"^staat: 1 of 5 crates proved: low \(\d+ seconds, ")
         self.assertRegex(lines[-1], r"^staat: built in \d")
+
+    def test_one_line_on_a_terminal(self) -> None:
+        main, side = pty.openpty()
+        with os.fdopen(main, "rb", buffering=0) as terminal, os.fdopen(side, "w") as to:
+            self.assertTrue(self.build(2, to))
+            lines = terminal.read(4096).decode().split("\n")
+        self.assertRegex(lines[0], r"\r\033\[Kstaat: \d of 5 crates proved, 0.0 minutes: low\r")
+        self.assertRegex(
+            lines[0], r"\r\033\[Kstaat: built in 0.\d minutes, with 0.0 of a processor\r$"
+        )
+        self.assertEqual(lines[1:], [""])
 
     def test_what_is_built_is_not_built_again(self) -> None:
         self.built(2)
