@@ -27,15 +27,17 @@ from rattle_source import Crate, Function
 TOP = Path(__file__).resolve().parent.parent
 PAGE = "docs/GUARDS.md"
 MOST_EDITS = 10
+# The call that the program makes; each file tests/*.txt shows runs of the program.
+CALL = "staat"
 HEAD = """# What guards each public function
 
 This page is made by `python3 tools/guards.py`, which says how; do not edit it.
 
 For each crate, lowest first, it lists the public functions. A *wrong body* is an edit of the code, a file of the
 crate's `must-fail/`, that changes what the code means; `rt ci` passes only where the proof refuses each. Behind its
-name stands the clause that refuses it, as `clause of function`. A *test* is one of the crate's tests that calls the
-function. A function that has neither is guarded by its contract alone. A *law* does nothing: its contract is a
-statement, which is proved.
+name stands the clause that refuses it, as `clause` of `function`. A *test* is one of the crate's tests that calls the
+function, or a file of `tests/`, whose runs of the program call `staat`. A function that has neither is guarded by its
+contract alone. A *law* does nothing: its contract is a statement, which is proved.
 """
 
 
@@ -188,6 +190,9 @@ def guarded(folder: Path, traits: set[str]) -> Guarded:
     if len(edits) > MOST_EDITS:
         raise Fault(f"{crate.name}/must-fail: {len(edits)} edits, and not at most {MOST_EDITS}")
     tests = {it.title: tests_of(crate, it) for it in public}
+    if CALL in tests:
+        top = folder.parent.parent
+        tests[CALL] += [f"tests/{it.name}" for it in sorted(top.glob("tests/*.txt"))]
     return Guarded(crate, public, edits, bodies, tests)
 
 

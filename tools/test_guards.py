@@ -196,6 +196,12 @@ class Guards(unittest.TestCase):
             self.run_it(), (1, "guards: stones/must-fail: 11 edits, and not at most 10\n")
         )
 
+    def test_runs_of_the_program(self) -> None:
+        (self.top / "tests").mkdir()
+        (self.top / "tests" / "weights.txt").write_text("")
+        with mock.patch.object(guards, "CALL", "heaviest"):
+            self.assertIn("| `one_stone`, `tests/weights.txt` |", self.page())
+
     def test_check(self) -> None:
         self.assertEqual(self.run_it("--check")[0], 1)
         self.page()
