@@ -78,9 +78,8 @@ class Guarded:
     crate: Crate
     public: list[Function]
     edits: list[Edit]
-    bodies: dict[
-        str, list[tuple[Edit, str]]
-    ]  # the edit, and the title of the helper in which it stands, or ""
+    # each edit with the title of the helper in which it stands, or ""
+    bodies: dict[str, list[tuple[Edit, str]]]
     tests: dict[str, list[str]]
 
 

@@ -8,6 +8,7 @@ from __future__ import annotations
 
 import re
 from dataclasses import dataclass, field
+from functools import lru_cache
 from pathlib import Path
 from typing import Iterator
 
@@ -70,6 +71,7 @@ class Function:
         )
 
 
+@lru_cache(maxsize=None)
 def blanked(text: str) -> str:
     """The text of the same length with spaces in the place of comments, strings and characters."""
     return HIDDEN.sub(lambda it: re.sub(r"[^\n]", " ", it[0]), text)
@@ -186,11 +188,11 @@ class Crate:
     name: str
     texts: dict[str, str]
     functions: list[Function] = field(default_factory=list)
-    exports: set[tuple[str, str]] = field(default_factory=set)  # a module, and a name or "*"
+    # a module of it, and a name that it makes public, or "*"
+    exports: set[tuple[str, str]] = field(default_factory=set)
     test_files: set[str] = field(default_factory=set)
-    calls: dict[Function, set[Function]] = field(
-        default_factory=dict
-    )  # what each function may call
+    # what each function may call
+    calls: dict[Function, set[Function]] = field(default_factory=dict)
 
     @classmethod
     def read(cls, folder: Path) -> Crate:
