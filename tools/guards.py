@@ -177,9 +177,8 @@ def tests_of(crate: Crate, of: Function) -> list[str]:
     return [it.name for it in helpers if it in known and it.is_test]
 
 
-def guarded(folder: Path, traits: set[str]) -> Guarded:
-    """Reads a crate's folder and finds what guards each public function."""
-    crate = Crate.read(folder)
+def guarded(folder: Path, crate: Crate, traits: set[str]) -> Guarded:
+    """Finds what guards each public function of the crate in a folder."""
     public = crate.public_functions(traits)
     edits = [Edit.read(it) for it in sorted(folder.glob("must-fail/*.edit"))]
     bodies: dict[str, list[tuple[Edit, str]]] = {it.title: [] for it in public}
@@ -245,8 +244,12 @@ def page(top: Path) -> str:
         it.partition(":")[0].split()[0] for it in rows if it.strip() and not it.startswith("#")
     ]
     folders = [top / "crates" / it for it in names]
-    traits = set().union(*(Crate.read(it).traits() for it in folders))
-    found = [guarded(it, traits) for it in folders]
+    crates = [Crate.read(it) for it in folders]
+    promised = {method: clauses for it in crates for method, clauses in it.promised().items()}
+    traits = {trait for trait, _ in promised}
+    for crate in crates:
+        crate.inherit(promised)
+    found = [guarded(folder, crate, traits) for folder, crate in zip(folders, crates)]
     edits = sum(len(it.edits) for it in found)
     total = f"In all there are {edits} wrong bodies.\n"
     return "\n".join([HEAD, total, *(section(it) for it in found if it.public)])

@@ -7,10 +7,10 @@ public functions may reach another one.
 from __future__ import annotations
 
 import re
-from dataclasses import dataclass, field
+from dataclasses import dataclass, field, replace
 from functools import lru_cache
 from pathlib import Path
-from typing import Iterator
+from typing import Dict, Iterator, Tuple
 
 # What hides braces and names: comments, strings and characters. A lifetime is none of them.
 HIDDEN = re.compile(
@@ -69,6 +69,10 @@ class Function:
                 r"\{\s*&?(mut )?self(\.\w+)+(\.as_slice\(\)|\.as_str\(\))?\s*\}", self.body
             )
         )
+
+
+# the clauses of methods, by the trait's name and theirs
+Promised = Dict[Tuple[str, str], Tuple[Clause, ...]]
 
 
 @lru_cache(maxsize=None)
@@ -209,7 +213,7 @@ class Crate:
         made.test_files = {
             f"src/{it}.rt" for it in re.findall(r"#\[cfg\(test\)\]\s*mod (\w+);", root)
         }
-        made.calls = {it: made._called(it) for it in made.functions}
+        made.inherit({})
         return made
 
     def _read_exports(self, module: str, known: set[str]) -> None:
@@ -225,6 +229,23 @@ class Crate:
             self.exports.add((inner, "*"))
             if inner not in known:
                 self._read_exports(inner, known)
+
+    def inherit(self, promised: Promised) -> None:
+        """Gives each method of a trait that has no clauses of its own those of the trait."""
+        self.functions = [
+            it
+            if it.clauses or not it.trait
+            else replace(it, clauses=promised.get((it.trait, it.name), ()))
+            for it in self.functions
+        ]
+        self.calls = {it: self._called(it) for it in self.functions}
+
+    def promised(self) -> Promised:
+        """The clauses of each method of the traits that the crate declares."""
+        traits = {
+            it for text in self.texts.values() for it in re.findall(r"\btrait (\w+)", blanked(text))
+        }
+        return {(it.owner, it.name): it.clauses for it in self.functions if it.owner in traits}
 
     def public_functions(self, traits: set[str]) -> list[Function]:
         """What the crates above can call: functions, methods of public types, and methods of these traits."""
@@ -246,12 +267,6 @@ class Crate:
             if is_public:
                 found.append(it)
         return found
-
-    def traits(self) -> set[str]:
-        """The names of the traits that the crate declares."""
-        return {
-            it for text in self.texts.values() for it in re.findall(r"\btrait (\w+)", blanked(text))
-        }
 
     def _called(self, by: Function) -> set[Function]:
         """The functions of the crate that another one may call, by their names."""

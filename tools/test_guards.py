@@ -124,7 +124,10 @@ class Guards(unittest.TestCase):
 
     def test_public_functions(self) -> None:
         crate = Crate.read(self.folder)
-        public = crate.public_functions(crate.traits())
+        promised = crate.promised()
+        self.assertEqual([(it, len(promised[it])) for it in promised], [(("Weigh", "weight"), 1)])
+        crate.inherit(promised)
+        public = crate.public_functions({"Weigh"})
         self.assertEqual(
             [it.title for it in public],
             ["Heap::stones", "Heap::weight", "heaviest", "heavier_is_more"],
@@ -167,6 +170,14 @@ class Guards(unittest.TestCase):
         page = self.page()
         self.assertIn("| `Heap::weight` | `least` | `some` of `total` | - |", page)
         self.assertIn("| `heaviest` | - |  | `one_stone` |", page)
+
+    def test_clause_of_a_trait(self) -> None:
+        text = "file: src/heap.rt\nold: total(&self.stones)\nnew: 0\n"
+        self.edit("weightless", text)
+        line = "| `Heap::weight` | `weightless` | `weight` of `Heap::weight` | - |"
+        self.assertIn(line, self.page())
+        self.edit("weightless", text + "# refused by: weight of Heap::weight\n")
+        self.assertIn(line, self.page())
 
     def test_clause_that_is_not_told(self) -> None:
         self.edit("text", "file: src/heap.rt\nold: greatest(heap.stones())\nnew: 0\n")
