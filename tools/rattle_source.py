@@ -23,6 +23,8 @@ HEAD = re.compile(
 )
 CALL = re.compile(r"(?P<lead>\.|::)?\s*\b(?P<name>[a-z_]\w*)\s*(?:::\s*<[^<>()]*>)?\s*\(")
 PASSED = re.compile(r"(?<=[(,])\s*(?P<name>[a-z_]\w*)\s*(?=[),])")
+PARAMETER = re.compile(r"\b(?P<name>\w+)\s*:\s*&?\s*(?:'\w+\s+)?(?:mut\s+)?(?P<type>[A-Z]\w+)")
+RECEIVER = re.compile(r"(?<![\w.)\]?])(\w+)\s*$")
 CLOSING = {"{": "}", "(": ")", "[": "]"}
 
 
@@ -46,7 +48,8 @@ class Function:
     file: str
     start: int
     end: int
-    body: str  # without comments and strings
+    head: str  # its parameters and clauses; as the body, without comments and strings
+    body: str
     clauses: tuple[Clause, ...]
     has_pub: bool
     is_test: bool
@@ -55,6 +58,12 @@ class Function:
     def title(self) -> str:
         """Its name as a reader calls it."""
         return f"{self.owner}::{self.name}" if self.owner else self.name
+
+    @property
+    def types(self) -> dict[str, str]:
+        """The types of its parameters that have names of their own; one letter is a type parameter, and left out."""
+        named = {it["name"]: it["type"] for it in PARAMETER.finditer(self.head)}
+        return {**named, "self": self.owner}
 
     @property
     def is_law(self) -> bool:
@@ -158,7 +167,8 @@ def _function(
     name = re.compile(r"\s*(\w+)").match(text, at)
     if name is None:
         return None
-    before, at, clauses = text[since:at], name.end(), []
+    before, begins, clauses = text[since:at], name.end(), []
+    at = begins
     while found := HEAD.search(text, at):
         if found["word"]:
             at = closed(text, found.end() - 1)
@@ -169,8 +179,8 @@ def _function(
             break
     if found is None:
         return None
-    begins = found.start()
-    end = closed(text, begins) if found["body"] else found.end()
+    opened = found.start()
+    end = closed(text, opened) if found["body"] else found.end()
     return Function(
         name=name[1],
         owner=owner,
@@ -178,7 +188,8 @@ def _function(
         file=file,
         start=since + len(before) - len(before.lstrip()),
         end=end,
-        body=text[begins:end],
+        head=text[begins:opened],
+        body=text[opened:end],
         clauses=tuple(clauses),
         has_pub=is_open or bool(re.search(r"\bpub(?!\s*\()", before)),
         is_test=bool(re.search(r"#\s*\[\s*test\s*\]", before)),
@@ -271,22 +282,23 @@ class Crate:
     def _called(self, by: Function) -> set[Function]:
         """The functions of the crate that another one may call, by their names."""
         own = {it.owner for it in self.functions if it.owner}
+        types = by.types
         found: set[Function] = set()
         for call in CALL.finditer(by.body):
-            before = re.search(r"(\w+)\s*(?:<[^<>]*>\s*)?$", by.body[: call.start()])
-            of = before[1] if before and call["lead"] == "::" else ""
+            before = by.body[: call.start()]
+            named = [it for it in self.functions if it.name == call["name"]]
+            if call["lead"] == ".":
+                receiver = RECEIVER.search(before)
+                of = types.get(receiver[1], "") if receiver else ""
+                found |= {it for it in named if it.owner and of in ("", it.owner)}
+                continue
+            path = re.search(r"(\w+)\s*(?:<[^<>]*>\s*)?$", before) if call["lead"] else None
+            of = path[1] if path else ""
             of = by.owner if of == "Self" else of
-            for it in self.functions:
-                if it.name != call["name"] or it is by:
-                    continue
-                if call["lead"] == "." or of in own:
-                    is_meant = bool(it.owner) and (call["lead"] == "." or it.owner == of)
-                else:
-                    is_meant = (
-                        not it.owner and not of[:1].isupper() and self._is_seen(it, by.file, of)
-                    )
-                if is_meant:
-                    found.add(it)
+            if of in own:
+                found |= {it for it in named if it.owner == of}
+            elif not of[:1].isupper():
+                found |= {it for it in named if not it.owner and self._is_seen(it, by.file, of)}
         for passed in PASSED.finditer(by.body):
             found |= {
                 it
