@@ -37,5 +37,5 @@ def short(number: float) -> str:
     if abs(number) >= 1000:
         return f"{math.ceil(number * 10) / 10:.6g}"
     power = 10.0 ** (2 - math.floor(math.log10(abs(number))))
-    text = f"{math.ceil(number * power - 1e-6) / power:.12g}"
-    return text if "e" in text else format(float(text), ".12f").rstrip("0").rstrip(".")
+    number = math.ceil(number * power - 1e-6) / power
+    return f"{number:.12f}".rstrip("0").rstrip(".") if number >= 1e-6 else f"{number:.3g}"

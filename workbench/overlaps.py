@@ -75,7 +75,7 @@ def near_pairs(bodies: Sequence[Body]) -> Iterator[Tuple[Body, Body]]:
 
 
 def overlaps(parts: Sequence[Sequence[Piece]]) -> List[Overlap]:
-    """All overlaps of pieces of different parts, in the order of `staat`: by a, then b, then i, then j."""
+    """All overlaps of pieces of different parts, in the order of `staat`: by a, then i, b and j."""
     bodies = [
         Body(part, number, piece) for part, some in enumerate(parts) for number, piece in enumerate(some)
     ]
