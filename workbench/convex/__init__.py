@@ -1,0 +1,5 @@
+"""From solids to convex pieces on the grid, each with bounds of what it gets wrong."""
+from .clearing import clear
+from .decomposing import Cut, decompose
+
+__all__ = ["Cut", "clear", "decompose"]

@@ -1,0 +1,240 @@
+"""From a solid to its convex pieces, by that of three ways which fits, with its bounds."""
+from __future__ import annotations
+
+import time
+from dataclasses import dataclass, field
+from typing import List, Optional, Sequence, Set, Tuple
+
+import numpy
+
+from ..hulls import Point
+from ..solid import Mesh, Options, Piece, Pieces, Refusal, Solid
+from .bodies import Body, Tangled
+from .bounds import Union, farthest
+from .cells import Cell, Wall, join_all
+from .cgal import decomposed
+from .cutting import convex_pieces
+from .frames import FINER, Turned, frame_of
+from .meshes import Polygon, Surface, open_edges, rounded, shells, solids
+from .nearly import beyond_hull, corners_of
+from .snapping import grown, piece_or_none, shrunk, small_pieces, snapped
+
+HULL, GRID, DRAWN, CGAL = "convex", "cut on the grid", "cut as it was drawn before it was turned", "cut by CGAL"
+
+
+@dataclass
+class Cut(Pieces):
+    """Pieces of a solid with the cells of which they were made.
+
+    cells: make up the solid on the grid; steps
+    beyond: how far the solid on the grid may go beyond, and fall short of, the solid of the model; in model units
+    anchor: where the first corner of the first piece lay when the cells were made; pieces that are moved as a whole
+        have their cells moved as far
+    exact: whether the pieces are the cells
+    """
+
+    cells: List[Cell] = field(default_factory=list)
+    beyond: Tuple[float, float] = (0.0, 0.0)
+    anchor: Point = (0, 0, 0)
+    exact: bool = False
+
+
+@dataclass
+class Rough:
+    """Cells that stand for a solid, before their corners are put on the grid.
+
+    skin: planes of faces of the solid
+    moved: by how many steps the surface of the solid was moved, at most; axes: along which axes
+    over: by how many steps the cells go beyond that surface, at most
+    """
+
+    cells: List[Cell]
+    way: str
+    skin: Set[Wall]
+    moved: float
+    axes: Tuple[int, ...]
+    over: float = 0.0
+
+
+def decompose(solid: Solid, options: Options) -> Cut:
+    """The convex pieces of a solid. Refusal: one line that says what is wrong with it, and what to try.
+
+    Bounds: those of the solid on the grid against the model, and those of the pieces against the solid on the grid, add
+    up. The latter are 0 where all cells have their corners on the grid; else see `bounds`.
+    """
+    until = time.monotonic() + options.seconds
+    if solid.whole is not None:
+        rough = of_surface(surface_of_whole(solid, solid.whole), solid, options, until)
+        rough.over = 0.0
+        over, under = solid.whole_over, solid.whole_under
+    elif solid.exact is not None:
+        rough = of_exact(solid, solid.exact, options, until)
+        scale = float(solid.scale)
+        over = solid.over + (rough.moved + rough.over) / scale
+        under = solid.under + rough.moved / scale
+    else:
+        raise Refusal("it has no surface")
+    if not rough.cells:
+        raise Refusal("nothing is left of it on this grid: give a finer one")
+    return measured(solid, rough, options, (over, under))
+
+
+def surface_of_whole(solid: Solid, whole: Mesh) -> Surface:
+    """The surface on the grid. What moved corners matters only where pieces are to hold the solid, or to lie in it."""
+    surface = Surface([(int(x), int(y), int(z)) for x, y, z in whole.points], [list(face) for face in whole.faces])
+    if solid.exact is not None and len(solid.exact.points) == len(whole.points):
+        off = numpy.abs(whole.points - numpy.asarray(solid.exact.points, float) * float(solid.scale))
+        off[off < 1e-6] = 0.0
+        surface.moved = float(numpy.sqrt((off**2).sum(axis=1)).max(initial=0.0))
+        surface.axes = tuple(axis for axis in range(3) if off[:, axis].max(initial=0.0) > 0.0)
+    return surface
+
+
+def of_exact(solid: Solid, mesh: Mesh, options: Options, until: float) -> Rough:
+    """The cells of a solid that is not on the grid yet."""
+    scale = float(solid.scale)
+    surface = rounded(mesh, scale)
+    gaps = open_edges(surface.faces)
+    if gaps:
+        raise Refusal(f"it is not closed at {gaps} edges: repair the mesh")
+    allowed = max(options.join * scale, 1.0) if options.side != "under" else 0.0
+    if allowed and len(shells(surface.faces)) == 1:
+        beyond = beyond_hull(numpy.asarray(mesh.points, float) * scale, mesh.faces, allowed)
+        if beyond <= allowed:
+            cells = convex_cells(corners_of(surface.points, surface.faces), options.corners)
+            return Rough(cells, HULL, skin_of(surface), surface.moved, surface.axes, beyond)
+    if surface.moved:
+        on_grid = cells_on_grid(surface, options.corners, until)
+        drawn = None if on_grid else as_drawn(mesh, scale, options, until)
+        if drawn is not None:
+            return drawn
+    return of_surface(surface, solid, options, until)
+
+
+def as_drawn(mesh: Mesh, scale: float, options: Options, until: float) -> Optional[Rough]:
+    """The cells of a solid that falls into pieces on the grid of its own frame; nothing where it does not."""
+    frame = frame_of(mesh)
+    if frame is None:
+        return None
+    turned = Turned(mesh, scale, frame)
+    try:
+        surface = rounded(turned.mesh, 1.0)
+    except Refusal:
+        return None
+    if open_edges(surface.faces):
+        return None
+    cells = cells_on_grid(surface, options.corners, until)
+    if not cells:
+        return None
+    moved = turned.moved + surface.moved / FINER
+    return Rough([turned.back(cell) for cell in cells], DRAWN, set(), moved, (0, 1, 2))
+
+
+def of_surface(surface: Surface, solid: Solid, options: Options, until: float) -> Rough:
+    """The cells of a surface on the grid."""
+    gaps = open_edges(surface.faces)
+    if gaps:
+        raise Refusal(f"it is not closed at {gaps} edges: repair the mesh")
+    cells: List[Cell] = []
+    ways: List[str] = []
+    for faces in solids(surface.points, surface.faces):
+        one = Surface(surface.points, faces)
+        found = cells_on_grid(one, options.corners, until)
+        way = GRID if found and len(found) > 1 else HULL
+        if not found:
+            whole = decomposed(surface.points, faces, until - time.monotonic())
+            found, way = join_all(whole, options.corners, until), CGAL
+        cells += found
+        ways += [way] if way not in ways else []
+    skin = skin_of(surface)
+    moved, axes = surface.moved, surface.axes
+    if solid.whole is not None and options.side == "near":
+        moved, axes = 0.0, ()
+    return Rough(cells, ", ".join(ways), skin, moved, axes)
+
+
+def cells_on_grid(surface: Surface, corners: int, until: float) -> List[Cell]:
+    """Cells with whole corners that make up a solid; none where no cuts on the grid were found."""
+    found: List[Cell] = []
+    for faces in solids(surface.points, surface.faces):
+        try:
+            some = convex_pieces(Body.of_mesh(surface.points, faces), corners)
+        except Tangled:
+            some = None
+        if some is None:
+            return []
+        pieces = [piece for points in some for piece in small_pieces(points, corners)]
+        cells = [Cell.of_piece(piece) for piece in pieces]
+        found += join_all(cells, corners, until) if len(cells) > 1 else cells
+    return found
+
+
+def convex_cells(points: Sequence[Point], corners: int) -> List[Cell]:
+    """The hull of points in cells of at most so many corners."""
+    piece = piece_or_none(list(points))
+    if piece is None:
+        return []
+    rows = [(int(x), int(y), int(z)) for x, y, z in piece.points]
+    some = convex_pieces(Body.of_mesh(rows, piece.faces), corners) or [rows]
+    return [Cell.of_piece(small) for points in some for small in small_pieces(points, corners)]
+
+
+def skin_of(surface: Surface) -> Set[Wall]:
+    try:
+        return set(Body.of_mesh(surface.points, surface.faces).faces)
+    except Tangled:
+        return set()
+
+
+def measured(solid: Solid, rough: Rough, options: Options, beyond: Tuple[float, float]) -> Cut:
+    """The pieces that stand for cells, on the side that is asked for, with their bounds."""
+    own: List[List[Piece]] = []
+    exact = True
+    for cell in rough.cells:
+        points, is_exact = points_for(cell, rough, options.side)
+        exact = exact and is_exact
+        own.append(small_pieces(points, options.corners))
+    pieces = [piece for some in own for piece in some]
+    if not pieces:
+        raise Refusal("its pieces are too thin for this grid: give a finer one")
+    over, under = beyond
+    if not exact:
+        far, short = between(rough.cells, own, options)
+        over, under = over + far / float(solid.scale), under + short / float(solid.scale)
+    if options.side == "over":
+        under = solid.under
+    if options.side == "under":
+        over = solid.over
+    x, y, z = pieces[0].points[0].tolist()
+    return Cut(pieces, over, under, rough.way, rough.cells, beyond, (x, y, z), exact)
+
+
+def between(cells: List[Cell], own: List[List[Piece]], options: Options) -> Tuple[float, float]:
+    """How far pieces go beyond the cells that they stand for, and fall short of them; in steps."""
+    until = time.monotonic() + options.seconds / 4
+    made = [[Cell.of_piece(piece) for piece in some] for some in own]
+    union = Union([cell for some in made for cell in some])
+    over = under = 0.0
+    if options.side != "under":
+        sources = [[cell] for cell, some in zip(cells, made) for _ in some]
+        over = farthest(union.cells, sources, Union(cells), until)
+    if options.side != "over":
+        under = farthest(cells, made, union, until)
+    return over, under
+
+
+def points_for(cell: Cell, rough: Rough, side: str) -> Tuple[List[Point], bool]:
+    """The points whose hull stands for a cell, and whether it is just the cell.
+
+    Where corners of the solid were rounded, pieces that hold it are grown by a step along each axis of rounding, which
+    is more than corners moved; and pieces that lie within it are made of what lies deeper in the cell than they moved.
+    """
+    if not cell.walls and side != "under":
+        points = sorted({(int(x), int(y), int(z)) for x, y, z in numpy.rint(cell.table)})
+        return (grown(points, [0, 1, 2]) if side == "over" else points), False
+    if (rough.moved or not cell.walls) and side == "under":
+        return shrunk(cell, rough.moved), False
+    points = snapped(cell, side, rough.skin)
+    if rough.moved and side == "over":
+        return grown(points, list(rough.axes)), False
+    return points, cell.is_whole()
