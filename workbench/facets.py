@@ -6,7 +6,7 @@ neighbouring angles, which are plane. So all corners of a face stay in its plane
 from __future__ import annotations
 
 from dataclasses import dataclass, field
-from typing import Dict, List, Optional, Set, Tuple
+from typing import Dict, Iterator, List, Optional, Set, Tuple
 
 import numpy
 
@@ -14,10 +14,11 @@ from .brep import Body, Edge, Region, regions_of
 from .closing import shell_of
 from .fitting import Arc
 from .lattices import Axes, Axis
-from .solid import Mesh, Options, Refusal, Surface
+from .solid import Mesh, Options, Surface
 from .triangles import newell, triangulated
 
 ROUND = ("cylinder", "cone")
+SPARE = 0.75  # steps; rounding moves a point by at most half the diagonal of a square of the grid
 
 
 class Unfit(Exception):
@@ -26,12 +27,16 @@ class Unfit(Exception):
 
 @dataclass
 class Faceted:
-    """A closed mesh in model units, its bounds against the solid, and the surfaces that its faces stand for."""
+    """A closed mesh in model units, its bounds against the solid, and the surfaces that its faces stand for.
+
+    spare: the points that may be put on the grid with no change to which side of the solid the mesh is on
+    """
 
     mesh: Mesh
     over: float
     under: float
     surfaces: List[Surface]
+    spare: Set[int] = field(default_factory=set)
 
 
 class Points:
@@ -114,12 +119,12 @@ def on_one_circle(edges: List[Edge]) -> bool:
 
 @dataclass
 class Drawing:
-    """The work on one body. `grown` are the circles that are drawn around and not within, by centre and radius."""
+    """The work on one body. `drawn` are the radii of polygons that differ from their circle's, by centre and radius."""
 
     body: Body
     regions: List[Region]
     axes: Axes
-    grown: Dict[Tuple[int, ...], float] = field(default_factory=dict)
+    drawn: Dict[Tuple[int, ...], float] = field(default_factory=dict)
 
     def __post_init__(self) -> None:
         self.points = Points(self.axes.near)
@@ -140,7 +145,7 @@ class Drawing:
             return [start, *self.crossings(edge, number), end]
         axis = self.axes.of(edge.arc)
         centre = axis.point + axis.way * axis.height_of(edge.arc.centre)
-        radius = edge.arc.radius * self.grown.get(self.key(edge.arc), 1.0)
+        radius = self.drawn.get(self.key(edge.arc), edge.arc.radius)
         found = [centre + radius * axis.out(axis.angles[place]) for place in self.passed(edge, axis)]
         for vertex, corner in zip(edge.ends, (start, end)):
             if vertex in self.hard:
@@ -312,8 +317,9 @@ def crossing(edge: Edge, axis: Axis, turns: numpy.ndarray, places: numpy.ndarray
 
 def closed_mesh(drawing: Drawing) -> Mesh:
     """The drawing as a mesh that is wound outwards. Unfit: it is not closed."""
-    used = sorted({number for face in drawing.faces for number in face})
-    shell = shell_of(numpy.array(drawing.points.rows), drawing.faces, 0.0 if not used else numpy.inf)
+    if not drawing.faces:
+        raise Unfit("no faces")
+    shell = shell_of(numpy.array(drawing.points.rows), drawing.faces, numpy.inf)
     if shell.gaps:
         raise Unfit(f"the faces leave {shell.gaps} edges open")
     return shell.mesh
@@ -329,45 +335,63 @@ def mark_holes(drawing: Drawing, mesh: Mesh) -> None:
             surface.hole = float(newell(rows) @ out) < 0
 
 
-def grown_circles(drawing: Drawing, options: Options) -> Dict[Tuple[int, ...], float]:
-    """The circles that are to be drawn around: those of pins for `over`, of holes for `under`.
+def drawn_radii(drawing: Drawing, options: Options) -> Dict[Tuple[int, ...], float]:
+    """The radii of polygons that are to lie around their circle, or surely within it.
 
-    Only whole circles can be, whose polygon has no corner that other faces hold in place.
+    For `over` the polygons of pins lie around and those of holes within, for `under` the other way, by so much that
+    rounding to the grid changes nothing in it. Only a whole circle can be drawn so: else faces hold corners in place.
     """
+    wanted: Dict[Tuple[int, ...], float] = {}
     if options.side == "near":
-        return {}
-    wanted: Dict[Tuple[int, ...], bool] = {}
-    factors: Dict[Tuple[int, ...], float] = {}
+        return wanted
+    spare = SPARE / float(options.scale or 1)
     for region, surface in zip(drawing.regions, drawing.surfaces):
-        for loop in region.loops if surface.kind in ROUND else []:
-            for number, _ in loop:
-                edge = drawing.body.edges[number]
-                if edge.arc is None:
-                    continue
-                key = drawing.key(edge.arc)
-                whole = not any(end in drawing.hard for end in edge.ends) and drawing.axes.of(edge.arc).forced == []
-                wanted[key] = wanted.get(key, True) and whole and surface.hole == (options.side == "under")
-                factors[key] = drawing.axes.of(edge.arc).factor()
-    return {key: factors[key] for key, good in wanted.items() if good}
+        for arc, axis in whole_circles(drawing, region):
+            key, grow = drawing.key(arc), surface.hole == (options.side == "under")
+            radius = (arc.radius + spare) * axis.factor() if grow else arc.radius - spare * axis.factor()
+            wanted[key] = radius if wanted.get(key, radius) == radius else arc.radius
+    return {key: radius for key, radius in wanted.items() if radius > 0}
+
+
+def whole_circles(drawing: Drawing, region: Region) -> Iterator[Tuple[Arc, Axis]]:
+    """The circles around a round region of which no other face holds a corner in place, with their axes."""
+    for number in {number for loop in region.loops for number, _ in loop} if region.fit.kind in ROUND else set():
+        edge = drawing.body.edges[number]
+        if edge.arc is not None and not any(end in drawing.hard for end in edge.ends):
+            axis = drawing.axes.of(edge.arc)
+            if not axis.forced:
+                yield edge.arc, axis
 
 
 def bounds_of(drawing: Drawing) -> Tuple[float, float]:
     """How far the faces go beyond the solid, and how far they fall short of it."""
     over = under = 0.0
     for region, surface in zip(drawing.regions, drawing.surfaces):
-        if surface.kind not in ROUND:
-            continue
-        axis = drawing.axes.of(Arc(surface.point, region.fit.axis, 1.0))
-        for loop in region.loops:
-            for number, _ in loop:
-                edge = drawing.body.edges[number]
-                rows = edge.at(numpy.linspace(0, 1, 17)) - axis.point
-                radius = float(numpy.linalg.norm(numpy.cross(rows, axis.way), axis=1).max())
-                factor = drawing.grown.get(drawing.key(edge.arc), 1.0) if edge.arc is not None else 1.0
-                beyond, short = (factor - 1) * radius, axis.sagitta(radius) if factor == 1.0 else 0.0
-                over = max(over, short if surface.hole else beyond)
-                under = max(under, beyond if surface.hole else short)
+        for number in {number for loop in region.loops for number, _ in loop} if surface.kind in ROUND else set():
+            edge = drawing.body.edges[number]
+            axis = drawing.axes.of(Arc(surface.point, region.fit.axis, 1.0))
+            rows = edge.at(numpy.linspace(0, 1, 17)) - axis.point
+            radius = float(numpy.linalg.norm(numpy.cross(rows, axis.way), axis=1).max())
+            drawn = drawing.drawn.get(drawing.key(edge.arc), radius) if edge.arc is not None else radius
+            beyond = max(drawn - radius, 0.0)
+            short = max(radius - drawn / axis.factor(), 0.0)
+            over = max(over, short if surface.hole else beyond)
+            under = max(under, beyond if surface.hole else short)
     return over, under
+
+
+def spare_points(drawing: Drawing, mesh: Mesh) -> Set[int]:
+    """The points of the mesh on polygons that are drawn with room for rounding."""
+    found: Set[int] = set()
+    for region in drawing.regions:
+        for arc, axis in whole_circles(drawing, region):
+            radius = drawing.drawn.get(drawing.key(arc))
+            if radius is not None and radius != arc.radius:
+                centre = axis.point + axis.way * axis.height_of(arc.centre)
+                far = numpy.abs(numpy.linalg.norm(mesh.points - centre, axis=1) - radius)
+                flat = numpy.abs((mesh.points - centre) @ axis.way)
+                found |= set(numpy.nonzero((far < 1e-9 * radius) & (flat < 1e-9 * radius))[0].tolist())
+    return found
 
 
 def faceted(body: Body, regions: List[Region], axes: Axes, options: Options) -> Faceted:
@@ -376,16 +400,14 @@ def faceted(body: Body, regions: List[Region], axes: Axes, options: Options) -> 
     drawing.draw()
     mesh = closed_mesh(drawing)
     mark_holes(drawing, mesh)
-    grown = grown_circles(drawing, options)
-    if grown:
+    drawn = drawn_radii(drawing, options)
+    if drawn:
         surfaces = drawing.surfaces
-        drawing = Drawing(body, regions, axes, grown)
+        drawing = Drawing(body, regions, axes, drawn)
         drawing.draw()
         for surface, known in zip(drawing.surfaces, surfaces):
             surface.hole = known.hole
         mesh = closed_mesh(drawing)
-    if not mesh.faces:
-        raise Refusal("no faces")
     over, under = bounds_of(drawing)
     mesh.name = body.name
-    return Faceted(mesh, over, under, drawing.surfaces)
+    return Faceted(mesh, over, under, drawing.surfaces, spare_points(drawing, mesh))

@@ -10,6 +10,7 @@ from .closing import Groups, edges_of
 from .solid import GREATEST, Mesh
 from .triangles import newell
 
+EXACT = 1e-9  # of the greatest coordinate: what is left of it by numbers with sixteen digits
 TIE = 1e-6  # halves of a step, and what rounding left of them, all go up: so equal coordinates stay equal
 
 
@@ -68,7 +69,10 @@ def whole_normal(points: numpy.ndarray, face: List[int]) -> Tuple[int, int, int]
     return total[0], total[1], total[2]
 
 
-def farthest(exact: Mesh, whole: Mesh, scale: Fraction) -> float:
-    """How far a point was moved at most, in model units. All points between moved no farther."""
-    ways = whole.points / float(scale) - exact.points
-    return float(numpy.linalg.norm(ways, axis=1).max())
+def moved(exact: Mesh, whole: Mesh, scale: Fraction) -> numpy.ndarray:
+    """How far each point was moved, in model units; nothing where it was no farther than the numbers are good for.
+
+    All points of the surface were moved no farther than the farthest of these.
+    """
+    ways = numpy.linalg.norm(whole.points / float(scale) - exact.points, axis=1)
+    return numpy.where(ways > EXACT * float(numpy.abs(exact.points).max()), ways, 0.0)

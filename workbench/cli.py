@@ -1,0 +1,227 @@
+"""The words of the command `staat-cad`."""
+from __future__ import annotations
+
+import argparse
+import json
+import sys
+from fractions import Fraction
+from typing import Dict, List, NoReturn, Sequence, Tuple
+
+import numpy
+
+from . import planner, summary
+from .cut import cut
+from .overlaps import overlaps
+from .product import Asked, Product, read_product
+from .solid import Options, Pieces, Refusal
+from .writing import Output
+
+REFUSED = 3
+OVERLAPPED = 1
+
+
+class Words(argparse.ArgumentParser):
+    def error(self, message: str) -> NoReturn:
+        print(f"staat-cad: {message}; --help tells more", file=sys.stderr)
+        sys.exit(2)
+
+
+def length_of(text: str) -> Fraction:
+    """A number above 0, as 0.01 or 1/64."""
+    try:
+        number = Fraction(text)
+    except (ValueError, ZeroDivisionError) as fault:
+        raise argparse.ArgumentTypeError(f"{text} is no number") from fault
+    if number <= 0:
+        raise argparse.ArgumentTypeError(f"{text} is not above 0")
+    return number
+
+
+def sides_of(text: str) -> int:
+    if not text.isdigit() or not 3 <= int(text) <= 1000:
+        raise argparse.ArgumentTypeError(f"{text} is no whole number from 3 to 1000")
+    return int(text)
+
+
+def clearance_of(text: str) -> Tuple[str, float]:
+    """T for all parts, or PART=T for one."""
+    name, _, length = text.rpartition("=")
+    return name, float(length_of(length))
+
+
+def each_of(text: str) -> str:
+    if text not in ("solid", "name", "file") and not (text.isdigit() and int(text) > 0):
+        raise argparse.ArgumentTypeError(f"{text} is none of solid, name, file, and no number of levels")
+    return text
+
+
+def parser() -> Words:
+    top = Words(
+        prog="staat-cad",
+        description="Leads from CAD models to the planner staat. Nothing here is proved: staat judges what is written.",
+    )
+    commands = top.add_subparsers(dest="command", metavar="COMMAND", required=True)
+    one = commands.add_parser(
+        "pieces",
+        help="cut models into convex pieces with whole coordinates, and write a part list",
+        description="Cuts models (STEP, STL, OBJ, PLY, 3MF, OFF, part lists) into convex pieces with whole "
+        "coordinates, and writes a part list for staat.",
+    )
+    add_reading(one)
+    add_cutting(one)
+    other = commands.add_parser(
+        "run",
+        help="run a command of staat on a part list, in its folder",
+        description="Runs a command of staat on the part list of a folder: ./staat-cad run FOLDER plan --robust",
+    )
+    other.add_argument("folder", metavar="FOLDER", help="what pieces wrote")
+    other.add_argument("asked", metavar="COMMAND", help="a command of staat, as look or plan")
+    other.add_argument("words", nargs=argparse.REMAINDER, metavar="..", help="its words, without the part list")
+    return top
+
+
+def add_reading(one: argparse.ArgumentParser) -> None:
+    one.add_argument("models", nargs="+", metavar="MODEL", help="a file, or a folder of files that are one part")
+    one.add_argument("--out", required=True, metavar="FOLDER", help="where the pieces and parts.json are written")
+    one.add_argument(
+        "--each",
+        type=each_of,
+        default="name",
+        metavar="WHAT",
+        help="what a part is: each name in a file (as usual), each solid, each file, or a number of levels of a "
+        "STEP file's assembly",
+    )
+    one.add_argument(
+        "--merge",
+        type=length_of,
+        metavar="M",
+        help="points so near each other are one where a surface is open; else a millionth of the extent of the file",
+    )
+    one.add_argument(
+        "--grid",
+        type=length_of,
+        metavar="G",
+        help="the step of the grid in the unit of the model, as 0.01 or 1/64; else the finest of 1, 2 or 5 times a "
+        "power of ten that fits",
+    )
+
+
+def add_cutting(one: argparse.ArgumentParser) -> None:
+    round_ones = one.add_mutually_exclusive_group()
+    round_ones.add_argument("--sides", type=sides_of, metavar="N", help="sides of a whole circle; else 12")
+    round_ones.add_argument(
+        "--chord", type=length_of, metavar="T", help="how far a circle may lie beyond its sides, at most"
+    )
+    one.add_argument(
+        "--side",
+        choices=("near", "over", "under"),
+        default="near",
+        help="whether pieces come near their parts, contain them (over) or lie within them (under)",
+    )
+    one.add_argument(
+        "--tolerance",
+        type=length_of,
+        metavar="T",
+        help="pieces are joined while they go beyond the solid by at most this; else a ten-thousandth of its extent",
+    )
+    one.add_argument(
+        "--clearance",
+        type=clearance_of,
+        action="append",
+        default=[],
+        metavar="[PART=]T",
+        help="faces of all parts, or of one, move inwards by this where they meet other parts",
+    )
+    one.add_argument(
+        "--seconds", type=length_of, default=Fraction(60), metavar="S", help="how long one solid may take; else 60"
+    )
+
+
+def options_of(given: argparse.Namespace) -> Options:
+    return Options(
+        chord=None if given.chord is None else float(given.chord),
+        sides=given.sides,
+        side=given.side,
+        join=-1.0 if given.tolerance is None else float(given.tolerance),
+        clearance=dict(given.clearance),
+        seconds=float(given.seconds),
+    )
+
+
+def cut_product(product: Product, options: Options) -> List[summary.Cut]:
+    """The parts with their pieces; those that cannot be cut go to `product.lost`."""
+    solids = [solid for part in product.parts for solid in part.solids]
+    answers = iter(cut(solids, options))
+    kept, found = [], []
+    for part in product.parts:
+        some = [next(answers) for _ in part.solids]
+        lines = [answer for answer in some if isinstance(answer, str)]
+        if lines:
+            product.lost.append((part.name, lines[0]))
+        else:
+            kept.append(part)
+            found.append([answer for answer in some if isinstance(answer, Pieces)])
+    product.parts = kept
+    if options.clearance:
+        found = cleared(product, found, options)
+    return [summary.cut_part(part, some) for part, some in zip(kept, found)]
+
+
+def cleared(product: Product, found: List[List[Pieces]], options: Options) -> List[List[Pieces]]:
+    """The pieces, after faces were moved inwards. Refusal: a part is named that is none."""
+    from .convex import clear
+
+    names = {part.name for part in product.parts}
+    for name in options.clearance:
+        if name and name not in names:
+            raise Refusal(f'no part has the name "{name}", which --clearance names')
+    solids = [solid for part in product.parts for solid in part.solids]
+    moved = iter(clear(solids, [pieces for some in found for pieces in some], options))
+    return [[next(moved) for _ in some] for some in found]
+
+
+def pieces(given: argparse.Namespace) -> int:
+    options = options_of(given)
+    asked = Asked(given.each, None if given.merge is None else float(given.merge))
+    product = read_product(given.models, options, asked, given.grid)
+    cuts = cut_product(product, options)
+    if cuts:
+        output = Output(given.out, product.inputs)
+        for one in cuts:
+            output.part(one.part.name, one.pieces)
+        print("\n".join(summary.part_lines(product, cuts)))
+        print("written " + output.write(summary.model_of(product, cuts, options)))
+    for name, why in product.lost:
+        left_out = f"part {name} is left out: " if cuts else ""
+        print(f"staat-cad: {left_out}{why}", file=sys.stderr)
+    status = told(given.out, product, cuts, options) if cuts else 0
+    return REFUSED if product.lost else status
+
+
+def told(folder: str, product: Product, cuts: Sequence[summary.Cut], options: Options) -> int:
+    """Prints the summary; 1 where parts overlap."""
+    greatest = max(float(numpy.abs(piece.points).max()) for one in cuts for piece in one.plain)
+    grid = float(product.grid)
+    lines = summary.round_lines(product, options) + summary.bound_lines(cuts)
+    found = overlaps([one.plain for one in cuts])
+    overlapped = summary.overlap_lines(found, cuts, grid, greatest * grid)
+    lines += overlapped or ["no two parts overlap"]
+    limits = summary.limit_lines(cuts, options)
+    print("\n".join(lines + limits))
+    return OVERLAPPED if overlapped else 0
+
+
+COMMANDS = {"pieces": pieces, "run": lambda given: planner.run(given.folder, given.asked, given.words)}
+
+
+def main(words: Sequence[str]) -> int:
+    """Runs the words; the status: 0, 1 where parts overlap, 2 for words that are none, 3 where something is refused."""
+    given = parser().parse_args(list(words))
+    try:
+        return COMMANDS[given.command](given)
+    except Refusal as fault:
+        print(f"staat-cad: {fault}", file=sys.stderr)
+        return REFUSED
+    except KeyboardInterrupt:
+        print("staat-cad: stopped; nothing more is written", file=sys.stderr)
+        return 130

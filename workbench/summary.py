@@ -1,0 +1,149 @@
+"""What is told of a product that was cut: its parts with their bounds, and what follows for the answers of `staat`."""
+from __future__ import annotations
+
+from dataclasses import dataclass
+from typing import Any, Dict, List, Sequence, Tuple
+
+from .grids import short, written
+from .lattices import SIDES
+from .overlaps import Overlap
+from .product import Part, Product
+from .solid import Options, Piece, Pieces
+
+PLANNER = (32, 64)  # parts and pieces that `plan` and its kin take
+LIMITS = (1024, 16384)  # parts and pieces of a product at all
+SIX_DIGITS = 1e-5  # exports often have six digits, so numbers may be wrong by so much of the greatest
+COSTLY = 3  # parts that are named where pieces are many
+
+
+@dataclass
+class Cut:
+    """A part with the pieces of its solids, each with a tag, and the bounds of all of them."""
+
+    part: Part
+    pieces: List[Tuple[str, Piece]]
+    over: float
+    under: float
+    notes: List[str]
+
+    @property
+    def plain(self) -> List[Piece]:
+        return [piece for _, piece in self.pieces]
+
+    def rounds(self) -> int:
+        """How many holes its solids have whose polygon makes pieces."""
+        return sum(1 for solid in self.part.solids for surface in solid.surfaces if surface.hole)
+
+
+def cut_part(part: Part, found: Sequence[Pieces]) -> Cut:
+    pieces: List[Tuple[str, Piece]] = []
+    for tag, some in zip(part.tags, found):
+        for number, piece in enumerate(some.pieces):
+            alone = len(some.pieces) == 1
+            pieces.append((tag if alone else f"{tag}-{number}" if len(found) > 1 else str(number), piece))
+    notes = sorted({some.note for some in found if some.note})
+    return Cut(part, pieces, max(some.over for some in found), max(some.under for some in found), notes)
+
+
+def part_lines(product: Product, cuts: Sequence[Cut]) -> List[str]:
+    lines = [f"unit {product.unit}"] if product.unit else []
+    lines.append(f"grid {written(product.grid)}")
+    for number, cut in enumerate(cuts):
+        lines.append(
+            f"part {number} pieces {len(cut.pieces)} over {short(cut.over)} under {short(cut.under)} "
+            f"name {cut.part.name}"
+        )
+    return lines
+
+
+def round_lines(product: Product, options: Options) -> List[str]:
+    """What was done with round faces."""
+    lines = []
+    if any(surface.kind in ("cylinder", "cone") for part in product.parts for s in part.solids for surface in s.surfaces):
+        if options.chord is not None and options.sides is None:
+            how = f"as many sides as a chord of {short(options.chord)} wants"
+        else:
+            how = f"{options.sides or SIDES} sides to a circle"
+        lines.append(f"round faces: {how}, cut at the same angles around one axis")
+        if product.shared:
+            kind = "get one polygon" if options.side == "near" else "get polygons that are parallel"
+            lines.append(f"round faces of different parts around one axis {kind}: {product.shared} such axes")
+    for name in product.meshed:
+        lines.append(f"meshed by gmsh, its polygons shared with no neighbour: {name}")
+    return lines
+
+
+def bound_lines(cuts: Sequence[Cut]) -> List[str]:
+    """What the bounds mean for the answers."""
+    over, under = max(cut.over for cut in cuts), max(cut.under for cut in cuts)
+    if over == 0 and under == 0:
+        return ["the pieces are the parts: what staat answers holds of the parts as drawn"]
+    if under == 0:
+        return [f"the pieces contain their parts (beyond by up to {short(over)}): a plan for them is one for the parts"]
+    if over == 0:
+        return [f"the pieces lie within their parts (short by up to {short(under)}): what is stuck as pieces is stuck"]
+    return [
+        f"the pieces go up to {short(over)} beyond their parts and fall up to {short(under)} short of them: where a fit "
+        "is tighter than that, the answer may differ; --side=over makes plans certain, --side=under refusals"
+    ]
+
+
+def limit_lines(cuts: Sequence[Cut], options: Options) -> List[str]:
+    """Which limits are exceeded, and what would help."""
+    parts, pieces = len(cuts), sum(len(cut.pieces) for cut in cuts)
+    lines = []
+    if parts > LIMITS[0] or pieces > LIMITS[1]:
+        lines.append(f"{parts} parts and {pieces} pieces: more than {LIMITS[0]} and {LIMITS[1]}, leave some out")
+    elif parts > PLANNER[0] or pieces > PLANNER[1]:
+        lines.append(f"{parts} parts, {pieces} pieces: more than the {PLANNER[0]} and {PLANNER[1]} that staat plan takes")
+    if lines:
+        lines += costly_lines(cuts, options)
+    return lines
+
+
+def costly_lines(cuts: Sequence[Cut], options: Options) -> List[str]:
+    """The parts that cost most, and what coarser sides would give."""
+    lines = []
+    sides = options.sides or SIDES
+    coarser = max(6, sides // 2)
+    for cut in sorted(cuts, key=lambda cut: -len(cut.pieces))[:COSTLY]:
+        many = len(cut.pieces)
+        line = f"most pieces: {many} of {cut.part.name}"
+        saved = cut.rounds() * (sides - coarser)
+        if 0 < saved < many and options.chord is None and coarser < sides:
+            line += f", about {many - saved} with --sides={coarser}"
+        lines.append(line)
+    return lines
+
+
+def overlap_lines(found: Sequence[Overlap], cuts: Sequence[Cut], grid: float, greatest: float) -> List[str]:
+    """A line for each two parts that overlap, with the first two pieces that do, and what it may come from."""
+    pairs: Dict[Tuple[int, int], List[Overlap]] = {}
+    for overlap in found:
+        pairs.setdefault((overlap.a, overlap.b), []).append(overlap)
+    lines = []
+    for (a, b), some in pairs.items():
+        one, other = cuts[a], cuts[b]
+        depth = max(overlap.depth for overlap in some) * grid
+        added = one.over + other.over + max(2 * grid, SIX_DIGITS * greatest)
+        line = f"parts {a} and {b} overlap in pieces {some[0].i} and {some[0].j}: {one.part.name} and {other.part.name}"
+        line += f", {short(depth)} deep" + (f" in {len(some)} pairs of pieces" if len(some) > 1 else "")
+        if depth <= added:
+            line += f", which cutting and rounding may have made; try --clearance={short(added)}"
+        else:
+            line += "; correct the model, or give more sides where round faces became polygons that differ"
+        lines.append(line)
+    return lines
+
+
+def model_of(product: Product, cuts: Sequence[Cut], options: Options) -> Dict[str, Any]:
+    """What other programs want to know of the part list."""
+    return {
+        "unit": product.unit,
+        "grid": str(product.grid),
+        "side": options.side,
+        "parts": [
+            {"name": cut.part.name, "pieces": len(cut.pieces), "over": cut.over, "under": cut.under} for cut in cuts
+        ],
+        "left out": [{"name": name, "why": why} for name, why in product.lost],
+    }
