@@ -1,6 +1,7 @@
 """The command: it says in one line which package of Debian is missing, before anything else is asked."""
 from __future__ import annotations
 
+import os
 import sys
 from typing import List
 
@@ -15,7 +16,11 @@ def start(words: List[str]) -> int:
             raise
         print(f"staat-cad: {package} is missing; install it by: sudo apt-get install -y {package}", file=sys.stderr)
         return 69
-    return main(words)
+    try:
+        return main(words)
+    except BrokenPipeError:  # who read the output wanted no more of it
+        os.dup2(os.open(os.devnull, os.O_WRONLY), sys.stdout.fileno())
+        return 0
 
 
 if __name__ == "__main__":

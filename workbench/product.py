@@ -134,7 +134,7 @@ class Reading:
             elif self.asked.each.isdigit():
                 part = "/".join(body.name.split("/")[: int(self.asked.each)])
             else:
-                part = free_name(body.name, taken)
+                part = free_name(name if body.name == step.NAMELESS else body.name, taken)
             tag = stem if folder and len(drawn.bodies) == 1 else f"{stem}-{number}" if folder else str(number)
             self.items.append(Item(f"{path}: {body.name}", part, tag, body=body))
 

@@ -1,6 +1,7 @@
 """What is told of a product that was cut: its parts with their bounds, and what follows for the answers of `staat`."""
 from __future__ import annotations
 
+import math
 from dataclasses import dataclass
 from typing import Any, Dict, List, Sequence, Tuple
 
@@ -136,6 +137,11 @@ def overlap_lines(found: Sequence[Overlap], cuts: Sequence[Cut], grid: float, gr
     return lines
 
 
+def upwards(length: float) -> float:
+    """The length to twelve digits behind the point, and no less than it is."""
+    return math.ceil(length * 1e12) / 1e12
+
+
 def model_of(product: Product, cuts: Sequence[Cut], options: Options) -> Dict[str, Any]:
     """What other programs want to know of the part list."""
     return {
@@ -143,7 +149,13 @@ def model_of(product: Product, cuts: Sequence[Cut], options: Options) -> Dict[st
         "grid": str(product.grid),
         "side": options.side,
         "parts": [
-            {"name": cut.part.name, "pieces": len(cut.pieces), "over": cut.over, "under": cut.under} for cut in cuts
+            {
+                "name": cut.part.name,
+                "pieces": len(cut.pieces),
+                "over": upwards(cut.over),
+                "under": upwards(cut.under),
+            }
+            for cut in cuts
         ],
         "left out": [{"name": name, "why": why} for name, why in product.lost],
     }

@@ -22,6 +22,8 @@ UNITS = {"MILLI": "mm", "CENTI": "cm", "MICRO": "µm", "": "m"}
 TARGETS = {"mm": "MM", "cm": "CM", "µm": "UM", "m": "M", "inch": "INCH", "foot": "FT"}
 
 
+NAMELESS = "solid"
+MADE_UP = "Open CASCADE STEP translator"  # begins the names that OpenCASCADE gives to what has none
 STARTED: List[bool] = []  # gmsh 4.8 does not tell whether it was begun, and must be so once
 
 
@@ -87,30 +89,33 @@ def told_unit(path: str) -> str:
 
 
 def short_names(paths: List[str]) -> List[str]:
-    """Names of solids from gmsh's paths `Shapes/as1/ROD-ASSEMBLY/rod-assembly/NUT::1/nut`.
+    """Names of solids from gmsh's paths, as `Shapes/as1/ROD-ASSEMBLY/rod-assembly/NUT::1/nut`.
 
-    A path has, in turns, the name of a thing in its assembly and that of the thing itself. The places of an assembly
-    are kept; where all solids begin with the same words, these are left out; a name is never empty.
+    Behind the whole product come, in turns, the name of a thing in its assembly and that of the thing itself. Where all
+    solids begin with the same words, these are left out; a name is never empty.
     """
     rows = []
     for path in paths:
         words = [word.strip() for word in path.split("/")]
         words = words[1:] if words and words[0] == "Shapes" else words
-        words = [word for word in words if not word.startswith("Open CASCADE STEP translator")]
-        rows.append([word for word in places(words) if word] or ["solid"])
+        words = ["" if word.startswith(MADE_UP) else word for word in words]
+        found = paired(words[1:]) if len(words) % 2 == 1 and len(words) > 1 else words
+        rows.append([word for word in found if word] or [NAMELESS])
     while len(rows) > 1 and min(map(len, rows)) > 1 and len({row[0] for row in rows}) == 1:
         rows = [row[1:] for row in rows]
     return ["/".join("".join(letter for letter in word if ord(letter) >= 32) for word in row) for row in rows]
 
 
-def places(words: List[str]) -> List[str]:
-    """The words of a path without those that only repeat the one before, as `rod-assembly` behind `ROD-ASSEMBLY`."""
-    kept: List[str] = []
-    for word in words:
-        base = kept[-1].split("::")[0].lower() if kept else ""
-        if not kept or word.lower() != base:
-            kept.append(word)
-    return kept
+def paired(words: List[str]) -> List[str]:
+    """One name for each place in an assembly and the thing that stands there.
+
+    The place's tells more, as `NUT::1` of a `nut`, unless it is but a number that some program gave it.
+    """
+    found = []
+    for place, thing in zip(words[::2], words[1::2]):
+        counted = re.fullmatch(r"(NAUO|=>)?[\d:.\[\]]*", place)
+        found.append(thing if counted and thing else place)
+    return found
 
 
 class Reader:
