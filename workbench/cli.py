@@ -10,6 +10,7 @@ from typing import Dict, List, NoReturn, Sequence, Tuple
 import numpy
 
 from . import planner, summary
+from .convex import clear
 from .cut import cut
 from .overlaps import overlaps
 from .product import Asked, Product, read_product
@@ -122,7 +123,7 @@ def add_cutting(one: argparse.ArgumentParser) -> None:
         "--tolerance",
         type=length_of,
         metavar="T",
-        help="pieces are joined while they go beyond the solid by at most this; else a ten-thousandth of its extent",
+        help="pieces are joined while they go beyond the solid by at most this; else by no more than rounding does",
     )
     one.add_argument(
         "--clearance",
@@ -162,15 +163,12 @@ def cut_product(product: Product, options: Options) -> List[summary.Cut]:
             kept.append(part)
             found.append([answer for answer in some if isinstance(answer, Pieces)])
     product.parts = kept
-    if options.clearance:
-        found = cleared(product, found, options)
+    found = cleared(product, found, options)
     return [summary.cut_part(part, some) for part, some in zip(kept, found)]
 
 
 def cleared(product: Product, found: List[List[Pieces]], options: Options) -> List[List[Pieces]]:
-    """The pieces, after faces were moved inwards. Refusal: a part is named that is none."""
-    from .convex import clear
-
+    """The pieces, after they were joined and gave way to each other. Refusal: --clearance names a part that is none."""
     names = {part.name for part in product.parts}
     for name in options.clearance:
         if name and name not in names:
@@ -202,7 +200,7 @@ def told(folder: str, product: Product, cuts: Sequence[summary.Cut], options: Op
     """Prints the summary; 1 where parts overlap."""
     greatest = max(float(numpy.abs(piece.points).max()) for one in cuts for piece in one.plain)
     grid = float(product.grid)
-    lines = summary.round_lines(product, options) + summary.bound_lines(cuts)
+    lines = summary.way_lines(cuts) + summary.round_lines(product, options) + summary.bound_lines(cuts)
     found = overlaps([one.plain for one in cuts])
     overlapped = summary.overlap_lines(found, cuts, grid, greatest * grid)
     lines += overlapped or ["no two parts overlap"]

@@ -13,6 +13,7 @@ from .progress import Progress
 from .snapping import rounded
 from .solid import Mesh, Options, Piece, Pieces, Refusal, Solid
 
+FEW = 200  # faces that are cut faster than another process begins
 Answer = Union[Pieces, str]  # the pieces, or the line that says why there are none
 
 
@@ -32,10 +33,10 @@ def key_of(solid: Solid) -> Tuple[object, numpy.ndarray]:
     scale = float(solid.scale) if solid.whole is None else 1.0
     rows = numpy.rint((mesh.points * scale - place) * 1024).astype(numpy.int64)
     faces = tuple(tuple(face) for face in mesh.faces)
-    return (solid.whole is None, solid.name if solid.name else "", rows.tobytes(), faces)[2:], place
+    return (solid.whole is None, rows.tobytes(), faces), place
 
 
-def groups_of(solids: Sequence[Solid], options: Options) -> List[Alike]:
+def groups_of(solids: Sequence[Solid]) -> List[Alike]:
     found: Dict[object, Tuple[Alike, numpy.ndarray]] = {}
     for number, solid in enumerate(solids):
         key, place = key_of(solid)
@@ -63,19 +64,12 @@ def moved(pieces: Pieces, way: numpy.ndarray) -> Pieces:
     return replace(pieces, pieces=[Piece(piece.points + way, piece.faces) for piece in pieces.pieces])
 
 
-def for_solid(solid: Solid, options: Options) -> Options:
-    """The options, with the tolerance that this solid gets where none was asked for: a ten-thousandth of its extent."""
-    mesh = solid.exact or solid.whole
-    assert mesh is not None
-    extent = float(numpy.ptp(mesh.points, axis=0).max())
-    return replace(options, join=extent / 10000) if options.join < 0 else options
-
-
 def cut(solids: Sequence[Solid], options: Options, jobs: Optional[int] = None) -> List[Answer]:
     """The pieces of each solid, or a line that says why there are none."""
-    groups = groups_of(solids, options)
+    groups = groups_of(solids)
     answers: List[Answer] = [""] * len(solids)
-    jobs = min(jobs or os.cpu_count() or 1, len(groups))
+    faces = sum(len((solids[alike.first].exact or solids[alike.first].whole).faces) for alike in groups)  # type: ignore
+    jobs = min(jobs or os.cpu_count() or 1, len(groups), 1 + faces // FEW)
     with Progress("solids cut", len(groups)) as progress:
         for alike, answer in zip(groups, run(groups, solids, options, jobs, progress.step)):
             answers[alike.first] = answer
@@ -88,15 +82,15 @@ def run(
     groups: List[Alike], solids: Sequence[Solid], options: Options, jobs: int, told: Callable[[], None]
 ) -> List[Answer]:
     """The answers for the first solid of each group, in the order of the groups."""
-    work = [(solids[alike.first], for_solid(solids[alike.first], options)) for alike in groups]
+    work = [solids[alike.first] for alike in groups]
     found: List[Answer] = []
     if jobs < 2:
-        for solid, asked in work:
-            found.append(cut_one(solid, asked))
+        for solid in work:
+            found.append(cut_one(solid, options))
             told()
         return found
     with ProcessPoolExecutor(jobs) as pool:
-        waiting = [pool.submit(cut_one, solid, asked) for solid, asked in work]
+        waiting = [pool.submit(cut_one, solid, options) for solid in work]
         for one in waiting:
             found.append(one.result())
             told()

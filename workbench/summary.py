@@ -31,9 +31,9 @@ class Cut:
     def plain(self) -> List[Piece]:
         return [piece for _, piece in self.pieces]
 
-    def rounds(self) -> int:
-        """How many holes its solids have whose polygon makes pieces."""
-        return sum(1 for solid in self.part.solids for surface in solid.surfaces if surface.hole)
+    def has_holes(self) -> bool:
+        """Whether a solid of it has holes, each side of whose polygon makes a piece."""
+        return any(surface.hole for solid in self.part.solids for surface in solid.surfaces)
 
 
 def cut_part(part: Part, found: Sequence[Pieces]) -> Cut:
@@ -54,6 +54,19 @@ def part_lines(product: Product, cuts: Sequence[Cut]) -> List[str]:
             f"part {number} pieces {len(cut.pieces)} over {short(cut.over)} under {short(cut.under)} "
             f"name {cut.part.name}"
         )
+    return lines
+
+
+def way_lines(cuts: Sequence[Cut]) -> List[str]:
+    """How parts were cut: the ways, each with how many parts, and their names where they are few."""
+    ways: Dict[str, List[str]] = {}
+    for cut in cuts:
+        for note in {word for note in cut.notes for word in note.split(", ")}:
+            ways.setdefault(note, []).append(cut.part.name)
+    lines = []
+    for note in sorted(ways, key=lambda note: (-len(ways[note]), note)):
+        names = ways[note]
+        lines.append(f"{note}: " + (", ".join(names) if len(names) <= COSTLY else f"{len(names)} parts"))
     return lines
 
 
@@ -110,9 +123,8 @@ def costly_lines(cuts: Sequence[Cut], options: Options) -> List[str]:
     for cut in sorted(cuts, key=lambda cut: -len(cut.pieces))[:COSTLY]:
         many = len(cut.pieces)
         line = f"most pieces: {many} of {cut.part.name}"
-        saved = cut.rounds() * (sides - coarser)
-        if 0 < saved < many and options.chord is None and coarser < sides:
-            line += f", about {many - saved} with --sides={coarser}"
+        if cut.has_holes() and options.chord is None and coarser < sides:
+            line += f", about {math.ceil(many * coarser / sides)} with --sides={coarser}"
         lines.append(line)
     return lines
 

@@ -5,10 +5,12 @@ control points, so extents come from points of edges; cylinders may be splines, 
 """
 from __future__ import annotations
 
+import contextlib
 import os
 import re
+import sys
 from dataclasses import dataclass, field
-from typing import Any, Dict, List, Tuple
+from typing import Any, Dict, Iterator, List, Tuple
 
 import numpy
 
@@ -61,8 +63,9 @@ def read_step(path: str) -> Drawn:
     before = {tag for _, tag in gmsh.model.getEntities(3)}
     try:
         gmsh.option.setString("Geometry.OCCTargetUnit", TARGETS.get(told, "MM"))
-        gmsh.model.occ.importShapes(path)
-        gmsh.model.occ.synchronize()
+        with silent():
+            gmsh.model.occ.importShapes(path)
+            gmsh.model.occ.synchronize()
     except Exception as fault:  # gmsh raises exceptions of no type of its own
         cause = " ".join(str(fault).split())[:200]
         raise Refusal(f"{path}: OpenCASCADE cannot read it ({cause}); export it again, as STEP AP214") from fault
@@ -75,6 +78,20 @@ def read_step(path: str) -> Drawn:
     if not drawn.bodies:
         raise Refusal(f"{path}: no solids; surfaces alone bound nothing: sew them to solids and export again")
     return drawn
+
+
+@contextlib.contextmanager
+def silent() -> Iterator[None]:
+    """Keeps what OpenCASCADE says of its own accord from the terminal."""
+    sys.stdout.flush()
+    kept = os.dup(1)
+    with open(os.devnull, "w", encoding="utf-8") as nowhere:
+        os.dup2(nowhere.fileno(), 1)
+    try:
+        yield
+    finally:
+        os.dup2(kept, 1)
+        os.close(kept)
 
 
 def told_unit(path: str) -> str:

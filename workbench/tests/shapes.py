@@ -1,11 +1,8 @@
 """Solids that gmsh's OpenCASCADE makes, with the distance of a point from each as a formula; and how far pieces lie."""
 from __future__ import annotations
 
-import contextlib
-import os
 import re
-import sys
-from typing import Any, Callable, Iterator, List, Optional, Sequence, Tuple
+from typing import Any, Callable, List, Optional, Sequence, Tuple
 
 import numpy
 from scipy.spatial import ConvexHull
@@ -17,37 +14,24 @@ from workbench.solid import Mesh, Piece
 Distance = Callable[[numpy.ndarray], numpy.ndarray]  # points (n, 3) to distances from a solid (n,), 0 within
 
 
-@contextlib.contextmanager
-def silent() -> Iterator[None]:
-    """Keeps what OpenCASCADE says of its own accord from the terminal."""
-    sys.stdout.flush()
-    kept = os.dup(1)
-    with open(os.devnull, "w") as nowhere:
-        os.dup2(nowhere.fileno(), 1)
-    try:
-        yield
-    finally:
-        os.dup2(kept, 1)
-        os.close(kept)
-
-
 def write_step(path: str, make: Callable[[Any], None], names: Sequence[str] = (), unit: Optional[str] = None) -> str:
     """Writes what `make` builds by gmsh's `occ` as STEP, its solids with these names, in that unit."""
     gmsh = step.start()
     gmsh.clear()
     make(gmsh.model.occ)
     gmsh.model.occ.synchronize()
-    with silent():
+    with step.silent():
         gmsh.write(path)
     gmsh.clear()
     with open(path) as file:
         text = file.read()
     many = iter(names)
+    nameless = r"Open CASCADE STEP translator [\d.]+ \d+" + (r"\.\d+" if len(names) > 1 else "")
     found: dict[str, str] = {}
 
     def name(match: "re.Match[str]") -> str:
         key = match.group(1)
-        if key not in found and re.fullmatch(r"Open CASCADE STEP translator [\d.]+ \d+(\.\d+)?", key):
+        if key not in found and re.fullmatch(nameless, key):
             found[key] = next(many, key)
         return f"PRODUCT('{found.get(key, key)}','{found.get(key, key)}'"
 

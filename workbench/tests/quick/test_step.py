@@ -90,18 +90,18 @@ class Step(Case):
                 self.within_bounds(distances)
 
     def test_turned(self) -> None:
-        """A fit that stands askew: what rounding makes overlap is told, and a clearance mends it."""
+        """A fit that stands askew, so that no corner lies on the grid."""
 
         def make(occ: Any) -> None:
             pin_in_bore(occ)
             occ.rotate([(3, 1), (3, 2)], 0, 0, 0, 1, 2, 3, 0.7)
 
         path = shapes.write_step(self.path("askew.step"), make, ("block", "pin"))
-        status, out, err = self.run_tool(path)
-        self.assertEqual((status in (0, 1), err), (True, ""), out)
-        if status:
-            self.assertIn("try --clearance", out)
-        self.accepted(path, "--clearance=0.01")
+        self.accepted(path)
+        axis = numpy.array([1, 2, 3]) / math.sqrt(14)
+        skew = numpy.array([[0, -axis[2], axis[1]], [axis[2], 0, -axis[0]], [-axis[1], axis[0], 0]])
+        turn = numpy.eye(3) + math.sin(0.7) * skew + (1 - math.cos(0.7)) * skew @ skew
+        self.within_bounds({"block": lambda points: BLOCK(points @ turn), "pin": lambda points: PIN(points @ turn)})
 
     def test_slot(self) -> None:
         """A slot has corners of its own on its round ends."""
