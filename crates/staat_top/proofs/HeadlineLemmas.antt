@@ -19,20 +19,25 @@ use Rattle.staat_words.specs.declared.request.PlanRequest.{PlanRequest}
 use Rattle.staat_words.specs.declared.request.Request.{Request}
 use Rattle.staat_words.specs.declared.request.Request.TheVariants.{Check, Plan}
 use Rattle.staat_words.specs.Requests.{HasBounds, IsAsked, IsPlanRequest}
-use Rattle.staat_top.specs.declared.answer.Answer.{Answer}
-use Rattle.staat_top.specs.Work.{Files, Found}
-use Rattle.staat_top.specs.Assembling.{sound}
-use Rattle.staat_top.specs.Checking.{verdict_answer}
-use Rattle.staat_top.specs.Kept.{KeepsNamed}
-use Rattle.staat_top.specs.Planning.{IsWritten, certificate, outcome_answer, outcome_status, steps}
-use Rattle.staat_top.specs.Graphing.{few}
+use Rattle.staat_input.specs.declared.answer.Answer.{Answer}
+use Rattle.staat_input.specs.Work.{Files, Found}
+use Rattle.staat_input.specs.Assembling.{sound}
+use Rattle.staat_judging.specs.Checking.{verdict_answer}
+use Rattle.staat_input.specs.Kept.{KeepsNamed}
+use Rattle.staat_planning.specs.Planning.{IsWritten, certificate, outcome_answer, outcome_status, steps}
+use Rattle.staat_input.specs.Counting.{few}
 use Rattle.staat_text.specs.PlanTexts.{plan_text}
-use Rattle.staat_top.specs.Replies.{AreSoundParts, IsReply, MakesReply, Reply, SaysGoodPlan, SaysStuckSet, SaysValid, ShowsValid, WorkOn, WorkOnWords, answer, answered, valid_plan, valid_refusal}
+use Rattle.staat_input.specs.Assembling.{AreSoundParts}
+use Rattle.staat_top.specs.Replies.{IsReply, MakesReply, Reply, WorkOn, WorkOnWords, answered}
+use Rattle.staat_planning.specs.Planning.{SaysGoodPlan, SaysStuckSet}
+use Rattle.staat_judging.specs.Checking.{SaysValid, ShowsValid, valid_plan, valid_refusal}
+use Rattle.staat_input.specs.Work.{answer}
 use Rattle.staat_top.specs.Headline.{Headline, IsWithinLimits, KeepsRules, valid_line}
 use Rattle.staat_top.proofs.OneReply.{one_reply}
-use Rattle.staat_top.proofs.RightLemmas.{plan_shown, refusal_shown, status_is_right, status_is_denied}
+use Rattle.staat_judging.proofs.RightAnswers.{plan_shown, refusal_shown}
+use Rattle.staat_top.proofs.RightLemmas.{status_is_right, status_is_denied}
 use Rattle.staat_top.proofs.RunLemmas.{least_status}
-use Rattle.staat_top.proofs.SomeOutcome.{some_outcome}
+use Rattle.staat_planning.proofs.SomeOutcome.{some_outcome}
 use Rattle.staat_top.proofs.PrintedLemmas.{printed_is_valid}
 
 -- a reply with status 0 or 1 is that of an answer

@@ -9,10 +9,12 @@ use Rattle.staat_words.specs.declared.request.Request.TheVariants.{Check}
 use Rattle.staat_fault.specs.declared.fault.Fault.{Fault}
 use Rattle.staat_fault.specs.declared.fault.Fault.TheVariants.{Usage, ReadFault, TooLong, TooManyPlanes, TextTooLong, WriteFault, OutOfMemory}
 use Rattle.staat_fault.specs.Faults.{status_of, line_of}
-use Rattle.staat_top.specs.declared.answer.Answer.{Answer}
-use Rattle.staat_top.specs.Work.{Files}
+use Rattle.staat_input.specs.declared.answer.Answer.{Answer}
+use Rattle.staat_input.specs.Work.{Files}
 use Rattle.staat_top.specs.Replies.{Reply, IsReply, answered, refused}
-use Rattle.staat_top.specs.Runs.{ShelfSide, SinkSide, Took, TookPart, Untouched, IsUnread, IsCaused, HasRequestBounds, IsFound, IsExplained, IsSaid, SaysWhole, SaysPart, Gave, Ran}
+use Rattle.staat_input.specs.Causes.{ShelfSide, IsUnread}
+use Rattle.staat_top.specs.Runs.{SinkSide, Took, TookPart, Untouched, IsCaused, HasRequestBounds, IsFound}
+use Rattle.staat_top.specs.Runs.{IsExplained, IsSaid, SaysWhole, SaysPart, Gave, Ran}
 use Rattle.staat_top.proofs.OneReply.{no_reply, one_reply}
 use Rattle.staat_top.proofs.RightLemmas.{status_is_right, status_is_denied}
 

@@ -3,12 +3,13 @@ use Rattle.std.proofs.Common.{◌≡◌, Option, Some, None, Ok, Err, refl, sym,
 use Rattle.std.specs.Prelude.{Result, IfOk, IfErr}
 use Rattle.staat_words.specs.declared.request.Request.{Request}
 use Rattle.staat_words.specs.Requests.{HasBounds}
-use Rattle.staat_top.specs.declared.answer.Answer.{Answer}
+use Rattle.staat_input.specs.declared.answer.Answer.{Answer}
 use Rattle.staat_fault.specs.declared.fault.Fault.{Fault}
 use Rattle.staat_fault.specs.declared.fault.Fault.TheVariants.{Usage}
-use Rattle.staat_top.specs.Work.{Files, Follows}
+use Rattle.staat_input.specs.Work.{Files, Follows}
 use Rattle.staat_top.specs.Replies.{WorkOn}
-use Rattle.staat_top.specs.Runs.{ShelfSide, HasRequestBounds, HasRequestCause, IsFound, IsExplained}
+use Rattle.staat_input.specs.Causes.{ShelfSide}
+use Rattle.staat_top.specs.Runs.{HasRequestBounds, HasRequestCause, IsFound, IsExplained}
 
 -- what the work on the request finds, over the files that the shelf holds
 abbrev pub Works : Request → ShelfSide → Result Answer Fault → Type 0

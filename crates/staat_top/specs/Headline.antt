@@ -18,11 +18,14 @@ use Rattle.staat_words.specs.declared.request.CheckRequest.{CheckRequest}
 use Rattle.staat_words.specs.declared.request.PlanRequest.{PlanRequest}
 use Rattle.staat_words.specs.declared.request.Request.TheVariants.{Check, Plan}
 use Rattle.staat_words.specs.Requests.{IsAsked, IsPlanRequest}
-use Rattle.staat_top.specs.Work.{Files}
-use Rattle.staat_top.specs.Checking.{IsCertificateIn}
-use Rattle.staat_top.specs.Graphing.{all_parts}
-use Rattle.staat_top.specs.Kept.{KeepsNamed}
-use Rattle.staat_top.specs.Replies.{AreSoundParts, IsReply, Reply, SaysGoodPlan, SaysStuckSet, answer, answered}
+use Rattle.staat_input.specs.Work.{Files}
+use Rattle.staat_judging.specs.Checking.{IsCertificateIn}
+use Rattle.staat_input.specs.Counting.{all_parts}
+use Rattle.staat_input.specs.Kept.{KeepsNamed}
+use Rattle.staat_input.specs.Assembling.{AreSoundParts}
+use Rattle.staat_top.specs.Replies.{IsReply, Reply, answered}
+use Rattle.staat_planning.specs.Planning.{SaysGoodPlan, SaysStuckSet}
+use Rattle.staat_input.specs.Work.{answer}
 
 -- the files hold sound parts, and the text of a certificate that is a valid plan or a valid refusal for them
 pub record KeepsRules (files : Files) (request : CheckRequest) : Type 0 where

@@ -1,37 +1,19 @@
 -- What a call of the program does to the outside.
-use Rattle.std.specs.Prelude.{◌≡◌, ◌≢◌, ◌⊎◌, ◌<◌, ◌≤◌, ℕ, List}
-use Rattle.std.specs.Prelude.{Option, Some, None, Ok, Err, IsSomeAnd, Contains, ⊤}
+use Rattle.std.specs.Prelude.{◌≡◌, ◌≢◌, ◌⊎◌, ◌<◌, ◌≤◌, ℕ, List, Option, Some, None, Ok, Err, ⊤}
 use Rattle.staat_edge.specs.Causes.{Rose}
-use Rattle.staat_edge.specs.Files.{Lacks, told_name, held_name}
 use Rattle.staat_edge.specs.Sinks.{GrewBy, GrewByPart}
-use Rattle.staat_edge.specs.Told.{ShelfTold, SinkTold}
-use Rattle.staat_limits.specs.declared.limits.TheConstants.{TEXT_LIMIT}
-use Rattle.staat_words.specs.declared.request.Asked.{Asked}
-use Rattle.staat_words.specs.declared.request.CheckRequest.{CheckRequest}
-use Rattle.staat_words.specs.declared.request.Input.{Input}
-use Rattle.staat_words.specs.declared.request.Input.TheVariants as inputs
+use Rattle.staat_edge.specs.Told.{SinkTold}
 use Rattle.staat_words.specs.declared.request.Request.{Request}
 use Rattle.staat_words.specs.declared.request.Request.TheVariants.{Check}
 use Rattle.staat_words.specs.Requests.{HasBounds}
 use Rattle.staat_fault.specs.declared.fault.Fault.{Fault}
-use Rattle.staat_fault.specs.declared.fault.Fault.TheVariants.{Usage, ReadFault, TooLong, WriteFault, OutOfMemory}
-use Rattle.staat_limits.specs.declared.limits.TheConstants.{FILE_LIMIT}
+use Rattle.staat_fault.specs.declared.fault.Fault.TheVariants.{Usage, WriteFault, OutOfMemory}
 use Rattle.staat_fault.specs.Faults.{status_of, line_of}
-use Rattle.staat_top.specs.declared.answer.Answer.{Answer}
-use Rattle.staat_top.specs.Work.{Files, Found, Follows}
-use Rattle.staat_top.specs.Assembling.{IsSoundOf}
+use Rattle.staat_input.specs.declared.answer.Answer.{Answer}
+use Rattle.staat_input.specs.Work.{Files, Found, Follows}
 use Rattle.staat_top.specs.Replies.{Reply, WorkOnWords, IsReply, IsRight, IsDenied}
-
--- What a shelf or a sink tells before a call and after it.
-pub record Over (T : Type 0) : Type 0 where
-  pub old : T
-  pub new : T
-
-abbrev pub over : {T : Type 0} → T → T → Over T
-over old new = record { old = old; new = new }
-
-abbrev pub ShelfSide : Type 0
-ShelfSide = Over ShelfTold
+use Rattle.staat_input.specs.Causes.{Over, ShelfSide, HasCause}
+use Rattle.staat_judging.specs.Causes.{HasCheckCause}
 
 abbrev pub SinkSide : Type 0
 SinkSide = Over SinkTold
@@ -53,54 +35,7 @@ pub record TookPart (side : SinkSide) (text : List ℕ) : Type 0 where
 abbrev pub Untouched : SinkSide → Type 0
 Untouched side = side.new.wrote ≡ side.old.wrote
 
--- the shelf lacks the file, or it failed, and at that file if it holds it
-abbrev pub IsUnread : ShelfSide → List ℕ → Type 0
-IsUnread shelf name = Lacks shelf.old.holds name ⊎
-    (Rose shelf.old.faults shelf.new.faults ×
-    (held_name shelf.old.holds name ≡ Some name → shelf.new.failed ≡ Some name))
-
--- more bytes than that were taken of the file, which is still open
-pub record IsPastLimit (limit : ℕ) (shelf : ShelfSide) (name : List ℕ) : Type 0 where
-  pub place : IsSomeAnd shelf.new.place (λ at. limit < at)
-  pub opened : shelf.new.opened ≡ told_name shelf.old.holds name
-
--- What shows why a fault came of files of points and part lists, whatever the shelf tells. Of a refusal of what a file
--- holds the reply alone says more; want of memory may come anywhere.
-abbrev pub HasCause : ShelfSide → Fault → Type 0
-HasCause shelf Usage = ⊥
-HasCause shelf (ReadFault name) = IsUnread shelf name
-HasCause shelf (TooLong name) = IsPastLimit FILE_LIMIT shelf name
-HasCause shelf WriteFault = ⊥
-HasCause shelf fault = ⊤
-
--- the same of the certificate's file, which has a limit of its own
-abbrev pub HasCertificateCause : List ℕ → ShelfSide → Fault → Type 0
-HasCertificateCause certificate shelf (TooLong name) = (name ≡ certificate) × IsPastLimit TEXT_LIMIT shelf name
-HasCertificateCause certificate shelf fault = HasCause shelf fault
-
--- where the fault is that a file is too long, this holds of its name
-abbrev pub IfTooLong : (List ℕ → Type 0) → Fault → Type 0
-IfTooLong P (TooLong name) = P name
-IfTooLong P fault = ⊤
-
--- the input may name the file: without a part list it is one of the files; a part list may name any
-abbrev pub MayName : Input → List ℕ → Type 0
-MayName (inputs.Manifest list) name = ⊤
-MayName (inputs.Files names) name = Contains names name
-
--- a file that the input may name is past the limit; and where the shelf tells its files, the input is refused for it
-pub record IsLongInput (asked : Asked) (shelf : ShelfSide) (name : List ℕ) : Type 0 where
-  pub past : IsPastLimit FILE_LIMIT shelf name
-  pub named : MayName asked.input name
-  pub refused : (files : Files) → shelf.old.holds ≡ Some files → IsSoundOf files asked (Err (TooLong name))
-
--- The same of the files of `check`. The certificate's name may be one of the input too: what is too long is the file
--- of the input by the one limit, or that of the certificate by the other.
-abbrev pub HasCheckCause : CheckRequest → ShelfSide → Fault → Type 0
-HasCheckCause request shelf (TooLong name) =
-    IsLongInput request.asked shelf name ⊎ ((name ≡ request.certificate) × IsPastLimit TEXT_LIMIT shelf name)
-HasCheckCause request shelf fault = HasCause shelf fault
-
+-- what shows why a fault of the work on a request came
 abbrev pub HasRequestCause : Request → ShelfSide → Fault → Type 0
 HasRequestCause (Check request) shelf fault = HasCheckCause request shelf fault
 HasRequestCause request shelf fault = HasCause shelf fault

@@ -3,7 +3,7 @@ ghost use Rattle.std.specs.Prelude.{◌≡◌, List, ℕ, Option, Err, None};
 ghost use Rattle.staat_edge.specs.Files.{bytes_of};
 ghost use Rattle.staat_fault.specs.declared.fault.Fault.TheVariants.{ReadFault};
 ghost use Rattle.staat_words.specs.declared.request.Request.{Request as RequestValue};
-ghost use Rattle.staat_top.specs.Work.{Files};
+ghost use Rattle.staat_input.specs.Work.{Files};
 ghost use Rattle.staat_top.specs.Headline.{Headline};
 ghost use Rattle.staat_top.specs.Replies.{IsReply, Reply, WorkOnWords};
 

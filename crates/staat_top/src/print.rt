@@ -2,11 +2,12 @@
 ghost use Rattle.std.specs.Prelude.{◌≡◌, ◌≢◌, ◌⊎◌, ◌<◌, ◌≤◌};
 ghost use Rattle.staat_fault.specs.declared.fault.Fault.TheVariants as faults;
 ghost use Rattle.staat_fault.specs.Faults.{line_of};
-ghost use Rattle.staat_top.specs.Runs.{SaysPart, SaysWhole, Took, TookPart, over};
+ghost use Rattle.staat_top.specs.Runs.{SaysPart, SaysWhole, Took, TookPart};
+ghost use Rattle.staat_input.specs.Causes.{over};
 
-use crate::answer::Answer;
 use staat_edge::{Sink, write_whole};
 use staat_fault::{Fault, MEMORY_LINE, USAGE_LINE, WRITE_LINE, fault_line, status_of};
+use staat_input::Answer;
 use std::alloc::Global;
 
 // Writes a line, and gives the status with it, or the one of a write fault.

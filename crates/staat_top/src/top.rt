@@ -3,24 +3,25 @@ ghost use Rattle.std.specs.Prelude.{◌≡◌, ◌≢◌, ◌⊎◌, ◌<◌, �
 ghost use Rattle.std.specs.Prelude.{IfOk, IfErr, IsErrAnd, map, string_bytes};
 ghost use Rattle.staat_words.specs.Requests.{HasBounds, request};
 ghost use Rattle.staat_fault.specs.declared.fault.Fault.TheVariants as faults;
-ghost use Rattle.staat_top.specs.Work.{Files, Follows};
+ghost use Rattle.staat_input.specs.Work.{Files, Follows};
 ghost use Rattle.staat_top.specs.Replies.{WorkOn};
-ghost use Rattle.staat_top.specs.Runs.{HasRequestBounds, HasRequestCause, IsExplained, IsFound, Ran, over};
+ghost use Rattle.staat_top.specs.Runs.{HasRequestBounds, HasRequestCause, IsExplained, IsFound, Ran};
+ghost use Rattle.staat_input.specs.Causes.{over};
 
-use crate::answer::Answer;
-use crate::cells::cells;
-use crate::check::check;
-use crate::drill::drill;
-use crate::explode::explode;
-use crate::graph::graph;
-use crate::linear::linear;
-use crate::local::local;
-use crate::look::look;
-use crate::pair::pair;
-use crate::plan::plan;
 use crate::print::{print, refuse};
+use staat_directions::cells::cells;
+use staat_directions::graph::graph;
+use staat_directions::look::look;
+use staat_directions::pair::pair;
 use staat_edge::{Shelf, Sink};
 use staat_fault::Fault;
+use staat_input::Answer;
+use staat_judging::check::check;
+use staat_orders::linear::linear;
+use staat_orders::local::local;
+use staat_planning::drill::drill;
+use staat_planning::explode::explode;
+use staat_planning::plan::plan;
 use staat_words::{Request, RequestRefusal, request_of};
 use std::alloc::Global;
 

@@ -1,8 +1,9 @@
 use Rattle.std.proofs.Common.{subst, sym}
 use Rattle.std.specs.Prelude.{IfErr}
 use Rattle.staat_top.specs.Replies.{WorkOn}
-use Rattle.staat_top.specs.Runs.{HasRequestCause, over}
-use Rattle.staat_top.specs.Work.{Follows}
+use Rattle.staat_top.specs.Runs.{HasRequestCause}
+use Rattle.staat_input.specs.Causes.{over}
+use Rattle.staat_input.specs.Work.{Follows}
 use Rattle.staat_top.proofs.top.work.Goals as goal
 
 pub returns-in-Drill-clause-found : goal.returns-in-Drill-clause-found

@@ -1,0 +1,4 @@
+pub mod CellsLemmas
+pub mod OneAnswer
+pub mod PairLemmas
+pub mod RightAnswers

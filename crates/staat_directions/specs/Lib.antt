@@ -1,0 +1,4 @@
+pub mod CellTables
+pub mod Graphing
+pub mod Looking
+pub mod Pairs

@@ -1,0 +1,58 @@
+// The command `graph`: who blocks whom along a direction.
+ghost use Rattle.std.specs.Prelude.{◌≡◌, ◌≤◌, ◌<◌, Some, IfOk, IfErr};
+ghost use Rattle.staat_vec.specs.Vectors.{IsWithin};
+ghost use Rattle.staat_words.specs.Requests.{IsGraphRequest};
+ghost use Rattle.staat_pairs.specs.Tables.{WasMadeFrom};
+ghost use Rattle.staat_input.specs.Work.{Files, Follows};
+ghost use Rattle.staat_directions.specs.Graphing.{IsGraphed, GraphWork};
+ghost use Rattle.staat_input.specs.Counting.{all_parts};
+ghost use Rattle.staat_input.specs.Causes.{HasCause, over};
+
+use staat_edge::Shelf;
+use staat_fault::Fault;
+use staat_input::{Answer, read_sound, table_of};
+use staat_limits::MOST_PLANES;
+use staat_model::Sound;
+use staat_planes::PlaneTable;
+use staat_text::graph_text;
+use staat_vec::{DIRECTION, OutOfMemory, V3};
+use staat_words::GraphRequest;
+use std::alloc::Global;
+
+// The text of the blocking graph along a direction.
+fn graphed(
+    alloc: Global,
+    sound: &Sound,
+    table: &PlaneTable,
+    along: V3,
+) -> Result<Answer, OutOfMemory>
+    requires along { IsWithin DIRECTION along }
+    requires made { WasMadeFrom sound.now table.now }
+    requires all { table.now.of ≡ all_parts sound.now }
+    ensures status { IfOk result (λ a. a.status < 2) }
+    ensures graphed { IfOk result (λ a. IsGraphed sound.now along (Ok a)) }
+{
+    let parts = sound.assembly().parts();
+    let text = graph_text(alloc, parts, along, &table.graph_at(along))?;
+    Ok(Answer { status: 0, text })
+}
+
+/// The answer to the command `graph`: the arcs of the blocking graph along a direction, and its strong groups.
+pub fn graph<H: Shelf>(
+    alloc: Global,
+    request: &GraphRequest,
+    shelf: &mut H,
+) -> Result<Answer, Fault>
+    requires { IsGraphRequest request.now }
+    ensures holds { (H.told shelf.new).holds ≡ (H.told shelf.old).holds }
+    ensures count { (H.told shelf.old).faults ≤ (H.told shelf.new).faults }
+    ensures status { IfOk result (λ a. a.status < 2) }
+    ensures found { (files : Files) → (H.told shelf.old).holds ≡ Some files →
+        Follows (GraphWork request.now files) result }
+    ensures cause { IfErr result (HasCause (over (H.told shelf.old) (H.told shelf.new))) }
+{
+    let sound = read_sound(alloc, shelf, &request.asked)?;
+    let table = table_of(alloc, &sound, MOST_PLANES)?;
+    let answer = graphed(alloc, &sound, &table, request.along)?;
+    Ok(answer)
+}

@@ -1,0 +1,11 @@
+pub mod CauseLemmas
+pub mod CountingLemmas
+pub mod InputLemmas
+pub mod KeptLemmas
+pub mod MovedLemmas
+pub mod OneFinding
+pub mod OneInput
+pub mod ReadLemmas
+pub mod SketchLemmas
+pub mod SoundLemmas
+pub mod SoundParts

@@ -1,0 +1,100 @@
+-- What the step finds that reads the piece of a file.
+use Rattle.std.proofs.Common.{◌≡◌, ℕ, ◌<◌, ◌≤◌, List, length, Option, Some, None, Ok, Err, refl, sym, ap, subst}
+use Rattle.std.specs.Prelude.{Result, IsSomeAnd}
+use Rattle.staat_vec.specs.declared.vector.V3.{V3}
+use Rattle.staat_edge.specs.Files.{bytes_of, IsWhole, IsLonger}
+use Rattle.staat_fault.specs.declared.fault.Fault.{Fault}
+use Rattle.staat_fault.specs.declared.fault.Fault.TheVariants as fault
+use Rattle.staat_off.specs.declared.raw.Raw.{Raw}
+use Rattle.staat_off.specs.declared.refusal.OffRefusal.{OffRefusal}
+use Rattle.staat_off.specs.declared.refusal.OffRefusal.TheVariants as off
+use Rattle.staat_off.specs.Reading.{reading}
+use Rattle.staat_off.specs.Answers.{Answers as Reads}
+use Rattle.staat_mesh.specs.declared.refusal.MeshRefusal.{MeshRefusal}
+use Rattle.staat_mesh.specs.declared.refusal.MeshRefusal.TheVariants as mesh_refusal
+use Rattle.staat_mesh.specs.Polygons.{mesh}
+use Rattle.staat_mesh.specs.Judging.{AnswersMesh}
+use Rattle.staat_manifest.specs.declared.refusal.ManifestRefusal.{ManifestRefusal}
+use Rattle.staat_manifest.specs.declared.refusal.ManifestRefusal.TheVariants as manifest
+use Rattle.staat_manifest.specs.Answers.{AnswersList}
+use Rattle.staat_manifest.specs.declared.listing.ListedPart.{ListedPart}
+use Rattle.staat_manifest.specs.Rules.{part_list}
+use Rattle.staat_limits.specs.declared.limits.TheConstants.{FILE_LIMIT}
+use Rattle.staat_input.specs.Work.{Files, Found, Follows, IsNotTaken, IsNotTakenWithin, IsTaken, IsTakenWithin}
+use Rattle.staat_input.specs.Work.{to_read, too_long, taken}
+use Rattle.staat_input.specs.Refusals.{off_fault, mesh_fault, manifest_fault}
+use Rattle.staat_input.specs.Pieces.{SaysPiece, no_file, no_piece, piece}
+use Rattle.staat_input.specs.Inputs.{SaysListing, no_listing, listing}
+
+-- the file has more bytes than the limit
+found_long : {X : Type 0} (limit : ℕ) (Says : List ℕ → Found X → Type 0) (holds : Option Files) (files : Files) (name : List ℕ) → holds ≡ Some files → IsLonger holds name limit → IsTakenWithin limit files name Says (Err (fault.TooLong name))
+found_long {X} limit Says holds files name told long = go (bytes_of name files) refl (subst (λ h. IsLonger h name limit) told long)
+  where
+    go : (o : Option (List ℕ)) → bytes_of name files ≡ o → IsSomeAnd o (λ bytes. limit < length bytes) → IsTakenWithin limit files name Says (Err (fault.TooLong name))
+    go None e longer = absurd longer
+    go (Some bytes) e longer = too_long bytes e longer refl
+
+-- the file's bytes were read
+pub found_within : {X : Type 0} (limit : ℕ) (Says : List ℕ → Found X → Type 0) (holds : Option Files) (files : Files) (name bytes : List ℕ) (r : Result X Fault) → holds ≡ Some files → IsWhole holds name bytes → length bytes ≤ limit → Follows (Says bytes) r → Follows (IsTakenWithin limit files name Says) r
+found_within limit Says holds files name bytes (Ok x) told whole short says = taken bytes (subst (λ h. IsWhole h name bytes) told whole) short says
+found_within limit Says holds files name bytes (Err fault.OutOfMemory) told whole short says = tt
+found_within limit Says holds files name bytes (Err f) told whole short says = taken bytes (subst (λ h. IsWhole h name bytes) told whole) short says
+
+pub found_taken : {X : Type 0} (Says : List ℕ → Found X → Type 0) (holds : Option Files) (files : Files) (name bytes : List ℕ) (r : Result X Fault) → holds ≡ Some files → IsWhole holds name bytes → length bytes ≤ FILE_LIMIT → Follows (Says bytes) r → Follows (IsTaken files name Says) r
+found_taken Says holds files name bytes r told whole short says = found_within FILE_LIMIT Says holds files name bytes r told whole short says
+
+-- the file's bytes were not taken
+pub not_taken_within : {X : Type 0} (limit : ℕ) (Says : List ℕ → Found X → Type 0) (holds : Option Files) (files : Files) (name : List ℕ) (f : Fault) → holds ≡ Some files → IsNotTakenWithin limit holds name f → Follows (IsTakenWithin limit files name Says) (Err f)
+not_taken_within limit Says holds files name (fault.ReadFault at) told e = to_read (ap (λ n. Err (fault.ReadFault n)) e)
+not_taken_within limit Says holds files name (fault.TooLong at) told (e, long) = subst (λ n. IsTakenWithin limit files name Says (Err (fault.TooLong n))) (sym e) (found_long limit Says holds files name told long)
+not_taken_within limit Says holds files name fault.OutOfMemory told e = tt
+not_taken_within limit Says holds files name f told e = absurd e
+
+pub not_taken : {X : Type 0} (Says : List ℕ → Found X → Type 0) (holds : Option Files) (files : Files) (name : List ℕ) (f : Fault) → holds ≡ Some files → IsNotTaken holds name f → Follows (IsTaken files name Says) (Err f)
+not_taken Says holds files name f told e = not_taken_within FILE_LIMIT Says holds files name f told e
+
+-- the file is no OFF file
+pub says_no_file : (digits : ℕ) (name bytes : List ℕ) (refusal : OffRefusal) → Reads {X = Raw} (Err refusal) (reading digits bytes) → Follows (SaysPiece digits name bytes) (Err (off_fault name refusal))
+says_no_file digits name bytes off.NoHeader e = no_file off.NoHeader e refl
+says_no_file digits name bytes (off.BadNumber at) e = no_file (off.BadNumber at) e refl
+says_no_file digits name bytes (off.NotWhole at) e = no_file (off.NotWhole at) e refl
+says_no_file digits name bytes (off.TooBig at) e = no_file (off.TooBig at) e refl
+says_no_file digits name bytes (off.BadCount at) e = no_file (off.BadCount at) e refl
+says_no_file digits name bytes (off.BadIndex at) e = no_file (off.BadIndex at) e refl
+says_no_file digits name bytes off.ShortFile e = no_file off.ShortFile e refl
+says_no_file digits name bytes (off.Trailing at) e = no_file (off.Trailing at) e refl
+says_no_file digits name bytes off.OutOfMemory e = tt
+
+-- its mesh is no piece
+pub says_no_piece : (digits : ℕ) (name bytes : List ℕ) (raw : Raw) (refusal : MeshRefusal) → reading digits bytes ≡ Ok raw → AnswersMesh (mesh raw) (Err refusal) → Follows (SaysPiece digits name bytes) (Err (mesh_fault name refusal))
+says_no_piece digits name bytes raw (mesh_refusal.TooFewPoints n) e j = no_piece raw (mesh_refusal.TooFewPoints n) e j refl
+says_no_piece digits name bytes raw (mesh_refusal.TooManyPoints n) e j = no_piece raw (mesh_refusal.TooManyPoints n) e j refl
+says_no_piece digits name bytes raw mesh_refusal.Flat e j = no_piece raw mesh_refusal.Flat e j refl
+says_no_piece digits name bytes raw (mesh_refusal.BadFace f) e j = no_piece raw (mesh_refusal.BadFace f) e j refl
+says_no_piece digits name bytes raw (mesh_refusal.NotConvex f) e j = no_piece raw (mesh_refusal.NotConvex f) e j refl
+says_no_piece digits name bytes raw (mesh_refusal.OpenEdge f k) e j = no_piece raw (mesh_refusal.OpenEdge f k) e j refl
+says_no_piece digits name bytes raw mesh_refusal.OutOfMemory e j = tt
+
+-- it is a piece
+pub says_piece : (digits : ℕ) (name bytes : List ℕ) (raw : Raw) (points : List V3) → reading digits bytes ≡ Ok raw → AnswersMesh (mesh raw) (Ok points) → SaysPiece digits name bytes (Ok points)
+says_piece digits name bytes raw points e j = piece raw points e j refl
+
+-- the file is no part list
+pub says_no_listing : (name bytes : List ℕ) (refusal : ManifestRefusal) → AnswersList {X = List ListedPart} (part_list bytes) (Err refusal) → Follows (SaysListing name bytes) (Err (manifest_fault name refusal))
+says_no_listing name bytes manifest.NotJson e = no_listing manifest.NotJson e refl
+says_no_listing name bytes (manifest.BadShape path) e = no_listing (manifest.BadShape path) e refl
+says_no_listing name bytes (manifest.RepeatedName part) e = no_listing (manifest.RepeatedName part) e refl
+says_no_listing name bytes (manifest.NoPieces part) e = no_listing (manifest.NoPieces part) e refl
+says_no_listing name bytes manifest.TooManyParts e = no_listing manifest.TooManyParts e refl
+says_no_listing name bytes manifest.TooManyPieces e = no_listing manifest.TooManyPieces e refl
+says_no_listing name bytes manifest.OutOfMemory e = tt
+
+-- it is one
+pub says_listing : (name bytes : List ℕ) (parts : List ListedPart) → part_list bytes ≡ Ok parts → SaysListing name bytes (Ok parts)
+says_listing name bytes parts e = listing parts e refl
+
+pub ruleset listing_says = (says_no_listing, says_listing)
+
+pub ruleset saying = (says_no_file, says_no_piece, says_piece)
+
+pub ruleset taking = (found_taken, not_taken)

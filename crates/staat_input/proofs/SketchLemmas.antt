@@ -1,0 +1,80 @@
+-- How sketches grow.
+use Rattle.std.proofs.Common.{◌≡◌, ◌∙◌, ℕ, zero, suc, ◌+◌, ◌<◌, ◌≤◌, ◌++◌, true, false, List, [], ◌∷◌, map, take, get_or, length, All, refl, ap, sym, subst, arith, append_assoc, append-nil}
+use Rattle.std.specs.Prelude.{sum_by}
+use Rattle.std.proofs.lemmas.List.{length_push, map_more, take_more}
+use Rattle.std.proofs.lemmas.List.Sums.{sum_by_push}
+use Rattle.std.proofs.lemmas.List.Elements.{All-append, All-cons, All-nil}
+use Rattle.staat_off.specs.Raws.{IsCounted}
+use Rattle.staat_manifest.specs.declared.listing.ListedPart.{ListedPart}
+use Rattle.staat_explode.specs.declared.scene.Solid.{Solid}
+use Rattle.staat_explode.specs.Sizes.{IsSolidIn}
+use Rattle.staat_input.specs.declared.sketch.Sketch.{Sketch}
+use Rattle.staat_input.specs.Work.{Files}
+use Rattle.staat_input.specs.Drawing.{AreSmall, Drew, solids_from, solids_of_part}
+
+-- a sketch that keeps nothing may be said to have grown by anything
+pub drew_nothing : (sketch : Sketch) (more : List Solid) → sketch.keep ≡ false → Drew sketch sketch more
+drew_nothing sketch more off = record { keep = refl; solids = λ on. absurd (unlike (sym off ∙ on)) }
+  where
+    unlike : false ≡ true → ⊥
+    unlike e = cc
+
+pub drew_start : (sketch : Sketch) → Drew sketch sketch []
+drew_start sketch = record { keep = refl; solids = λ on. sym (append-nil sketch.solids.items) }
+
+pub drew_then : (a b c : Sketch) (xs ys : List Solid) → Drew a b xs → Drew b c ys → Drew a c (xs ++ ys)
+drew_then a b c xs ys first second = record {
+  keep = second.keep ∙ first.keep;
+  solids = λ on. second.solids (first.keep ∙ on) ∙ ap (λ (zs : List Solid). zs ++ ys) (first.solids on) ∙ append_assoc a.solids.items xs ys;
+}
+
+pub small_more : (parts most more : ℕ) (solids : List Solid) → most ≤ more → AreSmall parts most solids → AreSmall parts more solids
+small_more parts most more solids le h = record { placed = h.placed; counted = h.counted; few = omega (arith, le, h.few) }
+
+pub small_one : (parts most : ℕ) (solids : List Solid) (s : Solid) → IsSolidIn parts s → IsCounted s.raw → AreSmall parts most solids → AreSmall parts (most + 1) (solids ++ s ∷ [])
+small_one parts most solids s placed counted h = record {
+  placed = All-append (IsSolidIn parts) solids (s ∷ []) h.placed (All-cons (IsSolidIn parts) s [] placed (All-nil (IsSolidIn parts)));
+  counted = All-append (λ (t : Solid). IsCounted t.raw) solids (s ∷ []) h.counted (All-cons (λ (t : Solid). IsCounted t.raw) s [] counted (All-nil (λ (t : Solid). IsCounted t.raw)));
+  few = (let n = length_push solids s in omega (arith, n, h.few));
+}
+
+pub small_none : (parts : ℕ) → AreSmall parts 0 []
+small_none parts = record { placed = All-nil (IsSolidIn parts); counted = All-nil (λ (t : Solid). IsCounted t.raw); few = omega arith }
+
+-- the solids of one part more
+pub solids_more : (files : Files) (digits part : ℕ) (named : List ListedPart) (i : ℕ) (d : ListedPart) → i < length named → solids_from files digits part (take (i + 1) named) ≡ solids_from files digits part (take i named) ++ solids_of_part files digits (part + i) (get_or named i d)
+solids_more files digits part [] i d lt = absurd (omega (arith, lt))
+solids_more files digits part (n ∷ named) zero d lt =
+    let number : part ≡ part + 0 = omega arith in
+    append-nil (solids_of_part files digits part n) ∙ ap (λ k. solids_of_part files digits k n) number
+solids_more files digits part (n ∷ named) (suc i) d lt =
+    let rest = solids_more files digits (part + 1) named i d (omega (arith, lt)) in
+    let number : part + 1 + i ≡ part + suc i = omega arith in
+    let next = rest ∙ ap (λ k. solids_from files digits (part + 1) (take i named) ++ solids_of_part files digits k (get_or named i d)) number in
+    let turned : suc i + 1 ≡ suc (i + 1) = omega arith in
+    ap (λ k. solids_from files digits part (take k (n ∷ named))) turned
+    ∙ ap (λ (zs : List Solid). solids_of_part files digits part n ++ zs) next
+    ∙ sym (append_assoc (solids_of_part files digits part n) (solids_from files digits (part + 1) (take i named)) (solids_of_part files digits (part + suc i) (get_or named i d)))
+
+-- ---- loops
+
+-- the solid of one file more
+pub pieces_more : (f : List ℕ → Solid) (names : List (List ℕ)) (i : ℕ) (name : List ℕ) (a b c : Sketch) → i < length names → name ≡ get_or names i name → Drew a b (map f (take i names)) → Drew b c (f name ∷ []) → Drew a c (map f (take (i + 1) names))
+pieces_more f names i name a b c lt at first second =
+    subst (Drew a c) (sym (map_more f names i name lt))
+    (drew_then a b c (map f (take i names)) (f (get_or names i name) ∷ []) first (subst (λ (n : List ℕ). Drew b c (f n ∷ [])) at second))
+
+pub parts_more : (files : Files) (digits : ℕ) (named : List ListedPart) (i : ℕ) (n : ListedPart) (a b c : Sketch) → i < length named → n ≡ get_or named i n → Drew a b (solids_from files digits 0 (take i named)) → Drew b c (solids_of_part files digits i n) → Drew a c (solids_from files digits 0 (take (i + 1) named))
+parts_more files digits named i n a b c lt at first second =
+    let number : 0 + i ≡ i = omega arith in
+    let more = solids_more files digits 0 named i n lt ∙ ap (λ k. solids_from files digits 0 (take i named) ++ solids_of_part files digits k (get_or named i n)) number in
+    subst (Drew a c) (sym more)
+    (drew_then a b c (solids_from files digits 0 (take i named)) (solids_of_part files digits i (get_or named i n)) first (subst (λ (m : ListedPart). Drew b c (solids_of_part files digits i m)) at second))
+
+abbrev piece_count : List ListedPart → ℕ
+piece_count named = sum_by (λ (n : ListedPart). length n.pieces) named
+
+pub pieces_counted : (named : List ListedPart) (i : ℕ) (n : ListedPart) → i < length named → n ≡ get_or named i n → piece_count (take (i + 1) named) ≡ piece_count (take i named) + length n.pieces
+pieces_counted named i n lt at =
+    ap piece_count (take_more named i n lt) ∙ sum_by_push (λ (n : ListedPart). length n.pieces) (take i named) (get_or named i n)
+    ∙ ap (λ (m : ListedPart). piece_count (take i named) + length m.pieces) (sym at)

@@ -1,0 +1,61 @@
+use Rattle.std.proofs.Common.{◌∙◌, ◌+◌, Ok, sym, subst, ap, arith, take, length, List, Contains}
+use Rattle.std.specs.Prelude.{sum_by}
+use Rattle.std.proofs.lemmas.List.{take_all}
+use Rattle.staat_input.specs.Work.{Each}
+use Rattle.staat_input.specs.Inputs.{IsPartOf}
+use Rattle.staat_manifest.specs.declared.listing.ListedPart.{ListedPart}
+use Rattle.staat_input.specs.Drawing.{AreSmall, Drew, solids_of, solids_of_part}
+use Rattle.staat_input.specs.Shapes.{AreRead, ListsPiece}
+use Rattle.staat_input.proofs.CauseLemmas.{named_wider}
+use Rattle.staat_input.proofs.InputLemmas.{Continues, each_failed, each_more, each_end, one_read}
+use Rattle.staat_input.proofs.SketchLemmas.{parts_more, pieces_counted}
+use Rattle.staat_input.proofs.input.read_parts.Goals as goal
+
+pub returns-in_err-read_part-clause-found : goal.returns-in_err-read_part-clause-found
+returns-in_err-read_part-clause-found g c = λ files told.
+    each_failed (IsPartOf files c.args.digits) c.args.listing.now c.loop-named.named-index c.loop-named.parts.items c.named-item.result c.in_err-read_part.field-0.0 c.from_residual-in_err-read_part.result
+    c.loop-named-test.true c.named-item.is (c.loop-named.invariant.found files told) (c.in_err-read_part.ensures.found files (c.loop-named.invariant.holds ∙ told)) c.from_residual-in_err-read_part.ensures.1
+
+pub returns-in_err-read_part-clause-named : goal.returns-in_err-read_part-clause-named
+returns-in_err-read_part-clause-named g c =
+    named_wider (Contains c.named-item.result.pieces) (ListsPiece c.args.listing.now) c.in_err-read_part.field-0.0 c.from_residual-in_err-read_part.result
+    (λ name h. record { part = c.named-item.result; listed = (c.loop-named.named-index, c.loop-named-test.true, sym c.named-item.is); piece = h }) c.in_err-read_part.ensures.named c.from_residual-in_err-read_part.ensures.1
+
+pub loop-named-preserved : goal.loop-named-preserved
+loop-named-preserved g c =
+    let items = c.in_ok-push.ensures.items in
+    record {
+      holds = c.in_ok-read_part.ensures.holds ∙ c.loop-named.invariant.holds;
+      count = omega (arith, c.loop-named.invariant.count, c.in_ok-read_part.ensures.count);
+      found = λ files told. subst (λ done. Continues (IsPartOf files c.args.digits) c.args.listing.now (c.loop-named.named-index + 1) done) (sym items)
+          (each_more (IsPartOf files c.args.digits) c.args.listing.now c.loop-named.named-index c.loop-named.parts.items c.named-item.result c.in_ok-read_part.field-0 c.loop-named-test.true
+          (subst (λ n. IsPartOf files c.args.digits n (Ok c.in_ok-read_part.field-0)) c.named-item.is (c.in_ok-read_part.ensures.found files (c.loop-named.invariant.holds ∙ told)))
+          (c.loop-named.invariant.found files told));
+      read = subst (AreRead (take (c.loop-named.named-index + 1) c.args.listing.now)) (sym items)
+          (one_read c.args.listing.now c.loop-named.named-index c.named-item.result c.loop-named.parts.items c.in_ok-read_part.field-0 c.loop-named-test.true c.loop-named.invariant.read c.named-item.is c.in_ok-read_part.ensures.each c.in_ok-read_part.ensures.pieces);
+      number = ap (λ n. n + 1) c.loop-named.invariant.number;
+      drawn = λ files told.
+          parts_more files c.args.digits c.args.listing.now c.loop-named.named-index c.named-item.result c.args.sketch.now c.loop-named.sketch c.read_part.new.sketch c.loop-named-test.true c.named-item.is
+          (c.loop-named.invariant.drawn files told)
+          (subst (λ k. Drew c.loop-named.sketch c.read_part.new.sketch (solids_of_part files c.args.digits k c.named-item.result)) c.loop-named.invariant.number (c.in_ok-read_part.ensures.drawn files (c.loop-named.invariant.holds ∙ told)));
+      small = λ parts most le h.
+          let count = pieces_counted c.args.listing.now c.loop-named.named-index c.named-item.result c.loop-named-test.true c.named-item.is in
+          let so_far = sum_by (λ (n : ListedPart). length n.pieces) (take c.loop-named.named-index c.args.listing.now) in
+          subst (λ n. AreSmall parts n c.read_part.new.sketch.solids.items) (omega (arith, count))
+          (c.in_ok-read_part.ensures.small parts (most + so_far) (omega (arith, le, c.loop-named.invariant.number, c.loop-named-test.true)) (c.loop-named.invariant.small parts most le h));
+    }
+
+pub returns-clause-found : goal.returns-clause-found
+returns-clause-found g c = λ files told.
+    subst (λ done. Each (IsPartOf files c.args.digits) c.args.listing.now (Ok done)) (sym c.from_vec.ensures)
+    (each_end (IsPartOf files c.args.digits) c.args.listing.now c.loop-named.named-index c.loop-named.parts.items c.loop-named-test.false (c.loop-named.invariant.found files told))
+
+pub returns-clause-drawn : goal.returns-clause-drawn
+returns-clause-drawn g c = λ files told.
+    subst (λ (named : List ListedPart). Drew c.args.sketch.now c.loop-named.sketch (solids_of files c.args.digits named)) (take_all c.loop-named.named-index c.args.listing.now c.loop-named-test.false)
+    (c.loop-named.invariant.drawn files told)
+
+pub returns-clause-small : goal.returns-clause-small
+returns-clause-small g c = λ parts most le h.
+    subst (λ (named : List ListedPart). AreSmall parts (most + sum_by (λ (n : ListedPart). length n.pieces) named) c.loop-named.sketch.solids.items) (take_all c.loop-named.named-index c.args.listing.now c.loop-named-test.false)
+    (c.loop-named.invariant.small parts most le h)

@@ -1,0 +1,11 @@
+pub mod Assembling
+pub mod Causes
+pub mod Counting
+pub mod Drawing
+pub mod Inputs
+pub mod Kept
+pub mod Moved
+pub mod Pieces
+pub mod Refusals
+pub mod Shapes
+pub mod Work

@@ -1,0 +1,227 @@
+// The parts that an input names.
+ghost use Rattle.std.specs.Prelude.{◌≡◌, ◌≤◌, ◌<◌, ◌+◌, [], All, Contains, List, ℕ, Some};
+ghost use Rattle.std.specs.Prelude.{IfOk, IfErr, OnOk, length, map, sum_by};
+ghost use Rattle.staat_limits.specs.declared.limits.TheConstants.{MOST_DIGITS};
+ghost use Rattle.staat_vec.specs.Vectors.{IsWithin};
+ghost use Rattle.staat_model.specs.Pieces.{IsPiece};
+ghost use Rattle.staat_limits.specs.declared.limits.TheConstants.{MOST_PARTS, MOST_PIECES};
+ghost use Rattle.staat_words.specs.Requests.{IsAsked, IsInput};
+ghost use Rattle.staat_input.specs.Work.{Each, Files, Follows, IsTaken};
+ghost use Rattle.staat_input.specs.Drawing.{AreSmall, Drew, IsDrawn, solid_of, solids_of, solids_of_part};
+ghost use Rattle.staat_input.specs.Moved.{IsMovedPieceOf};
+ghost use Rattle.staat_input.specs.Inputs.{alone, IsInputOf, IsListingOf, IsPartOf, SaysListing};
+ghost use Rattle.staat_input.specs.Shapes.{AreRead, IsFew, ListsPiece};
+ghost use Rattle.staat_input.specs.Causes.{HasCause, IfTooLong, MayName, ShelfSide, over};
+
+use crate::moved::read_moved;
+use crate::read::read_file;
+use crate::refusals::manifest_fault;
+use crate::sketch::Sketch;
+use staat_edge::Shelf;
+use staat_fault::Fault;
+use staat_manifest::{ListedPart, Listing, read_manifest};
+use staat_model::{Assembly, Part, Parts, Piece, Pieces};
+use staat_vec::{Name, Names, ORIGIN, POINT, V3};
+use staat_words::{Asked, Input};
+use std::alloc::{AllocError, Global};
+
+// The part of one piece that a file is.
+fn one_file(alloc: Global, name: &Name) -> Result<ListedPart, AllocError>
+    ensures { IfOk result (λ part. part ≡ alone name.now) }
+{
+    let file = name.copied(alloc)?;
+    Ok(ListedPart {
+        name: name.copied(alloc)?,
+        pieces: Names::from_vec(Vec::from_array(alloc, [file])?),
+        at: ORIGIN,
+    })
+}
+
+// The parts that files are, each of one piece.
+fn parts_of_files(alloc: Global, names: &[Name]) -> Result<Listing, AllocError>
+    ensures { IfOk result (λ listing. listing ≡ map alone names.now) }
+{
+    let mut listing = Vec::with_capacity(alloc, names.len())?;
+    for name in names {
+        listing.push(one_file(alloc, name)?)?;
+    }
+    Ok(Listing::from_vec(listing))
+}
+
+// The parts that the bytes of a file list.
+#[tactic(auto, using(crate::proofs::ReadLemmas::listing_says))]
+fn listing_in(alloc: Global, bytes: &[u8], name: &Name) -> Result<Listing, Fault>
+    ensures says { Follows (SaysListing name.now bytes.now) result }
+    ensures few { IfOk result IsFew }
+    ensures cause { (shelf : ShelfSide) → IfErr result (HasCause shelf) }
+{
+    match read_manifest(alloc, bytes) {
+        Ok(listing) => Ok(listing),
+        Err(refusal) => Err(manifest_fault(name.copied(alloc)?, refusal)),
+    }
+}
+
+// The parts that a part list names.
+#[tactic(auto, using(crate::proofs::ReadLemmas::taking))]
+fn read_listing<H: Shelf>(alloc: Global, shelf: &mut H, name: &Name) -> Result<Listing, Fault>
+    ensures holds { (H.told shelf.new).holds ≡ (H.told shelf.old).holds }
+    ensures count { (H.told shelf.old).faults ≤ (H.told shelf.new).faults }
+    ensures found { (files : Files) → (H.told shelf.old).holds ≡ Some files → Follows (IsTaken files name.now
+        (SaysListing name.now)) result }
+    ensures few { IfOk result IsFew }
+    ensures cause { IfErr result (HasCause (over (H.told shelf.old) (H.told shelf.new))) }
+{
+    let bytes = read_file(alloc, shelf, name)?;
+    listing_in(alloc, bytes.as_slice(), name)
+}
+
+// The names of the parts and of their pieces' files.
+fn names_of<H: Shelf>(alloc: Global, shelf: &mut H, input: &Input) -> Result<Listing, Fault>
+    requires { IsInput input.now }
+    ensures holds { (H.told shelf.new).holds ≡ (H.told shelf.old).holds }
+    ensures count { (H.told shelf.old).faults ≤ (H.told shelf.new).faults }
+    ensures found { (files : Files) → (H.told shelf.old).holds ≡ Some files →
+        Follows (IsListingOf files input.now) result }
+    ensures few { IfOk result IsFew }
+    ensures cause { IfErr result (HasCause (over (H.told shelf.old) (H.told shelf.new))) }
+    ensures named { IfErr result (IfTooLong (MayName input.now)) }
+    ensures names { IfOk result (λ listing.
+        (name : List ℕ) → ListsPiece listing name → MayName input.now name) }
+{
+    match input {
+        Input::Manifest(name) => read_listing(alloc, shelf, name),
+        Input::Files(names) => {
+            let listing = parts_of_files(alloc, names.as_slice())?;
+            Ok(listing)
+        }
+    }
+}
+
+// A piece keeps the rules of pieces.
+fn know(piece: &Piece)
+    ensures { IsPiece piece.now }
+{
+    let _ = piece.points();
+}
+
+// The pieces of a part, in the order of their files, moved by its vector.
+fn read_pieces<H: Shelf>(
+    alloc: Global,
+    digits: u32,
+    shelf: &mut H,
+    names: &[Name],
+    part: u32,
+    at: V3,
+    sketch: &mut Sketch,
+) -> Result<Pieces, Fault>
+    requires digits { digits ≤ MOST_DIGITS }
+    requires vector { IsWithin POINT at }
+    ensures holds { (H.told shelf.new).holds ≡ (H.told shelf.old).holds }
+    ensures count { (H.told shelf.old).faults ≤ (H.told shelf.new).faults }
+    ensures found { (files : Files) → (H.told shelf.old).holds ≡ Some files →
+        Follows (Each (IsMovedPieceOf files digits at) names.now) result }
+    ensures pieces { IfOk result (All IsPiece) }
+    ensures each { IfOk result (λ pieces. length pieces ≡ length names.now) }
+    ensures drawn { (files : Files) → (H.told shelf.old).holds ≡ Some files →
+        OnOk result (Drew sketch.old sketch.new (map (solid_of files digits part at) names.now)) }
+    ensures small { (parts most : ℕ) → part < parts → AreSmall parts most sketch.old.solids.items →
+        OnOk result (AreSmall parts (most + length names.now) sketch.new.solids.items) }
+    ensures cause { IfErr result (HasCause (over (H.told shelf.old) (H.told shelf.new))) }
+    ensures named { IfErr result (IfTooLong (Contains names.now)) }
+{
+    let mut pieces = Vec::with_capacity(alloc, names.len())?;
+    for name in names {
+        let piece = read_moved(alloc, digits, shelf, name, part, at, sketch)?;
+        know(&piece);
+        pieces.push(piece)?;
+    }
+    Ok(Pieces::from_vec(pieces))
+}
+
+// A part with its pieces.
+fn read_part<H: Shelf>(
+    alloc: Global,
+    digits: u32,
+    shelf: &mut H,
+    named: &ListedPart,
+    part: u32,
+    sketch: &mut Sketch,
+) -> Result<Part, Fault>
+    requires digits { digits ≤ MOST_DIGITS }
+    requires vector { IsWithin POINT named.now.at }
+    ensures holds { (H.told shelf.new).holds ≡ (H.told shelf.old).holds }
+    ensures count { (H.told shelf.old).faults ≤ (H.told shelf.new).faults }
+    ensures found { (files : Files) → (H.told shelf.old).holds ≡ Some files →
+        Follows (IsPartOf files digits named.now) result }
+    ensures pieces { IfOk result (λ part. All IsPiece part.pieces) }
+    ensures each { IfOk result (λ part. length part.pieces ≡ length named.now.pieces) }
+    ensures drawn { (files : Files) → (H.told shelf.old).holds ≡ Some files →
+        OnOk result (Drew sketch.old sketch.new (solids_of_part files digits part named.now)) }
+    ensures small { (parts most : ℕ) → part < parts → AreSmall parts most sketch.old.solids.items →
+        OnOk result (AreSmall parts (most + length named.now.pieces) sketch.new.solids.items) }
+    ensures cause { IfErr result (HasCause (over (H.told shelf.old) (H.told shelf.new))) }
+    ensures named { IfErr result (IfTooLong (Contains named.now.pieces)) }
+{
+    let name = named.name.copied(alloc)?;
+    let names = named.pieces.as_slice();
+    let pieces = read_pieces(alloc, digits, shelf, names, part, named.at, sketch)?;
+    Ok(Part { name, pieces })
+}
+
+// The parts with their pieces, in their order.
+fn read_parts<H: Shelf>(
+    alloc: Global,
+    digits: u32,
+    shelf: &mut H,
+    listing: &[ListedPart],
+    sketch: &mut Sketch,
+) -> Result<Parts, Fault>
+    requires digits { digits ≤ MOST_DIGITS }
+    requires few { length listing.now ≤ MOST_PARTS }
+    requires placed { All (λ part. IsWithin POINT part.at) listing.now }
+    ensures holds { (H.told shelf.new).holds ≡ (H.told shelf.old).holds }
+    ensures count { (H.told shelf.old).faults ≤ (H.told shelf.new).faults }
+    ensures found { (files : Files) → (H.told shelf.old).holds ≡ Some files →
+        Follows (Each (IsPartOf files digits) listing.now) result }
+    ensures read { IfOk result (AreRead listing.now) }
+    ensures drawn { (files : Files) → (H.told shelf.old).holds ≡ Some files →
+        OnOk result (Drew sketch.old sketch.new (solids_of files digits listing.now)) }
+    ensures small { (parts most : ℕ) → length listing.now ≤ parts →
+        AreSmall parts most sketch.old.solids.items → OnOk result (AreSmall parts (most +
+        sum_by (λ part. length part.pieces) listing.now) sketch.new.solids.items) }
+    ensures cause { IfErr result (HasCause (over (H.told shelf.old) (H.told shelf.new))) }
+    ensures named { IfErr result (IfTooLong (ListsPiece listing.now)) }
+{
+    let mut parts = Vec::with_capacity(alloc, listing.len())?;
+    let mut number = 0;
+    for named in listing {
+        parts.push(read_part(alloc, digits, shelf, named, number, sketch)?)?;
+        number += 1;
+    }
+    Ok(Parts::from_vec(parts))
+}
+
+/// The assembly that an input names: the part list is read first, if there is one, and then each piece's file in the
+/// order of the list. The first refusal is the answer. The files are kept for a drawing, if there is one.
+pub fn read_input<H: Shelf>(
+    alloc: Global,
+    shelf: &mut H,
+    asked: &Asked,
+    sketch: &mut Sketch,
+) -> Result<Assembly, Fault>
+    requires { IsAsked asked.now }
+    ensures holds { (H.told shelf.new).holds ≡ (H.told shelf.old).holds }
+    ensures count { (H.told shelf.old).faults ≤ (H.told shelf.new).faults }
+    ensures found { (files : Files) → (H.told shelf.old).holds ≡ Some files →
+        Follows (IsInputOf files asked.now) result }
+    ensures drawn { (files : Files) → (H.told shelf.old).holds ≡ Some files → sketch.old.solids.items ≡ [] →
+        OnOk result (IsDrawn files asked.now sketch.old.keep sketch.new) }
+    ensures small { sketch.old.solids.items ≡ [] →
+        IfOk result (λ assembly. AreSmall (length assembly) MOST_PIECES sketch.new.solids.items) }
+    ensures cause { IfErr result (HasCause (over (H.told shelf.old) (H.told shelf.new))) }
+    ensures named { IfErr result (IfTooLong (MayName asked.now.input)) }
+{
+    let listing = names_of(alloc, shelf, &asked.input)?;
+    let parts = read_parts(alloc, asked.digits, shelf, listing.as_slice(), sketch)?;
+    Ok(Assembly::seal(parts))
+}

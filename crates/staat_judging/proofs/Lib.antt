@@ -1,0 +1,4 @@
+pub mod CertificateLemmas
+pub mod CheckCauses
+pub mod OneAnswer
+pub mod RightAnswers

@@ -1,0 +1,28 @@
+-- What shows why a fault came that stops `check`.
+use Rattle.std.specs.Prelude.{◌≡◌, ◌⊎◌, ℕ, List, Some, Err}
+use Rattle.staat_limits.specs.declared.limits.TheConstants.{TEXT_LIMIT, FILE_LIMIT}
+use Rattle.staat_words.specs.declared.request.Asked.{Asked}
+use Rattle.staat_words.specs.declared.request.CheckRequest.{CheckRequest}
+use Rattle.staat_fault.specs.declared.fault.Fault.{Fault}
+use Rattle.staat_fault.specs.declared.fault.Fault.TheVariants.{TooLong}
+use Rattle.staat_input.specs.Work.{Files}
+use Rattle.staat_input.specs.Assembling.{IsSoundOf}
+use Rattle.staat_input.specs.Causes.{ShelfSide, IsPastLimit, HasCause, MayName}
+
+-- what shows why a fault came of the certificate's file, which has a limit of its own
+abbrev pub HasCertificateCause : List ℕ → ShelfSide → Fault → Type 0
+HasCertificateCause certificate shelf (TooLong name) = (name ≡ certificate) × IsPastLimit TEXT_LIMIT shelf name
+HasCertificateCause certificate shelf fault = HasCause shelf fault
+
+-- a file that the input may name is past the limit; and where the shelf tells its files, the input is refused for it
+pub record IsLongInput (asked : Asked) (shelf : ShelfSide) (name : List ℕ) : Type 0 where
+  pub past : IsPastLimit FILE_LIMIT shelf name
+  pub named : MayName asked.input name
+  pub refused : (files : Files) → shelf.old.holds ≡ Some files → IsSoundOf files asked (Err (TooLong name))
+
+-- What shows why a fault of `check` came. The certificate's name may be one of the input too: what is too long is the file
+-- of the input by the one limit, or that of the certificate by the other.
+abbrev pub HasCheckCause : CheckRequest → ShelfSide → Fault → Type 0
+HasCheckCause request shelf (TooLong name) =
+    IsLongInput request.asked shelf name ⊎ ((name ≡ request.certificate) × IsPastLimit TEXT_LIMIT shelf name)
+HasCheckCause request shelf fault = HasCause shelf fault

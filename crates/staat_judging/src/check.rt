@@ -1,0 +1,65 @@
+// The command `check`: whether a certificate is valid for the parts.
+ghost use Rattle.std.specs.Prelude.{◌≡◌, ◌≤◌, ◌<◌, Some, Ok, IfOk, IfErr};
+ghost use Rattle.staat_model.specs.Texts.{IsWellFormed};
+ghost use Rattle.staat_words.specs.Requests.{IsAsked};
+ghost use Rattle.staat_input.specs.Work.{Files, Follows};
+ghost use Rattle.staat_judging.specs.Checking.{IsChecked, verdict_answer, CheckWork};
+ghost use Rattle.staat_judging.specs.Causes.{HasCheckCause};
+ghost use Rattle.staat_input.specs.Causes.{over};
+
+use crate::certificate::read_certificate;
+use staat_edge::Shelf;
+use staat_fault::Fault;
+use staat_input::{Answer, read_sound};
+use staat_model::{Certificate, Sound, Verdict};
+use staat_text::verdict_text;
+use staat_vec::OutOfMemory;
+use staat_words::CheckRequest;
+use std::alloc::Global;
+
+// The answer that a verdict is.
+fn answer_of(alloc: Global, verdict: &Verdict) -> Result<Answer, OutOfMemory>
+    ensures status { IfOk result (λ a. a.status < 2) }
+    ensures is { IfOk result (λ a. a ≡ verdict_answer verdict.now) }
+{
+    let text = verdict_text(alloc, verdict)?;
+    match verdict {
+        Verdict::Not(_) => Ok(Answer { status: 1, text }),
+        Verdict::ValidPlan => Ok(Answer { status: 0, text }),
+        Verdict::ValidRefusal => Ok(Answer { status: 0, text }),
+    }
+}
+
+// The answer that the verdict on the certificate is.
+#[tactic(auto, using(crate::proofs::CertificateLemmas::checked))]
+fn judged(alloc: Global, sound: &Sound, certificate: &Certificate) -> Result<Answer, OutOfMemory>
+    requires { IsWellFormed certificate.now }
+    ensures status { IfOk result (λ a. a.status < 2) }
+    ensures checked { IfOk result (λ a. IsChecked sound.now certificate.now (Ok a)) }
+{
+    let verdict = staat_check::check(alloc, sound, certificate)?;
+    let answer = answer_of(alloc, &verdict)?;
+    Ok(answer)
+}
+
+/// The answer to the command `check`: whether the certificate is valid for the parts, or the first rule that it
+/// breaks. The parts are read and tested before the certificate's file is opened.
+#[tactic(auto, using(crate::proofs::CheckCauses::checking))]
+pub fn check<H: Shelf>(
+    alloc: Global,
+    request: &CheckRequest,
+    shelf: &mut H,
+) -> Result<Answer, Fault>
+    requires { IsAsked request.now.asked }
+    ensures holds { (H.told shelf.new).holds ≡ (H.told shelf.old).holds }
+    ensures count { (H.told shelf.old).faults ≤ (H.told shelf.new).faults }
+    ensures status { IfOk result (λ a. a.status < 2) }
+    ensures found { (files : Files) → (H.told shelf.old).holds ≡ Some files →
+        Follows (CheckWork request.now files) result }
+    ensures cause { IfErr result (HasCheckCause request.now (over (H.told shelf.old) (H.told shelf.new))) }
+{
+    let sound = read_sound(alloc, shelf, &request.asked)?;
+    let certificate = read_certificate(alloc, shelf, &request.certificate)?;
+    let answer = judged(alloc, &sound, &certificate)?;
+    Ok(answer)
+}

@@ -1,0 +1,5 @@
+//! The command `check`, which judges a certificate.
+#![tactic(auto)]
+
+mod certificate;
+pub mod check;

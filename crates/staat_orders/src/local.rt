@@ -1,0 +1,80 @@
+// The command `local`: whether some side of the parts begins to move.
+ghost use Rattle.std.specs.Prelude.{◌≡◌, ◌≤◌, ◌<◌, Ok, Some, IfOk, IfErr, IfSome};
+ghost use Rattle.staat_model.specs.Sets.{IsSide};
+ghost use Rattle.staat_words.specs.Requests.{IsLocalRequest};
+ghost use Rattle.staat_pairs.specs.Tables.{WasMadeFrom};
+ghost use Rattle.staat_local.specs.Beginnings.{IsFoundIn};
+ghost use Rattle.staat_orders.specs.Beginning.{IsBegun, local_status, LocalWork};
+ghost use Rattle.staat_input.specs.Counting.{all_parts};
+ghost use Rattle.staat_input.specs.Causes.{HasCause, over};
+ghost use Rattle.staat_input.specs.Work.{Files, Follows};
+
+use staat_edge::Shelf;
+use staat_fault::Fault;
+use staat_input::{Answer, read_sound, table_of};
+use staat_local::{Loose, local_step, local_text};
+use staat_model::{PartSet, Sound};
+use staat_planes::PlaneTable;
+use staat_vec::OutOfMemory;
+use staat_words::LocalRequest;
+use std::alloc::Global;
+
+// The side that begins to move: none of a part alone.
+fn beginning(sound: &Sound, table: &PlaneTable) -> Option<Loose>
+    requires made { WasMadeFrom sound.now table.now }
+    ensures found { IsFoundIn sound.now table.now.of result }
+    ensures side { IfSome result (λ loose. IsSide table.now.of loose.side) }
+{
+    if table.set().count() < 2 {
+        None
+    } else {
+        local_step(table, sound)
+    }
+}
+
+// 1 where no side of at least two parts begins to move.
+fn status_of(of: PartSet, found: &Option<Loose>) -> u8
+    ensures is { result ≡ local_status of found.now }
+    ensures small { result < 2 }
+{
+    match found {
+        Some(_) => 0,
+        None => { if of.count() < 2 { 0 } else { 1 } }
+    }
+}
+
+// What is found of all parts, written.
+fn begun(alloc: Global, sound: &Sound, table: &PlaneTable) -> Result<Answer, OutOfMemory>
+    requires made { WasMadeFrom sound.now table.now }
+    requires all { table.now.of ≡ all_parts sound.now }
+    ensures status { IfOk result (λ a. a.status < 2) }
+    ensures begun { IfOk result (λ a. IsBegun sound.now (Ok a)) }
+{
+    let of = table.set();
+    let found = beginning(sound, table);
+    let text = local_text(alloc, of, &found)?;
+    Ok(Answer {
+        status: status_of(of, &found),
+        text,
+    })
+}
+
+/// The answer to the command `local`: the side of all parts that begins to move, or that none does.
+pub fn local<H: Shelf>(
+    alloc: Global,
+    request: &LocalRequest,
+    shelf: &mut H,
+) -> Result<Answer, Fault>
+    requires { IsLocalRequest request.now }
+    ensures holds { (H.told shelf.new).holds ≡ (H.told shelf.old).holds }
+    ensures count { (H.told shelf.old).faults ≤ (H.told shelf.new).faults }
+    ensures status { IfOk result (λ a. a.status < 2) }
+    ensures found { (files : Files) → (H.told shelf.old).holds ≡ Some files →
+        Follows (LocalWork request.now files) result }
+    ensures cause { IfErr result (HasCause (over (H.told shelf.old) (H.told shelf.new))) }
+{
+    let sound = read_sound(alloc, shelf, &request.asked)?;
+    let table = table_of(alloc, &sound, request.planes)?;
+    let answer = begun(alloc, &sound, &table)?;
+    Ok(answer)
+}

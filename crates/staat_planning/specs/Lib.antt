@@ -1,0 +1,3 @@
+pub mod Drills
+pub mod Exploding
+pub mod Planning

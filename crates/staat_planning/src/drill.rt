@@ -1,0 +1,106 @@
+// The command `drill`: the program tried on a product of its own.
+ghost use Rattle.std.specs.Prelude.{◌≡◌, ◌<◌, Ok, IfOk, IfErr, false};
+ghost use Rattle.staat_model.specs.declared.certificate.Certificate.{Certificate as CertificateValue};
+ghost use Rattle.staat_model.specs.Certify.{IsCertificateOf};
+ghost use Rattle.staat_model.specs.Outcomes.{IsOutcome, finding_of};
+ghost use Rattle.staat_model.specs.Texts.{IsWellFormed};
+ghost use Rattle.staat_cert.specs.Writing.{IsTextAnswer};
+ghost use Rattle.staat_plan.specs.Certifying.{CanBeCertified};
+ghost use Rattle.staat_text.specs.PlanTexts.{CanBeShown};
+ghost use Rattle.staat_words.specs.Requests.{IsProduct};
+ghost use Rattle.staat_input.specs.Work.{Files, Follows};
+ghost use Rattle.staat_planning.specs.Drills.{IsDrilled, drill_line, parts_of_product, DrillWork};
+ghost use Rattle.staat_input.specs.Counting.{all_parts};
+ghost use Rattle.staat_input.specs.Causes.{HasCause, ShelfSide};
+
+use crate::plan::outcome_of;
+use staat_cert::{CertRefusal, cert_text, read_cert};
+use staat_check::check;
+use staat_cone::Scan;
+use staat_drill::{nested_boxes, row_of_cubes};
+use staat_fault::Fault;
+use staat_input::{Answer, tested, text_fault};
+use staat_limits::MOST_PLANES;
+use staat_model::{Assembly, Certificate, Outcome, Sound, Verdict};
+use staat_plan::certify;
+use staat_text::drill_text;
+use staat_vec::{Bytes, OutOfMemory};
+use staat_words::Product;
+use std::alloc::Global;
+
+// The product.
+fn product(alloc: Global, product: Product) -> Result<Assembly, OutOfMemory>
+    requires { IsProduct product }
+    ensures { IfOk result (λ a. a ≡ parts_of_product product) }
+{
+    match product {
+        Product::Cubes(n) => row_of_cubes(alloc, n),
+        Product::Boxes(n) => nested_boxes(alloc, n),
+    }
+}
+
+// The certificate that a text was written of, read in it.
+fn read_again(alloc: Global, text: &Bytes) -> Result<Certificate, OutOfMemory>
+    requires { (c : CertificateValue) × IsTextAnswer c (Ok text.now) }
+    ensures { (c : CertificateValue) → IsTextAnswer c (Ok text.now) → IfOk result (λ read. read ≡ c) }
+{
+    match read_cert(alloc, text.as_slice()) {
+        Ok(certificate) => Ok(certificate),
+        Err(CertRefusal::OutOfMemory) => Err(OutOfMemory),
+        Err(CertRefusal::BadLine(_)) => unreachable!(),
+        Err(CertRefusal::ShortCert) => unreachable!(),
+        Err(CertRefusal::TooLong) => unreachable!(),
+    }
+}
+
+// The line of a product, with the verdict on the certificate that is read in the text.
+fn line(
+    alloc: Global,
+    product: Product,
+    outcome: &Outcome,
+    bytes: usize,
+    verdict: &Verdict,
+) -> Result<Bytes, OutOfMemory>
+    requires { CanBeShown (finding_of outcome.now) }
+    ensures { IfOk result (λ text. text ≡ drill_line product (finding_of outcome.now) bytes verdict.now) }
+{
+    match product {
+        Product::Cubes(n) => drill_text(alloc, "row", n, outcome, bytes, verdict),
+        Product::Boxes(n) => drill_text(alloc, "box", n, outcome, bytes, verdict),
+    }
+}
+
+// The answer for an outcome: its certificate is written, read again and judged.
+fn drilled(alloc: Global, name: Product, sound: &Sound, outcome: &Outcome) -> Result<Answer, Fault>
+    requires outcome { IsOutcome false sound.now (all_parts sound.now) (finding_of outcome.now) }
+    requires shown { CanBeShown (finding_of outcome.now) }
+    requires certified { CanBeCertified sound.now (finding_of outcome.now) }
+    ensures status { IfOk result (λ a. a.status < 2) }
+    ensures drilled { Follows (IsDrilled name sound.now) result }
+    ensures cause { (shelf : ShelfSide) → IfErr result (HasCause shelf) }
+{
+    let certificate = certify(alloc, &Scan, sound, outcome, 2)?;
+    match cert_text(alloc, &certificate) {
+        Ok(text) => {
+            let read = read_again(alloc, &text)?;
+            let verdict = check(alloc, sound, &read)?;
+            let text = line(alloc, name, outcome, text.as_slice().len(), &verdict)?;
+            Ok(Answer { status: 0, text })
+        }
+        Err(refusal) => Err(text_fault(refusal)),
+    }
+}
+
+/// The answer to the command `drill`: a product that the program makes itself is planned, its certificate is written,
+/// read again and judged, and a line says what came of it. No file is read.
+pub fn drill(alloc: Global, name: Product) -> Result<Answer, Fault>
+    requires { IsProduct name }
+    ensures status { IfOk result (λ a. a.status < 2) }
+    ensures found { (files : Files) → Follows (DrillWork name files) result }
+    ensures cause { (shelf : ShelfSide) → IfErr result (HasCause shelf) }
+{
+    let assembly = product(alloc, name)?;
+    let sound = tested(alloc, assembly)?;
+    let outcome = outcome_of(alloc, &sound, MOST_PLANES, false)?;
+    drilled(alloc, name, &sound, &outcome)
+}

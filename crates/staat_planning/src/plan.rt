@@ -1,0 +1,125 @@
+// The command `plan`: how all parts come apart, or which parts do not.
+ghost use Rattle.std.specs.Prelude.{◌≡◌, ◌≤◌, ◌<◌, Some, IfOk, IfErr, IfSome, true};
+ghost use Rattle.staat_model.specs.Assemblies.{IsAssembly};
+ghost use Rattle.staat_limits.specs.Versions.{IsVersion};
+ghost use Rattle.staat_model.specs.Outcomes.{IsOutcome, finding_of};
+ghost use Rattle.staat_limits.specs.declared.limits.TheConstants.{LEAST_PLANES, MOST_CELL_PLANES, MOST_PLANES};
+ghost use Rattle.staat_plan.specs.Certifying.{CanBeCertified};
+ghost use Rattle.staat_plan.specs.Planning.{HasFewPlanes};
+ghost use Rattle.staat_text.specs.PlanTexts.{CanBeShown};
+ghost use Rattle.staat_words.specs.Requests.{IsPlanRequest};
+ghost use Rattle.staat_input.specs.Work.{Files, Follows};
+ghost use Rattle.staat_input.specs.Counting.{AreCounted, all_parts};
+ghost use Rattle.staat_planning.specs.Planning.{IsWritten, outcome_answer, PlanWork};
+ghost use Rattle.staat_input.specs.Causes.{HasCause, ShelfSide, over};
+
+use staat_cert::cert_text;
+use staat_cone::Scan;
+use staat_edge::Shelf;
+use staat_fault::Fault;
+use staat_input::{Answer, planes_fault, read_sound, text_fault};
+use staat_model::{Outcome, Sound};
+use staat_plan::{Options, certify};
+use staat_text::plan_text;
+use staat_vec::Bytes;
+use staat_words::PlanRequest;
+use std::alloc::Global;
+
+// The parts are those of an assembly.
+fn know(sound: &Sound)
+    ensures { IsAssembly sound.now }
+{
+    let _ = sound.assembly().parts();
+}
+
+/// The outcome of an assembly that has at most so many planes, robust or not.
+#[tactic(auto, using(crate::proofs::PlanLemmas::planning))]
+pub fn outcome_of(alloc: Global, sound: &Sound, planes: u32, robust: bool) -> Result<Outcome, Fault>
+    requires least { LEAST_PLANES ≤ planes }
+    requires most { planes ≤ MOST_PLANES }
+    requires cells { robust ≡ true → planes ≤ MOST_CELL_PLANES }
+    ensures outcome { IfOk result (λ o. IsOutcome robust sound.now (all_parts sound.now) (finding_of o)) }
+    ensures few { IfOk result (λ _. HasFewPlanes sound.now (all_parts sound.now) planes) }
+    ensures shown { IfOk result (λ o. CanBeShown (finding_of o)) }
+    ensures certified { IfOk result (λ o. CanBeCertified sound.now (finding_of o)) }
+    ensures refused { IfErr result (λ fault. Follows (AreCounted sound.now planes) (Err fault)) }
+    ensures cause { (shelf : ShelfSide) → IfErr result (HasCause shelf) }
+{
+    let options = Options { planes, robust };
+    know(sound);
+    match staat_plan::plan(alloc, &Scan, sound, options) {
+        Ok(outcome) => Ok(outcome),
+        Err(refusal) => Err(planes_fault(refusal)),
+    }
+}
+
+// The text of the certificate of an outcome.
+#[tactic(auto, using(crate::proofs::PlanLemmas::writing))]
+fn certificate_text(
+    alloc: Global,
+    sound: &Sound,
+    outcome: &Outcome,
+    version: u32,
+) -> Result<Bytes, Fault>
+    requires version { IsVersion version }
+    requires certified { CanBeCertified sound.now (finding_of outcome.now) }
+    ensures written { Follows (IsWritten sound.now (finding_of outcome.now) (Some version)) result }
+    ensures cause { (shelf : ShelfSide) → IfErr result (HasCause shelf) }
+{
+    let certificate = certify(alloc, &Scan, sound, outcome, version)?;
+    match cert_text(alloc, &certificate) {
+        Ok(text) => Ok(text),
+        Err(refusal) => Err(text_fault(refusal)),
+    }
+}
+
+// The steps of an outcome, or the text of its certificate.
+#[tactic(auto, using(crate::proofs::PlanLemmas::writing))]
+fn text_of(
+    alloc: Global,
+    sound: &Sound,
+    outcome: &Outcome,
+    certificate: Option<u32>,
+) -> Result<Bytes, Fault>
+    requires version { IfSome certificate IsVersion }
+    requires shown { CanBeShown (finding_of outcome.now) }
+    requires certified { CanBeCertified sound.now (finding_of outcome.now) }
+    ensures written { Follows (IsWritten sound.now (finding_of outcome.now) certificate) result }
+    ensures cause { (shelf : ShelfSide) → IfErr result (HasCause shelf) }
+{
+    match certificate {
+        None => {
+            let text = plan_text(alloc, outcome)?;
+            Ok(text)
+        }
+        Some(version) => certificate_text(alloc, sound, outcome, version),
+    }
+}
+
+// The answer for an outcome with this text.
+fn answer_of(outcome: &Outcome, text: Bytes) -> Answer
+    ensures status { result.status < 2 }
+    ensures is { result ≡ outcome_answer (finding_of outcome.now) text }
+{
+    match outcome {
+        Outcome::Plan { .. } => Answer { status: 0, text },
+        Outcome::Stuck(_) => Answer { status: 1, text },
+    }
+}
+
+/// The answer to the command `plan`: the steps of a plan that takes all parts apart, or the parts that no plan takes
+/// apart; or the certificate of either.
+pub fn plan<H: Shelf>(alloc: Global, request: &PlanRequest, shelf: &mut H) -> Result<Answer, Fault>
+    requires { IsPlanRequest request.now }
+    ensures holds { (H.told shelf.new).holds ≡ (H.told shelf.old).holds }
+    ensures count { (H.told shelf.old).faults ≤ (H.told shelf.new).faults }
+    ensures status { IfOk result (λ a. a.status < 2) }
+    ensures found { (files : Files) → (H.told shelf.old).holds ≡ Some files →
+        Follows (PlanWork request.now files) result }
+    ensures cause { IfErr result (HasCause (over (H.told shelf.old) (H.told shelf.new))) }
+{
+    let sound = read_sound(alloc, shelf, &request.asked)?;
+    let outcome = outcome_of(alloc, &sound, request.planes, request.robust)?;
+    let text = text_of(alloc, &sound, &outcome, request.certificate)?;
+    Ok(answer_of(&outcome, text))
+}

@@ -1,8 +1,0 @@
-use Rattle.std.proofs.Common.{◌∙◌, ap, map, subst}
-use Rattle.staat_words.specs.Requests.{IsInput}
-use Rattle.staat_top.specs.Inputs.{alone}
-use Rattle.staat_top.proofs.InputLemmas.{named_files}
-use Rattle.staat_top.proofs.input.names_of.Goals as goal
-
-pub returns-in_ok-listing-in-Files-clause-few : goal.returns-in_ok-listing-in-Files-clause-few
-returns-in_ok-listing-in-Files-clause-few g c = named_files c.in-Files.names c.in_ok-listing-in-Files.listing (subst IsInput c.in-Files.is c.requires) (c.in_ok-listing-in-Files.ensures ∙ ap (map alone) c.as_slice.ensures)

@@ -1,6 +1,0 @@
-use Rattle.std.proofs.Common.{◌≡◌, map, take}
-use Rattle.staat_top.specs.Inputs.{alone}
-use Rattle.staat_top.proofs.input.parts_of_files.Given as goal
-
-abbrev pub invariant-loop-name : goal.invariant-loop-name
-invariant-loop-name l = l.listing.items ≡ map alone (take l.name-index l.names)

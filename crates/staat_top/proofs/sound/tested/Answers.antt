@@ -1,8 +1,0 @@
-use Rattle.std.proofs.Common.{Err, sym, subst}
-use Rattle.staat_top.specs.Work.{Follows}
-use Rattle.staat_top.specs.Assembling.{IsTested}
-use Rattle.staat_top.proofs.SoundLemmas.{tested_overlap}
-use Rattle.staat_top.proofs.sound.tested.Goals as goal
-
-pub returns-in-Err-clause-found : goal.returns-in-Err-clause-found
-returns-in-Err-clause-found c = subst (λ f. Follows (IsTested c.args.assembly) (Err f)) (sym c.asm_fault.ensures) (tested_overlap c.args.assembly c.build.result c.in-Err.refusal c.in-Err.is c.build.ensures.overlap)
