@@ -6,7 +6,7 @@ use Rattle.staat_edge.specs.Told.{ShelfTold}
 use Rattle.staat_words.specs.declared.request.Input.{Input}
 use Rattle.staat_words.specs.declared.request.Input.TheVariants as inputs
 use Rattle.staat_fault.specs.declared.fault.Fault.{Fault}
-use Rattle.staat_fault.specs.declared.fault.Fault.TheVariants.{ReadFault, TooLong}
+use Rattle.staat_fault.specs.declared.fault.Fault.TheVariants.{Usage, ReadFault, TooLong, WriteFault}
 use Rattle.staat_limits.specs.declared.limits.TheConstants.{FILE_LIMIT}
 
 -- What a shelf or a sink tells before a call and after it.

@@ -40,7 +40,7 @@ use Rattle.staat_input.specs.Drawing.{solids_of}
 use Rattle.staat_planning.specs.Exploding.{AreShifted, IsPlanViewed, IsOutcomeViewed, IsViewed, scene, scene_too_long}
 use Rattle.staat_planning.specs.Exploding.{shifted_far, shifted_near, vectors, SaysApart, SaysView, plan_asked}
 use Rattle.staat_planning.specs.Exploding.{ExplodeWork}
-use Rattle.staat_input.proofs.SoundParts.{sound_parts, same_text, same_answer, same_status, same_points}
+use Rattle.staat_input.proofs.SoundParts.{sound_parts, same_answer, same_status, same_points}
 
 -- a certificate of an outcome is valid
 pub certified : (parts : List Part) (version : ℕ) (f : Finding) (c : Certificate) → IsAssembly parts → Settles parts (all_parts parts) f → IsCertificateOf parts version f c → IsValidFor parts f c
