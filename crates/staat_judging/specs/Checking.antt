@@ -23,6 +23,7 @@ use Rattle.staat_fault.specs.declared.fault.Fault.TheVariants as fault
 use Rattle.staat_cert.specs.declared.cert_refusal.CertRefusal.{CertRefusal}
 use Rattle.staat_cert.specs.declared.cert_refusal.CertRefusal.TheVariants as cert
 
+-- the fault that a refusal is, with the file's name
 abbrev pub cert_fault : List ℕ → CertRefusal → Fault
 cert_fault name (cert.BadLine line) = fault.BadLine name line
 cert_fault name cert.ShortCert = fault.ShortCert name

@@ -4,7 +4,7 @@ use Rattle.staat_vec.specs.declared.vector.V3.{V3}
 use Rattle.staat_model.specs.declared.assembly.Part.{Part}
 use Rattle.staat_limits.specs.declared.limits.TheConstants.{TEXT_LIMIT}
 use Rattle.staat_model.specs.Outcomes.{Finding, IsOutcome, planned, stuck}
-use Rattle.staat_model.specs.Plans.{Plan, IsGood, Plan as Tree}
+use Rattle.staat_model.specs.Plans.{IsGood, Plan}
 use Rattle.staat_manifest.specs.declared.listing.ListedPart.{ListedPart}
 use Rattle.staat_explode.specs.declared.scene.Solid.{Solid}
 use Rattle.staat_explode.specs.Boxes.{boxes_of}
@@ -23,15 +23,14 @@ use Rattle.staat_input.specs.Inputs.{IsListingOf}
 use Rattle.staat_planning.specs.Planning.{outcome_answer}
 use Rattle.staat_words.specs.declared.request.Asked.{Asked}
 use Rattle.staat_words.specs.declared.request.PlanRequest.{PlanRequest}
-use Rattle.staat_words.specs.declared.request.Request.TheVariants.{Plan}
 use Rattle.staat_fault.specs.declared.fault.Fault.{Fault}
 use Rattle.staat_explode.specs.Apart.{StandApart}
 use Rattle.staat_input.specs.Assembling.{IsSoundOf, AreSoundParts}
 use Rattle.staat_fault.specs.declared.fault.Fault.TheVariants as fault
-use Rattle.staat_planes.specs.declared.refusal.PlanesRefusal.TheVariants as planes
 use Rattle.staat_explode.specs.declared.refusal.ExplodeRefusal.{ExplodeRefusal}
 use Rattle.staat_explode.specs.declared.refusal.ExplodeRefusal.TheVariants as explode
 
+-- the fault that a refusal is
 abbrev pub explode_fault : ExplodeRefusal → Fault
 explode_fault (explode.TooFar node) = fault.TooFar node
 explode_fault explode.OutOfMemory = fault.OutOfMemory
@@ -93,7 +92,7 @@ SaysView files asked true shifts text = (named : List ListedPart) × IsListingOf
 pub record SaysApart (files : Files) (request : ExplodeRequest) (text : List ℕ) : Type 0 where
   pub parts : List Part
   pub sound : AreSoundParts files request.asked parts
-  pub tree : Tree
+  pub tree : Plan
   pub good : IsGood parts (all_parts parts) tree
   pub sums : AreSums tree (shifts_of parts tree)
   pub apart : StandApart parts (shifts_of parts tree)
