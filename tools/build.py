@@ -82,10 +82,13 @@ def crates_of(top: Path, program: str) -> list[Crate]:
 
 
 def slots() -> int:
-    """How many jobs may be at work: one for each processor that there is to use, as far as the free memory goes."""
+    """How many crates may be at work: one for each processor that there is to use, as far as the free memory goes."""
     processors = len(os.sched_getaffinity(0))
     free = re.search(r"MemAvailable:\s+(\d+) kB", Path("/proc/meminfo").read_text(encoding="ascii"))
-    return max(1, min(processors, 1024 * int(free.group(1)) // MEMORY)) if free else processors
+    jobs = 1024 * int(free.group(1)) // MEMORY if free else processors
+    return max(
+        1, min(processors, (jobs + 1) // 2)
+    )  # one crate has as many jobs as there are crates, the others have one
 
 
 def _link_or_copy(file: str, to: str) -> None:
