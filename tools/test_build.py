@@ -313,6 +313,9 @@ class StartTest(InRepository):
         self.write("crates/staat_cli/src/main.rt", 'echo "anew $*"')
         status, out, err = self.staat("x", kit=True)
         self.assertEqual((status, out), (0, "anew x\n"))
+        self.assertRegex(
+            err, r"^staat: crates/staat_cli/src/main.rt is not .*: all is proved and built now\n"
+        )
         self.assertIn("5 of 5 crates proved", err)
         self.assertEqual(self.staat("x"), (0, "anew x\n", ""))
         self.git("checkout", "-q", "crates")
