@@ -138,7 +138,7 @@ pub fn add_furthest(vs: &[V3], v: V3, out: &mut Vec<V3>) -> Result<(), OutOfMemo
     ensures { OnOk result (AddsEdges vs.now v out.old.items out.new.items) }
 {
     match first_candidate(vs, v) {
-        Some(first) => add_through_either(vs, v, furthest_from(vs, v, first), out),
+        Some(_) => add_through_either(vs, v, furthest(vs, v), out),
         None => Ok(()),
     }
 }
