@@ -20,9 +20,8 @@ use Rattle.staat_model.specs.declared.set.PartSet.{PartSet}
 use Rattle.staat_pairs.specs.Tables.{Table}
 use Rattle.staat_planes.specs.Tables.{IsPlaneOf}
 use Rattle.staat_plan.specs.declared.walker.Walker.{Walker}
-use Rattle.staat_ring.specs.Belonging.{BelongTo}
 use Rattle.staat_ring.specs.Rings.{Arrangement, WereMadeFrom}
-use Rattle.staat_ring.specs.Signs.{Signed}
+use Rattle.staat_ring.specs.Walked.{WalkWasMadeFrom, Walked}
 
 -- from k on all planes are linked
 abbrev pub AreAllLinkedFrom : List V3 → List ℕ → ℕ → Type 0
@@ -33,12 +32,12 @@ abbrev pub AreThoseLinked : List Part → List V3 → PartSet → List ℕ → �
 AreThoseLinked parts planes w linked k = (j : ℕ) (n : V3) → slice_get planes j ≡ Some n → j < k
     → Contains linked j ↔ IsPlaneOf parts w n
 
--- rings with all planes of the table, and the signs of a walk that was made from it
-pub record AreForTable (t : Table) (rings : Arrangement) (signs : Signed) : Type 0 where
+-- rings with all planes of the table, and a walk that was made from it
+pub record AreForTable (t : Table) (rings : Arrangement) (walk : Walked) : Type 0 where
   pub made : WereMadeFrom t.planes rings
   pub whole : rings.unlinked ≡ []
-  pub signs_are : BelongTo t signs
+  pub walk_is : WalkWasMadeFrom t walk
 
 -- a walker, if there is one, is one for the table
 abbrev pub IsReadyFor : Table → Option Walker → Type 0
-IsReadyFor t walker = IfSome walker (λ x. AreForTable t x.rings x.walk.signs)
+IsReadyFor t walker = IfSome walker (λ x. AreForTable t x.rings x.walk)

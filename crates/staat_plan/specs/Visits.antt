@@ -10,15 +10,14 @@ use Rattle.staat_pairs.specs.Tables.{Table, WasMadeFrom}
 use Rattle.staat_plan.specs.declared.visits.Found.{Found}
 use Rattle.staat_plan.specs.declared.witnesses.GraphTrees.{GraphTrees}
 use Rattle.staat_plan.specs.Listings.{key_of}
-use Rattle.staat_ring.specs.Belonging.{BelongTo}
 use Rattle.staat_ring.specs.Places.{IsStopAt}
 use Rattle.staat_ring.specs.Rings.{Ring, RingStop, linked_of, vertex_of}
-use Rattle.staat_ring.specs.Walked.{IsEntered, Walked}
+use Rattle.staat_ring.specs.Walked.{IsEntered, WalkWasMadeFrom, Walked}
 
 -- the walk was made from the table, which was made from some parts, and stands at a vertex of circles on which all
 -- planes of the table are linked
 pub record StandsAmong (t : Table) (w : Walked) : Type 0 where
-  pub made : BelongTo t w.signs
+  pub made : WalkWasMadeFrom t w
   pub rings : List Ring
   pub entered : IsEntered t.planes rings w
   pub all : (k : ℕ) → k < length t.planes → Contains (linked_of rings) k

@@ -24,11 +24,11 @@ ghost use Rattle.staat_pairs.specs.Tables.{WasMadeFrom};
 ghost use Rattle.staat_planes.specs.Tables.{IsPlaneOf};
 ghost use Rattle.staat_plan.specs.RingSearches.{HasServing, IsBest, IsBetter, IsLater, NoStopServes, NoneServes};
 ghost use Rattle.staat_plan.specs.RingSearches.{lengths_below, pair_key};
-ghost use Rattle.staat_ring.specs.Belonging.{BelongTo, HasAll};
+ghost use Rattle.staat_ring.specs.Belonging.{HasAll};
 ghost use Rattle.staat_ring.specs.Places.{IsStopAt};
 ghost use Rattle.staat_ring.specs.Rings.{Ring, RingStop, WereMadeFrom, crossing, linked_of};
 ghost use Rattle.staat_ring.specs.Stepping.{count_below};
-ghost use Rattle.staat_ring.specs.Walked.{IsEntered};
+ghost use Rattle.staat_ring.specs.Walked.{IsEntered, WalkWasMadeFrom};
 
 use staat_graph::sink_of;
 use staat_model::{PartSet, Step};
@@ -79,7 +79,7 @@ fn look(
     i: u32,
     best: Option<Serving>,
 ) -> Option<Serving>
-    requires made { BelongTo table.now walk.now.signs }
+    requires made { WalkWasMadeFrom table.now walk.now }
     requires rings { WereMadeFrom table.now.planes rings.now }
     requires entered { IsEntered table.now.planes rings.now.rings walk.now }
     requires circle { walk.now.circle ≡ i }
@@ -117,14 +117,14 @@ fn search_circle<L: Ledger>(
     i: u32,
     steps: &mut Steps<L>,
 ) -> Option<Serving>
-    requires made { BelongTo table.now walk.old.signs }
+    requires made { WalkWasMadeFrom table.now walk.old }
     requires rings { WereMadeFrom table.now.planes rings.now }
     requires circle { Contains (linked_of rings.now.rings) i }
     requires set { IsSubset w table.now.of }
     requires some { IsNonempty w }
     requires linked { (parts : List PartValue) → WasMadeFrom parts table.now
         → HasAll parts w table.now.planes (linked_of rings.now.rings) }
-    ensures made { BelongTo table.now walk.new.signs }
+    ensures made { WalkWasMadeFrom table.now walk.new }
     ensures steps { steps.new ≤ steps.old + length rings.now.rings }
     ensures crossed { (r : Ring) → Contains rings.now.rings r → r.plane ≡ i
         → walk.new.crossed ≡ min (walk.old.crossed + length r.stops) (2 ^ 64 - 1) }
@@ -153,14 +153,14 @@ fn search<L: Ledger>(
     steps: &mut Steps<L>,
 ) -> Option<Serving>
     requires plane { i < length table.now.planes }
-    requires made { BelongTo table.now walk.old.signs }
+    requires made { WalkWasMadeFrom table.now walk.old }
     requires rings { WereMadeFrom table.now.planes rings.now }
     requires set { IsSubset w table.now.of }
     requires some { IsNonempty w }
     requires linked { (parts : List PartValue) → WasMadeFrom parts table.now → (k : ℕ) (n : Vector)
         → slice_get table.now.planes k ≡ Some n → Contains (linked_of rings.now.rings) k
         ↔ IsPlaneOf parts w n }
-    ensures made { BelongTo table.now walk.new.signs }
+    ensures made { WalkWasMadeFrom table.now walk.new }
     ensures steps { steps.new + count_below i (linked_of rings.now.rings) * length rings.now.rings
         ≤ steps.old + count_below (i + 1) (linked_of rings.now.rings) * length rings.now.rings }
     ensures crossed { (more : ℕ)
@@ -200,11 +200,11 @@ fn step_of(table: &PlaneTable, i: u32, found: Serving) -> Step
 }
 
 /// The step of the set `w` of parts: along the first vertex of its planes, in the order of pairs, that serves. None
-/// where the set is stuck. For a table of `w` it is the answer of [`part_step`](crate::part_step).
+/// exactly where the set is stuck. For a table of `w` it is the answer of [`part_step`](crate::part_step).
 ///
-/// The linked planes are those of `w`. The walk goes along whole circles, in the order of the table, up to the first
-/// on which a vertex serves. For n linked planes it computes at most n n signs, n where it enters a circle. It takes
-/// no memory.
+/// The rings and the walk were made from this table, and the linked planes are those of `w`. The walk goes along whole
+/// circles, in the order of the table, up to the first on which a vertex serves. For n linked planes it computes at
+/// most n n signs, n where it enters a circle. It takes no memory.
 pub fn part_step_rings<L: Ledger>(
     table: &PlaneTable,
     rings: &Rings,
@@ -212,14 +212,14 @@ pub fn part_step_rings<L: Ledger>(
     w: PartSet,
     steps: &mut Steps<L>,
 ) -> Option<Step>
-    requires made { BelongTo table.now walk.old.signs }
+    requires made { WalkWasMadeFrom table.now walk.old }
     requires rings { WereMadeFrom table.now.planes rings.now }
     requires set { IsSubset w table.now.of }
     requires two { 2 ≤ set.len w }
     requires linked { (parts : List PartValue) → WasMadeFrom parts table.now → (k : ℕ) (n : Vector)
         → slice_get table.now.planes k ≡ Some n → Contains (linked_of rings.now.rings) k
         ↔ IsPlaneOf parts w n }
-    ensures made { BelongTo table.now walk.new.signs }
+    ensures made { WalkWasMadeFrom table.now walk.new }
     ensures steps { steps.new ≤ steps.old + length rings.now.rings * length rings.now.rings }
     ensures crossed { (parts : List PartValue) (k : ℕ) → WasMadeFrom parts table.now
         → k < length table.now.planes
@@ -227,8 +227,9 @@ pub fn part_step_rings<L: Ledger>(
         → min (walk.old.crossed + lengths_below (k + 1) rings.now.rings) (2 ^ 64 - 1) ≤ walk.new.crossed }
     ensures size { IfSome result (λ s. IsWithin DIRECTION s.d) }
     ensures step { (parts : List PartValue) → WasMadeFrom parts table.now
-        → MatchOption result (HasNoStep false parts w × IsStuck parts w)
-        (λ s. IsStep false parts w (try_vertex s.d) s.moved) }
+        → MatchOption result (HasNoStep false parts w) (λ s. IsStep false parts w (try_vertex s.d) s.moved) }
+    ensures stuck { (parts : List PartValue) → WasMadeFrom parts table.now
+        → (result ≡ None) ↔ IsStuck parts w }
 {
     let _len = table.len();
     for i in 0..table.len() {

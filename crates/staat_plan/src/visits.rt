@@ -21,9 +21,8 @@ ghost use Rattle.staat_vec.specs.Vectors.{vector_cmp, origin};
 ghost use Rattle.staat_model.specs.Certify.{IsDirection, NamesWitness};
 ghost use Rattle.staat_model.specs.Plans.{IsStuck};
 ghost use Rattle.staat_pairs.specs.Tables.{WasMadeFrom};
-ghost use Rattle.staat_ring.specs.Belonging.{BelongTo};
 ghost use Rattle.staat_ring.specs.Rings.{WereMadeFrom, linked_of};
-ghost use Rattle.staat_ring.specs.Walked.{IsEntered};
+ghost use Rattle.staat_ring.specs.Walked.{IsEntered, WalkWasMadeFrom};
 ghost use Rattle.staat_plan.specs.Listings.{IsSizedDirection, key_of};
 ghost use Rattle.staat_plan.specs.Visits.{AreAllFound, AreFound, AreFoundBelow, KeepsTrees, AreStillFound, HasFound};
 ghost use Rattle.staat_plan.specs.Visits.{IsDirectionFound, IsNumberHere, StandsAmong};
@@ -177,7 +176,7 @@ fn visit_once(
     requires stuck { IsStuck sound.now table.now.of }
     requires rings { WereMadeFrom table.now.planes rings.now }
     requires all { rings.now.unlinked ≡ [] }
-    requires signs { BelongTo table.now walk.now.signs }
+    requires signs { WalkWasMadeFrom table.now walk.now }
     requires entered { IsEntered table.now.planes rings.now.rings walk.now }
     requires circle { walk.now.circle ≡ circle }
     requires ascending { IsStrictlySortedBy vector_cmp directions.now }
@@ -210,7 +209,7 @@ fn go_round(
     requires stuck { IsStuck sound.now table.now.of }
     requires rings { WereMadeFrom table.now.planes rings.now }
     requires all { rings.now.unlinked ≡ [] }
-    requires signs { BelongTo table.now walk.old.signs }
+    requires signs { WalkWasMadeFrom table.now walk.old }
     requires entered { IsEntered table.now.planes rings.now.rings walk.old }
     requires circle { walk.old.circle ≡ circle }
     requires place { walk.old.place ≡ 0 }
@@ -218,7 +217,7 @@ fn go_round(
     requires each { All IsSizedDirection directions.now }
     requires found { HasFound sound.now table.now.of directions.now found.old }
     requires below { AreFoundBelow table.now.planes rings.now.rings directions.now found.old.numbers.items circle }
-    ensures signs { OnOk result (BelongTo table.now walk.new.signs) }
+    ensures signs { OnOk result (WalkWasMadeFrom table.now walk.new) }
     ensures found { OnOk result (HasFound sound.now table.now.of directions.now found.new) }
     ensures below { OnOk result (AreFoundBelow table.now.planes rings.now.rings directions.now
         found.new.numbers.items (circle + 1)) }
@@ -246,7 +245,7 @@ fn go_round_all<L: Ledger>(
     requires stuck { IsStuck sound.now table.now.of }
     requires rings { WereMadeFrom table.now.planes rings.now }
     requires all { rings.now.unlinked ≡ [] }
-    requires signs { BelongTo table.now walk.old.signs }
+    requires signs { WalkWasMadeFrom table.now walk.old }
     requires ascending { IsStrictlySortedBy vector_cmp directions.now }
     requires each { All IsSizedDirection directions.now }
     requires found { HasFound sound.now table.now.of directions.now found.old }

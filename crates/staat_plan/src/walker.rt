@@ -8,8 +8,8 @@ ghost use Rattle.staat_model.specs.Outcomes.{HasNoStep, IsStep, try_vertex};
 ghost use Rattle.staat_model.specs.Sets.{IsSubset};
 ghost use Rattle.staat_pairs.specs.Tables.{WasMadeFrom};
 ghost use Rattle.staat_plan.specs.RingSets.{AreAllLinkedFrom, AreForTable, AreThoseLinked};
-ghost use Rattle.staat_ring.specs.Belonging.{BelongTo};
 ghost use Rattle.staat_ring.specs.Rings.{WereMadeFrom, linked_of};
+ghost use Rattle.staat_ring.specs.Walked.{WalkWasMadeFrom};
 
 use crate::ring_step::part_step_rings;
 use staat_limits::LEAST_PLANES;
@@ -38,7 +38,7 @@ fn step_past<L: Ledger>(
     k: u32,
     steps: &mut Steps<L>,
 ) -> Option<Step>
-    requires made { BelongTo table.now walk.old.signs }
+    requires made { WalkWasMadeFrom table.now walk.old }
     requires rings { WereMadeFrom table.now.planes rings.old }
     requires within { IsSubset w table.now.of }
     requires two { 2 ≤ set.len w }
@@ -48,7 +48,7 @@ fn step_past<L: Ledger>(
     requires before { (parts : List PartValue) → WasMadeFrom parts table.now
         → AreThoseLinked parts table.now.planes w (linked_of rings.old.rings) k }
     ensures rings { rings.new ≡ rings.old }
-    ensures made { BelongTo table.now walk.new.signs }
+    ensures made { WalkWasMadeFrom table.now walk.new }
     ensures size { IfSome result (λ s. IsWithin DIRECTION s.d) }
     ensures step { (parts : List PartValue) → WasMadeFrom parts table.now
         → MatchOption result (HasNoStep false parts w) (λ s. IsStep false parts w (try_vertex s.d) s.moved) }
@@ -76,10 +76,10 @@ fn counted_step<L: Ledger>(
     requires name { blank.name ≡ L.name }
     requires parts { blank.parts ≡ L.parts }
     requires some { 0 < blank.parts }
-    requires ready { AreForTable table.now rings.old walk.old.signs }
+    requires ready { AreForTable table.now rings.old walk.old }
     requires within { IsSubset w table.now.of }
     requires two { 2 ≤ set.len w }
-    ensures ready { AreForTable table.now rings.new walk.new.signs }
+    ensures ready { AreForTable table.now rings.new walk.new }
     ensures size { IfSome result (λ s. IsWithin DIRECTION s.d) }
     ensures step { (parts : List PartValue) → WasMadeFrom parts table.now
         → MatchOption result (HasNoStep false parts w) (λ s. IsStep false parts w (try_vertex s.d) s.moved) }
@@ -94,7 +94,7 @@ fn counted_step<L: Ledger>(
 impl Walker {
     /// Rings and a walk for a table.
     pub(crate) fn new(alloc: Global, table: &PlaneTable) -> Result<Walker, OutOfMemory>
-        ensures { IfOk result (λ x. AreForTable table.now x.rings x.walk.signs) }
+        ensures { IfOk result (λ x. AreForTable table.now x.rings x.walk) }
     {
         let rings = Rings::build(alloc, table)?;
         let walk = Walk::new(alloc, table)?;
@@ -106,10 +106,10 @@ impl Walker {
     ///
     /// The planes that are none of the set are unlinked before, and linked again behind it.
     pub(crate) fn step(&mut self, table: &PlaneTable, w: PartSet) -> Option<Step>
-        requires ready { AreForTable table.now self.old.rings self.old.walk.signs }
+        requires ready { AreForTable table.now self.old.rings self.old.walk }
         requires within { IsSubset w table.now.of }
         requires two { 2 ≤ set.len w }
-        ensures ready { AreForTable table.now self.new.rings self.new.walk.signs }
+        ensures ready { AreForTable table.now self.new.rings self.new.walk }
         ensures size { IfSome result (λ s. IsWithin DIRECTION s.d) }
         ensures step { (parts : List PartValue) → WasMadeFrom parts table.now
             → MatchOption result (HasNoStep false parts w) (λ s. IsStep false parts w (try_vertex s.d) s.moved) }

@@ -3,7 +3,8 @@ use Rattle.std.specs.Prelude.{◌≡◌, ◌≢◌, ℕ, List}
 use Rattle.staat_vec.specs.declared.vector.V3.{V3}
 use Rattle.staat_vec.specs.declared.vector.TheConstants.{NORMAL}
 use Rattle.staat_vec.specs.Vectors.{IsWithin, cross, origin}
-use Rattle.staat_ring.specs.Belonging.{HoldSigns}
+use Rattle.staat_pairs.specs.Tables.{Table}
+use Rattle.staat_ring.specs.Belonging.{BelongTo, HoldSigns}
 use Rattle.staat_ring.specs.Places.{IsStopAt}
 use Rattle.staat_ring.specs.Rings.{Ring, RingStop, linked_of, vertex_of}
 use Rattle.staat_ring.specs.Signs.{Signed}
@@ -22,6 +23,11 @@ pub record Walked : Type 0 where
   pub place : ℕ
   pub node : ℕ
   pub vertex : V3
+
+-- the walk was made from the table: it has a sign for each of its planes, and it knows the facets of each ordered pair
+-- of pieces of different parts, each by its plane
+abbrev pub WalkWasMadeFrom : Table → Walked → Type 0
+WalkWasMadeFrom t w = BelongTo t w.signs
 
 -- the walk stands at a stop of the rings, and holds the signs there
 pub record IsEntered (planes : List V3) (rings : List Ring) (w : Walked) : Type 0 where

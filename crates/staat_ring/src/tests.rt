@@ -1,8 +1,7 @@
 // Worked values: the rings of a box with a lid, and a walk along one of its circles.
 ghost use Rattle.std.specs.Prelude.{◌≡◌, ◌<◌, Contains};
-ghost use Rattle.staat_ring.specs.Belonging.{BelongTo};
 ghost use Rattle.staat_ring.specs.Rings.{WereMadeFrom, linked_of};
-ghost use Rattle.staat_ring.specs.Walked.{IsEntered};
+ghost use Rattle.staat_ring.specs.Walked.{IsEntered, WalkWasMadeFrom};
 
 use crate::{Rings, Walk};
 use staat_asm::build;
@@ -66,13 +65,13 @@ fn a_plane_out_and_back(rt: HostRuntime) -> Result<(), Fail> {
 
 // enters the circle of the first axis
 fn enter_first<L: Ledger>(walk: &mut Walk, table: &PlaneTable, rings: &Rings, blank: Blank)
-    requires made { BelongTo table.now walk.old.signs }
+    requires made { WalkWasMadeFrom table.now walk.old }
     requires rings { WereMadeFrom table.now.planes rings.now }
     requires linked { Contains (linked_of rings.now.rings) 0 }
     requires name { blank.name ≡ L.name }
     requires parts { blank.parts ≡ L.parts }
     requires some { 0 < blank.parts }
-    ensures made { BelongTo table.now walk.new.signs }
+    ensures made { WalkWasMadeFrom table.now walk.new }
     ensures entered { IsEntered table.now.planes rings.now.rings walk.new }
 {
     let mut steps = Steps::<L>::new(blank);
@@ -89,7 +88,7 @@ fn around(
     rings: &Rings,
     walk: &mut Walk,
 ) -> Result<Vec<Stop>, OutOfMemory>
-    requires made { BelongTo table.now walk.old.signs }
+    requires made { WalkWasMadeFrom table.now walk.old }
     requires rings { WereMadeFrom table.now.planes rings.now }
     requires entered { IsEntered table.now.planes rings.now.rings walk.old }
 {

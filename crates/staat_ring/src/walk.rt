@@ -39,7 +39,7 @@ ghost use Rattle.staat_ring.specs.Belonging.{BelongTo, HasAll, HoldSigns};
 ghost use Rattle.staat_ring.specs.Marks.{mark_of, marked};
 ghost use Rattle.staat_ring.specs.Places.{HasNode, IsStopAt};
 ghost use Rattle.staat_ring.specs.Rings.{Ring, RingStop, WereMadeFrom, linked_of};
-ghost use Rattle.staat_ring.specs.Walked.{IsEntered};
+ghost use Rattle.staat_ring.specs.Walked.{IsEntered, WalkWasMadeFrom};
 
 use crate::index::signs_of;
 use crate::signs::Signs;
@@ -190,7 +190,7 @@ impl Model for Walk {
 impl Walk {
     /// A walk for the planes of a table, which stands nowhere yet.
     pub fn new(alloc: Global, table: &PlaneTable) -> Result<Walk, OutOfMemory>
-        ensures made { IfOk result (λ w. BelongTo table.now w.signs) }
+        ensures made { IfOk result (WalkWasMadeFrom table.now) }
         ensures crossed { IfOk result (λ w. w.crossed ≡ 0) }
     {
         let _len = table.len();
@@ -220,7 +220,7 @@ impl Walk {
     /// The blocking graph at the vertex, among parts of which all planes are linked.
     pub fn graph(&self) -> Graph
         ensures { (parts : List PartValue) (t : Table) (rings : List Ring) (w : PartSetValue) → WasMadeFrom parts t
-            → IsTable t → BelongTo t self.now.signs → IsEntered t.planes rings self.now → IsSubset w t.of
+            → IsTable t → WalkWasMadeFrom t self.now → IsEntered t.planes rings self.now → IsSubset w t.of
             → HasAll parts w t.planes (linked_of rings) → ShowsBlocking parts self.now.vertex w result.rows }
     {
         self.signs.graph()
@@ -231,7 +231,7 @@ impl Walk {
     pub fn is_strong(&self, w: PartSet) -> bool
         requires { IsNonempty w }
         ensures { (parts : List PartValue) (t : Table) (rings : List Ring) → WasMadeFrom parts t → IsTable t
-            → BelongTo t self.now.signs → IsEntered t.planes rings self.now → IsSubset w t.of
+            → WalkWasMadeFrom t self.now → IsEntered t.planes rings self.now → IsSubset w t.of
             → HasAll parts w t.planes (linked_of rings)
             → IsTrue result ↔ IsStrong (Blocks parts self.now.vertex) w }
     {
@@ -241,7 +241,7 @@ impl Walk {
     /// Whether the vertex leads ahead of all facets of an ordered pair of pieces, of which all planes are linked. It
     /// looks at two counts.
     pub fn leads_ahead(&self, table: &PlaneTable, arc: Arc) -> bool
-        requires made { BelongTo table.now self.now.signs }
+        requires made { WalkWasMadeFrom table.now self.now }
         requires across { IsTableArc table.now arc }
         ensures { (parts : List PartValue) (rings : List Ring) (w : PartSetValue) → WasMadeFrom parts table.now
             → IsEntered table.now.planes rings self.now → IsSubset w table.now.of → Has w arc.a → Has w arc.b
@@ -279,10 +279,10 @@ impl Walk {
     /// Of the planes only those through the vertex that is left and through the one that is reached get new signs:
     /// whether a plane is left to its positive side is known from the entry.
     pub fn cross(&mut self, table: &PlaneTable, rings: &Rings) -> bool
-        requires made { BelongTo table.now self.old.signs }
+        requires made { WalkWasMadeFrom table.now self.old }
         requires rings { WereMadeFrom table.now.planes rings.now }
         requires entered { IsEntered table.now.planes rings.now.rings self.old }
-        ensures made { BelongTo table.now self.new.signs }
+        ensures made { WalkWasMadeFrom table.now self.new }
         ensures entered { IsEntered table.now.planes rings.now.rings self.new }
         ensures circle { self.new.circle ≡ self.old.circle }
         ensures place { (s : RingStop) → (at : IsStopAt rings.now.rings self.old.circle self.old.place s)
@@ -309,10 +309,10 @@ impl Walk {
         circle: u32,
         steps: &mut Steps<L>,
     )
-        requires made { BelongTo table.now self.old.signs }
+        requires made { WalkWasMadeFrom table.now self.old }
         requires rings { WereMadeFrom table.now.planes rings.now }
         requires linked { Contains (linked_of rings.now.rings) circle }
-        ensures made { BelongTo table.now self.new.signs }
+        ensures made { WalkWasMadeFrom table.now self.new }
         ensures entered { IsEntered table.now.planes rings.now.rings self.new }
         ensures circle { self.new.circle ≡ circle }
         ensures place { self.new.place ≡ 0 }

@@ -8,10 +8,11 @@ use Rattle.staat_model.specs.Outcomes.{IsStep, try_vertex}
 use Rattle.staat_ring.specs.Rings.{Ring, linked_of}
 use Rattle.staat_ring.specs.Stepping.{count_below}
 use Rattle.staat_ring.proofs.SignAll.{count_all}
-use Rattle.staat_plan.specs.RingSearches.{NoneServes, lengths_below}
+use Rattle.staat_plan.specs.RingSearches.{lengths_below}
 use Rattle.staat_plan.proofs.OutcomeLemmas.{some_member}
 use Rattle.staat_plan.proofs.RingLengths.{lengths_past, lengths_rise}
 use Rattle.staat_plan.proofs.RingStepLaw.{has_no_step, is_stuck}
+use Rattle.staat_plan.proofs.StepLemmas.{not_stuck}
 use Rattle.staat_plan.proofs.ring_step.part_step_rings.Goals as goal
 
 none_of : (o : Option Serving) → ((x : Serving) → o ≡ Some x → ⊥) → o ≡ None
@@ -115,11 +116,22 @@ returns-clause-crossed g c parts k made lt none =
 pub returns-clause-step : goal.returns-clause-step
 returns-clause-step g c parts made =
     let rings = c.args.rings.now.rings in
-    let none : NoneServes parts c.args.table.now.planes c.args.w (linked_of rings) (length c.args.table.now.planes) =
-    λ h e ch ce lt later. c.loop-i.invariant.none parts made h e ch ce (let a = c.loop-i.invariant.all in let t = c.loop-i-test.false in omega (arith, lt, a, t)) later in (
-      has_no_step parts c.args.table.now c.args.w c.len-len.ensures.rules rings (unlinked_of c.args.rings.now.unlinked) c.requires.rings.now made c.requires.set (c.requires.linked parts made) none,
-      is_stuck parts c.args.table.now c.args.w c.len-len.ensures.rules rings (unlinked_of c.args.rings.now.unlinked) c.requires.rings.now made c.requires.set (c.requires.linked parts made) none c.requires.two,
+    has_no_step parts c.args.table.now c.args.w c.len-len.ensures.rules rings (unlinked_of c.args.rings.now.unlinked) c.requires.rings.now made c.requires.set (c.requires.linked parts made)
+    (λ h e ch ce lt later. c.loop-i.invariant.none parts made h e ch ce (let a = c.loop-i.invariant.all in let t = c.loop-i-test.false in omega (arith, lt, a, t)) later)
+
+pub returns-clause-stuck : goal.returns-clause-stuck
+returns-clause-stuck g c parts made =
+    let rings = c.args.rings.now.rings in (
+      (λ none. is_stuck parts c.args.table.now c.args.w c.len-len.ensures.rules rings (unlinked_of c.args.rings.now.unlinked) c.requires.rings.now made c.requires.set (c.requires.linked parts made)
+          (λ h e ch ce lt later. c.loop-i.invariant.none parts made h e ch ce (let a = c.loop-i.invariant.all in let t = c.loop-i-test.false in omega (arith, lt, a, t)) later) c.requires.two),
+      (λ stuck. refl),
     )
+
+pub returns-in-Some-clause-stuck : goal.returns-in-Some-clause-stuck
+returns-in-Some-clause-stuck g c parts made = (
+  (λ none. absurd cc),
+  (λ stuck. absurd (not_stuck parts c.args.w (try_vertex c.step_of.result.d) c.step_of.result.moved (returns-in-Some-clause-step g c parts made) stuck)),
+)
 
 pub search-requires-clause-some : goal.search-requires-clause-some
 search-requires-clause-some g c = some_member c.args.w (let two = c.requires.two in omega (arith, two))

@@ -3,15 +3,14 @@ use Rattle.std.specs.Prelude.{Some}
 use Rattle.staat_model.specs.declared.assembly.Part.{Part}
 use Rattle.staat_pairs.specs.Tables.{WasMadeFrom}
 use Rattle.staat_ring.specs.Rings.{Ring}
-use Rattle.staat_ring.specs.Belonging.{BelongTo}
-use Rattle.staat_ring.specs.Walked.{IsEntered}
+use Rattle.staat_ring.specs.Walked.{IsEntered, WalkWasMadeFrom}
 use Rattle.staat_plan.specs.declared.ring_step.Serving.{Serving}
 use Rattle.staat_plan.specs.RingSearches.{IsBest, IsLater, length_at}
 use Rattle.staat_plan.proofs.ring_step.search_circle.Given as goal
 
 abbrev pub invariant-stops : goal.invariant-stops
 invariant-stops g l = record {
-  made : BelongTo l.table l.walk.signs;
+  made : WalkWasMadeFrom l.table l.walk;
   entered : IsEntered l.table.planes l.rings.rings l.walk;
   circle : l.walk.circle ≡ l.i;
   placed : (h : Serving) → l.best ≡ Some h → IsLater l.i (length l.table.planes) h;

@@ -1,12 +1,11 @@
 use Rattle.std.proofs.Common.{◌≡◌, ◌<◌}
-use Rattle.staat_ring.specs.Belonging.{BelongTo}
-use Rattle.staat_ring.specs.Walked.{IsEntered}
+use Rattle.staat_ring.specs.Walked.{IsEntered, WalkWasMadeFrom}
 use Rattle.staat_plan.specs.Visits.{AreFoundBelow, AreFoundOn, HasFound}
 use Rattle.staat_plan.proofs.visits.go_round.Given as goal
 
 abbrev pub invariant-loop-place : goal.invariant-loop-place
 invariant-loop-place l = record {
-  signs : BelongTo l.table l.walk.signs;
+  signs : WalkWasMadeFrom l.table l.walk;
   entered : IsEntered l.table.planes l.rings.rings l.walk;
   circle : l.walk.circle ≡ l.circle;
   place : l._place < l._place-end → l.walk.place ≡ l._place;
