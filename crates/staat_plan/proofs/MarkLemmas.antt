@@ -1,7 +1,7 @@
 -- The marks of a robust plan hold.
-use Rattle.std.proofs.Common.{◌≡◌, ◌≢◌, ◌⊎◌, inl, inr, refl, sym, ap, subst, ◌∙◌, true, pos}
+use Rattle.std.proofs.Common.{◌≡◌, ◌≢◌, ◌⊎◌, inl, inr, refl, sym, ap, subst, ◌∙◌, true, pos, ℕ, zero, suc, Bool, Ok, Err}
 use Rattle.std.proofs.Common.{◌+◌, List, [], ◌∷◌, ◌++◌, All, Contains, map}
-use Rattle.std.specs.Prelude.{cond, false}
+use Rattle.std.specs.Prelude.{cond, false, IfOk, MatchResult, Result}
 use Rattle.std.proofs.lemmas.List.{map-append}
 use Rattle.std.proofs.lemmas.List.Elements.{All-contains}
 use Rattle.std.specs.FinSet as set
@@ -17,18 +17,24 @@ use Rattle.staat_model.specs.declared.assembly.Part.{Part}
 use Rattle.staat_model.specs.declared.set.PartSet.{PartSet}
 use Rattle.staat_model.specs.declared.tree.Kind.{Kind}
 use Rattle.staat_model.specs.declared.tree.Kind.TheVariants.{Edge, Open, Point}
+use Rattle.staat_model.specs.declared.tree.Outcome.{Outcome}
 use Rattle.staat_model.specs.Assemblies.{IsAssembly}
 use Rattle.staat_model.specs.Cells.{AreCellsOf, CellEntry, IsEntry, is_zero, kind_by_count, kind_of, signs_of}
-use Rattle.staat_model.specs.Outcomes.{AreCellTries, IsOutcome, IsStep, Serves, Try, both_planned, one_part, planned}
-use Rattle.staat_model.specs.Outcomes.{try_cell}
+use Rattle.staat_model.specs.Outcomes.{AreCellTries, Finding, IsOutcome, IsStep, Serves, Try, both_planned, one_part, planned}
+use Rattle.staat_model.specs.Outcomes.{finding_of, stuck, try_cell}
 use Rattle.staat_model.specs.Planes.{ArePlanes, vertices}
 use Rattle.staat_model.specs.Plans.{Plan, parts_of, split}
-use Rattle.staat_model.proofs.CellLemmas.{zeros, zeros-cons}
+use Rattle.staat_model.proofs.CellLemmas.{off_all, zeros, zeros-cons}
 use Rattle.staat_model.proofs.Differences.{from_map}
 use Rattle.staat_model.proofs.GraphLemmas.{zero_sign}
 use Rattle.staat_model.proofs.OneTable.{ArePlanes-unique}
-use Rattle.staat_model.proofs.PointLemmas.{point_is_vertex_lemma}
-use Rattle.staat_plan.specs.Marks.{HasMark, MarkHolds, MarksHold, OnlyPlanesServe, OnlyVerticesServe, at_leaf}
+use Rattle.staat_model.proofs.Members.{All-from_members}
+use Rattle.staat_model.proofs.PointLemmas.{point_is_vertex_lemma, representative_lemma}
+use Rattle.staat_planes.specs.declared.refusal.PlanesRefusal.{PlanesRefusal}
+use Rattle.staat_planes.specs.Refusals.{IsPlanesRefusal}
+use Rattle.staat_plan.specs.Planning.{IsOutcomeOf}
+use Rattle.staat_plan.specs.Marks.{AreMarksRight, HasMark, IsOffPlanes, MarkHolds, MarksHold, OnlyPlanesServe}
+use Rattle.staat_plan.specs.Marks.{OnlyVerticesServe, at_leaf}
 use Rattle.staat_plan.specs.Marks.{at_split}
 use Rattle.staat_plan.proofs.Right.{right}
 use Rattle.staat_plan.proofs.Tries.{cell_serves, in_kind, mapped}
@@ -71,6 +77,11 @@ open_off : (planes : List V3) (d : V3) → All (λ n. dot n d ≢ pos 0) planes
 open_off planes d off =
     ap kind_by_count (no_zeros planes d (λ n c. All-contains (λ m. dot m d ≢ pos 0) planes n off c))
 
+no_zero : (n : ℕ) → kind_by_count n ≡ Open → n ≡ 0
+no_zero zero e = refl
+no_zero (suc zero) e = cc
+no_zero (suc (suc n)) e = cc
+
 -- ---- the mark of a step
 
 module _ (parts : List Part) (is : IsAssembly parts) (w : PartSet) (planes : List V3)
@@ -110,28 +121,42 @@ module _ (parts : List Part) (is : IsAssembly parts) (w : PartSet) (planes : Lis
               primitive-is d free.moves,
             )
 
+  -- the representative of an open cell lies off all planes
+  off_planes : (c : CellEntry) → IsEntry planes Open c → IsOffPlanes parts w c.d
+  off_planes c entry others others_are =
+      let signs = representative_lemma parts w planes Open c.signs c.d are entry.cell entry.by_count entry.representative in
+      let none : zeros (signs_of planes c.d) ≡ 0 = ap zeros signs ∙ no_zero (zeros c.signs) entry.by_count in
+      subst (All (λ n. dot n c.d ≢ pos 0)) (ArePlanes-unique parts w planes others are others_are)
+      (All-from_members (λ n. dot n c.d ≢ pos 0) planes
+      (λ n n_in z. off_all planes c.d none n n_in (ap sign z)))
+
   none_tried : (cells : List CellEntry) →
       ((t : Try) → Contains (map try_cell cells) t → Serves parts w t.d → ⊥) → NoneServes cells
   none_tried cells none c c_in = none (try_cell c) (mapped try_cell cells c c_in)
 
   marked : (kind : Kind) (cells : List CellEntry) (try : Try) → AreCellsOf planes kind cells
-      → IsFirst (λ t. Serves parts w t.d) (map try_cell cells) try → MarkHolds parts w kind
-      → HasMark parts w try.mark
+      → IsFirst (λ t. Serves parts w t.d) (map try_cell cells) try
+      → ((c : CellEntry) → IsEntry planes kind c → MarkHolds parts w c.d kind)
+      → HasMark parts w try
   marked kind cells try of first holds =
       let found = IsFirst-in (λ (t : Try). Serves parts w t.d) (map try_cell cells) try first in
       let (c, c_in, e) = from_map try_cell cells try found.0 in
       let entry = All-contains (IsEntry planes kind) cells c of.each c_in in
-      record { mark = kind; is = ap (λ (t : Try). t.mark) e ∙ ap (λ k. k ∷ []) entry.kind_is; holds = holds }
+      record {
+        mark = kind;
+        is = ap (λ (t : Try). t.mark) e ∙ ap (λ k. k ∷ []) entry.kind_is;
+        holds = subst (λ (t : Try). MarkHolds parts w t.d kind) (sym e) (holds c entry);
+      }
 
 pub mark_holds_lemma : (parts : List Part) → IsAssembly parts → (w : PartSet) (try : Try) (side : PartSet)
     → IsStep true parts w try side
-    → HasMark parts w try.mark
+    → HasMark parts w try
 mark_holds_lemma parts is w try side step = go step.tries_are
   where
     P : Try → Type 0
     P t = Serves parts w t.d
 
-    go : AreCellTries parts w step.tries → HasMark parts w try.mark
+    go : AreCellTries parts w step.tries → HasMark parts w try
     go are =
         let o = map try_cell are.opens in
         let e = map try_cell are.edges in
@@ -143,9 +168,10 @@ mark_holds_lemma parts is w try side step = go step.tries_are
         let planes_are = are.planes_are in
         elim (first_in (λ (t : Try). Serves parts w t.d) (o ++ e) p try first) [
           | inl early ↦ (elim (first_in (λ (t : Try). Serves parts w t.d) o e try early) [
-            | inl a ↦ marked parts is w are.planes planes_are Open are.opens try are.opens_are a tt
-            | inr b ↦ marked parts is w are.planes planes_are Edge are.edges try are.edges_are b.1
-                (only_planes parts is w are.planes planes_are are.opens are.opens_are
+            | inl a ↦ marked parts is w are.planes planes_are Open are.opens try are.opens_are a
+                (off_planes parts is w are.planes planes_are)
+            | inr b ↦ marked parts is w are.planes planes_are Edge are.edges try are.edges_are b.1 (λ x entry.
+                only_planes parts is w are.planes planes_are are.opens are.opens_are
                 (none_tried parts is w are.planes planes_are are.opens b.0))
           ])
           | inr c ↦ (
@@ -153,11 +179,11 @@ mark_holds_lemma parts is w try side step = go step.tries_are
               (λ t t_in. c.0 t (Rattle.std.proofs.lemmas.List.Elements.Contains-append_left o e t t_in)) in
               let no_edge = none_tried parts is w are.planes planes_are are.edges
               (λ t t_in. c.0 t (Rattle.std.proofs.lemmas.List.Elements.Contains-append_right o e t t_in)) in
-              marked parts is w are.planes planes_are Point are.points try are.points_are c.1 (
+              marked parts is w are.planes planes_are Point are.points try are.points_are c.1 (λ x entry. (
                 only_planes parts is w are.planes planes_are are.opens are.opens_are no_open,
                 only_vertices parts is w are.planes planes_are are.opens are.opens_are no_open are.edges are.edges_are
                     no_edge,
-              ))
+              )))
         ]
 
 -- ---- the marks of a plan
@@ -171,6 +197,18 @@ module _ (parts : List Part) (is : IsAssembly parts) where
       let whole : set.union (parts_of moved) (parts_of rest) ≡ w =
       (right true parts is w (planned (split d moved rest) marks) (both_planned two step one sub e marks_are)).0 in
       let own = mark_holds_lemma parts is w try side step in
-      at_split (subst (λ u. MarkHolds parts u own.mark) (sym whole) own.holds)
+      at_split (subst (λ v. MarkHolds parts (set.union (parts_of moved) (parts_of rest)) v own.mark) (sym e)
+      (subst (λ u. MarkHolds parts u try.d own.mark) (sym whole) own.holds))
       (marks_hold_lemma side moved ms one) (marks_hold_lemma (set.difference w side) rest rs sub)
       (marks_are ∙ ap (λ l. l ++ ms ++ rs) own.is)
+
+  marks_right : (w : PartSet) (f : Finding) → IsOutcome true parts w f → AreMarksRight parts f
+  marks_right w (planned plan marks) outcome = marks_hold_lemma w plan marks outcome
+  marks_right w (stuck a) outcome = tt
+
+  pub marks_found : (robust : Bool) (w : PartSet) (limit : ℕ) (result : Result Outcome PlanesRefusal)
+      → MatchResult result (IsOutcomeOf robust parts w limit) (IsPlanesRefusal parts w limit)
+      → IfOk result (λ o. robust ≡ true → AreMarksRight parts (finding_of o))
+  marks_found robust w limit (Ok o) of = λ yes.
+      marks_right w (finding_of o) (subst (λ r. IsOutcome r parts w (finding_of o)) yes of.is)
+  marks_found robust w limit (Err x) of = tt

@@ -49,16 +49,16 @@ pub fn tries_decide()
         → IsStuck parts w ↔ All (λ t. Serves parts w t.d → ⊥) tries }
 {}
 
-/// In a robust plan a step has one mark. It is an edge or a point only where no direction off all planes of the set
-/// serves it, and a point only where each direction that serves it is a positive multiple of a vertex.
+/// In a robust plan a step has one mark. It is an open cell only where the direction lies off all planes of the set, an
+/// edge or a point only where no direction off all planes serves it, and a point only where each direction that serves
+/// it is a positive multiple of a vertex.
 pub fn mark_holds()
     ensures { (parts : List PartValue) (w : PartSetValue) (try : Try) (side : PartSetValue)
-        → IsAssembly parts → IsStep true parts w try side → HasMark parts w try.mark }
+        → IsAssembly parts → IsStep true parts w try side → HasMark parts w try }
 {}
 
 /// A robust plan has one mark for each split, in preorder, and each of them says of the set that is split what the
-/// mark
-/// of its step says.
+/// mark of its step says.
 pub fn marks_hold()
     ensures { (parts : List PartValue) (w : PartSetValue) (plan : Plan) (marks : List KindValue)
         → IsAssembly parts → IsOutcome true parts w (planned plan marks) → MarksHold parts plan marks }

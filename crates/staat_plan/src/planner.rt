@@ -9,6 +9,7 @@ ghost use Rattle.staat_model.specs.Sets.{Has, IsNonempty, IsSubset, below};
 ghost use Rattle.staat_pairs.specs.Tables.{WasMadeFrom};
 ghost use Rattle.staat_planes.specs.Refusals.{IsPlanesRefusal};
 ghost use Rattle.staat_plan.specs.Certifying.{CanBeCertified};
+ghost use Rattle.staat_plan.specs.Marks.{AreMarksRight};
 ghost use Rattle.staat_plan.specs.Planning.{HasFewPlanes, IsOutcomeOf, Settles, IsSetStep, IsSized, IsStepOf};
 ghost use Rattle.staat_plan.specs.RingSets.{IsReadyFor};
 
@@ -262,8 +263,10 @@ fn outcome_of<F: FacetSource>(
 ///
 /// For a set of parts the step is that of [`part_step`](crate::part_step). In a robust plan it is instead the step
 /// along the representative of the first cell that serves, of the open cells, then the edges, then the points, and
-/// its mark is the kind of the cell. The moved side is planned first, then the rest, and the first set that is
-/// stuck is the outcome. The marks of a plan stand in preorder; a plan that is not robust has none.
+/// its mark is the kind of the cell: open only for a direction off all planes of the set, edge or point only where no
+/// such direction serves, and point only where each that serves is a positive multiple of a vertex. The moved side is
+/// planned first, then the rest, and the first set that is stuck is the outcome. The marks of a plan stand in
+/// preorder; a plan that is not robust has none.
 ///
 /// One table is made for all parts, and in a robust plan one more for each smaller set that comes apart, but not in its
 /// first open cell. Where the first vertices of a set do not decide in a plan that is not robust, its vertices are gone
@@ -284,6 +287,7 @@ pub fn plan<F: FacetSource>(
     ensures outcome { IfOk result (λ o.
         IsOutcome options.robust sound.now (below (length sound.now)) (finding_of o)) }
     ensures right { IfOk result (λ o. Settles sound.now (below (length sound.now)) (finding_of o)) }
+    ensures marks { IfOk result (λ o. options.robust ≡ true → AreMarksRight sound.now (finding_of o)) }
     ensures certified { IfOk result (λ o. CanBeCertified sound.now (finding_of o)) }
     ensures sized { IfOk result (λ o. IsSized (finding_of o)) }
     ensures planes { MatchResult result (λ o. HasFewPlanes sound.now (below (length sound.now)) options.planes)
