@@ -1,0 +1,134 @@
+-- The directions of a plan that is found are within the bound, so that its certificate is never too long.
+use Rattle.std.proofs.Common.{inl, inr, ℕ, zero, suc, ◌≤◌, arith, lit≤, sym, subst, Bool, true, false, List, ◌++◌, length, All, Contains}
+use Rattle.std.specs.FinSet as set
+use Rattle.std.proofs.lemmas.List.Elements.{All-contains, Contains-append_cases}
+use Rattle.staat_vec.specs.declared.vector.V3.{V3}
+use Rattle.staat_vec.specs.declared.vector.TheConstants.{DIRECTION, NORMAL, VERTEX}
+use Rattle.staat_vec.specs.Vectors.{IsWithin}
+use Rattle.staat_vec.proofs.Bounds.{IsWithin-wider}
+use Rattle.staat_vec.proofs.Canons.{IsWithin-canon}
+use Rattle.staat_vec.proofs.Unique.{IsFirst-in}
+use Rattle.staat_limits.specs.Versions.{IsVersion}
+use Rattle.staat_limits.specs.declared.limits.TheConstants.{TEXT_LIMIT}
+use Rattle.staat_cone.proofs.SourceSizes.{facet_within}
+use Rattle.staat_model.specs.declared.assembly.Part.{Part}
+use Rattle.staat_model.specs.declared.certificate.Certificate.{Certificate}
+use Rattle.staat_model.specs.declared.set.PartSet.{PartSet}
+use Rattle.staat_model.specs.declared.tree.Kind.{Kind}
+use Rattle.staat_model.specs.declared.tree.Kind.TheVariants.{Edge, Open, Point}
+use Rattle.staat_model.specs.Assemblies.{IsAssembly}
+use Rattle.staat_model.specs.Cells.{CellEntry, IsEntry}
+use Rattle.staat_model.specs.Certify.{IsCertificateOf}
+use Rattle.staat_model.specs.Outcomes.{AreCellTries, AreTries, IsOutcome, Serves, Try, both_planned, one_part, planned}
+use Rattle.staat_model.specs.Outcomes.{try_cell, try_vertex}
+use Rattle.staat_model.specs.Planes.{ArePlanes, axes, vertices}
+use Rattle.staat_model.specs.Plans.{IsGood, Plan}
+use Rattle.staat_model.specs.Sets.{below}
+use Rattle.staat_model.specs.Texts.{text_of}
+use Rattle.staat_model.proofs.Differences.{from_map}
+use Rattle.staat_model.proofs.GraphLemmas.{piece_is}
+use Rattle.staat_model.proofs.Members.{All-from_members}
+use Rattle.staat_model.proofs.PlaneLemmas.{IsNormal, plane_normal, planes_apart}
+use Rattle.staat_pairs.specs.Tables.{AreTablePlanes, IsPlaneNormal}
+use Rattle.staat_pairs.proofs.BuildLemmas.{none_parallel}
+use Rattle.staat_cells.proofs.TableRules.{vertex_small}
+use Rattle.staat_cells.proofs.WholeLists.{cell_small}
+use Rattle.staat_plan.specs.Planning.{AreWithin}
+use Rattle.staat_plan.proofs.CertificateSizes.{plan_text_short}
+use Rattle.staat_plan.proofs.Right.{right_lemma}
+use Rattle.staat_plan.proofs.SomeCertificate.{some_plan_certificate}
+
+-- ---- the planes of a set of parts are those of a table
+
+axis_within : (n : V3) → Contains axes n → IsWithin NORMAL n
+axis_within n (zero, lt, e) = subst (IsWithin NORMAL) e (record { x = omega arith; y = omega arith; z = omega arith })
+axis_within n (suc zero, lt, e) = subst (IsWithin NORMAL) e (record { x = omega arith; y = omega arith; z = omega arith })
+axis_within n (suc (suc zero), lt, e) = subst (IsWithin NORMAL) e (record { x = omega arith; y = omega arith; z = omega arith })
+axis_within n (suc (suc (suc k)), lt, e) = absurd (omega arith)
+
+module _ (parts : List Part) (is : IsAssembly parts) where
+  plane_within : (w : PartSet) (planes : List V3) → ArePlanes parts w planes → (n : V3) → Contains planes n
+      → IsWithin NORMAL n
+  plane_within w planes are n c =
+      elim (Contains-append_cases axes are.others n (subst (λ l. Contains l n) are.is c)) [
+        | inl axis ↦ axis_within n axis
+        | inr other ↦ (
+            let plane = (are.others_are.each n other).0 in
+            let holds = plane.holds in
+            subst (IsWithin NORMAL) (sym plane.is) (IsWithin-canon NORMAL plane.facet
+            (facet_within holds.p holds.q plane.facet (piece_is parts plane.arc.a plane.arc.i holds.p is holds.p_is)
+            (piece_is parts plane.arc.b plane.arc.j holds.q is holds.q_is) holds.holds)))
+      ]
+
+  table_planes : (w : PartSet) (planes : List V3) → ArePlanes parts w planes → AreTablePlanes planes
+  table_planes w planes are = record {
+    others = are.others;
+    is = are.is;
+    ascending = are.others_are.ascending;
+    each = All-from_members IsPlaneNormal planes (λ n c.
+        let normal : IsNormal n = plane_normal parts w planes n are c in
+        record {
+          primitive = normal.primitive;
+          canonical = normal.canonical;
+          within = plane_within w planes are n c;
+        });
+    apart = none_parallel planes (planes_apart parts w planes are);
+  }
+
+  -- ---- the directions that are tried
+
+  cell_try : (w : PartSet) (tries : List Try) (are : AreCellTries parts w tries) (try : Try) → Contains tries try
+      → IsWithin DIRECTION try.d
+  cell_try w tries are try c =
+      let (cell, cell_in, e) = from_map try_cell (are.opens ++ are.edges ++ are.points) try
+      (subst (λ l. Contains l try) are.is c) in
+      subst (λ (t : Try). IsWithin DIRECTION t.d) (sym e) (one cell cell_in)
+    where
+      small : (kind : Kind) (cells : List CellEntry) → All (IsEntry are.planes kind) cells → (x : CellEntry)
+          → Contains cells x
+          → IsWithin DIRECTION x.d
+      small kind cells all x x_in =
+          cell_small are.planes (table_planes w are.planes are.planes_are) kind x
+          (All-contains (IsEntry are.planes kind) cells x all x_in)
+
+      one : (x : CellEntry) → Contains (are.opens ++ are.edges ++ are.points) x → IsWithin DIRECTION x.d
+      one x x_in = elim (Contains-append_cases (are.opens ++ are.edges) are.points x x_in) [
+        | inl early ↦ (elim (Contains-append_cases are.opens are.edges x early) [
+          | inl open_in ↦ small Open are.opens are.opens_are.each x open_in
+          | inr edge_in ↦ small Edge are.edges are.edges_are.each x edge_in
+        ])
+        | inr point_in ↦ small Point are.points are.points_are.each x point_in
+      ]
+
+  try_small : (robust : Bool) (w : PartSet) (tries : List Try) → AreTries robust parts w tries → (try : Try)
+      → Contains tries try
+      → IsWithin DIRECTION try.d
+  try_small false w tries are try c =
+      let (v, v_in, e) = from_map try_vertex (vertices are.planes) try (subst (λ l. Contains l try) are.is c) in
+      subst (λ (t : Try). IsWithin DIRECTION t.d) (sym e) (IsWithin-wider VERTEX DIRECTION v (lit≤ tt)
+      (vertex_small are.planes v (table_planes w are.planes are.planes_are) v_in))
+  try_small true w tries are try c = cell_try w tries are try c
+
+  -- ---- the plan that is found
+
+  pub outcome_sized : (robust : Bool) (w : PartSet) (plan : Plan) (marks : List Kind)
+      → IsOutcome robust parts w (planned plan marks)
+      → AreWithin DIRECTION plan
+  outcome_sized robust w plan marks (one_part e) = tt
+  outcome_sized robust w plan marks (both_planned {side} {try} {moved} {rest} {d} {ms} {rs} two step one sub e marks_are) = (
+    subst (IsWithin DIRECTION) (sym e) (try_small robust w step.tries step.tries_are try
+        (IsFirst-in (λ (t : Try). Serves parts w t.d) step.tries try step.first).0),
+    outcome_sized robust side moved ms one,
+    outcome_sized robust (set.difference w side) rest rs sub,
+  )
+
+  pub outcome_certified : (robust : Bool) (version : ℕ) (plan : Plan) (marks : List Kind) → IsVersion version
+      → IsOutcome robust parts (below (length parts)) (planned plan marks)
+      → (c : Certificate) × IsCertificateOf parts version (planned plan marks) c
+      × (length (text_of c) ≤ TEXT_LIMIT)
+  outcome_certified robust version plan marks versions outcome =
+      let good : IsGood parts (below (length parts)) plan =
+      right_lemma robust parts is (below (length parts)) (planned plan marks) outcome in
+      let (c, of) = some_plan_certificate parts is version plan marks (below (length parts)) good in
+      let sized = outcome_sized robust (below (length parts)) plan marks outcome in
+      (c, of, plan_text_short parts is version versions plan good sized marks c of)
