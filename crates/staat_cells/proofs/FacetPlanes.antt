@@ -1,20 +1,33 @@
 -- The facets of two pieces by their planes, one more at a time.
 use Rattle.std.proofs.Common.{◌≡◌, ◌↔◌, ℕ, zero, suc, ◌+◌, ◌<◌, ◌≤◌, sym, ap, subst}
-use Rattle.std.proofs.Common.{◌∙◌, arith}
+use Rattle.std.proofs.Common.{◌≢◌, ◌∙◌, ⊎_elim, arith, Contains}
 use Rattle.std.proofs.Common.{ℤ, pos, neg_ℤ, ◌<ℤ◌, List, [], ◌∷◌, ◌++◌, length, take, All}
 use Rattle.std.specs.Prelude.{Some, slice_get}
 use Rattle.std.proofs.lemmas.Int.{ints}
 use Rattle.std.proofs.lemmas.List.{take_all, take_more}
-use Rattle.std.proofs.lemmas.Option.{get_or_from_slice_get}
+use Rattle.std.proofs.lemmas.List.Elements.{All-contains}
+use Rattle.std.proofs.lemmas.Option.{get_or_from_slice_get, slice_get-get_or}
 use Rattle.staat_vec.specs.declared.vector.V3.{V3}
+use Rattle.staat_vec.specs.declared.vector.Sign.{Sign}
 use Rattle.staat_vec.specs.declared.vector.Sign.TheVariants.{Neg, Pos}
-use Rattle.staat_vec.specs.Vectors.{dot, negative, sign}
-use Rattle.staat_vec.proofs.VecRing.{negative_dot}
+use Rattle.staat_vec.specs.Primitives.{canon}
+use Rattle.staat_vec.specs.Vectors.{dot, negative, origin, sign}
+use Rattle.staat_vec.proofs.Canons.{canon-either}
+use Rattle.staat_vec.proofs.Primitives.{IsPrimitive-some}
+use Rattle.staat_vec.proofs.VecRing.{cross_self, negative_dot}
 use Rattle.staat_model.specs.Cells.{signs_of}
 use Rattle.staat_model.proofs.Places.{place_within}
 use Rattle.staat_model.proofs.CellLemmas.{positive_sign, negative_sign, sign_positive, sign_negative}
 use Rattle.staat_cells.specs.declared.half_spaces.Side.{Side}
-use Rattle.staat_cells.specs.HalfSpaces.{AreAhead, AreInside, IsOnSide, sign_at}
+use Rattle.staat_cells.specs.HalfSpaces.{AreAhead, AreInside, IsOnSide, IsSignAhead, sign_at}
+use Rattle.staat_cells.specs.CellGraphs.{IsAheadBy}
+use Rattle.staat_planes.specs.Tables.{IsAhead}
+use Rattle.staat_pairs.specs.Searches.{arc_of}
+use Rattle.staat_pairs.specs.Tables.{AreTablePlanes, IsTable, IsTableArc, IsTableFacet, Table, facets_of}
+use Rattle.staat_model.specs.declared.certificate.Arc.{Arc}
+use Rattle.staat_model.proofs.CornerLemmas.{some_square}
+use Rattle.staat_model.proofs.Decisions.{nat_or}
+use Rattle.staat_model.proofs.Members.{All-from_members}
 use Rattle.staat_cells.proofs.Elements.{all_pushed}
 
 sign_there : (planes : List V3) (k : ℕ) (g d : V3) → slice_get planes k ≡ Some g
@@ -49,11 +62,91 @@ ahead_negative planes n d k at =
     turned : (a b : ℤ) → b ≡ neg_ℤ a → pos 0 <ℤ a → b <ℤ pos 0
     turned a b e lt = omega (arith, ints, e, lt)
 
+-- ---- the side of a facet
+
+sign_of_square : (n : V3) → n ≢ origin → sign (dot n n) ≡ Pos
+sign_of_square n some = positive_sign (dot n n) (some_square n some)
+
+sign_of_turned : (n : V3) → n ≢ origin → sign (dot (negative n) n) ≡ Neg
+sign_of_turned n some = negative_sign (dot (negative n) n) (turned (dot n n) (dot (negative n) n) (negative_dot n n) (some_square n some))
+  where
+    turned : (a b : ℤ) → b ≡ neg_ℤ a → pos 0 <ℤ a → b <ℤ pos 0
+    turned a b e lt = omega (arith, ints, e, lt)
+
+-- a plane stands at one place
+one_place : (planes : List V3) → AreTablePlanes planes → (k m : ℕ) (n : V3) → slice_get planes k ≡ Some n
+    → slice_get planes m ≡ Some n → k ≡ m
+one_place planes rules k m n at also = ⊎_elim {C = k ≡ m} (λ e. e)
+    (λ ne. absurd (rules.apart k m n n at also ne (cross_self n))) (nat_or k m)
+
+module _ (planes : List V3) (rules : AreTablePlanes planes) (n : V3) (some : n ≢ origin) (k : ℕ) where
+  pub side_positive : slice_get planes k ≡ Some n → canon n ≡ n → (signs : List Sign)
+      → IsOnSide signs (record { plane = k; sign = Pos }) ↔ IsSignAhead planes signs n
+  side_positive at same signs = (
+    λ h. record { plane = k; at = at ∙ ap Some (sym same); same = h ∙ sym own },
+    λ h. ap (sign_at signs) (one_place planes rules k h.plane n at (h.at ∙ ap Some same)) ∙ h.same ∙ own,
+  )
+    where
+      own : sign (dot (canon n) n) ≡ Pos
+      own = ap (λ m. sign (dot m n)) same ∙ sign_of_square n some
+
+  pub side_negative : slice_get planes k ≡ Some (negative n) → canon n ≡ negative n → (signs : List Sign)
+      → IsOnSide signs (record { plane = k; sign = Neg }) ↔ IsSignAhead planes signs n
+  side_negative at same signs = (
+    λ h. record { plane = k; at = at ∙ ap Some (sym same); same = h ∙ sym own },
+    λ h. ap (sign_at signs) (one_place planes rules k h.plane (negative n) at (h.at ∙ ap Some same)) ∙ h.same ∙ own,
+  )
+    where
+      own : sign (dot (canon n) n) ≡ Neg
+      own = ap (λ m. sign (dot m n)) same ∙ sign_of_turned n some
+
+-- by the signs of a direction it is ahead of a facet exactly where it is ahead of it
+ahead_by_sign : (planes : List V3) (rules : AreTablePlanes planes) (n d : V3) → IsTableFacet planes n
+    → IsSignAhead planes (signs_of planes d) n ↔ (pos 0 <ℤ dot n d)
+ahead_by_sign planes rules n d facet =
+    let (k, lt, is) = facet.plane in
+    let at : slice_get planes k ≡ Some (canon n) = slice_get-get_or planes k (canon n) lt ∙ ap Some is in
+    let some = IsPrimitive-some n facet.primitive in
+    ⊎_elim {C = IsSignAhead planes (signs_of planes d) n ↔ (pos 0 <ℤ dot n d)}
+    (λ e. let here = at ∙ ap Some e in
+    let side = side_positive planes rules n some k here e (signs_of planes d) in
+    let law = ahead_positive planes n d k here in (λ h. law.0 (side.1 h), λ lt. side.0 (law.1 lt)))
+    (λ e. let here = at ∙ ap Some e in
+    let side = side_negative planes rules n some k here e (signs_of planes d) in
+    let law = ahead_negative planes n d k here in (λ h. law.0 (side.1 h), λ lt. side.0 (law.1 lt)))
+    (canon-either n)
+
+pub ahead_by_signs : (t : Table) (d : V3) (a b : ℕ) → IsTable t
+    → IsAheadBy t (signs_of t.planes d) a b ↔ IsAhead t d a b
+ahead_by_signs t d a b rules = (
+  λ h. record {
+    i = h.i;
+    j = h.j;
+    across = h.across;
+    ahead = All-from_members (λ n. pos 0 <ℤ dot n d) (facets_of t (arc_of a h.i b h.j)) (λ n c.
+        (one (arc_of a h.i b h.j) h.across n c).0
+        (All-contains (IsSignAhead t.planes (signs_of t.planes d)) (facets_of t (arc_of a h.i b h.j)) n h.ahead c));
+  },
+  λ h. record {
+    i = h.i;
+    j = h.j;
+    across = h.across;
+    ahead = All-from_members (IsSignAhead t.planes (signs_of t.planes d)) (facets_of t (arc_of a h.i b h.j)) (λ n c.
+        (one (arc_of a h.i b h.j) h.across n c).1
+        (All-contains (λ n. pos 0 <ℤ dot n d) (facets_of t (arc_of a h.i b h.j)) n h.ahead c));
+  },
+)
+  where
+    one : (arc : Arc) → IsTableArc t arc → (n : V3) → Contains (facets_of t arc) n
+        → IsSignAhead t.planes (signs_of t.planes d) n ↔ (pos 0 <ℤ dot n d)
+    one arc across n c = ahead_by_sign t.planes rules.planes n d
+        (All-contains (IsTableFacet t.planes) (facets_of t arc) n (rules.facets arc across).each c)
+
 -- ---- facet by facet
 
 pub no_facets : (planes facets : List V3) (cone : List Side) → cone ≡ [] → AreAhead planes (take 0 facets) cone
-no_facets planes facets cone none d =
-    subst (λ l. AreInside (signs_of planes d) l ↔ All (λ n. pos 0 <ℤ dot n d) (take 0 facets)) (sym none)
+no_facets planes facets cone none signs =
+    subst (λ l. AreInside signs l ↔ All (IsSignAhead planes signs) (take 0 facets)) (sym none)
     (λ i k e lt. absurd (omega (arith, lt)), λ i k e lt. absurd (omega (arith, lt)))
 
 taken : {X : Type 0} (xs : List X) (k : ℕ) (x : X) → slice_get xs k ≡ Some x
@@ -63,25 +156,25 @@ taken xs k x at =
 
 pub facet_more : (planes facets : List V3) (n : V3) (k : ℕ) (old new : List Side) (side : Side)
     → slice_get facets k ≡ Some n
-    → ((d : V3) → IsOnSide (signs_of planes d) side ↔ (pos 0 <ℤ dot n d))
+    → ((signs : List Sign) → IsOnSide signs side ↔ IsSignAhead planes signs n)
     → new ≡ old ++ side ∷ []
     → AreAhead planes (take k facets) old → AreAhead planes (take (k + 1) facets) new
-facet_more planes facets n k old new side at ahead grown before d =
-    subst (λ l. AreInside (signs_of planes d) new ↔ All Ahead l) (sym (taken facets k n at))
-    (subst (λ l. AreInside (signs_of planes d) l ↔ All Ahead (take k facets ++ n ∷ [])) (sym grown) (from, to))
+facet_more planes facets n k old new side at ahead grown before signs =
+    subst (λ l. AreInside signs new ↔ All Ahead l) (sym (taken facets k n at))
+    (subst (λ l. AreInside signs l ↔ All Ahead (take k facets ++ n ∷ [])) (sym grown) (from, to))
   where
     Ahead : V3 → Type 0
-    Ahead m = pos 0 <ℤ dot m d
+    Ahead m = IsSignAhead planes signs m
 
-    from : AreInside (signs_of planes d) (old ++ side ∷ []) → All Ahead (take k facets ++ n ∷ [])
+    from : AreInside signs (old ++ side ∷ []) → All Ahead (take k facets ++ n ∷ [])
     from i =
-        let both = (all_pushed (IsOnSide (signs_of planes d)) old side).0 i in
-        (all_pushed Ahead (take k facets) n).1 ((before d).0 both.0, (ahead d).0 both.1)
+        let both = (all_pushed (IsOnSide signs) old side).0 i in
+        (all_pushed Ahead (take k facets) n).1 ((before signs).0 both.0, (ahead signs).0 both.1)
 
-    to : All Ahead (take k facets ++ n ∷ []) → AreInside (signs_of planes d) (old ++ side ∷ [])
+    to : All Ahead (take k facets ++ n ∷ []) → AreInside signs (old ++ side ∷ [])
     to all =
         let both = (all_pushed Ahead (take k facets) n).0 all in
-        (all_pushed (IsOnSide (signs_of planes d)) old side).1 ((before d).1 both.0, (ahead d).1 both.1)
+        (all_pushed (IsOnSide signs) old side).1 ((before signs).1 both.0, (ahead signs).1 both.1)
 
 pub facets_all : (planes facets : List V3) (k : ℕ) (cone : List Side) → length facets ≤ k
     → AreAhead planes (take k facets) cone → AreAhead planes facets cone

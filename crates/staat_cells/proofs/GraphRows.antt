@@ -13,14 +13,16 @@ use Rattle.staat_model.specs.Cells.{signs_of}
 use Rattle.staat_graph.specs.Blocking.{ShowsBlocking}
 use Rattle.staat_graph.specs.Graphs.{HasArc}
 use Rattle.staat_graph.proofs.Arcs.{row_set}
-use Rattle.staat_pairs.specs.Tables.{Table, WasMadeFrom}
+use Rattle.staat_pairs.specs.Tables.{IsTable, Table, WasMadeFrom}
+use Rattle.staat_planes.specs.Tables.{IsAhead}
 use Rattle.staat_planes.proofs.GraphLaw.{arcs_are_blocking, shows_blocking}
 use Rattle.staat_cells.specs.declared.blocks.ArcCones.{ArcCones}
 use Rattle.staat_cells.specs.declared.joined.JoinedBlock.{JoinedBlock}
 use Rattle.staat_cells.specs.declared.joined.JoinedTest.{JoinedTest}
 use Rattle.staat_cells.specs.Blocks.{IsJoinedArc, IsLeft, PassesJoined}
-use Rattle.staat_cells.specs.CellGraphs.{HasArcsOf, IsArcAt, IsCellGraph}
+use Rattle.staat_cells.specs.CellGraphs.{HasArcsOf, IsAheadBy, IsArcAt, IsCellGraph}
 use Rattle.staat_cells.proofs.Elements.{any_more}
+use Rattle.staat_cells.proofs.FacetPlanes.{ahead_by_signs}
 use Rattle.staat_cells.proofs.PushingIncidences.{either_more}
 
 lt_or : (a b : ℕ) → (a < b) ⊎ (b ≤ a)
@@ -146,18 +148,26 @@ pub graph_is : (t : Table) (blocks : List JoinedBlock) (signs : List Sign) (rows
     → length blocks ≤ k
     → HasArcsUpTo rows blocks signs k → HasArcsOf t blocks
     → IsCellGraph t signs rows
-graph_is t blocks signs rows k le all tells d e a b = (
-  λ h. (tells d a b).0 (subst (λ s. IsArcAt blocks s a b) (sym e)
-      (subst (λ l. IsArcAt l signs a b) whole ((all a b).0 h))),
-  λ h. (all a b).1 (subst (λ l. IsArcAt l signs a b) (sym whole)
-      (subst (λ s. IsArcAt blocks s a b) e ((tells d a b).1 h))),
+graph_is t blocks signs rows k le all tells a b = (
+  λ h. (tells.arcs signs a b).0 (subst (λ l. IsArcAt l signs a b) whole ((all a b).0 h)),
+  λ h. (all a b).1 (subst (λ l. IsArcAt l signs a b) (sym whole) ((tells.arcs signs a b).1 h)),
 )
   where
     whole : take k blocks ≡ blocks
     whole = take_all k blocks le
 
-pub graph_shows : (t : Table) (parts : List Part) (d : V3) (signs : List Sign) (rows : List ℕ)
+-- the arcs by the signs of a direction are those at the direction
+pub graph_at : (t : Table) (d : V3) (signs : List Sign) (rows : List ℕ) → IsTable t → IsCellGraph t signs rows
+    → signs_of t.planes d ≡ signs
+    → (a b : ℕ) → HasArc rows a b ↔ IsAhead t d a b
+graph_at t d signs rows rules graph e a b =
+    let law = ahead_by_signs t d a b rules in (
+      λ h. law.0 (subst (λ s. IsAheadBy t s a b) (sym e) ((graph a b).0 h)),
+      λ h. (graph a b).1 (subst (λ s. IsAheadBy t s a b) e (law.1 h)),
+    )
+
+pub graph_shows : (t : Table) (parts : List Part) (d : V3) (signs : List Sign) (rows : List ℕ) → IsTable t
     → IsCellGraph t signs rows → WasMadeFrom parts t
     → signs_of t.planes d ≡ signs → ShowsBlocking parts d t.of rows
-graph_shows t parts d signs rows graph made e =
-    shows_blocking parts t d rows (arcs_are_blocking parts t d rows made (graph d e))
+graph_shows t parts d signs rows rules graph made e =
+    shows_blocking parts t d rows (arcs_are_blocking parts t d rows made (graph_at t d signs rows rules graph e))

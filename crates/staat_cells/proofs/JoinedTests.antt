@@ -8,8 +8,8 @@ use Rattle.std.proofs.lemmas.List.{get_or_default, get_or-set_other, get_or-set_
 use Rattle.std.proofs.lemmas.Nat.Bits.{bit_at-zero, bit_at_or}
 use Rattle.staat_vec.specs.declared.vector.Sign.{Sign}
 use Rattle.staat_vec.specs.declared.vector.Sign.TheVariants.{Neg, Zero, Pos}
-use Rattle.staat_model.specs.Cells.{sign_place, signs_of}
-use Rattle.staat_pairs.specs.Tables.{Table}
+use Rattle.staat_model.specs.Cells.{sign_place}
+use Rattle.staat_pairs.specs.Tables.{IsTable, Table}
 use Rattle.staat_cells.specs.declared.blocks.Block.{Block}
 use Rattle.staat_cells.specs.declared.blocks.PlaneTest.{PlaneTest}
 use Rattle.staat_cells.specs.declared.joined.JoinedBlock.{JoinedBlock}
@@ -220,7 +220,10 @@ pub all_blocks : (blocks : List Block) (k : ℕ) (found : List JoinedBlock) → 
 all_blocks blocks k found le =
     subst (λ l. (signs : List Sign) (a b : ℕ) → IsArcAt found signs a b ↔ IsListedArc l signs a b) (take_all k blocks le)
 
-pub told : (t : Table) (blocks : List Block) (joined : List JoinedBlock) → ListsArcsOf t blocks
+pub told : (t : Table) (blocks : List Block) (joined : List JoinedBlock) → IsTable t → ListsArcsOf t blocks
     → ((signs : List Sign) (a b : ℕ) → IsArcAt joined signs a b ↔ IsListedArc blocks signs a b) → HasArcsOf t joined
-told t blocks joined tells same d a b =
-    (λ h. (tells d a b).0 ((same (signs_of t.planes d) a b).0 h), λ h. (same (signs_of t.planes d) a b).1 ((tells d a b).1 h))
+told t blocks joined rules tells same = record {
+  rules = rules;
+  arcs = λ signs a b.
+      (λ h. (tells signs a b).0 ((same signs a b).0 h), λ h. (same signs a b).1 ((tells signs a b).1 h));
+}

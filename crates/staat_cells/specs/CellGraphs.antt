@@ -1,32 +1,41 @@
 -- The blocking graph of a cell: its arcs at every direction with the signs of the cell.
-use Rattle.std.specs.Prelude.{◌≡◌, ◌↔◌, ◌⊎◌, ℕ, ◌<ℤ◌, pos}
+use Rattle.std.specs.Prelude.{◌≡◌, ◌↔◌, ◌⊎◌, ℕ}
 use Rattle.std.specs.Prelude.{List, All, Any}
-use Rattle.staat_vec.specs.declared.vector.V3.{V3}
 use Rattle.staat_vec.specs.declared.vector.Sign.{Sign}
-use Rattle.staat_vec.specs.Vectors.{dot}
-use Rattle.staat_model.specs.Cells.{signs_of}
 use Rattle.staat_graph.specs.Graphs.{HasArc}
 use Rattle.staat_pairs.specs.Searches.{arc_of}
-use Rattle.staat_pairs.specs.Tables.{IsTableArc, Table, facets_of}
-use Rattle.staat_planes.specs.Tables.{IsAhead, IsAheadFrom}
+use Rattle.staat_pairs.specs.Tables.{IsTable, IsTableArc, Table, facets_of}
 use Rattle.staat_cells.specs.declared.blocks.Block.{Block}
 use Rattle.staat_cells.specs.declared.half_spaces.Side.{Side}
 use Rattle.staat_cells.specs.declared.joined.JoinedBlock.{JoinedBlock}
 use Rattle.staat_cells.specs.Blocks.{IsBlock, IsBlockArc, IsJoinedArc}
-use Rattle.staat_cells.specs.HalfSpaces.{AreInside}
+use Rattle.staat_cells.specs.HalfSpaces.{AreInside, IsSignAhead}
 
--- the rows have the arcs of the table at every direction with these signs
+-- directions with these signs lead ahead of all facets of piece i of the part a against some piece of the part b
+pub record IsAheadFromBy (t : Table) (signs : List Sign) (a i b : ℕ) : Type 0 where
+  pub j : ℕ
+  pub across : IsTableArc t (arc_of a i b j)
+  pub ahead : All (IsSignAhead t.planes signs) (facets_of t (arc_of a i b j))
+
+-- of some piece of the part a against some piece of the part b
+pub record IsAheadBy (t : Table) (signs : List Sign) (a b : ℕ) : Type 0 where
+  pub i : ℕ
+  pub j : ℕ
+  pub across : IsTableArc t (arc_of a i b j)
+  pub ahead : All (IsSignAhead t.planes signs) (facets_of t (arc_of a i b j))
+
+-- the rows have the arcs of the table by these signs, which are those at every direction with these signs
 abbrev pub IsCellGraph : Table → List Sign → List ℕ → Type 0
-IsCellGraph t signs rows =
-    (d : V3) → signs_of t.planes d ≡ signs → (a b : ℕ) → HasArc rows a b ↔ IsAhead t d a b
+IsCellGraph t signs rows = (a b : ℕ) → HasArc rows a b ↔ IsAheadBy t signs a b
 
 -- directions with these signs lead ahead of some two pieces of the parts a and b
 abbrev pub IsArcAt : List JoinedBlock → List Sign → ℕ → ℕ → Type 0
 IsArcAt blocks signs a b = Any (λ block. IsJoinedArc block signs a b) blocks
 
--- the signs tell of each direction which arcs the table has there
-abbrev pub HasArcsOf : Table → List JoinedBlock → Type 0
-HasArcsOf t blocks = (d : V3) (a b : ℕ) → IsArcAt blocks (signs_of t.planes d) a b ↔ IsAhead t d a b
+-- the blocks tell the arcs that the table has by any signs
+pub record HasArcsOf (t : Table) (blocks : List JoinedBlock) : Type 0 where
+  pub rules : IsTable t
+  pub arcs : (signs : List Sign) (a b : ℕ) → IsArcAt blocks signs a b ↔ IsAheadBy t signs a b
 
 -- ---- while the cones and the arcs are listed
 
@@ -35,12 +44,11 @@ abbrev pub IsListedArc : List Block → List Sign → ℕ → ℕ → Type 0
 IsListedArc blocks signs a b = Any (λ block. IsBlockArc block signs a b) blocks
 
 abbrev pub ListsArcsOf : Table → List Block → Type 0
-ListsArcsOf t blocks = (d : V3) (a b : ℕ) → IsListedArc blocks (signs_of t.planes d) a b ↔ IsAhead t d a b
+ListsArcsOf t blocks = (signs : List Sign) (a b : ℕ) → IsListedArc blocks signs a b ↔ IsAheadBy t signs a b
 
--- the list has grown by cones of the directions with P
-abbrev pub AddsCones : Table → (V3 → Type 0) → List (List Side) → List (List Side) → Type 0
-AddsCones t P old new =
-    (d : V3) → Any (AreInside (signs_of t.planes d)) new ↔ (Any (AreInside (signs_of t.planes d)) old ⊎ P d)
+-- the list has grown by cones of the directions whose signs have P
+abbrev pub AddsCones : (List Sign → Type 0) → List (List Side) → List (List Side) → Type 0
+AddsCones P old new = (signs : List Sign) → Any (AreInside signs) new ↔ (Any (AreInside signs) old ⊎ P signs)
 
 -- the blocks have grown by a cone of the parts a and b
 pub record AddsCone (cone : List Side) (a b : ℕ) (old new : List Block) : Type 0 where
@@ -56,24 +64,23 @@ pub record AddsConesOf (cones : List (List Side)) (a b : ℕ) (old new : List Bl
   pub blocks : All IsBlock new
 
 -- the blocks have grown by what has the arcs of P
-pub record AddsArcs (t : Table) (P : V3 → ℕ → ℕ → Type 0) (old new : List Block) : Type 0 where
-  pub arcs : (d : V3) (a b : ℕ)
-      → IsListedArc new (signs_of t.planes d) a b ↔ (IsListedArc old (signs_of t.planes d) a b ⊎ P d a b)
+pub record AddsArcs (P : List Sign → ℕ → ℕ → Type 0) (old new : List Block) : Type 0 where
+  pub arcs : (signs : List Sign) (a b : ℕ) → IsListedArc new signs a b ↔ (IsListedArc old signs a b ⊎ P signs a b)
   pub blocks : All IsBlock new
 
--- d leads ahead of piece i of a and piece j of b
-abbrev pub IsPairAhead : Table → ℕ → ℕ → ℕ → ℕ → V3 → Type 0
-IsPairAhead t a i b j d =
-    IsTableArc t (arc_of a i b j) × All (λ n. pos 0 <ℤ dot n d) (facets_of t (arc_of a i b j))
+-- these signs lead ahead of piece i of a and piece j of b
+abbrev pub IsPairAhead : Table → ℕ → ℕ → ℕ → ℕ → List Sign → Type 0
+IsPairAhead t a i b j signs =
+    IsTableArc t (arc_of a i b j) × All (IsSignAhead t.planes signs) (facets_of t (arc_of a i b j))
 
 -- of piece i of a and some piece of b
-abbrev pub IsPieceAhead : Table → ℕ → ℕ → ℕ → V3 → Type 0
-IsPieceAhead t a b i d = IsAheadFrom t d a i b
+abbrev pub IsPieceAhead : Table → ℕ → ℕ → ℕ → List Sign → Type 0
+IsPieceAhead t a b i signs = IsAheadFromBy t signs a i b
 
--- the arc from a to b, where d leads ahead of some pieces of them
-abbrev pub ArePartsAhead : Table → ℕ → ℕ → V3 → ℕ → ℕ → Type 0
-ArePartsAhead t a b d x y = (x ≡ a) × (y ≡ b) × IsAhead t d a b
+-- the arc from a to b, where the signs lead ahead of some pieces of them
+abbrev pub ArePartsAhead : Table → ℕ → ℕ → List Sign → ℕ → ℕ → Type 0
+ArePartsAhead t a b signs x y = (x ≡ a) × (y ≡ b) × IsAheadBy t signs a b
 
 -- an arc from a
-abbrev pub IsFromPart : Table → ℕ → V3 → ℕ → ℕ → Type 0
-IsFromPart t a d x y = (x ≡ a) × IsAhead t d a y
+abbrev pub IsFromPart : Table → ℕ → List Sign → ℕ → ℕ → Type 0
+IsFromPart t a signs x y = (x ≡ a) × IsAheadBy t signs a y

@@ -1,10 +1,10 @@
 -- Half-spaces that planes bound, by the numbers of the planes.
-use Rattle.std.specs.Prelude.{◌≡◌, ◌↔◌, ℕ, ◌<ℤ◌, pos, List, All, Contains, slice_index_or}
+use Rattle.std.specs.Prelude.{◌≡◌, ◌↔◌, ℕ, List, All, Contains, Some, slice_get, slice_index_or}
 use Rattle.staat_vec.specs.declared.vector.V3.{V3}
 use Rattle.staat_vec.specs.declared.vector.Sign.{Sign}
 use Rattle.staat_vec.specs.declared.vector.Sign.TheVariants.{Zero}
-use Rattle.staat_vec.specs.Vectors.{dot}
-use Rattle.staat_model.specs.Cells.{signs_of}
+use Rattle.staat_vec.specs.Primitives.{canon}
+use Rattle.staat_vec.specs.Vectors.{dot, sign}
 use Rattle.staat_cells.specs.declared.half_spaces.Side.{Side}
 
 -- the sign of plane k, and zero where there is none
@@ -23,6 +23,12 @@ AreInside signs cone = All (IsOnSide signs) cone
 abbrev pub AreAmong : List Side → List Side → Type 0
 AreAmong cone other = All (Contains other) cone
 
+-- directions with these signs are ahead of the facet n: at the plane of n they have the sign that n has there itself
+pub record IsSignAhead (planes : List V3) (signs : List Sign) (n : V3) : Type 0 where
+  pub plane : ℕ
+  pub at : slice_get planes plane ≡ Some (canon n)
+  pub same : sign_at signs plane ≡ sign (dot (canon n) n)
+
 -- the directions ahead of all the facets are those in the cone
 abbrev pub AreAhead : List V3 → List V3 → List Side → Type 0
-AreAhead planes facets cone = (d : V3) → AreInside (signs_of planes d) cone ↔ All (λ n. pos 0 <ℤ dot n d) facets
+AreAhead planes facets cone = (signs : List Sign) → AreInside signs cone ↔ All (IsSignAhead planes signs) facets

@@ -1,12 +1,9 @@
 // The directions ahead of two pieces, as half-spaces.
-ghost use Rattle.std.specs.Prelude.{◌≡◌, ◌<◌, ◌⊎◌, ◌↔◌, ◌<ℤ◌, pos};
+ghost use Rattle.std.specs.Prelude.{◌≡◌, ◌<◌, ◌⊎◌, ◌↔◌};
 ghost use Rattle.std.specs.Prelude.{All, Any, Contains, IfOk, IsTrue, List, OnOk, Some, length, slice_get};
-ghost use Rattle.staat_vec.specs.declared.vector.V3.{V3 as Vector};
 ghost use Rattle.staat_vec.specs.declared.vector.Sign.{Sign as SignValue};
-ghost use Rattle.staat_vec.specs.Vectors.{dot};
-ghost use Rattle.staat_model.specs.Cells.{signs_of};
-ghost use Rattle.staat_pairs.specs.Tables.{IsTableArc, IsTableFacet, facets_of};
-ghost use Rattle.staat_cells.specs.HalfSpaces.{AreAhead, AreAmong, AreInside, IsOnSide};
+ghost use Rattle.staat_pairs.specs.Tables.{AreTablePlanes, IsTableArc, IsTableFacet, facets_of};
+ghost use Rattle.staat_cells.specs.HalfSpaces.{AreAhead, AreAmong, AreInside, IsOnSide, IsSignAhead};
 
 use staat_model::Arc;
 use staat_planes::PlaneTable;
@@ -40,8 +37,9 @@ fn number_of(planes: &[V3], n: V3) -> usize
 
 // the side of a plane that is ahead of a facet
 fn side_ahead(planes: &[V3], n: V3) -> Side
-    requires { IsTableFacet planes.now n }
-    ensures { (d : Vector) → IsOnSide (signs_of planes.now d) result ↔ (pos 0 <ℤ dot n d) }
+    requires rules { AreTablePlanes planes.now }
+    requires facet { IsTableFacet planes.now n }
+    ensures { (signs : List SignValue) → IsOnSide signs result ↔ IsSignAhead planes.now signs n }
 {
     let normal = canon(n);
     let plane = number_of(planes, normal);

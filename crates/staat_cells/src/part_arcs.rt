@@ -1,13 +1,11 @@
 // The facets of a table, for each ordered pair of parts the half-spaces ahead of their pieces.
-ghost use Rattle.std.specs.Prelude.{◌≡◌, ◌≢◌, ◌<◌, ◌↔◌, All, Any, IfOk, OnOk};
-ghost use Rattle.staat_vec.specs.declared.vector.V3.{V3 as Vector};
-ghost use Rattle.staat_model.specs.Cells.{signs_of};
+ghost use Rattle.std.specs.Prelude.{◌≡◌, ◌≢◌, ◌<◌, ◌↔◌, All, Any, IfOk, List, OnOk};
+ghost use Rattle.staat_vec.specs.declared.vector.Sign.{Sign as SignValue};
 ghost use Rattle.staat_model.specs.Sets.{Has};
 ghost use Rattle.staat_pairs.specs.Tables.{IsTable, IsTableArc, pieces_of};
-ghost use Rattle.staat_planes.specs.Tables.{IsAhead, IsAheadFrom};
 ghost use Rattle.staat_cells.specs.Blocks.{IsBlock};
 ghost use Rattle.staat_cells.specs.CellGraphs.{AddsArcs, AddsCones, AddsConesOf, ArePartsAhead, ListsArcsOf};
-ghost use Rattle.staat_cells.specs.CellGraphs.{IsFromPart, IsPairAhead, IsPieceAhead};
+ghost use Rattle.staat_cells.specs.CellGraphs.{IsAheadBy, IsAheadFromBy, IsFromPart, IsPairAhead, IsPieceAhead};
 ghost use Rattle.staat_cells.specs.HalfSpaces.{AreInside};
 
 use crate::blocks::{Block, add_cone};
@@ -32,7 +30,7 @@ fn push_piece(
     requires b_in { Has table.now.of b }
     requires different { a ≢ b }
     requires piece { i < pieces_of table.now a }
-    ensures { OnOk result (AddsCones table.now (IsPieceAhead table.now a b i) cones.old.items cones.new.items) }
+    ensures { OnOk result (AddsCones (IsPieceAhead table.now a b i) cones.old.items cones.new.items) }
 {
     for j in 0..table.pieces(b) {
         push_cone(cones, half_spaces(alloc, table, Arc { a, i, b, j })?)?;
@@ -51,8 +49,8 @@ fn cones_of(
     requires a_in { Has table.now.of a }
     requires b_in { Has table.now.of b }
     requires different { a ≢ b }
-    ensures { IfOk result (λ cones. (d : Vector)
-        → Any (AreInside (signs_of table.now.planes d)) cones.items ↔ IsAhead table.now d a b) }
+    ensures { IfOk result (λ cones. (signs : List SignValue)
+        → Any (AreInside signs) cones.items ↔ IsAheadBy table.now signs a b) }
 {
     let mut cones = Vec::new(alloc);
     for i in 0..table.pieces(a) {
@@ -93,7 +91,7 @@ fn push_pair(
     requires a_in { Has table.now.of a }
     requires b_in { Has table.now.of b }
     requires different { a ≢ b }
-    ensures { OnOk result (AddsArcs table.now (ArePartsAhead table.now a b) blocks.old.items blocks.new.items) }
+    ensures { OnOk result (AddsArcs (ArePartsAhead table.now a b) blocks.old.items blocks.new.items) }
 {
     let all = cones_of(alloc, table, a, b)?;
     let wide = wide_cones(alloc, &all)?;
@@ -114,7 +112,7 @@ fn push_parts(
     requires set { set ≡ table.now.of }
     requires a { a < MOST_PARTS }
     requires b { b < MOST_PARTS }
-    ensures { OnOk result (AddsArcs table.now (ArePartsAhead table.now a b) blocks.old.items blocks.new.items) }
+    ensures { OnOk result (AddsArcs (ArePartsAhead table.now a b) blocks.old.items blocks.new.items) }
 {
     if a != b && set.has(a) && set.has(b) {
         push_pair(alloc, table, a, b, blocks)
@@ -135,7 +133,7 @@ fn push_from(
     requires blocks { All IsBlock blocks.old.items }
     requires set { set ≡ table.now.of }
     requires a { a < MOST_PARTS }
-    ensures { OnOk result (AddsArcs table.now (IsFromPart table.now a) blocks.old.items blocks.new.items) }
+    ensures { OnOk result (AddsArcs (IsFromPart table.now a) blocks.old.items blocks.new.items) }
 {
     for b in 0..MOST_PARTS {
         push_parts(alloc, table, set, a, b, blocks)?;
@@ -147,6 +145,7 @@ fn push_from(
 pub(crate) fn all_blocks(alloc: Global, table: &PlaneTable) -> Result<Vec<Block>, OutOfMemory>
     ensures arcs { IfOk result (λ blocks. ListsArcsOf table.now blocks.items) }
     ensures blocks { IfOk result (λ blocks. All IsBlock blocks.items) }
+    ensures rules { IsTable table.now }
 {
     let set = table.set();
     let mut blocks = Vec::new(alloc);

@@ -15,13 +15,14 @@ use Rattle.staat_model.specs.Planes.{ArePlanes}
 use Rattle.staat_model.specs.Sets.{below}
 use Rattle.staat_model.proofs.OneTable.{AreCellsOf-unique, ArePlanes-unique}
 use Rattle.staat_graph.specs.Blocking.{ShowsBlocking}
-use Rattle.staat_pairs.specs.Tables.{Table, WasMadeFrom}
+use Rattle.staat_pairs.specs.Tables.{IsTable, Table, WasMadeFrom}
 use Rattle.staat_cells.specs.CellGraphs.{IsCellGraph}
 use Rattle.staat_cells.specs.Compositions.{entry_of}
 use Rattle.staat_cells.specs.declared.cell.Cell.{Cell}
 use Rattle.staat_cells.proofs.GraphRows.{graph_shows}
 use Rattle.staat_text.specs.declared.holding.HeldText.{HeldText}
-use Rattle.staat_text.specs.CellTexts.{EachCell, IsCellsText, IsGraphOfCell, cell_line, cell_lines, cells_text, totals_line, kind_count, same_kind}
+use Rattle.staat_text.specs.CellTexts.{EachCell, IsCellsText, IsGraphOfCell, IsTextOfCells}
+use Rattle.staat_text.specs.CellTexts.{cell_line, cell_lines, cells_text, totals_line, kind_count, same_kind}
 use Rattle.staat_text.specs.CellTexts.{kind_word, short_arcs}
 use Rattle.staat_text.specs.Holding.{Holds, HoldsCells, HoldsMore}
 use Rattle.staat_text.specs.PlanTexts.{numbers_before}
@@ -82,24 +83,36 @@ each_same R S f (x ∷ cells) [] all = absurd all
 each_same R S f (x ∷ cells) (y ∷ graphs) all = (f x y all.0, each_same R S f cells graphs all.1)
 
 -- what is held at the end is the text of the cells
-pub whole_text : (all : List Part) (t : Table) (n planes : ℕ) (cells : List CellEntry) (counts : List ℕ) (empty first last : HeldText) → WasMadeFrom all t
-    → t.of ≡ below n → AreCells t.planes cells → planes ≡ length t.planes → counts ≡ totals_line planes cells → empty.length ≡ 0 → empty.bytes.items ≡ []
-    → HoldsMore empty first counts → HoldsCells t n cells first last → (text : List ℕ) × IsCellsText all n text × Holds last text
-whole_text all t n planes cells counts empty first last made of are count is none nothing more adds =
+pub whole_text : (t : Table) (n planes : ℕ) (cells : List CellEntry) (counts : List ℕ) (empty first last : HeldText)
+    → planes ≡ length t.planes → counts ≡ totals_line planes cells → empty.length ≡ 0 → empty.bytes.items ≡ []
+    → HoldsMore empty first counts → HoldsCells t n cells first last
+    → (text : List ℕ) × IsTextOfCells t n cells text × Holds last text
+whole_text t n planes cells counts empty first last count is none nothing more adds =
     let (graphs, each, held) = adds counts (more [] (record { long = none; bytes = λ few. nothing })) in (
       counts ++ cell_lines n cells graphs,
       record {
-        planes = t.planes;
-        planes_are = subst (λ w. ArePlanes all w t.planes) of made.planes;
-        cells = cells;
-        cells_are = are;
         graphs = graphs;
-        graphs_are = each_same (λ c rows. IsCellGraph t c.signs rows) (IsGraphOfCell all (below n) t.planes)
-            (λ c rows graph d e. subst (λ w. ShowsBlocking all d w rows) of (graph_shows t all d c.signs rows graph made e)) cells graphs each;
+        graphs_are = each;
         is = ap (λ l. l ++ cell_lines n cells graphs) (is ∙ ap (λ m. totals_line m cells) count);
       },
       held,
     )
+
+-- where the cells are all, it is the text of all cells
+pub all_text : (all : List Part) (t : Table) (n : ℕ) (cells : List CellEntry) (text : List ℕ) → IsTable t
+    → WasMadeFrom all t → t.of ≡ below n → AreCells t.planes cells → IsTextOfCells t n cells text
+    → IsCellsText all n text
+all_text all t n cells text rules made of are is = record {
+  planes = t.planes;
+  planes_are = subst (λ w. ArePlanes all w t.planes) of made.planes;
+  cells = cells;
+  cells_are = are;
+  graphs = is.graphs;
+  graphs_are = each_same (λ c rows. IsCellGraph t c.signs rows) (IsGraphOfCell all (below n) t.planes)
+      (λ c rows graph d e. subst (λ w. ShowsBlocking all d w rows) of (graph_shows t all d c.signs rows rules graph made e))
+      cells is.graphs is.graphs_are;
+  is = is.is;
+}
 
 -- ---- the line of a cell
 
@@ -181,3 +194,23 @@ one_text parts n text other a b =
     a.is ∙ ap₂ (λ ps cs. cells_text (length ps) n cs a.graphs) planes cells
     ∙ ap (λ l. totals_line (length b.planes) b.cells ++ l) (same_lines parts n b.planes b.cells a.graphs b.graphs (each_is_cell b.planes b.cells b.cells_are) graphs b.graphs_are)
     ∙ sym b.is
+
+-- ---- any cells have one text
+
+line_by_signs : (t : Table) (n : ℕ) (c : CellEntry) (rows others : List ℕ) → IsCellGraph t c.signs rows → IsCellGraph t c.signs others
+    → cell_line n c rows ≡ cell_line n c others
+line_by_signs t n c rows others f g =
+    ap (λ arcs. kind_word c.kind ++ numbers_before (vector_numbers c.d) (short_arcs arcs ++ 10 ∷ []))
+    (same_arcs n rows others (λ a b a_in b_in. (λ h. (g a b).1 ((f a b).0 h), λ h. (f a b).1 ((g a b).0 h))))
+
+lines_by_signs : (t : Table) (n : ℕ) (cells : List CellEntry) (graphs others : List (List ℕ)) → EachCell (λ c rows. IsCellGraph t c.signs rows) cells graphs
+    → EachCell (λ c rows. IsCellGraph t c.signs rows) cells others → cell_lines n cells graphs ≡ cell_lines n cells others
+lines_by_signs t n [] graphs others f g = refl
+lines_by_signs t n (c ∷ cells) [] others f g = absurd f
+lines_by_signs t n (c ∷ cells) (rows ∷ graphs) [] f g = absurd g
+lines_by_signs t n (c ∷ cells) (rows ∷ graphs) (row ∷ others) f g =
+    ap₂ (λ x y. x ++ y) (line_by_signs t n c rows row f.0 g.0) (lines_by_signs t n cells graphs others f.1 g.1)
+
+pub one_text_by_signs : (t : Table) (n : ℕ) (cells : List CellEntry) (text other : List ℕ) → IsTextOfCells t n cells text → IsTextOfCells t n cells other → text ≡ other
+one_text_by_signs t n cells text other a b =
+    a.is ∙ ap (λ l. totals_line (length t.planes) cells ++ l) (lines_by_signs t n cells a.graphs b.graphs a.graphs_are b.graphs_are) ∙ sym b.is

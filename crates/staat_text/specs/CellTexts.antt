@@ -14,6 +14,8 @@ use Rattle.staat_model.specs.Lines.{vector_numbers}
 use Rattle.staat_model.specs.Planes.{ArePlanes}
 use Rattle.staat_model.specs.Sets.{below}
 use Rattle.staat_graph.specs.Blocking.{ShowsBlocking}
+use Rattle.staat_pairs.specs.Tables.{Table}
+use Rattle.staat_cells.specs.CellGraphs.{IsCellGraph}
 use Rattle.staat_text.specs.GraphTexts.{arcs_of}
 use Rattle.staat_text.specs.PlanTexts.{numbers_before}
 
@@ -87,7 +89,20 @@ EachCell R (c ∷ cells) (rows ∷ graphs) = R c rows × EachCell R cells graphs
 abbrev pub IsGraphOfCell : List Part → PartSet → List V3 → CellEntry → List ℕ → Type 0
 IsGraphOfCell parts w planes c rows = (d : V3) → signs_of planes d ≡ c.signs → ShowsBlocking parts d w rows
 
--- the bytes are the text of the cells of the parts below n
+-- the bytes are the text of these cells of a table of the parts below n, each with the arcs that the table has by its
+-- signs
+pub record IsTextOfCells (t : Table) (n : ℕ) (cells : List CellEntry) (text : List ℕ) : Type 0 where
+  pub graphs : List (List ℕ)
+  pub graphs_are : EachCell (λ c rows. IsCellGraph t c.signs rows) cells graphs
+  pub is : text ≡ cells_text (length t.planes) n cells graphs
+
+-- what is answered for a text with P: it, or its length where it is too long
+abbrev pub IsAnswer : (List ℕ → Type 0) → Result (List ℕ) TextRefusal → Type 0
+IsAnswer P (Ok text) = P text × (length text ≤ TEXT_LIMIT)
+IsAnswer P (Err (TextTooLong k)) = (text : List ℕ) × P text × (k ≡ length text) × (TEXT_LIMIT < k)
+IsAnswer P (Err OutOfMemory) = Unit {0}
+
+-- the bytes are the text of all cells of the parts below n
 pub record IsCellsText (parts : List Part) (n : ℕ) (text : List ℕ) : Type 0 where
   pub planes : List V3
   pub planes_are : ArePlanes parts (below n) planes
@@ -97,9 +112,6 @@ pub record IsCellsText (parts : List Part) (n : ℕ) (text : List ℕ) : Type 0 
   pub graphs_are : EachCell (IsGraphOfCell parts (below n) planes) cells graphs
   pub is : text ≡ cells_text (length planes) n cells graphs
 
--- what is answered: the text, or its length where it is too long
+-- what is answered for all cells of the parts below n
 abbrev pub IsCellsAnswer : List Part → ℕ → Result (List ℕ) TextRefusal → Type 0
-IsCellsAnswer parts n (Ok text) = IsCellsText parts n text × (length text ≤ TEXT_LIMIT)
-IsCellsAnswer parts n (Err (TextTooLong k)) =
-    (text : List ℕ) × IsCellsText parts n text × (k ≡ length text) × (TEXT_LIMIT < k)
-IsCellsAnswer parts n (Err OutOfMemory) = Unit {0}
+IsCellsAnswer parts n = IsAnswer (IsCellsText parts n)

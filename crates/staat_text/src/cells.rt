@@ -9,8 +9,8 @@ ghost use Rattle.staat_model.specs.Sets.{below};
 ghost use Rattle.staat_pairs.specs.Tables.{Table, WasMadeFrom};
 ghost use Rattle.staat_cells.specs.CellGraphs.{HasArcsOf};
 ghost use Rattle.staat_cells.specs.Compositions.{entry_of};
-ghost use Rattle.staat_text.specs.CellTexts.{IsCellsAnswer, count_line, line_with, totals_line};
-ghost use Rattle.staat_text.specs.CellTexts.{kind_count, kind_word, same_kind, short_arc, short_arcs};
+ghost use Rattle.staat_text.specs.CellTexts.{IsAnswer, IsCellsAnswer, IsTextOfCells, count_line, line_with};
+ghost use Rattle.staat_text.specs.CellTexts.{kind_count, kind_word, same_kind, short_arc, short_arcs, totals_line};
 ghost use Rattle.staat_text.specs.GraphTexts.{arcs_from, arcs_of};
 ghost use Rattle.staat_text.specs.Holding.{HoldsCells};
 ghost use Rattle.staat_text.specs.PlanTexts.{numbers_before};
@@ -231,14 +231,14 @@ fn hold_cells(
     Ok(())
 }
 
-/// The text of the cells of the table's planes, or its length in bytes where that is above [`TEXT_LIMIT`].
+/// The text of cells of a table's planes, or its length in bytes where that is above [`TEXT_LIMIT`].
 ///
-/// The table's set is that of the parts below `parts`, at most [`MOST_PARTS`] of them, and the cells are all those of
-/// its planes.
+/// The table's set is that of the parts below `parts`, at most [`MOST_PARTS`] of them. The cells may be any, as those
+/// of [`all_cells`](staat_cells::all_cells).
 ///
 /// It has the line `planes N points P edges E open O`; then for each cell in order a line of its kind, the three
 /// numbers of its representative and the arcs ` A>B` of the blocking graph, ascending by `A` and then by `B`, or ` -`
-/// where there is none. The arcs are those at every direction of the cell.
+/// where there is none. The arcs are those by the cell's signs, which are those at every direction with these signs.
 pub fn cells_text(
     alloc: Global,
     table: &PlaneTable,
@@ -247,8 +247,9 @@ pub fn cells_text(
 ) -> Result<Bytes, TextRefusal>
     requires parts { parts ≤ MOST_PARTS }
     requires set { table.now.of ≡ below parts }
-    requires cells { AreCells table.now.planes (map entry_of cells.now) }
-    ensures { (all : List PartValue) → WasMadeFrom all table.now → IsCellsAnswer all parts result }
+    ensures text { IsAnswer (IsTextOfCells table.now parts (map entry_of cells.now)) result }
+    ensures all { AreCells table.now.planes (map entry_of cells.now) → (all : List PartValue)
+        → WasMadeFrom all table.now → IsCellsAnswer all parts result }
 {
     let graphs = CellGraphs::of(alloc, table)?;
     let bytes = Vec::with_capacity(alloc, cells.as_slice().len().saturating_mul(LINE))?;

@@ -3,12 +3,16 @@ ghost use Rattle.std.specs.Prelude.{◌≡◌, ◌↔◌, ◌<◌, ℕ, Bool, Li
 ghost use Rattle.staat_vec.specs.declared.vector.V3.{V3 as Vector};
 ghost use Rattle.staat_model.specs.declared.assembly.Part.{Part as PartValue};
 ghost use Rattle.staat_model.specs.declared.set.PartSet.{PartSet as PartSetValue};
+ghost use Rattle.staat_model.specs.Cells.{CellEntry};
 ghost use Rattle.staat_model.specs.Plans.{IsGood, Plan};
 ghost use Rattle.staat_model.specs.Sets.{Has, below};
 ghost use Rattle.staat_graph.specs.Graphs.{HasArc};
-ghost use Rattle.staat_text.specs.CellTexts.{IsCellsText};
+ghost use Rattle.staat_pairs.specs.Tables.{Table};
+ghost use Rattle.staat_text.specs.CellTexts.{IsCellsText, IsTextOfCells};
 ghost use Rattle.staat_text.specs.GraphTexts.{IsGraphText};
 ghost use Rattle.staat_text.specs.PlanTexts.{HasLeaves, IsPlanText};
+
+use staat_limits::MOST_PARTS;
 
 /// A graph has one text at a direction.
 pub fn one_graph_text()
@@ -35,11 +39,14 @@ pub fn good_plan_is_shown()
         → ((p : ℕ) → Has w p → p < MOST_PARTS) → IsGood parts w plan → HasLeaves plan }
 {}
 
-/// The cells of parts have one text.
-
-use staat_limits::MOST_PARTS;
-
+/// All cells of parts have one text.
 pub fn one_cells_text()
     ensures { (parts : List PartValue) (n : ℕ) (text other : List ℕ)
         → IsCellsText parts n text → IsCellsText parts n other → text ≡ other }
+{}
+
+/// Any cells of a table have one text.
+pub fn one_text_of_cells()
+    ensures { (t : Table) (n : ℕ) (cells : List CellEntry) (text other : List ℕ)
+        → IsTextOfCells t n cells text → IsTextOfCells t n cells other → text ≡ other }
 {}

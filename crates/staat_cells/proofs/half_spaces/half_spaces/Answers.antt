@@ -1,9 +1,8 @@
-use Rattle.std.proofs.Common.{◌≤◌, ◌↔◌, ◌<ℤ◌, pos, subst, List}
+use Rattle.std.proofs.Common.{◌≤◌, ◌↔◌, subst, List}
 use Rattle.staat_vec.specs.declared.vector.V3.{V3}
-use Rattle.staat_vec.specs.Vectors.{dot}
-use Rattle.staat_model.specs.Cells.{signs_of}
+use Rattle.staat_vec.specs.declared.vector.Sign.{Sign}
 use Rattle.staat_pairs.specs.Tables.{facets_of}
-use Rattle.staat_cells.specs.HalfSpaces.{IsOnSide}
+use Rattle.staat_cells.specs.HalfSpaces.{IsOnSide, IsSignAhead}
 use Rattle.staat_cells.proofs.FacetPlanes.{facet_more, facets_all, no_facets}
 use Rattle.staat_cells.proofs.half_spaces.half_spaces.Goals as goal
 
@@ -16,7 +15,7 @@ pub loop-m-preserved : goal.loop-m-preserved
 loop-m-preserved c =
     facet_more c.args.table.now.planes (facets_of c.args.table.now c.args.arc) c.facet.result c.loop-m.m
     c.loop-m.found.items c.push.new.self.items c.side_ahead.result c.facet.ensures.is
-    (subst (λ (l : List V3). (d : V3) → IsOnSide (signs_of l d) c.side_ahead.result ↔ (pos 0 <ℤ dot c.facet.result d))
+    (subst (λ (l : List V3). (signs : List Sign) → IsOnSide signs c.side_ahead.result ↔ IsSignAhead l signs c.facet.result)
     c.planes-planes.ensures.is c.side_ahead.ensures)
     c.in_ok-push.ensures.items c.loop-m.invariant
 

@@ -8,13 +8,13 @@ use Rattle.staat_cells.proofs.part_arcs.all_blocks.Goals as goal
 
 pub loop-a-init : goal.loop-a-init
 loop-a-init c =
-    subst (λ (l : List Block). AddsArcs c.args.table.now (BelowParts (IsFromPart c.args.table.now) 0) [] l)
+    subst (λ (l : List Block). AddsArcs (BelowParts (IsFromPart c.args.table.now) 0) [] l)
     (sym c.new-blocks.ensures.items)
-    (below_none c.args.table.now (IsFromPart c.args.table.now) [] (All-nil IsBlock))
+    (below_none (IsFromPart c.args.table.now) [] (All-nil IsBlock))
 
 pub loop-a-preserved : goal.loop-a-preserved
 loop-a-preserved c =
-    below_more c.args.table.now (IsFromPart c.args.table.now) c.loop-a.a [] c.loop-a.blocks.items
+    below_more (IsFromPart c.args.table.now) c.loop-a.a [] c.loop-a.blocks.items
     c.push_from.new.blocks.items
     c.loop-a.invariant c.in_ok-push_from.ensures
 

@@ -7,13 +7,13 @@ use Rattle.staat_cells.proofs.part_arcs.cones_of.Goals as goal
 pub loop-i-init : goal.loop-i-init
 loop-i-init c =
     let t = c.args.table.now in
-    subst (λ (l : List (List Side)). AddsCones t (Below t (IsPieceAhead t c.args.a c.args.b) 0) [] l)
-    (sym c.new-cones.ensures.items) (no_cones t (IsPieceAhead t c.args.a c.args.b) [])
+    subst (λ (l : List (List Side)). AddsCones (Below (IsPieceAhead t c.args.a c.args.b) 0) [] l)
+    (sym c.new-cones.ensures.items) (no_cones (IsPieceAhead t c.args.a c.args.b) [])
 
 pub loop-i-preserved : goal.loop-i-preserved
 loop-i-preserved c =
     let t = c.args.table.now in
-    more_cones t (IsPieceAhead t c.args.a c.args.b) c.loop-i.i [] c.loop-i.cones.items c.push_piece.new.cones.items
+    more_cones (IsPieceAhead t c.args.a c.args.b) c.loop-i.i [] c.loop-i.cones.items c.push_piece.new.cones.items
     c.loop-i.invariant c.in_ok-push_piece.ensures
 
 pub returns : goal.returns

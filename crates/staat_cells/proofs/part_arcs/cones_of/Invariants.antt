@@ -4,4 +4,4 @@ use Rattle.staat_cells.proofs.PartArcs.{Below}
 use Rattle.staat_cells.proofs.part_arcs.cones_of.Given as goal
 
 abbrev pub invariant-loop-i : goal.invariant-loop-i
-invariant-loop-i l = AddsCones l.table (Below l.table (IsPieceAhead l.table l.a l.b) l.i) [] l.cones.items
+invariant-loop-i l = AddsCones (Below (IsPieceAhead l.table l.a l.b) l.i) [] l.cones.items

@@ -3,11 +3,11 @@ use Rattle.staat_cells.proofs.PartArcs.{below_more, below_none, from_listed}
 use Rattle.staat_cells.proofs.part_arcs.push_from.Goals as goal
 
 pub loop-b-init : goal.loop-b-init
-loop-b-init c = below_none c.args.table.now (ArePartsAhead c.args.table.now c.args.a) c.args.blocks.now.items c.requires.blocks
+loop-b-init c = below_none (ArePartsAhead c.args.table.now c.args.a) c.args.blocks.now.items c.requires.blocks
 
 pub loop-b-preserved : goal.loop-b-preserved
 loop-b-preserved c =
-    below_more c.args.table.now (ArePartsAhead c.args.table.now c.args.a) c.loop-b.b c.args.blocks.now.items
+    below_more (ArePartsAhead c.args.table.now c.args.a) c.loop-b.b c.args.blocks.now.items
     c.loop-b.blocks.items c.push_parts.new.blocks.items
     c.loop-b.invariant c.in_ok-push_parts.ensures
 

@@ -7,7 +7,7 @@ use Rattle.staat_cells.proofs.part_arcs.push_piece.Goals as goal
 
 pub loop-j-init : goal.loop-j-init
 loop-j-init c =
-    no_cones c.args.table.now (IsPairAhead c.args.table.now c.args.a c.args.i c.args.b) c.args.cones.now.items
+    no_cones (IsPairAhead c.args.table.now c.args.a c.args.i c.args.b) c.args.cones.now.items
 
 pub loop-j-preserved : goal.loop-j-preserved
 loop-j-preserved c =

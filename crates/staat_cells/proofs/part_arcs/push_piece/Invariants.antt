@@ -4,4 +4,4 @@ use Rattle.staat_cells.proofs.part_arcs.push_piece.Given as goal
 
 abbrev pub invariant-loop-j : goal.invariant-loop-j
 invariant-loop-j l =
-    AddsCones l.table (Below l.table (IsPairAhead l.table l.a l.i l.b) l.j) l.initial.cones.items l.cones.items
+    AddsCones (Below (IsPairAhead l.table l.a l.i l.b) l.j) l.initial.cones.items l.cones.items

@@ -33,4 +33,4 @@ returns-clause-table c t tells =
 
 pub returns-clause-shows : goal.returns-clause-shows
 returns-clause-shows c t parts d tells made e =
-    graph_shows t parts d c.args.signs.now c.loop-block.rows (returns-clause-table c t tells) made e
+    graph_shows t parts d c.args.signs.now c.loop-block.rows tells.rules (returns-clause-table c t tells) made e

@@ -11,6 +11,6 @@ joined_blocks-requires c = subst (All IsBlock) (sym c.deref.ensures.value) c.in_
 
 pub returns : goal.returns
 returns c =
-    told c.args.table.now c.in_ok-blocks.blocks.items c.in_ok-joined_blocks.field-0.items c.in_ok-blocks.ensures.arcs
+    told c.args.table.now c.in_ok-blocks.blocks.items c.in_ok-joined_blocks.field-0.items c.all_blocks.ensures.rules c.in_ok-blocks.ensures.arcs
     (subst (λ (l : List Block). (signs : List Sign) (a b : ℕ) → IsArcAt c.in_ok-joined_blocks.field-0.items signs a b
     ↔ IsListedArc l signs a b) c.deref.ensures.value c.in_ok-joined_blocks.ensures.arcs)
