@@ -1,5 +1,5 @@
 -- Which parts block which at a direction, and on the border of its cell.
-use Rattle.std.proofs.Common.{◌≡◌, ◌≢◌, ◌↔◌, ℕ, zero, suc, refl, sym, ap, subst, arith, ℤ, pos, negsuc, neg_ℤ, ◌≤ℤ◌, ◌<ℤ◌, ◌⊎◌, inl, inr, ⊎_elim, List, [], ◌∷◌, Contains}
+use Rattle.std.proofs.Common.{◌≡◌, ◌≢◌, ◌↔◌, ℕ, zero, suc, refl, sym, ap, subst, arith, ℤ, pos, negsuc, neg_ℤ, ◌≤ℤ◌, ◌<ℤ◌, ◌⊎◌, inl, inr, ⊎_elim, List, [], ◌∷◌, All, Contains}
 use Rattle.std.specs.Prelude.{Some, slice_get}
 use lib.IntN.{ℤ_discrete}
 use Rattle.std.proofs.lemmas.Int.{ints}
@@ -31,14 +31,18 @@ use Rattle.staat_model.proofs.Reversed.{meets_opposite_lemma}
 pub from_slice_get : {X : Type 0} (xs : List X) (k : ℕ) (x : X) → slice_get xs k ≡ Some x → Contains xs x
 from_slice_get xs k x e = (k, slice_get_within xs k x e, get_or_from_slice_get xs k x x e)
 
-pub piece_is : (parts : List Part) (a i : ℕ) (p : List V3) → IsAssembly parts → piece_at parts a i ≡ Some p → IsPiece p
-piece_is parts a i p is e =
+-- however many parts there are
+pub piece_in : (parts : List Part) (a i : ℕ) (p : List V3) → All IsPart parts → piece_at parts a i ≡ Some p → IsPiece p
+piece_in parts a i p each e =
     option_and_then_some {P = IsPiece p} (λ part. slice_get part.pieces i) (slice_get parts a) p e
-    (λ part at inside. let whole = All-contains IsPart parts part is.each (from_slice_get parts a part at) in All-contains IsPiece part.pieces p whole.pieces (from_slice_get part.pieces i p inside))
+    (λ part at inside. let whole = All-contains IsPart parts part each (from_slice_get parts a part at) in All-contains IsPiece part.pieces p whole.pieces (from_slice_get part.pieces i p inside))
+
+pub piece_is : (parts : List Part) (a i : ℕ) (p : List V3) → IsAssembly parts → piece_at parts a i ≡ Some p → IsPiece p
+piece_is parts a i p is e = piece_in parts a i p is.each e
 
 -- ---- the planes of a set hold each facet's
 
-same_or_not : (a b : V3) → Dec (a ≡ b)
+pub same_or_not : (a b : V3) → Dec (a ≡ b)
 same_or_not a b = go (ℤ_discrete a.x b.x) (ℤ_discrete a.y b.y) (ℤ_discrete a.z b.z)
   where
     go : Dec (a.x ≡ b.x) → Dec (a.y ≡ b.y) → Dec (a.z ≡ b.z) → Dec (a ≡ b)
@@ -117,7 +121,7 @@ border_towards [] d v f = tt
 border_towards (g ∷ gs) d v f = let t = f g (here g gs) in (sign_towards (dot g v) (dot g d) t.up t.down, border_towards gs d v (λ h c. f h (there g h gs c)))
 
 -- the sides of a facet are those of its plane
-facet_towards : (d v n : V3) → IsTowards d v (canon n) → IsTowards d v n
+pub facet_towards : (d v n : V3) → IsTowards d v (canon n) → IsTowards d v n
 facet_towards d v n t = go (canon-either n)
   where
     turned_up : (p q : ℤ) → p ≡ neg_ℤ q → pos 0 ≤ℤ q → p ≤ℤ pos 0
@@ -144,7 +148,7 @@ facet_towards d v n t = go (canon-either n)
 
 -- ---- the graph on the border of a cell
 
-positive_back : (a b : ℤ) → (a ≤ℤ pos 0 → b ≤ℤ pos 0) → pos 0 <ℤ b → pos 0 <ℤ a
+pub positive_back : (a b : ℤ) → (a ≤ℤ pos 0 → b ≤ℤ pos 0) → pos 0 <ℤ b → pos 0 <ℤ a
 positive_back (pos zero) b f h = absurd (let low : b ≤ℤ pos 0 = f (omega (arith, ints)) in omega (arith, ints))
 positive_back (pos (suc n)) b f h = omega (arith, ints)
 positive_back (negsuc n) b f h = absurd (let low : b ≤ℤ pos 0 = f (omega (arith, ints)) in omega (arith, ints))

@@ -28,6 +28,12 @@ pub mod Reversed
 pub mod RestrictLemmas
 pub mod GraphLemmas
 pub mod VertexLemmas
+pub mod Parallels
+pub mod CoreLemmas
+pub mod WholeLemmas
+pub mod GroupLemmas
+pub mod LeavingLemmas
+pub mod ShadowLemmas
 pub mod PlaneLemmas
 pub mod CellLemmas
 pub mod OtherSides

@@ -48,7 +48,7 @@ dot_turned n a b = ring (values (n ∷ a ∷ b ∷ []) []) (dotE (negativeE v0) 
 cross_both : (u v : V3) → cross (negative u) (negative v) ≡ cross u v
 cross_both u v = ring3 (values (u ∷ v ∷ []) []) (crossE (negativeE v0) (negativeE v1)) (crossE v0 v1) (tt, tt, tt)
 
-beyond_turned : (p q : List V3) (n : V3) → IsBeyond p q n → IsBeyond q p (negative n)
+pub beyond_turned : (p q : List V3) (n : V3) → IsBeyond p q n → IsBeyond q p (negative n)
 beyond_turned p q n up =
     All-from_members (λ b. All (λ a. pos 0 ≤ℤ dot (negative n) (minus a b)) p) q
     (λ b b_in. All-from_members (λ a. pos 0 ≤ℤ dot (negative n) (minus a b)) p

@@ -20,3 +20,8 @@ pub mod Certify
 pub mod Lines
 pub mod Texts
 pub mod Borders
+pub mod Cores
+pub mod SetLists
+pub mod Groups
+pub mod Leaving
+pub mod Shadows

@@ -5,6 +5,7 @@ mod assembly;
 mod cell_laws;
 mod certificate;
 mod cone_laws;
+mod core_laws;
 pub mod laws;
 mod line;
 mod one_laws;

@@ -1,5 +1,5 @@
 // Laws on assemblies, their planes and their plans. Each is a function that does nothing, and its contract is the law.
-ghost use Rattle.std.specs.Prelude.{◌≡◌, ◌≤◌, ◌↔◌, ℕ, List, Contains, length};
+ghost use Rattle.std.specs.Prelude.{◌≡◌, ◌≤◌, ◌↔◌, ◌∷◌, ℕ, List, Contains, length};
 ghost use Rattle.std.specs.FinSet as set;
 ghost use Rattle.staat_vec.specs.declared.vector.V3.{V3 as Vector};
 ghost use Rattle.staat_vec.specs.Vectors.{negative};
@@ -21,6 +21,8 @@ ghost use Rattle.staat_model.specs.Certificates.{nodes_of, unwalled};
 ghost use Rattle.staat_model.specs.Certify.{IsCertificateOf};
 ghost use Rattle.staat_model.specs.Outcomes.{planned, stuck};
 ghost use Rattle.staat_model.specs.Borders.{HasFreeVertex};
+ghost use Rattle.staat_model.specs.SetLists.{union_of};
+ghost use Rattle.staat_model.specs.Leaving.{AreGoodPlans, IsLeavingOrder, LeaveInTurn, in_turn};
 
 /// A set of parts that is stuck rules out every plan of every set that holds it.
 pub fn restrict()
@@ -94,4 +96,20 @@ pub fn certificates_are_valid()
     ensures refusal { (parts : List PartValue) (version : ℕ) (w : PartSetValue) (c : CertificateValue)
         → IsAssembly parts → IsStuck parts w → IsCertificateOf parts version (stuck w) c
         → IsValidRefusal parts c }
+{}
+
+/// Sets of parts, of which none blocks along d a later one, leave along d one after the other: each is free of all the
+/// later ones together.
+pub fn leave_in_turn()
+    ensures { (parts : List PartValue) (d : Vector) (sets : List PartSetValue) → IsLeavingOrder parts d sets
+        → LeaveInTurn parts d sets }
+{}
+
+/// So a plan that splits them off along d one after the other, and goes on within each by a good plan of its own,
+/// takes them all apart.
+pub fn plans_in_turn()
+    ensures { (parts : List PartValue) (d : Vector) (s : PartSetValue) (sets : List PartSetValue) (plan : Plan)
+        (plans : List Plan)
+        → IsLeavingOrder parts d (s ∷ sets) → AreGoodPlans parts (s ∷ sets) (plan ∷ plans)
+        → IsGood parts (union_of (s ∷ sets)) (in_turn d plan plans) }
 {}

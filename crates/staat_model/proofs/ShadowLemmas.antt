@@ -1,0 +1,73 @@
+-- A plane between two pieces that a direction does not lead through, and pieces whose shadows lie apart.
+use Rattle.std.proofs.Common.{◌≡◌, ◌≢◌, zero, suc, ap, sym, ◌∙◌, arith, ℤ, pos, neg_ℤ, ◌-ℤ◌, ◌≤ℤ◌}
+use Rattle.std.proofs.Common.{◌⊎◌, inl, inr, List, All, Contains}
+use Rattle.std.proofs.lemmas.Int.{ints}
+use Rattle.std.proofs.lemmas.List.Elements.{All-contains}
+use Rattle.staat_vec.specs.declared.vector.V3.{V3}
+use Rattle.staat_vec.specs.Vectors.{dot, minus, negative, origin}
+use Rattle.staat_vec.proofs.VecRing.{negative_dot}
+use Rattle.staat_vec.proofs.Canons.{negative-negative}
+use Rattle.staat_model.specs.Meeting.{Meets}
+use Rattle.staat_model.specs.Pieces.{IsSolid}
+use Rattle.staat_model.specs.Planes.{axes}
+use Rattle.staat_model.specs.Shadows.{HaveShadowsApart, IsBefore, IsParted}
+use Rattle.staat_model.specs.Walls.{IsBeyond}
+use Rattle.staat_model.proofs.Members.{All-from_members}
+use Rattle.staat_model.proofs.Reversed.{beyond_turned}
+use Rattle.staat_model.proofs.WallLaws.{dot-minus, wall_keeps_apart}
+
+-- what comes before along n has the other beyond it
+before_beyond : (n : V3) (p q : List V3) → IsBefore n p q → IsBeyond p q n
+before_beyond n p q before =
+    All-from_members (λ a. All (λ b. pos 0 ≤ℤ dot n (minus b a)) q) p (λ a a_in.
+    let row = All-contains (λ a. All (λ b. dot n a ≤ℤ dot n b) q) p a before a_in in
+    All-from_members (λ b. pos 0 ≤ℤ dot n (minus b a)) q (λ b b_in.
+    let no_less = All-contains (λ b. dot n a ≤ℤ dot n b) q b row b_in in
+    ahead (dot n a) (dot n b) (dot n (minus b a)) (dot-minus n b a) no_less))
+  where
+    ahead : (x y z : ℤ) → z ≡ y -ℤ x → x ≤ℤ y → pos 0 ≤ℤ z
+    ahead x y z e h = omega (arith, ints)
+
+pub wall_parts_lemma : (p q : List V3) (d n : V3) → IsSolid p → n ≢ origin → IsParted n p q d → Meets p q d → ⊥
+wall_parts_lemma p q d n solid some (inl (before, away)) meets =
+    wall_keeps_apart p q d n solid
+    (record { wall = some; beyond = before_beyond n p q before; away = away })
+    meets
+wall_parts_lemma p q d n solid some (inr (after, towards)) meets =
+    wall_keeps_apart p q d (negative n) solid
+    (record {
+      wall = λ e. some (sym (negative-negative n) ∙ ap negative e);
+      beyond = beyond_turned q p n (before_beyond n q p after);
+      away = turned (dot (negative n) d) (dot n d) (negative_dot n d) towards;
+    })
+    meets
+  where
+    turned : (x y : ℤ) → x ≡ neg_ℤ y → pos 0 ≤ℤ y → x ≤ℤ pos 0
+    turned x y e h = omega (arith, ints)
+
+pub shadows_part_lemma : (p q : List V3) (d n : V3) → IsSolid p → n ≢ origin → HaveShadowsApart n p q d
+    → Meets p q d → ⊥
+shadows_part_lemma p q d n solid some are meets = go are.apart
+  where
+    low : (x : ℤ) → x ≡ pos 0 → x ≤ℤ pos 0
+    low x e = omega (arith, ints)
+
+    high : (x : ℤ) → x ≡ pos 0 → pos 0 ≤ℤ x
+    high x e = omega (arith, ints)
+
+    go : IsBefore n p q ⊎ IsBefore n q p → ⊥
+    go (inl before) = wall_parts_lemma p q d n solid some (inl (before, low (dot n d) are.across)) meets
+    go (inr after) = wall_parts_lemma p q d n solid some (inr (after, high (dot n d) are.across)) meets
+
+one_is_some : pos 1 ≡ pos 0 → ⊥
+one_is_some wrong = omega (arith, ints)
+
+axis_some : (n : V3) → Contains axes n → n ≢ origin
+axis_some n (zero, lt, e) f = one_is_some (ap (λ (v : V3). v.x) (e ∙ f))
+axis_some n (suc zero, lt, e) f = one_is_some (ap (λ (v : V3). v.y) (e ∙ f))
+axis_some n (suc (suc zero), lt, e) f = one_is_some (ap (λ (v : V3). v.z) (e ∙ f))
+axis_some n (suc (suc (suc k)), lt, e) f = absurd (omega (arith, lt))
+
+pub boxes_part_lemma : (p q : List V3) (d axis : V3) → IsSolid p → Contains axes axis → IsParted axis p q d
+    → Meets p q d → ⊥
+boxes_part_lemma p q d axis solid is parted = wall_parts_lemma p q d axis solid (axis_some axis is) parted

@@ -1,0 +1,15 @@
+-- Lists of sets of part numbers.
+use Rattle.std.specs.Prelude.{List, [], ◌∷◌, Contains}
+use Rattle.std.specs.FinSet as set
+use Rattle.staat_model.specs.declared.set.PartSet.{PartSet}
+use Rattle.staat_model.specs.Sets.{AreApart}
+
+-- the members of all the sets
+abbrev pub union_of : List PartSet → PartSet
+union_of [] = set.empty
+union_of (s ∷ rest) = set.union s (union_of rest)
+
+-- no two of the sets have a member in common
+abbrev pub AreAllApart : List PartSet → Type 0
+AreAllApart [] = Unit {0}
+AreAllApart (s ∷ rest) = ((t : PartSet) → Contains rest t → AreApart s t) × AreAllApart rest
