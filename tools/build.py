@@ -34,6 +34,7 @@ SOURCES = ("src", "specs", "proofs")
 MEMORY = 2 << 30  # bytes that a job may take
 NEAR = 0.75  # the part of the longest chain from which another is nearly as long
 NICE = 10  # how far a crate gives way to those with the longest chains
+MOMENT = 0.5  # seconds in which all that a job started has ended, once it was stopped
 TICK = 0.05  # seconds from one look at what is at work to the next
 TAIL = 20  # lines that are shown of a refusal
 
@@ -180,6 +181,8 @@ class Job:
                 self._process.returncode = os.waitstatus_to_exitcode(status)
                 self.seconds = time.monotonic() - self._began
                 self.used = usage.ru_utime + usage.ru_stime
+                if self._process.returncode < 0:
+                    time.sleep(MOMENT)
                 self._room.close()
         return self._process.returncode
 
