@@ -1,0 +1,96 @@
+"""Proves everything and runs every test.
+
+    ./test                  `rt ci`, which proves all and builds the program, and then the steps below
+    ./test quick [STEP..]   the steps alone, or those that are named, with the program that is built
+
+The last line is `N passed, M failed` over all of it, and the status is 1 where something failed.
+"""
+
+from __future__ import annotations
+
+import os
+import pathlib
+import resource
+import subprocess
+import sys
+import threading
+import time
+from concurrent.futures import ThreadPoolExecutor, as_completed
+
+import needs
+import steps
+import times
+
+BUILT = steps.TOP / "crates" / "staat_cli" / "out" / "staat_cli"
+
+
+def _used() -> float:
+    """The processor seconds of all commands that ended."""
+    usage = resource.getrusage(resource.RUSAGE_CHILDREN)
+    return usage.ru_utime + usage.ru_stime
+
+
+def prove() -> tuple[steps.Result, list[str]]:
+    """Runs `rt ci`, printing what it prints, and answers its result and the table of its times."""
+    began, used = time.monotonic(), _used()
+    lines: list[str] = []
+    with subprocess.Popen(
+        ["rt", "ci"],
+        cwd=steps.TOP,
+        stdin=subprocess.DEVNULL,
+        stdout=subprocess.PIPE,
+        stderr=subprocess.STDOUT,
+        encoding="utf-8",
+        errors="replace",
+    ) as process:
+        sampler = times.Sampler(process.pid)
+        looking = threading.Thread(target=sampler.run, daemon=True)
+        looking.start()
+        assert process.stdout
+        for line in process.stdout:
+            print(line, end="", flush=True)
+            lines.append(line)
+        status = process.wait()
+        sampler.end()
+        looking.join()
+    passed, failed = steps.counts("".join(lines[-1:]), status)
+    result = steps.Result("proofs", passed, failed, time.monotonic() - began, "")
+    return result, times.table(sampler.seconds(), _used() - used)
+
+
+def run_steps(chosen: list[steps.Step], program: pathlib.Path | None, missing: list[str]) -> list[steps.Result]:
+    """Runs steps side by side and says of each how it ended."""
+    results = []
+    with ThreadPoolExecutor(os.cpu_count()) as pool:
+        for job in as_completed([pool.submit(steps.run, step, program, missing) for step in chosen]):
+            results.append(job.result())
+            print(steps.report(results[-1]), flush=True)
+    return results
+
+
+def main(words: list[str]) -> int:
+    """Reads the words, runs what they ask for, and answers the status."""
+    is_quick = words[:1] == ["quick"]
+    names = words[1:] if is_quick else words
+    if (names and not is_quick) or not set(names) <= {step.name for step in steps.STEPS}:
+        print(f"{__doc__}\nSteps: {', '.join(step.name for step in steps.STEPS)}", file=sys.stderr)
+        return 2
+    chosen = [step for step in steps.STEPS if step.name in names or not names]
+    wanted = {need for step in chosen for need in step.needs} | (set() if is_quick else {"rt"})
+    missing = needs.provide(wanted)
+    results, table = [], []
+    if not is_quick:
+        proofs, table = prove() if "rt" not in missing else (steps.Result("proofs", 0, 1, 0, ""), [])
+        results.append(proofs)
+    program = BUILT if BUILT.exists() else None
+    if is_quick and program and steps.is_older(program):
+        print("test: the program is older than the sources of the crates; ./test builds it anew", file=sys.stderr)
+    results += run_steps(chosen, program, missing)
+    print("\n".join(["", *table, *(f"{it.name}: {it.seconds:.0f} seconds" for it in results)]))
+    passed, failed = sum(it.passed for it in results), sum(it.failed for it in results)
+    print(f"{passed} passed, {failed} failed", flush=True)
+    return 1 if failed else 0
+
+
+if __name__ == "__main__":
+    sys.exit(main(sys.argv[1:]))

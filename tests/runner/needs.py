@@ -1,0 +1,80 @@
+"""What the tests need of the system: how each thing is found, and the Debian package that has it."""
+
+from __future__ import annotations
+
+import importlib.util
+import os
+import shutil
+import subprocess
+import sys
+from collections.abc import Callable, Iterable
+from dataclasses import dataclass
+
+
+@dataclass(frozen=True)
+class Need:
+    """Something of the system; the package is empty where none has it."""
+
+    package: str
+    is_there: Callable[[], bool]
+
+
+def _command(name: str) -> Callable[[], bool]:
+    return lambda: shutil.which(name) is not None
+
+
+def _module(name: str) -> Callable[[], bool]:
+    return lambda: importlib.util.find_spec(name) is not None
+
+
+def _folder(name: str) -> Callable[[], bool]:
+    return lambda: os.path.isdir(name)
+
+
+NEEDS = {
+    "rt": Need("", _command("rt")),
+    "cc": Need("gcc", _command("cc")),
+    "geomview": Need("geomview", _folder("/usr/share/geomview/geom")),
+    "meshio": Need("python3-meshio", _module("meshio")),
+    "openscad": Need("openscad", _command("openscad")),
+    "scipy": Need("python3-scipy", _module("scipy")),
+}
+
+
+def missing(names: Iterable[str]) -> list[str]:
+    """Those of the names that the system lacks, in alphabetical order, each once."""
+    importlib.invalidate_caches()
+    return sorted({name for name in names if not NEEDS[name].is_there()})
+
+
+def install_line(names: Iterable[str]) -> list[str]:
+    """The words of the command that installs what is missing; none where no package has it."""
+    packages = sorted({NEEDS[name].package for name in names} - {""})
+    return ["apt-get", "install", "-y", *packages] if packages else []
+
+
+def told(names: list[str]) -> list[str]:
+    """What is said of things that are missing."""
+    lines = [f"test: missing: {', '.join(names)}"] if names else []
+    words = install_line(names)
+    if words:
+        lines.append("test: to install: " + " ".join(words))
+    if "rt" in names:
+        lines.append("test: rt is the command of Rattle, of the kit that README.md names; without it nothing is proved")
+    return lines
+
+
+def provide(names: Iterable[str]) -> list[str]:
+    """Says what is missing, installs it where this runs as root without a terminal, and answers what still is."""
+    lacking = missing(names)
+    for line in told(lacking):
+        print(line, file=sys.stderr)
+    words = install_line(lacking)
+    if words and os.geteuid() == 0 and not sys.stdin.isatty():
+        setting = {**os.environ, "DEBIAN_FRONTEND": "noninteractive"}
+        for command in (["apt-get", "update"], words):
+            subprocess.run(command, env=setting, stdin=subprocess.DEVNULL, stdout=sys.stderr, check=False)
+        lacking = missing(lacking)
+        if lacking:
+            print(f"test: still missing: {', '.join(lacking)}", file=sys.stderr)
+    return lacking

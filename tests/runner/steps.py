@@ -1,0 +1,114 @@
+"""The steps of `./test` besides the proofs: what each is called, its command, and what it needs."""
+
+from __future__ import annotations
+
+import os
+import pathlib
+import re
+import subprocess
+import sys
+import time
+from collections.abc import Collection
+from dataclasses import dataclass
+
+import scratch
+
+TOP = scratch.TOP
+PYTHON = sys.executable
+SECONDS = 3600  # how long a step may take
+TAIL = 60  # how many lines of a step that failed are printed
+
+_COUNTS = re.compile(r"([0-9]+) passed, ([0-9]+) failed\b")
+
+
+@dataclass(frozen=True)
+class Step:
+    """A command that runs at the top of the repository. `{program}` in its words is the path of the built program.
+
+    Where its last line is `N passed, M failed` these are counted; else it is one test, which its status decides.
+    """
+
+    name: str
+    command: tuple[str, ...]
+    needs: tuple[str, ...] = ()
+    needs_program: bool = True
+
+
+@dataclass(frozen=True)
+class Result:
+    """How a step ended: its tests, its wall time in seconds, and what it printed."""
+
+    name: str
+    passed: int
+    failed: int
+    seconds: float
+    text: str
+
+
+def _python(script: str, *words: str) -> tuple[str, ...]:
+    return (PYTHON, "-B", script, *words)
+
+
+# The longest first: they run side by side.
+STEPS = (
+    Step("memory", _python("tools/refuse_memory.py", "{program}"), ("cc",)),
+    Step("checkers", _python("tools/compare_checkers.py", "--program={program}", "--broken=1000")),
+    Step("pages", _python("tests/runner/pages.py", "{program}"), ("openscad", "meshio", "scipy")),
+    Step("tools", _python("tests/runner/units.py", "tools"), ("geomview", "meshio", "openscad", "scipy")),
+    Step("transcripts", _python("tests/runner/transcripts.py", "{program}")),
+    Step("gallery", _python("gallery/run", "{program}")),
+    Step("runner", _python("tests/runner/units.py", "tests/runner"), needs_program=False),
+)
+
+
+def counts(text: str, status: int) -> tuple[int, int]:
+    """How many tests passed and failed, by the last line of what was printed and by the status."""
+    found = _COUNTS.match(text.rstrip("\n").rpartition("\n")[2])
+    passed, failed = (int(found.group(1)), int(found.group(2))) if found else (int(status == 0), 0)
+    return passed, max(failed, int(status != 0), int(passed == 0))
+
+
+def run(step: Step, program: pathlib.Path | None, missing: Collection[str]) -> Result:
+    """Runs a step. It counts as one that failed where there is no program, or where something it needs is missing."""
+    lacking = [need for need in step.needs if need in missing] + ["the built program"] * (step.needs_program and not program)
+    if lacking:
+        return Result(step.name, 0, 1, 0, f"cannot run: missing {', '.join(lacking)}")
+    words = [word.replace("{program}", str(program)) for word in step.command]
+    setting = {**scratch.environment(), "STAAT": str(program)}
+    began = time.monotonic()
+    try:
+        done = subprocess.run(
+            words,
+            cwd=TOP,
+            env=setting,
+            stdin=subprocess.DEVNULL,
+            stdout=subprocess.PIPE,
+            stderr=subprocess.STDOUT,
+            encoding="utf-8",
+            errors="replace",
+            timeout=SECONDS,
+            check=False,
+        )
+        status, text = done.returncode, done.stdout
+    except (OSError, subprocess.TimeoutExpired) as why:
+        status, text = -1, str(why)
+    return Result(step.name, *counts(text, status), time.monotonic() - began, text)
+
+
+def report(result: Result) -> str:
+    """The line of a step that ended, behind the last lines that it printed where something failed."""
+    line = f"{result.name}: {result.passed} passed, {result.failed} failed, {result.seconds:.0f} seconds"
+    if not result.failed:
+        return line
+    tail = result.text.rstrip("\n").split("\n")[-TAIL:]
+    return "\n".join([f"== {result.name}", *tail, line])
+
+
+def is_older(program: pathlib.Path) -> bool:
+    """Whether a source of the crates is newer than the program."""
+    built = program.stat().st_mtime
+    for folder, folders, files in os.walk(TOP / "crates"):
+        folders[:] = [name for name in folders if name != "out"]
+        if any(os.stat(os.path.join(folder, name)).st_mtime > built for name in files):
+            return True
+    return False
