@@ -70,7 +70,9 @@ def counts(text: str, status: int) -> tuple[int, int]:
 
 def run(step: Step, program: pathlib.Path | None, missing: Collection[str]) -> Result:
     """Runs a step. It counts as one that failed where there is no program, or where something it needs is missing."""
-    lacking = [need for need in step.needs if need in missing] + ["the built program"] * (step.needs_program and not program)
+    lacking = [need for need in step.needs if need in missing] + ["the built program"] * (
+        step.needs_program and not program
+    )
     if lacking:
         return Result(step.name, 0, 1, 0, f"cannot run: missing {', '.join(lacking)}")
     words = [word.replace("{program}", str(program)) for word in step.command]
