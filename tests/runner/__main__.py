@@ -58,11 +58,15 @@ def prove() -> tuple[steps.Result, list[str]]:
     return result, times.table(sampler.seconds(), _used() - used)
 
 
-def run_steps(chosen: list[steps.Step], program: pathlib.Path | None, missing: list[str]) -> list[steps.Result]:
+def run_steps(
+    chosen: list[steps.Step], program: pathlib.Path | None, missing: list[str]
+) -> list[steps.Result]:
     """Runs steps side by side and says of each how it ended."""
     results = []
     with ThreadPoolExecutor(os.cpu_count()) as pool:
-        for job in as_completed([pool.submit(steps.run, step, program, missing) for step in chosen]):
+        for job in as_completed(
+            [pool.submit(steps.run, step, program, missing) for step in chosen]
+        ):
             results.append(job.result())
             print(steps.report(results[-1]), flush=True)
     return results
@@ -78,13 +82,19 @@ def main(words: list[str]) -> int:
     chosen = [step for step in steps.STEPS if step.name in names or not names]
     wanted = {need for step in chosen for need in step.needs} | (set() if is_quick else {"rt"})
     missing = needs.provide(wanted)
-    results, table = [], []
+    results: list[steps.Result] = []
+    table: list[str] = []
     if not is_quick:
-        proofs, table = prove() if "rt" not in missing else (steps.Result("proofs", 0, 1, 0, ""), [])
+        proofs, table = (
+            prove() if "rt" not in missing else (steps.Result("proofs", 0, 1, 0, ""), [])
+        )
         results.append(proofs)
     program = BUILT if BUILT.exists() else None
     if is_quick and program and steps.is_older(program):
-        print("test: the program is older than the sources of the crates; ./test builds it anew", file=sys.stderr)
+        print(
+            "test: the program is older than the sources of the crates; ./test builds it anew",
+            file=sys.stderr,
+        )
     results += run_steps(chosen, program, missing)
     print("\n".join(["", *table, *(f"{it.name}: {it.seconds:.0f} seconds" for it in results)]))
     passed, failed = sum(it.passed for it in results), sum(it.failed for it in results)

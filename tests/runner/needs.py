@@ -60,7 +60,9 @@ def told(names: list[str]) -> list[str]:
     if words:
         lines.append("test: to install: " + " ".join(words))
     if "rt" in names:
-        lines.append("test: rt is the command of Rattle, of the kit that README.md names; without it nothing is proved")
+        lines.append(
+            "test: rt is the command of Rattle, of the kit that README.md names; without it nothing is proved"
+        )
     return lines
 
 
@@ -73,7 +75,9 @@ def provide(names: Iterable[str]) -> list[str]:
     if words and os.geteuid() == 0 and not sys.stdin.isatty():
         setting = {**os.environ, "DEBIAN_FRONTEND": "noninteractive"}
         for command in (["apt-get", "update"], words):
-            subprocess.run(command, env=setting, stdin=subprocess.DEVNULL, stdout=sys.stderr, check=False)
+            subprocess.run(
+                command, env=setting, stdin=subprocess.DEVNULL, stdout=sys.stderr, check=False
+            )
         lacking = missing(lacking)
         if lacking:
             print(f"test: still missing: {', '.join(lacking)}", file=sys.stderr)

@@ -1,9 +1,10 @@
 """Runs the examples of the pages: pages.py PROGRAM [PAGE..]
 
-An example is a line that begins with `$ ` in a block of code, up to the last line that ends in a backslash, and what
-the page shows of it are the lines behind it. All examples of a page run one after another in one scratch copy of the
-repository, in which `./staat` is PROGRAM. What is printed, on out and on err, has to be what is shown; `...` on a line
-of its own stands for lines that are left out. The status has to be 0, or N where `# status N` stands behind the command.
+An example is a line that begins with `$ ` in a block of code, up to the last line that ends in a
+backslash, and what the page shows of it are the lines behind it. All examples of a page run one after
+another in one scratch copy of the repository, in which `./staat` is PROGRAM. What is printed, on out and
+on err, has to be what is shown; `...` on a line of its own stands for lines that are left out. The status
+has to be 0, or N where `# status N` stands behind the command.
 """
 
 from __future__ import annotations
@@ -20,7 +21,15 @@ from dataclasses import dataclass, field
 import scratch
 import shown
 
-PAGES = ("README.md", "docs/*.md", "bench/*.md", "examples/**/*.md", "gallery/**/*.md", "tests/*.md", "tools/*.md")
+PAGES = (
+    "README.md",
+    "docs/*.md",
+    "bench/*.md",
+    "examples/**/*.md",
+    "gallery/**/*.md",
+    "tests/*.md",
+    "tools/*.md",
+)
 
 INDENT = "    "
 _FENCE = re.compile(r"```|~~~")
@@ -45,7 +54,7 @@ def _code_of(text: str) -> Iterator[tuple[int, str | None]]:
         elif is_fenced:
             yield number, line
         elif line.startswith(INDENT):
-            yield number, line[len(INDENT) :]
+            yield number, line.removeprefix(INDENT)
         else:
             yield number, "" if line == "" else None
 
@@ -95,7 +104,9 @@ def run_page(page: pathlib.Path, program: pathlib.Path) -> tuple[int, list[str]]
         for example in examples:
             why = failure(example, folder)
             if why:
-                failures.append(f"{page.relative_to(scratch.TOP)}:{example.line}: $ {example.command}\n{why}")
+                failures.append(
+                    f"{page.relative_to(scratch.TOP)}:{example.line}: $ {example.command}\n{why}"
+                )
     return len(examples), failures
 
 
@@ -109,8 +120,7 @@ def main(words: list[str]) -> int:
         for number, told in pool.map(lambda page: run_page(page, program), pages):
             count += number
             failures += told
-    for told in failures:
-        print(told)
+    print("".join(f"{told}\n" for told in failures), end="")
     print(f"{count - len(failures)} passed, {len(failures)} failed")
     return 1 if failures else 0
 

@@ -11,12 +11,20 @@ import subprocess
 TOP = pathlib.Path(__file__).resolve().parents[2]
 SECONDS = 300  # how long one command may run
 
-_NOT_COPIED = {".git", "crates"}  # the crates are linked: pages read them, and no command writes there
+_NOT_COPIED = {
+    ".git",
+    "crates",
+}  # the crates are linked: pages read them, and no command writes there
 
 
 def environment() -> dict[str, str]:
     """The variables for a command: the Python of the system first, and no window is opened."""
-    return {**os.environ, "PATH": f"/usr/bin:{os.environ['PATH']}", "LC_ALL": "C.UTF-8", "QT_QPA_PLATFORM": "offscreen"}
+    return {
+        **os.environ,
+        "PATH": f"/usr/bin:{os.environ['PATH']}",
+        "LC_ALL": "C.UTF-8",
+        "QT_QPA_PLATFORM": "offscreen",
+    }
 
 
 def put_program(path: pathlib.Path, program: pathlib.Path) -> None:
@@ -33,7 +41,9 @@ def copy_repository(to: pathlib.Path, program: pathlib.Path) -> None:
         if entry.name in _NOT_COPIED:
             continue
         if entry.is_dir():
-            shutil.copytree(entry, to / entry.name, symlinks=True, ignore=shutil.ignore_patterns("__pycache__"))
+            shutil.copytree(
+                entry, to / entry.name, symlinks=True, ignore=shutil.ignore_patterns("__pycache__")
+            )
         else:
             shutil.copy2(entry, to / entry.name)
     (to / "crates").symlink_to(TOP / "crates")

@@ -38,12 +38,19 @@ def agrees(shown: Sequence[str], got: Sequence[str]) -> bool:
     if at > end or list(got[:at]) != first or list(got[end:]) != last:
         return False
     for run in runs[1:-1]:
-        places = (k for k in range(at, end - len(run) + 1) if list(got[k : k + len(run)]) == run)
-        place = next(places, None)
+        place = _place(run, got, at, end)
         if place is None:
             return False
         at = place + len(run)
     return True
+
+
+def _place(run: list[str], got: Sequence[str], least: int, end: int) -> int | None:
+    """The first place from `least` on at which the run stands and ends before `end`."""
+    for place in range(least, end - len(run) + 1):
+        if all(line == got[place + k] for k, line in enumerate(run)):
+            return place
+    return None
 
 
 def difference(shown: Sequence[str], got: Sequence[str]) -> str:

@@ -54,7 +54,11 @@ STEPS = (
     Step("memory", _python("tools/refuse_memory.py", "{program}"), ("cc",)),
     Step("checkers", _python("tools/compare_checkers.py", "--program={program}", "--broken=1000")),
     Step("pages", _python("tests/runner/pages.py", "{program}"), ("openscad", "meshio", "scipy")),
-    Step("tools", _python("tests/runner/units.py", "tools"), ("geomview", "meshio", "openscad", "scipy")),
+    Step(
+        "tools",
+        _python("tests/runner/units.py", "tools"),
+        ("geomview", "meshio", "openscad", "scipy"),
+    ),
     Step("transcripts", _python("tests/runner/transcripts.py", "{program}")),
     Step("gallery", _python("gallery/run", "{program}")),
     Step("runner", _python("tests/runner/units.py", "tests/runner"), needs_program=False),

@@ -13,7 +13,9 @@ class Tests(unittest.TestCase):
     def test_status(self) -> None:
         self.assertEqual(shown.split_status("./staat plan a  # status 1"), ("./staat plan a", 1))
         self.assertEqual(shown.split_status("./staat plan a"), ("./staat plan a", 0))
-        self.assertEqual(shown.split_status("./staat plan a # a remark"), ("./staat plan a # a remark", 0))
+        self.assertEqual(
+            shown.split_status("./staat plan a # a remark"), ("./staat plan a # a remark", 0)
+        )
 
     def test_lines(self) -> None:
         self.assertEqual(shown.lines_of(""), [])
@@ -22,10 +24,27 @@ class Tests(unittest.TestCase):
 
     def test_agrees(self) -> None:
         got = list("abcabd")
-        for lines in ("abcabd", "ab...bd", "...", "...abcabd...", "a...c...d", "...c...", "abc...abd"):
+        for lines in (
+            "abcabd",
+            "ab...bd",
+            "...",
+            "...abcabd...",
+            "a...c...d",
+            "...c...",
+            "abc...abd",
+        ):
             with self.subTest(lines):
                 self.assertTrue(shown.agrees(_lines(lines), got))
-        for lines in ("abcab", "abcabdd", "b...", "...b", "abca...cabd", "a...e...d", "...d...c...", ""):
+        for lines in (
+            "abcab",
+            "abcabdd",
+            "b...",
+            "...b",
+            "abca...cabd",
+            "a...e...d",
+            "...d...c...",
+            "",
+        ):
             with self.subTest(lines):
                 self.assertFalse(shown.agrees(_lines(lines), got))
 

@@ -26,9 +26,13 @@ class Tests(unittest.TestCase):
                 self.assertEqual(steps.counts(text, status), wanted)
 
     def test_run(self) -> None:
-        well = steps.Step("well", (sys.executable, "-c", "print('3 passed, 0 failed')"), needs_program=False)
+        well = steps.Step(
+            "well", (sys.executable, "-c", "print('3 passed, 0 failed')"), needs_program=False
+        )
         self.assertEqual(steps.run(well, None, []).passed, 3)
-        ill = steps.Step("ill", (sys.executable, "-c", "print('why'); raise SystemExit(1)"), needs_program=False)
+        ill = steps.Step(
+            "ill", (sys.executable, "-c", "print('why'); raise SystemExit(1)"), needs_program=False
+        )
         result = steps.run(ill, None, [])
         self.assertEqual((result.passed, result.failed), (0, 1))
         self.assertIn("why\nill: 0 passed, 1 failed", steps.report(result))
@@ -40,7 +44,10 @@ class Tests(unittest.TestCase):
         self.assertIn("cannot run: missing openscad, the built program", steps.report(result))
         self.assertEqual(
             needs.told(["cc", "rt", "scipy"])[:2],
-            ["test: missing: cc, rt, scipy", "test: to install: apt-get install -y gcc python3-scipy"],
+            [
+                "test: missing: cc, rt, scipy",
+                "test: to install: apt-get install -y gcc python3-scipy",
+            ],
         )
         self.assertEqual((needs.told([]), needs.install_line(["rt"])), ([], []))
 

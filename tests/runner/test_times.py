@@ -23,12 +23,24 @@ class Tests(unittest.TestCase):
         self.put(TOP, 1, 0, "python3 rt ci", "/repository")
         self.sampler = times.Sampler(TOP, self.proc, ticks=100)
 
-    def put(self, process: int, parent: int, ticks: int, words: str, place: str, start: int = 7) -> None:
+    def put(
+        self, process: int, parent: int, ticks: int, words: str, place: str, start: int = 7
+    ) -> None:
         """Writes what the system tells of a process."""
         folder = self.proc / str(process)
         folder.mkdir(exist_ok=True)
-        fields = ["S", str(parent), *["0"] * 9, str(ticks - ticks // 3), str(ticks // 3), *["0"] * 6, str(start)]
-        (folder / "stat").write_text(f"{process} (a name) of) {' '.join(fields)}\n", encoding="utf-8")
+        fields = [
+            "S",
+            str(parent),
+            *["0"] * 9,
+            str(ticks - ticks // 3),
+            str(ticks // 3),
+            *["0"] * 6,
+            str(start),
+        ]
+        (folder / "stat").write_text(
+            f"{process} (a name) of) {' '.join(fields)}\n", encoding="utf-8"
+        )
         (folder / "cmdline").write_bytes(b"".join(word.encode() + b"\0" for word in words.split()))
         (folder / "cwd").unlink(missing_ok=True)
         os.symlink(place, folder / "cwd")
@@ -36,14 +48,20 @@ class Tests(unittest.TestCase):
     def test_kinds(self) -> None:
         rattle = "/kit/bin/rattle check --crate-name"
         self.put(101, TOP, 200, f"{rattle} staat_cone src/lib.rt", "/repository/crates/staat_cone")
-        self.put(102, 103, 300, f"{rattle} staat_cone src/lib.rt --test", "/repository/crates/staat_cone")
+        self.put(
+            102, 103, 300, f"{rattle} staat_cone src/lib.rt --test", "/repository/crates/staat_cone"
+        )
         self.put(103, TOP, 50, "sh -c something", "/repository")
         self.put(104, TOP, 400, f"{rattle} staat_top src/lib.rt", "/tmp/rt-edit-100-abc")
         self.put(105, 1, 500, f"{rattle} staat_plan src/lib.rt", "/elsewhere")
         self.sampler.look()
         self.assertEqual(
             self.sampler.seconds(),
-            {("staat_cone", "proofs"): 2.0, ("staat_cone", "tests"): 3.0, ("staat_top", "edits"): 4.0},
+            {
+                ("staat_cone", "proofs"): 2.0,
+                ("staat_cone", "tests"): 3.0,
+                ("staat_top", "edits"): 4.0,
+            },
         )
 
     def test_growth(self) -> None:
@@ -59,7 +77,11 @@ class Tests(unittest.TestCase):
         self.assertEqual(self.sampler.seconds(), {("staat_cone", "proofs"): 4.0})
 
     def test_table(self) -> None:
-        seconds = {("staat_cone", "proofs"): 60.0, ("staat_top", "edits"): 180.0, ("staat_top", "tests"): 6.0}
+        seconds = {
+            ("staat_cone", "proofs"): 60.0,
+            ("staat_top", "edits"): 180.0,
+            ("staat_top", "tests"): 6.0,
+        }
         self.assertEqual(
             times.table(seconds, 306),
             [

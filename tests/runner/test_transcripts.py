@@ -6,6 +6,7 @@ import pathlib
 import tempfile
 import unittest
 
+import scratch
 import transcripts
 
 TEXT = """# A remark.
@@ -29,7 +30,10 @@ class Tests(unittest.TestCase):
     def test_blocks(self) -> None:
         first, second = transcripts.blocks_of(TEXT.replace("...", "    ..."))
         self.assertEqual((first.name, first.values), ("N", ["2", "3"]))
-        self.assertEqual([(made.name, made.lines) for made in first.files], [("x.off", []), ("{N}.txt", ["one {N}"])])
+        self.assertEqual(
+            [(made.name, made.lines) for made in first.files],
+            [("x.off", []), ("{N}.txt", ["one {N}"])],
+        )
         self.assertEqual((first.cases[0].out, first.cases[0].err), (["..."], ["err {N}"]))
         self.assertEqual((second.values, second.cases[0].out), ([""], ["nothing"]))
 
@@ -57,17 +61,21 @@ class Tests(unittest.TestCase):
     def test_failures(self) -> None:
         with tempfile.TemporaryDirectory() as room:
             program = pathlib.Path(room, "program")
-            program.write_text('#!/bin/sh\necho "out $*"\necho "err" >&2\nexit 3\n', encoding="utf-8")
+            program.write_text(
+                '#!/bin/sh\necho "out $*"\necho "err" >&2\nexit 3\n', encoding="utf-8"
+            )
             program.chmod(0o755)
             text = "$ staat a  # status 3\n    out a\n! err\n\n$ staat b\n    out a\n! err\n\n$ staat c  # status 3\n"
-            transcript = transcripts.scratch.TOP / "tests" / "of-the-runner"
+            transcript = scratch.TOP / "tests" / "of-the-runner"
             try:
                 transcript.write_text(text, encoding="utf-8")
                 count, failures = transcripts.run_transcript(transcript, program)
             finally:
                 transcript.unlink()
             self.assertEqual((count, len(failures)), (3, 2))
-            self.assertIn("tests/of-the-runner:5: $ staat b\nstatus 3 in the place of 0\n", failures[0])
+            self.assertIn(
+                "tests/of-the-runner:5: $ staat b\nstatus 3 in the place of 0\n", failures[0]
+            )
             self.assertIn("-out a\n+out b", failures[0])
             self.assertIn("+err", failures[1])
 

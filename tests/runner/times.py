@@ -39,7 +39,9 @@ class Status:
 
 def _status(folder: pathlib.Path) -> Status:
     # the name of the program stands in brackets, and may hold anything
-    fields = (folder / "stat").read_text(encoding="utf-8", errors="replace").rpartition(")")[2].split()
+    fields = (
+        (folder / "stat").read_text(encoding="utf-8", errors="replace").rpartition(")")[2].split()
+    )
     return Status(int(fields[1]), int(fields[19]), int(fields[11]) + int(fields[12]))
 
 
@@ -52,7 +54,12 @@ def _kind(words: list[str], folder: str) -> str:
 class Sampler:
     """Looks at the processes below one process, which is named by its number."""
 
-    def __init__(self, top: int, proc: pathlib.Path = pathlib.Path("/proc"), ticks: int = os.sysconf("SC_CLK_TCK")):
+    def __init__(
+        self,
+        top: int,
+        proc: pathlib.Path = pathlib.Path("/proc"),
+        ticks: int = os.sysconf("SC_CLK_TCK"),
+    ):
         self._top, self._proc, self._ticks = top, proc, ticks
         self._seen: dict[tuple[int, int], Seen] = {}
         self._ended = threading.Event()
@@ -88,7 +95,9 @@ class Sampler:
             return
         if os.path.basename(words[0]) == _PROCESS and "--crate-name" in words[:-1]:
             crate = words[words.index("--crate-name") + 1]
-            self._seen[process, status.start] = Seen(crate, _kind(words, place), status.ticks / self._ticks)
+            self._seen[process, status.start] = Seen(
+                crate, _kind(words, place), status.ticks / self._ticks
+            )
 
     def run(self) -> None:
         """Looks once a second until `end` is called."""
@@ -109,11 +118,17 @@ class Sampler:
 
 def table(seconds: dict[tuple[str, str], float], total: float) -> list[str]:
     """The lines of a table of processor minutes by crate, the longest first; `total` is in seconds, with the rest."""
-    crates = sorted({crate for crate, _ in seconds}, key=lambda crate: -sum(seconds.get((crate, k), 0) for k in KINDS))
+    crates = sorted(
+        {crate for crate, _ in seconds},
+        key=lambda crate: -sum(seconds.get((crate, k), 0) for k in KINDS),
+    )
     width = max([len(crate) for crate in crates] + [len("processor minutes")])
     lines = [f"{'processor minutes':{width}}" + "".join(f"{kind:>8}" for kind in KINDS)]
     for crate in crates:
-        lines.append(f"{crate:{width}}" + "".join(f"{seconds.get((crate, kind), 0) / 60:8.1f}" for kind in KINDS))
+        lines.append(
+            f"{crate:{width}}"
+            + "".join(f"{seconds.get((crate, kind), 0) / 60:8.1f}" for kind in KINDS)
+        )
     sums = [sum(it for (_, kind), it in seconds.items() if kind == wanted) for wanted in KINDS]
     lines.append(f"{'all':{width}}" + "".join(f"{it / 60:8.1f}" for it in sums))
     lines.append(f"{'the rest':{width}}{max(total - sum(sums), 0) / 60:8.1f}")

@@ -23,7 +23,9 @@ import shown
 FILES = scratch.TOP / "tests" / "files"
 INDENT = "    "
 
-_TERM = re.compile(r"\s*('(?:[^'\\]|\\.)*'|[^\s'*+\[\]]+)(?:\[:([0-9]+)\])?(?:\s*\*\s*([0-9]+))?\s*(\+|$)")
+_TERM = re.compile(
+    r"\s*('(?:[^'\\]|\\.)*'|[^\s'*+\[\]]+)(?:\[:([0-9]+)\])?(?:\s*\*\s*([0-9]+))?\s*(\+|$)"
+)
 _RANGE = re.compile(r"([0-9]+)\.\.([0-9]+)")
 _ESCAPES = {"n": "\n", "t": "\t", "\\": "\\", "'": "'"}
 
@@ -75,7 +77,9 @@ def content(expression: str, folder: pathlib.Path) -> bytes:
             raise Mistake(f"no expression: {expression}")
         word, first, times, joined = term.groups()
         if word.startswith("'"):
-            part = re.sub(r"\\(.)", lambda it: _ESCAPES.get(it.group(1), it.group()), word[1:-1]).encode()
+            part = re.sub(
+                r"\\(.)", lambda it: _ESCAPES.get(it.group(1), it.group()), word[1:-1]
+            ).encode()
         else:
             part = (folder / word).read_bytes()
         made += part[: int(first) if first else None] * int(times or 1)
@@ -86,13 +90,17 @@ def content(expression: str, folder: pathlib.Path) -> bytes:
 
 def _values(words: str) -> list[str]:
     limits = _RANGE.fullmatch(words)
-    return [str(n) for n in range(int(limits.group(1)), int(limits.group(2)) + 1)] if limits else words.split()
+    return (
+        [str(n) for n in range(int(limits.group(1)), int(limits.group(2)) + 1)]
+        if limits
+        else words.split()
+    )
 
 
 def _read_line(block: Block, number: int, line: str, takes: list[str] | None) -> list[str] | None:
     """Puts one line into its block, and says where the indented lines behind it go."""
     if line.startswith(INDENT) and takes is not None:
-        takes.append(line[len(INDENT) :])
+        takes.append(line.removeprefix(INDENT))
         return takes
     kind, _, rest = line.partition(" ")
     if kind == "for" and " in " in rest and not block.cases:
@@ -110,7 +118,7 @@ def _read_line(block: Block, number: int, line: str, takes: list[str] | None) ->
         block.cases[-1].err.append(rest)
         return takes
     if line.startswith("out = ") and block.cases:
-        block.cases[-1].out_expression = line[len("out = ") :]
+        block.cases[-1].out_expression = line.removeprefix("out = ")
         return None
     raise Mistake(f"line {number}: {line}")
 
@@ -137,7 +145,11 @@ def failure(case: Case, block: Block, value: str, folder: pathlib.Path, path: st
     if case.out_expression:
         wanted = content(block.put(case.out_expression, value), folder)
         if out.encode("utf-8", "surrogateescape") != wanted:
-            told.append(shown.difference(shown.lines_of(wanted.decode("utf-8", "replace")), shown.lines_of(out)))
+            told.append(
+                shown.difference(
+                    shown.lines_of(wanted.decode("utf-8", "replace")), shown.lines_of(out)
+                )
+            )
     for lines, text in ((case.err, err), *(() if case.out_expression else ((case.out, out),))):
         wanted_lines = [block.put(line, value) for line in lines]
         if not shown.agrees(wanted_lines, shown.lines_of(text)):
@@ -155,7 +167,9 @@ def write_files(block: Block, value: str, folder: pathlib.Path) -> list[pathlib.
         if file.expression is not None:
             path.write_bytes(content(block.put(file.expression, value), folder))
         else:
-            path.write_text("".join(block.put(line, value) + "\n" for line in file.lines), encoding="utf-8")
+            path.write_text(
+                "".join(block.put(line, value) + "\n" for line in file.lines), encoding="utf-8"
+            )
         made.append(path)
     return made
 
@@ -176,7 +190,9 @@ def run_transcript(transcript: pathlib.Path, program: pathlib.Path) -> tuple[int
                     count += 1
                     if why:
                         told = block.put(case.command, value)
-                        failures.append(f"{transcript.relative_to(scratch.TOP)}:{case.line}: $ {told}\n{why}")
+                        failures.append(
+                            f"{transcript.relative_to(scratch.TOP)}:{case.line}: $ {told}\n{why}"
+                        )
                 for path in made:
                     path.unlink()
     return count, failures
@@ -186,7 +202,10 @@ def run_all(transcripts: Iterable[pathlib.Path], program: pathlib.Path) -> int:
     """Runs transcripts side by side, prints what is false and how many cases hold, and answers the status."""
     passed, failed = 0, 0
     with ThreadPoolExecutor(os.cpu_count()) as pool:
-        jobs = [(transcript, pool.submit(run_transcript, transcript, program)) for transcript in transcripts]
+        jobs = [
+            (transcript, pool.submit(run_transcript, transcript, program))
+            for transcript in transcripts
+        ]
         for transcript, job in jobs:
             try:
                 count, failures = job.result()
@@ -202,7 +221,9 @@ def run_all(transcripts: Iterable[pathlib.Path], program: pathlib.Path) -> int:
 def main(words: list[str]) -> int:
     """Runs all transcripts, or those that are named."""
     named = [pathlib.Path(word).resolve() for word in words[1:]]
-    return run_all(named or sorted((scratch.TOP / "tests").glob("*.txt")), pathlib.Path(words[0]).resolve())
+    return run_all(
+        named or sorted((scratch.TOP / "tests").glob("*.txt")), pathlib.Path(words[0]).resolve()
+    )
 
 
 if __name__ == "__main__":

@@ -1,4 +1,7 @@
-"""Runs the unit tests of folders: units.py FOLDER.. A test that is passed over counts as failed, since nothing ran it."""
+"""Runs the unit tests of folders: units.py FOLDER..
+
+A test that is passed over counts as failed, since nothing ran it.
+"""
 
 from __future__ import annotations
 
