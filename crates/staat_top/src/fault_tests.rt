@@ -92,20 +92,35 @@ fn out_keeps_the_bytes_before_the_call_that_fails(rt: HostRuntime) -> Result<(),
                 want.as_str(),
                 "where call {call} of {line} fails"
             );
-            let got = held(alloc, line, call, [NEVER, NEVER], 64)?;
-            assert_eq!(rt;
-                got.as_str(),
-                want.as_str(),
-                "where {line} has room for {call} bytes"
-            );
         }
         let want = format!(in alloc; "{status}|{text}|")?;
-        let got = held(alloc, line, text.len(), [text.len() as u64, NEVER], 1)?;
+        let got = held(alloc, line, 1024, [text.len() as u64, NEVER], 1)?;
         assert_eq!(rt;
             got.as_str(),
             want.as_str(),
             "where no call of {line} fails"
         );
+    }
+    Ok(())
+}
+
+#[test]
+fn out_keeps_the_bytes_that_it_has_room_for(rt: HostRuntime) -> Result<(), Fail> {
+    let alloc = rt.alloc();
+    for (line, status, text) in [(FREE, "0", "free\n"), ("plan a.off b.off", "0", PLAN)] {
+        for room in 0..text.len() {
+            let front = text.get(..room).unwrap_or("");
+            let want = format!(in alloc; "6|{front}|{FAULT}")?;
+            let got = held(alloc, line, room, [NEVER, NEVER], 64)?;
+            assert_eq!(rt;
+                got.as_str(),
+                want.as_str(),
+                "where {line} has room for {room} bytes"
+            );
+        }
+        let want = format!(in alloc; "{status}|{text}|")?;
+        let got = held(alloc, line, text.len(), [NEVER, NEVER], 64)?;
+        assert_eq!(rt; got.as_str(), want.as_str(), "where {line} has room");
     }
     Ok(())
 }
