@@ -22,12 +22,32 @@ import steps
 import times
 
 BUILT = steps.TOP / "crates" / "staat_cli" / "out" / "staat_cli"
+STORED = steps.TOP / "bin" / "staat"  # the program that comes with the repository
 
 
 def _used() -> float:
     """The processor seconds of all commands that ended."""
     usage = resource.getrusage(resource.RUSAGE_CHILDREN)
     return usage.ru_utime + usage.ru_stime
+
+
+def is_of_these_sources() -> bool:
+    """Whether the stored program was built from the sources that stand here, by what bin/BUILT_FROM says."""
+    try:
+        told = (STORED.parent / "BUILT_FROM").read_text(encoding="utf-8")
+        made = subprocess.run(
+            [steps.TOP / "tools" / "sources"], capture_output=True, text=True, check=True
+        )
+    except (OSError, subprocess.CalledProcessError):
+        return False
+    return f"sources {made.stdout.strip()}" in told.split("\n")
+
+
+def find_program() -> pathlib.Path | None:
+    """The program that was built here, or the stored one of these sources."""
+    if BUILT.exists():
+        return BUILT
+    return STORED if STORED.exists() and is_of_these_sources() else None
 
 
 def prove() -> tuple[steps.Result, list[str]]:
@@ -89,8 +109,8 @@ def main(words: list[str]) -> int:
             prove() if "rt" not in missing else (steps.Result("proofs", 0, 1, 0, ""), [])
         )
         results.append(proofs)
-    program = BUILT if BUILT.exists() else None
-    if is_quick and program and steps.is_older(program):
+    program = find_program() if is_quick else (BUILT if BUILT.exists() else None)
+    if is_quick and program == BUILT and steps.is_older(BUILT):
         print(
             "test: the program is older than the sources of the crates; ./test builds it anew",
             file=sys.stderr,
