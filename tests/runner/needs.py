@@ -33,11 +33,16 @@ def _folder(name: str) -> Callable[[], bool]:
 
 NEEDS = {
     "rt": Need("", _command("rt")),
+    "c++": Need("g++", _command("g++")),
     "cc": Need("gcc", _command("cc")),
+    "cgal": Need("libcgal-dev", _folder("/usr/include/CGAL")),
     "geomview": Need("geomview", _folder("/usr/share/geomview/geom")),
+    "gmsh": Need("python3-gmsh", _module("gmsh")),
     "meshio": Need("python3-meshio", _module("meshio")),
+    "numpy": Need("python3-numpy", _module("numpy")),
     "openscad": Need("openscad", _command("openscad")),
     "scipy": Need("python3-scipy", _module("scipy")),
+    "tqdm": Need("python3-tqdm", _module("tqdm")),
 }
 
 

@@ -32,6 +32,7 @@ class Step:
     command: tuple[str, ...]
     needs: tuple[str, ...] = ()
     needs_program: bool = True
+    is_quick: bool = True
 
 
 @dataclass(frozen=True)
@@ -49,19 +50,31 @@ def _python(script: str, *words: str) -> tuple[str, ...]:
     return (PYTHON, "-B", script, *words)
 
 
+MODELS = (
+    "gmsh",
+    "meshio",
+    "numpy",
+    "openscad",
+    "scipy",
+    "tqdm",
+)  # what ./staat-cad and its examples need
+
 # The longest first: they run side by side.
 STEPS = (
     Step("memory", _python("tools/refuse_memory.py", "{program}"), ("cc",)),
     Step("checkers", _python("tools/compare_checkers.py", "--program={program}", "--broken=1000")),
-    Step("pages", _python("tests/runner/pages.py", "{program}"), ("openscad", "meshio", "scipy")),
+    Step("pages", _python("tests/runner/pages.py", "{program}"), MODELS),
     Step(
-        "tools",
-        _python("tests/runner/units.py", "tools"),
-        ("geomview", "meshio", "openscad", "scipy"),
+        "workbench",
+        _python("tests/runner/units.py", "workbench/tests/quick"),
+        (*MODELS, "geomview"),
     ),
     Step("transcripts", _python("tests/runner/transcripts.py", "{program}")),
     Step("gallery", _python("gallery/run", "{program}")),
+    Step("tools", _python("tests/runner/units.py", "tools")),
     Step("runner", _python("tests/runner/units.py", "tests/runner"), needs_program=False),
+    Step("guards", _python("tools/guards.py", "--check"), needs_program=False),
+    Step("stored program", _python("tools/compare_program.py", "{program}"), is_quick=False),
 )
 
 
