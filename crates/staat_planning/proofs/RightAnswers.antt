@@ -7,6 +7,8 @@ use Rattle.staat_model.specs.declared.assembly.Part.{Part}
 use Rattle.staat_model.specs.Assemblies.{IsAssembly}
 use Rattle.staat_model.specs.Texts.{text_of}
 use Rattle.staat_model.specs.Outcomes.{Finding, IsOutcome, planned, stuck}
+use Rattle.staat_plan.specs.Marks.{MarksHold}
+use Rattle.staat_plan.proofs.MarkLemmas.{marks_hold_lemma}
 use Rattle.staat_plan.proofs.Right.{right_lemma}
 use Rattle.staat_manifest.specs.declared.listing.ListedPart.{ListedPart}
 use Rattle.staat_words.specs.declared.request.Asked.{Asked}
@@ -60,7 +62,9 @@ says_outcome parts f (Some version) text assembly settled (text_too_long c is ma
 plan_is_good : (files : Files) (request : PlanRequest) (parts : List Part) (f : Finding) (text : List ℕ) → AreSoundParts files request.asked parts → IsOutcome request.robust parts (all_parts parts) f → IsWritten parts f request.certificate (Ok text) → outcome_status f ≡ 0 → SaysGoodPlan files request text
 plan_is_good files request parts (planned tree marks) text are outcome written zero =
     let good = right_lemma request.robust parts are.assembly (all_parts parts) (planned tree marks) outcome in
-    record { parts = parts; sound = are; tree = tree; marks = marks; good = good; says = says_outcome parts (planned tree marks) request.certificate text are.assembly good written }
+    let hold : request.robust ≡ true → MarksHold parts tree marks = λ robust.
+    marks_hold_lemma parts are.assembly (all_parts parts) tree marks (subst (λ b. IsOutcome b parts (all_parts parts) (planned tree marks)) robust outcome) in
+    record { parts = parts; sound = are; tree = tree; marks = marks; good = good; marks_hold = hold; says = says_outcome parts (planned tree marks) request.certificate text are.assembly good written }
 plan_is_good files request parts (stuck w) text are outcome written zero = absurd (omega (arith, zero))
 
 -- the set that an answer names as stuck is stuck

@@ -1,5 +1,5 @@
 -- The plan that takes all parts apart, or the parts that no plan takes apart, and how either is written.
-use Rattle.std.specs.Prelude.{◌≡◌, ◌<◌, ◌≤◌, ℕ, List, Option, Some, None, length, Bool, Ok, Err}
+use Rattle.std.specs.Prelude.{◌≡◌, ◌<◌, ◌≤◌, ℕ, List, Option, Some, None, length, Bool, true, Ok, Err}
 use Rattle.staat_model.specs.declared.assembly.Part.{Part}
 use Rattle.staat_model.specs.declared.certificate.Certificate.{Certificate}
 use Rattle.staat_limits.specs.declared.limits.TheConstants.{TEXT_LIMIT}
@@ -16,6 +16,7 @@ use Rattle.staat_model.specs.declared.tree.Kind.{Kind}
 use Rattle.staat_model.specs.Plans.{IsGood, IsStuck, Plan as Tree}
 use Rattle.staat_model.specs.Sets.{IsSubset}
 use Rattle.staat_plan.specs.Certifying.{IsValidFor}
+use Rattle.staat_plan.specs.Marks.{MarksHold}
 use Rattle.staat_words.specs.declared.request.PlanRequest.{PlanRequest}
 use Rattle.staat_input.specs.Assembling.{IsSoundOf, AreSoundParts}
 
@@ -60,13 +61,14 @@ SaysOutcome parts finding None text = text ≡ plan_text finding
 SaysOutcome parts finding (Some version) text =
     (c : Certificate) × (text ≡ text_of c) × IsCertificateOf parts version finding c × IsValidFor parts finding c
 
--- the text is that of a plan that takes all parts apart
+-- the text is that of a plan that takes all parts apart; in a robust plan each mark says what is so of its step
 pub record SaysGoodPlan (files : Files) (request : PlanRequest) (text : List ℕ) : Type 0 where
   pub parts : List Part
   pub sound : AreSoundParts files request.asked parts
   pub tree : Tree
   pub marks : List Kind
   pub good : IsGood parts (all_parts parts) tree
+  pub marks_hold : request.robust ≡ true → MarksHold parts tree marks
   pub says : SaysOutcome parts (planned tree marks) request.certificate text
 
 -- the text names parts that no step takes apart

@@ -7,13 +7,17 @@ use Rattle.staat_model.specs.declared.verdict.Verdict.TheVariants.{ValidPlan, Va
 use Rattle.staat_limits.specs.declared.limits.TheConstants.{TEXT_LIMIT}
 use Rattle.staat_model.specs.Assemblies.{IsAssembly}
 use Rattle.staat_model.specs.Certify.{IsCertificateOf}
-use Rattle.staat_model.specs.Outcomes.{Finding, planned, stuck}
+use Rattle.std.specs.Prelude.{IfSome}
+use Rattle.staat_limits.specs.Versions.{IsVersion}
+use Rattle.staat_model.specs.Outcomes.{Finding, IsOutcome, planned, stuck}
 use Rattle.staat_model.specs.Texts.{text_of}
 use Rattle.staat_model.specs.Certificates.{IsValidPlan, IsValidRefusal}
 use Rattle.staat_model.specs.Reasons.{IsVerdict}
 use Rattle.staat_check.specs.Verdicts.{IsPlanOf, IsRefusalWithSet}
 use Rattle.staat_edge.specs.Files.{bytes_of}
-use Rattle.staat_fault.specs.declared.fault.Fault.TheVariants.{ReadFault}
+use Rattle.staat_fault.specs.declared.fault.Fault.{Fault}
+use Rattle.staat_fault.specs.declared.fault.Fault.TheVariants.{Usage, ReadFault, TooLong, TooManyPlanes, TextTooLong, WriteFault, OutOfMemory}
+use Rattle.staat_fault.specs.Faults.{status_of}
 use Rattle.staat_words.specs.declared.request.CheckRequest.{CheckRequest}
 use Rattle.staat_words.specs.declared.request.PlanRequest.{PlanRequest}
 use Rattle.staat_words.specs.declared.request.Request.{Request}
@@ -36,9 +40,20 @@ use Rattle.staat_top.specs.Headline.{Headline, IsWithinLimits, KeepsRules, valid
 use Rattle.staat_top.proofs.OneReply.{one_reply}
 use Rattle.staat_judging.proofs.RightAnswers.{plan_shown, refusal_shown}
 use Rattle.staat_top.proofs.RightLemmas.{status_is_right, status_is_denied}
-use Rattle.staat_top.proofs.RunLemmas.{least_status}
+use Rattle.staat_input.specs.Counting.{all_parts}
+use Rattle.staat_plan.proofs.OutcomeSizes.{outcome_certified}
 use Rattle.staat_planning.proofs.SomeOutcome.{some_outcome}
 use Rattle.staat_top.proofs.PrintedLemmas.{printed_is_valid}
+
+pub least_status : (fault : Fault) → 2 ≤ status_of fault
+least_status Usage = omega arith
+least_status (ReadFault name) = omega arith
+least_status (TooLong name) = omega arith
+least_status (TooManyPlanes found) = omega arith
+least_status (TextTooLong length) = omega arith
+least_status WriteFault = omega arith
+least_status OutOfMemory = omega arith
+least_status fault = omega arith
 
 -- a reply with status 0 or 1 is that of an answer
 answer_in : (asked : Option Request) (files : Files) (found : Found Answer) (reply : Reply) → WorkOnWords asked files found → MakesReply found reply → reply.status < 2 → (a : Answer) × WorkOnWords asked files (Ok a) × (reply ≡ answered a)
@@ -46,24 +61,36 @@ answer_in asked files (Ok a) reply work makes lt = (a, work, makes)
 answer_in asked files (Err (ReadFault name)) reply work makes lt = absurd makes
 answer_in asked files (Err f) reply work makes lt = absurd (omega (arith, lt, least_status f, ap (λ (r : Reply). r.status) makes))
 
-keeps_rules : (files : Files) (request : CheckRequest) (text : List ℕ) → SaysValid files request text → KeepsRules files request
+pub keeps_rules : (files : Files) (request : CheckRequest) (text : List ℕ) → SaysValid files request text → KeepsRules files request
 keeps_rules files request text says = record { parts = says.parts; sound = says.sound; certificate = says.certificate; held = says.held; valid = go says.shows }
   where
     go : ShowsValid says.parts says.certificate text → IsValidPlan says.parts says.certificate ⊎ IsValidRefusal says.parts says.certificate
     go (valid_plan h shown e) = inl h
     go (valid_refusal h shown e) = inr h
 
--- the verdict on a certificate makes the reply
-verdict_reply : (files : Files) (request : CheckRequest) (reply : Reply) (v : Verdict) (k : KeepsRules files request) → IsVerdict k.parts k.certificate v → (verdict_answer v).status ≡ 0 → IsReply (Some (Check request)) files reply → reply.status ≡ 0
-verdict_reply files request reply v k right none is =
-    let own : IsReply (Some (Check request)) files (answered (verdict_answer v)) = record {
-      found = Ok (verdict_answer v);
-      work = inr (k.parts, inr (k.parts, k.sound.named, sound k.sound.sound refl), inr (k.certificate, k.held, record { verdict = v; right = right; is = refl }));
-      makes = refl;
-    } in
-    ap (λ (r : Reply). r.status) (one_reply (Some (Check request)) files reply (answered (verdict_answer v)) is own) ∙ none
+-- a reply with status 0
+pub record RepliesWell (request : CheckRequest) (files : Files) : Type 0 where
+  pub reply : Reply
+  pub is : IsReply (Some (Check request)) files reply
+  pub well : reply.status ≡ 0
 
-exactly : (files : Files) (request : CheckRequest) (reply : Reply) → IsAsked request.asked → IsReply (Some (Check request)) files reply → (reply.status ≡ 0) ↔ KeepsRules files request
+-- the verdict on a certificate makes the reply
+verdict_reply : (files : Files) (request : CheckRequest) (v : Verdict) (k : KeepsRules files request) → IsVerdict k.parts k.certificate v → (verdict_answer v).status ≡ 0 → RepliesWell request files
+verdict_reply files request v k right none = record {
+  reply = answered (verdict_answer v);
+  is = record {
+    found = Ok (verdict_answer v);
+    work = inr (k.parts, inr (k.parts, k.sound.named, sound k.sound.sound refl), inr (k.certificate, k.held, record { verdict = v; right = right; is = refl }));
+    makes = refl;
+  };
+  well = none;
+}
+
+-- a certificate that keeps the rules has one
+pub valid_reply : (files : Files) (request : CheckRequest) → KeepsRules files request → RepliesWell request files
+valid_reply files request k = elim k.valid [ inl h ↦ verdict_reply files request ValidPlan k h refl | inr h ↦ verdict_reply files request ValidRefusal k h refl ]
+
+pub exactly : (files : Files) (request : CheckRequest) (reply : Reply) → IsAsked request.asked → IsReply (Some (Check request)) files reply → (reply.status ≡ 0) ↔ KeepsRules files request
 exactly files request reply bounds is = (there, back)
   where
     there : reply.status ≡ 0 → KeepsRules files request
@@ -72,25 +99,22 @@ exactly files request reply bounds is = (there, back)
         keeps_rules files request found.0.text (status_is_right (Some (Check request)) files found.0 bounds found.1 (sym (ap (λ (r : Reply). r.status) found.2) ∙ none))
 
     back : KeepsRules files request → reply.status ≡ 0
-    back k = elim k.valid [ inl h ↦ verdict_reply files request reply ValidPlan k h refl is | inr h ↦ verdict_reply files request reply ValidRefusal k h refl is ]
+    back k = let own = valid_reply files request k in ap (λ (r : Reply). r.status) (one_reply (Some (Check request)) files reply own.reply is own.is) ∙ own.well
 
-zero_or_one : (n : ℕ) → n < 2 → (n ≡ 0) ⊎ (n ≡ 1)
-zero_or_one zero lt = inl refl
-zero_or_one (suc zero) lt = inr refl
-zero_or_one (suc (suc n)) lt = absurd (omega (arith, lt))
+is_planned : (files : Files) (request : PlanRequest) (reply : Reply) → IsPlanRequest request → IsReply (Some (Plan request)) files reply → reply.status ≡ 0 → SaysGoodPlan files request reply.out
+is_planned files request reply bounds is none =
+    let found = answer_in (Some (Plan request)) files is.found reply is.work is.makes (omega (arith, none)) in
+    let status : found.0.status ≡ 0 = sym (ap (λ (r : Reply). r.status) found.2) ∙ none in
+    subst (SaysGoodPlan files request) (sym (ap (λ (r : Reply). r.out) found.2)) (status_is_right (Some (Plan request)) files found.0 bounds found.1 status)
 
-is_planned : (files : Files) (request : PlanRequest) (reply : Reply) → IsPlanRequest request → IsReply (Some (Plan request)) files reply → reply.status < 2 → SaysGoodPlan files request reply.out ⊎ SaysStuckSet files request reply.out
-is_planned files request reply bounds is lt =
-    let found = answer_in (Some (Plan request)) files is.found reply is.work is.makes lt in
-    let status : reply.status ≡ found.0.status = ap (λ (r : Reply). r.status) found.2 in
-    let text : found.0.text ≡ reply.out = sym (ap (λ (r : Reply). r.out) found.2) in
-    elim (zero_or_one found.0.status (subst (λ n. n < 2) status lt)) [
-      | inl none ↦ inl (subst (SaysGoodPlan files request) text (status_is_right (Some (Plan request)) files found.0 bounds found.1 none))
-      | inr one ↦ inr (subst (SaysStuckSet files request) text (status_is_denied (Some (Plan request)) files found.0 bounds found.1 one))
-    ]
+is_held : (files : Files) (request : PlanRequest) (reply : Reply) → IsPlanRequest request → IsReply (Some (Plan request)) files reply → reply.status ≡ 1 → SaysStuckSet files request reply.out
+is_held files request reply bounds is one =
+    let found = answer_in (Some (Plan request)) files is.found reply is.work is.makes (omega (arith, one)) in
+    let status : found.0.status ≡ 1 = sym (ap (λ (r : Reply). r.status) found.2) ∙ one in
+    subst (SaysStuckSet files request) (sym (ap (λ (r : Reply). r.out) found.2)) (status_is_denied (Some (Plan request)) files found.0 bounds found.1 status)
 
 -- the answer of a plan is one whose certificate `check` calls valid
-is_checked : (files others : Files) (request : PlanRequest) (version : ℕ) (reply : Reply) (name : List ℕ) → IsPlanRequest request → request.certificate ≡ Some version → IsReply (Some (Plan request)) files reply → reply.status < 2
+pub is_checked : (files others : Files) (request : PlanRequest) (version : ℕ) (reply : Reply) (name : List ℕ) → IsPlanRequest request → request.certificate ≡ Some version → IsReply (Some (Plan request)) files reply → reply.status < 2
     → KeepsNamed files others request.asked.input → bytes_of name others ≡ Some reply.out → IsReply (Some (Check (record { asked = request.asked; certificate = name }))) others (answered (answer 0 (valid_line reply.status)))
 is_checked files others request version reply name bounds asks is lt keeps held =
     let found = answer_in (Some (Plan request)) files is.found reply is.work is.makes lt in go found.0 found.1 found.2
@@ -112,10 +136,17 @@ written_of : (parts : List Part) (f : Finding) (o : Option ℕ) → ((version : 
 written_of parts f None short = (plan_text f, steps refl)
 written_of parts f (Some version) short = let c = short version refl in (text_of c.0, certificate c.0 c.1 c.2 refl)
 
-answered_plan : (files : Files) (request : PlanRequest) (parts : List Part) → AreSoundParts files request.asked parts → IsWithinLimits parts request → (reply : Reply) × IsReply (Some (Plan request)) files reply × (reply.status < 2)
-answered_plan files request parts are limits =
+-- what is found has a certificate that is not too long: a plan has one always
+short_certificate : (request : PlanRequest) (parts : List Part) (f : Finding) → IsPlanRequest request → IsAssembly parts → IsWithinLimits parts request → IsOutcome request.robust parts (all_parts parts) f
+    → (version : ℕ) → request.certificate ≡ Some version → (c : Certificate) × IsCertificateOf parts version f c × (length (text_of c) ≤ TEXT_LIMIT)
+short_certificate request parts (planned plan marks) bounds is limits outcome version asks =
+    outcome_certified parts is request.robust version plan marks (subst (λ o. IfSome o IsVersion) asks bounds.4) outcome
+short_certificate request parts (stuck w) bounds is limits outcome version asks = limits.short version w asks outcome
+
+pub answered_plan : (files : Files) (request : PlanRequest) (parts : List Part) → IsPlanRequest request → AreSoundParts files request.asked parts → IsWithinLimits parts request → (reply : Reply) × IsReply (Some (Plan request)) files reply × (reply.status < 2)
+answered_plan files request parts bounds are limits =
     let o = some_outcome request.robust parts are.assembly (λ robust. record { planes = limits.planes; planes_are = limits.planes_are; few = limits.cells robust }) in
-    let w = written_of parts o.0 request.certificate (λ version asks. limits.short version o.0 asks o.1) in (
+    let w = written_of parts o.0 request.certificate (short_certificate request parts o.0 bounds are.assembly limits o.1) in (
       answered (outcome_answer o.0 w.0),
       record {
         found = Ok (outcome_answer o.0 w.0);
@@ -135,6 +166,7 @@ headline = record {
   plans = λ parts c is h. plan_shown parts c.version c.parts c.body is h;
   refusals = λ parts c is h. refusal_shown parts c.version c.parts c.body is h;
   planned = is_planned;
+  held = is_held;
   answers = answered_plan;
   checked = is_checked;
 }

@@ -1,3 +1,4 @@
+pub mod CallLemmas
 pub mod HeadlineLemmas
 pub mod OneReply
 pub mod PrintedLemmas

@@ -14,9 +14,11 @@ use Rattle.staat_input.specs.Work.{Files}
 use Rattle.staat_top.specs.Replies.{Reply, IsReply, answered, refused}
 use Rattle.staat_input.specs.Causes.{ShelfSide, IsUnread}
 use Rattle.staat_top.specs.Runs.{SinkSide, Took, TookPart, Untouched, IsCaused, HasRequestBounds, IsFound}
-use Rattle.staat_top.specs.Runs.{IsExplained, IsSaid, SaysWhole, SaysPart, Gave, Ran}
+use Rattle.staat_top.specs.Runs.{IsExplained, IsSaid, NoFault, SaysWhole, SaysPart, Gave, Ran}
 use Rattle.staat_top.proofs.OneReply.{no_reply, one_reply}
 use Rattle.staat_top.proofs.RightLemmas.{status_is_right, status_is_denied}
+use Rattle.staat_top.proofs.HeadlineLemmas.{least_status}
+use Rattle.staat_top.proofs.CallLemmas.{headlines}
 
 took_nothing : (side : SinkSide) → Untouched side → Took side []
 took_nothing side same = go side.old.wrote side.new.wrote same
@@ -36,43 +38,39 @@ pub ran_answer : (asked : Option Request) (shelf : ShelfSide) (out err : SinkSid
     → (result ≡ 6 → TookPart out a.text)
     → (result ≡ 6 → Took err (line_of WriteFault) ⊎ TookPart err (line_of WriteFault))
     → Ran asked shelf out err result
-ran_answer asked shelf out err a result small found bounds asks whole part line = record {
-  out_kept = λ ge ne. absurd (omega (arith, (whole ne).0));
-  err_kept = λ lt. (whole (λ e. omega (arith, e))).1;
-  answers = λ lt.
-      let w = whole (λ e. omega (arith, e)) in
-      record { answer = a; found = found; is = w.0; printed = w.2 };
-  refuses = λ ge ne. absurd (omega (arith, (whole ne).0));
-  write_fault = λ e. inl (record { answer = a; small = small; found = found; part = part e; line = line e });
-  usage = λ none. absurd (asks none);
-  reply = λ le files told.
-      let w = whole (λ e. omega (arith, e)) in
-      record { reply = answered a; right = answer_reply asked shelf files a found told; gave = record { is = w.0; to_out = w.2; to_err = took_nothing err w.1 } };
-  complete = λ files told well no_memory reply is_reply.
-      elim (ℕ_discrete result 6) [
-        | yes e ↦ absurd (well.out_well (part e).fault)
-        | no ne ↦
-            let w = whole ne in
-            let same : answered a ≡ reply = one_reply asked files _ _ (answer_reply asked shelf files a found told) is_reply in
-            subst (λ r. Gave r out err result) same (record { is = w.0; to_out = w.2; to_err = took_nothing err w.1 })
-      ];
-  right = λ zero files told.
-      let w = whole (λ e. omega (arith, e)) in
-      record { text = a.text; took = w.2; is_so = status_is_right asked files a bounds (found files told) (sym w.0 ∙ zero) };
-  denied = λ one files told.
-      let w = whole (λ e. omega (arith, e)) in
-      record { text = a.text; took = w.2; is_so = status_is_denied asked files a bounds (found files told) (sym w.0 ∙ one) };
-}
-
-pub least_status : (fault : Fault) → 2 ≤ status_of fault
-least_status Usage = omega arith
-least_status (ReadFault name) = omega arith
-least_status (TooLong name) = omega arith
-least_status (TooManyPlanes found) = omega arith
-least_status (TextTooLong length) = omega arith
-least_status WriteFault = omega arith
-least_status OutOfMemory = omega arith
-least_status fault = omega arith
+ran_answer asked shelf out err a result small found bounds asks whole part line =
+    let complete : (files : Files) → shelf.old.holds ≡ Some files → NoFault shelf out err → result ≢ 7 → (reply : Reply) → IsReply asked files reply → Gave reply out err result = λ files told well no_memory reply is_reply.
+    elim (ℕ_discrete result 6) [
+      | yes e ↦ absurd (well.out_well (part e).fault)
+      | no ne ↦
+          let w = whole ne in
+          let same : answered a ≡ reply = one_reply asked files _ _ (answer_reply asked shelf files a found told) is_reply in
+          subst (λ r. Gave r out err result) same (record { is = w.0; to_out = w.2; to_err = took_nothing err w.1 })
+    ] in record {
+      out_kept = λ ge ne. absurd (omega (arith, (whole ne).0));
+      err_kept = λ lt. (whole (λ e. omega (arith, e))).1;
+      answers = λ lt.
+          let w = whole (λ e. omega (arith, e)) in
+          record { answer = a; found = found; is = w.0; printed = w.2 };
+      refuses = λ ge ne. absurd (omega (arith, (whole ne).0));
+      write_fault = λ e. inl (record { answer = a; small = small; found = found; part = part e; line = line e });
+      usage = λ none. absurd (asks none);
+      reply = λ le files told.
+          let w = whole (λ e. omega (arith, e)) in
+          record { reply = answered a; right = answer_reply asked shelf files a found told; gave = record { is = w.0; to_out = w.2; to_err = took_nothing err w.1 } };
+      headline = λ files told. headlines asked files shelf out err result (record {
+        printed = λ lt. let w = whole (λ e. omega (arith, e)) in record { bounds = bounds; answer = a; work = found files told; is = w.0; took = w.2 };
+        bounds = λ well no_memory. bounds;
+        complete = complete files told;
+      });
+      complete = complete;
+      right = λ zero files told.
+          let w = whole (λ e. omega (arith, e)) in
+          record { text = a.text; took = w.2; is_so = status_is_right asked files a bounds (found files told) (sym w.0 ∙ zero) };
+      denied = λ one files told.
+          let w = whole (λ e. omega (arith, e)) in
+          record { text = a.text; took = w.2; is_so = status_is_denied asked files a bounds (found files told) (sym w.0 ∙ one) };
+    }
 
 -- want of memory has no other cause
 memory_explained : (asked : Option Request) (shelf : ShelfSide) → IsExplained asked shelf OutOfMemory
@@ -124,50 +122,64 @@ usage_status shelf fault (inr e) = inr (ap status_of e)
 gave_line : (out err : SinkSide) (fault : Fault) (result : ℕ) → Untouched out → result ≡ status_of fault → Took err (line_of fault) → Gave (refused fault) out err result
 gave_line out err fault result same is line = record { is = is; to_out = took_nothing out same; to_err = line }
 
+-- of want of memory nothing else is said
+said_memory : (fault said : Fault) → fault ≡ OutOfMemory → IsSaid fault said → said ≡ OutOfMemory
+said_memory fault said none (inl e) = e ∙ none
+said_memory fault said none (inr e) = e
+
 -- a fault's line was printed
 pub ran_fault : (asked : Option Request) (shelf : ShelfSide) (out err : SinkSide) (result : ℕ) (fault : Fault)
-    → IsExplained asked shelf fault → Untouched out
+    → IsExplained asked shelf fault → (fault ≢ OutOfMemory → HasRequestBounds asked) → Untouched out
     → (result ≢ 6 → SaysWhole fault err result)
     → (result ≡ 6 → SaysPart fault err)
     → Ran asked shelf out err result
-ran_fault asked shelf out err result fault explained same whole part = record {
-  out_kept = λ ge ne. same;
-  err_kept = λ lt. let w = whole (λ e. omega (arith, e)) in absurd (omega (arith, w.is, least_status w.said));
-  answers = λ lt. let w = whole (λ e. omega (arith, e)) in absurd (omega (arith, w.is, least_status w.said));
-  refuses = λ ge ne.
-      let w = whole ne in
-      record { fault = w.said; explained = said_explained asked shelf fault w.said explained w.is_said; is = w.is; line = w.line };
-  write_fault = λ e.
-      let w = part e in
-      inr (record { fault = w.said; explained = said_explained asked shelf fault w.said explained w.is_said; part = w.part; kept = same });
-  usage = λ none.
-      elim (ℕ_discrete result 6) [
-        | yes e ↦ inr (inl e)
-        | no ne ↦
-            let w = whole ne in
-            let said = said_explained asked shelf fault w.said explained w.is_said in
-            elim (usage_status shelf w.said (subst (λ a. IsCaused a shelf w.said) none said.cause)) [
-              | inl two ↦ inl (w.is ∙ two)
-              | inr seven ↦ inr (inr (w.is ∙ seven))
-            ]
-      ];
-  reply = λ le files told.
-      let w = whole (λ e. omega (arith, e)) in
-      let said = said_explained asked shelf fault w.said explained w.is_said in
-      record {
-        reply = refused w.said;
-        right = fault_reply asked shelf files w.said (omega (arith, w.is)) said.found told;
-        gave = gave_line out err w.said result same w.is w.line;
-      };
-  complete = λ files told well memory reply is_reply.
-      elim (ℕ_discrete result 6) [
-        | yes e ↦ absurd (well.err_well (part e).part.fault)
-        | no ne ↦
-            let w = whole ne in
-            let said = said_explained asked shelf fault w.said explained w.is_said in
-            let is_it : refused w.said ≡ reply = complete_fault asked shelf files w.said reply said told well.shelf_well (λ e. memory (w.is ∙ e)) is_reply in
-            subst (λ r. Gave r out err result) is_it (gave_line out err w.said result same w.is w.line)
-      ];
-  right = λ zero files told. let w = whole (λ e. omega (arith, e)) in absurd (omega (arith, w.is, least_status w.said));
-  denied = λ one files told. let w = whole (λ e. omega (arith, e)) in absurd (omega (arith, w.is, least_status w.said));
-}
+ran_fault asked shelf out err result fault explained bounds same whole part =
+    let complete : (files : Files) → shelf.old.holds ≡ Some files → NoFault shelf out err → result ≢ 7 → (reply : Reply) → IsReply asked files reply → Gave reply out err result = λ files told well memory reply is_reply.
+    elim (ℕ_discrete result 6) [
+      | yes e ↦ absurd (well.err_well (part e).part.fault)
+      | no ne ↦
+          let w = whole ne in
+          let said = said_explained asked shelf fault w.said explained w.is_said in
+          let is_it : refused w.said ≡ reply = complete_fault asked shelf files w.said reply said told well.shelf_well (λ e. memory (w.is ∙ e)) is_reply in
+          subst (λ r. Gave r out err result) is_it (gave_line out err w.said result same w.is w.line)
+    ] in record {
+      out_kept = λ ge ne. same;
+      err_kept = λ lt. let w = whole (λ e. omega (arith, e)) in absurd (omega (arith, w.is, least_status w.said));
+      answers = λ lt. let w = whole (λ e. omega (arith, e)) in absurd (omega (arith, w.is, least_status w.said));
+      refuses = λ ge ne.
+          let w = whole ne in
+          record { fault = w.said; explained = said_explained asked shelf fault w.said explained w.is_said; is = w.is; line = w.line };
+      write_fault = λ e.
+          let w = part e in
+          inr (record { fault = w.said; explained = said_explained asked shelf fault w.said explained w.is_said; part = w.part; kept = same });
+      usage = λ none.
+          elim (ℕ_discrete result 6) [
+            | yes e ↦ inr (inl e)
+            | no ne ↦
+                let w = whole ne in
+                let said = said_explained asked shelf fault w.said explained w.is_said in
+                elim (usage_status shelf w.said (subst (λ a. IsCaused a shelf w.said) none said.cause)) [
+                  | inl two ↦ inl (w.is ∙ two)
+                  | inr seven ↦ inr (inr (w.is ∙ seven))
+                ]
+          ];
+      reply = λ le files told.
+          let w = whole (λ e. omega (arith, e)) in
+          let said = said_explained asked shelf fault w.said explained w.is_said in
+          record {
+            reply = refused w.said;
+            right = fault_reply asked shelf files w.said (omega (arith, w.is)) said.found told;
+            gave = gave_line out err w.said result same w.is w.line;
+          };
+      headline = λ files told. headlines asked files shelf out err result (record {
+        printed = λ lt. let w = whole (λ e. omega (arith, e)) in absurd (omega (arith, w.is, least_status w.said));
+        bounds = λ well memory. elim (ℕ_discrete result 6) [
+          | yes e ↦ absurd (well.err_well (part e).part.fault)
+          | no ne ↦ let w = whole ne in bounds (λ none. memory (w.is ∙ ap status_of (said_memory fault w.said none w.is_said)))
+        ];
+        complete = complete files told;
+      });
+      complete = complete;
+      right = λ zero files told. let w = whole (λ e. omega (arith, e)) in absurd (omega (arith, w.is, least_status w.said));
+      denied = λ one files told. let w = whole (λ e. omega (arith, e)) in absurd (omega (arith, w.is, least_status w.said));
+    }

@@ -1,11 +1,11 @@
 -- From the work on a request to what is said of the words that make it.
-use Rattle.std.proofs.Common.{◌≡◌, Option, Some, None, Ok, Err, refl, sym, subst, inl}
+use Rattle.std.proofs.Common.{◌≡◌, ◌≢◌, Option, Some, None, Ok, Err, refl, sym, subst, inl}
 use Rattle.std.specs.Prelude.{Result, IfOk, IfErr}
 use Rattle.staat_words.specs.declared.request.Request.{Request}
 use Rattle.staat_words.specs.Requests.{HasBounds}
 use Rattle.staat_input.specs.declared.answer.Answer.{Answer}
 use Rattle.staat_fault.specs.declared.fault.Fault.{Fault}
-use Rattle.staat_fault.specs.declared.fault.Fault.TheVariants.{Usage}
+use Rattle.staat_fault.specs.declared.fault.Fault.TheVariants.{Usage, OutOfMemory}
 use Rattle.staat_input.specs.Work.{Files, Follows}
 use Rattle.staat_top.specs.Replies.{WorkOn}
 use Rattle.staat_input.specs.Causes.{ShelfSide}
@@ -35,4 +35,12 @@ pub worked_bounds : (asked : Option Request) (request : Request) (r : Result Ans
 worked_bounds asked request (Ok a) e bounds = subst HasRequestBounds (sym e) bounds
 worked_bounds asked request (Err f) e bounds = tt
 
-pub ruleset worked = (worked_answer, worked_fault, worked_usage, worked_bounds)
+pub worked_fault_bounds : (asked : Option Request) (request : Request) (r : Result Answer Fault) →
+    asked ≡ Some request → HasBounds request → IfErr r (λ f. f ≢ OutOfMemory → HasRequestBounds asked)
+worked_fault_bounds asked request (Ok a) e bounds = tt
+worked_fault_bounds asked request (Err f) e bounds = λ ne. subst HasRequestBounds (sym e) bounds
+
+pub usage_bounds : (asked : Option Request) → asked ≡ None → HasRequestBounds asked
+usage_bounds asked e = subst HasRequestBounds (sym e) tt
+
+pub ruleset worked = (worked_answer, worked_fault, worked_usage, worked_bounds, worked_fault_bounds, usage_bounds)

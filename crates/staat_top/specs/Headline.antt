@@ -5,11 +5,12 @@ use Rattle.staat_vec.specs.declared.vector.V3.{V3}
 use Rattle.staat_edge.specs.Files.{bytes_of}
 use Rattle.staat_model.specs.declared.assembly.Part.{Part}
 use Rattle.staat_model.specs.declared.certificate.Certificate.{Certificate}
+use Rattle.staat_model.specs.declared.set.PartSet.{PartSet}
 use Rattle.staat_model.specs.Assemblies.{IsAssembly}
 use Rattle.staat_limits.specs.declared.limits.TheConstants.{TEXT_LIMIT}
 use Rattle.staat_model.specs.Certificates.{IsValidPlan, IsValidRefusal}
 use Rattle.staat_model.specs.Certify.{IsCertificateOf}
-use Rattle.staat_model.specs.Outcomes.{Finding, IsOutcome}
+use Rattle.staat_model.specs.Outcomes.{IsOutcome, stuck}
 use Rattle.staat_model.specs.Planes.{ArePlanes}
 use Rattle.staat_model.specs.Texts.{text_of}
 use Rattle.staat_limits.specs.declared.limits.TheConstants.{MOST_CELL_PLANES}
@@ -41,15 +42,16 @@ valid_line zero = codes "valid plan\n"
 valid_line (suc n) = codes "valid refusal\n"
 
 -- No limit is exceeded: the parts have no more planes than the request allows, and for a robust plan no more than
--- where cells are listed; and if a certificate is asked for, what is found for the parts has one that is not too long.
+-- where cells are listed; and if a certificate is asked for, and a set is stuck, the text of that set's certificate is
+-- not too long. That of a plan never is.
 pub record IsWithinLimits (parts : List Part) (request : PlanRequest) : Type 0 where
   pub planes : List V3
   pub planes_are : ArePlanes parts (all_parts parts) planes
   pub few : length planes ≤ request.planes
   pub cells : request.robust ≡ true → length planes ≤ MOST_CELL_PLANES
-  pub short : (version : ℕ) (finding : Finding) → request.certificate ≡ Some version →
-      IsOutcome request.robust parts (all_parts parts) finding →
-      (c : Certificate) × IsCertificateOf parts version finding c × (length (text_of c) ≤ TEXT_LIMIT)
+  pub short : (version : ℕ) (w : PartSet) → request.certificate ≡ Some version →
+      IsOutcome request.robust parts (all_parts parts) (stuck w) →
+      (c : Certificate) × IsCertificateOf parts version (stuck w) c × (length (text_of c) ≤ TEXT_LIMIT)
 
 -- For all files and requests:
 pub record Headline : Type 0 where
@@ -63,13 +65,14 @@ pub record Headline : Type 0 where
   -- A valid refusal names a set that is stuck, and no plan for two hands takes all parts apart.
   pub refusals : (parts : List Part) (certificate : Certificate) → IsAssembly parts →
       IsValidRefusal parts certificate → IsRefusalWithSet parts certificate.body
-  -- What `plan` prints, where it refuses nothing, is a plan that takes all parts apart or a set that is truly stuck;
-  -- or, if that is asked for, the text of a certificate of either, which is valid.
+  -- What `plan` prints with status 0 is a plan that takes all parts apart, and with status 1 a set that is truly stuck;
+  -- or, if that is asked for, the text of a certificate of it, which is valid.
   pub planned : (files : Files) (request : PlanRequest) (reply : Reply) → IsPlanRequest request →
-      IsReply (Some (Plan request)) files reply → reply.status < 2 →
-      SaysGoodPlan files request reply.out ⊎ SaysStuckSet files request reply.out
+      IsReply (Some (Plan request)) files reply → reply.status ≡ 0 → SaysGoodPlan files request reply.out
+  pub held : (files : Files) (request : PlanRequest) (reply : Reply) → IsPlanRequest request →
+      IsReply (Some (Plan request)) files reply → reply.status ≡ 1 → SaysStuckSet files request reply.out
   -- For every input whose parts are sound `plan` has such a reply, where no limit is exceeded.
-  pub answers : (files : Files) (request : PlanRequest) (parts : List Part) →
+  pub answers : (files : Files) (request : PlanRequest) (parts : List Part) → IsPlanRequest request →
       AreSoundParts files request.asked parts → IsWithinLimits parts request →
       (reply : Reply) × IsReply (Some (Plan request)) files reply × (reply.status < 2)
   -- What `plan --cert` prints, where it refuses nothing, is a certificate that `check` calls valid: over any files

@@ -1,17 +1,26 @@
 -- What a call of the program does to the outside.
 use Rattle.std.specs.Prelude.{◌≡◌, ◌≢◌, ◌⊎◌, ◌<◌, ◌≤◌, ℕ, List, Option, Some, None, Ok, Err, ⊤}
+use Rattle.staat_model.specs.declared.assembly.Part.{Part}
+use Rattle.staat_edge.specs.Files.{bytes_of}
 use Rattle.staat_edge.specs.Causes.{Rose}
 use Rattle.staat_edge.specs.Sinks.{GrewBy, GrewByPart}
 use Rattle.staat_edge.specs.Told.{SinkTold}
 use Rattle.staat_words.specs.declared.request.Request.{Request}
-use Rattle.staat_words.specs.declared.request.Request.TheVariants.{Check}
+use Rattle.staat_words.specs.declared.request.CheckRequest.{CheckRequest}
+use Rattle.staat_words.specs.declared.request.PlanRequest.{PlanRequest}
+use Rattle.staat_words.specs.declared.request.Request.TheVariants.{Check, Plan}
 use Rattle.staat_words.specs.Requests.{HasBounds}
 use Rattle.staat_fault.specs.declared.fault.Fault.{Fault}
 use Rattle.staat_fault.specs.declared.fault.Fault.TheVariants.{Usage, WriteFault, OutOfMemory}
 use Rattle.staat_fault.specs.Faults.{status_of, line_of}
 use Rattle.staat_input.specs.declared.answer.Answer.{Answer}
-use Rattle.staat_input.specs.Work.{Files, Found, Follows}
-use Rattle.staat_top.specs.Replies.{Reply, WorkOnWords, IsReply, IsRight, IsDenied}
+use Rattle.staat_input.specs.Work.{Files, Found, Follows, answer}
+use Rattle.staat_input.specs.Assembling.{AreSoundParts}
+use Rattle.staat_input.specs.Kept.{KeepsNamed}
+use Rattle.staat_planning.specs.Planning.{SaysGoodPlan, SaysStuckSet}
+use Rattle.staat_judging.specs.Checking.{SaysValid}
+use Rattle.staat_top.specs.Replies.{Reply, WorkOnWords, IsReply, IsRight, IsDenied, answered}
+use Rattle.staat_top.specs.Headline.{IsWithinLimits, KeepsRules, valid_line}
 use Rattle.staat_input.specs.Causes.{Over, ShelfSide, HasCause}
 use Rattle.staat_judging.specs.Causes.{HasCheckCause}
 
@@ -130,6 +139,35 @@ pub record NoFault (shelf : ShelfSide) (out err : SinkSide) : Type 0 where
   pub out_well : SinkFailed out → ⊥
   pub err_well : SinkFailed err → ⊥
 
+-- What a call of `check` says: it calls a certificate valid exactly where that keeps the written rules, and then prints
+-- which of the two it is: a plan that takes all parts apart, or a set that is stuck.
+pub record Judged (request : CheckRequest) (files : Files) (shelf : ShelfSide) (out err : SinkSide) (status : ℕ)
+    : Type 0 where
+  pub valid : status ≡ 0 → TookRight out (SaysValid files request)
+  pub keeps : status ≡ 0 → KeepsRules files request
+  pub breaks : status ≡ 1 → KeepsRules files request → ⊥
+  pub called : KeepsRules files request → NoFault shelf out err → status ≢ 7 → status ≡ 0
+
+-- What a call of `plan` says: with status 0 it printed a plan that takes all parts apart, and with status 1 a set that
+-- is stuck. One of the two comes for all sound parts within the limits. A certificate that it printed is called valid
+-- by `check`, over any files that hold it under some name, and hold all that the input names as it was.
+pub record Planned (request : PlanRequest) (files : Files) (shelf : ShelfSide) (out err : SinkSide) (status : ℕ)
+    : Type 0 where
+  pub apart : status ≡ 0 → TookRight out (SaysGoodPlan files request)
+  pub held : status ≡ 1 → TookRight out (SaysStuckSet files request)
+  pub answers : (parts : List Part) → AreSoundParts files request.asked parts → IsWithinLimits parts request →
+      NoFault shelf out err → status ≢ 7 → status < 2
+  pub checked : (others : Files) (version : ℕ) (name : List ℕ) → request.certificate ≡ Some version → status < 2 →
+      TookRight out (λ text. KeepsNamed files others request.asked.input → bytes_of name others ≡ Some text →
+      IsReply (Some (Check (record { asked = request.asked; certificate = name }))) others
+      (answered (answer 0 (valid_line status))))
+
+-- the headline of this call
+abbrev pub Headlines : Option Request → Files → ShelfSide → (out err : SinkSide) → ℕ → Type 0
+Headlines (Some (Check request)) files shelf out err status = Judged request files shelf out err status
+Headlines (Some (Plan request)) files shelf out err status = Planned request files shelf out err status
+Headlines asked files shelf out err status = ⊤
+
 -- All that is said of a call, whatever the shelf and the sinks tell and however often they fail.
 pub record Ran (asked : Option Request) (shelf : ShelfSide) (out err : SinkSide) (status : ℕ) : Type 0 where
   -- a refusal leaves out as it was, and an answer err
@@ -140,8 +178,9 @@ pub record Ran (asked : Option Request) (shelf : ShelfSide) (out err : SinkSide)
   pub refuses : 2 ≤ status → status ≢ 6 → RefusesWith asked shelf err status
   pub write_fault : status ≡ 6 → OutFails asked shelf out err ⊎ ErrFails asked shelf out err
   pub usage : asked ≡ None → (status ≡ 2) ⊎ (status ≡ 6) ⊎ (status ≡ 7)
-  -- Over a shelf that tells its files: statuses 0 to 4 are the reply; the reply comes where nothing failed and there
-  -- was memory; and what status 0 says is so, and what status 1 says.
+  -- Over a shelf that tells its files: what `check` and `plan` say is so; statuses 0 to 4 are the reply; the reply
+  -- comes where nothing failed and there was memory; and what status 0 says is so, and what status 1 says.
+  pub headline : (files : Files) → shelf.old.holds ≡ Some files → Headlines asked files shelf out err status
   pub reply : status ≤ 4 → (files : Files) → shelf.old.holds ≡ Some files →
       Replied asked files out err status
   pub complete : (files : Files) → shelf.old.holds ≡ Some files → NoFault shelf out err → status ≢ 7 →

@@ -60,6 +60,8 @@ fn answer_to<H: Shelf>(alloc: Global, words: &Vec<String>, shelf: &mut H) -> Res
     ensures explained { IfErr result (IsExplained (request (map string_bytes words.now.items))
         (over (H.told shelf.old) (H.told shelf.new))) }
     ensures bounds { IfOk result (λ _. HasRequestBounds (request (map string_bytes words.now.items))) }
+    ensures fault_bounds { IfErr result (λ f. f ≢ faults.OutOfMemory →
+        HasRequestBounds (request (map string_bytes words.now.items))) }
     ensures usage { request (map string_bytes words.now.items) ≡ None →
         IsErrAnd result (λ f. (f ≡ faults.Usage) ⊎ (f ≡ faults.OutOfMemory)) }
 {
