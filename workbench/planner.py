@@ -13,7 +13,7 @@ PLACES = ("bin/staat", "crates/staat_cli/out/staat_cli")
 
 
 def program() -> Optional[str]:
-    """The built program: that of the variable STAAT, else the one of the repository; nothing where there is none."""
+    """A program that is built: that of the variable STAAT, else one of the repository; nothing where there is none."""
     named = os.environ.get("STAAT")
     if named:
         return os.path.abspath(named)
@@ -21,28 +21,27 @@ def program() -> Optional[str]:
     return next((path for path in paths if os.access(path, os.X_OK)), None)
 
 
-def words_for(command: str, words: List[str]) -> List[str]:
-    return [command, *words, f"--manifest={LIST}"]
-
-
 def run(folder: str, command: str, words: List[str]) -> int:
-    """Runs a command of `staat` on the part list of a folder, with its own output. Its status."""
-    built = program()
-    if built is None:
-        raise Refusal("the planner is not built yet: run ./staat once in the top folder, or set STAAT to a built program")
+    """Runs a command of `./staat`, which is built first if need be, on the part list of a folder. Its status.
+
+    Refusal: there is no part list, or the command cannot be run.
+    """
     if not os.path.isfile(os.path.join(folder, LIST)):
         raise Refusal(f"{folder} holds no {LIST}; ./staat-cad pieces MODEL.. --out={folder} writes one")
+    staat = os.environ.get("STAAT") or os.path.join(TOP, "staat")
     try:
-        return subprocess.run([built, *words_for(command, words)], cwd=folder, check=False).returncode
+        return subprocess.run(words_of(os.path.abspath(staat), command, words), cwd=folder, check=False).returncode
     except OSError as fault:
-        raise Refusal(f"cannot run {built}: {fault.strerror}") from fault
+        raise Refusal(f"cannot run {staat}: {fault.strerror}") from fault
+
+
+def words_of(staat: str, command: str, words: List[str]) -> List[str]:
+    return [staat, command, *words, f"--manifest={LIST}"]
 
 
 def look(folder: str) -> Optional[subprocess.CompletedProcess[str]]:
-    """What `staat look` says of the part list of a folder; nothing where there is no program."""
+    """What a built program's `look` says of the part list of a folder; nothing where none is built."""
     built = program()
     if built is None:
         return None
-    return subprocess.run(
-        [built, *words_for("look", [])], cwd=folder, check=False, capture_output=True, text=True
-    )
+    return subprocess.run(words_of(built, "look", []), cwd=folder, check=False, capture_output=True, text=True)
