@@ -51,6 +51,8 @@ def _python(script: str, *words: str) -> tuple[str, ...]:
 
 
 MODELS = (
+    "c++",
+    "cgal",
     "gmsh",
     "meshio",
     "numpy",
