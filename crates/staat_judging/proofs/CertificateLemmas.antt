@@ -1,6 +1,6 @@
 -- What the steps find that read a certificate and judge it.
-use Rattle.std.proofs.Common.{◌≡◌, ◌∙◌, refl, sym, ap, subst, arith, ℕ, ◌+◌, ◌<◌, ◌≤◌, List, [], ◌∷◌, ◌++◌, length, take, append-nil, Option, Some, None, Ok, Err}
-use Rattle.std.specs.Prelude.{Result, IfOk, IfErr, IfSome, IsSomeAnd}
+use Rattle.std.proofs.Common.{◌≡◌, ◌∙◌, refl, sym, ap, subst, arith, ℕ, ◌+◌, ◌<◌, ◌≤◌, List, [], ◌++◌, length, take, append-nil, Option, Some, None, Ok, Err}
+use Rattle.std.specs.Prelude.{Result, IfSome, IsSomeAnd}
 use Rattle.std.specs.Io.KnownBytes.{Consumes, IsAtEnd}
 use Rattle.std.proofs.KnownBytes.{Consumes-all, Consumes-nil, Consumes-trans}
 use Rattle.std.proofs.lemmas.List.{length-append, length-take-le}
@@ -17,7 +17,7 @@ use Rattle.staat_model.specs.declared.verdict.Verdict.{Verdict}
 use Rattle.staat_model.specs.Reasons.{IsVerdict}
 use Rattle.staat_model.specs.Texts.{IsWellFormed}
 use Rattle.staat_input.specs.declared.answer.Answer.{Answer}
-use Rattle.staat_input.specs.Work.{Files, Found, Follows, IsNotTakenWithin}
+use Rattle.staat_input.specs.Work.{Files, Follows, IsNotTakenWithin}
 use Rattle.staat_judging.specs.Checking.{cert_fault}
 use Rattle.staat_judging.specs.Checking.{SaysCertificate, says_whole, says_bad, says_short, IsCertificateIn}
 use Rattle.staat_judging.specs.Checking.{IsChecked, IsFed, IsFedFile, verdict_answer}

@@ -22,7 +22,6 @@ use Rattle.staat_cert.proofs.AnswerLemmas.{one_read_answer}
 use Rattle.staat_drill.proofs.ProductLemmas.{nest_is_assembly, row_is_assembly}
 use Rattle.staat_fault.specs.declared.fault.Fault.TheVariants.{TextTooLong}
 use Rattle.staat_plan.specs.Certifying.{IsValidFor}
-use Rattle.staat_plan.proofs.Right.{right_lemma}
 use Rattle.staat_words.specs.declared.request.Product.{Product}
 use Rattle.staat_words.specs.declared.request.Product.TheVariants.{Boxes, Cubes}
 use Rattle.staat_words.specs.Requests.{IsProduct}

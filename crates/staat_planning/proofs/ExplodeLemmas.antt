@@ -23,7 +23,7 @@ use Rattle.staat_explode.specs.Sheets.{Written}
 use Rattle.staat_explode.specs.Shifts.{shifted_of, shifts_of, vector_of_part}
 use Rattle.staat_explode.specs.Sizes.{HasDirections}
 use Rattle.staat_explode.specs.Splits.{Explodes}
-use Rattle.staat_fault.specs.declared.fault.Fault.TheVariants.{TextTooLong, TooFar}
+use Rattle.staat_fault.specs.declared.fault.Fault.TheVariants.{TextTooLong}
 use Rattle.staat_input.specs.Work.{Files, Follows, Found}
 use Rattle.std.specs.Prelude.{Result}
 use Rattle.staat_model.specs.Outcomes.{Finding, IsOutcome, planned, stuck}

@@ -1,6 +1,6 @@
 -- Each assembly has an outcome.
-use Rattle.std.proofs.Common.{◌≡◌, ◌≢◌, ◌⊎◌, ◌∙◌, ℕ, zero, suc, ◌<◌, ◌≤◌, List, [], ◌∷◌, ◌++◌, All, Contains, length, map, Bool, true, false, refl, ap, sym, subst, arith, inl, inr}
-use Rattle.std.specs.Prelude.{ℤ, pos, ◌<ℤ◌}
+use Rattle.std.proofs.Common.{◌≡◌, ◌≢◌, ◌⊎◌, ℕ, zero, suc, ◌<◌, ◌≤◌, List, [], ◌∷◌, ◌++◌, All, Contains, length, map, Bool, true, false, refl, sym, subst, arith, inl, inr}
+use Rattle.std.specs.Prelude.{pos, ◌<ℤ◌}
 use Rattle.std.specs.FinSet as set
 use Rattle.std.proofs.lemmas.List.Elements.{All-contains, All-cons, All-nil, Contains-append_left, Contains-append_right}
 use Rattle.staat_vec.specs.declared.vector.V3.{V3}
@@ -13,7 +13,6 @@ use Rattle.staat_model.specs.declared.set.PartSet.{PartSet}
 use Rattle.staat_model.specs.Assemblies.{HoldsAt, IsAssembly}
 use Rattle.staat_model.specs.Certificates.{IsAcross}
 use Rattle.staat_model.specs.Facets.{IsFacet}
-use Rattle.staat_model.specs.Meeting.{Meets}
 use Rattle.staat_model.specs.Outcomes.{AreTries, Finding, IsMinimal, IsMovedSide, IsOutcome, IsStep, Serves, Try, both_planned, moved_stuck, no_step, one_part, planned, rest_stuck, stuck, try_cell, try_vertex}
 use Rattle.staat_model.specs.Planes.{vertices}
 use Rattle.staat_model.specs.Plans.{leaf, split}

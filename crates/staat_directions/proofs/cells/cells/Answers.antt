@@ -1,9 +1,9 @@
-use Rattle.std.proofs.Common.{Ok, arith}
+use Rattle.std.proofs.Common.{arith}
 use Rattle.staat_input.specs.Work.{Then}
 use Rattle.staat_input.specs.Assembling.{IsSoundOf}
 use Rattle.staat_directions.specs.CellTables.{AreTabled}
 use Rattle.staat_input.specs.Counting.{AreCounted}
-use Rattle.staat_input.specs.Causes.{HasCause, over}
+use Rattle.staat_input.specs.Causes.{over}
 use Rattle.staat_directions.proofs.CellsLemmas.{counted_most}
 use Rattle.staat_input.proofs.InputLemmas.{then_failed, then_given}
 use Rattle.staat_directions.proofs.cells.cells.Goals as goal

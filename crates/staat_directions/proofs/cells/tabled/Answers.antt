@@ -1,4 +1,4 @@
-use Rattle.std.proofs.Common.{◌≡◌, ◌∙◌, ap, length, sym, subst, Ok, Err}
+use Rattle.std.proofs.Common.{◌∙◌, ap, length, sym, subst, Err}
 use Rattle.staat_text.specs.CellTexts.{IsCellsAnswer}
 use Rattle.staat_directions.specs.CellTables.{AreTabled}
 use Rattle.staat_input.specs.Work.{Follows}

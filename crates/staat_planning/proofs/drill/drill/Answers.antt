@@ -1,11 +1,11 @@
-use Rattle.std.proofs.Common.{Ok, ap, refl, sym, subst}
+use Rattle.std.proofs.Common.{Ok, refl, subst}
 use Rattle.staat_limits.specs.declared.limits.TheConstants.{MOST_PLANES}
 use Rattle.staat_input.specs.Work.{Then}
 use Rattle.staat_input.specs.Assembling.{IsTested}
 use Rattle.staat_planning.specs.Drills.{IsDrilled, parts_of_product}
 use Rattle.staat_input.specs.Counting.{AreCounted, few}
 use Rattle.staat_input.specs.Causes.{HasCause}
-use Rattle.staat_input.proofs.InputLemmas.{failed_with, then_failed, then_given}
+use Rattle.staat_input.proofs.InputLemmas.{failed_with, then_given}
 use Rattle.staat_planning.proofs.drill.drill.Goals as goal
 
 pub returns-in_err-outcome-clause-cause : goal.returns-in_err-outcome-clause-cause

@@ -1,4 +1,4 @@
-use Rattle.std.proofs.Common.{◌≡◌, Err, ap, length, subst, sym}
+use Rattle.std.proofs.Common.{Err, ap, length, subst, sym}
 use Rattle.staat_model.specs.Outcomes.{finding_of}
 use Rattle.staat_cert.specs.Writing.{IsTextAnswer}
 use Rattle.staat_planning.specs.Drills.{IsDrilled}
