@@ -5,6 +5,7 @@ use Rattle.staat_model.specs.declared.certificate.Certificate.{Certificate}
 use Rattle.staat_model.specs.declared.verdict.Verdict.{Verdict}
 use Rattle.staat_model.specs.declared.verdict.Verdict.TheVariants.{ValidPlan, ValidRefusal}
 use Rattle.staat_limits.specs.declared.limits.TheConstants.{TEXT_LIMIT}
+use Rattle.staat_model.specs.Assemblies.{IsAssembly}
 use Rattle.staat_model.specs.Certify.{IsCertificateOf}
 use Rattle.std.specs.Prelude.{IfSome}
 use Rattle.staat_limits.specs.Versions.{IsVersion}
@@ -12,6 +13,7 @@ use Rattle.staat_model.specs.Outcomes.{Finding, IsOutcome, planned, stuck}
 use Rattle.staat_model.specs.Texts.{text_of}
 use Rattle.staat_model.specs.Certificates.{IsValidPlan, IsValidRefusal}
 use Rattle.staat_model.specs.Reasons.{IsVerdict}
+use Rattle.staat_check.specs.Verdicts.{IsPlanOf, IsRefusalWithSet}
 use Rattle.staat_edge.specs.Files.{bytes_of}
 use Rattle.staat_fault.specs.declared.fault.Fault.{Fault}
 use Rattle.staat_fault.specs.declared.fault.Fault.TheVariants.{Usage, ReadFault, TooLong, TooManyPlanes, TextTooLong, WriteFault, OutOfMemory}
@@ -20,7 +22,7 @@ use Rattle.staat_words.specs.declared.request.CheckRequest.{CheckRequest}
 use Rattle.staat_words.specs.declared.request.PlanRequest.{PlanRequest}
 use Rattle.staat_words.specs.declared.request.Request.{Request}
 use Rattle.staat_words.specs.declared.request.Request.TheVariants.{Check, Plan}
-use Rattle.staat_words.specs.Requests.{IsAsked, IsPlanRequest}
+use Rattle.staat_words.specs.Requests.{HasBounds, IsAsked, IsPlanRequest}
 use Rattle.staat_input.specs.declared.answer.Answer.{Answer}
 use Rattle.staat_input.specs.Work.{Files, Found}
 use Rattle.staat_input.specs.Assembling.{sound}

@@ -1,6 +1,6 @@
 -- What stands above all else: what the answers of `check` and `plan` mean.
 use Rattle.std.specs.Prelude.{◌≡◌, ◌↔◌, ◌⊎◌, ◌<◌, ◌≤◌, ℕ, zero, suc, true, List}
-use Rattle.std.specs.Prelude.{length, Some, Ok, codes}
+use Rattle.std.specs.Prelude.{length, Option, Some, Ok, codes}
 use Rattle.staat_vec.specs.declared.vector.V3.{V3}
 use Rattle.staat_edge.specs.Files.{bytes_of}
 use Rattle.staat_model.specs.declared.assembly.Part.{Part}
