@@ -11,10 +11,15 @@ def start(words: List[str]) -> int:
     try:
         from workbench.cli import main
     except ImportError as fault:
-        package = {"numpy": "python3-numpy", "scipy": "python3-scipy"}.get((fault.name or "").split(".")[0])
+        package = {"numpy": "python3-numpy", "scipy": "python3-scipy"}.get(
+            (fault.name or "").split(".")[0]
+        )
         if package is None:
             raise
-        print(f"staat-cad: {package} is missing; install it by: sudo apt-get install -y {package}", file=sys.stderr)
+        print(
+            f"staat-cad: {package} is missing; install it by: sudo apt-get install -y {package}",
+            file=sys.stderr,
+        )
         return 69
     try:
         return main(words)

@@ -2,10 +2,9 @@
 from __future__ import annotations
 
 import argparse
-import json
 import sys
 from fractions import Fraction
-from typing import Dict, List, NoReturn, Sequence, Tuple
+from typing import List, NoReturn, Sequence, Tuple
 
 import numpy
 
@@ -52,7 +51,9 @@ def clearance_of(text: str) -> Tuple[str, float]:
 
 def each_of(text: str) -> str:
     if text not in ("solid", "name", "file") and not (text.isdigit() and int(text) > 0):
-        raise argparse.ArgumentTypeError(f"{text} is none of solid, name, file, and no number of levels")
+        raise argparse.ArgumentTypeError(
+            f"{text} is none of solid, name, file, and no number of levels"
+        )
     return text
 
 
@@ -77,13 +78,19 @@ def parser() -> Words:
     )
     other.add_argument("folder", metavar="FOLDER", help="what pieces wrote")
     other.add_argument("asked", metavar="COMMAND", help="a command of staat, as look or plan")
-    other.add_argument("words", nargs=argparse.REMAINDER, metavar="..", help="its words, without the part list")
+    other.add_argument(
+        "words", nargs=argparse.REMAINDER, metavar="..", help="its words, without the part list"
+    )
     return top
 
 
 def add_reading(one: argparse.ArgumentParser) -> None:
-    one.add_argument("models", nargs="+", metavar="MODEL", help="a file, or a folder of files that are one part")
-    one.add_argument("--out", required=True, metavar="FOLDER", help="where the pieces and parts.json are written")
+    one.add_argument(
+        "models", nargs="+", metavar="MODEL", help="a file, or a folder of files that are one part"
+    )
+    one.add_argument(
+        "--out", required=True, metavar="FOLDER", help="where the pieces and parts.json are written"
+    )
     one.add_argument(
         "--each",
         type=each_of,
@@ -109,9 +116,14 @@ def add_reading(one: argparse.ArgumentParser) -> None:
 
 def add_cutting(one: argparse.ArgumentParser) -> None:
     round_ones = one.add_mutually_exclusive_group()
-    round_ones.add_argument("--sides", type=sides_of, metavar="N", help="sides of a whole circle; else 12")
     round_ones.add_argument(
-        "--chord", type=length_of, metavar="T", help="how far a circle may lie beyond its sides, at most"
+        "--sides", type=sides_of, metavar="N", help="sides of a whole circle; else 12"
+    )
+    round_ones.add_argument(
+        "--chord",
+        type=length_of,
+        metavar="T",
+        help="how far a circle may lie beyond its sides, at most",
     )
     one.add_argument(
         "--side",
@@ -134,7 +146,11 @@ def add_cutting(one: argparse.ArgumentParser) -> None:
         help="faces of all parts, or of one, move inwards by this where they meet other parts",
     )
     one.add_argument(
-        "--seconds", type=length_of, default=Fraction(60), metavar="S", help="how long one solid may take; else 60"
+        "--seconds",
+        type=length_of,
+        default=Fraction(60),
+        metavar="S",
+        help="how long one solid may take; else 60",
     )
 
 
@@ -200,7 +216,9 @@ def told(folder: str, product: Product, cuts: Sequence[summary.Cut], options: Op
     """Prints the summary; 1 where parts overlap."""
     greatest = max(float(numpy.abs(piece.points).max()) for one in cuts for piece in one.plain)
     grid = float(product.grid)
-    lines = summary.way_lines(cuts) + summary.round_lines(product, options) + summary.bound_lines(cuts)
+    lines = (
+        summary.way_lines(cuts) + summary.round_lines(product, options) + summary.bound_lines(cuts)
+    )
     found = overlaps([one.plain for one in cuts])
     overlapped = summary.overlap_lines(found, cuts, grid, greatest * grid)
     lines += overlapped or ["no two parts overlap"]
@@ -209,7 +227,10 @@ def told(folder: str, product: Product, cuts: Sequence[summary.Cut], options: Op
     return OVERLAPPED if overlapped else 0
 
 
-COMMANDS = {"pieces": pieces, "run": lambda given: planner.run(given.folder, given.asked, given.words)}
+COMMANDS = {
+    "pieces": pieces,
+    "run": lambda given: planner.run(given.folder, given.asked, given.words),
+}
 
 
 def main(words: Sequence[str]) -> int:

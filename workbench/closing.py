@@ -95,9 +95,13 @@ def split_edges(points: numpy.ndarray, faces: Faces, near: float) -> Faces:
         way = points[other] - points[one]
         length = float(numpy.linalg.norm(way))
         along = (places - points[one]) @ way / (length or 1)
-        off = numpy.linalg.norm(places - points[one] - numpy.outer(along, way / (length or 1)), axis=1)
+        off = numpy.linalg.norm(
+            places - points[one] - numpy.outer(along, way / (length or 1)), axis=1
+        )
         on = numpy.nonzero((off <= near) & (along > near) & (along < length - near))[0]
-        between[one, other] = [used[number] for number in sorted(on, key=lambda number: along[number])]
+        between[one, other] = [
+            used[number] for number in sorted(on, key=lambda number: along[number])
+        ]
     new: Faces = []
     for face in faces:
         row: List[int] = []
@@ -132,7 +136,9 @@ def wound(faces: Faces) -> Tuple[Faces, bool]:
                     along = (one, other) in pairs_of(faces[beside])
                     turned[beside] = turned[number] != along
                     waiting.append(beside)
-    return [face[::-1] if turned.get(number) else face for number, face in enumerate(faces)], not any(turned.values())
+    return [
+        face[::-1] if turned.get(number) else face for number, face in enumerate(faces)
+    ], not any(turned.values())
 
 
 def volume(mesh: Mesh) -> float:
@@ -197,8 +203,12 @@ def shells_of(mesh: Mesh, merge: Optional[float] = None) -> List[Shell]:
 
 
 def holds(shell: Shell, point: numpy.ndarray) -> bool:
-    """Whether a point lies inside a closed surface: by the solid angles of its triangles (Van Oosterom, Strackee 1983)."""
-    corners = [[face[0], face[k], face[k + 1]] for face in shell.mesh.faces for k in range(1, len(face) - 1)]
+    """Whether a point lies inside a closed surface, by solid angles (Van Oosterom and Strackee 1983)."""
+    corners = [
+        [face[0], face[k], face[k + 1]]
+        for face in shell.mesh.faces
+        for k in range(1, len(face) - 1)
+    ]
     rows = shell.mesh.points[numpy.array(corners)] - point
     one, two, three = rows[:, 0], rows[:, 1], rows[:, 2]
     a, b, c = (numpy.linalg.norm(row, axis=1) for row in (one, two, three))

@@ -11,7 +11,7 @@ import numpy
 from .convex import decompose
 from .progress import Progress
 from .snapping import rounded
-from .solid import Mesh, Options, Piece, Pieces, Refusal, Solid
+from .solid import Options, Piece, Pieces, Refusal, Solid
 
 FEW = 200  # faces that are cut faster than another process begins
 Answer = Union[Pieces, str]  # the pieces, or the line that says why there are none
@@ -29,7 +29,11 @@ def key_of(solid: Solid) -> Tuple[object, numpy.ndarray]:
     """What solids have in common that are alike but for a way of whole steps, and where this one lies."""
     mesh = solid.whole or solid.exact
     assert mesh is not None
-    place = rounded(mesh.points.min(axis=0), solid.scale) if solid.whole is None else mesh.points.min(axis=0)
+    place = (
+        rounded(mesh.points.min(axis=0), solid.scale)
+        if solid.whole is None
+        else mesh.points.min(axis=0)
+    )
     scale = float(solid.scale) if solid.whole is None else 1.0
     rows = numpy.rint((mesh.points * scale - place) * 1024).astype(numpy.int64)
     faces = tuple(tuple(face) for face in mesh.faces)
@@ -61,7 +65,9 @@ def cut_one(solid: Solid, options: Options) -> Answer:
 
 
 def moved(pieces: Pieces, way: numpy.ndarray) -> Pieces:
-    return replace(pieces, pieces=[Piece(piece.points + way, piece.faces) for piece in pieces.pieces])
+    return replace(
+        pieces, pieces=[Piece(piece.points + way, piece.faces) for piece in pieces.pieces]
+    )
 
 
 def cut(solids: Sequence[Solid], options: Options, jobs: Optional[int] = None) -> List[Answer]:
@@ -79,7 +85,11 @@ def cut(solids: Sequence[Solid], options: Options, jobs: Optional[int] = None) -
 
 
 def run(
-    groups: List[Alike], solids: Sequence[Solid], options: Options, jobs: int, told: Callable[[], None]
+    groups: List[Alike],
+    solids: Sequence[Solid],
+    options: Options,
+    jobs: int,
+    told: Callable[[], None],
 ) -> List[Answer]:
     """The answers for the first solid of each group, in the order of the groups."""
     work = [solids[alike.first] for alike in groups]

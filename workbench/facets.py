@@ -99,7 +99,11 @@ def hard_corners(body: Body, regions: List[Region]) -> Set[int]:
             for number, _ in loop:
                 for end in body.edges[number].ends:
                     around.setdefault(end, set()).add(number)
-    return {end for end, numbers in around.items() if not on_one_circle([body.edges[n] for n in numbers])}
+    return {
+        end
+        for end, numbers in around.items()
+        if not on_one_circle([body.edges[n] for n in numbers])
+    }
 
 
 def on_one_circle(edges: List[Edge]) -> bool:
@@ -133,7 +137,9 @@ class Drawing:
         self.surfaces: List[Surface] = []
 
     def key(self, arc: Arc) -> Tuple[int, ...]:
-        return tuple(numpy.rint(numpy.r_[arc.centre, arc.radius] / (4 * self.axes.near)).astype(int).tolist())
+        return tuple(
+            numpy.rint(numpy.r_[arc.centre, arc.radius] / (4 * self.axes.near)).astype(int).tolist()
+        )
 
     def edge_points(self, number: int) -> List[numpy.ndarray]:
         """The points along an edge, from its first end to its last; where circles join smoothly there is no point."""
@@ -146,7 +152,9 @@ class Drawing:
         axis = self.axes.of(edge.arc)
         centre = axis.point + axis.way * axis.height_of(edge.arc.centre)
         radius = self.drawn.get(self.key(edge.arc), edge.arc.radius)
-        found = [centre + radius * axis.out(axis.angles[place]) for place in self.passed(edge, axis)]
+        found = [
+            centre + radius * axis.out(axis.angles[place]) for place in self.passed(edge, axis)
+        ]
         for vertex, corner in zip(edge.ends, (start, end)):
             if vertex in self.hard:
                 found = [row for row in found if numpy.abs(row - corner).max() > self.axes.near]
@@ -171,7 +179,8 @@ class Drawing:
         rounds = [
             region
             for region in self.regions
-            if region.fit.kind in ROUND and any(number == other for loop in region.loops for other, _ in loop)
+            if region.fit.kind in ROUND
+            and any(number == other for loop in region.loops for other, _ in loop)
         ]
         if len(rounds) != 1:
             raise Unfit("two round faces meet along a curve that is no circle")
@@ -214,7 +223,14 @@ class Drawing:
             else:
                 self.draw_round(region, loops)
             self.surfaces.append(
-                Surface(fit.kind, fit.point, fit.axis, fit.radius, False, list(range(before, len(self.faces))))
+                Surface(
+                    fit.kind,
+                    fit.point,
+                    fit.axis,
+                    fit.radius,
+                    False,
+                    list(range(before, len(self.faces))),
+                )
             )
 
     def draw_plane(self, region: Region, loops: List[List[int]]) -> None:
@@ -239,7 +255,10 @@ class Drawing:
         upright: Dict[int, Set[int]] = {}
         tips: List[int] = []
         for loop in loops:
-            marks = [self.place(number, fit.point if fit.kind == "cone" else None, axis) for number in loop]
+            marks = [
+                self.place(number, fit.point if fit.kind == "cone" else None, axis)
+                for number in loop
+            ]
             for k, (one, two) in enumerate(zip(loop, loop[1:] + loop[:1])):
                 low, high = marks[k], marks[(k + 1) % len(loop)]
                 if low is None or high is None:
@@ -298,12 +317,20 @@ class Drawing:
 
     def between(self, axis: Axis, numbers: Set[int], low: int, high: int) -> List[int]:
         """The corners on an upright line that lie between two of them, upwards."""
-        heights = {number: axis.height_of(self.points.rows[number]) for number in numbers | {low, high}}
-        inner = [n for n in numbers if heights[low] + self.axes.near < heights[n] < heights[high] - self.axes.near]
+        heights = {
+            number: axis.height_of(self.points.rows[number]) for number in numbers | {low, high}
+        }
+        inner = [
+            n
+            for n in numbers
+            if heights[low] + self.axes.near < heights[n] < heights[high] - self.axes.near
+        ]
         return sorted(inner, key=lambda number: heights[number])
 
 
-def crossing(edge: Edge, axis: Axis, turns: numpy.ndarray, places: numpy.ndarray, value: float) -> numpy.ndarray:
+def crossing(
+    edge: Edge, axis: Axis, turns: numpy.ndarray, places: numpy.ndarray, value: float
+) -> numpy.ndarray:
     """The point of a curve at an angle, by halving; `turns` ascend."""
     at = int(numpy.searchsorted(turns, value))
     low, high = float(places[at - 1]), float(places[at])
@@ -348,14 +375,20 @@ def drawn_radii(drawing: Drawing, options: Options) -> Dict[Tuple[int, ...], flo
     for region, surface in zip(drawing.regions, drawing.surfaces):
         for arc, axis in whole_circles(drawing, region):
             key, grow = drawing.key(arc), surface.hole == (options.side == "under")
-            radius = (arc.radius + spare) * axis.factor() if grow else arc.radius - spare * axis.factor()
+            radius = (
+                (arc.radius + spare) * axis.factor() if grow else arc.radius - spare * axis.factor()
+            )
             wanted[key] = radius if wanted.get(key, radius) == radius else arc.radius
     return {key: radius for key, radius in wanted.items() if radius > 0}
 
 
 def whole_circles(drawing: Drawing, region: Region) -> Iterator[Tuple[Arc, Axis]]:
     """The circles around a round region of which no other face holds a corner in place, with their axes."""
-    for number in {number for loop in region.loops for number, _ in loop} if region.fit.kind in ROUND else set():
+    for number in (
+        {number for loop in region.loops for number, _ in loop}
+        if region.fit.kind in ROUND
+        else set()
+    ):
         edge = drawing.body.edges[number]
         if edge.arc is not None and not any(end in drawing.hard for end in edge.ends):
             axis = drawing.axes.of(edge.arc)
@@ -367,12 +400,18 @@ def bounds_of(drawing: Drawing) -> Tuple[float, float]:
     """How far the faces go beyond the solid, and how far they fall short of it."""
     over = under = 0.0
     for region, surface in zip(drawing.regions, drawing.surfaces):
-        for number in {number for loop in region.loops for number, _ in loop} if surface.kind in ROUND else set():
+        for number in (
+            {number for loop in region.loops for number, _ in loop}
+            if surface.kind in ROUND
+            else set()
+        ):
             edge = drawing.body.edges[number]
             axis = drawing.axes.of(Arc(surface.point, region.fit.axis, 1.0))
             rows = edge.at(numpy.linspace(0, 1, 17)) - axis.point
             radius = float(numpy.linalg.norm(numpy.cross(rows, axis.way), axis=1).max())
-            drawn = drawing.drawn.get(drawing.key(edge.arc), radius) if edge.arc is not None else radius
+            drawn = (
+                drawing.drawn.get(drawing.key(edge.arc), radius) if edge.arc is not None else radius
+            )
             beyond = max(drawn - radius, 0.0)
             short = max(radius - drawn / axis.factor(), 0.0)
             over = max(over, short if surface.hole else beyond)
@@ -390,7 +429,9 @@ def spare_points(drawing: Drawing, mesh: Mesh) -> Set[int]:
                 centre = axis.point + axis.way * axis.height_of(arc.centre)
                 far = numpy.abs(numpy.linalg.norm(mesh.points - centre, axis=1) - radius)
                 flat = numpy.abs((mesh.points - centre) @ axis.way)
-                found |= set(numpy.nonzero((far < 1e-9 * radius) & (flat < 1e-9 * radius))[0].tolist())
+                found |= set(
+                    numpy.nonzero((far < 1e-9 * radius) & (flat < 1e-9 * radius))[0].tolist()
+                )
     return found
 
 

@@ -78,23 +78,32 @@ def fit_surface(points: numpy.ndarray, normals: numpy.ndarray) -> Fit:
         centre, radius, off = circle_through(numpy.c_[rows @ first, rows @ second])
         if off < near:
             return Fit("cylinder", middle + centre[0] * first + centre[1] * second, axis, radius)
-    return fit_sphere(rows, normals, middle, near) or fit_cone(rows, normals, middle, near) or Fit(
-        "other", middle, canonical(ways[:, 2])
+    return (
+        fit_sphere(rows, normals, middle, near)
+        or fit_cone(rows, normals, middle, near)
+        or Fit("other", middle, canonical(ways[:, 2]))
     )
 
 
-def fit_sphere(rows: numpy.ndarray, normals: numpy.ndarray, middle: numpy.ndarray, near: float) -> Optional[Fit]:
+def fit_sphere(
+    rows: numpy.ndarray, normals: numpy.ndarray, middle: numpy.ndarray, near: float
+) -> Optional[Fit]:
     table = numpy.c_[2 * rows, numpy.ones(len(rows))]
     found = numpy.linalg.lstsq(table, (rows**2).sum(axis=1), rcond=None)[0]
     radius = float(numpy.sqrt(max(found[3] + (found[:3] ** 2).sum(), 0.0)))
     ways = rows - found[:3]
     off = numpy.abs(numpy.linalg.norm(ways, axis=1) - radius).max()
-    if off > near or numpy.abs(numpy.abs((ways * normals).sum(axis=1)) - radius).max() > 1e-5 * radius:
+    if (
+        off > near
+        or numpy.abs(numpy.abs((ways * normals).sum(axis=1)) - radius).max() > 1e-5 * radius
+    ):
         return None
     return Fit("sphere", middle + found[:3], numpy.array([0.0, 0.0, 1.0]), radius)
 
 
-def fit_cone(rows: numpy.ndarray, normals: numpy.ndarray, middle: numpy.ndarray, near: float) -> Optional[Fit]:
+def fit_cone(
+    rows: numpy.ndarray, normals: numpy.ndarray, middle: numpy.ndarray, near: float
+) -> Optional[Fit]:
     differences = normals - normals.mean(axis=0)
     weights, ways = numpy.linalg.eigh(differences.T @ differences)
     if weights[0] > 1e-10 * len(rows) or weights[1] < 1e-10 * len(rows):

@@ -27,7 +27,11 @@ def written(grid: Fraction) -> str:
     """A grid as it is given: a decimal number where it is one, else a fraction."""
     if 10**12 % grid.denominator:
         return str(grid)
-    return format(grid.numerator * 10**12 // grid.denominator / 10**12, ".12f").rstrip("0").rstrip(".")
+    return (
+        format(grid.numerator * 10**12 // grid.denominator / 10**12, ".12f")
+        .rstrip("0")
+        .rstrip(".")
+    )
 
 
 def short(number: float) -> str:

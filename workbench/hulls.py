@@ -1,7 +1,7 @@
 """Convex hulls of whole points, exact: every test is one of whole numbers.
 
-`scipy` proposes planes with rounded numbers. Only planes with no point ahead are kept, and what is missing then is found
-by turning planes about edges that lack a face, as one wraps a gift (Chand and Kapur, 1970).
+`scipy` proposes planes with rounded numbers. Only planes with no point ahead are kept, and what is missing then is
+found by turning planes about edges that lack a face, as one wraps a gift (Chand and Kapur, 1970).
 """
 from __future__ import annotations
 
@@ -125,7 +125,9 @@ def wrapped(points: Sequence[Point], normals: Set[Point]) -> Faces:
             if (other, one) not in owner:
                 new = turned(points, one, less(other, one), normal)
                 faces[new] = face_on(points, new)
-                owner.update({edge: new for edge in zip(faces[new], faces[new][1:] + faces[new][:1])})
+                owner.update(
+                    {edge: new for edge in zip(faces[new], faces[new][1:] + faces[new][:1])}
+                )
                 waiting.append(new)
     return faces
 

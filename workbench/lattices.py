@@ -1,7 +1,7 @@
 """Round things with one axis are cut at the same angles, whatever solid they belong to.
 
-So a pin and its bore get one polygon, and what is nested stays nested. An angle at which a solid has a corner of its own is
-one of them; between such angles the circle is divided evenly.
+So a pin and its bore get one polygon, and what is nested stays nested. An angle at which a solid has a corner of its
+own is one of them; between such angles the circle is divided evenly.
 """
 from __future__ import annotations
 
@@ -21,7 +21,7 @@ TURN = 2 * math.pi
 
 @dataclass
 class Axis:
-    """An axis with the radii around it, and the angles (in radians, from 0 to below a whole turn) at which it is cut."""
+    """An axis, the radii around it, and the angles (radians, from 0 to below a whole turn) at which it is cut."""
 
     point: numpy.ndarray
     way: numpy.ndarray
@@ -102,7 +102,10 @@ class Axes:
         way = canonical(arc.axis)
         for axis in self.known:
             if numpy.abs(axis.way - way).max() < NEAR:
-                if float(numpy.linalg.norm(numpy.cross(arc.centre - axis.point, axis.way))) < self.near:
+                if (
+                    float(numpy.linalg.norm(numpy.cross(arc.centre - axis.point, axis.way)))
+                    < self.near
+                ):
                     return axis
         foot = arc.centre - way * float(arc.centre @ way)
         self.known.append(Axis(foot, way))

@@ -18,7 +18,11 @@ SAFE = 2.0  # distances are measured at the middles of triangles and of their ed
 def meshed(gmsh: Any, body: Body, options: Options) -> Faceted:
     """The body in triangles with their corners on its surfaces. Refusal: gmsh makes no closed mesh of it."""
     model = gmsh.model
-    sides = sides_for(widest_radius(gmsh, body), options) if options.chord is not None else options.sides or SIDES
+    sides = (
+        sides_for(widest_radius(gmsh, body), options)
+        if options.chord is not None
+        else options.sides or SIDES
+    )
     gmsh.option.setNumber("Mesh.MeshSizeFromCurvature", sides)
     gmsh.option.setNumber("Mesh.MeshSizeExtendFromBoundary", 0)
     gmsh.option.setNumber("Mesh.MeshOnlyVisible", 1)
@@ -37,7 +41,9 @@ def meshed(gmsh: Any, body: Body, options: Options) -> Faceted:
     owners: List[int] = []
     for face in body.faces:
         for kind, nodes in zip(*element_rows(model, face.tag)):
-            found = [[place[int(node)] for node in row] for row in numpy.array(nodes).reshape(-1, kind)]
+            found = [
+                [place[int(node)] for node in row] for row in numpy.array(nodes).reshape(-1, kind)
+            ]
             faces += found
             owners += [face.tag] * len(found)
     shell = shell_of(points, faces, numpy.inf)
@@ -61,8 +67,9 @@ def widest_radius(gmsh: Any, body: Body) -> float:
     radii += [face.fit.radius for face in body.faces if face.fit.kind in ("cylinder", "sphere")]
     if radii:
         return max(radii)
-    rows = numpy.array(list(body.vertices.values()) or [[0.0, 0.0, 0.0], [1.0, 1.0, 1.0]])
-    return float(numpy.ptp(rows, axis=0).max()) / 2 or 1.0
+    if not body.vertices:
+        return 1.0
+    return float(numpy.ptp(numpy.array(list(body.vertices.values())), axis=0).max()) / 2 or 1.0
 
 
 def measured(gmsh: Any, mesh: Mesh, owners: List[int], plane: set[int]) -> Tuple[float, float]:

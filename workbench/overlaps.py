@@ -36,7 +36,9 @@ class Body:
         for face in piece.faces:
             corners = [tuple(map(int, piece.points[corner])) for corner in face]
             first = less(corners[1], corners[0])
-            normals.update({primitive(n) for n in (cross(first, less(c, corners[0])) for c in corners[2:3])})
+            normals.update(
+                {primitive(n) for n in (cross(first, less(c, corners[0])) for c in corners[2:3])}
+            )
             for one, other in zip(corners, corners[1:] + corners[:1]):
                 edges.add(max(primitive(less(one, other)), primitive(less(other, one))))
         self.normals, self.edges = sorted(normals), sorted(edges)
@@ -48,10 +50,12 @@ def apart_by_boxes(one: Body, other: Body) -> bool:
 
 def depth_between(one: Body, other: Body) -> Optional[float]:
     """Nothing where the two share no inner point; else the least way, in steps, that takes them apart."""
-    faces = numpy.array(one.normals + [less((0, 0, 0), normal) for normal in other.normals], numpy.int64)
-    crossed = numpy.cross(numpy.array(one.edges)[:, None, :], numpy.array(other.edges)[None, :, :]).reshape(
-        -1, 3
+    faces = numpy.array(
+        one.normals + [less((0, 0, 0), normal) for normal in other.normals], numpy.int64
     )
+    crossed = numpy.cross(
+        numpy.array(one.edges)[:, None, :], numpy.array(other.edges)[None, :, :]
+    ).reshape(-1, 3)
     crossed = crossed[crossed.any(axis=1)]
     least = numpy.inf
     for walls in (faces, crossed, -crossed):
@@ -77,7 +81,9 @@ def near_pairs(bodies: Sequence[Body]) -> Iterator[Tuple[Body, Body]]:
 def overlaps(parts: Sequence[Sequence[Piece]]) -> List[Overlap]:
     """All overlaps of pieces of different parts, in the order of `staat`: by a, then i, b and j."""
     bodies = [
-        Body(part, number, piece) for part, some in enumerate(parts) for number, piece in enumerate(some)
+        Body(part, number, piece)
+        for part, some in enumerate(parts)
+        for number, piece in enumerate(some)
     ]
     found = []
     for one, other in near_pairs(bodies):

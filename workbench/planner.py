@@ -27,10 +27,14 @@ def run(folder: str, command: str, words: List[str]) -> int:
     Refusal: there is no part list, or the command cannot be run.
     """
     if not os.path.isfile(os.path.join(folder, LIST)):
-        raise Refusal(f"{folder} holds no {LIST}; ./staat-cad pieces MODEL.. --out={folder} writes one")
+        raise Refusal(
+            f"{folder} holds no {LIST}; ./staat-cad pieces MODEL.. --out={folder} writes one"
+        )
     staat = os.environ.get("STAAT") or os.path.join(TOP, "staat")
     try:
-        return subprocess.run(words_of(os.path.abspath(staat), command, words), cwd=folder, check=False).returncode
+        return subprocess.run(
+            words_of(os.path.abspath(staat), command, words), cwd=folder, check=False
+        ).returncode
     except OSError as fault:
         raise Refusal(f"cannot run {staat}: {fault.strerror}") from fault
 
@@ -44,4 +48,6 @@ def look(folder: str) -> Optional[subprocess.CompletedProcess[str]]:
     built = program()
     if built is None:
         return None
-    return subprocess.run(words_of(built, "look", []), cwd=folder, check=False, capture_output=True, text=True)
+    return subprocess.run(
+        words_of(built, "look", []), cwd=folder, check=False, capture_output=True, text=True
+    )

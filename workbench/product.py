@@ -135,7 +135,13 @@ class Reading:
                 part = "/".join(body.name.split("/")[: int(self.asked.each)])
             else:
                 part = free_name(name if body.name == step.NAMELESS else body.name, taken)
-            tag = stem if folder and len(drawn.bodies) == 1 else f"{stem}-{number}" if folder else str(number)
+            tag = (
+                stem
+                if folder and len(drawn.bodies) == 1
+                else f"{stem}-{number}"
+                if folder
+                else str(number)
+            )
             self.items.append(Item(f"{path}: {body.name}", part, tag, body=body))
 
     def part_list(self, path: str) -> None:
@@ -151,7 +157,9 @@ class Reading:
         self.unit(path, unit)
         named = [(mesh.name, shells_of(mesh, self.asked.merge)) for mesh in found]
         if len(found) > 1 and any(shell.gaps for _, shells in named for shell in shells):
-            named = [("", shells_of(together(found), self.asked.merge))]  # the names part one surface
+            named = [
+                ("", shells_of(together(found), self.asked.merge))
+            ]  # the names part one surface
         apart = len({word for word, _ in named}) > 1 and not folder and self.asked.each != "file"
         many, number = sum(len(shells) for _, shells in named), 0
         if not many:
@@ -182,14 +190,22 @@ class Reading:
             for outer in items:
                 if inner is outer or inner.trouble or outer.trouble or not within(inner, outer):
                     continue
-                if inner.mesh is not None and outer.mesh is not None and inner.mesh.name and not outer.mesh.name:
-                    outer.mesh = together([outer.mesh, Mesh(inner.mesh.points, [f[::-1] for f in inner.mesh.faces])])
+                if (
+                    inner.mesh is not None
+                    and outer.mesh is not None
+                    and inner.mesh.name
+                    and not outer.mesh.name
+                ):
+                    outer.mesh = together(
+                        [outer.mesh, Mesh(inner.mesh.points, [f[::-1] for f in inner.mesh.faces])]
+                    )
                     self.items.remove(inner)
                     break
                 if not apart:
+                    one, other = items.index(inner), items.index(outer)
                     outer.trouble = (
-                        f"{path}: solid {items.index(inner)} lies inside solid {items.index(outer)}: if it is a hollow space, wind "
-                        "its faces inwards, or cut the solid open; if not, give it a file of its own"
+                        f"{path}: solid {one} lies inside solid {other}: if it is a hollow space, wind its faces "
+                        "inwards, or cut the solid open; if not, give it a file of its own"
                     )
 
 
@@ -225,7 +241,11 @@ def extent_of(items: Sequence[Item]) -> float:
             greatest = max(greatest, float(numpy.abs(item.mesh.points).max()))
         if item.body is not None:
             rows = [edge.at(numpy.linspace(0, 1, 17)) for edge in item.body.edges.values()]
-            rows += [numpy.abs(face.fit.point[None]) + face.fit.radius for face in item.body.faces if face.fit.kind == "sphere"]
+            rows += [
+                numpy.abs(face.fit.point[None]) + face.fit.radius
+                for face in item.body.faces
+                if face.fit.kind == "sphere"
+            ]
             greatest = max([greatest] + [float(numpy.abs(some).max()) for some in rows])
     return greatest
 
@@ -329,7 +349,9 @@ def named_parts(reading: Reading, sources: List[Tuple[str, int]]) -> None:
             item.part = names[item.part]
 
 
-def read_product(words: Sequence[str], options: Options, asked: Asked, grid: Optional[Fraction]) -> Product:
+def read_product(
+    words: Sequence[str], options: Options, asked: Asked, grid: Optional[Fraction]
+) -> Product:
     """The product in these files. Refusal: a file cannot be read, or no part is left."""
     step.clear()
     reading, ends = Reading(asked), []

@@ -13,7 +13,9 @@ from .solid import Options, Piece, Pieces
 
 PLANNER = (32, 64)  # parts and pieces that `plan` and its kin take
 LIMITS = (1024, 16384)  # parts and pieces of a product at all
-SIX_DIGITS = 1e-5  # exports often have six digits, so numbers may be wrong by so much of the greatest
+SIX_DIGITS = (
+    1e-5  # exports often have six digits, so numbers may be wrong by so much of the greatest
+)
 COSTLY = 3  # parts that are named where pieces are many
 
 
@@ -41,9 +43,13 @@ def cut_part(part: Part, found: Sequence[Pieces]) -> Cut:
     for tag, some in zip(part.tags, found):
         for number, piece in enumerate(some.pieces):
             alone = len(some.pieces) == 1
-            pieces.append((tag if alone else f"{tag}-{number}" if len(found) > 1 else str(number), piece))
+            pieces.append(
+                (tag if alone else f"{tag}-{number}" if len(found) > 1 else str(number), piece)
+            )
     notes = sorted({some.note for some in found if some.note})
-    return Cut(part, pieces, max(some.over for some in found), max(some.under for some in found), notes)
+    return Cut(
+        part, pieces, max(some.over for some in found), max(some.under for some in found), notes
+    )
 
 
 def part_lines(product: Product, cuts: Sequence[Cut]) -> List[str]:
@@ -66,14 +72,21 @@ def way_lines(cuts: Sequence[Cut]) -> List[str]:
     lines = []
     for note in sorted(ways, key=lambda note: (-len(ways[note]), note)):
         names = ways[note]
-        lines.append(f"{note}: " + (", ".join(names) if len(names) <= COSTLY else f"{len(names)} parts"))
+        lines.append(
+            f"{note}: " + (", ".join(names) if len(names) <= COSTLY else f"{len(names)} parts")
+        )
     return lines
 
 
 def round_lines(product: Product, options: Options) -> List[str]:
     """What was done with round faces."""
     lines = []
-    if any(surface.kind in ("cylinder", "cone") for part in product.parts for s in part.solids for surface in s.surfaces):
+    if any(
+        surface.kind in ("cylinder", "cone")
+        for part in product.parts
+        for s in part.solids
+        for surface in s.surfaces
+    ):
         if options.chord is not None and options.sides is None:
             how = f"as many sides as a chord of {short(options.chord)} wants"
         else:
@@ -81,7 +94,9 @@ def round_lines(product: Product, options: Options) -> List[str]:
         lines.append(f"round faces: {how}, cut at the same angles around one axis")
         if product.shared:
             kind = "get one polygon" if options.side == "near" else "get polygons that are parallel"
-            lines.append(f"round faces of different parts around one axis {kind}: {product.shared} such axes")
+            lines.append(
+                f"round faces of different parts around one axis {kind}: {product.shared} such axes"
+            )
     for name in product.meshed:
         lines.append(f"meshed by gmsh, its polygons shared with no neighbour: {name}")
     return lines
@@ -93,12 +108,16 @@ def bound_lines(cuts: Sequence[Cut]) -> List[str]:
     if over == 0 and under == 0:
         return ["the pieces are the parts: what staat answers holds of the parts as drawn"]
     if under == 0:
-        return [f"the pieces contain their parts (beyond by up to {short(over)}): a plan for them is one for the parts"]
+        return [
+            f"the pieces contain their parts (beyond by up to {short(over)}): a plan for them is one for the parts"
+        ]
     if over == 0:
-        return [f"the pieces lie within their parts (short by up to {short(under)}): what is stuck as pieces is stuck"]
+        return [
+            f"the pieces lie within their parts (short by up to {short(under)}): what is stuck as pieces is stuck"
+        ]
     return [
-        f"the pieces go up to {short(over)} beyond their parts and fall up to {short(under)} short of them: where a fit "
-        "is tighter than that, the answer may differ; --side=over makes plans certain, --side=under refusals"
+        f"the pieces go up to {short(over)} beyond their parts and fall up to {short(under)} short of them",
+        "where a fit is tighter, the answer may differ: --side=over makes plans certain, --side=under refusals",
     ]
 
 
@@ -107,9 +126,13 @@ def limit_lines(cuts: Sequence[Cut], options: Options) -> List[str]:
     parts, pieces = len(cuts), sum(len(cut.pieces) for cut in cuts)
     lines = []
     if parts > LIMITS[0] or pieces > LIMITS[1]:
-        lines.append(f"{parts} parts and {pieces} pieces: more than {LIMITS[0]} and {LIMITS[1]}, leave some out")
+        lines.append(
+            f"{parts} parts and {pieces} pieces: more than {LIMITS[0]} and {LIMITS[1]}, leave some out"
+        )
     elif parts > PLANNER[0] or pieces > PLANNER[1]:
-        lines.append(f"{parts} parts, {pieces} pieces: more than the {PLANNER[0]} and {PLANNER[1]} that staat plan takes")
+        lines.append(
+            f"{parts} parts, {pieces} pieces: more than the {PLANNER[0]} and {PLANNER[1]} that staat plan takes"
+        )
     if lines:
         lines += costly_lines(cuts, options)
     return lines
@@ -129,7 +152,9 @@ def costly_lines(cuts: Sequence[Cut], options: Options) -> List[str]:
     return lines
 
 
-def overlap_lines(found: Sequence[Overlap], cuts: Sequence[Cut], grid: float, greatest: float) -> List[str]:
+def overlap_lines(
+    found: Sequence[Overlap], cuts: Sequence[Cut], grid: float, greatest: float
+) -> List[str]:
     """A line for each two parts that overlap, with the first two pieces that do, and what it may come from."""
     pairs: Dict[Tuple[int, int], List[Overlap]] = {}
     for overlap in found:
@@ -139,8 +164,11 @@ def overlap_lines(found: Sequence[Overlap], cuts: Sequence[Cut], grid: float, gr
         one, other = cuts[a], cuts[b]
         depth = max(overlap.depth for overlap in some) * grid
         added = one.over + other.over + max(2 * grid, SIX_DIGITS * greatest)
-        line = f"parts {a} and {b} overlap in pieces {some[0].i} and {some[0].j}: {one.part.name} and {other.part.name}"
-        line += f", {short(depth)} deep" + (f" in {len(some)} pairs of pieces" if len(some) > 1 else "")
+        line = f"parts {a} and {b} overlap in pieces {some[0].i} and {some[0].j}: "
+        line += f"{one.part.name} and {other.part.name}"
+        line += f", {short(depth)} deep" + (
+            f" in {len(some)} pairs of pieces" if len(some) > 1 else ""
+        )
         if depth <= added:
             line += f", which cutting and rounding may have made; try --clearance={short(added)}"
         else:

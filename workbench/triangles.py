@@ -1,5 +1,7 @@
-"""Plane polygons with holes, cut into triangles between their own corners (ear clipping, Meisters 1975; holes by bridges,
-Eberly 2002)."""
+"""Plane polygons with holes, cut into triangles between their own corners.
+
+Ears are clipped (Meisters 1975), after holes were joined to what is around them by bridges (Eberly 2002).
+"""
 from __future__ import annotations
 
 from typing import List, Sequence, Tuple
@@ -32,7 +34,9 @@ def area(loop: Sequence[int], flat: Sequence[Flat]) -> float:
 
 
 def inside(point: Flat, one: Flat, two: Flat, three: Flat) -> bool:
-    return turn(one, two, point) >= 0 and turn(two, three, point) >= 0 and turn(three, one, point) >= 0
+    return (
+        turn(one, two, point) >= 0 and turn(two, three, point) >= 0 and turn(three, one, point) >= 0
+    )
 
 
 def crosses(a: Flat, b: Flat, c: Flat, d: Flat) -> bool:
@@ -53,12 +57,20 @@ def bridged(loops: Sequence[Sequence[int]], flat: Sequence[Flat]) -> List[int]:
         start = max(range(len(hole)), key=lambda place: flat[hole[place]])
         hole = hole[start:] + hole[:start]
         at = flat[hole[0]]
-        order = sorted(range(len(outer)), key=lambda place: numpy.hypot(*numpy.subtract(flat[outer[place]], at)))
-        walls = [(flat[a], flat[b]) for loop in [outer, hole, *holes] for a, b in zip(loop, loop[1:] + loop[:1])]
+        order = sorted(
+            range(len(outer)),
+            key=lambda place: numpy.hypot(*numpy.subtract(flat[outer[place]], at)),
+        )
+        walls = [
+            (flat[a], flat[b])
+            for loop in [outer, hole, *holes]
+            for a, b in zip(loop, loop[1:] + loop[:1])
+        ]
         place = next(
             place
             for place in order
-            if opens(outer, place, at, flat) and not any(crosses(at, flat[outer[place]], a, b) for a, b in walls)
+            if opens(outer, place, at, flat)
+            and not any(crosses(at, flat[outer[place]], a, b) for a, b in walls)
         )
         outer = outer[: place + 1] + hole + [hole[0]] + outer[place:]
     return outer
@@ -88,14 +100,18 @@ def clipped(loop: List[int], flat: Sequence[Flat]) -> List[List[int]]:
         if best is None:  # only corners in line are left, or rounded numbers mislead
             best = max(
                 range(len(loop)),
-                key=lambda place: turn(flat[loop[place - 1]], flat[loop[place]], flat[loop[(place + 1) % len(loop)]]),
+                key=lambda place: turn(
+                    flat[loop[place - 1]], flat[loop[place]], flat[loop[(place + 1) % len(loop)]]
+                ),
             )
         found.append([loop[best - 1], loop[best], loop[(best + 1) % len(loop)]])
         loop.pop(best)
     return found + [loop]
 
 
-def triangulated(points: numpy.ndarray, loops: Sequence[Sequence[int]], normal: numpy.ndarray) -> List[List[int]]:
+def triangulated(
+    points: numpy.ndarray, loops: Sequence[Sequence[int]], normal: numpy.ndarray
+) -> List[List[int]]:
     """Triangles, wound along the normal, of the plane region between an outer loop, the first, and its holes."""
     rows = [(float(x), float(y)) for x, y in flattened(points, normal)]
     return clipped(bridged(loops, rows), rows)

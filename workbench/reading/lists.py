@@ -27,8 +27,14 @@ def read_list(path: str) -> List[Listed]:
         raise Refusal(f"cannot read {path}: {fault.strerror or fault}") from fault
     except ValueError as fault:
         raise Refusal(f"{path}: not JSON ({fault})") from fault
-    if not isinstance(value, dict) or not isinstance(value.get("parts"), list) or not value["parts"]:
-        raise Refusal(f'{path}: no part list, which is an object with a member "parts", an array of parts')
+    if (
+        not isinstance(value, dict)
+        or not isinstance(value.get("parts"), list)
+        or not value["parts"]
+    ):
+        raise Refusal(
+            f'{path}: no part list, which is an object with a member "parts", an array of parts'
+        )
     known(path, "the list", value, ("parts",))
     return [listed(path, number, part) for number, part in enumerate(value["parts"])]
 
@@ -36,7 +42,9 @@ def read_list(path: str) -> List[Listed]:
 def known(path: str, where: str, value: Any, names: Tuple[str, ...]) -> None:
     for name in value:
         if name not in names:
-            raise Refusal(f'{path}: {where} has a member "{name}"; staat knows only {", ".join(names)}')
+            raise Refusal(
+                f'{path}: {where} has a member "{name}"; staat knows only {", ".join(names)}'
+            )
 
 
 def listed(path: str, number: int, part: Any) -> Listed:
@@ -46,12 +54,24 @@ def listed(path: str, number: int, part: Any) -> Listed:
     known(path, where, part, ("name", "pieces", "at"))
     name, pieces, at = part.get("name"), part.get("pieces"), part.get("at", [0, 0, 0])
     if not isinstance(name, str) or not name or any(ord(letter) < 32 for letter in name):
-        raise Refusal(f'{path}: the "name" of {where} is no text, or has a line end or the like in it')
-    if not isinstance(pieces, list) or not pieces or not all(isinstance(file, str) and file for file in pieces):
+        raise Refusal(
+            f'{path}: the "name" of {where} is no text, or has a line end or the like in it'
+        )
+    if (
+        not isinstance(pieces, list)
+        or not pieces
+        or not all(isinstance(file, str) and file for file in pieces)
+    ):
         raise Refusal(f'{path}: the "pieces" of {where} are no array of names of files')
-    whole = isinstance(at, list) and len(at) == 3 and all(type(n) is int and abs(n) <= GREATEST for n in at)
+    whole = (
+        isinstance(at, list)
+        and len(at) == 3
+        and all(type(n) is int and abs(n) <= GREATEST for n in at)
+    )
     if not whole:
-        raise Refusal(f'{path}: the "at" of {where} is no array of three whole numbers up to {GREATEST}')
+        raise Refusal(
+            f'{path}: the "at" of {where} is no array of three whole numbers up to {GREATEST}'
+        )
     return Listed(name, [found(path, file) for file in pieces], (at[0], at[1], at[2]))
 
 

@@ -37,7 +37,9 @@ def from_3mf(data: bytes) -> Tuple[List[Mesh], str]:
 def from_stl(data: bytes) -> List[Mesh]:
     solids = re.findall(rb"(?m)^\s*solid\b", data) if data.lstrip().startswith(b"solid") else []
     if len(solids) > 1 and b"facet" in data:
-        return [mesh for mesh in map(one_solid, re.split(rb"(?m)^(?=\s*solid\b)", data)) if mesh.faces]
+        return [
+            mesh for mesh in map(one_solid, re.split(rb"(?m)^(?=\s*solid\b)", data)) if mesh.faces
+        ]
     return [by_meshio("stl", data)]
 
 
@@ -77,16 +79,24 @@ def checked(points: Any, faces: List[List[int]], name: str = "") -> Mesh:
     faces = [face for face in faces if len(face)]
     if not faces:
         raise Refusal("no faces")
-    rows = numpy.array([list(point[:3]) for point in points if len(point) >= 3], float).reshape(-1, 3)
+    rows = numpy.array([list(point[:3]) for point in points if len(point) >= 3], float).reshape(
+        -1, 3
+    )
     if len(rows) < len(points) or not numpy.isfinite(rows).all():
         raise Refusal("a point has no three finite coordinates")
-    least, most = min(map(min, faces)), max(map(max, faces))
+    least, most = min(min(face) for face in faces), max(max(face) for face in faces)
     if least < 0 or most >= len(rows):
-        raise Refusal(f"a face names point {least if least < 0 else most}, and there is no such point")
+        raise Refusal(
+            f"a face names point {least if least < 0 else most}, and there is no such point"
+        )
     return Mesh(rows, faces, name)
 
 
-READERS: Dict[str, Callable[[bytes], List[Mesh]]] = {".stl": from_stl, ".obj": from_obj, ".ply": from_ply}
+READERS: Dict[str, Callable[[bytes], List[Mesh]]] = {
+    ".stl": from_stl,
+    ".obj": from_obj,
+    ".ply": from_ply,
+}
 
 
 def read_meshes(path: str) -> Tuple[List[Mesh], str]:
@@ -102,6 +112,9 @@ def read_meshes(path: str) -> Tuple[List[Mesh], str]:
         raise Refusal(f"{path}: {fault}") from fault
     except OSError as fault:
         raise Refusal(f"cannot read {path}: {fault.strerror or fault}") from fault
-    except (Exception, SystemExit) as fault:  # meshio answers a bad file by exceptions of many kinds
+    except (
+        Exception,
+        SystemExit,
+    ) as fault:  # meshio answers a bad file by exceptions of many kinds
         cause = " ".join([type(fault).__name__, *str(fault).split()])[:200]
         raise Refusal(f"{path}: no mesh that can be read ({cause})") from fault

@@ -26,7 +26,9 @@ def read_obj(data: bytes) -> Named:
             if words[0] == "v":
                 points.append([float(word) for word in words[1:4]])
             elif words[0] == "f":
-                faces.setdefault(name, []).append([corner_of(word, len(points)) for word in words[1:]])
+                faces.setdefault(name, []).append(
+                    [corner_of(word, len(points)) for word in words[1:]]
+                )
             elif words[0] in ("o", "g"):
                 name = " ".join(words[1:])
         except ValueError as fault:

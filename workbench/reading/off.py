@@ -1,4 +1,4 @@
-"""Geomview's Object File Format in the variants that are met: a header with a prefix or none, in braces, with colours."""
+"""Geomview's Object File Format in the variants that are met: any header or none, in braces, with colours."""
 from __future__ import annotations
 
 import re
@@ -21,11 +21,16 @@ def read_off(data: bytes) -> Rows:
         raise Refusal("no counts behind the header")
     many_points, many_faces = int(counts.group(1)), int(counts.group(2))
     try:
-        points, lines = points_of(text[counts.end() :], prefix, many_points)
+        behind = counts.end()
+        points, lines = points_of(text[behind:], prefix, many_points)
         faces = [face_of(line, number) for number, line in enumerate(lines[:many_faces])]
     except (AttributeError, ValueError, IndexError) as fault:
         raise Refusal("a number is missing or is none") from fault
-    if len(points) < many_points or len(faces) < many_faces or any(len(point) < 3 for point in points):
+    if (
+        len(points) < many_points
+        or len(faces) < many_faces
+        or any(len(point) < 3 for point in points)
+    ):
         raise Refusal("the file ends too early")
     return points, faces
 
@@ -40,9 +45,10 @@ def header_of(text: str) -> Tuple[str, str]:
     prefix, four, many = header.groups()
     if four or many:
         raise Refusal("points of other than three coordinates")
-    if re.match(r"\s*BINARY", text[header.end() :]):
+    behind = header.end()
+    if re.match(r"\s*BINARY", text[behind:]):
         raise Refusal("binary OFF is not read; export it as text, or as STL, OBJ or PLY")
-    return prefix, text[header.end() :]
+    return prefix, text[behind:]
 
 
 def points_of(text: str, prefix: str, many: int) -> Tuple[List[List[float]], List[str]]:
@@ -62,7 +68,8 @@ def points_of(text: str, prefix: str, many: int) -> Tuple[List[List[float]], Lis
 
 def face_of(line: str, number: int) -> List[int]:
     words = line.split()
-    corners = [int(word) for word in words[1 : 1 + int(words[0])]]
+    end = 1 + int(words[0])
+    corners = [int(word) for word in words[1:end]]
     if len(corners) != int(words[0]):
         raise Refusal(f"face {number} has fewer corners than it says")
     return corners

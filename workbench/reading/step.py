@@ -1,7 +1,7 @@
 """STEP (and IGES and BREP) by gmsh, which reads it with OpenCASCADE: solids with names, places and units.
 
-What gmsh calls a surface or curve is not asked; what points of it lie on is fitted. Traps of gmsh 4.8: boxes are those of
-control points, so extents come from points of edges; cylinders may be splines, in halves.
+What gmsh calls a surface or curve is not asked; what points of it lie on is fitted. Traps of gmsh 4.8: boxes are those
+of control points, so extents come from points of edges; cylinders may be splines, in halves.
 """
 from __future__ import annotations
 
@@ -68,7 +68,9 @@ def read_step(path: str) -> Drawn:
             gmsh.model.occ.synchronize()
     except Exception as fault:  # gmsh raises exceptions of no type of its own
         cause = " ".join(str(fault).split())[:200]
-        raise Refusal(f"{path}: OpenCASCADE cannot read it ({cause}); export it again, as STEP AP214") from fault
+        raise Refusal(
+            f"{path}: OpenCASCADE cannot read it ({cause}); export it again, as STEP AP214"
+        ) from fault
     drawn = Drawn(unit=told)
     tags = [tag for _, tag in gmsh.model.getEntities(3) if tag not in before]
     names = short_names([gmsh.model.getEntityName(3, tag) for tag in tags])
@@ -76,7 +78,9 @@ def read_step(path: str) -> Drawn:
     for tag, name in zip(tags, names):
         drawn.bodies.append(reader.body(tag, name))
     if not drawn.bodies:
-        raise Refusal(f"{path}: no solids; surfaces alone bound nothing: sew them to solids and export again")
+        raise Refusal(
+            f"{path}: no solids; surfaces alone bound nothing: sew them to solids and export again"
+        )
     return drawn
 
 
@@ -120,7 +124,10 @@ def short_names(paths: List[str]) -> List[str]:
         rows.append([word for word in found if word] or [NAMELESS])
     while len(rows) > 1 and min(map(len, rows)) > 1 and len({row[0] for row in rows}) == 1:
         rows = [row[1:] for row in rows]
-    return ["/".join("".join(letter for letter in word if ord(letter) >= 32) for word in row) for row in rows]
+    return [
+        "/".join("".join(letter for letter in word if ord(letter) >= 32) for word in row)
+        for row in rows
+    ]
 
 
 def paired(words: List[str]) -> List[str]:

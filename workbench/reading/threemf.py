@@ -11,7 +11,14 @@ import numpy
 
 from ..solid import Mesh, Refusal
 
-UNITS = {"micron": "µm", "millimeter": "mm", "centimeter": "cm", "inch": "inch", "foot": "foot", "meter": "m"}
+UNITS = {
+    "micron": "µm",
+    "millimeter": "mm",
+    "centimeter": "cm",
+    "inch": "inch",
+    "foot": "foot",
+    "meter": "m",
+}
 
 
 @dataclass
@@ -37,10 +44,14 @@ def read_3mf(data: bytes) -> Tuple[List[Mesh], str]:
     things: Dict[str, Thing] = {}
     meshes: List[Mesh] = []
     for root in roots:
-        things.update({child.attrib["id"]: thing_of(child) for child in children(root, "resources", "object")})
+        things.update(
+            {child.attrib["id"]: thing_of(child) for child in children(root, "resources", "object")}
+        )
     for root in roots:
         for item in children(root, "build", "item"):
-            meshes += placed(things, item.attrib["objectid"], turn_of(item.attrib.get("transform")), "", 0)
+            meshes += placed(
+                things, item.attrib["objectid"], turn_of(item.attrib.get("transform")), "", 0
+            )
     return meshes, UNITS.get(roots[0].attrib.get("unit", "millimeter"), "")
 
 
@@ -74,7 +85,9 @@ def turn_of(text: Optional[str]) -> numpy.ndarray:
     return numpy.array([float(word) for word in text.split()]).reshape(4, 3)
 
 
-def placed(things: Dict[str, Thing], key: str, turn: numpy.ndarray, above: str, depth: int) -> List[Mesh]:
+def placed(
+    things: Dict[str, Thing], key: str, turn: numpy.ndarray, above: str, depth: int
+) -> List[Mesh]:
     """The meshes of an object and of what it is made of."""
     if key not in things or depth > 32:
         raise Refusal(f"object {key} is named and is not there")
@@ -83,7 +96,9 @@ def placed(things: Dict[str, Thing], key: str, turn: numpy.ndarray, above: str, 
     meshes = []
     if thing.faces:
         points = numpy.array(thing.points, float).reshape(-1, 3) @ turn[:3] + turn[3]
-        faces = thing.faces if numpy.linalg.det(turn[:3]) > 0 else [face[::-1] for face in thing.faces]
+        faces = (
+            thing.faces if numpy.linalg.det(turn[:3]) > 0 else [face[::-1] for face in thing.faces]
+        )
         meshes.append(Mesh(points, [list(face) for face in faces], name))
     for member, place in thing.members:
         joined = numpy.vstack([place[:3] @ turn[:3], place[3] @ turn[:3] + turn[3]])

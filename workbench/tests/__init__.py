@@ -3,6 +3,6 @@
 /usr/bin/python3 -m unittest discover workbench
 /usr/bin/python3 -m unittest discover -t . workbench/tests/quick
 
-Where there is a built planner (bin/staat, or that of the variable STAAT), `staat look` judges what is written. Tests for
-which a package is missing are passed over.
+Where there is a built planner (bin/staat, or that of the variable STAAT), `staat look` judges what is written. Tests
+for which a package is missing are passed over.
 """

@@ -28,14 +28,18 @@ Faces = List[List[int]]
 # An angle: a square prism with a corner cut out.
 ANGLE = [[0, 0], [2, 0], [2, 1], [1, 1], [1, 2], [0, 2]]
 ANGLE_POINTS: Rows = [[x, y, z] for z in (0, 1) for x, y in ANGLE]
-ANGLE_FACES = [[5, 4, 3, 2, 1, 0], [6, 7, 8, 9, 10, 11]] + [[k, (k + 1) % 6, (k + 1) % 6 + 6, k + 6] for k in range(6)]
+ANGLE_FACES = [[5, 4, 3, 2, 1, 0], [6, 7, 8, 9, 10, 11]] + [
+    [k, (k + 1) % 6, (k + 1) % 6 + 6, k + 6] for k in range(6)
+]
 
 
 def corners(low: Sequence[float], high: Sequence[float]) -> Rows:
     return [list(point) for point in itertools.product(*zip(low, high))]
 
 
-def off(points: Sequence[Sequence[float]], faces: Faces, header: str = "OFF\n", tail: str = "") -> str:
+def off(
+    points: Sequence[Sequence[float]], faces: Faces, header: str = "OFF\n", tail: str = ""
+) -> str:
     rows = [" ".join(map(str, point)) for point in points]
     rows += [" ".join(map(str, [len(face), *face])) + tail for face in faces]
     return f"{header}{len(points)} {len(faces)} 0\n" + "\n".join(rows) + "\n"
@@ -113,11 +117,18 @@ class Case(unittest.TestCase):
         if built is None:
             self.skipTest("no built planner")
         return subprocess.run(
-            [built, *words, "--manifest=parts.json"], cwd=self.path("out"), capture_output=True, text=True, check=False
+            [built, *words, "--manifest=parts.json"],
+            cwd=self.path("out"),
+            capture_output=True,
+            text=True,
+            check=False,
         )
 
     def parts(self) -> Dict[str, List[List[Point]]]:
-        return {name: [sorted(map(tuple, piece.points.tolist())) for piece in some] for name, some in self.pieces()}
+        found: Dict[str, List[List[Point]]] = {}
+        for name, some in self.pieces():
+            found[name] = [sorted((x, y, z) for x, y, z in piece.points.tolist()) for piece in some]
+        return found
 
     def pieces(self) -> List[Tuple[str, List[Piece]]]:
         with open(self.path("out/parts.json")) as file:

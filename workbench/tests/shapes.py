@@ -11,10 +11,14 @@ from workbench.closing import Shell, holds
 from workbench.reading import step
 from workbench.solid import Mesh, Piece
 
-Distance = Callable[[numpy.ndarray], numpy.ndarray]  # points (n, 3) to distances from a solid (n,), 0 within
+Distance = Callable[
+    [numpy.ndarray], numpy.ndarray
+]  # points (n, 3) to distances from a solid (n,), 0 within
 
 
-def write_step(path: str, make: Callable[[Any], None], names: Sequence[str] = (), unit: Optional[str] = None) -> str:
+def write_step(
+    path: str, make: Callable[[Any], None], names: Sequence[str] = (), unit: Optional[str] = None
+) -> str:
     """Writes what `make` builds by gmsh's `occ` as STEP, its solids with these names, in that unit."""
     gmsh = step.start()
     gmsh.clear()
@@ -37,7 +41,9 @@ def write_step(path: str, make: Callable[[Any], None], names: Sequence[str] = ()
 
     text = re.sub(r"PRODUCT\('([^']*)',\s*'[^']*'", name, text)
     if unit == "inch":
-        length = re.compile(r"#(\d+) = \( LENGTH_UNIT\(\) NAMED_UNIT\(\*\) SI_UNIT\(\.MILLI\.,\.METRE\.\) \);")
+        length = re.compile(
+            r"#(\d+) = \( LENGTH_UNIT\(\) NAMED_UNIT\(\*\) SI_UNIT\(\.MILLI\.,\.METRE\.\) \);"
+        )
         number = max(int(key) for key in re.findall(r"#(\d+) =", text)) + 1
 
         def inches(match: "re.Match[str]") -> str:
@@ -59,17 +65,23 @@ def write_step(path: str, make: Callable[[Any], None], names: Sequence[str] = ()
 
 def box_distance(low: Sequence[float], high: Sequence[float]) -> Distance:
     def distance(points: numpy.ndarray) -> numpy.ndarray:
-        return numpy.linalg.norm(numpy.maximum(0, numpy.maximum(low - points, points - high)), axis=1)
+        return numpy.linalg.norm(
+            numpy.maximum(0, numpy.maximum(low - points, points - high)), axis=1
+        )
 
     return distance
 
 
-def rod_distance(radius: float, low: float, high: float, x: float = 0.0, y: float = 0.0) -> Distance:
+def rod_distance(
+    radius: float, low: float, high: float, x: float = 0.0, y: float = 0.0
+) -> Distance:
     """An upright cylinder."""
 
     def distance(points: numpy.ndarray) -> numpy.ndarray:
         out = numpy.maximum(0, numpy.hypot(points[:, 0] - x, points[:, 1] - y) - radius)
-        return numpy.hypot(out, numpy.maximum(0, numpy.maximum(low - points[:, 2], points[:, 2] - high)))
+        return numpy.hypot(
+            out, numpy.maximum(0, numpy.maximum(low - points[:, 2], points[:, 2] - high))
+        )
 
     return distance
 
@@ -78,7 +90,9 @@ def bored_distance(outer: Distance, radius: float, x: float = 0.0, y: float = 0.
     """A solid through which an upright bore goes, well within it; good near the bore and outside of the solid."""
 
     def distance(points: numpy.ndarray) -> numpy.ndarray:
-        return numpy.maximum(outer(points), radius - numpy.hypot(points[:, 0] - x, points[:, 1] - y))
+        return numpy.maximum(
+            outer(points), radius - numpy.hypot(points[:, 0] - x, points[:, 1] - y)
+        )
 
     return distance
 
@@ -95,24 +109,32 @@ def ring_distance(centre: Sequence[float], radius: float, tube: float) -> Distan
 
     def distance(points: numpy.ndarray) -> numpy.ndarray:
         rows = points - numpy.array(centre)
-        return numpy.maximum(0, numpy.hypot(numpy.hypot(rows[:, 0], rows[:, 1]) - radius, rows[:, 2]) - tube)
+        return numpy.maximum(
+            0, numpy.hypot(numpy.hypot(rows[:, 0], rows[:, 1]) - radius, rows[:, 2]) - tube
+        )
 
     return distance
 
 
-def cone_distance(base: float, top: float, height: float, x: float = 0.0, y: float = 0.0) -> Distance:
+def cone_distance(
+    base: float, top: float, height: float, x: float = 0.0, y: float = 0.0
+) -> Distance:
     """An upright frustum from z = 0; a lower bound of the distance beyond its rims."""
 
     def distance(points: numpy.ndarray) -> numpy.ndarray:
         radial = numpy.hypot(points[:, 0] - x, points[:, 1] - y)
         length = numpy.hypot(base - top, height)
         out = ((radial - base) * height + points[:, 2] * (base - top)) / length
-        return numpy.maximum(0, numpy.maximum(out, numpy.maximum(-points[:, 2], points[:, 2] - height)))
+        return numpy.maximum(
+            0, numpy.maximum(out, numpy.maximum(-points[:, 2], points[:, 2] - height))
+        )
 
     return distance
 
 
-def random_points(pieces: Sequence[Piece], grid: float, draw: numpy.random.Generator, many: int) -> numpy.ndarray:
+def random_points(
+    pieces: Sequence[Piece], grid: float, draw: numpy.random.Generator, many: int
+) -> numpy.ndarray:
     """Points of pieces, in model units: corners, and mixtures of corners."""
     rows = []
     for piece in pieces:
@@ -149,13 +171,19 @@ def triangle_distances(points: numpy.ndarray, triangle: numpy.ndarray) -> numpy.
         inside = numpy.ones(len(points), bool)
         for a, b in ((one, two), (two, three), (three, one)):
             inside &= (points - a) @ numpy.cross(normal, b - a) >= 0
-        far = numpy.where(inside, numpy.minimum(far, numpy.abs((points - one) @ normal) / size), far)
+        far = numpy.where(
+            inside, numpy.minimum(far, numpy.abs((points - one) @ normal) / size), far
+        )
     return far
 
 
 def mesh_distance(mesh: Mesh) -> Distance:
     """The distance from the solid in a closed mesh."""
-    triangles = [mesh.points[[face[0], face[k], face[k + 1]]] for face in mesh.faces for k in range(1, len(face) - 1)]
+    triangles = [
+        mesh.points[[face[0], face[k], face[k + 1]]]
+        for face in mesh.faces
+        for k in range(1, len(face) - 1)
+    ]
 
     def distance(points: numpy.ndarray) -> numpy.ndarray:
         far = numpy.full(len(points), numpy.inf)
@@ -170,7 +198,11 @@ def mesh_distance(mesh: Mesh) -> Distance:
 def mesh_points(mesh: Mesh, draw: numpy.random.Generator, many: int) -> numpy.ndarray:
     """Points of the surface of a mesh: its corners, and points of its triangles."""
     triangles = numpy.array(
-        [mesh.points[[face[0], face[k], face[k + 1]]] for face in mesh.faces for k in range(1, len(face) - 1)]
+        [
+            mesh.points[[face[0], face[k], face[k + 1]]]
+            for face in mesh.faces
+            for k in range(1, len(face) - 1)
+        ]
     )
     chosen = triangles[draw.integers(len(triangles), size=many)]
     weights = draw.dirichlet((1, 1, 1), many)

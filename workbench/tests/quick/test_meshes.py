@@ -18,7 +18,18 @@ from workbench import hulls, planner
 from workbench.grids import finest
 from workbench.hulls import Point
 from workbench.solid import GREATEST
-from workbench.tests.kit import ANGLE_FACES, ANGLE_POINTS, SIDES, STL, TOP, Case, both, corners, off, turned
+from workbench.tests.kit import (
+    ANGLE_FACES,
+    ANGLE_POINTS,
+    SIDES,
+    STL,
+    TOP,
+    Case,
+    both,
+    corners,
+    off,
+    turned,
+)
 
 try:
     import meshio
@@ -32,7 +43,9 @@ class Formats(Case):
     def setUp(self) -> None:
         super().setUp()
         self.points = corners([0, 0, 0], [1.5, 2, 0.25])
-        self.want = {"cube": [sorted((x, y, z) for x in (0, 150) for y in (0, 200) for z in (0, 25))]}
+        self.want = {
+            "cube": [sorted((x, y, z) for x in (0, 150) for y in (0, 200) for z in (0, 25))]
+        }
         self.triangles = [part for a, b, c, d in SIDES for part in ([a, b, c], [a, c, d])]
 
     def test_texts(self) -> None:
@@ -45,7 +58,9 @@ class Formats(Case):
             "d/cube.off": off(coloured, SIDES, header="COFF\n"),
             "e/cube.off": "{ appearance { +edge }\n{ " + off(points, SIDES, tail=" 7") + "} }\n",
             "f/cube.obj": "".join(f"v {x} {y} {z}\n" for x, y, z in points)
-            + "".join("f " + " ".join(f"{corner + 1}//1" for corner in face) + "\n" for face in SIDES),
+            + "".join(
+                "f " + " ".join(f"{corner + 1}//1" for corner in face) + "\n" for face in SIDES
+            ),
         }
         for name, text in texts.items():
             with self.subTest(name):
@@ -62,10 +77,12 @@ class Formats(Case):
         ):
             with self.subTest(name):
                 os.makedirs(os.path.dirname(self.path(name)))
-                with contextlib.redirect_stdout(io.StringIO()), contextlib.redirect_stderr(io.StringIO()):
-                    meshio.Mesh(numpy.array(self.points, float), [("triangle", self.triangles)]).write(
-                        self.path(name), **options
-                    )
+                with contextlib.redirect_stdout(io.StringIO()), contextlib.redirect_stderr(
+                    io.StringIO()
+                ):
+                    meshio.Mesh(
+                        numpy.array(self.points, float), [("triangle", self.triangles)]
+                    ).write(self.path(name), **options)
                 self.assertEqual(self.accepted(self.path(name), "--grid=0.01"), self.want)
 
     def test_obj_of_freecad_and_blender(self) -> None:
@@ -73,28 +90,44 @@ class Formats(Case):
         points = "".join(f"v {x} {y} {z}\n" for x, y, z in self.points)
         normals = "vn 0 0 1\nvn 0 0 -1\n"
         freecad = "# Created by FreeCAD <http://www.freecadweb.org>\ng Box\n" + points + normals
-        freecad += "".join("f " + " ".join(f"{corner + 1}//2" for corner in face) + " \n" for face in self.triangles)
-        blender = "# Blender v3.4.1 OBJ File: ''\n# www.blender.org\nmtllib cube.mtl\no Cube\n" + points
+        freecad += "".join(
+            "f " + " ".join(f"{corner + 1}//2" for corner in face) + " \n"
+            for face in self.triangles
+        )
+        blender = (
+            "# Blender v3.4.1 OBJ File: ''\n# www.blender.org\nmtllib cube.mtl\no Cube\n" + points
+        )
         blender += "vt 0.625 0.5\nvt 0.875 0.5\n" + normals + "usemtl Material\ns off\n"
-        blender += "".join("f " + " ".join(f"{corner + 1}/2/1" for corner in face) + "\n" for face in SIDES)
-        back = points + "".join("f " + " ".join(f"{corner - 8}/1" for corner in face) + "\n" for face in SIDES)
+        blender += "".join(
+            "f " + " ".join(f"{corner + 1}/2/1" for corner in face) + "\n" for face in SIDES
+        )
+        back = points + "".join(
+            "f " + " ".join(f"{corner - 8}/1" for corner in face) + "\n" for face in SIDES
+        )
         for name, text in (("a/cube.obj", freecad), ("b/cube.obj", blender), ("c/cube.obj", back)):
             with self.subTest(name):
                 self.assertEqual(self.accepted(self.write(name, text), "--grid=0.01"), self.want)
-        self.refused("line 9: a corner has the number 0", self.write("d/cube.obj", points + "f 0 1 2\n"))
+        self.refused(
+            "line 9: a corner has the number 0", self.write("d/cube.obj", points + "f 0 1 2\n")
+        )
 
     def test_groups_are_names(self) -> None:
         text = ""
         for number, (name, low) in enumerate((("base plate", 0), ("lid", 1))):
-            text += f"o {name}\n" + "".join(f"v {x} {y} {z}\n" for x, y, z in corners([0, 0, low], [1, 1, low + 1]))
-            text += "".join("f " + " ".join(str(k + 1 + 8 * number) for k in face) + "\n" for face in SIDES)
+            text += f"o {name}\n" + "".join(
+                f"v {x} {y} {z}\n" for x, y, z in corners([0, 0, low], [1, 1, low + 1])
+            )
+            text += "".join(
+                "f " + " ".join(str(k + 1 + 8 * number) for k in face) + "\n" for face in SIDES
+            )
         name = self.write("box.obj", text)
         self.assertEqual(sorted(self.accepted(name)), ["base plate", "lid"])
         self.assertEqual(list(self.accepted(name, "--each=file")), ["box"])
         # Groups that part one closed surface name no parts.
         points = "".join(f"v {x} {y} {z}\n" for x, y, z in corners([0, 0, 0], [1, 1, 1]))
         sides = "".join(
-            f"g side{k}\nf " + " ".join(str(corner + 1) for corner in face) + "\n" for k, face in enumerate(SIDES)
+            f"g side{k}\nf " + " ".join(str(corner + 1) for corner in face) + "\n"
+            for k, face in enumerate(SIDES)
         )
         self.assertEqual(list(self.accepted(self.write("cube.obj", points + sides))), ["cube"])
 
@@ -104,7 +137,9 @@ class Formats(Case):
         thing = f'<object id="1" name="cube" type="model"><mesh><vertices>{vertices}</vertices>'
         thing += f"<triangles>{triangles}</triangles></mesh></object>"
         pair = '<object id="2" name="pair"><components><component objectid="1"/>'
-        pair += '<component objectid="1" transform="1 0 0 0 1 0 0 0 1 0 0 5"/></components></object>'
+        pair += (
+            '<component objectid="1" transform="1 0 0 0 1 0 0 0 1 0 0 5"/></components></object>'
+        )
         core = 'xmlns="http://schemas.microsoft.com/3dmanufacturing/core/2015/02"'
         for name, item, want in (
             ("a/cube.3mf", '<item objectid="1"/>', self.want),
@@ -122,7 +157,9 @@ class Formats(Case):
             if want:
                 self.assertEqual(found, want)
             else:
-                self.assertEqual(sorted(row[0][2] for rows in found.values() for row in rows), [100, 600])
+                self.assertEqual(
+                    sorted(row[0][2] for rows in found.values() for row in rows), [100, 600]
+                )
         self.refused("no 3MF archive", self.write("c.3mf", "a text"))
 
     def test_several_solids_of_a_text_stl(self) -> None:
@@ -131,7 +168,10 @@ class Formats(Case):
             text = f"solid {name}\n"
             for face in self.triangles:
                 text += "facet normal 0 0 0\nouter loop\n"
-                text += "".join("vertex {} {} {}\n".format(*rows[corner]) for corner in face) + "endloop\nendfacet\n"
+                text += (
+                    "".join("vertex {} {} {}\n".format(*rows[corner]) for corner in face)
+                    + "endloop\nendfacet\n"
+                )
             return text + f"endsolid {name}\n"
 
         name = self.write("two.stl", solid("base", 0) + solid("lid", 1))
@@ -140,7 +180,9 @@ class Formats(Case):
 
 class Meshes(Case):
     def test_finest_grid(self) -> None:
-        status, out, _ = self.run_tool(self.write("cube.off", off(corners([0, 0, 0], [1, 1, 262.144]), SIDES)))
+        status, out, _ = self.run_tool(
+            self.write("cube.off", off(corners([0, 0, 0], [1, 1, 262.144]), SIDES))
+        )
         self.assertEqual((status, out.split("\n")[0]), (0, "grid 0.001"))
         self.assertIn((1000, 1000, 262144), self.parts()["cube"][0])
         self.assertEqual(finest(262.145), Fraction(2, 1000))
@@ -149,7 +191,9 @@ class Meshes(Case):
     def test_bounds_are_told(self) -> None:
         points = corners([0, 0, 0], [1, 1, 1])
         points[7] = [1, 1, 1.25]
-        status, out, _ = self.run_tool(self.write("cube.off", off(points, SIDES)), "--grid=1", "--tolerance=0.3")
+        status, out, _ = self.run_tool(
+            self.write("cube.off", off(points, SIDES)), "--grid=1", "--tolerance=0.3"
+        )
         self.assertEqual(status, 0)
         over, under = self.bounds()["cube"]
         # The corner that was rounded down by 0.25 lies outside of what is written.
@@ -160,16 +204,25 @@ class Meshes(Case):
     def test_solids(self) -> None:
         two = both((corners([0, 0, 0], [1, 1, 1]), SIDES), (corners([1, 0, 0], [2, 1, 1]), SIDES))
         name = self.write("two.off", off(*two))
-        self.assertEqual({part: len(some) for part, some in self.accepted(name).items()}, {"two": 2})
+        self.assertEqual(
+            {part: len(some) for part, some in self.accepted(name).items()}, {"two": 2}
+        )
         self.assertEqual(sorted(self.accepted(name, "--each=solid")), ["two-0", "two-1"])
         shutil.rmtree(self.path("out"))
-        outer, inner = (corners([0, 0, 0], [3, 3, 3]), SIDES), (corners([1, 1, 1], [2, 2, 2]), SIDES)
-        self.refused("solid 1 lies inside solid 0", self.write("hollow.off", off(*both(outer, inner))))
+        outer, inner = (corners([0, 0, 0], [3, 3, 3]), SIDES), (
+            corners([1, 1, 1], [2, 2, 2]),
+            SIDES,
+        )
+        self.refused(
+            "solid 1 lies inside solid 0", self.write("hollow.off", off(*both(outer, inner)))
+        )
         # A hollow space is wound inwards, and is kept free.
         inwards = (inner[0], [face[::-1] for face in SIDES])
         for space in (inwards, inner):
             other = [face[::-1] for face in SIDES] if space is inner else SIDES
-            some = self.run_tool(self.write("hollow.off", off(*both((outer[0], other), space))), "--grid=1")
+            some = self.run_tool(
+                self.write("hollow.off", off(*both((outer[0], other), space))), "--grid=1"
+            )
             if some[0] == 0:
                 volume = sum(abs(hull_volume(points)) for points in self.parts()["hollow"])
                 self.assertAlmostEqual(volume, 26)
@@ -183,7 +236,9 @@ class Meshes(Case):
         lid = self.write("lid.off", off(corners([0, 0, 1], [2, 1, 2]), SIDES))
         again = self.write("again/lid.off", off(corners([0, 0, 2], [2, 1, 3]), SIDES))
         parts = self.accepted(self.path("box"), lid, again, "--grid=1")
-        self.assertEqual({name: len(some) for name, some in parts.items()}, {"box": 2, "lid": 1, "lid-2": 1})
+        self.assertEqual(
+            {name: len(some) for name, some in parts.items()}, {"box": 2, "lid": 1, "lid-2": 1}
+        )
         self.assertEqual(parts["box"][0][0], (1, 0, 0))
 
     def test_repeated_points_and_split_edges(self) -> None:
@@ -203,7 +258,11 @@ class Meshes(Case):
 
     def test_more_corners_than_a_piece_has(self) -> None:
         """A rounder solid is cut in two."""
-        ring = [[math.cos(k / 20 * math.pi), math.sin(k / 20 * math.pi), z] for z in (0, 1) for k in range(40)]
+        ring = [
+            [math.cos(k / 20 * math.pi), math.sin(k / 20 * math.pi), z]
+            for z in (0, 1)
+            for k in range(40)
+        ]
         sides = [list(range(40)), list(range(40, 80))]
         sides += [[k, (k + 1) % 40, (k + 1) % 40 + 40, k + 40] for k in range(40)]
         parts = self.accepted(self.write("round.off", off(ring, sides)))
@@ -249,26 +308,29 @@ class Meshes(Case):
     def test_inputs_are_kept(self) -> None:
         name = self.write("out/cube.off", off(corners([0, 0, 0], [1, 1, 1]), SIDES))
         status, _, err = self.run_tool(name)
-        self.assertEqual((status, "is read" in err, os.listdir(self.path("out"))), (3, True, ["cube.off"]))
+        self.assertEqual(
+            (status, "is read" in err, os.listdir(self.path("out"))), (3, True, ["cube.off"])
+        )
 
     def test_overlap_by_rounding(self) -> None:
         """Slanted walls that touch come to overlap where they are rounded; then a piece gives way, which is told."""
         gave_way = 0
+        blocks = {
+            "plate": ((0.0, 0.0, 0.0), (30.0, 20.0, 0.4)),
+            "block": ((0.0, 0.0, 0.4), (30.0, 20.0, 7.0)),
+            "rest": ((30.0, 0.0, 0.0), (37.0, 20.0, 7.0)),
+        }
         for degrees in (11, 23, 30, 37, 41):
             names = [
                 self.write(f"{name}.off", off(turned(corners(low, high), degrees), SIDES))
-                for name, low, high in (
-                    ("plate", [0, 0, 0], [30, 20, 0.4]),
-                    ("block", [0, 0, 0.4], [30, 20, 7]),
-                    ("rest", [30, 0, 0], [37, 20, 7]),
-                )
+                for name, (low, high) in blocks.items()
             ]
             self.accepted(*names, "--grid=0.01")
             gave_way += self.run_tool(*names, "--grid=0.01")[1].count("gave way")
         self.assertGreater(gave_way, 0)
 
     def test_clearance(self) -> None:
-        """Parts that overlap as drawn, as in a press fit, give way by no more than they may, and only where they meet."""
+        """Parts that overlap as drawn, as in a press fit, give way by no more than they may, where they meet."""
         block = self.write("block.off", off(corners([0, 0, 0], [10, 10, 10]), SIDES))
         pin = self.write("pin.off", off(corners([9.9, 4, 4], [15, 6, 6]), SIDES))
         thin = self.write("thin.off", off(corners([0, 20, 0], [10, 20.01, 10]), SIDES))
@@ -291,15 +353,21 @@ class Meshes(Case):
         ]
         status, out, _ = self.run_tool(*names)
         self.assertEqual(status, 1)
-        self.assertIn("parts 0 and 1 overlap in pieces 0 and 0: a and b, 0.5 deep; correct the model", out)
+        self.assertIn(
+            "parts 0 and 1 overlap in pieces 0 and 0: a and b, 0.5 deep; correct the model", out
+        )
         self.assertIn("became polygons that differ", out)
 
     def test_same_solids_are_cut_once(self) -> None:
-        angle = both(*(([[x + 3 * k, y, z] for x, y, z in ANGLE_POINTS], ANGLE_FACES) for k in range(3)))
+        angle = both(
+            *(([[x + 3 * k, y, z] for x, y, z in ANGLE_POINTS], ANGLE_FACES) for k in range(3))
+        )
         parts = self.accepted(self.write("row.off", off(*angle)), "--each=solid", "--grid=1")
         first = parts["row-0"]
         for number, name in enumerate(("row-0", "row-1", "row-2")):
-            self.assertEqual(parts[name], [[(x + 3 * number, y, z) for x, y, z in some] for some in first])
+            self.assertEqual(
+                parts[name], [[(x + 3 * number, y, z) for x, y, z in some] for some in first]
+            )
 
 
 def hull_volume(points: list[Point]) -> float:
@@ -341,11 +409,19 @@ class Lists(Case):
         self.write("lists/cube.off", off(corners([0, 0, 0], [1, 1, 1]), SIDES))
         text = '{"parts":[{"name":"a","pieces":["cube.off"]},{"name":"b","pieces":["cube.off"],"at":[1,0,0]}]}'
         parts = self.accepted(self.write("lists/parts.json", text), "--grid=1")
-        self.assertEqual({name: some[0][0] for name, some in parts.items()}, {"a": (0, 0, 0), "b": (1, 0, 0)})
+        self.assertEqual(
+            {name: some[0][0] for name, some in parts.items()}, {"a": (0, 0, 0), "b": (1, 0, 0)}
+        )
         shutil.rmtree(self.path("out"))
         for text, why in (
-            ('{"parts":[{"name":"a","pieces":["cube.off"],"color":"red"}]}', 'part 0 has a member "color"'),
-            ('{"parts":[{"name":"a","pieces":["cube.off"]}],"unit":"mm"}', 'the list has a member "unit"'),
+            (
+                '{"parts":[{"name":"a","pieces":["cube.off"],"color":"red"}]}',
+                'part 0 has a member "color"',
+            ),
+            (
+                '{"parts":[{"name":"a","pieces":["cube.off"]}],"unit":"mm"}',
+                'the list has a member "unit"',
+            ),
             ('{"parts":[{"name":"a","pieces":[]}]}', 'the "pieces" of part 0'),
             ('{"parts":[{"name":"a","pieces":["cube.off"],"at":[1,2]}]}', 'the "at" of part 0'),
             ('{"parts":[]}', "no part list"),
@@ -360,9 +436,16 @@ class Lists(Case):
         self.accepted(self.write("cube.off", off(corners([0, 0, 0], [1, 1, 1]), SIDES)), "--grid=1")
         run = subprocess.run(
             [os.path.join(TOP, "staat-cad"), "run", self.path("out"), "look"],
-            capture_output=True, text=True, check=False, cwd="/",
+            capture_output=True,
+            text=True,
+            check=False,
+            cwd="/",
         )
-        self.assertEqual((run.returncode, run.stdout), (0, "part 0 pieces 1 points 8 name cube\nsound\n"), run.stderr)
+        self.assertEqual(
+            (run.returncode, run.stdout),
+            (0, "part 0 pieces 1 points 8 name cube\nsound\n"),
+            run.stderr,
+        )
 
 
 @unittest.skipUnless(os.path.isdir(STL), "the example is not exported")
@@ -371,7 +454,8 @@ class Example(Case):
         names = [os.path.join(STL, name) for name in ("box", "lid", "pin", "pencil.stl")]
         parts = self.accepted("--grid=0.001", *names)
         self.assertEqual(
-            [(name, len(some)) for name, some in parts.items()], [("box", 12), ("lid", 4), ("pin", 2), ("pencil", 1)]
+            [(name, len(some)) for name, some in parts.items()],
+            [("box", 12), ("lid", 4), ("pin", 2), ("pencil", 1)],
         )
         kept = os.path.join(TOP, "tools", "example", "pieces")
         for name in os.listdir(kept):
@@ -387,14 +471,35 @@ class Example(Case):
 @unittest.skipUnless(os.path.isdir(GEOMVIEW), "the package geomview is not installed")
 class Geomview(Case):
     def test_convex_ones(self) -> None:
-        names = ["abstr.off", "br2.off", "cone.off", "cube.off", "dodec.off", "facecube.off", "hdodec.off"]
-        names += ["icosa.off", "octa.off", "tetra.off", "unitcube.off", "vertcube.off", "cube", "diamond", "dodec"]
+        names = [
+            "abstr.off",
+            "br2.off",
+            "cone.off",
+            "cube.off",
+            "dodec.off",
+            "facecube.off",
+            "hdodec.off",
+        ]
+        names += [
+            "icosa.off",
+            "octa.off",
+            "tetra.off",
+            "unitcube.off",
+            "vertcube.off",
+            "cube",
+            "diamond",
+            "dodec",
+        ]
         names += ["tetra", "pieces/cube1.off", "textured/dodec.off"]
         for name in names:
             with self.subTest(name):
                 self.assertEqual(len(self.accepted(os.path.join(GEOMVIEW, name))), 1)
         shutil.rmtree(self.path("out"))
-        for name, why in (("tref.off", "not closed"), ("cam.off", "not closed"), ("hypercube.off", "three coordinates")):
+        for name, why in (
+            ("tref.off", "not closed"),
+            ("cam.off", "not closed"),
+            ("hypercube.off", "three coordinates"),
+        ):
             with self.subTest(name):
                 self.refused(why, os.path.join(GEOMVIEW, name))
 

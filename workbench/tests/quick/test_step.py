@@ -86,7 +86,10 @@ class Step(Case):
         for side in ("near", "over", "under"):
             with self.subTest(side):
                 self.accepted(path, f"--side={side}")
-                distances = {"cone": shapes.cone_distance(5, 2, 10), "ball": shapes.ball_distance((30, 0, 0), 5)}
+                distances = {
+                    "cone": shapes.cone_distance(5, 2, 10),
+                    "ball": shapes.ball_distance((30, 0, 0), 5),
+                }
                 self.within_bounds(distances)
 
     def test_turned(self) -> None:
@@ -101,7 +104,9 @@ class Step(Case):
         axis = numpy.array([1, 2, 3]) / math.sqrt(14)
         skew = numpy.array([[0, -axis[2], axis[1]], [axis[2], 0, -axis[0]], [-axis[1], axis[0], 0]])
         turn = numpy.eye(3) + math.sin(0.7) * skew + (1 - math.cos(0.7)) * skew @ skew
-        self.within_bounds({"block": lambda points: BLOCK(points @ turn), "pin": lambda points: PIN(points @ turn)})
+        self.within_bounds(
+            {"block": lambda points: BLOCK(points @ turn), "pin": lambda points: PIN(points @ turn)}
+        )
 
     def test_slot(self) -> None:
         """A slot has corners of its own on its round ends."""
