@@ -2,8 +2,8 @@
 
 The distance to a convex cell is a convex function, so over a tetrahedron it is greatest at a corner. For a tetrahedron T
 and cells B the least over b in B of (the greatest of the distances of the four corners of T to b) is therefore an upper
-bound of how far any point of T lies from the union of B. Where the bound is not good enough, T is cut in two at the
-middle of its longest edge. The distance of a point to a cell is that to a point of the cell, a sum of its corners with
+bound of how far any point of T lies from the union of B. Where the bound is not good enough, T is cut into smaller ones:
+by a wall of the cell at its middle, so that what lies in that cell comes off, or at the middle of its longest edge. The distance of a point to a cell is that to a point of the cell, a sum of its corners with
 weights from 0 on, so it is never too small. Rounded numbers are allowed for by `CLEARLY` steps.
 """
 from __future__ import annotations
@@ -63,8 +63,14 @@ class Union:
     def __init__(self, cells: Sequence[Cell]) -> None:
         self.cells = list(cells)
         self.known: Dict[Tuple[bytes, int], float] = {}
-        self.least = numpy.array([cell.least for cell in cells]).reshape(-1, 3)
-        self.most = numpy.array([cell.most for cell in cells]).reshape(-1, 3)
+        self.normals = numpy.vstack([cell.normals for cell in cells]) if cells else numpy.zeros((0, 3))
+        self.heights = numpy.concatenate([cell.heights for cell in cells]) if cells else numpy.zeros(0)
+        self.starts = numpy.cumsum([0] + [len(cell.heights) for cell in cells[:-1]])
+
+    def ahead(self, points: numpy.ndarray) -> numpy.ndarray:
+        """How far the points (m, 3) lie ahead of the worst wall of each cell, (cells, m): never farther than they lie
+        from the cell; below 0 inside."""
+        return numpy.maximum.reduceat(self.normals @ points.T - self.heights[:, None], self.starts, axis=0)
 
     def distance(self, point: numpy.ndarray, number: int) -> float:
         key = (point.tobytes(), number)
@@ -72,23 +78,28 @@ class Union:
             self.known[key] = distance(point, self.cells[number])
         return self.known[key]
 
-    def boxes_away(self, points: numpy.ndarray) -> numpy.ndarray:
-        """How far the points (m, 3) lie from the boxes of the cells, (m, cells): never too far."""
-        gap = numpy.maximum(self.least[None] - points[:, None], points[:, None] - self.most[None])
-        return numpy.sqrt((numpy.maximum(gap, 0.0) ** 2).sum(axis=2))
-
     def within(self, points: numpy.ndarray) -> Tuple[float, float]:
-        """How far one of the points (m, 3) lies from the cells that were tried; and a bound of how far any point of
-        their hull lies from the union."""
-        away = self.boxes_away(points).max(axis=0)
-        all_near, nearest = numpy.inf, numpy.full(len(points), numpy.inf)
-        for number in numpy.argsort(away, kind="stable")[:MOST_TRIED]:
-            if away[number] >= all_near or all_near == 0.0:
+        """Bounds, from below and from above, of how far the farthest point of the hull of some (m, 3) lies away."""
+        ahead = self.ahead(points)
+        worst = ahead.max(axis=1)
+        nearest = numpy.inf
+        for number in numpy.argsort(worst, kind="stable")[:MOST_TRIED]:
+            if worst[number] >= nearest:
                 break
-            ways = numpy.array([self.distance(point, int(number)) for point in points])
-            all_near = min(all_near, float(ways.max()))
-            nearest = numpy.minimum(nearest, ways)
-        return float(nearest.max()), all_near
+            ways = [self.distance(point, int(number)) for point in points] if worst[number] > 1e-9 else [0.0]
+            nearest = min(nearest, max(ways))
+        return max(0.0, float(ahead.min(axis=0).max())), nearest
+
+
+    def parted(self, corners: numpy.ndarray) -> List[numpy.ndarray]:
+        """A tetrahedron in parts: by that wall of the cell at its middle which cuts it best, else in halves."""
+        middle = corners.mean(axis=0)
+        number = int(self.ahead(middle[None, :])[:, 0].argmin())
+        cell = self.cells[number]
+        sides = cell.normals @ corners.T - cell.heights[:, None]
+        cut = numpy.minimum(sides.max(axis=1), -sides.min(axis=1))
+        wall = int(cut.argmax())
+        return split(corners, sides[wall]) if cut[wall] > CLEARLY / 10 else halves(corners)
 
 
 def reach(cell: Cell, union: Union, enough: float, refused: float = numpy.inf) -> float:
@@ -105,17 +116,16 @@ def reach(cell: Cell, union: Union, enough: float, refused: float = numpy.inf) -
     for number, corners in enumerate(tetrahedra(cell)):
         heap.append((-union.within(corners)[1], number, corners))
     heapq.heapify(heap)
-    if not heap:
-        return upper
-    for number in range(MOST_ROUNDS):
-        if -heap[0][0] <= max(enough, 1.05 * lower) or lower > refused:
+    following = len(heap)
+    for _ in range(MOST_ROUNDS):
+        if not heap or -heap[0][0] <= max(enough, 1.05 * lower) or lower > refused:
             break
-        _, _, corners = heapq.heappop(heap)
-        for half in halves(corners):
-            low, high = union.within(half)
+        for part in union.parted(heapq.heappop(heap)[2]):
+            low, high = union.within(part)
             lower = max(lower, low)
-            heapq.heappush(heap, (-high, len(heap) + 2 * number + 1000000, half))
-    return min(upper, -heap[0][0])
+            heapq.heappush(heap, (-high, following, part))
+            following += 1
+    return min(upper, -heap[0][0]) if heap else upper
 
 
 def halves(corners: numpy.ndarray) -> List[numpy.ndarray]:
@@ -129,6 +139,27 @@ def halves(corners: numpy.ndarray) -> List[numpy.ndarray]:
         half[corner] = middle
         found.append(half)
     return found
+
+
+def split(corners: numpy.ndarray, sides: numpy.ndarray) -> List[numpy.ndarray]:
+    """A tetrahedron in some whose union it is, none of which has corners on both sides of a plane.
+
+    sides: how far the four corners lie ahead of the plane
+    """
+    below, above = corners[sides <= 0], corners[sides > 0]
+    low, high = sides[sides <= 0], sides[sides > 0]
+    share = (low[:, None] / (low[:, None] - high[None, :]))[:, :, None]
+    cuts = below[:, None, :] + (above[None, :, :] - below[:, None, :]) * share
+    if len(below) == 2:
+        return prism(below[0], *cuts[0], below[1], *cuts[1]) + prism(above[0], *cuts[:, 0], above[1], *cuts[:, 1])
+    if len(below) == 1:
+        return [numpy.array([below[0], *cuts[0]]), *prism(*above, *cuts[0])]
+    return [numpy.array([above[0], *cuts[:, 0]]), *prism(*below, *cuts[:, 0])]
+
+
+def prism(*ends: numpy.ndarray) -> List[numpy.ndarray]:
+    """Three tetrahedra that make up a prism, of which the three corners of one end and of the other are given."""
+    return [numpy.array([ends[number + step] for step in range(4)]) for number in range(3)]
 
 
 def farthest(cells: Sequence[Cell], own: Sequence[Sequence[Cell]], union: Union, until: float) -> float:

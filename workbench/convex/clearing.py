@@ -116,6 +116,13 @@ def volume_and_area(points: numpy.ndarray) -> Tuple[float, float]:
     return float(hull.volume), float(hull.area)
 
 
+def clearly_beyond(points: numpy.ndarray, union: Union, tolerance: float, corners: int) -> bool:
+    """Whether the middle of some triangle of the hull lies too far from a union; or the hull has too many corners."""
+    hull = ConvexHull(points)
+    middles = points[hull.simplices].mean(axis=1)
+    return len(hull.vertices) > corners or bool(union.ahead(middles).min(axis=0).max() > tolerance + CLEARLY)
+
+
 def near_pairs(pieces: Sequence[Piece]) -> Iterable[Tuple[int, int]]:
     """The numbers of pieces whose boxes lie within a step of each other."""
     least = numpy.array([piece.points.min(axis=0) for piece in pieces]) - 1
@@ -151,11 +158,12 @@ def join_loosely(part: Part, tolerance: float, corners: int, others: Neighbours,
         _, one, other = waiting.pop()
         if one not in pieces or other not in pieces:
             continue
-        made = piece_of([*pieces[one].points.tolist(), *pieces[other].points.tolist()])
-        if len(made.points) > corners:
+        points = [*pieces[one].points.tolist(), *pieces[other].points.tolist()]
+        if clearly_beyond(numpy.array(points, float), union, tolerance, corners):
             continue
+        made = piece_of(points)
         far = reach(Cell.of_piece(made), union, tolerance, tolerance)
-        if far > tolerance or others.met(part.solid.name, made):
+        if far > tolerance or len(made.points) > corners or others.met(part.solid.name, made):
             continue
         farthest_so_far = max(farthest_so_far, far)
         del pieces[one], pieces[other]

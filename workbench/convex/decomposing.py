@@ -188,13 +188,14 @@ def skin_of(surface: Surface) -> Set[Wall]:
 
 def measured(solid: Solid, rough: Rough, options: Options, beyond: Tuple[float, float]) -> Cut:
     """The pieces that stand for cells, on the side that is asked for, with their bounds."""
-    own: List[List[Piece]] = []
+    own: List[Optional[Piece]] = []
+    pieces: List[Piece] = []
     exact = True
     for cell in rough.cells:
         points, is_exact = points_for(cell, rough, options.side)
         exact = exact and is_exact
-        own.append(small_pieces(points, options.corners))
-    pieces = [piece for some in own for piece in some]
+        own.append(piece_or_none(points))
+        pieces += small_pieces(points, options.corners)
     if not pieces:
         raise Refusal("its pieces are too thin for this grid: give a finer one")
     over, under = beyond
@@ -209,14 +210,17 @@ def measured(solid: Solid, rough: Rough, options: Options, beyond: Tuple[float, 
     return Cut(pieces, over, under, rough.way, rough.cells, beyond, (x, y, z), exact)
 
 
-def between(cells: List[Cell], own: List[List[Piece]], options: Options) -> Tuple[float, float]:
-    """How far pieces go beyond the cells that they stand for, and fall short of them; in steps."""
+def between(cells: List[Cell], own: List[Optional[Piece]], options: Options) -> Tuple[float, float]:
+    """How far pieces go beyond the cells that they stand for, and fall short of them; in steps.
+
+    own: the hull of the pieces that stand for a cell, which is their union
+    """
     until = time.monotonic() + options.seconds / 4
-    made = [[Cell.of_piece(piece) for piece in some] for some in own]
+    made = [[] if piece is None else [Cell.of_piece(piece)] for piece in own]
     union = Union([cell for some in made for cell in some])
     over = under = 0.0
     if options.side != "under":
-        sources = [[cell] for cell, some in zip(cells, made) for _ in some]
+        sources = [[cell] for cell, some in zip(cells, made) if some]
         over = farthest(union.cells, sources, Union(cells), until)
     if options.side != "over":
         under = farthest(cells, made, union, until)
