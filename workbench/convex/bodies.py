@@ -14,7 +14,9 @@ import numpy
 from ..hulls import Point, cross, dot, less, primitive
 from .outlines import Spot, turn
 
-Plane = Tuple[Point, int]  # n and h: the points p of the plane have dot(n, p) == h; n leads outwards
+Plane = Tuple[
+    Point, int
+]  # n and h: the points p of the plane have dot(n, p) == h; n leads outwards
 Edge = Tuple[Point, Point]
 Face = Set[Edge]
 
@@ -136,10 +138,8 @@ class Body:
         table = numpy.array(self.points, numpy.int64)
         normals = numpy.array([normal for normal, _ in self.faces], numpy.int64)
         heights = numpy.array([height for _, height in self.faces], numpy.int64)
-        return all(
-            ((normals[at : at + 256] @ table.T).max(axis=1) <= heights[at : at + 256]).all()
-            for at in range(0, len(normals), 256)
-        )
+        some = [slice(at, at + 256) for at in range(0, len(normals), 256)]
+        return all(((normals[rows] @ table.T).max(axis=1) <= heights[rows]).all() for rows in some)
 
     def reflex_edges(self) -> Iterator[Tuple[Edge, Plane, Plane]]:
         """Edges at which the solid takes more than a half turn, each with its two faces."""
@@ -196,7 +196,12 @@ class Body:
         rims: List[Edge] = []
         for other, face in self.faces.items():
             if other[0] in (normal, less((0, 0, 0), normal)):
-                if other[0] != normal and other[1] > -height or other[0] == normal and other[1] < height:
+                if (
+                    other[0] != normal
+                    and other[1] > -height
+                    or other[0] == normal
+                    and other[1] < height
+                ):
                     kept[other] = set(face)
                 continue
             border, rim = below_of_face(face, other[0], normal, height, side)

@@ -1,10 +1,11 @@
 """How far one union of convex cells goes beyond another, by bounds that are never beaten.
 
-The distance to a convex cell is a convex function, so over a tetrahedron it is greatest at a corner. For a tetrahedron T
-and cells B the least over b in B of (the greatest of the distances of the four corners of T to b) is therefore an upper
-bound of how far any point of T lies from the union of B. Where the bound is not good enough, T is cut into smaller ones:
-by a wall of the cell at its middle, so that what lies in that cell comes off, or at the middle of its longest edge. The distance of a point to a cell is that to a point of the cell, a sum of its corners with
-weights from 0 on, so it is never too small. Rounded numbers are allowed for by `CLEARLY` steps.
+The distance to a convex cell is a convex function, so over a tetrahedron it is greatest at a corner. For a tetrahedron
+T and cells B the least over b in B of (the greatest of the distances of the four corners of T to b) is therefore an
+upper bound of how far any point of T lies from the union of B. Where the bound is not good enough, T is cut into
+smaller ones: by a wall of the cell at its middle, so that what lies in that cell comes off, or at the middle of its
+longest edge. The distance of a point to a cell is that to a point of the cell, a sum of its corners with weights from
+0 on, so it is never too small. Rounded numbers are allowed for by `CLEARLY` steps.
 """
 from __future__ import annotations
 
@@ -63,14 +64,20 @@ class Union:
     def __init__(self, cells: Sequence[Cell]) -> None:
         self.cells = list(cells)
         self.known: Dict[Tuple[bytes, int], float] = {}
-        self.normals = numpy.vstack([cell.normals for cell in cells]) if cells else numpy.zeros((0, 3))
-        self.heights = numpy.concatenate([cell.heights for cell in cells]) if cells else numpy.zeros(0)
+        self.normals = (
+            numpy.vstack([cell.normals for cell in cells]) if cells else numpy.zeros((0, 3))
+        )
+        self.heights = (
+            numpy.concatenate([cell.heights for cell in cells]) if cells else numpy.zeros(0)
+        )
         self.starts = numpy.cumsum([0] + [len(cell.heights) for cell in cells[:-1]])
 
     def ahead(self, points: numpy.ndarray) -> numpy.ndarray:
         """How far the points (m, 3) lie ahead of the worst wall of each cell, (cells, m): never farther than they lie
         from the cell; below 0 inside."""
-        return numpy.maximum.reduceat(self.normals @ points.T - self.heights[:, None], self.starts, axis=0)
+        return numpy.maximum.reduceat(
+            self.normals @ points.T - self.heights[:, None], self.starts, axis=0
+        )
 
     def distance(self, point: numpy.ndarray, number: int) -> float:
         key = (point.tobytes(), number)
@@ -86,10 +93,13 @@ class Union:
         for number in numpy.argsort(worst, kind="stable")[:MOST_TRIED]:
             if worst[number] >= nearest:
                 break
-            ways = [self.distance(point, int(number)) for point in points] if worst[number] > 1e-9 else [0.0]
+            ways = (
+                [self.distance(point, int(number)) for point in points]
+                if worst[number] > 1e-9
+                else [0.0]
+            )
             nearest = min(nearest, max(ways))
         return max(0.0, float(ahead.min(axis=0).max())), nearest
-
 
     def parted(self, corners: numpy.ndarray) -> List[numpy.ndarray]:
         """A tetrahedron in parts: by that wall of the cell at its middle which cuts it best, else in halves."""
@@ -151,7 +161,9 @@ def split(corners: numpy.ndarray, sides: numpy.ndarray) -> List[numpy.ndarray]:
     share = (low[:, None] / (low[:, None] - high[None, :]))[:, :, None]
     cuts = below[:, None, :] + (above[None, :, :] - below[:, None, :]) * share
     if len(below) == 2:
-        return prism(below[0], *cuts[0], below[1], *cuts[1]) + prism(above[0], *cuts[:, 0], above[1], *cuts[:, 1])
+        return prism(below[0], *cuts[0], below[1], *cuts[1]) + prism(
+            above[0], *cuts[:, 0], above[1], *cuts[:, 1]
+        )
     if len(below) == 1:
         return [numpy.array([below[0], *cuts[0]]), *prism(*above, *cuts[0])]
     return [numpy.array([above[0], *cuts[:, 0]]), *prism(*below, *cuts[:, 0])]
@@ -162,7 +174,9 @@ def prism(*ends: numpy.ndarray) -> List[numpy.ndarray]:
     return [numpy.array([ends[number + step] for step in range(4)]) for number in range(3)]
 
 
-def farthest(cells: Sequence[Cell], own: Sequence[Sequence[Cell]], union: Union, until: float) -> float:
+def farthest(
+    cells: Sequence[Cell], own: Sequence[Sequence[Cell]], union: Union, until: float
+) -> float:
     """An upper bound of how far points of the cells lie from the union, in steps.
 
     own: for each cell those of the union that stand for it; they are tried first. until: a time by the monotonic clock
@@ -170,7 +184,10 @@ def farthest(cells: Sequence[Cell], own: Sequence[Sequence[Cell]], union: Union,
     """
     found = 0.0
     for cell, mine in zip(cells, own):
-        bound = min((max(distance(point, other) for point in cell.table) for other in mine), default=numpy.inf)
+        bound = min(
+            (max(distance(point, other) for point in cell.table) for other in mine),
+            default=numpy.inf,
+        )
         if bound > max(GOOD, found):
             good = max(GOOD, found) if time.monotonic() < until else numpy.inf
             bound = min(bound, reach(cell, union, good))

@@ -55,14 +55,18 @@ class Cell:
 
     @classmethod
     def of_piece(cls, piece: Piece) -> "Cell":
-        return cls.of_faces([tuple(corner) for corner in piece.points.tolist()], piece.faces)
+        return cls.of_faces([(x, y, z) for x, y, z in piece.points.tolist()], piece.faces)
 
     def moved(self, step: Point) -> "Cell":
         """The cell moved by whole steps."""
         corners = [(x + step[0], y + step[1], z + step[2]) for x, y, z in self.corners]
-        made = Cell(corners, [(normal, height + height_of(normal, step)) for normal, height in self.walls])
+        made = Cell(
+            corners, [(normal, height + height_of(normal, step)) for normal, height in self.walls]
+        )
         if not self.walls:
-            made.normals, made.heights = self.normals, self.heights + self.normals @ numpy.array(step, float)
+            made.normals, made.heights = self.normals, self.heights + self.normals @ numpy.array(
+                step, float
+            )
         return made
 
     def turned(self, frame: numpy.ndarray, middle: numpy.ndarray, finer: float) -> "Cell":
@@ -80,10 +84,14 @@ class Cell:
         return made
 
     def is_whole(self) -> bool:
-        return all(Fraction(number).denominator == 1 for corner in self.corners for number in corner)
+        return all(
+            Fraction(number).denominator == 1 for corner in self.corners for number in corner
+        )
 
     def holds(self, corner: Corner, leaving_out: Optional[Wall] = None) -> bool:
-        return all(height_of(wall[0], corner) <= wall[1] for wall in self.walls if wall != leaving_out)
+        return all(
+            height_of(wall[0], corner) <= wall[1] for wall in self.walls if wall != leaving_out
+        )
 
     def extent(self) -> float:
         return float((self.most - self.least).max())
@@ -126,7 +134,9 @@ def extreme(corners: Set[Corner], walls: Sequence[Wall]) -> List[Corner]:
 
 
 def touch(one: Cell, other: Cell) -> bool:
-    return bool((one.least <= other.most + CLEARLY).all() and (other.least <= one.most + CLEARLY).all())
+    return bool(
+        (one.least <= other.most + CLEARLY).all() and (other.least <= one.most + CLEARLY).all()
+    )
 
 
 def join_all(cells: Sequence[Cell], corners: int, until: float) -> List[Cell]:

@@ -1,7 +1,7 @@
 """Exact convex decomposition by CGAL: a program of one page in C++, built on first use, run beside this one.
 
-The decomposition is that of Hachenberger (2007), `convex_decomposition_3` of CGAL. It takes any closed surface that does
-not cross itself, and is exact; its pieces may have corners at fractions.
+The decomposition is that of Hachenberger (2007), `convex_decomposition_3` of CGAL. It takes any closed surface that
+does not cross itself, and is exact; its pieces may have corners at fractions.
 """
 from __future__ import annotations
 
@@ -43,14 +43,19 @@ def built() -> str:
     compiler = program("g++", "g++")
     if not os.path.exists(HEADER):
         raise Refusal("libcgal-dev is missing; install it by: sudo apt-get install -y libcgal-dev")
-    print("staat-cad: building the decomposition by CGAL, once; this takes a minute or two", file=sys.stderr)
+    print(
+        "staat-cad: building the decomposition by CGAL, once; this takes a minute or two",
+        file=sys.stderr,
+    )
     os.makedirs(cache(), exist_ok=True)
     with tempfile.TemporaryDirectory(dir=cache()) as folder:
         made = os.path.join(folder, "decompose")
         words = [compiler, "-O2", "-DNDEBUG", SOURCE, "-o", made, "-lgmp", "-lmpfr"]
         told = subprocess.run(words, capture_output=True, text=True, check=False)
         if told.returncode:
-            fault = next((line for line in told.stderr.splitlines() if "error" in line), "it gave no reason")
+            fault = next(
+                (line for line in told.stderr.splitlines() if "error" in line), "it gave no reason"
+            )
             raise Refusal(f"the decomposition by CGAL could not be built: {fault}")
         os.replace(made, path)
     return path
@@ -65,17 +70,19 @@ def cells_in(text: str) -> List[Cell]:
     cells = []
     for block in re.split(r"^piece ", text, flags=re.MULTILINE)[1:]:
         lines = block.splitlines()
-        many = int(lines[0].split()[0])
+        end = 1 + int(lines[0].split()[0])
         corners: List[Corner] = []
-        for line in lines[1 : 1 + many]:
+        for line in lines[1:end]:
             x, y, z = map(number_of, line.split())
             corners.append((x, y, z))
-        faces = [[int(word) for word in line.split()[1:]] for line in lines[1 + many :]]
+        faces = [[int(word) for word in line.split()[1:]] for line in lines[end:]]
         cells.append(Cell.of_faces(corners, faces))
     return cells
 
 
-def decomposed(points: Sequence[Point], faces: Sequence[Sequence[int]], seconds: float) -> List[Cell]:
+def decomposed(
+    points: Sequence[Point], faces: Sequence[Sequence[int]], seconds: float
+) -> List[Cell]:
     """Convex cells without common inner points whose union is the solid.
 
     faces: a closed surface of plane faces, wound outwards. Refusal: CGAL does not take it, or not within the time.
@@ -89,7 +96,11 @@ def decomposed(points: Sequence[Point], faces: Sequence[Sequence[int]], seconds:
             file.writelines(" ".join(map(str, [len(face), *face])) + "\n" for face in faces)
         try:
             told = subprocess.run(
-                [command, source, target], capture_output=True, text=True, timeout=max(1.0, seconds), check=False
+                [command, source, target],
+                capture_output=True,
+                text=True,
+                timeout=max(1.0, seconds),
+                check=False,
             )
         except subprocess.TimeoutExpired:
             raise Refusal(

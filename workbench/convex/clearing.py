@@ -76,8 +76,8 @@ def clear(solids: Sequence[Solid], found: Sequence[Pieces], options: Options) ->
 
     Pieces of a solid are joined while their hull goes beyond the solid by at most `options.join`, or by as much as
     rounding did, and comes to overlap no other part. Where pieces of different parts overlap by at most the clearance
-    of one of the parts, or of both together, its piece is cut back to the wall between the two; nothing else moves. What
-    rounding alone makes overlap is cut back without a clearance, if the side is "near".
+    of one of the parts, or of both together, its piece is cut back to the wall between the two; nothing else moves.
+    What rounding alone makes overlap is cut back without a clearance, if the side is "near".
     """
     parts = [Part(number, solid, some) for number, (solid, some) in enumerate(zip(solids, found))]
     until = time.monotonic() + options.seconds
@@ -120,7 +120,9 @@ def clearly_beyond(points: numpy.ndarray, union: Union, tolerance: float, corner
     """Whether the middle of some triangle of the hull lies too far from a union; or the hull has too many corners."""
     hull = ConvexHull(points)
     middles = points[hull.simplices].mean(axis=1)
-    return len(hull.vertices) > corners or bool(union.ahead(middles).min(axis=0).max() > tolerance + CLEARLY)
+    return len(hull.vertices) > corners or bool(
+        union.ahead(middles).min(axis=0).max() > tolerance + CLEARLY
+    )
 
 
 def near_pairs(pieces: Sequence[Piece]) -> Iterable[Tuple[int, int]]:
@@ -128,15 +130,20 @@ def near_pairs(pieces: Sequence[Piece]) -> Iterable[Tuple[int, int]]:
     least = numpy.array([piece.points.min(axis=0) for piece in pieces]) - 1
     most = numpy.array([piece.points.max(axis=0) for piece in pieces])
     for number in range(len(pieces)):
-        near = ((least[number + 1 :] <= most[number]) & (most[number + 1 :] >= least[number])).all(axis=1)
+        near = ((least <= most[number]) & (most >= least[number])).all(axis=1)
+        near[numpy.arange(len(near)) <= number] = False
         for other in numpy.nonzero(near)[0]:
-            yield number, number + 1 + int(other)
+            yield number, int(other)
 
 
-def join_loosely(part: Part, tolerance: float, corners: int, others: Neighbours, until: float) -> None:
+def join_loosely(
+    part: Part, tolerance: float, corners: int, others: Neighbours, until: float
+) -> None:
     """Joins pieces while their hulls go beyond the solid by at most so many steps and reach no other part."""
     pieces: Dict[int, Piece] = dict(enumerate(part.pieces))
-    sizes = {number: volume_and_area(piece.points.astype(float))[0] for number, piece in pieces.items()}
+    sizes = {
+        number: volume_and_area(piece.points.astype(float))[0] for number, piece in pieces.items()
+    }
     union = Union(part.cells)
     waiting: List[Tuple[float, int, int]] = []
     farthest_so_far = 0.0
@@ -217,7 +224,10 @@ def clearance_of(part: Part, options: Options) -> float:
 
 
 def walls_of(
-    one: Tuple[Part, int], other: Tuple[Part, int], wall: Tuple[Point, int, int, float], options: Options
+    one: Tuple[Part, int],
+    other: Tuple[Part, int],
+    wall: Tuple[Point, int, int, float],
+    options: Options,
 ) -> Iterable[Tuple[Tuple[Part, int], Tuple[Point, int]]]:
     """Which of two pieces that overlap is cut back, and by which wall; nothing where no clearance is enough.
 
@@ -244,7 +254,9 @@ def wall_between(one: Piece, other: Piece) -> Optional[Tuple[Point, int, int, fl
     if apart_by_boxes(first, second):
         return None
     faces = numpy.array(first.normals + [(-x, -y, -z) for x, y, z in second.normals], numpy.int64)
-    crossed = numpy.cross(numpy.array(first.edges)[:, None, :], numpy.array(second.edges)[None, :, :])
+    crossed = numpy.cross(
+        numpy.array(first.edges)[:, None, :], numpy.array(second.edges)[None, :, :]
+    )
     crossed = crossed.reshape(-1, 3)
     crossed = crossed[crossed.any(axis=1)]
     best: Optional[Tuple[Point, int, int, float]] = None
@@ -288,12 +300,19 @@ def below(cell: Cell, normal: Point, height: int) -> Optional[Cell]:
             kept.append((x, y, z))
     walls = [*cell.walls, (normal, height)]
     corners = extreme(set(kept), walls)
-    left = [wall for wall in walls if sum(height_of(wall[0], corner) == wall[1] for corner in corners) >= 3]
+    left = [
+        wall
+        for wall in walls
+        if sum(height_of(wall[0], corner) == wall[1] for corner in corners) >= 3
+    ]
     return Cell(corners, left) if len(corners) >= 4 else None
 
 
 def fits(piece: Piece, walls: Sequence[Tuple[Point, int]]) -> bool:
-    return all(int((piece.points @ numpy.array(normal, numpy.int64)).max()) <= height for normal, height in walls)
+    return all(
+        int((piece.points @ numpy.array(normal, numpy.int64)).max()) <= height
+        for normal, height in walls
+    )
 
 
 def measure_again(part: Part, gone: Set[int], options: Options) -> None:
@@ -305,5 +324,3 @@ def measure_again(part: Part, gone: Set[int], options: Options) -> None:
     part.under = max(part.under, part.beyond[1] + far / part.scale)
     if "gave way" not in part.notes:
         part.notes.append("gave way")
-
-

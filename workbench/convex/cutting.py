@@ -1,4 +1,4 @@
-"""Solids that fall into convex pieces by cuts on the grid: convex ones, prisms, and what planes of faces cut into these.
+"""Solids that fall into convex pieces by cuts on the grid: convex ones, prisms, and what planes cut into these.
 
 So boxes with holes, brackets, bolts and nuts come out exactly: each corner of a piece is a point of the grid, and the
 union of the pieces is the solid.
@@ -6,7 +6,7 @@ union of the pieces is the solid.
 from __future__ import annotations
 
 from collections import Counter
-from typing import Dict, Iterator, List, Optional, Sequence, Tuple
+from typing import Dict, Iterator, List, Optional, Sequence
 
 from ..hulls import Point, cross, dot, less, primitive
 from .bodies import Body, OffGrid, Plane, Tangled, flattened, loops_of
@@ -69,7 +69,11 @@ def wanted_planes(body: Body) -> Iterator[Plane]:
 def prism_pieces(body: Body, corners: int) -> Optional[List[List[Point]]]:
     """The pieces of a prism; nothing where the body is none."""
     for normal in ends_of_prism(body):
-        heights = sorted(height if own == normal else -height for own, height in body.faces if parallel(own, normal))
+        heights = sorted(
+            height if own == normal else -height
+            for own, height in body.faces
+            if parallel(own, normal)
+        )
         bottom = body.faces.get((less((0, 0, 0), normal), -heights[0]))
         if len(heights) != 2 or bottom is None:
             continue
@@ -79,12 +83,13 @@ def prism_pieces(body: Body, corners: int) -> Optional[List[List[Point]]]:
         polygons = polygons_of(bottom, less((0, 0, 0), normal))
         if polygons is None:
             return None
-        return [
-            [*polygon, *(tuple(map(sum, zip(point, along))) for point in polygon)]  # type: ignore[misc]
-            for whole in polygons
-            for polygon in halves(whole, corners // 2)
-        ]
+        some = [polygon for whole in polygons for polygon in halves(whole, corners // 2)]
+        return [[*polygon, *(plus(point, along) for point in polygon)] for polygon in some]
     return None
+
+
+def plus(one: Point, other: Point) -> Point:
+    return (one[0] + other[0], one[1] + other[1], one[2] + other[2])
 
 
 def parallel(one: Point, other: Point) -> bool:
@@ -120,7 +125,9 @@ def polygons_of(face: set, normal: Point) -> Optional[List[List[Point]]]:
     """Convex polygons that make up a face."""
     first, second = flattened(normal)
     loops = loops_of(face, normal)
-    place: Dict[Spot, Point] = {(point[first], point[second]): point for loop in loops for point in loop}
+    place: Dict[Spot, Point] = {
+        (point[first], point[second]): point for loop in loops for point in loop
+    }
     parts = convex_parts([[(point[first], point[second]) for point in loop] for loop in loops])
     return None if parts is None else [[place[spot] for spot in part] for part in parts]
 

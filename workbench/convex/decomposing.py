@@ -15,11 +15,19 @@ from .cells import Cell, Wall, join_all
 from .cgal import decomposed
 from .cutting import convex_pieces
 from .frames import FINER, Turned, frame_of
-from .meshes import Polygon, Surface, open_edges, rounded, shells, solids
+from .meshes import Surface, open_edges, rounded, shells, solids
 from .nearly import beyond_hull, corners_of
 from .snapping import grown, piece_or_none, shrunk, small_pieces, snapped
 
-HULL, GRID, DRAWN, CGAL = "convex", "cut on the grid", "cut as it was drawn before it was turned", "cut by CGAL"
+HULL, GRID, DRAWN, CGAL = (
+    "convex",
+    "cut on the grid",
+    "cut as it was drawn before it was turned",
+    "cut by CGAL",
+)
+ROUNDED = (
+    1.0  # in steps: a solid whose hull goes beyond it by no more, as it does by rounding, is convex
+)
 
 
 @dataclass
@@ -81,9 +89,13 @@ def decompose(solid: Solid, options: Options) -> Cut:
 
 def surface_of_whole(solid: Solid, whole: Mesh) -> Surface:
     """The surface on the grid. What moved corners matters only where pieces are to hold the solid, or to lie in it."""
-    surface = Surface([(int(x), int(y), int(z)) for x, y, z in whole.points], [list(face) for face in whole.faces])
+    surface = Surface(
+        [(int(x), int(y), int(z)) for x, y, z in whole.points], [list(face) for face in whole.faces]
+    )
     if solid.exact is not None and len(solid.exact.points) == len(whole.points):
-        off = numpy.abs(whole.points - numpy.asarray(solid.exact.points, float) * float(solid.scale))
+        off = numpy.abs(
+            whole.points - numpy.asarray(solid.exact.points, float) * float(solid.scale)
+        )
         off[off < 1e-6] = 0.0
         surface.moved = float(numpy.sqrt((off**2).sum(axis=1)).max(initial=0.0))
         surface.axes = tuple(axis for axis in range(3) if off[:, axis].max(initial=0.0) > 0.0)
@@ -97,10 +109,11 @@ def of_exact(solid: Solid, mesh: Mesh, options: Options, until: float) -> Rough:
     gaps = open_edges(surface.faces)
     if gaps:
         raise Refusal(f"it is not closed at {gaps} edges: repair the mesh")
-    allowed = max(options.join * scale, 1.0) if options.side != "under" else 0.0
-    if allowed and len(shells(surface.faces)) == 1:
-        beyond = beyond_hull(numpy.asarray(mesh.points, float) * scale, mesh.faces, allowed)
-        if beyond <= allowed:
+    if options.side != "under" and len(shells(surface.faces)) == 1:
+        beyond = 0.0
+        if not is_convex(surface):
+            beyond = beyond_hull(numpy.asarray(mesh.points, float) * scale, mesh.faces, ROUNDED)
+        if beyond <= ROUNDED:
             cells = convex_cells(corners_of(surface.points, surface.faces), options.corners)
             return Rough(cells, HULL, skin_of(surface), surface.moved, surface.axes, beyond)
     if surface.moved:
@@ -109,6 +122,13 @@ def of_exact(solid: Solid, mesh: Mesh, options: Options, until: float) -> Rough:
         if drawn is not None:
             return drawn
     return of_surface(surface, solid, options, until)
+
+
+def is_convex(surface: Surface) -> bool:
+    try:
+        return Body.of_mesh(surface.points, surface.faces).is_convex()
+    except Tangled:
+        return False
 
 
 def as_drawn(mesh: Mesh, scale: float, options: Options, until: float) -> Optional[Rough]:

@@ -16,7 +16,10 @@ TWIN = 2.0  # of its steps: coordinates so near each other are one, as they were
 def areas_of(points: numpy.ndarray, faces: List[List[int]]) -> Tuple[numpy.ndarray, numpy.ndarray]:
     """The directions of the faces, up to their side (k, 3), and their areas, the greatest first."""
     vectors = numpy.array(
-        [numpy.cross(points[face], numpy.roll(points[face], -1, axis=0)).sum(axis=0) / 2 for face in faces]
+        [
+            numpy.cross(points[face], numpy.roll(points[face], -1, axis=0)).sum(axis=0) / 2
+            for face in faces
+        ]
     )
     sizes = numpy.linalg.norm(vectors, axis=1)
     vectors, sizes = vectors[sizes > 0], sizes[sizes > 0]
@@ -25,7 +28,9 @@ def areas_of(points: numpy.ndarray, faces: List[List[int]]) -> Tuple[numpy.ndarr
     units *= numpy.sign(units[numpy.arange(len(units)), leading])[:, None]
     keys = numpy.unique(units.round(4), axis=0, return_inverse=True)[1].ravel()
     areas = numpy.bincount(keys, weights=sizes)
-    greatest = [int(numpy.nonzero(keys == key)[0][sizes[keys == key].argmax()]) for key in range(len(areas))]
+    greatest = [
+        int(numpy.nonzero(keys == key)[0][sizes[keys == key].argmax()]) for key in range(len(areas))
+    ]
     order = areas.argsort()[::-1]
     return units[greatest][order], areas[order]
 

@@ -35,8 +35,8 @@ def rounded(mesh: Mesh, scale: float) -> Surface:
     """A mesh in model units on the grid. A face that is not plane there is cut into triangles. Refusal: too large.
 
     While corners move straight to where they are rounded to, each point of the surface moves by at most `moved`; what
-    comes to lie inside or outside meanwhile was passed by the surface. So of solid and rounded solid neither goes beyond
-    the other by more than `moved`.
+    comes to lie inside or outside meanwhile was passed by the surface. So of solid and rounded solid neither goes
+    beyond the other by more than `moved`.
     """
     steps = numpy.asarray(mesh.points, float) * scale
     whole = numpy.floor(steps + 0.5 + TIE)
@@ -70,7 +70,8 @@ def plane_ones(
         return [distinct]
     drawn = steps[list(face)]
     area = numpy.cross(drawn, numpy.roll(drawn, -1, axis=0)).sum(axis=0)
-    first, second = flattened(tuple(int(part) for part in numpy.rint(area * 1e6 / (numpy.abs(area).max() or 1))))
+    x, y, z = (int(part) for part in numpy.rint(area * 1e6 / (numpy.abs(area).max() or 1)))
+    first, second = flattened((x, y, z))
     flat = numpy.rint(drawn[:, [first, second]] * 1024).astype(int)
     loop: List[Spot] = [(int(x), int(y)) for x, y in flat]
     where: Dict[Spot, int] = dict(zip(loop, corners))
@@ -91,7 +92,10 @@ def without_repeats(corners: Sequence[int]) -> Polygon:
 def is_plane(corners: Sequence[Point]) -> bool:
     area = [0, 0, 0]
     for one, other in zip(corners, [*corners[1:], corners[0]]):
-        area = [total + part for total, part in zip(area, cross(less(one, corners[0]), less(other, corners[0])))]
+        area = [
+            total + part
+            for total, part in zip(area, cross(less(one, corners[0]), less(other, corners[0])))
+        ]
     return any(area) and len({dot(area, corner) for corner in corners}) == 1
 
 
@@ -99,17 +103,25 @@ def without_flat(points: Sequence[Point], faces: List[Polygon]) -> List[Polygon]
     """The same surface without triangles whose corners lie in a line: the middle one goes into the face beyond."""
     faces = [face for face in faces if len(face) >= 3]
     for _ in range(len(faces)):
-        owner = {edge: number for number, face in enumerate(faces) for edge in zip(face, [*face[1:], face[0]])}
+        owner = {
+            edge: number
+            for number, face in enumerate(faces)
+            for edge in zip(face, [*face[1:], face[0]])
+        }
         for number, face in enumerate(faces):
             if len(face) == 3 and not any(
-                cross(less(points[face[1]], points[face[0]]), less(points[face[2]], points[face[0]]))
+                cross(
+                    less(points[face[1]], points[face[0]]), less(points[face[2]], points[face[0]])
+                )
             ):
                 break
         else:
             return faces
         lengths = [
             dot(step, step)
-            for step in (less(points[one], points[other]) for one, other in zip(face, [*face[1:], face[0]]))
+            for step in (
+                less(points[one], points[other]) for one, other in zip(face, [*face[1:], face[0]])
+            )
         ]
         longest = lengths.index(max(lengths))
         start, end, middle = face[longest], face[(longest + 1) % 3], face[(longest + 2) % 3]
@@ -117,8 +129,8 @@ def without_flat(points: Sequence[Point], faces: List[Polygon]) -> List[Polygon]
         if beyond is None or beyond == number:
             return [other for other in faces if other is not face]
         at = faces[beyond].index(end)
-        longer = faces[beyond][: at + 1] + [middle] + faces[beyond][at + 1 :]
-        faces[beyond] = longer
+        faces[beyond] = [*faces[beyond]]
+        faces[beyond].insert(at + 1, middle)
         del faces[number]
         faces = [piece for other in faces for piece in simple_ones(other, points)]
     return faces
@@ -185,7 +197,8 @@ def solids(points: Sequence[Point], faces: Sequence[Polygon]) -> List[List[Polyg
         if size < 0:
             place = points[shell[0][0]]
             around = next(
-                (number for number, (_, other) in enumerate(outer) if holds(points, other, place)), None
+                (number for number, (_, other) in enumerate(outer) if holds(points, other, place)),
+                None,
             )
             if around is None:  # a solid that is wound inwards
                 bodies.append([face[::-1] for face in shell])
@@ -203,7 +216,10 @@ def holds(points: Sequence[Point], shell: Sequence[Polygon], place: Point) -> bo
     a, b, c = (table[triangles[:, corner]] for corner in range(3))
     la, lb, lc = (numpy.linalg.norm(side, axis=1) for side in (a, b, c))
     upper = (a * numpy.cross(b, c)).sum(axis=1)
-    lower = la * lb * lc + (a * b).sum(axis=1) * lc + (b * c).sum(axis=1) * la + (c * a).sum(axis=1) * lb
+    lower = (
+        la * lb * lc
+        + (a * b).sum(axis=1) * lc
+        + (b * c).sum(axis=1) * la
+        + (c * a).sum(axis=1) * lb
+    )
     return bool(abs(2 * numpy.arctan2(upper, lower).sum()) > 2 * numpy.pi)
-
-

@@ -11,16 +11,18 @@ from ..hulls import Point
 MOST_ENTRIES = 4_000_000  # of a table of faces by corners
 
 
-def beyond_hull(points: Sequence[Point], faces: Sequence[Sequence[int]], allowed: float) -> float:
+def beyond_hull(points: numpy.ndarray, faces: Sequence[Sequence[int]], allowed: float) -> float:
     """An upper bound, in steps, of how far the hull goes beyond the solid in a closed surface; infinite beyond allowed.
 
-    Let all faces turn their inner side to a point c, so that the solid is the union of the cones from c to its triangles.
-    A triangle may lie by d, at most, below a face of the hull, and c by D. A point of the hull ahead of the triangle, as c
-    sees it, then lies at most by a factor (D - d + d) / (D - d) as far from c as the triangle does. So it lies within
-    R d / (D - d) of it, where R is the greatest distance of its corners from c.
+    Let all faces turn their inner side to a point c, so that the solid is the union of the cones from c to its
+    triangles. Let a triangle lie at most d below a face of the hull, and c lie D below it. A point of the hull beyond
+    the triangle, as c sees it, then lies at most D / (D - d) times as far from c as the point of the triangle before
+    it. So it lies within R d / (D - d) of that point, where R is the greatest distance of a corner from c.
     """
     table = numpy.array(points, float)
-    triangles = numpy.array([[face[0], a, b] for face in faces for a, b in zip(face[1:], face[2:])], int)
+    triangles = numpy.array(
+        [[face[0], a, b] for face in faces for a, b in zip(face[1:], face[2:])], int
+    )
     try:
         hull = ConvexHull(table)
     except QhullError:

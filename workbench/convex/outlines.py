@@ -83,9 +83,10 @@ class Outline:
         fit = fit[numpy.argsort(lengths[fit], kind="stable")]
         seen: List[int] = []
         for start in range(0, len(fit), 32):
-            some = fit[start : start + 32]
+            end = start + 32
+            some = fit[start:end]
             for other in some[self.unblocked(node, some)]:
-                back = self.table[node : node + 1] - self.table[other]
+                back = (self.table[node] - self.table[other])[None, :]
                 if self.inside(int(other), back)[0]:
                     seen.append(int(other))
             if enough is not None and len(seen) >= enough:
@@ -100,13 +101,17 @@ class Outline:
         heads, tails = self.table[None, near, :], self.tails[None, near, :]
 
         def side(spots: numpy.ndarray) -> numpy.ndarray:
-            return cuts[..., 0] * (spots[..., 1] - start[1]) - cuts[..., 1] * (spots[..., 0] - start[0])
+            return cuts[..., 0] * (spots[..., 1] - start[1]) - cuts[..., 1] * (
+                spots[..., 0] - start[0]
+            )
 
         head_side, tail_side = side(heads), side(tails)
         along = ((heads - start) * cuts).sum(axis=2)
         on = (head_side == 0) & (along > 0) & (along < (cuts * cuts).sum(axis=2))
         edge = tails - heads
-        start_side = edge[..., 0] * (start[1] - heads[..., 1]) - edge[..., 1] * (start[0] - heads[..., 0])
+        start_side = edge[..., 0] * (start[1] - heads[..., 1]) - edge[..., 1] * (
+            start[0] - heads[..., 0]
+        )
         end_side = edge[..., 0] * (ends[:, None, 1] - heads[..., 1]) - edge[..., 1] * (
             ends[:, None, 0] - heads[..., 0]
         )
@@ -136,7 +141,7 @@ class Outline:
         return bool((split & (numpy.sign(one) * numpy.sign(two) < 0)).any())
 
     def rays(self, node: int) -> List[int]:
-        """The nodes to which edges and cuts lead, against the clock from the edge that leaves to the one that arrives."""
+        """The nodes to which edges and cuts lead, against the clock, from the edge that leaves the node on."""
         leaving, _ = self.edges_at(node)
         here = self.spots[node]
 
@@ -204,17 +209,24 @@ def chosen_cuts(outline: Outline, reflex: List[int], seen: Dict[int, List[int]])
         (node, other)
         for node in reflex
         for other in seen[node]
-        if node < other and other in waiting and outline.serves(node, other) and outline.serves(other, node)
+        if node < other
+        and other in waiting
+        and outline.serves(node, other)
+        and outline.serves(other, node)
     ]
     for cut in sorted(double, key=length):
         if waiting.issuperset(cut) and not outline.crosses(cut, cuts):
             take(cut)
             waiting.difference_update(cut)
-    single = [(node, other) for node in waiting for other in seen[node] if outline.serves(node, other)]
+    single = [
+        (node, other) for node in waiting for other in seen[node] if outline.serves(node, other)
+    ]
     for cut in sorted(single, key=length):
         if cut[0] in waiting and not outline.crosses(cut, cuts):
             take(cut)
-            waiting.difference_update(node for node in cut if node in waiting and outline.is_convex_at(node))
+            waiting.difference_update(
+                node for node in cut if node in waiting and outline.is_convex_at(node)
+            )
     for node in sorted(waiting):
         for other in seen[node]:
             if not outline.is_convex_at(node) and not outline.crosses((node, other), cuts):

@@ -1,7 +1,7 @@
 """Cells with corners at fractions become pieces with corners on the grid.
 
 Corners that are points of the grid stay. Another corner goes, as it is asked for, to points of the grid
-- around it ("over"): the corners of the cube of the grid in which it lies, so that the piece holds the cell;
+- around it ("over"): the corners of the cube of the grid that holds it, so that the piece holds the cell;
 - within the cell ("under"): the nearest such point, if there is one near, so that the piece lies within the cell;
 - "near": the nearest one that is not ahead of the faces of the solid, so that the piece does not reach into what touches
   the solid there. It may go beyond a wall that is only a cut between two pieces.
@@ -88,7 +88,9 @@ def nearest(corner: Sequence[Number], walls: Sequence[Wall]) -> Optional[Point]:
 def grown(points: Iterable[Point], axes: List[int]) -> List[Point]:
     """Points whose hull is that of the points, grown by a step both ways along each of the axes."""
     ways = [(-1, 1) if axis in axes else (0,) for axis in range(3)]
-    return sorted({(x + i, y + j, z + k) for x, y, z in points for i, j, k in itertools.product(*ways)})
+    return sorted(
+        {(x + i, y + j, z + k) for x, y, z in points for i, j, k in itertools.product(*ways)}
+    )
 
 
 def shrunk(cell: Cell, depth: float) -> List[Point]:
@@ -126,7 +128,9 @@ def corners_within(normals: numpy.ndarray, heights: numpy.ndarray) -> numpy.ndar
     if not told.success or told.x[3] <= 1e-6:
         return numpy.zeros((0, 3))
     try:
-        found = HalfspaceIntersection(numpy.hstack([normals, -heights[:, None]]), told.x[:3]).intersections
+        found = HalfspaceIntersection(
+            numpy.hstack([normals, -heights[:, None]]), told.x[:3]
+        ).intersections
     except QhullError:
         return numpy.zeros((0, 3))
     return found[numpy.isfinite(found).all(axis=1)]
@@ -169,7 +173,8 @@ def fans(rows: List[Point], faces: List[List[int]], corners: int) -> List[List[P
     groups: List[Set[Point]] = [{rows[0]}]
     for face in faces:
         for at in range(1, len(face) - 1, corners - 3):
-            some = {rows[corner] for corner in [face[0], *face[at : at + corners - 2]]}
+            end = at + corners - 2
+            some = {rows[corner] for corner in [face[0], *face[at:end]]}
             if len(groups[-1] | some) > corners:
                 groups.append({rows[0]})
             groups[-1] |= some
