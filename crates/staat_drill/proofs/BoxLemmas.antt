@@ -20,7 +20,7 @@ use Rattle.staat_vec.proofs.VectorOrder.{vector_exact, vector_total}
 use Rattle.staat_model.specs.Pieces.{IsPiece, IsSolid}
 use Rattle.staat_model.specs.declared.assembly.Part.{Part}
 use Rattle.staat_samples.specs.Hulls.{HasNoHull, IsHull, IsUnion, box_corners}
-use Rattle.staat_drill.specs.Products.{IsBox, union_of}
+use Rattle.staat_drill.specs.Products.{IsBox, part_of_boxes}
 
 less_is : (a b : ℤ) → a <ℤ b → int_cmp a b ≡ Less
 less_is a b lt = sym (int_cmp_is a b Less lt)
@@ -113,5 +113,5 @@ all_have_hulls cs are (k, body, lt, is, none) =
     let some = All-map (λ (x : List V3). HasNoHull x → ⊥) points_of cs (All-weaker IsBox (λ c. HasNoHull (points_of c) → ⊥) (λ c box none. none (points_of c) (box_hull c box)) cs are) in
     some k body lt (subst HasNoHull (sym is) none)
 
-pub union_only : (cs : List (V3 × V3)) (part : Part) → All IsBox cs → IsUnion (map points_of cs) part → part ≡ union_of cs
+pub union_only : (cs : List (V3 × V3)) (part : Part) → All IsBox cs → IsUnion (map points_of cs) part → part ≡ part_of_boxes cs
 union_only cs part are is = λ i. record { name = is.name i; pieces = hulls_are cs part.pieces are is.pieces i }

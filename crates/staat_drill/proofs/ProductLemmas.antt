@@ -14,7 +14,7 @@ use Rattle.staat_model.specs.declared.assembly.Part.{Part}
 use Rattle.staat_model.specs.Assemblies.{IsAssembly, IsPart}
 use Rattle.staat_model.specs.Pieces.{IsPiece}
 use Rattle.staat_samples.specs.Hulls.{box_corners}
-use Rattle.staat_drill.specs.Products.{IsBox, core, cube_at, nested_boxes, row_of_cubes, slabs, union_of}
+use Rattle.staat_drill.specs.Products.{IsBox, core, cube_at, nested_boxes, row_of_cubes, slabs, part_of_boxes}
 use Rattle.staat_drill.proofs.BoxLemmas.{box_piece}
 
 pub cube_is_box : (k : ℕ) → k < 32 → IsBox (cube_at k)
@@ -66,23 +66,23 @@ slabs_are_boxes k some few =
 
 -- ---- assemblies
 
-is_part : (boxes : List (V3 × V3)) → 1 ≤ length boxes → All IsBox boxes → IsPart (union_of boxes)
+is_part : (boxes : List (V3 × V3)) → 1 ≤ length boxes → All IsBox boxes → IsPart (part_of_boxes boxes)
 is_part boxes some are = record {
   nonempty = subst (λ n. 1 ≤ n) (sym (length-map boxes (λ c. box_corners c.0 c.1))) some;
   pieces = All-map IsPiece (λ c. box_corners c.0 c.1) boxes (All-weaker IsBox (λ c. IsPiece (box_corners c.0 c.1)) box_piece boxes are);
 }
 
-cubes_are_parts : (a n : ℕ) → a + n ≤ 32 → All IsPart (map (λ k. union_of (cube_at k ∷ [])) (range_with_len a n))
+cubes_are_parts : (a n : ℕ) → a + n ≤ 32 → All IsPart (map (λ k. part_of_boxes (cube_at k ∷ [])) (range_with_len a n))
 cubes_are_parts a zero le = All-nil IsPart
 cubes_are_parts a (suc n) le =
-    All-cons IsPart (union_of (cube_at a ∷ [])) (map (λ k. union_of (cube_at k ∷ [])) (range_with_len (a + 1) n))
+    All-cons IsPart (part_of_boxes (cube_at a ∷ [])) (map (λ k. part_of_boxes (cube_at k ∷ [])) (range_with_len (a + 1) n))
     (is_part (cube_at a ∷ []) (lit≤ tt) (All-cons IsBox (cube_at a) [] (cube_is_box a (omega arith)) (All-nil IsBox)))
     (cubes_are_parts (a + 1) n (omega arith))
 
-boxes_are_parts : (a n : ℕ) → 1 ≤ a → a + n ≤ 7 → All IsPart (map (λ k. union_of (slabs k)) (range_with_len a n))
+boxes_are_parts : (a n : ℕ) → 1 ≤ a → a + n ≤ 7 → All IsPart (map (λ k. part_of_boxes (slabs k)) (range_with_len a n))
 boxes_are_parts a zero some le = All-nil IsPart
 boxes_are_parts a (suc n) some le =
-    All-cons IsPart (union_of (slabs a)) (map (λ k. union_of (slabs k)) (range_with_len (a + 1) n))
+    All-cons IsPart (part_of_boxes (slabs a)) (map (λ k. part_of_boxes (slabs k)) (range_with_len (a + 1) n))
     (is_part (slabs a) (lit≤ tt) (slabs_are_boxes a some (omega arith)))
     (boxes_are_parts (a + 1) n (omega arith) (omega arith))
 
@@ -96,17 +96,17 @@ count_by f m a (suc n) each =
 
 pub row_is_assembly : (n : ℕ) → 1 ≤ n → n ≤ 32 → IsAssembly (row_of_cubes n)
 row_is_assembly n some few =
-    let long = length-map-range_with_len (λ k. union_of (cube_at k ∷ [])) 0 n in
-    let count = count_by (λ k. union_of (cube_at k ∷ [])) 1 0 n (λ k. refl) in
+    let long = length-map-range_with_len (λ k. part_of_boxes (cube_at k ∷ [])) 0 n in
+    let count = count_by (λ k. part_of_boxes (cube_at k ∷ [])) 1 0 n (λ k. refl) in
     record { at_least = omega (arith, long); at_most = omega (arith, long); each = cubes_are_parts 0 n (omega arith); pieces = omega (arith, count) }
 
 pub nest_is_assembly : (n : ℕ) → 1 ≤ n → n ≤ 6 → IsAssembly (nested_boxes n)
 nest_is_assembly n some few =
-    let long = length-map-range_with_len (λ k. union_of (slabs k)) 1 n in
-    let count = sum_by-cons (λ (part : Part). length part.pieces) (union_of (core ∷ [])) (map (λ k. union_of (slabs k)) (range_with_len 1 n)) ∙ ap (λ m. 1 + m) (count_by (λ k. union_of (slabs k)) 6 1 n (λ k. refl)) in
+    let long = length-map-range_with_len (λ k. part_of_boxes (slabs k)) 1 n in
+    let count = sum_by-cons (λ (part : Part). length part.pieces) (part_of_boxes (core ∷ [])) (map (λ k. part_of_boxes (slabs k)) (range_with_len 1 n)) ∙ ap (λ m. 1 + m) (count_by (λ k. part_of_boxes (slabs k)) 6 1 n (λ k. refl)) in
     record {
       at_least = omega (arith, long);
       at_most = omega (arith, long);
-      each = All-cons IsPart (union_of (core ∷ [])) (map (λ k. union_of (slabs k)) (range_with_len 1 n)) (is_part (core ∷ []) (lit≤ tt) (All-cons IsBox core [] core_is_box (All-nil IsBox))) (boxes_are_parts 1 n (lit≤ tt) (omega arith));
+      each = All-cons IsPart (part_of_boxes (core ∷ [])) (map (λ k. part_of_boxes (slabs k)) (range_with_len 1 n)) (is_part (core ∷ []) (lit≤ tt) (All-cons IsBox core [] core_is_box (All-nil IsBox))) (boxes_are_parts 1 n (lit≤ tt) (omega arith));
       pieces = omega (arith, count);
     }

@@ -16,8 +16,8 @@ pub record IsBox (corners : V3 × V3) : Type 0 where
   pub high : IsWithin POINT corners.1
 
 -- the part without a name that is the union of the boxes between these corners
-abbrev pub union_of : List (V3 × V3) → Part
-union_of boxes = record { name = []; pieces = map (λ corners. box_corners corners.0 corners.1) boxes }
+abbrev pub part_of_boxes : List (V3 × V3) → Part
+part_of_boxes boxes = record { name = []; pieces = map (λ corners. box_corners corners.0 corners.1) boxes }
 
 -- the cube at place k of a row: x from 2k to 2k + 2, y and z from 0 to 2
 abbrev pub cube_at : ℕ → V3 × V3
@@ -25,7 +25,7 @@ cube_at k = (vector (pos (2 * k)) (pos 0) (pos 0), vector (pos (2 * k + 2)) (pos
 
 -- n cubes in a row
 abbrev pub row_of_cubes : ℕ → List Part
-row_of_cubes n = map (λ k. union_of (cube_at k ∷ [])) (range_with_len 0 n)
+row_of_cubes n = map (λ k. part_of_boxes (cube_at k ∷ [])) (range_with_len 0 n)
 
 -- the cube from -1 to 1
 abbrev pub core : V3 × V3
@@ -44,4 +44,4 @@ slabs k =
 
 -- the cube and n boxes, each around what stands before it
 abbrev pub nested_boxes : ℕ → List Part
-nested_boxes n = union_of (core ∷ []) ∷ map (λ k. union_of (slabs k)) (range_with_len 1 n)
+nested_boxes n = part_of_boxes (core ∷ []) ∷ map (λ k. part_of_boxes (slabs k)) (range_with_len 1 n)

@@ -1,7 +1,7 @@
 // Cubes in a row, and a cube in boxes.
 ghost use Rattle.std.specs.Prelude.{◌≡◌, ◌<◌, ◌≤◌, All, IfOk};
 ghost use Rattle.staat_model.specs.Assemblies.{IsAssembly};
-ghost use Rattle.staat_drill.specs.Products.{IsBox, core, cube_at, nested_boxes, row_of_cubes, slabs, union_of};
+ghost use Rattle.staat_drill.specs.Products.{IsBox, core, cube_at, nested_boxes, row_of_cubes, slabs, part_of_boxes};
 
 use staat_limits::{MOST_BOXES, MOST_PARTS};
 use staat_model::{Assembly, Part};
@@ -10,9 +10,9 @@ use staat_vec::{OutOfMemory, V3};
 use std::alloc::Global;
 
 // the union of boxes
-fn union_of(alloc: Global, corners: &[(V3, V3)]) -> Result<Part, OutOfMemory>
+fn part_of_boxes(alloc: Global, corners: &[(V3, V3)]) -> Result<Part, OutOfMemory>
     requires { All IsBox corners.now }
-    ensures { IfOk result (λ part. part ≡ union_of corners.now) }
+    ensures { IfOk result (λ part. part ≡ part_of_boxes corners.now) }
 {
     let Some(part) = boxes(alloc, corners)? else {
         unreachable!();
@@ -48,7 +48,7 @@ pub fn row_of_cubes(alloc: Global, n: u32) -> Result<Assembly, OutOfMemory>
 {
     let mut parts = Vec::new(alloc);
     for k in 0..n {
-        parts.push(union_of(alloc, &[cube_at(k)])?)?;
+        parts.push(part_of_boxes(alloc, &[cube_at(k)])?)?;
     }
     Ok(whole(parts))
 }
@@ -86,9 +86,9 @@ pub fn nested_boxes(alloc: Global, n: u32) -> Result<Assembly, OutOfMemory>
     ensures { IfOk result (λ a. a ≡ nested_boxes n) }
 {
     let mut parts = Vec::new(alloc);
-    parts.push(union_of(alloc, &[core()])?)?;
+    parts.push(part_of_boxes(alloc, &[core()])?)?;
     for k in 1..n + 1 {
-        parts.push(union_of(alloc, &slabs(k))?)?;
+        parts.push(part_of_boxes(alloc, &slabs(k))?)?;
     }
     Ok(whole(parts))
 }

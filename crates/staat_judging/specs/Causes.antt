@@ -20,8 +20,8 @@ pub record IsLongInput (asked : Asked) (shelf : ShelfSide) (name : List ℕ) : T
   pub named : MayName asked.input name
   pub refused : (files : Files) → shelf.old.holds ≡ Some files → IsSoundOf files asked (Err (TooLong name))
 
--- What shows why a fault of `check` came. The certificate's name may be one of the input too: what is too long is the file
--- of the input by the one limit, or that of the certificate by the other.
+-- What shows why a fault of `check` came. The certificate's name may be one of the input too: what is too long is the
+-- file of the input by the one limit, or that of the certificate by the other.
 abbrev pub HasCheckCause : CheckRequest → ShelfSide → Fault → Type 0
 HasCheckCause request shelf (TooLong name) =
     IsLongInput request.asked shelf name ⊎ ((name ≡ request.certificate) × IsPastLimit TEXT_LIMIT shelf name)

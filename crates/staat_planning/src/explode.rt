@@ -11,7 +11,8 @@ ghost use Rattle.staat_text.specs.PlanTexts.{CanBeShown};
 ghost use Rattle.staat_words.specs.Requests.{IsExplodeRequest};
 ghost use Rattle.staat_input.specs.Work.{Files, Follows};
 ghost use Rattle.staat_input.specs.Drawing.{AreSmall};
-ghost use Rattle.staat_planning.specs.Exploding.{explode_fault, AreShifted, IsPlanViewed, IsOutcomeViewed, IsViewed, ExplodeWork};
+ghost use Rattle.staat_planning.specs.Exploding.{explode_fault, AreShifted, ExplodeWork};
+ghost use Rattle.staat_planning.specs.Exploding.{IsPlanViewed, IsOutcomeViewed, IsViewed};
 ghost use Rattle.staat_input.specs.Counting.{all_parts};
 ghost use Rattle.staat_input.specs.Causes.{HasCause, ShelfSide, over};
 

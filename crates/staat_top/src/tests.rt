@@ -1,5 +1,5 @@
-// What a call says over files that fail in mid-stream or come in small pieces. What it says for words and files stands in
-// the transcripts of tests/.
+// What a call says over files that fail in mid-stream or come in small pieces. What it says for words and files stands
+// in the transcripts of tests/.
 
 use crate::held::{NEVER, shelf, sink, words};
 use crate::staat;
@@ -23,9 +23,9 @@ pub fn said(
     Ok(format!(in alloc; "{status}|{out}|{err}")?)
 }
 
-// Each command, and the files that it reads, in their order, each of them once for each time that it is named: a pipe that
-// was read is empty. A file takes three calls of the shelf: one that opens it, one that reads its bytes and one that finds
-// its end. The call that fails is told by its file, and there are no calls but these.
+// Each command, and the files that it reads, in their order, each of them once for each time that it is named: a pipe
+// that was read is empty. A file takes three calls of the shelf: one that opens it, one that reads its bytes and one
+// that finds its end. The call that fails is told by its file, and there are no calls but these.
 const READS: &str = "\
 check c.txt a.off b.off>a.off b.off c.txt
 plan b.off a.off>b.off a.off

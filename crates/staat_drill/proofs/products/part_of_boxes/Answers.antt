@@ -1,7 +1,7 @@
 use Rattle.std.proofs.Common.{subst, map}
 use Rattle.staat_samples.specs.Hulls.{IsUnionAnswer, box_corners}
 use Rattle.staat_drill.proofs.BoxLemmas.{all_have_hulls, union_only}
-use Rattle.staat_drill.proofs.products.union_of.Goals as goal
+use Rattle.staat_drill.proofs.products.part_of_boxes.Goals as goal
 
 pub unreachable-requires : goal.unreachable-requires
 unreachable-requires c =
