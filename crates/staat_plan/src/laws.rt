@@ -15,7 +15,7 @@ ghost use Rattle.staat_model.specs.Bridges.{swapped};
 ghost use Rattle.staat_model.specs.Certificates.{inward, outward};
 ghost use Rattle.staat_model.specs.Certify.{IsCertificateOf, IsLeastArc, IsWitnessAt};
 ghost use Rattle.staat_model.specs.declared.tree.Kind.{Kind as KindValue};
-ghost use Rattle.staat_model.specs.Outcomes.{AreTries, Finding, IsOutcome, IsStep, Serves, Try, planned};
+ghost use Rattle.staat_model.specs.Outcomes.{AreTries, Finding, IsOutcome, IsStep, Serves, Try, planned, stuck};
 ghost use Rattle.staat_model.specs.Planes.{ArePlanes};
 ghost use Rattle.staat_model.specs.Plans.{IsGood, IsStuck, Plan};
 ghost use Rattle.staat_model.specs.Sets.{IsLeastOf, IsSubset, below};
@@ -109,4 +109,10 @@ pub fn outcome_has_certificate()
         IsAssembly parts → IsVersion version → IsOutcome robust parts (below (length parts)) (planned plan marks) →
         (c : CertificateValue) × IsCertificateOf parts version (planned plan marks) c ×
         (length (text_of c) ≤ TEXT_LIMIT) }
+{}
+
+/// A set that is stuck has a certificate, too, in each version.
+pub fn refusal_has_certificate()
+    ensures { (parts : List PartValue) (version : ℕ) (w : PartSetValue) →
+        IsAssembly parts → IsStuck parts w → (c : CertificateValue) × IsCertificateOf parts version (stuck w) c }
 {}
