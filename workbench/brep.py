@@ -28,11 +28,16 @@ class Edge:
 
 @dataclass
 class Face:
-    """A bounded surface; `edges` are those around it, each as often as it bounds the face; `tag` is the modeller's."""
+    """A bounded surface; `edges` are those around it, each as often as it bounds the face.
+
+    tag: the modeller's number
+    inner: a point of the face, where its surface is a ball
+    """
 
     fit: Fit
     edges: List[int]
     tag: int = 0
+    inner: numpy.ndarray = field(default_factory=lambda: numpy.zeros(3))
 
 
 @dataclass
@@ -48,11 +53,19 @@ class Body:
 
 @dataclass
 class Region:
-    """Faces on one surface that hang together; `loops` are the edges around them, in order, with where each begins."""
+    """Faces on one surface that hang together.
+
+    loops: the edges around them, in order; with False an edge is followed from its second end to its first
+    tags, inner: as of the faces; the inner point is one of the first face
+    """
 
     fit: Fit
     loops: List[List[Tuple[int, bool]]] = field(default_factory=list)
     tags: List[int] = field(default_factory=list)
+    inner: numpy.ndarray = field(default_factory=lambda: numpy.zeros(3))
+
+    def edges(self) -> Set[int]:
+        return {number for loop in self.loops for number, _ in loop}
 
 
 def same(one: Fit, other: Fit, near: float) -> bool:
@@ -94,6 +107,7 @@ def regions_of(body: Body, near: float) -> List[Region]:
         around = [edge for edge, many in times.items() if many == 1]
         region = Region(body.faces[some[0]].fit, loops_of(body, around))
         region.tags = [body.faces[number].tag for number in some]
+        region.inner = body.faces[some[0]].inner
         regions.append(region)
     return regions
 

@@ -18,6 +18,7 @@ from .solid import Mesh, Options, Surface
 from .triangles import newell, triangulated
 
 ROUND = ("cylinder", "cone")
+BALL = "sphere"
 SPARE = 0.75  # steps; rounding moves a point by at most half the diagonal of a square of the grid
 
 
@@ -67,8 +68,10 @@ def noted(body: Body, axes: Axes) -> List[Region]:
         raise Unfit(str(fault)) from fault
     hard = hard_corners(body, regions)
     for region in regions:
-        if region.fit.kind not in ("plane", *ROUND):
+        if region.fit.kind not in ("plane", BALL, *ROUND):
             raise Unfit(f"a face is {region.fit.kind}")
+        if region.fit.kind == BALL:
+            note_ball(body, region, axes, hard)
         if region.fit.kind == "cylinder":
             axes.note(Arc(region.fit.point, region.fit.axis, region.fit.radius), [])
         for loop in region.loops:
@@ -80,6 +83,23 @@ def noted(body: Body, axes: Axes) -> List[Region]:
                 elif region.fit.kind in ROUND:
                     note_on_round(region, axes, corners)
     return regions
+
+
+def note_ball(body: Body, region: Region, axes: Axes, hard: Set[int]) -> None:
+    """A part of a ball between whole circles around one axis. Unfit: it is bounded in another way."""
+    arcs = circles_of(body, region)
+    if len(arcs) < len(region.edges()) or any(
+        end in hard for number in region.edges() for end in body.edges[number].ends
+    ):
+        raise Unfit("a part of a ball that is not bounded by circles")
+    if len(region.loops) > 2 or not axes.ball(region.fit.point).note(region.fit.radius, arcs):
+        raise Unfit("a part of a ball between circles of several axes")
+
+
+def circles_of(body: Body, region: Region) -> List[Arc]:
+    """The circles of the edges around a region."""
+    arcs = (body.edges[number].arc for number in sorted(region.edges()))
+    return [arc for arc in arcs if arc is not None]
 
 
 def note_on_round(region: Region, axes: Axes, corners: List[numpy.ndarray]) -> None:
@@ -220,6 +240,8 @@ class Drawing:
             before = len(self.faces)
             if fit.kind == "plane":
                 self.draw_plane(region, loops)
+            elif fit.kind == BALL:
+                self.draw_ball(region)
             else:
                 self.draw_round(region, loops)
             self.surfaces.append(
@@ -246,6 +268,44 @@ class Drawing:
             local = [[place[number] for number in loops[at]] for at in order]
             found = triangulated(rows, local, region.fit.axis)
             self.faces += [[used[corner] for corner in face] for face in found]
+
+    def draw_ball(self, region: Region) -> None:
+        """The faces of a part of a ball: between each two angles and latitudes."""
+        fit = region.fit
+        ball = self.axes.ball(fit.point)
+        axis = self.axes.axis_of(ball)
+        radius = self.drawn.get(self.ball_key(region), fit.radius)
+        low, high = ball.zone(region.inner, circles_of(self.body, region))
+        rings: List[List[int]] = []
+        for level in ball.between(low, high):
+            pole = abs(abs(level) - numpy.pi / 2) < 1e-6
+            outs = [numpy.zeros(3)] if pole else [axis.out(angle) for angle in axis.angles]
+            up = ball.axis * numpy.sin(level)
+            rings.append(
+                [
+                    self.points.of(ball.centre + radius * (up + numpy.cos(level) * out))
+                    for out in outs
+                ]
+            )
+        many = len(axis.angles)
+        for one, other in zip(rings, rings[1:]):
+            for k in range(many):
+                face = [one[k % len(one)], one[(k + 1) % len(one)]]
+                face += [other[(k + 1) % len(other)], other[k % len(other)]]
+                self.faces.append([n for at, n in enumerate(face) if n != face[at - 1]])
+
+    def ball_key(self, region: Region) -> Tuple[int, ...]:
+        """The key of a whole ball."""
+        return (-1, *self.key(Arc(region.fit.point, region.fit.axis, region.fit.radius)))
+
+    def share(self, region: Region) -> float:
+        """How far from its centre a face of a ball's polyhedron is at least, as a share of its corners' distance.
+
+        The corners between two angles and two latitudes: across the axis they come nearer by the cosine of half the
+        angle, and along a meridian by that of half the latitude.
+        """
+        ball = self.axes.ball(region.fit.point)
+        return float(numpy.cos(ball.tallest() / 2)) / self.axes.axis_of(ball).factor()
 
     def draw_round(self, region: Region, loops: List[List[int]]) -> None:
         fit = region.fit
@@ -355,10 +415,11 @@ def closed_mesh(drawing: Drawing) -> Mesh:
 def mark_holes(drawing: Drawing, mesh: Mesh) -> None:
     """Says of each round surface whether the solid lies outside of it."""
     for surface in drawing.surfaces:
-        if surface.kind in ROUND and surface.faces and surface.axis is not None:
+        if surface.kind in (BALL, *ROUND) and surface.faces and surface.axis is not None:
             rows = mesh.points[mesh.faces[surface.faces[0]]]
             out = rows.mean(axis=0) - surface.point
-            out = out - surface.axis * float(out @ surface.axis)
+            if surface.kind != BALL:
+                out = out - surface.axis * float(out @ surface.axis)
             surface.hole = float(newell(rows) @ out) < 0
 
 
@@ -379,6 +440,11 @@ def drawn_radii(drawing: Drawing, options: Options) -> Dict[Tuple[int, ...], flo
                 (arc.radius + spare) * axis.factor() if grow else arc.radius - spare * axis.factor()
             )
             wanted[key] = radius if wanted.get(key, radius) == radius else arc.radius
+        if region.fit.kind == BALL and not region.loops:
+            fit, grow = region.fit, surface.hole == (options.side == "under")
+            share = drawing.share(region)
+            radius = (fit.radius + 2 * spare) / share if grow else fit.radius - 2 * spare
+            wanted[drawing.ball_key(region)] = radius
     return {key: radius for key, radius in wanted.items() if radius > 0}
 
 
@@ -400,6 +466,14 @@ def bounds_of(drawing: Drawing) -> Tuple[float, float]:
     """How far the faces go beyond the solid, and how far they fall short of it."""
     over = under = 0.0
     for region, surface in zip(drawing.regions, drawing.surfaces):
+        if region.fit.kind == BALL:
+            radius = region.fit.radius
+            drawn = drawing.drawn.get(drawing.ball_key(region), radius)
+            beyond, short = max(drawn - radius, 0.0), max(
+                radius - drawn * drawing.share(region), 0.0
+            )
+            over = max(over, short if surface.hole else beyond)
+            under = max(under, beyond if surface.hole else short)
         for number in (
             {number for loop in region.loops for number, _ in loop}
             if surface.kind in ROUND

@@ -7,10 +7,11 @@ from __future__ import annotations
 
 import math
 from dataclasses import dataclass, field
-from typing import List, Optional, Sequence, Tuple
+from typing import List, Optional, Sequence
 
 import numpy
 
+from .balls import Ball
 from .fitting import NEAR, Arc, canonical, frame
 from .solid import Options
 
@@ -96,6 +97,7 @@ class Axes:
     def __init__(self, extent: float) -> None:
         self.near = NEAR * max(extent, 1e-9)
         self.known: List[Axis] = []
+        self.balls: List[Ball] = []
 
     def of(self, arc: Arc) -> Axis:
         """The axis of a circle, which is made where it is not known."""
@@ -117,9 +119,22 @@ class Axes:
         axis.radii.append(arc.radius)
         axis.forced += [axis.angle_of(corner) for corner in corners]
 
+    def ball(self, centre: numpy.ndarray) -> Ball:
+        """The ball around a centre, which is made where it is not known."""
+        for ball in self.balls:
+            if numpy.abs(ball.centre - centre).max() < self.near:
+                return ball
+        self.balls.append(Ball(centre))
+        return self.balls[-1]
+
+    def axis_of(self, ball: Ball) -> Axis:
+        return self.of(Arc(ball.centre, ball.axis, max(ball.radii)))
+
     def cut(self, options: Options) -> None:
+        """Chooses all angles and latitudes."""
+        for ball in self.balls:
+            self.axis_of(ball).radii.append(max(ball.radii))
+            ball.cut(sides_for(max(ball.radii), options))
         for axis in self.known:
-            axis.cut(options)
-
-
-Loop = List[Tuple[int, float]]  # places among the angles of an axis, with heights along it
+            if axis.radii:
+                axis.cut(options)

@@ -163,7 +163,7 @@ class Reader:
                     body.edges[abs(curve)] = edge
                     for end in edge.ends:
                         body.vertices[end] = self.point(end)
-            body.faces.append(Face(self.fit(surface), around, surface))
+            body.faces.append(Face(self.fit(surface), around, surface, self.middle(surface)))
         return body
 
     def point(self, tag: int) -> numpy.ndarray:
@@ -202,6 +202,11 @@ class Reader:
             points, normals = self.sampled(tag)
             self.fits[tag] = fit_surface(points, normals)
         return self.fits[tag]
+
+    def middle(self, tag: int) -> numpy.ndarray:
+        """A point in the middle of the parameters of a surface."""
+        low, high = self.gmsh.model.getParametrizationBounds(2, tag)
+        return numpy.array(self.gmsh.model.getValue(2, tag, (low + high) / 2), float)
 
     def sampled(self, tag: int, many: int = 9) -> Tuple[numpy.ndarray, numpy.ndarray]:
         """Points of a surface with their unit normals."""

@@ -92,6 +92,32 @@ class Step(Case):
                 }
                 self.within_bounds(distances)
 
+    def test_ball_in_socket(self) -> None:
+        """A ball in a socket that is open above, and a cap of a ball: all are cut at the same latitudes."""
+
+        def make(occ: Any) -> None:
+            block, hollow = occ.addBox(-8, -8, -8, 16, 16, 11), occ.addSphere(0, 0, 0, 5)
+            occ.cut([(3, block)], [(3, hollow)])
+            occ.addSphere(0, 0, 0, 5)
+            cap = occ.addSphere(30, 0, 0, 6)
+            occ.cut([(3, cap)], [(3, occ.addBox(20, -10, -10, 20, 20, 12))])
+
+        path = shapes.write_step(self.path("ball.step"), make, ("socket", "ball", "cap"))
+        self.accepted(path, "--sides=8")
+        box = shapes.box_distance([-8, -8, -8], [8, 8, 3])
+        self.within_bounds(
+            {
+                "socket": lambda points: numpy.maximum(
+                    box(points), 5 - numpy.linalg.norm(points, axis=1)
+                ),
+                "ball": shapes.ball_distance((0, 0, 0), 5),
+                "cap": lambda points: numpy.maximum(
+                    shapes.ball_distance((30, 0, 0), 6)(points), 2 - points[:, 2]
+                ),
+            }
+        )
+        self.assertLess(self.bounds()["ball"][1], 0.8)
+
     def test_turned(self) -> None:
         """A fit that stands askew, so that no corner lies on the grid."""
 
