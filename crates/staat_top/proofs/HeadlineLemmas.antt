@@ -42,6 +42,8 @@ use Rattle.staat_judging.proofs.RightAnswers.{plan_shown, refusal_shown}
 use Rattle.staat_top.proofs.RightLemmas.{status_is_right, status_is_denied}
 use Rattle.staat_input.specs.Counting.{all_parts}
 use Rattle.staat_plan.proofs.OutcomeSizes.{outcome_certified}
+use Rattle.staat_plan.proofs.Right.{right_lemma}
+use Rattle.staat_plan.proofs.SomeRefusal.{some_refusal_certificate}
 use Rattle.staat_planning.proofs.SomeOutcome.{some_outcome}
 use Rattle.staat_top.proofs.PrintedLemmas.{printed_is_valid}
 
@@ -136,12 +138,14 @@ written_of : (parts : List Part) (f : Finding) (o : Option ℕ) → ((version : 
 written_of parts f None short = (plan_text f, steps refl)
 written_of parts f (Some version) short = let c = short version refl in (text_of c.0, certificate c.0 c.1 c.2 refl)
 
--- what is found has a certificate that is not too long: a plan has one always
+-- what is found has a certificate, and it is not too long: that of a plan never is
 short_certificate : (request : PlanRequest) (parts : List Part) (f : Finding) → IsPlanRequest request → IsAssembly parts → IsWithinLimits parts request → IsOutcome request.robust parts (all_parts parts) f
     → (version : ℕ) → request.certificate ≡ Some version → (c : Certificate) × IsCertificateOf parts version f c × (length (text_of c) ≤ TEXT_LIMIT)
 short_certificate request parts (planned plan marks) bounds is limits outcome version asks =
     outcome_certified parts is request.robust version plan marks (subst (λ o. IfSome o IsVersion) asks bounds.4) outcome
-short_certificate request parts (stuck w) bounds is limits outcome version asks = limits.short version w asks outcome
+short_certificate request parts (stuck w) bounds is limits outcome version asks =
+    let (c, is_of) = some_refusal_certificate parts version w is (right_lemma request.robust parts is (all_parts parts) (stuck w) outcome).1 in
+    (c, is_of, limits.short version w c asks outcome is_of)
 
 pub answered_plan : (files : Files) (request : PlanRequest) (parts : List Part) → IsPlanRequest request → AreSoundParts files request.asked parts → IsWithinLimits parts request → (reply : Reply) × IsReply (Some (Plan request)) files reply × (reply.status < 2)
 answered_plan files request parts bounds are limits =

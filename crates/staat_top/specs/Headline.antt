@@ -42,16 +42,16 @@ valid_line zero = codes "valid plan\n"
 valid_line (suc n) = codes "valid refusal\n"
 
 -- No limit is exceeded: the parts have no more planes than the request allows, and for a robust plan no more than
--- where cells are listed; and if a certificate is asked for, and a set is stuck, the text of that set's certificate is
--- not too long. That of a plan never is.
+-- where cells are listed; and if a certificate is asked for, and a set is stuck, the text of that set's certificate,
+-- which there always is, is not too long. That of a plan never is.
 pub record IsWithinLimits (parts : List Part) (request : PlanRequest) : Type 0 where
   pub planes : List V3
   pub planes_are : ArePlanes parts (all_parts parts) planes
   pub few : length planes ≤ request.planes
   pub cells : request.robust ≡ true → length planes ≤ MOST_CELL_PLANES
-  pub short : (version : ℕ) (w : PartSet) → request.certificate ≡ Some version →
-      IsOutcome request.robust parts (all_parts parts) (stuck w) →
-      (c : Certificate) × IsCertificateOf parts version (stuck w) c × (length (text_of c) ≤ TEXT_LIMIT)
+  pub short : (version : ℕ) (w : PartSet) (c : Certificate) → request.certificate ≡ Some version →
+      IsOutcome request.robust parts (all_parts parts) (stuck w) → IsCertificateOf parts version (stuck w) c →
+      length (text_of c) ≤ TEXT_LIMIT
 
 -- For all files and requests:
 pub record Headline : Type 0 where
