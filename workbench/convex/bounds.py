@@ -179,8 +179,8 @@ def farthest(
 ) -> float:
     """An upper bound of how far points of the cells lie from the union, in steps.
 
-    own: for each cell those of the union that stand for it; they are tried first. until: a time by the monotonic clock
-    from which on no bound is made better
+    own: for each cell those of the union that stand for it; they are tried first. until: a processor time of this
+    process from which on no bound is made better
     """
     found = 0.0
     for cell, mine in zip(cells, own):
@@ -189,7 +189,7 @@ def farthest(
             default=numpy.inf,
         )
         if bound > max(GOOD, found):
-            good = max(GOOD, found) if time.monotonic() < until else numpy.inf
+            good = max(GOOD, found) if time.process_time() < until else numpy.inf
             bound = min(bound, reach(cell, union, good))
         found = max(found, bound)
     return found + CLEARLY if found else 0.0

@@ -142,7 +142,7 @@ def touch(one: Cell, other: Cell) -> bool:
 def join_all(cells: Sequence[Cell], corners: int, until: float) -> List[Cell]:
     """The same solid of fewer cells: joined while a union of two is convex and has at most so many corners.
 
-    cells: they share no inner points. until: a time by the monotonic clock at which it stops where it stands.
+    cells: they share no inner points. until: a processor time of this process at which it stops.
     """
     alive: Dict[int, Cell] = dict(enumerate(cells))
     behind: Dict[Wall, Set[int]] = defaultdict(set)
@@ -167,10 +167,10 @@ def join_all(cells: Sequence[Cell], corners: int, until: float) -> List[Cell]:
                     yield other, wall
 
     for number in list(alive):
-        if time.monotonic() < until:
+        if time.process_time() < until:
             consider(number, neighbours(number, number))
     following = len(alive)
-    while heap and time.monotonic() < until:
+    while heap and time.process_time() < until:
         _, one, other = heapq.heappop(heap)
         union = unions.pop((one, other))
         if one not in alive or other not in alive:

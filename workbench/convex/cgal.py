@@ -8,6 +8,7 @@ from __future__ import annotations
 import hashlib
 import os
 import re
+import signal
 import subprocess
 import sys
 import tempfile
@@ -85,7 +86,8 @@ def decomposed(
 ) -> List[Cell]:
     """Convex cells without common inner points whose union is the solid.
 
-    faces: a closed surface of plane faces, wound outwards. Refusal: CGAL does not take it, or not within the time.
+    faces: a closed surface of plane faces, wound outwards. seconds: of a processor, so that the answer does not hang on
+    what else runs. Refusal: CGAL does not take it, or not within the time.
     """
     command = built()
     with tempfile.TemporaryDirectory() as folder:
@@ -94,19 +96,14 @@ def decomposed(
             file.write(f"{len(points)} {len(faces)}\n")
             file.writelines("%d %d %d\n" % tuple(point) for point in points)
             file.writelines(" ".join(map(str, [len(face), *face])) + "\n" for face in faces)
-        try:
-            told = subprocess.run(
-                [command, source, target],
-                capture_output=True,
-                text=True,
-                timeout=max(1.0, seconds),
-                check=False,
-            )
-        except subprocess.TimeoutExpired:
+        limit = max(1, round(seconds))
+        words = ["prlimit", f"--cpu={limit}:{limit + 1}", command, source, target]
+        told = subprocess.run(words, capture_output=True, text=True, check=False)
+        if told.returncode in (-signal.SIGXCPU, -signal.SIGKILL):
             raise Refusal(
-                f"it has {len(faces)} faces and took over {seconds:.0f} seconds; draw round faces with fewer sides, "
-                "or give more time"
-            ) from None
+                f"it has {len(faces)} faces and takes CGAL over {limit} seconds; draw round faces with fewer sides, or "
+                "give more --seconds"
+            )
         if told.returncode in CAUSES:
             raise Refusal(CAUSES[told.returncode])
         if told.returncode:

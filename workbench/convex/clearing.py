@@ -48,15 +48,26 @@ class Neighbours:
     """The pieces of all parts, asked for those of other parts that a piece overlaps."""
 
     def __init__(self, parts: Sequence[Part]) -> None:
+        self.parts: Dict[str, List[Part]] = {}
         self.bodies: Dict[str, List[Body]] = {}
+        self.boxes: Dict[str, Tuple[numpy.ndarray, numpy.ndarray]] = {}
         for part in parts:
-            some = self.bodies.setdefault(part.solid.name, [])
-            some += [Body(part.number, at, piece) for at, piece in enumerate(part.pieces)]
-        self.boxes = {
-            name: (numpy.array([b.least for b in some]), numpy.array([b.most for b in some]))
-            for name, some in self.bodies.items()
-            if some
-        }
+            self.parts.setdefault(part.solid.name, []).append(part)
+        for name in self.parts:
+            self.take(name)
+
+    def take(self, name: str) -> None:
+        """Takes the pieces of the part of that name as they are now."""
+        some = [
+            Body(part.number, at, piece)
+            for part in self.parts[name]
+            for at, piece in enumerate(part.pieces)
+        ]
+        self.bodies[name] = some
+        self.boxes[name] = (
+            numpy.array([body.least for body in some]),
+            numpy.array([body.most for body in some]),
+        )
 
     def met(self, name: str, piece: Piece) -> bool:
         """Whether a piece of the part of that name overlaps a piece of another part."""
@@ -80,11 +91,12 @@ def clear(solids: Sequence[Solid], found: Sequence[Pieces], options: Options) ->
     What rounding alone makes overlap is cut back without a clearance, if the side is "near".
     """
     parts = [Part(number, solid, some) for number, (solid, some) in enumerate(zip(solids, found))]
-    until = time.monotonic() + options.seconds
-    for part in parts:
-        tolerance = loose(part, options)
-        if tolerance > 0.0 and len(part.pieces) > 1:
-            join_loosely(part, tolerance, options.corners, Neighbours(parts), until)
+    until = time.process_time() + options.seconds
+    wide = [part for part in parts if len(part.pieces) > 1 and loose(part, options) > 0.0]
+    neighbours = Neighbours(parts if wide else [])
+    for part in wide:
+        join_loosely(part, loose(part, options), options.corners, neighbours, until)
+        neighbours.take(part.solid.name)
     for _ in range(ROUNDS):
         if not give_way(parts, options):
             break
@@ -156,11 +168,11 @@ def join_loosely(
             waiting.append((max(added, 0.0) / (area or 1.0), one, other))
 
     for one, other in near_pairs(part.pieces):
-        if time.monotonic() > until:
+        if time.process_time() > until:
             break
         consider(one, other)
     following = len(pieces)
-    while waiting and time.monotonic() < until:
+    while waiting and time.process_time() < until:
         waiting.sort(reverse=True)
         _, one, other = waiting.pop()
         if one not in pieces or other not in pieces:
@@ -213,7 +225,8 @@ def give_way(parts: Sequence[Part], options: Options) -> bool:
         changed.add(at)
     flat = {key for key, walls in cuts.items() if not fits(parts[key[0]].pieces[key[1]], walls)}
     for at in changed:
-        measure_again(parts[at], {number for part, number in flat if part == at}, options)
+        gone = {number for part, number in flat if part == at}
+        measure_again(parts[at], gone if len(gone) < len(parts[at].pieces) else set(), options)
     return bool(changed)
 
 
@@ -320,7 +333,7 @@ def measure_again(part: Part, gone: Set[int], options: Options) -> None:
     part.pieces = [piece for number, piece in enumerate(part.pieces) if number not in gone]
     made = [Cell.of_piece(piece) for piece in part.pieces]
     own: List[List[Cell]] = [[] for _ in part.cells]
-    far = farthest(part.cells, own, Union(made), time.monotonic() + options.seconds / 4)
+    far = farthest(part.cells, own, Union(made), time.process_time() + options.seconds / 4)
     part.under = max(part.under, part.beyond[1] + far / part.scale)
     if "gave way" not in part.notes:
         part.notes.append("gave way")

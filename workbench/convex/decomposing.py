@@ -8,13 +8,13 @@ from typing import List, Optional, Sequence, Set, Tuple
 import numpy
 
 from ..hulls import Point
-from ..solid import Mesh, Options, Piece, Pieces, Refusal, Solid
+from ..solid import GREATEST, Mesh, Options, Piece, Pieces, Refusal, Solid
 from .bodies import Body, Tangled
 from .bounds import Union, farthest
 from .cells import Cell, Wall, join_all
 from .cgal import decomposed
 from .cutting import convex_pieces
-from .frames import FINER, Turned, frame_of
+from .frames import FINER, TWIN, Turned, frame_of
 from .meshes import Surface, open_edges, rounded, shells, solids
 from .nearly import beyond_hull, corners_of
 from .snapping import grown, piece_or_none, shrunk, small_pieces, snapped
@@ -25,9 +25,8 @@ HULL, GRID, DRAWN, CGAL = (
     "cut as it was drawn before it was turned",
     "cut by CGAL",
 )
-ROUNDED = (
-    1.0  # in steps: a solid whose hull goes beyond it by no more, as it does by rounding, is convex
-)
+MUCH_FINER = 64  # times as fine is the grid on which a solid is cut that crosses itself on the grid
+ROUNDED = 1.0  # in steps: a solid beyond which its hull goes by no more is convex
 
 
 @dataclass
@@ -70,7 +69,7 @@ def decompose(solid: Solid, options: Options) -> Cut:
     Bounds: those of the solid on the grid against the model, and those of the pieces against the solid on the grid, add
     up. The latter are 0 where all cells have their corners on the grid; else see `bounds`.
     """
-    until = time.monotonic() + options.seconds
+    until = time.process_time() + options.seconds
     if solid.whole is not None:
         rough = of_surface(surface_of_whole(solid, solid.whole), solid, options, until)
         rough.over = 0.0
@@ -121,7 +120,27 @@ def of_exact(solid: Solid, mesh: Mesh, options: Options, until: float) -> Rough:
         drawn = None if on_grid else as_drawn(mesh, scale, options, until)
         if drawn is not None:
             return drawn
-    return of_surface(surface, solid, options, until)
+    try:
+        return of_surface(surface, solid, options, until)
+    except Refusal as fault:
+        if not surface.moved:
+            raise
+        return on_finer_grid(mesh, scale, fault, until)
+
+
+def on_finer_grid(mesh: Mesh, scale: float, fault: Refusal, until: float) -> Rough:
+    """The cells of a solid on a finer grid, for one that crosses itself on the grid. The fault: nor is it fit there."""
+    turned = Turned(mesh, scale, numpy.eye(3), MUCH_FINER, 0.0)
+    try:
+        surface = rounded(turned.mesh, 1.0, GREATEST * MUCH_FINER)
+        cells = [
+            turned.back(cell)
+            for faces in solids(surface.points, surface.faces)
+            for cell in decomposed(surface.points, faces, until - time.process_time())
+        ]
+    except Refusal as other:
+        raise (other if "seconds" in str(other) else fault) from None
+    return Rough(cells, CGAL, set(), turned.moved + surface.moved / MUCH_FINER, (0, 1, 2))
 
 
 def is_convex(surface: Surface) -> bool:
@@ -136,7 +155,7 @@ def as_drawn(mesh: Mesh, scale: float, options: Options, until: float) -> Option
     frame = frame_of(mesh)
     if frame is None:
         return None
-    turned = Turned(mesh, scale, frame)
+    turned = Turned(mesh, scale, frame, FINER, TWIN)
     try:
         surface = rounded(turned.mesh, 1.0)
     except Refusal:
@@ -146,7 +165,7 @@ def as_drawn(mesh: Mesh, scale: float, options: Options, until: float) -> Option
     cells = cells_on_grid(surface, options.corners, until)
     if not cells:
         return None
-    moved = turned.moved + surface.moved / FINER
+    moved = turned.moved + surface.moved / turned.finer
     return Rough([turned.back(cell) for cell in cells], DRAWN, set(), moved, (0, 1, 2))
 
 
@@ -162,7 +181,7 @@ def of_surface(surface: Surface, solid: Solid, options: Options, until: float) -
         found = cells_on_grid(one, options.corners, until)
         way = GRID if found and len(found) > 1 else HULL
         if not found:
-            whole = decomposed(surface.points, faces, until - time.monotonic())
+            whole = decomposed(surface.points, faces, until - time.process_time())
             found, way = join_all(whole, options.corners, until), CGAL
         cells += found
         ways += [way] if way not in ways else []
@@ -235,7 +254,7 @@ def between(cells: List[Cell], own: List[Optional[Piece]], options: Options) -> 
 
     own: the hull of the pieces that stand for a cell, which is their union
     """
-    until = time.monotonic() + options.seconds / 4
+    until = time.process_time() + options.seconds / 4
     made = [[] if piece is None else [Cell.of_piece(piece)] for piece in own]
     union = Union([cell for some in made for cell in some])
     over = under = 0.0

@@ -50,13 +50,13 @@ def frame_of(mesh: Mesh) -> Optional[numpy.ndarray]:
     return None if (numpy.abs(numpy.abs(frame).max(axis=1) - 1) < ALONG**2).all() else frame
 
 
-def clustered(values: numpy.ndarray) -> numpy.ndarray:
-    """The values (n, 3), where those of one axis that lie together are one."""
+def clustered(values: numpy.ndarray, twin: float) -> numpy.ndarray:
+    """The values (n, 3), where those of one axis that lie no farther apart than `twin` are one."""
     made = values.copy()
     for axis in range(values.shape[1]):
         order = values[:, axis].argsort()
         row = values[order, axis]
-        starts = numpy.concatenate([[True], numpy.diff(row) > TWIN])
+        starts = numpy.concatenate([[True], numpy.diff(row) > twin])
         groups = starts.cumsum() - 1
         means = numpy.bincount(groups, weights=row) / numpy.bincount(groups)
         made[order, axis] = means[groups]
@@ -66,15 +66,17 @@ def clustered(values: numpy.ndarray) -> numpy.ndarray:
 class Turned:
     """A mesh as it was drawn: steps of a finer grid in its own frame, around its middle."""
 
-    def __init__(self, mesh: Mesh, scale: float, frame: numpy.ndarray) -> None:
-        self.frame = frame
+    def __init__(
+        self, mesh: Mesh, scale: float, frame: numpy.ndarray, finer: int, twin: float
+    ) -> None:
+        self.frame, self.finer = frame, finer
         steps = numpy.asarray(mesh.points, float) * scale
         self.middle = (steps.min(axis=0) + steps.max(axis=0)) / 2
-        drawn = clustered((steps - self.middle) @ frame.T * FINER)
+        drawn = clustered((steps - self.middle) @ frame.T * finer, twin)
         self.mesh = Mesh(drawn, mesh.faces, mesh.name)
-        back = drawn / FINER @ frame + self.middle
+        back = drawn / finer @ frame + self.middle
         self.moved = float(numpy.linalg.norm(back - steps, axis=1).max())
 
     def back(self, cell: Cell) -> Cell:
         """The cell in steps of the grid, by rounded numbers: it has no exact corners."""
-        return cell.turned(self.frame, self.middle, FINER)
+        return cell.turned(self.frame, self.middle, self.finer)

@@ -31,7 +31,7 @@ class Surface:
     axes: Tuple[int, ...] = ()
 
 
-def rounded(mesh: Mesh, scale: float) -> Surface:
+def rounded(mesh: Mesh, scale: float, greatest: int = GREATEST) -> Surface:
     """A mesh in model units on the grid. A face that is not plane there is cut into triangles. Refusal: too large.
 
     While corners move straight to where they are rounded to, each point of the surface moves by at most `moved`; what
@@ -40,8 +40,8 @@ def rounded(mesh: Mesh, scale: float) -> Surface:
     """
     steps = numpy.asarray(mesh.points, float) * scale
     whole = numpy.floor(steps + 0.5 + TIE)
-    if len(whole) and numpy.abs(whole).max() > GREATEST:
-        raise Refusal(f"a coordinate is more than {GREATEST} steps of the grid; give a coarser one")
+    if len(whole) and numpy.abs(whole).max() > greatest:
+        raise Refusal(f"a coordinate is more than {greatest} steps of the grid; give a coarser one")
     off = numpy.abs(whole - steps)
     off[off < 1e-6] = 0.0
     number: Dict[Point, int] = {}
