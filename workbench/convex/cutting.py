@@ -5,6 +5,7 @@ union of the pieces is the solid.
 """
 from __future__ import annotations
 
+import time
 from collections import Counter
 from typing import Dict, Iterator, List, Optional, Sequence
 
@@ -16,10 +17,11 @@ MOST_PLANES = 200  # that are tried as cuts of one body
 MOST_FACES = 3000  # of a body that is cut in this way
 
 
-def convex_pieces(body: Body, corners: int) -> Optional[List[List[Point]]]:
+def convex_pieces(body: Body, corners: int, until: float) -> Optional[List[List[Point]]]:
     """The corners of convex pieces whose union is the body, or nothing where no cut on the grid was found.
 
     corners: of a piece, at most; only prisms are held to it
+    until: a processor time of this process after which none is looked for
     """
     convex = body.is_convex()
     if convex and len(body.points) <= corners:
@@ -30,15 +32,17 @@ def convex_pieces(body: Body, corners: int) -> Optional[List[List[Point]]]:
             return found or [body.points]
         if len(body.faces) > MOST_FACES:
             return None
-        return cut_pieces(body, corners)
+        return cut_pieces(body, corners, until)
     except Tangled:
         return None
 
 
-def cut_pieces(body: Body, corners: int) -> Optional[List[List[Point]]]:
+def cut_pieces(body: Body, corners: int, until: float) -> Optional[List[List[Point]]]:
     parts = body.parts()
     if len(parts) == 1:
         for plane in wanted_planes(body):
+            if time.process_time() > until:
+                return None
             try:
                 parts = [part for side in body.cut(plane) if side.faces for part in side.parts()]
             except OffGrid:
@@ -49,7 +53,7 @@ def cut_pieces(body: Body, corners: int) -> Optional[List[List[Point]]]:
             return None
     found: List[List[Point]] = []
     for part in parts:
-        pieces = convex_pieces(part, corners)
+        pieces = convex_pieces(part, corners, until)
         if pieces is None:
             return None
         found += pieces

@@ -71,8 +71,7 @@ def decompose(solid: Solid, options: Options) -> Cut:
     """
     until = time.process_time() + options.seconds
     if solid.whole is not None:
-        rough = of_surface(surface_of_whole(solid, solid.whole), solid, options, until)
-        rough.over = 0.0
+        rough = of_surface(surface_of_whole(solid, solid.whole, options.side), options, until)
         over, under = solid.whole_over, solid.whole_under
     elif solid.exact is not None:
         rough = of_exact(solid, solid.exact, options, until)
@@ -86,18 +85,24 @@ def decompose(solid: Solid, options: Options) -> Cut:
     return measured(solid, rough, options, (over, under))
 
 
-def surface_of_whole(solid: Solid, whole: Mesh) -> Surface:
-    """The surface on the grid. What moved corners matters only where pieces are to hold the solid, or to lie in it."""
+def surface_of_whole(solid: Solid, whole: Mesh, side: str) -> Surface:
+    """The surface on the grid. Corners count as moved only where they were moved to the side that is not asked for."""
     surface = Surface(
         [(int(x), int(y), int(z)) for x, y, z in whole.points], [list(face) for face in whole.faces]
     )
-    if solid.exact is not None and len(solid.exact.points) == len(whole.points):
+    wrong = {"over": solid.whole_under - solid.under, "under": solid.whole_over - solid.over}.get(
+        side, 0.0
+    )
+    surface.moved = wrong * float(solid.scale)
+    if surface.moved < 1e-6:
+        surface.moved = 0.0
+    elif solid.exact is not None and len(solid.exact.points) == len(whole.points):
         off = numpy.abs(
             whole.points - numpy.asarray(solid.exact.points, float) * float(solid.scale)
         )
-        off[off < 1e-6] = 0.0
-        surface.moved = float(numpy.sqrt((off**2).sum(axis=1)).max(initial=0.0))
-        surface.axes = tuple(axis for axis in range(3) if off[:, axis].max(initial=0.0) > 0.0)
+        surface.axes = tuple(axis for axis in range(3) if off[:, axis].max(initial=0.0) > 1e-6)
+    else:
+        surface.axes = (0, 1, 2)
     return surface
 
 
@@ -116,12 +121,14 @@ def of_exact(solid: Solid, mesh: Mesh, options: Options, until: float) -> Rough:
             cells = convex_cells(corners_of(surface.points, surface.faces), options.corners)
             return Rough(cells, HULL, skin_of(surface), surface.moved, surface.axes, beyond)
     if surface.moved:
-        on_grid = cells_on_grid(surface, options.corners, until)
-        drawn = None if on_grid else as_drawn(mesh, scale, options, until)
+        cells = cells_on_grid(surface, options, until)
+        if cells:
+            return Rough(cells, GRID, skin_of(surface), surface.moved, surface.axes)
+        drawn = as_drawn(mesh, scale, options, until)
         if drawn is not None:
             return drawn
     try:
-        return of_surface(surface, solid, options, until)
+        return of_surface(surface, options, until)
     except Refusal as fault:
         if not surface.moved:
             raise
@@ -162,14 +169,14 @@ def as_drawn(mesh: Mesh, scale: float, options: Options, until: float) -> Option
         return None
     if open_edges(surface.faces):
         return None
-    cells = cells_on_grid(surface, options.corners, until)
+    cells = cells_on_grid(surface, options, until)
     if not cells:
         return None
     moved = turned.moved + surface.moved / turned.finer
     return Rough([turned.back(cell) for cell in cells], DRAWN, set(), moved, (0, 1, 2))
 
 
-def of_surface(surface: Surface, solid: Solid, options: Options, until: float) -> Rough:
+def of_surface(surface: Surface, options: Options, until: float) -> Rough:
     """The cells of a surface on the grid."""
     gaps = open_edges(surface.faces)
     if gaps:
@@ -178,33 +185,30 @@ def of_surface(surface: Surface, solid: Solid, options: Options, until: float) -
     ways: List[str] = []
     for faces in solids(surface.points, surface.faces):
         one = Surface(surface.points, faces)
-        found = cells_on_grid(one, options.corners, until)
+        found = cells_on_grid(one, options, until)
         way = GRID if found and len(found) > 1 else HULL
         if not found:
             whole = decomposed(surface.points, faces, until - time.process_time())
             found, way = join_all(whole, options.corners, until), CGAL
         cells += found
         ways += [way] if way not in ways else []
-    skin = skin_of(surface)
-    moved, axes = surface.moved, surface.axes
-    if solid.whole is not None and options.side == "near":
-        moved, axes = 0.0, ()
-    return Rough(cells, ", ".join(ways), skin, moved, axes)
+    return Rough(cells, ", ".join(ways), skin_of(surface), surface.moved, surface.axes)
 
 
-def cells_on_grid(surface: Surface, corners: int, until: float) -> List[Cell]:
+def cells_on_grid(surface: Surface, options: Options, until: float) -> List[Cell]:
     """Cells with whole corners that make up a solid; none where no cuts on the grid were found."""
     found: List[Cell] = []
+    enough = time.process_time() + options.seconds / 4
     for faces in solids(surface.points, surface.faces):
         try:
-            some = convex_pieces(Body.of_mesh(surface.points, faces), corners)
+            some = convex_pieces(Body.of_mesh(surface.points, faces), options.corners, enough)
         except Tangled:
             some = None
         if some is None:
             return []
-        pieces = [piece for points in some for piece in small_pieces(points, corners)]
+        pieces = [piece for points in some for piece in small_pieces(points, options.corners)]
         cells = [Cell.of_piece(piece) for piece in pieces]
-        found += join_all(cells, corners, until) if len(cells) > 1 else cells
+        found += join_all(cells, options.corners, until) if len(cells) > 1 else cells
     return found
 
 
@@ -214,7 +218,7 @@ def convex_cells(points: Sequence[Point], corners: int) -> List[Cell]:
     if piece is None:
         return []
     rows = [(int(x), int(y), int(z)) for x, y, z in piece.points]
-    some = convex_pieces(Body.of_mesh(rows, piece.faces), corners) or [rows]
+    some = convex_pieces(Body.of_mesh(rows, piece.faces), corners, numpy.inf) or [rows]
     return [Cell.of_piece(small) for points in some for small in small_pieces(points, corners)]
 
 
@@ -269,15 +273,15 @@ def between(cells: List[Cell], own: List[Optional[Piece]], options: Options) -> 
 def points_for(cell: Cell, rough: Rough, side: str) -> Tuple[List[Point], bool]:
     """The points whose hull stands for a cell, and whether it is just the cell.
 
-    Where corners of the solid were rounded, pieces that hold it are grown by a step along each axis of rounding, which
-    is more than corners moved; and pieces that lie within it are made of what lies deeper in the cell than they moved.
+    Where corners of the solid were rounded, pieces that hold it are grown along each axis of rounding by whole steps,
+    more than corners moved; and pieces that lie within it are made of what lies deeper in the cell than they moved.
     """
     if not cell.walls and side != "under":
         points = sorted({(int(x), int(y), int(z)) for x, y, z in numpy.rint(cell.table)})
-        return (grown(points, [0, 1, 2]) if side == "over" else points), False
+        return (grown(points, (0, 1, 2), rough.moved + 0.5) if side == "over" else points), False
     if (rough.moved or not cell.walls) and side == "under":
         return shrunk(cell, rough.moved), False
     points = snapped(cell, side, rough.skin)
     if rough.moved and side == "over":
-        return grown(points, list(rough.axes)), False
+        return grown(points, rough.axes, rough.moved), False
     return points, cell.is_whole()

@@ -85,9 +85,10 @@ def nearest(corner: Sequence[Number], walls: Sequence[Wall]) -> Optional[Point]:
     return None
 
 
-def grown(points: Iterable[Point], axes: List[int]) -> List[Point]:
-    """Points whose hull is that of the points, grown by a step both ways along each of the axes."""
-    ways = [(-1, 1) if axis in axes else (0,) for axis in range(3)]
+def grown(points: Iterable[Point], axes: Sequence[int], far: float) -> List[Point]:
+    """Points whose hull is that of the points, grown both ways along each of the axes by at least `far` steps."""
+    step = max(1, math.ceil(far))
+    ways = [(-step, step) if axis in axes else (0,) for axis in range(3)]
     return sorted(
         {(x + i, y + j, z + k) for x, y, z in points for i, j, k in itertools.product(*ways)}
     )
