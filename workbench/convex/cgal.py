@@ -28,6 +28,10 @@ CAUSES = {
 }
 
 
+class OutOfTime(Refusal):
+    """It takes longer than it may."""
+
+
 def cache() -> str:
     """The folder in which the built program is kept."""
     top = os.environ.get("XDG_CACHE_HOME") or os.path.join(os.path.expanduser("~"), ".cache")
@@ -100,7 +104,7 @@ def decomposed(
         words = ["prlimit", f"--cpu={limit}:{limit + 1}", command, source, target]
         told = subprocess.run(words, capture_output=True, text=True, check=False)
         if told.returncode in (-signal.SIGXCPU, -signal.SIGKILL):
-            raise Refusal(
+            raise OutOfTime(
                 f"it has {len(faces)} faces and takes CGAL over {limit} seconds; draw round faces with fewer sides, or "
                 "give more --seconds"
             )

@@ -12,7 +12,7 @@ from ..solid import GREATEST, Mesh, Options, Piece, Pieces, Refusal, Solid
 from .bodies import Body, Tangled
 from .bounds import Union, farthest
 from .cells import Cell, Wall, join_all
-from .cgal import decomposed
+from .cgal import OutOfTime, decomposed
 from .cutting import convex_pieces
 from .frames import FINER, TWIN, Turned, frame_of
 from .meshes import Surface, open_edges, rounded, shells, solids
@@ -130,7 +130,7 @@ def of_exact(solid: Solid, mesh: Mesh, options: Options, until: float) -> Rough:
     try:
         return of_surface(surface, options, until)
     except Refusal as fault:
-        if not surface.moved:
+        if not surface.moved or isinstance(fault, OutOfTime):
             raise
         return on_finer_grid(mesh, scale, fault, until)
 
@@ -145,8 +145,10 @@ def on_finer_grid(mesh: Mesh, scale: float, fault: Refusal, until: float) -> Rou
             for faces in solids(surface.points, surface.faces)
             for cell in decomposed(surface.points, faces, until - time.process_time())
         ]
-    except Refusal as other:
-        raise (other if "seconds" in str(other) else fault) from None
+    except OutOfTime:
+        raise
+    except Refusal:
+        raise fault from None
     return Rough(cells, CGAL, set(), turned.moved + surface.moved / MUCH_FINER, (0, 1, 2))
 
 

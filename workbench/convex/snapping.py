@@ -3,8 +3,8 @@
 Corners that are points of the grid stay. Another corner goes, as it is asked for, to points of the grid
 - around it ("over"): corners of the cube of the grid that holds it, so that the piece holds the cell;
 - within the cell ("under"): the nearest such point, if there is one near, so that the piece lies within the cell;
-- "near": the nearest one that is not ahead of the faces of the solid, so that the piece reaches into nothing that
-  touches the solid there. It may go beyond a wall that is only a cut between two pieces.
+- "near": the nearest one that is not ahead of the faces of the solid, so that the piece reaches into nothing
+  that touches the solid there. It may go beyond a wall that is only a cut between two pieces.
 Cells that are so thin that too few points are left become no piece; the bounds then tell what is missing.
 """
 from __future__ import annotations

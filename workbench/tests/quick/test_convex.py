@@ -183,7 +183,7 @@ class Rough(unittest.TestCase):
 
     def test_it_stops_in_time(self) -> None:
         of = solid(star(numpy.random.default_rng(1), 1500), 1000)
-        with self.assertRaisesRegex(Refusal, "took over"):
+        with self.assertRaisesRegex(Refusal, "takes CGAL over"):
             decompose(of, Options(seconds=1.0))
 
     def test_a_fault_of_the_program_is_told(self) -> None:
