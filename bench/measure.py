@@ -96,7 +96,9 @@ def ball(count, seed):
             z = 1 - (2 * k + 1) / count + (chance.random() - 0.5) / count
             angle = turn + k * math.pi * (3 - math.sqrt(5)) + (chance.random() - 0.5) / count
             r = math.sqrt(1 - z * z)
-            points.append(tuple(round(RADIUS * x) for x in (r * math.cos(angle), r * math.sin(angle), z)))
+            points.append(
+                tuple(round(RADIUS * x) for x in (r * math.cos(angle), r * math.sin(angle), z))
+            )
         faces = hull(points)
         if faces is not None:
             return points, faces
@@ -167,7 +169,9 @@ def write(folder, pieces, part_of):
             file.write(off_text(points, faces))
         parts.setdefault(part_of(k), []).append(name)
     listings = {
-        "parts.json": [{"name": str(part), "pieces": files} for part, files in sorted(parts.items())],
+        "parts.json": [
+            {"name": str(part), "pieces": files} for part, files in sorted(parts.items())
+        ],
         "one.json": [{"name": "all", "pieces": [f"{k}.off" for k in range(len(pieces))]}],
     }
     for name, listing in listings.items():
@@ -246,13 +250,22 @@ def measure(program, repeat):
             whole = best(program, folder, "parts.json", repeat)
             memory = greatest_memory(program, folder, "parts.json")
         each = (whole - reading) / pairs * 1000
-        print(f"| {what} | {pairs} | {whole:.3f} | {reading:.3f} | {each:.4f} | {memory:.1f} |", flush=True)
+        print(
+            f"| {what} | {pairs} | {whole:.3f} | {reading:.3f} | {each:.4f} | {memory:.1f} |",
+            flush=True,
+        )
 
 
 def main():
     words = argparse.ArgumentParser(description=__doc__)
-    words.add_argument("program", nargs="?", help="the built program; without it the pieces are only made and checked")
-    words.add_argument("--repeat", type=int, default=5, help="how often each run is made; the best counts (5)")
+    words.add_argument(
+        "program",
+        nargs="?",
+        help="the built program; without it the pieces are only made and checked",
+    )
+    words.add_argument(
+        "--repeat", type=int, default=5, help="how often each run is made; the best counts (5)"
+    )
     given = words.parse_args()
     if given.program is None:
         for what, counts, place, _ in RUNS:

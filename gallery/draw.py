@@ -21,8 +21,14 @@ TOP = os.path.dirname(HERE)
 FINE = 3  # so many pixels are drawn for each one that is kept, along and across
 
 COLOURS = [
-    (226, 88, 70), (84, 140, 204), (240, 184, 64), (96, 172, 104), (160, 112, 188),
-    (72, 186, 186), (228, 136, 178), (150, 120, 90),
+    (226, 88, 70),
+    (84, 140, 204),
+    (240, 184, 64),
+    (96, 172, 104),
+    (160, 112, 188),
+    (72, 186, 186),
+    (228, 136, 178),
+    (150, 120, 90),
 ]
 
 # the way one looks (from the viewer into the picture) and, for some, what is cut: parts and a plane (x, y, z, least
@@ -31,14 +37,22 @@ VIEWS = {
     "dovetail": dict(look=(-3, 4, -3)),
     "slanted-slot": dict(look=(8, 5, -5)),
     "pinned-lid": dict(look=(-3, 6, -1.6), cut={0: (0, -1, 0, -6), 1: (0, -1, 0, -6)}),
-    "bolt-and-nut": dict(look=(-2, 5, -1.1), cut={1: (0, -1, 0, 0), 2: (0, -1, 0, 0), 3: (0, -1, 0, 0)}),
+    "bolt-and-nut": dict(
+        look=(-2, 5, -1.1), cut={1: (0, -1, 0, 0), 2: (0, -1, 0, 0), 3: (0, -1, 0, 0)}
+    ),
     "drawers": dict(look=(5, 6, -5), cut={k: (-1, 0, 0, -5) for k in range(4)}),
-    "nested-boxes": dict(look=(-3, 6, -4), apart=(-6, 4, -3), cut={k: (0, -1, 0, 0) for k in range(1, 5)}),
+    "nested-boxes": dict(
+        look=(-3, 6, -4), apart=(-6, 4, -3), cut={k: (0, -1, 0, 0) for k in range(1, 5)}
+    ),
     "jar-of-solids": dict(look=(-2, 6, -1), cut={0: (0, -1, 0, 0)}),
-    "crossed-rods": dict(look=(-3, 6, -3), apart=(-4, 5, -3), cut={1: (0, -1, 0, 0), 3: (0, -1, 0, 0)}),
+    "crossed-rods": dict(
+        look=(-3, 6, -3), apart=(-4, 5, -3), cut={1: (0, -1, 0, 0), 3: (0, -1, 0, 0)}
+    ),
     "linked-rings": dict(look=(-1.7, 5, -4)),
     "six-piece-burr": dict(look=(-4, 6, -4), apart=(-6, 5, -4)),
-    "locked-burr": dict(look=(-4, 6, -4), second=(-3, 5, -5), second_cut={k: (0, 0, 1, 0.5) for k in range(6)}),
+    "locked-burr": dict(
+        look=(-4, 6, -4), second=(-3, 5, -5), second_cut={k: (0, 0, 1, 0.5) for k in range(6)}
+    ),
     "lifted-burr": dict(look=(-4, 6, -4), apart=(-6, 5, -4)),
     "split-star": dict(look=(-5, 7, -4), apart=(-7, 3, -3)),
     "pencil-box": dict(look=(-3, 6, -4), cut={0: (0, -1, 0, -15000), 1: (0, -1, 0, -15000)}),
@@ -49,11 +63,11 @@ def read_off(path):
     words = open(path).read().split()
     v, f = int(words[1]), int(words[2])
     numbers = [int(w) for w in words[4:]]
-    points = np.array(numbers[:3 * v], dtype=float).reshape(v, 3)
+    points = np.array(numbers[: 3 * v], dtype=float).reshape(v, 3)
     faces, at = [], 3 * v
     for _ in range(f):
         k = numbers[at]
-        faces.append(numbers[at + 1:at + 1 + k])
+        faces.append(numbers[at + 1 : at + 1 + k])
         at += 1 + k
     return points, faces
 
@@ -100,8 +114,8 @@ class Scene:
         right = np.cross(self.d, (0, 0, 1))
         self.right = right / np.linalg.norm(right)
         self.up = np.cross(self.right, self.d)
-        self.items = []      # part, piece's planes, points
-        self.lines = []      # from, to, colour
+        self.items = []  # part, piece's planes, points
+        self.lines = []  # from, to, colour
 
     def add(self, part, points, faces, cut=None):
         planes = planes_of(points, faces)
@@ -116,7 +130,11 @@ class Scene:
 
     def bounds(self):
         flat = np.concatenate(
-            [np.stack([points @ self.right, points @ self.up], axis=1) for _, _, points, _ in self.items])
+            [
+                np.stack([points @ self.right, points @ self.up], axis=1)
+                for _, _, points, _ in self.items
+            ]
+        )
         return flat.min(axis=0), flat.max(axis=0)
 
     def paint(self, scale, width, height):
@@ -184,7 +202,9 @@ class Scene:
         for dy, dx in ((0, 1), (1, 0), (1, 1), (1, -1)):
             a = (slice(0, H - dy), slice(max(0, -dx), W - max(0, dx)))
             b = (slice(dy, H), slice(max(0, dx), W + min(0, dx)))
-            differs = (part_of[a] != part_of[b]) | (np.abs(normal[a] - normal[b]).sum(axis=-1) > 1e-6)
+            differs = (part_of[a] != part_of[b]) | (
+                np.abs(normal[a] - normal[b]).sum(axis=-1) > 1e-6
+            )
             differs |= np.abs(level[a] - level[b]) > 1e-6 * size
             edge[a] |= differs
             edge[b] |= differs
@@ -238,14 +258,20 @@ def draw(name):
     sizes = [s.bounds()[1] - s.bounds()[0] for s in scenes]
     # one scale for both; together at most 900 wide and 460 high
     gap = 40
-    scale = min((900 - gap * (len(scenes) + 1)) / sum(z[0] for z in sizes), 430 / max(z[1] for z in sizes))
+    scale = min(
+        (900 - gap * (len(scenes) + 1)) / sum(z[0] for z in sizes), 430 / max(z[1] for z in sizes)
+    )
     height = int(max(z[1] for z in sizes) * scale) + 30
     images = [s.paint(scale, int(z[0] * scale) + gap, height) for s, z in zip(scenes, sizes)]
     wide = np.concatenate(images, axis=1)
     # the names of the parts below
     picture = Image.fromarray(wide.round().astype(np.uint8))
     font = ImageFont.truetype("/usr/share/fonts/truetype/dejavu/DejaVuSans.ttf", 14)
-    page = Image.new("RGB", (max(picture.width, 620), picture.height + 28 + 24 * ((len(parts) - 1) // 3)), "white")
+    page = Image.new(
+        "RGB",
+        (max(picture.width, 620), picture.height + 28 + 24 * ((len(parts) - 1) // 3)),
+        "white",
+    )
     page.paste(picture, ((page.width - picture.width) // 2, 0))
     pen = ImageDraw.Draw(page)
     column = page.width // min(3, len(parts))

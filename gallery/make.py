@@ -14,6 +14,7 @@ HERE = os.path.dirname(os.path.abspath(__file__))
 
 # ---------------------------------------------------------------- convex pieces
 
+
 def minus(p, q):
     return (p[0] - q[0], p[1] - q[1], p[2] - q[2])
 
@@ -61,7 +62,11 @@ def faces_of(points):
                     ahead = q
                     continue
                 side = dot(n, cross(minus(ahead, p), minus(q, p)))
-                if side < 0 or side == 0 and dot(minus(q, p), minus(q, p)) > dot(minus(ahead, p), minus(ahead, p)):
+                if (
+                    side < 0
+                    or side == 0
+                    and dot(minus(q, p), minus(q, p)) > dot(minus(ahead, p), minus(ahead, p))
+                ):
                     ahead = q
             if ahead == start:
                 break
@@ -94,8 +99,16 @@ def prism(axis, outline, low, high):
 
 def octagon(far, near):
     """Eight corners around zero; with far = 12 and near = 5 they lie on the circle of radius 13."""
-    return [(far, near), (near, far), (-near, far), (-far, near),
-            (-far, -near), (-near, -far), (near, -far), (far, -near)]
+    return [
+        (far, near),
+        (near, far),
+        (-near, far),
+        (-far, near),
+        (-far, -near),
+        (-near, -far),
+        (near, -far),
+        (far, -near),
+    ]
 
 
 def moved(points, by):
@@ -115,6 +128,7 @@ def product(make):
 
 # ---------------------------------------------------------------- joints
 
+
 @product
 def dovetail():
     tail = [(-5, 0), (5, 0), (3, 4), (-3, 4)]
@@ -122,11 +136,14 @@ def dovetail():
     left = [(-x, z) for x, z in right]
     return [
         ("tail", [("tail", prism("y", tail, 0, 12))]),
-        ("socket", [
-            ("base", box(-10, 10, 0, 12, -2, 0)),
-            ("right-cheek", prism("y", right, 0, 12)),
-            ("left-cheek", prism("y", left, 0, 12)),
-        ]),
+        (
+            "socket",
+            [
+                ("base", box(-10, 10, 0, 12, -2, 0)),
+                ("right-cheek", prism("y", right, 0, 12)),
+                ("left-cheek", prism("y", left, 0, 12)),
+            ],
+        ),
     ]
 
 
@@ -145,11 +162,15 @@ def slanted_slot():
     base = [(-3000, -800), (3000, -800), (3000, 0), (-3000, 0)]
     return [
         ("tail", [("tail", drawn(tail))]),
-        ("socket", [("base", drawn(base)), ("right-cheek", drawn(right)), ("left-cheek", drawn(left))]),
+        (
+            "socket",
+            [("base", drawn(base)), ("right-cheek", drawn(right)), ("left-cheek", drawn(left))],
+        ),
     ]
 
 
 # ---------------------------------------------------------------- boxes and furniture
+
 
 @product
 def pinned_lid():
@@ -166,23 +187,40 @@ def pinned_lid():
         ]
 
     return [
-        ("box", [
-            ("floor", box(0, 20, 0, 12, -2, 0)),
-            ("wall-south", box(0, 20, -2, 0, -2, 14)),
-            ("wall-north", box(0, 20, 12, 14, -2, 14)),
-        ] + wall("wall-west", -2, 0) + wall("wall-east", 20, 22)),
-        ("lid", [
-            ("lid-south", box(0, 20, 0, 4, 8, 14)),
-            ("lid-north", box(0, 20, 8, 12, 8, 14)),
-            ("lid-middle", box(4, 16, 4, 8, 8, 14)),
-            ("lid-west-under", box(0, 4, 4, 8, 8, 9)),
-            ("lid-west-over", box(0, 4, 4, 8, 13, 14)),
-            ("lid-east-under", box(16, 20, 4, 8, 8, 9)),
-            ("lid-east-over", box(16, 20, 4, 8, 13, 14)),
-        ]),
-        ("west pin", [("pin-west", prism("x", pin, -2, 4)), ("knob-west", prism("x", knob, -4, -2))]),
-        ("east pin", [("pin-east", prism("x", pin, 16, 22)), ("knob-east", prism("x", knob, 22, 24))]),
-        ("gem", [("gem", [(10, 6, 0), (6, 6, 4), (14, 6, 4), (10, 2, 4), (10, 10, 4), (10, 6, 7)])]),
+        (
+            "box",
+            [
+                ("floor", box(0, 20, 0, 12, -2, 0)),
+                ("wall-south", box(0, 20, -2, 0, -2, 14)),
+                ("wall-north", box(0, 20, 12, 14, -2, 14)),
+            ]
+            + wall("wall-west", -2, 0)
+            + wall("wall-east", 20, 22),
+        ),
+        (
+            "lid",
+            [
+                ("lid-south", box(0, 20, 0, 4, 8, 14)),
+                ("lid-north", box(0, 20, 8, 12, 8, 14)),
+                ("lid-middle", box(4, 16, 4, 8, 8, 14)),
+                ("lid-west-under", box(0, 4, 4, 8, 8, 9)),
+                ("lid-west-over", box(0, 4, 4, 8, 13, 14)),
+                ("lid-east-under", box(16, 20, 4, 8, 8, 9)),
+                ("lid-east-over", box(16, 20, 4, 8, 13, 14)),
+            ],
+        ),
+        (
+            "west pin",
+            [("pin-west", prism("x", pin, -2, 4)), ("knob-west", prism("x", knob, -4, -2))],
+        ),
+        (
+            "east pin",
+            [("pin-east", prism("x", pin, 16, 22)), ("knob-east", prism("x", knob, 22, 24))],
+        ),
+        (
+            "gem",
+            [("gem", [(10, 6, 0), (6, 6, 4), (14, 6, 4), (10, 2, 4), (10, 10, 4), (10, 6, 7)])],
+        ),
     ]
 
 
@@ -219,7 +257,10 @@ def bolt_and_nut():
         return [(name + "-" + where, prism("z", outline, low, high)) for where, outline in outlines]
 
     return [
-        ("bolt", [("head", prism("z", hexagon, -6, 0)), ("shank", prism("z", octagon(5, 2), 0, 18))]),
+        (
+            "bolt",
+            [("head", prism("z", hexagon, -6, 0)), ("shank", prism("z", octagon(5, 2), 0, 18))],
+        ),
         ("lower plate", ring("lower-plate", around_octagon(20), 0, 4)),
         ("upper plate", ring("upper-plate", around_octagon(16), 4, 8)),
         ("nut", ring("nut", nut, 8, 14)),
@@ -234,21 +275,33 @@ def drawers():
         ("side-east", box(14, 16, 0, 14, -2, 20)),
         ("back", box(0, 14, 12, 14, -2, 20)),
     ]
-    for name, low, high in [("bottom", -2, 0), ("lower-shelf", 5, 6), ("upper-shelf", 11, 12), ("top", 17, 20)]:
+    for name, low, high in [
+        ("bottom", -2, 0),
+        ("lower-shelf", 5, 6),
+        ("upper-shelf", 11, 12),
+        ("top", 17, 20),
+    ]:
         cabinet.append((name, box(0, 14, 0, 12, low, high)))
     parts = [("cabinet", cabinet)]
     for k, name in enumerate(["lower", "middle", "upper"]):
         z = 6 * k
-        parts.append((name + " drawer", [
-            (name + "-front", box(0, 14, 0, 1, z, z + 5)),
-            (name + "-rear", box(0, 14, 11, 12, z, z + 5)),
-            (name + "-left", box(0, 1, 1, 11, z, z + 5)),
-            (name + "-right", box(13, 14, 1, 11, z, z + 5)),
-            (name + "-bottom", box(1, 13, 1, 11, z, z + 1)),
-            (name + "-knob", box(5, 9, -2, 0, z + 2, z + 4)),
-        ]))
+        parts.append(
+            (
+                name + " drawer",
+                [
+                    (name + "-front", box(0, 14, 0, 1, z, z + 5)),
+                    (name + "-rear", box(0, 14, 11, 12, z, z + 5)),
+                    (name + "-left", box(0, 1, 1, 11, z, z + 5)),
+                    (name + "-right", box(13, 14, 1, 11, z, z + 5)),
+                    (name + "-bottom", box(1, 13, 1, 11, z, z + 1)),
+                    (name + "-knob", box(5, 9, -2, 0, z + 2, z + 4)),
+                ],
+            )
+        )
     parts.append(("block", [("block", box(3, 7, 4, 8, 1, 4))]))
-    parts.append(("pyramid", [("pyramid", [(6, 3, 7), (12, 3, 7), (12, 9, 7), (6, 9, 7), (9, 6, 11)])]))
+    parts.append(
+        ("pyramid", [("pyramid", [(6, 3, 7), (12, 3, 7), (12, 9, 7), (6, 9, 7), (9, 6, 11)])])
+    )
     return parts
 
 
@@ -257,7 +310,9 @@ def nested_boxes():
     """Four boxes in each other, each of five walls 2 thick and open on one side, and a gem in the innermost."""
     opening = [("z", 1), ("x", 1), ("y", -1), ("z", 1)]
     names = ["smallest box", "small box", "large box", "largest box"]
-    parts = [("gem", [("gem", [(4, 0, 0), (-4, 0, 0), (0, 4, 0), (0, -4, 0), (0, 0, 4), (0, 0, -4)])])]
+    parts = [
+        ("gem", [("gem", [(4, 0, 0), (-4, 0, 0), (0, 4, 0), (0, -4, 0), (0, 0, 4), (0, 0, -4)])])
+    ]
     inner = 4
     for (axis, side), name in zip(opening, names):
         outer = inner + 2
@@ -281,8 +336,12 @@ def nested_boxes():
                 # walls of the later axes end between those of the earlier ones
                 for j in range(k):
                     lo[j], hi[j] = max(lo[j], -inner), min(hi[j], inner)
-                pieces.append(("%s-%s-%s" % (name.split()[0], label, "above" if sign > 0 else "below"),
-                               box(lo[0], hi[0], lo[1], hi[1], lo[2], hi[2])))
+                pieces.append(
+                    (
+                        "%s-%s-%s" % (name.split()[0], label, "above" if sign > 0 else "below"),
+                        box(lo[0], hi[0], lo[1], hi[1], lo[2], hi[2]),
+                    )
+                )
         parts.append((name, pieces))
         inner = outer
     return parts
@@ -302,7 +361,10 @@ def jar_of_solids():
     octahedron = [(5, 0, 0), (-5, 0, 0), (0, 5, 0), (0, -5, 0), (0, 0, 5), (0, 0, -5)]
     return [
         ("jar", jar),
-        ("stopper", [("stopper", prism("z", neck, 21, 28)), ("grip", prism("z", octagon(10, 4), 28, 31))]),
+        (
+            "stopper",
+            [("stopper", prism("z", neck, 21, 28)), ("grip", prism("z", octagon(10, 4), 28, 31))],
+        ),
         ("tetrahedron", [("tetrahedron", [(-6, -4, 0), (6, -4, 0), (0, 6, 0), (0, -1, 7)])]),
         ("octahedron", [("octahedron", moved(octahedron, (1, 0, 10)))]),
         ("cube", [("cube", box(-3, 3, -3, 3, 15, 21))]),
@@ -311,32 +373,39 @@ def jar_of_solids():
 
 # ---------------------------------------------------------------- things that hold each other
 
+
 @product
 def crossed_rods():
     """Two rods, each in a tube with arms; each rod is the bar across the other's tube."""
     return [
         ("rod along x", [("rod-x", box(-3, 3, -1, 1, 3, 5))]),
-        ("tube along x", [
-            ("tube-x-south", box(-3, 3, -2, -1, 2, 6)),
-            ("tube-x-north", box(-3, 3, 1, 2, 2, 6)),
-            ("tube-x-under", box(-3, 3, -1, 1, 2, 3)),
-            ("tube-x-over", box(-3, 3, -1, 1, 5, 6)),
-            ("arm-x-north", box(-1, 1, 2, 4, 2, 6)),
-            ("arm-x-south", box(-1, 1, -4, -2, 2, 6)),
-            ("stop-x-north", box(-1, 1, 3, 4, -2, 2)),
-            ("stop-x-south", box(-1, 1, -4, -3, -2, 2)),
-        ]),
+        (
+            "tube along x",
+            [
+                ("tube-x-south", box(-3, 3, -2, -1, 2, 6)),
+                ("tube-x-north", box(-3, 3, 1, 2, 2, 6)),
+                ("tube-x-under", box(-3, 3, -1, 1, 2, 3)),
+                ("tube-x-over", box(-3, 3, -1, 1, 5, 6)),
+                ("arm-x-north", box(-1, 1, 2, 4, 2, 6)),
+                ("arm-x-south", box(-1, 1, -4, -2, 2, 6)),
+                ("stop-x-north", box(-1, 1, 3, 4, -2, 2)),
+                ("stop-x-south", box(-1, 1, -4, -3, -2, 2)),
+            ],
+        ),
         ("rod along y", [("rod-y", box(-1, 1, -3, 3, -1, 1))]),
-        ("tube along y", [
-            ("tube-y-west", box(-2, -1, -3, 3, -2, 2)),
-            ("tube-y-east", box(1, 2, -3, 3, -2, 2)),
-            ("tube-y-under", box(-1, 1, -3, 3, -2, -1)),
-            ("tube-y-over", box(-1, 1, -3, 3, 1, 2)),
-            ("arm-y-east", box(2, 4, -1, 1, -2, 2)),
-            ("arm-y-west", box(-4, -2, -1, 1, -2, 2)),
-            ("stop-y-east", box(3, 4, -1, 1, 2, 6)),
-            ("stop-y-west", box(-4, -3, -1, 1, 2, 6)),
-        ]),
+        (
+            "tube along y",
+            [
+                ("tube-y-west", box(-2, -1, -3, 3, -2, 2)),
+                ("tube-y-east", box(1, 2, -3, 3, -2, 2)),
+                ("tube-y-under", box(-1, 1, -3, 3, -2, -1)),
+                ("tube-y-over", box(-1, 1, -3, 3, 1, 2)),
+                ("arm-y-east", box(2, 4, -1, 1, -2, 2)),
+                ("arm-y-west", box(-4, -2, -1, 1, -2, 2)),
+                ("stop-y-east", box(3, 4, -1, 1, 2, 6)),
+                ("stop-y-west", box(-4, -3, -1, 1, 2, 6)),
+            ],
+        ),
     ]
 
 
@@ -369,6 +438,7 @@ def split_star():
     dodecahedron where z is at least |x| and |y|, and the two points of the star over its rhombs towards (1,0,1) and
     (-1,0,1). The others come from it by turning x, y and z round and by turning it over. All is twice as large here.
     """
+
     def up(sign):
         s = sign
         middle = [(0, 0, 0), (0, 0, 2 * s), (1, 1, s), (1, -1, s), (-1, 1, s), (-1, -1, s)]
@@ -445,38 +515,49 @@ def sticks(layers):
 
 @product
 def six_piece_burr():
-    return sticks([
-        "...... ..EE.. ..EE.. ..FF.. ..FF.. ......",
-        "...... ..EE.. BBBBBB BBFFBB ..FF.. ......",
-        ".DDCC. .DDEC. BBDBCB BBDBCB .DDFC. .DDCC.",
-        ".DDCC. .DDEC. AAAAAA AAAAAA .DDFC. .DDCC.",
-        "...... ..EE.. AAAAAA AAAAAA ..FF.. ......",
-        "...... ..EE.. ..EE.. ..FF.. ..FF.. ......",
-    ])
+    return sticks(
+        [
+            "...... ..EE.. ..EE.. ..FF.. ..FF.. ......",
+            "...... ..EE.. BBBBBB BBFFBB ..FF.. ......",
+            ".DDCC. .DDEC. BBDBCB BBDBCB .DDFC. .DDCC.",
+            ".DDCC. .DDEC. AAAAAA AAAAAA .DDFC. .DDCC.",
+            "...... ..EE.. AAAAAA AAAAAA ..FF.. ......",
+            "...... ..EE.. ..EE.. ..FF.. ..FF.. ......",
+        ]
+    )
 
 
 @product
 def locked_burr():
     """Four cubes in the middle are left out: the south stick can go up by one cube, and then the upper slides out."""
-    return sticks([
-        "...... ..EE.. ..EE.. ..FF.. ..FF.. ......",
-        "...... ..EE.. BBBBBB BBF.BB ..FF.. ......",
-        ".DDCC. .DEEC. BDEBCB BD..CB .DFFC. .DDCC.",
-        ".DDCC. .DDEC. AAAAAA AAAA.A .DFFC. .DDCC.",
-        "...... ..EE.. AAAAAA AAFAAA ..FF.. ......",
-        "...... ..EE.. ..EE.. ..FF.. ..FF.. ......",
-    ])
+    return sticks(
+        [
+            "...... ..EE.. ..EE.. ..FF.. ..FF.. ......",
+            "...... ..EE.. BBBBBB BBF.BB ..FF.. ......",
+            ".DDCC. .DEEC. BDEBCB BD..CB .DFFC. .DDCC.",
+            ".DDCC. .DDEC. AAAAAA AAAA.A .DFFC. .DDCC.",
+            "...... ..EE.. AAAAAA AAFAAA ..FF.. ......",
+            "...... ..EE.. ..EE.. ..FF.. ..FF.. ......",
+        ]
+    )
 
 
 @product
 def lifted_burr():
     """The files of the locked burr, with the south stick one cube higher."""
     up = (0, 0, 1)
-    return [(name, [("../locked-burr/" + file, None) for file, _ in pieces], up if name == STICKS["F"] else None)
-            for name, pieces in locked_burr()]
+    return [
+        (
+            name,
+            [("../locked-burr/" + file, None) for file, _ in pieces],
+            up if name == STICKS["F"] else None,
+        )
+        for name, pieces in locked_burr()
+    ]
 
 
 # ---------------------------------------------------------------- files
+
 
 def main():
     for name, make in PRODUCTS.items():

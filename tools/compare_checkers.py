@@ -41,8 +41,14 @@ def box(least, most):
 def shell(inner, outer):
     """Six slabs that leave out what is between -inner and inner in each component."""
     i, o = inner, outer
-    return [box((-o, -o, -o), (o, o, -i)), box((-o, -o, i), (o, o, o)), box((-o, -o, -i), (o, -i, i)),
-            box((-o, i, -i), (o, o, i)), box((-o, -i, -i), (-i, i, i)), box((i, -i, -i), (o, i, i))]
+    return [
+        box((-o, -o, -o), (o, o, -i)),
+        box((-o, -o, i), (o, o, o)),
+        box((-o, -o, -i), (o, -i, i)),
+        box((-o, i, -i), (o, o, i)),
+        box((-o, -i, -i), (-i, i, i)),
+        box((i, -i, -i), (o, i, i)),
+    ]
 
 
 def nested(shells):
@@ -59,7 +65,10 @@ def cage(chance):
     """An octahedron or a tetrahedron in a box without a gap, or with one slab left out."""
     [[(points, faces)]] = chance.choice((octahedra, tetrahedra))(chance, 1)
     least, most = ([choose(values) for values in zip(*points)] for choose in (min, max))
-    points = [tuple(2 * value - low - high for value, low, high in zip(point, least, most)) for point in points]
+    points = [
+        tuple(2 * value - low - high for value, low, high in zip(point, least, most))
+        for point in points
+    ]
     reach = max(abs(value) for point in points for value in point) + chance.choice((0, 0, 3))
     return [[(points, faces)], chance.sample(shell(reach, reach + 2), chance.choice((5, 6, 6)))]
 
@@ -88,11 +97,19 @@ def boxes(chance, parts):
 def tetrahedra(chance, parts):
     """Tetrahedra in cells of a grid."""
     made = []
-    for x, y, z in chance.sample([(x, y, z) for x in range(3) for y in range(3) for z in range(2)], parts):
+    for x, y, z in chance.sample(
+        [(x, y, z) for x in range(3) for y in range(3) for z in range(2)], parts
+    ):
         volume = 0
         while volume == 0:
-            points = [(9 * x + chance.randint(0, 9), 9 * y + chance.randint(0, 9), 9 * z + chance.randint(0, 9))
-                      for _ in range(4)]
+            points = [
+                (
+                    9 * x + chance.randint(0, 9),
+                    9 * y + chance.randint(0, 9),
+                    9 * z + chance.randint(0, 9),
+                )
+                for _ in range(4)
+            ]
             a, b, c = (check.minus(point, points[0]) for point in points[1:])
             volume = check.dot(a, check.cross(b, c))
         made.append([(points, [(0, 1, 2), (0, 1, 3), (0, 2, 3), (1, 2, 3)])])
@@ -104,7 +121,9 @@ def octahedra(chance, parts):
     faces = [(x, y, z) for x in (0, 1) for y in (2, 3) for z in (4, 5)]
     tips = [(1, 0, 0), (-1, 0, 0), (0, 1, 0), (0, -1, 0), (0, 0, 1), (0, 0, -1)]
     made = []
-    for place in chance.sample([(x, y, z) for x in range(3) for y in range(3) for z in range(2)], parts):
+    for place in chance.sample(
+        [(x, y, z) for x in range(3) for y in range(3) for z in range(2)], parts
+    ):
         [[(points, _)]] = sheared(chance, [[(tips, faces)]])
         made.append([([tuple(7 * p + c for p, c in zip(place, point)) for point in points], faces)])
     return made
@@ -115,15 +134,24 @@ def sheared(chance, parts):
     rows = [[0, 0, 0]] * 3
     while check.dot(rows[0], check.cross(rows[1], rows[2])) == 0:
         rows = [[chance.randint(-3, 3) for _ in range(3)] for _ in range(3)]
-    return [[([tuple(check.dot(row, point) for row in rows) for point in points], faces) for points, faces in pieces]
-            for pieces in parts]
+    return [
+        [
+            ([tuple(check.dot(row, point) for row in rows) for point in points], faces)
+            for points, faces in pieces
+        ]
+        for pieces in parts
+    ]
 
 
 def spelled(chance, value, digits):
     """One of the spellings of a number of which `digits` places stand behind the point."""
-    sign, size = "-" if value < 0 else chance.choice(("", "", "+")), str(abs(value)).rjust(digits + 1, "0")
+    sign, size = "-" if value < 0 else chance.choice(("", "", "+")), str(abs(value)).rjust(
+        digits + 1, "0"
+    )
     plain = f"{sign}{size[:len(size) - digits]}.{size[len(size) - digits:]}"
-    return chance.choice([plain, plain + "000", f"{value}e-{digits}", f"{sign}{abs(value)}00E-{digits + 2}"])
+    return chance.choice(
+        [plain, plain + "000", f"{value}e-{digits}", f"{sign}{abs(value)}00E-{digits + 2}"]
+    )
 
 
 def off_text(chance, points, faces, digits):
@@ -131,7 +159,10 @@ def off_text(chance, points, faces, digits):
     points, faces = list(points), [list(face) for face in faces]
     if chance.random() < 0.3:
         points.append((chance.randint(-99, 99), 0, 999))  # used by no face
-    lines = [chance.choice(["OFF", "# a piece\nOFF", "OFF # a piece"]), f"{len(points)} {len(faces)} 0"]
+    lines = [
+        chance.choice(["OFF", "# a piece\nOFF", "OFF # a piece"]),
+        f"{len(points)} {len(faces)} 0",
+    ]
     lines += [" ".join(spelled(chance, value, digits) for value in point) for point in points]
     for face in faces:
         if chance.random() < 0.5:
@@ -169,7 +200,9 @@ Subject = collections.namedtuple("Subject", "name folder words product")
 
 def subject_of(name, folder, files, manifest, digits):
     os.chdir(folder)
-    words = ([f"--manifest={manifest}"] if manifest else files) + ([f"--digits={digits}"] if digits else [])
+    words = ([f"--manifest={manifest}"] if manifest else files) + (
+        [f"--digits={digits}"] if digits else []
+    )
     return Subject(name, folder, words, check.read_product(files, manifest, digits))
 
 
@@ -184,7 +217,9 @@ def written_subject(chance, folder, number, parts):
             if at:
                 points = [check.minus(point, at) for point in points]
             names.append(f"{number}-{p}-{i}.off")
-            pathlib.Path(folder, names[-1]).write_text(off_text(chance, points, faces, digits), newline="")
+            pathlib.Path(folder, names[-1]).write_text(
+                off_text(chance, points, faces, digits), newline=""
+            )
         listed.append({"name": f"part {p}", "pieces": names, **({"at": at} if at else {})})
         files += names
     if all(len(part["pieces"]) == 1 and "at" not in part for part in listed):
@@ -212,8 +247,12 @@ def certificates_of(program, subject):
     """The texts of all certificates that the program makes of the product, each once."""
     texts = []
     for options in ([], ["--format=1"], ["--robust"], ["--robust", "--format=1"]):
-        run = subprocess.run([program, "plan", "--cert", *options, *subject.words], cwd=subject.folder,
-                             capture_output=True, check=False)
+        run = subprocess.run(
+            [program, "plan", "--cert", *options, *subject.words],
+            cwd=subject.folder,
+            capture_output=True,
+            check=False,
+        )
         if run.returncode in (0, 1) and run.stdout not in texts:
             texts.append(run.stdout)
     return texts
@@ -222,7 +261,21 @@ def certificates_of(program, subject):
 # Ways to break a certificate. Each takes its lines, without line ends, and changes the list.
 
 KEYWORDS = "STAAT parts plan stuck leaf split sep witness out in dir end".split()
-STRANGE = [0, 31, 32, 63, 64, 2**25 - 2, 2**39, 2**39 + 1, -(2**39), 2**81, 2**81 + 1, -(2**81), -(2**81) - 1]
+STRANGE = [
+    0,
+    31,
+    32,
+    63,
+    64,
+    2**25 - 2,
+    2**39,
+    2**39 + 1,
+    -(2**39),
+    2**81,
+    2**81 + 1,
+    -(2**81),
+    -(2**81) - 1,
+]
 
 
 def lines_with(lines, *words):
@@ -231,8 +284,19 @@ def lines_with(lines, *words):
 
 def number_after(chance, number):
     """Another number in the place of this one."""
-    return chance.choice([number + 1, number - 1, -number, 2 * number, 0, chance.randint(-3, 3), chance.randint(0, 70),
-                          chance.choice((31, 32, 63, 64)), chance.choice(STRANGE)])
+    return chance.choice(
+        [
+            number + 1,
+            number - 1,
+            -number,
+            2 * number,
+            0,
+            chance.randint(-3, 3),
+            chance.randint(0, 70),
+            chance.choice((31, 32, 63, 64)),
+            chance.choice(STRANGE),
+        ]
+    )
 
 
 def change_place(chance, lines, k, least, most):
@@ -269,8 +333,23 @@ def word_changed(chance, lines):
     words = lines[k].split(" ")
     place = chance.randrange(len(words))
     word = words[place]
-    words[place] = chance.choice([chance.choice(KEYWORDS), "", "x", "0" + word, "+" + word, "-" + word, "\t" + word,
-                                  word + " ", word + "\r", word + ".0", word + "\0", word[:-1], word.upper()])
+    words[place] = chance.choice(
+        [
+            chance.choice(KEYWORDS),
+            "",
+            "x",
+            "0" + word,
+            "+" + word,
+            "-" + word,
+            "\t" + word,
+            word + " ",
+            word + "\r",
+            word + ".0",
+            word + "\0",
+            word[:-1],
+            word.upper(),
+        ]
+    )
     lines[k] = " ".join(words)
 
 
@@ -294,7 +373,7 @@ def in_order(lines):
         except ValueError:
             return
     if places:
-        lines[places[0]:places[-1] + 1] = [line for _, line in sorted(sorted_lines.items())]
+        lines[places[0] : places[-1] + 1] = [line for _, line in sorted(sorted_lines.items())]
 
 
 def direction_changed(chance, lines):
@@ -310,7 +389,7 @@ def multiplied(chance, lines, k, first):
     words = lines[k].split(" ")
     factor = chance.choice([-1, 0, 2, 3, 2**38, 2**60])
     try:
-        words[first:first + 3] = [str(factor * int(word)) for word in words[first:first + 3]]
+        words[first : first + 3] = [str(factor * int(word)) for word in words[first : first + 3]]
     except ValueError:
         return
     lines[k] = " ".join(words)
@@ -413,11 +492,37 @@ def version_changed(chance, lines):
         lines[0] = f"STAAT {chance.choice((1, 2, 2, 1, 3, 0))}"
 
 
-WAYS = [number_changed, number_changed, line_left_out, line_left_out, lines_exchanged, lines_exchanged, line_doubled,
-        word_changed, line_too_long, line_put_in, direction_changed, direction_changed, direction_multiplied,
-        direction_put_in, direction_left_out, wall_changed, wall_changed, wall_multiplied, wall_left_out, arc_changed,
-        arc_changed, witness_changed, leaves_exchanged, leaf_changed, arcs_exchanged, arcs_repeated, members_changed,
-        count_changed, version_changed]
+WAYS = [
+    number_changed,
+    number_changed,
+    line_left_out,
+    line_left_out,
+    lines_exchanged,
+    lines_exchanged,
+    line_doubled,
+    word_changed,
+    line_too_long,
+    line_put_in,
+    direction_changed,
+    direction_changed,
+    direction_multiplied,
+    direction_put_in,
+    direction_left_out,
+    wall_changed,
+    wall_changed,
+    wall_multiplied,
+    wall_left_out,
+    arc_changed,
+    arc_changed,
+    witness_changed,
+    leaves_exchanged,
+    leaf_changed,
+    arcs_exchanged,
+    arcs_repeated,
+    members_changed,
+    count_changed,
+    version_changed,
+]
 
 
 def broken(chance, text):
@@ -435,12 +540,16 @@ def broken(chance, text):
         changed = "".join(line + "\n" for line in lines).encode("ascii")
         if chance.random() < 0.08:
             names.append("text_cut_off")
-            changed = changed[:chance.choice([-1, chance.randrange(len(changed) + 1)])]
+            changed = changed[: chance.choice([-1, chance.randrange(len(changed) + 1)])]
             if chance.random() < 0.5:  # at the end of a line, where so many bytes may follow
-                changed = changed[:changed.rfind(b"\n") + 1] + b"0" * chance.choice((0, 0, 126, 127, 128, 129))
+                changed = changed[: changed.rfind(b"\n") + 1] + b"0" * chance.choice(
+                    (0, 0, 126, 127, 128, 129)
+                )
         if chance.random() < 0.04:
             names.append("bytes_added")
-            changed += chance.choice([b"\n", b"x", b"end\n", b"0" * 127, b"0" * 128, b"0" * 129, b"\xff"])
+            changed += chance.choice(
+                [b"\n", b"x", b"end\n", b"0" * 127, b"0" * 128, b"0" * 129, b"\xff"]
+            )
     return names, changed
 
 
@@ -457,8 +566,12 @@ class Comparison:
     def ask(self, label, subject, text):
         """Asks both; tells a difference with the label."""
         pathlib.Path(self.file).write_bytes(text)
-        run = subprocess.run([self.program, "check", self.file, *subject.words], cwd=subject.folder,
-                             capture_output=True, check=False)
+        run = subprocess.run(
+            [self.program, "check", self.file, *subject.words],
+            cwd=subject.folder,
+            capture_output=True,
+            check=False,
+        )
         status, line = check.verdict(subject.product, self.file, text)
         self.count += 1
         words = line.replace(self.file, "FILE").split(" ")
@@ -467,8 +580,10 @@ class Comparison:
         expected = (status, line, b"") if status < 2 else (status, b"", line)
         if (run.returncode, run.stdout, run.stderr) != expected:
             self.differences += 1
-            print(f"difference: {label}, {subject.name}: the program says {run.returncode} {run.stdout + run.stderr}, "
-                  f"check.py says {status} {line}")
+            print(
+                f"difference: {label}, {subject.name}: the program says {run.returncode} {run.stdout + run.stderr}, "
+                f"check.py says {status} {line}"
+            )
 
 
 def main(words):
@@ -486,7 +601,10 @@ def main(words):
     with tempfile.TemporaryDirectory() as folder:
         chance = random.Random(f"products {given.seed}")
         subjects = list(filter(None, (listed_subject(program, path) for path in paths)))
-        subjects += [written_subject(chance, folder, k, parts) for k, parts in enumerate(made_products(chance))]
+        subjects += [
+            written_subject(chance, folder, k, parts)
+            for k, parts in enumerate(made_products(chance))
+        ]
         comparison = Comparison(program, pathlib.Path(folder, "certificate"))
         texts = {True: [], False: []}  # of plans, and of refusals
         for subject in subjects:
@@ -498,8 +616,10 @@ def main(words):
                     comparison.ask(f"seed {given.seed}, whole", subject, text)
                 if text.count(b"\n") <= MOST_LINES:
                     texts[b"\nplan\n" in text].append((subject, text))
-        print(f"{len(subjects)} products, {comparison.count} certificates as the program makes them, "
-              f"{comparison.differences} differences")
+        print(
+            f"{len(subjects)} products, {comparison.count} certificates as the program makes them, "
+            f"{comparison.differences} differences"
+        )
         ways = collections.Counter()
         for case in range(given.broken) if given.only is None else [given.only]:
             chance = random.Random(f"case {given.seed} {case}")
@@ -514,9 +634,13 @@ def main(words):
                 sys.stdout.write(text.decode("latin-1"))
         os.chdir(TOP)
     for title, counter in ("changes", ways), ("answers", comparison.said):
-        print(title + ":", ", ".join(f"{name} {number}" for name, number in sorted(counter.items())))
-    print(f"{comparison.count} certificates judged by both, {comparison.differences} differences, "
-          f"{time.monotonic() - began:.0f} seconds")
+        print(
+            title + ":", ", ".join(f"{name} {number}" for name, number in sorted(counter.items()))
+        )
+    print(
+        f"{comparison.count} certificates judged by both, {comparison.differences} differences, "
+        f"{time.monotonic() - began:.0f} seconds"
+    )
     return 1 if comparison.differences else 0
 
 

@@ -58,7 +58,9 @@ def build(folder):
     source, library = os.path.join(folder, "refuser.c"), os.path.join(folder, "refuser.so")
     with open(source, "w", encoding="ascii") as file:
         file.write(REFUSER)
-    subprocess.run(["cc", "-O1", "-fno-builtin", "-shared", "-fPIC", "-o", library, source], check=True)
+    subprocess.run(
+        ["cc", "-O1", "-fno-builtin", "-shared", "-fPIC", "-o", library, source], check=True
+    )
     return library
 
 
@@ -129,7 +131,9 @@ def main():
             told = ", ".join(f"{number} end with {end}" for end, number in sorted(ends.items()))
             print(f"{shown(words)}: {count} allocations; {told}; {len(wrong)} wrong", flush=True)
             for refused, (status, out, err) in wrong[:10]:
-                print(f"  allocation {refused} refused: status {status}, out {out[:60]!r}, err {err[:60]!r}")
+                print(
+                    f"  allocation {refused} refused: status {status}, out {out[:60]!r}, err {err[:60]!r}"
+                )
             total, faults = total + count, faults + len(wrong)
     print(f"{total} allocations refused, {faults} wrong replies")
     return 1 if faults else 0

@@ -65,11 +65,22 @@ class InFolder(unittest.TestCase):
 
 class Inputs(InFolder):
     def test_coordinates(self):
-        for word, whole, thousandths in [("1.000000", 1, 1000), ("2e0", 2, 2000), ("-0.0", 0, 0), ("+3", 3, 3000),
-                                         ("4.", 4, 4000), ("0.5", None, 500), ("-1200E-2", -12, -12000),
-                                         ("0e999", 0, 0), ("1e999", None, None), ("1e-999", None, None),
-                                         (".25e1", None, 2500), ("007", 7, 7000), ("0.00100e3", 1, 1000),
-                                         ("262144.0000000000000000000000000000000000000000", 262144, 262144000)]:
+        for word, whole, thousandths in [
+            ("1.000000", 1, 1000),
+            ("2e0", 2, 2000),
+            ("-0.0", 0, 0),
+            ("+3", 3, 3000),
+            ("4.", 4, 4000),
+            ("0.5", None, 500),
+            ("-1200E-2", -12, -12000),
+            ("0e999", 0, 0),
+            ("1e999", None, None),
+            ("1e-999", None, None),
+            (".25e1", None, 2500),
+            ("007", 7, 7000),
+            ("0.00100e3", 1, 1000),
+            ("262144.0000000000000000000000000000000000000000", 262144, 262144000),
+        ]:
             for digits, value in (0, whole), (3, thousandths):
                 if value is None:
                     with self.assertRaises(ValueError):
@@ -78,8 +89,10 @@ class Inputs(InFolder):
                     self.assertEqual(check.read_coordinate(word.encode(), digits), value, word)
 
     def test_words_of_an_off_file(self):
-        text = ("# a tetrahedron\nOFF#x\n5 4\n6 0 0 0 0 0 0.1\t0 0.1 0 .1 0 0\n7 7 7 # unused\n"
-                "3 0\n1 2 255 0 0 3 3 3\n3 0 1 3\r\n3 0 2 3# 9\n\n3 1 2 3")
+        text = (
+            "# a tetrahedron\nOFF#x\n5 4\n6 0 0 0 0 0 0.1\t0 0.1 0 .1 0 0\n7 7 7 # unused\n"
+            "3 0\n1 2 255 0 0 3 3 3\n3 0 1 3\r\n3 0 2 3# 9\n\n3 1 2 3"
+        )
         points = [(5, 0, 0), (5, 0, 1), (5, 1, 0), (6, 0, 0)]
         self.assertEqual(check.read_piece(self.written(text), 1, (5, 0, 0)), points)
 
@@ -91,7 +104,12 @@ class Inputs(InFolder):
         self.assertEqual([len(part) for part in product.parts], [1, 3])
 
     def test_what_cannot_be_read(self):
-        for name in "nowhere.off", self.written("OFF 1 1 0 0 0"), self.written("COFF"), self.written("OFF 0 1 0 1 5"):
+        for name in (
+            "nowhere.off",
+            self.written("OFF 1 1 0 0 0"),
+            self.written("COFF"),
+            self.written("OFF 0 1 0 1 5"),
+        ):
             with self.assertRaises(check.Refused):
                 check.read_product([name], None, 0)
         for text in "", "[]", '{"parts":[1]}', '{"parts":[{}]}':
@@ -104,7 +122,9 @@ class Geometry(InFolder):
         product = check.read_product(CUBES, None, 0)
         self.assertEqual(product.facets(0, 0, 1, 0), {(1, 0, 0)})
         self.assertEqual(product.facets(1, 0, 0, 0), {(-1, 0, 0)})
-        apart = check.Product([[[(x, y, z) for x in (a, a + 2) for y in (0, 2) for z in (0, 2)]] for a in (0, 4)])
+        apart = check.Product(
+            [[[(x, y, z) for x in (a, a + 2) for y in (0, 2) for z in (0, 2)]] for a in (0, 4)]
+        )
         self.assertEqual(apart.facets(0, 0, 1, 0), {(1, 0, 1), (1, 0, -1), (1, 1, 0), (1, -1, 0)})
 
     def test_overlapping_pieces_have_no_facet(self):
@@ -192,7 +212,9 @@ class Texts(InFolder):
         self.assert_bad(5, begin + "witness 0\ndir 0 0 1 1\n")
         self.assert_bad(6, begin + "witness 0\ndir 0 0 1 0\ndir 0 0 1 0\n")
         self.assert_bad(6, begin + "witness 0\ndir 0 0 1 0\nwitness 1\n")
-        self.assert_short(begin.replace("STAAT 2", "STAAT 1") + "witness 0\ndir 0 0 -1 0\ndir 0 0 0 0\n")
+        self.assert_short(
+            begin.replace("STAAT 2", "STAAT 1") + "witness 0\ndir 0 0 -1 0\ndir 0 0 0 0\n"
+        )
 
     def test_too_long(self):
         text = b"\n" * (check.LONGEST_TEXT + 1)
@@ -230,7 +252,12 @@ OF_REFUSALS = {
     "valid refusal": [
         (),
         ("dir 1 0 0 2", "dir 1 0 0 2\ndir 5 0 0 2"),
-        ("witness 2\n", "witness 2\nout 0 0 1 1\nin 1 0 0 0\nwitness 3\n", "dir 1 0 0 2", "dir 1 0 0 3"),
+        (
+            "witness 2\n",
+            "witness 2\nout 0 0 1 1\nin 1 0 0 0\nwitness 3\n",
+            "dir 1 0 0 2",
+            "dir 1 0 0 3",
+        ),
     ],
     "not valid: wrong parts 1": [("parts 2", "parts 1", "stuck 0 1", "stuck 0")],
     "not valid: bad stuck set": [("stuck 0 1", "stuck 0"), ("stuck 0 1", "stuck 0 1 2")],
@@ -275,7 +302,7 @@ class Verdicts(InFolder):
 
     def test_the_first_split_in_preorder_is_told(self):
         row = check.read_product([], "examples/row-of-cubes/parts.json", 0)
-        text = ("STAAT 2\nparts 4\nplan\nsplit 0 0 1\nsplit 0 0 0\nleaf 0\nleaf 1\nsplit 0 0 0\nleaf 2\nleaf 3\nend\n")
+        text = "STAAT 2\nparts 4\nplan\nsplit 0 0 1\nsplit 0 0 0\nleaf 0\nleaf 1\nsplit 0 0 0\nleaf 2\nleaf 3\nend\n"
         self.assertEqual(judged(row, text), (1, "not valid: missing separator 0 0 2 0"))
         walls = "".join(f"sep {a} 0 {b} 0 1 0 0\n" for a in (0, 1) for b in (2, 3))
         text = text.replace("split 0 0 1\n", "split 0 0 1\n" + walls)
@@ -305,23 +332,42 @@ class Command(InFolder):
         self.assertEqual(self.run_with("--digits", "2", plan, *CUBES), (0, "valid plan\n", ""))
         closed = "--manifest=examples/closed-box/parts.json"
         self.assertEqual(self.run_with(closed, refusal), (0, "valid refusal\n", ""))
-        self.assertEqual(self.run_with(plan, closed, "--digits=1"), (1, "not valid: missing separator 0 0 1 1\n", ""))
+        self.assertEqual(
+            self.run_with(plan, closed, "--digits=1"),
+            (1, "not valid: missing separator 0 0 1 1\n", ""),
+        )
         self.assertEqual(self.run_with("nowhere", *CUBES), (5, "", "staat: cannot read nowhere\n"))
         cut = self.written(CUBES_PLAN[:-1])
-        self.assertEqual(self.run_with(cut, *CUBES), (3, "", f"staat: {cut}: certificate too short\n"))
+        self.assertEqual(
+            self.run_with(cut, *CUBES), (3, "", f"staat: {cut}: certificate too short\n")
+        )
 
     def test_words_that_make_no_request(self):
-        for words in [], ["c"], ["c", "a", "--manifest=m"], ["c", "a", "--digits=7"], ["c", "a", "--digits=01"], \
-                ["c", *["a"] * 33], ["c", "a", "--other"], ["c", "--manifest"]:
+        for words in (
+            [],
+            ["c"],
+            ["c", "a", "--manifest=m"],
+            ["c", "a", "--digits=7"],
+            ["c", "a", "--digits=01"],
+            ["c", *["a"] * 33],
+            ["c", "a", "--other"],
+            ["c", "--manifest"],
+        ):
             status, out, _ = self.run_with(*words)
             self.assertEqual((status, out), (2, ""), words)
 
 
 class BrokenCertificates(unittest.TestCase):
     def test_a_case_is_always_the_same_and_never_the_whole_one(self):
-        for text in CUBES_PLAN.encode(), CLOSED_BOX_REFUSAL.encode(), b"STAAT 1\nparts 1\nplan\nleaf 0\nend\n":
+        for text in (
+            CUBES_PLAN.encode(),
+            CLOSED_BOX_REFUSAL.encode(),
+            b"STAAT 1\nparts 1\nplan\nleaf 0\nend\n",
+        ):
             for case in range(500):
-                once, again = (compare_checkers.broken(random.Random(f"case {case}"), text) for _ in range(2))
+                once, again = (
+                    compare_checkers.broken(random.Random(f"case {case}"), text) for _ in range(2)
+                )
                 self.assertEqual(once, again)
                 self.assertNotEqual(once[1], text)
 

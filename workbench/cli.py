@@ -150,7 +150,7 @@ def add_cutting(one: argparse.ArgumentParser) -> None:
         type=length_of,
         default=Fraction(60),
         metavar="S",
-        help="how long one solid may take; else 60",
+        help="seconds of a processor that one solid may take; else 60",
     )
 
 

@@ -24,7 +24,8 @@ def ring(
     """A regular polygon on whole spots; with the clock where it is a hole."""
     angles = [2 * math.pi * (number + phase) / sides for number in range(sides)]
     spots = [
-        (centre[0] + round(radius * math.cos(a)), centre[1] + round(radius * math.sin(a))) for a in angles
+        (centre[0] + round(radius * math.cos(a)), centre[1] + round(radius * math.sin(a)))
+        for a in angles
     ]
     return spots[::-1] if hole else spots
 
@@ -60,7 +61,11 @@ def blocks(cells: Iterable[Cell], size: float = 10.0) -> Mesh:
             face = []
             for i, j in ((0, 0), (1, 0), (1, 1), (0, 1)):
                 corner = [0, 0, 0]
-                corner[axis], corner[one], corner[other] = cell[axis] + side, cell[one] + i, cell[other] + j
+                corner[axis], corner[one], corner[other] = (
+                    cell[axis] + side,
+                    cell[one] + i,
+                    cell[other] + j,
+                )
                 face.append(number.setdefault((corner[0], corner[1], corner[2]), len(number)))
             faces.append(face if side else face[::-1])
     return Mesh(numpy.array(list(number), float) * size, faces)
@@ -112,7 +117,9 @@ def six_volumes(mesh: Mesh) -> float:
     total = 0.0
     for face in mesh.faces:
         for one, other in zip(face[1:], face[2:]):
-            total += float(numpy.linalg.det(numpy.asarray(mesh.points, float)[[face[0], one, other]]))
+            total += float(
+                numpy.linalg.det(numpy.asarray(mesh.points, float)[[face[0], one, other]])
+            )
     return total
 
 
@@ -121,7 +128,9 @@ def volume_of(found: Pieces, scale: float) -> float:
     return sum(float(ConvexHull(piece.points).volume) for piece in found.pieces) / scale**3
 
 
-def beaten(of: Solid, found: Pieces, draw: numpy.random.Generator, many: int = 30) -> Tuple[float, float]:
+def beaten(
+    of: Solid, found: Pieces, draw: numpy.random.Generator, many: int = 30
+) -> Tuple[float, float]:
     """By how much random points beat the bounds of pieces; neither is above 0 where the bounds hold.
 
     of: its `exact` is the solid of the model. How far points of the solid lie outside of the pieces is a lower bound.

@@ -27,7 +27,9 @@ def has_cgal() -> bool:
 
 
 def plus(pieces: Pieces, step: Sequence[int]) -> List[Piece]:
-    return [Piece(piece.points + numpy.array(step, numpy.int64), piece.faces) for piece in pieces.pieces]
+    return [
+        Piece(piece.points + numpy.array(step, numpy.int64), piece.faces) for piece in pieces.pieces
+    ]
 
 
 class Outlines(unittest.TestCase):
@@ -42,7 +44,9 @@ class Outlines(unittest.TestCase):
         self.assertEqual(self.parted(SQUARE), 1)
         self.assertEqual(self.parted([(0, 0), (2, 0), (2, 1), (1, 1), (1, 2), (0, 2)]), 2)
         self.assertEqual(self.parted(*BORE), 12)
-        self.assertEqual(self.parted(SQUARE, ring(8, 20, (-50, 0), True), ring(8, 20, (50, 0), True)), 14)
+        self.assertEqual(
+            self.parted(SQUARE, ring(8, 20, (-50, 0), True), ring(8, 20, (50, 0), True)), 14
+        )
 
     def test_spots_on_edges_stay(self) -> None:
         parts = convex_parts([[(0, 0), (1, 0), (2, 0), (2, 2), (0, 2)]])
@@ -53,7 +57,10 @@ class Outlines(unittest.TestCase):
         for many in (5, 9, 20, 60):
             radii = draw.integers(100, 10000, many)
             spots = [
-                (round(r * math.cos(2 * math.pi * k / many)), round(r * math.sin(2 * math.pi * k / many)))
+                (
+                    round(r * math.cos(2 * math.pi * k / many)),
+                    round(r * math.sin(2 * math.pi * k / many)),
+                )
                 for k, r in enumerate(radii.tolist())
             ]
             self.parted(spots)
@@ -106,7 +113,9 @@ class Exact(unittest.TestCase):
             mesh = blocks(cells)
             found = decompose(solid(mesh, 100), Options())
             self.assertEqual((found.over, found.under), (0, 0))
-            self.assertAlmostEqual(solids.volume_of(found, 100), solids.six_volumes(mesh) / 6, places=6)
+            self.assertAlmostEqual(
+                solids.volume_of(found, 100), solids.six_volumes(mesh) / 6, places=6
+            )
             self.assertLessEqual(len(found.pieces), len(cells))
 
 
@@ -116,7 +125,8 @@ class Bolts(unittest.TestCase):
         bolt = solids.both(prism([head], -30, 0), prism([shaft], 0, 200))
         nut = prism([ring(6, 80), shaft[::-1]], 100, 150)
         found = [
-            decompose(solid(mesh, 100, name), Options()) for mesh, name in ((bolt, "bolt"), (nut, "nut"))
+            decompose(solid(mesh, 100, name), Options())
+            for mesh, name in ((bolt, "bolt"), (nut, "nut"))
         ]
         self.assertEqual([len(some.pieces) for some in found], [2, 12])
         self.assertEqual(overlaps([some.pieces for some in found]), [])
@@ -158,7 +168,9 @@ class Rough(unittest.TestCase):
             self.assertEqual(len(self.held(of, Options(side=side)).pieces), 12)
 
     def test_ball(self) -> None:
-        angles = [(math.pi * (i + 1) / 7, 2 * math.pi * j / 12) for i in range(6) for j in range(12)]
+        angles = [
+            (math.pi * (i + 1) / 7, 2 * math.pi * j / 12) for i in range(6) for j in range(12)
+        ]
         points = [(0, 0, 50.0), (0, 0, -50.0)]
         points += [
             (50 * math.sin(a) * math.cos(b), 50 * math.sin(a) * math.sin(b), 50 * math.cos(a))
@@ -250,7 +262,9 @@ class Neighbours(unittest.TestCase):
     def test_a_thin_piece_elsewhere_stays(self) -> None:
         thin = solids.moved(blocks([(0, 0, 0)], 0.04), 50, 0, 0)
         wide = solids.moved(blocks([(0, 0, 0)], 20.0), 9, 0, 0)
-        found = self.cleared([solids.both(blocks([(0, 0, 0)]), thin), wide], Options(clearance={"0": 1.5}))
+        found = self.cleared(
+            [solids.both(blocks([(0, 0, 0)]), thin), wide], Options(clearance={"0": 1.5})
+        )
         self.assertEqual(self.overlapping, 0)
         self.assertEqual(len(found[0].pieces), 2)
         self.assertLessEqual(found[0].under, 1.01)
@@ -269,7 +283,14 @@ class Neighbours(unittest.TestCase):
         of = solid(turned(prism(BORE, 0, 50), 0, 0, 17), 100)
         found = decompose(of, Options())
         there = solid(solids.moved(of.exact, 300, 0, 0), 100) if of.exact else of
-        away = Cut(plus(found, (30000, 0, 0)), found.over, found.under, found.note, found.cells, found.beyond)
+        away = Cut(
+            plus(found, (30000, 0, 0)),
+            found.over,
+            found.under,
+            found.note,
+            found.cells,
+            found.beyond,
+        )
         away.anchor, away.exact = found.anchor, found.exact
         (cleared,) = clear([there], [away], Options(join=1.0))
         self.assertLessEqual(max(beaten(there, cleared, numpy.random.default_rng(2))), 0)
