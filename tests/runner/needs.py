@@ -33,6 +33,7 @@ def _folder(name: str) -> Callable[[], bool]:
 
 NEEDS = {
     "rt": Need("", _command("rt")),
+    "as1": Need("gmsh-doc", _folder("/usr/share/doc/gmsh-doc/doc/gmsh/demos/boolean")),
     "c++": Need("g++", _command("g++")),
     "cc": Need("gcc", _command("cc")),
     "cgal": Need("libcgal-dev", _folder("/usr/include/CGAL")),

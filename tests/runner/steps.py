@@ -65,7 +65,7 @@ MODELS = (
 STEPS = (
     Step("memory", _python("tools/refuse_memory.py", "{program}"), ("cc",)),
     Step("checkers", _python("tools/compare_checkers.py", "--program={program}", "--broken=1000")),
-    Step("pages", _python("tests/runner/pages.py", "{program}"), MODELS),
+    Step("pages", _python("tests/runner/pages.py", "{program}"), (*MODELS, "as1")),
     Step(
         "workbench",
         _python("tests/runner/units.py", "workbench/tests/quick"),
