@@ -12,6 +12,7 @@ from __future__ import annotations
 import os
 import pathlib
 import re
+import subprocess
 import sys
 import tempfile
 from collections.abc import Iterator
@@ -115,6 +116,9 @@ def main(words: list[str]) -> int:
     program = pathlib.Path(words[0]).resolve()
     pages = [pathlib.Path(word).resolve() for word in words[1:]]
     pages = pages or sorted({page for pattern in PAGES for page in scratch.TOP.glob(pattern)})
+    # What ./staat-cad builds when it is first wanted is built before, since it tells so then.
+    words = [sys.executable, "-c", "from workbench.convex import cgal; cgal.built()"]
+    subprocess.run(words, cwd=scratch.TOP, check=False)
     count, failures = 0, []
     with ThreadPoolExecutor(os.cpu_count()) as pool:
         for number, told in pool.map(lambda page: run_page(page, program), pages):
