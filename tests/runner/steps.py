@@ -76,6 +76,8 @@ STEPS = (
     Step("tools", _python("tests/runner/units.py", "tools")),
     Step("runner", _python("tests/runner/units.py", "tests/runner"), needs_program=False),
     Step("guards", _python("tools/guards.py", "--check"), needs_program=False),
+    Step("manual", _python("tools/manual.py", "--check"), needs_program=False),
+    Step("links", _python("tests/runner/links.py"), needs_program=False),
     Step("stored program", _python("tools/compare_program.py", "{program}"), is_quick=False),
 )
 
