@@ -2,7 +2,8 @@
 
 A link has to lead to a file of the repository, and its `#head` to a heading of that page. A path that a page names in
 its text, as docs/TRUST.md or crates/staat_top/src/top.rt, has to be there too; those with a placeholder in capitals or
-a star, and what is built in `out` folders, are passed over.
+a star, and what is built in `out` folders, are passed over. Where a page says that a name stands in a file of code, as
+`staat` in crates/staat_top/src/top.rt, that file has to declare it.
 """
 
 from __future__ import annotations
@@ -20,6 +21,7 @@ _IMAGE = re.compile(r'<img src="([^"]+)"')
 _PATH = re.compile(
     r"(?<![\w./-])(?:bench|bin|crates|docs|examples|gallery|tests|tools|workbench)/[\w./*-]*\w"
 )
+_NAME = re.compile(r"`(?:\w+::)*(\w+)`\s+in\s+(crates/\w+/src/\w+\.rt)")
 _PASSED_OVER = re.compile(r"\*|\b[A-Z]{3,}\b(?!\.md)|/out\b")
 
 
@@ -50,6 +52,17 @@ def paths_of(text: str) -> Iterator[tuple[int, str]]:
                 yield number, path
 
 
+def names_of(text: str) -> Iterator[tuple[int, str, str]]:
+    """The names of which the text says in which file they stand, each with the number of its line."""
+    for found in _NAME.finditer(text):
+        yield text.count("\n", 0, found.start()) + 1, found[1], found[2]
+
+
+def declares(code: str, name: str) -> bool:
+    """Whether a text of code declares a function, a type or a constant of this name."""
+    return re.search(rf"\b(?:fn|struct|enum|trait|const|type)\s+{name}\b", code) is not None
+
+
 def is_link_right(page: Path, target: str) -> bool:
     """Whether a link of a page leads to a file, and to a heading where it names one."""
     name, _, head = target.partition("#")
@@ -57,19 +70,28 @@ def is_link_right(page: Path, target: str) -> bool:
     return file.exists() and (not head or head in slugs(file.read_text(encoding="utf-8")))
 
 
+def seen(page: Path) -> Iterator[tuple[int, str]]:
+    """What a page points at, in the order of its kinds: the number of the line, and what is wrong or an empty text."""
+    text = page.read_text(encoding="utf-8")
+    for number, target in links_of(text):
+        is_right = is_link_right(page, target)
+        yield number, "" if is_right else f"the link to {target} leads nowhere"
+    for number, path in paths_of(text):
+        yield number, "" if (scratch.TOP / path).exists() else f"there is no {path}"
+    for number, name, file in names_of(text):
+        code = scratch.TOP / file
+        is_right = code.is_file() and declares(code.read_text(encoding="utf-8"), name)
+        yield number, "" if is_right else f"{file} declares no {name}"
+
+
 def main() -> int:
     """Looks at all pages and prints what is not there. Returns the exit status."""
     count, failures = 0, []
     for page in sorted({page for pattern in pages.PAGES for page in scratch.TOP.glob(pattern)}):
-        text, name = page.read_text(encoding="utf-8"), page.relative_to(scratch.TOP)
-        links, paths = list(links_of(text)), list(paths_of(text))
-        count += len(links) + len(paths)
-        for number, target in links:
-            if not is_link_right(page, target):
-                failures.append(f"{name}:{number}: the link to {target} leads nowhere")
-        for number, path in paths:
-            if not (scratch.TOP / path).exists():
-                failures.append(f"{name}:{number}: there is no {path}")
+        for number, wrong in seen(page):
+            count += 1
+            if wrong:
+                failures.append(f"{page.relative_to(scratch.TOP)}:{number}: {wrong}")
     print("".join(f"{told}\n" for told in failures), end="")
     print(f"{count - len(failures)} passed, {len(failures)} failed")
     return 1 if failures else 0

@@ -77,6 +77,7 @@ STEPS = (
     Step("runner", _python("tests/runner/units.py", "tests/runner"), needs_program=False),
     Step("guards", _python("tools/guards.py", "--check"), needs_program=False),
     Step("manual", _python("tools/manual.py", "--check"), needs_program=False),
+    Step("layers", _python("tools/layers.py", "--check"), needs_program=False),
     Step("links", _python("tests/runner/links.py"), needs_program=False),
     Step("stored program", _python("tools/compare_program.py", "{program}"), is_quick=False),
 )

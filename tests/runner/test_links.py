@@ -27,6 +27,13 @@ class Tests(unittest.TestCase):
     def test_paths(self) -> None:
         self.assertEqual(list(links.paths_of(PAGE)), [(4, "docs/TRUST.md")])
 
+    def test_names(self) -> None:
+        text = "Hop 1 is `top` in crates/a/src/b.rt, and `Heap::weigh`\n in crates/a/src/c.rt."
+        wanted = [(1, "top", "crates/a/src/b.rt"), (1, "weigh", "crates/a/src/c.rt")]
+        self.assertEqual(list(links.names_of(text)), wanted)
+        self.assertTrue(links.declares("    pub fn weigh(&self) -> u32", "weigh"))
+        self.assertFalse(links.declares("fn weighed() { weigh() }", "weigh"))
+
     def test_where_links_lead(self) -> None:
         with tempfile.TemporaryDirectory() as room:
             page = Path(room, "page.md")
