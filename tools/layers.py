@@ -5,8 +5,9 @@
     python3 tools/layers.py --check    says whether they are what would be written; status 1 where they are not
 
 A crate stands in the row above the highest that it stands on. A line leads from each crate to those that it stands
-on, but not where lines lead there by a crate between. Either way the status is 1, and a line says why, where a crate
-of crates.txt has no row in the table of docs/ARCHITECTURE.md, or a row is of no crate.
+on, but not where lines lead there by a crate between. Crates of tests, whose names end in `_tests`, stand in a row of
+their own, without lines. Either way the status is 1, and a line says why, where a crate of crates.txt has no row in
+the table of docs/ARCHITECTURE.md, or a row is of no crate.
 """
 
 from __future__ import annotations
@@ -21,6 +22,7 @@ TOP = Path(__file__).resolve().parent.parent
 PICTURE = "docs/crates.svg"
 PAGE = "docs/ARCHITECTURE.md"
 PREFIX = "staat_"
+TESTS = "_tests"
 # In the picture, in pixels: from row to row, the height of a box, the widths of a letter and of a line that passes, and
 # what lies between boxes and around all.
 ROW, BOX, LETTER, BEND, GAP, MARGIN = 62, 24, 8, 4, 22, 14
@@ -63,17 +65,15 @@ class Crates:
         return [it for it in own if not any(it in self.below(other) for other in own)]
 
     def height(self, name: str) -> int:
-        """The row of a crate, from 0 at the bottom."""
+        """The row of a crate, from 0 at the bottom; one of tests stands above all that are none."""
         if name not in self._heights:
-            self._heights[name] = 1 + max((self.height(it) for it in self.own(name)), default=-1)
+            under = self.no_tests() if name.endswith(TESTS) else self.own(name)
+            self._heights[name] = 1 + max(map(self.height, under), default=-1)
         return self._heights[name]
 
-    def rows(self) -> list[list[str]]:
-        """The crates in rows, the lowest first; those of a row in the order of the list."""
-        found: list[list[str]] = [[] for _ in range(1 + max(map(self.height, self.on), default=-1))]
-        for name in self.on:
-            found[self.height(name)].append(name)
-        return found
+    def no_tests(self) -> list[str]:
+        """The crates but those of tests."""
+        return [name for name in self.on if not name.endswith(TESTS)]
 
 
 @dataclass(frozen=True, order=True)
@@ -97,7 +97,7 @@ def shown(name: str) -> str:
 def segments(crates: Crates) -> list[tuple[Knot, Knot]]:
     """The lines of the picture, each from a row to the next one below; lines to one crate meet on their way."""
     found = set()
-    for name in crates.on:
+    for name in crates.no_tests():
         for it in crates.next_below(name):
             upper, low = Knot(name, crates.height(name), True), crates.height(it)
             for row in range(upper.row - 1, low - 1, -1):
@@ -158,9 +158,10 @@ def picture(crates: Crates) -> str:
         )
     for knot in places:
         if knot.is_box:
+            fill = "white" if knot.crate.endswith(TESTS) else "#e8eef4"
             lines.append(
                 f'<rect x="{x[knot] - knot.width() // 2}" y="{y[knot]}" width="{knot.width()}" '
-                f'height="{BOX}" rx="4" fill="#e8eef4" stroke="#445566"/>'
+                f'height="{BOX}" rx="4" fill="{fill}" stroke="#445566"/>'
             )
             lines.append(f'<text x="{x[knot]}" y="{y[knot] + 17}">{shown(knot.crate)}</text>')
         else:

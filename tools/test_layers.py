@@ -40,6 +40,11 @@ class Tests(unittest.TestCase):
         self.assertEqual(self.crates.next_below("staat_top"), ["staat_mid", "staat_side"])
         self.assertEqual([self.crates.height(it) for it in self.crates.on], [0, 1, 1, 2])
 
+    def test_tests_stand_above_all(self) -> None:
+        crates = layers.Crates.read(LIST + "staat_all_tests: staat_low\n")
+        self.assertEqual(crates.height("staat_all_tests"), 3)
+        self.assertEqual(layers.segments(crates), layers.segments(self.crates))
+
     def test_a_long_line_bends_in_each_row(self) -> None:
         crates = layers.Crates({"a": [], "b": ["a"], "c": ["b"], "d": [], "e": ["c", "d"]})
         bends = {
