@@ -1,20 +1,20 @@
 #!/usr/bin/env python3
 """Proves the crates that the program stands on, side by side, and builds it: tools/build.py
 
-Each crate is proved by `rt lib` as soon as those below it are, first those behind which the longest chain of others
-stands, by lines of sources: that one has all processors, and the others what it leaves idle. The program is
-`crates/staat_cli/out/staat_cli`, and `sources` beside it holds the checksum of what it was built from (tools/sources).
-What is proved stays, so a run that is cut off goes on from there. Status 0 if the program is built, 1 if a crate was
-refused, 2 if something else was in the way.
+Each crate is proved from nothing by `rattle build`, with the words of `rt verdict`, as soon as those below it are: the
+first are those behind which the longest chain of others stands, by lines of sources. A crate has one job, and the first
+of them also those that would stand idle, since more jobs make a proof shorter and dearer. A library leaves what the
+crates above cite of it, its statements. The program is `crates/staat_cli/out/staat_cli`, and `sources` beside it holds
+the checksum of what it was built from (tools/sources).
 
-`rt` holds a crate's folder and those below it while it works, so that two runs in one checkout go in turn. So each runs
-in a room of its own, `out/room` in the crate's folder: second names for the files of the crates below and of what was
-built of them.
+What is proved stays, in `out/proved` of the crate's folder, so a run that is cut off goes on from there. Status 0 if
+the program is built, 1 if a crate was refused, 2 if something else was in the way.
 """
 
 from __future__ import annotations
 
 import fcntl
+import hashlib
 import os
 import re
 import shutil
@@ -22,21 +22,51 @@ import signal
 import subprocess
 import sys
 import time
-from collections.abc import Iterable, Iterator
+from collections.abc import Iterator
 from dataclasses import dataclass, field
+from functools import cached_property
 from pathlib import Path
 from typing import TextIO
 
 TOP = Path(__file__).resolve().parent.parent
 PROGRAM = "staat_cli"
-TRY = ("drill", "row", "2")  # what the program is run on once it is built
 SOURCES = ("src", "specs", "proofs")
 MEMORY = 2 << 30  # bytes that a job may take
-NEAR = 0.75  # the part of the longest chain from which another is nearly as long
-NICE = 10  # how far a crate gives way to those with the longest chains
-MOMENT = 0.5  # seconds in which all that a job started has ended, once it was stopped
 TICK = 0.05  # seconds from one look at what is at work to the next
 TAIL = 20  # lines that are shown of a refusal
+
+
+class Kit:
+    """The prover of the kit that `rt` is part of."""
+
+    def __init__(self) -> None:
+        page = subprocess.run(["rt", "doc"], check=True, capture_output=True, text=True).stdout
+        self.folder = Path(page.strip()).parent
+        self.version = subprocess.run(["rt", "version"], check=True, capture_output=True).stdout
+
+    def build(self, crate: Crate, jobs: int, to: Path) -> list[str]:
+        """The words that prove a crate, and write what it is for those above it, or the program's code."""
+        libraries = self.folder / "rlibs"
+        words = [str(self.folder / "bin" / "rattle"), "build", "--crate-name", crate.name]
+        words += [crate.root, "-L", f"dependency={libraries}"]
+        for name in ("std", *crate.of_kit):
+            words += ["--extern", f"{name}={libraries / name}.rlib"]
+        for below in crate.below:
+            words += ["--extern", f"{below.name}={below.library}"]
+        for below in crate.all_below():
+            words += ["-L", f"dependency={below.library.parent}"]
+        words += ["--antt-project", str(self.folder / "rattle" / "logic" / "antt-project.json")]
+        words += ["--logic-built", str(self.folder / "logic_built"), "--jobs", str(jobs)]
+        words += ["--links", f"{crate.name}=", "-o", str(to)]
+        if crate.is_program:
+            return [*words, "--toolchain", str(self.folder / "toolchain"), "--backend", "llvm"]
+        return [*words, "--statements"]
+
+    def link(self, code: Path, to: Path) -> list[str]:
+        """The words that make the program of its code."""
+        words = [str(self.folder / "bin" / "rattle-link"), "--target", "x86_64-unknown-linux-gnu"]
+        words += ["--toolchain", str(self.folder / "toolchain"), "-o", str(to), str(code)]
+        return words + [str(self.folder / "c" / name) for name in ("libos_c.a", "liblibc_c.a")]
 
 
 @dataclass(eq=False)
@@ -47,16 +77,60 @@ class Crate:
     folder: Path
     row: str
     below: list[Crate] = field(default_factory=list)
+    of_kit: list[str] = field(default_factory=list)
     lines: int = 0
     chain: int = 0
 
-    def all_below(self) -> set[Crate]:
-        """Every crate that this one stands on."""
-        return set(self.below).union(*(crate.all_below() for crate in self.below))
+    def all_below(self) -> list[Crate]:
+        """Every crate that this one stands on, in the order of their names."""
+        found = set(self.below).union(*(crate.all_below() for crate in self.below))
+        return sorted(found, key=lambda crate: crate.name)
+
+    def files(self) -> list[Path]:
+        """The files that its proof reads, in the order of their names."""
+        found = (self.folder / part for part in SOURCES)
+        return sorted(file for part in found for file in part.rglob("*") if file.is_file())
+
+    @property
+    def is_program(self) -> bool:
+        """Whether it has a `main`."""
+        return (self.folder / "src" / "main.rt").exists()
+
+    @property
+    def root(self) -> str:
+        """The file that names all others of `src`."""
+        return "src/main.rt" if self.is_program else "src/lib.rt"
+
+    @property
+    def proved(self) -> Path:
+        """The folder of what was made of it when it was proved."""
+        return self.folder / "out" / "proved"
+
+    @property
+    def library(self) -> Path:
+        """What those above it are proved over."""
+        return self.proved / f"{self.name}.rlib"
+
+    @property
+    def log(self) -> Path:
+        """The file of what was said of its last proof."""
+        return self.folder / "out" / "build.log"
+
+    @cached_property
+    def key(self) -> str:
+        """A checksum of all that its proof reads beside the kit, as it stood when this was first asked."""
+        found = hashlib.sha256(self.row.encode())
+        for file in self.files():
+            name = str(file.relative_to(self.folder)).encode()
+            for text in (name, file.read_bytes()):
+                found.update(b"%d:" % len(text) + text)
+        for crate in self.below:
+            found.update(crate.key.encode())
+        return found.hexdigest()
 
 
 def crates_of(top: Path, program: str) -> list[Crate]:
-    """The program's crate and all below it."""
+    """The program's crate and all below it, each after those that it stands on."""
     rows = [
         row.partition("#")[0].strip()
         for row in (top / "crates.txt").read_text(encoding="utf-8").splitlines()
@@ -69,133 +143,81 @@ def crates_of(top: Path, program: str) -> list[Crate]:
     for crate in crates.values():
         uses = crate.row.partition(":")[2].split()
         crate.below = [crates[name] for name in uses if name in crates]
+        crate.of_kit = [name for name in uses if name not in crates]
     found = sorted(
         {crates[program], *crates[program].all_below()}, key=lambda crate: len(crate.all_below())
     )
     for crate in found:
-        files = [
-            file for part in SOURCES for file in (crate.folder / part).rglob("*") if file.is_file()
-        ]
-        crate.lines = sum(file.read_bytes().count(b"\n") for file in files)
+        crate.lines = sum(file.read_bytes().count(b"\n") for file in crate.files())
     for crate in reversed(found):
         crate.chain = crate.lines + max((it.chain for it in found if crate in it.below), default=0)
     return found
 
 
 def slots() -> int:
-    """How many crates may be at work: one for each processor that there is to use, as far as the free memory goes."""
+    """How many jobs may be at work: one for each processor that there is to use, as far as the free memory goes."""
     processors = len(os.sched_getaffinity(0))
     free = re.search(r"MemAvailable:\s+(\d+) kB", Path("/proc/meminfo").read_text(encoding="ascii"))
-    jobs = 1024 * int(free.group(1)) // MEMORY if free else processors
-    return max(
-        1, min(processors, (jobs + 1) // 2)
-    )  # one crate has as many jobs as there are crates, the others have one
-
-
-def _link_or_copy(file: str, to: str) -> None:
-    try:
-        os.link(file, to)
-    except OSError:
-        shutil.copy2(file, to)
-
-
-def _move_into(entries: Iterable[Path], to: Path) -> None:
-    """Moves files and folders into a folder, in the place of what has their names there."""
-    for entry in entries:
-        there = to / entry.name
-        if there.is_dir():
-            shutil.rmtree(there)
-        entry.rename(there)
-
-
-class Room:
-    """The folder in which `rt` works on one crate."""
-
-    def __init__(self, crate: Crate) -> None:
-        self.out = crate.folder / "out"
-        self.top = self.out / "room"
-        self.folder = self.top / "crates" / crate.name
-        self._crate = crate
-
-    def open(self) -> None:
-        """Gives the room the sources, what was built of the crates below, and what is kept of the crate itself."""
-        self.close()
-        below = self._crate.all_below()
-        for crate in (*below, self._crate):
-            kept = shutil.ignore_patterns("out", "must-fail")
-            shutil.copytree(
-                crate.folder,
-                self.top / "crates" / crate.name,
-                ignore=kept,
-                copy_function=_link_or_copy,
-            )
-        for crate in below:
-            to = self.top / "crates" / crate.name / "out" / "rlib"
-            shutil.copytree(crate.folder / "out" / "rlib", to, copy_function=_link_or_copy)
-        rows = [crate.row for crate in (*below, self._crate)]
-        (self.top / "crates.txt").write_text("\n".join(rows) + "\n", encoding="utf-8")
-        (self.folder / "out").mkdir()
-        _move_into(self._of_rt(), self.folder / "out")
-
-    def close(self) -> None:
-        """Takes what was made of the crate out of the room, also after a run that was cut off, and removes the room."""
-        self.out.mkdir(exist_ok=True)
-        if (self.folder / "out").is_dir():
-            _move_into(list((self.folder / "out").iterdir()), self.out)
-        shutil.rmtree(self.top, ignore_errors=True)
-
-    def _of_rt(self) -> list[Path]:
-        own = {"room", "build.log", "sources"}
-        return [entry for entry in self.out.iterdir() if entry.name not in own]
+    return max(1, min(processors, 1024 * int(free.group(1)) // MEMORY if free else processors))
 
 
 class Job:
-    """`rt` at work on one crate. The files of the locks stay open in it, so that they hold as long as it runs."""
+    """The prover at work on one crate. The files of the lock stay open in it, so that it holds as long as this runs."""
 
-    def __init__(self, crate: Crate, jobs: int, gives_way: bool, locks: list[int]) -> None:
+    def __init__(self, kit: Kit, crate: Crate, jobs: int, locks: list[int]) -> None:
         self.crate, self.jobs, self._began = crate, jobs, time.monotonic()
         self.seconds = self.used = 0.0
-        self.log = crate.folder / "out" / "build.log"
-        self._room = Room(crate)
-        self._room.open()
-        words = ["rt", "lib", "--jobs", str(jobs)]
-        if (crate.folder / "src" / "main.rt").exists():
-            words = ["rt", "run", "--jobs", str(jobs), "--", *TRY]
-        if gives_way:
-            words = ["nice", "-n", str(NICE), *words]
-        with self.log.open("wb") as log:
-            self._process = subprocess.Popen(
+        self._kit, self._locks = kit, locks
+        self._key = f"{kit.version.decode()}{crate.key}\n"
+        self._to = crate.proved / f"{crate.name}.o" if crate.is_program else crate.library
+        self._process: subprocess.Popen[bytes] | None = None
+        self.is_proved_here = not self._was_proved()
+        if self.is_proved_here:
+            shutil.rmtree(crate.proved, ignore_errors=True)
+            crate.proved.mkdir(parents=True)
+            self._process = self._run(kit.build(crate, jobs, self._to), "wb")
+
+    def _was_proved(self) -> bool:
+        stamp = self.crate.proved / "key"
+        return stamp.exists() and stamp.read_text(encoding="utf-8") == self._key
+
+    def _run(self, words: list[str], mode: str) -> subprocess.Popen[bytes]:
+        with self.crate.log.open(mode) as log:
+            return subprocess.Popen(
                 words,
-                cwd=self._room.folder,
+                cwd=self.crate.folder,
                 stdin=subprocess.DEVNULL,
                 stdout=log,
                 stderr=subprocess.STDOUT,
-                pass_fds=locks,
+                pass_fds=self._locks,
+                start_new_session=True,
             )
 
-    def status(self, wait: bool = False) -> int | None:
+    def _finish(self, status: int) -> int:
+        if status == 0 and self.crate.is_program:
+            program = self.crate.folder / "out" / self.crate.name
+            status = self._run(self._kit.link(self._to, program), "ab").wait()
+        if status == 0:
+            (self.crate.proved / "key").write_text(self._key, encoding="utf-8")
+        return status
+
+    def status(self) -> int | None:
         """The status with which it ended, or none if it is still at work."""
+        if not self._process:
+            return 0
         if self._process.returncode is None:
-            number, status, usage = os.wait4(self._process.pid, 0 if wait else os.WNOHANG)
+            number, status, usage = os.wait4(self._process.pid, os.WNOHANG)
             if number:
-                self._process.returncode = os.waitstatus_to_exitcode(status)
                 self.seconds = time.monotonic() - self._began
                 self.used = usage.ru_utime + usage.ru_stime
-                if self._process.returncode < 0:
-                    time.sleep(MOMENT)
-                self._room.close()
+                self._process.returncode = self._finish(os.waitstatus_to_exitcode(status))
         return self._process.returncode
 
     def stop(self) -> None:
-        """Ends it, if it is at work, and keeps what it made."""
-        if self._process.returncode is None:
-            self._process.terminate()
-            self.status(wait=True)
-
-    @property
-    def is_proved_here(self) -> bool:
-        """Whether it proved the crate, rather than find it proved: then `rt` says nothing."""
-        return b"logic=proved" in self.log.read_bytes()
+        """Ends it, with the copies of itself that it works by, if it is at work."""
+        if self._process and self._process.returncode is None:
+            os.killpg(self._process.pid, signal.SIGKILL)
+            self._process.wait()
 
 
 class Progress:
@@ -258,8 +280,8 @@ class Progress:
 
     def refused(self, job: Job) -> None:
         """Tells of a crate that was refused: its last lines, and where all of them are."""
-        last = job.log.read_text(encoding="utf-8", errors="replace").splitlines()[-TAIL:]
-        self.say(f"{job.crate.name} was refused, with these last lines of {job.log}:")
+        last = job.crate.log.read_text(encoding="utf-8", errors="replace").splitlines()[-TAIL:]
+        self.say(f"{job.crate.name} was refused, with these last lines of {job.crate.log}:")
         print("\n".join(last), file=self._to, flush=True)
 
     def built(self) -> None:
@@ -269,29 +291,23 @@ class Progress:
 
 
 class Builder:
-    """Proves crates, each once those below it are proved, on so many processors."""
+    """Proves crates, each once those below it are proved, by so many jobs."""
 
     def __init__(self, crates: list[Crate], at_once: int, to: TextIO) -> None:
         self._left = sorted(crates, key=lambda crate: -crate.chain)
-        self._at_once = at_once
+        self._kit, self._at_once = Kit(), at_once
         self._done: set[Crate] = set()
         self._working: list[Job] = []
         self._progress = Progress(crates, at_once, to)
 
     def _start(self, locks: list[int]) -> None:
-        """Starts the crates that can be proved now, those with the longest chains first, at most one a processor.
-
-        The crate with the longest chain, which is always among them, shares all processors with those whose chains are
-        nearly as long. The others have one job each, and what of the processors these leave idle.
-        """
-        at_work = [job.crate for job in self._working]
+        """Starts the crates that can be proved now, the longest chain first, which has all idle jobs."""
+        idle = self._at_once - sum(job.jobs for job in self._working)
         ready = [crate for crate in self._left if self._done.issuperset(crate.below)]
-        longest = max((crate.chain for crate in [*at_work, *ready]), default=0)
-        first = [crate for crate in [*at_work, *ready] if crate.chain >= NEAR * longest]
-        for crate in ready[: self._at_once - len(at_work)]:
-            jobs = max(1, self._at_once // len(first)) if crate in first else 1
+        for crate in ready[: max(0, idle)]:
+            jobs = max(1, idle - len(ready) + 1) if crate is ready[0] else 1
             self._left.remove(crate)
-            self._working.append(Job(crate, jobs, crate not in first, locks))
+            self._working.append(Job(self._kit, crate, jobs, locks))
 
     def _ended(self) -> Iterator[Job]:
         for job in list(self._working):

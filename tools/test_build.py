@@ -21,20 +21,40 @@ TOP = pathlib.Path(__file__).resolve().parent.parent
 TOOLS = ("build.py", "compare_program.py", "release", "sources")
 PLAIN_PATH = "/usr/bin:/bin"
 
-# Proves what has changed since it last did, in RT_SLEEP seconds, but for the crate RT_REFUSES. RT_LOG has what it did.
+# The kit: RT_KIT is its version.
 RT = """#!/bin/sh
-[ "$1" = version ] && { echo "${RT_KIT-kit 1}"; exit; }
-name=${PWD##*/}
-sum=$(cat src/* | cksum)
-if [ "$1" = lib ] && [ "$(cat out/rlib/stamp 2>/dev/null)" = "$sum" ]; then echo "kept $name" >>"$RT_LOG"; exit; fi
-echo "begin $name $*" >>"$RT_LOG"
-mkdir -p out/incremental && echo begun >out/incremental/work
+case $1 in
+version) echo "${RT_KIT-kit 1}" ;;
+doc) echo "$(dirname "$0")/START-HERE.md" ;;
+esac
+"""
+
+# Proves a crate in RT_SLEEP seconds, but for the crate RT_REFUSES, and builds the program. RT_LOG has what it did.
+RATTLE = """#!/bin/sh
+while [ $# -gt 0 ]; do
+    case $1 in
+    --crate-name) name=$2 ;;
+    --jobs) jobs=$2 ;;
+    --extern | -L) [ -e "${2#*=}" ] || exit 3 ;;
+    -o) to=$2 ;;
+    esac
+    shift
+done
+echo "begin $name $jobs" >>"$RT_LOG"
 sleep "${RT_SLEEP-0.01}"
 [ "$name" = "${RT_REFUSES-}" ] && { echo "src/lib.rt:1:1: error: it is false"; exit 1; }
-mkdir -p out/rlib && echo "$sum" >out/rlib/stamp
-if [ "$1" = run ]; then printf '#!/bin/sh\\n%s\\n' "$(cat src/main.rt)" >out/staat_cli && chmod +x out/staat_cli; fi
+case $to in
+*.o) printf '#!/bin/sh\\n%s\\n' "$(cat src/main.rt)" >"$to" ;;
+*) mkdir -p "$to" ;;
+esac
 echo logic=proved
 echo "end $name" >>"$RT_LOG"
+"""
+
+# Makes the program of the code that is named after it.
+LINK = """#!/bin/sh
+while [ "$1" != -o ]; do shift; done
+cp "$3" "$2" && chmod +x "$2"
 """
 
 # From the bottom up: low, then two chains, of which left is the longer; the program stands on both.
@@ -76,8 +96,11 @@ class InRepository(unittest.TestCase):
             shutil.copy2(TOP / "tools" / name, self.top / "tools")
         for name in ("staat", ".gitignore", ".gitattributes"):
             shutil.copy2(TOP / name, self.top)
-        self.write("../kit/rt", RT)
-        (self.room / "kit" / "rt").chmod(0o755)
+        for name, text in (("rt", RT), ("bin/rattle", RATTLE), ("bin/rattle-link", LINK)):
+            self.write(f"../kit/{name}", text)
+            (self.room / "kit" / name).chmod(0o755)
+        for folder in ("rlibs/std.rlib", "rlibs/std_crate.rlib"):
+            (self.room / "kit" / folder).mkdir(parents=True)
         self.git("init", "-q")
         self.commit()
         if self.has_program:
@@ -162,20 +185,16 @@ class OrderTest(InRepository):
         """How many jobs each crate is given."""
         self.built(at_once)
         begun = [line.split() for line in self.told() if line.startswith("begin")]
-        return {words[1]: int(words[4]) for words in begun}
+        return {words[1]: int(words[2]) for words in begun}
 
-    def test_the_longest_chain_has_all_processors(self) -> None:
+    def test_the_longest_chain_has_the_idle_processors(self) -> None:
         jobs = self.jobs(4)
         self.assertEqual(
-            [jobs[name] for name in ("low", "left", "right", "staat_cli")], [4, 4, 1, 4]
+            [jobs[name] for name in ("low", "left", "right", "staat_cli")], [4, 3, 1, 4]
         )
 
-    def test_chains_that_are_nearly_as_long_share_them(self) -> None:
-        self.write("crates/right/src/lib.rt", "fn f()\n" * 20)
-        jobs = self.jobs(4)
-        self.assertEqual(
-            [jobs[name] for name in ("low", "left", "right", "staat_cli")], [4, 2, 2, 4]
-        )
+    def test_one_job_each_where_no_processor_is_idle(self) -> None:
+        self.assertEqual(self.jobs(2)["left"], 1)
 
     def test_no_crate_before_those_below_it(self) -> None:
         self.built(4)
@@ -219,8 +238,7 @@ class OrderTest(InRepository):
         self.built(1)
         self.log.unlink()
         self.write("crates/right/src/lib.rt", "fn g()\n")
-        self.built(1)
-        self.assertIn("kept low", self.told())
+        self.assertIn("crates proved: low (was so)", self.built(1))
         self.assertEqual(
             [line.split()[1] for line in self.told() if line.startswith("begin")],
             ["right", "staat_cli"],
@@ -233,9 +251,7 @@ class OrderTest(InRepository):
         self.assertTrue(said.endswith(":\nsrc/lib.rt:1:1: error: it is false\n"))
         self.assertIn("it is false", log.read_text(encoding="utf-8"))
         self.assertNotIn("begin middle", "\n".join(self.told()))
-        self.log.unlink()
-        self.built(2)
-        self.assertIn("kept low", self.told())
+        self.assertIn("crates proved: low (was so)", self.built(2))
 
     def test_cut_off_and_going_on(self) -> None:
         setting = {
@@ -255,12 +271,15 @@ class OrderTest(InRepository):
                 cut.send_signal(number)
             self.assertIn("end low", self.told())
             self.assertNotIn("begin staat_cli", "\n".join(self.told()))
+        self.assertIn("crates proved: low (was so)", self.built(1))
+        self.assertEqual(len([line for line in self.told() if line.startswith("begin low ")]), 1)
+
+    def test_another_kit_proves_all_again(self) -> None:
         self.built(1)
-        self.assertEqual(
-            [line.split()[0] for line in self.told() if line.split()[1] == "low"][-1], "kept"
-        )
-        self.assertTrue((self.top / "crates/left/out/incremental/work").exists())
-        self.assertEqual(list(self.top.glob("crates/*/out/room")), [])
+        self.log.unlink()
+        (self.top / "crates/staat_cli/out/sources").unlink()
+        self.built(1, RT_KIT="kit 2")
+        self.assertEqual(len([line for line in self.told() if line.startswith("begin")]), 5)
 
 
 class StartTest(InRepository):
