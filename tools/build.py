@@ -3,9 +3,9 @@
 
 Each crate is proved from nothing by `rattle build`, with the words of `rt verdict`, as soon as those below it are: the
 first are those behind which the longest chain of others stands, by lines of sources. A crate has one job, and the first
-of them also those that would stand idle, since more jobs make a proof shorter and dearer. A library leaves what the
-crates above cite of it, its statements. The program is `crates/staat_cli/out/staat_cli`, and `sources` beside it holds
-the checksum of what it was built from (tools/sources).
+of them, if it is large, also those that would stand idle: more jobs make a proof shorter and dearer. A library leaves
+what the crates above cite of it, its statements. The program is `crates/staat_cli/out/staat_cli`, and `sources` beside
+it holds the checksum of what it was built from (tools/sources).
 
 What is proved stays, in `out/proved` of the crate's folder, so a run that is cut off goes on from there. Status 0 if
 the program is built, 1 if a crate was refused, 2 if something else was in the way.
@@ -32,6 +32,7 @@ TOP = Path(__file__).resolve().parent.parent
 PROGRAM = "staat_cli"
 SOURCES = ("src", "specs", "proofs")
 MEMORY = 2 << 30  # bytes that a job may take
+LINES = 1000  # lines of sources for each of which a crate gains by one more job
 TICK = 0.05  # seconds from one look at what is at work to the next
 TAIL = 20  # lines that are shown of a refusal
 
@@ -305,7 +306,8 @@ class Builder:
         idle = self._at_once - sum(job.jobs for job in self._working)
         ready = [crate for crate in self._left if self._done.issuperset(crate.below)]
         for crate in ready[: max(0, idle)]:
-            jobs = max(1, idle - len(ready) + 1) if crate is ready[0] else 1
+            spare = idle - len(ready) + 1 if crate is ready[0] else 1
+            jobs = max(1, min(spare, crate.lines // LINES))
             self._left.remove(crate)
             self._working.append(Job(self._kit, crate, jobs, locks))
 

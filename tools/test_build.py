@@ -13,6 +13,7 @@ import sys
 import tempfile
 import time
 import unittest
+import unittest.mock
 from typing import TextIO
 
 import build
@@ -181,17 +182,22 @@ class OrderTest(InRepository):
         begun = [line.split()[1] for line in self.told() if line.startswith("begin")]
         self.assertEqual(begun, ["low", "left", "right", "middle", "staat_cli"])
 
-    def jobs(self, at_once: int) -> dict[str, int]:
-        """How many jobs each crate is given."""
-        self.built(at_once)
+    def jobs(self, at_once: int, lines: int = 1) -> dict[str, int]:
+        """How many jobs each crate is given, where it gains by one more for each so many lines."""
+        with unittest.mock.patch.object(build, "LINES", lines):
+            self.built(at_once)
         begun = [line.split() for line in self.told() if line.startswith("begin")]
         return {words[1]: int(words[2]) for words in begun}
 
     def test_the_longest_chain_has_the_idle_processors(self) -> None:
         jobs = self.jobs(4)
         self.assertEqual(
-            [jobs[name] for name in ("low", "left", "right", "staat_cli")], [4, 3, 1, 4]
+            [jobs[name] for name in ("low", "left", "right", "staat_cli")], [3, 3, 1, 1]
         )
+
+    def test_a_small_crate_has_one_job(self) -> None:
+        jobs = self.jobs(4, lines=10)
+        self.assertEqual((jobs["low"], jobs["left"]), (1, 2))
 
     def test_one_job_each_where_no_processor_is_idle(self) -> None:
         self.assertEqual(self.jobs(2)["left"], 1)
