@@ -65,7 +65,8 @@ pub record AddsConesOf (cones : List (List Side)) (a b : ℕ) (old new : List Bl
 
 -- the blocks have grown by what has the arcs of P
 pub record AddsArcs (P : List Sign → ℕ → ℕ → Type 0) (old new : List Block) : Type 0 where
-  pub arcs : (signs : List Sign) (a b : ℕ) → IsListedArc new signs a b ↔ (IsListedArc old signs a b ⊎ P signs a b)
+  pub arcs : (signs : List Sign) (a b : ℕ)
+      → IsListedArc new signs a b ↔ (IsListedArc old signs a b ⊎ P signs a b)
   pub blocks : All IsBlock new
 
 -- these signs lead ahead of piece i of a and piece j of b

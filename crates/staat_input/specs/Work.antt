@@ -1,5 +1,6 @@
 -- The work on a request: its steps in their order, and what each finds in the files.
-use Rattle.std.specs.Prelude.{◌≡◌, ◌⊎◌, ◌<◌, ◌≤◌, ℕ, List, [], ◌∷◌, length, Result, Ok, Err, Option, Some, ⊤}
+use Rattle.std.specs.Prelude.{◌≡◌, ◌⊎◌, ◌<◌, ◌≤◌, ℕ, List, [], ◌∷◌, length, Result, Ok}
+use Rattle.std.specs.Prelude.{Err, Option, Some, ⊤}
 use Rattle.staat_fault.specs.declared.fault.Fault.{Fault}
 use Rattle.staat_fault.specs.declared.fault.Fault.TheVariants.{ReadFault, TooLong, OutOfMemory}
 use Rattle.staat_edge.specs.Files.{bytes_of, IsLonger}

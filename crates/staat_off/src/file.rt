@@ -92,8 +92,8 @@ fn read_file(alloc: Global, digits: u32, rest: &mut Rest<'_>) -> Result<Raw, Off
 ///
 /// The answer is what the file holds, or the first fault in reading order. The bytes are passed over once, and memory
 /// is taken for the points and the faces alone. Coordinates are at most [`POINT`](staat_vec::POINT) in absolute value,
-/// points, faces and the corners of a face number at most [`MOST_COUNT`](staat_limits::MOST_COUNT) each, and each face has a
-/// corner.
+/// points, faces and the corners of a face number at most [`MOST_COUNT`](staat_limits::MOST_COUNT) each, and each
+/// face has a corner.
 #[tactic(auto, unfolding(crate::specs::Reading::reading))]
 pub fn read_off(alloc: Global, bytes: &[u8], digits: u32) -> Result<Raw, OffRefusal>
     requires { digits ≤ MOST_DIGITS }

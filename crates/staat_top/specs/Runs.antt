@@ -1,5 +1,6 @@
 -- What a call of the program does to the outside.
-use Rattle.std.specs.Prelude.{◌≡◌, ◌≢◌, ◌⊎◌, ◌<◌, ◌≤◌, ℕ, List, Option, Some, None, Ok, Err, ⊤}
+use Rattle.std.specs.Prelude.{◌≡◌, ◌≢◌, ◌⊎◌, ◌<◌, ◌≤◌, ℕ, List, Option, Some, None, Ok}
+use Rattle.std.specs.Prelude.{Err, ⊤}
 use Rattle.staat_model.specs.declared.assembly.Part.{Part}
 use Rattle.staat_edge.specs.Files.{bytes_of}
 use Rattle.staat_edge.specs.Causes.{Rose}
@@ -157,7 +158,8 @@ pub record Planned (request : PlanRequest) (files : Files) (shelf : ShelfSide) (
   pub held : status ≡ 1 → TookRight out (SaysStuckSet files request)
   pub answers : (parts : List Part) → AreSoundParts files request.asked parts → IsWithinLimits parts request →
       NoFault shelf out err → status ≢ 7 → status < 2
-  pub checked : (others : Files) (version : ℕ) (name : List ℕ) → request.certificate ≡ Some version → status < 2 →
+  pub checked : (others : Files) (version : ℕ) (name : List ℕ) → request.certificate ≡ Some version →
+      status < 2 →
       TookRight out (λ text. KeepsNamed files others request.asked.input → bytes_of name others ≡ Some text →
       IsReply (Some (Check (record { asked = request.asked; certificate = name }))) others
       (answered (answer 0 (valid_line status))))

@@ -1,7 +1,7 @@
 // The command that `clap` reads the words by: long options alone, files as plain words.
 ghost use Rattle.std.specs.Prelude.{◌≡◌, IfOk, map, true, false};
 ghost use Rattle.clap.specs.Words.{app_of, rule_of};
-ghost use Rattle.staat_words.specs.Command.{app, command, commands, IsLocal, plain, rule};
+ghost use Rattle.staat_words.specs.Command.{app, argument_rule, command, commands, IsLocal, plain};
 
 use Kind::{Flag, Optional, Required, Word, Words};
 use clap::{Arg, ArgAction, Command};
@@ -128,7 +128,7 @@ fn commands<'a>() -> [CommandRow<'a>; 10]
 
 // An argument as `clap` takes it.
 fn argument<'a>(alloc: Global, id: &'a str, kind: Kind) -> Arg<'a>
-    ensures rule { rule_of result ≡ rule id.entry.now kind }
+    ensures rule { rule_of result ≡ argument_rule id.entry.now kind }
     ensures global { result.global ≡ false }
 {
     let argument = Arg::new(alloc, id);
