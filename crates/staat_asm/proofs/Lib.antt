@@ -1,4 +1,3 @@
 pub mod SearchLemmas
 pub mod SoundLemmas
-pub mod Cubes
 pub mod PlacingLemmas

@@ -10,6 +10,3 @@ mod sound;
 pub use placing::{PlaceRefusal, place};
 pub use refusal::AsmRefusal;
 pub use sound::build;
-
-#[cfg(test)]
-mod tests;

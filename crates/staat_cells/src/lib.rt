@@ -28,6 +28,3 @@ pub use cell::{Cell, Cells, Signs};
 pub use first_cell::first_open;
 pub use graphs::CellGraphs;
 pub use skeleton::Skeleton;
-
-#[cfg(test)]
-mod tests;

@@ -13,14 +13,10 @@ mod narrow;
 mod pairs;
 mod plain;
 mod scan;
-#[cfg(test)]
-mod scan_tests;
 mod search;
 mod shorts;
 mod source;
 mod spread;
-#[cfg(test)]
-mod tests;
 mod walls;
 
 pub use apart::overlap;

@@ -4,6 +4,3 @@
 mod products;
 
 pub use products::{nested_boxes, row_of_cubes};
-
-#[cfg(test)]
-mod tests;

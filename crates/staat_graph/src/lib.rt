@@ -12,6 +12,3 @@ pub use graph::Graph;
 pub use groups::{Groups, sink_of, strong_parts};
 pub use trees::{Trees, trees_of};
 pub use walks::{is_strong, reach};
-
-#[cfg(test)]
-mod tests;

@@ -13,6 +13,3 @@ pub use chosen::{LinearRefusal, linear};
 pub use order::{Leave, Leaves, Order};
 pub use step::linear_step;
 pub use text::linear_text;
-
-#[cfg(test)]
-mod tests;

@@ -14,6 +14,3 @@ pub use pieces::touch;
 pub use side::Loose;
 pub use step::local_step;
 pub use texts::local_text;
-
-#[cfg(test)]
-mod tests;

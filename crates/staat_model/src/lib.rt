@@ -15,8 +15,6 @@ mod plan_laws;
 mod refusal;
 mod set;
 mod solid;
-#[cfg(test)]
-mod tests;
 mod tree;
 mod verdict;
 

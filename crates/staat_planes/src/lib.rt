@@ -22,6 +22,3 @@ pub use search::{
 };
 pub use steps::Steps;
 pub use table::PlaneTable;
-
-#[cfg(test)]
-mod tests;

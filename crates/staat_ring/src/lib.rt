@@ -26,8 +26,3 @@ pub use entry::Entry;
 pub use rings::Rings;
 pub use vertex::Crossing;
 pub use walk::Walk;
-
-#[cfg(test)]
-mod sign_tests;
-#[cfg(test)]
-mod tests;

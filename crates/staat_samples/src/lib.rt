@@ -6,6 +6,3 @@ mod pieces;
 
 pub use assemblies::{assembly_of, boxes, part_of, prisms};
 pub use pieces::{at, boxed, piece_of, prism};
-
-#[cfg(test)]
-mod tests;

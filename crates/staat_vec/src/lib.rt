@@ -15,6 +15,3 @@ pub use memory::OutOfMemory;
 pub use products::{add, cross_diff, cross_normal, det, dot, neg, order_on, sign_dot, sub};
 pub use rays::{canon, first_nonzero, primitive};
 pub use vector::{DIFF, DIRECTION, EDGE, NORMAL, ORIGIN, POINT, Sign, V3, VERTEX, is_same};
-
-#[cfg(test)]
-mod tests;

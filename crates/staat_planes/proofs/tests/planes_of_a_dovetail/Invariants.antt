@@ -1,4 +1,0 @@
-use Rattle.staat_planes.proofs.tests.planes_of_a_dovetail.Given as goal
-
-abbrev pub ghosts-signs : goal.ghosts-signs
-ghosts-signs g a = record { name = a.blank.name; parts = a.blank.parts }

@@ -1,0 +1,136 @@
+// Worked circles of planes: planes that are taken out and put back, and walks along circles.
+ghost use Rattle.std.specs.Prelude.{◌≡◌, ◌<◌, Contains};
+ghost use Rattle.staat_ring.specs.Rings.{WereMadeFrom, linked_of};
+ghost use Rattle.staat_ring.specs.Walked.{IsEntered, WalkWasMadeFrom};
+
+use crate::fixtures::{CUBE, LIDDED, Shape, table};
+use staat_planes::{PlaneTable, Steps};
+use staat_ring::{Rings, Walk};
+use staat_samples::at;
+use staat_vec::V3;
+use std::alloc::Global;
+use std::marker::Brand;
+use std::process::Abort;
+use std::sync::ledger::{Blank, Ledger};
+
+// the number of vertices on each circle, and 0 where the plane is not linked
+fn lengths(rings: &Rings) -> [u32; 7] {
+    let mut lengths = [0; 7];
+    for plane in 0..7u32 {
+        if rings.is_linked(plane) {
+            lengths[plane as usize] = rings.circle_vertices(plane);
+        }
+    }
+    lengths
+}
+
+#[test]
+fn a_plane_out_and_back(rt: HostRuntime) {
+    let table = table(&rt, rt.alloc(), &LIDDED);
+    let mut rings = Rings::build(rt.alloc(), &table).expect(&rt, "memory");
+    let whole = lengths(&rings);
+    assert!(rt; rings.is_linked(6));
+    rings.unlink(6);
+    let without = lengths(&rings);
+    rings.relink(6);
+    assert_eq!(rt;
+        [whole, without, lengths(&rings)],
+        [
+            [8, 8, 4, 8, 8, 8, 8],
+            [8, 6, 4, 6, 6, 8, 0],
+            [8, 8, 4, 8, 8, 8, 8]
+        ]
+    );
+}
+
+// enters the circle of a plane
+fn enter<L: Ledger>(walk: &mut Walk, table: &PlaneTable, rings: &Rings, plane: u32, blank: Blank)
+    requires made { WalkWasMadeFrom table.now walk.old }
+    requires rings { WereMadeFrom table.now.planes rings.now }
+    requires linked { Contains (linked_of rings.now.rings) plane }
+    requires name { blank.name ≡ L.name }
+    requires parts { blank.parts ≡ L.parts }
+    requires some { 0 < blank.parts }
+    ensures made { WalkWasMadeFrom table.now walk.new }
+    ensures entered { IsEntered table.now.planes rings.now.rings walk.new }
+{
+    let mut steps = Steps::<L>::new(blank);
+    walk.enter(table, rings, plane, &mut steps);
+}
+
+// a vertex, the words of the blocking graph of the first three parts there, whether all parts reach each other, and
+// whether another vertex follows
+type Stop = (V3, [u32; 3], bool, bool);
+
+// the next eight vertices
+fn around(
+    rt: &impl Abort,
+    alloc: Global,
+    table: &PlaneTable,
+    rings: &Rings,
+    walk: &mut Walk,
+) -> Vec<Stop>
+    requires made { WalkWasMadeFrom table.now walk.old }
+    requires rings { WereMadeFrom table.now.planes rings.now }
+    requires entered { IsEntered table.now.planes rings.now.rings walk.old }
+{
+    let all = table.set();
+    let mut stops = Vec::new(alloc);
+    for _place in 0..8 {
+        let vertex = walk.at();
+        let rows = walk.graph().rows;
+        let is_strong = all.has(0) && walk.is_strong(all);
+        let stop = (
+            vertex,
+            [rows[0], rows[1], rows[2]],
+            is_strong,
+            walk.cross(table, rings),
+        );
+        stops.push(stop).expect(rt, "memory");
+    }
+    stops
+}
+
+// the vertices of the circle of one of seven planes, from its first one on
+fn stops_on(rt: &impl Abort, alloc: Global, shapes: &[Shape], plane: u32) -> Vec<Stop> {
+    let table = table(rt, alloc, shapes);
+    assert!(rt; table.len() == 7);
+    let rings = Rings::build(alloc, &table).expect(rt, "memory");
+    let mut walk = Walk::new(alloc, &table).expect(rt, "memory");
+    assert!(rt; rings.is_linked(plane));
+    enter::<Brand>(&mut walk, &table, &rings, plane, Blank::new(1));
+    around(rt, alloc, &table, &rings, &mut walk)
+}
+
+// opposite vertices have opposite arcs
+#[test]
+fn around_two_circles(rt: HostRuntime) {
+    let lidded = [
+        (at(0, 0, 1), [0b100, 0b101, 0], false, true),
+        (at(0, -3, 2), [0b110, 0b101, 0b010], true, true),
+        (at(0, -1, 0), [0b010, 0b101, 0b010], true, true),
+        (at(0, -3, -2), [0b010, 0b101, 0b011], true, true),
+        (at(0, 0, -1), [0b010, 0, 0b011], false, true),
+        (at(0, 3, -2), [0b010, 0b101, 0b011], true, true),
+        (at(0, 1, 0), [0b010, 0b101, 0b010], true, true),
+        (at(0, 3, 2), [0b110, 0b101, 0b010], true, false),
+    ];
+    // a cube between two others: one touches it ahead along x, the other stands behind it at a distance
+    let between = [
+        (at(0, 0, -1), [0, 0, 0], false, true),
+        (at(-1, 0, -1), [0, 0b01, 0], false, true),
+        (at(-1, 0, 0), [0b10, 0b01, 0], true, true),
+        (at(-1, 0, 1), [0, 0b01, 0], false, true),
+        (at(0, 0, 1), [0, 0, 0], false, true),
+        (at(1, 0, 1), [0b10, 0, 0], false, true),
+        (at(1, 0, 0), [0b10, 0b01, 0], true, true),
+        (at(1, 0, -1), [0b10, 0, 0], false, false),
+    ];
+    let sides = [[2, 0, 0, 4, 2, 2], [-4, 0, 0, -2, 2, 2]];
+    let row = [Shape::Boxes(&[CUBE]), Shape::Boxes(&sides)];
+    let cases: [(&[Shape], u32, [Stop; 8]); 2] = [(&LIDDED, 0, lidded), (&row, 1, between)];
+    for (shapes, plane, wanted) in cases {
+        let found = stops_on(&rt, rt.alloc(), shapes, plane);
+        assert_eq!(rt; found.as_slice(), wanted.as_slice());
+    }
+}

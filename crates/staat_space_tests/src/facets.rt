@@ -1,0 +1,145 @@
+// Worked facets and walls, and two sources of facets that answer the same.
+ghost use Rattle.std.specs.Prelude.{All};
+ghost use Rattle.staat_vec.specs.Vectors.{IsWithin};
+
+use crate::fixtures::{
+    ABOVE, BEFORE, BEHIND, BELOW, BESIDE, Base, CUBE, Corners, GROUND, LEFT, LEFT_CHEEK, LID,
+    RIGHT, RIGHT_CHEEK, Shape, TAIL, box_of, pieces_of,
+};
+use staat_cone::{FacetSource, Plain, Scan, blocks, furthest, separates};
+use staat_model::Piece;
+use staat_samples::{at, piece_of};
+use staat_vec::{NORMAL, V3};
+use std::alloc::Global;
+use std::process::Abort;
+
+const CORNER: Corners = [2, 2, 2, 4, 4, 4];
+
+fn facets_from<F: FacetSource>(
+    rt: &impl Abort,
+    alloc: Global,
+    source: &F,
+    p: Corners,
+    q: Corners,
+) -> Vec<V3>
+    ensures { All (IsWithin NORMAL) result.items }
+{
+    let (p, q) = (box_of(rt, alloc, p), box_of(rt, alloc, q));
+    source.facets(alloc, &p, &q).expect(rt, "memory")
+}
+
+#[test]
+fn facets_of_boxes(rt: HostRuntime) {
+    let alloc = rt.alloc();
+    let inner = [1, 1, 1, 3, 3, 3];
+    let rows: [(Corners, Corners, &[V3]); 4] = [
+        (CUBE, BESIDE, &[at(1, 0, 0)]),
+        (CUBE, CORNER, &[at(0, 0, 1), at(0, 1, 0), at(1, 0, 0)]),
+        (CUBE, inner, &[]),
+        (
+            LID,
+            BELOW,
+            &[at(-2, 0, -3), at(0, -2, -3), at(0, 2, -3), at(2, 0, -3)],
+        ),
+    ];
+    for (p, q, wanted) in rows {
+        let found = facets_from(&rt, alloc, &Plain, p, q);
+        assert_eq!(rt; found.as_slice(), wanted);
+    }
+    assert_eq!(rt; facets_from(&rt, alloc, &Scan, CUBE, inner).len(), 0);
+}
+
+#[test]
+fn walls_between_cubes(rt: HostRuntime) {
+    let alloc = rt.alloc();
+    let facets = facets_from(&rt, alloc, &Plain, CUBE, BESIDE);
+    let facets = facets.as_slice();
+    let (p, q) = (box_of(&rt, alloc, CUBE), box_of(&rt, alloc, BESIDE));
+    let found = [
+        blocks(facets, at(1, 0, 0)),
+        blocks(facets, at(0, 1, 0)),
+        blocks(facets, at(-1, 0, 0)),
+        separates(at(1, 0, 0), &p, &q),
+        separates(at(0, 1, 0), &p, &q),
+        separates(at(0, 0, 0), &p, &q),
+        separates(at(1, 0, 0), &q, &p),
+    ];
+    assert_eq!(rt; found, [true, false, false, true, false, false, false]);
+}
+
+fn is_same_by_both(rt: &impl Abort, alloc: Global, p: &Piece, q: &Piece) -> bool {
+    let plain = Plain.facets(alloc, p, q).expect(rt, "memory");
+    let scan = Scan.facets(alloc, p, q).expect(rt, "memory");
+    plain.as_slice() == scan.as_slice()
+}
+
+fn are_same_by_both(rt: &impl Abort, alloc: Global, p: &Piece, qs: &[Piece]) -> bool {
+    qs.iter().all(|q| is_same_by_both(rt, alloc, p, q))
+}
+
+// each two of the pieces, in both orders
+fn is_each_same_by_both(rt: &impl Abort, alloc: Global, pieces: &[Piece]) -> bool {
+    pieces
+        .iter()
+        .all(|p| are_same_by_both(rt, alloc, p, pieces))
+}
+
+// a cube, two that touch it, the walls of a box about it, and a lid
+const ABOUT: [Corners; 10] = [
+    CUBE, BESIDE, CORNER, RIGHT, LEFT, BEHIND, BEFORE, ABOVE, BELOW, LID,
+];
+
+// two linked rings
+const RINGS: [Corners; 8] = [
+    [0, 0, 0, 8, 2, 2],
+    [0, 6, 0, 8, 8, 2],
+    [0, 2, 0, 2, 6, 2],
+    [6, 2, 0, 8, 6, 2],
+    [3, 3, -4, 5, 5, 6],
+    [11, 3, -4, 13, 5, 6],
+    [5, 3, -4, 11, 5, -2],
+    [5, 3, 4, 11, 5, 6],
+];
+
+const DOVETAIL: [Base; 4] = [TAIL, GROUND, RIGHT_CHEEK, LEFT_CHEEK];
+
+#[test]
+fn both_sources_answer_the_same(rt: HostRuntime) {
+    let shapes = [
+        Shape::Boxes(&ABOUT),
+        Shape::Boxes(&RINGS),
+        Shape::Prisms(&DOVETAIL),
+    ];
+    for shape in shapes {
+        let pieces = pieces_of(&rt, rt.alloc(), shape);
+        assert!(rt; is_each_same_by_both(&rt, rt.alloc(), pieces.as_slice()));
+    }
+}
+
+// 64 points on a paraboloid
+fn bowl(rt: &impl Abort, alloc: Global) -> Piece {
+    let mut points = Vec::new(alloc);
+    for k in 0..64u8 {
+        let i = i128::from(k / 8);
+        let j = i128::from(k % 8);
+        points.push(at(i, j, i * i + j * j)).expect(rt, "memory");
+    }
+    piece_of(points).expect(rt, "a bowl")
+}
+
+#[test]
+fn a_bowl_and_three_differences(rt: HostRuntime) {
+    let alloc = rt.alloc();
+    let bowl = bowl(&rt, alloc);
+    let cube = box_of(&rt, alloc, [0, 0, 98, 7, 7, 105]);
+    let facets = Scan.facets(alloc, &bowl, &cube).expect(&rt, "memory");
+    let found = [
+        is_same_by_both(&rt, alloc, &bowl, &cube),
+        is_same_by_both(&rt, alloc, &cube, &bowl),
+        facets.as_slice().contains(&at(0, 0, 1)),
+    ];
+    assert_eq!(rt; found, [true; 3]);
+    let diffs = [at(1, 0, 0), at(1, 1, 0), at(0, 1, 0)];
+    let (left, right) = furthest(diffs.as_slice(), at(0, 0, 1));
+    assert_eq!(rt; [left, right], [at(1, 0, 0), at(0, 1, 0)]);
+}

@@ -1,0 +1,100 @@
+// Worked graphs.
+use staat_graph::{Graph, is_strong, reach, sink_of, strong_parts, trees_of};
+use staat_limits::MOST_PARTS;
+use staat_model::PartSet;
+use std::alloc::Global;
+use std::process::Abort;
+
+// the graph with these arcs
+fn graph(arcs: &[(u32, u32)]) -> Graph {
+    let mut rows = [0u32; 32];
+    for (from, to) in arcs {
+        if *from < 32 && *to < 32 {
+            rows[*from as usize] |= 1 << *to;
+        }
+    }
+    Graph { rows }
+}
+
+const CHAIN: &[(u32, u32)] = &[(0, 1), (1, 2)];
+
+const RING: &[(u32, u32)] = &[(0, 1), (1, 2), (2, 0)];
+
+// two that reach each other, one that leads to them, and two apart from all
+const THREE_GROUPS: &[(u32, u32)] = &[(0, 1), (1, 0), (2, 0), (3, 4), (4, 3)];
+
+const FULL: &[(u32, u32)] = &[(0, 1), (0, 2), (1, 0), (1, 2), (2, 0), (2, 1)];
+
+// what a part reaches, the first group that no arc leaves, whether the set is one group, and its trees' arcs
+fn seen(arcs: &[(u32, u32)], word: u32, from: u32) -> Option<(u32, u32, bool, Option<u32>)> {
+    let (graph, set) = (graph(arcs), PartSet::from_bits(word));
+    if from >= MOST_PARTS || !set.has(from) {
+        return None;
+    }
+    Some((
+        reach(&graph, set, from).bits(),
+        sink_of(&graph, set).bits(),
+        is_strong(&graph, set),
+        trees_of(&graph, set).map(|trees| trees.count),
+    ))
+}
+
+#[test]
+fn walks_sinks_and_strength(rt: HostRuntime) {
+    let back: &[(u32, u32)] = &[(1, 0), (2, 1)];
+    let rows = [
+        (THREE_GROUPS, 0b11111, 2, (0b00111, 0b00011, false, None)),
+        (THREE_GROUPS, 0b11111, 3, (0b11000, 0b00011, false, None)),
+        (THREE_GROUPS, 0b00100, 2, (0b00100, 0b00100, true, Some(0))),
+        (CHAIN, 0b101, 0, (0b001, 0b001, false, None)),
+        (CHAIN, 0b111, 0, (0b111, 0b100, false, None)),
+        (back, 0b111, 0, (0b001, 0b001, false, None)),
+        (RING, 0b111, 0, (0b111, 0b111, true, Some(2))),
+        (FULL, 0b111, 0, (0b111, 0b111, true, Some(2))),
+    ];
+    for (arcs, word, from, wanted) in rows {
+        assert_eq!(rt; seen(arcs, word, from), Some(wanted));
+    }
+}
+
+// the first two arcs of the tree from part 0, and of that to it
+fn arcs_of_trees(arcs: &[(u32, u32)]) -> Option<[(u32, u32); 4]> {
+    let three = PartSet::from_bits(0b111);
+    if !three.has(0) {
+        return None;
+    }
+    trees_of(&graph(arcs), three).map(|t| [t.outs[0], t.outs[1], t.ins[0], t.ins[1]])
+}
+
+// the words of the groups of a set
+fn groups(rt: &impl Abort, alloc: Global, arcs: &[(u32, u32)], word: u32) -> Vec<u32> {
+    let groups = strong_parts(&graph(arcs), PartSet::from_bits(word));
+    let mut words = Vec::new(alloc);
+    for k in 0..groups.count {
+        words
+            .push(groups.of[k as usize].bits())
+            .expect(rt, "memory");
+    }
+    words
+}
+
+#[test]
+fn groups_and_trees(rt: HostRuntime) {
+    let ends: &[(u32, u32)] = &[(0, 31), (31, 0)];
+    let rows: [(&[(u32, u32)], u32, &[u32]); 3] = [
+        (THREE_GROUPS, 0b11111, &[0b00011, 0b00100, 0b11000]),
+        (THREE_GROUPS, 0, &[]),
+        (ends, 1 << 31 | 1, &[1 << 31 | 1]),
+    ];
+    for (arcs, word, wanted) in rows {
+        let found = groups(&rt, rt.alloc(), arcs, word);
+        assert_eq!(rt; found.as_slice(), wanted);
+    }
+    assert_eq!(rt;
+        [arcs_of_trees(RING), arcs_of_trees(FULL)],
+        [
+            Some([(0, 1), (1, 2), (2, 0), (1, 2)]),
+            Some([(0, 1), (0, 2), (1, 0), (2, 0)]),
+        ]
+    );
+}

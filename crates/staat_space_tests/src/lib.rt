@@ -1,0 +1,23 @@
+//! Tests of the crates on vectors, pieces, directions and plans: worked values, and sources of facets that fail.
+#![tactic(auto)]
+
+#[cfg(test)]
+mod assembling;
+#[cfg(test)]
+mod circles;
+#[cfg(test)]
+mod directions;
+#[cfg(test)]
+mod facets;
+#[cfg(test)]
+mod fixtures;
+#[cfg(test)]
+mod graphs;
+#[cfg(test)]
+mod parts;
+#[cfg(test)]
+mod steps;
+#[cfg(test)]
+mod tables;
+#[cfg(test)]
+mod vectors;

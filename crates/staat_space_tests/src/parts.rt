@@ -1,0 +1,155 @@
+// Sets of parts, points that span space, and pieces, parts and assemblies of boxes and prisms.
+ghost use Rattle.std.specs.Prelude.{◌≤◌};
+
+use crate::fixtures::{CUBE, Shape, box_of, pieces_of, prism_of};
+use staat_drill::{nested_boxes, row_of_cubes};
+use staat_limits::MOST_PARTS;
+use staat_model::{Assembly, PartSet, is_solid};
+use staat_samples::{assembly_of, at, boxed, boxes, part_of, piece_of, prisms};
+use staat_vec::{Name, OutOfMemory, V3};
+use std::alloc::Global;
+use std::process::Abort;
+
+#[test]
+fn sets(rt: HostRuntime) {
+    let odd = PartSet::single(1)
+        .union(PartSet::single(3))
+        .union(PartSet::single(31));
+    let four = PartSet::first(4);
+    let found = [
+        odd.bits(),
+        odd.count(),
+        four.bits(),
+        PartSet::first(0).bits(),
+        PartSet::first(MOST_PARTS).bits(),
+        odd.without(PartSet::first(2)).bits(),
+        odd.both(four).bits(),
+    ];
+    let wanted = [0x8000_000a, 3, 15, 0, u32::MAX, 0x8000_0008, 10];
+    assert_eq!(rt; found, wanted);
+    assert!(rt;
+        odd.has(31) && !odd.has(30) && odd == PartSet::from_bits(0x8000_000a) && odd != four
+    );
+    assert!(rt; PartSet::single(3).within(odd) && !odd.within(PartSet::first(31)));
+    assert!(rt; odd.meets(PartSet::first(2)) && !odd.meets(PartSet::empty()));
+}
+
+#[test]
+fn solid_points(rt: HostRuntime) {
+    let rows: [(&[V3], bool); 6] = [
+        (&[at(0, 0, 0), at(1, 0, 0), at(0, 1, 0), at(0, 0, 1)], true),
+        (
+            &[
+                at(0, 0, 0),
+                at(0, 0, 0),
+                at(2, 0, 0),
+                at(4, 0, 0),
+                at(0, 1, 0),
+                at(7, 7, -1),
+            ],
+            true,
+        ),
+        (&[at(0, 0, 1), at(1, 0, 1), at(0, 1, 1), at(5, 7, 1)], false),
+        (
+            &[at(1, 2, 3), at(2, 4, 6), at(3, 6, 9), at(-1, -2, -3)],
+            false,
+        ),
+        (&[at(1, 2, 3), at(1, 2, 3)], false),
+        (&[], false),
+    ];
+    for (points, wanted) in rows {
+        assert_eq!(rt; is_solid(points), wanted);
+    }
+}
+
+#[test]
+fn an_assembly_of_one_cube(rt: HostRuntime) {
+    let alloc = rt.alloc();
+    let name = String::from_str(alloc, "cube").expect(&rt, "memory");
+    let pieces = pieces_of(&rt, alloc, Shape::Boxes(&[CUBE]));
+    let mut part = part_of(alloc, pieces);
+    part.name = Name::from_string(name);
+    let parts = vec![in alloc; part].expect(&rt, "memory");
+    let assembly = assembly_of(parts).expect(&rt, "an assembly");
+    assert!(rt; assembly.parts() == 1 && assembly.pieces(0) == 1);
+    assert!(rt; assembly.piece(0, 0).points().len() == 8 && assembly.name(0) == "cube");
+}
+
+// a box and a prism with these corners
+const BLOCK: [V3; 8] = [
+    V3 { x: 0, y: 0, z: 0 },
+    V3 { x: 0, y: 0, z: 2 },
+    V3 { x: 0, y: 4, z: 0 },
+    V3 { x: 0, y: 4, z: 2 },
+    V3 { x: 2, y: 0, z: 0 },
+    V3 { x: 2, y: 0, z: 2 },
+    V3 { x: 2, y: 4, z: 0 },
+    V3 { x: 2, y: 4, z: 2 },
+];
+
+const SQUARE: [(i128, i128); 4] = [(0, 0), (2, 0), (2, 2), (0, 2)];
+
+#[test]
+fn a_box_and_a_prism(rt: HostRuntime) {
+    let body = box_of(&rt, rt.alloc(), [0, 0, 0, 2, 4, 2]);
+    let other = prism_of(&rt, rt.alloc(), SQUARE);
+    for piece in [body, other] {
+        assert_eq!(rt; piece.points(), BLOCK.as_slice());
+    }
+}
+
+fn is_none<T: Drop>(rt: &impl Abort, made: Result<Option<T>, OutOfMemory>) -> bool {
+    made.expect(rt, "memory").is_none()
+}
+
+#[test]
+fn what_is_flat_is_no_piece(rt: HostRuntime) {
+    let alloc = rt.alloc();
+    let point = Vec::from_slice(alloc, &[at(0, 0, 0)]).expect(&rt, "memory");
+    let found = [
+        is_none(&rt, boxed(alloc, at(0, 0, 0), at(2, 0, 2))),
+        is_none(&rt, boxes(alloc, &[(at(0, 0, 0), at(0, 4, 2))])),
+        piece_of(point).is_none(),
+        assembly_of(Vec::new(alloc)).is_none(),
+    ];
+    assert_eq!(rt; found, [true; 4]);
+}
+
+fn parts_in(rt: &impl Abort, made: Result<Assembly, OutOfMemory>) -> u32 {
+    made.expect(rt, "memory").parts()
+}
+
+// the assembly of a part of two boxes and a part of a prism
+fn two_parts(rt: &impl Abort, alloc: Global) -> Option<Assembly> {
+    let corners = [(at(0, 0, 4), at(2, 2, 6)), (at(0, 2, 4), at(2, 4, 6))];
+    let base = boxes(alloc, corners.as_slice()).expect(rt, "memory");
+    let lid = prisms(alloc, &[SQUARE]).expect(rt, "memory");
+    let parts = [base.expect(rt, "boxes"), lid.expect(rt, "a prism")];
+    assembly_of(Vec::from_array(alloc, parts).expect(rt, "memory"))
+}
+
+// how many parts n boxes about a cube are, and how many pieces the last one has
+fn nested(rt: &impl Abort, alloc: Global, n: u32) -> (u32, u32)
+    requires some { 1 ≤ n }
+    requires few { n ≤ 6 }
+{
+    let nest = nested_boxes(alloc, n).expect(rt, "memory");
+    assert!(rt; n < nest.parts());
+    (nest.parts(), nest.pieces(n))
+}
+
+#[test]
+fn products_have_their_parts(rt: HostRuntime) {
+    let alloc = rt.alloc();
+    let found = [
+        parts_in(&rt, two_parts(&rt, alloc).ok_or(OutOfMemory)),
+        parts_in(&rt, row_of_cubes(alloc, 1)),
+        parts_in(&rt, row_of_cubes(alloc, 2)),
+        parts_in(&rt, row_of_cubes(alloc, 32)),
+    ];
+    assert_eq!(rt; found, [2, 1, 2, 32]);
+    assert_eq!(rt;
+        [nested(&rt, alloc, 1), nested(&rt, alloc, 6)],
+        [(2, 6), (7, 6)]
+    );
+}
