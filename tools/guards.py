@@ -35,9 +35,10 @@ This page is made by `python3 tools/guards.py`, which says how; do not edit it.
 
 For each crate, lowest first, it lists the public functions. A *wrong body* is an edit of the code, a file of the
 crate's `must-fail/`, that changes what the code means; `rt ci` passes only where the proof refuses each. Behind its
-name stands the clause that refuses it, as `clause` of `function`. A *test* is one of the crate's tests that calls the
-function, or a file of `tests/`, whose runs of the program call `staat`. A function that has neither is guarded by its
-contract alone. A *law* does nothing: its contract is a statement, which is proved.
+name stands the clause that refuses it, as `clause` of `function`. *Tests* are the modules with tests that call the
+function, most of them in the crates that have nothing but tests, and the files of `tests/`, whose runs of the program
+call `staat`. A function that has neither is guarded by its contract alone. A *law* does nothing: its contract is a
+statement, which is proved.
 """
 
 
@@ -168,17 +169,18 @@ def clause_of(crate: Crate, edit: Edit) -> str:
     return f"`{name}` of `{title}`" if name else f"`{title}`"
 
 
-def tests_of(crate: Crate, of: Function) -> list[str]:
-    """The tests that call a function, themselves or by helpers of theirs, in their order."""
-    helpers = [it for it in crate.functions if it.file in crate.test_files]
-    known = {of}
-    while more := {it for it in helpers if it not in known and crate.calls[it] & known}:
+def tests_of(crate: Crate, of: Function, testing: Crate) -> list[str]:
+    """The modules of a crate with tests that call a function of one, themselves or by helpers, in their order."""
+    helpers = [it for it in testing.functions if it.file in testing.test_files]
+    calls = testing.calls if testing is crate else testing.calls_into(crate)
+    known = {it for it in helpers if of in calls.get(it, ())}
+    while more := {it for it in helpers if it not in known and testing.calls[it] & known}:
         known |= more
-    return [it.name for it in helpers if it in known and it.is_test]
+    return list(dict.fromkeys(Path(it.file).stem for it in helpers if it in known and it.is_test))
 
 
-def guarded(folder: Path, crate: Crate, traits: set[str]) -> Guarded:
-    """Finds what guards each public function of the crate in a folder."""
+def guarded(folder: Path, crate: Crate, traits: set[str], crates: list[Crate]) -> Guarded:
+    """Finds what guards each public function of the crate in a folder, with tests of any of the crates."""
     public = crate.public_functions(traits)
     edits = [Edit.read(it) for it in sorted(folder.glob("must-fail/*.edit"))]
     bodies: dict[str, list[tuple[Edit, str]]] = {it.title: [] for it in public}
@@ -187,7 +189,10 @@ def guarded(folder: Path, crate: Crate, traits: set[str]) -> Guarded:
             bodies[it.title].append((edit, helper))
     if len(edits) > MOST_EDITS:
         raise Fault(f"{crate.name}/must-fail: {len(edits)} edits, and not at most {MOST_EDITS}")
-    tests = {it.title: tests_of(crate, it) for it in public}
+    tests = {
+        it.title: [name for by in crates if by.test_files for name in tests_of(crate, it, by)]
+        for it in public
+    }
     if CALL in tests:
         top = folder.parent.parent
         tests[CALL] += [f"tests/{it.name}" for it in sorted(top.glob("tests/*.txt"))]
@@ -249,7 +254,7 @@ def page(top: Path) -> str:
     traits = {trait for trait, _ in promised}
     for crate in crates:
         crate.inherit(promised)
-    found = [guarded(folder, crate, traits) for folder, crate in zip(folders, crates)]
+    found = [guarded(folder, crate, traits, crates) for folder, crate in zip(folders, crates)]
     edits = sum(len(it.edits) for it in found)
     total = f"In all there are {edits} wrong bodies.\n"
     return "\n".join([HEAD, total, *(section(it) for it in found if it.public)])

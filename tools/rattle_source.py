@@ -206,8 +206,9 @@ class Crate:
     # a module of it, and a name that it makes public, or "*"
     exports: set[tuple[str, str]] = field(default_factory=set)
     test_files: set[str] = field(default_factory=set)
-    # what each function may call
+    # what each function may call, in this crate and in others, by their names
     calls: dict[Function, set[Function]] = field(default_factory=dict)
+    calls_out: dict[str, dict[Function, set[Function]]] = field(default_factory=dict)
 
     @classmethod
     def read(cls, folder: Path) -> Crate:
@@ -249,7 +250,7 @@ class Crate:
             else replace(it, clauses=promised.get((it.trait, it.name), ()))
             for it in self.functions
         ]
-        self.calls = {it: self._called(it) for it in self.functions}
+        self.calls = {it: self._called(it, self) for it in self.functions}
 
     def promised(self) -> Promised:
         """The clauses of each method of the traits that the crate declares."""
@@ -279,14 +280,23 @@ class Crate:
                 found.append(it)
         return found
 
-    def _called(self, by: Function) -> set[Function]:
-        """The functions of the crate that another one may call, by their names."""
-        own = {it.owner for it in self.functions if it.owner}
+    def calls_into(self, other: Crate) -> dict[Function, set[Function]]:
+        """The functions of another crate that each function of this one may call."""
+        if other.name not in self.calls_out:
+            named = {file for file, text in self.texts.items() if other.name in blanked(text)}
+            self.calls_out[other.name] = {
+                it: self._called(it, other) for it in self.functions if it.file in named
+            }
+        return self.calls_out[other.name]
+
+    def _called(self, by: Function, of_crate: Crate) -> set[Function]:
+        """The functions of a crate, this one or another, that a function of this one may call, by their names."""
+        own = {it.owner for it in of_crate.functions if it.owner}
         types = by.types
         found: set[Function] = set()
         for call in CALL.finditer(by.body):
             before = by.body[: call.start()]
-            named = [it for it in self.functions if it.name == call["name"]]
+            named = [it for it in of_crate.functions if it.name == call["name"]]
             if call["lead"] == ".":
                 receiver = RECEIVER.search(before)
                 of = types.get(receiver[1], "") if receiver else ""
@@ -298,12 +308,16 @@ class Crate:
             if of in own:
                 found |= {it for it in named if it.owner == of}
             elif not of[:1].isupper():
-                found |= {it for it in named if not it.owner and self._is_seen(it, by.file, of)}
+                found |= {
+                    it for it in named if not it.owner and self._is_seen(it, by.file, of, of_crate)
+                }
         for passed in PASSED.finditer(by.body):
             found |= {
                 it
-                for it in self.functions
-                if it.name == passed["name"] and not it.owner and self._is_named(it, by.file)
+                for it in of_crate.functions
+                if it.name == passed["name"]
+                and not it.owner
+                and self._is_named(it, by.file, of_crate)
             }
         return found - {by}
 
@@ -312,14 +326,16 @@ class Crate:
         words = set(re.findall(r"\b[A-Z]\w*", by.body))
         return {it for it in self.functions if it.trait and it.owner in words}
 
-    def _is_named(self, it: Function, file: str) -> bool:
-        """Whether the name of a free function of the crate is brought into a file, or stands there."""
-        return it.file == file or bool(
-            re.search(rf"\buse\b[^;]*\b{it.name}\b[^;]*;", blanked(self.texts[file]))
-        )
+    def _is_named(self, it: Function, file: str, of_crate: Crate) -> bool:
+        """Whether the name of a free function of a crate is brought into a file of this one, or stands there."""
+        if of_crate is self and it.file == file:
+            return True
+        path = "" if of_crate is self else rf"\s+{of_crate.name}::"
+        return bool(re.search(rf"\buse\b{path}[^;]*\b{it.name}\b[^;]*;", blanked(self.texts[file])))
 
-    def _is_seen(self, it: Function, file: str, module: str) -> bool:
+    def _is_seen(self, it: Function, file: str, module: str, of_crate: Crate) -> bool:
         """Whether a call in a file may mean a free function: it is brought in there, or named with its module."""
-        if module and module != "crate":
+        root = "crate" if of_crate is self else of_crate.name
+        if module and module != root:
             return module == Path(it.file).stem
-        return self._is_named(it, file) or module == "crate"
+        return self._is_named(it, file, of_crate) or module == root

@@ -90,6 +90,18 @@ fn one_stone(rt: HostRuntime) {
 }
 """
 FILES = {"lib": LIB, "heap": HEAP, "laws": LAWS, "tests": TESTS}
+ABOVE = {
+    "lib": "#[cfg(test)]\nmod made;\n#[cfg(test)]\nmod weighing;\n#[cfg(test)]\nmod unused;\n",
+    "made": "use stones::{Heap, heaviest};\npub fn most(heap: &Heap) -> u32 { heaviest(heap) }\n",
+    "weighing": """use crate::made::most;
+use stones::Heap;
+#[test]
+fn light(heap: &Heap) { heap.weight(); }
+#[test]
+fn heavy(heap: &Heap) { most(heap); }
+""",
+    "unused": "fn heaviest() {}\n#[test]\nfn another_of_its_name() { heaviest(); }\n",
+}
 LEAST = "file: src/heap.rt\nold: stones.iter().max()\nnew: stones.iter().min()\n"
 
 
@@ -154,7 +166,7 @@ class Guards(unittest.TestCase):
 
     def test_helper_counts_for_what_reaches_it(self) -> None:
         page = self.page()
-        self.assertIn("| `heaviest` | `least` in `greatest` | `greatest` | `one_stone` |", page)
+        self.assertIn("| `heaviest` | `least` in `greatest` | `greatest` | `tests` |", page)
         self.assertIn("| `Heap::weight` | - |  | - |", page)
         self.assertIn("By its contract alone: `Heap::weight`.", page)
         self.assertIn("Laws: `heavier_is_more`.", page)
@@ -169,7 +181,7 @@ class Guards(unittest.TestCase):
         self.edit("least", LEAST + "# aims at: Heap::weight\n# refused by: some of total\n")
         page = self.page()
         self.assertIn("| `Heap::weight` | `least` | `some` of `total` | - |", page)
-        self.assertIn("| `heaviest` | - |  | `one_stone` |", page)
+        self.assertIn("| `heaviest` | - |  | `tests` |", page)
 
     def test_clause_of_a_trait(self) -> None:
         text = "file: src/heap.rt\nold: total(&self.stones)\nnew: 0\n"
@@ -207,11 +219,25 @@ class Guards(unittest.TestCase):
             self.run_it(), (1, "guards: stones/must-fail: 11 edits, and not at most 10\n")
         )
 
+    def test_tests_of_a_crate_above(self) -> None:
+        folder = self.top / "crates" / "above" / "src"
+        folder.mkdir(parents=True)
+        with (self.top / "crates.txt").open("a") as rows:
+            rows.write("above: stones\n")
+        for name, text in ABOVE.items():
+            (folder / f"{name}.rt").write_text(text)
+        page = self.page()
+        self.assertIn(
+            "| `heaviest` | `least` in `greatest` | `greatest` | `tests`, `weighing` |", page
+        )
+        self.assertIn("| `Heap::weight` | - |  | `weighing` |", page)
+        self.assertNotIn("## above", page)
+
     def test_runs_of_the_program(self) -> None:
         (self.top / "tests").mkdir()
         (self.top / "tests" / "weights.txt").write_text("")
         with mock.patch.object(guards, "CALL", "heaviest"):
-            self.assertIn("| `one_stone`, `tests/weights.txt` |", self.page())
+            self.assertIn("| `tests`, `tests/weights.txt` |", self.page())
 
     def test_check(self) -> None:
         self.assertEqual(self.run_it("--check")[0], 1)

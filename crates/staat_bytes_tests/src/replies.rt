@@ -1,12 +1,12 @@
-// The shelves and sinks of the tests, and the files that the shelves hold.
+// The call `staat` over files and sinks in memory.
 
-use staat_edge::{Calls, Files, MemoryShelf, MemorySink};
+use crate::inputs::{bytes, name, words};
+use crate::shelves::{NEVER, calls};
+use staat_edge::{Files, MemoryShelf, MemorySink};
+use staat_top::staat;
 use staat_vec::{Bytes, Name};
 use std::alloc::{AllocError, Global};
 use std::test::Fail;
-
-/// A call that no run reaches.
-pub const NEVER: u64 = u64::MAX;
 
 // The certificate of a plan for a cube and the one beside it.
 const VALID: &str = "STAAT 1\nparts 2\nplan\nsplit 0 0 1\nsep 0 0 1 0 1 0 0\nleaf 0\nleaf 1\nend\n";
@@ -53,60 +53,68 @@ const BODIES: [(&str, [i32; 8]); 14] = [
 
 // The file of the body whose x goes from the first number to the second below and from the third to the fourth above,
 // y from the fifth to the sixth, and z from the seventh to the eighth.
-fn body(alloc: Global, corners: [i32; 8]) -> Result<Bytes, AllocError> {
+fn body(alloc: Global, corners: [i32; 8]) -> Result<String, AllocError> {
     let [a, b, c, d, from, to, low, high] = corners;
-    let text = format!(in alloc;
+    format!(in alloc;
         "OFF\n8 6 12\n{a} {from} {low}\n{b} {from} {low}\n{b} {to} {low}\n{a} {to} {low}\n\
         {c} {from} {high}\n{d} {from} {high}\n{d} {to} {high}\n{c} {to} {high}\n\
         4 0 3 2 1\n4 4 5 6 7\n4 0 1 5 4\n4 1 2 6 5\n4 2 3 7 6\n4 3 0 4 7\n"
-    )?;
-    Ok(Bytes::from_vec(text.as_bytes().to_vec(alloc)?))
+    )
 }
 
-fn named(alloc: Global, name: &str) -> Result<Name, AllocError> {
-    Ok(Name::from_string(String::from_str(alloc, name)?))
+// All these files, and one more of the name c.
+fn files(alloc: Global, certificate: &str) -> Result<Vec<(Name, Bytes)>, AllocError> {
+    let mut files = Vec::new(alloc);
+    for (file, corners) in BODIES {
+        let text = body(alloc, corners)?;
+        files.push((name(alloc, file)?, bytes(alloc, text.as_bytes())?))?;
+    }
+    for (file, text) in [("c", certificate)].iter().chain(&TEXTS) {
+        files.push((name(alloc, file)?, bytes(alloc, text.as_bytes())?))?;
+    }
+    Ok(files)
 }
 
-/// A shelf with all of them and one more file of this name. It gives so many bytes at a time, at least one, and one
-/// call of it fails.
+/// A shelf with all files, of which c is this text. It gives so many bytes at a time, at least one, and one call fails.
 pub fn shelf(
     alloc: Global,
-    name: &str,
-    text: &str,
+    certificate: &str,
     chunk: usize,
     failing: u64,
 ) -> Result<MemoryShelf, Fail> {
-    let mut files = Vec::new(alloc);
-    for (name, corners) in BODIES {
-        files.push((named(alloc, name)?, body(alloc, corners)?))?;
-    }
-    for (name, text) in TEXTS {
-        files.push((
-            named(alloc, name)?,
-            Bytes::from_vec(text.as_bytes().to_vec(alloc)?),
-        ))?;
-    }
-    files.push((
-        named(alloc, name)?,
-        Bytes::from_vec(text.as_bytes().to_vec(alloc)?),
-    ))?;
-    let failing = Calls::from_vec([failing].to_vec(alloc)?);
-    Ok(MemoryShelf::new(alloc, Files::from_vec(files), failing, chunk.max(1))?)
+    let files = Files::from_vec(files(alloc, certificate)?);
+    Ok(MemoryShelf::new(alloc, files, calls(alloc, failing)?, chunk.max(1))?)
 }
 
 /// A sink with this room, which takes so many bytes at a time, at least one, and of which one call fails.
-pub fn sink(alloc: Global, room: usize, failing: u64, chunk: usize) -> Result<MemorySink, Fail> {
-    let failing = Calls::from_vec([failing].to_vec(alloc)?);
-    Ok(MemorySink::new(alloc, room, failing, chunk.max(1))?)
+pub fn sink(alloc: Global, room: usize, chunk: usize, failing: u64) -> Result<MemorySink, Fail> {
+    Ok(MemorySink::new(alloc, room, calls(alloc, failing)?, chunk.max(1))?)
 }
 
-/// The words of a line, parted by single spaces; of an empty line none.
-pub fn words(alloc: Global, line: &str) -> Result<Vec<String>, AllocError> {
-    let mut list = Vec::new(alloc);
-    for word in line.split(' ') {
-        if !word.is_empty() {
-            list.push(String::from_str(alloc, word)?)?;
-        }
-    }
-    Ok(list)
+/// The status of a call, what out takes and what err takes, parted by `|`.
+pub fn reply(
+    alloc: Global,
+    line: &str,
+    mut shelf: MemoryShelf,
+    mut out: MemorySink,
+    mut err: MemorySink,
+) -> Result<String, Fail> {
+    let status = staat(alloc, &words(alloc, line)?, &mut shelf, &mut out, &mut err);
+    let out = String::from_utf8_lossy(alloc, out.taken())?;
+    let err = String::from_utf8_lossy(alloc, err.taken())?;
+    Ok(format!(in alloc; "{status}|{out}|{err}")?)
+}
+
+/// The reply where both sinks have room, and the shelf gives so many bytes at a time and fails at this call.
+pub fn said(
+    alloc: Global,
+    line: &str,
+    certificate: &str,
+    chunk: usize,
+    failing: u64,
+) -> Result<String, Fail> {
+    let shelf = shelf(alloc, certificate, chunk, failing)?;
+    let out = sink(alloc, 4096, 64, NEVER)?;
+    let err = sink(alloc, 64, 64, NEVER)?;
+    reply(alloc, line, shelf, out, err)
 }
