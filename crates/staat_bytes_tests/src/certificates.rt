@@ -1,7 +1,6 @@
 // The texts of certificates: those that are read and written again, and those that are refused.
 
 use crate::comparing::{same_count, same_text};
-use crate::inputs::repeated;
 use staat_cert::{CertReader, CertRefusal, cert_text, read_cert};
 use staat_model::{Body, Certificate};
 use staat_number::push_number;
@@ -142,7 +141,7 @@ const LENGTHS: [(usize, &str); 3] = [
 fn a_line_or_a_text_is_too_long(rt: HostRuntime) -> Result<(), Fail> {
     let alloc = rt.alloc();
     for (length, want) in LENGTHS {
-        let text = repeated(alloc, "x", length)?;
+        let text = vec![in alloc; b'x'; length]?;
         same_text(&rt, told(alloc, text.as_slice())?.as_str(), want, want);
     }
     Ok(())
@@ -162,7 +161,7 @@ fn end(reader: CertReader) -> Result<(), CertRefusal> {
 
 #[test]
 fn a_text_in_pieces_is_too_long(rt: HostRuntime) -> Result<(), Fail> {
-    let piece = repeated(rt.alloc(), "x", 1_048_576)?;
+    let piece = vec![in rt.alloc(); b'x'; 1_048_576]?;
     let mut reader = CertReader::new(rt.alloc())?;
     for _ in 0..128 {
         same_answer(

@@ -27,11 +27,6 @@ pub fn words(alloc: Global, line: &str) -> Result<Vec<String>, AllocError> {
     Ok(list)
 }
 
-/// The text, so often.
-pub fn repeated(alloc: Global, text: &str, count: usize) -> Result<Vec<u8>, AllocError> {
-    Ok(text.repeat(alloc, count)?.into_bytes())
-}
-
 /// The part of this name that is made of boxes between these corners.
 pub fn part(alloc: Global, text: &str, corners: &[(V3, V3)]) -> Result<Part, Fail> {
     let mut part = boxes(alloc, corners)?.ok_or("a part")?;

@@ -1,9 +1,9 @@
 // The texts of answers, of assemblies, graphs and plans written out by hand.
-ghost use Rattle.std.specs.Prelude.{◌≡◌, ◌≢◌, ◌<◌, IfOk};
+ghost use Rattle.std.specs.Prelude.{◌≢◌, ◌<◌, IfOk};
 ghost use Rattle.staat_model.specs.Outcomes.{finding_of};
 ghost use Rattle.staat_text.specs.PlanTexts.{CanBeShown};
 
-use crate::comparing::{same_bytes, same_truth};
+use crate::comparing::same_bytes;
 use crate::inputs::part;
 use staat_asm::build;
 use staat_cone::Plain;
@@ -12,7 +12,7 @@ use staat_graph::Graph;
 use staat_model::{Assembly, Kind, Marks, Outcome, PartSet, Reason, Sound, Tree, Verdict};
 use staat_samples::{assembly_of, at};
 use staat_text::{graph_text, look_text, parts_text, plan_text, verdict_text};
-use staat_vec::{Bytes, OutOfMemory, V3};
+use staat_vec::V3;
 use std::alloc::{AllocError, Global};
 use std::test::Fail;
 
@@ -97,31 +97,35 @@ fn a_line_for_each_arc_and_each_group(rt: HostRuntime) -> Result<(), Fail> {
     Ok(())
 }
 
-// The text of the plan that moves the part a away from the part b.
-fn step_text(alloc: Global, a: u32, b: u32, d: V3, marks: Vec<Kind>) -> Result<Bytes, OutOfMemory>
+// The plan that moves the part a away from the part b.
+fn step_apart(alloc: Global, a: u32, b: u32, d: V3, marks: Vec<Kind>) -> Result<Outcome, AllocError>
     requires a { a < 32 }
     requires b { b < 32 }
     requires different { a ≢ b }
+    ensures { IfOk result (λ o. CanBeShown (finding_of o)) }
 {
     let moved = Box::new(alloc, Tree::Leaf(a))?;
     let rest = Box::new(alloc, Tree::Leaf(b))?;
-    let tree = Tree::Split { d, moved, rest };
-    let marks = Marks::from_vec(marks);
-    plan_text(alloc, &Outcome::Plan { tree, marks })
+    Ok(Outcome::Plan {
+        tree: Tree::Split { d, moved, rest },
+        marks: Marks::from_vec(marks),
+    })
 }
 
 #[test]
 fn a_line_for_each_step(rt: HostRuntime) -> Result<(), Fail> {
     let alloc = rt.alloc();
-    let plain = step_text(alloc, 0, 1, at(0, 0, 1), Vec::new(alloc))?;
+    let plain = step_apart(alloc, 0, 1, at(0, 0, 1), Vec::new(alloc))?;
+    let text = plan_text(alloc, &plain)?;
     let want = "move 0 along 0 0 1 away from 1\nmoves 1\n";
-    same_bytes(&rt, plain.as_slice(), want.as_bytes(), "a plan");
+    same_bytes(&rt, text.as_slice(), want.as_bytes(), "a plan");
     let marks = Vec::from_array(alloc, [Kind::Open])?;
-    let robust = step_text(alloc, 31, 7, at(-2, -1, -1), marks)?;
+    let robust = step_apart(alloc, 31, 7, at(-2, -1, -1), marks)?;
+    let text = plan_text(alloc, &robust)?;
     let want = "move 31 along -2 -1 -1 away from 7 by open\nmoves 1\n";
-    same_bytes(&rt, robust.as_slice(), want.as_bytes(), "a robust plan");
-    let stuck = plan_text(alloc, &Outcome::Stuck(PartSet::from_bits(0b1011)))?;
-    same_bytes(&rt, stuck.as_slice(), b"stuck 0 1 3\n", "a stuck set");
+    same_bytes(&rt, text.as_slice(), want.as_bytes(), "a robust plan");
+    let text = plan_text(alloc, &Outcome::Stuck(PartSet::from_bits(0b1011)))?;
+    same_bytes(&rt, text.as_slice(), b"stuck 0 1 3\n", "a stuck set");
     Ok(())
 }
 

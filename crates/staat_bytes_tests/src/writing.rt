@@ -51,15 +51,24 @@ const CLOSED: &str =
 
 const FREE: &str = "pair a.off b.off --along=0,0,1 --wall=1,0,0";
 
-// Words, the status, and what is printed on out.
-const ANSWERS: [(&str, &str, &str); 7] = [
-    (FREE, "0", "free\n"),
-    ("plan a.off b.off", "0", PLAN),
-    ("graph --along=-2,0,0 a.off b.off", "0", GRAPH),
-    ("cells a.off b.off", "0", CELLS),
-    ("check c a.off b.off", "0", "valid plan\n"),
-    ("plan --cert a.off b.off", "0", CERT),
-    ("plan --manifest=closed --cert", "1", CLOSED),
+// What cuts an answer off: a call of out that fails, or its room.
+#[derive(Clone, Copy)]
+enum Cut {
+    Call,
+    Room,
+}
+
+// What cuts them off, words, the status, and what is printed on out.
+const ANSWERS: [(Cut, &str, &str, &str); 9] = [
+    (Cut::Call, FREE, "0", "free\n"),
+    (Cut::Room, FREE, "0", "free\n"),
+    (Cut::Call, "plan a.off b.off", "0", PLAN),
+    (Cut::Room, "plan a.off b.off", "0", PLAN),
+    (Cut::Call, "graph --along=-2,0,0 a.off b.off", "0", GRAPH),
+    (Cut::Call, "cells a.off b.off", "0", CELLS),
+    (Cut::Call, "check c a.off b.off", "0", "valid plan\n"),
+    (Cut::Call, "plan --cert a.off b.off", "0", CERT),
+    (Cut::Call, "plan --manifest=closed --cert", "1", CLOSED),
 ];
 
 // The reply where out has so much room, of out and of err one call fails, and both take so many bytes at a time.
@@ -77,7 +86,7 @@ fn held(
 }
 
 // The reply where out takes so many bytes of a text and no more.
-fn cut(alloc: Global, status: &str, text: &str, taken: usize) -> Result<String, AllocError> {
+fn reply_of(alloc: Global, status: &str, text: &str, taken: usize) -> Result<String, AllocError> {
     if taken < text.len() {
         let front = text.get(..taken).unwrap_or("");
         format!(in alloc; "6|{front}|staat: write fault\n")
@@ -86,19 +95,27 @@ fn cut(alloc: Global, status: &str, text: &str, taken: usize) -> Result<String, 
     }
 }
 
-// An answer of which out takes each number of bytes: one at a time until a call fails, and what it has room for.
+// How much room out has, which of its calls fails, and how many bytes it takes at a time, where it takes so many bytes.
+fn limits(cut: Cut, taken: usize) -> (usize, u64, usize) {
+    match cut {
+        Cut::Call => (1024, taken as u64, 1),
+        Cut::Room => (taken, NEVER, 64),
+    }
+}
+
+// An answer of which out takes each number of bytes.
 fn compare_answer(
     rt: &impl Abort,
     alloc: Global,
+    cut: Cut,
     line: &str,
-    status: &str,
-    text: &str,
+    answer: [&str; 2],
 ) -> Result<(), Fail> {
+    let [status, text] = answer;
     for taken in 0..text.len().saturating_add(1) {
-        let want = cut(alloc, status, text, taken)?;
-        let got = held(alloc, line, 1024, [taken as u64, NEVER], 1)?;
-        same_text(rt, got.as_str(), want.as_str(), line);
-        let got = held(alloc, line, taken, [NEVER, NEVER], 64)?;
+        let want = reply_of(alloc, status, text, taken)?;
+        let (room, call, chunk) = limits(cut, taken);
+        let got = held(alloc, line, room, [call, NEVER], chunk)?;
         same_text(rt, got.as_str(), want.as_str(), line);
     }
     Ok(())
@@ -106,8 +123,8 @@ fn compare_answer(
 
 #[test]
 fn out_keeps_the_bytes_that_it_took(rt: HostRuntime) -> Result<(), Fail> {
-    for (line, status, text) in ANSWERS {
-        compare_answer(&rt, rt.alloc(), line, status, text)?;
+    for (cut, line, status, text) in ANSWERS {
+        compare_answer(&rt, rt.alloc(), cut, line, [status, text])?;
     }
     Ok(())
 }
