@@ -113,21 +113,23 @@ fn texts_come_back_or_are_refused(rt: HostRuntime) -> Result<(), Fail> {
     Ok(())
 }
 
-#[test]
-fn fronts_are_too_short(rt: HostRuntime) -> Result<(), Fail> {
-    let alloc = rt.alloc();
-    for end in 0..69 {
-        for text in [PLAN, PLAN_IN_VERSION_2] {
-            let front = text.get(..end).unwrap_or(text);
-            same_text(
-                &rt,
-                told(alloc, front.as_bytes())?.as_str(),
-                TOO_SHORT,
-                front,
-            );
-        }
+fn compare_fronts(rt: &impl Abort, alloc: Global, text: &str) -> Result<(), Fail> {
+    for end in 0..text.len() {
+        let front = text.get(..end).unwrap_or(text);
+        same_text(
+            rt,
+            told(alloc, front.as_bytes())?.as_str(),
+            TOO_SHORT,
+            front,
+        );
     }
     Ok(())
+}
+
+#[test]
+fn fronts_are_too_short(rt: HostRuntime) -> Result<(), Fail> {
+    compare_fronts(&rt, rt.alloc(), PLAN)?;
+    compare_fronts(&rt, rt.alloc(), PLAN_IN_VERSION_2)
 }
 
 // The lengths of texts without a line feed.
@@ -147,48 +149,40 @@ fn a_line_or_a_text_is_too_long(rt: HostRuntime) -> Result<(), Fail> {
     Ok(())
 }
 
-// The answer of a feed, or of the end.
+// A text, how many bytes of it are fed at a time, and the answer of each feeding.
+type Fed<'a> = (&'a [u8], usize, Result<(), CertRefusal>);
+
 fn same_answer(rt: &impl Abort, got: Result<(), CertRefusal>, want: Result<(), CertRefusal>) {
     assert_eq!(rt; got, want);
 }
 
-fn end(reader: CertReader) -> Result<(), CertRefusal> {
-    match reader.finish() {
-        Ok(_) => Ok(()),
-        Err(refusal) => Err(refusal),
+// Feeds a text in pieces, and behind it a piece without bytes.
+fn feed(rt: &impl Abort, reader: &mut CertReader, fed: &Fed) {
+    let (text, size, want) = *fed;
+    for piece in text.chunks(size.max(1)) {
+        same_answer(rt, reader.feed(piece), want);
+    }
+    same_answer(rt, reader.feed(b""), want);
+}
+
+fn count_of_directions(c: &Certificate) -> usize {
+    match &c.body {
+        Body::Plan(_) => 0,
+        Body::Stuck { dirs, .. } => dirs.as_slice().len(),
     }
 }
 
-#[test]
-fn a_text_in_pieces_is_too_long(rt: HostRuntime) -> Result<(), Fail> {
-    let piece = vec![in rt.alloc(); b'x'; 1_048_576]?;
-    let mut reader = CertReader::new(rt.alloc())?;
-    for _ in 0..128 {
-        same_answer(
-            &rt,
-            reader.feed(piece.as_slice()),
-            Err(CertRefusal::BadLine(1)),
-        );
+// How many directions are read of texts, one behind another, or why no certificate is.
+fn compare_fed(rt: &impl Abort, alloc: Global, texts: &[Fed], want: &str) -> Result<(), Fail> {
+    let mut reader = CertReader::new(alloc)?;
+    for fed in texts {
+        feed(rt, &mut reader, fed);
     }
-    same_answer(
-        &rt,
-        reader.feed(piece.as_slice()),
-        Err(CertRefusal::TooLong),
-    );
-    same_answer(&rt, end(reader), Err(CertRefusal::TooLong));
-    Ok(())
-}
-
-#[test]
-fn a_bad_line_stays(rt: HostRuntime) -> Result<(), Fail> {
-    let mut reader = CertReader::new(rt.alloc())?;
-    let bad = Err(CertRefusal::BadLine(9));
-    for (piece, want) in [(PLAN, Ok(())), ("x", bad), ("", bad)] {
-        same_answer(&rt, reader.feed(piece.as_bytes()), want);
-    }
-    same_answer(&rt, end(reader), bad);
-    let empty = CertReader::new(rt.alloc())?;
-    same_answer(&rt, end(empty), Err(CertRefusal::ShortCert));
+    let told = match reader.finish() {
+        Ok(certificate) => format!(in alloc; "directions: {}", count_of_directions(&certificate))?,
+        Err(refusal) => format!(in alloc; "{refusal}")?,
+    };
+    same_text(rt, told.as_str(), want, want);
     Ok(())
 }
 
@@ -205,27 +199,26 @@ fn long_text(alloc: Global, count: u32) -> Result<Vec<u8>, AllocError> {
     Ok(text)
 }
 
-fn count_of_directions(c: &Certificate) -> usize {
-    match &c.body {
-        Body::Plan(_) => 0,
-        Body::Stuck { dirs, .. } => dirs.as_slice().len(),
-    }
-}
-
 #[test]
-fn a_long_text_byte_by_byte(rt: HostRuntime) -> Result<(), Fail> {
-    let text = long_text(rt.alloc(), 100_000)?;
-    same_count(&rt, text.len(), 1_588_935, "bytes");
-    let mut reader = CertReader::new(rt.alloc())?;
-    for byte in text.as_slice() {
-        same_answer(&rt, reader.feed(&[*byte]), Ok(()));
-    }
-    let certificate = reader.finish()?;
-    same_count(
+fn a_text_is_fed_in_pieces(rt: HostRuntime) -> Result<(), Fail> {
+    let alloc = rt.alloc();
+    let bad = Err(CertRefusal::BadLine(1));
+    let most = vec![in alloc; b'x'; 134_217_728]?;
+    let texts: [Fed; 2] = [
+        (most.as_slice(), 1_048_576, bad),
+        (b"x", 1, Err(CertRefusal::TooLong)),
+    ];
+    compare_fed(&rt, alloc, &texts, "too long")?;
+    let behind = Err(CertRefusal::BadLine(9));
+    let texts: [Fed; 2] = [(PLAN.as_bytes(), 100, Ok(())), (b"x", 1, behind)];
+    compare_fed(&rt, alloc, &texts, "bad line 9")?;
+    compare_fed(&rt, alloc, &[], TOO_SHORT)?;
+    let long = long_text(alloc, 100_000)?;
+    same_count(&rt, long.len(), 1_588_935, "bytes");
+    compare_fed(
         &rt,
-        count_of_directions(&certificate),
-        100_000,
-        "directions",
-    );
-    Ok(())
+        alloc,
+        &[(long.as_slice(), 1, Ok(()))],
+        "directions: 100000",
+    )
 }

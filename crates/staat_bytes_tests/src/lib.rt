@@ -1,6 +1,6 @@
 //! Tests of the crates that read and write texts, bytes and files, and of the call `staat` over files in memory.
 //!
-//! Values are compared as texts where a text says as much. The modules go from the numbers of a text up to the whole call.
+//! Values are compared as texts where a text says as much.
 #![tactic(auto)]
 
 #[cfg(test)]

@@ -22,60 +22,41 @@ const WRITTEN_BY_A_TOOL: &[u8] =
     2.000000 2.000000 2.000000\n0.000000 2.000000 2.000000\n# faces\n3 0 3 2 255 0 0\n3 0 2 1 255 0 0\n\
     3 4 5 6 0.5 0.5 0.5\n3 4 6 7\n3 0 1 5\n3 0 5 4\n3 1 2 6\n3 1 6 5\n3 2 3 7\n3 2 7 6\n3 3 0 4\n3 3 4 7\n\n\n";
 
-const BAD: &str = "bad number at 10";
-
-const NOT_WHOLE: &str = "not a whole number at 10";
-
-const TOO_BIG: &str = "number too big at 10";
-
 // Words, with their values as they stand and times 1000.
-const NUMBERS: [(&str, &str, &str); 33] = [
-    ("1.000000", "1", "1000"),
-    ("2e0", "2", "2000"),
-    ("-0.0", "0", "0"),
-    ("+3", "3", "3000"),
-    ("4.", "4", "4000"),
-    ("0.5", NOT_WHOLE, "500"),
-    ("1e999", TOO_BIG, TOO_BIG),
-    ("0e999", "0", "0"),
-    ("1e-999", NOT_WHOLE, NOT_WHOLE),
-    ("99999.5", NOT_WHOLE, TOO_BIG),
-    ("1e", BAD, BAD),
-    (".", BAD, BAD),
-    ("nan", BAD, BAD),
-    ("0x1", BAD, BAD),
-    ("-7", "-7", "-7000"),
-    (".5e1", "5", "5000"),
-    ("-1200E-2", "-12", "-12000"),
-    ("1.5e+4", "15000", TOO_BIG),
-    ("1e-3", NOT_WHOLE, "1"),
-    ("1e-4", NOT_WHOLE, NOT_WHOLE),
-    ("262144", "262144", TOO_BIG),
-    ("-262144", "-262144", TOO_BIG),
-    ("262145", TOO_BIG, TOO_BIG),
-    ("262.144", NOT_WHOLE, "262144"),
-    ("262.1445", NOT_WHOLE, NOT_WHOLE),
-    ("1e5", "100000", TOO_BIG),
-    ("+-1", BAD, BAD),
-    ("1.2.3", BAD, BAD),
-    ("1e1e1", BAD, BAD),
-    ("e1", BAD, BAD),
-    (
-        "1e00000000000000000000000000000000000000000000000000000000000001",
-        "10",
-        "10000",
-    ),
-    (
-        "100000000000000000000000000000000000000000000000000000000000e-59",
-        "1",
-        "1000",
-    ),
-    (
-        "0000000000000000000000000000000000000000000000000000000000000001.",
-        BAD,
-        BAD,
-    ),
-];
+const NUMBERS: &str = "\
+1.000000 = 1, 1000
+2e0 = 2, 2000
+-0.0 = 0, 0
++3 = 3, 3000
+4. = 4, 4000
+0.5 = not a whole number at 10, 500
+1e999 = number too big at 10, number too big at 10
+0e999 = 0, 0
+1e-999 = not a whole number at 10, not a whole number at 10
+99999.5 = not a whole number at 10, number too big at 10
+1e = bad number at 10, bad number at 10
+. = bad number at 10, bad number at 10
+nan = bad number at 10, bad number at 10
+0x1 = bad number at 10, bad number at 10
+-7 = -7, -7000
+.5e1 = 5, 5000
+-1200E-2 = -12, -12000
+1.5e+4 = 15000, number too big at 10
+1e-3 = not a whole number at 10, 1
+1e-4 = not a whole number at 10, not a whole number at 10
+262144 = 262144, number too big at 10
+-262144 = -262144, number too big at 10
+262145 = number too big at 10, number too big at 10
+262.144 = not a whole number at 10, 262144
+262.1445 = not a whole number at 10, not a whole number at 10
+1e5 = 100000, number too big at 10
++-1 = bad number at 10, bad number at 10
+1.2.3 = bad number at 10, bad number at 10
+1e1e1 = bad number at 10, bad number at 10
+e1 = bad number at 10, bad number at 10
+1e00000000000000000000000000000000000000000000000000000000000001 = 10, 10000
+100000000000000000000000000000000000000000000000000000000000e-59 = 1, 1000
+0000000000000000000000000000000000000000000000000000000000000001. = bad number at 10, bad number at 10";
 
 // The first coordinate of a file of one point, where it begins at byte 10, or why the file is refused.
 fn coordinate(alloc: Global, word: &str, digits: u32) -> Result<String, Fail>
@@ -94,7 +75,9 @@ fn coordinate(alloc: Global, word: &str, digits: u32) -> Result<String, Fail>
 #[test]
 fn numbers_have_the_value_that_they_spell(rt: HostRuntime) -> Result<(), Fail> {
     let alloc = rt.alloc();
-    for (word, plain, thousandfold) in NUMBERS {
+    for line in NUMBERS.lines() {
+        let (word, values) = line.split_once(" = ").ok_or("a word")?;
+        let (plain, thousandfold) = values.split_once(", ").ok_or("two values")?;
         same_text(&rt, coordinate(alloc, word, 0)?.as_str(), plain, word);
         same_text(
             &rt,

@@ -53,22 +53,36 @@ const BODIES: [(&str, [i32; 8]); 14] = [
 
 // The file of the body whose x goes from the first number to the second below and from the third to the fourth above,
 // y from the fifth to the sixth, and z from the seventh to the eighth.
-fn body(alloc: Global, corners: [i32; 8]) -> Result<String, AllocError> {
-    let [a, b, c, d, from, to, low, high] = corners;
-    format!(in alloc;
-        "OFF\n8 6 12\n{a} {from} {low}\n{b} {from} {low}\n{b} {to} {low}\n{a} {to} {low}\n\
-        {c} {from} {high}\n{d} {from} {high}\n{d} {to} {high}\n{c} {to} {high}\n\
-        4 0 3 2 1\n4 4 5 6 7\n4 0 1 5 4\n4 1 2 6 5\n4 2 3 7 6\n4 3 0 4 7\n"
-    )
+fn body(alloc: Global, numbers: [i32; 8]) -> Result<String, AllocError> {
+    let [a, b, c, d, from, to, low, high] = numbers;
+    let below = [(a, from, low), (b, from, low), (b, to, low), (a, to, low)];
+    let above = [
+        (c, from, high),
+        (d, from, high),
+        (d, to, high),
+        (c, to, high),
+    ];
+    let mut text = String::from_str(alloc, "OFF\n8 6 12\n")?;
+    for (x, y, z) in below.iter().chain(&above) {
+        text.push_str(format!(in alloc; "{x} {y} {z}\n")?.as_str())?;
+    }
+    text.push_str("4 0 3 2 1\n4 4 5 6 7\n4 0 1 5 4\n4 1 2 6 5\n4 2 3 7 6\n4 3 0 4 7\n")?;
+    Ok(text)
 }
 
-// All these files, and one more of the name c.
-fn files(alloc: Global, certificate: &str) -> Result<Vec<(Name, Bytes)>, AllocError> {
+// The files of all bodies.
+fn body_files(alloc: Global) -> Result<Vec<(Name, Bytes)>, AllocError> {
     let mut files = Vec::new(alloc);
-    for (file, corners) in BODIES {
-        let text = body(alloc, corners)?;
+    for (file, numbers) in BODIES {
+        let text = body(alloc, numbers)?;
         files.push((name(alloc, file)?, bytes(alloc, text.as_bytes())?))?;
     }
+    Ok(files)
+}
+
+// All files, with one more of the name c.
+fn files(alloc: Global, certificate: &str) -> Result<Vec<(Name, Bytes)>, AllocError> {
+    let mut files = body_files(alloc)?;
     for (file, text) in [("c", certificate)].iter().chain(&TEXTS) {
         files.push((name(alloc, file)?, bytes(alloc, text.as_bytes())?))?;
     }

@@ -21,9 +21,9 @@ const CANNOT: &str = "the file cannot be read";
 
 const TOO_LONG: &str = "the file is too long";
 
-// A name, the call that fails, how many bytes the shelf gives at a time, and the limit; and what is read. With one byte
-// at a time the whole of `greeting` takes the calls 0 to 6: one that opens it, five for its bytes and one that finds its
-// end.
+// A name, the call that fails, how many bytes the shelf gives at a time, and the limit; and what is read. With one
+// byte at a time the whole of `greeting` takes the calls 0 to 6: one that opens it, five for its bytes and one that
+// finds its end.
 const READINGS: [(&str, u64, u16, u16, &str); 14] = [
     ("greeting", NEVER, 1, 5, "hello"),
     ("greeting", NEVER, 2, 5, "hello"),
