@@ -105,6 +105,16 @@ pub fn sink(alloc: Global, room: usize, chunk: usize, failing: u64) -> Result<Me
     Ok(MemorySink::new(alloc, room, calls(alloc, failing)?, chunk.max(1))?)
 }
 
+fn status(
+    alloc: Global,
+    line: &str,
+    shelf: &mut MemoryShelf,
+    out: &mut MemorySink,
+    err: &mut MemorySink,
+) -> Result<u8, AllocError> {
+    Ok(staat(alloc, &words(alloc, line)?, shelf, out, err))
+}
+
 /// The status of a call, what out takes and what err takes, parted by `|`.
 pub fn reply(
     alloc: Global,
@@ -113,7 +123,7 @@ pub fn reply(
     mut out: MemorySink,
     mut err: MemorySink,
 ) -> Result<String, Fail> {
-    let status = staat(alloc, &words(alloc, line)?, &mut shelf, &mut out, &mut err);
+    let status = status(alloc, line, &mut shelf, &mut out, &mut err)?;
     let out = String::from_utf8_lossy(alloc, out.taken())?;
     let err = String::from_utf8_lossy(alloc, err.taken())?;
     Ok(format!(in alloc; "{status}|{out}|{err}")?)
