@@ -18,6 +18,3 @@ pub use memory_sink::MemorySink;
 pub use shelf::{Failed, Shelf};
 pub use sink::Sink;
 pub use whole::{ReadRefusal, WriteFault, read_whole, write_whole};
-
-#[cfg(test)]
-mod tests;

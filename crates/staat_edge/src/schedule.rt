@@ -46,25 +46,3 @@ impl Schedule {
         self.faults = self.faults.saturating_add(1);
     }
 }
-
-#[cfg(test)]
-mod tests {
-    use super::*;
-    use std::test::Fail;
-
-    #[test]
-    fn counts_stay_at_their_last_value(rt: HostRuntime) -> Result<(), Fail> {
-        let mut schedule = Schedule {
-            failing: Calls::from_vec(vec![in rt.alloc(); 3, u64::MAX]?),
-            next: u64::MAX - 1,
-            faults: u64::MAX - 1,
-        };
-        for is_due in [false, true, true] {
-            assert_eq!(rt; schedule.begin(), is_due);
-            assert_eq!(rt; schedule.next, u64::MAX);
-            schedule.fault();
-            assert_eq!(rt; schedule.faults, u64::MAX);
-        }
-        Ok(())
-    }
-}

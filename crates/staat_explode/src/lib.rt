@@ -22,6 +22,3 @@ pub use scene::{Solid, Solids, scene_text};
 pub use shifted::Shifted;
 pub use shifts::Shifts;
 pub use texts::shifts_text;
-
-#[cfg(test)]
-mod tests;

@@ -9,6 +9,3 @@ mod status;
 pub use fault::Fault;
 pub use line::{MEMORY_LINE, USAGE_LINE, WRITE_LINE, fault_line};
 pub use status::status_of;
-
-#[cfg(test)]
-mod tests;

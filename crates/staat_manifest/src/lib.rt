@@ -12,6 +12,3 @@ mod refusal;
 pub use listing::{ListedPart, Listing};
 pub use reader::read_manifest;
 pub use refusal::ManifestRefusal;
-
-#[cfg(test)]
-mod tests;

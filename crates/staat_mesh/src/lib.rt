@@ -14,6 +14,3 @@ mod used;
 
 pub use make::make_piece;
 pub use refusal::MeshRefusal;
-
-#[cfg(test)]
-mod tests;

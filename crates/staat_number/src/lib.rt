@@ -8,6 +8,3 @@ mod spelling;
 pub use decimal::push_number;
 pub use number::{integer_of, natural_of};
 pub use spelling::number_in;
-
-#[cfg(test)]
-mod tests;

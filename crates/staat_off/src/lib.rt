@@ -15,6 +15,3 @@ mod trim;
 pub use file::read_off;
 pub use raw::{Corners, Faces, Raw};
 pub use refusal::OffRefusal;
-
-#[cfg(test)]
-mod tests;

@@ -3,6 +3,5 @@ pub mod GraphLines
 pub mod OneGraphText
 pub mod PlanLines
 pub mod PlanSteps
-mod TestParts
 pub mod SameArcs
 pub mod CellLines

@@ -16,8 +16,3 @@ pub use graphs::graph_text;
 pub use parts::{look_text, parts_text};
 pub use plans::{direction_text, parts_listed, plan_text};
 pub use verdicts::verdict_text;
-
-#[cfg(test)]
-mod cell_tests;
-#[cfg(test)]
-mod tests;

@@ -8,12 +8,3 @@ mod top;
 pub use print::want_memory;
 pub use staat_fault::{Fault, fault_line};
 pub use top::staat;
-
-#[cfg(test)]
-mod check_tests;
-#[cfg(test)]
-mod fault_tests;
-#[cfg(test)]
-mod held;
-#[cfg(test)]
-mod tests;

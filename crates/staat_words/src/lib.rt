@@ -12,6 +12,3 @@ pub use request::{
     LocalRequest, PairRequest, PlanRequest, Product, Request, RequestRefusal,
 };
 pub use words::request_of;
-
-#[cfg(test)]
-mod tests;

@@ -1,36 +1,50 @@
-// Worked meshes: what the rules answer for files.
-use crate::{MeshRefusal, make_piece};
+// Meshes: the piece that each bounds, or the first rule that fails.
+
+use crate::comparing::same_text;
+use crate::telling::vectors;
+use staat_mesh::{MeshRefusal, make_piece};
 use staat_off::read_off;
-use staat_vec::V3;
 use std::alloc::Global;
 use std::test::Fail;
 
+// The corners of the cube, ascending.
+const CUBE: &str = "0 0 0;0 0 2;0 2 0;0 2 2;2 0 0;2 0 2;2 2 0;2 2 2;";
+
+const LARGE: &str =
+    "-262144 -262144 -262144;-262144 -262144 262144;-262144 262144 -262144;-262144 262144 262144;\
+    262144 -262144 -262144;262144 -262144 262144;262144 262144 -262144;262144 262144 262144;";
+
 // The cube [0,2]^3 in several ways.
-const CUBES: [(&str, &[u8]); 7] = [
+const MESHES: [(&str, &[u8], &str); 22] = [
     (
         "as listed",
         b"OFF\n8 6 0\n0 0 0\n2 0 0\n2 2 0\n0 2 0\n0 0 2\n2 0 2\n2 2 2\n0 2 2\n4 0 3 2 1\n4 4 5 6 7\n4 0 1 5 4\n\
         4 1 2 6 5\n4 2 3 7 6\n4 3 0 4 7\n",
+        CUBE,
     ),
     (
         "other windings",
         b"OFF\n8 6 0\n0 0 0\n2 0 0\n2 2 0\n0 2 0\n0 0 2\n2 0 2\n2 2 2\n0 2 2\n4 1 2 3 0\n4 4 5 6 7\n4 5 1 0 4\n\
         4 5 1 2 6\n4 2 3 7 6\n4 3 0 4 7\n",
+        CUBE,
     ),
     (
         "a corner twice in a face",
         b"OFF\n8 6 0\n0 0 0\n2 0 0\n2 2 0\n0 2 0\n0 0 2\n2 0 2\n2 2 2\n0 2 2\n6 0 0 3 2 1 0\n4 4 5 6 7\n4 0 1 5 4\n\
         4 1 2 6 5\n4 2 3 7 6\n4 3 0 4 7\n",
+        CUBE,
     ),
     (
         "a vertex that no face uses",
         b"OFF\n9 6 0\n0 0 0\n2 0 0\n2 2 0\n0 2 0\n0 0 2\n2 0 2\n2 2 2\n0 2 2\n9 9 9\n4 0 3 2 1\n4 4 5 6 7\n4 0 1 5 4\n\
         4 1 2 6 5\n4 2 3 7 6\n4 3 0 4 7\n",
+        CUBE,
     ),
     (
         "two faces, each twice",
         b"OFF\n8 4 0\n0 0 0\n2 0 0\n2 2 0\n0 2 0\n0 0 2\n2 0 2\n2 2 2\n0 2 2\n4 0 3 2 1\n4 4 5 6 7\n4 0 3 2 1\n\
         4 4 5 6 7\n",
+        CUBE,
     ),
     (
         "triangles with vertices of their own",
@@ -38,6 +52,7 @@ const CUBES: [(&str, &[u8]); 7] = [
         2 0 0\n2 0 2\n0 0 0\n2 0 2\n0 0 2\n2 0 0\n2 2 0\n2 2 2\n2 0 0\n2 2 2\n2 0 2\n2 2 0\n0 2 0\n0 2 2\n2 2 0\n\
         0 2 2\n2 2 2\n0 2 0\n0 0 0\n0 0 2\n0 2 0\n0 0 2\n0 2 2\n3 0 1 2\n3 3 4 5\n3 6 7 8\n3 9 10 11\n3 12 13 14\n\
         3 15 16 17\n3 18 19 20\n3 21 22 23\n3 24 25 26\n3 27 28 29\n3 30 31 32\n3 33 34 35\n",
+        CUBE,
     ),
     (
         "written by a tool",
@@ -46,79 +61,84 @@ const CUBES: [(&str, &[u8]); 7] = [
         2.000000 0.000000 2.000000\n2.000000 2.000000 2.000000\n0.000000 2.000000 2.000000\n# faces\n3 0 3 2 255 0 0\n\
         3 0 2 1 255 0 0\n3 4 5 6 0.5 0.5 0.5\n3 4 6 7\n3 0 1 5\n3 0 5 4\n3 1 2 6\n3 1 6 5\n3 2 3 7\n3 2 7 6\n3 3 0 4\n\
         3 3 4 7\n\n\n",
+        CUBE,
     ),
-];
-
-// Meshes that bound no piece.
-const REFUSED: [(&str, &[u8], MeshRefusal); 14] = [
+    (
+        "a large cube",
+        b"OFF\n8 6 0\n-262144 -262144 -262144\n262144 -262144 -262144\n262144 262144 -262144\n-262144 262144 -262144\n\
+        -262144 -262144 262144\n262144 -262144 262144\n262144 262144 262144\n-262144 262144 262144\n\
+        4 0 3 2 1\n4 4 5 6 7\n4 0 1 5 4\n4 1 2 6 5\n4 2 3 7 6\n4 3 0 4 7\n",
+        LARGE,
+    ),
+    // Meshes that bound no piece.
     (
         "a cube with a corner moved inward",
         b"OFF\n8 6 0\n0 0 0\n2 0 0\n2 2 0\n0 2 0\n0 0 2\n2 0 2\n1 1 1\n0 2 2\n4 0 3 2 1\n4 4 5 6 7\n4 0 1 5 4\n\
         4 1 2 6 5\n4 2 3 7 6\n4 3 0 4 7\n",
-        MeshRefusal::BadFace(1),
+        "bad face 1",
     ),
     (
         "the same with the face that it bends split in two",
         b"OFF\n8 7 0\n0 0 0\n2 0 0\n2 2 0\n0 2 0\n0 0 2\n2 0 2\n1 1 1\n0 2 2\n4 0 3 2 1\n3 4 5 6\n3 4 6 7\n4 0 1 5 4\n\
         4 1 2 6 5\n4 2 3 7 6\n4 3 0 4 7\n",
-        MeshRefusal::NotConvex(1),
+        "not convex at face 1",
     ),
     (
         "the same with a face of one edge behind it",
         b"OFF\n8 8 0\n0 0 0\n2 0 0\n2 2 0\n0 2 0\n0 0 2\n2 0 2\n1 1 1\n0 2 2\n4 0 3 2 1\n3 4 5 6\n3 4 6 7\n4 0 1 5 4\n\
         4 1 2 6 5\n4 2 3 7 6\n4 3 0 4 7\n3 0 1 0\n",
-        MeshRefusal::NotConvex(1),
+        "not convex at face 1",
     ),
     (
         "a face of one edge before it",
         b"OFF\n8 8 0\n0 0 0\n2 0 0\n2 2 0\n0 2 0\n0 0 2\n2 0 2\n1 1 1\n0 2 2\n4 0 3 2 1\n3 0 1 0\n3 4 5 6\n3 4 6 7\n\
         4 0 1 5 4\n4 1 2 6 5\n4 2 3 7 6\n4 3 0 4 7\n",
-        MeshRefusal::BadFace(1),
+        "bad face 1",
     ),
     (
         "a cube without its top",
         b"OFF\n8 5 0\n0 0 0\n2 0 0\n2 2 0\n0 2 0\n0 0 2\n2 0 2\n2 2 2\n0 2 2\n4 0 3 2 1\n4 0 1 5 4\n4 1 2 6 5\n\
         4 2 3 7 6\n4 3 0 4 7\n",
-        MeshRefusal::OpenEdge(1, 2),
+        "open edge at face 1 corner 2",
     ),
     (
         "a cube with each face twice",
         b"OFF\n8 12 0\n0 0 0\n2 0 0\n2 2 0\n0 2 0\n0 0 2\n2 0 2\n2 2 2\n0 2 2\n4 0 3 2 1\n4 4 5 6 7\n4 0 1 5 4\n\
         4 1 2 6 5\n4 2 3 7 6\n4 3 0 4 7\n4 0 3 2 1\n4 4 5 6 7\n4 0 1 5 4\n4 1 2 6 5\n4 2 3 7 6\n4 3 0 4 7\n",
-        MeshRefusal::OpenEdge(0, 0),
+        "open edge at face 0 corner 0",
     ),
     (
         "a cube with one face twice",
         b"OFF\n8 7 0\n0 0 0\n2 0 0\n2 2 0\n0 2 0\n0 0 2\n2 0 2\n2 2 2\n0 2 2\n4 0 3 2 1\n4 4 5 6 7\n4 0 1 5 4\n\
         4 1 2 6 5\n4 2 3 7 6\n4 3 0 4 7\n4 3 0 4 7\n",
-        MeshRefusal::OpenEdge(0, 0),
+        "open edge at face 0 corner 0",
     ),
     (
         "a square",
         b"OFF\n4 2 0\n0 0 0\n2 0 0\n2 2 0\n0 2 0\n4 0 1 2 3\n4 3 2 1 0\n",
-        MeshRefusal::Flat,
+        "all points in one plane",
     ),
     (
         "a triangle",
         b"OFF\n3 2 0\n0 0 0\n2 0 0\n2 2 0\n3 0 1 2\n3 2 1 0\n",
-        MeshRefusal::TooFewPoints(3),
+        "too few points (3)",
     ),
     (
         "no faces",
         b"OFF\n8 0 0\n0 0 0\n2 0 0\n2 2 0\n0 2 0\n0 0 2\n2 0 2\n2 2 2\n0 2 2\n\n",
-        MeshRefusal::TooFewPoints(0),
+        "too few points (0)",
     ),
     (
         "a face on a line",
         b"OFF\n9 7 0\n0 0 0\n2 0 0\n2 2 0\n0 2 0\n0 0 2\n2 0 2\n2 2 2\n0 2 2\n1 0 0\n3 0 8 1\n4 0 3 2 1\n4 4 5 6 7\n\
         4 0 1 5 4\n4 1 2 6 5\n4 2 3 7 6\n4 3 0 4 7\n",
-        MeshRefusal::BadFace(0),
+        "bad face 0",
     ),
     (
         "a face with corners off its plane",
         b"OFF\n8 7 0\n0 0 0\n2 0 0\n2 2 0\n0 2 0\n0 0 2\n2 0 2\n2 2 2\n0 2 2\n4 0 1 2 6\n4 0 3 2 1\n4 4 5 6 7\n\
         4 0 1 5 4\n4 1 2 6 5\n4 2 3 7 6\n4 3 0 4 7\n",
-        MeshRefusal::BadFace(0),
+        "bad face 0",
     ),
     (
         "65 points",
@@ -129,7 +149,7 @@ const REFUSED: [(&str, &[u8], MeshRefusal); 14] = [
         52 0 0\n53 0 0\n54 0 0\n55 0 0\n56 0 0\n57 0 0\n58 0 0\n59 0 0\n60 0 0\n61 0 0\n62 0 0\n63 0 0\n64 0 0\n\
         65 0 1 2 3 4 5 6 7 8 9 10 11 12 13 14 15 16 17 18 19 20 21 22 23 24 25 26 27 28 29 30 31 32 33 34 35 36 37 38 \
         39 40 41 42 43 44 45 46 47 48 49 50 51 52 53 54 55 56 57 58 59 60 61 62 63 64\n",
-        MeshRefusal::TooManyPoints(65),
+        "too many points (65)",
     ),
     (
         "64 points, on a line",
@@ -140,77 +160,26 @@ const REFUSED: [(&str, &[u8], MeshRefusal); 14] = [
         52 0 0\n53 0 0\n54 0 0\n55 0 0\n56 0 0\n57 0 0\n58 0 0\n59 0 0\n60 0 0\n61 0 0\n62 0 0\n63 0 0\n\
         64 0 1 2 3 4 5 6 7 8 9 10 11 12 13 14 15 16 17 18 19 20 21 22 23 24 25 26 27 28 29 30 31 32 33 34 35 36 37 38 \
         39 40 41 42 43 44 45 46 47 48 49 50 51 52 53 54 55 56 57 58 59 60 61 62 63\n",
-        MeshRefusal::Flat,
+        "all points in one plane",
     ),
 ];
 
-const LARGE: &[u8] =
-    b"OFF\n8 6 0\n-262144 -262144 -262144\n262144 -262144 -262144\n262144 262144 -262144\n-262144 262144 -262144\n\
-    -262144 -262144 262144\n262144 -262144 262144\n262144 262144 262144\n-262144 262144 262144\n4 0 3 2 1\n4 4 5 6 7\n\
-    4 0 1 5 4\n4 1 2 6 5\n4 2 3 7 6\n4 3 0 4 7\n";
-
-// The points of the piece of a file, or the refusal of its mesh.
-fn points_of(alloc: Global, text: &[u8]) -> Result<Result<Vec<V3>, MeshRefusal>, Fail> {
+// The points of the piece of a file, or the rule that fails.
+fn told(alloc: Global, text: &[u8]) -> Result<String, Fail> {
     let raw = read_off(alloc, text, 0)?;
     match make_piece(alloc, &raw) {
-        Ok(piece) => Ok(Ok(piece.points().to_vec(alloc)?)),
-        Err(refusal) => Ok(Err(refusal)),
+        Ok(piece) => Ok(vectors(alloc, piece.points())?),
+        Err(refusal) => Ok(format!(in alloc; "{refusal}")?),
     }
-}
-
-fn corner(x: i128, y: i128, z: i128) -> V3 {
-    V3 { x, y, z }
-}
-
-// The corners of the cube with these least and greatest coordinates, ascending.
-fn corners(low: i128, high: i128) -> [V3; 8] {
-    [
-        corner(low, low, low),
-        corner(low, low, high),
-        corner(low, high, low),
-        corner(low, high, high),
-        corner(high, low, low),
-        corner(high, low, high),
-        corner(high, high, low),
-        corner(high, high, high),
-    ]
 }
 
 #[test]
-fn cubes_are_one_piece(rt: HostRuntime) -> Result<(), Fail> {
-    for (what, text) in CUBES {
-        let points = points_of(rt.alloc(), text)??;
-        assert!(rt; points.as_slice() == corners(0, 2).as_slice(), "{what}");
+fn a_mesh_bounds_a_piece_or_breaks_a_rule(rt: HostRuntime) -> Result<(), Fail> {
+    for (what, text, want) in MESHES {
+        same_text(&rt, told(rt.alloc(), text)?.as_str(), want, what);
     }
-    let large = points_of(rt.alloc(), LARGE)??;
-    assert!(rt; large.as_slice() == corners(-262144, 262144).as_slice());
-    Ok(())
-}
-
-#[test]
-fn the_first_rule_that_fails_is_the_answer(rt: HostRuntime) -> Result<(), Fail> {
-    for (what, text, want) in REFUSED {
-        match points_of(rt.alloc(), text)? {
-            Ok(_) => assert!(rt; false, "{what} is taken"),
-            Err(refusal) => assert_eq!(rt; refusal, want, "{what}"),
-        }
-    }
-    Ok(())
-}
-
-#[test]
-fn refusals_are_told(rt: HostRuntime) -> Result<(), Fail> {
-    let table = [
-        (MeshRefusal::TooFewPoints(3), "too few points (3)"),
-        (MeshRefusal::TooManyPoints(65), "too many points (65)"),
-        (MeshRefusal::Flat, "all points in one plane"),
-        (MeshRefusal::BadFace(1), "bad face 1"),
-        (MeshRefusal::NotConvex(1), "not convex at face 1"),
-        (MeshRefusal::OpenEdge(1, 2), "open edge at face 1 corner 2"),
-        (MeshRefusal::OutOfMemory, "out of memory"),
-    ];
-    for (refusal, want) in table {
-        assert_eq!(rt; format!(in rt.alloc(); "{refusal}")?.as_str(), want);
-    }
+    let refusal = MeshRefusal::OutOfMemory;
+    let text = format!(in rt.alloc(); "{refusal}")?;
+    same_text(&rt, text.as_str(), "out of memory", "want of memory");
     Ok(())
 }

@@ -2,7 +2,7 @@ use Rattle.std.proofs.Common.{◌≡◌, ap, subst, sym}
 use Rattle.staat_model.specs.Plans.{Plan, leaf, plan_of, split}
 use Rattle.staat_text.specs.PlanTexts.{HasLeaves}
 use Rattle.staat_text.proofs.PlanSteps.{two_leaves}
-use Rattle.staat_text.proofs.tests.step_apart.Goals as goal
+use Rattle.staat_bytes_tests.proofs.texts.step_apart.Goals as goal
 
 pub returns : goal.returns
 returns c =

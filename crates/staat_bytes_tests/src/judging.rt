@@ -1,7 +1,10 @@
 // What `check` says of certificates that come in small pieces.
 
-use crate::held::NEVER;
-use crate::tests::said;
+use crate::comparing::{same_count, same_text};
+use crate::replies::said;
+use crate::shelves::NEVER;
+use std::alloc::{AllocError, Global};
+use std::process::Abort;
 use std::test::Fail;
 
 // Parted by empty lines: the words, the status with the line that is said, and the certificate.
@@ -416,43 +419,54 @@ dir 0 1 0 1
 dir 1 0 0 2
 end";
 
+// The reply of this status and this line: on err for a fault, and on out for all else.
+fn reply_of(alloc: Global, status: &str, line: &str) -> Result<String, AllocError> {
+    if line.starts_with("staat: ") {
+        format!(in alloc; "{status}||{line}\n")
+    } else {
+        format!(in alloc; "{status}|{line}\n|")
+    }
+}
+
+// A case, with the certificate in pieces of several sizes.
+fn compare_case(rt: &impl Abort, alloc: Global, case: &str) -> Result<(), Fail> {
+    let (line, rest) = case.split_once('\n').ok_or("words")?;
+    let (reply, rows) = rest.split_once('\n').ok_or("a reply")?;
+    let (status, told) = reply.split_once(' ').ok_or("a status")?;
+    let want = reply_of(alloc, status, told)?;
+    let text = format!(in alloc; "{rows}\n")?;
+    for chunk in [1, 7, 1000] {
+        let got = said(alloc, line, text.as_str(), chunk, NEVER)?;
+        same_text(rt, got.as_str(), want.as_str(), case);
+    }
+    Ok(())
+}
+
 #[test]
 fn a_certificate_is_judged_in_whatever_pieces_it_comes(rt: HostRuntime) -> Result<(), Fail> {
     let alloc = rt.alloc();
-    let mut count = 0u64;
+    let mut count = 0usize;
     for case in CASES.split("\n\n") {
-        let (line, rest) = case.split_once('\n').unwrap_or((case, ""));
-        let (reply, rows) = rest.split_once('\n').unwrap_or((rest, ""));
-        let (status, told) = reply.split_once(' ').unwrap_or((reply, ""));
-        let want = if told.starts_with("staat: ") {
-            format!(in alloc; "{status}||{told}\n")?
-        } else {
-            format!(in alloc; "{status}|{told}\n|")?
-        };
-        let text = format!(in alloc; "{rows}\n")?;
-        for chunk in [1, 7, 1000] {
-            let got = said(alloc, line, text.as_str(), chunk, NEVER)?;
-            assert_eq!(rt;
-                got.as_str(),
-                want.as_str(),
-                "at {line} in pieces of {chunk}: {rows}"
-            );
-        }
+        compare_case(&rt, alloc, case)?;
         count = count.saturating_add(1);
     }
-    assert_eq!(rt; count, 21);
+    same_count(&rt, count, 21, "cases");
     Ok(())
 }
+
+const BAD_LINE: &str =
+    "STAAT 1\nparts 2\nplan\nsplit 0  0 1\nsep 0 0 1 0 1 0 0\nleaf 0\nleaf 1\nend\n";
 
 // In pieces of 16 bytes each of the two files of parts takes ten calls, and three reads give the bad line whole.
 #[test]
 fn a_fault_of_a_later_read_comes_before_a_bad_line(rt: HostRuntime) -> Result<(), Fail> {
-    let alloc = rt.alloc();
-    let text = "STAAT 1\nparts 2\nplan\nsplit 0  0 1\nsep 0 0 1 0 1 0 0\nleaf 0\nleaf 1\nend\n";
     let line = "check c a.off b.off";
-    let cut = said(alloc, line, text, 16, 24)?;
-    assert_eq!(rt; cut.as_str(), "5||staat: cannot read c\n");
-    let whole = said(alloc, line, text, 16, NEVER)?;
-    assert_eq!(rt; whole.as_str(), "3||staat: c: bad line 4\n");
+    for (call, want) in [
+        (24, "5||staat: cannot read c\n"),
+        (NEVER, "3||staat: c: bad line 4\n"),
+    ] {
+        let got = said(rt.alloc(), line, BAD_LINE, 16, call)?;
+        same_text(&rt, got.as_str(), want, line);
+    }
     Ok(())
 }
