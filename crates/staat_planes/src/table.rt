@@ -132,7 +132,7 @@ fn reversed_at(facets: &[V3], m: usize) -> V3
 
 impl PlaneTable {
     /// The facets of two pieces of different parts of the set, of which that of the lesser part comes first.
-    pub(crate) fn kept_facets(&self, arc: Arc) -> &[V3]
+    pub fn kept_facets(&self, arc: Arc) -> &[V3]
         requires across { IsTableArc self.now arc }
         requires order { arc.a < arc.b }
         ensures is { result.now ≡ facets_of self.now arc }

@@ -1,0 +1,64 @@
+-- Which piece of a pair meets the other, and the graph of the pairs.
+use Rattle.std.proofs.Common.{◌≡◌, ◌↔◌, ◌⊎◌, ⊎_elim, inl, inr, ℕ, sym, subst, map, List, All, Contains}
+use Rattle.std.proofs.lemmas.List.Elements.{All-contains, Contains-append_cases, Contains-append_left, Contains-append_right}
+use Rattle.staat_vec.specs.declared.vector.V3.{V3}
+use Rattle.staat_vec.specs.Vectors.{negative}
+use Rattle.staat_model.specs.declared.assembly.Part.{Part}
+use Rattle.staat_model.specs.declared.certificate.Arc.{Arc}
+use Rattle.staat_model.specs.Facets.{IsFacet}
+use Rattle.staat_model.specs.Meeting.{Meets}
+use Rattle.staat_model.specs.Pieces.{IsPiece}
+use Rattle.staat_model.specs.Removal.{MeetsAlong}
+use Rattle.staat_model.proofs.Differences.{from_map, in_map}
+use Rattle.staat_model.proofs.GraphLemmas.{piece_in}
+use Rattle.staat_model.proofs.Members.{All-from_members}
+use Rattle.staat_model.proofs.Reversed.{meets_opposite_lemma}
+use Rattle.staat_graph.specs.Graphs.{HasArc}
+use Rattle.staat_pairs.specs.Tables.{back}
+use Rattle.staat_core.specs.Cores.{AreLeading, GoesOn, LeadsAlong}
+use Rattle.staat_core.specs.Sources.{AreFacetsOf, both_ways}
+use Rattle.staat_core.proofs.Growing.{stays_in}
+
+module _ (parts : List Part) (pair : Arc) (facets : List V3) where
+  -- what blocks by the facets of the pair meets
+  pub meets_ahead : (d : V3) → AreFacetsOf parts pair facets → ((p q : List V3) → IsPiece p → IsPiece q → ((n : V3) → Contains facets n ↔ IsFacet p q n) → Meets p q d) → MeetsAlong parts d pair
+  meets_ahead d are meets =
+      let h = are.holds in record {
+        p = h.p;
+        q = h.q;
+        p_is = h.p_is;
+        q_is = h.q_is;
+        holds = meets h.p h.q (piece_in parts pair.a pair.i h.p are.parts_are h.p_is) (piece_in parts pair.b pair.j h.q are.parts_are h.q_is) (λ n. (h.holds.each n, h.holds.all n));
+      }
+
+  pub meets_behind : (d e : V3) → e ≡ negative d → AreFacetsOf parts pair facets → ((p q : List V3) → IsPiece p → IsPiece q → ((n : V3) → Contains facets n ↔ IsFacet p q n) → Meets p q e) → MeetsAlong parts d (back pair)
+  meets_behind d e opposite are meets =
+      let m = meets_ahead e are meets in
+      record { p = m.q; q = m.p; p_is = m.q_is; q_is = m.p_is; holds = (meets_opposite_lemma m.p m.q d).0 (subst (Meets m.p m.q) opposite m.holds) }
+
+-- ---- the pairs in both orders
+
+pub first_way : (pairs : List Arc) (pair : Arc) → Contains pairs pair → Contains (both_ways pairs) pair
+first_way pairs pair c = Contains-append_left pairs (map back pairs) pair c
+
+pub second_way : (pairs : List Arc) (pair : Arc) → Contains pairs pair → Contains (both_ways pairs) (back pair)
+second_way pairs pair c = Contains-append_right pairs (map back pairs) (back pair) (in_map back pairs pair c)
+
+-- more pairs, in both orders
+pub ways_among : (xs ys : List Arc) (arc : Arc) → All (Contains ys) xs → Contains (both_ways xs) arc → Contains (both_ways ys) arc
+ways_among xs ys arc all c = elim (Contains-append_cases xs (map back xs) arc c) [
+  | inl h ↦ first_way ys arc (All-contains (Contains ys) xs arc all h)
+  | inr h ↦ let x = from_map back xs arc h in subst (Contains (both_ways ys)) (sym x.2) (second_way ys x.0 (All-contains (Contains ys) xs x.0 all x.1))
+]
+
+pub ways_kept : (xs ys : List Arc) (arc : Arc) → GoesOn xs ys → Contains (both_ways xs) arc → Contains (both_ways ys) arc
+ways_kept xs ys arc g = ways_among xs ys arc (All-from_members (Contains ys) xs (λ x h. stays_in xs ys x g h))
+
+pub leading_kept : (parts : List Part) (xs ys : List Arc) (d : V3) (rows : List ℕ) → GoesOn xs ys → AreLeading parts xs d rows → AreLeading parts ys d rows
+leading_kept parts xs ys d rows g leads a b h = let l = leads a b h in record { arc = l.arc; listed = ways_kept xs ys l.arc g l.listed; from = l.from; to = l.to; meets = l.meets }
+
+-- one more arc in the graph
+pub leads_more : (parts : List Part) (pairs : List Arc) (d : V3) (arc : Arc) (old new : List ℕ) → Contains (both_ways pairs) arc → MeetsAlong parts d arc
+    → ((x y : ℕ) → HasArc new x y → HasArc old x y ⊎ ((x ≡ arc.a) × (y ≡ arc.b))) → AreLeading parts pairs d old → AreLeading parts pairs d new
+leads_more parts pairs d arc old new listed meets more leads x y h =
+    ⊎_elim {C = LeadsAlong parts pairs d x y} (λ before. leads x y before) (λ same. record { arc = arc; listed = listed; from = sym same.0; to = sym same.1; meets = meets }) (more x y h)

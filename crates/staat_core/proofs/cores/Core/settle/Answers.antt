@@ -1,0 +1,33 @@
+use Rattle.std.proofs.Common.{◌≡◌, true, sym, subst, Contains}
+use Rattle.std.proofs.lemmas.List.Elements.{All-contains}
+use Rattle.staat_core.specs.Cores.{core_pairs}
+use Rattle.staat_core.specs.Sources.{IsSmallPair}
+use Rattle.staat_core.proofs.Growing.{grows_further, grows_not}
+use Rattle.staat_core.proofs.Holding.{held_by_arcs}
+use Rattle.staat_core.proofs.Leading.{leading_kept}
+use Rattle.staat_core.proofs.cores.Core.settle.Goals as goal
+
+pub loop-k-init : goal.loop-k-init
+loop-k-init g c = record { core = c.requires.core; grows = grows_not c.args.self.now; reversed = c.joins_at-joins.ensures.reversed; leads = c.joins_at-joins.ensures.leads }
+
+pub returns-in_default-clause-held : goal.returns-in_default-clause-held
+returns-in_default-clause-held g c told parts speaks =
+    held_by_arcs parts (core_pairs c.loop-k.self) c.args.moving c.args.w c.args.d c.loop-k.joins.ahead.rows (c.loop-k.invariant.leads parts speaks) c.in_default.ensures
+
+pub returns-then-not-take-clause-grows : goal.returns-then-not-take-clause-grows
+returns-then-not-take-clause-grows g c = grows_further c.args.self.now c.loop-k.self c.take.new.self c.loop-k.invariant.grows c.take.ensures.grows
+
+pub with_pair-joins-requires-clause-small : goal.with_pair-joins-requires-clause-small
+with_pair-joins-requires-clause-small g c =
+    All-contains IsSmallPair c.pairs-pairs.result.now c.in-Some-wanted.pair c.pairs-pairs.ensures.small (subst (λ xs. Contains xs c.in-Some-wanted.pair) (sym c.pairs-pairs.ensures.is) c.in-Some-wanted.ensures)
+
+pub loop-k-preserved : goal.loop-k-preserved
+loop-k-preserved g c =
+    let told : c.take.result ≡ true = (let e = c.if-not-take.false in cc) in record {
+      core = c.take.ensures.core;
+      grows = grows_further c.args.self.now c.loop-k.self c.take.new.self c.loop-k.invariant.grows c.take.ensures.grows;
+      reversed = c.with_pair-joins.ensures.reversed;
+      leads = λ parts speaks.
+          c.with_pair-joins.ensures.leads parts (core_pairs c.take.new.self) c.args.d (c.heading_of.ensures parts speaks) (c.take.ensures.listed told)
+          (leading_kept parts (core_pairs c.loop-k.self) (core_pairs c.take.new.self) c.args.d c.loop-k.joins.ahead.rows c.take.ensures.grows.pairs (c.loop-k.invariant.leads parts speaks));
+    }

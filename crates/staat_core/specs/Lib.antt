@@ -1,0 +1,5 @@
+pub mod Sources
+pub mod Moves
+pub mod Cores
+pub mod Listed
+pub mod TableCores

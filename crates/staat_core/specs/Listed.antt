@@ -1,0 +1,19 @@
+-- Pairs of pieces of a table.
+use Rattle.std.specs.Prelude.{◌≡◌, ◌<◌, ◌≤◌, List, length, take}
+use Rattle.staat_model.specs.declared.certificate.Arc.{Arc}
+use Rattle.staat_pairs.specs.Tables.{IsTableArc, Table}
+use Rattle.staat_core.specs.declared.listed.PairList.{PairList}
+
+-- a pair of the table, the piece of the lesser part first
+pub record IsTablePair (t : Table) (pair : Arc) : Type 0 where
+  pub across : IsTableArc t pair
+  pub order : pair.a < pair.b
+
+-- the pairs that are in use
+abbrev pub listed : PairList → List Arc
+listed l = take l.count l.pairs
+
+-- the array has its room
+pub record HasListRoom (l : PairList) : Type 0 where
+  pub long : length l.pairs ≡ 2016
+  pub few : l.count ≤ 2016

@@ -1,0 +1,12 @@
+-- Cores of pairs of a table.
+use Rattle.std.specs.Prelude.{All}
+use Rattle.staat_pairs.specs.Tables.{Table, WasMadeFrom}
+use Rattle.staat_core.specs.declared.table_core.TableCore.{TableCore}
+use Rattle.staat_core.specs.Cores.{IsCore}
+use Rattle.staat_core.specs.Listed.{HasListRoom, IsTablePair, listed}
+
+-- the pairs are those of the table, and the core is one of them
+pub record IsTableCore (t : Table) (k : TableCore) : Type 0 where
+  pub room : HasListRoom k.list
+  pub pairs : All (IsTablePair t) (listed k.list)
+  pub core : IsCore (listed k.list) (λ parts. WasMadeFrom parts t) k.core

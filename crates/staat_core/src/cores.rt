@@ -1,0 +1,188 @@
+// A core: pairs of pieces, and the planes of their facets.
+ghost use Rattle.std.specs.Prelude.{◌≡◌, ◌+◌, ◌<◌, ◌≤◌, ◌∷◌, [], ◌++◌, All, Contains, IfSome, IsTrue, MatchOption};
+ghost use Rattle.std.specs.Prelude.{false, length};
+ghost use Rattle.staat_vec.specs.Vectors.{IsWithin};
+ghost use Rattle.staat_core.specs.Cores.{GoesOn, HasCanons, HasRoom, IsEmptyCore, core_pairs, core_planes, plane_at};
+ghost use Rattle.staat_core.specs.Sources.{IsNormal};
+
+use staat_model::Arc;
+use staat_vec::{NORMAL, ORIGIN, V3, canon, is_same};
+
+/// How many pairs a core has at most: one for each two of 64 pieces.
+const MOST_PAIRS: u32 = 2016;
+
+/// How many planes a core has at most.
+const MOST_CORE_PLANES: u32 = 1024;
+
+/// Pairs of pieces, and the planes of their facets behind the coordinate planes.
+///
+/// Where two of these planes cross, the pairs that block there are often enough to hold a set of parts together. Then
+/// they do so along each direction. A core grows by the pairs that are wanting, and only grows. Its room is its own,
+/// so that it takes no memory.
+#[derive(Drop)]
+pub struct Core {
+    pairs: [Arc; 2016],
+    count: u32,
+    planes: [V3; 1024],
+    used: u32,
+}
+
+impl Core {
+    /// A core without pairs.
+    pub fn none() -> Core
+        ensures { IsEmptyCore result }
+    {
+        let nowhere = Arc {
+            a: 0,
+            i: 0,
+            b: 0,
+            j: 0,
+        };
+        let mut planes = [ORIGIN; 1024];
+        planes[0] = V3 { x: 1, y: 0, z: 0 };
+        planes[1] = V3 { x: 0, y: 1, z: 0 };
+        planes[2] = V3 { x: 0, y: 0, z: 1 };
+        Core {
+            pairs: [nowhere; 2016],
+            count: 0,
+            planes,
+            used: 3,
+        }
+    }
+
+    /// The pairs.
+    pub(crate) fn pairs(&self) -> &[Arc]
+        requires { HasRoom self.now }
+        ensures { result.now ≡ core_pairs self.now }
+    {
+        &self.pairs[..self.count as usize]
+    }
+
+    /// The plane `k`, if there are so many.
+    pub(crate) fn plane(&self, k: u32) -> Option<V3>
+        requires { HasRoom self.now }
+        ensures is { MatchOption result (length (core_planes self.now) ≤ k)
+            (λ n. (k < length (core_planes self.now)) × (n ≡ plane_at self.now k)) }
+        ensures size { IfSome result (IsWithin NORMAL) }
+    {
+        let planes = &self.planes[..self.used as usize];
+        if (k as usize) < planes.len() {
+            Some(planes[k as usize])
+        } else {
+            None
+        }
+    }
+
+    // whether the plane is in use
+    fn has_plane(&self, n: V3) -> bool
+        requires { HasRoom self.now }
+        ensures { IsTrue result → Contains (core_planes self.now) n }
+    {
+        for m in &self.planes[..self.used as usize] {
+            if is_same(*m, n) {
+                return true;
+            }
+        }
+        false
+    }
+
+    /// How many planes of facets are wanting, up to a limit.
+    pub(crate) fn wanting(&self, facets: &[V3], limit: u32) -> u32
+        requires room { HasRoom self.now }
+        requires facets { All IsNormal facets.now }
+    {
+        let mut wanting = 0;
+        for n in facets {
+            if wanting >= limit {
+                return limit;
+            }
+            if !self.has_plane(canon(*n)) {
+                wanting += 1;
+            }
+        }
+        wanting
+    }
+
+    // puts a plane behind those in use
+    fn push_plane(&mut self, n: V3)
+        requires room { length self.old.planes ≡ 1024 }
+        requires few { self.old.used < MOST_CORE_PLANES }
+        ensures room { length self.new.planes ≡ 1024 }
+        ensures used { self.new.used ≡ self.old.used + 1 }
+        ensures planes { core_planes self.new ≡ core_planes self.old ++ n ∷ [] }
+        ensures pairs { self.new.pairs ≡ self.old.pairs }
+        ensures count { self.new.count ≡ self.old.count }
+    {
+        self.planes[self.used as usize] = n;
+        self.used += 1;
+    }
+
+    // sees to it that the plane is in use; false where there is no room
+    fn put_plane(&mut self, n: V3) -> bool
+        requires room { HasRoom self.old }
+        requires within { IsWithin NORMAL n }
+        ensures room { HasRoom self.new }
+        ensures planes { GoesOn (core_planes self.old) (core_planes self.new) }
+        ensures pairs { core_pairs self.new ≡ core_pairs self.old }
+        ensures put { IsTrue result → Contains (core_planes self.new) n }
+    {
+        if self.has_plane(n) {
+            return true;
+        }
+        if self.used >= MOST_CORE_PLANES {
+            return false;
+        }
+        self.push_plane(n);
+        true
+    }
+
+    // so for the planes of facets
+    fn put_facets(&mut self, facets: &[V3]) -> bool
+        requires room { HasRoom self.old }
+        requires facets { All IsNormal facets.now }
+        ensures room { HasRoom self.new }
+        ensures planes { GoesOn (core_planes self.old) (core_planes self.new) }
+        ensures pairs { core_pairs self.new ≡ core_pairs self.old }
+        ensures put { IsTrue result → HasCanons (core_planes self.new) facets.now }
+    {
+        for n in facets {
+            if !self.put_plane(canon(*n)) {
+                return false;
+            }
+        }
+        true
+    }
+
+    // puts a pair behind those in use; false where there is no room
+    fn push_pair(&mut self, pair: Arc) -> bool
+        requires { HasRoom self.old }
+        ensures room { HasRoom self.new }
+        ensures planes { core_planes self.new ≡ core_planes self.old }
+        ensures pushed { IsTrue result → core_pairs self.new ≡ core_pairs self.old ++ pair ∷ [] }
+        ensures same { result ≡ false → core_pairs self.new ≡ core_pairs self.old }
+    {
+        if self.count >= MOST_PAIRS {
+            return false;
+        }
+        self.pairs[self.count as usize] = pair;
+        self.count += 1;
+        true
+    }
+
+    /// Adds a pair with the planes of its facets; false where there is no room, and then some of the planes may be
+    /// added.
+    pub(crate) fn add(&mut self, pair: Arc, facets: &[V3]) -> bool
+        requires room { HasRoom self.old }
+        requires facets { All IsNormal facets.now }
+        ensures room { HasRoom self.new }
+        ensures planes { GoesOn (core_planes self.old) (core_planes self.new) }
+        ensures put { IsTrue result → HasCanons (core_planes self.new) facets.now }
+        ensures pushed { IsTrue result → core_pairs self.new ≡ core_pairs self.old ++ pair ∷ [] }
+        ensures same { result ≡ false → core_pairs self.new ≡ core_pairs self.old }
+    {
+        if !self.put_facets(facets) {
+            return false;
+        }
+        self.push_pair(pair)
+    }
+}

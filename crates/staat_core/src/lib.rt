@@ -1,0 +1,20 @@
+//! Cores: a few pairs of pieces by which a set of parts is seen to be held together.
+#![tactic(auto)]
+
+mod cores;
+mod decide;
+mod grow;
+mod heading;
+mod joins;
+mod listed;
+mod source;
+mod table_core;
+mod table_pairs;
+
+pub use cores::Core;
+pub use decide::Answer;
+pub use joins::Moving;
+pub use listed::PairList;
+pub use source::PairSource;
+pub use table_core::TableCore;
+pub use table_pairs::TablePairs;

@@ -1,0 +1,98 @@
+// A core of pairs of a table.
+ghost use Rattle.std.specs.Prelude.{◌≡◌, ◌≢◌, List, All, IsTrue, pos};
+ghost use Rattle.staat_vec.specs.declared.vector.V3.{V3 as Vector};
+ghost use Rattle.staat_vec.specs.Vectors.{IsWithin, dot, origin};
+ghost use Rattle.staat_model.specs.declared.assembly.Part.{Part as PartValue};
+ghost use Rattle.staat_model.specs.Sets.{IsNonempty, IsSubset};
+ghost use Rattle.staat_pairs.specs.Tables.{WasMadeFrom};
+ghost use Rattle.staat_core.specs.Listed.{HasListRoom, IsTablePair, listed};
+ghost use Rattle.staat_core.specs.Moves.{HoldsMoves};
+ghost use Rattle.staat_core.specs.Sources.{both_ways};
+ghost use Rattle.staat_core.specs.TableCores.{IsTableCore};
+
+use crate::cores::Core;
+use crate::decide::Answer;
+use crate::joins::Moving;
+use crate::listed::PairList;
+use crate::table_pairs::TablePairs;
+use staat_model::PartSet;
+use staat_planes::PlaneTable;
+use staat_vec::{NORMAL, ORIGIN, V3, is_same};
+
+/// Pairs of a table, and a core that grows by them. It takes no memory.
+#[derive(Drop)]
+pub struct TableCore {
+    list: PairList,
+    core: Core,
+}
+
+impl TableCore {
+    /// A core that may grow by these pairs of the table.
+    pub fn new(table: &PlaneTable, list: PairList) -> TableCore
+        requires room { HasListRoom list }
+        requires pairs { All (IsTablePair table.now) (listed list) }
+        ensures core { IsTableCore table.now result }
+        ensures list { result.list ≡ list }
+    {
+        TableCore {
+            list,
+            core: Core::none(),
+        }
+    }
+
+    /// A core that may grow by all pairs of pieces of different parts of `w`, which lies in the table's set.
+    pub fn of(table: &PlaneTable, w: PartSet) -> TableCore
+        requires { IsSubset w table.now.of }
+        ensures { IsTableCore table.now result }
+    {
+        TableCore::new(table, PairList::of(table, w))
+    }
+
+    /// Whether the pairs are seen to hold `w` along each direction on the plane with the normal `g`, so that nothing
+    /// moves. Where it answers no, nothing is known.
+    ///
+    /// `w` is not empty, and the components of `g` are at most [`NORMAL`] in absolute value.
+    pub fn holds_on(&mut self, table: &PlaneTable, w: PartSet, moving: Moving, g: V3) -> bool
+        requires core { IsTableCore table.now self.old }
+        requires some { IsNonempty w }
+        requires g { IsWithin NORMAL g }
+        ensures core { IsTableCore table.now self.new }
+        ensures list { self.new.list ≡ self.old.list }
+        ensures held { IsTrue result → (parts : List PartValue) (d : Vector) → WasMadeFrom parts table.now
+            → dot g d ≡ pos 0 → d ≢ origin → HoldsMoves parts (both_ways (listed self.old.list)) moving w d }
+    {
+        if is_same(g, ORIGIN) {
+            return false;
+        }
+        let source = TablePairs {
+            table,
+            pairs: self.list.pairs(),
+        };
+        match self.core.holds_on(&source, w, moving, g) {
+            Answer::Held => true,
+            Answer::Open(_) => false,
+        }
+    }
+
+    /// Whether the pairs are seen to hold `w` along each direction, so that nothing moves. Where it answers no, nothing
+    /// is known.
+    ///
+    /// `w` is not empty.
+    pub fn holds(&mut self, table: &PlaneTable, w: PartSet, moving: Moving) -> bool
+        requires core { IsTableCore table.now self.old }
+        requires some { IsNonempty w }
+        ensures core { IsTableCore table.now self.new }
+        ensures list { self.new.list ≡ self.old.list }
+        ensures held { IsTrue result → (parts : List PartValue) (d : Vector) → WasMadeFrom parts table.now
+            → d ≢ origin → HoldsMoves parts (both_ways (listed self.old.list)) moving w d }
+    {
+        let source = TablePairs {
+            table,
+            pairs: self.list.pairs(),
+        };
+        match self.core.holds(&source, w, moving) {
+            Answer::Held => true,
+            Answer::Open(_) => false,
+        }
+    }
+}
