@@ -7,6 +7,7 @@ use Rattle.std.proofs.lemmas.List.Elements.{All-append, All-cons, All-contains, 
 use Rattle.staat_vec.specs.declared.vector.V3.{V3}
 use Rattle.staat_vec.specs.Lists.{IsFirst}
 use Rattle.staat_vec.specs.Vectors.{negative}
+use Rattle.staat_model.proofs.Members.{All-from_members}
 use Rattle.staat_vec.proofs.Unique.{Contains-front, Contains-later}
 use Rattle.staat_planes.specs.declared.search.Served.{Served}
 use Rattle.staat_planes.specs.VertexSearch.{ArePassed, AreSearched, IsFirstServed}
@@ -14,11 +15,6 @@ use Rattle.staat_planes.specs.VertexSearch.{ArePassed, AreSearched, IsFirstServe
 -- what is left behind a pair, or less, is less than what was left at it
 pub shorter : (left later less : List V3) (d : V3) → left ≡ d ∷ negative d ∷ later → length less ≤ length later → length less < length left
 shorter left later less d e le = let long = ap length e in omega (arith, long, le)
-
--- what a clause says of no value holds where there is none
-pub nothing_there : {X P : Type 0} (Q : X → Type 0) (r : Option X) (none : Bool) → is_some r ≡ not none → IsTrue none → MatchOption r P Q → P
-nothing_there Q None none e told h = h
-nothing_there Q (Some x) none e told h = absurd (true≢false (e ∙ ap not told))
 
 module _ (serves : V3 → Type 0) where
   abbrev Not : V3 → Type 0
@@ -53,6 +49,9 @@ module _ (serves : V3 → Type 0) where
   pub passed_both : (vs mid left : List V3) → ArePassed serves vs mid → ArePassed serves mid left → ArePassed serves vs left
   passed_both vs mid left p q = row_passed vs mid left q.before p q.is q.none
 
+  pub none_serve : (vs : List V3) → ((v : V3) → serves v → ⊥) → All Not vs
+  none_serve vs none = All-from_members Not vs (λ v c. none v)
+
   pub none_passed : (vs : List V3) → ArePassed serves vs vs
   none_passed vs = record { before = []; is = refl; none = All-nil Not }
 
@@ -68,6 +67,14 @@ module _ (serves : V3 → Type 0) where
     pub first_of : (vs left later : List V3) (d : V3) (s : Served F) → ArePassed serves vs left → left ≡ d ∷ negative d ∷ later → IsFirstServed serves finds (d ∷ negative d ∷ []) s → IsFirstServed serves finds vs s
     first_of vs left later d s p e h = record {
       first = subst (λ l. IsFirst serves l s.d) (sym p.is) (first_behind p.before left s.d (λ v c. All-contains Not p.before v p.none c) (subst (λ l. IsFirst serves l s.d) (sym e) (first_before (d ∷ negative d ∷ []) later s.d h.first)));
+      found_is = h.found_is;
+    }
+
+    -- a search that goes on where another one ended
+    pub searched_behind : (vs left : List V3) (r : Option (Served F)) → ArePassed serves vs left → AreSearched serves finds left r → AreSearched serves finds vs r
+    searched_behind vs left None p none = subst (All Not) (sym p.is) (All-append Not p.before left p.none none)
+    searched_behind vs left (Some s) p h = record {
+      first = subst (λ l. IsFirst serves l s.d) (sym p.is) (first_behind p.before left s.d (λ v c. All-contains Not p.before v p.none c) h.first);
       found_is = h.found_is;
     }
 

@@ -88,7 +88,19 @@ pub trait Trial {
         ensures knows { (parts : List PartValue) → knows self.old parts → knows self.new parts }
         ensures none { IsTrue result → (parts : List PartValue) (d : Vector) → WasMadeFrom parts table.now
             → knows self.old parts → dot g d ≡ pos 0 → d ≢ origin → serves parts w d → ⊥ };
+
+    /// Whether it is seen that no direction at all serves. Where it answers no, nothing is known.
+    fn rules_out_all(&mut self, table: &PlaneTable, w: PartSet) -> bool
+        requires fits { fits self.old table.now w }
+        requires within { IsSubset w table.now.of }
+        ensures fits { fits self.new table.now w }
+        ensures knows { (parts : List PartValue) → knows self.old parts → knows self.new parts }
+        ensures none { IsTrue result → (parts : List PartValue) (d : Vector) → WasMadeFrom parts table.now
+            → knows self.old parts → serves parts w d → ⊥ };
 }
+
+/// How many pairs of planes are tried one by one before it is asked whether no direction serves.
+const FEW_PAIRS: u32 = 24;
 
 // Passes over the rows of pairs whose plane has no direction that serves, from a row that begins at the place. On a row
 // that is not passed over nothing changes.
@@ -111,21 +123,6 @@ fn pass_rows<T: Trial>(pairs: &mut PlanePairs, table: &PlaneTable, w: PartSet, t
         }
         pairs.end_row(table);
     }
-}
-
-/// Whether the trial rules out the planes of all vertices of `w`, so that no direction serves at all.
-pub fn all_ruled_out<T: Trial>(table: &PlaneTable, w: PartSet, trial: &mut T) -> bool
-    requires fits { T.fits trial.old table.now w }
-    requires within { IsSubset w table.now.of }
-    ensures fits { T.fits trial.new table.now w }
-    ensures knows { (parts : List PartValue) → T.knows trial.old parts → T.knows trial.new parts }
-    ensures none { IsTrue result → (parts : List PartValue) (planes : List Vector) → WasMadeFrom parts table.now
-        → T.knows trial.old parts → ArePlanes parts w planes
-        → All (λ v. T.serves parts w v → ⊥) (vertices planes) }
-{
-    let mut pairs = PlanePairs::of(table, w);
-    pass_rows(&mut pairs, table, w, trial);
-    pairs.next_crossing(table).is_none()
 }
 
 // what a trial finds at a direction or at its opposite
@@ -211,6 +208,28 @@ pub fn first_few<T: Trial>(
     Search::Undecided
 }
 
+// the same, where it is asked first whether no direction serves
+fn first_late<T: Trial>(
+    pairs: &mut PlanePairs,
+    table: &PlaneTable,
+    w: PartSet,
+    trial: &mut T,
+) -> Option<Served<T::Found>>
+    requires place { IsPlaceIn table.now.planes pairs.old }
+    requires fits { T.fits trial.old table.now w }
+    requires within { IsSubset w table.now.of }
+    ensures fits { T.fits trial.new table.now w }
+    ensures knows { (parts : List PartValue) → T.knows trial.old parts → T.knows trial.new parts }
+    ensures among { IfSome result (IsServedAmong (T.among w)) }
+    ensures first { (parts : List PartValue) → WasMadeFrom parts table.now → T.knows trial.old parts
+        → AreSearched (T.serves parts w) (T.finds parts w) (vertices_left table.now.planes pairs.old) result }
+{
+    if trial.rules_out_all(table, w) {
+        return None;
+    }
+    first_left(pairs, table, w, trial)
+}
+
 /// The first of the vertices of the planes of `w`, in pair order, that serves, and what is found there. None exactly
 /// where none of them serves.
 ///
@@ -231,5 +250,9 @@ pub fn first_vertex<T: Trial>(
         → AreSearched (T.serves parts w) (T.finds parts w) (vertices planes) result }
 {
     let mut pairs = PlanePairs::of(table, w);
-    first_left(&mut pairs, table, w, trial)
+    match first_few(&mut pairs, table, w, trial, FEW_PAIRS) {
+        Search::First(served) => Some(served),
+        Search::Nothing => None,
+        Search::Undecided => first_late(&mut pairs, table, w, trial),
+    }
 }
