@@ -5,3 +5,4 @@ pub mod ByFacets
 pub mod Marks
 pub mod Holding
 pub mod Beginning
+pub mod Tightness

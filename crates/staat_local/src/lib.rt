@@ -7,6 +7,7 @@ mod pieces;
 mod side;
 mod step;
 mod texts;
+mod tight;
 mod touching;
 
 pub use graph::local_graph;

@@ -7,28 +7,32 @@ ghost use Rattle.staat_model.specs.Sets.{IsSide};
 ghost use Rattle.staat_pairs.specs.Tables.{WasMadeFrom};
 ghost use Rattle.staat_local.specs.Beginnings.{IsBeginning, IsTight, Loosens};
 ghost use Rattle.staat_local.specs.Contacts.{Starts};
+ghost use Rattle.staat_local.specs.Tightness.{IsMarkedCore};
 ghost use Rattle.staat_local.specs.Touching.{AreMarks};
 
 use crate::graph::graph_of;
 use crate::side::Loose;
+use crate::tight::marked_core;
 use crate::touching::{Marks, touching};
+use staat_core::{Moving, TableCore};
 use staat_graph::{is_strong, sink_of};
 use staat_model::{PartSet, Sound};
 use staat_planes::{PlaneTable, Trial, Tried, first_vertex};
 use staat_vec::{DIRECTION, V3};
 
-// The contacts of the parts of a table.
+// The contacts of the parts of a table, and a core of them.
 #[derive(Drop)]
 struct Contacts<'a> {
     table: &'a PlaneTable,
     marks: Marks,
+    core: TableCore,
 }
 
 impl<'a> Trial for Contacts<'a> {
     type Found = PartSet;
 
     // it is asked about all parts of its own table
-    ghost fits = { λ self t w. (self.table.now ≡ t) × (w ≡ t.of) };
+    ghost fits = { λ self t w. (self.table.now ≡ t) × (w ≡ t.of) × IsMarkedCore t self.marks self.core };
 
     ghost knows = { λ self parts. AreMarks parts self.table.now self.marks };
 
@@ -50,9 +54,16 @@ impl<'a> Trial for Contacts<'a> {
         }
     }
 
-    // what touches blocks along too little of a circle for that
-    fn rules_out(&mut self, _table: &PlaneTable, _w: PartSet, _g: V3) -> bool {
-        false
+    fn rules_out(&mut self, table: &PlaneTable, w: PartSet, g: V3) -> bool {
+        // the set is not empty
+        let _set = table.set();
+        self.core.holds_on(table, w, Moving::AnySide, g)
+    }
+
+    fn rules_out_all(&mut self, table: &PlaneTable, w: PartSet) -> bool {
+        // the set is not empty
+        let _set = table.set();
+        self.core.holds(table, w, Moving::AnySide)
     }
 }
 
@@ -69,10 +80,9 @@ pub fn local_step(table: &PlaneTable, sound: &Sound) -> Option<Loose>
     ensures beginning { IfSome result (IsBeginning sound.now table.now.of) }
     ensures tight { (result ≡ None) ↔ IsTight sound.now table.now.of }
 {
-    let mut contacts = Contacts {
-        table,
-        marks: touching(table, sound),
-    };
+    let marks = touching(table, sound);
+    let core = marked_core(&marks, table);
+    let mut contacts = Contacts { table, marks, core };
     match first_vertex(table, table.set(), &mut contacts) {
         Some(served) => Some(Loose {
             side: served.found,

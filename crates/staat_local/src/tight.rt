@@ -1,0 +1,45 @@
+// The pairs of pieces that touch, as a core may have them.
+ghost use Rattle.std.specs.Prelude.{◌≡◌, All};
+ghost use Rattle.staat_core.specs.Listed.{HasListRoom, IsTablePair, listed};
+ghost use Rattle.staat_local.specs.Tightness.{IsMarkedCore, IsMarkedPair};
+
+use crate::touching::Marks;
+use staat_core::{PairList, TableCore};
+use staat_model::Arc;
+use staat_planes::PlaneTable;
+
+// puts a pair into the list, if it is marked
+fn put_marked(list: &mut PairList, marks: &Marks, table: &PlaneTable, pair: Arc)
+    requires room { HasListRoom list.old }
+    requires marked { All (IsMarkedPair table.now marks.now) (listed list.old) }
+    requires pair { IsTablePair table.now pair }
+    ensures room { HasListRoom list.new }
+    ensures marked { All (IsMarkedPair table.now marks.now) (listed list.new) }
+{
+    if !marks[table.slot(pair) as usize] {
+        return;
+    }
+    list.put(pair)
+}
+
+// the marked pairs of these
+fn marked_pairs(marks: &Marks, table: &PlaneTable, pairs: &[Arc]) -> PairList
+    requires { All (IsTablePair table.now) pairs.now }
+    ensures room { HasListRoom result }
+    ensures marked { All (IsMarkedPair table.now marks.now) (listed result) }
+{
+    let mut list = PairList::none();
+    for pair in pairs {
+        put_marked(&mut list, marks, table, *pair);
+    }
+    list
+}
+
+/// A core that may grow by all marked pairs of the table.
+pub(crate) fn marked_core(marks: &Marks, table: &PlaneTable) -> TableCore
+    ensures { IsMarkedCore table.now marks.now result }
+{
+    let set = table.set();
+    let all = PairList::of(table, set);
+    TableCore::new(table, marked_pairs(marks, table, all.pairs()))
+}
