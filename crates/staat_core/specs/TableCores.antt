@@ -1,6 +1,7 @@
 -- Cores of pairs of a table.
-use Rattle.std.specs.Prelude.{All}
+use Rattle.std.specs.Prelude.{All, IfSome}
 use Rattle.staat_pairs.specs.Tables.{Table, WasMadeFrom}
+use Rattle.staat_core.specs.declared.set_core.SetCore.{SetCore}
 use Rattle.staat_core.specs.declared.table_core.TableCore.{TableCore}
 use Rattle.staat_core.specs.Cores.{IsCore}
 use Rattle.staat_core.specs.Listed.{HasListRoom, IsTablePair, listed}
@@ -10,3 +11,7 @@ pub record IsTableCore (t : Table) (k : TableCore) : Type 0 where
   pub room : HasListRoom k.list
   pub pairs : All (IsTablePair t) (listed k.list)
   pub core : IsCore (listed k.list) (λ parts. WasMadeFrom parts t) k.core
+
+-- so where it is made already
+abbrev pub IsSetCore : Table → SetCore → Type 0
+IsSetCore t k = IfSome k.core (IsTableCore t)

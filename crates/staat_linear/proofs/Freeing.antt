@@ -1,85 +1,66 @@
--- A part is free of the others of a set along a direction exactly where nothing holds it.
-use Rattle.std.proofs.Common.{◌≡◌, ◌≢◌, ◌⊎◌, ⊎_elim, ℕ, ◌<◌, ◌≤◌, arith, sym, subst, ap, ◌∙◌, List, pos}
+-- A part is free of the others of a set along a direction exactly where no arc of the blocking graph leads from it to one of them.
+use Rattle.std.proofs.Common.{◌≡◌, ◌≢◌, ◌⊎◌, ⊎_elim, ℕ, ◌<◌, ◌≤◌, arith, sym, subst, ap, ◌∙◌, List, refl, inl}
 use Rattle.staat_vec.specs.declared.vector.V3.{V3}
-use Rattle.staat_vec.specs.Vectors.{dot, negative, origin}
+use Rattle.staat_vec.specs.Vectors.{negative, origin}
 use Rattle.staat_model.specs.declared.assembly.Part.{Part}
-use Rattle.staat_model.specs.declared.certificate.Arc.{Arc}
 use Rattle.staat_model.specs.declared.set.PartSet.{PartSet}
-use Rattle.staat_model.specs.Removal.{MeetsAlong}
-use Rattle.staat_model.specs.Sets.{Has, IsSubset, single}
+use Rattle.staat_model.specs.Sets.{Has, single}
+use Rattle.staat_model.proofs.GraphLemmas.{opposite_blocks_lemma}
 use Rattle.staat_model.proofs.SetMembers.{has-difference, has-single}
 use Rattle.staat_vec.proofs.Canons.{negative-negative}
-use Rattle.staat_pairs.specs.Tables.{Table, WasMadeFrom}
-use Rattle.staat_planes.specs.declared.search.Tried.{Tried}
-use Rattle.staat_planes.specs.declared.search.Tried.TheVariants.{Neither, Ahead, Opposite}
-use Rattle.staat_planes.specs.VertexSearch.{IsTried, IsTriedAmong}
-use Rattle.staat_planes.proofs.GraphLaw.{ahead_is_blocking}
-use Rattle.staat_planes.specs.Holding.{IsHeld}
-use Rattle.staat_linear.specs.Holding.{AreHeld, AreHeldOnCircle, IsLeastFree, IsLeastLeaving, IsSeen}
+use Rattle.staat_graph.specs.Blocking.{ShowsBlocking}
+use Rattle.staat_graph.specs.Graphs.{AreReversed, HasArc}
+use Rattle.staat_core.specs.declared.joins.Moving.TheVariants.{OnePart}
+use Rattle.staat_core.specs.Moves.{NothingMoves}
+use Rattle.staat_linear.specs.Holding.{AreHeld, IsHeld, IsLeastFree, IsLeastLeaving}
 use Rattle.staat_linear.specs.Orders.{LeavesAlong, LetsLeave}
 use Rattle.staat_linear.proofs.Locked.{has-without}
 
-negative_some : (d : V3) → d ≢ origin → negative d ≢ origin
+pub negative_some : (d : V3) → d ≢ origin → negative d ≢ origin
 negative_some d some e = some (sym (negative-negative d) ∙ ap negative e)
 
 order : (p q : ℕ) → (p ≤ q) ⊎ (q < p)
 order p q = grind arith
 
-module _ (t : Table) (w : PartSet) (parts : List Part) (made : WasMadeFrom parts t) (within : IsSubset w t.of) where
+-- the reversed graph is that of the opposite direction
+pub shows_back : (parts : List Part) (w : PartSet) (d : V3) (rows back : List ℕ) → ShowsBlocking parts d w rows → AreReversed rows back → ShowsBlocking parts (negative d) w back
+shows_back parts w d rows back shows reversed a b a_in b_in =
+    let law = opposite_blocks_lemma parts d a b in
+    let s = shows b a b_in a_in in
+    (λ h. law.1 (s.0 ((reversed a b).0 h)), λ h. (reversed a b).1 (s.1 (law.0 h)))
+
+module _ (parts : List Part) (w : PartSet) (d : V3) (rows : List ℕ) (shows : ShowsBlocking parts d w rows) where
   -- what is held does not leave
-  pub held_stays : (d : V3) (p : ℕ) → IsHeld t w d p → LeavesAlong parts w d p → ⊥
-  held_stays d p held leaves =
-      let arc : Arc = held.0 in
-      let h = held.1 in
-      let block = ((ahead_is_blocking parts t d arc.a arc.b made).0 (record { i = arc.i; j = arc.j; across = h.ahead.across; ahead = h.ahead.ahead })).blocks in
-      leaves.free.clear (record { a = arc.a; i = block.i; b = arc.b; j = block.j })
-      ((has-single p arc.a).1 h.from)
-      (has-without w p arc.b h.to (λ e. block.different (h.from ∙ sym e)))
-      block.meets
+  pub held_stays : (p : ℕ) → IsHeld rows w p → LeavesAlong parts w d p → ⊥
+  held_stays p (q, q_in, apart, arc) leaves =
+      let block = (shows p q leaves.member q_in).0 arc in
+      leaves.free.clear (record { a = p; i = block.i; b = q; j = block.j }) ((has-single p p).1 refl) (has-without w p q q_in apart) block.meets
 
   -- what nothing holds leaves
-  pub free_leaves : (d : V3) (p : ℕ) → d ≢ origin → Has w p → (IsHeld t w d p → ⊥) → LeavesAlong parts w d p
-  free_leaves d p some has free = record {
+  pub free_leaves : (p : ℕ) → d ≢ origin → Has w p → (IsHeld rows w p → ⊥) → LeavesAlong parts w d p
+  free_leaves p some has free = record {
     member = has;
     free = record {
       moves = some;
-      clear = λ arc from to meets. free (held arc ((has-single p arc.a).0 from) ((has-difference w (single p) arc.b).0 to) meets);
+      clear = λ arc from to meets.
+          let at : arc.a ≡ p = (has-single p arc.a).0 from in
+          let out = (has-difference w (single p) arc.b).0 to in
+          let apart : arc.b ≢ p = λ e. out.1 ((has-single p arc.b).1 e) in
+          let has_a : Has w arc.a = subst (Has w) (sym at) has in
+          let arc_in = (shows arc.a arc.b has_a out.0).1 (record { i = arc.i; j = arc.j; different = λ e. apart (sym e ∙ at); meets = meets }) in
+          free (arc.b, out.0, apart, subst (λ k. HasArc rows k arc.b) at arc_in);
     };
   }
-    where
-      held : (arc : Arc) → arc.a ≡ p → Has w arc.b × (Has (single p) arc.b → ⊥) → MeetsAlong parts d arc → IsHeld t w d p
-      held arc from to meets =
-          let ahead = (ahead_is_blocking parts t d arc.a arc.b made).1 (record {
-            a_in = within arc.a (subst (Has w) (sym from) has);
-            b_in = within arc.b to.0;
-            blocks = record { i = arc.i; j = arc.j; different = λ e. to.1 ((has-single p arc.b).1 (sym e ∙ from)); meets = meets };
-          }) in (
-            record { a = arc.a; i = ahead.i; b = arc.b; j = ahead.j },
-            record { from = from; to = to.0; ahead = record { across = ahead.across; ahead = ahead.ahead } },
-          )
 
-  none_leaves : (d : V3) → AreHeld t w d → LetsLeave parts w d → ⊥
-  none_leaves d held (p, leaves) = held_stays d p (held p leaves.member) leaves
+  pub none_leaves : AreHeld rows w → LetsLeave parts w d → ⊥
+  none_leaves held (p, leaves) = held_stays p (held p leaves.member) leaves
 
-  -- where each part is held on a circle, none leaves
-  pub none_leaves_on : (g d : V3) → AreHeldOnCircle t w g → dot g d ≡ pos 0 → d ≢ origin → LetsLeave parts w d → ⊥
-  none_leaves_on g d held on some = none_leaves d (λ p has. held p has d on some)
-
-  least_leaves : (d : V3) (p : ℕ) → d ≢ origin → IsLeastFree t w d p → IsLeastLeaving parts w d p
-  least_leaves d p some h = record {
-    leaves = free_leaves d p some h.member h.free;
-    least = λ q leaves. ⊎_elim {C = p ≤ q} (λ le. le) (λ lt. absurd (held_stays d q (h.before q leaves.member lt) leaves)) (order p q);
+  pub least_leaves : (p : ℕ) → d ≢ origin → IsLeastFree rows w p → IsLeastLeaving parts w d p
+  least_leaves p some h = record {
+    leaves = free_leaves p some h.member h.free;
+    least = λ q leaves. ⊎_elim {C = p ≤ q} (λ le. le) (λ lt. absurd (held_stays q (h.before q leaves.member lt) leaves)) (order p q);
   }
 
-  -- what is seen is what a trial finds
-  pub seen_is_tried : (d : V3) (found : Tried ℕ) → d ≢ origin → IsSeen t w d found → IsTried (LetsLeave parts w) (IsLeastLeaving parts w) d found
-  seen_is_tried d Neither some seen = (none_leaves d seen.0, none_leaves (negative d) seen.1)
-  seen_is_tried d (Ahead p) some seen = let least = least_leaves d p some seen in ((p, least.leaves), least)
-  seen_is_tried d (Opposite p) some seen =
-      let least = least_leaves (negative d) p (negative_some d some) seen.1 in
-      (none_leaves d seen.0, (p, least.leaves), least)
-
-pub seen_among : (t : Table) (w : PartSet) (d : V3) (found : Tried ℕ) → IsSeen t w d found → IsTriedAmong (Has w) found
-seen_among t w d Neither seen = tt
-seen_among t w d (Ahead p) seen = seen.member
-seen_among t w d (Opposite p) seen = seen.1.member
+-- where nothing moves by itself, no part leaves
+pub nothing_leaves : (parts : List Part) (w : PartSet) (d : V3) → NothingMoves parts OnePart w d → LetsLeave parts w d → ⊥
+nothing_leaves parts w d none (p, leaves) = none (single p) (p, leaves.member, inl refl) leaves.free

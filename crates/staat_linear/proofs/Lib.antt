@@ -1,6 +1,6 @@
 pub mod Locked
 pub mod Lines
-pub mod Searching
+pub mod Others
 pub mod Freeing
 pub mod Choosing
 pub mod OneOrder

@@ -2,9 +2,7 @@
 #![tactic(auto)]
 
 mod chosen;
-mod holders;
 pub mod laws;
-mod lone_holders;
 mod order;
 mod step;
 mod text;

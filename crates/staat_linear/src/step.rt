@@ -1,64 +1,60 @@
 // The step of a set of parts: the part that is taken away next, and its direction.
-ghost use Rattle.std.specs.Prelude.{◌≡◌, ◌≢◌, ◌≤◌, ◌↔◌, List, IfSome, MatchOption, None};
+ghost use Rattle.std.specs.Prelude.{◌≡◌, ◌<◌, ◌≤◌, ◌↔◌, List, IfSome, IsTrue, MatchOption, None};
 ghost use Rattle.std.specs.FinSet as set;
-ghost use Rattle.staat_vec.specs.Vectors.{IsWithin, negative, origin};
+ghost use Rattle.staat_vec.specs.Vectors.{IsWithin};
 ghost use Rattle.staat_model.specs.declared.assembly.Part.{Part as PartValue};
 ghost use Rattle.staat_model.specs.Sets.{Has, IsSubset};
 ghost use Rattle.staat_pairs.specs.Tables.{WasMadeFrom};
-ghost use Rattle.staat_linear.specs.Holding.{AreHeld, AreOutward, IsLeastFree, IsSeen};
+ghost use Rattle.staat_linear.specs.Holding.{AreHeld, IsHeld, IsLeastFree};
 ghost use Rattle.staat_linear.specs.Orders.{HasNoLeave, IsLeave, IsLocked};
 
-use crate::holders::{Holders, Sight};
-use crate::lone_holders::LoneHolders;
 use crate::order::Leave;
+use staat_core::{Moving, SetCore};
+use staat_graph::Graph;
+use staat_limits::MOST_PARTS;
 use staat_model::PartSet;
 use staat_planes::{PlaneTable, Trial, Tried, first_vertex};
-use staat_vec::{DIRECTION, V3, neg};
+use staat_vec::{DIRECTION, V3};
 
-// The search for a part that leaves. For each part it keeps what held it along directions before, and what held it
-// along their opposites, since a part is mostly held by one of few; and what held it by itself on a whole circle.
-#[derive(Drop)]
-struct Taking {
-    ahead: Holders,
-    back: Holders,
-    alone: LoneHolders,
+// whether an arc leads from the part p of w to another part of w
+fn is_held(graph: &Graph, w: PartSet, p: u32) -> bool
+    requires { p < MOST_PARTS }
+    ensures { IsTrue result ↔ IsHeld graph.now.rows w p }
+{
+    let others = w.without(PartSet::single(p));
+    graph.arcs_from(p).meets(others)
 }
 
-impl Taking {
-    // looks at a direction and, if all parts are held, at its opposite
-    fn look(&mut self, table: &PlaneTable, w: PartSet, d: V3) -> Tried<u32>
-        requires ahead { AreOutward table.now w self.old.ahead.arcs }
-        requires back { AreOutward table.now w self.old.back.arcs }
-        requires within { IsSubset w table.now.of }
-        requires direction { IsWithin DIRECTION d }
-        ensures ahead { AreOutward table.now w self.new.ahead.arcs }
-        ensures back { AreOutward table.now w self.new.back.arcs }
-        ensures alone { self.new.alone ≡ self.old.alone }
-        ensures seen { IsSeen table.now w d result }
-    {
-        let holding = match self.ahead.sight(table, w, w, d) {
-            Sight::Free(p) => return Tried::Ahead(p),
-            Sight::Held(holding) => holding,
-        };
-        // what holds another part along d is held by it along the opposite
-        match self.back.sight(table, w, w.without(holding), neg(d)) {
-            Sight::Free(p) => Tried::Opposite(p),
-            Sight::Held(_) => Tried::Neither,
+// the least part of w from which none does
+fn least_free(graph: &Graph, w: PartSet) -> Option<u32>
+    ensures { MatchOption result (AreHeld graph.now.rows w) (IsLeastFree graph.now.rows w) }
+{
+    // all members are below the number of bits
+    let _bits = w.bits();
+    for p in 0..MOST_PARTS {
+        if w.has(p) && !is_held(graph, w, p) {
+            return Some(p);
         }
     }
+    None
+}
+
+// The search for a part that leaves. It keeps a core by which all parts are held.
+#[derive(Drop)]
+struct Taking {
+    core: SetCore,
 }
 
 impl Trial for Taking {
-    ghost use Rattle.std.specs.Prelude.{◌≡◌, ⊤, length};
-    ghost use Rattle.staat_limits.specs.declared.limits.TheConstants.{MOST_PARTS};
-    ghost use Rattle.staat_model.specs.Sets.{Has};
-    ghost use Rattle.staat_linear.specs.Holding.{AreOutward, IsLeastLeaving};
+    ghost use Rattle.std.specs.Prelude.{⊤};
+    ghost use Rattle.staat_model.specs.Sets.{Has, IsNonempty};
+    ghost use Rattle.staat_core.specs.TableCores.{IsSetCore};
+    ghost use Rattle.staat_linear.specs.Holding.{IsLeastLeaving};
     ghost use Rattle.staat_linear.specs.Orders.{LetsLeave};
 
     type Found = u32;
 
-    ghost fits = { λ s t w. AreOutward t w s.ahead.arcs × AreOutward t w s.back.arcs
-        × (length s.alone.parts ≡ MOST_PARTS) };
+    ghost fits = { λ s t w. IsNonempty w × IsSetCore t s.core };
 
     ghost knows = { λ s parts. ⊤ };
 
@@ -68,13 +64,24 @@ impl Trial for Taking {
 
     ghost among = { λ w p. Has w p };
 
+    // along the opposite direction the arcs are turned round
     fn ask(&mut self, table: &PlaneTable, w: PartSet, d: V3) -> Tried<u32> {
-        self.look(table, w, d)
+        let graph = table.graph_in(w, d);
+        if let Some(p) = least_free(&graph, w) {
+            return Tried::Ahead(p);
+        }
+        match least_free(&graph.reversed(), w) {
+            Some(p) => Tried::Opposite(p),
+            None => Tried::Neither,
+        }
     }
 
-    // no direction lets a part leave where each is held
     fn rules_out(&mut self, table: &PlaneTable, w: PartSet, g: V3) -> bool {
-        self.alone.hold_all(table, w, g)
+        self.core.holds_on(table, w, Moving::OnePart, g)
+    }
+
+    fn rules_out_all(&mut self, table: &PlaneTable, w: PartSet) -> bool {
+        self.core.holds(table, w, Moving::OnePart)
     }
 }
 
@@ -94,9 +101,7 @@ pub fn linear_step(table: &PlaneTable, w: PartSet) -> Option<Leave>
         → (result ≡ None) ↔ IsLocked parts w }
 {
     let mut taking = Taking {
-        ahead: Holders::new(),
-        back: Holders::new(),
-        alone: LoneHolders::new(),
+        core: SetCore::none(),
     };
     match first_vertex(table, w, &mut taking) {
         None => None,

@@ -5,7 +5,7 @@ use Rattle.staat_linear.specs.declared.order.Leave.{Leave}
 use Rattle.staat_linear.specs.declared.order.Order.TheVariants.{Whole}
 use Rattle.staat_linear.specs.Orders.{IsChosen, all_but}
 use Rattle.staat_linear.proofs.Choosing.{ComesDown, alone_is, down_to_last, down_to_locked, fewer, inside, one_more}
-use Rattle.staat_linear.proofs.Searching.{some_other}
+use Rattle.staat_linear.proofs.Others.{some_other}
 use Rattle.staat_linear.proofs.chosen.order_of.Goals as goal
 
 pub returns-in_default : goal.returns-in_default

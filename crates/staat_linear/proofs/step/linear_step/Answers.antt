@@ -1,6 +1,7 @@
 use Rattle.std.proofs.Common.{refl}
 use Rattle.staat_model.proofs.SomePlanes.{some_planes}
 use Rattle.staat_linear.proofs.Choosing.{leave_unlocks, locked_at_vertices, served_is_leave}
+use Rattle.staat_linear.proofs.Others.{two_some}
 use Rattle.staat_linear.proofs.step.linear_step.Goals as goal
 
 pub returns-in-None-clause-step : goal.returns-in-None-clause-step
@@ -24,4 +25,4 @@ returns-in-Some-clause-locked c parts made =
     (λ none. absurd cc, λ locked. absurd (leave_unlocks parts c.args.w _ (served_is_leave parts c.args.w some.0 c.in-Some.served some.1 (c.in-Some.ensures.first parts some.0 made tt some.1)) locked))
 
 pub first_vertex-requires-clause-fits : goal.first_vertex-requires-clause-fits
-first_vertex-requires-clause-fits c = (c.new.ensures c.args.table.now c.args.w, c.new-2.ensures c.args.table.now c.args.w, c.new-3.ensures)
+first_vertex-requires-clause-fits c = (two_some c.args.w c.requires.two, c.none.ensures c.args.table.now)

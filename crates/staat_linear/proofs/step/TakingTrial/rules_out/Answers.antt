@@ -1,5 +1,5 @@
-use Rattle.staat_linear.proofs.Freeing.{none_leaves_on}
+use Rattle.staat_linear.proofs.Freeing.{nothing_leaves}
 use Rattle.staat_linear.proofs.step.TakingTrial.rules_out.Goals as goal
 
 pub returns-clause-none : goal.returns-clause-none
-returns-clause-none c none parts d made known on some = none_leaves_on c.args.table.now c.args.w parts made c.requires.within c.args.g d (c.hold_all.ensures.held none) on some
+returns-clause-none c told parts d made known on some = nothing_leaves parts c.args.w d (c.holds_on.ensures.held told parts d made on some)
