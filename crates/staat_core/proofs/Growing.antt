@@ -61,7 +61,7 @@ planes_kept parts xs ys pairs g = All-weaker (HasPlanesOf parts xs) (HasPlanesOf
 pub axes_kept : (xs ys : List V3) → GoesOn xs ys → AreAmong axes xs → AreAmong axes ys
 axes_kept xs ys g = All-weaker (Contains xs) (Contains ys) (λ n c. stays_in xs ys n g c) axes
 
-pub plane_pushed : (k m : Core) (n : V3) → HasRoom k → IsWithin NORMAL n → k.used < 1024 → length m.planes ≡ 1024 → m.used ≡ k.used + 1 → core_planes m ≡ core_planes k ++ n ∷ [] → m.pairs ≡ k.pairs → m.count ≡ k.count → HasRoom m
+pub plane_pushed : (k m : Core) (n : V3) → HasRoom k → IsWithin NORMAL n → k.used < 96 → length m.planes ≡ 96 → m.used ≡ k.used + 1 → core_planes m ≡ core_planes k ++ n ∷ [] → m.pairs ≡ k.pairs → m.count ≡ k.count → HasRoom m
 plane_pushed k m n is within few room used e pairs count = record {
   long = ap length pairs ∙ is.long;
   few = subst (λ c. c ≤ 2016) (sym count) is.few;
@@ -80,7 +80,7 @@ axes_within =
     (All-cons (IsWithin NORMAL) (vector (pos 0) (pos 1) (pos 0)) (vector (pos 0) (pos 0) (pos 1) ∷ []) (record { x = lit≤ tt; y = lit≤ tt; z = lit≤ tt })
     (All-cons (IsWithin NORMAL) (vector (pos 0) (pos 0) (pos 1)) [] (record { x = lit≤ tt; y = lit≤ tt; z = lit≤ tt }) (All-nil (IsWithin NORMAL))))
 
-pub axes_room : (k : Core) → length k.pairs ≡ 2016 → k.count ≡ 0 → length k.planes ≡ 1024 → k.used ≡ 3 → core_planes k ≡ axes → HasRoom k
+pub axes_room : (k : Core) → length k.pairs ≡ 2016 → k.count ≡ 0 → length k.planes ≡ 96 → k.used ≡ 3 → core_planes k ≡ axes → HasRoom k
 axes_room k long none room used e = record {
   long = long;
   few = omega (arith, none);

@@ -4,3 +4,4 @@ pub mod Leading
 pub mod Holding
 pub mod Listing
 pub mod TableHolding
+pub mod Bonding

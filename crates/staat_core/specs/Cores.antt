@@ -37,8 +37,8 @@ AreAmong planes list = All (Contains list) planes
 pub record HasRoom (k : Core) : Type 0 where
   pub long : length k.pairs ≡ 2016
   pub few : k.count ≤ 2016
-  pub room : length k.planes ≡ 1024
-  pub most : k.used ≤ 1024
+  pub room : length k.planes ≡ 96
+  pub most : k.used ≤ 96
   pub each : All (IsWithin NORMAL) (core_planes k)
   pub axes : AreAmong axes (core_planes k)
 

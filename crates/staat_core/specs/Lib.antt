@@ -3,3 +3,4 @@ pub mod Moves
 pub mod Cores
 pub mod Listed
 pub mod TableCores
+pub mod Bonds

@@ -12,7 +12,7 @@ use staat_vec::{NORMAL, ORIGIN, V3, canon, is_same};
 const MOST_PAIRS: u32 = 2016;
 
 /// How many planes a core has at most.
-const MOST_CORE_PLANES: u32 = 1024;
+const MOST_CORE_PLANES: u32 = 96;
 
 /// Pairs of pieces, and the planes of their facets behind the coordinate planes.
 ///
@@ -23,7 +23,7 @@ const MOST_CORE_PLANES: u32 = 1024;
 pub struct Core {
     pairs: [Arc; 2016],
     count: u32,
-    planes: [V3; 1024],
+    planes: [V3; 96],
     used: u32,
 }
 
@@ -38,7 +38,7 @@ impl Core {
             b: 0,
             j: 0,
         };
-        let mut planes = [ORIGIN; 1024];
+        let mut planes = [ORIGIN; 96];
         planes[0] = V3 { x: 1, y: 0, z: 0 };
         planes[1] = V3 { x: 0, y: 1, z: 0 };
         planes[2] = V3 { x: 0, y: 0, z: 1 };
@@ -105,9 +105,9 @@ impl Core {
 
     // puts a plane behind those in use
     fn push_plane(&mut self, n: V3)
-        requires room { length self.old.planes ≡ 1024 }
+        requires room { length self.old.planes ≡ 96 }
         requires few { self.old.used < MOST_CORE_PLANES }
-        ensures room { length self.new.planes ≡ 1024 }
+        ensures room { length self.new.planes ≡ 96 }
         ensures used { self.new.used ≡ self.old.used + 1 }
         ensures planes { core_planes self.new ≡ core_planes self.old ++ n ∷ [] }
         ensures pairs { self.new.pairs ≡ self.old.pairs }

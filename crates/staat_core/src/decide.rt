@@ -16,7 +16,7 @@ use staat_model::PartSet;
 use staat_vec::{NORMAL, ORIGIN, V3, cross_normal, is_same};
 
 /// How many planes are looked at, at most.
-const MOST_ROUNDS: u32 = 1024;
+const MOST_ROUNDS: u32 = 96;
 
 /// What a core says of a set of parts.
 #[derive(Clone, Copy, Debug, PartialEq, Eq)]

@@ -1,6 +1,7 @@
 //! Cores: a few pairs of pieces by which a set of parts is seen to be held together.
 #![tactic(auto)]
 
+mod bonds;
 mod cores;
 mod decide;
 mod grow;
@@ -20,3 +21,6 @@ pub use set_core::SetCore;
 pub use source::PairSource;
 pub use table_core::TableCore;
 pub use table_pairs::TablePairs;
+
+#[cfg(test)]
+mod tests;

@@ -5,11 +5,13 @@ ghost use Rattle.staat_vec.specs.Vectors.{IsWithin, dot, origin};
 ghost use Rattle.staat_model.specs.declared.assembly.Part.{Part as PartValue};
 ghost use Rattle.staat_model.specs.Sets.{IsNonempty, IsSubset};
 ghost use Rattle.staat_pairs.specs.Tables.{WasMadeFrom};
+ghost use Rattle.staat_core.specs.declared.joins.Moving.{Moving as MovingValue};
 ghost use Rattle.staat_core.specs.Listed.{HasListRoom, IsTablePair, listed};
 ghost use Rattle.staat_core.specs.Moves.{HoldsMoves};
 ghost use Rattle.staat_core.specs.Sources.{both_ways};
 ghost use Rattle.staat_core.specs.TableCores.{IsTableCore};
 
+use crate::bonds::stays_together;
 use crate::cores::Core;
 use crate::decide::Answer;
 use crate::joins::Moving;
@@ -74,6 +76,24 @@ impl TableCore {
         }
     }
 
+    // whether w has two parts, and a chain of parts that hold each other leads from the least one to each other
+    fn is_bonded(&self, table: &PlaneTable, w: PartSet) -> bool
+        requires core { IsTableCore table.now self.now }
+        requires some { IsNonempty w }
+        ensures { IsTrue result → (parts : List PartValue) (moving : MovingValue) (d : Vector)
+            → WasMadeFrom parts table.now → d ≢ origin
+            → HoldsMoves parts (both_ways (listed self.now.list)) moving w d }
+    {
+        if w.count() < 2 {
+            return false;
+        }
+        let source = TablePairs {
+            table,
+            pairs: self.list.pairs(),
+        };
+        stays_together(&source, w)
+    }
+
     /// Whether the pairs are seen to hold `w` along each direction, so that nothing moves. Where it answers no, nothing
     /// is known.
     ///
@@ -86,6 +106,9 @@ impl TableCore {
         ensures held { IsTrue result → (parts : List PartValue) (d : Vector) → WasMadeFrom parts table.now
             → d ≢ origin → HoldsMoves parts (both_ways (listed self.old.list)) moving w d }
     {
+        if self.is_bonded(table, w) {
+            return true;
+        }
         let source = TablePairs {
             table,
             pairs: self.list.pairs(),

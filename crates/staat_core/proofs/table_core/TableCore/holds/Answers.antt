@@ -25,3 +25,6 @@ pub returns-in-Held-clause-held : goal.returns-in-Held-clause-held
 returns-in-Held-clause-held c told parts d made some =
     let is = core_of c.pairs.result.now (listed c.args.self.now.list) (λ ps. WasMadeFrom ps c.args.table.now) c.holds.new.self c.pairs.ensures c.holds.ensures.core in
     all_hold parts (listed c.args.self.now.list) (λ ps. WasMadeFrom ps c.args.table.now) c.holds.new.self c.args.moving c.args.w d is (c.in-Held.ensures.held refl parts d made some)
+
+pub returns-then-is_bonded-clause-held : goal.returns-then-is_bonded-clause-held
+returns-then-is_bonded-clause-held c told parts d made some = c.is_bonded.ensures c.if-is_bonded.true parts c.args.moving d made some

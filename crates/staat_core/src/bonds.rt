@@ -1,0 +1,94 @@
+// Parts that never come apart, since each two of a chain of them hold each other.
+ghost use Rattle.std.specs.Prelude.{◌≡◌, ◌≢◌, ◌⊎◌, ◌<◌, ℕ, List, IsTrue};
+ghost use Rattle.staat_vec.specs.declared.vector.V3.{V3 as Vector};
+ghost use Rattle.staat_vec.specs.Vectors.{origin};
+ghost use Rattle.staat_model.specs.declared.assembly.Part.{Part as PartValue};
+ghost use Rattle.staat_model.specs.declared.set.PartSet.{PartSet as PartSetValue};
+ghost use Rattle.staat_model.specs.Sets.{Has, IsNonempty, IsSubset};
+ghost use Rattle.staat_core.specs.Bonds.{AreTogether};
+ghost use Rattle.staat_core.specs.Sources.{both_ways};
+
+use crate::cores::Core;
+use crate::decide::Answer;
+use crate::joins::Moving;
+use crate::source::PairSource;
+use staat_limits::MOST_PARTS;
+use staat_model::PartSet;
+
+// whether the parts p and q are seen to hold each other along all directions
+fn is_bond<S: PairSource>(source: &S, p: u32, q: u32) -> bool
+    requires p { p < MOST_PARTS }
+    requires q { q < MOST_PARTS }
+    ensures { IsTrue result → (parts : List PartValue) (w : PartSetValue) (d : Vector)
+        → S.speaks source.now parts → d ≢ origin → Has w p → Has w q
+        → AreTogether parts (both_ways (S.pairs source.now)) w d p q }
+{
+    let both = PartSet::single(p).union(PartSet::single(q));
+    let mut core = Core::none();
+    match core.holds(source, both, Moving::AnySide) {
+        Answer::Held => true,
+        Answer::Open(_) => false,
+    }
+}
+
+// the parts that are bound, with q if it is one of some parts to which p is seen to be bound
+fn with_bond<S: PairSource>(source: &S, p: u32, q: u32, among: PartSet, bound: PartSet) -> PartSet
+    requires p { p < MOST_PARTS }
+    requires q { q < MOST_PARTS }
+    ensures within { (x : ℕ) → Has result x → Has bound x ⊎ Has among x }
+    ensures bound { (parts : List PartValue) (w : PartSetValue) (d : Vector) (x : ℕ) → S.speaks source.now parts
+        → d ≢ origin → Has w p → Has w x → Has result x
+        → Has bound x ⊎ AreTogether parts (both_ways (S.pairs source.now)) w d p x }
+{
+    if !among.has(q) {
+        return bound;
+    }
+    if !is_bond(source, p, q) {
+        return bound;
+    }
+    bound.union(PartSet::single(q))
+}
+
+// those of some parts that p is seen to be bound to
+fn bound_to<S: PairSource>(source: &S, p: u32, among: PartSet) -> PartSet
+    requires { p < MOST_PARTS }
+    ensures within { IsSubset result among }
+    ensures bound { (parts : List PartValue) (w : PartSetValue) (d : Vector) (q : ℕ) → S.speaks source.now parts
+        → d ≢ origin → Has w p → Has w q → Has result q
+        → AreTogether parts (both_ways (S.pairs source.now)) w d p q }
+{
+    let mut bound = PartSet::empty();
+    for q in 0..MOST_PARTS {
+        bound = with_bond(source, p, q, among, bound);
+    }
+    bound
+}
+
+/// Whether all parts of `w` are seen to stay together along all directions, since a chain of bonds leads from the
+/// least one to each other.
+///
+/// `w` is not empty. It takes no memory.
+pub(crate) fn stays_together<S: PairSource>(source: &S, w: PartSet) -> bool
+    requires { IsNonempty w }
+    ensures { IsTrue result → (parts : List PartValue) (d : Vector) (p q : ℕ) → S.speaks source.now parts
+        → d ≢ origin → Has w p → Has w q → AreTogether parts (both_ways (S.pairs source.now)) w d p q }
+{
+    // all members are below the number of bits
+    let _bits = w.bits();
+    let root = w.least();
+    let mut joined = PartSet::single(root);
+    let mut left = joined;
+    for _k in 0..MOST_PARTS {
+        if !left.meets(left) {
+            return w.within(joined);
+        }
+        let p = left.least();
+        let rest = w.without(joined);
+        let bound = bound_to(source, p, rest);
+        joined = joined.union(bound);
+        let more = left.union(bound);
+        let gone = PartSet::single(p);
+        left = more.without(gone);
+    }
+    w.within(joined)
+}
