@@ -76,4 +76,8 @@ impl Trial for SideTrial {
             Some(_) => true,
         }
     }
+
+    fn rules_out_all(&mut self, _table: &PlaneTable, _w: PartSet) -> bool {
+        false
+    }
 }

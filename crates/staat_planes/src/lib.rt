@@ -17,6 +17,8 @@ mod used;
 pub use build::tabulate;
 pub use pairs::PlanePairs;
 pub use refusal::PlanesRefusal;
-pub use search::{Search, Served, Trial, Tried, first_few, first_left, first_vertex};
+pub use search::{
+    Search, Served, Trial, Tried, all_ruled_out, first_few, first_left, first_vertex,
+};
 pub use steps::Steps;
 pub use table::PlaneTable;

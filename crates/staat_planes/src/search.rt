@@ -208,6 +208,21 @@ pub fn first_few<T: Trial>(
     Search::Undecided
 }
 
+/// Whether the trial rules out the planes of all vertices of `w`, so that no direction serves at all.
+pub fn all_ruled_out<T: Trial>(table: &PlaneTable, w: PartSet, trial: &mut T) -> bool
+    requires fits { T.fits trial.old table.now w }
+    requires within { IsSubset w table.now.of }
+    ensures fits { T.fits trial.new table.now w }
+    ensures knows { (parts : List PartValue) → T.knows trial.old parts → T.knows trial.new parts }
+    ensures none { IsTrue result → (parts : List PartValue) (planes : List Vector) → WasMadeFrom parts table.now
+        → T.knows trial.old parts → ArePlanes parts w planes
+        → All (λ v. T.serves parts w v → ⊥) (vertices planes) }
+{
+    let mut pairs = PlanePairs::of(table, w);
+    pass_rows(&mut pairs, table, w, trial);
+    pairs.next_crossing(table).is_none()
+}
+
 // the same, where it is asked first whether no direction serves
 fn first_late<T: Trial>(
     pairs: &mut PlanePairs,
