@@ -1,0 +1,5 @@
+pub mod SpanSteps
+pub mod Zips
+pub mod Walls
+pub mod Wholes
+pub mod Kept

@@ -1,0 +1,4 @@
+pub mod Frames
+pub mod Motions
+pub mod Shadows
+pub mod Spans
