@@ -139,14 +139,14 @@ frame_z d f h = across z_axis x_axis d f.z h.z x_nonzero (λ e. along_x d ∙ le
 -- ---- two shadows
 
 module _ (f : Frame) (d : V3) (p q : List V3) (s t : Shadow) (frame : IsFrame d f) (ps : IsShadow f p s) (qt : IsShadow f q t) where
-  on_x : IsBetween d.x s.x t.x ↔ IsWall p q d x_axis
-  on_x = between_is_wall x_axis d p q d.x s.x t.x x_nonzero (along_x d) ps.x qt.x
+  on_x : IsBetween d.x s.bounds.x t.bounds.x ↔ IsWall p q d x_axis
+  on_x = between_is_wall x_axis d p q d.x s.bounds.x t.bounds.x x_nonzero (along_x d) ps.bounds.x qt.bounds.x
 
-  on_y : IsBetween d.y s.y t.y ↔ IsWall p q d y_axis
-  on_y = between_is_wall y_axis d p q d.y s.y t.y y_nonzero (along_y d) ps.y qt.y
+  on_y : IsBetween d.y s.bounds.y t.bounds.y ↔ IsWall p q d y_axis
+  on_y = between_is_wall y_axis d p q d.y s.bounds.y t.bounds.y y_nonzero (along_y d) ps.bounds.y qt.bounds.y
 
-  on_z : IsBetween d.z s.z t.z ↔ IsWall p q d z_axis
-  on_z = between_is_wall z_axis d p q d.z s.z t.z z_nonzero (along_z d) ps.z qt.z
+  on_z : IsBetween d.z s.bounds.z t.bounds.z ↔ IsWall p q d z_axis
+  on_z = between_is_wall z_axis d p q d.z s.bounds.z t.bounds.z z_nonzero (along_z d) ps.bounds.z qt.bounds.z
 
   over_x : IsBetween (pos 0) s.across_x t.across_x ↔ IsWall p q d f.x
   over_x = let is = frame_x d f frame in between_is_wall f.x d p q (pos 0) s.across_x t.across_x is.0 is.1 ps.across_x qt.across_x

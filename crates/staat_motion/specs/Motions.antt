@@ -8,10 +8,11 @@ use Rattle.staat_model.specs.declared.assembly.Part.{Part}
 use Rattle.staat_model.specs.declared.certificate.Arc.{Arc}
 use Rattle.staat_model.specs.Assemblies.{HoldsAt, IsPart, piece_count}
 use Rattle.staat_model.specs.Facets.{IsFacet}
+use Rattle.staat_motion.specs.declared.bounds.Bounds.{Bounds}
 use Rattle.staat_motion.specs.declared.frame.Frame.{Frame}
 use Rattle.staat_motion.specs.declared.shadow.Shadow.{Shadow}
 use Rattle.staat_motion.specs.Frames.{IsFrame}
-use Rattle.staat_motion.specs.Shadows.{ArePartShadows, AreWholes, part_points}
+use Rattle.staat_motion.specs.Shadows.{ArePartBounds, ArePartShadows, AreWholes, part_points}
 
 -- a direction, the normals across it, for each part the shadows of its pieces, and that of all its points
 pub record Motion : Type 0 where
@@ -24,6 +25,11 @@ pub record Motion : Type 0 where
 pub record IsMotion (d : V3) (frame : Frame) : Type 0 where
   pub size : IsWithin DIRECTION d
   pub across : IsFrame d frame
+
+-- each part has a piece, and the boxes are those of the pieces of these parts
+pub record AreBodies (parts : List Part) (bounds : List (List Bounds)) : Type 0 where
+  pub parts_are : All IsPart parts
+  pub boxes : ArePartBounds parts bounds
 
 -- the shadows are those of these parts
 pub record WasMadeFrom (parts : List Part) (along : Motion) : Type 0 where

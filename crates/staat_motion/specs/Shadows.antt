@@ -6,6 +6,7 @@ use Rattle.staat_vec.specs.declared.vector.TheConstants.{DIRECTION}
 use Rattle.staat_vec.specs.Vectors.{IsWithin, negative}
 use Rattle.staat_model.specs.declared.assembly.Part.{Part}
 use Rattle.staat_model.specs.Walls.{IsShown}
+use Rattle.staat_motion.specs.declared.bounds.Bounds.{Bounds}
 use Rattle.staat_motion.specs.declared.frame.Frame.{Frame}
 use Rattle.staat_motion.specs.declared.shadow.Shadow.{Shadow}
 use Rattle.staat_motion.specs.declared.spans.Span.{Span}
@@ -18,11 +19,19 @@ pub record AreFrameSizes (frame : Frame) : Type 0 where
   pub y : IsWithin DIRECTION frame.y
   pub z : IsWithin DIRECTION frame.z
 
--- the spans of points along the axes and the normals of the frame
+-- the spans of points along the axes: their box
+pub record IsBounds (points : List V3) (bounds : Bounds) : Type 0 where
+  pub x : IsSpan x_axis points bounds.x
+  pub y : IsSpan y_axis points bounds.y
+  pub z : IsSpan z_axis points bounds.z
+
+-- for each part, in order, the boxes of its pieces, in order
+abbrev pub ArePartBounds : List Part → List (List Bounds) → Type 0
+ArePartBounds parts bounds = AllZip (λ part. AllZip IsBounds part.pieces) parts bounds
+
+-- the box of points, and their spans along the normals of the frame
 pub record IsShadow (frame : Frame) (points : List V3) (shadow : Shadow) : Type 0 where
-  pub x : IsSpan x_axis points shadow.x
-  pub y : IsSpan y_axis points shadow.y
-  pub z : IsSpan z_axis points shadow.z
+  pub bounds : IsBounds points shadow.bounds
   pub across_x : IsSpan frame.x points shadow.across_x
   pub across_y : IsSpan frame.y points shadow.across_y
   pub across_z : IsSpan frame.z points shadow.across_z
@@ -30,6 +39,10 @@ pub record IsShadow (frame : Frame) (points : List V3) (shadow : Shadow) : Type 
 -- for each part, in order, the shadows of its pieces, in order
 abbrev pub ArePartShadows : Frame → List Part → List (List Shadow) → Type 0
 ArePartShadows frame parts shadows = AllZip (λ part. AllZip (IsShadow frame) part.pieces) parts shadows
+
+-- of the boxes of any two lists of points the result is that of both together
+abbrev pub AreJoinedBounds : Bounds → Bounds → Bounds → Type 0
+AreJoinedBounds s t result = (ps qs : List V3) → IsBounds ps s → IsBounds qs t → IsBounds (ps ++ qs) result
 
 -- of the shadows of any two lists of points the result is that of both together
 abbrev pub IsJoinedShadow : Shadow → Shadow → Shadow → Type 0
@@ -57,7 +70,7 @@ AreWholes frame parts wholes = AllZip (λ part. IsShadow frame (part_points part
 abbrev pub IsBetween : ℤ → Span → Span → Type 0
 IsBetween along s t = ((along ≤ℤ pos 0) × (s.high ≤ℤ t.low)) ⊎ ((pos 0 ≤ℤ along) × (t.high ≤ℤ s.low))
 
-abbrev pub IsApartOnAxes : V3 → Shadow → Shadow → Type 0
+abbrev pub IsApartOnAxes : V3 → Bounds → Bounds → Type 0
 IsApartOnAxes d s t = IsBetween d.x s.x t.x ⊎ (IsBetween d.y s.y t.y ⊎ IsBetween d.z s.z t.z)
 
 abbrev pub IsApartAcross : Shadow → Shadow → Type 0
@@ -66,7 +79,7 @@ IsApartAcross s t =
     ⊎ (IsBetween (pos 0) s.across_y t.across_y ⊎ IsBetween (pos 0) s.across_z t.across_z)
 
 abbrev pub IsApart : V3 → Shadow → Shadow → Type 0
-IsApart d s t = IsApartOnAxes d s t ⊎ IsApartAcross s t
+IsApart d s t = IsApartOnAxes d s.bounds t.bounds ⊎ IsApartAcross s t
 
 -- ---- what that shows
 

@@ -1,12 +1,21 @@
 // What is kept of all pieces for one direction.
-ghost use Rattle.std.specs.Prelude.{◌≡◌, ◌<◌, ◌↔◌, List, All, IfOk, IsTrue, Some, length, slice_get};
+ghost use Rattle.std.specs.Prelude.{◌≡◌, ◌<◌, ◌↔◌, List, IfOk, IsTrue, Some, length, slice_get};
 ghost use Rattle.staat_vec.specs.Vectors.{IsWithin};
 ghost use Rattle.staat_model.specs.declared.assembly.Part.{Part as PartValue};
-ghost use Rattle.staat_model.specs.Assemblies.{HoldsAt, IsPart};
+ghost use Rattle.staat_model.specs.Assemblies.{HoldsAt};
 ghost use Rattle.staat_model.specs.Removal.{Blocks, MeetsAlong};
-ghost use Rattle.staat_motion.specs.Motions.{HasShadows, IsMotion, WasMadeFrom, points_at, shadow_at, shadow_count};
+ghost use Rattle.staat_motion.specs.Motions.{
+  AreBodies,
+  HasShadows,
+  IsMotion,
+  WasMadeFrom,
+  points_at,
+  shadow_at,
+  shadow_count,
+};
 ghost use Rattle.staat_motion.specs.Shadows.{IsSeenApart};
 
+use crate::bounds::Bodies;
 use crate::frame::{Frame, frame_of};
 use crate::shadow::{Shadow, Shadows, is_apart, part_shadows, wholes_of};
 use staat_model::{Arc, Part};
@@ -37,17 +46,23 @@ impl Model for Along {
 }
 
 impl Along {
-    /// What is kept of the pieces of these parts for the direction `d`, by six passes over their points.
+    /// What is kept of the pieces of these parts for the direction `d`, by three passes over their points. The bodies
+    /// are those of the parts.
     ///
-    /// The components of `d` are at most [`DIRECTION`] in absolute value, and each part has a piece.
-    pub fn of(alloc: Global, parts: &[Part], d: V3) -> Result<Along, OutOfMemory>
+    /// The components of `d` are at most [`DIRECTION`] in absolute value.
+    pub fn of(
+        alloc: Global,
+        parts: &[Part],
+        bodies: &Bodies,
+        d: V3,
+    ) -> Result<Along, OutOfMemory>
         requires size { IsWithin DIRECTION d }
-        requires parts { All IsPart parts.now }
+        requires bodies { AreBodies parts.now bodies.now }
         ensures direction { IfOk result (λ along. along.d ≡ d) }
         ensures made { IfOk result (WasMadeFrom parts.now) }
     {
         let frame = frame_of(d);
-        let shadows = part_shadows(alloc, &frame, parts)?;
+        let shadows = part_shadows(alloc, &frame, parts, bodies.boxes())?;
         let wholes = wholes_of(alloc, shadows.as_slice())?;
         Ok(Along {
             d,

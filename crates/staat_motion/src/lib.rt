@@ -3,6 +3,7 @@
 #![tactic(auto)]
 
 mod along;
+mod bounds;
 mod frame;
 pub mod laws;
 mod meeting;
@@ -10,6 +11,7 @@ mod shadow;
 mod spans;
 
 pub use along::Along;
+pub use bounds::{Bodies, Bounds, Boxes};
 pub use frame::Frame;
 pub use shadow::{Shadow, Shadows};
 pub use spans::Span;

@@ -1,32 +1,31 @@
 // How far pieces reach along the axes and the normals across a direction.
-ghost use Rattle.std.specs.Prelude.{◌≡◌, ◌≤◌, ◌≤ℤ◌, ◌↔◌, All, IfOk, IsTrue, length};
+ghost use Rattle.std.specs.Prelude.{◌≤◌, ◌≤ℤ◌, ◌↔◌, All, IfOk, IsTrue, length};
 ghost use Rattle.std.specs.List.{AllZip};
-ghost use Rattle.staat_vec.specs.Vectors.{IsWithin};
-ghost use Rattle.staat_model.specs.Pieces.{IsPiece};
 ghost use Rattle.staat_motion.specs.Shadows.{
   AreFrameSizes,
+  ArePartBounds,
   ArePartShadows,
   IsApart,
   IsApartAcross,
   IsApartOnAxes,
   IsBetween,
+  IsBounds,
   IsJoinedShadow,
   IsShadow,
   IsWhole,
 };
 
-use crate::frame::{Frame, X_AXIS, Y_AXIS, Z_AXIS};
+use crate::bounds::{Bounds, Boxes, joined_bounds, points_of};
+use crate::frame::Frame;
 use crate::spans::{Span, joined_span, span_of};
 use staat_model::{Part, Piece};
-use staat_vec::{Listed, OutOfMemory, POINT, V3};
+use staat_vec::{Listed, OutOfMemory, V3};
 use std::alloc::Global;
 
 /// How far a piece or a part reaches along each axis (its box), and along each normal across a direction.
 #[derive(Clone, Copy, Debug)]
 pub struct Shadow {
-    pub x: Span,
-    pub y: Span,
-    pub z: Span,
+    pub bounds: Bounds,
     pub across_x: Span,
     pub across_y: Span,
     pub across_z: Span,
@@ -35,26 +34,15 @@ pub struct Shadow {
 /// The shadows of the pieces of a part.
 pub type Shadows = Listed<Shadow>;
 
-// the points, with what is asked of them
-fn points_of(piece: &Piece) -> &[V3]
-    ensures points { result.now ≡ piece.now }
-    ensures piece { IsPiece piece.now }
-    ensures some { 1 ≤ length result.now }
-    ensures within { All (IsWithin POINT) result.now }
-{
-    piece.points()
-}
-
-// the shadow of a piece
-fn shadow_of(frame: &Frame, piece: &Piece) -> Shadow
-    requires { AreFrameSizes frame.now }
+// the shadow of a piece, of which the box is known
+fn shadow_of(frame: &Frame, piece: &Piece, bounds: &Bounds) -> Shadow
+    requires frame { AreFrameSizes frame.now }
+    requires bounds { IsBounds piece.now bounds.now }
     ensures { IsShadow frame.now piece.now result }
 {
     let points = points_of(piece);
     Shadow {
-        x: span_of(X_AXIS, points),
-        y: span_of(Y_AXIS, points),
-        z: span_of(Z_AXIS, points),
+        bounds: *bounds,
         across_x: span_of(frame.x, points),
         across_y: span_of(frame.y, points),
         across_z: span_of(frame.z, points),
@@ -62,13 +50,21 @@ fn shadow_of(frame: &Frame, piece: &Piece) -> Shadow
 }
 
 // the shadow of each piece
-fn shadows_of(alloc: Global, frame: &Frame, pieces: &[Piece]) -> Result<Shadows, OutOfMemory>
-    requires { AreFrameSizes frame.now }
+fn shadows_of(
+    alloc: Global,
+    frame: &Frame,
+    pieces: &[Piece],
+    boxes: &[Bounds],
+) -> Result<Shadows, OutOfMemory>
+    requires frame { AreFrameSizes frame.now }
+    requires boxes { AllZip IsBounds pieces.now boxes.now }
     ensures { IfOk result (λ shadows. AllZip (IsShadow frame.now) pieces.now shadows) }
 {
+    // each piece has its box
+    let _boxes = boxes.len();
     let mut shadows = Vec::new(alloc);
-    for piece in pieces {
-        shadows.push(shadow_of(frame, piece))?;
+    for j in 0..pieces.len() {
+        shadows.push(shadow_of(frame, &pieces[j], &boxes[j]))?;
     }
     Ok(Shadows::from_vec(shadows))
 }
@@ -78,13 +74,15 @@ pub fn part_shadows(
     alloc: Global,
     frame: &Frame,
     parts: &[Part],
+    boxes: &[Boxes],
 ) -> Result<Vec<Shadows>, OutOfMemory>
-    requires { AreFrameSizes frame.now }
+    requires frame { AreFrameSizes frame.now }
+    requires boxes { ArePartBounds parts.now boxes.now }
     ensures { IfOk result (λ shadows. ArePartShadows frame.now parts.now shadows.items) }
 {
     let mut all = Vec::new(alloc);
-    for part in parts {
-        let shadows = shadows_of(alloc, frame, part.pieces.as_slice())?;
+    for k in 0..parts.len() {
+        let shadows = shadows_of(alloc, frame, parts[k].pieces.as_slice(), boxes[k].as_slice())?;
         all.push(shadows)?;
     }
     Ok(all)
@@ -95,9 +93,7 @@ fn joined_shadow(a: &Shadow, b: &Shadow) -> Shadow
     ensures { IsJoinedShadow a.now b.now result }
 {
     Shadow {
-        x: joined_span(a.x, b.x),
-        y: joined_span(a.y, b.y),
-        z: joined_span(a.z, b.z),
+        bounds: joined_bounds(&a.bounds, &b.bounds),
         across_x: joined_span(a.across_x, b.across_x),
         across_y: joined_span(a.across_y, b.across_y),
         across_z: joined_span(a.across_z, b.across_z),
@@ -142,26 +138,26 @@ fn is_between(along: i128, s: Span, t: Span) -> bool
     along <= 0 && lies_before(s, t) || along >= 0 && lies_before(t, s)
 }
 
-fn is_apart_on_x(d: V3, s: &Shadow, t: &Shadow) -> bool
+fn is_apart_on_x(d: V3, s: &Bounds, t: &Bounds) -> bool
     ensures { IsTrue result ↔ IsBetween d.x s.now.x t.now.x }
 {
     is_between(d.x, s.x, t.x)
 }
 
-fn is_apart_on_y(d: V3, s: &Shadow, t: &Shadow) -> bool
+fn is_apart_on_y(d: V3, s: &Bounds, t: &Bounds) -> bool
     ensures { IsTrue result ↔ IsBetween d.y s.now.y t.now.y }
 {
     is_between(d.y, s.y, t.y)
 }
 
-fn is_apart_on_z(d: V3, s: &Shadow, t: &Shadow) -> bool
+fn is_apart_on_z(d: V3, s: &Bounds, t: &Bounds) -> bool
     ensures { IsTrue result ↔ IsBetween d.z s.now.z t.now.z }
 {
     is_between(d.z, s.z, t.z)
 }
 
 // whether their boxes show it
-fn is_apart_on_axes(d: V3, s: &Shadow, t: &Shadow) -> bool
+fn is_apart_on_axes(d: V3, s: &Bounds, t: &Bounds) -> bool
     ensures { IsTrue result ↔ IsApartOnAxes d s.now t.now }
 {
     is_apart_on_x(d, s, t) || is_apart_on_y(d, s, t) || is_apart_on_z(d, s, t)
@@ -180,5 +176,5 @@ fn is_apart_across(s: &Shadow, t: &Shadow) -> bool
 pub fn is_apart(d: V3, s: &Shadow, t: &Shadow) -> bool
     ensures { IsTrue result ↔ IsApart d s.now t.now }
 {
-    is_apart_on_axes(d, s, t) || is_apart_across(s, t)
+    is_apart_on_axes(d, &s.bounds, &t.bounds) || is_apart_across(s, t)
 }
