@@ -21,7 +21,7 @@ use Rattle.staat_model.proofs.Reversed.{meets_opposite_lemma}
 use Rattle.staat_motion.specs.declared.frame.Frame.{Frame}
 use Rattle.staat_motion.specs.declared.shadow.Shadow.{Shadow}
 use Rattle.staat_motion.specs.Motions.{HasFacets, HasPieces, HasShadows, IsMotion, Motion, WasMadeFrom, pieces_at, points_at, shadow_at, shadow_count, turned}
-use Rattle.staat_motion.specs.Shadows.{ArePartShadows, AreWholes, IsApart, IsSeenApart, IsShadow, IsWhole, part_points}
+use Rattle.staat_motion.specs.Shadows.{ArePartShadows, AreWholes, IsApart, IsBody, IsSeenApart, IsShadow, IsWhole, part_points}
 use Rattle.staat_motion.proofs.Walls.{apart_is, seen_never, seen_within}
 use Rattle.staat_motion.proofs.Zips.{zip_back, zip_length}
 
@@ -144,6 +144,12 @@ has_shadows parts along arc made has =
 
 -- ---- all pieces of a part
 
+-- all points of a part are those of its pieces
+points_are : (parts : List Part) (a : ℕ) (ps : List (List V3)) → pieces_at parts a ≡ Some ps → points_at parts a ≡ flat_map (λ p. p) ps
+points_are [] a ps e = absurd cc
+points_are (part ∷ parts) zero ps e = ap (λ (l : List (List V3)). flat_map (λ p. p) l) (same_some part.pieces ps e)
+points_are (part ∷ parts) (suc a) ps e = points_are parts a ps e
+
 pub part_zip : (f : Frame) (parts : List Part) (shadows : List (List Shadow)) (a : ℕ) (ps : List (List V3)) (ss : List Shadow) → ArePartShadows f parts shadows → pieces_at parts a ≡ Some ps → slice_get shadows a ≡ Some ss
     → AllZip (IsShadow f) ps ss
 part_zip f [] [] a ps ss z p s = absurd cc
@@ -151,6 +157,13 @@ part_zip f [] (t ∷ shadows) a ps ss z p s = absurd z
 part_zip f (part ∷ parts) [] a ps ss z p s = absurd z
 part_zip f (part ∷ parts) (t ∷ shadows) zero ps ss z p s = subst (λ u. AllZip (IsShadow f) u ss) (same_some part.pieces ps p) (subst (AllZip (IsShadow f) part.pieces) (same_some t ss s) z.0)
 part_zip f (part ∷ parts) (t ∷ shadows) (suc a) ps ss z p s = part_zip f parts shadows a ps ss z.1 p s
+
+pub body_at : (parts : List Part) (along : Motion) (a : ℕ) (ps : List (List V3)) (ss : List Shadow) (w : Shadow) → WasMadeFrom parts along → pieces_at parts a ≡ Some ps → slice_get along.shadows a ≡ Some ss → slice_get along.wholes a ≡ Some w
+    → IsBody along.frame ps ss w
+body_at parts along a ps ss w made p s t = record {
+  each = part_zip along.frame parts along.shadows a ps ss made.shadows p s;
+  all = subst (λ (l : List V3). IsShadow along.frame l w) (points_are parts a ps p) (whole_at along.frame parts along.wholes a w made.wholes t);
+}
 
 piece_in : (parts : List Part) (a i : ℕ) (ps : List (List V3)) → pieces_at parts a ≡ Some ps → piece_at parts a i ≡ slice_get ps i
 piece_in [] a i ps e = absurd cc
@@ -184,6 +197,14 @@ blocks_is parts d a b ps qs different p_at q_at = (
         (h.j, at.q, place_within qs h.j at.q q_is, get_or_from_slice_get qs h.j at.q at.q q_is, at.holds),
       )),
 )
+
+-- what is seen apart from all points of some pieces meets none of them
+pub apart_from_all : (f : Frame) (d : V3) (p : List V3) (qs : List (List V3)) → IsPiece p → IsSeenApart f p (flat_map (λ q. q) qs) d → Any (λ q. Meets p q d) qs → ⊥
+apart_from_all f d p qs is_p seen (j, q, lt, e, m) =
+    let whole = flat_map (λ q. q) qs in
+    let q_is : slice_get qs j ≡ Some q = slice_get-get_or qs j q lt ∙ ap Some e in
+    let q_in = λ (x : V3) (h : Contains q x). All-contains (Contains whole) q x (all_of_piece (Contains whole) qs j q (All-contains_itself whole) q_is) h in
+    seen_never f p q d is_p (seen_within f p whole p q d (λ x h. h) q_in seen) m
 
 -- ---- searches
 

@@ -63,6 +63,11 @@ part_points part = flat_map (λ p. p) part.pieces
 abbrev pub AreWholes : Frame → List Part → List Shadow → Type 0
 AreWholes frame parts wholes = AllZip (λ part. IsShadow frame (part_points part)) parts wholes
 
+-- the shadows of pieces, and that of all their points
+pub record IsBody (frame : Frame) (pieces : List (List V3)) (shadows : List Shadow) (whole : Shadow) : Type 0 where
+  pub each : AllZip (IsShadow frame) pieces shadows
+  pub all : IsShadow frame (flat_map (λ p. p) pieces) whole
+
 -- ---- what is seen from the spans
 
 -- of two spans along a normal, the second lies ahead and the direction does not lead ahead along the normal, or the

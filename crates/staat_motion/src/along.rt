@@ -99,7 +99,7 @@ impl Along {
     }
 
     // the shadow of all points of the part a
-    fn whole(&self, a: u32) -> &Shadow
+    pub(crate) fn whole(&self, a: u32) -> &Shadow
         requires { a < length self.now.wholes }
         ensures { slice_get self.now.wholes a ≡ Some result.now }
     {

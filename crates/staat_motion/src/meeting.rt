@@ -1,13 +1,12 @@
 // Whether pieces and parts meet along a direction.
 ghost use Rattle.std.specs.Prelude.{◌≡◌, ◌<◌, ◌↔◌, List, All, Any, IfOk, IsTrue, Some, length};
-ghost use Rattle.std.specs.List.{AllZip};
 ghost use Rattle.staat_vec.specs.Vectors.{IsWithin};
 ghost use Rattle.staat_model.specs.declared.assembly.Part.{Part as PartValue};
 ghost use Rattle.staat_model.specs.Assemblies.{piece_at, piece_count};
 ghost use Rattle.staat_model.specs.Meeting.{Meets};
 ghost use Rattle.staat_model.specs.Removal.{Blocks, MeetsAlong};
 ghost use Rattle.staat_motion.specs.Motions.{HasFacets, HasPieces, HasShadows, WasMadeFrom, pieces_at, turned};
-ghost use Rattle.staat_motion.specs.Shadows.{IsShadow};
+ghost use Rattle.staat_motion.specs.Shadows.{IsBody, IsShadow};
 
 use crate::along::Along;
 use crate::shadow::{Shadow, is_apart};
@@ -15,6 +14,14 @@ use staat_cone::{FacetSource, blocks};
 use staat_model::{Arc, Part, Piece};
 use staat_vec::{DIRECTION, NORMAL, OutOfMemory, V3, neg};
 use std::alloc::Global;
+
+// The pieces of a part, the shadow of each, and that of all their points.
+#[derive(Clone, Copy)]
+struct Body<'a> {
+    pieces: &'a [Piece],
+    shadows: &'a [Shadow],
+    whole: &'a Shadow,
+}
 
 // the pieces of the part a
 fn pieces_of(parts: &[Part], a: u32) -> &[Piece]
@@ -59,10 +66,10 @@ impl Along {
         &self,
         alloc: Global,
         source: &F,
-        s: &Shadow,
         p: &Piece,
-        t: &Shadow,
+        s: &Shadow,
         q: &Piece,
+        t: &Shadow,
     ) -> Result<bool, OutOfMemory>
         requires first { IsShadow self.now.frame p.now s.now }
         requires second { IsShadow self.now.frame q.now t.now }
@@ -78,48 +85,79 @@ impl Along {
         Ok(answer)
     }
 
-    // whether a piece meets one of several
+    // the pieces of the part a, with what is kept of them
+    fn body<'a>(&'a self, parts: &'a [Part], a: u32) -> Body<'a>
+        requires made { WasMadeFrom parts.now self.now }
+        requires a_in { a < length parts.now }
+        ensures pieces { pieces_at parts.now a ≡ Some result.pieces.now }
+        ensures kept { IsBody self.now.frame result.pieces.now result.shadows.now result.whole.now }
+    {
+        Body {
+            pieces: pieces_of(parts, a),
+            shadows: self.part(a),
+            whole: self.whole(a),
+        }
+    }
+
+    // whether the spans of a part's points, taken together, show that a piece meets none of its pieces
+    fn is_clear_of(&self, p: &Piece, s: &Shadow, others: &Body) -> bool
+        requires first { IsShadow self.now.frame p.now s.now }
+        requires others { IsBody self.now.frame others.now.pieces.now others.now.shadows.now others.now.whole.now }
+        ensures { IsTrue result → Any (λ q. Meets p.now q self.now.d) others.now.pieces.now → ⊥ }
+    {
+        let d = self.direction();
+        // a piece's points span space, so that no wall leads through it
+        let _piece = p.points();
+        is_apart(d, s, others.whole)
+    }
+
+    // whether a piece meets one of a part's
     fn meets_one_of<F: FacetSource>(
         &self,
         alloc: Global,
         source: &F,
-        s: &Shadow,
         p: &Piece,
-        ts: &[Shadow],
-        qs: &[Piece],
+        s: &Shadow,
+        others: &Body,
     ) -> Result<bool, OutOfMemory>
         requires first { IsShadow self.now.frame p.now s.now }
-        requires others { AllZip (IsShadow self.now.frame) qs.now ts.now }
-        ensures { IfOk result (λ answer. IsTrue answer ↔ Any (λ q. Meets p.now q self.now.d) qs.now) }
+        requires others { IsBody self.now.frame others.now.pieces.now others.now.shadows.now others.now.whole.now }
+        ensures { IfOk result (λ answer. IsTrue answer ↔ Any (λ q. Meets p.now q self.now.d) others.now.pieces.now) }
     {
+        if self.is_clear_of(p, s, others) {
+            return Ok(false);
+        }
+        let qs = others.pieces;
+        let ts = others.shadows;
         // each piece has its shadow
         let _shadows = ts.len();
         for j in 0..qs.len() {
-            if self.pair_meets(alloc, source, s, p, &ts[j], &qs[j])? {
+            if self.pair_meets(alloc, source, p, s, &qs[j], &ts[j])? {
                 return Ok(true);
             }
         }
         Ok(false)
     }
 
-    // whether one of several pieces meets one of several others
+    // whether one of a part's pieces meets one of another's
     fn one_meets_one_of<F: FacetSource>(
         &self,
         alloc: Global,
         source: &F,
-        ss: &[Shadow],
-        ps: &[Piece],
-        ts: &[Shadow],
-        qs: &[Piece],
+        body: &Body,
+        others: &Body,
     ) -> Result<bool, OutOfMemory>
-        requires first { AllZip (IsShadow self.now.frame) ps.now ss.now }
-        requires others { AllZip (IsShadow self.now.frame) qs.now ts.now }
-        ensures { IfOk result (λ answer. IsTrue answer ↔ Any (λ p. Any (λ q. Meets p q self.now.d) qs.now) ps.now) }
+        requires body { IsBody self.now.frame body.now.pieces.now body.now.shadows.now body.now.whole.now }
+        requires others { IsBody self.now.frame others.now.pieces.now others.now.shadows.now others.now.whole.now }
+        ensures { IfOk result (λ answer. IsTrue answer ↔
+            Any (λ p. Any (λ q. Meets p q self.now.d) others.now.pieces.now) body.now.pieces.now) }
     {
+        let ps = body.pieces;
+        let ss = body.shadows;
         // each piece has its shadow
         let _shadows = ss.len();
         for i in 0..ps.len() {
-            if self.meets_one_of(alloc, source, &ss[i], &ps[i], ts, qs)? {
+            if self.meets_one_of(alloc, source, &ps[i], &ss[i], others)? {
                 return Ok(true);
             }
         }
@@ -145,7 +183,7 @@ impl Along {
         let q = piece_of(parts, arc.b, arc.j);
         let s = self.shadow(arc.a, arc.i);
         let t = self.shadow(arc.b, arc.j);
-        let answer = self.pair_meets(alloc, source, s, p, t, q)?;
+        let answer = self.pair_meets(alloc, source, p, s, q, t)?;
         Ok(answer)
     }
 
@@ -169,11 +207,9 @@ impl Along {
         if a == b || self.parts_apart(a, b) {
             return Ok(false);
         }
-        let ps = pieces_of(parts, a);
-        let qs = pieces_of(parts, b);
-        let ss = self.part(a);
-        let ts = self.part(b);
-        let answer = self.one_meets_one_of(alloc, source, ss, ps, ts, qs)?;
+        let body = self.body(parts, a);
+        let others = self.body(parts, b);
+        let answer = self.one_meets_one_of(alloc, source, &body, &others)?;
         Ok(answer)
     }
 
