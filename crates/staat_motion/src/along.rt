@@ -50,12 +50,7 @@ impl Along {
     /// are those of the parts.
     ///
     /// The components of `d` are at most [`DIRECTION`] in absolute value.
-    pub fn of(
-        alloc: Global,
-        parts: &[Part],
-        bodies: &Bodies,
-        d: V3,
-    ) -> Result<Along, OutOfMemory>
+    pub fn of(alloc: Global, parts: &[Part], bodies: &Bodies, d: V3) -> Result<Along, OutOfMemory>
         requires size { IsWithin DIRECTION d }
         requires bodies { AreBodies parts.now bodies.now }
         ensures direction { IfOk result (λ along. along.d ≡ d) }

@@ -35,7 +35,6 @@ pub struct Bodies {
 
 impl Model for Bodies {
     ghost use Rattle.std.specs.Prelude.{List};
-
     ghost use Rattle.staat_motion.specs.declared.bounds.Bounds.{Bounds as BoundsValue};
 
     ghost Value = { List (List BoundsValue) };

@@ -222,11 +222,11 @@ impl Along {
         ensures { (parts : List PartValue) → WasMadeFrom parts self.now → HasFacets parts arc facets.now →
             IsTrue result ↔ MeetsAlong parts self.now.d arc }
     {
-        let d = self.direction();
+        let along = self.direction();
         if self.apart(arc) {
             return false;
         }
-        blocks(facets, d)
+        blocks(facets, along)
     }
 
     /// The same as [`meets_with`](Along::meets_with), from the facets of the two pieces in the other order: these are
@@ -237,10 +237,10 @@ impl Along {
         ensures { (parts : List PartValue) → WasMadeFrom parts self.now → HasFacets parts (turned arc) facets.now →
             IsTrue result ↔ MeetsAlong parts self.now.d arc }
     {
-        let d = neg(self.direction());
+        let back = neg(self.direction());
         if self.apart(arc) {
             return false;
         }
-        blocks(facets, d)
+        blocks(facets, back)
     }
 }

@@ -82,7 +82,12 @@ pub fn part_shadows(
 {
     let mut all = Vec::new(alloc);
     for k in 0..parts.len() {
-        let shadows = shadows_of(alloc, frame, parts[k].pieces.as_slice(), boxes[k].as_slice())?;
+        let shadows = shadows_of(
+            alloc,
+            frame,
+            parts[k].pieces.as_slice(),
+            boxes[k].as_slice(),
+        )?;
         all.push(shadows)?;
     }
     Ok(all)

@@ -10,6 +10,6 @@ returns-then-apart c parts made has = ((λ t. absurd cc), (λ m. absurd (c.if-ap
 
 pub returns : goal.returns
 returns c parts made has =
-    let is = c.neg-d.ensures.value ∙ ap negative c.direction.ensures.is in
+    let is = c.neg-back.ensures.value ∙ ap negative c.direction.ensures.is in
     turned_facets_tell parts c.args.arc c.args.self.now.d c.args.facets.now c.blocks-2.result made.parts_are
     (λ p q is_p is_q are. subst (λ e. IsTrue c.blocks-2.result ↔ Meets p q e) is (c.blocks-2.ensures.meets p q is_p is_q are)) has
