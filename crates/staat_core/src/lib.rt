@@ -21,6 +21,3 @@ pub use set_core::SetCore;
 pub use source::PairSource;
 pub use table_core::TableCore;
 pub use table_pairs::TablePairs;
-
-#[cfg(test)]
-mod tests;

@@ -6,6 +6,8 @@ mod assembling;
 #[cfg(test)]
 mod circles;
 #[cfg(test)]
+mod cores;
+#[cfg(test)]
 mod directions;
 #[cfg(test)]
 mod facets;

@@ -1,0 +1,4 @@
+pub mod Arcs
+pub mod Labels
+pub mod Peelings
+pub mod Reaching

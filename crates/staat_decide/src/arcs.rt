@@ -1,0 +1,55 @@
+// Which parts of a set block which along a direction.
+ghost use Rattle.std.specs.Prelude.{◌≡◌, ◌<◌, All, IfOk, length};
+ghost use Rattle.staat_motion.specs.Motions.{WasMadeFrom};
+ghost use Rattle.staat_decide.specs.Arcs.{AreRows, IsRow};
+
+use staat_cone::FacetSource;
+use staat_model::Part;
+use staat_motion::Along;
+use staat_vec::{Listed, OutOfMemory};
+use std::alloc::Global;
+
+/// For each part of a list, in order, whether one part blocks it.
+pub type Row = Listed<bool>;
+
+// which parts of w the part a blocks
+fn row_of<F: FacetSource>(
+    alloc: Global,
+    source: &F,
+    parts: &[Part],
+    along: &Along,
+    w: &[u32],
+    a: u32,
+) -> Result<Row, OutOfMemory>
+    requires made { WasMadeFrom parts.now along.now }
+    requires members { All (λ p. p < length parts.now) w.now }
+    requires a_in { a < length parts.now }
+    ensures { IfOk result (IsRow parts.now along.now.d w.now a) }
+{
+    let mut row = Vec::new(alloc);
+    for b in w {
+        let answer = along.blocks(alloc, source, parts, a, *b)?;
+        row.push(answer)?;
+    }
+    Ok(Row::from_vec(row))
+}
+
+/// For each part of `w`, in order, which parts of `w` it blocks: each two are asked about once.
+pub fn rows_of<F: FacetSource>(
+    alloc: Global,
+    source: &F,
+    parts: &[Part],
+    along: &Along,
+    w: &[u32],
+) -> Result<Vec<Row>, OutOfMemory>
+    requires made { WasMadeFrom parts.now along.now }
+    requires members { All (λ p. p < length parts.now) w.now }
+    ensures { IfOk result (λ rows. AreRows parts.now along.now.d w.now rows.items) }
+{
+    let mut rows = Vec::new(alloc);
+    for a in w {
+        let row = row_of(alloc, source, parts, along, w, *a)?;
+        rows.push(row)?;
+    }
+    Ok(rows)
+}
