@@ -68,8 +68,8 @@ fn walked_step(
 }
 
 // The step of a set of parts of the table in a plan that is not robust. The first vertices decide nearly every set
-// that comes apart, and one part that holds all others many that do not; only where neither does are all vertices gone
-// through, by a walk.
+// that comes apart, and a core nearly every one that does not; only where neither does are all vertices gone through,
+// by a walk.
 fn vertex_step(
     alloc: Global,
     table: &PlaneTable,

@@ -13,7 +13,7 @@ ghost use Rattle.staat_plan.specs.Planning.{IsSetStep};
 use crate::marked::Marked;
 use crate::side_trial::SideTrial;
 use staat_model::{PartSet, Step};
-use staat_planes::{PlanePairs, PlaneTable, Search, all_ruled_out, first_few, first_vertex};
+use staat_planes::{PlanePairs, PlaneTable, Search, Trial, first_few, first_vertex};
 use staat_vec::DIRECTION;
 
 /// The step of a set of at least two parts that lies in the table's set: the first of the vertices of its planes along
@@ -58,8 +58,8 @@ fn few_pairs(table: &PlaneTable, w: PartSet) -> u32
 }
 
 /// The step of a set of at least two parts that lies in the table's set, if the first vertices of its planes decide
-/// it: the step along one of them, or none where there are no others; or if all planes are ruled out, so that there is
-/// none. It takes no memory.
+/// it: the step along one of them, or none where there are no others; or if a core shows that there is none. It takes no
+/// memory.
 pub(crate) fn early_step(table: &PlaneTable, w: PartSet) -> Option<Option<Marked>>
     requires within { IsSubset w table.now.of }
     requires two { 2 ≤ set.len w }
@@ -69,7 +69,7 @@ pub(crate) fn early_step(table: &PlaneTable, w: PartSet) -> Option<Option<Marked
     let mut trial = SideTrial::new();
     match first_few(&mut pairs, table, w, &mut trial, few_pairs(table, w)) {
         Search::Undecided => {
-            if all_ruled_out(table, w, &mut trial) {
+            if trial.rules_out_all(table, w) {
                 Some(None)
             } else {
                 None

@@ -2,6 +2,8 @@ use Rattle.std.proofs.Common.{◌≤◌, arith, subst, All}
 use Rattle.std.specs.FinSet as set
 use Rattle.staat_vec.specs.declared.vector.V3.{V3}
 use Rattle.staat_model.specs.Outcomes.{IsMovedSide, Serves}
+use Rattle.staat_model.specs.Planes.{vertices}
+use Rattle.staat_model.proofs.Members.{All-from_members}
 use Rattle.staat_model.proofs.SomePlanes.{some_planes}
 use Rattle.staat_planes.specs.VertexSearch.{IsFirstServed}
 use Rattle.staat_plan.proofs.OutcomeLemmas.{some_member}
@@ -9,7 +11,7 @@ use Rattle.staat_plan.proofs.StepLemmas.{no_step, step_is}
 use Rattle.staat_plan.proofs.step.early_step.Goals as goal
 
 pub first_few-requires-clause-fits : goal.first_few-requires-clause-fits
-first_few-requires-clause-fits c = c.new-trial.ensures c.args.table.now c.args.w (some_member c.args.w (let two : 2 ≤ set.len c.args.w = c.requires.two in omega (arith, two)))
+first_few-requires-clause-fits c = (some_member c.args.w (let two : 2 ≤ set.len c.args.w = c.requires.two in omega (arith, two)), c.new-trial.ensures c.args.table.now)
 
 pub returns-in-Nothing : goal.returns-in-Nothing
 returns-in-Nothing c = record {
@@ -29,10 +31,10 @@ returns-in-First c = record {
       (subst (λ vs. IsFirstServed (Serves parts c.args.w) (IsMovedSide parts c.args.w) vs c.in-First.served) (c.of-pairs.ensures.vertices parts some.0 made some.1) (c.in-First.ensures.first parts made tt));
 }
 
-pub returns-then-all_ruled_out : goal.returns-then-all_ruled_out
-returns-then-all_ruled_out c = record {
+pub returns-then-rules_out_all : goal.returns-then-rules_out_all
+returns-then-rules_out_all c = record {
   size = tt;
   step = λ parts made.
       let some = some_planes parts c.args.w in
-      no_step parts c.args.w some.0 some.1 (c.all_ruled_out.ensures.none c.if-all_ruled_out.true parts some.0 made tt some.1);
+      no_step parts c.args.w some.0 some.1 (All-from_members (λ (v : V3). Serves parts c.args.w v → ⊥) (vertices some.0) (λ v listed. c.rules_out_all.ensures.none c.if-rules_out_all.true parts v made tt));
 }

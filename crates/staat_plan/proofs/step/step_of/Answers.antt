@@ -7,7 +7,7 @@ use Rattle.staat_plan.proofs.StepLemmas.{is_stuck, no_step, not_stuck, step_is}
 use Rattle.staat_plan.proofs.step.step_of.Goals as goal
 
 pub first_vertex-requires-clause-fits : goal.first_vertex-requires-clause-fits
-first_vertex-requires-clause-fits c = c.new-trial.ensures c.args.table.now c.args.w (some_member c.args.w (let two : 2 ≤ set.len c.args.w = c.requires.two in omega (arith, two)))
+first_vertex-requires-clause-fits c = (some_member c.args.w (let two : 2 ≤ set.len c.args.w = c.requires.two in omega (arith, two)), c.new-trial.ensures c.args.table.now)
 
 pub returns-in-None-clause-step : goal.returns-in-None-clause-step
 returns-in-None-clause-step c parts made =
