@@ -8,7 +8,4 @@ pub mod BuildLemmas
 pub mod UsedPlanes
 pub mod PairSteps
 pub mod SearchSteps
-pub mod HolderSearch
-pub mod Circling
-pub mod CircleSteps
 pub mod SetPlanes

@@ -2,5 +2,4 @@ pub mod Tables
 pub mod Refusals
 pub mod VertexSearch
 pub mod Marks
-pub mod Holding
 pub mod SetPlanes

@@ -2,9 +2,7 @@
 #![tactic(auto)]
 
 mod build;
-mod circle;
 mod graph;
-mod holding;
 mod marks;
 mod pairs;
 mod refusal;
