@@ -57,8 +57,4 @@ impl Trial for SideTrial {
     fn rules_out_all(&mut self, table: &PlaneTable, w: PartSet) -> bool {
         self.core.holds(table, w, Moving::AnySide)
     }
-
-    fn rules_out_all(&mut self, _table: &PlaneTable, _w: PartSet) -> bool {
-        false
-    }
 }

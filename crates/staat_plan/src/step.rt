@@ -13,7 +13,7 @@ ghost use Rattle.staat_plan.specs.Planning.{IsSetStep};
 use crate::marked::Marked;
 use crate::side_trial::SideTrial;
 use staat_model::{PartSet, Step};
-use staat_planes::{PlanePairs, PlaneTable, Search, Trial, first_few, first_vertex};
+use staat_planes::{PlanePairs, PlaneTable, Search, Trial, first_few, first_passing, first_vertex};
 use staat_vec::DIRECTION;
 
 /// The step of a set of at least two parts that lies in the table's set: the first of the vertices of its planes along
@@ -42,24 +42,38 @@ pub(crate) fn step_of(table: &PlaneTable, w: PartSet) -> Option<Step>
     }
 }
 
-/// How many pairs of planes are tried one by one before rings are made, at least.
+/// How many pairs of planes are tried one by one before a core is asked.
 const FEW_PAIRS: u32 = 24;
 
-// How many pairs of the planes of w are tried one by one. Rings are made of all planes of the table, and a smaller set
-// seldom has most of them: for it as many pairs are tried as take a small part of the time of making rings.
-fn few_pairs(table: &PlaneTable, w: PartSet) -> u32
-    ensures { FEW_PAIRS ≤ result }
+/// How many pairs of planes are tried, at most, where a core passes over planes.
+const LATE_PAIRS: u32 = 4096;
+
+// the step of the set, if a core decides it: none where it shows that there is none, or the first where it passes over
+// planes
+fn late_step(table: &PlaneTable, w: PartSet) -> Option<Option<Marked>>
+    requires within { IsSubset w table.now.of }
+    requires two { 2 ≤ set.len w }
+    ensures { IfSome result (IsSetStep false table.now w) }
 {
-    if table.set().within(w) {
-        FEW_PAIRS
-    } else {
-        FEW_PAIRS + table.len() * table.len() / 8
+    let mut trial = SideTrial::new();
+    if trial.rules_out_all(table, w) {
+        return Some(None);
+    }
+    match first_passing(table, w, &mut trial, LATE_PAIRS) {
+        Search::Undecided => None,
+        Search::Nothing => Some(None),
+        Search::First(served) => Some(Some(Marked {
+            step: Step {
+                moved: served.found,
+                d: served.d,
+            },
+            mark: None,
+        })),
     }
 }
 
-/// The step of a set of at least two parts that lies in the table's set, if the first vertices of its planes decide
-/// it: the step along one of them, or none where there are no others; or if a core shows that there is none. It takes no
-/// memory.
+/// The step of a set of at least two parts that lies in the table's set, if the first vertices of its planes or a core
+/// decide it: the step along one of them, or none where there is none. It takes no memory.
 pub(crate) fn early_step(table: &PlaneTable, w: PartSet) -> Option<Option<Marked>>
     requires within { IsSubset w table.now.of }
     requires two { 2 ≤ set.len w }
@@ -67,14 +81,8 @@ pub(crate) fn early_step(table: &PlaneTable, w: PartSet) -> Option<Option<Marked
 {
     let mut pairs = PlanePairs::of(table, w);
     let mut trial = SideTrial::new();
-    match first_few(&mut pairs, table, w, &mut trial, few_pairs(table, w)) {
-        Search::Undecided => {
-            if trial.rules_out_all(table, w) {
-                Some(None)
-            } else {
-                None
-            }
-        }
+    match first_few(&mut pairs, table, w, &mut trial, FEW_PAIRS) {
+        Search::Undecided => late_step(table, w),
         Search::Nothing => Some(None),
         Search::First(served) => Some(Some(Marked {
             step: Step {

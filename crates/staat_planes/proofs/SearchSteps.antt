@@ -16,11 +16,6 @@ use Rattle.staat_planes.specs.VertexSearch.{ArePassed, AreSearched, IsFirstServe
 pub shorter : (left later less : List V3) (d : V3) → left ≡ d ∷ negative d ∷ later → length less ≤ length later → length less < length left
 shorter left later less d e le = let long = ap length e in omega (arith, long, le)
 
--- what a clause says of no value holds where there is none
-pub nothing_there : {X P : Type 0} (Q : X → Type 0) (r : Option X) (none : Bool) → is_some r ≡ not none → IsTrue none → MatchOption r P Q → P
-nothing_there Q None none e told h = h
-nothing_there Q (Some x) none e told h = absurd (true≢false (e ∙ ap not told))
-
 module _ (serves : V3 → Type 0) where
   abbrev Not : V3 → Type 0
   Not v = serves v → ⊥

@@ -117,6 +117,12 @@ IsSearched serves finds vs left pairs Nothing = All (λ v. serves v → ⊥) vs
 IsSearched serves finds vs left pairs Undecided =
     (p : ArePassed serves vs left) × (length p.before ≡ 2 * pairs)
 
+-- the same of a search that may give up
+abbrev pub IsSought : {F : Type 0} → (V3 → Type 0) → (V3 → F → Type 0) → List V3 → Search F → Type 0
+IsSought serves finds vs (First s) = IsFirstServed serves finds vs s
+IsSought serves finds vs Nothing = All (λ v. serves v → ⊥) vs
+IsSought serves finds vs Undecided = Unit {0}
+
 -- what a search finds is a direction within the bound and not zero, with one of these
 pub record IsServedAmong {F : Type 0} (P : F → Type 0) (s : Served F) : Type 0 where
   pub size : IsWithin DIRECTION s.d

@@ -16,7 +16,7 @@ pub use build::tabulate;
 pub use pairs::PlanePairs;
 pub use refusal::PlanesRefusal;
 pub use search::{
-    Search, Served, Trial, Tried, all_ruled_out, first_few, first_left, first_vertex,
+    Search, Served, Trial, Tried, first_few, first_left, first_passing, first_vertex,
 };
 pub use steps::Steps;
 pub use table::PlaneTable;

@@ -8,7 +8,7 @@ ghost use Rattle.staat_model.specs.Planes.{ArePlanes, vertices};
 ghost use Rattle.staat_model.specs.Sets.{IsSubset};
 ghost use Rattle.staat_pairs.specs.Tables.{Table, WasMadeFrom};
 ghost use Rattle.staat_planes.specs.VertexSearch.{ArePassed, AreSearched, IsPlaceIn, IsSearched, IsSearchedAmong};
-ghost use Rattle.staat_planes.specs.VertexSearch.{IsServedAmong, IsTried, IsTriedAmong, vertices_left};
+ghost use Rattle.staat_planes.specs.VertexSearch.{IsServedAmong, IsSought, IsTried, IsTriedAmong, vertices_left};
 
 use crate::pairs::PlanePairs;
 use crate::table::PlaneTable;
@@ -208,41 +208,54 @@ pub fn first_few<T: Trial>(
     Search::Undecided
 }
 
-/// Whether the trial rules out the planes of all vertices of `w`, so that no direction serves at all.
-pub fn all_ruled_out<T: Trial>(table: &PlaneTable, w: PartSet, trial: &mut T) -> bool
+/// The first of the vertices of the planes of `w` that serves, where the trial passes over rows of pairs, the first one
+/// too. It ends undecided after so many pairs of planes whose crossings were tried.
+pub fn first_passing<T: Trial>(
+    table: &PlaneTable,
+    w: PartSet,
+    trial: &mut T,
+    limit: u32,
+) -> Search<T::Found>
     requires fits { T.fits trial.old table.now w }
     requires within { IsSubset w table.now.of }
     ensures fits { T.fits trial.new table.now w }
     ensures knows { (parts : List PartValue) → T.knows trial.old parts → T.knows trial.new parts }
-    ensures none { IsTrue result → (parts : List PartValue) (planes : List Vector) → WasMadeFrom parts table.now
+    ensures among { IsSearchedAmong (T.among w) result }
+    ensures first { (parts : List PartValue) (planes : List Vector) → WasMadeFrom parts table.now
         → T.knows trial.old parts → ArePlanes parts w planes
-        → All (λ v. T.serves parts w v → ⊥) (vertices planes) }
+        → IsSought (T.serves parts w) (T.finds parts w) (vertices planes) result }
 {
     let mut pairs = PlanePairs::of(table, w);
     pass_rows(&mut pairs, table, w, trial);
-    pairs.next_crossing(table).is_none()
+    for _k in 0..limit {
+        let Some(d) = pairs.next_crossing(table) else {
+            return Search::Nothing;
+        };
+        if let Some(found) = served_at(table, w, d, trial) {
+            return Search::First(found);
+        }
+        pass_rows(&mut pairs, table, w, trial);
+    }
+    Search::Undecided
 }
 
-// the same, where it is asked first whether no direction serves
-fn first_late<T: Trial>(
-    pairs: &mut PlanePairs,
-    table: &PlaneTable,
-    w: PartSet,
-    trial: &mut T,
-) -> Option<Served<T::Found>>
-    requires place { IsPlaceIn table.now.planes pairs.old }
+// the first of the vertices that serves, where it is asked first whether no direction serves, and then about each row
+fn first_late<T: Trial>(table: &PlaneTable, w: PartSet, trial: &mut T) -> Option<Served<T::Found>>
     requires fits { T.fits trial.old table.now w }
     requires within { IsSubset w table.now.of }
     ensures fits { T.fits trial.new table.now w }
     ensures knows { (parts : List PartValue) → T.knows trial.old parts → T.knows trial.new parts }
     ensures among { IfSome result (IsServedAmong (T.among w)) }
-    ensures first { (parts : List PartValue) → WasMadeFrom parts table.now → T.knows trial.old parts
-        → AreSearched (T.serves parts w) (T.finds parts w) (vertices_left table.now.planes pairs.old) result }
+    ensures first { (parts : List PartValue) (planes : List Vector) → WasMadeFrom parts table.now
+        → T.knows trial.old parts → ArePlanes parts w planes
+        → AreSearched (T.serves parts w) (T.finds parts w) (vertices planes) result }
 {
     if trial.rules_out_all(table, w) {
         return None;
     }
-    first_left(pairs, table, w, trial)
+    let mut pairs = PlanePairs::of(table, w);
+    pass_rows(&mut pairs, table, w, trial);
+    first_left(&mut pairs, table, w, trial)
 }
 
 /// The first of the vertices of the planes of `w`, in pair order, that serves, and what is found there. None exactly
@@ -268,6 +281,6 @@ pub fn first_vertex<T: Trial>(
     match first_few(&mut pairs, table, w, trial, FEW_PAIRS) {
         Search::First(served) => Some(served),
         Search::Nothing => None,
-        Search::Undecided => first_late(&mut pairs, table, w, trial),
+        Search::Undecided => first_late(table, w, trial),
     }
 }

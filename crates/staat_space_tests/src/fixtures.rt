@@ -150,8 +150,8 @@ pub fn table(rt: &impl Abort, alloc: Global, shapes: &[Shape]) -> PlaneTable {
     table_of(rt, alloc, &sound(rt, alloc, shapes))
 }
 
-/// Whether two different parts are of the table's set.
-pub fn has_parts(table: &PlaneTable, a: u32, b: u32) -> bool
+// whether two different parts are of the table's set
+fn has_parts(table: &PlaneTable, a: u32, b: u32) -> bool
     ensures { IsTrue result → Has table.now.of a × Has table.now.of b × (a ≢ b) }
 {
     let set = table.set();

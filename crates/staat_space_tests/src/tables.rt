@@ -2,7 +2,7 @@
 ghost use Rattle.std.specs.Prelude.{◌≡◌, ◌<◌};
 ghost use Rattle.staat_vec.specs.Vectors.{IsWithin};
 
-use crate::fixtures::{CLOSED, DOVETAIL, LIDDED, OPEN, has_parts, is_across, sound, table};
+use crate::fixtures::{CLOSED, DOVETAIL, LIDDED, is_across, sound, table};
 use staat_cone::Plain;
 use staat_graph::{strong_parts, trees_of};
 use staat_model::{Arc, PartSet};
@@ -168,26 +168,5 @@ fn refusals_are_told(rt: HostRuntime) {
     for (refusal, wanted) in rows {
         let text = format!(in rt.alloc(); "{refusal}").expect(&rt, "memory");
         assert_eq!(rt; text.as_str(), wanted);
-    }
-}
-
-// on which planes the part 1 is seen to hold the part 0 along each direction
-fn circles_held(rt: &impl Abort, alloc: Global, table: &PlaneTable) -> Vec<bool> {
-    let wall = PartSet::single(1);
-    let mut held = Vec::new(alloc);
-    assert!(rt; has_parts(table, 0, 1) && wall.within(table.set()));
-    for k in 0..table.len() {
-        let is_held = table.is_held_on_circle(wall, 0, table.plane(k));
-        held.push(is_held).expect(rt, "memory");
-    }
-    held
-}
-
-#[test]
-fn a_box_holds_a_cube_on_all_circles_unless_it_is_open(rt: HostRuntime) {
-    for (shapes, wanted) in [(&CLOSED, [true; 3]), (&OPEN, [false, false, true])] {
-        let table = table(&rt, rt.alloc(), shapes.as_slice());
-        let held = circles_held(&rt, rt.alloc(), &table);
-        assert_eq!(rt; held.as_slice(), wanted.as_slice());
     }
 }

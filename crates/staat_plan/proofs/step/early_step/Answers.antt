@@ -30,11 +30,3 @@ returns-in-First c = record {
       step_is parts c.args.w some.0 some.1 c.in-First.served
       (subst (λ vs. IsFirstServed (Serves parts c.args.w) (IsMovedSide parts c.args.w) vs c.in-First.served) (c.of-pairs.ensures.vertices parts some.0 made some.1) (c.in-First.ensures.first parts made tt));
 }
-
-pub returns-then-rules_out_all : goal.returns-then-rules_out_all
-returns-then-rules_out_all c = record {
-  size = tt;
-  step = λ parts made.
-      let some = some_planes parts c.args.w in
-      no_step parts c.args.w some.0 some.1 (All-from_members (λ (v : V3). Serves parts c.args.w v → ⊥) (vertices some.0) (λ v listed. c.rules_out_all.ensures.none c.if-rules_out_all.true parts v made tt));
-}

@@ -1,6 +1,5 @@
 use Rattle.std.proofs.Common.{subst, All}
-use Rattle.staat_planes.specs.VertexSearch.{AreSearched, IsFirstServed, vertices_left}
-use Rattle.staat_planes.proofs.SearchSteps.{searched_behind}
+use Rattle.staat_planes.specs.VertexSearch.{IsFirstServed}
 use Rattle.staat_planes.proofs.search.first_vertex.Goals as goal
 
 pub returns-in-First-clause-first : goal.returns-in-First-clause-first
@@ -16,10 +15,4 @@ returns-in-Nothing-clause-first g c parts planes made knows are =
     (c.in-Nothing.ensures.first parts made knows)
 
 pub returns-in-Undecided-clause-first : goal.returns-in-Undecided-clause-first
-returns-in-Undecided-clause-first g c parts planes made knows are =
-    let serves = g.T.Trial.serves parts c.args.w in
-    let finds = g.T.Trial.finds parts c.args.w in
-    let left = vertices_left c.args.table.now.planes in
-    subst (λ vs. AreSearched serves finds vs c.first_late.result)
-    (c.of-pairs.ensures.vertices parts planes made are)
-    (searched_behind serves finds (left c.of-pairs.result) (left c.first_few.new.pairs) c.first_late.result (c.in-Undecided.ensures.first parts made knows).0 (c.first_late.ensures.first parts made (c.first_few.ensures.knows parts knows)))
+returns-in-Undecided-clause-first g c parts planes made knows are = c.first_late.ensures.first parts planes made (c.first_few.ensures.knows parts knows) are

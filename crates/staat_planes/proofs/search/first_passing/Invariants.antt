@@ -1,0 +1,16 @@
+use Rattle.std.proofs.Common.{List}
+use Rattle.staat_model.specs.declared.assembly.Part.{Part}
+use Rattle.staat_model.specs.Planes.{ArePlanes, vertices}
+use Rattle.staat_vec.specs.declared.vector.V3.{V3}
+use Rattle.staat_pairs.specs.Tables.{WasMadeFrom}
+use Rattle.staat_planes.specs.VertexSearch.{ArePassed, IsPlaceIn, vertices_left}
+use Rattle.staat_planes.proofs.search.first_passing.Given as goal
+
+abbrev pub invariant-loop-k : goal.invariant-loop-k
+invariant-loop-k g l = record {
+  place : IsPlaceIn l.table.planes l.pairs;
+  fits : g.T.Trial.fits l.trial l.table l.w;
+  knows : (parts : List Part) → g.T.Trial.knows l.fn.trial parts → g.T.Trial.knows l.trial parts;
+  passed : (parts : List Part) (planes : List V3) → WasMadeFrom parts l.table → g.T.Trial.knows l.fn.trial parts → ArePlanes parts l.w planes
+      → ArePassed (g.T.Trial.serves parts l.w) (vertices planes) (vertices_left l.table.planes l.pairs);
+}
