@@ -10,8 +10,8 @@ from typing import Callable, Dict, List, Optional, Set, Tuple
 
 import numpy
 
-from .closing import Groups
 from .fitting import NEAR, Arc, Fit
+from .groups import Groups
 
 Curve = Callable[[numpy.ndarray], numpy.ndarray]  # parameters (n,) from 0 to 1 to points (n, 3)
 

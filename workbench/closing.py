@@ -7,8 +7,10 @@ from typing import Dict, Iterable, List, Optional, Tuple
 import numpy
 from scipy.spatial import cKDTree
 
+from .groups import Groups
 from .solid import Mesh
-from .triangles import newell, triangulated
+from .triangles import newells, triangulated
+from .wedges import is_balanced, parted
 
 Faces = List[List[int]]
 Edge = Tuple[int, int]
@@ -16,7 +18,9 @@ Edge = Tuple[int, int]
 
 @dataclass
 class Shell:
-    """A connected surface: its mesh, how many of its edges are not shared by exactly two faces, its volume as drawn.
+    """A connected surface: its mesh, how many of its edges are open, its volume as drawn.
+
+    gaps: edges that are not shared by exactly two faces, unless all edges are followed as often one way as the other
 
     drawn: the volume, negative where the faces are wound inwards; nothing where they are wound both ways
     """
@@ -24,22 +28,6 @@ class Shell:
     mesh: Mesh
     gaps: int
     drawn: Optional[float] = None
-
-
-class Groups:
-    """Numbers that are joined to groups."""
-
-    def __init__(self, many: int) -> None:
-        self.above = list(range(many))
-
-    def of(self, number: int) -> int:
-        while self.above[number] != number:
-            self.above[number] = self.above[self.above[number]]
-            number = self.above[number]
-        return number
-
-    def join(self, one: int, other: int) -> None:
-        self.above[self.of(one)] = self.of(other)
 
 
 def pairs_of(face: List[int]) -> Iterable[Edge]:
@@ -143,20 +131,16 @@ def wound(faces: Faces) -> Tuple[Faces, bool]:
 
 def volume(mesh: Mesh) -> float:
     """The volume of a closed surface, negative where it is wound inwards."""
-    middle = mesh.points.mean(axis=0)
-    total = 0.0
-    for face in mesh.faces:
-        rows = mesh.points[face] - middle
-        total += float(rows[0] @ newell(rows)) / 6
-    return total
+    rows = mesh.points - mesh.points.mean(axis=0)
+    firsts = rows[[face[0] for face in mesh.faces]]
+    return float((firsts * newells(rows, mesh.faces)).sum()) / 6
 
 
 def plane_faces(mesh: Mesh, near: float) -> Mesh:
     """The mesh, where faces whose corners lie farther than `near` from a plane are cut into triangles."""
     faces: Faces = []
-    for face in mesh.faces:
+    for face, normal in zip(mesh.faces, newells(mesh.points, mesh.faces)):
         rows = mesh.points[face]
-        normal = newell(rows)
         length = float(numpy.linalg.norm(normal))
         if len(face) > 3 and length > 0 and numpy.ptp(rows @ normal) > near * length:
             faces += triangulated(mesh.points, [face], normal)
@@ -169,10 +153,11 @@ def shell_of(points: numpy.ndarray, faces: Faces, near: float) -> Shell:
     used = sorted({corner for face in faces for corner in face})
     place = {corner: number for number, corner in enumerate(used)}
     mesh = Mesh(points[used], [[place[corner] for corner in face] for face in faces])
-    gaps = open_edges(mesh.faces)
-    if gaps:
+    gaps, kept = open_edges(mesh.faces), True
+    if gaps and not is_balanced(mesh.faces):
         return Shell(mesh, gaps)
-    mesh.faces, kept = wound(mesh.faces)
+    if not gaps:
+        mesh.faces, kept = wound(mesh.faces)
     mesh = plane_faces(mesh, near)
     drawn = volume(mesh)
     if drawn < 0:
@@ -184,7 +169,8 @@ def shells_of(mesh: Mesh, merge: Optional[float] = None) -> List[Shell]:
     """The connected surfaces of a mesh.
 
     merge: points so near each other are one where a surface is open; else a millionth of the extent. An edge that is
-    not shared by two is split at points within a ten-thousandth of the extent of it.
+    not shared by two is split at points within a ten-thousandth of the extent of it. Solids that touch along edges are
+    told apart.
     """
     extent = float(numpy.ptp(mesh.points, axis=0).max()) if len(mesh.points) else 0.0
     merge = extent / 1e6 if merge is None else merge
@@ -199,7 +185,10 @@ def shells_of(mesh: Mesh, merge: Optional[float] = None) -> List[Shell]:
         rest = merged(mesh.points, rest, merge)
         if 0 < open_edges(rest) <= 2000:
             rest = proper(split_edges(mesh.points, rest, extent / 10000))
-    return [shell_of(mesh.points, some, extent / 1e7) for some in closed + connected(rest)]
+    for some in connected(rest):
+        touching = open_edges(some) > 0 and is_balanced(some)
+        closed += parted(mesh.points, some) if touching else [some]
+    return [shell_of(mesh.points, some, extent / 1e7) for some in closed]
 
 
 def holds(shell: Shell, point: numpy.ndarray) -> bool:

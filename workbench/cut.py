@@ -4,13 +4,13 @@ from __future__ import annotations
 import os
 from concurrent.futures import ProcessPoolExecutor
 from dataclasses import dataclass, replace
-from typing import Callable, Dict, List, Optional, Sequence, Tuple, Union
+from typing import Iterable, List, Optional, Sequence, Union
 
 import numpy
 
-from .convex import decompose
+from .alike import Alike, Turn, groups_of, mesh_of
+from .convex import Cut, decompose, placed
 from .progress import Progress
-from .snapping import rounded
 from .solid import Options, Piece, Pieces, Refusal, Solid
 
 FEW = 200  # faces that are cut faster than another process begins
@@ -18,50 +18,37 @@ Answer = Union[Pieces, str]  # the pieces, or the line that says why there are n
 
 
 @dataclass
-class Alike:
-    """A solid to be cut, and those that are the same: their numbers and how many steps they lie from it."""
+class Like:
+    """A solid that was cut, and how another one is turned against it."""
 
-    first: int
-    others: List[Tuple[int, numpy.ndarray]]
-
-
-def key_of(solid: Solid) -> Tuple[object, numpy.ndarray]:
-    """What solids have in common that are alike but for a way of whole steps, and where this one lies."""
-    mesh = solid.whole or solid.exact
-    assert mesh is not None
-    place = (
-        rounded(mesh.points.min(axis=0), solid.scale)
-        if solid.whole is None
-        else mesh.points.min(axis=0)
-    )
-    scale = float(solid.scale) if solid.whole is None else 1.0
-    rows = numpy.rint((mesh.points * scale - place) * 1024).astype(numpy.int64)
-    faces = tuple(tuple(face) for face in mesh.faces)
-    return (solid.whole is None, rows.tobytes(), faces), place
+    solid: Solid
+    cut: Cut
+    turn: Turn
 
 
-def groups_of(solids: Sequence[Solid]) -> List[Alike]:
-    found: Dict[object, Tuple[Alike, numpy.ndarray]] = {}
-    for number, solid in enumerate(solids):
-        key, place = key_of(solid)
-        if key in found:
-            found[key][0].others.append((number, place - found[key][1]))
-        else:
-            found[key] = (Alike(number, []), place)
-    return [alike for alike, _ in found.values()]
+@dataclass
+class Task:
+    """A solid that is to be cut, of the pieces of one that is like it if there is one."""
 
+    solid: Solid
+    options: Options
+    like: Optional[Like] = None
 
-def cut_one(solid: Solid, options: Options) -> Answer:
-    """The pieces of a solid. A line where it cannot be cut; a fault of the program is one, too."""
-    mesh = solid.exact or solid.whole
-    assert mesh is not None
-    try:
-        return decompose(solid, options)
-    except Refusal as fault:
-        return f"{mesh.name}: {fault}" if mesh.name not in str(fault) else str(fault)
-    except Exception as fault:  # one solid must not take the others along
-        cause = " ".join([type(fault).__name__, *str(fault).split()])[:200]
-        return f"{mesh.name}: it could not be cut ({cause}); please report this with the file"
+    def answer(self) -> Answer:
+        """The pieces, or a line where it cannot be cut; a fault of the program is one, too."""
+        name = mesh_of(self.solid).name
+        try:
+            return self.pieces()
+        except Refusal as fault:
+            return f"{name}: {fault}" if name not in str(fault) else str(fault)
+        except Exception as fault:  # one solid must not take the others along
+            cause = " ".join([type(fault).__name__, *str(fault).split()])[:200]
+            return f"{name}: it could not be cut ({cause}); please report this with the file"
+
+    def pieces(self) -> Pieces:
+        like = self.like
+        found = like and placed(self.solid, self.options, like.solid, like.cut, like.turn)
+        return found or decompose(self.solid, self.options)
 
 
 def moved(pieces: Pieces, way: numpy.ndarray) -> Pieces:
@@ -70,38 +57,65 @@ def moved(pieces: Pieces, way: numpy.ndarray) -> Pieces:
     )
 
 
+class Work:
+    """The answers for all solids, while they are found."""
+
+    def __init__(self, solids: Sequence[Solid], options: Options) -> None:
+        self.solids, self.options = solids, options
+        self.answers: List[Answer] = [""] * len(solids)
+
+    def task(self, alike: Alike, like: Optional[Like] = None) -> Task:
+        return Task(self.solids[alike.first], self.options, like)
+
+    def turned_task(self, alike: Alike, other: Alike, turn: Turn) -> Task:
+        """The task for a solid that is like one that was cut; alone, where that one could not be cut."""
+        answer = self.answers[alike.first]
+        if isinstance(answer, Cut):
+            return self.task(other, Like(self.solids[alike.first], answer, turn))
+        return self.task(other)
+
+    def take(self, alike: Alike, answer: Answer) -> None:
+        """The answer for the first of a group, which is that of all that only lie elsewhere."""
+        self.answers[alike.first] = answer
+        for number, way in alike.others:
+            self.answers[number] = moved(answer, way) if isinstance(answer, Pieces) else answer
+
+
+class Jobs:
+    """So many processes that cut solids; where one is enough, this one does it."""
+
+    def __init__(self, many: int) -> None:
+        self.pool = ProcessPoolExecutor(many) if many > 1 else None
+
+    def __enter__(self) -> "Jobs":
+        return self
+
+    def __exit__(self, *fault: object) -> None:
+        if self.pool is not None:
+            self.pool.shutdown()
+
+    def each(self, tasks: Sequence[Task]) -> Iterable[Answer]:
+        """The answers, in the order of the tasks."""
+        if self.pool is None:
+            return (task.answer() for task in tasks)
+        waiting = [self.pool.submit(task.answer) for task in tasks]
+        return (one.result() for one in waiting)
+
+
 def cut(solids: Sequence[Solid], options: Options, jobs: Optional[int] = None) -> List[Answer]:
     """The pieces of each solid, or a line that says why there are none."""
     groups = groups_of(solids)
-    answers: List[Answer] = [""] * len(solids)
-    faces = sum(len((solids[alike.first].exact or solids[alike.first].whole).faces) for alike in groups)  # type: ignore
-    jobs = min(jobs or os.cpu_count() or 1, len(groups), 1 + faces // FEW)
-    with Progress("solids cut", len(groups)) as progress:
-        for alike, answer in zip(groups, run(groups, solids, options, jobs, progress.step)):
-            answers[alike.first] = answer
-            for number, way in alike.others:
-                answers[number] = moved(answer, way) if isinstance(answer, Pieces) else answer
-    return answers
-
-
-def run(
-    groups: List[Alike],
-    solids: Sequence[Solid],
-    options: Options,
-    jobs: int,
-    told: Callable[[], None],
-) -> List[Answer]:
-    """The answers for the first solid of each group, in the order of the groups."""
-    work = [solids[alike.first] for alike in groups]
-    found: List[Answer] = []
-    if jobs < 2:
-        for solid in work:
-            found.append(cut_one(solid, options))
-            told()
-        return found
-    with ProcessPoolExecutor(jobs) as pool:
-        waiting = [pool.submit(cut_one, solid, options) for solid in work]
-        for one in waiting:
-            found.append(one.result())
-            told()
-    return found
+    turned = [(alike, *pair) for alike in groups for pair in alike.turned]
+    work = Work(solids, options)
+    faces = sum(len(mesh_of(solids[alike.first]).faces) for alike in groups)
+    many = min(jobs or os.cpu_count() or 1, len(groups), 1 + faces // FEW)
+    with Progress("solids cut", len(groups) + len(turned)) as progress, Jobs(many) as pool:
+        for alike, answer in zip(groups, pool.each([work.task(alike) for alike in groups])):
+            work.take(alike, answer)
+            progress.step()
+        for (_, other, _), answer in zip(
+            turned, pool.each([work.turned_task(*it) for it in turned])
+        ):
+            work.take(other, answer)
+            progress.step()
+    return work.answers

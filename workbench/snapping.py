@@ -6,9 +6,10 @@ from typing import Dict, List, Optional, Tuple
 
 import numpy
 
-from .closing import Groups, edges_of
+from .closing import edges_of
+from .groups import Groups
 from .solid import GREATEST, Mesh
-from .triangles import newell
+from .triangles import newells
 
 EXACT = 1e-9  # of the greatest coordinate: what is left of it by numbers with sixteen digits
 TIE = 1e-6  # halves of a step, and what rounding left of them, all go up: so equal coordinates stay equal
@@ -21,7 +22,7 @@ def rounded(points: numpy.ndarray, scale: Fraction) -> numpy.ndarray:
 
 def planes_of(mesh: Mesh) -> List[List[int]]:
     """The faces in lists, each of faces that meet along edges and lie in one plane."""
-    normals = numpy.array([newell(mesh.points[face]) for face in mesh.faces])
+    normals = newells(mesh.points, mesh.faces)
     sizes = numpy.linalg.norm(normals, axis=1)
     units = normals / numpy.maximum(sizes, 1e-300)[:, None]
     near = 1e-7 * float(numpy.ptp(mesh.points, axis=0).max())
@@ -45,6 +46,7 @@ def on_grid(mesh: Mesh, scale: Fraction) -> Optional[Mesh]:
     points = rounded(mesh.points, scale)
     if numpy.abs(points).max() > GREATEST or len(numpy.unique(points, axis=0)) < len(points):
         return None
+    normals = newells(mesh.points, mesh.faces)
     for numbers in planes_of(mesh):
         corners = sorted({corner for number in numbers for corner in mesh.faces[number]})
         rows = points[corners] - points[corners[0]]
@@ -52,8 +54,7 @@ def on_grid(mesh: Mesh, scale: Fraction) -> Optional[Mesh]:
         if not any(normal) or any(sum(n * int(x) for n, x in zip(normal, row)) for row in rows):
             return None
         for number in numbers:
-            face = mesh.faces[number]
-            if newell(mesh.points[face]) @ numpy.array(whole_normal(points, face), float) <= 0:
+            if normals[number] @ numpy.array(whole_normal(points, mesh.faces[number]), float) <= 0:
                 return None
     return Mesh(points, mesh.faces, mesh.name)
 

@@ -17,6 +17,18 @@ def newell(points: numpy.ndarray) -> numpy.ndarray:
     return numpy.cross(points, after).sum(axis=0)
 
 
+def newells(points: numpy.ndarray, faces: Sequence[Sequence[int]]) -> numpy.ndarray:
+    """Twice the area vectors of faces with these points as corners, (m, 3)."""
+    found = numpy.zeros((len(faces), 3))
+    sizes = numpy.array([len(face) for face in faces], int)
+    for size in numpy.unique(sizes):
+        numbers = numpy.nonzero(sizes == size)[0]
+        rows = points[numpy.array([faces[number] for number in numbers], int)]
+        rows = rows - rows[:, :1]
+        found[numbers] = numpy.cross(rows, numpy.roll(rows, -1, axis=1)).sum(axis=1)
+    return found
+
+
 def flattened(points: numpy.ndarray, normal: numpy.ndarray) -> numpy.ndarray:
     """The points without the coordinate along which the normal is greatest, seen against the normal."""
     drop = int(numpy.argmax(numpy.abs(normal)))

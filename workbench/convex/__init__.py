@@ -1,5 +1,5 @@
 """From solids to convex pieces on the grid, each with bounds of what it gets wrong."""
 from .clearing import clear
-from .decomposing import Cut, decompose
+from .decomposing import Cut, decompose, placed
 
-__all__ = ["Cut", "clear", "decompose"]
+__all__ = ["Cut", "clear", "decompose", "placed"]

@@ -69,6 +69,23 @@ class Cell:
             )
         return made
 
+    def turned_whole(self, frame: List[List[int]], way: Point) -> "Cell":
+        """The cell turned by right angles, point @ frame + way, exactly."""
+
+        def turn(row: Corner) -> Corner:
+            x, y, z = (sum(row[axis] * frame[axis][new] for axis in range(3)) for new in range(3))
+            return x, y, z
+
+        walls = []
+        for normal, height in self.walls:
+            x, y, z = turn(normal)
+            made = (int(x), int(y), int(z))
+            walls.append((made, height + height_of(made, way)))
+        corners = [(x + way[0], y + way[1], z + way[2]) for x, y, z in map(turn, self.corners)]
+        if self.walls:
+            return Cell(corners, walls)
+        return self.turned(numpy.array(frame, float), numpy.array(way, float), 1.0)
+
     def turned(self, frame: numpy.ndarray, middle: numpy.ndarray, finer: float) -> "Cell":
         """The cell, of which coordinates along the rows of a frame are given, `finer` to a step, around `middle`.
 

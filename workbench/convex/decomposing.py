@@ -7,7 +7,9 @@ from typing import List, Optional, Sequence, Set, Tuple
 
 import numpy
 
+from ..alike import Turn
 from ..hulls import Point
+from ..snapping import moved
 from ..solid import GREATEST, Mesh, Options, Piece, Pieces, Refusal, Solid
 from .bodies import Body, Tangled
 from .bounds import Union, farthest
@@ -19,11 +21,12 @@ from .meshes import Surface, open_edges, rounded, shells, solids
 from .nearly import beyond_hull, corners_of
 from .snapping import grown, piece_or_none, shrunk, small_pieces, snapped
 
-HULL, GRID, DRAWN, CGAL = (
+HULL, GRID, DRAWN, CGAL, LIKE = (
     "convex",
     "cut on the grid",
     "cut as it was drawn before it was turned",
     "cut by CGAL",
+    "cut like one that is turned",
 )
 MUCH_FINER = 64  # times as fine is the grid on which a solid is cut that crosses itself on the grid
 ROUNDED = 1.0  # in steps: a solid beyond which its hull goes by no more is convex
@@ -83,6 +86,52 @@ def decompose(solid: Solid, options: Options) -> Cut:
     if not rough.cells:
         raise Refusal("nothing is left of it on this grid: give a finer one")
     return measured(solid, rough, options, (over, under))
+
+
+def placed(solid: Solid, options: Options, like: Solid, cut: Cut, turn: Turn) -> Optional[Cut]:
+    """The pieces of a solid, made of the cells of one that is like it; nothing where it is better cut by itself.
+
+    like, cut: the other one, and how it was cut; turn: how this one is turned against it
+    """
+    if cut.note == HULL:
+        return None
+    if turn.whole and options.side == "near":
+        return turned_whole(solid, cut, turn)
+    if solid.whole is not None and CGAL not in cut.note:
+        return None
+    off = turn.off / float(solid.scale)
+    over, under = (far + off for far in beyond_drawn(like, cut))
+    cells = [cell.turned(turn.frame, turn.way, 1.0) for cell in cut.cells]
+    steps = (under if options.side == "over" else over) * float(solid.scale)
+    rough = Rough(cells, LIKE, set(), steps, (0, 1, 2))
+    return measured(solid, rough, options, (solid.over + over, solid.under + under))
+
+
+def beyond_drawn(solid: Solid, cut: Cut) -> Tuple[float, float]:
+    """How far the cells of a solid go beyond its surface as drawn, and how far they fall short of it; model units."""
+    if solid.whole is None or solid.exact is None:
+        return cut.beyond[0] - solid.over, cut.beyond[1] - solid.under
+    way = float(moved(solid.exact, solid.whole, solid.scale).max())
+    return way, way
+
+
+def turned_whole(solid: Solid, cut: Cut, turn: Turn) -> Cut:
+    """The pieces of a solid whose surface on the grid is that of another one, turned by right angles: exactly so."""
+    frame, way = turn.frame.astype(numpy.int64), turn.way.astype(numpy.int64)
+    pieces = [in_order(piece.points @ frame + way, piece.faces) for piece in cut.pieces]
+    cells = [cell.turned_whole(frame.tolist(), way.tolist()) for cell in cut.cells]
+    over = solid.whole_over + cut.over - cut.beyond[0]
+    under = solid.whole_under + cut.under - cut.beyond[1]
+    x, y, z = pieces[0].points[0].tolist()
+    beyond = (solid.whole_over, solid.whole_under)
+    return Cut(pieces, over, under, LIKE, cells, beyond, (x, y, z), cut.exact)
+
+
+def in_order(points: numpy.ndarray, faces: List[List[int]]) -> Piece:
+    """The piece, its points in order of their coordinates."""
+    order = numpy.lexsort(points.T[::-1])
+    place = order.argsort().tolist()
+    return Piece(points[order], [[place[corner] for corner in face] for face in faces])
 
 
 def surface_of_whole(solid: Solid, whole: Mesh, side: str) -> Surface:
@@ -174,8 +223,8 @@ def as_drawn(mesh: Mesh, scale: float, options: Options, until: float) -> Option
     cells = cells_on_grid(surface, options, until)
     if not cells:
         return None
-    moved = turned.moved + surface.moved / turned.finer
-    return Rough([turned.back(cell) for cell in cells], DRAWN, set(), moved, (0, 1, 2))
+    steps = turned.moved + surface.moved / turned.finer
+    return Rough([turned.back(cell) for cell in cells], DRAWN, set(), steps, (0, 1, 2))
 
 
 def of_surface(surface: Surface, options: Options, until: float) -> Rough:

@@ -13,6 +13,7 @@ import zipfile
 from fractions import Fraction
 
 import numpy
+from scipy.spatial import ConvexHull
 
 from workbench import hulls, planner
 from workbench.grids import finest
@@ -36,6 +37,7 @@ try:
 except ImportError:
     meshio = None
 
+FILES = os.path.join(TOP, "workbench", "tests", "files")
 GEOMVIEW = "/usr/share/geomview/geom"
 
 
@@ -86,6 +88,24 @@ class Formats(Case):
                 self.assertEqual(self.accepted(self.path(name), "--grid=0.01"), self.want)
 
     def test_obj_of_freecad_and_blender(self) -> None:
+        """What FreeCAD 0.20.2 and both exporters of Blender 3.4.1 wrote; beside the files stands how they were made."""
+        want = {
+            "freecad.obj": {"Plate": (4, 9600 - 800), "Pin": (1, 831.384)},
+            "blender.obj": {"Cube": (4, 8 - 0.25), "Pin": (1, 1.530734)},
+            "blender-old.obj": {"Cube": (4, 8 - 0.25), "Pin_Cylinder": (1, 1.530734)},
+        }
+        for name, parts in want.items():
+            with self.subTest(name):
+                self.accepted(os.path.join(FILES, name))
+                grid = float(Fraction(self.model()["grid"]))
+                self.assertEqual([part for part, _ in self.pieces()], list(parts))
+                for part, pieces in self.pieces():
+                    volume = sum(ConvexHull(piece.points * grid).volume for piece in pieces)
+                    self.assertEqual(len(pieces), parts[part][0])
+                    self.assertAlmostEqual(volume / parts[part][1], 1, places=4)
+                    self.assertLess(max(self.bounds()[part]), 2 * grid)
+
+    def test_obj(self) -> None:
         """Corners with normals, with places in a picture, counted backwards; materials and groups between them."""
         points = "".join(f"v {x} {y} {z}\n" for x, y, z in self.points)
         normals = "vn 0 0 1\nvn 0 0 -1\n"
