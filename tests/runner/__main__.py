@@ -99,11 +99,7 @@ def main(words: list[str]) -> int:
     if (names and not is_quick) or not set(names) <= {step.name for step in steps.STEPS}:
         print(f"{__doc__}\nSteps: {', '.join(step.name for step in steps.STEPS)}", file=sys.stderr)
         return 2
-    chosen = [
-        step
-        for step in steps.STEPS
-        if step.name in names or not names and step.is_quick >= is_quick
-    ]
+    chosen = steps.chosen(names, is_quick)
     wanted = {need for step in chosen for need in step.needs} | (set() if is_quick else {"rt"})
     missing = needs.provide(wanted)
     results: list[steps.Result] = []

@@ -27,6 +27,10 @@ def _module(name: str) -> Callable[[], bool]:
     return lambda: importlib.util.find_spec(name) is not None
 
 
+def _file(name: str) -> Callable[[], bool]:
+    return lambda: os.path.isfile(name)
+
+
 def _folder(name: str) -> Callable[[], bool]:
     return lambda: os.path.isdir(name)
 
@@ -37,11 +41,14 @@ NEEDS = {
     "c++": Need("g++", _command("g++")),
     "cc": Need("gcc", _command("cc")),
     "cgal": Need("libcgal-dev", _folder("/usr/include/CGAL")),
+    "cgal meshes": Need("libcgal-demo", _file("/usr/share/doc/libcgal-dev/data.tar.gz")),
+    "chips": Need("freecad-common", _folder("/usr/share/freecad/Mod/Idf/Idflibs")),
     "geomview": Need("geomview", _folder("/usr/share/geomview/geom")),
     "gmsh": Need("python3-gmsh", _module("gmsh")),
     "meshio": Need("python3-meshio", _module("meshio")),
     "numpy": Need("python3-numpy", _module("numpy")),
     "openscad": Need("openscad", _command("openscad")),
+    "prlimit": Need("util-linux", _command("prlimit")),
     "scipy": Need("python3-scipy", _module("scipy")),
     "tqdm": Need("python3-tqdm", _module("tqdm")),
 }

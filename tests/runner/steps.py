@@ -15,7 +15,7 @@ import scratch
 
 TOP = scratch.TOP
 PYTHON = sys.executable
-SECONDS = 3600  # how long a step may take
+SECONDS = 3600  # how long a step may take, where nothing else is said
 TAIL = 60  # how many lines of a step that failed are printed
 
 _COUNTS = re.compile(r"([0-9]+) passed, ([0-9]+) failed\b")
@@ -26,6 +26,7 @@ class Step:
     """A command that runs at the top of the repository. `{program}` in its words is the path of the built program.
 
     Where its last line is `N passed, M failed` these are counted; else it is one test, which its status decides.
+    is_quick: it runs in `./test quick`, too; is_named: it runs only where it is named; seconds: how long it may take
     """
 
     name: str
@@ -33,6 +34,8 @@ class Step:
     needs: tuple[str, ...] = ()
     needs_program: bool = True
     is_quick: bool = True
+    is_named: bool = False
+    seconds: int = SECONDS
 
 
 @dataclass(frozen=True)
@@ -57,6 +60,7 @@ MODELS = (
     "meshio",
     "numpy",
     "openscad",
+    "prlimit",
     "scipy",
     "tqdm",
 )  # what ./staat-cad and its examples need
@@ -79,8 +83,30 @@ STEPS = (
     Step("manual", _python("tools/manual.py", "--check"), needs_program=False),
     Step("layers", _python("tools/layers.py", "--check"), needs_program=False),
     Step("links", _python("tests/runner/links.py"), needs_program=False),
+    Step(
+        "models",
+        _python("tests/runner/units.py", "workbench/tests/long"),
+        (*MODELS, "as1", "cgal meshes", "geomview"),
+        is_quick=False,
+    ),
+    Step(
+        "all models",
+        _python("-m", "workbench.tests.tried", "--check"),
+        (*MODELS, "as1", "cgal meshes", "chips", "geomview"),
+        needs_program=False,
+        is_quick=False,
+        is_named=True,
+        seconds=12 * SECONDS,
+    ),
     Step("stored program", _python("tools/compare_program.py", "{program}"), is_quick=False),
 )
+
+
+def chosen(names: Collection[str], is_quick: bool) -> list[Step]:
+    """The steps that are named; where none is, all of `./test` or of `./test quick`."""
+    if names:
+        return [step for step in STEPS if step.name in names]
+    return [step for step in STEPS if step.is_quick >= is_quick and not step.is_named]
 
 
 def counts(text: str, status: int) -> tuple[int, int]:
@@ -110,7 +136,7 @@ def run(step: Step, program: pathlib.Path | None, missing: Collection[str]) -> R
             stderr=subprocess.STDOUT,
             encoding="utf-8",
             errors="replace",
-            timeout=SECONDS,
+            timeout=step.seconds,
             check=False,
         )
         status, text = done.returncode, done.stdout

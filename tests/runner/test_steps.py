@@ -51,6 +51,15 @@ class Tests(unittest.TestCase):
         )
         self.assertEqual((needs.told([]), needs.install_line(["rt"])), ([], []))
 
+    def test_chosen(self) -> None:
+        quick, whole = steps.chosen([], True), steps.chosen([], False)
+        self.assertLess(len(quick), len(whole))
+        self.assertLess(len(whole), len(steps.STEPS))
+        self.assertEqual(
+            [step.name for step in steps.chosen(["all models", "models"], True)],
+            ["models", "all models"],
+        )
+
     def test_names(self) -> None:
         self.assertEqual(len({step.name for step in steps.STEPS}), len(steps.STEPS))
         for step in steps.STEPS:

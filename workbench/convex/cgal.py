@@ -101,7 +101,8 @@ def decomposed(
             file.writelines("%d %d %d\n" % tuple(point) for point in points)
             file.writelines(" ".join(map(str, [len(face), *face])) + "\n" for face in faces)
         limit = max(1, round(seconds))
-        words = ["prlimit", f"--cpu={limit}:{limit + 1}", command, source, target]
+        limited = [program("prlimit", "util-linux"), f"--cpu={limit}:{limit + 1}"]
+        words = [*limited, command, source, target]
         told = subprocess.run(words, capture_output=True, text=True, check=False)
         if told.returncode in (-signal.SIGXCPU, -signal.SIGKILL):
             raise OutOfTime(
