@@ -8,9 +8,11 @@ from typing import List, NoReturn, Sequence, Tuple
 
 import numpy
 
-from . import planner, summary
+from . import planner, report, summary
+from .answers import OfPlan, Planner
 from .convex import clear
 from .cut import cut
+from .ordering import runs_of
 from .overlaps import overlaps
 from .product import Asked, Product, read_product
 from .solid import Options, Pieces, Refusal
@@ -18,6 +20,7 @@ from .writing import Output
 
 REFUSED = 3
 OVERLAPPED = 1
+STUCK = 1
 
 
 class Words(argparse.ArgumentParser):
@@ -71,6 +74,13 @@ def parser() -> Words:
     )
     add_reading(one)
     add_cutting(one)
+    plan = commands.add_parser(
+        "plan",
+        help="the steps that take what pieces wrote apart, by the names of the model",
+        description="Tells by the names of the model the checked steps that take the product in a folder apart, and "
+        "writes them to plan.json there.",
+    )
+    plan.add_argument("folder", metavar="FOLDER", help="what pieces wrote")
     other = commands.add_parser(
         "run",
         help="run a command of staat on a part list, in its folder",
@@ -227,8 +237,22 @@ def told(folder: str, product: Product, cuts: Sequence[summary.Cut], options: Op
     return OVERLAPPED if overlapped else 0
 
 
+def plan(folder: str, asked: Planner) -> int:
+    """Tells a checked answer and writes it; 1 where parts are stuck. Refusal: there is no answer."""
+    parts = report.read_parts(folder)
+    try:
+        answer = asked.answer(folder)
+    except Refusal as fault:
+        raise Refusal(report.in_names(str(fault), parts)) from fault
+    runs = runs_of(answer.steps, asked, folder)
+    print("\n".join(report.lines_of(answer, runs, parts)))
+    print("written " + report.write_plan(folder, report.plan_of(answer, runs, parts)))
+    return STUCK if answer.stuck else 0
+
+
 COMMANDS = {
     "pieces": pieces,
+    "plan": lambda given: plan(given.folder, OfPlan()),
     "run": lambda given: planner.run(given.folder, given.asked, given.words),
 }
 

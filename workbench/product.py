@@ -176,10 +176,7 @@ class Reading:
         for number, shell in enumerate(found):
             item = Item(label, part, tag if len(found) == 1 else f"{tag}-{number}", mesh=shell.mesh)
             if shell.gaps:
-                item.trouble = (
-                    f"{label} is not closed at {shell.gaps} edges: repair the mesh; solids that touch "
-                    "need files of their own"
-                )
+                item.trouble = f"{label} is not closed at {shell.gaps} edges: repair the mesh"
             shell.mesh.name = "inwards" if shell.drawn is not None and shell.drawn < 0 else ""
             self.items.append(item)
 

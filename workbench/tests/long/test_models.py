@@ -190,7 +190,7 @@ class Geomview(Models):
 
 
 class Made(Models):
-    """What FreeCAD and Blender write here, if they are installed, becomes the same pieces as the files that are kept."""
+    """What FreeCAD and Blender write here, if installed, becomes the same pieces as the files that are kept."""
 
     def test_obj(self) -> None:
         blender = ["blender", "--background", "--factory-startup", "--python"]
