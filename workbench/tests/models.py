@@ -42,7 +42,7 @@ class Model:
     def file(self, folder: str) -> Optional[str]:
         """The path of the file that is read, which is made in a folder; nothing where the model has no solid."""
         suffix = os.path.splitext(self.path.replace(".gz", ""))[1].replace(".scad", ".stl")
-        path = os.path.join(folder, os.path.basename(self.name) + suffix)
+        path = os.path.join(folder, os.path.basename(self.name).replace(suffix, "") + suffix)
         return path if self.make(self.path, path) else None
 
 

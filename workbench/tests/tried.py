@@ -4,8 +4,8 @@
     /usr/bin/python3 -m workbench.tests.tried openscad star.off    those of these packages and of these names
     /usr/bin/python3 -m workbench.tests.tried --check openscad     the same, and writes nothing; the status tells
 
-Rows of models that are not tried stay as they are. With --check the status is 1 where a model became neither pieces
-nor one line that says why there are none, or where parts overlap that do not in the model.
+Rows of models that are not tried stay as they are. The status is 1 where a model became neither pieces nor a line that
+says why there are none.
 """
 from __future__ import annotations
 
@@ -19,7 +19,7 @@ import tempfile
 import time
 from concurrent.futures import ThreadPoolExecutor
 from dataclasses import dataclass
-from typing import Dict, List, Optional, Tuple
+from typing import Any, Dict, List, Optional, Tuple
 
 from workbench.grids import short
 from workbench.planner import TOP
@@ -110,8 +110,9 @@ def run(words: List[str], folder: str) -> Tuple[float, int, str, str]:
     """The processor seconds of a command and of those that it ran, its status, out and err."""
     timed = [sys.executable, "-c", TIMER, *words]
     done = subprocess.run(timed, cwd=folder, capture_output=True, text=True, check=False)
-    text, _, used = done.stdout.rpartition("\nseconds ")
-    return float(used or 0), done.returncode, text, done.stderr
+    found = re.search(r"\nseconds ([\d.]+)\s*$", done.stdout)
+    used = float(found.group(1)) if found else 0.0
+    return used, done.returncode, done.stdout, done.stderr
 
 
 TIMER = (
@@ -123,11 +124,11 @@ TIMER = (
 )
 
 
-def listed(out: str) -> List[Dict[str, float]]:
+def listed(out: str) -> List[Dict[str, Any]]:
     """The parts in a folder that `pieces` wrote; none where it wrote nothing."""
     try:
         with open(os.path.join(out, "model.json"), encoding="utf-8") as file:
-            found: List[Dict[str, float]] = json.load(file)["parts"]
+            found: List[Dict[str, Any]] = json.load(file)["parts"]
             return found
     except OSError:
         return []

@@ -6,7 +6,7 @@ A cube with a notch and a cylinder of 16 sides beside it, by the two exporters t
 """
 import numpy
 
-numpy.bool = bool  # the add-on for OBJ of Debian's Blender asks for it
+setattr(numpy, "bool", bool)  # the add-on for OBJ of Debian's Blender asks for it
 
 import bpy  # noqa: E402  (it reads the line above)
 

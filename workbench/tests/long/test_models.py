@@ -27,7 +27,7 @@ except (ImportError, OSError):
     gmsh = None
 
 AS1 = os.path.join(models.GMSH, models.GZIPPED[0])
-FINE = 96  # sides of the meshes that stand for round solids
+FINE = 48  # sides of the meshes that stand for round solids
 FILES = os.path.join(TOP, "workbench", "tests", "files")
 
 # Closed meshes of CGAL of few faces, and of one that crosses itself on no grid but touches itself.
