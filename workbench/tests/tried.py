@@ -30,7 +30,8 @@ HEAD = """# What became of models that nobody here made
 
 `/usr/bin/python3 -m workbench.tests.tried` makes this table anew, of models in packages of Debian 12. Each is read by
 `./staat-cad pieces` with no option but `--seconds={seconds}`: so much time of a processor a solid may take. Lengths are
-in the unit of the model; *extent* is its greatest coordinate. Seconds are those of a processor, for the whole command.
+in the unit of the model; *extent* is its greatest coordinate. Seconds are those of a processor, for the whole command;
+where none stand, they were not measured. Models of these packages that have no row were not tried yet.
 
 | Package | Model | Parts | Pieces | Over | Under | Extent | Seconds | What else was told |
 |---|---|---|---|---|---|---|---|---|
@@ -65,7 +66,8 @@ class Row:
         ]
         cells = numbers if self.parts else [""] * 5
         told = self.told.replace("|", "/")
-        return f"| {' | '.join([self.package, self.name, *cells, f'{self.seconds:.1f}', told])} |"
+        used = f"{self.seconds:.1f}" if self.seconds else ""
+        return f"| {' | '.join([self.package, self.name, *cells, used, told])} |"
 
 
 def summed(package: str, rows: List[Row]) -> str:
