@@ -204,6 +204,7 @@ class Made(Models):
             subprocess.run(
                 [*words, script],
                 cwd=self.folder.name,
+                env={**os.environ, "PWD": self.folder.name},  # Blender takes it for its folder
                 check=True,
                 capture_output=True,
                 stdin=subprocess.DEVNULL,

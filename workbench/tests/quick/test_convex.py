@@ -17,6 +17,7 @@ from workbench.tests import solids
 from workbench.tests.solids import SQUARE, beaten, blocks, prism, ring, solid, star, turned
 
 BORE = [SQUARE, ring(12, 40, hole=True)]
+CUBES = [(x, y, z) for x in range(3) for y in range(3) for z in range(3)]
 
 
 def has_cgal() -> bool:
@@ -85,11 +86,11 @@ class Exact(unittest.TestCase):
         self.exact(blocks([(0, 0, 0), (1, 0, 0), (2, 0, 0), (0, 0, 1), (2, 0, 1)]), 3)
 
     def test_hollow_box(self) -> None:
-        cells = [cell for cell in itertools.product(range(3), repeat=3) if cell != (1, 1, 1)]
+        cells = [cell for cell in CUBES if cell != (1, 1, 1)]
         self.exact(blocks(cells), 6)
 
     def test_box_with_crossed_holes(self) -> None:
-        cells = [cell for cell in itertools.product(range(3), repeat=3) if cell.count(1) < 2]
+        cells = [cell for cell in CUBES if cell.count(1) < 2]
         self.exact(blocks(cells), 12)
 
     def test_two_boxes_in_one_solid(self) -> None:
@@ -109,7 +110,7 @@ class Exact(unittest.TestCase):
     def test_random_blocks(self) -> None:
         draw = numpy.random.default_rng(7)
         for _ in range(6):
-            cells = [cell for cell in itertools.product(range(3), repeat=3) if draw.random() < 0.6]
+            cells = [cell for cell in CUBES if draw.random() < 0.6]
             mesh = blocks(cells)
             found = decompose(solid(mesh, 100), Options())
             self.assertEqual((found.over, found.under), (0, 0))
@@ -171,7 +172,7 @@ class Rough(unittest.TestCase):
         angles = [
             (math.pi * (i + 1) / 7, 2 * math.pi * j / 12) for i in range(6) for j in range(12)
         ]
-        points = [(0, 0, 50.0), (0, 0, -50.0)]
+        points = [(0.0, 0.0, 50.0), (0.0, 0.0, -50.0)]
         points += [
             (50 * math.sin(a) * math.cos(b), 50 * math.sin(a) * math.sin(b), 50 * math.cos(a))
             for a, b in angles

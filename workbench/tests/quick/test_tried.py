@@ -11,12 +11,12 @@ from workbench.tests.models import Model, copied
 
 
 class Rows(Case):
-    def model(self, name: str, faces: int) -> Model:
+    def made(self, name: str, faces: int) -> Model:
         path = self.write(f"in/{name}.off", off(ANGLE_POINTS, ANGLE_FACES[:faces]))
         return Model("made-up", name, path, copied)
 
     def test_rows(self) -> None:
-        row = tried.tried(self.model("angle", 8), 60)
+        row = tried.tried(self.made("angle", 8), 60)
         self.assertEqual((row.parts, row.pieces, row.over, row.under, row.extent), (1, 2, 0, 0, 2))
         self.assertEqual((row.told, row.good), ("", True))
         self.assertRegex(
@@ -24,7 +24,7 @@ class Rows(Case):
         )
 
     def test_what_is_wrong_is_told(self) -> None:
-        row = tried.tried(self.model("open", 7), 60)
+        row = tried.tried(self.made("open", 7), 60)
         self.assertEqual((row.parts, row.good), (0, True))
         self.assertEqual(row.told, "open.off is not closed at 4 edges: repair the mesh")
 
