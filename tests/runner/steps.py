@@ -88,6 +88,7 @@ STEPS = (
         _python("tests/runner/units.py", "workbench/tests/long"),
         (*MODELS, "as1", "cgal meshes", "geomview"),
         is_quick=False,
+        is_named=True,
     ),
     Step(
         "all models",
