@@ -15,12 +15,14 @@ from .cut import cut
 from .ordering import runs_of
 from .overlaps import overlaps
 from .product import Asked, Product, read_product
+from .show.command import show
 from .solid import Options, Pieces, Refusal
 from .writing import Output
 
 REFUSED = 3
 OVERLAPPED = 1
 STUCK = 1
+SHOW = "a page, a glTF file and pictures of the plan of staat: report.html, product.glb, steps.png"
 
 
 class Words(argparse.ArgumentParser):
@@ -91,7 +93,13 @@ def parser() -> Words:
     other.add_argument(
         "words", nargs=argparse.REMAINDER, metavar="..", help="its words, without the part list"
     )
+    add_showing(commands.add_parser("show", help=SHOW, description=SHOW))
     return top
+
+
+def add_showing(one: argparse.ArgumentParser) -> None:
+    one.add_argument("folder", metavar="FOLDER", help="what pieces wrote, or a part list")
+    one.add_argument("--out", metavar="FOLDER", help="where they are written; else beside the part list")
 
 
 def add_reading(one: argparse.ArgumentParser) -> None:
@@ -254,6 +262,7 @@ COMMANDS = {
     "pieces": pieces,
     "plan": lambda given: plan(given.folder, OfPlan()),
     "run": lambda given: planner.run(given.folder, given.asked, given.words),
+    "show": lambda given: show(given.folder, given.out),
 }
 
 

@@ -1,0 +1,70 @@
+"""A page in Chromium without a window, to make pictures of it and to try it."""
+from __future__ import annotations
+
+import base64
+import contextlib
+import io
+import pathlib
+import shutil
+from typing import Any, Iterator
+
+from ..packages import install_line
+from ..solid import Refusal
+
+SECONDS = 120  # how long a page may take to be ready
+WORDS = (
+    "--headless=new",
+    "--no-sandbox",  # else it does not run as root
+    "--disable-dev-shm-usage",
+    "--use-angle=swiftshader",  # draws without a graphics card
+    "--enable-unsafe-swiftshader",
+    "--hide-scrollbars",
+    "--force-color-profile=srgb",
+)
+
+
+@contextlib.contextmanager
+def chromium(*words: str, size: str = "1280,900") -> Iterator[Any]:
+    """A driver of a browser. Refusal: a package is missing."""
+    for name, package in (("chromium", "chromium"), ("chromedriver", "chromium-driver")):
+        if shutil.which(name) is None:
+            raise Refusal(install_line(package))
+    try:
+        from selenium import webdriver
+        from selenium.webdriver.chrome.service import Service
+    except ImportError as fault:
+        raise Refusal(install_line("python3-selenium")) from fault
+    options = webdriver.ChromeOptions()
+    for word in (*WORDS, f"--window-size={size}", *words):
+        options.add_argument(word)
+    options.set_capability("goog:loggingPrefs", {"browser": "ALL"})
+    driver = webdriver.Chrome(options=options, service=Service(shutil.which("chromedriver")))
+    driver.set_script_timeout(SECONDS)
+    driver.set_page_load_timeout(SECONDS)
+    try:
+        yield driver
+    finally:
+        driver.quit()
+
+
+def open_report(driver: Any, path: str) -> None:
+    """Opens a page; it is ready once it is loaded."""
+    driver.get(pathlib.Path(path).resolve().as_uri())
+
+
+def strip(driver: Any) -> bytes:
+    """The pictures of all steps of the page that is open, as a PNG file."""
+    address = driver.execute_script("return report.strip().toDataURL('image/png')")
+    return small(base64.b64decode(address.partition(",")[2]))
+
+
+def small(data: bytes) -> bytes:
+    """The picture with 255 colours, where PIL is there; else as it is."""
+    try:
+        from PIL import Image
+    except ImportError:
+        return data
+    out = io.BytesIO()
+    picture = Image.open(io.BytesIO(data)).convert("RGB")
+    picture.quantize(255, dither=Image.Dither.NONE).save(out, "PNG", optimize=True)
+    return out.getvalue()

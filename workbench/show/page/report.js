@@ -1,0 +1,387 @@
+/* The page around the picture: steps, groups, parts, keys. */
+"use strict";
+
+(function () {
+  const data = report.data;
+  const many = data.steps.length;
+  const PACE = 1100; /* milliseconds that a step takes */
+  const find = (name) => document.getElementById(name);
+  const AXES = ["x", "y", "z"];
+
+  function element(kind, properties, ...children) {
+    const made = Object.assign(document.createElement(kind), properties || {});
+    made.append(...children);
+    return made;
+  }
+
+  /* Names in a row, as words. */
+  function listed(names) {
+    return names.length < 2 ? names.join("") : names.slice(0, -1).join(", ") + " and " + names[names.length - 1];
+  }
+
+  const named = (parts) => listed(parts.map((part) => data.parts[part].name));
+
+  /* A direction as one says it: +z for 0 0 1. */
+  function way(direction) {
+    const axes = direction.map((number, k) => [number, k]).filter(([number]) => number);
+    if (axes.length === 1) return (axes[0][0] > 0 ? "+" : "\u2212") + AXES[axes[0][1]];
+    return "(" + direction.map((number) => String(number).replace("-", "\u2212")).join(", ") + ")";
+  }
+
+  /* What a step says. */
+  function said(step) {
+    const go = step.moved.length === 1 ? "goes" : "go together";
+    const isAll = step.moved.length + step.stays.length === data.parts.length;
+    const others = isAll && step.stays.length > 3 ? "all others" : named(step.stays);
+    return `${named(step.moved)} ${go} along ${way(step.direction)}, away from ${others}`;
+  }
+
+  report.words = { named, way, said };
+
+  const state = { time: 0, modes: data.parts.map(() => "shown"), hold: null, picked: null, running: 0 };
+  const dark = matchMedia("(prefers-color-scheme: dark)");
+  const still = matchMedia("(prefers-reduced-motion: reduce)");
+  let scene = null;
+  let controls = null;
+
+  /* The parts that hold each other, where some do. */
+  const grouped = new Set(data.groups.flatMap((group) => group.parts));
+
+  /* The look of each part: as it was chosen; faint where others are to be seen. */
+  report.looks = function (modes, hold) {
+    return modes.map((mode, part) => {
+      if (mode === "shown" && (hold || (grouped.size && !grouped.has(part)))) return "clear";
+      return mode;
+    });
+  };
+
+  report.lit = function (hold) {
+    return new Map(hold ? [[hold.part, new Set([hold.piece])], [hold.by, new Set([hold.by_piece])]] : []);
+  };
+
+  let isAsked = false;
+  function draw() {
+    if (!scene || isAsked) return;
+    isAsked = true;
+    requestAnimationFrame(() => {
+      isAsked = false;
+      scene.render();
+    });
+  }
+
+  function dress() {
+    if (!scene) return;
+    const step = data.steps[Math.ceil(state.time) - 1];
+    const marked = new Set(step ? step.moved : []);
+    if (state.picked !== null) marked.add(state.picked);
+    scene.dress(report.looks(state.modes, state.hold), report.lit(state.hold), marked, dark.matches ? report.DARK : report.LIGHT);
+    draw();
+  }
+
+  /* The step at hand, in the lists and in words. */
+  function tell() {
+    const at = Math.ceil(state.time);
+    const step = data.steps[at - 1];
+    document.querySelectorAll("#steps button").forEach((button, k) => {
+      if (k === at) button.setAttribute("aria-current", "step");
+      else button.removeAttribute("aria-current");
+    });
+    document.querySelectorAll("#parts li").forEach((row, part) => {
+      row.classList.toggle("moved", Boolean(step) && step.moved.includes(part));
+    });
+    let words = "Together, as it is used.";
+    if (step) words = `Step ${at} of ${many}: ${said(step)}.`;
+    if (at === many && state.time === many && many) words += " This is the exploded view.";
+    if (!many && data.groups.length) words = "No step takes these parts apart.";
+    if (find("now").textContent !== words) find("now").textContent = words;
+  }
+
+  /* Goes to a time from 0, together, to the number of steps, apart. */
+  function go(time) {
+    state.time = Math.min(Math.max(time, 0), many);
+    find("slider").value = state.time;
+    find("slider").setAttribute("aria-valuetext", `step ${Math.ceil(state.time)} of ${many}`);
+    if (scene) scene.go(state.time);
+    tell();
+    dress();
+  }
+
+  function stop() {
+    state.running = 0;
+    find("apart").textContent = "Take apart";
+    find("together").textContent = "Put together";
+  }
+
+  /* Moves from where it is to a time, step by step. */
+  function run(goal) {
+    stop();
+    if (still.matches && Math.abs(goal - state.time) <= 1) return go(goal);
+    const turn = Math.sign(goal - state.time);
+    if (!turn) return undefined;
+    find(turn > 0 ? "apart" : "together").textContent = "Stop";
+    const token = (state.running = performance.now() + Math.random());
+    let last = performance.now();
+    const tick = (now) => {
+      if (state.running !== token) return;
+      const next = state.time + (turn * Math.max(0, now - last)) / PACE;
+      last = now;
+      if ((goal - next) * turn <= 0) {
+        go(goal);
+        stop();
+        return;
+      }
+      go(next);
+      requestAnimationFrame(tick);
+    };
+    requestAnimationFrame(tick);
+    return undefined;
+  }
+
+  const play = (goal) => (state.running ? stop() : run(goal));
+  const onward = () => { stop(); go(Math.floor(state.time + 1e-6) + 1); };
+  const backward = () => { stop(); go(Math.ceil(state.time - 1e-6) - 1); };
+
+  function spot(part) {
+    const made = element("span", { className: "spot" });
+    made.style.background = data.parts[part].colour;
+    return made;
+  }
+
+  function fillSteps() {
+    if (!many) {
+      find("travel").querySelector(".row").hidden = true;
+      return;
+    }
+    find("steps").hidden = false;
+    find("slider").max = many;
+    const rows = [element("button", { type: "button" }, element("span", { className: "number" }, "0"), "together")];
+    data.steps.forEach((step, k) => {
+      const words = said(step).split(named(step.moved));
+      const moved = step.moved.flatMap((part) => [spot(part)]);
+      rows.push(element("button", { type: "button", title: `along ${step.direction.join(" ")}` },
+        element("span", { className: "number" }, String(k + 1)), ...moved, element("b", {}, named(step.moved)), words.slice(1).join(named(step.moved))));
+    });
+    rows.forEach((button, k) => {
+      button.addEventListener("click", () => (k === Math.ceil(state.time) - 1 || k === Math.ceil(state.time) + 1 ? run(k) : (stop(), go(k))));
+      find("steps").querySelector("ol").append(element("li", {}, button));
+    });
+  }
+
+  function choose(hold, button) {
+    state.hold = state.hold === hold ? null : hold;
+    document.querySelectorAll("#holds button").forEach((other) => {
+      other.setAttribute("aria-pressed", String(other === button && state.hold !== null));
+    });
+    dress();
+  }
+
+  function fillHolds() {
+    if (!data.groups.length) return;
+    find("holds").hidden = false;
+    find("holds").querySelector("p").textContent =
+      "Along every direction each of these parts is held by the others. A line lights up the two pieces that meet; backwards the second part is held by the first.";
+    for (const group of data.groups) {
+      const directions = [...new Set(group.holds.map((hold) => hold.direction.join(" ")))];
+      find("holds").querySelector("div").append(element("h3", {}, named(group.parts)));
+      for (const direction of directions) {
+        const some = group.holds.filter((hold) => hold.direction.join(" ") === direction);
+        find("holds").querySelector("div").append(element("h3", {}, `Along ${way(some[0].direction)}`));
+        for (const hold of some) {
+          const button = element("button", { type: "button" }, spot(hold.part), data.parts[hold.part].name, " is held by ", spot(hold.by), data.parts[hold.by].name);
+          button.title = `piece ${hold.piece} of ${data.parts[hold.part].name} meets piece ${hold.by_piece} of ${data.parts[hold.by].name}`;
+          button.setAttribute("aria-pressed", "false");
+          button.addEventListener("click", () => choose(hold, button));
+          find("holds").querySelector("div").append(button);
+        }
+      }
+    }
+  }
+
+  function pick(part) {
+    state.picked = state.picked === part ? null : part;
+    document.querySelectorAll("#parts .name").forEach((button, number) => {
+      button.setAttribute("aria-pressed", String(number === state.picked));
+      if (number === state.picked) button.scrollIntoView({ block: "nearest" });
+    });
+    dress();
+  }
+
+  function fillParts() {
+    data.parts.forEach((told, part) => {
+      const name = element("button", { type: "button", className: "name" }, spot(part), told.name);
+      name.setAttribute("aria-pressed", "false");
+      name.addEventListener("click", () => pick(part));
+      const switches = [["clear", "Clear"], ["hidden", "Hide"]].map(([mode, word]) => {
+        const button = element("button", { type: "button" }, word);
+        button.setAttribute("aria-label", `${word} ${told.name}`);
+        button.setAttribute("aria-pressed", "false");
+        button.addEventListener("click", () => {
+          state.modes[part] = state.modes[part] === mode ? "shown" : mode;
+          switches.forEach(([other, its]) => its.setAttribute("aria-pressed", String(state.modes[part] === other)));
+          dress();
+        });
+        return [mode, button];
+      });
+      find("parts").querySelector("ul").append(element("li", {}, name, ...switches.map(([, button]) => button)));
+    });
+  }
+
+  /* What was checked, and how near the pieces are to the model. */
+  function fillFoot() {
+    for (const check of data.checks) {
+      find("checks").querySelector("tbody").append(element("tr", {}, element("td", {}, element("code", {}, check.command)),
+        element("td", {}, check.answer), element("td", {}, check.meaning)));
+    }
+    const model = data.model;
+    const NEAR = {
+      over: "The pieces contain their parts: what comes apart as pieces comes apart.",
+      under: "The pieces lie within their parts: what is stuck as pieces is stuck.",
+      near: "Where a fit is tighter than these bounds, the answer for the model may differ.",
+    };
+    find("near").textContent = model
+      ? `The pieces stand on a grid of ${model.grid} ${model.unit || ""}; the bounds are in the unit of the model. ${NEAR[model.side] || ""}`
+      : "The pieces are the product: the part list names no model that they stand for.";
+    if (!model) return;
+    find("bounds").hidden = false;
+    for (const part of model.parts) {
+      const lengths = [part.over, part.under].map((length) => element("td", { className: "length" }, String(length)));
+      find("bounds").querySelector("tbody").append(element("tr", {}, element("td", {}, part.name), element("td", {}, String(part.pieces)), ...lengths));
+    }
+  }
+
+  function fillHead() {
+    const pieces = data.parts.reduce((sum, part) => sum + part.pieces.length, 0);
+    const size = `${data.parts.length} parts, ${pieces} pieces`;
+    const held = data.groups.map((group) => named(group.parts)).join("; ");
+    const steps = many === 1 ? "one step" : `${many} steps`;
+    let words = `${size}; comes apart in ${steps}, and backwards they put it together`;
+    if (data.groups.length) words = `${size}; stuck: ${held}`;
+    find("answer").textContent = words;
+  }
+
+  /* The eye: the mouse, fingers and keys turn it. */
+  function watch() {
+    controls = new THREE.OrbitControls(scene.camera, scene.canvas);
+    controls.enableKeys = false;
+    controls.target = scene.target;
+    let lastDistance = 0;
+    controls.addEventListener("start", () => (lastDistance = scene.camera.position.distanceTo(scene.target)));
+    const before = new THREE.Vector3();
+    controls.addEventListener("change", () => {
+      const distance = scene.camera.position.distanceTo(scene.target);
+      const isMoved = before.distanceTo(scene.target) > 1e-6 * distance && lastDistance > 0;
+      if ((lastDistance && Math.abs(distance - lastDistance) > 1e-6 * distance) || isMoved) scene.isFitted = false;
+      draw();
+    });
+    controls.addEventListener("start", () => before.copy(scene.target));
+    controls.addEventListener("end", () => (lastDistance = 0));
+    find("whole").addEventListener("click", whole);
+    scene.canvas.addEventListener("keydown", turn);
+    let down = null;
+    scene.canvas.addEventListener("mousedown", (event) => (down = [event.clientX, event.clientY]));
+    scene.canvas.addEventListener("click", (event) => {
+      if (down && Math.hypot(event.clientX - down[0], event.clientY - down[1]) > 4) return;
+      const found = under(event);
+      if (found) pick(found.part);
+      else if (state.picked !== null) pick(state.picked);
+    });
+    scene.canvas.addEventListener("mousemove", hover);
+    scene.canvas.addEventListener("mouseleave", () => (find("tip").hidden = true));
+  }
+
+  function under(event) {
+    const box = scene.canvas.getBoundingClientRect();
+    return scene.pick(((event.clientX - box.left) / box.width) * 2 - 1, 1 - ((event.clientY - box.top) / box.height) * 2);
+  }
+
+  function hover(event) {
+    const found = event.buttons ? null : under(event);
+    const tip = find("tip");
+    tip.hidden = !found;
+    if (!found) return;
+    const box = scene.canvas.getBoundingClientRect();
+    tip.textContent = data.parts[found.part].name;
+    tip.style.left = Math.min(event.clientX - box.left + 14, box.width - tip.offsetWidth - 4) + "px";
+    tip.style.top = Math.max(event.clientY - box.top - 26, 2) + "px";
+  }
+
+  function whole() {
+    scene.isFitted = true;
+    scene.camera.position.copy(scene.target).add(new THREE.Vector3(...data.view));
+    scene.fit();
+    draw();
+  }
+
+  const TURNS = { ArrowLeft: [-1, 0], ArrowRight: [1, 0], ArrowUp: [0, -1], ArrowDown: [0, 1] };
+
+  /* Keys in the picture: arrows turn it by seven degrees and a half, plus and minus zoom. */
+  function turn(event) {
+    const off = scene.camera.position.clone().sub(scene.target);
+    const ball = new THREE.Spherical().setFromVector3(new THREE.Vector3(off.x, off.z, -off.y));
+    if (TURNS[event.key]) {
+      ball.theta += (TURNS[event.key][0] * Math.PI) / 24;
+      ball.phi = Math.min(Math.max(ball.phi + (TURNS[event.key][1] * Math.PI) / 24, 0.02), Math.PI - 0.02);
+    } else if ("+-=".includes(event.key)) {
+      ball.radius *= event.key === "-" ? 1.15 : 1 / 1.15;
+      scene.isFitted = false;
+    } else return;
+    const now = new THREE.Vector3().setFromSpherical(ball);
+    scene.camera.position.copy(scene.target).add(new THREE.Vector3(now.x, -now.z, now.y));
+    scene.camera.lookAt(scene.target);
+    event.preventDefault();
+    event.stopPropagation();
+    draw();
+  }
+
+  /* Keys of the page; a button that has the focus keeps the space. */
+  function press(event) {
+    if (event.ctrlKey || event.metaKey || event.altKey) return;
+    const keys = { ArrowRight: onward, ArrowLeft: backward, Home: () => { stop(); go(0); }, End: () => { stop(); go(many); }, f: () => scene && whole() };
+    if (event.target === find("slider")) Object.assign(keys, { ArrowUp: onward, ArrowDown: backward });
+    if (event.key === " " && event.target.tagName !== "BUTTON") keys[" "] = () => play(state.time < many ? many : 0);
+    const act = keys[event.key];
+    if (!act || (!many && event.key !== "f")) return;
+    event.preventDefault();
+    act();
+  }
+
+  function listen() {
+    find("slider").addEventListener("input", () => { stop(); go(Number(find("slider").value)); });
+    find("first").addEventListener("click", () => { stop(); go(0); });
+    find("last").addEventListener("click", () => { stop(); go(many); });
+    find("before").addEventListener("click", backward);
+    find("after").addEventListener("click", onward);
+    find("apart").addEventListener("click", () => play(many));
+    find("together").addEventListener("click", () => play(0));
+    document.addEventListener("keydown", press);
+    dark.addEventListener("change", dress);
+    addEventListener("beforeprint", () => find("paper").replaceChildren(scene ? report.strip() : ""));
+  }
+
+  function resize() {
+    const { clientWidth, clientHeight } = find("frame");
+    scene.resize(clientWidth, clientHeight, window.devicePixelRatio || 1);
+    draw();
+  }
+
+  fillHead();
+  fillSteps();
+  fillHolds();
+  fillParts();
+  fillFoot();
+  listen();
+  try {
+    scene = new report.Scene(find("view"), data);
+  } catch (fault) {
+    find("frame").replaceChildren(element("p", { className: "keys" }, "This browser does not draw in three dimensions (WebGL)."));
+  }
+  if (scene) {
+    scene.prepare(1, 1);
+    scene.fit();
+    resize();
+    watch();
+    new ResizeObserver(resize).observe(find("frame"));
+  }
+  go(0);
+  Object.assign(report, { scene, go, state, places: () => scene.read(), restore: () => { resize(); go(state.time); } });
+})();

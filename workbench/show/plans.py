@@ -1,0 +1,85 @@
+"""What is shown: steps that take a product apart, and groups of parts that hold each other.
+
+Any planner may fill it. Parts and pieces are numbered from 0 in the order of the part list; lengths are steps of the
+grid.
+"""
+from __future__ import annotations
+
+from dataclasses import dataclass
+from typing import List, Sequence, Tuple
+
+Vector = Tuple[int, int, int]
+Parts = Tuple[int, ...]
+
+NOWHERE: Vector = (0, 0, 0)
+
+
+def moved_by(place: Vector, direction: Vector, times: int) -> Vector:
+    """A place that is moved by so many times a direction."""
+    x, y, z = (at + times * step for at, step in zip(place, direction))
+    return (x, y, z)
+
+
+@dataclass(frozen=True)
+class Step:
+    """The parts `moved` go together along a direction, to infinity, away from the parts `stays`."""
+
+    moved: Parts
+    direction: Vector
+    stays: Parts
+
+
+@dataclass(frozen=True)
+class Hold:
+    """A piece of a part, moved along a direction, meets a piece of the part `by`."""
+
+    direction: Vector
+    part: int
+    piece: int
+    by: int
+    by_piece: int
+
+
+@dataclass(frozen=True)
+class Group:
+    """Parts that stay together along every direction, and who holds whom along some."""
+
+    parts: Parts
+    holds: Tuple[Hold, ...] = ()
+
+
+@dataclass(frozen=True)
+class Check:
+    """A command of a planner or a judge that was run, its answer in one line, and what that means."""
+
+    command: str
+    answer: str
+    meaning: str
+
+
+@dataclass(frozen=True)
+class Plan:
+    """Steps in an order in which each divides parts that are still together, and the groups that remain.
+
+    The steps of a side come behind the step that parts it from the other one.
+    """
+
+    steps: Tuple[Step, ...]
+    groups: Tuple[Group, ...] = ()
+    checks: Tuple[Check, ...] = ()
+
+
+def places(plan: Plan, travels: Sequence[int], many: int) -> List[List[Vector]]:
+    """By which vector each of so many parts is moved: before the first step, and after each.
+
+    travels: how many times its direction a step leads, in the picture
+    """
+    at = [NOWHERE] * many
+    found = [list(at)]
+    for step, times in zip(plan.steps, travels):
+        at = [
+            moved_by(place, step.direction, times) if part in step.moved else place
+            for part, place in enumerate(at)
+        ]
+        found.append(at)
+    return found

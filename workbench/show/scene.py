@@ -1,0 +1,102 @@
+"""The parts as they are drawn: their pieces, their lines and their colours."""
+from __future__ import annotations
+
+import colorsys
+import os
+from dataclasses import dataclass
+from typing import Dict, List, Sequence, Tuple
+
+import numpy
+
+from ..reading.lists import Listed
+from ..reading.off import read_off
+from ..solid import Refusal
+from .creases import Body, creases
+from .travel import Box
+
+# told apart by those too who see red and green alike
+COLOURS = (
+    "#e0584a",
+    "#4f8ccb",
+    "#efb73e",
+    "#5fa867",
+    "#9d70bb",
+    "#45b5b5",
+    "#e088b2",
+    "#98785a",
+)
+GOLDEN = 0.381966  # of a circle: so far apart are the hues of further parts
+
+
+@dataclass(frozen=True)
+class Part:
+    """A part at its place in the product, in steps of the grid.
+
+    pieces: convex, each with its points and its faces, which are lists of corners
+    lines: (n, 2, 3), where the surface of their union has a bend
+    colour: as #rrggbb
+    """
+
+    name: str
+    pieces: Tuple[Body, ...]
+    lines: numpy.ndarray
+    colour: str
+
+    @property
+    def points(self) -> numpy.ndarray:
+        return numpy.concatenate([piece.points for piece in self.pieces])
+
+    @property
+    def box(self) -> Box:
+        low, high = self.points.min(axis=0), self.points.max(axis=0)
+        return Box(
+            (int(low[0]), int(low[1]), int(low[2])), (int(high[0]), int(high[1]), int(high[2]))
+        )
+
+
+def parts_of(listed: Sequence[Listed]) -> List[Part]:
+    """The parts of a list. Refusal: a file cannot be read."""
+    bodies = [
+        tuple(body_of(file, numpy.array(part.at, dtype=float)) for file in part.files)
+        for part in listed
+    ]
+    every = numpy.concatenate([body.points for some in bodies for body in some])
+    extent = float((every.max(axis=0) - every.min(axis=0)).max())
+    return [
+        Part(part.name, some, creases(some, extent), colour_of(number))
+        for number, (part, some) in enumerate(zip(listed, bodies))
+    ]
+
+
+def body_of(file: str, at: numpy.ndarray) -> Body:
+    try:
+        with open(file, "rb") as opened:
+            points, faces = read_off(opened.read())
+    except OSError as fault:
+        raise Refusal(f"cannot read {file}: {fault.strerror}") from fault
+    except Refusal as fault:
+        raise Refusal(f"{os.path.basename(file)}: {fault}") from fault
+    return Body(numpy.array(points, dtype=float)[:, :3] + at, tuple(map(tuple, faces)))
+
+
+def colour_of(number: int) -> str:
+    """The colour of a part, by its number: one of those that are named, then lighter and darker hues."""
+    if number < len(COLOURS):
+        return COLOURS[number]
+    light = (0.66, 0.48)[number % 2]
+    channels = colorsys.hls_to_rgb(number * GOLDEN % 1, light, 0.5)
+    return "#" + "".join(f"{round(255 * channel):02x}" for channel in channels)
+
+
+def triangles(body: Body) -> Tuple[numpy.ndarray, numpy.ndarray]:
+    """The corners (n, 3, 3) of the triangles of a piece and the normal (n, 3) of each; those without area are left out."""
+    corners: Dict[int, List[numpy.ndarray]] = {}
+    for number, face in enumerate(body.faces):
+        corners[number] = [
+            body.points[[face[0], face[k], face[k + 1]]] for k in range(1, len(face) - 1)
+        ]
+    found = numpy.array([triangle for some in corners.values() for triangle in some])
+    across = numpy.cross(found[:, 1] - found[:, 0], found[:, 2] - found[:, 0])
+    size = numpy.linalg.norm(across, axis=1)
+    kept = size > 0
+    return found[kept], across[kept] / size[kept, None]
