@@ -84,13 +84,11 @@ def glb(parts: Sequence[Part], rows: Sequence[Sequence[Vector]], title: str, sca
 
 
 def mesh_of(part: Part, number: int, buffer: Buffer) -> Dict[str, Any]:
-    """The triangles of all pieces of a part, each with the normal of its face."""
-    found = [triangles(piece) for piece in part.pieces]
-    corners = numpy.concatenate([one for one, _ in found]).reshape(-1, 3)
-    normals = numpy.concatenate([other for _, other in found]).repeat(3, axis=0)
+    """The triangles of a part's surface, each corner with the normal of its face."""
+    corners, normals = triangles(part.surface)
     attributes = {
-        "POSITION": buffer.add(corners, "VEC3", ARRAY_BUFFER, bounded=True),
-        "NORMAL": buffer.add(normals, "VEC3", ARRAY_BUFFER),
+        "POSITION": buffer.add(corners.reshape(-1, 3), "VEC3", ARRAY_BUFFER, bounded=True),
+        "NORMAL": buffer.add(normals.repeat(3, axis=0), "VEC3", ARRAY_BUFFER),
     }
     return {"name": part.name, "primitives": [{"attributes": attributes, "material": number}]}
 

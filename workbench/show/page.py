@@ -52,6 +52,7 @@ def part_data(part: Part) -> Dict[str, Any]:
         "pieces": [
             {"points": plain(piece.points), "faces": piece.faces} for piece in part.pieces
         ],
+        "surface": [plain(polygon) for polygon in part.surface],
         "lines": plain(part.lines.reshape(-1, 3)),
     }
 
@@ -77,7 +78,7 @@ def page(data: Dict[str, Any]) -> str:
         "SCRIPTS": "\n".join(f"<script>{shielded(script)}</script>" for script in scripts),
     }
     for name, value in put.items():
-        text = text.replace(f"<!--{name}-->", value, 1)
+        text = text.replace(f"<!--{name}-->", value)
     return text
 
 

@@ -4,7 +4,7 @@ from __future__ import annotations
 import colorsys
 import os
 from dataclasses import dataclass
-from typing import Dict, List, Sequence, Tuple
+from typing import List, Sequence, Tuple
 
 import numpy
 
@@ -12,6 +12,7 @@ from ..reading.lists import Listed
 from ..reading.off import read_off
 from ..solid import Refusal
 from .creases import Body, creases
+from .surface import surface
 from .travel import Box
 
 # told apart by those too who see red and green alike
@@ -32,13 +33,14 @@ GOLDEN = 0.381966  # of a circle: so far apart are the hues of further parts
 class Part:
     """A part at its place in the product, in steps of the grid.
 
-    pieces: convex, each with its points and its faces, which are lists of corners
-    lines: (n, 2, 3), where the surface of their union has a bend
+    surface: convex polygons (n, 3), wound outwards, which bound the union of the pieces
+    lines: (n, 2, 3), where that surface has a bend
     colour: as #rrggbb
     """
 
     name: str
     pieces: Tuple[Body, ...]
+    surface: List[numpy.ndarray]
     lines: numpy.ndarray
     colour: str
 
@@ -63,7 +65,7 @@ def parts_of(listed: Sequence[Listed]) -> List[Part]:
     every = numpy.concatenate([body.points for some in bodies for body in some])
     extent = float((every.max(axis=0) - every.min(axis=0)).max())
     return [
-        Part(part.name, some, creases(some, extent), colour_of(number))
+        Part(part.name, some, surface(some, extent), creases(some, extent), colour_of(number))
         for number, (part, some) in enumerate(zip(listed, bodies))
     ]
 
@@ -88,14 +90,14 @@ def colour_of(number: int) -> str:
     return "#" + "".join(f"{round(255 * channel):02x}" for channel in channels)
 
 
-def triangles(body: Body) -> Tuple[numpy.ndarray, numpy.ndarray]:
-    """The corners (n, 3, 3) of the triangles of a piece and the normal (n, 3) of each; those without area are left out."""
-    corners: Dict[int, List[numpy.ndarray]] = {}
-    for number, face in enumerate(body.faces):
-        corners[number] = [
-            body.points[[face[0], face[k], face[k + 1]]] for k in range(1, len(face) - 1)
-        ]
-    found = numpy.array([triangle for some in corners.values() for triangle in some])
+def triangles(polygons: Sequence[numpy.ndarray]) -> Tuple[numpy.ndarray, numpy.ndarray]:
+    """The corners (n, 3, 3) of the triangles of convex polygons, and the normal (n, 3) of each.
+
+    Triangles without area are left out.
+    """
+    found = numpy.array(
+        [polygon[[0, k, k + 1]] for polygon in polygons for k in range(1, len(polygon) - 1)]
+    )
     across = numpy.cross(found[:, 1] - found[:, 0], found[:, 2] - found[:, 0])
     size = numpy.linalg.norm(across, axis=1)
     kept = size > 0

@@ -2,7 +2,7 @@
 from __future__ import annotations
 
 import math
-from itertools import combinations
+from itertools import permutations
 from typing import List, Sequence, Tuple
 
 import numpy
@@ -50,29 +50,31 @@ def worth(every: numpy.ndarray, height: float, turn: float) -> float:
 
     every: the corners of the parts' boxes, by row and part
     """
-    right, up, _ = axes(height, turn)
+    right, up, back = axes(height, turn)
     flat = numpy.stack([every @ right, every @ up], axis=-1)
-    low, high = flat.min(axis=2), flat.max(axis=2)
+    depth = (every[-1] @ back).mean(axis=1)
     hidden = sum(
-        covered(low[-1, a], high[-1, a], low[-1, b], high[-1, b])
-        for a, b in combinations(range(every.shape[1]), 2)
+        covered(flat[-1, behind], flat[-1, before])
+        for behind, before in permutations(range(every.shape[1]), 2)
+        if depth[behind] < depth[before]
     )
-    middles = flat.mean(axis=2)
-    ways = numpy.linalg.norm(middles[1:] - middles[:-1], axis=-1).sum()
-    straight = every.mean(axis=2)
-    length = numpy.linalg.norm(straight[1:] - straight[:-1], axis=-1).sum()
-    across = ways / length if length else 1.0
+    across = length_of(flat.mean(axis=2))
+    length = length_of(every.mean(axis=2))
     off = abs(math.sin(math.radians(2 * turn)))  # 0 where the axes lie across or straight ahead
     near = math.cos(math.radians(turn - LIKED))
-    return float(across - hidden / every.shape[1] + 0.6 * min(off, 0.85) + 0.25 * near)
+    seen = across / length if length else 1.0
+    return float(seen - hidden / every.shape[1] + 0.6 * min(off, 0.85) + 0.2 * near)
 
 
-def covered(
-    low: numpy.ndarray, high: numpy.ndarray, other_low: numpy.ndarray, other_high: numpy.ndarray
-) -> float:
-    """Which share of the smaller of two rectangles the other one covers."""
-    common = numpy.minimum(high, other_high) - numpy.maximum(low, other_low)
+def length_of(middles: numpy.ndarray) -> float:
+    """How long the ways of all parts are together; middles: by row and part."""
+    return float(numpy.linalg.norm(middles[1:] - middles[:-1], axis=-1).sum())
+
+
+def covered(behind: numpy.ndarray, before: numpy.ndarray) -> float:
+    """Which share of the rectangle around some points the one around others covers."""
+    low, high = behind.min(axis=0), behind.max(axis=0)
+    common = numpy.minimum(high, before.max(axis=0)) - numpy.maximum(low, before.min(axis=0))
     if (common <= 0).any():
         return 0.0
-    least = min(float(numpy.prod(high - low)), float(numpy.prod(other_high - other_low)))
-    return float(numpy.prod(common)) / least if least else 0.0
+    return float(numpy.prod(common) / numpy.prod(high - low))

@@ -6,18 +6,16 @@ var report = { data: JSON.parse(document.getElementById("data").textContent) };
 report.LIGHT = { ink: 0x23282e, mark: 0x1a66c2, faint: 0x8a929b };
 report.DARK = { ink: 0x0b0d10, mark: 0x8cc0ff, faint: 0x7b858f };
 
-/* The corners of the triangles of a convex piece, and the normal of each corner's face. */
-report.geometry = function (pieces) {
+/* The triangles of convex polygons, each corner with the normal of its polygon. */
+report.geometry = function (polygons) {
   const corners = [], normals = [];
-  for (const { points, faces } of pieces) {
-    for (const face of faces) {
-      for (let k = 1; k + 1 < face.length; k++) {
-        const [a, b, c] = [face[0], face[k], face[k + 1]].map((corner) => new THREE.Vector3(...points[corner]));
-        const normal = b.clone().sub(a).cross(c.clone().sub(a)).normalize();
-        for (const corner of [a, b, c]) {
-          corners.push(corner.x, corner.y, corner.z);
-          normals.push(normal.x, normal.y, normal.z);
-        }
+  for (const polygon of polygons) {
+    const points = polygon.map((point) => new THREE.Vector3(...point));
+    const normal = report.normal(points);
+    for (let k = 1; k + 1 < points.length; k++) {
+      for (const corner of [points[0], points[k], points[k + 1]]) {
+        corners.push(corner.x, corner.y, corner.z);
+        normals.push(normal.x, normal.y, normal.z);
       }
     }
   }
@@ -27,7 +25,30 @@ report.geometry = function (pieces) {
   return found;
 };
 
-/* A part: whole pieces, the same faint, and its lines. Its group is moved, in steps of the grid. */
+/* The unit normal of a polygon. */
+report.normal = function (points) {
+  const sum = new THREE.Vector3();
+  points.forEach((point, k) => sum.add(point.clone().sub(points[0]).cross(points[(k + 1) % points.length].clone().sub(points[0]))));
+  return sum.normalize();
+};
+
+/* The sides of polygons, lit as the polygons are: they close the hair lines between polygons side by side. */
+report.seams = function (polygons) {
+  const ends = [], normals = [];
+  for (const polygon of polygons) {
+    const normal = report.normal(polygon.map((point) => new THREE.Vector3(...point)));
+    polygon.forEach((point, k) => {
+      ends.push(...point, ...polygon[(k + 1) % polygon.length]);
+      normals.push(normal.x, normal.y, normal.z, normal.x, normal.y, normal.z);
+    });
+  }
+  const found = new THREE.BufferGeometry();
+  found.setAttribute("position", new THREE.Float32BufferAttribute(ends, 3));
+  found.setAttribute("normal", new THREE.Float32BufferAttribute(normals, 3));
+  return found;
+};
+
+/* A part: its surface, the same faint, its pieces, and its lines. Its group is moved, in steps of the grid. */
 report.Part = class {
   constructor(told, number) {
     this.group = new THREE.Group();
@@ -36,13 +57,15 @@ report.Part = class {
     const near = { polygonOffset: true, polygonOffsetFactor: 1, polygonOffsetUnits: 1 };
     const far = { polygonOffset: true, polygonOffsetFactor: 2, polygonOffsetUnits: 2, transparent: true };
     this.surface = new THREE.MeshLambertMaterial({ color: colour, ...near });
-    this.pieces = told.pieces.map((piece, k) => {
-      const mesh = new THREE.Mesh(report.geometry([piece]), this.surface);
-      mesh.userData = { part: number, piece: k };
-      return mesh;
+    const all = report.geometry(told.surface);
+    this.solid = new THREE.Mesh(all, this.surface);
+    this.solid.userData = { part: number };
+    this.rim = new THREE.MeshLambertMaterial({ color: colour, depthWrite: false });
+    this.seams = new THREE.LineSegments(report.seams(told.surface), this.rim);
+    this.pieces = told.pieces.map(({ points, faces }) => {
+      return new THREE.Mesh(report.geometry(faces.map((face) => face.map((corner) => points[corner]))), this.surface);
     });
-    /* the depth first, so that of a faint part only what is nearest is seen, and not the pieces within it */
-    const all = report.geometry(told.pieces);
+    /* the depth first, so that of a faint part only what is nearest is seen */
     const hollow = new THREE.MeshBasicMaterial({ colorWrite: false, ...far });
     this.glass = new THREE.MeshLambertMaterial({ color: colour, opacity: 0.16, ...far });
     this.faint = [hollow, this.glass].map((material, k) => new THREE.Mesh(all, material));
@@ -56,19 +79,20 @@ report.Part = class {
       new THREE.BufferGeometry(),
       new THREE.LineDashedMaterial({ color: colour.clone().multiplyScalar(0.8) })
     );
-    this.group.add(...this.pieces, ...this.faint, this.lines);
+    this.group.add(this.solid, this.seams, ...this.pieces, ...this.faint, this.lines);
     this.box = new THREE.Box3().setFromBufferAttribute(all.getAttribute("position"));
   }
 
   /* Shows it whole, clear or not at all; lit: pieces that are whole where the rest is clear. */
   dress(look, lit, isMarked, theme) {
-    this.pieces.forEach((mesh, k) => (mesh.visible = look === "shown" || lit.has(k)));
+    this.solid.visible = this.seams.visible = look === "shown";
+    this.pieces.forEach((mesh, k) => (mesh.visible = lit.has(k)));
     this.faint.forEach((mesh) => (mesh.visible = look === "clear"));
     this.lines.visible = look !== "hidden";
     this.way.visible = look === "shown";
     this.ink.color.setHex(look === "clear" ? theme.faint : isMarked ? theme.mark : theme.ink);
     this.ink.opacity = look === "clear" ? 0.45 : 1;
-    this.surface.emissive.setHex(isMarked ? 0x1c1c1c : 0);
+    for (const material of [this.surface, this.rim]) material.emissive.setHex(isMarked ? 0x141414 : 0);
   }
 
   /* The dashed line from where its middle was to where it is, by way of these places. */
@@ -103,10 +127,10 @@ report.Scene = class {
   }
 
   light() {
-    const sun = new THREE.DirectionalLight(0xffffff, 0.62);
+    const sun = new THREE.DirectionalLight(0xffffff, 0.5);
     sun.position.set(-0.55, 0.75, 0.9);
     this.camera.add(sun, sun.target);
-    const sky = new THREE.HemisphereLight(0xffffff, 0x9a9a9a, 0.62);
+    const sky = new THREE.HemisphereLight(0xffffff, 0xa8a8a8, 0.66);
     sky.position.set(0, 0, 1);
     this.scene.add(sky);
   }
@@ -260,13 +284,11 @@ report.Scene = class {
     if (this.isFitted) this.fit();
   }
 
-  /* The piece at a point of the picture, from -1 to 1 in both components; nothing where there is none. */
+  /* The part at a point of the picture, from -1 to 1 in both components; nothing where there is none. */
   pick(x, y) {
     const ray = new THREE.Raycaster();
     ray.setFromCamera({ x, y }, this.camera);
-    const meshes = [];
-    for (const part of this.parts) meshes.push(...part.pieces.filter((mesh) => mesh.visible));
-    const found = ray.intersectObjects(meshes)[0];
+    const found = ray.intersectObjects(this.parts.map((part) => part.solid).filter((mesh) => mesh.visible))[0];
     return found ? found.object.userData : null;
   }
 
