@@ -47,7 +47,7 @@ def chromium(*words: str, size: str = "1280,900") -> Iterator[Any]:
         driver.quit()
 
 
-def open_report(driver: Any, path: str) -> None:
+def open_page(driver: Any, path: str) -> None:
     """Opens a page; it is ready once it is loaded."""
     driver.get(pathlib.Path(path).resolve().as_uri())
 

@@ -59,20 +59,19 @@ def show(given: str, out: Optional[str]) -> int:
         shown = shown_of(listed)
     except answers.Refused as fault:
         return fault.status
-    data = data_of(
-        shown.title,
-        shown.parts,
-        shown.plan,
-        shown.rows,
-        looked_from([part.box for part in shown.parts], shown.rows),
-        shown.model,
-    )
-    write(folder, REPORT, page(data).encode())
-    write(folder, PRODUCT, glb(shown.parts, shown.rows, shown.title, shown.metres))
+    write_files(shown, folder)
     with browser.chromium() as driver:
-        browser.open_report(driver, os.path.join(folder, REPORT))
+        browser.open_page(driver, os.path.join(folder, REPORT))
         write(folder, STRIP, browser.strip(driver))
     return 0
+
+
+def write_files(shown: Shown, folder: str) -> None:
+    """Writes the page and the glTF file. Refusal: three.js is missing, or they cannot be written."""
+    view = looked_from([part.box for part in shown.parts], shown.rows)
+    data = data_of(shown.title, shown.parts, shown.plan, shown.rows, view, shown.model)
+    write(folder, REPORT, page(data).encode())
+    write(folder, PRODUCT, glb(shown.parts, shown.rows, shown.title, shown.metres))
 
 
 def shown_of(listed: str) -> Shown:

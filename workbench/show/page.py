@@ -33,7 +33,7 @@ def data_of(
         "parts": [part_data(part) for part in parts],
         "places": [[list(place) for place in row] for row in rows],
         "steps": [
-            {"moved": step.moved, "direction": step.direction, "stays": step.stays}
+            {"moved": step.moved, "along": step.along, "rest": step.rest}
             for step in plan.steps
         ],
         "groups": [

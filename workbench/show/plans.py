@@ -22,18 +22,18 @@ def moved_by(place: Vector, direction: Vector, times: int) -> Vector:
 
 @dataclass(frozen=True)
 class Step:
-    """The parts `moved` go together along a direction, to infinity, away from the parts `stays`."""
+    """The parts `moved` go together along a direction, to infinity, away from the parts `rest`."""
 
     moved: Parts
-    direction: Vector
-    stays: Parts
+    along: Vector
+    rest: Parts
 
 
 @dataclass(frozen=True)
 class Hold:
     """A piece of a part, moved along a direction, meets a piece of the part `by`."""
 
-    direction: Vector
+    along: Vector
     part: int
     piece: int
     by: int
@@ -78,7 +78,7 @@ def places(plan: Plan, travels: Sequence[int], many: int) -> List[List[Vector]]:
     found = [list(at)]
     for step, times in zip(plan.steps, travels):
         at = [
-            moved_by(place, step.direction, times) if part in step.moved else place
+            moved_by(place, step.along, times) if part in step.moved else place
             for part, place in enumerate(at)
         ]
         found.append(at)

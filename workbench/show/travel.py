@@ -27,7 +27,7 @@ def travels(plan: Plan, boxes: Sequence[Box]) -> List[int]:
         times = least_travel(step, boxes, at)
         found.append(times)
         at = [
-            moved_by(place, step.direction, times) if part in step.moved else place
+            moved_by(place, step.along, times) if part in step.moved else place
             for part, place in enumerate(at)
         ]
     return found[::-1]
@@ -35,11 +35,11 @@ def travels(plan: Plan, boxes: Sequence[Box]) -> List[int]:
 
 def least_travel(step: Step, boxes: Sequence[Box], at: Sequence[Vector]) -> int:
     """The least whole number from 0 on, where the parts stand moved by `at`."""
-    axis = next(k for k, number in enumerate(step.direction) if number)
-    if step.direction[axis] > 0:
-        way = 1 + max(boxes[p].high[axis] + at[p][axis] for p in step.stays)
+    axis = next(k for k, number in enumerate(step.along) if number)
+    if step.along[axis] > 0:
+        way = 1 + max(boxes[p].high[axis] + at[p][axis] for p in step.rest)
         way -= min(boxes[p].low[axis] + at[p][axis] for p in step.moved)
     else:
         way = 1 + max(boxes[p].high[axis] + at[p][axis] for p in step.moved)
-        way -= min(boxes[p].low[axis] + at[p][axis] for p in step.stays)
-    return max(0, -(-way // abs(step.direction[axis])))
+        way -= min(boxes[p].low[axis] + at[p][axis] for p in step.rest)
+    return max(0, -(-way // abs(step.along[axis])))

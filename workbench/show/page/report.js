@@ -31,9 +31,9 @@
   /* What a step says. */
   function said(step) {
     const go = step.moved.length === 1 ? "goes" : "go together";
-    const isAll = step.moved.length + step.stays.length === data.parts.length;
-    const others = isAll && step.stays.length > 3 ? "all others" : named(step.stays);
-    return `${named(step.moved)} ${go} along ${way(step.direction)}, away from ${others}`;
+    const isAll = step.moved.length + step.rest.length === data.parts.length;
+    const others = isAll && step.rest.length > 3 ? "all others" : named(step.rest);
+    return `${named(step.moved)} ${go} along ${way(step.along)}, away from ${others}`;
   }
 
   report.words = { named, way, said };
@@ -158,7 +158,7 @@
     data.steps.forEach((step, k) => {
       const words = said(step).split(named(step.moved));
       const moved = step.moved.flatMap((part) => [spot(part)]);
-      rows.push(element("button", { type: "button", title: `along ${step.direction.join(" ")}` },
+      rows.push(element("button", { type: "button", title: `along ${step.along.join(" ")}` },
         element("span", { className: "number" }, String(k + 1)), ...moved, element("b", {}, named(step.moved)), words.slice(1).join(named(step.moved))));
     });
     rows.forEach((button, k) => {
@@ -181,11 +181,11 @@
     find("holds").querySelector("p").textContent =
       "Along every direction each of these parts is held by the others. A line lights up the two pieces that meet; backwards the second part is held by the first.";
     for (const group of data.groups) {
-      const directions = [...new Set(group.holds.map((hold) => hold.direction.join(" ")))];
+      const directions = [...new Set(group.holds.map((hold) => hold.along.join(" ")))];
       find("holds").querySelector("div").append(element("h3", {}, named(group.parts)));
       for (const direction of directions) {
-        const some = group.holds.filter((hold) => hold.direction.join(" ") === direction);
-        find("holds").querySelector("div").append(element("h3", {}, `Along ${way(some[0].direction)}`));
+        const some = group.holds.filter((hold) => hold.along.join(" ") === direction);
+        find("holds").querySelector("div").append(element("h3", {}, `Along ${way(some[0].along)}`));
         for (const hold of some) {
           const button = element("button", { type: "button" }, spot(hold.part), data.parts[hold.part].name, " is held by ", spot(hold.by), data.parts[hold.by].name);
           button.title = `piece ${hold.piece} of ${data.parts[hold.part].name} meets piece ${hold.by_piece} of ${data.parts[hold.by].name}`;

@@ -163,7 +163,7 @@ report.Scene = class {
 
   /* Where the arrow of a step begins: before the parts that move, on the way. */
   arrowStart(step, places) {
-    const way = new THREE.Vector3(...step.direction).normalize();
+    const way = new THREE.Vector3(...step.along).normalize();
     const box = new THREE.Box3();
     for (const part of step.moved) box.union(this.parts[part].box.clone().translate(places[part]));
     const middle = box.getCenter(new THREE.Vector3());
