@@ -37,12 +37,16 @@ def _folder(name: str) -> Callable[[], bool]:
 
 NEEDS = {
     "rt": Need("", _command("rt")),
+    "assimp": Need("assimp-utils", _command("assimp")),
     "as1": Need("gmsh-doc", _folder("/usr/share/doc/gmsh-doc/doc/gmsh/demos/boolean")),
+    "blender": Need("blender", _command("blender")),
     "c++": Need("g++", _command("g++")),
     "cc": Need("gcc", _command("cc")),
     "cgal": Need("libcgal-dev", _folder("/usr/include/CGAL")),
     "cgal meshes": Need("libcgal-demo", _file("/usr/share/doc/libcgal-dev/data.tar.gz")),
     "chips": Need("freecad-common", _folder("/usr/share/freecad/Mod/Idf/Idflibs")),
+    "chromedriver": Need("chromium-driver", _command("chromedriver")),
+    "chromium": Need("chromium", _command("chromium")),
     "geomview": Need("geomview", _folder("/usr/share/geomview/geom")),
     "gmsh": Need("python3-gmsh", _module("gmsh")),
     "meshio": Need("python3-meshio", _module("meshio")),
@@ -50,6 +54,8 @@ NEEDS = {
     "openscad": Need("openscad", _command("openscad")),
     "prlimit": Need("util-linux", _command("prlimit")),
     "scipy": Need("python3-scipy", _module("scipy")),
+    "selenium": Need("python3-selenium", _module("selenium")),
+    "three": Need("libjs-three", _folder("/usr/share/javascript/three")),
     "tqdm": Need("python3-tqdm", _module("tqdm")),
 }
 

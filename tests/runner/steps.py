@@ -64,12 +64,18 @@ MODELS = (
     "scipy",
     "tqdm",
 )  # what ./staat-cad and its examples need
+SHOW = ("chromedriver", "chromium", "numpy", "selenium", "three")  # what ./staat-cad show needs
 
 # The longest first: they run side by side.
 STEPS = (
     Step("memory", _python("tools/refuse_memory.py", "{program}"), ("cc",)),
     Step("checkers", _python("tools/compare_checkers.py", "--program={program}", "--broken=1000")),
-    Step("pages", _python("tests/runner/pages.py", "{program}"), (*MODELS, "as1")),
+    Step("pages", _python("tests/runner/pages.py", "{program}"), (*MODELS, *SHOW, "as1")),
+    Step(
+        "show",
+        _python("tests/runner/units.py", "workbench/tests/show"),
+        (*SHOW, "assimp", "blender"),
+    ),
     Step(
         "workbench",
         _python("tests/runner/units.py", "workbench/tests/quick"),

@@ -6,12 +6,13 @@ import contextlib
 import io
 import pathlib
 import shutil
-from typing import Any, Iterator
+from typing import Any, Iterator, Sequence
 
 from ..packages import install_line
 from ..solid import Refusal
 
-SECONDS = 120  # how long a page may take to be ready
+SECONDS = 600  # how long a page may take to be ready, on a machine that has much to do
+STARTS = 3  # how often a browser is started that does not answer
 WORDS = (
     "--headless=new",
     "--no-sandbox",  # else it does not run as root
@@ -25,26 +26,40 @@ WORDS = (
 
 @contextlib.contextmanager
 def chromium(*words: str, size: str = "1280,900") -> Iterator[Any]:
-    """A driver of a browser. Refusal: a package is missing."""
+    """A driver of a browser. Refusal: a package is missing, or it does not start."""
     for name, package in (("chromium", "chromium"), ("chromedriver", "chromium-driver")):
         if shutil.which(name) is None:
             raise Refusal(install_line(package))
-    try:
-        from selenium import webdriver
-        from selenium.webdriver.chrome.service import Service
-    except ImportError as fault:
-        raise Refusal(install_line("python3-selenium")) from fault
-    options = webdriver.ChromeOptions()
-    for word in (*WORDS, f"--window-size={size}", *words):
-        options.add_argument(word)
-    options.set_capability("goog:loggingPrefs", {"browser": "ALL"})
-    driver = webdriver.Chrome(options=options, service=Service(shutil.which("chromedriver")))
+    driver = started((*WORDS, f"--window-size={size}", *words))
     driver.set_script_timeout(SECONDS)
     driver.set_page_load_timeout(SECONDS)
     try:
         yield driver
     finally:
         driver.quit()
+
+
+def started(words: Sequence[str]) -> Any:
+    """A driver of a browser that runs with these words. Refusal: python3-selenium is missing, or it does not start."""
+    try:
+        from selenium import webdriver
+        from selenium.common.exceptions import WebDriverException
+        from selenium.webdriver.chrome.service import Service
+    except ImportError as fault:
+        raise Refusal(install_line("python3-selenium")) from fault
+    options = webdriver.ChromeOptions()
+    for word in words:
+        options.add_argument(word)
+    options.set_capability("goog:loggingPrefs", {"browser": "ALL"})
+    why = ""
+    for _ in range(STARTS):
+        try:
+            return webdriver.Chrome(
+                options=options, service=Service(shutil.which("chromedriver"))
+            )
+        except WebDriverException as fault:
+            why = (fault.msg or "").partition("\n")[0]
+    raise Refusal(f"Chromium does not start: {why}")
 
 
 def open_page(driver: Any, path: str) -> None:

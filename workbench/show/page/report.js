@@ -47,12 +47,11 @@
   /* The parts that hold each other, where some do. */
   const grouped = new Set(data.groups.flatMap((group) => group.parts));
 
-  /* The look of each part: as it was chosen; faint where others are to be seen. */
-  report.looks = function (modes, hold) {
-    return modes.map((mode, part) => {
-      if (mode === "shown" && (hold || (grouped.size && !grouped.has(part)))) return "clear";
-      return mode;
-    });
+  /* The look of each part: as it was chosen; faint where others are to be seen, which are the pieces of a hold, or
+     the groups and what a step moves. */
+  report.looks = function (modes, hold, moved) {
+    const isBeside = (part) => grouped.size && !grouped.has(part) && !moved.includes(part);
+    return modes.map((mode, part) => (mode === "shown" && (hold || isBeside(part)) ? "clear" : mode));
   };
 
   report.lit = function (hold) {
@@ -72,9 +71,10 @@
   function dress() {
     if (!scene) return;
     const step = data.steps[Math.ceil(state.time) - 1];
-    const marked = new Set(step ? step.moved : []);
-    if (state.picked !== null) marked.add(state.picked);
-    scene.dress(report.looks(state.modes, state.hold), report.lit(state.hold), marked, dark.matches ? report.DARK : report.LIGHT);
+    const moved = step ? step.moved : [];
+    const marked = new Set(state.picked === null ? moved : [...moved, state.picked]);
+    scene.dress(report.looks(state.modes, state.hold, moved), report.lit(state.hold), marked, dark.matches ? report.DARK : report.LIGHT);
+    scene.point(state.hold);
     draw();
   }
 
@@ -168,6 +168,7 @@
   }
 
   function choose(hold, button) {
+    stop();
     state.hold = state.hold === hold ? null : hold;
     document.querySelectorAll("#holds button").forEach((other) => {
       other.setAttribute("aria-pressed", String(other === button && state.hold !== null));
@@ -208,7 +209,7 @@
 
   function fillParts() {
     data.parts.forEach((told, part) => {
-      const name = element("button", { type: "button", className: "name" }, spot(part), told.name);
+      const name = element("button", { type: "button", className: "name" }, spot(part), element("span", { className: "number" }, String(part)), told.name);
       name.setAttribute("aria-pressed", "false");
       name.addEventListener("click", () => pick(part));
       const switches = [["clear", "Clear"], ["hidden", "Hide"]].map(([mode, word]) => {
@@ -252,10 +253,10 @@
   function fillHead() {
     const pieces = data.parts.reduce((sum, part) => sum + part.pieces.length, 0);
     const size = `${data.parts.length} parts, ${pieces} pieces`;
-    const held = data.groups.map((group) => named(group.parts)).join("; ");
+    const held = data.groups.map(({ parts }) => (parts.length > 4 ? `${parts.length} parts` : named(parts))).join("; ");
     const steps = many === 1 ? "one step" : `${many} steps`;
     let words = `${size}; comes apart in ${steps}, and backwards they put it together`;
-    if (data.groups.length) words = `${size}; stuck: ${held}`;
+    if (data.groups.length) words = `${size}; ${many ? `comes apart in ${steps} but for groups that hold each other: ${held}` : `${held} hold each other and are stuck`}`;
     find("answer").textContent = words;
   }
 

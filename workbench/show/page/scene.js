@@ -163,13 +163,35 @@ report.Scene = class {
 
   /* Where the arrow of a step begins: before the parts that move, on the way. */
   arrowStart(step, places) {
-    const way = new THREE.Vector3(...step.along).normalize();
     const box = new THREE.Box3();
     for (const part of step.moved) box.union(this.parts[part].box.clone().translate(places[part]));
+    return this.before(box, step.along);
+  }
+
+  /* The place a little before a box, along a direction from its middle. */
+  before(box, along) {
+    const way = new THREE.Vector3(...along).normalize();
     const middle = box.getCenter(new THREE.Vector3());
     const half = box.getSize(new THREE.Vector3()).multiplyScalar(0.5);
     const reach = ["x", "y", "z"].map((axis) => (way[axis] ? half[axis] / Math.abs(way[axis]) : Infinity));
     return { start: middle.addScaledVector(way, Math.min(...reach) + 0.05 * this.extent), way };
+  }
+
+  setArrow(found) {
+    this.arrow.visible = Boolean(found);
+    if (!found) return;
+    this.arrow.position.copy(found.start);
+    this.arrow.quaternion.setFromUnitVectors(new THREE.Vector3(0, 1, 0), found.way);
+  }
+
+  /* The arrow along which a piece is held; else that of the step at hand. */
+  point(hold) {
+    const step = this.data.steps[Math.ceil(this.at) - 1];
+    if (hold) {
+      const { group, pieces } = this.parts[hold.part];
+      const box = new THREE.Box3().setFromBufferAttribute(pieces[hold.piece].geometry.getAttribute("position"));
+      this.setArrow(this.before(box.translate(group.position), hold.along));
+    } else this.setArrow(step && this.arrowStart(step, this.places(this.at)));
   }
 
   /* Where the parts are at a time: a whole number is the end of that step. */
@@ -188,13 +210,7 @@ report.Scene = class {
       part.group.position.copy(places[number]);
       part.trail([...past.map((row) => row[number]), places[number]], 0.02 * this.extent);
     });
-    const step = this.data.steps[Math.ceil(time) - 1];
-    this.arrow.visible = Boolean(step);
-    if (step) {
-      const { start, way } = this.arrowStart(step, places);
-      this.arrow.position.copy(start);
-      this.arrow.quaternion.setFromUnitVectors(new THREE.Vector3(0, 1, 0), way);
-    }
+    this.point(null);
     if (this.isFitted) this.fit();
   }
 
@@ -282,6 +298,22 @@ report.Scene = class {
     this.renderer.setSize(width, height, false);
     this.prepare(width, height);
     if (this.isFitted) this.fit();
+  }
+
+  /* Leaves the screen for pictures of a size, from the first side; what it answers leads back by `come`. */
+  leave(width, height) {
+    const kept = { isFitted: this.isFitted, position: this.camera.position.clone(), target: this.target.clone() };
+    this.isFitted = true;
+    this.camera.position.copy(this.target).add(new THREE.Vector3(...this.data.view));
+    this.resize(width, height, 2);
+    return kept;
+  }
+
+  come({ isFitted, position, target }) {
+    this.isFitted = isFitted;
+    this.camera.position.copy(position);
+    this.target.copy(target);
+    this.camera.lookAt(target);
   }
 
   /* The part at a point of the picture, from -1 to 1 in both components; nothing where there is none. */

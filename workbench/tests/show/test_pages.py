@@ -186,7 +186,7 @@ class Handling(InBrowser):
             "it.getAttribute('aria-pressed') === 'true' ? [it.textContent] : [])"
         )
         self.assertEqual(len(found), 1)
-        self.assertIn(found[0], ("box", "lid"))
+        self.assertIn(found[0], ("0box", "1lid"))
 
     def test_it_plays_to_both_ends(self) -> None:
         self.open("dovetail")

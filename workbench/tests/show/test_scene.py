@@ -1,0 +1,132 @@
+"""What is drawn of a part: the surface and the lines of the union of its pieces; how far the steps lead."""
+from __future__ import annotations
+
+import itertools
+import os
+import unittest
+from typing import Sequence, Tuple
+
+import numpy
+
+from workbench.reading.lists import read_list
+from workbench.show.creases import Body, creases
+from workbench.show.holds import read
+from workbench.show.plans import Plan, Step, places
+from workbench.show.scene import Part, colour_of, parts_of, triangles
+from workbench.show.surface import surface
+from workbench.show.travel import Box, travels
+
+from . import kit
+
+SIDES = ((0, 1, 3, 2), (4, 6, 7, 5), (0, 4, 5, 1), (2, 3, 7, 6), (0, 2, 6, 4), (1, 5, 7, 3))
+
+
+def box(low: Tuple[float, ...], high: Tuple[float, ...]) -> Body:
+    return Body(numpy.array(list(itertools.product(*zip(low, high))), dtype=float), SIDES)
+
+
+def volume(polygons: Sequence[numpy.ndarray]) -> float:
+    """What polygons enclose that are wound outwards."""
+    corners, _ = triangles(polygons)
+    return float(numpy.linalg.det(corners).sum() / 6)
+
+
+def area(polygons: Sequence[numpy.ndarray]) -> float:
+    corners, _ = triangles(polygons)
+    across = numpy.cross(corners[:, 1] - corners[:, 0], corners[:, 2] - corners[:, 0])
+    return float(numpy.linalg.norm(across, axis=1).sum() / 2)
+
+
+def length(lines: numpy.ndarray) -> float:
+    return float(numpy.linalg.norm(lines[:, 1] - lines[:, 0], axis=1).sum())
+
+
+class Drawn(unittest.TestCase):
+    def drawn(self, bodies: Sequence[Body]) -> Tuple[float, float, float]:
+        polygons = surface(bodies, 4)
+        return volume(polygons), area(polygons), length(creases(bodies, 4))
+
+    def test_boxes_side_by_side_are_one_box(self) -> None:
+        two = [box((0, 0, 0), (1, 1, 1)), box((1, 0, 0), (3, 1, 1))]
+        self.assertEqual(self.drawn(two), (3, 14, 20))
+
+    def test_a_small_box_on_a_great_one(self) -> None:
+        two = [box((0, 0, 0), (4, 4, 1)), box((1, 1, 1), (2, 2, 2))]
+        self.assertEqual(self.drawn(two), (17, 52, 48))
+
+    def test_pieces_around_a_hole(self) -> None:
+        four = [
+            box((0, 0, 0), (4, 1, 1)),
+            box((0, 3, 0), (4, 4, 1)),
+            box((0, 1, 0), (1, 3, 1)),
+            box((3, 1, 0), (4, 3, 1)),
+        ]
+        self.assertEqual(self.drawn(four), (12, 48, 56))
+
+    def test_pieces_that_share_only_an_edge_keep_it(self) -> None:
+        two = [box((0, 0, 0), (1, 1, 1)), box((1, 1, 0), (2, 2, 1))]
+        self.assertEqual(self.drawn(two), (2, 12, 23))
+
+    def parts(self, name: str) -> Sequence[Part]:
+        folder = os.getcwd()
+        os.chdir(kit.TOP)
+        try:
+            return parts_of(read_list(kit.listed(name)))
+        finally:
+            os.chdir(folder)
+
+    def test_the_surfaces_of_the_gallery_enclose_the_pieces(self) -> None:
+        for name in kit.products():
+            for part in self.parts(name):
+                with self.subTest(name, part=part.name):
+                    pieces = sum(volume(surface([piece], 1e-9)) for piece in part.pieces)
+                    self.assertAlmostEqual(volume(part.surface) / pieces, 1, 9)
+                    self.uncovered(part)
+
+    def uncovered(self, part: Part) -> None:
+        """A little before the middle of each polygon there is no piece of the part."""
+        extent = float((part.points.max(axis=0) - part.points.min(axis=0)).max())
+        for polygon in part.surface:
+            _, normals = triangles([polygon])
+            if len(normals):
+                point = polygon.mean(axis=0) + 1e-4 * extent * normals[0]
+                for piece in part.pieces:
+                    outwards, levels = piece.planes
+                    self.assertTrue((outwards @ point > levels).any())
+
+    def test_each_part_has_a_colour_of_its_own(self) -> None:
+        self.assertEqual(len({colour_of(number) for number in range(64)}), 64)
+
+
+class Travel(unittest.TestCase):
+    def test_steps_end_where_explode_says(self) -> None:
+        for name in kit.products():
+            said = kit.said(name)
+            if said.stuck:
+                continue
+            with self.subTest(name):
+                plan = Plan(
+                    tuple(
+                        Step(tuple(move.moved), (move.along[0], move.along[1], move.along[2]), tuple(move.rest))
+                        for move in said.moves
+                    )
+                )
+                boxes = [part.box for part in Drawn().parts(name)]
+                rows = places(plan, travels(plan, boxes), len(boxes))
+                self.assertEqual(rows, said.places())
+
+    def test_a_side_that_is_clear_already_stays(self) -> None:
+        boxes = [Box((0, 0, 0), (1, 1, 1)), Box((5, 0, 0), (6, 1, 1))]
+        self.assertEqual(travels(Plan((Step((1,), (2, 0, 0), (0,)),)), boxes), [0])
+        self.assertEqual(travels(Plan((Step((1,), (-2, 0, 0), (0,)),)), boxes), [4])
+
+
+class Certificates(unittest.TestCase):
+    def test_the_arcs_of_each_witness_and_the_axes(self) -> None:
+        text = (
+            "STAAT 2\nparts 2\nstuck 0 1\nwitness 0\nout 0 1 1 2\nin 1 3 0 4\n"
+            "witness 1\nout 0 0 1 0\nin 1 0 0 0\ndir 0 0 1 1\ndir 0 1 0 0\ndir 1 0 0 0\ndir 1 2 3 1\nend\n"
+        )
+        witnesses, chosen = read(text)
+        self.assertEqual(witnesses, [[(0, 1, 1, 2), (1, 3, 0, 4)], [(0, 0, 1, 0), (1, 0, 0, 0)]])
+        self.assertEqual(chosen, {(0, 0, 1): 1, (0, 1, 0): 0, (1, 0, 0): 0})
