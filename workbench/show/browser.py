@@ -3,6 +3,7 @@ from __future__ import annotations
 
 import base64
 import contextlib
+import importlib
 import io
 import pathlib
 import shutil
@@ -55,7 +56,7 @@ def started(words: Sequence[str]) -> Any:
     for _ in range(STARTS):
         try:
             return webdriver.Chrome(
-                options=options, service=Service(shutil.which("chromedriver"))
+                options=options, service=Service(shutil.which("chromedriver") or "chromedriver")
             )
         except WebDriverException as fault:
             why = (fault.msg or "").partition("\n")[0]
@@ -76,10 +77,10 @@ def strip(driver: Any) -> bytes:
 def small(data: bytes) -> bytes:
     """The picture with 255 colours, where PIL is there; else as it is."""
     try:
-        from PIL import Image
+        images: Any = importlib.import_module("PIL.Image")
     except ImportError:
         return data
     out = io.BytesIO()
-    picture = Image.open(io.BytesIO(data)).convert("RGB")
-    picture.quantize(255, dither=Image.Dither.NONE).save(out, "PNG", optimize=True)
+    picture = images.open(io.BytesIO(data)).convert("RGB")
+    picture.quantize(255, dither=images.Dither.NONE).save(out, "PNG", optimize=True)
     return out.getvalue()

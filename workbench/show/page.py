@@ -33,8 +33,7 @@ def data_of(
         "parts": [part_data(part) for part in parts],
         "places": [[list(place) for place in row] for row in rows],
         "steps": [
-            {"moved": step.moved, "along": step.along, "rest": step.rest}
-            for step in plan.steps
+            {"moved": step.moved, "along": step.along, "rest": step.rest} for step in plan.steps
         ],
         "groups": [
             {"parts": group.parts, "holds": [vars(hold) for hold in group.holds]}
@@ -49,9 +48,7 @@ def part_data(part: Part) -> Dict[str, Any]:
     return {
         "name": part.name,
         "colour": part.colour,
-        "pieces": [
-            {"points": plain(piece.points), "faces": piece.faces} for piece in part.pieces
-        ],
+        "pieces": [{"points": plain(piece.points), "faces": piece.faces} for piece in part.pieces],
         "surface": [plain(polygon) for polygon in part.surface],
         "lines": plain(part.lines.reshape(-1, 3)),
     }

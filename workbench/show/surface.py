@@ -7,7 +7,9 @@ import numpy
 
 from .creases import NEAR, Body
 
-OPPOSITE = -1.0 + 1e-6  # the product of the normals of two faces that lie against each other, at most
+OPPOSITE = (
+    -1.0 + 1e-6
+)  # the product of the normals of two faces that lie against each other, at most
 
 
 def surface(bodies: Sequence[Body], extent: float) -> List[numpy.ndarray]:
@@ -15,7 +17,9 @@ def surface(bodies: Sequence[Body], extent: float) -> List[numpy.ndarray]:
     near = NEAR * extent
     found: List[numpy.ndarray] = []
     for number, body in enumerate(bodies):
-        others = [other for k, other in enumerate(bodies) if k != number and touch(body, other, near)]
+        others = [
+            other for k, other in enumerate(bodies) if k != number and touch(body, other, near)
+        ]
         found += [left for face in outlines(body) for left in uncovered(face, others, near)]
     return found
 
@@ -50,7 +54,10 @@ def uncovered(face: numpy.ndarray, others: Sequence[Body], near: float) -> List[
     left = [face]
     for other in others:
         for against in outlines(other):
-            if normal_of(against) @ across < OPPOSITE and abs((against[0] - face[0]) @ across) < near:
+            if (
+                normal_of(against) @ across < OPPOSITE
+                and abs((against[0] - face[0]) @ across) < near
+            ):
                 left = [rest for one in left for rest in without(one, against[::-1], across, near)]
     return left
 
@@ -58,7 +65,7 @@ def uncovered(face: numpy.ndarray, others: Sequence[Body], near: float) -> List[
 def without(
     one: numpy.ndarray, other: numpy.ndarray, across: numpy.ndarray, near: float
 ) -> List[numpy.ndarray]:
-    """A convex polygon without another one in its plane: convex polygons side by side. Both are wound about `across`."""
+    """A convex polygon without another one in its plane: convex polygons. Both are wound about `across`."""
     outside = []
     inside = one
     for start, end in zip(other, numpy.roll(other, -1, axis=0)):

@@ -16,7 +16,10 @@ LIKED = 240.0  # degrees: in front and a little to the left, where nothing else 
 
 
 def looked_from(boxes: Sequence[Box], rows: Sequence[Sequence[Vector]]) -> List[float]:
-    """A unit vector from the product to the viewer. rows: where the parts stand before the first step, and after each."""
+    """A unit vector from the product to the viewer.
+
+    rows: where the parts stand before the first step, and after each
+    """
     every = numpy.array(
         [
             [corners(box) + numpy.array(at, dtype=float) for box, at in zip(boxes, row)]

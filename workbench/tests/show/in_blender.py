@@ -1,20 +1,26 @@
 """Run by Blender: prints of each glTF file the key frames of each object that has a mesh, a line for each file."""
+import importlib
 import json
 import sys
+from typing import Any, List
 
-import bpy
 import numpy
 
-numpy.bool = bool  # the importer of Debian's Blender asks numpy for a name that it has no more
+setattr(
+    numpy, "bool", bool
+)  # the importer of Debian's Blender asks numpy for a name that it has no more
+bpy: Any = importlib.import_module("bpy")
 
 
-def frames_of(thing):
+def frames_of(thing: Any) -> List[List[float]]:
     """Where an object is at each of its key frames; none where it does not move."""
     tracks = thing.animation_data.nla_tracks if thing.animation_data else []
     actions = [strip.action for track in tracks for strip in track.strips]
     if thing.animation_data and thing.animation_data.action:
         actions = [thing.animation_data.action]
-    curves = [curve for action in actions for curve in action.fcurves if curve.data_path == "location"]
+    curves = [
+        curve for action in actions for curve in action.fcurves if curve.data_path == "location"
+    ]
     columns = [[key.co[1] for key in curve.keyframe_points] for curve in curves]
     return [list(row) for row in zip(*columns)]
 

@@ -41,10 +41,10 @@ def staat(*words: str) -> str:
 
 @dataclass(frozen=True)
 class Move:
-    """A step as `staat plan` prints it, and its line."""
+    """A step as `staat plan` prints it."""
 
     moved: List[int]
-    along: Place
+    along: List[int]
     rest: List[int]
 
 
@@ -61,7 +61,7 @@ class Said:
 
         How far a step leads follows from `explode`: of each side there is a part that rests in all later steps.
         """
-        at = [(0, 0, 0)] * len(self.shifts)
+        at: List[Place] = [(0, 0, 0)] * len(self.shifts)
         found: List[List[Place]] = [list(at)]
         for number, move in enumerate(self.moves):
             one, other = (self.resting(side, number) for side in (move.moved, move.rest))

@@ -55,7 +55,9 @@ class Gltf(unittest.TestCase):
     def keyed(self, name: str, animations: List[Dict[str, Any]]) -> None:
         wanted = frames(name)
         found = {
-            channel["name"]: [[float(number) for number in key[1]] for key in channel["positionkeys"]]
+            channel["name"]: [
+                [float(number) for number in key[1]] for key in channel["positionkeys"]
+            ]
             for animation in animations
             for channel in animation["channels"]
         }
@@ -78,7 +80,15 @@ class Gltf(unittest.TestCase):
 
     def by_blender(self, files: Sequence[str]) -> List[Dict[str, Any]]:
         """For each file the key frames of each object that has a mesh, in Blender's axes."""
-        words = ["blender", "-b", "--factory-startup", "--python-exit-code", "3", "--python", BLENDER]
+        words = [
+            "blender",
+            "-b",
+            "--factory-startup",
+            "--python-exit-code",
+            "3",
+            "--python",
+            BLENDER,
+        ]
         done = subprocess.run([*words, "--", *files], capture_output=True, text=True, check=False)
         self.assertEqual(done.returncode, 0, done.stdout + done.stderr)
         lines = [line for line in done.stdout.splitlines() if line.startswith("read ")]

@@ -106,7 +106,9 @@ class Pages(InBrowser):
         )
         self.assertEqual((row, moved), (number, move.moved))
         for part in move.moved:
-            self.assertIn(self.run_script("return report.data.parts[arguments[0]].name", part), words)
+            self.assertIn(
+                self.run_script("return report.data.parts[arguments[0]].name", part), words
+            )
 
     def test_each_line_lights_two_pieces_and_staat_says_who_holds_whom(self) -> None:
         stuck = [name for name in kit.products() if kit.said(name).stuck]
@@ -240,9 +242,7 @@ class Handling(InBrowser):
         """Lays the page out for a screen of that size, which may be smaller than a window can be."""
         screen = {"width": width, "height": height, "deviceScaleFactor": 1, "mobile": False}
         self.driver.execute_cdp_cmd("Emulation.setDeviceMetricsOverride", screen)
-        self.addCleanup(
-            self.driver.execute_cdp_cmd, "Emulation.clearDeviceMetricsOverride", {}
-        )
+        self.addCleanup(self.driver.execute_cdp_cmd, "Emulation.clearDeviceMetricsOverride", {})
 
     def test_light_and_dark_have_papers_of_their_own(self) -> None:
         self.open("dovetail")
@@ -250,8 +250,6 @@ class Handling(InBrowser):
         for scheme in ("light", "dark"):
             feature = {"name": "prefers-color-scheme", "value": scheme}
             self.driver.execute_cdp_cmd("Emulation.setEmulatedMedia", {"features": [feature]})
-            found.append(
-                self.run_script("return getComputedStyle(document.body).backgroundColor")
-            )
+            found.append(self.run_script("return getComputedStyle(document.body).backgroundColor"))
         self.driver.execute_cdp_cmd("Emulation.setEmulatedMedia", {"features": []})
         self.assertEqual(found, ["rgb(255, 255, 255)", "rgb(21, 24, 28)"])

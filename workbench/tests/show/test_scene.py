@@ -107,7 +107,11 @@ class Travel(unittest.TestCase):
             with self.subTest(name):
                 plan = Plan(
                     tuple(
-                        Step(tuple(move.moved), (move.along[0], move.along[1], move.along[2]), tuple(move.rest))
+                        Step(
+                            tuple(move.moved),
+                            (move.along[0], move.along[1], move.along[2]),
+                            tuple(move.rest),
+                        )
                         for move in said.moves
                     )
                 )
