@@ -12,7 +12,8 @@ from dataclasses import dataclass
 from typing import List, Tuple
 
 from workbench import planner
-from workbench.show.command import write_files, shown_of
+from workbench.show import command
+from workbench.show.command import Shown, shown_of
 
 TOP = planner.TOP
 GALLERY = os.path.join(TOP, "gallery")
@@ -99,11 +100,23 @@ def said(name: str) -> Said:
 
 
 @functools.lru_cache(maxsize=None)
+def shown(name: str) -> Shown:
+    """What is shown of a product."""
+    with contextlib.chdir(TOP):
+        return shown_of(listed(name))
+
+
+def write_files(what: Shown, path: str) -> None:
+    """Writes the page and the glTF file, and says nothing."""
+    with contextlib.redirect_stdout(io.StringIO()):
+        command.write_files(what, path)
+
+
+@functools.lru_cache(maxsize=None)
 def folder(name: str) -> str:
     """A folder with the page and the glTF file of a product, made once."""
     path = os.path.join(scratch().name, name)
-    with contextlib.redirect_stdout(io.StringIO()), contextlib.chdir(TOP):
-        write_files(shown_of(listed(name)), path)
+    write_files(shown(name), path)
     return path
 
 

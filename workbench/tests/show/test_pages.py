@@ -3,11 +3,15 @@ from __future__ import annotations
 
 import contextlib
 import os
+import tempfile
 import unittest
+from dataclasses import replace
 from typing import Any, Dict, List
 
 from workbench.show import browser
 from workbench.show.command import REPORT
+from workbench.show.plans import Group, Hold, places
+from workbench.show.travel import travels
 
 from . import kit
 
@@ -55,6 +59,22 @@ class InBrowser(unittest.TestCase):
         for at, place in zip(found, wanted):
             for one, other in zip(at, place):
                 self.assertAlmostEqual(one, other, delta=1e-9 * size)
+
+    def lit(self) -> List[List[int]]:
+        """The pieces that are drawn, where no part is."""
+        found: List[List[int]] = self.run_script(
+            "return report.scene.parts.flatMap((part, p) => part.solid.visible ? [[p, -1]] :"
+            "part.pieces.flatMap((mesh, k) => mesh.visible ? [[p, k]] : []))"
+        )
+        return sorted(found)
+
+    def looks(self) -> List[str]:
+        """How each part is drawn."""
+        found: List[str] = self.run_script(
+            "return report.scene.parts.map(part => part.solid.visible ? 'whole' :"
+            "part.faint[1].visible ? 'clear' : 'hidden')"
+        )
+        return found
 
 
 class Pages(InBrowser):
@@ -140,14 +160,6 @@ class Pages(InBrowser):
             "graph", f"--along={direction}", f"--manifest={kit.listed(name)}"
         ).splitlines()
 
-    def lit(self) -> List[List[int]]:
-        """The pieces that are drawn, where no part is."""
-        found: List[List[int]] = self.run_script(
-            "return report.scene.parts.flatMap((part, p) => part.solid.visible ? [[p, -1]] :"
-            "part.pieces.flatMap((mesh, k) => mesh.visible ? [[p, k]] : []))"
-        )
-        return sorted(found)
-
     def test_a_page_is_small(self) -> None:
         for name in kit.products():
             with self.subTest(name):
@@ -158,12 +170,26 @@ class Pages(InBrowser):
 class Handling(InBrowser):
     """What one does with a page."""
 
-    def looks(self) -> List[str]:
-        found: List[str] = self.run_script(
-            "return report.scene.parts.map(part => part.solid.visible ? 'whole' :"
-            "part.faint[1].visible ? 'clear' : 'hidden')"
-        )
-        return found
+    def test_steps_and_groups_that_remain_stand_on_one_page(self) -> None:
+        shown = kit.shown("pinned-lid")
+        group = Group((0, 1, 4), (Hold((0, 0, 1), 1, 2, 0, 3), Hold((0, 0, 1), 4, 0, 1, 1)))
+        plan = replace(shown.plan, steps=shown.plan.steps[:2], groups=(group,))
+        rows = places(plan, travels(plan, [part.box for part in shown.parts]), len(shown.parts))
+        with tempfile.TemporaryDirectory() as folder:
+            kit.write_files(replace(shown, plan=plan, rows=rows), folder)
+            browser.open_page(self.driver, os.path.join(folder, REPORT))
+            self.assertEqual(self.looks(), ["whole", "whole", "clear", "clear", "whole"])
+            self.keys("\ue014")
+            self.assertEqual(self.looks(), ["whole", "whole", "clear", "whole", "whole"])
+            self.near(self.run_script("return report.places()"), list(rows[1]))
+            self.press("#holds button")
+            self.assertEqual(self.lit(), [[0, 3], [1, 2]])
+            self.press("#holds button")
+            self.assertEqual(self.looks(), ["whole", "whole", "clear", "whole", "whole"])
+            self.assertIn(
+                "but for", self.run_script("return document.getElementById('answer').textContent")
+            )
+            self.quiet()
 
     def test_parts_become_clear_and_hidden_by_name(self) -> None:
         self.open("pencil-box")
