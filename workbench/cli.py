@@ -99,7 +99,9 @@ def parser() -> Words:
 
 def add_showing(one: argparse.ArgumentParser) -> None:
     one.add_argument("folder", metavar="FOLDER", help="what pieces wrote, or a part list")
-    one.add_argument("--out", metavar="FOLDER", help="where they are written; else beside the part list")
+    one.add_argument(
+        "--out", metavar="FOLDER", help="where they are written; else beside the part list"
+    )
 
 
 def add_reading(one: argparse.ArgumentParser) -> None:

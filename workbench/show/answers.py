@@ -6,14 +6,14 @@ import re
 import subprocess
 import tempfile
 from dataclasses import dataclass
-from typing import List, Sequence, Tuple
+from typing import Sequence
 
+from ..answers import read_certificate
 from ..planner import TOP
 from ..solid import Refusal
 from .holds import holds_of
-from .plans import Check, Group, Plan, Step, Vector
+from .plans import Check, Group, Plan, Vector
 
-MOVE = re.compile(r"move ([\d ]+) along (-?\d+) (-?\d+) (-?\d+) away from ([\d ]+)")
 SHIFT = re.compile(r"shift \d+ by (-?\d+) (-?\d+) (-?\d+)")
 
 
@@ -84,10 +84,9 @@ def ask_plan(planner: Planner) -> Plan:
             planner.told("check", "plan.cert"), verdict, "said of the certificate of plan --cert"
         ),
     )
-    if stuck:
-        parts = tuple(int(word) for word in answer.split()[1:])
-        return Plan((), (Group(parts, tuple(holds_of(certificate))),), checks)
-    return Plan(tuple(steps_of(answer)), (), checks)
+    found = read_certificate(certificate)
+    groups = tuple(Group(parts, tuple(holds_of(certificate))) for parts in found.stuck)
+    return Plan(found.steps, groups, checks)
 
 
 def meaning_of(stuck: bool) -> str:
@@ -103,18 +102,6 @@ def judged(planner: Planner, certificate: str) -> str:
         with open(path, "w", encoding="ascii") as file:
             file.write(certificate)
         return last_line(planner.ask("check", path))
-
-
-def steps_of(answer: str) -> List[Step]:
-    """The steps of what `staat plan` prints."""
-    return [
-        Step(numbers(found[0]), vector(found[1:4]), numbers(found[4]))
-        for found in MOVE.findall(answer)
-    ]
-
-
-def numbers(words: str) -> Tuple[int, ...]:
-    return tuple(int(word) for word in words.split())
 
 
 def vector(words: Sequence[str]) -> Vector:

@@ -8,6 +8,8 @@ from __future__ import annotations
 from dataclasses import dataclass
 from typing import List, Sequence, Tuple
 
+from ..answers import Step
+
 Vector = Tuple[int, int, int]
 Parts = Tuple[int, ...]
 
@@ -18,15 +20,6 @@ def moved_by(place: Vector, direction: Vector, times: int) -> Vector:
     """A place that is moved by so many times a direction."""
     x, y, z = (at + times * step for at, step in zip(place, direction))
     return (x, y, z)
-
-
-@dataclass(frozen=True)
-class Step:
-    """The parts `moved` go together along a direction, to infinity, away from the parts `rest`."""
-
-    moved: Parts
-    along: Vector
-    rest: Parts
 
 
 @dataclass(frozen=True)

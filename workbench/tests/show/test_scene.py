@@ -8,10 +8,11 @@ from typing import Sequence, Tuple
 
 import numpy
 
+from workbench.answers import Step
 from workbench.reading.lists import read_list
 from workbench.show.creases import Body, creases
 from workbench.show.holds import read
-from workbench.show.plans import Plan, Step, places
+from workbench.show.plans import Plan, places
 from workbench.show.scene import Part, colour_of, parts_of, triangles
 from workbench.show.surface import surface
 from workbench.show.travel import Box, travels
