@@ -8,9 +8,9 @@ use std::process::Abort;
 // on which planes both parts are seen to be held together
 fn planes_held(rt: &impl Abort, alloc: Global, table: &PlaneTable, moving: Moving) -> Vec<bool> {
     let all = table.set();
-    let mut core = TableCore::of(table, all);
     let mut held = Vec::new(alloc);
     for k in 0..table.len() {
+        let mut core = TableCore::of(table, all);
         let is_held = core.holds_on(table, all, moving, table.plane(k));
         held.push(is_held).expect(rt, "memory");
     }
