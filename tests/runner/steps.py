@@ -87,6 +87,7 @@ STEPS = (
     Step("gallery", _python("gallery/run", "{program}")),
     Step("tools", _python("tests/runner/units.py", "tools")),
     Step("runner", _python("tests/runner/units.py", "tests/runner"), needs_program=False),
+    Step("bench", _python("tests/runner/units.py", "bench"), ("cc",), needs_program=False),
     Step("guards", _python("tools/guards.py", "--check"), needs_program=False),
     Step("manual", _python("tools/manual.py", "--check"), needs_program=False),
     Step("layers", _python("tools/layers.py", "--check"), needs_program=False),
