@@ -4,7 +4,7 @@ ghost use Rattle.std.specs.Prelude.{◌≡◌, ◌^◌};
 use crate::limits::{
     FILE_LIMIT, LATEST_VERSION, LEAST_PLANES, LEAST_POINTS, LINE_LIMIT, LIST_LIMIT, MOST_BOXES,
     MOST_CELL_PLANES, MOST_COUNT, MOST_DIGITS, MOST_PARTS, MOST_PIECES, MOST_PLANES, MOST_POINTS,
-    TEXT_LIMIT,
+    MOST_PRODUCT_PARTS, MOST_PRODUCT_PIECES, TEXT_LIMIT,
 };
 
 /// How many points, pieces, parts, planes, boxes, digits, bytes and versions there may be.
@@ -13,6 +13,8 @@ pub fn limits()
     ensures most_points { MOST_POINTS ≡ 64 }
     ensures most_parts { MOST_PARTS ≡ 32 }
     ensures most_pieces { MOST_PIECES ≡ 64 }
+    ensures most_product_parts { MOST_PRODUCT_PARTS ≡ 1024 }
+    ensures most_product_pieces { MOST_PRODUCT_PIECES ≡ 16384 }
     ensures least_planes { LEAST_PLANES ≡ 3 }
     ensures most_planes { MOST_PLANES ≡ 1024 }
     ensures most_cell_planes { MOST_CELL_PLANES ≡ 256 }

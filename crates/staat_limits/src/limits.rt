@@ -12,6 +12,12 @@ pub const MOST_PARTS: u32 = 32;
 /// How many pieces the parts of an assembly have at most in all. Piece numbers are below this.
 pub const MOST_PIECES: u32 = 64;
 
+/// How many parts a product has at most.
+pub const MOST_PRODUCT_PARTS: u32 = 1024;
+
+/// How many pieces the parts of a product have at most in all.
+pub const MOST_PRODUCT_PIECES: u32 = 16_384;
+
 /// How many planes a table has at least: the coordinate planes.
 pub const LEAST_PLANES: u32 = 3;
 

@@ -59,3 +59,4 @@ pub mod Decisions
 pub mod Listings
 pub mod SomePlanes
 pub mod SomeVerdict
+pub mod PartCounts

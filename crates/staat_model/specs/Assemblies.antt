@@ -1,4 +1,4 @@
--- Assemblies of parts, and when they are sound.
+-- Assemblies and products, which are lists of parts, and when they are sound.
 use Rattle.std.specs.Prelude.{◌≡◌, ◌≢◌, ℕ, ◌≤◌, List, length, All, sum_by, Option, Some, slice_get}
 use Rattle.std.specs.Prelude.{option_and_then}
 use Rattle.std.specs.Prelude.{option_map, unwrap_or}
@@ -6,6 +6,7 @@ use Rattle.staat_vec.specs.declared.vector.V3.{V3}
 use Rattle.staat_model.specs.declared.assembly.Part.{Part}
 use Rattle.staat_model.specs.declared.certificate.Arc.{Arc}
 use Rattle.staat_limits.specs.declared.limits.TheConstants.{MOST_PARTS, MOST_PIECES}
+use Rattle.staat_limits.specs.declared.limits.TheConstants.{MOST_PRODUCT_PARTS, MOST_PRODUCT_PIECES}
 use Rattle.staat_model.specs.Pieces.{IsPiece}
 use Rattle.staat_model.specs.Meeting.{Overlap}
 
@@ -14,12 +15,20 @@ pub record IsPart (part : Part) : Type 0 where
   pub nonempty : 1 ≤ length part.pieces
   pub pieces : All IsPiece part.pieces
 
--- 1 to 32 parts with at most 64 pieces in all
-pub record IsAssembly (parts : List Part) : Type 0 where
+-- at least one part and at most so many, with at most so many pieces in all
+pub record ArePartsWithin (most_parts most_pieces : ℕ) (parts : List Part) : Type 0 where
   pub at_least : 1 ≤ length parts
-  pub at_most : length parts ≤ MOST_PARTS
+  pub at_most : length parts ≤ most_parts
   pub each : All IsPart parts
-  pub pieces : sum_by (λ part. length part.pieces) parts ≤ MOST_PIECES
+  pub pieces : sum_by (λ part. length part.pieces) parts ≤ most_pieces
+
+-- 1 to 32 parts with at most 64 pieces in all
+abbrev pub IsAssembly : List Part → Type 0
+IsAssembly parts = ArePartsWithin MOST_PARTS MOST_PIECES parts
+
+-- 1 to 1,024 parts with at most 16,384 pieces in all
+abbrev pub IsProduct : List Part → Type 0
+IsProduct parts = ArePartsWithin MOST_PRODUCT_PARTS MOST_PRODUCT_PIECES parts
 
 -- the name of part a, where there is one
 abbrev pub name_at : List Part → ℕ → Option (List ℕ)

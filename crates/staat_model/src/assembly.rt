@@ -3,6 +3,7 @@ ghost use Rattle.std.specs.Prelude.{◌≡◌, ◌<◌, ◌≤◌, Some, length}
 ghost use Rattle.staat_model.specs.Assemblies.{IsAssembly, IsSound, name_at, piece_at, piece_count};
 
 use crate::piece::{Piece, Pieces};
+use crate::product::Product;
 use staat_limits::{MOST_PARTS, MOST_PIECES};
 use staat_vec::{Listed, Name};
 use std::marker::Model;
@@ -17,12 +18,12 @@ pub struct Part {
 /// A list of parts.
 pub type Parts = Listed<Part>;
 
-/// Parts that stand together, seen as their list. Parts and pieces are numbered from 0.
+/// A product of few parts, seen as their list. Parts and pieces are numbered from 0.
 ///
 /// There are 1 to [`MOST_PARTS`] parts with at most [`MOST_PIECES`] pieces in all.
 #[derive(Drop)]
 pub struct Assembly {
-    parts: Parts,
+    product: Product,
 }
 
 impl Model for Assembly {
@@ -32,9 +33,9 @@ impl Model for Assembly {
 
     ghost Value = { List Part };
 
-    ghost view = { λ a. a.parts };
+    ghost view = { λ a. a.product };
 
-    ghost invariant = { λ a. IsAssembly a.parts };
+    ghost invariant = { λ a. IsAssembly a.product };
 }
 
 impl Assembly {
@@ -43,7 +44,17 @@ impl Assembly {
         requires { IsAssembly parts }
         ensures { result ≡ parts }
     {
-        Assembly { parts }
+        Assembly {
+            product: Product::seal(parts),
+        }
+    }
+
+    /// The parts as a product.
+    pub fn product(&self) -> &Product
+        ensures product { result.now ≡ self.now }
+        ensures assembly { IsAssembly self.now }
+    {
+        &self.product
     }
 
     /// The number of parts.
@@ -51,7 +62,7 @@ impl Assembly {
         ensures count { result ≡ length self.now }
         ensures assembly { IsAssembly self.now }
     {
-        self.parts.as_slice().len() as u32
+        self.product.parts()
     }
 
     /// The number of pieces of the part `a`.
@@ -60,7 +71,7 @@ impl Assembly {
         ensures count { result ≡ piece_count self.now a }
         ensures most { result ≤ MOST_PIECES }
     {
-        self.parts.as_slice()[a as usize].pieces.as_slice().len() as u32
+        self.product.pieces(a)
     }
 
     /// The piece `i` of the part `a`.
@@ -69,8 +80,7 @@ impl Assembly {
         requires piece { i < piece_count self.now a }
         ensures { piece_at self.now a i ≡ Some result.now }
     {
-        let part = &self.parts.as_slice()[a as usize];
-        &part.pieces.as_slice()[i as usize]
+        self.product.piece(a, i)
     }
 
     /// The name of the part `a`.
@@ -78,7 +88,7 @@ impl Assembly {
         requires { a < length self.now }
         ensures { name_at self.now a ≡ Some result.now }
     {
-        self.parts.as_slice()[a as usize].name.as_str()
+        self.product.name(a)
     }
 }
 

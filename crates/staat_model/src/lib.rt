@@ -12,6 +12,7 @@ mod one_laws;
 mod piece;
 mod piece_laws;
 mod plan_laws;
+mod product;
 mod refusal;
 mod set;
 mod solid;
@@ -24,6 +25,7 @@ pub use certificate::{
 };
 pub use line::Line;
 pub use piece::{Piece, Pieces, Points};
+pub use product::{Product, SoundProduct};
 pub use refusal::TextRefusal;
 pub use set::PartSet;
 pub use solid::{is_solid, normal_off_line, other_than};
