@@ -104,6 +104,22 @@ parts_never parts along a b made seen blocked =
     seen_never along.frame at.p at.q along.d (is_piece_at parts a blocked.i at.p made.parts_are at.p_is)
     (seen_within along.frame (points_at parts a) (points_at parts b) at.p at.q along.d p_in q_in seen) at.holds
 
+-- ---- a piece and a whole part
+
+pub piece_apart_at : (parts : List Part) (along : Motion) (a i b : ℕ) (p : List V3) (s t : Shadow) (r : Bool) → IsMotion along.d along.frame → WasMadeFrom parts along → piece_at parts a i ≡ Some p → shadow_at along.shadows a i ≡ Some s → slice_get along.wholes b ≡ Some t
+    → IsTrue r ↔ IsApart along.d s t → IsTrue r ↔ IsSeenApart along.frame p (points_at parts b) along.d
+piece_apart_at parts along a i b p s t r is made p_is s_is t_is told =
+    let law = apart_is along.frame along.d p (points_at parts b) s t is.across
+    (shadow_of_piece along.frame parts along.shadows a i p s made.shadows p_is s_is) (whole_at along.frame parts along.wholes b t made.wholes t_is) in
+    ((λ h. law.0 (told.0 h)), (λ h. told.1 (law.1 h)))
+
+pub piece_never : (parts : List Part) (along : Motion) (arc : Arc) (meets : MeetsAlong parts along.d arc) → WasMadeFrom parts along → IsSeenApart along.frame meets.p (points_at parts arc.b) along.d → ⊥
+piece_never parts along arc meets made seen =
+    let whole = points_at parts arc.b in
+    let q_in = λ (x : V3) (h : Contains meets.q x). All-contains (Contains whole) meets.q x (all_at (Contains whole) parts arc.b arc.j meets.q (All-contains_itself whole) meets.q_is) h in
+    seen_never along.frame meets.p meets.q along.d (is_piece_at parts arc.a arc.i meets.p made.parts_are meets.p_is)
+    (seen_within along.frame meets.p whole meets.p meets.q along.d (λ x h. h) q_in seen) meets.holds
+
 -- each part has a piece, so that it has a shadow
 pub some_shadow : (f : Frame) (parts : List Part) (shadows : List (List Shadow)) → All IsPart parts → ArePartShadows f parts shadows → All (λ pieces. 1 ≤ length pieces) shadows
 some_shadow f [] [] all z = All-nil (λ (pieces : List Shadow). 1 ≤ length pieces)

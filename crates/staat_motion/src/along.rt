@@ -1,8 +1,9 @@
 // What is kept of all pieces for one direction.
-ghost use Rattle.std.specs.Prelude.{◌≡◌, ◌<◌, ◌↔◌, List, IfOk, IsTrue, Some, length, slice_get};
+ghost use Rattle.std.specs.Prelude.{◌≡◌, ◌<◌, ◌↔◌, ℕ, List, IfOk, IsTrue, Some, length, slice_get};
+ghost use Rattle.staat_vec.specs.declared.vector.V3.{V3 as Point};
 ghost use Rattle.staat_vec.specs.Vectors.{IsWithin};
 ghost use Rattle.staat_model.specs.declared.assembly.Part.{Part as PartValue};
-ghost use Rattle.staat_model.specs.Assemblies.{HoldsAt};
+ghost use Rattle.staat_model.specs.Assemblies.{HoldsAt, piece_at};
 ghost use Rattle.staat_model.specs.Removal.{Blocks, MeetsAlong};
 ghost use Rattle.staat_motion.specs.Motions.{
   AreBodies,
@@ -127,5 +128,20 @@ impl Along {
     {
         let d = self.direction();
         is_apart(d, self.whole(a), self.whole(b))
+    }
+    /// Whether boxes or spans of the piece `i` of the part `a` and of the whole part `b` show that the piece meets none
+    /// of that part along the direction, as [`apart`](Along::apart) does of two pieces. It takes no memory.
+    pub fn piece_apart(&self, a: u32, i: u32, b: u32) -> bool
+        requires part { a < length self.now.shadows }
+        requires piece { i < shadow_count self.now.shadows a }
+        requires b_in { b < length self.now.wholes }
+        ensures seen { (parts : List PartValue) (p : List Point) → WasMadeFrom parts self.now →
+            piece_at parts a i ≡ Some p →
+            IsTrue result ↔ IsSeenApart self.now.frame p (points_at parts b) self.now.d }
+        ensures never { (parts : List PartValue) (j : ℕ) → WasMadeFrom parts self.now → IsTrue result →
+            MeetsAlong parts self.now.d (record { a = a; i = i; b = b; j = j }) → ⊥ }
+    {
+        let d = self.direction();
+        is_apart(d, self.shadow(a, i), self.whole(b))
     }
 }
