@@ -16,11 +16,11 @@ use Rattle.staat_limits.specs.declared.limits.TheConstants.{MOST_PARTS, MOST_PIE
 use Rattle.staat_manifest.specs.declared.listing.ListedPart.{ListedPart}
 use Rattle.staat_manifest.specs.Values.{Text, json_of, name_of, parts_in, pieces_in, text_in}
 use Rattle.staat_manifest.specs.Answers.{AnswersList}
-use Rattle.staat_manifest.specs.Listings.{IsListing, listed}
+use Rattle.staat_manifest.specs.Listings.{IsListing, IsListingWithin, listed}
 use Rattle.staat_vec.specs.declared.vector.TheConstants.{POINT}
 use Rattle.staat_vec.specs.Vectors.{IsWithin}
 use Rattle.staat_manifest.proofs.PlacementLemmas.{at_within}
-use Rattle.staat_manifest.specs.Rules.{part_path, unless_broken, answer_of, first_refusal, form_rules, joint_rules, part_list, rule, rules_from, whole_rules}
+use Rattle.staat_manifest.specs.Rules.{part_path, unless_broken, answer_of, first_refusal, form_rules, joint_rules, part_list, part_list_within, rule, rules_from, whole_rules}
 
 -- all of some rules hold, so these and those do
 split : (rules others : List (Option ManifestRefusal)) → first_refusal (rules ++ others) ≡ None → (first_refusal rules ≡ None) × (first_refusal others ≡ None)
@@ -40,10 +40,10 @@ kept (None ∷ rules) (suc i) b e h at = kept rules i b e h at
 kept (Some d ∷ rules) i b e h at = cc
 
 -- what holds of the parts so far
-record IsGood (parts : List ListedPart) : Type 0 where
+record IsGood (most : ℕ) (parts : List ListedPart) : Type 0 where
   each : All (λ part. 1 ≤ length part.pieces) parts
   placed : All (λ part. IsWithin POINT part.at) parts
-  pieces : sum_by (λ part. length part.pieces) parts ≤ MOST_PIECES
+  pieces : sum_by (λ part. length part.pieces) parts ≤ most
   names : AllPairs (λ a b. a ≢ b) (map (λ part. part.name) parts)
 
 has_pieces : (k : ℕ) (part : Data) → first_refusal (form_rules k part) ≡ None → 1 ≤ length (listed part).pieces
@@ -61,11 +61,11 @@ is_new names name none k d lt same =
     let found : list_any (bytes_eq name) names ≡ true = list_any_at (bytes_eq name) names k d lt ((bytes_eq-Decides name (get_or names k d)).1 (sym same)) in
     cc
 
-grown : (earlier : List ListedPart) (part : Data) → IsGood earlier → first_refusal (form_rules (length earlier) part) ≡ None → first_refusal (joint_rules earlier (listed part)) ≡ None → IsGood (earlier ++ listed part ∷ [])
-grown earlier part good form joint =
-    let new : not (list_any (bytes_eq (name_of part)) (map (λ other. other.name) earlier)) ≡ true = kept (joint_rules earlier (listed part)) 0 _ (refusal.RepeatedName (name_of part)) joint refl in
+grown : (most : ℕ) (earlier : List ListedPart) (part : Data) → IsGood most earlier → first_refusal (form_rules (length earlier) part) ≡ None → first_refusal (joint_rules most earlier (listed part)) ≡ None → IsGood most (earlier ++ listed part ∷ [])
+grown most earlier part good form joint =
+    let new : not (list_any (bytes_eq (name_of part)) (map (λ other. other.name) earlier)) ≡ true = kept (joint_rules most earlier (listed part)) 0 _ (refusal.RepeatedName (name_of part)) joint refl in
     let none : list_any (bytes_eq (name_of part)) (map (λ other. other.name) earlier) ≡ false = grind (arith, new) in
-    let few : nat_le (sum_by (λ other. length other.pieces) (earlier ++ listed part ∷ [])) MOST_PIECES ≡ true = kept (joint_rules earlier (listed part)) 1 _ refusal.TooManyPieces joint refl in
+    let few : nat_le (sum_by (λ other. length other.pieces) (earlier ++ listed part ∷ [])) most ≡ true = kept (joint_rules most earlier (listed part)) 1 _ refusal.TooManyPieces joint refl in
     record {
       each = All-push (λ (p : ListedPart). 1 ≤ length p.pieces) earlier (listed part) good.each (has_pieces (length earlier) part form);
       placed = All-push (λ (p : ListedPart). IsWithin POINT p.at) earlier (listed part) good.placed (is_placed (length earlier) part form);
@@ -74,23 +74,23 @@ grown earlier part good form joint =
           (all_pairs_push (λ (a b : Text). a ≢ b) (map (λ p. p.name) earlier) (name_of part) good.names (is_new (map (λ p. p.name) earlier) (name_of part) none));
     }
 
-all_good : (earlier : List ListedPart) (parts : List Data) → IsGood earlier → first_refusal (rules_from earlier parts) ≡ None → IsGood (earlier ++ map listed parts)
-all_good earlier [] good h = subst IsGood (sym (append-nil earlier)) good
-all_good earlier (part ∷ later) good h =
-    let parted = split (form_rules (length earlier) part ++ joint_rules earlier (listed part)) (rules_from (earlier ++ listed part ∷ []) later) h in
-    let own = split (form_rules (length earlier) part) (joint_rules earlier (listed part)) parted.0 in
-    subst IsGood (append_assoc earlier (listed part ∷ []) (map listed later)) (all_good (earlier ++ listed part ∷ []) later (grown earlier part good own.0 own.1) parted.1)
+all_good : (most : ℕ) (earlier : List ListedPart) (parts : List Data) → IsGood most earlier → first_refusal (rules_from most earlier parts) ≡ None → IsGood most (earlier ++ map listed parts)
+all_good most earlier [] good h = subst (IsGood most) (sym (append-nil earlier)) good
+all_good most earlier (part ∷ later) good h =
+    let parted = split (form_rules (length earlier) part ++ joint_rules most earlier (listed part)) (rules_from most (earlier ++ listed part ∷ []) later) h in
+    let own = split (form_rules (length earlier) part) (joint_rules most earlier (listed part)) parted.0 in
+    subst (IsGood most) (append_assoc earlier (listed part ∷ []) (map listed later)) (all_good most (earlier ++ listed part ∷ []) later (grown most earlier part good own.0 own.1) parted.1)
 
-none_good : IsGood []
-none_good = record { each = All-nil (λ (p : ListedPart). 1 ≤ length p.pieces); placed = All-nil (λ (p : ListedPart). IsWithin POINT p.at); pieces = omega arith; names = λ i j d lt within. absurd (omega arith) }
+none_good : (most : ℕ) → IsGood most []
+none_good most = record { each = All-nil (λ (p : ListedPart). 1 ≤ length p.pieces); placed = All-nil (λ (p : ListedPart). IsWithin POINT p.at); pieces = omega arith; names = λ i j d lt within. absurd (omega arith) }
 
-is_listing : (value : Data) → first_refusal (whole_rules value ++ rules_from [] (parts_in value)) ≡ None → IsListing (map listed (parts_in value))
+is_listing : (most_parts most : ℕ) (value : Data) → first_refusal (whole_rules most_parts value ++ rules_from most [] (parts_in value)) ≡ None → IsListingWithin most_parts most (map listed (parts_in value))
 unfolding whole_rules
-is_listing value h =
-    let parted = split (whole_rules value) (rules_from [] (parts_in value)) h in
-    let some : nat_lt 0 (length (parts_in value)) ≡ true = kept (whole_rules value) 1 _ (refusal.BadShape (codes "/parts")) parted.0 refl in
-    let few : nat_le (length (parts_in value)) MOST_PARTS ≡ true = kept (whole_rules value) 3 _ refusal.TooManyParts parted.0 refl in
-    let good = all_good [] (parts_in value) none_good parted.1 in
+is_listing most_parts most value h =
+    let parted = split (whole_rules most_parts value) (rules_from most [] (parts_in value)) h in
+    let some : nat_lt 0 (length (parts_in value)) ≡ true = kept (whole_rules most_parts value) 1 _ (refusal.BadShape (codes "/parts")) parted.0 refl in
+    let few : nat_le (length (parts_in value)) most_parts ≡ true = kept (whole_rules most_parts value) 3 _ refusal.TooManyParts parted.0 refl in
+    let good = all_good most [] (parts_in value) (none_good most) parted.1 in
     record {
       at_least = rw (length-map (parts_in value) listed) (grind (arith, nat_tests, some));
       at_most = rw (length-map (parts_in value) listed) (grind (arith, nat_tests, few));
@@ -100,18 +100,22 @@ is_listing value h =
       names = good.names;
     }
 
-accepted : (broken : Option ManifestRefusal) (parts list : List ListedPart) → (broken ≡ None → IsListing parts) → unless_broken broken parts ≡ Ok list → IsListing list
-accepted None parts list h e =
+accepted : (most_parts most : ℕ) (broken : Option ManifestRefusal) (parts list : List ListedPart) → (broken ≡ None → IsListingWithin most_parts most parts) → unless_broken broken parts ≡ Ok list → IsListingWithin most_parts most list
+accepted most_parts most None parts list h e =
     let same : parts ≡ list = cc in
-    subst IsListing same (h refl)
-accepted (Some refusal) parts list h e = cc
+    subst (IsListingWithin most_parts most) same (h refl)
+accepted most_parts most (Some refusal) parts list h e = cc
 
-of_value : (value : Option Data) (list : List ListedPart) → answer_of value ≡ Ok list → IsListing list
-of_value None list e = cc
-of_value (Some value) list e = accepted _ _ list (is_listing value) e
+of_value : (most_parts most : ℕ) (value : Option Data) (list : List ListedPart) → answer_of most_parts most value ≡ Ok list → IsListingWithin most_parts most list
+of_value most_parts most None list e = cc
+of_value most_parts most (Some value) list e = accepted most_parts most _ _ list (is_listing most_parts most value) e
 
--- what is accepted keeps the bounds
+-- what is accepted keeps the limits
+pub within_limits : (most_parts most : ℕ) (bytes : Text) (result : Result (List ListedPart) ManifestRefusal) → AnswersList (part_list_within most_parts most bytes) result → IfOk result (IsListingWithin most_parts most)
+unfolding part_list_within
+within_limits most_parts most bytes (Ok list) e = of_value most_parts most (json_of bytes) list e
+within_limits most_parts most bytes (Err refusal) e = tt
+
+-- and those of an assembly
 pub within_bounds : (bytes : Text) (result : Result (List ListedPart) ManifestRefusal) → AnswersList (part_list bytes) result → IfOk result IsListing
-unfolding part_list
-within_bounds bytes (Ok list) e = of_value (json_of bytes) list e
-within_bounds bytes (Err refusal) e = tt
+within_bounds bytes result e = within_limits MOST_PARTS MOST_PIECES bytes result e

@@ -9,12 +9,11 @@ use Rattle.serde_json.specs.View.{view}
 use Rattle.serde_json.specs.declared.value.Value.{Value}
 use Rattle.staat_manifest.specs.declared.refusal.ManifestRefusal.{ManifestRefusal}
 use Rattle.staat_manifest.specs.declared.refusal.ManifestRefusal.TheVariants as refusal
-use Rattle.staat_limits.specs.declared.limits.TheConstants.{MOST_PIECES}
 use Rattle.staat_manifest.specs.declared.listing.ListedPart.{ListedPart}
 use Rattle.staat_manifest.specs.Listings.{listed}
 use Rattle.staat_manifest.specs.Values.{Text, json_of, parts_in}
 use Rattle.staat_manifest.specs.Answers.{AnswersList, RefusesPart}
-use Rattle.staat_manifest.specs.Rules.{unless_broken, answer_of, count_rule, first_refusal, form_rules, joint_rules, name_rule, part_list, rules_from, whole_rules}
+use Rattle.staat_manifest.specs.Rules.{unless_broken, answer_of, count_rule, first_refusal, form_rules, joint_rules, name_rule, part_list_within, rules_from, whole_rules}
 
 -- where these rules hold, the others decide
 pub passed : (rules others : List (Option ManifestRefusal)) → first_refusal rules ≡ None → first_refusal (rules ++ others) ≡ first_refusal others
@@ -45,7 +44,7 @@ second None None h = refl
 second None (Some e) h = refl
 second (Some d) then h = cc
 
-module _ (earlier : List ListedPart) (part : ListedPart) (names : List Text) (count : ℕ) (named : names ≡ map (λ other. other.name) earlier) (counted : count ≡ sum_by (λ other. length other.pieces) earlier) where
+module _ (most : ℕ) (earlier : List ListedPart) (part : ListedPart) (names : List Text) (count : ℕ) (named : names ≡ map (λ other. other.name) earlier) (counted : count ≡ sum_by (λ other. length other.pieces) earlier) where
   name : name_rule names part.name ≡ name_rule (map (λ other. other.name) earlier) part.name
   name = ap (λ others. name_rule others part.name) named
 
@@ -54,22 +53,22 @@ module _ (earlier : List ListedPart) (part : ListedPart) (names : List Text) (co
   total = sum_by-append (λ other. length other.pieces) earlier (part ∷ []) ∙ omega (arith, counted)
 
   -- its name is repeated
-  pub name_repeated : (e : ManifestRefusal) → name_rule names part.name ≡ Some e → first_refusal (joint_rules earlier part) ≡ Some e
-  name_repeated e h = ap (λ r. first_refusal (r ∷ count_rule (sum_by (λ other. length other.pieces) (earlier ++ part ∷ [])) ∷ [])) (sym name ∙ h)
+  pub name_repeated : (e : ManifestRefusal) → name_rule names part.name ≡ Some e → first_refusal (joint_rules most earlier part) ≡ Some e
+  name_repeated e h = ap (λ r. first_refusal (r ∷ count_rule most (sum_by (λ other. length other.pieces) (earlier ++ part ∷ [])) ∷ [])) (sym name ∙ h)
 
   -- its name is new, so its pieces decide
-  pub by_count : name_rule names part.name ≡ None → first_refusal (joint_rules earlier part) ≡ count_rule (count + length part.pieces)
-  by_count h = second _ _ (sym name ∙ h) ∙ ap count_rule total
+  pub by_count : name_rule names part.name ≡ None → first_refusal (joint_rules most earlier part) ≡ count_rule most (count + length part.pieces)
+  by_count h = second _ _ (sym name ∙ h) ∙ ap (count_rule most) total
 
-pub count_over : (count : ℕ) → MOST_PIECES < count → count_rule count ≡ Some refusal.TooManyPieces
-count_over count over = grind (arith, nat_tests)
+pub count_over : (most count : ℕ) → most < count → count_rule most count ≡ Some refusal.TooManyPieces
+count_over most count over = grind (arith, nat_tests)
 
-pub count_within : (count : ℕ) → count ≤ MOST_PIECES → count_rule count ≡ None
-count_within count within = grind (arith, nat_tests)
+pub count_within : (most count : ℕ) → count ≤ most → count_rule most count ≡ None
+count_within most count within = grind (arith, nat_tests)
 
 -- ---- the parts from part k on
 
-module _ (earlier : List ListedPart) (values : List Value) (k : ℕ) (v : Value) (more : k < length values) (is : v ≡ get_or values k v) (part : ListedPart) (same : part ≡ listed (view v)) where
+module _ (most : ℕ) (earlier : List ListedPart) (values : List Value) (k : ℕ) (v : Value) (more : k < length values) (is : v ≡ get_or values k v) (part : ListedPart) (same : part ≡ listed (view v)) where
   -- the list with this part
   pub list_more : (list : List ListedPart) → list ≡ earlier ++ part ∷ [] → earlier ≡ map listed (map view (take k values)) → list ≡ map listed (map view (take (k + 1) values))
   list_more list grown so_far =
@@ -77,23 +76,23 @@ module _ (earlier : List ListedPart) (values : List Value) (k : ℕ) (v : Value)
       ∙ ap (λ x. map listed (map view (take k values)) ++ listed (view x) ∷ []) is
       ∙ sym (ap (map listed) (map_more view values k v more) ∙ map_push listed (map view (take k values)) (view (get_or values k v)))
 
-  module _ (number : length earlier ≡ k) (all : Option ManifestRefusal) (whole : first_refusal (rules_from earlier (map view (drop k values))) ≡ all) where
+  module _ (number : length earlier ≡ k) (all : Option ManifestRefusal) (whole : first_refusal (rules_from most earlier (map view (drop k values))) ≡ all) where
     form : List (Option ManifestRefusal)
     form = form_rules k (view v)
 
     joint : List (Option ManifestRefusal)
-    joint = joint_rules earlier part
+    joint = joint_rules most earlier part
 
     later : List (Option ManifestRefusal)
-    later = rules_from (earlier ++ part ∷ []) (map view (drop (k + 1) values))
+    later = rules_from most (earlier ++ part ∷ []) (map view (drop (k + 1) values))
 
     here : first_refusal (form ++ joint ++ later) ≡ all
     unfolding form joint later
     here =
         ap (λ n. first_refusal (form_rules n (view v) ++ joint ++ later)) (sym number)
-        ∙ ap (λ p. first_refusal (form_rules (length earlier) (view v) ++ joint_rules earlier p ++ rules_from (earlier ++ p ∷ []) (map view (drop (k + 1) values)))) same
-        ∙ ap (λ x. first_refusal (rules_from earlier (view x ∷ map view (drop (k + 1) values)))) is
-        ∙ sym (at_drop_more (λ vs. first_refusal (rules_from earlier (map view vs))) values k v more) ∙ whole
+        ∙ ap (λ p. first_refusal (form_rules (length earlier) (view v) ++ joint_rules most earlier p ++ rules_from most (earlier ++ p ∷ []) (map view (drop (k + 1) values)))) same
+        ∙ ap (λ x. first_refusal (rules_from most earlier (view x ∷ map view (drop (k + 1) values)))) is
+        ∙ sym (at_drop_more (λ vs. first_refusal (rules_from most earlier (map view vs))) values k v more) ∙ whole
 
     -- the part breaks a rule by itself
     pub form_refuses : (e : ManifestRefusal) → first_refusal (form_rules k (view v)) ≡ Some e → all ≡ Some e
@@ -101,30 +100,30 @@ module _ (earlier : List ListedPart) (values : List Value) (k : ℕ) (v : Value)
     form_refuses e h = sym here ∙ stopped e (form ++ joint) later (stopped e form joint h)
 
     -- the part breaks a rule with those before it
-    pub joint_refuses : first_refusal (form_rules k (view v)) ≡ None → (e : ManifestRefusal) → first_refusal (joint_rules earlier part) ≡ Some e → all ≡ Some e
+    pub joint_refuses : first_refusal (form_rules k (view v)) ≡ None → (e : ManifestRefusal) → first_refusal (joint_rules most earlier part) ≡ Some e → all ≡ Some e
     unfolding form joint later
     joint_refuses f e h = sym here ∙ stopped e (form ++ joint) later (passed form joint f ∙ h)
 
     -- the part keeps its rules
-    pub goes_on : first_refusal (form_rules k (view v)) ≡ None → first_refusal (joint_rules earlier part) ≡ None → (list : List ListedPart) → list ≡ earlier ++ part ∷ [] → first_refusal (rules_from list (map view (drop (k + 1) values))) ≡ all
+    pub goes_on : first_refusal (form_rules k (view v)) ≡ None → first_refusal (joint_rules most earlier part) ≡ None → (list : List ListedPart) → list ≡ earlier ++ part ∷ [] → first_refusal (rules_from most list (map view (drop (k + 1) values))) ≡ all
     unfolding form joint later
     goes_on f h list grown =
-        ap (λ l. first_refusal (rules_from l (map view (drop (k + 1) values)))) grown
+        ap (λ l. first_refusal (rules_from most l (map view (drop (k + 1) values)))) grown
         ∙ sym (passed (form ++ joint) later (passed form joint f ∙ h)) ∙ here
 
 -- ---- the whole
 
-module _ (bytes : Text) (value : Data) (is : json_of bytes ≡ Some value) where
-  is_answer : part_list bytes ≡ unless_broken (first_refusal (whole_rules value ++ rules_from [] (parts_in value))) (map listed (parts_in value))
-  unfolding part_list
-  is_answer = ap answer_of is
+module _ (most_parts most : ℕ) (bytes : Text) (value : Data) (is : json_of bytes ≡ Some value) where
+  is_answer : part_list_within most_parts most bytes ≡ unless_broken (first_refusal (whole_rules most_parts value ++ rules_from most [] (parts_in value))) (map listed (parts_in value))
+  unfolding part_list_within
+  is_answer = ap (answer_of most_parts most) is
 
   -- the whole value breaks a rule
-  pub whole_refuses : (e : ManifestRefusal) → RefusesPart (first_refusal (whole_rules value)) e → AnswersList (part_list bytes) (Err e)
-  whole_refuses e h = subst (λ (wanted : Result (List ListedPart) ManifestRefusal). AnswersList wanted (Err e)) (sym is_answer) (passed_on e _ _ _ (λ d. stopped d (whole_rules value) (rules_from [] (parts_in value))) h)
+  pub whole_refuses : (e : ManifestRefusal) → RefusesPart (first_refusal (whole_rules most_parts value)) e → AnswersList (part_list_within most_parts most bytes) (Err e)
+  whole_refuses e h = subst (λ (wanted : Result (List ListedPart) ManifestRefusal). AnswersList wanted (Err e)) (sym is_answer) (passed_on e _ _ _ (λ d. stopped d (whole_rules most_parts value) (rules_from most [] (parts_in value))) h)
 
   -- the parts decide
-  pub by_parts : first_refusal (whole_rules value) ≡ None → (parts : List Data) → parts ≡ parts_in value → part_list bytes ≡ unless_broken (first_refusal (rules_from [] parts)) (map listed parts)
+  pub by_parts : first_refusal (whole_rules most_parts value) ≡ None → (parts : List Data) → parts ≡ parts_in value → part_list_within most_parts most bytes ≡ unless_broken (first_refusal (rules_from most [] parts)) (map listed parts)
   by_parts h parts same =
-      is_answer ∙ ap (λ o. unless_broken o (map listed (parts_in value))) (passed (whole_rules value) (rules_from [] (parts_in value)) h)
-      ∙ ap (λ ps. unless_broken (first_refusal (rules_from [] ps)) (map listed ps)) (sym same)
+      is_answer ∙ ap (λ o. unless_broken o (map listed (parts_in value))) (passed (whole_rules most_parts value) (rules_from most [] (parts_in value)) h)
+      ∙ ap (λ ps. unless_broken (first_refusal (rules_from most [] ps)) (map listed ps)) (sym same)

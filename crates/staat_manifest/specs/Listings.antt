@@ -1,5 +1,5 @@
 -- Parts as they are listed, and what holds of every list of parts that is accepted.
-use Rattle.std.specs.Prelude.{◌≢◌, ◌≤◌, List, length, map, sum_by, All, AllPairs}
+use Rattle.std.specs.Prelude.{◌≢◌, ◌≤◌, ℕ, List, length, map, sum_by, All, AllPairs}
 use Rattle.serde_json.specs.Data.{Data}
 use Rattle.staat_vec.specs.declared.vector.TheConstants.{POINT}
 use Rattle.staat_vec.specs.Vectors.{IsWithin}
@@ -12,12 +12,16 @@ use Rattle.staat_manifest.specs.Values.{name_of, pieces_in, text_in}
 abbrev pub listed : Data → ListedPart
 listed part = record { name = name_of part; pieces = map text_in (pieces_in part); at = at_of part }
 
--- 1 to MOST_PARTS parts of different names, each with a piece or more and moved by no more than a coordinate,
--- and at most MOST_PIECES pieces in all
-pub record IsListing (parts : List ListedPart) : Type 0 where
+-- 1 to so many parts of different names, each with a piece or more and moved by no more than a coordinate, and at most
+-- so many pieces in all
+pub record IsListingWithin (most_parts most_pieces : ℕ) (parts : List ListedPart) : Type 0 where
   pub at_least : 1 ≤ length parts
-  pub at_most : length parts ≤ MOST_PARTS
+  pub at_most : length parts ≤ most_parts
   pub each : All (λ part. 1 ≤ length part.pieces) parts
   pub placed : All (λ part. IsWithin POINT part.at) parts
-  pub pieces : sum_by (λ part. length part.pieces) parts ≤ MOST_PIECES
+  pub pieces : sum_by (λ part. length part.pieces) parts ≤ most_pieces
   pub names : AllPairs (λ a b. a ≢ b) (map (λ part. part.name) parts)
+
+-- as many parts and pieces as an assembly has
+abbrev pub IsListing : List ListedPart → Type 0
+IsListing parts = IsListingWithin MOST_PARTS MOST_PIECES parts

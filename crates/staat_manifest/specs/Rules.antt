@@ -25,14 +25,14 @@ first_refusal [] = None
 first_refusal (None ∷ rules) = first_refusal rules
 first_refusal (Some refusal ∷ rules) = Some refusal
 
--- ---- the whole value
+-- ---- the whole value, which has at most so many parts
 
-unfoldable pub whole_rules : Data → List (Option ManifestRefusal)
-whole_rules value =
+unfoldable pub whole_rules : ℕ → Data → List (Option ManifestRefusal)
+whole_rules most_parts value =
     rule (is_some (as_object value)) (BadShape (codes "/"))
     ∷ rule (nat_lt 0 (length (parts_in value))) (BadShape (codes "/parts"))
     ∷ rule (has_only (codes "parts" ∷ []) value) (BadShape (codes "/"))
-    ∷ rule (nat_le (length (parts_in value)) MOST_PARTS) TooManyParts
+    ∷ rule (nat_le (length (parts_in value)) most_parts) TooManyParts
     ∷ []
 
 -- ---- a part by itself
@@ -76,22 +76,22 @@ abbrev pub name_rule : List Text → Text → Option ManifestRefusal
 name_rule names name = rule (not (list_any (bytes_eq name) names)) (RepeatedName name)
 
 -- so many pieces in all are not too many
-abbrev pub count_rule : ℕ → Option ManifestRefusal
-count_rule count = rule (nat_le count MOST_PIECES) TooManyPieces
+abbrev pub count_rule : ℕ → ℕ → Option ManifestRefusal
+count_rule most_pieces count = rule (nat_le count most_pieces) TooManyPieces
 
 -- the rules for a part that comes after these
-abbrev pub joint_rules : List ListedPart → ListedPart → List (Option ManifestRefusal)
-joint_rules earlier part =
+abbrev pub joint_rules : ℕ → List ListedPart → ListedPart → List (Option ManifestRefusal)
+joint_rules most_pieces earlier part =
     name_rule (map (λ other. other.name) earlier) part.name
-    ∷ count_rule (sum_by (λ other. length other.pieces) (earlier ++ part ∷ []))
+    ∷ count_rule most_pieces (sum_by (λ other. length other.pieces) (earlier ++ part ∷ []))
     ∷ []
 
 -- the rules for all parts that come after these
-abbrev pub rules_from : List ListedPart → List Data → List (Option ManifestRefusal)
-rules_from earlier [] = []
-rules_from earlier (part ∷ later) =
-    form_rules (length earlier) part ++ joint_rules earlier (listed part)
-    ++ rules_from (earlier ++ listed part ∷ []) later
+abbrev pub rules_from : ℕ → List ListedPart → List Data → List (Option ManifestRefusal)
+rules_from most_pieces earlier [] = []
+rules_from most_pieces earlier (part ∷ later) =
+    form_rules (length earlier) part ++ joint_rules most_pieces earlier (listed part)
+    ++ rules_from most_pieces (earlier ++ listed part ∷ []) later
 
 -- ---- the answer
 
@@ -100,11 +100,16 @@ abbrev pub unless_broken : Option ManifestRefusal → List ListedPart → Result
 unless_broken None parts = Ok parts
 unless_broken (Some refusal) parts = Err refusal
 
-abbrev pub answer_of : Option Data → Result (List ListedPart) ManifestRefusal
-answer_of None = Err NotJson
-answer_of (Some value) =
-    unless_broken (first_refusal (whole_rules value ++ rules_from [] (parts_in value))) (map listed (parts_in value))
+abbrev pub answer_of : (most_parts most_pieces : ℕ) → Option Data → Result (List ListedPart) ManifestRefusal
+answer_of most_parts most_pieces None = Err NotJson
+answer_of most_parts most_pieces (Some value) =
+    unless_broken (first_refusal (whole_rules most_parts value ++ rules_from most_pieces [] (parts_in value)))
+    (map listed (parts_in value))
 
--- the parts that the bytes list, or what the first broken rule says
-unfoldable pub part_list : Text → Result (List ListedPart) ManifestRefusal
-part_list bytes = answer_of (json_of bytes)
+-- the parts that the bytes list, or what the first broken rule says, where there may be so many parts and pieces
+unfoldable pub part_list_within : (most_parts most_pieces : ℕ) → Text → Result (List ListedPart) ManifestRefusal
+part_list_within most_parts most_pieces bytes = answer_of most_parts most_pieces (json_of bytes)
+
+-- the same for as many parts and pieces as an assembly has
+abbrev pub part_list : Text → Result (List ListedPart) ManifestRefusal
+part_list bytes = part_list_within MOST_PARTS MOST_PIECES bytes

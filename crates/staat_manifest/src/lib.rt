@@ -10,5 +10,5 @@ mod reader;
 mod refusal;
 
 pub use listing::{ListedPart, Listing};
-pub use reader::read_manifest;
+pub use reader::{read_listing, read_manifest};
 pub use refusal::ManifestRefusal;

@@ -1,12 +1,11 @@
 // The whole part list: its shape, its parts one after another, and what they may not share.
-ghost use Rattle.std.specs.Prelude.{◌≡◌, ◌≤◌, ◌++◌, ◌∷◌, [], IfOk, OnOk, length, map};
+ghost use Rattle.std.specs.Prelude.{◌≡◌, ◌<◌, ◌≤◌, ◌^◌, ◌++◌, ◌∷◌, [], IfOk, OnOk, length, map};
 ghost use Rattle.serde_json.specs.View.{view};
-ghost use Rattle.staat_limits.specs.declared.limits.TheConstants.{MOST_PARTS};
 ghost use Rattle.staat_manifest.specs.Answers.{AnswersList, JudgesPart};
-ghost use Rattle.staat_manifest.specs.Listings.{IsListing, listed};
+ghost use Rattle.staat_manifest.specs.Listings.{IsListing, IsListingWithin, listed};
 ghost use Rattle.staat_manifest.specs.Values.{parts_in, text_in};
-ghost use Rattle.staat_manifest.specs.Rules.{unless_broken, first_refusal, name_rule, part_list, rules_from};
-ghost use Rattle.staat_manifest.specs.Rules.{whole_rules};
+ghost use Rattle.staat_manifest.specs.Rules.{unless_broken, first_refusal, name_rule, part_list};
+ghost use Rattle.staat_manifest.specs.Rules.{part_list_within, rules_from, whole_rules};
 
 use crate::json::{array_at, has_only, value_of};
 use crate::listing::{ListedPart, name_of, names_of};
@@ -20,10 +19,10 @@ use std::alloc::{AllocError, Global};
 
 // The values of the parts, unless the whole breaks a rule.
 #[tactic(auto, unfolding(crate::specs::Rules::whole_rules))]
-fn parts_in(alloc: Global, value: &Value) -> Result<&[Value], ManifestRefusal>
-    ensures rules { JudgesPart (first_refusal (whole_rules (view value.entry.now))) result }
+fn parts_in(alloc: Global, value: &Value, most_parts: u32) -> Result<&[Value], ManifestRefusal>
+    ensures rules { JudgesPart (first_refusal (whole_rules most_parts (view value.entry.now))) result }
     ensures parts { IfOk result (λ parts. map view parts.now ≡ parts_in (view value.entry.now)) }
-    ensures few { IfOk result (λ parts. length parts.now ≤ MOST_PARTS) }
+    ensures few { IfOk result (λ parts. length parts.now ≤ most_parts) }
 {
     if !value.is_object() {
         return Err(bad_shape(alloc, "/"));
@@ -35,7 +34,7 @@ fn parts_in(alloc: Global, value: &Value) -> Result<&[Value], ManifestRefusal>
     if !has_only(value, &["parts"]) {
         return Err(bad_shape(alloc, "/"));
     }
-    if parts.len() > MOST_PARTS as usize {
+    if parts.len() > most_parts as usize {
         return Err(ManifestRefusal::TooManyParts);
     }
     Ok(parts)
@@ -72,9 +71,9 @@ fn listed(alloc: Global, form: &Form<'_>) -> Result<ListedPart, AllocError>
 }
 
 // The list of the parts, unless one of them breaks a rule.
-fn list_parts(alloc: Global, parts: &[Value]) -> Result<Listing, ManifestRefusal>
-    requires { length parts.now ≤ MOST_PARTS }
-    ensures { AnswersList (unless_broken (first_refusal (rules_from [] (map view parts.now)))
+fn list_parts(alloc: Global, parts: &[Value], most_pieces: u32) -> Result<Listing, ManifestRefusal>
+    requires { length parts.now < 2 ^ 32 }
+    ensures { AnswersList (unless_broken (first_refusal (rules_from most_pieces [] (map view parts.now)))
         (map listed (map view parts.now))) result }
 {
     let mut list = Vec::with_capacity(alloc, parts.len())?;
@@ -85,7 +84,7 @@ fn list_parts(alloc: Global, parts: &[Value]) -> Result<Listing, ManifestRefusal
         let form = form_of(alloc, k as u32, part)?;
         add_name(alloc, &mut names, form.name)?;
         piece_count += form.pieces.len();
-        if piece_count > MOST_PIECES as usize {
+        if piece_count > most_pieces as usize {
             return Err(ManifestRefusal::TooManyPieces);
         }
         list.push(listed(alloc, &form)?)?;
@@ -96,16 +95,28 @@ fn list_parts(alloc: Global, parts: &[Value]) -> Result<Listing, ManifestRefusal
 /// The parts that the bytes list, each with its name, the names of its pieces' files and the vector that moves it.
 ///
 /// The bytes are one JSON value: `{"parts": [{"name": "cube", "pieces": ["a.off"], "at": [0, 0, 2]}, ..]}`. A part
-/// without `at` is not moved. The rules
-/// are tested in a fixed order, and the first that is broken is the refusal: bytes that are not
-/// JSON; the whole value's shape; more than [`MOST_PARTS`] parts; then, for each part in order, its shape, no
-/// pieces, a name that an earlier part has, and more than [`MOST_PIECES`] pieces in the parts so far. A member
+/// without `at` is not moved. The rules are tested in a fixed order, and the first that is broken is the refusal:
+/// bytes that are not JSON; the whole value's shape; more than `most_parts` parts; then, for each part in order, its
+/// shape, no pieces, a name that an earlier part has, and more than `most_pieces` pieces in the parts so far. A member
 /// that is repeated counts with its last value.
-#[tactic(auto, unfolding(crate::specs::Rules::part_list))]
+#[tactic(auto, unfolding(crate::specs::Rules::part_list_within))]
+pub fn read_listing(
+    alloc: Global,
+    bytes: &[u8],
+    most_parts: u32,
+    most_pieces: u32,
+) -> Result<Listing, ManifestRefusal>
+    ensures exact { AnswersList (part_list_within most_parts most_pieces bytes.now) result }
+    ensures bounds { IfOk result (IsListingWithin most_parts most_pieces) }
+{
+    let value = value_of(alloc, bytes)?;
+    list_parts(alloc, parts_in(alloc, &value, most_parts)?, most_pieces)
+}
+
+/// The parts that the bytes list, by [`read_listing`]: at most [`MOST_PARTS`] parts with at most [`MOST_PIECES`] pieces.
 pub fn read_manifest(alloc: Global, bytes: &[u8]) -> Result<Listing, ManifestRefusal>
     ensures exact { AnswersList (part_list bytes.now) result }
     ensures bounds { IfOk result IsListing }
 {
-    let value = value_of(alloc, bytes)?;
-    list_parts(alloc, parts_in(alloc, &value)?)
+    read_listing(alloc, bytes, MOST_PARTS, MOST_PIECES)
 }

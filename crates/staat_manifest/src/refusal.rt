@@ -24,10 +24,10 @@ pub enum ManifestRefusal {
     /// The part of this number has no pieces.
     #[error("no pieces in part {0}")]
     NoPieces(u32),
-    /// There are more than 32 parts.
+    /// There are more parts than may be.
     #[error("too many parts")]
     TooManyParts,
-    /// The parts have more than 64 pieces in all.
+    /// The parts have more pieces in all than may be.
     #[error("too many pieces")]
     TooManyPieces,
     /// There was no memory for the value or for the list.
