@@ -1,3 +1,4 @@
 pub mod SearchLemmas
 pub mod SoundLemmas
 pub mod PlacingLemmas
+pub mod BoxLemmas

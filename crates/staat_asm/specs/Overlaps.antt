@@ -1,11 +1,13 @@
 -- Pieces of different parts that overlap, and what a search for the first of them answers.
 use Rattle.std.specs.Prelude.{◌≡◌, ◌<◌, ℕ, List, Result, Ok, Err}
 use Rattle.staat_vec.specs.Lists.{IsLeast}
+use Rattle.staat_vec.specs.Vectors.{origin}
 use Rattle.staat_model.specs.declared.assembly.Part.{Part}
 use Rattle.staat_model.specs.declared.certificate.Arc.{Arc}
 use Rattle.staat_model.specs.Assemblies.{HoldsAt}
 use Rattle.staat_model.specs.Certificates.{arc_cmp}
 use Rattle.staat_model.specs.Meeting.{Overlap}
+use Rattle.staat_motion.specs.Motions.{Motion, WasMadeFrom}
 use Rattle.staat_asm.specs.declared.refusal.AsmRefusal.{AsmRefusal}
 use Rattle.staat_asm.specs.declared.refusal.AsmRefusal.TheVariants as refusal
 
@@ -26,6 +28,11 @@ IsOverlapWithPart parts a i b arc = IsOverlapOfPiece parts a i arc × (arc.b ≡
 -- the first arc whose pieces overlap: no lesser one does, by a, then i, then b, then j
 abbrev pub IsFirstOverlap : List Part → Arc → Type 0
 IsFirstOverlap parts arc = IsLeast arc_cmp (IsOverlap parts) arc
+
+-- what is kept of these parts for no direction at all: pieces that meet so overlap
+pub record IsAtRest (parts : List Part) (boxes : Motion) : Type 0 where
+  pub made : WasMadeFrom parts boxes
+  pub still : boxes.d ≡ origin
 
 -- the answer of a search: that no arc has P, or a refusal that names the least that has
 abbrev pub Searches : {X : Type 0} → (Arc → Type 0) → Result X AsmRefusal → Type 0

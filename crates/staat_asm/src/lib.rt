@@ -1,4 +1,4 @@
-//! Assemblies in which no pieces of different parts overlap.
+//! Assemblies and products in which no pieces of different parts overlap.
 #![tactic(auto)]
 
 pub mod laws;
@@ -9,4 +9,4 @@ mod sound;
 
 pub use placing::{PlaceRefusal, place};
 pub use refusal::AsmRefusal;
-pub use sound::build;
+pub use sound::{build, build_product};

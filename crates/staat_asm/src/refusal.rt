@@ -1,8 +1,8 @@
-// Why an assembly is not sound.
+// Why an assembly or a product is not sound.
 use staat_vec::OutOfMemory;
 use thiserror::Error;
 
-/// Why no sound assembly was made.
+/// Why no sound assembly or product was made.
 #[derive(Clone, Copy, Debug, PartialEq, Eq, Error)]
 pub enum AsmRefusal {
     /// Pieces of two parts overlap: a part and its piece, and a part with a greater number and its piece. No other two

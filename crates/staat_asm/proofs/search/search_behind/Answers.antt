@@ -5,5 +5,5 @@ use Rattle.staat_asm.proofs.search.search_behind.Goals as goal
 pub returns : goal.returns
 returns g c = λ arc p.
     let h = p.0.0.1 in
-    let lt : arc.b < length c.args.assembly.now = part_within c.args.assembly.now arc.b arc.j h.q h.q_is in
+    let lt : arc.b < length c.args.product.now = part_within c.args.product.now arc.b arc.j h.q h.q_is in
     c.loop-b.invariant arc p (omega (arith, lt, c.parts-end.ensures.count, c.loop-b-test.false))

@@ -6,5 +6,5 @@ use Rattle.staat_asm.proofs.search.search_from.Goals as goal
 pub returns : goal.returns
 returns g c = λ arc p.
     let h = p.0.1 in
-    let within : arc.i < piece_count c.args.assembly.now c.args.a = subst (λ a. arc.i < piece_count c.args.assembly.now a) p.1 (piece_within c.args.assembly.now arc.a arc.i h.p h.p_is) in
+    let within : arc.i < piece_count c.args.product.now c.args.a = subst (λ a. arc.i < piece_count c.args.product.now a) p.1 (piece_within c.args.product.now arc.a arc.i h.p h.p_is) in
     c.loop-i.invariant arc p (omega (arith, within, c.pieces-i-end.ensures.count, c.loop-i-test.false))
