@@ -113,7 +113,7 @@ pub fn read_listing(
     list_parts(alloc, parts_in(alloc, &value, most_parts)?, most_pieces)
 }
 
-/// The parts that the bytes list, by [`read_listing`]: at most [`MOST_PARTS`] parts with at most [`MOST_PIECES`] pieces.
+/// The parts that the bytes list, by [`read_listing`]: at most [`MOST_PARTS`] with at most [`MOST_PIECES`] pieces.
 pub fn read_manifest(alloc: Global, bytes: &[u8]) -> Result<Listing, ManifestRefusal>
     ensures exact { AnswersList (part_list bytes.now) result }
     ensures bounds { IfOk result IsListing }

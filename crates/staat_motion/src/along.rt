@@ -129,8 +129,8 @@ impl Along {
         let d = self.direction();
         is_apart(d, self.whole(a), self.whole(b))
     }
-    /// Whether boxes or spans of the piece `i` of the part `a` and of the whole part `b` show that the piece meets none
-    /// of that part along the direction, as [`apart`](Along::apart) does of two pieces. It takes no memory.
+    /// Whether boxes or spans of the piece `i` of the part `a` and of the whole part `b` show that the piece meets no
+    /// piece of that part along the direction, as [`apart`](Along::apart) does of two pieces. It takes no memory.
     pub fn piece_apart(&self, a: u32, i: u32, b: u32) -> bool
         requires part { a < length self.now.shadows }
         requires piece { i < shadow_count self.now.shadows a }
