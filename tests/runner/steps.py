@@ -85,6 +85,7 @@ STEPS = (
     ),
     Step("transcripts", _python("tests/runner/transcripts.py", "{program}")),
     Step("gallery", _python("gallery/run", "{program}")),
+    Step("readings", _python("tools/compare_readings.py", "{program}")),
     Step("tools", _python("tests/runner/units.py", "tools")),
     Step("runner", _python("tests/runner/units.py", "tests/runner"), needs_program=False),
     Step("bench", _python("tests/runner/units.py", "bench"), ("cc",), needs_program=False),
