@@ -3,15 +3,18 @@
 #![tactic(auto)]
 
 mod disk;
+mod laws;
 mod lists;
 mod memory_shelf;
 mod memory_sink;
 mod schedule;
 mod shelf;
 mod sink;
+mod trace;
 mod whole;
 
 pub use disk::{DiskShelf, StreamSink};
+pub use laws::own_files;
 pub use lists::{Calls, Files};
 pub use memory_shelf::MemoryShelf;
 pub use memory_sink::MemorySink;

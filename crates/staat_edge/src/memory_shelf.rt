@@ -1,13 +1,15 @@
 // A shelf in memory, which fails at the calls that it is told.
-ghost use Rattle.std.specs.Prelude.{min, ◌^◌, ◌≡◌, ◌≤◌, ◌<◌, ◌+◌, ◌||◌, ◌&&◌, ℕ};
+ghost use Rattle.std.specs.Prelude.{min, ◌^◌, ◌≡◌, ◌≤◌, ◌<◌, ◌+◌, ◌||◌, ◌&&◌, ℕ, []};
 ghost use Rattle.std.specs.Prelude.{List, length, take, drop, Option, Some, None, IsOk, IfOk, is_err, is_some, not};
 ghost use Rattle.std.specs.Prelude.{IfNone, IfSome, option_map, slice_get};
 ghost use Rattle.std.specs.Option.{ForSome};
 ghost use Rattle.std.specs.Io.KnownBytes.{Consumes, IsAtEnd};
 ghost use Rattle.staat_edge.specs.Calls.{is_due, after_call};
 ghost use Rattle.staat_edge.specs.Files.{bytes_of, name_of_file, left_at, length_of, IsFirstOfName};
+ghost use Rattle.staat_edge.specs.Steps.{readings};
 
 use crate::schedule::Schedule;
+use crate::trace::Trace;
 use crate::{Calls, Failed, Files, Shelf};
 use staat_vec::{Bytes, Name, OutOfMemory};
 use std::alloc::Global;
@@ -28,6 +30,7 @@ pub struct MemoryShelf {
     current: Option<(usize, usize)>,
     // the index of the file at which a call failed last
     failed: Option<usize>,
+    trace: Trace,
     ghost steps: { 0 < chunk },
     ghost known: { ForSome current (λ p. IsFirstOfName files p.0) },
 }
@@ -98,6 +101,7 @@ impl MemoryShelf {
         ensures faults { IfOk result (λ s. s.schedule.faults ≡ 0) }
         ensures closed { IfOk result (λ s. s.current ≡ None) }
         ensures failed { IfOk result (λ s. s.failed ≡ None) }
+        ensures nothing { IfOk result (λ s. s.trace.steps ≡ []) }
     {
         let _ = alloc;
         Ok(MemoryShelf {
@@ -106,6 +110,7 @@ impl MemoryShelf {
             schedule: Schedule::new(failing),
             current: None,
             failed: None,
+            trace: Trace::new(),
         })
     }
 }
@@ -118,6 +123,8 @@ impl Shelf for MemoryShelf {
       opened = name_of_file s.files (option_map (λ at. at.0) s.current);
       place = option_map (λ at. at.1) s.current;
     } };
+
+    ghost given = { λ s. readings s.trace.steps };
 
     ghost left = { λ s. left_at s.files s.current };
 
@@ -147,6 +154,7 @@ impl Shelf for MemoryShelf {
             }
             Some(index) => {
                 self.current = Some((index, 0));
+                self.trace.keep_opened(name);
                 Ok(())
             }
         }
@@ -165,6 +173,7 @@ impl Shelf for MemoryShelf {
         let most = buf.len().min(self.chunk);
         let count = read_part(self.files.as_slice(), index, place, &mut buf[..most]);
         self.current = Some((index, place + count));
+        self.trace.keep_read(count, buf);
         Ok(count)
     }
 

@@ -1,10 +1,11 @@
 // A shelf of files.
-ghost use Rattle.std.specs.Prelude.{◌≡◌, ◌≤◌, ◌<◌, ◌+◌, ◌⊎◌, ℕ, Bool, List, length};
+ghost use Rattle.std.specs.Prelude.{◌≡◌, ◌≤◌, ◌<◌, ◌+◌, ◌⊎◌, ◌∷◌, ℕ, Bool, List, length};
 ghost use Rattle.std.specs.Prelude.{Option, Some, None, Result, IsSome, IsSomeAnd, IsErr, is_err, OnOk, OnErr, IfOk};
 ghost use Rattle.std.specs.Prelude.{MatchResult, option_map, ⊤};
 ghost use Rattle.std.specs.Io.KnownBytes.{ReadConsumes};
 ghost use Rattle.staat_edge.specs.Causes.{Rose};
 ghost use Rattle.staat_edge.specs.Files.{bytes_of, content_of, Lacks, told_name, left_of, failed_at, held_name};
+ghost use Rattle.staat_edge.specs.Readings.{FileReading, after_read, begun};
 ghost use Rattle.staat_edge.specs.Told.{ShelfTold};
 ghost use Rattle.staat_edge.specs.declared.shelf.Failed.{Failed};
 
@@ -21,10 +22,15 @@ pub struct Failed;
 /// faults, so that an answer of `Failed` has a cause that its caller can see: the count rose in the
 /// call, or stands at the greatest u64. Only a call that opens a name which a told shelf does not
 /// hold fails without that, so no program can raise the count by a name of its own choice.
+///
+/// Every shelf tells its readings: what each file that was opened has given so far, in the order of the calls.
 pub trait Shelf {
     /// What the shelf tells: what it holds, which no call changes; how often it has failed, which never falls; and the
     /// file at which it failed last, the open file and the place in it.
     ghost told: { Self → ShelfTold };
+
+    /// The readings of files, the last one first.
+    ghost given: { Self → List FileReading };
 
     /// Where the shelf tells what it holds and a file is open, the bytes that are left of it.
     ghost left: { Self → Option (List ℕ) };
@@ -50,6 +56,8 @@ pub trait Shelf {
         ensures lacking { Lacks (told self.old).holds name.now →
             IsErr result × ((told self.new).faults ≡ (told self.old).faults) }
         ensures closed { OnErr result ((told self.new).place ≡ None) }
+        ensures begun { OnOk result (given self.new ≡ begun name.now ∷ given self.old) }
+        ensures none_begun { OnErr result (given self.new ≡ given self.old) }
         ensures cause { OnErr result
             (Lacks (told self.old).holds name.now ⊎ Rose (told self.old).faults (told self.new).faults) }
         ensures failed { (told self.new).failed ≡
@@ -70,6 +78,9 @@ pub trait Shelf {
             (λ n. (told self.new).place ≡ option_map (λ at. at + n) (told self.old).place)
             (λ _. (told self.new).place ≡ (told self.old).place) }
         ensures bytes { ReadConsumes (left self.old) (left self.new) result buf.new }
+        ensures gave { MatchResult result
+            (λ n. given self.new ≡ after_read n buf.new (given self.old))
+            (λ _. given self.new ≡ given self.old) }
 
         ensures cause { OnErr result (Rose (told self.old).faults (told self.new).faults) }
         ensures failed { (told self.new).failed ≡
