@@ -1,0 +1,10 @@
+pub mod ListSteps
+pub mod Marking
+pub mod ReachLemmas
+pub mod LinkLemmas
+pub mod LinkDirections
+pub mod GapLemmas
+pub mod NormalPlanes
+pub mod HoldLemmas
+pub mod HoldLaw
+pub mod HoldVertices

@@ -1,0 +1,18 @@
+use Rattle.std.proofs.Common.{◌↔◌, List, sym, subst, All}
+use Rattle.std.specs.Prelude.{IsTrue}
+use Rattle.staat_holds.specs.declared.ways.Way.{Way}
+use Rattle.staat_holds.specs.Links.{SomeLeads}
+use Rattle.staat_holds.specs.Marks.{HasWay, IsWayWithin}
+use Rattle.staat_holds.specs.Reaching.{AllReach}
+use Rattle.staat_holds.proofs.LinkLemmas.{ways_within}
+use Rattle.staat_holds.proofs.ReachLemmas.{all_carried}
+use Rattle.staat_holds.proofs.judge.is_joined.Goals as goal
+
+pub all_reach-requires-clause-ways : goal.all_reach-requires-clause-ways
+all_reach-requires-clause-ways c = subst (All (IsWayWithin c.args.count)) (sym c.as_slice.ensures.value) (ways_within c.args.count c.args.d c.args.links.now c.in_ok-ways.ways.items c.requires.links c.in_ok-ways.ensures)
+
+pub returns : goal.returns
+returns c =
+    let tells = subst (λ (ws : List Way). IsTrue c.in_ok-all_reach.field-0 ↔ AllReach c.args.count (HasWay ws)) c.as_slice.ensures.value c.in_ok-all_reach.ensures in
+    let same = all_carried {R = HasWay c.in_ok-ways.ways.items} {S = SomeLeads c.args.links.now c.args.d} c.args.count c.in_ok-ways.ensures in
+    (λ yes. same.0 (tells.0 yes), λ all. tells.1 (same.1 all))

@@ -1,0 +1,4 @@
+pub mod Holds
+pub mod Links
+pub mod Marks
+pub mod Reaching
