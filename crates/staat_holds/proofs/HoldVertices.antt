@@ -37,6 +37,19 @@ of_plane parts core planes n are plane = subst (λ l. Contains l n) (sym are.is)
     go (inl axis) (inr off) = Contains-append_left axes are.others n axis
     go (inr p) (inr off) = Contains-append_right axes are.others n (are.others_are.all n (p, off))
 
+-- where a first gap is, they are not joined
+pub gap_not_joined : (parts : List Part) (nodes : List (Option ℕ)) (count : ℕ) (core : List Arc) (v : V3) → IsFirstGap parts nodes count core v → JoinsNodes parts nodes count core → ⊥
+gap_not_joined parts nodes count core v gap joins =
+    let planes = gap.planes in
+    let are = gap.planes_are in
+    let reach : V3 → Type 0 = λ d. AllReach count (LeadsBetween parts nodes core d) in
+    first_not_all reach planes_vertices v gap.first (All-from_members reach planes_vertices (λ u c.
+    let o = vertices_from planes u (hold_planes_apart parts core planes are) c in
+    held_at parts nodes count core o.g o.h u joins (plane_of parts core planes o.g are o.g_in) (plane_of parts core planes o.h are o.h_in) o.apart o.is))
+  where
+    planes_vertices : List V3
+    planes_vertices = vertices gap.planes
+
 module _ (parts : List Part) (each : All IsPart parts) (nodes : List (Option ℕ)) (count : ℕ) (core : List Arc) (links : List Link) (are : AreLinks parts nodes core links) (planes : List V3) (of_links : AreLinkPlanes links planes) where
   are_planes : AreHoldPlanes parts core planes
   are_planes = hold_planes parts each nodes core links are planes of_links

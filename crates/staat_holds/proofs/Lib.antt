@@ -8,3 +8,8 @@ pub mod NormalPlanes
 pub mod HoldLemmas
 pub mod HoldLaw
 pub mod HoldVertices
+pub mod FirstFailing
+pub mod NodeNames
+pub mod ChainSteps
+pub mod ChainLaw
+pub mod Breaking

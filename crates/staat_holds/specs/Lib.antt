@@ -1,3 +1,4 @@
+pub mod Chains
 pub mod Holds
 pub mod Links
 pub mod Marks

@@ -42,7 +42,8 @@ IsLinkAhead link d = All (λ n. pos 0 <ℤ dot n d) link.facets
 -- at d the link leads from x to y, one way or the other
 abbrev pub LinkLeads : V3 → Link → ℕ → ℕ → Type 0
 LinkLeads d link x y =
-    (IsLinkAhead link d × (link.from ≡ x) × (link.to ≡ y)) ⊎ (IsLinkAhead link (negative d) × (link.to ≡ x) × (link.from ≡ y))
+    (IsLinkAhead link d × (link.from ≡ x) × (link.to ≡ y))
+    ⊎ (IsLinkAhead link (negative d) × (link.to ≡ x) × (link.from ≡ y))
 
 -- one of the links does
 abbrev pub SomeLeads : List Link → V3 → ℕ → ℕ → Type 0

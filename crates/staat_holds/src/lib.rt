@@ -2,12 +2,17 @@
 //! set of parts that is stuck.
 #![tactic(auto)]
 
+mod hold;
 mod judge;
 pub mod laws;
 mod links;
+mod names;
 mod planes;
 mod reach;
+mod rules;
 mod ways;
 
+pub use hold::{BrokenHold, Hold, HoldRule, Holds};
 pub use judge::{first_gap, judge_hold};
 pub use links::is_core_pair;
+pub use rules::first_broken_hold;
