@@ -13,3 +13,4 @@ pub mod NodeNames
 pub mod ChainSteps
 pub mod ChainLaw
 pub mod Breaking
+pub mod GapSizes

@@ -151,6 +151,7 @@ pub fn first_gap<F: FacetSource>(
     ensures held { IfOk result (λ gap. MatchOption gap (JoinsNodes parts.now nodes.now count core.now)
         (λ v. JoinsNodes parts.now nodes.now count core.now → ⊥)) }
     ensures first { IfOk result (λ gap. IfSome gap (IsFirstGap parts.now nodes.now count core.now)) }
+    ensures size { IfOk result (λ gap. IfSome gap (λ v. (v ≢ origin) × IsWithin DIRECTION v)) }
 {
     let links = links_of(alloc, source, parts, nodes, count, core)?;
     let planes = planes_of(alloc, count, links.as_slice())?;

@@ -15,4 +15,5 @@ mod ways;
 pub use hold::{BrokenHold, Hold, HoldRule, Holds};
 pub use judge::{first_gap, judge_hold};
 pub use links::is_core_pair;
+pub use names::{own_names, places_of};
 pub use rules::first_broken_hold;
