@@ -1,4 +1,5 @@
 pub mod Arcs
+pub mod Asking
 pub mod Labels
 pub mod Peelings
 pub mod Reaching

@@ -19,8 +19,8 @@ struct Walk {
     done: Vec<usize>,
 }
 
-// whether an arc leads from the place i to the place j
-fn has_arc(rows: &[Row], i: usize, j: usize) -> bool {
+/// Whether an arc leads from the place `i` to the place `j`.
+pub fn has_arc(rows: &[Row], i: usize, j: usize) -> bool {
     if i >= rows.len() {
         return false;
     }
