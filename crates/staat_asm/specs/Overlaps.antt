@@ -7,7 +7,7 @@ use Rattle.staat_model.specs.declared.certificate.Arc.{Arc}
 use Rattle.staat_model.specs.Assemblies.{HoldsAt}
 use Rattle.staat_model.specs.Certificates.{arc_cmp}
 use Rattle.staat_model.specs.Meeting.{Overlap}
-use Rattle.staat_motion.specs.Motions.{Motion, WasMadeFrom}
+use Rattle.staat_motion.specs.Motions.{Motion, IsMotionOf}
 use Rattle.staat_asm.specs.declared.refusal.AsmRefusal.{AsmRefusal}
 use Rattle.staat_asm.specs.declared.refusal.AsmRefusal.TheVariants as refusal
 
@@ -31,7 +31,7 @@ IsFirstOverlap parts arc = IsLeast arc_cmp (IsOverlap parts) arc
 
 -- what is kept of these parts for no direction at all: pieces that meet so overlap
 pub record IsAtRest (parts : List Part) (boxes : Motion) : Type 0 where
-  pub made : WasMadeFrom parts boxes
+  pub made : IsMotionOf parts boxes
   pub still : boxes.d ≡ origin
 
 -- the answer of a search: that no arc has P, or a refusal that names the least that has

@@ -2,7 +2,7 @@
 ghost use Rattle.std.specs.Prelude.{◌<◌, ◌↔◌, IfOk, IsTrue, length};
 ghost use Rattle.staat_model.specs.Assemblies.{HoldsAt, piece_count};
 ghost use Rattle.staat_model.specs.Meeting.{Overlap};
-ghost use Rattle.staat_motion.specs.Motions.{HasPieces};
+ghost use Rattle.staat_motion.specs.Motions.{HasBothPieces};
 ghost use Rattle.staat_asm.specs.Overlaps.{
   IsAtRest,
   IsOverlap,
@@ -38,7 +38,7 @@ fn pieces_overlap<F: FacetSource>(
     boxes: &Along,
     arc: Arc,
 ) -> Result<bool, OutOfMemory>
-    requires pieces { HasPieces product.now arc }
+    requires pieces { HasBothPieces product.now arc }
     requires boxes { IsAtRest product.now boxes.now }
     ensures { IfOk result (λ answer. IsTrue answer ↔ HoldsAt product.now arc Overlap) }
 {

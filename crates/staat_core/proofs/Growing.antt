@@ -13,7 +13,7 @@ use Rattle.staat_model.specs.Planes.{axes}
 use Rattle.staat_model.proofs.Members.{here}
 use Rattle.staat_core.specs.Sources.{AreFacetsOf}
 use Rattle.staat_core.specs.declared.cores.Core.{Core}
-use Rattle.staat_core.specs.Cores.{AreAmong, GoesOn, Grows, HasCanons, HasPlanesOf, HasRoom, IsCore, IsEmptyCore, core_pairs, core_planes}
+use Rattle.staat_core.specs.Cores.{StandIn, GoesOn, HasGrown, HasCanons, HasPlanesOf, HasRoom, IsCore, IsEmptyCore, core_pairs, core_planes}
 
 pub goes_same : {X : Type 0} (xs ys : List X) → ys ≡ xs → GoesOn xs ys
 goes_same xs ys e = record { more = []; is = e ∙ sym (append-nil xs) }
@@ -36,10 +36,10 @@ longer xs ys g = let e = ap length g.is in omega (arith, e, length-append xs g.m
 pub same_place : {X : Type 0} (xs ys : List X) (k : ℕ) (x : X) → GoesOn xs ys → k < length xs → get_or ys k x ≡ get_or xs k x
 same_place xs ys k x g lt = ap (λ l. get_or l k x) g.is ∙ get_or_append_left xs g.more x k lt
 
-pub grows_not : (k : Core) → Grows k k
+pub grows_not : (k : Core) → HasGrown k k
 grows_not k = record { pairs = goes_same (core_pairs k) (core_pairs k) refl; planes = goes_same (core_planes k) (core_planes k) refl }
 
-pub grows_further : (a b c : Core) → Grows a b → Grows b c → Grows a c
+pub grows_further : (a b c : Core) → HasGrown a b → HasGrown b c → HasGrown a c
 grows_further a b c f g = record {
   pairs = goes_further (core_pairs a) (core_pairs b) (core_pairs c) f.pairs g.pairs;
   planes = goes_further (core_planes a) (core_planes b) (core_planes c) f.planes g.planes;
@@ -58,7 +58,7 @@ planes_kept parts xs ys pairs g = All-weaker (HasPlanesOf parts xs) (HasPlanesOf
       holds = record { p = h.holds.p; q = h.holds.q; p_is = h.holds.p_is; q_is = h.holds.q_is; holds = λ n f. stays_in xs ys (canon n) g (h.holds.holds n f) };
     }
 
-pub axes_kept : (xs ys : List V3) → GoesOn xs ys → AreAmong axes xs → AreAmong axes ys
+pub axes_kept : (xs ys : List V3) → GoesOn xs ys → StandIn axes xs → StandIn axes ys
 axes_kept xs ys g = All-weaker (Contains xs) (Contains ys) (λ n c. stays_in xs ys n g c) axes
 
 pub plane_pushed : (k m : Core) (n : V3) → HasRoom k → IsWithin NORMAL n → k.used < 96 → length m.planes ≡ 96 → m.used ≡ k.used + 1 → core_planes m ≡ core_planes k ++ n ∷ [] → m.pairs ≡ k.pairs → m.count ≡ k.count → HasRoom m
@@ -87,7 +87,7 @@ axes_room k long none room used e = record {
   room = room;
   most = omega (arith, used);
   each = subst (All (IsWithin NORMAL)) (sym e) axes_within;
-  axes = subst (AreAmong axes) (sym e) (All-contains_itself axes);
+  axes = subst (StandIn axes) (sym e) (All-contains_itself axes);
 }
 
 -- ---- cores
@@ -121,7 +121,7 @@ core_taken pairs speaks k m pair facets true is listed room planes are put pushe
         record { holds = record { p = h.p; q = h.q; p_is = h.p_is; q_is = h.q_is; holds = λ n f. All-contains (λ x. Contains (core_planes m) (canon x)) facets n (put refl) (h.holds.all n f) } }
 core_taken pairs speaks k m pair facets false is listed room planes are put pushed same = core_same pairs speaks k m is room planes (same refl)
 
-pub grows_taken : (k m : Core) (pair : Arc) (taken : Bool) → GoesOn (core_planes k) (core_planes m) → (IsTrue taken → core_pairs m ≡ core_pairs k ++ pair ∷ []) → (taken ≡ false → core_pairs m ≡ core_pairs k) → Grows k m
+pub grows_taken : (k m : Core) (pair : Arc) (taken : Bool) → GoesOn (core_planes k) (core_planes m) → (IsTrue taken → core_pairs m ≡ core_pairs k ++ pair ∷ []) → (taken ≡ false → core_pairs m ≡ core_pairs k) → HasGrown k m
 grows_taken k m pair true planes pushed same = record { pairs = goes_one (core_pairs k) (core_pairs m) pair (pushed refl); planes = planes }
 grows_taken k m pair false planes pushed same = record { pairs = goes_same (core_pairs k) (core_pairs m) (same refl); planes = planes }
 

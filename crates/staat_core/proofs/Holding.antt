@@ -36,7 +36,7 @@ use Rattle.staat_pairs.specs.Tables.{back}
 use Rattle.staat_core.specs.declared.cores.Core.{Core}
 use Rattle.staat_core.specs.declared.joins.Moving.{Moving}
 use Rattle.staat_core.specs.declared.joins.Moving.TheVariants.{AnySide, OnePart}
-use Rattle.staat_core.specs.Cores.{AreLeading, GoesOn, Grows, HasPlanesOf, HoldsAmongFirst, HoldsWhere, HoldsWithFirst, IsCore, core_pairs, core_planes, plane_at}
+use Rattle.staat_core.specs.Cores.{AreLeading, GoesOn, HasGrown, HasPlanesOf, HoldsAmongFirst, HoldsWhere, HoldsWithFirst, IsCore, core_pairs, core_planes, core_plane_at}
 use Rattle.staat_core.specs.Moves.{HoldsMoves, IsHeldIn, IsMove}
 use Rattle.staat_core.specs.Sources.{both_ways}
 use Rattle.staat_core.proofs.Growing.{same_place}
@@ -144,7 +144,7 @@ module _ (parts : List Part) (pairs : List Arc) (speaks : List Part → Type 0) 
     ]);
   }
 
-  plane_read : (h : V3) (c : Contains (core_planes k) h) → plane_at k c.0 ≡ h
+  plane_read : (h : V3) (c : Contains (core_planes k) h) → core_plane_at k c.0 ≡ h
   plane_read h c = get_or_default (core_planes k) c.0 origin h c.1 ∙ c.2
 
   pub held_on_plane : (moving : Moving) (w : PartSet) (g d : V3) (n : ℕ) → All IsPart parts → HoldsWithFirst parts k moving w g n → length (core_planes k) ≤ n → g ≢ origin → dot g d ≡ pos 0 → d ≢ origin
@@ -195,21 +195,21 @@ module _ (parts : List Part) (pairs : List Arc) (speaks : List Part → Type 0) 
       free_v : IsFreeInCore parts (both_ways (core_pairs k)) s (set.difference w s) v
       free_v arc listed a_in b_in m = free arc listed a_in b_in (meets_towards parts (both_ways (core_pairs k)) (core_planes k) d v arc each (has_planes parts pairs speaks k is sp) c.towards listed m)
 
-      read_g : plane_at k at_g.0 ≡ c.g
+      read_g : core_plane_at k at_g.0 ≡ c.g
       read_g = plane_read parts pairs speaks k is sp c.g at_g
 
-      read_h : plane_at k at_h.0 ≡ c.h
+      read_h : core_plane_at k at_h.0 ≡ c.h
       read_h = plane_read parts pairs speaks k is sp c.h at_h
 
       go : (at_g.0 < at_h.0) ⊎ (at_h.0 < at_g.0) ⊎ (at_g.0 ≡ at_h.0) → ⊥
       go (inl lt) =
-          let here : HoldsWhere parts (core_pairs k) moving w c.g c.h = subst (λ x. HoldsWhere parts (core_pairs k) moving w x c.h) read_g (subst (HoldsWhere parts (core_pairs k) moving w (plane_at k at_g.0)) read_h (held at_g.0 at_h.0 lt (let small = at_h.1 in omega (arith, small, all)))) in
+          let here : HoldsWhere parts (core_pairs k) moving w c.g c.h = subst (λ x. HoldsWhere parts (core_pairs k) moving w x c.h) read_g (subst (HoldsWhere parts (core_pairs k) moving w (core_plane_at k at_g.0)) read_h (held at_g.0 at_h.0 lt (let small = at_h.1 in omega (arith, small, all)))) in
           held_same parts (core_pairs k) moving w s (cross c.g c.h) v each c.independent (here c.independent) c.is moves free_v
       go (inr (inl lt)) =
           let apart : cross c.h c.g ≢ origin = λ e. c.independent (cross_turned c.g c.h ∙ ap negative e) in
-          let here : HoldsWhere parts (core_pairs k) moving w c.h c.g = subst (λ x. HoldsWhere parts (core_pairs k) moving w x c.g) read_h (subst (HoldsWhere parts (core_pairs k) moving w (plane_at k at_h.0)) read_g (held at_h.0 at_g.0 lt (let small = at_g.1 in omega (arith, small, all)))) in
+          let here : HoldsWhere parts (core_pairs k) moving w c.h c.g = subst (λ x. HoldsWhere parts (core_pairs k) moving w x c.g) read_h (subst (HoldsWhere parts (core_pairs k) moving w (core_plane_at k at_h.0)) read_g (held at_h.0 at_g.0 lt (let small = at_g.1 in omega (arith, small, all)))) in
           held_same parts (core_pairs k) moving w s (cross c.h c.g) v each apart (here apart) (turned_same v (cross c.h c.g) (cross c.g c.h) (cross_turned c.g c.h) c.is) moves free_v
-      go (inr (inr e)) = c.independent (subst (λ x. cross x c.h ≡ origin) (sym read_h ∙ (ap (plane_at k) (sym e) ∙ read_g)) (cross_self c.h))
+      go (inr (inr e)) = c.independent (subst (λ x. cross x c.h ≡ origin) (sym read_h ∙ (ap (core_plane_at k) (sym e) ∙ read_g)) (cross_self c.h))
 
 -- ---- a core that grows holds what it held
 
@@ -219,29 +219,29 @@ where_kept parts xs ys moving w g h more held apart s moves free = held apart s 
 last_or : (p n : ℕ) → p < n + 1 → (p < n) ⊎ (p ≡ n)
 last_or p n lt = grind arith
 
-module _ (parts : List Part) (k m : Core) (moving : Moving) (w : PartSet) (grows : Grows k m) where
-  place_same : (i : ℕ) → i < length (core_planes k) → plane_at m i ≡ plane_at k i
+module _ (parts : List Part) (k m : Core) (moving : Moving) (w : PartSet) (grows : HasGrown k m) where
+  place_same : (i : ℕ) → i < length (core_planes k) → core_plane_at m i ≡ core_plane_at k i
   place_same i lt = same_place (core_planes k) (core_planes m) i origin grows.planes lt
 
-  pub with_first_more : (g h : V3) (n : ℕ) → n < length (core_planes k) → h ≡ plane_at k n → HoldsWithFirst parts k moving w g n → HoldsWhere parts (core_pairs m) moving w g h → HoldsWithFirst parts m moving w g (n + 1)
-  with_first_more g h n small e before last i lt = ⊎_elim {C = HoldsWhere parts (core_pairs m) moving w g (plane_at m i)}
-      (λ less. subst (HoldsWhere parts (core_pairs m) moving w g) (sym (place_same i (omega (arith, less, small)))) (where_kept parts (core_pairs k) (core_pairs m) moving w g (plane_at k i) grows.pairs (before i less)))
-      (λ same. subst (HoldsWhere parts (core_pairs m) moving w g) (e ∙ (sym (place_same n small) ∙ ap (plane_at m) (sym same))) last)
+  pub with_first_more : (g h : V3) (n : ℕ) → n < length (core_planes k) → h ≡ core_plane_at k n → HoldsWithFirst parts k moving w g n → HoldsWhere parts (core_pairs m) moving w g h → HoldsWithFirst parts m moving w g (n + 1)
+  with_first_more g h n small e before last i lt = ⊎_elim {C = HoldsWhere parts (core_pairs m) moving w g (core_plane_at m i)}
+      (λ less. subst (HoldsWhere parts (core_pairs m) moving w g) (sym (place_same i (omega (arith, less, small)))) (where_kept parts (core_pairs k) (core_pairs m) moving w g (core_plane_at k i) grows.pairs (before i less)))
+      (λ same. subst (HoldsWhere parts (core_pairs m) moving w g) (e ∙ (sym (place_same n small) ∙ ap (core_plane_at m) (sym same))) last)
       (last_or i n lt)
 
   -- the planes before a plane
-  pub before_more : (h g : V3) (n : ℕ) → n < length (core_planes k) → g ≡ plane_at k n → ((i : ℕ) → i < n → HoldsWhere parts (core_pairs k) moving w (plane_at k i) h) → HoldsWhere parts (core_pairs m) moving w g h
-      → (i : ℕ) → i < n + 1 → HoldsWhere parts (core_pairs m) moving w (plane_at m i) h
-  before_more h g n small e before last i lt = ⊎_elim {C = HoldsWhere parts (core_pairs m) moving w (plane_at m i) h}
-      (λ less. subst (λ x. HoldsWhere parts (core_pairs m) moving w x h) (sym (place_same i (omega (arith, less, small)))) (where_kept parts (core_pairs k) (core_pairs m) moving w (plane_at k i) h grows.pairs (before i less)))
-      (λ same. subst (λ x. HoldsWhere parts (core_pairs m) moving w x h) (e ∙ (sym (place_same n small) ∙ ap (plane_at m) (sym same))) last)
+  pub before_more : (h g : V3) (n : ℕ) → n < length (core_planes k) → g ≡ core_plane_at k n → ((i : ℕ) → i < n → HoldsWhere parts (core_pairs k) moving w (core_plane_at k i) h) → HoldsWhere parts (core_pairs m) moving w g h
+      → (i : ℕ) → i < n + 1 → HoldsWhere parts (core_pairs m) moving w (core_plane_at m i) h
+  before_more h g n small e before last i lt = ⊎_elim {C = HoldsWhere parts (core_pairs m) moving w (core_plane_at m i) h}
+      (λ less. subst (λ x. HoldsWhere parts (core_pairs m) moving w x h) (sym (place_same i (omega (arith, less, small)))) (where_kept parts (core_pairs k) (core_pairs m) moving w (core_plane_at k i) h grows.pairs (before i less)))
+      (λ same. subst (λ x. HoldsWhere parts (core_pairs m) moving w x h) (e ∙ (sym (place_same n small) ∙ ap (core_plane_at m) (sym same))) last)
       (last_or i n lt)
 
-  pub among_more : (h : V3) (n : ℕ) → n < length (core_planes k) → h ≡ plane_at k n → HoldsAmongFirst parts k moving w n → ((i : ℕ) → i < n → HoldsWhere parts (core_pairs m) moving w (plane_at m i) h) → HoldsAmongFirst parts m moving w (n + 1)
-  among_more h n small e before last i j lt in_j = ⊎_elim {C = HoldsWhere parts (core_pairs m) moving w (plane_at m i) (plane_at m j)}
-      (λ less. subst (λ x. HoldsWhere parts (core_pairs m) moving w x (plane_at m j)) (sym (place_same i (omega (arith, lt, less, small))))
-      (subst (HoldsWhere parts (core_pairs m) moving w (plane_at k i)) (sym (place_same j (omega (arith, less, small)))) (where_kept parts (core_pairs k) (core_pairs m) moving w (plane_at k i) (plane_at k j) grows.pairs (before i j lt less))))
-      (λ same. subst (HoldsWhere parts (core_pairs m) moving w (plane_at m i)) (e ∙ (sym (place_same n small) ∙ ap (plane_at m) (sym same))) (last i (omega (arith, lt, same))))
+  pub among_more : (h : V3) (n : ℕ) → n < length (core_planes k) → h ≡ core_plane_at k n → HoldsAmongFirst parts k moving w n → ((i : ℕ) → i < n → HoldsWhere parts (core_pairs m) moving w (core_plane_at m i) h) → HoldsAmongFirst parts m moving w (n + 1)
+  among_more h n small e before last i j lt in_j = ⊎_elim {C = HoldsWhere parts (core_pairs m) moving w (core_plane_at m i) (core_plane_at m j)}
+      (λ less. subst (λ x. HoldsWhere parts (core_pairs m) moving w x (core_plane_at m j)) (sym (place_same i (omega (arith, lt, less, small))))
+      (subst (HoldsWhere parts (core_pairs m) moving w (core_plane_at k i)) (sym (place_same j (omega (arith, less, small)))) (where_kept parts (core_pairs k) (core_pairs m) moving w (core_plane_at k i) (core_plane_at k j) grows.pairs (before i j lt less))))
+      (λ same. subst (HoldsWhere parts (core_pairs m) moving w (core_plane_at m i)) (e ∙ (sym (place_same n small) ∙ ap (core_plane_at m) (sym same))) (last i (omega (arith, lt, same))))
       (last_or j n in_j)
 
 -- ---- where no arc is wanting

@@ -26,12 +26,12 @@ abbrev pub core_planes : Core → List V3
 core_planes k = take k.used k.planes
 
 -- plane i of them
-abbrev pub plane_at : Core → ℕ → V3
-plane_at k i = slice_index_or (core_planes k) i origin
+abbrev pub core_plane_at : Core → ℕ → V3
+core_plane_at k i = slice_index_or (core_planes k) i origin
 
 -- all of the planes stand in the list
-abbrev pub AreAmong : (planes list : List V3) → Type 0
-AreAmong planes list = All (Contains list) planes
+abbrev pub StandIn : (planes list : List V3) → Type 0
+StandIn planes list = All (Contains list) planes
 
 -- the arrays have their room, and the axes are among the planes
 pub record HasRoom (k : Core) : Type 0 where
@@ -40,7 +40,7 @@ pub record HasRoom (k : Core) : Type 0 where
   pub room : length k.planes ≡ 96
   pub most : k.used ≤ 96
   pub each : All (IsWithin NORMAL) (core_planes k)
-  pub axes : AreAmong axes (core_planes k)
+  pub axes : StandIn axes (core_planes k)
 
 -- the planes of these facets stand in the list
 abbrev pub HasCanons : List V3 → List V3 → Type 0
@@ -67,7 +67,7 @@ pub record GoesOn {X : Type 0} (xs ys : List X) : Type 0 where
   pub is : ys ≡ xs ++ more
 
 -- the core has grown
-pub record Grows (old new : Core) : Type 0 where
+pub record HasGrown (old new : Core) : Type 0 where
   pub pairs : GoesOn (core_pairs old) (core_pairs new)
   pub planes : GoesOn (core_planes old) (core_planes new)
 
@@ -95,9 +95,9 @@ HoldsWhere parts pairs moving w g h =
 -- so where the plane of g crosses each of the first n planes of the core
 abbrev pub HoldsWithFirst : List Part → Core → Moving → PartSet → V3 → ℕ → Type 0
 HoldsWithFirst parts k moving w g n =
-    (i : ℕ) → i < n → HoldsWhere parts (core_pairs k) moving w g (plane_at k i)
+    (i : ℕ) → i < n → HoldsWhere parts (core_pairs k) moving w g (core_plane_at k i)
 
 -- so where each two of the first n planes of the core cross
 abbrev pub HoldsAmongFirst : List Part → Core → Moving → PartSet → ℕ → Type 0
 HoldsAmongFirst parts k moving w n =
-    (i j : ℕ) → i < j → j < n → HoldsWhere parts (core_pairs k) moving w (plane_at k i) (plane_at k j)
+    (i j : ℕ) → i < j → j < n → HoldsWhere parts (core_pairs k) moving w (core_plane_at k i) (core_plane_at k j)

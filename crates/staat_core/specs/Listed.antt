@@ -10,8 +10,8 @@ pub record IsTablePair (t : Table) (pair : Arc) : Type 0 where
   pub order : pair.a < pair.b
 
 -- the pairs that are in use
-abbrev pub listed : PairList → List Arc
-listed l = take l.count l.pairs
+abbrev pub pairs_in_use : PairList → List Arc
+pairs_in_use l = take l.count l.pairs
 
 -- the array has its room
 pub record HasListRoom (l : PairList) : Type 0 where

@@ -4,13 +4,13 @@ use Rattle.staat_pairs.specs.Tables.{Table, WasMadeFrom}
 use Rattle.staat_core.specs.declared.set_core.SetCore.{SetCore}
 use Rattle.staat_core.specs.declared.table_core.TableCore.{TableCore}
 use Rattle.staat_core.specs.Cores.{IsCore}
-use Rattle.staat_core.specs.Listed.{HasListRoom, IsTablePair, listed}
+use Rattle.staat_core.specs.Listed.{HasListRoom, IsTablePair, pairs_in_use}
 
 -- the pairs are those of the table, and the core is one of them
 pub record IsTableCore (t : Table) (k : TableCore) : Type 0 where
   pub room : HasListRoom k.list
-  pub pairs : All (IsTablePair t) (listed k.list)
-  pub core : IsCore (listed k.list) (λ parts. WasMadeFrom parts t) k.core
+  pub pairs : All (IsTablePair t) (pairs_in_use k.list)
+  pub core : IsCore (pairs_in_use k.list) (λ parts. WasMadeFrom parts t) k.core
 
 -- so where it is made already
 abbrev pub IsSetCore : Table → SetCore → Type 0

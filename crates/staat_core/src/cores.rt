@@ -2,7 +2,15 @@
 ghost use Rattle.std.specs.Prelude.{◌≡◌, ◌+◌, ◌<◌, ◌≤◌, ◌∷◌, [], ◌++◌, All, Contains, IfSome, IsTrue, MatchOption};
 ghost use Rattle.std.specs.Prelude.{false, length};
 ghost use Rattle.staat_vec.specs.Vectors.{IsWithin};
-ghost use Rattle.staat_core.specs.Cores.{GoesOn, HasCanons, HasRoom, IsEmptyCore, core_pairs, core_planes, plane_at};
+ghost use Rattle.staat_core.specs.Cores.{
+  GoesOn,
+  HasCanons,
+  HasRoom,
+  IsEmptyCore,
+  core_pairs,
+  core_plane_at,
+  core_planes,
+};
 ghost use Rattle.staat_core.specs.Sources.{IsNormal};
 
 use staat_model::Arc;
@@ -62,7 +70,7 @@ impl Core {
     pub(crate) fn plane(&self, k: u32) -> Option<V3>
         requires { HasRoom self.now }
         ensures is { MatchOption result (length (core_planes self.now) ≤ k)
-            (λ n. (k < length (core_planes self.now)) × (n ≡ plane_at self.now k)) }
+            (λ n. (k < length (core_planes self.now)) × (n ≡ core_plane_at self.now k)) }
         ensures size { IfSome result (IsWithin NORMAL) }
     {
         let planes = &self.planes[..self.used as usize];

@@ -4,8 +4,8 @@ ghost use Rattle.staat_vec.specs.declared.vector.V3.{V3 as Vector};
 ghost use Rattle.staat_vec.specs.Vectors.{IsWithin, dot, origin};
 ghost use Rattle.staat_model.specs.declared.assembly.Part.{Part as PartValue};
 ghost use Rattle.staat_model.specs.Sets.{IsNonempty};
-ghost use Rattle.staat_core.specs.Cores.{Grows, HoldsAmongFirst, HoldsWhere, IsCore, core_pairs, core_planes};
-ghost use Rattle.staat_core.specs.Cores.{plane_at};
+ghost use Rattle.staat_core.specs.Cores.{HasGrown, HoldsAmongFirst, HoldsWhere, IsCore, core_pairs, core_planes};
+ghost use Rattle.staat_core.specs.Cores.{core_plane_at};
 ghost use Rattle.staat_core.specs.Moves.{HoldsMoves};
 ghost use Rattle.staat_core.specs.Sources.{both_ways};
 
@@ -43,7 +43,7 @@ impl Core {
         requires g { IsWithin NORMAL g }
         requires h { IsWithin NORMAL h }
         ensures core { IsCore (S.pairs source.now) (S.speaks source.now) self.new }
-        ensures grows { Grows self.old self.new }
+        ensures grows { HasGrown self.old self.new }
         ensures held { result ≡ Answer.Held → (parts : List PartValue) → S.speaks source.now parts
             → HoldsWhere parts (core_pairs self.new) moving w g h }
     {
@@ -74,7 +74,7 @@ impl Core {
         requires some { IsNonempty w }
         requires g { IsWithin NORMAL g }
         ensures core { IsCore (S.pairs source.now) (S.speaks source.now) self.new }
-        ensures grows { Grows self.old self.new }
+        ensures grows { HasGrown self.old self.new }
         ensures held { result ≡ Answer.Held → (parts : List PartValue) (d : Vector) → S.speaks source.now parts
             → g ≢ origin → dot g d ≡ pos 0 → d ≢ origin
             → HoldsMoves parts (both_ways (core_pairs self.new)) moving w d }
@@ -105,12 +105,12 @@ impl Core {
         requires core { IsCore (S.pairs source.now) (S.speaks source.now) self.old }
         requires some { IsNonempty w }
         requires place { j < length (core_planes self.old) }
-        requires plane { h ≡ plane_at self.old j }
+        requires plane { h ≡ core_plane_at self.old j }
         requires size { IsWithin NORMAL h }
         ensures core { IsCore (S.pairs source.now) (S.speaks source.now) self.new }
-        ensures grows { Grows self.old self.new }
+        ensures grows { HasGrown self.old self.new }
         ensures held { result ≡ Answer.Held → (parts : List PartValue) (i : ℕ) → S.speaks source.now parts → i < j
-            → HoldsWhere parts (core_pairs self.new) moving w (plane_at self.new i) h }
+            → HoldsWhere parts (core_pairs self.new) moving w (core_plane_at self.new i) h }
     {
         for i in 0..j {
             let Some(g) = self.plane(i) else {
@@ -132,7 +132,7 @@ impl Core {
         requires core { IsCore (S.pairs source.now) (S.speaks source.now) self.old }
         requires some { IsNonempty w }
         ensures core { IsCore (S.pairs source.now) (S.speaks source.now) self.new }
-        ensures grows { Grows self.old self.new }
+        ensures grows { HasGrown self.old self.new }
         ensures held { result ≡ Answer.Held → (parts : List PartValue) (d : Vector) → S.speaks source.now parts
             → d ≢ origin → HoldsMoves parts (both_ways (core_pairs self.new)) moving w d }
     {

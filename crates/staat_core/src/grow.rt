@@ -6,7 +6,7 @@ ghost use Rattle.staat_model.specs.declared.assembly.Part.{Part as PartValue};
 ghost use Rattle.staat_model.specs.declared.certificate.Arc.{Arc as ArcValue};
 ghost use Rattle.staat_model.specs.Sets.{IsNonempty};
 ghost use Rattle.staat_graph.specs.Graphs.{AreReversed};
-ghost use Rattle.staat_core.specs.Cores.{AreLeading, Grows, IsCore, core_pairs};
+ghost use Rattle.staat_core.specs.Cores.{AreLeading, HasGrown, IsCore, core_pairs};
 ghost use Rattle.staat_core.specs.Moves.{HoldsMoves};
 ghost use Rattle.staat_core.specs.Sources.{IsHeading, IsSmallPair, both_ways};
 
@@ -150,7 +150,7 @@ impl Core {
         requires core { IsCore (S.pairs source.now) (S.speaks source.now) self.old }
         requires pair { Contains (S.pairs source.now) pair }
         ensures core { IsCore (S.pairs source.now) (S.speaks source.now) self.new }
-        ensures grows { Grows self.old self.new }
+        ensures grows { HasGrown self.old self.new }
         ensures listed { IsTrue result → Contains (core_pairs self.new) pair }
     {
         self.add(pair, source.facets(pair))
@@ -171,7 +171,7 @@ impl Core {
         requires some { IsNonempty w }
         requires direction { IsWithin DIRECTION d }
         ensures core { IsCore (S.pairs source.now) (S.speaks source.now) self.new }
-        ensures grows { Grows self.old self.new }
+        ensures grows { HasGrown self.old self.new }
         ensures held { IsTrue result → (parts : List PartValue) → S.speaks source.now parts
             → HoldsMoves parts (both_ways (core_pairs self.new)) moving w d }
     {

@@ -3,7 +3,7 @@ ghost use Rattle.std.specs.Prelude.{◌≡◌, ◌⊎◌, ◌<◌, [], ◌∷◌
 ghost use Rattle.staat_model.specs.declared.certificate.Arc.{Arc as ArcValue};
 ghost use Rattle.staat_model.specs.Sets.{Has, IsSubset};
 ghost use Rattle.staat_pairs.specs.Tables.{pieces_of};
-ghost use Rattle.staat_core.specs.Listed.{HasListRoom, IsTablePair, listed};
+ghost use Rattle.staat_core.specs.Listed.{HasListRoom, IsTablePair, pairs_in_use};
 
 use staat_limits::MOST_PARTS;
 use staat_model::{Arc, PartSet};
@@ -23,7 +23,7 @@ impl PairList {
     /// No pairs.
     pub fn none() -> PairList
         ensures room { HasListRoom result }
-        ensures none { listed result ≡ [] }
+        ensures none { pairs_in_use result ≡ [] }
     {
         let nowhere = Arc {
             a: 0,
@@ -40,7 +40,7 @@ impl PairList {
     /// The pairs.
     pub fn pairs(&self) -> &[Arc]
         requires { HasListRoom self.now }
-        ensures { result.now ≡ listed self.now }
+        ensures { result.now ≡ pairs_in_use self.now }
     {
         &self.pairs[..self.count as usize]
     }
@@ -50,7 +50,7 @@ impl PairList {
         requires room { HasListRoom self.old }
         requires few { self.old.count < MOST_LISTED }
         ensures room { HasListRoom self.new }
-        ensures pairs { listed self.new ≡ listed self.old ++ pair ∷ [] }
+        ensures pairs { pairs_in_use self.new ≡ pairs_in_use self.old ++ pair ∷ [] }
     {
         self.pairs[self.count as usize] = pair;
         self.count += 1;
@@ -60,7 +60,8 @@ impl PairList {
     pub fn put(&mut self, pair: Arc)
         requires { HasListRoom self.old }
         ensures room { HasListRoom self.new }
-        ensures pairs { (x : ArcValue) → Contains (listed self.new) x → Contains (listed self.old) x ⊎ (x ≡ pair) }
+        ensures pairs { (x : ArcValue) → Contains (pairs_in_use self.new) x
+            → Contains (pairs_in_use self.old) x ⊎ (x ≡ pair) }
     {
         if self.count >= MOST_LISTED {
             return;
@@ -71,13 +72,13 @@ impl PairList {
     // the pairs of piece i of the part a and each piece of b
     fn put_from(&mut self, table: &PlaneTable, a: u32, i: u32, b: u32)
         requires room { HasListRoom self.old }
-        requires pairs { All (IsTablePair table.now) (listed self.old) }
+        requires pairs { All (IsTablePair table.now) (pairs_in_use self.old) }
         requires a_in { Has table.now.of a }
         requires b_in { Has table.now.of b }
         requires order { a < b }
         requires piece { i < pieces_of table.now a }
         ensures room { HasListRoom self.new }
-        ensures pairs { All (IsTablePair table.now) (listed self.new) }
+        ensures pairs { All (IsTablePair table.now) (pairs_in_use self.new) }
     {
         for j in 0..table.pieces(b) {
             self.put(Arc { a, i, b, j });
@@ -87,12 +88,12 @@ impl PairList {
     // the pairs of each piece of a and each piece of b
     fn put_between(&mut self, table: &PlaneTable, a: u32, b: u32)
         requires room { HasListRoom self.old }
-        requires pairs { All (IsTablePair table.now) (listed self.old) }
+        requires pairs { All (IsTablePair table.now) (pairs_in_use self.old) }
         requires a_in { Has table.now.of a }
         requires b_in { Has table.now.of b }
         requires order { a < b }
         ensures room { HasListRoom self.new }
-        ensures pairs { All (IsTablePair table.now) (listed self.new) }
+        ensures pairs { All (IsTablePair table.now) (pairs_in_use self.new) }
     {
         for i in 0..table.pieces(a) {
             self.put_from(table, a, i, b);
@@ -102,12 +103,12 @@ impl PairList {
     // the pairs of a lesser part of w and the part b
     fn put_to(&mut self, table: &PlaneTable, w: PartSet, b: u32)
         requires room { HasListRoom self.old }
-        requires pairs { All (IsTablePair table.now) (listed self.old) }
+        requires pairs { All (IsTablePair table.now) (pairs_in_use self.old) }
         requires within { IsSubset w table.now.of }
         requires b_in { Has table.now.of b }
         requires small { b < MOST_PARTS }
         ensures room { HasListRoom self.new }
-        ensures pairs { All (IsTablePair table.now) (listed self.new) }
+        ensures pairs { All (IsTablePair table.now) (pairs_in_use self.new) }
     {
         for a in 0..b {
             if w.has(a) {
@@ -120,7 +121,7 @@ impl PairList {
     pub fn of(table: &PlaneTable, w: PartSet) -> PairList
         requires { IsSubset w table.now.of }
         ensures room { HasListRoom result }
-        ensures pairs { All (IsTablePair table.now) (listed result) }
+        ensures pairs { All (IsTablePair table.now) (pairs_in_use result) }
     {
         let mut list = PairList::none();
         for b in 0..MOST_PARTS {

@@ -14,8 +14,8 @@ use staat_model::PartSet;
 use staat_planes::PlaneTable;
 use staat_vec::{NORMAL, V3};
 
-/// A core of all pairs of pieces of a set of parts. It is made when it is first asked, so that a set that comes apart at
-/// the first directions costs nothing. It takes no memory.
+/// A core of all pairs of pieces of a set of parts. It is made when it is first asked, so that a set that comes apart
+/// at the first directions costs nothing. It takes no memory.
 #[derive(Drop)]
 pub struct SetCore {
     core: Option<TableCore>,

@@ -6,7 +6,7 @@ ghost use Rattle.staat_model.specs.declared.assembly.Part.{Part as PartValue};
 ghost use Rattle.staat_model.specs.Sets.{IsNonempty, IsSubset};
 ghost use Rattle.staat_pairs.specs.Tables.{WasMadeFrom};
 ghost use Rattle.staat_core.specs.declared.joins.Moving.{Moving as MovingValue};
-ghost use Rattle.staat_core.specs.Listed.{HasListRoom, IsTablePair, listed};
+ghost use Rattle.staat_core.specs.Listed.{HasListRoom, IsTablePair, pairs_in_use};
 ghost use Rattle.staat_core.specs.Moves.{HoldsMoves};
 ghost use Rattle.staat_core.specs.Sources.{both_ways};
 ghost use Rattle.staat_core.specs.TableCores.{IsTableCore};
@@ -32,7 +32,7 @@ impl TableCore {
     /// A core that may grow by these pairs of the table.
     pub fn new(table: &PlaneTable, list: PairList) -> TableCore
         requires room { HasListRoom list }
-        requires pairs { All (IsTablePair table.now) (listed list) }
+        requires pairs { All (IsTablePair table.now) (pairs_in_use list) }
         ensures core { IsTableCore table.now result }
         ensures list { result.list ≡ list }
     {
@@ -61,7 +61,7 @@ impl TableCore {
         ensures core { IsTableCore table.now self.new }
         ensures list { self.new.list ≡ self.old.list }
         ensures held { IsTrue result → (parts : List PartValue) (d : Vector) → WasMadeFrom parts table.now
-            → dot g d ≡ pos 0 → d ≢ origin → HoldsMoves parts (both_ways (listed self.old.list)) moving w d }
+            → dot g d ≡ pos 0 → d ≢ origin → HoldsMoves parts (both_ways (pairs_in_use self.old.list)) moving w d }
     {
         if is_same(g, ORIGIN) {
             return false;
@@ -82,7 +82,7 @@ impl TableCore {
         requires some { IsNonempty w }
         ensures { IsTrue result → (parts : List PartValue) (moving : MovingValue) (d : Vector)
             → WasMadeFrom parts table.now → d ≢ origin
-            → HoldsMoves parts (both_ways (listed self.now.list)) moving w d }
+            → HoldsMoves parts (both_ways (pairs_in_use self.now.list)) moving w d }
     {
         if w.count() < 2 {
             return false;
@@ -104,7 +104,7 @@ impl TableCore {
         ensures core { IsTableCore table.now self.new }
         ensures list { self.new.list ≡ self.old.list }
         ensures held { IsTrue result → (parts : List PartValue) (d : Vector) → WasMadeFrom parts table.now
-            → d ≢ origin → HoldsMoves parts (both_ways (listed self.old.list)) moving w d }
+            → d ≢ origin → HoldsMoves parts (both_ways (pairs_in_use self.old.list)) moving w d }
     {
         if self.is_bonded(table, w) {
             return true;

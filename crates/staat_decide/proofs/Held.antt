@@ -17,10 +17,10 @@ use Rattle.staat_model.proofs.SetWords.{same_members}
 use Rattle.staat_motion.proofs.Zips.{zip_read}
 use Rattle.staat_decide.specs.declared.reach.Way.{Way}
 use Rattle.staat_decide.specs.declared.reach.Way.TheVariants.{Ahead, Back}
-use Rattle.staat_decide.specs.Arcs.{AreRows}
+use Rattle.staat_decide.specs.Arcs.{AreBlockingRows}
 use Rattle.staat_decide.specs.Labels.{AreClasses, IsClass, set_of}
 use Rattle.staat_decide.specs.Peelings.{IsHeldAlong, IsPeeling}
-use Rattle.staat_decide.specs.Reaching.{AreAllReached, AreReached, HasArc, IsClosed, label_of}
+use Rattle.staat_decide.specs.Reaching.{AreAllReached, AreReached, HasRowArc, IsClosedAlong, label_of}
 use Rattle.staat_decide.proofs.Marks.{keeps_order_by, label_at, labels_count, labels_differ, labels_small}
 use Rattle.staat_decide.proofs.Rows.{any_default, distinct, peeling_from, row_at, row_count}
 use Rattle.staat_decide.proofs.Steps.{has-set_of}
@@ -50,8 +50,8 @@ two_classes w labels n (s ∷ []) i j sorted i_in j_in i_small j_small differ is
 two_classes w labels n (s ∷ t ∷ rest) i j sorted i_in j_in i_small j_small differ is = omega arith
 
 -- what is reached on a way, and the rest, leave one after the other where the rest is not empty
-pub split_is : (parts : List Part) (d : V3) (w : List ℕ) (rows : List (List Bool)) (way : Way) (marks : List Bool) (sets : List (List ℕ)) (u : ℕ) → d ≢ origin → AreRows parts d w rows → IsStrictlySortedBy nat_cmp w → 1 ≤ length w
-    → AreReached way rows marks → IsClosed way rows marks → u < length marks → get_or marks u true ≡ false → AreClasses w (map (label_of way) marks) 2 sets → IsPeeling parts d w sets
+pub split_is : (parts : List Part) (d : V3) (w : List ℕ) (rows : List (List Bool)) (way : Way) (marks : List Bool) (sets : List (List ℕ)) (u : ℕ) → d ≢ origin → AreBlockingRows parts d w rows → IsStrictlySortedBy nat_cmp w → 1 ≤ length w
+    → AreReached way rows marks → IsClosedAlong way rows marks → u < length marks → get_or marks u true ≡ false → AreClasses w (map (label_of way) marks) 2 sets → IsPeeling parts d w sets
 split_is parts d w rows way marks sets u moves is sorted some reached closed lt fresh classes =
     peeling_from parts d w labels rows 2 sets moves is sorted same (labels_small way marks) (keeps_order_by way rows marks closed) classes two
   where
@@ -77,7 +77,7 @@ split_is parts d w rows way marks sets u moves is sorted some reached closed lt 
 
 -- ---- no side is free
 
-arc_is : (parts : List Part) (d : V3) (w : List ℕ) (rows : List (List Bool)) (i j : ℕ) → AreRows parts d w rows → i < length w → j < length w → HasArc rows i j ↔ Blocks parts d (get_or w i 0) (get_or w j 0)
+arc_is : (parts : List Part) (d : V3) (w : List ℕ) (rows : List (List Bool)) (i j : ℕ) → AreBlockingRows parts d w rows → i < length w → j < length w → HasRowArc rows i j ↔ Blocks parts d (get_or w i 0) (get_or w j 0)
 arc_is parts d w rows i j is i_in j_in =
     zip_read (λ q answer. IsTrue answer ↔ Blocks parts d (get_or w i 0) q) w (get_or rows i []) j (get_or w j 0) false
     (row_at parts d w rows i is i_in) j_in (sym (get_or_default_zero w j (get_or w j 0) j_in))
@@ -89,12 +89,12 @@ member w i lt = (has-set_of w (get_or w i 0)).1 (i, lt, get_or_default_zero w i 
 place : (w : List ℕ) (p : ℕ) → Has (set_of w) p → (i : ℕ) × (i < length w) × (get_or w i 0 ≡ p)
 place w p h = let (i, lt, e) = (has-set_of w p).0 h in (i, lt, sym (get_or_default_zero w i p lt) ∙ e)
 
-module _ (parts : List Part) (d : V3) (w : List ℕ) (rows : List (List Bool)) (s : PartSet) (is : AreRows parts d w rows) (side : IsSide (set_of w) s) (free : IsFree parts s (set.difference (set_of w) s) d) where
+module _ (parts : List Part) (d : V3) (w : List ℕ) (rows : List (List Bool)) (s : PartSet) (is : AreBlockingRows parts d w rows) (side : IsSide (set_of w) s) (free : IsFree parts s (set.difference (set_of w) s) d) where
   count : length rows ≡ length w
   count = row_count parts d w rows is
 
   -- no part of the side blocks one that is not in it
-  clash : (i k : ℕ) → i < length rows → k < length rows → HasArc rows i k → Has s (get_or w i 0) → (Has s (get_or w k 0) → ⊥) → ⊥
+  clash : (i k : ℕ) → i < length rows → k < length rows → HasRowArc rows i k → Has s (get_or w i 0) → (Has s (get_or w k 0) → ⊥) → ⊥
   clash i k i_lt k_lt arc in_s out =
       let i_in : i < length w = omega (arith, count, i_lt) in
       let k_in : k < length w = omega (arith, count, k_lt) in
@@ -105,7 +105,7 @@ module _ (parts : List Part) (d : V3) (w : List ℕ) (rows : List (List Bool)) (
   ahead : AreAllReached Ahead rows → set.contains s (get_or w 0 0) ≡ true → ⊥
   ahead all root = side.proper (same_members s (set_of w) side.within covers)
     where
-      step : (i k : ℕ) → i < length rows → k < length rows → HasArc rows i k → IsTrue (set.contains s (get_or w i 0)) → (b : Bool) → set.contains s (get_or w k 0) ≡ b → b ≡ true
+      step : (i k : ℕ) → i < length rows → k < length rows → HasRowArc rows i k → IsTrue (set.contains s (get_or w i 0)) → (b : Bool) → set.contains s (get_or w k 0) ≡ b → b ≡ true
       step i k i_lt k_lt arc h true e = refl
       step i k i_lt k_lt arc h false e = absurd (clash i k i_lt k_lt arc h (λ t. false≢true (sym e ∙ t)))
 
@@ -127,12 +127,12 @@ module _ (parts : List Part) (d : V3) (w : List ℕ) (rows : List (List Bool)) (
       inside true n h = false≢true n
       inside false n h = false≢true h
 
-      step : (i k : ℕ) → i < length rows → k < length rows → HasArc rows k i → IsTrue (not (set.contains s (get_or w i 0))) → (b : Bool) → set.contains s (get_or w k 0) ≡ b → IsTrue (not (set.contains s (get_or w k 0)))
+      step : (i k : ℕ) → i < length rows → k < length rows → HasRowArc rows k i → IsTrue (not (set.contains s (get_or w i 0))) → (b : Bool) → set.contains s (get_or w k 0) ≡ b → IsTrue (not (set.contains s (get_or w k 0)))
       step i k i_lt k_lt arc h true e = absurd (clash k i k_lt i_lt arc e (inside (set.contains s (get_or w i 0)) h))
       step i k i_lt k_lt arc h false e = ap not e
 
 -- where each place is reached along arcs and against them, no side is free
-pub held_from : (parts : List Part) (d : V3) (w : List ℕ) (rows : List (List Bool)) → AreRows parts d w rows → AreAllReached Ahead rows → AreAllReached Back rows → IsHeldAlong parts d (set_of w)
+pub held_from : (parts : List Part) (d : V3) (w : List ℕ) (rows : List (List Bool)) → AreBlockingRows parts d w rows → AreAllReached Ahead rows → AreAllReached Back rows → IsHeldAlong parts d (set_of w)
 held_from parts d w rows is there here s side free = at (set.contains s (get_or w 0 0)) refl
   where
     at : (b : Bool) → set.contains s (get_or w 0 0) ≡ b → ⊥

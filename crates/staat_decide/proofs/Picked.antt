@@ -8,11 +8,11 @@ use Rattle.staat_model.specs.declared.assembly.Part.{Part}
 use Rattle.staat_model.specs.Removal.{Blocks}
 use Rattle.staat_model.proofs.Members.{here, there}
 use Rattle.staat_motion.proofs.Zips.{zip_read}
-use Rattle.staat_decide.specs.Arcs.{AreRows, IsRow}
+use Rattle.staat_decide.specs.Arcs.{AreBlockingRows, IsRow}
 use Rattle.staat_vec.specs.Vectors.{origin}
 use Rattle.staat_decide.specs.declared.likely.Asked.{Asked}
-use Rattle.staat_decide.specs.Asking.{AreAllRows, IsAsked}
-use Rattle.staat_decide.specs.Reaching.{HasArc}
+use Rattle.staat_decide.specs.Asking.{AreAllRows, AreAskedRows}
+use Rattle.staat_decide.specs.Reaching.{HasRowArc}
 use Rattle.std.specs.Prelude.{IfSome, Option, Some}
 use Rattle.std.proofs.lemmas.List.{map-append, take_more}
 use Rattle.staat_decide.specs.Peelings.{IsPeeling}
@@ -20,14 +20,14 @@ use Rattle.staat_decide.proofs.Rows.{any_default, row_at, row_count, row_lengths
 
 -- ---- from the rows of all numbers
 
-module _ (parts : List Part) (d : V3) (rows : List (List Bool)) (is : AreRows parts d (range_with_len 0 (length parts)) rows) where
+module _ (parts : List Part) (d : V3) (rows : List (List Bool)) (is : AreBlockingRows parts d (range_with_len 0 (length parts)) rows) where
   abbrev all : List ℕ
   all = range_with_len 0 (length parts)
 
   own : (i d : ℕ) → i < length parts → get_or all i d ≡ i
   own i d lt = get_or-range_with_len 0 (length parts) i d lt ∙ zero-add i
 
-  arcs : (a b : ℕ) → a < length parts → b < length parts → HasArc rows a b ↔ Blocks parts d a b
+  arcs : (a b : ℕ) → a < length parts → b < length parts → HasRowArc rows a b ↔ Blocks parts d a b
   arcs a b a_lt b_lt =
       let count : length all ≡ length parts = length-range_with_len 0 (length parts) in
       let a_in : a < length all = omega (arith, count, a_lt) in
@@ -49,7 +49,7 @@ zip_map R f [] h = tt
 zip_map R f (x ∷ xs) h = (h x (here x xs), zip_map R f xs (λ y c. h y (there x y xs c)))
 
 pub rows_of_some : (parts : List Part) (d : V3) (w : List ℕ) (rows : List (List Bool)) → AreAllRows parts d rows
-    → All (λ p. p < length parts) w → AreRows parts d w (map (λ a. map (λ b. get_or (get_or rows a []) b false) w) w)
+    → All (λ p. p < length parts) w → AreBlockingRows parts d w (map (λ a. map (λ b. get_or (get_or rows a []) b false) w) w)
 rows_of_some parts d w rows are within =
     zip_map (IsRow parts d w) (λ a. map (λ b. get_or (get_or rows a []) b false) w) w (λ a a_in.
     zip_map (λ b answer. IsTrue answer ↔ Blocks parts d a b) (λ b. get_or (get_or rows a []) b false) w (λ b b_in.
@@ -65,19 +65,19 @@ numbers_small n k d lt =
     omega (arith, e, small)
 
 pub asked_is : (parts : List Part) (d e : V3) (numbers : List ℕ) (rows kept : List (List Bool)) → d ≢ origin → e ≡ d
-    → numbers ≡ range_with_len 0 (length parts) → kept ≡ rows → AreRows parts e numbers rows
-    → IsAsked parts (record { d = d; rows = kept })
+    → numbers ≡ range_with_len 0 (length parts) → kept ≡ rows → AreBlockingRows parts e numbers rows
+    → AreAskedRows parts (record { d = d; rows = kept })
 asked_is parts d e numbers rows kept moves same is kept_is are = record {
   moves = moves;
   rows_are = subst (AreAllRows parts d) (sym kept_is) (rows_of_all parts d rows
-      (subst (λ (v : V3). AreRows parts v (range_with_len 0 (length parts)) rows) same (subst (λ (xs : List ℕ). AreRows parts e xs rows) is are)));
+      (subst (λ (v : V3). AreBlockingRows parts v (range_with_len 0 (length parts)) rows) same (subst (λ (xs : List ℕ). AreBlockingRows parts e xs rows) is are)));
 }
 
-pub picked_are : (parts : List Part) (asked : Asked) (w : List ℕ) (rows : List (List Bool)) → IsAsked parts asked
+pub picked_are : (parts : List Part) (asked : Asked) (w : List ℕ) (rows : List (List Bool)) → AreAskedRows parts asked
     → All (λ p. p < length parts) w
-    → rows ≡ map (λ a. map (λ b. get_or (get_or asked.rows a []) b false) w) w → AreRows parts asked.d w rows
+    → rows ≡ map (λ a. map (λ b. get_or (get_or asked.rows a []) b false) w) w → AreBlockingRows parts asked.d w rows
 picked_are parts asked w rows is within e =
-    subst (AreRows parts asked.d w) (sym e) (rows_of_some parts asked.d w asked.rows is.rows_are within)
+    subst (AreBlockingRows parts asked.d w) (sym e) (rows_of_some parts asked.d w asked.rows is.rows_are within)
 
 -- ---- one after the other
 
@@ -99,18 +99,18 @@ picked_more rows w picked next i row kept some lt in' at same is before push =
     push ∙ ap (λ (xs : List (List Bool)). xs ++ some ∷ []) before ∙ ap (λ (x : List Bool). map F (take i w) ++ x ∷ []) last
     ∙ sym (ap (map F) (take_more w i 0 lt) ∙ map-append F (take i w) (get_or w i 0 ∷ []))
 
-pub kept_are : (parts : List Part) (asked : Asked) (w : List ℕ) (slice rows kept : List (List Bool)) → IsAsked parts asked
+pub kept_are : (parts : List Part) (asked : Asked) (w : List ℕ) (slice rows kept : List (List Bool)) → AreAskedRows parts asked
     → All (λ p. p < length parts) w → slice ≡ asked.rows
-    → rows ≡ map (λ a. map (λ b. get_or (get_or slice a []) b false) w) w → kept ≡ rows → AreRows parts asked.d w kept
+    → rows ≡ map (λ a. map (λ b. get_or (get_or slice a []) b false) w) w → kept ≡ rows → AreBlockingRows parts asked.d w kept
 kept_are parts asked w slice rows kept is within same e kept_is =
-    subst (AreRows parts asked.d w) (sym kept_is) (picked_are parts asked w rows is within
+    subst (AreBlockingRows parts asked.d w) (sym kept_is) (picked_are parts asked w rows is within
     (e ∙ ap (λ (rs : List (List Bool)). map (λ a. map (λ b. get_or (get_or rs a []) b false) w) w) same))
 
 pub some_tells : (parts : List Part) (d : V3) (w : List ℕ) (rows : List (List Bool)) (answer : Option (List (List ℕ))) (sets : List (List ℕ))
     → answer ≡ Some sets
-    → IfSome answer (λ ss. (ps : List Part) (e : V3) → e ≢ origin → AreRows ps e w rows → IsPeeling ps e w ss)
-    → d ≢ origin → AreRows parts d w rows → IsPeeling parts d w sets
+    → IfSome answer (λ ss. (ps : List Part) (e : V3) → e ≢ origin → AreBlockingRows ps e w rows → IsPeeling ps e w ss)
+    → d ≢ origin → AreBlockingRows parts d w rows → IsPeeling parts d w sets
 some_tells parts d w rows answer sets is tells moves are =
-    let known : (ps : List Part) (e : V3) → e ≢ origin → AreRows ps e w rows → IsPeeling ps e w sets =
-    subst (λ (o : Option (List (List ℕ))). IfSome o (λ ss. (ps : List Part) (e : V3) → e ≢ origin → AreRows ps e w rows → IsPeeling ps e w ss)) is tells in
+    let known : (ps : List Part) (e : V3) → e ≢ origin → AreBlockingRows ps e w rows → IsPeeling ps e w sets =
+    subst (λ (o : Option (List (List ℕ))). IfSome o (λ ss. (ps : List Part) (e : V3) → e ≢ origin → AreBlockingRows ps e w rows → IsPeeling ps e w ss)) is tells in
     known parts d moves are

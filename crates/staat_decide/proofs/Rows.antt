@@ -18,7 +18,7 @@ use Rattle.staat_model.specs.SetLists.{AreAllApart, union_of}
 use Rattle.staat_model.specs.Sets.{Has}
 use Rattle.staat_model.proofs.SetWords.{same_members}
 use Rattle.staat_motion.proofs.Zips.{zip_length, zip_read}
-use Rattle.staat_decide.specs.Arcs.{AreRows, IsRow}
+use Rattle.staat_decide.specs.Arcs.{AreBlockingRows, IsRow}
 use Rattle.staat_decide.specs.Labels.{AllPrecede, AreClasses, HoldsOfLater, KeepsOrder, Precedes, set_of}
 use Rattle.staat_decide.specs.Peelings.{IsPeeling}
 use Rattle.staat_decide.proofs.Steps.{has-set_of}
@@ -30,16 +30,16 @@ any_default (x ∷ xs) (suc i) d e lt = any_default xs i d e (omega (arith, lt))
 
 -- ---- rows
 
-pub row_count : (parts : List Part) (d : V3) (w : List ℕ) (rows : List (List Bool)) → AreRows parts d w rows
+pub row_count : (parts : List Part) (d : V3) (w : List ℕ) (rows : List (List Bool)) → AreBlockingRows parts d w rows
     → length rows ≡ length w
 row_count parts d w rows is = sym (zip_length (IsRow parts d w) w rows is)
 
-pub row_at : (parts : List Part) (d : V3) (w : List ℕ) (rows : List (List Bool)) (i : ℕ) → AreRows parts d w rows
+pub row_at : (parts : List Part) (d : V3) (w : List ℕ) (rows : List (List Bool)) (i : ℕ) → AreBlockingRows parts d w rows
     → i < length w → IsRow parts d w (get_or w i 0) (get_or rows i [])
 row_at parts d w rows i is lt =
     zip_read (IsRow parts d w) w rows i (get_or w i 0) [] is lt (sym (get_or_default_zero w i (get_or w i 0) lt))
 
-pub row_lengths : (parts : List Part) (d : V3) (w : List ℕ) (rows : List (List Bool)) → AreRows parts d w rows
+pub row_lengths : (parts : List Part) (d : V3) (w : List ℕ) (rows : List (List Bool)) → AreBlockingRows parts d w rows
     → All (λ row. length row ≡ length w) rows
 row_lengths parts d w rows is k e lt =
     let at : k < length w = omega (arith, row_count parts d w rows is, lt) in
@@ -47,7 +47,7 @@ row_lengths parts d w rows is k e lt =
     subst (λ (r : List Bool). length r ≡ length w) (any_default rows k [] e lt) row
 
 -- a part that blocks another has no lesser label
-no_arc : (parts : List Part) (d : V3) (w labels : List ℕ) (rows : List (List Bool)) (i j : ℕ) → AreRows parts d w rows
+no_arc : (parts : List Part) (d : V3) (w labels : List ℕ) (rows : List (List Bool)) (i j : ℕ) → AreBlockingRows parts d w rows
     → length labels ≡ length w → KeepsOrder rows labels → i < length w → j < length w
     → Blocks parts d (get_or w i 0) (get_or w j 0) → get_or labels j 0 ≤ get_or labels i 0
 no_arc parts d w labels rows i j is same keeps i_in j_in b =
@@ -55,7 +55,7 @@ no_arc parts d w labels rows i j is same keeps i_in j_in b =
     (row_at parts d w rows i is i_in) j_in (sym (get_or_default_zero w j (get_or w j 0) j_in)) in
     keeps i (omega (arith, same, i_in)) j (omega (arith, same, j_in)) (entry.1 b)
 
-clash : (parts : List Part) (d : V3) (w labels : List ℕ) (rows : List (List Bool)) (p q : ℕ) → AreRows parts d w rows
+clash : (parts : List Part) (d : V3) (w labels : List ℕ) (rows : List (List Bool)) (p q : ℕ) → AreBlockingRows parts d w rows
     → length labels ≡ length w → KeepsOrder rows labels → Precedes w labels p q → Blocks parts d p q → ⊥
 clash parts d w labels rows p q is same keeps h b =
     let f = h.first in
@@ -97,7 +97,7 @@ apart_from w labels (s ∷ rest) sorted h = (
 )
 
 block_no_later : (parts : List Part) (d : V3) (w labels : List ℕ) (rows : List (List Bool)) (sets : List PartSet)
-    → AreRows parts d w rows → length labels ≡ length w → KeepsOrder rows labels
+    → AreBlockingRows parts d w rows → length labels ≡ length w → KeepsOrder rows labels
     → HoldsOfLater (AllPrecede w labels) sets → BlockNoLater parts d sets
 block_no_later parts d w labels rows [] is same keeps h = tt
 block_no_later parts d w labels rows (s ∷ rest) is same keeps h = (
@@ -127,7 +127,7 @@ all_of w labels n sets same small is = same_members (union_of (map set_of sets))
         })
 
 pub peeling_from : (parts : List Part) (d : V3) (w labels : List ℕ) (rows : List (List Bool)) (n : ℕ)
-    (sets : List (List ℕ)) → d ≢ origin → AreRows parts d w rows → IsStrictlySortedBy nat_cmp w
+    (sets : List (List ℕ)) → d ≢ origin → AreBlockingRows parts d w rows → IsStrictlySortedBy nat_cmp w
     → length labels ≡ length w → All (λ l. l < n) labels → KeepsOrder rows labels → AreClasses w labels n sets
     → 2 ≤ length sets → IsPeeling parts d w sets
 peeling_from parts d w labels rows n sets moves is sorted same small keeps classes two = record {

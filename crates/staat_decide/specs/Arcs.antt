@@ -10,5 +10,5 @@ abbrev pub IsRow : List Part → V3 → List ℕ → ℕ → List Bool → Type 
 IsRow parts d w a row = AllZip (λ b answer. IsTrue answer ↔ Blocks parts d a b) w row
 
 -- for each part of w, in order, which parts of w it blocks along d
-abbrev pub AreRows : List Part → V3 → List ℕ → List (List Bool) → Type 0
-AreRows parts d w rows = AllZip (IsRow parts d w) w rows
+abbrev pub AreBlockingRows : List Part → V3 → List ℕ → List (List Bool) → Type 0
+AreBlockingRows parts d w rows = AllZip (IsRow parts d w) w rows

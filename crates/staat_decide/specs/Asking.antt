@@ -5,15 +5,15 @@ use Rattle.staat_vec.specs.Vectors.{origin}
 use Rattle.staat_model.specs.declared.assembly.Part.{Part}
 use Rattle.staat_model.specs.Removal.{Blocks}
 use Rattle.staat_decide.specs.declared.likely.Asked.{Asked}
-use Rattle.staat_decide.specs.Reaching.{HasArc}
+use Rattle.staat_decide.specs.Reaching.{HasRowArc}
 
 -- a row for each part, in which each part it blocks along d is marked
 pub record AreAllRows (parts : List Part) (d : V3) (rows : List (List Bool)) : Type 0 where
   pub count : length rows ≡ length parts
   pub widths : All (λ row. length row ≡ length parts) rows
-  pub arcs : (a b : ℕ) → a < length parts → b < length parts → HasArc rows a b ↔ Blocks parts d a b
+  pub arcs : (a b : ℕ) → a < length parts → b < length parts → HasRowArc rows a b ↔ Blocks parts d a b
 
 -- the direction is not zero, and the rows are those of these parts along it
-pub record IsAsked (parts : List Part) (asked : Asked) : Type 0 where
+pub record AreAskedRows (parts : List Part) (asked : Asked) : Type 0 where
   pub moves : asked.d ≢ origin
   pub rows_are : AreAllRows parts asked.d asked.rows

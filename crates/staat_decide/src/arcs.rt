@@ -1,7 +1,7 @@
 // Which parts of a set block which along a direction.
 ghost use Rattle.std.specs.Prelude.{◌≡◌, ◌<◌, All, IfOk, length};
-ghost use Rattle.staat_motion.specs.Motions.{WasMadeFrom};
-ghost use Rattle.staat_decide.specs.Arcs.{AreRows, IsRow};
+ghost use Rattle.staat_motion.specs.Motions.{IsMotionOf};
+ghost use Rattle.staat_decide.specs.Arcs.{AreBlockingRows, IsRow};
 
 use staat_cone::FacetSource;
 use staat_model::Part;
@@ -21,7 +21,7 @@ fn row_of<F: FacetSource>(
     w: &[u32],
     a: u32,
 ) -> Result<Row, OutOfMemory>
-    requires made { WasMadeFrom parts.now along.now }
+    requires made { IsMotionOf parts.now along.now }
     requires members { All (λ p. p < length parts.now) w.now }
     requires a_in { a < length parts.now }
     ensures { IfOk result (IsRow parts.now along.now.d w.now a) }
@@ -42,9 +42,9 @@ pub fn rows_of<F: FacetSource>(
     along: &Along,
     w: &[u32],
 ) -> Result<Vec<Row>, OutOfMemory>
-    requires made { WasMadeFrom parts.now along.now }
+    requires made { IsMotionOf parts.now along.now }
     requires members { All (λ p. p < length parts.now) w.now }
-    ensures { IfOk result (λ rows. AreRows parts.now along.now.d w.now rows.items) }
+    ensures { IfOk result (λ rows. AreBlockingRows parts.now along.now.d w.now rows.items) }
 {
     let mut rows = Vec::new(alloc);
     for a in w {

@@ -4,7 +4,7 @@
 ghost use Rattle.std.specs.Prelude.{◌≡◌, ◌≢◌, ◌<◌, ◌↔◌, All, IsTrue, length};
 ghost use Rattle.staat_vec.specs.Vectors.{IsWithin, origin};
 ghost use Rattle.staat_model.specs.Assemblies.{piece_count};
-ghost use Rattle.staat_motion.specs.Motions.{AreBodies, HasPieces, WasMadeFrom};
+ghost use Rattle.staat_motion.specs.Motions.{AreBodies, HasBothPieces, IsMotionOf};
 
 use crate::reach::Way;
 use crate::spots::{Spot, smallness, spots_of};
@@ -45,7 +45,7 @@ fn has_piece(parts: &[Part], a: u32, i: u32) -> bool
 
 // whether the two pieces exist
 fn has_pieces(parts: &[Part], pair: Arc) -> bool
-    ensures { IsTrue result ↔ HasPieces parts.now pair }
+    ensures { IsTrue result ↔ HasBothPieces parts.now pair }
 {
     has_piece(parts, pair.a, pair.i) && has_piece(parts, pair.b, pair.j)
 }
@@ -58,7 +58,7 @@ fn meets_there<F: FacetSource>(
     along: &Along,
     pair: Arc,
 ) -> Result<bool, OutOfMemory>
-    requires { WasMadeFrom parts.now along.now }
+    requires { IsMotionOf parts.now along.now }
 {
     if !has_pieces(parts, pair) {
         return Ok(false);
@@ -69,7 +69,7 @@ fn meets_there<F: FacetSource>(
 
 // whether boxes and spans leave it open that the first piece meets the second
 fn may_meet(parts: &[Part], along: &Along, pair: Arc) -> bool
-    requires { WasMadeFrom parts.now along.now }
+    requires { IsMotionOf parts.now along.now }
 {
     if !has_pieces(parts, pair) {
         return false;
@@ -168,7 +168,7 @@ fn add_pairs(
     way: Way,
     near: usize,
 ) -> Result<(), OutOfMemory>
-    requires made { WasMadeFrom parts.now along.now }
+    requires made { IsMotionOf parts.now along.now }
     requires near { near < length spots.now }
 {
     let spot = spots[near];
@@ -194,7 +194,7 @@ fn pairs_across(
     marks: &[bool],
     way: Way,
 ) -> Result<Vec<Pair>, OutOfMemory>
-    requires { WasMadeFrom parts.now along.now }
+    requires { IsMotionOf parts.now along.now }
 {
     let mut pairs = Vec::new(alloc);
     for near in 0..spots.len() {
@@ -216,7 +216,7 @@ fn first_met<F: FacetSource>(
     pairs: &[Pair],
     way: Way,
 ) -> Result<Option<Pair>, OutOfMemory>
-    requires { WasMadeFrom parts.now along.now }
+    requires { IsMotionOf parts.now along.now }
 {
     for pair in pairs {
         if pair.near < spots.len() && pair.far < spots.len() {
@@ -240,7 +240,7 @@ fn grow_on<F: FacetSource>(
     ties: &mut Ties,
     way: Way,
 ) -> Result<bool, OutOfMemory>
-    requires { WasMadeFrom parts.now along.now }
+    requires { IsMotionOf parts.now along.now }
 {
     let mut leads = ties.leads_at(alloc, along.direction())?;
     let mut marks = first_alone(alloc, count)?;

@@ -1,11 +1,12 @@
 // What likely directions take apart: along each of them it is asked once, of all parts, which blocks which.
-ghost use Rattle.std.specs.Prelude.{◌≡◌, ◌≢◌, ◌<◌, ◌⊎◌, ◌↔◌, List, [], false, All, IfOk, IfSome, IsTrue, get_or, length, map};
+ghost use Rattle.std.specs.Prelude.{◌≡◌, ◌≢◌, ◌<◌, ◌⊎◌, ◌↔◌, List, [], false, All, IfOk, IfSome, IsTrue};
+ghost use Rattle.std.specs.Prelude.{get_or, length, map};
 ghost use Rattle.std.specs.List.{range_with_len};
 ghost use Rattle.std.specs.List.Sorted.{IsStrictlySortedBy};
 ghost use Rattle.std.specs.Ordering.{nat_cmp};
 ghost use Rattle.staat_vec.specs.Vectors.{IsWithin, origin};
 ghost use Rattle.staat_motion.specs.Motions.{AreBodies};
-ghost use Rattle.staat_decide.specs.Asking.{IsAsked};
+ghost use Rattle.staat_decide.specs.Asking.{AreAskedRows};
 ghost use Rattle.staat_decide.specs.Peelings.{IsPeeling};
 
 use crate::arcs::{Row, rows_of};
@@ -64,7 +65,7 @@ pub fn asked_along<F: FacetSource>(
     requires all { all.now ≡ range_with_len 0 (length parts.now) }
     requires size { IsWithin DIRECTION d }
     requires moves { d ≢ origin }
-    ensures { IfOk result (IsAsked parts.now) }
+    ensures { IfOk result (AreAskedRows parts.now) }
 {
     let along = Along::of(alloc, parts, bodies, d)?;
     let rows = rows_of(alloc, source, parts, &along, all)?;
@@ -109,7 +110,7 @@ fn leaving_along(
     asked: &Asked,
     w: &[u32],
 ) -> Result<Option<Leaving>, OutOfMemory>
-    requires asked { IsAsked parts.now asked.now }
+    requires asked { AreAskedRows parts.now asked.now }
     requires members { All (λ p. p < length parts.now) w.now }
     requires ascending { IsStrictlySortedBy nat_cmp w.now }
     ensures { IfOk result (λ answer. IfSome answer (λ leaving.
@@ -149,7 +150,7 @@ fn leaving_as_before(
     w: &[u32],
     before: V3,
 ) -> Result<Option<Leaving>, OutOfMemory>
-    requires asked { All (IsAsked parts.now) asked.now }
+    requires asked { All (AreAskedRows parts.now) asked.now }
     requires members { All (λ p. p < length parts.now) w.now }
     requires ascending { IsStrictlySortedBy nat_cmp w.now }
     ensures { IfOk result (λ answer. IfSome answer (λ leaving.
@@ -179,7 +180,7 @@ pub fn likely_leaving(
     w: &[u32],
     before: V3,
 ) -> Result<Option<Leaving>, OutOfMemory>
-    requires asked { All (IsAsked parts.now) asked.now }
+    requires asked { All (AreAskedRows parts.now) asked.now }
     requires members { All (λ p. p < length parts.now) w.now }
     requires ascending { IsStrictlySortedBy nat_cmp w.now }
     ensures { IfOk result (λ answer. IfSome answer (λ leaving.
@@ -203,7 +204,7 @@ pub fn takes_all_apart(
     asked: &Asked,
     all: &[u32],
 ) -> Result<bool, OutOfMemory>
-    requires asked { IsAsked parts.now asked.now }
+    requires asked { AreAskedRows parts.now asked.now }
     requires members { All (λ p. p < length parts.now) all.now }
     requires ascending { IsStrictlySortedBy nat_cmp all.now }
 {

@@ -5,8 +5,8 @@ ghost use Rattle.std.specs.Ordering.{nat_cmp};
 ghost use Rattle.staat_vec.specs.declared.vector.V3.{V3 as Vector};
 ghost use Rattle.staat_vec.specs.Vectors.{origin};
 ghost use Rattle.staat_model.specs.declared.assembly.Part.{Part as PartValue};
-ghost use Rattle.staat_motion.specs.Motions.{WasMadeFrom};
-ghost use Rattle.staat_decide.specs.Arcs.{AreRows};
+ghost use Rattle.staat_motion.specs.Motions.{IsMotionOf};
+ghost use Rattle.staat_decide.specs.Arcs.{AreBlockingRows};
 ghost use Rattle.staat_decide.specs.Labels.{set_of};
 ghost use Rattle.staat_decide.specs.Peelings.{IsHeldAlong, IsPeeling};
 ghost use Rattle.staat_decide.specs.Reaching.{AreAllReached};
@@ -33,7 +33,7 @@ fn judged(
     requires rows { length rows.now ≡ length w.now }
     requires each { All (λ row. length row ≡ length w.now) rows.now }
     ensures { IfOk result (λ answer. IfSome answer (λ sets. (parts : List PartValue) (d : Vector) → d ≢ origin
-        → AreRows parts d w.now rows.now → IsPeeling parts d w.now sets)) }
+        → AreBlockingRows parts d w.now rows.now → IsPeeling parts d w.now sets)) }
 {
     let of = labels.of.as_slice();
     if of.len() != w.len() || !keeps_order(rows, of, labels.count) {
@@ -53,7 +53,7 @@ fn split(alloc: Global, rows: &[Row], w: &[u32], way: Way) -> Result<Option<Sets
     requires each { All (λ row. length row ≡ length w.now) rows.now }
     requires some { 1 ≤ length w.now }
     ensures some { IfOk result (λ answer. IfSome answer (λ sets. (parts : List PartValue) (d : Vector) → d ≢ origin
-        → AreRows parts d w.now rows.now → IsPeeling parts d w.now sets)) }
+        → AreBlockingRows parts d w.now rows.now → IsPeeling parts d w.now sets)) }
     ensures none { IfOk result (λ answer. IfNone answer (AreAllReached way rows.now)) }
 {
     let marks = reached(alloc, rows, way)?;
@@ -72,9 +72,9 @@ fn decided(alloc: Global, rows: &[Row], w: &[u32]) -> Result<Option<Sets>, OutOf
     requires each { All (λ row. length row ≡ length w.now) rows.now }
     requires some { 1 ≤ length w.now }
     ensures some { IfOk result (λ answer. IfSome answer (λ sets. (parts : List PartValue) (d : Vector) → d ≢ origin
-        → AreRows parts d w.now rows.now → IsPeeling parts d w.now sets)) }
+        → AreBlockingRows parts d w.now rows.now → IsPeeling parts d w.now sets)) }
     ensures none { IfOk result (λ answer. IfNone answer ((parts : List PartValue) (d : Vector)
-        → AreRows parts d w.now rows.now → IsHeldAlong parts d (set_of w.now))) }
+        → AreBlockingRows parts d w.now rows.now → IsHeldAlong parts d (set_of w.now))) }
 {
     match split(alloc, rows, w, Way::Ahead)? {
         Some(sets) => Ok(Some(sets)),
@@ -96,9 +96,9 @@ pub fn take_apart(alloc: Global, rows: &[Row], w: &[u32]) -> Result<Option<Sets>
     requires rows { length rows.now ≡ length w.now }
     requires each { All (λ row. length row ≡ length w.now) rows.now }
     ensures some { IfOk result (λ answer. IfSome answer (λ sets. (parts : List PartValue) (d : Vector) → d ≢ origin
-        → AreRows parts d w.now rows.now → IsPeeling parts d w.now sets)) }
+        → AreBlockingRows parts d w.now rows.now → IsPeeling parts d w.now sets)) }
     ensures none { IfOk result (λ answer. IfNone answer ((parts : List PartValue) (d : Vector)
-        → AreRows parts d w.now rows.now → IsHeldAlong parts d (set_of w.now))) }
+        → AreBlockingRows parts d w.now rows.now → IsHeldAlong parts d (set_of w.now))) }
 {
     if w.is_empty() {
         return Ok(None);
@@ -120,7 +120,7 @@ pub fn peel<F: FacetSource>(
     along: &Along,
     w: &[u32],
 ) -> Result<Option<Sets>, OutOfMemory>
-    requires made { WasMadeFrom parts.now along.now }
+    requires made { IsMotionOf parts.now along.now }
     requires moves { along.now.d ≢ origin }
     requires members { All (λ p. p < length parts.now) w.now }
     requires ascending { IsStrictlySortedBy nat_cmp w.now }

@@ -4,10 +4,10 @@ ghost use Rattle.std.specs.Prelude.{◌≡◌, ◌<◌, ◌≤◌, ◌↔◌, �
 ghost use Rattle.std.specs.Prelude.{length, map, slice_set, true};
 ghost use Rattle.staat_decide.specs.Reaching.{
   AreReached,
-  HasArc,
-  IsClosed,
-  IsMarked,
-  IsNext,
+  HasRowArc,
+  IsClosedAlong,
+  IsMarkedPlace,
+  IsNextPlace,
   Leads,
   LeadsToMarked,
   label_of,
@@ -29,7 +29,7 @@ fn has_arc(rows: &[Row], i: usize, j: usize) -> bool
     requires each { All (λ row. length row ≡ length rows.now) rows.now }
     requires i { i < length rows.now }
     requires j { j < length rows.now }
-    ensures { IsTrue result ↔ HasArc rows.now i j }
+    ensures { IsTrue result ↔ HasRowArc rows.now i j }
 {
     let row = rows[i].as_slice();
     row[j]
@@ -70,8 +70,8 @@ fn next_within(rows: &[Row], way: Way, marks: &[bool], low: usize, high: usize) 
     requires each { All (λ row. length row ≡ length rows.now) rows.now }
     requires count { length marks.now ≡ length rows.now }
     requires high { high ≤ length rows.now }
-    ensures some { IfSome result (IsNext way rows.now marks.now) }
-    ensures none { IfNone result ((i : ℕ) → low ≤ i → i < high → IsMarked marks.now i →
+    ensures some { IfSome result (IsNextPlace way rows.now marks.now) }
+    ensures none { IfNone result ((i : ℕ) → low ≤ i → i < high → IsMarkedPlace marks.now i →
         LeadsToMarked way rows.now marks.now i) }
 {
     for i in low..high {
@@ -89,8 +89,8 @@ fn next(rows: &[Row], way: Way, marks: &[bool], start: usize) -> Option<usize>
     requires each { All (λ row. length row ≡ length rows.now) rows.now }
     requires count { length marks.now ≡ length rows.now }
     requires start { start < length rows.now }
-    ensures some { IfSome result (IsNext way rows.now marks.now) }
-    ensures none { IfNone result (IsClosed way rows.now marks.now) }
+    ensures some { IfSome result (IsNextPlace way rows.now marks.now) }
+    ensures none { IfNone result (IsClosedAlong way rows.now marks.now) }
 {
     match next_within(rows, way, marks, start, rows.len()) {
         Some(j) => Some(j),
@@ -109,8 +109,8 @@ fn mark(marks: &mut Vec<bool>, j: usize)
 fn first_marked(alloc: Global, count: usize) -> Result<Vec<bool>, OutOfMemory>
     requires { 1 ≤ count }
     ensures count { IfOk result (λ marks. length marks.items ≡ count) }
-    ensures first { IfOk result (λ marks. IsMarked marks.items 0) }
-    ensures others { IfOk result (λ marks. (j : ℕ) → IsMarked marks.items j → j ≡ 0) }
+    ensures first { IfOk result (λ marks. IsMarkedPlace marks.items 0) }
+    ensures others { IfOk result (λ marks. (j : ℕ) → IsMarkedPlace marks.items j → j ≡ 0) }
     ensures left { IfOk result (λ marks. unmarked marks.items + 1 ≤ count) }
 {
     let mut marks = Vec::new(alloc);
@@ -126,7 +126,7 @@ pub fn reached(alloc: Global, rows: &[Row], way: Way) -> Result<Vec<bool>, OutOf
     requires each { All (λ row. length row ≡ length rows.now) rows.now }
     requires some { 1 ≤ length rows.now }
     ensures reached { IfOk result (λ marks. AreReached way rows.now marks.items) }
-    ensures closed { IfOk result (λ marks. IsClosed way rows.now marks.items) }
+    ensures closed { IfOk result (λ marks. IsClosedAlong way rows.now marks.items) }
 {
     let mut marks = first_marked(alloc, rows.len())?;
     let mut start = 0;
@@ -146,7 +146,7 @@ pub fn reached(alloc: Global, rows: &[Row], way: Way) -> Result<Vec<bool>, OutOf
 pub fn first_unmarked(marks: &[bool]) -> Option<usize>
     ensures before { IfSome result (λ j. j < length marks.now) }
     ensures fresh { IfSome result (λ j. get_or marks.now j true ≡ false) }
-    ensures none { IfNone result ((j : ℕ) → j < length marks.now → IsMarked marks.now j) }
+    ensures none { IfNone result ((j : ℕ) → j < length marks.now → IsMarkedPlace marks.now j) }
 {
     for j in 0..marks.len() {
         if !marks[j] {

@@ -76,7 +76,8 @@ IsFirstRule parts names hold (Gap v) =
 -- the first k holds keep the rules, each where those before it have joined their nodes
 abbrev pub FirstKeep : List Part → List Hold → ℕ → Type 0
 FirstKeep parts holds k =
-    (m : ℕ) (hold : Hold) → m < k → slice_get holds m ≡ Some hold → KeepsHoldRules parts (names_before parts holds m) hold
+    (m : ℕ) (hold : Hold) → m < k → slice_get holds m ≡ Some hold
+    → KeepsHoldRules parts (names_before parts holds m) hold
 
 -- all of them do
 abbrev pub AllKeep : List Part → List Hold → Type 0

@@ -11,7 +11,7 @@ use Rattle.staat_model.specs.Cores.{IsCorePlane}
 use Rattle.staat_model.specs.Planes.{axes, vertices}
 use Rattle.staat_model.specs.Removal.{MeetsAlong}
 use Rattle.staat_model.specs.Sets.{Has}
-use Rattle.staat_motion.specs.Motions.{HasPieces, turned}
+use Rattle.staat_motion.specs.Motions.{HasBothPieces, turned}
 use Rattle.staat_holds.specs.Reaching.{AllReach}
 
 -- the part a belongs to the node k; the list has the number of its node for each part, or none
@@ -26,7 +26,7 @@ pub record IsOfSomeNode (nodes : List (Option ℕ)) (count a : ℕ) : Type 0 whe
 
 -- two pieces that exist, of parts of two of the nodes
 pub record IsCorePair (parts : List Part) (nodes : List (Option ℕ)) (count : ℕ) (pair : Arc) : Type 0 where
-  pub pieces : HasPieces parts pair
+  pub pieces : HasBothPieces parts pair
   pub first : IsOfSomeNode nodes count pair.a
   pub second : IsOfSomeNode nodes count pair.b
   pub apart : (k : ℕ) → IsOfNode nodes k pair.a → IsOfNode nodes k pair.b → ⊥

@@ -1,7 +1,7 @@
 // The pairs of a core by nodes, with the facets of their pieces.
 ghost use Rattle.std.specs.Prelude.{◌≡◌, ◌<◌, ◌↔◌, ℕ, All, IfOk, IsTrue, Some, length};
 ghost use Rattle.staat_model.specs.Assemblies.{IsPart, piece_at, piece_count};
-ghost use Rattle.staat_motion.specs.Motions.{HasPieces};
+ghost use Rattle.staat_motion.specs.Motions.{HasBothPieces};
 ghost use Rattle.staat_holds.specs.Holds.{IsCorePair, IsOfNode, IsOfSomeNode};
 ghost use Rattle.staat_holds.specs.Links.{AreLinks, IsLink, IsLinkOf};
 
@@ -54,7 +54,7 @@ fn has_piece(parts: &[Part], a: u32, i: u32) -> bool
 
 // whether the two pieces exist
 fn has_pieces(parts: &[Part], pair: Arc) -> bool
-    ensures { IsTrue result ↔ HasPieces parts.now pair }
+    ensures { IsTrue result ↔ HasBothPieces parts.now pair }
 {
     has_piece(parts, pair.a, pair.i) && has_piece(parts, pair.b, pair.j)
 }

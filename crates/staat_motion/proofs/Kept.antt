@@ -20,8 +20,8 @@ use Rattle.staat_model.proofs.Places.{Contains-from_place, place_within, same_so
 use Rattle.staat_model.proofs.Reversed.{meets_opposite_lemma}
 use Rattle.staat_motion.specs.declared.frame.Frame.{Frame}
 use Rattle.staat_motion.specs.declared.shadow.Shadow.{Shadow}
-use Rattle.staat_motion.specs.Motions.{HasFacets, HasPieces, HasShadows, IsMotion, Motion, WasMadeFrom, pieces_at, points_at, shadow_at, shadow_count, turned}
-use Rattle.staat_motion.specs.Shadows.{ArePartShadows, AreWholes, IsApart, IsBody, IsSeenApart, IsShadow, IsWhole, part_points}
+use Rattle.staat_motion.specs.Motions.{HasFacets, HasBothPieces, HasShadows, IsMotion, Motion, IsMotionOf, pieces_of_body, points_of_body, shadow_at, shadow_count, turned}
+use Rattle.staat_motion.specs.Shadows.{ArePartShadows, AreWholes, IsApartAlong, IsBody, IsSeenApart, IsShadow, IsWholeOf, part_points}
 use Rattle.staat_motion.proofs.Walls.{apart_is, seen_never, seen_within}
 use Rattle.staat_motion.proofs.Zips.{zip_back, zip_length}
 
@@ -43,7 +43,7 @@ shadow_of_piece f parts shadows a i p s z is e =
 
 -- ---- what is seen of two pieces
 
-pub apart_at : (parts : List Part) (along : Motion) (arc : Arc) (s t : Shadow) (r : Bool) → IsMotion along.d along.frame → WasMadeFrom parts along → shadow_at along.shadows arc.a arc.i ≡ Some s → shadow_at along.shadows arc.b arc.j ≡ Some t → IsTrue r ↔ IsApart along.d s t
+pub apart_at : (parts : List Part) (along : Motion) (arc : Arc) (s t : Shadow) (r : Bool) → IsMotion along.d along.frame → IsMotionOf parts along → shadow_at along.shadows arc.a arc.i ≡ Some s → shadow_at along.shadows arc.b arc.j ≡ Some t → IsTrue r ↔ IsApartAlong along.d s t
     → IsTrue r ↔ HoldsAt parts arc (λ p q. IsSeenApart along.frame p q along.d)
 apart_at parts along arc s t r is made s_is t_is told = (
   (λ h.
@@ -64,7 +64,7 @@ is_piece_at (part ∷ parts) zero i p all e =
     All-contains IsPiece part.pieces p here.pieces (Contains-from_place part.pieces i p e)
 is_piece_at (part ∷ parts) (suc a) i p all e = is_piece_at parts a i p (All-tail IsPart part parts all) e
 
-pub apart_never : (parts : List Part) (along : Motion) (arc : Arc) → WasMadeFrom parts along → HoldsAt parts arc (λ p q. IsSeenApart along.frame p q along.d) → MeetsAlong parts along.d arc → ⊥
+pub apart_never : (parts : List Part) (along : Motion) (arc : Arc) → IsMotionOf parts along → HoldsAt parts arc (λ p q. IsSeenApart along.frame p q along.d) → MeetsAlong parts along.d arc → ⊥
 apart_never parts along arc made seen meets =
     let p_same = same_some meets.p seen.p (sym meets.p_is ∙ seen.p_is) in
     let q_same = same_some meets.q seen.q (sym meets.q_is ∙ seen.q_is) in
@@ -72,17 +72,17 @@ apart_never parts along arc made seen meets =
 
 -- ---- whole parts
 
-whole_at : (f : Frame) (parts : List Part) (wholes : List Shadow) (a : ℕ) (w : Shadow) → AreWholes f parts wholes → slice_get wholes a ≡ Some w → IsShadow f (points_at parts a) w
+whole_at : (f : Frame) (parts : List Part) (wholes : List Shadow) (a : ℕ) (w : Shadow) → AreWholes f parts wholes → slice_get wholes a ≡ Some w → IsShadow f (points_of_body parts a) w
 whole_at f [] [] a w z e = absurd cc
 whole_at f [] (u ∷ wholes) a w z e = absurd z
 whole_at f (part ∷ parts) [] a w z e = absurd z
-whole_at f (part ∷ parts) (u ∷ wholes) zero w z e = subst (IsShadow f (points_at (part ∷ parts) zero)) (same_some u w e) z.0
+whole_at f (part ∷ parts) (u ∷ wholes) zero w z e = subst (IsShadow f (points_of_body (part ∷ parts) zero)) (same_some u w e) z.0
 whole_at f (part ∷ parts) (u ∷ wholes) (suc a) w z e = whole_at f parts wholes a w z.1 e
 
-pub parts_apart_at : (parts : List Part) (along : Motion) (a b : ℕ) (s t : Shadow) (r : Bool) → IsMotion along.d along.frame → WasMadeFrom parts along → slice_get along.wholes a ≡ Some s → slice_get along.wholes b ≡ Some t
-    → IsTrue r ↔ IsApart along.d s t → IsTrue r ↔ IsSeenApart along.frame (points_at parts a) (points_at parts b) along.d
+pub parts_apart_at : (parts : List Part) (along : Motion) (a b : ℕ) (s t : Shadow) (r : Bool) → IsMotion along.d along.frame → IsMotionOf parts along → slice_get along.wholes a ≡ Some s → slice_get along.wholes b ≡ Some t
+    → IsTrue r ↔ IsApartAlong along.d s t → IsTrue r ↔ IsSeenApart along.frame (points_of_body parts a) (points_of_body parts b) along.d
 parts_apart_at parts along a b s t r is made s_is t_is told =
-    let law = apart_is along.frame along.d (points_at parts a) (points_at parts b) s t is.across
+    let law = apart_is along.frame along.d (points_of_body parts a) (points_of_body parts b) s t is.across
     (whole_at along.frame parts along.wholes a s made.wholes s_is) (whole_at along.frame parts along.wholes b t made.wholes t_is) in
     ((λ h. law.0 (told.0 h)), (λ h. told.1 (law.1 h)))
 
@@ -91,31 +91,31 @@ all_of_piece F [] i p all e = absurd cc
 all_of_piece F (q ∷ pieces) zero p all e = subst (All F) (same_some q p e) (all_front F q (flat_map (λ q. q) pieces) (subst (All F) (flat_map-cons (λ q. q) q pieces) all))
 all_of_piece F (q ∷ pieces) (suc i) p all e = all_of_piece F pieces i p (all_back F q (flat_map (λ q. q) pieces) (subst (All F) (flat_map-cons (λ q. q) q pieces) all)) e
 
-all_at : (F : V3 → Type 0) (parts : List Part) (a i : ℕ) (p : List V3) → All F (points_at parts a) → piece_at parts a i ≡ Some p → All F p
+all_at : (F : V3 → Type 0) (parts : List Part) (a i : ℕ) (p : List V3) → All F (points_of_body parts a) → piece_at parts a i ≡ Some p → All F p
 all_at F [] a i p all e = absurd cc
 all_at F (part ∷ parts) zero i p all e = all_of_piece F part.pieces i p all e
 all_at F (part ∷ parts) (suc a) i p all e = all_at F parts a i p all e
 
-pub parts_never : (parts : List Part) (along : Motion) (a b : ℕ) → WasMadeFrom parts along → IsSeenApart along.frame (points_at parts a) (points_at parts b) along.d → Blocks parts along.d a b → ⊥
+pub parts_never : (parts : List Part) (along : Motion) (a b : ℕ) → IsMotionOf parts along → IsSeenApart along.frame (points_of_body parts a) (points_of_body parts b) along.d → Blocks parts along.d a b → ⊥
 parts_never parts along a b made seen blocked =
     let at = blocked.meets in
-    let p_in = λ (x : V3) (h : Contains at.p x). All-contains (Contains (points_at parts a)) at.p x (all_at (Contains (points_at parts a)) parts a blocked.i at.p (All-contains_itself (points_at parts a)) at.p_is) h in
-    let q_in = λ (x : V3) (h : Contains at.q x). All-contains (Contains (points_at parts b)) at.q x (all_at (Contains (points_at parts b)) parts b blocked.j at.q (All-contains_itself (points_at parts b)) at.q_is) h in
+    let p_in = λ (x : V3) (h : Contains at.p x). All-contains (Contains (points_of_body parts a)) at.p x (all_at (Contains (points_of_body parts a)) parts a blocked.i at.p (All-contains_itself (points_of_body parts a)) at.p_is) h in
+    let q_in = λ (x : V3) (h : Contains at.q x). All-contains (Contains (points_of_body parts b)) at.q x (all_at (Contains (points_of_body parts b)) parts b blocked.j at.q (All-contains_itself (points_of_body parts b)) at.q_is) h in
     seen_never along.frame at.p at.q along.d (is_piece_at parts a blocked.i at.p made.parts_are at.p_is)
-    (seen_within along.frame (points_at parts a) (points_at parts b) at.p at.q along.d p_in q_in seen) at.holds
+    (seen_within along.frame (points_of_body parts a) (points_of_body parts b) at.p at.q along.d p_in q_in seen) at.holds
 
 -- ---- a piece and a whole part
 
-pub piece_apart_at : (parts : List Part) (along : Motion) (a i b : ℕ) (p : List V3) (s t : Shadow) (r : Bool) → IsMotion along.d along.frame → WasMadeFrom parts along → piece_at parts a i ≡ Some p → shadow_at along.shadows a i ≡ Some s → slice_get along.wholes b ≡ Some t
-    → IsTrue r ↔ IsApart along.d s t → IsTrue r ↔ IsSeenApart along.frame p (points_at parts b) along.d
+pub piece_apart_at : (parts : List Part) (along : Motion) (a i b : ℕ) (p : List V3) (s t : Shadow) (r : Bool) → IsMotion along.d along.frame → IsMotionOf parts along → piece_at parts a i ≡ Some p → shadow_at along.shadows a i ≡ Some s → slice_get along.wholes b ≡ Some t
+    → IsTrue r ↔ IsApartAlong along.d s t → IsTrue r ↔ IsSeenApart along.frame p (points_of_body parts b) along.d
 piece_apart_at parts along a i b p s t r is made p_is s_is t_is told =
-    let law = apart_is along.frame along.d p (points_at parts b) s t is.across
+    let law = apart_is along.frame along.d p (points_of_body parts b) s t is.across
     (shadow_of_piece along.frame parts along.shadows a i p s made.shadows p_is s_is) (whole_at along.frame parts along.wholes b t made.wholes t_is) in
     ((λ h. law.0 (told.0 h)), (λ h. told.1 (law.1 h)))
 
-pub piece_never : (parts : List Part) (along : Motion) (arc : Arc) (meets : MeetsAlong parts along.d arc) → WasMadeFrom parts along → IsSeenApart along.frame meets.p (points_at parts arc.b) along.d → ⊥
+pub piece_never : (parts : List Part) (along : Motion) (arc : Arc) (meets : MeetsAlong parts along.d arc) → IsMotionOf parts along → IsSeenApart along.frame meets.p (points_of_body parts arc.b) along.d → ⊥
 piece_never parts along arc meets made seen =
-    let whole = points_at parts arc.b in
+    let whole = points_of_body parts arc.b in
     let q_in = λ (x : V3) (h : Contains meets.q x). All-contains (Contains whole) meets.q x (all_at (Contains whole) parts arc.b arc.j meets.q (All-contains_itself whole) meets.q_is) h in
     seen_never along.frame meets.p meets.q along.d (is_piece_at parts arc.a arc.i meets.p made.parts_are meets.p_is)
     (seen_within along.frame meets.p whole meets.p meets.q along.d (λ x h. h) q_in seen) meets.holds
@@ -130,7 +130,7 @@ some_shadow f (part ∷ parts) (s ∷ shadows) all z =
     let same = zip_length (IsShadow f) part.pieces s z.0 in
     All-cons (λ (pieces : List Shadow). 1 ≤ length pieces) s shadows (omega (arith, here, same)) (some_shadow f parts shadows (All-tail IsPart part parts all) z.1)
 
-pub wholes_are : (f : Frame) (parts : List Part) (shadows : List (List Shadow)) (wholes : List Shadow) → ArePartShadows f parts shadows → AllZip IsWhole shadows wholes → AreWholes f parts wholes
+pub wholes_are : (f : Frame) (parts : List Part) (shadows : List (List Shadow)) (wholes : List Shadow) → ArePartShadows f parts shadows → AllZip IsWholeOf shadows wholes → AreWholes f parts wholes
 wholes_are f [] [] [] z w = tt
 wholes_are f [] [] (u ∷ us) z w = absurd w
 wholes_are f [] (s ∷ ss) us z w = absurd z
@@ -147,7 +147,7 @@ counts_are f (part ∷ parts) [] a z = absurd z
 counts_are f (part ∷ parts) (ss ∷ shadows) zero z = zip_length (IsShadow f) part.pieces ss z.0
 counts_are f (part ∷ parts) (ss ∷ shadows) (suc a) z = counts_are f parts shadows a z.1
 
-pub has_shadows : (parts : List Part) (along : Motion) (arc : Arc) → WasMadeFrom parts along → HasPieces parts arc → HasShadows along arc
+pub has_shadows : (parts : List Part) (along : Motion) (arc : Arc) → IsMotionOf parts along → HasBothPieces parts arc → HasShadows along arc
 has_shadows parts along arc made has =
     let all = zip_length (λ (part : Part) (s : List Shadow). AllZip (IsShadow along.frame) part.pieces s) parts along.shadows made.shadows in
     let a_count = counts_are along.frame parts along.shadows arc.a made.shadows in
@@ -161,12 +161,12 @@ has_shadows parts along arc made has =
 -- ---- all pieces of a part
 
 -- all points of a part are those of its pieces
-points_are : (parts : List Part) (a : ℕ) (ps : List (List V3)) → pieces_at parts a ≡ Some ps → points_at parts a ≡ flat_map (λ p. p) ps
+points_are : (parts : List Part) (a : ℕ) (ps : List (List V3)) → pieces_of_body parts a ≡ Some ps → points_of_body parts a ≡ flat_map (λ p. p) ps
 points_are [] a ps e = absurd cc
 points_are (part ∷ parts) zero ps e = ap (λ (l : List (List V3)). flat_map (λ p. p) l) (same_some part.pieces ps e)
 points_are (part ∷ parts) (suc a) ps e = points_are parts a ps e
 
-pub part_zip : (f : Frame) (parts : List Part) (shadows : List (List Shadow)) (a : ℕ) (ps : List (List V3)) (ss : List Shadow) → ArePartShadows f parts shadows → pieces_at parts a ≡ Some ps → slice_get shadows a ≡ Some ss
+pub part_zip : (f : Frame) (parts : List Part) (shadows : List (List Shadow)) (a : ℕ) (ps : List (List V3)) (ss : List Shadow) → ArePartShadows f parts shadows → pieces_of_body parts a ≡ Some ps → slice_get shadows a ≡ Some ss
     → AllZip (IsShadow f) ps ss
 part_zip f [] [] a ps ss z p s = absurd cc
 part_zip f [] (t ∷ shadows) a ps ss z p s = absurd z
@@ -174,20 +174,20 @@ part_zip f (part ∷ parts) [] a ps ss z p s = absurd z
 part_zip f (part ∷ parts) (t ∷ shadows) zero ps ss z p s = subst (λ u. AllZip (IsShadow f) u ss) (same_some part.pieces ps p) (subst (AllZip (IsShadow f) part.pieces) (same_some t ss s) z.0)
 part_zip f (part ∷ parts) (t ∷ shadows) (suc a) ps ss z p s = part_zip f parts shadows a ps ss z.1 p s
 
-pub body_at : (parts : List Part) (along : Motion) (a : ℕ) (ps : List (List V3)) (ss : List Shadow) (w : Shadow) → WasMadeFrom parts along → pieces_at parts a ≡ Some ps → slice_get along.shadows a ≡ Some ss → slice_get along.wholes a ≡ Some w
+pub body_at : (parts : List Part) (along : Motion) (a : ℕ) (ps : List (List V3)) (ss : List Shadow) (w : Shadow) → IsMotionOf parts along → pieces_of_body parts a ≡ Some ps → slice_get along.shadows a ≡ Some ss → slice_get along.wholes a ≡ Some w
     → IsBody along.frame ps ss w
 body_at parts along a ps ss w made p s t = record {
   each = part_zip along.frame parts along.shadows a ps ss made.shadows p s;
   all = subst (λ (l : List V3). IsShadow along.frame l w) (points_are parts a ps p) (whole_at along.frame parts along.wholes a w made.wholes t);
 }
 
-piece_in : (parts : List Part) (a i : ℕ) (ps : List (List V3)) → pieces_at parts a ≡ Some ps → piece_at parts a i ≡ slice_get ps i
+piece_in : (parts : List Part) (a i : ℕ) (ps : List (List V3)) → pieces_of_body parts a ≡ Some ps → piece_at parts a i ≡ slice_get ps i
 piece_in [] a i ps e = absurd cc
 piece_in (part ∷ parts) zero i ps e = ap (λ l. slice_get l i) (same_some part.pieces ps e)
 piece_in (part ∷ parts) (suc a) i ps e = piece_in parts a i ps e
 
 -- a part blocks another just where some piece of the one meets some piece of the other
-pub blocks_is : (parts : List Part) (d : V3) (a b : ℕ) (ps qs : List (List V3)) → (a ≡ b → ⊥) → pieces_at parts a ≡ Some ps → pieces_at parts b ≡ Some qs
+pub blocks_is : (parts : List Part) (d : V3) (a b : ℕ) (ps qs : List (List V3)) → (a ≡ b → ⊥) → pieces_of_body parts a ≡ Some ps → pieces_of_body parts b ≡ Some qs
     → Any (λ p. Any (λ q. Meets p q d) qs) ps ↔ Blocks parts d a b
 blocks_is parts d a b ps qs different p_at q_at = (
   (λ (i, p, i_lt, i_is, (j, q, j_lt, j_is, m)). record {
@@ -262,9 +262,9 @@ turned_facets_tell parts arc d facets r all law at =
     let other = meets_opposite_lemma at.p at.q d in
     meets_at parts arc d at.q at.p r at.q_is at.p_is ((λ t. other.0 (told.0 t)), (λ m. told.1 (other.1 m)))
 
-pub parts_are : (parts : List Part) (along : Motion) → WasMadeFrom parts along → length parts ≡ length along.shadows
+pub parts_are : (parts : List Part) (along : Motion) → IsMotionOf parts along → length parts ≡ length along.shadows
 parts_are parts along made = zip_length (λ (part : Part) (s : List Shadow). AllZip (IsShadow along.frame) part.pieces s) parts along.shadows made.shadows
 
 -- each part has its own whole
-pub wholes_count : (parts : List Part) (along : Motion) → WasMadeFrom parts along → length parts ≡ length along.wholes
+pub wholes_count : (parts : List Part) (along : Motion) → IsMotionOf parts along → length parts ≡ length along.wholes
 wholes_count parts along made = zip_length (λ (part : Part) (w : Shadow). IsShadow along.frame (part_points part) w) parts along.wholes made.wholes

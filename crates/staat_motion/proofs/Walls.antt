@@ -14,8 +14,8 @@ use Rattle.staat_motion.specs.declared.frame.Frame.{Frame}
 use Rattle.staat_motion.specs.declared.shadow.Shadow.{Shadow}
 use Rattle.staat_motion.specs.declared.spans.Span.{Span}
 use Rattle.staat_motion.specs.Frames.{IsFrame, IsOr, x_axis, y_axis, z_axis}
-use Rattle.staat_motion.specs.Shadows.{IsApart, IsBetween, IsSeenApart, IsShadow, IsWall, normals}
-use Rattle.staat_motion.specs.Spans.{IsPlaceOf, IsSpan}
+use Rattle.staat_motion.specs.Shadows.{IsApartAlong, HasGap, IsSeenApart, IsShadow, IsWallEitherWay, normals}
+use Rattle.staat_motion.specs.Spans.{IsReachOf, IsSpan}
 
 -- ---- one normal
 
@@ -47,7 +47,7 @@ turn n p s h = record {
   greatest = All-from_members (λ x. dot (negative n) x ≤ℤ neg_ℤ s.low) p (λ x x_in. up (dot n x) s.low (dot (negative n) x) (negative_dot n x) (All-contains (λ x. s.low ≤ℤ dot n x) p x h.least x_in));
 }
   where
-    place : (z : ℤ) → IsPlaceOf n p z → IsPlaceOf (negative n) p (neg_ℤ z)
+    place : (z : ℤ) → IsReachOf n p z → IsReachOf (negative n) p (neg_ℤ z)
     place z at = record { point = at.point; member = at.member; is = ap neg_ℤ at.is ∙ sym (negative_dot n at.point) }
 
     down : (x high y : ℤ) → y ≡ neg_ℤ x → x ≤ℤ high → neg_ℤ high ≤ℤ y
@@ -63,7 +63,7 @@ negative_nonzero n some e = some (λ i. record { x = zeroed n.x (ap (λ v. v.x) 
     zeroed z e = omega (arith, ints, e)
 
 -- the spans show a wall just where there is one with that normal
-between_is_wall : (n d : V3) (p q : List V3) (along : ℤ) (s t : Span) → n ≢ origin → dot n d ≡ along → IsSpan n p s → IsSpan n q t → IsBetween along s t ↔ IsWall p q d n
+between_is_wall : (n d : V3) (p q : List V3) (along : ℤ) (s t : Span) → n ≢ origin → dot n d ≡ along → IsSpan n p s → IsSpan n q t → HasGap along s t ↔ IsWallEitherWay p q d n
 between_is_wall n d p q along s t some is ps qt = (there, back)
   where
     turned_away : (a b z : ℤ) → a ≡ b → z ≡ neg_ℤ a → pos 0 ≤ℤ b → z ≤ℤ pos 0
@@ -81,7 +81,7 @@ between_is_wall n d p q along s t some is ps qt = (there, back)
     law' : (neg_ℤ s.low ≤ℤ neg_ℤ t.high) ↔ IsBeyond p q (negative n)
     law' = beyond (negative n) p q (turned s) (turned t) (turn n p s ps) (turn n q t qt)
 
-    there : IsBetween along s t → IsWall p q d n
+    there : HasGap along s t → IsWallEitherWay p q d n
     there (inl (away, le)) = inl (record { wall = some; beyond = law.0 le; away = subst (λ z. z ≤ℤ pos 0) (sym is) away })
     there (inr (ahead, le)) = inr (record {
       wall = negative_nonzero n some;
@@ -89,7 +89,7 @@ between_is_wall n d p q along s t some is ps qt = (there, back)
       away = turned_away (dot n d) along (dot (negative n) d) is (negative_dot n d) ahead;
     })
 
-    back : IsWall p q d n → IsBetween along s t
+    back : IsWallEitherWay p q d n → HasGap along s t
     back (inl w) = inl (subst (λ z. z ≤ℤ pos 0) is w.away, law.1 w.beyond)
     back (inr w) = inr (turned_ahead (dot n d) along (dot (negative n) d) is (negative_dot n d) w.away, (swapped t.high s.low).1 (law'.1 w.beyond))
 
@@ -139,25 +139,25 @@ frame_z d f h = across z_axis x_axis d f.z h.z x_nonzero (λ e. along_x d ∙ le
 -- ---- two shadows
 
 module _ (f : Frame) (d : V3) (p q : List V3) (s t : Shadow) (frame : IsFrame d f) (ps : IsShadow f p s) (qt : IsShadow f q t) where
-  on_x : IsBetween d.x s.bounds.x t.bounds.x ↔ IsWall p q d x_axis
+  on_x : HasGap d.x s.bounds.x t.bounds.x ↔ IsWallEitherWay p q d x_axis
   on_x = between_is_wall x_axis d p q d.x s.bounds.x t.bounds.x x_nonzero (along_x d) ps.bounds.x qt.bounds.x
 
-  on_y : IsBetween d.y s.bounds.y t.bounds.y ↔ IsWall p q d y_axis
+  on_y : HasGap d.y s.bounds.y t.bounds.y ↔ IsWallEitherWay p q d y_axis
   on_y = between_is_wall y_axis d p q d.y s.bounds.y t.bounds.y y_nonzero (along_y d) ps.bounds.y qt.bounds.y
 
-  on_z : IsBetween d.z s.bounds.z t.bounds.z ↔ IsWall p q d z_axis
+  on_z : HasGap d.z s.bounds.z t.bounds.z ↔ IsWallEitherWay p q d z_axis
   on_z = between_is_wall z_axis d p q d.z s.bounds.z t.bounds.z z_nonzero (along_z d) ps.bounds.z qt.bounds.z
 
-  over_x : IsBetween (pos 0) s.across_x t.across_x ↔ IsWall p q d f.x
+  over_x : HasGap (pos 0) s.across_x t.across_x ↔ IsWallEitherWay p q d f.x
   over_x = let is = frame_x d f frame in between_is_wall f.x d p q (pos 0) s.across_x t.across_x is.0 is.1 ps.across_x qt.across_x
 
-  over_y : IsBetween (pos 0) s.across_y t.across_y ↔ IsWall p q d f.y
+  over_y : HasGap (pos 0) s.across_y t.across_y ↔ IsWallEitherWay p q d f.y
   over_y = let is = frame_y d f frame in between_is_wall f.y d p q (pos 0) s.across_y t.across_y is.0 is.1 ps.across_y qt.across_y
 
-  over_z : IsBetween (pos 0) s.across_z t.across_z ↔ IsWall p q d f.z
+  over_z : HasGap (pos 0) s.across_z t.across_z ↔ IsWallEitherWay p q d f.z
   over_z = let is = frame_z d f frame in between_is_wall f.z d p q (pos 0) s.across_z t.across_z is.0 is.1 ps.across_z qt.across_z
 
-  apart_seen : IsApart d s t → IsSeenApart f p q d
+  apart_seen : IsApartAlong d s t → IsSeenApart f p q d
   apart_seen (inl (inl h)) = (0, x_axis, omega arith, refl, on_x.0 h)
   apart_seen (inl (inr (inl h))) = (1, y_axis, omega arith, refl, on_y.0 h)
   apart_seen (inl (inr (inr h))) = (2, z_axis, omega arith, refl, on_z.0 h)
@@ -165,10 +165,10 @@ module _ (f : Frame) (d : V3) (p q : List V3) (s t : Shadow) (frame : IsFrame d 
   apart_seen (inr (inr (inl h))) = (4, f.y, omega arith, refl, over_y.0 h)
   apart_seen (inr (inr (inr h))) = (5, f.z, omega arith, refl, over_z.0 h)
 
-  seen_apart : IsSeenApart f p q d → IsApart d s t
-  seen_apart (k, n, lt, e, w) = at k lt (subst (IsWall p q d) (sym e) w)
+  seen_apart : IsSeenApart f p q d → IsApartAlong d s t
+  seen_apart (k, n, lt, e, w) = at k lt (subst (IsWallEitherWay p q d) (sym e) w)
     where
-      at : (k : ℕ) → k < 6 → IsWall p q d (get_or (normals f) k n) → IsApart d s t
+      at : (k : ℕ) → k < 6 → IsWallEitherWay p q d (get_or (normals f) k n) → IsApartAlong d s t
       at zero lt w = inl (inl (on_x.1 w))
       at (suc zero) lt w = inl (inr (inl (on_y.1 w)))
       at (suc (suc zero)) lt w = inl (inr (inr (on_z.1 w)))
@@ -178,7 +178,7 @@ module _ (f : Frame) (d : V3) (p q : List V3) (s t : Shadow) (frame : IsFrame d 
       at (suc (suc (suc (suc (suc (suc k)))))) lt w = absurd (omega arith)
 
   -- the shadows show that the pieces are apart just where a wall with one of the normals is between them
-  pub apart_is : IsApart d s t ↔ IsSeenApart f p q d
+  pub apart_is : IsApartAlong d s t ↔ IsSeenApart f p q d
   apart_is = (apart_seen, seen_apart)
 
 -- what is seen apart never meets

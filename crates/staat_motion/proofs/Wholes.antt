@@ -11,27 +11,27 @@ use Rattle.staat_vec.specs.Vectors.{dot}
 use Rattle.staat_model.proofs.Members.{all_back, all_front}
 use Rattle.staat_motion.specs.declared.shadow.Shadow.{Shadow}
 use Rattle.staat_motion.specs.declared.spans.Span.{Span}
-use Rattle.staat_motion.specs.Shadows.{IsJoinedShadow, IsShadow, IsWhole}
-use Rattle.staat_motion.specs.Spans.{IsPlaceOf, IsSpan}
+use Rattle.staat_motion.specs.Shadows.{IsJoinedShadow, IsShadow, IsWholeOf}
+use Rattle.staat_motion.specs.Spans.{IsReachOf, IsSpan}
 use Rattle.staat_motion.proofs.Zips.{zip_unpush}
 
-place_front : (n : V3) (ps qs : List V3) (z : ℤ) → IsPlaceOf n ps z → IsPlaceOf n (ps ++ qs) z
+place_front : (n : V3) (ps qs : List V3) (z : ℤ) → IsReachOf n ps z → IsReachOf n (ps ++ qs) z
 place_front n ps qs z at = record {
   point = at.point;
   member = All-contains (Contains (ps ++ qs)) ps at.point (all_front (Contains (ps ++ qs)) ps qs (All-contains_itself (ps ++ qs))) at.member;
   is = at.is;
 }
 
-place_back : (n : V3) (ps qs : List V3) (z : ℤ) → IsPlaceOf n qs z → IsPlaceOf n (ps ++ qs) z
+place_back : (n : V3) (ps qs : List V3) (z : ℤ) → IsReachOf n qs z → IsReachOf n (ps ++ qs) z
 place_back n ps qs z at = record {
   point = at.point;
   member = All-contains (Contains (ps ++ qs)) qs at.point (all_back (Contains (ps ++ qs)) ps qs (All-contains_itself (ps ++ qs))) at.member;
   is = at.is;
 }
 
-either_place : (n : V3) (ps qs : List V3) (a b z : ℤ) → (z ≡ a) ⊎ (z ≡ b) → IsPlaceOf n ps a → IsPlaceOf n qs b → IsPlaceOf n (ps ++ qs) z
-either_place n ps qs a b z (inl e) h k = subst (IsPlaceOf n (ps ++ qs)) (sym e) (place_front n ps qs a h)
-either_place n ps qs a b z (inr e) h k = subst (IsPlaceOf n (ps ++ qs)) (sym e) (place_back n ps qs b k)
+either_place : (n : V3) (ps qs : List V3) (a b z : ℤ) → (z ≡ a) ⊎ (z ≡ b) → IsReachOf n ps a → IsReachOf n qs b → IsReachOf n (ps ++ qs) z
+either_place n ps qs a b z (inl e) h k = subst (IsReachOf n (ps ++ qs)) (sym e) (place_front n ps qs a h)
+either_place n ps qs a b z (inr e) h k = subst (IsReachOf n (ps ++ qs)) (sym e) (place_back n ps qs b k)
 
 le_trans_z : (a b c : ℤ) → a ≤ℤ b → b ≤ℤ c → a ≤ℤ c
 le_trans_z a b c h g = omega (arith, ints, h, g)
@@ -50,17 +50,17 @@ span_joined s t r low high low_s low_t high_s high_t n ps qs h k = record {
 }
 
 -- the shadow of the first piece is the whole of it
-pub first_whole : (ss : List Shadow) (d : Shadow) → 1 ≤ length ss → IsWhole (take 1 ss) (get_or ss 0 d)
+pub first_whole : (ss : List Shadow) (d : Shadow) → 1 ≤ length ss → IsWholeOf (take 1 ss) (get_or ss 0 d)
 first_whole [] d lt = absurd (omega arith)
 first_whole (s ∷ ss) d lt = one
   where
-    one : IsWhole (s ∷ []) s
+    one : IsWholeOf (s ∷ []) s
     one f [] z = absurd z
     one f (p ∷ []) z = subst (λ (l : List V3). IsShadow f l s) (sym (flat_map-cons (λ q. q) p [] ∙ append-nil p)) z.0
     one f (p ∷ q ∷ ps) z = absurd z.1
 
 -- one more shadow
-pub whole_more : (ss : List Shadow) (k : ℕ) (d w r : Shadow) → k < length ss → IsWhole (take k ss) w → IsJoinedShadow w (get_or ss k d) r → IsWhole (take (k + 1) ss) r
+pub whole_more : (ss : List Shadow) (k : ℕ) (d w r : Shadow) → k < length ss → IsWholeOf (take k ss) w → IsJoinedShadow w (get_or ss k d) r → IsWholeOf (take (k + 1) ss) r
 whole_more ss k d w r lt whole joined f pieces z =
     let (front, p, is, zs, h) = zip_unpush (IsShadow f) pieces (take k ss) (get_or ss k d) (subst (AllZip (IsShadow f) pieces) (take_more ss k d lt) z) in
     subst (λ (ps : List (List V3)). IsShadow f (flat_map (λ q. q) ps) r) (sym is)

@@ -32,21 +32,21 @@ pub record AreBodies (parts : List Part) (bounds : List (List Bounds)) : Type 0 
   pub boxes : ArePartBounds parts bounds
 
 -- the shadows are those of these parts
-pub record WasMadeFrom (parts : List Part) (along : Motion) : Type 0 where
+pub record IsMotionOf (parts : List Part) (along : Motion) : Type 0 where
   pub parts_are : All IsPart parts
   pub shadows : ArePartShadows along.frame parts along.shadows
   pub wholes : AreWholes along.frame parts along.wholes
 
 -- the pieces of part a, where there is one
-abbrev pub pieces_at : List Part → ℕ → Option (List (List V3))
-pieces_at parts a = option_map (λ part. part.pieces) (slice_get parts a)
+abbrev pub pieces_of_body : List Part → ℕ → Option (List (List V3))
+pieces_of_body parts a = option_map (λ part. part.pieces) (slice_get parts a)
 
 -- all points of part a, and none where there is no such part
-abbrev pub points_at : List Part → ℕ → List V3
-points_at parts a = unwrap_or (option_map part_points (slice_get parts a)) []
+abbrev pub points_of_body : List Part → ℕ → List V3
+points_of_body parts a = unwrap_or (option_map part_points (slice_get parts a)) []
 
 -- the two pieces of the arc exist
-pub record HasPieces (parts : List Part) (arc : Arc) : Type 0 where
+pub record HasBothPieces (parts : List Part) (arc : Arc) : Type 0 where
   pub a_in : arc.a < length parts
   pub i_in : arc.i < piece_count parts arc.a
   pub b_in : arc.b < length parts

@@ -50,8 +50,8 @@ IsJoinedShadow s t result =
     (frame : Frame) (ps qs : List V3) → IsShadow frame ps s → IsShadow frame qs t → IsShadow frame (ps ++ qs) result
 
 -- of the shadows of any pieces the whole is that of all their points
-abbrev pub IsWhole : List Shadow → Shadow → Type 0
-IsWhole shadows whole =
+abbrev pub IsWholeOf : List Shadow → Shadow → Type 0
+IsWholeOf shadows whole =
     (frame : Frame) (pieces : List (List V3)) → AllZip (IsShadow frame) pieces shadows
     → IsShadow frame (flat_map (λ p. p) pieces) whole
 
@@ -72,19 +72,19 @@ pub record IsBody (frame : Frame) (pieces : List (List V3)) (shadows : List Shad
 
 -- of two spans along a normal, the second lies ahead and the direction does not lead ahead along the normal, or the
 -- other way round
-abbrev pub IsBetween : ℤ → Span → Span → Type 0
-IsBetween along s t = ((along ≤ℤ pos 0) × (s.high ≤ℤ t.low)) ⊎ ((pos 0 ≤ℤ along) × (t.high ≤ℤ s.low))
+abbrev pub HasGap : ℤ → Span → Span → Type 0
+HasGap along s t = ((along ≤ℤ pos 0) × (s.high ≤ℤ t.low)) ⊎ ((pos 0 ≤ℤ along) × (t.high ≤ℤ s.low))
 
 abbrev pub IsApartOnAxes : V3 → Bounds → Bounds → Type 0
-IsApartOnAxes d s t = IsBetween d.x s.x t.x ⊎ (IsBetween d.y s.y t.y ⊎ IsBetween d.z s.z t.z)
+IsApartOnAxes d s t = HasGap d.x s.x t.x ⊎ (HasGap d.y s.y t.y ⊎ HasGap d.z s.z t.z)
 
 abbrev pub IsApartAcross : Shadow → Shadow → Type 0
 IsApartAcross s t =
-    IsBetween (pos 0) s.across_x t.across_x
-    ⊎ (IsBetween (pos 0) s.across_y t.across_y ⊎ IsBetween (pos 0) s.across_z t.across_z)
+    HasGap (pos 0) s.across_x t.across_x
+    ⊎ (HasGap (pos 0) s.across_y t.across_y ⊎ HasGap (pos 0) s.across_z t.across_z)
 
-abbrev pub IsApart : V3 → Shadow → Shadow → Type 0
-IsApart d s t = IsApartOnAxes d s.bounds t.bounds ⊎ IsApartAcross s t
+abbrev pub IsApartAlong : V3 → Shadow → Shadow → Type 0
+IsApartAlong d s t = IsApartOnAxes d s.bounds t.bounds ⊎ IsApartAcross s t
 
 -- ---- what that shows
 
@@ -93,9 +93,9 @@ abbrev pub normals : Frame → List V3
 normals frame = x_axis ∷ y_axis ∷ z_axis ∷ frame.x ∷ frame.y ∷ frame.z ∷ []
 
 -- a wall with this normal, or with its negative, keeps q out of the way of p along d
-abbrev pub IsWall : List V3 → List V3 → V3 → V3 → Type 0
-IsWall p q d n = IsShown p q d n ⊎ IsShown p q d (negative n)
+abbrev pub IsWallEitherWay : List V3 → List V3 → V3 → V3 → Type 0
+IsWallEitherWay p q d n = IsShown p q d n ⊎ IsShown p q d (negative n)
 
 -- some wall with one of the normals does
 abbrev pub IsSeenApart : Frame → List V3 → List V3 → V3 → Type 0
-IsSeenApart frame p q d = Any (IsWall p q d) (normals frame)
+IsSeenApart frame p q d = Any (IsWallEitherWay p q d) (normals frame)

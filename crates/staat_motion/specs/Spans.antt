@@ -5,15 +5,15 @@ use Rattle.staat_vec.specs.Vectors.{dot}
 use Rattle.staat_motion.specs.declared.spans.Span.{Span}
 
 -- one of the points lies so far along n
-pub record IsPlaceOf (n : V3) (points : List V3) (place : ℤ) : Type 0 where
+pub record IsReachOf (n : V3) (points : List V3) (place : ℤ) : Type 0 where
   pub point : V3
   pub member : Contains points point
   pub is : place ≡ dot n point
 
 -- the least and the greatest place of the points along n
 pub record IsSpan (n : V3) (points : List V3) (span : Span) : Type 0 where
-  pub low_in : IsPlaceOf n points span.low
-  pub high_in : IsPlaceOf n points span.high
+  pub low_in : IsReachOf n points span.low
+  pub high_in : IsReachOf n points span.high
   pub least : All (λ p. span.low ≤ℤ dot n p) points
   pub greatest : All (λ p. dot n p ≤ℤ span.high) points
 

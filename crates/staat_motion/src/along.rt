@@ -9,8 +9,8 @@ ghost use Rattle.staat_motion.specs.Motions.{
   AreBodies,
   HasShadows,
   IsMotion,
-  WasMadeFrom,
-  points_at,
+  IsMotionOf,
+  points_of_body,
   shadow_at,
   shadow_count,
 };
@@ -55,7 +55,7 @@ impl Along {
         requires size { IsWithin DIRECTION d }
         requires bodies { AreBodies parts.now bodies.now }
         ensures direction { IfOk result (λ along. along.d ≡ d) }
-        ensures made { IfOk result (WasMadeFrom parts.now) }
+        ensures made { IfOk result (IsMotionOf parts.now) }
     {
         let frame = frame_of(d);
         let shadows = part_shadows(alloc, &frame, parts, bodies.boxes())?;
@@ -107,9 +107,9 @@ impl Along {
     /// direction, or the negative of one of these. It takes no memory.
     pub fn apart(&self, arc: Arc) -> bool
         requires { HasShadows self.now arc }
-        ensures seen { (parts : List PartValue) → WasMadeFrom parts self.now →
+        ensures seen { (parts : List PartValue) → IsMotionOf parts self.now →
             IsTrue result ↔ HoldsAt parts arc (λ p q. IsSeenApart self.now.frame p q self.now.d) }
-        ensures never { (parts : List PartValue) → WasMadeFrom parts self.now → IsTrue result →
+        ensures never { (parts : List PartValue) → IsMotionOf parts self.now → IsTrue result →
             MeetsAlong parts self.now.d arc → ⊥ }
     {
         let d = self.direction();
@@ -121,9 +121,9 @@ impl Along {
     pub fn parts_apart(&self, a: u32, b: u32) -> bool
         requires a_in { a < length self.now.wholes }
         requires b_in { b < length self.now.wholes }
-        ensures seen { (parts : List PartValue) → WasMadeFrom parts self.now →
-            IsTrue result ↔ IsSeenApart self.now.frame (points_at parts a) (points_at parts b) self.now.d }
-        ensures never { (parts : List PartValue) → WasMadeFrom parts self.now → IsTrue result →
+        ensures seen { (parts : List PartValue) → IsMotionOf parts self.now →
+            IsTrue result ↔ IsSeenApart self.now.frame (points_of_body parts a) (points_of_body parts b) self.now.d }
+        ensures never { (parts : List PartValue) → IsMotionOf parts self.now → IsTrue result →
             Blocks parts self.now.d a b → ⊥ }
     {
         let d = self.direction();
@@ -135,10 +135,10 @@ impl Along {
         requires part { a < length self.now.shadows }
         requires piece { i < shadow_count self.now.shadows a }
         requires b_in { b < length self.now.wholes }
-        ensures seen { (parts : List PartValue) (p : List Point) → WasMadeFrom parts self.now →
+        ensures seen { (parts : List PartValue) (p : List Point) → IsMotionOf parts self.now →
             piece_at parts a i ≡ Some p →
-            IsTrue result ↔ IsSeenApart self.now.frame p (points_at parts b) self.now.d }
-        ensures never { (parts : List PartValue) (j : ℕ) → WasMadeFrom parts self.now → IsTrue result →
+            IsTrue result ↔ IsSeenApart self.now.frame p (points_of_body parts b) self.now.d }
+        ensures never { (parts : List PartValue) (j : ℕ) → IsMotionOf parts self.now → IsTrue result →
             MeetsAlong parts self.now.d (record { a = a; i = i; b = b; j = j }) → ⊥ }
     {
         let d = self.direction();

@@ -5,7 +5,7 @@ ghost use Rattle.staat_model.specs.declared.assembly.Part.{Part as PartValue};
 ghost use Rattle.staat_model.specs.Assemblies.{piece_at, piece_count};
 ghost use Rattle.staat_model.specs.Meeting.{Meets};
 ghost use Rattle.staat_model.specs.Removal.{Blocks, MeetsAlong};
-ghost use Rattle.staat_motion.specs.Motions.{HasFacets, HasPieces, HasShadows, WasMadeFrom, pieces_at, turned};
+ghost use Rattle.staat_motion.specs.Motions.{HasFacets, HasBothPieces, HasShadows, IsMotionOf, pieces_of_body, turned};
 ghost use Rattle.staat_motion.specs.Shadows.{IsBody, IsShadow};
 
 use crate::along::Along;
@@ -26,7 +26,7 @@ struct Body<'a> {
 // the pieces of the part a
 fn pieces_of(parts: &[Part], a: u32) -> &[Piece]
     requires { a < length parts.now }
-    ensures { pieces_at parts.now a ≡ Some result.now }
+    ensures { pieces_of_body parts.now a ≡ Some result.now }
 {
     parts[a as usize].pieces.as_slice()
 }
@@ -87,9 +87,9 @@ impl Along {
 
     // the pieces of the part a, with what is kept of them
     fn body<'a>(&'a self, parts: &'a [Part], a: u32) -> Body<'a>
-        requires made { WasMadeFrom parts.now self.now }
+        requires made { IsMotionOf parts.now self.now }
         requires a_in { a < length parts.now }
-        ensures pieces { pieces_at parts.now a ≡ Some result.pieces.now }
+        ensures pieces { pieces_of_body parts.now a ≡ Some result.pieces.now }
         ensures kept { IsBody self.now.frame result.pieces.now result.shadows.now result.whole.now }
     {
         Body {
@@ -175,8 +175,8 @@ impl Along {
         parts: &[Part],
         arc: Arc,
     ) -> Result<bool, OutOfMemory>
-        requires made { WasMadeFrom parts.now self.now }
-        requires pieces { HasPieces parts.now arc }
+        requires made { IsMotionOf parts.now self.now }
+        requires pieces { HasBothPieces parts.now arc }
         ensures { IfOk result (λ answer. IsTrue answer ↔ MeetsAlong parts.now self.now.d arc) }
     {
         let p = piece_of(parts, arc.a, arc.i);
@@ -199,7 +199,7 @@ impl Along {
         a: u32,
         b: u32,
     ) -> Result<bool, OutOfMemory>
-        requires made { WasMadeFrom parts.now self.now }
+        requires made { IsMotionOf parts.now self.now }
         requires a_in { a < length parts.now }
         requires b_in { b < length parts.now }
         ensures { IfOk result (λ answer. IsTrue answer ↔ Blocks parts.now self.now.d a b) }
@@ -219,7 +219,7 @@ impl Along {
     pub fn meets_with(&self, arc: Arc, facets: &[V3]) -> bool
         requires shadows { HasShadows self.now arc }
         requires size { All (IsWithin NORMAL) facets.now }
-        ensures { (parts : List PartValue) → WasMadeFrom parts self.now → HasFacets parts arc facets.now →
+        ensures { (parts : List PartValue) → IsMotionOf parts self.now → HasFacets parts arc facets.now →
             IsTrue result ↔ MeetsAlong parts self.now.d arc }
     {
         let along = self.direction();
@@ -234,7 +234,7 @@ impl Along {
     pub fn meets_with_turned(&self, arc: Arc, facets: &[V3]) -> bool
         requires shadows { HasShadows self.now arc }
         requires size { All (IsWithin NORMAL) facets.now }
-        ensures { (parts : List PartValue) → WasMadeFrom parts self.now → HasFacets parts (turned arc) facets.now →
+        ensures { (parts : List PartValue) → IsMotionOf parts self.now → HasFacets parts (turned arc) facets.now →
             IsTrue result ↔ MeetsAlong parts self.now.d arc }
     {
         let back = neg(self.direction());

@@ -5,14 +5,14 @@ ghost use Rattle.staat_motion.specs.Shadows.{
   AreFrameSizes,
   ArePartBounds,
   ArePartShadows,
-  IsApart,
+  IsApartAlong,
   IsApartAcross,
   IsApartOnAxes,
-  IsBetween,
+  HasGap,
   IsBounds,
   IsJoinedShadow,
   IsShadow,
-  IsWhole,
+  IsWholeOf,
 };
 
 use crate::bounds::{Bounds, Boxes, joined_bounds, points_of};
@@ -108,7 +108,7 @@ fn joined_shadow(a: &Shadow, b: &Shadow) -> Shadow
 // the shadow of all points of some pieces
 fn whole_of(shadows: &[Shadow]) -> Shadow
     requires { 1 ≤ length shadows.now }
-    ensures { IsWhole shadows.now result }
+    ensures { IsWholeOf shadows.now result }
 {
     let mut whole = shadows[0];
     for k in 1..shadows.len() {
@@ -120,7 +120,7 @@ fn whole_of(shadows: &[Shadow]) -> Shadow
 /// The shadow of all points of each part. Each part has a piece.
 pub fn wholes_of(alloc: Global, shadows: &[Shadows]) -> Result<Vec<Shadow>, OutOfMemory>
     requires { All (λ pieces. 1 ≤ length pieces) shadows.now }
-    ensures { IfOk result (λ wholes. AllZip IsWhole shadows.now wholes.items) }
+    ensures { IfOk result (λ wholes. AllZip IsWholeOf shadows.now wholes.items) }
 {
     let mut wholes = Vec::new(alloc);
     for pieces in shadows {
@@ -138,25 +138,25 @@ fn lies_before(s: Span, t: Span) -> bool
 // Whether a plane whose normal leads so far along a direction keeps apart what reaches so far along that normal: the
 // second lies ahead of the first, and the direction does not lead ahead; or the other way round.
 fn is_between(along: i128, s: Span, t: Span) -> bool
-    ensures { IsTrue result ↔ IsBetween along s t }
+    ensures { IsTrue result ↔ HasGap along s t }
 {
     along <= 0 && lies_before(s, t) || along >= 0 && lies_before(t, s)
 }
 
 fn is_apart_on_x(d: V3, s: &Bounds, t: &Bounds) -> bool
-    ensures { IsTrue result ↔ IsBetween d.x s.now.x t.now.x }
+    ensures { IsTrue result ↔ HasGap d.x s.now.x t.now.x }
 {
     is_between(d.x, s.x, t.x)
 }
 
 fn is_apart_on_y(d: V3, s: &Bounds, t: &Bounds) -> bool
-    ensures { IsTrue result ↔ IsBetween d.y s.now.y t.now.y }
+    ensures { IsTrue result ↔ HasGap d.y s.now.y t.now.y }
 {
     is_between(d.y, s.y, t.y)
 }
 
 fn is_apart_on_z(d: V3, s: &Bounds, t: &Bounds) -> bool
-    ensures { IsTrue result ↔ IsBetween d.z s.now.z t.now.z }
+    ensures { IsTrue result ↔ HasGap d.z s.now.z t.now.z }
 {
     is_between(d.z, s.z, t.z)
 }
@@ -179,7 +179,7 @@ fn is_apart_across(s: &Shadow, t: &Shadow) -> bool
 
 /// Whether the shadows of two pieces show that the first does not meet the second along `d`.
 pub fn is_apart(d: V3, s: &Shadow, t: &Shadow) -> bool
-    ensures { IsTrue result ↔ IsApart d s.now t.now }
+    ensures { IsTrue result ↔ IsApartAlong d s.now t.now }
 {
     is_apart_on_axes(d, &s.bounds, &t.bounds) || is_apart_across(s, t)
 }

@@ -24,14 +24,14 @@ use Rattle.staat_fault.specs.declared.fault.Fault.TheVariants.{TextTooLong}
 use Rattle.staat_plan.specs.Certifying.{IsValidFor}
 use Rattle.staat_words.specs.declared.request.Product.{Product}
 use Rattle.staat_words.specs.declared.request.Product.TheVariants.{Boxes, Cubes}
-use Rattle.staat_words.specs.Requests.{IsProduct}
+use Rattle.staat_words.specs.Requests.{IsNamedProduct}
 use Rattle.staat_input.specs.Work.{Follows}
 use Rattle.staat_planning.specs.Drills.{IsDrilled, drill_line, drill_too_long, drilled, parts_of_product}
 use Rattle.staat_input.specs.Counting.{all_parts}
 use Rattle.staat_input.specs.Refusals.{text_fault}
 use Rattle.staat_planning.specs.Drills.{SaysDrilled}
 
-pub product_is_assembly : (product : Product) → IsProduct product → IsAssembly (parts_of_product product)
+pub product_is_assembly : (product : Product) → IsNamedProduct product → IsAssembly (parts_of_product product)
 product_is_assembly (Cubes n) is = row_is_assembly n is.0 is.1
 product_is_assembly (Boxes n) is = nest_is_assembly n is.0 is.1
 
@@ -40,7 +40,7 @@ valid_verdict : (parts : List Part) (f : Finding) (c : Certificate) (v : Verdict
 valid_verdict parts (planned plan marks) c v valid judged = inl (IsVerdict-unique parts c v ValidPlan judged valid)
 valid_verdict parts (stuck w) c v valid judged = inr (IsVerdict-unique parts c v ValidRefusal judged valid)
 
-pub says_drilled : (product : Product) (f : Finding) (c : Certificate) (v : Verdict) → IsProduct product → IsSound (parts_of_product product)
+pub says_drilled : (product : Product) (f : Finding) (c : Certificate) (v : Verdict) → IsNamedProduct product → IsSound (parts_of_product product)
     → ((assembly : IsAssembly (parts_of_product product)) → IsValidFor (parts_of_product product) f c)
     → IsOutcome false (parts_of_product product) (all_parts (parts_of_product product)) f
     → IsCertificateOf (parts_of_product product) 2 f c → IsVerdict (parts_of_product product) c v

@@ -7,7 +7,7 @@ ghost use Rattle.staat_model.specs.Texts.{IsWellFormed};
 ghost use Rattle.staat_cert.specs.Writing.{IsTextAnswer};
 ghost use Rattle.staat_plan.specs.Certifying.{CanBeCertified};
 ghost use Rattle.staat_text.specs.PlanTexts.{CanBeShown};
-ghost use Rattle.staat_words.specs.Requests.{IsProduct};
+ghost use Rattle.staat_words.specs.Requests.{IsNamedProduct};
 ghost use Rattle.staat_input.specs.Work.{Files, Follows};
 ghost use Rattle.staat_planning.specs.Drills.{IsDrilled, drill_line, parts_of_product, DrillWork};
 ghost use Rattle.staat_input.specs.Counting.{all_parts};
@@ -30,7 +30,7 @@ use std::alloc::Global;
 
 // The product.
 fn product(alloc: Global, product: Product) -> Result<Assembly, OutOfMemory>
-    requires { IsProduct product }
+    requires { IsNamedProduct product }
     ensures { IfOk result (λ a. a ≡ parts_of_product product) }
 {
     match product {
@@ -94,7 +94,7 @@ fn drilled(alloc: Global, name: Product, sound: &Sound, outcome: &Outcome) -> Re
 /// The answer to the command `drill`: a product that the program makes itself is planned, its certificate is written,
 /// read again and judged, and a line says what came of it. No file is read.
 pub fn drill(alloc: Global, name: Product) -> Result<Answer, Fault>
-    requires { IsProduct name }
+    requires { IsNamedProduct name }
     ensures status { IfOk result (λ a. a.status < 2) }
     ensures found { (files : Files) → Follows (DrillWork name files) result }
     ensures cause { (shelf : ShelfSide) → IfErr result (HasCause shelf) }

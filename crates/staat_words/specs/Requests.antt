@@ -231,9 +231,9 @@ abbrev pub IsCellsRequest : CellsRequest → Type 0
 IsCellsRequest request =
     IsAsked request.asked × (LEAST_PLANES ≤ request.planes) × (request.planes ≤ MOST_CELL_PLANES)
 
-abbrev pub IsProduct : Product → Type 0
-IsProduct (Cubes n) = (1 ≤ n) × (n ≤ MOST_PARTS)
-IsProduct (Boxes n) = (1 ≤ n) × (n ≤ MOST_BOXES)
+abbrev pub IsNamedProduct : Product → Type 0
+IsNamedProduct (Cubes n) = (1 ≤ n) × (n ≤ MOST_PARTS)
+IsNamedProduct (Boxes n) = (1 ≤ n) × (n ≤ MOST_BOXES)
 
 abbrev pub IsExplodeRequest : ExplodeRequest → Type 0
 IsExplodeRequest request =
@@ -255,7 +255,7 @@ HasBounds (Graph request) = IsGraphRequest request
 HasBounds (Plan request) = IsPlanRequest request
 HasBounds (Check request) = IsAsked request.asked
 HasBounds (Cells request) = IsCellsRequest request
-HasBounds (Drill product) = IsProduct product
+HasBounds (Drill product) = IsNamedProduct product
 HasBounds (Explode request) = IsExplodeRequest request
 HasBounds (Linear request) = IsLinearRequest request
 HasBounds (Local request) = IsLocalRequest request

@@ -4,7 +4,7 @@ ghost use Rattle.clap.specs.Words.{all_of, first_of, found_of, rows_of};
 ghost use Rattle.staat_vec.specs.Vectors.{IsWithin, origin};
 ghost use Rattle.staat_limits.specs.Versions.{IsVersion};
 ghost use Rattle.staat_limits.specs.declared.limits.TheConstants.{LEAST_PLANES};
-ghost use Rattle.staat_words.specs.Requests.{ReadsWords, IsInput, IsProduct, certificate_in, count_within};
+ghost use Rattle.staat_words.specs.Requests.{ReadsWords, IsInput, IsNamedProduct, certificate_in, count_within};
 ghost use Rattle.staat_words.specs.Requests.{digits_asked, input_in, is_given, limit_of, product_of};
 ghost use Rattle.staat_words.specs.Requests.{planes_in, planes_within, vector_in, version_from, version_within};
 
@@ -146,7 +146,7 @@ fn count_within(text: &str, most: u32) -> Option<u32>
 /// The product of this kind and size.
 pub fn product_of(kind: &str, number: &str) -> Option<Product>
     ensures exact { result ≡ product_of kind.now number.now }
-    ensures bounds { IfSome result IsProduct }
+    ensures bounds { IfSome result IsNamedProduct }
 {
     if kind == "row" {
         let n = count_within(number, MOST_PARTS)?;

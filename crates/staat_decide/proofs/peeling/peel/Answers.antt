@@ -1,5 +1,5 @@
 use Rattle.std.proofs.Common.{◌≡◌, All, Bool, List, length, subst, sym}
-use Rattle.staat_decide.specs.Arcs.{AreRows}
+use Rattle.staat_decide.specs.Arcs.{AreBlockingRows}
 use Rattle.staat_decide.proofs.Held.{none_weaker}
 use Rattle.staat_decide.proofs.Rows.{row_count, row_lengths}
 use Rattle.staat_decide.proofs.peeling.peel.Goals as goal
@@ -18,5 +18,5 @@ pub returns-clause-none : goal.returns-clause-none
 returns-clause-none g c =
     let parts = c.args.parts.now in
     let d = c.args.along.now.d in
-    let rows = subst (λ (rows : List (List Bool)). AreRows parts d c.args.w.now rows) (sym c.as_slice.ensures.value) c.in_ok-rows.ensures in
+    let rows = subst (λ (rows : List (List Bool)). AreBlockingRows parts d c.args.w.now rows) (sym c.as_slice.ensures.value) c.in_ok-rows.ensures in
     none_weaker c.in_ok-answer.answer (λ held. held parts d rows) c.in_ok-answer.ensures.none

@@ -1,14 +1,14 @@
 use Rattle.std.proofs.Common.{◌≡◌, ◌∙◌, ◌<◌, ℕ, Bool, List, arith, ap, false, get_or, length, map, subst, sym, true}
 use Rattle.staat_decide.specs.Labels.{AreClasses}
 use Rattle.staat_decide.specs.Peelings.{IsPeeling}
-use Rattle.staat_decide.specs.Reaching.{IsMarked, label_of}
+use Rattle.staat_decide.specs.Reaching.{IsMarkedPlace, label_of}
 use Rattle.staat_decide.proofs.Held.{none_if, split_is}
 use Rattle.staat_decide.proofs.peeling.split.Goals as goal
 
 pub returns-in_default-clause-none : goal.returns-in_default-clause-none
 returns-in_default-clause-none c j j_lt =
     let r = c.in_ok-marks.ensures.reached in
-    let all = subst (λ (ms : List Bool). (k : ℕ) → k < length ms → IsMarked ms k) c.as_slice.ensures.value (none_if c.first_unmarked.result c.first_unmarked.ensures.none c.in_default.not-Some) in
+    let all = subst (λ (ms : List Bool). (k : ℕ) → k < length ms → IsMarkedPlace ms k) c.as_slice.ensures.value (none_if c.first_unmarked.result c.first_unmarked.ensures.none c.in_default.not-Some) in
     let lt : j < length c.in_ok-marks.marks.items = omega (arith, r.count, j_lt) in
     r.each j lt (all j lt)
 

@@ -1,7 +1,7 @@
 use Rattle.std.proofs.Common.{◌≡◌, List, arith, subst, take}
 use Rattle.std.proofs.lemmas.List.{take_all}
 use Rattle.staat_motion.specs.declared.shadow.Shadow.{Shadow}
-use Rattle.staat_motion.specs.Shadows.{IsWhole}
+use Rattle.staat_motion.specs.Shadows.{IsWholeOf}
 use Rattle.staat_motion.proofs.Wholes.{first_whole, whole_more}
 use Rattle.staat_motion.proofs.shadow.whole_of.Goals as goal
 
@@ -14,4 +14,4 @@ loop-k-preserved c = whole_more c.args.shadows.now c.loop-k.k _ c.loop-k.whole c
 pub returns : goal.returns
 returns c =
     let all : take c.loop-k.k c.args.shadows.now ≡ c.args.shadows.now = take_all c.loop-k.k c.args.shadows.now (omega arith) in
-    subst (λ (ss : List Shadow). IsWhole ss c.loop-k.whole) all c.loop-k.invariant
+    subst (λ (ss : List Shadow). IsWholeOf ss c.loop-k.whole) all c.loop-k.invariant

@@ -1,12 +1,12 @@
 use Rattle.std.proofs.Common.{subst, ◌<◌}
-use Rattle.staat_core.specs.Listed.{IsTablePair, listed}
+use Rattle.staat_core.specs.Listed.{IsTablePair, pairs_in_use}
 use Rattle.staat_core.proofs.Listing.{all_put, apart_of}
 use Rattle.staat_core.proofs.listed.PairList.put_from.Goals as goal
 
 pub loop-j-preserved : goal.loop-j-preserved
 loop-j-preserved c = record {
   room = c.put.ensures.room;
-  pairs = all_put (IsTablePair c.args.table.now) (listed c.loop-j.self) (listed c.put.new.self) (record { a = c.args.a; i = c.args.i; b = c.args.b; j = c.loop-j.j }) c.loop-j.invariant.pairs
+  pairs = all_put (IsTablePair c.args.table.now) (pairs_in_use c.loop-j.self) (pairs_in_use c.put.new.self) (record { a = c.args.a; i = c.args.i; b = c.args.b; j = c.loop-j.j }) c.loop-j.invariant.pairs
       (record {
         across = record {
           a_in = c.requires.a_in;

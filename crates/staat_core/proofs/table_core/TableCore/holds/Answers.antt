@@ -1,30 +1,30 @@
 use Rattle.std.proofs.Common.{refl, sym}
 use Rattle.staat_pairs.specs.Tables.{WasMadeFrom}
-use Rattle.staat_core.specs.Listed.{listed}
+use Rattle.staat_core.specs.Listed.{pairs_in_use}
 use Rattle.staat_core.proofs.TableHolding.{all_hold, core_of}
 use Rattle.staat_core.proofs.table_core.TableCore.holds.Goals as goal
 
 pub holds-requires-clause-core : goal.holds-requires-clause-core
-holds-requires-clause-core c = core_of (listed c.args.self.now.list) c.pairs.result.now (λ parts. WasMadeFrom parts c.args.table.now) c.args.self.now.core (sym c.pairs.ensures) c.requires.core.core
+holds-requires-clause-core c = core_of (pairs_in_use c.args.self.now.list) c.pairs.result.now (λ parts. WasMadeFrom parts c.args.table.now) c.args.self.now.core (sym c.pairs.ensures) c.requires.core.core
 
 pub returns-in-Held-clause-core : goal.returns-in-Held-clause-core
 returns-in-Held-clause-core c = record {
   room = c.requires.core.room;
   pairs = c.requires.core.pairs;
-  core = core_of c.pairs.result.now (listed c.args.self.now.list) (λ parts. WasMadeFrom parts c.args.table.now) c.holds.new.self c.pairs.ensures c.holds.ensures.core;
+  core = core_of c.pairs.result.now (pairs_in_use c.args.self.now.list) (λ parts. WasMadeFrom parts c.args.table.now) c.holds.new.self c.pairs.ensures c.holds.ensures.core;
 }
 
 pub returns-in-Open-clause-core : goal.returns-in-Open-clause-core
 returns-in-Open-clause-core c = record {
   room = c.requires.core.room;
   pairs = c.requires.core.pairs;
-  core = core_of c.pairs.result.now (listed c.args.self.now.list) (λ parts. WasMadeFrom parts c.args.table.now) c.holds.new.self c.pairs.ensures c.holds.ensures.core;
+  core = core_of c.pairs.result.now (pairs_in_use c.args.self.now.list) (λ parts. WasMadeFrom parts c.args.table.now) c.holds.new.self c.pairs.ensures c.holds.ensures.core;
 }
 
 pub returns-in-Held-clause-held : goal.returns-in-Held-clause-held
 returns-in-Held-clause-held c told parts d made some =
-    let is = core_of c.pairs.result.now (listed c.args.self.now.list) (λ ps. WasMadeFrom ps c.args.table.now) c.holds.new.self c.pairs.ensures c.holds.ensures.core in
-    all_hold parts (listed c.args.self.now.list) (λ ps. WasMadeFrom ps c.args.table.now) c.holds.new.self c.args.moving c.args.w d is (c.in-Held.ensures.held refl parts d made some)
+    let is = core_of c.pairs.result.now (pairs_in_use c.args.self.now.list) (λ ps. WasMadeFrom ps c.args.table.now) c.holds.new.self c.pairs.ensures c.holds.ensures.core in
+    all_hold parts (pairs_in_use c.args.self.now.list) (λ ps. WasMadeFrom ps c.args.table.now) c.holds.new.self c.args.moving c.args.w d is (c.in-Held.ensures.held refl parts d made some)
 
 pub returns-then-is_bonded-clause-held : goal.returns-then-is_bonded-clause-held
 returns-then-is_bonded-clause-held c told parts d made some = c.is_bonded.ensures c.if-is_bonded.true parts c.args.moving d made some

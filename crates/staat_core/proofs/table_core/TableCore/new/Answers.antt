@@ -1,7 +1,7 @@
 use Rattle.staat_pairs.specs.Tables.{WasMadeFrom}
-use Rattle.staat_core.specs.Listed.{listed}
+use Rattle.staat_core.specs.Listed.{pairs_in_use}
 use Rattle.staat_core.proofs.Growing.{core_empty}
 use Rattle.staat_core.proofs.table_core.TableCore.new.Goals as goal
 
 pub returns-clause-core : goal.returns-clause-core
-returns-clause-core c = record { room = c.requires.room; pairs = c.requires.pairs; core = core_empty (listed c.args.list) (λ parts. WasMadeFrom parts c.args.table.now) c.none.result c.none.ensures }
+returns-clause-core c = record { room = c.requires.room; pairs = c.requires.pairs; core = core_empty (pairs_in_use c.args.list) (λ parts. WasMadeFrom parts c.args.table.now) c.none.result c.none.ensures }
