@@ -19,7 +19,7 @@ use Rattle.staat_model.proofs.Places.{Contains-from_place, place_from_Contains, 
 use Rattle.staat_model.proofs.SetMembers.{has-single}
 use Rattle.staat_model.proofs.SetWords.{same_members}
 use Rattle.staat_holds.specs.declared.hold.Hold.{Hold}
-use Rattle.staat_holds.specs.Chains.{AllKeep, IsJoinedLast, IsName, KeepsHoldRules, joined_name, names_before, own_names, places_of}
+use Rattle.staat_holds.specs.Chains.{AllKeep, IsJoinedLast, IsName, IsOfOne, KeepsHoldRules, joined_name, names_before, own_names, places_of}
 use Rattle.staat_holds.specs.Holds.{AreNodeSets, IsOfNode}
 use Rattle.staat_holds.proofs.ChainSteps.{after_more}
 use Rattle.staat_holds.proofs.HoldLaw.{held_stick, union_has}
@@ -101,12 +101,6 @@ are_nodes parts names nodes of_names sorted two all =
     }
 
 -- ---- what they are together
-
--- the part has the name of one of the nodes
-pub record IsOfOne (names nodes : List ℕ) (p : ℕ) : Type 0 where
-  pub name : ℕ
-  pub named : slice_get names p ≡ Some name
-  pub listed : Contains nodes name
 
 in_union : (names nodes : List ℕ) (p : ℕ) → Has (union_of (sets_of names nodes)) p ↔ IsOfOne names nodes p
 in_union names nodes p = (
@@ -206,10 +200,10 @@ module _ (parts : List Part) (holds : List Hold) (each : All IsPart parts) (sort
 
       go : (hold : Hold) × (slice_get holds k ≡ Some hold) → IsStuck parts w
       go (hold, at) = union_stuck parts each (names_before parts holds k) hold (sorted_at k hold at) (keep k hold (omega (arith, some)) at) (nodes_before k (omega arith)) w
-          (λ p. (λ h. to p ((is p).0 h), λ o. (is p).1 (record { k = k; last = omega (arith, some); hold = hold; at = at; name = o.name; named = o.named; joined = o.listed })))
+          (λ p. (λ h. to p ((is p).0 h), λ o. (is p).1 (record { k = k; last = omega (arith, some); hold = hold; at = at; joined = o })))
         where
           to : (p : ℕ) → IsJoinedLast parts holds p → IsOfOne (names_before parts holds k) hold.nodes p
           to p j =
               let e : j.k ≡ k = let l = j.last in omega (arith, l) in
               let same : j.hold ≡ hold = same_some j.hold hold (sym (subst (λ m. slice_get holds m ≡ Some j.hold) e j.at) ∙ at) in
-              record { name = j.name; named = subst (λ m. slice_get (names_before parts holds m) p ≡ Some j.name) e j.named; listed = subst (λ (h : Hold). Contains h.nodes j.name) same j.joined }
+              subst (λ (h : Hold). IsOfOne (names_before parts holds k) h.nodes p) same (subst (λ m. IsOfOne (names_before parts holds m) j.hold.nodes p) e j.joined)

@@ -39,7 +39,7 @@ few_names parts holds k names now same is few =
 
 -- ---- a step of the loop
 
-place_is : {X : Type 0} (xs : List X) (k : ℕ) (x : X) → k < length xs → x ≡ get_or xs k x → slice_get xs k ≡ Some x
+pub place_is : {X : Type 0} (xs : List X) (k : ℕ) (x : X) → k < length xs → x ≡ get_or xs k x → slice_get xs k ≡ Some x
 place_is xs k x lt is = slice_get-get_or xs k x lt ∙ ap Some (sym is)
 
 pub broken_at : (parts : List Part) (holds : List Hold) (k : ℕ) (hold : Hold) (names now : List ℕ) (rule : HoldRule) → now ≡ names → names ≡ names_before parts holds k → k < length holds → hold ≡ get_or holds k hold

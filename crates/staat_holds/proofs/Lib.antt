@@ -11,6 +11,7 @@ pub mod HoldVertices
 pub mod FirstFailing
 pub mod NodeNames
 pub mod ChainSteps
+pub mod Joining
 pub mod ChainLaw
 pub mod Breaking
 pub mod GapSizes

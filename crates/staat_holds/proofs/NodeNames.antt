@@ -51,6 +51,18 @@ pub among_or : (nodes : List ℕ) (n : ℕ) → IsTested nodes n
 among_or [] n = inr (nothing n, refl)
 among_or (m ∷ nodes) n = among_more m nodes n (cases_eq n m) (among_or nodes n)
 
+pub among_yes : (nodes : List ℕ) (n : ℕ) → list_any (nat_eq n) nodes ≡ true → Contains nodes n
+among_yes nodes n h = ⊎_elim {C = Contains nodes n} (λ t. t.0) (λ t. absurd (wrong (sym h ∙ t.1))) (among_or nodes n)
+  where
+    wrong : true ≡ false → ⊥
+    wrong e = cc
+
+pub among_no : (nodes : List ℕ) (n : ℕ) → list_any (nat_eq n) nodes ≡ false → Contains nodes n → ⊥
+among_no nodes n h c = ⊎_elim {C = ⊥} (λ t. wrong (sym t.1 ∙ h)) (λ t. t.0 c) (among_or nodes n)
+  where
+    wrong : true ≡ false → ⊥
+    wrong e = cc
+
 pub joined_in : (nodes : List ℕ) (n : ℕ) → Contains nodes n → joined_name nodes n ≡ get_or nodes 0 n
 unfolding joined_name
 joined_in nodes n c = ⊎_elim {C = joined_name nodes n ≡ get_or nodes 0 n}

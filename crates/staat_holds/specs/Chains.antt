@@ -90,12 +90,20 @@ pub record IsFirstBroken (parts : List Part) (holds : List Hold) (broken : Broke
   pub before : FirstKeep parts holds broken.hold
   pub rule : IsFirstRule parts (names_before parts holds broken.hold) hold broken.rule
 
--- p is one of the parts that the last hold joins
-pub record IsJoinedLast (parts : List Part) (holds : List Hold) (p : ℕ) : Type 0 where
+-- p belongs to one of the nodes
+pub record IsOfOne (names nodes : List ℕ) (p : ℕ) : Type 0 where
+  pub name : ℕ
+  pub named : slice_get names p ≡ Some name
+  pub listed : Contains nodes name
+
+-- p is one of the parts that the last of the first n holds joins
+pub record IsJoinedAt (parts : List Part) (holds : List Hold) (n p : ℕ) : Type 0 where
   pub k : ℕ
-  pub last : k + 1 ≡ length holds
+  pub last : k + 1 ≡ n
   pub hold : Hold
   pub at : slice_get holds k ≡ Some hold
-  pub name : ℕ
-  pub named : slice_get (names_before parts holds k) p ≡ Some name
-  pub joined : Contains hold.nodes name
+  pub joined : IsOfOne (names_before parts holds k) hold.nodes p
+
+-- one of the parts that the last of all holds joins
+abbrev pub IsJoinedLast : List Part → List Hold → ℕ → Type 0
+IsJoinedLast parts holds p = IsJoinedAt parts holds (length holds) p

@@ -3,6 +3,7 @@
 #![tactic(auto)]
 
 mod hold;
+mod joined;
 mod judge;
 pub mod laws;
 mod links;
@@ -13,6 +14,7 @@ mod rules;
 mod ways;
 
 pub use hold::{BrokenHold, Hold, HoldRule, Holds};
+pub use joined::joined_parts;
 pub use judge::{first_gap, judge_hold};
 pub use links::is_core_pair;
 pub use names::{own_names, places_of};

@@ -24,8 +24,8 @@ pub fn is_name(names: &[u32], name: u32) -> bool
     (name as usize) < names.len() && names[name as usize] == name
 }
 
-// whether the name is that of one of the nodes
-fn is_among(nodes: &[u32], name: u32) -> bool
+/// Whether the name is that of one of the nodes.
+pub fn is_among(nodes: &[u32], name: u32) -> bool
     ensures { result ≡ list_any (nat_eq name) nodes.now }
 {
     nodes.iter().any(|node| name == *node)

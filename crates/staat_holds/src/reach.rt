@@ -8,7 +8,7 @@ use crate::ways::{Way, turned};
 use staat_vec::OutOfMemory;
 use std::alloc::Global;
 
-// marks the node to which the way leads if it begins at one that is visited; whether that is new
+// visits the node to which the way leads if it begins at one that is visited; whether that is new
 fn mark_along(marks: &mut [bool], way: Way) -> bool
     requires { IsWayWithin (length marks.old) way }
     ensures kept { KeepsVisited marks.old marks.new }
@@ -35,13 +35,13 @@ fn mark_next(marks: &mut [bool], ways: &[Way]) -> bool
 {
     let mut is_new = false;
     for way in ways {
-        let marks_one = mark_along(marks, *way);
-        is_new = is_new | marks_one;
+        let is_found = mark_along(marks, *way);
+        is_new = is_new | is_found;
     }
     is_new
 }
 
-// marks all nodes that ways lead to from those that are visited
+// visits all nodes that ways lead to from those that are visited
 fn mark_all(marks: &mut [bool], ways: &[Way])
     requires { All (IsWayWithin (length marks.old)) ways.now }
     ensures kept { KeepsVisited marks.old marks.new }

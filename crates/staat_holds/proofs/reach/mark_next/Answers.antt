@@ -6,7 +6,7 @@ loop-way-init c = marks_begin c.args.ways.now c.args.marks.now
 
 pub loop-way-preserved : goal.loop-way-preserved
 loop-way-preserved c =
-    let found = c.mark_along-marks_one.result in
-    let e = c.mark_along-marks_one.ensures in
-    marks_next c.args.ways.now c.loop-way.way-index _ c.args.marks.now c.loop-way.marks c.mark_along-marks_one.new.marks c.loop-way.is_new found _ c.loop-way-test.true (either_or c.loop-way.is_new found)
-    (record { long = c.mark_along-marks_one.auto.marks; kept = e.kept; only = e.only; same = e.open; shut = e.shut; more = e.more }) c.loop-way.invariant
+    let found = c.mark_along-is_found.result in
+    let e = c.mark_along-is_found.ensures in
+    marks_next c.args.ways.now c.loop-way.way-index _ c.args.marks.now c.loop-way.marks c.mark_along-is_found.new.marks c.loop-way.is_new found _ c.loop-way-test.true (either_or c.loop-way.is_new found)
+    (record { long = c.mark_along-is_found.auto.marks; kept = e.kept; only = e.only; same = e.open; shut = e.shut; more = e.more }) c.loop-way.invariant
