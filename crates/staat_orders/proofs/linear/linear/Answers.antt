@@ -3,7 +3,8 @@ use Rattle.staat_input.specs.Work.{Then}
 use Rattle.staat_input.specs.Assembling.{IsSoundOf}
 use Rattle.staat_input.specs.Counting.{AreCounted}
 use Rattle.staat_orders.specs.Ordering.{IsOrdered}
-use Rattle.staat_input.proofs.InputLemmas.{then_failed, then_given}
+use Rattle.staat_input.specs.Causes.{HasCause, over}
+use Rattle.staat_input.proofs.InputLemmas.{failed_with, then_failed, then_given}
 use Rattle.staat_input.proofs.CountingLemmas.{counted_few}
 use Rattle.staat_orders.proofs.linear.linear.Goals as goal
 
@@ -14,6 +15,11 @@ returns-in_err-order-clause-found g c = λ files told.
     c.in_ok-sound.sound c.from_residual-in_err-order.result (c.in_ok-sound.ensures.found files told)
     (then_failed (AreCounted c.in_ok-sound.sound request.planes) (λ planes. IsOrdered c.in_ok-sound.sound)
     c.in_err-order.field-0.0 c.from_residual-in_err-order.result c.in_err-order.ensures.refused c.from_residual-in_err-order.ensures.1)
+
+pub returns-in_err-order-clause-cause : goal.returns-in_err-order-clause-cause
+returns-in_err-order-clause-cause g c =
+    let shelf = over (g.H.Shelf.told c.args.shelf.now) (g.H.Shelf.told c.read_sound.new.shelf) in
+    failed_with (HasCause shelf) c.in_err-order.field-0.0 c.from_residual-in_err-order.result (c.in_err-order.ensures.cause shelf) c.from_residual-in_err-order.ensures.1
 
 pub returns-clause-found : goal.returns-clause-found
 returns-clause-found g c = λ files told.
