@@ -118,7 +118,8 @@ pub fn pieces_of(rt: &impl Abort, alloc: Global, shape: Shape) -> Vec<Piece> {
     pieces
 }
 
-fn parts_of(rt: &impl Abort, alloc: Global, shapes: &[Shape]) -> Vec<Part> {
+/// Parts of these shapes.
+pub fn parts_of(rt: &impl Abort, alloc: Global, shapes: &[Shape]) -> Vec<Part> {
     let mut parts = Vec::new(alloc);
     for shape in shapes {
         let part = part_of(alloc, pieces_of(rt, alloc, *shape));

@@ -16,6 +16,8 @@ mod fixtures;
 #[cfg(test)]
 mod graphs;
 #[cfg(test)]
+mod holds;
+#[cfg(test)]
 mod parts;
 #[cfg(test)]
 mod steps;
