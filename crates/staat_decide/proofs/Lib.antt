@@ -6,3 +6,8 @@ pub mod InTurn
 pub mod Sides
 pub mod Picked
 pub mod Deciding
+pub mod Holdings
+pub mod Gaps
+pub mod AllPairs
+pub mod EndSteps
+pub mod Ready

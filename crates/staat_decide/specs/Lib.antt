@@ -1,5 +1,7 @@
 pub mod Arcs
 pub mod Asking
+pub mod Decided
+pub mod Ends
 pub mod Labels
 pub mod Peelings
 pub mod Reaching

@@ -1,0 +1,21 @@
+use Rattle.std.proofs.Common.{◌<◌, All, length, subst, sym}
+use Rattle.std.specs.List.Sorted.{IsStrictlySortedBy}
+use Rattle.std.specs.Ordering.{nat_cmp}
+use Rattle.std.proofs.lemmas.List.Elements.{All-push}
+use Rattle.staat_decide.specs.Asking.{AreAskedRows}
+use Rattle.staat_decide.proofs.Deciding.{numbers_sorted}
+use Rattle.staat_decide.proofs.Picked.{numbers_small}
+use Rattle.staat_decide.proofs.asking.ask_one.Goals as goal
+
+pub takes_all_apart-requires-clause-members : goal.takes_all_apart-requires-clause-members
+takes_all_apart-requires-clause-members g c =
+    subst (All (λ p. p < length c.args.parts.now)) (sym c.requires.all) (numbers_small (length c.args.parts.now))
+
+pub takes_all_apart-requires-clause-ascending : goal.takes_all_apart-requires-clause-ascending
+takes_all_apart-requires-clause-ascending g c =
+    subst (IsStrictlySortedBy nat_cmp) (sym c.requires.all) (numbers_sorted (length c.args.parts.now))
+
+pub returns : goal.returns
+returns g c =
+    subst (All (AreAskedRows c.args.parts.now)) (sym c.in_ok-push.ensures.items)
+    (All-push (AreAskedRows c.args.parts.now) c.args.asked.now.items c.in_ok-one.one c.requires.asked c.in_ok-one.ensures)

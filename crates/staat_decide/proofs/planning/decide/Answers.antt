@@ -1,0 +1,29 @@
+use Rattle.std.proofs.Common.{◌≡◌, ◌∙◌, ◌<◌, ℕ, All, List, ap, arith, length, subst, sym}
+use Rattle.std.specs.List.Sorted.{IsStrictlySortedBy}
+use Rattle.std.specs.Ordering.{nat_cmp}
+use Rattle.std.proofs.lemmas.List.FromFn.{length-range_with_len}
+use Rattle.staat_model.specs.declared.set.PartSet.{PartSet}
+use Rattle.staat_decide.specs.Decided.{IsDecision}
+use Rattle.staat_decide.specs.Labels.{set_of}
+use Rattle.staat_decide.proofs.Deciding.{numbers_set, numbers_sorted}
+use Rattle.staat_decide.proofs.Picked.{numbers_small}
+use Rattle.staat_decide.proofs.planning.decide.Goals as goal
+
+pub decision_of-requires-clause-members : goal.decision_of-requires-clause-members
+decision_of-requires-clause-members g c =
+    subst (All (λ p. p < length c.args.parts.now)) (sym (c.as_slice-3.ensures.value ∙ c.in_ok-all.ensures)) (numbers_small (length c.args.parts.now))
+
+pub decision_of-requires-clause-ascending : goal.decision_of-requires-clause-ascending
+decision_of-requires-clause-ascending g c =
+    subst (IsStrictlySortedBy nat_cmp) (sym (c.as_slice-3.ensures.value ∙ c.in_ok-all.ensures)) (numbers_sorted (length c.args.parts.now))
+
+pub decision_of-requires-clause-few : goal.decision_of-requires-clause-few
+decision_of-requires-clause-few g c =
+    let e = ap (λ (xs : List ℕ). length xs) (c.as_slice-3.ensures.value ∙ c.in_ok-all.ensures) in
+    let long = length-range_with_len 0 (length c.args.parts.now) in
+    omega (arith, e, long, c.requires.count)
+
+pub returns : goal.returns
+returns g c =
+    let e = ap set_of (c.as_slice-3.ensures.value ∙ c.in_ok-all.ensures) ∙ numbers_set (length c.args.parts.now) in
+    subst (λ (w : PartSet). IsDecision c.args.parts.now w c.in_ok-decision.decision) e c.in_ok-decision.ensures

@@ -1,0 +1,12 @@
+use Rattle.std.proofs.Common.{subst}
+use Rattle.std.specs.Prelude.{IfSome, Option}
+use Rattle.staat_vec.specs.declared.vector.V3.{V3}
+use Rattle.staat_decide.specs.Labels.{set_of}
+use Rattle.staat_decide.specs.Peelings.{IsHeldAlong, IsPeeling}
+use Rattle.staat_decide.proofs.Held.{none_is}
+use Rattle.staat_decide.proofs.settling.leaving_at_gap.Goals as goal
+
+pub unreachable-requires : goal.unreachable-requires
+unreachable-requires g c =
+    c.requires.free (subst (λ (v : V3). IsHeldAlong c.args.parts.now v (set_of c.args.w.now)) c.in_ok-along.ensures.direction
+    (none_is c.in_ok-peel.field-0 c.in-None.is c.in_ok-peel.ensures.none))

@@ -1,0 +1,96 @@
+// The likely directions, and what is asked along them.
+ghost use Rattle.std.specs.Prelude.{◌≡◌, All, IfOk, OnOk, length};
+ghost use Rattle.std.specs.List.{range_with_len};
+ghost use Rattle.staat_motion.specs.Motions.{AreBodies};
+ghost use Rattle.staat_decide.specs.Asking.{AreAskedRows};
+
+use crate::guesses::likely_directions;
+use crate::likely::{Asked, asked_along, is_direction, takes_all_apart};
+use crate::ties::{X_AXIS, Y_AXIS, Z_AXIS};
+use staat_cone::FacetSource;
+use staat_model::Part;
+use staat_motion::Bodies;
+use staat_vec::{OutOfMemory, V3};
+use std::alloc::Global;
+
+// whether it was asked along this direction
+fn was_asked(asked: &[Asked], d: V3) -> bool {
+    asked.iter().any(|one| one.d == d)
+}
+
+// asks along a direction, if it is one and was not asked along before, and says whether it takes all parts apart
+fn ask_one<F: FacetSource>(
+    asked: &mut Vec<Asked>,
+    alloc: Global,
+    source: &F,
+    parts: &[Part],
+    bodies: &Bodies,
+    all: &[u32],
+    d: V3,
+) -> Result<bool, OutOfMemory>
+    requires bodies { AreBodies parts.now bodies.now }
+    requires all { all.now ≡ range_with_len 0 (length parts.now) }
+    requires asked { All (AreAskedRows parts.now) asked.old.items }
+    ensures { OnOk result (All (AreAskedRows parts.now) asked.new.items) }
+{
+    if !is_direction(d) || was_asked(asked.as_slice(), d) {
+        return Ok(false);
+    }
+    let one = asked_along(alloc, source, parts, bodies, all, d)?;
+    let is_done = takes_all_apart(alloc, parts, &one, all)?;
+    asked.push(one)?;
+    Ok(is_done)
+}
+
+// asks along the directions one after the other, until one takes all parts apart
+fn ask_along<F: FacetSource>(
+    asked: &mut Vec<Asked>,
+    alloc: Global,
+    source: &F,
+    parts: &[Part],
+    bodies: &Bodies,
+    all: &[u32],
+    directions: &[V3],
+) -> Result<bool, OutOfMemory>
+    requires bodies { AreBodies parts.now bodies.now }
+    requires all { all.now ≡ range_with_len 0 (length parts.now) }
+    requires asked { All (AreAskedRows parts.now) asked.old.items }
+    ensures { OnOk result (All (AreAskedRows parts.now) asked.new.items) }
+{
+    for d in directions {
+        if ask_one(asked, alloc, source, parts, bodies, all, *d)? {
+            return Ok(true);
+        }
+    }
+    Ok(false)
+}
+
+/// What is asked along likely directions: the axes, and where none of them takes all parts apart some more.
+pub fn asked_of<F: FacetSource>(
+    alloc: Global,
+    source: &F,
+    parts: &[Part],
+    bodies: &Bodies,
+    all: &[u32],
+) -> Result<Vec<Asked>, OutOfMemory>
+    requires bodies { AreBodies parts.now bodies.now }
+    requires all { all.now ≡ range_with_len 0 (length parts.now) }
+    ensures { IfOk result (λ asked. All (AreAskedRows parts.now) asked.items) }
+{
+    let mut asked = Vec::new(alloc);
+    let axes = [Z_AXIS, Y_AXIS, X_AXIS];
+    if ask_along(&mut asked, alloc, source, parts, bodies, all, &axes)? {
+        return Ok(asked);
+    }
+    let more = likely_directions(alloc, source, parts, all)?;
+    ask_along(
+        &mut asked,
+        alloc,
+        source,
+        parts,
+        bodies,
+        all,
+        more.as_slice(),
+    )?;
+    Ok(asked)
+}

@@ -1,0 +1,83 @@
+// Whether pairs of pieces hold a set of parts together.
+ghost use Rattle.std.specs.Prelude.{◌≡◌, ◌<◌, ◌≤◌, ◌^◌, ◌↔◌, All, IfOk, IfSome, IsTrue, length};
+ghost use Rattle.std.specs.List.Sorted.{IsStrictlySortedBy};
+ghost use Rattle.std.specs.Ordering.{nat_cmp};
+ghost use Rattle.staat_model.specs.Assemblies.{IsPart};
+ghost use Rattle.staat_holds.specs.Chains.{own_names, places_of};
+ghost use Rattle.staat_holds.specs.Holds.{IsCorePair};
+ghost use Rattle.staat_decide.specs.Decided.{IsStuckHold};
+
+use crate::sets::PartList;
+use staat_cone::FacetSource;
+use staat_holds::{Hold, is_core_pair, judge_hold, own_names, places_of};
+use staat_model::{Arc, Arcs, Part};
+use staat_vec::OutOfMemory;
+use std::alloc::Global;
+
+/// For each of so many parts its place in the list, or none.
+pub fn places_in(alloc: Global, w: &[u32], count: u32) -> Result<Vec<Option<u32>>, OutOfMemory>
+    requires { length w.now < 2 ^ 32 }
+    ensures { IfOk result (λ places. places.items ≡ places_of w.now (own_names count)) }
+{
+    let names = own_names(alloc, count)?;
+    let places = places_of(alloc, w, names.as_slice())?;
+    Ok(places)
+}
+
+// whether all pairs are of pieces of different nodes
+fn are_core_pairs(parts: &[Part], nodes: &[Option<u32>], count: u32, pairs: &[Arc]) -> bool
+    ensures { IsTrue result ↔ All (IsCorePair parts.now nodes.now count) pairs.now }
+{
+    for pair in pairs {
+        if !is_core_pair(parts, nodes, count, *pair) {
+            return false;
+        }
+    }
+    true
+}
+
+/// A list like this one.
+pub fn copied(alloc: Global, w: &[u32]) -> Result<PartList, OutOfMemory>
+    ensures { IfOk result (λ copy. copy ≡ w.now) }
+{
+    let mut copy = Vec::new(alloc);
+    copy.extend_from_slice(w)?;
+    Ok(PartList::from_vec(copy))
+}
+
+/// The parts of `w` with the pairs, if these hold them together.
+pub fn held_by<F: FacetSource>(
+    alloc: Global,
+    source: &F,
+    parts: &[Part],
+    w: &[u32],
+    pairs: Vec<Arc>,
+) -> Result<Option<Hold>, OutOfMemory>
+    requires parts { All IsPart parts.now }
+    requires count { length parts.now < 2 ^ 32 }
+    requires members { All (λ p. p < length parts.now) w.now }
+    requires ascending { IsStrictlySortedBy nat_cmp w.now }
+    requires two { 2 ≤ length w.now }
+    requires few { length w.now < 2 ^ 32 }
+    ensures { IfOk result (λ answer. IfSome answer (IsStuckHold parts.now)) }
+{
+    let places = places_in(alloc, w, parts.len() as u32)?;
+    let count = w.len() as u32;
+    if !are_core_pairs(parts, places.as_slice(), count, pairs.as_slice()) {
+        return Ok(None);
+    }
+    let is_held = judge_hold(
+        alloc,
+        source,
+        parts,
+        places.as_slice(),
+        count,
+        pairs.as_slice(),
+    )?;
+    if !is_held {
+        return Ok(None);
+    }
+    let nodes = copied(alloc, w)?;
+    let pairs = Arcs::from_vec(pairs);
+    Ok(Some(Hold { nodes, pairs }))
+}

@@ -1,0 +1,118 @@
+// Plans for sets of parts.
+ghost use Rattle.std.specs.Prelude.{◌≡◌, ◌<◌, ◌≤◌, ◌^◌, All, IfOk, length};
+ghost use Rattle.std.specs.List.Sorted.{IsStrictlySortedBy};
+ghost use Rattle.std.specs.Ordering.{nat_cmp};
+ghost use Rattle.staat_model.specs.Assemblies.{IsPart};
+ghost use Rattle.staat_model.specs.Sets.{below};
+ghost use Rattle.staat_motion.specs.Motions.{AreBodies};
+ghost use Rattle.staat_decide.specs.Asking.{AreAskedRows};
+ghost use Rattle.staat_decide.specs.Decided.{IsDecision, IsParting};
+ghost use Rattle.staat_decide.specs.Labels.{set_of};
+
+use crate::asking::asked_of;
+use crate::decision::{Decision, Parting};
+use crate::likely::{Asked, likely_leaving, numbers};
+use crate::settling::{parting_by_all, parting_by_guess};
+use crate::turns::joined;
+use staat_cone::FacetSource;
+use staat_model::{Part, Tree};
+use staat_motion::Bodies;
+use staat_vec::{ORIGIN, OutOfMemory, V3};
+use std::alloc::Global;
+
+// how w goes on: along a likely direction, or by a guess that is right, or by all pairs of its pieces
+fn parting<F: FacetSource>(
+    alloc: Global,
+    source: &F,
+    parts: &[Part],
+    bodies: &Bodies,
+    asked: &[Asked],
+    w: &[u32],
+    before: V3,
+) -> Result<Parting, OutOfMemory>
+    requires bodies { AreBodies parts.now bodies.now }
+    requires count { length parts.now < 2 ^ 32 }
+    requires pieces { All (λ part. length part.pieces < 2 ^ 32) parts.now }
+    requires asked { All (AreAskedRows parts.now) asked.now }
+    requires members { All (λ p. p < length parts.now) w.now }
+    requires ascending { IsStrictlySortedBy nat_cmp w.now }
+    requires two { 2 ≤ length w.now }
+    requires few { length w.now < 2 ^ 32 }
+    ensures { IfOk result (IsParting parts.now w.now) }
+{
+    if let Some(leaving) = likely_leaving(alloc, parts, asked, w, before)? {
+        return Ok(Parting::Leaves(leaving));
+    }
+    if let Some(found) = parting_by_guess(alloc, source, parts, bodies, w, usize::MAX)? {
+        return Ok(found);
+    }
+    let found = parting_by_all(alloc, source, parts, bodies, w)?;
+    Ok(found)
+}
+
+// a plan of the parts of w, or parts that are stuck: what leaves along one direction is planned set by set
+fn decision_of<F: FacetSource>(
+    alloc: Global,
+    source: &F,
+    parts: &[Part],
+    bodies: &Bodies,
+    asked: &[Asked],
+    w: &[u32],
+    before: V3,
+) -> Result<Decision, OutOfMemory>
+    requires bodies { AreBodies parts.now bodies.now }
+    requires count { length parts.now < 2 ^ 32 }
+    requires pieces { All (λ part. length part.pieces < 2 ^ 32) parts.now }
+    requires asked { All (AreAskedRows parts.now) asked.now }
+    requires members { All (λ p. p < length parts.now) w.now }
+    requires ascending { IsStrictlySortedBy nat_cmp w.now }
+    requires some { 1 ≤ length w.now }
+    requires few { length w.now < 2 ^ 32 }
+    ensures { IfOk result (IsDecision parts.now (set_of w.now)) }
+{
+    if w.len() == 1 {
+        return Ok(Decision::Apart(Tree::Leaf(w[0])));
+    }
+    match parting(alloc, source, parts, bodies, asked, w, before)? {
+        Parting::Stays(held) => Ok(Decision::Held(held)),
+        Parting::Leaves(leaving) => {
+            let sets = leaving.sets.as_slice();
+            let mut trees = Vec::new(alloc);
+            for s in sets {
+                match decision_of(alloc, source, parts, bodies, asked, s.as_slice(), leaving.d)? {
+                    Decision::Held(stuck) => return Ok(Decision::Held(stuck)),
+                    Decision::Apart(tree) => trees.push(tree)?,
+                }
+            }
+            let whole = joined(alloc, leaving.d, trees)?;
+            Ok(Decision::Apart(whole))
+        }
+    }
+}
+
+/// A plan that takes all parts apart, or parts that are stuck.
+pub fn decide<F: FacetSource>(
+    alloc: Global,
+    source: &F,
+    parts: &[Part],
+) -> Result<Decision, OutOfMemory>
+    requires parts { All IsPart parts.now }
+    requires some { 1 ≤ length parts.now }
+    requires count { length parts.now < 2 ^ 32 }
+    requires pieces { All (λ part. length part.pieces < 2 ^ 32) parts.now }
+    ensures { IfOk result (IsDecision parts.now (below (length parts.now))) }
+{
+    let bodies = Bodies::of(alloc, parts)?;
+    let all = numbers(alloc, parts.len() as u32)?;
+    let asked = asked_of(alloc, source, parts, &bodies, all.as_slice())?;
+    let decision = decision_of(
+        alloc,
+        source,
+        parts,
+        &bodies,
+        asked.as_slice(),
+        all.as_slice(),
+        ORIGIN,
+    )?;
+    Ok(decision)
+}
