@@ -237,7 +237,10 @@ def told(folder: str, product: Product, cuts: Sequence[summary.Cut], options: Op
     greatest = max(float(numpy.abs(piece.points).max()) for one in cuts for piece in one.plain)
     grid = float(product.grid)
     lines = (
-        summary.way_lines(cuts) + summary.round_lines(product, options) + summary.bound_lines(cuts)
+        summary.way_lines(cuts)
+        + summary.dent_lines(cuts)
+        + summary.round_lines(product, options)
+        + summary.bound_lines(cuts)
     )
     found = overlaps([one.plain for one in cuts])
     overlapped = summary.overlap_lines(found, cuts, grid, greatest * grid)

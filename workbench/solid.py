@@ -9,6 +9,7 @@ bounds add up along a chain of solids. They are upper bounds, never guesses.
 """
 from __future__ import annotations
 
+import math
 from dataclasses import dataclass, field
 from fractions import Fraction
 from typing import Dict, List, Optional, Tuple
@@ -94,12 +95,14 @@ class Pieces:
     """The pieces of a solid; over and under are of their union against the solid of the model, in model units.
 
     The bounds of `exact` (or `whole`) against the model are in them already. `note` says what was done, in a few words.
+    dent: how far the hull of a solid that is nearly convex goes beyond it, at most; model units
     """
 
     pieces: List[Piece]
     over: float
     under: float
     note: str = ""
+    dent: float = field(default=math.inf, kw_only=True)
 
 
 @dataclass

@@ -21,13 +21,17 @@ COSTLY = 3  # parts that are named where pieces are many
 
 @dataclass
 class Cut:
-    """A part with the pieces of its solids, each with a tag, and the bounds of all of them."""
+    """A part with the pieces of its solids, each with a tag, and the bounds of all of them.
+
+    dent: how far the hull of a part that is nearly convex goes beyond it, at most; model units
+    """
 
     part: Part
     pieces: List[Tuple[str, Piece]]
     over: float
     under: float
     notes: List[str]
+    dent: float = math.inf
 
     @property
     def plain(self) -> List[Piece]:
@@ -47,9 +51,9 @@ def cut_part(part: Part, found: Sequence[Pieces]) -> Cut:
                 (tag if alone else f"{tag}-{number}" if len(found) > 1 else str(number), piece)
             )
     notes = sorted({some.note for some in found if some.note})
-    return Cut(
-        part, pieces, max(some.over for some in found), max(some.under for some in found), notes
-    )
+    over, under = max(some.over for some in found), max(some.under for some in found)
+    dent = found[0].dent if len(found) == 1 and len(pieces) > 1 else math.inf
+    return Cut(part, pieces, over, under, notes, dent)
 
 
 def part_lines(product: Product, cuts: Sequence[Cut]) -> List[str]:
@@ -76,6 +80,16 @@ def way_lines(cuts: Sequence[Cut]) -> List[str]:
             f"{note}: " + (", ".join(names) if len(names) <= COSTLY else f"{len(names)} parts")
         )
     return lines
+
+
+def dent_lines(cuts: Sequence[Cut]) -> List[str]:
+    """Which parts are convex but for so little that they may be meant so."""
+    return [
+        f"{cut.part.name} is convex but for {short(cut.dent)}: --tolerance={short(cut.dent)} makes it one piece where "
+        "no other part is in the way"
+        for cut in cuts
+        if cut.dent < math.inf
+    ][:COSTLY]
 
 
 def round_lines(product: Product, options: Options) -> List[str]:

@@ -41,7 +41,8 @@ class Part:
             self.cells = [Cell.of_piece(piece) for piece in found.pieces]
 
     def result(self) -> Pieces:
-        return Pieces(self.pieces, self.over, self.under, ", ".join(self.notes))
+        notes = ", ".join(self.notes)
+        return Pieces(self.pieces, self.over, self.under, notes, dent=self.found.dent)
 
 
 class Neighbours:
@@ -152,6 +153,8 @@ def join_loosely(
     part: Part, tolerance: float, corners: int, others: Neighbours, until: float
 ) -> None:
     """Joins pieces while their hulls go beyond the solid by at most so many steps and reach no other part."""
+    if part.found.dent * part.scale <= tolerance and join_all_in_one(part, corners, others):
+        return
     pieces: Dict[int, Piece] = dict(enumerate(part.pieces))
     sizes = {
         number: volume_and_area(piece.points.astype(float))[0] for number, piece in pieces.items()
@@ -199,6 +202,17 @@ def join_loosely(
         part.pieces = list(pieces.values())
         if farthest_so_far > 0.0:
             part.over = max(part.over, part.beyond[0] + (farthest_so_far + CLEARLY) / part.scale)
+
+
+def join_all_in_one(part: Part, corners: int, others: Neighbours) -> bool:
+    """Makes one piece of a solid that is nearly convex, if it reaches no other part; whether it did."""
+    made = piece_of([point for piece in part.pieces for point in piece.points.tolist()])
+    if len(made.points) > corners or others.met(part.solid.name, made):
+        return False
+    part.notes.append(f"{len(part.pieces)} pieces joined to 1")
+    part.pieces = [made]
+    part.over += part.found.dent
+    return True
 
 
 def give_way(parts: Sequence[Part], options: Options) -> bool:

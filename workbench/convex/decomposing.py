@@ -20,6 +20,7 @@ from .frames import FINER, TWIN, Turned, frame_of
 from .meshes import Surface, open_edges, rounded, shells, solids
 from .nearly import beyond_hull, corners_of
 from .snapping import grown, piece_or_none, shrunk, small_pieces, snapped
+from .touching import apart
 
 HULL, GRID, DRAWN, CGAL, LIKE = (
     "convex",
@@ -28,8 +29,10 @@ HULL, GRID, DRAWN, CGAL, LIKE = (
     "cut by CGAL",
     "cut like one that is turned",
 )
-MUCH_FINER = 64  # times as fine is the grid on which a solid is cut that crosses itself on the grid
+MUCH_FINER = 64  # times as fine is the grid on which a solid is cut that crosses or touches itself on the grid
+APART = 8.0  # steps of that grid, by which what touches is moved apart
 ROUNDED = 1.0  # in steps: a solid beyond which its hull goes by no more is convex
+NEARLY = 0.05  # of its extent: a solid beyond which its hull goes by no more is nearly convex
 
 
 @dataclass
@@ -74,8 +77,9 @@ def decompose(solid: Solid, options: Options) -> Cut:
     """
     until = time.process_time() + options.seconds
     if solid.whole is not None:
-        rough = of_surface(surface_of_whole(solid, solid.whole, options.side), options, until)
-        over, under = solid.whole_over, solid.whole_under
+        rough, further = of_whole(solid, solid.whole, options, until)
+        over = solid.whole_over + further / float(solid.scale)
+        under = solid.whole_under + further / float(solid.scale)
     elif solid.exact is not None:
         rough = of_exact(solid, solid.exact, options, until)
         scale = float(solid.scale)
@@ -85,7 +89,18 @@ def decompose(solid: Solid, options: Options) -> Cut:
         raise Refusal("it has no surface")
     if not rough.cells:
         raise Refusal("nothing is left of it on this grid: give a finer one")
-    return measured(solid, rough, options, (over, under))
+    found = measured(solid, rough, options, (over, under))
+    found.dent = dent_of(solid) if len(found.pieces) > 1 else numpy.inf
+    return found
+
+
+def dent_of(solid: Solid) -> float:
+    """How far the hull of a solid that is nearly convex goes beyond it, at most; else infinite. In model units."""
+    mesh, scale = (solid.whole, float(solid.scale)) if solid.whole else (solid.exact, 1.0)
+    assert mesh is not None
+    points = mesh.points / scale
+    extent = float(numpy.ptp(points, axis=0).max())
+    return beyond_hull(points, mesh.faces, NEARLY * extent)
 
 
 def placed(solid: Solid, options: Options, like: Solid, cut: Cut, turn: Turn) -> Optional[Cut]:
@@ -104,7 +119,9 @@ def placed(solid: Solid, options: Options, like: Solid, cut: Cut, turn: Turn) ->
     cells = [cell.turned(turn.frame, turn.way, 1.0) for cell in cut.cells]
     steps = (under if options.side == "over" else over) * float(solid.scale)
     rough = Rough(cells, LIKE, set(), steps, (0, 1, 2))
-    return measured(solid, rough, options, (solid.over + over, solid.under + under))
+    found = measured(solid, rough, options, (solid.over + over, solid.under + under))
+    found.dent = cut.dent + 2 * off
+    return found
 
 
 def beyond_drawn(solid: Solid, cut: Cut) -> Tuple[float, float]:
@@ -124,7 +141,7 @@ def turned_whole(solid: Solid, cut: Cut, turn: Turn) -> Cut:
     under = solid.whole_under + cut.under - cut.beyond[1]
     x, y, z = pieces[0].points[0].tolist()
     beyond = (solid.whole_over, solid.whole_under)
-    return Cut(pieces, over, under, LIKE, cells, beyond, (x, y, z), cut.exact)
+    return Cut(pieces, over, under, LIKE, cells, beyond, (x, y, z), cut.exact, dent=cut.dent)
 
 
 def in_order(points: numpy.ndarray, faces: List[List[int]]) -> Piece:
@@ -155,6 +172,20 @@ def surface_of_whole(solid: Solid, whole: Mesh, side: str) -> Surface:
     return surface
 
 
+def of_whole(solid: Solid, whole: Mesh, options: Options, until: float) -> Tuple[Rough, float]:
+    """The cells of a solid that is on the grid, and how many steps its surface was moved for that."""
+    surface = surface_of_whole(solid, whole, options.side)
+    try:
+        return of_surface(surface, options, until), 0.0
+    except OutOfTime:
+        raise
+    except Refusal as fault:
+        rough = on_finer_grid(Mesh(whole.points.astype(float), whole.faces), 1.0, fault, until)
+        further = rough.moved
+        rough.moved += surface.moved
+        return rough, further
+
+
 def of_exact(solid: Solid, mesh: Mesh, options: Options, until: float) -> Rough:
     """The cells of a solid that is not on the grid yet."""
     scale = float(solid.scale)
@@ -178,17 +209,27 @@ def of_exact(solid: Solid, mesh: Mesh, options: Options, until: float) -> Rough:
             return drawn
     try:
         return of_surface(surface, options, until)
+    except OutOfTime:
+        raise
     except Refusal as fault:
-        if not surface.moved or isinstance(fault, OutOfTime):
-            raise
         return on_finer_grid(mesh, scale, fault, until)
 
 
 def on_finer_grid(mesh: Mesh, scale: float, fault: Refusal, until: float) -> Rough:
-    """The cells of a solid on a finer grid, for one that crosses itself on the grid. The fault: nor is it fit there."""
+    """The cells of a solid on a finer grid, for one that crosses or touches itself on the grid.
+
+    What touches is moved apart there. The fault: nor is it fit so.
+    """
     turned = Turned(mesh, scale, numpy.eye(3), MUCH_FINER, 0.0)
     try:
         surface = rounded(turned.mesh, 1.0, GREATEST * MUCH_FINER)
+        steps = turned.moved + surface.moved / MUCH_FINER
+        parted = apart(surface.points, surface.faces, APART)
+        if parted is not None:
+            surface.points, surface.faces = parted
+            steps += (APART + 1) / MUCH_FINER
+        elif not surface.moved:
+            raise fault
         cells = [
             turned.back(cell)
             for faces in solids(surface.points, surface.faces)
@@ -198,7 +239,7 @@ def on_finer_grid(mesh: Mesh, scale: float, fault: Refusal, until: float) -> Rou
         raise
     except Refusal:
         raise fault from None
-    return Rough(cells, CGAL, set(), turned.moved + surface.moved / MUCH_FINER, (0, 1, 2))
+    return Rough(cells, CGAL, set(), steps, (0, 1, 2))
 
 
 def is_convex(surface: Surface) -> bool:
