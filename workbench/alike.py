@@ -11,7 +11,7 @@ from typing import Dict, Iterator, List, Optional, Sequence, Tuple
 import numpy
 from scipy.spatial import cKDTree
 
-from .snapping import rounded
+from .snapping import EXACT, rounded
 from .solid import Mesh, Solid
 from .triangles import newells
 
@@ -68,7 +68,25 @@ def key_of(solid: Solid) -> Tuple[object, numpy.ndarray]:
     scale = float(solid.scale) if solid.whole is None else 1.0
     rows = numpy.rint((mesh.points * scale - place) * 1024).astype(numpy.int64)
     faces = tuple(tuple(face) for face in mesh.faces)
-    return (solid.whole is None, rows.tobytes(), faces), place
+    bounds = (solid.over, solid.under, solid.whole_over, solid.whole_under)
+    steps = tuple(round(bound * float(solid.scale) * 1e6) for bound in bounds)
+    return (solid.whole is None, rows.tobytes(), faces, steps), place
+
+
+def further(one: Solid, other: Solid, way: numpy.ndarray) -> Tuple[float, float]:
+    """By how much bounds of the one may be beaten by its pieces as those of the other, which lies a way of whole steps
+    from it: in model units, nothing where numbers are good for no less."""
+    mesh, scale = mesh_of(other), float(other.scale)
+    greatest = float(numpy.abs(mesh.points).max())
+    if one.whole is not None:
+        greatest /= scale
+        found = (other.whole_over - one.whole_over, other.whole_under - one.whole_under)
+    else:
+        ways = mesh.points - mesh_of(one).points - way / scale
+        off = float(numpy.linalg.norm(ways, axis=1).max())
+        found = (off, off)
+    least = EXACT * greatest
+    return found[0] if found[0] > least else 0.0, found[1] if found[1] > least else 0.0
 
 
 def moved_groups(solids: Sequence[Solid]) -> List[Alike]:

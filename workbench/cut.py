@@ -4,12 +4,12 @@ from __future__ import annotations
 import os
 from concurrent.futures import ProcessPoolExecutor
 from dataclasses import dataclass, replace
-from typing import Iterable, List, Optional, Sequence, Union
+from typing import Iterable, List, Optional, Sequence, Tuple, Union
 
 import numpy
 
-from .alike import Alike, Turn, groups_of, mesh_of
-from .convex import Cut, decompose, placed
+from .alike import Alike, Turn, further, groups_of, mesh_of
+from .convex import Cut, decompose, frame_of, placed
 from .progress import Progress
 from .solid import Options, Piece, Pieces, Refusal, Solid
 
@@ -51,10 +51,14 @@ class Task:
         return found or decompose(self.solid, self.options)
 
 
-def moved(pieces: Pieces, way: numpy.ndarray) -> Pieces:
-    return replace(
-        pieces, pieces=[Piece(piece.points + way, piece.faces) for piece in pieces.pieces]
-    )
+def moved(pieces: Pieces, way: numpy.ndarray, more: Tuple[float, float]) -> Pieces:
+    """Pieces a way of whole steps elsewhere, of a solid against which their bounds are greater by so much."""
+    there = [Piece(piece.points + way, piece.faces) for piece in pieces.pieces]
+    over, under = pieces.over + more[0], pieces.under + more[1]
+    if isinstance(pieces, Cut):
+        beyond = (pieces.beyond[0] + more[0], pieces.beyond[1] + more[1])
+        return replace(pieces, pieces=there, over=over, under=under, beyond=beyond)
+    return replace(pieces, pieces=there, over=over, under=under)
 
 
 class Work:
@@ -78,7 +82,10 @@ class Work:
         """The answer for the first of a group, which is that of all that only lie elsewhere."""
         self.answers[alike.first] = answer
         for number, way in alike.others:
-            self.answers[number] = moved(answer, way) if isinstance(answer, Pieces) else answer
+            self.answers[number] = answer
+            if isinstance(answer, Pieces):
+                more = further(self.solids[alike.first], self.solids[number], way)
+                self.answers[number] = moved(answer, way, more)
 
 
 class Jobs:
@@ -105,6 +112,8 @@ class Jobs:
 def cut(solids: Sequence[Solid], options: Options, jobs: Optional[int] = None) -> List[Answer]:
     """The pieces of each solid, or a line that says why there are none."""
     groups = groups_of(solids)
+    drawn = [solid.exact for solid in solids if solid.exact is not None]
+    options = replace(options, frame=frame_of(drawn) if drawn else None)
     turned = [(alike, *pair) for alike in groups for pair in alike.turned]
     work = Work(solids, options)
     faces = sum(len(mesh_of(solids[alike.first]).faces) for alike in groups)

@@ -116,6 +116,7 @@ class Options:
     join: pieces are joined while their hull goes beyond the solid by at most this; model units
     clearance: faces of parts move inwards by this where they meet other parts; by name, and "" is for all others
     seconds: how long one solid may take
+    frame: rows are the directions along which most of a product that was turned lies; nothing where they are the axes
     """
 
     scale: Optional[Fraction] = None
@@ -126,6 +127,7 @@ class Options:
     clearance: Dict[str, float] = field(default_factory=dict)
     seconds: float = 60.0
     corners: int = MOST_CORNERS
+    frame: Optional[numpy.ndarray] = None
 
 
 # Asked of workbench.convex:

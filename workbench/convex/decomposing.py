@@ -7,7 +7,7 @@ from typing import List, Optional, Sequence, Set, Tuple
 
 import numpy
 
-from ..alike import Turn
+from ..alike import Turn, mesh_of
 from ..hulls import Point
 from ..snapping import moved
 from ..solid import GREATEST, Mesh, Options, Piece, Pieces, Refusal, Solid
@@ -16,7 +16,7 @@ from .bounds import Union, farthest
 from .cells import Cell, Wall, join_all
 from .cgal import OutOfTime, decomposed
 from .cutting import convex_pieces
-from .frames import FINER, TWIN, Turned, frame_of
+from .frames import Turned, drawn_mesh, frames_of
 from .meshes import Surface, open_edges, rounded, shells, solids
 from .nearly import beyond_hull, corners_of
 from .snapping import grown, piece_or_none, shrunk, small_pieces, snapped
@@ -32,7 +32,7 @@ HULL, GRID, DRAWN, CGAL, LIKE = (
 MUCH_FINER = 64  # times as fine is the grid on which a solid is cut that crosses or touches itself on the grid
 APART = 8.0  # steps of that grid, by which what touches is moved apart
 ROUNDED = 1.0  # in steps: a solid beyond which its hull goes by no more is convex
-NEARLY = 0.05  # of its extent: a solid beyond which its hull goes by no more is nearly convex
+NEARLY = 0.02  # of its extent: a solid beyond which its hull goes by no more is nearly convex
 
 
 @dataclass
@@ -77,9 +77,7 @@ def decompose(solid: Solid, options: Options) -> Cut:
     """
     until = time.process_time() + options.seconds
     if solid.whole is not None:
-        rough, further = of_whole(solid, solid.whole, options, until)
-        over = solid.whole_over + further / float(solid.scale)
-        under = solid.whole_under + further / float(solid.scale)
+        rough, (over, under) = of_whole(solid, solid.whole, options, until)
     elif solid.exact is not None:
         rough = of_exact(solid, solid.exact, options, until)
         scale = float(solid.scale)
@@ -96,9 +94,8 @@ def decompose(solid: Solid, options: Options) -> Cut:
 
 def dent_of(solid: Solid) -> float:
     """How far the hull of a solid that is nearly convex goes beyond it, at most; else infinite. In model units."""
-    mesh, scale = (solid.whole, float(solid.scale)) if solid.whole else (solid.exact, 1.0)
-    assert mesh is not None
-    points = mesh.points / scale
+    mesh = mesh_of(solid)
+    points = mesh.points / (float(solid.scale) if solid.whole else 1.0)
     extent = float(numpy.ptp(points, axis=0).max())
     return beyond_hull(points, mesh.faces, NEARLY * extent)
 
@@ -110,7 +107,8 @@ def placed(solid: Solid, options: Options, like: Solid, cut: Cut, turn: Turn) ->
     """
     if cut.note == HULL:
         return None
-    if turn.whole and options.side == "near":
+    of_grid = cut.beyond == (like.whole_over, like.whole_under)
+    if turn.whole and of_grid and options.side == "near":
         return turned_whole(solid, cut, turn)
     if solid.whole is not None and CGAL not in cut.note:
         return None
@@ -126,10 +124,11 @@ def placed(solid: Solid, options: Options, like: Solid, cut: Cut, turn: Turn) ->
 
 def beyond_drawn(solid: Solid, cut: Cut) -> Tuple[float, float]:
     """How far the cells of a solid go beyond its surface as drawn, and how far they fall short of it; model units."""
-    if solid.whole is None or solid.exact is None:
-        return cut.beyond[0] - solid.over, cut.beyond[1] - solid.under
+    over, under = cut.beyond
+    if solid.whole is None or solid.exact is None or cut.note == DRAWN:
+        return over - solid.over, under - solid.under
     way = float(moved(solid.exact, solid.whole, solid.scale).max())
-    return way, way
+    return way + over - solid.whole_over, way + under - solid.whole_under
 
 
 def turned_whole(solid: Solid, cut: Cut, turn: Turn) -> Cut:
@@ -141,7 +140,8 @@ def turned_whole(solid: Solid, cut: Cut, turn: Turn) -> Cut:
     under = solid.whole_under + cut.under - cut.beyond[1]
     x, y, z = pieces[0].points[0].tolist()
     beyond = (solid.whole_over, solid.whole_under)
-    return Cut(pieces, over, under, LIKE, cells, beyond, (x, y, z), cut.exact, dent=cut.dent)
+    note = cut.note if (frame == numpy.eye(3)).all() else LIKE
+    return Cut(pieces, over, under, note, cells, beyond, (x, y, z), cut.exact, dent=cut.dent)
 
 
 def in_order(points: numpy.ndarray, faces: List[List[int]]) -> Piece:
@@ -172,18 +172,24 @@ def surface_of_whole(solid: Solid, whole: Mesh, side: str) -> Surface:
     return surface
 
 
-def of_whole(solid: Solid, whole: Mesh, options: Options, until: float) -> Tuple[Rough, float]:
-    """The cells of a solid that is on the grid, and how many steps its surface was moved for that."""
-    surface = surface_of_whole(solid, whole, options.side)
+def of_whole(
+    solid: Solid, whole: Mesh, options: Options, until: float
+) -> Tuple[Rough, Tuple[float, float]]:
+    """The cells of a solid that is on the grid, and how far they go beyond, and fall short of, that of the model."""
+    surface, scale = surface_of_whole(solid, whole, options.side), float(solid.scale)
     try:
-        return of_surface(surface, options, until), 0.0
+        rough = of_surface(surface, options, until, solid)
     except OutOfTime:
         raise
     except Refusal as fault:
         rough = on_finer_grid(Mesh(whole.points.astype(float), whole.faces), 1.0, fault, until)
-        further = rough.moved
+        further = rough.moved / scale
         rough.moved += surface.moved
-        return rough, further
+        return rough, (solid.whole_over + further, solid.whole_under + further)
+    if rough.way == DRAWN:
+        further = rough.moved / scale
+        return rough, (solid.over + further, solid.under + further)
+    return rough, (solid.whole_over, solid.whole_under)
 
 
 def of_exact(solid: Solid, mesh: Mesh, options: Options, until: float) -> Rough:
@@ -223,6 +229,8 @@ def on_finer_grid(mesh: Mesh, scale: float, fault: Refusal, until: float) -> Rou
     turned = Turned(mesh, scale, numpy.eye(3), MUCH_FINER, 0.0)
     try:
         surface = rounded(turned.mesh, 1.0, GREATEST * MUCH_FINER)
+        if open_edges(surface.faces):
+            raise fault
         steps = turned.moved + surface.moved / MUCH_FINER
         parted = apart(surface.points, surface.faces, APART)
         if parted is not None:
@@ -250,26 +258,25 @@ def is_convex(surface: Surface) -> bool:
 
 
 def as_drawn(mesh: Mesh, scale: float, options: Options, until: float) -> Optional[Rough]:
-    """The cells of a solid that falls into pieces on the grid of its own frame; nothing where it does not."""
-    frame = frame_of(mesh)
-    if frame is None:
-        return None
-    turned = Turned(mesh, scale, frame, FINER, TWIN)
-    try:
-        surface = rounded(turned.mesh, 1.0)
-    except Refusal:
-        return None
-    if open_edges(surface.faces):
-        return None
-    cells = cells_on_grid(surface, options, until)
-    if not cells:
-        return None
-    steps = turned.moved + surface.moved / turned.finer
-    return Rough([turned.back(cell) for cell in cells], DRAWN, set(), steps, (0, 1, 2))
+    """The cells of a solid that was turned, cut as it was drawn; nothing where it does not fall into pieces so."""
+    for frame in frames_of(mesh, options.frame):
+        turned = drawn_mesh(mesh, scale, frame)
+        surface = rounded(turned.mesh, 1.0) if turned else None
+        if turned and surface and not open_edges(surface.faces):
+            cells = cells_on_grid(surface, options, until)
+            if cells:
+                steps = turned.moved + surface.moved / turned.finer
+                return Rough([turned.back(cell) for cell in cells], DRAWN, set(), steps, (0, 1, 2))
+    return None
 
 
-def of_surface(surface: Surface, options: Options, until: float) -> Rough:
-    """The cells of a surface on the grid."""
+def of_surface(
+    surface: Surface, options: Options, until: float, solid: Optional[Solid] = None
+) -> Rough:
+    """The cells of a surface on the grid.
+
+    solid: one that is cut as it was drawn before it is left to CGAL
+    """
     gaps = open_edges(surface.faces)
     if gaps:
         raise Refusal(f"it is not closed at {gaps} edges: repair the mesh")
@@ -279,6 +286,10 @@ def of_surface(surface: Surface, options: Options, until: float) -> Rough:
         one = Surface(surface.points, faces)
         found = cells_on_grid(one, options, until)
         way = GRID if found and len(found) > 1 else HULL
+        if not found and solid and solid.exact:
+            drawn = as_drawn(solid.exact, float(solid.scale), options, until)
+            if drawn is not None:
+                return drawn
         if not found:
             whole = decomposed(surface.points, faces, until - time.process_time())
             found, way = join_all(whole, options.corners, until), CGAL

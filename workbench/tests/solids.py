@@ -98,6 +98,15 @@ def turned(mesh: Mesh, x: float, y: float, z: float) -> Mesh:
     return Mesh(points, mesh.faces)
 
 
+def twisted(mesh: Mesh, turn: float) -> Mesh:
+    """In triangles, each point turned about the upright axis by so many radians for a unit of its height."""
+    points = numpy.asarray(mesh.points, float)
+    c, s = numpy.cos(turn * points[:, 2]), numpy.sin(turn * points[:, 2])
+    x, y = c * points[:, 0] - s * points[:, 1], s * points[:, 0] + c * points[:, 1]
+    faces = [[face[0], one, other] for face in mesh.faces for one, other in zip(face[1:], face[2:])]
+    return Mesh(numpy.stack([x, y, points[:, 2]], axis=1), faces)
+
+
 def moved(mesh: Mesh, *step: float) -> Mesh:
     return Mesh(numpy.asarray(mesh.points, float) + numpy.array(step), mesh.faces)
 

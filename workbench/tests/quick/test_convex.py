@@ -9,14 +9,38 @@ from unittest import mock
 
 import numpy
 
-from workbench.convex import Cut, cgal, clear, decompose
+from workbench.convex import Cut, cgal, clear, decompose, frame_of
+from workbench.convex.decomposing import DRAWN
+from workbench.convex.frames import frames_of
 from workbench.convex.outlines import convex_parts, twice_area
 from workbench.overlaps import overlaps
 from workbench.solid import Mesh, Options, Piece, Pieces, Refusal, Solid
 from workbench.tests import solids
-from workbench.tests.solids import SQUARE, beaten, blocks, prism, ring, solid, star, turned
+from workbench.tests.solids import (
+    SQUARE,
+    beaten,
+    blocks,
+    prism,
+    ring,
+    solid,
+    star,
+    turned,
+    twisted,
+)
 
 BORE = [SQUARE, ring(12, 40, hole=True)]
+# Cubes in one part that also meet in an edge, and in a corner.
+EDGE = [(0, 0, 0), (1, 1, 0), (0, 0, 1), (1, 0, 1), (1, 1, 1)]
+CORNER = [
+    (0, 0, 0),
+    (-1, 0, 0),
+    (-1, 0, 1),
+    (-1, 0, 2),
+    (-1, 1, 2),
+    (0, 1, 2),
+    (1, 1, 2),
+    (1, 1, 1),
+]
 CUBES = [(x, y, z) for x in range(3) for y in range(3) for z in range(3)]
 
 
@@ -163,6 +187,27 @@ class Rough(unittest.TestCase):
         rough = self.held(of, Options(join=5.0))
         self.assertLess(len(rough.pieces), len(decompose(of, Options()).pieces))
 
+    def test_what_touches_itself(self) -> None:
+        """Along an edge, or in a corner, where no cut on the grid leads: nothing is refused, and bounds hold."""
+        for cells in (EDGE, CORNER):
+            of = solid(twisted(blocks(cells), 0.03), 100)
+            found = self.held(of, Options())
+            self.assertIn("cut by CGAL", found.note)
+            self.assertLess(max(found.over, found.under), 0.05)
+            size = solids.volume_of(found, 100) / (
+                solids.six_volumes(twisted(blocks(cells), 0.03)) / 6
+            )
+            self.assertAlmostEqual(size, 1, delta=0.01)
+
+    def test_nearly_convex(self) -> None:
+        """How far the hull goes beyond it is told, and with that as the tolerance it is one piece."""
+        of = solid(star(numpy.random.default_rng(0), 20, 0.93), 100)
+        found = decompose(of, Options())
+        self.assertGreater(len(found.pieces), 1)
+        self.assertLess(found.dent, 4)
+        self.assertEqual(len(self.held(of, Options(join=found.dent)).pieces), 1)
+        self.assertGreater(len(self.held(of, Options(join=found.dent / 8)).pieces), 1)
+
     def test_turned_bore_is_cut_as_drawn(self) -> None:
         for side in ("near", "over", "under"):
             of = solid(turned(prism(BORE, 0, 50), 10, 20, 30), 100)
@@ -193,6 +238,26 @@ class Rough(unittest.TestCase):
         of.whole_over, of.whole_under = 0.25, 0.5
         found = decompose(of, Options())
         self.assertEqual((found.over, found.under), (0.25, 0.5))
+
+    def test_drawn_on_the_grid_before_it_was_turned(self) -> None:
+        """Slanted walls stay plane alone on the grid that a solid was drawn on, which a file of few digits tells."""
+        mesh = blocks([(0, 0, 0), (1, 0, 0), (2, 0, 0), (0, 1, 0), (0, 0, 1)])
+        mesh.points[:, 0] += mesh.points[:, 2] / 2
+        drawn = len(decompose(solid(mesh, 1), Options()).pieces)
+        there = turned(mesh, 10, 20, 30)
+        there.points = there.points.round(4)
+        found = self.held(solid(there, 1000), Options())
+        self.assertEqual((len(found.pieces), found.note), (drawn, DRAWN))
+
+    def test_frame_of_the_product(self) -> None:
+        """A solid without walls at right angles is cut in the frame of the product."""
+        frame = frame_of([turned(prism([SQUARE], 0, 50), 10, 20, 30)])
+        assert frame is not None
+        alone = star(numpy.random.default_rng(1), 9)
+        (found,) = frames_of(alone, frame)
+        self.assertIs(found, frame)
+        self.assertEqual(frames_of(alone, None), [])
+        self.assertEqual(len(frames_of(turned(prism(BORE, 0, 50), 10, 20, 30), frame)), 1)
 
     def test_it_stops_in_time(self) -> None:
         of = solid(star(numpy.random.default_rng(1), 1500), 1000)

@@ -6,6 +6,7 @@ import io
 import math
 import os
 import random
+import re
 import shutil
 import subprocess
 import unittest
@@ -276,6 +277,30 @@ class Meshes(Case):
         self.assertAlmostEqual(sum(hull_volume(points) for points in parts["angle"]), 3)
         self.assertEqual(self.bounds(), {"angle": (0.0, 0.0)})
 
+    def test_a_tolerance_is_named(self) -> None:
+        """Of a solid that is convex but for a little: a prism with a dented side."""
+        ring = [[10, 0], [10, 10], [5, 9.97], [0, 10], [0, 0]]
+        points = [[*spot, float(z)] for z in (0, 5) for spot in ring]
+        sides = [[4, 3, 2, 1, 0], [5, 6, 7, 8, 9]]
+        sides += [[k, (k + 1) % 5, (k + 1) % 5 + 5, k + 5] for k in range(5)]
+        name = self.write("dented.off", off(points, sides))
+        status, out, _ = self.run_tool(name)
+        self.assertEqual(status, 0)
+        found = re.search(
+            r"dented is convex but for [\d.]+: --tolerance=([\d.]+) makes it one", out
+        )
+        assert found, out
+        self.assertLess(float(found.group(1)), 0.1)
+        words = ("--tolerance=" + found.group(1),)
+        self.assertEqual(len(self.accepted(name, *words)["dented"]), 1)
+        # Not where another part is in the way.
+        key = [[4, 9.98], [6, 9.98], [6, 12], [4, 12]]
+        points = [[*spot, float(z)] for z in (0, 5) for spot in key]
+        sides = [[3, 2, 1, 0], [4, 5, 6, 7]]
+        sides += [[k, (k + 1) % 4, (k + 1) % 4 + 4, k + 4] for k in range(4)]
+        both = self.accepted(name, self.write("key.off", off(points, sides)), *words)
+        self.assertGreater(len(both["dented"]), 1)
+
     def test_more_corners_than_a_piece_has(self) -> None:
         """A rounder solid is cut in two."""
         ring = [
@@ -377,6 +402,15 @@ class Meshes(Case):
             "parts 0 and 1 overlap in pieces 0 and 0: a and b, 0.5 deep; correct the model", out
         )
         self.assertIn("became polygons that differ", out)
+
+    def test_copies_have_bounds_of_their_own(self) -> None:
+        """One that lies on the grid, and one that is the same there but was drawn beside it."""
+        cubes = [(corners([k, 0, 0], [k + 1, 1, 1]), SIDES) for k in (0, 3, 6.0004)]
+        self.accepted(self.write("row.off", off(*both(*cubes))), "--each=solid", "--grid=0.001")
+        bounds = self.bounds()
+        self.assertEqual((bounds["row-0"], bounds["row-1"]), ((0, 0), (0, 0)))
+        for bound in bounds["row-2"]:
+            self.assertAlmostEqual(bound, 0.0004, places=6)
 
     def test_same_solids_are_cut_once(self) -> None:
         angle = both(
