@@ -47,6 +47,7 @@ NEEDS = {
     "chips": Need("freecad-common", _folder("/usr/share/freecad/Mod/Idf/Idflibs")),
     "chromedriver": Need("chromium-driver", _command("chromedriver")),
     "chromium": Need("chromium", _command("chromium")),
+    "freecad": Need("freecad", _command("freecadcmd")),
     "geomview": Need("geomview", _folder("/usr/share/geomview/geom")),
     "gmsh": Need("python3-gmsh", _module("gmsh")),
     "meshio": Need("python3-meshio", _module("meshio")),

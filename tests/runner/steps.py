@@ -95,10 +95,17 @@ STEPS = (
     Step("links", _python("tests/runner/links.py"), needs_program=False),
     Step(
         "models",
-        _python("tests/runner/units.py", "workbench/tests/long"),
+        _python("tests/runner/units.py", "workbench/tests/packaged"),
         (*MODELS, "as1", "cgal meshes", "geomview"),
         is_quick=False,
+    ),
+    Step(
+        "more models",
+        _python("tests/runner/units.py", "workbench/tests/long"),
+        (*MODELS, "as1", "blender", "cgal meshes", "freecad", "geomview"),
+        is_quick=False,
         is_named=True,
+        seconds=3 * SECONDS,
     ),
     Step(
         "all models",

@@ -55,6 +55,7 @@ class Tests(unittest.TestCase):
         quick, whole = steps.chosen([], True), steps.chosen([], False)
         self.assertLess(len(quick), len(whole))
         self.assertLess(len(whole), len(steps.STEPS))
+        self.assertIn("models", [step.name for step in whole])
         self.assertEqual(
             [step.name for step in steps.chosen(["all models", "models"], True)],
             ["models", "all models"],
