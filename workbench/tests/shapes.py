@@ -7,13 +7,15 @@ from typing import Any, Callable, List, Optional, Sequence, Tuple
 import numpy
 from scipy.spatial import ConvexHull
 
-from workbench.closing import Shell, holds
 from workbench.reading import step
 from workbench.solid import Mesh, Piece
 
 Distance = Callable[
     [numpy.ndarray], numpy.ndarray
 ]  # points (n, 3) to distances from a solid (n,), 0 within
+
+
+MOST_ENTRIES = 200_000  # of a table of points by triangles
 
 
 def write_step(
@@ -177,20 +179,36 @@ def triangle_distances(points: numpy.ndarray, triangle: numpy.ndarray) -> numpy.
     return far
 
 
+def within(points: numpy.ndarray, triangles: numpy.ndarray) -> numpy.ndarray:
+    """Which points (n, 3) lie in the solid between triangles (m, 3, 3), by solid angles, as `closing.holds`."""
+    found = numpy.zeros(len(points), bool)
+    most = max(1, MOST_ENTRIES // len(triangles))
+    for start in range(0, len(points), most):
+        some = slice(start, start + most)
+        one, two, three = (triangles[None, :, k] - points[some, None] for k in range(3))
+        a, b, c = (numpy.sqrt((row * row).sum(axis=2)) for row in (one, two, three))
+        up = (one * numpy.cross(two, three)).sum(axis=2)
+        down = a * b * c + (one * two).sum(axis=2) * c + (one * three).sum(axis=2) * b
+        down += (two * three).sum(axis=2) * a
+        found[some] = numpy.abs(2 * numpy.arctan2(up, down).sum(axis=1)) > 2 * numpy.pi
+    return found
+
+
 def mesh_distance(mesh: Mesh) -> Distance:
     """The distance from the solid in a closed mesh."""
-    triangles = [
-        mesh.points[[face[0], face[k], face[k + 1]]]
-        for face in mesh.faces
-        for k in range(1, len(face) - 1)
-    ]
+    triangles = numpy.array(
+        [
+            mesh.points[[face[0], face[k], face[k + 1]]]
+            for face in mesh.faces
+            for k in range(1, len(face) - 1)
+        ]
+    )
 
     def distance(points: numpy.ndarray) -> numpy.ndarray:
         far = numpy.full(len(points), numpy.inf)
         for triangle in triangles:
             far = numpy.minimum(far, triangle_distances(points, triangle))
-        within = numpy.array([holds(Shell(mesh, 0), point) for point in points])
-        return numpy.where(within, 0.0, far)
+        return numpy.where(within(points, triangles), 0.0, far)
 
     return distance
 
