@@ -2,6 +2,8 @@
 from __future__ import annotations
 
 import argparse
+import os
+import shlex
 import sys
 from fractions import Fraction
 from typing import List, NoReturn, Sequence, Tuple
@@ -15,14 +17,16 @@ from .cut import cut
 from .ordering import runs_of
 from .overlaps import overlaps
 from .product import Asked, Product, read_product
-from .show.command import show
+from .show.command import SHOWN, show
 from .solid import Options, Pieces, Refusal
+from .surfaces import SURFACES, surfaces_text
 from .writing import Output
 
 REFUSED = 3
 OVERLAPPED = 1
 STUCK = 1
-SHOW = "a page, a glTF file and pictures of the plan of staat: report.html, product.glb, steps.png"
+SHOW = "a page, a glTF file and pictures of the plan of staat: report.html, product.glb, steps.png, report.pdf"
+WHOLE = "Cuts models into pieces, plans, and writes the report: pieces, plan and show, one after another."
 
 
 class Words(argparse.ArgumentParser):
@@ -66,6 +70,7 @@ def parser() -> Words:
     top = Words(
         prog="staat-cad",
         description="Leads from CAD models to the planner staat. Nothing here is proved: staat judges what is written.",
+        epilog="staat-cad MODEL.. --out=FOLDER does all of it: pieces, plan and show.",
     )
     commands = top.add_subparsers(dest="command", metavar="COMMAND", required=True)
     one = commands.add_parser(
@@ -95,6 +100,23 @@ def parser() -> Words:
     )
     add_showing(commands.add_parser("show", help=SHOW, description=SHOW))
     return top
+
+
+def whole_parser() -> Words:
+    """For models without a command: all of it."""
+    whole = Words(prog="staat-cad", description=WHOLE)
+    whole.set_defaults(command="whole")
+    add_reading(whole)
+    add_cutting(whole)
+    return whole
+
+
+def read_words(words: Sequence[str]) -> argparse.Namespace:
+    """What is asked: a command, or all of it for models, where the first word is no command."""
+    is_command = not words or words[0] in COMMANDS or words[0] in ("-h", "--help")
+    given = (parser() if is_command else whole_parser()).parse_args(list(words))
+    given.said = shlex.join(["staat-cad", *words])
+    return given
 
 
 def add_showing(one: argparse.ArgumentParser) -> None:
@@ -215,6 +237,11 @@ def cleared(product: Product, found: List[List[Pieces]], options: Options) -> Li
 
 
 def pieces(given: argparse.Namespace) -> int:
+    return write_pieces(given)[0]
+
+
+def write_pieces(given: argparse.Namespace) -> Tuple[int, bool]:
+    """Cuts the models; the status, and whether a part list was written. Refusal: nothing can be cut or written."""
     options = options_of(given)
     asked = Asked(given.each, None if given.merge is None else float(given.merge))
     product = read_product(given.models, options, asked, given.grid)
@@ -223,13 +250,15 @@ def pieces(given: argparse.Namespace) -> int:
         output = Output(given.out, product.inputs)
         for one in cuts:
             output.part(one.part.name, one.pieces)
+        output.add(SURFACES, surfaces_text(product.parts))
         print("\n".join(summary.part_lines(product, cuts)))
-        print("written " + output.write(summary.model_of(product, cuts, options)))
+        model = summary.model_of(product, cuts, options)
+        print("written " + output.write({**model, "command": given.said}))
     for name, why in product.lost:
         left_out = f"part {name} is left out: " if cuts else ""
         print(f"staat-cad: {left_out}{why}", file=sys.stderr)
     status = told(given.out, product, cuts, options) if cuts else 0
-    return REFUSED if product.lost else status
+    return REFUSED if product.lost else status, bool(cuts)
 
 
 def told(folder: str, product: Product, cuts: Sequence[summary.Cut], options: Options) -> int:
@@ -263,6 +292,27 @@ def plan(folder: str, asked: Planner) -> int:
     return STUCK if answer.stuck else 0
 
 
+def whole(given: argparse.Namespace) -> int:
+    """Pieces, plan and show, one after another; the greatest status.
+
+    What there is of an earlier call goes first. The product is shown where there is no plan, too.
+    """
+    status, is_written = write_pieces(given)
+    if not is_written:
+        return status
+    for name in (report.PLAN, *SHOWN):
+        if os.path.exists(os.path.join(given.out, name)):
+            os.remove(os.path.join(given.out, name))
+    is_told = False
+    try:
+        status = max(status, plan(given.out, OfPlan()))
+    except Refusal as fault:
+        is_told = True
+        status = REFUSED
+        print(f"staat-cad: {fault}", file=sys.stderr)
+    return max(status, show(given.out, None, is_told))
+
+
 COMMANDS = {
     "pieces": pieces,
     "plan": lambda given: plan(given.folder, OfPlan()),
@@ -273,9 +323,9 @@ COMMANDS = {
 
 def main(words: Sequence[str]) -> int:
     """Runs the words; the status: 0, 1 where parts overlap, 2 for words that are none, 3 where something is refused."""
-    given = parser().parse_args(list(words))
+    given = read_words(words)
     try:
-        return COMMANDS[given.command](given)
+        return COMMANDS.get(given.command, whole)(given)
     except Refusal as fault:
         print(f"staat-cad: {fault}", file=sys.stderr)
         return REFUSED

@@ -2,6 +2,7 @@
 from __future__ import annotations
 
 import math
+import os
 from dataclasses import dataclass
 from typing import Any, Dict, List, Sequence, Tuple
 
@@ -199,6 +200,7 @@ def upwards(length: float) -> float:
 def model_of(product: Product, cuts: Sequence[Cut], options: Options) -> Dict[str, Any]:
     """What other programs want to know of the part list."""
     return {
+        "models": [os.path.basename(path) for path in product.inputs],
         "unit": product.unit,
         "grid": str(product.grid),
         "side": options.side,

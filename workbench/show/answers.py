@@ -6,23 +6,24 @@ import re
 import subprocess
 import tempfile
 from dataclasses import dataclass
-from typing import Sequence
+from typing import Optional, Sequence
 
-from ..answers import read_certificate
-from ..planner import TOP
+from .. import planner as programs
+from ..answers import fault_of, read_certificate
 from ..solid import Refusal
 from .holds import holds_of
-from .plans import Check, Group, Plan, Vector
+from .plans import Check, Group, Overlap, Plan, Vector
 
 SHIFT = re.compile(r"shift \d+ by (-?\d+) (-?\d+) (-?\d+)")
+OVERLAP = re.compile(r"parts (\d+) and (\d+) overlap in pieces (\d+) and (\d+)")
 
 
 class Refused(Exception):
-    """The planner refuses with a status; its line stands on standard error already."""
+    """The planner refuses a part list: the words that it was asked, its status, and the line that says why."""
 
-    def __init__(self, status: int) -> None:
-        super().__init__(status)
-        self.status = status
+    def __init__(self, words: Sequence[str], status: int, why: str) -> None:
+        super().__init__(why)
+        self.words, self.status, self.why = words, status, why
 
 
 @dataclass(frozen=True)
@@ -40,13 +41,13 @@ class Planner:
                 [self.program, *words, f"--manifest={self.listed}"],
                 cwd=self.folder,
                 check=False,
-                stdout=subprocess.PIPE,
+                capture_output=True,
                 text=True,
             )
         except OSError as fault:
             raise Refusal(f"cannot run {self.program}: {fault.strerror}") from fault
-        if done.returncode > 1:
-            raise Refused(done.returncode)
+        if done.returncode not in (0, 1):
+            raise Refused(words, done.returncode, fault_of(done))
         return done.stdout
 
     def told(self, *words: str) -> str:
@@ -55,9 +56,9 @@ class Planner:
 
 
 def planner_of(folder: str, listed: str) -> Planner:
-    """The planner that the variable STAAT names, else ./staat of the repository."""
-    program = os.environ.get("STAAT") or os.path.join(TOP, "staat")
-    return Planner(os.path.abspath(program), folder, listed)
+    """The planner that the variable STAAT names, else a built one of the repository, else its ./staat."""
+    program = programs.program() or os.path.join(programs.TOP, "staat")
+    return Planner(program, folder, listed)
 
 
 def last_line(text: str) -> str:
@@ -87,6 +88,23 @@ def ask_plan(planner: Planner) -> Plan:
     found = read_certificate(certificate)
     groups = tuple(Group(parts, tuple(holds_of(certificate))) for parts in found.stuck)
     return Plan(found.steps, groups, checks)
+
+
+def without_answer(planner: Planner, refused: Refused) -> Plan:
+    """What is shown where `staat` refuses: no step, and the two pieces where it says that they overlap."""
+    overlap = overlap_of(refused.why)
+    meaning = "parts overlap" if overlap else "there is no answer"
+    check = Check(planner.told(*refused.words), refused.why, meaning)
+    return Plan((), (), (check,), refused.why, overlap)
+
+
+def overlap_of(line: str) -> Optional[Overlap]:
+    """The two pieces that a line of `staat` says overlap; nothing where it says something else."""
+    found = OVERLAP.fullmatch(line)
+    if found is None:
+        return None
+    part, by, piece, by_piece = map(int, found.groups())
+    return Overlap(part, piece, by, by_piece)
 
 
 def meaning_of(stuck: bool) -> str:

@@ -14,6 +14,7 @@ from ..solid import Refusal
 
 SECONDS = 600  # how long a page may take to be ready, on a machine that has much to do
 STARTS = 3  # how often a browser is started that does not answer
+SHEET = {"paperWidth": 8.27, "paperHeight": 11.69}  # A4, in inches
 WORDS = (
     "--headless=new",
     "--no-sandbox",  # else it does not run as root
@@ -72,6 +73,12 @@ def strip(driver: Any) -> bytes:
     """The pictures of all steps of the page that is open, as a PNG file."""
     address = driver.execute_script("return report.strip().toDataURL('image/png')")
     return small(base64.b64decode(address.partition(",")[2]))
+
+
+def paper(driver: Any) -> bytes:
+    """The page that is open as it is printed, as a PDF file."""
+    told = driver.execute_cdp_cmd("Page.printToPDF", {"printBackground": True, **SHEET})
+    return base64.b64decode(told["data"])
 
 
 def small(data: bytes) -> bytes:

@@ -1,30 +1,34 @@
-"""The command `show`: from a part list to the page, the glTF file and the strip of pictures."""
+"""The command `show`: from a part list to the page, the glTF file, and the pictures and the page for paper."""
 from __future__ import annotations
 
 import json
 import os
+import sys
 from dataclasses import dataclass, replace
 from fractions import Fraction
 from typing import Any, Dict, List, Optional
 
 from ..reading.lists import read_list
 from ..solid import Refusal
+from ..surfaces import read_surfaces
 from ..writing import LIST, MODEL
 from . import answers, browser
 from .gltf import glb
 from .page import data_of, page
 from .plans import Plan, Vector, places
-from .scene import Part, parts_of
+from .scene import Part, as_drawn, parts_of
 from .travel import travels
 from .views import looked_from
 
-REPORT, PRODUCT, STRIP = "report.html", "product.glb", "steps.png"
+REPORT, PRODUCT, STRIP, PAPER = "report.html", "product.glb", "steps.png", "report.pdf"
+SHOWN = (REPORT, PRODUCT, STRIP, PAPER)
+REFUSED = 3  # the status where staat has no answer
 METRES = {"mm": 0.001, "cm": 0.01, "dm": 0.1, "m": 1.0, "in": 0.0254, "inch": 0.0254, "ft": 0.3048}
 
 
 @dataclass(frozen=True)
 class Shown:
-    """What the three files are made from.
+    """What the files are made from.
 
     rows: where the parts stand before the first step, and after each
     model: what `./staat-cad pieces` tells of the parts, where there is such
@@ -48,22 +52,23 @@ class Shown:
         return 1.0 / max(sizes)
 
 
-def show(given: str, out: Optional[str]) -> int:
-    """Writes the files for a folder or a part list; the status, which is that of `staat` where it refuses.
+def show(given: str, out: Optional[str], is_told: bool = False) -> int:
+    """Writes the files for a folder or a part list; the status, 3 where `staat` has no answer.
 
+    The product is shown in any case. is_told: why there is no answer was said already.
     Refusal: one of the files cannot be made.
     """
     listed = os.path.join(given, LIST) if os.path.isdir(given) else given
     folder = out or os.path.dirname(listed) or "."
-    try:
-        shown = shown_of(listed)
-    except answers.Refused as fault:
-        return fault.status
+    shown = shown_of(listed)
+    if shown.plan.fault and not is_told:
+        print(f"staat-cad: {shown.plan.fault}", file=sys.stderr)
     write_files(shown, folder)
     with browser.chromium() as driver:
         browser.open_page(driver, os.path.join(folder, REPORT))
         write(folder, STRIP, browser.strip(driver))
-    return 0
+        write(folder, PAPER, browser.paper(driver))
+    return REFUSED if shown.plan.fault else 0
 
 
 def write_files(shown: Shown, folder: str) -> None:
@@ -75,15 +80,32 @@ def write_files(shown: Shown, folder: str) -> None:
 
 
 def shown_of(listed: str) -> Shown:
-    """What is shown of a part list: the answer of `staat`. Refusal: the list cannot be read, or `staat` refuses it."""
+    """What is shown of a part list: the answer of `staat`.
+
+    Refusal: the list cannot be read, or `staat check` does not call the answer valid.
+    """
     parts = parts_of(read_list(listed))
     planner = planner_of(listed)
-    plan = answers.ask_plan(planner)
+    try:
+        plan = answers.ask_plan(planner)
+    except answers.Refused as refused:
+        plan = answers.without_answer(planner, refused)
     rows = places(plan, travels(plan, [part.box for part in parts]), len(parts))
-    if not plan.groups:
+    if not plan.groups and not plan.fault:
         plan = replace(plan, checks=(*plan.checks, answers.apart(planner, rows[-1])))
-    title = os.path.basename(os.path.dirname(os.path.abspath(listed)))
-    return Shown(title, parts, plan, rows, model_of(listed, parts))
+    model = model_of(listed, parts)
+    if model:
+        meshes = read_surfaces(os.path.dirname(listed) or ".", [part.name for part in parts])
+        parts = as_drawn(parts, meshes, 1 / float(Fraction(model["grid"]))) if meshes else parts
+    return Shown(title_of(listed, model), parts, plan, rows, model)
+
+
+def title_of(listed: str, model: Optional[Dict[str, Any]]) -> str:
+    """The name of the file of the model, where it is one; else that of the folder of the list."""
+    models = (model or {}).get("models", [])
+    if len(models) == 1:
+        return str(os.path.splitext(models[0])[0])
+    return os.path.basename(os.path.dirname(os.path.abspath(listed)))
 
 
 def planner_of(listed: str) -> answers.Planner:
@@ -111,12 +133,13 @@ def model_of(listed: str, parts: List[Part]) -> Optional[Dict[str, Any]]:
 
 
 def write(folder: str, name: str, data: bytes) -> None:
-    """Writes a file and says so. Refusal: it cannot be written."""
+    """Writes a file whole or not at all, and says so. Refusal: it cannot be written."""
     path = os.path.join(folder, name)
     try:
         os.makedirs(folder, exist_ok=True)
-        with open(path, "wb") as file:
+        with open(path + ".part", "wb") as file:
             file.write(data)
+        os.replace(path + ".part", path)
     except OSError as fault:
         raise Refusal(f"cannot write to {folder}: {fault.strerror}") from fault
     print(f"written {path}")

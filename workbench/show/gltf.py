@@ -84,8 +84,8 @@ def glb(parts: Sequence[Part], rows: Sequence[Sequence[Vector]], title: str, sca
 
 
 def mesh_of(part: Part, number: int, buffer: Buffer) -> Dict[str, Any]:
-    """The triangles of a part's surface, each corner with the normal of its face."""
-    corners, normals = triangles(part.surface)
+    """The triangles of a part's surface in the model, else of its pieces, each corner with the normal of its face."""
+    corners, normals = triangles(part.drawn or part.surface)
     attributes = {
         "POSITION": buffer.add(corners.reshape(-1, 3), "VEC3", ARRAY_BUFFER, bounded=True),
         "NORMAL": buffer.add(normals.repeat(3, axis=0), "VEC3", ARRAY_BUFFER),

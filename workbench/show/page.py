@@ -39,7 +39,9 @@ def data_of(
             {"parts": group.parts, "holds": [vars(hold) for hold in group.holds]}
             for group in plan.groups
         ],
-        "checks": [vars(check) for check in plan.checks],
+        "checks": [check._asdict() for check in plan.checks],
+        "fault": plan.fault,
+        "overlap": plan.overlap and plan.overlap._asdict(),
         "model": model,
     }
 

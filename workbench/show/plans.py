@@ -6,7 +6,7 @@ grid.
 from __future__ import annotations
 
 from dataclasses import dataclass
-from typing import List, Sequence, Tuple
+from typing import List, NamedTuple, Optional, Sequence, Tuple
 
 from ..answers import Step
 
@@ -41,8 +41,7 @@ class Group:
     holds: Tuple[Hold, ...] = ()
 
 
-@dataclass(frozen=True)
-class Check:
+class Check(NamedTuple):
     """A command of a planner or a judge that was run, its answer in one line, and what that means."""
 
     command: str
@@ -50,16 +49,28 @@ class Check:
     meaning: str
 
 
+class Overlap(NamedTuple):
+    """A piece of a part and a piece of the part `by` that have inner points in common."""
+
+    part: int
+    piece: int
+    by: int
+    by_piece: int
+
+
 @dataclass(frozen=True)
 class Plan:
     """Steps in an order in which each divides parts that are still together, and the groups that remain.
 
-    The steps of a side come behind the step that parts it from the other one.
+    The steps of a side come behind the step that parts it from the other one. Where there is no answer, `fault` is the
+    line that says why, and `overlap` is what it names, where parts overlap.
     """
 
     steps: Tuple[Step, ...]
     groups: Tuple[Group, ...] = ()
     checks: Tuple[Check, ...] = ()
+    fault: str = ""
+    overlap: Optional[Overlap] = None
 
 
 def places(plan: Plan, travels: Sequence[int], many: int) -> List[List[Vector]]:

@@ -3,14 +3,15 @@ from __future__ import annotations
 
 import colorsys
 import os
-from dataclasses import dataclass
-from typing import List, Sequence, Tuple
+from dataclasses import dataclass, replace
+from typing import Iterator, List, Optional, Sequence, Tuple
 
 import numpy
 
 from ..reading.lists import Listed
 from ..reading.off import read_off
-from ..solid import Refusal
+from ..solid import Mesh, Refusal
+from ..triangles import newell, triangulated
 from .creases import Body, creases
 from .surface import surface
 from .travel import Box
@@ -36,6 +37,7 @@ class Part:
     surface: convex polygons (n, 3), wound outwards, which bound the union of the pieces
     lines: (n, 2, 3), where that surface has a bend
     colour: as #rrggbb
+    drawn: convex polygons of the surface that the model has, where it was read
     """
 
     name: str
@@ -43,6 +45,7 @@ class Part:
     surface: List[numpy.ndarray]
     lines: numpy.ndarray
     colour: str
+    drawn: Optional[List[numpy.ndarray]] = None
 
     @property
     def points(self) -> numpy.ndarray:
@@ -68,6 +71,26 @@ def parts_of(listed: Sequence[Listed]) -> List[Part]:
         Part(part.name, some, surface(some, extent), creases(some, extent), colour_of(number))
         for number, (part, some) in enumerate(zip(listed, bodies))
     ]
+
+
+def as_drawn(parts: Sequence[Part], meshes: Sequence[Mesh], steps: float) -> List[Part]:
+    """The parts with their surfaces in the model, of which one unit is so many steps of the grid."""
+    return [
+        replace(part, drawn=[polygon * steps for polygon in polygons_of(mesh)])
+        for part, mesh in zip(parts, meshes)
+    ]
+
+
+def polygons_of(mesh: Mesh) -> Iterator[numpy.ndarray]:
+    """The faces of a mesh, those with more than three corners in triangles."""
+    for face in mesh.faces:
+        corners = mesh.points[face]
+        normal = newell(corners - corners[0])
+        if len(face) > 3 and normal.any():
+            numbers = list(range(len(face)))
+            yield from (corners[some] for some in triangulated(corners, [numbers], normal))
+        elif len(face) == 3:
+            yield corners
 
 
 def body_of(file: str, at: numpy.ndarray) -> Body:

@@ -7,6 +7,7 @@
   const PACE = 1100; /* milliseconds that a step takes */
   const find = (name) => document.getElementById(name);
   const AXES = ["x", "y", "z"];
+  const manyPieces = data.parts.reduce((sum, part) => sum + part.pieces.length, 0);
 
   function element(kind, properties, ...children) {
     const made = Object.assign(document.createElement(kind), properties || {});
@@ -44,8 +45,9 @@
   let scene = null;
   let controls = null;
 
-  /* The parts that hold each other, where some do. */
-  const grouped = new Set(data.groups.flatMap((group) => group.parts));
+  /* The parts that hold each other or overlap, where some do. */
+  const overlap = data.overlap;
+  const grouped = new Set([...data.groups.flatMap((group) => group.parts), ...(overlap ? [overlap.part, overlap.by] : [])]);
 
   /* The look of each part: as it was chosen; faint where others are to be seen, which are the pieces of a hold, or
      the groups and what a step moves. */
@@ -93,6 +95,7 @@
     if (step) words = `Step ${at} of ${many}: ${said(step)}.`;
     if (at === many && state.time === many && many) words += " This is the exploded view.";
     if (!many && data.groups.length) words = "No step takes these parts apart.";
+    if (data.fault) words = "There is no plan: staat gives no answer for these pieces.";
     if (find("now").textContent !== words) find("now").textContent = words;
   }
 
@@ -176,6 +179,25 @@
     dress();
   }
 
+  /* A line that lights up two pieces. */
+  function lineOf(hold, words) {
+    const [part, by] = [data.parts[hold.part].name, data.parts[hold.by].name];
+    const button = element("button", { type: "button" }, spot(hold.part), part, words, spot(hold.by), by);
+    button.title = `piece ${hold.piece} of ${part} meets piece ${hold.by_piece} of ${by}`;
+    button.setAttribute("aria-pressed", "false");
+    button.addEventListener("click", () => choose(hold, button));
+    return button;
+  }
+
+  function fillOverlap() {
+    if (!overlap) return;
+    find("holds").hidden = false;
+    find("holds").querySelector("h2").textContent = "Parts overlap";
+    find("holds").querySelector("p").textContent =
+      "Parts may touch, but share no inner points. The line lights up the first two pieces that do.";
+    find("holds").querySelector("div").append(lineOf(overlap, " overlaps "));
+  }
+
   function fillHolds() {
     if (!data.groups.length) return;
     find("holds").hidden = false;
@@ -187,13 +209,7 @@
       for (const direction of directions) {
         const some = group.holds.filter((hold) => hold.along.join(" ") === direction);
         find("holds").querySelector("div").append(element("h3", {}, `Along ${way(some[0].along)}`));
-        for (const hold of some) {
-          const button = element("button", { type: "button" }, spot(hold.part), data.parts[hold.part].name, " is held by ", spot(hold.by), data.parts[hold.by].name);
-          button.title = `piece ${hold.piece} of ${data.parts[hold.part].name} meets piece ${hold.by_piece} of ${data.parts[hold.by].name}`;
-          button.setAttribute("aria-pressed", "false");
-          button.addEventListener("click", () => choose(hold, button));
-          find("holds").querySelector("div").append(button);
-        }
+        find("holds").querySelector("div").append(...some.map((hold) => lineOf(hold, " is held by ")));
       }
     }
   }
@@ -229,7 +245,9 @@
 
   /* What was checked, and how near the pieces are to the model. */
   function fillFoot() {
-    for (const check of data.checks) {
+    const made = { answer: `${data.parts.length} parts, ${manyPieces} pieces`, meaning: "cut from the model, which nothing proves: what they are worth follows from the bounds below" };
+    const isMade = data.model && data.model.command;
+    for (const check of [...(isMade ? [{ command: data.model.command, ...made }] : []), ...data.checks]) {
       find("checks").querySelector("tbody").append(element("tr", {}, element("td", {}, element("code", {}, check.command)),
         element("td", {}, check.answer), element("td", {}, check.meaning)));
     }
@@ -251,12 +269,12 @@
   }
 
   function fillHead() {
-    const pieces = data.parts.reduce((sum, part) => sum + part.pieces.length, 0);
-    const size = `${data.parts.length} parts, ${pieces} pieces`;
+    const size = `${data.parts.length} parts, ${manyPieces} pieces`;
     const held = data.groups.map(({ parts }) => (parts.length > 4 ? `${parts.length} parts` : named(parts))).join("; ");
     const steps = many === 1 ? "one step" : `${many} steps`;
     let words = `${size}; comes apart in ${steps}, and backwards they put it together`;
     if (data.groups.length) words = `${size}; ${many ? `comes apart in ${steps} but for groups that hold each other: ${held}` : `${held} hold each other and are stuck`}`;
+    if (data.fault) words = `${size}; no plan: ${overlap ? `${named([overlap.part, overlap.by])} overlap` : data.fault}`;
     find("answer").textContent = words;
   }
 
@@ -368,6 +386,7 @@
   fillHead();
   fillSteps();
   fillHolds();
+  fillOverlap();
   fillParts();
   fillFoot();
   listen();

@@ -187,7 +187,8 @@ report.Scene = class {
   /* The arrow along which a piece is held; else that of the step at hand. */
   point(hold) {
     const step = this.data.steps[Math.ceil(this.at) - 1];
-    if (hold) {
+    if (hold && !hold.along) this.setArrow(null);
+    else if (hold) {
       const { group, pieces } = this.parts[hold.part];
       const box = new THREE.Box3().setFromBufferAttribute(pieces[hold.piece].geometry.getAttribute("position"));
       this.setArrow(this.before(box.translate(group.position), hold.along));
