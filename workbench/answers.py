@@ -68,32 +68,44 @@ def tree(lines: Iterator[List[str]], steps: List[Step]) -> Tuple[int, ...]:
     return moved + rest
 
 
+@dataclass(frozen=True)
 class OfPlan:
-    """Asks `staat plan` for a certificate, and `staat check` whether it is valid."""
+    """Asks `staat plan` for a certificate, and `staat check` whether it is valid.
+
+    listed: the part list, whose names of files hold in the folder that is asked about
+    """
+
+    listed: str = LIST
 
     def answer(self, folder: str) -> Answer:
-        told = asked(folder, ["plan", "--cert"])
+        return self.shown(folder)[0]
+
+    def shown(self, folder: str) -> Tuple[Answer, str]:
+        """The answer, and the certificate that shows it. Refusal: there is none, and why."""
+        told = asked(folder, ["plan", "--cert"], self.listed)
         if told.returncode not in (0, 1):
             raise Refusal(fault_of(told))
         with tempfile.TemporaryDirectory() as place:
             path = os.path.join(place, "certificate")
             with open(path, "w", encoding="ascii") as file:
                 file.write(told.stdout)
-            judged = asked(folder, ["check", path])
+            judged = asked(folder, ["check", path], self.listed)
         if judged.returncode or judged.stdout not in ("valid plan\n", "valid refusal\n"):
             raise Refusal(f"the checker does not call the answer valid: {fault_of(judged)}")
-        return read_certificate(told.stdout)
+        return read_certificate(told.stdout), told.stdout
 
     def arcs(self, folder: str, along: Tuple[int, int, int]) -> Set[Arc]:
-        told = asked(folder, ["graph", "--along=" + ",".join(map(str, along))])
+        told = asked(folder, ["graph", "--along=" + ",".join(map(str, along))], self.listed)
         if told.returncode:
             raise Refusal(fault_of(told))
         rows = (line.split() for line in told.stdout.splitlines() if line.startswith("arc "))
         return {(int(one), int(other)) for _, one, other in rows}
 
 
-def asked(folder: str, words: Sequence[str]) -> "subprocess.CompletedProcess[str]":
-    """What `staat` says of the part list of a folder. Refusal: there is none, or no program."""
+def asked(
+    folder: str, words: Sequence[str], listed: str = LIST
+) -> "subprocess.CompletedProcess[str]":
+    """What `staat` says of a part list, in a folder that has one. Refusal: it has none, or there is no program."""
     if not os.path.isfile(os.path.join(folder, LIST)):
         raise Refusal(
             f"{folder} holds no {LIST}; ./staat-cad pieces MODEL.. --out={folder} writes one"
@@ -101,7 +113,7 @@ def asked(folder: str, words: Sequence[str]) -> "subprocess.CompletedProcess[str
     staat = planner.program() or os.path.join(planner.TOP, "staat")
     try:
         return subprocess.run(
-            [staat, *words, f"--manifest={LIST}"],
+            [staat, *words, f"--manifest={listed}"],
             cwd=folder,
             capture_output=True,
             text=True,

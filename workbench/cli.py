@@ -16,10 +16,12 @@ from .convex import clear
 from .cut import cut
 from .ordering import runs_of
 from .overlaps import overlaps
+from .precedence import graph_of, write_graph
 from .product import Asked, Product, read_product
 from .show.command import SHOWN, show
 from .solid import Options, Pieces, Refusal
 from .surfaces import SURFACES, surfaces_text
+from .why import why
 from .writing import Output
 
 REFUSED = 3
@@ -58,6 +60,15 @@ def clearance_of(text: str) -> Tuple[str, float]:
     return name, float(length_of(length))
 
 
+def along_of(text: str) -> Tuple[int, int, int]:
+    """A direction, as 0,0,1."""
+    try:
+        x, y, z = map(int, text.split(","))
+    except ValueError as fault:
+        raise argparse.ArgumentTypeError(f"{text} is no three whole numbers, as 0,0,1") from fault
+    return x, y, z
+
+
 def each_of(text: str) -> str:
     if text not in ("solid", "name", "file") and not (text.isdigit() and int(text) > 0):
         raise argparse.ArgumentTypeError(
@@ -88,6 +99,17 @@ def parser() -> Words:
         "writes them to plan.json there.",
     )
     plan.add_argument("folder", metavar="FOLDER", help="what pieces wrote")
+    cause = commands.add_parser(
+        "why",
+        help="of parts that are stuck, who holds whom; of a part, what is in its way",
+        description="Tells of the parts in a folder that are stuck who holds whom, and without which of them the others "
+        "come apart; or what is in the way of a part along a direction.",
+    )
+    cause.add_argument("folder", metavar="FOLDER", help="what pieces wrote")
+    cause.add_argument("--part", metavar="NAME", help="a part, by its name or its number")
+    cause.add_argument(
+        "--along", type=along_of, metavar="X,Y,Z", help="a direction in whole numbers, as 0,0,1"
+    )
     other = commands.add_parser(
         "run",
         help="run a command of staat on a part list, in its folder",
@@ -289,6 +311,8 @@ def plan(folder: str, asked: Planner) -> int:
     runs = runs_of(answer.steps, asked, folder)
     print("\n".join(report.lines_of(answer, runs, parts)))
     print("written " + report.write_plan(folder, report.plan_of(answer, runs, parts)))
+    for path in write_graph(folder, graph_of(runs, parts)):
+        print(f"written {path}")
     return STUCK if answer.stuck else 0
 
 
@@ -313,11 +337,17 @@ def whole(given: argparse.Namespace) -> int:
     return max(status, show(given.out, None, is_told))
 
 
+def tell_why(given: argparse.Namespace) -> int:
+    print("\n".join(why(given.folder, given.part, given.along)))
+    return 0
+
+
 COMMANDS = {
     "pieces": pieces,
     "plan": lambda given: plan(given.folder, OfPlan()),
     "run": lambda given: planner.run(given.folder, given.asked, given.words),
     "show": lambda given: show(given.folder, given.out),
+    "why": tell_why,
 }
 
 

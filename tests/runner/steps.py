@@ -70,13 +70,12 @@ SHOW = ("chromedriver", "chromium", "numpy", "selenium", "three")  # what ./staa
 STEPS = (
     Step("memory", _python("tools/refuse_memory.py", "{program}"), ("cc",)),
     Step("checkers", _python("tools/compare_checkers.py", "--program={program}", "--broken=1000")),
-    Step("pages", _python("tests/runner/pages.py", "{program}"), (*MODELS, "as1")),
+    Step("pages", _python("tests/runner/pages.py", "{program}"), (*MODELS, *SHOW, "as1")),
     Step(
         "show",
         _python("tests/runner/units.py", "workbench/tests/show"),
-        (*SHOW, "assimp", "blender"),
+        (*SHOW, "assimp", "blender", "scipy"),
         is_quick=False,
-        is_named=True,
     ),
     Step(
         "workbench",

@@ -135,7 +135,14 @@ class Plans(Case):
         folder = self.boxes(
             ("a", [0, 0, 0], [9, 1, 1]), ("b", [0, 0, 1], [9, 1, 2]), ("c", [0, 0, 2], [9, 1, 3])
         )
-        self.assertIn("   c before b", self.lines(folder))
+        lines = self.lines(folder)
+        self.assertIn("   c before b", lines)
+        self.assertIn("written " + os.path.join(folder, "order.dot"), lines)
+        with open(os.path.join(folder, "order.dot"), encoding="utf-8") as file:
+            graph = file.read()
+        for line in ('  r0u1 [label="b"]', '  r0u2 [label="c"]', "  r0u2 -> r0u1"):
+            self.assertIn(line, graph.splitlines())
+        self.assertNotIn('"a"', graph)
 
     def test_stuck(self) -> None:
         for name in ("cube", "ceiling", "floor", "north", "south", "east", "west"):

@@ -4,12 +4,13 @@ from __future__ import annotations
 import contextlib
 import functools
 import io
+import json
 import os
 import re
 import subprocess
 import tempfile
 from dataclasses import dataclass
-from typing import List, Tuple
+from typing import Any, Dict, List, Tuple
 
 from workbench import planner
 from workbench.show import command
@@ -123,3 +124,15 @@ def folder(name: str) -> str:
 @functools.lru_cache(maxsize=None)
 def scratch() -> "tempfile.TemporaryDirectory[str]":
     return tempfile.TemporaryDirectory(prefix="show-")
+
+
+def by_assimp(path: str) -> Dict[str, Any]:
+    """What assimp reads in a glTF file."""
+    with tempfile.TemporaryDirectory() as place:
+        out = os.path.join(place, "out.json")
+        subprocess.run(
+            ["assimp", "export", path, out, "-fassjson"], check=True, capture_output=True
+        )
+        with open(out, encoding="utf-8") as file:
+            told: Dict[str, Any] = json.load(file)
+            return told

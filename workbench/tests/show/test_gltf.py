@@ -4,7 +4,6 @@ from __future__ import annotations
 import json
 import os
 import subprocess
-import tempfile
 import unittest
 from typing import Any, Dict, List, Sequence
 
@@ -36,21 +35,11 @@ class Gltf(unittest.TestCase):
     def test_assimp_finds_names_and_key_frames(self) -> None:
         for name in kit.products():
             with self.subTest(name):
-                told = self.by_assimp(os.path.join(kit.folder(name), PRODUCT))
+                told = kit.by_assimp(os.path.join(kit.folder(name), PRODUCT))
                 nodes = told["rootnode"]["children"]
                 self.assertEqual(sorted(node["name"] for node in nodes), sorted(names(name)))
                 self.assertTrue(all(len(node["meshes"]) == 1 for node in nodes))
                 self.keyed(name, told.get("animations", []))
-
-    def by_assimp(self, path: str) -> Dict[str, Any]:
-        with tempfile.TemporaryDirectory() as folder:
-            out = os.path.join(folder, "out.json")
-            subprocess.run(
-                ["assimp", "export", path, out, "-fassjson"], check=True, capture_output=True
-            )
-            with open(out, encoding="utf-8") as file:
-                told: Dict[str, Any] = json.load(file)
-                return told
 
     def keyed(self, name: str, animations: List[Dict[str, Any]]) -> None:
         wanted = frames(name)

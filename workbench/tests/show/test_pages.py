@@ -1,80 +1,21 @@
 """The pages of all products of the gallery in Chromium: each part is where `staat` says, at each step."""
 from __future__ import annotations
 
-import contextlib
 import os
 import tempfile
-import unittest
 from dataclasses import replace
 from typing import Any, Dict, List
 
-from workbench.show import browser
 from workbench.show.command import REPORT
 from workbench.show.plans import Group, Hold, places
 from workbench.show.travel import travels
 
 from . import kit
+from .in_browser import InBrowser
 
 LARGEST = 2_000_000  # bytes of a page
 PHONE = (375, 720)
-WINDOW = (1280, 900)
-
-
-class InBrowser(unittest.TestCase):
-    """A test with a browser that all tests of a class share."""
-
-    driver: Any
-
-    @classmethod
-    def setUpClass(cls) -> None:
-        stack = contextlib.ExitStack()
-        cls.addClassCleanup(stack.close)
-        cls.driver = stack.enter_context(browser.chromium(size="{},{}".format(*WINDOW)))
-
-    def open(self, name: str) -> None:
-        browser.open_page(self.driver, os.path.join(kit.folder(name), REPORT))
-
-    def run_script(self, script: str, *values: Any) -> Any:
-        return self.driver.execute_script(script, *values)
-
-    def keys(self, key: str, selector: str = "#slider") -> None:
-        self.driver.find_element("css selector", selector).send_keys(key)
-
-    def press(self, selector: str) -> None:
-        self.run_script("document.querySelector(arguments[0]).click()", selector)
-
-    def quiet(self) -> None:
-        """No error and no warning stands in the console, and nothing was fetched."""
-        told = [
-            entry for entry in self.driver.get_log("browser") if "GPU stall" not in entry["message"]
-        ]
-        self.assertEqual(told, [])
-        self.assertEqual(
-            self.run_script("return performance.getEntriesByType('resource').length"), 0
-        )
-
-    def near(self, found: List[List[float]], wanted: List[Any]) -> None:
-        self.assertEqual(len(found), len(wanted))
-        size = max(1.0, *(abs(number) for place in wanted for number in place))
-        for at, place in zip(found, wanted):
-            for one, other in zip(at, place):
-                self.assertAlmostEqual(one, other, delta=1e-9 * size)
-
-    def lit(self) -> List[List[int]]:
-        """The pieces that are drawn, where no part is."""
-        found: List[List[int]] = self.run_script(
-            "return report.scene.parts.flatMap((part, p) => part.solid.visible ? [[p, -1]] :"
-            "part.pieces.flatMap((mesh, k) => mesh.visible ? [[p, k]] : []))"
-        )
-        return sorted(found)
-
-    def looks(self) -> List[str]:
-        """How each part is drawn."""
-        found: List[str] = self.run_script(
-            "return report.scene.parts.map(part => part.solid.visible ? 'whole' :"
-            "part.faint[1].visible ? 'clear' : 'hidden')"
-        )
-        return found
+DESK = (1280, 900)
 
 
 class Pages(InBrowser):
@@ -177,7 +118,7 @@ class Handling(InBrowser):
         rows = places(plan, travels(plan, [part.box for part in shown.parts]), len(shown.parts))
         with tempfile.TemporaryDirectory() as folder:
             kit.write_files(replace(shown, plan=plan, rows=rows), folder)
-            browser.open_page(self.driver, os.path.join(folder, REPORT))
+            self.open_in(folder)
             self.assertEqual(self.looks(), ["whole", "whole", "clear", "clear", "whole"])
             self.keys("\ue014")
             self.assertEqual(self.looks(), ["whole", "whole", "clear", "whole", "whole"])
@@ -186,9 +127,7 @@ class Handling(InBrowser):
             self.assertEqual(self.lit(), [[0, 3], [1, 2]])
             self.press("#holds button")
             self.assertEqual(self.looks(), ["whole", "whole", "clear", "whole", "whole"])
-            self.assertIn(
-                "but for", self.run_script("return document.getElementById('answer').textContent")
-            )
+            self.assertIn("but for", self.text("#answer"))
             self.quiet()
 
     def test_parts_become_clear_and_hidden_by_name(self) -> None:
@@ -252,7 +191,7 @@ class Handling(InBrowser):
         return found
 
     def test_nothing_jumps_and_a_phone_is_wide_enough(self) -> None:
-        for width, height in (WINDOW, PHONE):
+        for width, height in (DESK, PHONE):
             self.narrow(width, height)
             with self.subTest(width=width):
                 self.open("drawers")

@@ -2,18 +2,16 @@
 from __future__ import annotations
 
 import itertools
-import os
 import unittest
 from typing import Sequence, Tuple
 
 import numpy
 
 from workbench.answers import Step
-from workbench.reading.lists import read_list
 from workbench.show.creases import Body, creases
 from workbench.show.holds import read
 from workbench.show.plans import Plan, places
-from workbench.show.scene import Part, colour_of, parts_of, triangles
+from workbench.show.scene import Part, colour_of, triangles
 from workbench.show.surface import surface
 from workbench.show.travel import Box, travels
 
@@ -69,12 +67,7 @@ class Drawn(unittest.TestCase):
         self.assertEqual(self.drawn(two), (2, 12, 23))
 
     def parts(self, name: str) -> Sequence[Part]:
-        folder = os.getcwd()
-        os.chdir(kit.TOP)
-        try:
-            return parts_of(read_list(kit.listed(name)))
-        finally:
-            os.chdir(folder)
+        return kit.shown(name).parts
 
     def test_the_surfaces_of_the_gallery_enclose_the_pieces(self) -> None:
         for name in kit.products():
