@@ -80,13 +80,25 @@
     draw();
   }
 
+  /* Brings a line of the lists beside the picture into sight, where they scroll; the page itself stays. */
+  function reveal(line) {
+    const list = line.closest("aside");
+    if (list.scrollHeight <= list.clientHeight + 1) return;
+    const [box, frame] = [line.getBoundingClientRect(), list.getBoundingClientRect()];
+    if (box.top < frame.top) list.scrollTop -= frame.top - box.top;
+    else if (box.bottom > frame.bottom) list.scrollTop += box.bottom - frame.bottom;
+  }
+
   /* The step at hand, in the lists and in words. */
   function tell() {
     const at = Math.ceil(state.time);
     const step = data.steps[at - 1];
     document.querySelectorAll("#steps button").forEach((button, k) => {
-      if (k === at) button.setAttribute("aria-current", "step");
-      else button.removeAttribute("aria-current");
+      if (k !== at) button.removeAttribute("aria-current");
+      else if (!button.hasAttribute("aria-current")) {
+        button.setAttribute("aria-current", "step");
+        reveal(button);
+      }
     });
     document.querySelectorAll("#parts li").forEach((row, part) => {
       row.classList.toggle("moved", Boolean(step) && step.moved.includes(part));
@@ -218,7 +230,7 @@
     state.picked = state.picked === part ? null : part;
     document.querySelectorAll("#parts .name").forEach((button, number) => {
       button.setAttribute("aria-pressed", String(number === state.picked));
-      if (number === state.picked) button.scrollIntoView({ block: "nearest" });
+      if (number === state.picked) reveal(button);
     });
     dress();
   }

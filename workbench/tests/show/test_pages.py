@@ -58,14 +58,16 @@ class Pages(InBrowser):
         self.near(self.run_script("return report.places()"), middle)
 
     def marked(self, number: int, move: kit.Move) -> None:
-        """The step at hand is marked in both lists, and its words name its parts."""
-        row, moved, words = self.run_script(
+        """The step at hand is marked in both lists, its line is in sight, and its words name its parts."""
+        row, moved, words, is_seen = self.run_script(
             "const all = s => [...document.querySelectorAll(s)];"
+            "const [line, list] = ['#steps [aria-current]', 'aside'].map(s => all(s)[0].getBoundingClientRect());"
             "return [all('#steps button').findIndex(it => it.getAttribute('aria-current')),"
             "all('#parts li').flatMap((it, k) => it.classList.contains('moved') ? [k] : []),"
-            "document.getElementById('now').textContent]"
+            "document.getElementById('now').textContent,"
+            "line.top >= list.top - 1 && line.bottom <= list.bottom + 1]"
         )
-        self.assertEqual((row, moved), (number, move.moved))
+        self.assertEqual((row, moved, is_seen), (number, move.moved, True))
         for part in move.moved:
             self.assertIn(
                 self.run_script("return report.data.parts[arguments[0]].name", part), words
@@ -154,6 +156,7 @@ class Handling(InBrowser):
         )
         self.assertEqual(len(found), 1)
         self.assertIn(found[0], ("0box", "1lid"))
+        self.assertEqual(self.run_script("return scrollY"), 0)
 
     def test_it_plays_to_both_ends(self) -> None:
         self.open("dovetail")
