@@ -21,7 +21,7 @@ from .product import Asked, Product, read_product
 from .show.command import SHOWN, show
 from .solid import Options, Pieces, Refusal
 from .surfaces import SURFACES, surfaces_text
-from .why import why
+from .why import why as why_lines
 from .writing import Output
 
 REFUSED = 3
@@ -338,7 +338,7 @@ def whole(given: argparse.Namespace) -> int:
 
 
 def tell_why(given: argparse.Namespace) -> int:
-    print("\n".join(why(given.folder, given.part, given.along)))
+    print("\n".join(why_lines(given.folder, given.part, given.along)))
     return 0
 
 

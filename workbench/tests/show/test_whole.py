@@ -104,12 +104,11 @@ class Whole(InBrowser):
     def surfaces_are_those_of_the_model(self, angle: str) -> None:
         """The glTF file has the points as they were drawn, though those of the pieces are whole steps."""
         names = ["angle", "block"]
-        drawn = read_surfaces(self.out(), names)
-        self.assertEqual([len(mesh.faces) for mesh in drawn], [8, 6])
+        self.assertEqual([mesh.name for mesh in read_surfaces(self.out(), names)], names)
         with open(self.out("model.json"), encoding="utf-8") as file:
             self.assertEqual(json.load(file)["models"], [os.path.basename(angle), "block.off"])
         nodes = kit.by_assimp(self.out(PRODUCT))["rootnode"]["children"]
-        self.assertEqual([node["name"] for node in nodes], names)
+        self.assertEqual(sorted(node["name"] for node in nodes), names)
         found = meshes_of(self.out(PRODUCT))
         for name, points in (("angle", THIRD * numpy.array(ANGLE_POINTS)), ("block", block())):
             wanted = numpy.unique(numpy.array(points, dtype=float).round(6), axis=0)
