@@ -255,6 +255,12 @@
     });
   }
 
+  /* A bound in three digits, rounded upwards; the whole number stands in the title. */
+  function rounded(length) {
+    const unit = 10 ** (Math.floor(Math.log10(length)) - 2);
+    return length ? String(Number((Math.ceil(length / unit - 1e-9) * unit).toPrecision(3))) : "0";
+  }
+
   /* What was checked, and how near the pieces are to the model. */
   function fillFoot() {
     const made = { answer: `${data.parts.length} parts, ${manyPieces} pieces`, meaning: "cut from the model, which nothing proves: what they are worth follows from the bounds below" };
@@ -270,12 +276,12 @@
       near: "Where a fit is tighter than these bounds, the answer for the model may differ.",
     };
     find("near").textContent = model
-      ? `The pieces stand on a grid of ${model.grid} ${model.unit || ""}; the bounds are in the unit of the model. ${NEAR[model.side] || ""}`
+      ? `The pieces stand on a grid of ${model.grid}${model.unit ? " " + model.unit : ""}; the bounds are in the unit of the model. ${NEAR[model.side] || ""}`
       : "The pieces are the product: the part list names no model that they stand for.";
     if (!model) return;
     find("bounds").hidden = false;
     for (const part of model.parts) {
-      const lengths = [part.over, part.under].map((length) => element("td", { className: "length" }, String(length)));
+      const lengths = [part.over, part.under].map((length) => element("td", { className: "length", title: String(length) }, rounded(length)));
       find("bounds").querySelector("tbody").append(element("tr", {}, element("td", {}, part.name), element("td", {}, String(part.pieces)), ...lengths));
     }
   }
