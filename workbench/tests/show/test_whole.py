@@ -85,6 +85,8 @@ class Whole(InBrowser):
             self.assertIn(f"written {self.out(name)}", out.splitlines())
         self.starts(STRIP, b"\x89PNG")
         self.starts(PAPER, b"%PDF")
+        with open(self.out(PAPER), "rb") as file:
+            self.assertIn(b"/Subtype /Image", file.read())
         self.open_in(self.out())
         self.assertIn("comes apart in one step", self.text("#answer"))
         checked = self.text("#checks")
