@@ -16,7 +16,7 @@ from .convex import clear
 from .cut import cut
 from .ordering import runs_of
 from .overlaps import overlaps
-from .precedence import graph_of, write_graph
+from .precedence import GRAPH, PICTURE, graph_of, write_graph
 from .product import Asked, Product, read_product
 from .show.command import SHOWN, show
 from .solid import Options, Pieces, Refusal
@@ -324,7 +324,7 @@ def whole(given: argparse.Namespace) -> int:
     status, is_written = write_pieces(given)
     if not is_written:
         return status
-    for name in (report.PLAN, *SHOWN):
+    for name in (report.PLAN, GRAPH, PICTURE, *SHOWN):
         if os.path.exists(os.path.join(given.out, name)):
             os.remove(os.path.join(given.out, name))
     is_told = False
