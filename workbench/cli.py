@@ -102,8 +102,8 @@ def parser() -> Words:
     cause = commands.add_parser(
         "why",
         help="of parts that are stuck, who holds whom; of a part, what is in its way",
-        description="Tells of the parts in a folder that are stuck who holds whom, and without which of them the others "
-        "come apart; or what is in the way of a part along a direction.",
+        description="Tells of the parts in a folder that are stuck who holds whom, and without which of them the "
+        "others come apart; or what is in the way of a part along a direction.",
     )
     cause.add_argument("folder", metavar="FOLDER", help="what pieces wrote")
     cause.add_argument("--part", metavar="NAME", help="a part, by its name or its number")
