@@ -7,14 +7,18 @@ import importlib
 import io
 import pathlib
 import shutil
-from typing import Any, Iterator, Sequence
+from typing import Any, Dict, Iterator, Sequence
 
 from ..packages import install_line
 from ..solid import Refusal
 
 SECONDS = 600  # how long a page may take to be ready, on a machine that has much to do
 STARTS = 3  # how often a browser is started that does not answer
-SHEET = {"paperWidth": 8.27, "paperHeight": 11.69}  # A4, in inches
+SHEET: Dict[str, Any] = {
+    "paperWidth": 8.27,  # A4, in inches
+    "paperHeight": 11.69,
+    "printBackground": True,
+}
 WORDS = (
     "--headless=new",
     "--no-sandbox",  # else it does not run as root
@@ -77,7 +81,7 @@ def strip(driver: Any) -> bytes:
 
 def paper(driver: Any) -> bytes:
     """The page that is open as it is printed, as a PDF file."""
-    told = driver.execute_cdp_cmd("Page.printToPDF", {"printBackground": True, **SHEET})
+    told = driver.execute_cdp_cmd("Page.printToPDF", dict(SHEET))
     return base64.b64decode(told["data"])
 
 

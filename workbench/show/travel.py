@@ -4,7 +4,8 @@ from __future__ import annotations
 from dataclasses import dataclass
 from typing import List, Sequence
 
-from .plans import NOWHERE, Plan, Step, Vector, moved_by
+from ..answers import Step
+from .plans import NOWHERE, Plan, Vector, moved_by
 
 
 @dataclass(frozen=True)
