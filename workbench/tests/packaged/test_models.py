@@ -36,7 +36,7 @@ class As1(Judged):
         self.assertEqual(sum(1 for name in names if name.endswith("/BOLT")), 6)
         self.assertIn("ROD-ASSEMBLY/NUT::1", names)
         self.assertLess(max(max(pair) for pair in self.bounds().values()), 0.4)
-        self.round_ones_held(path, ("PLATE", "ROD-ASSEMBLY/NUT::1"))
+        self.round_ones_held(path, ("ROD-ASSEMBLY/NUT::1", "ROD-ASSEMBLY/ROD"))
 
 
 @unittest.skipUnless(os.path.isfile(models.CGAL), "libcgal-demo is not installed")
