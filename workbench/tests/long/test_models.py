@@ -1,4 +1,4 @@
-"""More models that nobody here made than workbench/tests/packaged has, for an hour or more.
+"""More models that nobody here made than workbench/tests/packaged has.
 
 All of them are tried by `/usr/bin/python3 -m workbench.tests.tried`, which takes hours.
 """
