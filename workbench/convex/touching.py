@@ -122,9 +122,7 @@ class Apart:
         return found
 
 
-def apart(
-    points: Sequence[Point], faces: Faces, far: float
-) -> Optional[Tuple[List[Point], Faces]]:
+def apart(points: Sequence[Point], faces: Faces, far: float) -> Optional[Tuple[List[Point], Faces]]:
     """The surface with its wedges moved apart by about `far`, on whole points; nothing where it touches itself nowhere.
 
     points, faces: of a closed surface whose faces are wound outwards
