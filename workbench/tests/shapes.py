@@ -213,18 +213,39 @@ def mesh_distance(mesh: Mesh) -> Distance:
     return distance
 
 
+def on_face(points: numpy.ndarray, corners: numpy.ndarray) -> numpy.ndarray:
+    """Which points (n, 3) of the plane of a face lie in it: its corners (m, 3) go round them.
+
+    The face need not be convex.
+    """
+    normal = numpy.cross(corners, numpy.roll(corners, -1, axis=0)).sum(axis=0)
+    ways = corners[None] - points[:, None]
+    nexts = numpy.roll(ways, -1, axis=1)
+    turns = numpy.cross(ways, nexts) @ normal / numpy.linalg.norm(normal)
+    around = numpy.arctan2(turns, (ways * nexts).sum(axis=2)).sum(axis=1)
+    found: numpy.ndarray = numpy.abs(around) > numpy.pi
+    return found
+
+
 def mesh_points(mesh: Mesh, draw: numpy.random.Generator, many: int) -> numpy.ndarray:
-    """Points of the surface of a mesh: its corners, and points of its triangles."""
-    triangles = numpy.array(
-        [
-            mesh.points[[face[0], face[k], face[k + 1]]]
-            for face in mesh.faces
-            for k in range(1, len(face) - 1)
-        ]
-    )
-    chosen = triangles[draw.integers(len(triangles), size=many)]
+    """Points of the surface of a mesh: its corners, and points of its faces, so many or fewer.
+
+    They are drawn in the triangles of a fan for each face; of a face that is not convex those beside it are left out.
+    """
+    fans = [
+        (at, face[0], face[k], face[k + 1])
+        for at, face in enumerate(mesh.faces)
+        for k in range(1, len(face) - 1)
+    ]
+    chosen = numpy.array(fans)[draw.integers(len(fans), size=many)]
     weights = draw.dirichlet((1, 1, 1), many)
-    return numpy.vstack([mesh.points, numpy.einsum("ij,ijk->ik", weights, chosen)])
+    rows = numpy.einsum("ij,ijk->ik", weights, mesh.points[chosen[:, 1:]])
+    kept = numpy.ones(many, bool)
+    for at, face in enumerate(mesh.faces):
+        if len(face) > 3:
+            here = chosen[:, 0] == at
+            kept[here] = on_face(rows[here], mesh.points[face])
+    return numpy.vstack([mesh.points, rows[kept]])
 
 
 Made = Tuple[Callable[[Any], None], List[Distance]]

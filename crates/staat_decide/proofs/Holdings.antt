@@ -19,10 +19,10 @@ use Rattle.staat_model.specs.Sets.{Has}
 use Rattle.staat_model.proofs.Places.{place_within}
 use Rattle.staat_model.proofs.Members.{All-from_members}
 use Rattle.staat_holds.specs.declared.hold.Hold.{Hold}
-use Rattle.staat_holds.specs.Chains.{IsName, KeepsHoldRules, own_names, place_of, places_of}
+use Rattle.staat_holds.specs.Chains.{IsName, IsOfOne, KeepsHoldRules, own_names, place_of, places_of}
 use Rattle.staat_holds.specs.Holds.{IsCorePair, IsFirstGap, IsOfNode, JoinsNodes, LeadsBetween}
 use Rattle.staat_holds.specs.Reaching.{AllReach}
-use Rattle.staat_holds.proofs.ChainLaw.{IsOfOne, own_nodes, union_stuck}
+use Rattle.staat_holds.proofs.ChainLaw.{own_nodes, union_stuck}
 use Rattle.staat_holds.proofs.NodeNames.{map_at, of_place, place_to}
 use Rattle.staat_decide.specs.Decided.{IsStuckHold}
 use Rattle.staat_decide.specs.Labels.{set_of}
