@@ -504,6 +504,10 @@ class Lists(Case):
 
 @unittest.skipUnless(os.path.isdir(STL), "the example is not exported")
 class Example(Case):
+    def without_call(self, text: str) -> str:
+        """The text of a file without the call that made it, which names folders."""
+        return "".join(line for line in text.splitlines(True) if not line.startswith(' "command":'))
+
     def test_pencil_box(self) -> None:
         names = [os.path.join(STL, name) for name in ("box", "lid", "pin", "pencil.stl")]
         parts = self.accepted("--grid=0.001", *names)
@@ -514,7 +518,7 @@ class Example(Case):
         kept = os.path.join(TOP, "tools", "example", "pieces")
         for name in os.listdir(kept):
             with open(os.path.join(kept, name)) as old, open(self.path("out/" + name)) as new:
-                self.assertEqual(old.read(), new.read(), name)
+                self.assertEqual(*(self.without_call(file.read()) for file in (old, new)), name)
         self.assertEqual(
             self.ask("plan").stdout,
             "move 2 along 0 0 1 away from 0 1 3\nmove 1 along 1 0 0 away from 0 3\nmove 3 along 0 0 1 away from 0\n"
