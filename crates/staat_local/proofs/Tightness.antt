@@ -10,7 +10,7 @@ use Rattle.staat_model.proofs.Differences.{from_map}
 use Rattle.staat_pairs.specs.Tables.{Table, WasMadeFrom, back}
 use Rattle.staat_core.specs.declared.joins.Moving.TheVariants.{AnySide}
 use Rattle.staat_core.specs.declared.table_core.TableCore.{TableCore}
-use Rattle.staat_core.specs.Listed.{IsTablePair, listed}
+use Rattle.staat_core.specs.Listed.{IsTablePair}
 use Rattle.staat_core.specs.Moves.{HoldsMoves}
 use Rattle.staat_core.specs.Sources.{both_ways}
 use Rattle.staat_local.specs.Beginnings.{Loosens}

@@ -1,6 +1,6 @@
 // The pairs of pieces that touch, as a core may have them.
 ghost use Rattle.std.specs.Prelude.{◌≡◌, All};
-ghost use Rattle.staat_core.specs.Listed.{HasListRoom, IsTablePair, listed};
+ghost use Rattle.staat_core.specs.Listed.{HasListRoom, IsTablePair, pairs_in_use};
 ghost use Rattle.staat_local.specs.Tightness.{IsMarkedCore, IsMarkedPair};
 
 use crate::touching::Marks;
@@ -11,10 +11,10 @@ use staat_planes::PlaneTable;
 // puts a pair into the list, if it is marked
 fn put_marked(list: &mut PairList, marks: &Marks, table: &PlaneTable, pair: Arc)
     requires room { HasListRoom list.old }
-    requires marked { All (IsMarkedPair table.now marks.now) (listed list.old) }
+    requires marked { All (IsMarkedPair table.now marks.now) (pairs_in_use list.old) }
     requires pair { IsTablePair table.now pair }
     ensures room { HasListRoom list.new }
-    ensures marked { All (IsMarkedPair table.now marks.now) (listed list.new) }
+    ensures marked { All (IsMarkedPair table.now marks.now) (pairs_in_use list.new) }
 {
     if !marks[table.slot(pair) as usize] {
         return;
@@ -26,7 +26,7 @@ fn put_marked(list: &mut PairList, marks: &Marks, table: &PlaneTable, pair: Arc)
 fn marked_pairs(marks: &Marks, table: &PlaneTable, pairs: &[Arc]) -> PairList
     requires { All (IsTablePair table.now) pairs.now }
     ensures room { HasListRoom result }
-    ensures marked { All (IsMarkedPair table.now marks.now) (listed result) }
+    ensures marked { All (IsMarkedPair table.now marks.now) (pairs_in_use result) }
 {
     let mut list = PairList::none();
     for pair in pairs {
