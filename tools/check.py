@@ -11,33 +11,47 @@ The certificate is read and judged in full. Of the parts it is trusted that `sta
 is a closed convex piece within the limits, and that no pieces of different parts overlap. So a refused file may be
 told in other words here, or not at all. All numbers are whole numbers of Python: nothing is rounded.
 """
-import argparse, json, math, pathlib, re, sys
+import argparse
+import json
+import math
+import pathlib
+import re
+import sys
 from itertools import combinations, product as tuples
 
 NUMBER = re.compile(rb"0|-?[1-9][0-9]*")
 COORDINATE = re.compile(rb"([+-]?)(?:([0-9]+)\.?([0-9]*)|\.([0-9]+))(?:[eE]([+-]?[0-9]+))?")
-LONGEST_TEXT, LONGEST_LINE = 134_217_728, 128  # bytes of a certificate, and of a line with its line end
+LONGEST_TEXT, LONGEST_LINE = (
+    134_217_728,
+    128,
+)  # bytes of a certificate, and of a line with its line end
 # The least and the greatest number at each place of a line.
 PART, ARC = [(0, 31)], [(0, 31), (0, 63)] * 2
 NORMAL, DIRECTION = [(-(2**39), 2**39)] * 3, [(-(2**81), 2**81)] * 3
 # Vectors are triples of whole numbers. The canonical one of v and its negative is the greater one.
 AXES, ORIGIN = [(1, 0, 0), (0, 1, 0), (0, 0, 1)], (0, 0, 0)
 
+
 def minus(a, b):
     return a[0] - b[0], a[1] - b[1], a[2] - b[2]
+
 
 def negative(a):
     return -a[0], -a[1], -a[2]
 
+
 def dot(a, b):
     return a[0] * b[0] + a[1] * b[1] + a[2] * b[2]
+
 
 def cross(a, b):
     return a[1] * b[2] - a[2] * b[1], a[2] * b[0] - a[0] * b[2], a[0] * b[1] - a[1] * b[0]
 
+
 def primitive(a):
     divisor = math.gcd(*a)
     return a[0] // divisor, a[1] // divisor, a[2] // divisor
+
 
 class Product:
     """A list of parts, each a list of pieces, each a list of points; and what was found of them so far."""
@@ -47,8 +61,13 @@ class Product:
 
     def arcs(self, starts, ends):
         """All arcs from a piece of the one parts to a piece of another part among the others."""
-        return {(a, i, b, j) for a, b in tuples(starts, ends) if a != b
-                for i in range(len(self.parts[a])) for j in range(len(self.parts[b]))}
+        return {
+            (a, i, b, j)
+            for a, b in tuples(starts, ends)
+            if a != b
+            for i in range(len(self.parts[a]))
+            for j in range(len(self.parts[b]))
+        }
 
     def facets(self, a, i, b, j):
         """All facets of piece i of part a and piece j of part b.
@@ -65,21 +84,31 @@ class Product:
                     normal = cross(minus(y, x), minus(z, x))
                     for n in (normal, negative(normal)) if normal != ORIGIN else ():
                         level = dot(n, x)
-                        if all(dot(n, p) <= level for p in first) and all(dot(n, q) >= level for q in second):
+                        if all(dot(n, p) <= level for p in first) and all(
+                            dot(n, q) >= level for q in second
+                        ):
                             found.add(primitive(n))
             self.known_facets[a, i, b, j] = found
-            self.known_facets[b, j, a, i] = set(map(negative, found))  # the same planes, seen from the other side
+            self.known_facets[b, j, a, i] = set(
+                map(negative, found)
+            )  # the same planes, seen from the other side
         return self.known_facets[a, i, b, j]
 
     def planes(self, members):
         """The axes, and then, ascending, the canonical normals of all other facets of pieces of different parts."""
         if members not in self.known_planes:
-            normals = {max(n, negative(n)) for arc in self.arcs(members, members) for n in self.facets(*arc)}
+            normals = {
+                max(n, negative(n))
+                for arc in self.arcs(members, members)
+                for n in self.facets(*arc)
+            }
             self.known_planes[members] = AXES + sorted(normals.difference(AXES))
         return self.known_planes[members]
 
+
 class Refused(Exception):
     """There is no verdict. It holds the status and the line that tells why."""
+
 
 def read_file(name):
     try:
@@ -87,34 +116,45 @@ def read_file(name):
     except OSError:
         raise Refused(5, f"staat: cannot read {name}") from None
 
+
 def read_coordinate(word, digits):
     """The value of the word times 10 to the power of the digits."""
     sign, whole, behind, alone, exponent = COORDINATE.fullmatch(word).groups(default=b"")
-    mantissa = (whole + behind + alone).rstrip(b"0")  # with a point after as many digits as the whole ones
+    mantissa = (whole + behind + alone).rstrip(
+        b"0"
+    )  # with a point after as many digits as the whole ones
     places = len(whole) + int(exponent or 0) + digits - len(mantissa)
     if mantissa and not 0 <= places <= 6:
         raise ValueError("not whole or too big")
     return int(sign + mantissa) * 10**places if mantissa else 0
 
+
 def read_piece(name, digits, at):
     """The points that the faces of an OFF file have as corners, ascending and each once, moved by the vector."""
     lines = [line.partition(b"#")[0].split() for line in read_file(name).split(b"\n")]
-    words = [(word, number) for number, line in enumerate(lines) for word in line][::-1]  # the next one stands last
+    words = [(word, number) for number, line in enumerate(lines) for word in line][
+        ::-1
+    ]  # the next one stands last
     try:
         if words.pop()[0] != b"OFF":
             raise ValueError("no header")
         count, faces, _ = (int(words.pop()[0]) for _ in range(3))
-        positions = [[read_coordinate(words.pop()[0], digits) for _ in range(3)] for _ in range(count)]
+        positions = [
+            [read_coordinate(words.pop()[0], digits) for _ in range(3)] for _ in range(count)
+        ]
         points = set()
         for _ in range(faces):
             for _ in range(int(words.pop()[0])):
                 word, line = words.pop()
                 points.add(tuple(value + shift for value, shift in zip(positions[int(word)], at)))
-            while words and words[-1][1] == line:  # what follows on the line of the last corner is passed over
+            while (
+                words and words[-1][1] == line
+            ):  # what follows on the line of the last corner is passed over
                 words.pop()
     except (ValueError, LookupError, AttributeError):
         raise Refused(3, f"check.py: {name}: no OFF file that it can read") from None
     return sorted(points)
+
 
 def read_product(files, manifest, digits):
     """The parts that a part list names, or the files, each a part of one piece."""
@@ -126,6 +166,7 @@ def read_product(files, manifest, digits):
         except (ValueError, LookupError, TypeError, AttributeError):
             raise Refused(3, f"check.py: {manifest}: no part list that it can read") from None
     return Product([[read_piece(name, digits, at) for name in pieces] for pieces, at in named])
+
 
 class Lines:
     """The lines of a certificate, taken one after another."""
@@ -148,12 +189,20 @@ class Lines:
         """The numbers of the line ahead, which has this word, and numbers that are in bounds and keep the rule."""
         first, *numbers = self.ahead()
         short = len(self.lines[self.number - 1]) < LONGEST_LINE
-        if short and first == word and len(numbers) == len(bounds) and all(map(NUMBER.fullmatch, numbers)):
+        if (
+            short
+            and first == word
+            and len(numbers) == len(bounds)
+            and all(map(NUMBER.fullmatch, numbers))
+        ):
             values = tuple(map(int, numbers))
-            if all(least <= value <= most for value, (least, most) in zip(values, bounds)) and rule(values):
+            if all(least <= value <= most for value, (least, most) in zip(values, bounds)) and rule(
+                values
+            ):
                 self.number += 1
                 return values
         raise self.bad()
+
 
 def read_certificate(name, text):
     """The stated number of parts, the version, and what the plan or the refusal holds; the other one is None."""
@@ -163,11 +212,14 @@ def read_certificate(name, text):
     (version,) = lines.take(b"STAAT", [(1, 2)])
     (stated,) = lines.take(b"parts", [(1, 32)])
     is_plan = lines.ahead()[0] == b"plan"
-    nodes, refusal = (read_nodes(lines, stated), None) if is_plan else (None, read_refusal(lines, version))
+    nodes, refusal = (
+        (read_nodes(lines, stated), None) if is_plan else (None, read_refusal(lines, version))
+    )
     lines.take(b"end")
-    if lines.lines[lines.number - 1:] or lines.rest:
+    if lines.lines[lines.number - 1 :] or lines.rest:
         raise lines.bad()
     return stated, version, nodes, refusal
+
 
 def read_nodes(lines, stated):
     """The nodes in preorder: ("leaf", p), or ("split", direction, walls), where a wall has the number of its line."""
@@ -178,14 +230,22 @@ def read_nodes(lines, stated):
             nodes.append(("leaf", *lines.take(b"leaf", PART)))
             wanted -= 1
         else:
-            direction = lines.take(b"split", DIRECTION, lambda _: len(nodes) + 1 + wanted + 1 <= 2 * stated - 1)
+            direction = lines.take(
+                b"split", DIRECTION, lambda _: len(nodes) + 1 + wanted + 1 <= 2 * stated - 1
+            )
             walls = []
             while lines.ahead()[0] == b"sep":
                 after = walls[-1][1][:4] if walls else ()
-                walls.append((lines.number, lines.take(b"sep", ARC + NORMAL, lambda values: values[:4] > after)))
+                walls.append(
+                    (
+                        lines.number,
+                        lines.take(b"sep", ARC + NORMAL, lambda values: values[:4] > after),
+                    )
+                )
             nodes.append(("split", direction, walls))
             wanted += 1
     return nodes
+
 
 def read_refusal(lines, version):
     """The stuck set; the witnesses, each its arcs outwards and its arcs back; the directions, each with its line."""
@@ -198,12 +258,17 @@ def read_refusal(lines, version):
         for word, arcs in zip((b"out", b"in"), witnesses[-1]):
             while lines.ahead()[0] == word:
                 arcs.append(lines.take(word, ARC, lambda _: len(arcs) < 31))
-    after = ORIGIN if version == 2 else ()  # a direction of version 2 is greater than zero, and so canonical
+    after = (
+        ORIGIN if version == 2 else ()
+    )  # a direction of version 2 is greater than zero, and so canonical
     while lines.ahead()[0] == b"dir":
         bounds = DIRECTION + [(0, len(witnesses) - 1)]
-        directions.append((lines.number, lines.take(b"dir", bounds, lambda values: values[:3] > after)))
+        directions.append(
+            (lines.number, lines.take(b"dir", bounds, lambda values: values[:3] > after))
+        )
         after = directions[-1][1][:3]
     return members, witnesses, directions
+
 
 def plan_fault(product, nodes):
     """The first rule that a plan breaks, or None."""
@@ -214,13 +279,17 @@ def plan_fault(product, nodes):
         seen.update([part] if kind == "leaf" else [])
     if len(seen) < len(product.parts):
         return f"bad leaves at node {len(nodes)}"
-    sides, trees = {}, []  # the two sides of each split; the parts of each tree behind the node, the next one last
+    sides, trees = (
+        {},
+        [],
+    )  # the two sides of each split; the parts of each tree behind the node, the next one last
     for k, node in reversed(list(enumerate(nodes))):
         if node[0] == "split":
             sides[k] = trees.pop(), trees.pop()
         trees.append([node[1]] if node[0] == "leaf" else sides[k][0] + sides[k][1])
     faults = (split_fault(product, k, *sides[k], *nodes[k][1:]) for k in sorted(sides))
     return next(filter(None, faults), None)
+
 
 def split_fault(product, k, moved, rest, direction, walls):
     """The first rule that a split breaks, or None."""
@@ -236,6 +305,7 @@ def split_fault(product, k, moved, rest, direction, walls):
     missing = across - {values[:4] for _, values in walls}
     return "missing separator %d %d %d %d" % min(missing) if missing else None
 
+
 def refusal_fault(product, version, members, witnesses, directions):
     """The first rule that a refusal breaks, or None."""
     if len(members) < 2 or members[-1] >= len(product.parts):
@@ -243,10 +313,14 @@ def refusal_fault(product, version, members, witnesses, directions):
     arcs_within = product.arcs(members, members)
     for k, (outwards, back) in enumerate(witnesses):
         there, here = [(a, b) for a, _, b, _ in outwards], [(b, a) for a, _, b, _ in back]
-        if not arcs_within.issuperset(outwards + back) or not all(reaches_all(members, way) for way in (there, here)):
+        if not arcs_within.issuperset(outwards + back) or not all(
+            reaches_all(members, way) for way in (there, here)
+        ):
             return f"bad tree in witness {k}"
     named = {values[3] for _, values in directions}
-    facets = {k: {n for arcs in witnesses[k] for arc in arcs for n in product.facets(*arc)} for k in named}
+    facets = {
+        k: {n for arcs in witnesses[k] for arc in arcs for n in product.facets(*arc)} for k in named
+    }
     for line, (*direction, k) in directions:
         if not all(dot(n, direction) > 0 for n in facets[k]):
             return f"bad arc on line {line}"
@@ -259,6 +333,7 @@ def refusal_fault(product, version, members, witnesses, directions):
                 return "missing direction %d %d %d" % v
     return None
 
+
 def reaches_all(members, pairs):
     """Whether each pair leads from a reached part to a new one, beginning with the least part, and all are reached."""
     reached = {members[0]}
@@ -268,6 +343,7 @@ def reaches_all(members, pairs):
         reached.add(end)
     return len(reached) == len(members)
 
+
 def verdict(product, name, text):
     """The status and the line that tell what is said of the certificate with this name and text."""
     try:
@@ -276,11 +352,20 @@ def verdict(product, name, text):
         return refused.args
     if stated != len(product.parts):
         return 1, f"not valid: wrong parts {stated}"
-    fault = plan_fault(product, nodes) if refusal is None else refusal_fault(product, version, *refusal)
-    return (1, f"not valid: {fault}") if fault else (0, "valid plan" if refusal is None else "valid refusal")
+    fault = (
+        plan_fault(product, nodes) if refusal is None else refusal_fault(product, version, *refusal)
+    )
+    return (
+        (1, f"not valid: {fault}")
+        if fault
+        else (0, "valid plan" if refusal is None else "valid refusal")
+    )
+
 
 def main(words):
-    parser = argparse.ArgumentParser(description="Judges a certificate of staat.", allow_abbrev=False)
+    parser = argparse.ArgumentParser(
+        description="Judges a certificate of staat.", allow_abbrev=False
+    )
     parser.add_argument("certificate")
     parser.add_argument("files", nargs="*", help="each a part of one piece")
     parser.add_argument("--manifest", help="a part list, in the place of files")
@@ -295,6 +380,7 @@ def main(words):
         status, line = refused.args
     print(line, file=sys.stdout if status < 2 else sys.stderr)
     return status
+
 
 if __name__ == "__main__":
     sys.exit(main(sys.argv[1:]))

@@ -56,6 +56,23 @@ class Judged(Case):
             meshes = [solid.exact for solid in part.solids if solid.exact is not None]
             self.held(part.name, meshes)
 
+    def all_answered(
+        self, found: Sequence[models.Model], names: Sequence[str], drawn: Sequence[str]
+    ) -> None:
+        """Each of these models becomes pieces, and the bounds of those in `drawn` hold for random points."""
+        for name in names:
+            with self.subTest(name):
+                path = self.model_file(found, name)
+                self.assertTrue(self.answered(path), name)
+                if name in drawn:
+                    self.tried(path)
+
+    def none_answered(self, found: Sequence[models.Model], names: Sequence[str]) -> None:
+        """Of each of these models a line says why there are no pieces."""
+        for name in names:
+            with self.subTest(name):
+                self.assertFalse(self.answered(self.model_file(found, name)))
+
     def held(
         self, name: str, meshes: Sequence[Mesh], wrong: Tuple[float, float] = (0.0, 0.0)
     ) -> None:

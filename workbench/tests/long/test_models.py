@@ -79,32 +79,17 @@ class As1(Judged):
 class Cgal(Judged):
     def test_closed_meshes(self) -> None:
         """All of them become pieces."""
-        found = models.cgal_models()
-        for name in CLOSED:
-            with self.subTest(name):
-                path = self.model_file(found, name)
-                self.assertTrue(self.answered(path), name)
-                if name in TRIED:
-                    self.tried(path)
+        self.all_answered(models.cgal_models(), CLOSED, TRIED)
 
     def test_open_meshes(self) -> None:
-        found = models.cgal_models()
-        for name in OPEN:
-            with self.subTest(name):
-                self.assertFalse(self.answered(self.model_file(found, name)))
+        self.none_answered(models.cgal_models(), OPEN)
 
 
 @unittest.skipUnless(shutil.which("openscad"), "openscad is not installed")
 class OpenScad(Judged):
     def test_examples(self) -> None:
         """All of them become pieces."""
-        found = models.openscad_models()
-        for name in EXAMPLES:
-            with self.subTest(name):
-                path = self.model_file(found, name)
-                self.assertTrue(self.answered(path))
-                if name in EXAMPLES_TRIED:
-                    self.tried(path)
+        self.all_answered(models.openscad_models(), EXAMPLES, EXAMPLES_TRIED)
 
 
 @unittest.skipUnless(os.path.isdir(models.GEOMVIEW), "geomview is not installed")

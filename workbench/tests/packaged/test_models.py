@@ -43,25 +43,14 @@ class As1(Judged):
 class Cgal(Judged):
     def test_meshes(self) -> None:
         found = models.cgal_models()
-        for name in CLOSED:
-            with self.subTest(name):
-                path = self.model_file(found, name)
-                self.assertTrue(self.answered(path))
-                self.tried(path)
-        for name in OPEN:
-            with self.subTest(name):
-                self.assertFalse(self.answered(self.model_file(found, name)))
+        self.all_answered(found, CLOSED, CLOSED)
+        self.none_answered(found, OPEN)
 
 
 @unittest.skipUnless(shutil.which("openscad"), "openscad is not installed")
 class OpenScad(Judged):
     def test_examples(self) -> None:
-        found = models.openscad_models()
-        for name in EXAMPLES:
-            with self.subTest(name):
-                path = self.model_file(found, name)
-                self.assertTrue(self.answered(path))
-                self.tried(path)
+        self.all_answered(models.openscad_models(), EXAMPLES, EXAMPLES)
 
 
 @unittest.skipUnless(os.path.isdir(models.GEOMVIEW), "geomview is not installed")
