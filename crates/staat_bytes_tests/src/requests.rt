@@ -3,11 +3,11 @@
 use crate::comparing::{same_text, same_truth};
 use crate::inputs::words;
 use staat_vec::V3;
-use staat_words::{Asked, Input, Product, Request, request_of};
+use staat_words::{Asked, DrillProduct, Input, Request, request_of};
 use std::alloc::{AllocError, Global};
 use std::test::Fail;
 
-// At most 32 files are taken.
+// At most 32 files are taken, and more where a product may be of any size.
 const TAKEN: &str = "\
 pair a b --along=0,0,1 --wall=1,0,0
 pair --wall=1,0,0 a b --along=0,0,1
@@ -40,6 +40,11 @@ explode --manifest=m --planes=3
 linear a --planes=1024
 linear --manifest=m --planes=3
 local --manifest=m --planes=3
+decide --manifest=m --digits=6
+decide a -- --manifest=m
+blocks --manifest=m --along=0,0,1
+decide a a a a a a a a a a a a a a a a a a a a a a a a a a a a a a a a a
+blocks --along=0,0,1 a a a a a a a a a a a a a a a a a a a a a a a a a a a a a a a a a
 graph --along=0,0,1 a a a a a a a a a a a a a a a a a a a a a a a a a a a a a a a a";
 
 // The last line has no words.
@@ -101,6 +106,13 @@ linear a --planes=2
 linear a --robust
 local a --planes=1025
 local a --off
+decide
+decide --manifest=m a
+decide a --planes=5
+decide a --along=0,0,1
+blocks a
+blocks a --along=0,0,0
+blocks --manifest=m a --along=0,0,1
 help
 graph --along=0,0,1 a a a a a a a a a a a a a a a a a a a a a a a a a a a a a a a a a
 ";
@@ -123,6 +135,9 @@ explode --off a b -> 0: 2 files, 1024 planes, as a drawing
 explode --planes=7 a -> 0: 1 files, 7 planes
 linear --planes=7 a --digits=1 -> 1: 1 files, 7 planes
 local --digits=2 a b -> 2: 2 files, 1024 planes
+decide --digits=2 a b -> 2: 2 files to be planned
+decide --manifest=m.json -> 0: the part list m.json to be planned
+blocks a --along=3,0,-1 b c --digits=1 -> 1: 3 files along 3 0 -1, of any size
 drill row 3 -> 3 cubes
 drill box 4 -> 4 boxes
 plan --cert a -> 0: 1 files, 1024 planes, version 2
@@ -176,8 +191,8 @@ fn shown(alloc: Global, request: &Request) -> Result<String, AllocError> {
             let asked = source(alloc, &request.asked)?;
             format!(in alloc; "{asked} by {certificate}")
         }
-        Request::Drill(Product::Cubes(n)) => format!(in alloc; "{n} cubes"),
-        Request::Drill(Product::Boxes(n)) => format!(in alloc; "{n} boxes"),
+        Request::Drill(DrillProduct::Cubes(n)) => format!(in alloc; "{n} cubes"),
+        Request::Drill(DrillProduct::Boxes(n)) => format!(in alloc; "{n} boxes"),
         Request::Explode(request) => {
             let planes = request.planes;
             let drawn = if request.off { ", as a drawing" } else { "" };
@@ -198,6 +213,15 @@ fn shown(alloc: Global, request: &Request) -> Result<String, AllocError> {
             let planes = request.planes;
             let asked = source(alloc, &request.asked)?;
             format!(in alloc; "{asked}, {planes} planes")
+        }
+        Request::Decide(asked) => {
+            let asked = source(alloc, asked)?;
+            format!(in alloc; "{asked} to be planned")
+        }
+        Request::Blocks(request) => {
+            let V3 { x, y, z } = request.along;
+            let asked = source(alloc, &request.asked)?;
+            format!(in alloc; "{asked} along {x} {y} {z}, of any size")
         }
     }
 }
@@ -234,5 +258,22 @@ fn a_request_has_the_values_of_its_words(rt: HostRuntime) -> Result<(), Fail> {
         let (line, want) = row.split_once(" -> ").ok_or("an arrow")?;
         same_text(&rt, told(rt.alloc(), line)?.as_str(), want, line);
     }
+    Ok(())
+}
+
+// Whether `decide` is asked about so many files.
+fn is_asked_about(alloc: Global, count: u32) -> Result<bool, AllocError> {
+    let mut list = words(alloc, "decide")?;
+    for _ in 0..count {
+        list.push(String::from_str(alloc, "a")?)?;
+    }
+    Ok(request_of(alloc, &list).is_ok())
+}
+
+#[test]
+fn a_product_is_of_1024_files_at_most(rt: HostRuntime) -> Result<(), Fail> {
+    let alloc = rt.alloc();
+    same_truth(&rt, is_asked_about(alloc, 1024)?, true, "1024 files");
+    same_truth(&rt, is_asked_about(alloc, 1025)?, false, "1025 files");
     Ok(())
 }

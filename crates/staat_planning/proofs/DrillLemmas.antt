@@ -22,8 +22,8 @@ use Rattle.staat_cert.proofs.AnswerLemmas.{one_read_answer}
 use Rattle.staat_drill.proofs.ProductLemmas.{nest_is_assembly, row_is_assembly}
 use Rattle.staat_fault.specs.declared.fault.Fault.TheVariants.{TextTooLong}
 use Rattle.staat_plan.specs.Certifying.{IsValidFor}
-use Rattle.staat_words.specs.declared.request.Product.{Product}
-use Rattle.staat_words.specs.declared.request.Product.TheVariants.{Boxes, Cubes}
+use Rattle.staat_words.specs.declared.request.DrillProduct.{DrillProduct}
+use Rattle.staat_words.specs.declared.request.DrillProduct.TheVariants.{Boxes, Cubes}
 use Rattle.staat_words.specs.Requests.{IsNamedProduct}
 use Rattle.staat_input.specs.Work.{Follows}
 use Rattle.staat_planning.specs.Drills.{IsDrilled, drill_line, drill_too_long, drilled, parts_of_product}
@@ -31,7 +31,7 @@ use Rattle.staat_input.specs.Counting.{all_parts}
 use Rattle.staat_input.specs.Refusals.{text_fault}
 use Rattle.staat_planning.specs.Drills.{SaysDrilled}
 
-pub product_is_assembly : (product : Product) → IsNamedProduct product → IsAssembly (parts_of_product product)
+pub product_is_assembly : (product : DrillProduct) → IsNamedProduct product → IsAssembly (parts_of_product product)
 product_is_assembly (Cubes n) is = row_is_assembly n is.0 is.1
 product_is_assembly (Boxes n) is = nest_is_assembly n is.0 is.1
 
@@ -40,7 +40,7 @@ valid_verdict : (parts : List Part) (f : Finding) (c : Certificate) (v : Verdict
 valid_verdict parts (planned plan marks) c v valid judged = inl (IsVerdict-unique parts c v ValidPlan judged valid)
 valid_verdict parts (stuck w) c v valid judged = inr (IsVerdict-unique parts c v ValidRefusal judged valid)
 
-pub says_drilled : (product : Product) (f : Finding) (c : Certificate) (v : Verdict) → IsNamedProduct product → IsSound (parts_of_product product)
+pub says_drilled : (product : DrillProduct) (f : Finding) (c : Certificate) (v : Verdict) → IsNamedProduct product → IsSound (parts_of_product product)
     → ((assembly : IsAssembly (parts_of_product product)) → IsValidFor (parts_of_product product) f c)
     → IsOutcome false (parts_of_product product) (all_parts (parts_of_product product)) f
     → IsCertificateOf (parts_of_product product) 2 f c → IsVerdict (parts_of_product product) c v
@@ -61,7 +61,7 @@ says_drilled product f c v is sound valid outcome certified judged =
     }
 
 -- the certificate's text is too long
-pub drill_refused : (product : Product) (parts : List Part) (f : Finding) (c : Certificate) (r : TextRefusal) → IsOutcome false parts (all_parts parts) f → IsCertificateOf parts 2 f c → IsTextAnswer c (Err r) → Follows (IsDrilled product parts) (Err (text_fault r))
+pub drill_refused : (product : DrillProduct) (parts : List Part) (f : Finding) (c : Certificate) (r : TextRefusal) → IsOutcome false parts (all_parts parts) f → IsCertificateOf parts 2 f c → IsTextAnswer c (Err r) → Follows (IsDrilled product parts) (Err (text_fault r))
 drill_refused product parts f c (refusal.TextTooLong n) outcome is (e, many) =
     drill_too_long f c outcome is (subst (λ n. TEXT_LIMIT < n) e many) (ap (λ n. Err (TextTooLong n)) e)
 drill_refused product parts f c refusal.OutOfMemory outcome is answer = tt
@@ -92,7 +92,7 @@ no_bad_line c text k written read = other (read_is c text (Err (BadLine k)) writ
     no_fault e = cc
 
 -- the line for what was written, read and judged
-pub drill_answer : (product : Product) (parts : List Part) (f : Finding) (c d : Certificate) (v : Verdict) (bytes line : List ℕ) (n : ℕ) → IsOutcome false parts (all_parts parts) f → IsCertificateOf parts 2 f c → IsTextAnswer c (Ok bytes) → d ≡ c → IsVerdict parts d v → n ≡ length bytes
+pub drill_answer : (product : DrillProduct) (parts : List Part) (f : Finding) (c d : Certificate) (v : Verdict) (bytes line : List ℕ) (n : ℕ) → IsOutcome false parts (all_parts parts) f → IsCertificateOf parts 2 f c → IsTextAnswer c (Ok bytes) → d ≡ c → IsVerdict parts d v → n ≡ length bytes
     → line ≡ drill_line product f n v → IsDrilled product parts (Ok (record { status = 0; text = line }))
 drill_answer product parts f c d v bytes line n outcome is (written, short) same judged long says =
     drilled f c v outcome is (subst (λ (t : List ℕ). length t ≤ TEXT_LIMIT) written.is short) (subst (λ (x : Certificate). IsVerdict parts x v) same judged)

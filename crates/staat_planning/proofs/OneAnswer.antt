@@ -13,7 +13,7 @@ use Rattle.staat_limits.specs.declared.limits.TheConstants.{MOST_PLANES}
 use Rattle.staat_fault.specs.declared.fault.Fault.TheVariants.{ReadFault, TextTooLong, TooFar}
 use Rattle.staat_manifest.specs.declared.listing.ListedPart.{ListedPart}
 use Rattle.staat_vec.specs.declared.vector.V3.{V3}
-use Rattle.staat_words.specs.declared.request.Product.{Product}
+use Rattle.staat_words.specs.declared.request.DrillProduct.{DrillProduct}
 use Rattle.staat_input.specs.declared.answer.Answer.{Answer}
 use Rattle.staat_input.specs.Work.{Files, Found, Then, answer}
 use Rattle.staat_input.specs.Inputs.{IsListingOf}
@@ -70,7 +70,7 @@ planned_one files parts robust version = record {
     written_as f p finding outcome =
         subst (λ (x : Finding). Then (IsWritten parts x version) (λ text found. found ≡ Ok (outcome_answer x text)) f) (IsOutcome-unique robust parts p.outcome outcome) p.written
 
-drilled_one : (files : Files) (product : Product) (parts : List Part) → FindsOne files (IsDrilled product parts)
+drilled_one : (files : Files) (product : DrillProduct) (parts : List Part) → FindsOne files (IsDrilled product parts)
 drilled_one files product parts = record { one = λ f g a b sf sg. one f g a b; held = λ name f at lacks step settled. no_read name at }
   where
     same_certificate : (x y : Finding) (c d : Certificate) → IsOutcome false parts (all_parts parts) x → IsOutcome false parts (all_parts parts) y → IsCertificateOf parts 2 x c → IsCertificateOf parts 2 y d → (x ≡ y) × (c ≡ d)
@@ -162,6 +162,6 @@ pub explode_one : (request : ExplodeRequest) (files : Files) → FindsOne files 
 explode_one request files = then_one files (IsSoundOf files request.asked) _ (sound_one files request.asked)
     (λ parts. then_one files (AreCounted parts request.planes) _ (counted_one files parts request.planes) (λ planes. exploded_one files request parts))
 
-pub drill_one : (product : Product) (files : Files) → FindsOne files (DrillWork product files)
+pub drill_one : (product : DrillProduct) (files : Files) → FindsOne files (DrillWork product files)
 drill_one product files = then_one files (IsTested (parts_of_product product)) _ (tested_one files (parts_of_product product))
     (λ parts. then_one files (AreCounted parts MOST_PLANES) _ (counted_one files parts MOST_PLANES) (λ planes. drilled_one files product parts))

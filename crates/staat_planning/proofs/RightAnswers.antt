@@ -12,7 +12,7 @@ use Rattle.staat_plan.proofs.MarkLemmas.{marks_hold_lemma}
 use Rattle.staat_plan.proofs.Right.{right_lemma}
 use Rattle.staat_manifest.specs.declared.listing.ListedPart.{ListedPart}
 use Rattle.staat_words.specs.declared.request.Asked.{Asked}
-use Rattle.staat_words.specs.declared.request.Product.{Product}
+use Rattle.staat_words.specs.declared.request.DrillProduct.{DrillProduct}
 use Rattle.staat_input.specs.declared.answer.Answer.{Answer}
 use Rattle.staat_input.specs.Work.{Files, Found}
 use Rattle.staat_input.specs.Inputs.{IsListingOf}
@@ -75,7 +75,7 @@ set_is_stuck files request parts (stuck w) text are outcome written one =
     record { parts = parts; sound = are; set = w; within = settled.0; is_stuck = settled.1; says = says_outcome parts (stuck w) request.certificate text are.assembly settled written }
 
 -- the line of a drill says what it is about
-drill_is_said : (product : Product) (built : List Part) (a : Answer) → IsNamedProduct product → IsTested (parts_of_product product) (Ok built) → IsDrilled product built (Ok a) → SaysDrilled product a.text
+drill_is_said : (product : DrillProduct) (built : List Part) (a : Answer) → IsNamedProduct product → IsTested (parts_of_product product) (Ok built) → IsDrilled product built (Ok a) → SaysDrilled product a.text
 drill_is_said product built a is (overlapping arc first e) step = absurd cc
 drill_is_said product built a is (sound are e) (drill_too_long f c o k long d) = absurd cc
 drill_is_said product built a is (sound are e) (drilled f c v o k short j d) =
@@ -162,12 +162,12 @@ explode_is_denied request files a bounds (inr (built, found, inl (fault, at, e))
 explode_is_denied request files a bounds (inr (built, found, inr (planes, counted, p))) one =
     stuck_is_said files request built p.named p.finding a (sound_parts files request.asked built bounds.0 found) p.outcome p.shown one
 
-pub drill_is_right : (product : Product) (files : Files) (a : Answer) → IsNamedProduct product → DrillWork product files (Ok a) → a.status ≡ 0 → SaysDrilled product a.text
+pub drill_is_right : (product : DrillProduct) (files : Files) (a : Answer) → IsNamedProduct product → DrillWork product files (Ok a) → a.status ≡ 0 → SaysDrilled product a.text
 drill_is_right product files a bounds (inl (fault, at, e)) zero = absurd cc
 drill_is_right product files a bounds (inr (built, found, inl (fault, at, e))) zero = absurd cc
 drill_is_right product files a bounds (inr (built, found, inr (planes, counted, step))) zero = drill_is_said product built a bounds found step
 
-pub drill_is_denied : (product : Product) (files : Files) (a : Answer) → IsNamedProduct product → DrillWork product files (Ok a) → a.status ≡ 1 → ⊥
+pub drill_is_denied : (product : DrillProduct) (files : Files) (a : Answer) → IsNamedProduct product → DrillWork product files (Ok a) → a.status ≡ 1 → ⊥
 drill_is_denied product files a bounds (inl (fault, at, e)) one = absurd cc
 drill_is_denied product files a bounds (inr (built, found, inl (fault, at, e))) one = absurd cc
 drill_is_denied product files a bounds (inr (built, found, inr (planes, counted, drilled f c v o k short j e))) one = absurd (omega (arith, one, same_status _ _ e))

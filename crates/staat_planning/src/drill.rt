@@ -25,17 +25,17 @@ use staat_model::{Assembly, Certificate, Outcome, Sound, Verdict};
 use staat_plan::certify;
 use staat_text::drill_text;
 use staat_vec::{Bytes, OutOfMemory};
-use staat_words::Product;
+use staat_words::DrillProduct;
 use std::alloc::Global;
 
 // The product.
-fn product(alloc: Global, product: Product) -> Result<Assembly, OutOfMemory>
+fn product(alloc: Global, product: DrillProduct) -> Result<Assembly, OutOfMemory>
     requires { IsNamedProduct product }
     ensures { IfOk result (λ a. a ≡ parts_of_product product) }
 {
     match product {
-        Product::Cubes(n) => row_of_cubes(alloc, n),
-        Product::Boxes(n) => nested_boxes(alloc, n),
+        DrillProduct::Cubes(n) => row_of_cubes(alloc, n),
+        DrillProduct::Boxes(n) => nested_boxes(alloc, n),
     }
 }
 
@@ -56,7 +56,7 @@ fn read_again(alloc: Global, text: &Bytes) -> Result<Certificate, OutOfMemory>
 // The line of a product, with the verdict on the certificate that is read in the text.
 fn line(
     alloc: Global,
-    product: Product,
+    product: DrillProduct,
     outcome: &Outcome,
     bytes: usize,
     verdict: &Verdict,
@@ -65,13 +65,13 @@ fn line(
     ensures { IfOk result (λ text. text ≡ drill_line product (finding_of outcome.now) bytes verdict.now) }
 {
     match product {
-        Product::Cubes(n) => drill_text(alloc, "row", n, outcome, bytes, verdict),
-        Product::Boxes(n) => drill_text(alloc, "box", n, outcome, bytes, verdict),
+        DrillProduct::Cubes(n) => drill_text(alloc, "row", n, outcome, bytes, verdict),
+        DrillProduct::Boxes(n) => drill_text(alloc, "box", n, outcome, bytes, verdict),
     }
 }
 
 // The answer for an outcome: its certificate is written, read again and judged.
-fn drilled(alloc: Global, name: Product, sound: &Sound, outcome: &Outcome) -> Result<Answer, Fault>
+fn drilled(alloc: Global, name: DrillProduct, sound: &Sound, outcome: &Outcome) -> Result<Answer, Fault>
     requires outcome { IsOutcome false sound.now (all_parts sound.now) (finding_of outcome.now) }
     requires shown { CanBeShown (finding_of outcome.now) }
     requires certified { CanBeCertified sound.now (finding_of outcome.now) }
@@ -93,7 +93,7 @@ fn drilled(alloc: Global, name: Product, sound: &Sound, outcome: &Outcome) -> Re
 
 /// The answer to the command `drill`: a product that the program makes itself is planned, its certificate is written,
 /// read again and judged, and a line says what came of it. No file is read.
-pub fn drill(alloc: Global, name: Product) -> Result<Answer, Fault>
+pub fn drill(alloc: Global, name: DrillProduct) -> Result<Answer, Fault>
     requires { IsNamedProduct name }
     ensures status { IfOk result (λ a. a.status < 2) }
     ensures found { (files : Files) → Follows (DrillWork name files) result }

@@ -11,7 +11,7 @@ use Rattle.staat_vec.specs.declared.vector.V3.{V3}
 use Rattle.staat_vec.specs.declared.vector.TheConstants.{DIRECTION, NORMAL}
 use Rattle.staat_vec.specs.Vectors.{IsWithin, origin}
 use Rattle.staat_limits.specs.declared.limits.TheConstants.{MOST_DIGITS}
-use Rattle.staat_limits.specs.declared.limits.TheConstants.{MOST_PARTS}
+use Rattle.staat_limits.specs.declared.limits.TheConstants.{MOST_PARTS, MOST_PRODUCT_PARTS}
 use Rattle.staat_limits.specs.Versions.{IsVersion}
 use Rattle.staat_limits.specs.declared.limits.TheConstants.{MOST_BOXES}
 use Rattle.staat_limits.specs.declared.limits.TheConstants.{LEAST_PLANES, MOST_CELL_PLANES, MOST_PLANES}
@@ -27,11 +27,11 @@ use Rattle.staat_words.specs.declared.request.CheckRequest.{CheckRequest}
 use Rattle.staat_words.specs.declared.request.ExplodeRequest.{ExplodeRequest}
 use Rattle.staat_words.specs.declared.request.LinearRequest.{LinearRequest}
 use Rattle.staat_words.specs.declared.request.LocalRequest.{LocalRequest}
-use Rattle.staat_words.specs.declared.request.Product.{Product}
-use Rattle.staat_words.specs.declared.request.Product.TheVariants.{Boxes, Cubes}
+use Rattle.staat_words.specs.declared.request.DrillProduct.{DrillProduct}
+use Rattle.staat_words.specs.declared.request.DrillProduct.TheVariants.{Boxes, Cubes}
 use Rattle.staat_words.specs.declared.request.Request.{Request}
 use Rattle.staat_words.specs.declared.request.Request.TheVariants.{Pair, Look, Graph, Plan, Check, Cells}
-use Rattle.staat_words.specs.declared.request.Request.TheVariants.{Drill, Explode, Linear, Local}
+use Rattle.staat_words.specs.declared.request.Request.TheVariants.{Drill, Explode, Linear, Local, Decide, Blocks}
 use Rattle.staat_words.specs.declared.request.RequestRefusal.{RequestRefusal}
 use Rattle.staat_words.specs.declared.request.RequestRefusal.TheVariants.{Usage, OutOfMemory}
 use Rattle.staat_words.specs.Spelled.{◌>>=◌, vector_within}
@@ -87,23 +87,24 @@ certificate_from false (Some format) = None
 unfoldable pub certificate_in : List Row → Option (Option ℕ)
 certificate_in rows = certificate_from (is_given (codes "cert") rows) (first_of (codes "format") rows)
 
--- the files, where there are as many as there may be parts
-abbrev pub some_files : List Text → Option Input
-some_files names =
-    if nat_lt 0 (length names) && nat_le (length names) MOST_PARTS then Some (Files names) else None
+-- the files, where there are some and at most so many
+abbrev pub some_files : ℕ → List Text → Option Input
+some_files most names =
+    if nat_lt 0 (length names) && nat_le (length names) most then Some (Files names) else None
 
--- either a part list or files
-abbrev pub input_from : Option Text → Option (List Text) → Option Input
-input_from (Some name) names = if is_some names then None else Some (Manifest name)
-input_from None names = option_and_then some_files names
+-- either a part list or files, of which there may be so many
+abbrev pub input_from : ℕ → Option Text → Option (List Text) → Option Input
+input_from most (Some name) names = if is_some names then None else Some (Manifest name)
+input_from most None names = option_and_then (some_files most) names
 
-unfoldable pub input_in : List Row → Option Input
-input_in rows = input_from (first_of (codes "manifest") rows) (all_of (codes "files") rows)
+unfoldable pub input_in : ℕ → List Row → Option Input
+input_in most rows = input_from most (first_of (codes "manifest") rows) (all_of (codes "files") rows)
 
-unfoldable pub asked_in : List Row → Option Asked
-asked_in rows = do
+-- what is asked about, where there may be so many files
+unfoldable pub asked_in : ℕ → List Row → Option Asked
+asked_in most rows = do
   digits ← digits_asked rows
-  input ← input_in rows
+  input ← input_in most rows
   Some (record { digits = digits; input = input })
 
 unfoldable pub pair_in : List Row → Option PairRequest
@@ -115,9 +116,9 @@ pair_in rows = do
   second ← first_of (codes "second") rows
   Some (record { digits = digits; along = along; wall = wall; first = first; second = second })
 
-unfoldable pub graph_in : List Row → Option GraphRequest
-graph_in rows = do
-  asked ← asked_in rows
+unfoldable pub graph_in : ℕ → List Row → Option GraphRequest
+graph_in most rows = do
+  asked ← asked_in most rows
   along ← vector_in (codes "along") DIRECTION rows
   Some (record { asked = asked; along = along })
 
@@ -127,20 +128,20 @@ plan_request asked planes robust certificate =
 
 unfoldable pub plan_in : List Row → Option PlanRequest
 plan_in rows = do
-  asked ← asked_in rows
+  asked ← asked_in MOST_PARTS rows
   planes ← planes_in MOST_PLANES rows
   certificate ← certificate_in rows
   Some (plan_request asked planes (is_given (codes "robust") rows) certificate)
 
 unfoldable pub check_in : List Row → Option CheckRequest
 check_in rows = do
-  asked ← asked_in rows
+  asked ← asked_in MOST_PARTS rows
   certificate ← first_of (codes "certificate") rows
   Some (record { asked = asked; certificate = certificate })
 
 unfoldable pub cells_in : List Row → Option CellsRequest
 cells_in rows = do
-  asked ← asked_in rows
+  asked ← asked_in MOST_PARTS rows
   planes ← planes_in MOST_CELL_PLANES rows
   Some (record { asked = asked; planes = planes })
 
@@ -151,12 +152,12 @@ count_within most text = do
   if nat_le 1 n then Some n else None
 
 -- the product of this kind and size
-abbrev pub product_of : Text → Text → Option Product
+abbrev pub product_of : Text → Text → Option DrillProduct
 product_of kind number =
     if bytes_eq kind (codes "row") then option_map Cubes (count_within MOST_PARTS number)
     else (if bytes_eq kind (codes "box") then option_map Boxes (count_within MOST_BOXES number) else None)
 
-unfoldable pub drill_in : List Row → Option Product
+unfoldable pub drill_in : List Row → Option DrillProduct
 drill_in rows = do
   kind ← first_of (codes "kind") rows
   number ← first_of (codes "number") rows
@@ -164,19 +165,19 @@ drill_in rows = do
 
 unfoldable pub explode_in : List Row → Option ExplodeRequest
 explode_in rows = do
-  asked ← asked_in rows
+  asked ← asked_in MOST_PARTS rows
   planes ← planes_in MOST_PLANES rows
   Some (record { asked = asked; planes = planes; off = is_given (codes "off") rows })
 
 unfoldable pub linear_in : List Row → Option LinearRequest
 linear_in rows = do
-  asked ← asked_in rows
+  asked ← asked_in MOST_PARTS rows
   planes ← planes_in MOST_PLANES rows
   Some (record { asked = asked; planes = planes })
 
 unfoldable pub local_in : List Row → Option LocalRequest
 local_in rows = do
-  asked ← asked_in rows
+  asked ← asked_in MOST_PARTS rows
   planes ← planes_in MOST_PLANES rows
   Some (record { asked = asked; planes = planes })
 
@@ -185,15 +186,18 @@ unfoldable pub request_in : Option (Text × List Row) → Option Request
 request_in None = None
 request_in (Some found) =
     if bytes_eq found.0 (codes "pair") then option_map Pair (pair_in found.1)
-    else (if bytes_eq found.0 (codes "look") then option_map Look (asked_in found.1)
-    else (if bytes_eq found.0 (codes "graph") then option_map Graph (graph_in found.1)
+    else (if bytes_eq found.0 (codes "look") then option_map Look (asked_in MOST_PARTS found.1)
+    else (if bytes_eq found.0 (codes "graph") then option_map Graph (graph_in MOST_PARTS found.1)
     else (if bytes_eq found.0 (codes "plan") then option_map Plan (plan_in found.1)
     else (if bytes_eq found.0 (codes "check") then option_map Check (check_in found.1)
     else (if bytes_eq found.0 (codes "cells") then option_map Cells (cells_in found.1)
     else (if bytes_eq found.0 (codes "drill") then option_map Drill (drill_in found.1)
     else (if bytes_eq found.0 (codes "explode") then option_map Explode (explode_in found.1)
     else (if bytes_eq found.0 (codes "linear") then option_map Linear (linear_in found.1)
-    else (if bytes_eq found.0 (codes "local") then option_map Local (local_in found.1) else None)))))))))
+    else (if bytes_eq found.0 (codes "local") then option_map Local (local_in found.1)
+    else (if bytes_eq found.0 (codes "decide") then option_map Decide (asked_in MOST_PRODUCT_PARTS found.1)
+    else (if bytes_eq found.0 (codes "blocks") then option_map Blocks (graph_in MOST_PRODUCT_PARTS found.1)
+    else None)))))))))))
 
 -- The request of the words: none is a usage fault.
 unfoldable pub request : List Text → Option Request
@@ -205,22 +209,38 @@ ReadsWords asked (Ok answer) = asked ≡ Some answer
 ReadsWords asked (Err Usage) = asked ≡ None
 ReadsWords asked (Err OutOfMemory) = ⊤
 
--- a part list, or as many files as there may be parts
+-- a part list, or 1 to so many files
+abbrev pub IsInputWithin : ℕ → Input → Type 0
+IsInputWithin most (Manifest name) = ⊤
+IsInputWithin most (Files names) = (1 ≤ length names) × (length names ≤ most)
+
+-- as many files as an assembly may have parts
 abbrev pub IsInput : Input → Type 0
-IsInput (Manifest name) = ⊤
-IsInput (Files names) = (1 ≤ length names) × (length names ≤ MOST_PARTS)
+IsInput input = IsInputWithin MOST_PARTS input
 
 -- how great the numbers of what is asked are at most, and that a direction is not zero
+abbrev pub IsAskedWithin : ℕ → Asked → Type 0
+IsAskedWithin most asked = (asked.digits ≤ MOST_DIGITS) × IsInputWithin most asked.input
+
+-- the same of what is asked about an assembly
 abbrev pub IsAsked : Asked → Type 0
-IsAsked asked = (asked.digits ≤ MOST_DIGITS) × IsInput asked.input
+IsAsked asked = IsAskedWithin MOST_PARTS asked
 
 abbrev pub IsPairRequest : PairRequest → Type 0
 IsPairRequest request =
     (request.digits ≤ MOST_DIGITS) × IsWithin DIRECTION request.along × IsWithin NORMAL request.wall ×
     (request.along ≢ origin)
 
+abbrev pub IsGraphRequestWithin : ℕ → GraphRequest → Type 0
+IsGraphRequestWithin most request =
+    IsAskedWithin most request.asked × IsWithin DIRECTION request.along × (request.along ≢ origin)
+
 abbrev pub IsGraphRequest : GraphRequest → Type 0
-IsGraphRequest request = IsAsked request.asked × IsWithin DIRECTION request.along × (request.along ≢ origin)
+IsGraphRequest request = IsGraphRequestWithin MOST_PARTS request
+
+-- the same of a product of any size
+abbrev pub IsBlocksRequest : GraphRequest → Type 0
+IsBlocksRequest request = IsGraphRequestWithin MOST_PRODUCT_PARTS request
 
 abbrev pub IsPlanRequest : PlanRequest → Type 0
 IsPlanRequest request =
@@ -231,7 +251,7 @@ abbrev pub IsCellsRequest : CellsRequest → Type 0
 IsCellsRequest request =
     IsAsked request.asked × (LEAST_PLANES ≤ request.planes) × (request.planes ≤ MOST_CELL_PLANES)
 
-abbrev pub IsNamedProduct : Product → Type 0
+abbrev pub IsNamedProduct : DrillProduct → Type 0
 IsNamedProduct (Cubes n) = (1 ≤ n) × (n ≤ MOST_PARTS)
 IsNamedProduct (Boxes n) = (1 ≤ n) × (n ≤ MOST_BOXES)
 
@@ -259,3 +279,5 @@ HasBounds (Drill product) = IsNamedProduct product
 HasBounds (Explode request) = IsExplodeRequest request
 HasBounds (Linear request) = IsLinearRequest request
 HasBounds (Local request) = IsLocalRequest request
+HasBounds (Decide asked) = IsAskedWithin MOST_PRODUCT_PARTS asked
+HasBounds (Blocks request) = IsBlocksRequest request

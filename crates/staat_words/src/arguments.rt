@@ -4,11 +4,11 @@ ghost use Rattle.clap.specs.Words.{all_of, first_of, found_of, rows_of};
 ghost use Rattle.staat_vec.specs.Vectors.{IsWithin, origin};
 ghost use Rattle.staat_limits.specs.Versions.{IsVersion};
 ghost use Rattle.staat_limits.specs.declared.limits.TheConstants.{LEAST_PLANES};
-ghost use Rattle.staat_words.specs.Requests.{ReadsWords, IsInput, IsNamedProduct, certificate_in, count_within};
-ghost use Rattle.staat_words.specs.Requests.{digits_asked, input_in, is_given, limit_of, product_of};
+ghost use Rattle.staat_words.specs.Requests.{ReadsWords, IsInputWithin, IsNamedProduct, certificate_in};
+ghost use Rattle.staat_words.specs.Requests.{count_within, digits_asked, input_in, is_given, limit_of, product_of};
 ghost use Rattle.staat_words.specs.Requests.{planes_in, planes_within, vector_in, version_from, version_within};
 
-use crate::request::{Input, Product, RequestRefusal};
+use crate::request::{DrillProduct, Input, RequestRefusal};
 use crate::vector::vector_of;
 use clap::ArgMatches;
 use staat_limits::{LEAST_PLANES, MOST_BOXES, MOST_CELL_PLANES, MOST_DIGITS, MOST_PARTS};
@@ -144,16 +144,16 @@ fn count_within(text: &str, most: u32) -> Option<u32>
 }
 
 /// The product of this kind and size.
-pub fn product_of(kind: &str, number: &str) -> Option<Product>
+pub fn product_of(kind: &str, number: &str) -> Option<DrillProduct>
     ensures exact { result ≡ product_of kind.now number.now }
     ensures bounds { IfSome result IsNamedProduct }
 {
     if kind == "row" {
         let n = count_within(number, MOST_PARTS)?;
-        Some(Product::Cubes(n))
+        Some(DrillProduct::Cubes(n))
     } else if kind == "box" {
         let n = count_within(number, MOST_BOXES)?;
-        Some(Product::Boxes(n))
+        Some(DrillProduct::Boxes(n))
     } else {
         None
     }
@@ -201,11 +201,11 @@ fn names_of(alloc: Global, words: &[&str]) -> Result<Names, AllocError>
     Ok(Names::from_vec(names))
 }
 
-/// Where the parts come from: either a part list, or 1 to 32 files.
+/// Where the parts come from: either a part list, or 1 to so many files.
 #[tactic(auto, unfolding(crate::specs::Requests::input_in))]
-pub fn input_of(alloc: Global, matches: &ArgMatches<'_>) -> Result<Input, RequestRefusal>
-    ensures answers { ReadsWords (input_in (rows_of (found_of matches.now))) result }
-    ensures bounds { IfOk result IsInput }
+pub fn input_of(alloc: Global, matches: &ArgMatches<'_>, most: u32) -> Result<Input, RequestRefusal>
+    ensures answers { ReadsWords (input_in most (rows_of (found_of matches.now))) result }
+    ensures bounds { IfOk result (IsInputWithin most) }
 {
     let files = values_of(matches, "files");
     match value_of(matches, "manifest") {
@@ -217,7 +217,7 @@ pub fn input_of(alloc: Global, matches: &ArgMatches<'_>) -> Result<Input, Reques
         }
         None => {
             let files = files.ok_or(RequestRefusal::Usage)?;
-            if files.is_empty() || files.len() > MOST_PARTS as usize {
+            if files.is_empty() || files.len() > most as usize {
                 return Err(RequestRefusal::Usage);
             }
             Ok(Input::Files(names_of(alloc, files)?))

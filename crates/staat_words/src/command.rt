@@ -30,7 +30,7 @@ pub struct CommandRow<'a> {
 }
 
 // All commands: a row for each.
-fn commands<'a>() -> [CommandRow<'a>; 10]
+fn commands<'a>() -> [CommandRow<'a>; 12]
     ensures { map plain result ≡ commands }
 {
     [
@@ -120,6 +120,23 @@ fn commands<'a>() -> [CommandRow<'a>; 10]
                 ("digits", Optional),
                 ("manifest", Optional),
                 ("planes", Optional),
+                ("files", Words),
+            ],
+        },
+        CommandRow {
+            name: "decide",
+            arguments: &[
+                ("digits", Optional),
+                ("manifest", Optional),
+                ("files", Words),
+            ],
+        },
+        CommandRow {
+            name: "blocks",
+            arguments: &[
+                ("digits", Optional),
+                ("manifest", Optional),
+                ("along", Required),
                 ("files", Words),
             ],
         },

@@ -8,7 +8,7 @@ mod vector;
 mod words;
 
 pub use request::{
-    Asked, CellsRequest, CheckRequest, ExplodeRequest, GraphRequest, Input, LinearRequest,
-    LocalRequest, PairRequest, PlanRequest, Product, Request, RequestRefusal,
+    Asked, CellsRequest, CheckRequest, DrillProduct, ExplodeRequest, GraphRequest, Input,
+    LinearRequest, LocalRequest, PairRequest, PlanRequest, Request, RequestRefusal,
 };
 pub use words::request_of;

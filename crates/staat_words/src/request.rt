@@ -8,7 +8,8 @@ use thiserror::Error;
 pub enum Input {
     /// A part list.
     Manifest(Name),
-    /// 1 to 32 files, as many as there may be parts, each one part of one piece.
+    /// Files, each one part of one piece: 1 to [`MOST_PARTS`](staat_limits::MOST_PARTS), or to
+    /// [`MOST_PRODUCT_PARTS`](staat_limits::MOST_PRODUCT_PARTS) where the product may be of any size.
     Files(Names),
 }
 
@@ -97,7 +98,7 @@ pub struct CheckRequest {
 
 /// A product that the program makes itself.
 #[derive(Clone, Copy, Drop)]
-pub enum Product {
+pub enum DrillProduct {
     /// So many cubes in a row, 1 to 32.
     Cubes(u32),
     /// A cube in so many boxes, each around the one before, 1 to 6.
@@ -115,10 +116,14 @@ pub enum Request {
     Check(CheckRequest),
     Cells(CellsRequest),
     /// The program tried on a product of its own.
-    Drill(Product),
+    Drill(DrillProduct),
     Explode(ExplodeRequest),
     Linear(LinearRequest),
     Local(LocalRequest),
+    /// A plan for a product of any size, or parts that are stuck.
+    Decide(Asked),
+    /// Which parts of a product of any size block which along a direction.
+    Blocks(GraphRequest),
 }
 
 /// Why words give no request.

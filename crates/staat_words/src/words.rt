@@ -2,11 +2,12 @@
 ghost use Rattle.std.specs.Prelude.{◌≡◌, map, string_bytes, IfOk, IsErrOf, Some, option_map, true, false};
 ghost use Rattle.clap.specs.Words.{found_of, rows_of, subcommand_rows_of};
 ghost use Rattle.staat_words.specs.Command.{is_taken, matches as matches_at};
-ghost use Rattle.staat_words.specs.Requests.{ReadsWords, HasBounds, IsAsked, asked_in, cells_in, check_in};
-ghost use Rattle.staat_words.specs.Requests.{drill_in, explode_in, graph_in, linear_in, local_in, pair_in};
-ghost use Rattle.staat_words.specs.Requests.{plan_in, request, request_in};
+ghost use Rattle.staat_words.specs.Requests.{ReadsWords, HasBounds, IsAskedWithin, IsGraphRequestWithin};
+ghost use Rattle.staat_words.specs.Requests.{asked_in, cells_in, check_in, drill_in, explode_in, graph_in};
+ghost use Rattle.staat_words.specs.Requests.{linear_in, local_in, pair_in, plan_in, request, request_in};
 ghost use Rattle.staat_words.specs.declared.request.Request.TheVariants.{Pair, Look, Graph, Plan, Check};
 ghost use Rattle.staat_words.specs.declared.request.Request.TheVariants.{Cells, Drill, Explode, Linear, Local};
+ghost use Rattle.staat_words.specs.declared.request.Request.TheVariants.{Decide, Blocks};
 
 use crate::arguments::{
     certificate_of, digits_of, input_of, is_given, limit_of, name_in, planes_of, product_of,
@@ -19,17 +20,18 @@ use crate::request::{
 };
 use clap::ArgMatches;
 use clap::error::ErrorKind;
-use staat_limits::{MOST_CELL_PLANES, MOST_PLANES};
+use staat_limits::{MOST_CELL_PLANES, MOST_PARTS, MOST_PLANES, MOST_PRODUCT_PARTS};
 use staat_vec::{DIRECTION, NORMAL};
 use std::alloc::Global;
 
+// What is asked about, where there may be so many files.
 #[tactic(auto, unfolding(crate::specs::Requests::asked_in))]
-fn asked_of(alloc: Global, matches: &ArgMatches<'_>) -> Result<Asked, RequestRefusal>
-    ensures answers { ReadsWords (asked_in (rows_of (found_of matches.now))) result }
-    ensures bounds { IfOk result IsAsked }
+fn asked_of(alloc: Global, matches: &ArgMatches<'_>, most: u32) -> Result<Asked, RequestRefusal>
+    ensures answers { ReadsWords (asked_in most (rows_of (found_of matches.now))) result }
+    ensures bounds { IfOk result (IsAskedWithin most) }
 {
     let digits = digits_of(matches)?;
-    let input = input_of(alloc, matches)?;
+    let input = input_of(alloc, matches, most)?;
     Ok(Asked { digits, input })
 }
 
@@ -53,20 +55,32 @@ fn pair_of(alloc: Global, matches: &ArgMatches<'_>) -> Result<Request, RequestRe
 }
 
 fn look_of(alloc: Global, matches: &ArgMatches<'_>) -> Result<Request, RequestRefusal>
-    ensures answers { ReadsWords (option_map Look (asked_in (rows_of (found_of matches.now)))) result }
+    ensures answers { ReadsWords (option_map Look (asked_in MOST_PARTS (rows_of (found_of matches.now)))) result }
     ensures bounds { IfOk result HasBounds }
 {
-    Ok(Request::Look(asked_of(alloc, matches)?))
+    Ok(Request::Look(asked_of(alloc, matches, MOST_PARTS)?))
 }
 
+// A direction, and what is asked about, where there may be so many files.
 #[tactic(auto, unfolding(crate::specs::Requests::graph_in))]
+fn graph_within(
+    alloc: Global,
+    matches: &ArgMatches<'_>,
+    most: u32,
+) -> Result<GraphRequest, RequestRefusal>
+    ensures answers { ReadsWords (graph_in most (rows_of (found_of matches.now))) result }
+    ensures bounds { IfOk result (IsGraphRequestWithin most) }
+{
+    let asked = asked_of(alloc, matches, most)?;
+    let along = vector_in(matches, "along", DIRECTION)?;
+    Ok(GraphRequest { asked, along })
+}
+
 fn graph_of(alloc: Global, matches: &ArgMatches<'_>) -> Result<Request, RequestRefusal>
-    ensures answers { ReadsWords (option_map Graph (graph_in (rows_of (found_of matches.now)))) result }
+    ensures answers { ReadsWords (option_map Graph (graph_in MOST_PARTS (rows_of (found_of matches.now)))) result }
     ensures bounds { IfOk result HasBounds }
 {
-    let asked = asked_of(alloc, matches)?;
-    let along = vector_in(matches, "along", DIRECTION)?;
-    Ok(Request::Graph(GraphRequest { asked, along }))
+    Ok(Request::Graph(graph_within(alloc, matches, MOST_PARTS)?))
 }
 
 #[tactic(auto, unfolding(crate::specs::Requests::plan_in))]
@@ -74,7 +88,7 @@ fn plan_of(alloc: Global, matches: &ArgMatches<'_>) -> Result<Request, RequestRe
     ensures answers { ReadsWords (option_map Plan (plan_in (rows_of (found_of matches.now)))) result }
     ensures bounds { IfOk result HasBounds }
 {
-    let asked = asked_of(alloc, matches)?;
+    let asked = asked_of(alloc, matches, MOST_PARTS)?;
     let planes = planes_of(matches, MOST_PLANES)?;
     let certificate = certificate_of(matches)?;
     let robust = is_given(matches, "robust");
@@ -91,7 +105,7 @@ fn check_of(alloc: Global, matches: &ArgMatches<'_>) -> Result<Request, RequestR
     ensures answers { ReadsWords (option_map Check (check_in (rows_of (found_of matches.now)))) result }
     ensures bounds { IfOk result HasBounds }
 {
-    let asked = asked_of(alloc, matches)?;
+    let asked = asked_of(alloc, matches, MOST_PARTS)?;
     let certificate = name_in(alloc, matches, "certificate")?;
     Ok(Request::Check(CheckRequest { asked, certificate }))
 }
@@ -101,7 +115,7 @@ fn cells_of(alloc: Global, matches: &ArgMatches<'_>) -> Result<Request, RequestR
     ensures answers { ReadsWords (option_map Cells (cells_in (rows_of (found_of matches.now)))) result }
     ensures bounds { IfOk result HasBounds }
 {
-    let asked = asked_of(alloc, matches)?;
+    let asked = asked_of(alloc, matches, MOST_PARTS)?;
     let planes = planes_of(matches, MOST_CELL_PLANES)?;
     Ok(Request::Cells(CellsRequest { asked, planes }))
 }
@@ -122,7 +136,7 @@ fn explode_of(alloc: Global, matches: &ArgMatches<'_>) -> Result<Request, Reques
     ensures answers { ReadsWords (option_map Explode (explode_in (rows_of (found_of matches.now)))) result }
     ensures bounds { IfOk result HasBounds }
 {
-    let asked = asked_of(alloc, matches)?;
+    let asked = asked_of(alloc, matches, MOST_PARTS)?;
     let planes = planes_of(matches, MOST_PLANES)?;
     let off = is_given(matches, "off");
     Ok(Request::Explode(ExplodeRequest { asked, planes, off }))
@@ -133,7 +147,7 @@ fn linear_of(alloc: Global, matches: &ArgMatches<'_>) -> Result<Request, Request
     ensures answers { ReadsWords (option_map Linear (linear_in (rows_of (found_of matches.now)))) result }
     ensures bounds { IfOk result HasBounds }
 {
-    let asked = asked_of(alloc, matches)?;
+    let asked = asked_of(alloc, matches, MOST_PARTS)?;
     let planes = planes_of(matches, MOST_PLANES)?;
     Ok(Request::Linear(LinearRequest { asked, planes }))
 }
@@ -143,9 +157,25 @@ fn local_of(alloc: Global, matches: &ArgMatches<'_>) -> Result<Request, RequestR
     ensures answers { ReadsWords (option_map Local (local_in (rows_of (found_of matches.now)))) result }
     ensures bounds { IfOk result HasBounds }
 {
-    let asked = asked_of(alloc, matches)?;
+    let asked = asked_of(alloc, matches, MOST_PARTS)?;
     let planes = planes_of(matches, MOST_PLANES)?;
     Ok(Request::Local(LocalRequest { asked, planes }))
+}
+
+fn decide_of(alloc: Global, matches: &ArgMatches<'_>) -> Result<Request, RequestRefusal>
+    ensures answers { ReadsWords
+        (option_map Decide (asked_in MOST_PRODUCT_PARTS (rows_of (found_of matches.now)))) result }
+    ensures bounds { IfOk result HasBounds }
+{
+    Ok(Request::Decide(asked_of(alloc, matches, MOST_PRODUCT_PARTS)?))
+}
+
+fn blocks_of(alloc: Global, matches: &ArgMatches<'_>) -> Result<Request, RequestRefusal>
+    ensures answers { ReadsWords
+        (option_map Blocks (graph_in MOST_PRODUCT_PARTS (rows_of (found_of matches.now)))) result }
+    ensures bounds { IfOk result HasBounds }
+{
+    Ok(Request::Blocks(graph_within(alloc, matches, MOST_PRODUCT_PARTS)?))
 }
 
 // The matches of words that `clap` takes.
@@ -194,6 +224,10 @@ fn request_named(
         linear_of(alloc, matches)
     } else if name == "local" {
         local_of(alloc, matches)
+    } else if name == "decide" {
+        decide_of(alloc, matches)
+    } else if name == "blocks" {
+        blocks_of(alloc, matches)
     } else {
         Err(RequestRefusal::Usage)
     }
