@@ -8,9 +8,9 @@ use Rattle.staat_model.specs.Lines.{arc_numbers, spaced, vector_numbers}
 use Rattle.staat_short.specs.declared.line.ShortLine.{ShortLine}
 use Rattle.staat_short.specs.declared.line.ShortLine.TheVariants as line
 
--- what stands before the numbers of a line
+-- what stands before the numbers of a line. The title's own number is always 1
 abbrev pub short_word : ShortLine → List ℕ
-short_word line.Title = codes "STAAT SHORT"
+short_word line.Title = codes "STAAT SHORT 1"
 short_word (line.Parts n) = codes "parts"
 short_word line.Plan = codes "plan"
 short_word line.Stuck = codes "stuck"
@@ -25,7 +25,6 @@ short_word line.End = codes "end"
 
 -- the numbers that follow
 abbrev pub short_numbers : ShortLine → List ℤ
-short_numbers line.Title = pos 1 ∷ []
 short_numbers (line.Parts n) = pos n ∷ []
 short_numbers (line.Split d) = vector_numbers d
 short_numbers (line.Leaf p) = pos p ∷ []

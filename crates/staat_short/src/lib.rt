@@ -1,0 +1,23 @@
+//! The text of certificates that name holds and no walls, written and read.
+#![tactic(auto)]
+
+mod bytes;
+mod hold_lines;
+pub mod laws;
+mod line;
+mod line_reading;
+mod machine;
+mod plan_lines;
+mod reader;
+mod reading;
+mod short;
+mod stage;
+mod whole;
+mod writer;
+mod writing;
+
+pub use line::ShortLine;
+pub use reader::ShortReader;
+pub use short::{ShortAnswer, ShortCertificate, ShortNode, ShortNodes};
+pub use whole::read_short;
+pub use writing::short_text;
