@@ -12,13 +12,13 @@ use Rattle.staat_model.specs.declared.certificate.Arc.{Arc}
 use Rattle.staat_model.specs.Assemblies.{piece_at, piece_count}
 use Rattle.staat_model.specs.Planes.{vertices}
 use Rattle.staat_model.specs.Removal.{Blocks}
+use Rattle.staat_model.specs.SetLists.{set_of}
 use Rattle.staat_model.proofs.Places.{Contains-from_place, one_at_place, place_within}
 use Rattle.staat_holds.specs.Chains.{own_names, places_of}
 use Rattle.staat_holds.specs.Holds.{IsCorePair, IsFirstGap, IsOfNode, IsOfSomeNode, LeadsBetween}
 use Rattle.staat_holds.specs.Reaching.{AllReach}
 use Rattle.staat_decide.specs.declared.every.End.{End}
 use Rattle.staat_decide.specs.Ends.{arc_between}
-use Rattle.staat_decide.specs.Labels.{set_of}
 use Rattle.staat_decide.specs.Peelings.{IsHeldAlong}
 use Rattle.staat_decide.proofs.Gaps.{no_gap}
 use Rattle.staat_decide.proofs.Holdings.{of_own, own_of}

@@ -14,16 +14,15 @@ use Rattle.staat_model.specs.declared.set.PartSet.{PartSet}
 use Rattle.staat_model.specs.declared.tree.Tree.{Tree}
 use Rattle.staat_model.specs.Leaving.{AreGoodPlans, in_turn}
 use Rattle.staat_model.specs.Plans.{IsGood, Plan, leaf, plan_of}
-use Rattle.staat_model.specs.SetLists.{union_of}
+use Rattle.staat_model.specs.SetLists.{set_of, union_of}
 use Rattle.staat_model.specs.Sets.{Has, below}
 use Rattle.staat_model.proofs.LeavingLemmas.{plans_in_turn_lemma}
 use Rattle.staat_model.proofs.SetBits.{has-below}
+use Rattle.staat_model.proofs.SetListings.{has-set_of}
 use Rattle.staat_model.proofs.SetWords.{same_members}
-use Rattle.staat_decide.specs.Labels.{set_of}
 use Rattle.staat_decide.specs.Peelings.{IsPeeling}
 use Rattle.staat_decide.proofs.InTurn.{good_push}
 use Rattle.staat_decide.proofs.Picked.{numbers_small}
-use Rattle.staat_decide.proofs.Steps.{has-set_of}
 
 pub leaf_good : (parts : List Part) (w : List ℕ) → length w ≡ 1 → IsGood parts (set_of w) (leaf (get_or w 0 0))
 leaf_good parts [] e = absurd (omega (arith, e))

@@ -14,14 +14,14 @@ use Rattle.staat_model.specs.declared.certificate.Arc.{Arc}
 use Rattle.staat_model.specs.declared.set.PartSet.{PartSet}
 use Rattle.staat_model.specs.Planes.{vertices}
 use Rattle.staat_model.specs.Removal.{Blocks, IsFree, MeetsAlong}
+use Rattle.staat_model.specs.SetLists.{set_of}
 use Rattle.staat_model.specs.Sets.{Has, IsSide}
+use Rattle.staat_model.proofs.SetListings.{has-set_of}
 use Rattle.staat_model.proofs.SetMembers.{has-difference, has-empty, has-insert}
 use Rattle.staat_holds.specs.Holds.{IsFirstGap, LeadsBetween}
 use Rattle.staat_holds.specs.Reaching.{AllReach, Reaches, here, along}
-use Rattle.staat_decide.specs.Labels.{set_of}
 use Rattle.staat_decide.specs.Peelings.{IsHeldAlong}
 use Rattle.staat_decide.proofs.Rows.{distinct}
-use Rattle.staat_decide.proofs.Steps.{has-set_of}
 
 -- ---- what cannot fail for one number after the other
 

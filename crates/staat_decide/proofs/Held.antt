@@ -11,19 +11,20 @@ use Rattle.staat_vec.specs.Vectors.{origin}
 use Rattle.staat_model.specs.declared.assembly.Part.{Part}
 use Rattle.staat_model.specs.declared.set.PartSet.{PartSet}
 use Rattle.staat_model.specs.Removal.{Blocks, IsFree}
+use Rattle.staat_model.specs.SetLists.{set_of}
 use Rattle.staat_model.specs.Sets.{Has, IsSide}
+use Rattle.staat_model.proofs.SetListings.{has-set_of}
 use Rattle.staat_model.proofs.SetMembers.{has-difference, has-empty, has-union}
 use Rattle.staat_model.proofs.SetWords.{same_members}
 use Rattle.staat_motion.proofs.Zips.{zip_read}
 use Rattle.staat_decide.specs.declared.reach.Way.{Way}
 use Rattle.staat_decide.specs.declared.reach.Way.TheVariants.{Ahead, Back}
 use Rattle.staat_decide.specs.Arcs.{AreBlockingRows}
-use Rattle.staat_decide.specs.Labels.{AreClasses, IsClass, set_of}
+use Rattle.staat_decide.specs.Labels.{AreClasses, IsClass}
 use Rattle.staat_decide.specs.Peelings.{IsHeldAlong, IsPeeling}
 use Rattle.staat_decide.specs.Reaching.{AreAllReached, AreReached, HasRowArc, IsClosedAlong, label_of}
 use Rattle.staat_decide.proofs.Marks.{keeps_order_by, label_at, labels_count, labels_differ, labels_small}
 use Rattle.staat_decide.proofs.Rows.{any_default, distinct, peeling_from, row_at, row_count}
-use Rattle.staat_decide.proofs.Steps.{has-set_of}
 
 -- ---- two labels
 

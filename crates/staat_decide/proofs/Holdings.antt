@@ -15,9 +15,11 @@ use Rattle.staat_model.specs.Assemblies.{IsPart}
 use Rattle.staat_model.specs.Planes.{vertices}
 use Rattle.staat_model.specs.Plans.{IsStuck}
 use Rattle.staat_model.specs.Removal.{Blocks}
+use Rattle.staat_model.specs.SetLists.{set_of}
 use Rattle.staat_model.specs.Sets.{Has}
 use Rattle.staat_model.proofs.Places.{place_within}
 use Rattle.staat_model.proofs.Members.{All-from_members}
+use Rattle.staat_model.proofs.SetListings.{has-set_of}
 use Rattle.staat_holds.specs.declared.hold.Hold.{Hold}
 use Rattle.staat_holds.specs.Chains.{IsName, IsOfOne, KeepsHoldRules, own_names, place_of, places_of}
 use Rattle.staat_holds.specs.Holds.{IsCorePair, IsFirstGap, IsOfNode, JoinsNodes, LeadsBetween}
@@ -25,8 +27,6 @@ use Rattle.staat_holds.specs.Reaching.{AllReach}
 use Rattle.staat_holds.proofs.ChainLaw.{own_nodes, union_stuck}
 use Rattle.staat_holds.proofs.NodeNames.{map_at, of_place, place_to}
 use Rattle.staat_decide.specs.Decided.{IsStuckHold}
-use Rattle.staat_decide.specs.Labels.{set_of}
-use Rattle.staat_decide.proofs.Steps.{has-set_of}
 
 -- ---- names that are the parts' own
 

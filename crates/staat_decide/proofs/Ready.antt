@@ -9,8 +9,8 @@ use Rattle.staat_model.specs.declared.assembly.Part.{Part}
 use Rattle.staat_model.specs.declared.tree.Tree.{Tree}
 use Rattle.staat_model.specs.Leaving.{AreGoodPlans}
 use Rattle.staat_model.specs.Plans.{IsGood, plan_of}
+use Rattle.staat_model.specs.SetLists.{set_of}
 use Rattle.staat_model.proofs.Members.{All-from_members}
-use Rattle.staat_decide.specs.Labels.{set_of}
 use Rattle.staat_decide.specs.Peelings.{IsPeeling}
 use Rattle.staat_decide.proofs.Deciding.{good_more}
 use Rattle.staat_decide.proofs.Rows.{any_default}

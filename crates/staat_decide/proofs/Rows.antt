@@ -14,14 +14,14 @@ use Rattle.staat_model.specs.declared.assembly.Part.{Part}
 use Rattle.staat_model.specs.declared.set.PartSet.{PartSet}
 use Rattle.staat_model.specs.Leaving.{BlockNoLater}
 use Rattle.staat_model.specs.Removal.{Blocks}
-use Rattle.staat_model.specs.SetLists.{AreAllApart, union_of}
+use Rattle.staat_model.specs.SetLists.{AreAllApart, set_of, union_of}
 use Rattle.staat_model.specs.Sets.{Has}
+use Rattle.staat_model.proofs.SetListings.{has-set_of}
 use Rattle.staat_model.proofs.SetWords.{same_members}
 use Rattle.staat_motion.proofs.Zips.{zip_length, zip_read}
 use Rattle.staat_decide.specs.Arcs.{AreBlockingRows, IsRow}
-use Rattle.staat_decide.specs.Labels.{AllPrecede, AreClasses, HoldsOfLater, KeepsOrder, Precedes, set_of}
+use Rattle.staat_decide.specs.Labels.{AllPrecede, AreClasses, HoldsOfLater, KeepsOrder, Precedes}
 use Rattle.staat_decide.specs.Peelings.{IsPeeling}
-use Rattle.staat_decide.proofs.Steps.{has-set_of}
 
 pub any_default : {X : Type 0} (xs : List X) (i : ℕ) (d e : X) → i < length xs → get_or xs i d ≡ get_or xs i e
 any_default [] i d e lt = absurd (omega (arith, lt))

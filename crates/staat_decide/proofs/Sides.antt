@@ -10,13 +10,14 @@ use Rattle.staat_vec.specs.declared.vector.V3.{V3}
 use Rattle.staat_vec.proofs.Unique.{Contains-cases}
 use Rattle.staat_model.specs.declared.assembly.Part.{Part}
 use Rattle.staat_model.specs.declared.set.PartSet.{PartSet}
-use Rattle.staat_model.specs.SetLists.{AreAllApart, union_of}
+use Rattle.staat_model.specs.SetLists.{AreAllApart, set_of, union_of}
 use Rattle.staat_model.specs.Sets.{AreApart, Has}
 use Rattle.staat_model.proofs.Members.{here, there}
+use Rattle.staat_model.proofs.SetListings.{has-set_of}
 use Rattle.staat_model.proofs.SetMembers.{has-union}
-use Rattle.staat_decide.specs.Labels.{IsPartList, set_of}
+use Rattle.staat_decide.specs.Labels.{IsPartList}
 use Rattle.staat_decide.specs.Peelings.{IsPeeling}
-use Rattle.staat_decide.proofs.Steps.{has-set_of, none}
+use Rattle.staat_decide.proofs.Steps.{none}
 
 -- ---- ascending lists within others
 

@@ -11,11 +11,12 @@ use Rattle.std.proofs.lemmas.Map.Keys.{Less-from_sorted}
 use Rattle.staat_vec.specs.Lists.{Lists}
 use Rattle.staat_vec.proofs.Unique.{Contains-cases}
 use Rattle.staat_model.specs.declared.set.PartSet.{PartSet}
-use Rattle.staat_model.specs.SetLists.{union_of}
+use Rattle.staat_model.specs.SetLists.{set_of, union_of}
 use Rattle.staat_model.specs.Sets.{Has}
 use Rattle.staat_model.proofs.Members.{here, there}
+use Rattle.staat_model.proofs.SetListings.{has-set_of}
 use Rattle.staat_model.proofs.SetMembers.{has-empty, has-insert, has-union}
-use Rattle.staat_decide.specs.Labels.{AllPrecede, AreClasses, HasLabel, HasLabelBelow, HoldsOfLater, IsClass, set_of}
+use Rattle.staat_decide.specs.Labels.{AllPrecede, AreClasses, HasLabel, HasLabelBelow, HoldsOfLater, IsClass}
 
 pub none : {X : Type 0} (x : X) → Contains [] x → ⊥
 none x (k, lt, e) = absurd (omega (arith, lt))
@@ -94,19 +95,6 @@ label_same w labels n k s other is = record {
 }
 
 -- ---- sets of members
-
-pub has-set_of : (ps : List ℕ) (p : ℕ) → Has (set_of ps) p ↔ Contains ps p
-has-set_of [] p = ((λ h. absurd (has-empty p h)), (λ h. absurd (none p h)))
-has-set_of (q ∷ rest) p = (
-  λ h. ⊎_elim {C = Contains (q ∷ rest) p}
-      (λ e. subst (Contains (q ∷ rest)) (sym e) (here q rest))
-      (λ later. there q p rest ((has-set_of rest p).0 later))
-      ((has-insert (set_of rest) q p).0 h),
-  λ h. (has-insert (set_of rest) q p).1 (⊎_elim {C = (p ≡ q) ⊎ Has (set_of rest) p}
-      (λ e. inl e)
-      (λ later. inr ((has-set_of rest p).1 later))
-      (Contains-cases q rest p h)),
-)
 
 pub union_push : (sets : List PartSet) (t : PartSet) (p : ℕ)
     → Has (union_of (sets ++ t ∷ [])) p ↔ (Has (union_of sets) p ⊎ Has t p)

@@ -3,13 +3,14 @@ use Rattle.std.specs.Prelude.{ℕ, ◌<◌, List, All, length}
 use Rattle.staat_model.specs.declared.assembly.Part.{Part}
 use Rattle.staat_model.specs.declared.set.PartSet.{PartSet}
 use Rattle.staat_model.specs.Plans.{IsGood, IsStuck, plan_of}
+use Rattle.staat_model.specs.SetLists.{set_of}
 use Rattle.staat_holds.specs.declared.hold.Hold.{Hold}
 use Rattle.staat_holds.specs.Chains.{KeepsHoldRules, own_names}
 use Rattle.staat_decide.specs.declared.decision.Decision.{Decision}
 use Rattle.staat_decide.specs.declared.decision.Decision.TheVariants as decision
 use Rattle.staat_decide.specs.declared.decision.Parting.{Parting}
 use Rattle.staat_decide.specs.declared.decision.Parting.TheVariants as parting
-use Rattle.staat_decide.specs.Labels.{IsPartList, set_of}
+use Rattle.staat_decide.specs.Labels.{IsPartList}
 use Rattle.staat_decide.specs.Peelings.{IsPeeling}
 
 -- the nodes are parts, each by itself, and stuck together; the pairs show it

@@ -1,18 +1,12 @@
 -- Labels of the parts of a list, and the sets of those with the same label.
 use Rattle.std.specs.Prelude.{◌≡◌, ℕ, ◌<◌, ◌≤◌, ◌↔◌, List, [], ◌∷◌, Bool, false, All, Contains, IsTrue}
 use Rattle.std.specs.Prelude.{get_or, length, map}
-use Rattle.std.specs.FinSet as set
 use Rattle.std.specs.List.Sorted.{IsStrictlySortedBy}
 use Rattle.std.specs.Ordering.{nat_cmp}
 use Rattle.staat_vec.specs.Lists.{Lists}
 use Rattle.staat_model.specs.declared.set.PartSet.{PartSet}
-use Rattle.staat_model.specs.SetLists.{union_of}
+use Rattle.staat_model.specs.SetLists.{set_of, union_of}
 use Rattle.staat_model.specs.Sets.{Has}
-
--- the set of the members of a list
-abbrev pub set_of : List ℕ → PartSet
-set_of [] = set.empty
-set_of (p ∷ rest) = set.insert (set_of rest) p
 
 -- what is marked in the row has no label above this one
 abbrev pub LeadsBack : List Bool → List ℕ → ℕ → Type 0

@@ -6,9 +6,9 @@ use Rattle.staat_model.specs.declared.assembly.Part.{Part}
 use Rattle.staat_model.specs.declared.set.PartSet.{PartSet}
 use Rattle.staat_model.specs.Leaving.{IsLeavingOrder}
 use Rattle.staat_model.specs.Removal.{IsFree}
-use Rattle.staat_model.specs.SetLists.{union_of}
+use Rattle.staat_model.specs.SetLists.{set_of, union_of}
 use Rattle.staat_model.specs.Sets.{IsSide}
-use Rattle.staat_decide.specs.Labels.{IsPartList, set_of}
+use Rattle.staat_decide.specs.Labels.{IsPartList}
 
 -- at least two sets, each with a part and ascending, that together are w and leave along d one after the other
 pub record IsPeeling (parts : List Part) (d : V3) (w : List ℕ) (sets : List (List ℕ)) : Type 0 where

@@ -22,6 +22,7 @@ mod turns;
 
 pub use arcs::{Row, rows_of};
 pub use decision::Decision;
+pub use likely::numbers;
 pub use peeling::{peel, take_apart};
 pub use planning::decide;
 pub use sets::{PartList, Sets};

@@ -5,9 +5,9 @@ ghost use Rattle.std.specs.Ordering.{nat_cmp};
 ghost use Rattle.staat_vec.specs.declared.vector.V3.{V3 as Vector};
 ghost use Rattle.staat_vec.specs.Vectors.{origin};
 ghost use Rattle.staat_model.specs.declared.assembly.Part.{Part as PartValue};
+ghost use Rattle.staat_model.specs.SetLists.{set_of};
 ghost use Rattle.staat_motion.specs.Motions.{IsMotionOf};
 ghost use Rattle.staat_decide.specs.Arcs.{AreBlockingRows};
-ghost use Rattle.staat_decide.specs.Labels.{set_of};
 ghost use Rattle.staat_decide.specs.Peelings.{IsHeldAlong, IsPeeling};
 ghost use Rattle.staat_decide.specs.Reaching.{AreAllReached};
 

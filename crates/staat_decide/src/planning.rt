@@ -3,11 +3,11 @@ ghost use Rattle.std.specs.Prelude.{◌≡◌, ◌<◌, ◌≤◌, ◌^◌, All,
 ghost use Rattle.std.specs.List.Sorted.{IsStrictlySortedBy};
 ghost use Rattle.std.specs.Ordering.{nat_cmp};
 ghost use Rattle.staat_model.specs.Assemblies.{IsPart};
+ghost use Rattle.staat_model.specs.SetLists.{set_of};
 ghost use Rattle.staat_model.specs.Sets.{below};
 ghost use Rattle.staat_motion.specs.Motions.{AreBodies};
 ghost use Rattle.staat_decide.specs.Asking.{AreAskedRows};
 ghost use Rattle.staat_decide.specs.Decided.{IsDecision, IsParting};
-ghost use Rattle.staat_decide.specs.Labels.{set_of};
 
 use crate::asking::asked_of;
 use crate::decision::{Decision, Parting};

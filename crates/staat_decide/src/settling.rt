@@ -4,9 +4,9 @@ ghost use Rattle.std.specs.Prelude.{◌≡◌, ◌≢◌, ◌<◌, ◌≤◌, �
 ghost use Rattle.std.specs.List.Sorted.{IsStrictlySortedBy};
 ghost use Rattle.std.specs.Ordering.{nat_cmp};
 ghost use Rattle.staat_vec.specs.Vectors.{IsWithin, origin};
+ghost use Rattle.staat_model.specs.SetLists.{set_of};
 ghost use Rattle.staat_motion.specs.Motions.{AreBodies};
 ghost use Rattle.staat_decide.specs.Decided.{IsStuckHold, IsParting};
-ghost use Rattle.staat_decide.specs.Labels.{set_of};
 ghost use Rattle.staat_decide.specs.Peelings.{IsHeldAlong, IsPeeling};
 
 use crate::decision::{Leaving, Parting};

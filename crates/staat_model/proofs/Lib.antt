@@ -17,6 +17,7 @@ pub mod SetBits
 pub mod SetMembers
 pub mod SetWords
 pub mod SetSizes
+pub mod SetListings
 pub mod Orders
 pub mod OneTable
 pub mod FreeSides

@@ -1,7 +1,7 @@
 use Rattle.std.proofs.Common.{◌≡◌, ◌≤◌, ◌<◌, arith, List, ℕ, get_or, length, subst, sym}
 use Rattle.staat_model.specs.Plans.{plan_of}
+use Rattle.staat_model.specs.SetLists.{set_of}
 use Rattle.staat_decide.specs.Decided.{IsDecision, IsParting}
-use Rattle.staat_decide.specs.Labels.{set_of}
 use Rattle.staat_decide.specs.Peelings.{IsPeeling}
 use Rattle.staat_decide.proofs.Deciding.{good_count, good_whole, leaf_good}
 use Rattle.staat_decide.proofs.Ready.{all_planned, good_step, own_place, set_ready}

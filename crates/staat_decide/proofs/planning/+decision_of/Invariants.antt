@@ -1,7 +1,7 @@
 use Rattle.std.proofs.Common.{length, map, take}
 use Rattle.staat_model.specs.Leaving.{AreGoodPlans}
 use Rattle.staat_model.specs.Plans.{plan_of}
-use Rattle.staat_decide.specs.Labels.{set_of}
+use Rattle.staat_model.specs.SetLists.{set_of}
 use Rattle.staat_decide.proofs.planning.+decision_of.Given as goal
 
 abbrev pub invariant-loop-s : goal.invariant-loop-s

@@ -3,8 +3,8 @@ use Rattle.std.specs.List.Sorted.{IsStrictlySortedBy}
 use Rattle.std.specs.Ordering.{nat_cmp}
 use Rattle.std.proofs.lemmas.List.FromFn.{length-range_with_len}
 use Rattle.staat_model.specs.declared.set.PartSet.{PartSet}
+use Rattle.staat_model.specs.SetLists.{set_of}
 use Rattle.staat_decide.specs.Decided.{IsDecision}
-use Rattle.staat_decide.specs.Labels.{set_of}
 use Rattle.staat_decide.proofs.Deciding.{numbers_set, numbers_sorted}
 use Rattle.staat_decide.proofs.Picked.{numbers_small}
 use Rattle.staat_decide.proofs.planning.decide.Goals as goal
