@@ -41,7 +41,7 @@ module _ (R : ℕ → ℕ → Type 0) (w : PartSet) where
   one_least : (s : PartSet) (p q : ℕ) → IsLeastOf s p → IsLeastOf s q → p ≡ q
   one_least s p q a b = let l : p ≤ q = a.least q b.has in let r : q ≤ p = b.least p a.has in omega arith
 
-  order_push : (groups : List PartSet) (s : PartSet) → InOrder groups → ((t : PartSet) (p q : ℕ) → Contains groups t → IsLeastOf t p → IsLeastOf s q → p < q) → InOrder (groups ++ s ∷ [])
+  pub order_push : (groups : List PartSet) (s : PartSet) → InOrder groups → ((t : PartSet) (p q : ℕ) → Contains groups t → IsLeastOf t p → IsLeastOf s q → p < q) → InOrder (groups ++ s ∷ [])
   order_push [] s o f = ((λ t p q c a b. absurd (nothing_listed t c)), tt)
   order_push (x ∷ groups) s o f = (
     (λ t p q c a b. ⊎_elim (λ m. o.0 t p q m a b) (λ e. f x p q (0, omega arith, refl) a (subst (λ z. IsLeastOf z q) (sym e) b)) (Contains-push_cases groups s t c)),

@@ -5,3 +5,4 @@ pub mod Reaching
 pub mod Classes
 pub mod TreeLemmas
 pub mod Sides
+pub mod RowLemmas

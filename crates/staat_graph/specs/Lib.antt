@@ -1,3 +1,4 @@
 pub mod Graphs
 pub mod Blocking
 pub mod Growing
+pub mod Rows
