@@ -1,12 +1,12 @@
 -- The lines of a graph, one more at a time.
-use Rattle.std.proofs.Common.{◌≡◌, ◌∙◌, ℕ, suc, ◌+◌, ◌-◌, ◌<◌, Bool, true, false, List, ◌∷◌, ◌++◌, refl, sym, ap, arith, append_assoc, codes, decimal, pos}
+use Rattle.std.proofs.Common.{◌≡◌, ◌∙◌, ℕ, suc, ◌+◌, ◌-◌, ◌<◌, Bool, true, false, List, ◌∷◌, ◌++◌, refl, sym, ap, arith, append_assoc}
 use Rattle.std.specs.Prelude.{map, filter, flat_map}
 use Rattle.std.specs.List.{range_with_len}
 use Rattle.std.specs.FinSet as set
 use Rattle.std.proofs.lemmas.Bool.Decides.{nat_tests}
 use Rattle.std.proofs.lemmas.Grind.{flat_map-append}
 use Rattle.staat_model.specs.declared.set.PartSet.{PartSet}
-use Rattle.staat_model.specs.Lines.{members_from, spaced}
+use Rattle.staat_model.specs.Lines.{members_from}
 use Rattle.staat_graph.specs.Graphs.{HasArc}
 use Rattle.staat_text.specs.GraphTexts.{arcs_from, has_arc}
 
@@ -71,11 +71,7 @@ row_written line_of rows a parts text lines new whole lt is more so_far =
     written text (flat_map line_of own) new (flat_map line_of rest) whole (more ∙ ap (λ l. text ++ l) is)
     (ap (λ t. text ++ t) (sym (flat_map-append line_of own rest)) ∙ sym (ap (λ arcs. text ++ flat_map line_of arcs) all) ∙ so_far)
 
--- ---- groups
-
--- the numbers of the members from p on, and the line feed
-abbrev pub numbers_onward : PartSet → ℕ → ℕ → List ℕ
-numbers_onward group p n = spaced (map pos (members_from p n group))
+-- ---- members
 
 after : (group : PartSet) (p n : ℕ) → members_from (suc p) n group ≡ members_from (p + 1) n group
 after group p n = ap (λ q. members_from q n group) (omega arith)
@@ -85,16 +81,3 @@ members_more group p n e = let first : members_from p (suc n) group ≡ p ∷ me
 
 pub members_same : (group : PartSet) (p n : ℕ) → set.contains group p ≡ false → members_from p (suc n) group ≡ members_from (p + 1) n group
 members_same group p n e = let first : members_from p (suc n) group ≡ members_from (suc p) n group = rw e refl in first ∙ after group p n
-
-module _ (group : PartSet) (p : ℕ) (text new whole : List ℕ) (lt : p < 32) (so_far : text ++ numbers_onward group p (32 - p) ≡ whole) where
-  pub part_written : (part : List ℕ) → set.contains group p ≡ true → part ≡ codes " " ++ decimal p → new ≡ text ++ part → new ++ numbers_onward group (p + 1) (32 - (p + 1)) ≡ whole
-  part_written part has is more =
-      let rest : List ℕ = numbers_onward group (p + 1) (32 - (p + 1)) in
-      let all : numbers_onward group p (32 - p) ≡ 32 ∷ (decimal p ++ rest) = ap (numbers_onward group p) (left p 32 lt) ∙ ap (λ ps. spaced (map pos ps)) (members_more group p (32 - (p + 1)) has) in
-      written text (codes " " ++ decimal p) new rest whole (more ∙ ap (λ t. text ++ t) is) (sym (ap (λ t. text ++ t) all) ∙ so_far)
-
-  pub part_absent : set.contains group p ≡ false → new ≡ text → new ++ numbers_onward group (p + 1) (32 - (p + 1)) ≡ whole
-  part_absent none same =
-      let rest : List ℕ = numbers_onward group (p + 1) (32 - (p + 1)) in
-      let all : numbers_onward group p (32 - p) ≡ rest = ap (numbers_onward group p) (left p 32 lt) ∙ ap (λ ps. spaced (map pos ps)) (members_same group p (32 - (p + 1)) none) in
-      kept text new (numbers_onward group p (32 - p)) rest whole same all so_far

@@ -63,10 +63,10 @@ steps_fewer (split d m r) h =
     let c = len_within (set.len (parts_of m)) (parts_of m) (parts_of r) (omega arith) h.0 in
     omega (arith, a, b, c)
 
-pub steps_small : (plan : Plan) → HasLeaves plan → steps_of plan < 32
+pub steps_small : (plan : Plan) → HasLeaves plan → steps_of plan < 1024
 steps_small plan h =
     let a = steps_fewer plan h.apart in
-    let b = len_below 32 (parts_of plan) h.small in
+    let b = len_below 1024 (parts_of plan) h.small in
     omega (arith, a, b)
 
 -- ---- at a split
@@ -78,24 +78,20 @@ module _ (tree : Plan) (d : V3) (m r : Plan) (is : tree ≡ split d m r) where
   pub rest_fewer : steps_of r < steps_of tree
   rest_fewer = let e : steps_of tree ≡ 1 + steps_of m + steps_of r = ap steps_of is in omega (arith, e)
 
-  module _ (small : (p : ℕ) → Has (parts_of tree) p → p < 32) where
-    pub moved_small : (p : ℕ) → Has (parts_of m) p → p < 32
-    moved_small p h = small p (subst (λ (t : Plan). Has (parts_of t) p) (sym is) ((has-union (parts_of m) (parts_of r) p).1 (inl h)))
+  moved_in : (p : ℕ) → Has (parts_of m) p → Has (parts_of tree) p
+  moved_in p h = subst (λ (t : Plan). Has (parts_of t) p) (sym is) ((has-union (parts_of m) (parts_of r) p).1 (inl h))
 
-    pub rest_small : (p : ℕ) → Has (parts_of r) p → p < 32
-    rest_small p h = small p (subst (λ (t : Plan). Has (parts_of t) p) (sym is) ((has-union (parts_of m) (parts_of r) p).1 (inr h)))
+  rest_in : (p : ℕ) → Has (parts_of r) p → Has (parts_of tree) p
+  rest_in p h = subst (λ (t : Plan). Has (parts_of t) p) (sym is) ((has-union (parts_of m) (parts_of r) p).1 (inr h))
 
   pub moved_leaves : HasLeaves tree → HasLeaves m
-  moved_leaves h = record { small = moved_small h.small; apart = (subst AreLeavesApart is h.apart).1 }
+  moved_leaves h = record { small = λ p in_m. h.small p (moved_in p in_m); apart = (subst AreLeavesApart is h.apart).1 }
 
   pub rest_leaves : HasLeaves tree → HasLeaves r
-  rest_leaves h = record { small = rest_small h.small; apart = (subst AreLeavesApart is h.apart).2 }
+  rest_leaves h = record { small = λ p in_r. h.small p (rest_in p in_r); apart = (subst AreLeavesApart is h.apart).2 }
 
-  pub moved_steps : HasLeaves tree → steps_of m < 32
+  pub moved_steps : HasLeaves tree → steps_of m < 1024
   moved_steps h = steps_small m (moved_leaves h)
-
-pub leaf_small : (tree : Plan) (p : ℕ) → tree ≡ leaf p → ((q : ℕ) → Has (parts_of tree) q → q < 32) → p < 32
-leaf_small tree p is small = small p (subst (λ (t : Plan). Has (parts_of t) p) (sym is) ((has-single p p).1 refl))
 
 -- ---- of what is planned
 
@@ -110,14 +106,17 @@ good_parts : (parts : List Part) (plan : Plan) (w : PartSet) → IsGood parts w 
 good_parts parts (leaf p) w good = good
 good_parts parts (split d m r) w good = good.0
 
-pub good_leaves : (parts : List Part) (plan : Plan) (w : PartSet) → ((p : ℕ) → Has w p → p < 32) → IsGood parts w plan → HasLeaves plan
-good_leaves parts plan w small good = record {
+pub product_leaves : (parts : List Part) (plan : Plan) (w : PartSet) → ((p : ℕ) → Has w p → p < 1024) → IsGood parts w plan → HasLeaves plan
+product_leaves parts plan w small good = record {
   small = λ p h. small p (subst (λ (u : PartSet). Has u p) (sym (good_parts parts plan w good)) h);
   apart = good_apart parts plan w good;
 }
 
+pub good_leaves : (parts : List Part) (plan : Plan) (w : PartSet) → ((p : ℕ) → Has w p → p < 32) → IsGood parts w plan → HasLeaves plan
+good_leaves parts plan w small good = product_leaves parts plan w (λ p h. omega (arith, small p h)) good
+
 pub two_leaves : (d : V3) (a b : ℕ) → a < 32 → b < 32 → (a ≡ b → ⊥) → HasLeaves (split d (leaf a) (leaf b))
 two_leaves d a b small_a small_b different = record {
-  small = λ p h. ⊎_elim (λ l. subst (λ n. n < 32) (sym ((has-single a p).0 l)) small_a) (λ r. subst (λ n. n < 32) (sym ((has-single b p).0 r)) small_b) ((has-union (single a) (single b) p).0 h);
+  small = λ p h. ⊎_elim (λ l. omega (arith, small_a, (has-single a p).0 l)) (λ r. omega (arith, small_b, (has-single b p).0 r)) ((has-union (single a) (single b) p).0 h);
   apart = ((λ p l r. different (sym ((has-single a p).0 l) ∙ (has-single b p).0 r)), tt, tt);
 }

@@ -5,9 +5,10 @@ use Rattle.std.specs.List.{range_with_len}
 use Rattle.std.specs.Int.{bit_at}
 use Rattle.staat_vec.specs.declared.vector.V3.{V3}
 use Rattle.staat_model.specs.declared.set.PartSet.{PartSet}
-use Rattle.staat_model.specs.Lines.{members, spaced, vector_numbers}
+use Rattle.staat_model.specs.Lines.{spaced, vector_numbers}
 use Rattle.staat_model.specs.Sets.{below}
 use Rattle.staat_graph.specs.Graphs.{AreGroups, HasArc}
+use Rattle.staat_text.specs.PlanTexts.{parts_listed}
 
 -- whether bit b of row a is the arc from a to b
 abbrev pub has_arc : List ℕ → ℕ → ℕ → Bool
@@ -31,7 +32,7 @@ arc_line arc = codes "arc" ++ spaced (pos arc.0 ∷ pos arc.1 ∷ [])
 
 -- `group P ..`, the parts ascending
 abbrev pub group_line : PartSet → List ℕ
-group_line group = codes "group" ++ spaced (map pos (members group))
+group_line group = codes "group" ++ parts_listed group ++ codes "\n"
 
 -- the line of the direction, a line for each arc and a line for each group
 abbrev pub graph_text : V3 → List (ℕ × ℕ) → List PartSet → List ℕ

@@ -4,11 +4,11 @@ use Rattle.std.specs.Prelude.{drop, flat_map, codes, decimal}
 use Rattle.std.specs.Fmt.{signed_decimal}
 use Rattle.staat_vec.specs.declared.vector.V3.{V3}
 use Rattle.staat_model.specs.declared.assembly.Part.{Part}
-use Rattle.staat_limits.specs.declared.limits.TheConstants.{MOST_PARTS}
+use Rattle.staat_limits.specs.declared.limits.TheConstants.{MOST_PRODUCT_PARTS}
 use Rattle.staat_model.specs.declared.set.PartSet.{PartSet}
 use Rattle.staat_model.specs.declared.tree.Kind.{Kind}
 use Rattle.staat_model.specs.declared.tree.Kind.TheVariants.{Point, Edge, Open}
-use Rattle.staat_model.specs.Lines.{members, spaced, vector_numbers}
+use Rattle.staat_model.specs.Lines.{members_from, spaced, vector_numbers}
 use Rattle.staat_model.specs.Outcomes.{Finding, IsOutcome, planned, stuck}
 use Rattle.staat_model.specs.Plans.{Plan, leaf, parts_of, split}
 use Rattle.staat_model.specs.Sets.{AreApart, Has}
@@ -17,9 +17,17 @@ use Rattle.staat_model.specs.Sets.{AreApart, Has}
 abbrev pub number_text : ℕ → List ℕ
 number_text p = codes " " ++ decimal p
 
+-- the numbers, each after a space
+abbrev pub numbers_text : List ℕ → List ℕ
+numbers_text numbers = flat_map number_text numbers
+
+-- the numbers of the parts of a product that are in a set, ascending
+unfoldable pub part_numbers : PartSet → List ℕ
+part_numbers w = members_from 0 MOST_PRODUCT_PARTS w
+
 -- the parts of a set, ascending, each after a space
 abbrev pub parts_listed : PartSet → List ℕ
-parts_listed w = flat_map number_text (members w)
+parts_listed w = numbers_text (part_numbers w)
 
 -- each number after a space, and then a text
 abbrev pub numbers_before : List ℤ → List ℕ → List ℕ
@@ -70,9 +78,9 @@ AreLeavesApart (leaf p) = Unit {0}
 AreLeavesApart (split d moved rest) =
     AreApart (parts_of moved) (parts_of rest) × AreLeavesApart moved × AreLeavesApart rest
 
--- they are, and they are parts that there can be
+-- they are, and they are parts that a product can have
 pub record HasLeaves (plan : Plan) : Type 0 where
-  pub small : (p : ℕ) → Has (parts_of plan) p → p < MOST_PARTS
+  pub small : (p : ℕ) → Has (parts_of plan) p → p < MOST_PRODUCT_PARTS
   pub apart : AreLeavesApart plan
 
 abbrev pub CanBeShown : Finding → Type 0

@@ -1,8 +1,9 @@
 // The text of the graph of which parts block which along a direction.
-ghost use Rattle.std.specs.Prelude.{◌≡◌, ◌<◌, ◌≤◌, ◌++◌, IfOk};
-ghost use Rattle.std.specs.Prelude.{codes, decimal, flat_map, string_bytes};
+ghost use Rattle.std.specs.Prelude.{◌≡◌, ◌<◌, ◌≤◌, IfOk};
+ghost use Rattle.std.specs.Prelude.{flat_map, string_bytes};
 ghost use Rattle.staat_text.specs.GraphTexts.{IsGraphText, along_line, arc_line, arcs_from, arcs_of, group_line};
 
+use crate::plans::parts_listed;
 use staat_graph::{Graph, strong_parts};
 use staat_limits::MOST_PARTS;
 use staat_model::PartSet;
@@ -10,7 +11,7 @@ use staat_vec::{Bytes, OutOfMemory, V3};
 use std::alloc::{AllocError, Global};
 
 // The line of the direction.
-fn along_line(alloc: Global, d: V3) -> Result<String, AllocError>
+pub(crate) fn along_line(alloc: Global, d: V3) -> Result<String, AllocError>
     ensures { IfOk result (λ s. string_bytes s ≡ along_line d) }
 {
     let V3 { x, y, z } = d;
@@ -54,25 +55,13 @@ fn arc_lines(alloc: Global, g: &Graph, parts: u32) -> Result<Vec<u8>, AllocError
     Ok(text)
 }
 
-// A part of a group, after the space that parts it from what is before.
-fn next_part(alloc: Global, p: u32) -> Result<String, AllocError>
-    ensures { IfOk result (λ s. string_bytes s ≡ codes " " ++ decimal p) }
-{
-    format!(in alloc; " {p}")
-}
-
 // The line of a group.
-#[tactic(auto, unfolding(staat_model::specs::Lines::members))]
 fn group_line(alloc: Global, group: PartSet) -> Result<Vec<u8>, AllocError>
     ensures { IfOk result (λ line. line.items ≡ group_line group) }
 {
+    let parts = parts_listed(alloc, group)?;
     let mut line = b"group".to_vec(alloc)?;
-    for p in 0..MOST_PARTS {
-        if group.has(p) {
-            let part = next_part(alloc, p)?;
-            line.extend_from_slice(part.as_bytes())?;
-        }
-    }
+    line.extend_from_slice(parts.as_slice())?;
     line.extend_from_slice(b"\n")?;
     Ok(line)
 }

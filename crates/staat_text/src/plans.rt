@@ -1,37 +1,27 @@
-// The text of a plan, or of a set that is stuck.
-ghost use Rattle.std.specs.Prelude.{◌≡◌, ◌+◌, ◌<◌, ◌++◌, ℕ, IfOk};
+// The text of a plan, or of parts that are stuck.
+ghost use Rattle.std.specs.Prelude.{◌≡◌, ◌⊎◌, ◌↔◌, ◌+◌, ◌<◌, ◌++◌, [], ℕ, All, Contains, IfOk};
 ghost use Rattle.std.specs.Prelude.{codes, decimal, drop, string_bytes};
-ghost use Rattle.staat_model.specs.Outcomes.{finding_of, planned};
+ghost use Rattle.std.specs.List.Sorted.{IsStrictlySortedBy};
+ghost use Rattle.std.specs.Ordering.{nat_cmp};
+ghost use Rattle.staat_model.specs.Outcomes.{finding_of, planned, stuck};
 ghost use Rattle.staat_model.specs.Plans.{parts_of, plan_of};
+ghost use Rattle.staat_model.specs.SetLists.{set_of};
 ghost use Rattle.staat_model.specs.Sets.{Has};
 ghost use Rattle.staat_text.specs.PlanTexts.{CanBeShown, HasLeaves, move_line, move_lines, plan_text, steps_of};
-ghost use Rattle.staat_text.specs.PlanTexts.{direction_text, kind_text, mark_text, number_text, parts_listed};
+ghost use Rattle.staat_text.specs.PlanTexts.{direction_text, kind_text, mark_text, numbers_text, parts_listed};
 
-use staat_limits::MOST_PARTS;
+use crate::numbers::{numbers_of, numbers_text};
+use staat_limits::MOST_PRODUCT_PARTS;
 use staat_model::{Kind, Outcome, PartSet, Tree};
 use staat_vec::{Bytes, OutOfMemory, V3};
 use std::alloc::{AllocError, Global};
 
-// A part after the space that parts it from what is before.
-fn number_text(alloc: Global, p: u32) -> Result<String, AllocError>
-    ensures { IfOk result (λ s. string_bytes s ≡ number_text p) }
-{
-    format!(in alloc; " {p}")
-}
-
 /// The parts of a set, ascending, each after a space.
-#[tactic(auto, unfolding(staat_model::specs::Lines::members))]
 pub fn parts_listed(alloc: Global, w: PartSet) -> Result<Vec<u8>, AllocError>
     ensures { IfOk result (λ text. text.items ≡ parts_listed w) }
 {
-    let mut text = Vec::new(alloc);
-    for p in 0..MOST_PARTS {
-        if w.has(p) {
-            let part = number_text(alloc, p)?;
-            text.extend_from_slice(part.as_bytes())?;
-        }
-    }
-    Ok(text)
+    let numbers = numbers_of(alloc, w)?;
+    numbers_text(alloc, numbers.as_slice())
 }
 
 /// The words ` along X Y Z away from`, which stand between two sides.
@@ -54,19 +44,60 @@ fn mark_text(marks: &[Kind]) -> &[u8]
     }
 }
 
+// Adds the parts at the leaves to a list.
+fn push_leaves(numbers: &mut Vec<u32>, tree: &Tree) -> Result<(), AllocError>
+    ensures { IfOk result (λ _. (p : ℕ) → Contains numbers.new.items p ↔
+        (Contains numbers.old.items p ⊎ Has (parts_of (plan_of tree.now)) p)) }
+{
+    match tree {
+        Tree::Leaf(p) => {
+            numbers.push(*p)?;
+            Ok(())
+        }
+        Tree::Split { moved, rest, .. } => {
+            push_leaves(numbers, moved)?;
+            push_leaves(numbers, rest)
+        }
+    }
+}
+
+// The numbers, ascending, each once.
+fn each_once(mut numbers: Vec<u32>) -> Vec<u32>
+    ensures ascending { IsStrictlySortedBy nat_cmp result.items }
+    ensures members { (p : ℕ) → Contains result.items p ↔ Contains numbers.items p }
+{
+    numbers.sort_unstable();
+    numbers.dedup();
+    numbers
+}
+
+// The parts at the leaves, ascending, each after a space.
+fn leaves_listed(alloc: Global, side: &Tree) -> Result<Vec<u8>, AllocError>
+    requires { HasLeaves (plan_of side.now) }
+    ensures { IfOk result (λ text. text.items ≡ parts_listed (parts_of (plan_of side.now))) }
+{
+    let mut numbers = Vec::new(alloc);
+    push_leaves(&mut numbers, side)?;
+    let numbers = each_once(numbers);
+    numbers_text(alloc, numbers.as_slice())
+}
+
 // The line of a step.
 fn move_line(
     alloc: Global,
-    moved: PartSet,
+    moved: &Tree,
     d: V3,
-    rest: PartSet,
+    rest: &Tree,
     marks: &[Kind],
 ) -> Result<Vec<u8>, AllocError>
-    ensures { IfOk result (λ line. line.items ≡ move_line moved d rest marks.now) }
+    requires moved { HasLeaves (plan_of moved.now) }
+    requires rest { HasLeaves (plan_of rest.now) }
+    ensures { IfOk result (λ line. line.items ≡
+        move_line (parts_of (plan_of moved.now)) d (parts_of (plan_of rest.now)) marks.now) }
 {
-    let moved = parts_listed(alloc, moved)?;
+    let moved = leaves_listed(alloc, moved)?;
     let along = direction_text(alloc, d)?;
-    let rest = parts_listed(alloc, rest)?;
+    let rest = leaves_listed(alloc, rest)?;
     let mut line = b"move".to_vec(alloc)?;
     line.extend_from_slice(moved.as_slice())?;
     line.extend_from_slice(along.as_bytes())?;
@@ -76,20 +107,9 @@ fn move_line(
     Ok(line)
 }
 
-// The parts at the leaves.
-fn parts_of(tree: &Tree) -> PartSet
-    requires { (p : ℕ) → Has (parts_of (plan_of tree.now)) p → p < MOST_PARTS }
-    ensures { result ≡ parts_of (plan_of tree.now) }
-{
-    match tree {
-        Tree::Leaf(p) => PartSet::single(*p),
-        Tree::Split { moved, rest, .. } => parts_of(moved).union(parts_of(rest)),
-    }
-}
-
 // The number of steps.
 pub(crate) fn steps_of(tree: &Tree) -> u32
-    requires { steps_of (plan_of tree.now) < MOST_PARTS }
+    requires { steps_of (plan_of tree.now) < MOST_PRODUCT_PARTS }
     ensures { result ≡ steps_of (plan_of tree.now) }
 {
     match tree {
@@ -121,7 +141,7 @@ fn push_moves(
     match tree {
         Tree::Leaf(_) => Ok(()),
         Tree::Split { d, moved, rest } => {
-            let line = move_line(alloc, parts_of(moved), *d, parts_of(rest), marks)?;
+            let line = move_line(alloc, moved, *d, rest, marks)?;
             text.extend_from_slice(line.as_slice())?;
             push_moves(alloc, text, moved, marks_from(marks, 1))?;
             push_moves(alloc, text, rest, marks_from(marks, 1 + steps_of(moved)))
@@ -148,11 +168,11 @@ fn moves_text(alloc: Global, tree: &Tree, marks: &[Kind]) -> Result<Vec<u8>, All
     Ok(text)
 }
 
-// The line of a set that is stuck.
-fn stuck_line(alloc: Global, w: PartSet) -> Result<Vec<u8>, AllocError>
-    ensures { IfOk result (λ line. line.items ≡ codes "stuck" ++ parts_listed w ++ codes "\n") }
+// The line of parts that are stuck.
+fn stuck_line(alloc: Global, members: &[u32]) -> Result<Vec<u8>, AllocError>
+    ensures { IfOk result (λ line. line.items ≡ codes "stuck" ++ numbers_text members.now ++ codes "\n") }
 {
-    let parts = parts_listed(alloc, w)?;
+    let parts = numbers_text(alloc, members)?;
     let mut line = b"stuck".to_vec(alloc)?;
     line.extend_from_slice(parts.as_slice())?;
     line.extend_from_slice(b"\n")?;
@@ -162,14 +182,36 @@ fn stuck_line(alloc: Global, w: PartSet) -> Result<Vec<u8>, AllocError>
 /// The text of an outcome: a line `move P .. along X Y Z away from Q ..` for each step in preorder, with ` by` and the
 /// kind of its cell where it has a mark, and the line `moves K`; or the line `stuck P ..`.
 ///
-/// The leaves of a plan are different parts below [`MOST_PARTS`].
+/// The leaves of a plan are different parts below [`MOST_PRODUCT_PARTS`].
 pub fn plan_text(alloc: Global, outcome: &Outcome) -> Result<Bytes, OutOfMemory>
     requires { CanBeShown (finding_of outcome.now) }
     ensures { IfOk result (λ text. text ≡ plan_text (finding_of outcome.now)) }
 {
     let text = match outcome {
         Outcome::Plan { tree, marks } => moves_text(alloc, tree, marks.as_slice())?,
-        Outcome::Stuck(w) => stuck_line(alloc, *w)?,
+        Outcome::Stuck(w) => {
+            let members = numbers_of(alloc, *w)?;
+            stuck_line(alloc, members.as_slice())?
+        }
     };
+    Ok(Bytes::from_vec(text))
+}
+
+/// The same text of a plan of a product that has no marks.
+pub fn steps_text(alloc: Global, tree: &Tree) -> Result<Bytes, OutOfMemory>
+    requires { HasLeaves (plan_of tree.now) }
+    ensures { IfOk result (λ text. text ≡ plan_text (planned (plan_of tree.now) [])) }
+{
+    let text = moves_text(alloc, tree, &[])?;
+    Ok(Bytes::from_vec(text))
+}
+
+/// The same line of parts of a product that are stuck, which ascend and are below [`MOST_PRODUCT_PARTS`].
+pub fn stuck_text(alloc: Global, members: &[u32]) -> Result<Bytes, OutOfMemory>
+    requires ascending { IsStrictlySortedBy nat_cmp members.now }
+    requires small { All (λ p. p < MOST_PRODUCT_PARTS) members.now }
+    ensures { IfOk result (λ text. text ≡ plan_text (stuck (set_of members.now))) }
+{
+    let text = stuck_line(alloc, members)?;
     Ok(Bytes::from_vec(text))
 }
