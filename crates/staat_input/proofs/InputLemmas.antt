@@ -1,4 +1,4 @@
--- Steps for the members of a list, one after another, and the assembly that they give.
+-- Steps for the members of a list, one after another, and the parts that they give.
 use Rattle.std.proofs.Common.{◌≡◌, ◌∙◌, refl, sym, ap, ap₂, subst, arith, ℕ, ◌+◌, ◌<◌, ◌≤◌, List, [], ◌∷◌, ◌++◌, take, drop, map, length, get_or, All, Ok, Err, inl, inr, append_assoc, append-nil}
 use Rattle.std.specs.Prelude.{Result, IfErr, IsErrAnd, sum_by}
 use Rattle.std.proofs.Common.{lit≤}
@@ -11,15 +11,15 @@ use Rattle.staat_edge.specs.Told.{ShelfTold}
 use Rattle.staat_vec.specs.declared.vector.TheConstants.{POINT}
 use Rattle.staat_vec.specs.Vectors.{IsWithin, origin}
 use Rattle.staat_model.specs.declared.assembly.Part.{Part}
-use Rattle.staat_limits.specs.declared.limits.TheConstants.{MOST_PARTS, MOST_PIECES}
-use Rattle.staat_model.specs.Assemblies.{IsAssembly, IsPart}
+use Rattle.staat_model.specs.Assemblies.{ArePartsWithin, IsPart}
 use Rattle.staat_model.specs.Pieces.{IsPiece}
-use Rattle.staat_manifest.specs.Listings.{IsListing}
+use Rattle.staat_manifest.specs.Listings.{IsListingWithin}
 use Rattle.staat_fault.specs.declared.fault.Fault.{Fault}
 use Rattle.staat_fault.specs.declared.fault.Fault.TheVariants as fault
 use Rattle.staat_manifest.specs.declared.listing.ListedPart.{ListedPart}
+use Rattle.staat_input.specs.declared.limits.Limits.{Limits}
 use Rattle.staat_input.specs.Inputs.{alone}
-use Rattle.staat_input.specs.Shapes.{AreRead, IsFew}
+use Rattle.staat_input.specs.Shapes.{AreRead, IsFewWithin}
 use Rattle.staat_input.specs.Causes.{HasCause, over}
 use Rattle.staat_input.specs.Work.{Found, Then, Each, Follows}
 
@@ -100,7 +100,7 @@ pub failed_with : {X : Type 0} (P : Fault → Type 0) (f : Fault) (r : Result X 
 failed_with P f (Ok x) h fails = absurd fails
 failed_with P f (Err e) h fails = subst P (sym fails) h
 
--- ---- the assembly
+-- ---- the parts
 
 pub same_length : (named : List ListedPart) (parts : List Part) → AreRead named parts → length parts ≡ length named
 same_length named parts read = sym (length-map parts (λ part. length part.pieces)) ∙ ap length read.each ∙ length-map named (λ (part : ListedPart). length part.pieces)
@@ -123,12 +123,12 @@ summed (n ∷ named) (part ∷ parts) same =
     let rest : map (λ part. length part.pieces) parts ≡ map (λ (part : ListedPart). length part.pieces) named = cc in
     sum_by-cons (λ part. length part.pieces) part parts ∙ ap₂ (λ a b. a + b) first (summed named parts rest) ∙ sym (sum_by-cons (λ (part : ListedPart). length part.pieces) n named)
 
-pub assembly_read : (named : List ListedPart) (parts : List Part) → IsFew named → AreRead named parts → IsAssembly parts
-assembly_read named parts few read = record {
+pub few_read : (l : Limits) (named : List ListedPart) (parts : List Part) → IsFewWithin l named → AreRead named parts → ArePartsWithin l.parts l.pieces parts
+few_read l named parts few read = record {
   at_least = subst (λ k. 1 ≤ k) (sym (same_length named parts read)) few.at_least;
-  at_most = subst (λ k. k ≤ MOST_PARTS) (sym (same_length named parts read)) few.at_most;
+  at_most = subst (λ k. k ≤ l.parts) (sym (same_length named parts read)) few.at_most;
   each = filled named parts read.each few.each read.pieces;
-  pieces = subst (λ k. k ≤ MOST_PIECES) (sym (summed named parts read.each)) few.pieces;
+  pieces = subst (λ k. k ≤ l.pieces) (sym (summed named parts read.each)) few.pieces;
 }
 
 pub none_read : AreRead [] []
@@ -141,13 +141,13 @@ one_read named i d parts part lt read at same pieces = record {
 }
 
 -- files that are parts by themselves
-files_few : (names : List (List ℕ)) → 1 ≤ length names → length names ≤ MOST_PARTS → IsFew (map alone names)
-files_few names some most = record {
+files_few : (l : Limits) (names : List (List ℕ)) → l.parts ≤ l.pieces → 1 ≤ length names → length names ≤ l.parts → IsFewWithin l (map alone names)
+files_few l names room some most = record {
   at_least = subst (λ k. 1 ≤ k) (sym (length-map names alone)) some;
-  at_most = subst (λ k. k ≤ MOST_PARTS) (sym (length-map names alone)) most;
+  at_most = subst (λ k. k ≤ l.parts) (sym (length-map names alone)) most;
   each = singles names;
   placed = still names;
-  pieces = omega (arith, counted names, most);
+  pieces = omega (arith, counted names, most, room);
 }
   where
     singles : (names : List (List ℕ)) → All (λ (part : ListedPart). 1 ≤ length part.pieces) (map alone names)
@@ -165,8 +165,8 @@ files_few names some most = record {
     counted [] = refl
     counted (name ∷ names) = sum_by-cons (λ (part : ListedPart). length part.pieces) (alone name) (map alone names) ∙ omega (arith, counted names)
 
-pub named_files : (names : List (List ℕ)) (named : List ListedPart) → (1 ≤ length names) × (length names ≤ MOST_PARTS) → named ≡ map alone names → IsFew named
-named_files names named (some, most) e = subst IsFew (sym e) (files_few names some most)
+pub named_files : (l : Limits) (names : List (List ℕ)) (named : List ListedPart) → l.parts ≤ l.pieces → (1 ≤ length names) × (length names ≤ l.parts) → named ≡ map alone names → IsFewWithin l named
+named_files l names named room (some, most) e = subst (IsFewWithin l) (sym e) (files_few l names room some most)
 
-pub listing_few : (named : List ListedPart) → IsListing named → IsFew named
-listing_few named l = record { at_least = l.at_least; at_most = l.at_most; each = l.each; placed = l.placed; pieces = l.pieces }
+pub listing_few : (l : Limits) (named : List ListedPart) → IsListingWithin l.parts l.pieces named → IsFewWithin l named
+listing_few l named is = record { at_least = is.at_least; at_most = is.at_most; each = is.each; placed = is.placed; pieces = is.pieces }

@@ -30,8 +30,10 @@ use Rattle.staat_input.specs.Refusals.{off_fault, mesh_fault, manifest_fault}
 use Rattle.staat_input.specs.Pieces.{IsPieceOf, SaysPiece, no_file, no_piece, piece}
 use Rattle.staat_input.specs.Moved.{IsMovedPieceOf, MovesPiece, moved, too_far}
 use Rattle.staat_input.proofs.MovedLemmas.{far_not_within}
-use Rattle.staat_input.specs.Inputs.{SaysListing, no_listing, listing, IsListingOf, IsPartOf, IsInputOf, part_of}
-use Rattle.staat_input.specs.Assembling.{IsTested, overlapping, sound, IsSoundOf}
+use Rattle.staat_input.specs.declared.limits.Limits.{Limits}
+use Rattle.staat_input.specs.declared.limits.TheConstants.Limits.{ASSEMBLY, PRODUCT}
+use Rattle.staat_input.specs.Inputs.{SaysListingWithin, no_listing, listing, IsListingOf, IsListingOfWithin, IsPartOf, IsInputOf, IsInputOfWithin, part_of}
+use Rattle.staat_input.specs.Assembling.{IsTested, overlapping, sound, IsSoundOf, IsSoundProductOf}
 use Rattle.staat_input.specs.Counting.{AreCounted, all_parts, few, too_many}
 use Rattle.staat_input.proofs.OneFinding.{IsSettled, FindsOne, then_one, known_one, each_one, taken_one, IsSaying}
 use Rattle.staat_input.proofs.OneFinding.{given_not_fault}
@@ -120,10 +122,10 @@ moves_one files name at points = record { one = λ f g a b sf sg. one f g a b; h
 moved_one : (files : Files) (digits : ℕ) (at : V3) (name : List ℕ) → FindsOne files (IsMovedPieceOf files digits at name)
 moved_one files digits at name = then_one files (IsPieceOf files digits name) (MovesPiece name at) (piece_one files digits name) (moves_one files name at)
 
-listing_saying : (name : List ℕ) → IsSaying (SaysListing name)
-listing_saying name = record { one = one; no_read = no_read }
+listing_saying : (l : Limits) (name : List ℕ) → IsSaying (SaysListingWithin l name)
+listing_saying l name = record { one = one; no_read = no_read }
   where
-    one : (bytes : List ℕ) (f g : Found (List ListedPart)) → SaysListing name bytes f → SaysListing name bytes g → f ≡ g
+    one : (bytes : List ℕ) (f g : Found (List ListedPart)) → SaysListingWithin l name bytes f → SaysListingWithin l name bytes g → f ≡ g
     one bytes f g (no_listing r re e) (no_listing s se d) =
         let same : r ≡ s = cc in e ∙ ap (λ x. Err (manifest_fault name x)) same ∙ sym d
     one bytes f g (no_listing r re e) (listing p pe d) = absurd cc
@@ -131,19 +133,22 @@ listing_saying name = record { one = one; no_read = no_read }
     one bytes f g (listing p pe e) (listing q qe d) =
         let same : p ≡ q = cc in e ∙ ap Ok same ∙ sym d
 
-    no_read : (bytes n : List ℕ) → SaysListing name bytes (Err (ReadFault n)) → ⊥
+    no_read : (bytes n : List ℕ) → SaysListingWithin l name bytes (Err (ReadFault n)) → ⊥
     no_read bytes n (no_listing r re e) = subst IsSettled (sym e) (manifest_settled name r)
     no_read bytes n (listing p pe e) = given_not_fault p (ReadFault n) (sym e)
 
+listing_within_one : (l : Limits) (files : Files) (asked : Input) → FindsOne files (IsListingOfWithin l files asked)
+listing_within_one l files (input.Manifest name) = taken_one FILE_LIMIT files name (SaysListingWithin l name) (listing_saying l name)
+listing_within_one l files (input.Files names) = known_one files _
+
 pub listing_one : (files : Files) (asked : Input) → FindsOne files (IsListingOf files asked)
-listing_one files (input.Manifest name) = taken_one FILE_LIMIT files name (SaysListing name) (listing_saying name)
-listing_one files (input.Files names) = known_one files _
+listing_one files asked = listing_within_one ASSEMBLY files asked
 
 part_one : (files : Files) (digits : ℕ) (named : ListedPart) → FindsOne files (IsPartOf files digits named)
 part_one files digits named = then_one files (Each (IsMovedPieceOf files digits named.at) named.pieces) _ (each_one files (IsMovedPieceOf files digits named.at) (moved_one files digits named.at) named.pieces) (λ pieces. known_one files (part_of named.name pieces))
 
-input_one : (files : Files) (asked : Asked) → FindsOne files (IsInputOf files asked)
-input_one files asked = then_one files (IsListingOf files asked.input) _ (listing_one files asked.input) (each_one files (IsPartOf files asked.digits) (part_one files asked.digits))
+input_one : (l : Limits) (files : Files) (asked : Asked) → FindsOne files (IsInputOfWithin l files asked)
+input_one l files asked = then_one files (IsListingOfWithin l files asked.input) _ (listing_within_one l files asked.input) (each_one files (IsPartOf files asked.digits) (part_one files asked.digits))
 
 apart : (parts : List Part) (arc : Arc) → IsFirstOverlap parts arc → IsSound parts → ⊥
 apart parts arc first sound_is = sound_is arc (λ e. omega (arith, e, first.has.0)) first.has.1
@@ -164,7 +169,10 @@ tested_one files parts = record { one = λ f g a b sf sg. one f g a b; held = λ
     no_read name (sound is e) = absurd cc
 
 pub sound_one : (files : Files) (asked : Asked) → FindsOne files (IsSoundOf files asked)
-sound_one files asked = then_one files (IsInputOf files asked) IsTested (input_one files asked) (tested_one files)
+sound_one files asked = then_one files (IsInputOf files asked) IsTested (input_one ASSEMBLY files asked) (tested_one files)
+
+pub sound_product_one : (files : Files) (asked : Asked) → FindsOne files (IsSoundProductOf files asked)
+sound_product_one files asked = then_one files (IsInputOfWithin PRODUCT files asked) IsTested (input_one PRODUCT files asked) (tested_one files)
 
 pub counted_one : (files : Files) (parts : List Part) (limit : ℕ) → FindsOne files (AreCounted parts limit)
 counted_one files parts limit = record { one = λ f g a b sf sg. one f g a b; held = λ name f at lacks step settled. no_read name at }

@@ -18,13 +18,14 @@ use Rattle.staat_manifest.specs.declared.refusal.ManifestRefusal.{ManifestRefusa
 use Rattle.staat_manifest.specs.declared.refusal.ManifestRefusal.TheVariants as manifest
 use Rattle.staat_manifest.specs.Answers.{AnswersList}
 use Rattle.staat_manifest.specs.declared.listing.ListedPart.{ListedPart}
-use Rattle.staat_manifest.specs.Rules.{part_list}
+use Rattle.staat_manifest.specs.Rules.{part_list_within}
 use Rattle.staat_limits.specs.declared.limits.TheConstants.{FILE_LIMIT}
 use Rattle.staat_input.specs.Work.{Files, Found, Follows, IsNotTaken, IsNotTakenWithin, IsTaken, IsTakenWithin}
 use Rattle.staat_input.specs.Work.{to_read, too_long, taken}
 use Rattle.staat_input.specs.Refusals.{off_fault, mesh_fault, manifest_fault}
 use Rattle.staat_input.specs.Pieces.{SaysPiece, no_file, no_piece, piece}
-use Rattle.staat_input.specs.Inputs.{SaysListing, no_listing, listing}
+use Rattle.staat_input.specs.declared.limits.Limits.{Limits}
+use Rattle.staat_input.specs.Inputs.{SaysListingWithin, no_listing, listing}
 
 -- the file has more bytes than the limit
 found_long : {X : Type 0} (limit : ℕ) (Says : List ℕ → Found X → Type 0) (holds : Option Files) (files : Files) (name : List ℕ) → holds ≡ Some files → IsLonger holds name limit → IsTakenWithin limit files name Says (Err (fault.TooLong name))
@@ -80,18 +81,18 @@ pub says_piece : (digits : ℕ) (name bytes : List ℕ) (raw : Raw) (points : Li
 says_piece digits name bytes raw points e j = piece raw points e j refl
 
 -- the file is no part list
-pub says_no_listing : (name bytes : List ℕ) (refusal : ManifestRefusal) → AnswersList {X = List ListedPart} (part_list bytes) (Err refusal) → Follows (SaysListing name bytes) (Err (manifest_fault name refusal))
-says_no_listing name bytes manifest.NotJson e = no_listing manifest.NotJson e refl
-says_no_listing name bytes (manifest.BadShape path) e = no_listing (manifest.BadShape path) e refl
-says_no_listing name bytes (manifest.RepeatedName part) e = no_listing (manifest.RepeatedName part) e refl
-says_no_listing name bytes (manifest.NoPieces part) e = no_listing (manifest.NoPieces part) e refl
-says_no_listing name bytes manifest.TooManyParts e = no_listing manifest.TooManyParts e refl
-says_no_listing name bytes manifest.TooManyPieces e = no_listing manifest.TooManyPieces e refl
-says_no_listing name bytes manifest.OutOfMemory e = tt
+pub says_no_listing : (l : Limits) (name bytes : List ℕ) (refusal : ManifestRefusal) → AnswersList {X = List ListedPart} (part_list_within l.parts l.pieces bytes) (Err refusal) → Follows (SaysListingWithin l name bytes) (Err (manifest_fault name refusal))
+says_no_listing l name bytes manifest.NotJson e = no_listing manifest.NotJson e refl
+says_no_listing l name bytes (manifest.BadShape path) e = no_listing (manifest.BadShape path) e refl
+says_no_listing l name bytes (manifest.RepeatedName part) e = no_listing (manifest.RepeatedName part) e refl
+says_no_listing l name bytes (manifest.NoPieces part) e = no_listing (manifest.NoPieces part) e refl
+says_no_listing l name bytes manifest.TooManyParts e = no_listing manifest.TooManyParts e refl
+says_no_listing l name bytes manifest.TooManyPieces e = no_listing manifest.TooManyPieces e refl
+says_no_listing l name bytes manifest.OutOfMemory e = tt
 
 -- it is one
-pub says_listing : (name bytes : List ℕ) (parts : List ListedPart) → part_list bytes ≡ Ok parts → SaysListing name bytes (Ok parts)
-says_listing name bytes parts e = listing parts e refl
+pub says_listing : (l : Limits) (name bytes : List ℕ) (parts : List ListedPart) → part_list_within l.parts l.pieces bytes ≡ Ok parts → SaysListingWithin l name bytes (Ok parts)
+says_listing l name bytes parts e = listing parts e refl
 
 pub ruleset listing_says = (says_no_listing, says_listing)
 

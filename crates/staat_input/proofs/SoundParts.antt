@@ -1,30 +1,34 @@
 -- What an input gives are sound parts.
-use Rattle.std.proofs.Common.{◌≡◌, ℕ, suc, List, [], ◌∷◌, map, length, All, refl, ap, ap₂, sym, subst, inl, inr}
+use Rattle.std.proofs.Common.{◌≡◌, ℕ, suc, List, [], ◌∷◌, map, length, All, refl, ap, ap₂, sym, subst, inl, inr, ◌≤◌, lit≤}
 use Rattle.std.proofs.lemmas.List.Elements.{All-nil, All-cons}
 use Rattle.std.specs.Prelude.{Ok}
 use Rattle.staat_vec.specs.declared.vector.V3.{V3}
 use Rattle.staat_model.specs.declared.assembly.Part.{Part}
-use Rattle.staat_model.specs.Assemblies.{IsAssembly, IsSound}
+use Rattle.staat_model.specs.Assemblies.{ArePartsWithin, IsSound}
 use Rattle.staat_model.specs.Pieces.{IsPiece}
 use Rattle.staat_manifest.specs.declared.listing.ListedPart.{ListedPart}
 use Rattle.staat_off.proofs.Bounds.{reading_bounded}
-use Rattle.staat_manifest.proofs.Accepted.{within_bounds}
+use Rattle.staat_manifest.proofs.Accepted.{within_limits}
 use Rattle.staat_mesh.proofs.MakeLemmas.{accepted_piece}
-use Rattle.staat_words.specs.Requests.{IsAsked, IsInput}
+use Rattle.staat_limits.specs.declared.limits.TheConstants.{MOST_PRODUCT_PARTS}
+use Rattle.staat_words.specs.Requests.{IsAsked, IsAskedWithin, IsInputWithin}
 use Rattle.staat_words.specs.declared.request.Input.{Input}
 use Rattle.staat_words.specs.declared.request.Input.TheVariants as inputs
 use Rattle.staat_words.specs.declared.request.Asked.{Asked}
 use Rattle.staat_input.specs.declared.answer.Answer.{Answer}
 use Rattle.staat_input.specs.Work.{Files, Found, Each, to_read, too_long, taken}
-use Rattle.staat_input.specs.Inputs.{alone, SaysListing, no_listing, listing, IsListingOf, IsPartOf, IsInputOf}
-use Rattle.staat_input.specs.Inputs.{part_of}
-use Rattle.staat_input.specs.Shapes.{AreRead, IsFew}
-use Rattle.staat_input.proofs.InputLemmas.{assembly_read, listing_few, named_files, none_read}
+use Rattle.staat_input.specs.declared.limits.Limits.{Limits}
+use Rattle.staat_input.specs.declared.limits.TheConstants.Limits.{ASSEMBLY, PRODUCT}
+use Rattle.staat_input.specs.Inputs.{alone, SaysListingWithin, no_listing, listing, IsListingOfWithin, IsPartOf}
+use Rattle.staat_input.specs.Inputs.{IsInputOfWithin, part_of}
+use Rattle.staat_input.specs.Shapes.{AreRead, IsFewWithin}
+use Rattle.staat_input.proofs.InputLemmas.{few_read, listing_few, named_files, none_read}
 use Rattle.staat_input.specs.Pieces.{IsPieceOf, SaysPiece, no_file, no_piece, piece}
 use Rattle.staat_input.specs.Moved.{IsMovedPieceOf, moved, too_far}
 use Rattle.staat_asm.specs.Placing.{shifted}
 use Rattle.staat_asm.proofs.PlacingLemmas.{shifted_piece}
 use Rattle.staat_input.specs.Assembling.{IsTested, overlapping, sound, IsSoundOf, AreSoundParts}
+use Rattle.staat_input.specs.Assembling.{IsSoundProductOf, AreSoundProductParts}
 
 pub same_points : (p q : List V3) → ◌≡◌ {A = Found (List V3)} (Ok p) (Ok q) → q ≡ p
 same_points p q e = cc
@@ -77,22 +81,22 @@ parts_read files digits (n ∷ named) parts (inr (part, first, inr (others, late
       pieces = All-cons (λ part. All IsPiece part.pieces) part others here.1 rest.pieces;
     })
 
-says_few : (name bytes : List ℕ) (named : List ListedPart) → SaysListing name bytes (Ok named) → IsFew named
-says_few name bytes named (no_listing r re e) = absurd cc
-says_few name bytes named (listing p pe e) = let same : named ≡ p = cc in subst IsFew (sym same) (listing_few p (within_bounds bytes (Ok p) pe))
+says_few : (l : Limits) (name bytes : List ℕ) (named : List ListedPart) → SaysListingWithin l name bytes (Ok named) → IsFewWithin l named
+says_few l name bytes named (no_listing r re e) = absurd cc
+says_few l name bytes named (listing p pe e) = let same : named ≡ p = cc in subst (IsFewWithin l) (sym same) (listing_few l p (within_limits l.parts l.pieces bytes (Ok p) pe))
 
-names_few : (files : Files) (input : Input) (named : List ListedPart) → IsInput input → IsListingOf files input (Ok named) → IsFew named
-names_few files (inputs.Manifest name) named bounds (to_read e) = absurd cc
-names_few files (inputs.Manifest name) named bounds (too_long x xe xl e) = absurd cc
-names_few files (inputs.Manifest name) named bounds (taken x xe xs xt) = says_few name x named xt
-names_few files (inputs.Files names) named bounds e =
-    let same : named ≡ map alone names = cc in named_files names named bounds same
+names_few : (l : Limits) (files : Files) (input : Input) (named : List ListedPart) → l.parts ≤ l.pieces → IsInputWithin l.parts input → IsListingOfWithin l files input (Ok named) → IsFewWithin l named
+names_few l files (inputs.Manifest name) named room bounds (to_read e) = absurd cc
+names_few l files (inputs.Manifest name) named room bounds (too_long x xe xl e) = absurd cc
+names_few l files (inputs.Manifest name) named room bounds (taken x xe xs xt) = says_few l name x named xt
+names_few l files (inputs.Files names) named room bounds e =
+    let same : named ≡ map alone names = cc in named_files l names named room bounds same
 
--- what the step gives is an assembly
-input_assembly : (files : Files) (asked : Asked) (parts : List Part) → IsAsked asked → IsInputOf files asked (Ok parts) → IsAssembly parts
-input_assembly files asked parts bounds (inl (f, at, e)) = absurd cc
-input_assembly files asked parts bounds (inr (named, listed, read)) =
-    assembly_read named parts (names_few files asked.input named bounds.1 listed) (parts_read files asked.digits named parts read)
+-- what the step gives keeps the limits
+input_within : (l : Limits) (files : Files) (asked : Asked) (parts : List Part) → l.parts ≤ l.pieces → IsAskedWithin l.parts asked → IsInputOfWithin l files asked (Ok parts) → ArePartsWithin l.parts l.pieces parts
+input_within l files asked parts room bounds (inl (f, at, e)) = absurd cc
+input_within l files asked parts room bounds (inr (named, listed, read)) =
+    few_read l named parts (names_few l files asked.input named room bounds.1 listed) (parts_read files asked.digits named parts read)
 
 -- what the test gives are sound parts
 tested_gives : (parts built : List Part) → IsTested parts (Ok built) → IsSound parts
@@ -108,7 +112,13 @@ pub sound_parts : (files : Files) (asked : Asked) (built : List Part) → IsAske
 sound_parts files asked built bounds (inl (fault, at, e)) = absurd cc
 sound_parts files asked built bounds (inr (parts, found, test)) =
     subst (AreSoundParts files asked) (tested_same parts built test)
-    (record { named = found; assembly = input_assembly files asked parts bounds found; sound = tested_gives parts built test })
+    (record { named = found; assembly = input_within ASSEMBLY files asked parts (lit≤ tt) bounds found; sound = tested_gives parts built test })
+
+pub sound_product_parts : (files : Files) (asked : Asked) (built : List Part) → IsAskedWithin MOST_PRODUCT_PARTS asked → IsSoundProductOf files asked (Ok built) → AreSoundProductParts files asked built
+sound_product_parts files asked built bounds (inl (fault, at, e)) = absurd cc
+sound_product_parts files asked built bounds (inr (parts, found, test)) =
+    subst (AreSoundProductParts files asked) (tested_same parts built test)
+    (record { named = found; product = input_within PRODUCT files asked parts (lit≤ tt) bounds found; sound = tested_gives parts built test })
 
 pub same_answer : (a b : Answer) → ◌≡◌ {A = Found Answer} (Ok a) (Ok b) → b ≡ a
 same_answer a b e = cc

@@ -1,13 +1,14 @@
--- The sound assembly that an input gives.
+-- The sound assembly that an input gives, and the sound product.
 use Rattle.std.specs.Prelude.{◌≡◌, List, Ok, Err}
 use Rattle.staat_model.specs.declared.assembly.Part.{Part}
 use Rattle.staat_model.specs.declared.certificate.Arc.{Arc}
-use Rattle.staat_model.specs.Assemblies.{IsSound, IsAssembly}
+use Rattle.staat_model.specs.Assemblies.{IsSound, IsAssembly, IsProduct}
 use Rattle.staat_asm.specs.Overlaps.{IsFirstOverlap}
 use Rattle.staat_fault.specs.declared.fault.Fault.TheVariants.{Overlap}
 use Rattle.staat_words.specs.declared.request.Asked.{Asked}
+use Rattle.staat_input.specs.declared.limits.TheConstants.Limits.{PRODUCT}
 use Rattle.staat_input.specs.Work.{Files, Found, Then}
-use Rattle.staat_input.specs.Inputs.{IsInputOf}
+use Rattle.staat_input.specs.Inputs.{IsInputOf, IsInputOfWithin}
 
 -- What the step finds that tests parts: the first pieces of different parts that overlap, or that none do.
 pub data IsTested (parts : List Part) : Found (List Part) → Type 0 where
@@ -24,4 +25,14 @@ IsSoundOf files asked = Then (IsInputOf files asked) IsTested
 pub record AreSoundParts (files : Files) (asked : Asked) (parts : List Part) : Type 0 where
   pub named : IsInputOf files asked (Ok parts)
   pub assembly : IsAssembly parts
+  pub sound : IsSound parts
+
+-- what the steps find that read the whole input of a product and test it
+abbrev pub IsSoundProductOf : Files → Asked → Found (List Part) → Type 0
+IsSoundProductOf files asked = Then (IsInputOfWithin PRODUCT files asked) IsTested
+
+-- the same of a product
+pub record AreSoundProductParts (files : Files) (asked : Asked) (parts : List Part) : Type 0 where
+  pub named : IsInputOfWithin PRODUCT files asked (Ok parts)
+  pub product : IsProduct parts
   pub sound : IsSound parts

@@ -13,8 +13,10 @@ use Rattle.staat_explode.specs.declared.scene.Solid.{Solid}
 use Rattle.staat_explode.specs.Sizes.{IsSolidIn}
 use Rattle.staat_input.specs.declared.read.Drawn.{Drawn}
 use Rattle.staat_input.specs.declared.sketch.Sketch.{Sketch}
+use Rattle.staat_input.specs.declared.limits.Limits.{Limits}
+use Rattle.staat_input.specs.declared.limits.TheConstants.Limits.{ASSEMBLY}
 use Rattle.staat_input.specs.Work.{Files, Found}
-use Rattle.staat_input.specs.Inputs.{IsListingOf}
+use Rattle.staat_input.specs.Inputs.{IsListingOfWithin}
 
 -- the piece of what was read
 abbrev pub piece_found : Found Drawn → Found (List V3)
@@ -59,10 +61,15 @@ pub record Drew (before after : Sketch) (more : List Solid) : Type 0 where
   pub solids : before.keep ≡ true → after.solids.items ≡ before.solids.items ++ more
 
 -- the input names these parts; and the sketch has the solids of all of them, if it is to keep them
-pub record IsDrawn (files : Files) (asked : Asked) (keep : Bool) (sketch : Sketch) : Type 0 where
+pub record IsDrawnWithin (limits : Limits) (files : Files) (asked : Asked) (keep : Bool)
+    (sketch : Sketch) : Type 0 where
   pub named : List ListedPart
-  pub listed : IsListingOf files asked.input (Ok named)
+  pub listed : IsListingOfWithin limits files asked.input (Ok named)
   pub solids : keep ≡ true → sketch.solids.items ≡ solids_of files asked.digits named
+
+-- the same for an assembly
+abbrev pub IsDrawn : Files → Asked → Bool → Sketch → Type 0
+IsDrawn files asked keep sketch = IsDrawnWithin ASSEMBLY files asked keep sketch
 
 -- no more solids than so many, each of one of so many parts, and none with more points or faces than a count can tell
 pub record AreSmall (parts most : ℕ) (solids : List Solid) : Type 0 where

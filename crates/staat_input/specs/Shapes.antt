@@ -3,18 +3,22 @@ use Rattle.std.specs.Prelude.{◌≡◌, ◌≤◌, ℕ, List, length, map, sum_
 use Rattle.staat_vec.specs.declared.vector.TheConstants.{POINT}
 use Rattle.staat_vec.specs.Vectors.{IsWithin}
 use Rattle.staat_model.specs.declared.assembly.Part.{Part}
-use Rattle.staat_limits.specs.declared.limits.TheConstants.{MOST_PARTS, MOST_PIECES}
 use Rattle.staat_model.specs.Pieces.{IsPiece}
 use Rattle.staat_manifest.specs.declared.listing.ListedPart.{ListedPart}
+use Rattle.staat_input.specs.declared.limits.Limits.{Limits}
+use Rattle.staat_input.specs.declared.limits.TheConstants.Limits.{ASSEMBLY}
 
--- as many parts and pieces as an assembly may have, a piece or more in each part, and no part moved by more than a
--- coordinate
-pub record IsFew (named : List ListedPart) : Type 0 where
+-- at most so many parts and pieces, a piece or more in each part, and no part moved by more than a coordinate
+pub record IsFewWithin (limits : Limits) (named : List ListedPart) : Type 0 where
   pub at_least : 1 ≤ length named
-  pub at_most : length named ≤ MOST_PARTS
+  pub at_most : length named ≤ limits.parts
   pub each : All (λ part. 1 ≤ length part.pieces) named
   pub placed : All (λ part. IsWithin POINT part.at) named
-  pub pieces : sum_by (λ part. length part.pieces) named ≤ MOST_PIECES
+  pub pieces : sum_by (λ part. length part.pieces) named ≤ limits.pieces
+
+-- as many as an assembly may have
+abbrev pub IsFew : List ListedPart → Type 0
+IsFew named = IsFewWithin ASSEMBLY named
 
 -- each part has the pieces that were named for it, as many as there are names
 pub record AreRead (named : List ListedPart) (parts : List Part) : Type 0 where

@@ -4,22 +4,26 @@ ghost use Rattle.std.specs.Prelude.{IfOk, IfErr, OnOk, length, map, sum_by};
 ghost use Rattle.staat_limits.specs.declared.limits.TheConstants.{MOST_DIGITS};
 ghost use Rattle.staat_vec.specs.Vectors.{IsWithin};
 ghost use Rattle.staat_model.specs.Pieces.{IsPiece};
-ghost use Rattle.staat_limits.specs.declared.limits.TheConstants.{MOST_PARTS, MOST_PIECES};
-ghost use Rattle.staat_words.specs.Requests.{IsAsked, IsInput};
+ghost use Rattle.staat_model.specs.Assemblies.{ArePartsWithin};
+ghost use Rattle.staat_limits.specs.declared.limits.TheConstants.{MOST_PIECES, MOST_PRODUCT_PARTS};
+ghost use Rattle.staat_words.specs.Requests.{IsAsked, IsAskedWithin, IsInputWithin};
 ghost use Rattle.staat_input.specs.Work.{Each, Files, Follows, IsTaken};
-ghost use Rattle.staat_input.specs.Drawing.{AreSmall, Drew, IsDrawn, solid_of, solids_of, solids_of_part};
+ghost use Rattle.staat_input.specs.Drawing.{AreSmall, Drew, IsDrawn, IsDrawnWithin, solid_of};
+ghost use Rattle.staat_input.specs.Drawing.{solids_of, solids_of_part};
 ghost use Rattle.staat_input.specs.Moved.{IsMovedPieceOf};
-ghost use Rattle.staat_input.specs.Inputs.{alone, IsInputOf, IsListingOf, IsPartOf, SaysListing};
-ghost use Rattle.staat_input.specs.Shapes.{AreRead, IsFew, ListsPiece};
+ghost use Rattle.staat_input.specs.Inputs.{alone, IsInputOf, IsInputOfWithin, IsListingOfWithin, IsPartOf};
+ghost use Rattle.staat_input.specs.Inputs.{SaysListingWithin};
+ghost use Rattle.staat_input.specs.Shapes.{AreRead, IsFewWithin, ListsPiece};
 ghost use Rattle.staat_input.specs.Causes.{HasCause, IfTooLong, MayName, ShelfSide, over};
 
+use crate::limits::Limits;
 use crate::moved::read_moved;
 use crate::read::read_file;
 use crate::refusals::manifest_fault;
 use crate::sketch::Sketch;
 use staat_edge::Shelf;
 use staat_fault::Fault;
-use staat_manifest::{ListedPart, Listing, read_manifest};
+use staat_manifest::{ListedPart, Listing, read_listing};
 use staat_model::{Assembly, Part, Parts, Piece, Pieces};
 use staat_vec::{Name, Names, ORIGIN, POINT, V3};
 use staat_words::{Asked, Input};
@@ -50,12 +54,12 @@ fn parts_of_files(alloc: Global, names: &[Name]) -> Result<Listing, AllocError>
 
 // The parts that the bytes of a file list.
 #[tactic(auto, using(crate::proofs::ReadLemmas::listing_says))]
-fn listing_in(alloc: Global, bytes: &[u8], name: &Name) -> Result<Listing, Fault>
-    ensures says { Follows (SaysListing name.now bytes.now) result }
-    ensures few { IfOk result IsFew }
+fn listing_in(alloc: Global, bytes: &[u8], name: &Name, limits: Limits) -> Result<Listing, Fault>
+    ensures says { Follows (SaysListingWithin limits name.now bytes.now) result }
+    ensures few { IfOk result (IsFewWithin limits) }
     ensures cause { (shelf : ShelfSide) → IfErr result (HasCause shelf) }
 {
-    match read_manifest(alloc, bytes) {
+    match read_listing(alloc, bytes, limits.parts, limits.pieces) {
         Ok(listing) => Ok(listing),
         Err(refusal) => Err(manifest_fault(name.copied(alloc)?, refusal)),
     }
@@ -63,33 +67,44 @@ fn listing_in(alloc: Global, bytes: &[u8], name: &Name) -> Result<Listing, Fault
 
 // The parts that a part list names.
 #[tactic(auto, using(crate::proofs::ReadLemmas::taking))]
-fn read_listing<H: Shelf>(alloc: Global, shelf: &mut H, name: &Name) -> Result<Listing, Fault>
+fn read_list<H: Shelf>(
+    alloc: Global,
+    shelf: &mut H,
+    name: &Name,
+    limits: Limits,
+) -> Result<Listing, Fault>
     ensures holds { (H.told shelf.new).holds ≡ (H.told shelf.old).holds }
     ensures count { (H.told shelf.old).faults ≤ (H.told shelf.new).faults }
     ensures found { (files : Files) → (H.told shelf.old).holds ≡ Some files → Follows (IsTaken files name.now
-        (SaysListing name.now)) result }
-    ensures few { IfOk result IsFew }
+        (SaysListingWithin limits name.now)) result }
+    ensures few { IfOk result (IsFewWithin limits) }
     ensures cause { IfErr result (HasCause (over (H.told shelf.old) (H.told shelf.new))) }
 {
     let bytes = read_file(alloc, shelf, name)?;
-    listing_in(alloc, bytes.as_slice(), name)
+    listing_in(alloc, bytes.as_slice(), name, limits)
 }
 
 // The names of the parts and of their pieces' files.
-fn names_of<H: Shelf>(alloc: Global, shelf: &mut H, input: &Input) -> Result<Listing, Fault>
-    requires { IsInput input.now }
+fn names_of<H: Shelf>(
+    alloc: Global,
+    shelf: &mut H,
+    input: &Input,
+    limits: Limits,
+) -> Result<Listing, Fault>
+    requires input { IsInputWithin limits.parts input.now }
+    requires room { limits.parts ≤ limits.pieces }
     ensures holds { (H.told shelf.new).holds ≡ (H.told shelf.old).holds }
     ensures count { (H.told shelf.old).faults ≤ (H.told shelf.new).faults }
     ensures found { (files : Files) → (H.told shelf.old).holds ≡ Some files →
-        Follows (IsListingOf files input.now) result }
-    ensures few { IfOk result IsFew }
+        Follows (IsListingOfWithin limits files input.now) result }
+    ensures few { IfOk result (IsFewWithin limits) }
     ensures cause { IfErr result (HasCause (over (H.told shelf.old) (H.told shelf.new))) }
     ensures named { IfErr result (IfTooLong (MayName input.now)) }
     ensures names { IfOk result (λ listing.
         (name : List ℕ) → ListsPiece listing name → MayName input.now name) }
 {
     match input {
-        Input::Manifest(name) => read_listing(alloc, shelf, name),
+        Input::Manifest(name) => read_list(alloc, shelf, name, limits),
         Input::Files(names) => {
             let listing = parts_of_files(alloc, names.as_slice())?;
             Ok(listing)
@@ -177,7 +192,7 @@ fn read_parts<H: Shelf>(
     sketch: &mut Sketch,
 ) -> Result<Parts, Fault>
     requires digits { digits ≤ MOST_DIGITS }
-    requires few { length listing.now ≤ MOST_PARTS }
+    requires few { length listing.now ≤ MOST_PRODUCT_PARTS }
     requires placed { All (λ part. IsWithin POINT part.at) listing.now }
     ensures holds { (H.told shelf.new).holds ≡ (H.told shelf.old).holds }
     ensures count { (H.told shelf.old).faults ≤ (H.told shelf.new).faults }
@@ -201,8 +216,36 @@ fn read_parts<H: Shelf>(
     Ok(Parts::from_vec(parts))
 }
 
-/// The assembly that an input names: the part list is read first, if there is one, and then each piece's file in the
-/// order of the list. The first refusal is the answer. The files are kept for a drawing, if there is one.
+/// The parts that an input names: the part list is read first, if there is one, and then each piece's file in the
+/// order of the list. The first refusal is the answer; among them is that the list has more parts or pieces than these
+/// limits say. The files are kept for a drawing, if there is one.
+pub fn read_within<H: Shelf>(
+    alloc: Global,
+    shelf: &mut H,
+    asked: &Asked,
+    limits: Limits,
+    sketch: &mut Sketch,
+) -> Result<Parts, Fault>
+    requires asked { IsAskedWithin limits.parts asked.now }
+    requires room { limits.parts ≤ limits.pieces }
+    requires most { limits.parts ≤ MOST_PRODUCT_PARTS }
+    ensures holds { (H.told shelf.new).holds ≡ (H.told shelf.old).holds }
+    ensures count { (H.told shelf.old).faults ≤ (H.told shelf.new).faults }
+    ensures found { (files : Files) → (H.told shelf.old).holds ≡ Some files →
+        Follows (IsInputOfWithin limits files asked.now) result }
+    ensures few { IfOk result (ArePartsWithin limits.parts limits.pieces) }
+    ensures drawn { (files : Files) → (H.told shelf.old).holds ≡ Some files → sketch.old.solids.items ≡ [] →
+        OnOk result (IsDrawnWithin limits files asked.now sketch.old.keep sketch.new) }
+    ensures small { sketch.old.solids.items ≡ [] →
+        IfOk result (λ parts. AreSmall (length parts) limits.pieces sketch.new.solids.items) }
+    ensures cause { IfErr result (HasCause (over (H.told shelf.old) (H.told shelf.new))) }
+    ensures named { IfErr result (IfTooLong (MayName asked.now.input)) }
+{
+    let listing = names_of(alloc, shelf, &asked.input, limits)?;
+    read_parts(alloc, asked.digits, shelf, listing.as_slice(), sketch)
+}
+
+/// The assembly that an input names, by [`read_within`].
 pub fn read_input<H: Shelf>(
     alloc: Global,
     shelf: &mut H,
@@ -221,7 +264,6 @@ pub fn read_input<H: Shelf>(
     ensures cause { IfErr result (HasCause (over (H.told shelf.old) (H.told shelf.new))) }
     ensures named { IfErr result (IfTooLong (MayName asked.now.input)) }
 {
-    let listing = names_of(alloc, shelf, &asked.input)?;
-    let parts = read_parts(alloc, asked.digits, shelf, listing.as_slice(), sketch)?;
+    let parts = read_within(alloc, shelf, asked, Limits::ASSEMBLY, sketch)?;
     Ok(Assembly::seal(parts))
 }

@@ -3,6 +3,7 @@
 
 mod answer;
 mod input;
+mod limits;
 mod moved;
 mod planes;
 mod read;
@@ -15,4 +16,4 @@ pub use planes::table_of;
 pub use read::read_piece;
 pub use refusals::{planes_fault, text_fault};
 pub use sketch::Sketch;
-pub use sound::{read_sketched, read_sound, tested};
+pub use sound::{read_product, read_sketched, read_sound, tested};

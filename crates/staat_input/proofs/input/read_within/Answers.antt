@@ -1,0 +1,81 @@
+use Rattle.std.proofs.Common.{◌≡◌, ◌≤◌, ◌∙◌, ◌+◌, ◌++◌, ℕ, List, [], Ok, Err, ap, length, sym, subst, arith}
+use Rattle.std.specs.Prelude.{sum_by, Result, IfOk, IfErr, OnOk}
+use Rattle.staat_edge.specs.Told.{ShelfTold}
+use Rattle.staat_explode.specs.declared.scene.Solid.{Solid}
+use Rattle.staat_fault.specs.declared.fault.Fault.{Fault}
+use Rattle.staat_fault.specs.declared.fault.Fault.TheVariants.{TooLong}
+use Rattle.staat_manifest.specs.declared.listing.ListedPart.{ListedPart}
+use Rattle.staat_model.specs.declared.assembly.Part.{Part}
+use Rattle.staat_model.specs.Assemblies.{ArePartsWithin}
+use Rattle.staat_words.specs.declared.request.Asked.{Asked}
+use Rattle.staat_input.specs.declared.limits.Limits.{Limits}
+use Rattle.staat_input.specs.declared.sketch.Sketch.{Sketch}
+use Rattle.staat_input.specs.Causes.{HasCause, IfTooLong, MayName, over}
+use Rattle.staat_input.specs.Drawing.{AreSmall, Drew, IsDrawnWithin, solids_of}
+use Rattle.staat_input.specs.Inputs.{IsListingOfWithin, IsPartOf}
+use Rattle.staat_input.specs.Shapes.{AreRead, IsFewWithin, ListsPiece}
+use Rattle.staat_input.specs.Work.{Each, Files}
+use Rattle.staat_input.proofs.InputLemmas.{cause_from, few_read, same_length, then_given}
+use Rattle.staat_input.proofs.SketchLemmas.{small_more, small_none}
+use Rattle.staat_input.proofs.input.read_within.Goals as goal
+
+parts_few : (l : Limits) (named : List ListedPart) (r : Result (List Part) Fault) → IsFewWithin l named → IfOk r (AreRead named) → IfOk r (ArePartsWithin l.parts l.pieces)
+parts_few l named (Ok parts) few read = few_read l named parts few read
+parts_few l named (Err f) few read = tt
+
+parts_drawn : (l : Limits) (files : Files) (asked : Asked) (before after : Sketch) (named : List ListedPart) (r : Result (List Part) Fault) → IsListingOfWithin l files asked.input (Ok named) → before.solids.items ≡ [] → OnOk r (Drew before after (solids_of files asked.digits named)) → OnOk r (IsDrawnWithin l files asked before.keep after)
+parts_drawn l files asked before after named (Ok parts) listed empty drew = record {
+  named = named;
+  listed = listed;
+  solids = λ on. drew.solids on ∙ ap (λ (xs : List Solid). xs ++ solids_of files asked.digits named) empty;
+}
+parts_drawn l files asked before after named (Err f) listed empty drew = tt
+
+parts_small : (l : Limits) (before after : Sketch) (named : List ListedPart) (r : Result (List Part) Fault) → IsFewWithin l named → IfOk r (AreRead named) → before.solids.items ≡ []
+    → ((parts most : ℕ) → length named ≤ parts → AreSmall parts most before.solids.items → OnOk r (AreSmall parts (most + sum_by (λ (n : ListedPart). length n.pieces) named) after.solids.items))
+    → IfOk r (λ parts. AreSmall (length parts) l.pieces after.solids.items)
+parts_small l before after named (Ok parts) few read empty grows =
+    let count = same_length named parts read in
+    let start = subst (AreSmall (length parts) 0) (sym empty) (small_none (length parts)) in
+    let pieces = sum_by (λ (n : ListedPart). length n.pieces) named in
+    small_more (length parts) (0 + pieces) l.pieces after.solids.items (omega (arith, few.pieces)) (grows (length parts) 0 (omega (arith, count)) start)
+parts_small l before after named (Err f) few read empty grows = tt
+
+cause_before : (before mid after : ShelfTold) (r : Result (List Part) Fault) → before.faults ≤ mid.faults → mid.holds ≡ before.holds → IfErr r (HasCause (over mid after)) → IfErr r (HasCause (over before after))
+cause_before before mid after (Ok parts) le same h = tt
+cause_before before mid after (Err f) le same h = cause_from before mid after f le same h
+
+named_by : (P Q : List ℕ → Type 0) (r : Result (List Part) Fault) → ((name : List ℕ) → P name → Q name) → IfErr r (IfTooLong P) → IfErr r (IfTooLong Q)
+named_by P Q (Ok parts) wider h = tt
+named_by P Q (Err (TooLong name)) wider h = wider name h
+named_by P Q (Err f) wider h = tt
+
+pub returns-clause-found : goal.returns-clause-found
+returns-clause-found g c = λ files told.
+    let listed = subst (λ (n : List ListedPart). IsListingOfWithin c.args.limits files c.args.asked.now.input (Ok n)) (sym c.as_slice.ensures) (c.in_ok-listing.ensures.found files told) in
+    then_given (IsListingOfWithin c.args.limits files c.args.asked.now.input) (Each (IsPartOf files c.args.asked.now.digits)) c.as_slice.result.now c.read_parts.result listed
+    (c.read_parts.ensures.found files (c.in_ok-listing.ensures.holds ∙ told))
+
+pub returns-clause-few : goal.returns-clause-few
+returns-clause-few g c = parts_few c.args.limits c.as_slice.result.now c.read_parts.result (subst (IsFewWithin c.args.limits) (sym c.as_slice.ensures) c.in_ok-listing.ensures.few) c.read_parts.ensures.read
+
+pub returns-clause-drawn : goal.returns-clause-drawn
+returns-clause-drawn g c = λ files told empty.
+    let listed = subst (λ (n : List ListedPart). IsListingOfWithin c.args.limits files c.args.asked.now.input (Ok n)) (sym c.as_slice.ensures) (c.in_ok-listing.ensures.found files told) in
+    parts_drawn c.args.limits files c.args.asked.now c.args.sketch.now c.read_parts.new.sketch c.as_slice.result.now c.read_parts.result listed empty
+    (c.read_parts.ensures.drawn files (c.in_ok-listing.ensures.holds ∙ told))
+
+pub returns-clause-small : goal.returns-clause-small
+returns-clause-small g c = λ empty.
+    parts_small c.args.limits c.args.sketch.now c.read_parts.new.sketch c.as_slice.result.now c.read_parts.result (subst (IsFewWithin c.args.limits) (sym c.as_slice.ensures) c.in_ok-listing.ensures.few)
+    c.read_parts.ensures.read empty c.read_parts.ensures.small
+
+pub returns-clause-cause : goal.returns-clause-cause
+returns-clause-cause g c =
+    cause_before (g.H.Shelf.told c.args.shelf.now) (g.H.Shelf.told c.names_of.new.shelf) (g.H.Shelf.told c.read_parts.new.shelf) c.read_parts.result
+    c.in_ok-listing.ensures.count c.in_ok-listing.ensures.holds c.read_parts.ensures.cause
+
+pub returns-clause-named : goal.returns-clause-named
+returns-clause-named g c =
+    named_by (ListsPiece c.as_slice.result.now) (MayName c.args.asked.now.input) c.read_parts.result
+    (λ name h. c.in_ok-listing.ensures.names name (subst (λ (n : List ListedPart). ListsPiece n name) c.as_slice.ensures h)) c.read_parts.ensures.named
