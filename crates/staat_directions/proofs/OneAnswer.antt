@@ -32,7 +32,7 @@ use Rattle.staat_words.specs.declared.request.CellsRequest.{CellsRequest}
 same_arcs : (parts : List Part) (d : V3) (w : PartSet) (rows others : List ℕ) → ShowsBlocking parts d w rows → ShowsBlocking parts d w others → (a b : ℕ) → Has w a → Has w b → HasArc rows a b ↔ HasArc others a b
 same_arcs parts d w rows others one other a b a_in b_in = (λ h. (other a b a_in b_in).1 ((one a b a_in b_in).0 h), λ h. (one a b a_in b_in).1 ((other a b a_in b_in).0 h))
 
-graphed_one : (files : Files) (parts : List Part) (d : V3) → FindsOne files (IsGraphed parts d)
+pub graphed_one : (files : Files) (parts : List Part) (d : V3) → FindsOne files (IsGraphed parts d)
 graphed_one files parts d = record { one = λ f g a b sf sg. one f g a b; held = λ name f at lacks step settled. given_not_fault _ (ReadFault name) (sym at.is) }
   where
     one : (f g : Found Answer) → IsGraphed parts d f → IsGraphed parts d g → f ≡ g

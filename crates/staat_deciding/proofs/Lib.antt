@@ -1,0 +1,4 @@
+pub mod DecidedLemmas
+pub mod BlockingRows
+pub mod OneAnswer
+pub mod RightAnswers

@@ -1,0 +1,5 @@
+//! The commands on products of any size: `decide` and `blocks`.
+#![tactic(auto)]
+
+pub mod blocks;
+pub mod decide;
