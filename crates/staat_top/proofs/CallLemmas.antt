@@ -1,19 +1,24 @@
--- What a call of `check` or `plan` says is so.
-use Rattle.std.proofs.Common.{◌≡◌, ◌≢◌, ◌<◌, ◌≤◌, ℕ, zero, suc, List, Option, Some, None, Ok, refl, sym, ap, ◌∙◌, subst, arith}
+-- What a call of `check`, `plan` or `decide` says is so.
+use Rattle.std.proofs.Common.{◌≡◌, ◌≢◌, ◌<◌, ◌≤◌, ℕ, zero, suc, List, Option, Some, None, Ok, Err, refl, sym, ap, ◌∙◌, subst, arith}
+use Rattle.std.proofs.Math.Decide.{ℕ_lt_or_ge}
+use Rattle.staat_fault.specs.declared.fault.Fault.{Fault}
+use Rattle.staat_fault.specs.declared.fault.Fault.TheVariants.{ReadFault}
+use Rattle.staat_words.specs.declared.request.Asked.{Asked}
 use Rattle.staat_words.specs.declared.request.CheckRequest.{CheckRequest}
 use Rattle.staat_words.specs.declared.request.PlanRequest.{PlanRequest}
 use Rattle.staat_words.specs.declared.request.Request.{Request}
-use Rattle.staat_words.specs.declared.request.Request.TheVariants.{Check, Plan}
+use Rattle.staat_words.specs.declared.request.Request.TheVariants.{Check, Decide, Plan}
 use Rattle.staat_edge.specs.Files.{bytes_of}
 use Rattle.staat_input.specs.declared.answer.Answer.{Answer}
 use Rattle.staat_input.specs.Work.{Files, answer}
 use Rattle.staat_input.specs.Causes.{ShelfSide}
 use Rattle.staat_input.specs.Kept.{KeepsNamed}
-use Rattle.staat_top.specs.Replies.{Reply, WorkOnWords, IsReply, answered}
+use Rattle.staat_top.specs.Replies.{Reply, WorkOnWords, IsReply, HasOneReply, answered}
 use Rattle.staat_top.specs.Headline.{valid_line}
-use Rattle.staat_top.specs.Runs.{SinkSide, Took, HasRequestBounds, NoFault, Gave, Judged, Planned, Headlines}
+use Rattle.staat_top.specs.Runs.{SinkSide, Took, HasRequestBounds, NoFault, Gave, Judged, Planned, Decided, Headlines}
 use Rattle.staat_top.proofs.RightLemmas.{status_is_right, status_is_denied}
 use Rattle.staat_top.proofs.HeadlineLemmas.{answered_plan, exactly, is_checked, keeps_rules, valid_reply}
+use Rattle.staat_deciding.proofs.OneAnswer.{decide_goes_on}
 
 -- the work found an answer, which went out whole with its status, and the numbers of the request are within bounds
 pub record Printed (asked : Option Request) (files : Files) (out : SinkSide) (status : ℕ) : Type 0 where
@@ -23,12 +28,19 @@ pub record Printed (asked : Option Request) (files : Files) (out : SinkSide) (st
   pub is : status ≡ answer.status
   pub took : Took out answer.text
 
+-- the work stands at a fault, and a file that is to be read is not there
+pub record Stops (asked : Option Request) (files : Files) : Type 0 where
+  pub fault : Fault
+  pub work : WorkOnWords asked files (Err fault)
+  pub lacks : (name : List ℕ) → fault ≡ ReadFault name → bytes_of name files ≡ None
+
 -- what the headline of a call rests on
 pub record Called (asked : Option Request) (files : Files) (shelf : ShelfSide) (out err : SinkSide) (status : ℕ)
     : Type 0 where
   pub printed : status < 2 → Printed asked files out status
   pub bounds : NoFault shelf out err → status ≢ 7 → HasRequestBounds asked
-  pub complete : NoFault shelf out err → status ≢ 7 → (reply : Reply) → IsReply asked files reply → Gave reply out err status
+  pub complete : HasOneReply asked → NoFault shelf out err → status ≢ 7 → (reply : Reply) → IsReply asked files reply → Gave reply out err status
+  pub stops : 2 ≤ status → NoFault shelf out err → status ≢ 7 → Stops asked files
 
 judged : (request : CheckRequest) (files : Files) (shelf : ShelfSide) (out err : SinkSide) (status : ℕ) → Called (Some (Check request)) files shelf out err status → Judged request files shelf out err status
 judged request files shelf out err status c = record {
@@ -44,7 +56,7 @@ judged request files shelf out err status c = record {
       absurd (omega (arith, one, p.is, same));
   called = λ k well memory.
       let own = valid_reply files request k in
-      (c.complete well memory own.reply own.is).is ∙ own.well;
+      (c.complete tt well memory own.reply own.is).is ∙ own.well;
 }
 
 plans : (request : PlanRequest) (files : Files) (shelf : ShelfSide) (out err : SinkSide) (status : ℕ) → Called (Some (Plan request)) files shelf out err status → Planned request files shelf out err status
@@ -57,7 +69,7 @@ plans request files shelf out err status c = record {
       record { text = p.answer.text; took = p.took; is_so = status_is_denied (Some (Plan request)) files p.answer p.bounds p.work (sym p.is ∙ one) };
   answers = λ parts are limits well memory.
       let own = answered_plan files request parts (c.bounds well memory) are limits in
-      let given = c.complete well memory own.0 own.1 in
+      let given = c.complete tt well memory own.0 own.1 in
       subst (λ n. n < 2) (sym given.is) own.2;
   checked = λ others version name asks small.
       let p = c.printed small in record {
@@ -69,8 +81,23 @@ plans request files shelf out err status c = record {
       };
 }
 
+decided : (asked : Asked) (files : Files) (shelf : ShelfSide) (out err : SinkSide) (status : ℕ) → Called (Some (Decide asked)) files shelf out err status → Decided asked files shelf out err status
+decided asked files shelf out err status c = record {
+  apart = λ none.
+      let p = c.printed (omega (arith, none)) in
+      record { text = p.answer.text; took = p.took; is_so = status_is_right (Some (Decide asked)) files p.answer p.bounds p.work (sym p.is ∙ none) };
+  held = λ one.
+      let p = c.printed (omega (arith, one)) in
+      record { text = p.answer.text; took = p.took; is_so = status_is_denied (Some (Decide asked)) files p.answer p.bounds p.work (sym p.is ∙ one) };
+  answers = λ parts are well memory. elim (ℕ_lt_or_ge status 2) [
+    | inl lt ↦ lt
+    | inr ge ↦ let s = c.stops ge well memory in absurd (decide_goes_on asked files parts s.fault are s.work s.lacks)
+  ];
+}
+
 pub headlines : (asked : Option Request) (files : Files) (shelf : ShelfSide) (out err : SinkSide) (status : ℕ) → Called asked files shelf out err status → Headlines asked files shelf out err status
 headlines None files shelf out err status c = tt
 headlines (Some (Check request)) files shelf out err status c = judged request files shelf out err status c
 headlines (Some (Plan request)) files shelf out err status c = plans request files shelf out err status c
+headlines (Some (Decide asked)) files shelf out err status c = decided asked files shelf out err status c
 headlines (Some request) files shelf out err status c = tt

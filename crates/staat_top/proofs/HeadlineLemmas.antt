@@ -1,10 +1,10 @@
--- What the answers of `check` and `plan` mean.
+-- What the answers of `check`, `plan` and `decide` mean.
 use Rattle.std.proofs.Common.{◌≡◌, ◌∙◌, ◌↔◌, ◌⊎◌, ◌<◌, ◌≤◌, ℕ, zero, suc, List, length, Option, Some, None, Ok, Err, refl, sym, ap, subst, arith, inl, inr}
 use Rattle.staat_model.specs.declared.assembly.Part.{Part}
 use Rattle.staat_model.specs.declared.certificate.Certificate.{Certificate}
 use Rattle.staat_model.specs.declared.verdict.Verdict.{Verdict}
 use Rattle.staat_model.specs.declared.verdict.Verdict.TheVariants.{ValidPlan, ValidRefusal}
-use Rattle.staat_limits.specs.declared.limits.TheConstants.{TEXT_LIMIT}
+use Rattle.staat_limits.specs.declared.limits.TheConstants.{MOST_PRODUCT_PARTS, TEXT_LIMIT}
 use Rattle.staat_model.specs.Assemblies.{IsAssembly}
 use Rattle.staat_model.specs.Certify.{IsCertificateOf}
 use Rattle.std.specs.Prelude.{IfSome}
@@ -18,11 +18,12 @@ use Rattle.staat_edge.specs.Files.{bytes_of}
 use Rattle.staat_fault.specs.declared.fault.Fault.{Fault}
 use Rattle.staat_fault.specs.declared.fault.Fault.TheVariants.{Usage, ReadFault, TooLong, TooManyPlanes, TextTooLong, WriteFault, OutOfMemory}
 use Rattle.staat_fault.specs.Faults.{status_of}
+use Rattle.staat_words.specs.declared.request.Asked.{Asked}
 use Rattle.staat_words.specs.declared.request.CheckRequest.{CheckRequest}
 use Rattle.staat_words.specs.declared.request.PlanRequest.{PlanRequest}
 use Rattle.staat_words.specs.declared.request.Request.{Request}
-use Rattle.staat_words.specs.declared.request.Request.TheVariants.{Check, Plan}
-use Rattle.staat_words.specs.Requests.{HasBounds, IsAsked, IsPlanRequest}
+use Rattle.staat_words.specs.declared.request.Request.TheVariants.{Check, Decide, Plan}
+use Rattle.staat_words.specs.Requests.{HasBounds, IsAsked, IsAskedWithin, IsPlanRequest}
 use Rattle.staat_input.specs.declared.answer.Answer.{Answer}
 use Rattle.staat_input.specs.Work.{Files, Found}
 use Rattle.staat_input.specs.Assembling.{sound}
@@ -31,13 +32,15 @@ use Rattle.staat_input.specs.Kept.{KeepsNamed}
 use Rattle.staat_planning.specs.Planning.{IsWritten, certificate, outcome_answer, outcome_status, steps}
 use Rattle.staat_input.specs.Counting.{few}
 use Rattle.staat_text.specs.PlanTexts.{plan_text}
-use Rattle.staat_input.specs.Assembling.{AreSoundParts}
+use Rattle.staat_input.specs.Assembling.{AreSoundParts, AreSoundProductParts}
+use Rattle.staat_deciding.specs.Deciding.{SaysProductPlan, SaysStuckParts}
+use Rattle.staat_deciding.proofs.OneAnswer.{decide_answers}
 use Rattle.staat_top.specs.Replies.{IsReply, MakesReply, Reply, WorkOn, WorkOnWords, answered}
 use Rattle.staat_planning.specs.Planning.{SaysGoodPlan, SaysStuckSet}
 use Rattle.staat_judging.specs.Checking.{SaysValid, ShowsValid, valid_plan, valid_refusal}
 use Rattle.staat_input.specs.Work.{answer}
 use Rattle.staat_top.specs.Headline.{Headline, IsWithinLimits, KeepsRules, valid_line}
-use Rattle.staat_top.proofs.OneReply.{one_reply}
+use Rattle.staat_top.proofs.OneReply.{makes_settled, one_reply}
 use Rattle.staat_judging.proofs.RightAnswers.{plan_shown, refusal_shown}
 use Rattle.staat_top.proofs.RightLemmas.{status_is_right, status_is_denied}
 use Rattle.staat_input.specs.Counting.{all_parts}
@@ -101,7 +104,7 @@ exactly files request reply bounds is = (there, back)
         keeps_rules files request found.0.text (status_is_right (Some (Check request)) files found.0 bounds found.1 (sym (ap (λ (r : Reply). r.status) found.2) ∙ none))
 
     back : KeepsRules files request → reply.status ≡ 0
-    back k = let own = valid_reply files request k in ap (λ (r : Reply). r.status) (one_reply (Some (Check request)) files reply own.reply is own.is) ∙ own.well
+    back k = let own = valid_reply files request k in ap (λ (r : Reply). r.status) (one_reply (Some (Check request)) files reply own.reply tt is own.is) ∙ own.well
 
 is_planned : (files : Files) (request : PlanRequest) (reply : Reply) → IsPlanRequest request → IsReply (Some (Plan request)) files reply → reply.status ≡ 0 → SaysGoodPlan files request reply.out
 is_planned files request reply bounds is none =
@@ -164,6 +167,25 @@ answered_plan files request parts bounds are limits =
     small (planned plan marks) = omega arith
     small (stuck w) = omega arith
 
+is_decided : (files : Files) (asked : Asked) (reply : Reply) → IsAskedWithin MOST_PRODUCT_PARTS asked → IsReply (Some (Decide asked)) files reply → reply.status ≡ 0 → SaysProductPlan files asked reply.out
+is_decided files asked reply bounds is none =
+    let found = answer_in (Some (Decide asked)) files is.found reply is.work is.makes (omega (arith, none)) in
+    let status : found.0.status ≡ 0 = sym (ap (λ (r : Reply). r.status) found.2) ∙ none in
+    subst (SaysProductPlan files asked) (sym (ap (λ (r : Reply). r.out) found.2)) (status_is_right (Some (Decide asked)) files found.0 bounds found.1 status)
+
+is_denied : (files : Files) (asked : Asked) (reply : Reply) → IsAskedWithin MOST_PRODUCT_PARTS asked → IsReply (Some (Decide asked)) files reply → reply.status ≡ 1 → SaysStuckParts files asked reply.out
+is_denied files asked reply bounds is one =
+    let found = answer_in (Some (Decide asked)) files is.found reply is.work is.makes (omega (arith, one)) in
+    let status : found.0.status ≡ 1 = sym (ap (λ (r : Reply). r.status) found.2) ∙ one in
+    subst (SaysStuckParts files asked) (sym (ap (λ (r : Reply). r.out) found.2)) (status_is_denied (Some (Decide asked)) files found.0 bounds found.1 status)
+
+-- sound parts have no reply but an answer
+decides : (files : Files) (asked : Asked) (parts : List Part) (reply : Reply) → AreSoundProductParts files asked parts → IsReply (Some (Decide asked)) files reply → reply.status < 2
+decides files asked parts reply sound is =
+    let (a, same, small) = decide_answers asked files parts is.found sound is.work (makes_settled is.found reply is.makes) in
+    let made : reply ≡ answered a = subst (λ found. MakesReply found reply) same is.makes in
+    subst (λ (r : Reply). r.status < 2) (sym made) small
+
 pub headline : Headline
 headline = record {
   exact = exactly;
@@ -173,4 +195,7 @@ headline = record {
   held = is_held;
   answers = answered_plan;
   checked = is_checked;
+  decided = is_decided;
+  denied = is_denied;
+  decides = decides;
 }

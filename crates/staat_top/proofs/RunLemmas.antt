@@ -11,14 +11,14 @@ use Rattle.staat_fault.specs.declared.fault.Fault.TheVariants.{Usage, ReadFault,
 use Rattle.staat_fault.specs.Faults.{status_of, line_of}
 use Rattle.staat_input.specs.declared.answer.Answer.{Answer}
 use Rattle.staat_input.specs.Work.{Files}
-use Rattle.staat_top.specs.Replies.{Reply, IsReply, answered, refused}
+use Rattle.staat_top.specs.Replies.{Reply, IsReply, HasOneReply, answered, refused}
 use Rattle.staat_input.specs.Causes.{ShelfSide, IsUnread}
 use Rattle.staat_top.specs.Runs.{SinkSide, Took, TookPart, Untouched, IsCaused, HasRequestBounds, IsFound}
 use Rattle.staat_top.specs.Runs.{IsExplained, IsSaid, NoFault, SaysWhole, SaysPart, Gave, Ran}
 use Rattle.staat_top.proofs.OneReply.{no_reply, one_reply}
 use Rattle.staat_top.proofs.RightLemmas.{status_is_right, status_is_denied}
 use Rattle.staat_top.proofs.HeadlineLemmas.{least_status}
-use Rattle.staat_top.proofs.CallLemmas.{headlines}
+use Rattle.staat_top.proofs.CallLemmas.{Stops, headlines}
 
 took_nothing : (side : SinkSide) → Untouched side → Took side []
 took_nothing side same = go side.old.wrote side.new.wrote same
@@ -39,12 +39,12 @@ pub ran_answer : (asked : Option Request) (shelf : ShelfSide) (out err : SinkSid
     → (result ≡ 6 → Took err (line_of WriteFault) ⊎ TookPart err (line_of WriteFault))
     → Ran asked shelf out err result
 ran_answer asked shelf out err a result small found bounds asks whole part line =
-    let complete : (files : Files) → shelf.old.holds ≡ Some files → NoFault shelf out err → result ≢ 7 → (reply : Reply) → IsReply asked files reply → Gave reply out err result = λ files told well no_memory reply is_reply.
+    let complete : HasOneReply asked → (files : Files) → shelf.old.holds ≡ Some files → NoFault shelf out err → result ≢ 7 → (reply : Reply) → IsReply asked files reply → Gave reply out err result = λ own files told well no_memory reply is_reply.
     elim (ℕ_discrete result 6) [
       | yes e ↦ absurd (well.out_well (part e).fault)
       | no ne ↦
           let w = whole ne in
-          let same : answered a ≡ reply = one_reply asked files _ _ (answer_reply asked shelf files a found told) is_reply in
+          let same : answered a ≡ reply = one_reply asked files _ _ own (answer_reply asked shelf files a found told) is_reply in
           subst (λ r. Gave r out err result) same (record { is = w.0; to_out = w.2; to_err = took_nothing err w.1 })
     ] in record {
       out_kept = λ ge ne. absurd (omega (arith, (whole ne).0));
@@ -61,7 +61,11 @@ ran_answer asked shelf out err a result small found bounds asks whole part line 
       headline = λ files told. headlines asked files shelf out err result (record {
         printed = λ lt. let w = whole (λ e. omega (arith, e)) in record { bounds = bounds; answer = a; work = found files told; is = w.0; took = w.2 };
         bounds = λ well no_memory. bounds;
-        complete = complete files told;
+        complete = λ own. complete own files told;
+        stops = λ ge well no_memory. elim (ℕ_discrete result 6) [
+          | yes e ↦ absurd (well.out_well (part e).fault)
+          | no ne ↦ absurd (omega (arith, ge, small, (whole ne).0))
+        ];
       });
       complete = complete;
       right = λ zero files told.
@@ -106,13 +110,23 @@ no_write_fault (Some (Check request)) shelf caused = caused
 no_write_fault (Some request) shelf caused = caused
 
 -- where nothing failed and there was memory, the reply is that of the fault
-complete_fault : (asked : Option Request) (shelf : ShelfSide) (files : Files) (fault : Fault) (reply : Reply) → IsExplained asked shelf fault → shelf.old.holds ≡ Some files → (Rose shelf.old.faults shelf.new.faults → ⊥) → status_of fault ≢ 7 → IsReply asked files reply → refused fault ≡ reply
-complete_fault asked shelf files (ReadFault name) reply explained told well memory is_reply =
+complete_fault : (asked : Option Request) (shelf : ShelfSide) (files : Files) (fault : Fault) (reply : Reply) → HasOneReply asked → IsExplained asked shelf fault → shelf.old.holds ≡ Some files → (Rose shelf.old.faults shelf.new.faults → ⊥) → status_of fault ≢ 7 → IsReply asked files reply → refused fault ≡ reply
+complete_fault asked shelf files (ReadFault name) reply own explained told well memory is_reply =
     absurd (no_reply asked files name reply (explained.found files told) (unread_lacks shelf files name told well (cause_some asked shelf name explained.cause)) is_reply)
-complete_fault asked shelf files WriteFault reply explained told well memory is_reply = absurd (no_write_fault asked shelf explained.cause)
-complete_fault asked shelf files OutOfMemory reply explained told well memory is_reply = absurd (memory refl)
-complete_fault asked shelf files fault reply explained told well memory is_reply =
-    one_reply asked files _ _ (record { found = Err fault; work = explained.found files told; makes = refl }) is_reply
+complete_fault asked shelf files WriteFault reply own explained told well memory is_reply = absurd (no_write_fault asked shelf explained.cause)
+complete_fault asked shelf files OutOfMemory reply own explained told well memory is_reply = absurd (memory refl)
+complete_fault asked shelf files fault reply own explained told well memory is_reply =
+    one_reply asked files _ _ own (record { found = Err fault; work = explained.found files told; makes = refl }) is_reply
+
+-- where nothing failed and there was memory, the work stands at the fault, and a file that is to be read is not there
+stopped : (asked : Option Request) (shelf : ShelfSide) (files : Files) (fault : Fault) → IsExplained asked shelf fault → shelf.old.holds ≡ Some files → (Rose shelf.old.faults shelf.new.faults → ⊥) → status_of fault ≢ 7 → Stops asked files
+stopped asked shelf files (ReadFault name) explained told well memory =
+    record { fault = ReadFault name; work = explained.found files told; lacks = λ n e. unread_lacks shelf files n told well (subst (IsUnread shelf) (same_name name n e) (cause_some asked shelf name explained.cause)) }
+  where
+    same_name : (n m : List ℕ) → ReadFault n ≡ ReadFault m → n ≡ m
+    same_name n m e = cc
+stopped asked shelf files OutOfMemory explained told well memory = absurd (memory refl)
+stopped asked shelf files fault explained told well memory = record { fault = fault; work = explained.found files told; lacks = λ n e. absurd cc }
 
 -- where the words make no request, the status is that of usage or of want of memory
 usage_status : (shelf : ShelfSide) (fault : Fault) → IsCaused None shelf fault → (status_of fault ≡ 2) ⊎ (status_of fault ≡ 7)
@@ -134,13 +148,13 @@ pub ran_fault : (asked : Option Request) (shelf : ShelfSide) (out err : SinkSide
     → (result ≡ 6 → SaysPart fault err)
     → Ran asked shelf out err result
 ran_fault asked shelf out err result fault explained bounds same whole part =
-    let complete : (files : Files) → shelf.old.holds ≡ Some files → NoFault shelf out err → result ≢ 7 → (reply : Reply) → IsReply asked files reply → Gave reply out err result = λ files told well memory reply is_reply.
+    let complete : HasOneReply asked → (files : Files) → shelf.old.holds ≡ Some files → NoFault shelf out err → result ≢ 7 → (reply : Reply) → IsReply asked files reply → Gave reply out err result = λ own files told well memory reply is_reply.
     elim (ℕ_discrete result 6) [
       | yes e ↦ absurd (well.err_well (part e).part.fault)
       | no ne ↦
           let w = whole ne in
           let said = said_explained asked shelf fault w.said explained w.is_said in
-          let is_it : refused w.said ≡ reply = complete_fault asked shelf files w.said reply said told well.shelf_well (λ e. memory (w.is ∙ e)) is_reply in
+          let is_it : refused w.said ≡ reply = complete_fault asked shelf files w.said reply own said told well.shelf_well (λ e. memory (w.is ∙ e)) is_reply in
           subst (λ r. Gave r out err result) is_it (gave_line out err w.said result same w.is w.line)
     ] in record {
       out_kept = λ ge ne. same;
@@ -177,7 +191,13 @@ ran_fault asked shelf out err result fault explained bounds same whole part =
           | yes e ↦ absurd (well.err_well (part e).part.fault)
           | no ne ↦ let w = whole ne in bounds (λ none. memory (w.is ∙ ap status_of (said_memory fault w.said none w.is_said)))
         ];
-        complete = complete files told;
+        complete = λ own. complete own files told;
+        stops = λ ge well memory. elim (ℕ_discrete result 6) [
+          | yes e ↦ absurd (well.err_well (part e).part.fault)
+          | no ne ↦
+              let w = whole ne in
+              stopped asked shelf files w.said (said_explained asked shelf fault w.said explained w.is_said) told well.shelf_well (λ e. memory (w.is ∙ e))
+        ];
       });
       complete = complete;
       right = λ zero files told. let w = whole (λ e. omega (arith, e)) in absurd (omega (arith, w.is, least_status w.said));

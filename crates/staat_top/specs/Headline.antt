@@ -1,4 +1,4 @@
--- What stands above all else: what the answers of `check` and `plan` mean.
+-- What stands above all else: what the answers of `check`, `plan` and `decide` mean.
 use Rattle.std.specs.Prelude.{◌≡◌, ◌↔◌, ◌⊎◌, ◌<◌, ◌≤◌, ℕ, zero, suc, true, List}
 use Rattle.std.specs.Prelude.{length, Option, Some, Ok, codes}
 use Rattle.staat_vec.specs.declared.vector.V3.{V3}
@@ -13,17 +13,19 @@ use Rattle.staat_model.specs.Certify.{IsCertificateOf}
 use Rattle.staat_model.specs.Outcomes.{IsOutcome, stuck}
 use Rattle.staat_model.specs.Planes.{ArePlanes}
 use Rattle.staat_model.specs.Texts.{text_of}
-use Rattle.staat_limits.specs.declared.limits.TheConstants.{MOST_CELL_PLANES}
+use Rattle.staat_limits.specs.declared.limits.TheConstants.{MOST_CELL_PLANES, MOST_PRODUCT_PARTS}
 use Rattle.staat_check.specs.Verdicts.{IsPlanOf, IsRefusalWithSet}
+use Rattle.staat_words.specs.declared.request.Asked.{Asked}
 use Rattle.staat_words.specs.declared.request.CheckRequest.{CheckRequest}
 use Rattle.staat_words.specs.declared.request.PlanRequest.{PlanRequest}
-use Rattle.staat_words.specs.declared.request.Request.TheVariants.{Check, Plan}
-use Rattle.staat_words.specs.Requests.{IsAsked, IsPlanRequest}
+use Rattle.staat_words.specs.declared.request.Request.TheVariants.{Check, Decide, Plan}
+use Rattle.staat_words.specs.Requests.{IsAsked, IsAskedWithin, IsPlanRequest}
 use Rattle.staat_input.specs.Work.{Files}
 use Rattle.staat_judging.specs.Checking.{IsCertificateIn}
 use Rattle.staat_input.specs.Counting.{all_parts}
 use Rattle.staat_input.specs.Kept.{KeepsNamed}
-use Rattle.staat_input.specs.Assembling.{AreSoundParts}
+use Rattle.staat_input.specs.Assembling.{AreSoundParts, AreSoundProductParts}
+use Rattle.staat_deciding.specs.Deciding.{SaysProductPlan, SaysStuckParts}
 use Rattle.staat_top.specs.Replies.{IsReply, Reply, answered}
 use Rattle.staat_planning.specs.Planning.{SaysGoodPlan, SaysStuckSet}
 use Rattle.staat_input.specs.Work.{answer}
@@ -84,3 +86,11 @@ pub record Headline : Type 0 where
       KeepsNamed files others request.asked.input → bytes_of name others ≡ Some reply.out →
       IsReply (Some (Check (record { asked = request.asked; certificate = name }))) others
       (answered (answer 0 (valid_line reply.status)))
+  -- What `decide` prints with status 0 is a plan that takes all parts of a product apart, and with status 1 parts that
+  -- are truly stuck; and for every input whose parts are sound each reply is one of the two.
+  pub decided : (files : Files) (asked : Asked) (reply : Reply) → IsAskedWithin MOST_PRODUCT_PARTS asked →
+      IsReply (Some (Decide asked)) files reply → reply.status ≡ 0 → SaysProductPlan files asked reply.out
+  pub denied : (files : Files) (asked : Asked) (reply : Reply) → IsAskedWithin MOST_PRODUCT_PARTS asked →
+      IsReply (Some (Decide asked)) files reply → reply.status ≡ 1 → SaysStuckParts files asked reply.out
+  pub decides : (files : Files) (asked : Asked) (parts : List Part) (reply : Reply) →
+      AreSoundProductParts files asked parts → IsReply (Some (Decide asked)) files reply → reply.status < 2

@@ -3,13 +3,13 @@ use Rattle.std.specs.Prelude.{◌≡◌, ℕ, List, [], Option, Some, None, Ok, 
 use Rattle.staat_model.specs.declared.assembly.Part.{Part}
 use Rattle.staat_words.specs.declared.request.Request.{Request}
 use Rattle.staat_words.specs.declared.request.Request.TheVariants.{Pair, Look, Graph, Plan, Check, Cells, Drill}
-use Rattle.staat_words.specs.declared.request.Request.TheVariants.{Explode, Linear, Local}
+use Rattle.staat_words.specs.declared.request.Request.TheVariants.{Explode, Linear, Local, Decide, Blocks}
 use Rattle.staat_fault.specs.declared.fault.Fault.{Fault}
 use Rattle.staat_fault.specs.declared.fault.Fault.TheVariants.{Usage, ReadFault}
 use Rattle.staat_fault.specs.Faults.{status_of, line_of}
 use Rattle.staat_input.specs.declared.answer.Answer.{Answer}
 use Rattle.staat_input.specs.Work.{Files, Found, answer}
-use Rattle.staat_input.specs.Assembling.{AreSoundParts}
+use Rattle.staat_input.specs.Assembling.{AreSoundParts, AreSoundProductParts}
 use Rattle.staat_planning.specs.Planning.{SaysGoodPlan, SaysStuckSet, PlanWork}
 use Rattle.staat_directions.specs.CellTables.{SaysCells, CellsWork}
 use Rattle.staat_planning.specs.Exploding.{SaysApart, plan_asked, ExplodeWork}
@@ -20,6 +20,8 @@ use Rattle.staat_planning.specs.Drills.{SaysDrilled, DrillWork}
 use Rattle.staat_directions.specs.Pairs.{PairWork, NeverMeet, IsNotShown}
 use Rattle.staat_directions.specs.Looking.{LookWork}
 use Rattle.staat_directions.specs.Graphing.{GraphWork}
+use Rattle.staat_deciding.specs.Deciding.{DecideWork, SaysProductPlan, SaysStuckParts}
+use Rattle.staat_deciding.specs.Blocking.{BlocksWork}
 
 -- what the work on a request finds: a line for each command
 abbrev pub WorkOn : Request → Files → Found Answer → Type 0
@@ -33,6 +35,8 @@ WorkOn (Drill product) files found = DrillWork product files found
 WorkOn (Explode request) files found = ExplodeWork request files found
 WorkOn (Linear request) files found = LinearWork request files found
 WorkOn (Local request) files found = LocalWork request files found
+WorkOn (Decide asked) files found = DecideWork asked files found
+WorkOn (Blocks request) files found = BlocksWork request files found
 
 -- what the work on words finds, which may make no request
 abbrev pub WorkOnWords : Option Request → Files → Found Answer → Type 0
@@ -65,6 +69,12 @@ pub record IsReply (asked : Option Request) (files : Files) (reply : Reply) : Ty
   pub work : WorkOnWords asked files found
   pub makes : MakesReply found reply
 
+-- There is one reply to it over some files: so to all but `decide`, to which each plan is a reply that takes all parts
+-- apart, and each set that is stuck.
+abbrev pub HasOneReply : Option Request → Type 0
+HasOneReply (Some (Decide asked)) = ⊥
+HasOneReply asked = Unit {0}
+
 -- what status 0 means, with the text that is printed
 abbrev pub IsRight : Option Request → Files → List ℕ → Type 0
 IsRight None files text = ⊥
@@ -78,6 +88,8 @@ IsRight (Some (Drill product)) files text = SaysDrilled product text
 IsRight (Some (Explode request)) files text = SaysApart files request text
 IsRight (Some (Linear request)) files text = SaysOrder files request text
 IsRight (Some (Local request)) files text = SaysBeginning files request text
+IsRight (Some (Decide asked)) files text = SaysProductPlan files asked text
+IsRight (Some (Blocks request)) files text = (parts : List Part) × AreSoundProductParts files request.asked parts
 
 -- what status 1 means, with the text that is printed
 abbrev pub IsDenied : Option Request → Files → List ℕ → Type 0
@@ -87,4 +99,5 @@ IsDenied (Some (Check request)) files text = SaysNotValid files request text
 IsDenied (Some (Explode request)) files text = SaysStuckSet files (plan_asked request) text
 IsDenied (Some (Linear request)) files text = SaysLocked files request text
 IsDenied (Some (Local request)) files text = SaysTight files request text
+IsDenied (Some (Decide asked)) files text = SaysStuckParts files asked text
 IsDenied asked files text = ⊥

@@ -7,20 +7,22 @@ use Rattle.staat_edge.specs.Causes.{Rose}
 use Rattle.staat_edge.specs.Sinks.{GrewBy, GrewByPart}
 use Rattle.staat_edge.specs.Told.{SinkTold}
 use Rattle.staat_words.specs.declared.request.Request.{Request}
+use Rattle.staat_words.specs.declared.request.Asked.{Asked}
 use Rattle.staat_words.specs.declared.request.CheckRequest.{CheckRequest}
 use Rattle.staat_words.specs.declared.request.PlanRequest.{PlanRequest}
-use Rattle.staat_words.specs.declared.request.Request.TheVariants.{Check, Plan}
+use Rattle.staat_words.specs.declared.request.Request.TheVariants.{Check, Decide, Plan}
 use Rattle.staat_words.specs.Requests.{HasBounds}
 use Rattle.staat_fault.specs.declared.fault.Fault.{Fault}
 use Rattle.staat_fault.specs.declared.fault.Fault.TheVariants.{Usage, WriteFault, OutOfMemory}
 use Rattle.staat_fault.specs.Faults.{status_of, line_of}
 use Rattle.staat_input.specs.declared.answer.Answer.{Answer}
 use Rattle.staat_input.specs.Work.{Files, Found, Follows, answer}
-use Rattle.staat_input.specs.Assembling.{AreSoundParts}
+use Rattle.staat_input.specs.Assembling.{AreSoundParts, AreSoundProductParts}
 use Rattle.staat_input.specs.Kept.{KeepsNamed}
 use Rattle.staat_planning.specs.Planning.{SaysGoodPlan, SaysStuckSet}
 use Rattle.staat_judging.specs.Checking.{SaysValid}
-use Rattle.staat_top.specs.Replies.{Reply, WorkOnWords, IsReply, IsRight, IsDenied, answered}
+use Rattle.staat_deciding.specs.Deciding.{SaysProductPlan, SaysStuckParts}
+use Rattle.staat_top.specs.Replies.{Reply, WorkOnWords, IsReply, HasOneReply, IsRight, IsDenied, answered}
 use Rattle.staat_top.specs.Headline.{IsWithinLimits, KeepsRules, valid_line}
 use Rattle.staat_input.specs.Causes.{Over, ShelfSide, HasCause}
 use Rattle.staat_judging.specs.Causes.{HasCheckCause}
@@ -164,10 +166,20 @@ pub record Planned (request : PlanRequest) (files : Files) (shelf : ShelfSide) (
       IsReply (Some (Check (record { asked = request.asked; certificate = name }))) others
       (answered (answer 0 (valid_line status))))
 
+-- What a call of `decide` says: with status 0 it printed a plan that takes all parts apart, and with status 1 parts that
+-- are stuck. One of the two comes for all sound parts.
+pub record Decided (asked : Asked) (files : Files) (shelf : ShelfSide) (out err : SinkSide) (status : ℕ)
+    : Type 0 where
+  pub apart : status ≡ 0 → TookRight out (SaysProductPlan files asked)
+  pub held : status ≡ 1 → TookRight out (SaysStuckParts files asked)
+  pub answers : (parts : List Part) → AreSoundProductParts files asked parts → NoFault shelf out err →
+      status ≢ 7 → status < 2
+
 -- the headline of this call
 abbrev pub Headlines : Option Request → Files → ShelfSide → (out err : SinkSide) → ℕ → Type 0
 Headlines (Some (Check request)) files shelf out err status = Judged request files shelf out err status
 Headlines (Some (Plan request)) files shelf out err status = Planned request files shelf out err status
+Headlines (Some (Decide asked)) files shelf out err status = Decided asked files shelf out err status
 Headlines asked files shelf out err status = ⊤
 
 -- All that is said of a call, whatever the shelf and the sinks tell and however often they fail.
@@ -180,13 +192,14 @@ pub record Ran (asked : Option Request) (shelf : ShelfSide) (out err : SinkSide)
   pub refuses : 2 ≤ status → status ≢ 6 → RefusesWith asked shelf err status
   pub write_fault : status ≡ 6 → OutFails asked shelf out err ⊎ ErrFails asked shelf out err
   pub usage : asked ≡ None → (status ≡ 2) ⊎ (status ≡ 6) ⊎ (status ≡ 7)
-  -- Over a shelf that tells its files: what `check` and `plan` say is so; statuses 0 to 4 are the reply; the reply
-  -- comes where nothing failed and there was memory; and what status 0 says is so, and what status 1 says.
+  -- Over a shelf that tells its files: what `check`, `plan` and `decide` say is so; statuses 0 to 4 are a reply; the
+  -- reply, where there is one, comes where nothing failed and there was memory; and what status 0 says is so, and what
+  -- status 1 says.
   pub headline : (files : Files) → shelf.old.holds ≡ Some files → Headlines asked files shelf out err status
   pub reply : status ≤ 4 → (files : Files) → shelf.old.holds ≡ Some files →
       Replied asked files out err status
-  pub complete : (files : Files) → shelf.old.holds ≡ Some files → NoFault shelf out err → status ≢ 7 →
-      (reply : Reply) → IsReply asked files reply → Gave reply out err status
+  pub complete : HasOneReply asked → (files : Files) → shelf.old.holds ≡ Some files → NoFault shelf out err →
+      status ≢ 7 → (reply : Reply) → IsReply asked files reply → Gave reply out err status
   pub right : status ≡ 0 → (files : Files) → shelf.old.holds ≡ Some files →
       TookRight out (IsRight asked files)
   pub denied : status ≡ 1 → (files : Files) → shelf.old.holds ≡ Some files →

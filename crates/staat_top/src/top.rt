@@ -13,6 +13,8 @@ use staat_directions::cells::cells;
 use staat_directions::graph::graph;
 use staat_directions::look::look;
 use staat_directions::pair::pair;
+use staat_deciding::blocks::blocks;
+use staat_deciding::decide::decide;
 use staat_edge::{Shelf, Sink};
 use staat_fault::Fault;
 use staat_input::Answer;
@@ -46,6 +48,8 @@ fn work<H: Shelf>(alloc: Global, request: &Request, shelf: &mut H) -> Result<Ans
         Request::Explode(request) => explode(alloc, request, shelf),
         Request::Linear(request) => linear(alloc, request, shelf),
         Request::Local(request) => local(alloc, request, shelf),
+        Request::Decide(asked) => decide(alloc, asked, shelf),
+        Request::Blocks(request) => blocks(alloc, request, shelf),
     }
 }
 
