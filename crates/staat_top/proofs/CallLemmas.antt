@@ -1,6 +1,6 @@
 -- What a call of `check`, `plan` or `decide` says is so.
 use Rattle.std.proofs.Common.{◌≡◌, ◌≢◌, ◌<◌, ◌≤◌, ℕ, zero, suc, List, Option, Some, None, Ok, Err, refl, sym, ap, ◌∙◌, subst, arith}
-use Rattle.std.proofs.Math.Decide.{ℕ_lt_or_ge}
+use Rattle.std.proofs.lemmas.Bool.{cases_lt}
 use Rattle.staat_fault.specs.declared.fault.Fault.{Fault}
 use Rattle.staat_fault.specs.declared.fault.Fault.TheVariants.{ReadFault}
 use Rattle.staat_words.specs.declared.request.Asked.{Asked}
@@ -89,7 +89,7 @@ decided asked files shelf out err status c = record {
   held = λ one.
       let p = c.printed (omega (arith, one)) in
       record { text = p.answer.text; took = p.took; is_so = status_is_denied (Some (Decide asked)) files p.answer p.bounds p.work (sym p.is ∙ one) };
-  answers = λ parts are well memory. elim (ℕ_lt_or_ge status 2) [
+  answers = λ parts are well memory. elim (cases_lt status 2) [
     | inl lt ↦ lt
     | inr ge ↦ let s = c.stops ge well memory in absurd (decide_goes_on asked files parts s.fault are s.work s.lacks)
   ];
