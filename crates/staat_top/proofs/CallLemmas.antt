@@ -18,7 +18,7 @@ use Rattle.staat_top.specs.Headline.{valid_line}
 use Rattle.staat_top.specs.Runs.{SinkSide, Took, HasRequestBounds, NoFault, Gave, Judged, Planned, Decided, Headlines}
 use Rattle.staat_top.proofs.RightLemmas.{status_is_right, status_is_denied}
 use Rattle.staat_top.proofs.HeadlineLemmas.{answered_plan, exactly, is_checked, keeps_rules, valid_reply}
-use Rattle.staat_deciding.proofs.OneAnswer.{decide_goes_on}
+use Rattle.staat_deciding.proofs.GoesOn.{decide_goes_on}
 
 -- the work found an answer, which went out whole with its status, and the numbers of the request are within bounds
 pub record Printed (asked : Option Request) (files : Files) (out : SinkSide) (status : ℕ) : Type 0 where

@@ -34,7 +34,7 @@ use Rattle.staat_input.specs.Counting.{few}
 use Rattle.staat_text.specs.PlanTexts.{plan_text}
 use Rattle.staat_input.specs.Assembling.{AreSoundParts, AreSoundProductParts}
 use Rattle.staat_deciding.specs.Deciding.{SaysProductPlan, SaysStuckParts}
-use Rattle.staat_deciding.proofs.OneAnswer.{decide_answers}
+use Rattle.staat_deciding.proofs.GoesOn.{decide_answers}
 use Rattle.staat_top.specs.Replies.{IsReply, MakesReply, Reply, WorkOn, WorkOnWords, answered}
 use Rattle.staat_planning.specs.Planning.{SaysGoodPlan, SaysStuckSet}
 use Rattle.staat_judging.specs.Checking.{SaysValid, ShowsValid, valid_plan, valid_refusal}

@@ -15,7 +15,8 @@ use Rattle.staat_directions.proofs.OneAnswer.{pair_one, look_one, graph_one, cel
 use Rattle.staat_planning.proofs.OneAnswer.{plan_one, explode_one, drill_one}
 use Rattle.staat_judging.proofs.OneAnswer.{check_one}
 use Rattle.staat_orders.proofs.OneAnswer.{linear_one, local_one}
-use Rattle.staat_deciding.proofs.OneAnswer.{blocks_one, decide_reads}
+use Rattle.staat_deciding.proofs.GoesOn.{decide_reads}
+use Rattle.staat_deciding.proofs.OneAnswer.{blocks_one}
 
 work_one : (request : Request) (files : Files) → HasOneReply (Some request) → FindsOne files (WorkOn request files)
 work_one (Pair request) files own = pair_one request files

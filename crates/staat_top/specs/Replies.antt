@@ -21,7 +21,7 @@ use Rattle.staat_directions.specs.Pairs.{PairWork, NeverMeet, IsNotShown}
 use Rattle.staat_directions.specs.Looking.{LookWork}
 use Rattle.staat_directions.specs.Graphing.{GraphWork}
 use Rattle.staat_deciding.specs.Deciding.{DecideWork, SaysProductPlan, SaysStuckParts}
-use Rattle.staat_deciding.specs.Blocking.{BlocksWork}
+use Rattle.staat_deciding.specs.Blocks.{BlocksWork}
 
 -- what the work on a request finds: a line for each command
 abbrev pub WorkOn : Request → Files → Found Answer → Type 0
