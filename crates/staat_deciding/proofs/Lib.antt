@@ -1,4 +1,5 @@
 pub mod DecidedLemmas
 pub mod BlockingRows
 pub mod OneAnswer
+pub mod GoesOn
 pub mod RightAnswers
