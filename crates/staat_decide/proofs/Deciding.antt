@@ -1,5 +1,5 @@
 -- From sets that leave and their plans to a plan of the whole.
-use Rattle.std.proofs.Common.{◌≡◌, ℕ, ◌+◌, ◌<◌, ◌≤◌, zero, suc, All, List, [], ◌∷◌, ◌++◌, Contains, ap, arith, get_or, length, map, refl, subst, sym, take, zero-add, ◌∙◌}
+use Rattle.std.proofs.Common.{◌≡◌, ℕ, ◌+◌, ◌<◌, zero, suc, List, [], ◌∷◌, ◌++◌, ap, arith, get_or, length, map, refl, subst, sym, take, zero-add, ◌∙◌}
 use Rattle.std.specs.Cmp.{nat_cmp_is}
 use Rattle.std.specs.List.{AllByRecursion, range_with_len}
 use Rattle.std.specs.declared.cmp.Ordering.TheVariants.{Less}
@@ -14,8 +14,8 @@ use Rattle.staat_model.specs.declared.set.PartSet.{PartSet}
 use Rattle.staat_model.specs.declared.tree.Tree.{Tree}
 use Rattle.staat_model.specs.Leaving.{AreGoodPlans, in_turn}
 use Rattle.staat_model.specs.Plans.{IsGood, Plan, leaf, plan_of}
-use Rattle.staat_model.specs.SetLists.{set_of, union_of}
-use Rattle.staat_model.specs.Sets.{Has, below}
+use Rattle.staat_model.specs.SetLists.{set_of}
+use Rattle.staat_model.specs.Sets.{below}
 use Rattle.staat_model.proofs.LeavingLemmas.{plans_in_turn_lemma}
 use Rattle.staat_model.proofs.SetBits.{has-below}
 use Rattle.staat_model.proofs.SetListings.{has-set_of}

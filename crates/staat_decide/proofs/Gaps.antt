@@ -1,24 +1,19 @@
 -- Where by all pairs of pieces some node does not reach some other one, a side is free.
-use Rattle.std.proofs.Common.{◌≡◌, ◌≢◌, ◌⊎◌, ◌↔◌, ℕ, zero, suc, ◌+◌, ◌<◌, ◌≤◌, ⊎_elim, inl, inr, All, List, [], ◌∷◌, Contains, arith, get_or, length, refl, subst, sym, ◌∙◌}
+use Rattle.std.proofs.Common.{◌≡◌, ◌≢◌, ◌⊎◌, ◌↔◌, ℕ, zero, suc, ◌<◌, ⊎_elim, inl, inr, List, arith, get_or, length, refl, subst, sym, ◌∙◌}
 use Rattle.std.specs.FinSet as set
 use Rattle.std.specs.List.Sorted.{IsStrictlySortedBy}
 use Rattle.std.specs.Ordering.{nat_cmp}
-use Rattle.std.specs.Prelude.{Option, Some, slice_get}
-use Rattle.std.proofs.lemmas.Bool.{cases_lt}
 use Rattle.std.proofs.lemmas.Grind.{get_or_default_zero}
 use Rattle.staat_vec.specs.declared.vector.V3.{V3}
 use Rattle.staat_vec.specs.Vectors.{origin}
-use Rattle.staat_vec.proofs.Unique.{IsFirst-in}
 use Rattle.staat_model.specs.declared.assembly.Part.{Part}
 use Rattle.staat_model.specs.declared.certificate.Arc.{Arc}
 use Rattle.staat_model.specs.declared.set.PartSet.{PartSet}
-use Rattle.staat_model.specs.Planes.{vertices}
 use Rattle.staat_model.specs.Removal.{Blocks, IsFree, MeetsAlong}
 use Rattle.staat_model.specs.SetLists.{set_of}
 use Rattle.staat_model.specs.Sets.{Has, IsSide}
 use Rattle.staat_model.proofs.SetListings.{has-set_of}
 use Rattle.staat_model.proofs.SetMembers.{has-difference, has-empty, has-insert}
-use Rattle.staat_holds.specs.Holds.{IsFirstGap, LeadsBetween}
 use Rattle.staat_holds.specs.Reaching.{AllReach, Reaches, here, along}
 use Rattle.staat_decide.specs.Peelings.{IsHeldAlong}
 use Rattle.staat_decide.proofs.Rows.{distinct}

@@ -1,29 +1,21 @@
 -- Parts that pairs hold together, each of them a node by itself.
-use Rattle.std.proofs.Common.{◌≡◌, ◌≢◌, ◌↔◌, ℕ, ◌<◌, ◌≤◌, All, List, Contains, arith, get_or, length, sym, subst, zero-add, ap, ◌∙◌}
+use Rattle.std.proofs.Common.{◌≡◌, ◌↔◌, ℕ, ◌<◌, ◌≤◌, All, List, Contains, arith, get_or, length, sym, subst, zero-add, ap, ◌∙◌}
 use Rattle.std.specs.List.Sorted.{IsStrictlySortedBy}
 use Rattle.std.specs.Ordering.{nat_cmp}
 use Rattle.std.specs.Prelude.{Option, Some, slice_get}
 use Rattle.std.proofs.lemmas.List.Elements.{All-contains}
 use Rattle.std.proofs.lemmas.List.FromFn.{get_or-range_with_len, length-range_with_len}
 use Rattle.std.proofs.lemmas.Option.{get_or_from_slice_get, slice_get-get_or}
-use Rattle.staat_vec.specs.declared.vector.V3.{V3}
-use Rattle.staat_vec.specs.Vectors.{origin}
-use Rattle.staat_vec.proofs.Unique.{IsFirst-in}
 use Rattle.staat_model.specs.declared.assembly.Part.{Part}
 use Rattle.staat_model.specs.declared.certificate.Arc.{Arc}
 use Rattle.staat_model.specs.Assemblies.{IsPart}
-use Rattle.staat_model.specs.Planes.{vertices}
-use Rattle.staat_model.specs.Plans.{IsStuck}
-use Rattle.staat_model.specs.Removal.{Blocks}
 use Rattle.staat_model.specs.SetLists.{set_of}
 use Rattle.staat_model.specs.Sets.{Has}
 use Rattle.staat_model.proofs.Places.{place_within}
 use Rattle.staat_model.proofs.Members.{All-from_members}
 use Rattle.staat_model.proofs.SetListings.{has-set_of}
-use Rattle.staat_holds.specs.declared.hold.Hold.{Hold}
 use Rattle.staat_holds.specs.Chains.{IsName, IsOfOne, KeepsHoldRules, own_names, place_of, places_of}
-use Rattle.staat_holds.specs.Holds.{IsCorePair, IsFirstGap, IsOfNode, JoinsNodes, LeadsBetween}
-use Rattle.staat_holds.specs.Reaching.{AllReach}
+use Rattle.staat_holds.specs.Holds.{IsCorePair, IsOfNode, JoinsNodes}
 use Rattle.staat_holds.proofs.ChainLaw.{own_nodes, union_stuck}
 use Rattle.staat_holds.proofs.NodeNames.{map_at, of_place, place_to}
 use Rattle.staat_decide.specs.Decided.{IsStuckHold}

@@ -1,10 +1,10 @@
 -- Plans of sets that leave one after the other, joined from the last one on.
-use Rattle.std.proofs.Common.{◌≡◌, ℕ, ◌+◌, ◌<◌, List, [], ◌∷◌, ◌++◌, ap, arith, get_or, length, map, refl, sym, subst, ◌∙◌, take, zero, suc}
+use Rattle.std.proofs.Common.{◌≡◌, List, [], ◌∷◌, ◌++◌, ap, refl, sym, subst, ◌∙◌}
 use Rattle.staat_vec.specs.declared.vector.V3.{V3}
 use Rattle.staat_model.specs.declared.assembly.Part.{Part}
 use Rattle.staat_model.specs.declared.set.PartSet.{PartSet}
 use Rattle.staat_model.specs.Leaving.{AreGoodPlans, in_turn}
-use Rattle.staat_model.specs.Plans.{IsGood, Plan, leaf, split}
+use Rattle.staat_model.specs.Plans.{IsGood, Plan, split}
 
 same_behind : (d : V3) (p : Plan) (xs : List Plan) (m r : Plan)
     → in_turn d p ((xs ++ m ∷ []) ++ r ∷ []) ≡ in_turn d p (xs ++ split d m r ∷ [])

@@ -1,8 +1,10 @@
 // Which parts of a set block which along a direction.
-ghost use Rattle.std.specs.Prelude.{◌≡◌, ◌<◌, All, IfOk, length};
+ghost use Rattle.std.specs.Prelude.{◌≡◌, ◌<◌, ◌≤◌, All, IfOk, length};
 ghost use Rattle.staat_motion.specs.Motions.{IsMotionOf};
 ghost use Rattle.staat_decide.specs.Arcs.{AreBlockingRows, IsRow};
+ghost use Rattle.staat_decide.specs.Keeping.{AreKept};
 
+use crate::table::{Table, blocks_with, table_for};
 use staat_cone::FacetSource;
 use staat_model::Part;
 use staat_motion::Along;
@@ -14,6 +16,7 @@ pub type Row = Listed<bool>;
 
 // which parts of w the part a blocks
 fn row_of<F: FacetSource>(
+    table: &mut Table,
     alloc: Global,
     source: &F,
     parts: &[Part],
@@ -24,14 +27,43 @@ fn row_of<F: FacetSource>(
     requires made { IsMotionOf parts.now along.now }
     requires members { All (λ p. p < length parts.now) w.now }
     requires a_in { a < length parts.now }
-    ensures { IfOk result (IsRow parts.now along.now.d w.now a) }
+    requires some { 1 ≤ length table.old.items }
+    requires kept { AreKept parts.now table.old.items }
+    ensures some { length table.new.items ≡ length table.old.items }
+    ensures kept { AreKept parts.now table.new.items }
+    ensures row { IfOk result (IsRow parts.now along.now.d w.now a) }
 {
     let mut row = Vec::new(alloc);
     for b in w {
-        let answer = along.blocks(alloc, source, parts, a, *b)?;
+        let answer = blocks_with(table, alloc, source, parts, along, a, *b)?;
         row.push(answer)?;
     }
     Ok(Row::from_vec(row))
+}
+
+/// The same as [`rows_of`], with facets that are kept.
+pub fn rows_with<F: FacetSource>(
+    table: &mut Table,
+    alloc: Global,
+    source: &F,
+    parts: &[Part],
+    along: &Along,
+    w: &[u32],
+) -> Result<Vec<Row>, OutOfMemory>
+    requires made { IsMotionOf parts.now along.now }
+    requires members { All (λ p. p < length parts.now) w.now }
+    requires some { 1 ≤ length table.old.items }
+    requires kept { AreKept parts.now table.old.items }
+    ensures some { length table.new.items ≡ length table.old.items }
+    ensures kept { AreKept parts.now table.new.items }
+    ensures rows { IfOk result (λ rows. AreBlockingRows parts.now along.now.d w.now rows.items) }
+{
+    let mut rows = Vec::new(alloc);
+    for a in w {
+        let row = row_of(table, alloc, source, parts, along, w, *a)?;
+        rows.push(row)?;
+    }
+    Ok(rows)
 }
 
 /// For each part of `w`, in order, which parts of `w` it blocks: each two are asked about once.
@@ -46,10 +78,7 @@ pub fn rows_of<F: FacetSource>(
     requires members { All (λ p. p < length parts.now) w.now }
     ensures { IfOk result (λ rows. AreBlockingRows parts.now along.now.d w.now rows.items) }
 {
-    let mut rows = Vec::new(alloc);
-    for a in w {
-        let row = row_of(alloc, source, parts, along, w, *a)?;
-        rows.push(row)?;
-    }
+    let mut table = table_for(alloc, parts)?;
+    let rows = rows_with(&mut table, alloc, source, parts, along, w)?;
     Ok(rows)
 }

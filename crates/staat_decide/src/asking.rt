@@ -1,12 +1,14 @@
 // The likely directions, and what is asked along them.
-ghost use Rattle.std.specs.Prelude.{◌≡◌, All, IfOk, OnOk, length};
+ghost use Rattle.std.specs.Prelude.{◌≡◌, ◌≤◌, All, IfOk, OnOk, length};
 ghost use Rattle.std.specs.List.{range_with_len};
 ghost use Rattle.staat_motion.specs.Motions.{AreBodies};
 ghost use Rattle.staat_decide.specs.Asking.{AreAskedRows};
+ghost use Rattle.staat_decide.specs.Keeping.{AreKept};
 
-use crate::guesses::likely_directions;
+use crate::directions::likely_directions;
 use crate::likely::{Asked, asked_along, is_direction, takes_all_apart};
-use crate::ties::{X_AXIS, Y_AXIS, Z_AXIS};
+use crate::planes::{X_AXIS, Y_AXIS, Z_AXIS};
+use crate::table::{Table, table_for};
 use staat_cone::FacetSource;
 use staat_model::Part;
 use staat_motion::Bodies;
@@ -21,6 +23,7 @@ fn was_asked(asked: &[Asked], d: V3) -> bool {
 // asks along a direction, if it is one and was not asked along before, and says whether it takes all parts apart
 fn ask_one<F: FacetSource>(
     asked: &mut Vec<Asked>,
+    table: &mut Table,
     alloc: Global,
     source: &F,
     parts: &[Part],
@@ -31,12 +34,16 @@ fn ask_one<F: FacetSource>(
     requires bodies { AreBodies parts.now bodies.now }
     requires all { all.now ≡ range_with_len 0 (length parts.now) }
     requires asked { All (AreAskedRows parts.now) asked.old.items }
-    ensures { OnOk result (All (AreAskedRows parts.now) asked.new.items) }
+    requires some { 1 ≤ length table.old.items }
+    requires kept { AreKept parts.now table.old.items }
+    ensures some { length table.new.items ≡ length table.old.items }
+    ensures kept { AreKept parts.now table.new.items }
+    ensures asked { OnOk result (All (AreAskedRows parts.now) asked.new.items) }
 {
     if !is_direction(d) || was_asked(asked.as_slice(), d) {
         return Ok(false);
     }
-    let one = asked_along(alloc, source, parts, bodies, all, d)?;
+    let one = asked_along(table, alloc, source, parts, bodies, all, d)?;
     let is_done = takes_all_apart(alloc, parts, &one, all)?;
     asked.push(one)?;
     Ok(is_done)
@@ -45,6 +52,7 @@ fn ask_one<F: FacetSource>(
 // asks along the directions one after the other, until one takes all parts apart
 fn ask_along<F: FacetSource>(
     asked: &mut Vec<Asked>,
+    table: &mut Table,
     alloc: Global,
     source: &F,
     parts: &[Part],
@@ -55,10 +63,14 @@ fn ask_along<F: FacetSource>(
     requires bodies { AreBodies parts.now bodies.now }
     requires all { all.now ≡ range_with_len 0 (length parts.now) }
     requires asked { All (AreAskedRows parts.now) asked.old.items }
-    ensures { OnOk result (All (AreAskedRows parts.now) asked.new.items) }
+    requires some { 1 ≤ length table.old.items }
+    requires kept { AreKept parts.now table.old.items }
+    ensures some { length table.new.items ≡ length table.old.items }
+    ensures kept { AreKept parts.now table.new.items }
+    ensures asked { OnOk result (All (AreAskedRows parts.now) asked.new.items) }
 {
     for d in directions {
-        if ask_one(asked, alloc, source, parts, bodies, all, *d)? {
+        if ask_one(asked, table, alloc, source, parts, bodies, all, *d)? {
             return Ok(true);
         }
     }
@@ -78,13 +90,17 @@ pub fn asked_of<F: FacetSource>(
     ensures { IfOk result (λ asked. All (AreAskedRows parts.now) asked.items) }
 {
     let mut asked = Vec::new(alloc);
+    let mut table = table_for(alloc, parts)?;
     let axes = [Z_AXIS, Y_AXIS, X_AXIS];
-    if ask_along(&mut asked, alloc, source, parts, bodies, all, &axes)? {
+    if ask_along(
+        &mut asked, &mut table, alloc, source, parts, bodies, all, &axes,
+    )? {
         return Ok(asked);
     }
     let more = likely_directions(alloc, source, parts, all)?;
     ask_along(
         &mut asked,
+        &mut table,
         alloc,
         source,
         parts,

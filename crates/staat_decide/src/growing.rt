@@ -2,34 +2,54 @@
 // arcs do not lead everywhere, arcs of the whole graph are added, first those between pieces that look large from each
 // other. So a direction is met along which the set comes apart, or a core that should hold it, which is judged later.
 ghost use Rattle.std.specs.Prelude.{◌≡◌, ◌≢◌, ◌<◌, ◌↔◌, All, IsTrue, length};
+ghost use Rattle.staat_vec.specs.declared.vector.TheConstants.{DIRECTION};
 ghost use Rattle.staat_vec.specs.Vectors.{IsWithin, origin};
 ghost use Rattle.staat_model.specs.Assemblies.{piece_count};
 ghost use Rattle.staat_motion.specs.Motions.{AreBodies, HasBothPieces, IsMotionOf};
 
+use crate::planes::{
+    Facets, Normal, X_AXIS, Y_AXIS, Z_AXIS, add_plane, add_planes, crossing, facets_of, is_ahead,
+};
 use crate::reach::Way;
-use crate::spots::{Spot, smallness, spots_of};
-use crate::ties::{Lead, Ties};
+use crate::spots::{Pair, Spot, pairs_of, spots_of};
+use crate::spreading::{Lead, are_all, is_marked, mark_first, no_marks, spread_all};
 use staat_cone::FacetSource;
 use staat_model::{Arc, Part};
 use staat_motion::{Along, Bodies};
-use staat_vec::{DIRECTION, ORIGIN, OutOfMemory, V3, primitive};
+use staat_vec::{DIRECTION, ORIGIN, OutOfMemory, V3, neg, primitive};
 use std::alloc::Global;
 
-/// What a guess ends with: a direction along which the set should come apart, pairs of pieces that should hold it, or
-/// nothing within the budget.
+/// How many vertices are gone through, as a rule, until a set counts as large.
+pub const BOUND: usize = 3000;
+
+/// What growing ends with: a direction along which the set should come apart, or pairs of pieces that should hold it; or
+/// the set is too large for the bound.
 #[derive(Drop)]
-pub enum Guess {
+pub enum Growth {
     Free(V3),
     Core(Vec<Arc>),
-    None,
+    Large,
 }
 
-// Two spots by their numbers, in the order of how large they look from each other.
+// What is known of a set of parts: its spots, and pairs of them, those first that look large from each other; the
+// facets of those that were asked for; the places of the pairs in the core, and the planes of the core. Leads and marks
+// are those of one direction.
+#[derive(Drop)]
+struct Search {
+    spots: Vec<Spot>,
+    pairs: Vec<Pair>,
+    facets: Vec<Option<Facets>>,
+    core: Vec<usize>,
+    planes: Vec<Normal>,
+    leads: Vec<Lead>,
+    marks: Vec<bool>,
+}
+
+// A pair by its place, and whether it is the second piece that meets the first.
 #[derive(Clone, Copy)]
-struct Pair {
-    smallness: u128,
-    near: usize,
-    far: usize,
+struct Met {
+    k: usize,
+    is_turned: bool,
 }
 
 // whether the part has the piece
@@ -50,23 +70,6 @@ fn has_pieces(parts: &[Part], pair: Arc) -> bool
     has_piece(parts, pair.a, pair.i) && has_piece(parts, pair.b, pair.j)
 }
 
-// whether the first piece meets the second, if they exist
-fn meets_there<F: FacetSource>(
-    alloc: Global,
-    source: &F,
-    parts: &[Part],
-    along: &Along,
-    pair: Arc,
-) -> Result<bool, OutOfMemory>
-    requires { IsMotionOf parts.now along.now }
-{
-    if !has_pieces(parts, pair) {
-        return Ok(false);
-    }
-    let answer = along.meets(alloc, source, parts, pair)?;
-    Ok(answer)
-}
-
 // whether boxes and spans leave it open that the first piece meets the second
 fn may_meet(parts: &[Part], along: &Along, pair: Arc) -> bool
     requires { IsMotionOf parts.now along.now }
@@ -77,215 +80,241 @@ fn may_meet(parts: &[Part], along: &Along, pair: Arc) -> bool
     !along.apart(pair)
 }
 
-// the arc from the one spot to the other, on the way
-fn arc_of(way: Way, near: &Spot, far: &Spot) -> Arc {
-    match way {
-        Way::Ahead => Arc {
-            a: near.part,
-            i: near.piece,
-            b: far.part,
-            j: far.piece,
-        },
-        Way::Back => Arc {
-            a: far.part,
-            i: far.piece,
-            b: near.part,
-            j: near.piece,
-        },
+// the pair at the place k
+fn pair_at(search: &Search, k: usize) -> Option<Pair> {
+    if k >= search.pairs.len() {
+        return None;
     }
+    Some(search.pairs[k])
 }
 
-// the same for their places
-fn lead_of(way: Way, near: &Spot, far: &Spot) -> Lead {
-    match way {
-        Way::Ahead => Lead {
-            from: near.place,
-            to: far.place,
-        },
-        Way::Back => Lead {
-            from: far.place,
-            to: near.place,
-        },
+// the arc from the one piece of a pair to the other, or back
+fn arc_of(search: &Search, pair: &Pair, is_turned: bool) -> Option<Arc> {
+    if pair.a >= search.spots.len() || pair.b >= search.spots.len() {
+        return None;
     }
+    let (p, q) = if is_turned {
+        (pair.b, pair.a)
+    } else {
+        (pair.a, pair.b)
+    };
+    let first = &search.spots[p];
+    let second = &search.spots[q];
+    Some(Arc {
+        a: first.part,
+        i: first.piece,
+        b: second.part,
+        j: second.piece,
+    })
 }
 
-fn is_marked(marks: &[bool], i: usize) -> bool {
-    i < marks.len() && marks[i]
-}
-
-// marks a place, and says whether it was not marked before
-fn mark(marks: &mut Vec<bool>, i: usize) -> bool {
-    if i < marks.len() && !marks[i] {
-        marks[i] = true;
-        return true;
-    }
-    false
-}
-
-fn are_all(marks: &[bool]) -> bool {
-    marks.iter().all(|m| *m)
-}
-
-// marks for so many places, of which the first alone is marked
-fn first_alone(alloc: Global, count: usize) -> Result<Vec<bool>, OutOfMemory> {
-    let mut marks = Vec::new(alloc);
-    for k in 0..count {
-        marks.push(k == 0)?;
-    }
-    Ok(marks)
-}
-
-// marks what arcs lead to from marked places, and says whether that was anything
-fn spread(leads: &[Lead], way: Way, marks: &mut Vec<bool>) -> bool {
-    let mut more = false;
-    for lead in leads {
-        let (from, to) = match way {
-            Way::Ahead => (lead.from, lead.to),
-            Way::Back => (lead.to, lead.from),
-        };
-        if is_marked(marks.as_slice(), from) && mark(marks, to) {
-            more = true;
+// the same for the places of their parts
+fn lead_of(pair: &Pair, is_turned: bool) -> Lead {
+    if is_turned {
+        Lead {
+            from: pair.to,
+            to: pair.from,
         }
-    }
-    more
-}
-
-fn spread_all(leads: &[Lead], way: Way, marks: &mut Vec<bool>) {
-    for _ in 0..leads.len() {
-        if !spread(leads, way, marks) {
-            return;
+    } else {
+        Lead {
+            from: pair.from,
+            to: pair.to,
         }
     }
 }
 
-// adds pairs of a marked spot and others
-fn add_pairs(
-    pairs: &mut Vec<Pair>,
+// sees that the facets of the pair at the place k are known
+fn ask_facets<F: FacetSource>(
+    search: &mut Search,
+    alloc: Global,
+    source: &F,
     parts: &[Part],
-    along: &Along,
-    spots: &[Spot],
-    marks: &[bool],
-    way: Way,
-    near: usize,
-) -> Result<(), OutOfMemory>
-    requires made { IsMotionOf parts.now along.now }
-    requires near { near < length spots.now }
-{
-    let spot = spots[near];
-    for (far, other) in spots.iter().enumerate() {
-        if !is_marked(marks, other.place) && may_meet(parts, along, arc_of(way, &spot, other)) {
-            let smallness = smallness(&spot, other);
-            pairs.push(Pair {
-                smallness,
-                near,
-                far,
-            })?;
-        }
+    k: usize,
+) -> Result<(), OutOfMemory> {
+    let Some(pair) = pair_at(search, k) else {
+        return Ok(());
+    };
+    if k >= search.facets.len() || search.facets[k].is_some() {
+        return Ok(());
+    }
+    if pair.a >= search.spots.len() || pair.b >= search.spots.len() {
+        return Ok(());
+    }
+    let found = facets_of(
+        alloc,
+        source,
+        parts,
+        &search.spots[pair.a],
+        &search.spots[pair.b],
+    )?;
+    if k < search.facets.len() {
+        search.facets[k] = found;
     }
     Ok(())
 }
 
-// pairs of a marked spot and one that is not, those first that look largest from each other
-fn pairs_across(
-    alloc: Global,
-    parts: &[Part],
-    along: &Along,
-    spots: &[Spot],
-    marks: &[bool],
-    way: Way,
-) -> Result<Vec<Pair>, OutOfMemory>
-    requires { IsMotionOf parts.now along.now }
+// whether d leads ahead of all facets of the pair at the place k, which are known
+fn leads_along(search: &Search, k: usize, d: V3) -> bool
+    requires { IsWithin DIRECTION d }
 {
-    let mut pairs = Vec::new(alloc);
-    for near in 0..spots.len() {
-        if is_marked(marks, spots[near].place) {
-            add_pairs(&mut pairs, parts, along, spots, marks, way, near)?;
-        }
+    if k >= search.facets.len() {
+        return false;
     }
-    pairs.sort_unstable_by_key(|pair| pair.smallness);
-    Ok(pairs)
+    match &search.facets[k] {
+        None => false,
+        Some(facets) => is_ahead(facets, d),
+    }
 }
 
-// the first pair of which the one piece meets the other
-fn first_met<F: FacetSource>(
+// whether of the pair at the place k the one piece meets the other
+fn meets_there<F: FacetSource>(
+    search: &mut Search,
     alloc: Global,
     source: &F,
     parts: &[Part],
     along: &Along,
-    spots: &[Spot],
-    pairs: &[Pair],
-    way: Way,
-) -> Result<Option<Pair>, OutOfMemory>
+    met: Met,
+) -> Result<bool, OutOfMemory>
     requires { IsMotionOf parts.now along.now }
 {
-    for pair in pairs {
-        if pair.near < spots.len() && pair.far < spots.len() {
-            let arc = arc_of(way, &spots[pair.near], &spots[pair.far]);
-            if meets_there(alloc, source, parts, along, arc)? {
-                return Ok(Some(*pair));
+    let Some(pair) = pair_at(search, met.k) else {
+        return Ok(false);
+    };
+    let Some(arc) = arc_of(search, &pair, met.is_turned) else {
+        return Ok(false);
+    };
+    if !may_meet(parts, along, arc) {
+        return Ok(false);
+    }
+    ask_facets(search, alloc, source, parts, met.k)?;
+    let d = along.direction();
+    if met.is_turned {
+        return Ok(leads_along(search, met.k, neg(d)));
+    }
+    Ok(leads_along(search, met.k, d))
+}
+
+// the arc that a pair may have on the way from a marked place to one that is not
+fn across(search: &Search, way: Way, k: usize) -> Option<Met> {
+    let Some(pair) = pair_at(search, k) else {
+        return None;
+    };
+    let is_first = is_marked(search.marks.as_slice(), pair.from);
+    let is_second = is_marked(search.marks.as_slice(), pair.to);
+    if is_first == is_second {
+        return None;
+    }
+    let is_turned = match way {
+        Way::Ahead => is_second,
+        Way::Back => is_first,
+    };
+    Some(Met { k, is_turned })
+}
+
+// the first pair across of which the one piece meets the other
+fn first_met<F: FacetSource>(
+    search: &mut Search,
+    alloc: Global,
+    source: &F,
+    parts: &[Part],
+    along: &Along,
+    way: Way,
+) -> Result<Option<Met>, OutOfMemory>
+    requires { IsMotionOf parts.now along.now }
+{
+    for k in 0..search.pairs.len() {
+        if let Some(met) = across(search, way, k) {
+            if meets_there(search, alloc, source, parts, along, met)? {
+                return Ok(Some(met));
             }
         }
     }
     Ok(None)
 }
 
+// adds the pair at the place k to the core, with its planes
+fn choose(search: &mut Search, k: usize) -> Result<(), OutOfMemory> {
+    search.core.push(k)?;
+    if k < search.facets.len() {
+        if let Some(facets) = &search.facets[k] {
+            add_planes(&mut search.planes, facets)?;
+        }
+    }
+    Ok(())
+}
+
 // adds pairs to the core until all places are reached on the way along the direction, and says whether they are
 fn grow_on<F: FacetSource>(
+    search: &mut Search,
     alloc: Global,
     source: &F,
     parts: &[Part],
     along: &Along,
-    spots: &[Spot],
-    count: usize,
-    ties: &mut Ties,
     way: Way,
 ) -> Result<bool, OutOfMemory>
     requires { IsMotionOf parts.now along.now }
 {
-    let mut leads = ties.leads_at(alloc, along.direction())?;
-    let mut marks = first_alone(alloc, count)?;
-    for _ in 0..count {
-        spread_all(leads.as_slice(), way, &mut marks);
-        if are_all(marks.as_slice()) {
+    mark_first(&mut search.marks);
+    for _ in 0..search.marks.len() {
+        spread_all(search.leads.as_slice(), way, &mut search.marks);
+        if are_all(search.marks.as_slice()) {
             return Ok(true);
         }
-        let pairs = pairs_across(alloc, parts, along, spots, marks.as_slice(), way)?;
-        let Some(pair) = first_met(alloc, source, parts, along, spots, pairs.as_slice(), way)?
-        else {
+        let Some(met) = first_met(search, alloc, source, parts, along, way)? else {
             return Ok(false);
         };
-        if pair.near < spots.len() && pair.far < spots.len() {
-            let near = &spots[pair.near];
-            let far = &spots[pair.far];
-            let lead = lead_of(way, near, far);
-            ties.add(alloc, source, parts, arc_of(way, near, far), lead)?;
-            leads.push(lead)?;
+        if let Some(pair) = pair_at(search, met.k) {
+            choose(search, met.k)?;
+            search.leads.push(lead_of(&pair, met.is_turned))?;
         }
     }
-    spread_all(leads.as_slice(), way, &mut marks);
-    Ok(are_all(marks.as_slice()))
+    spread_all(search.leads.as_slice(), way, &mut search.marks);
+    Ok(are_all(search.marks.as_slice()))
 }
 
-// whether each place is reached from the first on the way along the core's arcs
-fn reaches(alloc: Global, leads: &[Lead], count: usize, way: Way) -> Result<bool, OutOfMemory> {
-    let mut marks = first_alone(alloc, count)?;
-    spread_all(leads, way, &mut marks);
-    Ok(are_all(marks.as_slice()))
+// adds the arc that the pair at the place k has at d, if it has one
+fn add_lead(search: &mut Search, k: usize, d: V3) -> Result<(), OutOfMemory>
+    requires { IsWithin DIRECTION d }
+{
+    let Some(pair) = pair_at(search, k) else {
+        return Ok(());
+    };
+    if leads_along(search, k, d) {
+        search.leads.push(lead_of(&pair, false))?;
+    } else if leads_along(search, k, neg(d)) {
+        search.leads.push(lead_of(&pair, true))?;
+    }
+    Ok(())
 }
 
-fn is_strong(alloc: Global, leads: &[Lead], count: usize) -> Result<bool, OutOfMemory> {
-    Ok(reaches(alloc, leads, count, Way::Ahead)? && reaches(alloc, leads, count, Way::Back)?)
+// the arcs of the core at d
+fn set_leads(search: &mut Search, d: V3) -> Result<(), OutOfMemory>
+    requires { IsWithin DIRECTION d }
+{
+    search.leads.clear();
+    for n in 0..search.core.len() {
+        if n < search.core.len() {
+            let k = search.core[n];
+            add_lead(search, k, d)?;
+        }
+    }
+    Ok(())
+}
+
+// whether each place is reached from the first on the way along the leads
+fn reaches(search: &mut Search, way: Way) -> bool {
+    mark_first(&mut search.marks);
+    spread_all(search.leads.as_slice(), way, &mut search.marks);
+    are_all(search.marks.as_slice())
 }
 
 // lets the core grow where two of its planes cross, and gives the direction there if the set comes apart along it
 fn free_at<F: FacetSource>(
+    search: &mut Search,
     alloc: Global,
     source: &F,
     parts: &[Part],
     bodies: &Bodies,
-    spots: &[Spot],
-    count: usize,
-    ties: &mut Ties,
     crossing: V3,
 ) -> Result<Option<V3>, OutOfMemory>
     requires bodies { AreBodies parts.now bodies.now }
@@ -294,14 +323,14 @@ fn free_at<F: FacetSource>(
     if crossing == ORIGIN {
         return Ok(None);
     }
-    let leads = ties.leads_at(alloc, crossing)?;
-    if is_strong(alloc, leads.as_slice(), count)? {
+    set_leads(search, crossing)?;
+    if reaches(search, Way::Ahead) && reaches(search, Way::Back) {
         return Ok(None);
     }
     let d = primitive(crossing);
     let along = Along::of(alloc, parts, bodies, d)?;
-    if grow_on(alloc, source, parts, &along, spots, count, ties, Way::Ahead)?
-        && grow_on(alloc, source, parts, &along, spots, count, ties, Way::Back)?
+    if grow_on(search, alloc, source, parts, &along, Way::Ahead)?
+        && grow_on(search, alloc, source, parts, &along, Way::Back)?
     {
         return Ok(None);
     }
@@ -310,62 +339,84 @@ fn free_at<F: FacetSource>(
 
 // the first direction along which the set comes apart where the plane j crosses an earlier one
 fn free_on<F: FacetSource>(
+    search: &mut Search,
     alloc: Global,
     source: &F,
     parts: &[Part],
     bodies: &Bodies,
-    spots: &[Spot],
-    count: usize,
-    ties: &mut Ties,
     j: usize,
 ) -> Result<Option<V3>, OutOfMemory>
     requires { AreBodies parts.now bodies.now }
 {
     for i in 0..j {
-        let crossing = ties.crossing(i, j);
-        let free = free_at(alloc, source, parts, bodies, spots, count, ties, crossing)?;
-        if let Some(d) = free {
-            return Ok(Some(d));
+        let d = crossing(search.planes.as_slice(), i, j);
+        if let Some(free) = free_at(search, alloc, source, parts, bodies, d)? {
+            return Ok(Some(free));
         }
     }
     Ok(None)
 }
 
-/// A guess at how the set of parts `w` goes on, by at most about so many vertices as the budget.
-pub fn guess_of<F: FacetSource>(
+// no core yet
+fn search_of(alloc: Global, parts: &[Part], w: &[u32]) -> Result<Search, OutOfMemory> {
+    let spots = spots_of(alloc, parts, w)?;
+    let pairs = pairs_of(alloc, spots.as_slice())?;
+    let mut facets = Vec::new(alloc);
+    for _ in 0..pairs.len() {
+        facets.push(None)?;
+    }
+    let mut planes = Vec::new(alloc);
+    for axis in [Z_AXIS, Y_AXIS, X_AXIS] {
+        add_plane(&mut planes, axis)?;
+    }
+    Ok(Search {
+        spots,
+        pairs,
+        facets,
+        core: Vec::new(alloc),
+        planes,
+        leads: Vec::new(alloc),
+        marks: no_marks(alloc, w.len())?,
+    })
+}
+
+// the pairs of the core
+fn core_of(alloc: Global, search: &Search) -> Result<Vec<Arc>, OutOfMemory> {
+    let mut core = Vec::new(alloc);
+    for k in search.core.as_slice() {
+        if let Some(pair) = pair_at(search, *k) {
+            if let Some(arc) = arc_of(search, &pair, false) {
+                core.push(arc)?;
+            }
+        }
+    }
+    Ok(core)
+}
+
+/// Lets a core of the set of parts `w` grow, by at most about so many vertices as the bound.
+pub fn grown<F: FacetSource>(
     alloc: Global,
     source: &F,
     parts: &[Part],
     bodies: &Bodies,
     w: &[u32],
-    budget: usize,
-) -> Result<Guess, OutOfMemory>
+    bound: usize,
+) -> Result<Growth, OutOfMemory>
     requires { AreBodies parts.now bodies.now }
 {
-    let spots = spots_of(alloc, parts, w)?;
-    let mut ties = Ties::none(alloc)?;
+    let mut search = search_of(alloc, parts, w)?;
     let mut used = 0usize;
     for j in 1..usize::MAX {
-        if j >= ties.planes.len() {
-            return Ok(Guess::Core(ties.pairs));
+        if j >= search.planes.len() {
+            return Ok(Growth::Core(core_of(alloc, &search)?));
         }
         used = used.saturating_add(j);
-        if used > budget {
-            return Ok(Guess::None);
+        if used > bound {
+            return Ok(Growth::Large);
         }
-        let free = free_on(
-            alloc,
-            source,
-            parts,
-            bodies,
-            spots.as_slice(),
-            w.len(),
-            &mut ties,
-            j,
-        )?;
-        if let Some(d) = free {
-            return Ok(Guess::Free(d));
+        if let Some(d) = free_on(&mut search, alloc, source, parts, bodies, j)? {
+            return Ok(Growth::Free(d));
         }
     }
-    Ok(Guess::None)
+    Ok(Growth::Large)
 }

@@ -7,6 +7,7 @@ ghost use Rattle.staat_holds.specs.Chains.{own_names, places_of};
 ghost use Rattle.staat_holds.specs.Holds.{IsCorePair};
 ghost use Rattle.staat_decide.specs.Decided.{IsStuckHold};
 
+use crate::order::all_below;
 use crate::sets::PartList;
 use staat_cone::FacetSource;
 use staat_holds::{Hold, is_core_pair, judge_hold, own_names, places_of};
@@ -43,6 +44,28 @@ pub fn copied(alloc: Global, w: &[u32]) -> Result<PartList, OutOfMemory>
     let mut copy = Vec::new(alloc);
     copy.extend_from_slice(w)?;
     Ok(PartList::from_vec(copy))
+}
+
+// whether the numbers ascend
+fn is_ascending(w: &[u32]) -> bool
+    ensures { IsTrue result ↔ IsStrictlySortedBy nat_cmp w.now }
+{
+    for k in 1..w.len() {
+        if w[k - 1] >= w[k] {
+            return false;
+        }
+    }
+    true
+}
+
+/// Whether these are at least two numbers below the count, ascending, and no more than the count.
+pub fn is_part_set(w: &[u32], count: u32) -> bool
+    ensures ascending { IsTrue result → IsStrictlySortedBy nat_cmp w.now }
+    ensures below { IsTrue result → All (λ p. p < count) w.now }
+    ensures two { IsTrue result → 2 ≤ length w.now }
+    ensures few { IsTrue result → length w.now ≤ count }
+{
+    w.len() >= 2 && w.len() <= count as usize && all_below(w, count) && is_ascending(w)
 }
 
 /// The parts of `w` with the pairs, if these hold them together.

@@ -4,20 +4,26 @@
 mod arcs;
 mod asking;
 mod decision;
+mod directions;
 mod every;
 mod growing;
-mod guesses;
+mod guess;
+mod halves;
 mod holding;
 mod labels;
 mod likely;
 mod order;
+mod pairs;
 mod peeling;
+mod planes;
 mod planning;
 mod reach;
 mod sets;
 mod settling;
 mod spots;
-mod ties;
+mod spreading;
+mod suspects;
+mod table;
 mod turns;
 
 pub use arcs::{Row, rows_of};

@@ -1,5 +1,5 @@
 // What likely directions take apart: along each of them it is asked once, of all parts, which blocks which.
-ghost use Rattle.std.specs.Prelude.{◌≡◌, ◌≢◌, ◌<◌, ◌⊎◌, ◌↔◌, List, [], false};
+ghost use Rattle.std.specs.Prelude.{◌≡◌, ◌≢◌, ◌<◌, ◌≤◌, ◌⊎◌, ◌↔◌, List, [], false};
 ghost use Rattle.std.specs.Prelude.{All, IfOk, IfSome, IsTrue, get_or, length, map};
 ghost use Rattle.std.specs.List.{range_with_len};
 ghost use Rattle.std.specs.List.Sorted.{IsStrictlySortedBy};
@@ -7,11 +7,13 @@ ghost use Rattle.std.specs.Ordering.{nat_cmp};
 ghost use Rattle.staat_vec.specs.Vectors.{IsWithin, origin};
 ghost use Rattle.staat_motion.specs.Motions.{AreBodies};
 ghost use Rattle.staat_decide.specs.Asking.{AreAskedRows};
+ghost use Rattle.staat_decide.specs.Keeping.{AreKept};
 ghost use Rattle.staat_decide.specs.Peelings.{IsPeeling};
 
-use crate::arcs::{Row, rows_of};
+use crate::arcs::{Row, rows_with};
 use crate::decision::Leaving;
 use crate::peeling::take_apart;
+use crate::table::Table;
 use staat_cone::FacetSource;
 use staat_model::Part;
 use staat_motion::{Along, Bodies};
@@ -54,6 +56,7 @@ pub fn numbers(alloc: Global, count: u32) -> Result<Vec<u32>, OutOfMemory>
 
 /// Which part blocks which along the direction; `all` are the numbers of the parts.
 pub fn asked_along<F: FacetSource>(
+    table: &mut Table,
     alloc: Global,
     source: &F,
     parts: &[Part],
@@ -65,10 +68,14 @@ pub fn asked_along<F: FacetSource>(
     requires all { all.now ≡ range_with_len 0 (length parts.now) }
     requires size { IsWithin DIRECTION d }
     requires moves { d ≢ origin }
-    ensures { IfOk result (AreAskedRows parts.now) }
+    requires some { 1 ≤ length table.old.items }
+    requires kept { AreKept parts.now table.old.items }
+    ensures some { length table.new.items ≡ length table.old.items }
+    ensures kept { AreKept parts.now table.new.items }
+    ensures asked { IfOk result (AreAskedRows parts.now) }
 {
     let along = Along::of(alloc, parts, bodies, d)?;
-    let rows = rows_of(alloc, source, parts, &along, all)?;
+    let rows = rows_with(table, alloc, source, parts, &along, all)?;
     Ok(Asked {
         d,
         rows: Rows::from_vec(rows),

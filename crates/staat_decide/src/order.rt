@@ -4,8 +4,8 @@ ghost use Rattle.staat_decide.specs.Labels.{KeepsOrder, LeadsBack};
 
 use crate::arcs::Row;
 
-// whether each label is below the count
-fn all_below(labels: &[u32], count: u32) -> bool
+/// Whether each label is below the count.
+pub fn all_below(labels: &[u32], count: u32) -> bool
     ensures { IsTrue result ↔ All (λ l. l < count) labels.now }
 {
     for l in labels {

@@ -43,7 +43,7 @@ fn parting<F: FacetSource>(
     if let Some(leaving) = likely_leaving(alloc, parts, asked, w, before)? {
         return Ok(Parting::Leaves(leaving));
     }
-    if let Some(found) = parting_by_guess(alloc, source, parts, bodies, w, usize::MAX)? {
+    if let Some(found) = parting_by_guess(alloc, source, parts, bodies, asked, w)? {
         return Ok(found);
     }
     let found = parting_by_all(alloc, source, parts, bodies, w)?;

@@ -1,9 +1,10 @@
 // How a set of parts goes on where no likely direction serves: what is guessed is judged, and where no guess is right
 // all pairs of pieces decide.
-ghost use Rattle.std.specs.Prelude.{◌≡◌, ◌≢◌, ◌<◌, ◌≤◌, ◌^◌, All, IfOk, IfSome, length};
+ghost use Rattle.std.specs.Prelude.{◌≡◌, ◌≢◌, ◌<◌, ◌≤◌, ◌^◌, ℕ, List, All, IfOk, IfSome, length};
 ghost use Rattle.std.specs.List.Sorted.{IsStrictlySortedBy};
 ghost use Rattle.std.specs.Ordering.{nat_cmp};
 ghost use Rattle.staat_vec.specs.Vectors.{IsWithin, origin};
+ghost use Rattle.staat_model.specs.Assemblies.{IsPart};
 ghost use Rattle.staat_model.specs.SetLists.{set_of};
 ghost use Rattle.staat_motion.specs.Motions.{AreBodies};
 ghost use Rattle.staat_decide.specs.Decided.{IsStuckHold, IsParting};
@@ -11,10 +12,11 @@ ghost use Rattle.staat_decide.specs.Peelings.{IsHeldAlong, IsPeeling};
 
 use crate::decision::{Leaving, Parting};
 use crate::every::all_pairs;
-use crate::growing::{Guess, guess_of};
-use crate::holding::{copied, held_by, places_in};
-use crate::likely::is_direction;
+use crate::guess::{Guess, guess_of};
+use crate::holding::{copied, held_by, is_part_set, places_in};
+use crate::likely::{Asked, is_direction};
 use crate::peeling::peel;
+use crate::suspects::Suspects;
 use staat_cone::FacetSource;
 use staat_holds::{Hold, first_gap};
 use staat_model::{Arcs, Part};
@@ -46,14 +48,36 @@ fn leaving_if_free<F: FacetSource>(
     }
 }
 
-/// How `w` goes on by a guess within the budget, if that is right.
+// that parts are stuck, if their pairs hold them together
+fn staying_if_held<F: FacetSource>(
+    alloc: Global,
+    source: &F,
+    parts: &[Part],
+    suspects: Suspects,
+) -> Result<Option<Parting>, OutOfMemory>
+    requires parts { All IsPart parts.now }
+    requires count { length parts.now < 2 ^ 32 }
+    ensures { (w : List ℕ) → IfOk result (λ answer. IfSome answer (IsParting parts.now w)) }
+{
+    let pairs = suspects.pairs;
+    let w = suspects.nodes.as_slice();
+    if !is_part_set(w, parts.len() as u32) {
+        return Ok(None);
+    }
+    match held_by(alloc, source, parts, w, pairs)? {
+        None => Ok(None),
+        Some(hold) => Ok(Some(Parting::Stays(hold))),
+    }
+}
+
+/// How `w` goes on by a guess, if that is right.
 pub fn parting_by_guess<F: FacetSource>(
     alloc: Global,
     source: &F,
     parts: &[Part],
     bodies: &Bodies,
+    asked: &[Asked],
     w: &[u32],
-    budget: usize,
 ) -> Result<Option<Parting>, OutOfMemory>
     requires bodies { AreBodies parts.now bodies.now }
     requires count { length parts.now < 2 ^ 32 }
@@ -63,16 +87,16 @@ pub fn parting_by_guess<F: FacetSource>(
     requires few { length w.now < 2 ^ 32 }
     ensures { IfOk result (λ answer. IfSome answer (IsParting parts.now w.now)) }
 {
-    match guess_of(alloc, source, parts, bodies, w, budget)? {
+    match guess_of(alloc, source, parts, bodies, asked, w)? {
         Guess::None => Ok(None),
         Guess::Free(d) => {
             let answer = leaving_if_free(alloc, source, parts, bodies, w, d)?;
             Ok(answer)
         }
-        Guess::Core(pairs) => match held_by(alloc, source, parts, w, pairs)? {
-            None => Ok(None),
-            Some(hold) => Ok(Some(Parting::Stays(hold))),
-        },
+        Guess::Stuck(suspects) => {
+            let answer = staying_if_held(alloc, source, parts, suspects)?;
+            Ok(answer)
+        }
     }
 }
 

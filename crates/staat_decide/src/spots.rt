@@ -1,4 +1,6 @@
 // How large pieces look from each other: what a guess at a core goes by.
+ghost use Rattle.std.specs.Prelude.{◌<◌, length};
+
 use staat_model::{Part, Piece};
 use staat_vec::{OutOfMemory, V3};
 use std::alloc::Global;
@@ -123,9 +125,52 @@ fn are_met(low: i128, high: i128, other_low: i128, other_high: i128) -> bool {
 
 const FINE: u128 = 1 << 40;
 
-/// How small two pieces look from each other: the square of their distance by that of their sizes.
-pub fn smallness(a: &Spot, b: &Spot) -> u128 {
+// how many pairs are listed at most
+const MOST_PAIRS: usize = 1 << 20;
+
+/// Two spots by their numbers, the places of their parts, and how small they look from each other.
+#[derive(Clone, Copy)]
+pub struct Pair {
+    pub smallness: u128,
+    pub a: usize,
+    pub b: usize,
+    pub from: usize,
+    pub to: usize,
+}
+
+// how small two pieces look from each other: the square of their distance by that of their sizes
+fn smallness(a: &Spot, b: &Spot) -> u128 {
     let distance = square_of(difference_of(a.centre, b.centre));
     let size = a.size.saturating_add(b.size).max(1);
     distance.saturating_mul(FINE) / size
+}
+
+// adds the pairs of a spot with later ones of other parts
+fn add_pairs(pairs: &mut Vec<Pair>, spots: &[Spot], a: usize) -> Result<(), OutOfMemory>
+    requires { a < length spots.now }
+{
+    let spot = spots[a];
+    for b in a + 1..spots.len() {
+        let other = spots[b];
+        if other.place != spot.place && pairs.len() < MOST_PAIRS {
+            pairs.push(Pair {
+                smallness: smallness(&spot, &other),
+                a,
+                b,
+                from: spot.place,
+                to: other.place,
+            })?;
+        }
+    }
+    Ok(())
+}
+
+/// The pairs of spots of different parts, those first that look large from each other.
+pub fn pairs_of(alloc: Global, spots: &[Spot]) -> Result<Vec<Pair>, OutOfMemory> {
+    let mut pairs = Vec::new(alloc);
+    for a in 0..spots.len() {
+        add_pairs(&mut pairs, spots, a)?;
+    }
+    pairs.sort_unstable_by_key(|pair| pair.smallness);
+    Ok(pairs)
 }

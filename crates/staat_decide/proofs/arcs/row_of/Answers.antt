@@ -1,4 +1,4 @@
-use Rattle.std.proofs.Common.{◌+◌, ◌↔◌, IsTrue, subst, sym, take}
+use Rattle.std.proofs.Common.{arith, ◌+◌, ◌↔◌, IsTrue, subst, sym, take}
 use Rattle.staat_model.specs.Removal.{Blocks}
 use Rattle.staat_motion.proofs.Zips.{zip_more}
 use Rattle.staat_decide.specs.Arcs.{IsRow}
@@ -10,5 +10,9 @@ loop-b-preserved g c =
     let d = c.args.along.now.d in
     let w = c.args.w.now in
     let i = c.loop-b.b-index in
-    subst (IsRow parts d (take (i + 1) w) c.args.a) (sym c.in_ok-push.ensures.items)
-    (zip_more (λ b answer. IsTrue answer ↔ Blocks parts d c.args.a b) w c.loop-b.row.items i 0 c.in_ok-answer.answer c.loop-b-test.true c.loop-b.invariant c.in_ok-answer.ensures)
+    record {
+      row = subst (IsRow parts d (take (i + 1) w) c.args.a) (sym c.in_ok-push.ensures.items)
+          (zip_more (λ b answer. IsTrue answer ↔ Blocks parts d c.args.a b) w c.loop-b.row.items i 0 c.in_ok-answer.answer c.loop-b-test.true c.loop-b.invariant.row c.in_ok-answer.ensures.answer);
+      some = omega (arith, c.in_ok-answer.ensures.some, c.loop-b.invariant.some);
+      kept = c.in_ok-answer.ensures.kept;
+    }

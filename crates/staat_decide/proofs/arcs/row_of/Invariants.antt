@@ -1,6 +1,11 @@
-use Rattle.std.proofs.Common.{take}
+use Rattle.std.proofs.Common.{◌≡◌, length, take}
 use Rattle.staat_decide.specs.Arcs.{IsRow}
+use Rattle.staat_decide.specs.Keeping.{AreKept}
 use Rattle.staat_decide.proofs.arcs.row_of.Given as goal
 
 abbrev pub invariant-loop-b : goal.invariant-loop-b
-invariant-loop-b g l = IsRow l.parts l.along.d (take l.b-index l.w) l.a l.row.items
+invariant-loop-b g l = record {
+  row : IsRow l.parts l.along.d (take l.b-index l.w) l.a l.row.items;
+  some : length l.table.items ≡ length l.initial.table.items;
+  kept : AreKept l.parts l.table.items;
+}

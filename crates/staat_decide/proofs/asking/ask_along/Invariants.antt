@@ -1,6 +1,11 @@
-use Rattle.std.proofs.Common.{All}
+use Rattle.std.proofs.Common.{◌≡◌, All, length}
 use Rattle.staat_decide.specs.Asking.{AreAskedRows}
+use Rattle.staat_decide.specs.Keeping.{AreKept}
 use Rattle.staat_decide.proofs.asking.ask_along.Given as goal
 
 abbrev pub invariant-loop-d : goal.invariant-loop-d
-invariant-loop-d g l = All (AreAskedRows l.parts) l.asked.items
+invariant-loop-d g l = record {
+  asked : All (AreAskedRows l.parts) l.asked.items;
+  some : length l.table.items ≡ length l.initial.table.items;
+  kept : AreKept l.parts l.table.items;
+}

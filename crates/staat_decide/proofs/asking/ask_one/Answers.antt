@@ -15,7 +15,7 @@ pub takes_all_apart-requires-clause-ascending : goal.takes_all_apart-requires-cl
 takes_all_apart-requires-clause-ascending g c =
     subst (IsStrictlySortedBy nat_cmp) (sym c.requires.all) (numbers_sorted (length c.args.parts.now))
 
-pub returns : goal.returns
-returns g c =
+pub returns-clause-asked : goal.returns-clause-asked
+returns-clause-asked g c =
     subst (All (AreAskedRows c.args.parts.now)) (sym c.in_ok-push.ensures.items)
-    (All-push (AreAskedRows c.args.parts.now) c.args.asked.now.items c.in_ok-one.one c.requires.asked c.in_ok-one.ensures)
+    (All-push (AreAskedRows c.args.parts.now) c.args.asked.now.items c.in_ok-one.one c.requires.asked c.in_ok-one.ensures.asked)

@@ -1,7 +1,6 @@
-use Rattle.std.proofs.Common.{◌≡◌, ◌++◌, ◌∷◌, [], List, false, true, sym, ◌∙◌}
+use Rattle.std.proofs.Common.{◌∷◌, [], sym, ◌∙◌}
 use Rattle.std.proofs.lemmas.Bool.{false≢true}
 use Rattle.std.proofs.lemmas.List.Elements.{All-push, Contains-append_left}
-use Rattle.staat_model.specs.declared.certificate.Arc.{Arc}
 use Rattle.staat_holds.specs.Holds.{IsCorePair}
 use Rattle.staat_decide.proofs.EndSteps.{pair_comes, pair_passed}
 use Rattle.staat_decide.proofs.every.add_pairs.Goals.{then-is_core_pair+in_ok-push, else-is_core_pair}

@@ -1,4 +1,4 @@
-use Rattle.std.proofs.Common.{arith, refl}
+use Rattle.std.proofs.Common.{refl}
 use Rattle.staat_decide.proofs.EndSteps.{ends_all, ends_more}
 use Rattle.staat_decide.proofs.every.ends_of.Goals as goal
 

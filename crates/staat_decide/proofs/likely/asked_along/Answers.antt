@@ -2,11 +2,11 @@ use Rattle.std.proofs.Common.{◌<◌, All, length, subst, sym}
 use Rattle.staat_decide.proofs.Picked.{asked_is, numbers_small}
 use Rattle.staat_decide.proofs.likely.asked_along.Goals as goal
 
-pub rows_of-requires-clause-members : goal.rows_of-requires-clause-members
-rows_of-requires-clause-members g c =
+pub rows_with-requires-clause-members : goal.rows_with-requires-clause-members
+rows_with-requires-clause-members g c =
     subst (All (λ p. p < length c.args.parts.now)) (sym c.requires.all) (numbers_small (length c.args.parts.now))
 
-pub returns : goal.returns
-returns g c =
+pub returns-clause-asked : goal.returns-clause-asked
+returns-clause-asked g c =
     asked_is c.args.parts.now c.args.d c.in_ok-along.along.d c.args.all.now c.in_ok-rows.rows.items c.from_vec.result
-    c.requires.moves c.in_ok-along.ensures.direction c.requires.all c.from_vec.ensures c.in_ok-rows.ensures
+    c.requires.moves c.in_ok-along.ensures.direction c.requires.all c.from_vec.ensures c.in_ok-rows.ensures.rows

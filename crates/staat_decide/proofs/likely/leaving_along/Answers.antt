@@ -1,7 +1,3 @@
-use Rattle.std.proofs.Common.{◌≡◌, All, Bool, List, length, subst, sym}
-use Rattle.staat_decide.specs.Arcs.{AreBlockingRows}
-use Rattle.staat_decide.specs.Peelings.{IsPeeling}
-use Rattle.std.specs.Prelude.{IfSome, Option, Some}
 use Rattle.staat_decide.proofs.Picked.{kept_are, some_tells}
 use Rattle.staat_decide.proofs.Rows.{row_lengths}
 use Rattle.staat_decide.proofs.likely.leaving_along.Goals as goal

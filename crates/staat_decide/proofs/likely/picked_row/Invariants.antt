@@ -1,4 +1,4 @@
-use Rattle.std.proofs.Common.{◌≡◌, ℕ, false, get_or, map, take}
+use Rattle.std.proofs.Common.{◌≡◌, false, get_or, map, take}
 use Rattle.staat_decide.proofs.likely.picked_row.Given as goal
 
 abbrev pub invariant-loop-b : goal.invariant-loop-b

@@ -1,4 +1,3 @@
-use Rattle.std.proofs.Common.{arith}
 use Rattle.staat_decide.proofs.Picked.{picked_more}
 use Rattle.staat_decide.proofs.likely.picked_rows.Goals as goal
 

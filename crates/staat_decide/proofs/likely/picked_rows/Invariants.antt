@@ -1,4 +1,4 @@
-use Rattle.std.proofs.Common.{◌≡◌, ℕ, [], false, get_or, map, take}
+use Rattle.std.proofs.Common.{◌≡◌, [], false, get_or, map, take}
 use Rattle.staat_decide.proofs.likely.picked_rows.Given as goal
 
 abbrev pub invariant-loop-a : goal.invariant-loop-a

@@ -1,4 +1,4 @@
-use Rattle.std.proofs.Common.{◌≡◌, ◌≤◌, ◌<◌, arith, List, ℕ, get_or, length, subst, sym}
+use Rattle.std.proofs.Common.{◌≤◌, ◌<◌, arith, List, ℕ, length, subst}
 use Rattle.staat_model.specs.Plans.{plan_of}
 use Rattle.staat_model.specs.SetLists.{set_of}
 use Rattle.staat_decide.specs.Decided.{IsDecision, IsParting}

@@ -1,8 +1,7 @@
 use Rattle.std.proofs.Common.{subst}
-use Rattle.std.specs.Prelude.{IfSome, Option}
 use Rattle.staat_vec.specs.declared.vector.V3.{V3}
 use Rattle.staat_model.specs.SetLists.{set_of}
-use Rattle.staat_decide.specs.Peelings.{IsHeldAlong, IsPeeling}
+use Rattle.staat_decide.specs.Peelings.{IsHeldAlong}
 use Rattle.staat_decide.proofs.Held.{none_is}
 use Rattle.staat_decide.proofs.settling.leaving_at_gap.Goals as goal
 

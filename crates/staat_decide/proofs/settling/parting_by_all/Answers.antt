@@ -1,10 +1,9 @@
-use Rattle.std.proofs.Common.{◌≡◌, ◌≢◌, ℕ, List, length, refl, subst, sym}
+use Rattle.std.proofs.Common.{◌≢◌, length, refl, subst}
 use Rattle.std.specs.Prelude.{IfSome, Option}
 use Rattle.staat_vec.specs.declared.vector.V3.{V3}
 use Rattle.staat_vec.specs.declared.vector.TheConstants.{DIRECTION}
 use Rattle.staat_vec.specs.Vectors.{IsWithin, origin}
-use Rattle.staat_model.specs.declared.certificate.Arc.{Arc}
-use Rattle.staat_holds.specs.Holds.{IsCorePair, IsFirstGap, JoinsNodes}
+use Rattle.staat_holds.specs.Holds.{IsFirstGap, JoinsNodes}
 use Rattle.staat_holds.proofs.GapLemmas.{told_none}
 use Rattle.staat_decide.proofs.AllPairs.{never_told}
 use Rattle.staat_decide.proofs.Holdings.{hold_told}

@@ -1,7 +1,7 @@
 use Rattle.std.proofs.Common.{rules}
 use Rattle.staat_vec.specs.declared.vector.TheConstants.{DIRECTION}
 use Rattle.staat_vec.specs.Vectors.{IsWithin}
-use Rattle.staat_decide.proofs.ties.crossing_of.Goals as goal
+use Rattle.staat_decide.proofs.planes.crossing_of.Goals as goal
 
 pub canon-requires-clause-size : goal.canon-requires-clause-size
 canon-requires-clause-size c =

@@ -1,7 +1,7 @@
 // Directions along which something is likely to come apart: the normals that most pairs of pieces that touch have in
 // common, and the directions in which two of them cross.
+use crate::planes::{crossing_of, piece_at, plane_of};
 use crate::spots::{Spot, spots_of, touch};
-use crate::ties::{crossing_of, piece_at, plane_of};
 use staat_cone::FacetSource;
 use staat_model::Part;
 use staat_vec::{ORIGIN, OutOfMemory, V3};

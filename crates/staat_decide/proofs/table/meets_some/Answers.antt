@@ -1,0 +1,38 @@
+use Rattle.std.proofs.Common.{◌<◌, ℕ, List, arith, length}
+use Rattle.std.proofs.lemmas.Bool.{false≢true}
+use Rattle.staat_model.specs.declared.assembly.Part.{Part}
+use Rattle.staat_model.specs.Assemblies.{piece_count}
+use Rattle.staat_model.proofs.PlanLemmas.{there_is}
+use Rattle.staat_motion.specs.Motions.{HasShadows, IsMotionOf, Motion}
+use Rattle.staat_motion.proofs.Kept.{has_shadows, wholes_count}
+use Rattle.staat_decide.proofs.table.meets_some.Goals as goal
+
+own_shadow : (parts : List Part) (along : Motion) (a i : ℕ) → IsMotionOf parts along → a < length parts → i < piece_count parts a
+    → HasShadows along (record { a = a; i = i; b = a; j = i })
+own_shadow parts along a i made a_in i_in =
+    has_shadows parts along (record { a = a; i = i; b = a; j = i }) made (record { a_in = a_in; i_in = i_in; b_in = a_in; j_in = i_in })
+
+pub piece_apart-requires-clause-part : goal.piece_apart-requires-clause-part
+piece_apart-requires-clause-part g c =
+    (own_shadow c.args.parts.now c.args.along.now c.args.a c.args.i c.requires.made c.requires.a_in c.requires.i_in).a_in
+
+pub piece_apart-requires-clause-piece : goal.piece_apart-requires-clause-piece
+piece_apart-requires-clause-piece g c =
+    (own_shadow c.args.parts.now c.args.along.now c.args.a c.args.i c.requires.made c.requires.a_in c.requires.i_in).i_in
+
+pub piece_apart-requires-clause-b_in : goal.piece_apart-requires-clause-b_in
+piece_apart-requires-clause-b_in g c =
+    let count = wholes_count c.args.parts.now c.args.along.now c.requires.made in omega (arith, count, c.requires.b_in)
+
+pub returns-then-piece_apart-clause-answer : goal.returns-then-piece_apart-clause-answer
+returns-then-piece_apart-clause-answer g c = (
+  λ e. absurd (false≢true e),
+  λ m. absurd (c.piece_apart.ensures.never c.args.parts.now m.j c.requires.made c.if-piece_apart.true m.meets),
+)
+
+pub returns-clause-answer : goal.returns-clause-answer
+returns-clause-answer g c = (
+  λ e. absurd (false≢true e),
+  λ m. let lt = there_is c.args.parts.now c.args.b m.j m.meets.q m.meets.q_is in
+      absurd (c.loop-j.invariant.none m.j (omega (arith, lt, c.requires.count, c.loop-j-test.false)) m.meets),
+)

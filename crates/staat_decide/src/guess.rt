@@ -1,0 +1,89 @@
+// A guess at how a set of parts goes on where no likely direction serves, which is judged later: two parts that hold
+// each other, else the whole set within a bound, else fewer and fewer of its parts within it, else without a bound.
+ghost use Rattle.staat_motion.specs.Motions.{AreBodies};
+
+use crate::growing::{BOUND, Growth, grown};
+use crate::halves::{Fewer, halved};
+use crate::likely::Asked;
+use crate::pairs::held_pair;
+use crate::suspects::{Suspects, suspected};
+use staat_cone::FacetSource;
+use staat_model::Part;
+use staat_motion::Bodies;
+use staat_vec::{OutOfMemory, V3};
+use std::alloc::Global;
+
+/// What is guessed: a direction along which the set should come apart, or parts that should be stuck.
+#[derive(Drop)]
+pub enum Guess {
+    None,
+    Free(V3),
+    Stuck(Suspects),
+}
+
+// parts that should be stuck among those of a large set
+fn few_of<F: FacetSource>(
+    alloc: Global,
+    source: &F,
+    parts: &[Part],
+    bodies: &Bodies,
+    asked: &[Asked],
+    w: &[u32],
+) -> Result<Option<Suspects>, OutOfMemory>
+    requires { AreBodies parts.now bodies.now }
+{
+    let left = match halved(alloc, source, parts, bodies, asked, w)? {
+        Fewer::Stuck(found) => return Ok(Some(found)),
+        Fewer::Left(left) => left,
+    };
+    if left.len() == w.len() {
+        return Ok(None);
+    }
+    match grown(alloc, source, parts, bodies, left.as_slice(), usize::MAX)? {
+        Growth::Core(pairs) => Ok(Some(Suspects { nodes: left, pairs })),
+        _ => Ok(None),
+    }
+}
+
+// what growing without a bound ends with
+fn whole<F: FacetSource>(
+    alloc: Global,
+    source: &F,
+    parts: &[Part],
+    bodies: &Bodies,
+    w: &[u32],
+) -> Result<Guess, OutOfMemory>
+    requires { AreBodies parts.now bodies.now }
+{
+    match grown(alloc, source, parts, bodies, w, usize::MAX)? {
+        Growth::Free(d) => Ok(Guess::Free(d)),
+        Growth::Core(pairs) => Ok(Guess::Stuck(suspected(alloc, w, pairs)?)),
+        Growth::Large => Ok(Guess::None),
+    }
+}
+
+/// A guess at how the parts of `w` go on.
+pub fn guess_of<F: FacetSource>(
+    alloc: Global,
+    source: &F,
+    parts: &[Part],
+    bodies: &Bodies,
+    asked: &[Asked],
+    w: &[u32],
+) -> Result<Guess, OutOfMemory>
+    requires { AreBodies parts.now bodies.now }
+{
+    if let Some(found) = held_pair(alloc, source, parts, bodies, asked, w)? {
+        return Ok(Guess::Stuck(found));
+    }
+    match grown(alloc, source, parts, bodies, w, BOUND)? {
+        Growth::Free(d) => return Ok(Guess::Free(d)),
+        Growth::Core(pairs) => return Ok(Guess::Stuck(suspected(alloc, w, pairs)?)),
+        Growth::Large => {}
+    }
+    if let Some(found) = few_of(alloc, source, parts, bodies, asked, w)? {
+        return Ok(Guess::Stuck(found));
+    }
+    let guess = whole(alloc, source, parts, bodies, w)?;
+    Ok(guess)
+}

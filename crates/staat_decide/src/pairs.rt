@@ -1,0 +1,119 @@
+// What the likely directions say of parts: whether two parts hold each other along all of them, or some of them takes
+// a set apart.
+ghost use Rattle.staat_motion.specs.Motions.{AreBodies};
+
+use crate::growing::{Growth, grown};
+use crate::labels::has_arc;
+use crate::likely::Asked;
+use crate::reach::Way;
+use crate::spreading::{are_all, is_marked, mark, no_marks};
+use crate::suspects::{Suspects, suspected};
+use staat_cone::FacetSource;
+use staat_model::Part;
+use staat_motion::Bodies;
+use staat_vec::OutOfMemory;
+use std::alloc::Global;
+
+// how many vertices are gone through for two parts
+const PAIR_BOUND: usize = 20000;
+
+// whether two parts block each other along all likely directions
+fn hold_each_other(asked: &[Asked], a: u32, b: u32) -> bool {
+    for one in asked {
+        let rows = one.rows.as_slice();
+        if !has_arc(rows, a as usize, b as usize) || !has_arc(rows, b as usize, a as usize) {
+            return false;
+        }
+    }
+    true
+}
+
+// two parts that should be stuck: the first and a later one
+fn held_with<F: FacetSource>(
+    alloc: Global,
+    source: &F,
+    parts: &[Part],
+    bodies: &Bodies,
+    asked: &[Asked],
+    a: u32,
+    w: &[u32],
+) -> Result<Option<Suspects>, OutOfMemory>
+    requires { AreBodies parts.now bodies.now }
+{
+    for b in w {
+        if a < *b && hold_each_other(asked, a, *b) {
+            let two = [a, *b];
+            if let Growth::Core(pairs) = grown(alloc, source, parts, bodies, &two, PAIR_BOUND)? {
+                return Ok(Some(suspected(alloc, &two, pairs)?));
+            }
+        }
+    }
+    Ok(None)
+}
+
+/// Two parts of `w` that should be stuck.
+pub fn held_pair<F: FacetSource>(
+    alloc: Global,
+    source: &F,
+    parts: &[Part],
+    bodies: &Bodies,
+    asked: &[Asked],
+    w: &[u32],
+) -> Result<Option<Suspects>, OutOfMemory>
+    requires { AreBodies parts.now bodies.now }
+{
+    for a in w {
+        if let Some(found) = held_with(alloc, source, parts, bodies, asked, *a, w)? {
+            return Ok(Some(found));
+        }
+    }
+    Ok(None)
+}
+
+// marks the places of parts of w to which the way leads from the part a, and puts them at the end of the list
+fn add_next(
+    asked: &Asked,
+    w: &[u32],
+    way: Way,
+    a: u32,
+    marks: &mut Vec<bool>,
+    next: &mut Vec<usize>,
+) -> Result<(), OutOfMemory> {
+    let rows = asked.rows.as_slice();
+    for (j, b) in w.iter().enumerate() {
+        let leads = match way {
+            Way::Ahead => has_arc(rows, a as usize, *b as usize),
+            Way::Back => has_arc(rows, *b as usize, a as usize),
+        };
+        if leads && mark(marks, j) {
+            next.push(j)?;
+        }
+    }
+    Ok(())
+}
+
+// whether each part of w is reached from the first one on the way
+fn reaches_all(alloc: Global, asked: &Asked, w: &[u32], way: Way) -> Result<bool, OutOfMemory> {
+    let mut marks = no_marks(alloc, w.len())?;
+    let mut next = Vec::new(alloc);
+    mark(&mut marks, 0);
+    next.push(0usize)?;
+    for _ in 0..w.len() {
+        if let Some(u) = next.pop() {
+            if u < w.len() {
+                add_next(asked, w, way, w[u], &mut marks, &mut next)?;
+            }
+        }
+    }
+    Ok(are_all(marks.as_slice()))
+}
+
+/// Whether one of the likely directions takes the parts of `w` apart.
+pub fn comes_apart(alloc: Global, asked: &[Asked], w: &[u32]) -> Result<bool, OutOfMemory> {
+    for one in asked {
+        if !reaches_all(alloc, one, w, Way::Ahead)? || !reaches_all(alloc, one, w, Way::Back)? {
+            return Ok(true);
+        }
+    }
+    Ok(false)
+}

@@ -1,0 +1,129 @@
+// Normals of planes, and the facets of pairs of pieces, for guesses.
+ghost use Rattle.std.specs.Prelude.{◌≡◌, ◌↔◌, All, IfSome, IsTrue};
+ghost use Rattle.staat_vec.specs.declared.vector.TheConstants.{DIRECTION, NORMAL};
+ghost use Rattle.staat_vec.specs.Vectors.{IsWithin};
+
+use crate::spots::Spot;
+use staat_cone::{FacetSource, blocks};
+use staat_model::{Part, Piece};
+use staat_vec::{NORMAL, ORIGIN, OutOfMemory, V3, canon, cross_normal, primitive};
+use std::alloc::Global;
+
+/// The axes.
+pub const X_AXIS: V3 = V3 { x: 1, y: 0, z: 0 };
+
+pub const Y_AXIS: V3 = V3 { x: 0, y: 1, z: 0 };
+
+pub const Z_AXIS: V3 = V3 { x: 0, y: 0, z: 1 };
+
+// A normal of a plane, none of whose components is too great.
+#[derive(Clone, Copy)]
+pub struct Normal {
+    pub v: V3,
+    ghost small: { IsWithin NORMAL v },
+}
+
+/// The facets of two pieces.
+#[derive(Drop)]
+pub struct Facets {
+    list: Vec<V3>,
+    ghost small: { All (IsWithin NORMAL) list.items },
+}
+
+// whether the vector can be the normal of a plane
+fn is_normal(v: V3) -> bool
+    ensures { IsTrue result ↔ IsWithin NORMAL v }
+{
+    v.x.unsigned_abs() <= NORMAL && v.y.unsigned_abs() <= NORMAL && v.z.unsigned_abs() <= NORMAL
+}
+
+fn has_plane(planes: &[Normal], v: V3) -> bool {
+    planes.iter().any(|n| n.v == v)
+}
+
+/// The canonical normal of the plane that the vector is a normal of, if it is not zero and not too great.
+pub fn plane_of(v: V3) -> Option<V3>
+    ensures { IfSome result (IsWithin NORMAL) }
+{
+    if v == ORIGIN || !is_normal(v) {
+        return None;
+    }
+    Some(canon(v))
+}
+
+/// The direction in which two planes cross, of two opposite ones the canonical one, if they do.
+pub fn crossing_of(g: V3, h: V3) -> Option<V3> {
+    if !is_normal(g) || !is_normal(h) {
+        return None;
+    }
+    let d = cross_normal(g, h);
+    if d == ORIGIN {
+        return None;
+    }
+    Some(canon(primitive(d)))
+}
+
+/// Adds the plane that the vector is a normal of, unless it is there.
+pub fn add_plane(planes: &mut Vec<Normal>, v: V3) -> Result<(), OutOfMemory> {
+    if let Some(plane) = plane_of(v) {
+        if !has_plane(planes.as_slice(), plane) {
+            planes.push(Normal { v: plane })?;
+        }
+    }
+    Ok(())
+}
+
+/// Adds the planes of the facets.
+pub fn add_planes(planes: &mut Vec<Normal>, facets: &Facets) -> Result<(), OutOfMemory> {
+    for n in facets.list.as_slice() {
+        add_plane(planes, *n)?;
+    }
+    Ok(())
+}
+
+/// The direction in which two of the planes cross, and zero where there are not two.
+pub fn crossing(planes: &[Normal], i: usize, j: usize) -> V3
+    ensures { IsWithin DIRECTION result }
+{
+    if i >= planes.len() || j >= planes.len() {
+        return ORIGIN;
+    }
+    cross_normal(planes[i].v, planes[j].v)
+}
+
+/// The piece `i` of the part `a`, if there is one.
+pub fn piece_at(parts: &[Part], a: u32, i: u32) -> Option<&Piece> {
+    if a as usize >= parts.len() {
+        return None;
+    }
+    let pieces = parts[a as usize].pieces.as_slice();
+    if i as usize >= pieces.len() {
+        return None;
+    }
+    Some(&pieces[i as usize])
+}
+
+/// The facets of the pieces of two spots, if there are such pieces.
+pub fn facets_of<F: FacetSource>(
+    alloc: Global,
+    source: &F,
+    parts: &[Part],
+    a: &Spot,
+    b: &Spot,
+) -> Result<Option<Facets>, OutOfMemory> {
+    let Some(p) = piece_at(parts, a.part, a.piece) else {
+        return Ok(None);
+    };
+    let Some(q) = piece_at(parts, b.part, b.piece) else {
+        return Ok(None);
+    };
+    let list = source.facets(alloc, p, q)?;
+    Ok(Some(Facets { list }))
+}
+
+/// Whether `d` leads ahead of all of the facets.
+pub fn is_ahead(facets: &Facets, d: V3) -> bool
+    requires { IsWithin DIRECTION d }
+{
+    blocks(facets.list.as_slice(), d)
+}

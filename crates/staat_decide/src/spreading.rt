@@ -1,0 +1,70 @@
+// Marks on places, and what arcs between them lead to.
+use crate::reach::Way;
+use staat_vec::OutOfMemory;
+use std::alloc::Global;
+
+/// An arc from one place of a list to another.
+#[derive(Clone, Copy)]
+pub struct Lead {
+    pub from: usize,
+    pub to: usize,
+}
+
+/// Whether the place is marked.
+pub fn is_marked(marks: &[bool], i: usize) -> bool {
+    i < marks.len() && marks[i]
+}
+
+/// Marks a place, and says whether it was not marked before
+pub fn mark(marks: &mut Vec<bool>, i: usize) -> bool {
+    if i < marks.len() && !marks[i] {
+        marks[i] = true;
+        return true;
+    }
+    false
+}
+
+/// Whether all places are marked.
+pub fn are_all(marks: &[bool]) -> bool {
+    marks.iter().all(|m| *m)
+}
+
+/// Marks for so many places, none of which is marked.
+pub fn no_marks(alloc: Global, count: usize) -> Result<Vec<bool>, OutOfMemory> {
+    let mut marks = Vec::new(alloc);
+    for _ in 0..count {
+        marks.push(false)?;
+    }
+    Ok(marks)
+}
+
+/// Marks the first place alone.
+pub fn mark_first(marks: &mut Vec<bool>) {
+    for (k, m) in marks.iter_mut().enumerate() {
+        *m = k == 0;
+    }
+}
+
+// marks what arcs lead to from marked places, and says whether that was anything
+fn spread(leads: &[Lead], way: Way, marks: &mut Vec<bool>) -> bool {
+    let mut more = false;
+    for lead in leads {
+        let (from, to) = match way {
+            Way::Ahead => (lead.from, lead.to),
+            Way::Back => (lead.to, lead.from),
+        };
+        if is_marked(marks.as_slice(), from) && mark(marks, to) {
+            more = true;
+        }
+    }
+    more
+}
+
+/// Marks all that arcs lead to on the way from marked places.
+pub fn spread_all(leads: &[Lead], way: Way, marks: &mut Vec<bool>) {
+    for _ in 0..leads.len() {
+        if !spread(leads, way, marks) {
+            return;
+        }
+    }
+}
