@@ -1,5 +1,5 @@
 -- Bytes that were added, one after another.
-use Rattle.std.proofs.Common.{◌≡◌, ◌++◌, ◌∷◌, ◌+◌, ◌^◌, ◌<◌, ◌≤◌, ℕ, List, [], length, ap, sym, subst, ◌∙◌, arith, append_assoc, length-append}
+use Rattle.std.proofs.Common.{◌≡◌, ◌++◌, ◌∷◌, ◌^◌, ◌<◌, ◌≤◌, ℕ, List, [], length, ap, sym, subst, ◌∙◌, arith, append_assoc}
 use Rattle.std.specs.Prelude.{flat_map}
 use Rattle.std.proofs.lemmas.Grind.{flat_map-append}
 use Rattle.staat_limits.specs.declared.limits.TheConstants.{TEXT_LIMIT}
@@ -8,7 +8,7 @@ use Rattle.staat_short.specs.declared.line.ShortLine.{ShortLine}
 use Rattle.staat_short.specs.declared.line.ShortLine.TheVariants as line
 use Rattle.staat_short.specs.declared.writer.Writer.{Writer}
 use Rattle.staat_short.specs.ShortLines.{short_line_text}
-use Rattle.staat_short.specs.ShortTexts.{IsShortInOrder, IsShortTextOf, lines_of_answer, short_lines, short_text}
+use Rattle.staat_short.specs.ShortTexts.{IsShortInOrder, IsShortTextOf, short_lines, short_text}
 use Rattle.staat_short.specs.ShortWriting.{AddsShortLines, WroteShort}
 
 pub adds_both : (a b c : Writer) (xs ys : List ShortLine) → AddsShortLines a b xs → AddsShortLines b c ys → AddsShortLines a c (xs ++ ys)

@@ -1,6 +1,6 @@
 -- Each certificate's lines may stand, and each front is that of a certificate.
-use Rattle.std.proofs.Common.{◌≡◌, ◌++◌, ◌∷◌, ◌+◌, ◌*◌, ◌<◌, ◌≤◌, ℕ, zero, suc, Bool, true, List, [], map, length, All, ap, ap₂, sym, subst, refl, ◌∙◌, arith, append_assoc, append-nil, length-append}
-use Rattle.std.specs.Prelude.{Option, Some, None, cond, ◌&&◌, ◌==◌, nat_le, flat_map}
+use Rattle.std.proofs.Common.{◌≡◌, ◌++◌, ◌∷◌, ◌+◌, ◌*◌, ◌≤◌, ℕ, zero, suc, List, [], map, length, All, ap, sym, subst, refl, ◌∙◌, arith, append_assoc, append-nil, length-append}
+use Rattle.std.specs.Prelude.{Option, Some, None, nat_le, flat_map}
 use Rattle.std.specs.List.Sorted.{IsStrictlySortedBy}
 use Rattle.std.specs.Ordering.{nat_cmp}
 use Rattle.std.proofs.lemmas.Bool.{le-leb}
@@ -14,7 +14,7 @@ use Rattle.staat_model.proofs.Members.{all_back, all_front}
 use Rattle.staat_holds.specs.declared.hold.Hold.{Hold}
 use Rattle.staat_cert.specs.Machine.{follows}
 use Rattle.staat_cert.proofs.Lists.{all_one, length_one}
-use Rattle.staat_cert.proofs.LineLemmas.{and_true, let_through}
+use Rattle.staat_cert.proofs.LineLemmas.{let_through}
 use Rattle.staat_short.specs.declared.stage.Kind.{Kind}
 use Rattle.staat_short.specs.declared.stage.Kind.TheVariants as kind
 use Rattle.staat_short.specs.declared.short.ShortNode.{ShortNode}

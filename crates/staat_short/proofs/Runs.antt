@@ -1,5 +1,5 @@
 -- Bytes without a line feed, at once.
-use Rattle.std.proofs.Common.{◌≡◌, ◌≢◌, ◌++◌, ◌∷◌, ◌+◌, ◌<◌, ◌≤◌, ℕ, suc, Bool, true, false, List, [], length, get_or, take, drop, ◌-◌, ap, sym, subst, refl, ◌∙◌, arith, length-append, append_assoc, append-nil}
+use Rattle.std.proofs.Common.{◌≡◌, ◌≢◌, ◌++◌, ◌∷◌, ◌+◌, ◌<◌, ◌≤◌, ℕ, Bool, true, false, List, [], length, get_or, take, drop, ◌-◌, ap, sym, subst, refl, ◌∙◌, arith, length-append, append_assoc, append-nil}
 use Rattle.std.specs.Prelude.{nat_lt}
 use Rattle.std.proofs.lemmas.Bool.{ltb-true}
 use Rattle.std.proofs.lemmas.Bool.Decides.{nat_tests}

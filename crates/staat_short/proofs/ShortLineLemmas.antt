@@ -1,6 +1,6 @@
 -- A line of a short certificate is read exactly from its text, which has one line feed, at its end, and fewer than 128
 -- bytes.
-use Rattle.std.proofs.Common.{◌≡◌, ◌≢◌, ◌++◌, ◌∷◌, ◌+◌, ◌*◌, ◌^◌, ◌<◌, ◌≤◌, ℕ, Bool, true, false, List, [], length, All, ap, ap₂, sym, subst, refl, ◌∙◌, arith, ℤ, pos, append_assoc, length-append, ◌⊎◌, inl, inr}
+use Rattle.std.proofs.Common.{◌≡◌, ◌≢◌, ◌++◌, ◌∷◌, ◌+◌, ◌^◌, ◌<◌, ◌≤◌, ℕ, Bool, true, false, List, [], length, All, ap, ap₂, sym, subst, refl, ◌∙◌, arith, ℤ, pos, append_assoc, length-append, ◌⊎◌, inl, inr}
 use Rattle.std.specs.Prelude.{Option, Some, None, cond, ◌==◌, ◌&&◌, nat_lt, nat_le, option_and_then, option_map, codes, get_or, IfSome, IfNone}
 use Rattle.std.specs.List.{list_all}
 use Rattle.std.specs.Str.{bytes_eq}

@@ -1,5 +1,5 @@
 -- Bytes have one reading at most: one short certificate, or one first bad line, or neither.
-use Rattle.std.proofs.Common.{◌≡◌, ◌≢◌, ◌⊎◌, ℕ, suc, ◌+◌, ◌<◌, ◌≤◌, List, [], ◌∷◌, ◌++◌, map, length, All, ap, sym, subst, refl, ◌∙◌, arith, inl, inr, append_assoc, append-nil}
+use Rattle.std.proofs.Common.{◌≡◌, ◌≢◌, ◌⊎◌, ℕ, suc, ◌+◌, List, [], ◌∷◌, ◌++◌, map, length, All, ap, sym, subst, refl, ◌∙◌, arith, inl, inr, append_assoc, append-nil}
 use Rattle.std.specs.Prelude.{Some, None, flat_map, Result, Ok, Err}
 use Rattle.std.proofs.lemmas.Grind.{flat_map-append}
 use Rattle.std.proofs.lemmas.List.Elements.{All-cons, All-head, All-tail}
@@ -11,7 +11,7 @@ use Rattle.staat_short.specs.declared.short.ShortCertificate.{ShortCertificate}
 use Rattle.staat_short.specs.declared.line.ShortLine.{ShortLine}
 use Rattle.staat_short.specs.declared.line.ShortLine.TheVariants as line
 use Rattle.staat_short.specs.ShortLines.{IsShortLine, short_line_text}
-use Rattle.staat_short.specs.ShortTexts.{BeginsShortText, EndsTooSoon, IsBadShortAfter, IsFirstBadShortLine, IsShortInOrder, IsShortTextOf, short_lines, short_text}
+use Rattle.staat_short.specs.ShortTexts.{BeginsShortText, IsBadShortAfter, IsFirstBadShortLine, IsShortInOrder, IsShortTextOf, short_lines, short_text}
 use Rattle.staat_short.specs.Fronts.{Front, untitled, complete, front_after, after_lines}
 use Rattle.staat_short.specs.ShortFeeds.{IsShortReadAnswer}
 use Rattle.staat_short.proofs.ShortLineLemmas.{one_short_line, short_line_front, short_line_is, short_line_length, short_line_whole}
