@@ -6,3 +6,4 @@ pub mod Standing
 pub mod Steps
 pub mod Runs
 pub mod AddLemmas
+pub mod PlanTrees

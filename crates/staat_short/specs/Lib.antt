@@ -6,3 +6,4 @@ pub mod ShortStanding
 pub mod ShortViews
 pub mod ShortFeeds
 pub mod ShortWriting
+pub mod PlanNodes

@@ -7,6 +7,7 @@ pub mod laws;
 mod line;
 mod line_reading;
 mod machine;
+mod nodes;
 mod plan_lines;
 mod reader;
 mod reading;
@@ -17,6 +18,7 @@ mod writer;
 mod writing;
 
 pub use line::ShortLine;
+pub use nodes::plan_nodes;
 pub use reader::ShortReader;
 pub use short::{ShortAnswer, ShortCertificate, ShortNode, ShortNodes};
 pub use whole::read_short;

@@ -1,0 +1,34 @@
+// The nodes of a plan.
+ghost use Rattle.std.specs.Prelude.{◌≡◌, ◌++◌, IfOk};
+ghost use Rattle.staat_model.specs.Plans.{plan_of};
+ghost use Rattle.staat_short.specs.PlanNodes.{plan_nodes};
+
+use crate::short::{ShortNode, ShortNodes};
+use staat_model::Tree;
+use staat_vec::OutOfMemory;
+use std::alloc::{AllocError, Global};
+
+fn push_nodes(nodes: &mut Vec<ShortNode>, tree: &Tree) -> Result<(), AllocError>
+    ensures { IfOk result (λ _. nodes.new.items ≡ nodes.old.items ++ plan_nodes (plan_of tree.now)) }
+{
+    match tree {
+        Tree::Leaf(p) => {
+            nodes.push(ShortNode::Leaf(*p))?;
+            Ok(())
+        }
+        Tree::Split { d, moved, rest } => {
+            nodes.push(ShortNode::Split(*d))?;
+            push_nodes(nodes, moved)?;
+            push_nodes(nodes, rest)
+        }
+    }
+}
+
+/// The nodes of a plan in preorder. The native stack is as deep as the plan.
+pub fn plan_nodes(alloc: Global, tree: &Tree) -> Result<ShortNodes, OutOfMemory>
+    ensures { IfOk result (λ nodes. nodes ≡ plan_nodes (plan_of tree.now)) }
+{
+    let mut nodes = Vec::new(alloc);
+    push_nodes(&mut nodes, tree)?;
+    Ok(ShortNodes::from_vec(nodes))
+}
