@@ -30,6 +30,8 @@ mod requests;
 #[cfg(test)]
 mod shelves;
 #[cfg(test)]
+mod short_texts;
+#[cfg(test)]
 mod telling;
 #[cfg(test)]
 mod texts;

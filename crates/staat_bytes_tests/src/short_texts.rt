@@ -1,0 +1,114 @@
+// The texts of short certificates: those that are read and written again, and those that are refused.
+
+use crate::comparing::same_text;
+use staat_cert::CertRefusal;
+use staat_short::{ShortAnswer, ShortCertificate, ShortReader, read_short, short_text};
+use std::alloc::Global;
+use std::process::Abort;
+use std::test::Fail;
+
+// The example of docs/FORMATS.md.
+const GROUP: &str = "STAAT SHORT 1\nparts 5\nrest\nsplit 0 0 1\nleaf 4\nsplit 1 0 0\ngroup\nhold\n\
+    part 0\npart 3\npair 0 0 3 0\npair 0 2 3 0\nhold\npart 0\npart 1\npair 0 1 1 0\npair 1 0 3 0\nleaf 2\nend\n";
+
+const PLAN: &str = "STAAT SHORT 1\nparts 2\nplan\nsplit 0 -1 0\nleaf 1\nleaf 0\nend\n";
+
+const STUCK: &str = "STAAT SHORT 1\nparts 11\nstuck\nhold\npart 0\npart 3\npair 0 0 3 0\n\
+    pair 0 2 3 0\nend\n";
+
+const TWO_GROUPS: &str = "STAAT SHORT 1\nparts 9\nrest\nsplit 0 0 1\ngroup\nhold\ngroup\nhold\nhold\nend\n";
+
+// The greatest numbers of each kind.
+const GREATEST: &str = "STAAT SHORT 1\nparts 1024\nrest\n\
+    split -2417851639229258349412352 2417851639229258349412352 0\nleaf 1023\ngroup\nhold\npart 1023\n\
+    pair 1022 16383 1023 16383\nend\n";
+
+const TOO_SHORT: &str = "certificate too short";
+
+// Texts, with what is written of what is read, or why nothing is.
+const TEXTS: [(&str, &str); 30] = [
+    (GROUP, GROUP),
+    (PLAN, PLAN),
+    (STUCK, STUCK),
+    (TWO_GROUPS, TWO_GROUPS),
+    (GREATEST, GREATEST),
+    ("", TOO_SHORT),
+    ("STAAT SHORT 1\nparts 1\nplan\nleaf 0\nen", TOO_SHORT),
+    ("STAAT 1\n", "bad line 1"),
+    ("STAAT SHORT 2\n", "bad line 1"),
+    ("STAAT SHORT 01\n", "bad line 1"),
+    ("STAAT SHORT\n", "bad line 1"),
+    ("STAAT SHORT 1\r\n", "bad line 1"),
+    ("STAAT SHORT 1\nparts 0\n", "bad line 2"),
+    ("STAAT SHORT 1\nparts 1025\n", "bad line 2"),
+    ("STAAT SHORT 1\nparts 02\n", "bad line 2"),
+    ("STAAT SHORT 1\nparts 2\nplan 0\n", "bad line 3"),
+    ("STAAT SHORT 1\nparts 2\nplan\ngroup\n", "bad line 4"),
+    ("STAAT SHORT 1\nparts 2\nplan\nleaf 1024\n", "bad line 4"),
+    ("STAAT SHORT 1\nparts 1\nplan\nsplit 0 0 1\n", "bad line 4"),
+    ("STAAT SHORT 1\nparts 1\nplan\nleaf 0\nleaf 0\n", "bad line 5"),
+    ("STAAT SHORT 1\nparts 2\nstuck\nend\n", "bad line 4"),
+    ("STAAT SHORT 1\nparts 2\nrest\nhold\n", "bad line 4"),
+    ("STAAT SHORT 1\nparts 2\nrest\ngroup\nend\n", "bad line 5"),
+    ("STAAT SHORT 1\nparts 2\nstuck\nhold\npart 1\npart 1\n", "bad line 6"),
+    ("STAAT SHORT 1\nparts 2\nstuck\nhold\npair 0 0 1 0\npart 1\n", "bad line 6"),
+    ("STAAT SHORT 1\nparts 2\nstuck\nhold\npair 1 0 1 0\n", "bad line 5"),
+    ("STAAT SHORT 1\nparts 2\nstuck\nhold\npair 0 0 1 16384\n", "bad line 5"),
+    (
+        "STAAT SHORT 1\nparts 2\nstuck\nhold\npair 0 1 1 0\npair 0 0 1 0\n",
+        "bad line 6",
+    ),
+    ("STAAT SHORT 1\nparts 2\nstuck\nhold\nend\n\n", "bad line 6"),
+    ("STAAT SHORT 1\nparts 2\nstuck\nhold\nleaf 0\n", "bad line 5"),
+];
+
+// What is written of what is read, or why nothing is.
+fn told(alloc: Global, bytes: &[u8]) -> Result<String, Fail> {
+    match read_short(alloc, bytes) {
+        Ok(certificate) => {
+            let text = short_text(alloc, &certificate)?;
+            Ok(String::from_utf8(text.into_vec())?)
+        }
+        Err(refusal) => Ok(format!(in alloc; "{refusal}")?),
+    }
+}
+
+#[test]
+fn short_texts_come_back_or_are_refused(rt: HostRuntime) -> Result<(), Fail> {
+    for (text, want) in TEXTS {
+        same_text(&rt, told(rt.alloc(), text.as_bytes())?.as_str(), want, text);
+    }
+    Ok(())
+}
+
+fn same_answer(rt: &impl Abort, got: Result<(), CertRefusal>, want: Result<(), CertRefusal>) {
+    assert_eq!(rt; got, want);
+}
+
+fn count_of_nodes(c: &ShortCertificate) -> usize {
+    match &c.answer {
+        ShortAnswer::Plan(nodes) => nodes.as_slice().len(),
+        ShortAnswer::Stuck(_) => 0,
+        ShortAnswer::Rest(nodes) => nodes.as_slice().len(),
+    }
+}
+
+#[test]
+fn a_short_text_is_fed_in_pieces(rt: HostRuntime) -> Result<(), Fail> {
+    let alloc = rt.alloc();
+    for size in 0..GROUP.len() {
+        let mut reader = ShortReader::new(alloc)?;
+        for piece in GROUP.as_bytes().chunks(size.max(1)) {
+            same_answer(&rt, reader.feed(piece), Ok(()));
+        }
+        let told = match reader.finish() {
+            Ok(certificate) => format!(in alloc; "nodes: {}", count_of_nodes(&certificate))?,
+            Err(refusal) => format!(in alloc; "{refusal}")?,
+        };
+        same_text(&rt, told.as_str(), "nodes: 5", GROUP);
+    }
+    let mut reader = ShortReader::new(alloc)?;
+    same_answer(&rt, reader.feed(PLAN.as_bytes()), Ok(()));
+    same_answer(&rt, reader.feed(b"x"), Err(CertRefusal::BadLine(8)));
+    Ok(())
+}
