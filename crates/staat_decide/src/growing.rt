@@ -11,7 +11,7 @@ use crate::planes::{
     Facets, Normal, X_AXIS, Y_AXIS, Z_AXIS, add_plane, add_planes, crossing, facets_of, is_ahead,
 };
 use crate::reach::Way;
-use crate::spots::{Pair, Spot, pairs_of, spots_of};
+use crate::spots::{MOST_PAIRS, Pair, Spot, pair_of, pairs_of, spots_of};
 use crate::spreading::{Lead, are_all, is_marked, mark_first, no_marks, spread_all};
 use staat_cone::FacetSource;
 use staat_model::{Arc, Part};
@@ -22,8 +22,8 @@ use std::alloc::Global;
 /// How many vertices are gone through, as a rule, until a set counts as large.
 pub const BOUND: usize = 3000;
 
-/// What growing ends with: a direction along which the set should come apart, or pairs of pieces that should hold it; or
-/// the set is too large for the bound.
+/// What growing ends with: a direction along which the set should come apart, or pairs of pieces that should hold it,
+/// or the set is too large for the bound.
 #[derive(Drop)]
 pub enum Growth {
     Free(V3),
@@ -194,21 +194,28 @@ fn meets_there<F: FacetSource>(
     Ok(leads_along(search, met.k, d))
 }
 
-// the arc that a pair may have on the way from a marked place to one that is not
-fn across(search: &Search, way: Way, k: usize) -> Option<Met> {
-    let Some(pair) = pair_at(search, k) else {
-        return None;
-    };
+// whether the arc that a pair may have on the way from a marked place to one that is not is turned, if there is one
+fn turned_on(search: &Search, way: Way, pair: &Pair) -> Option<bool> {
     let is_first = is_marked(search.marks.as_slice(), pair.from);
     let is_second = is_marked(search.marks.as_slice(), pair.to);
     if is_first == is_second {
         return None;
     }
-    let is_turned = match way {
-        Way::Ahead => is_second,
-        Way::Back => is_first,
+    match way {
+        Way::Ahead => Some(is_second),
+        Way::Back => Some(is_first),
+    }
+}
+
+// so for the pair at the place k
+fn across(search: &Search, way: Way, k: usize) -> Option<Met> {
+    let Some(pair) = pair_at(search, k) else {
+        return None;
     };
-    Some(Met { k, is_turned })
+    match turned_on(search, way, &pair) {
+        None => None,
+        Some(is_turned) => Some(Met { k, is_turned }),
+    }
 }
 
 // the first pair across of which the one piece meets the other
@@ -230,6 +237,113 @@ fn first_met<F: FacetSource>(
         }
     }
     Ok(None)
+}
+
+// whether the first piece of the arc meets the second, if there are such
+fn arc_meets<F: FacetSource>(
+    alloc: Global,
+    source: &F,
+    parts: &[Part],
+    along: &Along,
+    arc: Arc,
+) -> Result<bool, OutOfMemory>
+    requires { IsMotionOf parts.now along.now }
+{
+    if !has_pieces(parts, arc) {
+        return Ok(false);
+    }
+    let answer = along.meets(alloc, source, parts, arc)?;
+    Ok(answer)
+}
+
+// the pair of a spot and one of the later ones, not listed before, if it is across and the one piece meets the other
+fn unlisted<F: FacetSource>(
+    search: &mut Search,
+    alloc: Global,
+    source: &F,
+    parts: &[Part],
+    along: &Along,
+    way: Way,
+    pair: Pair,
+) -> Result<Option<Met>, OutOfMemory>
+    requires { IsMotionOf parts.now along.now }
+{
+    let Some(is_turned) = turned_on(search, way, &pair) else {
+        return Ok(None);
+    };
+    let Some(arc) = arc_of(search, &pair, is_turned) else {
+        return Ok(None);
+    };
+    if !arc_meets(alloc, source, parts, along, arc)? {
+        return Ok(None);
+    }
+    let k = search.pairs.len();
+    search.pairs.push(pair)?;
+    search.facets.push(None)?;
+    ask_facets(search, alloc, source, parts, k)?;
+    Ok(Some(Met { k, is_turned }))
+}
+
+// the first pair of a spot and a later one that is not listed, is across and meets; it is listed now
+fn unlisted_after<F: FacetSource>(
+    search: &mut Search,
+    alloc: Global,
+    source: &F,
+    parts: &[Part],
+    along: &Along,
+    way: Way,
+    a: usize,
+) -> Result<Option<Met>, OutOfMemory>
+    requires { IsMotionOf parts.now along.now }
+{
+    for b in a..search.spots.len() {
+        if let Some(pair) = pair_of(search.spots.as_slice(), a, b) {
+            if let Some(met) = unlisted(search, alloc, source, parts, along, way, pair)? {
+                return Ok(Some(met));
+            }
+        }
+    }
+    Ok(None)
+}
+
+// the same of any two spots, where there are too many to be listed
+fn first_unlisted<F: FacetSource>(
+    search: &mut Search,
+    alloc: Global,
+    source: &F,
+    parts: &[Part],
+    along: &Along,
+    way: Way,
+) -> Result<Option<Met>, OutOfMemory>
+    requires { IsMotionOf parts.now along.now }
+{
+    if search.pairs.len() < MOST_PAIRS {
+        return Ok(None);
+    }
+    for a in 0..search.spots.len() {
+        if let Some(met) = unlisted_after(search, alloc, source, parts, along, way, a)? {
+            return Ok(Some(met));
+        }
+    }
+    Ok(None)
+}
+
+// the first pair across of which the one piece meets the other, of those that are listed, or else of all
+fn next_met<F: FacetSource>(
+    search: &mut Search,
+    alloc: Global,
+    source: &F,
+    parts: &[Part],
+    along: &Along,
+    way: Way,
+) -> Result<Option<Met>, OutOfMemory>
+    requires { IsMotionOf parts.now along.now }
+{
+    if let Some(met) = first_met(search, alloc, source, parts, along, way)? {
+        return Ok(Some(met));
+    }
+    let answer = first_unlisted(search, alloc, source, parts, along, way)?;
+    Ok(answer)
 }
 
 // adds the pair at the place k to the core, with its planes
@@ -260,7 +374,7 @@ fn grow_on<F: FacetSource>(
         if are_all(search.marks.as_slice()) {
             return Ok(true);
         }
-        let Some(met) = first_met(search, alloc, source, parts, along, way)? else {
+        let Some(met) = next_met(search, alloc, source, parts, along, way)? else {
             return Ok(false);
         };
         if let Some(pair) = pair_at(search, met.k) {

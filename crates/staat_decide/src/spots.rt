@@ -1,6 +1,4 @@
 // How large pieces look from each other: what a guess at a core goes by.
-ghost use Rattle.std.specs.Prelude.{◌<◌, length};
-
 use staat_model::{Part, Piece};
 use staat_vec::{OutOfMemory, V3};
 use std::alloc::Global;
@@ -125,8 +123,8 @@ fn are_met(low: i128, high: i128, other_low: i128, other_high: i128) -> bool {
 
 const FINE: u128 = 1 << 40;
 
-// how many pairs are listed at most
-const MOST_PAIRS: usize = 1 << 20;
+/// How many pairs are listed at most.
+pub const MOST_PAIRS: usize = 1 << 20;
 
 /// Two spots by their numbers, the places of their parts, and how small they look from each other.
 #[derive(Clone, Copy)]
@@ -145,27 +143,36 @@ fn smallness(a: &Spot, b: &Spot) -> u128 {
     distance.saturating_mul(FINE) / size
 }
 
-// adds the pairs of a spot with later ones of other parts
-fn add_pairs(pairs: &mut Vec<Pair>, spots: &[Spot], a: usize) -> Result<(), OutOfMemory>
-    requires { a < length spots.now }
-{
-    let spot = spots[a];
-    for b in a + 1..spots.len() {
-        let other = spots[b];
-        if other.place != spot.place && pairs.len() < MOST_PAIRS {
-            pairs.push(Pair {
-                smallness: smallness(&spot, &other),
-                a,
-                b,
-                from: spot.place,
-                to: other.place,
-            })?;
+/// The pair of two spots, if they are of different parts.
+pub fn pair_of(spots: &[Spot], a: usize, b: usize) -> Option<Pair> {
+    if a >= spots.len() || b >= spots.len() || spots[a].place == spots[b].place {
+        return None;
+    }
+    let first = &spots[a];
+    let second = &spots[b];
+    Some(Pair {
+        smallness: smallness(first, second),
+        a,
+        b,
+        from: first.place,
+        to: second.place,
+    })
+}
+
+// adds the pairs of a spot with later ones
+fn add_pairs(pairs: &mut Vec<Pair>, spots: &[Spot], a: usize) -> Result<(), OutOfMemory> {
+    for b in a..spots.len() {
+        if pairs.len() >= MOST_PAIRS {
+            return Ok(());
+        }
+        if let Some(pair) = pair_of(spots, a, b) {
+            pairs.push(pair)?;
         }
     }
     Ok(())
 }
 
-/// The pairs of spots of different parts, those first that look large from each other.
+/// The pairs of spots of different parts, those first that look large from each other; at most [`MOST_PAIRS`].
 pub fn pairs_of(alloc: Global, spots: &[Spot]) -> Result<Vec<Pair>, OutOfMemory> {
     let mut pairs = Vec::new(alloc);
     for a in 0..spots.len() {
