@@ -16,7 +16,8 @@ const PLAN: &str = "STAAT SHORT 1\nparts 2\nplan\nsplit 0 -1 0\nleaf 1\nleaf 0\n
 const STUCK: &str = "STAAT SHORT 1\nparts 11\nstuck\nhold\npart 0\npart 3\npair 0 0 3 0\n\
     pair 0 2 3 0\nend\n";
 
-const TWO_GROUPS: &str = "STAAT SHORT 1\nparts 9\nrest\nsplit 0 0 1\ngroup\nhold\ngroup\nhold\nhold\nend\n";
+const TWO_GROUPS: &str =
+    "STAAT SHORT 1\nparts 9\nrest\nsplit 0 0 1\ngroup\nhold\ngroup\nhold\nhold\nend\n";
 
 // The greatest numbers of each kind.
 const GREATEST: &str = "STAAT SHORT 1\nparts 1024\nrest\n\
@@ -46,20 +47,38 @@ const TEXTS: [(&str, &str); 30] = [
     ("STAAT SHORT 1\nparts 2\nplan\ngroup\n", "bad line 4"),
     ("STAAT SHORT 1\nparts 2\nplan\nleaf 1024\n", "bad line 4"),
     ("STAAT SHORT 1\nparts 1\nplan\nsplit 0 0 1\n", "bad line 4"),
-    ("STAAT SHORT 1\nparts 1\nplan\nleaf 0\nleaf 0\n", "bad line 5"),
+    (
+        "STAAT SHORT 1\nparts 1\nplan\nleaf 0\nleaf 0\n",
+        "bad line 5",
+    ),
     ("STAAT SHORT 1\nparts 2\nstuck\nend\n", "bad line 4"),
     ("STAAT SHORT 1\nparts 2\nrest\nhold\n", "bad line 4"),
     ("STAAT SHORT 1\nparts 2\nrest\ngroup\nend\n", "bad line 5"),
-    ("STAAT SHORT 1\nparts 2\nstuck\nhold\npart 1\npart 1\n", "bad line 6"),
-    ("STAAT SHORT 1\nparts 2\nstuck\nhold\npair 0 0 1 0\npart 1\n", "bad line 6"),
-    ("STAAT SHORT 1\nparts 2\nstuck\nhold\npair 1 0 1 0\n", "bad line 5"),
-    ("STAAT SHORT 1\nparts 2\nstuck\nhold\npair 0 0 1 16384\n", "bad line 5"),
+    (
+        "STAAT SHORT 1\nparts 2\nstuck\nhold\npart 1\npart 1\n",
+        "bad line 6",
+    ),
+    (
+        "STAAT SHORT 1\nparts 2\nstuck\nhold\npair 0 0 1 0\npart 1\n",
+        "bad line 6",
+    ),
+    (
+        "STAAT SHORT 1\nparts 2\nstuck\nhold\npair 1 0 1 0\n",
+        "bad line 5",
+    ),
+    (
+        "STAAT SHORT 1\nparts 2\nstuck\nhold\npair 0 0 1 16384\n",
+        "bad line 5",
+    ),
     (
         "STAAT SHORT 1\nparts 2\nstuck\nhold\npair 0 1 1 0\npair 0 0 1 0\n",
         "bad line 6",
     ),
     ("STAAT SHORT 1\nparts 2\nstuck\nhold\nend\n\n", "bad line 6"),
-    ("STAAT SHORT 1\nparts 2\nstuck\nhold\nleaf 0\n", "bad line 5"),
+    (
+        "STAAT SHORT 1\nparts 2\nstuck\nhold\nleaf 0\n",
+        "bad line 5",
+    ),
 ];
 
 // What is written of what is read, or why nothing is.
