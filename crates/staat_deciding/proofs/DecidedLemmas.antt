@@ -47,7 +47,8 @@ len_list : (members : List ℕ) → set.len (set_of members) ≤ length members
 len_list [] = let e = set.len-empty nat_cmp in omega (arith, e)
 len_list (p ∷ rest) =
     let e : set.len (set.insert (set_of rest) p) ≡ cond (set.contains (set_of rest) p) (set.len (set_of rest)) (set.len (set_of rest) + 1) = set.len-insert nat_cmp_total (set_of rest) p in
-    go (set.contains (set_of rest) p) (set.len (set_of rest)) (set.len (set.insert (set_of rest) p)) (length rest) e (len_list rest)
+    let le : set.len (set.insert (set_of rest) p) ≤ length rest + 1 = go (set.contains (set_of rest) p) (set.len (set_of rest)) (set.len (set.insert (set_of rest) p)) (length rest) e (len_list rest) in
+    omega (arith, le)
   where
     go : (b : Bool) (m n k : ℕ) → n ≡ cond b m (m + 1) → m ≤ k → n ≤ k + 1
     go true m n k e le = omega arith
