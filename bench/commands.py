@@ -25,14 +25,14 @@ from dataclasses import dataclass
 import solids
 
 HERE = pathlib.Path(__file__).resolve().parent
-GALLERY = HERE.parent / "gallery"
+TOP = HERE.parent
 TIMES = HERE / "times.json"
 FACTOR, SLACK = (
     1.25,
     0.02,
 )  # what is no more than this above the stored figure is as fast: a factor, and yardsticks
 LONGEST = 20.0  # seconds: what takes longer is run once
-MANIFEST = "--manifest=parts.json"
+MANIFEST = "--manifest"  # stands for the product's own part list
 CERTIFICATE = "certificate"
 
 # What is asked of each product, in order: `check` judges what `cert` wrote.
@@ -47,7 +47,10 @@ COMMANDS: dict[str, tuple[str, ...]] = {
     "explode": ("explode", MANIFEST),
     "linear": ("linear", MANIFEST),
     "local": ("local", MANIFEST),
+    "decide": ("decide", MANIFEST),
+    "blocks": ("blocks", "--along=1,2,3", MANIFEST),
 }
+ANSWERED = 5  # statuses below this one say something of the product
 
 
 @dataclass(frozen=True)
@@ -78,15 +81,26 @@ def part_of(each: int, piece: int) -> int:
     return piece // each
 
 
-def products(folder: pathlib.Path) -> Iterator[tuple[str, pathlib.Path]]:
-    """Each product and the folder that its part list stands in; those that are made are written into `folder`."""
-    for listing in sorted(GALLERY.glob("*/parts.json")):
-        yield listing.parent.name, listing.parent
+def listed() -> Iterator[tuple[str, str]]:
+    """The products of the repository: each one's name, and its part list as it is named from the top folder."""
+    for listing in sorted([*TOP.glob("gallery/*/parts.json"), *TOP.glob("examples/tray/*.json")]):
+        folder = listing.parent.name
+        name = folder if listing.stem == "parts" else f"{folder} {listing.stem}"
+        yield name, str(listing.relative_to(TOP))
+
+
+def products(folder: pathlib.Path) -> Iterator[tuple[str, pathlib.Path, str]]:
+    """Each product: its name, the folder in which it is asked about, and its part list as it is named there.
+
+    Those that are made are written into `folder`.
+    """
+    for name, listing in listed():
+        yield name, TOP, listing
     for number, (name, pieces, each) in enumerate(large()):
         at = folder / str(number)
         at.mkdir()
         solids.write(str(at), pieces, functools.partial(part_of, each))
-        yield name, at
+        yield name, at, "parts.json"
 
 
 def run(words: list[str], folder: pathlib.Path, out: pathlib.Path) -> Figure:
@@ -121,14 +135,20 @@ class Clock:
         best = min(it.yardsticks for it in found)
         return Figure(round(best / min(units), 4), found[-1].status)
 
-    def all(self, folder: pathlib.Path) -> dict[str, Figure]:
+    def all(self, folder: pathlib.Path, listing: str) -> dict[str, Figure]:
         """What each command takes of one product."""
+        stands_for = {
+            CERTIFICATE: str(self._folder / CERTIFICATE),
+            MANIFEST: f"{MANIFEST}={listing}",
+        }
         certificate = self._folder / CERTIFICATE
         figures = {}
         for command, words in COMMANDS.items():
             out = certificate if command == "cert" else self._folder / "out"
-            asked = tuple(str(certificate) if word == CERTIFICATE else word for word in words)
+            asked = tuple(stands_for.get(word, word) for word in words)
             figures[command] = self.time(asked, folder, out)
+            if figures[command].status >= ANSWERED:
+                sys.exit(f"bench: {listing}: {command} ended with status {figures[command].status}")
         return figures
 
 
@@ -174,10 +194,10 @@ def compare(
     """The figures of all products, or of those that are named, and how many got slower; each is told."""
     figures: Figures = {}
     count = 0
-    for product, at in products(folder):
+    for product, at, listing in products(folder):
         if only and product not in only:
             continue
-        figures[product] = clock.all(at)
+        figures[product] = clock.all(at, listing)
         row = "  ".join(
             f"{command} {it.yardsticks:.3f}" for command, it in figures[product].items()
         )

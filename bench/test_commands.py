@@ -51,7 +51,7 @@ class Stored(unittest.TestCase):
             self.assertEqual(commands.read(path), figures)
 
     def test_products(self) -> None:
-        names = {path.parent.name for path in commands.GALLERY.glob("*/parts.json")}
+        names = {name for name, _ in commands.listed()}
         names |= {name for name, _, _ in commands.large()}
         self.assertEqual(set(commands.read(commands.TIMES)), names)
 
@@ -84,7 +84,12 @@ class Runs(unittest.TestCase):
         status, text = self.ask("--only=dovetail")
         self.assertEqual(status, 1)
         self.assertIn("slower: dovetail: look: status 3, stored 0\n", text)
-        self.assertTrue(text.endswith("10 times, 10 slower\n"))
+        self.assertTrue(text.endswith("12 times, 12 slower\n"))
+
+    def test_unread(self) -> None:
+        self.program.write_text("#!/bin/sh\nexit 5\n", encoding="utf-8")
+        with self.assertRaises(SystemExit):
+            self.ask("--only=dovetail")
 
     def test_unknown(self) -> None:
         self.assertEqual(self.ask("--only=nothing"), (2, "bench: no product nothing\n"))

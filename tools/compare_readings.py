@@ -39,6 +39,8 @@ ON_LISTS = (
     ("explode", "--off"),
     ("linear",),
     ("local",),
+    ("decide",),
+    ("blocks", "--along=0,0,1"),
 )
 
 Answer = tuple[int, bytes, bytes]  # the status, out and err

@@ -90,6 +90,8 @@ def commands(program, folder):
         ["check", made["refusal"], *CLOSED],
         ["cells", *CUBES],
         ["explode", "--off", *CUBES],
+        ["decide", *CUBES],
+        ["blocks", "--along=0,0,1", *CUBES],
         ["drill", "row", "2"],
     ]
 
