@@ -146,7 +146,8 @@ def limit_lines(cuts: Sequence[Cut], options: Options) -> List[str]:
         )
     elif parts > PLANNER[0] or pieces > PLANNER[1]:
         lines.append(
-            f"{parts} parts, {pieces} pieces: more than the {PLANNER[0]} and {PLANNER[1]} that staat plan takes"
+            f"{parts} parts, {pieces} pieces: staat decide takes them, staat plan no more than"
+            f" {PLANNER[0]} and {PLANNER[1]}"
         )
     if lines:
         lines += costly_lines(cuts, options)

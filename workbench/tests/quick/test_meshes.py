@@ -345,7 +345,9 @@ class Meshes(Case):
             self.write(f"many/{k}.off", off(corners([k, 0, 0], [k + 1, 1, 1]), SIDES))
         status, out, _ = self.run_tool(self.path("many"))
         self.assertEqual(status, 0)
-        self.assertIn("1 parts, 65 pieces: more than the 32 and 64 that staat plan takes", out)
+        self.assertIn(
+            "1 parts, 65 pieces: staat decide takes them, staat plan no more than 32 and 64", out
+        )
         self.assertIn("most pieces: 65 of many", out)
         status, out, _ = self.run_tool(*(self.path(f"many/{k}.off") for k in range(33)))
         self.assertIn("33 parts, 33 pieces", out)
