@@ -71,7 +71,12 @@ fn line(
 }
 
 // The answer for an outcome: its certificate is written, read again and judged.
-fn drilled(alloc: Global, name: DrillProduct, sound: &Sound, outcome: &Outcome) -> Result<Answer, Fault>
+fn drilled(
+    alloc: Global,
+    name: DrillProduct,
+    sound: &Sound,
+    outcome: &Outcome,
+) -> Result<Answer, Fault>
     requires outcome { IsOutcome false sound.now (all_parts sound.now) (finding_of outcome.now) }
     requires shown { CanBeShown (finding_of outcome.now) }
     requires certified { CanBeCertified sound.now (finding_of outcome.now) }

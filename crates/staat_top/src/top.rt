@@ -9,12 +9,12 @@ ghost use Rattle.staat_top.specs.Runs.{HasRequestBounds, HasRequestCause, IsExpl
 ghost use Rattle.staat_input.specs.Causes.{over};
 
 use crate::print::{print, refuse};
+use staat_deciding::blocks::blocks;
+use staat_deciding::decide::decide;
 use staat_directions::cells::cells;
 use staat_directions::graph::graph;
 use staat_directions::look::look;
 use staat_directions::pair::pair;
-use staat_deciding::blocks::blocks;
-use staat_deciding::decide::decide;
 use staat_edge::{Shelf, Sink};
 use staat_fault::Fault;
 use staat_input::Answer;
