@@ -14,7 +14,8 @@ use Rattle.staat_short.specs.declared.short.ShortAnswer.{ShortAnswer}
 use Rattle.staat_short.specs.declared.short.ShortAnswer.TheVariants as answer
 use Rattle.staat_short.specs.declared.short.ShortCertificate.{ShortCertificate}
 use Rattle.staat_short.specs.PlanNodes.{without_groups}
-use Rattle.staat_short.specs.ShortTexts.{AreHoldsInOrder, GroupedPlan, IsUngrouped, grouped, part_alone, short_nodes_of, taken_apart}
+use Rattle.staat_short.specs.ShortTexts.{AreHoldsInOrder, GroupedPlan, IsUngrouped, grouped, part_alone}
+use Rattle.staat_short.specs.ShortTexts.{short_nodes_of, taken_apart}
 use Rattle.staat_confirm.specs.declared.verdict.ShortReason.{ShortReason}
 use Rattle.staat_confirm.specs.declared.verdict.ShortReason.TheVariants.{WrongParts, HoldBreaks, GroupBreaks, BadLeaves}
 use Rattle.staat_confirm.specs.declared.verdict.ShortVerdict.{ShortVerdict}

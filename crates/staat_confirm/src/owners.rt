@@ -1,5 +1,6 @@
 // Which node each part is a member of.
-ghost use Rattle.std.specs.Prelude.{◌≡◌, ◌<◌, ◌^◌, All, Contains, IfOk, IsFalse, IsTrue, MatchOption, MatchResult, length};
+ghost use Rattle.std.specs.Prelude.{◌≡◌, ◌<◌, ◌^◌, All, Contains, IfOk, IsFalse, IsTrue, MatchOption, length};
+ghost use Rattle.std.specs.Prelude.{MatchResult};
 ghost use Rattle.staat_confirm.specs.Members.{AreMembersOnce, IsMemberFault, IsMemberOf};
 ghost use Rattle.staat_confirm.specs.Owners.{
   AreAllOwned,
@@ -57,8 +58,10 @@ fn take_members(
 ) -> Result<bool, OutOfMemory>
     requires few { length parts.now < 2 ^ 32 }
     requires keeps { KeepsHolds parts.now node.now }
-    ensures taken { IfOk result (λ answer. IsTrue answer → TakesAll (IsMemberOf parts.now node.now) k owners.old owners.new) }
-    ensures refused { IfOk result (λ answer. IsFalse answer → RefusesSome (IsMemberOf parts.now node.now) k owners.old) }
+    ensures taken { IfOk result (λ answer. IsTrue answer →
+        TakesAll (IsMemberOf parts.now node.now) k owners.old owners.new) }
+    ensures refused { IfOk result (λ answer. IsFalse answer →
+        RefusesSome (IsMemberOf parts.now node.now) k owners.old) }
 {
     match node {
         ShortNode::Leaf(p) => Ok(take(owners, *p, k)),

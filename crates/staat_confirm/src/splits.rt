@@ -1,5 +1,5 @@
 // The splits of a plan, in preorder.
-ghost use Rattle.std.specs.Prelude.{◌≡◌, ◌≢◌, ◌<◌, ◌≤◌, ◌^◌, ◌↔◌, IfOk, IsTrue, MatchOption, OnOk, Some, length, slice_get};
+ghost use Rattle.std.specs.Prelude.{◌≡◌, ◌<◌, ◌≤◌, IfOk, MatchOption, OnOk, Some, length, slice_get};
 ghost use Rattle.staat_vec.specs.Vectors.{IsWithin, origin};
 ghost use Rattle.staat_motion.specs.Motions.{AreBodies, IsMotionOf};
 ghost use Rattle.staat_short.specs.declared.short.ShortNode.TheVariants.{Split};
