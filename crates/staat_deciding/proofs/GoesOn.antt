@@ -21,6 +21,9 @@ answered parts found (held members ascending two within is_stuck e) = (_, e, ome
 no_fault : (parts : List Part) (fault : Fault) → IsDecided parts (Err fault) → ⊥
 no_fault parts fault d = let (a, e, small) = answered parts (Err fault) d in absurd (given_not_fault a fault (sym e))
 
+fault_is : (stands fault : Fault) → ◌≡◌ {A = Found Answer} (Err fault) (Err stands) → stands ≡ fault
+fault_is stands fault e = cc
+
 -- sound parts are read
 read : (files : Files) (asked : Asked) (parts : List Part) → AreSoundProductParts files asked parts → IsSoundProductOf files asked (Ok parts)
 read files asked parts are = inr (parts, are.named, sound are.sound refl)
@@ -39,7 +42,7 @@ decide_answers asked files parts found are (inr (built, at, d)) settled = answer
 -- where the parts are sound, the work stands at no fault but at a file that is there
 pub decide_goes_on : (asked : Asked) (files : Files) (parts : List Part) (fault : Fault) → AreSoundProductParts files asked parts → DecideWork asked files (Err fault) → ((name : List ℕ) → fault ≡ ReadFault name → bytes_of name files ≡ None) → ⊥
 decide_goes_on asked files parts fault are (inr (built, at, d)) lacks = no_fault built fault d
-decide_goes_on asked files parts fault are (inl (stands, at, e)) lacks = go stands at cc
+decide_goes_on asked files parts fault are (inl (stands, at, e)) lacks = go stands at (fault_is stands fault e)
   where
     go : (stands : Fault) → IsSoundProductOf files asked (Err stands) → stands ≡ fault → ⊥
     go (ReadFault name) at same = (sound_product_one files asked).held name (Ok parts) at (lacks name (sym same)) (read files asked parts are) tt
@@ -51,7 +54,7 @@ decide_reads asked files name found (inr (built, at, d)) lacks work settled = no
 decide_reads asked files name found (inl (stands, at, e)) lacks work settled = go work
   where
     here : IsSoundProductOf files asked (Err (ReadFault name))
-    here = subst (λ f. IsSoundProductOf files asked (Err f)) cc at
+    here = subst (λ f. IsSoundProductOf files asked (Err f)) (fault_is stands (ReadFault name) e) at
 
     go : DecideWork asked files found → ⊥
     go (inl (fault, at, e)) = (sound_product_one files asked).held name (Err fault) here lacks at (settled_at found fault e settled)
