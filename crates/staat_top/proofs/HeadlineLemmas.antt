@@ -181,8 +181,8 @@ is_denied files asked reply bounds is one =
 
 -- sound parts have no reply but an answer
 decides : (files : Files) (asked : Asked) (parts : List Part) (reply : Reply) → AreSoundProductParts files asked parts → IsReply (Some (Decide asked)) files reply → reply.status < 2
-decides files asked parts reply sound is =
-    let (a, same, small) = decide_answers asked files parts is.found sound is.work (makes_settled is.found reply is.makes) in
+decides files asked parts reply are is =
+    let (a, same, small) = decide_answers asked files parts is.found are is.work (makes_settled is.found reply is.makes) in
     let made : reply ≡ answered a = subst (λ found. MakesReply found reply) same is.makes in
     subst (λ (r : Reply). r.status < 2) (sym made) small
 
