@@ -43,6 +43,9 @@ ON_LISTS = (
     ("blocks", "--along=0,0,1"),
 )
 
+MOST_PARTS = 32  # of all commands but these
+OF_ANY_SIZE = ("decide", "blocks")
+
 Answer = tuple[int, bytes, bytes]  # the status, out and err
 Texts = Mapping[str, Sequence[bytes]]  # what each file gives, at each of its openings
 
@@ -125,13 +128,20 @@ def faults_of(program: Path, case: Case) -> list[str]:
     return faults
 
 
+def words_for(name: str, text: bytes) -> Sequence[tuple[str, ...]]:
+    """What is asked of a part list: of an example all, or what takes as many parts as it has."""
+    if len(json.loads(text)["parts"]) > MOST_PARTS:
+        return [words for words in ON_LISTS if words[0] in OF_ANY_SIZE]
+    return ON_LISTS if name.startswith("examples") else ON_LISTS[:1]
+
+
 def stored() -> Iterator[Case]:
     """Each example and each product of the gallery."""
     for path in sorted([*TOP.glob("examples/*/parts.json"), *TOP.glob("gallery/*/parts.json")]):
         name = path.relative_to(TOP).as_posix()
         files = [name, *listed(path.read_bytes())]
         texts = {file: [(TOP / file).read_bytes()] for file in files}
-        for words in ON_LISTS if name.startswith("examples") else ON_LISTS[:1]:
+        for words in words_for(name, path.read_bytes()):
             yield Case(f"{' '.join(words)} {name}", (*words, f"--manifest={name}"), texts)
         certificate = path.with_name("plan.cert")
         if certificate.exists():
