@@ -24,7 +24,7 @@ import random
 import subprocess
 import sys
 import tempfile
-from collections.abc import Iterator, Sequence
+from collections.abc import Iterable, Iterator, Sequence
 from dataclasses import dataclass
 from itertools import islice, product as pairs_of
 from pathlib import Path
@@ -201,35 +201,34 @@ def _endless(chance: random.Random) -> Iterator[list[object]]:
         yield from made.made_products(chance)
 
 
-def tried(program: str, seed: int, numbers: range) -> tuple[int, list[str]]:
-    """How many of these products pass, and what is wrong with the others."""
+def tried(
+    comparison: Comparison, subjects: Iterable[tuple[str, int, made.Subject]]
+) -> tuple[int, list[str]]:
+    """How many of the products pass, and what is wrong with the others, each told by its title."""
     passed, wrong = 0, []
-    with tempfile.TemporaryDirectory() as folder:
-        comparison = Comparison(program, Path(folder))
-        for number, subject in made_subjects(seed, numbers, folder):
-            try:
-                comparison.judge(subject, number)
-                passed += 1
-            except (Wrong, subprocess.TimeoutExpired) as why:
-                wrong.append(f"seed {seed} case {number}: {why}")
+    for title, number, subject in subjects:
+        try:
+            comparison.judge(subject, number)
+            passed += 1
+        except (Wrong, subprocess.TimeoutExpired) as why:
+            wrong.append(f"{title}: {why}")
     return passed, wrong
+
+
+def tried_made(program: str, seed: int, numbers: range) -> tuple[int, list[str]]:
+    """The same of products that are made."""
+    with tempfile.TemporaryDirectory() as folder:
+        subjects = made_subjects(seed, numbers, folder)
+        titled = ((f"seed {seed} case {number}", number, it) for number, it in subjects)
+        return tried(Comparison(program, Path(folder)), titled)
 
 
 def tried_lists(program: str, lists: Sequence[Path]) -> tuple[int, list[str]]:
-    """The same of the products of part lists."""
-    passed, wrong = 0, []
+    """The same of the products of part lists that `look` takes."""
     with tempfile.TemporaryDirectory() as folder:
-        comparison = Comparison(program, Path(folder))
-        for number, path in enumerate(lists):
-            subject = made.listed_subject(program, path)
-            if subject is None:
-                continue
-            try:
-                comparison.judge(subject, number)
-                passed += 1
-            except (Wrong, subprocess.TimeoutExpired) as why:
-                wrong.append(f"{path}: {why}")
-    return passed, wrong
+        found = ((path, made.listed_subject(program, path)) for path in lists)
+        titled = ((str(path), k, it) for k, (path, it) in enumerate(found) if it is not None)
+        return tried(Comparison(program, Path(folder)), titled)
 
 
 def main(words: Sequence[str]) -> int:
@@ -245,7 +244,7 @@ def main(words: Sequence[str]) -> int:
         path for folder in ("examples", "gallery") for path in (TOP / folder).glob("*/*.json")
     )
     if given.only is not None:
-        passed, wrong = tried(program, given.seed, range(given.only, given.only + 1))
+        passed, wrong = tried_made(program, given.seed, range(given.only, given.only + 1))
     else:
         ranges = [
             range(k, min(k + MADE_AT_ONCE, given.made)) for k in range(0, given.made, MADE_AT_ONCE)
@@ -253,7 +252,7 @@ def main(words: Sequence[str]) -> int:
         passed, wrong = tried_lists(program, lists)
         with concurrent.futures.ProcessPoolExecutor(os.cpu_count()) as pool:
             for more, faults in pool.map(
-                tried, [program] * len(ranges), [given.seed] * len(ranges), ranges
+                tried_made, [program] * len(ranges), [given.seed] * len(ranges), ranges
             ):
                 passed, wrong = passed + more, wrong + faults
     for line in wrong:
