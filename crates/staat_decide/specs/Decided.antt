@@ -6,6 +6,7 @@ use Rattle.staat_model.specs.Plans.{IsGood, IsStuck, plan_of}
 use Rattle.staat_model.specs.SetLists.{set_of}
 use Rattle.staat_holds.specs.declared.hold.Hold.{Hold}
 use Rattle.staat_holds.specs.Chains.{KeepsHoldRules, own_names}
+use Rattle.staat_holds.specs.Partials.{HasSmallDirections}
 use Rattle.staat_decide.specs.declared.decision.Decision.{Decision}
 use Rattle.staat_decide.specs.declared.decision.Decision.TheVariants as decision
 use Rattle.staat_decide.specs.declared.decision.Parting.{Parting}
@@ -25,7 +26,7 @@ abbrev pub IsParting : List Part → List ℕ → Parting → Type 0
 IsParting parts w (parting.Leaves leaving) = IsPeeling parts leaving.d w leaving.sets
 IsParting parts w (parting.Stays hold) = IsStuckHold parts hold
 
--- a plan that takes w apart, or parts that are stuck
+-- a plan that takes w apart, with directions that are not too great, or parts that are stuck
 abbrev pub IsDecision : List Part → PartSet → Decision → Type 0
-IsDecision parts w (decision.Apart tree) = IsGood parts w (plan_of tree)
+IsDecision parts w (decision.Apart tree) = IsGood parts w (plan_of tree) × HasSmallDirections (plan_of tree)
 IsDecision parts w (decision.Held hold) = IsStuckHold parts hold

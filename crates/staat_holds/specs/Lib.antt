@@ -2,4 +2,5 @@ pub mod Chains
 pub mod Holds
 pub mod Links
 pub mod Marks
+pub mod Partials
 pub mod Reaching

@@ -2,6 +2,7 @@
 //! set of parts that is stuck.
 #![tactic(auto)]
 
+mod grouped;
 mod hold;
 mod joined;
 mod judge;
@@ -13,6 +14,7 @@ mod reach;
 mod rules;
 mod ways;
 
+pub use grouped::{Group, GroupedTree};
 pub use hold::{BrokenHold, Hold, HoldRule, Holds};
 pub use joined::joined_parts;
 pub use judge::{first_gap, judge_hold};

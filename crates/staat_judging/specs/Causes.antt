@@ -6,7 +6,7 @@ use Rattle.staat_words.specs.declared.request.CheckRequest.{CheckRequest}
 use Rattle.staat_fault.specs.declared.fault.Fault.{Fault}
 use Rattle.staat_fault.specs.declared.fault.Fault.TheVariants.{TooLong}
 use Rattle.staat_input.specs.Work.{Files}
-use Rattle.staat_input.specs.Assembling.{IsSoundOf}
+use Rattle.staat_input.specs.Assembling.{IsSoundOf, IsSoundProductOf}
 use Rattle.staat_input.specs.Causes.{ShelfSide, IsPastLimit, HasCause, MayName}
 
 -- what shows why a fault came of the certificate's file, which has a limit of its own
@@ -26,3 +26,15 @@ abbrev pub HasCheckCause : CheckRequest → ShelfSide → Fault → Type 0
 HasCheckCause request shelf (TooLong name) =
     IsLongInput request.asked shelf name ⊎ ((name ≡ request.certificate) × IsPastLimit TEXT_LIMIT shelf name)
 HasCheckCause request shelf fault = HasCause shelf fault
+
+-- the same of the input of `confirm`
+pub record IsLongProductInput (asked : Asked) (shelf : ShelfSide) (name : List ℕ) : Type 0 where
+  pub past : IsPastLimit FILE_LIMIT shelf name
+  pub named : MayName asked.input name
+  pub refused : (files : Files) → shelf.old.holds ≡ Some files → IsSoundProductOf files asked (Err (TooLong name))
+
+-- what shows why a fault of `confirm` came
+abbrev pub HasConfirmCause : CheckRequest → ShelfSide → Fault → Type 0
+HasConfirmCause request shelf (TooLong name) =
+    IsLongProductInput request.asked shelf name ⊎ ((name ≡ request.certificate) × IsPastLimit TEXT_LIMIT shelf name)
+HasConfirmCause request shelf fault = HasCause shelf fault

@@ -1,5 +1,6 @@
-//! The command `check`, which judges a certificate.
+//! The commands `check` and `confirm`, which judge certificates.
 #![tactic(auto)]
 
 mod certificate;
 pub mod check;
+pub mod confirm;

@@ -24,6 +24,7 @@ use Rattle.staat_words.specs.declared.request.GraphRequest.{GraphRequest}
 use Rattle.staat_words.specs.declared.request.PlanRequest.{PlanRequest}
 use Rattle.staat_words.specs.declared.request.CellsRequest.{CellsRequest}
 use Rattle.staat_words.specs.declared.request.CheckRequest.{CheckRequest}
+use Rattle.staat_words.specs.declared.request.DecideRequest.{DecideRequest}
 use Rattle.staat_words.specs.declared.request.ExplodeRequest.{ExplodeRequest}
 use Rattle.staat_words.specs.declared.request.LinearRequest.{LinearRequest}
 use Rattle.staat_words.specs.declared.request.LocalRequest.{LocalRequest}
@@ -31,7 +32,7 @@ use Rattle.staat_words.specs.declared.request.DrillProduct.{DrillProduct}
 use Rattle.staat_words.specs.declared.request.DrillProduct.TheVariants.{Boxes, Cubes}
 use Rattle.staat_words.specs.declared.request.Request.{Request}
 use Rattle.staat_words.specs.declared.request.Request.TheVariants.{Pair, Look, Graph, Plan, Check, Cells}
-use Rattle.staat_words.specs.declared.request.Request.TheVariants.{Drill, Explode, Linear, Local, Decide, Blocks}
+use Rattle.staat_words.specs.declared.request.Request.TheVariants.{Drill, Explode, Linear, Local, Decide, Confirm, Blocks}
 use Rattle.staat_words.specs.declared.request.RequestRefusal.{RequestRefusal}
 use Rattle.staat_words.specs.declared.request.RequestRefusal.TheVariants.{Usage, OutOfMemory}
 use Rattle.staat_words.specs.Spelled.{◌>>=◌, vector_within}
@@ -133,9 +134,10 @@ plan_in rows = do
   certificate ← certificate_in rows
   Some (plan_request asked planes (is_given (codes "robust") rows) certificate)
 
-unfoldable pub check_in : List Row → Option CheckRequest
-check_in rows = do
-  asked ← asked_in MOST_PARTS rows
+-- a certificate's file, and what it is about, where there may be so many files
+unfoldable pub check_in : ℕ → List Row → Option CheckRequest
+check_in most rows = do
+  asked ← asked_in most rows
   certificate ← first_of (codes "certificate") rows
   Some (record { asked = asked; certificate = certificate })
 
@@ -181,6 +183,11 @@ local_in rows = do
   planes ← planes_in MOST_PLANES rows
   Some (record { asked = asked; planes = planes })
 
+unfoldable pub decide_in : List Row → Option DecideRequest
+decide_in rows = do
+  asked ← asked_in MOST_PRODUCT_PARTS rows
+  Some (record { asked = asked; rest = is_given (codes "rest") rows; certificate = is_given (codes "cert") rows })
+
 -- the request of a subcommand and its matches: a line for each command
 unfoldable pub request_in : Option (Text × List Row) → Option Request
 request_in None = None
@@ -189,15 +196,16 @@ request_in (Some found) =
     else (if bytes_eq found.0 (codes "look") then option_map Look (asked_in MOST_PARTS found.1)
     else (if bytes_eq found.0 (codes "graph") then option_map Graph (graph_in MOST_PARTS found.1)
     else (if bytes_eq found.0 (codes "plan") then option_map Plan (plan_in found.1)
-    else (if bytes_eq found.0 (codes "check") then option_map Check (check_in found.1)
+    else (if bytes_eq found.0 (codes "check") then option_map Check (check_in MOST_PARTS found.1)
     else (if bytes_eq found.0 (codes "cells") then option_map Cells (cells_in found.1)
     else (if bytes_eq found.0 (codes "drill") then option_map Drill (drill_in found.1)
     else (if bytes_eq found.0 (codes "explode") then option_map Explode (explode_in found.1)
     else (if bytes_eq found.0 (codes "linear") then option_map Linear (linear_in found.1)
     else (if bytes_eq found.0 (codes "local") then option_map Local (local_in found.1)
-    else (if bytes_eq found.0 (codes "decide") then option_map Decide (asked_in MOST_PRODUCT_PARTS found.1)
+    else (if bytes_eq found.0 (codes "decide") then option_map Decide (decide_in found.1)
+    else (if bytes_eq found.0 (codes "confirm") then option_map Confirm (check_in MOST_PRODUCT_PARTS found.1)
     else (if bytes_eq found.0 (codes "blocks") then option_map Blocks (graph_in MOST_PRODUCT_PARTS found.1)
-    else None)))))))))))
+    else None))))))))))))
 
 -- The request of the words: none is a usage fault.
 unfoldable pub request : List Text → Option Request
@@ -279,5 +287,6 @@ HasBounds (Drill product) = IsNamedProduct product
 HasBounds (Explode request) = IsExplodeRequest request
 HasBounds (Linear request) = IsLinearRequest request
 HasBounds (Local request) = IsLocalRequest request
-HasBounds (Decide asked) = IsAskedWithin MOST_PRODUCT_PARTS asked
+HasBounds (Decide request) = IsAskedWithin MOST_PRODUCT_PARTS request.asked
+HasBounds (Confirm request) = IsAskedWithin MOST_PRODUCT_PARTS request.asked
 HasBounds (Blocks request) = IsBlocksRequest request

@@ -30,7 +30,7 @@ pub struct CommandRow<'a> {
 }
 
 // All commands: a row for each.
-fn commands<'a>() -> [CommandRow<'a>; 12]
+fn commands<'a>() -> [CommandRow<'a>; 13]
     ensures { map plain result ≡ commands }
 {
     [
@@ -128,6 +128,17 @@ fn commands<'a>() -> [CommandRow<'a>; 12]
             arguments: &[
                 ("digits", Optional),
                 ("manifest", Optional),
+                ("rest", Flag),
+                ("cert", Flag),
+                ("files", Words),
+            ],
+        },
+        CommandRow {
+            name: "confirm",
+            arguments: &[
+                ("digits", Optional),
+                ("manifest", Optional),
+                ("certificate", Word),
                 ("files", Words),
             ],
         },

@@ -8,7 +8,7 @@ mod vector;
 mod words;
 
 pub use request::{
-    Asked, CellsRequest, CheckRequest, DrillProduct, ExplodeRequest, GraphRequest, Input,
-    LinearRequest, LocalRequest, PairRequest, PlanRequest, Request, RequestRefusal,
+    Asked, CellsRequest, CheckRequest, DecideRequest, DrillProduct, ExplodeRequest, GraphRequest,
+    Input, LinearRequest, LocalRequest, PairRequest, PlanRequest, Request, RequestRefusal,
 };
 pub use words::request_of;

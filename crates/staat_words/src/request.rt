@@ -88,6 +88,16 @@ pub struct LocalRequest {
     pub planes: u32,
 }
 
+/// A plan for a product of any size, or parts of it that are stuck.
+#[derive(Drop)]
+pub struct DecideRequest {
+    pub asked: Asked,
+    /// Whether all that comes apart is taken apart, down to the groups of parts that are stuck.
+    pub rest: bool,
+    /// Whether a certificate is asked for in the place of the steps.
+    pub certificate: bool,
+}
+
 /// Whether a certificate is valid for the parts.
 #[derive(Drop)]
 pub struct CheckRequest {
@@ -121,7 +131,9 @@ pub enum Request {
     Linear(LinearRequest),
     Local(LocalRequest),
     /// A plan for a product of any size, or parts that are stuck.
-    Decide(Asked),
+    Decide(DecideRequest),
+    /// Whether a short certificate is valid for a product of any size.
+    Confirm(CheckRequest),
     /// Which parts of a product of any size block which along a direction.
     Blocks(GraphRequest),
 }

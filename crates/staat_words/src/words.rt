@@ -3,11 +3,11 @@ ghost use Rattle.std.specs.Prelude.{◌≡◌, map, string_bytes, IfOk, IsErrOf,
 ghost use Rattle.clap.specs.Words.{found_of, rows_of, subcommand_rows_of};
 ghost use Rattle.staat_words.specs.Command.{is_taken, matches as matches_at};
 ghost use Rattle.staat_words.specs.Requests.{ReadsWords, HasBounds, IsAskedWithin, IsGraphRequestWithin};
-ghost use Rattle.staat_words.specs.Requests.{asked_in, cells_in, check_in, drill_in, explode_in, graph_in};
+ghost use Rattle.staat_words.specs.Requests.{asked_in, cells_in, check_in, decide_in, drill_in, explode_in, graph_in};
 ghost use Rattle.staat_words.specs.Requests.{linear_in, local_in, pair_in, plan_in, request, request_in};
 ghost use Rattle.staat_words.specs.declared.request.Request.TheVariants.{Pair, Look, Graph, Plan, Check};
 ghost use Rattle.staat_words.specs.declared.request.Request.TheVariants.{Cells, Drill, Explode, Linear, Local};
-ghost use Rattle.staat_words.specs.declared.request.Request.TheVariants.{Decide, Blocks};
+ghost use Rattle.staat_words.specs.declared.request.Request.TheVariants.{Decide, Confirm, Blocks};
 
 use crate::arguments::{
     certificate_of, digits_of, input_of, is_given, limit_of, name_in, planes_of, product_of,
@@ -15,8 +15,8 @@ use crate::arguments::{
 };
 use crate::command::staat_command;
 use crate::request::{
-    Asked, CellsRequest, CheckRequest, ExplodeRequest, GraphRequest, LinearRequest, LocalRequest,
-    PairRequest, PlanRequest, Request, RequestRefusal,
+    Asked, CellsRequest, CheckRequest, DecideRequest, ExplodeRequest, GraphRequest, LinearRequest,
+    LocalRequest, PairRequest, PlanRequest, Request, RequestRefusal,
 };
 use clap::ArgMatches;
 use clap::error::ErrorKind;
@@ -100,14 +100,26 @@ fn plan_of(alloc: Global, matches: &ArgMatches<'_>) -> Result<Request, RequestRe
     }))
 }
 
+// The certificate's file, and what is asked about, where there may be so many files.
 #[tactic(auto, unfolding(crate::specs::Requests::check_in))]
+fn check_within(
+    alloc: Global,
+    matches: &ArgMatches<'_>,
+    most: u32,
+) -> Result<CheckRequest, RequestRefusal>
+    ensures answers { ReadsWords (check_in most (rows_of (found_of matches.now))) result }
+    ensures bounds { IfOk result (λ request. IsAskedWithin most request.asked) }
+{
+    let asked = asked_of(alloc, matches, most)?;
+    let certificate = name_in(alloc, matches, "certificate")?;
+    Ok(CheckRequest { asked, certificate })
+}
+
 fn check_of(alloc: Global, matches: &ArgMatches<'_>) -> Result<Request, RequestRefusal>
-    ensures answers { ReadsWords (option_map Check (check_in (rows_of (found_of matches.now)))) result }
+    ensures answers { ReadsWords (option_map Check (check_in MOST_PARTS (rows_of (found_of matches.now)))) result }
     ensures bounds { IfOk result HasBounds }
 {
-    let asked = asked_of(alloc, matches, MOST_PARTS)?;
-    let certificate = name_in(alloc, matches, "certificate")?;
-    Ok(Request::Check(CheckRequest { asked, certificate }))
+    Ok(Request::Check(check_within(alloc, matches, MOST_PARTS)?))
 }
 
 #[tactic(auto, unfolding(crate::specs::Requests::cells_in))]
@@ -162,12 +174,27 @@ fn local_of(alloc: Global, matches: &ArgMatches<'_>) -> Result<Request, RequestR
     Ok(Request::Local(LocalRequest { asked, planes }))
 }
 
+#[tactic(auto, unfolding(crate::specs::Requests::decide_in))]
 fn decide_of(alloc: Global, matches: &ArgMatches<'_>) -> Result<Request, RequestRefusal>
-    ensures answers { ReadsWords
-        (option_map Decide (asked_in MOST_PRODUCT_PARTS (rows_of (found_of matches.now)))) result }
+    ensures answers { ReadsWords (option_map Decide (decide_in (rows_of (found_of matches.now)))) result }
     ensures bounds { IfOk result HasBounds }
 {
-    Ok(Request::Decide(asked_of(alloc, matches, MOST_PRODUCT_PARTS)?))
+    let asked = asked_of(alloc, matches, MOST_PRODUCT_PARTS)?;
+    let rest = is_given(matches, "rest");
+    let certificate = is_given(matches, "cert");
+    Ok(Request::Decide(DecideRequest {
+        asked,
+        rest,
+        certificate,
+    }))
+}
+
+fn confirm_of(alloc: Global, matches: &ArgMatches<'_>) -> Result<Request, RequestRefusal>
+    ensures answers { ReadsWords
+        (option_map Confirm (check_in MOST_PRODUCT_PARTS (rows_of (found_of matches.now)))) result }
+    ensures bounds { IfOk result HasBounds }
+{
+    Ok(Request::Confirm(check_within(alloc, matches, MOST_PRODUCT_PARTS)?))
 }
 
 fn blocks_of(alloc: Global, matches: &ArgMatches<'_>) -> Result<Request, RequestRefusal>
@@ -226,6 +253,8 @@ fn request_named(
         local_of(alloc, matches)
     } else if name == "decide" {
         decide_of(alloc, matches)
+    } else if name == "confirm" {
+        confirm_of(alloc, matches)
     } else if name == "blocks" {
         blocks_of(alloc, matches)
     } else {

@@ -1,0 +1,6 @@
+//! Plans for products of any size that take apart all that comes apart, down to groups of parts that are stuck.
+#![tactic(auto)]
+
+mod rest;
+
+pub use rest::plan_to_groups;
