@@ -6,8 +6,8 @@
 The products are those of compare_checkers.py, and some that are partly stuck. Of each the program makes its short
 certificates, with `--rest` and without. Both checkers judge each of them, and call it valid; then N broken ones: in
 each, something in one of the certificates is changed, by chance, but so that a seed and the number of a case always
-give the same. Each difference is printed with its seed and its case; the last line is `N passed, M failed`, and the status
-is 1 where any failed. With --only=CASE that one case is run and its certificate printed. It is not proved.
+give the same. Each difference is printed with its seed and its case; the last line is `N passed, M failed`, and the
+status is 1 where any failed. With --only=CASE that one case is run and its certificate printed. It is not proved.
 """
 
 from __future__ import annotations
@@ -237,7 +237,8 @@ def locked(chance: random.Random) -> list[list[Solid]]:
 def moved(piece: Solid, away: tuple[int, int, int]) -> Solid:
     """The piece, moved by the vector."""
     points, faces = piece
-    return [tuple(map(sum, zip(point, away))) for point in points], faces
+    x, y, z = away
+    return [(p[0] + x, p[1] + y, p[2] + z) for p in points], faces
 
 
 def products(program: str, folder: str, seed: int, paths: Sequence[Path]) -> Iterator[made.Subject]:
@@ -255,9 +256,9 @@ def products(program: str, folder: str, seed: int, paths: Sequence[Path]) -> Ite
 def certificates_of(program: str, subject: made.Subject) -> list[bytes]:
     """The short certificates that the program makes of the product, each once."""
     texts: list[bytes] = []
-    for options in ([], ["--rest"]):
+    for options in ("--cert",), ("--cert", "--rest"):
         run = subprocess.run(
-            [program, "decide", "--cert", *options, *subject.words],
+            [program, "decide", *options, *subject.words],
             cwd=subject.folder,
             capture_output=True,
             check=False,
