@@ -1,5 +1,7 @@
-// The comparisons of all tests, one for each type. Each ends the test where two values differ, and says at what.
+// The comparisons of all tests. Each ends the test where two values differ, and says at what.
 
+use std::alloc::Global;
+use std::fmt::Display;
 use std::process::Abort;
 
 /// Two truths.
@@ -12,11 +14,6 @@ pub fn same_count(rt: &impl Abort, got: usize, want: usize, at: &str) {
     assert_eq!(rt; got, want, "at {at}");
 }
 
-/// Two numbers, of which either may be none.
-pub fn same_integer(rt: &impl Abort, got: Option<i128>, want: Option<i128>, at: &str) {
-    assert_eq!(rt; got, want, "at {at}");
-}
-
 /// Two texts.
 pub fn same_text(rt: &impl Abort, got: &str, want: &str, at: &str) {
     assert_eq!(rt; got, want, "at {at}");
@@ -25,4 +22,14 @@ pub fn same_text(rt: &impl Abort, got: &str, want: &str, at: &str) {
 /// Two runs of bytes.
 pub fn same_bytes(rt: &impl Abort, got: &[u8], want: &[u8], at: &str) {
     assert_eq!(rt; got, want, "at {at}");
+}
+
+/// The text of a value.
+pub fn text_of<T: Display>(rt: &impl Abort, alloc: Global, value: &T) -> String {
+    format!(in alloc; "{value}").expect(rt, "memory")
+}
+
+/// A value and its text.
+pub fn shows<T: Display>(rt: &impl Abort, alloc: Global, value: &T, want: &str) {
+    same_text(rt, text_of(rt, alloc, value).as_str(), want, want);
 }

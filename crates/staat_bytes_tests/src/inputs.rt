@@ -1,35 +1,31 @@
-// What tests make their inputs of: names, bytes, words and parts.
+// What tests make their inputs of: names, bytes and words.
 
-use staat_model::Part;
-use staat_samples::boxes;
-use staat_vec::{Bytes, Name, V3};
-use std::alloc::{AllocError, Global};
-use std::test::Fail;
+use staat_vec::{Bytes, Name};
+use std::alloc::Global;
+use std::process::Abort;
 
-/// The name of this text.
-pub fn name(alloc: Global, text: &str) -> Result<Name, AllocError> {
-    Ok(Name::from_string(String::from_str(alloc, text)?))
+/// A text of its own.
+pub fn owned(rt: &impl Abort, alloc: Global, text: &str) -> String {
+    String::from_str(alloc, text).expect(rt, "memory")
 }
 
-/// A file of these bytes.
-pub fn bytes(alloc: Global, text: &[u8]) -> Result<Bytes, AllocError> {
-    Ok(Bytes::from_vec(text.to_vec(alloc)?))
+/// The name of this text.
+pub fn name(rt: &impl Abort, alloc: Global, text: &str) -> Name {
+    Name::from_string(owned(rt, alloc, text))
+}
+
+/// A file of this text.
+pub fn bytes(rt: &impl Abort, alloc: Global, text: &str) -> Bytes {
+    Bytes::from_vec(text.as_bytes().to_vec(alloc).expect(rt, "memory"))
 }
 
 /// The words of a line, parted by single spaces; of an empty line none.
-pub fn words(alloc: Global, line: &str) -> Result<Vec<String>, AllocError> {
+pub fn words(rt: &impl Abort, alloc: Global, line: &str) -> Vec<String> {
     let mut list = Vec::new(alloc);
     for word in line.split(' ') {
         if !word.is_empty() {
-            list.push(String::from_str(alloc, word)?)?;
+            list.push(owned(rt, alloc, word)).expect(rt, "memory");
         }
     }
-    Ok(list)
-}
-
-/// The part of this name that is made of boxes between these corners.
-pub fn part(alloc: Global, text: &str, corners: &[(V3, V3)]) -> Result<Part, Fail> {
-    let mut part = boxes(alloc, corners)?.ok_or("a part")?;
-    part.name = name(alloc, text)?;
-    Ok(part)
+    list
 }

@@ -1,21 +1,19 @@
 // Shelves and sinks: whole files and whole texts, where calls fail and where they do not.
 
-use crate::comparing::{same_bytes, same_count, same_text, same_truth};
+use crate::comparing::{same_bytes, same_count, same_text, same_truth, text_of};
 use crate::inputs::{bytes, name};
 use staat_edge::{
-    Calls, DiskShelf, Failed, Files, MemoryShelf, MemorySink, ReadRefusal, Sink, StreamSink,
+    Calls, DiskShelf, Failed, Files, MemoryShelf, MemorySink, ReadRefusal, Shelf, Sink, StreamSink,
     read_whole, write_whole,
 };
-use staat_vec::Bytes;
-use std::alloc::{AllocError, Global};
+use staat_vec::{Bytes, Name};
+use std::alloc::Global;
 use std::io::Write;
-use std::test::Fail;
+use std::process::Abort;
 use std::{fs, io};
 
 /// A call that no run reaches.
 pub const NEVER: u64 = u64::MAX;
-
-const FILES: [(&str, &[u8]); 2] = [("greeting", b"hello"), ("empty", b"")];
 
 const CANNOT: &str = "the file cannot be read";
 
@@ -41,37 +39,54 @@ const READINGS: [(&str, u64, u16, u16, &str); 14] = [
     ("", NEVER, 1, 5, CANNOT),
 ];
 
-fn files(alloc: Global) -> Result<Files, AllocError> {
-    let mut files = Vec::new(alloc);
-    for (file, text) in FILES {
-        files.push((name(alloc, file)?, bytes(alloc, text)?))?;
-    }
-    Ok(Files::from_vec(files))
+fn file(rt: &impl Abort, alloc: Global, file: &str, text: &str) -> (Name, Bytes) {
+    (name(rt, alloc, file), bytes(rt, alloc, text))
+}
+
+fn files(rt: &impl Abort, alloc: Global) -> Files {
+    let greeting = file(rt, alloc, "greeting", "hello");
+    let empty = file(rt, alloc, "empty", "");
+    Files::from_vec(Vec::from_array(alloc, [greeting, empty]).expect(rt, "memory"))
 }
 
 /// The one call that fails.
-pub fn calls(alloc: Global, failing: u64) -> Result<Calls, AllocError> {
-    Ok(Calls::from_vec([failing].to_vec(alloc)?))
+pub fn calls(rt: &impl Abort, alloc: Global, failing: u64) -> Calls {
+    Calls::from_vec([failing].to_vec(alloc).expect(rt, "memory"))
 }
 
 // The text that was read, or why there is none.
-fn told(alloc: Global, read: Result<Bytes, ReadRefusal>) -> Result<String, Fail> {
+fn told(rt: &impl Abort, alloc: Global, read: Result<Bytes, ReadRefusal>) -> String {
     match read {
-        Ok(bytes) => Ok(String::from_utf8(bytes.into_vec())?),
-        Err(refusal) => Ok(format!(in alloc; "{refusal}")?),
+        Ok(bytes) => String::from_utf8(bytes.into_vec()).expect(rt, "a text"),
+        Err(refusal) => text_of(rt, alloc, &refusal),
     }
 }
 
+// Reads a whole file, of at most so many bytes.
+fn read<S: Shelf>(
+    rt: &impl Abort,
+    alloc: Global,
+    shelf: &mut S,
+    file: &str,
+    limit: u16,
+    want: &str,
+) {
+    let got = told(rt, alloc, read_whole(alloc, shelf, file, limit as usize));
+    same_text(rt, got.as_str(), want, file);
+}
+
+// A shelf in memory of which this call fails, and that gives so many bytes at a time.
+fn shelf(rt: &impl Abort, alloc: Global, failing: u64, chunk: u16) -> MemoryShelf {
+    let (files, failing) = (files(rt, alloc), calls(rt, alloc, failing));
+    MemoryShelf::new(alloc, files, failing, (chunk as usize).max(1)).expect(rt, "memory")
+}
+
 #[test]
-fn a_whole_file_is_read_unless_a_call_fails(rt: HostRuntime) -> Result<(), Fail> {
-    let alloc = rt.alloc();
-    for (file, failing, chunk, limit, want) in READINGS {
-        let chunk = (chunk as usize).max(1);
-        let mut shelf = MemoryShelf::new(alloc, files(alloc)?, calls(alloc, failing)?, chunk)?;
-        let got = told(alloc, read_whole(alloc, &mut shelf, file, limit as usize))?;
-        same_text(&rt, got.as_str(), want, file);
+fn a_whole_file_is_read_unless_a_call_fails(rt: HostRuntime) {
+    for row in &READINGS {
+        let mut shelf = shelf(&rt, rt.alloc(), row.1, row.2);
+        read(&rt, rt.alloc(), &mut shelf, row.0, row.3, row.4);
     }
-    Ok(())
 }
 
 // The room of a sink, the call that fails, how many bytes it takes at a time, and a text; and what it takes of it.
@@ -86,17 +101,24 @@ const WRITINGS: [(usize, u64, u16, &str, &str); 8] = [
     (0, 0, 1, "", ""),
 ];
 
+// Writes a whole text, of which the sink takes this.
+fn write(rt: &impl Abort, mut sink: MemorySink, text: &str, taken: &str) {
+    let got = write_whole(&mut sink, text.as_bytes());
+    same_truth(rt, got.is_ok(), taken == text, taken);
+    same_bytes(rt, sink.taken(), taken.as_bytes(), taken);
+}
+
+fn sink(rt: &impl Abort, alloc: Global, room: usize, failing: u64, chunk: u16) -> MemorySink {
+    let failing = calls(rt, alloc, failing);
+    MemorySink::new(alloc, room, failing, (chunk as usize).max(1)).expect(rt, "memory")
+}
+
 #[test]
-fn a_sink_takes_what_fits_until_a_call_fails(rt: HostRuntime) -> Result<(), Fail> {
-    let alloc = rt.alloc();
-    for (room, failing, chunk, text, taken) in WRITINGS {
-        let chunk = (chunk as usize).max(1);
-        let mut sink = MemorySink::new(alloc, room, calls(alloc, failing)?, chunk)?;
-        let got = write_whole(&mut sink, text.as_bytes());
-        same_truth(&rt, got.is_ok(), taken == text, taken);
-        same_bytes(&rt, sink.taken(), taken.as_bytes(), taken);
+fn a_sink_takes_what_fits_until_a_call_fails(rt: HostRuntime) {
+    for row in &WRITINGS {
+        let sink = sink(&rt, rt.alloc(), row.0, row.1, row.2);
+        write(&rt, sink, row.3, row.4);
     }
-    Ok(())
 }
 
 // A writer over memory that can be told to take nothing, or to fail to flush.
@@ -126,26 +148,25 @@ impl Write for Teller {
     }
 }
 
-// Whether the writer takes bytes and flushes, and how many bytes are written and flushed.
-const FLUSHES: [(bool, bool, Result<usize, Failed>, usize); 3] = [
-    (true, true, Ok(5), 5),
-    (true, false, Err(Failed), 0),
-    (false, true, Err(Failed), 0),
-];
+// Writes five bytes to a writer that takes bytes or not, and flushes or not, and counts those that are flushed.
+fn tell(rt: &impl Abort, alloc: Global, takes: bool, flushes: bool, flushed: usize) {
+    let mut teller = Teller {
+        told: Vec::new(alloc),
+        flushed: 0,
+        takes,
+        flushes,
+    };
+    let got = StreamSink::new(&mut teller).write(b"hello");
+    same_truth(rt, got == Ok(5), flushed == 5, "a write");
+    same_truth(rt, got == Err(Failed), flushed == 0, "a fault");
+    same_count(rt, teller.flushed, flushed, "a flush");
+}
 
 #[test]
 fn a_stream_is_flushed_after_each_write(rt: HostRuntime) {
-    for (takes, flushes, want, flushed) in FLUSHES {
-        let mut teller = Teller {
-            told: Vec::new(rt.alloc()),
-            flushed: 0,
-            takes,
-            flushes,
-        };
-        let got = StreamSink::new(&mut teller).write(b"hello");
-        same_truth(&rt, got == want, true, "a write");
-        same_count(&rt, teller.flushed, flushed, "a flush");
-    }
+    tell(&rt, rt.alloc(), true, true, 5);
+    tell(&rt, rt.alloc(), true, false, 0);
+    tell(&rt, rt.alloc(), false, true, 0);
 }
 
 const ONE: &str = "staat_bytes_tests_one";
@@ -163,16 +184,13 @@ const ON_DISK: [(&str, u16, &str); 6] = [
 ];
 
 #[test]
-fn a_disk_gives_the_file_that_was_opened_last(rt: HostRuntime) -> Result<(), Fail> {
-    let alloc = rt.alloc();
-    fs::write(&rt, ONE, "hello")?;
-    fs::write(&rt, OTHER, "other")?;
+fn a_disk_gives_the_file_that_was_opened_last(rt: HostRuntime) {
+    fs::write(&rt, ONE, "hello").expect(&rt, "a file");
+    fs::write(&rt, OTHER, "other").expect(&rt, "a file");
     let mut shelf = DiskShelf::new(&rt);
-    for (file, limit, want) in ON_DISK {
-        let got = told(alloc, read_whole(alloc, &mut shelf, file, limit as usize))?;
-        same_text(&rt, got.as_str(), want, file);
+    for row in &ON_DISK {
+        read(&rt, rt.alloc(), &mut shelf, row.0, row.1, row.2);
     }
-    fs::remove_file(&rt, ONE)?;
-    fs::remove_file(&rt, OTHER)?;
-    Ok(())
+    fs::remove_file(&rt, ONE).expect(&rt, "a file");
+    fs::remove_file(&rt, OTHER).expect(&rt, "a file");
 }

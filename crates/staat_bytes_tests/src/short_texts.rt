@@ -1,11 +1,10 @@
 // The texts of short certificates: those that are read and written again, and those that are refused.
 
-use crate::comparing::same_text;
+use crate::comparing::{same_count, same_text, text_of};
 use staat_cert::CertRefusal;
 use staat_short::{ShortAnswer, ShortCertificate, ShortReader, read_short, short_text};
 use std::alloc::Global;
 use std::process::Abort;
-use std::test::Fail;
 
 // The example of docs/FORMATS.md.
 const GROUP: &str = "STAAT SHORT 1\nparts 5\nrest\nsplit 0 0 1\nleaf 4\nsplit 1 0 0\ngroup\nhold\n\
@@ -81,53 +80,60 @@ const TEXTS: [(&str, &str); 30] = [
     ),
 ];
 
+// What is written of a certificate.
+fn written(rt: &impl Abort, alloc: Global, certificate: &ShortCertificate) -> String {
+    let text = short_text(alloc, certificate).expect(rt, "a text");
+    String::from_utf8(text.into_vec()).expect(rt, "a text")
+}
+
 // What is written of what is read, or why nothing is.
-fn told(alloc: Global, bytes: &[u8]) -> Result<String, Fail> {
+fn told(rt: &impl Abort, alloc: Global, bytes: &[u8]) -> String {
     match read_short(alloc, bytes) {
-        Ok(certificate) => {
-            let text = short_text(alloc, &certificate)?;
-            Ok(String::from_utf8(text.into_vec())?)
-        }
-        Err(refusal) => Ok(format!(in alloc; "{refusal}")?),
+        Ok(certificate) => written(rt, alloc, &certificate),
+        Err(refusal) => text_of(rt, alloc, &refusal),
     }
+}
+
+fn tells(rt: &impl Abort, alloc: Global, text: &str, want: &str) {
+    let got = told(rt, alloc, text.as_bytes());
+    same_text(rt, got.as_str(), want, text);
 }
 
 #[test]
-fn short_texts_come_back_or_are_refused(rt: HostRuntime) -> Result<(), Fail> {
-    for (text, want) in TEXTS {
-        same_text(&rt, told(rt.alloc(), text.as_bytes())?.as_str(), want, text);
+fn short_texts_come_back_or_are_refused(rt: HostRuntime) {
+    for row in &TEXTS {
+        tells(&rt, rt.alloc(), row.0, row.1);
     }
-    Ok(())
 }
 
-fn same_answer(rt: &impl Abort, got: Result<(), CertRefusal>, want: Result<(), CertRefusal>) {
-    assert_eq!(rt; got, want);
+fn feed(rt: &impl Abort, reader: &mut ShortReader, piece: &[u8], want: Result<(), CertRefusal>) {
+    assert_eq!(rt; reader.feed(piece), want);
 }
 
-fn count_of_nodes(c: &ShortCertificate) -> usize {
-    match &c.answer {
+fn count_of_nodes(certificate: &ShortCertificate) -> usize {
+    match &certificate.answer {
         ShortAnswer::Plan(nodes) => nodes.as_slice().len(),
         ShortAnswer::Stuck(_) => 0,
         ShortAnswer::Rest(nodes) => nodes.as_slice().len(),
     }
 }
 
-#[test]
-fn a_short_text_is_fed_in_pieces(rt: HostRuntime) -> Result<(), Fail> {
-    let alloc = rt.alloc();
-    for size in 0..GROUP.len() {
-        let mut reader = ShortReader::new(alloc)?;
-        for piece in GROUP.as_bytes().chunks(size.max(1)) {
-            same_answer(&rt, reader.feed(piece), Ok(()));
-        }
-        let told = match reader.finish() {
-            Ok(certificate) => format!(in alloc; "nodes: {}", count_of_nodes(&certificate))?,
-            Err(refusal) => format!(in alloc; "{refusal}")?,
-        };
-        same_text(&rt, told.as_str(), "nodes: 5", GROUP);
+// The group, in pieces of this size.
+fn feed_group(rt: &impl Abort, alloc: Global, size: usize) {
+    let mut reader = ShortReader::new(alloc).expect(rt, "memory");
+    for piece in GROUP.as_bytes().chunks(size.max(1)) {
+        feed(rt, &mut reader, piece, Ok(()));
     }
-    let mut reader = ShortReader::new(alloc)?;
-    same_answer(&rt, reader.feed(PLAN.as_bytes()), Ok(()));
-    same_answer(&rt, reader.feed(b"x"), Err(CertRefusal::BadLine(8)));
-    Ok(())
+    let certificate = reader.finish().expect(rt, "a certificate");
+    same_count(rt, count_of_nodes(&certificate), 5, GROUP);
+}
+
+#[test]
+fn a_short_text_is_fed_in_pieces(rt: HostRuntime) {
+    for size in 0..GROUP.len() {
+        feed_group(&rt, rt.alloc(), size);
+    }
+    let mut reader = ShortReader::new(rt.alloc()).expect(&rt, "memory");
+    feed(&rt, &mut reader, PLAN.as_bytes(), Ok(()));
+    feed(&rt, &mut reader, b"x", Err(CertRefusal::BadLine(8)));
 }

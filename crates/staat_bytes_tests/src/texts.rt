@@ -1,132 +1,34 @@
-// The texts of answers, of assemblies, graphs and plans written out by hand.
-ghost use Rattle.std.specs.Prelude.{◌≢◌, ◌<◌, IfOk};
-ghost use Rattle.staat_model.specs.Outcomes.{finding_of};
-ghost use Rattle.staat_text.specs.PlanTexts.{CanBeShown};
+// Texts and numbers that no command reaches.
 
-use crate::comparing::same_bytes;
-use crate::inputs::part;
-use staat_asm::build;
-use staat_cone::Plain;
-use staat_explode::{Shifts, shifts_text};
+use crate::comparing::{same_bytes, same_count};
+use crate::inputs::name;
+use staat_fault::laws::{memory_line, usage_line, write_line};
+use staat_fault::{Fault, fault_line, status_of};
 use staat_graph::Graph;
-use staat_model::{Assembly, Kind, Marks, Outcome, PartSet, Reason, Sound, Tree, Verdict};
-use staat_samples::{assembly_of, at};
-use staat_text::{graph_text, look_text, parts_text, plan_text, verdict_text};
+use staat_model::{Reason, Verdict};
+use staat_number::natural_of;
+use staat_text::{graph_text, verdict_text};
 use staat_vec::V3;
-use std::alloc::{AllocError, Global};
-use std::test::Fail;
+use std::alloc::Global;
+use std::process::Abort;
 
-// The corners of the cube from 0 to 2.
-const CUBE: (V3, V3) = (V3 { x: 0, y: 0, z: 0 }, V3 { x: 2, y: 2, z: 2 });
+const FAR: V3 = V3 {
+    x: -2417851639229258349412352,
+    y: 0,
+    z: -1,
+};
 
-// A part of one piece, and one of two.
-fn two_parts(alloc: Global) -> Result<Assembly, Fail> {
-    let lid = part(alloc, "lid", &[CUBE])?;
-    let legs = part(alloc, "two legs", &[CUBE, CUBE])?;
-    let parts = Vec::from_array(alloc, [lid, legs])?;
-    Ok(assembly_of(parts).ok_or("an assembly")?)
-}
-
-// A part of one piece alone.
-fn alone(alloc: Global) -> Result<Sound, Fail> {
-    let parts = Vec::from_array(alloc, [part(alloc, "lid", &[CUBE])?])?;
-    Ok(build(alloc, &Plain, assembly_of(parts).ok_or("an assembly")?)?)
-}
-
+// Between the parts 0 and 2 both ways, and between 1 and a fourth part, which is none of the three.
 #[test]
-fn a_line_for_each_part(rt: HostRuntime) -> Result<(), Fail> {
-    let alloc = rt.alloc();
-    let text = parts_text(alloc, &two_parts(alloc)?)?;
-    let want = "part 0 pieces 1 points 8 name lid\npart 1 pieces 2 points 16 name two legs\n";
-    same_bytes(&rt, text.as_slice(), want.as_bytes(), "parts");
-    let text = look_text(alloc, &alone(alloc)?)?;
-    let want = "part 0 pieces 1 points 8 name lid\nsound\n";
-    same_bytes(&rt, text.as_slice(), want.as_bytes(), "a sound part");
-    Ok(())
-}
-
-// How many parts there are, a direction, the arcs, and the text.
-const GRAPHS: [(u32, V3, &[(u32, u32)], &str); 4] = [
-    (
-        3,
-        V3 { x: 0, y: 0, z: 1 },
-        &[(1, 2), (0, 2), (1, 0)],
-        "along 0 0 1\narc 0 2\narc 1 0\narc 1 2\ngroup 0\ngroup 1\ngroup 2\n",
-    ),
-    (
-        2,
-        V3 { x: 1, y: 0, z: 0 },
-        &[(0, 1), (1, 0)],
-        "along 1 0 0\narc 0 1\narc 1 0\ngroup 0 1\n",
-    ),
-    (
-        2,
-        V3 { x: 0, y: 1, z: 0 },
-        &[],
-        "along 0 1 0\ngroup 0\ngroup 1\n",
-    ),
-    // Arcs of a part that is none of the three are left out.
-    (
-        3,
-        V3 {
-            x: -2417851639229258349412352,
-            y: 0,
-            z: -1,
-        },
-        &[(0, 2), (2, 0), (1, 3), (3, 1)],
-        "along -2417851639229258349412352 0 -1\narc 0 2\narc 2 0\ngroup 0 2\ngroup 1\n",
-    ),
-];
-
-fn graph_of(arcs: &[(u32, u32)]) -> Graph {
+fn arcs_of_other_parts_are_left_out(rt: HostRuntime) {
     let mut rows = [0u32; 32];
-    for (from, to) in arcs {
-        if *from < 32 && *to < 32 {
-            rows[*from as usize] |= 1 << *to;
-        }
-    }
-    Graph { rows }
-}
-
-#[test]
-fn a_line_for_each_arc_and_each_group(rt: HostRuntime) -> Result<(), Fail> {
-    for (parts, along, arcs, want) in GRAPHS {
-        let text = graph_text(rt.alloc(), parts.min(32), along, &graph_of(arcs))?;
-        same_bytes(&rt, text.as_slice(), want.as_bytes(), want);
-    }
-    Ok(())
-}
-
-// The plan that moves the part a away from the part b.
-fn step_apart(alloc: Global, a: u32, b: u32, d: V3, marks: Vec<Kind>) -> Result<Outcome, AllocError>
-    requires a { a < 32 }
-    requires b { b < 32 }
-    requires different { a ≢ b }
-    ensures { IfOk result (λ o. CanBeShown (finding_of o)) }
-{
-    let moved = Box::new(alloc, Tree::Leaf(a))?;
-    let rest = Box::new(alloc, Tree::Leaf(b))?;
-    Ok(Outcome::Plan {
-        tree: Tree::Split { d, moved, rest },
-        marks: Marks::from_vec(marks),
-    })
-}
-
-#[test]
-fn a_line_for_each_step(rt: HostRuntime) -> Result<(), Fail> {
-    let alloc = rt.alloc();
-    let plain = step_apart(alloc, 0, 1, at(0, 0, 1), Vec::new(alloc))?;
-    let text = plan_text(alloc, &plain)?;
-    let want = "move 0 along 0 0 1 away from 1\nmoves 1\n";
-    same_bytes(&rt, text.as_slice(), want.as_bytes(), "a plan");
-    let marks = Vec::from_array(alloc, [Kind::Open])?;
-    let robust = step_apart(alloc, 31, 7, at(-2, -1, -1), marks)?;
-    let text = plan_text(alloc, &robust)?;
-    let want = "move 31 along -2 -1 -1 away from 7 by open\nmoves 1\n";
-    same_bytes(&rt, text.as_slice(), want.as_bytes(), "a robust plan");
-    let text = plan_text(alloc, &Outcome::Stuck(PartSet::from_bits(0b1011)))?;
-    same_bytes(&rt, text.as_slice(), b"stuck 0 1 3\n", "a stuck set");
-    Ok(())
+    rows[0] = 0b100;
+    rows[1] = 0b1000;
+    rows[2] = 0b1;
+    rows[3] = 0b10;
+    let text = graph_text(rt.alloc(), 3, FAR, &Graph { rows }).expect(&rt, "memory");
+    let want = b"along -2417851639229258349412352 0 -1\narc 0 2\narc 2 0\ngroup 0 2\ngroup 1\n";
+    same_bytes(&rt, text.as_slice(), want, "a graph");
 }
 
 const VERDICTS: [(Verdict, &str); 11] = [
@@ -170,21 +72,55 @@ const VERDICTS: [(Verdict, &str); 11] = [
     ),
 ];
 
-#[test]
-fn a_line_for_each_verdict(rt: HostRuntime) -> Result<(), Fail> {
-    for (verdict, want) in VERDICTS {
-        let line = verdict_text(rt.alloc(), &verdict)?;
-        same_bytes(&rt, line.as_slice(), want.as_bytes(), want);
-    }
-    Ok(())
+fn tells(rt: &impl Abort, alloc: Global, verdict: &Verdict, want: &str) {
+    let line = verdict_text(alloc, verdict).expect(rt, "memory");
+    same_bytes(rt, line.as_slice(), want.as_bytes(), want);
 }
 
 #[test]
-fn a_line_for_each_vector(rt: HostRuntime) -> Result<(), Fail> {
+fn a_line_for_each_verdict(rt: HostRuntime) {
+    for row in &VERDICTS {
+        tells(&rt, rt.alloc(), &row.0, row.1);
+    }
+}
+
+fn faults(rt: &impl Abort, alloc: Global, fault: &Fault, status: usize, want: &str) {
+    let line = fault_line(alloc, fault).expect(rt, "memory");
+    same_bytes(rt, line.as_slice(), want.as_bytes(), want);
+    same_count(rt, status_of(fault) as usize, status, want);
+}
+
+#[test]
+fn faults_have_lines_and_statuses(rt: HostRuntime) {
     let alloc = rt.alloc();
-    let shifts = Shifts::from_vec(Vec::from_array(alloc, [at(0, 0, 3), at(-5, 0, 0)])?);
-    let text = shifts_text(alloc, &shifts)?;
-    let want = "shift 0 by 0 0 3\nshift 1 by -5 0 0\n";
-    same_bytes(&rt, text.as_slice(), want.as_bytes(), "vectors");
-    Ok(())
+    let fault = Fault::BadNumber(name(&rt, alloc, "a.off"), u64::MAX);
+    faults(
+        &rt,
+        alloc,
+        &fault,
+        3,
+        "staat: a.off: bad number at 18446744073709551615\n",
+    );
+    let fault = Fault::TextTooLong(134217729);
+    faults(&rt, alloc, &fault, 4, "staat: text too long (134217729)\n");
+}
+
+#[test]
+fn three_lines_take_no_memory(rt: HostRuntime) {
+    same_bytes(&rt, usage_line(), b"staat: usage\n", "usage");
+    same_bytes(&rt, write_line(), b"staat: write fault\n", "a write fault");
+    same_bytes(
+        &rt,
+        memory_line(),
+        b"staat: out of memory\n",
+        "want of memory",
+    );
+}
+
+const MOST: &str = "340282366920938463463374607431768211455";
+
+#[test]
+fn a_natural_number_is_at_most_the_greatest(rt: HostRuntime) {
+    assert_eq!(rt; natural_of(MOST, u128::MAX), Some(u128::MAX));
+    assert_eq!(rt; natural_of(MOST, u128::MAX - 1), None);
 }
