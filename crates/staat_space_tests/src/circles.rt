@@ -3,10 +3,9 @@ ghost use Rattle.std.specs.Prelude.{◌≡◌, ◌<◌, Contains};
 ghost use Rattle.staat_ring.specs.Rings.{WereMadeFrom, linked_of};
 ghost use Rattle.staat_ring.specs.Walked.{IsEntered, WalkWasMadeFrom};
 
-use crate::fixtures::{CUBE, LIDDED, Shape, table};
+use crate::fixtures::{CUBE, Corners, LIDDED, Shape, table};
 use staat_planes::{PlaneTable, Steps};
 use staat_ring::{Rings, Walk};
-use staat_samples::at;
 use staat_vec::V3;
 use std::alloc::Global;
 use std::marker::Brand;
@@ -24,23 +23,20 @@ fn lengths(rings: &Rings) -> [u32; 7] {
     lengths
 }
 
+const WHOLE: [u32; 7] = [8, 8, 4, 8, 8, 8, 8];
+
+const WITHOUT: [u32; 7] = [8, 6, 4, 6, 6, 8, 0];
+
 #[test]
 fn a_plane_out_and_back(rt: HostRuntime) {
     let table = table(&rt, rt.alloc(), &LIDDED);
     let mut rings = Rings::build(rt.alloc(), &table).expect(&rt, "memory");
-    let whole = lengths(&rings);
+    assert_eq!(rt; lengths(&rings), WHOLE);
     assert!(rt; rings.is_linked(6));
     rings.unlink(6);
-    let without = lengths(&rings);
+    assert_eq!(rt; lengths(&rings), WITHOUT);
     rings.relink(6);
-    assert_eq!(rt;
-        [whole, without, lengths(&rings)],
-        [
-            [8, 8, 4, 8, 8, 8, 8],
-            [8, 6, 4, 6, 6, 8, 0],
-            [8, 8, 4, 8, 8, 8, 8]
-        ]
-    );
+    assert_eq!(rt; lengths(&rings), WHOLE);
 }
 
 // enters the circle of a plane
@@ -102,35 +98,41 @@ fn stops_on(rt: &impl Abort, alloc: Global, shapes: &[Shape], plane: u32) -> Vec
     around(rt, alloc, &table, &rings, &mut walk)
 }
 
-// opposite vertices have opposite arcs
+// on the circle of the plane across x, of a box with a lid: opposite vertices have opposite arcs
+const ON_A_BOX: [Stop; 8] = [
+    (V3 { x: 0, y: 0, z: 1 }, [0b100, 0b101, 0], false, true),
+    (V3 { x: 0, y: -3, z: 2 }, [0b110, 0b101, 0b010], true, true),
+    (V3 { x: 0, y: -1, z: 0 }, [0b010, 0b101, 0b010], true, true),
+    (V3 { x: 0, y: -3, z: -2 }, [0b010, 0b101, 0b011], true, true),
+    (V3 { x: 0, y: 0, z: -1 }, [0b010, 0, 0b011], false, true),
+    (V3 { x: 0, y: 3, z: -2 }, [0b010, 0b101, 0b011], true, true),
+    (V3 { x: 0, y: 1, z: 0 }, [0b010, 0b101, 0b010], true, true),
+    (V3 { x: 0, y: 3, z: 2 }, [0b110, 0b101, 0b010], true, false),
+];
+
+// a cube between two others: one touches it ahead along x, the other stands behind it at a distance
+const SIDES: [Corners; 2] = [[2, 0, 0, 4, 2, 2], [-4, 0, 0, -2, 2, 2]];
+
+const BETWEEN: [Shape<'static>; 2] = [Shape::Boxes(&[CUBE]), Shape::Boxes(&SIDES)];
+
+const ON_A_CUBE: [Stop; 8] = [
+    (V3 { x: 0, y: 0, z: -1 }, [0, 0, 0], false, true),
+    (V3 { x: -1, y: 0, z: -1 }, [0, 0b01, 0], false, true),
+    (V3 { x: -1, y: 0, z: 0 }, [0b10, 0b01, 0], true, true),
+    (V3 { x: -1, y: 0, z: 1 }, [0, 0b01, 0], false, true),
+    (V3 { x: 0, y: 0, z: 1 }, [0, 0, 0], false, true),
+    (V3 { x: 1, y: 0, z: 1 }, [0b10, 0, 0], false, true),
+    (V3 { x: 1, y: 0, z: 0 }, [0b10, 0b01, 0], true, true),
+    (V3 { x: 1, y: 0, z: -1 }, [0b10, 0, 0], false, false),
+];
+
+fn stops(rt: &impl Abort, alloc: Global, shapes: &[Shape], plane: u32, wanted: &[Stop]) {
+    let found = stops_on(rt, alloc, shapes, plane);
+    assert_eq!(rt; found.as_slice(), wanted);
+}
+
 #[test]
 fn around_two_circles(rt: HostRuntime) {
-    let lidded = [
-        (at(0, 0, 1), [0b100, 0b101, 0], false, true),
-        (at(0, -3, 2), [0b110, 0b101, 0b010], true, true),
-        (at(0, -1, 0), [0b010, 0b101, 0b010], true, true),
-        (at(0, -3, -2), [0b010, 0b101, 0b011], true, true),
-        (at(0, 0, -1), [0b010, 0, 0b011], false, true),
-        (at(0, 3, -2), [0b010, 0b101, 0b011], true, true),
-        (at(0, 1, 0), [0b010, 0b101, 0b010], true, true),
-        (at(0, 3, 2), [0b110, 0b101, 0b010], true, false),
-    ];
-    // a cube between two others: one touches it ahead along x, the other stands behind it at a distance
-    let between = [
-        (at(0, 0, -1), [0, 0, 0], false, true),
-        (at(-1, 0, -1), [0, 0b01, 0], false, true),
-        (at(-1, 0, 0), [0b10, 0b01, 0], true, true),
-        (at(-1, 0, 1), [0, 0b01, 0], false, true),
-        (at(0, 0, 1), [0, 0, 0], false, true),
-        (at(1, 0, 1), [0b10, 0, 0], false, true),
-        (at(1, 0, 0), [0b10, 0b01, 0], true, true),
-        (at(1, 0, -1), [0b10, 0, 0], false, false),
-    ];
-    let sides = [[2, 0, 0, 4, 2, 2], [-4, 0, 0, -2, 2, 2]];
-    let row = [Shape::Boxes(&[CUBE]), Shape::Boxes(&sides)];
-    let cases: [(&[Shape], u32, [Stop; 8]); 2] = [(&LIDDED, 0, lidded), (&row, 1, between)];
-    for (shapes, plane, wanted) in cases {
-        let found = stops_on(&rt, rt.alloc(), shapes, plane);
-        assert_eq!(rt; found.as_slice(), wanted.as_slice());
-    }
+    stops(&rt, rt.alloc(), &LIDDED, 0, &ON_A_BOX);
+    stops(&rt, rt.alloc(), &BETWEEN, 1, &ON_A_CUBE);
 }

@@ -28,25 +28,23 @@ fn facets_from<F: FacetSource>(
     source.facets(alloc, &p, &q).expect(rt, "memory")
 }
 
+fn has_facets(rt: &impl Abort, alloc: Global, p: Corners, q: Corners, wanted: &[V3]) {
+    let found = facets_from(rt, alloc, &Plain, p, q);
+    assert_eq!(rt; found.as_slice(), wanted);
+}
+
+const INNER: Corners = [1, 1, 1, 3, 3, 3];
+
 #[test]
 fn facets_of_boxes(rt: HostRuntime) {
     let alloc = rt.alloc();
-    let inner = [1, 1, 1, 3, 3, 3];
-    let rows: [(Corners, Corners, &[V3]); 4] = [
-        (CUBE, BESIDE, &[at(1, 0, 0)]),
-        (CUBE, CORNER, &[at(0, 0, 1), at(0, 1, 0), at(1, 0, 0)]),
-        (CUBE, inner, &[]),
-        (
-            LID,
-            BELOW,
-            &[at(-2, 0, -3), at(0, -2, -3), at(0, 2, -3), at(2, 0, -3)],
-        ),
-    ];
-    for (p, q, wanted) in rows {
-        let found = facets_from(&rt, alloc, &Plain, p, q);
-        assert_eq!(rt; found.as_slice(), wanted);
-    }
-    assert_eq!(rt; facets_from(&rt, alloc, &Scan, CUBE, inner).len(), 0);
+    let axes = [at(0, 0, 1), at(0, 1, 0), at(1, 0, 0)];
+    let slopes = [at(-2, 0, -3), at(0, -2, -3), at(0, 2, -3), at(2, 0, -3)];
+    has_facets(&rt, alloc, CUBE, BESIDE, &axes[2..]);
+    has_facets(&rt, alloc, CUBE, CORNER, &axes);
+    has_facets(&rt, alloc, CUBE, INNER, &[]);
+    has_facets(&rt, alloc, LID, BELOW, &slopes);
+    assert_eq!(rt; facets_from(&rt, alloc, &Scan, CUBE, INNER).len(), 0);
 }
 
 #[test]
@@ -103,17 +101,16 @@ const RINGS: [Corners; 8] = [
 
 const DOVETAIL: [Base; 4] = [TAIL, GROUND, RIGHT_CHEEK, LEFT_CHEEK];
 
+fn is_same_for(rt: &impl Abort, alloc: Global, shape: Shape) {
+    let pieces = pieces_of(rt, alloc, shape);
+    assert!(rt; is_each_same_by_both(rt, alloc, pieces.as_slice()));
+}
+
 #[test]
 fn both_sources_answer_the_same(rt: HostRuntime) {
-    let shapes = [
-        Shape::Boxes(&ABOUT),
-        Shape::Boxes(&RINGS),
-        Shape::Prisms(&DOVETAIL),
-    ];
-    for shape in shapes {
-        let pieces = pieces_of(&rt, rt.alloc(), shape);
-        assert!(rt; is_each_same_by_both(&rt, rt.alloc(), pieces.as_slice()));
-    }
+    is_same_for(&rt, rt.alloc(), Shape::Boxes(&ABOUT));
+    is_same_for(&rt, rt.alloc(), Shape::Boxes(&RINGS));
+    is_same_for(&rt, rt.alloc(), Shape::Prisms(&DOVETAIL));
 }
 
 // 64 points on a paraboloid

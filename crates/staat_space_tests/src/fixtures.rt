@@ -10,6 +10,7 @@ use staat_model::{Arc, Assembly, Part, PartSet, Piece, Sound};
 use staat_planes::{PlaneTable, tabulate};
 use staat_samples::{assembly_of, at, boxed, part_of, prism};
 use std::alloc::Global;
+use std::fmt::Display;
 use std::process::Abort;
 
 /// The corners of a box: x, y and z of the least one, and those of the greatest.
@@ -83,6 +84,12 @@ pub const DOVETAIL: [Shape<'static>; 2] = [
     Shape::Prisms(&[TAIL]),
     Shape::Prisms(&[GROUND, RIGHT_CHEEK, LEFT_CHEEK]),
 ];
+
+/// A value and its text.
+pub fn shows<T: Display>(rt: &impl Abort, alloc: Global, value: &T, wanted: &str) {
+    let text = format!(in alloc; "{value}").expect(rt, "memory");
+    assert_eq!(rt; text.as_str(), wanted);
+}
 
 /// The box between these corners.
 pub fn box_of(rt: &impl Abort, alloc: Global, corners: Corners) -> Piece {

@@ -39,21 +39,31 @@ fn seen(arcs: &[(u32, u32)], word: u32, from: u32) -> Option<(u32, u32, bool, Op
     ))
 }
 
+const BACK: &[(u32, u32)] = &[(1, 0), (2, 1)];
+
+// the arcs, a set, a part of it, and what is seen of them
+type Row = (
+    &'static [(u32, u32)],
+    u32,
+    u32,
+    (u32, u32, bool, Option<u32>),
+);
+
+const ROWS: [Row; 8] = [
+    (THREE_GROUPS, 0b11111, 2, (0b00111, 0b00011, false, None)),
+    (THREE_GROUPS, 0b11111, 3, (0b11000, 0b00011, false, None)),
+    (THREE_GROUPS, 0b00100, 2, (0b00100, 0b00100, true, Some(0))),
+    (CHAIN, 0b101, 0, (0b001, 0b001, false, None)),
+    (CHAIN, 0b111, 0, (0b111, 0b100, false, None)),
+    (BACK, 0b111, 0, (0b001, 0b001, false, None)),
+    (RING, 0b111, 0, (0b111, 0b111, true, Some(2))),
+    (FULL, 0b111, 0, (0b111, 0b111, true, Some(2))),
+];
+
 #[test]
 fn walks_sinks_and_strength(rt: HostRuntime) {
-    let back: &[(u32, u32)] = &[(1, 0), (2, 1)];
-    let rows = [
-        (THREE_GROUPS, 0b11111, 2, (0b00111, 0b00011, false, None)),
-        (THREE_GROUPS, 0b11111, 3, (0b11000, 0b00011, false, None)),
-        (THREE_GROUPS, 0b00100, 2, (0b00100, 0b00100, true, Some(0))),
-        (CHAIN, 0b101, 0, (0b001, 0b001, false, None)),
-        (CHAIN, 0b111, 0, (0b111, 0b100, false, None)),
-        (back, 0b111, 0, (0b001, 0b001, false, None)),
-        (RING, 0b111, 0, (0b111, 0b111, true, Some(2))),
-        (FULL, 0b111, 0, (0b111, 0b111, true, Some(2))),
-    ];
-    for (arcs, word, from, wanted) in rows {
-        assert_eq!(rt; seen(arcs, word, from), Some(wanted));
+    for row in &ROWS {
+        assert_eq!(rt; seen(row.0, row.1, row.2), Some(row.3));
     }
 }
 
@@ -67,7 +77,7 @@ fn arcs_of_trees(arcs: &[(u32, u32)]) -> Option<[(u32, u32); 4]> {
 }
 
 // the words of the groups of a set
-fn groups(rt: &impl Abort, alloc: Global, arcs: &[(u32, u32)], word: u32) -> Vec<u32> {
+fn groups(rt: &impl Abort, alloc: Global, arcs: &[(u32, u32)], word: u32, wanted: &[u32]) {
     let groups = strong_parts(&graph(arcs), PartSet::from_bits(word));
     let mut words = Vec::new(alloc);
     for k in 0..groups.count {
@@ -75,26 +85,21 @@ fn groups(rt: &impl Abort, alloc: Global, arcs: &[(u32, u32)], word: u32) -> Vec
             .push(groups.of[k as usize].bits())
             .expect(rt, "memory");
     }
-    words
+    assert_eq!(rt; words.as_slice(), wanted);
 }
 
 #[test]
 fn groups_and_trees(rt: HostRuntime) {
-    let ends: &[(u32, u32)] = &[(0, 31), (31, 0)];
-    let rows: [(&[(u32, u32)], u32, &[u32]); 3] = [
-        (THREE_GROUPS, 0b11111, &[0b00011, 0b00100, 0b11000]),
-        (THREE_GROUPS, 0, &[]),
-        (ends, 1 << 31 | 1, &[1 << 31 | 1]),
-    ];
-    for (arcs, word, wanted) in rows {
-        let found = groups(&rt, rt.alloc(), arcs, word);
-        assert_eq!(rt; found.as_slice(), wanted);
-    }
-    assert_eq!(rt;
-        [arcs_of_trees(RING), arcs_of_trees(FULL)],
-        [
-            Some([(0, 1), (1, 2), (2, 0), (1, 2)]),
-            Some([(0, 1), (0, 2), (1, 0), (2, 0)]),
-        ]
+    let alloc = rt.alloc();
+    groups(
+        &rt,
+        alloc,
+        THREE_GROUPS,
+        0b11111,
+        &[0b00011, 0b00100, 0b11000],
     );
+    groups(&rt, alloc, THREE_GROUPS, 0, &[]);
+    groups(&rt, alloc, &[(0, 31), (31, 0)], 1 << 31 | 1, &[1 << 31 | 1]);
+    assert_eq!(rt; arcs_of_trees(RING), Some([(0, 1), (1, 2), (2, 0), (1, 2)]));
+    assert_eq!(rt; arcs_of_trees(FULL), Some([(0, 1), (0, 2), (1, 0), (2, 0)]));
 }

@@ -4,13 +4,13 @@ ghost use Rattle.staat_model.specs.Assemblies.{IsPart};
 ghost use Rattle.staat_model.specs.Pieces.{IsPiece};
 ghost use Rattle.staat_holds.specs.Holds.{IsCorePair};
 
-use crate::fixtures::{CLOSED, LIDDED, parts_of};
+use crate::fixtures::{CLOSED, LIDDED, Shape, parts_of};
 use staat_cone::Plain;
 use staat_holds::{first_gap, is_core_pair, judge_hold};
 use staat_model::{Arc, Part, Piece};
-use staat_samples::at;
 use staat_vec::{OutOfMemory, V3};
 use std::alloc::Global;
+use std::process::Abort;
 
 fn is_piece(piece: &Piece) -> bool
     ensures { IsTrue result ↔ IsPiece piece.now }
@@ -63,43 +63,45 @@ fn judged(
     Ok(Some((gap, holds)))
 }
 
-// the first piece of the first part against a piece of another part
+// the cube against a piece of another part
 fn against(b: u32, j: u32) -> Arc {
     Arc { a: 0, i: 0, b, j }
+}
+
+const HELD: Option<(Option<V3>, bool)> = Some((None, true));
+
+const NO_RIGHT_WALL: Option<(Option<V3>, bool)> = Some((Some(V3 { x: 1, y: 0, z: 0 }), false));
+
+fn judges(
+    rt: &impl Abort,
+    alloc: Global,
+    shapes: &[Shape],
+    nodes: &[Option<u32>],
+    core: &[Arc],
+    wanted: Option<(Option<V3>, bool)>,
+) {
+    let parts = parts_of(rt, alloc, shapes);
+    let answer = judged(alloc, parts.as_slice(), nodes, core);
+    assert_eq!(rt; answer, Ok(wanted));
 }
 
 #[test]
 fn pairs_with_all_sides_of_a_box_hold_a_cube(rt: HostRuntime) {
     let alloc = rt.alloc();
-    let core = [
+    let [right, left, behind, before] = [
         against(1, 0),
         against(1, 1),
         against(1, 2),
         against(1, 3),
-        against(1, 5),
-        against(1, 4),
     ];
-    let parts = parts_of(&rt, alloc, CLOSED.as_slice());
-    let nodes = [Some(0), Some(1)];
-    let held = Some((None, true));
-    let no_right_wall = Some((Some(at(1, 0, 0)), false));
-    for (core, wanted) in [(&core[..], held), (&core[1..], no_right_wall)] {
-        let answer = judged(alloc, parts.as_slice(), nodes.as_slice(), core);
-        assert_eq!(rt; answer, Ok(wanted));
-    }
+    let sides = [right, left, behind, before, against(1, 5), against(1, 4)];
+    let two = [Some(0), Some(1)];
+    judges(&rt, alloc, &CLOSED, &two, &sides, HELD);
+    judges(&rt, alloc, &CLOSED, &two, &sides[1..], NO_RIGHT_WALL);
     // the box without its top and the lid as one node, which the lid's pair closes
-    let parts = parts_of(&rt, alloc, LIDDED.as_slice());
-    let lidded = [
-        core[0],
-        core[1],
-        core[2],
-        core[3],
-        against(1, 4),
-        against(2, 0),
-    ];
-    for (lid, wanted) in [(Some(1), held), (None, None)] {
-        let nodes = [Some(0), Some(1), lid];
-        let answer = judged(alloc, parts.as_slice(), nodes.as_slice(), &lidded);
-        assert_eq!(rt; answer, Ok(wanted));
-    }
+    let lidded = [right, left, behind, before, against(1, 4), against(2, 0)];
+    let lid_on = [Some(0), Some(1), Some(1)];
+    judges(&rt, alloc, &LIDDED, &lid_on, &lidded, HELD);
+    let lid_off = [Some(0), Some(1), None];
+    judges(&rt, alloc, &LIDDED, &lid_off, &lidded, None);
 }

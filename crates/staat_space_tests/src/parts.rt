@@ -34,32 +34,29 @@ fn sets(rt: HostRuntime) {
     assert!(rt; odd.meets(PartSet::first(2)) && !odd.meets(PartSet::empty()));
 }
 
+fn spans(rt: &impl Abort, points: &[V3], wanted: bool) {
+    assert_eq!(rt; is_solid(points), wanted);
+}
+
 #[test]
 fn solid_points(rt: HostRuntime) {
-    let rows: [(&[V3], bool); 6] = [
-        (&[at(0, 0, 0), at(1, 0, 0), at(0, 1, 0), at(0, 0, 1)], true),
-        (
-            &[
-                at(0, 0, 0),
-                at(0, 0, 0),
-                at(2, 0, 0),
-                at(4, 0, 0),
-                at(0, 1, 0),
-                at(7, 7, -1),
-            ],
-            true,
-        ),
-        (&[at(0, 0, 1), at(1, 0, 1), at(0, 1, 1), at(5, 7, 1)], false),
-        (
-            &[at(1, 2, 3), at(2, 4, 6), at(3, 6, 9), at(-1, -2, -3)],
-            false,
-        ),
-        (&[at(1, 2, 3), at(1, 2, 3)], false),
-        (&[], false),
+    let simplex = [at(0, 0, 0), at(1, 0, 0), at(0, 1, 0), at(0, 0, 1)];
+    spans(&rt, &simplex, true);
+    let late = [
+        at(0, 0, 0),
+        at(0, 0, 0),
+        at(2, 0, 0),
+        at(4, 0, 0),
+        at(0, 1, 0),
+        at(7, 7, -1),
     ];
-    for (points, wanted) in rows {
-        assert_eq!(rt; is_solid(points), wanted);
-    }
+    spans(&rt, &late, true);
+    let flat = [at(0, 0, 1), at(1, 0, 1), at(0, 1, 1), at(5, 7, 1)];
+    spans(&rt, &flat, false);
+    let line = [at(1, 2, 3), at(2, 4, 6), at(3, 6, 9), at(-1, -2, -3)];
+    spans(&rt, &line, false);
+    spans(&rt, &[at(1, 2, 3), at(1, 2, 3)], false);
+    spans(&rt, &[], false);
 }
 
 #[test]
@@ -92,10 +89,9 @@ const SQUARE: [(i128, i128); 4] = [(0, 0), (2, 0), (2, 2), (0, 2)];
 #[test]
 fn a_box_and_a_prism(rt: HostRuntime) {
     let body = box_of(&rt, rt.alloc(), [0, 0, 0, 2, 4, 2]);
-    let other = prism_of(&rt, rt.alloc(), SQUARE);
-    for piece in [body, other] {
-        assert_eq!(rt; piece.points(), BLOCK.as_slice());
-    }
+    assert_eq!(rt; body.points(), BLOCK.as_slice());
+    let body = prism_of(&rt, rt.alloc(), SQUARE);
+    assert_eq!(rt; body.points(), BLOCK.as_slice());
 }
 
 fn is_none<T: Drop>(rt: &impl Abort, made: Result<Option<T>, OutOfMemory>) -> bool {
@@ -106,13 +102,10 @@ fn is_none<T: Drop>(rt: &impl Abort, made: Result<Option<T>, OutOfMemory>) -> bo
 fn what_is_flat_is_no_piece(rt: HostRuntime) {
     let alloc = rt.alloc();
     let point = Vec::from_slice(alloc, &[at(0, 0, 0)]).expect(&rt, "memory");
-    let found = [
-        is_none(&rt, boxed(alloc, at(0, 0, 0), at(2, 0, 2))),
-        is_none(&rt, boxes(alloc, &[(at(0, 0, 0), at(0, 4, 2))])),
-        piece_of(point).is_none(),
-        assembly_of(Vec::new(alloc)).is_none(),
-    ];
-    assert_eq!(rt; found, [true; 4]);
+    assert!(rt; is_none(&rt, boxed(alloc, at(0, 0, 0), at(2, 0, 2))));
+    assert!(rt; is_none(&rt, boxes(alloc, &[(at(0, 0, 0), at(0, 4, 2))])));
+    assert!(rt; piece_of(point).is_none());
+    assert!(rt; assembly_of(Vec::new(alloc)).is_none());
 }
 
 fn parts_in(rt: &impl Abort, made: Result<Assembly, OutOfMemory>) -> u32 {
@@ -141,15 +134,10 @@ fn nested(rt: &impl Abort, alloc: Global, n: u32) -> (u32, u32)
 #[test]
 fn products_have_their_parts(rt: HostRuntime) {
     let alloc = rt.alloc();
-    let found = [
-        parts_in(&rt, two_parts(&rt, alloc).ok_or(OutOfMemory)),
-        parts_in(&rt, row_of_cubes(alloc, 1)),
-        parts_in(&rt, row_of_cubes(alloc, 2)),
-        parts_in(&rt, row_of_cubes(alloc, 32)),
-    ];
-    assert_eq!(rt; found, [2, 1, 2, 32]);
-    assert_eq!(rt;
-        [nested(&rt, alloc, 1), nested(&rt, alloc, 6)],
-        [(2, 6), (7, 6)]
-    );
+    assert_eq!(rt; parts_in(&rt, two_parts(&rt, alloc).ok_or(OutOfMemory)), 2);
+    assert_eq!(rt; parts_in(&rt, row_of_cubes(alloc, 1)), 1);
+    assert_eq!(rt; parts_in(&rt, row_of_cubes(alloc, 2)), 2);
+    assert_eq!(rt; parts_in(&rt, row_of_cubes(alloc, 32)), 32);
+    assert_eq!(rt; nested(&rt, alloc, 1), (2, 6));
+    assert_eq!(rt; nested(&rt, alloc, 6), (7, 6));
 }

@@ -93,13 +93,17 @@ const ROW: [Shape<'static>; 3] = [
 
 const OPEN: [Kind; 2] = [Kind::Open, Kind::Open];
 
+// asks for a plan, of which so many steps have room
+fn asks_once(rt: &impl Abort, alloc: Global, shapes: &[Shape], robust: bool, wanted: &[Kind]) {
+    let parts = sound(rt, alloc, shapes);
+    let (marks, ahead, back) = asked(rt, alloc, &parts, robust);
+    assert_eq!(rt; marks.as_slice(), wanted);
+    assert!(rt; ahead <= 1 && back <= 1 && (ahead, back) != (0, 0));
+}
+
 // in the robust plan the cube on the left leaves first, and then the other cube and the wall stand for themselves
 #[test]
 fn facets_are_asked_for_once(rt: HostRuntime) {
-    for (shapes, robust, marked) in [(&LIDDED, false, 0), (&ROW, true, 2)] {
-        let parts = sound(&rt, rt.alloc(), shapes.as_slice());
-        let (marks, ahead, back) = asked(&rt, rt.alloc(), &parts, robust);
-        assert_eq!(rt; marks.as_slice(), &OPEN[..marked]);
-        assert!(rt; ahead <= 1 && back <= 1 && (ahead, back) != (0, 0));
-    }
+    asks_once(&rt, rt.alloc(), &LIDDED, false, &[]);
+    asks_once(&rt, rt.alloc(), &ROW, true, &OPEN);
 }

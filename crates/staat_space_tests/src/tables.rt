@@ -2,7 +2,7 @@
 ghost use Rattle.std.specs.Prelude.{◌≡◌, ◌<◌};
 ghost use Rattle.staat_vec.specs.Vectors.{IsWithin};
 
-use crate::fixtures::{CLOSED, DOVETAIL, LIDDED, is_across, sound, table};
+use crate::fixtures::{CLOSED, DOVETAIL, LIDDED, is_across, shows, sound, table};
 use staat_cone::Plain;
 use staat_graph::{strong_parts, trees_of};
 use staat_model::{Arc, PartSet};
@@ -27,6 +27,11 @@ fn facets(rt: &impl Abort, alloc: Global, table: &PlaneTable, [a, i, b, j]: [u32
         facets.push(table.facet(arc, m)).expect(rt, "memory");
     }
     facets
+}
+
+fn has_facets(rt: &impl Abort, alloc: Global, table: &PlaneTable, arc: [u32; 4], wanted: &[V3]) {
+    let found = facets(rt, alloc, table, arc);
+    are_same(rt, found.as_slice(), wanted);
 }
 
 // the first three words of the graph at a direction
@@ -59,31 +64,36 @@ fn signs<L: Ledger>(
     signs
 }
 
+const DOVETAIL_PLANES: [V3; 5] = [
+    V3 { x: 1, y: 0, z: 0 },
+    V3 { x: 0, y: 1, z: 0 },
+    V3 { x: 0, y: 0, z: 1 },
+    V3 { x: 2, y: 0, z: -1 },
+    V3 { x: 2, y: 0, z: 1 },
+];
+
 #[test]
-fn a_dovetail(rt: HostRuntime) {
+fn the_planes_of_a_dovetail_are_limited(rt: HostRuntime) {
     let alloc = rt.alloc();
     let parts = sound(&rt, alloc, &DOVETAIL);
     let all = PartSet::first(parts.assembly().parts());
     let refused = tabulate(alloc, &Plain, &parts, all, 4).err();
     assert_eq!(rt; refused, Some(PlanesRefusal::TooManyPlanes(5)));
     let table = tabulate(alloc, &Plain, &parts, all, 5).expect(&rt, "five planes");
-    let planes = [
-        at(1, 0, 0),
-        at(0, 1, 0),
-        at(0, 0, 1),
-        at(2, 0, -1),
-        at(2, 0, 1),
-    ];
-    are_same(&rt, table.planes(), planes.as_slice());
-    let facets = facets(&rt, alloc, &table, [1, 1, 0, 0]);
-    are_same(&rt, facets.as_slice(), &[at(-2, 0, -1)]);
+    are_same(&rt, table.planes(), DOVETAIL_PLANES.as_slice());
+}
+
+const SIGNS: [Sign; 5] = [Sign::Pos, Sign::Zero, Sign::Pos, Sign::Zero, Sign::Pos];
+
+#[test]
+fn a_dovetail(rt: HostRuntime) {
+    let alloc = rt.alloc();
+    let table = table(&rt, alloc, &DOVETAIL);
+    has_facets(&rt, alloc, &table, [1, 1, 0, 0], &[at(-2, 0, -1)]);
     let signs = signs::<Brand>(&rt, alloc, &table, at(1, 0, 2), Blank::new(1));
-    let wanted = [Sign::Pos, Sign::Zero, Sign::Pos, Sign::Zero, Sign::Pos];
-    assert!(rt; signs.as_slice() == wanted.as_slice());
-    assert_eq!(rt;
-        [rows_at(&table, at(0, -1, 0)), rows_at(&table, at(0, 0, 1))],
-        [[0, 0, 0], [0b10, 0b01, 0]]
-    );
+    assert!(rt; signs.as_slice() == SIGNS.as_slice());
+    assert_eq!(rt; rows_at(&table, at(0, -1, 0)), [0, 0, 0]);
+    assert_eq!(rt; rows_at(&table, at(0, 0, 1)), [0b10, 0b01, 0]);
 }
 
 #[test]
@@ -106,11 +116,9 @@ fn a_box_with_a_lid(rt: HostRuntime) {
     let groups = strong_parts(&lidded.graph_at(at(0, 0, 1)), lidded.set());
     assert_eq!(rt; groups.count, 3);
     let down = [at(-2, 0, -3), at(0, -2, -3), at(0, 2, -3), at(2, 0, -3)];
+    has_facets(&rt, alloc, &lidded, [2, 0, 1, 4], &down);
     let up = [at(-2, 0, 3), at(0, -2, 3), at(0, 2, 3), at(2, 0, 3)];
-    for (arc, wanted) in [([2, 0, 1, 4], down), ([1, 4, 2, 0], up)] {
-        let found = facets(&rt, alloc, &lidded, arc);
-        are_same(&rt, found.as_slice(), wanted.as_slice());
-    }
+    has_facets(&rt, alloc, &lidded, [1, 4, 2, 0], &up);
 }
 
 // whether each plane is one of those of the parts
@@ -129,44 +137,50 @@ fn planes_of(rt: &impl Abort, alloc: Global, table: &PlaneTable, parts: PartSet)
     table.planes_of(alloc, parts).expect(rt, "memory")
 }
 
+const LIDDED_PLANES: [V3; 7] = [
+    V3 { x: 1, y: 0, z: 0 },
+    V3 { x: 0, y: 1, z: 0 },
+    V3 { x: 0, y: 0, z: 1 },
+    V3 { x: 0, y: 2, z: -3 },
+    V3 { x: 0, y: 2, z: 3 },
+    V3 { x: 2, y: 0, z: -3 },
+    V3 { x: 2, y: 0, z: 3 },
+];
+
+const ALL: [bool; 7] = [true; 7];
+
+const AXES: [bool; 7] = [true, true, true, false, false, false, false];
+
+// the planes of these parts of a box with a lid: so many of all, from the first one on
+fn has_planes(rt: &impl Abort, alloc: Global, table: &PlaneTable, word: u32, are_used: &[bool; 7]) {
+    let parts = PartSet::from_bits(word);
+    let found = used(rt, alloc, table, parts);
+    assert!(rt; found.as_slice() == are_used.as_slice(), "{word}");
+    let count = if are_used[3] { 7 } else { 3 };
+    let planes = planes_of(rt, alloc, table, parts);
+    are_same(rt, planes.as_slice(), &LIDDED_PLANES[..count]);
+}
+
 #[test]
 fn planes_of_fewer_parts(rt: HostRuntime) {
     let alloc = rt.alloc();
     let table = table(&rt, alloc, &LIDDED);
-    let planes = [
-        at(1, 0, 0),
-        at(0, 1, 0),
-        at(0, 0, 1),
-        at(0, 2, -3),
-        at(0, 2, 3),
-        at(2, 0, -3),
-        at(2, 0, 3),
-    ];
-    are_same(&rt, table.planes(), planes.as_slice());
-    let axes = [true, true, true, false, false, false, false];
-    let rows = [
-        (0b001, axes, &planes[..3]),
-        (0b011, axes, &planes[..3]),
-        (0b101, axes, &planes[..3]),
-        (0b110, [true; 7], planes.as_slice()),
-        (0b111, [true; 7], planes.as_slice()),
-    ];
-    for (word, are_used, wanted) in rows {
-        let parts = PartSet::from_bits(word);
-        let found = used(&rt, alloc, &table, parts);
-        assert!(rt; found.as_slice() == are_used.as_slice(), "{word}");
-        are_same(&rt, planes_of(&rt, alloc, &table, parts).as_slice(), wanted);
-    }
+    are_same(&rt, table.planes(), LIDDED_PLANES.as_slice());
+    has_planes(&rt, alloc, &table, 0b001, &AXES);
+    has_planes(&rt, alloc, &table, 0b011, &AXES);
+    has_planes(&rt, alloc, &table, 0b101, &AXES);
+    has_planes(&rt, alloc, &table, 0b110, &ALL);
+    has_planes(&rt, alloc, &table, 0b111, &ALL);
 }
 
 #[test]
 fn refusals_are_told(rt: HostRuntime) {
-    let rows = [
-        (PlanesRefusal::TooManyPlanes(1025), "too many planes (1025)"),
-        (PlanesRefusal::OutOfMemory, "out of memory"),
-    ];
-    for (refusal, wanted) in rows {
-        let text = format!(in rt.alloc(); "{refusal}").expect(&rt, "memory");
-        assert_eq!(rt; text.as_str(), wanted);
-    }
+    let refusal = PlanesRefusal::TooManyPlanes(1025);
+    shows(&rt, rt.alloc(), &refusal, "too many planes (1025)");
+    shows(
+        &rt,
+        rt.alloc(),
+        &PlanesRefusal::OutOfMemory,
+        "out of memory",
+    );
 }
