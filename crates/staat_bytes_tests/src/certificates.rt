@@ -22,9 +22,13 @@ const TEXTS: [&str; 6] = [
 ];
 
 fn comes_back(rt: &impl Abort, alloc: Global, text: &str) {
-    let certificate = read_cert(alloc, text.as_bytes()).expect(rt, "a certificate");
-    let written = cert_text(alloc, &certificate).expect(rt, "a text");
-    same_bytes(rt, written.as_slice(), text.as_bytes(), text);
+    match read_cert(alloc, text.as_bytes()) {
+        Ok(certificate) => {
+            let written = cert_text(alloc, &certificate).expect(rt, "a text");
+            same_bytes(rt, written.as_slice(), text.as_bytes(), text);
+        }
+        Err(refusal) => shows(rt, alloc, &refusal, text),
+    }
 }
 
 #[test]

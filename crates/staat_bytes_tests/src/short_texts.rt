@@ -80,16 +80,13 @@ const TEXTS: [(&str, &str); 30] = [
     ),
 ];
 
-// What is written of a certificate.
-fn written(rt: &impl Abort, alloc: Global, certificate: &ShortCertificate) -> String {
-    let text = short_text(alloc, certificate).expect(rt, "a text");
-    String::from_utf8(text.into_vec()).expect(rt, "a text")
-}
-
 // What is written of what is read, or why nothing is.
 fn told(rt: &impl Abort, alloc: Global, bytes: &[u8]) -> String {
     match read_short(alloc, bytes) {
-        Ok(certificate) => written(rt, alloc, &certificate),
+        Ok(certificate) => {
+            let text = short_text(alloc, &certificate).expect(rt, "a text");
+            String::from_utf8(text.into_vec()).expect(rt, "a text")
+        }
         Err(refusal) => text_of(rt, alloc, &refusal),
     }
 }
