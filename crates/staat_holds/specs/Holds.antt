@@ -1,6 +1,6 @@
 -- Nodes of parts that a core holds together.
 use Rattle.std.specs.Prelude.{◌≡◌, ◌≢◌, ◌⊎◌, ◌↔◌, ℕ, ◌<◌, List, ◌++◌, Contains, Option, Some}
-use Rattle.std.specs.Prelude.{length, slice_get}
+use Rattle.std.specs.Prelude.{cond, length, nat_lt, slice_get}
 use Rattle.staat_vec.specs.declared.vector.V3.{V3}
 use Rattle.staat_vec.specs.Lists.{IsFirst, Lists}
 use Rattle.staat_vec.specs.Vectors.{cross, origin, vector_cmp}
@@ -34,6 +34,10 @@ pub record IsCorePair (parts : List Part) (nodes : List (Option ℕ)) (count : �
 -- the core has the two pieces, in either order
 abbrev pub HasPair : List Arc → Arc → Type 0
 HasPair core pair = Contains core pair ⊎ Contains core (turned pair)
+
+-- the pair with its lesser part first
+unfoldable pub lesser_first : Arc → Arc
+lesser_first pair = cond (nat_lt pair.b pair.a) (turned pair) pair
 
 -- an arc of the core at d: of a pair of the core the one piece, of a part of the node x, meets along d the other one,
 -- of a part of the node y
