@@ -15,3 +15,4 @@ pub mod Joining
 pub mod ChainLaw
 pub mod Breaking
 pub mod GapSizes
+pub mod PairOrder

@@ -18,7 +18,7 @@ mod writer;
 mod writing;
 
 pub use line::ShortLine;
-pub use nodes::plan_nodes;
+pub use nodes::{grouped_nodes, plan_nodes};
 pub use reader::ShortReader;
 pub use short::{ShortAnswer, ShortCertificate, ShortNode, ShortNodes};
 pub use whole::read_short;
