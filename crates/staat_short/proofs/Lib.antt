@@ -7,3 +7,6 @@ pub mod Steps
 pub mod Runs
 pub mod AddLemmas
 pub mod PlanTrees
+pub mod PlanSizes
+pub mod ShownOrders
+pub mod TextSizes

@@ -49,8 +49,8 @@ fn push_grouped_nodes(nodes: &mut Vec<ShortNode>, tree: GroupedTree) -> Result<(
         }
         GroupedTree::Split { d, moved, rest } => {
             nodes.push(ShortNode::Split(d))?;
-            push_grouped_nodes(nodes, *moved)?;
-            push_grouped_nodes(nodes, *rest)
+            push_grouped_nodes(nodes, Box::into_inner(moved))?;
+            push_grouped_nodes(nodes, Box::into_inner(rest))
         }
     }
 }
