@@ -6,3 +6,5 @@ pub mod Unique
 pub mod Shown
 pub mod Clearing
 pub mod Telling
+pub mod Apart
+pub mod Valid

@@ -4,6 +4,7 @@
 mod ends;
 mod groups;
 mod judging;
+pub mod laws;
 mod meeting;
 mod owners;
 mod sides;
