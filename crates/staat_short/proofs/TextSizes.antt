@@ -56,13 +56,13 @@ line_long line.Plan is = row_long (short_word line.Plan) [] (omega arith) (omega
 line_long line.Stuck is = row_long (short_word line.Stuck) [] (omega arith) (omega arith) tt
 line_long line.Rest is = row_long (short_word line.Rest) [] (omega arith) (omega arith) tt
 line_long (line.Split d) is = row_long (short_word (line.Split d)) (d.x ∷ d.y ∷ d.z ∷ []) (omega arith) (omega arith)
-    (let x = is.x in let y = is.y in let z = is.z in (omega (arith, x), omega (arith, y), omega (arith, z), tt))
+    (let x = is.x in let y = is.y in let z = is.z in (omega (arith, x), (omega (arith, y), (omega (arith, z), tt))))
 line_long (line.Leaf p) is = row_long (short_word (line.Leaf p)) (pos p ∷ []) (omega arith) (omega arith) (omega (arith, is), tt)
 line_long line.Group is = row_long (short_word line.Group) [] (omega arith) (omega arith) tt
 line_long line.Hold is = row_long (short_word line.Hold) [] (omega arith) (omega arith) tt
 line_long (line.Part p) is = row_long (short_word (line.Part p)) (pos p ∷ []) (omega arith) (omega arith) (omega (arith, is), tt)
 line_long (line.Pair pair) is = row_long (short_word (line.Pair pair)) (pos pair.a ∷ pos pair.i ∷ pos pair.b ∷ pos pair.j ∷ []) (omega arith) (omega arith)
-    (let a = is.below in let i = is.i in let b = is.b in let j = is.j in (omega (arith, a, b), omega (arith, i), omega (arith, b), omega (arith, j), tt))
+    (let a = is.below in let i = is.i in let b = is.b in let j = is.j in (omega (arith, a, b), (omega (arith, i), (omega (arith, b), (omega (arith, j), tt)))))
 line_long line.End is = row_long (short_word line.End) [] (omega arith) (omega arith) tt
 
 lines_long : (ls : List ShortLine) → All IsShortLine ls → length (flat_map short_line_text ls) ≤ 128 * length ls

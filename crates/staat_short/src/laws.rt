@@ -48,8 +48,8 @@ pub fn plan_nodes_are_a_tree()
 /// What is shown of a product is within the bounds of the text and in its orders: a good plan, a plan that takes the
 /// parts apart down to groups that are shown, and one hold that joins stuck parts.
 pub fn shown_plans_are_in_order()
-    ensures plan { (parts : List PartValue) (plan : Plan) → IsProduct parts → IsGood parts (below (length parts)) plan
-        → HasSmallDirections plan
+    ensures plan { (parts : List PartValue) (plan : Plan) → IsProduct parts
+        → IsGood parts (below (length parts)) plan → HasSmallDirections plan
         → IsShortInOrder (record { parts = length parts; answer = answer.Plan (plan_nodes plan) }) }
     ensures rest { (parts : List PartValue) (tree : GroupedTreeValue) → IsProduct parts → IsShownRest parts tree
         → IsShortInOrder
@@ -61,7 +61,7 @@ pub fn shown_plans_are_in_order()
 
 /// The text of a good plan for a product is not too long.
 pub fn plan_texts_are_short()
-    ensures { (parts : List PartValue) (plan : Plan) → IsProduct parts → IsGood parts (below (length parts)) plan
-        → HasSmallDirections plan
+    ensures { (parts : List PartValue) (plan : Plan) → IsProduct parts
+        → IsGood parts (below (length parts)) plan → HasSmallDirections plan
         → length (short_text (record { parts = length parts; answer = answer.Plan (plan_nodes plan) })) ≤ TEXT_LIMIT }
 {}
