@@ -1,18 +1,18 @@
 -- What takes all parts apart down to its groups keeps the rules of its nodes.
 use Rattle.std.proofs.Common.{◌≡◌, ◌⊎◌, ◌↔◌, ℕ, zero, suc, ◌+◌, ◌-◌, ◌<◌, ◌≤◌, List, [], ◌∷◌, ◌++◌, length, drop, inl, inr, ⊎_elim, refl, sym, ap, subst, ◌∙◌, arith, append_assoc}
-use Rattle.std.specs.Prelude.{Some, slice_get}
+use Rattle.std.specs.Prelude.{slice_get}
 use Rattle.std.specs.FinSet as set
 use Rattle.staat_vec.specs.declared.vector.V3.{V3}
 use Rattle.staat_model.specs.declared.assembly.Part.{Part}
 use Rattle.staat_model.specs.declared.set.PartSet.{PartSet}
 use Rattle.staat_model.specs.Sets.{Has, below}
-use Rattle.staat_model.proofs.Places.{place_within, same_some}
+use Rattle.staat_model.proofs.Places.{same_some}
 use Rattle.staat_model.proofs.SetBits.{has-below}
 use Rattle.staat_model.proofs.SetMembers.{has-single, has-union}
 use Rattle.staat_short.specs.declared.short.ShortNode.{ShortNode}
 use Rattle.staat_short.specs.declared.short.ShortNode.TheVariants.{Leaf, Split, Group}
 use Rattle.staat_short.specs.ShortTexts.{GroupedPlan, grouped, part_alone, short_nodes_of, taken_apart}
-use Rattle.staat_confirm.specs.Members.{AreMembersOnce, IsMemberAt, IsMemberOf, IsMemberWithin, StandsAt}
+use Rattle.staat_confirm.specs.Members.{AreMembersOnce, IsMemberAt, IsMemberOf, StandsAt}
 use Rattle.staat_confirm.specs.ShortVerdicts.{IsGoodDownTo}
 use Rattle.staat_confirm.specs.Splits.{AreClearSplits, IsClearSplit}
 use Rattle.staat_confirm.proofs.Lists.{get_front}

@@ -1,12 +1,11 @@
 -- What is good is called valid.
-use Rattle.std.proofs.Common.{◌≡◌, ◌↔◌, ℕ, zero, suc, ◌<◌, List, [], ◌∷◌, ◌++◌, length, refl, sym, subst, arith, All, Contains, ⊎_elim}
-use Rattle.std.specs.Prelude.{Some, slice_get}
+use Rattle.std.proofs.Common.{zero, suc, List, [], ◌∷◌, ◌++◌, length, refl, sym, subst, arith, All, ⊎_elim}
 use Rattle.std.proofs.lemmas.List.Elements.{All-append, All-cons, All-head, All-nil, All-tail}
 use Rattle.staat_model.specs.declared.assembly.Part.{Part}
 use Rattle.staat_model.specs.declared.set.PartSet.{PartSet}
 use Rattle.staat_model.specs.Plans.{IsGood, Plan, leaf, parts_of, split}
 use Rattle.staat_model.specs.SetLists.{set_of}
-use Rattle.staat_model.specs.Sets.{Has, below}
+use Rattle.staat_model.specs.Sets.{below}
 use Rattle.staat_model.proofs.Members.{all_back, all_front}
 use Rattle.staat_model.proofs.Places.{same_some}
 use Rattle.staat_model.proofs.SetListings.{has-set_of}
@@ -14,10 +13,9 @@ use Rattle.staat_holds.specs.declared.grouped.Group.{Group as GroupValue}
 use Rattle.staat_holds.specs.declared.grouped.GroupedTree.{GroupedTree}
 use Rattle.staat_holds.specs.declared.grouped.GroupedTree as tree
 use Rattle.staat_holds.specs.declared.hold.Hold.{Hold}
-use Rattle.staat_holds.specs.Chains.{AllKeep, IsJoinedLast, KeepsHoldRules, names_before, own_names}
+use Rattle.staat_holds.specs.Chains.{AllKeep, KeepsHoldRules, own_names}
 use Rattle.staat_holds.specs.Partials.{HasShownGroups, HasTogether, IsGoodPartial, IsShownGroup, IsShownRest, partial_of, parts_in}
 use Rattle.staat_short.specs.declared.short.ShortAnswer.TheVariants as answer
-use Rattle.staat_short.specs.declared.short.ShortNode.{ShortNode}
 use Rattle.staat_short.specs.declared.short.ShortNode.TheVariants.{Leaf, Split, Group}
 use Rattle.staat_short.specs.PlanNodes.{grouped_plan_of, plan_nodes, without_groups}
 use Rattle.staat_short.specs.ShortTexts.{GroupedPlan, IsUngrouped, short_nodes_of}

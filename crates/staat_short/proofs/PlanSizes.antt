@@ -6,7 +6,7 @@ use Rattle.staat_model.specs.declared.assembly.Part.{Part}
 use Rattle.staat_model.specs.declared.set.PartSet.{PartSet}
 use Rattle.staat_model.specs.Plans.{IsGood, Plan, leaf, parts_of, split}
 use Rattle.staat_model.specs.SetLists.{set_of}
-use Rattle.staat_model.specs.Sets.{AreApart, Has, IsNonempty, IsSubset, below, single}
+use Rattle.staat_model.specs.Sets.{AreApart, Has, IsNonempty, IsSubset, below}
 use Rattle.staat_model.proofs.SetBits.{has-below}
 use Rattle.staat_model.proofs.SetMembers.{has-empty, has-insert, has-single, has-union}
 use Rattle.staat_model.proofs.SetSizes.{len_below, len_more}

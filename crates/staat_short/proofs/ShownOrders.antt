@@ -1,19 +1,18 @@
 -- The certificates of what is shown are within the bounds of their text, and in its orders.
-use Rattle.std.proofs.Common.{◌≡◌, ℕ, suc, ◌+◌, ◌*◌, ◌<◌, ◌≤◌, List, [], ◌∷◌, ◌++◌, length, map, take, inl, inr, refl, sym, ap, subst, ◌∙◌, arith, All, Contains}
-use Rattle.std.specs.Prelude.{Some, flat_map, slice_get}
+use Rattle.std.proofs.Common.{◌≡◌, ℕ, ◌+◌, ◌*◌, ◌<◌, ◌≤◌, List, [], ◌∷◌, ◌++◌, length, map, take, inl, inr, refl, sym, subst, ◌∙◌, arith, All, Contains}
+use Rattle.std.specs.Prelude.{flat_map}
 use Rattle.std.proofs.lemmas.List.{length-map}
 use Rattle.std.proofs.lemmas.List.Concat.{flat_map-cons}
 use Rattle.std.proofs.lemmas.List.Elements.{All-append, All-cons, All-contains, All-map, All-nil}
 use Rattle.std.proofs.lemmas.List.FromFn.{length-range_with_len}
 use Rattle.staat_vec.specs.declared.vector.V3.{V3}
 use Rattle.staat_vec.specs.declared.vector.TheConstants.{DIRECTION}
-use Rattle.staat_limits.specs.declared.limits.TheConstants.{MOST_PRODUCT_PARTS}
 use Rattle.staat_model.specs.declared.assembly.Part.{Part}
 use Rattle.staat_model.specs.declared.certificate.Arc.{Arc}
 use Rattle.staat_model.specs.declared.set.PartSet.{PartSet}
-use Rattle.staat_model.specs.Assemblies.{IsProduct, piece_count}
+use Rattle.staat_model.specs.Assemblies.{IsProduct}
 use Rattle.staat_model.specs.Plans.{IsGood, Plan, leaf, parts_of, split}
-use Rattle.staat_model.specs.Sets.{Has, IsSubset, below, single}
+use Rattle.staat_model.specs.Sets.{Has, IsSubset, below}
 use Rattle.staat_model.proofs.Members.{All-from_members}
 use Rattle.staat_model.proofs.PartCounts.{piece_count_small}
 use Rattle.staat_model.proofs.Places.{place_from_Contains, place_within}
@@ -25,7 +24,6 @@ use Rattle.staat_holds.specs.declared.grouped.GroupedTree as tree
 use Rattle.staat_holds.specs.declared.hold.Hold.{Hold}
 use Rattle.staat_holds.specs.Chains.{IsHoldPair, IsName, KeepsHoldRules, joined_name, names_after, names_before, own_names}
 use Rattle.staat_holds.specs.Partials.{HasShownGroups, HasSmallDirections, HasSmallSteps, IsGoodPartial, IsOrderedHold, IsShownGroup, IsShownRest, partial_of, parts_in}
-use Rattle.staat_short.specs.declared.line.ShortLine.{ShortLine}
 use Rattle.staat_short.specs.declared.line.ShortLine.TheVariants as line
 use Rattle.staat_short.specs.declared.short.ShortAnswer.{ShortAnswer}
 use Rattle.staat_short.specs.declared.short.ShortAnswer.TheVariants as answer

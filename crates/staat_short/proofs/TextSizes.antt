@@ -1,5 +1,5 @@
 -- How long the text of a plan for a product is at most.
-use Rattle.std.proofs.Common.{◌≡◌, ◌∙◌, ℕ, suc, ◌+◌, ◌*◌, ◌^◌, ◌<◌, ◌≤◌, arith, refl, sym, ap, List, [], ◌∷◌, ◌++◌, length, length-append, All, ℤ, pos, negsuc}
+use Rattle.std.proofs.Common.{◌≡◌, ◌∙◌, ℕ, suc, ◌+◌, ◌*◌, ◌^◌, ◌≤◌, arith, refl, ap, List, [], ◌∷◌, ◌++◌, length, length-append, All, ℤ, pos, negsuc}
 use Rattle.std.specs.Prelude.{flat_map, unsigned_abs}
 use Rattle.std.specs.Fmt.{decimal, signed_decimal}
 use Rattle.std.proofs.lemmas.Fmt.{length-decimal-le_wide}
@@ -18,7 +18,7 @@ use Rattle.staat_short.specs.declared.short.ShortAnswer.TheVariants as answer
 use Rattle.staat_short.specs.declared.short.ShortNode.{ShortNode}
 use Rattle.staat_short.specs.declared.short.ShortNode.TheVariants.{Leaf, Split, Group}
 use Rattle.staat_short.specs.PlanNodes.{plan_nodes}
-use Rattle.staat_short.specs.ShortLines.{IsShortLine, short_line_text, short_numbers, short_word}
+use Rattle.staat_short.specs.ShortLines.{IsShortLine, short_line_text, short_word}
 use Rattle.staat_short.specs.ShortTexts.{IsUngrouped, lines_of_short_node, short_lines, short_text}
 use Rattle.staat_short.proofs.PlanTrees.{no_groups}
 use Rattle.staat_short.proofs.ShownOrders.{plan_ordered}
