@@ -1,10 +1,6 @@
 -- What the steps find that read a certificate and judge it.
-use Rattle.std.proofs.Common.{◌≡◌, ◌∙◌, refl, sym, ap, subst, arith, ℕ, ◌+◌, ◌<◌, ◌≤◌, List, [], ◌++◌, length, take, append-nil, Option, Some, None, Ok, Err}
-use Rattle.std.specs.Prelude.{Result, IfSome, IsSomeAnd}
-use Rattle.std.specs.Io.KnownBytes.{Consumes, IsAtEnd}
-use Rattle.std.proofs.KnownBytes.{Consumes-all, Consumes-nil, Consumes-trans}
-use Rattle.std.proofs.lemmas.List.{length-append, length-take-le}
-use Rattle.staat_edge.specs.Files.{bytes_of, content_of, IsLonger, IsWhole, Lacks}
+use Rattle.std.proofs.Common.{◌≡◌, refl, ap, arith, ℕ, ◌≤◌, List, length, Option, Some, Ok, Err}
+use Rattle.std.specs.Prelude.{Result}
 use Rattle.staat_cert.specs.declared.reader.CertReader.{CertReader}
 use Rattle.staat_cert.specs.declared.cert_refusal.CertRefusal.{CertRefusal}
 use Rattle.staat_cert.specs.declared.cert_refusal.CertRefusal.TheVariants as cert
@@ -20,55 +16,11 @@ use Rattle.staat_input.specs.declared.answer.Answer.{Answer}
 use Rattle.staat_input.specs.Work.{Files, Follows, IsNotTakenWithin}
 use Rattle.staat_judging.specs.Checking.{cert_fault}
 use Rattle.staat_judging.specs.Checking.{SaysCertificate, says_whole, says_bad, says_short, IsCertificateIn}
-use Rattle.staat_judging.specs.Checking.{IsChecked, IsFed, IsFedFile, verdict_answer}
+use Rattle.staat_judging.specs.Checking.{IsChecked, verdict_answer}
+use Rattle.staat_judging.specs.Feeding.{IsFed, IsFedFile}
 use Rattle.staat_input.specs.Causes.{HasCause, ShelfSide}
-use Rattle.staat_input.proofs.ReadLemmas.{found_within, not_taken_within}
-
--- ---- feeding
-
--- the reader was fed what was taken of the content, so many bytes
-pub record IsFedSoFar (content left : Option (List ℕ)) (reader : CertReader) (taken : ℕ) : Type 0 where
-  pub text : List ℕ
-  pub fed : WasFed reader text
-  pub count : taken ≡ length text
-  pub bytes : Consumes content left text
-
-pub fed_nothing : (content left : Option (List ℕ)) (reader : CertReader) → WasFed reader [] → left ≡ content → IsFedSoFar content left reader 0
-fed_nothing content left reader fed e = record { text = []; fed = fed; count = refl; bytes = subst (λ l. Consumes content l []) (sym e) (Consumes-nil content) }
-
-pub fed_more : (content left after : Option (List ℕ)) (reader next : CertReader) (taken n : ℕ) (buf : List ℕ) → n ≤ length buf → IsFedSoFar content left reader taken → Consumes left after (take n buf) → ((text : List ℕ) → WasFed reader text → WasFed next (text ++ take n buf)) → IsFedSoFar content after next (taken + n)
-fed_more content left after reader next taken n buf le so more feed = record {
-  text = so.text ++ take n buf;
-  fed = feed so.text so.fed;
-  count = omega (arith, so.count, length-append so.text (take n buf), length-take-le n buf le);
-  bytes = Consumes-trans content left after so.text (take n buf) so.bytes more;
-}
-
-whole_of : (holds : Option Files) (name text : List ℕ) → (Lacks holds name → ⊥) → IfSome (content_of holds name) (λ xs. text ≡ xs) → IsWhole holds name text
-whole_of None name text has h = tt
-whole_of (Some files) name text has h = go (bytes_of name files) refl h
-  where
-    go : (o : Option (List ℕ)) → bytes_of name files ≡ o → IfSome o (λ xs. text ≡ xs) → bytes_of name files ≡ Some text
-    go None e h = absurd (has e)
-    go (Some xs) e h = e ∙ ap Some (sym h)
-
-pub fed_whole : (holds : Option Files) (name : List ℕ) (left after : Option (List ℕ)) (reader : CertReader) (taken : ℕ) → (Lacks holds name → ⊥) → taken ≤ TEXT_LIMIT → IsFedSoFar (content_of holds name) left reader taken → Consumes left after [] → IsAtEnd after → IsFedFile holds name reader
-fed_whole holds name left after reader taken has le so more at_end = record {
-  text = so.text;
-  whole_is = whole_of holds name so.text has (Consumes-all (content_of holds name) after (so.text ++ []) [] (so.text) (Consumes-trans (content_of holds name) left after so.text [] so.bytes more) at_end (sym (append-nil so.text)));
-  fed = record { fed = so.fed; within = subst (λ n. n ≤ TEXT_LIMIT) so.count le };
-}
-
-pub fed_long : (holds : Option Files) (name : List ℕ) (left : Option (List ℕ)) (reader : CertReader) (taken : ℕ) → (Lacks holds name → ⊥) → TEXT_LIMIT < taken → IsFedSoFar (content_of holds name) left reader taken → IsLonger holds name TEXT_LIMIT
-fed_long None name left reader taken has lt so = tt
-fed_long (Some files) name left reader taken has lt so = go (bytes_of name files) left refl so.bytes
-  where
-    go : (o l : Option (List ℕ)) → bytes_of name files ≡ o → Consumes o l so.text → IsSomeAnd o (λ bytes. TEXT_LIMIT < length bytes)
-    go None l e h = absurd (has e)
-    go (Some xs) None e h = absurd h
-    go (Some xs) (Some ys) e h = omega (arith, lt, so.count, ap length h, length-append so.text ys)
-
-pub ruleset feeding = (fed_nothing, fed_more, fed_whole, fed_long)
+use Rattle.staat_input.proofs.ReadLemmas.{not_taken_within}
+use Rattle.staat_judging.proofs.FeedingLemmas.{found_fed}
 
 -- ---- what the file says
 
@@ -93,8 +45,8 @@ refused_cause shelf name text cert.OutOfMemory le h = tt
 pub ruleset said = (says_read, read_formed, says_refused, refused_cause)
 
 -- the whole file was fed
-pub found_certificate : (holds : Option Files) (files : Files) (name : List ℕ) (reader : CertReader) (r : Result Certificate Fault) → holds ≡ Some files → IsFedFile holds name reader → ((text : List ℕ) → IsFed reader text → Follows (SaysCertificate name text) r) → Follows (IsCertificateIn files name) r
-found_certificate holds files name reader r told file says = found_within TEXT_LIMIT (SaysCertificate name) holds files name file.text r told file.whole_is file.fed.within (says file.text file.fed)
+pub found_certificate : (holds : Option Files) (files : Files) (name : List ℕ) (reader : CertReader) (r : Result Certificate Fault) → holds ≡ Some files → IsFedFile holds name (WasFed reader) → ((text : List ℕ) → IsFed (WasFed reader) text → Follows (SaysCertificate name text) r) → Follows (IsCertificateIn files name) r
+found_certificate holds files name reader r told file says = found_fed (SaysCertificate name) holds files name (WasFed reader) r told file says
 
 -- it was not
 pub no_certificate : (holds : Option Files) (files : Files) (name : List ℕ) (f : Fault) → holds ≡ Some files → IsNotTakenWithin TEXT_LIMIT holds name f → Follows (IsCertificateIn files name) (Err f)

@@ -1,4 +1,9 @@
 pub mod CertificateLemmas
 pub mod CheckCauses
+pub mod ConfirmCauses
+pub mod FeedingLemmas
 pub mod OneAnswer
+pub mod OneShortAnswer
 pub mod RightAnswers
+pub mod RightShortAnswers
+pub mod ShortLemmas

@@ -1,5 +1,5 @@
 -- The certificate that a file holds, and the verdict on it.
-use Rattle.std.specs.Prelude.{◌≡◌, ◌≤◌, ℕ, List, length, Option, Ok, Err}
+use Rattle.std.specs.Prelude.{◌≡◌, ℕ, List, Ok, Err}
 use Rattle.staat_model.specs.declared.assembly.Part.{Part}
 use Rattle.staat_model.specs.declared.certificate.Certificate.{Certificate}
 use Rattle.staat_limits.specs.declared.limits.TheConstants.{TEXT_LIMIT}
@@ -7,9 +7,6 @@ use Rattle.staat_model.specs.declared.verdict.Verdict.{Verdict}
 use Rattle.staat_model.specs.declared.verdict.Verdict.TheVariants.{Not, ValidPlan, ValidRefusal}
 use Rattle.staat_model.specs.Reasons.{IsVerdict}
 use Rattle.staat_model.specs.Texts.{IsReading, whole, bad_line, too_short}
-use Rattle.staat_cert.specs.declared.reader.CertReader.{CertReader}
-use Rattle.staat_cert.specs.Feeds.{WasFed}
-use Rattle.staat_edge.specs.Files.{IsWhole}
 use Rattle.staat_fault.specs.declared.fault.Fault.TheVariants.{BadLine, ShortCert}
 use Rattle.staat_text.specs.Verdicts.{verdict_text}
 use Rattle.staat_input.specs.declared.answer.Answer.{Answer}
@@ -54,17 +51,6 @@ pub record IsChecked (parts : List Part) (certificate : Certificate) (found : Fo
   pub verdict : Verdict
   pub right : IsVerdict parts certificate verdict
   pub is : found ≡ Ok (verdict_answer verdict)
-
--- the reader was fed this text, which is not too long
-pub record IsFed (reader : CertReader) (text : List ℕ) : Type 0 where
-  pub fed : WasFed reader text
-  pub within : length text ≤ TEXT_LIMIT
-
--- it was fed the whole file
-pub record IsFedFile (holds : Option Files) (name : List ℕ) (reader : CertReader) : Type 0 where
-  pub text : List ℕ
-  pub whole_is : IsWhole holds name text
-  pub fed : IsFed reader text
 
 -- what the work on `check` finds: the parts are read and tested before the certificate
 abbrev pub CheckWork : CheckRequest → Files → Found Answer → Type 0

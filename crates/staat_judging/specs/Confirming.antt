@@ -1,12 +1,11 @@
 -- The short certificate that a file holds, and the verdict on it.
-use Rattle.std.specs.Prelude.{◌≡◌, ◌⊎◌, ℕ, ◌+◌, [], ◌∷◌, ◌++◌, List, codes, decimal, length, Ok, Err, sum_by, take}
-use Rattle.staat_vec.specs.declared.vector.V3.{V3}
+use Rattle.std.specs.Prelude.{◌≡◌, ◌⊎◌, ℕ, ◌+◌, ◌++◌, List, codes, decimal, length, Ok, Err}
+use Rattle.std.specs.Prelude.{sum_by, take}
 use Rattle.staat_limits.specs.declared.limits.TheConstants.{TEXT_LIMIT}
 use Rattle.staat_model.specs.declared.assembly.Part.{Part}
 use Rattle.staat_model.specs.Lines.{vector_numbers}
 use Rattle.staat_cert.specs.declared.cert_refusal.CertRefusal.{CertRefusal}
 use Rattle.staat_cert.specs.declared.cert_refusal.CertRefusal.TheVariants as cert
-use Rattle.staat_holds.specs.declared.hold.BrokenHold.{BrokenHold}
 use Rattle.staat_holds.specs.declared.hold.HoldRule.{HoldRule}
 use Rattle.staat_holds.specs.declared.hold.HoldRule.TheVariants.{BadPair, FewNodes, Gap, NoNode}
 use Rattle.staat_short.specs.declared.short.ShortNode.{ShortNode}
@@ -22,7 +21,6 @@ use Rattle.staat_confirm.specs.declared.verdict.ShortVerdict.TheVariants.{ValidP
 use Rattle.staat_confirm.specs.ShortVerdicts.{IsShortVerdict, ShowsPlan, ShowsRefusal}
 use Rattle.staat_text.specs.PlanTexts.{numbers_before}
 use Rattle.staat_words.specs.declared.request.CheckRequest.{CheckRequest}
-use Rattle.staat_fault.specs.declared.fault.Fault.{Fault}
 use Rattle.staat_input.specs.declared.answer.Answer.{Answer}
 use Rattle.staat_input.specs.Work.{Files, Found, IsTakenWithin, Then}
 use Rattle.staat_input.specs.Assembling.{AreSoundProductParts, IsSoundProductOf}

@@ -1,3 +1,4 @@
 pub mod Causes
 pub mod Checking
 pub mod Confirming
+pub mod Feeding

@@ -1,22 +1,64 @@
 // The command `confirm`: whether a short certificate is valid for a product of any size.
-ghost use Rattle.std.specs.Prelude.{◌≡◌, ◌≤◌, ◌<◌, Some, IfOk, IfErr};
+ghost use Rattle.std.specs.Prelude.{◌≡◌, ◌≤◌, ◌<◌, Some, Ok, IfOk, IfErr};
 ghost use Rattle.staat_limits.specs.declared.limits.TheConstants.{MOST_PRODUCT_PARTS};
+ghost use Rattle.staat_short.specs.ShortTexts.{IsShortInOrder};
 ghost use Rattle.staat_words.specs.Requests.{IsAskedWithin};
 ghost use Rattle.staat_input.specs.Work.{Files, Follows};
 ghost use Rattle.staat_input.specs.Causes.{over};
 ghost use Rattle.staat_judging.specs.Causes.{HasConfirmCause};
-ghost use Rattle.staat_judging.specs.Confirming.{ConfirmWork};
+ghost use Rattle.staat_judging.specs.Confirming.{ConfirmWork, IsConfirmed, short_verdict_answer};
 
+use crate::lines::short_verdict_text;
+use crate::short_certificate::read_short_certificate;
+use staat_cone::Scan;
+use staat_confirm::ShortVerdict;
 use staat_edge::Shelf;
 use staat_fault::Fault;
-use staat_input::Answer;
+use staat_input::{Answer, read_product};
+use staat_model::SoundProduct;
+use staat_short::{ShortAnswer, ShortCertificate};
+use staat_vec::OutOfMemory;
 use staat_words::CheckRequest;
 use std::alloc::Global;
 
-/// The answer to the command `confirm`: whether the short certificate is valid for the parts, or the first rule that it
-/// breaks. The parts are read and tested before the certificate's file is opened.
+// The answer that a verdict on a certificate with this answer is.
+fn answer_of(
+    alloc: Global,
+    answer: &ShortAnswer,
+    verdict: &ShortVerdict,
+) -> Result<Answer, OutOfMemory>
+    ensures status { IfOk result (λ a. a.status < 2) }
+    ensures is { IfOk result (λ a. a ≡ short_verdict_answer answer.now verdict.now) }
+{
+    let text = short_verdict_text(alloc, answer, verdict)?;
+    match verdict {
+        ShortVerdict::Not(_) => Ok(Answer { status: 1, text }),
+        ShortVerdict::ValidPlan => Ok(Answer { status: 0, text }),
+        ShortVerdict::ValidRefusal => Ok(Answer { status: 0, text }),
+    }
+}
+
+// The answer that the verdict on the certificate is.
+#[tactic(auto, using(crate::proofs::ShortLemmas::confirmed))]
+fn judged(
+    alloc: Global,
+    product: &SoundProduct,
+    certificate: &ShortCertificate,
+) -> Result<Answer, OutOfMemory>
+    requires { IsShortInOrder certificate.now }
+    ensures status { IfOk result (λ a. a.status < 2) }
+    ensures confirmed { IfOk result (λ a. IsConfirmed product.now certificate.now (Ok a)) }
+{
+    let verdict = staat_confirm::confirm(alloc, &Scan, product, certificate)?;
+    let answer = answer_of(alloc, &certificate.answer, &verdict)?;
+    Ok(answer)
+}
+
+/// The answer to the command `confirm`: whether the short certificate is valid for the parts, or the first rule that
+/// it breaks. The parts are read and tested before the certificate's file is opened.
+#[tactic(auto, using(crate::proofs::ConfirmCauses::confirming))]
 pub fn confirm<H: Shelf>(
-    _alloc: Global,
+    alloc: Global,
     request: &CheckRequest,
     shelf: &mut H,
 ) -> Result<Answer, Fault>
@@ -28,5 +70,8 @@ pub fn confirm<H: Shelf>(
         Follows (ConfirmWork request.now files) result }
     ensures cause { IfErr result (HasConfirmCause request.now (over (H.told shelf.old) (H.told shelf.new))) }
 {
-    Err(Fault::OutOfMemory)
+    let product = read_product(alloc, shelf, &request.asked)?;
+    let certificate = read_short_certificate(alloc, shelf, &request.certificate)?;
+    let answer = judged(alloc, &product, &certificate)?;
+    Ok(answer)
 }

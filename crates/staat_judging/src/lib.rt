@@ -4,3 +4,6 @@
 mod certificate;
 pub mod check;
 pub mod confirm;
+mod feeding;
+mod lines;
+mod short_certificate;

@@ -1,0 +1,73 @@
+-- What the steps find that read a short certificate and judge it.
+use Rattle.std.proofs.Common.{◌≡◌, refl, ap, arith, ℕ, ◌≤◌, List, length, Option, Some, Ok, Err}
+use Rattle.std.specs.Prelude.{Result}
+use Rattle.staat_cert.specs.declared.cert_refusal.CertRefusal.{CertRefusal}
+use Rattle.staat_cert.specs.declared.cert_refusal.CertRefusal.TheVariants as cert
+use Rattle.staat_fault.specs.declared.fault.Fault.{Fault}
+use Rattle.staat_model.specs.declared.assembly.Part.{Part}
+use Rattle.staat_limits.specs.declared.limits.TheConstants.{TEXT_LIMIT}
+use Rattle.staat_short.specs.declared.reader.ShortReader.{ShortReader}
+use Rattle.staat_short.specs.declared.short.ShortCertificate.{ShortCertificate}
+use Rattle.staat_short.specs.ShortFeeds.{IsShortReadAnswer, WasFedShort}
+use Rattle.staat_short.specs.ShortTexts.{IsShortInOrder}
+use Rattle.staat_confirm.specs.declared.verdict.ShortVerdict.{ShortVerdict}
+use Rattle.staat_confirm.specs.ShortVerdicts.{IsShortVerdict}
+use Rattle.staat_input.specs.declared.answer.Answer.{Answer}
+use Rattle.staat_input.specs.Work.{Files, Follows, IsNotTakenWithin}
+use Rattle.staat_input.specs.Causes.{HasCause, ShelfSide}
+use Rattle.staat_judging.specs.Checking.{cert_fault}
+use Rattle.staat_judging.specs.Confirming.{SaysShortCertificate, says_short, says_no, IsShortCertificateIn}
+use Rattle.staat_judging.specs.Confirming.{IsConfirmed, short_verdict_answer}
+use Rattle.staat_judging.specs.Feeding.{IsFed, IsFedFile}
+use Rattle.staat_input.proofs.ReadLemmas.{not_taken_within}
+use Rattle.staat_judging.proofs.FeedingLemmas.{found_fed}
+
+-- ---- what the file says
+
+pub says_read : (name text : List ℕ) (c : ShortCertificate) → IsShortReadAnswer text (Ok c)
+    → SaysShortCertificate name text (Ok c)
+says_read name text c h = says_short c h refl
+
+pub read_formed : (text : List ℕ) (c : ShortCertificate) → IsShortReadAnswer text (Ok c) → IsShortInOrder c
+read_formed text c h = h.1.form
+
+pub says_refused : (name text : List ℕ) (refusal : CertRefusal) → length text ≤ TEXT_LIMIT
+    → IsShortReadAnswer text (Err refusal) → Follows (SaysShortCertificate name text)
+    (Err (cert_fault name refusal))
+says_refused name text (cert.BadLine k) le h = says_no (cert.BadLine k) h (λ e. absurd cc) refl
+says_refused name text cert.ShortCert le h = says_no cert.ShortCert h (λ e. absurd cc) refl
+says_refused name text cert.TooLong le h = absurd (omega (arith, le, h))
+says_refused name text cert.OutOfMemory le h = tt
+
+pub refused_cause : (shelf : ShelfSide) (name text : List ℕ) (refusal : CertRefusal) → length text ≤ TEXT_LIMIT
+    → IsShortReadAnswer text (Err refusal) → HasCause shelf (cert_fault name refusal)
+refused_cause shelf name text (cert.BadLine k) le h = tt
+refused_cause shelf name text cert.ShortCert le h = tt
+refused_cause shelf name text cert.TooLong le h = absurd (omega (arith, le, h))
+refused_cause shelf name text cert.OutOfMemory le h = tt
+
+pub ruleset said = (says_read, read_formed, says_refused, refused_cause)
+
+-- the whole file was fed
+pub found_certificate : (holds : Option Files) (files : Files) (name : List ℕ) (reader : ShortReader)
+    (r : Result ShortCertificate Fault) → holds ≡ Some files → IsFedFile holds name (WasFedShort reader)
+    → ((text : List ℕ) → IsFed (WasFedShort reader) text → Follows (SaysShortCertificate name text) r)
+    → Follows (IsShortCertificateIn files name) r
+found_certificate holds files name reader r told file says = found_fed (SaysShortCertificate name) holds files name
+    (WasFedShort reader) r told file says
+
+-- it was not
+pub no_certificate : (holds : Option Files) (files : Files) (name : List ℕ) (f : Fault) → holds ≡ Some files
+    → IsNotTakenWithin TEXT_LIMIT holds name f → Follows (IsShortCertificateIn files name) (Err f)
+no_certificate holds files name f told refused = not_taken_within TEXT_LIMIT (SaysShortCertificate name) holds files
+    name f told refused
+
+pub ruleset found = (found_certificate, no_certificate)
+
+-- ---- the verdict
+
+pub confirmed_answer : (parts : List Part) (c : ShortCertificate) (v : ShortVerdict) (a : Answer)
+    → IsShortVerdict parts c v → a ≡ short_verdict_answer c.answer v → IsConfirmed parts c (Ok a)
+confirmed_answer parts c v a h e = record { verdict = v; right = h; is = ap Ok e }
+
+pub ruleset confirmed = (confirmed_answer)
