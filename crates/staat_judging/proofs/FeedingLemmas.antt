@@ -22,8 +22,13 @@ pub record IsFedSoFar (content left : Option (List ℕ)) (WasFed : List ℕ → 
 pub fed_nothing : (content left : Option (List ℕ)) (WasFed : List ℕ → Type 0) → WasFed [] → left ≡ content
     → IsFedSoFar content left WasFed 0
 fed_nothing content left WasFed fed e =
-    record { text = []; fed = fed; count = refl; bytes = subst (λ l. Consumes content l []) (sym e)
-    (Consumes-nil content) }
+    record {
+      text = [];
+      fed = fed;
+      count = refl;
+      bytes = subst (λ l. Consumes content l []) (sym e)
+          (Consumes-nil content);
+    }
 
 pub fed_more : (content left after : Option (List ℕ)) (Before After : List ℕ → Type 0) (taken n : ℕ)
     (buf : List ℕ) → n ≤ length buf → IsFedSoFar content left Before taken → Consumes left after (take n buf)

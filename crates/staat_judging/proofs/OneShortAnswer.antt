@@ -52,7 +52,7 @@ certificate_saying name = record { one = one; no_read = no_read }
         let x = certificate_read name bytes f a in
         let y = certificate_read name bytes g b in
         x.is ∙ ap (found_in name) (one_short_answer bytes x.answer y.answer x.right y.right x.memory y.memory)
-            ∙ sym y.is
+        ∙ sym y.is
 
     no_read : (bytes n : List ℕ) → SaysShortCertificate name bytes (Err (ReadFault n)) → ⊥
     no_read bytes n (says_short c h e) = absurd cc
@@ -66,8 +66,11 @@ certificate_one files name = taken_one TEXT_LIMIT files name (SaysShortCertifica
 
 confirmed_one : (files : Files) (parts : List Part) (c : ShortCertificate) → FindsOne files (IsConfirmed parts c)
 confirmed_one files parts c =
-    record { one = λ f g a b sf sg. one f g a b; held = λ name f at lacks step settled. given_not_fault _
-    (ReadFault name) (sym at.is) }
+    record {
+      one = λ f g a b sf sg. one f g a b;
+      held = λ name f at lacks step settled. given_not_fault _
+          (ReadFault name) (sym at.is);
+    }
   where
     one : (f g : Found Answer) → IsConfirmed parts c f → IsConfirmed parts c g → f ≡ g
     one f g a b = a.is ∙ ap (λ v. Ok (short_verdict_answer c.answer v))
@@ -77,4 +80,4 @@ pub confirm_one : (request : CheckRequest) (files : Files) → FindsOne files (C
 confirm_one request files = then_one files (IsSoundProductOf files request.asked) _
     (sound_product_one files request.asked)
     (λ parts. then_one files (IsShortCertificateIn files request.certificate) _
-        (certificate_one files request.certificate) (λ c. confirmed_one files parts c))
+    (certificate_one files request.certificate) (λ c. confirmed_one files parts c))

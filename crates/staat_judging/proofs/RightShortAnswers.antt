@@ -56,8 +56,14 @@ certificate_valid : (files : Files) (request : CheckRequest) (parts : List Part)
     → (short_verdict_answer c.answer v).status ≡ 0 → SaysShortValid files request
     (short_verdict_answer c.answer v).text
 certificate_valid files request parts c v are held h zero =
-    record { parts = parts; sound = are; certificate = c; held = held; shows = verdict_shows parts c v are.product.each
-        (held_in_order files request.certificate c held) h zero }
+    record {
+      parts = parts;
+      sound = are;
+      certificate = c;
+      held = held;
+      shows = verdict_shows parts c v are.product.each
+          (held_in_order files request.certificate c held) h zero;
+    }
 
 certificate_not_valid : (files : Files) (request : CheckRequest) (parts : List Part) (c : ShortCertificate)
     (v : ShortVerdict) → AreSoundProductParts files request.asked parts
@@ -76,10 +82,10 @@ confirm_is_right request files a bounds (inl (fault, at, e)) zero = absurd cc
 confirm_is_right request files a bounds (inr (built, found, inl (fault, at, e))) zero = absurd cc
 confirm_is_right request files a bounds (inr (built, found, inr (c, held, p))) zero =
     let same : short_verdict_answer c.answer p.verdict ≡ a = same_answer a (short_verdict_answer c.answer p.verdict)
-        p.is in
+    p.is in
     subst (λ (b : Answer). SaysShortValid files request b.text) same
     (certificate_valid files request built c p.verdict (sound_product_parts files request.asked built bounds found)
-        held p.right (ap (λ (b : Answer). b.status) same ∙ zero))
+    held p.right (ap (λ (b : Answer). b.status) same ∙ zero))
 
 pub confirm_is_denied : (request : CheckRequest) (files : Files) (a : Answer)
     → IsAskedWithin MOST_PRODUCT_PARTS request.asked → ConfirmWork request files (Ok a) → a.status ≡ 1
@@ -88,7 +94,7 @@ confirm_is_denied request files a bounds (inl (fault, at, e)) one = absurd cc
 confirm_is_denied request files a bounds (inr (built, found, inl (fault, at, e))) one = absurd cc
 confirm_is_denied request files a bounds (inr (built, found, inr (c, held, p))) one =
     let same : short_verdict_answer c.answer p.verdict ≡ a = same_answer a (short_verdict_answer c.answer p.verdict)
-        p.is in
+    p.is in
     subst (λ (b : Answer). SaysShortNotValid files request b.text) same
     (certificate_not_valid files request built c p.verdict (sound_product_parts files request.asked built bounds found)
-        held p.right (ap (λ (b : Answer). b.status) same ∙ one))
+    held p.right (ap (λ (b : Answer). b.status) same ∙ one))

@@ -99,14 +99,7 @@ fn rule_at(alloc: Global, rule: &str, n: usize) -> Result<String, AllocError>
     format!(in alloc; "not valid: {rule}{n}\n")
 }
 
-fn meeting(
-    alloc: Global,
-    a: u32,
-    i: u32,
-    b: u32,
-    j: u32,
-    node: usize,
-) -> Result<String, AllocError>
+fn meeting(alloc: Global, a: u32, i: u32, b: u32, j: u32, node: usize) -> Result<String, AllocError>
     ensures { IfOk result (λ s. string_bytes s ≡ codes "not valid: " ++ codes "pieces " ++ decimal a ++ codes " "
         ++ decimal i ++ codes " and " ++ decimal b ++ codes " " ++ decimal j ++ codes " meet at node "
         ++ decimal node ++ codes "\n") }

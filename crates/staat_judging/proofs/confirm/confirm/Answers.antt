@@ -9,24 +9,24 @@ pub returns-in_err-certificate-clause-found : goal.returns-in_err-certificate-cl
 returns-in_err-certificate-clause-found g c = λ files told.
     let request = c.args.request.now in
     then_given (IsSoundProductOf files request.asked)
-        (λ parts. Then (IsShortCertificateIn files request.certificate)
-        (λ certificate. IsConfirmed parts certificate))
+    (λ parts. Then (IsShortCertificateIn files request.certificate)
+    (λ certificate. IsConfirmed parts certificate))
     c.in_ok-product.product c.from_residual-in_err-certificate.result (c.in_ok-product.ensures.found files told)
     (then_failed (IsShortCertificateIn files request.certificate)
-        (λ certificate. IsConfirmed c.in_ok-product.product certificate)
+    (λ certificate. IsConfirmed c.in_ok-product.product certificate)
     c.in_err-certificate.field-0.0 c.from_residual-in_err-certificate.result
-        (c.in_err-certificate.ensures.found files (c.in_ok-product.ensures.holds ∙ told))
-        c.from_residual-in_err-certificate.ensures.1)
+    (c.in_err-certificate.ensures.found files (c.in_ok-product.ensures.holds ∙ told))
+    c.from_residual-in_err-certificate.ensures.1)
 
 pub returns-clause-found : goal.returns-clause-found
 returns-clause-found g c = λ files told.
     let request = c.args.request.now in
     then_given (IsSoundProductOf files request.asked)
-        (λ parts. Then (IsShortCertificateIn files request.certificate)
-        (λ certificate. IsConfirmed parts certificate))
+    (λ parts. Then (IsShortCertificateIn files request.certificate)
+    (λ certificate. IsConfirmed parts certificate))
     c.in_ok-product.product (Ok c.in_ok-answer.answer) (c.in_ok-product.ensures.found files told)
     (then_given (IsShortCertificateIn files request.certificate)
-        (λ certificate. IsConfirmed c.in_ok-product.product certificate)
+    (λ certificate. IsConfirmed c.in_ok-product.product certificate)
     c.in_ok-certificate.certificate (Ok c.in_ok-answer.answer)
-        (c.in_ok-certificate.ensures.found files (c.in_ok-product.ensures.holds ∙ told))
-        c.in_ok-answer.ensures.confirmed)
+    (c.in_ok-certificate.ensures.found files (c.in_ok-product.ensures.holds ∙ told))
+    c.in_ok-answer.ensures.confirmed)
