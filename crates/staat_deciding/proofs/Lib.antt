@@ -1,5 +1,9 @@
 pub mod DecidedLemmas
 pub mod BlockingRows
+pub mod CertificateLemmas
+pub mod CertifiedLemmas
+pub mod PartialLemmas
+pub mod RestLines
+pub mod DownLemmas
 pub mod OneAnswer
-pub mod GoesOn
 pub mod RightAnswers

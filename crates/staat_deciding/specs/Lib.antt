@@ -1,3 +1,4 @@
 pub mod Blocks
+pub mod Certificates
 pub mod Deciding
 pub mod RestTexts

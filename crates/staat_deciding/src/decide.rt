@@ -1,20 +1,28 @@
 // The command `decide`: a plan that takes a product of any size apart, or parts of it that are stuck.
-ghost use Rattle.std.specs.Prelude.{◌≡◌, ◌≤◌, ◌<◌, Ok, Some, IfOk, IfErr};
+ghost use Rattle.std.specs.Prelude.{◌≡◌, ◌≤◌, ◌<◌, Ok, Some, IfOk, IfErr, false, true};
 ghost use Rattle.staat_limits.specs.declared.limits.TheConstants.{MOST_PRODUCT_PARTS};
 ghost use Rattle.staat_model.specs.Assemblies.{IsProduct};
+ghost use Rattle.staat_holds.specs.Partials.{IsShownRest};
 ghost use Rattle.staat_decide.specs.Decided.{IsDecision};
 ghost use Rattle.staat_words.specs.Requests.{IsAskedWithin};
 ghost use Rattle.staat_input.specs.Work.{Files, Follows};
 ghost use Rattle.staat_input.specs.Counting.{all_parts};
 ghost use Rattle.staat_input.specs.Causes.{HasCause, ShelfSide, over};
-ghost use Rattle.staat_deciding.specs.Deciding.{DecideWork, IsDecided};
+ghost use Rattle.staat_deciding.specs.Deciding.{DecideWork, IsDecided, IsDecidedAs, IsDecidedDown, IsDecidedShort};
 
+use crate::certificate::{
+    hold_certificate, plan_answer, plan_certificate, refusal_answer, rest_certificate,
+    whole_certificate,
+};
+use crate::rest_text::{has_groups, rest_text};
 use staat_cone::Scan;
 use staat_decide::Decision;
 use staat_edge::Shelf;
 use staat_fault::Fault;
+use staat_holds::GroupedTree;
 use staat_input::{Answer, read_product};
 use staat_model::{Part, SoundProduct};
+use staat_rest::plan_to_groups;
 use staat_text::{steps_text, stuck_text};
 use staat_vec::OutOfMemory;
 use staat_words::DecideRequest;
@@ -40,7 +48,7 @@ fn answer_of(alloc: Global, parts: &[Part], decision: &Decision) -> Result<Answe
     }
 }
 
-// The answer for a product.
+// The answer for a product: the steps of a plan that takes all parts apart, or parts that are stuck.
 #[tactic(auto, using(crate::proofs::DecidedLemmas::bounds))]
 fn decided(alloc: Global, product: &SoundProduct) -> Result<Answer, OutOfMemory>
     ensures status { IfOk result (λ a. a.status < 2) }
@@ -49,6 +57,124 @@ fn decided(alloc: Global, product: &SoundProduct) -> Result<Answer, OutOfMemory>
     let parts = product.product().as_slice();
     let decision = staat_decide::decide(alloc, &Scan, parts)?;
     answer_of(alloc, parts, &decision)
+}
+
+// The answer for the plan that parts come to where all is taken apart that comes apart.
+#[tactic(auto, using(crate::proofs::DownLemmas::writing))]
+fn down_answer(alloc: Global, parts: &[Part], tree: &GroupedTree) -> Result<Answer, OutOfMemory>
+    requires product { IsProduct parts.now }
+    requires shown { IsShownRest parts.now tree.now }
+    ensures status { IfOk result (λ a. a.status < 2) }
+    ensures decided { IfOk result (λ a. IsDecidedDown parts.now (Ok a)) }
+{
+    let text = rest_text(alloc, tree)?;
+    let status = if has_groups(tree) { 1 } else { 0 };
+    Ok(Answer { status, text })
+}
+
+// The answer for a product where all is taken apart that comes apart: the steps, and the groups that are stuck.
+#[tactic(auto, using(crate::proofs::DecidedLemmas::bounds))]
+fn decided_down(alloc: Global, product: &SoundProduct) -> Result<Answer, OutOfMemory>
+    ensures status { IfOk result (λ a. a.status < 2) }
+    ensures decided { IfOk result (λ a. IsDecidedDown product.now (Ok a)) }
+{
+    let parts = product.product().as_slice();
+    let tree = plan_to_groups(alloc, &Scan, parts)?;
+    down_answer(alloc, parts, &tree)
+}
+
+// The certificate of what the parts of a product come to, as an answer.
+fn certificate_answer(
+    alloc: Global,
+    product: &SoundProduct,
+    decision: Decision,
+) -> Result<Answer, Fault>
+    requires { IsDecision product.now (all_parts product.now) decision }
+    ensures status { IfOk result (λ a. a.status < 2) }
+    ensures decided { Follows (IsDecidedShort false product.now) result }
+    ensures cause { (shelf : ShelfSide) → IfErr result (HasCause shelf) }
+{
+    match decision {
+        Decision::Apart(tree) => {
+            let plan = plan_certificate(alloc, product, &tree)?;
+            plan_answer(alloc, &plan)
+        }
+        Decision::Held(hold) => {
+            let refusal = hold_certificate(alloc, product, hold)?;
+            refusal_answer(alloc, &refusal)
+        }
+    }
+}
+
+// The certificate of what a product comes to, as an answer.
+#[tactic(auto, using(crate::proofs::DecidedLemmas::bounds))]
+fn certified(alloc: Global, product: &SoundProduct) -> Result<Answer, Fault>
+    ensures status { IfOk result (λ a. a.status < 2) }
+    ensures decided { Follows (IsDecidedShort false product.now) result }
+    ensures cause { (shelf : ShelfSide) → IfErr result (HasCause shelf) }
+{
+    let parts = product.product().as_slice();
+    let decision = staat_decide::decide(alloc, &Scan, parts)?;
+    certificate_answer(alloc, product, decision)
+}
+
+// The certificate of a plan down to groups, as an answer.
+fn down_certificate_answer(
+    alloc: Global,
+    product: &SoundProduct,
+    tree: GroupedTree,
+) -> Result<Answer, Fault>
+    requires { IsShownRest product.now tree }
+    ensures status { IfOk result (λ a. a.status < 2) }
+    ensures decided { Follows (IsDecidedShort true product.now) result }
+    ensures cause { (shelf : ShelfSide) → IfErr result (HasCause shelf) }
+{
+    if has_groups(&tree) {
+        let refusal = rest_certificate(alloc, product, tree)?;
+        refusal_answer(alloc, &refusal)
+    } else {
+        let plan = whole_certificate(alloc, product, tree)?;
+        plan_answer(alloc, &plan)
+    }
+}
+
+// The certificate of what a product comes to where all is taken apart that comes apart, as an answer.
+#[tactic(auto, using(crate::proofs::DecidedLemmas::bounds))]
+fn certified_down(alloc: Global, product: &SoundProduct) -> Result<Answer, Fault>
+    ensures status { IfOk result (λ a. a.status < 2) }
+    ensures decided { Follows (IsDecidedShort true product.now) result }
+    ensures cause { (shelf : ShelfSide) → IfErr result (HasCause shelf) }
+{
+    let parts = product.product().as_slice();
+    let tree = plan_to_groups(alloc, &Scan, parts)?;
+    down_certificate_answer(alloc, product, tree)
+}
+
+// The answer for a product, as the flags ask.
+#[tactic(auto, using(crate::proofs::DecidedLemmas::cases))]
+fn answer_as(
+    alloc: Global,
+    product: &SoundProduct,
+    rest: bool,
+    certificate: bool,
+) -> Result<Answer, Fault>
+    ensures status { IfOk result (λ a. a.status < 2) }
+    ensures decided { Follows (IsDecidedAs rest certificate product.now) result }
+    ensures cause { (shelf : ShelfSide) → IfErr result (HasCause shelf) }
+{
+    if certificate {
+        if rest {
+            certified_down(alloc, product)
+        } else {
+            certified(alloc, product)
+        }
+    } else if rest {
+        let answer = decided_down(alloc, product)?;
+        Ok(answer)
+    } else {
+        let answer = decided(alloc, product)?;
+        Ok(answer)
+    }
 }
 
 /// The answer to the command `decide`: the steps of a plan that takes all parts of a product apart, or parts that are
@@ -67,6 +193,7 @@ pub fn decide<H: Shelf>(
         Follows (DecideWork request.now files) result }
     ensures cause { IfErr result (HasCause (over (H.told shelf.old) (H.told shelf.new))) }
 {
-    let _product = read_product(alloc, shelf, &request.asked)?;
-    Err(Fault::OutOfMemory)
+    let product = read_product(alloc, shelf, &request.asked)?;
+    let answer = answer_as(alloc, &product, request.rest, request.certificate)?;
+    Ok(answer)
 }

@@ -2,4 +2,6 @@
 #![tactic(auto)]
 
 pub mod blocks;
+pub mod certificate;
 pub mod decide;
+pub mod rest_text;

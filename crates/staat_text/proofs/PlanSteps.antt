@@ -51,7 +51,7 @@ one_less n a b below le apart (inl (p, h)) =
     let more = joined_less a b p h apart in
     omega (arith, e, rest, more)
 
-len_within : (n : ℕ) (a b : PartSet) → set.len a ≤ n → AreApart a b → set.len a + set.len b ≤ set.len (set.union a b)
+pub len_within : (n : ℕ) (a b : PartSet) → set.len a ≤ n → AreApart a b → set.len a + set.len b ≤ set.len (set.union a b)
 len_within zero a b le apart = one_less zero a b (λ c lt. absurd (omega (arith, lt))) le apart (nonempty_or a)
 len_within (suc n) a b le apart = one_less (suc n) a b (λ c lt. len_within n c b (omega (arith, lt))) le apart (nonempty_or a)
 

@@ -61,8 +61,8 @@ fn push_leaves(numbers: &mut Vec<u32>, tree: &Tree) -> Result<(), AllocError>
     }
 }
 
-// The numbers, ascending, each once.
-fn each_once(mut numbers: Vec<u32>) -> Vec<u32>
+/// The numbers, ascending, each once.
+pub fn each_once(mut numbers: Vec<u32>) -> Vec<u32>
     ensures ascending { IsStrictlySortedBy nat_cmp result.items }
     ensures members { (p : ℕ) → Contains result.items p ↔ Contains numbers.items p }
 {
@@ -149,8 +149,8 @@ fn push_moves(
     }
 }
 
-// The line with the number of steps.
-fn moves_line(alloc: Global, steps: u32) -> Result<String, AllocError>
+/// The line with the number of steps.
+pub fn moves_line(alloc: Global, steps: u32) -> Result<String, AllocError>
     ensures { IfOk result (λ s. string_bytes s ≡ codes "moves " ++ decimal steps ++ codes "\n") }
 {
     format!(in alloc; "moves {steps}\n")

@@ -1,0 +1,48 @@
+-- What a plan that takes a product apart down to groups is written as.
+use Rattle.std.proofs.Common.{◌≡◌, ◌∙◌, ◌↔◌, ◌<◌, ℕ, Bool, true, false, List, [], Ok, ap₂, arith, length, refl, subst, sym}
+use Rattle.std.specs.Prelude.{IsTrue, if◌then◌else◌}
+use Rattle.std.specs.List.Sorted.{IsStrictlySortedBy}
+use Rattle.std.specs.Ordering.{nat_cmp}
+use Rattle.staat_model.specs.declared.assembly.Part.{Part}
+use Rattle.staat_model.specs.declared.set.PartSet.{PartSet}
+use Rattle.staat_model.specs.Assemblies.{IsProduct}
+use Rattle.staat_model.specs.Outcomes.{planned}
+use Rattle.staat_model.specs.Sets.{Has, below}
+use Rattle.staat_model.proofs.SetBits.{has-below}
+use Rattle.staat_holds.specs.declared.grouped.GroupedTree.{GroupedTree, Leaf, Group, Split'}
+use Rattle.staat_holds.specs.Partials.{HasShownGroups, HasTogether, IsShownRest, partial_of, parts_in}
+use Rattle.staat_text.specs.PlanTexts.{plan_text}
+use Rattle.staat_input.specs.declared.answer.Answer.{Answer}
+use Rattle.staat_input.specs.Work.{answer}
+use Rattle.staat_deciding.specs.Deciding.{IsDecidedDown, all_apart, some_apart}
+use Rattle.staat_deciding.specs.RestTexts.{CanBeWritten, HasAscendingGroups, HasSmallParts, rest_text}
+use Rattle.staat_deciding.proofs.PartialLemmas.{good_plan, parts_are, plan_in, same_text, steps_small}
+
+groups_ascend : (parts : List Part) (tree : GroupedTree) → HasShownGroups parts tree → HasAscendingGroups tree
+groups_ascend parts (Leaf p) shown = tt
+groups_ascend parts (Group group) shown = shown.members.ascending
+groups_ascend parts (Split' d p moved q rest) shown = (groups_ascend parts moved shown.0, groups_ascend parts rest shown.1)
+
+small_parts : (parts : List Part) (tree : GroupedTree) → IsProduct parts → IsShownRest parts tree → HasSmallParts (partial_of tree)
+small_parts parts tree product shown p h =
+    let in_all : Has (below (length parts)) p = subst (λ (s : PartSet). Has s p) (sym (parts_are parts (partial_of tree) (below (length parts)) shown.good)) h in
+    omega (arith, (has-below (length parts) p).0 in_all, product.at_most)
+
+pub can_be_written : (parts : List Part) (tree : GroupedTree) → IsProduct parts → IsShownRest parts tree → CanBeWritten tree
+can_be_written parts tree product shown = record {
+  small = small_parts parts tree product shown;
+  few = steps_small parts (partial_of tree) (below (length parts)) shown.good (small_parts parts tree product shown);
+  ascending = groups_ascend parts tree shown.groups;
+}
+
+pub down_decided : (parts : List Part) (tree : GroupedTree) (a : Answer) (some : Bool) → IsShownRest parts tree → (IsTrue some ↔ HasTogether (partial_of tree)) → a.text ≡ rest_text (partial_of tree) → a.status ≡ (if some then 1 else 0) → IsDecidedDown parts (Ok a)
+down_decided parts tree a true shown iff text is = some_apart (partial_of tree) shown.good (iff.0 refl) (ap₂ (λ n t. Ok (answer n t)) is text)
+down_decided parts tree a false shown iff text is =
+    let none : HasTogether (partial_of tree) → ⊥ = λ h. absurd (different (iff.1 h)) in
+    all_apart (plan_in (partial_of tree)) (good_plan parts (partial_of tree) (below (length parts)) none shown.good)
+    (ap₂ (λ n t. Ok (answer n t)) is (text ∙ same_text (partial_of tree) none))
+  where
+    different : IsTrue false → ⊥
+    different e = cc
+
+pub ruleset writing = (can_be_written, down_decided)

@@ -1,0 +1,6 @@
+use Rattle.staat_deciding.proofs.CertifiedLemmas.{whole_is_shown}
+use Rattle.staat_deciding.proofs.certificate.whole_certificate.Goals as goal
+
+pub returns : goal.returns
+returns c =
+    whole_is_shown c.args.product.now c.args.tree c.in_ok-nodes.nodes c.stated.result c.stated.ensures.product c.requires.shown c.requires.none c.in_ok-nodes.ensures c.stated.ensures.is
