@@ -1,6 +1,6 @@
 -- What a plan that takes a product apart down to groups is written as.
-use Rattle.std.proofs.Common.{◌≡◌, ◌∙◌, ◌↔◌, ◌<◌, ℕ, Bool, true, false, List, [], Ok, ap₂, arith, length, refl, subst, sym}
-use Rattle.std.specs.Prelude.{IsTrue, if◌then◌else◌}
+use Rattle.std.proofs.Common.{◌≡◌, ◌∙◌, ◌↔◌, ◌<◌, ℕ, Bool, true, false, List, [], Ok, ap₂, arith, length, subst, sym, true≢false}
+use Rattle.std.specs.Prelude.{IsTrue}
 use Rattle.std.specs.List.Sorted.{IsStrictlySortedBy}
 use Rattle.std.specs.Ordering.{nat_cmp}
 use Rattle.staat_model.specs.declared.assembly.Part.{Part}
@@ -35,14 +35,13 @@ can_be_written parts tree product shown = record {
   ascending = groups_ascend parts tree shown.groups;
 }
 
-pub down_decided : (parts : List Part) (tree : GroupedTree) (a : Answer) (some : Bool) → IsShownRest parts tree → (IsTrue some ↔ HasTogether (partial_of tree)) → a.text ≡ rest_text (partial_of tree) → a.status ≡ (if some then 1 else 0) → IsDecidedDown parts (Ok a)
-down_decided parts tree a true shown iff text is = some_apart (partial_of tree) shown.good (iff.0 refl) (ap₂ (λ n t. Ok (answer n t)) is text)
-down_decided parts tree a false shown iff text is =
-    let none : HasTogether (partial_of tree) → ⊥ = λ h. absurd (different (iff.1 h)) in
-    all_apart (plan_in (partial_of tree)) (good_plan parts (partial_of tree) (below (length parts)) none shown.good)
-    (ap₂ (λ n t. Ok (answer n t)) is (text ∙ same_text (partial_of tree) none))
-  where
-    different : IsTrue false → ⊥
-    different e = cc
+pub down_some : (parts : List Part) (tree : GroupedTree) (a : Answer) (some : Bool) → IsShownRest parts tree → (IsTrue some ↔ HasTogether (partial_of tree)) → some ≡ true → a.status ≡ 1 → a.text ≡ rest_text (partial_of tree) → IsDecidedDown parts (Ok a)
+down_some parts tree a some shown iff is status text = some_apart (partial_of tree) shown.good (iff.0 is) (ap₂ (λ n t. Ok (answer n t)) status text)
 
-pub ruleset writing = (can_be_written, down_decided)
+pub down_none : (parts : List Part) (tree : GroupedTree) (a : Answer) (some : Bool) → IsShownRest parts tree → (IsTrue some ↔ HasTogether (partial_of tree)) → some ≡ false → a.status ≡ 0 → a.text ≡ rest_text (partial_of tree) → IsDecidedDown parts (Ok a)
+down_none parts tree a some shown iff is status text =
+    let none : HasTogether (partial_of tree) → ⊥ = λ h. true≢false (sym (iff.1 h) ∙ is) in
+    all_apart (plan_in (partial_of tree)) (good_plan parts (partial_of tree) (below (length parts)) none shown.good)
+    (ap₂ (λ n t. Ok (answer n t)) status (text ∙ same_text (partial_of tree) none))
+
+pub ruleset writing = (can_be_written, down_some, down_none)

@@ -68,8 +68,11 @@ fn down_answer(alloc: Global, parts: &[Part], tree: &GroupedTree) -> Result<Answ
     ensures decided { IfOk result (λ a. IsDecidedDown parts.now (Ok a)) }
 {
     let text = rest_text(alloc, tree)?;
-    let status = if has_groups(tree) { 1 } else { 0 };
-    Ok(Answer { status, text })
+    if has_groups(tree) {
+        Ok(Answer { status: 1, text })
+    } else {
+        Ok(Answer { status: 0, text })
+    }
 }
 
 // The answer for a product where all is taken apart that comes apart: the steps, and the groups that are stuck.
