@@ -197,6 +197,5 @@ pub fn decide<H: Shelf>(
     ensures cause { IfErr result (HasCause (over (H.told shelf.old) (H.told shelf.new))) }
 {
     let product = read_product(alloc, shelf, &request.asked)?;
-    let answer = answer_as(alloc, &product, request.rest, request.certificate)?;
-    Ok(answer)
+    answer_as(alloc, &product, request.rest, request.certificate)
 }
