@@ -17,3 +17,8 @@ returns-in_ok-push_ends-in-Split t c =
     (λ _ last. sides_added (partial_of c.args.tree.now) (partial_of c.in-Split.moved.value) (partial_of c.in-Split.rest.value) (partial_of c.deref.result.now) (partial_of c.deref-in-Split.result.now) c.in-Split.d old one two
     (ap partial_of c.in-Split.is) (ap partial_of c.deref.ensures) (ap partial_of c.deref-in-Split.ensures) c.in_ok-push_ends-in-Split.ensures last)
     c.push_ends-in-Split.ensures
+
+pub returns-in_ok-extend_from_slice-in-Group : goal.returns-in_ok-extend_from_slice-in-Group
+returns-in_ok-extend_from_slice-in-Group t c =
+    members_added (partial_of c.args.tree.now) c.in-Group.group.members c.args.numbers.now.items c.extend_from_slice.new.self.items (ap partial_of c.in-Group.is)
+    (c.in_ok-extend_from_slice-in-Group.ensures.items ∙ ap (λ l. c.args.numbers.now.items ++ l) c.as_slice.ensures.value)
