@@ -1,5 +1,6 @@
 // The text of a plan that may end in groups of parts that are stuck.
-ghost use Rattle.std.specs.Prelude.{◌≡◌, ◌↔◌, ◌⊎◌, ◌<◌, ◌++◌, [], ℕ, Contains, IfOk, IsTrue};
+ghost use Rattle.std.specs.Prelude.{◌≡◌, ◌↔◌, ◌⊎◌, ◌<◌, ◌++◌, [], ℕ};
+ghost use Rattle.std.specs.Prelude.{Contains, IfOk, IsTrue};
 ghost use Rattle.staat_model.specs.Sets.{Has};
 ghost use Rattle.staat_holds.specs.Partials.{HasTogether, partial_of, parts_in};
 ghost use Rattle.staat_text.specs.PlanTexts.{move_line, parts_listed};
