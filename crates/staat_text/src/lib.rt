@@ -17,6 +17,8 @@ pub use drills::drill_text;
 pub use graphs::graph_text;
 pub use numbers::numbers_text;
 pub use parts::{look_text, parts_text};
-pub use plans::{direction_text, each_once, moves_line, parts_listed, plan_text, steps_text, stuck_text};
+pub use plans::{
+    direction_text, each_once, moves_line, parts_listed, plan_text, steps_text, stuck_text,
+};
 pub use rows::rows_text;
 pub use verdicts::verdict_text;
