@@ -1,12 +1,11 @@
 -- A plan that may end in sets: how many steps it has, and the plan that it is where no end is a set.
-use Rattle.std.proofs.Common.{◌≡◌, ◌∙◌, ◌⊎◌, inl, inr, ⊎_elim, ℕ, ◌+◌, ◌<◌, ◌≤◌, List, [], ◌∷◌, ◌++◌, arith, refl, sym, ap, ap₂, subst, length}
+use Rattle.std.proofs.Common.{◌≡◌, ◌∙◌, inl, inr, ℕ, ◌+◌, ◌<◌, ◌≤◌, List, [], ◌∷◌, ◌++◌, arith, refl, sym, ap, ap₂, append-nil, subst}
 use Rattle.std.specs.Prelude.{codes, drop, pos, zero, suc}
 use Rattle.std.specs.FinSet as set
 use Rattle.staat_vec.specs.declared.vector.V3.{V3}
 use Rattle.staat_model.specs.declared.assembly.Part.{Part}
 use Rattle.staat_model.specs.declared.set.PartSet.{PartSet}
 use Rattle.staat_model.specs.declared.tree.Kind.{Kind}
-use Rattle.staat_model.specs.Assemblies.{IsProduct}
 use Rattle.staat_model.specs.Lines.{spaced}
 use Rattle.staat_model.specs.Outcomes.{planned}
 use Rattle.staat_model.specs.Plans.{IsGood, Plan, leaf, parts_of, split}
@@ -118,4 +117,5 @@ same_text plan none =
     let lines : step_lines plan ≡ move_lines (plan_in plan) [] = same_lines plan none in
     let nothing : stuck_lines plan ≡ [] = no_stuck plan none in
     let count : steps_in plan ≡ steps_of (plan_in plan) = same_count plan none in
-    (λ i. lines i ++ nothing i ++ codes "moves" ++ spaced (pos (count i) ∷ []))
+    let written : rest_text plan ≡ move_lines (plan_in plan) [] ++ [] ++ codes "moves" ++ spaced (pos (steps_of (plan_in plan)) ∷ []) = (λ i. lines i ++ nothing i ++ codes "moves" ++ spaced (pos (count i) ∷ [])) in
+    written ∙ ap (λ (l : List ℕ). l ++ codes "moves" ++ spaced (pos (steps_of (plan_in plan)) ∷ [])) (append-nil (move_lines (plan_in plan) []))

@@ -21,4 +21,4 @@ returns-in_ok-push_ends-in-Split t c =
 pub returns-in_ok-extend_from_slice-in-Group : goal.returns-in_ok-extend_from_slice-in-Group
 returns-in_ok-extend_from_slice-in-Group t c =
     members_added (partial_of c.args.tree.now) c.in-Group.group.members c.args.numbers.now.items c.extend_from_slice.new.self.items (ap partial_of c.in-Group.is)
-    (c.in_ok-extend_from_slice-in-Group.ensures.items ∙ ap (λ l. c.args.numbers.now.items ++ l) c.as_slice.ensures.value)
+    (c.in_ok-extend_from_slice-in-Group.ensures.items ∙ ap (λ l. c.args.numbers.now.items ++ l) c.as_slice.ensures)

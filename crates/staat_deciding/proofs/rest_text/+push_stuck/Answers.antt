@@ -11,11 +11,11 @@ use Rattle.staat_deciding.proofs.rest_text.+push_stuck.Goals as goal
 
 pub stuck_text-requires-clause-ascending : goal.stuck_text-requires-clause-ascending
 stuck_text-requires-clause-ascending t c =
-    subst (IsStrictlySortedBy nat_cmp) (sym c.as_slice.ensures.value) (subst (λ (x : GroupedTree). HasAscendingGroups x) c.in-Group.is c.requires.ascending)
+    subst (IsStrictlySortedBy nat_cmp) (sym c.as_slice.ensures) (subst (λ (x : GroupedTree). HasAscendingGroups x) c.in-Group.is c.requires.ascending)
 
 pub stuck_text-requires-clause-small : goal.stuck_text-requires-clause-small
 stuck_text-requires-clause-small t c =
-    group_small (partial_of c.args.tree.now) c.in-Group.group.members c.as_slice.result.now (ap partial_of c.in-Group.is) c.as_slice.ensures.value c.requires.small
+    group_small (partial_of c.args.tree.now) c.in-Group.group.members c.as_slice.result.now (ap partial_of c.in-Group.is) c.as_slice.ensures c.requires.small
 
 pub push_stuck-requires : goal.push_stuck-requires
 push_stuck-requires t c =
@@ -23,7 +23,7 @@ push_stuck-requires t c =
     let e : partial_of c.deref.result.now ≡ partial_of c.in-Split.moved.value = ap partial_of c.deref.ensures in
     let less : steps_in (partial_of c.deref.result.now) < steps_in (partial_of c.args.tree.now) = subst (λ (p : PartialPlan). steps_in p < steps_in (partial_of c.args.tree.now)) (sym e) (moved_fewer (partial_of c.args.tree.now) c.in-Split.d (partial_of c.in-Split.moved.value) (partial_of c.in-Split.rest.value) is) in
     let both = subst (λ (x : GroupedTree). HasAscendingGroups x) c.in-Split.is c.requires.ascending in
-    (omega (arith, less, c.decreases), subst HasSmallParts (sym e) (moved_small (partial_of c.args.tree.now) c.in-Split.d (partial_of c.in-Split.moved.value) (partial_of c.in-Split.rest.value) is c.requires.small), subst (λ (x : GroupedTree). HasAscendingGroups x) (sym c.deref.ensures) both.0)
+    (omega (arith, less, c.decreases), (subst HasSmallParts (sym e) (moved_small (partial_of c.args.tree.now) c.in-Split.d (partial_of c.in-Split.moved.value) (partial_of c.in-Split.rest.value) is c.requires.small), subst (λ (x : GroupedTree). HasAscendingGroups x) (sym c.deref.ensures) both.0))
 
 pub push_stuck-requires-in-Split : goal.push_stuck-requires-in-Split
 push_stuck-requires-in-Split t c =
@@ -31,7 +31,7 @@ push_stuck-requires-in-Split t c =
     let e : partial_of c.deref-in-Split.result.now ≡ partial_of c.in-Split.rest.value = ap partial_of c.deref-in-Split.ensures in
     let less : steps_in (partial_of c.deref-in-Split.result.now) < steps_in (partial_of c.args.tree.now) = subst (λ (p : PartialPlan). steps_in p < steps_in (partial_of c.args.tree.now)) (sym e) (rest_fewer (partial_of c.args.tree.now) c.in-Split.d (partial_of c.in-Split.moved.value) (partial_of c.in-Split.rest.value) is) in
     let both = subst (λ (x : GroupedTree). HasAscendingGroups x) c.in-Split.is c.requires.ascending in
-    (omega (arith, less, c.decreases), subst HasSmallParts (sym e) (rest_small (partial_of c.args.tree.now) c.in-Split.d (partial_of c.in-Split.moved.value) (partial_of c.in-Split.rest.value) is c.requires.small), subst (λ (x : GroupedTree). HasAscendingGroups x) (sym c.deref-in-Split.ensures) both.1)
+    (omega (arith, less, c.decreases), (subst HasSmallParts (sym e) (rest_small (partial_of c.args.tree.now) c.in-Split.d (partial_of c.in-Split.moved.value) (partial_of c.in-Split.rest.value) is c.requires.small), subst (λ (x : GroupedTree). HasAscendingGroups x) (sym c.deref-in-Split.ensures) both.1))
 
 pub returns-in_ok-push_stuck-in-Split : goal.returns-in_ok-push_stuck-in-Split
 returns-in_ok-push_stuck-in-Split t c =
