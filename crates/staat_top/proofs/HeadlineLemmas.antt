@@ -1,10 +1,10 @@
--- What the answers of `check`, `plan` and `decide` mean.
-use Rattle.std.proofs.Common.{◌≡◌, ◌∙◌, ◌↔◌, ◌⊎◌, ◌<◌, ◌≤◌, ℕ, zero, suc, List, length, Option, Some, None, Ok, Err, refl, sym, ap, subst, arith, inl, inr}
+-- What the answers of `check`, `plan`, `decide` and `confirm` mean.
+use Rattle.std.proofs.Common.{◌≡◌, ◌∙◌, ◌↔◌, ◌⊎◌, ◌<◌, ◌≤◌, ℕ, List, length, Option, Some, None, Ok, refl, sym, ap, subst, arith, inl, inr}
 use Rattle.staat_model.specs.declared.assembly.Part.{Part}
 use Rattle.staat_model.specs.declared.certificate.Certificate.{Certificate}
 use Rattle.staat_model.specs.declared.verdict.Verdict.{Verdict}
 use Rattle.staat_model.specs.declared.verdict.Verdict.TheVariants.{ValidPlan, ValidRefusal}
-use Rattle.staat_limits.specs.declared.limits.TheConstants.{MOST_PRODUCT_PARTS, TEXT_LIMIT}
+use Rattle.staat_limits.specs.declared.limits.TheConstants.{TEXT_LIMIT}
 use Rattle.staat_model.specs.Assemblies.{IsAssembly}
 use Rattle.staat_model.specs.Certify.{IsCertificateOf}
 use Rattle.std.specs.Prelude.{IfSome}
@@ -13,34 +13,29 @@ use Rattle.staat_model.specs.Outcomes.{Finding, IsOutcome, planned, stuck}
 use Rattle.staat_model.specs.Texts.{text_of}
 use Rattle.staat_model.specs.Certificates.{IsValidPlan, IsValidRefusal}
 use Rattle.staat_model.specs.Reasons.{IsVerdict}
-use Rattle.staat_check.specs.Verdicts.{IsPlanOf, IsRefusalWithSet}
 use Rattle.staat_edge.specs.Files.{bytes_of}
-use Rattle.staat_fault.specs.declared.fault.Fault.{Fault}
-use Rattle.staat_fault.specs.declared.fault.Fault.TheVariants.{Usage, ReadFault, TooLong, TooManyPlanes, TextTooLong, WriteFault, OutOfMemory}
-use Rattle.staat_fault.specs.Faults.{status_of}
-use Rattle.staat_words.specs.declared.request.Asked.{Asked}
 use Rattle.staat_words.specs.declared.request.CheckRequest.{CheckRequest}
 use Rattle.staat_words.specs.declared.request.PlanRequest.{PlanRequest}
-use Rattle.staat_words.specs.declared.request.Request.{Request}
-use Rattle.staat_words.specs.declared.request.Request.TheVariants.{Check, Decide, Plan}
-use Rattle.staat_words.specs.Requests.{HasBounds, IsAsked, IsAskedWithin, IsPlanRequest}
+use Rattle.staat_words.specs.declared.request.Request.TheVariants.{Check, Plan}
+use Rattle.staat_words.specs.Requests.{IsAsked, IsPlanRequest}
 use Rattle.staat_input.specs.declared.answer.Answer.{Answer}
-use Rattle.staat_input.specs.Work.{Files, Found}
+use Rattle.staat_input.specs.Work.{Files}
 use Rattle.staat_input.specs.Assembling.{sound}
 use Rattle.staat_judging.specs.Checking.{verdict_answer}
 use Rattle.staat_input.specs.Kept.{KeepsNamed}
 use Rattle.staat_planning.specs.Planning.{IsWritten, certificate, outcome_answer, outcome_status, steps}
 use Rattle.staat_input.specs.Counting.{few}
 use Rattle.staat_text.specs.PlanTexts.{plan_text}
-use Rattle.staat_input.specs.Assembling.{AreSoundParts, AreSoundProductParts}
-use Rattle.staat_deciding.specs.Deciding.{SaysProductPlan, SaysStuckParts}
-use Rattle.staat_deciding.proofs.GoesOn.{decide_answers}
-use Rattle.staat_top.specs.Replies.{IsReply, MakesReply, Reply, WorkOn, WorkOnWords, answered}
+use Rattle.staat_input.specs.Assembling.{AreSoundParts}
+use Rattle.staat_top.specs.Replies.{IsReply, Reply, WorkOn, answered}
 use Rattle.staat_planning.specs.Planning.{SaysGoodPlan, SaysStuckSet}
 use Rattle.staat_judging.specs.Checking.{SaysValid, ShowsValid, valid_plan, valid_refusal}
 use Rattle.staat_input.specs.Work.{answer}
 use Rattle.staat_top.specs.Headline.{Headline, IsWithinLimits, KeepsRules, valid_line}
-use Rattle.staat_top.proofs.OneReply.{makes_settled, one_reply}
+use Rattle.staat_judging.proofs.RightShortAnswers.{plan_shown as short_plan_shown, refusal_shown as short_refusal_shown}
+use Rattle.staat_top.proofs.OneReply.{one_reply}
+use Rattle.staat_top.proofs.Replying.{answer_in}
+use Rattle.staat_top.proofs.ShortHeadlines.{decides, is_confirmed, is_decided, is_denied, short_exactly}
 use Rattle.staat_judging.proofs.RightAnswers.{plan_shown, refusal_shown}
 use Rattle.staat_top.proofs.RightLemmas.{status_is_right, status_is_denied}
 use Rattle.staat_input.specs.Counting.{all_parts}
@@ -49,22 +44,6 @@ use Rattle.staat_plan.proofs.Right.{right_lemma}
 use Rattle.staat_plan.proofs.SomeRefusal.{some_refusal_certificate}
 use Rattle.staat_planning.proofs.SomeOutcome.{some_outcome}
 use Rattle.staat_top.proofs.PrintedLemmas.{printed_is_valid}
-
-pub least_status : (fault : Fault) → 2 ≤ status_of fault
-least_status Usage = omega arith
-least_status (ReadFault name) = omega arith
-least_status (TooLong name) = omega arith
-least_status (TooManyPlanes found) = omega arith
-least_status (TextTooLong length) = omega arith
-least_status WriteFault = omega arith
-least_status OutOfMemory = omega arith
-least_status fault = omega arith
-
--- a reply with status 0 or 1 is that of an answer
-answer_in : (asked : Option Request) (files : Files) (found : Found Answer) (reply : Reply) → WorkOnWords asked files found → MakesReply found reply → reply.status < 2 → (a : Answer) × WorkOnWords asked files (Ok a) × (reply ≡ answered a)
-answer_in asked files (Ok a) reply work makes lt = (a, work, makes)
-answer_in asked files (Err (ReadFault name)) reply work makes lt = absurd makes
-answer_in asked files (Err f) reply work makes lt = absurd (omega (arith, lt, least_status f, ap (λ (r : Reply). r.status) makes))
 
 pub keeps_rules : (files : Files) (request : CheckRequest) (text : List ℕ) → SaysValid files request text → KeepsRules files request
 keeps_rules files request text says = record { parts = says.parts; sound = says.sound; certificate = says.certificate; held = says.held; valid = go says.shows }
@@ -167,25 +146,6 @@ answered_plan files request parts bounds are limits =
     small (planned plan marks) = omega arith
     small (stuck w) = omega arith
 
-is_decided : (files : Files) (asked : Asked) (reply : Reply) → IsAskedWithin MOST_PRODUCT_PARTS asked → IsReply (Some (Decide asked)) files reply → reply.status ≡ 0 → SaysProductPlan files asked reply.out
-is_decided files asked reply bounds is none =
-    let found = answer_in (Some (Decide asked)) files is.found reply is.work is.makes (omega (arith, none)) in
-    let status : found.0.status ≡ 0 = sym (ap (λ (r : Reply). r.status) found.2) ∙ none in
-    subst (SaysProductPlan files asked) (sym (ap (λ (r : Reply). r.out) found.2)) (status_is_right (Some (Decide asked)) files found.0 bounds found.1 status)
-
-is_denied : (files : Files) (asked : Asked) (reply : Reply) → IsAskedWithin MOST_PRODUCT_PARTS asked → IsReply (Some (Decide asked)) files reply → reply.status ≡ 1 → SaysStuckParts files asked reply.out
-is_denied files asked reply bounds is one =
-    let found = answer_in (Some (Decide asked)) files is.found reply is.work is.makes (omega (arith, one)) in
-    let status : found.0.status ≡ 1 = sym (ap (λ (r : Reply). r.status) found.2) ∙ one in
-    subst (SaysStuckParts files asked) (sym (ap (λ (r : Reply). r.out) found.2)) (status_is_denied (Some (Decide asked)) files found.0 bounds found.1 status)
-
--- sound parts have no reply but an answer
-decides : (files : Files) (asked : Asked) (parts : List Part) (reply : Reply) → AreSoundProductParts files asked parts → IsReply (Some (Decide asked)) files reply → reply.status < 2
-decides files asked parts reply are is =
-    let (a, same, small) = decide_answers asked files parts is.found are is.work (makes_settled is.found reply is.makes) in
-    let made : reply ≡ answered a = subst (λ found. MakesReply found reply) same is.makes in
-    subst (λ (r : Reply). r.status < 2) (sym made) small
-
 pub headline : Headline
 headline = record {
   exact = exactly;
@@ -198,4 +158,8 @@ headline = record {
   decided = is_decided;
   denied = is_denied;
   decides = decides;
+  confirms = short_exactly;
+  short_plans = λ parts c is order h. short_plan_shown parts c is.each order h;
+  short_refusals = λ parts c is order h. short_refusal_shown parts c is.each order h;
+  short_checked = is_confirmed;
 }

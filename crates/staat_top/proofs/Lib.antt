@@ -1,7 +1,11 @@
 pub mod CallLemmas
+pub mod DecideLemmas
 pub mod HeadlineLemmas
+pub mod KeptProducts
 pub mod OneReply
 pub mod PrintedLemmas
+pub mod Replying
 pub mod RightLemmas
 pub mod RunLemmas
+pub mod ShortHeadlines
 pub mod TopLemmas

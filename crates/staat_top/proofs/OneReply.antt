@@ -6,7 +6,7 @@ use Rattle.staat_fault.specs.declared.fault.Fault.TheVariants.{Usage, ReadFault}
 use Rattle.staat_edge.specs.Files.{bytes_of}
 use Rattle.staat_words.specs.declared.request.Request.{Request}
 use Rattle.staat_words.specs.declared.request.Request.TheVariants.{Pair, Look, Graph, Plan, Check, Cells, Drill}
-use Rattle.staat_words.specs.declared.request.Request.TheVariants.{Explode, Linear, Local, Decide, Blocks}
+use Rattle.staat_words.specs.declared.request.Request.TheVariants.{Explode, Linear, Local, Decide, Confirm, Blocks}
 use Rattle.staat_input.specs.declared.answer.Answer.{Answer}
 use Rattle.staat_input.specs.Work.{Files, Found}
 use Rattle.staat_top.specs.Replies.{WorkOn, WorkOnWords, Reply, MakesReply, IsReply, HasOneReply}
@@ -14,9 +14,10 @@ use Rattle.staat_input.proofs.OneFinding.{IsSettled, FindsOne}
 use Rattle.staat_directions.proofs.OneAnswer.{pair_one, look_one, graph_one, cells_one}
 use Rattle.staat_planning.proofs.OneAnswer.{plan_one, explode_one, drill_one}
 use Rattle.staat_judging.proofs.OneAnswer.{check_one}
+use Rattle.staat_judging.proofs.OneShortAnswer.{confirm_one}
 use Rattle.staat_orders.proofs.OneAnswer.{linear_one, local_one}
-use Rattle.staat_deciding.proofs.GoesOn.{decide_reads}
 use Rattle.staat_deciding.proofs.OneAnswer.{blocks_one}
+use Rattle.staat_top.proofs.DecideLemmas.{decide_reads}
 
 work_one : (request : Request) (files : Files) → HasOneReply (Some request) → FindsOne files (WorkOn request files)
 work_one (Pair request) files own = pair_one request files
@@ -29,7 +30,8 @@ work_one (Drill product) files own = drill_one product files
 work_one (Check request) files own = check_one request files
 work_one (Linear request) files own = linear_one request files
 work_one (Local request) files own = local_one request files
-work_one (Decide asked) files own = absurd own
+work_one (Decide request) files own = absurd own
+work_one (Confirm request) files own = confirm_one request files
 work_one (Blocks request) files own = blocks_one request files
 
 pub words_one : (asked : Option Request) (files : Files) → HasOneReply asked → FindsOne files (WorkOnWords asked files)
@@ -57,7 +59,7 @@ one_reply asked files r s own a b =
 
 -- where a file is to be read and is not there, the work finds nothing
 work_reads : (asked : Option Request) (files : Files) (name : List ℕ) (f : Found Answer) → WorkOnWords asked files (Err (ReadFault name)) → bytes_of name files ≡ None → WorkOnWords asked files f → IsSettled f → ⊥
-work_reads (Some (Decide asked)) files name f at lacks work settled = decide_reads asked files name f at lacks work settled
+work_reads (Some (Decide request)) files name f at lacks work settled = decide_reads request files name f at lacks work settled
 work_reads asked files name f at lacks work settled = (words_one asked files tt).held name f at lacks work settled
 
 -- where a file is to be read and is not there, there is no reply

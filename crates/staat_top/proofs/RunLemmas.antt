@@ -5,9 +5,9 @@ use Rattle.staat_edge.specs.Causes.{Rose}
 use Rattle.staat_edge.specs.Files.{bytes_of, Lacks}
 use Rattle.staat_edge.specs.Sinks.{GrewBy}
 use Rattle.staat_words.specs.declared.request.Request.{Request}
-use Rattle.staat_words.specs.declared.request.Request.TheVariants.{Check}
+use Rattle.staat_words.specs.declared.request.Request.TheVariants.{Check, Confirm}
 use Rattle.staat_fault.specs.declared.fault.Fault.{Fault}
-use Rattle.staat_fault.specs.declared.fault.Fault.TheVariants.{Usage, ReadFault, TooLong, TooManyPlanes, TextTooLong, WriteFault, OutOfMemory}
+use Rattle.staat_fault.specs.declared.fault.Fault.TheVariants.{ReadFault, WriteFault, OutOfMemory}
 use Rattle.staat_fault.specs.Faults.{status_of, line_of}
 use Rattle.staat_input.specs.declared.answer.Answer.{Answer}
 use Rattle.staat_input.specs.Work.{Files}
@@ -17,7 +17,7 @@ use Rattle.staat_top.specs.Runs.{SinkSide, Took, TookPart, Untouched, IsCaused, 
 use Rattle.staat_top.specs.Runs.{IsExplained, IsSaid, NoFault, SaysWhole, SaysPart, Gave, Ran}
 use Rattle.staat_top.proofs.OneReply.{no_reply, one_reply}
 use Rattle.staat_top.proofs.RightLemmas.{status_is_right, status_is_denied}
-use Rattle.staat_top.proofs.HeadlineLemmas.{least_status}
+use Rattle.staat_top.proofs.Replying.{least_status}
 use Rattle.staat_top.proofs.CallLemmas.{Stops, headlines}
 
 took_nothing : (side : SinkSide) → Untouched side → Took side []
@@ -80,6 +80,7 @@ ran_answer asked shelf out err a result small found bounds asks whole part line 
 memory_explained : (asked : Option Request) (shelf : ShelfSide) → IsExplained asked shelf OutOfMemory
 memory_explained None shelf = record { cause = inr refl; found = λ files told. tt }
 memory_explained (Some (Check request)) shelf = record { cause = tt; found = λ files told. tt }
+memory_explained (Some (Confirm request)) shelf = record { cause = tt; found = λ files told. tt }
 memory_explained (Some request) shelf = record { cause = tt; found = λ files told. tt }
 
 said_explained : (asked : Option Request) (shelf : ShelfSide) (fault said : Fault) → IsExplained asked shelf fault → IsSaid fault said → IsExplained asked shelf said
@@ -101,12 +102,14 @@ cause_some : (asked : Option Request) (shelf : ShelfSide) (name : List ℕ) → 
 cause_some None shelf name (inl e) = absurd cc
 cause_some None shelf name (inr e) = absurd cc
 cause_some (Some (Check request)) shelf name unread = unread
+cause_some (Some (Confirm request)) shelf name unread = unread
 cause_some (Some request) shelf name unread = unread
 
 no_write_fault : (asked : Option Request) (shelf : ShelfSide) → IsCaused asked shelf WriteFault → ⊥
 no_write_fault None shelf (inl e) = absurd cc
 no_write_fault None shelf (inr e) = absurd cc
 no_write_fault (Some (Check request)) shelf caused = caused
+no_write_fault (Some (Confirm request)) shelf caused = caused
 no_write_fault (Some request) shelf caused = caused
 
 -- where nothing failed and there was memory, the reply is that of the fault

@@ -1,3 +1,4 @@
 pub mod Headline
+pub mod KeptProducts
 pub mod Replies
 pub mod Runs

@@ -3,7 +3,7 @@ use Rattle.std.specs.Prelude.{◌≡◌, ℕ, List, [], Option, Some, None, Ok, 
 use Rattle.staat_model.specs.declared.assembly.Part.{Part}
 use Rattle.staat_words.specs.declared.request.Request.{Request}
 use Rattle.staat_words.specs.declared.request.Request.TheVariants.{Pair, Look, Graph, Plan, Check, Cells, Drill}
-use Rattle.staat_words.specs.declared.request.Request.TheVariants.{Explode, Linear, Local, Decide, Blocks}
+use Rattle.staat_words.specs.declared.request.Request.TheVariants.{Explode, Linear, Local, Decide, Confirm, Blocks}
 use Rattle.staat_fault.specs.declared.fault.Fault.{Fault}
 use Rattle.staat_fault.specs.declared.fault.Fault.TheVariants.{Usage, ReadFault}
 use Rattle.staat_fault.specs.Faults.{status_of, line_of}
@@ -16,11 +16,12 @@ use Rattle.staat_planning.specs.Exploding.{SaysApart, plan_asked, ExplodeWork}
 use Rattle.staat_orders.specs.Ordering.{SaysOrder, SaysLocked, LinearWork}
 use Rattle.staat_orders.specs.Beginning.{SaysBeginning, SaysTight, LocalWork}
 use Rattle.staat_judging.specs.Checking.{SaysValid, SaysNotValid, CheckWork}
+use Rattle.staat_judging.specs.Confirming.{SaysShortValid, SaysShortNotValid, ConfirmWork}
 use Rattle.staat_planning.specs.Drills.{SaysDrilled, DrillWork}
 use Rattle.staat_directions.specs.Pairs.{PairWork, NeverMeet, IsNotShown}
 use Rattle.staat_directions.specs.Looking.{LookWork}
 use Rattle.staat_directions.specs.Graphing.{GraphWork}
-use Rattle.staat_deciding.specs.Deciding.{DecideWork, SaysProductPlan, SaysStuckParts}
+use Rattle.staat_deciding.specs.Deciding.{DecideWork, SaysDecidedPlan, SaysDecidedStuck}
 use Rattle.staat_deciding.specs.Blocks.{BlocksWork}
 
 -- what the work on a request finds: a line for each command
@@ -35,7 +36,8 @@ WorkOn (Drill product) files found = DrillWork product files found
 WorkOn (Explode request) files found = ExplodeWork request files found
 WorkOn (Linear request) files found = LinearWork request files found
 WorkOn (Local request) files found = LocalWork request files found
-WorkOn (Decide asked) files found = DecideWork asked files found
+WorkOn (Decide request) files found = DecideWork request files found
+WorkOn (Confirm request) files found = ConfirmWork request files found
 WorkOn (Blocks request) files found = BlocksWork request files found
 
 -- what the work on words finds, which may make no request
@@ -70,9 +72,9 @@ pub record IsReply (asked : Option Request) (files : Files) (reply : Reply) : Ty
   pub makes : MakesReply found reply
 
 -- There is one reply to it over some files: so to all but `decide`, to which each plan is a reply that takes all parts
--- apart, and each set that is stuck.
+-- apart, and each set that is stuck, or the certificate of either.
 abbrev pub HasOneReply : Option Request → Type 0
-HasOneReply (Some (Decide asked)) = ⊥
+HasOneReply (Some (Decide request)) = ⊥
 HasOneReply asked = Unit {0}
 
 -- what status 0 means, with the text that is printed
@@ -88,7 +90,8 @@ IsRight (Some (Drill product)) files text = SaysDrilled product text
 IsRight (Some (Explode request)) files text = SaysApart files request text
 IsRight (Some (Linear request)) files text = SaysOrder files request text
 IsRight (Some (Local request)) files text = SaysBeginning files request text
-IsRight (Some (Decide asked)) files text = SaysProductPlan files asked text
+IsRight (Some (Decide request)) files text = SaysDecidedPlan files request text
+IsRight (Some (Confirm request)) files text = SaysShortValid files request text
 IsRight (Some (Blocks request)) files text = (parts : List Part) × AreSoundProductParts files request.asked parts
 
 -- what status 1 means, with the text that is printed
@@ -99,5 +102,6 @@ IsDenied (Some (Check request)) files text = SaysNotValid files request text
 IsDenied (Some (Explode request)) files text = SaysStuckSet files (plan_asked request) text
 IsDenied (Some (Linear request)) files text = SaysLocked files request text
 IsDenied (Some (Local request)) files text = SaysTight files request text
-IsDenied (Some (Decide asked)) files text = SaysStuckParts files asked text
+IsDenied (Some (Decide request)) files text = SaysDecidedStuck files request text
+IsDenied (Some (Confirm request)) files text = SaysShortNotValid files request text
 IsDenied asked files text = ⊥

@@ -1,16 +1,16 @@
 -- What a call of the program does to the outside.
 use Rattle.std.specs.Prelude.{◌≡◌, ◌≢◌, ◌⊎◌, ◌<◌, ◌≤◌, ℕ, List, Option, Some, None, Ok}
-use Rattle.std.specs.Prelude.{Err, ⊤}
+use Rattle.std.specs.Prelude.{Err, true, ⊤}
 use Rattle.staat_model.specs.declared.assembly.Part.{Part}
 use Rattle.staat_edge.specs.Files.{bytes_of}
 use Rattle.staat_edge.specs.Causes.{Rose}
 use Rattle.staat_edge.specs.Sinks.{GrewBy, GrewByPart}
 use Rattle.staat_edge.specs.Told.{SinkTold}
 use Rattle.staat_words.specs.declared.request.Request.{Request}
-use Rattle.staat_words.specs.declared.request.Asked.{Asked}
 use Rattle.staat_words.specs.declared.request.CheckRequest.{CheckRequest}
+use Rattle.staat_words.specs.declared.request.DecideRequest.{DecideRequest}
 use Rattle.staat_words.specs.declared.request.PlanRequest.{PlanRequest}
-use Rattle.staat_words.specs.declared.request.Request.TheVariants.{Check, Decide, Plan}
+use Rattle.staat_words.specs.declared.request.Request.TheVariants.{Check, Confirm, Decide, Plan}
 use Rattle.staat_words.specs.Requests.{HasBounds}
 use Rattle.staat_fault.specs.declared.fault.Fault.{Fault}
 use Rattle.staat_fault.specs.declared.fault.Fault.TheVariants.{Usage, WriteFault, OutOfMemory}
@@ -21,11 +21,13 @@ use Rattle.staat_input.specs.Assembling.{AreSoundParts, AreSoundProductParts}
 use Rattle.staat_input.specs.Kept.{KeepsNamed}
 use Rattle.staat_planning.specs.Planning.{SaysGoodPlan, SaysStuckSet}
 use Rattle.staat_judging.specs.Checking.{SaysValid}
-use Rattle.staat_deciding.specs.Deciding.{SaysProductPlan, SaysStuckParts}
+use Rattle.staat_judging.specs.Confirming.{KeepsShortRules, SaysShortValid}
+use Rattle.staat_deciding.specs.Deciding.{SaysDecidedPlan, SaysDecidedStuck}
 use Rattle.staat_top.specs.Replies.{Reply, WorkOnWords, IsReply, HasOneReply, IsRight, IsDenied, answered}
-use Rattle.staat_top.specs.Headline.{IsWithinLimits, KeepsRules, valid_line}
+use Rattle.staat_top.specs.Headline.{HasShortRefusals, IsWithinLimits, KeepsRules, valid_line}
+use Rattle.staat_top.specs.KeptProducts.{KeepsProductInput}
 use Rattle.staat_input.specs.Causes.{Over, ShelfSide, HasCause}
-use Rattle.staat_judging.specs.Causes.{HasCheckCause}
+use Rattle.staat_judging.specs.Causes.{HasCheckCause, HasConfirmCause}
 
 abbrev pub SinkSide : Type 0
 SinkSide = Over SinkTold
@@ -50,6 +52,7 @@ Untouched side = side.new.wrote ≡ side.old.wrote
 -- what shows why a fault of the work on a request came
 abbrev pub HasRequestCause : Request → ShelfSide → Fault → Type 0
 HasRequestCause (Check request) shelf fault = HasCheckCause request shelf fault
+HasRequestCause (Confirm request) shelf fault = HasConfirmCause request shelf fault
 HasRequestCause request shelf fault = HasCause shelf fault
 
 -- the same of the words too: a usage fault comes only where they make no request
@@ -142,8 +145,8 @@ pub record NoFault (shelf : ShelfSide) (out err : SinkSide) : Type 0 where
   pub out_well : SinkFailed out → ⊥
   pub err_well : SinkFailed err → ⊥
 
--- What a call of `check` says: it calls a certificate valid exactly where that keeps the written rules, and then prints
--- which of the two it is: a plan that takes all parts apart, or a set that is stuck.
+-- What a call of `check` says: it calls a certificate valid exactly where that keeps the written rules, and then
+-- prints which of the two it is: a plan that takes all parts apart, or a set that is stuck.
 pub record Judged (request : CheckRequest) (files : Files) (shelf : ShelfSide) (out err : SinkSide) (status : ℕ)
     : Type 0 where
   pub valid : status ≡ 0 → TookRight out (SaysValid files request)
@@ -166,20 +169,36 @@ pub record Planned (request : PlanRequest) (files : Files) (shelf : ShelfSide) (
       IsReply (Some (Check (record { asked = request.asked; certificate = name }))) others
       (answered (answer 0 (valid_line status))))
 
--- What a call of `decide` says: with status 0 it printed a plan that takes all parts apart, and with status 1 parts that
--- are stuck. One of the two comes for all sound parts.
-pub record Decided (asked : Asked) (files : Files) (shelf : ShelfSide) (out err : SinkSide) (status : ℕ)
+-- What a call of `decide` says: with status 0 it printed a plan that takes all parts apart, and with status 1 what is
+-- stuck. One of the two comes for all sound parts within the limits. A certificate that it printed is called valid by
+-- `confirm`, over any files that hold it under some name, and hold all that the input names as it was.
+pub record Decided (request : DecideRequest) (files : Files) (shelf : ShelfSide) (out err : SinkSide) (status : ℕ)
     : Type 0 where
-  pub apart : status ≡ 0 → TookRight out (SaysProductPlan files asked)
-  pub held : status ≡ 1 → TookRight out (SaysStuckParts files asked)
-  pub answers : (parts : List Part) → AreSoundProductParts files asked parts → NoFault shelf out err →
-      status ≢ 7 → status < 2
+  pub apart : status ≡ 0 → TookRight out (SaysDecidedPlan files request)
+  pub held : status ≡ 1 → TookRight out (SaysDecidedStuck files request)
+  pub answers : (parts : List Part) → AreSoundProductParts files request.asked parts →
+      HasShortRefusals parts request → NoFault shelf out err → status ≢ 7 → status < 2
+  pub confirmed : (others : Files) (name : List ℕ) → request.certificate ≡ true → status < 2 →
+      TookRight out (λ text.
+      KeepsProductInput files others request.asked.input → bytes_of name others ≡ Some text →
+      IsReply (Some (Confirm (record { asked = request.asked; certificate = name }))) others
+      (answered (answer 0 (valid_line status))))
+
+-- What a call of `confirm` says: it calls a short certificate valid exactly where that keeps the written rules, and
+-- then prints which of the two it is: a plan that takes all parts apart, or a refusal, which shows that none does.
+pub record Confirmed (request : CheckRequest) (files : Files) (shelf : ShelfSide) (out err : SinkSide) (status : ℕ)
+    : Type 0 where
+  pub valid : status ≡ 0 → TookRight out (SaysShortValid files request)
+  pub keeps : status ≡ 0 → KeepsShortRules files request
+  pub breaks : status ≡ 1 → KeepsShortRules files request → ⊥
+  pub called : KeepsShortRules files request → NoFault shelf out err → status ≢ 7 → status ≡ 0
 
 -- the headline of this call
 abbrev pub Headlines : Option Request → Files → ShelfSide → (out err : SinkSide) → ℕ → Type 0
 Headlines (Some (Check request)) files shelf out err status = Judged request files shelf out err status
 Headlines (Some (Plan request)) files shelf out err status = Planned request files shelf out err status
-Headlines (Some (Decide asked)) files shelf out err status = Decided asked files shelf out err status
+Headlines (Some (Decide request)) files shelf out err status = Decided request files shelf out err status
+Headlines (Some (Confirm request)) files shelf out err status = Confirmed request files shelf out err status
 Headlines asked files shelf out err status = ⊤
 
 -- All that is said of a call, whatever the shelf and the sinks tell and however often they fail.
@@ -192,9 +211,9 @@ pub record Ran (asked : Option Request) (shelf : ShelfSide) (out err : SinkSide)
   pub refuses : 2 ≤ status → status ≢ 6 → RefusesWith asked shelf err status
   pub write_fault : status ≡ 6 → OutFails asked shelf out err ⊎ ErrFails asked shelf out err
   pub usage : asked ≡ None → (status ≡ 2) ⊎ (status ≡ 6) ⊎ (status ≡ 7)
-  -- Over a shelf that tells its files: what `check`, `plan` and `decide` say is so; statuses 0 to 4 are a reply; the
-  -- reply, where there is one, comes where nothing failed and there was memory; and what status 0 says is so, and what
-  -- status 1 says.
+  -- Over a shelf that tells its files: what `check`, `plan`, `decide` and `confirm` say is so; statuses 0 to 4 are a
+  -- reply; the reply, where there is one, comes where nothing failed and there was memory; and what status 0 says is
+  -- so, and what status 1 says.
   pub headline : (files : Files) → shelf.old.holds ≡ Some files → Headlines asked files shelf out err status
   pub reply : status ≤ 4 → (files : Files) → shelf.old.holds ≡ Some files →
       Replied asked files out err status

@@ -9,8 +9,9 @@ ghost use Rattle.staat_top.specs.Replies.{HasOneReply, IsReply, Reply, WorkOnWor
 
 /// What `check` calls valid keeps the written rules, and the other way round; what a valid plan and a valid refusal
 /// show; that `plan` prints a plan that takes all parts apart, or parts that are stuck, for all sound parts within its
-/// limits; that `check` calls the certificate valid that `plan` prints; and that `decide` prints a plan that takes all
-/// parts of a product apart, or parts that are stuck.
+/// limits; that `check` calls the certificate valid that `plan` prints; that `decide` prints a plan that takes all
+/// parts of a product apart, or what is stuck; and of `confirm` and the short certificates that `decide` prints what
+/// is said of `check` and those of `plan`.
 pub fn headline()
     ensures { Headline }
 {}

@@ -19,6 +19,7 @@ use staat_edge::{Shelf, Sink};
 use staat_fault::Fault;
 use staat_input::Answer;
 use staat_judging::check::check;
+use staat_judging::confirm::confirm;
 use staat_orders::linear::linear;
 use staat_orders::local::local;
 use staat_planning::drill::drill;
@@ -48,7 +49,8 @@ fn work<H: Shelf>(alloc: Global, request: &Request, shelf: &mut H) -> Result<Ans
         Request::Explode(request) => explode(alloc, request, shelf),
         Request::Linear(request) => linear(alloc, request, shelf),
         Request::Local(request) => local(alloc, request, shelf),
-        Request::Decide(asked) => decide(alloc, asked, shelf),
+        Request::Decide(request) => decide(alloc, request, shelf),
+        Request::Confirm(request) => confirm(alloc, request, shelf),
         Request::Blocks(request) => blocks(alloc, request, shelf),
     }
 }

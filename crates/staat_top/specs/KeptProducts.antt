@@ -1,0 +1,20 @@
+-- Files that hold what the input of a product names as other files do.
+use Rattle.std.specs.Prelude.{◌≡◌, ℕ, List, Contains, Some, Ok}
+use Rattle.staat_edge.specs.Files.{bytes_of}
+use Rattle.staat_manifest.specs.declared.listing.ListedPart.{ListedPart}
+use Rattle.staat_words.specs.declared.request.Input.{Input}
+use Rattle.staat_words.specs.declared.request.Input.TheVariants as inputs
+use Rattle.staat_input.specs.declared.limits.TheConstants.Limits.{PRODUCT}
+use Rattle.staat_input.specs.Inputs.{IsListingOfWithin}
+use Rattle.staat_input.specs.Work.{Files}
+
+-- The input names this file: it is the part list of a product, or a part that is listed has a piece in it.
+pub data IsNamedByProduct (files : Files) (input : Input) (name : List ℕ) : Type 0 where
+  names_list : input ≡ inputs.Manifest name → IsNamedByProduct files input name
+  names_piece : (named : List ListedPart) (part : ListedPart) → IsListingOfWithin PRODUCT files input (Ok named) →
+      Contains named part → Contains part.pieces name → IsNamedByProduct files input name
+
+-- the others hold each file that the input names, with the same bytes
+abbrev pub KeepsProductInput : Files → Files → Input → Type 0
+KeepsProductInput files others input = (name bytes : List ℕ) → IsNamedByProduct files input name →
+    bytes_of name files ≡ Some bytes → bytes_of name others ≡ Some bytes
