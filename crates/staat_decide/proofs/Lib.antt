@@ -11,3 +11,4 @@ pub mod Gaps
 pub mod AllPairs
 pub mod EndSteps
 pub mod Ready
+pub mod SmallSteps

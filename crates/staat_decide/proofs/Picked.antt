@@ -9,7 +9,8 @@ use Rattle.staat_model.specs.Removal.{Blocks}
 use Rattle.staat_model.proofs.Members.{here, there}
 use Rattle.staat_motion.proofs.Zips.{zip_read}
 use Rattle.staat_decide.specs.Arcs.{AreBlockingRows, IsRow}
-use Rattle.staat_vec.specs.Vectors.{origin}
+use Rattle.staat_vec.specs.declared.vector.TheConstants.{DIRECTION}
+use Rattle.staat_vec.specs.Vectors.{IsWithin, origin}
 use Rattle.staat_decide.specs.declared.likely.Asked.{Asked}
 use Rattle.staat_decide.specs.Asking.{AreAllRows, AreAskedRows}
 use Rattle.staat_decide.specs.Reaching.{HasRowArc}
@@ -64,10 +65,11 @@ numbers_small n k d lt =
     let e : get_or (range_with_len 0 n) k d ≡ k = get_or-range_with_len 0 n k d small ∙ zero-add k in
     omega (arith, e, small)
 
-pub asked_is : (parts : List Part) (d e : V3) (numbers : List ℕ) (rows kept : List (List Bool)) → d ≢ origin → e ≡ d
+pub asked_is : (parts : List Part) (d e : V3) (numbers : List ℕ) (rows kept : List (List Bool)) → IsWithin DIRECTION d → d ≢ origin → e ≡ d
     → numbers ≡ range_with_len 0 (length parts) → kept ≡ rows → AreBlockingRows parts e numbers rows
     → AreAskedRows parts (record { d = d; rows = kept })
-asked_is parts d e numbers rows kept moves same is kept_is are = record {
+asked_is parts d e numbers rows kept size moves same is kept_is are = record {
+  size = size;
   moves = moves;
   rows_are = subst (AreAllRows parts d) (sym kept_is) (rows_of_all parts d rows
       (subst (λ (v : V3). AreBlockingRows parts v (range_with_len 0 (length parts)) rows) same (subst (λ (xs : List ℕ). AreBlockingRows parts e xs rows) is are)));

@@ -7,8 +7,8 @@ ghost use Rattle.std.specs.Ordering.{nat_cmp};
 ghost use Rattle.staat_vec.specs.Vectors.{IsWithin, origin};
 ghost use Rattle.staat_motion.specs.Motions.{AreBodies};
 ghost use Rattle.staat_decide.specs.Asking.{AreAskedRows};
+ghost use Rattle.staat_decide.specs.Decided.{IsLeaving};
 ghost use Rattle.staat_decide.specs.Keeping.{AreKept};
-ghost use Rattle.staat_decide.specs.Peelings.{IsPeeling};
 
 use crate::arcs::{Row, rows_with};
 use crate::decision::Leaving;
@@ -120,8 +120,7 @@ fn leaving_along(
     requires asked { AreAskedRows parts.now asked.now }
     requires members { All (λ p. p < length parts.now) w.now }
     requires ascending { IsStrictlySortedBy nat_cmp w.now }
-    ensures { IfOk result (λ answer. IfSome answer (λ leaving.
-        IsPeeling parts.now leaving.d w.now leaving.sets)) }
+    ensures { IfOk result (λ answer. IfSome answer (IsLeaving parts.now w.now)) }
 {
     let rows = picked_rows(alloc, asked.rows.as_slice(), w)?;
     match take_apart(alloc, rows.as_slice(), w)? {
@@ -160,8 +159,7 @@ fn leaving_as_before(
     requires asked { All (AreAskedRows parts.now) asked.now }
     requires members { All (λ p. p < length parts.now) w.now }
     requires ascending { IsStrictlySortedBy nat_cmp w.now }
-    ensures { IfOk result (λ answer. IfSome answer (λ leaving.
-        IsPeeling parts.now leaving.d w.now leaving.sets)) }
+    ensures { IfOk result (λ answer. IfSome answer (IsLeaving parts.now w.now)) }
 {
     for one in asked {
         if is_same(one.d, before) {
@@ -190,8 +188,7 @@ pub fn likely_leaving(
     requires asked { All (AreAskedRows parts.now) asked.now }
     requires members { All (λ p. p < length parts.now) w.now }
     requires ascending { IsStrictlySortedBy nat_cmp w.now }
-    ensures { IfOk result (λ answer. IfSome answer (λ leaving.
-        IsPeeling parts.now leaving.d w.now leaving.sets)) }
+    ensures { IfOk result (λ answer. IfSome answer (IsLeaving parts.now w.now)) }
 {
     let mut best = leaving_as_before(alloc, parts, asked, w, before)?;
     for (k, one) in asked.iter().enumerate() {

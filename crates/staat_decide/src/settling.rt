@@ -7,8 +7,8 @@ ghost use Rattle.staat_vec.specs.Vectors.{IsWithin, origin};
 ghost use Rattle.staat_model.specs.Assemblies.{IsPart};
 ghost use Rattle.staat_model.specs.SetLists.{set_of};
 ghost use Rattle.staat_motion.specs.Motions.{AreBodies};
-ghost use Rattle.staat_decide.specs.Decided.{IsStuckHold, IsParting};
-ghost use Rattle.staat_decide.specs.Peelings.{IsHeldAlong, IsPeeling};
+ghost use Rattle.staat_decide.specs.Decided.{IsLeaving, IsParting};
+ghost use Rattle.staat_decide.specs.Peelings.{IsHeldAlong};
 
 use crate::decision::{Leaving, Parting};
 use crate::every::all_pairs;
@@ -115,7 +115,7 @@ fn leaving_at_gap<F: FacetSource>(
     requires moves { d ≢ origin }
     requires size { IsWithin DIRECTION d }
     requires free { IsHeldAlong parts.now d (set_of w.now) → ⊥ }
-    ensures { IfOk result (λ leaving. IsPeeling parts.now leaving.d w.now leaving.sets) }
+    ensures { IfOk result (IsLeaving parts.now w.now) }
 {
     let along = Along::of(alloc, parts, bodies, d)?;
     match peel(alloc, source, parts, &along, w)? {

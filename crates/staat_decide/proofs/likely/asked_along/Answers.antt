@@ -9,4 +9,4 @@ rows_with-requires-clause-members g c =
 pub returns-clause-asked : goal.returns-clause-asked
 returns-clause-asked g c =
     asked_is c.args.parts.now c.args.d c.in_ok-along.along.d c.args.all.now c.in_ok-rows.rows.items c.from_vec.result
-    c.requires.moves c.in_ok-along.ensures.direction c.requires.all c.from_vec.ensures c.in_ok-rows.ensures.rows
+    c.requires.size c.requires.moves c.in_ok-along.ensures.direction c.requires.all c.from_vec.ensures c.in_ok-rows.ensures.rows
