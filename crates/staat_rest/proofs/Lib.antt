@@ -1,0 +1,13 @@
+pub mod NameSteps
+pub mod CountSteps
+pub mod HeadSteps
+pub mod TreeSteps
+pub mod OriginSteps
+pub mod TakeSteps
+pub mod Agreeing
+pub mod NodeSteps
+pub mod NextNodes
+pub mod MergedPieces
+pub mod TurnedPlan
+pub mod MergedHold
+pub mod Rounds

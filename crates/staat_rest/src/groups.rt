@@ -1,0 +1,93 @@
+// Joining nodes: their names, and the holds that show them.
+ghost use Rattle.std.specs.Prelude.{◌≡◌, ◌<◌, ◌≤◌, [], ℕ};
+ghost use Rattle.std.specs.Prelude.{All, Contains, IfOk, OnOk, get_or, length, map, nat_eq};
+ghost use Rattle.std.specs.List.{list_any};
+ghost use Rattle.std.specs.List.Sorted.{IsStrictlySortedBy};
+ghost use Rattle.std.specs.Ordering.{nat_cmp};
+ghost use Rattle.staat_holds.specs.Chains.{joined_name};
+ghost use Rattle.staat_rest.specs.Nodes.{AreJoined, holds_of};
+
+use staat_holds::{Hold, Holds};
+use staat_vec::OutOfMemory;
+use std::alloc::Global;
+use std::mem;
+
+// whether some of the nodes has the name
+fn is_among(nodes: &[u32], name: u32) -> bool
+    ensures { result ≡ list_any (nat_eq name) nodes.now }
+{
+    nodes.iter().any(|node| name == *node)
+}
+
+// the name of a node once these nodes are one
+#[tactic(auto, unfolding(staat_holds::specs::Chains::joined_name))]
+fn joined_name(nodes: &[u32], name: u32) -> u32
+    requires { 1 ≤ length nodes.now }
+    ensures { result ≡ joined_name nodes.now name }
+{
+    if is_among(nodes, name) {
+        nodes[0]
+    } else {
+        name
+    }
+}
+
+/// The names once these nodes, one at least, are one.
+pub fn joined_names(alloc: Global, nodes: &[u32], names: &[u32]) -> Result<Vec<u32>, OutOfMemory>
+    requires { 1 ≤ length nodes.now }
+    ensures { IfOk result (λ next. next.items ≡ map (joined_name nodes.now) names.now) }
+{
+    let mut next = Vec::new(alloc);
+    for name in names {
+        next.push(joined_name(nodes, *name))?;
+    }
+    Ok(next)
+}
+
+/// No holds, for each of so many parts.
+pub fn no_holds(alloc: Global, count: usize) -> Result<Vec<Holds>, OutOfMemory>
+    ensures many { IfOk result (λ lists. length lists.items ≡ count) }
+    ensures none { IfOk result (λ lists. (n : ℕ) → get_or lists.items n [] ≡ []) }
+{
+    let mut lists = Vec::new(alloc);
+    'each: while lists.len() < count {
+        lists.push(Holds::from_vec(Vec::new(alloc)))?;
+    }
+    Ok(lists)
+}
+
+// takes the holds of these nodes from the lists, one list after the other. The nodes ascend.
+fn take_holds(
+    alloc: Global,
+    lists: &mut Vec<Holds>,
+    nodes: &[u32],
+) -> Result<Vec<Hold>, OutOfMemory>
+    requires ascending { IsStrictlySortedBy nat_cmp nodes.now }
+    requires within { All (λ n. n < length lists.old.items) nodes.now }
+    ensures taken { IfOk result (λ joined. joined.items ≡ holds_of lists.old.items nodes.now) }
+    ensures many { OnOk result (length lists.new.items ≡ length lists.old.items) }
+    ensures others { OnOk result ((n : ℕ) → (Contains nodes.now n → ⊥)
+        → get_or lists.new.items n [] ≡ get_or lists.old.items n []) }
+{
+    let mut joined = Vec::new(alloc);
+    for node in nodes {
+        let none = Holds::from_vec(Vec::new(alloc));
+        let mut holds = mem::replace(&mut lists[*node as usize], none).into_vec();
+        joined.append(&mut holds)?;
+    }
+    Ok(joined)
+}
+
+/// Joins the lists of the hold's nodes, and the hold, at the place of the first node. The nodes ascend.
+pub fn join_holds(alloc: Global, lists: &mut Vec<Holds>, hold: Hold) -> Result<(), OutOfMemory>
+    requires ascending { IsStrictlySortedBy nat_cmp hold.nodes }
+    requires some { 1 ≤ length hold.nodes }
+    requires within { All (λ n. n < length lists.old.items) hold.nodes }
+    ensures { OnOk result (AreJoined lists.old.items hold lists.new.items) }
+{
+    let first = hold.nodes.as_slice()[0] as usize;
+    let mut joined = take_holds(alloc, lists, hold.nodes.as_slice())?;
+    joined.push(hold)?;
+    lists[first] = Holds::from_vec(joined);
+    Ok(())
+}
