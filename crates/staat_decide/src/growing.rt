@@ -1,25 +1,26 @@
-// A guess at a core that holds a set of parts together. Vertices of the core's planes are gone through once; where its
-// arcs do not lead everywhere, arcs of the whole graph are added, first those between pieces that look large from each
-// other. So a direction is met along which the set comes apart, or a core that should hold it, which is judged later.
-ghost use Rattle.std.specs.Prelude.{◌≡◌, ◌≢◌, ◌<◌, ◌↔◌, All, IsTrue, length};
+// A guess at a core that holds a set of parts together. The circles of the core's planes are gone round once; where
+// its arcs do not lead everywhere, arcs of the whole graph are added, first those between pieces that look large from
+// each other. So a direction is met along which the set comes apart, or a core that should hold it, which is judged later.
+ghost use Rattle.std.specs.Prelude.{IfOk, IfSome};
 ghost use Rattle.staat_vec.specs.declared.vector.TheConstants.{DIRECTION};
-ghost use Rattle.staat_vec.specs.Vectors.{IsWithin, origin};
-ghost use Rattle.staat_model.specs.Assemblies.{piece_count};
-ghost use Rattle.staat_motion.specs.Motions.{AreBodies, HasBothPieces, IsMotionOf};
+ghost use Rattle.staat_vec.specs.Vectors.{IsWithin};
+ghost use Rattle.staat_motion.specs.Motions.{AreBodies, IsMotionOf};
 
-use crate::planes::{
-    Facets, Normal, X_AXIS, Y_AXIS, Z_AXIS, add_plane, add_planes, crossing, facets_of, is_ahead,
-};
+use crate::circles::{Circle, add_arc, circle_for, clear, look_at, loose_end};
+use crate::listing::{Candidate, Met, first_met, lead_of, list_of};
+use crate::planes::{Normal, X_AXIS, Y_AXIS, Z_AXIS, add_plane, add_planes, crossing, facets_of};
 use crate::reach::Way;
-use crate::spots::{MOST_PAIRS, Pair, Spot, pair_of, pairs_of, spots_of};
-use crate::spreading::{Lead, are_all, is_marked, mark_first, no_marks, spread_all};
+use crate::spots::{MOST_PAIRS, Pair, pairs_of, spots_of};
+use crate::spreading::{are_all, mark_first, spread_all};
+use crate::unlisted::met_across;
 use staat_cone::FacetSource;
 use staat_model::{Arc, Part};
 use staat_motion::{Along, Bodies};
-use staat_vec::{DIRECTION, ORIGIN, OutOfMemory, V3, neg, primitive};
+use staat_vec::{DIRECTION, ORIGIN, OutOfMemory, V3, primitive};
 use std::alloc::Global;
 
-/// How many vertices are gone through, as a rule, until a set counts as large.
+/// How many vertices are counted, as a rule, until a set counts as large: on each circle those with the circles before,
+/// or those that were looked at, if these are more.
 pub const BOUND: usize = 3000;
 
 /// What growing ends with: a direction along which the set should come apart, or pairs of pieces that should hold it,
@@ -31,301 +32,32 @@ pub enum Growth {
     Large,
 }
 
-// What is known of a set of parts: its spots, and pairs of them, those first that look large from each other; the
-// facets of those that were asked for; the places of the pairs in the core, and the planes of the core. Leads and marks
-// are those of one direction.
+// What is known of a set of parts: pairs of their pieces, those first that look large from each other, the places of
+// those in the core, and the planes of the core. The circle is that of one of the planes.
 #[derive(Drop)]
 struct Search {
-    spots: Vec<Spot>,
-    pairs: Vec<Pair>,
-    facets: Vec<Option<Facets>>,
+    list: Vec<Candidate>,
     core: Vec<usize>,
     planes: Vec<Normal>,
-    leads: Vec<Lead>,
-    marks: Vec<bool>,
+    circle: Circle,
 }
 
-// A pair by its place, and whether it is the second piece that meets the first.
-#[derive(Clone, Copy)]
-struct Met {
-    k: usize,
-    is_turned: bool,
-}
-
-// whether the part has the piece
-fn has_piece(parts: &[Part], a: u32, i: u32) -> bool
-    ensures { IsTrue result ↔ ((a < length parts.now) × (i < piece_count parts.now a)) }
-{
-    if a as usize >= parts.len() {
-        return false;
-    }
-    let part = &parts[a as usize];
-    (i as usize) < part.pieces.as_slice().len()
-}
-
-// whether the two pieces exist
-fn has_pieces(parts: &[Part], pair: Arc) -> bool
-    ensures { IsTrue result ↔ HasBothPieces parts.now pair }
-{
-    has_piece(parts, pair.a, pair.i) && has_piece(parts, pair.b, pair.j)
-}
-
-// whether boxes and spans leave it open that the first piece meets the second
-fn may_meet(parts: &[Part], along: &Along, pair: Arc) -> bool
-    requires { IsMotionOf parts.now along.now }
-{
-    if !has_pieces(parts, pair) {
-        return false;
-    }
-    !along.apart(pair)
-}
-
-// the pair at the place k
-fn pair_at(search: &Search, k: usize) -> Option<Pair> {
-    if k >= search.pairs.len() {
-        return None;
-    }
-    Some(search.pairs[k])
-}
-
-// the arc from the one piece of a pair to the other, or back
-fn arc_of(search: &Search, pair: &Pair, is_turned: bool) -> Option<Arc> {
-    if pair.a >= search.spots.len() || pair.b >= search.spots.len() {
-        return None;
-    }
-    let (p, q) = if is_turned {
-        (pair.b, pair.a)
-    } else {
-        (pair.a, pair.b)
-    };
-    let first = &search.spots[p];
-    let second = &search.spots[q];
-    Some(Arc {
-        a: first.part,
-        i: first.piece,
-        b: second.part,
-        j: second.piece,
-    })
-}
-
-// the same for the places of their parts
-fn lead_of(pair: &Pair, is_turned: bool) -> Lead {
-    if is_turned {
-        Lead {
-            from: pair.to,
-            to: pair.from,
-        }
-    } else {
-        Lead {
-            from: pair.from,
-            to: pair.to,
-        }
-    }
-}
-
-// sees that the facets of the pair at the place k are known
-fn ask_facets<F: FacetSource>(
-    search: &mut Search,
+// lists a pair that was not listed, with its facets, for which there was no room before
+fn listed_last<F: FacetSource>(
+    list: &mut Vec<Candidate>,
     alloc: Global,
     source: &F,
     parts: &[Part],
-    k: usize,
-) -> Result<(), OutOfMemory> {
-    let Some(pair) = pair_at(search, k) else {
-        return Ok(());
-    };
-    if k >= search.facets.len() || search.facets[k].is_some() {
-        return Ok(());
-    }
-    if pair.a >= search.spots.len() || pair.b >= search.spots.len() {
-        return Ok(());
-    }
-    let found = facets_of(
-        alloc,
-        source,
-        parts,
-        &search.spots[pair.a],
-        &search.spots[pair.b],
-    )?;
-    if k < search.facets.len() {
-        search.facets[k] = found;
-    }
-    Ok(())
-}
-
-// whether d leads ahead of all facets of the pair at the place k, which are known
-fn leads_along(search: &Search, k: usize, d: V3) -> bool
-    requires { IsWithin DIRECTION d }
-{
-    if k >= search.facets.len() {
-        return false;
-    }
-    match &search.facets[k] {
-        None => false,
-        Some(facets) => is_ahead(facets, d),
-    }
-}
-
-// whether of the pair at the place k the one piece meets the other
-fn meets_there<F: FacetSource>(
-    search: &mut Search,
-    alloc: Global,
-    source: &F,
-    parts: &[Part],
-    along: &Along,
-    met: Met,
-) -> Result<bool, OutOfMemory>
-    requires { IsMotionOf parts.now along.now }
-{
-    let Some(pair) = pair_at(search, met.k) else {
-        return Ok(false);
-    };
-    let Some(arc) = arc_of(search, &pair, met.is_turned) else {
-        return Ok(false);
-    };
-    if !may_meet(parts, along, arc) {
-        return Ok(false);
-    }
-    ask_facets(search, alloc, source, parts, met.k)?;
-    let d = along.direction();
-    if met.is_turned {
-        return Ok(leads_along(search, met.k, neg(d)));
-    }
-    Ok(leads_along(search, met.k, d))
-}
-
-// whether the arc that a pair may have on the way from a marked place to one that is not is turned, if there is one
-fn turned_on(search: &Search, way: Way, pair: &Pair) -> Option<bool> {
-    let is_first = is_marked(search.marks.as_slice(), pair.from);
-    let is_second = is_marked(search.marks.as_slice(), pair.to);
-    if is_first == is_second {
-        return None;
-    }
-    match way {
-        Way::Ahead => Some(is_second),
-        Way::Back => Some(is_first),
-    }
-}
-
-// so for the pair at the place k
-fn across(search: &Search, way: Way, k: usize) -> Option<Met> {
-    let Some(pair) = pair_at(search, k) else {
-        return None;
-    };
-    match turned_on(search, way, &pair) {
-        None => None,
-        Some(is_turned) => Some(Met { k, is_turned }),
-    }
-}
-
-// the first pair across of which the one piece meets the other
-fn first_met<F: FacetSource>(
-    search: &mut Search,
-    alloc: Global,
-    source: &F,
-    parts: &[Part],
-    along: &Along,
-    way: Way,
-) -> Result<Option<Met>, OutOfMemory>
-    requires { IsMotionOf parts.now along.now }
-{
-    for k in 0..search.pairs.len() {
-        if let Some(met) = across(search, way, k) {
-            if meets_there(search, alloc, source, parts, along, met)? {
-                return Ok(Some(met));
-            }
-        }
-    }
-    Ok(None)
-}
-
-// whether the first piece of the arc meets the second, if there are such
-fn arc_meets<F: FacetSource>(
-    alloc: Global,
-    source: &F,
-    parts: &[Part],
-    along: &Along,
-    arc: Arc,
-) -> Result<bool, OutOfMemory>
-    requires { IsMotionOf parts.now along.now }
-{
-    if !has_pieces(parts, arc) {
-        return Ok(false);
-    }
-    let answer = along.meets(alloc, source, parts, arc)?;
-    Ok(answer)
-}
-
-// the pair of a spot and one of the later ones, not listed before, if it is across and the one piece meets the other
-fn unlisted<F: FacetSource>(
-    search: &mut Search,
-    alloc: Global,
-    source: &F,
-    parts: &[Part],
-    along: &Along,
-    way: Way,
     pair: Pair,
-) -> Result<Option<Met>, OutOfMemory>
-    requires { IsMotionOf parts.now along.now }
-{
-    let Some(is_turned) = turned_on(search, way, &pair) else {
-        return Ok(None);
-    };
-    let Some(arc) = arc_of(search, &pair, is_turned) else {
-        return Ok(None);
-    };
-    if !arc_meets(alloc, source, parts, along, arc)? {
-        return Ok(None);
-    }
-    let k = search.pairs.len();
-    search.pairs.push(pair)?;
-    search.facets.push(None)?;
-    ask_facets(search, alloc, source, parts, k)?;
-    Ok(Some(Met { k, is_turned }))
-}
-
-// the first pair of a spot and a later one that is not listed, is across and meets; it is listed now
-fn unlisted_after<F: FacetSource>(
-    search: &mut Search,
-    alloc: Global,
-    source: &F,
-    parts: &[Part],
-    along: &Along,
-    way: Way,
-    a: usize,
-) -> Result<Option<Met>, OutOfMemory>
-    requires { IsMotionOf parts.now along.now }
-{
-    for b in a..search.spots.len() {
-        if let Some(pair) = pair_of(search.spots.as_slice(), a, b) {
-            if let Some(met) = unlisted(search, alloc, source, parts, along, way, pair)? {
-                return Ok(Some(met));
-            }
-        }
-    }
-    Ok(None)
-}
-
-// the same of any two spots, where there are too many to be listed
-fn first_unlisted<F: FacetSource>(
-    search: &mut Search,
-    alloc: Global,
-    source: &F,
-    parts: &[Part],
-    along: &Along,
-    way: Way,
-) -> Result<Option<Met>, OutOfMemory>
-    requires { IsMotionOf parts.now along.now }
-{
-    if search.pairs.len() < MOST_PAIRS {
-        return Ok(None);
-    }
-    for a in 0..search.spots.len() {
-        if let Some(met) = unlisted_after(search, alloc, source, parts, along, way, a)? {
-            return Ok(Some(met));
-        }
-    }
-    Ok(None)
+) -> Result<Met, OutOfMemory> {
+    let facets = facets_of(alloc, source, parts, pair.arc)?;
+    let k = list.len();
+    list.push(Candidate { pair, facets })?;
+    Ok(Met {
+        k,
+        is_turned: false,
+        planes: 0,
+    })
 }
 
 // the first pair across of which the one piece meets the other, of those that are listed, or else of all
@@ -335,24 +67,47 @@ fn next_met<F: FacetSource>(
     source: &F,
     parts: &[Part],
     along: &Along,
+    w: &[u32],
     way: Way,
 ) -> Result<Option<Met>, OutOfMemory>
     requires { IsMotionOf parts.now along.now }
 {
-    if let Some(met) = first_met(search, alloc, source, parts, along, way)? {
+    let marks = search.circle.marks.as_slice();
+    let planes = search.planes.as_slice();
+    if let Some(met) = first_met(
+        &mut search.list,
+        alloc,
+        source,
+        parts,
+        along,
+        planes,
+        marks,
+        way,
+    )? {
         return Ok(Some(met));
     }
-    let answer = first_unlisted(search, alloc, source, parts, along, way)?;
-    Ok(answer)
+    if search.list.len() < MOST_PAIRS {
+        return Ok(None);
+    }
+    match met_across(alloc, source, parts, along, w, marks, way)? {
+        None => Ok(None),
+        Some(pair) => Ok(Some(listed_last(&mut search.list, alloc, source, parts, pair)?)),
+    }
 }
 
-// adds the pair at the place k to the core, with its planes
-fn choose(search: &mut Search, k: usize) -> Result<(), OutOfMemory> {
-    search.core.push(k)?;
-    if k < search.facets.len() {
-        if let Some(facets) = &search.facets[k] {
-            add_planes(&mut search.planes, facets)?;
-        }
+// adds the pair at the place k to the core, with its planes and its lead
+fn choose(search: &mut Search, met: Met) -> Result<(), OutOfMemory> {
+    if met.k >= search.list.len() {
+        return Ok(());
+    }
+    search.core.push(met.k)?;
+    let candidate = &search.list[met.k];
+    search
+        .circle
+        .leads
+        .push(lead_of(&candidate.pair, met.is_turned))?;
+    if let Some(facets) = &candidate.facets {
+        add_planes(&mut search.planes, facets)?;
     }
     Ok(())
 }
@@ -364,108 +119,114 @@ fn grow_on<F: FacetSource>(
     source: &F,
     parts: &[Part],
     along: &Along,
+    w: &[u32],
     way: Way,
 ) -> Result<bool, OutOfMemory>
     requires { IsMotionOf parts.now along.now }
 {
-    mark_first(&mut search.marks);
-    for _ in 0..search.marks.len() {
-        spread_all(search.leads.as_slice(), way, &mut search.marks);
-        if are_all(search.marks.as_slice()) {
+    mark_first(&mut search.circle.marks);
+    for _ in 0..w.len() {
+        let leads = search.circle.leads.as_slice();
+        spread_all(leads, way, &mut search.circle.marks);
+        if are_all(search.circle.marks.as_slice()) {
             return Ok(true);
         }
-        let Some(met) = next_met(search, alloc, source, parts, along, way)? else {
+        let Some(met) = next_met(search, alloc, source, parts, along, w, way)? else {
             return Ok(false);
         };
-        if let Some(pair) = pair_at(search, met.k) {
-            choose(search, met.k)?;
-            search.leads.push(lead_of(&pair, met.is_turned))?;
-        }
+        choose(search, met)?;
     }
-    spread_all(search.leads.as_slice(), way, &mut search.marks);
-    Ok(are_all(search.marks.as_slice()))
+    Ok(false)
 }
 
-// adds the arc that the pair at the place k has at d, if it has one
-fn add_lead(search: &mut Search, k: usize, d: V3) -> Result<(), OutOfMemory>
-    requires { IsWithin DIRECTION d }
+// adds the arcs on the circle of the plane g of the pairs of the core from a number on
+fn add_arcs(search: &mut Search, g: Normal, first: usize) -> Result<(), OutOfMemory> {
+    for n in first..search.core.len() {
+        if n < search.core.len() && search.core[n] < search.list.len() {
+            let candidate = &search.list[search.core[n]];
+            if let Some(facets) = &candidate.facets {
+                let lead = lead_of(&candidate.pair, false);
+                add_arc(&mut search.circle, facets, g, lead)?;
+            }
+        }
+    }
+    Ok(())
+}
+
+// the primitive vector along this one, unless it is zero
+fn primitive_of(v: V3) -> Option<V3>
+    requires { IsWithin DIRECTION v }
+    ensures { IfSome result (IsWithin DIRECTION) }
 {
-    let Some(pair) = pair_at(search, k) else {
-        return Ok(());
+    if v == ORIGIN {
+        return None;
+    }
+    Some(primitive(v))
+}
+
+// a direction of the plane j at which the core, whose pairs from a number on are new, does not lead everywhere
+fn loose_on(search: &mut Search, j: usize, first: usize) -> Result<Option<V3>, OutOfMemory>
+    ensures { IfOk result (λ answer. IfSome answer (IsWithin DIRECTION)) }
+{
+    if j >= search.planes.len() {
+        return Ok(None);
+    }
+    let g = search.planes[j];
+    add_arcs(search, g, first)?;
+    let i = if j == 0 { 1 } else { 0 };
+    let other = crossing(search.planes.as_slice(), i, j);
+    let Some(end) = loose_end(&mut search.circle, other)? else {
+        return Ok(None);
     };
-    if leads_along(search, k, d) {
-        search.leads.push(lead_of(&pair, false))?;
-    } else if leads_along(search, k, neg(d)) {
-        search.leads.push(lead_of(&pair, true))?;
-    }
-    Ok(())
+    Ok(primitive_of(end))
 }
 
-// the arcs of the core at d
-fn set_leads(search: &mut Search, d: V3) -> Result<(), OutOfMemory>
-    requires { IsWithin DIRECTION d }
-{
-    search.leads.clear();
-    for n in 0..search.core.len() {
-        if n < search.core.len() {
-            let k = search.core[n];
-            add_lead(search, k, d)?;
-        }
-    }
-    Ok(())
-}
-
-// whether each place is reached from the first on the way along the leads
-fn reaches(search: &mut Search, way: Way) -> bool {
-    mark_first(&mut search.marks);
-    spread_all(search.leads.as_slice(), way, &mut search.marks);
-    are_all(search.marks.as_slice())
-}
-
-// lets the core grow where two of its planes cross, and gives the direction there if the set comes apart along it
-fn free_at<F: FacetSource>(
+// lets the core grow until it leads everywhere at d, a direction of the circle, and says whether it does
+fn grow_at<F: FacetSource>(
     search: &mut Search,
     alloc: Global,
     source: &F,
     parts: &[Part],
     bodies: &Bodies,
-    crossing: V3,
-) -> Result<Option<V3>, OutOfMemory>
+    w: &[u32],
+    d: V3,
+) -> Result<bool, OutOfMemory>
     requires bodies { AreBodies parts.now bodies.now }
-    requires size { IsWithin DIRECTION crossing }
+    requires size { IsWithin DIRECTION d }
 {
-    if crossing == ORIGIN {
-        return Ok(None);
-    }
-    set_leads(search, crossing)?;
-    if reaches(search, Way::Ahead) && reaches(search, Way::Back) {
-        return Ok(None);
-    }
-    let d = primitive(crossing);
+    look_at(&mut search.circle, d)?;
     let along = Along::of(alloc, parts, bodies, d)?;
-    if grow_on(search, alloc, source, parts, &along, Way::Ahead)?
-        && grow_on(search, alloc, source, parts, &along, Way::Back)?
-    {
-        return Ok(None);
+    if !grow_on(search, alloc, source, parts, &along, w, Way::Ahead)? {
+        return Ok(false);
     }
-    Ok(Some(d))
+    let is_back = grow_on(search, alloc, source, parts, &along, w, Way::Back)?;
+    Ok(is_back)
 }
 
-// the first direction along which the set comes apart where the plane j crosses an earlier one
+// lets the core grow until it leads everywhere on the plane j; a direction of it if the set comes apart there
 fn free_on<F: FacetSource>(
     search: &mut Search,
     alloc: Global,
     source: &F,
     parts: &[Part],
     bodies: &Bodies,
+    w: &[u32],
     j: usize,
 ) -> Result<Option<V3>, OutOfMemory>
     requires { AreBodies parts.now bodies.now }
 {
-    for i in 0..j {
-        let d = crossing(search.planes.as_slice(), i, j);
-        if let Some(free) = free_at(search, alloc, source, parts, bodies, d)? {
-            return Ok(Some(free));
+    clear(&mut search.circle);
+    let mut first = 0usize;
+    for _ in 0..usize::MAX {
+        let Some(d) = loose_on(search, j, first)? else {
+            return Ok(None);
+        };
+        first = search.core.len();
+        if !grow_at(search, alloc, source, parts, bodies, w, d)? {
+            return Ok(Some(d));
+        }
+        if search.core.len() == first {
+            return Ok(None);
         }
     }
     Ok(None)
@@ -475,22 +236,15 @@ fn free_on<F: FacetSource>(
 fn search_of(alloc: Global, parts: &[Part], w: &[u32]) -> Result<Search, OutOfMemory> {
     let spots = spots_of(alloc, parts, w)?;
     let pairs = pairs_of(alloc, spots.as_slice())?;
-    let mut facets = Vec::new(alloc);
-    for _ in 0..pairs.len() {
-        facets.push(None)?;
-    }
     let mut planes = Vec::new(alloc);
     for axis in [Z_AXIS, Y_AXIS, X_AXIS] {
         add_plane(&mut planes, axis)?;
     }
     Ok(Search {
-        spots,
-        pairs,
-        facets,
+        list: list_of(alloc, pairs.as_slice())?,
         core: Vec::new(alloc),
         planes,
-        leads: Vec::new(alloc),
-        marks: no_marks(alloc, w.len())?,
+        circle: circle_for(alloc, w.len())?,
     })
 }
 
@@ -498,10 +252,9 @@ fn search_of(alloc: Global, parts: &[Part], w: &[u32]) -> Result<Search, OutOfMe
 fn core_of(alloc: Global, search: &Search) -> Result<Vec<Arc>, OutOfMemory> {
     let mut core = Vec::new(alloc);
     for k in search.core.as_slice() {
-        if let Some(pair) = pair_at(search, *k) {
-            if let Some(arc) = arc_of(search, &pair, false) {
-                core.push(arc)?;
-            }
+        if *k < search.list.len() {
+            let candidate = &search.list[*k];
+            core.push(candidate.pair.arc)?;
         }
     }
     Ok(core)
@@ -520,17 +273,19 @@ pub fn grown<F: FacetSource>(
 {
     let mut search = search_of(alloc, parts, w)?;
     let mut used = 0usize;
-    for j in 1..usize::MAX {
+    for j in 0..usize::MAX {
         if j >= search.planes.len() {
             return Ok(Growth::Core(core_of(alloc, &search)?));
         }
-        used = used.saturating_add(j);
         if used > bound {
             return Ok(Growth::Large);
         }
-        if let Some(d) = free_on(&mut search, alloc, source, parts, bodies, j)? {
+        let before = search.circle.looks;
+        if let Some(d) = free_on(&mut search, alloc, source, parts, bodies, w, j)? {
             return Ok(Growth::Free(d));
         }
+        let looks = search.circle.looks.saturating_sub(before);
+        used = used.saturating_add(looks.max(j));
     }
     Ok(Growth::Large)
 }

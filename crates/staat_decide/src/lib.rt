@@ -3,6 +3,7 @@
 
 mod arcs;
 mod asking;
+mod circles;
 mod decision;
 mod directions;
 mod every;
@@ -12,6 +13,7 @@ mod halves;
 mod holding;
 mod labels;
 mod likely;
+mod listing;
 mod order;
 mod pairs;
 mod peeling;
@@ -25,6 +27,7 @@ mod spreading;
 mod suspects;
 mod table;
 mod turns;
+mod unlisted;
 
 pub use arcs::{Row, rows_of};
 pub use decision::Decision;

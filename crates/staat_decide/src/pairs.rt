@@ -6,7 +6,7 @@ use crate::growing::{Growth, grown};
 use crate::labels::has_arc;
 use crate::likely::Asked;
 use crate::reach::Way;
-use crate::spreading::{are_all, is_marked, mark, no_marks};
+use crate::spreading::{are_all, mark, no_marks};
 use crate::suspects::{Suspects, suspected};
 use staat_cone::FacetSource;
 use staat_model::Part;

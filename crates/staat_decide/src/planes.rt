@@ -1,11 +1,10 @@
 // Normals of planes, and the facets of pairs of pieces, for guesses.
-ghost use Rattle.std.specs.Prelude.{◌≡◌, ◌↔◌, All, IfSome, IsTrue};
+ghost use Rattle.std.specs.Prelude.{◌↔◌, All, IfSome, IsTrue};
 ghost use Rattle.staat_vec.specs.declared.vector.TheConstants.{DIRECTION, NORMAL};
 ghost use Rattle.staat_vec.specs.Vectors.{IsWithin};
 
-use crate::spots::Spot;
 use staat_cone::{FacetSource, blocks};
-use staat_model::{Part, Piece};
+use staat_model::{Arc, Part, Piece};
 use staat_vec::{NORMAL, ORIGIN, OutOfMemory, V3, canon, cross_normal, primitive};
 use std::alloc::Global;
 
@@ -81,6 +80,19 @@ pub fn add_planes(planes: &mut Vec<Normal>, facets: &Facets) -> Result<(), OutOf
     Ok(())
 }
 
+/// How many of the facets have planes that are not there.
+pub fn new_planes(planes: &[Normal], facets: &Facets) -> usize {
+    let mut count = 0usize;
+    for n in facets.list.as_slice() {
+        if let Some(plane) = plane_of(*n) {
+            if !has_plane(planes, plane) {
+                count = count.saturating_add(1);
+            }
+        }
+    }
+    count
+}
+
 /// The direction in which two of the planes cross, and zero where there are not two.
 pub fn crossing(planes: &[Normal], i: usize, j: usize) -> V3
     ensures { IsWithin DIRECTION result }
@@ -89,6 +101,13 @@ pub fn crossing(planes: &[Normal], i: usize, j: usize) -> V3
         return ORIGIN;
     }
     cross_normal(planes[i].v, planes[j].v)
+}
+
+/// The facets, as normals of planes.
+pub fn normals_of(facets: &Facets) -> &[V3]
+    ensures { All (IsWithin NORMAL) result.now }
+{
+    facets.list.as_slice()
 }
 
 /// The piece `i` of the part `a`, if there is one.
@@ -103,18 +122,17 @@ pub fn piece_at(parts: &[Part], a: u32, i: u32) -> Option<&Piece> {
     Some(&pieces[i as usize])
 }
 
-/// The facets of the pieces of two spots, if there are such pieces.
+/// The facets of two pieces, if there are such pieces.
 pub fn facets_of<F: FacetSource>(
     alloc: Global,
     source: &F,
     parts: &[Part],
-    a: &Spot,
-    b: &Spot,
+    pair: Arc,
 ) -> Result<Option<Facets>, OutOfMemory> {
-    let Some(p) = piece_at(parts, a.part, a.piece) else {
+    let Some(p) = piece_at(parts, pair.a, pair.i) else {
         return Ok(None);
     };
-    let Some(q) = piece_at(parts, b.part, b.piece) else {
+    let Some(q) = piece_at(parts, pair.b, pair.j) else {
         return Ok(None);
     };
     let list = source.facets(alloc, p, q)?;

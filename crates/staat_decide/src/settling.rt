@@ -1,6 +1,6 @@
 // How a set of parts goes on where no likely direction serves: what is guessed is judged, and where no guess is right
 // all pairs of pieces decide.
-ghost use Rattle.std.specs.Prelude.{◌≡◌, ◌≢◌, ◌<◌, ◌≤◌, ◌^◌, ℕ, List, All, IfOk, IfSome, length};
+ghost use Rattle.std.specs.Prelude.{◌≢◌, ◌<◌, ◌≤◌, ◌^◌, ℕ, List, All, IfOk, IfSome, length};
 ghost use Rattle.std.specs.List.Sorted.{IsStrictlySortedBy};
 ghost use Rattle.std.specs.Ordering.{nat_cmp};
 ghost use Rattle.staat_vec.specs.Vectors.{IsWithin, origin};

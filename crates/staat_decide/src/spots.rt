@@ -1,5 +1,5 @@
 // How large pieces look from each other: what a guess at a core goes by.
-use staat_model::{Part, Piece};
+use staat_model::{Arc, Part, Piece};
 use staat_vec::{OutOfMemory, V3};
 use std::alloc::Global;
 
@@ -126,12 +126,11 @@ const FINE: u128 = 1 << 40;
 /// How many pairs are listed at most.
 pub const MOST_PAIRS: usize = 1 << 20;
 
-/// Two spots by their numbers, the places of their parts, and how small they look from each other.
+/// Two pieces of different parts, the places of these, and how small the pieces look from each other.
 #[derive(Clone, Copy)]
 pub struct Pair {
     pub smallness: u128,
-    pub a: usize,
-    pub b: usize,
+    pub arc: Arc,
     pub from: usize,
     pub to: usize,
 }
@@ -143,30 +142,28 @@ fn smallness(a: &Spot, b: &Spot) -> u128 {
     distance.saturating_mul(FINE) / size
 }
 
-/// The pair of two spots, if they are of different parts.
-pub fn pair_of(spots: &[Spot], a: usize, b: usize) -> Option<Pair> {
-    if a >= spots.len() || b >= spots.len() || spots[a].place == spots[b].place {
-        return None;
-    }
-    let first = &spots[a];
-    let second = &spots[b];
-    Some(Pair {
+fn pair_of(first: &Spot, second: &Spot) -> Pair {
+    Pair {
         smallness: smallness(first, second),
-        a,
-        b,
+        arc: Arc {
+            a: first.part,
+            i: first.piece,
+            b: second.part,
+            j: second.piece,
+        },
         from: first.place,
         to: second.place,
-    })
+    }
 }
 
-// adds the pairs of a spot with later ones
-fn add_pairs(pairs: &mut Vec<Pair>, spots: &[Spot], a: usize) -> Result<(), OutOfMemory> {
-    for b in a..spots.len() {
+// adds the pairs of a spot with some of other parts
+fn add_pairs(pairs: &mut Vec<Pair>, spot: &Spot, others: &[Spot]) -> Result<(), OutOfMemory> {
+    for other in others {
         if pairs.len() >= MOST_PAIRS {
             return Ok(());
         }
-        if let Some(pair) = pair_of(spots, a, b) {
-            pairs.push(pair)?;
+        if spot.place != other.place {
+            pairs.push(pair_of(spot, other))?;
         }
     }
     Ok(())
@@ -175,8 +172,8 @@ fn add_pairs(pairs: &mut Vec<Pair>, spots: &[Spot], a: usize) -> Result<(), OutO
 /// The pairs of spots of different parts, those first that look large from each other; at most [`MOST_PAIRS`].
 pub fn pairs_of(alloc: Global, spots: &[Spot]) -> Result<Vec<Pair>, OutOfMemory> {
     let mut pairs = Vec::new(alloc);
-    for a in 0..spots.len() {
-        add_pairs(&mut pairs, spots, a)?;
+    for (k, spot) in spots.iter().enumerate() {
+        add_pairs(&mut pairs, spot, &spots[k..])?;
     }
     pairs.sort_unstable_by_key(|pair| pair.smallness);
     Ok(pairs)

@@ -1,6 +1,6 @@
 // The facets of pairs of pieces, kept so that they are found once for all directions. Each pair has a slot, which it
 // may share with others: that which was asked about last is kept.
-ghost use Rattle.std.specs.Prelude.{◌≡◌, ◌≢◌, ◌<◌, ◌≤◌, ◌↔◌, ℕ, List, All, IfOk, IfSome, IsTrue, OnOk, Some, length};
+ghost use Rattle.std.specs.Prelude.{◌≡◌, ◌≢◌, ◌<◌, ◌≤◌, ◌↔◌, List, IfOk, IfSome, IsTrue, OnOk, Some, length};
 ghost use Rattle.staat_model.specs.declared.assembly.Part.{Part as PartValue};
 ghost use Rattle.staat_model.specs.Assemblies.{piece_at, piece_count};
 ghost use Rattle.staat_model.specs.Removal.{Blocks, MeetsAlong};

@@ -1,5 +1,5 @@
 use Rattle.staat_motion.proofs.Kept.{has_shadows}
-use Rattle.staat_decide.proofs.growing.may_meet.Goals as goal
+use Rattle.staat_decide.proofs.listing.may_meet.Goals as goal
 
 pub apart-requires : goal.apart-requires
 apart-requires c =

@@ -1,0 +1,209 @@
+// Pairs of pieces that are listed, with their facets once these were asked for, and those of them that meet across a
+// border between marked places and others.
+ghost use Rattle.std.specs.Prelude.{◌<◌, ◌↔◌, IsTrue, length};
+ghost use Rattle.staat_vec.specs.declared.vector.TheConstants.{DIRECTION};
+ghost use Rattle.staat_vec.specs.Vectors.{IsWithin};
+ghost use Rattle.staat_model.specs.Assemblies.{piece_count};
+ghost use Rattle.staat_motion.specs.Motions.{HasBothPieces, IsMotionOf};
+
+use crate::planes::{Facets, Normal, facets_of, is_ahead, new_planes};
+use crate::reach::Way;
+use crate::spots::Pair;
+use crate::spreading::{Lead, is_marked};
+use staat_cone::FacetSource;
+use staat_model::{Arc, Part};
+use staat_motion::Along;
+use staat_vec::{DIRECTION, OutOfMemory, V3, neg};
+use std::alloc::Global;
+
+/// A pair of pieces, and their facets, if they were asked for.
+#[derive(Drop)]
+pub struct Candidate {
+    pub pair: Pair,
+    pub facets: Option<Facets>,
+}
+
+/// A pair by its place in the list, whether it is the second piece that meets the first, and how many planes its
+/// facets add.
+#[derive(Clone, Copy)]
+pub struct Met {
+    pub k: usize,
+    pub is_turned: bool,
+    pub planes: usize,
+}
+
+/// How many pairs that meet are looked at for the one that adds the fewest planes.
+const MOST_MET: usize = 3;
+
+// whether the part has the piece
+fn has_piece(parts: &[Part], a: u32, i: u32) -> bool
+    ensures { IsTrue result ↔ ((a < length parts.now) × (i < piece_count parts.now a)) }
+{
+    if a as usize >= parts.len() {
+        return false;
+    }
+    let part = &parts[a as usize];
+    (i as usize) < part.pieces.as_slice().len()
+}
+
+/// Whether the two pieces exist.
+pub fn has_pieces(parts: &[Part], pair: Arc) -> bool
+    ensures { IsTrue result ↔ HasBothPieces parts.now pair }
+{
+    has_piece(parts, pair.a, pair.i) && has_piece(parts, pair.b, pair.j)
+}
+
+// whether boxes and spans leave it open that the first piece meets the second
+fn may_meet(parts: &[Part], along: &Along, pair: Arc) -> bool
+    requires { IsMotionOf parts.now along.now }
+{
+    if !has_pieces(parts, pair) {
+        return false;
+    }
+    !along.apart(pair)
+}
+
+// the arc from the one piece of a pair to the other, or back
+fn arc_of(pair: &Pair, is_turned: bool) -> Arc {
+    let arc = pair.arc;
+    if is_turned {
+        Arc {
+            a: arc.b,
+            i: arc.j,
+            b: arc.a,
+            j: arc.i,
+        }
+    } else {
+        arc
+    }
+}
+
+/// The same for the places of their parts.
+pub fn lead_of(pair: &Pair, is_turned: bool) -> Lead {
+    if is_turned {
+        Lead {
+            from: pair.to,
+            to: pair.from,
+        }
+    } else {
+        Lead {
+            from: pair.from,
+            to: pair.to,
+        }
+    }
+}
+
+// whether d leads ahead of all facets of the pair, where they are known
+fn leads_along(candidate: &Candidate, d: V3) -> bool
+    requires { IsWithin DIRECTION d }
+{
+    match &candidate.facets {
+        None => false,
+        Some(facets) => is_ahead(facets, d),
+    }
+}
+
+// whether of the pair the one piece meets the other
+fn meets<F: FacetSource>(
+    candidate: &mut Candidate,
+    alloc: Global,
+    source: &F,
+    parts: &[Part],
+    along: &Along,
+    is_turned: bool,
+) -> Result<bool, OutOfMemory>
+    requires { IsMotionOf parts.now along.now }
+{
+    if !may_meet(parts, along, arc_of(&candidate.pair, is_turned)) {
+        return Ok(false);
+    }
+    if candidate.facets.is_none() {
+        candidate.facets = facets_of(alloc, source, parts, candidate.pair.arc)?;
+    }
+    let d = along.direction();
+    let towards = if is_turned { neg(d) } else { d };
+    Ok(leads_along(candidate, towards))
+}
+
+// whether the arc that a pair may have on the way from a marked place to one that is not is turned, if there is one
+fn turned_on(marks: &[bool], way: Way, pair: &Pair) -> Option<bool> {
+    let is_first = is_marked(marks, pair.from);
+    let is_second = is_marked(marks, pair.to);
+    if is_first == is_second {
+        return None;
+    }
+    match way {
+        Way::Ahead => Some(is_second),
+        Way::Back => Some(is_first),
+    }
+}
+
+// how many planes of the facets are not there
+fn planes_added(candidate: &Candidate, planes: &[Normal]) -> usize {
+    match &candidate.facets {
+        None => 0,
+        Some(facets) => new_planes(planes, facets),
+    }
+}
+
+// the one of two pairs that adds fewer planes, and the first where they add as many
+fn fewer(best: Option<Met>, next: Met) -> Option<Met> {
+    match best {
+        Some(met) if met.planes <= next.planes => best,
+        _ => Some(next),
+    }
+}
+
+/// Of the first pairs of which one piece meets the other across, on the way from a marked place to one that is not,
+/// that which adds the fewest planes.
+pub fn first_met<F: FacetSource>(
+    list: &mut Vec<Candidate>,
+    alloc: Global,
+    source: &F,
+    parts: &[Part],
+    along: &Along,
+    planes: &[Normal],
+    marks: &[bool],
+    way: Way,
+) -> Result<Option<Met>, OutOfMemory>
+    requires { IsMotionOf parts.now along.now }
+{
+    let mut best = None;
+    let mut count = 0usize;
+    for (k, candidate) in list.iter_mut().enumerate() {
+        if let Some(is_turned) = turned_on(marks, way, &candidate.pair) {
+            if meets(candidate, alloc, source, parts, along, is_turned)? {
+                let planes = planes_added(candidate, planes);
+                best = fewer(
+                    best,
+                    Met {
+                        k,
+                        is_turned,
+                        planes,
+                    },
+                );
+                count = if planes == 0 {
+                    MOST_MET
+                } else {
+                    count.saturating_add(1)
+                };
+            }
+        }
+        if count >= MOST_MET {
+            return Ok(best);
+        }
+    }
+    Ok(best)
+}
+
+/// The list of the pairs, with no facets yet.
+pub fn list_of(alloc: Global, pairs: &[Pair]) -> Result<Vec<Candidate>, OutOfMemory> {
+    let mut list = Vec::new(alloc);
+    for pair in pairs {
+        list.push(Candidate {
+            pair: *pair,
+            facets: None,
+        })?;
+    }
+    Ok(list)
+}

@@ -1,0 +1,123 @@
+// Pieces that meet across a border between marked places and others, of any parts: for sets with too many pairs of
+// pieces to list them all. Boxes and spans of whole parts leave few parts to look at.
+ghost use Rattle.staat_motion.specs.Motions.{IsMotionOf};
+
+use crate::listing::has_pieces;
+use crate::reach::Way;
+use crate::spots::Pair;
+use crate::spreading::is_marked;
+use staat_cone::FacetSource;
+use staat_model::{Arc, Part};
+use staat_motion::Along;
+use staat_vec::OutOfMemory;
+use std::alloc::Global;
+
+// how many pieces the part has, if there is one
+fn piece_number(parts: &[Part], a: u32) -> u32 {
+    if a as usize >= parts.len() {
+        return 0;
+    }
+    let part = &parts[a as usize];
+    part.pieces.as_slice().len().min(u32::MAX as usize) as u32
+}
+
+// the first piece of the part b that the piece i of the part a meets
+fn met_by_piece<F: FacetSource>(
+    alloc: Global,
+    source: &F,
+    parts: &[Part],
+    along: &Along,
+    a: u32,
+    i: u32,
+    b: u32,
+) -> Result<Option<Arc>, OutOfMemory>
+    requires { IsMotionOf parts.now along.now }
+{
+    for j in 0..piece_number(parts, b) {
+        let arc = Arc { a, i, b, j };
+        if has_pieces(parts, arc) && along.meets(alloc, source, parts, arc)? {
+            return Ok(Some(arc));
+        }
+    }
+    Ok(None)
+}
+
+// the first piece of the part a that meets one of the part b, if a blocks b
+fn met_by_part<F: FacetSource>(
+    alloc: Global,
+    source: &F,
+    parts: &[Part],
+    along: &Along,
+    a: u32,
+    b: u32,
+) -> Result<Option<Arc>, OutOfMemory>
+    requires { IsMotionOf parts.now along.now }
+{
+    if a as usize >= parts.len() || b as usize >= parts.len() {
+        return Ok(None);
+    }
+    if !along.blocks(alloc, source, parts, a, b)? {
+        return Ok(None);
+    }
+    for i in 0..piece_number(parts, a) {
+        if let Some(arc) = met_by_piece(alloc, source, parts, along, a, i, b)? {
+            return Ok(Some(arc));
+        }
+    }
+    Ok(None)
+}
+
+// the first part at a place that is not marked to which the way leads from the part at the place x
+fn met_from<F: FacetSource>(
+    alloc: Global,
+    source: &F,
+    parts: &[Part],
+    along: &Along,
+    w: &[u32],
+    marks: &[bool],
+    way: Way,
+    x: usize,
+    a: u32,
+) -> Result<Option<Pair>, OutOfMemory>
+    requires { IsMotionOf parts.now along.now }
+{
+    for (y, b) in w.iter().enumerate() {
+        if !is_marked(marks, y) {
+            let (from, to, p, q) = match way {
+                Way::Ahead => (x, y, a, *b),
+                Way::Back => (y, x, *b, a),
+            };
+            if let Some(arc) = met_by_part(alloc, source, parts, along, p, q)? {
+                return Ok(Some(Pair {
+                    smallness: 0,
+                    arc,
+                    from,
+                    to,
+                }));
+            }
+        }
+    }
+    Ok(None)
+}
+
+/// The first pieces that meet across on the way from a marked place to one that is not; `w` has the parts at the places.
+pub fn met_across<F: FacetSource>(
+    alloc: Global,
+    source: &F,
+    parts: &[Part],
+    along: &Along,
+    w: &[u32],
+    marks: &[bool],
+    way: Way,
+) -> Result<Option<Pair>, OutOfMemory>
+    requires { IsMotionOf parts.now along.now }
+{
+    for (x, a) in w.iter().enumerate() {
+        if is_marked(marks, x) {
+            if let Some(pair) = met_from(alloc, source, parts, along, w, marks, way, x, *a)? {
+                return Ok(Some(pair));
+            }
+        }
+    }
+    Ok(None)
+}
