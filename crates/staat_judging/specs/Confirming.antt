@@ -29,16 +29,16 @@ use Rattle.staat_judging.specs.Checking.{cert_fault}
 -- ---- the line of a verdict
 
 -- how many holds a node has
-abbrev pub holds_of : ShortNode → ℕ
-holds_of (Leaf p) = 0
-holds_of (Split d) = 0
-holds_of (Group holds) = length holds
+abbrev pub hold_count : ShortNode → ℕ
+hold_count (Leaf p) = 0
+hold_count (Split d) = 0
+hold_count (Group holds) = length holds
 
 -- how many holds stand in the text before the node of this number
 abbrev pub holds_before : ShortAnswer → ℕ → ℕ
-holds_before (answers.Plan nodes) k = sum_by holds_of (take k nodes)
+holds_before (answers.Plan nodes) k = sum_by hold_count (take k nodes)
 holds_before (answers.Stuck holds) k = 0
-holds_before (answers.Rest nodes) k = sum_by holds_of (take k nodes)
+holds_before (answers.Rest nodes) k = sum_by hold_count (take k nodes)
 
 -- the rule that a hold breaks, by the number of the hold in the whole text
 abbrev pub hold_rule_text : ℕ → HoldRule → List ℕ

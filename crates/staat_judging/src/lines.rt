@@ -2,7 +2,7 @@
 ghost use Rattle.std.specs.Prelude.{◌≡◌, ◌+◌, ◌^◌, ◌≤◌, ◌++◌, IfOk, codes, decimal, string_bytes};
 ghost use Rattle.std.specs.Prelude.{sum_by, take};
 ghost use Rattle.staat_holds.specs.declared.hold.HoldRule.TheVariants as rules;
-ghost use Rattle.staat_judging.specs.Confirming.{hold_rule_text, holds_before, holds_of};
+ghost use Rattle.staat_judging.specs.Confirming.{hold_rule_text, holds_before, hold_count};
 ghost use Rattle.staat_judging.specs.Confirming.{short_reason_text, short_verdict_text};
 
 use staat_confirm::{ShortReason, ShortVerdict};
@@ -11,8 +11,8 @@ use staat_short::{ShortAnswer, ShortNode};
 use staat_vec::{Bytes, OutOfMemory, V3};
 use std::alloc::{AllocError, Global};
 
-fn holds_of(node: &ShortNode) -> usize
-    ensures { result ≡ holds_of node.now }
+fn hold_count(node: &ShortNode) -> usize
+    ensures { result ≡ hold_count node.now }
 {
     match node {
         ShortNode::Leaf(_) => 0,
@@ -33,12 +33,12 @@ fn first_nodes(nodes: &[ShortNode], count: usize) -> &[ShortNode]
 
 // How many holds the nodes have.
 fn holds_in(nodes: &[ShortNode]) -> u128
-    ensures count { result ≡ sum_by holds_of nodes.now }
+    ensures count { result ≡ sum_by hold_count nodes.now }
     ensures room { result + 2 ^ 64 ≤ 2 ^ 128 }
 {
     let mut count: u128 = 0;
     for node in nodes {
-        count += holds_of(node) as u128;
+        count += hold_count(node) as u128;
     }
     count
 }
