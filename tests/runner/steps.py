@@ -70,7 +70,7 @@ SHOW = ("chromedriver", "chromium", "numpy", "selenium", "three")  # what ./staa
 STEPS = (
     Step("memory", _python("tools/refuse_memory.py", "{program}"), ("cc",)),
     Step("checkers", _python("tools/compare_checkers.py", "--program={program}", "--broken=1000")),
-    Step("short", _python("tools/compare_short.py", "--program={program}", "--broken=2000")),
+    Step("short", _python("tools/compare_short.py", "--program={program}", "--broken=400")),
     Step("planners", _python("tools/compare_planners.py", "--program={program}", "--made=400")),
     Step("pages", _python("tests/runner/pages.py", "{program}"), (*MODELS, *SHOW, "as1")),
     Step(
