@@ -3,6 +3,7 @@ use Rattle.std.proofs.Common.{◌≡◌, ◌≢◌, ◌<◌, ◌≤◌, ℕ, Lis
 use Rattle.std.proofs.lemmas.Bool.{cases_lt}
 use Rattle.staat_fault.specs.declared.fault.Fault.{Fault}
 use Rattle.staat_fault.specs.declared.fault.Fault.TheVariants.{ReadFault}
+use Rattle.staat_fault.specs.Faults.{status_of}
 use Rattle.staat_words.specs.declared.request.CheckRequest.{CheckRequest}
 use Rattle.staat_words.specs.declared.request.DecideRequest.{DecideRequest}
 use Rattle.staat_words.specs.declared.request.PlanRequest.{PlanRequest}
@@ -13,7 +14,7 @@ use Rattle.staat_input.specs.declared.answer.Answer.{Answer}
 use Rattle.staat_input.specs.Work.{Files, answer}
 use Rattle.staat_input.specs.Causes.{ShelfSide}
 use Rattle.staat_top.specs.Replies.{Reply, WorkOnWords, IsReply, HasOneReply, answered}
-use Rattle.staat_top.specs.Headline.{valid_line}
+use Rattle.staat_top.specs.Headline.{IsLongRefusal, valid_line}
 use Rattle.staat_top.specs.Runs.{SinkSide, Took, HasRequestBounds, NoFault, Gave, Judged, Planned, Confirmed, Decided, Headlines}
 use Rattle.staat_top.proofs.RightLemmas.{status_is_right, status_is_denied}
 use Rattle.staat_top.proofs.HeadlineLemmas.{answered_plan, exactly, is_checked, keeps_rules, valid_reply}
@@ -28,9 +29,10 @@ pub record Printed (asked : Option Request) (files : Files) (out : SinkSide) (st
   pub is : status ≡ answer.status
   pub took : Took out answer.text
 
--- the work stands at a fault, and a file that is to be read is not there
-pub record Stops (asked : Option Request) (files : Files) : Type 0 where
+-- the work stands at a fault, with its status, and a file that is to be read is not there
+pub record Stops (asked : Option Request) (files : Files) (status : ℕ) : Type 0 where
   pub fault : Fault
+  pub is : status ≡ status_of fault
   pub work : WorkOnWords asked files (Err fault)
   pub lacks : (name : List ℕ) → fault ≡ ReadFault name → bytes_of name files ≡ None
 
@@ -40,7 +42,7 @@ pub record Called (asked : Option Request) (files : Files) (shelf : ShelfSide) (
   pub printed : status < 2 → Printed asked files out status
   pub bounds : NoFault shelf out err → status ≢ 7 → HasRequestBounds asked
   pub complete : HasOneReply asked → NoFault shelf out err → status ≢ 7 → (reply : Reply) → IsReply asked files reply → Gave reply out err status
-  pub stops : 2 ≤ status → NoFault shelf out err → status ≢ 7 → Stops asked files
+  pub stops : 2 ≤ status → NoFault shelf out err → status ≢ 7 → Stops asked files status
 
 judged : (request : CheckRequest) (files : Files) (shelf : ShelfSide) (out err : SinkSide) (status : ℕ) → Called (Some (Check request)) files shelf out err status → Judged request files shelf out err status
 judged request files shelf out err status c = record {
@@ -89,9 +91,11 @@ decided request files shelf out err status c = record {
   held = λ one.
       let p = c.printed (omega (arith, one)) in
       record { text = p.answer.text; took = p.took; is_so = status_is_denied (Some (Decide request)) files p.answer p.bounds p.work (sym p.is ∙ one) };
-  answers = λ parts are limit well memory. elim (cases_lt status 2) [
-    | inl lt ↦ lt
-    | inr ge ↦ let s = c.stops ge well memory in absurd (decide_goes_on request files parts s.fault are limit s.work s.lacks)
+  answers = λ parts are well memory. elim (cases_lt status 2) [
+    | inl lt ↦ inl lt
+    | inr ge ↦
+        let s = c.stops ge well memory in
+        inr (subst (λ n. IsLongRefusal parts request n) (sym s.is) (decide_goes_on request files parts s.fault are s.work s.lacks))
   ];
   confirmed = λ others name asks small.
       let p = c.printed small in record {

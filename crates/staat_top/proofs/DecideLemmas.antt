@@ -1,10 +1,11 @@
 -- What the answers of `decide` say, and that its work comes to one where the parts of the product are sound.
-use Rattle.std.proofs.Common.{◌≡◌, ◌<◌, ◌≤◌, ℕ, Bool, true, false, List, [], arith, inl, inr, length, refl, subst, sym}
+use Rattle.std.proofs.Common.{◌≡◌, ◌<◌, ℕ, Bool, true, false, List, [], ap, arith, inl, inr, length, refl, subst, sym}
 use Rattle.std.specs.Prelude.{Ok, Err, None}
 use Rattle.std.proofs.lemmas.List.Elements.{All-contains}
 use Rattle.staat_edge.specs.Files.{bytes_of}
 use Rattle.staat_fault.specs.declared.fault.Fault.{Fault}
-use Rattle.staat_fault.specs.declared.fault.Fault.TheVariants.{ReadFault}
+use Rattle.staat_fault.specs.declared.fault.Fault.TheVariants.{ReadFault, TextTooLong}
+use Rattle.staat_fault.specs.Faults.{status_of}
 use Rattle.staat_limits.specs.declared.limits.TheConstants.{MOST_PRODUCT_PARTS, TEXT_LIMIT}
 use Rattle.staat_model.specs.declared.assembly.Part.{Part}
 use Rattle.staat_model.specs.Outcomes.{planned, stuck}
@@ -31,7 +32,7 @@ use Rattle.staat_deciding.specs.Deciding.{SaysDecidedPlan, SaysDecidedStuck, Say
 use Rattle.staat_deciding.specs.Deciding.{SaysProductPlan, SaysShortPlan, SaysShortRefusal, SaysStuckAs, SaysStuckParts}
 use Rattle.staat_deciding.specs.RestTexts.{rest_text}
 use Rattle.staat_judging.proofs.RightShortAnswers.{plan_shown, refusal_shown}
-use Rattle.staat_top.specs.Headline.{HasShortRefusals}
+use Rattle.staat_top.specs.Headline.{IsLongRefusal}
 
 -- ---- what statuses 0 and 1 mean
 
@@ -94,23 +95,23 @@ decide_is_denied request files a bounds (inr (built, found, d)) one = stuck_said
 
 -- ---- that there is an answer
 
--- no certificate of a refusal has too long a text
-abbrev AreShort : (rest : Bool) → List Part → Type 0
-AreShort rest parts = (c : ShortCertificate) → IsShortVerdict parts c ValidRefusal → IsRefusalOf rest c.answer → IsShortInOrder c → length (short_text c) ≤ TEXT_LIMIT
+-- what is found is an answer, or that the text of a valid refusal's certificate, which was asked for, is too long
+pub data IsAnswered (parts : List Part) (rest certificate : Bool) (found : Found Answer) : Type 0 where
+  gives : (a : Answer) → found ≡ Ok a → a.status < 2 → IsAnswered parts rest certificate found
+  is_long : (c : ShortCertificate) (n : ℕ) → certificate ≡ true → IsShortVerdict parts c ValidRefusal → IsRefusalOf rest c.answer → IsShortInOrder c → TEXT_LIMIT < length (short_text c) → found ≡ Err (TextTooLong n) → IsAnswered parts rest certificate found
 
--- what is found is then an answer
-short_answered : (parts : List Part) (found : Found Answer) (rest : Bool) → AreShort rest parts → IsDecidedShort rest parts found → (a : Answer) × (found ≡ Ok a) × (a.status < 2)
-short_answered parts found rest limit (short_plan c text valid is short e) = (_, e, omega arith)
-short_answered parts found rest limit (short_refusal c text valid kind is short e) = (_, e, omega arith)
-short_answered parts found rest limit (long_refusal c n valid kind order long count e) = absurd (omega (arith, long, limit c valid kind order))
+short_answered : (parts : List Part) (found : Found Answer) (rest : Bool) → IsDecidedShort rest parts found → IsAnswered parts rest true found
+short_answered parts found rest (short_plan c text valid is short e) = gives (answer 0 text) e (omega arith)
+short_answered parts found rest (short_refusal c text valid kind is short e) = gives (answer 1 text) e (omega arith)
+short_answered parts found rest (long_refusal c n valid kind order long count e) = is_long c n refl valid kind order long e
 
-answered : (parts : List Part) (found : Found Answer) (rest certificate : Bool) → (certificate ≡ true → AreShort rest parts) → IsDecidedAs rest certificate parts found → (a : Answer) × (found ≡ Ok a) × (a.status < 2)
-answered parts found false false limit (apart tree good e) = (_, e, omega arith)
-answered parts found false false limit (held members ascending two within is_stuck e) = (_, e, omega arith)
-answered parts found true false limit (all_apart tree good e) = (_, e, omega arith)
-answered parts found true false limit (some_apart plan good some e) = (_, e, omega arith)
-answered parts found false true limit d = short_answered parts found false (limit refl) d
-answered parts found true true limit d = short_answered parts found true (limit refl) d
+answered : (parts : List Part) (found : Found Answer) (rest certificate : Bool) → IsDecidedAs rest certificate parts found → IsAnswered parts rest certificate found
+answered parts found false false (apart tree good e) = gives (answer 0 (plan_text (planned tree []))) e (omega arith)
+answered parts found false false (held members ascending two within is_stuck e) = gives (answer 1 (plan_text (stuck (set_of members)))) e (omega arith)
+answered parts found true false (all_apart tree good e) = gives (answer 0 (plan_text (planned tree []))) e (omega arith)
+answered parts found true false (some_apart plan good some e) = gives (answer 1 (rest_text plan)) e (omega arith)
+answered parts found false true d = short_answered parts found false d
+answered parts found true true d = short_answered parts found true d
 
 -- it is no file that is to be read
 short_no_read : (parts : List Part) (name : List ℕ) (rest : Bool) → IsDecidedShort rest parts (Err (ReadFault name)) → ⊥
@@ -142,19 +143,24 @@ settled_at found fault e settled = tt
 same_parts : (files : Files) (asked : Asked) (parts built : List Part) → AreSoundProductParts files asked parts → IsSoundProductOf files asked (Ok built) → parts ≡ built
 same_parts files asked parts built are at = given_one parts built ((sound_product_one files asked).one (Ok parts) (Ok built) (read files asked parts are) at tt tt)
 
--- where the parts are sound, the work comes to an answer, or to a file that is to be read
-pub decide_answers : (request : DecideRequest) (files : Files) (parts : List Part) (found : Found Answer) → AreSoundProductParts files request.asked parts → HasShortRefusals parts request → DecideWork request files found → IsSettled found → (a : Answer) × (found ≡ Ok a) × (a.status < 2)
-decide_answers request files parts found are limit (inl (fault, at, e)) settled =
+-- where the parts are sound, the work comes to an answer, to a text that is too long, or to a file that is to be read
+pub decide_answers : (request : DecideRequest) (files : Files) (parts : List Part) (found : Found Answer) → AreSoundProductParts files request.asked parts → DecideWork request files found → IsSettled found → IsAnswered parts request.rest request.certificate found
+decide_answers request files parts found are (inl (fault, at, e)) settled =
     absurd (given_not_fault parts fault ((sound_product_one files request.asked).one (Ok parts) (Err fault) (read files request.asked parts are) at tt (settled_at found fault e settled)))
-decide_answers request files parts found are limit (inr (built, at, d)) settled =
-    answered built found request.rest request.certificate (subst (λ (ps : List Part). HasShortRefusals ps request) (same_parts files request.asked parts built are at) limit) d
+decide_answers request files parts found are (inr (built, at, d)) settled =
+    subst (λ (ps : List Part). IsAnswered ps request.rest request.certificate found) (sym (same_parts files request.asked parts built are at)) (answered built found request.rest request.certificate d)
 
--- where the parts are sound, the work stands at no fault but at a file that is there
-pub decide_goes_on : (request : DecideRequest) (files : Files) (parts : List Part) (fault : Fault) → AreSoundProductParts files request.asked parts → HasShortRefusals parts request → DecideWork request files (Err fault) → ((name : List ℕ) → fault ≡ ReadFault name → bytes_of name files ≡ None) → ⊥
-decide_goes_on request files parts fault are limit (inr (built, at, d)) lacks =
-    let (a, e, small) = answered built (Err fault) request.rest request.certificate (subst (λ (ps : List Part). HasShortRefusals ps request) (same_parts files request.asked parts built are at) limit) d in
-    absurd (given_not_fault a fault (sym e))
-decide_goes_on request files parts fault are limit (inl (stands, at, e)) lacks = go stands at (fault_is stands fault e)
+-- a fault that is found is then that of a text that is too long
+pub long_refused : (request : DecideRequest) (parts : List Part) (fault : Fault) → IsAnswered parts request.rest request.certificate (Err fault) → IsLongRefusal parts request (status_of fault)
+long_refused request parts fault (gives a e small) = absurd (given_not_fault a fault (sym e))
+long_refused request parts fault (is_long c n asks valid kind order long e) =
+    record { is = sym (ap status_of (fault_is (TextTooLong n) fault e)); asks = asks; refusal = c; valid = valid; kind = kind; order = order; long = long }
+
+-- where the parts are sound, the work stands at no fault but at a text that is too long, or a file that is there
+pub decide_goes_on : (request : DecideRequest) (files : Files) (parts : List Part) (fault : Fault) → AreSoundProductParts files request.asked parts → DecideWork request files (Err fault) → ((name : List ℕ) → fault ≡ ReadFault name → bytes_of name files ≡ None) → IsLongRefusal parts request (status_of fault)
+decide_goes_on request files parts fault are (inr (built, at, d)) lacks =
+    long_refused request parts fault (subst (λ (ps : List Part). IsAnswered ps request.rest request.certificate (Err fault)) (sym (same_parts files request.asked parts built are at)) (answered built (Err fault) request.rest request.certificate d))
+decide_goes_on request files parts fault are (inl (stands, at, e)) lacks = absurd (go stands at (fault_is stands fault e))
   where
     go : (stands : Fault) → IsSoundProductOf files request.asked (Err stands) → stands ≡ fault → ⊥
     go (ReadFault name) at same = (sound_product_one files request.asked).held name (Ok parts) at (lacks name (sym same)) (read files request.asked parts are) tt

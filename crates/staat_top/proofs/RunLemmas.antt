@@ -122,14 +122,14 @@ complete_fault asked shelf files fault reply own explained told well memory is_r
     one_reply asked files _ _ own (record { found = Err fault; work = explained.found files told; makes = refl }) is_reply
 
 -- where nothing failed and there was memory, the work stands at the fault, and a file that is to be read is not there
-stopped : (asked : Option Request) (shelf : ShelfSide) (files : Files) (fault : Fault) → IsExplained asked shelf fault → shelf.old.holds ≡ Some files → (Rose shelf.old.faults shelf.new.faults → ⊥) → status_of fault ≢ 7 → Stops asked files
-stopped asked shelf files (ReadFault name) explained told well memory =
-    record { fault = ReadFault name; work = explained.found files told; lacks = λ n e. unread_lacks shelf files n told well (subst (IsUnread shelf) (same_name name n e) (cause_some asked shelf name explained.cause)) }
+stopped : (asked : Option Request) (shelf : ShelfSide) (files : Files) (fault : Fault) (result : ℕ) → result ≡ status_of fault → IsExplained asked shelf fault → shelf.old.holds ≡ Some files → (Rose shelf.old.faults shelf.new.faults → ⊥) → result ≢ 7 → Stops asked files result
+stopped asked shelf files (ReadFault name) result is explained told well memory =
+    record { fault = ReadFault name; is = is; work = explained.found files told; lacks = λ n e. unread_lacks shelf files n told well (subst (IsUnread shelf) (same_name name n e) (cause_some asked shelf name explained.cause)) }
   where
     same_name : (n m : List ℕ) → ReadFault n ≡ ReadFault m → n ≡ m
     same_name n m e = cc
-stopped asked shelf files OutOfMemory explained told well memory = absurd (memory refl)
-stopped asked shelf files fault explained told well memory = record { fault = fault; work = explained.found files told; lacks = λ n e. absurd cc }
+stopped asked shelf files OutOfMemory result is explained told well memory = absurd (memory is)
+stopped asked shelf files fault result is explained told well memory = record { fault = fault; is = is; work = explained.found files told; lacks = λ n e. absurd cc }
 
 -- where the words make no request, the status is that of usage or of want of memory
 usage_status : (shelf : ShelfSide) (fault : Fault) → IsCaused None shelf fault → (status_of fault ≡ 2) ⊎ (status_of fault ≡ 7)
@@ -199,7 +199,7 @@ ran_fault asked shelf out err result fault explained bounds same whole part =
           | yes e ↦ absurd (well.err_well (part e).part.fault)
           | no ne ↦
               let w = whole ne in
-              stopped asked shelf files w.said (said_explained asked shelf fault w.said explained w.is_said) told well.shelf_well (λ e. memory (w.is ∙ e))
+              stopped asked shelf files w.said result w.is (said_explained asked shelf fault w.said explained w.is_said) told well.shelf_well memory
         ];
       });
       complete = complete;

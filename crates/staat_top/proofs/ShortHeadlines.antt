@@ -8,6 +8,7 @@ use Rattle.staat_short.specs.ShortTexts.{IsShortTextOf}
 use Rattle.staat_confirm.specs.declared.verdict.ShortVerdict.{ShortVerdict}
 use Rattle.staat_confirm.specs.declared.verdict.ShortVerdict.TheVariants.{ValidPlan, ValidRefusal}
 use Rattle.staat_confirm.specs.ShortVerdicts.{IsShortVerdict}
+use Rattle.staat_fault.specs.declared.fault.Fault.TheVariants.{TextTooLong}
 use Rattle.staat_words.specs.declared.request.Asked.{Asked}
 use Rattle.staat_words.specs.declared.request.CheckRequest.{CheckRequest}
 use Rattle.staat_words.specs.declared.request.DecideRequest.{DecideRequest}
@@ -21,10 +22,10 @@ use Rattle.staat_deciding.specs.Deciding.{long_refusal, short_plan, short_refusa
 use Rattle.staat_judging.specs.Confirming.{KeepsShortRules, SaysShortValid, ShowsShortValid, says_short}
 use Rattle.staat_judging.specs.Confirming.{short_verdict_answer}
 use Rattle.staat_judging.specs.Confirming.{short_plan as shows_plan, short_refusal as shows_refusal}
-use Rattle.staat_top.specs.Headline.{HasShortRefusals, valid_line}
+use Rattle.staat_top.specs.Headline.{IsLongRefusal, valid_line}
 use Rattle.staat_top.specs.KeptProducts.{KeepsProductInput}
-use Rattle.staat_top.specs.Replies.{IsReply, MakesReply, Reply, answered}
-use Rattle.staat_top.proofs.DecideLemmas.{decide_answers}
+use Rattle.staat_top.specs.Replies.{IsReply, MakesReply, Reply, answered, refused}
+use Rattle.staat_top.proofs.DecideLemmas.{IsAnswered, decide_answers, gives, is_long}
 use Rattle.staat_top.proofs.KeptProducts.{product_kept}
 use Rattle.staat_top.proofs.OneReply.{makes_settled, one_reply}
 use Rattle.staat_top.proofs.Replying.{answer_in}
@@ -44,12 +45,17 @@ is_denied files request reply bounds is one =
     let status : found.0.status ≡ 1 = sym (ap (λ (r : Reply). r.status) found.2) ∙ one in
     subst (SaysDecidedStuck files request) (sym (ap (λ (r : Reply). r.out) found.2)) (status_is_denied (Some (Decide request)) files found.0 bounds found.1 status)
 
--- sound parts have no reply but an answer, where no limit is exceeded
-pub decides : (files : Files) (request : DecideRequest) (parts : List Part) (reply : Reply) → AreSoundProductParts files request.asked parts → HasShortRefusals parts request → IsReply (Some (Decide request)) files reply → reply.status < 2
-decides files request parts reply are limit is =
-    let (a, same, small) = decide_answers request files parts is.found are limit is.work (makes_settled is.found reply is.makes) in
-    let made : reply ≡ answered a = subst (λ found. MakesReply found reply) same is.makes in
-    subst (λ (r : Reply). r.status < 2) (sym made) small
+-- sound parts have no reply but an answer, or that the text of a valid refusal is too long
+pub decides : (files : Files) (request : DecideRequest) (parts : List Part) (reply : Reply) → AreSoundProductParts files request.asked parts → IsReply (Some (Decide request)) files reply → (reply.status < 2) ⊎ IsLongRefusal parts request reply.status
+decides files request parts reply are is = go (decide_answers request files parts is.found are is.work (makes_settled is.found reply is.makes))
+  where
+    go : IsAnswered parts request.rest request.certificate is.found → (reply.status < 2) ⊎ IsLongRefusal parts request reply.status
+    go (gives a same small) =
+        let made : reply ≡ answered a = subst (λ found. MakesReply found reply) same is.makes in
+        inl (subst (λ (r : Reply). r.status < 2) (sym made) small)
+    go (is_long c n asks valid kind order long same) =
+        let made : reply ≡ refused (TextTooLong n) = subst (λ found. MakesReply found reply) same is.makes in
+        inr (record { is = ap (λ (r : Reply). r.status) made; asks = asks; refusal = c; valid = valid; kind = kind; order = order; long = long })
 
 -- ---- confirm
 

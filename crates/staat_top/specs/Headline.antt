@@ -62,12 +62,16 @@ pub record IsWithinLimits (parts : List Part) (request : PlanRequest) : Type 0 w
       IsOutcome request.robust parts (all_parts parts) (stuck w) → IsCertificateOf parts version (stuck w) c →
       length (text_of c) ≤ TEXT_LIMIT
 
--- No limit is exceeded: if a certificate is asked for, the text of none that refuses the parts is too long. That of a
--- plan never is.
-abbrev pub HasShortRefusals : List Part → DecideRequest → Type 0
-HasShortRefusals parts request =
-    request.certificate ≡ true → (c : ShortCertificate) → IsShortVerdict parts c verdicts.ValidRefusal →
-    IsRefusalOf request.rest c.answer → IsShortInOrder c → length (short_text c) ≤ TEXT_LIMIT
+-- A certificate is asked for, and the text of one that is a valid refusal of the parts is too long to be printed. That
+-- of a plan never is.
+pub record IsLongRefusal (parts : List Part) (request : DecideRequest) (status : ℕ) : Type 0 where
+  pub is : status ≡ 4
+  pub asks : request.certificate ≡ true
+  pub refusal : ShortCertificate
+  pub valid : IsShortVerdict parts refusal verdicts.ValidRefusal
+  pub kind : IsRefusalOf request.rest refusal.answer
+  pub order : IsShortInOrder refusal
+  pub long : TEXT_LIMIT < length (short_text refusal)
 
 -- For all files and requests:
 pub record Headline : Type 0 where
@@ -102,8 +106,8 @@ pub record Headline : Type 0 where
       (answered (answer 0 (valid_line reply.status)))
   -- What `decide` prints with status 0 is a plan that takes all parts of a product apart, and with status 1 parts that
   -- are truly stuck, or all that comes apart and the groups that are stuck; or, if that is asked for, the text of a
-  -- certificate of either, which is valid. For every input whose parts are sound each reply is one of the two, where
-  -- no limit is exceeded.
+  -- certificate of either, which is valid. For every input whose parts are sound each reply is one of the two, or says
+  -- that the text of a valid refusal's certificate, which was asked for, is too long.
   pub decided : (files : Files) (request : DecideRequest) (reply : Reply) →
       IsAskedWithin MOST_PRODUCT_PARTS request.asked → IsReply (Some (Decide request)) files reply →
       reply.status ≡ 0 → SaysDecidedPlan files request reply.out
@@ -111,8 +115,8 @@ pub record Headline : Type 0 where
       IsAskedWithin MOST_PRODUCT_PARTS request.asked → IsReply (Some (Decide request)) files reply →
       reply.status ≡ 1 → SaysDecidedStuck files request reply.out
   pub decides : (files : Files) (request : DecideRequest) (parts : List Part) (reply : Reply) →
-      AreSoundProductParts files request.asked parts → HasShortRefusals parts request →
-      IsReply (Some (Decide request)) files reply → reply.status < 2
+      AreSoundProductParts files request.asked parts → IsReply (Some (Decide request)) files reply →
+      (reply.status < 2) ⊎ IsLongRefusal parts request reply.status
   -- `confirm` answers that a short certificate is valid exactly where it keeps the written rules.
   pub confirms : (files : Files) (request : CheckRequest) (reply : Reply) →
       IsAskedWithin MOST_PRODUCT_PARTS request.asked → IsReply (Some (Confirm request)) files reply →

@@ -24,7 +24,7 @@ use Rattle.staat_judging.specs.Checking.{SaysValid}
 use Rattle.staat_judging.specs.Confirming.{KeepsShortRules, SaysShortValid}
 use Rattle.staat_deciding.specs.Deciding.{SaysDecidedPlan, SaysDecidedStuck}
 use Rattle.staat_top.specs.Replies.{Reply, WorkOnWords, IsReply, HasOneReply, IsRight, IsDenied, answered}
-use Rattle.staat_top.specs.Headline.{HasShortRefusals, IsWithinLimits, KeepsRules, valid_line}
+use Rattle.staat_top.specs.Headline.{IsLongRefusal, IsWithinLimits, KeepsRules, valid_line}
 use Rattle.staat_top.specs.KeptProducts.{KeepsProductInput}
 use Rattle.staat_input.specs.Causes.{Over, ShelfSide, HasCause}
 use Rattle.staat_judging.specs.Causes.{HasCheckCause, HasConfirmCause}
@@ -170,14 +170,15 @@ pub record Planned (request : PlanRequest) (files : Files) (shelf : ShelfSide) (
       (answered (answer 0 (valid_line status))))
 
 -- What a call of `decide` says: with status 0 it printed a plan that takes all parts apart, and with status 1 what is
--- stuck. One of the two comes for all sound parts within the limits. A certificate that it printed is called valid by
--- `confirm`, over any files that hold it under some name, and hold all that the input names as it was.
+-- stuck. One of the two comes for all sound parts, unless the text of a valid refusal's certificate, which was asked
+-- for, is too long. A certificate that it printed is called valid by `confirm`, over any files that hold it under some
+-- name, and hold all that the input names as it was.
 pub record Decided (request : DecideRequest) (files : Files) (shelf : ShelfSide) (out err : SinkSide) (status : ℕ)
     : Type 0 where
   pub apart : status ≡ 0 → TookRight out (SaysDecidedPlan files request)
   pub held : status ≡ 1 → TookRight out (SaysDecidedStuck files request)
   pub answers : (parts : List Part) → AreSoundProductParts files request.asked parts →
-      HasShortRefusals parts request → NoFault shelf out err → status ≢ 7 → status < 2
+      NoFault shelf out err → status ≢ 7 → (status < 2) ⊎ IsLongRefusal parts request status
   pub confirmed : (others : Files) (name : List ℕ) → request.certificate ≡ true → status < 2 →
       TookRight out (λ text.
       KeepsProductInput files others request.asked.input → bytes_of name others ≡ Some text →
