@@ -363,8 +363,12 @@ def verdict(product, name, text):
 
 
 def main(words):
+    if "--short" in words:
+        import check_short
+
+        return check_short.main([word for word in words if word != "--short"])
     parser = argparse.ArgumentParser(
-        description="Judges a certificate of staat.", allow_abbrev=False
+        description="Judges a certificate of staat; with --short a short one.", allow_abbrev=False
     )
     parser.add_argument("certificate")
     parser.add_argument("files", nargs="*", help="each a part of one piece")
