@@ -88,19 +88,24 @@ fn one_slanted_wall_is_found(rt: HostRuntime) {
 }
 
 // the box to which the cube is moved
-fn places(rt: &impl Abort, alloc: Global, by: V3, wanted: Corners) {
-    let piece = place(alloc, box_of(rt, alloc, CUBE), by).expect(rt, "a place");
+fn is_box(rt: &impl Abort, alloc: Global, placed: Result<Piece, PlaceRefusal>, wanted: Corners) {
+    let piece = placed.expect(rt, "a place");
     assert!(rt; piece.points() == box_of(rt, alloc, wanted).points());
 }
 
 #[test]
 fn pieces_are_placed(rt: HostRuntime) {
     let alloc = rt.alloc();
-    places(&rt, alloc, at(2, 0, 0), BESIDE);
-    places(&rt, alloc, at(0, 0, 2), ABOVE);
-    places(&rt, alloc, at(1, 1, 1), INNER);
-    places(&rt, alloc, at(0, 0, 0), CUBE);
-    let refused = place(alloc, box_of(&rt, alloc, CUBE), at(0, -262144, 262143));
+    let cube = box_of(&rt, alloc, CUBE);
+    is_box(&rt, alloc, place(alloc, cube, at(2, 0, 0)), BESIDE);
+    let cube = box_of(&rt, alloc, CUBE);
+    is_box(&rt, alloc, place(alloc, cube, at(0, 0, 2)), ABOVE);
+    let cube = box_of(&rt, alloc, CUBE);
+    is_box(&rt, alloc, place(alloc, cube, at(1, 1, 1)), INNER);
+    let cube = box_of(&rt, alloc, CUBE);
+    is_box(&rt, alloc, place(alloc, cube, at(0, 0, 0)), CUBE);
+    let cube = box_of(&rt, alloc, CUBE);
+    let refused = place(alloc, cube, at(0, -262144, 262143));
     assert_eq!(rt; refused.err(), Some(PlaceRefusal::PlacedFar));
 }
 

@@ -34,14 +34,10 @@ fn sets(rt: HostRuntime) {
     assert!(rt; odd.meets(PartSet::first(2)) && !odd.meets(PartSet::empty()));
 }
 
-fn spans(rt: &impl Abort, points: &[V3], wanted: bool) {
-    assert_eq!(rt; is_solid(points), wanted);
-}
-
 #[test]
 fn solid_points(rt: HostRuntime) {
     let simplex = [at(0, 0, 0), at(1, 0, 0), at(0, 1, 0), at(0, 0, 1)];
-    spans(&rt, &simplex, true);
+    assert!(rt; is_solid(&simplex));
     let late = [
         at(0, 0, 0),
         at(0, 0, 0),
@@ -50,13 +46,13 @@ fn solid_points(rt: HostRuntime) {
         at(0, 1, 0),
         at(7, 7, -1),
     ];
-    spans(&rt, &late, true);
+    assert!(rt; is_solid(&late));
     let flat = [at(0, 0, 1), at(1, 0, 1), at(0, 1, 1), at(5, 7, 1)];
-    spans(&rt, &flat, false);
+    assert!(rt; !is_solid(&flat));
     let line = [at(1, 2, 3), at(2, 4, 6), at(3, 6, 9), at(-1, -2, -3)];
-    spans(&rt, &line, false);
-    spans(&rt, &[at(1, 2, 3), at(1, 2, 3)], false);
-    spans(&rt, &[], false);
+    assert!(rt; !is_solid(&line));
+    assert!(rt; !is_solid(&[at(1, 2, 3), at(1, 2, 3)]));
+    assert!(rt; !is_solid(&[]));
 }
 
 #[test]
