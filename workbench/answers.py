@@ -1,131 +1,128 @@
 """What a planner answers of a product, and how it is asked: behind `Planner`, so that another one may take its place.
 
-Nothing is answered here that `staat check` has not called valid.
+Nothing is answered here that `staat confirm` has not called valid.
 """
 from __future__ import annotations
 
 import os
+import re
 import subprocess
 import tempfile
 from dataclasses import dataclass
-from typing import Iterator, List, Protocol, Sequence, Set, Tuple
+from typing import Protocol, Sequence, Set, Tuple
 
 from . import planner
+from .certificate import Answer, Pair, Vector, read_certificate
+from .planner import Place
+from .progress import waiting
 from .solid import Refusal
-from .writing import LIST
 
 Arc = Tuple[int, int]  # the first part is blocked by the second along a direction
+ASKED = ("decide", "--rest", "--cert")
+VERDICTS = ("valid plan", "valid refusal")  # where no group remains, and where one does
+OVERLAP = re.compile(r"parts (\d+) and (\d+) overlap in pieces (\d+) and (\d+)")
+USAGE = 2  # the status for words that staat does not know
+
+
+class Unanswered(Refusal):
+    """The planner refuses a part list, or was ended: the command that it was asked, and why."""
+
+    def __init__(self, command: str, why: str) -> None:
+        super().__init__(f"staat {command} {why}" if why.startswith("was ended") else why)
+        self.command = command
+
+
+class Overlapping(Unanswered):
+    """Parts overlap, so there is no answer: the first two pieces that do."""
+
+    def __init__(self, command: str, why: str, pair: Pair) -> None:
+        super().__init__(command, why)
+        self.pair = pair
 
 
 @dataclass(frozen=True)
-class Step:
-    """Parts that move together along a direction, whole numbers, away from others; parts by number."""
+class Told:
+    """An answer, the certificate that shows it, and what the checker says of that."""
 
-    moved: Tuple[int, ...]
-    along: Tuple[int, int, int]
-    rest: Tuple[int, ...]
-
-
-@dataclass(frozen=True)
-class Answer:
-    """The steps that take a product apart, the first first, and the sets of parts that no plan takes apart."""
-
-    steps: Tuple[Step, ...]
-    stuck: Tuple[Tuple[int, ...], ...] = ()
+    answer: Answer
+    certificate: str
+    verdict: str
 
 
 class Planner(Protocol):
-    """What is asked of a planner. folder: that of a part list."""
+    """What is asked of a planner, of one part list."""
 
-    def answer(self, folder: str) -> Answer:
-        """A checked answer. Refusal: there is none, and why."""
+    def told(self) -> Told:
+        """A checked answer. Overlapping: parts overlap. Refusal: there is no answer, and why."""
 
-    def arcs(self, folder: str, along: Tuple[int, int, int]) -> Set[Arc]:
-        """Which parts block which along a direction."""
-
-
-def read_certificate(text: str) -> Answer:
-    """The plan, or the stuck set, that a certificate shows."""
-    lines = [line.split() for line in text.splitlines()]
-    body = lines[2]
-    if body[0] == "stuck":
-        return Answer((), (tuple(map(int, body[1:])),))
-    steps: List[Step] = []
-    tree(iter([line for line in lines[3:] if line[0] in ("leaf", "split")]), steps)
-    return Answer(tuple(steps))
-
-
-def tree(lines: Iterator[List[str]], steps: List[Step]) -> Tuple[int, ...]:
-    """Adds the steps of the tree that begins with the next line; the parts in it."""
-    line = next(lines)
-    if line[0] == "leaf":
-        return (int(line[1]),)
-    place = len(steps)
-    steps.append(Step((), (0, 0, 0), ()))
-    moved, rest = tree(lines, steps), tree(lines, steps)
-    x, y, z = map(int, line[1:])
-    steps[place] = Step(tuple(sorted(moved)), (x, y, z), tuple(sorted(rest)))
-    return moved + rest
+    def arcs(self, along: Vector) -> Set[Arc]:
+        """Which parts block which along a direction. Refusal: it is not told."""
 
 
 @dataclass(frozen=True)
-class OfPlan:
-    """Asks `staat plan` for a certificate, and `staat check` whether it is valid.
+class OfDecide:
+    """Asks `staat decide` for a certificate, and `staat confirm` whether it is valid."""
 
-    listed: the part list, whose names of files hold in the folder that is asked about
-    """
+    place: Place
 
-    listed: str = LIST
+    def told(self) -> Told:
+        certificate = self.asked(ASKED, (0, 1))
+        with tempfile.TemporaryDirectory() as folder:
+            path = os.path.join(folder, "plan.cert")
+            with open(path, "w", encoding="ascii", errors="replace") as file:
+                file.write(certificate)
+            verdict = self.asked(("confirm", path), (0, 1)).rstrip("\n")
+        if verdict not in VERDICTS:
+            raise Refusal(f"the checker does not call the answer valid: {verdict}")
+        answer = read_certificate(certificate)
+        if verdict != VERDICTS[bool(answer.groups)]:
+            raise Refusal(f'the checker says "{verdict}" of what should be another answer')
+        return Told(answer, certificate, verdict)
 
-    def answer(self, folder: str) -> Answer:
-        return self.shown(folder)[0]
-
-    def shown(self, folder: str) -> Tuple[Answer, str]:
-        """The answer, and the certificate that shows it. Refusal: there is none, and why."""
-        told = asked(folder, ["plan", "--cert"], self.listed)
-        if told.returncode not in (0, 1):
-            raise Refusal(fault_of(told))
-        with tempfile.TemporaryDirectory() as place:
-            path = os.path.join(place, "certificate")
-            with open(path, "w", encoding="ascii") as file:
-                file.write(told.stdout)
-            judged = asked(folder, ["check", path], self.listed)
-        if judged.returncode or judged.stdout not in ("valid plan\n", "valid refusal\n"):
-            raise Refusal(f"the checker does not call the answer valid: {fault_of(judged)}")
-        return read_certificate(told.stdout), told.stdout
-
-    def arcs(self, folder: str, along: Tuple[int, int, int]) -> Set[Arc]:
-        told = asked(folder, ["graph", "--along=" + ",".join(map(str, along))], self.listed)
-        if told.returncode:
-            raise Refusal(fault_of(told))
-        rows = (line.split() for line in told.stdout.splitlines() if line.startswith("arc "))
+    def arcs(self, along: Vector) -> Set[Arc]:
+        told = self.asked(("blocks", "--along=" + ",".join(map(str, along))), (0,))
+        rows = (line.split() for line in told.splitlines() if line.startswith("arc "))
         return {(int(one), int(other)) for _, one, other in rows}
 
+    def asked(self, words: Sequence[str], wanted: Sequence[int]) -> str:
+        """What `staat` prints with one of these statuses. Unanswered: it ends otherwise."""
+        done = asked(self.place, words)
+        if done.returncode in wanted:
+            return done.stdout
+        why = fault_of(done)
+        pair = OVERLAP.fullmatch(why)
+        if pair:
+            part, by, piece, by_piece = map(int, pair.groups())
+            raise Overlapping(words[0], why, Pair(part, piece, by, by_piece))
+        raise Unanswered(words[0], why)
 
-def asked(
-    folder: str, words: Sequence[str], listed: str = LIST
-) -> "subprocess.CompletedProcess[str]":
-    """What `staat` says of a part list, in a folder that has one. Refusal: it has none, or there is no program."""
-    if not os.path.isfile(os.path.join(folder, LIST)):
-        raise Refusal(
-            f"{folder} holds no {LIST}; ./staat-cad pieces MODEL.. --out={folder} writes one"
-        )
+
+def asked(place: Place, words: Sequence[str]) -> "subprocess.CompletedProcess[str]":
+    """What `staat` says of a part list. Refusal: there is no such list, or no program."""
+    planner.must_be(place)
     staat = planner.program() or os.path.join(planner.TOP, "staat")
     try:
-        return subprocess.run(
-            [staat, *words, f"--manifest={listed}"],
-            cwd=folder,
-            capture_output=True,
-            text=True,
-            check=False,
-        )
+        with waiting(f"staat {words[0]}"):
+            return subprocess.run(
+                planner.words_of(staat, place, words),
+                cwd=place.folder,
+                stdin=subprocess.DEVNULL,
+                capture_output=True,
+                encoding="utf-8",
+                errors="replace",
+                check=False,
+            )
     except OSError as fault:
         raise Refusal(f"cannot run {staat}: {fault.strerror}") from fault
 
 
-def fault_of(told: "subprocess.CompletedProcess[str]") -> str:
+def fault_of(done: "subprocess.CompletedProcess[str]") -> str:
     """The line that a program left, or how it ended."""
-    lines = (told.stderr.strip() or told.stdout.strip()).splitlines()
-    if told.returncode < 0:
-        return f"staat was ended by signal {-told.returncode}"
-    return lines[-1].replace("staat: ", "", 1) if lines else f"staat ended with {told.returncode}"
+    lines = (done.stderr.strip() or done.stdout.strip()).splitlines()
+    if done.returncode < 0:
+        return f"was ended by signal {-done.returncode}"
+    if done.returncode == USAGE:
+        return (
+            f"{done.args[0]} is older than this tool: it does not know {' '.join(done.args[1:-1])}"
+        )
+    return lines[-1].replace("staat: ", "", 1) if lines else f"staat ended with {done.returncode}"

@@ -6,16 +6,20 @@ import os
 import shlex
 import sys
 from fractions import Fraction
-from typing import List, NoReturn, Sequence, Tuple
+from typing import Iterable, List, NoReturn, Optional, Sequence, Tuple
 
 import numpy
 
-from . import planner, report, summary
-from .answers import OfPlan, Planner
+from . import overlapping, planner, report, summary
+from .answers import OfDecide, Overlapping, Planner, Told
+from .certificate import Vector
 from .convex import clear
 from .cut import cut
-from .ordering import runs_of
+from .joining import joined
+from .named import Parts, read_parts
+from .ordering import Run, runs_of
 from .overlaps import overlaps
+from .planner import Place, place_of
 from .precedence import GRAPH, PICTURE, graph_of, write_graph
 from .product import Asked, Product, read_product
 from .show.command import SHOWN, show
@@ -60,13 +64,23 @@ def clearance_of(text: str) -> Tuple[str, float]:
     return name, float(length_of(length))
 
 
-def along_of(text: str) -> Tuple[int, int, int]:
+def along_of(text: str) -> Vector:
     """A direction, as 0,0,1."""
     try:
         x, y, z = map(int, text.split(","))
     except ValueError as fault:
         raise argparse.ArgumentTypeError(f"{text} is no three whole numbers, as 0,0,1") from fault
+    if not (x or y or z):
+        raise argparse.ArgumentTypeError("0,0,0 is no direction")
     return x, y, z
+
+
+def names_of(text: str) -> List[str]:
+    """Two names or more with commas between, as lid,pin."""
+    names = text.split(",")
+    if len(names) < 2 or not all(names):
+        raise argparse.ArgumentTypeError(f"{text} is no two names with a comma between")
+    return names
 
 
 def each_of(text: str) -> str:
@@ -95,17 +109,17 @@ def parser() -> Words:
     plan = commands.add_parser(
         "plan",
         help="the steps that take what pieces wrote apart, by the names of the model",
-        description="Tells by the names of the model the checked steps that take the product in a folder apart, and "
-        "writes them to plan.json there.",
+        description="Tells by the names of the model the checked steps that take the product in a folder apart, which "
+        "orders are possible, and the way back, and writes it to plan.json there.",
     )
-    plan.add_argument("folder", metavar="FOLDER", help="what pieces wrote")
+    plan.add_argument("folder", metavar="FOLDER", help="what pieces wrote, or a part list")
     cause = commands.add_parser(
         "why",
         help="of parts that are stuck, who holds whom; of a part, what is in its way",
         description="Tells of the parts in a folder that are stuck who holds whom, and without which of them the "
         "others come apart; or what is in the way of a part along a direction.",
     )
-    cause.add_argument("folder", metavar="FOLDER", help="what pieces wrote")
+    cause.add_argument("folder", metavar="FOLDER", help="what pieces wrote, or a part list")
     cause.add_argument("--part", metavar="NAME", help="a part, by its name or its number")
     cause.add_argument(
         "--along", type=along_of, metavar="X,Y,Z", help="a direction in whole numbers, as 0,0,1"
@@ -210,6 +224,14 @@ def add_cutting(one: argparse.ArgumentParser) -> None:
         help="faces of all parts, or of one, move inwards by this where they meet other parts",
     )
     one.add_argument(
+        "--join",
+        type=names_of,
+        action="append",
+        default=[],
+        metavar="A,B",
+        help="parts that stay together, by name or number: they are one part. It may be given several times",
+    )
+    one.add_argument(
         "--seconds",
         type=length_of,
         default=Fraction(60),
@@ -267,6 +289,7 @@ def write_pieces(given: argparse.Namespace) -> Tuple[int, bool]:
     options = options_of(given)
     asked = Asked(given.each, None if given.merge is None else float(given.merge))
     product = read_product(given.models, options, asked, given.grid)
+    joined(product, given.join)
     cuts = cut_product(product, options)
     if cuts:
         output = Output(given.out, product.inputs)
@@ -301,19 +324,65 @@ def told(folder: str, product: Product, cuts: Sequence[summary.Cut], options: Op
     return OVERLAPPED if overlapped else 0
 
 
-def plan(folder: str, asked: Planner) -> int:
-    """Tells a checked answer and writes it; 1 where parts are stuck. Refusal: there is no answer."""
-    parts = report.read_parts(folder)
+def plan(place: Place, asked: Planner) -> Tuple[int, Optional[Told]]:
+    """Tells a checked answer and writes it: the status, 1 where parts are stuck or overlap, and the answer if any.
+
+    What cannot be told of the orders is passed over, and the status is 3. Refusal: there is no answer.
+    """
+    parts = read_parts(place)
+    clean(place.beside, (report.PLAN, report.CERTIFICATE, GRAPH, PICTURE))
     try:
-        answer = asked.answer(folder)
+        told = asked.told()
+    except Overlapping as fault:
+        return overlapped(place, parts, fault), None
+    answer = told.answer
+    print("\n".join(report.lines_of(answer, parts)), flush=True)
+    status = STUCK if answer.groups else 0
+    try:
+        runs = runs_of(answer.steps, asked)
     except Refusal as fault:
-        raise Refusal(report.in_names(str(fault), parts)) from fault
-    runs = runs_of(answer.steps, asked, folder)
-    print("\n".join(report.lines_of(answer, runs, parts)))
-    print("written " + report.write_plan(folder, report.plan_of(answer, runs, parts)))
+        print(f"staat-cad: which orders are possible is not told: {fault}", file=sys.stderr)
+        runs, status = runs_of(answer.steps, None), REFUSED
+    lines = report.step_lines(runs, parts) + report.assembly_lines(answer, parts)
+    print("\n".join(lines + report.foot_lines(place, parts, told.verdict)), flush=True)
+    write_answer(place, told, runs, parts)
+    return status, told
+
+
+def write_answer(place: Place, told: Told, runs: Sequence[Run], parts: Parts) -> None:
+    """Writes the answer, its certificate, and the orders as a graph. Refusal: one of them cannot be written."""
+    folder = place.beside
+    plan_data = report.plan_of(told.answer, runs, parts, told.verdict)
+    print("written " + report.write_text(folder, report.CERTIFICATE, told.certificate))
+    print("written " + report.write_plan(folder, plan_data))
     for path in write_graph(folder, graph_of(runs, parts)):
         print(f"written {path}")
-    return STUCK if answer.stuck else 0
+
+
+def overlapped(place: Place, parts: Parts, fault: Overlapping) -> int:
+    """Tells which parts overlap, and writes it; 1. Refusal: `staat` and this tool do not agree that some do."""
+    clashes = overlapping.clashes_of(parts)
+    if not any((clash.part, clash.by) == (fault.pair.part, fault.pair.by) for clash in clashes):
+        raise fault
+    print("\n".join(overlapping.lines_of(clashes, parts)))
+    print("written " + report.write_plan(place.beside, report.overlap_plan(clashes, parts)))
+    return OVERLAPPED
+
+
+def clean(folder: str, names: Iterable[str]) -> None:
+    """Takes away what there is of an earlier call. Refusal: it cannot be."""
+    for name in names:
+        path = os.path.join(folder, name)
+        try:
+            if os.path.exists(path):
+                os.remove(path)
+        except OSError as fault:
+            raise Refusal(f"cannot write to {folder}: {fault.strerror}") from fault
+
+
+def plan_alone(given: argparse.Namespace) -> int:
+    place = place_of(given.folder)
+    return plan(place, OfDecide(place))[0]
 
 
 def whole(given: argparse.Namespace) -> int:
@@ -324,27 +393,26 @@ def whole(given: argparse.Namespace) -> int:
     status, is_written = write_pieces(given)
     if not is_written:
         return status
-    for name in (report.PLAN, GRAPH, PICTURE, *SHOWN):
-        if os.path.exists(os.path.join(given.out, name)):
-            os.remove(os.path.join(given.out, name))
-    is_told = False
+    clean(given.out, SHOWN)
+    place, told, is_told = Place(given.out), None, False
     try:
-        status = max(status, plan(given.out, OfPlan()))
+        found, told = plan(place, OfDecide(place))
+        status, is_told = max(status, found), told is None
     except Refusal as fault:
-        is_told = True
-        status = REFUSED
+        is_told, status = True, REFUSED
         print(f"staat-cad: {fault}", file=sys.stderr)
-    return max(status, show(given.out, None, is_told))
+    return max(status, show(given.out, None, told, is_told))
 
 
 def tell_why(given: argparse.Namespace) -> int:
-    print("\n".join(why_lines(given.folder, given.part, given.along)))
+    for line in why_lines(place_of(given.folder), given.part, given.along):
+        print(line, flush=True)
     return 0
 
 
 COMMANDS = {
     "pieces": pieces,
-    "plan": lambda given: plan(given.folder, OfPlan()),
+    "plan": plan_alone,
     "run": lambda given: planner.run(given.folder, given.asked, given.words),
     "show": lambda given: show(given.folder, given.out),
     "why": tell_why,

@@ -2,9 +2,10 @@
 from __future__ import annotations
 
 from dataclasses import dataclass
-from typing import Dict, Iterable, List, Sequence, Set, Tuple
+from typing import Dict, Iterable, List, Optional, Sequence, Set, Tuple
 
-from .answers import Arc, Planner, Step
+from .answers import Arc, Planner
+from .certificate import Step, Vector
 
 
 @dataclass(frozen=True)
@@ -12,17 +13,18 @@ class Run:
     """Steps that follow each other along one direction.
 
     first: the number of the first of them, from 0; units: the sets of parts that they take apart, each of which stays
-    together; before: pairs of units, of which the first has to leave before the second one. What follows from others
-    is left out
+    together; before: pairs of units, of which the first has to leave before the second one, where there are several
+    steps. What follows from others is left out; is_known: whether the planner told it
     """
 
     first: int
     steps: Tuple[Step, ...]
     units: Tuple[Tuple[int, ...], ...]
     before: Tuple[Tuple[int, int], ...]
+    is_known: bool = True
 
     @property
-    def along(self) -> Tuple[int, int, int]:
+    def along(self) -> Vector:
         return self.steps[0].along
 
     def moves(self, unit: int) -> bool:
@@ -30,20 +32,24 @@ class Run:
         return any(self.units[unit][0] in step.moved for step in self.steps)
 
 
-def runs_of(steps: Sequence[Step], planner: Planner, folder: str) -> List[Run]:
-    """The steps in runs, with the orders that each of them allows."""
+def runs_of(steps: Sequence[Step], planner: Optional[Planner]) -> List[Run]:
+    """The steps in runs, with the orders that each of them allows, where a planner is there to tell them.
+
+    Refusal: it does not.
+    """
     found: List[Run] = []
-    arcs: Dict[Tuple[int, int, int], Set[Arc]] = {}
+    arcs: Dict[Vector, Set[Arc]] = {}
     start = 0
     for number in range(1, len(steps) + 1):
         if number < len(steps) and steps[number].along == steps[start].along:
             continue
         some = tuple(steps[start:number])
         along = some[0].along
-        if along not in arcs:
-            arcs[along] = planner.arcs(folder, along)
         units = units_of(some)
-        found.append(Run(start, some, units, before(units, arcs[along], some)))
+        if planner is not None and along not in arcs and len(some) > 1:
+            arcs[along] = planner.arcs(along)
+        pairs = before(units, arcs[along], some) if planner and len(some) > 1 else ()
+        found.append(Run(start, some, units, pairs, planner is not None or len(some) == 1))
         start = number
     return found
 

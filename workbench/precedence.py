@@ -8,7 +8,8 @@ import subprocess
 from typing import List, Sequence
 
 from .ordering import Run
-from .report import Parts, direction
+from .named import Parts
+from .report import direction
 from .solid import Refusal
 
 GRAPH, PICTURE = "order.dot", "order.svg"

@@ -1,11 +1,42 @@
-"""A line on standard error that shows how far the work is, where it takes longer than two seconds."""
+"""What is shown on standard error of work that takes longer than two seconds, where that is a terminal."""
 from __future__ import annotations
 
+import contextlib
 import sys
+import threading
+import time
 from types import TracebackType
-from typing import Any, Optional, Type
+from typing import Any, Iterator, Optional, Type
 
 DELAY = 2.0  # seconds
+TICK = 1.0  # seconds
+
+
+@contextlib.contextmanager
+def waiting(what: str) -> Iterator[None]:
+    """Shows what is waited for, and for how long already. The line is gone once it is done."""
+    if not sys.stderr.isatty():
+        yield
+        return
+    is_done = threading.Event()
+    teller = threading.Thread(target=tell, args=(what, is_done), daemon=True)
+    teller.start()
+    try:
+        yield
+    finally:
+        is_done.set()
+        teller.join()
+
+
+def tell(what: str, is_done: threading.Event) -> None:
+    began = time.monotonic()
+    is_told = False
+    pause = DELAY
+    while not is_done.wait(pause):
+        print(f"\r{what}: {time.monotonic() - began:.0f} s", end="", file=sys.stderr, flush=True)
+        is_told, pause = True, TICK
+    if is_told:
+        print("\r\033[K", end="", file=sys.stderr, flush=True)
 
 
 class Progress:

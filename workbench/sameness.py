@@ -2,6 +2,7 @@
 from __future__ import annotations
 
 import re
+from dataclasses import dataclass
 from typing import Dict, List, Sequence, Tuple
 
 import numpy
@@ -10,11 +11,17 @@ from scipy.spatial import ConvexHull
 from .solid import Piece
 
 NEAR = 1e-3  # of their greatest: numbers that are the same of two parts differ by no more
+CUT = 0.05  # the same of two that the model takes for one: round faces were cut at different angles
 
 
 def plain_name(name: str) -> str:
     """The name without the assemblies that it stands in, and without the numbers of copies: BOLT of A::1/B::2/BOLT."""
     return re.sub(r"(::\d+|-\d+)+$", "", name.rstrip("/").split("/")[-1]) or name
+
+
+def copies_of(name: str) -> bool:
+    """Whether the model says that a part is one of several copies, as A::1/B::2/BOLT."""
+    return "::" in name
 
 
 def measure(pieces: Sequence[Piece]) -> numpy.ndarray:
@@ -35,17 +42,35 @@ def measure(pieces: Sequence[Piece]) -> numpy.ndarray:
 
 
 def same_parts(parts: Sequence[Tuple[str, List[Piece]]]) -> List[Tuple[str, List[int]]]:
-    """The parts in groups of those that are the same, each with its plain name, in order of the first."""
-    groups: Dict[str, List[Tuple[numpy.ndarray, int, List[int]]]] = {}
+    """The parts in groups of those that are the same, each with its plain name, in order of the first.
+
+    Where the model says that they are copies, their pieces need be alike only as far as cutting leaves them so.
+    Different groups of one name get numbers behind it.
+    """
+    groups: Dict[str, List[Tuple[Likeness, List[int]]]] = {}
     order: List[Tuple[str, List[int]]] = []
     for number, (name, pieces) in enumerate(parts):
-        plain, sizes = plain_name(name), measure(pieces)
-        for other, many, members in groups.setdefault(plain, []):
-            if many == len(pieces) and numpy.abs(other - sizes).max() <= NEAR * other.max():
-                members.append(number)
-                break
-        else:
-            members = [number]
-            groups[plain].append((sizes, len(pieces), members))
-            order.append((plain, members))
+        plain, like = plain_name(name), Likeness(measure(pieces), len(pieces), copies_of(name))
+        known = groups.setdefault(plain, [])
+        members = next((members for other, members in known if like.is_that_of(other)), None)
+        if members is None:
+            members = []
+            order.append((f"{plain} (kind {len(known) + 1})" if known else plain, members))
+            known.append((like, members))
+        members.append(number)
     return order
+
+
+@dataclass(frozen=True)
+class Likeness:
+    """What parts have in common that are the same: sizes, how many pieces, and whether the model has copies of it."""
+
+    sizes: numpy.ndarray
+    many: int
+    is_copy: bool
+
+    def is_that_of(self, other: "Likeness") -> bool:
+        off = float(numpy.abs(other.sizes - self.sizes).max() / other.sizes.max())
+        return (
+            off <= NEAR and self.many == other.many or self.is_copy and other.is_copy and off <= CUT
+        )

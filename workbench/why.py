@@ -4,27 +4,32 @@ from __future__ import annotations
 import json
 import os
 import tempfile
-from typing import List, Optional, Sequence, Set
+from dataclasses import replace
+from typing import Iterator, List, Optional, Sequence, Set
 
-from .answers import Arc, OfPlan
-from .report import Parts, Vector, direction, read_parts
-from .show.holds import holds_of
-from .show.plans import Hold
+from .answers import Arc, OfDecide
+from .certificate import Group, Hold, Pair, Vector
+from .meeting import ways_to_meet
+from .named import Parts, listed_alone, read_parts
+from .planner import Place
+from .progress import Progress
+from .report import direction
 from .solid import Refusal
 from .writing import LIST
 
 
-def why(folder: str, part: Optional[str], along: Optional[Vector]) -> List[str]:
-    """The lines for a part and a direction; for neither, those for the parts that are stuck.
+def why(place: Place, part: Optional[str], along: Optional[Vector]) -> Iterator[str]:
+    """The lines for a part and a direction, or for the parts that are stuck, each as soon as it is known.
 
     Refusal: there is no such part, or `staat` has no answer that its checker calls valid.
     """
-    parts = read_parts(folder)
+    parts = read_parts(place)
+    planner = OfDecide(place)
     if part is None and along is None:
-        return lines_of_stuck(folder, parts)
+        return lines_of_stuck(place, parts)
     if part is None or along is None:
         raise Refusal("a part and a direction go together: --part=NAME --along=X,Y,Z")
-    return lines_of_way(number_of(part, parts), along, OfPlan().arcs(folder, along), parts)
+    return iter(lines_of_way(number_of(part, parts), along, planner.arcs(along), parts))
 
 
 def number_of(part: str, parts: Parts) -> int:
@@ -40,7 +45,7 @@ def number_of(part: str, parts: Parts) -> int:
 
 def lines_of_way(part: int, along: Vector, arcs: Set[Arc], parts: Parts) -> List[str]:
     """What blocks a part along a direction, and with which parts it leaves the others, where it does."""
-    way = f"{parts.names[part]} along {direction(along)}"
+    way = f"{parts.short[part]} along {direction(along)}"
     blocking = sorted(other for one, other in arcs if one == part)
     if not blocking:
         return [f"nothing is in the way of {way}"]
@@ -67,43 +72,55 @@ def taken_along(part: int, arcs: Set[Arc]) -> Set[int]:
     return found
 
 
-def lines_of_stuck(folder: str, parts: Parts) -> List[str]:
+def lines_of_stuck(place: Place, parts: Parts) -> Iterator[str]:
     """Who holds whom of the parts that are stuck, and which of them, taken away, lets the others come apart."""
-    answer, certificate = OfPlan().shown(folder)
-    if not answer.stuck:
-        return ["comes apart: no parts are stuck"]
-    lines = []
-    for group in answer.stuck:
-        lines.append(f"stuck: {parts.called(group)}")
-        lines += lines_of_holds(list(holds_of(certificate)), parts)
-        freeing = [
-            part for part in group if comes_apart(folder, [one for one in group if one != part])
-        ]
-        lines += [f"without {parts.names[part]} the others come apart" for part in freeing]
-        if not freeing:
-            lines.append("without any one of them the others are stuck still")
-    return lines
+    groups = OfDecide(place).told().answer.groups
+    if not groups:
+        yield "comes apart: no parts are stuck"
+    for group in groups:
+        yield f"stuck: {parts.called(group.parts)}"
+        for hold in group.holds:
+            yield from lines_of_hold(hold, parts)
+        yield from lines_of_freeing(place, group, parts)
 
 
-def lines_of_holds(holds: Sequence[Hold], parts: Parts) -> List[str]:
-    """The pairs of pieces that meet, by directions."""
-    lines: List[str] = []
-    last: Optional[Vector] = None
-    for hold in holds:
-        if hold.along != last:
-            lines.append(f"along {direction(hold.along)}, and backwards the other way round")
-            last = hold.along
-        one, other = parts.names[hold.part], parts.names[hold.by]
-        lines.append(f"   {one} is held by {other}: piece {hold.piece} meets piece {hold.by_piece}")
-    return lines
+def lines_of_hold(hold: Hold, parts: Parts) -> Iterator[str]:
+    """The sets of parts that a hold joins, and the pairs of pieces by which it does, with the directions."""
+    nodes = [
+        parts.short[node[0]] if len(node) == 1 else f"({parts.called(node)})" for node in hold.nodes
+    ]
+    yield f"held together: {', '.join(nodes)}"
+    for pair in hold.pairs:
+        one, other = parts.short[pair.part], parts.short[pair.by]
+        ways = ", ".join(map(direction, ways_of(pair, parts)))
+        yield (
+            f"   {one} runs into {other} along {ways}, and {other} into {one} backwards: "
+            f"piece {pair.piece} meets piece {pair.by_piece}"
+        )
 
 
-def comes_apart(folder: str, some: Sequence[int]) -> bool:
+def ways_of(pair: Pair, parts: Parts) -> List[Vector]:
+    """Directions along which the piece of the first part, moved, meets that of the second."""
+    return ways_to_meet(parts.body(pair.part, pair.piece), parts.body(pair.by, pair.by_piece))
+
+
+def lines_of_freeing(place: Place, group: Group, parts: Parts) -> Iterator[str]:
+    """Each part of a group without which the others of it come apart, found by asking for the others alone."""
+    is_freed = False
+    with Progress("parts left out", len(group.parts)) as progress:
+        for part in group.parts:
+            if comes_apart(place, [one for one in group.parts if one != part]):
+                yield f"without {parts.short[part]} the others come apart"
+                is_freed = True
+            progress.step()
+    if not is_freed:
+        yield "without any one of them the others are stuck still"
+
+
+def comes_apart(place: Place, some: Sequence[int]) -> bool:
     """Whether these parts alone come apart. Refusal: there is no answer that the checker calls valid."""
-    with open(os.path.join(folder, LIST), encoding="utf-8") as file:
-        listed = json.load(file)["parts"]
-    with tempfile.TemporaryDirectory() as place:
-        path = os.path.join(place, LIST)
+    with tempfile.TemporaryDirectory() as folder:
+        path = os.path.join(folder, LIST)
         with open(path, "w", encoding="utf-8") as file:
-            json.dump({"parts": [listed[number] for number in some]}, file)
-        return not OfPlan(path).answer(folder).stuck
+            json.dump(listed_alone(place, some), file)
+        return not OfDecide(replace(place, listed=path)).told().answer.groups

@@ -8,9 +8,8 @@ from __future__ import annotations
 from dataclasses import dataclass
 from typing import List, NamedTuple, Optional, Sequence, Tuple
 
-from ..answers import Step
+from ..certificate import Step, Vector
 
-Vector = Tuple[int, int, int]
 Parts = Tuple[int, ...]
 
 NOWHERE: Vector = (0, 0, 0)

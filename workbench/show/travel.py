@@ -4,7 +4,7 @@ from __future__ import annotations
 from dataclasses import dataclass
 from typing import List, Sequence
 
-from ..answers import Step
+from ..certificate import Step
 from .plans import NOWHERE, Plan, Vector, moved_by
 
 
