@@ -118,6 +118,8 @@ class Reader:
         """Adds the group whose first hold is the next line; its parts."""
         joined: Dict[int, Tuple[int, ...]] = {}
         holds: List[Hold] = []
+        if not self.ahead("hold"):
+            raise ValueError("no hold")
         while self.ahead("hold"):
             self.next()
             names, pairs = [], []
@@ -126,8 +128,8 @@ class Reader:
             while self.ahead("pair"):
                 pairs.append(Pair(*map(int, self.next()[1:])))
             holds.append(Hold(tuple(joined.get(name, (name,)) for name in names), tuple(pairs)))
-            joined[names[0]] = tuple(sorted(part for node in holds[-1].nodes for part in node))
-        parts = joined[names[0]]
+            parts = tuple(sorted(part for node in holds[-1].nodes for part in node))
+            joined[names[0]] = parts
         self.groups.append(Group(parts, tuple(holds)))
         return parts
 

@@ -12,7 +12,12 @@ import tempfile
 from dataclasses import dataclass
 from typing import Any, Dict, List, Tuple
 
+import numpy
+
 from workbench import planner
+from workbench.planner import place_of
+from workbench.reading.lists import read_list
+from workbench.reading.off import read_off
 from workbench.show import command
 from workbench.show.command import Shown, shown_of
 
@@ -43,7 +48,7 @@ def staat(*words: str) -> str:
 
 @dataclass(frozen=True)
 class Move:
-    """A step as `staat plan` prints it."""
+    """A step as `staat` prints it."""
 
     moved: List[int]
     along: List[int]
@@ -61,7 +66,7 @@ class Said:
     def places(self) -> List[List[Place]]:
         """Where each part is before the first step, and after each.
 
-        How far a step leads follows from `explode`: of each side there is a part that rests in all later steps.
+        How far a step leads follows from where they are in the end: of each side there is a part that rests in all later steps.
         """
         at: List[Place] = [(0, 0, 0)] * len(self.shifts)
         found: List[List[Place]] = [list(at)]
@@ -86,25 +91,73 @@ class Said:
         return next(part for part in side if part not in later)
 
 
+def moves_of(text: str) -> List[Move]:
+    """The steps that `staat` prints."""
+    return [
+        Move(*(list(map(int, words.split())) for words in line))
+        for line in re.findall(r"move (.*) along (.*) away from (.*)", text)
+    ]
+
+
 @functools.lru_cache(maxsize=None)
-def said(name: str) -> Said:
+def planned(name: str) -> Said:
     """What `staat plan` and `staat explode` print, read."""
     manifest = f"--manifest={listed(name)}"
     plan = staat("plan", manifest)
-    moves = [
-        Move(*(list(map(int, words.split())) for words in line))
-        for line in re.findall(r"move (.*) along (.*) away from (.*)", plan)
-    ]
     stuck = [int(word) for word in plan.split()[1:]] if plan.startswith("stuck") else []
     shifts = re.findall(r"shift \d+ by (\S+) (\S+) (\S+)", staat("explode", manifest))
-    return Said(moves, [tuple(map(int, shift)) for shift in shifts], stuck)
+    return Said(moves_of(plan), [tuple(map(int, shift)) for shift in shifts], stuck)
+
+
+@functools.lru_cache(maxsize=None)
+def said(name: str) -> Said:
+    """What `staat decide` prints, read, and where the parts are then, by the rule of `explode`."""
+    told = staat("decide", f"--manifest={listed(name)}")
+    stuck = [int(word) for word in told.split()[1:]] if told.startswith("stuck") else []
+    moves = moves_of(told)
+    return Said(moves, apart(moves, boxes(name)), stuck)
+
+
+def boxes(name: str) -> List[Tuple[numpy.ndarray, numpy.ndarray]]:
+    """The least and the greatest coordinates of each part."""
+    with contextlib.chdir(TOP):
+        parts = read_list(listed(name))
+    found = []
+    for part in parts:
+        rows: List[List[float]] = []
+        for path in part.files:
+            with open(os.path.join(TOP, path), "rb") as file:
+                rows += [list(point)[:3] for point in read_off(file.read())[0]]
+        points = numpy.array(rows) + numpy.array(part.at)
+        found.append((points.min(axis=0), points.max(axis=0)))
+    return found
+
+
+def apart(moves: List[Move], found: List[Tuple[numpy.ndarray, numpy.ndarray]]) -> List[Place]:
+    """Where the parts are after all steps: each, the last first, leads on until the boxes of its sides are apart."""
+    at = numpy.zeros((len(found), 3), dtype=int)
+    for move in reversed(moves):
+        axis = [number != 0 for number in move.along].index(True)
+        while not is_past(move, axis, at, found):
+            at[move.moved] += numpy.array(move.along)
+    return [tuple(map(int, row)) for row in at]
+
+
+def is_past(
+    move: Move, axis: int, at: numpy.ndarray, found: List[Tuple[numpy.ndarray, numpy.ndarray]]
+) -> bool:
+    """Whether the boxes of what moves are beyond those of what rests, by 1 at least."""
+    ahead, behind = (move.moved, move.rest) if move.along[axis] > 0 else (move.rest, move.moved)
+    low = min(found[part][0][axis] + at[part][axis] for part in ahead)
+    high = max(found[part][1][axis] + at[part][axis] for part in behind)
+    return bool(low >= high + 1)
 
 
 @functools.lru_cache(maxsize=None)
 def shown(name: str) -> Shown:
     """What is shown of a product."""
     with contextlib.chdir(TOP):
-        return shown_of(listed(name))
+        return shown_of(place_of(listed(name)))
 
 
 def write_files(what: Shown, path: str) -> None:

@@ -93,9 +93,8 @@ class Pages(InBrowser):
             self.assertEqual(self.lit(), sorted(lit))
             arcs = self.arcs(name, hold["along"])
             self.assertIn(f"arc {hold['part']} {hold['by']}", arcs)
-        for along in (hold["along"] for hold in group["holds"]):
-            held = {hold["part"] for hold in group["holds"] if hold["along"] == along}
-            self.assertEqual(sorted(held), parts)
+        held = {part for hold in group["holds"] for part in (hold["part"], hold["by"])}
+        self.assertEqual(sorted(held), parts)
 
     def arcs(self, name: str, along: List[int]) -> List[str]:
         direction = ",".join(map(str, along))

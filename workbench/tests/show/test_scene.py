@@ -7,9 +7,8 @@ from typing import Sequence, Tuple
 
 import numpy
 
-from workbench.answers import Step
+from workbench.certificate import Step
 from workbench.show.creases import Body, creases
-from workbench.show.holds import read
 from workbench.show.plans import Plan, places
 from workbench.show.scene import Part, colour_of, triangles
 from workbench.show.surface import surface
@@ -95,7 +94,7 @@ class Drawn(unittest.TestCase):
 class Travel(unittest.TestCase):
     def test_steps_end_where_explode_says(self) -> None:
         for name in kit.products():
-            said = kit.said(name)
+            said = kit.planned(name)
             if said.stuck:
                 continue
             with self.subTest(name):
@@ -117,14 +116,3 @@ class Travel(unittest.TestCase):
         boxes = [Box((0, 0, 0), (1, 1, 1)), Box((5, 0, 0), (6, 1, 1))]
         self.assertEqual(travels(Plan((Step((1,), (2, 0, 0), (0,)),)), boxes), [0])
         self.assertEqual(travels(Plan((Step((1,), (-2, 0, 0), (0,)),)), boxes), [4])
-
-
-class Certificates(unittest.TestCase):
-    def test_the_arcs_of_each_witness_and_the_axes(self) -> None:
-        text = (
-            "STAAT 2\nparts 2\nstuck 0 1\nwitness 0\nout 0 1 1 2\nin 1 3 0 4\n"
-            "witness 1\nout 0 0 1 0\nin 1 0 0 0\ndir 0 0 1 1\ndir 0 1 0 0\ndir 1 0 0 0\ndir 1 2 3 1\nend\n"
-        )
-        witnesses, chosen = read(text)
-        self.assertEqual(witnesses, [[(0, 1, 1, 2), (1, 3, 0, 4)], [(0, 0, 1, 0), (1, 0, 0, 0)]])
-        self.assertEqual(chosen, {(0, 0, 1): 1, (0, 1, 0): 0, (1, 0, 0): 0})

@@ -13,6 +13,7 @@ from typing import Any, Dict, Tuple
 import numpy
 
 from workbench.__main__ import start
+from workbench.planner import Place
 from workbench.show.command import PAPER, PRODUCT, REPORT, STRIP, shown_of
 from workbench.solid import Refusal
 from workbench.surfaces import SURFACES, read_surfaces
@@ -81,7 +82,7 @@ class Whole(InBrowser):
         files = angle_and_block(self.scratch.name)
         status, out, err = called(*files, "--grid=0.01", "--out", self.out())
         self.assertEqual((status, err), (0, ""), out)
-        for name in ("parts.json", "plan.json", REPORT, PRODUCT, STRIP, PAPER):
+        for name in ("parts.json", "plan.cert", "plan.json", REPORT, PRODUCT, STRIP, PAPER):
             self.assertIn(f"written {self.out(name)}", out.splitlines())
         self.starts(STRIP, b"\x89PNG")
         self.starts(PAPER, b"%PDF")
@@ -92,10 +93,9 @@ class Whole(InBrowser):
         checked = self.text("#checks")
         for words in (
             "staat-cad " + files[0],
-            "staat look",
-            "staat plan",
-            "staat check",
-            "explode",
+            "staat decide --rest --cert",
+            "staat confirm",
+            "valid plan",
         ):
             self.assertIn(words, checked)
         self.assertIn("grid of 1/100", self.text("#near"))
@@ -122,9 +122,7 @@ class Whole(InBrowser):
         files = angle_and_block(self.scratch.name)
         called("pieces", *files, "--grid=0.01", "--out", self.out())
         os.remove(self.out(SURFACES))
-        self.assertEqual(
-            [part.drawn for part in shown_of(self.out("parts.json")).parts], [None] * 2
-        )
+        self.assertEqual([part.drawn for part in shown_of(Place(self.out())).parts], [None] * 2)
 
     def test_surfaces_of_other_parts_are_not_shown(self) -> None:
         files = angle_and_block(self.scratch.name)
@@ -137,7 +135,7 @@ class Whole(InBrowser):
         with open(other, "w", encoding="ascii") as file:
             file.write(off(corners((0, 0, 0.1), (0.2, 0.2, 0.2)), SIDES))
         called("pieces", angle, other, "--grid=0.01", "--out", self.out())
-        shown = shown_of(self.out("parts.json"))
+        shown = shown_of(Place(self.out()))
         kit.write_files(shown, self.out())
         self.open_in(self.out())
         self.assertIn("no plan: angle and other overlap", self.text("#answer"))
@@ -160,9 +158,9 @@ class Whole(InBrowser):
             with unittest.mock.patch(CHROMIUM, side_effect=Refusal("chromium is missing")):
                 status, _, err = called("show", self.out())
         self.assertEqual(status, 3)
-        wanted = ["staat was ended by signal 9", "chromium is missing"]
+        wanted = ["staat decide was ended by signal 9", "chromium is missing"]
         self.assertEqual(err.splitlines(), [f"staat-cad: {line}" for line in wanted])
         self.open_in(self.out())
-        self.assertIn("no plan: staat was ended by signal 9", self.text("#answer"))
+        self.assertIn("no plan: staat decide was ended by signal 9", self.text("#answer"))
         self.assertIn("There is no plan", self.text("#now"))
         self.quiet()
