@@ -184,6 +184,12 @@ def add_reading(one: argparse.ArgumentParser) -> None:
         help="points so near each other are one where a surface is open; else a millionth of the extent of the file",
     )
     one.add_argument(
+        "--upright",
+        action="store_true",
+        help="turn a product of meshes such that most of its faces lie along the axes, where its pieces are exact; "
+        "directions are told as they are in the model",
+    )
+    one.add_argument(
         "--grid",
         type=length_of,
         metavar="G",
@@ -287,7 +293,7 @@ def pieces(given: argparse.Namespace) -> int:
 def write_pieces(given: argparse.Namespace) -> Tuple[int, bool]:
     """Cuts the models; the status, and whether a part list was written. Refusal: nothing can be cut or written."""
     options = options_of(given)
-    asked = Asked(given.each, None if given.merge is None else float(given.merge))
+    asked = Asked(given.each, None if given.merge is None else float(given.merge), given.upright)
     product = read_product(given.models, options, asked, given.grid)
     joined(product, given.join)
     cuts = cut_product(product, options)

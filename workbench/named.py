@@ -72,6 +72,7 @@ class Parts:
     same: name and numbers of parts that are alike, in the order of the first of each; one that is like no other too
     unit: of the model, empty where none is known; grid: how much of it a step is
     over, under: how far pieces go beyond their parts and fall short of them, at most; model units
+    axes: directions of the model that are the axes of the files, where these are others
     side, command: on which side of the parts the pieces are wanted, and the call that made them; else empty
     """
 
@@ -84,6 +85,17 @@ class Parts:
     under: float = 0.0
     side: str = ""
     command: str = ""
+    axes: Optional[List[List[float]]] = None
+
+    def unit_vector(self, along: Vector) -> List[float]:
+        """A direction as a unit vector of the model, to six digits."""
+        way = numpy.array(along, dtype=float)
+        if self.axes is not None:
+            way = way @ numpy.array(self.axes)
+        return [round(float(number), 6) + 0.0 for number in way / numpy.linalg.norm(way)]
+
+    def direction(self, along: Vector) -> str:
+        return "(" + ", ".join(f"{number:g}" for number in self.unit_vector(along)) + ")"
 
     @cached_property
     def boxes(self) -> List[Tuple[numpy.ndarray, numpy.ndarray]]:
@@ -157,6 +169,7 @@ def read_parts(place: Place) -> Parts:
         found.over = max(part["over"] for part in model["parts"])
         found.under = max(part["under"] for part in model["parts"])
         found.side, found.command = model["side"], model.get("command", "")
+        found.axes = model.get("axes")
     return found
 
 

@@ -9,7 +9,6 @@ from typing import List, Sequence
 
 from .ordering import Run
 from .named import Parts
-from .report import direction
 from .solid import Refusal
 
 GRAPH, PICTURE = "order.dot", "order.svg"
@@ -34,7 +33,7 @@ def box_of(number: int, run: Run, parts: Parts) -> List[str]:
     if not pairs:
         return []
     last = run.first + len(run.steps)
-    title = f"steps {run.first + 1} to {last} along {direction(run.along)}"
+    title = f"steps {run.first + 1} to {last} along {parts.direction(run.along)}"
     lines = [f" subgraph cluster_{number} {{", f"  label={json.dumps(title, ensure_ascii=False)}"]
     for unit in sorted({unit for pair in pairs for unit in pair}):
         name = json.dumps(parts.called(run.units[unit]), ensure_ascii=False)

@@ -10,6 +10,7 @@ import numpy
 
 from .brep import Body, Region
 from .closing import Shell, holds, shells_of
+from .convex.frames import frame_of
 from .facets import Faceted, Unfit, faceted, noted
 from .grids import finest, short, written
 from .lattices import Axes
@@ -37,6 +38,7 @@ class Product:
 
     lost: for each part that is left out its name and the line that says why
     shared: how many axes have round faces of different parts on them; meshed: the solids that gmsh meshed
+    frame: rows are the directions of the model that are the axes here, where it was turned upright
     """
 
     parts: List[Part]
@@ -46,6 +48,7 @@ class Product:
     shared: int = 0
     meshed: List[str] = field(default_factory=list)
     inputs: List[str] = field(default_factory=list)
+    frame: Optional[numpy.ndarray] = None
 
 
 @dataclass
@@ -66,10 +69,12 @@ class Asked:
 
     each: "solid", "file", "name", or the number of levels of a STEP file's assembly that make a part
     merge: points so near each other are one where a surface is open; model units
+    is_upright: a product of meshes is turned such that most of its faces lie along the axes
     """
 
     each: str = "name"
     merge: Optional[float] = None
+    is_upright: bool = False
 
 
 # Files
@@ -358,6 +363,7 @@ def read_product(
     if asked.each == "solid":
         each_apart(reading.items)
     named_parts(reading, ends)
+    frame = turned_upright(reading.items) if asked.is_upright else None
     chosen = grid_for(extent_of(reading.items), grid)
     scale = options.scale = 1 / chosen
     made = Solids(reading.items, options)
@@ -374,7 +380,20 @@ def read_product(
             lost.setdefault(item.part, str(fault))
     product.parts = [part for part in parts.values() if part.name not in lost]
     product.lost, product.meshed = list(lost.items()), made.meshed
+    product.frame = frame
     return product
+
+
+def turned_upright(items: Sequence[Item]) -> Optional[numpy.ndarray]:
+    """Turns meshes such that most of their faces lie along the axes; how. Refusal: a part is no mesh, or none is so."""
+    meshes = [item.mesh for item in items if item.mesh is not None]
+    if len(meshes) < len(items):
+        raise Refusal("--upright turns meshes, and a STEP file is read besides")
+    frame = frame_of(meshes)
+    if frame is not None:
+        for mesh in meshes:
+            mesh.points = mesh.points @ frame.T
+    return frame
 
 
 def each_apart(items: List[Item]) -> None:

@@ -2,7 +2,6 @@
 from __future__ import annotations
 
 import json
-import math
 import os
 import shlex
 from typing import Any, Dict, Iterator, List, Sequence, Tuple
@@ -24,23 +23,13 @@ APART, BUT, OVERLAP = "comes apart", "comes apart but for these groups", "parts 
 STEEP = 0.7  # a step whose unit vector has more than this upwards is lifted
 
 
-def unit_vector(along: Vector) -> List[float]:
-    """The direction as a unit vector, to six digits."""
-    length = math.sqrt(sum(number * number for number in along))
-    return [round(number / length, 6) + 0.0 for number in along]
-
-
-def direction(along: Vector) -> str:
-    return "(" + ", ".join(f"{number:g}" for number in unit_vector(along)) + ")"
-
-
 def opposite(along: Vector) -> Vector:
     x, y, z = along
     return (-x, -y, -z)
 
 
-def verb(along: Vector) -> str:
-    up = unit_vector(along)[2]
+def verb(along: Vector, parts: Parts) -> str:
+    up = parts.unit_vector(along)[2]
     return "lift" if up > STEEP else "lower" if up < -STEEP else "slide"
 
 
@@ -57,7 +46,8 @@ def clear_after(step: Step, parts: Parts) -> float:
 
     In steps of the grid, of what has not been taken apart before: of all boxes of two parts the last to part.
     """
-    along = numpy.array(unit_vector(step.along))
+    along = numpy.array(step.along, dtype=float)
+    along /= numpy.linalg.norm(along)
     low, high = (numpy.array(rows, dtype=float) for rows in zip(*parts.boxes))
     moved, rest = list(step.moved), list(step.rest)
     # Box by box and axis by axis: from when to when the moved one is over the other.
@@ -99,7 +89,7 @@ def step_lines(runs: Sequence[Run], parts: Parts) -> List[str]:
     lines = []
     for run in runs:
         x, y, z = run.along
-        lines.append(f"along {direction(run.along)}, in whole numbers {x} {y} {z}")
+        lines.append(f"along {parts.direction(run.along)}, in whole numbers {x} {y} {z}")
         for first, some in gathered(run.first, run.steps, parts):
             lines.append(f"  {numbers(first, some)}. {step_words(some, parts)}")
         lines += order_lines(run, parts)
@@ -140,11 +130,11 @@ def step_words(some: Sequence[Step], parts: Parts) -> str:
     along = some[0].along
     moved = [part for step in some for part in step.moved]
     rest = [part for part in some[-1].rest if part not in moved]
-    how = f"along {direction(along)}, away from {parts.others(rest, moved)}"
+    how = f"along {parts.direction(along)}, away from {parts.others(rest, moved)}"
     far = parts.length(max(clear_after(step, parts) for step in some))
     clear = f"; clear after {short(far)}{' ' + parts.unit if parts.unit else ''}" if far else ""
     together = " one by one" if len(some) > 1 else " together" if len(moved) > 1 else ""
-    return f"{verb(along)} {parts.called(moved, 'the ')}{together} {how}{clear}"
+    return f"{verb(along, parts)} {parts.called(moved, 'the ')}{together} {how}{clear}"
 
 
 def order_lines(run: Run, parts: Parts) -> List[str]:
@@ -168,7 +158,7 @@ def assembly_lines(answer: Answer, parts: Parts) -> List[str]:
         moved = [part for step in steps for part in step.moved]
         rest = [part for part in steps[-1].rest if part not in moved]
         how = " one by one" if len(steps) > 1 else ""
-        along = direction(opposite(steps[0].along))
+        along = parts.direction(opposite(steps[0].along))
         words = f"{parts.called(moved, 'the ')}{how} along {along}"
         lines.append(f"  {numbers(first, steps)}. bring {words} to {parts.others(rest, moved)}")
     return lines
@@ -213,7 +203,7 @@ def plan_of(answer: Answer, runs: Sequence[Run], parts: Parts, told: str) -> Dic
                 "moved": list(step.moved),
                 "away from": list(step.rest),
                 "along": list(step.along),
-                "unit vector": unit_vector(step.along),
+                "unit vector": parts.unit_vector(step.along),
                 "clear after": round(parts.length(clear_after(step, parts)), 6),
             }
             for step in answer.steps

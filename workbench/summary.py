@@ -60,6 +60,9 @@ def cut_part(part: Part, found: Sequence[Pieces]) -> Cut:
 def part_lines(product: Product, cuts: Sequence[Cut]) -> List[str]:
     lines = [f"unit {product.unit}"] if product.unit else []
     lines.append(f"grid {written(product.grid)}")
+    if product.frame is not None:
+        rows = ", ".join("({:.6g}, {:.6g}, {:.6g})".format(*row) for row in product.frame)
+        lines.append(f"turned upright: the axes are {rows} of the model")
     for number, cut in enumerate(cuts):
         lines.append(
             f"part {number} pieces {len(cut.pieces)} over {short(cut.over)} under {short(cut.under)} "
@@ -205,6 +208,7 @@ def model_of(product: Product, cuts: Sequence[Cut], options: Options) -> Dict[st
         "unit": product.unit,
         "grid": str(product.grid),
         "side": options.side,
+        **({"axes": product.frame.tolist()} if product.frame is not None else {}),
         "parts": [
             {
                 "name": cut.part.name,

@@ -13,7 +13,6 @@ from .meeting import ways_to_meet
 from .named import Parts, listed_alone, read_parts
 from .planner import Place
 from .progress import Progress
-from .report import direction
 from .solid import Refusal
 from .writing import LIST
 
@@ -45,7 +44,7 @@ def number_of(part: str, parts: Parts) -> int:
 
 def lines_of_way(part: int, along: Vector, arcs: Set[Arc], parts: Parts) -> List[str]:
     """What blocks a part along a direction, and with which parts it leaves the others, where it does."""
-    way = f"{parts.short[part]} along {direction(along)}"
+    way = f"{parts.short[part]} along {parts.direction(along)}"
     blocking = sorted(other for one, other in arcs if one == part)
     if not blocking:
         return [f"nothing is in the way of {way}"]
@@ -92,7 +91,7 @@ def lines_of_hold(hold: Hold, parts: Parts) -> Iterator[str]:
     yield f"held together: {', '.join(nodes)}"
     for pair in hold.pairs:
         one, other = parts.short[pair.part], parts.short[pair.by]
-        ways = ", ".join(map(direction, ways_of(pair, parts)))
+        ways = ", ".join(map(parts.direction, ways_of(pair, parts)))
         yield (
             f"   {one} runs into {other} along {ways}, and {other} into {one} backwards: "
             f"piece {pair.piece} meets piece {pair.by_piece}"
