@@ -139,7 +139,8 @@ class Reading:
             elif self.asked.each.isdigit():
                 part = "/".join(body.name.split("/")[: int(self.asked.each)])
             else:
-                part = free_name(name if body.name == step.NAMELESS else body.name, taken)
+                is_named = body.name != step.NAMELESS and not body.name.isdigit()
+                part = free_name(body.name if is_named else name, taken)
             tag = (
                 stem
                 if folder and len(drawn.bodies) == 1

@@ -12,15 +12,16 @@ import subprocess
 from typing import Any, Dict, List, Sequence, Tuple
 
 from workbench.planner import TOP
-from workbench.reading.lists import Listed, read_list
+from workbench.reading import step
+from workbench.reading.lists import Listed
 from workbench.reading.off import read_off
-from workbench.tests.kit import corners, off
+from workbench.tests.kit import off
 
 GALLERY = os.path.join(TOP, "gallery")
 LAMP = "/usr/share/openscad/examples/Old/example017.scad"
-LEG = "translate([0, 12 + locklen1 + 75, 0]) rotate([90, 0, -90]) linear_extrude(6, center = true) shape_tripod();"
 SLABS = [[0, 1, 3, 2], [4, 6, 7, 5], [0, 4, 5, 1], [2, 3, 7, 6], [0, 2, 6, 4], [1, 5, 7, 3]]
 Point = Sequence[float]
+Cell = Tuple[int, ...]
 
 
 def turned(point: Point, degrees: float) -> List[float]:
@@ -31,14 +32,17 @@ def turned(point: Point, degrees: float) -> List[float]:
 
 
 def listed(name: str) -> List[Listed]:
-    """The parts of a product of the gallery, with the paths of their files."""
-    here = os.path.join(GALLERY, name)
-    parts = read_list(os.path.join(here, "parts.json"))
-    for part in parts:  # the names of files in these lists hold at the top
-        part.files = [
-            os.path.join(TOP, os.path.relpath(os.path.abspath(f), here)) for f in part.files
-        ]
-    return parts
+    """The parts of a product of the gallery, with the paths of their files, whose names hold at the top."""
+    with open(os.path.join(GALLERY, name, "parts.json"), encoding="utf-8") as file:
+        parts = json.load(file)["parts"]
+    return [
+        Listed(
+            part["name"],
+            [os.path.join(TOP, file) for file in part["pieces"]],
+            tuple(part.get("at", (0, 0, 0))),
+        )
+        for part in parts
+    ]
 
 
 def turned_product(name: str, degrees: float, folder: str) -> List[str]:
@@ -66,8 +70,8 @@ def lamp(folder: str) -> List[str]:
         "outer disc": "linear_extrude(6) shape_outer_disc();",
         "inner disc": "translate([0, 0, 74]) linear_extrude(6) shape_inner_disc();",
     }
+    place = "translate([0, 102, 0]) rotate([90, 0, -90])"  # that of the example's module assembled
     for number, angle in enumerate((0, 120, 240), 1):
-        place = f"translate([0, {12 + 15 + 50 + 15 + 10}, 0]) rotate([90, 0, -90])"
         parts[
             f"leg-{number}"
         ] = f"rotate({angle}) {place} linear_extrude(6, center = true) shape_tripod();"
@@ -134,17 +138,14 @@ def plus(kernel: Any, one: Tuple[int, int], *others: Tuple[int, int]) -> Tuple[i
 
 def written(gmsh: Any, path: str) -> None:
     gmsh.model.occ.synchronize()
-    gmsh.write(path)
+    with step.silent():
+        gmsh.write(path)
     gmsh.clear()
 
 
 def start() -> Any:
-    """gmsh, with nothing in it and quiet."""
-    import gmsh
-
-    if not gmsh.isInitialized():
-        gmsh.initialize()
-    gmsh.option.setNumber("General.Terminal", 0)
+    """gmsh, with nothing in it."""
+    gmsh = step.start()
     gmsh.clear()
     return gmsh
 
@@ -179,12 +180,12 @@ def rack(folder: str) -> List[str]:
     gmsh = start()
     kernel = gmsh.model.occ
     places = [(70.0 * column, 50.0 * row) for row in range(5) for column in range(3)]
-    kinds = ["crate", "lid", *(f"screw M4 {corner}" for corner in "abcd"), "load"]
+    kinds = {"crate": (0,), "lid": (1,), "screw M4": (2, 3, 4, 5), "load": (6,)}
     paths = []
-    for kind, name in enumerate(kinds):
+    for name, kept in kinds.items():
         for x, z in places:
             made = crate(kernel, x, z)
-            kernel.remove([made[k] for k in range(len(made)) if k != kind], recursive=True)
+            kernel.remove([made[k] for k in range(len(made)) if k not in kept], recursive=True)
         paths.append(os.path.join(folder, f"{name}.step"))
         written(gmsh, paths[-1])
     shelves = [block(kernel, (-10, 0, 50 * row - 4), (210, 40, 50 * row)) for row in range(6)]
@@ -230,13 +231,7 @@ def bolt_in_a_board(folder: str) -> List[str]:
     return paths
 
 
-def slab(path: str, low: Point, high: Point) -> str:
-    with open(path, "w", encoding="ascii") as file:
-        file.write(off(corners(low, high), SLABS))
-    return path
-
-
-def cells_of(name: str) -> List[Tuple[str, List[Tuple[int, int, int]]]]:
+def cells_of(name: str) -> List[Tuple[str, List[Cell]]]:
     """The cubes of side 1 of each part of a product of the gallery whose pieces are boxes on a grid of such cubes."""
     found = []
     for part in listed(name):
@@ -253,15 +248,16 @@ def cells_of(name: str) -> List[Tuple[str, List[Tuple[int, int, int]]]]:
     return found
 
 
-def surface(cells: Sequence[Tuple[int, int, int]]) -> Tuple[List[List[float]], List[List[int]]]:
+def surface(cells: Sequence[Cell]) -> Tuple[List[List[float]], List[List[int]]]:
     """The squares that bound cubes of side 1, wound outwards."""
-    points: Dict[Tuple[int, int, int], int] = {}
+    points: Dict[Cell, int] = {}
     faces = []
+    filled = set(cells)
     for cell in cells:
         for axis, side in itertools.product(range(3), (0, 1)):
             beyond = list(cell)
             beyond[axis] += 2 * side - 1
-            if (beyond[0], beyond[1], beyond[2]) in cells:
+            if tuple(beyond) in filled:
                 continue
             face = []
             for u, v in (
@@ -271,7 +267,7 @@ def surface(cells: Sequence[Tuple[int, int, int]]) -> Tuple[List[List[float]], L
                 corner[axis] += side
                 corner[(axis + 1) % 3] += u
                 corner[(axis + 2) % 3] += v
-                face.append(points.setdefault((corner[0], corner[1], corner[2]), len(points)))
+                face.append(points.setdefault(tuple(corner), len(points)))
             faces.append(face)
     return [list(map(float, point)) for point in points], faces
 

@@ -66,7 +66,7 @@ class Said:
     def places(self) -> List[List[Place]]:
         """Where each part is before the first step, and after each.
 
-        How far a step leads follows from where they are in the end: of each side there is a part that rests in all later steps.
+        How far a step leads follows from where they are in the end: of each side some part rests in all later steps.
         """
         at: List[Place] = [(0, 0, 0)] * len(self.shifts)
         found: List[List[Place]] = [list(at)]
