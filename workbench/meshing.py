@@ -82,7 +82,8 @@ def measured(gmsh: Any, mesh: Mesh, owners: List[int], plane: set[int]) -> Tuple
     for owner, numbers in by_surface.items():
         rows = mesh.points[numpy.array([mesh.faces[number] for number in numbers])]
         normals = numpy.array([newell(row) for row in rows])
-        normals /= numpy.linalg.norm(normals, axis=1)[:, None]
+        sizes = numpy.linalg.norm(normals, axis=1)[:, None]
+        normals /= numpy.where(sizes > 0, sizes, 1.0)  # a triangle without area has no side
         middles = [rows.mean(axis=1)] + [(rows[:, k] + rows[:, k - 1]) / 2 for k in range(3)]
         for places in middles:
             found = gmsh.model.getClosestPoint(2, owner, places.ravel())[0]

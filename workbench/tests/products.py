@@ -39,9 +39,9 @@ def listed(name: str) -> List[Listed]:
         Listed(
             part["name"],
             [os.path.join(TOP, file) for file in part["pieces"]],
-            tuple(part.get("at", (0, 0, 0))),
+            (at[0], at[1], at[2]),
         )
-        for part in parts
+        for part, at in ((part, part.get("at", (0, 0, 0))) for part in parts)
     ]
 
 

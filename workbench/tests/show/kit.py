@@ -111,9 +111,10 @@ def planned(name: str) -> Said:
 
 @functools.lru_cache(maxsize=None)
 def said(name: str) -> Said:
-    """What `staat decide` prints, read, and where the parts are then, by the rule of `explode`."""
-    told = staat("decide", f"--manifest={listed(name)}")
-    stuck = [int(word) for word in told.split()[1:]] if told.startswith("stuck") else []
+    """What `staat decide --rest` prints, read, and where the parts are then, by the rule of `explode`."""
+    told = staat("decide", "--rest", f"--manifest={listed(name)}")
+    found = re.search("^stuck (.*)$", told, re.MULTILINE)
+    stuck = [int(word) for word in found.group(1).split()] if found else []
     moves = moves_of(told)
     return Said(moves, apart(moves, boxes(name)), stuck)
 
