@@ -47,7 +47,7 @@ def rotations() -> List[Tuple[Cell, Cell]]:
 
 def turned(cells: Sequence[Cell], axes: Sequence[int], signs: Sequence[int]) -> List[Cell]:
     """Cells after a turn about the origin, which is a corner of cells."""
-    found = []
+    found: List[Cell] = []
     for cell in cells:
         low = [cell[axis] if sign > 0 else -cell[axis] - 1 for axis, sign in zip(axes, signs)]
         found.append((low[0], low[1], low[2]))
@@ -101,10 +101,10 @@ def stick(number: int) -> List[Cell]:
 
 def places() -> Iterator[Tuple[Cells, Cells]]:
     """For each of the six sticks of a burr the cells of a whole one, and those that it alone has."""
-    whole = []
+    whole: List[Cells] = []
     for axis, side in itertools.product(range(3), (-2, 0)):
         long, thick, high = range(-3, 3), (-1, 0), (side, side + 1)
-        cells = itertools.product(long, thick, high)
+        cells: Iterator[Cell] = itertools.product(long, thick, high)
         whole.append(
             frozenset(
                 (cell[-axis % 3], cell[(1 - axis) % 3], cell[(2 - axis) % 3]) for cell in cells

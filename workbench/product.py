@@ -1,6 +1,7 @@
 """From the files that are named to the parts of a product, each with its solids on one grid."""
 from __future__ import annotations
 
+import itertools
 import os
 from dataclasses import dataclass, field
 from fractions import Fraction
@@ -390,11 +391,24 @@ def turned_upright(items: Sequence[Item]) -> Optional[numpy.ndarray]:
     meshes = [item.mesh for item in items if item.mesh is not None]
     if len(meshes) < len(items):
         raise Refusal("--upright turns meshes, and a STEP file is read besides")
-    frame = frame_of(meshes)
-    if frame is not None:
-        for mesh in meshes:
-            mesh.points = mesh.points @ frame.T
-    return frame
+    found = frame_of(meshes)
+    if found is None:
+        return None
+    frame = max((turn @ found for turn in right_turns()), key=numpy.trace) + 0.0
+    for mesh in meshes:
+        mesh.points = mesh.points @ frame.T
+    return numpy.asarray(frame)
+
+
+def right_turns() -> List[numpy.ndarray]:
+    """The 24 turns by right angles."""
+    signs = itertools.product((1.0, -1.0), repeat=3)
+    some = [
+        numpy.diag(sign)[list(order)]
+        for sign in signs
+        for order in itertools.permutations(range(3))
+    ]
+    return [turn for turn in some if numpy.linalg.det(turn) > 0]
 
 
 def each_apart(items: List[Item]) -> None:

@@ -61,7 +61,8 @@ def part_lines(product: Product, cuts: Sequence[Cut]) -> List[str]:
     lines = [f"unit {product.unit}"] if product.unit else []
     lines.append(f"grid {written(product.grid)}")
     if product.frame is not None:
-        rows = ", ".join("({:.6g}, {:.6g}, {:.6g})".format(*row) for row in product.frame)
+        rounded = product.frame.round(6) + 0.0
+        rows = ", ".join("({:g}, {:g}, {:g})".format(*row) for row in rounded)
         lines.append(f"turned upright: the axes are {rows} of the model")
     for number, cut in enumerate(cuts):
         lines.append(

@@ -1,17 +1,33 @@
 /* The pictures of all steps on one sheet, for paper: light, whatever the page is. */
 "use strict";
 
-report.SHEET = { width: 480, height: 340, line: 20, gap: 14, font: '15px "DejaVu Sans", system-ui, sans-serif' };
+report.SHEET = { most: 20, width: 480, height: 340, line: 20, gap: 14, font: '15px "DejaVu Sans", system-ui, sans-serif' };
+
+/* The steps that share a picture: each has its own, or where they are many, those that follow along one direction. */
+report.pictured = function (steps) {
+  const found = [];
+  steps.forEach((step, k) => {
+    const last = found[found.length - 1];
+    const goesOn = last && steps.length > report.SHEET.most && String(step.along) === String(last.some[0].along);
+    if (goesOn) last.some.push(step);
+    else found.push({ first: k, some: [step] });
+  });
+  return found;
+};
 
 /* What is drawn in each picture: a time, the look of the parts, the parts that are marked, and the words below. */
 report.frames = function () {
   const { steps, groups, parts } = report.data;
   const shown = parts.map(() => "shown");
   const frames = [{ time: 0, looks: report.looks(shown, null, []), marked: [], words: report.data.title }];
-  steps.forEach((step, k) => {
-    const looks = report.looks(shown, null, step.moved);
-    frames.push({ time: k + 1, looks, marked: step.moved, words: `${k + 1}. ${report.words.said(step)}` });
-  });
+  for (const { first, some } of report.pictured(steps)) {
+    const marked = some.flatMap((step) => step.moved);
+    const looks = report.looks(shown, null, marked);
+    const last = first + some.length;
+    const words = some.length === 1 ? `${last}. ${report.words.said(some[0])}`
+      : `${first + 1} to ${last}. ${report.words.named(marked)} go one after another along ${report.words.way(some[0].along)}`;
+    frames.push({ time: last, looks, marked, words });
+  }
   for (const part of groups.flatMap((group) => group.parts)) {
     const looks = parts.map((_, other) => (other === part ? "shown" : "clear"));
     frames.push({ time: steps.length, looks, marked: [], words: parts[part].name });
