@@ -105,7 +105,7 @@ MODELS: Tuple[Model, ...] = (
     ),
     Model("planar-core", FREECAD, kept(f"{IDF}/I22_2_5_16withEPL22_6_16.stp")),
     Model("inductor", FREECAD, kept(f"{IDF}/RLF_12545.stp")),
-    Model("power-transistor", FREECAD, kept(f"{IDF}/SOT404.stp")),
+    Model("refrigerator", OPENCASCADE, kept(f"{OCC}/MODERN_Refrigerator_1.brep")),
     Model("soma", (), filled(puzzles.soma)),
     Model("slothouber-graatsma", (), filled(puzzles.slothouber_graatsma)),
     Model("numbered-burr", (), filled(puzzles.burr)),

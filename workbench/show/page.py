@@ -8,6 +8,7 @@ from typing import Any, Dict, List, Optional, Sequence
 
 import numpy
 
+from ..named import short_names
 from ..packages import install_line
 from ..solid import Refusal
 from .plans import Plan, Vector
@@ -30,7 +31,10 @@ def data_of(
     return {
         "title": title,
         "view": list(view),
-        "parts": [part_data(part) for part in parts],
+        "parts": [
+            part_data(part, name)
+            for part, name in zip(parts, short_names([part.name for part in parts]))
+        ],
         "places": [[list(place) for place in row] for row in rows],
         "steps": [
             {"moved": step.moved, "along": step.along, "rest": step.rest} for step in plan.steps
@@ -46,9 +50,9 @@ def data_of(
     }
 
 
-def part_data(part: Part) -> Dict[str, Any]:
+def part_data(part: Part, name: str) -> Dict[str, Any]:
     return {
-        "name": part.name,
+        "name": name,
         "colour": part.colour,
         "pieces": [{"points": plain(piece.points), "faces": piece.faces} for piece in part.pieces],
         "surface": [plain(polygon) for polygon in part.surface],
