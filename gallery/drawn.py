@@ -1,14 +1,17 @@
+#!/usr/bin/python3
 """Products from models that nobody made for this gallery: where each lies, and how it becomes files that are read.
 
 None of the models is kept here. Those of packages are read where the packages are installed; the puzzles are made from
-what is published of them.
+what is published of them. `gallery/drawn.py NAME FOLDER` writes the files of one, and says what to call.
 """
 from __future__ import annotations
 
 import gzip
 import os
+import shlex
 import shutil
 import subprocess
+import sys
 from dataclasses import dataclass
 from typing import Callable, Dict, List, Tuple
 
@@ -110,3 +113,23 @@ MODELS: Tuple[Model, ...] = (
     Model("slothouber-graatsma", (), filled(puzzles.slothouber_graatsma)),
     Model("numbered-burr", (), filled(puzzles.burr)),
 )
+
+
+def main(words: List[str]) -> int:
+    """Writes the files of a product to a folder, and says with which words `./staat-cad` answers."""
+    found = [model for model in MODELS if words[:1] == [model.name]]
+    if len(words) != 2 or not found:
+        print(f"drawn.py NAME FOLDER, of {', '.join(model.name for model in MODELS)}")
+        return 2
+    lacking = found[0].missing()
+    if lacking:
+        print("to install: apt-get install -y " + " ".join(lacking))
+        return 3
+    os.makedirs(words[1], exist_ok=True)
+    files = found[0].make(words[1])
+    print(shlex.join(["./staat-cad", *files, *found[0].words, f"--out={found[0].name}"]))
+    return 0
+
+
+if __name__ == "__main__":
+    sys.exit(main(sys.argv[1:]))
