@@ -50,8 +50,12 @@ NEEDS = {
     "freecad": Need("freecad", _command("freecadcmd")),
     "geomview": Need("geomview", _folder("/usr/share/geomview/geom")),
     "gmsh": Need("python3-gmsh", _module("gmsh")),
+    "mcad": Need(
+        "openscad-mcad", _file("/usr/share/openscad/libraries/MCAD/lego_compatibility.scad")
+    ),
     "meshio": Need("python3-meshio", _module("meshio")),
     "numpy": Need("python3-numpy", _module("numpy")),
+    "occt": Need("occt-misc", _folder("/usr/share/opencascade/data/occ")),
     "openscad": Need("openscad", _command("openscad")),
     "prlimit": Need("util-linux", _command("prlimit")),
     "scipy": Need("python3-scipy", _module("scipy")),
