@@ -27,6 +27,7 @@ from workbench.tests.kit import (
     STL,
     TOP,
     Case,
+    Rows,
     both,
     corners,
     off,
@@ -279,8 +280,8 @@ class Meshes(Case):
 
     def test_a_tolerance_is_named(self) -> None:
         """Of a solid that is convex but for a little: a prism with a dented side."""
-        ring = [[10, 0], [10, 10], [5, 9.97], [0, 10], [0, 0]]
-        points = [[*spot, float(z)] for z in (0, 5) for spot in ring]
+        ring: Rows = [[10, 0], [10, 10], [5, 9.97], [0, 10], [0, 0]]
+        points = [[x, y, z] for z in (0.0, 5.0) for x, y in ring]
         sides = [[4, 3, 2, 1, 0], [5, 6, 7, 8, 9]]
         sides += [[k, (k + 1) % 5, (k + 1) % 5 + 5, k + 5] for k in range(5)]
         name = self.write("dented.off", off(points, sides))
@@ -294,8 +295,8 @@ class Meshes(Case):
         words = ("--tolerance=" + found.group(1),)
         self.assertEqual(len(self.accepted(name, *words)["dented"]), 1)
         # Not where another part is in the way.
-        key = [[4, 9.98], [6, 9.98], [6, 12], [4, 12]]
-        points = [[*spot, float(z)] for z in (0, 5) for spot in key]
+        key: Rows = [[4, 9.98], [6, 9.98], [6, 12], [4, 12]]
+        points = [[x, y, z] for z in (0.0, 5.0) for x, y in key]
         sides = [[3, 2, 1, 0], [4, 5, 6, 7]]
         sides += [[k, (k + 1) % 4, (k + 1) % 4 + 4, k + 4] for k in range(4)]
         both = self.accepted(name, self.write("key.off", off(points, sides)), *words)
@@ -520,7 +521,8 @@ class Example(Case):
         kept = os.path.join(TOP, "tools", "example", "pieces")
         for name in os.listdir(kept):
             with open(os.path.join(kept, name)) as old, open(self.path("out/" + name)) as new:
-                self.assertEqual(*(self.without_call(file.read()) for file in (old, new)), name)
+                before, now = (self.without_call(file.read()) for file in (old, new))
+                self.assertEqual(before, now, name)
         self.assertEqual(
             self.ask("plan").stdout,
             "move 2 along 0 0 1 away from 0 1 3\nmove 1 along 1 0 0 away from 0 3\nmove 3 along 0 0 1 away from 0\n"
