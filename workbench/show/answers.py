@@ -33,7 +33,7 @@ def plan_of(told: Told, place: Place, parts: Parts) -> Plan:
     listed = place.listed.rpartition("/")[2]
     found = many_of(len(answer.steps), "step")
     if answer.groups:
-        found += " and " + many_of(len(answer.groups), "group") + " that hold each other"
+        found += " and " + many_of(len(answer.groups), "group") + " of parts that hold each other"
     checks = (
         Check(f"staat {' '.join(ASKED)} --manifest={listed}", found, meaning_of(told)),
         Check(

@@ -8,7 +8,7 @@ from fractions import Fraction
 from typing import Any, Dict, List, Optional
 
 from ..answers import Told
-from ..named import model_of, read_parts
+from ..named import Parts, model_of, read_parts
 from ..planner import Place, place_of
 from ..reading.lists import read_list
 from ..solid import Refusal
@@ -40,6 +40,7 @@ class Shown:
     parts: List[Part]
     plan: Plan
     rows: List[List[Vector]]
+    named: Parts
     model: Optional[Dict[str, Any]] = None
 
     @property
@@ -78,7 +79,7 @@ def show(given: str, out: Optional[str], told: Optional[Told] = None, is_told: b
 def write_files(shown: Shown, folder: str) -> None:
     """Writes the page and the glTF file. Refusal: three.js is missing, or they cannot be written."""
     view = looked_from([part.box for part in shown.parts], shown.rows)
-    data = data_of(shown.title, shown.parts, shown.plan, shown.rows, view, shown.model)
+    data = data_of(shown.title, shown.parts, shown.named, shown.plan, shown.rows, view, shown.model)
     write(folder, REPORT, page(data).encode())
     write(folder, PRODUCT, glb(shown.parts, shown.rows, shown.title, shown.metres))
 
@@ -96,7 +97,7 @@ def shown_of(place: Place, told: Optional[Told] = None) -> Shown:
     if model:
         meshes = read_surfaces(place.beside, named.names)
         parts = as_drawn(parts, meshes, 1 / float(named.grid)) if meshes else parts
-    return Shown(title_of(place, model), parts, plan, rows, model)
+    return Shown(title_of(place, model), parts, plan, rows, named, model)
 
 
 def title_of(place: Place, model: Optional[Dict[str, Any]]) -> str:

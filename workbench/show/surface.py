@@ -1,7 +1,7 @@
 """The surface of a part: the faces of its convex pieces without what lies against another piece of it."""
 from __future__ import annotations
 
-from typing import Iterator, List, Sequence, Tuple
+from typing import Iterator, List, NamedTuple, Sequence, Tuple
 
 import numpy
 
@@ -12,15 +12,26 @@ OPPOSITE = (
 )  # the product of the normals of two faces that lie against each other, at most
 
 
+class Face(NamedTuple):
+    """A face of a piece: its corners (n, 3), wound outwards, and its unit normal outwards."""
+
+    corners: numpy.ndarray
+    across: numpy.ndarray
+
+
 def surface(bodies: Sequence[Body], extent: float) -> List[numpy.ndarray]:
     """Convex polygons (n, 3), wound outwards; extent: how long the product is, which says what is near."""
     near = NEAR * extent
+    faces = [list(outlines(body)) for body in bodies]
     found: List[numpy.ndarray] = []
     for number, body in enumerate(bodies):
         others = [
-            other for k, other in enumerate(bodies) if k != number and touch(body, other, near)
+            face
+            for k, other in enumerate(bodies)
+            if k != number and touch(body, other, near)
+            for face in faces[k]
         ]
-        found += [left for face in outlines(body) for left in uncovered(face, others, near)]
+        found += [left for face in faces[number] for left in uncovered(face, others, near)]
     return found
 
 
@@ -31,14 +42,15 @@ def touch(one: Body, other: Body, near: float) -> bool:
     return bool((low <= high + near).all())
 
 
-def outlines(body: Body) -> Iterator[numpy.ndarray]:
-    """The faces of a piece as polygons that are wound outwards."""
+def outlines(body: Body) -> Iterator[Face]:
+    """The faces of a piece that have an area."""
     middle = body.points.mean(axis=0)
     for face in body.faces:
         corners = body.points[list(face)]
         across = normal_of(corners)
         if across.any():
-            yield corners if (corners[0] - middle) @ across > 0 else corners[::-1]
+            is_outwards = (corners[0] - middle) @ across > 0
+            yield Face(corners, across) if is_outwards else Face(corners[::-1], -across)
 
 
 def normal_of(corners: numpy.ndarray) -> numpy.ndarray:
@@ -48,17 +60,17 @@ def normal_of(corners: numpy.ndarray) -> numpy.ndarray:
     return found / size if size > 0 else numpy.zeros(3)
 
 
-def uncovered(face: numpy.ndarray, others: Sequence[Body], near: float) -> List[numpy.ndarray]:
+def uncovered(face: Face, others: Sequence[Face], near: float) -> List[numpy.ndarray]:
     """What is left of a face of a piece without what lies against faces of others."""
-    across = normal_of(face)
-    left = [face]
+    across = face.across
+    left = [face.corners]
     for other in others:
-        for against in outlines(other):
-            if (
-                normal_of(against) @ across < OPPOSITE
-                and abs((against[0] - face[0]) @ across) < near
-            ):
-                left = [rest for one in left for rest in without(one, against[::-1], across, near)]
+        if (
+            other.across @ across < OPPOSITE
+            and abs((other.corners[0] - face.corners[0]) @ across) < near
+        ):
+            against = other.corners[::-1]
+            left = [rest for one in left for rest in without(one, against, across, near)]
     return left
 
 

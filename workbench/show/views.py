@@ -2,7 +2,6 @@
 from __future__ import annotations
 
 import math
-from itertools import permutations
 from typing import List, Sequence, Tuple
 
 import numpy
@@ -56,11 +55,7 @@ def worth(every: numpy.ndarray, height: float, turn: float) -> float:
     right, up, back = axes(height, turn)
     flat = numpy.stack([every @ right, every @ up], axis=-1)
     depth = (every[-1] @ back).mean(axis=1)
-    hidden = sum(
-        covered(flat[-1, behind], flat[-1, before])
-        for behind, before in permutations(range(every.shape[1]), 2)
-        if depth[behind] < depth[before]
-    )
+    hidden = covered(flat[-1].min(axis=1), flat[-1].max(axis=1), depth)
     across = length_of(flat.mean(axis=2))
     length = length_of(every.mean(axis=2))
     off = abs(math.sin(math.radians(2 * turn)))  # 0 where the axes lie across or straight ahead
@@ -74,10 +69,8 @@ def length_of(middles: numpy.ndarray) -> float:
     return float(numpy.linalg.norm(middles[1:] - middles[:-1], axis=-1).sum())
 
 
-def covered(behind: numpy.ndarray, before: numpy.ndarray) -> float:
-    """Which share of the rectangle around some points the one around others covers."""
-    low, high = behind.min(axis=0), behind.max(axis=0)
-    common = numpy.minimum(high, before.max(axis=0)) - numpy.maximum(low, before.min(axis=0))
-    if (common <= 0).any():
-        return 0.0
-    return float(numpy.prod(common) / numpy.prod(high - low))
+def covered(low: numpy.ndarray, high: numpy.ndarray, depth: numpy.ndarray) -> float:
+    """Which shares of their rectangles (n, 2) others cover that are before them, of a greater depth; the sum."""
+    common = numpy.minimum(high[:, None], high[None]) - numpy.maximum(low[:, None], low[None])
+    shares = numpy.clip(common, 0, None).prod(axis=2) / (high - low).prod(axis=1)[:, None]
+    return float(shares[depth[:, None] < depth[None]].sum())

@@ -5,6 +5,7 @@
   const data = report.data;
   const many = data.steps.length;
   const PACE = 1100; /* milliseconds that a step takes */
+  const SPOTS = 12; /* colours at most that stand before a step in the list */
   const find = (name) => document.getElementById(name);
   const AXES = ["x", "y", "z"];
   const manyPieces = data.parts.reduce((sum, part) => sum + part.pieces.length, 0);
@@ -29,15 +30,13 @@
     return "(" + direction.map((number) => String(number).replace("-", "\u2212")).join(", ") + ")";
   }
 
-  /* What a step says. */
-  function said(step) {
-    const go = step.moved.length === 1 ? "goes" : "go together";
-    const isAll = step.moved.length + step.rest.length === data.parts.length;
-    const others = isAll && step.rest.length > 3 ? "all others" : named(step.rest);
-    return `${named(step.moved)} ${go} along ${way(step.along)}, away from ${others}`;
-  }
+  /* What the parts do that a step moves. */
+  const does = (step) => `${step.moved.length === 1 ? "goes" : "go together"} along ${way(step.along)}, away from ${step.words.rest}`;
 
-  report.words = { named, way, said };
+  /* What a step says. */
+  const said = (step) => `${step.words.moved} ${does(step)}`;
+
+  report.words = { way, said };
 
   const state = { time: 0, modes: data.parts.map(() => "shown"), hold: null, picked: null, running: 0 };
   const dark = matchMedia("(prefers-color-scheme: dark)");
@@ -171,10 +170,9 @@
     find("slider").max = many;
     const rows = [element("button", { type: "button" }, element("span", { className: "number" }, "0"), "together")];
     data.steps.forEach((step, k) => {
-      const words = said(step).split(named(step.moved));
-      const moved = step.moved.flatMap((part) => [spot(part)]);
+      const moved = step.moved.slice(0, SPOTS).map(spot);
       rows.push(element("button", { type: "button", title: `along ${step.along.join(" ")}` },
-        element("span", { className: "number" }, String(k + 1)), ...moved, element("b", {}, named(step.moved)), words.slice(1).join(named(step.moved))));
+        element("span", { className: "number" }, String(k + 1)), ...moved, element("b", {}, step.words.moved), ` ${does(step)}`));
     });
     rows.forEach((button, k) => {
       button.addEventListener("click", () => (k === Math.ceil(state.time) - 1 || k === Math.ceil(state.time) + 1 ? run(k) : (stop(), go(k))));
@@ -217,7 +215,7 @@
       "Along every direction each of these parts is held by the others. A line lights up the two pieces that meet; backwards the second part is held by the first.";
     for (const group of data.groups) {
       const directions = [...new Set(group.holds.map((hold) => hold.along.join(" ")))];
-      find("holds").querySelector("div").append(element("h3", {}, named(group.parts)));
+      find("holds").querySelector("div").append(element("h3", {}, group.words));
       for (const direction of directions) {
         const some = group.holds.filter((hold) => hold.along.join(" ") === direction);
         find("holds").querySelector("div").append(element("h3", {}, `Along ${way(some[0].along)}`));
@@ -280,9 +278,9 @@
       : "The pieces are the product: the part list names no model that they stand for.";
     if (!model) return;
     find("bounds").hidden = false;
-    for (const part of model.parts) {
-      const lengths = [part.over, part.under].map((length) => element("td", { className: "length", title: String(length) }, rounded(length)));
-      find("bounds").querySelector("tbody").append(element("tr", {}, element("td", {}, part.name), element("td", {}, String(part.pieces)), ...lengths));
+    for (const row of data.bounds) {
+      const lengths = [row.over, row.under].map((length) => element("td", { className: "length", title: String(length) }, rounded(length)));
+      find("bounds").querySelector("tbody").append(element("tr", {}, element("td", { title: row.names }, row.name), element("td", {}, String(row.pieces)), ...lengths));
     }
   }
 

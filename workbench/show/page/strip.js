@@ -19,13 +19,14 @@ report.pictured = function (steps) {
 report.frames = function () {
   const { steps, groups, parts } = report.data;
   const shown = parts.map(() => "shown");
+  const goer = (step) => step.words.moved + (step.moved.length > 1 ? " together" : "");
   const frames = [{ time: 0, looks: report.looks(shown, null, []), marked: [], words: report.data.title }];
   for (const { first, some } of report.pictured(steps)) {
     const marked = some.flatMap((step) => step.moved);
     const looks = report.looks(shown, null, marked);
     const last = first + some.length;
     const words = some.length === 1 ? `${last}. ${report.words.said(some[0])}`
-      : `${first + 1} to ${last}. ${report.words.named(marked)} go one after another along ${report.words.way(some[0].along)}`;
+      : `${first + 1} to ${last}. One after another along ${report.words.way(some[0].along)}: ${some.map(goer).join("; ")}`;
     frames.push({ time: last, looks, marked, words });
   }
   for (const part of groups.flatMap((group) => group.parts)) {
