@@ -3,12 +3,14 @@ from __future__ import annotations
 
 import itertools
 import unittest
-from typing import Sequence, Tuple
+from typing import Dict, Sequence, Tuple
 
 import numpy
 
 from workbench.certificate import Step
+from workbench.named import Parts
 from workbench.show.creases import Body, creases
+from workbench.show.page import bounds_of, step_data
 from workbench.show.plans import Plan, places
 from workbench.show.scene import Part, colour_of, triangles
 from workbench.show.surface import surface
@@ -89,6 +91,36 @@ class Drawn(unittest.TestCase):
 
     def test_each_part_has_a_colour_of_its_own(self) -> None:
         self.assertEqual(len({colour_of(number) for number in range(64)}), 64)
+
+
+class Words(unittest.TestCase):
+    """Parts that are the same are counted where many are meant."""
+
+    def setUp(self) -> None:
+        names = ["rack", "lid", *(f"peg-{number}" for number in range(1, 9))]
+        same = [("rack", [0]), ("lid", [1]), ("peg", list(range(2, 10)))]
+        self.parts = Parts(names, same)
+
+    def step(self, moved: Sequence[int], rest: Sequence[int]) -> Dict[str, str]:
+        words: Dict[str, str] = step_data(Step(tuple(moved), (0, 0, 1), tuple(rest)), self.parts)[
+            "words"
+        ]
+        return words
+
+    def test_of_steps(self) -> None:
+        all_others = self.step([9], range(9))
+        self.assertEqual(all_others, {"moved": "peg-8", "rest": "all others"})
+        many = self.step([0], range(1, 9))
+        self.assertEqual(many["rest"], "seven of eight pegs and lid")
+        few = self.step([2, 3, 4], [0, 1])
+        self.assertEqual(few, {"moved": "peg-1, peg-2 and peg-3", "rest": "rack and lid"})
+
+    def test_of_bounds(self) -> None:
+        told = [{"pieces": 1, "over": 0.1 * number, "under": 0.0} for number in range(10)]
+        told[0]["pieces"] = 5
+        rows = bounds_of({"parts": told}, self.parts)
+        self.assertEqual([row["name"] for row in rows], ["rack", "lid", "eight pegs"])
+        self.assertEqual((rows[2]["pieces"], rows[2]["over"]), (1, 0.1 * 9))
 
 
 class Travel(unittest.TestCase):
