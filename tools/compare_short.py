@@ -106,8 +106,8 @@ def pair_turned(chance: random.Random, lines: Lines) -> None:
     places = made.lines_with(lines, "pair")
     if places:
         place = chance.choice(places)
-        word, a, i, b, j = lines[place].split(" ")
-        lines[place] = " ".join((word, b, j, a, i))
+        word, *numbers = lines[place].split(" ")
+        lines[place] = " ".join((word, *numbers[2:], *numbers[:2]))
 
 
 def pairs_in_order(lines: Lines) -> None:

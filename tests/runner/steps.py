@@ -86,6 +86,12 @@ STEPS = (
     ),
     Step("transcripts", _python("tests/runner/transcripts.py", "{program}")),
     Step("gallery", _python("gallery/run", "{program}")),
+    Step(
+        "reports",
+        _python("gallery/run", "--reports", "{program}"),
+        (*MODELS, *SHOW, "as1"),
+        is_quick=False,
+    ),
     Step("readings", _python("tools/compare_readings.py", "{program}")),
     Step("tools", _python("tests/runner/units.py", "tools")),
     Step("runner", _python("tests/runner/units.py", "tests/runner"), needs_program=False),
