@@ -4,17 +4,18 @@ use Rattle.std.proofs.lemmas.Grind.{common_steps}
 use Rattle.std.proofs.lemmas.List.{length-take}
 use Rattle.std.specs.Prelude.{IsSomeAnd, Bool, ◌==◌, ◌&&◌, nat_lt, if◌then◌else◌}
 use Rattle.staat_edge.specs.Files.{bytes_of}
-use Rattle.staat_edge.specs.Fitting.{Fit, HasLonger, HasWhole, Narrows}
-use Rattle.staat_edge.specs.Readings.{IsReadIn, whole_reading, FileReading, OpensSome, after_read, finished, grown}
+use Rattle.staat_edge.specs.Fitting.{FitBy}
+use Rattle.staat_edge.specs.Readings.{IsReadIn, whole_reading, FileReading, after_read, finished, grown}
+use Rattle.staat_edge.specs.Opening.{OpensAll, OpensSome}
 
-before_one : (holds : Option (List (List ℕ × List ℕ))) (reading : FileReading) (before : List FileReading) (files : List (List ℕ × List ℕ)) → Fit holds (reading ∷ before) files → Fit holds before files
+before_one : (holds : Option (List (List ℕ × List ℕ))) (reading : FileReading) (before : List FileReading) (files : List (List ℕ × List ℕ)) → FitBy holds (reading ∷ before) files → FitBy holds before files
 before_one None reading before files fit = fit.1
 before_one (Some held) reading before files fit = fit
 
 -- files that fit after a reading fit before it
-pub fit_before : (holds : Option (List (List ℕ × List ℕ))) (name : List ℕ) (before now : List FileReading) → OpensSome (name ∷ []) before now → Narrows holds before now
-fit_before holds name before now (inl same) files fit = subst (λ (g : List FileReading). Fit holds g files) same fit
-fit_before holds name before now (inr (reading, named, is)) files fit = before_one holds reading before files (subst (λ (g : List FileReading). Fit holds g files) is fit)
+pub fit_before : (holds : Option (List (List ℕ × List ℕ))) (name : List ℕ) (before now : List FileReading) → OpensSome (name ∷ []) before now → (files : List (List ℕ × List ℕ)) → FitBy holds now files → FitBy holds before files
+fit_before holds name before now (inl same) files fit = subst (λ (g : List FileReading). FitBy holds g files) same fit
+fit_before holds name before now (inr (reading, named, is)) files fit = before_one holds reading before files (subst (λ (g : List FileReading). FitBy holds g files) is fit)
 
 one_opened : (name : List ℕ) (reading : FileReading) (before now : List FileReading) → reading.name ≡ name → now ≡ reading ∷ before → OpensSome (name ∷ []) before now
 one_opened name reading before now named is = inr (reading, named, is)
@@ -36,27 +37,27 @@ in_whole : (o : Option (List ℕ)) (name text : List ℕ) → IsReadIn (whole_re
 in_whole None name text h = absurd h
 in_whole (Some bytes) name text h = ap Some h
 
-whole_by : (holds : Option (List (List ℕ × List ℕ))) (name text : List ℕ) (before : List FileReading) (files : List (List ℕ × List ℕ)) → Fit holds (whole_reading name text ∷ before) files → ((held : List (List ℕ × List ℕ)) → holds ≡ Some held → bytes_of name held ≡ Some text) → bytes_of name files ≡ Some text
+whole_by : (holds : Option (List (List ℕ × List ℕ))) (name text : List ℕ) (before : List FileReading) (files : List (List ℕ × List ℕ)) → FitBy holds (whole_reading name text ∷ before) files → ((held : List (List ℕ × List ℕ)) → holds ≡ Some held → bytes_of name held ≡ Some text) → bytes_of name files ≡ Some text
 whole_by None name text before files fit tells = in_whole (bytes_of name files) name text fit.0
 whole_by (Some held) name text before files fit tells = tells files fit
 
 -- what a whole reading gave are the bytes of the file, where those that the shelf tells are so
-pub whole_fits : (holds : Option (List (List ℕ × List ℕ))) (name text : List ℕ) (before now : List FileReading) → now ≡ whole_reading name text ∷ before → ((held : List (List ℕ × List ℕ)) → holds ≡ Some held → bytes_of name held ≡ Some text) → HasWhole holds now name text
+pub whole_fits : (holds : Option (List (List ℕ × List ℕ))) (name text : List ℕ) (before now : List FileReading) → now ≡ whole_reading name text ∷ before → ((held : List (List ℕ × List ℕ)) → holds ≡ Some held → bytes_of name held ≡ Some text) → (files : List (List ℕ × List ℕ)) → FitBy holds now files → bytes_of name files ≡ Some text
 whole_fits holds name text before now given tells files fit =
-    whole_by holds name text before files (subst (λ (g : List FileReading). Fit holds g files) given fit) tells
+    whole_by holds name text before files (subst (λ (g : List FileReading). FitBy holds g files) given fit) tells
 
 in_part : (o : Option (List ℕ)) (name text : List ℕ) (limit : ℕ) → limit < length text → IsReadIn (record { name = name; bytes = text; ended = false }) o → IsSomeAnd o (λ bytes. limit < length bytes)
 in_part None name text limit lt h = absurd h
 in_part (Some bytes) name text limit lt h = omega (arith, lt, ap length h, length-take (length text) bytes)
 
-longer_by : (holds : Option (List (List ℕ × List ℕ))) (name text : List ℕ) (limit : ℕ) (before : List FileReading) (files : List (List ℕ × List ℕ)) → limit < length text → Fit holds (record { name = name; bytes = text; ended = false } ∷ before) files → ((held : List (List ℕ × List ℕ)) → holds ≡ Some held → IsSomeAnd (bytes_of name held) (λ bytes. limit < length bytes)) → IsSomeAnd (bytes_of name files) (λ bytes. limit < length bytes)
+longer_by : (holds : Option (List (List ℕ × List ℕ))) (name text : List ℕ) (limit : ℕ) (before : List FileReading) (files : List (List ℕ × List ℕ)) → limit < length text → FitBy holds (record { name = name; bytes = text; ended = false } ∷ before) files → ((held : List (List ℕ × List ℕ)) → holds ≡ Some held → IsSomeAnd (bytes_of name held) (λ bytes. limit < length bytes)) → IsSomeAnd (bytes_of name files) (λ bytes. limit < length bytes)
 longer_by None name text limit before files lt fit tells = in_part (bytes_of name files) name text limit lt fit.0
 longer_by (Some held) name text limit before files lt fit tells = tells files fit
 
 -- the same of a reading of more bytes than the limit
-pub longer_fits : (holds : Option (List (List ℕ × List ℕ))) (name text : List ℕ) (limit : ℕ) (before now : List FileReading) → limit < length text → now ≡ record { name = name; bytes = text; ended = false } ∷ before → ((held : List (List ℕ × List ℕ)) → holds ≡ Some held → IsSomeAnd (bytes_of name held) (λ bytes. limit < length bytes)) → HasLonger holds now name limit
+pub longer_fits : (holds : Option (List (List ℕ × List ℕ))) (name text : List ℕ) (limit : ℕ) (before now : List FileReading) → limit < length text → now ≡ record { name = name; bytes = text; ended = false } ∷ before → ((held : List (List ℕ × List ℕ)) → holds ≡ Some held → IsSomeAnd (bytes_of name held) (λ bytes. limit < length bytes)) → (files : List (List ℕ × List ℕ)) → FitBy holds now files → IsSomeAnd (bytes_of name files) (λ bytes. limit < length bytes)
 longer_fits holds name text limit before now lt given tells files fit =
-    longer_by holds name text limit before files lt (subst (λ (g : List FileReading). Fit holds g files) given fit) tells
+    longer_by holds name text limit before files lt (subst (λ (g : List FileReading). FitBy holds g files) given fit) tells
 
 -- a read that gave some bytes made the last reading longer
 pub grown_by : (count : ℕ) (buf name taken : List ℕ) (before mid now : List FileReading) → 0 < count → mid ≡ record { name = name; bytes = taken; ended = false } ∷ before → now ≡ after_read count buf mid → now ≡ record { name = name; bytes = taken ++ take count buf; ended = false } ∷ before
@@ -65,3 +66,7 @@ grown_by count buf name taken before mid now some mid_is now_is = grind (arith, 
 -- a read that gave none into a buffer with room ended it
 pub ended_by : (buf name taken : List ℕ) (before mid now : List FileReading) → 0 < length buf → mid ≡ record { name = name; bytes = taken; ended = false } ∷ before → now ≡ after_read 0 buf mid → now ≡ whole_reading name taken ∷ before
 ended_by buf name taken before mid now room mid_is now_is = grind (arith, common_steps, room, mid_is, now_is)
+
+-- so it is all of the one file that was to be opened
+pub one_ended : (buf name taken : List ℕ) (before mid now : List FileReading) → 0 < length buf → mid ≡ record { name = name; bytes = taken; ended = false } ∷ before → now ≡ after_read 0 buf mid → OpensAll (name ∷ []) before now
+one_ended buf name taken before mid now room mid_is now_is = (whole_reading name taken, refl, ended_by buf name taken before mid now room mid_is now_is)

@@ -1,5 +1,5 @@
 -- What the reads of files have given.
-use Rattle.std.specs.Prelude.{◌≡◌, ◌⊎◌, ◌&&◌, ◌==◌, ℕ, Bool, true, false, List, [], ◌∷◌, ◌++◌, length, take, nat_lt}
+use Rattle.std.specs.Prelude.{◌≡◌, ◌&&◌, ◌==◌, ℕ, Bool, true, false, List, [], ◌∷◌, ◌++◌, length, take, nat_lt}
 use Rattle.std.specs.Prelude.{if◌then◌else◌, Option, Some, None, ⊤}
 use Rattle.staat_edge.specs.Files.{bytes_of}
 
@@ -48,9 +48,3 @@ Agree (reading ∷ before) files = IsReadIn reading (bytes_of reading.name files
 -- a reading of a whole file
 abbrev pub whole_reading : List ℕ → List ℕ → FileReading
 whole_reading name bytes = record { name = name; bytes = bytes; ended = true }
-
--- the readings now are those before and one of each of some of these files, from the front: of none, or of all too
-abbrev pub OpensSome : List (List ℕ) → List FileReading → List FileReading → Type 0
-OpensSome [] before now = now ≡ before
-OpensSome (name ∷ names) before now = (now ≡ before) ⊎
-    ((reading : FileReading) × (reading.name ≡ name) × OpensSome names (reading ∷ before) now)

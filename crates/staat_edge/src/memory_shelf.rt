@@ -122,9 +122,8 @@ impl Shelf for MemoryShelf {
       failed = name_of_file s.files s.failed;
       opened = name_of_file s.files (option_map (λ at. at.0) s.current);
       place = option_map (λ at. at.1) s.current;
+      given = readings s.trace.steps;
     } };
-
-    ghost given = { λ s. readings s.trace.steps };
 
     ghost left = { λ s. left_at s.files s.current };
 

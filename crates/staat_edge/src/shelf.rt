@@ -5,7 +5,7 @@ ghost use Rattle.std.specs.Prelude.{MatchResult, option_map, ⊤};
 ghost use Rattle.std.specs.Io.KnownBytes.{ReadConsumes};
 ghost use Rattle.staat_edge.specs.Causes.{Rose};
 ghost use Rattle.staat_edge.specs.Files.{bytes_of, content_of, Lacks, told_name, left_of, failed_at, held_name};
-ghost use Rattle.staat_edge.specs.Readings.{FileReading, after_read, begun};
+ghost use Rattle.staat_edge.specs.Readings.{after_read, begun};
 ghost use Rattle.staat_edge.specs.Told.{ShelfTold};
 ghost use Rattle.staat_edge.specs.declared.shelf.Failed.{Failed};
 
@@ -25,12 +25,9 @@ pub struct Failed;
 ///
 /// Every shelf tells its readings: what each file that was opened has given so far, in the order of the calls.
 pub trait Shelf {
-    /// What the shelf tells: what it holds, which no call changes; how often it has failed, which never falls; and the
-    /// file at which it failed last, the open file and the place in it.
+    /// What the shelf tells: what it holds, which no call changes; how often it has failed, which never falls; the
+    /// file at which it failed last, the open file and the place in it; and the readings of files, the last one first.
     ghost told: { Self → ShelfTold };
-
-    /// The readings of files, the last one first.
-    ghost given: { Self → List FileReading };
 
     /// Where the shelf tells what it holds and a file is open, the bytes that are left of it.
     ghost left: { Self → Option (List ℕ) };
@@ -56,8 +53,8 @@ pub trait Shelf {
         ensures lacking { Lacks (told self.old).holds name.now →
             IsErr result × ((told self.new).faults ≡ (told self.old).faults) }
         ensures closed { OnErr result ((told self.new).place ≡ None) }
-        ensures begun { OnOk result (given self.new ≡ begun name.now ∷ given self.old) }
-        ensures none_begun { OnErr result (given self.new ≡ given self.old) }
+        ensures begun { OnOk result ((told self.new).given ≡ begun name.now ∷ (told self.old).given) }
+        ensures none_begun { OnErr result ((told self.new).given ≡ (told self.old).given) }
         ensures cause { OnErr result
             (Lacks (told self.old).holds name.now ⊎ Rose (told self.old).faults (told self.new).faults) }
         ensures failed { (told self.new).failed ≡
@@ -79,8 +76,8 @@ pub trait Shelf {
             (λ _. (told self.new).place ≡ (told self.old).place) }
         ensures bytes { ReadConsumes (left self.old) (left self.new) result buf.new }
         ensures gave { MatchResult result
-            (λ n. given self.new ≡ after_read n buf.new (given self.old))
-            (λ _. given self.new ≡ given self.old) }
+            (λ n. (told self.new).given ≡ after_read n buf.new (told self.old).given)
+            (λ _. (told self.new).given ≡ (told self.old).given) }
 
         ensures cause { OnErr result (Rose (told self.old).faults (told self.new).faults) }
         ensures failed { (told self.new).failed ≡

@@ -1,11 +1,12 @@
 // Whole files and whole texts.
 ghost use Rattle.std.specs.Prelude.{◌≡◌, ◌≤◌, ◌<◌, ◌+◌, ◌⊎◌, ◌^◌, ◌∷◌, [], ℕ, List, length};
 ghost use Rattle.std.specs.Prelude.{take, true, Some, IsSome, IsSomeAnd, IsOk, OnOk, OnErr, IfOk, IfErr, IfSome};
-ghost use Rattle.std.specs.Prelude.{IsErrOf};
+ghost use Rattle.std.specs.Prelude.{IsErrOf, is_ok};
 ghost use Rattle.staat_edge.specs.Causes.{Rose};
-ghost use Rattle.staat_edge.specs.Files.{content_of, told_name, Lacks, IsWhole, IsLonger, failed_at, held_name};
-ghost use Rattle.staat_edge.specs.Fitting.{HasLonger, HasWhole, Narrows};
-ghost use Rattle.staat_edge.specs.Readings.{OpensSome, whole_reading};
+ghost use Rattle.staat_edge.specs.Files.{content_of, told_name, Lacks, failed_at, held_name};
+ghost use Rattle.staat_edge.specs.Fitting.{IsLonger, IsWhole, Narrows};
+ghost use Rattle.staat_edge.specs.Opening.{OpensFiles};
+ghost use Rattle.staat_edge.specs.Readings.{whole_reading};
 ghost use Rattle.staat_edge.specs.declared.whole.ReadRefusal.TheVariants.{OutOfMemory};
 ghost use Rattle.staat_edge.specs.Sinks.{GrewBy, GrewByPart};
 
@@ -59,12 +60,11 @@ pub fn read_whole<H: Shelf>(
     ensures most { IfSome (H.told shelf.new).place (λ at. at ≤ limit + 1) }
 
     ensures gave { IfOk result (λ bytes.
-        H.given shelf.new ≡ whole_reading name.now bytes ∷ H.given shelf.old) }
-    ensures opens { OpensSome (name.now ∷ []) (H.given shelf.old) (H.given shelf.new) }
-    ensures narrows { Narrows (H.told shelf.new).holds (H.given shelf.old) (H.given shelf.new) }
+        (H.told shelf.new).given ≡ whole_reading name.now bytes ∷ (H.told shelf.old).given) }
+    ensures opens { OpensFiles (is_ok result) (name.now ∷ []) (H.told shelf.old) (H.told shelf.new) }
+    ensures narrows { Narrows (H.told shelf.old) (H.told shelf.new) }
 
-    ensures content { IfOk result (λ bytes. IsWhole (H.told shelf.old).holds name.now bytes) }
-    ensures fits { IfOk result (λ bytes. HasWhole (H.told shelf.new).holds (H.given shelf.new) name.now bytes) }
+    ensures content { IfOk result (λ bytes. IsWhole (H.told shelf.new) name.now bytes) }
     ensures within { IfOk result (λ bytes. length bytes ≤ limit) }
     ensures place { IfOk result (λ bytes. (H.told shelf.new).place ≡ Some (length bytes)) }
     ensures same_failed { OnOk result ((H.told shelf.new).failed ≡ (H.told shelf.old).failed) }
@@ -82,10 +82,7 @@ pub fn read_whole<H: Shelf>(
         IsSomeAnd (H.told shelf.new).place (λ at. limit < at) }
     ensures long_name { IsErrOf result ReadRefusal.TooLong →
         (H.told shelf.new).opened ≡ told_name (H.told shelf.old).holds name.now }
-    ensures longer { IsErrOf result ReadRefusal.TooLong →
-        IsLonger (H.told shelf.old).holds name.now limit }
-    ensures fits_longer { IsErrOf result ReadRefusal.TooLong →
-        HasLonger (H.told shelf.new).holds (H.given shelf.new) name.now limit }
+    ensures longer { IsErrOf result ReadRefusal.TooLong → IsLonger (H.told shelf.new) name.now limit }
     ensures long_failed { IsErrOf result ReadRefusal.TooLong →
         (H.told shelf.new).failed ≡ (H.told shelf.old).failed }
 
