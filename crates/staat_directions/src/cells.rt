@@ -1,8 +1,12 @@
 // The command `cells`: all cells of directions, each with its blocking graph.
-ghost use Rattle.std.specs.Prelude.{◌≡◌, ◌≤◌, ◌<◌, Some, IfOk, IfErr, length};
+ghost use Rattle.std.specs.Prelude.{◌≡◌, ◌≤◌, ◌<◌, IfOk, IfErr, length};
+ghost use Rattle.std.specs.Prelude.{[]};
+ghost use Rattle.staat_input.specs.Opened.{OpensSomeOf};
+ghost use Rattle.staat_input.specs.declared.limits.TheConstants.Limits.{ASSEMBLY};
 ghost use Rattle.staat_limits.specs.declared.limits.TheConstants.{MOST_CELL_PLANES};
 ghost use Rattle.staat_words.specs.Requests.{IsCellsRequest};
 ghost use Rattle.staat_pairs.specs.Tables.{WasMadeFrom};
+ghost use Rattle.staat_edge.specs.Fitting.{Fit};
 ghost use Rattle.staat_input.specs.Work.{Files, Follows};
 ghost use Rattle.staat_directions.specs.CellTables.{AreTabled, CellsWork};
 ghost use Rattle.staat_input.specs.Counting.{all_parts};
@@ -46,7 +50,8 @@ pub fn cells<H: Shelf>(
     ensures holds { (H.told shelf.new).holds ≡ (H.told shelf.old).holds }
     ensures count { (H.told shelf.old).faults ≤ (H.told shelf.new).faults }
     ensures status { IfOk result (λ a. a.status < 2) }
-    ensures found { (files : Files) → (H.told shelf.old).holds ≡ Some files →
+    ensures opens { OpensSomeOf ASSEMBLY request.now.asked.input [] (H.told shelf.old) (H.told shelf.new) }
+    ensures found { (files : Files) → Fit (H.told shelf.new) files →
         Follows (CellsWork request.now files) result }
     ensures cause { IfErr result (HasCause (over (H.told shelf.old) (H.told shelf.new))) }
 {

@@ -1,9 +1,12 @@
 // The command `pair`: whether a wall shows that one piece never meets another.
 ghost use Rattle.std.specs.Prelude.{◌≡◌, ◌≤◌, ◌<◌, ◌↔◌, ◌≤ℤ◌, pos};
-ghost use Rattle.std.specs.Prelude.{IsTrue, Some, IfOk, IfErr};
+ghost use Rattle.std.specs.Prelude.{IsTrue, IfOk, IfErr};
+ghost use Rattle.std.specs.Prelude.{◌∷◌, []};
+ghost use Rattle.staat_edge.specs.Opening.{OpensSome};
 ghost use Rattle.staat_vec.specs.Vectors.{IsWithin, dot};
 ghost use Rattle.staat_model.specs.Walls.{IsShown};
 ghost use Rattle.staat_words.specs.Requests.{IsPairRequest};
+ghost use Rattle.staat_edge.specs.Fitting.{Fit};
 ghost use Rattle.staat_input.specs.Work.{Files, Follows};
 ghost use Rattle.staat_directions.specs.Pairs.{IsJudged, PairWork};
 ghost use Rattle.staat_input.specs.Causes.{HasCause, over};
@@ -67,7 +70,9 @@ pub fn pair<H: Shelf>(alloc: Global, request: &PairRequest, shelf: &mut H) -> Re
     ensures holds { (H.told shelf.new).holds ≡ (H.told shelf.old).holds }
     ensures count { (H.told shelf.old).faults ≤ (H.told shelf.new).faults }
     ensures status { IfOk result (λ a. a.status < 2) }
-    ensures found { (files : Files) → (H.told shelf.old).holds ≡ Some files →
+    ensures opens { OpensSome (request.now.first ∷ request.now.second ∷ []) (H.told shelf.old).given
+        (H.told shelf.new).given }
+    ensures found { (files : Files) → Fit (H.told shelf.new) files →
         Follows (PairWork request.now files) result }
     ensures cause { IfErr result (HasCause (over (H.told shelf.old) (H.told shelf.new))) }
 {

@@ -1,15 +1,15 @@
 -- Which files a fault may name that says that a file is too long.
-use Rattle.std.proofs.Common.{◌≡◌, ℕ, List, Option, None, Ok, Err}
+use Rattle.std.proofs.Common.{◌≡◌, ℕ, List, [], None, Ok, Err}
 use Rattle.std.specs.Prelude.{Result, IfErr, IsErrAnd}
 use Rattle.staat_edge.specs.Told.{ShelfTold}
 use Rattle.staat_fault.specs.declared.fault.Fault.{Fault}
 use Rattle.staat_fault.specs.declared.fault.Fault.TheVariants as fault
-use Rattle.staat_input.specs.Work.{Files, IsNotTaken}
+use Rattle.staat_input.specs.Work.{IsNotTaken}
 use Rattle.staat_input.specs.Causes.{HasCause, IfTooLong, ShelfSide, over}
 use Rattle.staat_input.proofs.InputLemmas.{failed_with}
 
 abbrev silent : ShelfTold
-silent = record { holds = None; faults = 0; failed = None; opened = None; place = None }
+silent = record { holds = None; faults = 0; failed = None; opened = None; place = None; given = [] }
 
 -- a fault that comes whatever a shelf tells does not say that a file is too long
 pub never_long : {X : Type 0} (P : List ℕ → Type 0) (r : Result X Fault) → ((shelf : ShelfSide) → IfErr r (HasCause shelf)) → IfErr r (IfTooLong P)
@@ -21,10 +21,10 @@ never_long P (Err f) cause = go f (cause (over silent silent))
     go f h = tt
 
 -- a file that was not taken is the one that was asked for
-pub long_named : {X : Type 0} (holds : Option Files) (name : List ℕ) (f : Fault) (r : Result X Fault) → IsNotTaken holds name f → IsErrAnd r (λ e. e ≡ f) → IfErr r (IfTooLong (λ long. long ≡ name))
-long_named holds name f r refused fails = failed_with (IfTooLong (λ long. long ≡ name)) f r (go f refused) fails
+pub long_named : {X : Type 0} (told : ShelfTold) (name : List ℕ) (f : Fault) (r : Result X Fault) → IsNotTaken told name f → IsErrAnd r (λ e. e ≡ f) → IfErr r (IfTooLong (λ long. long ≡ name))
+long_named told name f r refused fails = failed_with (IfTooLong (λ long. long ≡ name)) f r (go f refused) fails
   where
-    go : (f : Fault) → IsNotTaken holds name f → IfTooLong (λ long. long ≡ name) f
+    go : (f : Fault) → IsNotTaken told name f → IfTooLong (λ long. long ≡ name) f
     go (fault.TooLong at) refused = refused.0
     go f refused = tt
 

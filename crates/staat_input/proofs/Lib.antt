@@ -5,6 +5,7 @@ pub mod KeptLemmas
 pub mod MovedLemmas
 pub mod OneFinding
 pub mod OneInput
+pub mod OpenedLemmas
 pub mod ReadLemmas
 pub mod SketchLemmas
 pub mod SoundLemmas

@@ -2,7 +2,9 @@
 use Rattle.std.proofs.Common.{◌≡◌, ℕ, ◌<◌, ◌≤◌, List, length, Option, Some, None, Ok, Err, refl, sym, ap, subst}
 use Rattle.std.specs.Prelude.{Result, IsSomeAnd}
 use Rattle.staat_vec.specs.declared.vector.V3.{V3}
-use Rattle.staat_edge.specs.Files.{bytes_of, IsWhole, IsLonger}
+use Rattle.staat_edge.specs.Files.{bytes_of}
+use Rattle.staat_edge.specs.Fitting.{Fit, IsLonger, IsWhole}
+use Rattle.staat_edge.specs.Told.{ShelfTold}
 use Rattle.staat_fault.specs.declared.fault.Fault.{Fault}
 use Rattle.staat_fault.specs.declared.fault.Fault.TheVariants as fault
 use Rattle.staat_off.specs.declared.raw.Raw.{Raw}
@@ -28,31 +30,31 @@ use Rattle.staat_input.specs.declared.limits.Limits.{Limits}
 use Rattle.staat_input.specs.Inputs.{SaysListingWithin, no_listing, listing}
 
 -- the file has more bytes than the limit
-found_long : {X : Type 0} (limit : ℕ) (Says : List ℕ → Found X → Type 0) (holds : Option Files) (files : Files) (name : List ℕ) → holds ≡ Some files → IsLonger holds name limit → IsTakenWithin limit files name Says (Err (fault.TooLong name))
-found_long {X} limit Says holds files name told long = go (bytes_of name files) refl (subst (λ h. IsLonger h name limit) told long)
+found_long : {X : Type 0} (limit : ℕ) (Says : List ℕ → Found X → Type 0) (told : ShelfTold) (files : Files) (name : List ℕ) → Fit told files → IsLonger told name limit → IsTakenWithin limit files name Says (Err (fault.TooLong name))
+found_long {X} limit Says told files name fit long = go (bytes_of name files) refl (long files fit)
   where
     go : (o : Option (List ℕ)) → bytes_of name files ≡ o → IsSomeAnd o (λ bytes. limit < length bytes) → IsTakenWithin limit files name Says (Err (fault.TooLong name))
     go None e longer = absurd longer
     go (Some bytes) e longer = too_long bytes e longer refl
 
 -- the file's bytes were read
-pub found_within : {X : Type 0} (limit : ℕ) (Says : List ℕ → Found X → Type 0) (holds : Option Files) (files : Files) (name bytes : List ℕ) (r : Result X Fault) → holds ≡ Some files → IsWhole holds name bytes → length bytes ≤ limit → Follows (Says bytes) r → Follows (IsTakenWithin limit files name Says) r
-found_within limit Says holds files name bytes (Ok x) told whole short says = taken bytes (subst (λ h. IsWhole h name bytes) told whole) short says
-found_within limit Says holds files name bytes (Err fault.OutOfMemory) told whole short says = tt
-found_within limit Says holds files name bytes (Err f) told whole short says = taken bytes (subst (λ h. IsWhole h name bytes) told whole) short says
+pub found_within : {X : Type 0} (limit : ℕ) (Says : List ℕ → Found X → Type 0) (told : ShelfTold) (files : Files) (name bytes : List ℕ) (r : Result X Fault) → Fit told files → IsWhole told name bytes → length bytes ≤ limit → Follows (Says bytes) r → Follows (IsTakenWithin limit files name Says) r
+found_within limit Says told files name bytes (Ok x) fit whole short says = taken bytes (whole files fit) short says
+found_within limit Says told files name bytes (Err fault.OutOfMemory) fit whole short says = tt
+found_within limit Says told files name bytes (Err f) fit whole short says = taken bytes (whole files fit) short says
 
-pub found_taken : {X : Type 0} (Says : List ℕ → Found X → Type 0) (holds : Option Files) (files : Files) (name bytes : List ℕ) (r : Result X Fault) → holds ≡ Some files → IsWhole holds name bytes → length bytes ≤ FILE_LIMIT → Follows (Says bytes) r → Follows (IsTaken files name Says) r
-found_taken Says holds files name bytes r told whole short says = found_within FILE_LIMIT Says holds files name bytes r told whole short says
+pub found_taken : {X : Type 0} (Says : List ℕ → Found X → Type 0) (told : ShelfTold) (files : Files) (name bytes : List ℕ) (r : Result X Fault) → Fit told files → IsWhole told name bytes → length bytes ≤ FILE_LIMIT → Follows (Says bytes) r → Follows (IsTaken files name Says) r
+found_taken Says told files name bytes r fit whole short says = found_within FILE_LIMIT Says told files name bytes r fit whole short says
 
 -- the file's bytes were not taken
-pub not_taken_within : {X : Type 0} (limit : ℕ) (Says : List ℕ → Found X → Type 0) (holds : Option Files) (files : Files) (name : List ℕ) (f : Fault) → holds ≡ Some files → IsNotTakenWithin limit holds name f → Follows (IsTakenWithin limit files name Says) (Err f)
-not_taken_within limit Says holds files name (fault.ReadFault at) told e = to_read (ap (λ n. Err (fault.ReadFault n)) e)
-not_taken_within limit Says holds files name (fault.TooLong at) told (e, long) = subst (λ n. IsTakenWithin limit files name Says (Err (fault.TooLong n))) (sym e) (found_long limit Says holds files name told long)
-not_taken_within limit Says holds files name fault.OutOfMemory told e = tt
-not_taken_within limit Says holds files name f told e = absurd e
+pub not_taken_within : {X : Type 0} (limit : ℕ) (Says : List ℕ → Found X → Type 0) (told : ShelfTold) (files : Files) (name : List ℕ) (f : Fault) → Fit told files → IsNotTakenWithin limit told name f → Follows (IsTakenWithin limit files name Says) (Err f)
+not_taken_within limit Says told files name (fault.ReadFault at) fit e = to_read (ap (λ n. Err (fault.ReadFault n)) e)
+not_taken_within limit Says told files name (fault.TooLong at) fit (e, long) = subst (λ n. IsTakenWithin limit files name Says (Err (fault.TooLong n))) (sym e) (found_long limit Says told files name fit long)
+not_taken_within limit Says told files name fault.OutOfMemory fit e = tt
+not_taken_within limit Says told files name f fit e = absurd e
 
-pub not_taken : {X : Type 0} (Says : List ℕ → Found X → Type 0) (holds : Option Files) (files : Files) (name : List ℕ) (f : Fault) → holds ≡ Some files → IsNotTaken holds name f → Follows (IsTaken files name Says) (Err f)
-not_taken Says holds files name f told e = not_taken_within FILE_LIMIT Says holds files name f told e
+pub not_taken : {X : Type 0} (Says : List ℕ → Found X → Type 0) (told : ShelfTold) (files : Files) (name : List ℕ) (f : Fault) → Fit told files → IsNotTaken told name f → Follows (IsTaken files name Says) (Err f)
+not_taken Says told files name f fit e = not_taken_within FILE_LIMIT Says told files name f fit e
 
 -- the file is no OFF file
 pub says_no_file : (digits : ℕ) (name bytes : List ℕ) (refusal : OffRefusal) → Reads {X = Raw} (Err refusal) (reading digits bytes) → Follows (SaysPiece digits name bytes) (Err (off_fault name refusal))

@@ -5,6 +5,7 @@ pub mod Drawing
 pub mod Inputs
 pub mod Kept
 pub mod Moved
+pub mod Opened
 pub mod Pieces
 pub mod Refusals
 pub mod Shapes

@@ -1,9 +1,11 @@
 -- The work on a request: its steps in their order, and what each finds in the files.
 use Rattle.std.specs.Prelude.{◌≡◌, ◌⊎◌, ◌<◌, ◌≤◌, ℕ, List, [], ◌∷◌, length, Result, Ok}
-use Rattle.std.specs.Prelude.{Err, Option, Some, ⊤}
+use Rattle.std.specs.Prelude.{Err, Some, ⊤}
 use Rattle.staat_fault.specs.declared.fault.Fault.{Fault}
 use Rattle.staat_fault.specs.declared.fault.Fault.TheVariants.{ReadFault, TooLong, OutOfMemory}
-use Rattle.staat_edge.specs.Files.{bytes_of, IsLonger}
+use Rattle.staat_edge.specs.Files.{bytes_of}
+use Rattle.staat_edge.specs.Fitting.{IsLonger}
+use Rattle.staat_edge.specs.Told.{ShelfTold}
 use Rattle.staat_limits.specs.declared.limits.TheConstants.{FILE_LIMIT}
 use Rattle.staat_input.specs.declared.answer.Answer.{Answer}
 
@@ -44,15 +46,15 @@ Follows Step (Err OutOfMemory) = ⊤
 Follows Step found = Step found
 
 -- why a whole file was not taken: it could not be read, or it is longer than the limit, or there was no memory
-abbrev pub IsNotTakenWithin : ℕ → Option Files → List ℕ → Fault → Type 0
-IsNotTakenWithin limit holds name (ReadFault at) = at ≡ name
-IsNotTakenWithin limit holds name (TooLong at) = (at ≡ name) × IsLonger holds name limit
-IsNotTakenWithin limit holds name OutOfMemory = ⊤
-IsNotTakenWithin limit holds name fault = ⊥
+abbrev pub IsNotTakenWithin : ℕ → ShelfTold → List ℕ → Fault → Type 0
+IsNotTakenWithin limit told name (ReadFault at) = at ≡ name
+IsNotTakenWithin limit told name (TooLong at) = (at ≡ name) × IsLonger told name limit
+IsNotTakenWithin limit told name OutOfMemory = ⊤
+IsNotTakenWithin limit told name fault = ⊥
 
 -- the same of a file of points or a part list
-abbrev pub IsNotTaken : Option Files → List ℕ → Fault → Type 0
-IsNotTaken holds name fault = IsNotTakenWithin FILE_LIMIT holds name fault
+abbrev pub IsNotTaken : ShelfTold → List ℕ → Fault → Type 0
+IsNotTaken told name fault = IsNotTakenWithin FILE_LIMIT told name fault
 
 -- an answer with this status and this text
 abbrev pub answer : ℕ → List ℕ → Answer

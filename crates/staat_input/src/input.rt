@@ -1,12 +1,17 @@
 // The parts that an input names.
-ghost use Rattle.std.specs.Prelude.{◌≡◌, ◌≤◌, ◌<◌, ◌+◌, [], All, Contains, List, ℕ, Some};
+ghost use Rattle.std.specs.Prelude.{◌≡◌, ◌≤◌, ◌<◌, ◌+◌, [], All, Contains, List, ℕ};
 ghost use Rattle.std.specs.Prelude.{IfOk, IfErr, OnOk, length, map, sum_by};
+ghost use Rattle.std.specs.Prelude.{is_ok};
+ghost use Rattle.staat_edge.specs.Opening.{OpensFiles};
+ghost use Rattle.staat_input.specs.Opened.{OpensInput, piece_files};
+ghost use Rattle.staat_input.specs.declared.limits.TheConstants.Limits.{ASSEMBLY};
 ghost use Rattle.staat_limits.specs.declared.limits.TheConstants.{MOST_DIGITS};
 ghost use Rattle.staat_vec.specs.Vectors.{IsWithin};
 ghost use Rattle.staat_model.specs.Pieces.{IsPiece};
 ghost use Rattle.staat_model.specs.Assemblies.{ArePartsWithin};
 ghost use Rattle.staat_limits.specs.declared.limits.TheConstants.{MOST_PIECES, MOST_PRODUCT_PARTS};
 ghost use Rattle.staat_words.specs.Requests.{IsAsked, IsAskedWithin, IsInputWithin};
+ghost use Rattle.staat_edge.specs.Fitting.{Fit};
 ghost use Rattle.staat_input.specs.Work.{Each, Files, Follows, IsTaken};
 ghost use Rattle.staat_input.specs.Drawing.{AreSmall, Drew, IsDrawn, IsDrawnWithin, solid_of};
 ghost use Rattle.staat_input.specs.Drawing.{solids_of, solids_of_part};
@@ -75,7 +80,7 @@ fn read_list<H: Shelf>(
 ) -> Result<Listing, Fault>
     ensures holds { (H.told shelf.new).holds ≡ (H.told shelf.old).holds }
     ensures count { (H.told shelf.old).faults ≤ (H.told shelf.new).faults }
-    ensures found { (files : Files) → (H.told shelf.old).holds ≡ Some files → Follows (IsTaken files name.now
+    ensures found { (files : Files) → Fit (H.told shelf.new) files → Follows (IsTaken files name.now
         (SaysListingWithin limits name.now)) result }
     ensures few { IfOk result (IsFewWithin limits) }
     ensures cause { IfErr result (HasCause (over (H.told shelf.old) (H.told shelf.new))) }
@@ -95,7 +100,7 @@ fn names_of<H: Shelf>(
     requires room { limits.parts ≤ limits.pieces }
     ensures holds { (H.told shelf.new).holds ≡ (H.told shelf.old).holds }
     ensures count { (H.told shelf.old).faults ≤ (H.told shelf.new).faults }
-    ensures found { (files : Files) → (H.told shelf.old).holds ≡ Some files →
+    ensures found { (files : Files) → Fit (H.told shelf.new) files →
         Follows (IsListingOfWithin limits files input.now) result }
     ensures few { IfOk result (IsFewWithin limits) }
     ensures cause { IfErr result (HasCause (over (H.told shelf.old) (H.told shelf.new))) }
@@ -133,11 +138,12 @@ fn read_pieces<H: Shelf>(
     requires vector { IsWithin POINT at }
     ensures holds { (H.told shelf.new).holds ≡ (H.told shelf.old).holds }
     ensures count { (H.told shelf.old).faults ≤ (H.told shelf.new).faults }
-    ensures found { (files : Files) → (H.told shelf.old).holds ≡ Some files →
+    ensures opens { OpensFiles (is_ok result) names.now (H.told shelf.old) (H.told shelf.new) }
+    ensures found { (files : Files) → Fit (H.told shelf.new) files →
         Follows (Each (IsMovedPieceOf files digits at) names.now) result }
     ensures pieces { IfOk result (All IsPiece) }
     ensures each { IfOk result (λ pieces. length pieces ≡ length names.now) }
-    ensures drawn { (files : Files) → (H.told shelf.old).holds ≡ Some files →
+    ensures drawn { (files : Files) → Fit (H.told shelf.new) files →
         OnOk result (Drew sketch.old sketch.new (map (solid_of files digits part at) names.now)) }
     ensures small { (parts most : ℕ) → part < parts → AreSmall parts most sketch.old.solids.items →
         OnOk result (AreSmall parts (most + length names.now) sketch.new.solids.items) }
@@ -166,11 +172,12 @@ fn read_part<H: Shelf>(
     requires vector { IsWithin POINT named.now.at }
     ensures holds { (H.told shelf.new).holds ≡ (H.told shelf.old).holds }
     ensures count { (H.told shelf.old).faults ≤ (H.told shelf.new).faults }
-    ensures found { (files : Files) → (H.told shelf.old).holds ≡ Some files →
+    ensures opens { OpensFiles (is_ok result) named.now.pieces (H.told shelf.old) (H.told shelf.new) }
+    ensures found { (files : Files) → Fit (H.told shelf.new) files →
         Follows (IsPartOf files digits named.now) result }
     ensures pieces { IfOk result (λ part. All IsPiece part.pieces) }
     ensures each { IfOk result (λ part. length part.pieces ≡ length named.now.pieces) }
-    ensures drawn { (files : Files) → (H.told shelf.old).holds ≡ Some files →
+    ensures drawn { (files : Files) → Fit (H.told shelf.new) files →
         OnOk result (Drew sketch.old sketch.new (solids_of_part files digits part named.now)) }
     ensures small { (parts most : ℕ) → part < parts → AreSmall parts most sketch.old.solids.items →
         OnOk result (AreSmall parts (most + length named.now.pieces) sketch.new.solids.items) }
@@ -196,10 +203,11 @@ fn read_parts<H: Shelf>(
     requires placed { All (λ part. IsWithin POINT part.at) listing.now }
     ensures holds { (H.told shelf.new).holds ≡ (H.told shelf.old).holds }
     ensures count { (H.told shelf.old).faults ≤ (H.told shelf.new).faults }
-    ensures found { (files : Files) → (H.told shelf.old).holds ≡ Some files →
+    ensures opens { OpensFiles (is_ok result) (piece_files listing.now) (H.told shelf.old) (H.told shelf.new) }
+    ensures found { (files : Files) → Fit (H.told shelf.new) files →
         Follows (Each (IsPartOf files digits) listing.now) result }
     ensures read { IfOk result (AreRead listing.now) }
-    ensures drawn { (files : Files) → (H.told shelf.old).holds ≡ Some files →
+    ensures drawn { (files : Files) → Fit (H.told shelf.new) files →
         OnOk result (Drew sketch.old sketch.new (solids_of files digits listing.now)) }
     ensures small { (parts most : ℕ) → length listing.now ≤ parts →
         AreSmall parts most sketch.old.solids.items → OnOk result (AreSmall parts (most +
@@ -231,10 +239,12 @@ pub fn read_within<H: Shelf>(
     requires most { limits.parts ≤ MOST_PRODUCT_PARTS }
     ensures holds { (H.told shelf.new).holds ≡ (H.told shelf.old).holds }
     ensures count { (H.told shelf.old).faults ≤ (H.told shelf.new).faults }
-    ensures found { (files : Files) → (H.told shelf.old).holds ≡ Some files →
+    ensures opens { OpensInput limits (is_ok result) asked.now.input [] (H.told shelf.old)
+        (H.told shelf.new) }
+    ensures found { (files : Files) → Fit (H.told shelf.new) files →
         Follows (IsInputOfWithin limits files asked.now) result }
     ensures few { IfOk result (ArePartsWithin limits.parts limits.pieces) }
-    ensures drawn { (files : Files) → (H.told shelf.old).holds ≡ Some files → sketch.old.solids.items ≡ [] →
+    ensures drawn { (files : Files) → Fit (H.told shelf.new) files → sketch.old.solids.items ≡ [] →
         OnOk result (IsDrawnWithin limits files asked.now sketch.old.keep sketch.new) }
     ensures small { sketch.old.solids.items ≡ [] →
         IfOk result (λ parts. AreSmall (length parts) limits.pieces sketch.new.solids.items) }
@@ -255,9 +265,11 @@ pub fn read_input<H: Shelf>(
     requires { IsAsked asked.now }
     ensures holds { (H.told shelf.new).holds ≡ (H.told shelf.old).holds }
     ensures count { (H.told shelf.old).faults ≤ (H.told shelf.new).faults }
-    ensures found { (files : Files) → (H.told shelf.old).holds ≡ Some files →
+    ensures opens { OpensInput ASSEMBLY (is_ok result) asked.now.input [] (H.told shelf.old)
+        (H.told shelf.new) }
+    ensures found { (files : Files) → Fit (H.told shelf.new) files →
         Follows (IsInputOf files asked.now) result }
-    ensures drawn { (files : Files) → (H.told shelf.old).holds ≡ Some files → sketch.old.solids.items ≡ [] →
+    ensures drawn { (files : Files) → Fit (H.told shelf.new) files → sketch.old.solids.items ≡ [] →
         OnOk result (IsDrawn files asked.now sketch.old.keep sketch.new) }
     ensures small { sketch.old.solids.items ≡ [] →
         IfOk result (λ assembly. AreSmall (length assembly) MOST_PIECES sketch.new.solids.items) }

@@ -1,7 +1,10 @@
 // The pieces of a part, each read from its file and moved as the part is.
-ghost use Rattle.std.specs.Prelude.{◌≡◌, ◌≤◌, ◌<◌, ◌+◌, [], ◌∷◌, ℕ, Some, IfErr, OnOk};
+ghost use Rattle.std.specs.Prelude.{◌≡◌, ◌≤◌, ◌<◌, ◌+◌, [], ◌∷◌, ℕ, IfErr, OnOk};
+ghost use Rattle.std.specs.Prelude.{is_ok};
+ghost use Rattle.staat_edge.specs.Opening.{OpensFiles};
 ghost use Rattle.staat_limits.specs.declared.limits.TheConstants.{MOST_DIGITS};
 ghost use Rattle.staat_vec.specs.Vectors.{IsWithin};
+ghost use Rattle.staat_edge.specs.Fitting.{Fit};
 ghost use Rattle.staat_input.specs.Work.{Files, Follows};
 ghost use Rattle.staat_input.specs.Drawing.{AreSmall, Drew, solid_of};
 ghost use Rattle.staat_input.specs.Moved.{IsMovedPieceOf, MovesPiece};
@@ -46,9 +49,10 @@ pub fn read_moved<H: Shelf>(
     requires vector { IsWithin POINT at }
     ensures holds { (H.told shelf.new).holds ≡ (H.told shelf.old).holds }
     ensures count { (H.told shelf.old).faults ≤ (H.told shelf.new).faults }
-    ensures found { (files : Files) → (H.told shelf.old).holds ≡ Some files
+    ensures opens { OpensFiles (is_ok result) (name.now ∷ []) (H.told shelf.old) (H.told shelf.new) }
+    ensures found { (files : Files) → Fit (H.told shelf.new) files
         → Follows (IsMovedPieceOf files digits at name.now) result }
-    ensures drawn { (files : Files) → (H.told shelf.old).holds ≡ Some files →
+    ensures drawn { (files : Files) → Fit (H.told shelf.new) files →
         OnOk result (Drew sketch.old sketch.new (solid_of files digits part at name.now ∷ [])) }
     ensures small { (parts most : ℕ) → part < parts → AreSmall parts most sketch.old.solids.items →
         OnOk result (AreSmall parts (most + 1) sketch.new.solids.items) }

@@ -1,10 +1,13 @@
 // The files of a request.
-ghost use Rattle.std.specs.Prelude.{◌≡◌, ◌≤◌, Some, IfErr, IfOk, List, Ok, ℕ, length};
+ghost use Rattle.std.specs.Prelude.{◌≡◌, ◌≤◌, IfErr, IfOk, List, Ok, ℕ, length};
+ghost use Rattle.std.specs.Prelude.{is_ok, ◌∷◌, []};
 ghost use Rattle.staat_limits.specs.declared.limits.TheConstants.{MOST_DIGITS};
 ghost use Rattle.staat_input.specs.Work.{Files, Follows, IsNotTaken};
 ghost use Rattle.staat_off.specs.Raws.{IsCounted, IsIndexed};
 ghost use Rattle.staat_off.specs.Reading.{reading};
-ghost use Rattle.staat_edge.specs.Files.{IsWhole, bytes_of};
+ghost use Rattle.staat_edge.specs.Files.{bytes_of};
+ghost use Rattle.staat_edge.specs.Fitting.{Fit, IsWhole};
+ghost use Rattle.staat_edge.specs.Opening.{OpensFiles};
 ghost use Rattle.staat_input.specs.Drawing.{piece_found, raw_in};
 ghost use Rattle.staat_input.specs.Pieces.{IsPieceOf, SaysPiece};
 ghost use Rattle.staat_input.specs.Causes.{HasCause, IfTooLong, ShelfSide, over};
@@ -23,9 +26,10 @@ use std::alloc::Global;
 pub fn read_file<H: Shelf>(alloc: Global, shelf: &mut H, name: &Name) -> Result<Bytes, Fault>
     ensures holds { (H.told shelf.new).holds ≡ (H.told shelf.old).holds }
     ensures count { (H.told shelf.old).faults ≤ (H.told shelf.new).faults }
-    ensures whole { IfOk result (λ bytes. IsWhole (H.told shelf.old).holds name.now bytes) }
+    ensures opens { OpensFiles (is_ok result) (name.now ∷ []) (H.told shelf.old) (H.told shelf.new) }
+    ensures whole { IfOk result (λ bytes. IsWhole (H.told shelf.new) name.now bytes) }
     ensures within { IfOk result (λ bytes. length bytes ≤ FILE_LIMIT) }
-    ensures refused { IfErr result (IsNotTaken (H.told shelf.old).holds name.now) }
+    ensures refused { IfErr result (IsNotTaken (H.told shelf.new) name.now) }
     ensures cause { IfErr result (HasCause (over (H.told shelf.old) (H.told shelf.new))) }
 {
     match read_whole(alloc, shelf, name.as_str(), FILE_LIMIT) {
@@ -74,9 +78,10 @@ pub fn read_drawn<H: Shelf>(
     requires { digits ≤ MOST_DIGITS }
     ensures holds { (H.told shelf.new).holds ≡ (H.told shelf.old).holds }
     ensures count { (H.told shelf.old).faults ≤ (H.told shelf.new).faults }
-    ensures found { (files : Files) → (H.told shelf.old).holds ≡ Some files →
+    ensures opens { OpensFiles (is_ok result) (name.now ∷ []) (H.told shelf.old) (H.told shelf.new) }
+    ensures found { (files : Files) → Fit (H.told shelf.new) files →
         Follows (IsPieceOf files digits name.now) (piece_found result) }
-    ensures raw { (files : Files) → (H.told shelf.old).holds ≡ Some files →
+    ensures raw { (files : Files) → Fit (H.told shelf.new) files →
         IfOk result (λ drawn. drawn.raw ≡ raw_in digits (bytes_of name.now files)) }
     ensures indexed { IfOk result (λ drawn. IsIndexed drawn.raw) }
     ensures counted { IfOk result (λ drawn. IsCounted drawn.raw) }
@@ -97,7 +102,8 @@ pub fn read_piece<H: Shelf>(
     requires { digits ≤ MOST_DIGITS }
     ensures holds { (H.told shelf.new).holds ≡ (H.told shelf.old).holds }
     ensures count { (H.told shelf.old).faults ≤ (H.told shelf.new).faults }
-    ensures found { (files : Files) → (H.told shelf.old).holds ≡ Some files →
+    ensures opens { OpensFiles (is_ok result) (name.now ∷ []) (H.told shelf.old) (H.told shelf.new) }
+    ensures found { (files : Files) → Fit (H.told shelf.new) files →
         Follows (IsPieceOf files digits name.now) result }
     ensures cause { IfErr result (HasCause (over (H.told shelf.old) (H.told shelf.new))) }
     ensures named { IfErr result (IfTooLong (λ long. long ≡ name.now)) }

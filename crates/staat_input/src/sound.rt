@@ -1,7 +1,11 @@
 // The sound assembly that an input gives, and the sound product.
-ghost use Rattle.std.specs.Prelude.{◌≡◌, ◌≤◌, [], Some, IfErr, IfOk, List, OnOk, length};
+ghost use Rattle.std.specs.Prelude.{◌≡◌, ◌≤◌, [], IfErr, IfOk, List, OnOk, length};
+ghost use Rattle.std.specs.Prelude.{is_ok};
+ghost use Rattle.staat_input.specs.Opened.{OpensInput};
+ghost use Rattle.staat_input.specs.declared.limits.TheConstants.Limits.{ASSEMBLY, PRODUCT};
 ghost use Rattle.staat_limits.specs.declared.limits.TheConstants.{MOST_PIECES, MOST_PRODUCT_PARTS};
 ghost use Rattle.staat_words.specs.Requests.{IsAsked, IsAskedWithin};
+ghost use Rattle.staat_edge.specs.Fitting.{Fit};
 ghost use Rattle.staat_input.specs.Work.{Files, Follows};
 ghost use Rattle.staat_input.specs.Assembling.{IsSoundOf, IsSoundProductOf, IsTested};
 ghost use Rattle.staat_input.specs.Drawing.{AreSmall, IsDrawn};
@@ -43,9 +47,11 @@ pub fn read_sketched<H: Shelf>(
     requires { IsAsked asked.now }
     ensures holds { (H.told shelf.new).holds ≡ (H.told shelf.old).holds }
     ensures count { (H.told shelf.old).faults ≤ (H.told shelf.new).faults }
-    ensures found { (files : Files) → (H.told shelf.old).holds ≡ Some files →
+    ensures opens { OpensInput ASSEMBLY (is_ok result) asked.now.input [] (H.told shelf.old)
+        (H.told shelf.new) }
+    ensures found { (files : Files) → Fit (H.told shelf.new) files →
         Follows (IsSoundOf files asked.now) result }
-    ensures drawn { (files : Files) → (H.told shelf.old).holds ≡ Some files → sketch.old.solids.items ≡ [] →
+    ensures drawn { (files : Files) → Fit (H.told shelf.new) files → sketch.old.solids.items ≡ [] →
         OnOk result (IsDrawn files asked.now sketch.old.keep sketch.new) }
     ensures small { sketch.old.solids.items ≡ [] →
         IfOk result (λ sound. AreSmall (length sound) MOST_PIECES sketch.new.solids.items) }
@@ -61,7 +67,9 @@ pub fn read_sound<H: Shelf>(alloc: Global, shelf: &mut H, asked: &Asked) -> Resu
     requires { IsAsked asked.now }
     ensures holds { (H.told shelf.new).holds ≡ (H.told shelf.old).holds }
     ensures count { (H.told shelf.old).faults ≤ (H.told shelf.new).faults }
-    ensures found { (files : Files) → (H.told shelf.old).holds ≡ Some files →
+    ensures opens { OpensInput ASSEMBLY (is_ok result) asked.now.input [] (H.told shelf.old)
+        (H.told shelf.new) }
+    ensures found { (files : Files) → Fit (H.told shelf.new) files →
         Follows (IsSoundOf files asked.now) result }
     ensures cause { IfErr result (HasCause (over (H.told shelf.old) (H.told shelf.new))) }
     ensures named { IfErr result (IfTooLong (MayName asked.now.input)) }
@@ -97,7 +105,9 @@ pub fn read_product<H: Shelf>(
     requires { IsAskedWithin MOST_PRODUCT_PARTS asked.now }
     ensures holds { (H.told shelf.new).holds ≡ (H.told shelf.old).holds }
     ensures count { (H.told shelf.old).faults ≤ (H.told shelf.new).faults }
-    ensures found { (files : Files) → (H.told shelf.old).holds ≡ Some files →
+    ensures opens { OpensInput PRODUCT (is_ok result) asked.now.input [] (H.told shelf.old)
+        (H.told shelf.new) }
+    ensures found { (files : Files) → Fit (H.told shelf.new) files →
         Follows (IsSoundProductOf files asked.now) result }
     ensures cause { IfErr result (HasCause (over (H.told shelf.old) (H.told shelf.new))) }
     ensures named { IfErr result (IfTooLong (MayName asked.now.input)) }

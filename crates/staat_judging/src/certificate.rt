@@ -1,7 +1,10 @@
 // The certificate that a file holds.
-ghost use Rattle.std.specs.Prelude.{◌≡◌, ◌≤◌, List, ℕ, Some, IfOk, IfErr};
+ghost use Rattle.std.specs.Prelude.{◌≡◌, ◌≤◌, List, ℕ, IfOk, IfErr};
+ghost use Rattle.std.specs.Prelude.{is_ok, ◌∷◌, []};
+ghost use Rattle.staat_edge.specs.Opening.{OpensFiles};
 ghost use Rattle.staat_cert.specs.Feeds.{WasFed};
 ghost use Rattle.staat_model.specs.Texts.{IsWellFormed};
+ghost use Rattle.staat_edge.specs.Fitting.{Fit};
 ghost use Rattle.staat_input.specs.Work.{Files, Follows};
 ghost use Rattle.staat_input.specs.Causes.{ShelfSide, over};
 ghost use Rattle.staat_judging.specs.Checking.{IsCertificateIn, SaysCertificate};
@@ -42,7 +45,8 @@ pub fn read_certificate<H: Shelf>(
     ensures holds { (H.told shelf.new).holds ≡ (H.told shelf.old).holds }
     ensures count { (H.told shelf.old).faults ≤ (H.told shelf.new).faults }
     ensures formed { IfOk result IsWellFormed }
-    ensures found { (files : Files) → (H.told shelf.old).holds ≡ Some files →
+    ensures opens { OpensFiles (is_ok result) (name.now ∷ []) (H.told shelf.old) (H.told shelf.new) }
+    ensures found { (files : Files) → Fit (H.told shelf.new) files →
         Follows (IsCertificateIn files name.now) result }
     ensures cause { IfErr result (HasCertificateCause name.now (over (H.told shelf.old) (H.told shelf.new))) }
 {

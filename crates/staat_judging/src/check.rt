@@ -1,7 +1,11 @@
 // The command `check`: whether a certificate is valid for the parts.
-ghost use Rattle.std.specs.Prelude.{◌≡◌, ◌≤◌, ◌<◌, Some, Ok, IfOk, IfErr};
+ghost use Rattle.std.specs.Prelude.{◌≡◌, ◌≤◌, ◌<◌, Ok, IfOk, IfErr};
+ghost use Rattle.std.specs.Prelude.{◌∷◌, []};
+ghost use Rattle.staat_input.specs.Opened.{OpensSomeOf};
+ghost use Rattle.staat_input.specs.declared.limits.TheConstants.Limits.{ASSEMBLY};
 ghost use Rattle.staat_model.specs.Texts.{IsWellFormed};
 ghost use Rattle.staat_words.specs.Requests.{IsAsked};
+ghost use Rattle.staat_edge.specs.Fitting.{Fit};
 ghost use Rattle.staat_input.specs.Work.{Files, Follows};
 ghost use Rattle.staat_judging.specs.Checking.{IsChecked, verdict_answer, CheckWork};
 ghost use Rattle.staat_judging.specs.Causes.{HasCheckCause};
@@ -54,7 +58,8 @@ pub fn check<H: Shelf>(
     ensures holds { (H.told shelf.new).holds ≡ (H.told shelf.old).holds }
     ensures count { (H.told shelf.old).faults ≤ (H.told shelf.new).faults }
     ensures status { IfOk result (λ a. a.status < 2) }
-    ensures found { (files : Files) → (H.told shelf.old).holds ≡ Some files →
+    ensures opens { OpensSomeOf ASSEMBLY request.now.asked.input (request.now.certificate ∷ []) (H.told shelf.old) (H.told shelf.new) }
+    ensures found { (files : Files) → Fit (H.told shelf.new) files →
         Follows (CheckWork request.now files) result }
     ensures cause { IfErr result (HasCheckCause request.now (over (H.told shelf.old) (H.told shelf.new))) }
 {

@@ -1,8 +1,12 @@
 // The command `confirm`: whether a short certificate is valid for a product of any size.
-ghost use Rattle.std.specs.Prelude.{◌≡◌, ◌≤◌, ◌<◌, Some, Ok, IfOk, IfErr};
+ghost use Rattle.std.specs.Prelude.{◌≡◌, ◌≤◌, ◌<◌, Ok, IfOk, IfErr};
+ghost use Rattle.std.specs.Prelude.{◌∷◌, []};
+ghost use Rattle.staat_input.specs.Opened.{OpensSomeOf};
+ghost use Rattle.staat_input.specs.declared.limits.TheConstants.Limits.{PRODUCT};
 ghost use Rattle.staat_limits.specs.declared.limits.TheConstants.{MOST_PRODUCT_PARTS};
 ghost use Rattle.staat_short.specs.ShortTexts.{IsShortInOrder};
 ghost use Rattle.staat_words.specs.Requests.{IsAskedWithin};
+ghost use Rattle.staat_edge.specs.Fitting.{Fit};
 ghost use Rattle.staat_input.specs.Work.{Files, Follows};
 ghost use Rattle.staat_input.specs.Causes.{over};
 ghost use Rattle.staat_judging.specs.Causes.{HasConfirmCause};
@@ -66,7 +70,8 @@ pub fn confirm<H: Shelf>(
     ensures holds { (H.told shelf.new).holds ≡ (H.told shelf.old).holds }
     ensures count { (H.told shelf.old).faults ≤ (H.told shelf.new).faults }
     ensures status { IfOk result (λ a. a.status < 2) }
-    ensures found { (files : Files) → (H.told shelf.old).holds ≡ Some files →
+    ensures opens { OpensSomeOf PRODUCT request.now.asked.input (request.now.certificate ∷ []) (H.told shelf.old) (H.told shelf.new) }
+    ensures found { (files : Files) → Fit (H.told shelf.new) files →
         Follows (ConfirmWork request.now files) result }
     ensures cause { IfErr result (HasConfirmCause request.now (over (H.told shelf.old) (H.told shelf.new))) }
 {

@@ -1,10 +1,13 @@
 // A certificate's file, fed to a reader piece by piece. The file is never whole in memory.
 ghost use Rattle.std.specs.Prelude.{◌≡◌, ◌≤◌, ◌<◌, ◌⊎◌, ◌++◌, List, ℕ, [], true};
 ghost use Rattle.std.specs.Prelude.{IfOk, IfErr, IsErrOf, IsSomeAnd};
+ghost use Rattle.std.specs.Prelude.{is_ok, ◌∷◌};
 ghost use Rattle.staat_cert.specs.Feeds.{WasFed};
 ghost use Rattle.staat_short.specs.ShortFeeds.{WasFedShort};
 ghost use Rattle.staat_edge.specs.Causes.{Rose};
-ghost use Rattle.staat_edge.specs.Files.{IsLonger, Lacks, failed_at, held_name, told_name};
+ghost use Rattle.staat_edge.specs.Files.{Lacks, failed_at, held_name, told_name};
+ghost use Rattle.staat_edge.specs.Fitting.{IsLonger};
+ghost use Rattle.staat_edge.specs.Opening.{OpensFiles};
 ghost use Rattle.staat_limits.specs.declared.limits.TheConstants.{TEXT_LIMIT as LIMIT};
 ghost use Rattle.staat_input.specs.Work.{IsNotTakenWithin};
 ghost use Rattle.staat_input.specs.Causes.{over};
@@ -60,7 +63,8 @@ fn feed_file<H: Shelf, R: TextReader>(
     requires { R.was_fed reader.old [] }
     ensures holds { (H.told shelf.new).holds ≡ (H.told shelf.old).holds }
     ensures count { (H.told shelf.old).faults ≤ (H.told shelf.new).faults }
-    ensures fed { IfOk result (λ _. IsFedFile (H.told shelf.old).holds name.now (R.was_fed reader.new)) }
+    ensures opens { OpensFiles (is_ok result) (name.now ∷ []) (H.told shelf.old) (H.told shelf.new) }
+    ensures fed { IfOk result (λ _. IsFedFile (H.told shelf.new) name.now (R.was_fed reader.new)) }
     ensures memory { IsErrOf result ReadRefusal.OutOfMemory → ⊥ }
     ensures fault { IsErrOf result ReadRefusal.ReadFault →
         Lacks (H.told shelf.old).holds name.now ⊎ Rose (H.told shelf.old).faults (H.told shelf.new).faults }
@@ -71,7 +75,7 @@ fn feed_file<H: Shelf, R: TextReader>(
         IsSomeAnd (H.told shelf.new).place (λ at. LIMIT < at) }
     ensures long_name { IsErrOf result ReadRefusal.TooLong →
         (H.told shelf.new).opened ≡ told_name (H.told shelf.old).holds name.now }
-    ensures longer { IsErrOf result ReadRefusal.TooLong → IsLonger (H.told shelf.old).holds name.now LIMIT }
+    ensures longer { IsErrOf result ReadRefusal.TooLong → IsLonger (H.told shelf.new) name.now LIMIT }
 {
     if shelf.open(name).is_err() {
         return Err(ReadRefusal::ReadFault);
@@ -102,8 +106,9 @@ pub fn feed_named<H: Shelf, R: TextReader>(
     requires { R.was_fed reader.old [] }
     ensures holds { (H.told shelf.new).holds ≡ (H.told shelf.old).holds }
     ensures count { (H.told shelf.old).faults ≤ (H.told shelf.new).faults }
-    ensures fed { IfOk result (λ _. IsFedFile (H.told shelf.old).holds name.now (R.was_fed reader.new)) }
-    ensures refused { IfErr result (IsNotTakenWithin LIMIT (H.told shelf.old).holds name.now) }
+    ensures opens { OpensFiles (is_ok result) (name.now ∷ []) (H.told shelf.old) (H.told shelf.new) }
+    ensures fed { IfOk result (λ _. IsFedFile (H.told shelf.new) name.now (R.was_fed reader.new)) }
+    ensures refused { IfErr result (IsNotTakenWithin LIMIT (H.told shelf.new) name.now) }
     ensures cause { IfErr result (HasCertificateCause name.now (over (H.told shelf.old) (H.told shelf.new))) }
 {
     match feed_file(shelf, name.as_str(), reader) {

@@ -1,7 +1,10 @@
 // The short certificate that a file holds.
-ghost use Rattle.std.specs.Prelude.{◌≡◌, ◌≤◌, List, ℕ, Some, IfOk, IfErr};
+ghost use Rattle.std.specs.Prelude.{◌≡◌, ◌≤◌, List, ℕ, IfOk, IfErr};
+ghost use Rattle.std.specs.Prelude.{is_ok, ◌∷◌, []};
+ghost use Rattle.staat_edge.specs.Opening.{OpensFiles};
 ghost use Rattle.staat_short.specs.ShortFeeds.{WasFedShort};
 ghost use Rattle.staat_short.specs.ShortTexts.{IsShortInOrder};
+ghost use Rattle.staat_edge.specs.Fitting.{Fit};
 ghost use Rattle.staat_input.specs.Work.{Files, Follows};
 ghost use Rattle.staat_input.specs.Causes.{ShelfSide, over};
 ghost use Rattle.staat_judging.specs.Confirming.{IsShortCertificateIn, SaysShortCertificate};
@@ -45,7 +48,8 @@ pub fn read_short_certificate<H: Shelf>(
     ensures holds { (H.told shelf.new).holds ≡ (H.told shelf.old).holds }
     ensures count { (H.told shelf.old).faults ≤ (H.told shelf.new).faults }
     ensures formed { IfOk result IsShortInOrder }
-    ensures found { (files : Files) → (H.told shelf.old).holds ≡ Some files →
+    ensures opens { OpensFiles (is_ok result) (name.now ∷ []) (H.told shelf.old) (H.told shelf.new) }
+    ensures found { (files : Files) → Fit (H.told shelf.new) files →
         Follows (IsShortCertificateIn files name.now) result }
     ensures cause { IfErr result (HasCertificateCause name.now (over (H.told shelf.old) (H.told shelf.new))) }
 {

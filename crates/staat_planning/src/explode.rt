@@ -1,5 +1,8 @@
 // The command `explode`: how far each part moves, so that all parts stand apart for a drawing.
-ghost use Rattle.std.specs.Prelude.{◌≡◌, ◌≤◌, ◌<◌, Some, IfOk, IfErr, All, length, true};
+ghost use Rattle.std.specs.Prelude.{◌≡◌, ◌≤◌, ◌<◌, IfOk, IfErr, All, length, true};
+ghost use Rattle.std.specs.Prelude.{[]};
+ghost use Rattle.staat_input.specs.Opened.{OpensSomeOf};
+ghost use Rattle.staat_input.specs.declared.limits.TheConstants.Limits.{ASSEMBLY};
 ghost use Rattle.staat_vec.specs.Vectors.{IsWithin};
 ghost use Rattle.staat_limits.specs.declared.limits.TheConstants.{MOST_PIECES};
 ghost use Rattle.staat_model.specs.Outcomes.{finding_of};
@@ -9,6 +12,7 @@ ghost use Rattle.staat_explode.specs.Sizes.{HasDirections};
 ghost use Rattle.staat_plan.specs.Certifying.{CanBeCertified};
 ghost use Rattle.staat_text.specs.PlanTexts.{CanBeShown};
 ghost use Rattle.staat_words.specs.Requests.{IsExplodeRequest};
+ghost use Rattle.staat_edge.specs.Fitting.{Fit};
 ghost use Rattle.staat_input.specs.Work.{Files, Follows};
 ghost use Rattle.staat_input.specs.Drawing.{AreSmall};
 ghost use Rattle.staat_planning.specs.Exploding.{explode_fault, AreShifted, ExplodeWork};
@@ -137,7 +141,8 @@ pub fn explode<H: Shelf>(
     ensures holds { (H.told shelf.new).holds ≡ (H.told shelf.old).holds }
     ensures count { (H.told shelf.old).faults ≤ (H.told shelf.new).faults }
     ensures status { IfOk result (λ a. a.status < 2) }
-    ensures found { (files : Files) → (H.told shelf.old).holds ≡ Some files →
+    ensures opens { OpensSomeOf ASSEMBLY request.now.asked.input [] (H.told shelf.old) (H.told shelf.new) }
+    ensures found { (files : Files) → Fit (H.told shelf.new) files →
         Follows (ExplodeWork request.now files) result }
     ensures cause { IfErr result (HasCause (over (H.told shelf.old) (H.told shelf.new))) }
 {

@@ -1,4 +1,5 @@
 pub mod Headline
 pub mod KeptProducts
+pub mod Opened
 pub mod Replies
 pub mod Runs

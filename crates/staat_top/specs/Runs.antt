@@ -4,6 +4,7 @@ use Rattle.std.specs.Prelude.{Err, true, ⊤}
 use Rattle.staat_model.specs.declared.assembly.Part.{Part}
 use Rattle.staat_edge.specs.Files.{bytes_of}
 use Rattle.staat_edge.specs.Causes.{Rose}
+use Rattle.staat_edge.specs.Fitting.{Fit}
 use Rattle.staat_edge.specs.Sinks.{GrewBy, GrewByPart}
 use Rattle.staat_edge.specs.Told.{SinkTold}
 use Rattle.staat_words.specs.declared.request.Request.{Request}
@@ -26,6 +27,7 @@ use Rattle.staat_deciding.specs.Deciding.{SaysDecidedPlan, SaysDecidedStuck}
 use Rattle.staat_top.specs.Replies.{Reply, WorkOnWords, IsReply, HasOneReply, IsRight, IsDenied, answered}
 use Rattle.staat_top.specs.Headline.{IsLongRefusal, IsWithinLimits, KeepsRules, valid_line}
 use Rattle.staat_top.specs.KeptProducts.{KeepsProductInput}
+use Rattle.staat_top.specs.Opened.{OpensWork}
 use Rattle.staat_input.specs.Causes.{Over, ShelfSide, HasCause}
 use Rattle.staat_judging.specs.Causes.{HasCheckCause, HasConfirmCause}
 
@@ -60,10 +62,11 @@ abbrev pub IsCaused : Option Request → ShelfSide → Fault → Type 0
 IsCaused None shelf fault = (fault ≡ Usage) ⊎ (fault ≡ OutOfMemory)
 IsCaused (Some request) shelf fault = HasRequestCause request shelf fault
 
--- where the shelf tells what it holds, the work on the words finds that answer or that fault; want of memory is free
+-- in all files that fit what the shelf told, the work on the words finds that answer or that fault; want of memory is
+-- free
 abbrev pub IsFound : Option Request → ShelfSide → Found Answer → Type 0
 IsFound asked shelf found =
-    (files : Files) → shelf.old.holds ≡ Some files → Follows (WorkOnWords asked files) found
+    (files : Files) → Fit shelf.new files → Follows (WorkOnWords asked files) found
 
 -- why the fault came, and where the work stands
 pub record IsExplained (asked : Option Request) (shelf : ShelfSide) (fault : Fault) : Type 0 where
@@ -212,15 +215,17 @@ pub record Ran (asked : Option Request) (shelf : ShelfSide) (out err : SinkSide)
   pub refuses : 2 ≤ status → status ≢ 6 → RefusesWith asked shelf err status
   pub write_fault : status ≡ 6 → OutFails asked shelf out err ⊎ ErrFails asked shelf out err
   pub usage : asked ≡ None → (status ≡ 2) ⊎ (status ≡ 6) ⊎ (status ≡ 7)
-  -- Over a shelf that tells its files: what `check`, `plan`, `decide` and `confirm` say is so; statuses 0 to 4 are a
-  -- reply; the reply, where there is one, comes where nothing failed and there was memory; and what status 0 says is
-  -- so, and what status 1 says.
-  pub headline : (files : Files) → shelf.old.holds ≡ Some files → Headlines asked files shelf out err status
-  pub reply : status ≤ 4 → (files : Files) → shelf.old.holds ≡ Some files →
+  -- the files opened are a beginning of those that the words and a part list name, in the order of the work
+  pub opens : OpensWork asked shelf.old shelf.new
+  -- Of all files that fit what the shelf told: what `check`, `plan`, `decide` and `confirm` say is so; statuses 0 to 4
+  -- are a reply; the reply, where there is one, comes where nothing failed and there was memory; and what status 0 says
+  -- is so, and what status 1 says.
+  pub headline : (files : Files) → Fit shelf.new files → Headlines asked files shelf out err status
+  pub reply : status ≤ 4 → (files : Files) → Fit shelf.new files →
       Replied asked files out err status
-  pub complete : HasOneReply asked → (files : Files) → shelf.old.holds ≡ Some files → NoFault shelf out err →
+  pub complete : HasOneReply asked → (files : Files) → Fit shelf.new files → NoFault shelf out err →
       status ≢ 7 → (reply : Reply) → IsReply asked files reply → Gave reply out err status
-  pub right : status ≡ 0 → (files : Files) → shelf.old.holds ≡ Some files →
+  pub right : status ≡ 0 → (files : Files) → Fit shelf.new files →
       TookRight out (IsRight asked files)
-  pub denied : status ≡ 1 → (files : Files) → shelf.old.holds ≡ Some files →
+  pub denied : status ≡ 1 → (files : Files) → Fit shelf.new files →
       TookRight out (IsDenied asked files)

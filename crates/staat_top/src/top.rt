@@ -3,7 +3,9 @@ ghost use Rattle.std.specs.Prelude.{◌≡◌, ◌≢◌, ◌⊎◌, ◌<◌, �
 ghost use Rattle.std.specs.Prelude.{IfOk, IfErr, IsErrAnd, map, string_bytes};
 ghost use Rattle.staat_words.specs.Requests.{HasBounds, request};
 ghost use Rattle.staat_fault.specs.declared.fault.Fault.TheVariants as faults;
+ghost use Rattle.staat_edge.specs.Fitting.{Fit};
 ghost use Rattle.staat_input.specs.Work.{Files, Follows};
+ghost use Rattle.staat_top.specs.Opened.{OpensRequest, OpensWork};
 ghost use Rattle.staat_top.specs.Replies.{WorkOn};
 ghost use Rattle.staat_top.specs.Runs.{HasRequestBounds, HasRequestCause, IsExplained, IsFound, Ran};
 ghost use Rattle.staat_input.specs.Causes.{over};
@@ -34,7 +36,8 @@ fn work<H: Shelf>(alloc: Global, request: &Request, shelf: &mut H) -> Result<Ans
     ensures holds { (H.told shelf.new).holds ≡ (H.told shelf.old).holds }
     ensures count { (H.told shelf.old).faults ≤ (H.told shelf.new).faults }
     ensures status { IfOk result (λ a. a.status < 2) }
-    ensures found { (files : Files) → (H.told shelf.old).holds ≡ Some files →
+    ensures opens { OpensRequest request.now (H.told shelf.old) (H.told shelf.new) }
+    ensures found { (files : Files) → Fit (H.told shelf.new) files →
         Follows (WorkOn request.now files) result }
     ensures cause { IfErr result (HasRequestCause request.now (over (H.told shelf.old) (H.told shelf.new))) }
 {
@@ -61,6 +64,7 @@ fn answer_to<H: Shelf>(alloc: Global, words: &Vec<String>, shelf: &mut H) -> Res
     ensures holds { (H.told shelf.new).holds ≡ (H.told shelf.old).holds }
     ensures count { (H.told shelf.old).faults ≤ (H.told shelf.new).faults }
     ensures status { IfOk result (λ a. a.status < 2) }
+    ensures opens { OpensWork (request (map string_bytes words.now.items)) (H.told shelf.old) (H.told shelf.new) }
     ensures found { IfOk result (λ a. IsFound (request (map string_bytes words.now.items))
         (over (H.told shelf.old) (H.told shelf.new)) (Ok a)) }
     ensures explained { IfErr result (IsExplained (request (map string_bytes words.now.items))
