@@ -526,19 +526,24 @@ WAYS = [
 ]
 
 
+def changed_by(chance, text, ways, counts):
+    """The names of some of the ways, as many as one of the counts, that change the text, and what they make of it."""
+    lines, names = text.decode("ascii").split("\n")[:-1], []
+    for _ in range(chance.choice(counts)):
+        way = chance.choice(ways)
+        before = list(lines)
+        if lines:
+            way(chance, lines)
+        if lines != before:
+            names.append(way.__name__)
+    return names, "".join(line + "\n" for line in lines).encode("ascii")
+
+
 def broken(chance, text):
     """The text with one to three things changed, so that it is another text, and the names of these."""
     changed, names = text, []
     while changed == text:
-        lines, names = text.decode("ascii").split("\n")[:-1], []
-        for _ in range(chance.choice((1, 1, 1, 1, 2, 3))):
-            way = chance.choice(WAYS)
-            before = list(lines)
-            if lines:
-                way(chance, lines)
-            if lines != before:
-                names.append(way.__name__)
-        changed = "".join(line + "\n" for line in lines).encode("ascii")
+        names, changed = changed_by(chance, text, WAYS, (1, 1, 1, 1, 2, 3))
         if chance.random() < 0.08:
             names.append("text_cut_off")
             changed = changed[: chance.choice([-1, chance.randrange(len(changed) + 1)])]
