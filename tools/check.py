@@ -327,7 +327,8 @@ def refusal_fault(
         k: {n for arcs in witnesses[k] for arc in arcs for n in product.facets(*arc)} for k in named
     }
     for line, (x, y, z, k) in directions:
-        if not all(dot(n, (x, y, z)) > 0 for n in facets[k]):
+        d = x, y, z
+        if not all(dot(n, d) > 0 for n in facets[k]):
             return f"bad arc on line {line}"
     listed = {(x, y, z) for _, (x, y, z, _) in directions}
     listed |= {negative(direction) for direction in listed if version == 2}

@@ -3,11 +3,12 @@
 
     python3 tools/compare_short.py [--program=FILE] [--broken=N] [--seed=S] [--only=CASE] [PART_LISTS..]
 
-The products are those of compare_checkers.py, and some that are partly stuck. Of each the program makes its short
-certificates, with `--rest` and without. Both checkers judge each of them, and call it valid; then N broken ones: in
-each, something in one of the certificates is changed, by chance, but so that a seed and the number of a case always
-give the same. Each difference is printed with its seed and its case; the last line is `N passed, M failed`, and the
-status is 1 where any failed. With --only=CASE that one case is run and its certificate printed. It is not proved.
+The products are those of compare_checkers.py, some that are partly stuck, and some whose pieces have 64 corners. Of
+each the program makes its short certificates, with `--rest` and without. Both checkers judge each of them, and call it
+valid; then N broken ones: in each, something in one of the certificates is changed, by chance, but so that a seed and
+the number of a case always give the same. Each difference is printed with its seed and its case; the last line is
+`N passed, M failed`, and the status is 1 where any failed. With --only=CASE that one case is run and its certificate
+printed. It is not proved.
 """
 
 from __future__ import annotations
@@ -211,6 +212,16 @@ def locked(chance: random.Random) -> list[list[Solid]]:
     return parts
 
 
+def dish(up: int) -> Solid:
+    """A piece of 64 corners over a square, round below and even on top. Another one has room from 25 above it on."""
+    points: list[tuple[int, ...]] = [(x, y, x * x + y * y + up) for x in range(8) for y in range(8)]
+    faces: list[Sequence[int]] = [
+        (8 * x + y, 8 * x + y + 1, 8 * x + y + 9, 8 * x + y + 8) for x in range(7) for y in range(7)
+    ]
+    sides = [range(8), range(56, 64), range(0, 64, 8), range(7, 64, 8)]
+    return points, [*faces, *sides, (0, 7, 63, 56)]
+
+
 def moved(piece: Solid, away: tuple[int, int, int]) -> Solid:
     """The piece, moved by the vector."""
     points, faces = piece
@@ -226,6 +237,9 @@ def products(program: str, folder: str, seed: int, paths: Sequence[Path]) -> Ite
     parts = list(made.made_products(chance))
     parts += [locked(chance) for _ in range(6)]
     parts += [made.sheared(chance, locked(chance)) for _ in range(3)]
+    stack = [[dish(25 * k)] for k in range(4)]
+    parts += [stack, made.sheared(chance, stack)]
+    parts.append([[moved(dish(0), (-3, -3, -49))], made.shell(50, 52)])
     for number, some in enumerate(parts):
         yield made.written_subject(chance, folder, number, some)
 
