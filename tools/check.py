@@ -3,21 +3,33 @@
 
     python3 tools/check.py CERTIFICATE [--digits=K] (--manifest=FILE | FILES..)
 
-It prints the line that `staat check` prints, with the same status. It was written from the documents alone, of which
-docs/FORMATS.md, docs/DEFINITIONS.md and docs/CHECKING.md say all that is needed, and shares no code with staat.
-Nothing here is proved.
+It prints the line that `staat check` prints, with the same status. It was written, and so was pieces.py on which it
+stands, from the documents alone, of which docs/FORMATS.md, docs/DEFINITIONS.md and docs/CHECKING.md say all that is
+needed, and shares no code with staat. Nothing here is proved.
 
 The certificate is read and judged in full. Of the parts it is trusted that `staat look` accepts them: that each file
 is a closed convex piece within the limits, and that no pieces of different parts overlap. So a refused file may be
 told in other words here, or not at all. All numbers are whole numbers of Python: nothing is rounded.
 """
+from __future__ import annotations
+
 import argparse
 import json
-import math
 import pathlib
 import re
 import sys
+from collections.abc import Callable, Iterable, Sequence
 from itertools import combinations, product as tuples
+from typing import Any
+
+from pieces import AXES, ORIGIN, Piece, Vector, cross, dot, facets_of, is_solid, negative, primitive
+
+Arc = tuple[int, int, int, int]  # piece i of part a and piece j of part b, as (a, i, b, j)
+Values = tuple[int, ...]  # the numbers of a line
+Numbered = tuple[int, Values]  # a line by its number, and its numbers
+Node = tuple[Any, ...]  # ("leaf", part) or ("split", direction, its walls, each a Numbered)
+Witness = tuple[list[Arc], list[Arc]]  # its arcs outwards and its arcs back
+Refusal = tuple[Values, list[Witness], list[Numbered]]  # the stuck set, and the directions
 
 NUMBER = re.compile(rb"0|-?[1-9][0-9]*")
 COORDINATE = re.compile(rb"([+-]?)(?:([0-9]+)\.?([0-9]*)|\.([0-9]+))(?:[eE]([+-]?[0-9]+))?")
@@ -28,38 +40,18 @@ LONGEST_TEXT, LONGEST_LINE = (
 # The least and the greatest number at each place of a line.
 PART, ARC = [(0, 31)], [(0, 31), (0, 63)] * 2
 NORMAL, DIRECTION = [(-(2**39), 2**39)] * 3, [(-(2**81), 2**81)] * 3
-# Vectors are triples of whole numbers. The canonical one of v and its negative is the greater one.
-AXES, ORIGIN = [(1, 0, 0), (0, 1, 0), (0, 0, 1)], (0, 0, 0)
-
-
-def minus(a, b):
-    return a[0] - b[0], a[1] - b[1], a[2] - b[2]
-
-
-def negative(a):
-    return -a[0], -a[1], -a[2]
-
-
-def dot(a, b):
-    return a[0] * b[0] + a[1] * b[1] + a[2] * b[2]
-
-
-def cross(a, b):
-    return a[1] * b[2] - a[2] * b[1], a[2] * b[0] - a[0] * b[2], a[0] * b[1] - a[1] * b[0]
-
-
-def primitive(a):
-    divisor = math.gcd(*a)
-    return a[0] // divisor, a[1] // divisor, a[2] // divisor
 
 
 class Product:
-    """A list of parts, each a list of pieces, each a list of points; and what was found of them so far."""
+    """Parts, each a list of pieces, each a list of points; and what was found of them so far."""
 
-    def __init__(self, parts):
-        self.parts, self.known_facets, self.known_planes = parts, {}, {}
+    def __init__(self, parts: Sequence[Sequence[Sequence[Vector]]]):
+        self.parts = parts
+        self.pieces = [[Piece(points) for points in part] for part in parts]
+        self.known_facets: dict[Arc, set[Vector]] = {}
+        self.known_planes: dict[tuple[int, ...], list[Vector]] = {}
 
-    def arcs(self, starts, ends):
+    def arcs(self, starts: Iterable[int], ends: Iterable[int]) -> set[Arc]:
         """All arcs from a piece of the one parts to a piece of another part among the others."""
         return {
             (a, i, b, j)
@@ -69,32 +61,17 @@ class Product:
             for j in range(len(self.parts[b]))
         }
 
-    def facets(self, a, i, b, j):
-        """All facets of piece i of part a and piece j of part b.
-
-        A facet is the normal of a plane that keeps the two pieces apart and touches both, in points that fix it: three
-        that are on no line, not all of one piece. (Two points of different pieces differ by a vector in the plane
-        exactly where both are on it, and all such vectors are parallel exactly where all their ends are on a line.)
-        """
+    def facets(self, a: int, i: int, b: int, j: int) -> set[Vector]:
+        """All facets of piece i of part a and piece j of part b."""
         if (a, i, b, j) not in self.known_facets:
-            first, second = self.parts[a][i], self.parts[b][j]
-            found = set()
-            for two_of, one_of in (first, second), (second, first):
-                for (x, y), z in tuples(combinations(two_of, 2), one_of):
-                    normal = cross(minus(y, x), minus(z, x))
-                    for n in (normal, negative(normal)) if normal != ORIGIN else ():
-                        level = dot(n, x)
-                        if all(dot(n, p) <= level for p in first) and all(
-                            dot(n, q) >= level for q in second
-                        ):
-                            found.add(primitive(n))
+            found = facets_of(self.pieces[a][i], self.pieces[b][j])
             self.known_facets[a, i, b, j] = found
             self.known_facets[b, j, a, i] = set(
                 map(negative, found)
             )  # the same planes, seen from the other side
         return self.known_facets[a, i, b, j]
 
-    def planes(self, members):
+    def planes(self, members: tuple[int, ...]) -> list[Vector]:
         """The axes, and then, ascending, the canonical normals of all other facets of pieces of different parts."""
         if members not in self.known_planes:
             normals = {
@@ -109,27 +86,35 @@ class Product:
 class Refused(Exception):
     """There is no verdict. It holds the status and the line that tells why."""
 
+    def __init__(self, status: int, line: str):
+        super().__init__(status, line)
+        self.status, self.line = status, line
 
-def read_file(name):
+
+def read_file(name: str) -> bytes:
+    """The bytes of a file. Refused: it cannot be read."""
     try:
         return pathlib.Path(name).read_bytes()
     except OSError:
         raise Refused(5, f"staat: cannot read {name}") from None
 
 
-def read_coordinate(word, digits):
-    """The value of the word times 10 to the power of the digits."""
-    sign, whole, behind, alone, exponent = COORDINATE.fullmatch(word).groups(default=b"")
+def read_coordinate(word: bytes, digits: int) -> int:
+    """The value of the word times 10 to the power of the digits. ValueError: it has no such value, or is too big."""
+    spelled = COORDINATE.fullmatch(word)
+    if spelled is None:
+        raise ValueError("no number")
+    sign, whole, behind, alone, exponent = spelled.groups(default=b"")
     mantissa = (whole + behind + alone).rstrip(
         b"0"
     )  # with a point after as many digits as the whole ones
     places = len(whole) + int(exponent or 0) + digits - len(mantissa)
     if mantissa and not 0 <= places <= 6:
         raise ValueError("not whole or too big")
-    return int(sign + mantissa) * 10**places if mantissa else 0
+    return int(sign + mantissa + b"0" * places) if mantissa else 0
 
 
-def read_piece(name, digits, at):
+def read_piece(name: str, digits: int, at: Sequence[int]) -> list[Vector]:
     """The points that the faces of an OFF file have as corners, ascending and each once, moved by the vector."""
     lines = [line.partition(b"#")[0].split() for line in read_file(name).split(b"\n")]
     words = [(word, number) for number, line in enumerate(lines) for word in line][
@@ -142,23 +127,26 @@ def read_piece(name, digits, at):
         positions = [
             [read_coordinate(words.pop()[0], digits) for _ in range(3)] for _ in range(count)
         ]
-        points = set()
+        points: set[Vector] = set()
         for _ in range(faces):
             for _ in range(int(words.pop()[0])):
                 word, line = words.pop()
-                points.add(tuple(value + shift for value, shift in zip(positions[int(word)], at)))
+                x, y, z = (value + shift for value, shift in zip(positions[int(word)], at))
+                points.add((x, y, z))
             while (
                 words and words[-1][1] == line
             ):  # what follows on the line of the last corner is passed over
                 words.pop()
     except (ValueError, LookupError, AttributeError):
         raise Refused(3, f"check.py: {name}: no OFF file that it can read") from None
+    if not is_solid(sorted(points)):
+        raise Refused(3, f"check.py: {name}: not solid")
     return sorted(points)
 
 
-def read_product(files, manifest, digits):
-    """The parts that a part list names, or the files, each a part of one piece."""
-    named = [([name], ORIGIN) for name in files]
+def read_product(files: Sequence[str], manifest: str | None, digits: int) -> Product:
+    """The parts that a part list names, or the files, each a part of one piece. Refused: they cannot be read."""
+    named: list[tuple[Sequence[str], Sequence[int]]] = [([name], ORIGIN) for name in files]
     if manifest is not None:
         try:
             listed = json.loads(read_file(manifest).decode("utf-8"))["parts"]
@@ -171,21 +159,27 @@ def read_product(files, manifest, digits):
 class Lines:
     """The lines of a certificate, taken one after another."""
 
-    def __init__(self, name, text):
+    def __init__(self, name: str, text: bytes):
         *self.lines, self.rest = text.split(b"\n")
         self.name, self.number = name, 1  # the number is that of the line ahead
 
-    def bad(self):
+    def bad(self) -> Refused:
+        """That the line ahead is bad."""
         return Refused(3, f"staat: {self.name}: bad line {self.number}")
 
-    def ahead(self):
+    def ahead(self) -> list[bytes]:
         """The words of the line ahead."""
         if self.number <= len(self.lines):
             return self.lines[self.number - 1].split(b" ")
         too_short = Refused(3, f"staat: {self.name}: certificate too short")
         raise self.bad() if len(self.rest) >= LONGEST_LINE else too_short
 
-    def take(self, word, bounds=(), rule=lambda values: True):
+    def take(
+        self,
+        word: bytes,
+        bounds: Sequence[tuple[int, int]] = (),
+        rule: Callable[[Any], object] = lambda values: True,
+    ) -> Any:
         """The numbers of the line ahead, which has this word, and numbers that are in bounds and keep the rule."""
         first, *numbers = self.ahead()
         short = len(self.lines[self.number - 1]) < LONGEST_LINE
@@ -204,27 +198,27 @@ class Lines:
         raise self.bad()
 
 
-def read_certificate(name, text):
-    """The stated number of parts, the version, and what the plan or the refusal holds; the other one is None."""
+def read_certificate(name: str, text: bytes) -> tuple[int, int, list[Node], Refusal | None]:
+    """The stated number of parts, the version, the nodes of the plan, and the refusal: none of the one or the other."""
     if len(text) > LONGEST_TEXT:
         raise Refused(4, f"staat: {name} is too long")
     lines = Lines(name, text)
     (version,) = lines.take(b"STAAT", [(1, 2)])
     (stated,) = lines.take(b"parts", [(1, 32)])
     is_plan = lines.ahead()[0] == b"plan"
-    nodes, refusal = (
-        (read_nodes(lines, stated), None) if is_plan else (None, read_refusal(lines, version))
-    )
+    nodes = read_nodes(lines, stated) if is_plan else []
+    refusal = None if is_plan else read_refusal(lines, version)
     lines.take(b"end")
     if lines.lines[lines.number - 1 :] or lines.rest:
         raise lines.bad()
     return stated, version, nodes, refusal
 
 
-def read_nodes(lines, stated):
+def read_nodes(lines: Lines, stated: int) -> list[Node]:
     """The nodes in preorder: ("leaf", p), or ("split", direction, walls), where a wall has the number of its line."""
     lines.take(b"plan")
-    nodes, wanted = [], 1  # so many trees are still to come
+    nodes: list[Node] = []
+    wanted = 1  # so many trees are still to come
     while wanted > 0:
         if lines.ahead()[0] == b"leaf":
             nodes.append(("leaf", *lines.take(b"leaf", PART)))
@@ -233,7 +227,7 @@ def read_nodes(lines, stated):
             direction = lines.take(
                 b"split", DIRECTION, lambda _: len(nodes) + 1 + wanted + 1 <= 2 * stated - 1
             )
-            walls = []
+            walls: list[Numbered] = []
             while lines.ahead()[0] == b"sep":
                 after = walls[-1][1][:4] if walls else ()
                 walls.append(
@@ -247,20 +241,20 @@ def read_nodes(lines, stated):
     return nodes
 
 
-def read_refusal(lines, version):
+def read_refusal(lines: Lines, version: int) -> Refusal:
     """The stuck set; the witnesses, each its arcs outwards and its arcs back; the directions, each with its line."""
     bounds = PART * max(1, len(lines.ahead()) - 1)
     members = lines.take(b"stuck", bounds, lambda values: list(values) == sorted(set(values)))
-    witnesses, directions = [], []
+    witnesses: list[Witness] = []
+    directions: list[Numbered] = []
     while lines.ahead()[0] == b"witness":
         lines.take(b"witness", [(len(witnesses), len(witnesses))])
         witnesses.append(([], []))
         for word, arcs in zip((b"out", b"in"), witnesses[-1]):
             while lines.ahead()[0] == word:
                 arcs.append(lines.take(word, ARC, lambda _: len(arcs) < 31))
-    after = (
-        ORIGIN if version == 2 else ()
-    )  # a direction of version 2 is greater than zero, and so canonical
+    # A direction of version 2 is greater than zero, and so canonical.
+    after: Values = ORIGIN if version == 2 else ()
     while lines.ahead()[0] == b"dir":
         bounds = DIRECTION + [(0, len(witnesses) - 1)]
         directions.append(
@@ -270,19 +264,17 @@ def read_refusal(lines, version):
     return members, witnesses, directions
 
 
-def plan_fault(product, nodes):
+def plan_fault(product: Product, nodes: Sequence[Node]) -> str | None:
     """The first rule that a plan breaks, or None."""
-    seen = set()
+    seen: set[int] = set()
     for k, (kind, part, *_) in enumerate(nodes):
         if kind == "leaf" and (part >= len(product.parts) or part in seen):
             return f"bad leaves at node {k}"
         seen.update([part] if kind == "leaf" else [])
     if len(seen) < len(product.parts):
         return f"bad leaves at node {len(nodes)}"
-    sides, trees = (
-        {},
-        [],
-    )  # the two sides of each split; the parts of each tree behind the node, the next one last
+    sides: dict[int, tuple[list[int], list[int]]] = {}  # the two sides of each split
+    trees: list[list[int]] = []  # the parts of each tree behind the node, the next one last
     for k, node in reversed(list(enumerate(nodes))):
         if node[0] == "split":
             sides[k] = trees.pop(), trees.pop()
@@ -291,22 +283,35 @@ def plan_fault(product, nodes):
     return next(filter(None, faults), None)
 
 
-def split_fault(product, k, moved, rest, direction, walls):
-    """The first rule that a split breaks, or None."""
+def split_fault(
+    product: Product,
+    k: int,
+    moved: list[int],
+    rest: list[int],
+    direction: Vector,
+    walls: Sequence[Numbered],
+) -> str | None:
+    """The first rule that a split, the node k, breaks, or None."""
     if direction == ORIGIN:
         return f"zero direction at node {k}"
     across = product.arcs(moved, rest)
-    for line, (a, i, b, j, *normal) in walls:
-        if (a, i, b, j) not in across or not any(normal) or dot(normal, direction) > 0:
+    for line, (a, i, b, j, x, y, z) in walls:
+        n = x, y, z
+        if (a, i, b, j) not in across or n == ORIGIN or dot(n, direction) > 0:
             return f"bad separator on line {line}"
-        first, second = product.parts[a][i], product.parts[b][j]
-        if max(dot(normal, p) for p in first) > min(dot(normal, q) for q in second):
+        if product.pieces[a][i].span(n)[1] > product.pieces[b][j].span(n)[0]:
             return f"bad separator on line {line}"
-    missing = across - {values[:4] for _, values in walls}
+    missing = across - {(a, i, b, j) for _, (a, i, b, j, *_) in walls}
     return "missing separator %d %d %d %d" % min(missing) if missing else None
 
 
-def refusal_fault(product, version, members, witnesses, directions):
+def refusal_fault(
+    product: Product,
+    version: int,
+    members: Values,
+    witnesses: Sequence[Witness],
+    directions: Sequence[Numbered],
+) -> str | None:
     """The first rule that a refusal breaks, or None."""
     if len(members) < 2 or members[-1] >= len(product.parts):
         return "bad stuck set"
@@ -321,10 +326,11 @@ def refusal_fault(product, version, members, witnesses, directions):
     facets = {
         k: {n for arcs in witnesses[k] for arc in arcs for n in product.facets(*arc)} for k in named
     }
-    for line, (*direction, k) in directions:
-        if not all(dot(n, direction) > 0 for n in facets[k]):
+    for line, (x, y, z, k) in directions:
+        d = x, y, z
+        if not all(dot(n, d) > 0 for n in facets[k]):
             return f"bad arc on line {line}"
-    listed = {values[:3] for _, values in directions}
+    listed = {(x, y, z) for _, (x, y, z, _) in directions}
     listed |= {negative(direction) for direction in listed if version == 2}
     for g, h in combinations(product.planes(members), 2):
         vertex = primitive(cross(g, h))
@@ -334,7 +340,7 @@ def refusal_fault(product, version, members, witnesses, directions):
     return None
 
 
-def reaches_all(members, pairs):
+def reaches_all(members: Sequence[int], pairs: Iterable[tuple[int, int]]) -> bool:
     """Whether each pair leads from a reached part to a new one, beginning with the least part, and all are reached."""
     reached = {members[0]}
     for start, end in pairs:
@@ -344,12 +350,12 @@ def reaches_all(members, pairs):
     return len(reached) == len(members)
 
 
-def verdict(product, name, text):
+def verdict(product: Product, name: str, text: bytes) -> tuple[int, str]:
     """The status and the line that tell what is said of the certificate with this name and text."""
     try:
         stated, version, nodes, refusal = read_certificate(name, text)
     except Refused as refused:
-        return refused.args
+        return refused.status, refused.line
     if stated != len(product.parts):
         return 1, f"not valid: wrong parts {stated}"
     fault = (
@@ -362,7 +368,8 @@ def verdict(product, name, text):
     )
 
 
-def main(words):
+def main(words: Sequence[str]) -> int:
+    """Judges what the words name, and answers the status."""
     if "--short" in words:
         import check_short
 
@@ -381,7 +388,7 @@ def main(words):
         product = read_product(given.files, given.manifest, int(given.digits))
         status, line = verdict(product, given.certificate, read_file(given.certificate))
     except Refused as refused:
-        status, line = refused.args
+        status, line = refused.status, refused.line
     print(line, file=sys.stdout if status < 2 else sys.stderr)
     return status
 

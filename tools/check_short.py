@@ -9,14 +9,14 @@ from __future__ import annotations
 
 import argparse
 import sys
-from collections.abc import Iterator, Sequence
+from collections.abc import Iterable, Iterator, Sequence
 from dataclasses import dataclass, field
+from functools import lru_cache
 from itertools import combinations
+from typing import Union
 
 import check
-
-Vector = tuple[int, int, int]
-Pair = tuple[int, int, int, int]  # piece i of part a and piece j of part b, as (a, i, b, j)
+from pieces import AXES, ORIGIN, Piece, Vector, cross, dot, negative, primitive
 
 MOST_PARTS, MOST_PIECES = 1024, 16384
 PART = [(0, MOST_PARTS - 1)]
@@ -28,7 +28,7 @@ class Hold:
     """Nodes, each named by its least part, and the pairs of pieces that hold them together."""
 
     nodes: list[int] = field(default_factory=list)
-    pairs: list[Pair] = field(default_factory=list)
+    pairs: list[check.Arc] = field(default_factory=list)
 
 
 @dataclass
@@ -52,7 +52,7 @@ class Group:
     holds: list[Hold]
 
 
-Node = Leaf | Split | Group
+Node = Union[Leaf, Split, Group]
 
 
 @dataclass
@@ -189,38 +189,22 @@ class Judge:
         for place, pair in enumerate(hold.pairs):
             if not self.is_between(pair, hold.nodes, names):
                 raise Invalid(f"bad pair at place {place} of hold {number}")
-        for vertex in self.vertices(hold.pairs):
-            if not self.holds_at(vertex, hold, names):
-                raise Invalid("gap {} {} {} in hold {}".format(*vertex, number))
+        facets = [self.product.facets(*pair) for pair in hold.pairs]
+        known: dict[tuple[int, ...], bool] = {}  # by the ways of all pairs: whether these hold
+        for vertex in crossings(facets):
+            ways = tuple(way_along(vertex, some) for some in facets)
+            if ways not in known:
+                known[ways] = is_held(hold, names, ways)
+            if not known[ways]:
+                raise Invalid("gap {} {} {} in hold {}".format(*primitive(vertex), number))
 
-    def is_between(self, pair: Pair, nodes: Sequence[int], names: Sequence[int]) -> bool:
+    def is_between(self, pair: check.Arc, nodes: Sequence[int], names: Sequence[int]) -> bool:
         """Whether the two pieces exist, and their parts are of two of the nodes."""
         a, i, b, j = pair
         parts = self.product.parts
         if max(a, b) >= len(parts) or i >= len(parts[a]) or j >= len(parts[b]):
             return False
         return names[a] in nodes and names[b] in nodes and names[a] != names[b]
-
-    def vertices(self, pairs: Sequence[Pair]) -> Iterator[Vector]:
-        """Where two planes of the pairs cross, each with its opposite."""
-        normals = {max(n, check.negative(n)) for pair in pairs for n in self.product.facets(*pair)}
-        planes = check.AXES + sorted(normals.difference(check.AXES))
-        for g, h in combinations(planes, 2):
-            vertex = check.primitive(check.cross(g, h))
-            yield vertex
-            yield check.negative(vertex)
-
-    def holds_at(self, vertex: Vector, hold: Hold, names: Sequence[int]) -> bool:
-        """Whether each node reaches each other one by the arcs that the pairs have there."""
-        arcs = set()
-        for a, i, b, j in hold.pairs:
-            if self.meets((a, i, b, j), vertex):
-                arcs.add((names[a], names[b]))
-            if self.meets((b, j, a, i), vertex):
-                arcs.add((names[b], names[a]))
-        back = {(b, a) for a, b in arcs}
-        root = hold.nodes[0]
-        return all(reached(root, way) == set(hold.nodes) for way in (arcs, back))
 
     def judge_leaves(self, members: Sequence[Sequence[int]]) -> None:
         """Raises Invalid at the first node with a part that does not exist or stands in an earlier node."""
@@ -243,25 +227,74 @@ class Judge:
         for k, (moved, rest) in sorted(sides.items()):
             node = nodes[k]
             assert isinstance(node, Split)
-            if node.along == check.ORIGIN:
+            if node.along == ORIGIN:
                 raise Invalid(f"zero direction at node {k}")
             for arc in sorted(self.product.arcs(moved, rest)):
                 if self.meets(arc, node.along):
                     raise Invalid("pieces {} {} and {} {} meet at node {}".format(*arc, k))
 
-    def meets(self, arc: Pair, d: Vector) -> bool:
-        """Whether the first piece, moved along d, ever meets the second one."""
+    def meets(self, arc: check.Arc, d: Vector) -> bool:
+        """Whether the first piece, moved along d, ever meets the second one: it does where no wall keeps them apart.
+
+        Most walls stand on the box of a piece or on its shadow along d; only where none does the facets are found.
+        """
         a, i, b, j = arc
-        first, second = self.product.parts[a][i], self.product.parts[b][j]
-        across = [check.cross(axis, d) for axis in check.AXES]
-        for n in (*check.AXES, *across):
-            for normal in (n, check.negative(n)):
-                if normal != check.ORIGIN and check.dot(normal, d) <= 0:
-                    if max(check.dot(normal, p) for p in first) <= min(
-                        check.dot(normal, q) for q in second
-                    ):
-                        return False
-        return all(check.dot(n, d) > 0 for n in self.product.facets(*arc))
+        first, second = self.product.pieces[a][i], self.product.pieces[b][j]
+        if any(is_wall(n, ahead, first, second) for n, ahead in normals_for(d)):
+            return False
+        return all(dot(n, d) > 0 for n in self.product.facets(*arc))
+
+
+@lru_cache
+def normals_for(d: Vector) -> list[tuple[Vector, int]]:
+    """The normals of boxes and of shadows along d, and the product of each with d."""
+    across = (cross(axis, d) for axis in AXES)
+    return [(n, dot(n, d)) for n in (*AXES, *across) if n != ORIGIN]
+
+
+def is_wall(n: Vector, ahead: int, first: Piece, second: Piece) -> bool:
+    """Whether a wall with the normal n, either way, keeps apart two pieces of which the first moves along d.
+
+    ahead: the product of n and d
+    """
+    (least, most), (nearest, farthest) = first.span(n), second.span(n)
+    return (ahead <= 0 and most <= nearest) or (ahead >= 0 and farthest <= least)
+
+
+def crossings(facets: Iterable[set[Vector]]) -> Iterator[Vector]:
+    """For each two planes, of the axes and the facets, a vector along their crossing; all in order."""
+    normals = {max(n, negative(n)) for some in facets for n in some}
+    planes = AXES + sorted(normals.difference(AXES))
+    return (cross(g, h) for g, h in combinations(planes, 2))
+
+
+def way_along(d: Vector, facets: set[Vector]) -> int:
+    """1 where the first piece of these facets meets the second one along d, -1 where it does along -d, else 0.
+
+    Along -d it does exactly where along d the second one meets the first.
+    """
+    x, y, z = d
+    way = 0
+    for a, b, c in facets:
+        ahead = a * x + b * y + c * z
+        if ahead * way < 0 or ahead == 0:
+            return 0
+        way = 1 if ahead > 0 else -1
+    return way
+
+
+def is_held(hold: Hold, names: Sequence[int], ways: Sequence[int]) -> bool:
+    """Whether each node reaches each other one by the pairs that meet, each as its way says, in either order.
+
+    Along the opposite direction all arcs are the other way round, and so the answer is the same there.
+    """
+    arcs = set()
+    for (a, _, b, _), way in zip(hold.pairs, ways):
+        if way != 0:
+            arcs.add((names[a], names[b]) if way > 0 else (names[b], names[a]))
+    back = {(b, a) for a, b in arcs}
+    root = hold.nodes[0]
+    return all(reached(root, some) == set(hold.nodes) for some in (arcs, back))
 
 
 def reached(root: int, arcs: set[tuple[int, int]]) -> set[int]:
@@ -281,8 +314,7 @@ def verdict(product: check.Product, name: str, text: bytes) -> tuple[int, str]:
     try:
         certificate = read(name, text)
     except check.Refused as refused:
-        status, line = refused.args
-        return status, line
+        return refused.status, refused.line
     try:
         return 0, Judge(product).judge(certificate)
     except Invalid as why:
@@ -305,7 +337,7 @@ def main(words: Sequence[str]) -> int:
         product = check.read_product(given.files, given.manifest, int(given.digits))
         text = check.read_file(given.certificate)
     except check.Refused as refused:
-        status, line = refused.args
+        status, line = refused.status, refused.line
     else:
         status, line = verdict(product, given.certificate, text)
     print(line, file=sys.stdout if status < 2 else sys.stderr)

@@ -23,6 +23,7 @@ import tempfile
 import time
 
 import check
+from pieces import cross, dot, minus
 
 TOP = pathlib.Path(__file__).resolve().parent.parent
 MOST_LINES = 4000  # longer certificates are compared as they are, but not broken
@@ -110,8 +111,8 @@ def tetrahedra(chance, parts):
                 )
                 for _ in range(4)
             ]
-            a, b, c = (check.minus(point, points[0]) for point in points[1:])
-            volume = check.dot(a, check.cross(b, c))
+            a, b, c = (minus(point, points[0]) for point in points[1:])
+            volume = dot(a, cross(b, c))
         made.append([(points, [(0, 1, 2), (0, 1, 3), (0, 2, 3), (1, 2, 3)])])
     return made
 
@@ -132,11 +133,11 @@ def octahedra(chance, parts):
 def sheared(chance, parts):
     """The product after a map of space that keeps planes."""
     rows = [[0, 0, 0]] * 3
-    while check.dot(rows[0], check.cross(rows[1], rows[2])) == 0:
+    while dot(rows[0], cross(rows[1], rows[2])) == 0:
         rows = [[chance.randint(-3, 3) for _ in range(3)] for _ in range(3)]
     return [
         [
-            ([tuple(check.dot(row, point) for row in rows) for point in points], faces)
+            ([tuple(dot(row, point) for row in rows) for point in points], faces)
             for points, faces in pieces
         ]
         for pieces in parts
@@ -215,7 +216,7 @@ def written_subject(chance, folder, number, parts):
         names = []
         for i, (points, faces) in enumerate(pieces):
             if at:
-                points = [check.minus(point, at) for point in points]
+                points = [minus(point, at) for point in points]
             names.append(f"{number}-{p}-{i}.off")
             pathlib.Path(folder, names[-1]).write_text(
                 off_text(chance, points, faces, digits), newline=""
@@ -525,19 +526,24 @@ WAYS = [
 ]
 
 
+def changed_by(chance, text, ways, counts):
+    """The names of some of the ways, as many as one of the counts, that change the text, and what they make of it."""
+    lines, names = text.decode("ascii").split("\n")[:-1], []
+    for _ in range(chance.choice(counts)):
+        way = chance.choice(ways)
+        before = list(lines)
+        if lines:
+            way(chance, lines)
+        if lines != before:
+            names.append(way.__name__)
+    return names, "".join(line + "\n" for line in lines).encode("ascii")
+
+
 def broken(chance, text):
     """The text with one to three things changed, so that it is another text, and the names of these."""
     changed, names = text, []
     while changed == text:
-        lines, names = text.decode("ascii").split("\n")[:-1], []
-        for _ in range(chance.choice((1, 1, 1, 1, 2, 3))):
-            way = chance.choice(WAYS)
-            before = list(lines)
-            if lines:
-                way(chance, lines)
-            if lines != before:
-                names.append(way.__name__)
-        changed = "".join(line + "\n" for line in lines).encode("ascii")
+        names, changed = changed_by(chance, text, WAYS, (1, 1, 1, 1, 2, 3))
         if chance.random() < 0.08:
             names.append("text_cut_off")
             changed = changed[: chance.choice([-1, chance.randrange(len(changed) + 1)])]

@@ -31,6 +31,7 @@ from pathlib import Path
 
 import check
 import compare_checkers as made
+from pieces import dot
 
 TOP = Path(__file__).resolve().parent.parent
 SECONDS = 120  # how long a run may take
@@ -73,7 +74,7 @@ def wall_between(
 ) -> Vector:
     """The normal of a plane between two pieces through which the direction does not lead."""
     for normal in sorted(product.facets(*p, *q)):
-        if check.dot(normal, d) <= 0:
+        if dot(normal, d) <= 0:
             return normal
     raise Wrong(f"pieces {p} and {q} meet along {d}")
 

@@ -3,11 +3,12 @@
 
     python3 tools/compare_short.py [--program=FILE] [--broken=N] [--seed=S] [--only=CASE] [PART_LISTS..]
 
-The products are those of compare_checkers.py, and some that are partly stuck. Of each the program makes its short
-certificates, with `--rest` and without. Both checkers judge each of them, and call it valid; then N broken ones: in
-each, something in one of the certificates is changed, by chance, but so that a seed and the number of a case always
-give the same. Each difference is printed with its seed and its case; the last line is `N passed, M failed`, and the
-status is 1 where any failed. With --only=CASE that one case is run and its certificate printed. It is not proved.
+The products are those of compare_checkers.py, some that are partly stuck, and some whose pieces have 64 corners. Of
+each the program makes its short certificates, with `--rest` and without. Both checkers judge each of them, and call it
+valid; then N broken ones: in each, something in one of the certificates is changed, by chance, but so that a seed and
+the number of a case always give the same. Each difference is printed with its seed and its case; the last line is
+`N passed, M failed`, and the status is 1 where any failed. With --only=CASE that one case is run and its certificate
+printed. It is not proved.
 """
 
 from __future__ import annotations
@@ -37,6 +38,7 @@ STRANGE = (1023, 1024, 1025, 16383, 16384, 2**81, 2**81 + 1, -(2**81), -(2**81) 
 Solid = tuple[list[tuple[int, ...]], Sequence[Sequence[int]]]  # points and faces
 Lines = list[str]
 Way = Callable[[random.Random, Lines], None]
+Change = Callable[[random.Random, Lines, int], None]  # of the line at a place
 
 
 # ---- ways to break a certificate: each takes its lines, without line ends, and changes the list
@@ -58,56 +60,40 @@ def with_number(chance: random.Random, line: str, most: int) -> str:
     return " ".join(words)
 
 
-def changed(*kinds: str) -> Way:
-    """A number of a line of one of these kinds is another one."""
+def on_a(change: Change, *kinds: str) -> Way:
+    """The way that changes a line of one of these kinds so."""
 
     def way(chance: random.Random, lines: Lines) -> None:
         places = made.lines_with(lines, *kinds)
         if places:
-            place = chance.choice(places)
-            lines[place] = with_number(chance, lines[place], len(lines))
+            change(chance, lines, chance.choice(places))
 
-    way.__name__ = f"{'_or_'.join(kinds)}_changed"
+    way.__name__ = f"{'_or_'.join(kinds)}_{change.__name__}"
     return way
 
 
-def left_out(*kinds: str) -> Way:
-    """A line of one of these kinds is left out."""
-
-    def way(chance: random.Random, lines: Lines) -> None:
-        places = made.lines_with(lines, *kinds)
-        if places:
-            del lines[chance.choice(places)]
-
-    way.__name__ = f"{'_or_'.join(kinds)}_left_out"
-    return way
+def changed(chance: random.Random, lines: Lines, place: int) -> None:
+    """A number of the line is another one."""
+    lines[place] = with_number(chance, lines[place], len(lines))
 
 
-def doubled(*kinds: str) -> Way:
-    """A line of one of these kinds stands twice."""
-
-    def way(chance: random.Random, lines: Lines) -> None:
-        places = made.lines_with(lines, *kinds)
-        if places:
-            place = chance.choice(places)
-            lines.insert(place, lines[place])
-
-    way.__name__ = f"{'_or_'.join(kinds)}_doubled"
-    return way
+def left_out(_: random.Random, lines: Lines, place: int) -> None:
+    del lines[place]
 
 
-def direction_multiplied(chance: random.Random, lines: Lines) -> None:
-    places = made.lines_with(lines, "split")
-    if places:
-        made.multiplied(chance, lines, chance.choice(places), 1)
+def doubled(_: random.Random, lines: Lines, place: int) -> None:
+    lines.insert(place, lines[place])
 
 
-def pair_turned(chance: random.Random, lines: Lines) -> None:
-    places = made.lines_with(lines, "pair")
-    if places:
-        place = chance.choice(places)
-        word, *numbers = lines[place].split(" ")
-        lines[place] = " ".join((word, *numbers[2:], *numbers[:2]))
+def multiplied(chance: random.Random, lines: Lines, place: int) -> None:
+    """The direction of the line is a multiple of what it was."""
+    made.multiplied(chance, lines, place, 1)
+
+
+def turned(_: random.Random, lines: Lines, place: int) -> None:
+    """The two pieces of the line are exchanged."""
+    word, *numbers = lines[place].split(" ")
+    lines[place] = " ".join((word, *numbers[2:], *numbers[:2]))
 
 
 def pairs_in_order(lines: Lines) -> None:
@@ -128,7 +114,7 @@ def pairs_in_order(lines: Lines) -> None:
 
 def pair_exchanged(chance: random.Random, lines: Lines) -> None:
     """A pair is another one, in its place."""
-    changed("pair")(chance, lines)
+    on_a(changed, "pair")(chance, lines)
     pairs_in_order(lines)
 
 
@@ -162,22 +148,22 @@ def line_put_in(chance: random.Random, lines: Lines) -> None:
 
 
 WAYS: Sequence[Way] = (
-    changed("split"),
-    changed("split"),
-    changed("leaf"),
-    changed("part"),
-    changed("pair"),
-    changed("parts"),
-    left_out("pair"),
-    left_out("pair"),
-    left_out("part"),
-    left_out("leaf"),
-    left_out("split"),
-    left_out("hold", "group", "end", "STAAT", "plan"),
-    doubled("pair", "part"),
-    doubled("leaf", "split", "hold", "group", "end"),
-    direction_multiplied,
-    pair_turned,
+    on_a(changed, "split"),
+    on_a(changed, "split"),
+    on_a(changed, "leaf"),
+    on_a(changed, "part"),
+    on_a(changed, "pair"),
+    on_a(changed, "parts"),
+    on_a(left_out, "pair"),
+    on_a(left_out, "pair"),
+    on_a(left_out, "part"),
+    on_a(left_out, "leaf"),
+    on_a(left_out, "split"),
+    on_a(left_out, "hold", "group", "end", "STAAT", "plan"),
+    on_a(doubled, "pair", "part"),
+    on_a(doubled, "leaf", "split", "hold", "group", "end"),
+    on_a(multiplied, "split"),
+    on_a(turned, "pair"),
     pair_exchanged,
     pair_exchanged,
     kind_changed,
@@ -200,15 +186,7 @@ def broken(chance: random.Random, text: bytes) -> tuple[list[str], bytes]:
     other = text
     names: list[str] = []
     while other == text:
-        lines, names = text.decode("ascii").split("\n")[:-1], []
-        for _ in range(chance.choice((1, 1, 1, 2, 3))):
-            way = chance.choice(WAYS)
-            before = list(lines)
-            if lines:
-                way(chance, lines)
-            if lines != before:
-                names.append(way.__name__)
-        other = "".join(line + "\n" for line in lines).encode("ascii")
+        names, other = made.changed_by(chance, text, WAYS, (1, 1, 1, 2, 3))
         if other and chance.random() < 0.1:
             names.append("byte_changed")
             other = byte_changed(chance, other)
@@ -234,6 +212,16 @@ def locked(chance: random.Random) -> list[list[Solid]]:
     return parts
 
 
+def dish(up: int) -> Solid:
+    """A piece of 64 corners over a square, round below and even on top. Another one has room from 25 above it on."""
+    points: list[tuple[int, ...]] = [(x, y, x * x + y * y + up) for x in range(8) for y in range(8)]
+    faces: list[Sequence[int]] = [
+        (8 * x + y, 8 * x + y + 1, 8 * x + y + 9, 8 * x + y + 8) for x in range(7) for y in range(7)
+    ]
+    sides = [range(8), range(56, 64), range(0, 64, 8), range(7, 64, 8)]
+    return points, [*faces, *sides, (0, 7, 63, 56)]
+
+
 def moved(piece: Solid, away: tuple[int, int, int]) -> Solid:
     """The piece, moved by the vector."""
     points, faces = piece
@@ -249,6 +237,9 @@ def products(program: str, folder: str, seed: int, paths: Sequence[Path]) -> Ite
     parts = list(made.made_products(chance))
     parts += [locked(chance) for _ in range(6)]
     parts += [made.sheared(chance, locked(chance)) for _ in range(3)]
+    stack = [[dish(25 * k)] for k in range(4)]
+    parts += [stack, made.sheared(chance, stack)]
+    parts.append([[moved(dish(0), (-3, -3, -49))], made.shell(50, 52)])
     for number, some in enumerate(parts):
         yield made.written_subject(chance, folder, number, some)
 

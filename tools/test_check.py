@@ -10,6 +10,7 @@ import unittest
 
 import check
 import compare_checkers
+import pieces
 
 TOP = pathlib.Path(__file__).resolve().parent.parent
 CUBES = ["examples/touching-cubes/a.off", "examples/touching-cubes/b.off"]
@@ -109,6 +110,7 @@ class Inputs(InFolder):
             self.written("OFF 1 1 0 0 0"),
             self.written("COFF"),
             self.written("OFF 0 1 0 1 5"),
+            self.written("OFF 4 1 0 0 0 0 1 0 0 0 1 0 1 1 0 4 0 1 2 3"),
         ):
             with self.assertRaises(check.Refused):
                 check.read_product([name], None, 0)
@@ -128,19 +130,19 @@ class Geometry(InFolder):
         self.assertEqual(apart.facets(0, 0, 1, 0), {(1, 0, 1), (1, 0, -1), (1, 1, 0), (1, -1, 0)})
 
     def test_overlapping_pieces_have_no_facet(self):
-        cube = check.read_piece(CUBES[0], 0, check.ORIGIN)
+        cube = check.read_piece(CUBES[0], 0, pieces.ORIGIN)
         self.assertEqual(check.Product([[cube], [cube]]).facets(0, 0, 1, 0), set())
 
     def test_planes(self):
         product = check.read_product(CUBES, None, 0)
-        self.assertEqual(product.planes((0, 1)), check.AXES)
+        self.assertEqual(product.planes((0, 1)), pieces.AXES)
         product = check.read_product([], "examples/dovetail/parts.json", 0)
-        self.assertEqual(product.planes((0, 1)), check.AXES + [(2, 0, -1), (2, 0, 1)])
-        self.assertEqual(product.planes((0,)), check.AXES)
+        self.assertEqual(product.planes((0, 1)), pieces.AXES + [(2, 0, -1), (2, 0, 1)])
+        self.assertEqual(product.planes((0,)), pieces.AXES)
 
     def test_primitive(self):
-        self.assertEqual(check.primitive((4, -6, 0)), (2, -3, 0))
-        self.assertEqual(check.primitive((-2, -1, -1)), (-2, -1, -1))
+        self.assertEqual(pieces.primitive((4, -6, 0)), (2, -3, 0))
+        self.assertEqual(pieces.primitive((-2, -1, -1)), (-2, -1, -1))
 
 
 class Texts(InFolder):

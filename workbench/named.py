@@ -16,7 +16,7 @@ from .hulls import piece_of as hull_of
 from .overlaps import Body
 from .planner import Place, must_be
 from .reading.lists import read_list
-from .reading.off import read_off
+from .reading.off import read_off_file
 from .sameness import same_parts
 from .solid import Piece, Refusal
 from .writing import MODEL
@@ -188,13 +188,7 @@ def model_of(place: Place, names: Sequence[str]) -> Optional[Dict[str, Any]]:
 
 def piece_of(path: str, at: Vector) -> Piece:
     """The piece in a file, moved. Refusal: it cannot be read."""
-    try:
-        with open(path, "rb") as file:
-            points, faces = read_off(file.read())
-    except OSError as fault:
-        raise Refusal(f"cannot read {path}: {fault.strerror}") from fault
-    except Refusal as fault:
-        raise Refusal(f"{os.path.basename(path)}: {fault}") from fault
+    points, faces = read_off_file(path)
     rows = numpy.rint(numpy.array(points, dtype=float)[:, :3]).astype(numpy.int64)
     return Piece(rows + numpy.array(at, dtype=numpy.int64), faces)
 

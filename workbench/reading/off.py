@@ -1,6 +1,7 @@
 """Geomview's Object File Format in the variants that are met: any header or none, in braces, with colours."""
 from __future__ import annotations
 
+import os
 import re
 from typing import List, Tuple
 
@@ -33,6 +34,17 @@ def read_off(data: bytes) -> Rows:
     ):
         raise Refusal("the file ends too early")
     return points, faces
+
+
+def read_off_file(path: str) -> Rows:
+    """The same of a file. Refusal: also where it cannot be read; it names the file."""
+    try:
+        with open(path, "rb") as file:
+            return read_off(file.read())
+    except OSError as fault:
+        raise Refusal(f"cannot read {path}: {fault.strerror}") from fault
+    except Refusal as fault:
+        raise Refusal(f"{os.path.basename(path)}: {fault}") from fault
 
 
 def header_of(text: str) -> Tuple[str, str]:

@@ -2,15 +2,14 @@
 from __future__ import annotations
 
 import colorsys
-import os
 from dataclasses import dataclass, replace
 from typing import Iterator, List, Optional, Sequence, Tuple
 
 import numpy
 
 from ..reading.lists import Listed
-from ..reading.off import read_off
-from ..solid import Mesh, Refusal
+from ..reading.off import read_off_file
+from ..solid import Mesh
 from ..triangles import newell, triangulated
 from .creases import Body, creases
 from .surface import surface
@@ -94,13 +93,8 @@ def polygons_of(mesh: Mesh) -> Iterator[numpy.ndarray]:
 
 
 def body_of(file: str, at: numpy.ndarray) -> Body:
-    try:
-        with open(file, "rb") as opened:
-            points, faces = read_off(opened.read())
-    except OSError as fault:
-        raise Refusal(f"cannot read {file}: {fault.strerror}") from fault
-    except Refusal as fault:
-        raise Refusal(f"{os.path.basename(file)}: {fault}") from fault
+    """The piece in a file, moved. Refusal: it cannot be read."""
+    points, faces = read_off_file(file)
     return Body(numpy.array(points, dtype=float)[:, :3] + at, tuple(map(tuple, faces)))
 
 
