@@ -2,7 +2,7 @@
 use Rattle.std.proofs.Common.{◌≡◌, ◌∙◌, ℕ, ◌+◌, ◌<◌, Bool, true, false, List, [], ◌∷◌, ◌++◌, map, take, drop, get_or, length, Option, Result, Ok, Err, refl, sym, ap, subst, inl, inr, append-nil}
 use Rattle.std.proofs.lemmas.Grind.{flat_map-append}
 use Rattle.std.proofs.lemmas.List.{flat_map_more, take-append-drop, take_more}
-use Rattle.std.specs.Prelude.{IfOk, IsErrAnd, is_ok}
+use Rattle.std.specs.Prelude.{IfOk, IsErrAnd, OnErr, is_ok}
 use Rattle.staat_edge.specs.Opening.{Opens, OpensAll, OpensFiles, OpensSome}
 use Rattle.staat_edge.specs.Readings.{FileReading, whole_reading}
 use Rattle.staat_edge.specs.Told.{ShelfTold}
@@ -102,6 +102,12 @@ list_read limits name bytes (Ok parts) before now (listing found e f) gave =
     let same : parts ≡ found = cc in
     record { bytes = bytes; listed = e ∙ ap Ok (sym same); gave = gave }
 
--- the part list was opened, and not more
-pub list_some : (limits : Limits) (name : List ℕ) (before now : ShelfTold) → OpensSome (name ∷ []) before.given now.given → OpensSomeOf limits (inputs.Manifest name) [] before now
-list_some limits name before now some = inl (refl, some)
+-- where the part list did not serve, it alone was opened
+pub list_refused : {X E : Type 0} (limits : Limits) (r : Result X E) (source : Input) (name : List ℕ) (before now : ShelfTold) → source ≡ inputs.Manifest name → OpensFiles (is_ok r) (name ∷ []) before now → OnErr r (OpensSomeOf limits source [] before now)
+list_refused limits (Ok x) source name before now is opens = tt
+list_refused limits (Err e) source name before now is opens = subst (λ (s : Input). OpensSomeOf limits s [] before now) (sym is) (inl (refl, opens))
+
+-- where no file was opened
+pub none_refused : {X E : Type 0} (limits : Limits) (r : Result X E) (source : Input) (told : ShelfTold) → OnErr r (OpensSomeOf limits source [] told told)
+none_refused limits (Ok x) source told = tt
+none_refused limits (Err e) source told = unopened limits source [] told told refl

@@ -5,7 +5,7 @@ use Rattle.staat_input.specs.Drawing.{AreSmall}
 use Rattle.staat_input.proofs.input.read_part.Goals as goal
 
 pub returns-in_err-name-clause-opens : goal.returns-in_err-name-clause-opens
-returns-in_err-name-clause-opens g c = refused _ c.from_residual.result _ _ _ c.from_residual.ensures.1 (none_opened c.args.named.now.pieces _ _ refl)
+returns-in_err-name-clause-opens g c = refused _ c.from_residual.result _ _ _ c.from_residual.ensures.1 (none_opened c.args.named.now.pieces (g.H.Shelf.told c.args.shelf.now).given (g.H.Shelf.told c.args.shelf.now).given refl)
 
 pub returns-in_err-pieces-clause-opens : goal.returns-in_err-pieces-clause-opens
 returns-in_err-pieces-clause-opens g c =

@@ -16,20 +16,20 @@ use Rattle.staat_input.proofs.OpenedLemmas.{part_more, parts_some}
 use Rattle.staat_input.proofs.SketchLemmas.{parts_more, pieces_counted}
 use Rattle.staat_input.proofs.input.read_parts.Goals as goal
 
-pub returns-in_err-with_capacity-clause-opens : goal.returns-in_err-with_capacity-clause-opens
-returns-in_err-with_capacity-clause-opens g c = refused _ c.from_residual.result _ _ _ c.from_residual.ensures.1 (none_opened (piece_files c.args.listing.now) _ _ refl)
+pub returns-in_err-parts-clause-opens : goal.returns-in_err-parts-clause-opens
+returns-in_err-parts-clause-opens g c = refused _ c.from_residual.result _ _ _ c.from_residual.ensures.1 (none_opened (piece_files c.args.listing.now) (g.H.Shelf.told c.args.shelf.now).given (g.H.Shelf.told c.args.shelf.now).given refl)
 
 pub returns-in_err-read_part-clause-opens : goal.returns-in_err-read_part-clause-opens
 returns-in_err-read_part-clause-opens g c =
     refused _ c.from_residual-in_err-read_part.result _ _ _ c.from_residual-in_err-read_part.ensures.1
-    (parts_some c.args.listing.now (c.loop-named.named-index + 1) _ _
-    (part_more c.args.listing.now c.loop-named.named-index c.named-item.result false _ _ _ c.loop-named-test.true c.named-item.is c.loop-named.invariant.opens c.in_err-read_part.ensures.opens))
+    (parts_some c.args.listing.now (c.loop-named.named-index + 1) (g.H.Shelf.told c.args.shelf.now).given (g.H.Shelf.told c.read_part.new.shelf).given
+    (part_more c.args.listing.now c.loop-named.named-index c.named-item.result false (g.H.Shelf.told c.args.shelf.now).given (g.H.Shelf.told c.loop-named.shelf).given (g.H.Shelf.told c.read_part.new.shelf).given c.loop-named-test.true c.named-item.is c.loop-named.invariant.opens c.in_err-read_part.ensures.opens))
 
 pub returns-in_err-push-clause-opens : goal.returns-in_err-push-clause-opens
 returns-in_err-push-clause-opens g c =
     refused _ c.from_residual-in_err-push.result _ _ _ c.from_residual-in_err-push.ensures.1
-    (parts_some c.args.listing.now (c.loop-named.named-index + 1) _ _
-    (all_some _ _ _ (part_more c.args.listing.now c.loop-named.named-index c.named-item.result true _ _ _ c.loop-named-test.true c.named-item.is c.loop-named.invariant.opens c.in_ok-read_part.ensures.opens)))
+    (parts_some c.args.listing.now (c.loop-named.named-index + 1) (g.H.Shelf.told c.args.shelf.now).given (g.H.Shelf.told c.read_part.new.shelf).given
+    (all_some (piece_files (take (c.loop-named.named-index + 1) c.args.listing.now)) (g.H.Shelf.told c.args.shelf.now).given (g.H.Shelf.told c.read_part.new.shelf).given (part_more c.args.listing.now c.loop-named.named-index c.named-item.result true (g.H.Shelf.told c.args.shelf.now).given (g.H.Shelf.told c.loop-named.shelf).given (g.H.Shelf.told c.read_part.new.shelf).given c.loop-named-test.true c.named-item.is c.loop-named.invariant.opens c.in_ok-read_part.ensures.opens)))
 
 pub returns-in_err-read_part-clause-found : goal.returns-in_err-read_part-clause-found
 returns-in_err-read_part-clause-found g c = λ files fit.
@@ -46,11 +46,11 @@ returns-in_err-read_part-clause-named g c =
 pub loop-named-preserved : goal.loop-named-preserved
 loop-named-preserved g c =
     let items = c.in_ok-push.ensures.items in
-    let back : Narrows (g.H.Shelf.told c.loop-named.shelf) (g.H.Shelf.told c.read_part.new.shelf) = narrowed c.named-item.result.pieces _ _ c.in_ok-read_part.ensures.holds (all_some _ _ _ c.in_ok-read_part.ensures.opens) in
+    let back : Narrows (g.H.Shelf.told c.loop-named.shelf) (g.H.Shelf.told c.read_part.new.shelf) = narrowed c.named-item.result.pieces (g.H.Shelf.told c.loop-named.shelf) (g.H.Shelf.told c.read_part.new.shelf) c.in_ok-read_part.ensures.holds (all_some c.named-item.result.pieces (g.H.Shelf.told c.loop-named.shelf).given (g.H.Shelf.told c.read_part.new.shelf).given c.in_ok-read_part.ensures.opens) in
     record {
       holds = c.in_ok-read_part.ensures.holds ∙ c.loop-named.invariant.holds;
       count = omega (arith, c.loop-named.invariant.count, c.in_ok-read_part.ensures.count);
-      opens = part_more c.args.listing.now c.loop-named.named-index c.named-item.result true _ _ _ c.loop-named-test.true c.named-item.is c.loop-named.invariant.opens c.in_ok-read_part.ensures.opens;
+      opens = part_more c.args.listing.now c.loop-named.named-index c.named-item.result true (g.H.Shelf.told c.args.shelf.now).given (g.H.Shelf.told c.loop-named.shelf).given (g.H.Shelf.told c.read_part.new.shelf).given c.loop-named-test.true c.named-item.is c.loop-named.invariant.opens c.in_ok-read_part.ensures.opens;
       found = λ files fit. subst (λ done. Continues (IsPartOf files c.args.digits) c.args.listing.now (c.loop-named.named-index + 1) done) (sym items)
           (each_more (IsPartOf files c.args.digits) c.args.listing.now c.loop-named.named-index c.loop-named.parts.items c.named-item.result c.in_ok-read_part.field-0 c.loop-named-test.true
           (subst (λ n. IsPartOf files c.args.digits n (Ok c.in_ok-read_part.field-0)) c.named-item.is (c.in_ok-read_part.ensures.found files fit))

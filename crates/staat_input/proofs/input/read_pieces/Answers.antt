@@ -1,4 +1,4 @@
-use Rattle.std.proofs.Common.{◌≡◌, ◌∙◌, ◌+◌, ℕ, true, false, List, Ok, refl, sym, subst, ap, arith, [], ◌∷◌, All, Contains, length, map}
+use Rattle.std.proofs.Common.{◌≡◌, ◌∙◌, ◌+◌, ℕ, true, false, List, Ok, refl, sym, subst, ap, arith, [], ◌∷◌, All, Contains, length, map, take}
 use Rattle.std.proofs.lemmas.List.{length_push}
 use Rattle.std.proofs.lemmas.List.Elements.{All-append, All-cons, All-nil}
 use Rattle.staat_edge.specs.Fitting.{Narrows}
@@ -15,20 +15,20 @@ use Rattle.staat_input.proofs.SketchLemmas.{pieces_more, small_more}
 use Rattle.std.proofs.lemmas.List.{take_all}
 use Rattle.staat_input.proofs.input.read_pieces.Goals as goal
 
-pub returns-in_err-with_capacity-clause-opens : goal.returns-in_err-with_capacity-clause-opens
-returns-in_err-with_capacity-clause-opens g c = refused _ c.from_residual.result _ _ _ c.from_residual.ensures.1 (none_opened c.args.names.now _ _ refl)
+pub returns-in_err-pieces-clause-opens : goal.returns-in_err-pieces-clause-opens
+returns-in_err-pieces-clause-opens g c = refused _ c.from_residual.result _ _ _ c.from_residual.ensures.1 (none_opened c.args.names.now (g.H.Shelf.told c.args.shelf.now).given (g.H.Shelf.told c.args.shelf.now).given refl)
 
 pub returns-in_err-piece-clause-opens : goal.returns-in_err-piece-clause-opens
 returns-in_err-piece-clause-opens g c =
     refused _ c.from_residual-in_err-piece.result _ _ _ c.from_residual-in_err-piece.ensures.1
-    (names_some c.args.names.now (c.loop-name.name-index + 1) _ _
-    (name_more c.args.names.now c.loop-name.name-index c.name-item.result false _ _ _ c.loop-name-test.true c.name-item.is c.loop-name.invariant.opens c.in_err-piece.ensures.opens))
+    (names_some c.args.names.now (c.loop-name.name-index + 1) (g.H.Shelf.told c.args.shelf.now).given (g.H.Shelf.told c.read_moved.new.shelf).given
+    (name_more c.args.names.now c.loop-name.name-index c.name-item.result false (g.H.Shelf.told c.args.shelf.now).given (g.H.Shelf.told c.loop-name.shelf).given (g.H.Shelf.told c.read_moved.new.shelf).given c.loop-name-test.true c.name-item.is c.loop-name.invariant.opens c.in_err-piece.ensures.opens))
 
 pub returns-in_err-push-clause-opens : goal.returns-in_err-push-clause-opens
 returns-in_err-push-clause-opens g c =
     refused _ c.from_residual-in_err-push.result _ _ _ c.from_residual-in_err-push.ensures.1
-    (names_some c.args.names.now (c.loop-name.name-index + 1) _ _
-    (all_some _ _ _ (name_more c.args.names.now c.loop-name.name-index c.name-item.result true _ _ _ c.loop-name-test.true c.name-item.is c.loop-name.invariant.opens c.in_ok-piece.ensures.opens)))
+    (names_some c.args.names.now (c.loop-name.name-index + 1) (g.H.Shelf.told c.args.shelf.now).given (g.H.Shelf.told c.read_moved.new.shelf).given
+    (all_some (take (c.loop-name.name-index + 1) c.args.names.now) (g.H.Shelf.told c.args.shelf.now).given (g.H.Shelf.told c.read_moved.new.shelf).given (name_more c.args.names.now c.loop-name.name-index c.name-item.result true (g.H.Shelf.told c.args.shelf.now).given (g.H.Shelf.told c.loop-name.shelf).given (g.H.Shelf.told c.read_moved.new.shelf).given c.loop-name-test.true c.name-item.is c.loop-name.invariant.opens c.in_ok-piece.ensures.opens)))
 
 pub returns-in_err-piece-clause-found : goal.returns-in_err-piece-clause-found
 returns-in_err-piece-clause-found g c = λ files fit.
@@ -45,11 +45,11 @@ returns-in_err-piece-clause-named g c =
 pub loop-name-preserved : goal.loop-name-preserved
 loop-name-preserved g c =
     let items = c.in_ok-push.ensures.items in
-    let back : Narrows (g.H.Shelf.told c.loop-name.shelf) (g.H.Shelf.told c.read_moved.new.shelf) = narrowed (c.name-item.result ∷ []) _ _ c.in_ok-piece.ensures.holds (all_some _ _ _ c.in_ok-piece.ensures.opens) in
+    let back : Narrows (g.H.Shelf.told c.loop-name.shelf) (g.H.Shelf.told c.read_moved.new.shelf) = narrowed (c.name-item.result ∷ []) (g.H.Shelf.told c.loop-name.shelf) (g.H.Shelf.told c.read_moved.new.shelf) c.in_ok-piece.ensures.holds (all_some (c.name-item.result ∷ []) (g.H.Shelf.told c.loop-name.shelf).given (g.H.Shelf.told c.read_moved.new.shelf).given c.in_ok-piece.ensures.opens) in
     record {
       holds = c.in_ok-piece.ensures.holds ∙ c.loop-name.invariant.holds;
       count = omega (arith, c.loop-name.invariant.count, c.in_ok-piece.ensures.count);
-      opens = name_more c.args.names.now c.loop-name.name-index c.name-item.result true _ _ _ c.loop-name-test.true c.name-item.is c.loop-name.invariant.opens c.in_ok-piece.ensures.opens;
+      opens = name_more c.args.names.now c.loop-name.name-index c.name-item.result true (g.H.Shelf.told c.args.shelf.now).given (g.H.Shelf.told c.loop-name.shelf).given (g.H.Shelf.told c.read_moved.new.shelf).given c.loop-name-test.true c.name-item.is c.loop-name.invariant.opens c.in_ok-piece.ensures.opens;
       found = λ files fit. subst (λ done. Continues (IsMovedPieceOf files c.args.digits c.args.at) c.args.names.now (c.loop-name.name-index + 1) done) (sym items)
           (each_more (IsMovedPieceOf files c.args.digits c.args.at) c.args.names.now c.loop-name.name-index c.loop-name.pieces.items c.name-item.result c.in_ok-piece.piece c.loop-name-test.true
           (subst (λ n. IsMovedPieceOf files c.args.digits c.args.at n (Ok c.in_ok-piece.piece)) c.name-item.is (c.in_ok-piece.ensures.found files fit))

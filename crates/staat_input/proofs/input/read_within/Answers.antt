@@ -55,16 +55,18 @@ named_by P Q (Err (TooLong name)) wider h = wider name h
 named_by P Q (Err f) wider h = tt
 
 pub returns-in_err-listing-clause-opens : goal.returns-in_err-listing-clause-opens
-returns-in_err-listing-clause-opens g c = input_refused _ c.args.limits c.from_residual.result c.args.asked.now.input [] _ _ c.from_residual.ensures.1 c.in_err-listing.ensures.opens
+returns-in_err-listing-clause-opens g c = input_refused _ c.args.limits c.from_residual.result c.args.asked.now.input [] (g.H.Shelf.told c.args.shelf.now) (g.H.Shelf.told c.names_of.new.shelf) c.from_residual.ensures.1 c.in_err-listing.ensures.opens
 
 pub returns-clause-opens : goal.returns-clause-opens
 returns-clause-opens g c =
-    pieces_opened c.args.limits (is_ok c.read_parts.result) c.args.asked.now.input c.as_slice.result.now _ _ _
+    pieces_opened c.args.limits (is_ok c.read_parts.result) c.args.asked.now.input c.as_slice.result.now
+    (g.H.Shelf.told c.args.shelf.now) (g.H.Shelf.told c.names_of.new.shelf) (g.H.Shelf.told c.read_parts.new.shelf)
     (subst (λ (n : List ListedPart). ReadsNames c.args.limits c.args.asked.now.input n (g.H.Shelf.told c.args.shelf.now) (g.H.Shelf.told c.names_of.new.shelf)) (sym c.as_slice.ensures) c.in_ok-listing.ensures.gave) c.read_parts.ensures.opens
 
 pub returns-clause-found : goal.returns-clause-found
 returns-clause-found g c = λ files fit.
-    let back : Narrows (g.H.Shelf.told c.names_of.new.shelf) (g.H.Shelf.told c.read_parts.new.shelf) = narrowed (piece_files c.as_slice.result.now) _ _ c.read_parts.ensures.holds (opens_some (is_ok c.read_parts.result) _ _ _ c.read_parts.ensures.opens) in
+    let back : Narrows (g.H.Shelf.told c.names_of.new.shelf) (g.H.Shelf.told c.read_parts.new.shelf) = narrowed (piece_files c.as_slice.result.now) (g.H.Shelf.told c.names_of.new.shelf) (g.H.Shelf.told c.read_parts.new.shelf) c.read_parts.ensures.holds
+        (opens_some (is_ok c.read_parts.result) (piece_files c.as_slice.result.now) (g.H.Shelf.told c.names_of.new.shelf).given (g.H.Shelf.told c.read_parts.new.shelf).given c.read_parts.ensures.opens) in
     let listed = subst (λ (n : List ListedPart). IsListingOfWithin c.args.limits files c.args.asked.now.input (Ok n)) (sym c.as_slice.ensures) (c.in_ok-listing.ensures.found files (back files fit)) in
     then_given (IsListingOfWithin c.args.limits files c.args.asked.now.input) (Each (IsPartOf files c.args.asked.now.digits)) c.as_slice.result.now c.read_parts.result listed
     (c.read_parts.ensures.found files fit)
@@ -74,7 +76,8 @@ returns-clause-few g c = parts_few c.args.limits c.as_slice.result.now c.read_pa
 
 pub returns-clause-drawn : goal.returns-clause-drawn
 returns-clause-drawn g c = λ files fit empty.
-    let back : Narrows (g.H.Shelf.told c.names_of.new.shelf) (g.H.Shelf.told c.read_parts.new.shelf) = narrowed (piece_files c.as_slice.result.now) _ _ c.read_parts.ensures.holds (opens_some (is_ok c.read_parts.result) _ _ _ c.read_parts.ensures.opens) in
+    let back : Narrows (g.H.Shelf.told c.names_of.new.shelf) (g.H.Shelf.told c.read_parts.new.shelf) = narrowed (piece_files c.as_slice.result.now) (g.H.Shelf.told c.names_of.new.shelf) (g.H.Shelf.told c.read_parts.new.shelf) c.read_parts.ensures.holds
+        (opens_some (is_ok c.read_parts.result) (piece_files c.as_slice.result.now) (g.H.Shelf.told c.names_of.new.shelf).given (g.H.Shelf.told c.read_parts.new.shelf).given c.read_parts.ensures.opens) in
     let listed = subst (λ (n : List ListedPart). IsListingOfWithin c.args.limits files c.args.asked.now.input (Ok n)) (sym c.as_slice.ensures) (c.in_ok-listing.ensures.found files (back files fit)) in
     parts_drawn c.args.limits files c.args.asked.now c.args.sketch.now c.read_parts.new.sketch c.as_slice.result.now c.read_parts.result listed empty
     (c.read_parts.ensures.drawn files fit)

@@ -1,4 +1,4 @@
-use Rattle.std.proofs.Common.{◌≡◌, List, Err}
+use Rattle.std.proofs.Common.{◌≡◌, [], ◌∷◌, List, Err}
 use Rattle.staat_vec.specs.declared.vector.V3.{V3}
 use Rattle.std.proofs.lemmas.Result.{err_from_is_err_and}
 use Rattle.staat_edge.proofs.OpeningLemmas.{all_some, refused}
@@ -13,10 +13,14 @@ pub returns-in_err-drawn-clause-opens : goal.returns-in_err-drawn-clause-opens
 returns-in_err-drawn-clause-opens g c = refused _ c.from_residual.result _ _ _ c.from_residual.ensures.1 c.in_err-drawn.ensures.opens
 
 pub returns-in_err-placed-clause-opens : goal.returns-in_err-placed-clause-opens
-returns-in_err-placed-clause-opens g c = refused _ c.from_residual-in_err-placed.result _ _ _ c.from_residual-in_err-placed.ensures.1 (all_some _ _ _ c.in_ok-drawn.ensures.opens)
+returns-in_err-placed-clause-opens g c =
+    refused _ c.from_residual-in_err-placed.result _ _ _ c.from_residual-in_err-placed.ensures.1
+    (all_some (c.args.name.now ∷ []) (g.H.Shelf.told c.args.shelf.now).given (g.H.Shelf.told c.read_drawn.new.shelf).given c.in_ok-drawn.ensures.opens)
 
 pub returns-in_err-add-clause-opens : goal.returns-in_err-add-clause-opens
-returns-in_err-add-clause-opens g c = refused _ c.from_residual-in_err-add.result _ _ _ c.from_residual-in_err-add.ensures.1 (all_some _ _ _ c.in_ok-drawn.ensures.opens)
+returns-in_err-add-clause-opens g c =
+    refused _ c.from_residual-in_err-add.result _ _ _ c.from_residual-in_err-add.ensures.1
+    (all_some (c.args.name.now ∷ []) (g.H.Shelf.told c.args.shelf.now).given (g.H.Shelf.told c.read_drawn.new.shelf).given c.in_ok-drawn.ensures.opens)
 
 pub returns-in_err-drawn-clause-found : goal.returns-in_err-drawn-clause-found
 returns-in_err-drawn-clause-found g c = λ files fit.

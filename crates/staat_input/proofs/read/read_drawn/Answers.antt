@@ -1,4 +1,4 @@
-use Rattle.std.proofs.Common.{◌≡◌}
+use Rattle.std.proofs.Common.{◌≡◌, [], ◌∷◌}
 use Rattle.std.specs.Prelude.{is_ok}
 use Rattle.staat_edge.proofs.OpeningLemmas.{refused}
 use Rattle.staat_input.proofs.OpenedLemmas.{all_opened}
@@ -13,7 +13,7 @@ returns-in_err-bytes-clause-named g c =
     long_named (g.H.Shelf.told c.read_file.new.shelf) c.args.name.now c.in_err-bytes.field-0.0 c.from_residual.result c.in_err-bytes.ensures.refused c.from_residual.ensures.1
 
 pub returns-clause-opens : goal.returns-clause-opens
-returns-clause-opens g c = all_opened (is_ok c.drawn_in.result) _ _ _ c.in_ok-bytes.ensures.opens
+returns-clause-opens g c = all_opened (is_ok c.drawn_in.result) (c.args.name.now ∷ []) (g.H.Shelf.told c.args.shelf.now).given (g.H.Shelf.told c.read_file.new.shelf).given c.in_ok-bytes.ensures.opens
 
 pub returns-clause-named : goal.returns-clause-named
 returns-clause-named g c = never_long (λ long. long ≡ c.args.name.now) c.drawn_in.result c.drawn_in.ensures.cause

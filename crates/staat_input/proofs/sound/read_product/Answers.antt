@@ -10,10 +10,10 @@ use Rattle.staat_input.proofs.OpenedLemmas.{input_opened, input_refused}
 use Rattle.staat_input.proofs.sound.read_product.Goals as goal
 
 pub returns-in_err-parts-clause-opens : goal.returns-in_err-parts-clause-opens
-returns-in_err-parts-clause-opens g c = input_refused _ PRODUCT c.from_residual.result c.args.asked.now.input [] _ _ c.from_residual.ensures.1 c.in_err-parts.ensures.opens
+returns-in_err-parts-clause-opens g c = input_refused _ PRODUCT c.from_residual.result c.args.asked.now.input [] (g.H.Shelf.told c.args.shelf.now) (g.H.Shelf.told c.read_within.new.shelf) c.from_residual.ensures.1 c.in_err-parts.ensures.opens
 
 pub returns-clause-opens : goal.returns-clause-opens
-returns-clause-opens g c = input_opened PRODUCT (is_ok c.tested_product.result) c.args.asked.now.input [] _ _ c.in_ok-parts.ensures.opens
+returns-clause-opens g c = input_opened PRODUCT (is_ok c.tested_product.result) c.args.asked.now.input [] (g.H.Shelf.told c.args.shelf.now) (g.H.Shelf.told c.read_within.new.shelf) c.in_ok-parts.ensures.opens
 
 pub returns-clause-found : goal.returns-clause-found
 returns-clause-found g c = λ files fit.

@@ -5,7 +5,7 @@ use Rattle.staat_input.proofs.OpenedLemmas.{input_opened, input_refused}
 use Rattle.staat_input.proofs.sound.read_sketched.Goals as goal
 
 pub returns-in_err-assembly-clause-opens : goal.returns-in_err-assembly-clause-opens
-returns-in_err-assembly-clause-opens g c = input_refused _ ASSEMBLY c.from_residual.result c.args.asked.now.input [] _ _ c.from_residual.ensures.1 c.in_err-assembly.ensures.opens
+returns-in_err-assembly-clause-opens g c = input_refused _ ASSEMBLY c.from_residual.result c.args.asked.now.input [] (g.H.Shelf.told c.args.shelf.now) (g.H.Shelf.told c.read_input.new.shelf) c.from_residual.ensures.1 c.in_err-assembly.ensures.opens
 
 pub returns-clause-opens : goal.returns-clause-opens
-returns-clause-opens g c = input_opened ASSEMBLY (is_ok c.tested.result) c.args.asked.now.input [] _ _ c.in_ok-assembly.ensures.opens
+returns-clause-opens g c = input_opened ASSEMBLY (is_ok c.tested.result) c.args.asked.now.input [] (g.H.Shelf.told c.args.shelf.now) (g.H.Shelf.told c.read_input.new.shelf) c.in_ok-assembly.ensures.opens
