@@ -1,5 +1,5 @@
 -- The files that the work on an input opens.
-use Rattle.std.proofs.Common.{◌≡◌, ◌∙◌, ℕ, ◌+◌, ◌<◌, Bool, true, false, List, [], ◌∷◌, ◌++◌, map, take, drop, get_or, length, Option, Result, Ok, Err, refl, sym, ap, subst, inl, inr, append-nil}
+use Rattle.std.proofs.Common.{◌≡◌, ◌∙◌, ℕ, ◌+◌, ◌<◌, Bool, true, false, List, [], ◌∷◌, ◌++◌, map, take, drop, get_or, length, Result, Ok, Err, refl, sym, ap, subst, inl, inr, append-nil}
 use Rattle.std.proofs.lemmas.Grind.{flat_map-append}
 use Rattle.std.proofs.lemmas.List.{flat_map_more, take-append-drop, take_more}
 use Rattle.std.specs.Prelude.{IfOk, IsErrAnd, OnErr, is_ok}
@@ -14,7 +14,7 @@ use Rattle.staat_input.specs.declared.limits.Limits.{Limits}
 use Rattle.staat_fault.specs.declared.fault.Fault.{Fault}
 use Rattle.staat_input.specs.Inputs.{SaysListingWithin, alone, listing, no_listing}
 use Rattle.staat_input.specs.Work.{Follows}
-use Rattle.staat_input.specs.Opened.{OpensInput, OpensListed, OpensSomeOf, ReadsList, ReadsNames, piece_files}
+use Rattle.staat_input.specs.Opened.{OpensInput, OpensSomeOf, ReadsList, ReadsNames, piece_files}
 
 -- where no file was opened, those that were are a beginning of any
 pub unopened : (limits : Limits) (source : Input) (more : List (List ℕ)) (before now : ShelfTold) → now.given ≡ before.given → OpensSomeOf limits source more before now

@@ -66,7 +66,7 @@ returns-clause-opens g c =
 pub returns-clause-found : goal.returns-clause-found
 returns-clause-found g c = λ files fit.
     let back : Narrows (g.H.Shelf.told c.names_of.new.shelf) (g.H.Shelf.told c.read_parts.new.shelf) = narrowed (piece_files c.as_slice.result.now) (g.H.Shelf.told c.names_of.new.shelf) (g.H.Shelf.told c.read_parts.new.shelf) c.read_parts.ensures.holds
-        (opens_some (is_ok c.read_parts.result) (piece_files c.as_slice.result.now) (g.H.Shelf.told c.names_of.new.shelf).given (g.H.Shelf.told c.read_parts.new.shelf).given c.read_parts.ensures.opens) in
+    (opens_some (is_ok c.read_parts.result) (piece_files c.as_slice.result.now) (g.H.Shelf.told c.names_of.new.shelf).given (g.H.Shelf.told c.read_parts.new.shelf).given c.read_parts.ensures.opens) in
     let listed = subst (λ (n : List ListedPart). IsListingOfWithin c.args.limits files c.args.asked.now.input (Ok n)) (sym c.as_slice.ensures) (c.in_ok-listing.ensures.found files (back files fit)) in
     then_given (IsListingOfWithin c.args.limits files c.args.asked.now.input) (Each (IsPartOf files c.args.asked.now.digits)) c.as_slice.result.now c.read_parts.result listed
     (c.read_parts.ensures.found files fit)
@@ -77,7 +77,7 @@ returns-clause-few g c = parts_few c.args.limits c.as_slice.result.now c.read_pa
 pub returns-clause-drawn : goal.returns-clause-drawn
 returns-clause-drawn g c = λ files fit empty.
     let back : Narrows (g.H.Shelf.told c.names_of.new.shelf) (g.H.Shelf.told c.read_parts.new.shelf) = narrowed (piece_files c.as_slice.result.now) (g.H.Shelf.told c.names_of.new.shelf) (g.H.Shelf.told c.read_parts.new.shelf) c.read_parts.ensures.holds
-        (opens_some (is_ok c.read_parts.result) (piece_files c.as_slice.result.now) (g.H.Shelf.told c.names_of.new.shelf).given (g.H.Shelf.told c.read_parts.new.shelf).given c.read_parts.ensures.opens) in
+    (opens_some (is_ok c.read_parts.result) (piece_files c.as_slice.result.now) (g.H.Shelf.told c.names_of.new.shelf).given (g.H.Shelf.told c.read_parts.new.shelf).given c.read_parts.ensures.opens) in
     let listed = subst (λ (n : List ListedPart). IsListingOfWithin c.args.limits files c.args.asked.now.input (Ok n)) (sym c.as_slice.ensures) (c.in_ok-listing.ensures.found files (back files fit)) in
     parts_drawn c.args.limits files c.args.asked.now c.args.sketch.now c.read_parts.new.sketch c.as_slice.result.now c.read_parts.result listed empty
     (c.read_parts.ensures.drawn files fit)
