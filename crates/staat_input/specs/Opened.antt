@@ -1,5 +1,5 @@
 -- Which files the work on an input opens, in which order.
-use Rattle.std.specs.Prelude.{◌≡◌, ◌⊎◌, ◌++◌, ℕ, Bool, false, List, [], ◌∷◌, flat_map, Ok}
+use Rattle.std.specs.Prelude.{◌≡◌, ◌⊎◌, ◌++◌, ℕ, Bool, false, List, [], ◌∷◌, map, flat_map, Ok}
 use Rattle.staat_edge.specs.Opening.{Opens, OpensFiles, OpensSome}
 use Rattle.staat_edge.specs.Readings.{whole_reading}
 use Rattle.staat_edge.specs.Told.{ShelfTold}
@@ -8,6 +8,7 @@ use Rattle.staat_manifest.specs.Rules.{part_list_within}
 use Rattle.staat_words.specs.declared.request.Input.{Input}
 use Rattle.staat_words.specs.declared.request.Input.TheVariants as input
 use Rattle.staat_input.specs.declared.limits.Limits.{Limits}
+use Rattle.staat_input.specs.Inputs.{alone}
 
 -- the files of the pieces of these parts, in their order
 abbrev pub piece_files : List ListedPart → List (List ℕ)
@@ -31,3 +32,15 @@ OpensInput limits ends (input.Manifest name) more before now =
 -- the files opened are a beginning of those that the input names and then these
 abbrev pub OpensSomeOf : Limits → Input → List (List ℕ) → ShelfTold → ShelfTold → Type 0
 OpensSomeOf limits source more before now = OpensInput limits false source more before now
+
+-- the part list was read to its end, and its bytes list these parts
+pub record ReadsList (limits : Limits) (name : List ℕ) (parts : List ListedPart)
+    (before now : ShelfTold) : Type 0 where
+  pub bytes : List ℕ
+  pub listed : part_list_within limits.parts limits.pieces bytes ≡ Ok parts
+  pub gave : now.given ≡ whole_reading name bytes ∷ before.given
+
+-- the names of these parts were read; without a part list nothing was, and each file is a part of its own
+abbrev pub ReadsNames : Limits → Input → List ListedPart → ShelfTold → ShelfTold → Type 0
+ReadsNames limits (input.Files names) parts before now = (now.given ≡ before.given) × (parts ≡ map alone names)
+ReadsNames limits (input.Manifest name) parts before now = ReadsList limits name parts before now

@@ -1,9 +1,9 @@
 // The parts that an input names.
-ghost use Rattle.std.specs.Prelude.{◌≡◌, ◌≤◌, ◌<◌, ◌+◌, [], All, Contains, List, ℕ};
-ghost use Rattle.std.specs.Prelude.{IfOk, IfErr, OnOk, length, map, sum_by};
+ghost use Rattle.std.specs.Prelude.{◌≡◌, ◌≤◌, ◌<◌, ◌+◌, [], ◌∷◌, All, Contains, List, ℕ};
+ghost use Rattle.std.specs.Prelude.{IfOk, IfErr, OnErr, OnOk, length, map, sum_by};
 ghost use Rattle.std.specs.Prelude.{is_ok};
 ghost use Rattle.staat_edge.specs.Opening.{OpensFiles};
-ghost use Rattle.staat_input.specs.Opened.{OpensInput, piece_files};
+ghost use Rattle.staat_input.specs.Opened.{OpensInput, OpensSomeOf, ReadsList, ReadsNames, piece_files};
 ghost use Rattle.staat_input.specs.declared.limits.TheConstants.Limits.{ASSEMBLY};
 ghost use Rattle.staat_limits.specs.declared.limits.TheConstants.{MOST_DIGITS};
 ghost use Rattle.staat_vec.specs.Vectors.{IsWithin};
@@ -82,6 +82,9 @@ fn read_list<H: Shelf>(
     ensures count { (H.told shelf.old).faults ≤ (H.told shelf.new).faults }
     ensures found { (files : Files) → Fit (H.told shelf.new) files → Follows (IsTaken files name.now
         (SaysListingWithin limits name.now)) result }
+    ensures gave { IfOk result (λ listing.
+        ReadsList limits name.now listing (H.told shelf.old) (H.told shelf.new)) }
+    ensures opens { OpensFiles (is_ok result) (name.now ∷ []) (H.told shelf.old) (H.told shelf.new) }
     ensures few { IfOk result (IsFewWithin limits) }
     ensures cause { IfErr result (HasCause (over (H.told shelf.old) (H.told shelf.new))) }
 {
@@ -100,6 +103,10 @@ fn names_of<H: Shelf>(
     requires room { limits.parts ≤ limits.pieces }
     ensures holds { (H.told shelf.new).holds ≡ (H.told shelf.old).holds }
     ensures count { (H.told shelf.old).faults ≤ (H.told shelf.new).faults }
+    ensures gave { IfOk result (λ listing.
+        ReadsNames limits input.now listing (H.told shelf.old) (H.told shelf.new)) }
+    ensures opens { OnErr result
+        (OpensSomeOf limits input.now [] (H.told shelf.old) (H.told shelf.new)) }
     ensures found { (files : Files) → Fit (H.told shelf.new) files →
         Follows (IsListingOfWithin limits files input.now) result }
     ensures few { IfOk result (IsFewWithin limits) }

@@ -8,6 +8,7 @@ ghost use Rattle.staat_off.specs.Reading.{reading};
 ghost use Rattle.staat_edge.specs.Files.{bytes_of};
 ghost use Rattle.staat_edge.specs.Fitting.{Fit, IsWhole};
 ghost use Rattle.staat_edge.specs.Opening.{OpensFiles};
+ghost use Rattle.staat_edge.specs.Readings.{whole_reading};
 ghost use Rattle.staat_input.specs.Drawing.{piece_found, raw_in};
 ghost use Rattle.staat_input.specs.Pieces.{IsPieceOf, SaysPiece};
 ghost use Rattle.staat_input.specs.Causes.{HasCause, IfTooLong, ShelfSide, over};
@@ -26,6 +27,8 @@ use std::alloc::Global;
 pub fn read_file<H: Shelf>(alloc: Global, shelf: &mut H, name: &Name) -> Result<Bytes, Fault>
     ensures holds { (H.told shelf.new).holds ≡ (H.told shelf.old).holds }
     ensures count { (H.told shelf.old).faults ≤ (H.told shelf.new).faults }
+    ensures gave { IfOk result (λ bytes.
+        (H.told shelf.new).given ≡ whole_reading name.now bytes ∷ (H.told shelf.old).given) }
     ensures opens { OpensFiles (is_ok result) (name.now ∷ []) (H.told shelf.old) (H.told shelf.new) }
     ensures whole { IfOk result (λ bytes. IsWhole (H.told shelf.new) name.now bytes) }
     ensures within { IfOk result (λ bytes. length bytes ≤ FILE_LIMIT) }

@@ -1,5 +1,7 @@
 use Rattle.std.proofs.Common.{◌≡◌, ◌≤◌, ◌∙◌, ◌+◌, ◌++◌, ℕ, List, [], Ok, Err, ap, length, sym, subst, arith}
-use Rattle.std.specs.Prelude.{sum_by, Result, IfOk, IfErr, OnOk}
+use Rattle.std.specs.Prelude.{sum_by, Result, IfOk, IfErr, OnOk, is_ok}
+use Rattle.staat_edge.specs.Fitting.{Narrows}
+use Rattle.staat_edge.proofs.OpeningLemmas.{narrowed, opens_some}
 use Rattle.staat_edge.specs.Told.{ShelfTold}
 use Rattle.staat_explode.specs.declared.scene.Solid.{Solid}
 use Rattle.staat_fault.specs.declared.fault.Fault.{Fault}
@@ -16,6 +18,8 @@ use Rattle.staat_input.specs.Inputs.{IsListingOfWithin, IsPartOf}
 use Rattle.staat_input.specs.Shapes.{AreRead, IsFewWithin, ListsPiece}
 use Rattle.staat_input.specs.Work.{Each, Files}
 use Rattle.staat_input.proofs.InputLemmas.{cause_from, few_read, same_length, then_given}
+use Rattle.staat_input.specs.Opened.{ReadsNames, piece_files}
+use Rattle.staat_input.proofs.OpenedLemmas.{input_refused, pieces_opened}
 use Rattle.staat_input.proofs.SketchLemmas.{small_more, small_none}
 use Rattle.staat_input.proofs.input.read_within.Goals as goal
 
@@ -50,20 +54,33 @@ named_by P Q (Ok parts) wider h = tt
 named_by P Q (Err (TooLong name)) wider h = wider name h
 named_by P Q (Err f) wider h = tt
 
+pub returns-in_err-listing-clause-opens : goal.returns-in_err-listing-clause-opens
+returns-in_err-listing-clause-opens g c = input_refused _ c.args.limits c.from_residual.result c.args.asked.now.input [] (g.H.Shelf.told c.args.shelf.now) (g.H.Shelf.told c.names_of.new.shelf) c.from_residual.ensures.1 c.in_err-listing.ensures.opens
+
+pub returns-clause-opens : goal.returns-clause-opens
+returns-clause-opens g c =
+    pieces_opened c.args.limits (is_ok c.read_parts.result) c.args.asked.now.input c.as_slice.result.now
+    (g.H.Shelf.told c.args.shelf.now) (g.H.Shelf.told c.names_of.new.shelf) (g.H.Shelf.told c.read_parts.new.shelf)
+    (subst (λ (n : List ListedPart). ReadsNames c.args.limits c.args.asked.now.input n (g.H.Shelf.told c.args.shelf.now) (g.H.Shelf.told c.names_of.new.shelf)) (sym c.as_slice.ensures) c.in_ok-listing.ensures.gave) c.read_parts.ensures.opens
+
 pub returns-clause-found : goal.returns-clause-found
-returns-clause-found g c = λ files told.
-    let listed = subst (λ (n : List ListedPart). IsListingOfWithin c.args.limits files c.args.asked.now.input (Ok n)) (sym c.as_slice.ensures) (c.in_ok-listing.ensures.found files told) in
+returns-clause-found g c = λ files fit.
+    let back : Narrows (g.H.Shelf.told c.names_of.new.shelf) (g.H.Shelf.told c.read_parts.new.shelf) = narrowed (piece_files c.as_slice.result.now) (g.H.Shelf.told c.names_of.new.shelf) (g.H.Shelf.told c.read_parts.new.shelf) c.read_parts.ensures.holds
+    (opens_some (is_ok c.read_parts.result) (piece_files c.as_slice.result.now) (g.H.Shelf.told c.names_of.new.shelf).given (g.H.Shelf.told c.read_parts.new.shelf).given c.read_parts.ensures.opens) in
+    let listed = subst (λ (n : List ListedPart). IsListingOfWithin c.args.limits files c.args.asked.now.input (Ok n)) (sym c.as_slice.ensures) (c.in_ok-listing.ensures.found files (back files fit)) in
     then_given (IsListingOfWithin c.args.limits files c.args.asked.now.input) (Each (IsPartOf files c.args.asked.now.digits)) c.as_slice.result.now c.read_parts.result listed
-    (c.read_parts.ensures.found files (c.in_ok-listing.ensures.holds ∙ told))
+    (c.read_parts.ensures.found files fit)
 
 pub returns-clause-few : goal.returns-clause-few
 returns-clause-few g c = parts_few c.args.limits c.as_slice.result.now c.read_parts.result (subst (IsFewWithin c.args.limits) (sym c.as_slice.ensures) c.in_ok-listing.ensures.few) c.read_parts.ensures.read
 
 pub returns-clause-drawn : goal.returns-clause-drawn
-returns-clause-drawn g c = λ files told empty.
-    let listed = subst (λ (n : List ListedPart). IsListingOfWithin c.args.limits files c.args.asked.now.input (Ok n)) (sym c.as_slice.ensures) (c.in_ok-listing.ensures.found files told) in
+returns-clause-drawn g c = λ files fit empty.
+    let back : Narrows (g.H.Shelf.told c.names_of.new.shelf) (g.H.Shelf.told c.read_parts.new.shelf) = narrowed (piece_files c.as_slice.result.now) (g.H.Shelf.told c.names_of.new.shelf) (g.H.Shelf.told c.read_parts.new.shelf) c.read_parts.ensures.holds
+    (opens_some (is_ok c.read_parts.result) (piece_files c.as_slice.result.now) (g.H.Shelf.told c.names_of.new.shelf).given (g.H.Shelf.told c.read_parts.new.shelf).given c.read_parts.ensures.opens) in
+    let listed = subst (λ (n : List ListedPart). IsListingOfWithin c.args.limits files c.args.asked.now.input (Ok n)) (sym c.as_slice.ensures) (c.in_ok-listing.ensures.found files (back files fit)) in
     parts_drawn c.args.limits files c.args.asked.now c.args.sketch.now c.read_parts.new.sketch c.as_slice.result.now c.read_parts.result listed empty
-    (c.read_parts.ensures.drawn files (c.in_ok-listing.ensures.holds ∙ told))
+    (c.read_parts.ensures.drawn files fit)
 
 pub returns-clause-small : goal.returns-clause-small
 returns-clause-small g c = λ empty.
