@@ -1,10 +1,12 @@
 -- What the steps find that read a certificate and judge it.
-use Rattle.std.proofs.Common.{◌≡◌, refl, ap, arith, ℕ, ◌≤◌, List, length, Option, Some, Ok, Err}
+use Rattle.std.proofs.Common.{◌≡◌, refl, ap, arith, ℕ, ◌≤◌, List, length, Ok, Err}
 use Rattle.std.specs.Prelude.{Result}
 use Rattle.staat_cert.specs.declared.reader.CertReader.{CertReader}
 use Rattle.staat_cert.specs.declared.cert_refusal.CertRefusal.{CertRefusal}
 use Rattle.staat_cert.specs.declared.cert_refusal.CertRefusal.TheVariants as cert
 use Rattle.staat_cert.specs.Feeds.{IsReadAnswer, WasFed}
+use Rattle.staat_edge.specs.Fitting.{Fit}
+use Rattle.staat_edge.specs.Told.{ShelfTold}
 use Rattle.staat_fault.specs.declared.fault.Fault.{Fault}
 use Rattle.staat_model.specs.declared.assembly.Part.{Part}
 use Rattle.staat_model.specs.declared.certificate.Certificate.{Certificate}
@@ -20,7 +22,9 @@ use Rattle.staat_judging.specs.Checking.{IsChecked, verdict_answer}
 use Rattle.staat_judging.specs.Feeding.{IsFed, IsFedFile}
 use Rattle.staat_input.specs.Causes.{HasCause, ShelfSide}
 use Rattle.staat_input.proofs.ReadLemmas.{not_taken_within}
+use Rattle.staat_edge.proofs.OpeningLemmas.{none_opened, opens_some, refused}
 use Rattle.staat_judging.proofs.FeedingLemmas.{found_fed}
+use Rattle.staat_judging.proofs.OpenedFurther.{opened_file}
 
 -- ---- what the file says
 
@@ -45,14 +49,14 @@ refused_cause shelf name text cert.OutOfMemory le h = tt
 pub ruleset said = (says_read, read_formed, says_refused, refused_cause)
 
 -- the whole file was fed
-pub found_certificate : (holds : Option Files) (files : Files) (name : List ℕ) (reader : CertReader) (r : Result Certificate Fault) → holds ≡ Some files → IsFedFile holds name (WasFed reader) → ((text : List ℕ) → IsFed (WasFed reader) text → Follows (SaysCertificate name text) r) → Follows (IsCertificateIn files name) r
-found_certificate holds files name reader r told file says = found_fed (SaysCertificate name) holds files name (WasFed reader) r told file says
+pub found_certificate : (told : ShelfTold) (files : Files) (name : List ℕ) (reader : CertReader) (r : Result Certificate Fault) → Fit told files → IsFedFile told name (WasFed reader) → ((text : List ℕ) → IsFed (WasFed reader) text → Follows (SaysCertificate name text) r) → Follows (IsCertificateIn files name) r
+found_certificate told files name reader r fit file says = found_fed (SaysCertificate name) told files name (WasFed reader) r fit file says
 
 -- it was not
-pub no_certificate : (holds : Option Files) (files : Files) (name : List ℕ) (f : Fault) → holds ≡ Some files → IsNotTakenWithin TEXT_LIMIT holds name f → Follows (IsCertificateIn files name) (Err f)
-no_certificate holds files name f told refused = not_taken_within TEXT_LIMIT (SaysCertificate name) holds files name f told refused
+pub no_certificate : (told : ShelfTold) (files : Files) (name : List ℕ) (f : Fault) → Fit told files → IsNotTakenWithin TEXT_LIMIT told name f → Follows (IsCertificateIn files name) (Err f)
+no_certificate told files name f fit refused = not_taken_within TEXT_LIMIT (SaysCertificate name) told files name f fit refused
 
-pub ruleset found = (found_certificate, no_certificate)
+pub ruleset found = (found_certificate, no_certificate, opened_file, refused, none_opened, opens_some)
 
 -- ---- the verdict
 

@@ -1,7 +1,8 @@
 -- Why the faults of `confirm` came.
-use Rattle.std.proofs.Common.{◌≡◌, ◌∙◌, ◌≤◌, Some, Err, ap, inl, inr}
+use Rattle.std.proofs.Common.{◌≡◌, ◌∙◌, ◌≤◌, Err, ap, inl, inr}
 use Rattle.std.specs.Prelude.{Result, IfErr, IsErrAnd}
 use Rattle.staat_edge.specs.Files.{told_name}
+use Rattle.staat_edge.specs.Fitting.{Fit}
 use Rattle.staat_edge.specs.Told.{ShelfTold}
 use Rattle.staat_fault.specs.declared.fault.Fault.{Fault}
 use Rattle.staat_fault.specs.declared.fault.Fault.TheVariants as fault
@@ -11,17 +12,18 @@ use Rattle.staat_input.specs.Assembling.{IsSoundProductOf}
 use Rattle.staat_input.specs.Causes.{HasCause, IfTooLong, MayName, ShelfSide, over}
 use Rattle.staat_judging.specs.Causes.{HasCertificateCause, HasConfirmCause}
 use Rattle.staat_input.proofs.InputLemmas.{cause_from, failed_with}
+use Rattle.staat_judging.proofs.OpenedFurther.{input_begun, opened_after_input}
 
 -- a fault of the input
 pub input_cause : {X : Type 0} (request : CheckRequest) (shelf : ShelfSide) (f : Fault) (r : Result X Fault)
     → HasCause shelf f → IfTooLong (MayName request.asked.input) f
-    → ((files : Files) → shelf.old.holds ≡ Some files → Follows (IsSoundProductOf files request.asked) (Err f))
+    → ((files : Files) → Fit shelf.new files → Follows (IsSoundProductOf files request.asked) (Err f))
     → IsErrAnd r (λ e. e ≡ f) → IfErr r (HasConfirmCause request shelf)
 input_cause request shelf f r cause named refused fails = failed_with (HasConfirmCause request shelf) f r
     (go f cause named refused) fails
   where
     go : (f : Fault) → HasCause shelf f → IfTooLong (MayName request.asked.input) f
-        → ((files : Files) → shelf.old.holds ≡ Some files
+        → ((files : Files) → Fit shelf.new files
         → Follows (IsSoundProductOf files request.asked) (Err f)) → HasConfirmCause request shelf f
     go (fault.TooLong name) past named refused = inl (record { past = past; named = named; refused = refused })
     go f cause named refused = cause
@@ -40,4 +42,4 @@ certificate_cause request before mid after f r le same cause fails = failed_with
         (h.0, record { place = h.1.place; opened = h.1.opened ∙ ap (λ holds. told_name holds name) same })
     go f h = cause_from before mid after f le same h
 
-pub ruleset confirming = (input_cause, certificate_cause)
+pub ruleset confirming = (input_cause, certificate_cause, input_begun, opened_after_input)

@@ -4,6 +4,7 @@ pub mod ConfirmCauses
 pub mod FeedingLemmas
 pub mod OneAnswer
 pub mod OneShortAnswer
+pub mod OpenedFurther
 pub mod RightAnswers
 pub mod RightShortAnswers
 pub mod ShortLemmas

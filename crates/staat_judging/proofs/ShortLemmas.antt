@@ -1,8 +1,10 @@
 -- What the steps find that read a short certificate and judge it.
-use Rattle.std.proofs.Common.{◌≡◌, refl, ap, arith, ℕ, ◌≤◌, List, length, Option, Some, Ok, Err}
+use Rattle.std.proofs.Common.{◌≡◌, refl, ap, arith, ℕ, ◌≤◌, List, length, Ok, Err}
 use Rattle.std.specs.Prelude.{Result}
 use Rattle.staat_cert.specs.declared.cert_refusal.CertRefusal.{CertRefusal}
 use Rattle.staat_cert.specs.declared.cert_refusal.CertRefusal.TheVariants as cert
+use Rattle.staat_edge.specs.Fitting.{Fit}
+use Rattle.staat_edge.specs.Told.{ShelfTold}
 use Rattle.staat_fault.specs.declared.fault.Fault.{Fault}
 use Rattle.staat_model.specs.declared.assembly.Part.{Part}
 use Rattle.staat_limits.specs.declared.limits.TheConstants.{TEXT_LIMIT}
@@ -20,7 +22,9 @@ use Rattle.staat_judging.specs.Confirming.{SaysShortCertificate, says_short, say
 use Rattle.staat_judging.specs.Confirming.{IsConfirmed, short_verdict_answer}
 use Rattle.staat_judging.specs.Feeding.{IsFed, IsFedFile}
 use Rattle.staat_input.proofs.ReadLemmas.{not_taken_within}
+use Rattle.staat_edge.proofs.OpeningLemmas.{none_opened, opens_some, refused}
 use Rattle.staat_judging.proofs.FeedingLemmas.{found_fed}
+use Rattle.staat_judging.proofs.OpenedFurther.{opened_file}
 
 -- ---- what the file says
 
@@ -49,20 +53,20 @@ refused_cause shelf name text cert.OutOfMemory le h = tt
 pub ruleset said = (says_read, read_formed, says_refused, refused_cause)
 
 -- the whole file was fed
-pub found_certificate : (holds : Option Files) (files : Files) (name : List ℕ) (reader : ShortReader)
-    (r : Result ShortCertificate Fault) → holds ≡ Some files → IsFedFile holds name (WasFedShort reader)
+pub found_certificate : (told : ShelfTold) (files : Files) (name : List ℕ) (reader : ShortReader)
+    (r : Result ShortCertificate Fault) → Fit told files → IsFedFile told name (WasFedShort reader)
     → ((text : List ℕ) → IsFed (WasFedShort reader) text → Follows (SaysShortCertificate name text) r)
     → Follows (IsShortCertificateIn files name) r
-found_certificate holds files name reader r told file says = found_fed (SaysShortCertificate name) holds files name
-    (WasFedShort reader) r told file says
+found_certificate told files name reader r fit file says = found_fed (SaysShortCertificate name) told files name
+    (WasFedShort reader) r fit file says
 
 -- it was not
-pub no_certificate : (holds : Option Files) (files : Files) (name : List ℕ) (f : Fault) → holds ≡ Some files
-    → IsNotTakenWithin TEXT_LIMIT holds name f → Follows (IsShortCertificateIn files name) (Err f)
-no_certificate holds files name f told refused = not_taken_within TEXT_LIMIT (SaysShortCertificate name) holds files
-    name f told refused
+pub no_certificate : (told : ShelfTold) (files : Files) (name : List ℕ) (f : Fault) → Fit told files
+    → IsNotTakenWithin TEXT_LIMIT told name f → Follows (IsShortCertificateIn files name) (Err f)
+no_certificate told files name f fit refused = not_taken_within TEXT_LIMIT (SaysShortCertificate name) told files
+    name f fit refused
 
-pub ruleset found = (found_certificate, no_certificate)
+pub ruleset found = (found_certificate, no_certificate, opened_file, refused, none_opened, opens_some)
 
 -- ---- the verdict
 

@@ -13,8 +13,8 @@ invariant-pieces g l = record {
   name : (g.H.Shelf.told l.shelf).opened ≡ told_name (g.H.Shelf.told l.fn.shelf).holds l.name;
   place : (g.H.Shelf.told l.shelf).place ≡ Some l.taken;
   has : Lacks (g.H.Shelf.told l.fn.shelf).holds l.name → ⊥;
-  fed : IsFedSoFar (content_of (g.H.Shelf.told l.fn.shelf).holds l.name) (g.H.Shelf.left l.shelf)
-      (g.R.TextReader.was_fed l.reader) l.taken;
+  fed : IsFedSoFar (content_of (g.H.Shelf.told l.fn.shelf).holds l.name) (g.H.Shelf.left l.shelf) l.name
+      (g.H.Shelf.told l.fn.shelf).given (g.H.Shelf.told l.shelf).given (g.R.TextReader.was_fed l.reader) l.taken;
 }
 
 abbrev pub decreases-pieces : goal.decreases-pieces
