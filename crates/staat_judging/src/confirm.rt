@@ -70,7 +70,8 @@ pub fn confirm<H: Shelf>(
     ensures holds { (H.told shelf.new).holds ≡ (H.told shelf.old).holds }
     ensures count { (H.told shelf.old).faults ≤ (H.told shelf.new).faults }
     ensures status { IfOk result (λ a. a.status < 2) }
-    ensures opens { OpensSomeOf PRODUCT request.now.asked.input (request.now.certificate ∷ []) (H.told shelf.old) (H.told shelf.new) }
+    ensures opens { OpensSomeOf PRODUCT request.now.asked.input (request.now.certificate ∷ []) (H.told shelf.old)
+        (H.told shelf.new) }
     ensures found { (files : Files) → Fit (H.told shelf.new) files →
         Follows (ConfirmWork request.now files) result }
     ensures cause { IfErr result (HasConfirmCause request.now (over (H.told shelf.old) (H.told shelf.new))) }
