@@ -76,8 +76,8 @@ fed_whole old told name mid buf left after WasFed taken has same le so more at_e
   text = so.text;
   whole_is =
       let all = Consumes-all (content_of old.holds name) after (so.text ++ []) [] (so.text)
-          (Consumes-trans (content_of old.holds name) left after so.text [] so.bytes more) at_end
-          (sym (append-nil so.text)) in
+      (Consumes-trans (content_of old.holds name) left after so.text [] so.bytes more) at_end
+      (sym (append-nil so.text)) in
       whole_fits told.holds name so.text old.given told.given
       (ended_by buf name so.text old.given mid told.given room so.given given)
       (λ held is. whole_of old.holds name so.text has all held (sym same ∙ is));
