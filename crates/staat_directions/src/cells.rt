@@ -41,6 +41,7 @@ fn tabled(alloc: Global, sound: &Sound, table: &PlaneTable) -> Result<Answer, Fa
 
 /// The answer to the command `cells`: all cells into which the planes of all parts cut the directions, each with the
 /// arcs of the blocking graph at every direction of the cell.
+#[tactic(auto, using(staat_input::proofs::OpenedLemmas::input_some))]
 pub fn cells<H: Shelf>(
     alloc: Global,
     request: &CellsRequest,

@@ -42,6 +42,7 @@ fn graphed(
 }
 
 /// The answer to the command `graph`: the arcs of the blocking graph along a direction, and its strong groups.
+#[tactic(auto, using(staat_input::proofs::OpenedLemmas::input_some))]
 pub fn graph<H: Shelf>(
     alloc: Global,
     request: &GraphRequest,

@@ -15,18 +15,18 @@ tabled-requires-clause-few g c =
     omega (arith, most, few)
 
 pub returns-in_err-table-clause-found : goal.returns-in_err-table-clause-found
-returns-in_err-table-clause-found g c = λ files told.
+returns-in_err-table-clause-found g c = λ files fit.
     let request = c.args.request.now in
     then_given (IsSoundOf files request.asked) (λ parts. Then (AreCounted parts request.planes) (λ planes. AreTabled parts))
-    c.in_ok-sound.sound c.from_residual-in_err-table.result (c.in_ok-sound.ensures.found files told)
+    c.in_ok-sound.sound c.from_residual-in_err-table.result (c.in_ok-sound.ensures.found files fit)
     (then_failed (AreCounted c.in_ok-sound.sound request.planes) (λ planes. AreTabled c.in_ok-sound.sound)
     c.in_err-table.field-0.0 c.from_residual-in_err-table.result c.in_err-table.ensures.refused c.from_residual-in_err-table.ensures.1)
 
 pub returns-clause-found : goal.returns-clause-found
-returns-clause-found g c = λ files told.
+returns-clause-found g c = λ files fit.
     let request = c.args.request.now in
     then_given (IsSoundOf files request.asked) (λ parts. Then (AreCounted parts request.planes) (λ planes. AreTabled parts))
-    c.in_ok-sound.sound c.tabled.result (c.in_ok-sound.ensures.found files told)
+    c.in_ok-sound.sound c.tabled.result (c.in_ok-sound.ensures.found files fit)
     (then_given (AreCounted c.in_ok-sound.sound request.planes) (λ planes. AreTabled c.in_ok-sound.sound)
     c.in_ok-table.table.planes c.tabled.result c.in_ok-table.ensures.counted c.tabled.ensures.tabled)
 

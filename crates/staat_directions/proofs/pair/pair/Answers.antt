@@ -1,24 +1,50 @@
-use Rattle.std.proofs.Common.{◌∙◌, Ok}
+use Rattle.std.proofs.Common.{◌∷◌, [], Ok, false, true}
+use Rattle.staat_edge.proofs.OpeningLemmas.{narrowed, opens_after, opens_some, some_of_more}
 use Rattle.staat_input.specs.Work.{Then}
 use Rattle.staat_input.specs.Pieces.{IsPieceOf}
 use Rattle.staat_directions.specs.Pairs.{IsJudged}
 use Rattle.staat_input.proofs.InputLemmas.{then_failed, then_given}
 use Rattle.staat_directions.proofs.pair.pair.Goals as goal
 
-pub returns-in_err-q-clause-found : goal.returns-in_err-q-clause-found
-returns-in_err-q-clause-found g c = λ files told.
+pub returns-in_err-p-clause-opens : goal.returns-in_err-p-clause-opens
+returns-in_err-p-clause-opens g c =
     let request = c.args.request.now in
+    some_of_more (request.first ∷ []) (request.second ∷ []) _ _ c.in_err-p.ensures.opens
+
+pub returns-in_err-q-clause-opens : goal.returns-in_err-q-clause-opens
+returns-in_err-q-clause-opens g c =
+    let request = c.args.request.now in
+    opens_after false (request.first ∷ []) (request.second ∷ []) _ _ _ c.in_ok-p.ensures.opens c.in_err-q.ensures.opens
+
+pub returns-in_err-q-clause-found : goal.returns-in_err-q-clause-found
+returns-in_err-q-clause-found g c = λ files fit.
+    let request = c.args.request.now in
+    let before = narrowed (request.second ∷ []) (g.H.Shelf.told c.read_piece.new.shelf) (g.H.Shelf.told c.read_piece-2.new.shelf) c.in_err-q.ensures.holds c.in_err-q.ensures.opens files fit in
     then_given (IsPieceOf files request.digits request.first)
     (λ p. Then (IsPieceOf files request.digits request.second) (λ q. IsJudged p q request.along request.wall))
-    c.in_ok-p.p c.from_residual-in_err-q.result (c.in_ok-p.ensures.found files told)
+    c.in_ok-p.p c.from_residual-in_err-q.result (c.in_ok-p.ensures.found files before)
     (then_failed (IsPieceOf files request.digits request.second) (λ q. IsJudged c.in_ok-p.p q request.along request.wall)
-    c.in_err-q.field-0.0 c.from_residual-in_err-q.result (c.in_err-q.ensures.found files (c.in_ok-p.ensures.holds ∙ told)) c.from_residual-in_err-q.ensures.1)
+    c.in_err-q.field-0.0 c.from_residual-in_err-q.result (c.in_err-q.ensures.found files fit) c.from_residual-in_err-q.ensures.1)
+
+pub returns-in_err-answer-clause-opens : goal.returns-in_err-answer-clause-opens
+returns-in_err-answer-clause-opens g c =
+    let request = c.args.request.now in
+    opens_some true (request.first ∷ request.second ∷ []) _ _
+    (opens_after true (request.first ∷ []) (request.second ∷ []) _ _ _ c.in_ok-p.ensures.opens c.in_ok-q.ensures.opens)
+
+pub returns-clause-opens : goal.returns-clause-opens
+returns-clause-opens g c =
+    let request = c.args.request.now in
+    opens_some true (request.first ∷ request.second ∷ []) _ _
+    (opens_after true (request.first ∷ []) (request.second ∷ []) _ _ _ c.in_ok-p.ensures.opens c.in_ok-q.ensures.opens)
 
 pub returns-clause-found : goal.returns-clause-found
-returns-clause-found g c = λ files told.
+returns-clause-found g c = λ files fit.
     let request = c.args.request.now in
+    let some = opens_some true (request.second ∷ []) _ _ c.in_ok-q.ensures.opens in
+    let before = narrowed (request.second ∷ []) (g.H.Shelf.told c.read_piece.new.shelf) (g.H.Shelf.told c.read_piece-2.new.shelf) c.in_ok-q.ensures.holds some files fit in
     then_given (IsPieceOf files request.digits request.first)
     (λ p. Then (IsPieceOf files request.digits request.second) (λ q. IsJudged p q request.along request.wall))
-    c.in_ok-p.p (Ok c.in_ok-answer.answer) (c.in_ok-p.ensures.found files told)
+    c.in_ok-p.p (Ok c.in_ok-answer.answer) (c.in_ok-p.ensures.found files before)
     (then_given (IsPieceOf files request.digits request.second) (λ q. IsJudged c.in_ok-p.p q request.along request.wall)
-    c.in_ok-q.q (Ok c.in_ok-answer.answer) (c.in_ok-q.ensures.found files (c.in_ok-p.ensures.holds ∙ told)) c.in_ok-answer.ensures.judged)
+    c.in_ok-q.q (Ok c.in_ok-answer.answer) (c.in_ok-q.ensures.found files fit) c.in_ok-answer.ensures.judged)
