@@ -52,6 +52,7 @@ fn answer_of(alloc: Global, order: &Order) -> Result<Answer, OutOfMemory>
 
 /// The answer to the command `linear`: the order in which the parts are taken away, one at a time, each free of all
 /// that are left; or the parts of which none can be taken away.
+#[tactic(auto, using(staat_input::proofs::OpenedLemmas::input_some))]
 pub fn linear<H: Shelf>(
     alloc: Global,
     request: &LinearRequest,

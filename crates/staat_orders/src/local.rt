@@ -64,6 +64,7 @@ fn begun(alloc: Global, sound: &Sound, table: &PlaneTable) -> Result<Answer, Out
 }
 
 /// The answer to the command `local`: the side of all parts that begins to move, or that none does.
+#[tactic(auto, using(staat_input::proofs::OpenedLemmas::input_some))]
 pub fn local<H: Shelf>(
     alloc: Global,
     request: &LocalRequest,
