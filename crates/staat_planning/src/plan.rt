@@ -113,6 +113,7 @@ fn answer_of(outcome: &Outcome, text: Bytes) -> Answer
 
 /// The answer to the command `plan`: the steps of a plan that takes all parts apart, or the parts that no plan takes
 /// apart; or the certificate of either.
+#[tactic(auto, using(staat_input::proofs::OpenedLemmas::input_some))]
 pub fn plan<H: Shelf>(alloc: Global, request: &PlanRequest, shelf: &mut H) -> Result<Answer, Fault>
     requires { IsPlanRequest request.now }
     ensures holds { (H.told shelf.new).holds ≡ (H.told shelf.old).holds }

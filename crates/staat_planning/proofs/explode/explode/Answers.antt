@@ -10,10 +10,10 @@ use Rattle.staat_input.proofs.InputLemmas.{failed_with, then_failed, then_given}
 use Rattle.staat_planning.proofs.explode.explode.Goals as goal
 
 pub returns-in_err-outcome-clause-found : goal.returns-in_err-outcome-clause-found
-returns-in_err-outcome-clause-found g c = λ files told.
+returns-in_err-outcome-clause-found g c = λ files fit.
     let request = c.args.request.now in
     then_given (IsSoundOf files request.asked) (λ parts. Then (AreCounted parts request.planes) (λ planes. IsExploded files request parts))
-    c.in_ok-sound.sound c.from_residual-in_err-outcome.result (c.in_ok-sound.ensures.found files told)
+    c.in_ok-sound.sound c.from_residual-in_err-outcome.result (c.in_ok-sound.ensures.found files fit)
     (then_failed (AreCounted c.in_ok-sound.sound request.planes) (λ planes. IsExploded files request c.in_ok-sound.sound)
     c.in_err-outcome.field-0.0 c.from_residual-in_err-outcome.result c.in_err-outcome.ensures.refused c.from_residual-in_err-outcome.ensures.1)
 
@@ -23,12 +23,12 @@ returns-in_err-outcome-clause-cause g c =
     failed_with (HasCause shelf) c.in_err-outcome.field-0.0 c.from_residual-in_err-outcome.result (c.in_err-outcome.ensures.cause shelf) c.from_residual-in_err-outcome.ensures.1
 
 pub returns-clause-found : goal.returns-clause-found
-returns-clause-found g c = λ files told.
+returns-clause-found g c = λ files fit.
     let request = c.args.request.now in
     let counted = c.in_ok-outcome.ensures.few in
-    let drawn = c.in_ok-sound.ensures.drawn files told c.new-sketch.ensures.solids in
+    let drawn = c.in_ok-sound.ensures.drawn files fit c.new-sketch.ensures.solids in
     then_given (IsSoundOf files request.asked) (λ parts. Then (AreCounted parts request.planes) (λ planes. IsExploded files request parts))
-    c.in_ok-sound.sound c.shown.result (c.in_ok-sound.ensures.found files told)
+    c.in_ok-sound.sound c.shown.result (c.in_ok-sound.ensures.found files fit)
     (then_given (AreCounted c.in_ok-sound.sound request.planes) (λ planes. IsExploded files request c.in_ok-sound.sound)
     counted.planes c.shown.result (few counted.planes counted.planes_are counted.few refl)
     (exploded_found files request c.in_ok-sound.sound c.from_vec-solids.result drawn.named (finding_of c.in_ok-outcome.outcome) c.shown.result drawn.listed c.in_ok-outcome.ensures.outcome
