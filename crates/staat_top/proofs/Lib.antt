@@ -3,6 +3,7 @@ pub mod DecideLemmas
 pub mod HeadlineLemmas
 pub mod KeptProducts
 pub mod OneReply
+pub mod OwnRuns
 pub mod PrintedLemmas
 pub mod Replying
 pub mod RightLemmas
