@@ -15,6 +15,7 @@ use Rattle.staat_words.specs.declared.request.Input.TheVariants as inputs
 use Rattle.staat_words.specs.declared.request.Request.{Request}
 use Rattle.staat_words.specs.declared.request.Request.TheVariants as requests
 use Rattle.staat_input.specs.declared.limits.Limits.{Limits}
+use Rattle.staat_input.specs.declared.limits.TheConstants.Limits.{ASSEMBLY, PRODUCT}
 use Rattle.staat_input.specs.Causes.{ShelfSide}
 use Rattle.staat_input.specs.Opened.{OpensSomeOf, piece_files}
 use Rattle.staat_top.specs.Named.{AreDifferent, AreNamedOnce, IsInputOnce, IsNamedOnce}
@@ -70,18 +71,18 @@ input_once limits (inputs.Manifest name) more before now (inr listed) none once 
 
 request_once : (asked : Request) (before now : ShelfTold) → OpensRequest asked before now → before.given ≡ [] → IsNamedOnce asked now.given → AreOnce now.given
 request_once (requests.Pair r) before now opens none once = once_of (r.first ∷ r.second ∷ []) before.given now.given opens (none_given before.given none) (all_new (r.first ∷ r.second ∷ []) before.given none) once
-request_once (requests.Look asked) before now opens none once = input_once _ asked.input [] before now opens none once
-request_once (requests.Graph r) before now opens none once = input_once _ r.asked.input [] before now opens none once
-request_once (requests.Plan r) before now opens none once = input_once _ r.asked.input [] before now opens none once
-request_once (requests.Check r) before now opens none once = input_once _ r.asked.input (r.certificate ∷ []) before now opens none once
-request_once (requests.Cells r) before now opens none once = input_once _ r.asked.input [] before now opens none once
+request_once (requests.Look asked) before now opens none once = input_once ASSEMBLY asked.input [] before now opens none once
+request_once (requests.Graph r) before now opens none once = input_once ASSEMBLY r.asked.input [] before now opens none once
+request_once (requests.Plan r) before now opens none once = input_once ASSEMBLY r.asked.input [] before now opens none once
+request_once (requests.Check r) before now opens none once = input_once ASSEMBLY r.asked.input (r.certificate ∷ []) before now opens none once
+request_once (requests.Cells r) before now opens none once = input_once ASSEMBLY r.asked.input [] before now opens none once
 request_once (requests.Drill product) before now opens none once = subst AreOnce (sym opens) (none_given before.given none)
-request_once (requests.Explode r) before now opens none once = input_once _ r.asked.input [] before now opens none once
-request_once (requests.Linear r) before now opens none once = input_once _ r.asked.input [] before now opens none once
-request_once (requests.Local r) before now opens none once = input_once _ r.asked.input [] before now opens none once
-request_once (requests.Decide r) before now opens none once = input_once _ r.asked.input [] before now opens none once
-request_once (requests.Confirm r) before now opens none once = input_once _ r.asked.input (r.certificate ∷ []) before now opens none once
-request_once (requests.Blocks r) before now opens none once = input_once _ r.asked.input [] before now opens none once
+request_once (requests.Explode r) before now opens none once = input_once ASSEMBLY r.asked.input [] before now opens none once
+request_once (requests.Linear r) before now opens none once = input_once ASSEMBLY r.asked.input [] before now opens none once
+request_once (requests.Local r) before now opens none once = input_once ASSEMBLY r.asked.input [] before now opens none once
+request_once (requests.Decide r) before now opens none once = input_once PRODUCT r.asked.input [] before now opens none once
+request_once (requests.Confirm r) before now opens none once = input_once PRODUCT r.asked.input (r.certificate ∷ []) before now opens none once
+request_once (requests.Blocks r) before now opens none once = input_once PRODUCT r.asked.input [] before now opens none once
 
 work_once : (asked : Option Request) (before now : ShelfTold) → OpensWork asked before now → before.given ≡ [] → AreNamedOnce asked now.given → AreOnce now.given
 work_once None before now opens none once = subst AreOnce (sym opens) (none_given before.given none)

@@ -10,6 +10,7 @@ use Rattle.staat_input.specs.declared.answer.Answer.{Answer}
 use Rattle.staat_fault.specs.declared.fault.Fault.{Fault}
 use Rattle.staat_fault.specs.declared.fault.Fault.TheVariants.{Usage, OutOfMemory}
 use Rattle.staat_input.specs.Work.{Files, Follows}
+use Rattle.staat_input.specs.declared.limits.TheConstants.Limits.{ASSEMBLY, PRODUCT}
 use Rattle.staat_input.proofs.OpenedLemmas.{unopened}
 use Rattle.staat_top.specs.Opened.{OpensRequest, OpensWork}
 use Rattle.staat_top.specs.Replies.{WorkOn}
@@ -55,18 +56,18 @@ worked_opens asked request before now e opens = subst (λ o. OpensWork o before 
 -- none are a beginning of any
 none_of : (request : Request) (told : ShelfTold) → OpensRequest request told told
 none_of (requests.Pair r) told = inl refl
-none_of (requests.Look r) told = unopened _ r.input [] told told refl
-none_of (requests.Graph r) told = unopened _ r.asked.input [] told told refl
-none_of (requests.Plan r) told = unopened _ r.asked.input [] told told refl
-none_of (requests.Check r) told = unopened _ r.asked.input (r.certificate ∷ []) told told refl
-none_of (requests.Cells r) told = unopened _ r.asked.input [] told told refl
+none_of (requests.Look r) told = unopened ASSEMBLY r.input [] told told refl
+none_of (requests.Graph r) told = unopened ASSEMBLY r.asked.input [] told told refl
+none_of (requests.Plan r) told = unopened ASSEMBLY r.asked.input [] told told refl
+none_of (requests.Check r) told = unopened ASSEMBLY r.asked.input (r.certificate ∷ []) told told refl
+none_of (requests.Cells r) told = unopened ASSEMBLY r.asked.input [] told told refl
 none_of (requests.Drill r) told = refl
-none_of (requests.Explode r) told = unopened _ r.asked.input [] told told refl
-none_of (requests.Linear r) told = unopened _ r.asked.input [] told told refl
-none_of (requests.Local r) told = unopened _ r.asked.input [] told told refl
-none_of (requests.Decide r) told = unopened _ r.asked.input [] told told refl
-none_of (requests.Confirm r) told = unopened _ r.asked.input (r.certificate ∷ []) told told refl
-none_of (requests.Blocks r) told = unopened _ r.asked.input [] told told refl
+none_of (requests.Explode r) told = unopened ASSEMBLY r.asked.input [] told told refl
+none_of (requests.Linear r) told = unopened ASSEMBLY r.asked.input [] told told refl
+none_of (requests.Local r) told = unopened ASSEMBLY r.asked.input [] told told refl
+none_of (requests.Decide r) told = unopened PRODUCT r.asked.input [] told told refl
+none_of (requests.Confirm r) told = unopened PRODUCT r.asked.input (r.certificate ∷ []) told told refl
+none_of (requests.Blocks r) told = unopened PRODUCT r.asked.input [] told told refl
 
 pub none_opened : (asked : Option Request) (told : ShelfTold) → OpensWork asked told told
 none_opened None told = refl

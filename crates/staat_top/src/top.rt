@@ -58,7 +58,7 @@ fn work<H: Shelf>(alloc: Global, request: &Request, shelf: &mut H) -> Result<Ans
     }
 }
 
-// The answer to the words, over what the shelf holds.
+// The answer to the words, over the files of the shelf.
 #[tactic(auto, using(crate::proofs::TopLemmas::worked))]
 fn answer_to<H: Shelf>(alloc: Global, words: &Vec<String>, shelf: &mut H) -> Result<Answer, Fault>
     ensures holds { (H.told shelf.new).holds ≡ (H.told shelf.old).holds }
