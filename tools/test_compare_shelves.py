@@ -54,31 +54,45 @@ int main(int count, char **words) {
 OLD = b"a" * 5000
 FILES = {"a": OLD, "b": b"second"}
 CASE = Case("two files", ("look", "a", "b"), FILES)
+# What is told of each program that is wrong: how each line begins.
+WRONG = {
+    "BACKWARDS": ["answers", "opens"],
+    "LOSES": ["answers"],
+    "HASTY": ["reads a not to its end", "reads b not to its end"],
+    "TWICE": ["opens", "reads a not to its end", "a gives", "reads b not", "b gives"],
+}
 
 
 class Shelves(unittest.TestCase):
     """Which programs are told to be wrong."""
 
+    room: tempfile.TemporaryDirectory[str]
+    library: Path
+
+    @classmethod
+    def setUpClass(cls) -> None:
+        cls.room = tempfile.TemporaryDirectory()
+        folder = Path(cls.room.name)
+        source = folder / "program.c"
+        source.write_text(SOURCE, encoding="ascii")
+        for kind in ("MEMORY", "RIGHT", *WRONG):
+            subprocess.run(["cc", f"-D{kind}", "-o", folder / kind, source], check=True)
+        cls.library = watched.build(folder)
+
+    @classmethod
+    def tearDownClass(cls) -> None:
+        cls.room.cleanup()
+
     def faults(self, kind: str, case: Case = CASE) -> list[str]:
         """What is wrong about a program of this kind, held against one that is right."""
-        with tempfile.TemporaryDirectory() as name:
-            room = Path(name)
-            source = room / "program.c"
-            source.write_text(SOURCE, encoding="ascii")
-            for to in (kind, "MEMORY"):
-                subprocess.run(["cc", f"-D{to}", "-o", room / to, source], check=True)
-            return faults_of(room / kind, room / "MEMORY", watched.build(room), case)
+        folder = Path(self.room.name)
+        return faults_of(folder / kind, folder / "MEMORY", self.library, case)
 
     def test_right(self) -> None:
         self.assertEqual(self.faults("RIGHT"), [])
 
     def test_wrong(self) -> None:
-        for kind, told in (
-            ("BACKWARDS", ["answers", "opens"]),
-            ("LOSES", ["answers"]),
-            ("HASTY", ["reads a not to its end", "reads b not to its end"]),
-            ("TWICE", ["opens", "reads a not to its end", "a gives", "reads b not", "b gives"]),
-        ):
+        for kind, told in WRONG.items():
             with self.subTest(kind):
                 faults = self.faults(kind)
                 self.assertEqual(len(faults), len(told), faults)
