@@ -43,6 +43,7 @@ ON_LISTS = (
     ("blocks", "--along=0,0,1"),
 )
 
+ON_CERTIFICATES = ("check", "confirm")
 MOST_PARTS = 32  # of all commands but these
 OF_ANY_SIZE = ("decide", "blocks")
 
@@ -74,7 +75,7 @@ def listed(text: bytes) -> list[str]:
 def named(words: Sequence[str], texts: Texts) -> list[str]:
     """The files that a request names, in the order of work: those of the input, and then the certificate's."""
     files = [word for word in words[1:] if not word.startswith("--")]
-    certificate = [files.pop(0)] if words[0] == "check" else []
+    certificate = [files.pop(0)] if words[0] in ON_CERTIFICATES else []
     for word in words:
         if word.startswith("--manifest="):
             part_list = word.partition("=")[2]

@@ -72,6 +72,7 @@ STEPS = (
     Step("checkers", _python("tools/compare_checkers.py", "--program={program}", "--broken=1000")),
     Step("short", _python("tools/compare_short.py", "--program={program}", "--broken=400")),
     Step("planners", _python("tools/compare_planners.py", "--program={program}", "--made=400")),
+    Step("shelves", _python("tools/compare_shelves.py", "{program}"), ("cc",), is_quick=False),
     Step("pages", _python("tests/runner/pages.py", "{program}"), (*MODELS, *SHOW, "as1")),
     Step(
         "show",
@@ -93,7 +94,7 @@ STEPS = (
         is_quick=False,
     ),
     Step("readings", _python("tools/compare_readings.py", "{program}")),
-    Step("tools", _python("tests/runner/units.py", "tools")),
+    Step("tools", _python("tests/runner/units.py", "tools"), ("cc",)),
     Step("runner", _python("tests/runner/units.py", "tests/runner"), needs_program=False),
     Step("bench", _python("tests/runner/units.py", "bench"), ("cc",), needs_program=False),
     Step("guards", _python("tools/guards.py", "--check"), needs_program=False),
