@@ -9,7 +9,7 @@ use Rattle.staat_model.specs.Certificates.{ReachesAll}
 use Rattle.staat_model.specs.Sets.{Has, single}
 use Rattle.staat_model.proofs.SetMembers.{has-insert, has-single, has-union}
 use Rattle.staat_model.proofs.SetWords.{same_members}
-use Rattle.staat_check.specs.Reaching.{LeadsOn}
+use Rattle.staat_check.specs.Reaching.{ReachesNew}
 use Rattle.staat_pairs.proofs.DropLemmas.{drop_at, drop_end}
 
 pub union_single : (s one : PartSet) (p : ℕ) → one ≡ single p → set.union s one ≡ set.insert s p
@@ -24,14 +24,14 @@ module _ (step : Arc → ℕ × ℕ) (w start : PartSet) (arcs : List Arc) where
   pub reach_none : (first : PartSet) → first ≡ start → ReachesAll w first (map step (drop 0 arcs)) ↔ Whole
   reach_none first e = (λ h. subst (λ s. ReachesAll w s (map step arcs)) e h, λ h. subst (λ s. ReachesAll w s (map step arcs)) (sym e) h)
 
-  pub reach_next : (k : ℕ) (arc : Arc) (old new : PartSet) → slice_get arcs k ≡ Some arc → LeadsOn w old (step arc).0 (step arc).1 → new ≡ set.insert old (step arc).1
+  pub reach_next : (k : ℕ) (arc : Arc) (old new : PartSet) → slice_get arcs k ≡ Some arc → ReachesNew w old (step arc).0 (step arc).1 → new ≡ set.insert old (step arc).1
       → ReachesAll w old (map step (drop k arcs)) ↔ Whole → ReachesAll w new (map step (drop (k + 1) arcs)) ↔ Whole
   reach_next k arc old new at leads e law = (
     λ h. law.0 (subst (λ l. ReachesAll w old (map step l)) (sym (drop_at arcs k arc at)) (leads.from_in, leads.to_in, leads.to_new, subst (λ s. ReachesAll w s (map step (drop (k + 1) arcs))) e h)),
     λ h. let whole = subst (λ l. ReachesAll w old (map step l)) (drop_at arcs k arc at) (law.1 h) in subst (λ s. ReachesAll w s (map step (drop (k + 1) arcs))) (sym e) whole.3,
   )
 
-  pub reach_not : (k : ℕ) (arc : Arc) (old : PartSet) → slice_get arcs k ≡ Some arc → (LeadsOn w old (step arc).0 (step arc).1 → ⊥) → ReachesAll w old (map step (drop k arcs)) ↔ Whole → IsTrue false ↔ Whole
+  pub reach_not : (k : ℕ) (arc : Arc) (old : PartSet) → slice_get arcs k ≡ Some arc → (ReachesNew w old (step arc).0 (step arc).1 → ⊥) → ReachesAll w old (map step (drop k arcs)) ↔ Whole → IsTrue false ↔ Whole
   reach_not k arc old at stops law = (
     λ t. absurd (false≢true t),
     λ h. let whole = subst (λ l. ReachesAll w old (map step l)) (drop_at arcs k arc at) (law.1 h) in absurd (stops (record { from_in = whole.0; to_in = whole.1; to_new = whole.2 })),

@@ -19,13 +19,13 @@ use Rattle.staat_confirm.specs.declared.verdict.ShortReason.{ShortReason}
 use Rattle.staat_confirm.specs.declared.verdict.ShortReason.TheVariants.{Meet, ZeroDirection}
 use Rattle.staat_confirm.specs.Found.{FindsLeast, MeetsBetween}
 use Rattle.staat_confirm.specs.Members.{IsMemberWithin, StandsAt}
-use Rattle.staat_confirm.specs.Owners.{AreOwners, AreRead, IsOwnedWithin, IsOwner}
+use Rattle.staat_confirm.specs.Owners.{AreOwners, AreOwned, IsOwnedWithin, IsOwner}
 use Rattle.staat_confirm.specs.Splits.{AreClearBefore, AreClearSplits, IsBrokenGroup, KeepsHolds, IsClearAt, IsUnclearAt, MeetsAcross, zero_way, pieces_meet}
 use Rattle.staat_confirm.proofs.Least.{finds_same}
 use Rattle.staat_confirm.proofs.Owning.{one_owner}
 use Rattle.staat_confirm.proofs.Standing.{SplitEnds, end_is, middle_is, middle_within, member_among, member_within, moved_stands, one_stands, rest_stands, split_ends, split_first, stands_within}
 
-pub read_ends : (parts : List Part) (nodes : List ShortNode) (owners : List (Option ℕ)) (ends : List ℕ) (k : ℕ) (d : V3) → AreRead parts nodes owners ends → slice_get nodes k ≡ Some (Split d) → SplitEnds nodes ends k d
+pub read_ends : (parts : List Part) (nodes : List ShortNode) (owners : List (Option ℕ)) (ends : List ℕ) (k : ℕ) (d : V3) → AreOwned parts nodes owners ends → slice_get nodes k ≡ Some (Split d) → SplitEnds nodes ends k d
 read_ends parts nodes owners ends k d read at = split_ends nodes ends k d read.fit.one (λ m plan le stands. read.ended m plan (omega arith) stands) at
 
 -- ---- the two sides
@@ -105,7 +105,7 @@ told_some parts nodes k o r e h = subst (λ x. MatchOption x (IsClearAt parts no
 
 -- ---- the answer of the search across a split
 
-pub across_read : (parts : List Part) (nodes : List ShortNode) (owners : List (Option ℕ)) (ends : List ℕ) (k : ℕ) (d : V3) (middle end : ℕ) (moved rest xs ys : List ℕ) (answer : Option Arc) → AreRead parts nodes owners ends → slice_get nodes k ≡ Some (Split d)
+pub across_read : (parts : List Part) (nodes : List ShortNode) (owners : List (Option ℕ)) (ends : List ℕ) (k : ℕ) (d : V3) (middle end : ℕ) (moved rest xs ys : List ℕ) (answer : Option Arc) → AreOwned parts nodes owners ends → slice_get nodes k ≡ Some (Split d)
     → middle ≡ get_or ends (k + 1) 0 → end ≡ get_or ends middle 0 → xs ≡ moved → ys ≡ rest
     → Lists nat_cmp (IsOwnedWithin owners (k + 1) middle) moved → Lists nat_cmp (IsOwnedWithin owners middle end) rest
     → FindsLeast (MeetsBetween parts d xs ys) answer → (m r : GroupedPlan) → StandsAt nodes k (taken_apart d m r) → FindsLeast (MeetsAcross parts m r d) answer
@@ -129,7 +129,7 @@ across_read parts nodes owners ends k d middle end moved rest xs ys answer read 
 
 -- ---- bounds
 
-pub read_bounds : (parts : List Part) (nodes : List ShortNode) (owners : List (Option ℕ)) (ends : List ℕ) (k : ℕ) (d : V3) → AreRead parts nodes owners ends → slice_get nodes k ≡ Some (Split d)
+pub read_bounds : (parts : List Part) (nodes : List ShortNode) (owners : List (Option ℕ)) (ends : List ℕ) (k : ℕ) (d : V3) → AreOwned parts nodes owners ends → slice_get nodes k ≡ Some (Split d)
     → (k + 1 < length ends) × (get_or ends (k + 1) 0 < length ends) × (get_or ends (k + 1) 0 < length nodes)
 read_bounds parts nodes owners ends k d read at =
     let s = read_ends parts nodes owners ends k d read at in

@@ -67,7 +67,7 @@ pub record AreFitNodes (nodes : List ShortNode) : Type 0 where
   pub sizes : AreDirectionsWithin nodes
 
 -- of the nodes of a plan the owners and the ends are these, and each part is a member of one
-pub record AreRead (parts : List Part) (nodes : List ShortNode) (owners : List (Option ℕ)) (ends : List ℕ)
+pub record AreOwned (parts : List Part) (nodes : List ShortNode) (owners : List (Option ℕ)) (ends : List ℕ)
     : Type 0 where
   pub fit : AreFitNodes nodes
   pub once : AreMembersOnce parts nodes

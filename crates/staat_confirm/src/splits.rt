@@ -6,7 +6,7 @@ ghost use Rattle.staat_short.specs.declared.short.ShortNode.TheVariants.{Split};
 ghost use Rattle.staat_short.specs.ShortTexts.{GroupedPlan, taken_apart};
 ghost use Rattle.staat_confirm.specs.Found.{FindsLeast};
 ghost use Rattle.staat_confirm.specs.Members.{AreMembersOnce, StandsAt};
-ghost use Rattle.staat_confirm.specs.Owners.{AreDirectionsWithin, AreFitNodes, AreOwners, AreRead};
+ghost use Rattle.staat_confirm.specs.Owners.{AreDirectionsWithin, AreFitNodes, AreOwners, AreOwned};
 ghost use Rattle.staat_confirm.specs.Splits.{AreClearSplits, IsClearAt, IsUnclearAt, IsUnclearSplit, MeetsAcross};
 
 use crate::ends::ends_of;
@@ -60,7 +60,7 @@ fn meeting_at<F: FacetSource>(
     k: usize,
 ) -> Result<Option<Arc>, OutOfMemory>
     requires made { IsMotionOf judged.now.product.now along.now }
-    requires read { AreRead judged.now.product.now judged.now.nodes.now judged.now.owners.now judged.now.ends.now }
+    requires read { AreOwned judged.now.product.now judged.now.nodes.now judged.now.owners.now judged.now.ends.now }
     requires split { slice_get judged.now.nodes.now k ≡ Some (Split along.now.d) }
     ensures { IfOk result (λ answer. (moved rest : GroupedPlan)
         → StandsAt judged.now.nodes.now k (taken_apart along.now.d moved rest)
@@ -93,7 +93,7 @@ fn split_reason<F: FacetSource>(
 ) -> Result<Option<ShortReason>, OutOfMemory>
     requires made { IsMotionOf judged.now.product.now along.old }
     requires bodies { AreBodies judged.now.product.now judged.now.bodies.now }
-    requires read { AreRead judged.now.product.now judged.now.nodes.now judged.now.owners.now judged.now.ends.now }
+    requires read { AreOwned judged.now.product.now judged.now.nodes.now judged.now.owners.now judged.now.ends.now }
     requires split { slice_get judged.now.nodes.now k ≡ Some (Split d) }
     ensures made { IfOk result (λ reason. IsMotionOf judged.now.product.now along.new) }
     ensures reason { IfOk result (λ reason. MatchOption reason (IsClearAt judged.now.product.now judged.now.nodes.now k)
@@ -125,7 +125,7 @@ fn node_reason<F: FacetSource>(
 ) -> Result<Option<ShortReason>, OutOfMemory>
     requires made { IsMotionOf judged.now.product.now along.old }
     requires bodies { AreBodies judged.now.product.now judged.now.bodies.now }
-    requires read { AreRead judged.now.product.now judged.now.nodes.now judged.now.owners.now judged.now.ends.now }
+    requires read { AreOwned judged.now.product.now judged.now.nodes.now judged.now.owners.now judged.now.ends.now }
     requires within { k < length judged.now.nodes.now }
     ensures made { IfOk result (λ reason. IsMotionOf judged.now.product.now along.new) }
     ensures reason { IfOk result (λ reason. MatchOption reason (IsClearAt judged.now.product.now judged.now.nodes.now k)
@@ -146,7 +146,7 @@ fn first_reason<F: FacetSource>(
 ) -> Result<Option<ShortReason>, OutOfMemory>
     requires made { IsMotionOf judged.now.product.now along.old }
     requires bodies { AreBodies judged.now.product.now judged.now.bodies.now }
-    requires read { AreRead judged.now.product.now judged.now.nodes.now judged.now.owners.now judged.now.ends.now }
+    requires read { AreOwned judged.now.product.now judged.now.nodes.now judged.now.owners.now judged.now.ends.now }
     ensures { IfOk result (λ reason. MatchOption reason (AreClearSplits judged.now.product.now judged.now.nodes.now)
         (IsUnclearSplit judged.now.product.now judged.now.nodes.now)) }
 {

@@ -1,6 +1,7 @@
 // A guess at a core that holds a set of parts together. The circles of the core's planes are gone round once; where
 // its arcs do not lead everywhere, arcs of the whole graph are added, first those between pieces that look large from
-// each other. So a direction is met along which the set comes apart, or a core that should hold it, which is judged later.
+// each other. So a direction is met along which the set comes apart, or a core that should hold it, which is judged
+// later.
 ghost use Rattle.std.specs.Prelude.{IfOk, IfSome};
 ghost use Rattle.staat_vec.specs.declared.vector.TheConstants.{DIRECTION};
 ghost use Rattle.staat_vec.specs.Vectors.{IsWithin};

@@ -100,7 +100,8 @@ fn met_from<F: FacetSource>(
     Ok(None)
 }
 
-/// The first pieces that meet across on the way from a marked place to one that is not; `w` has the parts at the places.
+/// The first pieces that meet across on the way from a marked place to one that is not; `w` has the parts at the
+/// places.
 pub fn met_across<F: FacetSource>(
     alloc: Global,
     source: &F,

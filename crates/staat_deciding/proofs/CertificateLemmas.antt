@@ -13,7 +13,7 @@ use Rattle.staat_confirm.specs.ShortVerdicts.{IsShortVerdict}
 use Rattle.staat_input.specs.declared.answer.Answer.{Answer}
 use Rattle.staat_input.specs.Refusals.{text_fault}
 use Rattle.staat_input.specs.Work.{Follows, answer}
-use Rattle.staat_deciding.specs.Deciding.{IsDecidedShort, IsRefusalOf, long_refusal, short_plan, short_refusal}
+use Rattle.staat_deciding.specs.Deciding.{IsDecidedShort, IsShortRefusal, long_refusal, short_plan, short_refusal}
 
 pub plan_written : (rest : Bool) (parts : List Part) (c : ShortCertificate) (a : Answer) → IsShortVerdict parts c ValidPlan → IsShortTextAnswer c (Ok a.text) → a.status ≡ 0 → IsDecidedShort rest parts (Ok a)
 plan_written rest parts c a valid (is, few) status = short_plan c a.text valid is few (ap₂ (λ n t. Ok (answer n t)) status refl)
@@ -23,10 +23,10 @@ pub plan_unwritten : (rest : Bool) (parts : List Part) (c : ShortCertificate) (r
 plan_unwritten rest parts c (refusal.TextTooLong n) few (many, is) = absurd (omega (arith, few, many))
 plan_unwritten rest parts c refusal.OutOfMemory few none = tt
 
-pub refusal_written : (rest : Bool) (parts : List Part) (c : ShortCertificate) (a : Answer) → IsShortVerdict parts c ValidRefusal → IsRefusalOf rest c.answer → IsShortTextAnswer c (Ok a.text) → a.status ≡ 1 → IsDecidedShort rest parts (Ok a)
+pub refusal_written : (rest : Bool) (parts : List Part) (c : ShortCertificate) (a : Answer) → IsShortVerdict parts c ValidRefusal → IsShortRefusal rest c.answer → IsShortTextAnswer c (Ok a.text) → a.status ≡ 1 → IsDecidedShort rest parts (Ok a)
 refusal_written rest parts c a valid kind (is, few) status = short_refusal c a.text valid kind is few (ap₂ (λ n t. Ok (answer n t)) status refl)
 
-pub refusal_unwritten : (rest : Bool) (parts : List Part) (c : ShortCertificate) (r : TextRefusal) → IsShortInOrder c → IsShortVerdict parts c ValidRefusal → IsRefusalOf rest c.answer → IsShortTextAnswer c (Err r) → Follows (IsDecidedShort rest parts) (Err (text_fault r))
+pub refusal_unwritten : (rest : Bool) (parts : List Part) (c : ShortCertificate) (r : TextRefusal) → IsShortInOrder c → IsShortVerdict parts c ValidRefusal → IsShortRefusal rest c.answer → IsShortTextAnswer c (Err r) → Follows (IsDecidedShort rest parts) (Err (text_fault r))
 refusal_unwritten rest parts c (refusal.TextTooLong n) order valid kind (many, is) = long_refusal c n valid kind order many is refl
 refusal_unwritten rest parts c refusal.OutOfMemory order valid kind none = tt
 

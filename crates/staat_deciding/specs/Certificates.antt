@@ -6,7 +6,7 @@ use Rattle.staat_short.specs.declared.short.ShortCertificate.{ShortCertificate}
 use Rattle.staat_short.specs.ShortTexts.{IsShortInOrder, short_text}
 use Rattle.staat_confirm.specs.declared.verdict.ShortVerdict.TheVariants.{ValidPlan, ValidRefusal}
 use Rattle.staat_confirm.specs.ShortVerdicts.{IsShortVerdict}
-use Rattle.staat_deciding.specs.Deciding.{IsRefusalOf}
+use Rattle.staat_deciding.specs.Deciding.{IsShortRefusal}
 
 -- the certificate is a valid plan, in order, and its text is not too long
 pub record IsShownPlan (parts : List Part) (c : ShortCertificate) : Type 0 where
@@ -18,4 +18,4 @@ pub record IsShownPlan (parts : List Part) (c : ShortCertificate) : Type 0 where
 pub record IsShownRefusal (rest : Bool) (parts : List Part) (c : ShortCertificate) : Type 0 where
   pub order : IsShortInOrder c
   pub valid : IsShortVerdict parts c ValidRefusal
-  pub kind : IsRefusalOf rest c.answer
+  pub kind : IsShortRefusal rest c.answer

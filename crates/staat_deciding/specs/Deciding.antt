@@ -46,12 +46,12 @@ pub data IsDecidedDown (parts : List Part) : Found Answer → Type 0 where
       HasTogether plan → found ≡ Ok (answer 1 (rest_text plan)) → IsDecidedDown parts found
 
 -- a refusal names one stuck set, or, where all is taken apart that comes apart, it is a plan that ends in groups
-abbrev pub IsRefusalOf : Bool → ShortAnswer → Type 0
-IsRefusalOf rest (Plan nodes) = ⊥
-IsRefusalOf false (Stuck holds) = Unit {0}
-IsRefusalOf true (Stuck holds) = ⊥
-IsRefusalOf false (Rest nodes) = ⊥
-IsRefusalOf true (Rest nodes) = Unit {0}
+abbrev pub IsShortRefusal : Bool → ShortAnswer → Type 0
+IsShortRefusal rest (Plan nodes) = ⊥
+IsShortRefusal false (Stuck holds) = Unit {0}
+IsShortRefusal true (Stuck holds) = ⊥
+IsShortRefusal false (Rest nodes) = ⊥
+IsShortRefusal true (Rest nodes) = Unit {0}
 
 -- The same where a certificate is asked for: the text of some short certificate that is a valid plan, or a valid
 -- refusal. Only that of a refusal can be too long.
@@ -59,10 +59,10 @@ pub data IsDecidedShort (rest : Bool) (parts : List Part) : Found Answer → Typ
   short_plan : {found : Found Answer} (c : ShortCertificate) (text : List ℕ) → IsShortVerdict parts c ValidPlan →
       IsShortTextOf text c → length text ≤ TEXT_LIMIT → found ≡ Ok (answer 0 text) → IsDecidedShort rest parts found
   short_refusal : {found : Found Answer} (c : ShortCertificate) (text : List ℕ) → IsShortVerdict parts c ValidRefusal →
-      IsRefusalOf rest c.answer → IsShortTextOf text c → length text ≤ TEXT_LIMIT → found ≡ Ok (answer 1 text) →
+      IsShortRefusal rest c.answer → IsShortTextOf text c → length text ≤ TEXT_LIMIT → found ≡ Ok (answer 1 text) →
       IsDecidedShort rest parts found
   long_refusal : {found : Found Answer} (c : ShortCertificate) (n : ℕ) → IsShortVerdict parts c ValidRefusal →
-      IsRefusalOf rest c.answer → IsShortInOrder c → TEXT_LIMIT < length (short_text c) →
+      IsShortRefusal rest c.answer → IsShortInOrder c → TEXT_LIMIT < length (short_text c) →
       (length (short_text c) < 2 ^ 128 → n ≡ length (short_text c)) → found ≡ Err (TextTooLong n) →
       IsDecidedShort rest parts found
 
@@ -129,7 +129,7 @@ pub record SaysShortRefusal (rest : Bool) (files : Files) (asked : Asked) (text 
   pub parts : List Part
   pub sound : AreSoundProductParts files asked parts
   pub certificate : ShortCertificate
-  pub kind : IsRefusalOf rest certificate.answer
+  pub kind : IsShortRefusal rest certificate.answer
   pub says : IsShortTextOf text certificate
   pub short : length text ≤ TEXT_LIMIT
   pub valid : IsShortVerdict parts certificate ValidRefusal

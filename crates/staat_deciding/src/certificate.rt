@@ -13,7 +13,7 @@ ghost use Rattle.staat_input.specs.Causes.{HasCause, ShelfSide};
 ghost use Rattle.staat_input.specs.Counting.{all_parts};
 ghost use Rattle.staat_input.specs.Work.{Follows};
 ghost use Rattle.staat_deciding.specs.Certificates.{IsShownPlan, IsShownRefusal};
-ghost use Rattle.staat_deciding.specs.Deciding.{IsDecidedShort, IsRefusalOf};
+ghost use Rattle.staat_deciding.specs.Deciding.{IsDecidedShort, IsShortRefusal};
 
 use staat_fault::Fault;
 use staat_holds::{GroupedTree, Hold, Holds, ordered};
@@ -110,7 +110,7 @@ pub fn refusal_answer(alloc: Global, c: &ShortCertificate) -> Result<Answer, Fau
     requires { IsShortInOrder c.now }
     ensures status { IfOk result (λ a. a.status < 2) }
     ensures decided { (rest : Bool) (parts : List PartValue) → IsShortVerdict parts c.now ValidRefusal
-        → IsRefusalOf rest c.now.answer → Follows (IsDecidedShort rest parts) result }
+        → IsShortRefusal rest c.now.answer → Follows (IsDecidedShort rest parts) result }
     ensures cause { (shelf : ShelfSide) → IfErr result (HasCause shelf) }
 {
     match short_text(alloc, c) {

@@ -20,7 +20,7 @@ use Rattle.staat_off.specs.declared.refusal.OffRefusal.TheVariants.{BadIndex, Sh
 use Rattle.staat_off.specs.Coordinates.{coordinate_of}
 use Rattle.staat_off.specs.Numerals.{Numeral}
 use Rattle.staat_off.specs.Spelling.{Spells}
-use Rattle.staat_off.specs.Values.{IsDecided, IsMagnitude, signed}
+use Rattle.staat_off.specs.Values.{IsValueOf, IsMagnitude, signed}
 use Rattle.staat_off.specs.Scan.{gap, next_word, word_in_front}
 use Rattle.staat_off.specs.Words.{is_plain}
 use Rattle.staat_off.proofs.Decisions.{spelled_decides}
@@ -145,7 +145,7 @@ unfolding IsMagnitude
 is_magnitude b n small =
     let e = ap (digits_value 10) (append-nil (decimal n)) ∙ decimal_value n small in omega (arith, e)
 
-decided : (b : Bool) (n at : ℕ) (r : Result ℤ OffRefusal) → n ≤ POINT → IsDecided 0 (numeral b n) at r → r
+decided : (b : Bool) (n at : ℕ) (r : Result ℤ OffRefusal) → n ≤ POINT → IsValueOf 0 (numeral b n) at r → r
     ≡ Ok (signed b n)
 decided b n at (Ok z) small h =
     let wide : n < 10 ^ 64 = omega arith in ap Ok (h.3 ∙ ap (signed b) (magnitude b n h.0 wide h.1))

@@ -42,7 +42,8 @@ fn parted(alloc: Global, given: Vec<String>) -> Option<(Vec<String>, Vec<String>
     Some((names, words))
 }
 
-/// Does what the words behind `--` ask for, and answers the status; none where a file cannot be read or memory is short.
+/// Does what the words behind `--` ask for, and answers the status; none where a file cannot be read, or where there is
+/// no memory.
 fn run(rt: &HostRuntime) -> Option<u8> {
     let alloc = rt.alloc();
     let given = env::args(rt)

@@ -14,7 +14,7 @@ use Rattle.staat_manifest.specs.declared.refusal.ManifestRefusal.{ManifestRefusa
 use Rattle.staat_manifest.specs.declared.refusal.ManifestRefusal.TheVariants as refusal
 use Rattle.staat_limits.specs.declared.limits.TheConstants.{MOST_PARTS, MOST_PIECES}
 use Rattle.staat_manifest.specs.declared.listing.ListedPart.{ListedPart}
-use Rattle.staat_manifest.specs.Values.{Text, json_of, name_of, parts_in, pieces_in, text_in}
+use Rattle.staat_manifest.specs.Values.{Text, json_of, name_of, parts_value, pieces_in, text_in}
 use Rattle.staat_manifest.specs.Answers.{AnswersList}
 use Rattle.staat_manifest.specs.Listings.{IsListing, IsListingWithin, listed}
 use Rattle.staat_vec.specs.declared.vector.TheConstants.{POINT}
@@ -84,16 +84,16 @@ all_good most earlier (part ∷ later) good h =
 none_good : (most : ℕ) → IsGood most []
 none_good most = record { each = All-nil (λ (p : ListedPart). 1 ≤ length p.pieces); placed = All-nil (λ (p : ListedPart). IsWithin POINT p.at); pieces = omega arith; names = λ i j d lt within. absurd (omega arith) }
 
-is_listing : (most_parts most : ℕ) (value : Data) → first_refusal (whole_rules most_parts value ++ rules_from most [] (parts_in value)) ≡ None → IsListingWithin most_parts most (map listed (parts_in value))
+is_listing : (most_parts most : ℕ) (value : Data) → first_refusal (whole_rules most_parts value ++ rules_from most [] (parts_value value)) ≡ None → IsListingWithin most_parts most (map listed (parts_value value))
 unfolding whole_rules
 is_listing most_parts most value h =
-    let parted = split (whole_rules most_parts value) (rules_from most [] (parts_in value)) h in
-    let some : nat_lt 0 (length (parts_in value)) ≡ true = kept (whole_rules most_parts value) 1 _ (refusal.BadShape (codes "/parts")) parted.0 refl in
-    let few : nat_le (length (parts_in value)) most_parts ≡ true = kept (whole_rules most_parts value) 3 _ refusal.TooManyParts parted.0 refl in
-    let good = all_good most [] (parts_in value) (none_good most) parted.1 in
+    let parted = split (whole_rules most_parts value) (rules_from most [] (parts_value value)) h in
+    let some : nat_lt 0 (length (parts_value value)) ≡ true = kept (whole_rules most_parts value) 1 _ (refusal.BadShape (codes "/parts")) parted.0 refl in
+    let few : nat_le (length (parts_value value)) most_parts ≡ true = kept (whole_rules most_parts value) 3 _ refusal.TooManyParts parted.0 refl in
+    let good = all_good most [] (parts_value value) (none_good most) parted.1 in
     record {
-      at_least = rw (length-map (parts_in value) listed) (grind (arith, nat_tests, some));
-      at_most = rw (length-map (parts_in value) listed) (grind (arith, nat_tests, few));
+      at_least = rw (length-map (parts_value value) listed) (grind (arith, nat_tests, some));
+      at_most = rw (length-map (parts_value value) listed) (grind (arith, nat_tests, few));
       each = good.each;
       placed = good.placed;
       pieces = good.pieces;

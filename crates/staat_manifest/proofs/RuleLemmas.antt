@@ -11,7 +11,7 @@ use Rattle.staat_manifest.specs.declared.refusal.ManifestRefusal.{ManifestRefusa
 use Rattle.staat_manifest.specs.declared.refusal.ManifestRefusal.TheVariants as refusal
 use Rattle.staat_manifest.specs.declared.listing.ListedPart.{ListedPart}
 use Rattle.staat_manifest.specs.Listings.{listed}
-use Rattle.staat_manifest.specs.Values.{Text, json_of, parts_in}
+use Rattle.staat_manifest.specs.Values.{Text, json_of, parts_value}
 use Rattle.staat_manifest.specs.Answers.{AnswersList, RefusesPart}
 use Rattle.staat_manifest.specs.Rules.{unless_broken, answer_of, count_rule, first_refusal, form_rules, joint_rules, name_rule, part_list_within, rules_from, whole_rules}
 
@@ -114,16 +114,16 @@ module _ (most : ℕ) (earlier : List ListedPart) (values : List Value) (k : ℕ
 -- ---- the whole
 
 module _ (most_parts most : ℕ) (bytes : Text) (value : Data) (is : json_of bytes ≡ Some value) where
-  is_answer : part_list_within most_parts most bytes ≡ unless_broken (first_refusal (whole_rules most_parts value ++ rules_from most [] (parts_in value))) (map listed (parts_in value))
+  is_answer : part_list_within most_parts most bytes ≡ unless_broken (first_refusal (whole_rules most_parts value ++ rules_from most [] (parts_value value))) (map listed (parts_value value))
   unfolding part_list_within
   is_answer = ap (answer_of most_parts most) is
 
   -- the whole value breaks a rule
   pub whole_refuses : (e : ManifestRefusal) → RefusesPart (first_refusal (whole_rules most_parts value)) e → AnswersList (part_list_within most_parts most bytes) (Err e)
-  whole_refuses e h = subst (λ (wanted : Result (List ListedPart) ManifestRefusal). AnswersList wanted (Err e)) (sym is_answer) (passed_on e _ _ _ (λ d. stopped d (whole_rules most_parts value) (rules_from most [] (parts_in value))) h)
+  whole_refuses e h = subst (λ (wanted : Result (List ListedPart) ManifestRefusal). AnswersList wanted (Err e)) (sym is_answer) (passed_on e _ _ _ (λ d. stopped d (whole_rules most_parts value) (rules_from most [] (parts_value value))) h)
 
   -- the parts decide
-  pub by_parts : first_refusal (whole_rules most_parts value) ≡ None → (parts : List Data) → parts ≡ parts_in value → part_list_within most_parts most bytes ≡ unless_broken (first_refusal (rules_from most [] parts)) (map listed parts)
+  pub by_parts : first_refusal (whole_rules most_parts value) ≡ None → (parts : List Data) → parts ≡ parts_value value → part_list_within most_parts most bytes ≡ unless_broken (first_refusal (rules_from most [] parts)) (map listed parts)
   by_parts h parts same =
-      is_answer ∙ ap (λ o. unless_broken o (map listed (parts_in value))) (passed (whole_rules most_parts value) (rules_from most [] (parts_in value)) h)
+      is_answer ∙ ap (λ o. unless_broken o (map listed (parts_value value))) (passed (whole_rules most_parts value) (rules_from most [] (parts_value value)) h)
       ∙ ap (λ ps. unless_broken (first_refusal (rules_from most [] ps)) (map listed ps)) (sym same)

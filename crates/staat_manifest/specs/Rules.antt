@@ -13,7 +13,7 @@ use Rattle.staat_limits.specs.declared.limits.TheConstants.{MOST_PARTS, MOST_PIE
 use Rattle.staat_manifest.specs.declared.listing.ListedPart.{ListedPart}
 use Rattle.staat_manifest.specs.Listings.{listed}
 use Rattle.staat_manifest.specs.Placements.{placement_of}
-use Rattle.staat_manifest.specs.Values.{Text, array_at, has_only, json_of, name_of, parts_in, pieces_in, text_in}
+use Rattle.staat_manifest.specs.Values.{Text, array_at, has_only, json_of, name_of, parts_value, pieces_in, text_in}
 
 -- what a rule says: nothing where it holds, and this refusal where it is broken
 abbrev pub rule : Bool → ManifestRefusal → Option ManifestRefusal
@@ -30,9 +30,9 @@ first_refusal (Some refusal ∷ rules) = Some refusal
 unfoldable pub whole_rules : ℕ → Data → List (Option ManifestRefusal)
 whole_rules most_parts value =
     rule (is_some (as_object value)) (BadShape (codes "/"))
-    ∷ rule (nat_lt 0 (length (parts_in value))) (BadShape (codes "/parts"))
+    ∷ rule (nat_lt 0 (length (parts_value value))) (BadShape (codes "/parts"))
     ∷ rule (has_only (codes "parts" ∷ []) value) (BadShape (codes "/"))
-    ∷ rule (nat_le (length (parts_in value)) most_parts) TooManyParts
+    ∷ rule (nat_le (length (parts_value value)) most_parts) TooManyParts
     ∷ []
 
 -- ---- a part by itself
@@ -103,8 +103,8 @@ unless_broken (Some refusal) parts = Err refusal
 abbrev pub answer_of : (most_parts most_pieces : ℕ) → Option Data → Result (List ListedPart) ManifestRefusal
 answer_of most_parts most_pieces None = Err NotJson
 answer_of most_parts most_pieces (Some value) =
-    unless_broken (first_refusal (whole_rules most_parts value ++ rules_from most_pieces [] (parts_in value)))
-    (map listed (parts_in value))
+    unless_broken (first_refusal (whole_rules most_parts value ++ rules_from most_pieces [] (parts_value value)))
+    (map listed (parts_value value))
 
 -- the parts that the bytes list, or what the first broken rule says, where there may be so many parts and pieces
 unfoldable pub part_list_within : (most_parts most_pieces : ℕ) → Text → Result (List ListedPart) ManifestRefusal

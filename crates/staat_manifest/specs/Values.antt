@@ -44,8 +44,8 @@ has_only names d =
 
 -- ---- the whole value and its parts
 
-abbrev pub parts_in : Data → List Data
-parts_in value = unwrap_or (array_at (codes "parts") value) []
+abbrev pub parts_value : Data → List Data
+parts_value value = unwrap_or (array_at (codes "parts") value) []
 
 abbrev pub name_of : Data → Text
 name_of part = text_at (codes "name") part

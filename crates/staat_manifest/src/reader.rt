@@ -3,7 +3,7 @@ ghost use Rattle.std.specs.Prelude.{◌≡◌, ◌<◌, ◌≤◌, ◌^◌, ◌+
 ghost use Rattle.serde_json.specs.View.{view};
 ghost use Rattle.staat_manifest.specs.Answers.{AnswersList, JudgesPart};
 ghost use Rattle.staat_manifest.specs.Listings.{IsListing, IsListingWithin, listed};
-ghost use Rattle.staat_manifest.specs.Values.{parts_in, text_in};
+ghost use Rattle.staat_manifest.specs.Values.{parts_value, text_in};
 ghost use Rattle.staat_manifest.specs.Rules.{unless_broken, first_refusal, name_rule, part_list};
 ghost use Rattle.staat_manifest.specs.Rules.{part_list_within, rules_from, whole_rules};
 
@@ -19,9 +19,9 @@ use std::alloc::{AllocError, Global};
 
 // The values of the parts, unless the whole breaks a rule.
 #[tactic(auto, unfolding(crate::specs::Rules::whole_rules))]
-fn parts_in(alloc: Global, value: &Value, most_parts: u32) -> Result<&[Value], ManifestRefusal>
+fn parts_value(alloc: Global, value: &Value, most_parts: u32) -> Result<&[Value], ManifestRefusal>
     ensures rules { JudgesPart (first_refusal (whole_rules most_parts (view value.entry.now))) result }
-    ensures parts { IfOk result (λ parts. map view parts.now ≡ parts_in (view value.entry.now)) }
+    ensures parts { IfOk result (λ parts. map view parts.now ≡ parts_value (view value.entry.now)) }
     ensures few { IfOk result (λ parts. length parts.now ≤ most_parts) }
 {
     if !value.is_object() {
@@ -110,7 +110,7 @@ pub fn read_listing(
     ensures bounds { IfOk result (IsListingWithin most_parts most_pieces) }
 {
     let value = value_of(alloc, bytes)?;
-    list_parts(alloc, parts_in(alloc, &value, most_parts)?, most_pieces)
+    list_parts(alloc, parts_value(alloc, &value, most_parts)?, most_pieces)
 }
 
 /// The parts that the bytes list, by [`read_listing`]: at most [`MOST_PARTS`] with at most [`MOST_PIECES`] pieces.

@@ -14,7 +14,7 @@ use Rattle.staat_off.specs.Coordinates.{coordinate_of, decision_of, denominator,
 use Rattle.staat_off.specs.Numerals.{Numeral, numeral_of}
 use Rattle.staat_off.specs.Spelling.{Spells}
 use Rattle.staat_off.specs.Trims.{Trims}
-use Rattle.staat_off.specs.Values.{IsDecided, IsMagnitude, digits_of, down, signed, up}
+use Rattle.staat_off.specs.Values.{IsValueOf, IsMagnitude, digits_of, down, signed, up}
 use Rattle.staat_off.specs.Words.{Word}
 use Rattle.staat_off.proofs.Powers.{many_zeros, no_value, ten_pos, two_powers, value_at}
 use Rattle.staat_off.proofs.Pushes.{product_kept}
@@ -87,7 +87,7 @@ at_big negative at v lt = grind (arith, nat_tests)
 at_rest : (negative : Bool) (at rest v : ℕ) → (rest ≡ 0 → ⊥) → Err (NotWhole at) ≡ at_quotient negative at rest v
 at_rest negative at rest v ne = grind (arith, nat_tests)
 
-pub decided_by_quotient : (k : ℕ) (n : Numeral) (at : ℕ) (decision : Result ℤ OffRefusal) → IsDecided k n at decision → decision ≡ quotient_of k n at
+pub decided_by_quotient : (k : ℕ) (n : Numeral) (at : ℕ) (decision : Result ℤ OffRefusal) → IsValueOf k n at decision → decision ≡ quotient_of k n at
 decided_by_quotient k n at (Ok z) h =
     let q = quotient_is h.0 (numerator n k) (denominator n k) (ten_pos (length n.fraction + down n k)) (one_power n k h.0 h.1) in
     ap Ok h.3 ∙ at_value n.is_negative at h.0 h.2 ∙ ap₂ (at_quotient n.is_negative at) (sym q.0) (sym q.1)
@@ -108,11 +108,11 @@ decided_by_quotient k n at (Err OutOfMemory) h = absurd h
 
 -- ---- the quotient decides
 
-limit_by : (k : ℕ) (n : Numeral) (at v : ℕ) (t : Bool) → nat_le v POINT ≡ t → IsMagnitude n k v → IsDecided k n at (cond t (Ok (signed n.is_negative v)) (Err (TooBig at)))
+limit_by : (k : ℕ) (n : Numeral) (at v : ℕ) (t : Bool) → nat_le v POINT ≡ t → IsMagnitude n k v → IsValueOf k n at (cond t (Ok (signed n.is_negative v)) (Err (TooBig at)))
 limit_by k n at v true e h = (v, h, leb-true v POINT e, refl)
 limit_by k n at v false e h = (refl, (v, h, leb-false v POINT e))
 
-quotient_by : (k : ℕ) (n : Numeral) (at : ℕ) (t : Bool) → (numerator n k % denominator n k == 0) ≡ t → IsDecided k n at (cond t (within_limit n.is_negative (numerator n k / denominator n k) at) (Err (NotWhole at)))
+quotient_by : (k : ℕ) (n : Numeral) (at : ℕ) (t : Bool) → (numerator n k % denominator n k == 0) ≡ t → IsValueOf k n at (cond t (within_limit n.is_negative (numerator n k / denominator n k) at) (Err (NotWhole at)))
 quotient_by k n at true e =
     let v = numerator n k / denominator n k in
     let none : numerator n k % denominator n k ≡ 0 = eqb-true (numerator n k % denominator n k) 0 e in
@@ -124,15 +124,15 @@ quotient_by k n at false e = (
       eqb-false (numerator n k % denominator n k) 0 e q.0,
 )
 
-pub quotient_decides : (k : ℕ) (n : Numeral) (at : ℕ) → IsDecided k n at (quotient_of k n at)
+pub quotient_decides : (k : ℕ) (n : Numeral) (at : ℕ) → IsValueOf k n at (quotient_of k n at)
 quotient_decides k n at =
     quotient_by k n at (numerator n k % denominator n k == 0) refl
 
 -- a word that spells a numeral
-pub spelled_decides : (k : ℕ) (w : Word) (n : Numeral) → Spells w.text n → IsDecided k n w.at (coordinate_of k w)
+pub spelled_decides : (k : ℕ) (w : Word) (n : Numeral) → Spells w.text n → IsValueOf k n w.at (coordinate_of k w)
 unfolding coordinate_of
 spelled_decides k w n h =
-    subst (λ o. IsDecided k n w.at (decision_of k o w.at)) (sym (read_back w.text n h)) (quotient_decides k n w.at)
+    subst (λ o. IsValueOf k n w.at (decision_of k o w.at)) (sym (read_back w.text n h)) (quotient_decides k n w.at)
 
 -- and one that spells none
 pub unspelled_is_bad : (k : ℕ) (w : Word) → ((n : Numeral) → Spells w.text n → ⊥) → coordinate_of k w ≡ Err (BadNumber w.at)

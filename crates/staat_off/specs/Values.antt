@@ -29,8 +29,8 @@ abbrev pub signed : Bool → ℕ → ℤ
 signed is_negative v = if is_negative then neg_ℤ (pos v) else pos v
 
 -- what is decided on a numeral at that offset: its value; or that no whole number is; or that it exceeds POINT
-abbrev pub IsDecided : ℕ → Numeral → ℕ → Result ℤ OffRefusal → Type 0
-IsDecided k n at (Ok z) = (v : ℕ) × IsMagnitude n k v × (v ≤ POINT) × (z ≡ signed n.is_negative v)
-IsDecided k n at (Err (NotWhole place)) = (place ≡ at) × ((v : ℕ) → IsMagnitude n k v → ⊥)
-IsDecided k n at (Err (TooBig place)) = (place ≡ at) × ((v : ℕ) × IsMagnitude n k v × (POINT < v))
-IsDecided k n at (Err other) = ⊥
+abbrev pub IsValueOf : ℕ → Numeral → ℕ → Result ℤ OffRefusal → Type 0
+IsValueOf k n at (Ok z) = (v : ℕ) × IsMagnitude n k v × (v ≤ POINT) × (z ≡ signed n.is_negative v)
+IsValueOf k n at (Err (NotWhole place)) = (place ≡ at) × ((v : ℕ) → IsMagnitude n k v → ⊥)
+IsValueOf k n at (Err (TooBig place)) = (place ≡ at) × ((v : ℕ) × IsMagnitude n k v × (POINT < v))
+IsValueOf k n at (Err other) = ⊥

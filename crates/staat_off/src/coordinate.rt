@@ -3,7 +3,7 @@ ghost use Rattle.std.specs.Prelude.{◌≡◌, ◌<◌, ◌≤◌, ◌+◌, ◌-
 ghost use Rattle.std.specs.Prelude.{if◌then◌else◌};
 ghost use Rattle.staat_off.specs.Coordinates.{coordinate_of};
 ghost use Rattle.staat_off.specs.Numerals.{IsNumeral};
-ghost use Rattle.staat_off.specs.Values.{IsDecided, IsMagnitude, down, signed, up};
+ghost use Rattle.staat_off.specs.Values.{IsValueOf, IsMagnitude, down, signed, up};
 ghost use Rattle.staat_off.specs.Views.{numeral_view, word_view};
 
 use crate::digits::number_up_to;
@@ -95,7 +95,7 @@ fn with_sign(is_negative: bool, magnitude: u32) -> i128
 fn value_of(numeral: Numeral<'_>, at: u64, digits: u32) -> Result<i128, OffRefusal>
     requires numeral { IsNumeral (numeral_view numeral) }
     requires digits { digits ≤ MOST_DIGITS }
-    ensures { IsDecided digits (numeral_view numeral.entry) at result }
+    ensures { IsValueOf digits (numeral_view numeral.entry) at result }
 {
     match magnitude_of(numeral, digits) {
         None => Err(OffRefusal::NotWhole(at)),

@@ -10,7 +10,7 @@ ghost use Rattle.staat_off.specs.Raws.{HasCorners, IsCounted, IsIndexed};
 ghost use Rattle.staat_off.specs.Reading.{reading};
 ghost use Rattle.staat_off.specs.Scan.{Rest, after_line, next_word, rest_at};
 ghost use Rattle.staat_off.specs.Spelling.{Spells};
-ghost use Rattle.staat_off.specs.Values.{IsDecided};
+ghost use Rattle.staat_off.specs.Values.{IsValueOf};
 ghost use Rattle.staat_off.specs.Words.{IsNextLine, IsNextWord, IsStop, IsWordPlace, Word, end_of};
 
 use crate::numeral::LONGEST_NUMBER;
@@ -46,7 +46,7 @@ pub fn numerals_are_spelled()
 /// A word that spells a numeral is decided by the equation of its value, and one that spells none is a bad number.
 pub fn coordinates_by_equation()
     ensures spelled { (digits : ℕ) (w : Word) (n : Numeral) → Spells w.text n
-        → IsDecided digits n w.at (coordinate_of digits w) }
+        → IsValueOf digits n w.at (coordinate_of digits w) }
     ensures bad { (digits : ℕ) (w : Word) → ((n : Numeral) → Spells w.text n → ⊥)
         → coordinate_of digits w ≡ Err (BadNumber w.at) }
 {}

@@ -33,7 +33,7 @@ use Rattle.staat_model.proofs.PointLemmas.{point_is_vertex_lemma, representative
 use Rattle.staat_planes.specs.declared.refusal.PlanesRefusal.{PlanesRefusal}
 use Rattle.staat_planes.specs.Refusals.{IsPlanesRefusal}
 use Rattle.staat_plan.specs.Planning.{IsOutcomeOf}
-use Rattle.staat_plan.specs.Marks.{AreMarksRight, HasMark, IsOffPlanes, MarkHolds, MarksHold, OnlyPlanesServe}
+use Rattle.staat_plan.specs.Marks.{AreMarksRight, HasOneMark, IsOffPlanes, MarkHolds, MarksHold, OnlyPlanesServe}
 use Rattle.staat_plan.specs.Marks.{OnlyVerticesServe, at_leaf}
 use Rattle.staat_plan.specs.Marks.{at_split}
 use Rattle.staat_plan.proofs.Right.{right}
@@ -137,7 +137,7 @@ module _ (parts : List Part) (is : IsAssembly parts) (w : PartSet) (planes : Lis
   marked : (kind : Kind) (cells : List CellEntry) (try : Try) → AreCellsOf planes kind cells
       → IsFirst (λ t. Serves parts w t.d) (map try_cell cells) try
       → ((c : CellEntry) → IsEntry planes kind c → MarkHolds parts w c.d kind)
-      → HasMark parts w try
+      → HasOneMark parts w try
   marked kind cells try of first holds =
       let found = IsFirst-in (λ (t : Try). Serves parts w t.d) (map try_cell cells) try first in
       let (c, c_in, e) = from_map try_cell cells try found.0 in
@@ -150,13 +150,13 @@ module _ (parts : List Part) (is : IsAssembly parts) (w : PartSet) (planes : Lis
 
 pub mark_holds_lemma : (parts : List Part) → IsAssembly parts → (w : PartSet) (try : Try) (side : PartSet)
     → IsStep true parts w try side
-    → HasMark parts w try
+    → HasOneMark parts w try
 mark_holds_lemma parts is w try side step = go step.tries_are
   where
     P : Try → Type 0
     P t = Serves parts w t.d
 
-    go : AreCellTries parts w step.tries → HasMark parts w try
+    go : AreCellTries parts w step.tries → HasOneMark parts w try
     go are =
         let o = map try_cell are.opens in
         let e = map try_cell are.edges in

@@ -34,7 +34,7 @@ MarkHolds parts w d Edge = OnlyPlanesServe parts w
 MarkHolds parts w d Point = OnlyPlanesServe parts w × OnlyVerticesServe parts w
 
 -- the direction has one mark alone, and it holds of a step of w
-pub record HasMark (parts : List Part) (w : PartSet) (try : Try) : Type 0 where
+pub record HasOneMark (parts : List Part) (w : PartSet) (try : Try) : Type 0 where
   pub mark : Kind
   pub is : try.mark ≡ mark ∷ []
   pub holds : MarkHolds parts w try.d mark

@@ -23,7 +23,7 @@ ghost use Rattle.staat_model.specs.Texts.{text_of};
 ghost use Rattle.staat_graph.specs.declared.trees.Trees.{Trees as TreesValue};
 ghost use Rattle.staat_graph.specs.Blocking.{ShowsBlocking};
 ghost use Rattle.staat_graph.specs.Graphs.{AreTrees, HasArc};
-ghost use Rattle.staat_plan.specs.Marks.{HasMark, MarksHold};
+ghost use Rattle.staat_plan.specs.Marks.{HasOneMark, MarksHold};
 ghost use Rattle.staat_plan.specs.Planning.{AreWithin, Settles};
 
 /// Some side of a set is free of the rest along a direction exactly where one is along the opposite direction.
@@ -59,7 +59,7 @@ pub fn tries_decide()
 /// it is a positive multiple of a vertex.
 pub fn mark_holds()
     ensures { (parts : List PartValue) (w : PartSetValue) (try : Try) (side : PartSetValue)
-        → IsAssembly parts → IsStep true parts w try side → HasMark parts w try }
+        → IsAssembly parts → IsStep true parts w try side → HasOneMark parts w try }
 {}
 
 /// A robust plan has one mark for each split, in preorder, and each of them says of the set that is split what the

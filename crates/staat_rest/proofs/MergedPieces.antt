@@ -20,14 +20,14 @@ use Rattle.staat_holds.specs.Chains.{IsName}
 use Rattle.staat_holds.proofs.NodeNames.{at_map, map_at}
 use Rattle.staat_rest.specs.declared.merging.Origin.{Origin}
 use Rattle.staat_rest.specs.Merging.{AreMerged, AreOrigins, IsMergedPart, origin_at}
-use Rattle.staat_rest.specs.Nodes.{IsPartOf}
+use Rattle.staat_rest.specs.Nodes.{IsInNode}
 
 -- what the origin of the piece i of the merged part a is, where p is that piece
 pub record IsOrigin (parts : List Part) (names heads : List ℕ) (origins : List (List Origin)) (a i : ℕ) (p : List V3) : Type 0 where
   pub is : piece_at parts ((origin_at origins a i).part) ((origin_at origins a i).piece) ≡ Some p
   pub head : ℕ
   pub head_is : slice_get heads a ≡ Some head
-  pub of : IsPartOf names head ((origin_at origins a i).part)
+  pub of : IsInNode names head ((origin_at origins a i).part)
   pub a_in : a < length origins
   pub i_in : i < length (get_or origins a [])
 
@@ -73,17 +73,17 @@ module _ (parts : List Part) (names heads : List ℕ) (origins : List (List Orig
       let (o, o_at, o_is) = map_at from_origin os i (Some p) there in
       let list : get_or origins a [] ≡ os = get_or_from_slice_get origins a os [] os_at in
       let is : origin_at origins a i ≡ o = ap (λ (l : List Origin). get_or l i (record { part = 0; piece = 0 })) list ∙ get_or_from_slice_get os i o (record { part = 0; piece = 0 }) o_at in
-      let each = All-contains (λ (q : Origin). IsPartOf names h q.part × (q.piece < piece_count parts q.part)) os o of_h.each (Contains-from_place os i o o_at) in record {
+      let each = All-contains (λ (q : Origin). IsInNode names h q.part × (q.piece < piece_count parts q.part)) os o of_h.each (Contains-from_place os i o o_at) in record {
         is = ap from_origin is ∙ o_is;
         head = h;
         head_is = h_at;
-        of = subst (λ (q : Origin). IsPartOf names h q.part) (sym is) each.0;
+        of = subst (λ (q : Origin). IsInNode names h q.part) (sym is) each.0;
         a_in = place_within origins a os os_at;
         i_in = subst (λ (l : List Origin). i < length l) (sym list) (place_within os i o o_at);
       }
 
   -- each piece of a part of a node is one of the merged part
-  pub merged_from : (q j h k : ℕ) (p : List V3) → IsPartOf names h q → slice_get heads k ≡ Some h → piece_at parts q j ≡ Some p → (i : ℕ) × (piece_at merged k i ≡ Some p)
+  pub merged_from : (q j h k : ℕ) (p : List V3) → IsInNode names h q → slice_get heads k ≡ Some h → piece_at parts q j ≡ Some p → (i : ℕ) × (piece_at merged k i ≡ Some p)
   merged_from q j h k p of at e =
       let k_lt = place_within heads k h at in
       let first = zip_length (AreOrigins parts names) heads origins are.origins_are in

@@ -9,7 +9,7 @@ use Rattle.staat_model.specs.declared.assembly.Part.{Part}
 use Rattle.staat_model.proofs.Places.{place_within, same_some}
 use Rattle.staat_holds.specs.declared.hold.Hold.{Hold}
 use Rattle.staat_holds.specs.Chains.{AllKeep, KeepsHoldRules, joined_name, names_after, own_names}
-use Rattle.staat_rest.specs.Nodes.{IsPartOf, KeepFrom}
+use Rattle.staat_rest.specs.Nodes.{IsInNode, KeepFrom}
 
 -- ---- names that are the parts' own
 
@@ -52,13 +52,13 @@ keep_all parts holds keep m hold lt at = keep_at parts (own_names (length parts)
 
 -- ---- whether a part belongs to a node
 
-pub part_or : (names : List ℕ) (n p : ℕ) → IsPartOf names n p ⊎ (IsPartOf names n p → ⊥)
+pub part_or : (names : List ℕ) (n p : ℕ) → IsInNode names n p ⊎ (IsInNode names n p → ⊥)
 part_or names n p = go (slice_get names p) refl
   where
-    some : (m : ℕ) → slice_get names p ≡ Some m → (m ≡ n) ⊎ (m ≡ n → ⊥) → IsPartOf names n p ⊎ (IsPartOf names n p → ⊥)
+    some : (m : ℕ) → slice_get names p ≡ Some m → (m ≡ n) ⊎ (m ≡ n → ⊥) → IsInNode names n p ⊎ (IsInNode names n p → ⊥)
     some m is (inl e) = inl (is ∙ ap Some e)
     some m is (inr ne) = inr (λ h. ne (same_some m n (sym is ∙ h)))
 
-    go : (o : Option ℕ) → slice_get names p ≡ o → IsPartOf names n p ⊎ (IsPartOf names n p → ⊥)
+    go : (o : Option ℕ) → slice_get names p ≡ o → IsInNode names n p ⊎ (IsInNode names n p → ⊥)
     go None is = inr (λ h. let wrong : None ≡ Some n = sym is ∙ h in absurd cc)
     go (Some m) is = some m is (cases_eq m n)

@@ -14,7 +14,7 @@ use Rattle.staat_holds.specs.declared.hold.Hold.{Hold}
 use Rattle.staat_holds.specs.Chains.{IsJoinedLast, IsName, IsOfOne, KeepsHoldRules, joined_name, names_after, names_before, own_names}
 use Rattle.staat_holds.specs.Partials.{IsOrderedHold}
 use Rattle.staat_holds.proofs.NodeNames.{among_or, at_map, first_of, joined_in, joined_out, map_at}
-use Rattle.staat_rest.specs.Nodes.{AreJoined, AreShown, IsPartOf, KeepFrom, NamesOnly, ShowsNode, holds_of}
+use Rattle.staat_rest.specs.Nodes.{AreJoined, AreShown, IsInNode, KeepFrom, NamesOnly, ShowsNode, holds_of}
 use Rattle.staat_rest.proofs.NameSteps.{after_append, keep_append, own_count, own_is, own_name}
 use Rattle.staat_rest.proofs.NodeSteps.{holds_keep, name_is}
 
@@ -66,7 +66,7 @@ begin_shown parts names lists is many none = subst (λ ns. AreShown parts ns lis
     each n = record {
       ordered = All-nil IsOrderedHold;
       keep = tt;
-      within = All-nil (λ (hold : Hold). All (IsPartOf (own_names (length parts)) n) hold.nodes);
+      within = All-nil (λ (hold : Hold). All (IsInNode (own_names (length parts)) n) hold.nodes);
       named = record {
         many = refl;
         joined = λ p m at c. at;
@@ -123,28 +123,28 @@ module _ (parts : List Part) (names : List ℕ) (lists : List (List Hold)) (hold
   to_r : (m : ℕ) → Contains ns m → joined_name ns m ≡ r
   to_r m c = joined_in ns m c ∙ is_r m
 
-  name : (p n : ℕ) → IsPartOf names n p → IsName names n
+  name : (p n : ℕ) → IsInNode names n p → IsName names n
   name = name_is names shown.names_are
 
   -- a part of a node of the hold is one of the first node from then on
-  in_next : (p m : ℕ) → IsPartOf names m p → Contains ns m → IsPartOf next r p
+  in_next : (p m : ℕ) → IsInNode names m p → Contains ns m → IsInNode next r p
   in_next p m at c = at_map (joined_name ns) names p m at ∙ ap Some (to_r m c)
 
-  out_next : (p m : ℕ) → IsPartOf names m p → (Contains ns m → ⊥) → IsPartOf next m p
+  out_next : (p m : ℕ) → IsInNode names m p → (Contains ns m → ⊥) → IsInNode next m p
   out_next p m at off = at_map (joined_name ns) names p m at ∙ ap Some (joined_out ns m off)
 
   -- a part of the first node was one of a node of the hold
-  from_r : (p : ℕ) → IsPartOf next r p → (m : ℕ) × IsPartOf names m p × Contains ns m
+  from_r : (p : ℕ) → IsInNode next r p → (m : ℕ) × IsInNode names m p × Contains ns m
   from_r p h =
       let (m, at, is) = map_at (joined_name ns) names p r h in
-      ⊎_elim {C = (m : ℕ) × IsPartOf names m p × Contains ns m} (λ t. (m, at, t.0))
+      ⊎_elim {C = (m : ℕ) × IsInNode names m p × Contains ns m} (λ t. (m, at, t.0))
       (λ t. absurd (t.0 (subst (Contains ns) (sym is ∙ joined_out ns m t.0) r_in))) (among_or ns m)
 
   -- and a part of another node is one of it still
-  from_other : (p n : ℕ) → (n ≡ r → ⊥) → IsPartOf next n p → IsPartOf names n p × (Contains ns n → ⊥)
+  from_other : (p n : ℕ) → (n ≡ r → ⊥) → IsInNode next n p → IsInNode names n p × (Contains ns n → ⊥)
   from_other p n ne h =
       let (m, at, is) = map_at (joined_name ns) names p n h in
-      ⊎_elim {C = IsPartOf names n p × (Contains ns n → ⊥)} (λ t. absurd (ne (sym is ∙ to_r m t.0)))
+      ⊎_elim {C = IsInNode names n p × (Contains ns n → ⊥)} (λ t. absurd (ne (sym is ∙ to_r m t.0)))
       (λ t. let e : m ≡ n = sym (joined_out ns m t.0) ∙ is in (at ∙ ap Some e, λ c. t.0 (subst (Contains ns) (sym e) c))) (among_or ns m)
 
   next_names : All (IsName next) next
@@ -181,18 +181,18 @@ module _ (parts : List Part) (names : List ℕ) (lists : List (List Hold)) (hold
   all_ordered (n ∷ nodes) all = All-append IsOrderedHold (get_or lists n []) (holds_of lists nodes) (shown.each n (All-head (IsName names) n nodes all)).ordered (all_ordered nodes (All-tail (IsName names) n nodes all))
 
   abbrev IsInFirst : Hold → Type 0
-  IsInFirst h = All (IsPartOf next r) h.nodes
+  IsInFirst h = All (IsInNode next r) h.nodes
 
   all_within : (nodes : List ℕ) → All (IsName names) nodes → ((n : ℕ) → Contains nodes n → Contains ns n) → All IsInFirst (holds_of lists nodes)
   all_within [] all listed = All-nil IsInFirst
   all_within (n ∷ nodes) all listed =
       let of_n = (shown.each n (All-head (IsName names) n nodes all)).within in
-      let here_is : All IsInFirst (get_or lists n []) = All-weaker (λ (h : Hold). All (IsPartOf names n) h.nodes) IsInFirst
-      (λ h of. All-weaker (IsPartOf names n) (IsPartOf next r) (λ p at. in_next p n at (listed n (here n nodes))) h.nodes of) (get_or lists n []) of_n in
+      let here_is : All IsInFirst (get_or lists n []) = All-weaker (λ (h : Hold). All (IsInNode names n) h.nodes) IsInFirst
+      (λ h of. All-weaker (IsInNode names n) (IsInNode next r) (λ p at. in_next p n at (listed n (here n nodes))) h.nodes of) (get_or lists n []) of_n in
       All-append IsInFirst (get_or lists n []) (holds_of lists nodes) here_is (all_within nodes (All-tail (IsName names) n nodes all) (λ m c. listed m (there n m nodes c)))
 
   last_within : IsInFirst hold
-  last_within = All-from_members (IsPartOf next r) ns (λ m c. in_next m m (All-contains (IsName names) ns m named c) c)
+  last_within = All-from_members (IsInNode next r) ns (λ m c. in_next m m (All-contains (IsName names) ns m named c) c)
 
   after_last : names_after (own_names (length parts)) (before ++ hold ∷ []) ≡ map (joined_name ns) now
   after_last = after_append (own_names (length parts)) before (hold ∷ [])
@@ -211,13 +211,13 @@ module _ (parts : List Part) (names : List ℕ) (lists : List (List Hold)) (hold
         off (subst (Contains ns) (same_some p n (sym (All-contains (IsName names) ns p named c) ∙ of)) c)));
   }
 
-  first_joined : (p : ℕ) → IsOfOne now ns p ↔ IsPartOf next r p
+  first_joined : (p : ℕ) → IsOfOne now ns p ↔ IsInNode next r p
   first_joined p = (
     λ o.
         let lt = place_within now p o.name o.named in
         let long = so_far.1.many in
         let (m, at) = some_at names p (omega (arith, lt, long)) in
-        ⊎_elim {C = IsPartOf next r p} (λ t. in_next p m at t.0)
+        ⊎_elim {C = IsInNode next r p} (λ t. in_next p m at t.0)
         (λ t.
         let e : o.name ≡ p = same_some o.name p (sym o.named ∙ so_far.1.others p m at t.0) in
         let p_in : Contains ns p = subst (Contains ns) e o.listed in
@@ -244,8 +244,8 @@ module _ (parts : List Part) (names : List ℕ) (lists : List (List Hold)) (hold
   other_shows n holds ne off s = record {
     ordered = s.ordered;
     keep = s.keep;
-    within = All-weaker (λ (h : Hold). All (IsPartOf names n) h.nodes) (λ (h : Hold). All (IsPartOf next n) h.nodes)
-        (λ h of. All-weaker (IsPartOf names n) (IsPartOf next n) (λ p at. out_next p n at off) h.nodes of) holds s.within;
+    within = All-weaker (λ (h : Hold). All (IsInNode names n) h.nodes) (λ (h : Hold). All (IsInNode next n) h.nodes)
+        (λ h of. All-weaker (IsInNode names n) (IsInNode next n) (λ p at. out_next p n at off) h.nodes of) holds s.within;
     named = record {
       many = s.named.many ∙ sym (length-map names (joined_name ns));
       joined = λ p m at c. ⊎_elim {C = slice_get (names_after (own_names (length parts)) holds) p ≡ Some m}

@@ -14,7 +14,7 @@ use Rattle.staat_holds.specs.declared.hold.Hold.{Hold}
 use Rattle.staat_holds.specs.Chains.{IsName, joined_name, names_after, own_names}
 use Rattle.staat_holds.specs.Partials.{IsOrderedHold}
 use Rattle.staat_holds.proofs.NodeNames.{among_or, at_map, below_first, first_of, joined_in, joined_out, map_at}
-use Rattle.staat_rest.specs.Nodes.{IsPartOf, KeepFrom, NamesOnly, ShowsNode, holds_of}
+use Rattle.staat_rest.specs.Nodes.{IsInNode, KeepFrom, NamesOnly, ShowsNode, holds_of}
 use Rattle.staat_rest.proofs.Agreeing.{IsKept, keeps_as}
 use Rattle.staat_rest.proofs.NameSteps.{after_append, keep_append, own_count, own_is, own_name, part_or}
 
@@ -22,9 +22,9 @@ use Rattle.staat_rest.proofs.NameSteps.{after_append, keep_append, own_count, ow
 record Agree (names : List ℕ) (n : ℕ) (a b : List ℕ) : Type 0 where
   pub many_a : length a ≡ length names
   pub many_b : length b ≡ length names
-  pub inside : (p : ℕ) → IsPartOf names n p → (m : ℕ) × (slice_get a p ≡ Some m) × (slice_get b p ≡ Some m) × IsPartOf names n m
-  pub outside_a : (p m : ℕ) → (IsPartOf names n p → ⊥) → slice_get a p ≡ Some m → IsPartOf names n m → ⊥
-  pub outside_b : (p m : ℕ) → (IsPartOf names n p → ⊥) → slice_get b p ≡ Some m → IsPartOf names n m → ⊥
+  pub inside : (p : ℕ) → IsInNode names n p → (m : ℕ) × (slice_get a p ≡ Some m) × (slice_get b p ≡ Some m) × IsInNode names n m
+  pub outside_a : (p m : ℕ) → (IsInNode names n p → ⊥) → slice_get a p ≡ Some m → IsInNode names n m → ⊥
+  pub outside_b : (p m : ℕ) → (IsInNode names n p → ⊥) → slice_get b p ≡ Some m → IsInNode names n m → ⊥
 
 turned_round : (names : List ℕ) (n : ℕ) (a b : List ℕ) → Agree names n a b → Agree names n b a
 turned_round names n a b g = record {
@@ -35,27 +35,27 @@ turned_round names n a b g = record {
   outside_b = g.outside_a;
 }
 
-kept_of : (names : List ℕ) (n : ℕ) (a b nodes : List ℕ) → Agree names n a b → All (IsPartOf names n) nodes → IsKept nodes a b
+kept_of : (names : List ℕ) (n : ℕ) (a b nodes : List ℕ) → Agree names n a b → All (IsInNode names n) nodes → IsKept nodes a b
 kept_of names n a b nodes g of k p c at = ⊎_elim {C = slice_get b p ≡ Some k}
     (λ h. let (m, at_a, at_b, _) = g.inside p h in at_b ∙ ap Some (same_some m k (sym at_a ∙ at)))
-    (λ out. absurd (g.outside_a p k out at (All-contains (IsPartOf names n) nodes k of c)))
+    (λ out. absurd (g.outside_a p k out at (All-contains (IsInNode names n) nodes k of c)))
     (part_or names n p)
 
-joined_part : (names : List ℕ) (n : ℕ) (nodes : List ℕ) (m : ℕ) → All (IsPartOf names n) nodes → 1 ≤ length nodes → IsPartOf names n m → IsPartOf names n (joined_name nodes m)
-joined_part names n nodes m of some h = ⊎_elim {C = IsPartOf names n (joined_name nodes m)}
-    (λ t. let (r, c, first) = first_of nodes some in subst (IsPartOf names n) (sym (joined_in nodes m t.0 ∙ first m)) (All-contains (IsPartOf names n) nodes r of c))
-    (λ t. subst (IsPartOf names n) (sym (joined_out nodes m t.0)) h)
+joined_part : (names : List ℕ) (n : ℕ) (nodes : List ℕ) (m : ℕ) → All (IsInNode names n) nodes → 1 ≤ length nodes → IsInNode names n m → IsInNode names n (joined_name nodes m)
+joined_part names n nodes m of some h = ⊎_elim {C = IsInNode names n (joined_name nodes m)}
+    (λ t. let (r, c, first) = first_of nodes some in subst (IsInNode names n) (sym (joined_in nodes m t.0 ∙ first m)) (All-contains (IsInNode names n) nodes r of c))
+    (λ t. subst (IsInNode names n) (sym (joined_out nodes m t.0)) h)
     (among_or nodes m)
 
-outside_step : (names : List ℕ) (n : ℕ) (a nodes : List ℕ) → All (IsPartOf names n) nodes
-    → ((p m : ℕ) → (IsPartOf names n p → ⊥) → slice_get a p ≡ Some m → IsPartOf names n m → ⊥)
-    → (p m : ℕ) → (IsPartOf names n p → ⊥) → slice_get (map (joined_name nodes) a) p ≡ Some m → IsPartOf names n m → ⊥
+outside_step : (names : List ℕ) (n : ℕ) (a nodes : List ℕ) → All (IsInNode names n) nodes
+    → ((p m : ℕ) → (IsInNode names n p → ⊥) → slice_get a p ≡ Some m → IsInNode names n m → ⊥)
+    → (p m : ℕ) → (IsInNode names n p → ⊥) → slice_get (map (joined_name nodes) a) p ≡ Some m → IsInNode names n m → ⊥
 outside_step names n a nodes of outside p m out at h =
     let (q, at_q, is) = map_at (joined_name nodes) a p m at in
-    ⊎_elim {C = ⊥} (λ t. outside p q out at_q (All-contains (IsPartOf names n) nodes q of t.0))
-    (λ t. outside p q out at_q (subst (IsPartOf names n) (sym is ∙ joined_out nodes q t.0) h)) (among_or nodes q)
+    ⊎_elim {C = ⊥} (λ t. outside p q out at_q (All-contains (IsInNode names n) nodes q of t.0))
+    (λ t. outside p q out at_q (subst (IsInNode names n) (sym is ∙ joined_out nodes q t.0) h)) (among_or nodes q)
 
-agree_step : (names : List ℕ) (n : ℕ) (a b nodes : List ℕ) → All (IsPartOf names n) nodes → 1 ≤ length nodes → Agree names n a b → Agree names n (map (joined_name nodes) a) (map (joined_name nodes) b)
+agree_step : (names : List ℕ) (n : ℕ) (a b nodes : List ℕ) → All (IsInNode names n) nodes → 1 ≤ length nodes → Agree names n a b → Agree names n (map (joined_name nodes) a) (map (joined_name nodes) b)
 agree_step names n a b nodes of some g = record {
   many_a = length-map a (joined_name nodes) ∙ g.many_a;
   many_b = length-map b (joined_name nodes) ∙ g.many_b;
@@ -68,7 +68,7 @@ agree_step names n a b nodes of some g = record {
 
 -- the nodes of the hold are parts of the node n
 abbrev IsWithinNode : List ℕ → ℕ → Hold → Type 0
-IsWithinNode names n hold = All (IsPartOf names n) hold.nodes
+IsWithinNode names n hold = All (IsInNode names n) hold.nodes
 
 run : (parts : List Part) (names : List ℕ) (n : ℕ) (a b : List ℕ) (holds : List Hold) → All IsOrderedHold holds → All (IsWithinNode names n) holds → Agree names n a b → KeepFrom parts a holds
     → KeepFrom parts b holds × Agree names n (names_after a holds) (names_after b holds)
@@ -84,15 +84,15 @@ run parts names n a b (h ∷ holds) ordered within g keep =
     ((first, rest.0), rest.1)
 
 -- a name of another node stays
-stays : (names : List ℕ) (n : ℕ) (b : List ℕ) (holds : List Hold) → All (IsWithinNode names n) holds → (p m : ℕ) → slice_get b p ≡ Some m → (IsPartOf names n m → ⊥) → slice_get (names_after b holds) p ≡ Some m
+stays : (names : List ℕ) (n : ℕ) (b : List ℕ) (holds : List Hold) → All (IsWithinNode names n) holds → (p m : ℕ) → slice_get b p ≡ Some m → (IsInNode names n m → ⊥) → slice_get (names_after b holds) p ≡ Some m
 stays names n b [] within p m at out = at
 stays names n b (h ∷ holds) within p m at out =
     let of = All-head (IsWithinNode names n) h holds within in
-    let off : Contains h.nodes m → ⊥ = λ c. out (All-contains (IsPartOf names n) h.nodes m of c) in
+    let off : Contains h.nodes m → ⊥ = λ c. out (All-contains (IsInNode names n) h.nodes m of c) in
     stays names n (map (joined_name h.nodes) b) holds (All-tail (IsWithinNode names n) h holds within) p m (at_map (joined_name h.nodes) b p m at ∙ ap Some (joined_out h.nodes m off)) out
 
 -- the name of a part is the name of a node
-pub name_is : (names : List ℕ) → All (IsName names) names → (p n : ℕ) → IsPartOf names n p → IsName names n
+pub name_is : (names : List ℕ) → All (IsName names) names → (p n : ℕ) → IsInNode names n p → IsName names n
 name_is names names_are p n at = All-contains (IsName names) names n names_are (Contains-from_place names p n at)
 
 -- the list of the nodes, each before those that came before
@@ -121,11 +121,11 @@ module _ (parts : List Part) (names : List ℕ) (many : length names ≡ length 
     many_a = own_count (length parts) ∙ sym many;
     many_b = is.many;
     inside = λ p h. (p, own_name (length parts) p (let lt = place_within names p n h in omega (arith, lt, many)), is.others p n h off, h);
-    outside_a = λ p m out at h. out (subst (IsPartOf names n) (own_is (length parts) p m at) h);
+    outside_a = λ p m out at h. out (subst (IsInNode names n) (own_is (length parts) p m at) h);
     outside_b = outside;
   }
     where
-      outside : (p m : ℕ) → (IsPartOf names n p → ⊥) → slice_get now p ≡ Some m → IsPartOf names n m → ⊥
+      outside : (p m : ℕ) → (IsInNode names n p → ⊥) → slice_get now p ≡ Some m → IsInNode names n m → ⊥
       outside p m out at h =
           let long = is.many in
           let lt = place_within now p m at in
@@ -133,9 +133,9 @@ module _ (parts : List Part) (names : List ℕ) (many : length names ≡ length 
           ⊎_elim {C = ⊥}
           (λ t.
           let e : m ≡ q = same_some m q (sym at ∙ is.joined p q at_q t.0) in
-          let same : q ≡ n = same_some q n (sym (name_is names names_are p q at_q) ∙ subst (IsPartOf names n) e h) in
+          let same : q ≡ n = same_some q n (sym (name_is names names_are p q at_q) ∙ subst (IsInNode names n) e h) in
           out (at_q ∙ ap Some same))
-          (λ t. out (subst (IsPartOf names n) (same_some m p (sym at ∙ is.others p q at_q t.0)) h))
+          (λ t. out (subst (IsInNode names n) (same_some m p (sym at ∙ is.others p q at_q t.0)) h))
           (among_or done q)
 
   node_step : (n : ℕ) (done now : List ℕ) (holds : List Hold) → NamesOnly names done now → (Contains done n → ⊥) → ShowsNode parts names n holds

@@ -15,7 +15,7 @@ use Rattle.staat_motion.proofs.Zips.{zip_back}
 use Rattle.staat_holds.proofs.ListSteps.{contains_push}
 use Rattle.staat_rest.specs.declared.merging.Origin.{Origin}
 use Rattle.staat_rest.specs.Merging.{AreOrigins}
-use Rattle.staat_rest.specs.Nodes.{IsPartOf}
+use Rattle.staat_rest.specs.Nodes.{IsInNode}
 
 pub origin_more : (old xs ys : List Origin) (part n : ℕ) → ys ≡ xs ++ record { part = part; piece = n } ∷ []
     → ((o : Origin) → Contains xs o ↔ (Contains old o ⊎ ((o.part ≡ part) × (o.piece < n))))
@@ -34,7 +34,7 @@ origin_more old xs ys part n e is o = (
 
 -- one of the pieces of the parts of the node below k
 abbrev pub IsPieceBelow : List Part → List ℕ → (node k : ℕ) → Origin → Type 0
-IsPieceBelow parts names node k o = (o.part < k) × IsPartOf names node o.part × (o.piece < piece_count parts o.part)
+IsPieceBelow parts names node k o = (o.part < k) × IsInNode names node o.part × (o.piece < piece_count parts o.part)
 
 pub pieces_more : (parts : List Part) (names : List ℕ) (node k d count : ℕ) (xs ys : List Origin) → k < length names → get_or names k d ≡ node → piece_count parts k ≡ count
     → ((o : Origin) → Contains ys o ↔ (Contains xs o ⊎ ((o.part ≡ k) × (o.piece < count))))
@@ -44,7 +44,7 @@ pieces_more parts names node k d count xs ys lt named many add is o = (
       (λ old. let b = (is o).0 old in (let less = b.0 in omega (arith, less), b.1, b.2))
       (λ new. let e = new.0 in let few = new.1 in (
         omega (arith, e),
-        subst (IsPartOf names node) (sym e) (slice_get-get_or names k d lt ∙ ap Some named),
+        subst (IsInNode names node) (sym e) (slice_get-get_or names k d lt ∙ ap Some named),
         let here_many = ap (piece_count parts) e in omega (arith, few, many, here_many),
       ))
       ((add o).0 c),
@@ -58,12 +58,12 @@ pub pieces_same : (parts : List Part) (names : List ℕ) (node k d : ℕ) (xs : 
 pieces_same parts names node k d xs off is o = (
   λ c. let b = (is o).0 c in (let less = b.0 in omega (arith, less), b.1, b.2),
   λ h. ⊎_elim {C = Contains xs o}
-      (λ e. absurd (off (get_or_from_slice_get names k node d (subst (IsPartOf names node) e h.1))))
+      (λ e. absurd (off (get_or_from_slice_get names k node d (subst (IsInNode names node) e h.1))))
       (λ ne. (is o).1 (let less = h.0 in omega (arith, less, ne), h.1, h.2)) (cases_eq o.part k),
 )
 
 pub pieces_end : (parts : List Part) (names : List ℕ) (node k : ℕ) (xs : List Origin) → length names ≤ k
-    → ((o : Origin) → Contains xs o ↔ IsPieceBelow parts names node k o) → (o : Origin) → Contains xs o ↔ (IsPartOf names node o.part × (o.piece < piece_count parts o.part))
+    → ((o : Origin) → Contains xs o ↔ IsPieceBelow parts names node k o) → (o : Origin) → Contains xs o ↔ (IsInNode names node o.part × (o.piece < piece_count parts o.part))
 pieces_end parts names node k xs le is o = (
   λ c. let b = (is o).0 c in (b.1, b.2),
   λ h. (is o).1 (let lt = place_within names o.part node h.0 in omega (arith, lt, le), h.0, h.1),
@@ -79,9 +79,9 @@ pieces_none parts names node xs e o = (
     none (k, lt, e) = absurd (omega (arith, lt))
 
 pub origins_are : (parts : List Part) (names : List ℕ) (node : ℕ) (xs : List Origin) → length xs < 2 ^ 32
-    → ((o : Origin) → Contains xs o ↔ (IsPartOf names node o.part × (o.piece < piece_count parts o.part))) → AreOrigins parts names node xs
+    → ((o : Origin) → Contains xs o ↔ (IsInNode names node o.part × (o.piece < piece_count parts o.part))) → AreOrigins parts names node xs
 origins_are parts names node xs few is = record {
-  each = All-from_members (λ (o : Origin). IsPartOf names node o.part × (o.piece < piece_count parts o.part)) xs (λ o c. (is o).0 c);
+  each = All-from_members (λ (o : Origin). IsInNode names node o.part × (o.piece < piece_count parts o.part)) xs (λ o c. (is o).0 c);
   all = λ p i of lt. (is (record { part = p; piece = i })).1 (of, lt);
   few = few;
 }
@@ -133,4 +133,4 @@ pub all_exist : (parts : List Part) (names heads : List ℕ) (all : List (List O
 all_exist parts names heads all zip = All-from_members (All (λ (o : Origin). o.piece < piece_count parts o.part)) all (λ os c.
     let (k, at) = place_from_Contains all os c in
     let (n, _, of) = zip_back (AreOrigins parts names) heads all k os zip at in
-    All-weaker (λ (o : Origin). IsPartOf names n o.part × (o.piece < piece_count parts o.part)) (λ (o : Origin). o.piece < piece_count parts o.part) (λ o h. h.1) os of.each)
+    All-weaker (λ (o : Origin). IsInNode names n o.part × (o.piece < piece_count parts o.part)) (λ (o : Origin). o.piece < piece_count parts o.part) (λ o h. h.1) os of.each)

@@ -30,7 +30,7 @@ use Rattle.staat_holds.specs.Partials.{HasShownGroups, HasSmallDirections, HasSm
 use Rattle.staat_holds.proofs.ChainLaw.{last_stuck}
 use Rattle.staat_rest.specs.declared.merging.Origin.{Origin}
 use Rattle.staat_rest.specs.Merging.{AreMerged}
-use Rattle.staat_rest.specs.Nodes.{AreShown, IsPartOf}
+use Rattle.staat_rest.specs.Nodes.{AreShown, IsInNode}
 use Rattle.staat_rest.specs.Turning.{HasLeavesBelow, HaveLists, IsGroupOf, IsTurned}
 use Rattle.staat_rest.proofs.MergedPieces.{merged_count, merged_from, one_head}
 use Rattle.staat_rest.proofs.NameSteps.{keep_all}
@@ -42,7 +42,7 @@ pub record IsStoodFor (names heads : List ℕ) (s : PartSet) (p : ℕ) : Type 0 
   pub has : Has s k
   pub head : ℕ
   pub at : slice_get heads k ≡ Some head
-  pub of : IsPartOf names head p
+  pub of : IsInNode names head p
 
 -- t has exactly these parts
 abbrev pub IsSpread : List ℕ → List ℕ → (s t : PartSet) → Type 0
@@ -76,18 +76,18 @@ module _ (parts : List Part) (names heads : List ℕ) (lists : List (List Hold))
   own_leaf k = (has-single k k).1 refl
 
   -- the parts of the node for which the leaf k stands
-  leaf_spread : (k : ℕ) (t : PartSet) → k < length heads → ((p : ℕ) → Has t p ↔ IsPartOf names (get_or heads k 0) p) → IsSpread names heads (single k) t
+  leaf_spread : (k : ℕ) (t : PartSet) → k < length heads → ((p : ℕ) → Has t p ↔ IsInNode names (get_or heads k 0) p) → IsSpread names heads (single k) t
   leaf_spread k t lt is p = (
     λ h. record { k = k; has = own_leaf k; head = get_or heads k 0; at = head_at k lt; of = (is p).0 h },
     λ o.
         let e : o.k ≡ k = one_leaf k o.k o.has in
         let same : o.head ≡ get_or heads k 0 = same_some o.head (get_or heads k 0) (sym (subst (λ m. slice_get heads m ≡ Some o.head) e o.at) ∙ head_at k lt) in
-        (is p).1 (subst (λ n. IsPartOf names n p) same o.of),
+        (is p).1 (subst (λ n. IsInNode names n p) same o.of),
   )
 
   alone_spread : (k p : ℕ) → k < length heads → p ≡ get_or heads k 0 → get_or lists p [] ≡ [] → IsSpread names heads (single k) (single p)
   alone_spread k p lt is none = leaf_spread k (single p) lt (λ q. (
-    λ h. let e : q ≡ get_or heads k 0 = (has-single p q).0 h ∙ is in subst (IsPartOf names (get_or heads k 0)) (sym e) (head_named k lt),
+    λ h. let e : q ≡ get_or heads k 0 = (has-single p q).0 h ∙ is in subst (IsInNode names (get_or heads k 0)) (sym e) (head_named k lt),
     λ of. (has-single p q).1 ((shown.each (get_or heads k 0) (head_named k lt)).alone (subst (λ n. get_or lists n [] ≡ []) is none) q of ∙ sym is),
   ))
 

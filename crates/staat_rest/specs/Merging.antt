@@ -7,7 +7,7 @@ use Rattle.staat_model.specs.declared.assembly.Part.{Part}
 use Rattle.staat_model.specs.Assemblies.{piece_at, piece_count}
 use Rattle.staat_holds.specs.Chains.{IsName}
 use Rattle.staat_rest.specs.declared.merging.Origin.{Origin}
-use Rattle.staat_rest.specs.Nodes.{IsPartOf}
+use Rattle.staat_rest.specs.Nodes.{IsInNode}
 
 -- the names of the nodes, ascending
 abbrev pub AreHeads : List ℕ → List ℕ → Type 0
@@ -15,8 +15,8 @@ AreHeads names heads = Lists nat_cmp (IsName names) heads
 
 -- the pieces of the parts of the node n, by part and piece
 pub record AreOrigins (parts : List Part) (names : List ℕ) (n : ℕ) (origins : List Origin) : Type 0 where
-  pub each : All (λ o. IsPartOf names n o.part × (o.piece < piece_count parts o.part)) origins
-  pub all : (p i : ℕ) → IsPartOf names n p → i < piece_count parts p
+  pub each : All (λ o. IsInNode names n o.part × (o.piece < piece_count parts o.part)) origins
+  pub all : (p i : ℕ) → IsInNode names n p → i < piece_count parts p
       → Contains origins (record { part = p; piece = i })
   pub few : length origins < 2 ^ 32
 

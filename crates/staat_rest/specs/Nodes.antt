@@ -13,23 +13,23 @@ KeepFrom parts names (hold ∷ holds) =
     KeepsHoldRules parts names hold × KeepFrom parts (map (joined_name hold.nodes) names) holds
 
 -- the part p belongs to the node n
-abbrev pub IsPartOf : List ℕ → (n p : ℕ) → Type 0
-IsPartOf names n p = slice_get names p ≡ Some n
+abbrev pub IsInNode : List ℕ → (n p : ℕ) → Type 0
+IsInNode names n p = slice_get names p ≡ Some n
 
 -- the second list names each part of one of these nodes as the first does, and each other part by itself
 pub record NamesOnly (names nodes now : List ℕ) : Type 0 where
   pub many : length now ≡ length names
-  pub joined : (p n : ℕ) → IsPartOf names n p → Contains nodes n → slice_get now p ≡ Some n
-  pub others : (p n : ℕ) → IsPartOf names n p → (Contains nodes n → ⊥) → slice_get now p ≡ Some p
+  pub joined : (p n : ℕ) → IsInNode names n p → Contains nodes n → slice_get now p ≡ Some n
+  pub others : (p n : ℕ) → IsInNode names n p → (Contains nodes n → ⊥) → slice_get now p ≡ Some p
 
 -- the holds, by themselves, join the parts of the node n; there are none where it is a part by itself
 pub record ShowsNode (parts : List Part) (names : List ℕ) (n : ℕ) (holds : List Hold) : Type 0 where
   pub ordered : All IsOrderedHold holds
   pub keep : KeepFrom parts (own_names (length parts)) holds
-  pub within : All (λ hold. All (IsPartOf names n) hold.nodes) holds
+  pub within : All (λ hold. All (IsInNode names n) hold.nodes) holds
   pub named : NamesOnly names (n ∷ []) (names_after (own_names (length parts)) holds)
-  pub alone : holds ≡ [] → (p : ℕ) → IsPartOf names n p → p ≡ n
-  pub joined : 1 ≤ length holds → (p : ℕ) → IsJoinedLast parts holds p ↔ IsPartOf names n p
+  pub alone : holds ≡ [] → (p : ℕ) → IsInNode names n p → p ≡ n
+  pub joined : 1 ≤ length holds → (p : ℕ) → IsJoinedLast parts holds p ↔ IsInNode names n p
 
 -- each part has the name of a node, and the list at the place of a node's name shows that node
 pub record AreShown (parts : List Part) (names : List ℕ) (lists : List (List Hold)) : Type 0 where

@@ -5,7 +5,7 @@ ghost use Rattle.std.specs.List.{AllZip};
 ghost use Rattle.staat_model.specs.Assemblies.{piece_at, piece_count};
 ghost use Rattle.staat_rest.specs.declared.merging.Origin.{Origin as OriginValue};
 ghost use Rattle.staat_rest.specs.Merging.{AreHeads, AreMerged, AreOrigins, IsMergedPart};
-ghost use Rattle.staat_rest.specs.Nodes.{IsPartOf};
+ghost use Rattle.staat_rest.specs.Nodes.{IsInNode};
 
 use staat_model::{Part, Parts, Piece, Pieces, Points};
 use staat_vec::{Listed, Name, OutOfMemory};
@@ -73,7 +73,7 @@ fn pieces_of(
     requires count { length parts.now < 2 ^ 32 }
     requires pieces { All (λ part. length part.pieces < 2 ^ 32) parts.now }
     ensures { IfOk result (λ origins. (o : OriginValue) → Contains origins.items o
-        ↔ (IsPartOf names.now node o.part × (o.piece < piece_count parts.now o.part))) }
+        ↔ (IsInNode names.now node o.part × (o.piece < piece_count parts.now o.part))) }
 {
     let mut origins = Vec::new(alloc);
     for p in 0..names.len() {

@@ -22,7 +22,7 @@ use Rattle.staat_ring.specs.Linking.{AreLinkedBelow, CanBeLinked, HasCircle}
 use Rattle.staat_ring.specs.Numbered.{head_number, node_number}
 use Rattle.staat_ring.specs.Planes.{entries_of, entries_on}
 use Rattle.staat_ring.specs.Rings.{AreRings, IsRingOf, Ring, RingStop, WereMadeFrom, entry_number, linked_of, plane_at, stop_of, vertex_of}
-use Rattle.staat_ring.specs.RingInvariant.{AreKept}
+use Rattle.staat_ring.specs.RingInvariant.{HaveTakenOut}
 use Rattle.staat_ring.specs.RingViews.{StandForCircles, CanBeUndone, arrangement_of, numbers_below, entry_numbered, is_out, plane_of, ring_of, rings_of, shape, still_linked}
 use Rattle.staat_ring.specs.Stands.{AllPresent, InRange, IsPresent, IsRing, StandFor, Tagged, home_of, is_empty}
 use Rattle.staat_ring.specs.Views.{lists_of}
@@ -352,7 +352,7 @@ module _ (planes : List V3) (table : AreTablePlanes planes) (few : length planes
   sound zero lt = good
   sound (suc k) lt = absurd (omega (arith, lt))
 
-  pub kept : (order : List ℕ) → length order ≡ n → AreKept n 0 order a
+  pub kept : (order : List ℕ) → length order ≡ n → HaveTakenOut n 0 order a
   kept order size = record {
     few = few;
     room = are.sizes.home;

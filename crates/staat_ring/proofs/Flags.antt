@@ -5,7 +5,7 @@ use Rattle.std.proofs.Math.ListN.{length-set}
 use Rattle.std.proofs.lemmas.List.{get_or-set_other}
 use Rattle.std.proofs.lemmas.Grind.{get_or-set_at}
 use Rattle.staat_ring.specs.Links.{Arrays}
-use Rattle.staat_ring.specs.RingInvariant.{AreFlags, AreKept, AreFlagged}
+use Rattle.staat_ring.specs.RingInvariant.{AreFlags, HaveTakenOut, AreFlagged}
 use Rattle.staat_ring.specs.RingViews.{is_out, numbers_below, still_linked}
 use Rattle.staat_ring.proofs.Mapped.{differ, same_or}
 use Rattle.staat_ring.proofs.RingLemmas.{filter_by, listed-push}
@@ -49,7 +49,7 @@ popped n p out flags lp free are = record {
 }
 
 -- the plane that was unlinked last was linked before
-once_out : (n count : ℕ) (order : List ℕ) (a : Arrays) (p : ℕ) → AreKept n count order a → 0 < count → take count order ≡ take (count - 1) order ++ p ∷ [] → is_out (take (count - 1) order) p ≡ false
+once_out : (n count : ℕ) (order : List ℕ) (a : Arrays) (p : ℕ) → HaveTakenOut n count order a → 0 < count → take count order ≡ take (count - 1) order ++ p ∷ [] → is_out (take (count - 1) order) p ≡ false
 once_out n count order a p k some split = go (is_out (take (count - 1) order) p) refl
   where
     twice : is_out (take (count - 1) order) p ≡ true → ⊥

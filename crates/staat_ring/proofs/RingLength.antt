@@ -6,7 +6,7 @@ use Rattle.std.specs.List.{filter}
 use Rattle.std.proofs.lemmas.List.{get_or_append_left, get_or_push, length-map}
 use Rattle.staat_model.proofs.Members.{All-from_members}
 use Rattle.staat_ring.specs.Links.{Arrays, Chain, Links, IsLinkedRing}
-use Rattle.staat_ring.specs.RingInvariant.{AreFlags, AreKept}
+use Rattle.staat_ring.specs.RingInvariant.{AreFlags, HaveTakenOut}
 use Rattle.staat_ring.specs.RingViews.{StandForCircles, arrangement_of, numbers_below, entry_numbered, is_out, ring_of, shape, still_linked}
 use Rattle.staat_ring.specs.Rings.{Arrangement, RingStop, linked_of}
 use Rattle.staat_ring.specs.Rings as rings
@@ -80,7 +80,7 @@ not_below a b h e = let lt : a < b = grind (arith, nat_tests) in omega (arith, h
 abbrev pub circle_nodes : ℕ → Arrays → ℕ → List ℕ
 circle_nodes n a c = (lists_of (shape n) a).vertices c
 
-module _ (n count : ℕ) (order : List ℕ) (a : Arrays) (now : Arrangement) (view : arrangement_of n (take count order) a ≡ now) (is : AreKept n count order a) where
+module _ (n count : ℕ) (order : List ℕ) (a : Arrays) (now : Arrangement) (view : arrangement_of n (take count order) a ≡ now) (is : HaveTakenOut n count order a) where
   abbrev out : List ℕ
   out = take count order
 

@@ -11,7 +11,7 @@ use Rattle.staat_ring.specs.RingViews.{rings_at, rings_of, undo, arrangement_of,
 use Rattle.staat_ring.specs.Rings.{Arrangement, Kept, Ring}
 use Rattle.staat_ring.specs.Without.{IsUnlinked, kept_plane, rings_without}
 use Rattle.staat_ring.specs.Views.{lists_of}
-use Rattle.staat_ring.specs.RingInvariant.{AreKept}
+use Rattle.staat_ring.specs.RingInvariant.{HaveTakenOut}
 use Rattle.staat_ring.proofs.ViewLemmas.{kept-push}
 use Rattle.staat_ring.proofs.SoundLemmas.{good-unlink, undone, rings-unlink}
 use Rattle.staat_ring.proofs.Unlinking.{sound_is_good, sound-push, sound-pop, planes_of_rings, linked_plane, one_less}
@@ -23,7 +23,7 @@ is_linked n out a v p e c = subst (λ xs. Contains xs p) (ap (λ x. map (λ r. r
 pub is_small : (n : ℕ) (out : List ℕ) (a : Arrays) (v : Arrangement) (p : ℕ) → arrangement_of n out a ≡ v → Contains (map (λ r. r.plane) v.rings) p → p < n
 is_small n out a v p e c = (linked_plane n out p (is_linked n out a v p e c)).0
 
-pub has_room : (n count : ℕ) (order : List ℕ) (a : Arrays) (v : Arrangement) (p : ℕ) → AreKept n count order a → arrangement_of n (take count order) a ≡ v → Contains (map (λ r. r.plane) v.rings) p → count < n
+pub has_room : (n count : ℕ) (order : List ℕ) (a : Arrays) (v : Arrangement) (p : ℕ) → HaveTakenOut n count order a → arrangement_of n (take count order) a ≡ v → Contains (map (λ r. r.plane) v.rings) p → count < n
 has_room n count order a v p k e c =
     let l = is_linked n (take count order) a v p e c in
     let s = l.1 in
@@ -33,7 +33,7 @@ has_room n count order a v p k e c =
 pub order_push : (count : ℕ) (order : List ℕ) (p : ℕ) → count < length order → take (count + 1) (set order count p) ≡ take count order ++ p ∷ []
 order_push count order p lt = ap (λ k. take k (set order count p)) (add-one count) ∙ take-suc-set order count p lt
 
-module _ (n count : ℕ) (order : List ℕ) (a b : Arrays) (v : Arrangement) (p : ℕ) (k : AreKept n count order a) (e : arrangement_of n (take count order) a ≡ v) (c : Contains (map (λ r. r.plane) v.rings) p) (is : b ≡ take_all (entries_of n p n) a) where
+module _ (n count : ℕ) (order : List ℕ) (a b : Arrays) (v : Arrangement) (p : ℕ) (k : HaveTakenOut n count order a) (e : arrangement_of n (take count order) a ≡ v) (c : Contains (map (λ r. r.plane) v.rings) p) (is : b ≡ take_all (entries_of n p n) a) where
   linked : Contains (still_linked n (take count order)) p
   linked = is_linked n (take count order) a v p e c
 
@@ -63,7 +63,7 @@ module _ (n count : ℕ) (order : List ℕ) (a b : Arrays) (v : Arrangement) (p 
   pub unlink_is : IsUnlinked p v (arrangement_of n (take (count + 1) (set order count p)) b)
   unlink_is = record { rings = unlink_rings; unlinked = unlink_kept }
 
-  pub unlink_invariant : length b.home ≡ length a.home → AreKept n (count + 1) (set order count p) b
+  pub unlink_invariant : length b.home ≡ length a.home → HaveTakenOut n (count + 1) (set order count p) b
   unlink_invariant h =
       let l = linked_plane n (take count order) p linked in
       let s = k.size in
@@ -111,7 +111,7 @@ not_nil : {X : Type 0} (xs : List X) (x : X) → [] ≡ xs ++ x ∷ [] → ⊥
 not_nil [] x e = cc
 not_nil (y ∷ xs) x e = cc
 
-module _ (n count : ℕ) (order : List ℕ) (a : Arrays) (v : Arrangement) (p : ℕ) (k : AreKept n count order a) (e : arrangement_of n (take count order) a ≡ v)
+module _ (n count : ℕ) (order : List ℕ) (a : Arrays) (v : Arrangement) (p : ℕ) (k : HaveTakenOut n count order a) (e : arrangement_of n (take count order) a ≡ v)
     (u : List (Kept (List Ring))) (before : List Ring) (last : v.unlinked ≡ u ++ kept_plane p before ∷ []) where
   pub some : 0 < count
   some = go count refl
@@ -154,7 +154,7 @@ module _ (n count : ℕ) (order : List ℕ) (a : Arrays) (v : Arrangement) (p : 
       ∙ (ap (λ q. kept_of (undo n) (rings_at n) [] (take (count - 1) order) (undo n q a) ++ (record { plane = q; before = rings_at n (take (count - 1) order) (undo n q a) }) ∷ []) is_last
       ∙ ap (λ x. kept_of (undo n) (rings_at n) [] (take (count - 1) order) x ++ (record { plane = p; before = rings_at n (take (count - 1) order) x }) ∷ []) (sym is))
 
-  pub relink_invariant : (b : Arrays) → b ≡ give_all (entries_of n p n) a → length b.home ≡ length a.home → AreKept n (count - 1) order b
+  pub relink_invariant : (b : Arrays) → b ≡ give_all (entries_of n p n) a → length b.home ≡ length a.home → HaveTakenOut n (count - 1) order b
   relink_invariant b is h =
       let s = some in
       let m = k.most in

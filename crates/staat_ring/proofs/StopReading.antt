@@ -10,7 +10,7 @@ use Rattle.staat_ring.specs.declared.entry.Entry.{Entry}
 use Rattle.staat_ring.specs.Links.{Arrays, Links}
 use Rattle.staat_ring.specs.Numbered.{head_number}
 use Rattle.staat_ring.specs.Places.{IsAtEntry, IsStopAt, cursor, plane_count}
-use Rattle.staat_ring.specs.RingInvariant.{AreKept}
+use Rattle.staat_ring.specs.RingInvariant.{HaveTakenOut}
 use Rattle.staat_ring.specs.RingViews.{StandForCircles, arrangement_of, entry_numbered, ring_of, rings_at, shape, undo}
 use Rattle.staat_ring.specs.Rings.{Arrangement, Ring, RingStop, entry_number, linked_of}
 use Rattle.staat_ring.specs.Stands.{IsRing, IsShortRing, RingLists, home_of}
@@ -65,7 +65,7 @@ kept_length undo rings done (p ∷ ps) a = ap suc (kept_length undo rings (done 
 
 -- ---- the stops of the rings
 
-module _ (n count : ℕ) (order : List ℕ) (a : Arrays) (now : Arrangement) (view : arrangement_of n (take count order) a ≡ now) (is : AreKept n count order a)
+module _ (n count : ℕ) (order : List ℕ) (a : Arrays) (now : Arrangement) (view : arrangement_of n (take count order) a ≡ now) (is : HaveTakenOut n count order a)
     (same : length a.circles.next ≡ length a.home) (same_vertices : length a.vertices.next ≡ length a.home) where
   abbrev out : List ℕ
   out = take count order

@@ -18,7 +18,7 @@ use Rattle.staat_limits.specs.declared.limits.TheConstants.{MOST_PLANES}
 use Rattle.staat_ring.specs.Links.{Arrays}
 use Rattle.staat_ring.specs.RingViews.{CanBeUndone, is_out, still_linked}
 
-pub record AreKept (n count : ℕ) (order : List ℕ) (a : Arrays) : Type 0 where
+pub record HaveTakenOut (n count : ℕ) (order : List ℕ) (a : Arrays) : Type 0 where
   pub few : n ≤ MOST_PLANES
   pub room : length a.home ≡ 4 * (n * n)
   pub size : length order ≡ n
@@ -34,5 +34,5 @@ pub record AreFlags (n : ℕ) (out : List ℕ) (flags : List Bool) : Type 0 wher
 
 -- what rings keep
 pub record AreFlagged (n count : ℕ) (order : List ℕ) (linked : List Bool) (a : Arrays) : Type 0 where
-  pub arrays : AreKept n count order a
+  pub arrays : HaveTakenOut n count order a
   pub flags : AreFlags n (take count order) linked

@@ -26,7 +26,7 @@ use Rattle.staat_input.specs.Work.{Files, Found, answer}
 use Rattle.staat_input.proofs.OneFinding.{IsSettled, given_not_fault, given_one}
 use Rattle.staat_input.proofs.OneInput.{sound_product_one}
 use Rattle.staat_input.proofs.SoundParts.{same_answer, same_status, sound_product_parts}
-use Rattle.staat_deciding.specs.Deciding.{DecideWork, IsDecidedAs, IsDecidedShort, IsRefusalOf, apart, held}
+use Rattle.staat_deciding.specs.Deciding.{DecideWork, IsDecidedAs, IsDecidedShort, IsShortRefusal, apart, held}
 use Rattle.staat_deciding.specs.Deciding.{all_apart, some_apart, short_plan, short_refusal, long_refusal}
 use Rattle.staat_deciding.specs.Deciding.{SaysDecidedPlan, SaysDecidedStuck, SaysPartialPlan, SaysPlanAs}
 use Rattle.staat_deciding.specs.Deciding.{SaysProductPlan, SaysShortPlan, SaysShortRefusal, SaysStuckAs, SaysStuckParts}
@@ -98,7 +98,7 @@ decide_is_denied request files a bounds (inr (built, found, d)) one = stuck_said
 -- what is found is an answer, or that the text of a valid refusal's certificate, which was asked for, is too long
 pub data IsAnswered (parts : List Part) (rest certificate : Bool) (found : Found Answer) : Type 0 where
   gives : (a : Answer) → found ≡ Ok a → a.status < 2 → IsAnswered parts rest certificate found
-  is_long : (c : ShortCertificate) (n : ℕ) → certificate ≡ true → IsShortVerdict parts c ValidRefusal → IsRefusalOf rest c.answer → IsShortInOrder c → TEXT_LIMIT < length (short_text c) → found ≡ Err (TextTooLong n) → IsAnswered parts rest certificate found
+  is_long : (c : ShortCertificate) (n : ℕ) → certificate ≡ true → IsShortVerdict parts c ValidRefusal → IsShortRefusal rest c.answer → IsShortInOrder c → TEXT_LIMIT < length (short_text c) → found ≡ Err (TextTooLong n) → IsAnswered parts rest certificate found
 
 short_answered : (parts : List Part) (found : Found Answer) (rest : Bool) → IsDecidedShort rest parts found → IsAnswered parts rest true found
 short_answered parts found rest (short_plan c text valid is short e) = gives (answer 0 text) e (omega arith)

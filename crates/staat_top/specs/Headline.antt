@@ -30,7 +30,7 @@ use Rattle.staat_judging.specs.Confirming.{KeepsShortRules}
 use Rattle.staat_input.specs.Counting.{all_parts}
 use Rattle.staat_input.specs.Kept.{KeepsNamed}
 use Rattle.staat_input.specs.Assembling.{AreSoundParts, AreSoundProductParts}
-use Rattle.staat_deciding.specs.Deciding.{IsRefusalOf, SaysDecidedPlan, SaysDecidedStuck}
+use Rattle.staat_deciding.specs.Deciding.{IsShortRefusal, SaysDecidedPlan, SaysDecidedStuck}
 use Rattle.staat_top.specs.KeptProducts.{KeepsProductInput}
 use Rattle.staat_top.specs.Replies.{IsReply, Reply, answered}
 use Rattle.staat_planning.specs.Planning.{SaysGoodPlan, SaysStuckSet}
@@ -69,7 +69,7 @@ pub record IsLongRefusal (parts : List Part) (request : DecideRequest) (status :
   pub asks : request.certificate ≡ true
   pub refusal : ShortCertificate
   pub valid : IsShortVerdict parts refusal verdicts.ValidRefusal
-  pub kind : IsRefusalOf request.rest refusal.answer
+  pub kind : IsShortRefusal request.rest refusal.answer
   pub order : IsShortInOrder refusal
   pub long : TEXT_LIMIT < length (short_text refusal)
 

@@ -32,7 +32,8 @@ use Rattle.staat_words.specs.declared.request.DrillProduct.{DrillProduct}
 use Rattle.staat_words.specs.declared.request.DrillProduct.TheVariants.{Boxes, Cubes}
 use Rattle.staat_words.specs.declared.request.Request.{Request}
 use Rattle.staat_words.specs.declared.request.Request.TheVariants.{Pair, Look, Graph, Plan, Check, Cells}
-use Rattle.staat_words.specs.declared.request.Request.TheVariants.{Drill, Explode, Linear, Local, Decide, Confirm, Blocks}
+use Rattle.staat_words.specs.declared.request.Request.TheVariants.{Drill, Explode, Linear, Local, Decide}
+use Rattle.staat_words.specs.declared.request.Request.TheVariants.{Confirm, Blocks}
 use Rattle.staat_words.specs.declared.request.RequestRefusal.{RequestRefusal}
 use Rattle.staat_words.specs.declared.request.RequestRefusal.TheVariants.{Usage, OutOfMemory}
 use Rattle.staat_words.specs.Spelled.{◌>>=◌, vector_within}

@@ -1,5 +1,5 @@
 use Rattle.std.proofs.Common.{ℕ, List, ◌≤◌, subst, sym, take, ◌∙◌}
-use Rattle.staat_ring.specs.RingInvariant.{AreFlags, AreKept}
+use Rattle.staat_ring.specs.RingInvariant.{AreFlags, HaveTakenOut}
 use Rattle.staat_ring.specs.Rings.{WereMadeFrom}
 use Rattle.staat_ring.specs.RingViews.{arrangement_of}
 use Rattle.staat_ring.proofs.Built.{kept, made, take_none}
@@ -11,7 +11,7 @@ invariant_of-result c =
     let n_is = c.len-planes.ensures.is in
     record {
       arrays =
-          subst (λ n. AreKept n 0 c.in_ok-order.order.items c.in_ok-arrays.arrays) (sym n_is)
+          subst (λ n. HaveTakenOut n 0 c.in_ok-order.order.items c.in_ok-arrays.arrays) (sym n_is)
           (kept c.args.table.now.planes c.len-planes.ensures.rules.planes (subst (λ n. n ≤ 1024) n_is c.len-planes.ensures.most) (subst (λ n. 3 ≤ n) n_is c.len-planes.ensures.least)
           c.in_ok-arrays.arrays c.all_in_range.ensures.circles c.all_in_range.ensures.vertices c.in_ok-arrays.ensures c.in_ok-order.order.items (c.in_ok-order.ensures.length ∙ n_is));
       flags = subst (λ (o : List ℕ). AreFlags c.len-planes.result o c.in_ok-linked.linked.items) (sym (take_none c.in_ok-order.order.items))
