@@ -1,5 +1,6 @@
 -- The parts of the nodes of a short certificate, and where plans stand among the nodes.
-use Rattle.std.specs.Prelude.{◌≡◌, ◌⊎◌, ℕ, ◌<◌, ◌≤◌, List, ◌++◌, Some, drop, length, slice_get}
+use Rattle.std.specs.Prelude.{◌≡◌, ◌⊎◌, ℕ, ◌<◌, ◌≤◌, List, ◌++◌, Some, drop, length}
+use Rattle.std.specs.Prelude.{slice_get}
 use Rattle.std.specs.Ordering.{nat_cmp}
 use Rattle.staat_vec.specs.Lists.{IsLeast}
 use Rattle.staat_model.specs.declared.assembly.Part.{Part}

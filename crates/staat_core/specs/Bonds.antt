@@ -11,4 +11,5 @@ use Rattle.staat_model.specs.Sets.{Has}
 -- what is free along d of the rest of w, as far as the arcs tell, has both p and q or neither
 abbrev pub AreTogether : List Part → List Arc → PartSet → V3 → ℕ → ℕ → Type 0
 AreTogether parts arcs w d p q =
-    (s : PartSet) → IsFreeInCore parts arcs s (set.difference w s) d → (Has s p → Has s q) × (Has s q → Has s p)
+    (s : PartSet) → IsFreeInCore parts arcs s (set.difference w s) d
+    → (Has s p → Has s q) × (Has s q → Has s p)

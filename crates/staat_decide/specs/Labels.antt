@@ -1,5 +1,6 @@
 -- Labels of the parts of a list, and the sets of those with the same label.
-use Rattle.std.specs.Prelude.{◌≡◌, ℕ, ◌<◌, ◌≤◌, ◌↔◌, List, [], ◌∷◌, Bool, false, All, Contains, IsTrue}
+use Rattle.std.specs.Prelude.{◌≡◌, ℕ, ◌<◌, ◌≤◌, ◌↔◌, List, [], ◌∷◌, Bool, false, All}
+use Rattle.std.specs.Prelude.{Contains, IsTrue}
 use Rattle.std.specs.Prelude.{get_or, length, map}
 use Rattle.std.specs.List.Sorted.{IsStrictlySortedBy}
 use Rattle.std.specs.Ordering.{nat_cmp}

@@ -1,5 +1,6 @@
 -- Which places are reached along arcs or against them, and how they are marked.
-use Rattle.std.specs.Prelude.{◌≡◌, ℕ, ◌+◌, ◌<◌, List, [], ◌∷◌, Bool, true, false, IsTrue, get_or, length}
+use Rattle.std.specs.Prelude.{◌≡◌, ℕ, ◌+◌, ◌<◌, List, [], ◌∷◌, Bool, true, false, IsTrue, get_or}
+use Rattle.std.specs.Prelude.{length}
 use Rattle.staat_decide.specs.declared.reach.Way.{Way}
 use Rattle.staat_decide.specs.declared.reach.Way.TheVariants.{Ahead, Back}
 
@@ -16,7 +17,8 @@ Leads Back rows i j = HasRowArc rows j i
 abbrev pub IsReachedPlace : Way → List (List Bool) → ℕ → Type 0
 IsReachedPlace way rows j =
     (has : ℕ → Bool) → IsTrue (has 0)
-    → ((i k : ℕ) → i < length rows → k < length rows → Leads way rows i k → IsTrue (has i) → IsTrue (has k))
+    → ((i k : ℕ) → i < length rows → k < length rows → Leads way rows i k → IsTrue (has i)
+    → IsTrue (has k))
     → IsTrue (has j)
 
 abbrev pub AreAllReached : Way → List (List Bool) → Type 0
@@ -31,7 +33,8 @@ LeadsToMarked way rows marks i = (j : ℕ) → j < length marks → Leads way ro
 
 -- it leads from no marked place to one that is not marked
 abbrev pub IsClosedAlong : Way → List (List Bool) → List Bool → Type 0
-IsClosedAlong way rows marks = (i : ℕ) → i < length marks → IsMarkedPlace marks i → LeadsToMarked way rows marks i
+IsClosedAlong way rows marks =
+    (i : ℕ) → i < length marks → IsMarkedPlace marks i → LeadsToMarked way rows marks i
 
 -- j is not marked, and the way leads there from a marked place
 pub record IsNextPlace (way : Way) (rows : List (List Bool)) (marks : List Bool) (j : ℕ) : Type 0 where

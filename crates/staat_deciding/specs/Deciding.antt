@@ -1,5 +1,6 @@
 -- A plan that takes a product of any size apart, or parts of it that are stuck, and how either is written.
-use Rattle.std.specs.Prelude.{◌≡◌, ◌<◌, ◌≤◌, ◌^◌, ℕ, Bool, true, false, List, [], All, length, Ok, Err}
+use Rattle.std.specs.Prelude.{◌≡◌, ◌<◌, ◌≤◌, ◌^◌, ℕ, Bool, true, false, List, [], All, length, Ok}
+use Rattle.std.specs.Prelude.{Err}
 use Rattle.std.specs.List.Sorted.{IsStrictlySortedBy}
 use Rattle.std.specs.Ordering.{nat_cmp}
 use Rattle.staat_limits.specs.declared.limits.TheConstants.{TEXT_LIMIT}
@@ -57,10 +58,11 @@ IsShortRefusal true (Rest nodes) = Unit {0}
 -- refusal. Only that of a refusal can be too long.
 pub data IsDecidedShort (rest : Bool) (parts : List Part) : Found Answer → Type 0 where
   short_plan : {found : Found Answer} (c : ShortCertificate) (text : List ℕ) → IsShortVerdict parts c ValidPlan →
-      IsShortTextOf text c → length text ≤ TEXT_LIMIT → found ≡ Ok (answer 0 text) → IsDecidedShort rest parts found
-  short_refusal : {found : Found Answer} (c : ShortCertificate) (text : List ℕ) → IsShortVerdict parts c ValidRefusal →
-      IsShortRefusal rest c.answer → IsShortTextOf text c → length text ≤ TEXT_LIMIT → found ≡ Ok (answer 1 text) →
+      IsShortTextOf text c → length text ≤ TEXT_LIMIT → found ≡ Ok (answer 0 text) →
       IsDecidedShort rest parts found
+  short_refusal : {found : Found Answer} (c : ShortCertificate) (text : List ℕ) →
+      IsShortVerdict parts c ValidRefusal → IsShortRefusal rest c.answer → IsShortTextOf text c →
+      length text ≤ TEXT_LIMIT → found ≡ Ok (answer 1 text) → IsDecidedShort rest parts found
   long_refusal : {found : Found Answer} (c : ShortCertificate) (n : ℕ) → IsShortVerdict parts c ValidRefusal →
       IsShortRefusal rest c.answer → IsShortInOrder c → TEXT_LIMIT < length (short_text c) →
       (length (short_text c) < 2 ^ 128 → n ≡ length (short_text c)) → found ≡ Err (TextTooLong n) →

@@ -20,7 +20,8 @@ Narrows before now = (files : List (List ℕ × List ℕ)) → Fit now files →
 
 -- these are all the bytes of the file, in all files that fit
 abbrev pub IsWhole : ShelfTold → List ℕ → List ℕ → Type 0
-IsWhole told name bytes = (files : List (List ℕ × List ℕ)) → Fit told files → bytes_of name files ≡ Some bytes
+IsWhole told name bytes =
+    (files : List (List ℕ × List ℕ)) → Fit told files → bytes_of name files ≡ Some bytes
 
 -- the file has more bytes than that, in all files that fit
 abbrev pub IsLonger : ShelfTold → List ℕ → ℕ → Type 0

@@ -1,5 +1,6 @@
 -- Graphs in rows of marks, on any number of parts: row a has a mark at the place b where an arc leads from a to b.
-use Rattle.std.specs.Prelude.{◌≡◌, ◌⊎◌, ℕ, ◌+◌, ◌*◌, ◌<◌, List, [], ◌∷◌, Bool, true, false, ◌&&◌, ◌||◌, All, IsTrue}
+use Rattle.std.specs.Prelude.{◌≡◌, ◌⊎◌, ℕ, ◌+◌, ◌*◌, ◌<◌, List, [], ◌∷◌, Bool, true}
+use Rattle.std.specs.Prelude.{false, ◌&&◌, ◌||◌, All, IsTrue}
 use Rattle.std.specs.Prelude.{get_or, length, map}
 use Rattle.std.specs.List.Sorted.{IsStrictlySortedBy}
 use Rattle.std.specs.Ordering.{nat_cmp}
@@ -23,7 +24,8 @@ IsSquare rows = All (λ row. length row ≡ length rows) rows
 -- the new row has the marks of the old one, and where the old one leads to k also those of the row of k
 pub record LeadsOn (k : ℕ) (through old new : List Bool) : Type 0 where
   pub count : length new ≡ length old
-  pub marks : (j : ℕ) → get_or new j false ≡ (get_or old j false || (get_or old k false && get_or through j false))
+  pub marks : (j : ℕ)
+      → get_or new j false ≡ (get_or old j false || (get_or old k false && get_or through j false))
 
 -- each row that leads to k leads on to where k leads
 pub record AllLeadOn (k : ℕ) (old new : List (List Bool)) : Type 0 where
@@ -35,7 +37,8 @@ pub record AreWalkRows (rows table : List (List Bool)) : Type 0 where
   pub count : length table ≡ length rows
   pub square : IsSquare table
   pub walks : (i j : ℕ) → HasMark table i j → Walks (HasArc (map row_word rows)) (below (length rows)) i j
-  pub all : (i j : ℕ) → Walks (HasArc (map row_word rows)) (below (length rows)) i j → (i ≡ j) ⊎ HasMark table i j
+  pub all : (i j : ℕ) → Walks (HasArc (map row_word rows)) (below (length rows)) i j
+      → (i ≡ j) ⊎ HasMark table i j
 
 -- q is p, or each leads to the other
 abbrev pub IsMutualMark : List (List Bool) → ℕ → ℕ → Type 0

@@ -1,6 +1,7 @@
 -- Holds one after another, where what a hold joins is one node from then on. A list of names has for each part the
 -- name of its node.
-use Rattle.std.specs.Prelude.{◌≡◌, ℕ, ◌+◌, ◌-◌, ◌<◌, ◌≤◌, ◌↔◌, Bool, cond, List, [], ◌∷◌, All, Contains, Option, Some}
+use Rattle.std.specs.Prelude.{◌≡◌, ℕ, ◌+◌, ◌-◌, ◌<◌, ◌≤◌, ◌↔◌, Bool, cond, List, []}
+use Rattle.std.specs.Prelude.{◌∷◌, All, Contains, Option, Some}
 use Rattle.std.specs.Prelude.{get_or, length, map, nat_eq, slice_get, take}
 use Rattle.std.specs.List.{list_any, position, range_with_len}
 use Rattle.std.specs.List.Sorted.{IsStrictlySortedBy}

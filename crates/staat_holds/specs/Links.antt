@@ -1,5 +1,6 @@
 -- The pairs of a core by the nodes of their parts, with the facets of the two pieces.
-use Rattle.std.specs.Prelude.{◌≡◌, ◌≢◌, ◌⊎◌, ℕ, ◌<◌, pos, ◌<ℤ◌, Option, List, [], ◌∷◌, ◌++◌, All, Contains}
+use Rattle.std.specs.Prelude.{◌≡◌, ◌≢◌, ◌⊎◌, ℕ, ◌<◌, pos, ◌<ℤ◌, Option, List, []}
+use Rattle.std.specs.Prelude.{◌∷◌, ◌++◌, All, Contains}
 use Rattle.staat_vec.specs.declared.vector.V3.{V3}
 use Rattle.staat_vec.specs.declared.vector.TheConstants.{NORMAL}
 use Rattle.staat_vec.specs.Lists.{Lists}

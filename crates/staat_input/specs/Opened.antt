@@ -27,7 +27,8 @@ pub record OpensListed (limits : Limits) (ends : Bool) (name : List ℕ) (more :
 abbrev pub OpensInput : Limits → Bool → Input → List (List ℕ) → ShelfTold → ShelfTold → Type 0
 OpensInput limits ends (input.Files names) more before now = OpensFiles ends (names ++ more) before now
 OpensInput limits ends (input.Manifest name) more before now =
-    ((ends ≡ false) × OpensSome (name ∷ []) before.given now.given) ⊎ OpensListed limits ends name more before now
+    ((ends ≡ false) × OpensSome (name ∷ []) before.given now.given)
+    ⊎ OpensListed limits ends name more before now
 
 -- the files opened are a beginning of those that the input names and then these
 abbrev pub OpensSomeOf : Limits → Input → List (List ℕ) → ShelfTold → ShelfTold → Type 0

@@ -37,5 +37,6 @@ pub record IsLongProductInput (asked : Asked) (shelf : ShelfSide) (name : List �
 -- what shows why a fault of `confirm` came
 abbrev pub HasConfirmCause : CheckRequest → ShelfSide → Fault → Type 0
 HasConfirmCause request shelf (TooLong name) =
-    IsLongProductInput request.asked shelf name ⊎ ((name ≡ request.certificate) × IsPastLimit TEXT_LIMIT shelf name)
+    IsLongProductInput request.asked shelf name
+    ⊎ ((name ≡ request.certificate) × IsPastLimit TEXT_LIMIT shelf name)
 HasConfirmCause request shelf fault = HasCause shelf fault

@@ -1,5 +1,6 @@
 -- What is kept of all pieces for one direction, and the parts that it was made from.
-use Rattle.std.specs.Prelude.{ℕ, ◌<◌, List, [], All, Option, length, option_and_then, option_map, slice_get, unwrap_or}
+use Rattle.std.specs.Prelude.{ℕ, ◌<◌, List, [], All, Option, length, option_and_then, option_map, slice_get}
+use Rattle.std.specs.Prelude.{unwrap_or}
 use Rattle.staat_vec.specs.declared.vector.V3.{V3}
 use Rattle.staat_vec.specs.declared.vector.TheConstants.{DIRECTION}
 use Rattle.staat_vec.specs.Vectors.{IsWithin, vector_cmp}

@@ -47,7 +47,8 @@ AreJoinedBounds s t result = (ps qs : List V3) → IsBounds ps s → IsBounds qs
 -- of the shadows of any two lists of points the result is that of both together
 abbrev pub IsJoinedShadow : Shadow → Shadow → Shadow → Type 0
 IsJoinedShadow s t result =
-    (frame : Frame) (ps qs : List V3) → IsShadow frame ps s → IsShadow frame qs t → IsShadow frame (ps ++ qs) result
+    (frame : Frame) (ps qs : List V3) → IsShadow frame ps s → IsShadow frame qs t
+    → IsShadow frame (ps ++ qs) result
 
 -- of the shadows of any pieces the whole is that of all their points
 abbrev pub IsWholeOf : List Shadow → Shadow → Type 0
