@@ -9,11 +9,13 @@ use Rattle.staat_words.specs.declared.request.Asked.{Asked}
 use Rattle.staat_words.specs.declared.request.Input.{Input}
 use Rattle.staat_words.specs.declared.request.Input.TheVariants as inputs
 use Rattle.staat_limits.specs.declared.limits.TheConstants.{FILE_LIMIT}
+use Rattle.staat_input.specs.declared.limits.Limits.{Limits}
+use Rattle.staat_input.specs.declared.limits.TheConstants.Limits.{ASSEMBLY, PRODUCT}
 use Rattle.staat_input.specs.Work.{Files, Found, Each, IsTakenWithin, to_read, too_long, taken}
 use Rattle.staat_input.specs.Pieces.{SaysPiece}
 use Rattle.staat_input.specs.Moved.{IsMovedPieceOf}
-use Rattle.staat_input.specs.Inputs.{IsListingOf, IsPartOf, IsInputOf, SaysListing}
-use Rattle.staat_input.specs.Assembling.{IsSoundOf}
+use Rattle.staat_input.specs.Inputs.{IsListingOfWithin, IsPartOf, IsInputOfWithin, SaysListingWithin}
+use Rattle.staat_input.specs.Assembling.{IsSoundOf, IsSoundProductOf}
 use Rattle.staat_input.specs.Kept.{KeepsNamed, names_list, names_piece}
 
 -- both hold the file with the same bytes
@@ -41,20 +43,24 @@ part_kept files others digits n part keeps (inl (fault, found, e)) = absurd cc
 part_kept files others digits n part keeps (inr (pieces, each, e)) =
     inr (pieces, each_kept (IsMovedPieceOf files digits n.at) (IsMovedPieceOf others digits n.at) n.pieces pieces (λ name points c. moved_kept files others digits n.at name points (keeps name c)) each, e)
 
-listing_kept : (files others : Files) (input : Input) (named : List ListedPart) → KeepsNamed files others input → IsListingOf files input (Ok named) → IsListingOf others input (Ok named)
-listing_kept files others (inputs.Manifest name) named keeps found = taken_kept FILE_LIMIT files others name (SaysListing name) named (λ bytes at. keeps name bytes (names_list refl) at) found
-listing_kept files others (inputs.Files names) named keeps e = e
+listing_kept : (limits : Limits) (files others : Files) (input : Input) (named : List ListedPart) → KeepsNamed limits files others input → IsListingOfWithin limits files input (Ok named) → IsListingOfWithin limits others input (Ok named)
+listing_kept limits files others (inputs.Manifest name) named keeps found = taken_kept FILE_LIMIT files others name (SaysListingWithin limits name) named (λ bytes at. keeps name bytes (names_list refl) at) found
+listing_kept limits files others (inputs.Files names) named keeps e = e
 
-input_kept : (files others : Files) (asked : Asked) (parts : List Part) → KeepsNamed files others asked.input → IsInputOf files asked (Ok parts) → IsInputOf others asked (Ok parts)
-input_kept files others asked parts keeps (inl (fault, found, e)) = absurd cc
-input_kept files others asked parts keeps (inr (named, listed, read)) =
+input_kept : (limits : Limits) (files others : Files) (asked : Asked) (parts : List Part) → KeepsNamed limits files others asked.input → IsInputOfWithin limits files asked (Ok parts) → IsInputOfWithin limits others asked (Ok parts)
+input_kept limits files others asked parts keeps (inl (fault, found, e)) = absurd cc
+input_kept limits files others asked parts keeps (inr (named, listed, read)) =
     inr (
       named,
-      listing_kept files others asked.input named keeps listed,
+      listing_kept limits files others asked.input named keeps listed,
       each_kept (IsPartOf files asked.digits) (IsPartOf others asked.digits) named parts
           (λ n part c. part_kept files others asked.digits n part (λ name there bytes at. keeps name bytes (names_piece named n listed c there) at)) read,
     )
 
-pub sound_kept : (files others : Files) (asked : Asked) (parts : List Part) → KeepsNamed files others asked.input → IsSoundOf files asked (Ok parts) → IsSoundOf others asked (Ok parts)
+pub sound_kept : (files others : Files) (asked : Asked) (parts : List Part) → KeepsNamed ASSEMBLY files others asked.input → IsSoundOf files asked (Ok parts) → IsSoundOf others asked (Ok parts)
 sound_kept files others asked parts keeps (inl (fault, found, e)) = absurd cc
-sound_kept files others asked parts keeps (inr (read, found, test)) = inr (read, input_kept files others asked read keeps found, test)
+sound_kept files others asked parts keeps (inr (read, found, test)) = inr (read, input_kept ASSEMBLY files others asked read keeps found, test)
+
+pub product_kept : (files others : Files) (asked : Asked) (parts : List Part) → KeepsNamed PRODUCT files others asked.input → IsSoundProductOf files asked (Ok parts) → IsSoundProductOf others asked (Ok parts)
+product_kept files others asked parts keeps (inl (fault, found, e)) = absurd cc
+product_kept files others asked parts keeps (inr (read, found, test)) = inr (read, input_kept PRODUCT files others asked read keeps found, test)

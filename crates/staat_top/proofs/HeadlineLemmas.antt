@@ -22,6 +22,7 @@ use Rattle.staat_input.specs.declared.answer.Answer.{Answer}
 use Rattle.staat_input.specs.Work.{Files}
 use Rattle.staat_input.specs.Assembling.{sound}
 use Rattle.staat_judging.specs.Checking.{verdict_answer}
+use Rattle.staat_input.specs.declared.limits.TheConstants.Limits.{ASSEMBLY}
 use Rattle.staat_input.specs.Kept.{KeepsNamed}
 use Rattle.staat_planning.specs.Planning.{IsWritten, certificate, outcome_answer, outcome_status, steps}
 use Rattle.staat_input.specs.Counting.{few}
@@ -99,7 +100,7 @@ is_held files request reply bounds is one =
 
 -- the answer of a plan is one whose certificate `check` calls valid
 pub is_checked : (files others : Files) (request : PlanRequest) (version : ℕ) (reply : Reply) (name : List ℕ) → IsPlanRequest request → request.certificate ≡ Some version → IsReply (Some (Plan request)) files reply → reply.status < 2
-    → KeepsNamed files others request.asked.input → bytes_of name others ≡ Some reply.out → IsReply (Some (Check (record { asked = request.asked; certificate = name }))) others (answered (answer 0 (valid_line reply.status)))
+    → KeepsNamed ASSEMBLY files others request.asked.input → bytes_of name others ≡ Some reply.out → IsReply (Some (Check (record { asked = request.asked; certificate = name }))) others (answered (answer 0 (valid_line reply.status)))
 is_checked files others request version reply name bounds asks is lt keeps held =
     let found = answer_in (Some (Plan request)) files is.found reply is.work is.makes lt in go found.0 found.1 found.2
   where

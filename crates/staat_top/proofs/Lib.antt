@@ -1,7 +1,6 @@
 pub mod CallLemmas
 pub mod DecideLemmas
 pub mod HeadlineLemmas
-pub mod KeptProducts
 pub mod OneReply
 pub mod OwnRuns
 pub mod PrintedLemmas

@@ -23,10 +23,11 @@ use Rattle.staat_judging.specs.Confirming.{KeepsShortRules, SaysShortValid, Show
 use Rattle.staat_judging.specs.Confirming.{short_verdict_answer}
 use Rattle.staat_judging.specs.Confirming.{short_plan as shows_plan, short_refusal as shows_refusal}
 use Rattle.staat_top.specs.Headline.{IsLongRefusal, valid_line}
-use Rattle.staat_top.specs.KeptProducts.{KeepsProductInput}
 use Rattle.staat_top.specs.Replies.{IsReply, MakesReply, Reply, answered, refused}
 use Rattle.staat_top.proofs.DecideLemmas.{IsAnswered, decide_answers, gives, is_long}
-use Rattle.staat_top.proofs.KeptProducts.{product_kept}
+use Rattle.staat_input.specs.declared.limits.TheConstants.Limits.{PRODUCT}
+use Rattle.staat_input.specs.Kept.{KeepsNamed}
+use Rattle.staat_input.proofs.KeptLemmas.{product_kept}
 use Rattle.staat_top.proofs.OneReply.{makes_settled, one_reply}
 use Rattle.staat_top.proofs.Replying.{answer_in}
 use Rattle.staat_top.proofs.RightLemmas.{status_is_right, status_is_denied}
@@ -116,7 +117,7 @@ asked_short rest false parts a asks d = absurd cc
 asked_short false true parts a asks d = d
 asked_short true true parts a asks d = d
 
-text_confirmed : (files others : Files) (asked : Asked) (name : List ℕ) (rest : Bool) (parts : List Part) (a : Answer) → KeepsProductInput files others asked.input → bytes_of name others ≡ Some a.text → IsSoundProductOf files asked (Ok parts) → IsDecidedShort rest parts (Ok a)
+text_confirmed : (files others : Files) (asked : Asked) (name : List ℕ) (rest : Bool) (parts : List Part) (a : Answer) → KeepsNamed PRODUCT files others asked.input → bytes_of name others ≡ Some a.text → IsSoundProductOf files asked (Ok parts) → IsDecidedShort rest parts (Ok a)
     → IsReply (Some (Confirm (record { asked = asked; certificate = name }))) others (answered (answer 0 (valid_line a.status)))
 text_confirmed files others asked name rest parts a keeps held read (short_plan c text valid is short e) =
     let own : a ≡ answer 0 text = cc in
@@ -129,7 +130,7 @@ text_confirmed files others asked name rest parts a keeps held read (short_refus
 text_confirmed files others asked name rest parts a keeps held read (long_refusal c n valid kind order long count e) = absurd cc
 
 -- the same of the answer of the work on `decide`
-answer_confirmed : (files others : Files) (request : DecideRequest) (name : List ℕ) (a : Answer) → request.certificate ≡ true → KeepsProductInput files others request.asked.input → bytes_of name others ≡ Some a.text → DecideWork request files (Ok a)
+answer_confirmed : (files others : Files) (request : DecideRequest) (name : List ℕ) (a : Answer) → request.certificate ≡ true → KeepsNamed PRODUCT files others request.asked.input → bytes_of name others ≡ Some a.text → DecideWork request files (Ok a)
     → IsReply (Some (Confirm (record { asked = request.asked; certificate = name }))) others (answered (answer 0 (valid_line a.status)))
 answer_confirmed files others request name a asks keeps held (inl (fault, at, e)) = absurd cc
 answer_confirmed files others request name a asks keeps held (inr (parts, read, d)) =
@@ -137,7 +138,7 @@ answer_confirmed files others request name a asks keeps held (inr (parts, read, 
 
 -- the answer of `decide` with a certificate is one that `confirm` calls valid
 pub is_confirmed : (files others : Files) (request : DecideRequest) (reply : Reply) (name : List ℕ) → request.certificate ≡ true → IsReply (Some (Decide request)) files reply → reply.status < 2
-    → KeepsProductInput files others request.asked.input → bytes_of name others ≡ Some reply.out → IsReply (Some (Confirm (record { asked = request.asked; certificate = name }))) others (answered (answer 0 (valid_line reply.status)))
+    → KeepsNamed PRODUCT files others request.asked.input → bytes_of name others ≡ Some reply.out → IsReply (Some (Confirm (record { asked = request.asked; certificate = name }))) others (answered (answer 0 (valid_line reply.status)))
 is_confirmed files others request reply name asks is lt keeps held =
     let (a, work, same) = answer_in (Some (Decide request)) files is.found reply is.work is.makes lt in
     subst (λ (r : Reply). IsReply (Some (Confirm (record { asked = request.asked; certificate = name }))) others (answered (answer 0 (valid_line r.status)))) (sym same)

@@ -28,10 +28,10 @@ use Rattle.staat_input.specs.Work.{Files}
 use Rattle.staat_judging.specs.Checking.{IsCertificateIn}
 use Rattle.staat_judging.specs.Confirming.{KeepsShortRules}
 use Rattle.staat_input.specs.Counting.{all_parts}
+use Rattle.staat_input.specs.declared.limits.TheConstants.Limits.{ASSEMBLY, PRODUCT}
 use Rattle.staat_input.specs.Kept.{KeepsNamed}
 use Rattle.staat_input.specs.Assembling.{AreSoundParts, AreSoundProductParts}
 use Rattle.staat_deciding.specs.Deciding.{IsShortRefusal, SaysDecidedPlan, SaysDecidedStuck}
-use Rattle.staat_top.specs.KeptProducts.{KeepsProductInput}
 use Rattle.staat_top.specs.Replies.{IsReply, Reply, answered}
 use Rattle.staat_planning.specs.Planning.{SaysGoodPlan, SaysStuckSet}
 use Rattle.staat_input.specs.Work.{answer}
@@ -101,7 +101,7 @@ pub record Headline : Type 0 where
   pub checked : (files others : Files) (request : PlanRequest) (version : ℕ) (reply : Reply) (name : List ℕ) →
       IsPlanRequest request → request.certificate ≡ Some version →
       IsReply (Some (Plan request)) files reply → reply.status < 2 →
-      KeepsNamed files others request.asked.input → bytes_of name others ≡ Some reply.out →
+      KeepsNamed ASSEMBLY files others request.asked.input → bytes_of name others ≡ Some reply.out →
       IsReply (Some (Check (record { asked = request.asked; certificate = name }))) others
       (answered (answer 0 (valid_line reply.status)))
   -- What `decide` prints with status 0 is a plan that takes all parts of a product apart, and with status 1 parts that
@@ -132,6 +132,6 @@ pub record Headline : Type 0 where
   -- `confirm` with that name, the same digits and the same input is `valid plan` or `valid refusal`, with status 0.
   pub short_checked : (files others : Files) (request : DecideRequest) (reply : Reply) (name : List ℕ) →
       request.certificate ≡ true → IsReply (Some (Decide request)) files reply → reply.status < 2 →
-      KeepsProductInput files others request.asked.input → bytes_of name others ≡ Some reply.out →
+      KeepsNamed PRODUCT files others request.asked.input → bytes_of name others ≡ Some reply.out →
       IsReply (Some (Confirm (record { asked = request.asked; certificate = name }))) others
       (answered (answer 0 (valid_line reply.status)))

@@ -1,5 +1,4 @@
 pub mod Headline
-pub mod KeptProducts
 pub mod Named
 pub mod Opened
 pub mod Replies

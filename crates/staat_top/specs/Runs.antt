@@ -19,6 +19,7 @@ use Rattle.staat_fault.specs.Faults.{status_of, line_of}
 use Rattle.staat_input.specs.declared.answer.Answer.{Answer}
 use Rattle.staat_input.specs.Work.{Files, Found, Follows, answer}
 use Rattle.staat_input.specs.Assembling.{AreSoundParts, AreSoundProductParts}
+use Rattle.staat_input.specs.declared.limits.TheConstants.Limits.{ASSEMBLY, PRODUCT}
 use Rattle.staat_input.specs.Kept.{KeepsNamed}
 use Rattle.staat_planning.specs.Planning.{SaysGoodPlan, SaysStuckSet}
 use Rattle.staat_judging.specs.Checking.{SaysValid}
@@ -26,7 +27,6 @@ use Rattle.staat_judging.specs.Confirming.{KeepsShortRules, SaysShortValid}
 use Rattle.staat_deciding.specs.Deciding.{SaysDecidedPlan, SaysDecidedStuck}
 use Rattle.staat_top.specs.Replies.{Reply, WorkOnWords, IsReply, HasOneReply, IsRight, IsDenied, answered}
 use Rattle.staat_top.specs.Headline.{IsLongRefusal, IsWithinLimits, KeepsRules, valid_line}
-use Rattle.staat_top.specs.KeptProducts.{KeepsProductInput}
 use Rattle.staat_top.specs.Opened.{OpensWork}
 use Rattle.staat_input.specs.Causes.{Over, ShelfSide, HasCause}
 use Rattle.staat_judging.specs.Causes.{HasCheckCause, HasConfirmCause}
@@ -168,7 +168,7 @@ pub record Planned (request : PlanRequest) (files : Files) (shelf : ShelfSide) (
       NoFault shelf out err → status ≢ 7 → status < 2
   pub checked : (others : Files) (version : ℕ) (name : List ℕ) → request.certificate ≡ Some version →
       status < 2 →
-      TookRight out (λ text. KeepsNamed files others request.asked.input → bytes_of name others ≡ Some text →
+      TookRight out (λ text. KeepsNamed ASSEMBLY files others request.asked.input → bytes_of name others ≡ Some text →
       IsReply (Some (Check (record { asked = request.asked; certificate = name }))) others
       (answered (answer 0 (valid_line status))))
 
@@ -184,7 +184,7 @@ pub record Decided (request : DecideRequest) (files : Files) (shelf : ShelfSide)
       NoFault shelf out err → status ≢ 7 → (status < 2) ⊎ IsLongRefusal parts request status
   pub confirmed : (others : Files) (name : List ℕ) → request.certificate ≡ true → status < 2 →
       TookRight out (λ text.
-      KeepsProductInput files others request.asked.input → bytes_of name others ≡ Some text →
+      KeepsNamed PRODUCT files others request.asked.input → bytes_of name others ≡ Some text →
       IsReply (Some (Confirm (record { asked = request.asked; certificate = name }))) others
       (answered (answer 0 (valid_line status))))
 
