@@ -10,7 +10,7 @@ use Rattle.staat_cells.specs.declared.blocks.ArcCones.{ArcCones}
 use Rattle.staat_cells.specs.declared.blocks.Block.{Block}
 use Rattle.staat_cells.specs.declared.half_spaces.Side.{Side}
 use Rattle.staat_cells.specs.HalfSpaces.{AreInside}
-use Rattle.staat_cells.specs.Blocks.{AddsToBlock, HasCone, HasParts, IsBlock, IsBlockArc, PassesAll}
+use Rattle.staat_cells.specs.Blocks.{AddsToBlock, AreInsideCone, HasCone, HasParts, IsBlock, IsBlockArc, IsLeftByAll, outside_by}
 use Rattle.staat_cells.specs.CellGraphs.{AddsCone}
 use Rattle.staat_cells.proofs.ConeTests.{AddsSides}
 use Rattle.staat_cells.proofs.Elements.{any_pushed, any_set}
@@ -49,11 +49,9 @@ pub parts_block : (old new : Block) (cone : List Side) (a b j : ℕ) → IsBlock
 parts_block old new cone a b j rules cones_are tests_are at parts adds = record {
   block = record {
     few = subst (λ l. length l ≤ 128) (sym cones_are) rules.few;
-    tests = λ signs k. subst (λ l. PassesAll signs l k ↔ ((o : List Side)
-        → slice_get new.cones.items k ≡ Some o
-        → AreInside signs o)) (sym tests_are)
-        (subst (λ l. PassesAll signs old.tests.items k ↔ ((o : List Side) → slice_get l k ≡ Some o
-        → AreInside signs o)) (sym cones_are) (rules.tests signs k));
+    tests = λ signs k. subst (λ l. IsLeftByAll (outside_by signs) l k ↔ AreInsideCone signs new.cones.items k)
+        (sym tests_are) (subst (λ l. IsLeftByAll (outside_by signs) old.tests.items k ↔ AreInsideCone signs l k)
+        (sym cones_are) (rules.tests signs k));
     within = λ x y k h. subst (λ l. k < length l) (sym cones_are) (⊎_elim {C = k < length old.cones.items}
         (λ o. rules.within x y k o)
         (λ p. subst (λ n. n < length old.cones.items) (sym p.2) (place_within old.cones.items j cone at))
@@ -66,13 +64,13 @@ parts_block old new cone a b j rules cones_are tests_are at parts adds = record 
     from : (signs : List Sign) (x y : ℕ) → IsBlockArc new signs x y
         → IsBlockArc old signs x y ⊎ ((x ≡ a) × (y ≡ b) × AreInside signs cone)
     from signs x y h =
-        let passes = subst (λ l. PassesAll signs l h.cone) tests_are h.passes in
+        let is_left = subst (λ l. IsLeftByAll (outside_by signs) l h.cone) tests_are h.is_left in
         ⊎_elim {C = IsBlockArc old signs x y ⊎ ((x ≡ a) × (y ≡ b) × AreInside signs cone)}
-        (λ o. inl (record { cone = h.cone; has = o; passes = passes }))
+        (λ o. inl (record { cone = h.cone; has = o; is_left = is_left }))
         (λ p. inr (
           p.0,
           p.1,
-          (rules.tests signs j).0 (subst (PassesAll signs old.tests.items) p.2 passes) cone at,
+          (rules.tests signs j).0 (subst (IsLeftByAll (outside_by signs) old.tests.items) p.2 is_left) cone at,
         ))
         ((adds x y h.cone).0 h.has)
 
@@ -82,12 +80,12 @@ parts_block old new cone a b j rules cones_are tests_are at parts adds = record 
     to signs x y (inl h) = record {
       cone = h.cone;
       has = (adds x y h.cone).1 (inl h.has);
-      passes = subst (λ l. PassesAll signs l h.cone) (sym tests_are) h.passes;
+      is_left = subst (λ l. IsLeftByAll (outside_by signs) l h.cone) (sym tests_are) h.is_left;
     }
     to signs x y (inr (e, f, inside)) = record {
       cone = j;
       has = (adds x y j).1 (inr (e, f, refl));
-      passes = subst (λ l. PassesAll signs l j) (sym tests_are) ((rules.tests signs j).1
+      is_left = subst (λ l. IsLeftByAll (outside_by signs) l j) (sym tests_are) ((rules.tests signs j).1
           (λ o is. subst (AreInside signs) (one_at_place old.cones.items j cone o at is) inside));
     }
 
@@ -115,17 +113,16 @@ cone_block old new cone a b j rules last room cones_are sides parts adds = recor
   arcs = λ signs x y. (from signs x y, to signs x y);
 }
   where
-    tested : (signs : List Sign) (k : ℕ) → PassesAll signs new.tests.items k
-        → (o : List Side) → slice_get new.cones.items k ≡ Some o → AreInside signs o
+    tested : (signs : List Sign) (k : ℕ) → IsLeftByAll (outside_by signs) new.tests.items k
+        → AreInsideCone signs new.cones.items k
     tested signs k h o at =
         let both = (sides signs k).0 h in
         ⊎_elim {C = AreInside signs o} (λ e. (rules.tests signs k).0 both.0 o e)
         (λ p. subst (AreInside signs) p.1 (both.1 (p.0 ∙ sym last)))
         (push_cases old.cones.items cone o k (subst (λ l. slice_get l k ≡ Some o) cones_are at))
 
-    untested : (signs : List Sign) (k : ℕ)
-        → ((o : List Side) → slice_get new.cones.items k ≡ Some o → AreInside signs o)
-        → PassesAll signs new.tests.items k
+    untested : (signs : List Sign) (k : ℕ) → AreInsideCone signs new.cones.items k
+        → IsLeftByAll (outside_by signs) new.tests.items k
     untested signs k all = (sides signs k).1 (
       (rules.tests signs k).1 (λ o e. all o (subst (λ l. slice_get l k ≡ Some o) (sym cones_are)
           (push_front old.cones.items cone o k e))),
@@ -137,9 +134,9 @@ cone_block old new cone a b j rules last room cones_are sides parts adds = recor
     from : (signs : List Sign) (x y : ℕ) → IsBlockArc new signs x y
         → IsBlockArc old signs x y ⊎ ((x ≡ a) × (y ≡ b) × AreInside signs cone)
     from signs x y h =
-        let both = (sides signs h.cone).0 h.passes in
+        let both = (sides signs h.cone).0 h.is_left in
         ⊎_elim {C = IsBlockArc old signs x y ⊎ ((x ≡ a) × (y ≡ b) × AreInside signs cone)}
-        (λ o. inl (record { cone = h.cone; has = o; passes = both.0 }))
+        (λ o. inl (record { cone = h.cone; has = o; is_left = both.0 }))
         (λ p. inr (p.0, p.1, both.1 p.2))
         ((adds x y h.cone).0 h.has)
 
@@ -149,15 +146,15 @@ cone_block old new cone a b j rules last room cones_are sides parts adds = recor
     to signs x y (inl h) = record {
       cone = h.cone;
       has = (adds x y h.cone).1 (inl h.has);
-      passes = (sides signs h.cone).1 (
-        h.passes,
+      is_left = (sides signs h.cone).1 (
+        h.is_left,
         λ e. absurd (let lt = rules.within x y h.cone h.has in omega (arith, lt, e, last)),
       );
     }
     to signs x y (inr (e, f, inside)) = record {
       cone = j;
       has = (adds x y j).1 (inr (e, f, refl));
-      passes = (sides signs j).1 (
+      is_left = (sides signs j).1 (
         (rules.tests signs j).1 (λ o is. absurd (let lt = place_within old.cones.items j o is in
             omega (arith, lt, last))),
         λ same. inside,

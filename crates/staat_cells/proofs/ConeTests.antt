@@ -12,7 +12,7 @@ use Rattle.staat_model.specs.Cells.{sign_place}
 use Rattle.staat_cells.specs.declared.blocks.PlaneTest.{PlaneTest}
 use Rattle.staat_cells.specs.declared.half_spaces.Side.{Side}
 use Rattle.staat_cells.specs.HalfSpaces.{AreInside, IsOnSide, sign_at}
-use Rattle.staat_cells.specs.Blocks.{IsPassedAt, PassesAll}
+use Rattle.staat_cells.specs.Blocks.{IsLeft, IsLeftByAll, outside_at, outside_by}
 use Rattle.staat_cells.proofs.Elements.{all_more, all_pushed, all_set}
 
 same_or : (a b : ℕ) → (a ≡ b) ⊎ (a ≡ b → ⊥)
@@ -96,27 +96,27 @@ module _ (o : List ℕ) (j : ℕ) (lt : j < 128) where
 -- the tests have grown by what has Q of the cone j
 abbrev pub AddsSides : (List Sign → Type 0) → ℕ → List PlaneTest → List PlaneTest → Type 0
 AddsSides Q j old new = (signs : List Sign) (k : ℕ)
-    → PassesAll signs new k ↔ (PassesAll signs old k × (k ≡ j → Q signs))
+    → IsLeftByAll (outside_by signs) new k ↔ (IsLeftByAll (outside_by signs) old k × (k ≡ j → Q signs))
 
 -- the test of a plane with the side s of the cone j
 abbrev pub HasGrown : PlaneTest → PlaneTest → Sign → ℕ → Type 0
-HasGrown old new s j = (t : Sign) (k : ℕ) → IsPassedAt new t k ↔ (IsPassedAt old t k × (k ≡ j → t ≡ s))
+HasGrown old new s j = (t : Sign) (k : ℕ) → IsLeft (outside_at new t) k ↔ (IsLeft (outside_at old t) k × (k ≡ j → t ≡ s))
 
 pub side_set : (tests : List PlaneTest) (side : Side) (j at : ℕ) (d x : PlaneTest) → at < length tests
     → d ≡ get_or tests at d → d.plane ≡ side.plane → x.plane ≡ d.plane → HasGrown d x side.sign j
     → AddsSides (λ signs. IsOnSide signs side) j tests (slice_set tests at x)
 side_set tests side j at d x lt is plane same grown signs k =
-    all_set (λ t. IsPassedAt t (sign_at signs t.plane) k) tests at d x (k ≡ j → IsOnSide signs side) lt own
+    all_set (λ t. IsLeft (outside_at t (sign_at signs t.plane)) k) tests at d x (k ≡ j → IsOnSide signs side) lt own
   where
-    own : IsPassedAt x (sign_at signs x.plane) k
-        ↔ (IsPassedAt (get_or tests at d) (sign_at signs (get_or tests at d).plane) k × (k ≡ j
+    own : IsLeft (outside_at x (sign_at signs x.plane)) k
+        ↔ (IsLeft (outside_at (get_or tests at d) (sign_at signs (get_or tests at d).plane)) k × (k ≡ j
         → IsOnSide signs side))
-    own = subst (λ (y : PlaneTest). IsPassedAt x (sign_at signs x.plane) k
-        ↔ (IsPassedAt y (sign_at signs y.plane) k × (k ≡ j → IsOnSide signs side))) is
-        (subst (λ n. IsPassedAt x (sign_at signs n) k
-        ↔ (IsPassedAt d (sign_at signs d.plane) k × (k ≡ j → IsOnSide signs side))) (sym same)
-        (subst (λ n. IsPassedAt x (sign_at signs d.plane) k
-        ↔ (IsPassedAt d (sign_at signs d.plane) k × (k ≡ j → sign_at signs n ≡ side.sign))) plane
+    own = subst (λ (y : PlaneTest). IsLeft (outside_at x (sign_at signs x.plane)) k
+        ↔ (IsLeft (outside_at y (sign_at signs y.plane)) k × (k ≡ j → IsOnSide signs side))) is
+        (subst (λ n. IsLeft (outside_at x (sign_at signs n)) k
+        ↔ (IsLeft (outside_at d (sign_at signs d.plane)) k × (k ≡ j → IsOnSide signs side))) (sym same)
+        (subst (λ n. IsLeft (outside_at x (sign_at signs d.plane)) k
+        ↔ (IsLeft (outside_at d (sign_at signs d.plane)) k × (k ≡ j → sign_at signs n ≡ side.sign))) plane
         (grown (sign_at signs d.plane) k)))
 
 pub side_pushed : (tests new : List PlaneTest) (side : Side) (j : ℕ) (x : PlaneTest) → x.plane ≡ side.plane
@@ -124,27 +124,27 @@ pub side_pushed : (tests new : List PlaneTest) (side : Side) (j : ℕ) (x : Plan
     → new ≡ tests ++ x ∷ []
     → AddsSides (λ signs. IsOnSide signs side) j tests new
 side_pushed tests new side j x same grown is signs k =
-    subst (λ l. PassesAll signs l k ↔ (PassesAll signs tests k × (k ≡ j
+    subst (λ l. IsLeftByAll (outside_by signs) l k ↔ (IsLeftByAll (outside_by signs) tests k × (k ≡ j
     → IsOnSide signs side))) (sym is) (from, to)
   where
     P : PlaneTest → Type 0
-    P t = IsPassedAt t (sign_at signs t.plane) k
+    P t = IsLeft (outside_at t (sign_at signs t.plane)) k
 
-    passed : (t : Sign) → IsPassedAt (record { plane = side.plane; outside = 0 ∷ 0 ∷ 0 ∷ [] }) t k
-    passed Neg = bit_at-zero k
-    passed Zero = bit_at-zero k
-    passed Pos = bit_at-zero k
+    left : (t : Sign) → IsLeft (outside_at (record { plane = side.plane; outside = 0 ∷ 0 ∷ 0 ∷ [] }) t) k
+    left Neg = bit_at-zero k
+    left Zero = bit_at-zero k
+    left Pos = bit_at-zero k
 
     own : P x ↔ (k ≡ j → IsOnSide signs side)
-    own = subst (λ n. IsPassedAt x (sign_at signs n) k ↔ (k ≡ j → IsOnSide signs side)) (sym same) (
+    own = subst (λ n. IsLeft (outside_at x (sign_at signs n)) k ↔ (k ≡ j → IsOnSide signs side)) (sym same) (
       λ h. ((grown (sign_at signs side.plane) k).0 h).1,
-      λ h. (grown (sign_at signs side.plane) k).1 (passed (sign_at signs side.plane), h),
+      λ h. (grown (sign_at signs side.plane) k).1 (left (sign_at signs side.plane), h),
     )
 
-    from : PassesAll signs (tests ++ x ∷ []) k → PassesAll signs tests k × (k ≡ j → IsOnSide signs side)
+    from : IsLeftByAll (outside_by signs) (tests ++ x ∷ []) k → IsLeftByAll (outside_by signs) tests k × (k ≡ j → IsOnSide signs side)
     from h = let both = (all_pushed P tests x).0 h in (both.0, own.0 both.1)
 
-    to : PassesAll signs tests k × (k ≡ j → IsOnSide signs side) → PassesAll signs (tests ++ x ∷ []) k
+    to : IsLeftByAll (outside_by signs) tests k × (k ≡ j → IsOnSide signs side) → IsLeftByAll (outside_by signs) (tests ++ x ∷ []) k
     to h = (all_pushed P tests x).1 (h.0, own.1 h.1)
 
 pub no_sides : (tests : List PlaneTest) (cone : List Side) (j : ℕ)

@@ -19,7 +19,7 @@ use Rattle.staat_planes.proofs.GraphLaw.{arcs_are_blocking, shows_blocking}
 use Rattle.staat_cells.specs.declared.blocks.ArcCones.{ArcCones}
 use Rattle.staat_cells.specs.declared.joined.JoinedBlock.{JoinedBlock}
 use Rattle.staat_cells.specs.declared.joined.JoinedTest.{JoinedTest}
-use Rattle.staat_cells.specs.Blocks.{IsJoinedArc, IsLeft, PassesJoined}
+use Rattle.staat_cells.specs.Blocks.{HasLeft, IsJoinedArc, IsLeft, IsLeftByAll, joined_outside}
 use Rattle.staat_cells.specs.CellGraphs.{HasArcsOf, IsAheadBy, IsArcAt, IsCellGraph}
 use Rattle.staat_cells.proofs.Elements.{any_more}
 use Rattle.staat_cells.proofs.FacetPlanes.{ahead_by_signs}
@@ -32,7 +32,7 @@ lt_or a b = grind arith
 
 -- these are parts with a cone that is not ruled out
 abbrev pub IsArcLeft : ℕ → ℕ → ℕ → ArcCones → Type 0
-IsArcLeft outside a b arc = (arc.a ≡ a) × (arc.b ≡ b) × IsLeft arc outside
+IsArcLeft outside a b arc = (arc.a ≡ a) × (arc.b ≡ b) × HasLeft arc outside
 
 -- the rows have grown by the parts with a cone that is not ruled out
 pub record AddsLeft (outside : ℕ) (arcs : List ArcCones) (old new : List ℕ) : Type 0 where
@@ -47,7 +47,7 @@ none_left outside rows = record {
 
 one_left : (outside word : ℕ) (x : ArcCones) (rows : List ℕ) → x.a < length rows
     → ((q : ℕ) → (bit_at word q ≡ 1) ↔ ((bit_at (slice_index rows x.a) q ≡ 1) ⊎ ((q ≡ x.b)
-    × IsLeft x outside)))
+    × HasLeft x outside)))
     → (a b : ℕ) → HasArc (slice_set rows x.a word) a b ↔ (HasArc rows a b ⊎ IsArcLeft outside a b x)
 one_left outside word x rows lt bits a =
     row_set rows x.a a word (λ p q. HasArc rows p q ⊎ IsArcLeft outside p q x) lt own other
@@ -56,7 +56,7 @@ one_left outside word x rows lt bits a =
     own q = (
       λ h. ⊎_elim {C = HasArc rows x.a q ⊎ IsArcLeft outside x.a q x} (λ o. inl o)
           (λ p. inr (refl, sym p.0, p.1)) ((bits q).0 h),
-      λ h. (bits q).1 (⊎_elim {C = HasArc rows x.a q ⊎ ((q ≡ x.b) × IsLeft x outside)} (λ o. inl o)
+      λ h. (bits q).1 (⊎_elim {C = HasArc rows x.a q ⊎ ((q ≡ x.b) × HasLeft x outside)} (λ o. inl o)
           (λ p. inr (sym p.1, p.2)) h),
     )
 
@@ -66,7 +66,7 @@ one_left outside word x rows lt bits a =
 pub left_more : (outside word k : ℕ) (arcs : List ArcCones) (x : ArcCones) (old mid : List ℕ) → length old ≡ 32
     → k < length arcs → x ≡ get_or arcs k x → x.a < 32
     → ((q : ℕ) → (bit_at word q ≡ 1) ↔ ((bit_at (slice_index mid x.a) q ≡ 1) ⊎ ((q ≡ x.b)
-    × IsLeft x outside)))
+    × HasLeft x outside)))
     → AddsLeft outside (take k arcs) old mid → AddsLeft outside (take (k + 1) arcs) old (slice_set mid x.a word)
 left_more outside word k arcs x old mid is lt at small bits before = record {
   long = λ e. length-set mid x.a word ∙ before.long e;
@@ -77,7 +77,7 @@ left_more outside word k arcs x old mid is lt at small bits before = record {
 
 pub block_arcs : (block : JoinedBlock) (signs : List Sign) (outside k : ℕ) (arcs : List ArcCones) (tests : List JoinedTest)
     (old new : List ℕ) → arcs ≡ block.arcs.items → tests ≡ block.tests.items → length arcs ≤ k
-    → ((j : ℕ) → (bit_at outside j ≡ 0) ↔ PassesJoined signs tests j)
+    → ((j : ℕ) → IsLeft outside j ↔ IsLeftByAll (joined_outside signs) tests j)
     → AddsLeft outside (take k arcs) old new
     → (a b : ℕ) → HasArc new a b ↔ (HasArc old a b ⊎ IsJoinedArc block signs a b)
 block_arcs block signs outside k arcs tests old new arcs_are tests_are le ruled all a b = (
@@ -96,7 +96,7 @@ block_arcs block signs outside k arcs tests old new arcs_are tests_are le ruled 
     from (i, x, lt, e, (a_is, b_is, (j, one, out))) = record {
       cone = j;
       has = (i, x, lt, e, (a_is, b_is, one));
-      passes = subst (λ l. PassesJoined signs l j) tests_are ((ruled j).0 out);
+      is_left = subst (λ l. IsLeftByAll (joined_outside signs) l j) tests_are ((ruled j).0 out);
     }
 
     to : IsJoinedArc block signs a b → Left block.arcs.items
@@ -111,7 +111,7 @@ block_arcs block signs outside k arcs tests old new arcs_are tests_are le ruled 
         (
           h.cone,
           one,
-          (ruled h.cone).1 (subst (λ l. PassesJoined signs l h.cone) (sym tests_are) h.passes),
+          (ruled h.cone).1 (subst (λ l. IsLeftByAll (joined_outside signs) l h.cone) (sym tests_are) h.is_left),
         ),
       ),
     )

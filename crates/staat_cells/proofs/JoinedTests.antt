@@ -17,7 +17,7 @@ use Rattle.staat_cells.specs.declared.joined.JoinedTest.{JoinedTest}
 use Rattle.staat_cells.specs.HalfSpaces.{sign_at}
 use Rattle.staat_cells.specs.CellGraphs.{HasArcsOf, IsArcAt, IsListedArc, ListsArcsOf}
 use Rattle.staat_cells.specs.Blocks.{HasCone, HasPlanesUpTo, IsBlockArc, IsJoinedArc}
-use Rattle.staat_cells.specs.Blocks.{IsJoinedPassed, IsPassed, PassesAll, PassesJoined, joined_place, joined_word, no_test}
+use Rattle.staat_cells.specs.Blocks.{IsLeft, IsLeftByAll, joined_outside, no_test, outside_at, outside_by, outside_together, place_of_three}
 use Rattle.staat_cells.proofs.Elements.{all_more, all_pushed, any_more, any_pushed}
 
 lt_or : (a b : ℕ) → (a < b) ⊎ (b ≤ a)
@@ -43,36 +43,47 @@ place_digits : (a b c : ℕ) → a < 3 → b < 3 → c < 3 → let i = 9 * a + 3
     (i < 27) × (i / 9 ≡ a) × (i / 3 % 3 ≡ b) × (i % 3 ≡ c)
 place_digits a b c la lb lc = (omega arith, omega arith, omega arith, omega arith)
 
+-- what three tests rule out together at the signs of which these are the three digits
+abbrev pub word_of_digits : PlaneTest → PlaneTest → PlaneTest → ℕ → ℕ
+word_of_digits x y z i = bit_or (bit_or (slice_index x.outside (i / 9)) (slice_index y.outside (i / 3 % 3)))
+    (slice_index z.outside (i % 3))
+
+pub words_are : (x y z : PlaneTest) (words : List ℕ)
+    → ((i : ℕ) → i < 27 → slice_index words i ≡ word_of_digits x y z i)
+    → (s t u : Sign) → slice_index words (place_of_three s t u) ≡ outside_together x y z s t u
+words_are x y z words are s t u =
+    let (lt, first, second, third) = place_digits (sign_place s) (sign_place t) (sign_place u)
+    (small_place s) (small_place t) (small_place u) in
+    are (place_of_three s t u) lt ∙ (λ i.
+    bit_or (bit_or (slice_index x.outside (first i)) (slice_index y.outside (second i))) (slice_index z.outside (third i)))
+
 all_zero : (m n o : ℕ) → (max (max m n) o ≡ 0) ↔ ((m ≡ 0) × (n ≡ 0) × (o ≡ 0))
 all_zero m n o = (
   λ e. (omega (arith, e), omega (arith, e), omega (arith, e)),
   λ h. let d = h.0 in let e = h.1 in let f = h.2 in omega (arith, d, e, f),
 )
 
-pub three_passed : (x y z : PlaneTest) (words : List ℕ) → ((i : ℕ) → i < 27 → slice_index words i ≡ joined_word x y z i)
+pub three_left : (x y z : PlaneTest) (words : List ℕ)
+    → ((s t u : Sign) → slice_index words (place_of_three s t u) ≡ outside_together x y z s t u)
     → (signs : List Sign) (j : ℕ)
-    → IsJoinedPassed signs j (record { first = x.plane; second = y.plane; third = z.plane; outside = words })
-    ↔ (IsPassed signs j x × IsPassed signs j y × IsPassed signs j z)
-three_passed x y z words are signs j =
-    let a = sign_place (sign_at signs x.plane) in
-    let b = sign_place (sign_at signs y.plane) in
-    let c = sign_place (sign_at signs z.plane) in
-    let p = slice_index x.outside a in
-    let q = slice_index y.outside b in
-    let r = slice_index z.outside c in
-    let (lt, ea, eb, ec) = place_digits a b c (small_place (sign_at signs x.plane)) (small_place (sign_at signs y.plane))
-    (small_place (sign_at signs z.plane)) in
-    let word : slice_index words (9 * a + 3 * b + c) ≡ bit_or (bit_or p q) r = are (9 * a + 3 * b + c) lt
-    ∙ (λ i. bit_or (bit_or (slice_index x.outside (ea i)) (slice_index y.outside (eb i))) (slice_index z.outside (ec i))) in
-    let bits : bit_at (slice_index words (9 * a + 3 * b + c)) j ≡ max (max (bit_at p j) (bit_at q j)) (bit_at r j) =
-    ap (λ n. bit_at n j) word ∙ bit_at_or (bit_or p q) r j ∙ ap (λ n. max n (bit_at r j)) (bit_at_or p q j) in
+    → IsLeft (joined_outside signs (record { first = x.plane; second = y.plane; third = z.plane; outside = words })) j
+    ↔ (IsLeft (outside_by signs x) j × IsLeft (outside_by signs y) j × IsLeft (outside_by signs z) j)
+three_left x y z words are signs j =
+    let s = sign_at signs x.plane in
+    let t = sign_at signs y.plane in
+    let u = sign_at signs z.plane in
+    let p = outside_by signs x in
+    let q = outside_by signs y in
+    let r = outside_by signs z in
+    let bits : bit_at (slice_index words (place_of_three s t u)) j ≡ max (max (bit_at p j) (bit_at q j)) (bit_at r j) =
+    ap (λ n. bit_at n j) (are s t u) ∙ bit_at_or (bit_or p q) r j ∙ ap (λ n. max n (bit_at r j)) (bit_at_or p q j) in
     let zero = all_zero (bit_at p j) (bit_at q j) (bit_at r j) in
     (λ h. zero.0 (sym bits ∙ h), λ h. bits ∙ zero.1 h)
 
 -- ---- all tests
 
-none_passed : (signs : List Sign) (j : ℕ) → IsPassed signs j no_test
-none_passed signs j = by_sign (sign_at signs 0)
+none_out_of : (signs : List Sign) (j : ℕ) → IsLeft (outside_by signs no_test) j
+none_out_of signs j = by_sign (sign_at signs 0)
   where
     by_sign : (s : Sign) → bit_at (slice_index (0 ∷ 0 ∷ 0 ∷ []) (sign_place s)) j ≡ 0
     by_sign Neg = bit_at-zero j
@@ -81,10 +92,10 @@ none_passed signs j = by_sign (sign_at signs 0)
 
 -- the test at the place k, or none where there is none
 one_more : (signs : List Sign) (tests : List PlaneTest) (k j : ℕ)
-    → PassesAll signs (take (k + 1) tests) j ↔ (PassesAll signs (take k tests) j × IsPassed signs j (get_or tests k no_test))
+    → IsLeftByAll (outside_by signs) (take (k + 1) tests) j ↔ (IsLeftByAll (outside_by signs) (take k tests) j × IsLeft (outside_by signs (get_or tests k no_test)) j)
 one_more signs tests k j = ⊎_elim
-    (λ lt. all_more (IsPassed signs j) tests k (get_or tests k no_test) lt (same_place tests k lt))
-    (λ le. (λ h. (same le h, subst (IsPassed signs j) (sym (get_or_past tests k no_test le)) (none_passed signs j)), λ h. back le h.0))
+    (λ lt. all_more (λ t. IsLeft (outside_by signs t) j) tests k (get_or tests k no_test) lt (same_place tests k lt))
+    (λ le. (λ h. (same le h, subst (λ t. IsLeft (outside_by signs t) j) (sym (get_or_past tests k no_test le)) (none_out_of signs j)), λ h. back le h.0))
     (lt_or k (length tests))
   where
     same_place : (tests : List PlaneTest) (k : ℕ) → k < length tests → get_or tests k no_test ≡ get_or tests k (get_or tests k no_test)
@@ -93,61 +104,61 @@ one_more signs tests k j = ⊎_elim
     both : length tests ≤ k → take (k + 1) tests ≡ take k tests
     both le = take_all (k + 1) tests (omega (arith, le)) ∙ sym (take_all k tests le)
 
-    same : length tests ≤ k → PassesAll signs (take (k + 1) tests) j → PassesAll signs (take k tests) j
-    same le = subst (λ l. PassesAll signs l j) (both le)
+    same : length tests ≤ k → IsLeftByAll (outside_by signs) (take (k + 1) tests) j → IsLeftByAll (outside_by signs) (take k tests) j
+    same le = subst (λ l. IsLeftByAll (outside_by signs) l j) (both le)
 
-    back : length tests ≤ k → PassesAll signs (take k tests) j → PassesAll signs (take (k + 1) tests) j
-    back le = subst (λ l. PassesAll signs l j) (sym (both le))
+    back : length tests ≤ k → IsLeftByAll (outside_by signs) (take k tests) j → IsLeftByAll (outside_by signs) (take (k + 1) tests) j
+    back le = subst (λ l. IsLeftByAll (outside_by signs) l j) (sym (both le))
 
 pub three_more : (tests : List PlaneTest) (i : ℕ) (old new : List JoinedTest) (x : JoinedTest) (p q r : PlaneTest)
     → new ≡ old ++ x ∷ [] → p ≡ get_or tests (3 * i) no_test → q ≡ get_or tests (3 * i + 1) no_test
     → r ≡ get_or tests (3 * i + 2) no_test
-    → ((signs : List Sign) (j : ℕ) → IsJoinedPassed signs j x ↔ (IsPassed signs j p × IsPassed signs j q × IsPassed signs j r))
-    → ((signs : List Sign) (j : ℕ) → PassesJoined signs old j ↔ PassesAll signs (take (3 * i) tests) j)
-    → (signs : List Sign) (j : ℕ) → PassesJoined signs new j ↔ PassesAll signs (take (3 * (i + 1)) tests) j
+    → ((signs : List Sign) (j : ℕ) → IsLeft (joined_outside signs x) j ↔ (IsLeft (outside_by signs p) j × IsLeft (outside_by signs q) j × IsLeft (outside_by signs r) j))
+    → ((signs : List Sign) (j : ℕ) → IsLeftByAll (joined_outside signs) old j ↔ IsLeftByAll (outside_by signs) (take (3 * i) tests) j)
+    → (signs : List Sign) (j : ℕ) → IsLeftByAll (joined_outside signs) new j ↔ IsLeftByAll (outside_by signs) (take (3 * (i + 1)) tests) j
 three_more tests i old new x p q r is p_is q_is r_is one before signs j =
     let grown : ℕ → PlaneTest → Type 0 = λ k t.
-    PassesAll signs (take (k + 1) tests) j ↔ (PassesAll signs (take k tests) j × IsPassed signs j t) in
+    IsLeftByAll (outside_by signs) (take (k + 1) tests) j ↔ (IsLeftByAll (outside_by signs) (take k tests) j × IsLeft (outside_by signs t) j) in
     let first = subst (grown (3 * i)) (sym p_is) (one_more signs tests (3 * i) j) in
     let second = subst (grown (3 * i + 1)) (sym q_is) (one_more signs tests (3 * i + 1) j) in
     let third = subst (grown (3 * i + 2)) (sym r_is) (one_more signs tests (3 * i + 2) j) in
     let after : 3 * (i + 1) ≡ 3 * i + 2 + 1 = omega arith in
     let next : 3 * i + 2 ≡ 3 * i + 1 + 1 = omega arith in
-    let pushed = all_pushed (IsJoinedPassed signs j) old x in (
-      λ h. let both = pushed.0 (subst (λ l. PassesJoined signs l j) is h) in
+    let pushed = all_pushed (λ t. IsLeft (joined_outside signs t) j) old x in (
+      λ h. let both = pushed.0 (subst (λ l. IsLeftByAll (joined_outside signs) l j) is h) in
           let own = (one signs j).0 both.1 in
-          subst (λ n. PassesAll signs (take n tests) j) (sym after) (third.1 (
-            subst (λ n. PassesAll signs (take n tests) j) (sym next) (second.1 (first.1 ((before signs j).0 both.0, own.0), own.1)),
+          subst (λ n. IsLeftByAll (outside_by signs) (take n tests) j) (sym after) (third.1 (
+            subst (λ n. IsLeftByAll (outside_by signs) (take n tests) j) (sym next) (second.1 (first.1 ((before signs j).0 both.0, own.0), own.1)),
             own.2,
           )),
-      λ h. let c = third.0 (subst (λ n. PassesAll signs (take n tests) j) after h) in
-          let b = second.0 (subst (λ n. PassesAll signs (take n tests) j) next c.0) in
+      λ h. let c = third.0 (subst (λ n. IsLeftByAll (outside_by signs) (take n tests) j) after h) in
+          let b = second.0 (subst (λ n. IsLeftByAll (outside_by signs) (take n tests) j) next c.0) in
           let a = first.0 b.0 in
-          subst (λ l. PassesJoined signs l j) (sym is) (pushed.1 ((before signs j).1 a.0, (one signs j).1 (a.1, b.1, c.1))),
+          subst (λ l. IsLeftByAll (joined_outside signs) l j) (sym is) (pushed.1 ((before signs j).1 a.0, (one signs j).1 (a.1, b.1, c.1))),
     )
 
 pub three_all : (tests : List PlaneTest) (i : ℕ) (found : List JoinedTest) → length tests ≤ 3 * i
-    → ((signs : List Sign) (j : ℕ) → PassesJoined signs found j ↔ PassesAll signs (take (3 * i) tests) j)
-    → (signs : List Sign) (j : ℕ) → PassesJoined signs found j ↔ PassesAll signs tests j
-three_all tests i found le = subst (λ l. (signs : List Sign) (j : ℕ) → PassesJoined signs found j ↔ PassesAll signs l j) (take_all (3 * i) tests le)
+    → ((signs : List Sign) (j : ℕ) → IsLeftByAll (joined_outside signs) found j ↔ IsLeftByAll (outside_by signs) (take (3 * i) tests) j)
+    → (signs : List Sign) (j : ℕ) → IsLeftByAll (joined_outside signs) found j ↔ IsLeftByAll (outside_by signs) tests j
+three_all tests i found le = subst (λ l. (signs : List Sign) (j : ℕ) → IsLeftByAll (joined_outside signs) found j ↔ IsLeftByAll (outside_by signs) l j) (take_all (3 * i) tests le)
 
-pub three_none : (tests : List PlaneTest) (signs : List Sign) (j : ℕ) → PassesJoined signs [] j ↔ PassesAll signs (take 0 tests) j
+pub three_none : (tests : List PlaneTest) (signs : List Sign) (j : ℕ) → IsLeftByAll (joined_outside signs) [] j ↔ IsLeftByAll (outside_by signs) (take 0 tests) j
 three_none tests signs j = (λ h k d lt. absurd (omega (arith, lt)), λ h k d lt. absurd (omega (arith, lt)))
 
 -- ---- what the tests rule out
 
-pub none_out : (signs : List Sign) (tests : List JoinedTest) (j : ℕ) → (bit_at 0 j ≡ 0) ↔ PassesJoined signs (take 0 tests) j
+pub none_out : (signs : List Sign) (tests : List JoinedTest) (j : ℕ) → IsLeft 0 j ↔ IsLeftByAll (joined_outside signs) (take 0 tests) j
 none_out signs tests j = (λ h k d lt. absurd (omega (arith, lt)), λ h. bit_at-zero j)
 
 pub more_out : (signs : List Sign) (tests : List JoinedTest) (k found word : ℕ) (x : JoinedTest) → k < length tests
-    → x ≡ get_or tests k x → word ≡ slice_index x.outside (joined_place signs x)
-    → ((j : ℕ) → (bit_at found j ≡ 0) ↔ PassesJoined signs (take k tests) j)
-    → (j : ℕ) → (bit_at (bit_or found word) j ≡ 0) ↔ PassesJoined signs (take (k + 1) tests) j
+    → x ≡ get_or tests k x → word ≡ joined_outside signs x
+    → ((j : ℕ) → IsLeft found j ↔ IsLeftByAll (joined_outside signs) (take k tests) j)
+    → (j : ℕ) → IsLeft (bit_or found word) j ↔ IsLeftByAll (joined_outside signs) (take (k + 1) tests) j
 more_out signs tests k found word x lt at is before j =
     let bits = bit_at_or found word j in
     let zero = both_zero (bit_at found j) (bit_at word j) in
-    let more = all_more (IsJoinedPassed signs j) tests k x lt at in
-    let own : bit_at word j ≡ bit_at (slice_index x.outside (joined_place signs x)) j = ap (λ n. bit_at n j) is in (
+    let more = all_more (λ t. IsLeft (joined_outside signs t) j) tests k x lt at in
+    let own : bit_at word j ≡ bit_at (joined_outside signs x) j = ap (λ n. bit_at n j) is in (
       λ h. let both = zero.0 (sym bits ∙ h) in more.1 ((before j).0 both.0, sym own ∙ both.1),
       λ h. let both = more.0 h in bits ∙ zero.1 ((before j).1 both.0, own ∙ both.1),
     )
@@ -156,10 +167,10 @@ more_out signs tests k found word x lt at is before j =
     both_zero m n = (λ e. (omega (arith, e), omega (arith, e)), λ h. let d = h.0 in let e = h.1 in omega (arith, d, e))
 
 pub all_out : (signs : List Sign) (tests : List JoinedTest) (k found : ℕ) → length tests ≤ k
-    → ((j : ℕ) → (bit_at found j ≡ 0) ↔ PassesJoined signs (take k tests) j)
-    → (j : ℕ) → (bit_at found j ≡ 0) ↔ PassesJoined signs tests j
+    → ((j : ℕ) → IsLeft found j ↔ IsLeftByAll (joined_outside signs) (take k tests) j)
+    → (j : ℕ) → IsLeft found j ↔ IsLeftByAll (joined_outside signs) tests j
 all_out signs tests k found le =
-    subst (λ l. (j : ℕ) → (bit_at found j ≡ 0) ↔ PassesJoined signs l j) (take_all k tests le)
+    subst (λ l. (j : ℕ) → IsLeft found j ↔ IsLeftByAll (joined_outside signs) l j) (take_all k tests le)
 
 pub more_planes : (tests : List JoinedTest) (k last new : ℕ) (x : JoinedTest) → k < length tests → x ≡ get_or tests k x
     → All (HasPlanesUpTo last) (take k tests) → last ≤ new → HasPlanesUpTo new x → All (HasPlanesUpTo new) (take (k + 1) tests)
@@ -180,18 +191,18 @@ all_planes tests k last le = subst (All (HasPlanesUpTo last)) (take_all k tests 
 -- ---- blocks
 
 pub joined_arc : (block : Block) (joined : JoinedBlock) → joined.arcs.items ≡ block.arcs.items
-    → ((signs : List Sign) (j : ℕ) → PassesJoined signs joined.tests.items j ↔ PassesAll signs block.tests.items j)
+    → ((signs : List Sign) (j : ℕ) → IsLeftByAll (joined_outside signs) joined.tests.items j ↔ IsLeftByAll (outside_by signs) block.tests.items j)
     → (signs : List Sign) (a b : ℕ) → IsJoinedArc joined signs a b ↔ IsBlockArc block signs a b
 joined_arc block joined arcs tests signs a b = (
   λ h. record {
     cone = h.cone;
     has = subst (λ l. HasCone l a b h.cone) arcs h.has;
-    passes = (tests signs h.cone).0 h.passes;
+    is_left = (tests signs h.cone).0 h.is_left;
   },
   λ h. record {
     cone = h.cone;
     has = subst (λ l. HasCone l a b h.cone) (sym arcs) h.has;
-    passes = (tests signs h.cone).1 h.passes;
+    is_left = (tests signs h.cone).1 h.is_left;
   },
 )
 

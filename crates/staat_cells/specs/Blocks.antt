@@ -1,26 +1,6 @@
--- Blocks of cones that are tested at once, a bit for each.
-use Rattle.std.specs.Prelude.{
-  ◌≡◌,
-  ◌↔◌,
-  ◌<◌,
-  ◌≤◌,
-  ◌⊎◌,
-  ◌+◌,
-  ◌*◌,
-  ◌/◌,
-  ◌%◌,
-  ℕ,
-  List,
-  [],
-  ◌∷◌,
-  All,
-  Any,
-  length,
-  Some,
-  bit_or,
-  slice_get,
-  slice_index,
-}
+-- Blocks of cones: up to 128 of them with a bit for each, and tests by which the signs of planes rule cones out.
+use Rattle.std.specs.Prelude.{◌≡◌, ◌↔◌, ◌<◌, ◌≤◌, ◌⊎◌, ◌+◌, ◌*◌, ℕ, List, [], ◌∷◌}
+use Rattle.std.specs.Prelude.{All, Any, length, Some, bit_or, slice_get, slice_index}
 use Rattle.std.specs.Int.{bit_at}
 use Rattle.staat_vec.specs.declared.vector.Sign.{Sign}
 use Rattle.staat_limits.specs.declared.limits.TheConstants.{MOST_PARTS}
@@ -33,65 +13,42 @@ use Rattle.staat_cells.specs.declared.joined.JoinedBlock.{JoinedBlock}
 use Rattle.staat_cells.specs.declared.joined.JoinedTest.{JoinedTest}
 use Rattle.staat_cells.specs.HalfSpaces.{AreInside, sign_at}
 
--- the test does not rule out cone j at this sign of its plane
-abbrev pub IsPassedAt : PlaneTest → Sign → ℕ → Type 0
-IsPassedAt test s j = bit_at (slice_index test.outside (sign_place s)) j ≡ 0
+-- ---- what is ruled out
 
--- no test rules out cone j at directions with these signs
-abbrev pub PassesAll : List Sign → List PlaneTest → ℕ → Type 0
-PassesAll signs tests j = All (λ t. IsPassedAt t (sign_at signs t.plane) j) tests
+-- cone j is left where the cones of these bits are ruled out
+abbrev pub IsLeft : (outside j : ℕ) → Type 0
+IsLeft outside j = bit_at outside j ≡ 0
 
--- the test does not rule out cone j at directions with these signs
-abbrev pub IsPassed : List Sign → ℕ → PlaneTest → Type 0
-IsPassed signs j test = IsPassedAt test (sign_at signs test.plane) j
+-- what the test rules out at this sign of its plane
+abbrev pub outside_at : PlaneTest → Sign → ℕ
+outside_at test s = slice_index test.outside (sign_place s)
+
+-- what it rules out at directions with these signs
+abbrev pub outside_by : List Sign → PlaneTest → ℕ
+outside_by signs test = outside_at test (sign_at signs test.plane)
+
+-- none of the tests rules out cone j, where `outside` is what each rules out
+abbrev pub IsLeftByAll : {T : Type 0} → (outside : T → ℕ) → List T → ℕ → Type 0
+IsLeftByAll outside tests j = All (λ test. IsLeft (outside test) j) tests
 
 -- a test that rules out nothing
 abbrev pub no_test : PlaneTest
 no_test = record { plane = 0; outside = 0 ∷ 0 ∷ 0 ∷ [] }
 
--- cone j is one of the parts a and b
-abbrev pub IsConeOf : ArcCones → ℕ → ℕ → ℕ → Type 0
-IsConeOf arc a b j = (arc.a ≡ a) × (arc.b ≡ b) × (bit_at arc.cones j ≡ 1)
+-- ---- three tests as one
 
--- of some parts that are listed
-abbrev pub HasCone : List ArcCones → ℕ → ℕ → ℕ → Type 0
-HasCone arcs a b j = Any (λ arc. IsConeOf arc a b j) arcs
+-- the place of three signs among all threes of signs, in their order
+abbrev pub place_of_three : Sign → Sign → Sign → ℕ
+place_of_three s t u = 9 * sign_place s + 3 * sign_place t + sign_place u
 
--- directions with these signs are in a cone of the parts a and b
-pub record IsBlockArc (block : Block) (signs : List Sign) (a b : ℕ) : Type 0 where
-  pub cone : ℕ
-  pub has : HasCone block.arcs.items a b cone
-  pub passes : PassesAll signs block.tests.items cone
+-- what three tests rule out together at these signs of their planes
+abbrev pub outside_together : (x y z : PlaneTest) → (s t u : Sign) → ℕ
+outside_together x y z s t u = bit_or (bit_or (outside_at x s) (outside_at y t)) (outside_at z u)
 
--- what the words of three tests rule out together, for the i-th three signs
-abbrev pub joined_word : PlaneTest → PlaneTest → PlaneTest → ℕ → ℕ
-joined_word x y z i = bit_or (bit_or (slice_index x.outside (i / 9)) (slice_index y.outside (i / 3 % 3)))
-    (slice_index z.outside (i % 3))
-
--- the word of a joined test that the signs choose
-abbrev pub joined_place : List Sign → JoinedTest → ℕ
-joined_place signs test =
-    9 * sign_place (sign_at signs test.first) + 3 * sign_place (sign_at signs test.second)
-    + sign_place (sign_at signs test.third)
-
--- the joined test does not rule out cone j at directions with these signs
-abbrev pub IsJoinedPassed : List Sign → ℕ → JoinedTest → Type 0
-IsJoinedPassed signs j test = bit_at (slice_index test.outside (joined_place signs test)) j ≡ 0
-
--- no joined test does
-abbrev pub PassesJoined : List Sign → List JoinedTest → ℕ → Type 0
-PassesJoined signs tests j = All (IsJoinedPassed signs j) tests
-
--- the same of a block whose tests are joined
-pub record IsJoinedArc (block : JoinedBlock) (signs : List Sign) (a b : ℕ) : Type 0 where
-  pub cone : ℕ
-  pub has : HasCone block.arcs.items a b cone
-  pub passes : PassesJoined signs block.tests.items cone
-
--- there can be two such parts
-pub record HasParts (arc : ArcCones) : Type 0 where
-  pub a_is : arc.a < MOST_PARTS
-  pub b_is : arc.b < MOST_PARTS
+-- what a joined test rules out at directions with these signs
+abbrev pub joined_outside : List Sign → JoinedTest → ℕ
+joined_outside signs test = slice_index test.outside
+    (place_of_three (sign_at signs test.first) (sign_at signs test.second) (sign_at signs test.third))
 
 -- the planes of the test have numbers of at most last
 pub record HasPlanesUpTo (last : ℕ) (test : JoinedTest) : Type 0 where
@@ -99,18 +56,48 @@ pub record HasPlanesUpTo (last : ℕ) (test : JoinedTest) : Type 0 where
   pub second : test.second ≤ last
   pub third : test.third ≤ last
 
--- no test has a plane behind the last, and there can be the parts
-pub record IsJoinedBlock (block : JoinedBlock) : Type 0 where
-  pub planes : All (HasPlanesUpTo block.last) block.tests.items
-  pub parts : All HasParts block.arcs.items
+-- ---- the parts that cones are of
 
--- the tests rule out what is not in a cone
+-- the arc says that cone j is one of the parts a and b
+abbrev pub IsConeOf : ArcCones → ℕ → ℕ → ℕ → Type 0
+IsConeOf arc a b j = (arc.a ≡ a) × (arc.b ≡ b) × (bit_at arc.cones j ≡ 1)
+
+-- some arc of the list does
+abbrev pub HasCone : List ArcCones → ℕ → ℕ → ℕ → Type 0
+HasCone arcs a b j = Any (λ arc. IsConeOf arc a b j) arcs
+
+-- some cone of the arc is left
+abbrev pub HasLeft : ArcCones → (outside : ℕ) → Type 0
+HasLeft arc outside = (j : ℕ) × (bit_at arc.cones j ≡ 1) × IsLeft outside j
+
+-- some cone of the parts a and b is among those that are left
+pub record HasConeAmong (arcs : List ArcCones) (left : ℕ → Type 0) (a b : ℕ) : Type 0 where
+  pub cone : ℕ
+  pub has : HasCone arcs a b cone
+  pub is_left : left cone
+
+-- there can be two such parts
+pub record HasParts (arc : ArcCones) : Type 0 where
+  pub a_is : arc.a < MOST_PARTS
+  pub b_is : arc.b < MOST_PARTS
+
+-- ---- blocks
+
+-- directions with these signs lie in cone j, where there is one
+abbrev pub AreInsideCone : List Sign → List (List Side) → ℕ → Type 0
+AreInsideCone signs cones j = (cone : List Side) → slice_get cones j ≡ Some cone → AreInside signs cone
+
+-- directions with these signs lie in cone j exactly where no test rules it out
 pub record IsBlock (block : Block) : Type 0 where
   pub few : length block.cones.items ≤ 128
-  pub tests : (signs : List Sign) (j : ℕ) → PassesAll signs block.tests.items j
-      ↔ ((cone : List Side) → slice_get block.cones.items j ≡ Some cone → AreInside signs cone)
+  pub tests : (signs : List Sign) (j : ℕ) → IsLeftByAll (outside_by signs) block.tests.items j
+      ↔ AreInsideCone signs block.cones.items j
   pub within : (a b j : ℕ) → HasCone block.arcs.items a b j → j < length block.cones.items
   pub parts : All HasParts block.arcs.items
+
+-- directions with these signs lie in a cone of the parts a and b
+abbrev pub IsBlockArc : Block → List Sign → ℕ → ℕ → Type 0
+IsBlockArc block signs = HasConeAmong block.arcs.items (IsLeftByAll (outside_by signs) block.tests.items)
 
 -- the block has grown by a cone of the parts a and b
 pub record AddsToBlock (cone : List Side) (a b : ℕ) (old new : Block) : Type 0 where
@@ -118,6 +105,11 @@ pub record AddsToBlock (cone : List Side) (a b : ℕ) (old new : Block) : Type 0
   pub arcs : (signs : List Sign) (x y : ℕ)
       → IsBlockArc new signs x y ↔ (IsBlockArc old signs x y ⊎ ((x ≡ a) × (y ≡ b) × AreInside signs cone))
 
--- not all cones of the parts are ruled out
-abbrev pub IsLeft : ArcCones → ℕ → Type 0
-IsLeft arc outside = (j : ℕ) × (bit_at arc.cones j ≡ 1) × (bit_at outside j ≡ 0)
+-- the same arcs of a block whose tests are joined
+abbrev pub IsJoinedArc : JoinedBlock → List Sign → ℕ → ℕ → Type 0
+IsJoinedArc block signs = HasConeAmong block.arcs.items (IsLeftByAll (joined_outside signs) block.tests.items)
+
+-- no test has a plane behind the last, and there can be the parts
+pub record IsJoinedBlock (block : JoinedBlock) : Type 0 where
+  pub planes : All (HasPlanesUpTo block.last) block.tests.items
+  pub parts : All HasParts block.arcs.items

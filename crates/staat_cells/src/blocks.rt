@@ -19,7 +19,8 @@ ghost use Rattle.staat_cells.specs.declared.blocks.Block.{Block as BlockValue};
 ghost use Rattle.staat_cells.specs.declared.blocks.PlaneTest.{PlaneTest as TestValue};
 ghost use Rattle.staat_cells.specs.declared.half_spaces.Side.{Side as SideValue};
 ghost use Rattle.staat_cells.specs.HalfSpaces.{AreInside, IsOnSide};
-ghost use Rattle.staat_cells.specs.Blocks.{AddsToBlock, HasCone, HasParts, IsBlock, IsPassedAt, PassesAll};
+ghost use Rattle.staat_cells.specs.Blocks.{AddsToBlock, HasCone, HasParts, IsBlock, IsLeft, IsLeftByAll};
+ghost use Rattle.staat_cells.specs.Blocks.{outside_at, outside_by};
 ghost use Rattle.staat_cells.specs.CellGraphs.{AddsCone};
 
 use crate::half_spaces::{HalfSpaces, Side, copied, is_same_cone};
@@ -60,8 +61,8 @@ pub struct Block {
 fn with_cone(test: PlaneTest, s: Sign, j: usize) -> PlaneTest
     requires { j < 128 }
     ensures plane { result.plane ≡ test.plane }
-    ensures passed { (t : SignValue) (k : ℕ) → IsPassedAt result t k ↔ (IsPassedAt test t k × (k ≡ j
-        → t ≡ s)) }
+    ensures left { (t : SignValue) (k : ℕ) → IsLeft (outside_at result t) k
+        ↔ (IsLeft (outside_at test t) k × (k ≡ j → t ≡ s)) }
 {
     let bit: u128 = 1 << j;
     let below = test.outside[0];
@@ -94,8 +95,8 @@ fn place_of_plane(tests: &[PlaneTest], plane: usize) -> usize
 // adds a side of the cone j
 fn add_side(tests: &mut Vec<PlaneTest>, side: Side, j: usize) -> Result<(), OutOfMemory>
     requires { j < 128 }
-    ensures { OnOk result ((signs : List SignValue) (k : ℕ) → PassesAll signs tests.new.items k
-        ↔ (PassesAll signs tests.old.items k × (k ≡ j → IsOnSide signs side))) }
+    ensures { OnOk result ((signs : List SignValue) (k : ℕ) → IsLeftByAll (outside_by signs) tests.new.items k
+        ↔ (IsLeftByAll (outside_by signs) tests.old.items k × (k ≡ j → IsOnSide signs side))) }
 {
     let at = place_of_plane(tests, side.plane);
     if at < tests.len() {
@@ -113,8 +114,8 @@ fn add_side(tests: &mut Vec<PlaneTest>, side: Side, j: usize) -> Result<(), OutO
 // adds the sides of the cone j
 fn add_sides(tests: &mut Vec<PlaneTest>, cone: &[Side], j: usize) -> Result<(), OutOfMemory>
     requires { j < 128 }
-    ensures { OnOk result ((signs : List SignValue) (k : ℕ) → PassesAll signs tests.new.items k
-        ↔ (PassesAll signs tests.old.items k × (k ≡ j → AreInside signs cone.now))) }
+    ensures { OnOk result ((signs : List SignValue) (k : ℕ) → IsLeftByAll (outside_by signs) tests.new.items k
+        ↔ (IsLeftByAll (outside_by signs) tests.old.items k × (k ≡ j → AreInside signs cone.now))) }
 {
     for side in cone {
         add_side(tests, *side, j)?;

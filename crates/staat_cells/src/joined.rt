@@ -6,8 +6,8 @@ ghost use Rattle.std.specs.Int.{bit_at};
 ghost use Rattle.staat_vec.specs.declared.vector.Sign.{Sign as SignValue};
 ghost use Rattle.staat_graph.specs.Graphs.{HasArc};
 ghost use Rattle.staat_cells.specs.Blocks.{HasParts, HasPlanesUpTo, IsBlock, IsBlockArc, IsJoinedArc, IsJoinedBlock};
-ghost use Rattle.staat_cells.specs.Blocks.{IsJoinedPassed, IsLeft, IsPassed, PassesAll, PassesJoined};
-ghost use Rattle.staat_cells.specs.Blocks.{joined_place, joined_word, no_test};
+ghost use Rattle.staat_cells.specs.Blocks.{HasLeft, IsLeft, IsLeftByAll, joined_outside, no_test, outside_by};
+ghost use Rattle.staat_cells.specs.Blocks.{outside_together, place_of_three};
 ghost use Rattle.staat_cells.specs.CellGraphs.{IsArcAt, IsListedArc};
 ghost use Rattle.staat_cells.specs.HalfSpaces.{sign_at};
 
@@ -52,7 +52,8 @@ fn test_at(tests: &[PlaneTest], k: usize) -> PlaneTest
 
 // the words of three tests, together for each three signs
 fn joined_words(x: &PlaneTest, y: &PlaneTest, z: &PlaneTest) -> [u128; 27]
-    ensures { (i : ℕ) → i < 27 → slice_index result i ≡ joined_word x.now y.now z.now i }
+    ensures { (s t u : SignValue) → slice_index result (place_of_three s t u)
+        ≡ outside_together x.now y.now z.now s t u }
 {
     let mut words = [0u128; 27];
     for i in 0..27 {
@@ -63,8 +64,8 @@ fn joined_words(x: &PlaneTest, y: &PlaneTest, z: &PlaneTest) -> [u128; 27]
 
 // three tests as one
 fn joined(x: PlaneTest, y: PlaneTest, z: PlaneTest) -> JoinedTest
-    ensures { (signs : List SignValue) (j : ℕ) → IsJoinedPassed signs j result
-        ↔ (IsPassed signs j x × IsPassed signs j y × IsPassed signs j z) }
+    ensures { (signs : List SignValue) (j : ℕ) → IsLeft (joined_outside signs result) j
+        ↔ (IsLeft (outside_by signs x) j × IsLeft (outside_by signs y) j × IsLeft (outside_by signs z) j) }
 {
     JoinedTest {
         first: x.plane,
@@ -77,7 +78,7 @@ fn joined(x: PlaneTest, y: PlaneTest, z: PlaneTest) -> JoinedTest
 // the tests, joined by threes
 fn joined_tests(alloc: Global, tests: &[PlaneTest]) -> Result<Vec<JoinedTest>, OutOfMemory>
     ensures { IfOk result (λ found. (signs : List SignValue) (j : ℕ)
-        → PassesJoined signs found.items j ↔ PassesAll signs tests.now j) }
+        → IsLeftByAll (joined_outside signs) found.items j ↔ IsLeftByAll (outside_by signs) tests.now j) }
 {
     let count = tests.len().div_ceil(3);
     let mut found = Vec::with_capacity(alloc, count)?;
@@ -162,7 +163,7 @@ fn sign_at(signs: &[Sign], k: usize) -> Sign
 
 // the word of a test that the signs choose, where there may be no sign of one of its planes
 fn word_at(test: &JoinedTest, signs: &[Sign]) -> u128
-    ensures { result ≡ slice_index test.now.outside (joined_place signs.now test.now) }
+    ensures { result ≡ joined_outside signs.now test.now }
 {
     let first = place(sign_at(signs, test.first));
     let second = place(sign_at(signs, test.second));
@@ -174,7 +175,7 @@ fn word_at(test: &JoinedTest, signs: &[Sign]) -> u128
 fn word_within(test: &JoinedTest, signs: &[Sign], last: usize) -> u128
     requires planes { HasPlanesUpTo last test.now }
     requires signs { last < length signs.now }
-    ensures { result ≡ slice_index test.now.outside (joined_place signs.now test.now) }
+    ensures { result ≡ joined_outside signs.now test.now }
 {
     let first = place(signs[test.first]);
     let second = place(signs[test.second]);
@@ -186,7 +187,7 @@ fn word_within(test: &JoinedTest, signs: &[Sign], last: usize) -> u128
 fn ruled_out_within(tests: &[JoinedTest], signs: &[Sign], last: usize) -> u128
     requires planes { All (HasPlanesUpTo last) tests.now }
     requires signs { last < length signs.now }
-    ensures { (j : ℕ) → (bit_at result j ≡ 0) ↔ PassesJoined signs.now tests.now j }
+    ensures { (j : ℕ) → IsLeft result j ↔ IsLeftByAll (joined_outside signs.now) tests.now j }
 {
     let mut found: u128 = 0;
     for test in tests {
@@ -197,7 +198,7 @@ fn ruled_out_within(tests: &[JoinedTest], signs: &[Sign], last: usize) -> u128
 
 // the same where there may be fewer signs
 fn ruled_out(tests: &[JoinedTest], signs: &[Sign]) -> u128
-    ensures { (j : ℕ) → (bit_at result j ≡ 0) ↔ PassesJoined signs.now tests.now j }
+    ensures { (j : ℕ) → IsLeft result j ↔ IsLeftByAll (joined_outside signs.now) tests.now j }
 {
     let mut found: u128 = 0;
     for test in tests {
@@ -227,7 +228,7 @@ fn word_without(x: u128, y: u128) -> u128
 fn row_after(row: u32, outside: u128, arc: &ArcCones) -> u32
     requires { arc.now.b < MOST_PARTS }
     ensures { (q : ℕ) → (bit_at result q ≡ 1) ↔ ((bit_at row q ≡ 1) ⊎ ((q ≡ arc.now.b)
-        × IsLeft arc.now outside)) }
+        × HasLeft arc.now outside)) }
 {
     if word_without(arc.cones, outside) != 0 {
         with_arc(row, arc.b)
@@ -239,7 +240,7 @@ fn row_after(row: u32, outside: u128, arc: &ArcCones) -> u32
 // the cones of a block that are ruled out
 fn ruled_out_of(block: &JoinedBlock, signs: &[Sign]) -> u128
     requires { IsJoinedBlock block.now }
-    ensures { (j : ℕ) → (bit_at result j ≡ 0) ↔ PassesJoined signs.now block.now.tests.items j }
+    ensures { (j : ℕ) → IsLeft result j ↔ IsLeftByAll (joined_outside signs.now) block.now.tests.items j }
 {
     if block.last < signs.len() {
         ruled_out_within(&block.tests, signs, block.last)

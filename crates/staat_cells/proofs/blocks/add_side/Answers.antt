@@ -15,9 +15,9 @@ returns-then-at-len c =
     c.deref.ensures.value c.place_of_plane-at.ensures in
     side_set tests c.args.side c.args.j at d c.with_cone.result lt c.index.ensures
     (ap (λ (t : PlaneTest). t.plane) c.index.ensures ∙ place lt d) c.with_cone.ensures.plane
-    c.with_cone.ensures.passed
+    c.with_cone.ensures.left
 
 pub returns : goal.returns
 returns c =
     side_pushed c.args.tests.now.items c.push.new.self.items c.args.side c.args.j c.with_cone-2.result
-    c.with_cone-2.ensures.plane c.with_cone-2.ensures.passed c.in_ok-push.ensures.items
+    c.with_cone-2.ensures.plane c.with_cone-2.ensures.left c.in_ok-push.ensures.items

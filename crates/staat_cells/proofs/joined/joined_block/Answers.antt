@@ -2,7 +2,7 @@ use Rattle.std.proofs.Common.{◌∙◌, ◌↔◌, ℕ, List, All, subst, sym}
 use Rattle.staat_vec.specs.declared.vector.Sign.{Sign}
 use Rattle.staat_cells.specs.declared.blocks.PlaneTest.{PlaneTest}
 use Rattle.staat_cells.specs.declared.joined.JoinedTest.{JoinedTest}
-use Rattle.staat_cells.specs.Blocks.{HasParts, HasPlanesUpTo, PassesAll, PassesJoined}
+use Rattle.staat_cells.specs.Blocks.{HasParts, HasPlanesUpTo, IsLeftByAll, joined_outside, outside_by}
 use Rattle.staat_cells.proofs.JoinedTests.{joined_arc}
 use Rattle.staat_cells.proofs.joined.joined_block.Goals as goal
 
@@ -16,6 +16,6 @@ returns c =
       };
       arcs = joined_arc c.args.block.now
           (record { tests = c.in_ok-tests.tests; last = c.last_plane-last.result; arcs = c.in_ok-arcs.arcs }) same
-          (subst (λ (l : List PlaneTest). (signs : List Sign) (j : ℕ) → PassesJoined signs c.in_ok-tests.tests.items j
-          ↔ PassesAll signs l j) c.deref.ensures.value c.in_ok-tests.ensures);
+          (subst (λ (l : List PlaneTest). (signs : List Sign) (j : ℕ) → IsLeftByAll (joined_outside signs) c.in_ok-tests.tests.items j
+          ↔ IsLeftByAll (outside_by signs) l j) c.deref.ensures.value c.in_ok-tests.ensures);
     }
