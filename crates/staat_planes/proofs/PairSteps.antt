@@ -26,7 +26,7 @@ use Rattle.staat_pairs.specs.Tables.{AreTablePlanes, Table, WasMadeFrom}
 use Rattle.staat_pairs.proofs.DropLemmas.{drop_at, drop_end}
 use Rattle.staat_planes.specs.declared.pairs.PlanePairs.{PlanePairs}
 use Rattle.staat_planes.specs.Tables.{IsPlaneOf}
-use Rattle.staat_planes.specs.VertexSearch.{AreRisingNumbers, HasRowBefore, IsPlaceIn, numbers_of, planes_at, vertices_left}
+use Rattle.staat_planes.specs.PairOrder.{AreRisingNumbers, HasRowBefore, IsPlaceIn, numbers_of, planes_at, vertices_left}
 use Rattle.staat_planes.proofs.UsedPlanes.{numbered_are, one_behind, places_rise}
 
 -- ---- the numbers of the used planes, as far as they were looked at

@@ -10,7 +10,7 @@ use Rattle.staat_vec.specs.Vectors.{negative}
 use Rattle.staat_model.proofs.Members.{All-from_members}
 use Rattle.staat_vec.proofs.Unique.{Contains-front, Contains-later}
 use Rattle.staat_planes.specs.declared.search.Served.{Served}
-use Rattle.staat_planes.specs.VertexSearch.{ArePassed, AreSearched, IsFirstServed}
+use Rattle.staat_planes.specs.VertexSearch.{ArePassed, IsFirstIfAny, IsFirstServed}
 
 -- what is left behind a pair, or less, is less than what was left at it
 pub shorter : (left later less : List V3) (d : V3) → left ≡ d ∷ negative d ∷ later → length less ≤ length later → length less < length left
@@ -71,18 +71,18 @@ module _ (serves : V3 → Type 0) where
     }
 
     -- a search that goes on where another one ended
-    pub searched_behind : (vs left : List V3) (r : Option (Served F)) → ArePassed serves vs left → AreSearched serves finds left r → AreSearched serves finds vs r
+    pub searched_behind : (vs left : List V3) (r : Option (Served F)) → ArePassed serves vs left → IsFirstIfAny serves finds left r → IsFirstIfAny serves finds vs r
     searched_behind vs left None p none = subst (All Not) (sym p.is) (All-append Not p.before left p.none none)
     searched_behind vs left (Some s) p h = record {
       first = subst (λ l. IsFirst serves l s.d) (sym p.is) (first_behind p.before left s.d (λ v c. All-contains Not p.before v p.none c) h.first);
       found_is = h.found_is;
     }
 
-    pub neither : (d : V3) → (serves d → ⊥) × (serves (negative d) → ⊥) → AreSearched serves finds (d ∷ negative d ∷ []) None
+    pub neither : (d : V3) → (serves d → ⊥) × (serves (negative d) → ⊥) → IsFirstIfAny serves finds (d ∷ negative d ∷ []) None
     neither d h = All-cons Not d (negative d ∷ []) h.0 (All-cons Not (negative d) [] h.1 (All-nil Not))
 
-    pub ahead : (d : V3) (s : Served F) → s.d ≡ d → serves d × finds d s.found → AreSearched serves finds (d ∷ negative d ∷ []) (Some s)
+    pub ahead : (d : V3) (s : Served F) → s.d ≡ d → serves d × finds d s.found → IsFirstIfAny serves finds (d ∷ negative d ∷ []) (Some s)
     ahead d s e h = record { first = inl (e, h.0); found_is = subst (λ v. finds v s.found) (sym e) h.1 }
 
-    pub opposite : (d : V3) (s : Served F) → s.d ≡ negative d → (serves d → ⊥) × serves (negative d) × finds (negative d) s.found → AreSearched serves finds (d ∷ negative d ∷ []) (Some s)
+    pub opposite : (d : V3) (s : Served F) → s.d ≡ negative d → (serves d → ⊥) × serves (negative d) × finds (negative d) s.found → IsFirstIfAny serves finds (d ∷ negative d ∷ []) (Some s)
     opposite d s e h = record { first = inr (h.0, inl (e, h.1)); found_is = subst (λ v. finds v s.found) (sym e) h.2 }

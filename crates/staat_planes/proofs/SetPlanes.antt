@@ -19,7 +19,7 @@ use Rattle.staat_model.proofs.Members.{All-from_members}
 use Rattle.staat_model.proofs.Places.{Contains-from_place, place_within}
 use Rattle.staat_pairs.specs.Tables.{AreTablePlanes, IsPlaneNormal, Table}
 use Rattle.staat_planes.specs.SetPlanes.{ArePlanesIn}
-use Rattle.staat_planes.specs.VertexSearch.{AreRisingNumbers, planes_at}
+use Rattle.staat_planes.specs.PairOrder.{AreRisingNumbers, planes_at}
 use Rattle.staat_planes.proofs.PairSteps.{AreUsedBelow, Tells, none_more, none_used, one_used}
 use Rattle.staat_planes.proofs.UsedPlanes.{begins, numbered_planes, picked_sorted, places_rise, sorted_places}
 

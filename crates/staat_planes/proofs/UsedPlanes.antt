@@ -19,7 +19,7 @@ use Rattle.staat_model.proofs.Differences.{from_map, in_map}
 use Rattle.staat_model.proofs.OneTable.{ArePlanes-unique}
 use Rattle.staat_pairs.specs.Tables.{Table, WasMadeFrom}
 use Rattle.staat_planes.specs.Tables.{IsPlaneOf}
-use Rattle.staat_planes.specs.VertexSearch.{AreRisingNumbers, planes_at}
+use Rattle.staat_planes.specs.PairOrder.{AreRisingNumbers, planes_at}
 
 -- ---- ascending numbers
 

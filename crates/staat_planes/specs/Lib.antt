@@ -1,5 +1,6 @@
 pub mod Tables
 pub mod Refusals
+pub mod PairOrder
 pub mod VertexSearch
 pub mod Marks
 pub mod SetPlanes

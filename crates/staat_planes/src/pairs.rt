@@ -7,7 +7,7 @@ ghost use Rattle.staat_model.specs.declared.assembly.Part.{Part as PartValue};
 ghost use Rattle.staat_model.specs.Planes.{ArePlanes, vertices};
 ghost use Rattle.staat_model.specs.Sets.{IsSubset};
 ghost use Rattle.staat_pairs.specs.Tables.{WasMadeFrom};
-ghost use Rattle.staat_planes.specs.VertexSearch.{HasRowBefore, IsPlaceIn, IsRowOf, vertices_left};
+ghost use Rattle.staat_planes.specs.PairOrder.{HasRowBefore, IsPlaceIn, IsRowOf, vertices_left};
 
 use crate::table::PlaneTable;
 use staat_model::PartSet;

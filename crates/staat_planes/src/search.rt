@@ -1,5 +1,5 @@
 // The search for the first vertex of the planes of a set of parts that serves.
-ghost use Rattle.std.specs.Prelude.{◌≡◌, ◌≢◌, ◌≤◌, List, ◌∷◌, [], All, IfSome, IsTrue, length, pos};
+ghost use Rattle.std.specs.Prelude.{◌≡◌, ◌≢◌, ◌≤◌, List, ◌∷◌, [], All, IfSome, IsTrue, length, pos, ⊤};
 ghost use Rattle.staat_vec.specs.declared.vector.V3.{V3 as Vector};
 ghost use Rattle.staat_vec.specs.Vectors.{IsWithin, dot, negative, origin};
 ghost use Rattle.staat_model.specs.declared.assembly.Part.{Part as PartValue};
@@ -7,8 +7,9 @@ ghost use Rattle.staat_model.specs.declared.set.PartSet.{PartSet as PartSetValue
 ghost use Rattle.staat_model.specs.Planes.{ArePlanes, vertices};
 ghost use Rattle.staat_model.specs.Sets.{IsSubset};
 ghost use Rattle.staat_pairs.specs.Tables.{Table, WasMadeFrom};
-ghost use Rattle.staat_planes.specs.VertexSearch.{ArePassed, AreSearched, IsPlaceIn, IsSearched, IsSearchedAmong};
-ghost use Rattle.staat_planes.specs.VertexSearch.{IsServedAmong, IsSought, IsTried, IsTriedAmong, vertices_left};
+ghost use Rattle.staat_planes.specs.PairOrder.{IsPlaceIn, vertices_left};
+ghost use Rattle.staat_planes.specs.VertexSearch.{ArePairsPassed, ArePassed, IfFirst, IfFound, IsDirectionWith};
+ghost use Rattle.staat_planes.specs.VertexSearch.{IsFirstIfAny, IsFirstOfTwo, IsFirstUnless};
 
 use crate::pairs::PlanePairs;
 use crate::table::PlaneTable;
@@ -74,9 +75,9 @@ pub trait Trial {
         requires some { d ≢ origin }
         ensures fits { fits self.new table.now w }
         ensures knows { (parts : List PartValue) → knows self.old parts → knows self.new parts }
-        ensures among { IsTriedAmong (among w) result }
+        ensures among { IfFound result (among w) }
         ensures tried { (parts : List PartValue) → WasMadeFrom parts table.now → knows self.old parts
-            → IsTried (serves parts w) (finds parts w) d result };
+            → IsFirstOfTwo (serves parts w) (finds parts w) d result };
 
     /// Whether it is seen at once that no direction on the plane with the normal `g` serves, so that none of them is
     /// looked at. Where it answers no, nothing is known.
@@ -138,9 +139,9 @@ fn served_at<T: Trial>(
     requires some { d ≢ origin }
     ensures fits { T.fits trial.new table.now w }
     ensures knows { (parts : List PartValue) → T.knows trial.old parts → T.knows trial.new parts }
-    ensures among { IfSome result (IsServedAmong (T.among w)) }
+    ensures among { IfSome result (IsDirectionWith (T.among w)) }
     ensures served { (parts : List PartValue) → WasMadeFrom parts table.now → T.knows trial.old parts
-        → AreSearched (T.serves parts w) (T.finds parts w) (d ∷ negative d ∷ []) result }
+        → IsFirstIfAny (T.serves parts w) (T.finds parts w) (d ∷ negative d ∷ []) result }
 {
     match trial.ask(table, w, d) {
         Tried::Neither => None,
@@ -164,9 +165,9 @@ pub fn first_left<T: Trial>(
     requires within { IsSubset w table.now.of }
     ensures fits { T.fits trial.new table.now w }
     ensures knows { (parts : List PartValue) → T.knows trial.old parts → T.knows trial.new parts }
-    ensures among { IfSome result (IsServedAmong (T.among w)) }
+    ensures among { IfSome result (IsDirectionWith (T.among w)) }
     ensures first { (parts : List PartValue) → WasMadeFrom parts table.now → T.knows trial.old parts
-        → AreSearched (T.serves parts w) (T.finds parts w) (vertices_left table.now.planes pairs.old) result }
+        → IsFirstIfAny (T.serves parts w) (T.finds parts w) (vertices_left table.now.planes pairs.old) result }
 {
     while let Some(d) = pairs.next_crossing(table) {
         if let Some(found) = served_at(table, w, d, trial) {
@@ -192,10 +193,11 @@ pub fn first_few<T: Trial>(
     ensures place { IsPlaceIn table.now.planes pairs.new }
     ensures fits { T.fits trial.new table.now w }
     ensures knows { (parts : List PartValue) → T.knows trial.old parts → T.knows trial.new parts }
-    ensures among { IsSearchedAmong (T.among w) result }
+    ensures among { IfFirst result (IsDirectionWith (T.among w)) }
     ensures first { (parts : List PartValue) → WasMadeFrom parts table.now → T.knows trial.old parts
-        → IsSearched (T.serves parts w) (T.finds parts w) (vertices_left table.now.planes pairs.old)
-        (vertices_left table.now.planes pairs.new) limit result }
+        → IsFirstUnless (ArePairsPassed (T.serves parts w) (vertices_left table.now.planes pairs.old)
+        (vertices_left table.now.planes pairs.new) limit) (T.serves parts w) (T.finds parts w)
+        (vertices_left table.now.planes pairs.old) result }
 {
     for _k in 0..limit {
         let Some(d) = pairs.next_crossing(table) else {
@@ -220,10 +222,10 @@ pub fn first_passing<T: Trial>(
     requires within { IsSubset w table.now.of }
     ensures fits { T.fits trial.new table.now w }
     ensures knows { (parts : List PartValue) → T.knows trial.old parts → T.knows trial.new parts }
-    ensures among { IsSearchedAmong (T.among w) result }
+    ensures among { IfFirst result (IsDirectionWith (T.among w)) }
     ensures first { (parts : List PartValue) (planes : List Vector) → WasMadeFrom parts table.now
         → T.knows trial.old parts → ArePlanes parts w planes
-        → IsSought (T.serves parts w) (T.finds parts w) (vertices planes) result }
+        → IsFirstUnless ⊤ (T.serves parts w) (T.finds parts w) (vertices planes) result }
 {
     let mut pairs = PlanePairs::of(table, w);
     pass_rows(&mut pairs, table, w, trial);
@@ -245,10 +247,10 @@ fn first_late<T: Trial>(table: &PlaneTable, w: PartSet, trial: &mut T) -> Option
     requires within { IsSubset w table.now.of }
     ensures fits { T.fits trial.new table.now w }
     ensures knows { (parts : List PartValue) → T.knows trial.old parts → T.knows trial.new parts }
-    ensures among { IfSome result (IsServedAmong (T.among w)) }
+    ensures among { IfSome result (IsDirectionWith (T.among w)) }
     ensures first { (parts : List PartValue) (planes : List Vector) → WasMadeFrom parts table.now
         → T.knows trial.old parts → ArePlanes parts w planes
-        → AreSearched (T.serves parts w) (T.finds parts w) (vertices planes) result }
+        → IsFirstIfAny (T.serves parts w) (T.finds parts w) (vertices planes) result }
 {
     if trial.rules_out_all(table, w) {
         return None;
@@ -272,10 +274,10 @@ pub fn first_vertex<T: Trial>(
     requires within { IsSubset w table.now.of }
     ensures fits { T.fits trial.new table.now w }
     ensures knows { (parts : List PartValue) → T.knows trial.old parts → T.knows trial.new parts }
-    ensures among { IfSome result (IsServedAmong (T.among w)) }
+    ensures among { IfSome result (IsDirectionWith (T.among w)) }
     ensures first { (parts : List PartValue) (planes : List Vector) → WasMadeFrom parts table.now
         → T.knows trial.old parts → ArePlanes parts w planes
-        → AreSearched (T.serves parts w) (T.finds parts w) (vertices planes) result }
+        → IsFirstIfAny (T.serves parts w) (T.finds parts w) (vertices planes) result }
 {
     let mut pairs = PlanePairs::of(table, w);
     match first_few(&mut pairs, table, w, trial, FEW_PAIRS) {

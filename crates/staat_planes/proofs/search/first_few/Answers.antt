@@ -1,6 +1,6 @@
 use Rattle.std.proofs.Common.{◌≡◌, ◌*◌, arith, refl, subst, [], length}
 use Rattle.std.proofs.lemmas.List.Elements.{All-nil}
-use Rattle.staat_planes.specs.VertexSearch.{vertices_left}
+use Rattle.staat_planes.specs.PairOrder.{vertices_left}
 use Rattle.staat_planes.proofs.SearchSteps.{first_of, two_longer, two_passed}
 use Rattle.staat_planes.proofs.search.first_few.Goals as goal
 

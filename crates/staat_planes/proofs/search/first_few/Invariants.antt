@@ -1,7 +1,8 @@
-use Rattle.std.proofs.Common.{◌≡◌, ◌*◌, List, length}
+use Rattle.std.proofs.Common.{List}
 use Rattle.staat_model.specs.declared.assembly.Part.{Part}
 use Rattle.staat_pairs.specs.Tables.{WasMadeFrom}
-use Rattle.staat_planes.specs.VertexSearch.{ArePassed, IsPlaceIn, vertices_left}
+use Rattle.staat_planes.specs.PairOrder.{IsPlaceIn, vertices_left}
+use Rattle.staat_planes.specs.VertexSearch.{ArePairsPassed}
 use Rattle.staat_planes.proofs.search.first_few.Given as goal
 
 abbrev pub invariant-loop-k : goal.invariant-loop-k
@@ -10,5 +11,5 @@ invariant-loop-k g l = record {
   fits : g.T.Trial.fits l.trial l.table l.w;
   knows : (parts : List Part) → g.T.Trial.knows l.initial.trial parts → g.T.Trial.knows l.trial parts;
   passed : (parts : List Part) → WasMadeFrom parts l.table → g.T.Trial.knows l.initial.trial parts
-      → (p : ArePassed (g.T.Trial.serves parts l.w) (vertices_left l.table.planes l.initial.pairs) (vertices_left l.table.planes l.pairs)) × (length p.before ≡ 2 * l._k);
+      → ArePairsPassed (g.T.Trial.serves parts l.w) (vertices_left l.table.planes l.initial.pairs) (vertices_left l.table.planes l.pairs) l._k;
 }

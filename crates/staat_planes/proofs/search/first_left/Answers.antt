@@ -1,4 +1,4 @@
-use Rattle.staat_planes.specs.VertexSearch.{vertices_left}
+use Rattle.staat_planes.specs.PairOrder.{vertices_left}
 use Rattle.staat_planes.proofs.SearchSteps.{first_of, passed_both, shorter, two_passed}
 use Rattle.staat_planes.proofs.search.first_left.Goals as goal
 

@@ -1,6 +1,7 @@
 use Rattle.std.proofs.Common.{All, subst}
 use Rattle.staat_model.specs.Planes.{vertices}
-use Rattle.staat_planes.specs.VertexSearch.{ArePassed, vertices_left}
+use Rattle.staat_planes.specs.PairOrder.{vertices_left}
+use Rattle.staat_planes.specs.VertexSearch.{ArePassed}
 use Rattle.staat_planes.proofs.SearchSteps.{all_passed, first_of, passed_both, two_passed}
 use Rattle.staat_planes.proofs.search.first_passing.Goals as goal
 

@@ -3,7 +3,8 @@ use Rattle.staat_model.specs.declared.assembly.Part.{Part}
 use Rattle.staat_model.specs.Planes.{ArePlanes, vertices}
 use Rattle.staat_vec.specs.declared.vector.V3.{V3}
 use Rattle.staat_pairs.specs.Tables.{WasMadeFrom}
-use Rattle.staat_planes.specs.VertexSearch.{ArePassed, IsPlaceIn, vertices_left}
+use Rattle.staat_planes.specs.PairOrder.{IsPlaceIn, vertices_left}
+use Rattle.staat_planes.specs.VertexSearch.{ArePassed}
 use Rattle.staat_planes.proofs.search.first_passing.Given as goal
 
 abbrev pub invariant-loop-k : goal.invariant-loop-k

@@ -4,7 +4,7 @@ use Rattle.std.specs.Prelude.{slice_index, slice_index_or}
 use Rattle.staat_vec.specs.declared.vector.V3.{V3}
 use Rattle.staat_vec.specs.Vectors.{origin}
 use Rattle.staat_model.specs.Planes.{crossings}
-use Rattle.staat_planes.specs.VertexSearch.{numbers_of, planes_at, vertices_left}
+use Rattle.staat_planes.specs.PairOrder.{numbers_of, planes_at, vertices_left}
 use Rattle.staat_planes.proofs.PairSteps.{IsOn, row_shorter}
 use Rattle.staat_planes.proofs.SearchSteps.{none_passed, row_passed}
 use Rattle.staat_planes.proofs.search.pass_rows.Goals as goal

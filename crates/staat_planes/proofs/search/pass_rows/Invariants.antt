@@ -1,7 +1,8 @@
 use Rattle.std.proofs.Common.{◌≤◌, List, length}
 use Rattle.staat_model.specs.declared.assembly.Part.{Part}
 use Rattle.staat_pairs.specs.Tables.{WasMadeFrom}
-use Rattle.staat_planes.specs.VertexSearch.{ArePassed, IsPlaceIn, vertices_left}
+use Rattle.staat_planes.specs.PairOrder.{IsPlaceIn, vertices_left}
+use Rattle.staat_planes.specs.VertexSearch.{ArePassed}
 use Rattle.staat_planes.proofs.search.pass_rows.Given as goal
 
 abbrev pub invariant-loop-g : goal.invariant-loop-g

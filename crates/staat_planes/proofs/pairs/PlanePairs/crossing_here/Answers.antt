@@ -3,7 +3,7 @@ use Rattle.std.specs.Prelude.{Some, slice_get, slice_index, slice_index_or}
 use Rattle.std.proofs.lemmas.Option.{get_or_from_slice_get}
 use Rattle.staat_vec.specs.declared.vector.V3.{V3}
 use Rattle.staat_vec.specs.Vectors.{negative, origin}
-use Rattle.staat_planes.specs.VertexSearch.{numbers_of, vertices_left}
+use Rattle.staat_planes.specs.PairOrder.{numbers_of, vertices_left}
 use Rattle.staat_planes.proofs.PairSteps.{apart_at, length_used, number_at, number_in, pair_left}
 use Rattle.staat_planes.proofs.pairs.PlanePairs.crossing_here.Goals as goal
 

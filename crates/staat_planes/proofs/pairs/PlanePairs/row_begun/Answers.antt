@@ -4,7 +4,7 @@ use Rattle.std.proofs.lemmas.Option.{get_or_from_slice_get}
 use Rattle.staat_vec.specs.Vectors.{origin}
 use Rattle.staat_model.proofs.Members.{All-from_members}
 use Rattle.staat_model.specs.Planes.{crossings}
-use Rattle.staat_planes.specs.VertexSearch.{numbers_of, planes_at}
+use Rattle.staat_planes.specs.PairOrder.{numbers_of, planes_at}
 use Rattle.staat_planes.proofs.PairSteps.{IsOn, apart_behind, length_used, number_at, number_in, on_row}
 use Rattle.staat_planes.proofs.pairs.PlanePairs.row_begun.Goals as goal
 
