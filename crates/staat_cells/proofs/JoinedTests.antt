@@ -17,7 +17,7 @@ use Rattle.staat_cells.specs.declared.joined.JoinedTest.{JoinedTest}
 use Rattle.staat_cells.specs.HalfSpaces.{sign_at}
 use Rattle.staat_cells.specs.CellGraphs.{HasArcsOf, IsArcAt, IsListedArc, ListsArcsOf}
 use Rattle.staat_cells.specs.Blocks.{HasCone, HasPlanesUpTo, IsBlockArc, IsJoinedArc}
-use Rattle.staat_cells.specs.Blocks.{IsLeft, IsLeftByAll, joined_outside, no_test, outside_at, outside_by, outside_together, place_of_three}
+use Rattle.staat_cells.specs.Blocks.{IsLeft, IsLeftByAll, joined_outside, no_test, outside_by, outside_together, place_of_three}
 use Rattle.staat_cells.proofs.Elements.{all_more, all_pushed, any_more, any_pushed}
 
 lt_or : (a b : ℕ) → (a < b) ⊎ (b ≤ a)

@@ -1,7 +1,8 @@
 -- The splits of a plan, one node after another.
-use Rattle.std.proofs.Common.{◌≡◌, inl, inr, ℕ, zero, suc, ◌+◌, ◌≤◌, arith, refl, sym, ap, subst, ◌∙◌, List, [], ◌∷◌, ◌++◌, length, take, drop, append_assoc, append-nil, length-append}
+use Rattle.std.proofs.Common.{◌≡◌, ℕ, zero, suc, ◌+◌, ◌≤◌, arith, refl, sym, ap, subst, ◌∙◌, List, [], ◌∷◌, ◌++◌, length, take, drop, append_assoc, append-nil, length-append, All}
 use Rattle.std.specs.Prelude.{Some, None, slice_get, sum_by}
 use Rattle.std.proofs.Math.Seq.{drop-append_seam}
+use Rattle.std.proofs.lemmas.List.Elements.{All-append, All-cons, All-nil}
 use Rattle.std.proofs.lemmas.List.Sums.{sum_by-append, sum_by-cons, sum_by-take-drop}
 use Rattle.staat_vec.specs.declared.vector.V3.{V3}
 use Rattle.staat_model.specs.declared.assembly.Part.{Part}
@@ -11,10 +12,12 @@ use Rattle.staat_model.specs.declared.certificate.Sep.{Sep}
 use Rattle.staat_model.specs.declared.set.PartSet.{PartSet}
 use Rattle.staat_model.specs.declared.verdict.Reason.{Reason}
 use Rattle.staat_model.specs.Certificates.{WalledPlan, walled_leaf, walled_split, IsLeafAt, nodes_of, walled_parts, SplitHolds, SplitsHold}
-use Rattle.staat_model.specs.Reasons.{IsSplitReason, IsTreeReason, first_line, node_size}
+use Rattle.staat_model.specs.Reasons.{EntryHolds, IsSplitReason, IsTreeReason, SplitEntry, first_line, node_size, splits_of}
 use Rattle.staat_model.specs.Sets.{Has}
+use Rattle.staat_model.proofs.OneReason.{broken_at}
+use Rattle.staat_model.proofs.SplitLists.{splits_hold}
 use Rattle.staat_check.specs.Fronts.{forest_nodes}
-use Rattle.staat_check.specs.Forests.{AreJudged, AreSides, ForestHolds, HasPartsOf, IsForestReason, IsNodeAnswer, Remains}
+use Rattle.staat_check.specs.Forests.{AreJudged, AreSides, HasPartsOf, IsNodeAnswer, Remains, forest_splits}
 use Rattle.staat_pairs.proofs.DropLemmas.{drop_at, drop_end}
 use Rattle.staat_check.proofs.FrontLemmas.{some_node}
 
@@ -43,85 +46,84 @@ parts_behind parts nodes behind k has e m p leaf = has (k + m) p (sym (get_drop 
 
 -- ---- one node more
 
-moved_to : (parts : List Part) (ts : List WalledPlan) (node node' line line' : ℕ) (r : Reason) → node ≡ node' → line ≡ line' → IsForestReason parts ts node line r → IsForestReason parts ts node' line' r
-moved_to parts ts node node' line line' r e f h = subst (λ l. IsForestReason parts ts node' l r) f (subst (λ n. IsForestReason parts ts n line r) e h)
-
-tree_to : (parts : List Part) (t : WalledPlan) (node node' line line' : ℕ) (r : Reason) → node ≡ node' → line ≡ line' → IsTreeReason parts t node line r → IsTreeReason parts t node' line' r
-tree_to parts t node node' line line' r e f h = subst (λ l. IsTreeReason parts t node' l r) f (subst (λ n. IsTreeReason parts t n line r) e h)
-
 module _ (parts : List Part) (t : WalledPlan) (k line : ℕ) where
-  after_leaf : (p : ℕ) (ts : List WalledPlan) (node : Node) (behind : List Node) → node ∷ behind ≡ Leaf p ∷ forest_nodes ts → (ForestHolds parts (walled_leaf p ∷ ts) → SplitsHold parts t)
-      → ((r : Reason) → IsForestReason parts (walled_leaf p ∷ ts) k line r → IsTreeReason parts t 0 first_line r) → Remains parts t behind (k + 1) (line + node_size node)
-  after_leaf p ts node behind e holds reason =
+  -- the splits before these hold, and these are still to be judged
+  abbrev Judged : List SplitEntry → List SplitEntry → Type 0
+  Judged before left = (splits_of t 0 first_line ≡ before ++ left) × All (EntryHolds parts) before
+
+  after_leaf : (p : ℕ) (ts : List WalledPlan) (node : Node) (behind : List Node) (before : List SplitEntry)
+      → node ∷ behind ≡ Leaf p ∷ forest_nodes ts → Judged before (forest_splits (walled_leaf p ∷ ts) k line)
+      → Remains parts t behind (k + 1) (line + node_size node)
+  after_leaf p ts node behind before e judged =
       let same : node ≡ Leaf p = cc in
       record {
         trees = ts;
         behind_are = (let rest : behind ≡ forest_nodes ts = cc in rest);
-        holds = λ h. holds (tt, h);
-        reason = λ r h. reason r (inr (tt, moved_to parts ts (k + 1) _ (line + node_size node) _ r refl (ap (λ n. line + node_size n) same) h));
+        before = before;
+        splits_are = judged.0 ∙ ap (λ n. before ++ forest_splits ts (k + 1) (line + node_size n)) (sym same);
+        hold = judged.1;
       }
 
-  after_split : (d : V3) (seps : List Sep) (m rest : WalledPlan) (ts : List WalledPlan) (node : Node) (behind : List Node) → node ∷ behind ≡ Split d seps ∷ ((nodes_of m ++ nodes_of rest) ++ forest_nodes ts)
-      → IsNodeAnswer parts node behind k line None → (ForestHolds parts (walled_split d seps m rest ∷ ts) → SplitsHold parts t)
-      → ((r : Reason) → IsForestReason parts (walled_split d seps m rest ∷ ts) k line r → IsTreeReason parts t 0 first_line r) → Remains parts t behind (k + 1) (line + node_size node)
-  after_split d seps m rest ts node behind e answer holds reason =
+  after_split : (d : V3) (seps : List Sep) (m rest : WalledPlan) (ts : List WalledPlan) (node : Node) (behind : List Node)
+      (before : List SplitEntry) → node ∷ behind ≡ Split d seps ∷ ((nodes_of m ++ nodes_of rest) ++ forest_nodes ts)
+      → IsNodeAnswer parts node behind k line None → Judged before (forest_splits (walled_split d seps m rest ∷ ts) k line)
+      → Remains parts t behind (k + 1) (line + node_size node)
+  after_split d seps m rest ts node behind before e answer judged =
       let same : node ≡ Split d seps = cc in
       let tail : behind ≡ (nodes_of m ++ nodes_of rest) ++ forest_nodes ts = cc in
       let are : behind ≡ nodes_of m ++ (nodes_of rest ++ forest_nodes ts) = tail ∙ append_assoc (nodes_of m) (nodes_of rest) (forest_nodes ts) in
       let split : SplitHolds parts (walled_parts m) (walled_parts rest) d seps = (subst (λ n. IsNodeAnswer parts n behind k line None) same answer) m rest (forest_nodes ts) are in
       let size : node_size node ≡ 1 + length seps = ap node_size same in
-      let count : length (nodes_of m ++ nodes_of rest) ≡ length (nodes_of m) + length (nodes_of rest) = length-append (nodes_of m) (nodes_of rest) in
-      let sizes : sum_by node_size (nodes_of m ++ nodes_of rest) ≡ sum_by node_size (nodes_of m) + sum_by node_size (nodes_of rest) = sum_by-append node_size (nodes_of m) (nodes_of rest) in
-      let whole : sum_by node_size (nodes_of (walled_split d seps m rest)) ≡ 1 + length seps + sum_by node_size (nodes_of m ++ nodes_of rest) = sum_by-cons node_size (Split d seps) (nodes_of m ++ nodes_of rest) in
+      let x : SplitEntry = record { node = k; line = line; moved = walled_parts m; rest = walled_parts rest; d = d; seps = seps } in
       record {
         trees = m ∷ rest ∷ ts;
         behind_are = are;
-        holds = λ h. holds ((split, h.0, h.1.0), h.1.1);
-        reason = λ r h. reason r (step r size count sizes whole split h);
+        before = before ++ x ∷ [];
+        splits_are = judged.0 ∙ (ap (λ l. before ++ x ∷ l) (regrouped size) ∙ sym (append_assoc before (x ∷ []) (forest_splits (m ∷ rest ∷ ts) (k + 1) (line + node_size node))));
+        hold = All-append (EntryHolds parts) before (x ∷ []) judged.1 (All-cons (EntryHolds parts) x [] split (All-nil (EntryHolds parts)));
       }
     where
-      step : (r : Reason) → node_size node ≡ 1 + length seps → length (nodes_of m ++ nodes_of rest) ≡ length (nodes_of m) + length (nodes_of rest)
-          → sum_by node_size (nodes_of m ++ nodes_of rest) ≡ sum_by node_size (nodes_of m) + sum_by node_size (nodes_of rest)
-          → sum_by node_size (nodes_of (walled_split d seps m rest)) ≡ 1 + length seps + sum_by node_size (nodes_of m ++ nodes_of rest)
-          → SplitHolds parts (walled_parts m) (walled_parts rest) d seps → IsForestReason parts (m ∷ rest ∷ ts) (k + 1) (line + node_size node) r → IsForestReason parts (walled_split d seps m rest ∷ ts) k line r
-      step r size count sizes whole split (inl in_moved) = inl (inr (split, inl (tree_to parts m (k + 1) _ (line + node_size node) _ r refl (let f : line + node_size node ≡ line + 1 + length seps = omega (arith, size) in f) in_moved)))
-      step r size count sizes whole split (inr (hm, inl in_rest)) =
-          inl (inr (
-            split,
-            inr (
-              hm,
-              tree_to parts rest (k + 1 + length (nodes_of m)) _ (line + node_size node + sum_by node_size (nodes_of m)) _ r refl
-                  (let f : line + node_size node + sum_by node_size (nodes_of m) ≡ line + 1 + length seps + sum_by node_size (nodes_of m) = omega (arith, size) in f) in_rest,
-            ),
-          ))
-      step r size count sizes whole split (inr (hm, inr (hr, later))) =
-          inr (
-            (split, hm, hr),
-            moved_to parts ts (k + 1 + length (nodes_of m) + length (nodes_of rest)) _ (line + node_size node + sum_by node_size (nodes_of m) + sum_by node_size (nodes_of rest)) _ r
-                (let e : k + 1 + length (nodes_of m) + length (nodes_of rest) ≡ k + suc (length (nodes_of m ++ nodes_of rest)) = omega (arith, count) in e)
-                (let f : line + node_size node + sum_by node_size (nodes_of m) + sum_by node_size (nodes_of rest) ≡ line + sum_by node_size (nodes_of (walled_split d seps m rest)) = omega (arith, size, sizes, whole) in f) later,
-          )
+      -- the splits of the two sides and of the later trees, as those of trees one after another
+      regrouped : node_size node ≡ 1 + length seps
+          → (splits_of m (k + 1) (line + 1 + length seps)
+          ++ splits_of rest (k + 1 + length (nodes_of m)) (line + 1 + length seps + sum_by node_size (nodes_of m)))
+          ++ forest_splits ts (k + length (nodes_of (walled_split d seps m rest))) (line + sum_by node_size (nodes_of (walled_split d seps m rest)))
+          ≡ forest_splits (m ∷ rest ∷ ts) (k + 1) (line + node_size node)
+      regrouped size =
+          let first = splits_of m (k + 1) (line + node_size node) in
+          let second = splits_of rest (k + 1 + length (nodes_of m)) (line + node_size node + sum_by node_size (nodes_of m)) in
+          let third = forest_splits ts (k + 1 + length (nodes_of m) + length (nodes_of rest)) (line + node_size node + sum_by node_size (nodes_of m) + sum_by node_size (nodes_of rest)) in
+          let count : length (nodes_of m ++ nodes_of rest) ≡ length (nodes_of m) + length (nodes_of rest) = length-append (nodes_of m) (nodes_of rest) in
+          let sizes : sum_by node_size (nodes_of m ++ nodes_of rest) ≡ sum_by node_size (nodes_of m) + sum_by node_size (nodes_of rest) = sum_by-append node_size (nodes_of m) (nodes_of rest) in
+          let whole : sum_by node_size (nodes_of (walled_split d seps m rest)) ≡ 1 + length seps + sum_by node_size (nodes_of m ++ nodes_of rest) = sum_by-cons node_size (Split d seps) (nodes_of m ++ nodes_of rest) in
+          let at_first : line + 1 + length seps ≡ line + node_size node = omega (arith, size) in
+          let at_second : line + 1 + length seps + sum_by node_size (nodes_of m) ≡ line + node_size node + sum_by node_size (nodes_of m) = omega (arith, size) in
+          let number : k + suc (length (nodes_of m ++ nodes_of rest)) ≡ k + 1 + length (nodes_of m) + length (nodes_of rest) = omega (arith, count) in
+          let at_third : line + sum_by node_size (nodes_of (walled_split d seps m rest)) ≡ line + node_size node + sum_by node_size (nodes_of m) + sum_by node_size (nodes_of rest) = omega (arith, size, sizes, whole) in
+          (λ i. (splits_of m (k + 1) (at_first i) ++ splits_of rest (k + 1 + length (nodes_of m)) (at_second i)) ++ forest_splits ts (number i) (at_third i))
+          ∙ append_assoc first second third
 
-  after_node : (ts : List WalledPlan) (node : Node) (behind : List Node) → node ∷ behind ≡ forest_nodes ts → IsNodeAnswer parts node behind k line None → (ForestHolds parts ts → SplitsHold parts t)
-      → ((r : Reason) → IsForestReason parts ts k line r → IsTreeReason parts t 0 first_line r) → Remains parts t behind (k + 1) (line + node_size node)
-  after_node [] node behind e answer holds reason = absurd cc
-  after_node (walled_leaf p ∷ ts) node behind e answer holds reason = after_leaf p ts node behind e holds reason
-  after_node (walled_split d seps m rest ∷ ts) node behind e answer holds reason = after_split d seps m rest ts node behind e answer holds reason
+  after_node : (ts : List WalledPlan) (node : Node) (behind : List Node) (before : List SplitEntry) → node ∷ behind ≡ forest_nodes ts
+      → IsNodeAnswer parts node behind k line None → Judged before (forest_splits ts k line)
+      → Remains parts t behind (k + 1) (line + node_size node)
+  after_node [] node behind before e answer judged = absurd cc
+  after_node (walled_leaf p ∷ ts) node behind before e answer judged = after_leaf p ts node behind before e judged
+  after_node (walled_split d seps m rest ∷ ts) node behind before e answer judged = after_split d seps m rest ts node behind before e answer judged
 
   -- the node breaks a rule
-  at_node : (reason : Reason) (ts : List WalledPlan) (node : Node) (behind : List Node) → node ∷ behind ≡ forest_nodes ts → IsNodeAnswer parts node behind k line (Some reason)
-      → ((r : Reason) → IsForestReason parts ts k line r → IsTreeReason parts t 0 first_line r) → IsTreeReason parts t 0 first_line reason
-  at_node reason [] node behind e answer why = absurd cc
-  at_node reason (walled_leaf p ∷ ts) node behind e answer why =
+  at_node : (reason : Reason) (ts : List WalledPlan) (node : Node) (behind : List Node) (before : List SplitEntry) → node ∷ behind ≡ forest_nodes ts
+      → IsNodeAnswer parts node behind k line (Some reason) → Judged before (forest_splits ts k line) → IsTreeReason parts t reason
+  at_node reason [] node behind before e answer judged = absurd cc
+  at_node reason (walled_leaf p ∷ ts) node behind before e answer judged =
       let same : node ≡ Leaf p = cc in
       let wrong : Some reason ≡ None = subst (λ n. IsNodeAnswer parts n behind k line (Some reason)) same answer in
       absurd cc
-  at_node reason (walled_split d seps m rest ∷ ts) node behind e answer why =
+  at_node reason (walled_split d seps m rest ∷ ts) node behind before e answer judged =
       let same : node ≡ Split d seps = cc in
       let tail : behind ≡ (nodes_of m ++ nodes_of rest) ++ forest_nodes ts = cc in
       let split : IsSplitReason parts (walled_parts m) (walled_parts rest) d seps k line reason =
       (subst (λ n. IsNodeAnswer parts n behind k line (Some reason)) same answer) m rest (forest_nodes ts) (tail ∙ append_assoc (nodes_of m) (nodes_of rest) (forest_nodes ts)) in
-      why reason (inl (inl split))
+      broken_at parts t before _ (record { node = k; line = line; moved = walled_parts m; rest = walled_parts rest; d = d; seps = seps }) reason judged.0 judged.1 split
 
 line_next : (nodes : List Node) (k : ℕ) (node : Node) → slice_get nodes k ≡ Some node → sum_by node_size (take k nodes) + node_size node ≡ sum_by node_size (take (k + 1) nodes)
 line_next nodes k node at =
@@ -133,12 +135,14 @@ line_next nodes k node at =
 pub judged_none : (parts : List Part) (nodes : List Node) → AreJudged parts nodes 0 first_line
 judged_none parts nodes = record {
   line_is = refl;
-  remains = λ t e. record { trees = t ∷ []; behind_are = e ∙ sym (append-nil (nodes_of t)); holds = λ h. h.0; reason = λ r h. one parts t r h };
+  remains = λ t e. record {
+    trees = t ∷ [];
+    behind_are = e ∙ sym (append-nil (nodes_of t));
+    before = [];
+    splits_are = sym (append-nil (splits_of t 0 first_line));
+    hold = All-nil (EntryHolds parts);
+  };
 }
-  where
-    one : (parts : List Part) (t : WalledPlan) (r : Reason) → IsForestReason parts (t ∷ []) 0 first_line r → IsTreeReason parts t 0 first_line r
-    one parts t r (inl h) = h
-    one parts t r (inr h) = absurd h.1
 
 pub judged_next : (parts : List Part) (nodes behind : List Node) (k line next : ℕ) (node : Node) → slice_get nodes k ≡ Some node → behind ≡ drop (k + 1) nodes → next ≡ line + node_size node → AreJudged parts nodes k line → IsNodeAnswer parts node behind k line None → AreJudged parts nodes (k + 1) next
 judged_next parts nodes behind k line next node at e f are answer = record {
@@ -146,22 +150,24 @@ judged_next parts nodes behind k line next node at e f are answer = record {
   remains = λ t g.
       let r = are.remains t g in
       subst (λ l. Remains parts t (drop (k + 1) nodes) (k + 1) l) (sym f)
-      (after_node parts t k line r.trees node (drop (k + 1) nodes) (sym (drop_at nodes k node at) ∙ r.behind_are) (subst (λ l. IsNodeAnswer parts node l k line None) e answer) r.holds r.reason);
+      (after_node parts t k line r.trees node (drop (k + 1) nodes) r.before (sym (drop_at nodes k node at) ∙ r.behind_are) (subst (λ l. IsNodeAnswer parts node l k line None) e answer) (r.splits_are, r.hold));
 }
 
 pub judged_found : (parts : List Part) (nodes behind : List Node) (k line : ℕ) (node : Node) (reason : Reason) → slice_get nodes k ≡ Some node → behind ≡ drop (k + 1) nodes → AreJudged parts nodes k line → IsNodeAnswer parts node behind k line (Some reason)
-    → (t : WalledPlan) → nodes ≡ nodes_of t → IsTreeReason parts t 0 first_line reason
+    → (t : WalledPlan) → nodes ≡ nodes_of t → IsTreeReason parts t reason
 judged_found parts nodes behind k line node reason at e are answer t g =
     let r = are.remains t g in
-    at_node parts t k line reason r.trees node (drop (k + 1) nodes) (sym (drop_at nodes k node at) ∙ r.behind_are) (subst (λ l. IsNodeAnswer parts node l k line (Some reason)) e answer) r.reason
+    at_node parts t k line reason r.trees node (drop (k + 1) nodes) r.before (sym (drop_at nodes k node at) ∙ r.behind_are) (subst (λ l. IsNodeAnswer parts node l k line (Some reason)) e answer) (r.splits_are, r.hold)
 
 pub judged_all : (parts : List Part) (nodes : List Node) (k line : ℕ) → length nodes ≤ k → AreJudged parts nodes k line → (t : WalledPlan) → nodes ≡ nodes_of t → SplitsHold parts t
-judged_all parts nodes k line le are t e = let r = are.remains t e in go r.trees (sym (drop_end nodes k le) ∙ r.behind_are) r.holds
+judged_all parts nodes k line le are t e = let r = are.remains t e in
+    splits_hold parts t 0 first_line (go r.trees r.before (sym (drop_end nodes k le) ∙ r.behind_are) r.splits_are r.hold)
   where
     none : (l more : List Node) → 1 ≤ length l → [] ≡ l ++ more → ⊥
     none [] more h f = omega arith
     none (x ∷ l) more h f = cc
 
-    go : (ts : List WalledPlan) → [] ≡ forest_nodes ts → (ForestHolds parts ts → SplitsHold parts t) → SplitsHold parts t
-    go [] f holds = holds tt
-    go (u ∷ ts) f holds = absurd (none (nodes_of u) (forest_nodes ts) (some_node u) f)
+    go : (ts : List WalledPlan) (before : List SplitEntry) → [] ≡ forest_nodes ts → splits_of t 0 first_line ≡ before ++ forest_splits ts k line
+        → All (EntryHolds parts) before → All (EntryHolds parts) (splits_of t 0 first_line)
+    go [] before f is hold = subst (All (EntryHolds parts)) (sym (is ∙ append-nil before)) hold
+    go (u ∷ ts) before f is hold = absurd (none (nodes_of u) (forest_nodes ts) (some_node u) f)

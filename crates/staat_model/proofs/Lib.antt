@@ -23,6 +23,7 @@ pub mod OneTable
 pub mod FreeSides
 pub mod OneOutcome
 pub mod Places
+pub mod SplitLists
 pub mod OneReason
 pub mod PieceFacets
 pub mod Reversed

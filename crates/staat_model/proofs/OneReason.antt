@@ -1,6 +1,6 @@
 -- A certificate has one reason at most, and none where it is valid.
-use Rattle.std.proofs.Common.{◌≡◌, ◌⊎◌, ℕ, ◌+◌, ◌<◌, List, [], ◌++◌, length, map, All, Contains, arith, ap, sym, ◌∙◌, refl, subst, inl, inr, append_assoc, append-nil}
-use Rattle.std.specs.Prelude.{Some, sum_by}
+use Rattle.std.proofs.Common.{◌≡◌, ◌⊎◌, ℕ, ◌+◌, ◌<◌, List, [], ◌∷◌, ◌++◌, length, map, All, Contains, arith, ap, sym, ◌∙◌, refl, subst, inl, inr, append_assoc, append-nil}
+use Rattle.std.specs.Prelude.{Some, slice_get, sum_by}
 use Rattle.std.proofs.lemmas.List.Elements.{All-contains}
 use Rattle.std.specs.Cmp.{nat_cmp_total}
 use Rattle.std.specs.FinMap.{nat_cmp-IsAntisymmetric}
@@ -21,16 +21,17 @@ use Rattle.staat_model.specs.declared.verdict.Verdict.{Verdict}
 use Rattle.staat_model.specs.declared.verdict.Verdict.TheVariants.{ValidPlan, ValidRefusal, Not}
 use Rattle.staat_model.specs.declared.verdict.Reason.{Reason}
 use Rattle.staat_model.specs.declared.verdict.Reason.TheVariants.{BadLeaves, BadSeparator, MissingSeparator, BadArc, BadTree, MissingDirection}
-use Rattle.staat_model.specs.Certificates.{WalledPlan, walled_leaf, walled_split, nodes_of, walled_parts, arc_cmp, IsAcross, IsWall, SplitHolds, SplitsHold, IsLeafAt, AreAllLeaves, PlanHolds, IsStuckSet, IsWitness, IsBlocked, IsListed, RefusalHolds, IsValidPlan, IsValidRefusal}
+use Rattle.staat_model.specs.Certificates.{WalledPlan, walled_leaf, walled_split, nodes_of, arc_cmp, IsAcross, IsWall, SplitHolds, SplitsHold, IsLeafAt, AreAllLeaves, PlanHolds, IsStuckSet, IsWitness, IsBlocked, IsListed, RefusalHolds, IsValidPlan, IsValidRefusal}
 use Rattle.staat_model.specs.Certificates as certificates
 use Rattle.staat_vec.specs.Lists.{FailsFirst, IsFirst}
 use Rattle.staat_model.specs.Planes.{vertices}
-use Rattle.staat_model.specs.Reasons.{IsBadLeaf, HasMissingLeaf, IsLeafFault, bad_leaf, missing_leaf, IsSplitReason, zero_direction, bad_separator, missing_separator, IsTreeReason, IsPlanReason, wrong_parts, bad_leaves, bad_split, IsNoStuckSet, IsRefusalReason, bad_stuck_set, bad_tree, bad_arc, missing_direction, IsReason, IsVerdict}
+use Rattle.staat_model.specs.Reasons.{IsBadLeaf, HasMissingLeaf, IsLeafFault, bad_leaf, missing_leaf, IsSplitReason, zero_direction, bad_separator, missing_separator, EntryHolds, IsEntryReason, IsTreeReason, SplitEntry, splits_of, IsPlanReason, wrong_parts, bad_leaves, bad_split, IsNoStuckSet, IsRefusalReason, bad_stuck_set, bad_tree, bad_arc, missing_direction, IsReason, IsVerdict}
 use Rattle.staat_model.specs.Reasons as reasons
 use Rattle.staat_model.proofs.OneTable.{ArePlanes-unique}
 use Rattle.staat_model.proofs.Orders.{arc_total, arc_exact}
-use Rattle.staat_model.proofs.Places.{Contains-from_place}
+use Rattle.staat_model.proofs.Places.{Contains-from_place, one_at_place}
 use Rattle.staat_model.proofs.SetBits.{has-below}
+use Rattle.staat_model.proofs.SplitLists.{entries_hold, fails_behind}
 use Rattle.staat_vec.proofs.Unique.{IsFirst-unique, IsFirst-in, IsLeast-unique}
 
 order : (j k : ℕ) → (j < k) ⊎ ((j ≡ k) ⊎ (k < j))
@@ -91,7 +92,7 @@ leaf_fault_unique n nodes j k (missing_leaf none m e) (missing_leaf none' m' e')
 -- ---- splits
 
 module _ (parts : List Part) (s r : PartSet) (d : V3) (seps : List Sep) (node line : ℕ) where
-  split_reason_some : (x : Reason) → IsSplitReason parts s r d seps node line x → SplitHolds parts s r d seps → ⊥
+  pub split_reason_some : (x : Reason) → IsSplitReason parts s r d seps node line x → SplitHolds parts s r d seps → ⊥
   split_reason_some x (zero_direction zero e) h = h.moves zero
   split_reason_some x (bad_separator m ne first e) h = FailsFirst-some (IsWall parts s r d) seps m first h.walls
   split_reason_some x (missing_separator arc ne walls least e) h = least.has.1 (h.arcs.all arc least.has.0)
@@ -108,21 +109,32 @@ module _ (parts : List Part) (s r : PartSet) (d : V3) (seps : List Sep) (node li
   split_reason_unique x y (missing_separator arc ne walls least e) (missing_separator arc' ne' walls' least' e') =
       e ∙ ap (λ (a : Arc). MissingSeparator a.a a.i a.b a.j) (IsLeast-unique arc_cmp arc_total arc_exact (λ other. IsAcross parts s r other × (Contains (map (λ sep. sep.arc) seps) other → ⊥)) arc arc' least least') ∙ sym e'
 
-tree_reason_some : (parts : List Part) (t : WalledPlan) (node line : ℕ) (x : Reason) → IsTreeReason parts t node line x → SplitsHold parts t → ⊥
-tree_reason_some parts (walled_leaf p) node line x f h = f
-tree_reason_some parts (walled_split d seps m r) node line x (inl f) h = split_reason_some parts (walled_parts m) (walled_parts r) d seps node line x f h.0
-tree_reason_some parts (walled_split d seps m r) node line x (inr (here, inl f)) h = tree_reason_some parts m _ _ x f h.1
-tree_reason_some parts (walled_split d seps m r) node line x (inr (here, inr (moved, f))) h = tree_reason_some parts r _ _ x f h.2
+-- the first split that breaks a rule, behind those that keep theirs
+pub broken_at : (parts : List Part) (t : WalledPlan) (before more : List SplitEntry) (x : SplitEntry) (reason : Reason)
+    → splits_of t 0 reasons.first_line ≡ before ++ x ∷ more → All (EntryHolds parts) before → IsEntryReason parts x reason
+    → IsTreeReason parts t reason
+broken_at parts t before more x reason is hold reason_is =
+    let breaks = split_reason_some parts x.moved x.rest x.d x.seps x.node x.line reason reason_is in
+    let first : (xs : List SplitEntry) → xs ≡ before ++ x ∷ more → (f : FailsFirst (EntryHolds parts) xs (length before)) × (f.x ≡ x) =
+    λ xs e. subst (λ l. (f : FailsFirst (EntryHolds parts) l (length before)) × (f.x ≡ x)) (sym e)
+    (fails_behind (EntryHolds parts) before more x hold breaks, refl) in
+    let found = first (splits_of t 0 reasons.first_line) is in record {
+      place = length before;
+      first = found.0;
+      reason_is = subst (λ (s : SplitEntry). IsEntryReason parts s reason) (sym found.1) reason_is;
+    }
 
-tree_reason_unique : (parts : List Part) (t : WalledPlan) (node line : ℕ) (x y : Reason) → IsTreeReason parts t node line x → IsTreeReason parts t node line y → x ≡ y
-tree_reason_unique parts (walled_leaf p) node line x y f g = absurd f
-tree_reason_unique parts (walled_split d seps m r) node line x y (inl f) (inl g) = split_reason_unique parts (walled_parts m) (walled_parts r) d seps node line x y f g
-tree_reason_unique parts (walled_split d seps m r) node line x y (inl f) (inr (h, g)) = absurd (split_reason_some parts (walled_parts m) (walled_parts r) d seps node line x f h)
-tree_reason_unique parts (walled_split d seps m r) node line x y (inr (h, f)) (inl g) = absurd (split_reason_some parts (walled_parts m) (walled_parts r) d seps node line y g h)
-tree_reason_unique parts (walled_split d seps m r) node line x y (inr (h, inl f)) (inr (k, inl g)) = tree_reason_unique parts m _ _ x y f g
-tree_reason_unique parts (walled_split d seps m r) node line x y (inr (h, inl f)) (inr (k, inr (moved, g))) = absurd (tree_reason_some parts m _ _ x f moved)
-tree_reason_unique parts (walled_split d seps m r) node line x y (inr (h, inr (moved, f))) (inr (k, inl g)) = absurd (tree_reason_some parts m _ _ y g moved)
-tree_reason_unique parts (walled_split d seps m r) node line x y (inr (h, inr (moved, f))) (inr (k, inr (moved', g))) = tree_reason_unique parts r _ _ x y f g
+tree_reason_some : (parts : List Part) (t : WalledPlan) (x : Reason) → IsTreeReason parts t x → SplitsHold parts t → ⊥
+tree_reason_some parts t x f h =
+    FailsFirst-some (EntryHolds parts) (splits_of t 0 reasons.first_line) f.place f.first (entries_hold parts t 0 reasons.first_line h)
+
+tree_reason_unique : (parts : List Part) (t : WalledPlan) (x y : Reason) → IsTreeReason parts t x → IsTreeReason parts t y → x ≡ y
+tree_reason_unique parts t x y f g =
+    let all = splits_of t 0 reasons.first_line in
+    let place = FailsFirst-unique (EntryHolds parts) all f.place g.place f.first g.first in
+    let same : f.first.x ≡ g.first.x = one_at_place all g.place f.first.x g.first.x (subst (λ k. slice_get all k ≡ Some f.first.x) place f.first.at) g.first.at in
+    let e : SplitEntry = g.first.x in
+    split_reason_unique parts e.moved e.rest e.d e.seps e.node e.line x y (subst (λ (s : SplitEntry). IsEntryReason parts s x) same f.reason_is) g.reason_is
 
 -- ---- plans
 
@@ -130,7 +142,7 @@ plan_reason_some : (parts : List Part) (stated : ℕ) (nodes : List Node) (x : R
 plan_reason_some parts stated nodes x (wrong_parts ne e) h = ne h.count
 plan_reason_some parts stated nodes x (bad_leaves k count f e) h = leaf_fault_some (length parts) nodes k f h.leaves
 plan_reason_some parts stated nodes x (bad_split t count leaves is f) h =
-    tree_reason_some parts t _ _ x f (subst (SplitsHold parts) (sym (one_tree t h.tree (sym is ∙ h.tree_is))) h.splits)
+    tree_reason_some parts t x f (subst (SplitsHold parts) (sym (one_tree t h.tree (sym is ∙ h.tree_is))) h.splits)
 
 plan_reason_unique : (parts : List Part) (stated : ℕ) (nodes : List Node) (x y : Reason) → IsPlanReason parts stated nodes x → IsPlanReason parts stated nodes y → x ≡ y
 plan_reason_unique parts stated nodes x y (wrong_parts ne e) (wrong_parts ne' e') = e ∙ sym e'
@@ -142,7 +154,7 @@ plan_reason_unique parts stated nodes x y (bad_leaves k count f e) (bad_split t 
 plan_reason_unique parts stated nodes x y (bad_split t count leaves is f) (wrong_parts ne e') = absurd (ne count)
 plan_reason_unique parts stated nodes x y (bad_split t count leaves is f) (bad_leaves k count' g e') = absurd (leaf_fault_some (length parts) nodes k g leaves)
 plan_reason_unique parts stated nodes x y (bad_split t count leaves is f) (bad_split u count' leaves' is' g) =
-    tree_reason_unique parts u _ _ x y (subst (λ (v : WalledPlan). IsTreeReason parts v 0 reasons.first_line x) (one_tree t u (sym is ∙ is')) f) g
+    tree_reason_unique parts u x y (subst (λ (v : WalledPlan). IsTreeReason parts v x) (one_tree t u (sym is ∙ is')) f) g
 
 -- ---- refusals
 

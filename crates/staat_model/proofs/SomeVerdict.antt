@@ -1,8 +1,8 @@
 -- A certificate that keeps its form has a verdict: the first rule that it breaks is found, or it is valid.
-use Rattle.std.proofs.Common.{◌≡◌, ◌≢◌, ◌⊎◌, ℕ, ◌+◌, ◌<◌, ◌≤◌, pos, ◌<ℤ◌, List, [], ◌∷◌, ◌++◌, length, map, All, arith, sym, ◌∙◌, subst, refl, inl, inr}
+use Rattle.std.proofs.Common.{◌≡◌, ◌≢◌, ◌⊎◌, ℕ, ◌+◌, ◌<◌, ◌≤◌, pos, ◌<ℤ◌, List, [], ◌∷◌, ◌++◌, length, map, All, ap, arith, sym, ◌∙◌, subst, refl, inl, inr}
 use Rattle.std.specs.Prelude.{Contains, Option, None, Some, slice_get, sum_by}
 use Rattle.std.proofs.lemmas.Bool.Decides.{nat_tests}
-use Rattle.std.proofs.lemmas.List.Elements.{All-contains, All-head, All-tail, Contains-append_left, Contains-append_right}
+use Rattle.std.proofs.lemmas.List.Elements.{All-cons, All-contains, All-head, All-nil, All-tail}
 use Rattle.std.specs.FinSet as set
 use Rattle.std.specs.Ordering.{nat_cmp}
 use Rattle.std.specs.declared.cmp.Ordering.TheVariants.{Less}
@@ -28,13 +28,13 @@ use Rattle.staat_model.specs.declared.verdict.Verdict.{Verdict}
 use Rattle.staat_model.specs.declared.verdict.Verdict.TheVariants.{ValidPlan, ValidRefusal, Not}
 use Rattle.staat_model.specs.declared.verdict.Reason.{Reason}
 use Rattle.staat_model.specs.declared.verdict.Reason.TheVariants.{WrongParts, BadLeaves, ZeroDirection, BadSeparator, MissingSeparator, BadStuckSet, BadArc, BadTree, MissingDirection}
-use Rattle.staat_model.specs.Certificates.{WalledPlan, walled_leaf, walled_split, nodes_of, walled_parts, arc_cmp, outward, inward, IsAcross, IsWall, SplitHolds, SplitsHold, IsLeafAt, AreAllLeaves, PlanHolds}
+use Rattle.staat_model.specs.Certificates.{WalledPlan, nodes_of, arc_cmp, outward, inward, IsAcross, IsWall, SplitHolds, SplitsHold, IsLeafAt, AreAllLeaves, PlanHolds}
 use Rattle.staat_model.specs.Certificates.{IsStuckSet, IsArcWithin, ReachesAll, IsWitness, IsBlocking, IsBlocked, HasLine, IsListed, RefusalHolds}
 use Rattle.staat_model.specs.Assemblies.{piece_count}
 use Rattle.staat_model.specs.Facets.{IsFacet}
 use Rattle.staat_model.specs.Lines.{IsInBounds}
 use Rattle.staat_model.specs.Planes.{vertices}
-use Rattle.staat_model.specs.Reasons.{IsBadLeaf, HasMissingLeaf, IsLeafFault, bad_leaf, missing_leaf, IsSplitReason, zero_direction, bad_separator, missing_separator, IsTreeReason, first_line, node_size, IsPlanReason, bad_leaves, bad_split}
+use Rattle.staat_model.specs.Reasons.{IsBadLeaf, HasMissingLeaf, IsLeafFault, bad_leaf, missing_leaf, IsSplitReason, zero_direction, bad_separator, missing_separator, EntryHolds, IsEntryReason, IsTreeReason, SplitEntry, first_line, splits_of, IsPlanReason, bad_leaves, bad_split}
 use Rattle.staat_model.specs.Reasons.{IsRefusalReason, bad_stuck_set, bad_tree, bad_arc, missing_direction, witness_size, IsBodyReason, IsVerdict}
 use Rattle.staat_model.specs.Reasons as reasons
 use Rattle.staat_model.specs.Certificates as certificates
@@ -46,11 +46,13 @@ use Rattle.staat_model.proofs.Differences.{from_map}
 use Rattle.staat_model.proofs.FreeSides.{member_or, subset_or}
 use Rattle.staat_model.proofs.Listings.{Listing}
 use Rattle.staat_model.proofs.Members.{All-from_members}
+use Rattle.staat_model.proofs.OneReason.{broken_at}
 use Rattle.staat_model.proofs.Orders.{arc_exact, arc_total}
 use Rattle.staat_model.proofs.Places.{one_at_place, place_within}
 use Rattle.staat_model.proofs.SetBits.{has-below}
 use Rattle.staat_model.proofs.SetSizes.{len_below}
 use Rattle.staat_model.proofs.SetWords.{same_members}
+use Rattle.staat_model.proofs.SplitLists.{IsEntryInOrder, entries_in_order, splits_hold}
 use Rattle.staat_model.proofs.SomePlanes.{arcs_listing, beyond_or, facets_listing, holds_or, some_planes, vector_or}
 
 order : (j k : ℕ) → (j < k) ⊎ ((j ≡ k) ⊎ (k < j))
@@ -195,30 +197,46 @@ split_or parts s r d seps node line ascending = elim (vector_or d origin) [
       };
     })
 
-tree_or : (parts : List Part) (t : WalledPlan) (node line : ℕ) → All IsNodeInOrder (nodes_of t)
-    → SplitsHold parts t ⊎ ((x : Reason) × IsTreeReason parts t node line x)
-tree_or parts (walled_leaf p) node line all = inl tt
-tree_or parts (walled_split d seps moved rest) node line all =
-    let tail : All IsNodeInOrder (nodes_of moved ++ nodes_of rest) = All-tail IsNodeInOrder (Split d seps) (nodes_of moved ++ nodes_of rest) all in
-    let first : All IsNodeInOrder (nodes_of moved) = All-from_members IsNodeInOrder (nodes_of moved) (λ x c. All-contains IsNodeInOrder (nodes_of moved ++ nodes_of rest) x tail (Contains-append_left (nodes_of moved) (nodes_of rest) x c)) in
-    let second : All IsNodeInOrder (nodes_of rest) = All-from_members IsNodeInOrder (nodes_of rest) (λ x c. All-contains IsNodeInOrder (nodes_of moved ++ nodes_of rest) x tail (Contains-append_right (nodes_of moved) (nodes_of rest) x c)) in
-    elim (split_or parts (walled_parts moved) (walled_parts rest) d seps node line (All-head IsNodeInOrder (Split d seps) (nodes_of moved ++ nodes_of rest) all)) [
-      | inr bad ↦ inr (bad.0, inl bad.1)
-      | inl here ↦ (elim (tree_or parts moved (node + 1) (line + 1 + length seps) first) [
-        | inr bad ↦ inr (bad.0, inr (here, inl bad.1))
-        | inl holds ↦ (elim (tree_or parts rest (node + 1 + length (nodes_of moved)) (line + 1 + length seps + sum_by node_size (nodes_of moved)) second) [
-          | inr bad ↦ inr (bad.0, inr (here, inr (holds, bad.1)))
-          | inl both ↦ inl (here, holds, both)
-        ])
-      ])
-    ]
+-- the first listed split that breaks a rule, those before it and behind it, and which rule
+record FirstBroken (parts : List Part) (xs : List SplitEntry) : Type 0 where
+  before : List SplitEntry
+  split : SplitEntry
+  more : List SplitEntry
+  is : xs ≡ before ++ split ∷ more
+  hold : All (EntryHolds parts) before
+  reason : Reason
+  reason_is : IsEntryReason parts split reason
+
+entries_or : (parts : List Part) (xs : List SplitEntry) → All IsEntryInOrder xs → All (EntryHolds parts) xs ⊎ FirstBroken parts xs
+entries_or parts [] all = inl (All-nil (EntryHolds parts))
+entries_or parts (x ∷ xs) all = elim (split_or parts x.moved x.rest x.d x.seps x.node x.line (All-head IsEntryInOrder x xs all)) [
+  | inr bad ↦ inr (record { before = []; split = x; more = xs; is = refl; hold = All-nil (EntryHolds parts); reason = bad.0; reason_is = bad.1 })
+  | inl here ↦ (elim (entries_or parts xs (All-tail IsEntryInOrder x xs all)) [
+    | inl behind ↦ inl (All-cons (EntryHolds parts) x xs here behind)
+    | inr bad ↦ inr (record {
+      before = x ∷ bad.before;
+      split = bad.split;
+      more = bad.more;
+      is = ap (λ l. x ∷ l) bad.is;
+      hold = All-cons (EntryHolds parts) x bad.before here bad.hold;
+      reason = bad.reason;
+      reason_is = bad.reason_is;
+    })
+  ])
+]
+
+tree_or : (parts : List Part) (t : WalledPlan) → All IsNodeInOrder (nodes_of t) → SplitsHold parts t ⊎ ((x : Reason) × IsTreeReason parts t x)
+tree_or parts t all = elim (entries_or parts (splits_of t 0 first_line) (entries_in_order t 0 first_line all)) [
+  | inl hold ↦ inl (splits_hold parts t 0 first_line hold)
+  | inr bad ↦ inr (bad.reason, broken_at parts t bad.before bad.more bad.split bad.reason bad.is bad.hold bad.reason_is)
+]
 
 plan_or : (parts : List Part) (stated : ℕ) (nodes : List Node) → IsPlanInOrder stated nodes → PlanHolds parts stated nodes ⊎ ((x : Reason) × IsPlanReason parts stated nodes x)
 plan_or parts stated nodes form = elim (nat_or stated (length parts)) [
   | inr wrong ↦ inr (WrongParts stated, reasons.wrong_parts wrong refl)
   | inl count ↦ (elim (leaves_or (length parts) nodes) [
     | inr t ↦ inr (BadLeaves t.0, bad_leaves t.0 count t.1 refl)
-    | inl leaves ↦ (elim (tree_or parts form.tree 0 first_line (subst (All IsNodeInOrder) form.is form.each)) [
+    | inl leaves ↦ (elim (tree_or parts form.tree (subst (All IsNodeInOrder) form.is form.each)) [
       | inr t ↦ inr (t.0, bad_split form.tree count leaves form.is t.1)
       | inl splits ↦ inl (record { count = count; tree = form.tree; tree_is = form.is; leaves = leaves; splits = splits })
     ])

@@ -1,5 +1,5 @@
 -- Why a certificate is not valid: the first rule that it breaks, in the order of the rules.
-use Rattle.std.specs.Prelude.{◌≡◌, ◌≢◌, ◌⊎◌, ℕ, ◌+◌, ◌<◌, ◌≤◌, List, map, length}
+use Rattle.std.specs.Prelude.{◌≡◌, ◌≢◌, ◌⊎◌, ℕ, ◌+◌, ◌<◌, ◌≤◌, List, [], ◌∷◌, ◌++◌, map, length}
 use Rattle.std.specs.Prelude.{All, Contains, sum_by}
 use Rattle.std.specs.FinSet as set
 use Rattle.std.specs.Ordering.{nat_cmp}
@@ -23,7 +23,7 @@ use Rattle.staat_model.specs.declared.verdict.Reason.TheVariants.{WrongParts, Ba
 use Rattle.staat_model.specs.declared.verdict.Reason.TheVariants.{MissingSeparator, BadStuckSet, BadArc, BadTree}
 use Rattle.staat_model.specs.declared.verdict.Reason.TheVariants.{MissingDirection}
 use Rattle.staat_model.specs.Certificates.{WalledPlan, walled_leaf, walled_split, nodes_of, walled_parts, arc_cmp}
-use Rattle.staat_model.specs.Certificates.{IsAcross, IsWall, SplitHolds, SplitsHold, IsLeafAt, AreAllLeaves}
+use Rattle.staat_model.specs.Certificates.{IsAcross, IsWall, SplitHolds, IsLeafAt, AreAllLeaves}
 use Rattle.staat_model.specs.Certificates.{IsStuckSet}
 use Rattle.staat_model.specs.Certificates.{IsWitness, IsBlocked, IsListed, IsValidPlan, IsValidRefusal}
 use Rattle.staat_vec.specs.Lists.{FailsFirst, IsFirst, IsLeast}
@@ -72,19 +72,37 @@ abbrev pub node_size : Node → ℕ
 node_size (Leaf p) = 1
 node_size (Split d seps) = 1 + length seps
 
--- the reason of the first split in preorder that breaks a rule, where the tree's first node has these numbers
-abbrev pub IsTreeReason : List Part → WalledPlan → (node line : ℕ) → Reason → Type 0
-IsTreeReason parts (walled_leaf p) node line reason = ⊥
-IsTreeReason parts (walled_split d seps moved rest) node line reason =
-    let s : PartSet = walled_parts moved in
-    let r : PartSet = walled_parts rest in
-    let after : ℕ = line + 1 + length seps in
-    IsSplitReason parts s r d seps node line reason
-    ⊎ (SplitHolds parts s r d seps
-    × (IsTreeReason parts moved (node + 1) after reason
-    ⊎ (SplitsHold parts moved
-    × IsTreeReason parts rest (node + 1 + length (nodes_of moved))
-    (after + sum_by node_size (nodes_of moved)) reason)))
+-- a split as it is listed: the number of its node, its line, its two sides, and what the node says
+pub record SplitEntry : Type 0 where
+  pub node : ℕ
+  pub line : ℕ
+  pub moved : PartSet
+  pub rest : PartSet
+  pub d : V3
+  pub seps : List Sep
+
+-- the splits of a plan in preorder, where its first node has these numbers
+abbrev pub splits_of : WalledPlan → (node line : ℕ) → List SplitEntry
+splits_of (walled_leaf p) node line = []
+splits_of (walled_split d seps moved rest) node line =
+    record { node = node; line = line; moved = walled_parts moved; rest = walled_parts rest; d = d; seps = seps }
+    ∷ (splits_of moved (node + 1) (line + 1 + length seps)
+    ++ splits_of rest (node + 1 + length (nodes_of moved))
+    (line + 1 + length seps + sum_by node_size (nodes_of moved)))
+
+-- the split keeps its rules
+abbrev pub EntryHolds : List Part → SplitEntry → Type 0
+EntryHolds parts x = SplitHolds parts x.moved x.rest x.d x.seps
+
+-- the first rule that it breaks
+abbrev pub IsEntryReason : List Part → SplitEntry → Reason → Type 0
+IsEntryReason parts x reason = IsSplitReason parts x.moved x.rest x.d x.seps x.node x.line reason
+
+-- the reason is that of the first split in preorder that breaks a rule
+pub record IsTreeReason (parts : List Part) (tree : WalledPlan) (reason : Reason) : Type 0 where
+  pub place : ℕ
+  pub first : FailsFirst (EntryHolds parts) (splits_of tree 0 first_line) place
+  pub reason_is : IsEntryReason parts first.x reason
 
 -- the rules of a plan: the number of parts, then the leaves, then the splits
 pub data IsPlanReason (parts : List Part) (stated : ℕ) (nodes : List Node) (reason : Reason) : Type 0 where
@@ -94,7 +112,7 @@ pub data IsPlanReason (parts : List Part) (stated : ℕ) (nodes : List Node) (re
       → IsPlanReason parts stated nodes reason
   bad_split : (tree : WalledPlan) → stated ≡ length parts → AreAllLeaves (length parts) nodes
       → nodes ≡ nodes_of tree
-      → IsTreeReason parts tree 0 first_line reason → IsPlanReason parts stated nodes reason
+      → IsTreeReason parts tree reason → IsPlanReason parts stated nodes reason
 
 -- ---- refusals
 

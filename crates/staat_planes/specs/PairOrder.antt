@@ -1,6 +1,6 @@
 -- The planes of a set of parts, by their numbers in a table, and their pairs in pair order.
-use Rattle.std.specs.Prelude.{◌≡◌, ◌≢◌, ℕ, ◌+◌, ◌<◌, ◌≤◌, List, ◌++◌, All, Contains, pos}
-use Rattle.std.specs.Prelude.{drop, length, map, slice_index, slice_index_or, take}
+use Rattle.std.specs.Prelude.{◌≡◌, ◌≢◌, ℕ, ◌+◌, ◌<◌, ◌≤◌, List, ◌++◌, All, Contains}
+use Rattle.std.specs.Prelude.{drop, length, map, pos, slice_index, slice_index_or, take}
 use Rattle.std.specs.Ordering.{nat_cmp}
 use Rattle.std.specs.List.Sorted.{IsStrictlySortedBy}
 use Rattle.staat_vec.specs.declared.vector.V3.{V3}

@@ -28,8 +28,8 @@ abbrev pub IsFirstIfAny : {F : Type 0} → (V3 → Type 0) → (V3 → F → Typ
 IsFirstIfAny serves finds vs result = MatchOption result (NoneServes serves vs) (IsFirstServed serves finds vs)
 
 -- the same of a search that may end undecided, and what is so then
-abbrev pub IsFirstUnless : {F : Type 0} → (undecided : Type 0) → (V3 → Type 0) → (V3 → F → Type 0) → List V3
-    → Search F → Type 0
+abbrev pub IsFirstUnless : {F : Type 0} → (undecided : Type 0) → (V3 → Type 0) → (V3 → F → Type 0)
+    → List V3 → Search F → Type 0
 IsFirstUnless undecided serves finds vs (First s) = IsFirstServed serves finds vs s
 IsFirstUnless undecided serves finds vs Nothing = NoneServes serves vs
 IsFirstUnless undecided serves finds vs Undecided = undecided

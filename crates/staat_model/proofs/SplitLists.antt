@@ -1,0 +1,77 @@
+-- The list of the splits of a plan.
+use Rattle.std.proofs.Common.{◌≡◌, ℕ, zero, suc, ◌<◌, List, [], ◌∷◌, ◌++◌, length, All, arith, refl}
+use Rattle.std.specs.Prelude.{Some, slice_get}
+use Rattle.std.proofs.lemmas.List.Elements.{All-append, All-cons, All-contains, All-head, All-nil, All-tail, Contains-append_left, Contains-append_right}
+use Rattle.staat_vec.specs.Lists.{FailsFirst}
+use Rattle.staat_model.specs.declared.assembly.Part.{Part}
+use Rattle.staat_model.specs.declared.certificate.Node.TheVariants.{Split}
+use Rattle.staat_model.specs.Certificates.{WalledPlan, walled_leaf, walled_split, nodes_of, SplitsHold}
+use Rattle.staat_model.specs.Reasons.{EntryHolds, SplitEntry, splits_of}
+use Rattle.staat_model.specs.Texts.{IsNodeInOrder}
+use Rattle.staat_model.proofs.Members.{All-from_members}
+use Rattle.staat_model.proofs.Places.{Contains-from_place}
+
+module _ {X : Type 0} (P : X → Type 0) where
+  pub at_end : (before more : List X) (x : X) → slice_get (before ++ x ∷ more) (length before) ≡ Some x
+  at_end [] more x = refl
+  at_end (y ∷ before) more x = at_end before more x
+
+  in_front : (before more : List X) (m : ℕ) (y : X) → m < length before → slice_get (before ++ more) m ≡ Some y
+      → slice_get before m ≡ Some y
+  in_front [] more m y lt e = absurd (omega (arith, lt))
+  in_front (x ∷ before) more zero y lt e = e
+  in_front (x ∷ before) more (suc m) y lt e = in_front before more m y (omega (arith, lt)) e
+
+  pub kept_before : (before more : List X) → All P before → (m : ℕ) (y : X) → m < length before
+      → slice_get (before ++ more) m ≡ Some y → P y
+  kept_before before more all m y lt e =
+      All-contains P before y all (Contains-from_place before m y (in_front before more m y lt e))
+
+  -- all before x keep the rule, and x breaks it
+  abbrev pub fails_behind : (before more : List X) (x : X) → All P before → (P x → ⊥)
+      → FailsFirst P (before ++ x ∷ more) (length before)
+  fails_behind before more x all fails = record {
+    x = x;
+    at = at_end before more x;
+    fails = fails;
+    before = kept_before before (x ∷ more) all;
+  }
+
+  pub all_front : (xs ys : List X) → All P (xs ++ ys) → All P xs
+  all_front xs ys all = All-from_members P xs (λ x c. All-contains P (xs ++ ys) x all (Contains-append_left xs ys x c))
+
+  pub all_back : (xs ys : List X) → All P (xs ++ ys) → All P ys
+  all_back xs ys all = All-from_members P ys (λ x c. All-contains P (xs ++ ys) x all (Contains-append_right xs ys x c))
+
+-- where the splits of a plan hold, each that is listed does
+pub entries_hold : (parts : List Part) (t : WalledPlan) (node line : ℕ) → SplitsHold parts t
+    → All (EntryHolds parts) (splits_of t node line)
+entries_hold parts (walled_leaf p) node line h = All-nil (EntryHolds parts)
+entries_hold parts (walled_split d seps moved rest) node line h =
+    All-cons (EntryHolds parts) _ _ h.0
+    (All-append (EntryHolds parts) _ _ (entries_hold parts moved _ _ h.1) (entries_hold parts rest _ _ h.2))
+
+-- and the other way round
+pub splits_hold : (parts : List Part) (t : WalledPlan) (node line : ℕ) → All (EntryHolds parts) (splits_of t node line)
+    → SplitsHold parts t
+splits_hold parts (walled_leaf p) node line all = tt
+splits_hold parts (walled_split d seps moved rest) node line all =
+    let behind = All-tail (EntryHolds parts) _ _ all in (
+      All-head (EntryHolds parts) _ _ all,
+      splits_hold parts moved _ _ (all_front (EntryHolds parts) _ _ behind),
+      splits_hold parts rest _ _ (all_back (EntryHolds parts) _ _ behind),
+    )
+
+-- the walls of the split ascend
+abbrev pub IsEntryInOrder : SplitEntry → Type 0
+IsEntryInOrder x = IsNodeInOrder (Split x.d x.seps)
+
+pub entries_in_order : (t : WalledPlan) (node line : ℕ) → All IsNodeInOrder (nodes_of t)
+    → All IsEntryInOrder (splits_of t node line)
+entries_in_order (walled_leaf p) node line all = All-nil IsEntryInOrder
+entries_in_order (walled_split d seps moved rest) node line all =
+    let behind = All-tail IsNodeInOrder (Split d seps) (nodes_of moved ++ nodes_of rest) all in
+    All-cons IsEntryInOrder _ _ (All-head IsNodeInOrder (Split d seps) (nodes_of moved ++ nodes_of rest) all)
+    (All-append IsEntryInOrder _ _
+    (entries_in_order moved _ _ (all_front IsNodeInOrder (nodes_of moved) (nodes_of rest) behind))
+    (entries_in_order rest _ _ (all_back IsNodeInOrder (nodes_of moved) (nodes_of rest) behind)))
