@@ -121,9 +121,10 @@ module _ (parts : List Part) (t : WalledPlan) (k line : ℕ) where
   at_node reason (walled_split d seps m rest ∷ ts) node behind before e answer judged =
       let same : node ≡ Split d seps = cc in
       let tail : behind ≡ (nodes_of m ++ nodes_of rest) ++ forest_nodes ts = cc in
-      let split : IsSplitReason parts (walled_parts m) (walled_parts rest) d seps k line reason =
+      let x : SplitEntry = record { node = k; line = line; moved = walled_parts m; rest = walled_parts rest; d = d; seps = seps } in
+      let split : IsSplitReason parts x reason =
       (subst (λ n. IsNodeAnswer parts n behind k line (Some reason)) same answer) m rest (forest_nodes ts) (tail ∙ append_assoc (nodes_of m) (nodes_of rest) (forest_nodes ts)) in
-      broken_at parts t before _ (record { node = k; line = line; moved = walled_parts m; rest = walled_parts rest; d = d; seps = seps }) reason judged.0 judged.1 split
+      broken_at parts t before _ x reason judged.0 judged.1 split
 
 line_next : (nodes : List Node) (k : ℕ) (node : Node) → slice_get nodes k ≡ Some node → sum_by node_size (take k nodes) + node_size node ≡ sum_by node_size (take (k + 1) nodes)
 line_next nodes k node at =

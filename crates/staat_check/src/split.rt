@@ -107,7 +107,8 @@ pub fn split_reason(
     requires ascending { IsStrictlySortedBy arc_cmp (map (λ sep. sep.arc) seps.now) }
     requires few { line + length seps.now < 2 ^ 32 }
     ensures { MatchOption result (SplitHolds assembly.now s r d seps.now)
-        (IsSplitReason assembly.now s r d seps.now node line) }
+        (IsSplitReason assembly.now
+        (record { node = node; line = line; moved = s; rest = r; d = d; seps = seps.now })) }
 {
     if is_same(d, ORIGIN) {
         return Some(Reason::ZeroDirection(node));

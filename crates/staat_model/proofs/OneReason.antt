@@ -9,7 +9,6 @@ use Rattle.staat_vec.specs.declared.vector.V3.{V3}
 use Rattle.staat_model.specs.declared.assembly.Part.{Part}
 use Rattle.staat_model.specs.declared.set.PartSet.{PartSet}
 use Rattle.staat_model.specs.declared.certificate.Arc.{Arc}
-use Rattle.staat_model.specs.declared.certificate.Sep.{Sep}
 use Rattle.staat_model.specs.declared.certificate.Dir.{Dir}
 use Rattle.staat_model.specs.declared.certificate.Node.{Node}
 use Rattle.staat_model.specs.declared.certificate.Node.TheVariants.{Leaf}
@@ -21,11 +20,11 @@ use Rattle.staat_model.specs.declared.verdict.Verdict.{Verdict}
 use Rattle.staat_model.specs.declared.verdict.Verdict.TheVariants.{ValidPlan, ValidRefusal, Not}
 use Rattle.staat_model.specs.declared.verdict.Reason.{Reason}
 use Rattle.staat_model.specs.declared.verdict.Reason.TheVariants.{BadLeaves, BadSeparator, MissingSeparator, BadArc, BadTree, MissingDirection}
-use Rattle.staat_model.specs.Certificates.{WalledPlan, walled_leaf, walled_split, nodes_of, arc_cmp, IsAcross, IsWall, SplitHolds, SplitsHold, IsLeafAt, AreAllLeaves, PlanHolds, IsStuckSet, IsWitness, IsBlocked, IsListed, RefusalHolds, IsValidPlan, IsValidRefusal}
+use Rattle.staat_model.specs.Certificates.{WalledPlan, walled_leaf, walled_split, nodes_of, arc_cmp, IsAcross, IsWall, SplitsHold, IsLeafAt, AreAllLeaves, PlanHolds, IsStuckSet, IsWitness, IsBlocked, IsListed, RefusalHolds, IsValidPlan, IsValidRefusal}
 use Rattle.staat_model.specs.Certificates as certificates
 use Rattle.staat_vec.specs.Lists.{FailsFirst, IsFirst}
 use Rattle.staat_model.specs.Planes.{vertices}
-use Rattle.staat_model.specs.Reasons.{IsBadLeaf, HasMissingLeaf, IsLeafFault, bad_leaf, missing_leaf, IsSplitReason, zero_direction, bad_separator, missing_separator, EntryHolds, IsEntryReason, IsTreeReason, SplitEntry, splits_of, IsPlanReason, wrong_parts, bad_leaves, bad_split, IsNoStuckSet, IsRefusalReason, bad_stuck_set, bad_tree, bad_arc, missing_direction, IsReason, IsVerdict}
+use Rattle.staat_model.specs.Reasons.{IsBadLeaf, HasMissingLeaf, IsLeafFault, bad_leaf, missing_leaf, IsSplitReason, zero_direction, bad_separator, missing_separator, EntryHolds, IsTreeReason, SplitEntry, splits_of, IsPlanReason, wrong_parts, bad_leaves, bad_split, IsNoStuckSet, IsRefusalReason, bad_stuck_set, bad_tree, bad_arc, missing_direction, IsReason, IsVerdict}
 use Rattle.staat_model.specs.Reasons as reasons
 use Rattle.staat_model.proofs.OneTable.{ArePlanes-unique}
 use Rattle.staat_model.proofs.Orders.{arc_total, arc_exact}
@@ -91,37 +90,37 @@ leaf_fault_unique n nodes j k (missing_leaf none m e) (missing_leaf none' m' e')
 
 -- ---- splits
 
-module _ (parts : List Part) (s r : PartSet) (d : V3) (seps : List Sep) (node line : ℕ) where
-  pub split_reason_some : (x : Reason) → IsSplitReason parts s r d seps node line x → SplitHolds parts s r d seps → ⊥
+module _ (parts : List Part) (split : SplitEntry) where
+  pub split_reason_some : (x : Reason) → IsSplitReason parts split x → EntryHolds parts split → ⊥
   split_reason_some x (zero_direction zero e) h = h.moves zero
-  split_reason_some x (bad_separator m ne first e) h = FailsFirst-some (IsWall parts s r d) seps m first h.walls
+  split_reason_some x (bad_separator m ne first e) h = FailsFirst-some (IsWall parts split.moved split.rest split.d) split.seps m first h.walls
   split_reason_some x (missing_separator arc ne walls least e) h = least.has.1 (h.arcs.all arc least.has.0)
 
-  split_reason_unique : (x y : Reason) → IsSplitReason parts s r d seps node line x → IsSplitReason parts s r d seps node line y → x ≡ y
+  split_reason_unique : (x y : Reason) → IsSplitReason parts split x → IsSplitReason parts split y → x ≡ y
   split_reason_unique x y (zero_direction zero e) (zero_direction zero' e') = e ∙ sym e'
   split_reason_unique x y (zero_direction zero e) (bad_separator m ne first e') = absurd (ne zero)
   split_reason_unique x y (zero_direction zero e) (missing_separator arc ne walls least e') = absurd (ne zero)
   split_reason_unique x y (bad_separator m ne first e) (zero_direction zero e') = absurd (ne zero)
-  split_reason_unique x y (bad_separator m ne first e) (bad_separator m' ne' first' e') = e ∙ ap (λ k. BadSeparator (line + 1 + k)) (FailsFirst-unique (IsWall parts s r d) seps m m' first first') ∙ sym e'
-  split_reason_unique x y (bad_separator m ne first e) (missing_separator arc ne' walls least e') = absurd (FailsFirst-some (IsWall parts s r d) seps m first walls)
+  split_reason_unique x y (bad_separator m ne first e) (bad_separator m' ne' first' e') = e ∙ ap (λ k. BadSeparator (split.line + 1 + k)) (FailsFirst-unique (IsWall parts split.moved split.rest split.d) split.seps m m' first first') ∙ sym e'
+  split_reason_unique x y (bad_separator m ne first e) (missing_separator arc ne' walls least e') = absurd (FailsFirst-some (IsWall parts split.moved split.rest split.d) split.seps m first walls)
   split_reason_unique x y (missing_separator arc ne walls least e) (zero_direction zero e') = absurd (ne zero)
-  split_reason_unique x y (missing_separator arc ne walls least e) (bad_separator m ne' first e') = absurd (FailsFirst-some (IsWall parts s r d) seps m first walls)
+  split_reason_unique x y (missing_separator arc ne walls least e) (bad_separator m ne' first e') = absurd (FailsFirst-some (IsWall parts split.moved split.rest split.d) split.seps m first walls)
   split_reason_unique x y (missing_separator arc ne walls least e) (missing_separator arc' ne' walls' least' e') =
-      e ∙ ap (λ (a : Arc). MissingSeparator a.a a.i a.b a.j) (IsLeast-unique arc_cmp arc_total arc_exact (λ other. IsAcross parts s r other × (Contains (map (λ sep. sep.arc) seps) other → ⊥)) arc arc' least least') ∙ sym e'
+      e ∙ ap (λ (a : Arc). MissingSeparator a.a a.i a.b a.j) (IsLeast-unique arc_cmp arc_total arc_exact (λ other. IsAcross parts split.moved split.rest other × (Contains (map (λ sep. sep.arc) split.seps) other → ⊥)) arc arc' least least') ∙ sym e'
 
 -- the first split that breaks a rule, behind those that keep theirs
 pub broken_at : (parts : List Part) (t : WalledPlan) (before more : List SplitEntry) (x : SplitEntry) (reason : Reason)
-    → splits_of t 0 reasons.first_line ≡ before ++ x ∷ more → All (EntryHolds parts) before → IsEntryReason parts x reason
+    → splits_of t 0 reasons.first_line ≡ before ++ x ∷ more → All (EntryHolds parts) before → IsSplitReason parts x reason
     → IsTreeReason parts t reason
 broken_at parts t before more x reason is hold reason_is =
-    let breaks = split_reason_some parts x.moved x.rest x.d x.seps x.node x.line reason reason_is in
+    let breaks = split_reason_some parts x reason reason_is in
     let first : (xs : List SplitEntry) → xs ≡ before ++ x ∷ more → (f : FailsFirst (EntryHolds parts) xs (length before)) × (f.x ≡ x) =
     λ xs e. subst (λ l. (f : FailsFirst (EntryHolds parts) l (length before)) × (f.x ≡ x)) (sym e)
     (fails_behind (EntryHolds parts) before more x hold breaks, refl) in
     let found = first (splits_of t 0 reasons.first_line) is in record {
       place = length before;
       first = found.0;
-      reason_is = subst (λ (s : SplitEntry). IsEntryReason parts s reason) (sym found.1) reason_is;
+      reason_is = subst (λ (s : SplitEntry). IsSplitReason parts s reason) (sym found.1) reason_is;
     }
 
 tree_reason_some : (parts : List Part) (t : WalledPlan) (x : Reason) → IsTreeReason parts t x → SplitsHold parts t → ⊥
@@ -133,8 +132,7 @@ tree_reason_unique parts t x y f g =
     let all = splits_of t 0 reasons.first_line in
     let place = FailsFirst-unique (EntryHolds parts) all f.place g.place f.first g.first in
     let same : f.first.x ≡ g.first.x = one_at_place all g.place f.first.x g.first.x (subst (λ k. slice_get all k ≡ Some f.first.x) place f.first.at) g.first.at in
-    let e : SplitEntry = g.first.x in
-    split_reason_unique parts e.moved e.rest e.d e.seps e.node e.line x y (subst (λ (s : SplitEntry). IsEntryReason parts s x) same f.reason_is) g.reason_is
+    split_reason_unique parts g.first.x x y (subst (λ (s : SplitEntry). IsSplitReason parts s x) same f.reason_is) g.reason_is
 
 -- ---- plans
 

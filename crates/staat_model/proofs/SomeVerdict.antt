@@ -28,13 +28,13 @@ use Rattle.staat_model.specs.declared.verdict.Verdict.{Verdict}
 use Rattle.staat_model.specs.declared.verdict.Verdict.TheVariants.{ValidPlan, ValidRefusal, Not}
 use Rattle.staat_model.specs.declared.verdict.Reason.{Reason}
 use Rattle.staat_model.specs.declared.verdict.Reason.TheVariants.{WrongParts, BadLeaves, ZeroDirection, BadSeparator, MissingSeparator, BadStuckSet, BadArc, BadTree, MissingDirection}
-use Rattle.staat_model.specs.Certificates.{WalledPlan, nodes_of, arc_cmp, outward, inward, IsAcross, IsWall, SplitHolds, SplitsHold, IsLeafAt, AreAllLeaves, PlanHolds}
+use Rattle.staat_model.specs.Certificates.{WalledPlan, nodes_of, arc_cmp, outward, inward, IsAcross, IsWall, SplitsHold, IsLeafAt, AreAllLeaves, PlanHolds}
 use Rattle.staat_model.specs.Certificates.{IsStuckSet, IsArcWithin, ReachesAll, IsWitness, IsBlocking, IsBlocked, HasLine, IsListed, RefusalHolds}
 use Rattle.staat_model.specs.Assemblies.{piece_count}
 use Rattle.staat_model.specs.Facets.{IsFacet}
 use Rattle.staat_model.specs.Lines.{IsInBounds}
 use Rattle.staat_model.specs.Planes.{vertices}
-use Rattle.staat_model.specs.Reasons.{IsBadLeaf, HasMissingLeaf, IsLeafFault, bad_leaf, missing_leaf, IsSplitReason, zero_direction, bad_separator, missing_separator, EntryHolds, IsEntryReason, IsTreeReason, SplitEntry, first_line, splits_of, IsPlanReason, bad_leaves, bad_split}
+use Rattle.staat_model.specs.Reasons.{IsBadLeaf, HasMissingLeaf, IsLeafFault, bad_leaf, missing_leaf, IsSplitReason, zero_direction, bad_separator, missing_separator, EntryHolds, IsTreeReason, SplitEntry, first_line, splits_of, IsPlanReason, bad_leaves, bad_split}
 use Rattle.staat_model.specs.Reasons.{IsRefusalReason, bad_stuck_set, bad_tree, bad_arc, missing_direction, witness_size, IsBodyReason, IsVerdict}
 use Rattle.staat_model.specs.Reasons as reasons
 use Rattle.staat_model.specs.Certificates as certificates
@@ -155,18 +155,18 @@ wall_or parts s r d sep = elim (across_or parts s r sep.arc) [
   | inl across ↦ carried (λ h. record { across = across; shown = h }) (λ h. h.shown) (holds_or parts sep.arc (λ p q. IsShown p q d sep.n) (shown_or d sep.n))
 ]
 
-split_or : (parts : List Part) (s r : PartSet) (d : V3) (seps : List Sep) (node line : ℕ) → IsNodeInOrder (Split d seps)
-    → SplitHolds parts s r d seps ⊎ ((x : Reason) × IsSplitReason parts s r d seps node line x)
-split_or parts s r d seps node line ascending = elim (vector_or d origin) [
-  | inl rests ↦ inr (ZeroDirection node, zero_direction rests refl)
-  | inr moves ↦ (elim (all_or (IsWall parts s r d) (wall_or parts s r d) seps) [
-    | inr t ↦ inr (BadSeparator (line + 1 + t.0), bad_separator t.0 moves t.1 refl)
+split_or : (parts : List Part) (split : SplitEntry) → IsEntryInOrder split
+    → EntryHolds parts split ⊎ ((x : Reason) × IsSplitReason parts split x)
+split_or parts split ascending = elim (vector_or split.d origin) [
+  | inl rests ↦ inr (ZeroDirection split.node, zero_direction rests refl)
+  | inr moves ↦ (elim (all_or (IsWall parts split.moved split.rest split.d) (wall_or parts split.moved split.rest split.d) split.seps) [
+    | inr t ↦ inr (BadSeparator (split.line + 1 + t.0), bad_separator t.0 moves t.1 refl)
     | inl walls ↦ with_walls moves walls (least_or arc_cmp arc_total arc_exact Fresh fresh_or across.xs)
   ])
 ]
   where
     arcs : List Arc
-    arcs = map (λ sep. sep.arc) seps
+    arcs = map (λ sep. sep.arc) split.seps
 
     Fresh : Arc → Type 0
     Fresh other = Contains arcs other → ⊥
@@ -174,12 +174,12 @@ split_or parts s r d seps node line ascending = elim (vector_or d origin) [
     fresh_or : (other : Arc) → Decided (Fresh other)
     fresh_or other = not_or (contains_or arc_cmp arc_total arc_exact arcs other)
 
-    across : Listing (IsAcross parts s r)
-    across = arcs_listing parts s r
+    across : Listing (IsAcross parts split.moved split.rest)
+    across = arcs_listing parts split.moved split.rest
 
-    with_walls : d ≢ origin → All (IsWall parts s r d) seps
+    with_walls : split.d ≢ origin → All (IsWall parts split.moved split.rest split.d) split.seps
         → Rattle.staat_model.proofs.Decisions.LeastIn arc_cmp arc_total arc_exact Fresh across.xs ⊎ ((y : Arc) → Contains across.xs y → Fresh y → ⊥)
-        → SplitHolds parts s r d seps ⊎ ((x : Reason) × IsSplitReason parts s r d seps node line x)
+        → EntryHolds parts split ⊎ ((x : Reason) × IsSplitReason parts split x)
     with_walls moves walls (inl t) = inr (
       MissingSeparator t.x.a t.x.i t.x.b t.x.j,
       missing_separator t.x moves walls (record {
@@ -191,7 +191,7 @@ split_or parts s r d seps node line ascending = elim (vector_or d origin) [
       moves = moves;
       walls = walls;
       arcs = record {
-        each = λ x c. let (sep, sep_in, is) = from_map (λ sep. sep.arc) seps x c in subst (IsAcross parts s r) (sym is) (All-contains (IsWall parts s r d) seps sep walls sep_in).across;
+        each = λ x c. let (sep, sep_in, is) = from_map (λ sep. sep.arc) split.seps x c in subst (IsAcross parts split.moved split.rest) (sym is) (All-contains (IsWall parts split.moved split.rest split.d) split.seps sep walls sep_in).across;
         all = λ x h. elim (contains_or arc_cmp arc_total arc_exact arcs x) [ inl c ↦ c | inr not ↦ absurd (none x (across.all x h) not) ];
         once = sorted_once arc_cmp arc_total arc_exact arcs ascending;
       };
@@ -205,11 +205,11 @@ record FirstBroken (parts : List Part) (xs : List SplitEntry) : Type 0 where
   is : xs ≡ before ++ split ∷ more
   hold : All (EntryHolds parts) before
   reason : Reason
-  reason_is : IsEntryReason parts split reason
+  reason_is : IsSplitReason parts split reason
 
 entries_or : (parts : List Part) (xs : List SplitEntry) → All IsEntryInOrder xs → All (EntryHolds parts) xs ⊎ FirstBroken parts xs
 entries_or parts [] all = inl (All-nil (EntryHolds parts))
-entries_or parts (x ∷ xs) all = elim (split_or parts x.moved x.rest x.d x.seps x.node x.line (All-head IsEntryInOrder x xs all)) [
+entries_or parts (x ∷ xs) all = elim (split_or parts x (All-head IsEntryInOrder x xs all)) [
   | inr bad ↦ inr (record { before = []; split = x; more = xs; is = refl; hold = All-nil (EntryHolds parts); reason = bad.0; reason_is = bad.1 })
   | inl here ↦ (elim (entries_or parts xs (All-tail IsEntryInOrder x xs all)) [
     | inl behind ↦ inl (All-cons (EntryHolds parts) x xs here behind)

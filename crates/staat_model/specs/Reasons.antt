@@ -1,6 +1,6 @@
 -- Why a certificate is not valid: the first rule that it breaks, in the order of the rules.
-use Rattle.std.specs.Prelude.{◌≡◌, ◌≢◌, ◌⊎◌, ℕ, ◌+◌, ◌<◌, ◌≤◌, List, [], ◌∷◌, ◌++◌, map, length}
-use Rattle.std.specs.Prelude.{All, Contains, sum_by}
+use Rattle.std.specs.Prelude.{◌≡◌, ◌≢◌, ◌⊎◌, ℕ, ◌+◌, ◌<◌, ◌≤◌, List, [], ◌∷◌, ◌++◌}
+use Rattle.std.specs.Prelude.{map, length, All, Contains, sum_by}
 use Rattle.std.specs.FinSet as set
 use Rattle.std.specs.Ordering.{nat_cmp}
 use Rattle.staat_vec.specs.declared.vector.V3.{V3}
@@ -54,24 +54,6 @@ pub data IsLeafFault (n : ℕ) (nodes : List Node) (node : ℕ) : Type 0 where
   missing_leaf : ((k : ℕ) → IsBadLeaf n nodes k → ⊥) → HasMissingLeaf n nodes → node ≡ length nodes
       → IsLeafFault n nodes node
 
--- the first rule that a split breaks, where it is this node and stands on this line
-pub data IsSplitReason (parts : List Part) (s r : PartSet) (d : V3) (seps : List Sep) (node line : ℕ)
-    (reason : Reason)
-    : Type 0 where
-  zero_direction : d ≡ origin → reason ≡ ZeroDirection node → IsSplitReason parts s r d seps node line reason
-  bad_separator : (m : ℕ) → d ≢ origin → FailsFirst (IsWall parts s r d) seps m
-      → reason ≡ BadSeparator (line + 1 + m)
-      → IsSplitReason parts s r d seps node line reason
-  missing_separator : (arc : Arc) → d ≢ origin → All (IsWall parts s r d) seps
-      → IsLeast arc_cmp (λ other. IsAcross parts s r other
-      × (Contains (map (λ sep. sep.arc) seps) other → ⊥)) arc
-      → reason ≡ MissingSeparator arc.a arc.i arc.b arc.j → IsSplitReason parts s r d seps node line reason
-
--- how many lines a node takes
-abbrev pub node_size : Node → ℕ
-node_size (Leaf p) = 1
-node_size (Split d seps) = 1 + length seps
-
 -- a split as it is listed: the number of its node, its line, its two sides, and what the node says
 pub record SplitEntry : Type 0 where
   pub node : ℕ
@@ -81,7 +63,25 @@ pub record SplitEntry : Type 0 where
   pub d : V3
   pub seps : List Sep
 
--- the splits of a plan in preorder, where its first node has these numbers
+-- the first rule that a split breaks
+pub data IsSplitReason (parts : List Part) (split : SplitEntry) (reason : Reason) : Type 0 where
+  zero_direction : split.d ≡ origin → reason ≡ ZeroDirection split.node → IsSplitReason parts split reason
+  bad_separator : (m : ℕ) → split.d ≢ origin
+      → FailsFirst (IsWall parts split.moved split.rest split.d) split.seps m
+      → reason ≡ BadSeparator (split.line + 1 + m) → IsSplitReason parts split reason
+  missing_separator : (arc : Arc) → split.d ≢ origin
+      → All (IsWall parts split.moved split.rest split.d) split.seps
+      → IsLeast arc_cmp (λ other. IsAcross parts split.moved split.rest other
+      × (Contains (map (λ sep. sep.arc) split.seps) other → ⊥)) arc
+      → reason ≡ MissingSeparator arc.a arc.i arc.b arc.j → IsSplitReason parts split reason
+
+-- how many lines a node takes
+abbrev pub node_size : Node → ℕ
+node_size (Leaf p) = 1
+node_size (Split d seps) = 1 + length seps
+
+-- the splits of a plan in preorder, where its first node has these numbers: behind a split come those of the side that
+-- moves, and then those of the rest
 abbrev pub splits_of : WalledPlan → (node line : ℕ) → List SplitEntry
 splits_of (walled_leaf p) node line = []
 splits_of (walled_split d seps moved rest) node line =
@@ -92,17 +92,13 @@ splits_of (walled_split d seps moved rest) node line =
 
 -- the split keeps its rules
 abbrev pub EntryHolds : List Part → SplitEntry → Type 0
-EntryHolds parts x = SplitHolds parts x.moved x.rest x.d x.seps
-
--- the first rule that it breaks
-abbrev pub IsEntryReason : List Part → SplitEntry → Reason → Type 0
-IsEntryReason parts x reason = IsSplitReason parts x.moved x.rest x.d x.seps x.node x.line reason
+EntryHolds parts split = SplitHolds parts split.moved split.rest split.d split.seps
 
 -- the reason is that of the first split in preorder that breaks a rule
 pub record IsTreeReason (parts : List Part) (tree : WalledPlan) (reason : Reason) : Type 0 where
   pub place : ℕ
   pub first : FailsFirst (EntryHolds parts) (splits_of tree 0 first_line) place
-  pub reason_is : IsEntryReason parts first.x reason
+  pub reason_is : IsSplitReason parts first.x reason
 
 -- the rules of a plan: the number of parts, then the leaves, then the splits
 pub data IsPlanReason (parts : List Part) (stated : ℕ) (nodes : List Node) (reason : Reason) : Type 0 where
