@@ -3,7 +3,8 @@ use Rattle.std.proofs.Common.{◌≡◌, ◌≢◌, ℕ, ◌<◌, refl, sym, ◌
 use Rattle.std.proofs.Math.ListN.{length-set}
 use Rattle.std.proofs.lemmas.List.{get_or-set_other}
 use Rattle.std.proofs.lemmas.Grind.{get_or-set_at}
-use Rattle.staat_ring.specs.Links.{Links, Chain, IsLinkedRing, Apart, Distinct, last_of, append}
+use Rattle.staat_ring.specs.Links.{Links, Chain, IsLinkedRing, Apart, Distinct, append}
+use Rattle.staat_ring.proofs.Ends.{last_of}
 
 -- the word at k after the two writes, where neither is at k
 pub kept : (l : List ℕ) (x u i w k : ℕ) → k ≢ x → k ≢ i → get_or (set (set l x u) i w) k 0 ≡ get_or l k 0

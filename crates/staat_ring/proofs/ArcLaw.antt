@@ -29,11 +29,11 @@ use Rattle.staat_planes.proofs.GraphLaw.{ahead_is_blocking}
 use Rattle.staat_ring.specs.Blocks.{parts_at}
 use Rattle.staat_ring.specs.Pairs.{occurs, pair_at}
 use Rattle.staat_ring.specs.Signs.{HasBlockingPair, IsBlockingPair, Side, Signed, no_side, pairs_by, positive_pairs, positives, side_at}
-use Rattle.staat_ring.specs.Belonging.{BelongTo, HasAll, HoldSigns, IsPairIndexed, IsPairOf, IsUnused, PlaneFacet, facet_at, is_positive}
+use Rattle.staat_ring.specs.Belonging.{BelongTo, HasAll, HoldSigns, IsPairIndexed, IsPairOf, IsUnused, PlaneFacet, facet_at}
+use Rattle.staat_ring.proofs.Totals.{is_positive, hits, sum_by-total, total-hits, total-same, total-zero}
 use Rattle.staat_ring.specs.Rings.{facet_by, plane_at}
 use Rattle.staat_ring.proofs.PairLemmas.{one}
 use Rattle.staat_ring.proofs.Strength.{strong_same}
-use Rattle.staat_ring.proofs.Totals.{hits, sum_by-total, total-hits, total-same, total-zero}
 
 -- ---- the count of positive facets is the count of by_plane that are ahead
 

@@ -19,11 +19,11 @@ use Rattle.staat_ring.specs.declared.entry.Entry.{Entry}
 use Rattle.staat_ring.specs.Builds.{ring_by, slot_at}
 use Rattle.staat_ring.specs.Links.{Arrays}
 use Rattle.staat_ring.specs.Linking.{AreLinkedBelow, CanBeLinked, HasCircle}
-use Rattle.staat_ring.specs.Numbered.{head_number, node_number}
+use Rattle.staat_ring.specs.Numbered.{head_number, node_number, entry_number, plane_of, entry_numbered}
 use Rattle.staat_ring.specs.Planes.{entries_of, entries_on}
-use Rattle.staat_ring.specs.Rings.{AreRings, IsRingOf, Ring, RingStop, WereMadeFrom, entry_number, linked_of, plane_at, stop_of, vertex_of}
+use Rattle.staat_ring.specs.Rings.{AreRings, IsRingOf, Ring, RingStop, WereMadeFrom, linked_of, plane_at, stop_of, vertex_of}
 use Rattle.staat_ring.specs.RingInvariant.{HaveTakenOut}
-use Rattle.staat_ring.specs.RingViews.{StandForCircles, CanBeUndone, arrangement_of, numbers_below, entry_numbered, is_out, plane_of, ring_of, rings_of, shape, still_linked}
+use Rattle.staat_ring.specs.RingViews.{StandForCircles, CanBeUndone, arrangement_of, numbers_below, is_out, ring_of, rings_of, shape, still_linked}
 use Rattle.staat_ring.specs.Stands.{AllPresent, InRange, IsPresent, IsRing, StandFor, Tagged, home_of, is_empty}
 use Rattle.staat_ring.specs.Views.{lists_of}
 use Rattle.staat_ring.proofs.Covered.{entry_there}

@@ -2,7 +2,9 @@
 use Rattle.std.proofs.Common.{◌≡◌, ◌≢◌, ℕ, ◌<◌, sym, ap, subst, ◌∙◌, List, [], ◌∷◌, ◌++◌, length, get_or, set}
 use Rattle.std.proofs.lemmas.List.{get_or-set_other}
 use Rattle.std.proofs.lemmas.Grind.{get_or-set_at}
-use Rattle.staat_ring.specs.Links.{Links, Chain, IsLinkedRing, Apart, Distinct, last_of, first_of, unlink, IsBetween}
+use Rattle.staat_ring.specs.Links.{Links, Chain, IsLinkedRing, Apart, Distinct, unlink}
+use Rattle.staat_ring.proofs.Ends.{first_of, last_of}
+use Rattle.staat_ring.proofs.Taking.{IsBetween}
 
 -- links with one word written in each array
 abbrev written : Links → ℕ → ℕ → ℕ → ℕ → Links

@@ -15,13 +15,12 @@ use Rattle.staat_model.proofs.GraphLemmas.{from_slice_get}
 use Rattle.staat_model.specs.Circles.{IsCircle, IsLinked, IsNext, IsOnCircle, PassesThrough, Stop}
 use Rattle.staat_ring.specs.declared.entry.Entry.{Entry}
 use Rattle.staat_ring.specs.Rings.{IsRingOf, Ring, RingStop, crossing, stop_of, vertex_of}
-use Rattle.staat_ring.specs.Rings.{AreLinkedApart}
-use Rattle.staat_ring.specs.Turns.{turn}
+use Rattle.staat_ring.proofs.Stops.{AreLinkedApart, stop_there}
+use Rattle.staat_ring.proofs.Turns.{turn}
 use Rattle.staat_ring.specs.Rings.{facet_by, plane_at}
 use Rattle.staat_ring.specs.Without.{stays}
 use Rattle.staat_ring.proofs.Mapped.{in_map, from_map}
 use Rattle.staat_ring.proofs.Cycles.{Around, around_filter}
-use Rattle.staat_ring.proofs.Stops.{stop_there}
 use Rattle.staat_ring.proofs.Sides.{whole}
 use Rattle.staat_ring.proofs.Mapped.{differ}
 use Rattle.staat_ring.proofs.Skipping.{IsPoint, nothing_kept, still_after}

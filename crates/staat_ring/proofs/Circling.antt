@@ -21,7 +21,7 @@ use Rattle.staat_ring.specs.declared.entry.Entry.{Entry}
 use Rattle.staat_ring.specs.Builds.{AreFilled, IsFromPlane, IsHalfCircle, AreThroughCrossing, all_around, opposite, ray, ring_by, slot_at}
 use Rattle.staat_ring.specs.Order.{normal_at}
 use Rattle.staat_ring.specs.Rings.{IsRingOf, RingStop, crossing, stop_of, vertex_of}
-use Rattle.staat_ring.specs.Turns.{IsHalf, Rises, whole_circle, turn}
+use Rattle.staat_ring.proofs.Turns.{IsHalf, Rises, whole_circle, turn}
 use Rattle.staat_ring.specs.Rings.{facet_by, plane_at}
 use Rattle.staat_ring.proofs.Mapped.{from_map}
 use Rattle.staat_ring.proofs.Around.{around_closed, at_contains}

@@ -12,7 +12,7 @@ use Rattle.staat_vec.proofs.VecRing.{dot_cross_right}
 use Rattle.staat_model.specs.Circles.{IsLinked, PassesThrough}
 use Rattle.staat_ring.specs.declared.entry.Entry.{Entry}
 use Rattle.staat_ring.specs.Rings.{IsRingOf, Ring, RingStop, crossing, stop_of, vertex_of}
-use Rattle.staat_ring.specs.Rings.{AreLinkedApart}
+use Rattle.staat_ring.proofs.Stops.{AreLinkedApart}
 use Rattle.staat_ring.specs.Rings.{facet_by, plane_at}
 use Rattle.staat_ring.proofs.Mapped.{in_map, from_map}
 use Rattle.staat_ring.proofs.Steps.{negative_on, primitive_on}

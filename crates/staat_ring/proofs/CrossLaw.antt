@@ -17,9 +17,9 @@ use Rattle.staat_ring.specs.declared.entry.Entry.{Entry}
 use Rattle.staat_ring.specs.Marks.{mark_of, marked}
 use Rattle.staat_ring.specs.Rings.{IsRingOf, Ring, RingStop, crossing, stop_of, vertex_of}
 use Rattle.staat_ring.specs.Signs.{Signed, side_at}
-use Rattle.staat_ring.specs.StepSigns.{StepSigns}
-use Rattle.staat_ring.specs.Rings.{AreLinkedApart}
-use Rattle.staat_ring.specs.Turns.{turn}
+use Rattle.staat_ring.proofs.StepSigns.{StepSigns}
+use Rattle.staat_ring.proofs.Stops.{AreLinkedApart, stop_there}
+use Rattle.staat_ring.proofs.Turns.{turn}
 use Rattle.staat_ring.specs.Belonging.{HoldSigns}
 use Rattle.staat_ring.specs.Rings.{facet_by, plane_at}
 use Rattle.staat_ring.proofs.Mapped.{in_map, from_map}
@@ -27,7 +27,6 @@ use Rattle.staat_ring.proofs.Leaving.{leaves_negative, leaves_positive}
 use Rattle.staat_ring.proofs.Marking.{marked_other, marked_same, marked_there}
 use Rattle.staat_ring.proofs.StepLaw.{step_signs}
 use Rattle.staat_ring.proofs.Steps.{on_plane, size_positive}
-use Rattle.staat_ring.proofs.Stops.{stop_there}
 
 pub contains_or : (xs : List ℕ) (j : ℕ) → Contains xs j ⊎ (Contains xs j → ⊥)
 contains_or [] j = inr (λ c. Contains-nothing j c)

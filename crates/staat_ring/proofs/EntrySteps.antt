@@ -7,7 +7,7 @@ use Rattle.staat_model.proofs.Members.{All-from_members}
 use Rattle.staat_ring.specs.declared.entry.Entry.{Entry}
 use Rattle.staat_ring.specs.Links.{Apart, Distinct, Links, append}
 use Rattle.staat_ring.specs.Linking.{AreHomedAt}
-use Rattle.staat_ring.specs.Rings.{entry_number}
+use Rattle.staat_ring.specs.Numbered.{entry_number}
 use Rattle.staat_ring.proofs.Homing.{homed_more, within_more}
 use Rattle.staat_ring.proofs.Mapped.{from_map}
 use Rattle.staat_ring.proofs.Numbering.{entry_small}

@@ -22,7 +22,7 @@ use Rattle.staat_ring.specs.declared.entry.Entry.{Entry}
 use Rattle.staat_ring.specs.Builds.{AreFilled, IsHalfCircle, IsPlaceOf, AreThroughCrossing, IsUpper, ray, slot_at}
 use Rattle.staat_ring.specs.Order.{normal_at}
 use Rattle.staat_ring.specs.Rings.{crossing}
-use Rattle.staat_ring.specs.Turns.{turn}
+use Rattle.staat_ring.proofs.Turns.{turn}
 use Rattle.staat_ring.specs.Rings.{facet_by, plane_at}
 use Rattle.staat_ring.proofs.Circling.{got, not_flat, positive_by, ray_negative, zero_cross}
 use Rattle.staat_ring.proofs.Deciding.{order_is}

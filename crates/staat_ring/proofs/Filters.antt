@@ -4,8 +4,8 @@ use Rattle.std.specs.List.{filter}
 use Rattle.std.specs.Prelude.{◌==◌}
 use Rattle.std.proofs.lemmas.Bool.Decides.{nat_tests}
 use Rattle.staat_ring.specs.Links.{Arrays, Distinct, take}
-use Rattle.staat_ring.specs.Stands.{without, is_empty, Shape, RingLists, home_of, StandFor, IsPresent, lists_without, lists_without_all, AllPresent, lists_without_plane}
-use Rattle.staat_ring.specs.Views.{AreSame}
+use Rattle.staat_ring.specs.Stands.{is_empty, Shape, RingLists, home_of, StandFor, IsPresent, AllPresent}
+use Rattle.staat_ring.proofs.ListsWithout.{lists_without_plane, lists_without_all, lists_without, without, AreSame}
 use Rattle.staat_ring.proofs.Without.{without_none, tagged_apart}
 use Rattle.staat_ring.proofs.TwoLevels.{decide, stands-take, all-after, contains_before}
 

@@ -14,7 +14,7 @@ use Rattle.std.specs.Prelude.{All}
 use Rattle.std.proofs.Common.{refl, [], ◌∷◌}
 use Rattle.staat_model.specs.Circles.{Stop, IsLinked, IsOnCircle, IsNext, IsCircle, IsAfter, PassesThrough, axis_beside}
 use Rattle.staat_ring.proofs.Mapped.{in_map}
-use Rattle.staat_ring.specs.Turns.{turn, Rises, whole_circle, IsHalf}
+use Rattle.staat_ring.proofs.Turns.{turn, Rises, whole_circle, IsHalf}
 use Rattle.staat_ring.proofs.Turning.{turn_same, turn_negative_left, turn_negative_right}
 use Rattle.staat_ring.proofs.Around.{on_around, around_closed, negative_twice, next_around, first_half, length_around, where_in}
 

@@ -15,15 +15,23 @@ use Rattle.staat_graph.proofs.Finite.{same_or}
 use Rattle.staat_model.specs.declared.certificate.Arc.{Arc}
 use Rattle.staat_pairs.specs.Tables.{Table, facets_of, slot}
 use Rattle.staat_ring.specs.Blocks.{parts_at}
-use Rattle.staat_ring.specs.Index.{AreSameBut, AreZero, IsFresh, IsPartly, IsPairKept, with_facet}
+use Rattle.staat_ring.specs.Index.{AreSameBut, AreZero, IsFresh, IsPairKept, with_facet}
 use Rattle.staat_ring.specs.Pairs.{fresh, no_pair, occurs, pair_at}
 use Rattle.staat_ring.specs.Signs.{Side, Signed, no_side, positives, side_at, uses, with_pair}
-use Rattle.staat_ring.specs.Belonging.{IsPairIndexed, IsPairOf, PlaneFacet, facet_at, is_positive}
+use Rattle.staat_ring.specs.Belonging.{IsPairIndexed, IsPairOf, PlaneFacet, facet_at}
+use Rattle.staat_ring.proofs.Totals.{is_positive, hits, sum_by-total, total-hits, total-plus, total-same}
 use Rattle.staat_ring.specs.Rings.{facet_by}
 use Rattle.staat_ring.proofs.ArcLaw.{positives-none}
 use Rattle.staat_ring.proofs.PairLemmas.{differ, one}
 use Rattle.staat_ring.proofs.PushLemmas.{occurs-push, sign_with}
-use Rattle.staat_ring.proofs.Totals.{hits, sum_by-total, total-hits, total-plus, total-same}
+
+-- of the facets of pair q so many are put down
+pub record IsPartly (planes facets : List V3) (first s : Signed) (q m : ℕ) : Type 0 where
+  pub index : IsPairIndexed planes (take m facets) s.sides q
+  pub sides : length s.sides ≡ length first.sides
+  pub pairs : s.pairs ≡ first.pairs
+  pub zero : AreZero s
+  pub others : (p : ℕ) → p ≢ q → IsPairKept first s p
 
 pub on_ok : {X E : Type 0} (r : Result X E) (P Q : Type 0) → OnOk r P → (P → Q) → OnOk r Q
 on_ok (Ok x) P Q h f = f h

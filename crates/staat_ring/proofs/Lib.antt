@@ -68,3 +68,8 @@ pub mod Strength
 pub mod BlockSteps
 pub mod Searching
 pub mod Turned
+pub mod Turns
+pub mod StepSigns
+pub mod Taking
+pub mod Ends
+pub mod ListsWithout

@@ -20,8 +20,8 @@ use Rattle.staat_ring.specs.declared.entry.Entry.{Entry}
 use Rattle.staat_ring.specs.Builds.{ring_by, slot_at}
 use Rattle.staat_ring.specs.Links.{Distinct}
 use Rattle.staat_ring.specs.Linking.{CanBeLinked}
-use Rattle.staat_ring.specs.Numbered.{HasEntry}
-use Rattle.staat_ring.specs.Rings.{IsRingOf, RingStop, entry_number, stop_of, vertex_of}
+use Rattle.staat_ring.specs.Numbered.{HasEntry, entry_number}
+use Rattle.staat_ring.specs.Rings.{IsRingOf, RingStop, stop_of, vertex_of}
 use Rattle.staat_ring.proofs.Mapped.{apart_from, from_map, in_map}
 use Rattle.staat_ring.proofs.Numbering.{entry_once, one_entry}
 use Rattle.staat_ring.proofs.Steps.{negative_on, primitive_on}

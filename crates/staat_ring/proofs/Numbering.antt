@@ -6,9 +6,9 @@ use Rattle.std.proofs.lemmas.Option.{slice_get-map}
 use Rattle.staat_vec.specs.declared.vector.V3.{V3}
 use Rattle.staat_model.proofs.GraphLemmas.{from_slice_get}
 use Rattle.staat_ring.specs.declared.entry.Entry.{Entry}
-use Rattle.staat_ring.specs.Numbered.{HasEntry, head_number, node_number}
-use Rattle.staat_ring.specs.Rings.{IsRingOf, Ring, RingStop, crossing, entry_number, stop_of, vertex_of}
-use Rattle.staat_ring.specs.RingViews.{entry_numbered, shape}
+use Rattle.staat_ring.specs.Numbered.{HasEntry, head_number, node_number, entry_number, entry_numbered}
+use Rattle.staat_ring.specs.Rings.{IsRingOf, Ring, RingStop, crossing, stop_of, vertex_of}
+use Rattle.staat_ring.specs.RingViews.{shape}
 use Rattle.staat_ring.proofs.Mapped.{differ}
 use Rattle.staat_ring.proofs.Numbers.{circle_of_number, circle_of_vertex, number_once, number_small}
 use Rattle.staat_ring.proofs.SoundLemmas.{plane_of_entry}

@@ -2,7 +2,8 @@
 use Rattle.std.proofs.Common.{◌≡◌, ℕ, ◌+◌, ◌*◌, ◌/◌, ◌<◌, ◌≤◌, sym, ap, ◌∙◌, arith}
 use Rattle.std.proofs.Math.Nat.{add-mod_left, mod-eq_of_lt, mul-le-mul}
 use Rattle.std.proofs.lemmas.Nat.{div-mul-add}
-use Rattle.staat_ring.specs.RingViews.{plane_of, shape}
+use Rattle.staat_ring.specs.RingViews.{shape}
+use Rattle.staat_ring.specs.Numbered.{plane_of}
 use Rattle.staat_ring.proofs.SoundLemmas.{plane_of_entry}
 
 abbrev number : ℕ → ℕ → ℕ → ℕ → ℕ

@@ -19,7 +19,7 @@ use Rattle.staat_vec.proofs.Unique.{Contains-front, Contains-nothing}
 use Rattle.staat_model.proofs.Members.{All-from_members}
 use Rattle.staat_ring.proofs.Mapped.{same_or}
 use Rattle.staat_ring.specs.Order.{HasRay, IsHalfOf, IsPlace, RiseFrom, normal_at}
-use Rattle.staat_ring.specs.Turns.{turn}
+use Rattle.staat_ring.proofs.Turns.{turn}
 use Rattle.staat_ring.proofs.Turning.{cancel_positive, turn_of_planes, turn_trans}
 
 abbrev Ahead : V3 → V3 → V3 → Type 0

@@ -3,9 +3,10 @@ use Rattle.std.proofs.Common.{◌≡◌, ℕ, zero, suc, ◌<◌, refl, sym, ap,
 use Rattle.std.specs.List.{filter}
 use Rattle.std.specs.Prelude.{◌==◌}
 use Rattle.std.proofs.lemmas.Bool.Decides.{nat_tests}
-use Rattle.staat_ring.specs.Stands.{RingLists, is_empty, lists_without_plane}
-use Rattle.staat_ring.specs.Views.{AreSame}
-use Rattle.staat_ring.specs.RingViews.{shape, plane_of, entry_numbered, is_out, numbers_below, ring_of, rings_of}
+use Rattle.staat_ring.specs.Stands.{RingLists, is_empty}
+use Rattle.staat_ring.proofs.ListsWithout.{lists_without_plane, AreSame}
+use Rattle.staat_ring.specs.RingViews.{shape, is_out, numbers_below, ring_of, rings_of}
+use Rattle.staat_ring.specs.Numbered.{entry_numbered, plane_of}
 use Rattle.staat_ring.specs.declared.entry.Entry.{Entry}
 use Rattle.staat_ring.specs.Rings.{RingStop}
 use Rattle.staat_ring.specs.Without.{has_some, other_than, stays, stop_without, ring_without, rings_without}

@@ -7,11 +7,11 @@ use Rattle.std.proofs.lemmas.List.{get_or_append_left, get_or_push, length-map}
 use Rattle.staat_model.proofs.Members.{All-from_members}
 use Rattle.staat_ring.specs.Links.{Arrays, Chain, Links, IsLinkedRing}
 use Rattle.staat_ring.specs.RingInvariant.{AreFlags, HaveTakenOut}
-use Rattle.staat_ring.specs.RingViews.{StandForCircles, arrangement_of, numbers_below, entry_numbered, is_out, ring_of, shape, still_linked}
+use Rattle.staat_ring.specs.RingViews.{StandForCircles, arrangement_of, numbers_below, is_out, ring_of, shape, still_linked}
+use Rattle.staat_ring.specs.Numbered.{entry_numbered, head_number}
 use Rattle.staat_ring.specs.Rings.{Arrangement, RingStop, linked_of}
 use Rattle.staat_ring.specs.Rings as rings
 use Rattle.staat_ring.specs.Stands.{IsRing, IsShortRing}
-use Rattle.staat_ring.specs.Numbered.{head_number}
 use Rattle.staat_ring.proofs.Numbering.{head_small}
 use Rattle.staat_ring.specs.Views.{lists_of}
 use Rattle.staat_ring.proofs.Mapped.{from_apart, from_map}

@@ -16,7 +16,7 @@ use Rattle.staat_model.proofs.Members.{All-from_members}
 use Rattle.staat_model.specs.Circles.{IsAfter, IsLinked, IsNext, IsOnCircle, PassesThrough, Stop, axis_beside}
 use Rattle.staat_ring.specs.declared.entry.Entry.{Entry}
 use Rattle.staat_ring.specs.Rings.{IsRingOf, Ring, RingStop, stop_of, vertex_of}
-use Rattle.staat_ring.specs.Rings.{AreLinkedApart}
+use Rattle.staat_ring.proofs.Stops.{AreLinkedApart}
 use Rattle.staat_ring.specs.Without.{other_than, ring_without, stays, stop_without}
 use Rattle.staat_ring.proofs.Mapped.{in_map, from_map}
 use Rattle.staat_ring.proofs.Covered.{place_of}

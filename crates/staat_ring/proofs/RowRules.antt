@@ -8,9 +8,9 @@ use Rattle.staat_model.proofs.Members.{All-from_members}
 use Rattle.staat_ring.specs.declared.entry.Entry.{Entry}
 use Rattle.staat_ring.specs.Builds.{slot_at}
 use Rattle.staat_ring.specs.Links.{Apart, Distinct}
-use Rattle.staat_ring.specs.Linking.{AreRows, CanBeLinked, rows_of}
-use Rattle.staat_ring.specs.Numbered.{HasEntry, head_number, node_number, vertex_row}
-use Rattle.staat_ring.specs.Rings.{entry_number}
+use Rattle.staat_ring.specs.Linking.{CanBeLinked, rows_of}
+use Rattle.staat_ring.proofs.Rows.{AreRows}
+use Rattle.staat_ring.specs.Numbered.{HasEntry, head_number, node_number, vertex_row, entry_number}
 use Rattle.staat_ring.specs.RingViews.{shape}
 use Rattle.staat_ring.specs.Rows.{Row, all_of, no_row, row_at}
 use Rattle.staat_ring.proofs.Mapped.{apart_from, distinct_by, from_map}

@@ -2,10 +2,19 @@
 use Rattle.std.proofs.Common.{◌≡◌, ◌≢◌, ◌⊎◌, inl, inr, ⊎_elim, ℕ, zero, suc, ◌+◌, ◌<◌, refl, sym, ap, subst, ◌∙◌, List, [], ◌∷◌, ◌++◌, length, get_or, take, All, Contains, arith}
 use Rattle.std.proofs.Math.ListN.{length-set}
 use Rattle.std.proofs.lemmas.List.Elements.{All-contains}
-use Rattle.staat_ring.specs.Links.{Apart, Chain, Distinct, Links, IsLinkedRing, append, last_of}
-use Rattle.staat_ring.specs.Linking.{AreLinked, AreRows, IsSameAt}
+use Rattle.staat_ring.specs.Links.{Apart, Chain, Distinct, Links, IsLinkedRing, append}
+use Rattle.staat_ring.proofs.Ends.{last_of}
+use Rattle.staat_ring.specs.Linking.{AreLinked, IsSameAt}
 use Rattle.staat_ring.specs.Rows.{Row, all_of, row_at}
 use Rattle.staat_ring.proofs.Appending.{apart_last, kept, prev_last, ring-append}
+
+-- each row's nodes are distinct and below n, and no two rows have a node in common
+pub record AreRows (n : ℕ) (rows : List Row) : Type 0 where
+  pub within : (k : ℕ) → k < length rows → All (λ x. x < n) (all_of (row_at rows k))
+  pub distinct : (k : ℕ) → k < length rows → Distinct (all_of (row_at rows k))
+  pub apart : (i k : ℕ) (y : ℕ) → i < length rows → k < length rows → i ≢ k
+      → Contains (all_of (row_at rows i)) y
+      → Apart y (all_of (row_at rows k))
 
 -- ---- lists
 

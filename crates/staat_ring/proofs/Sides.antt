@@ -4,7 +4,7 @@ use Rattle.std.proofs.lemmas.Int.{ints}
 use Rattle.staat_vec.specs.declared.vector.V3.{V3}
 use Rattle.staat_vec.specs.Vectors.{dot, cross, origin}
 use Rattle.staat_vec.specs.Primitives.{primitive, content}
-use Rattle.staat_ring.specs.Turns.{turn}
+use Rattle.staat_ring.proofs.Turns.{turn}
 use Rattle.staat_vec.proofs.Ring.{at, ◌⊖◌, ◌⊗◌, ring}
 use Rattle.staat_vec.proofs.VecRing.{dotE, crossE, values, v0, v1, v2, timesE}
 use Rattle.staat_ring.proofs.Turning.{turnE}

@@ -5,11 +5,14 @@ use Rattle.std.specs.Prelude.{◌==◌}
 use Rattle.std.proofs.Math.Nat.{mul-add-mod_self_left, mod-eq_of_lt}
 use Rattle.std.proofs.Math.ListN.{length-set}
 use Rattle.std.proofs.lemmas.List.Elements.{Contains-append_cases}
-use Rattle.staat_ring.specs.Links.{Links, Arrays, Apart, Distinct, unlink, is_bare, take, take_all, CanTakeAll}
-use Rattle.staat_ring.specs.Stands.{Shape, RingLists, StandFor, is_empty, home_of, lists_without, lists_without_all, lists_without_plane, IsPresent, AllPresent}
+use Rattle.staat_ring.specs.Links.{Links, Arrays, Apart, Distinct, unlink, is_bare, take, take_all}
+use Rattle.staat_ring.proofs.Taking.{CanTakeAll}
+use Rattle.staat_ring.specs.Stands.{Shape, RingLists, StandFor, is_empty, home_of, IsPresent, AllPresent}
+use Rattle.staat_ring.proofs.ListsWithout.{lists_without_plane, lists_without_all, lists_without, AreSame}
 use Rattle.staat_ring.specs.Planes.{entries_of, entries_on}
-use Rattle.staat_ring.specs.Views.{AreSame, lists_of}
-use Rattle.staat_ring.specs.RingViews.{shape, plane_of, is_out, undo, rings_at, StandForCircles}
+use Rattle.staat_ring.specs.Views.{lists_of}
+use Rattle.staat_ring.specs.RingViews.{shape, is_out, undo, rings_at, StandForCircles}
+use Rattle.staat_ring.specs.Numbered.{plane_of}
 use Rattle.staat_ring.specs.Without.{rings_without}
 use Rattle.staat_ring.proofs.Undo.{give_all-take_all}
 use Rattle.staat_ring.proofs.TwoLevels.{stands-take_all, present-after}

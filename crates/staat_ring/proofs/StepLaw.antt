@@ -10,9 +10,9 @@ use Rattle.staat_vec.specs.Lists.{Lists}
 use Rattle.staat_vec.specs.Primitives.{primitive}
 use Rattle.staat_vec.specs.Vectors.{cross, dot, negative, sign}
 use Rattle.staat_model.specs.Circles.{Stop, IsLinked, IsOnCircle, IsNext, IsCircle, IsAfter, PassesThrough}
-use Rattle.staat_ring.specs.Rings.{AreLinkedApart}
-use Rattle.staat_ring.specs.StepSigns.{StepSigns}
-use Rattle.staat_ring.specs.Turns.{turn}
+use Rattle.staat_ring.proofs.Stops.{AreLinkedApart}
+use Rattle.staat_ring.proofs.StepSigns.{StepSigns}
+use Rattle.staat_ring.proofs.Turns.{turn}
 use Rattle.staat_ring.proofs.Mapped.{from_map}
 use Rattle.staat_ring.proofs.Steps.{no_turn_origin, not_both, on_plane, size_positive}
 use Rattle.staat_ring.proofs.Walking.{sign_stays}

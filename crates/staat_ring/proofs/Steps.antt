@@ -5,8 +5,8 @@ use Rattle.staat_vec.specs.declared.vector.V3.{V3}
 use Rattle.staat_vec.specs.Vectors.{dot, cross, det, negative, origin}
 use Rattle.staat_vec.specs.Primitives.{primitive, content}
 use Rattle.staat_model.specs.Circles.{IsLinked, IsOnCircle}
-use Rattle.staat_ring.specs.Turns.{turn}
-use Rattle.staat_ring.specs.Rings.{AreLinkedApart}
+use Rattle.staat_ring.proofs.Turns.{turn}
+use Rattle.staat_ring.proofs.Stops.{AreLinkedApart}
 use Rattle.staat_vec.proofs.Ring.{at, num, ◌⊕◌, ◌⊖◌, ◌⊗◌, ring}
 use Rattle.staat_vec.proofs.VecRing.{dotE, crossE, detE, values, v0, v1, v2, v3, timesE}
 use Rattle.staat_vec.proofs.Order.{pos_mul, square_sign, square_nonneg, cancel_zero}

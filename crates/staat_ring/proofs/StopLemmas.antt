@@ -24,12 +24,11 @@ use Rattle.staat_ring.specs.Marks.{marked}
 use Rattle.staat_ring.specs.Places.{IsStopAt}
 use Rattle.staat_ring.specs.Rings.{AreRings, IsRingOf, Ring, RingStop, linked_of, stop_of, vertex_of}
 use Rattle.staat_ring.specs.Signs.{Signed}
-use Rattle.staat_ring.specs.Rings.{AreLinkedApart}
+use Rattle.staat_ring.proofs.Stops.{AreLinkedApart, none_parallel, stop_there}
 use Rattle.staat_ring.specs.Belonging.{HoldSigns}
 use Rattle.staat_ring.proofs.Mapped.{in_map, from_map}
 use Rattle.staat_ring.proofs.CrossLaw.{cross_signs}
 use Rattle.staat_ring.proofs.Steps.{primitive_on, negative_on}
-use Rattle.staat_ring.proofs.Stops.{none_parallel, stop_there}
 
 less_is : (x y : ℕ) → nat_cmp x y ≡ Less → x < y
 less_is x y e = grind (arith, nat_tests)

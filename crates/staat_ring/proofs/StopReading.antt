@@ -8,11 +8,11 @@ use Rattle.staat_model.proofs.GraphLemmas.{from_slice_get}
 use Rattle.staat_model.proofs.Members.{All-from_members}
 use Rattle.staat_ring.specs.declared.entry.Entry.{Entry}
 use Rattle.staat_ring.specs.Links.{Arrays, Links}
-use Rattle.staat_ring.specs.Numbered.{head_number}
+use Rattle.staat_ring.specs.Numbered.{head_number, entry_number, entry_numbered}
 use Rattle.staat_ring.specs.Places.{IsAtEntry, IsStopAt, cursor, plane_count}
 use Rattle.staat_ring.specs.RingInvariant.{HaveTakenOut}
-use Rattle.staat_ring.specs.RingViews.{StandForCircles, arrangement_of, entry_numbered, ring_of, rings_at, shape, undo}
-use Rattle.staat_ring.specs.Rings.{Arrangement, Ring, RingStop, entry_number, linked_of}
+use Rattle.staat_ring.specs.RingViews.{StandForCircles, arrangement_of, ring_of, rings_at, shape, undo}
+use Rattle.staat_ring.specs.Rings.{Arrangement, Ring, RingStop, linked_of}
 use Rattle.staat_ring.specs.Stands.{IsRing, IsShortRing, RingLists, home_of}
 use Rattle.staat_ring.specs.Views.{kept_of, lists_of}
 use Rattle.staat_ring.proofs.Mapped.{in_map}

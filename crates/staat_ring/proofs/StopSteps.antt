@@ -8,8 +8,7 @@ use Rattle.staat_ring.specs.declared.entry.Entry.{Entry}
 use Rattle.staat_ring.specs.Builds.{slot_at}
 use Rattle.staat_ring.specs.Links.{Apart, Arrays, Distinct, Links, IsLinkedRing}
 use Rattle.staat_ring.specs.Linking.{AreHomedAt, AreLinked, AreSized, AreStopsLinked, CanBeLinked, HoldsCircle, IsKeptAt, IsSameAt, rows_of}
-use Rattle.staat_ring.specs.Numbered.{head_number, node_number, vertex_row}
-use Rattle.staat_ring.specs.Rings.{entry_number}
+use Rattle.staat_ring.specs.Numbered.{head_number, node_number, vertex_row, entry_number}
 use Rattle.staat_ring.specs.RingViews.{shape}
 use Rattle.staat_ring.specs.Rows.{Row, all_of}
 use Rattle.staat_ring.proofs.Mapped.{apart_from, from_map, in_map, same_or}

@@ -5,9 +5,17 @@ use Rattle.std.specs.List.{count_by, sum_by}
 use Rattle.std.proofs.lemmas.List.Sums.{sum_by-cons}
 use Rattle.std.proofs.lemmas.List.Elements.{All-get_or, All-from_get_or}
 use Rattle.staat_vec.specs.declared.vector.Sign.{Sign}
-use Rattle.staat_ring.specs.Belonging.{PlaneFacet, is_positive}
+use Rattle.staat_ring.specs.Belonging.{PlaneFacet}
 use Rattle.staat_ring.proofs.PairLemmas.{differ, one}
 use Rattle.staat_graph.proofs.Finite.{same_or}
+use Rattle.std.specs.Prelude.{Bool, false, not}
+use Rattle.staat_vec.specs.declared.vector.Sign.TheVariants.{Neg, Zero, Pos}
+
+-- whether the facet is positive where the plane has this sign
+abbrev pub is_positive : Sign → Bool → Bool
+is_positive Neg turned = turned
+is_positive Zero turned = false
+is_positive Pos turned = not turned
 
 -- f at each of so many numbers from k on
 abbrev pub total : (ℕ → ℕ) → ℕ → ℕ → ℕ

@@ -4,8 +4,10 @@ use Rattle.std.proofs.lemmas.List.{get_or-set_other}
 use Rattle.std.proofs.lemmas.Grind.{get_or-set_at}
 use Rattle.std.proofs.Math.ListN.{length-set}
 use Rattle.std.proofs.lemmas.Bool.Decides.{Decides-eqb}
-use Rattle.staat_ring.specs.Links.{Links, Apart, Distinct, unlink, Arrays, is_bare, take, take_all, CanTake, CanTakeAll}
-use Rattle.staat_ring.specs.Stands.{without, is_empty, Tagged, IsRing, InRange, Shape, RingLists, home_of, StandFor, IsPresent, lists_without, lists_without_all, AllPresent}
+use Rattle.staat_ring.specs.Links.{Links, Apart, Distinct, unlink, Arrays, is_bare, take, take_all}
+use Rattle.staat_ring.proofs.Taking.{CanTakeAll, CanTake}
+use Rattle.staat_ring.specs.Stands.{is_empty, Tagged, IsRing, InRange, Shape, RingLists, home_of, StandFor, IsPresent, AllPresent}
+use Rattle.staat_ring.proofs.ListsWithout.{lists_without_all, lists_without, without}
 use Rattle.staat_ring.proofs.Without.{without_other, without_none, node_between, tagged_apart, prev_tag, next_tag, ring_stays, ring_shrinks, bare_is}
 
 pub decide : (x y : ℕ) → (x ≡ y) ⊎ (x ≢ y)

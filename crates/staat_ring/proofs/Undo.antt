@@ -1,7 +1,8 @@
 -- Putting back undoes taking out.
 use Rattle.std.proofs.Common.{◌≡◌, ℕ, refl, sym, ap, ◌∙◌, List, [], ◌∷◌, Bool, true, false, get_or, set, if◌then◌else◌}
 use Rattle.std.proofs.lemmas.List.{set-get_or, get_or-set_other, set-set}
-use Rattle.staat_ring.specs.Links.{Links, unlink, relink, IsBetween, Arrays, is_bare, take, give, take_all, give_all, CanTake, CanTakeAll}
+use Rattle.staat_ring.specs.Links.{Links, unlink, relink, Arrays, is_bare, take, give, take_all, give_all}
+use Rattle.staat_ring.proofs.Taking.{CanTakeAll, CanTake, IsBetween}
 
 -- writing back what stood there
 written_back : (l : List ℕ) (i i' u x : ℕ) → i' ≡ i → get_or l i 0 ≡ x → set (set l i u) i' x ≡ l

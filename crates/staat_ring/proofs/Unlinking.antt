@@ -2,7 +2,8 @@
 use Rattle.std.proofs.Common.{◌≡◌, ◌≢◌, ℕ, zero, suc, ◌+◌, ◌<◌, ◌≤◌, refl, sym, ap, subst, ◌∙◌, arith, List, [], ◌∷◌, ◌++◌, map, length, take, drop, Bool, true, false, not, ◌&&◌, Contains, ◌⊎◌, inl, inr}
 use Rattle.std.specs.Prelude.{◌==◌}
 use Rattle.staat_ring.specs.Links.{Arrays, Apart, Distinct}
-use Rattle.staat_ring.specs.Stands.{RingLists, without}
+use Rattle.staat_ring.specs.Stands.{RingLists}
+use Rattle.staat_ring.proofs.ListsWithout.{without}
 use Rattle.staat_ring.specs.Views.{undo_all}
 use Rattle.staat_ring.specs.RingViews.{rings_of, rings_at, undo, StandForCircles, CanBeUndone, still_linked, is_out, numbers_below, shape}
 use Rattle.staat_ring.proofs.ViewLemmas.{undo-push}

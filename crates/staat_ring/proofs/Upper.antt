@@ -8,7 +8,7 @@ use Rattle.staat_vec.specs.Vectors.{cross, det, dot, negative, origin, sign}
 use Rattle.staat_vec.proofs.Primitives.{primitive-is}
 use Rattle.staat_ring.specs.Builds.{IsPlaceOf, IsUpper, ray}
 use Rattle.staat_ring.specs.Order.{normal_at}
-use Rattle.staat_ring.specs.Turns.{turn}
+use Rattle.staat_ring.proofs.Turns.{turn}
 use Rattle.staat_ring.specs.Rings.{facet_by}
 use Rattle.staat_ring.proofs.Circling.{ray_negative, zero_by, zero_cross}
 use Rattle.staat_ring.proofs.Deciding.{order_is}

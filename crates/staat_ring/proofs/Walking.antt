@@ -4,7 +4,7 @@ use Rattle.std.proofs.lemmas.Int.{ints}
 use Rattle.staat_vec.specs.declared.vector.V3.{V3}
 use Rattle.staat_vec.specs.Vectors.{dot, cross, negative, origin, sign}
 use Rattle.staat_vec.specs.Primitives.{primitive, content}
-use Rattle.staat_ring.specs.Turns.{turn, NextIn}
+use Rattle.staat_ring.proofs.Turns.{turn, NextIn}
 use Rattle.staat_vec.proofs.Ring.{num, ring}
 use Rattle.staat_vec.proofs.VecRing.{values, v0, v1}
 use Rattle.staat_vec.proofs.Order.{pos_mul}

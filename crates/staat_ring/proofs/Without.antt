@@ -2,8 +2,11 @@
 use Rattle.std.proofs.Common.{◌≡◌, ◌≢◌, ℕ, zero, suc, refl, sym, ap, subst, ◌∙◌, List, [], ◌∷◌, ◌++◌, Bool, true, false, not, cond, eqb, eq-eqb, get_or, arith, Contains}
 use Rattle.std.specs.List.{filter}
 use Rattle.std.proofs.lemmas.Bool.Decides.{nat_tests}
-use Rattle.staat_ring.specs.Links.{Links, IsLinkedRing, Apart, Distinct, last_of, first_of, unlink, IsBetween, is_bare}
-use Rattle.staat_ring.specs.Stands.{without, is_empty, Tagged, IsRing}
+use Rattle.staat_ring.specs.Links.{Links, IsLinkedRing, Apart, Distinct, unlink, is_bare}
+use Rattle.staat_ring.proofs.Ends.{first_of, last_of}
+use Rattle.staat_ring.proofs.Taking.{IsBetween}
+use Rattle.staat_ring.specs.Stands.{is_empty, Tagged, IsRing}
+use Rattle.staat_ring.proofs.ListsWithout.{without}
 use Rattle.staat_ring.proofs.Chains.{ring-unlink, between, chain_stays, prev_in, next_in, InRange as NodeInRange}
 
 pub without_same : (x : ℕ) (r : List ℕ) → without x (x ∷ r) ≡ without x r

@@ -10,7 +10,7 @@ use Rattle.staat_model.proofs.Members.{All-from_members}
 use Rattle.std.proofs.lemmas.List.Elements.{All-contains}
 use Rattle.staat_ring.specs.declared.entry.Entry.{Entry}
 use Rattle.staat_ring.specs.Rings.{IsRingOf, Ring, RingStop, crossing, vertex_of}
-use Rattle.staat_ring.specs.Rings.{AreLinkedApart}
+use Rattle.staat_ring.proofs.Stops.{AreLinkedApart}
 use Rattle.staat_ring.specs.Without.{has_some, other_than, ring_without, stays, stop_without}
 use Rattle.staat_ring.proofs.Mapped.{from_map}
 use Rattle.staat_ring.proofs.Mapped.{differ}

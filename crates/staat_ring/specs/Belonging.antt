@@ -1,10 +1,8 @@
 -- Signs that belong to a table: each facet of each ordered pair of pieces is known by its plane and sense.
 use Rattle.std.specs.Prelude.{◌≡◌, ◌⊎◌, ℕ, ◌<◌, ◌≤◌, List, length, map, All, Contains, Some}
-use Rattle.std.specs.Prelude.{Bool, false, not, ◌==◌, ◌&&◌, slice_get}
+use Rattle.std.specs.Prelude.{Bool, not, ◌==◌, ◌&&◌, slice_get}
 use Rattle.std.specs.List.{count_by}
 use Rattle.staat_vec.specs.declared.vector.V3.{V3}
-use Rattle.staat_vec.specs.declared.vector.Sign.{Sign}
-use Rattle.staat_vec.specs.declared.vector.Sign.TheVariants.{Neg, Zero, Pos}
 use Rattle.staat_vec.specs.Vectors.{dot, sign}
 use Rattle.staat_model.specs.declared.assembly.Part.{Part}
 use Rattle.staat_model.specs.declared.certificate.Arc.{Arc}
@@ -24,12 +22,6 @@ pub record PlaneFacet : Type 0 where
 
 abbrev pub facet_at : List V3 → PlaneFacet → V3
 facet_at planes w = facet_by w.turned (plane_at planes w.plane)
-
--- whether the facet is positive where the plane has this sign
-abbrev pub is_positive : Sign → Bool → Bool
-is_positive Neg turned = turned
-is_positive Zero turned = false
-is_positive Pos turned = not turned
 
 -- these facets are listed as those of pair q
 pub record IsPairIndexed (planes facets : List V3) (sides : List Side) (q : ℕ) : Type 0 where

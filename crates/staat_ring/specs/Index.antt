@@ -1,7 +1,6 @@
 -- While the facets of a table are put down.
 use Rattle.std.specs.Prelude.{◌≡◌, ◌≢◌, ◌⊎◌, ℕ, ◌<◌, ◌≤◌, List, length, take, sum}
 use Rattle.std.specs.Prelude.{Some, slice_get}
-use Rattle.staat_vec.specs.declared.vector.V3.{V3}
 use Rattle.staat_vec.specs.declared.vector.Sign.TheVariants.{Zero}
 use Rattle.staat_model.specs.declared.certificate.Arc.{Arc}
 use Rattle.staat_model.specs.Sets.{Has}
@@ -9,7 +8,7 @@ use Rattle.staat_pairs.specs.Tables.{IsTableArc, Table, pieces_of, place, slot}
 use Rattle.staat_ring.specs.declared.index.PiecePlace.{PiecePlace}
 use Rattle.staat_ring.specs.Pairs.{no_pair, occurs, pair_at}
 use Rattle.staat_ring.specs.Signs.{Signed, side_at, with_pair, with_side}
-use Rattle.staat_ring.specs.Belonging.{IsPairIndexed, IsPairOf, IsUnused, PlaneFacet}
+use Rattle.staat_ring.specs.Belonging.{IsPairOf, IsUnused, PlaneFacet}
 
 -- the pieces of the parts below n, numbered through
 pub record ArePlaces (t : Table) (n : ℕ) (places : List PiecePlace) : Type 0 where
@@ -57,11 +56,3 @@ pub record AreToldBelow (t : Table) (s : Signed) (n : ℕ) : Type 0 where
 -- one more facet of pair q
 abbrev pub with_facet : PlaneFacet → ℕ → Signed → Signed
 with_facet w q s = with_side w.plane (with_pair w.turned q (side_at s.sides w.plane)) s
-
--- of the facets of pair q so many are put down
-pub record IsPartly (planes facets : List V3) (first s : Signed) (q m : ℕ) : Type 0 where
-  pub index : IsPairIndexed planes (take m facets) s.sides q
-  pub sides : length s.sides ≡ length first.sides
-  pub pairs : s.pairs ≡ first.pairs
-  pub zero : AreZero s
-  pub others : (p : ℕ) → p ≢ q → IsPairKept first s p

@@ -8,7 +8,6 @@ pub mod Planes
 pub mod Views
 pub mod RingViews
 pub mod RingInvariant
-pub mod Turns
 pub mod Order
 pub mod Builds
 pub mod Rows
@@ -20,7 +19,6 @@ pub mod Pairs
 pub mod Signs
 pub mod Belonging
 pub mod Index
-pub mod StepSigns
 pub mod Stepping
 pub mod Marks
 pub mod Walked

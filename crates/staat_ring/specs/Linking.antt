@@ -1,27 +1,20 @@
 -- The circles while they are linked, one after another.
-use Rattle.std.specs.Prelude.{◌≡◌, ◌≢◌, ℕ, ◌*◌, ◌<◌, ◌≤◌, List, [], length, map, All}
+use Rattle.std.specs.Prelude.{◌≡◌, ℕ, ◌<◌, ◌≤◌, List, [], length, map, All}
 use Rattle.std.specs.Prelude.{Contains, slice_index}
 use Rattle.staat_vec.specs.declared.vector.V3.{V3}
 use Rattle.staat_ring.specs.declared.entry.Entry.{Entry}
 use Rattle.staat_ring.specs.Builds.{ring_by, slot_at}
 use Rattle.staat_ring.specs.Links.{Apart, Arrays, Distinct, Links, IsLinkedRing}
-use Rattle.staat_ring.specs.Numbered.{HasEntry, head_number, node_number, vertex_row}
-use Rattle.staat_ring.specs.Rings.{IsRingOf, entry_number}
-use Rattle.staat_ring.specs.RingViews.{numbers_below, shape}
+use Rattle.staat_ring.specs.Numbered.{HasEntry, circle_of_node, entry_count, entry_number, head_number}
+use Rattle.staat_ring.specs.Numbered.{node_count, node_number, vertex_row}
+use Rattle.staat_ring.specs.Rings.{IsRingOf}
+use Rattle.staat_ring.specs.RingViews.{numbers_below}
 use Rattle.staat_ring.specs.Rows.{Row, all_of, row_at}
 
 -- the words of y are the same
 pub record IsSameAt (s t : Links) (y : ℕ) : Type 0 where
   pub next : slice_index t.next y ≡ slice_index s.next y
   pub prev : slice_index t.prev y ≡ slice_index s.prev y
-
--- each row's nodes are distinct and below n, and no two rows have a node in common
-pub record AreRows (n : ℕ) (rows : List Row) : Type 0 where
-  pub within : (k : ℕ) → k < length rows → All (λ x. x < n) (all_of (row_at rows k))
-  pub distinct : (k : ℕ) → k < length rows → Distinct (all_of (row_at rows k))
-  pub apart : (i k : ℕ) (y : ℕ) → i < length rows → k < length rows → i ≢ k
-      → Contains (all_of (row_at rows i)) y
-      → Apart y (all_of (row_at rows k))
 
 -- the rows below m are linked, and the heads of the others stand alone
 pub record AreLinked (s : Links) (rows : List Row) (m : ℕ) : Type 0 where
@@ -92,13 +85,13 @@ pub record HasCircle (planes : List V3) (n : ℕ) (a : Arrays) (c : ℕ) : Type 
 
 -- arrays for n planes
 pub record AreSized (n : ℕ) (a : Arrays) : Type 0 where
-  pub home : length a.home ≡ 4 * (n * n)
-  pub circles : length a.circles.next ≡ 4 * (n * n)
-  pub vertices : length a.vertices.next ≡ 4 * (n * n)
+  pub home : length a.home ≡ node_count n
+  pub circles : length a.circles.next ≡ node_count n
+  pub vertices : length a.vertices.next ≡ node_count n
 
 -- the circles below d stand in the arrays, and the nodes of the others stand alone
 pub record AreLinkedBelow (planes : List V3) (n d : ℕ) (a : Arrays) : Type 0 where
   pub sizes : AreSized n a
   pub circles : (c : ℕ) → c < d → HasCircle planes n a c
-  pub alone : (x : ℕ) → x < 4 * (n * n) → ((shape n).circle x < d → ⊥) → IsAlone a x
-  pub own : (x : ℕ) → 2 * (n * n) ≤ x → x < 4 * (n * n) → slice_index a.home x ≡ x
+  pub alone : (x : ℕ) → x < node_count n → (circle_of_node n x < d → ⊥) → IsAlone a x
+  pub own : (x : ℕ) → entry_count n ≤ x → x < node_count n → slice_index a.home x ≡ x

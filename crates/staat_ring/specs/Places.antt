@@ -14,7 +14,8 @@ use Rattle.std.specs.Prelude.{
   slice_get,
 }
 use Rattle.staat_ring.specs.declared.entry.Entry.{Entry}
-use Rattle.staat_ring.specs.Rings.{Arrangement, Ring, RingStop, entry_number}
+use Rattle.staat_ring.specs.Rings.{Arrangement, Ring, RingStop}
+use Rattle.staat_ring.specs.Numbered.{entry_number}
 
 -- how many planes there are, linked or not
 abbrev pub plane_count : Arrangement → ℕ

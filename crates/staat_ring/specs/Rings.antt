@@ -1,14 +1,13 @@
 -- The circles of the linked planes, as they are kept: stops with the entries of the planes through them.
-use Rattle.std.specs.Prelude.{◌≡◌, ◌≢◌, ◌⊎◌, ℕ, ◌+◌, ◌*◌, ◌<◌, List, [], ◌∷◌}
-use Rattle.std.specs.Prelude.{length, map, take, All, Bool}
-use Rattle.std.specs.Prelude.{true, false}
-use Rattle.std.specs.Prelude.{Contains, Some, slice_get, slice_index_or, if◌then◌else◌}
+use Rattle.std.specs.Prelude.{◌≡◌, ◌⊎◌, ℕ, ◌<◌, List, [], ◌∷◌}
+use Rattle.std.specs.Prelude.{length, map, take, All, Bool, true, false}
+use Rattle.std.specs.Prelude.{Contains, Some, slice_get, slice_index_or}
 use Rattle.std.specs.List.Sorted.{IsStrictlySortedBy}
 use Rattle.std.specs.Ordering.{nat_cmp}
 use Rattle.staat_vec.specs.declared.vector.V3.{V3}
 use Rattle.staat_vec.specs.Vectors.{cross, negative, origin}
 use Rattle.staat_vec.specs.Primitives.{primitive}
-use Rattle.staat_model.specs.Circles.{IsCircle, IsLinked, Stop}
+use Rattle.staat_model.specs.Circles.{IsCircle, Stop}
 use Rattle.staat_ring.specs.declared.entry.Entry.{Entry}
 
 -- a stop on a circle: its node, and the entries of the other planes through it
@@ -65,11 +64,6 @@ pub record IsRingOf (planes : List V3) (linked : List ℕ) (r : Ring) : Type 0 w
   pub agree :
       All (λ s. All (λ e. crossing planes r.plane e ≡ vertex_of planes r.plane s.entries) s.entries) r.stops
 
--- no two linked planes are parallel
-pub record AreLinkedApart (planes : List V3) (linked : List ℕ) : Type 0 where
-  pub apart : (i j : ℕ) (g h : V3) → IsLinked planes linked i g → IsLinked planes linked j h
-      → i ≢ j → cross g h ≢ origin
-
 -- ---- made from a table
 
 -- the circles of the linked planes, in the order of the planes; the axes are linked, and each plane is linked or out
@@ -84,9 +78,3 @@ pub record WereMadeFrom (planes : List V3) (a : Arrangement) : Type 0 where
   pub now : AreRings planes a.rings (unlinked_of a.unlinked)
   pub before : (k : ℕ) (kept : Kept (List Ring)) → slice_get a.unlinked k ≡ Some kept
       → AreRings planes kept.before (unlinked_of (take k a.unlinked))
-
--- ---- entries by number
-
--- the number of an entry on the circle c, of n circles
-abbrev pub entry_number : ℕ → ℕ → Entry → ℕ
-entry_number n c e = 2 * (c * n + e.plane) + (if e.turned then 1 else 0)

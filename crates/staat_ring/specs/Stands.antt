@@ -1,12 +1,7 @@
 -- What the arrays stand for: for each circle the list of its vertices, for each vertex the list of its entries.
 use Rattle.std.specs.Prelude.{◌≡◌, ℕ, ◌<◌, List, [], ◌∷◌, length, slice_index, Bool, true, false}
-use Rattle.std.specs.Prelude.{not, ◌==◌, Contains}
-use Rattle.std.specs.Prelude.{All, if◌then◌else◌}
-use Rattle.std.specs.List.{filter}
+use Rattle.std.specs.Prelude.{Contains, All}
 use Rattle.staat_ring.specs.Links.{Apart, Links, IsLinkedRing, Distinct, Arrays}
-
-abbrev pub without : ℕ → List ℕ → List ℕ
-without x xs = filter (λ y. not (y == x)) xs
 
 abbrev pub is_empty : List ℕ → Bool
 is_empty [] = true
@@ -69,25 +64,6 @@ pub record IsPresent (g : Shape) (l : RingLists) (a : Arrays) (e : ℕ) : Type 0
   pub vertex : Contains (l.vertices (g.circle (home_of a e))) (home_of a e)
   pub entry : Contains (l.entries (home_of a e)) e
 
--- the lists without the entry e at the vertex v: the vertex leaves with its last entry
-abbrev pub lists_without : ℕ → ℕ → RingLists → RingLists
-lists_without v e l = record {
-  vertices = λ c. if is_empty (without e (l.entries v)) then without v (l.vertices c) else l.vertices c;
-  entries = λ u. without e (l.entries u);
-}
-
--- the lists without these entries, in their order
-abbrev pub lists_without_all : (ℕ → ℕ) → List ℕ → RingLists → RingLists
-lists_without_all home [] l = l
-lists_without_all home (e ∷ es) l = lists_without_all home es (lists_without (home e) e l)
-
 abbrev pub AllPresent : Shape → RingLists → Arrays → List ℕ → Type 0
 AllPresent g l a [] = Unit {0}
 AllPresent g l a (e ∷ es) = IsPresent g l a e × AllPresent g l a es
-
--- the lists without a plane: its entries are out, and the vertices that have none left
-abbrev pub lists_without_plane : (ℕ → ℕ) → ℕ → RingLists → RingLists
-lists_without_plane plane_of p l = record {
-  vertices = λ c. filter (λ v. not (is_empty (filter (λ e. not (plane_of e == p)) (l.entries v)))) (l.vertices c);
-  entries = λ v. filter (λ e. not (plane_of e == p)) (l.entries v);
-}

@@ -1,6 +1,5 @@
 -- The lists as the arrays give them, and the planes that are unlinked, each with what stood before.
-use Rattle.std.specs.Prelude.{◌≡◌, ℕ, zero, suc, ◌<◌, List, [], ◌∷◌, ◌++◌, length, slice_index}
-use Rattle.std.specs.Prelude.{◌==◌, Contains}
+use Rattle.std.specs.Prelude.{ℕ, zero, suc, List, [], ◌∷◌, ◌++◌, length, slice_index, ◌==◌}
 use Rattle.std.specs.Prelude.{if◌then◌else◌}
 use Rattle.staat_ring.specs.Links.{Links, Arrays}
 use Rattle.staat_ring.specs.Rings.{Kept}
@@ -18,11 +17,6 @@ ring_nodes s head = nodes_from (length s.next) s.next head (slice_index s.next h
 -- what the arrays give
 abbrev pub lists_of : Shape → Arrays → RingLists
 lists_of g a = record { vertices = λ c. ring_nodes a.circles (g.head c); entries = ring_nodes a.vertices }
-
--- the lists agree where anything is asked of them
-pub record AreSame (g : Shape) (l m : RingLists) : Type 0 where
-  pub vertices : (c : ℕ) → c < g.count → l.vertices c ≡ m.vertices c
-  pub entries : (c v : ℕ) → c < g.count → Contains (l.vertices c) v → l.entries v ≡ m.entries v
 
 -- undoing the planes, the last first
 abbrev pub undo_all : {A : Type 0} → (ℕ → A → A) → List ℕ → A → A

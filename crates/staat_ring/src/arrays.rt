@@ -1,12 +1,12 @@
 // The arrays of all rings.
-ghost use Rattle.std.specs.Prelude.{◌≡◌, ◌≢◌, ℕ, ◌+◌, ◌*◌, ◌<◌, ◌≤◌, ◌^◌, IfOk};
+ghost use Rattle.std.specs.Prelude.{◌≡◌, ◌≢◌, ℕ, ◌+◌, ◌<◌, ◌≤◌, ◌^◌, IfOk};
 ghost use Rattle.std.specs.Prelude.{List, length, map, slice_index};
 ghost use Rattle.staat_ring.specs.Links.{take, give, take_all, give_all};
 ghost use Rattle.staat_ring.specs.Stands.{InRange, IsShortRing};
 ghost use Rattle.staat_ring.specs.Planes.{entries_of};
 ghost use Rattle.staat_ring.specs.Linking.{AreSized, CanBeLinked, HoldsCircle, IsAlone, IsKeptAt};
-ghost use Rattle.staat_ring.specs.Numbered.{head_number, node_number};
-ghost use Rattle.staat_ring.specs.RingViews.{shape};
+ghost use Rattle.staat_ring.specs.Numbered.{circle_of_node, entry_count, entry_of_plane, head_number, node_count};
+ghost use Rattle.staat_ring.specs.Numbered.{node_number};
 
 use crate::circle::Through;
 use crate::linking::link_stops;
@@ -42,8 +42,8 @@ fn entry(planes: u32, c: u32, p: u32) -> u32
     requires planes { planes ≤ MOST_PLANES }
     requires circle { c < planes }
     requires plane { p < planes }
-    ensures is { result ≡ 2 * (c * planes + p) }
-    ensures within { result + 1 < 2 * (planes * planes) }
+    ensures is { result ≡ entry_of_plane planes c p }
+    ensures within { result + 1 < entry_count planes }
     ensures small { result < 2 ^ 30 }
 {
     2 * (c * planes + p)
@@ -80,7 +80,7 @@ impl RingArrays {
     pub fn take_plane(&mut self, planes: u32, p: u32)
         requires planes { planes ≤ MOST_PLANES }
         requires plane { p < planes }
-        requires room { 2 * (planes * planes) ≤ length self.old.home }
+        requires room { entry_count planes ≤ length self.old.home }
         ensures arrays { self.new ≡ take_all (entries_of planes p planes) self.old }
         ensures length { length self.new.home ≡ length self.old.home }
     {
@@ -97,7 +97,7 @@ impl RingArrays {
     pub fn give_plane(&mut self, planes: u32, p: u32)
         requires planes { planes ≤ MOST_PLANES }
         requires plane { p < planes }
-        requires room { 2 * (planes * planes) ≤ length self.old.home }
+        requires room { entry_count planes ≤ length self.old.home }
         ensures arrays { self.new ≡ give_all (entries_of planes p planes) self.old }
         ensures length { length self.new.home ≡ length self.old.home }
     {
@@ -162,7 +162,7 @@ pub fn head_of(planes: u32, c: u32) -> u32
     requires planes { planes ≤ MOST_PLANES }
     requires circle { c < planes }
     ensures is { result ≡ head_number planes c }
-    ensures within { result < 2 * (planes * planes) }
+    ensures within { result < entry_count planes }
 {
     2 * (c * planes + c)
 }
@@ -172,8 +172,8 @@ impl RingArrays {
     pub fn alone(alloc: Global, planes: u32) -> Result<RingArrays, OutOfMemory>
         requires { planes ≤ MOST_PLANES }
         ensures sizes { IfOk result (AreSized planes) }
-        ensures alone { IfOk result (λ a. (x : ℕ) → x < 4 * (planes * planes) → IsAlone a x) }
-        ensures home { IfOk result (λ a. (x : ℕ) → x < 4 * (planes * planes) → slice_index a.home x ≡ x) }
+        ensures alone { IfOk result (λ a. (x : ℕ) → x < node_count planes → IsAlone a x) }
+        ensures home { IfOk result (λ a. (x : ℕ) → x < node_count planes → slice_index a.home x ≡ x) }
     {
         let count = 4 * (planes * planes);
         let circles = NodeLinks::alone(alloc, count)?;
@@ -193,12 +193,12 @@ impl RingArrays {
         requires sizes { AreSized planes self.old }
         requires stops { CanBeLinked planes c stops.now }
         requires nodes { nodes.now ≡ map (node_number planes c) stops.now }
-        requires alone { (x : ℕ) → x < 4 * (planes * planes) → (shape planes).circle x ≡ c
+        requires alone { (x : ℕ) → x < node_count planes → circle_of_node planes x ≡ c
             → IsAlone self.old x }
         ensures sizes { AreSized planes self.new }
         ensures holds { HoldsCircle planes self.new c stops.now }
-        ensures others { (x : ℕ) → (shape planes).circle x ≢ c → IsKeptAt self.old self.new x }
-        ensures home { (x : ℕ) → 2 * (planes * planes) ≤ x
+        ensures others { (x : ℕ) → circle_of_node planes x ≢ c → IsKeptAt self.old self.new x }
+        ensures home { (x : ℕ) → entry_count planes ≤ x
             → slice_index self.new.home x ≡ slice_index self.old.home x }
     {
         self.circles.link(head_of(planes, c), nodes);

@@ -1,7 +1,8 @@
 // A plane through a stop of a circle, and the numbers of entries and stops.
-ghost use Rattle.std.specs.Prelude.{◌≡◌, ◌+◌, ◌*◌, ◌<◌, ◌≤◌, ◌^◌, All};
-ghost use Rattle.staat_ring.specs.Numbered.{HasEntry, node_number};
-ghost use Rattle.staat_ring.specs.Rings.{entry_number};
+ghost use Rattle.std.specs.Prelude.{◌≡◌, ◌<◌, ◌≤◌, ◌^◌, All};
+ghost use Rattle.staat_ring.specs.Numbered.{HasEntry, entry_count, entry_number, node_count, node_number};
+
+use staat_limits::MOST_PLANES;
 
 /// A plane through a stop of a circle.
 #[derive(Clone, Copy)]
@@ -18,7 +19,7 @@ pub fn number_of_entry(planes: u32, c: u32, e: Entry) -> u32
     requires circle { c < planes }
     requires plane { e.plane < planes }
     ensures is { result ≡ entry_number planes c e }
-    ensures within { result < 2 * (planes * planes) }
+    ensures within { result < entry_count planes }
     ensures small { result < 2 ^ 30 }
 {
     let first = 2 * (c * planes + e.plane);
@@ -26,16 +27,13 @@ pub fn number_of_entry(planes: u32, c: u32, e: Entry) -> u32
 }
 
 /// The node of a stop on the circle `c`: it is numbered by its first entry, beyond all entries.
-
-use staat_limits::MOST_PLANES;
-
 pub fn node_of(planes: u32, c: u32, entries: &[Entry]) -> u32
     requires planes { planes ≤ MOST_PLANES }
     requires circle { c < planes }
     requires entries { All (λ e. e.plane < planes) entries.now }
     requires some { HasEntry entries.now }
     ensures is { result ≡ node_number planes c entries.now }
-    ensures within { result < 4 * (planes * planes) }
+    ensures within { result < node_count planes }
 {
     2 * (planes * planes) + number_of_entry(planes, c, entries[0])
 }

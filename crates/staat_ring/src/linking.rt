@@ -1,11 +1,10 @@
 // The rings of a circle and of its stops, linked to their nodes.
-ghost use Rattle.std.specs.Prelude.{◌≡◌, ℕ, ◌*◌, ◌<◌, ◌≤◌, ◌∷◌, [], All, IfOk, length};
+ghost use Rattle.std.specs.Prelude.{◌≡◌, ℕ, ◌<◌, ◌≤◌, ◌∷◌, [], All, IfOk, length};
 ghost use Rattle.std.specs.Prelude.{map};
 ghost use Rattle.staat_ring.specs.Builds.{slot_at};
 ghost use Rattle.staat_ring.specs.Links.{Apart, Distinct, IsLinkedRing};
+ghost use Rattle.staat_ring.specs.Numbered.{entry_number, node_count, node_number};
 ghost use Rattle.staat_ring.specs.Linking.{AreHomedAt, AreLinked, AreStopsLinked, CanBeLinked, IsSameAt, rows_of};
-ghost use Rattle.staat_ring.specs.Numbered.{node_number};
-ghost use Rattle.staat_ring.specs.Rings.{entry_number};
 
 use crate::circle::Through;
 use crate::entry::{Entry, node_of, number_of_entry};
@@ -63,7 +62,7 @@ fn link_entries(
     requires planes { planes ≤ MOST_PLANES }
     requires circle { c < planes }
     requires node { v < length vertices.old.next }
-    requires room { 4 * (planes * planes) ≤ length vertices.old.next }
+    requires room { node_count planes ≤ length vertices.old.next }
     requires homes { length home.old.items ≡ length vertices.old.next }
     requires entries { All (λ e. e.plane < planes) entries.now }
     requires distinct { Distinct (v ∷ map (entry_number planes c) entries.now) }
@@ -94,7 +93,7 @@ pub fn link_stops(
 )
     requires planes { planes ≤ MOST_PLANES }
     requires circle { c < planes }
-    requires room { 4 * (planes * planes) ≤ length vertices.old.next }
+    requires room { node_count planes ≤ length vertices.old.next }
     requires homes { length home.old.items ≡ length vertices.old.next }
     requires stops { CanBeLinked planes c stops.now }
     requires alone { AreLinked vertices.old (rows_of planes c stops.now) 0 }

@@ -1,6 +1,6 @@
 use Rattle.std.proofs.Common.{◌<◌, length, take, All, map}
 use Rattle.staat_ring.specs.Linking.{AreHomedAt}
-use Rattle.staat_ring.specs.Rings.{entry_number}
+use Rattle.staat_ring.specs.Numbered.{entry_number}
 use Rattle.staat_ring.proofs.Rows.{IsPartly}
 use Rattle.staat_ring.proofs.linking.link_entries.Given as goal
 
