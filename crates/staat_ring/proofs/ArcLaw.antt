@@ -1,9 +1,8 @@
 -- The graph of signs has the arcs of the blocking graph among the parts whose planes are linked.
 use Rattle.std.proofs.Common.{◌≡◌, ◌↔◌, inl, inr, ⊎_elim, ℕ, zero, suc, ◌<◌, ◌≤◌, arith, ap, sym, subst, ◌∙◌, refl, List, [], ◌∷◌, length, All, Contains, ℤ, pos, negsuc, neg_ℤ, ◌<ℤ◌}
-use Rattle.std.specs.Prelude.{◌==◌, ◌&&◌, Bool, true, false, map, cond, Some, slice_get}
+use Rattle.std.specs.Prelude.{◌==◌, ◌&&◌, Bool, true, false, map, cond, int_lt, T, Some, slice_get}
 use Rattle.std.specs.List.{count_by}
 use Rattle.std.proofs.lemmas.Int.{ints}
-use Rattle.std.proofs.lemmas.List.{length-map}
 use Rattle.std.proofs.lemmas.List.Elements.{All-contains, All-get_or}
 use Rattle.std.proofs.lemmas.List.Sums.{sum_by-cons, count_by-le-length}
 use Rattle.std.proofs.lemmas.Option.{slice_get-get_or}
@@ -29,7 +28,7 @@ use Rattle.staat_planes.proofs.GraphLaw.{ahead_is_blocking}
 use Rattle.staat_ring.specs.Blocks.{parts_at}
 use Rattle.staat_ring.specs.Pairs.{occurs, pair_at}
 use Rattle.staat_ring.specs.Signs.{HasBlockingPair, IsBlockingPair, Side, Signed, no_side, pairs_by, positive_pairs, positives, side_at}
-use Rattle.staat_ring.specs.Belonging.{BelongTo, HasAll, HoldSigns, IsPairIndexed, IsPairOf, IsUnused, PlaneFacet, facet_at}
+use Rattle.staat_ring.specs.Belonging.{BelongTo, HasAll, HoldSigns, IsCountedAt, IsPairIndexed, IsPairOf, IsUnused, PlaneFacet, facet_at, positive_at}
 use Rattle.staat_ring.proofs.Totals.{is_positive, hits, sum_by-total, total-hits, total-same, total-zero}
 use Rattle.staat_ring.specs.Rings.{facet_by, plane_at}
 use Rattle.staat_ring.proofs.PairLemmas.{one}
@@ -69,41 +68,54 @@ positives-none sides q along against = sum_by-total (λ s. occurs q (positive_pa
     by_sign Zero k = refl
     by_sign Pos k = along k
 
--- ---- all by_plane are ahead
+-- ---- all are counted
 
-all_counted : (p : PlaneFacet → Bool) (by_plane : List PlaneFacet) → length by_plane ≤ count_by p by_plane → (w : PlaneFacet) → Contains by_plane w → p w ≡ true
-all_counted p [] h w c = absurd (omega arith)
-all_counted p (v ∷ by_plane) h w c = go (p v) refl (all_counted p by_plane) c
+all_counted : {X : Type 0} (p : X → Bool) (xs : List X) → length xs ≤ count_by p xs → (x : X) → Contains xs x → p x ≡ true
+all_counted p [] h x c = absurd (omega arith)
+all_counted {X = X} p (v ∷ xs) h x c = go (p v) refl (all_counted p xs) c
   where
-    go : (b : Bool) → p v ≡ b → (length by_plane ≤ count_by p by_plane → (w : PlaneFacet) → Contains by_plane w → p w ≡ true) → Contains (v ∷ by_plane) w → p w ≡ true
+    go : (b : Bool) → p v ≡ b → (length xs ≤ count_by p xs → (x : X) → Contains xs x → p x ≡ true) → Contains (v ∷ xs) x → p x ≡ true
     go true e rest (zero, lt, is) = ap p (sym is) ∙ e
-    go true e rest (suc i, lt, is) = rest (let o = ap one e in omega (arith, o, h, sum_by-cons (λ w. one (p w)) v by_plane)) w (i, omega arith, is)
-    go false e rest c = absurd (let o = ap one e in let l = count_by-le-length p by_plane in omega (arith, o, h, l, sum_by-cons (λ w. one (p w)) v by_plane))
+    go true e rest (suc i, lt, is) = rest (let o = ap one e in omega (arith, o, h, sum_by-cons (λ x. one (p x)) v xs)) x (i, omega arith, is)
+    go false e rest c = absurd (let o = ap one e in let l = count_by-le-length p xs in omega (arith, o, h, l, sum_by-cons (λ x. one (p x)) v xs))
 
-counted_all : (p : PlaneFacet → Bool) (by_plane : List PlaneFacet) → ((w : PlaneFacet) → Contains by_plane w → p w ≡ true) → count_by p by_plane ≡ length by_plane
+counted_all : {X : Type 0} (p : X → Bool) (xs : List X) → ((x : X) → Contains xs x → p x ≡ true) → count_by p xs ≡ length xs
 counted_all p [] h = refl
-counted_all p (v ∷ by_plane) h =
+counted_all p (v ∷ xs) h =
     let o = ap one (h v (zero, omega arith, refl)) in
-    let r = counted_all p by_plane (λ w c. h w (suc c.0, omega (arith, c.1), c.2)) in
-    let s = sum_by-cons (λ w. one (p w)) v by_plane in
+    let r = counted_all p xs (λ x c. h x (suc c.0, omega (arith, c.1), c.2)) in
+    let s = sum_by-cons (λ x. one (p x)) v xs in
     omega (arith, o, r, s)
+
+-- the count of what f makes of them
+count_by-map : {X Y : Type 0} (p : X → Bool) (g : Y → Bool) (f : X → Y) (xs : List X) → ((x : X) → Contains xs x → p x ≡ g (f x)) → count_by p xs ≡ count_by g (map f xs)
+count_by-map p g f [] h = refl
+count_by-map p g f (v ∷ xs) h =
+    let o = ap one (h v (zero, omega arith, refl)) in
+    let r = count_by-map p g f xs (λ x c. h x (suc c.0, omega (arith, c.1), c.2)) in
+    let s = sum_by-cons (λ x. one (p x)) v xs in
+    let t = sum_by-cons (λ y. one (g y)) (f v) (map f xs) in
+    omega (arith, o, r, s, t)
 
 -- ---- signs and facets
 
-ahead_sign : (z : ℤ) (turned : Bool) → is_positive (sign z) turned ≡ true → pos 0 <ℤ (cond turned (neg_ℤ z) z)
-ahead_sign (pos zero) t h = cc
-ahead_sign (pos (suc n)) false h = omega (arith, ints)
-ahead_sign (pos (suc n)) true h = cc
-ahead_sign (negsuc n) false h = cc
-ahead_sign (negsuc n) true h = omega (arith, ints)
+true_of : (b : Bool) → T b → b ≡ true
+true_of true h = refl
+true_of false h = absurd h
 
-sign_ahead : (z : ℤ) (turned : Bool) → pos 0 <ℤ (cond turned (neg_ℤ z) z) → is_positive (sign z) turned ≡ true
-sign_ahead (pos zero) false h = absurd (omega (arith, ints))
-sign_ahead (pos zero) true h = absurd (omega (arith, ints))
-sign_ahead (pos (suc n)) false h = refl
-sign_ahead (pos (suc n)) true h = absurd (omega (arith, ints))
-sign_ahead (negsuc n) false h = absurd (omega (arith, ints))
-sign_ahead (negsuc n) true h = refl
+to_test : (z : ℤ) → pos 0 <ℤ z → int_lt (pos 0) z ≡ true
+to_test z h = true_of (int_lt (pos 0) z) h.lt
+
+from_test : (z : ℤ) → int_lt (pos 0) z ≡ true → pos 0 <ℤ z
+from_test z e = record { lt = subst T (sym e) tt }
+
+sign_tells : (z : ℤ) (turned : Bool) → is_positive (sign z) turned ≡ int_lt (pos 0) (cond turned (neg_ℤ z) z)
+sign_tells (pos zero) false = refl
+sign_tells (pos zero) true = refl
+sign_tells (pos (suc n)) false = sym (to_test (pos (suc n)) (omega (arith, ints)))
+sign_tells (pos (suc n)) true = refl
+sign_tells (negsuc n) false = refl
+sign_tells (negsuc n) true = sym (to_test (pos (suc n)) (omega (arith, ints)))
 
 facet_dot : (turned : Bool) (n v : V3) → dot (facet_by turned n) v ≡ cond turned (neg_ℤ (dot n v)) (dot n v)
 facet_dot false n v = refl
@@ -118,11 +130,6 @@ pub in_map : {X Y : Type 0} (f : X → Y) (xs : List X) (x : X) → Contains xs 
 in_map f [] x (i, lt, e) = absurd (omega arith)
 in_map f (y ∷ xs) x (zero, lt, e) = (zero, omega arith, ap f e)
 in_map f (y ∷ xs) x (suc i, lt, e) = let r = in_map f xs x (i, omega arith, e) in (suc r.0, omega (arith, r.1), r.2)
-
-pub from_map : {X Y : Type 0} (f : X → Y) (xs : List X) (y : Y) → Contains (map f xs) y → (x : X) × Contains xs x × (f x ≡ y)
-from_map f [] y (i, lt, e) = absurd (omega arith)
-from_map f (x ∷ xs) y (zero, lt, e) = (x, (zero, omega arith, refl), e)
-from_map f (x ∷ xs) y (suc i, lt, e) = let r = from_map f xs y (i, omega arith, e) in (r.0, (suc r.1.0, omega (arith, r.1.1), r.1.2), r.2)
 
 module _ (parts : List Part) (t : Table) (s : Signed) (linked : List ℕ) (v : V3) (w : PartSet) (made : WasMadeFrom parts t) (table : IsTable t) (to : BelongTo t s) (signs : HoldSigns t.planes linked s v) (within : IsSubset w t.of) (whole : HasAll parts w t.planes linked) where
   module _ (arc : Arc) (across : IsTableArc t arc) (a_in : Has w arc.a) (b_in : Has w arc.b) where
@@ -155,35 +162,41 @@ module _ (parts : List Part) (t : Table) (s : Signed) (linked : List ℕ) (v : V
           is = at;
         }
 
-    right : (x : PlaneFacet) → Contains is.index.by_plane x → is_positive (side_at s.sides x.plane).sign x.turned ≡ is_positive (sign (dot (plane_at t.planes x.plane) v)) x.turned
-    right x c = ap (λ g. is_positive g x.turned) (signs x.plane (plane_at t.planes x.plane) (linked_is x c))
+    abbrev facets : List V3
+    facets = facets_of t arc
 
-    count : positives q s.sides ≡ count_by (λ x. is_positive (side_at s.sides x.plane).sign x.turned) is.index.by_plane
-    count = positives-by_plane t.planes (facets_of t arc) s.sides q is.index to.sides
+    test_is : (x : PlaneFacet) → Contains is.index.by_plane x → is_positive (side_at s.sides x.plane).sign x.turned ≡ int_lt (pos 0) (dot (facet_at t.planes x) v)
+    test_is x c =
+        let n : V3 = plane_at t.planes x.plane in
+        ap (λ g. is_positive g x.turned) (signs x.plane n (linked_is x c))
+        ∙ (sign_tells (dot n v) x.turned ∙ ap (int_lt (pos 0)) (sym (facet_dot x.turned n v)))
 
-    size : length (facets_of t arc) ≡ length is.index.by_plane
-    size = ap length (sym is.index.are) ∙ length-map is.index.by_plane (facet_at t.planes)
+    count : positives q s.sides ≡ positive_at v facets
+    count =
+        positives-by_plane t.planes facets s.sides q is.index to.sides
+        ∙ (count_by-map (λ x. is_positive (side_at s.sides x.plane).sign x.turned) (λ n. int_lt (pos 0) (dot n v)) (facet_at t.planes) is.index.by_plane test_is
+        ∙ ap (positive_at v) is.index.are)
 
-    ahead_of_full : length (facets_of t arc) ≤ positives q s.sides → (n : V3) → Contains (facets_of t arc) n → pos 0 <ℤ dot n v
-    ahead_of_full le n c =
-        let m = from_map (facet_at t.planes) is.index.by_plane n (subst (λ fs. Contains fs n) (sym is.index.are) c) in
-        let x : PlaneFacet = m.0 in
-        let e = all_counted (λ x. is_positive (side_at s.sides x.plane).sign x.turned) is.index.by_plane (let a = count in let b = size in omega (arith, a, b, le)) x m.1 in
-        subst (λ z. pos 0 <ℤ dot z v) m.2 (subst (λ z. pos 0 <ℤ z) (sym (facet_dot x.turned (plane_at t.planes x.plane) v)) (ahead_sign (dot (plane_at t.planes x.plane) v) x.turned (sym (right x m.1) ∙ e)))
+    ahead_of_full : length facets ≤ positives q s.sides → (n : V3) → Contains facets n → pos 0 <ℤ dot n v
+    ahead_of_full le n c = from_test (dot n v) (all_counted (λ n. int_lt (pos 0) (dot n v)) facets (let e = count in omega (arith, e, le)) n c)
 
-    full_of_ahead : ((n : V3) → Contains (facets_of t arc) n → pos 0 <ℤ dot n v) → positives q s.sides ≡ length (facets_of t arc)
-    full_of_ahead all =
-        count ∙ (counted_all (λ x. is_positive (side_at s.sides x.plane).sign x.turned) is.index.by_plane
-        (λ x c. right x c ∙ sign_ahead (dot (plane_at t.planes x.plane) v) x.turned
-        (subst (λ z. pos 0 <ℤ z) (facet_dot x.turned (plane_at t.planes x.plane) v)
-        (all (facet_at t.planes x) (subst (λ fs. Contains fs (facet_at t.planes x)) is.index.are (in_map (facet_at t.planes) is.index.by_plane x c)))))
-        ∙ sym size)
+    full_of_ahead : ((n : V3) → Contains facets n → pos 0 <ℤ dot n v) → positives q s.sides ≡ length facets
+    full_of_ahead all = count ∙ counted_all (λ n. int_lt (pos 0) (dot n v)) facets (λ n c. to_test (dot n v) (all n c))
 
-    pub full_says : (length (facets_of t arc) ≤ positives q s.sides) ↔ All (λ n. pos 0 <ℤ dot n v) (facets_of t arc)
+    pub full_says : (length facets ≤ positives q s.sides) ↔ All (λ n. pos 0 <ℤ dot n v) facets
     full_says = (
-      λ le. All-from_members (λ n. pos 0 <ℤ dot n v) (facets_of t arc) (ahead_of_full le),
-      λ all. (let e = full_of_ahead (λ n c. All-contains (λ n. pos 0 <ℤ dot n v) (facets_of t arc) n all c) in omega (arith, e)),
+      λ le. All-from_members (λ n. pos 0 <ℤ dot n v) facets (ahead_of_full le),
+      λ all. (let e = full_of_ahead (λ n c. All-contains (λ n. pos 0 <ℤ dot n v) facets n all c) in omega (arith, e)),
     )
+
+    pub is_counted : IsCountedAt v t s arc
+    is_counted = record {
+      count = count;
+      blocks = (
+        λ b. (let w = is.wanted in let f = b.full in let e = count in let l = count_by-le-length (λ n. int_lt (pos 0) (dot n v)) facets in omega (arith, w, f, e, l)),
+        λ e. record { within = is.within; parts = is.parts; full = (let w = is.wanted in let k = count in omega (arith, w, k, e)) },
+      );
+    }
 
   -- an arc stands for some pair of pieces that blocks, and the other way round
   module _ (a b : ℕ) (a_in : Has w a) (b_in : Has w b) where

@@ -17,7 +17,8 @@ use Rattle.staat_pairs.specs.Tables.{Table, facets_of, slot}
 use Rattle.staat_ring.specs.Blocks.{parts_at}
 use Rattle.staat_ring.specs.Index.{AreSameBut, AreZero, IsFresh, IsPairKept, with_facet}
 use Rattle.staat_ring.specs.Pairs.{fresh, no_pair, occurs, pair_at}
-use Rattle.staat_ring.specs.Signs.{Side, Signed, no_side, positives, side_at, uses, with_pair}
+use Rattle.staat_ring.specs.Signs.{Side, Signed, no_side, positives, side_at}
+use Rattle.staat_ring.specs.SignChanges.{uses, with_pair}
 use Rattle.staat_ring.specs.Belonging.{IsPairIndexed, IsPairOf, PlaneFacet, facet_at}
 use Rattle.staat_ring.proofs.Totals.{is_positive, hits, sum_by-total, total-hits, total-plus, total-same}
 use Rattle.staat_ring.specs.Rings.{facet_by}

@@ -1,7 +1,7 @@
 -- The lists without an entry, without some, and without a plane.
-use Rattle.std.specs.Prelude.{◌≡◌, ℕ, ◌<◌, List, [], ◌∷◌, not, ◌==◌, Contains, if◌then◌else◌}
+use Rattle.std.specs.Prelude.{◌≡◌, ℕ, ◌<◌, List, [], ◌∷◌, not, ◌==◌, if◌then◌else◌}
 use Rattle.std.specs.List.{filter}
-use Rattle.staat_ring.specs.Stands.{RingLists, Shape, is_empty}
+use Rattle.staat_ring.specs.Stands.{EachVertex, RingLists, Shape, is_empty}
 
 -- the list without x
 abbrev pub without : ℕ → List ℕ → List ℕ
@@ -29,4 +29,4 @@ lists_without_plane plane_of p l = record {
 -- the lists agree where anything is asked of them
 pub record AreSame (g : Shape) (l m : RingLists) : Type 0 where
   pub vertices : (c : ℕ) → c < g.count → l.vertices c ≡ m.vertices c
-  pub entries : (c v : ℕ) → c < g.count → Contains (l.vertices c) v → l.entries v ≡ m.entries v
+  pub entries : EachVertex g.count l (λ c v. l.entries v ≡ m.entries v)

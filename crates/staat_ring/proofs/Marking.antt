@@ -13,8 +13,9 @@ use Rattle.staat_pairs.specs.Tables.{IsTableArc, Table, slot}
 use Rattle.staat_ring.specs.declared.pairs.PairCount.{PairCount}
 use Rattle.staat_ring.specs.Pairs.{occurs, pair_at}
 use Rattle.staat_ring.specs.Belonging.{BelongTo, IsUnused}
-use Rattle.staat_ring.specs.Signs.{Side, Signed, no_side, side_at, with_sign}
-use Rattle.staat_ring.specs.Marks.{mark_of, marked, with_plane_sign}
+use Rattle.staat_ring.specs.Signs.{Side, Signed, no_side, side_at}
+use Rattle.staat_ring.specs.SignChanges.{with_sign, with_plane_sign}
+use Rattle.staat_ring.specs.Marks.{mark_of, marked}
 
 pub drop_next : (es : List Entry) (i : ℕ) (e : Entry) → slice_get es i ≡ Some e → drop i es ≡ e ∷ drop (i + 1) es
 drop_next es i e at = drop-cons es i e (slice_get_within es i e at) ∙ ((λ k. get_or_from_slice_get es i e e at k ∷ drop (suc i) es) ∙ ap (λ n. e ∷ drop n es) (sym (add-one i)))

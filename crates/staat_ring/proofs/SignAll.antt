@@ -9,8 +9,8 @@ use Rattle.staat_vec.specs.Vectors.{dot, sign}
 use Rattle.staat_vec.proofs.Unique.{Contains-cases, Contains-nothing}
 use Rattle.staat_graph.proofs.Finite.{same_or}
 use Rattle.staat_model.specs.Circles.{IsLinked}
-use Rattle.staat_ring.specs.Marks.{with_plane_sign}
-use Rattle.staat_ring.specs.Signs.{Signed, no_side, side_at, with_sign}
+use Rattle.staat_ring.specs.SignChanges.{with_plane_sign, with_sign}
+use Rattle.staat_ring.specs.Signs.{Signed, no_side, side_at}
 use Rattle.staat_ring.specs.Stepping.{count_below}
 use Rattle.staat_ring.proofs.Marking.{sign_of_set}
 

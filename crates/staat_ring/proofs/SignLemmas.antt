@@ -14,7 +14,8 @@ use Rattle.staat_graph.specs.Graphs.{IsStrong}
 use Rattle.staat_ring.specs.Blocks.{parts_at}
 use Rattle.staat_ring.proofs.Strength.{strong_same}
 use Rattle.staat_ring.specs.Pairs.{HasFullPair, blocks, gained, is_block, is_full, no_pair, occurs, pair_at}
-use Rattle.staat_ring.specs.Signs.{AreSigned, HasBlockingPair, IsBlockingPair, Side, Signed, emptied, no_side, pairs_by, positive_pairs, positives, side_at, uses, with_sign}
+use Rattle.staat_ring.specs.Signs.{HasBlockingPair, IsBlockingPair, Side, Signed, no_side, pairs_by, positive_pairs, positives, side_at}
+use Rattle.staat_ring.specs.SignChanges.{AreSigned, uses, emptied, with_sign}
 
 positive_part : (s : Sign) (along against : List ℕ) (q : ℕ) → occurs q (pairs_by s along against) ≤ occurs q along + occurs q against
 positive_part Neg along against q = omega arith

@@ -1,6 +1,6 @@
--- Signs that belong to a table: each facet of each ordered pair of pieces is known by its plane and sense.
-use Rattle.std.specs.Prelude.{◌≡◌, ◌⊎◌, ℕ, ◌<◌, ◌≤◌, List, length, map, All, Contains, Some}
-use Rattle.std.specs.Prelude.{Bool, not, ◌==◌, ◌&&◌, slice_get}
+-- What signs count: of each ordered pair of pieces of a table the facets that are positive at a direction.
+use Rattle.std.specs.Prelude.{◌≡◌, ◌↔◌, ◌⊎◌, ℕ, ◌<◌, ◌≤◌, pos, int_lt, List, length, map}
+use Rattle.std.specs.Prelude.{All, Contains, Some, Bool, not, ◌==◌, ◌&&◌, slice_get}
 use Rattle.std.specs.List.{count_by}
 use Rattle.staat_vec.specs.declared.vector.V3.{V3}
 use Rattle.staat_vec.specs.Vectors.{dot, sign}
@@ -13,7 +13,22 @@ use Rattle.staat_ring.specs.Blocks.{parts_at}
 use Rattle.staat_planes.specs.Tables.{IsPlaneOf}
 use Rattle.staat_ring.specs.Pairs.{occurs, pair_at}
 use Rattle.staat_ring.specs.Rings.{facet_by, plane_at}
-use Rattle.staat_ring.specs.Signs.{Side, Signed, side_at}
+use Rattle.staat_ring.specs.Signs.{IsBlockingPair, Side, Signed, positives, side_at}
+
+-- ---- the law
+
+-- how many of these facets are positive at v: v leads ahead of them
+abbrev pub positive_at : V3 → List V3 → ℕ
+positive_at v facets = count_by (λ n. int_lt (pos 0) (dot n v)) facets
+
+-- The count of the pair of the arc is the number of its facets that are positive at v, and the pair blocks where that
+-- is the number of its facets.
+pub record IsCountedAt (v : V3) (t : Table) (s : Signed) (arc : Arc) : Type 0 where
+  pub count : positives (slot t.pieces arc) s.sides ≡ positive_at v (facets_of t arc)
+  pub blocks : IsBlockingPair s (parts_at arc.a arc.b) (slot t.pieces arc)
+      ↔ (positive_at v (facets_of t arc) ≡ length (facets_of t arc))
+
+-- ---- the facets of a pair, by their planes
 
 -- a facet, by the number of its plane, and whether it is the negative of that plane's normal
 pub record PlaneFacet : Type 0 where
@@ -23,15 +38,22 @@ pub record PlaneFacet : Type 0 where
 abbrev pub facet_at : List V3 → PlaneFacet → V3
 facet_at planes w = facet_by w.turned (plane_at planes w.plane)
 
--- these facets are listed as those of pair q
+-- how many of the facets are the normal of the plane k, and how many the negative
+abbrev pub along_plane : ℕ → List PlaneFacet → ℕ
+along_plane k by_plane = count_by (λ w. (w.plane == k) && not w.turned) by_plane
+
+abbrev pub against_plane : ℕ → List PlaneFacet → ℕ
+against_plane k by_plane = count_by (λ w. (w.plane == k) && w.turned) by_plane
+
+-- pair q stands at each plane as often as the normal, and as often as the negative, is one of these facets
 pub record IsPairIndexed (planes facets : List V3) (sides : List Side) (q : ℕ) : Type 0 where
   pub by_plane : List PlaneFacet
   pub are : map (facet_at planes) by_plane ≡ facets
   pub within : All (λ w. w.plane < length planes) by_plane
-  pub along : (k : ℕ) → occurs q (side_at sides k).along ≡ count_by (λ w. (w.plane == k) && not w.turned)
-      by_plane
-  pub against : (k : ℕ) → occurs q (side_at sides k).against ≡ count_by (λ w. (w.plane == k) && w.turned)
-      by_plane
+  pub along : (k : ℕ) → occurs q (side_at sides k).along ≡ along_plane k by_plane
+  pub against : (k : ℕ) → occurs q (side_at sides k).against ≡ against_plane k by_plane
+
+-- ---- signs that were made from a table
 
 -- the pair of an arc: its parts, how many facets it has, and these
 pub record IsPairOf (t : Table) (s : Signed) (arc : Arc) : Type 0 where
@@ -40,13 +62,13 @@ pub record IsPairOf (t : Table) (s : Signed) (arc : Arc) : Type 0 where
   pub wanted : (pair_at s.pairs (slot t.pieces arc)).wanted ≡ length (facets_of t arc)
   pub index : IsPairIndexed t.planes (facets_of t arc) s.sides (slot t.pieces arc)
 
--- a number that is no pair's
+-- a number that is no pair's: it wants a facet, and has none
 pub record IsUnused (s : Signed) (q : ℕ) : Type 0 where
   pub wanted : 1 ≤ (pair_at s.pairs q).wanted
   pub along : (k : ℕ) → occurs q (side_at s.sides k).along ≡ 0
   pub against : (k : ℕ) → occurs q (side_at s.sides k).against ≡ 0
 
--- the signs were made from the table: they belong to its planes, and the pairs are those of its pieces
+-- they belong to its planes, and the pairs are those of its pieces
 pub record BelongTo (t : Table) (s : Signed) : Type 0 where
   pub sides : length s.sides ≡ length t.planes
   pub all : (arc : Arc) → IsTableArc t arc → IsPairOf t s arc

@@ -7,7 +7,8 @@ use Rattle.staat_model.specs.Sets.{Has}
 use Rattle.staat_pairs.specs.Tables.{IsTableArc, Table, pieces_of, place, slot}
 use Rattle.staat_ring.specs.declared.index.PiecePlace.{PiecePlace}
 use Rattle.staat_ring.specs.Pairs.{no_pair, occurs, pair_at}
-use Rattle.staat_ring.specs.Signs.{Signed, side_at, with_pair, with_side}
+use Rattle.staat_ring.specs.Signs.{Signed, side_at}
+use Rattle.staat_ring.specs.SignChanges.{with_plane_pair}
 use Rattle.staat_ring.specs.Belonging.{IsPairOf, IsUnused, PlaneFacet}
 
 -- the pieces of the parts below n, numbered through
@@ -55,4 +56,4 @@ pub record AreToldBelow (t : Table) (s : Signed) (n : ℕ) : Type 0 where
 
 -- one more facet of pair q
 abbrev pub with_facet : PlaneFacet → ℕ → Signed → Signed
-with_facet w q s = with_side w.plane (with_pair w.turned q (side_at s.sides w.plane)) s
+with_facet w q s = with_plane_pair w.plane w.turned q s

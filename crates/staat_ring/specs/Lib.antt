@@ -17,6 +17,7 @@ pub mod Places
 pub mod Blocks
 pub mod Pairs
 pub mod Signs
+pub mod SignChanges
 pub mod Belonging
 pub mod Index
 pub mod Stepping

@@ -1,13 +1,10 @@
 -- What a walk changes at a stop: the signs of the planes through it.
-use Rattle.std.specs.Prelude.{ℕ, List, [], ◌∷◌, Bool, true, false, slice_set}
+use Rattle.std.specs.Prelude.{List, [], ◌∷◌, Bool, true, false}
 use Rattle.staat_vec.specs.declared.vector.Sign.{Sign}
 use Rattle.staat_vec.specs.declared.vector.Sign.TheVariants.{Neg, Zero, Pos}
 use Rattle.staat_ring.specs.declared.entry.Entry.{Entry}
-use Rattle.staat_ring.specs.Signs.{Signed, side_at, with_sign}
-
--- the plane k gets the sign
-abbrev pub with_plane_sign : ℕ → Sign → Signed → Signed
-with_plane_sign k sign s = record { sides = slice_set s.sides k (with_sign sign (side_at s.sides k)); pairs = s.pairs }
+use Rattle.staat_ring.specs.Signs.{Signed}
+use Rattle.staat_ring.specs.SignChanges.{with_plane_sign}
 
 -- The sign of a plane just after the stop, if the walk leaves it, and at it, if not. The walk leaves a plane's
 -- crossing to the plane's negative side, and the opposite one to its positive side.

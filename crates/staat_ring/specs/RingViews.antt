@@ -1,11 +1,11 @@
 -- The arrangement that the arrays show, and when they stand for one.
-use Rattle.std.specs.Prelude.{◌≡◌, ℕ, zero, suc, ◌<◌, ◌≤◌, List, [], ◌∷◌, ◌++◌, map, length}
-use Rattle.std.specs.Prelude.{take, drop, Bool, false, not, ◌||◌, ◌==◌, Contains}
+use Rattle.std.specs.Prelude.{◌≡◌, ℕ, zero, suc, ◌<◌, ◌≤◌, List, [], ◌∷◌, ◌++◌, map}
+use Rattle.std.specs.Prelude.{length, take, drop, Bool, false, not, ◌||◌, ◌==◌, Contains}
 use Rattle.std.specs.List.{filter}
 use Rattle.staat_ring.specs.Links.{Arrays, give_all}
 use Rattle.staat_ring.specs.Numbered.{circle_of_node, entry_number, entry_numbered, head_number, plane_of}
 use Rattle.staat_ring.specs.Rings.{Arrangement, Ring}
-use Rattle.staat_ring.specs.Stands.{Shape, RingLists, StandFor, AllPresent, is_empty}
+use Rattle.staat_ring.specs.Stands.{AllPresent, EachEntry, EachVertex, RingLists, Shape, StandFor, is_empty}
 use Rattle.staat_ring.specs.Planes.{entries_of}
 use Rattle.staat_ring.specs.Views.{lists_of, undo_all, kept_of}
 
@@ -51,16 +51,13 @@ arrangement_of n out a = record {
 -- arrays that stand for these lists, where these planes are out
 pub record StandForLists (n : ℕ) (out : List ℕ) (l : RingLists) (a : Arrays) : Type 0 where
   pub stands : StandFor (shape n) l a
-  pub full : (c v : ℕ) → c < n → Contains (l.vertices c) v → is_empty (l.entries v) ≡ false
+  pub full : EachVertex n l (λ c v. is_empty (l.entries v) ≡ false)
   pub short_circles : (c : ℕ) → c < n → length (l.vertices c) < length a.circles.next
-  pub short_vertices : (c v : ℕ) → c < n → Contains (l.vertices c) v
-      → length (l.entries v) < length a.vertices.next
+  pub short_vertices : EachVertex n l (λ c v. length (l.entries v) < length a.vertices.next)
   pub present : (p : ℕ) → p < n → is_out out p ≡ false → AllPresent (shape n) l a (entries_of n p n)
-  pub known : (c v e : ℕ) → c < n → Contains (l.vertices c) v → Contains (l.entries v) e
-      → Contains (entries_of n (plane_of n e) n) e
+  pub known : EachEntry n l (λ c v e. Contains (entries_of n (plane_of n e) n) e)
   -- an entry has the number of its plane and its sense on the circle on which it stands
-  pub numbered : (c v e : ℕ) → c < n → Contains (l.vertices c) v → Contains (l.entries v) e
-      → entry_number n c (entry_numbered n e) ≡ e
+  pub numbered : EachEntry n l (λ c v e. entry_number n c (entry_numbered n e) ≡ e)
 
 -- they stand for the lists that they give
 abbrev pub StandForCircles : ℕ → List ℕ → Arrays → Type 0

@@ -45,20 +45,27 @@ pub record RingLists : Type 0 where
 abbrev pub home_of : Arrays → ℕ → ℕ
 home_of a e = slice_index a.home e
 
+-- P holds of each vertex on each of the circles below n
+abbrev pub EachVertex : ℕ → RingLists → (ℕ → ℕ → Type 0) → Type 0
+EachVertex n l P = (c v : ℕ) → c < n → Contains (l.vertices c) v → P c v
+
+-- P holds of each entry at each vertex on each of the circles below n
+abbrev pub EachEntry : ℕ → RingLists → (ℕ → ℕ → ℕ → Type 0) → Type 0
+EachEntry n l P = (c v e : ℕ) → c < n → Contains (l.vertices c) v → Contains (l.entries v) e → P c v e
+
+-- the circles of the shape, and the vertices on them, are linked in the order of the lists
 pub record StandFor (g : Shape) (l : RingLists) (a : Arrays) : Type 0 where
   pub circles_in_range : InRange a.circles
   pub vertices_in_range : InRange a.vertices
   pub heads : (c : ℕ) → c < g.count → g.circle (g.head c) ≡ c
   pub circles : (c : ℕ) → c < g.count → IsRing a.circles g.circle (g.head c) (l.vertices c)
   -- the ring of each vertex on a circle is headed by the vertex itself
-  pub owns : (c v : ℕ) → c < g.count → Contains (l.vertices c) v → home_of a v ≡ v
-  pub vertices : (c v : ℕ) → c < g.count → Contains (l.vertices c) v
-      → IsRing a.vertices (home_of a) v (l.entries v)
-  pub within : (c v : ℕ) → c < g.count → Contains (l.vertices c) v → v < length a.circles.next
-  pub entries_within : (c v e : ℕ) → c < g.count → Contains (l.vertices c) v → Contains (l.entries v) e
-      → e < length a.vertices.next
+  pub owns : EachVertex g.count l (λ c v. home_of a v ≡ v)
+  pub vertices : EachVertex g.count l (λ c v. IsRing a.vertices (home_of a) v (l.entries v))
+  pub within : EachVertex g.count l (λ c v. v < length a.circles.next)
+  pub entries_within : EachEntry g.count l (λ c v e. e < length a.vertices.next)
 
--- the entry stands at its vertex, and the vertex on its circle
+-- the entry stands at its vertex, and the vertex on a circle
 pub record IsPresent (g : Shape) (l : RingLists) (a : Arrays) (e : ℕ) : Type 0 where
   pub circle : g.circle (home_of a e) < g.count
   pub vertex : Contains (l.vertices (g.circle (home_of a e))) (home_of a e)

@@ -6,8 +6,8 @@ ghost use Rattle.staat_graph.specs.Graphs.{HasArc, IsStrong};
 ghost use Rattle.staat_vec.specs.declared.vector.Sign.TheVariants.{Zero};
 ghost use Rattle.staat_ring.specs.Blocks.{parts_at};
 ghost use Rattle.staat_ring.specs.Pairs.{fresh, no_pair, occurs, pair_at};
-ghost use Rattle.staat_ring.specs.Signs.{HasBlockingPair, no_side, positive_pairs, positives, side_at, uses};
-ghost use Rattle.staat_ring.specs.Signs.{with_pair, with_side, with_sign};
+ghost use Rattle.staat_ring.specs.Signs.{HasBlockingPair, no_side, positive_pairs, positives, side_at};
+ghost use Rattle.staat_ring.specs.SignChanges.{uses, with_pair, with_plane_pair, with_plane_sign, with_sign};
 
 use crate::pairs::PairCounts;
 use staat_graph::Graph;
@@ -98,7 +98,8 @@ pub struct Signs {
 
 impl Model for Signs {
     ghost use Rattle.std.specs.Prelude.{map};
-    ghost use Rattle.staat_ring.specs.Signs.{AreSigned, Signed, emptied};
+    ghost use Rattle.staat_ring.specs.Signs.{Signed};
+    ghost use Rattle.staat_ring.specs.SignChanges.{AreSigned, emptied};
 
     ghost Value = { Signed };
 
@@ -168,8 +169,7 @@ impl Signs {
         requires zero { (side_at self.old.sides k).sign ≡ Zero }
         requires pair { q < length self.old.pairs }
         requires room { uses q self.old.sides + 1 < 65536 }
-        ensures { OnOk result
-            (self.new ≡ with_side k (with_pair turned q (side_at self.old.sides k)) self.old) }
+        ensures { OnOk result (self.new ≡ with_plane_pair k turned q self.old) }
     {
         push_at(&mut self.sides, k, turned, q)?;
         Ok(())
@@ -193,7 +193,7 @@ impl Signs {
     // gives the plane another sign: a facet less of each pair in one list is positive, one more of each in the other
     fn change(&mut self, k: u32, sign: Sign)
         requires { k < length self.old.sides }
-        ensures { self.new ≡ with_side k (with_sign sign (side_at self.old.sides k)) self.old }
+        ensures { self.new ≡ with_plane_sign k sign self.old }
     {
         self.counts.lose_all(pairs_at(&self.sides, k));
         set_sign_at(&mut self.sides, k, sign);
@@ -203,7 +203,7 @@ impl Signs {
     /// Gives the plane `k` a sign. Where it has that sign, nothing is done.
     pub fn set(&mut self, k: u32, sign: Sign)
         requires { k < length self.old.sides }
-        ensures { self.new ≡ with_side k (with_sign sign (side_at self.old.sides k)) self.old }
+        ensures { self.new ≡ with_plane_sign k sign self.old }
     {
         if !has_sign(&self.sides, k, sign) {
             self.change(k, sign);

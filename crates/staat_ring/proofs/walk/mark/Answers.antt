@@ -3,7 +3,8 @@ use Rattle.std.proofs.lemmas.Option.{slice_get_within}
 use Rattle.std.proofs.lemmas.List.Elements.{All-contains}
 use Rattle.staat_model.proofs.GraphLemmas.{from_slice_get}
 use Rattle.staat_ring.specs.declared.entry.Entry.{Entry}
-use Rattle.staat_ring.specs.Signs.{side_at, with_sign}
+use Rattle.staat_ring.specs.Signs.{side_at}
+use Rattle.staat_ring.specs.SignChanges.{with_sign}
 use Rattle.staat_ring.specs.Marks.{marked}
 use Rattle.staat_ring.proofs.Marking.{mark_end, mark_next}
 use Rattle.staat_ring.proofs.walk.mark.Goals as goal

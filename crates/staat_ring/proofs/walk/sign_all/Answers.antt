@@ -4,7 +4,7 @@ use Rattle.std.proofs.lemmas.List.{length-map}
 use Rattle.std.proofs.lemmas.Option.{slice_get_within}
 use Rattle.staat_ring.specs.Rings.{linked_of}
 use Rattle.staat_ring.specs.Signs.{Signed}
-use Rattle.staat_ring.specs.Marks.{with_plane_sign}
+use Rattle.staat_ring.specs.SignChanges.{with_plane_sign}
 use Rattle.staat_ring.specs.Belonging.{BelongTo}
 use Rattle.staat_ring.proofs.Marking.{belong_same, signed_same}
 use Rattle.staat_ring.proofs.SignAll.{Done, count_all, count_more, count_same, more_done, same_done}
