@@ -24,7 +24,8 @@ use Rattle.staat_ring.specs.Planes.{entries_of, entries_on}
 use Rattle.staat_ring.specs.Rings.{AreRings, IsRingOf, Ring, RingStop, WereMadeFrom, linked_of, plane_at, stop_of, vertex_of}
 use Rattle.staat_ring.specs.RingInvariant.{HaveTakenOut}
 use Rattle.staat_ring.specs.RingViews.{StandForCircles, CanBeUndone, arrangement_of, numbers_below, is_out, ring_of, rings_of, shape, still_linked}
-use Rattle.staat_ring.specs.Stands.{AllPresent, InRange, IsPresent, IsRing, StandFor, Tagged, home_of, is_empty}
+use Rattle.staat_ring.specs.Stands.{AllPresent, IsPresent, IsRing, StandFor, Tagged, home_of, is_empty}
+use Rattle.staat_ring.specs.Within.{InRange}
 use Rattle.staat_ring.specs.Views.{lists_of}
 use Rattle.staat_ring.proofs.Covered.{entry_there}
 use Rattle.staat_ring.proofs.Linkable.{can_be_linked, other_plane}

@@ -6,7 +6,8 @@ use Rattle.std.proofs.Math.ListN.{length-set}
 use Rattle.std.proofs.lemmas.Bool.Decides.{Decides-eqb}
 use Rattle.staat_ring.specs.Links.{Links, Apart, Distinct, unlink, Arrays, is_bare, take, take_all}
 use Rattle.staat_ring.proofs.Taking.{CanTakeAll, CanTake}
-use Rattle.staat_ring.specs.Stands.{is_empty, Tagged, IsRing, InRange, Shape, RingLists, home_of, StandFor, IsPresent, AllPresent}
+use Rattle.staat_ring.specs.Stands.{is_empty, Tagged, IsRing, Shape, RingLists, home_of, StandFor, IsPresent, AllPresent}
+use Rattle.staat_ring.specs.Within.{InRange}
 use Rattle.staat_ring.proofs.ListsWithout.{lists_without_all, lists_without, without}
 use Rattle.staat_ring.proofs.Without.{without_other, without_none, node_between, tagged_apart, prev_tag, next_tag, ring_stays, ring_shrinks, bare_is}
 
@@ -57,17 +58,19 @@ pub range_unlink : (s : Links) (x : ℕ) → x < length s.next → InRange s →
 range_unlink s x lt h =
     let lp = length-set s.prev (get_or s.next x 0) (get_or s.prev x 0) in
     let ln = length-set s.next (get_or s.prev x 0) (get_or s.next x 0) in
-    let hp = h.0 x lt in
-    let hn = h.1 x lt in (
-      (λ y ly. let ly' : y < length s.next = omega arith in
-          let w = word_below s.prev (get_or s.next x 0) (get_or s.prev x 0) y (length s.next) hp (h.0 y ly') (omega (arith, h.2)) in omega arith),
-      (λ y ly. let ly' : y < length s.next = omega arith in
-          let w = word_below s.next (get_or s.prev x 0) (get_or s.next x 0) y (length s.next) hn (h.1 y ly') hp in omega arith),
-      omega (arith, h.2),
-    )
+    let hp = h.prev_within x lt in
+    let hn = h.next_within x lt in
+    let hs = h.same in
+    record {
+      same = omega (arith, hs);
+      next_within = λ y ly. let ly' : y < length s.next = omega arith in
+          let w = word_below s.next (get_or s.prev x 0) (get_or s.next x 0) y (length s.next) hn (h.next_within y ly') hp in omega arith;
+      prev_within = λ y ly. let ly' : y < length s.next = omega arith in
+          let w = word_below s.prev (get_or s.next x 0) (get_or s.prev x 0) y (length s.next) hp (h.prev_within y ly') (omega (arith, hs)) in omega arith;
+    }
 
 node_in_range : (s : Links) (x : ℕ) → x < length s.next → InRange s → (get_or s.prev x 0 < length s.next) × (get_or s.next x 0 < length s.prev)
-node_in_range s x lt h = (h.0 x lt, let n = h.1 x lt in omega (arith, h.2))
+node_in_range s x lt h = (h.prev_within x lt, let n = h.next_within x lt in let e = h.same in omega (arith, n, e))
 
 range_if : (b : Bool) (s : Links) (x : ℕ) → x < length s.next → InRange s → InRange (if b then unlink x s else s)
 range_if true s x lt h = range_unlink s x lt h

@@ -28,6 +28,11 @@ pub record IsStopAt (rings : List Ring) (c m : ℕ) (s : RingStop) : Type 0 wher
   pub plane : ring.plane ≡ c
   pub is : slice_get ring.stops m ≡ Some s
 
+-- P holds of the place and the stop on the circle c that has this node
+abbrev pub AtNode : (rings : List Ring) (c node : ℕ)
+    → ((m : ℕ) (s : RingStop) → IsStopAt rings c m s → Type 0) → Type 0
+AtNode rings c node P = (m : ℕ) (s : RingStop) → (at : IsStopAt rings c m s) → s.node ≡ node → P m s at
+
 -- some stop of the circle c has this node
 pub record HasNode (rings : List Ring) (c node : ℕ) : Type 0 where
   pub place : ℕ

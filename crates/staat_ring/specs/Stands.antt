@@ -2,6 +2,7 @@
 use Rattle.std.specs.Prelude.{◌≡◌, ℕ, ◌<◌, List, [], ◌∷◌, length, slice_index, Bool, true, false}
 use Rattle.std.specs.Prelude.{Contains, All}
 use Rattle.staat_ring.specs.Links.{Apart, Links, IsLinkedRing, Distinct, Arrays}
+use Rattle.staat_ring.specs.Within.{InRange}
 
 abbrev pub is_empty : List ℕ → Bool
 is_empty [] = true
@@ -18,11 +19,6 @@ pub record IsRing (s : Links) (tag : ℕ → ℕ) (h : ℕ) (xs : List ℕ) : Ty
   pub ring : IsLinkedRing s h xs
   pub distinct : Distinct (h ∷ xs)
   pub tagged : Tagged tag (tag h) (h ∷ xs)
-
--- every word is a node
-abbrev pub InRange : Links → Type 0
-InRange s = ((x : ℕ) → x < length s.next → slice_index s.prev x < length s.next)
-    × ((x : ℕ) → x < length s.next → slice_index s.next x < length s.next) × (length s.prev ≡ length s.next)
 
 -- the head of each circle, the circle of each node of the circles' rings, and how many circles there are
 pub record Shape : Type 0 where

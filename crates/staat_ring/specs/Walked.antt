@@ -29,6 +29,11 @@ pub record Walked : Type 0 where
 abbrev pub WalkWasMadeFrom : Table → Walked → Type 0
 WalkWasMadeFrom t w = BelongTo t w.signs
 
+-- P holds of the stop at which the walk stands
+abbrev pub AtStop : (rings : List Ring) (w : Walked)
+    → ((s : RingStop) → IsStopAt rings w.circle w.place s → Type 0) → Type 0
+AtStop rings w P = (s : RingStop) → (at : IsStopAt rings w.circle w.place s) → s.node ≡ w.node → P s at
+
 -- the walk stands at a stop of the rings, and holds the signs there
 pub record IsEntered (planes : List V3) (rings : List Ring) (w : Walked) : Type 0 where
   pub stop : RingStop

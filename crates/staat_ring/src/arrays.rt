@@ -2,7 +2,8 @@
 ghost use Rattle.std.specs.Prelude.{◌≡◌, ◌≢◌, ℕ, ◌+◌, ◌<◌, ◌≤◌, ◌^◌, IfOk};
 ghost use Rattle.std.specs.Prelude.{List, length, map, slice_index};
 ghost use Rattle.staat_ring.specs.Links.{take, give, take_all, give_all};
-ghost use Rattle.staat_ring.specs.Stands.{InRange, IsShortRing};
+ghost use Rattle.staat_ring.specs.Stands.{IsShortRing};
+ghost use Rattle.staat_ring.specs.Within.{InRange};
 ghost use Rattle.staat_ring.specs.Planes.{entries_of};
 ghost use Rattle.staat_ring.specs.Linking.{AreSized, CanBeLinked, HoldsCircle, IsAlone, IsKeptAt};
 ghost use Rattle.staat_ring.specs.Numbered.{circle_of_node, entry_count, entry_of_plane, head_number, node_count};

@@ -115,34 +115,8 @@ fn empty_slots(alloc: Global, count: usize) -> Result<Vec<Through>, OutOfMemory>
     Ok(slots)
 }
 
-// puts the plane j at its place
-fn fill(
-    slots: &mut Vec<Through>,
-    table: &PlaneTable,
-    c: u32,
-    half: &[V3],
-    j: u32,
-) -> Result<(), OutOfMemory>
-    requires c { c < length table.now.planes }
-    requires j { j < length table.now.planes }
-    requires different { j ≢ c }
-    requires half { IsHalfOfCircle table.now.planes c half.now }
-    requires slots { AreFilledTo table.now.planes c half.now j slots.old.items }
-    ensures { OnOk result (AreFilledTo table.now.planes c half.now (j + 1) slots.new.items) }
-{
-    let _set = table.set();
-    let _planes = table.len();
-    let g = table.plane(c);
-    let axis = table.plane(axis_of(c));
-    let h = table.plane(j);
-    let turned = is_opposite(g, axis, h);
-    let at = place_of(g, half, facet(turned, h));
-    push_at(slots, at, Entry { plane: j, turned })?;
-    Ok(())
-}
-
 // puts the plane j at its place, unless it is plane c itself
-fn fill_other(
+fn fill(
     slots: &mut Vec<Through>,
     table: &PlaneTable,
     c: u32,
@@ -158,7 +132,15 @@ fn fill_other(
     if j == c {
         return Ok(());
     }
-    fill(slots, table, c, half, j)
+    let _set = table.set();
+    let _planes = table.len();
+    let g = table.plane(c);
+    let axis = table.plane(axis_of(c));
+    let h = table.plane(j);
+    let turned = is_opposite(g, axis, h);
+    let at = place_of(g, half, facet(turned, h));
+    push_at(slots, at, Entry { plane: j, turned })?;
+    Ok(())
 }
 
 // all planes at their places
@@ -175,7 +157,7 @@ fn all_filled(
 {
     let mut slots = empty_slots(alloc, half.len())?;
     for j in 0..table.len() {
-        fill_other(&mut slots, table, c, half, j)?;
+        fill(&mut slots, table, c, half, j)?;
     }
     Ok(slots)
 }

@@ -1,7 +1,8 @@
 // Nodes with a next and a previous one.
 ghost use Rattle.std.specs.Prelude.{◌≡◌, ℕ, ◌<◌, ◌^◌, IfOk, List, length, slice_index};
 ghost use Rattle.staat_ring.specs.Links.{unlink, relink, append};
-ghost use Rattle.staat_ring.specs.Stands.{InRange, IsShortRing};
+ghost use Rattle.staat_ring.specs.Stands.{IsShortRing};
+ghost use Rattle.staat_ring.specs.Within.{InRange};
 
 use staat_vec::OutOfMemory;
 use std::alloc::Global;

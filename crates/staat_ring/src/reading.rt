@@ -13,7 +13,7 @@ ghost use Rattle.std.specs.Prelude.{
   length,
   slice_get,
 };
-ghost use Rattle.staat_ring.specs.Places.{HasCursor, HasNode, IsAtEntry, IsStopAt, cursor, plane_count};
+ghost use Rattle.staat_ring.specs.Places.{AtNode, HasCursor, HasNode, IsAtEntry, IsStopAt, cursor, plane_count};
 ghost use Rattle.staat_ring.specs.Rings.{RingStop, linked_of};
 
 use crate::arrays::head_of;
@@ -32,9 +32,9 @@ impl Rings {
     /// The node of the next stop, or none where this is the last one.
     pub(crate) fn next(&self, circle: u32, node: u32) -> Option<u32>
         requires { HasNode self.now.rings circle node }
-        ensures next { (m : ℕ) (s : RingStop) → (at : IsStopAt self.now.rings circle m s) → s.node ≡ node
-            → MatchOption result (m + 1 ≡ length at.ring.stops)
-            (λ x. (t : RingStop) × (slice_get at.ring.stops (m + 1) ≡ Some t) × (t.node ≡ x)) }
+        ensures next { AtNode self.now.rings circle node (λ m _ at.
+            MatchOption result (m + 1 ≡ length at.ring.stops)
+            (λ x. (t : RingStop) × (slice_get at.ring.stops (m + 1) ≡ Some t) × (t.node ≡ x))) }
         ensures few { (m : ℕ) (s : RingStop) → (at : IsStopAt self.now.rings circle m s)
             → length at.ring.stops ≤ 2 ^ 22 }
     {
@@ -50,8 +50,8 @@ impl Rings {
     /// The number of the first entry of a stop.
     pub(crate) fn first_entry(&self, node: u32) -> u32
         requires { (c : ℕ) × HasNode self.now.rings c node }
-        ensures { (c m : ℕ) (s : RingStop) → IsStopAt self.now.rings c m s → s.node ≡ node
-            → result ≡ cursor (plane_count self.now) c s.node s.entries }
+        ensures { (c : ℕ) → AtNode self.now.rings c node (λ _ s _.
+            result ≡ cursor (plane_count self.now) c s.node s.entries) }
     {
         self.arrays.sizes();
         self.arrays.next_entry(node)
@@ -60,9 +60,9 @@ impl Rings {
     /// The entry of this number, or none at the node of the stop.
     pub(crate) fn entry(&self, circle: u32, node: u32, at: u32) -> Option<Entry>
         requires { HasCursor self.now circle node at }
-        ensures { (m : ℕ) (s : RingStop) (i : ℕ) → IsStopAt self.now.rings circle m s → s.node ≡ node
+        ensures { AtNode self.now.rings circle node (λ _ s _. (i : ℕ)
             → IsAtEntry (plane_count self.now) circle s i at
-            → MatchOption result (i ≡ length s.entries) (λ e. slice_get s.entries i ≡ Some e) }
+            → MatchOption result (i ≡ length s.entries) (λ e. slice_get s.entries i ≡ Some e)) }
     {
         self.arrays.sizes();
         if at == node {

@@ -37,9 +37,9 @@ ghost use Rattle.staat_graph.specs.Graphs.{IsStrong};
 ghost use Rattle.staat_pairs.specs.Tables.{IsTable, IsTableArc, Table, WasMadeFrom, facets_of};
 ghost use Rattle.staat_ring.specs.Belonging.{BelongTo, HasAll, HoldSigns};
 ghost use Rattle.staat_ring.specs.Marks.{mark_of, marked};
-ghost use Rattle.staat_ring.specs.Places.{HasNode, IsStopAt};
+ghost use Rattle.staat_ring.specs.Places.{AtNode, HasNode, IsStopAt};
 ghost use Rattle.staat_ring.specs.Rings.{Ring, RingStop, WereMadeFrom, linked_of};
-ghost use Rattle.staat_ring.specs.Walked.{IsEntered, WalkWasMadeFrom};
+ghost use Rattle.staat_ring.specs.Walked.{AtStop, IsEntered, WalkWasMadeFrom};
 
 use crate::index::signs_of;
 use crate::signs::Signs;
@@ -67,10 +67,9 @@ fn mark_of(leaves: bool, turned: bool) -> Sign
 // gives the planes through a stop, at most so many, their signs
 fn mark(signs: &mut Signs, rings: &Rings, circle: u32, node: u32, most: u32, leaves: bool)
     requires at { HasNode rings.now.rings circle node }
-    requires few { (m : ℕ) (s : RingStop) → IsStopAt rings.now.rings circle m s → s.node ≡ node
-        → (length s.entries ≤ most) × All (λ e. e.plane < length signs.old.sides) s.entries }
-    ensures { (m : ℕ) (s : RingStop) → IsStopAt rings.now.rings circle m s → s.node ≡ node
-        → signs.new ≡ marked leaves s.entries signs.old }
+    requires few { AtNode rings.now.rings circle node (λ _ s _.
+        (length s.entries ≤ most) × All (λ e. e.plane < length signs.old.sides) s.entries) }
+    ensures { AtNode rings.now.rings circle node (λ _ s _. signs.new ≡ marked leaves s.entries signs.old) }
 {
     let mut at = rings.first_entry(node);
     for _passed in 0..most {
@@ -87,10 +86,8 @@ fn mark(signs: &mut Signs, rings: &Rings, circle: u32, node: u32, most: u32, lea
 // the first entry of a stop
 fn entry_of(rings: &Rings, circle: u32, node: u32) -> Entry
     requires at { HasNode rings.now.rings circle node }
-    requires some { (m : ℕ) (s : RingStop) → IsStopAt rings.now.rings circle m s → s.node ≡ node
-        → 0 < length s.entries }
-    ensures { (m : ℕ) (s : RingStop) → IsStopAt rings.now.rings circle m s → s.node ≡ node
-        → slice_get s.entries 0 ≡ Some result }
+    requires some { AtNode rings.now.rings circle node (λ _ s _. 0 < length s.entries) }
+    ensures { AtNode rings.now.rings circle node (λ _ s _. slice_get s.entries 0 ≡ Some result) }
 {
     let at = rings.first_entry(node);
     match rings.entry(circle, node, at) {
@@ -102,10 +99,9 @@ fn entry_of(rings: &Rings, circle: u32, node: u32) -> Entry
 // of the entries of a stop, at most so many, the first with a plane greater than i
 fn entry_after(rings: &Rings, circle: u32, node: u32, most: u32, i: u32) -> Option<Entry>
     requires at { HasNode rings.now.rings circle node }
-    requires few { (m : ℕ) (s : RingStop) → IsStopAt rings.now.rings circle m s → s.node ≡ node
-        → length s.entries ≤ most }
-    ensures { (m : ℕ) (s : RingStop) → IsStopAt rings.now.rings circle m s → s.node ≡ node
-        → MatchOption result (All (λ e. e.plane ≤ i) s.entries) (λ e. IsFirst (λ x. i < x.plane) s.entries e) }
+    requires few { AtNode rings.now.rings circle node (λ _ s _. length s.entries ≤ most) }
+    ensures { AtNode rings.now.rings circle node (λ _ s _.
+        MatchOption result (All (λ e. e.plane ≤ i) s.entries) (λ e. IsFirst (λ x. i < x.plane) s.entries e)) }
 {
     let mut at = rings.first_entry(node);
     for _passed in 0..most {
@@ -162,6 +158,8 @@ fn sign_all<L: Ledger>(
 #[derive(Drop)]
 pub struct Walk {
     signs: Signs,
+    // Contracts alone speak of it, and no code reads it. It costs an addition a step: a ghost field keeps facts and no
+    // numbers, and a ledger, which takes no bytes, would be a parameter of `Walk` and of all that hold a walk.
     crossed: u64,
     circle: u32,
     place: u32,
@@ -255,10 +253,8 @@ impl Walk {
     pub fn entry_after(&self, table: &PlaneTable, rings: &Rings, i: u32) -> Option<Entry>
         requires rings { WereMadeFrom table.now.planes rings.now }
         requires entered { IsEntered table.now.planes rings.now.rings self.now }
-        ensures { (s : RingStop) → IsStopAt rings.now.rings self.now.circle self.now.place s
-            → s.node ≡ self.now.node
-            → MatchOption result (All (λ e. e.plane ≤ i) s.entries) (λ e. IsFirst (λ x. i < x.plane)
-            s.entries e) }
+        ensures { AtStop rings.now.rings self.now (λ s _.
+            MatchOption result (All (λ e. e.plane ≤ i) s.entries) (λ e. IsFirst (λ x. i < x.plane) s.entries e)) }
     {
         entry_after(rings, self.circle, self.node, table.len(), i)
     }
@@ -267,8 +263,7 @@ impl Walk {
     pub fn first_entry(&self, table: &PlaneTable, rings: &Rings) -> Entry
         requires rings { WereMadeFrom table.now.planes rings.now }
         requires entered { IsEntered table.now.planes rings.now.rings self.now }
-        ensures { (s : RingStop) → IsStopAt rings.now.rings self.now.circle self.now.place s
-            → s.node ≡ self.now.node → slice_get s.entries 0 ≡ Some result }
+        ensures { AtStop rings.now.rings self.now (λ s _. slice_get s.entries 0 ≡ Some result) }
     {
         let _len = table.len();
         entry_of(rings, self.circle, self.node)
@@ -285,8 +280,8 @@ impl Walk {
         ensures made { WalkWasMadeFrom table.now self.new }
         ensures entered { IsEntered table.now.planes rings.now.rings self.new }
         ensures circle { self.new.circle ≡ self.old.circle }
-        ensures place { (s : RingStop) → (at : IsStopAt rings.now.rings self.old.circle self.old.place s)
-            → s.node ≡ self.old.node → self.new.place ≡ (self.old.place + 1) % length at.ring.stops }
+        ensures place { AtStop rings.now.rings self.old (λ _ at.
+            self.new.place ≡ (self.old.place + 1) % length at.ring.stops) }
         ensures crossed { self.new.crossed ≡ min (self.old.crossed + 1) (2 ^ 64 - 1) }
         ensures back { IsTrue result ↔ (self.new.place ≢ 0) }
     {

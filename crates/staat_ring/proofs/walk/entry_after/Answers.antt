@@ -27,7 +27,7 @@ whole P es i le h = subst (All P) (take_all i es le) h
 
 pub returns-in-None : goal.returns-in-None
 returns-in-None c m s at is =
-    let e = c.in-None.ensures m s c.loop-passed._passed at is (c.loop-passed.invariant.left m s at is) in
+    let e = c.in-None.ensures m s at is c.loop-passed._passed (c.loop-passed.invariant.left m s at is) in
     whole (λ e. e.plane ≤ c.args.i) s.entries c.loop-passed._passed (omega (arith, e)) (c.loop-passed.invariant.passed m s at is)
 
 pub returns : goal.returns
@@ -38,7 +38,7 @@ returns c m s at is =
 
 pub returns-then-i-entry : goal.returns-then-i-entry
 returns-then-i-entry c m s at is =
-    let e = c.in-Some.ensures m s c.loop-passed._passed at is (c.loop-passed.invariant.left m s at is) in
+    let e = c.in-Some.ensures m s at is c.loop-passed._passed (c.loop-passed.invariant.left m s at is) in
     first_after (λ x. c.args.i < x.plane) s.entries c.loop-passed._passed c.in-Some.entry e
     (λ x cx lt. let le = All-contains (λ e. e.plane ≤ c.args.i) (take c.loop-passed._passed s.entries) x (c.loop-passed.invariant.passed m s at is) cx in absurd (omega (arith, lt, le)))
     c.if-i-entry.true
@@ -47,12 +47,12 @@ pub loop-passed-preserved : goal.loop-passed-preserved
 loop-passed-preserved c = record {
   left = λ m s at is.
       let l = c.loop-passed.invariant.left m s at is in
-      let e = c.in-Some.ensures m s c.loop-passed._passed at is l in
+      let e = c.in-Some.ensures m s at is c.loop-passed._passed l in
       let lt = slice_get_within s.entries c.loop-passed._passed c.in-Some.entry e in
       record { within = omega (arith, lt); is = c.next_entry-at.ensures c.args.circle m s c.loop-passed._passed at lt l };
   passed = λ m s at is.
       let l = c.loop-passed.invariant.left m s at is in
-      let e = c.in-Some.ensures m s c.loop-passed._passed at is l in
+      let e = c.in-Some.ensures m s at is c.loop-passed._passed l in
       let lt = slice_get_within s.entries c.loop-passed._passed c.in-Some.entry e in
       All-more (λ e. e.plane ≤ c.args.i) s.entries c.loop-passed._passed c.in-Some.entry lt (c.loop-passed.invariant.passed m s at is)
       (subst (λ (x : Entry). x.plane ≤ c.args.i) (sym (get_or_from_slice_get s.entries c.loop-passed._passed c.in-Some.entry c.in-Some.entry e)) c.if-i-entry.false);

@@ -28,13 +28,13 @@ next_entry-at-requires c =
 
 pub returns-in-None : goal.returns-in-None
 returns-in-None c m s at is =
-    let e = c.in-None.ensures m s c.loop-passed._passed at is (c.loop-passed.invariant.left m s at is) in
+    let e = c.in-None.ensures m s at is c.loop-passed._passed (c.loop-passed.invariant.left m s at is) in
     mark_end c.args.leaves s.entries c.loop-passed._passed c.loop-passed.signs (marked c.args.leaves s.entries c.args.signs.now) (omega (arith, e)) (c.loop-passed.invariant.rest m s at is)
 
 pub set-requires : goal.set-requires
 set-requires c =
     let h = c.requires.at in
-    let e = c.in-Some.ensures h.place h.stop c.loop-passed._passed h.at h.is (c.loop-passed.invariant.left h.place h.stop h.at h.is) in
+    let e = c.in-Some.ensures h.place h.stop h.at h.is c.loop-passed._passed (c.loop-passed.invariant.left h.place h.stop h.at h.is) in
     let w = All-contains (λ (e : Entry). e.plane < length c.args.signs.now.sides) h.stop.entries c.in-Some.entry (c.requires.few h.place h.stop h.at h.is).1 (from_slice_get h.stop.entries c.loop-passed._passed c.in-Some.entry e) in
     subst (λ n. c.in-Some.entry.plane < n) (sym c.loop-passed.invariant.size) w
 
@@ -43,10 +43,10 @@ loop-passed-preserved c = record {
   size = ap (λ s. length s.sides) c.set.ensures ∙ (length-set c.loop-passed.signs.sides c.in-Some.entry.plane (with_sign c.mark_of.result (side_at c.loop-passed.signs.sides c.in-Some.entry.plane)) ∙ c.loop-passed.invariant.size);
   left = λ m s at is.
       let l = c.loop-passed.invariant.left m s at is in
-      let lt = slice_get_within s.entries c.loop-passed._passed c.in-Some.entry (c.in-Some.ensures m s c.loop-passed._passed at is l) in
+      let lt = slice_get_within s.entries c.loop-passed._passed c.in-Some.entry (c.in-Some.ensures m s at is c.loop-passed._passed l) in
       record { within = omega (arith, lt); is = c.next_entry-at.ensures c.args.circle m s c.loop-passed._passed at lt l };
   rest = λ m s at is.
-      let e = c.in-Some.ensures m s c.loop-passed._passed at is (c.loop-passed.invariant.left m s at is) in
+      let e = c.in-Some.ensures m s at is c.loop-passed._passed (c.loop-passed.invariant.left m s at is) in
       mark_next c.args.leaves s.entries c.loop-passed._passed c.in-Some.entry c.mark_of.result c.loop-passed.signs c.set.new.self (marked c.args.leaves s.entries c.args.signs.now) e c.mark_of.ensures c.set.ensures (c.loop-passed.invariant.rest m s at is);
 }
 
