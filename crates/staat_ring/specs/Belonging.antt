@@ -11,9 +11,9 @@ use Rattle.staat_model.specs.Circles.{IsLinked}
 use Rattle.staat_pairs.specs.Tables.{IsTableArc, Table, facets_of, slot}
 use Rattle.staat_ring.specs.Blocks.{parts_at}
 use Rattle.staat_planes.specs.Tables.{IsPlaneOf}
-use Rattle.staat_ring.specs.Pairs.{occurs, pair_at}
+use Rattle.staat_ring.specs.Pairs.{pair_at}
 use Rattle.staat_ring.specs.Rings.{facet_by, plane_at}
-use Rattle.staat_ring.specs.Signs.{IsBlockingPair, Side, Signed, positives, side_at}
+use Rattle.staat_ring.specs.Signs.{IsBlockingPair, Side, Signed, against_at, along_at, positives, side_at}
 
 -- ---- the law
 
@@ -50,8 +50,8 @@ pub record IsPairIndexed (planes facets : List V3) (sides : List Side) (q : ℕ)
   pub by_plane : List PlaneFacet
   pub are : map (facet_at planes) by_plane ≡ facets
   pub within : All (λ w. w.plane < length planes) by_plane
-  pub along : (k : ℕ) → occurs q (side_at sides k).along ≡ along_plane k by_plane
-  pub against : (k : ℕ) → occurs q (side_at sides k).against ≡ against_plane k by_plane
+  pub along : (k : ℕ) → along_at sides k q ≡ along_plane k by_plane
+  pub against : (k : ℕ) → against_at sides k q ≡ against_plane k by_plane
 
 -- ---- signs that were made from a table
 
@@ -65,8 +65,8 @@ pub record IsPairOf (t : Table) (s : Signed) (arc : Arc) : Type 0 where
 -- a number that is no pair's: it wants a facet, and has none
 pub record IsUnused (s : Signed) (q : ℕ) : Type 0 where
   pub wanted : 1 ≤ (pair_at s.pairs q).wanted
-  pub along : (k : ℕ) → occurs q (side_at s.sides k).along ≡ 0
-  pub against : (k : ℕ) → occurs q (side_at s.sides k).against ≡ 0
+  pub along : (k : ℕ) → along_at s.sides k q ≡ 0
+  pub against : (k : ℕ) → against_at s.sides k q ≡ 0
 
 -- they belong to its planes, and the pairs are those of its pieces
 pub record BelongTo (t : Table) (s : Signed) : Type 0 where

@@ -4,10 +4,11 @@ use Rattle.std.specs.Prelude.{Some, slice_get}
 use Rattle.staat_vec.specs.declared.vector.Sign.TheVariants.{Zero}
 use Rattle.staat_model.specs.declared.certificate.Arc.{Arc}
 use Rattle.staat_model.specs.Sets.{Has}
+use Rattle.staat_pairs.specs.declared.table.TheConstants.{SLOTS}
 use Rattle.staat_pairs.specs.Tables.{IsTableArc, Table, pieces_of, place, slot}
 use Rattle.staat_ring.specs.declared.index.PiecePlace.{PiecePlace}
-use Rattle.staat_ring.specs.Pairs.{no_pair, occurs, pair_at}
-use Rattle.staat_ring.specs.Signs.{Signed, side_at}
+use Rattle.staat_ring.specs.Pairs.{no_pair, pair_at}
+use Rattle.staat_ring.specs.Signs.{Signed, against_at, along_at, side_at}
 use Rattle.staat_ring.specs.SignChanges.{with_plane_pair}
 use Rattle.staat_ring.specs.Belonging.{IsPairOf, IsUnused, PlaneFacet}
 
@@ -25,14 +26,14 @@ AreZero s = (k : ℕ) → (side_at s.sides k).sign ≡ Zero
 -- nothing is known of the pair
 pub record IsFresh (s : Signed) (q : ℕ) : Type 0 where
   pub pair : pair_at s.pairs q ≡ no_pair
-  pub along : (k : ℕ) → occurs q (side_at s.sides k).along ≡ 0
-  pub against : (k : ℕ) → occurs q (side_at s.sides k).against ≡ 0
+  pub along : (k : ℕ) → along_at s.sides k q ≡ 0
+  pub against : (k : ℕ) → against_at s.sides k q ≡ 0
 
 -- what is known of the pair is as before
 pub record IsPairKept (s u : Signed) (q : ℕ) : Type 0 where
   pub pair : pair_at u.pairs q ≡ pair_at s.pairs q
-  pub along : (k : ℕ) → occurs q (side_at u.sides k).along ≡ occurs q (side_at s.sides k).along
-  pub against : (k : ℕ) → occurs q (side_at u.sides k).against ≡ occurs q (side_at s.sides k).against
+  pub along : (k : ℕ) → along_at u.sides k q ≡ along_at s.sides k q
+  pub against : (k : ℕ) → against_at u.sides k q ≡ against_at s.sides k q
 
 -- the pairs but q are as before
 pub record AreSameBut (s u : Signed) (q : ℕ) : Type 0 where
@@ -49,7 +50,7 @@ IsTold t s q = ((arc : Arc) × IsTableArc t arc × (slot t.pieces arc ≡ q) × 
 -- the numbers below n are told, and of the others nothing is known
 pub record AreToldBelow (t : Table) (s : Signed) (n : ℕ) : Type 0 where
   pub sides : length s.sides ≡ length t.planes
-  pub pairs : length s.pairs ≡ 4096
+  pub pairs : length s.pairs ≡ SLOTS
   pub zero : AreZero s
   pub told : (q : ℕ) → q < n → IsTold t s q
   pub rest : (q : ℕ) → n ≤ q → IsFresh s q

@@ -5,8 +5,8 @@ use Rattle.staat_vec.specs.declared.vector.V3.{V3}
 use Rattle.staat_ring.specs.declared.entry.Entry.{Entry}
 use Rattle.staat_ring.specs.Builds.{ring_by, slot_at}
 use Rattle.staat_ring.specs.Links.{Apart, Arrays, Distinct, Links, IsLinkedRing}
-use Rattle.staat_ring.specs.Numbered.{HasEntry, circle_of_node, entry_count, entry_number, head_number}
-use Rattle.staat_ring.specs.Numbered.{node_count, node_number, vertex_row}
+use Rattle.staat_ring.specs.Numbered.{HasEntry, circle_of_node, entry_count, entry_number}
+use Rattle.staat_ring.specs.Numbered.{entry_numbers, head_number, node_count, node_number, vertex_row}
 use Rattle.staat_ring.specs.Rings.{IsRingOf}
 use Rattle.staat_ring.specs.RingViews.{numbers_below}
 use Rattle.staat_ring.specs.Rows.{Row, all_of, row_at}
@@ -29,11 +29,19 @@ pub record AreHomedAt (old new : List ℕ) (v : ℕ) (entries : List ℕ) : Type
 
 -- ---- one circle
 
+-- P holds of each stop
+abbrev pub EachStop : List (List Entry) → (List Entry → Type 0) → Type 0
+EachStop stops P = (k : ℕ) → k < length stops → P (slot_at stops k)
+
+-- the node of the stop is the home of its entries
+abbrev pub IsHome : ℕ → ℕ → List ℕ → List Entry → Type 0
+IsHome n c home stop = All (λ e. slice_index home (entry_number n c e) ≡ node_number n c stop) stop
+
 -- each stop has an entry, the entries are of planes below n, and no entry stands twice
 pub record CanBeLinked (n c : ℕ) (stops : List (List Entry)) : Type 0 where
   pub some : All HasEntry stops
   pub small : All (All (λ e. e.plane < n)) stops
-  pub distinct : (k : ℕ) → k < length stops → Distinct (map (entry_number n c) (slot_at stops k))
+  pub distinct : EachStop stops (λ stop. Distinct (entry_numbers n c stop))
   pub apart : (k m : ℕ) (e : Entry) → k < length stops → m < length stops → Contains (slot_at stops k) e
       → Contains (slot_at stops m) e → k ≡ m
 
@@ -46,23 +54,18 @@ pub record AreStopsLinked (n c : ℕ) (stops : List (List Entry)) (m : ℕ) (fir
     : Type 0 where
   pub linked : AreLinked s (rows_of n c stops) m
   pub size : length s.next ≡ length first.next
-  pub others : (y : ℕ) → ((k : ℕ) → k < length stops → Apart y (all_of (vertex_row n c (slot_at stops k))))
-      → IsSameAt first s y
-  pub homed : (k : ℕ) → k < m → k < length stops
-      → All (λ e. slice_index home (entry_number n c e) ≡ node_number n c (slot_at stops k)) (slot_at stops k)
+  pub others : (y : ℕ) → EachStop stops (λ stop. Apart y (all_of (vertex_row n c stop))) → IsSameAt first s y
+  pub homed : (k : ℕ) → k < m → k < length stops → IsHome n c home (slot_at stops k)
   pub home_size : length home ≡ length old
-  pub home_others : (y : ℕ)
-      → ((k : ℕ) → k < length stops → Apart y (map (entry_number n c) (slot_at stops k)))
+  pub home_others : (y : ℕ) → EachStop stops (λ stop. Apart y (entry_numbers n c stop))
       → slice_index home y ≡ slice_index old y
   pub home_within : All (λ x. x < length old) home
 
 -- the circle c stands in the arrays with these stops
 pub record HoldsCircle (n : ℕ) (a : Arrays) (c : ℕ) (stops : List (List Entry)) : Type 0 where
   pub circle : IsLinkedRing a.circles (head_number n c) (map (node_number n c) stops)
-  pub vertices : (k : ℕ) → k < length stops
-      → IsLinkedRing a.vertices (node_number n c (slot_at stops k)) (map (entry_number n c) (slot_at stops k))
-  pub homes : (k : ℕ) → k < length stops
-      → All (λ e. slice_index a.home (entry_number n c e) ≡ node_number n c (slot_at stops k)) (slot_at stops k)
+  pub vertices : EachStop stops (λ stop. IsLinkedRing a.vertices (node_number n c stop) (entry_numbers n c stop))
+  pub homes : EachStop stops (IsHome n c a.home)
 
 -- x is a ring of its own, on both levels
 pub record IsAlone (a : Arrays) (x : ℕ) : Type 0 where

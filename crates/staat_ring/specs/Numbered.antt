@@ -20,6 +20,10 @@ head_number n c = entry_of_plane n c c
 abbrev pub entry_count : ℕ → ℕ
 entry_count n = 2 * (n * n)
 
+-- the numbers of the entries of a stop, and its own
+abbrev pub entry_numbers : ℕ → ℕ → List Entry → List ℕ
+entry_numbers n c es = map (entry_number n c) es
+
 abbrev pub node_number : ℕ → ℕ → List Entry → ℕ
 node_number n c [] = 0
 node_number n c (e ∷ es) = entry_count n + entry_number n c e
@@ -48,4 +52,4 @@ HasEntry es = 0 < length es
 
 -- the ring of a stop
 abbrev pub vertex_row : ℕ → ℕ → List Entry → Row
-vertex_row n c es = record { head = node_number n c es; nodes = map (entry_number n c) es }
+vertex_row n c es = record { head = node_number n c es; nodes = entry_numbers n c es }

@@ -2,7 +2,8 @@
 use Rattle.std.specs.Prelude.{◌≡◌, ℕ, ◌+◌, ◌<◌, ◌≤◌, List, length, Bool, not, nat_lt}
 use Rattle.std.specs.Prelude.{◌==◌, ◌&&◌, slice_index, slice_index_or}
 use Rattle.std.specs.List.{count_by}
-use Rattle.staat_ring.specs.Blocks.{parts_at}
+use Rattle.staat_pairs.specs.declared.table.TheConstants.{SLOTS}
+use Rattle.staat_ring.specs.Blocks.{part_pairs, parts_at}
 use Rattle.staat_ring.specs.declared.pairs.PairCount.{PairCount}
 
 -- a pair that does not block
@@ -38,10 +39,10 @@ occurs q qs = count_by (λ x. x == q) qs
 
 -- the counts of blocking pairs are right
 pub record CountBlocks (pairs : List PairCount) (counts : List ℕ) : Type 0 where
-  pub few : length pairs ≤ 4096
-  pub homes : (q : ℕ) → (pair_at pairs q).parts < 1024
-  pub size : length counts ≡ 1024
-  pub each : (x : ℕ) → x < 1024 → slice_index counts x ≡ blocks x pairs
+  pub few : length pairs ≤ SLOTS
+  pub homes : (q : ℕ) → (pair_at pairs q).parts < part_pairs
+  pub size : length counts ≡ part_pairs
+  pub each : (x : ℕ) → x < part_pairs → slice_index counts x ≡ blocks x pairs
 
 -- a pair of these parts with so many facets, none of them positive
 abbrev pub fresh : ℕ → ℕ → PairCount

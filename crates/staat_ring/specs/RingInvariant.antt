@@ -18,7 +18,7 @@ use Rattle.staat_ring.specs.Links.{Arrays}
 use Rattle.staat_ring.specs.Numbered.{node_count}
 use Rattle.staat_ring.specs.RingViews.{CanBeUndone, is_out, still_linked}
 
--- arrays of n planes, of which the first ones of the order were taken out
+-- arrays of n planes, of which the first ones of the order were taken out, each of them once
 pub record HaveTakenOut (n count : ℕ) (order : List ℕ) (a : Arrays) : Type 0 where
   pub few : n ≤ MOST_PLANES
   pub room : length a.home ≡ node_count n

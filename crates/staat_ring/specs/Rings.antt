@@ -58,11 +58,14 @@ vertex_of planes c (e ∷ es) = crossing planes c e
 abbrev pub stop_of : List V3 → ℕ → RingStop → Stop
 stop_of planes c s = record { vertex = vertex_of planes c s.entries; through = map (λ e. e.plane) s.entries }
 
--- the circle of a plane among the linked ones, where each entry names its stop's vertex
+-- each entry of the stop on the circle c names its vertex
+abbrev pub NameVertex : List V3 → ℕ → RingStop → Type 0
+NameVertex planes c s = All (λ e. crossing planes c e ≡ vertex_of planes c s.entries) s.entries
+
+-- the circle of a plane among the linked ones
 pub record IsRingOf (planes : List V3) (linked : List ℕ) (r : Ring) : Type 0 where
   pub circle : IsCircle planes linked r.plane (map (stop_of planes r.plane) r.stops)
-  pub agree :
-      All (λ s. All (λ e. crossing planes r.plane e ≡ vertex_of planes r.plane s.entries) s.entries) r.stops
+  pub agree : All (NameVertex planes r.plane) r.stops
 
 -- ---- made from a table
 

@@ -26,6 +26,13 @@ pub record Signed : Type 0 where
 
 -- ---- the count of a pair
 
+-- how often pair q stands at the plane k: by the normal, and by the negative
+abbrev pub along_at : List Side → ℕ → ℕ → ℕ
+along_at sides k q = occurs q (side_at sides k).along
+
+abbrev pub against_at : List Side → ℕ → ℕ → ℕ
+against_at sides k q = occurs q (side_at sides k).against
+
 -- the pairs whose facet on the plane is positive at this sign
 abbrev pub pairs_by : Sign → List ℕ → List ℕ → List ℕ
 pairs_by Neg along against = against

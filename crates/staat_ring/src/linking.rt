@@ -3,7 +3,7 @@ ghost use Rattle.std.specs.Prelude.{◌≡◌, ℕ, ◌<◌, ◌≤◌, ◌∷�
 ghost use Rattle.std.specs.Prelude.{map};
 ghost use Rattle.staat_ring.specs.Builds.{slot_at};
 ghost use Rattle.staat_ring.specs.Links.{Apart, Distinct, IsLinkedRing};
-ghost use Rattle.staat_ring.specs.Numbered.{entry_number, node_count, node_number};
+ghost use Rattle.staat_ring.specs.Numbered.{entry_numbers, node_count, node_number};
 ghost use Rattle.staat_ring.specs.Linking.{AreHomedAt, AreLinked, AreStopsLinked, CanBeLinked, IsSameAt, rows_of};
 
 use crate::circle::Through;
@@ -65,14 +65,14 @@ fn link_entries(
     requires room { node_count planes ≤ length vertices.old.next }
     requires homes { length home.old.items ≡ length vertices.old.next }
     requires entries { All (λ e. e.plane < planes) entries.now }
-    requires distinct { Distinct (v ∷ map (entry_number planes c) entries.now) }
+    requires distinct { Distinct (v ∷ entry_numbers planes c entries.now) }
     requires alone { IsLinkedRing vertices.old v [] }
     requires within { All (λ x. x < length home.old.items) home.old.items }
-    ensures ring { IsLinkedRing vertices.new v (map (entry_number planes c) entries.now) }
-    ensures others { (y : ℕ) → Apart y (v ∷ map (entry_number planes c) entries.now)
+    ensures ring { IsLinkedRing vertices.new v (entry_numbers planes c entries.now) }
+    ensures others { (y : ℕ) → Apart y (v ∷ entry_numbers planes c entries.now)
         → IsSameAt vertices.old vertices.new y }
     ensures length { length vertices.new.next ≡ length vertices.old.next }
-    ensures homes { AreHomedAt home.old.items home.new.items v (map (entry_number planes c) entries.now) }
+    ensures homes { AreHomedAt home.old.items home.new.items v (entry_numbers planes c entries.now) }
     ensures within { All (λ x. x < length home.old.items) home.new.items }
 {
     vertices.sizes();
