@@ -4,10 +4,11 @@ ghost use Rattle.std.specs.Prelude.{◌⊎◌, IfOk, IsTrue};
 ghost use Rattle.std.specs.Prelude.{replicate, slice_index, slice_set, ◌-◌};
 ghost use Rattle.staat_model.specs.Sets.{IsNonempty};
 ghost use Rattle.staat_graph.specs.Graphs.{HasArc, IsStrong};
-ghost use Rattle.staat_ring.specs.Blocks.{HasBlock, parts_at};
+ghost use Rattle.staat_ring.specs.Blocks.{HasBlock, IsGraphOf, part_pairs};
 ghost use Rattle.std.specs.Int.{bit_at};
 
 use staat_graph::{Graph, reach};
+use staat_limits::MOST_PARTS;
 use staat_model::PartSet;
 use staat_vec::OutOfMemory;
 use std::alloc::Global;
@@ -38,7 +39,7 @@ impl Model for BlockCounts {
 
 // the word with the bit b set
 fn with_bit(word: u32, b: u32) -> u32
-    requires { b < 32 }
+    requires { b < MOST_PARTS }
     ensures { (q : ℕ) → (bit_at result q ≡ 1) ↔ ((bit_at word q ≡ 1) ⊎ (q ≡ b)) }
 {
     PartSet::from_bits(word).union(PartSet::single(b)).bits()
@@ -46,7 +47,7 @@ fn with_bit(word: u32, b: u32) -> u32
 
 // the word with the bit b cleared
 fn without_bit(word: u32, b: u32) -> u32
-    requires { b < 32 }
+    requires { b < MOST_PARTS }
     ensures { (q : ℕ) → (bit_at result q ≡ 1) ↔ ((bit_at word q ≡ 1) × (q ≡ b → ⊥)) }
 {
     PartSet::from_bits(word).without(PartSet::single(b)).bits()
@@ -54,8 +55,8 @@ fn without_bit(word: u32, b: u32) -> u32
 
 // puts an arc into the graph
 fn set_arc(rows: &mut [u32; 32], a: u32, b: u32)
-    requires from { a < 32 }
-    requires to { b < 32 }
+    requires from { a < MOST_PARTS }
+    requires to { b < MOST_PARTS }
     ensures { (p q : ℕ) → HasArc rows.new p q ↔ (HasArc rows.old p q ⊎ ((p ≡ a) × (q ≡ b))) }
 {
     rows[a as usize] = with_bit(rows[a as usize], b);
@@ -63,8 +64,8 @@ fn set_arc(rows: &mut [u32; 32], a: u32, b: u32)
 
 // takes it out
 fn clear_arc(rows: &mut [u32; 32], a: u32, b: u32)
-    requires from { a < 32 }
-    requires to { b < 32 }
+    requires from { a < MOST_PARTS }
+    requires to { b < MOST_PARTS }
     ensures { (p q : ℕ) → HasArc rows.new p q ↔ (HasArc rows.old p q × ((p ≡ a) → (q ≡ b) → ⊥)) }
 {
     rows[a as usize] = without_bit(rows[a as usize], b);
@@ -73,7 +74,7 @@ fn clear_arc(rows: &mut [u32; 32], a: u32, b: u32)
 impl BlockCounts {
     /// No pair blocks.
     pub fn new(alloc: Global) -> Result<BlockCounts, OutOfMemory>
-        ensures { IfOk result (λ b. b ≡ replicate 1024 0) }
+        ensures { IfOk result (λ b. b ≡ replicate part_pairs 0) }
     {
         let counts = vec![in alloc; 0u16; 1024]?;
         let graph = Graph { rows: [0; 32] };
@@ -87,7 +88,7 @@ impl BlockCounts {
 
     /// One more pair of pieces blocks for the parts whose number stands at `x`.
     pub fn more(&mut self, x: u16)
-        requires place { x < 1024 }
+        requires place { x < part_pairs }
         requires room { slice_index self.old x + 1 < 2 ^ 16 }
         ensures { self.new ≡ slice_set self.old x (slice_index self.old x + 1) }
     {
@@ -102,7 +103,7 @@ impl BlockCounts {
 
     /// One less blocks.
     pub fn less(&mut self, x: u16)
-        requires place { x < 1024 }
+        requires place { x < part_pairs }
         requires some { 0 < slice_index self.old x }
         ensures { self.new ≡ slice_set self.old x (slice_index self.old x - 1) }
     {
@@ -117,7 +118,7 @@ impl BlockCounts {
 
     /// The graph in which an arc stands where some pair of pieces blocks.
     pub fn graph(&self) -> Graph
-        ensures { (a b : ℕ) → a < 32 → b < 32 → HasArc result.rows a b ↔ HasBlock self.now a b }
+        ensures { IsGraphOf (HasBlock self.now) result.rows }
     {
         self.graph
     }

@@ -44,7 +44,7 @@ fn add_places(places: &mut Vec<PiecePlace>, table: &PlaneTable, a: u32) -> Resul
 
 // all pieces, numbered through
 fn places_of(alloc: Global, table: &PlaneTable) -> Result<Vec<PiecePlace>, OutOfMemory>
-    ensures { IfOk result (λ v. ArePlaces table.now 32 v.items) }
+    ensures { IfOk result (λ v. ArePlaces table.now MOST_PARTS v.items) }
 {
     let mut places = Vec::new(alloc);
     for a in 0..MOST_PARTS {
@@ -124,7 +124,7 @@ fn add_slot(
     places: &[PiecePlace],
     q: u32,
 ) -> Result<(), OutOfMemory>
-    requires places { ArePlaces table.now 32 places.now }
+    requires places { ArePlaces table.now MOST_PARTS places.now }
     requires pair { q < SLOTS }
     requires told { AreToldBelow table.now signs.old q }
     ensures { OnOk result (AreToldBelow table.now signs.new (q + 1)) }

@@ -2,12 +2,14 @@
 ghost use Rattle.std.specs.Prelude.{◌≡◌, ℕ, ◌+◌, ◌*◌, ◌<◌, ◌≤◌, ◌^◌, ◌↔◌};
 ghost use Rattle.std.specs.Prelude.{◌⊎◌, ◌-◌, All, IfOk, IsTrue, length, replicate, slice_index, slice_set};
 ghost use Rattle.staat_model.specs.Sets.{IsNonempty};
-ghost use Rattle.staat_graph.specs.Graphs.{HasArc, IsStrong};
+ghost use Rattle.staat_graph.specs.Graphs.{IsStrong};
+ghost use Rattle.staat_ring.specs.Blocks.{IsGraphOf, part_pairs};
 ghost use Rattle.staat_ring.specs.Pairs.{CountBlocks, HasFullPair, blocks, fresh, gained, no_pair, occurs, pair_at};
 
 use crate::blocks::BlockCounts;
 use staat_graph::Graph;
 use staat_model::PartSet;
+use staat_pairs::SLOTS;
 use staat_vec::OutOfMemory;
 use std::alloc::Global;
 use std::marker::Model;
@@ -47,7 +49,7 @@ impl Model for PairCounts {
 impl PairCounts {
     /// So many numbers that are no pairs.
     pub fn new(alloc: Global, count: u32) -> Result<PairCounts, OutOfMemory>
-        requires { count ≤ 4096 }
+        requires { count ≤ SLOTS }
         ensures { IfOk result (λ c. c ≡ replicate count no_pair) }
     {
         let pair = PairCount {
@@ -64,7 +66,7 @@ impl PairCounts {
     pub fn want(&mut self, q: u16, wanted: u16, parts: u16)
         requires place { q < length self.old }
         requires fresh { pair_at self.old q ≡ no_pair }
-        requires parts { parts < 1024 }
+        requires parts { parts < part_pairs }
         ensures { self.new ≡ slice_set self.old q (fresh wanted parts) }
     {
         self.pairs[q as usize] = PairCount {
@@ -142,7 +144,7 @@ impl PairCounts {
 
     /// The graph in which an arc stands where some pair blocks.
     pub fn graph(&self) -> Graph
-        ensures { (a b : ℕ) → a < 32 → b < 32 → HasArc result.rows a b ↔ HasFullPair self.now a b }
+        ensures { IsGraphOf (HasFullPair self.now) result.rows }
     {
         self.blocked.graph()
     }

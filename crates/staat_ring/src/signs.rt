@@ -2,9 +2,9 @@
 ghost use Rattle.std.specs.Prelude.{◌≡◌, ℕ, ◌+◌, ◌*◌, ◌<◌, ◌≤◌, ◌^◌, ◌↔◌, All};
 ghost use Rattle.std.specs.Prelude.{IfOk, IsTrue, OnErr, OnOk, length, replicate, slice_index, slice_set};
 ghost use Rattle.staat_model.specs.Sets.{IsNonempty};
-ghost use Rattle.staat_graph.specs.Graphs.{HasArc, IsStrong};
+ghost use Rattle.staat_graph.specs.Graphs.{IsStrong};
 ghost use Rattle.staat_vec.specs.declared.vector.Sign.TheVariants.{Zero};
-ghost use Rattle.staat_ring.specs.Blocks.{parts_at};
+ghost use Rattle.staat_ring.specs.Blocks.{IsGraphOf, part_pairs};
 ghost use Rattle.staat_ring.specs.Pairs.{fresh, no_pair, occurs, pair_at};
 ghost use Rattle.staat_ring.specs.Signs.{HasBlockingPair, no_side, positive_pairs, positives, side_at};
 ghost use Rattle.staat_ring.specs.SignChanges.{uses, with_pair, with_plane_pair, with_plane_sign, with_sign};
@@ -12,6 +12,7 @@ ghost use Rattle.staat_ring.specs.SignChanges.{uses, with_pair, with_plane_pair,
 use crate::pairs::PairCounts;
 use staat_graph::Graph;
 use staat_model::PartSet;
+use staat_pairs::SLOTS;
 use staat_vec::{OutOfMemory, Sign};
 use std::alloc::Global;
 use std::marker::Model;
@@ -151,7 +152,7 @@ fn push_at(sides: &mut Vec<PlaneSide>, k: u32, turned: bool, q: u16) -> Result<(
 impl Signs {
     /// So many planes of the sign Zero through no facet, and so many numbers that are no pairs.
     pub fn new(alloc: Global, planes: u32, pairs: u32) -> Result<Signs, OutOfMemory>
-        requires { pairs ≤ 4096 }
+        requires { pairs ≤ SLOTS }
         ensures { IfOk result (λ s. s ≡ record {
           sides = replicate planes no_side;
           pairs = replicate pairs no_pair;
@@ -181,7 +182,7 @@ impl Signs {
         requires place { q < length self.old.pairs }
         requires fresh { pair_at self.old.pairs q ≡ no_pair }
         requires none { positives q self.old.sides ≡ 0 }
-        requires parts { parts < 1024 }
+        requires parts { parts < part_pairs }
         ensures { self.new ≡ record {
           sides = self.old.sides;
           pairs = slice_set self.old.pairs q (fresh wanted parts);
@@ -220,7 +221,7 @@ impl Signs {
 
     /// The graph in which an arc stands where all facets of some pair of pieces are positive.
     pub fn graph(&self) -> Graph
-        ensures { (a b : ℕ) → a < 32 → b < 32 → HasArc result.rows a b ↔ HasBlockingPair self.now a b }
+        ensures { IsGraphOf (HasBlockingPair self.now) result.rows }
     {
         self.counts.graph()
     }
