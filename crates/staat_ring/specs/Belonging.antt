@@ -11,6 +11,7 @@ use Rattle.staat_model.specs.Circles.{IsLinked}
 use Rattle.staat_pairs.specs.Tables.{IsTableArc, Table, facets_of, slot}
 use Rattle.staat_ring.specs.Blocks.{parts_at}
 use Rattle.staat_planes.specs.Tables.{IsPlaneOf}
+use Rattle.staat_ring.specs.declared.pairs.PairCount.{PairCount}
 use Rattle.staat_ring.specs.Pairs.{pair_at}
 use Rattle.staat_ring.specs.Rings.{facet_by, plane_at}
 use Rattle.staat_ring.specs.Signs.{IsBlockingPair, Side, Signed, against_at, along_at, positives, side_at}
@@ -55,11 +56,15 @@ pub record IsPairIndexed (planes facets : List V3) (sides : List Side) (q : ℕ)
 
 -- ---- signs that were made from a table
 
--- the pair of an arc: its parts, how many facets it has, and these
+-- the pair that stands at the slot of the arc
+abbrev pub pair_of : Table → Signed → Arc → PairCount
+pair_of t s arc = pair_at s.pairs (slot t.pieces arc)
+
+-- the pair is that of the arc: its parts, how many facets it has, and these
 pub record IsPairOf (t : Table) (s : Signed) (arc : Arc) : Type 0 where
   pub within : slot t.pieces arc < length s.pairs
-  pub parts : (pair_at s.pairs (slot t.pieces arc)).parts ≡ parts_at arc.a arc.b
-  pub wanted : (pair_at s.pairs (slot t.pieces arc)).wanted ≡ length (facets_of t arc)
+  pub parts : (pair_of t s arc).parts ≡ parts_at arc.a arc.b
+  pub wanted : (pair_of t s arc).wanted ≡ length (facets_of t arc)
   pub index : IsPairIndexed t.planes (facets_of t arc) s.sides (slot t.pieces arc)
 
 -- a number that is no pair's: it wants a facet, and has none
@@ -68,7 +73,7 @@ pub record IsUnused (s : Signed) (q : ℕ) : Type 0 where
   pub along : (k : ℕ) → along_at s.sides k q ≡ 0
   pub against : (k : ℕ) → against_at s.sides k q ≡ 0
 
--- they belong to its planes, and the pairs are those of its pieces
+-- the signs were made from the table: one for each of its planes, and the pairs are those of its pieces
 pub record BelongTo (t : Table) (s : Signed) : Type 0 where
   pub sides : length s.sides ≡ length t.planes
   pub all : (arc : Arc) → IsTableArc t arc → IsPairOf t s arc

@@ -12,12 +12,16 @@ use Rattle.staat_ring.specs.Signs.{Signed, against_at, along_at, side_at}
 use Rattle.staat_ring.specs.SignChanges.{with_plane_pair}
 use Rattle.staat_ring.specs.Belonging.{IsPairOf, IsUnused, PlaneFacet}
 
+-- P holds of each place and its number
+abbrev pub EachPlace : List PiecePlace → (ℕ → PiecePlace → Type 0) → Type 0
+EachPlace places P = (p : ℕ) (x : PiecePlace) → slice_get places p ≡ Some x → P p x
+
 -- the pieces of the parts below n, numbered through
 pub record ArePlaces (t : Table) (n : ℕ) (places : List PiecePlace) : Type 0 where
   pub size : length places ≡ sum (take n t.pieces)
-  pub part : (p : ℕ) (x : PiecePlace) → slice_get places p ≡ Some x → Has t.of x.part
-  pub piece : (p : ℕ) (x : PiecePlace) → slice_get places p ≡ Some x → x.piece < pieces_of t x.part
-  pub is : (p : ℕ) (x : PiecePlace) → slice_get places p ≡ Some x → place t.pieces x.part x.piece ≡ p
+  pub part : EachPlace places (λ p x. Has t.of x.part)
+  pub piece : EachPlace places (λ p x. x.piece < pieces_of t x.part)
+  pub is : EachPlace places (λ p x. place t.pieces x.part x.piece ≡ p)
 
 -- every plane has the sign Zero
 abbrev pub AreZero : Signed → Type 0
@@ -44,8 +48,9 @@ pub record AreSameBut (s u : Signed) (q : ℕ) : Type 0 where
 
 -- the number is a pair's, or no pair's
 abbrev pub IsTold : Table → Signed → ℕ → Type 0
-IsTold t s q = ((arc : Arc) × IsTableArc t arc × (slot t.pieces arc ≡ q) × IsPairOf t s arc) ⊎ (IsUnused s q
-    × ((arc : Arc) → IsTableArc t arc → slot t.pieces arc ≡ q → ⊥))
+IsTold t s q =
+    ((arc : Arc) × IsTableArc t arc × (slot t.pieces arc ≡ q) × IsPairOf t s arc)
+    ⊎ (IsUnused s q × ((arc : Arc) → IsTableArc t arc → slot t.pieces arc ≡ q → ⊥))
 
 -- the numbers below n are told, and of the others nothing is known
 pub record AreToldBelow (t : Table) (s : Signed) (n : ℕ) : Type 0 where

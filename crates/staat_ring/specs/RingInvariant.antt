@@ -18,12 +18,13 @@ use Rattle.staat_ring.specs.Links.{Arrays}
 use Rattle.staat_ring.specs.Numbered.{node_count}
 use Rattle.staat_ring.specs.RingViews.{CanBeUndone, is_out, still_linked}
 
--- arrays of n planes, of which the first ones of the order were taken out, each of them once
+-- arrays of n planes, of which the first ones of the order were taken out
 pub record HaveTakenOut (n count : ℕ) (order : List ℕ) (a : Arrays) : Type 0 where
   pub few : n ≤ MOST_PLANES
   pub room : length a.home ≡ node_count n
   pub size : length order ≡ n
   pub most : count ≤ n
+  -- each plane that was taken out was linked until then
   pub all : (k : ℕ) → k ≤ count → k + length (still_linked n (take k order)) ≡ n
   pub planes : (k : ℕ) → k < count → slice_index order k < n
   pub sound : CanBeUndone n (take count order) a

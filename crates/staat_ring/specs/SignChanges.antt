@@ -36,7 +36,7 @@ emptied p = record { positive = 0; wanted = p.wanted; parts = p.parts }
 abbrev pub uses : ℕ → List Side → ℕ
 uses q sides = sum_by (λ s. occurs q s.along + occurs q s.against) sides
 
--- the counts are those of the signs
+-- the counts are those of the signs, and none can grow too great for its word
 pub record AreSigned (sides : List Side) (pairs : List PairCount) : Type 0 where
   pub each : (q : ℕ) → (pair_at pairs q).positive ≡ positives q sides
   pub few : (q : ℕ) → uses q sides < 65536

@@ -46,7 +46,7 @@ positive_pairs s = pairs_by s.sign s.along s.against
 abbrev pub positives : ℕ → List Side → ℕ
 positives q sides = sum_by (λ s. occurs q (positive_pairs s)) sides
 
--- pair q is one of these parts and blocks: its count is the number of its facets
+-- pair q is one of these parts, and blocks: its count has come to the number of its facets
 pub record IsBlockingPair (s : Signed) (x q : ℕ) : Type 0 where
   pub within : q < length s.pairs
   pub parts : (pair_at s.pairs q).parts ≡ x

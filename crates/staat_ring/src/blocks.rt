@@ -1,5 +1,5 @@
 // How many pairs of pieces block for each ordered pair of parts, and the graph that shows where there are some.
-ghost use Rattle.std.specs.Prelude.{◌≡◌, ℕ, ◌+◌, ◌*◌, ◌<◌, ◌≤◌, ◌^◌, ◌↔◌};
+ghost use Rattle.std.specs.Prelude.{◌≡◌, ℕ, ◌+◌, ◌<◌, ◌^◌, ◌↔◌};
 ghost use Rattle.std.specs.Prelude.{◌⊎◌, IfOk, IsTrue};
 ghost use Rattle.std.specs.Prelude.{replicate, slice_index, slice_set, ◌-◌};
 ghost use Rattle.staat_model.specs.Sets.{IsNonempty};

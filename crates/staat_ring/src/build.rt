@@ -12,7 +12,6 @@ ghost use Rattle.std.specs.Prelude.{
   slice_index_or,
   true,
 };
-ghost use Rattle.staat_pairs.specs.Tables.{AreTablePlanes};
 ghost use Rattle.staat_ring.specs.Linking.{AreLinkedBelow};
 ghost use Rattle.staat_ring.specs.Rings.{WereMadeFrom};
 

@@ -1,14 +1,12 @@
 // The circle of a plane, by the entries of its stops.
-ghost use Rattle.std.specs.Prelude.{◌≡◌, ◌≢◌, ℕ, ◌+◌, ◌<◌, ◌++◌, List, [], ◌∷◌, All};
+ghost use Rattle.std.specs.Prelude.{◌≡◌, ℕ, ◌+◌, ◌<◌, ◌++◌, List, [], ◌∷◌, All};
 ghost use Rattle.std.specs.Prelude.{Contains, IfOk, OnOk, length};
 ghost use Rattle.std.specs.Prelude.{map, replicate, slice_set};
 ghost use Rattle.staat_vec.specs.declared.vector.V3.{V3 as Vector};
-ghost use Rattle.staat_vec.specs.Vectors.{IsWithin, cross, det, origin, sign};
-ghost use Rattle.staat_model.specs.Circles.{axis_beside};
-ghost use Rattle.staat_ring.specs.declared.entry.Entry.{Entry as EntryValue};
+ghost use Rattle.staat_vec.specs.Vectors.{IsWithin, cross, det, sign};
 ghost use Rattle.staat_ring.specs.Builds.{AreFilledTo, IsHalfOfCircle, IsPlaceOf, all_around, opposite, ring_by};
 ghost use Rattle.staat_ring.specs.Builds.{slot_at};
-ghost use Rattle.staat_ring.specs.Rings.{IsRingOf, facet_by, plane_at};
+ghost use Rattle.staat_ring.specs.Rings.{IsRingOf};
 
 use crate::entry::Entry;
 use crate::half::{axis_of, facet, half_circle, is_opposite};

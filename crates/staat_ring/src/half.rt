@@ -1,7 +1,6 @@
 // The half circle of a plane: the crossings on the half turn from its axis, in order.
 ghost use Rattle.std.specs.Prelude.{◌≡◌, ◌≢◌, ◌<◌, IfOk, OnOk, length};
-ghost use Rattle.staat_vec.specs.declared.vector.V3.{V3 as Vector};
-ghost use Rattle.staat_vec.specs.Vectors.{IsWithin, cross, det, origin};
+ghost use Rattle.staat_vec.specs.Vectors.{IsWithin, cross, origin};
 ghost use Rattle.staat_model.specs.Circles.{axis_beside};
 ghost use Rattle.staat_ring.specs.Builds.{AreTurnedAhead, IsHalfOfCircle, IsPut, IsUpper};
 ghost use Rattle.staat_ring.specs.Rings.{facet_by};

@@ -1,15 +1,12 @@
 // Which facets lie on which plane, made from a table.
-ghost use Rattle.std.specs.Prelude.{◌≡◌, ◌≢◌, ◌↔◌, true, ℕ, ◌+◌, ◌*◌, ◌<◌};
-ghost use Rattle.std.specs.Prelude.{◌≤◌, List, Contains, IfOk, OnOk, Some, length, slice_get};
+ghost use Rattle.std.specs.Prelude.{◌≡◌, ◌+◌, ◌*◌, ◌<◌};
+ghost use Rattle.std.specs.Prelude.{IfOk, OnOk, length};
 ghost use Rattle.staat_vec.specs.Primitives.{canon};
-ghost use Rattle.staat_vec.specs.declared.vector.V3.{V3 as Vector};
-ghost use Rattle.staat_pairs.specs.Tables.{IsTableArc, IsTable, IsTableFacet, slot, facets_of, pieces_of, place};
+ghost use Rattle.staat_pairs.specs.Tables.{IsTableArc, IsTableFacet, slot, pieces_of, place};
 ghost use Rattle.staat_model.specs.Sets.{Has};
 ghost use Rattle.staat_ring.specs.Index.{with_facet, AreSameBut, AreToldBelow, AreZero, ArePlaces, IsFresh};
-ghost use Rattle.staat_ring.specs.Signs.{side_at};
 ghost use Rattle.staat_ring.specs.SignChanges.{uses};
 ghost use Rattle.staat_ring.specs.Belonging.{BelongTo, IsPairOf, PlaneFacet as PlaneFacetValue, facet_at};
-ghost use Rattle.staat_ring.specs.Rings.{facet_by, plane_at};
 
 use crate::plane_number::number_of_plane;
 use crate::signs::Signs;

@@ -1,5 +1,5 @@
 // An order in which crossings nearly rise, by whole keys. The keys are hints: a bad one costs time alone.
-ghost use Rattle.std.specs.Prelude.{◌≡◌, ◌↔◌, ℕ, ◌<◌, ℤ, All, Contains, IfOk, List, length, map};
+ghost use Rattle.std.specs.Prelude.{◌≡◌, ◌↔◌, ℕ, ◌<◌, ℤ, All, Contains, IfOk, length, map};
 ghost use Rattle.std.specs.Prelude.{IsPermutation};
 ghost use Rattle.staat_vec.specs.declared.vector.V3.{V3 as Vector};
 ghost use Rattle.staat_vec.specs.Vectors.{IsWithin};

@@ -1,7 +1,6 @@
 // The rings of a circle and of its stops, linked to their nodes.
 ghost use Rattle.std.specs.Prelude.{◌≡◌, ℕ, ◌<◌, ◌≤◌, ◌∷◌, [], All, IfOk, length};
 ghost use Rattle.std.specs.Prelude.{map};
-ghost use Rattle.staat_ring.specs.Builds.{slot_at};
 ghost use Rattle.staat_ring.specs.Links.{Apart, Distinct, IsLinkedRing};
 ghost use Rattle.staat_ring.specs.Numbered.{entry_numbers, node_count, node_number};
 ghost use Rattle.staat_ring.specs.Linking.{AreHomedAt, AreLinked, AreStopsLinked, CanBeLinked, IsSameAt, rows_of};

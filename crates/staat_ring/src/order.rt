@@ -1,8 +1,7 @@
 // The order of crossings on a half circle.
 ghost use Rattle.std.specs.Prelude.{◌≡◌, ℕ, All, Bool, IfOk, OnOk, if◌then◌else◌};
-ghost use Rattle.staat_vec.specs.declared.vector.V3.{V3 as Vector};
 ghost use Rattle.staat_vec.specs.declared.vector.Sign.TheVariants.{Neg, Pos, Zero};
-ghost use Rattle.staat_vec.specs.Vectors.{IsWithin, det, sign};
+ghost use Rattle.staat_vec.specs.Vectors.{IsWithin};
 ghost use Rattle.std.specs.List.{insert};
 ghost use Rattle.staat_ring.specs.Order.{IsHalfOf, IsPlace};
 

@@ -1,10 +1,10 @@
 // How many facets of each ordered pair of pieces are positive.
 ghost use Rattle.std.specs.Prelude.{◌≡◌, ℕ, ◌+◌, ◌*◌, ◌<◌, ◌≤◌, ◌^◌, ◌↔◌};
-ghost use Rattle.std.specs.Prelude.{◌⊎◌, ◌-◌, All, IfOk, IsTrue, length, replicate, slice_index, slice_set};
+ghost use Rattle.std.specs.Prelude.{◌-◌, All, IfOk, IsTrue, length, replicate, slice_set};
 ghost use Rattle.staat_model.specs.Sets.{IsNonempty};
 ghost use Rattle.staat_graph.specs.Graphs.{IsStrong};
 ghost use Rattle.staat_ring.specs.Blocks.{IsGraphOf, part_pairs};
-ghost use Rattle.staat_ring.specs.Pairs.{CountBlocks, HasFullPair, blocks, fresh, gained, no_pair, occurs, pair_at};
+ghost use Rattle.staat_ring.specs.Pairs.{CountBlocks, HasFullPair, fresh, gained, no_pair, occurs, pair_at};
 
 use crate::blocks::BlockCounts;
 use staat_graph::Graph;

@@ -1,11 +1,11 @@
 // The signs of the planes at a vertex, and the graph there.
-ghost use Rattle.std.specs.Prelude.{◌≡◌, ℕ, ◌+◌, ◌*◌, ◌<◌, ◌≤◌, ◌^◌, ◌↔◌, All};
-ghost use Rattle.std.specs.Prelude.{IfOk, IsTrue, OnErr, OnOk, length, replicate, slice_index, slice_set};
+ghost use Rattle.std.specs.Prelude.{◌≡◌, ◌+◌, ◌<◌, ◌≤◌, ◌↔◌};
+ghost use Rattle.std.specs.Prelude.{IfOk, IsTrue, OnErr, OnOk, length, replicate, slice_set};
 ghost use Rattle.staat_model.specs.Sets.{IsNonempty};
 ghost use Rattle.staat_graph.specs.Graphs.{IsStrong};
 ghost use Rattle.staat_vec.specs.declared.vector.Sign.TheVariants.{Zero};
 ghost use Rattle.staat_ring.specs.Blocks.{IsGraphOf, part_pairs};
-ghost use Rattle.staat_ring.specs.Pairs.{fresh, no_pair, occurs, pair_at};
+ghost use Rattle.staat_ring.specs.Pairs.{fresh, no_pair, pair_at};
 ghost use Rattle.staat_ring.specs.Signs.{HasBlockingPair, no_side, positive_pairs, positives, side_at};
 ghost use Rattle.staat_ring.specs.SignChanges.{uses, with_pair, with_plane_pair, with_plane_sign, with_sign};
 

@@ -1,18 +1,7 @@
 // A walk along circles, that keeps the signs of the planes at its vertex.
+ghost use Rattle.std.specs.Prelude.{◌≡◌, ◌≢◌, ◌↔◌, ◌+◌, ◌-◌, ◌%◌, ◌^◌};
 ghost use Rattle.std.specs.Prelude.{
-  ◌≡◌,
-  ◌≢◌,
-  ◌↔◌,
-  ℕ,
-  ◌+◌,
-  ◌-◌,
-  ◌%◌,
-  ◌^◌,
-  ◌<◌,
-  ◌≤◌,
   All,
-};
-ghost use Rattle.std.specs.Prelude.{
   Contains,
   IfOk,
   IsTrue,
@@ -24,8 +13,9 @@ ghost use Rattle.std.specs.Prelude.{
   pos,
   slice_get,
   ◌<ℤ◌,
+  ◌<◌,
+  ◌≤◌,
 };
-ghost use Rattle.staat_vec.specs.declared.vector.V3.{V3 as Vector};
 ghost use Rattle.staat_vec.specs.Lists.{IsFirst};
 ghost use Rattle.staat_vec.specs.Vectors.{IsWithin, dot};
 ghost use Rattle.staat_model.specs.declared.assembly.Part.{Part as PartValue};
