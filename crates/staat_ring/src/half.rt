@@ -74,22 +74,6 @@ fn all_ahead(alloc: Global, table: &PlaneTable, g: V3, axis: V3) -> Result<Vec<V
     Ok(hs)
 }
 
-// the same, nearly in the order of their crossings
-fn ahead_in_order(
-    alloc: Global,
-    table: &PlaneTable,
-    g: V3,
-    axis: V3,
-) -> Result<Vec<V3>, OutOfMemory>
-    requires g { IsWithin NORMAL g }
-    requires axis { IsWithin NORMAL axis }
-    ensures { IfOk result (λ v. AreTurnedAhead table.now.planes g axis (length table.now.planes) v.items) }
-{
-    let ahead = all_ahead(alloc, table, g, axis)?;
-    let ordered = in_order(alloc, g, axis, ahead.as_slice())?;
-    Ok(ordered)
-}
-
 /// The normals whose crossings with plane `c` are those of the half turn from the axis, in order, each once.
 pub fn half_circle(alloc: Global, table: &PlaneTable, c: u32) -> Result<Vec<V3>, OutOfMemory>
     requires { c < length table.now.planes }
@@ -99,8 +83,9 @@ pub fn half_circle(alloc: Global, table: &PlaneTable, c: u32) -> Result<Vec<V3>,
     let _planes = table.len();
     let g = table.plane(c);
     let axis = table.plane(axis_of(c));
-    let ahead = ahead_in_order(alloc, table, g, axis)?;
-    let mut half = half_of(alloc, g, ahead.as_slice())?;
+    let ahead = all_ahead(alloc, table, g, axis)?;
+    let ordered = in_order(alloc, g, axis, ahead.as_slice())?;
+    let mut half = half_of(alloc, g, ordered.as_slice())?;
     half.insert(0, axis)?;
     Ok(half)
 }

@@ -1,9 +1,8 @@
 // Which facets lie on which plane, made from a table.
-ghost use Rattle.std.specs.Prelude.{◌≡◌, ◌+◌, ◌*◌, ◌<◌};
+ghost use Rattle.std.specs.Prelude.{◌≡◌, ◌+◌, ◌<◌};
 ghost use Rattle.std.specs.Prelude.{IfOk, OnOk, length};
 ghost use Rattle.staat_vec.specs.Primitives.{canon};
-ghost use Rattle.staat_pairs.specs.Tables.{IsTableArc, IsTableFacet, slot, pieces_of, place};
-ghost use Rattle.staat_model.specs.Sets.{Has};
+ghost use Rattle.staat_pairs.specs.Tables.{IsTableArc, IsTableFacet, slot};
 ghost use Rattle.staat_ring.specs.Index.{with_facet, AreSameBut, AreToldBelow, AreZero, ArePlaces, IsFresh};
 ghost use Rattle.staat_ring.specs.SignChanges.{uses};
 ghost use Rattle.staat_ring.specs.Belonging.{BelongTo, IsPairOf, PlaneFacet as PlaneFacetValue, facet_at};
@@ -86,35 +85,7 @@ fn add_pair(signs: &mut Signs, table: &PlaneTable, arc: Arc, q: u16) -> Result<(
     Ok(())
 }
 
-// adds the pair of the pieces x and y, where they are of different parts
-fn add_places_pair(
-    signs: &mut Signs,
-    table: &PlaneTable,
-    x: PiecePlace,
-    y: PiecePlace,
-    q: u32,
-) -> Result<(), OutOfMemory>
-    requires x { Has table.now.of x.part × (x.piece < pieces_of table.now x.part) }
-    requires y { Has table.now.of y.part × (y.piece < pieces_of table.now y.part) }
-    requires slot { MOST_PIECES * place table.now.pieces x.part x.piece + place table.now.pieces y.part y.piece ≡ q }
-    requires pair { q < SLOTS }
-    requires told { AreToldBelow table.now signs.old q }
-    ensures { OnOk result (AreToldBelow table.now signs.new (q + 1)) }
-{
-    let _set = table.set();
-    if x.part == y.part {
-        return Ok(());
-    }
-    let arc = Arc {
-        a: x.part,
-        i: x.piece,
-        b: y.part,
-        j: y.piece,
-    };
-    add_pair(signs, table, arc, q as u16)
-}
-
-// adds the pair of the number q, if there is one
+// adds the pair of the number q, if there is one: that of two pieces of different parts
 fn add_slot(
     signs: &mut Signs,
     table: &PlaneTable,
@@ -131,7 +102,17 @@ fn add_slot(
     if p >= places.len() || r >= places.len() {
         return Ok(());
     }
-    add_places_pair(signs, table, places[p], places[r], q)
+    let (x, y) = (places[p], places[r]);
+    if x.part == y.part {
+        return Ok(());
+    }
+    let arc = Arc {
+        a: x.part,
+        i: x.piece,
+        b: y.part,
+        j: y.piece,
+    };
+    add_pair(signs, table, arc, q as u16)
 }
 
 /// The signs of the planes of a table, all Zero, with its ordered pairs of pieces by their slots, and for each plane
