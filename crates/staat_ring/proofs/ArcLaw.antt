@@ -99,23 +99,16 @@ count_by-map p g f (v ∷ xs) h =
 
 -- ---- signs and facets
 
-true_of : (b : Bool) → T b → b ≡ true
-true_of true h = refl
-true_of false h = absurd h
-
-to_test : (z : ℤ) → pos 0 <ℤ z → int_lt (pos 0) z ≡ true
-to_test z h = true_of (int_lt (pos 0) z) h.lt
-
 from_test : (z : ℤ) → int_lt (pos 0) z ≡ true → pos 0 <ℤ z
 from_test z e = record { lt = subst T (sym e) tt }
 
 sign_tells : (z : ℤ) (turned : Bool) → is_positive (sign z) turned ≡ int_lt (pos 0) (cond turned (neg_ℤ z) z)
 sign_tells (pos zero) false = refl
 sign_tells (pos zero) true = refl
-sign_tells (pos (suc n)) false = sym (to_test (pos (suc n)) (omega (arith, ints)))
+sign_tells (pos (suc n)) false = grind (arith, ints)
 sign_tells (pos (suc n)) true = refl
 sign_tells (negsuc n) false = refl
-sign_tells (negsuc n) true = sym (to_test (pos (suc n)) (omega (arith, ints)))
+sign_tells (negsuc n) true = grind (arith, ints)
 
 facet_dot : (turned : Bool) (n v : V3) → dot (facet_by turned n) v ≡ cond turned (neg_ℤ (dot n v)) (dot n v)
 facet_dot false n v = refl
@@ -181,7 +174,7 @@ module _ (parts : List Part) (t : Table) (s : Signed) (linked : List ℕ) (v : V
     ahead_of_full le n c = from_test (dot n v) (all_counted (λ n. int_lt (pos 0) (dot n v)) facets (let e = count in omega (arith, e, le)) n c)
 
     full_of_ahead : ((n : V3) → Contains facets n → pos 0 <ℤ dot n v) → positives q s.sides ≡ length facets
-    full_of_ahead all = count ∙ counted_all (λ n. int_lt (pos 0) (dot n v)) facets (λ n c. to_test (dot n v) (all n c))
+    full_of_ahead all = count ∙ counted_all (λ n. int_lt (pos 0) (dot n v)) facets (λ n c. let h = all n c in grind (arith, ints, h))
 
     pub full_says : (length facets ≤ positives q s.sides) ↔ All (λ n. pos 0 <ℤ dot n v) facets
     full_says = (

@@ -2,11 +2,9 @@
 ghost use Rattle.std.specs.Prelude.{
   ◌≡◌,
   ℕ,
-  ◌+◌,
   ◌<◌,
   [],
   IfOk,
-  OnOk,
   false,
   length,
   slice_index_or,
@@ -33,31 +31,16 @@ fn all_true(alloc: Global, count: u32) -> Result<Vec<bool>, OutOfMemory>
     Ok(flags)
 }
 
-// makes and links the circle of the plane `c`
-fn link_next(
-    alloc: Global,
-    table: &PlaneTable,
-    arrays: &mut RingArrays,
-    c: u32,
-) -> Result<(), OutOfMemory>
-    requires plane { c < length table.now.planes }
-    requires below { AreLinkedBelow table.now.planes (length table.now.planes) c arrays.old }
-    ensures { OnOk result (AreLinkedBelow table.now.planes (length table.now.planes) (c + 1) arrays.new) }
-{
-    let planes = table.len();
-    let stops = circle_of(alloc, table, c)?;
-    let nodes = nodes_of(alloc, planes, c, stops.as_slice())?;
-    arrays.link_circle(planes, c, nodes.as_slice(), stops.as_slice());
-    Ok(())
-}
-
-// the arrays of all circles
+// the circles of all planes, made and linked one after another
 fn linked_arrays(alloc: Global, table: &PlaneTable) -> Result<RingArrays, OutOfMemory>
     ensures { IfOk result (AreLinkedBelow table.now.planes (length table.now.planes) (length table.now.planes)) }
 {
-    let mut arrays = RingArrays::alone(alloc, table.len())?;
-    for c in 0..table.len() {
-        link_next(alloc, table, &mut arrays, c)?;
+    let planes = table.len();
+    let mut arrays = RingArrays::alone(alloc, planes)?;
+    for c in 0..planes {
+        let stops = circle_of(alloc, table, c)?;
+        let nodes = nodes_of(alloc, planes, c, stops.as_slice())?;
+        arrays.link_circle(planes, c, nodes.as_slice(), stops.as_slice());
     }
     Ok(arrays)
 }
