@@ -1,4 +1,4 @@
--- Pairs of pieces with their facets, and which piece of a pair meets the other along a direction.
+-- Pairs of pieces with their facets.
 use Rattle.std.specs.Prelude.{◌≢◌, ◌<◌, List, All, ◌++◌, map}
 use Rattle.staat_vec.specs.declared.vector.V3.{V3}
 use Rattle.staat_vec.specs.declared.vector.TheConstants.{NORMAL}
@@ -9,10 +9,7 @@ use Rattle.staat_model.specs.declared.assembly.Part.{Part}
 use Rattle.staat_model.specs.declared.certificate.Arc.{Arc}
 use Rattle.staat_model.specs.Assemblies.{HoldsAt, IsPart}
 use Rattle.staat_model.specs.Facets.{IsFacet}
-use Rattle.staat_model.specs.Removal.{MeetsAlong}
 use Rattle.staat_pairs.specs.Tables.{back}
-use Rattle.staat_core.specs.declared.heading.Heading.{Heading}
-use Rattle.staat_core.specs.declared.heading.Heading.TheVariants.{Ahead, Back, Neither}
 
 -- the parts are below the number of bits
 pub record IsSmallPair (pair : Arc) : Type 0 where
@@ -32,9 +29,3 @@ pub record AreFacetsOf (parts : List Part) (pair : Arc) (facets : List V3) : Typ
 -- the pairs in both orders
 abbrev pub both_ways : List Arc → List Arc
 both_ways pairs = pairs ++ map back pairs
-
--- the piece of the pair that leads meets the other along d
-abbrev pub IsHeading : List Part → V3 → Arc → Heading → Type 0
-IsHeading parts d pair Ahead = MeetsAlong parts d pair
-IsHeading parts d pair Back = MeetsAlong parts d (back pair)
-IsHeading parts d pair Neither = Unit {0}

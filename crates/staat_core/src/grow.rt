@@ -8,11 +8,11 @@ ghost use Rattle.staat_model.specs.Sets.{IsNonempty};
 ghost use Rattle.staat_graph.specs.Graphs.{AreReversed};
 ghost use Rattle.staat_core.specs.Cores.{AreLeading, HasGrown, IsCore, core_pairs};
 ghost use Rattle.staat_core.specs.Moves.{HoldsMoves};
-ghost use Rattle.staat_core.specs.Sources.{IsHeading, IsSmallPair, both_ways};
+ghost use Rattle.staat_core.specs.Sources.{IsSmallPair, both_ways};
 
 use crate::cores::Core;
-use crate::heading::{Heading, heading_of};
 use crate::joins::{Joins, Moving};
+use crate::meeting::meets_along;
 use crate::source::PairSource;
 use staat_model::{Arc, PartSet};
 use staat_vec::{DIRECTION, V3, neg};
@@ -27,38 +27,38 @@ pub(crate) struct Wanted {
     pub planes: u32,
 }
 
-// the graph with the arc of a pair, if it has a heading
-fn with_pair(joins: Joins, pair: Arc, heading: Heading) -> Joins
+// Adds the arc of a pair along d, whose opposite is e, if one of its pieces meets the other there. Of an arc that is
+// there already no facets are looked at.
+fn put_pair<S: PairSource>(joins: &mut Joins, source: &S, pair: Arc, d: V3, e: V3)
+    requires pair { Contains (S.pairs source.now) pair }
     requires small { IsSmallPair pair }
-    requires reversed { AreReversed joins.ahead.rows joins.back.rows }
-    ensures reversed { AreReversed result.ahead.rows result.back.rows }
-    ensures leads { (parts : List PartValue) (pairs : List ArcValue) (d : Vector) → IsHeading parts d pair heading
-        → Contains pairs pair → AreLeading parts pairs d joins.ahead.rows
-        → AreLeading parts pairs d result.ahead.rows }
+    requires d { IsWithin DIRECTION d }
+    requires e { IsWithin DIRECTION e }
+    requires opposite { e ≡ negative d }
+    requires reversed { AreReversed joins.old.ahead.rows joins.old.back.rows }
+    ensures reversed { AreReversed joins.new.ahead.rows joins.new.back.rows }
+    ensures leads { (parts : List PartValue) (pairs : List ArcValue) → S.speaks source.now parts
+        → Contains pairs pair → AreLeading parts pairs d joins.old.ahead.rows
+        → AreLeading parts pairs d joins.new.ahead.rows }
 {
-    match heading {
-        Heading::Ahead => joins.with(pair.a, pair.b),
-        Heading::Back => joins.with(pair.b, pair.a),
-        Heading::Neither => joins,
+    if !joins.has(pair.a, pair.b) && meets_along(source, pair, d) {
+        joins.put(pair.a, pair.b);
+    } else if !joins.has(pair.b, pair.a) && meets_along(source, pair, e) {
+        joins.put(pair.b, pair.a);
     }
 }
 
-// whether a pair with this heading leads from s to r
-fn is_link(pair: Arc, heading: Heading, s: PartSet, r: PartSet) -> bool
-    requires { IsSmallPair pair }
+// whether a pair leads from s to r along d, whose opposite is e
+fn is_link<S: PairSource>(source: &S, pair: Arc, d: V3, e: V3, s: PartSet, r: PartSet) -> bool
+    requires pair { Contains (S.pairs source.now) pair }
+    requires small { IsSmallPair pair }
+    requires d { IsWithin DIRECTION d }
+    requires e { IsWithin DIRECTION e }
 {
-    match heading {
-        Heading::Ahead => s.has(pair.a) && r.has(pair.b),
-        Heading::Back => s.has(pair.b) && r.has(pair.a),
-        Heading::Neither => false,
+    if s.has(pair.a) && r.has(pair.b) {
+        return meets_along(source, pair, d);
     }
-}
-
-// whether a pair leads from s to r or from r to s, if it has a heading
-fn may_link(pair: Arc, s: PartSet, r: PartSet) -> bool
-    requires { IsSmallPair pair }
-{
-    s.has(pair.a) && r.has(pair.b) || s.has(pair.b) && r.has(pair.a)
+    s.has(pair.b) && r.has(pair.a) && meets_along(source, pair, e)
 }
 
 impl Core {
@@ -75,7 +75,7 @@ impl Core {
         let e = neg(d);
         let mut joins = Joins::none();
         for pair in self.pairs() {
-            joins = with_pair(joins, *pair, heading_of(source, *pair, d, e));
+            put_pair(&mut joins, source, *pair, d, e);
         }
         joins
     }
@@ -104,24 +104,6 @@ impl Core {
         }
     }
 
-    // whether a pair leads from s to r along d, whose opposite is e
-    fn is_link_at<S: PairSource>(
-        source: &S,
-        pair: Arc,
-        d: V3,
-        e: V3,
-        s: PartSet,
-        r: PartSet,
-    ) -> bool
-        requires pair { Contains (S.pairs source.now) pair }
-        requires small { IsSmallPair pair }
-        requires d { IsWithin DIRECTION d }
-        requires e { IsWithin DIRECTION e }
-        requires opposite { e ≡ negative d }
-    {
-        may_link(pair, s, r) && is_link(pair, heading_of(source, pair, d, e), s, r)
-    }
-
     // A pair that leads from s to r along d: of all of them the first for which the fewest planes are wanting.
     fn wanted<S: PairSource>(&self, source: &S, d: V3, s: PartSet, r: PartSet) -> Option<Arc>
         requires core { IsCore (S.pairs source.now) (S.speaks source.now) self.now }
@@ -131,7 +113,7 @@ impl Core {
         let e = neg(d);
         let mut best = None;
         for pair in source.pairs() {
-            if Self::is_link_at(source, *pair, d, e, s, r) {
+            if is_link(source, *pair, d, e, s, r) {
                 let found = self.better(source, best, *pair);
                 if found.planes == 0 {
                     return Some(found.pair);
@@ -189,7 +171,7 @@ impl Core {
             if !self.take(source, pair) {
                 return false;
             }
-            joins = with_pair(joins, pair, heading_of(source, pair, d, e));
+            put_pair(&mut joins, source, pair, d, e);
         }
         false
     }

@@ -25,15 +25,13 @@ pub(crate) struct Joins {
     pub back: Graph,
 }
 
-// the arc from a to b besides those of the graph
-fn with_arc(graph: Graph, a: u32, b: u32) -> Graph
+// adds the arc from a to b to a graph
+fn put_arc(graph: &mut Graph, a: u32, b: u32)
     requires a { a < MOST_PARTS }
     requires b { b < MOST_PARTS }
-    ensures { (x y : ℕ) → HasArc result.rows x y ↔ (HasArc graph.rows x y ⊎ ((x ≡ a) × (y ≡ b))) }
+    ensures { (x y : ℕ) → HasArc graph.new.rows x y ↔ (HasArc graph.old.rows x y ⊎ ((x ≡ a) × (y ≡ b))) }
 {
-    let mut more = graph;
-    more.rows[a as usize] = graph.arcs_from(a).union(PartSet::single(b)).bits();
-    more
+    graph.rows[a as usize] = graph.arcs_from(a).union(PartSet::single(b)).bits();
 }
 
 impl Joins {
@@ -49,19 +47,25 @@ impl Joins {
         }
     }
 
-    /// The arc from `a` to `b` besides.
-    pub(crate) fn with(&self, a: u32, b: u32) -> Joins
+    /// Whether the arc from `a` to `b` is there.
+    pub(crate) fn has(&self, a: u32, b: u32) -> bool
         requires a { a < MOST_PARTS }
         requires b { b < MOST_PARTS }
-        requires reversed { AreReversed self.now.ahead.rows self.now.back.rows }
-        ensures ahead { (x y : ℕ) → HasArc result.ahead.rows x y
-            → HasArc self.now.ahead.rows x y ⊎ ((x ≡ a) × (y ≡ b)) }
-        ensures reversed { AreReversed result.ahead.rows result.back.rows }
     {
-        Joins {
-            ahead: with_arc(self.ahead, a, b),
-            back: with_arc(self.back, b, a),
-        }
+        self.ahead.arcs_from(a).has(b)
+    }
+
+    /// Adds the arc from `a` to `b`.
+    pub(crate) fn put(&mut self, a: u32, b: u32)
+        requires a { a < MOST_PARTS }
+        requires b { b < MOST_PARTS }
+        requires reversed { AreReversed self.old.ahead.rows self.old.back.rows }
+        ensures ahead { (x y : ℕ) → HasArc self.new.ahead.rows x y
+            → HasArc self.old.ahead.rows x y ⊎ ((x ≡ a) × (y ≡ b)) }
+        ensures reversed { AreReversed self.new.ahead.rows self.new.back.rows }
+    {
+        put_arc(&mut self.ahead, a, b);
+        put_arc(&mut self.back, b, a);
     }
 
     // a side of w from which no arc leads to the rest

@@ -14,11 +14,11 @@ listed pairs some items k d e all lt = All-get_or (Contains pairs) items k d lt 
 pub loop-pair-init : goal.loop-pair-init
 loop-pair-init g c = record { reversed = c.none-joins.ensures.reversed; leads = λ parts speaks a b h. absurd (c.none-joins.ensures.ahead a b h) }
 
-pub heading_of-requires-clause-pair : goal.heading_of-requires-clause-pair
-heading_of-requires-clause-pair g c = listed (g.S.PairSource.pairs c.args.source.now) (core_pairs c.args.self.now) c.pairs-pair-items.result.now c.loop-pair.pair-index nowhere c.pairs-pair-items.ensures c.requires.core.among c.loop-pair-test.true
+pub put_pair-requires-clause-pair : goal.put_pair-requires-clause-pair
+put_pair-requires-clause-pair g c = listed (g.S.PairSource.pairs c.args.source.now) (core_pairs c.args.self.now) c.pairs-pair-items.result.now c.loop-pair.pair-index nowhere c.pairs-pair-items.ensures c.requires.core.among c.loop-pair-test.true
 
-pub with_pair-joins-requires-clause-small : goal.with_pair-joins-requires-clause-small
-with_pair-joins-requires-clause-small g c =
+pub put_pair-requires-clause-small : goal.put_pair-requires-clause-small
+put_pair-requires-clause-small g c =
     let items = c.pairs-pair-items.result.now in
     let pair : Arc = get_or items c.loop-pair.pair-index nowhere in
     let all = listed (g.S.PairSource.pairs c.args.source.now) (core_pairs c.args.self.now) items c.loop-pair.pair-index nowhere c.pairs-pair-items.ensures c.requires.core.among c.loop-pair-test.true in
@@ -29,6 +29,6 @@ loop-pair-preserved g c =
     let items = c.pairs-pair-items.result.now in
     let pair : Arc = get_or items c.loop-pair.pair-index nowhere in
     let in_core = subst (λ xs. Contains xs pair) c.pairs-pair-items.ensures (Contains-get_or items c.loop-pair.pair-index nowhere c.loop-pair-test.true) in record {
-      reversed = c.with_pair-joins.ensures.reversed;
-      leads = λ parts speaks. c.with_pair-joins.ensures.leads parts (core_pairs c.args.self.now) c.args.d (c.heading_of.ensures parts speaks) in_core (c.loop-pair.invariant.leads parts speaks);
+      reversed = c.put_pair.ensures.reversed;
+      leads = λ parts speaks. c.put_pair.ensures.leads parts (core_pairs c.args.self.now) speaks in_core (c.loop-pair.invariant.leads parts speaks);
     }

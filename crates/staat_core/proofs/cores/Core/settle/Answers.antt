@@ -17,8 +17,8 @@ returns-in_default-clause-held g c told parts speaks =
 pub returns-then-not-take-clause-grows : goal.returns-then-not-take-clause-grows
 returns-then-not-take-clause-grows g c = grows_further c.args.self.now c.loop-k.self c.take.new.self c.loop-k.invariant.grows c.take.ensures.grows
 
-pub with_pair-joins-requires-clause-small : goal.with_pair-joins-requires-clause-small
-with_pair-joins-requires-clause-small g c =
+pub put_pair-requires-clause-small : goal.put_pair-requires-clause-small
+put_pair-requires-clause-small g c =
     All-contains IsSmallPair c.pairs-pairs.result.now c.in-Some-wanted.pair c.pairs-pairs.ensures.small (subst (λ xs. Contains xs c.in-Some-wanted.pair) (sym c.pairs-pairs.ensures.is) c.in-Some-wanted.ensures)
 
 pub loop-k-preserved : goal.loop-k-preserved
@@ -26,8 +26,8 @@ loop-k-preserved g c =
     let told : c.take.result ≡ true = (let e = c.if-not-take.false in cc) in record {
       core = c.take.ensures.core;
       grows = grows_further c.args.self.now c.loop-k.self c.take.new.self c.loop-k.invariant.grows c.take.ensures.grows;
-      reversed = c.with_pair-joins.ensures.reversed;
+      reversed = c.put_pair.ensures.reversed;
       leads = λ parts speaks.
-          c.with_pair-joins.ensures.leads parts (core_pairs c.take.new.self) c.args.d (c.heading_of.ensures parts speaks) (c.take.ensures.listed told)
+          c.put_pair.ensures.leads parts (core_pairs c.take.new.self) speaks (c.take.ensures.listed told)
           (leading_kept parts (core_pairs c.loop-k.self) (core_pairs c.take.new.self) c.args.d c.loop-k.joins.ahead.rows c.take.ensures.grows.pairs (c.loop-k.invariant.leads parts speaks));
     }
