@@ -48,17 +48,21 @@ fn put_pair<S: PairSource>(joins: &mut Joins, source: &S, pair: Arc, d: V3, e: V
     }
 }
 
-// whether a pair leads from s to r along d, whose opposite is e
+// whether a pair has one part in s and the other in r
+fn may_link(pair: Arc, s: PartSet, r: PartSet) -> bool
+    requires { IsSmallPair pair }
+{
+    s.has(pair.a) && r.has(pair.b) || s.has(pair.b) && r.has(pair.a)
+}
+
+// whether a pair leads from s to r along d, whose opposite is e; s and r have no part in common
 fn is_link<S: PairSource>(source: &S, pair: Arc, d: V3, e: V3, s: PartSet, r: PartSet) -> bool
     requires pair { Contains (S.pairs source.now) pair }
     requires small { IsSmallPair pair }
     requires d { IsWithin DIRECTION d }
     requires e { IsWithin DIRECTION e }
 {
-    if s.has(pair.a) && r.has(pair.b) {
-        return meets_along(source, pair, d);
-    }
-    s.has(pair.b) && r.has(pair.a) && meets_along(source, pair, e)
+    may_link(pair, s, r) && meets_along(source, pair, if s.has(pair.a) { d } else { e })
 }
 
 impl Core {

@@ -9,7 +9,7 @@ ghost use Rattle.staat_linear.specs.Holding.{AreHeld, IsHeld, IsLeastFree};
 ghost use Rattle.staat_linear.specs.Orders.{HasNoLeave, IsLeave, IsLocked};
 
 use crate::order::Leave;
-use staat_core::{Moving, SetCore};
+use staat_core::{Moving, SetCore, served_on_axis};
 use staat_graph::Graph;
 use staat_limits::MOST_PARTS;
 use staat_model::PartSet;
@@ -103,6 +103,12 @@ pub fn linear_step(table: &PlaneTable, w: PartSet) -> Option<Leave>
     let mut taking = Taking {
         core: SetCore::none(),
     };
+    if let Some(served) = served_on_axis(table, w, &mut taking) {
+        return Some(Leave {
+            part: served.found,
+            d: served.d,
+        });
+    }
     match first_vertex(table, w, &mut taking) {
         None => None,
         Some(served) => Some(Leave {

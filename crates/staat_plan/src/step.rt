@@ -12,6 +12,7 @@ ghost use Rattle.staat_plan.specs.Planning.{IsSetStep};
 
 use crate::marked::Marked;
 use crate::side_trial::SideTrial;
+use staat_core::served_on_axis;
 use staat_model::{PartSet, Step};
 use staat_planes::{PlanePairs, PlaneTable, Search, Trial, first_few, first_passing, first_vertex};
 use staat_vec::DIRECTION;
@@ -79,8 +80,17 @@ pub(crate) fn early_step(table: &PlaneTable, w: PartSet) -> Option<Option<Marked
     requires two { 2 ≤ set.len w }
     ensures { IfSome result (IsSetStep false table.now w) }
 {
-    let mut pairs = PlanePairs::of(table, w);
     let mut trial = SideTrial::new();
+    if let Some(served) = served_on_axis(table, w, &mut trial) {
+        return Some(Some(Marked {
+            step: Step {
+                moved: served.found,
+                d: served.d,
+            },
+            mark: None,
+        }));
+    }
+    let mut pairs = PlanePairs::of(table, w);
     match first_few(&mut pairs, table, w, &mut trial, FEW_PAIRS) {
         Search::Undecided => late_step(table, w),
         Search::Nothing => Some(None),
