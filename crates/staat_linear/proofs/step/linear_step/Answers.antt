@@ -24,5 +24,15 @@ returns-in-Some-clause-locked c parts made =
     let some = some_planes parts c.args.w in
     (λ none. absurd cc, λ locked. absurd (leave_unlocks parts c.args.w _ (served_is_leave parts c.args.w some.0 c.in-Some.served some.1 (c.in-Some.ensures.first parts some.0 made tt some.1)) locked))
 
-pub first_vertex-requires-clause-fits : goal.first_vertex-requires-clause-fits
-first_vertex-requires-clause-fits c = (two_some c.args.w c.requires.two, c.none.ensures c.args.table.now)
+pub served_on_axis-requires-clause-fits : goal.served_on_axis-requires-clause-fits
+served_on_axis-requires-clause-fits c = (two_some c.args.w c.requires.two, c.none.ensures c.args.table.now)
+
+pub returns-in-Some-first_vertex-clause-step : goal.returns-in-Some-first_vertex-clause-step
+returns-in-Some-first_vertex-clause-step c parts made =
+    let some = some_planes parts c.args.w in
+    served_is_leave parts c.args.w some.0 c.in-Some-first_vertex.served some.1 (c.in-Some-first_vertex.ensures.first parts some.0 made tt some.1)
+
+pub returns-in-Some-first_vertex-clause-locked : goal.returns-in-Some-first_vertex-clause-locked
+returns-in-Some-first_vertex-clause-locked c parts made =
+    let some = some_planes parts c.args.w in
+    (λ none. absurd cc, λ locked. absurd (leave_unlocks parts c.args.w _ (served_is_leave parts c.args.w some.0 c.in-Some-first_vertex.served some.1 (c.in-Some-first_vertex.ensures.first parts some.0 made tt some.1)) locked))
