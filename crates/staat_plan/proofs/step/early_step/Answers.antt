@@ -10,8 +10,8 @@ use Rattle.staat_plan.proofs.OutcomeLemmas.{some_member}
 use Rattle.staat_plan.proofs.StepLemmas.{no_step, step_is}
 use Rattle.staat_plan.proofs.step.early_step.Goals as goal
 
-pub first_few-requires-clause-fits : goal.first_few-requires-clause-fits
-first_few-requires-clause-fits c = (some_member c.args.w (let two : 2 ≤ set.len c.args.w = c.requires.two in omega (arith, two)), c.new-trial.ensures c.args.table.now)
+pub served_on_axis-requires-clause-fits : goal.served_on_axis-requires-clause-fits
+served_on_axis-requires-clause-fits c = (some_member c.args.w (let two : 2 ≤ set.len c.args.w = c.requires.two in omega (arith, two)), c.new-trial.ensures c.args.table.now)
 
 pub returns-in-Nothing : goal.returns-in-Nothing
 returns-in-Nothing c = record {
@@ -29,4 +29,12 @@ returns-in-First c = record {
       let some = some_planes parts c.args.w in
       step_is parts c.args.w some.0 some.1 c.in-First.served
       (subst (λ vs. IsFirstServed (Serves parts c.args.w) (IsMovedSide parts c.args.w) vs c.in-First.served) (c.of-pairs.ensures.vertices parts some.0 made some.1) (c.in-First.ensures.first parts made tt));
+}
+
+pub returns-in-Some : goal.returns-in-Some
+returns-in-Some c = record {
+  size = c.in-Some.ensures.among.size;
+  step = λ parts made.
+      let some = some_planes parts c.args.w in
+      step_is parts c.args.w some.0 some.1 c.in-Some.served (c.in-Some.ensures.first parts some.0 made tt some.1);
 }
