@@ -9,11 +9,9 @@ use Rattle.staat_model.specs.declared.set.PartSet.{PartSet}
 use Rattle.staat_model.specs.Planes.{ArePlanes, axes, crossings, vertices}
 use Rattle.staat_planes.specs.declared.search.Served.{Served}
 use Rattle.staat_planes.specs.VertexSearch.{IsFirstServed}
+use Rattle.staat_core.specs.LastAxis.{last_axis}
 
-abbrev pub last_axis : V3
-last_axis = vector (pos 0) (pos 0) (pos 1)
-
--- it is the crossing of the first two coordinate planes
+-- the last axis is the crossing of the first two coordinate planes
 axis_is : primitive (cross (vector (pos 1) (pos 0) (pos 0)) (vector (pos 0) (pos 1) (pos 0))) ≡ last_axis
 unfolding primitive content
 axis_is = refl
