@@ -6,7 +6,7 @@ ghost use Rattle.staat_model.specs.declared.assembly.Part.{Part as PartValue};
 ghost use Rattle.staat_model.specs.Planes.{ArePlanes, vertices};
 ghost use Rattle.staat_model.specs.Sets.{IsSubset};
 ghost use Rattle.staat_pairs.specs.Tables.{WasMadeFrom};
-ghost use Rattle.staat_planes.specs.VertexSearch.{IsFirstServed, IsServedAmong};
+ghost use Rattle.staat_planes.specs.VertexSearch.{IsDirectionWith, IsFirstServed};
 ghost use Rattle.staat_core.specs.LastAxis.{last_axis};
 
 use staat_model::PartSet;
@@ -26,7 +26,7 @@ pub fn served_on_axis<T: Trial>(
     requires within { IsSubset w table.now.of }
     ensures fits { T.fits trial.new table.now w }
     ensures knows { (parts : List PartValue) → T.knows trial.old parts → T.knows trial.new parts }
-    ensures among { IfSome result (IsServedAmong (T.among w)) }
+    ensures among { IfSome result (IsDirectionWith (T.among w)) }
     ensures first { (parts : List PartValue) (planes : List Vector) → WasMadeFrom parts table.now
         → T.knows trial.old parts → ArePlanes parts w planes
         → IfSome result (IsFirstServed (T.serves parts w) (T.finds parts w) (vertices planes)) }
