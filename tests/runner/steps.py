@@ -100,6 +100,7 @@ STEPS = (
     Step("guards", _python("tools/guards.py", "--check"), needs_program=False),
     Step("manual", _python("tools/manual.py", "--check"), needs_program=False),
     Step("layers", _python("tools/layers.py", "--check"), needs_program=False),
+    Step("copies", _python("tools/copies.py", "--check"), needs_program=False),
     Step("links", _python("tests/runner/links.py"), needs_program=False),
     Step(
         "models",

@@ -7,9 +7,9 @@ use Rattle.staat_model.specs.declared.certificate.Arc.{Arc}
 use Rattle.staat_model.specs.Assemblies.{HoldsAt, piece_at}
 use Rattle.staat_model.specs.Meeting.{Meets, Overlap}
 use Rattle.staat_model.specs.Removal.{MeetsAlong}
-use Rattle.staat_model.proofs.Places.{same_some}
 use Rattle.staat_motion.specs.Motions.{Motion}
 use Rattle.staat_asm.specs.Overlaps.{IsAtRest, IsOverlapWithPart}
+use Rattle.staat_vec.proofs.Options.{some_injective}
 
 pub overlap_meets : (parts : List Part) (boxes : Motion) (arc : Arc) → IsAtRest parts boxes → HoldsAt parts arc Overlap → MeetsAlong parts boxes.d arc
 overlap_meets parts boxes arc rest at = record {
@@ -31,7 +31,7 @@ pub overlap_at : (parts : List Part) (arc : Arc) (p q : List V3) (r : Bool) → 
 overlap_at parts arc p q r p_is q_is told = (
   (λ h. record { p = p; q = q; p_is = p_is; q_is = q_is; holds = told.0 h }),
   (λ at.
-      let p_same = same_some at.p p (sym at.p_is ∙ p_is) in
-      let q_same = same_some at.q q (sym at.q_is ∙ q_is) in
+      let p_same = some_injective at.p p (sym at.p_is ∙ p_is) in
+      let q_same = some_injective at.q q (sym at.q_is ∙ q_is) in
       told.1 (subst (λ u. Overlap u q) p_same (subst (λ u. Overlap at.p u) q_same at.holds))),
 )

@@ -1,5 +1,5 @@
 -- A piece that is moved by a vector is a piece, and how its points are moved one after another.
-use Rattle.std.proofs.Common.{◌≡◌, ◌⊎◌, ◌↔◌, ⊎_elim, ℕ, false, zero, suc, ◌+◌, ◌<◌, ◌≤◌, arith, refl, sym, ap, subst, ◌∙◌, ℤ, ◌+ℤ◌, ◌<ℤ◌, List, [], ◌∷◌, length, get_or, All, Contains}
+use Rattle.std.proofs.Common.{◌≡◌, ◌↔◌, ⊎_elim, ℕ, false, zero, suc, ◌+◌, ◌<◌, ◌≤◌, arith, refl, sym, ap, subst, ◌∙◌, ℤ, ◌+ℤ◌, ◌<ℤ◌, List, [], ◌∷◌, length, get_or, All, Contains}
 use Rattle.std.specs.Prelude.{IsTrue, slice_set}
 use Rattle.std.specs.Cmp.{int_cmp_is, int_ranks}
 use Rattle.std.specs.List.{AllByRecursion}
@@ -14,16 +14,14 @@ use Rattle.std.proofs.lemmas.Option.{slice_get-get_or}
 use Rattle.staat_vec.specs.declared.vector.V3.{V3}
 use Rattle.staat_vec.specs.declared.vector.TheConstants.{POINT}
 use Rattle.staat_vec.specs.Vectors.{IsWithin, det, minus, origin, plus, vector_cmp}
-use Rattle.staat_vec.proofs.Unique.{Contains-cases, Contains-front, Contains-later, Contains-nothing}
-use Rattle.staat_vec.proofs.VecRing.{minusE, originE, plusE, ring3, values, v0, v1, v2}
+use Rattle.staat_vec.proofs.Unique.{Contains-cases, Contains-front, Contains-later, Contains-nothing, from_place}
+use Rattle.staat_vec.proofs.VecRing.{minusE, plusE, ring3, values, v0, v1, v2}
 use Rattle.staat_model.specs.Pieces.{IsPiece, IsSolid}
-use Rattle.staat_model.proofs.Places.{Contains-from_place}
 use Rattle.staat_asm.specs.Placing.{IsPlaced, IsPlacedFar, shifted}
+use Rattle.staat_vec.proofs.VectorLaws.{plus_origin}
+use Rattle.staat_vec.proofs.Naturals.{le_or_lt}
 
 -- ---- points
-
-pub plus-origin : (p : V3) → plus p origin ≡ p
-plus-origin p = ring3 (values (p ∷ []) []) (plusE v0 originE) v0 (tt, tt, tt)
 
 minus-shifted : (at a b : V3) → minus (plus b at) (plus a at) ≡ minus b a
 minus-shifted at a b = ring3 (values (at ∷ a ∷ b ∷ []) []) (minusE (plusE v2 v0) (plusE v1 v0)) (minusE v2 v1) (tt, tt, tt)
@@ -81,7 +79,7 @@ shifted_piece at ps is within = record {
 
 shifted-origin : (ps : List V3) → shifted origin ps ≡ ps
 shifted-origin [] = refl
-shifted-origin (p ∷ ps) = λ i. plus-origin p i ∷ shifted-origin ps i
+shifted-origin (p ∷ ps) = λ i. plus_origin p i ∷ shifted-origin ps i
 
 pub placed_there : (at : V3) (ps : List V3) → IsPiece ps → at ≡ origin → IsPlaced at ps ps
 placed_there at ps is e = let same : shifted at ps ≡ ps = ap (λ v. shifted v ps) e ∙ shifted-origin ps in record { is = sym same; within = subst (All (IsWithin POINT)) (sym same) is.within }
@@ -112,7 +110,7 @@ length-half at (suc k) (p ∷ ps) = ap suc (length-half at k ps)
 pub half_within : (at : V3) (k : ℕ) (ps now : List V3) (d : V3) → All (IsWithin POINT) ps → now ≡ half_shifted at k ps → k < length now → IsWithin POINT (get_or now k d)
 half_within at k ps now d all e lt =
     let below : k < length ps = omega (arith, lt, ap length e, length-half at k ps) in
-    subst (IsWithin POINT) (sym (ap (λ l. get_or l k d) e ∙ half_at at k ps d)) (All-contains (IsWithin POINT) ps (get_or ps k d) all (Contains-from_place ps k (get_or ps k d) (slice_get-get_or ps k d below)))
+    subst (IsWithin POINT) (sym (ap (λ l. get_or l k d) e ∙ half_at at k ps d)) (All-contains (IsWithin POINT) ps (get_or ps k d) all (from_place ps k (get_or ps k d) (slice_get-get_or ps k d below)))
 
 pub half_next : (at : V3) (k : ℕ) (ps now : List V3) (d v : V3) → now ≡ half_shifted at k ps → k < length now → v ≡ plus (get_or now k d) at → slice_set now k v ≡ half_shifted at (k + 1) ps
 half_next at k ps now d v e lt is =
@@ -132,11 +130,8 @@ half_end at k ps now e le = e ∙ half_whole at k ps (omega (arith, le, ap lengt
 
 -- ---- no point too far out
 
-ways : (a b : ℕ) → (a ≤ b) ⊎ (b < a)
-ways a b = grind arith
-
 at_most : (a b : ℕ) → ((a ≤ b → ⊥) → ⊥) → a ≤ b
-at_most a b f = ⊎_elim {C = a ≤ b} (λ le. le) (λ gt. absurd (f (λ le. omega (arith, le, gt)))) (ways a b)
+at_most a b f = ⊎_elim {C = a ≤ b} (λ le. le) (λ gt. absurd (f (λ le. omega (arith, le, gt)))) (le_or_lt a b)
 
 decided : (v : V3) → ((IsWithin POINT v → ⊥) → ⊥) → IsWithin POINT v
 decided v f = record { x = at_most _ _ (λ less. f (λ w. less w.x)); y = at_most _ _ (λ less. f (λ w. less w.y)); z = at_most _ _ (λ less. f (λ w. less w.z)) }

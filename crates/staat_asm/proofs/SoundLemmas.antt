@@ -9,7 +9,7 @@ use Rattle.staat_model.specs.declared.certificate.Arc.{Arc}
 use Rattle.staat_model.specs.Assemblies.{IsSound}
 use Rattle.staat_model.specs.Meeting.{Overlap, mix}
 use Rattle.staat_asm.specs.Overlaps.{IsOverlap}
-use Rattle.staat_asm.proofs.SearchLemmas.{split}
+use Rattle.staat_vec.proofs.Naturals.{trichotomy}
 
 pub still : (m : V3) → plus m (times 0 origin) ≡ m
 still m = ring3 (values (m ∷ []) []) (plusE v0 (timesE (num (pos 0)) originE)) v0 (tt, tt, tt)
@@ -29,4 +29,4 @@ sound_from parts none arc apart h =
     ⊎_elim (λ lt. none arc (lt, h))
     (λ r. ⊎_elim (λ e. absurd (apart e))
     (λ lt. none (record { a = arc.b; i = arc.j; b = arc.a; j = arc.i }) (lt, record { p = h.q; q = h.p; p_is = h.q_is; q_is = h.p_is; holds = mutual_overlap h.p h.q h.holds })) r)
-    (split arc.a arc.b)
+    (trichotomy arc.a arc.b)

@@ -19,8 +19,9 @@ use Rattle.staat_cells.specs.Compositions.{entry_of}
 use Rattle.staat_cells.specs.Packing.{incidence_cmp}
 use Rattle.staat_cells.specs.Skeletons.{AddsCellsOf, AreLowerCells, IsComposedAt}
 use Rattle.staat_cells.specs.Stages.{HaveSigns, IsFilledIncidence, IsIncidence}
-use Rattle.staat_cells.proofs.Composing.{append_nothing, composed_none, composed_same, composed_with}
+use Rattle.staat_cells.proofs.Composing.{composed_none, composed_same, composed_with}
 use Rattle.staat_cells.proofs.KindLists.{edge_signs, edges_listed, opens_listed}
+use Rattle.staat_vec.proofs.ListLaws.{append_nothing}
 
 -- the cells of the first incidences were added
 pub record HasAdded (kind : Kind) (from : ℕ) (incidences : List Incidence) (i : ℕ) (old new : List Cell) : Type 0 where

@@ -5,11 +5,10 @@ use Rattle.staat_vec.specs.declared.vector.V3.{V3}
 use Rattle.staat_vec.specs.declared.vector.Sign.{Sign}
 use Rattle.staat_vec.specs.declared.vector.Sign.TheVariants.{Neg, Zero, Pos}
 use Rattle.staat_vec.specs.Vectors.{dot, plus, times, sign}
-use Rattle.staat_vec.proofs.Ring.{at, ◌⊕◌, ◌⊗◌, ring}
-use Rattle.staat_vec.proofs.VecRing.{dotE, plusE, timesE, values, v0, v1, v2}
 use Rattle.staat_model.specs.Cells.{signs_of, IsBorder}
-use Rattle.staat_model.proofs.CellLemmas.{positive_sign, negative_sign}
 use Rattle.staat_cells.specs.Beside.{then_sign, beside}
+use Rattle.staat_vec.proofs.VectorLaws.{dot_along}
+use Rattle.staat_vec.proofs.Signs.{positive_sign, negative_sign}
 
 -- ---- far enough along v
 
@@ -29,9 +28,6 @@ lead : (p q : ℤ) (l : ℕ) → unsigned_abs q + 1 ≤ l → sign (pos l *ℤ p
 lead (pos zero) q l h = ap sign (no_lead q l)
 lead (pos (suc a)) q l h = positive_sign (pos l *ℤ pos (suc a) +ℤ q) (positive_lead a q l h)
 lead (negsuc a) q l h = negative_sign (pos l *ℤ negsuc a +ℤ q) (negative_lead a q l h)
-
-dot_along : (n v w : V3) (l : ℕ) → dot n (plus (times l v) w) ≡ pos l *ℤ dot n v +ℤ dot n w
-dot_along n v w l = ring (values (n ∷ v ∷ w ∷ []) (pos l ∷ [])) (dotE v0 (plusE (timesE (at 9) v1) v2)) (at 9 ⊗ dotE v0 v1 ⊕ dotE v0 v2) tt
 
 far : (planes : List V3) (v w : V3) → (k : ℕ) × ((l : ℕ) → k ≤ l → signs_of planes (plus (times l v) w) ≡ beside planes v w)
 far [] v w = (0, λ l le. refl)
@@ -66,7 +62,7 @@ pub border_from : (f g : V3 → Sign) (gs : List V3) → ((n : V3) → Contains 
 border_from f g [] h = tt
 border_from f g (n ∷ gs) h = (h n (0, omega arith, refl), border_from f g gs (λ m (k, lt, p). h m (suc k, omega arith, p)))
 
-then_border : (s t : Sign) → (s ≡ then_sign s t) ⊎ (s ≡ Zero)
+pub then_border : (s t : Sign) → (s ≡ then_sign s t) ⊎ (s ≡ Zero)
 then_border Neg t = inl refl
 then_border Zero t = inr refl
 then_border Pos t = inl refl

@@ -1,5 +1,5 @@
 -- Blocks of cones, as one cone or its parts are added.
-use Rattle.std.proofs.Common.{◌≡◌, ◌⊎◌, ◌↔◌, inl, inr, ⊎_elim, ℕ, zero, suc, ◌<◌, ◌≤◌, refl, sym, ap, subst}
+use Rattle.std.proofs.Common.{◌≡◌, ◌⊎◌, ◌↔◌, inl, inr, ⊎_elim, ℕ, ◌<◌, ◌≤◌, refl, sym, ap, subst}
 use Rattle.std.proofs.Common.{◌∙◌, arith, List, [], ◌∷◌, ◌++◌, length, get_or, All, Any}
 use Rattle.std.specs.Prelude.{Some, slice_get, slice_set}
 use Rattle.std.proofs.lemmas.List.{length_push}
@@ -14,6 +14,7 @@ use Rattle.staat_cells.specs.Blocks.{AddsToBlock, AreInsideCone, HasCone, HasPar
 use Rattle.staat_cells.specs.CellGraphs.{AddsCone}
 use Rattle.staat_cells.proofs.ConeTests.{AddsSides}
 use Rattle.staat_cells.proofs.Elements.{any_pushed, any_set}
+use Rattle.staat_vec.proofs.ListLaws.{push_cases, push_front, push_end}
 
 -- the arcs have grown by the cone j of the parts a and b
 abbrev pub AddsArc : ℕ → ℕ → ℕ → List ArcCones → List ArcCones → Type 0
@@ -21,23 +22,6 @@ AddsArc a b j old new = (x y k : ℕ) → HasCone new x y k ↔ (HasCone old x y
     × (k ≡ j)))
 
 -- ---- a list with one more at the end
-
-push_cases : {X : Type 0} (xs : List X) (y x : X) (k : ℕ) → slice_get (xs ++ y ∷ []) k ≡ Some x
-    → (slice_get xs k ≡ Some x) ⊎ ((k ≡ length xs) × (y ≡ x))
-push_cases [] y x zero e = inr (refl, (let same : y ≡ x = cc in same))
-push_cases [] y x (suc k) e = absurd cc
-push_cases (z ∷ xs) y x zero e = inl e
-push_cases (z ∷ xs) y x (suc k) e = ⊎_elim (λ h. inl h) (λ h. inr (ap suc h.0, h.1)) (push_cases xs y x k e)
-
-push_front : {X : Type 0} (xs : List X) (y x : X) (k : ℕ) → slice_get xs k ≡ Some x
-    → slice_get (xs ++ y ∷ []) k ≡ Some x
-push_front [] y x k e = absurd cc
-push_front (z ∷ xs) y x zero e = e
-push_front (z ∷ xs) y x (suc k) e = push_front xs y x k e
-
-push_end : {X : Type 0} (xs : List X) (y : X) → slice_get (xs ++ y ∷ []) (length xs) ≡ Some y
-push_end [] y = refl
-push_end (z ∷ xs) y = push_end xs y
 
 -- ---- parts more
 

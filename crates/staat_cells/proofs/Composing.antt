@@ -1,19 +1,15 @@
 -- Steps of the loops that join lists of signs and cells.
-use Rattle.std.proofs.Common.{◌≡◌, ℕ, zero, suc, ◌+◌, ◌<◌, ap, sym, ◌∙◌, refl, arith, add-one, List, [], ◌∷◌, ◌++◌, length, get_or, map, false, true, if◌then◌else◌}
+use Rattle.std.proofs.Common.{◌≡◌, ℕ, ◌+◌, ◌<◌, ap, sym, ◌∙◌, refl, add-one, List, [], ◌∷◌, ◌++◌, length, get_or, map, false, true, if◌then◌else◌}
 use Rattle.std.proofs.lemmas.List.{get_or-map, map-append}
 use Rattle.staat_model.specs.declared.tree.Kind.{Kind}
 use Rattle.staat_model.specs.Cells.{CellEntry}
 use Rattle.staat_cells.specs.declared.cell.Cell.{Cell}
 use Rattle.staat_cells.specs.declared.incidence.Incidence.{Incidence}
-use Rattle.staat_cells.specs.Compositions.{begins_cell, begun_up_to, entry_of, composed_at, composed_cell, composed_up_to, no_cell, no_incidence}
+use Rattle.staat_cells.specs.Compositions.{begins_cell, begun_up_to, entry_of, composed_at, composed_up_to, no_cell, no_incidence}
 use Rattle.staat_cells.specs.Skeletons.{IsComposedAt}
+use Rattle.staat_vec.proofs.ListLaws.{append_nothing}
 
 -- ---- cells of the first incidences
-
-pub same_index : {X : Type 0} (xs : List X) (k : ℕ) (d e : X) → k < length xs → get_or xs k d ≡ get_or xs k e
-same_index [] k d e lt = absurd (omega arith)
-same_index (x ∷ xs) zero d e lt = refl
-same_index (x ∷ xs) (suc k) d e lt = same_index xs k d e (omega arith)
 
 pub composed_none : (kind : Kind) (lower : List CellEntry) (incidences : List Incidence) → [] ≡ composed_up_to kind lower incidences 0
 unfolding composed_up_to
@@ -31,24 +27,6 @@ composed_with kind lower incidences i old new cell before is at =
 entry_at : (lower : List Cell) (k : ℕ) (a : Cell) → k < length lower → a ≡ get_or lower k a
     → entry_of a ≡ get_or (map entry_of lower) k no_cell
 entry_at lower k a lt e = ap entry_of e ∙ sym (get_or-map entry_of lower k a no_cell lt)
-
-pub is_composed_at : (kind : Kind) (lower : List Cell) (incidences : List Incidence) (i : ℕ) (cell a b : Cell) (x y : Incidence)
-    → i < length incidences → i + 1 < length incidences → entry_of cell ≡ composed_cell kind (entry_of a) (entry_of b)
-    → a ≡ get_or lower (get_or incidences i x).of a → b ≡ get_or lower (get_or incidences (i + 1) y).of b
-    → (get_or incidences i x).of < length lower → (get_or incidences (i + 1) y).of < length lower
-    → entry_of cell ≡ composed_at kind (map entry_of lower) incidences i
-is_composed_at kind lower incidences i cell a b x y li ln entry a_is b_is la lb =
-    let at_i : get_or incidences i x ≡ get_or incidences i no_incidence = same_index incidences i x no_incidence li in
-    let at_n : get_or incidences (i + 1) y ≡ get_or incidences (i + 1) no_incidence =
-    same_index incidences (i + 1) y no_incidence ln in
-    let left = entry_at lower (get_or incidences i x).of a la a_is ∙ ap (λ s. get_or (map entry_of lower) s.of no_cell) at_i in
-    let right = entry_at lower (get_or incidences (i + 1) y).of b lb b_is
-    ∙ ap (λ s. get_or (map entry_of lower) s.of no_cell) at_n in
-    entry ∙ (λ j. composed_cell kind (left j) (right j))
-
-pub append_nothing : {X : Type 0} (xs : List X) → xs ++ [] ≡ xs
-append_nothing [] = refl
-append_nothing (x ∷ xs) = ap (λ l. x ∷ l) (append_nothing xs)
 
 pub composed_same : (kind : Kind) (lower : List CellEntry) (incidences : List Incidence) (i : ℕ) (cells : List CellEntry) → begins_cell incidences i ≡ false → cells ≡ composed_up_to kind lower incidences i → cells ≡ composed_up_to kind lower incidences (i + 1)
 unfolding composed_up_to

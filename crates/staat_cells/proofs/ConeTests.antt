@@ -14,9 +14,7 @@ use Rattle.staat_cells.specs.declared.half_spaces.Side.{Side}
 use Rattle.staat_cells.specs.HalfSpaces.{AreInside, IsOnSide, sign_at}
 use Rattle.staat_cells.specs.Blocks.{IsLeft, IsLeftByAll, outside_at, outside_by}
 use Rattle.staat_cells.proofs.Elements.{all_more, all_pushed, all_set}
-
-same_or : (a b : ℕ) → (a ≡ b) ⊎ (a ≡ b → ⊥)
-same_or a b = grind arith
+use Rattle.staat_vec.proofs.Naturals.{zero_not_one, same_or}
 
 -- ---- a bit more
 
@@ -35,13 +33,10 @@ clear_bit : (x j k : ℕ) (Q : Type 0) → j < 128 → (Q → ⊥)
 clear_bit x j k Q lt never = ⊎_elim {C = (bit_at (bit_or x (1 * 2 ^ j % 2 ^ 128)) k ≡ 0) ↔ ((bit_at x k ≡ 0)
     × (k ≡ j → Q))}
     (λ e. let one = ap (bit_at (bit_or x (1 * 2 ^ j % 2 ^ 128))) e ∙ bit_at_set_same w128 x j lt in
-    (λ h. absurd (apart (bit_at (bit_or x (1 * 2 ^ j % 2 ^ 128)) k) h one), λ h. absurd (never (h.1 e))))
+    (λ h. absurd (zero_not_one (bit_at (bit_or x (1 * 2 ^ j % 2 ^ 128)) k) h one), λ h. absurd (never (h.1 e))))
     (λ ne. let kept = bit_at_set_other w128 x j lt k ne in
     (λ h. (sym kept ∙ h, λ e. absurd (ne e)), λ h. kept ∙ h.0))
     (same_or k j)
-  where
-    apart : (n : ℕ) → n ≡ 0 → n ≡ 1 → ⊥
-    apart n e f = omega arith
 
 same_bit : (x j k : ℕ) (s : Sign) → (bit_at x k ≡ 0) ↔ ((bit_at x k ≡ 0) × (k ≡ j → s ≡ s))
 same_bit x j k s = (λ h. (h, λ e. refl), λ h. h.0)
@@ -218,9 +213,6 @@ without_some x y = (from, to)
     out : (m n : ℕ) → m ≡ 1 → n ≡ 0 → (min m n + m) % 2 ≡ 1
     out m n e f = omega (arith, e, f)
 
-    apart : (n : ℕ) → n ≡ 0 → n ≡ 1 → ⊥
-    apart n e f = omega arith
-
     to : ((j : ℕ) × (bit_at x j ≡ 1) × (bit_at y j ≡ 0)) → bit_xor (bit_and x y) x ≢ 0
-    to (j, one, none) z = apart (bit_at (bit_xor (bit_and x y) x) j)
+    to (j, one, none) z = zero_not_one (bit_at (bit_xor (bit_and x y) x) j)
         (ap (λ n. bit_at n j) z ∙ bit_at-zero j) (bit j ∙ out (bit_at x j) (bit_at y j) one none)

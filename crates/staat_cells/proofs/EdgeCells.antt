@@ -1,15 +1,12 @@
 -- Each edge is composed from its two end vertices.
-use Rattle.std.proofs.Common.{◌≡◌, ◌≢◌, ◌⊎◌, inl, inr, ⊎_elim, ℕ, ◌<◌, refl, sym, ap, subst, ◌∙◌, arith, List, [], ◌∷◌, length, Contains}
-use Rattle.std.specs.declared.cmp.Ordering.TheVariants.{Less, Equal}
-use Rattle.std.proofs.lemmas.Cmp.{tied_itself}
+use Rattle.std.proofs.Common.{◌≡◌, ◌≢◌, ◌⊎◌, inl, inr, ℕ, ◌<◌, refl, sym, ap, subst, ◌∙◌, arith, List, [], ◌∷◌, length, Contains}
+use Rattle.std.specs.declared.cmp.Ordering.TheVariants.{Less}
 use Rattle.std.proofs.lemmas.List.Elements.{All-contains}
 use Rattle.std.proofs.lemmas.Map.Views.{All-after_first}
 use Rattle.staat_vec.specs.declared.vector.V3.{V3}
 use Rattle.staat_vec.specs.declared.vector.Sign.{Sign}
 use Rattle.staat_vec.specs.Vectors.{origin, plus, vector_cmp}
-use Rattle.staat_vec.proofs.VecRing.{plusE, values, v0, v1, ring3}
-use Rattle.staat_vec.proofs.VectorOrder.{vector_total}
-use Rattle.staat_vec.proofs.Unique.{Contains-cases, Contains-nothing, IsFirst-in}
+use Rattle.staat_vec.proofs.Unique.{IsFirst-in}
 use Rattle.staat_model.specs.declared.tree.Kind.TheVariants.{Point, Edge}
 use Rattle.staat_model.specs.Planes.{vertices}
 use Rattle.staat_model.specs.Cells.{kind_of, signs_of, CellEntry, IsBorder, IsCell, IsEnd, IsEdgeSum, IsEntry, AreCellsOf}
@@ -18,14 +15,13 @@ use Rattle.staat_model.proofs.EndLemmas.{edge_has_sum, edge_sum_in}
 use Rattle.staat_model.proofs.PlaneLemmas.{NoneParallel}
 use Rattle.staat_cells.specs.Compositions.{composed, composed_cell}
 use Rattle.staat_cells.specs.Stages.{cell_at, IsUnder}
-use Rattle.staat_cells.proofs.Listed.{decide, entry_at, composed_signs, not_same, place_of, StandsAt}
-use Rattle.staat_cells.proofs.VertexSigns.{same_vertex, vertex_point, vertex_some}
-
-swap_plus : (u v : V3) → plus u v ≡ plus v u
-swap_plus u v = ring3 (values (u ∷ v ∷ []) []) (plusE v0 v1) (plusE v1 v0) (tt, tt, tt)
-
-not_below : (u : V3) → vector_cmp u u ≡ Less → ⊥
-not_below u e = let same : vector_cmp u u ≡ Equal = tied_itself vector_total u in cc
+use Rattle.staat_cells.proofs.Listed.{entry_at, composed_signs, not_same, place_of, StandsAt}
+use Rattle.staat_cells.proofs.VertexSigns.{same_vertex, vertex_point}
+use Rattle.staat_vec.proofs.VectorLists.{one_of_two}
+use Rattle.staat_vec.proofs.VectorLaws.{plus_comm}
+use Rattle.staat_vec.proofs.VectorOrder.{vector_not_below_itself}
+use Rattle.staat_vec.proofs.Naturals.{same_or}
+use Rattle.staat_model.proofs.ListedVertices.{vertex_some}
 
 module _ (planes : List V3) (axes : HoldsAxes planes) (apart : NoneParallel planes) (some : (g : V3) → Contains planes g → g ≢ origin) (points : List CellEntry) (are : AreCellsOf planes Point points) where
   -- the vertex of a listed point
@@ -60,7 +56,7 @@ module _ (planes : List V3) (axes : HoldsAxes planes) (apart : NoneParallel plan
   second_end s d e = let l = e.ends in l.each e.v (1, omega arith, refl)
 
   ends_differ : (s : List Sign) (d : V3) → (e : IsEdgeSum planes s d) → e.u ≢ e.v
-  ends_differ s d e p = let l = e.ends in not_below e.v (subst (λ z. vector_cmp z e.v ≡ Less) p (All-contains (λ q. vector_cmp e.u q ≡ Less) (e.v ∷ []) e.v (All-after_first vector_cmp e.u (e.v ∷ []) l.ascending) (0, omega arith, refl)))
+  ends_differ s d e p = let l = e.ends in vector_not_below_itself e.v (subst (λ z. vector_cmp z e.v ≡ Less) p (All-contains (λ q. vector_cmp e.u q ≡ Less) (e.v ∷ []) e.v (All-after_first vector_cmp e.u (e.v ∷ []) l.ascending) (0, omega arith, refl)))
 
   pub edge_some : (s : List Sign) → IsCell planes s → kind_of s ≡ Edge → (k : ℕ) × IsUnder planes Edge points s k
   edge_some s cell edge =
@@ -76,7 +72,7 @@ module _ (planes : List V3) (axes : HoldsAxes planes) (apart : NoneParallel plan
       let second = second_end s d e in
       let (i, at_i) = listed e.u first.vertex in
       let (j, at_j) = listed e.v second.vertex in
-      go e.u e.v i j (ends_differ s d e) first second at_i at_j (decide i k)
+      go e.u e.v i j (ends_differ s d e) first second at_i at_j (same_or i k)
     where
       go : (u v : V3) (i j : ℕ) → u ≢ v → IsEnd planes s u → IsEnd planes s v → IsListedAt u i → IsListedAt v j → (i ≡ k) ⊎ (i ≢ k) → (j : ℕ) × IsUnder planes Edge points s j × (j ≢ k)
       go u v i j differ first second at_i at_j (inr n) = (i, end_under s u i under.cell under.by_count first at_i, n)
@@ -84,16 +80,13 @@ module _ (planes : List V3) (axes : HoldsAxes planes) (apart : NoneParallel plan
 
   -- the sum of any two different ends is the representative
   sum_of : (s : List Sign) (u v : V3) → IsCell planes s → kind_of s ≡ Edge → IsEnd planes s u → IsEnd planes s v → u ≢ v → IsEdgeSum planes s (plus u v)
-  sum_of s u v cell edge u_end v_end differ = let (d, e) = ends_of s cell edge in let l = e.ends in go d e (one_of e.u e.v u (l.all u u_end)) (one_of e.u e.v v (l.all v v_end))
+  sum_of s u v cell edge u_end v_end differ = let (d, e) = ends_of s cell edge in let l = e.ends in go d e (one_of_two e.u e.v u (l.all u u_end)) (one_of_two e.u e.v v (l.all v v_end))
     where
-      one_of : (a b x : V3) → Contains (a ∷ b ∷ []) x → (x ≡ a) ⊎ (x ≡ b)
-      one_of a b x c = ⊎_elim {C = (x ≡ a) ⊎ (x ≡ b)} (λ e. inl e) (λ later. ⊎_elim {C = (x ≡ a) ⊎ (x ≡ b)} (λ e. inr e) (λ none. absurd (Contains-nothing x none)) (Contains-cases b [] x later)) (Contains-cases a (b ∷ []) x c)
-
       go : (d : V3) → (e : IsEdgeSum planes s d) → (u ≡ e.u) ⊎ (u ≡ e.v) → (v ≡ e.u) ⊎ (v ≡ e.v) → IsEdgeSum planes s (plus u v)
       go d e (inl p) (inl q) = absurd (differ (p ∙ sym q))
       go d e (inr p) (inr q) = absurd (differ (p ∙ sym q))
       go d e (inl p) (inr q) = record { u = e.u; v = e.v; ends = e.ends; is = λ i. plus (p i) (q i) }
-      go d e (inr p) (inl q) = record { u = e.u; v = e.v; ends = e.ends; is = (λ i. plus (p i) (q i)) ∙ swap_plus e.v e.u }
+      go d e (inr p) (inl q) = record { u = e.u; v = e.v; ends = e.ends; is = (λ i. plus (p i) (q i)) ∙ plus_comm e.v e.u }
 
   pub edge_entry : (s : List Sign) (j k : ℕ) → IsUnder planes Edge points s j → IsUnder planes Edge points s k → j < k → ((m : ℕ) → IsUnder planes Edge points s m → (m ≡ j) ⊎ ((m ≡ k) ⊎ (k < m)))
       → IsEntry planes Edge (composed_cell Edge (cell_at points j) (cell_at points k)) × (composed (cell_at points j).signs (cell_at points k).signs ≡ s)

@@ -5,23 +5,24 @@ use Rattle.staat_vec.specs.declared.vector.V3.{V3}
 use Rattle.staat_vec.specs.declared.vector.Sign.{Sign}
 use Rattle.staat_vec.specs.declared.vector.Sign.TheVariants.{Neg, Zero, Pos}
 use Rattle.staat_vec.specs.Vectors.{dot, cross, minus, negative, origin, sign}
-use Rattle.staat_vec.proofs.Ring.{at, num, ◌⊖◌, ◌⊗◌, opp, ring, ring_by, ring_by_two}
+use Rattle.staat_vec.proofs.Ring.{at, num, ◌⊖◌, ◌⊗◌, opp, ring, ring_by, ring_by_two, zero-mul_ℤ}
 use Rattle.staat_vec.proofs.VecRing.{dotE, crossE, minusE, timesE, values, v0, v1, v2, scale, cross_self, dot_scale, dot_negative, dot_cross_left}
 use Rattle.staat_vec.proofs.Order.{pos_mul, negative_mul}
 use Rattle.staat_model.specs.declared.tree.Kind.TheVariants.{Edge}
 use Rattle.staat_model.specs.Cells.{signs_of, kind_of, IsBorder, IsCell}
-use Rattle.staat_model.proofs.CellLemmas.{zeros, edge_zeros, positive_sign, negative_sign}
-use Rattle.staat_model.proofs.CornerLemmas.{some_square}
+use Rattle.staat_model.proofs.CellLemmas.{zeros, edge_zeros, kind_edge}
 use Rattle.staat_model.proofs.Corners.{IsSame}
-use Rattle.staat_model.proofs.Edge.{dot_origin_right}
 use Rattle.staat_model.proofs.EndLemmas.{on_one}
 use Rattle.staat_model.proofs.FacetLemmas.{along}
-use Rattle.staat_model.proofs.GraphLemmas.{zero_sign}
 use Rattle.staat_model.proofs.PlaneLemmas.{NoneParallel}
 use Rattle.staat_cells.specs.Beside.{then_sign, beside, IsBeside}
 use Rattle.staat_cells.specs.Stages.{IsBesideOn}
 use Rattle.staat_cells.proofs.Beside.{beside_is, beside_border, border_at, at_plane, from_planes}
-use Rattle.staat_cells.proofs.Zeros.{one_zero, edge_kind}
+use Rattle.staat_cells.proofs.Zeros.{one_zero}
+use Rattle.staat_vec.proofs.Integers.{mul-zero_ℤ, other_factor_zero, opposite_zero_back, opposite_zero, products_zero, products_swapped}
+use Rattle.staat_vec.proofs.Divisors.{neg-neg}
+use Rattle.staat_vec.proofs.VectorLaws.{dot_cross_about, some_square, dot_origin}
+use Rattle.staat_vec.proofs.Signs.{sign_some, positive_sign, negative_sign, zero_sign}
 
 -- ---- numbers
 
@@ -33,14 +34,6 @@ mul_some (pos (suc a)) (negsuc b) n m e = omega (arith, ints)
 mul_some (negsuc a) (pos zero) n m e = m refl
 mul_some (negsuc a) (pos (suc b)) n m e = omega (arith, ints)
 mul_some (negsuc a) (negsuc b) n m e = omega (arith, ints)
-
-is_or_not : (a : ℤ) → (a ≡ pos 0) ⊎ (a ≢ pos 0)
-is_or_not (pos zero) = inl refl
-is_or_not (pos (suc n)) = inr (λ e. omega (arith, ints))
-is_or_not (negsuc n) = inr (λ e. omega (arith, ints))
-
-pub other_factor : (a b : ℤ) → a ≢ pos 0 → a *ℤ b ≡ pos 0 → b ≡ pos 0
-other_factor a b n e = ⊎_elim (λ h. h) (λ h. absurd (mul_some a b n h e)) (is_or_not b)
 
 -- a positive factor keeps the sign
 pub sign_times : (a : ℕ) (x : ℤ) → sign (pos (suc a) *ℤ x) ≡ sign x
@@ -60,9 +53,6 @@ negsuc_neg b y = ring_by (negsuc b ∷ pos (suc b) ∷ y ∷ []) (at 0 ⊗ at 2)
 turned_mul : (a b x y : ℤ) → a *ℤ x ≡ b *ℤ y → a *ℤ neg_ℤ x ≡ b *ℤ neg_ℤ y
 turned_mul a b x y e = ring_by (a ∷ b ∷ x ∷ y ∷ []) (at 0 ⊗ opp (at 2)) (at 1 ⊗ opp (at 3)) (opp (num (pos 1))) (at 0 ⊗ at 2) (at 1 ⊗ at 3) e tt
 
-neg_neg : (x : ℤ) → neg_ℤ (neg_ℤ x) ≡ x
-neg_neg x = omega (arith, ints)
-
 -- numbers in one ratio have one sign, or opposite signs
 ratio : (a b : ℤ) → a ≢ pos 0 → b ≢ pos 0 → ((x y : ℤ) → a *ℤ x ≡ b *ℤ y → sign x ≡ sign y) ⊎ ((x y : ℤ) → a *ℤ x ≡ b *ℤ y → sign x ≡ sign (neg_ℤ y))
 ratio (pos zero) b n m = absurd (n refl)
@@ -70,27 +60,18 @@ ratio (pos (suc a)) (pos zero) n m = absurd (m refl)
 ratio (pos (suc a)) (pos (suc b)) n m = inl (λ x y e. same_sign a b x y e)
 ratio (pos (suc a)) (negsuc b) n m = inr (λ x y e. same_sign a b x (neg_ℤ y) (e ∙ negsuc_neg b y))
 ratio (negsuc a) (pos zero) n m = absurd (m refl)
-ratio (negsuc a) (pos (suc b)) n m = inr (λ x y e. same_sign a b x (neg_ℤ y) (ap (λ z. pos (suc a) *ℤ z) (sym (neg_neg x)) ∙ sym (negsuc_neg a (neg_ℤ x)) ∙ turned_mul (negsuc a) (pos (suc b)) x y e))
-ratio (negsuc a) (negsuc b) n m = inl (λ x y e. same_sign a b x y (ap (λ z. pos (suc a) *ℤ z) (sym (neg_neg x)) ∙ sym (negsuc_neg a (neg_ℤ x)) ∙ turned_mul (negsuc a) (negsuc b) x y e ∙ negsuc_neg b (neg_ℤ y) ∙ ap (λ z. pos (suc b) *ℤ z) (neg_neg y)))
+ratio (negsuc a) (pos (suc b)) n m = inr (λ x y e. same_sign a b x (neg_ℤ y) (ap (λ z. pos (suc a) *ℤ z) (sym (neg-neg x)) ∙ sym (negsuc_neg a (neg_ℤ x)) ∙ turned_mul (negsuc a) (pos (suc b)) x y e))
+ratio (negsuc a) (negsuc b) n m = inl (λ x y e. same_sign a b x y (ap (λ z. pos (suc a) *ℤ z) (sym (neg-neg x)) ∙ sym (negsuc_neg a (neg_ℤ x)) ∙ turned_mul (negsuc a) (negsuc b) x y e ∙ negsuc_neg b (neg_ℤ y) ∙ ap (λ z. pos (suc b) *ℤ z) (neg-neg y)))
 
 -- ---- vectors
 
-turn_det : (g c m : V3) → dot g (cross c m) ≡ dot m (cross g c)
-turn_det g c m = ring (values (g ∷ c ∷ m ∷ []) []) (dotE v0 (crossE v1 v2)) (dotE v2 (crossE v0 v1)) tt
-
-neg_zero : (p q : ℤ) → p ≡ neg_ℤ q → p ≡ pos 0 → q ≡ pos 0
-neg_zero p q e h = omega (arith, ints)
-
-zero_neg : (p q : ℤ) → p ≡ neg_ℤ q → q ≡ pos 0 → p ≡ pos 0
-zero_neg p q e h = omega (arith, ints)
-
 same_dot : (g w f : V3) → IsSame w f → dot g w ≡ pos 0 → dot g f ≡ pos 0
 same_dot g w f (inl e) h = ap (dot g) (sym e) ∙ h
-same_dot g w f (inr e) h = neg_zero (dot g w) (dot g f) (ap (dot g) e ∙ dot_negative g f) h
+same_dot g w f (inr e) h = opposite_zero_back (dot g w) (dot g f) (ap (dot g) e ∙ dot_negative g f) h
 
-dot_same : (g w f : V3) → IsSame w f → dot g f ≡ pos 0 → dot g w ≡ pos 0
+pub dot_same : (g w f : V3) → IsSame w f → dot g f ≡ pos 0 → dot g w ≡ pos 0
 dot_same g w f (inl e) h = ap (dot g) e ∙ h
-dot_same g w f (inr e) h = zero_neg (dot g w) (dot g f) (ap (dot g) e ∙ dot_negative g f) h
+dot_same g w f (inr e) h = opposite_zero (dot g w) (dot g f) (ap (dot g) e ∙ dot_negative g f) h
 
 some_positive : (a : ℤ) → pos 0 <ℤ a → a ≢ pos 0
 some_positive a h e = omega (arith, ints)
@@ -101,10 +82,7 @@ off_crossing g c m v on_g on_c off some e =
     let p = cross g c in
     let both : dot p p *ℤ dot m v ≡ dot v p *ℤ dot m p = sym (dot_scale (dot p p) m v) ∙ ap (dot m) (along v g c on_g on_c) ∙ dot_scale (dot v p) m p in
     mul_some (dot p p) (dot m v) (some_positive (dot p p) (some_square p some)) off
-    (both ∙ ap (λ z. dot v p *ℤ z) (sym (turn_det g c m) ∙ e) ∙ none (dot v p))
-  where
-    none : (a : ℤ) → a *ℤ pos 0 ≡ pos 0
-    none a = omega (arith, ints)
+    (both ∙ ap (λ z. dot v p *ℤ z) (sym (dot_cross_about g c m) ∙ e) ∙ mul-zero_ℤ (dot v p))
 
 -- ---- what is beside a vertex on a plane is an edge
 
@@ -122,19 +100,16 @@ then_first Neg t n = refl
 then_first Zero t n = absurd (n refl)
 then_first Pos t n = refl
 
-some_sign : (a : ℤ) → a ≢ pos 0 → sign a ≢ Zero
-some_sign a n e = n (zero_sign a e)
-
 pub beside_edge : (planes : List V3) (v : V3) (s : List Sign) → NoneParallel planes → IsBeside planes v s → IsCell planes s × (kind_of s ≡ Edge) × IsBorder (signs_of planes v) s
 beside_edge planes v s apart b =
     let (d, d_is) = beside_is planes v b.w in (
-      record { d = d; nonzero = λ z. some_sign (dot b.m v) b.off (sym (at_m d d_is) ∙ ap sign (ap (dot b.m) z ∙ dot_origin_right b.m)); is = d_is ∙ sym b.is },
-      ap kind_of b.is ∙ edge_kind (beside planes v b.w) one,
+      record { d = d; nonzero = λ z. sign_some (dot b.m v) b.off (sym (at_m d d_is) ∙ ap sign (ap (dot b.m) z ∙ dot_origin b.m)); is = d_is ∙ sym b.is },
+      ap kind_of b.is ∙ kind_edge (beside planes v b.w) one,
       subst (IsBorder (signs_of planes v)) (sym b.is) (beside_border planes v b.w),
     )
   where
     at_m : (d : V3) → signs_of planes d ≡ beside planes v b.w → sign (dot b.m d) ≡ sign (dot b.m v)
-    at_m d e = at_plane (λ n. sign (dot n d)) (beside_at v b.w) planes b.m e b.m_in ∙ then_first (sign (dot b.m v)) (sign (dot b.m b.w)) (some_sign (dot b.m v) b.off)
+    at_m d e = at_plane (λ n. sign (dot n d)) (beside_at v b.w) planes b.m e b.m_in ∙ then_first (sign (dot b.m v)) (sign (dot b.m b.w)) (sign_some (dot b.m v) b.off)
 
     at_c : beside_at v b.w b.c ≡ Zero
     at_c = (λ i. then_sign (sign (b.on i)) (sign (dot_same b.c b.w (cross b.c b.m) b.towards (dot_cross_left b.c b.m) i)))
@@ -166,12 +141,6 @@ across m d v = minus (scale (dot m v) d) (scale (dot m d) v)
 dot_across : (g m d v : V3) → dot g (across m d v) ≡ dot m v *ℤ dot g d -ℤ dot m d *ℤ dot g v
 dot_across g m d v = ring (values (g ∷ d ∷ v ∷ []) (dot m v ∷ dot m d ∷ [])) (dotE v0 (minusE (timesE (at 9) v1) (timesE (at 10) v2))) (at 9 ⊗ dotE v0 v1 ⊖ at 10 ⊗ dotE v0 v2) tt
 
-both_zero : (a b p q : ℤ) → p ≡ pos 0 → q ≡ pos 0 → a *ℤ p -ℤ b *ℤ q ≡ pos 0
-both_zero a b p q e f = (λ i. a *ℤ e i -ℤ b *ℤ f i) ∙ ring (a ∷ b ∷ []) (at 0 ⊗ num (pos 0) ⊖ at 1 ⊗ num (pos 0)) (num (pos 0)) tt
-
-turn_about : (a b : ℤ) → a *ℤ b -ℤ b *ℤ a ≡ pos 0
-turn_about a b = ring (a ∷ b ∷ []) (at 0 ⊗ at 1 ⊖ at 1 ⊗ at 0) (num (pos 0)) tt
-
 drop_zero : (k a x b y : ℤ) → y ≡ pos 0 → (k *ℤ a) *ℤ x ≡ k *ℤ (a *ℤ x -ℤ b *ℤ y)
 drop_zero k a x b y e = ring (k ∷ a ∷ x ∷ b ∷ []) ((at 0 ⊗ at 1) ⊗ at 2) (at 0 ⊗ (at 1 ⊗ at 2 ⊖ at 3 ⊗ num (pos 0))) tt ∙ ap (λ z. k *ℤ (a *ℤ x -ℤ b *ℤ z)) (sym e)
 
@@ -194,7 +163,7 @@ module _ (planes : List V3) (v d c m : V3) (some_c : c ≢ origin) (on_d : dot c
       drop_zero (dot w w) (dot m v) (dot g d) (dot m d) (dot g v) on
       ∙ ap (λ z. dot w w *ℤ z) (sym (dot_across g m d v))
       ∙ sym (dot_scale (dot w w) g x)
-      ∙ ap (dot g) (along x c m (dot_across c m d v ∙ both_zero (dot m v) (dot m d) (dot c d) (dot c v) on_d on_v) (dot_across m m d v ∙ turn_about (dot m v) (dot m d)))
+      ∙ ap (dot g) (along x c m (dot_across c m d v ∙ products_zero (dot m v) (dot m d) (dot c d) (dot c v) on_d on_v) (dot_across m m d v ∙ products_swapped (dot m v) (dot m d)))
       ∙ dot_scale (dot x w) g w
 
   left_some : dot (cross c m) (cross c m) *ℤ dot m v ≢ pos 0
@@ -203,11 +172,8 @@ module _ (planes : List V3) (v d c m : V3) (some_c : c ≢ origin) (on_d : dot c
   right_some : dot (across m d v) (cross c m) ≢ pos 0
   right_some e = crossed.independent ((λ i. cross (same crossed.g crossed.g_in crossed.on_g i) (same crossed.h crossed.h_in crossed.on_h i)) ∙ cross_self c)
     where
-      none : (a : ℤ) → pos 0 *ℤ a ≡ pos 0
-      none a = omega (arith, ints)
-
       same : (g : V3) → Contains planes g → dot g v ≡ pos 0 → g ≡ c
-      same g g_in on = ⊎_elim (λ h. h) (λ n. absurd (n (other_factor (dot (cross c m) (cross c m) *ℤ dot m v) (dot g d) left_some (in_ratio g on ∙ ap (λ z. z *ℤ dot g (cross c m)) e ∙ none (dot g (cross c m)))))) (only g g_in)
+      same g g_in on = ⊎_elim (λ h. h) (λ n. absurd (n (other_factor_zero (dot (cross c m) (cross c m) *ℤ dot m v) (dot g d) left_some (in_ratio g on ∙ ap (λ z. z *ℤ dot g (cross c m)) e ∙ zero-mul_ℤ (dot g (cross c m)))))) (only g g_in)
 
   pub edge_beside : (signs_of planes d ≡ beside planes v (cross c m)) ⊎ (signs_of planes d ≡ beside planes v (negative (cross c m)))
   edge_beside = ⊎_elim {C = (signs_of planes d ≡ beside planes v (cross c m)) ⊎ (signs_of planes d ≡ beside planes v (negative (cross c m)))}

@@ -4,9 +4,9 @@ use Rattle.std.proofs.Common.{◌≢◌, ◌∙◌, ⊎_elim, arith, Contains}
 use Rattle.std.proofs.Common.{ℤ, pos, neg_ℤ, ◌<ℤ◌, List, [], ◌∷◌, ◌++◌, length, take, All}
 use Rattle.std.specs.Prelude.{Some, slice_get}
 use Rattle.std.proofs.lemmas.Int.{ints}
-use Rattle.std.proofs.lemmas.List.{take_all, take_more}
+use Rattle.std.proofs.lemmas.List.{take_all}
 use Rattle.std.proofs.lemmas.List.Elements.{All-contains}
-use Rattle.std.proofs.lemmas.Option.{get_or_from_slice_get, slice_get-get_or}
+use Rattle.std.proofs.lemmas.Option.{slice_get-get_or}
 use Rattle.staat_vec.specs.declared.vector.V3.{V3}
 use Rattle.staat_vec.specs.declared.vector.Sign.{Sign}
 use Rattle.staat_vec.specs.declared.vector.Sign.TheVariants.{Neg, Pos}
@@ -16,8 +16,6 @@ use Rattle.staat_vec.proofs.Canons.{canon-either}
 use Rattle.staat_vec.proofs.Primitives.{IsPrimitive-some}
 use Rattle.staat_vec.proofs.VecRing.{cross_self, negative_dot}
 use Rattle.staat_model.specs.Cells.{signs_of}
-use Rattle.staat_model.proofs.Places.{place_within}
-use Rattle.staat_model.proofs.CellLemmas.{positive_sign, negative_sign, sign_positive, sign_negative}
 use Rattle.staat_cells.specs.declared.half_spaces.Side.{Side}
 use Rattle.staat_cells.specs.HalfSpaces.{AreAhead, AreInside, IsOnSide, IsSignAhead, sign_at}
 use Rattle.staat_cells.specs.CellGraphs.{IsAheadBy}
@@ -25,10 +23,13 @@ use Rattle.staat_planes.specs.Tables.{IsAhead}
 use Rattle.staat_pairs.specs.Searches.{arc_of}
 use Rattle.staat_pairs.specs.Tables.{AreTablePlanes, IsTable, IsTableArc, IsTableFacet, Table, facets_of}
 use Rattle.staat_model.specs.declared.certificate.Arc.{Arc}
-use Rattle.staat_model.proofs.CornerLemmas.{some_square}
 use Rattle.staat_model.proofs.Decisions.{nat_or}
 use Rattle.staat_model.proofs.Members.{All-from_members}
 use Rattle.staat_cells.proofs.Elements.{all_pushed}
+use Rattle.staat_vec.proofs.Integers.{turned_negative}
+use Rattle.staat_vec.proofs.ListLaws.{take_next}
+use Rattle.staat_vec.proofs.Signs.{positive_sign, negative_sign, sign_positive, sign_negative}
+use Rattle.staat_vec.proofs.VectorLaws.{some_square}
 
 sign_there : (planes : List V3) (k : ℕ) (g d : V3) → slice_get planes k ≡ Some g
     → sign_at (signs_of planes d) k ≡ sign (dot g d)
@@ -53,14 +54,11 @@ ahead_negative planes n d k at =
       λ h. turned_back (dot n d) (dot (negative n) d) (negative_dot n d)
           (sign_negative (dot (negative n) d) (sym here ∙ h)),
       λ lt. here ∙ negative_sign (dot (negative n) d)
-          (turned (dot n d) (dot (negative n) d) (negative_dot n d) lt),
+          (turned_negative (dot n d) (dot (negative n) d) (negative_dot n d) lt),
     )
   where
     turned_back : (a b : ℤ) → b ≡ neg_ℤ a → b <ℤ pos 0 → pos 0 <ℤ a
     turned_back a b e lt = omega (arith, ints, e, lt)
-
-    turned : (a b : ℤ) → b ≡ neg_ℤ a → pos 0 <ℤ a → b <ℤ pos 0
-    turned a b e lt = omega (arith, ints, e, lt)
 
 -- ---- the side of a facet
 
@@ -68,10 +66,7 @@ sign_of_square : (n : V3) → n ≢ origin → sign (dot n n) ≡ Pos
 sign_of_square n some = positive_sign (dot n n) (some_square n some)
 
 sign_of_turned : (n : V3) → n ≢ origin → sign (dot (negative n) n) ≡ Neg
-sign_of_turned n some = negative_sign (dot (negative n) n) (turned (dot n n) (dot (negative n) n) (negative_dot n n) (some_square n some))
-  where
-    turned : (a b : ℤ) → b ≡ neg_ℤ a → pos 0 <ℤ a → b <ℤ pos 0
-    turned a b e lt = omega (arith, ints, e, lt)
+sign_of_turned n some = negative_sign (dot (negative n) n) (turned_negative (dot n n) (dot (negative n) n) (negative_dot n n) (some_square n some))
 
 -- a plane stands at one place
 one_place : (planes : List V3) → AreTablePlanes planes → (k m : ℕ) (n : V3) → slice_get planes k ≡ Some n
@@ -149,18 +144,13 @@ no_facets planes facets cone none signs =
     subst (λ l. AreInside signs l ↔ All (IsSignAhead planes signs) (take 0 facets)) (sym none)
     (λ i k e lt. absurd (omega (arith, lt)), λ i k e lt. absurd (omega (arith, lt)))
 
-taken : {X : Type 0} (xs : List X) (k : ℕ) (x : X) → slice_get xs k ≡ Some x
-    → take (k + 1) xs ≡ take k xs ++ x ∷ []
-taken xs k x at =
-    take_more xs k x (place_within xs k x at) ∙ ap (λ y. take k xs ++ y ∷ []) (get_or_from_slice_get xs k x x at)
-
 pub facet_more : (planes facets : List V3) (n : V3) (k : ℕ) (old new : List Side) (side : Side)
     → slice_get facets k ≡ Some n
     → ((signs : List Sign) → IsOnSide signs side ↔ IsSignAhead planes signs n)
     → new ≡ old ++ side ∷ []
     → AreAhead planes (take k facets) old → AreAhead planes (take (k + 1) facets) new
 facet_more planes facets n k old new side at ahead grown before signs =
-    subst (λ l. AreInside signs new ↔ All Ahead l) (sym (taken facets k n at))
+    subst (λ l. AreInside signs new ↔ All Ahead l) (sym (take_next facets k n at))
     (subst (λ l. AreInside signs l ↔ All Ahead (take k facets ++ n ∷ [])) (sym grown) (from, to))
   where
     Ahead : V3 → Type 0

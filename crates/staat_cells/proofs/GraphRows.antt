@@ -24,9 +24,7 @@ use Rattle.staat_cells.specs.CellGraphs.{HasArcsOf, IsAheadBy, IsArcAt, IsCellGr
 use Rattle.staat_cells.proofs.Elements.{any_more}
 use Rattle.staat_cells.proofs.FacetPlanes.{ahead_by_signs}
 use Rattle.staat_cells.proofs.PushingIncidences.{either_more}
-
-lt_or : (a b : ℕ) → (a < b) ⊎ (b ≤ a)
-lt_or a b = grind arith
+use Rattle.staat_vec.proofs.Naturals.{lt_or_le}
 
 -- ---- the arcs of a block
 
@@ -126,7 +124,7 @@ pub no_rows : (blocks : List JoinedBlock) (signs : List Sign) → HasArcsUpTo (r
 no_rows blocks signs a b = (λ h. absurd (none h), λ h. absurd (let lt = h.2 in omega (arith, lt)))
   where
     zero_row : slice_index (replicate 32 0) a ≡ 0
-    zero_row = ⊎_elim (λ lt. get_or-replicate 32 a 0 0 lt) (λ le. get_or_past (replicate 32 0) a 0 le) (lt_or a 32)
+    zero_row = ⊎_elim (λ lt. get_or-replicate 32 a 0 0 lt) (λ le. get_or_past (replicate 32 0) a 0 le) (lt_or_le a 32)
 
     none : HasArc (replicate 32 0) a b → ⊥
     none h = let e : bit_at (slice_index (replicate 32 0) a) b ≡ 0 =

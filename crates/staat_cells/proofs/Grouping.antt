@@ -1,11 +1,11 @@
 -- The incidences of a cell stand together in the list, and its cells are composed from the first two.
-use Rattle.std.proofs.Common.{◌≡◌, ◌≢◌, ◌⊎◌, inl, inr, ⊎_elim, ℕ, zero, suc, ◌+◌, ◌<◌, ◌≤◌, Bool, true, false, ◌&&◌, not, if◌then◌else◌, refl, sym, ap, subst, ◌∙◌, arith, add-one, List, [], ◌∷◌, ◌++◌, length, get_or, map, All, Contains}
+use Rattle.std.proofs.Common.{◌≡◌, ◌≢◌, ◌⊎◌, inl, inr, ⊎_elim, ℕ, zero, suc, ◌+◌, ◌<◌, ◌≤◌, Bool, true, false, ◌&&◌, if◌then◌else◌, refl, sym, ap, subst, ◌∙◌, arith, add-one, List, [], ◌∷◌, ◌++◌, length, get_or, map, All, Contains}
 use Rattle.std.specs.Prelude.{nat_eq}
 use Rattle.std.specs.Ordering.{nat_cmp, ordering_then}
 use Rattle.std.specs.declared.cmp.Ordering.TheVariants.{Less}
 use Rattle.std.specs.List.Sorted.{IsStrictlySortedBy}
 use Rattle.std.proofs.lemmas.Bool.{eq-eqb, eqb-true}
-use Rattle.std.proofs.lemmas.Cmp.{tied_itself, ranked}
+use Rattle.std.proofs.lemmas.Cmp.{tied_itself}
 use Rattle.std.proofs.lemmas.List.{get_or_append_left, get_or_push, length-map, length_push, map-append}
 use Rattle.std.proofs.lemmas.List.Elements.{All-nil, All-append, All-cons, Contains-get_or, Contains-push, Contains-push_cases, Contains-append_left}
 use Rattle.std.proofs.lemmas.Map.Keys.{Less-from_sorted}
@@ -20,17 +20,16 @@ use Rattle.staat_cells.specs.declared.incidence.Incidence.{Incidence}
 use Rattle.staat_cells.specs.Compositions.{begins_cell, begun_up_to, composed, composed_at, composed_cell, composed_up_to, no_cell, no_incidence, same_words, HavePairs}
 use Rattle.staat_cells.specs.Packing.{incidence_cmp, incidence_of}
 use Rattle.staat_cells.specs.Stages.{cell_at, HaveSigns, IsIncidence, IsUnder}
-use Rattle.staat_cells.proofs.Composing.{append_nothing, same_index}
 use Rattle.staat_cells.proofs.IncidenceOrder.{incidence_total}
-use Rattle.staat_cells.proofs.Numbered.{below_or_at}
 use Rattle.staat_cells.proofs.SignOrder.{not_below_itself, signs_exact, signs_total, sorted_push, then_equal, then_less}
 use Rattle.staat_cells.proofs.Words.{incidence_order}
+use Rattle.staat_vec.proofs.Naturals.{lt_suc_cases, trichotomy, lt_one_more_cases}
+use Rattle.staat_vec.proofs.Comparisons.{less_number}
+use Rattle.staat_vec.proofs.Truth.{from_not_false, not_true_clash}
+use Rattle.staat_vec.proofs.ListLaws.{append_nothing, any_default}
 
 pub cell_length : (planes : List V3) (s : List Sign) → IsCell planes s → length s ≡ length planes
 cell_length planes s cell = ap length (sym cell.is) ∙ length-map planes (λ n. sign (dot n cell.d))
-
-pub less_number : (m n : ℕ) → nat_cmp m n ≡ Less → m < n
-less_number m n e = ranked m n Less (sym e)
 
 words_themselves : (s : List Sign) (j k : ℕ) → same_words (incidence_of s j) (incidence_of s k) ≡ true
 words_themselves s j k =
@@ -40,14 +39,6 @@ words_themselves s j k =
 and_true : (a b : Bool) → a && b ≡ true → (a ≡ true) × (b ≡ true)
 and_true true b e = (refl, e)
 and_true false b e = cc
-
-not_false : (b : Bool) → not b ≡ false → b ≡ true
-not_false true e = refl
-not_false false e = cc
-
-not_true : (b : Bool) → not b ≡ true → b ≡ true → ⊥
-not_true true e f = cc
-not_true false e f = cc
 
 -- one cell more, and one incidence more with its signs
 more_signs : (cells : List CellEntry) (c : CellEntry) (incidences : List Incidence) (x : Incidence)
@@ -76,7 +67,7 @@ more_signs cells c incidences x have is = record { long = long; each = each }
 
     each : (k : ℕ) → k < length (cells ++ c ∷ []) → Here k
     each k lt = ⊎_elim {C = Here k} (λ l. early k l) (λ e. last k (sym e))
-        (below_or_at k (length cells) (omega (arith, lt, length_push cells c)))
+        (lt_one_more_cases k (length cells) (omega (arith, lt, length_push cells c)))
 
 module _ (planes : List V3) (kind : Kind) (lower : List CellEntry) (incidences : List Incidence) (few : length planes ≤ 256) (lists : Lists incidence_cmp (IsIncidence planes kind lower) incidences) where
   -- the signs of the incidence at a place
@@ -128,17 +119,11 @@ module _ (planes : List V3) (kind : Kind) (lower : List CellEntry) (incidences :
   none_before zero j s a b first lt = absurd (omega arith)
   none_before (suc m) j s a b first lt =
       let (t, c) = signs_at m (let l = a.lt in omega (arith, l)) in
-      not_true (same_words (get_or incidences m no_incidence) (get_or incidences (suc m) no_incidence)) first (words_at m (suc m) s (subst (HasSigns m) (just_before t c) c) a)
+      not_true_clash (same_words (get_or incidences m no_incidence) (get_or incidences (suc m) no_incidence)) first (words_at m (suc m) s (subst (HasSigns m) (just_before t c) c) a)
     where
       just_before : (t : List Sign) → HasSigns m t → t ≡ s
-      just_before t c = by_place (lt_or_eq j m (omega arith))
+      just_before t c = by_place (lt_suc_cases j m (omega arith))
         where
-          lt_or_eq : (a b : ℕ) → a < suc b → (a < b) ⊎ (a ≡ b)
-          lt_or_eq zero zero h = inr refl
-          lt_or_eq zero (suc b) h = inl (omega arith)
-          lt_or_eq (suc a) zero h = absurd (omega arith)
-          lt_or_eq (suc a) (suc b) h = ⊎_elim {C = (suc a < suc b) ⊎ (suc a ≡ suc b)} (λ l. inl (omega arith)) (λ e. inr (ap suc e)) (lt_or_eq a b (omega arith))
-
           by_place : (j < m) ⊎ (j ≡ m) → t ≡ s
           by_place (inl less) = between j m (suc m) s t b c a less (omega arith)
           by_place (inr same) = one_list m t s c (subst (λ k. HasSigns k s) same b)
@@ -148,7 +133,7 @@ module _ (planes : List V3) (kind : Kind) (lower : List CellEntry) (incidences :
   goes_on m s t a b e =
       let x = get_or incidences m no_incidence in
       let y = get_or incidences (suc m) no_incidence in
-      let (ea, r1) = and_true (nat_eq x.a y.a) _ (not_false (same_words x y) e) in
+      let (ea, r1) = and_true (nat_eq x.a y.a) _ (from_not_false (same_words x y) e) in
       let (eb, r2) = and_true (nat_eq x.b y.b) _ r1 in
       let (ec, ed) = and_true (nat_eq x.c y.c) _ r2 in
       let u = a.under in
@@ -169,19 +154,13 @@ module _ (planes : List V3) (kind : Kind) (lower : List CellEntry) (incidences :
   find : (s : List Sign) (k : ℕ) → IsUnder planes kind lower s k → (i : ℕ) × StandsAt s k i
   find s k under =
       let (i, lt, e) = lists.all (incidence_of s k) (record { signs = s; under = under; is = refl }) in
-      let at : get_or incidences i no_incidence ≡ incidence_of s k = same_index incidences i no_incidence (incidence_of s k) lt ∙ e in
+      let at : get_or incidences i no_incidence ≡ incidence_of s k = any_default incidences i no_incidence (incidence_of s k) lt ∙ e in
       let of : (get_or incidences i no_incidence).of ≡ k = ap (λ x. x.of) at in
       (i, record { signs = record { lt = lt; under = subst (IsUnder planes kind lower s) (sym of) under; is = at ∙ ap (incidence_of s) (sym of) }; of = of })
 
   module _ (two : (s : List Sign) (k : ℕ) → IsUnder planes kind lower s k → (j : ℕ) × IsUnder planes kind lower s j × (j ≢ k)) where
     number : ℕ → ℕ
     number i = (get_or incidences i no_incidence).of
-
-    trichotomy : (i j : ℕ) → (i < j) ⊎ ((i ≡ j) ⊎ (j < i))
-    trichotomy zero zero = inr (inl refl)
-    trichotomy zero (suc j) = inl (omega arith)
-    trichotomy (suc i) zero = inr (inr (omega arith))
-    trichotomy (suc i) (suc j) = ⊎_elim {C = (suc i < suc j) ⊎ ((suc i ≡ suc j) ⊎ (suc j < suc i))} (λ l. inl (omega arith)) (λ r. ⊎_elim {C = (suc i < suc j) ⊎ ((suc i ≡ suc j) ⊎ (suc j < suc i))} (λ e. inr (inl (ap suc e))) (λ g. inr (inr (omega arith))) r) (trichotomy i j)
 
     -- behind the incidence where a cell begins_cell there is another one of it
     second : (i : ℕ) (s : List Sign) → HasSigns i s → begins_cell incidences i ≡ true → HasSigns (suc i) s
@@ -224,7 +203,7 @@ module _ (planes : List V3) (kind : Kind) (lower : List CellEntry) (incidences :
 
     pub pairs : HavePairs incidences (length lower)
     pairs = record {
-      listed = λ i d lt. subst (λ x. x.of < length lower) (same_index incidences i no_incidence d lt) (let (s, a) = signs_at i lt in let u = a.under in u.listed);
+      listed = λ i d lt. subst (λ x. x.of < length lower) (any_default incidences i no_incidence d lt) (let (s, a) = signs_at i lt in let u = a.under in u.listed);
       follow = λ i lt first. let (s, a) = signs_at i lt in let b = second i s a first in let l = b.lt in rw add-one l;
     }
 
@@ -246,9 +225,6 @@ module _ (planes : List V3) (kind : Kind) (lower : List CellEntry) (incidences :
       unfolding IsStrictlySortedBy
       none = record { ascending = tt; from = λ s c. absurd (Contains-nothing s c); has = λ j s a lt. absurd (omega arith); each = All-nil (IsEntry planes kind) }
 
-      lt_cases : (j i : ℕ) → j < suc i → (j < i) ⊎ (j ≡ i)
-      lt_cases j i h = ⊎_elim {C = (j < i) ⊎ (j ≡ i)} (λ l. inl l) (λ r. ⊎_elim {C = (j < i) ⊎ (j ≡ i)} (λ e. inr e) (λ g. absurd (omega arith)) r) (trichotomy j i)
-
       same : (i : ℕ) (cells : List CellEntry) → i < length incidences → begins_cell incidences i ≡ false → AreUpTo i cells → AreUpTo (suc i) cells
       same zero cells lt none up = cc
       same (suc m) cells lt none up = record {
@@ -261,7 +237,7 @@ module _ (planes : List V3) (kind : Kind) (lower : List CellEntry) (incidences :
           has : (j : ℕ) (s : List Sign) → HasSigns j s → j < suc (suc m) → Contains (signs_in cells) s
           has j s a less = ⊎_elim (λ early. up.has j s a early)
               (λ e. let (t, b) = signs_at m (omega arith) in subst (Contains (signs_in cells)) (goes_on m t s b (subst (λ k. HasSigns k s) e a) none) (up.has m t b (omega arith)))
-              (lt_cases j (suc m) less)
+              (lt_suc_cases j (suc m) less)
 
       more : (i : ℕ) (cells : List CellEntry) → i < length incidences → begins_cell incidences i ≡ true → AreUpTo i cells → AreUpTo (suc i) (cells ++ composed_at kind lower incidences i ∷ [])
       more i cells lt first up = go (signs_at i lt)
@@ -280,7 +256,7 @@ module _ (planes : List V3) (kind : Kind) (lower : List CellEntry) (incidences :
               let list : signs_in (cells ++ composed_at kind lower incidences i ∷ []) ≡ signs_in cells ++ s ∷ [] = map-append (λ c. c.signs) cells (composed_at kind lower incidences i ∷ []) ∙ ap (λ t. signs_in cells ++ t ∷ []) new_signs in record {
                 ascending = subst (IsStrictlySortedBy signs_cmp) (sym list) (sorted_push signs_cmp (signs_in cells) s up.ascending (λ t c. below s a t (up.from t c)));
                 from = λ t c. from s a t (Contains-push_cases (signs_in cells) s t (subst (λ l. Contains l t) list c));
-                has = λ m t d less. subst (λ l. Contains l t) (sym list) (has s a m t d (lt_cases m i less));
+                has = λ m t d less. subst (λ l. Contains l t) (sym list) (has s a m t d (lt_suc_cases m i less));
                 each = All-append (IsEntry planes kind) cells (composed_at kind lower incidences i ∷ []) up.each (All-cons (IsEntry planes kind) (composed_at kind lower incidences i) [] (subst (IsEntry planes kind) (sym at_new) made.0) (All-nil (IsEntry planes kind)));
               }
             where

@@ -1,29 +1,24 @@
 -- The order of incidences is total, and tells incidences apart.
-use Rattle.std.proofs.Common.{◌≡◌, ℕ, ◌∙◌, sym, ap, subst, Bool, true, ◌&&◌, refl}
+use Rattle.std.proofs.Common.{◌≡◌, ℕ, ◌∙◌, sym, ap, subst, Bool, true, ◌&&◌}
 use Rattle.std.specs.Ordering.{eq_by_cmp, is_eq, nat_cmp, ordering_then}
 use Rattle.std.specs.declared.cmp.Ordering.{Ordering}
-use Rattle.std.specs.declared.cmp.Ordering.TheVariants.{Less, Equal, Greater}
 use Rattle.std.specs.Cmp.{IsEquivalence, IsTotalOrder, tied_then, unsigned_tied}
 use Rattle.std.specs.FinMap.{IsAntisymmetric, nat_cmp-IsAntisymmetric}
 use Rattle.std.proofs.lemmas.Cmp.{eq_by_cmp_equiv, on_total, then_total, nat_cmp_total}
 use Rattle.staat_cells.specs.declared.incidence.Incidence.{Incidence}
 use Rattle.staat_cells.specs.Packing.{incidence_cmp}
 use Rattle.staat_cells.specs.contracts.incidence.IncidencePartialEq.TheImpl as impl
+use Rattle.staat_vec.proofs.Comparisons.{then_both_equal, from_is_eq}
 
 pub incidence_total : IsTotalOrder incidence_cmp
 incidence_total = then_total (on_total (λ x. x.a) nat_cmp_total) (then_total (on_total (λ x. x.b) nat_cmp_total) (then_total (on_total (λ x. x.c) nat_cmp_total) (then_total (on_total (λ x. x.d) nat_cmp_total) (on_total (λ x. x.of) nat_cmp_total))))
 
-both_equal : (r s : Ordering) → ordering_then r s ≡ Equal → (r ≡ Equal) × (s ≡ Equal)
-both_equal Less s e = absurd cc
-both_equal Equal s e = (refl, e)
-both_equal Greater s e = absurd cc
-
 pub incidence_exact : IsAntisymmetric incidence_cmp
 incidence_exact x y e =
-    let (a, r) = both_equal (nat_cmp x.a y.a) _ e in
-    let (b, s) = both_equal (nat_cmp x.b y.b) _ r in
-    let (c, t) = both_equal (nat_cmp x.c y.c) _ s in
-    let (d, of) = both_equal (nat_cmp x.d y.d) _ t in
+    let (a, r) = then_both_equal (nat_cmp x.a y.a) _ e in
+    let (b, s) = then_both_equal (nat_cmp x.b y.b) _ r in
+    let (c, t) = then_both_equal (nat_cmp x.c y.c) _ s in
+    let (d, of) = then_both_equal (nat_cmp x.d y.d) _ t in
     λ i. record {
       a = nat_cmp-IsAntisymmetric x.a y.a a i;
       b = nat_cmp-IsAntisymmetric x.b y.b b i;
@@ -51,10 +46,5 @@ ties x y =
 pub test_equivalence : IsEquivalence test
 test_equivalence = let p : test ≡ eq_by_cmp incidence_cmp = λ i x y. ties x y i in subst (λ F. IsEquivalence F) (sym p) (eq_by_cmp_equiv incidence_total)
 
-equal_from : (o : Ordering) → is_eq o ≡ true → o ≡ Equal
-equal_from Less e = cc
-equal_from Equal e = refl
-equal_from Greater e = cc
-
 pub test_exact : (x y : Incidence) → test x y ≡ true → x ≡ y
-test_exact x y e = incidence_exact x y (equal_from (incidence_cmp x y) (sym (ties x y) ∙ e))
+test_exact x y e = incidence_exact x y (from_is_eq (incidence_cmp x y) (sym (ties x y) ∙ e))

@@ -19,9 +19,7 @@ use Rattle.staat_cells.specs.CellGraphs.{HasArcsOf, IsArcAt, IsListedArc, ListsA
 use Rattle.staat_cells.specs.Blocks.{HasCone, HasPlanesUpTo, IsBlockArc, IsJoinedArc}
 use Rattle.staat_cells.specs.Blocks.{IsLeft, IsLeftByAll, joined_outside, no_test, outside_by, outside_together, place_of_three}
 use Rattle.staat_cells.proofs.Elements.{all_more, all_pushed, any_more, any_pushed}
-
-lt_or : (a b : ℕ) → (a < b) ⊎ (b ≤ a)
-lt_or a b = grind arith
+use Rattle.staat_vec.proofs.Naturals.{lt_or_le}
 
 -- ---- three tests
 
@@ -96,7 +94,7 @@ one_more : (signs : List Sign) (tests : List PlaneTest) (k j : ℕ)
 one_more signs tests k j = ⊎_elim
     (λ lt. all_more (λ t. IsLeft (outside_by signs t) j) tests k (get_or tests k no_test) lt (same_place tests k lt))
     (λ le. (λ h. (same le h, subst (λ t. IsLeft (outside_by signs t) j) (sym (get_or_past tests k no_test le)) (none_out_of signs j)), λ h. back le h.0))
-    (lt_or k (length tests))
+    (lt_or_le k (length tests))
   where
     same_place : (tests : List PlaneTest) (k : ℕ) → k < length tests → get_or tests k no_test ≡ get_or tests k (get_or tests k no_test)
     same_place tests k lt = get_or_default tests k no_test (get_or tests k no_test) lt
@@ -141,9 +139,6 @@ pub three_all : (tests : List PlaneTest) (i : ℕ) (found : List JoinedTest) →
     → ((signs : List Sign) (j : ℕ) → IsLeftByAll (joined_outside signs) found j ↔ IsLeftByAll (outside_by signs) (take (3 * i) tests) j)
     → (signs : List Sign) (j : ℕ) → IsLeftByAll (joined_outside signs) found j ↔ IsLeftByAll (outside_by signs) tests j
 three_all tests i found le = subst (λ l. (signs : List Sign) (j : ℕ) → IsLeftByAll (joined_outside signs) found j ↔ IsLeftByAll (outside_by signs) l j) (take_all (3 * i) tests le)
-
-pub three_none : (tests : List PlaneTest) (signs : List Sign) (j : ℕ) → IsLeftByAll (joined_outside signs) [] j ↔ IsLeftByAll (outside_by signs) (take 0 tests) j
-three_none tests signs j = (λ h k d lt. absurd (omega (arith, lt)), λ h k d lt. absurd (omega (arith, lt)))
 
 -- ---- what the tests rule out
 

@@ -19,12 +19,12 @@ use Rattle.staat_cells.specs.Skeletons.{IsSkeleton}
 use Rattle.staat_cells.specs.Stages.{cell_at, point_entry, HaveSigns, IsFilledIncidence, IsOwnIncidence, IsIncidence}
 use Rattle.staat_cells.proofs.EdgeCells.{edge_entry, edge_some, edge_two}
 use Rattle.staat_cells.proofs.Grouping.{begun_signs, composed_are_cells, pairs}
-use Rattle.staat_cells.proofs.Composing.{same_index}
 use Rattle.staat_cells.proofs.Numbered.{listed_was}
 use Rattle.staat_cells.proofs.OpenCells.{open_entry, open_some, open_two}
 use Rattle.staat_cells.proofs.PointCells.{points_are}
 use Rattle.staat_cells.proofs.TableRules.{holds_axes, planes_apart, planes_some}
 use Rattle.staat_cells.proofs.WholeLists.{edges_small, equal_lengths, lists_same, open_incidences_are}
+use Rattle.staat_vec.proofs.ListLaws.{any_default}
 
 counted : (kind : Kind) (cells : List Cell) (incidences : List Incidence) → HavePairs incidences (length (map entry_of cells)) → HavePairs incidences (length cells)
 counted kind cells incidences have = subst (HavePairs incidences) (length-map cells entry_of) have
@@ -39,7 +39,7 @@ module _ (planes : List V3) (are : AreTablePlanes planes) (few : length planes �
       all sorted l k d lt = let o = l.each (get_or sorted k d) (k, lt, same sorted k d lt) in listed_was raw (get_or sorted k d).of o.listed
         where
           same : (xs : List Incidence) (k : ℕ) (d : Incidence) → k < length xs → get_or xs k (get_or xs k d) ≡ get_or xs k d
-          same xs k d lt = same_index xs k (get_or xs k d) d lt
+          same xs k d lt = any_default xs k (get_or xs k d) d lt
 
   pub points_listed : (raw cells : List Cell) (corners : List V3) (found sorted incidences : List Incidence) → map entry_of raw ≡ map (point_entry planes) corners → Lists vector_cmp (Contains (vertices planes)) corners
       → incidences ≡ sorted → ((x : Incidence) → Contains found x ↔ IsOwnIncidence (map entry_of raw) x) → Lists incidence_cmp (Contains found) sorted → map entry_of cells ≡ map (λ x. cell_at (map entry_of raw) x.of) incidences → AreCellsOf planes Point (map entry_of cells)

@@ -23,20 +23,21 @@ use Rattle.staat_model.specs.declared.tree.Kind.TheVariants.{Open}
 use Rattle.staat_model.specs.Cells.{AreCellsOf, CellEntry, IsBorder, IsBorderEdge, IsCell, IsEntry, IsOpenSum, kind_of}
 use Rattle.staat_model.specs.Cells.{sign_place, signs_cmp}
 use Rattle.staat_model.specs.Cells.{signs_of}
-use Rattle.staat_model.proofs.CellLemmas.{edge_zeros, negative_sign, sign_negative, two_edges_lemma, zeros}
+use Rattle.staat_model.proofs.CellLemmas.{edge_zeros, two_edges_lemma, zeros}
 use Rattle.staat_model.proofs.EndLemmas.{on_one}
-use Rattle.staat_model.proofs.GraphLemmas.{zero_sign}
 use Rattle.staat_pairs.specs.Tables.{AreTablePlanes, IsPlaneNormal}
 use Rattle.staat_cells.specs.declared.first_cell.LowEdge.{LowEdge}
 use Rattle.staat_cells.specs.FirstCell.{HasNoLowEdge, IsLastLowEdge, IsLowEdge, IsLowOn, all_negative}
 use Rattle.staat_cells.specs.FirstCell.{first_entry}
 use Rattle.staat_cells.proofs.Beside.{border_at, border_from, from_planes}
-use Rattle.staat_cells.proofs.Listed.{decide}
 use Rattle.staat_cells.proofs.LowEdges.{low_kind}
-use Rattle.staat_cells.proofs.Narrowing.{not_low}
 use Rattle.staat_cells.proofs.SignOrder.{not_below_itself, then_less}
 use Rattle.staat_cells.proofs.TableRules.{holds_axes, planes_apart}
 use Rattle.staat_cells.proofs.Zeros.{none_zero, open_kind}
+use Rattle.staat_vec.proofs.Naturals.{le_or_lt, same_or}
+use Rattle.staat_vec.proofs.Options.{some_injective}
+use Rattle.staat_vec.proofs.Signs.{negative_sign, sign_negative, zero_sign}
+use Rattle.staat_vec.proofs.Integers.{zero_not_negative}
 
 -- ---- a direction on the negative side of all planes
 
@@ -57,13 +58,10 @@ far_some e = let wrong : negsuc 0 ≡ pos 0 = ap (λ (v : V3). v.z) e in cc
 
 -- ---- signs at a place
 
-just : (m g : V3) → Some m ≡ Some g → m ≡ g
-just m g e = cc
-
 listed : (planes : List V3) (k : ℕ) (g : V3) → slice_get planes k ≡ Some g → Contains planes g
     × (k < length planes)
 listed [] k g e = cc
-listed (n ∷ planes) zero g e = ((zero, omega arith, just n g e), omega arith)
+listed (n ∷ planes) zero g e = ((zero, omega arith, some_injective n g e), omega arith)
 listed (n ∷ planes) (suc k) g e =
     let ((i, lt, at), below) = listed planes k g e in
     ((suc i, omega arith, at), omega arith)
@@ -79,7 +77,7 @@ less_from : (f g : V3 → Sign) (gs : List V3) (k : ℕ) (h : V3) → slice_get 
     → signs_cmp (map f gs) (map g gs) ≡ Less
 less_from f g [] k h at low flat before = cc
 less_from f g (n ∷ gs) zero h at low flat before =
-    let here : n ≡ h = just n h at in
+    let here : n ≡ h = some_injective n h at in
     (λ i. ordering_then (nat_cmp (sign_place ((ap f here ∙ low) i)) (sign_place ((ap g here ∙ flat) i)))
     (signs_cmp (map f gs) (map g gs)))
 less_from f g (n ∷ gs) (suc k) h at low flat before =
@@ -121,7 +119,7 @@ module _ (planes : List V3) (are : AreTablePlanes planes) where
       (λ same. ap (λ z. sign (dot z x)) same ∙ zero_on g x other ∙ sym (zero_on g d low)
       ∙ ap (λ z. sign (dot z d)) (sym same))
       (λ under. ⊎_elim {C = sign (dot m x) ≡ sign (dot m d)}
-      (λ same. absurd (not_low (dot m d) (ap (λ z. dot z d) same ∙ low.on) under))
+      (λ same. absurd (zero_not_negative (dot m d) (ap (λ z. dot z d) same ∙ low.on) under))
       (λ also. negative_sign (dot m x) also ∙ sym (negative_sign (dot m d) under)) (other.below m m_in))
       (low.below m m_in))
 
@@ -187,11 +185,8 @@ module _ (planes : List V3) (are : AreTablePlanes planes) where
 
   not_later : (end k : ℕ) (s : List Sign) (e : LowEdge) → IsLastLowEdge planes end e → IsEdgeAt s k → k < end
       → k ≤ e.place
-  not_later end k s e last at lt = by (decide_le k e.place)
+  not_later end k s e last at lt = by (le_or_lt k e.place)
     where
-      decide_le : (k j : ℕ) → (k ≤ j) ⊎ (j < k)
-      decide_le k j = grind arith
-
       by : (k ≤ e.place) ⊎ (e.place < k) → k ≤ e.place
       by (inl le) = le
       by (inr more) = absurd (last.later k at.g more lt at.at at.d at.low)
@@ -199,7 +194,7 @@ module _ (planes : List V3) (are : AreTablePlanes planes) where
   at_or_before : (e : LowEdge) (end k : ℕ) (s : List Sign) → IsLastLowEdge planes end e → IsEdgeAt s k
       → k ≤ e.place
       → (s ≡ signs_of planes e.d) ⊎ ((k < e.place) × (signs_cmp (signs_of planes e.d) s ≡ Less))
-  at_or_before e end k s last at le = by (decide k e.place)
+  at_or_before e end k s last at le = by (same_or k e.place)
     where
       edge : IsLowEdge planes last.g e.d
       edge = last.edge
@@ -207,7 +202,7 @@ module _ (planes : List V3) (are : AreTablePlanes planes) where
       by : (k ≡ e.place) ⊎ (k ≢ e.place)
           → (s ≡ signs_of planes e.d) ⊎ ((k < e.place) × (signs_cmp (signs_of planes e.d) s ≡ Less))
       by (inl same) =
-          let here : at.g ≡ last.g = just at.g last.g (sym at.at ∙ ap (slice_get planes) same ∙ last.at) in
+          let here : at.g ≡ last.g = some_injective at.g last.g (sym at.at ∙ ap (slice_get planes) same ∙ last.at) in
           inl (sym at.is ∙ same_signs last.g e.d at.d edge.low (subst (λ z. IsLowOn planes z at.d) here at.low))
       by (inr other) =
           let lt : k < e.place = omega (arith, le, other) in

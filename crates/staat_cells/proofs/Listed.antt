@@ -1,8 +1,7 @@
 -- Cells of one kind in their list, and the signs of a sum.
-use Rattle.std.proofs.Common.{◌≡◌, ◌≢◌, ◌⊎◌, inl, inr, ⊎_elim, ℕ, zero, suc, ◌<◌, refl, sym}
-use Rattle.std.proofs.Common.{ap, subst, ◌∙◌, arith, ℤ, pos, ◌+ℤ◌, List, [], ◌∷◌, length, map}
+use Rattle.std.proofs.Common.{◌≡◌, ◌⊎◌, inl, inr, ℕ, ◌<◌, refl, sym}
+use Rattle.std.proofs.Common.{ap, subst, ◌∙◌, arith, List, [], ◌∷◌, length, map}
 use Rattle.std.specs.declared.cmp.Ordering.TheVariants.{Less}
-use Rattle.std.proofs.lemmas.Int.{ints}
 use Rattle.std.proofs.lemmas.List.{get_or-map, length-map}
 use Rattle.std.proofs.lemmas.Map.Keys.{Less-from_sorted}
 use Rattle.staat_vec.specs.declared.vector.V3.{V3}
@@ -11,13 +10,14 @@ use Rattle.staat_vec.specs.declared.vector.Sign.TheVariants.{Neg, Zero, Pos}
 use Rattle.staat_vec.specs.Vectors.{dot, plus, sign}
 use Rattle.staat_model.specs.declared.tree.Kind.{Kind}
 use Rattle.staat_model.specs.Cells.{kind_of, signs_of, signs_cmp, CellEntry, IsBorder, IsCell, IsEntry, AreCellsOf}
-use Rattle.staat_model.proofs.CellLemmas.{dot_plus}
-use Rattle.staat_model.proofs.GraphLemmas.{zero_sign}
 use Rattle.staat_cells.specs.Compositions.{composed, no_cell}
 use Rattle.staat_cells.specs.Beside.{then_sign}
 use Rattle.staat_cells.specs.Stages.{cell_at}
 use Rattle.staat_cells.proofs.Beside.{border_at, from_planes}
 use Rattle.staat_cells.proofs.SignOrder.{not_below_itself}
+use Rattle.staat_vec.proofs.Integers.{sum_zero}
+use Rattle.staat_vec.proofs.VectorLaws.{dot_plus}
+use Rattle.staat_vec.proofs.Signs.{zero_sign}
 
 module _ (planes : List V3) (kind : Kind) (cells : List CellEntry) (are : AreCellsOf planes kind cells) where
   pub entry_at : (k : ℕ) → k < length cells → IsEntry planes kind (cell_at cells k)
@@ -51,13 +51,6 @@ module _ (planes : List V3) (kind : Kind) (cells : List CellEntry) (are : AreCel
   not_same j k lt below e = not_below_itself (cell_at cells k).signs
       (ap (λ s. signs_cmp s (cell_at cells k).signs) (sym e) ∙ rising j k lt below)
 
-pub decide : (j k : ℕ) → (j ≡ k) ⊎ (j ≢ k)
-decide zero zero = inl refl
-decide zero (suc k) = inr (λ e. omega arith)
-decide (suc j) zero = inr (λ e. omega arith)
-decide (suc j) (suc k) = ⊎_elim {C = (suc j ≡ suc k) ⊎ (suc j ≢ suc k)} (λ e. inl (ap suc e))
-    (λ n. inr (λ e. n (omega arith))) (decide j k)
-
 -- ---- the signs of a sum
 
 pub composed_map : (f g : V3 → Sign) (gs : List V3) → composed (map f gs) (map g gs) ≡ map
@@ -74,9 +67,6 @@ by_signs Pos t u (inr e) h z = cc
 by_signs Zero t u h (inl e) z = e
 by_signs Zero t u h (inr e) z = e ∙ sym (z refl e)
 
-both_zero : (a b : ℤ) → a ≡ pos 0 → b ≡ pos 0 → a +ℤ b ≡ pos 0
-both_zero a b e f = omega (arith, ints)
-
 -- two cells on the border of the cell of their sum have its signs together
 pub composed_signs : (planes : List V3) (u v : V3) (s : List Sign) → signs_of planes (plus u v) ≡ s
     → IsBorder (signs_of planes u) s → IsBorder (signs_of planes v) s → composed (signs_of planes u)
@@ -89,6 +79,6 @@ composed_signs planes u v s is bu bv =
     (subst (IsBorder (signs_of planes u)) (sym is) bu) c)
     (border_at (λ n. sign (dot n v)) (λ n. sign (dot n (plus u v))) planes n
     (subst (IsBorder (signs_of planes v)) (sym is) bv) c)
-    (λ zu zv. ap sign (dot_plus n u v ∙ both_zero (dot n u) (dot n v) (zero_sign (dot n u) zu)
+    (λ zu zv. ap sign (dot_plus n u v ∙ sum_zero (dot n u) (dot n v) (zero_sign (dot n u) zu)
     (zero_sign (dot n v) zv))))
     ∙ is

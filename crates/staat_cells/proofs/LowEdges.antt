@@ -5,8 +5,7 @@ use Rattle.std.proofs.Common.{ℤ, pos, ◌+ℤ◌, ◌-ℤ◌, ◌*ℤ◌, ◌<
 use Rattle.std.proofs.Common.{◌∷◌, ◌++◌, length, get_or, take}
 use Rattle.std.proofs.Common.{Contains}
 use Rattle.std.specs.Prelude.{Some, slice_get}
-use Rattle.std.specs.declared.cmp.Ordering.TheVariants.{Equal, Less}
-use Rattle.std.proofs.lemmas.Cmp.{tied_itself}
+use Rattle.std.specs.declared.cmp.Ordering.TheVariants.{Less}
 use Rattle.std.proofs.lemmas.Int.{ints, by_lt_z}
 use Rattle.std.proofs.lemmas.List.{take_more}
 use Rattle.std.proofs.lemmas.List.Elements.{All-contains, Contains-append_left}
@@ -20,27 +19,28 @@ use Rattle.staat_vec.specs.Primitives.{IsPrimitiveOf, primitive}
 use Rattle.staat_vec.specs.Vectors.{IsWithin, cross, dot, minus, origin, plus, sign, vector_cmp}
 use Rattle.staat_vec.proofs.Order.{cancel_not_positive, cancel_zero, negative_apart}
 use Rattle.staat_vec.proofs.Primitives.{primitive-is}
-use Rattle.staat_vec.proofs.Unique.{Contains-cases, Contains-nothing}
-use Rattle.staat_vec.proofs.VecRing.{cross_self, dot_cross_left, dot_cross_right, plusE, ring3, same_vector, scale}
-use Rattle.staat_vec.proofs.VecRing.{v0, v1, values}
-use Rattle.staat_vec.proofs.VectorOrder.{vector_total}
+use Rattle.staat_vec.proofs.VecRing.{cross_self, dot_cross_left, dot_cross_right, same_vector, scale}
 use Rattle.staat_model.specs.declared.tree.Kind.TheVariants.{Edge}
 use Rattle.staat_model.specs.Cells.{IsBorder, IsCell, IsEdgeSum, IsEnd, kind_of, signs_of}
 use Rattle.staat_model.specs.Planes.{axes}
-use Rattle.staat_model.proofs.CellLemmas.{dot_plus, negative_sign}
 use Rattle.staat_model.proofs.CornerLemmas.{dot_multiple}
-use Rattle.staat_model.proofs.Edge.{dot_origin_right}
 use Rattle.staat_model.proofs.EndLemmas.{edge_has_sum}
 use Rattle.staat_model.proofs.VertexLemmas.{in_vertices}
 use Rattle.staat_pairs.specs.Tables.{AreTablePlanes}
 use Rattle.staat_cells.specs.declared.first_cell.Ends.{Ends}
 use Rattle.staat_cells.specs.FirstCell.{AreArcEnds, AreNotAbove, IsLowEdge, IsLowOn}
 use Rattle.staat_cells.proofs.Beside.{border_from}
-use Rattle.staat_cells.proofs.EdgeIncidences.{other_factor}
-use Rattle.staat_cells.proofs.Listed.{decide}
-use Rattle.staat_cells.proofs.Narrowing.{ends_apart, not_low, turn_about}
+use Rattle.staat_cells.proofs.Narrowing.{ends_apart}
 use Rattle.staat_cells.proofs.TableRules.{holds_axes, planes_apart, planes_some}
-use Rattle.staat_cells.proofs.Zeros.{edge_kind, one_zero}
+use Rattle.staat_cells.proofs.Zeros.{one_zero}
+use Rattle.staat_vec.proofs.Options.{some_injective}
+use Rattle.staat_vec.proofs.VectorLists.{one_of_two}
+use Rattle.staat_vec.proofs.VectorLaws.{plus_comm, dot_plus, dot_origin, dot_cross_about}
+use Rattle.staat_vec.proofs.VectorOrder.{vector_not_below_itself}
+use Rattle.staat_vec.proofs.Integers.{add-comm_ℤ, other_factor_zero, zero_not_negative}
+use Rattle.staat_vec.proofs.Signs.{negative_sign}
+use Rattle.staat_vec.proofs.Naturals.{same_or}
+use Rattle.staat_model.proofs.CellLemmas.{kind_edge}
 
 -- ---- the loop over the planes
 
@@ -71,23 +71,20 @@ one_more planes g e k d lt ends = subst (λ l. AreArcEnds planes g l e) (sym (ta
 pub one_plane : (planes : List V3) (m g : V3) → AreTablePlanes planes → Contains planes m → Contains planes g
     → cross m g ≡ origin → m ≡ g
 one_plane planes m g are (k, lt, at) (j, below, is) none = ⊎_elim {C = m ≡ g}
-    (λ same. just m g (sym (slice_get-get_or planes k m lt ∙ ap Some at) ∙ ap (slice_get planes) same
+    (λ same. some_injective m g (sym (slice_get-get_or planes k m lt ∙ ap Some at) ∙ ap (slice_get planes) same
     ∙ slice_get-get_or planes j g below ∙ ap Some is))
     (λ other. absurd (are.apart k j m g (slice_get-get_or planes k m lt ∙ ap Some at)
     (slice_get-get_or planes j g below ∙ ap Some is) other none))
-    (decide k j)
-  where
-    just : (m g : V3) → Some m ≡ Some g → m ≡ g
-    just m g e = cc
+    (same_or k j)
 
 -- a direction on the negative side of some plane is not zero
 pub some_low : (m d : V3) → dot m d <ℤ pos 0 → d ≢ origin
-some_low m d low none = not_low (dot m d) (ap (dot m) none ∙ dot_origin_right m) low
+some_low m d low none = zero_not_negative (dot m d) (ap (dot m) none ∙ dot_origin m) low
 
 module _ (planes : List V3) (are : AreTablePlanes planes) (g d : V3) (g_in : Contains planes g)
     (low : IsLowOn planes g d) where
   pub low_kind : kind_of (signs_of planes d) ≡ Edge
-  low_kind = edge_kind (signs_of planes d)
+  low_kind = kind_edge (signs_of planes d)
       (one_zero (λ n. sign (dot n d)) planes g (planes_apart planes are) g_in (ap sign low.on) beside)
     where
       beside : (m : V3) → Contains planes m → cross m g ≢ origin → sign (dot m d) ≢ Zero
@@ -98,17 +95,11 @@ module _ (planes : List V3) (are : AreTablePlanes planes) (g d : V3) (g_in : Con
 
 -- ---- the sum of the ends of an edge
 
-swap_plus : (u v : V3) → plus u v ≡ plus v u
-swap_plus u v = ring3 (values (u ∷ v ∷ []) []) (plusE v0 v1) (plusE v1 v0) (tt, tt, tt)
-
-not_below : (u : V3) → vector_cmp u u ≡ Less → ⊥
-not_below u e = let same : vector_cmp u u ≡ Equal = tied_itself vector_total u in cc
-
 module _ (planes : List V3) (are : AreTablePlanes planes) where
   ends_differ : (s : List Sign) (d : V3) → (e : IsEdgeSum planes s d) → e.u ≢ e.v
   ends_differ s d e p =
       let l = e.ends in
-      not_below e.v (subst (λ z. vector_cmp z e.v ≡ Less) p (All-contains (λ q. vector_cmp e.u q ≡ Less)
+      vector_not_below_itself e.v (subst (λ z. vector_cmp z e.v ≡ Less) p (All-contains (λ q. vector_cmp e.u q ≡ Less)
       (e.v ∷ []) e.v (All-after_first vector_cmp e.u (e.v ∷ []) l.ascending) (0, omega arith, refl)))
 
   pub sum_of_ends : (s : List Sign) (u v : V3) → IsCell planes s → kind_of s ≡ Edge → IsEnd planes s u
@@ -117,13 +108,8 @@ module _ (planes : List V3) (are : AreTablePlanes planes) where
       let (d, e) = edge_has_sum planes s (holds_axes planes are) (planes_apart planes are)
       (planes_some planes are) cell edge in
       let l = e.ends in
-      go d e (one_of e.u e.v u (l.all u u_end)) (one_of e.u e.v v (l.all v v_end))
+      go d e (one_of_two e.u e.v u (l.all u u_end)) (one_of_two e.u e.v v (l.all v v_end))
     where
-      one_of : (a b x : V3) → Contains (a ∷ b ∷ []) x → (x ≡ a) ⊎ (x ≡ b)
-      one_of a b x c = ⊎_elim {C = (x ≡ a) ⊎ (x ≡ b)} (λ e. inl e)
-          (λ later. ⊎_elim {C = (x ≡ a) ⊎ (x ≡ b)} (λ e. inr e) (λ none. absurd (Contains-nothing x none))
-          (Contains-cases b [] x later)) (Contains-cases a (b ∷ []) x c)
-
       go : (d : V3) → (e : IsEdgeSum planes s d) → (u ≡ e.u) ⊎ (u ≡ e.v) → (v ≡ e.u) ⊎ (v ≡ e.v)
           → IsEdgeSum planes s (plus u v)
       go d e (inl p) (inl q) = absurd (differ (p ∙ sym q))
@@ -133,7 +119,7 @@ module _ (planes : List V3) (are : AreTablePlanes planes) where
         u = e.u;
         v = e.v;
         ends = e.ends;
-        is = (λ i. plus (p i) (q i)) ∙ swap_plus e.v e.u;
+        is = (λ i. plus (p i) (q i)) ∙ plus_comm e.v e.u;
       }
 
 -- ---- the edge between the ends on a plane
@@ -157,9 +143,6 @@ on_border : (x y s : ℤ) → s ≡ x +ℤ y → x ≤ℤ pos 0 → y ≤ℤ pos
 on_border x y s e h k = ⊎_elim {C = (sign x ≡ sign s) ⊎ (sign x ≡ Zero)} (λ z. inr (ap sign z))
     (λ l. inl (negative_sign x l ∙ sym (negative_sign s (low_sum x y s e l k)))) (low_or_flat x h)
 
-turned : (x y : ℤ) → x +ℤ y ≡ y +ℤ x
-turned x y = omega (arith, ints)
-
 times_zero : (k : ℕ) (x y : ℤ) → y ≡ pos k *ℤ x → x ≡ pos 0 → y ≡ pos 0
 times_zero k x y e h = e ∙ ap (λ z. pos k *ℤ z) h ∙ nothing k
   where
@@ -178,7 +161,7 @@ module _ (planes : List V3) (are : AreTablePlanes planes) (g : V3) (g_in : Conta
   first_some = some_low ends.b e.first (subst (λ z. dot ends.b z <ℤ pos 0) (sym ends.first_is) ends.turn)
 
   second_low : dot ends.a e.second <ℤ pos 0
-  second_low = subst (λ z. z <ℤ pos 0) (turn_about ends.b g ends.a
+  second_low = subst (λ z. z <ℤ pos 0) (dot_cross_about ends.b g ends.a
       ∙ ap (dot ends.a) (sym ends.second_is)) ends.turn
 
   pub second_some : e.second ≢ origin
@@ -212,7 +195,7 @@ module _ (planes : List V3) (are : AreTablePlanes planes) (g : V3) (g_in : Conta
 
   p_low_at_b : dot ends.b (primitive e.first) <ℤ pos 0
   p_low_at_b = ⊎_elim {C = dot ends.b (primitive e.first) <ℤ pos 0}
-      (λ z. absurd (not_low (dot ends.b (cross g ends.a)) (ap (dot ends.b) (sym ends.first_is)
+      (λ z. absurd (zero_not_negative (dot ends.b (cross g ends.a)) (ap (dot ends.b) (sym ends.first_is)
       ∙ times_zero p_of.factor (dot ends.b (primitive e.first)) (dot ends.b e.first) (p_times ends.b) z) ends.turn))
       (λ l. l) (low_or_flat (dot ends.b (primitive e.first)) (p_not_above ends.b ends.b_in))
 
@@ -234,9 +217,9 @@ module _ (planes : List V3) (are : AreTablePlanes planes) (g : V3) (g_in : Conta
       let all : scale turn x ≡ minus (scale (dot m u) v) (scale (dot m v) u) = ends_apart g ends.a ends.b m in
       let off = negative_apart turn ends.turn in
       same_vector x origin
-      (other_factor turn x.x off (ap (λ (z : V3). z.x) all ∙ no_difference (dot m u) (dot m v) v.x u.x mu mv))
-      (other_factor turn x.y off (ap (λ (z : V3). z.y) all ∙ no_difference (dot m u) (dot m v) v.y u.y mu mv))
-      (other_factor turn x.z off (ap (λ (z : V3). z.z) all ∙ no_difference (dot m u) (dot m v) v.z u.z mu mv))
+      (other_factor_zero turn x.x off (ap (λ (z : V3). z.x) all ∙ no_difference (dot m u) (dot m v) v.x u.x mu mv))
+      (other_factor_zero turn x.y off (ap (λ (z : V3). z.y) all ∙ no_difference (dot m u) (dot m v) v.y u.y mu mv))
+      (other_factor_zero turn x.z off (ap (λ (z : V3). z.z) all ∙ no_difference (dot m u) (dot m v) v.z u.z mu mv))
 
   low_between : IsLowOn planes g (plus (primitive e.first) (primitive e.second))
   low_between = record { on = on; below = below }
@@ -283,7 +266,7 @@ module _ (planes : List V3) (are : AreTablePlanes planes) (g : V3) (g_in : Conta
       (λ n. sign (dot n (plus (primitive e.first) (primitive e.second)))) planes
       (λ m m_in. on_border (dot m (primitive e.second)) (dot m (primitive e.first))
       (dot m (plus (primitive e.first) (primitive e.second)))
-      (at_sum m ∙ turned (dot m (primitive e.first)) (dot m (primitive e.second)))
+      (at_sum m ∙ add-comm_ℤ (dot m (primitive e.first)) (dot m (primitive e.second)))
       (q_not_above m m_in) (p_not_above m m_in))
 
   sum_is : IsEdgeSum planes (signs_of planes (plus (primitive e.first) (primitive e.second)))
@@ -301,7 +284,7 @@ module _ (planes : List V3) (are : AreTablePlanes planes) (g : V3) (g_in : Conta
             (λ z. second_some (ends.second_is ∙ z)) (inl (ap primitive ends.second_is));
         border = second_border;
       })
-      (λ same. not_low (dot ends.b (primitive e.first)) (ap (dot ends.b) same ∙ q_flat_at_b) p_low_at_b)
+      (λ same. zero_not_negative (dot ends.b (primitive e.first)) (ap (dot ends.b) same ∙ q_flat_at_b) p_low_at_b)
 
   pub low_edge : (d : V3) → d ≡ plus (primitive e.first) (primitive e.second) → IsWithin EDGE d
       → IsLowEdge planes g d

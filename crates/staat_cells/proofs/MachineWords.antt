@@ -4,9 +4,7 @@ use Rattle.std.specs.Prelude.{unsigned_abs}
 use Rattle.std.specs.Int.{w64, w128}
 use Rattle.std.proofs.lemmas.Int.{to_z-of_z, fits_signed_from_abs}
 use Rattle.staat_vec.proofs.Bounds.{abs_sum_le}
-
-pub reads : (z : ℤ) → unsigned_abs z < 2 ^ 63 → to_z w64 (of_z w64 z) ≡ z
-reads z h = to_z-of_z w64 z (fits_signed_from_abs w64 z (omega arith))
+use Rattle.staat_vec.proofs.Integers.{reads_word}
 
 reads_wide : (z : ℤ) → unsigned_abs z < 2 ^ 63 → to_z w128 (of_z w128 z) ≡ z
 reads_wide z h = to_z-of_z w128 z (fits_signed_from_abs w128 z (omega arith))
@@ -19,7 +17,7 @@ product_read p a b h k e = e ∙ ap₂ (λ x y. x *ℤ y) (reads_wide a h) (read
 -- a sum of two
 pub sum_read : (s a b : ℤ) → unsigned_abs a < 2 ^ 63 → unsigned_abs b < 2 ^ 63
     → s ≡ to_z w64 (of_z w64 a) +ℤ to_z w64 (of_z w64 b) → s ≡ a +ℤ b
-sum_read s a b h k e = e ∙ ap₂ (λ x y. x +ℤ y) (reads a h) (reads b k)
+sum_read s a b h k e = e ∙ ap₂ (λ x y. x +ℤ y) (reads_word a h) (reads_word b k)
 
 -- a sum of three, and its size
 pub three_read : (x y z s t : ℤ) → unsigned_abs x ≤ 2 ^ 61 → unsigned_abs y ≤ 2 ^ 61 → unsigned_abs z ≤ 2 ^ 61
@@ -31,4 +29,4 @@ three_read x y z s t h k l e f =
     let second : t ≡ s +ℤ z = sum_read t s z (omega arith) (omega arith) f in
     let whole : unsigned_abs t ≤ (2 ^ 61 + 2 ^ 61) + 2 ^ 61 =
     rw second (abs_sum_le s z (2 ^ 61 + 2 ^ 61) (2 ^ 61) size l) in
-    reads t (omega arith) ∙ second ∙ ap₂ (λ a b. a +ℤ b) first (λ i. z)
+    reads_word t (omega arith) ∙ second ∙ ap₂ (λ a b. a +ℤ b) first (λ i. z)

@@ -15,18 +15,13 @@ use Rattle.staat_cells.specs.declared.incidence.Incidence.{Incidence}
 use Rattle.staat_cells.specs.Compositions.{no_incidence}
 use Rattle.staat_cells.specs.Mirrors.{AddsMirrors, AreMirrors, HoldsLesser, IsLesser, IsMirrored, IsUpTo, mirrored}
 use Rattle.staat_cells.specs.Packing.{incidence_cmp}
-use Rattle.staat_cells.proofs.Composing.{same_index}
 use Rattle.staat_cells.proofs.IncidenceOrder.{incidence_exact, incidence_total}
+use Rattle.staat_vec.proofs.Naturals.{lt_or_le, trichotomy}
+use Rattle.staat_vec.proofs.ListLaws.{any_default}
 
 -- the incidence at a place
 abbrev pub at : List Incidence → ℕ → Incidence
 at xs k = get_or xs k no_incidence
-
-lt_or : (a b : ℕ) → (a < b) ⊎ (b ≤ a)
-lt_or a b = grind arith
-
-trichotomy : (a b : ℕ) → (a < b) ⊎ ((a ≡ b) ⊎ (b < a))
-trichotomy a b = grind arith
 
 -- ---- mirror images
 
@@ -124,18 +119,18 @@ module _ (sum : Incidence) (old low : List Incidence) (mirrors : IsMirrored sum 
       let long = holds.long in
       let even = mirrors.even in
       let half : i < length old / 2 = omega (arith, long, lt) in
-      subst (IsLow sum old) (same_index low i no_incidence z lt ∙ e)
+      subst (IsLow sum old) (any_default low i no_incidence z lt ∙ e)
       (low_of sum old (at old i) (at old (length old - 1 - i)) (at low i) (mirrors.pairs i half)
       (listed i (omega (arith, half, even))) (listed (length old - 1 - i) (omega (arith, half, even))) (holds.each i half))
 
   pub all_held : (x : Incidence) → Contains old x → Contains low x ⊎ (Contains low (mirrored sum x) × IsUpTo sum x)
-  all_held x (i, lt, e) = by_place (lt_or i (length old / 2))
+  all_held x (i, lt, e) = by_place (lt_or_le i (length old / 2))
     where
       Goal : Incidence → Type 0
       Goal x = Contains low x ⊎ (Contains low (mirrored sum x) × IsUpTo sum x)
 
       is : at old i ≡ x
-      is = same_index old i no_incidence x lt ∙ e
+      is = any_default old i no_incidence x lt ∙ e
 
       held : (j : ℕ) → j < length old / 2 → Contains low (at low j)
       held j half = Contains-get_or low j no_incidence (let long = holds.long in omega (arith, long, half))
@@ -216,7 +211,7 @@ module _ (sum : Incidence) (old low : List Incidence) (mirrors : IsMirrored sum 
               ∙ rises q p (omega (arith, above, lt, long)) (omega (arith, above, lt, long))
 
       each : (x : Incidence) → Contains new x → Contains old x
-      each x (i, lt, e) = subst (Contains old) (same_index new i no_incidence x lt ∙ e) (by_place (lt_or i (length half)))
+      each x (i, lt, e) = subst (Contains old) (any_default new i no_incidence x lt ∙ e) (by_place (lt_or_le i (length half)))
         where
           by_place : (i < length half) ⊎ (length half ≤ i) → Contains old (at new i)
           by_place (inl below) = let l = low_at i below in subst (Contains old) (sym (adds.first i below)) l.has
@@ -236,7 +231,7 @@ module _ (sum : Incidence) (old low : List Incidence) (mirrors : IsMirrored sum 
           own : Contains half x → Contains new x
           own (k, lt, e) =
               let long = adds.long in
-              subst (Contains new) (adds.first k lt ∙ same_index half k no_incidence x lt ∙ e) (new_at k (omega (arith, lt, long)))
+              subst (Contains new) (adds.first k lt ∙ any_default half k no_incidence x lt ∙ e) (new_at k (omega (arith, lt, long)))
 
           image : IsUpTo sum x → Contains half (mirrored sum x) → Contains new x
           image up (k, lt, e) =
@@ -244,7 +239,7 @@ module _ (sum : Incidence) (old low : List Incidence) (mirrors : IsMirrored sum 
               let j = length half - 1 - k in
               let place : length half - 1 - j ≡ k = omega (arith, lt) in
               subst (Contains new) (adds.second j (omega (arith, lt)) ∙ ap (λ n. mirrored sum (at half n)) place
-              ∙ ap (mirrored sum) (same_index half k no_incidence (mirrored sum x) lt ∙ e) ∙ back sum x up)
+              ∙ ap (mirrored sum) (any_default half k no_incidence (mirrored sum x) lt ∙ e) ∙ back sum x up)
               (new_at (length half + j) (omega (arith, lt, long)))
 
       pub mirrors_listed : Lists incidence_cmp (Contains old) new
@@ -269,7 +264,7 @@ pub holds_more : (old new : List Incidence) (i n : ℕ) (z : Incidence) → n �
     → IsLesser (at new i) (at new (n - 1 - i)) z → HoldsUpTo old (slice_set new i z) (i + 1)
 holds_more old new i n z n_is half before lesser = record {
   long = length-set new i z ∙ before.long;
-  first = λ k lt. by_place k (lt_or k i) lt;
+  first = λ k lt. by_place k (lt_or_le k i) lt;
   rest = λ k le. get_or-set_other new i k z no_incidence (λ same. omega (arith, same, le)) ∙ before.rest k (omega (arith, le));
 }
   where
@@ -316,7 +311,7 @@ adds_more sum old new after i n z n_is lt before image is = record {
   long = ap length is ∙ length_push new z ∙ (let long = before.long in omega (arith, long));
   first = λ k less. ap (λ l. at l k) is
       ∙ get_or_append_left new (z ∷ []) no_incidence k (let long = before.long in omega (arith, long, less)) ∙ before.first k less;
-  second = λ k less. ap (λ l. at l (length old + k)) is ∙ by_place k (lt_or k i) less;
+  second = λ k less. ap (λ l. at l (length old + k)) is ∙ by_place k (lt_or_le k i) less;
 }
   where
     by_place : (k : ℕ) → (k < i) ⊎ (i ≤ k) → k < i + 1

@@ -9,22 +9,18 @@ use Rattle.std.proofs.lemmas.List.Elements.{All-append, All-cons, All-nil, All-w
 use Rattle.staat_vec.specs.declared.vector.V3.{V3}
 use Rattle.staat_vec.specs.declared.vector.TheConstants.{VERTEX}
 use Rattle.staat_vec.specs.Vectors.{IsWithin, cross, dot, minus, origin, vector}
-use Rattle.staat_vec.proofs.Ring.{num, ◌⊕◌, ◌⊖◌, ◌⊗◌, opp, ring}
+use Rattle.staat_vec.proofs.Ring.{num, ◌⊕◌, ◌⊖◌, ◌⊗◌, opp, ring, zero-mul_ℤ}
 use Rattle.staat_vec.proofs.VecRing.{crossE, dotE, minusE, timesE, values, vectorE, v0, v1, v2, v3, v4, ring3}
 use Rattle.staat_vec.proofs.VecRing.{same_vector, scale}
 use Rattle.staat_vec.proofs.VecRing.{cross_self, dot_cross_left, dot_cross_right}
-use Rattle.staat_vec.proofs.Order.{negative_mul}
-use Rattle.staat_model.proofs.Edge.{dot_origin_right}
+use Rattle.staat_vec.proofs.Order.{negative_mul, negative_is}
 use Rattle.staat_model.specs.Planes.{axes}
 use Rattle.staat_cells.specs.declared.first_cell.Ends.{Ends}
 use Rattle.staat_cells.specs.FirstCell.{AreArcEnds, AreNotAbove, HasNoLow}
+use Rattle.staat_vec.proofs.Integers.{opposite_negative, two_negatives, zero_nonpositive, negative_nonpositive, zero_not_negative}
+use Rattle.staat_vec.proofs.VectorLaws.{dot_cross_about, dot_origin}
 
 -- ---- signs of products
-
-low_product : (a b : ℤ) → a <ℤ pos 0 → b <ℤ pos 0 → pos 0 <ℤ (a *ℤ b)
-low_product (pos n) b h k = absurd (omega (arith, ints))
-low_product (negsuc a) (pos n) h k = absurd (omega (arith, ints))
-low_product (negsuc a) (negsuc b) h k = omega (arith, ints)
 
 not_above_product : (a b : ℤ) → a ≤ℤ pos 0 → b ≤ℤ pos 0 → pos 0 ≤ℤ (a *ℤ b)
 not_above_product (pos zero) b h k = omega (arith, ints)
@@ -62,22 +58,10 @@ over : (x y : ℤ) → pos 0 <ℤ x → y ≤ℤ pos 0 → x ≡ y → ⊥
 over x y h k e = omega (arith, ints)
 
 zero_times : (a b : ℤ) → a ≡ pos 0 → a *ℤ b ≡ pos 0
-zero_times a b e = ap (λ z. z *ℤ b) e ∙ nothing b
-  where
-    nothing : (b : ℤ) → pos 0 *ℤ b ≡ pos 0
-    nothing b = omega (arith, ints)
-
-pub zero_low : (a : ℤ) → a ≡ pos 0 → a ≤ℤ pos 0
-zero_low a e = omega (arith, ints)
-
-pub low_le : (a : ℤ) → a <ℤ pos 0 → a ≤ℤ pos 0
-low_le a h = omega (arith, ints)
+zero_times a b e = ap (λ z. z *ℤ b) e ∙ zero-mul_ℤ b
 
 low_not_above : (a b : ℤ) → a ≡ b → b <ℤ pos 0 → a ≤ℤ pos 0
 low_not_above a b e h = omega (arith, ints)
-
-pub not_low : (a : ℤ) → a ≡ pos 0 → a <ℤ pos 0 → ⊥
-not_low a e h = omega (arith, ints)
 
 -- ---- a number as it was computed
 
@@ -116,9 +100,6 @@ second_moved : (g a b h m : V3) → dot m (cross h g) *ℤ dot b (cross g a)
 second_moved g a b h m = ring (values (g ∷ a ∷ b ∷ h ∷ m ∷ []) []) (dotE v4
     (crossE v3 v0) ⊗ dotE v2 (crossE v0 v1))
     (dotE v3 (crossE v0 v1) ⊗ dotE v4 (crossE v2 v0) ⊖ dotE v4 (crossE v0 v1) ⊗ dotE v3 (crossE v2 v0)) tt
-
-pub turn_about : (b g h : V3) → dot b (cross g h) ≡ dot h (cross b g)
-turn_about b g h = ring (values (b ∷ g ∷ h ∷ []) []) (dotE v0 (crossE v1 v2)) (dotE v2 (crossE v0 v1)) tt
 
 -- a plane on whose border both ends lie is parallel to g
 pub ends_apart : (g a b m : V3) → scale (dot b (cross g a)) (cross m g)
@@ -164,7 +145,7 @@ module _ (planes passed : List V3) (g h : V3) (e : Ends) (are : AreArcEnds plane
     b_in = are.b_in;
     first_is = first;
     second_is = second ∙ are.second_is;
-    turn = subst (λ z. z <ℤ pos 0) (at_second ∙ sym (turn_about are.b g h)) low;
+    turn = subst (λ z. z <ℤ pos 0) (at_second ∙ sym (dot_cross_about are.b g h)) low;
     first_size = size;
     second_size = subst (IsWithin VERTEX) (sym second) are.second_size;
     passed_are = All-append (AreNotAbove n) passed (h ∷ [])
@@ -174,7 +155,7 @@ module _ (planes passed : List V3) (g h : V3) (e : Ends) (are : AreArcEnds plane
     where
       here : AreNotAbove n h
       here = record {
-        first = zero_low (dot h n.first) (ap (dot h) first ∙ dot_cross_right g h);
+        first = zero_nonpositive (dot h n.first) (ap (dot h) first ∙ dot_cross_right g h);
         second = low_not_above (dot h n.second) (dot h e.second) (ap (dot h) second) low;
       }
 
@@ -212,7 +193,7 @@ module _ (planes passed : List V3) (g h : V3) (e : Ends) (are : AreArcEnds plane
       here : AreNotAbove n h
       here = record {
         first = low_not_above (dot h n.first) (dot h e.first) (ap (dot h) first) low;
-        second = zero_low (dot h n.second) (ap (dot h) second ∙ dot_cross_left h g);
+        second = zero_nonpositive (dot h n.second) (ap (dot h) second ∙ dot_cross_left h g);
       }
 
       still : (m : V3) → AreNotAbove e m → AreNotAbove n m
@@ -234,18 +215,18 @@ module _ (planes passed : List V3) (g h : V3) (e : Ends) (are : AreArcEnds plane
     where
       on_g : h ≡ g → ⊥
       on_g same = not_both_zero
-          (zero_low (dot h e.first) (at_first ∙ ap (λ z. dot z (cross g are.a)) same ∙ dot_cross_left g are.a))
-          (zero_low (dot h e.second) (at_second ∙ ap (λ z. dot z (cross are.b g)) same ∙ dot_cross_right are.b g))
+          (zero_nonpositive (dot h e.first) (at_first ∙ ap (λ z. dot z (cross g are.a)) same ∙ dot_cross_left g are.a))
+          (zero_nonpositive (dot h e.second) (at_second ∙ ap (λ z. dot z (cross are.b g)) same ∙ dot_cross_right are.b g))
 
       under_a : dot are.a d <ℤ pos 0
       under_a = ⊎_elim {C = dot are.a d <ℤ pos 0}
-          (λ same. absurd (not_low (dot are.b (cross g are.a)) (ap (λ z. dot are.b (cross g z)) same
-          ∙ ap (dot are.b) (cross_self g) ∙ dot_origin_right are.b) are.turn)) (λ h. h)
+          (λ same. absurd (zero_not_negative (dot are.b (cross g are.a)) (ap (λ z. dot are.b (cross g z)) same
+          ∙ ap (dot are.b) (cross_self g) ∙ dot_origin are.b) are.turn)) (λ h. h)
           (low.below are.a are.a_in)
 
       under_b : dot are.b d <ℤ pos 0
       under_b = ⊎_elim {C = dot are.b d <ℤ pos 0}
-          (λ same. absurd (not_low (dot are.b (cross g are.a)) (ap (λ z. dot z (cross g are.a)) same
+          (λ same. absurd (zero_not_negative (dot are.b (cross g are.a)) (ap (λ z. dot z (cross g are.a)) same
           ∙ dot_cross_left g are.a) are.turn)) (λ h. h)
           (low.below are.b are.b_in)
 
@@ -253,12 +234,12 @@ module _ (planes passed : List V3) (g h : V3) (e : Ends) (are : AreArcEnds plane
       beside under = over (dot h d *ℤ dot are.b (cross g are.a))
           ((dot are.b d *ℤ dot h (cross g are.a) +ℤ dot are.a d *ℤ dot h (cross are.b g))
           +ℤ dot g d *ℤ dot h (cross are.a are.b))
-          (low_product (dot h d) (dot are.b (cross g are.a)) under are.turn)
+          (two_negatives (dot h d) (dot are.b (cross g are.a)) under are.turn)
           (three_low (dot are.b d *ℤ dot h (cross g are.a)) (dot are.a d *ℤ dot h (cross are.b g))
           (dot g d *ℤ dot h (cross are.a are.b))
-          (mixed_product (dot are.b d) (dot h (cross g are.a)) (low_le (dot are.b d) under_b)
+          (mixed_product (dot are.b d) (dot h (cross g are.a)) (negative_nonpositive (dot are.b d) under_b)
           (subst (λ z. pos 0 ≤ℤ z) at_first up))
-          (mixed_product (dot are.a d) (dot h (cross are.b g)) (low_le (dot are.a d) under_a)
+          (mixed_product (dot are.a d) (dot h (cross are.b g)) (negative_nonpositive (dot are.a d) under_a)
           (subst (λ z. pos 0 ≤ℤ z) at_second also))
           (zero_times (dot g d) (dot h (cross are.a are.b)) low.on))
           (by_edges g are.a are.b h d)
@@ -303,49 +284,43 @@ module _ (g : V3) (e : Ends) where
   z_in : Contains axes ez
   z_in = (2, omega arith, refl)
 
-  up : (a z : ℤ) → a ≡ neg_ℤ z → pos 0 <ℤ z → a <ℤ pos 0
-  up a z e h = omega (arith, ints)
-
-  down : (a z : ℤ) → a ≡ z → z <ℤ pos 0 → a <ℤ pos 0
-  down a z e h = omega (arith, ints)
-
   pub z_up : pos 0 <ℤ g.z → IsBetween ey ex → AreArcEnds axes g [] e
-  z_up h b = ends_at ey ex y_in x_in b (up (dot ex (cross g ey)) g.z is h)
+  z_up h b = ends_at ey ex y_in x_in b (opposite_negative (dot ex (cross g ey)) g.z is h)
     where
       is : dot ex (cross g ey) ≡ neg_ℤ g.z
       is = ring (values (g ∷ []) []) (dotE (vectorE (num (pos 1)) (num (pos 0)) (num (pos 0)))
           (crossE v0 (vectorE (num (pos 0)) (num (pos 1)) (num (pos 0))))) (opp v0.z) tt
 
   pub z_down : g.z <ℤ pos 0 → IsBetween ex ey → AreArcEnds axes g [] e
-  z_down h b = ends_at ex ey x_in y_in b (down (dot ey (cross g ex)) g.z is h)
+  z_down h b = ends_at ex ey x_in y_in b (negative_is (dot ey (cross g ex)) g.z is h)
     where
       is : dot ey (cross g ex) ≡ g.z
       is = ring (values (g ∷ []) []) (dotE (vectorE (num (pos 0)) (num (pos 1)) (num (pos 0)))
           (crossE v0 (vectorE (num (pos 1)) (num (pos 0)) (num (pos 0))))) v0.z tt
 
   pub y_up : pos 0 <ℤ g.y → IsBetween ex ez → AreArcEnds axes g [] e
-  y_up h b = ends_at ex ez x_in z_in b (up (dot ez (cross g ex)) g.y is h)
+  y_up h b = ends_at ex ez x_in z_in b (opposite_negative (dot ez (cross g ex)) g.y is h)
     where
       is : dot ez (cross g ex) ≡ neg_ℤ g.y
       is = ring (values (g ∷ []) []) (dotE (vectorE (num (pos 0)) (num (pos 0)) (num (pos 1)))
           (crossE v0 (vectorE (num (pos 1)) (num (pos 0)) (num (pos 0))))) (opp v0.y) tt
 
   pub y_down : g.y <ℤ pos 0 → IsBetween ez ex → AreArcEnds axes g [] e
-  y_down h b = ends_at ez ex z_in x_in b (down (dot ex (cross g ez)) g.y is h)
+  y_down h b = ends_at ez ex z_in x_in b (negative_is (dot ex (cross g ez)) g.y is h)
     where
       is : dot ex (cross g ez) ≡ g.y
       is = ring (values (g ∷ []) []) (dotE (vectorE (num (pos 1)) (num (pos 0)) (num (pos 0)))
           (crossE v0 (vectorE (num (pos 0)) (num (pos 0)) (num (pos 1))))) v0.y tt
 
   pub x_up : pos 0 <ℤ g.x → IsBetween ez ey → AreArcEnds axes g [] e
-  x_up h b = ends_at ez ey z_in y_in b (up (dot ey (cross g ez)) g.x is h)
+  x_up h b = ends_at ez ey z_in y_in b (opposite_negative (dot ey (cross g ez)) g.x is h)
     where
       is : dot ey (cross g ez) ≡ neg_ℤ g.x
       is = ring (values (g ∷ []) []) (dotE (vectorE (num (pos 0)) (num (pos 1)) (num (pos 0)))
           (crossE v0 (vectorE (num (pos 0)) (num (pos 0)) (num (pos 1))))) (opp v0.x) tt
 
   pub x_down : g.x <ℤ pos 0 → IsBetween ey ez → AreArcEnds axes g [] e
-  x_down h b = ends_at ey ez y_in z_in b (down (dot ez (cross g ey)) g.x is h)
+  x_down h b = ends_at ey ez y_in z_in b (negative_is (dot ez (cross g ey)) g.x is h)
     where
       is : dot ez (cross g ey) ≡ g.x
       is = ring (values (g ∷ []) []) (dotE (vectorE (num (pos 0)) (num (pos 0)) (num (pos 1)))

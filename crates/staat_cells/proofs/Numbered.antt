@@ -1,5 +1,5 @@
 -- Loops that list incidences cell by cell.
-use Rattle.std.proofs.Common.{◌≡◌, ◌⊎◌, ◌↔◌, inl, inr, ⊎_elim, ℕ, zero, suc, ◌+◌, ◌<◌, ◌≤◌, refl, sym, ap, subst, ◌∙◌, arith, List, [], ◌∷◌, ◌++◌, length, get_or, map, All, Contains}
+use Rattle.std.proofs.Common.{◌≡◌, ◌⊎◌, ◌↔◌, inl, inr, ⊎_elim, ℕ, ◌+◌, ◌<◌, ◌≤◌, sym, ap, subst, ◌∙◌, arith, List, [], ◌∷◌, ◌++◌, length, get_or, map, All, Contains}
 use Rattle.std.proofs.lemmas.List.{get_or-map, length-map}
 use Rattle.std.proofs.lemmas.List.Elements.{Contains-append_left, Contains-push, Contains-push_cases}
 use Rattle.staat_vec.specs.declared.vector.V3.{V3}
@@ -16,8 +16,9 @@ use Rattle.staat_cells.specs.Compositions.{entry_of, no_cell, no_incidence}
 use Rattle.staat_cells.specs.Packing.{incidence_of}
 use Rattle.staat_cells.specs.Beside.{filled}
 use Rattle.staat_cells.specs.Stages.{cell_at, GrewByAll, HaveSigns, IsEdgeIncidence, IsFilledIncidence, IsOwnIncidence, IsIncidence, IsVertexPoint}
-use Rattle.staat_cells.proofs.Composing.{same_index}
 use Rattle.staat_cells.proofs.PushingIncidences.{grew_pair}
+use Rattle.staat_vec.proofs.Naturals.{lt_one_more_cases}
+use Rattle.staat_vec.proofs.ListLaws.{any_default}
 
 -- the list holds the incidences with P of the first cells
 abbrev pub HoldsFirst : (Incidence → Type 0) → ℕ → List Incidence → Type 0
@@ -26,19 +27,13 @@ HoldsFirst P k incidences = (x : Incidence) → Contains incidences x ↔ ((x.of
 pub holds_none : (P : Incidence → Type 0) (incidences : List Incidence) → incidences ≡ [] → HoldsFirst P 0 incidences
 holds_none P incidences e x = (λ c. absurd (Contains-nothing x (subst (λ l. Contains l x) e c)), λ h. absurd (let lt = h.0 in omega (arith, lt)))
 
-pub below_or_at : (a k : ℕ) → a < k + 1 → (a < k) ⊎ (a ≡ k)
-below_or_at zero zero h = inr refl
-below_or_at zero (suc k) h = inl (omega arith)
-below_or_at (suc a) zero h = absurd (omega arith)
-below_or_at (suc a) (suc k) h = ⊎_elim {C = (suc a < suc k) ⊎ (suc a ≡ suc k)} (λ l. inl (omega arith)) (λ e. inr (ap suc e)) (below_or_at a k (omega arith))
-
 pub holds_more : (P Q : Incidence → Type 0) (k : ℕ) (old new : List Incidence) → HoldsFirst P k old → GrewByAll Q old new → ((x : Incidence) → Q x ↔ ((x.of ≡ k) × P x)) → HoldsFirst P (k + 1) new
 holds_more P Q k old new before grew here x = (
   λ c. ⊎_elim {C = (x.of < k + 1) × P x}
       (λ early. let h = (before x).0 early in let lt = h.0 in (omega (arith, lt), h.1))
       (λ q. let h = (here x).0 q in let e = h.0 in (omega (arith, e), h.1))
       ((grew x).0 c),
-  λ h. (grew x).1 (⊎_elim {C = Contains old x ⊎ Q x} (λ lt. inl ((before x).1 (lt, h.1))) (λ e. inr ((here x).1 (e, h.1))) (below_or_at x.of k h.0)),
+  λ h. (grew x).1 (⊎_elim {C = Contains old x ⊎ Q x} (λ lt. inl ((before x).1 (lt, h.1))) (λ e. inr ((here x).1 (e, h.1))) (lt_one_more_cases x.of k h.0)),
 )
 
 pub holds_all : (P : Incidence → Type 0) (n k : ℕ) (incidences : List Incidence) → n ≤ k → ((x : Incidence) → P x → x.of < n) → HoldsFirst P k incidences → (x : Incidence) → Contains incidences x ↔ P x
@@ -72,7 +67,7 @@ module _ (cells : List Cell) (own : List Incidence) (have : HaveSigns (map entry
       → HasFewSigns (get_or own k no_incidence)
   own_few k few lt = record {
     signs = (get_or cells k no_listed).signs;
-    is = own_at k (get_or cells k no_listed) lt (same_index cells k no_listed (get_or cells k no_listed) lt);
+    is = own_at k (get_or cells k no_listed) lt (any_default cells k no_listed (get_or cells k no_listed) lt);
     few = few k no_listed lt;
   }
 
@@ -142,7 +137,7 @@ pub own_filled : (cells : List Cell) (own old new : List Incidence) (k : ℕ) �
     → HoldsFirst (IsFilledIncidence (map entry_of cells)) (k + 1) new
 own_filled cells own old new k have few lt made before =
     let a = get_or cells k no_listed in
-    let at : a ≡ get_or cells k a = same_index cells k no_listed a lt in
+    let at : a ≡ get_or cells k a = any_default cells k no_listed a lt in
     filled_more cells k a old new lt at (made a.signs (own_at cells own have k a lt at) (few k no_listed lt)) before
 
 -- ---- the incidences of vertices

@@ -1,5 +1,5 @@
 -- Each direction lies in exactly one of the cells that are listed.
-use Rattle.std.proofs.Common.{◌≡◌, ◌≢◌, ◌⊎◌, inl, inr, ⊎_elim, ℕ, zero, suc, ◌<◌, refl, sym, ap, subst, ◌∙◌, arith, List, [], ◌∷◌, ◌++◌, length}
+use Rattle.std.proofs.Common.{◌≡◌, ◌≢◌, ⊎_elim, ℕ, zero, suc, ◌<◌, refl, sym, ap, subst, ◌∙◌, arith, List, [], ◌∷◌, ◌++◌, length}
 use Rattle.std.specs.Prelude.{slice_get, Some}
 use Rattle.std.proofs.lemmas.Option.{slice_get-get_or}
 use Rattle.staat_vec.specs.declared.vector.V3.{V3}
@@ -10,6 +10,7 @@ use Rattle.staat_model.specs.Cells.{kind_of, signs_of, AreCells, AreCellsOf, Cel
 use Rattle.staat_cells.specs.Compositions.{no_cell}
 use Rattle.staat_cells.specs.Stages.{cell_at}
 use Rattle.staat_cells.proofs.Listed.{entry_at, not_same, place_of}
+use Rattle.staat_vec.proofs.Naturals.{trichotomy}
 
 module _ (planes : List V3) (d : V3) where
   -- no listed cell has the signs of d
@@ -74,12 +75,6 @@ module _ (planes : List V3) (d : V3) where
       let (lt, is) = at_place cells k c at in
       let entry = entry_at planes kind cells listed k lt in
       other (ap kind_of (sym e ∙ ap (λ (x : CellEntry). x.signs) (sym is)) ∙ entry.by_count)
-
-  trichotomy : (i j : ℕ) → (i < j) ⊎ ((i ≡ j) ⊎ (j < i))
-  trichotomy zero zero = inr (inl refl)
-  trichotomy zero (suc j) = inl (omega arith)
-  trichotomy (suc i) zero = inr (inr (omega arith))
-  trichotomy (suc i) (suc j) = ⊎_elim {C = (suc i < suc j) ⊎ ((suc i ≡ suc j) ⊎ (suc j < suc i))} (λ l. inl (omega arith)) (λ r. ⊎_elim {C = (suc i < suc j) ⊎ ((suc i ≡ suc j) ⊎ (suc j < suc i))} (λ e. inr (inl (ap suc e))) (λ g. inr (inr (omega arith))) r) (trichotomy i j)
 
   one_of : (kind : Kind) (cells : List CellEntry) → AreCellsOf planes kind cells → d ≢ origin → kind_of (signs_of planes d) ≡ kind → HasOneCell planes cells d
   one_of kind cells listed nonzero same =

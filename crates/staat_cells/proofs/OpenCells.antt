@@ -12,7 +12,8 @@ use Rattle.staat_model.proofs.EndLemmas.{edge_sum_in}
 use Rattle.staat_model.proofs.PlaneLemmas.{NoneParallel}
 use Rattle.staat_cells.specs.Compositions.{composed, composed_cell}
 use Rattle.staat_cells.specs.Stages.{cell_at, IsUnder}
-use Rattle.staat_cells.proofs.Listed.{decide, entry_at, composed_signs, not_same, place_of, rising, StandsAt}
+use Rattle.staat_cells.proofs.Listed.{entry_at, composed_signs, not_same, place_of, rising, StandsAt}
+use Rattle.staat_vec.proofs.Naturals.{same_or}
 
 module _ (planes : List V3) (axes : HoldsAxes planes) (apart : NoneParallel planes) (some : (g : V3) → Contains planes g → g ≢ origin) (edges : List CellEntry) (are : AreCellsOf planes Edge edges) where
   at_edge : (e : List Sign) → IsCell planes e → kind_of e ≡ Edge → (k : ℕ) × StandsAt planes Edge edges are e k
@@ -38,7 +39,7 @@ module _ (planes : List V3) (axes : HoldsAxes planes) (apart : NoneParallel plan
       let c = t.f_is in
       let (i, at_i) = at_edge t.e b.cell b.edge in
       let (j, at_j) = at_edge t.f c.cell c.edge in
-      go t.e t.f i j t.different b c at_i at_j (decide i k)
+      go t.e t.f i j t.different b c at_i at_j (same_or i k)
     where
       go : (e f : List Sign) (i j : ℕ) → e ≢ f → IsBorderEdge planes s e → IsBorderEdge planes s f → StandsAt planes Edge edges are e i → StandsAt planes Edge edges are f j → (i ≡ k) ⊎ (i ≢ k) → (j : ℕ) × IsUnder planes Open edges s j × (j ≢ k)
       go e f i j differ b c at_i at_j (inr n) = (i, border_under s e i under.cell under.by_count b at_i, n)

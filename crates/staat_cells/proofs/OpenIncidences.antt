@@ -1,6 +1,5 @@
 -- The two incidences of an edge are the open cells on whose border it is.
-use Rattle.std.proofs.Common.{◌≡◌, ◌≢◌, ℕ, zero, suc, refl, sym, ap, ◌∙◌, arith, ℤ, pos, negsuc, neg_ℤ, ◌<ℤ◌, ◌⊎◌, inl, inr, ⊎_elim, List, [], ◌∷◌, map, Contains}
-use Rattle.std.proofs.lemmas.Int.{ints}
+use Rattle.std.proofs.Common.{◌≡◌, ◌≢◌, ℕ, refl, sym, ap, ◌∙◌, arith, pos, ◌<ℤ◌, ◌⊎◌, inl, inr, ⊎_elim, List, [], ◌∷◌, map, Contains}
 use Rattle.staat_vec.specs.declared.vector.V3.{V3}
 use Rattle.staat_vec.specs.declared.vector.Sign.{Sign}
 use Rattle.staat_vec.specs.declared.vector.Sign.TheVariants.{Neg, Zero, Pos}
@@ -8,13 +7,14 @@ use Rattle.staat_vec.specs.Vectors.{dot, negative, origin, sign}
 use Rattle.staat_vec.proofs.VecRing.{dot_negative}
 use Rattle.staat_model.specs.declared.tree.Kind.TheVariants.{Edge, Open}
 use Rattle.staat_model.specs.Cells.{signs_of, kind_of, IsBorder, IsCell}
-use Rattle.staat_model.proofs.CellLemmas.{zeros, zeros-cons, edge_zeros, positive_sign, negative_sign, off_all}
-use Rattle.staat_model.proofs.CornerLemmas.{some_square}
-use Rattle.staat_model.proofs.Edge.{dot_origin_right}
+use Rattle.staat_model.proofs.CellLemmas.{zeros, zeros-cons, edge_zeros, off_all, zeros_off, open_zeros}
 use Rattle.staat_model.proofs.EndLemmas.{on_one}
 use Rattle.staat_cells.specs.Beside.{then_sign, filled}
-use Rattle.staat_cells.proofs.Beside.{beside_is, from_planes}
-use Rattle.staat_cells.proofs.Zeros.{zeros_off, open_kind, open_zeros}
+use Rattle.staat_cells.proofs.Beside.{beside_is, from_planes, then_border}
+use Rattle.staat_cells.proofs.Zeros.{open_kind}
+use Rattle.staat_vec.proofs.Integers.{opposite_negative}
+use Rattle.staat_vec.proofs.Signs.{sign_some, positive_sign, negative_sign}
+use Rattle.staat_vec.proofs.VectorLaws.{some_square, dot_origin}
 
 -- ---- lists of signs
 
@@ -26,11 +26,6 @@ then_some Pos t n e = cc
 pub filled_zeros : (t : Sign) (s : List Sign) → t ≢ Zero → zeros (filled t s) ≡ 0
 filled_zeros t [] n = refl
 filled_zeros t (x ∷ s) n = zeros_off (then_sign x t) (filled t s) (then_some x t n) ∙ filled_zeros t s n
-
-then_border : (s t : Sign) → (s ≡ then_sign s t) ⊎ (s ≡ Zero)
-then_border Neg t = inl refl
-then_border Zero t = inr refl
-then_border Pos t = inl refl
 
 pub filled_border : (t : Sign) (s : List Sign) → IsBorder s (filled t s)
 filled_border t [] = tt
@@ -81,10 +76,6 @@ border_filled (x ∷ e) (y ∷ s) one none b = go x y one none b.0 (border_fille
 -- ---- directions
 
 module _ (planes : List V3) (d c : V3) (some : c ≢ origin) (c_in : Contains planes c) (on : dot c d ≡ pos 0) (only : (g : V3) → Contains planes g → (g ≡ c) ⊎ (dot g d ≢ pos 0)) where
-  some_sign : (a : ℤ) → a ≢ pos 0 → sign a ≢ Zero
-  some_sign (pos zero) n e = n refl
-  some_sign (pos (suc k)) n e = cc
-  some_sign (negsuc k) n e = cc
 
   keeps : (s t u : Sign) → s ≢ Zero → then_sign s t ≡ then_sign s u
   keeps Neg t u n = refl
@@ -94,7 +85,7 @@ module _ (planes : List V3) (d c : V3) (some : c ≢ origin) (c_in : Contains pl
   at : (w : V3) (t : Sign) → sign (dot c w) ≡ t → (g : V3) → Contains planes g → then_sign (sign (dot g d)) (sign (dot g w)) ≡ then_sign (sign (dot g d)) t
   at w t e g g_in = ⊎_elim
       (λ same. ap (then_sign (sign (dot g d))) (ap (λ v. sign (dot v w)) same ∙ e))
-      (λ off. keeps (sign (dot g d)) (sign (dot g w)) t (some_sign (dot g d) off))
+      (λ off. keeps (sign (dot g d)) (sign (dot g w)) t (sign_some (dot g d) off))
       (only g g_in)
 
   map_map : (gs : List V3) (t : Sign) → map (λ n. then_sign (sign (dot n d)) t) gs ≡ filled t (signs_of gs d)
@@ -109,11 +100,8 @@ module _ (planes : List V3) (d c : V3) (some : c ≢ origin) (c_in : Contains pl
   square : pos 0 <ℤ dot c c
   square = some_square c some
 
-  below : (p q : ℤ) → p ≡ neg_ℤ q → pos 0 <ℤ q → p <ℤ pos 0
-  below p q e h = omega (arith, ints)
-
   pub each_incidence : (t : Sign) → t ≢ Zero → (x : V3) × (signs_of planes x ≡ filled t (signs_of planes d))
-  each_incidence Neg n = towards (negative c) Neg (negative_sign (dot c (negative c)) (below (dot c (negative c)) (dot c c) (dot_negative c c) square))
+  each_incidence Neg n = towards (negative c) Neg (negative_sign (dot c (negative c)) (opposite_negative (dot c (negative c)) (dot c c) (dot_negative c c) square))
   each_incidence Zero n = absurd (n refl)
   each_incidence Pos n = towards c Pos (positive_sign (dot c c) square)
 
@@ -125,7 +113,7 @@ filled_open planes e t some cell edge n =
     let (x, is) = each_incidence planes d c (some c c_in) c_in on only t n in
     let none : zeros (signs_of planes x) ≡ 0 = ap zeros is ∙ filled_zeros t (signs_of planes d) n in
     let whole : signs_of planes x ≡ filled t e = is ∙ ap (filled t) cell.is in (
-      record { d = x; nonzero = λ z. off_all planes x none c c_in (ap sign (ap (dot c) z ∙ dot_origin_right c)); is = whole },
+      record { d = x; nonzero = λ z. off_all planes x none c c_in (ap sign (ap (dot c) z ∙ dot_origin c)); is = whole },
       open_kind (filled t e) (filled_zeros t e n),
       filled_border t e,
     )

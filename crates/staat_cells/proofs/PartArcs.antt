@@ -13,8 +13,8 @@ use Rattle.staat_cells.specs.CellGraphs.{AddsArcs, AddsCone, AddsCones, AddsCone
 use Rattle.staat_cells.specs.CellGraphs.{IsAheadBy, IsFromPart, IsPairAhead, IsPieceAhead}
 use Rattle.staat_cells.specs.HalfSpaces.{AreAhead, AreInside}
 use Rattle.staat_cells.proofs.Elements.{any_more}
-use Rattle.staat_cells.proofs.Numbered.{below_or_at}
 use Rattle.staat_cells.proofs.PushingIncidences.{either_more}
+use Rattle.staat_vec.proofs.Naturals.{lt_one_more_cases}
 
 -- ---- cones
 
@@ -33,7 +33,7 @@ more_cones F k old mid new p q signs = either_more (p signs) (q signs) (from, to
     from : Below F (k + 1) signs → Below F k signs ⊎ F k signs
     from (j, lt, h) = ⊎_elim {C = Below F k signs ⊎ F k signs} (λ l. inl (j, l, h))
         (λ e. inr (subst (λ i. F i signs) e h))
-        (below_or_at j k lt)
+        (lt_one_more_cases j k lt)
 
     to : Below F k signs ⊎ F k signs → Below F (k + 1) signs
     to (inl (j, lt, h)) = (j, omega (arith, lt), h)
@@ -137,7 +137,7 @@ below_more F k old mid new p q = adds_both (BelowParts F k) (F k) (BelowParts F 
   where
     from : (signs : List Sign) (a b : ℕ) → BelowParts F (k + 1) signs a b → BelowParts F k signs a b ⊎ F k signs a b
     from signs a b (j, lt, h) = ⊎_elim {C = BelowParts F k signs a b ⊎ F k signs a b} (λ l. inl (j, l, h))
-        (λ e. inr (subst (λ i. F i signs a b) e h)) (below_or_at j k lt)
+        (λ e. inr (subst (λ i. F i signs a b) e h)) (lt_one_more_cases j k lt)
 
     to : (signs : List Sign) (a b : ℕ) → BelowParts F k signs a b ⊎ F k signs a b → BelowParts F (k + 1) signs a b
     to signs a b (inl (j, lt, h)) = (j, omega (arith, lt), h)

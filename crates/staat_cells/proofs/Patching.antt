@@ -15,8 +15,8 @@ use Rattle.staat_cells.specs.declared.incidence.Incidence.{Incidence}
 use Rattle.staat_cells.specs.Changes.{HasIncidenceZeroAt, IsZeroAt}
 use Rattle.staat_cells.specs.Compositions.{composed}
 use Rattle.staat_cells.specs.Packing.{incidence_of}
-use Rattle.staat_cells.specs.Beside.{filled, then_sign}
-use Rattle.staat_cells.proofs.Composing.{same_index}
+use Rattle.staat_cells.specs.Beside.{then_sign}
+use Rattle.staat_vec.proofs.ListLaws.{any_default}
 
 -- the first signs are those of b
 abbrev pub patched : ℕ → List Sign → List Sign → List Sign
@@ -92,9 +92,6 @@ composed_long [] b e = refl
 composed_long (x ∷ a) [] e = absurd (omega arith)
 composed_long (x ∷ a) (y ∷ b) e = let h = composed_long a b (omega arith) in omega (arith, h)
 
-pub compose_none : (a b items : List Sign) → items ≡ a → items ≡ patched 0 (composed a b) a
-compose_none a b items is = is
-
 pub compose_next : (a b items : List Sign) (j : ℕ) (d e : Sign) → length a ≡ length b → j < length a
     → items ≡ patched j (composed a b) a
     → slice_set items j (then_sign (get_or items j d) (get_or b j e)) ≡ patched (j + 1) (composed a b) a
@@ -102,7 +99,7 @@ compose_next a b items j d e same lt is =
     let long = composed_long a b same in
     let at : then_sign (get_or items j d) (get_or b j e) ≡ then_sign (get_or a j d) (get_or b j d) =
     (λ i. then_sign ((ap (λ l. get_or l j d) is ∙ patched_at j (composed a b) a long lt d) i)
-    (same_index b j e d (omega (arith, same, lt)) i)) in
+    (any_default b j e d (omega (arith, same, lt)) i)) in
     (λ i. slice_set (is i) j (at i))
     ∙ patched_changed j (composed a b) a long lt d (then_sign (get_or a j d) (get_or b j d))
     (composed_at a b j d lt same)
@@ -122,13 +119,6 @@ module _ (planes : List V3) (s : List Sign) (w : V3) (long : length s ≡ length
       → get_or (composed s (signs_of planes w)) j d ≡ then_sign (get_or s j d) (sign (dot (get_or planes j n) w))
   towards_at j d n lt = composed_at s (signs_of planes w) j d lt even ∙ ap (then_sign (get_or s j d))
       (get_or-map (λ m. sign (dot m w)) planes j n d (omega (arith, long, lt)))
-
-pub filled_long : (t : Sign) (s : List Sign) → length (filled t s) ≡ length s
-filled_long t s = length-map s (λ x. then_sign x t)
-
-pub filled_at : (t : Sign) (s : List Sign) (j : ℕ) (d : Sign) → j < length s
-    → get_or (filled t s) j d ≡ then_sign (get_or s j d) t
-filled_at t s j d lt = get_or-map (λ x. then_sign x t) s j d d lt
 
 -- ---- incidences
 

@@ -18,17 +18,19 @@ use Rattle.staat_model.specs.declared.tree.Kind.TheVariants.{Point}
 use Rattle.staat_model.specs.Cells.{kind_of, signs_of, signs_cmp, CellEntry, IsCell, IsEntry, AreCellsOf}
 use Rattle.staat_model.specs.Planes.{vertices}
 use Rattle.staat_model.proofs.Corners.{HoldsAxes}
-use Rattle.staat_model.proofs.Differences.{from_map, in_map}
+use Rattle.staat_model.proofs.Differences.{from_map}
 use Rattle.staat_model.proofs.Members.{All-from_members}
 use Rattle.staat_model.proofs.PlaneLemmas.{NoneParallel}
 use Rattle.staat_cells.specs.declared.incidence.Incidence.{Incidence}
 use Rattle.staat_cells.specs.Compositions.{no_cell}
 use Rattle.staat_cells.specs.Packing.{incidence_cmp, incidence_of}
 use Rattle.staat_cells.specs.Stages.{cell_at, point_entry, IsOwnIncidence}
-use Rattle.staat_cells.proofs.Grouping.{less_number}
 use Rattle.staat_cells.proofs.SignOrder.{signs_exact, signs_total, then_less}
-use Rattle.staat_cells.proofs.VertexSigns.{point_has_vertex, same_vertex, vertex_point, vertex_some}
+use Rattle.staat_cells.proofs.VertexSigns.{point_has_vertex, same_vertex, vertex_point}
 use Rattle.staat_cells.proofs.Words.{incidence_order}
+use Rattle.staat_vec.proofs.ListLaws.{Contains-map}
+use Rattle.staat_vec.proofs.Comparisons.{less_number}
+use Rattle.staat_model.proofs.ListedVertices.{vertex_some}
 
 -- ---- lists of signs are equal or not
 
@@ -151,4 +153,4 @@ module _ (planes : List V3) (axes : HoldsAxes planes) (apart : NoneParallel plan
           let x : Incidence = incidence_of (cell_at (map (point_entry planes) vs) k).signs k in
           let x_in : Contains incidences x = sorted.all x (record { listed = above; is = refl }) in
           subst (Contains (map (λ x. (cell_at (map (point_entry planes) vs) x.of).signs) incidences)) (ap (λ c. c.signs) (get_or-map (point_entry planes) vs k v no_cell lt) ∙ ap (signs_of planes) at ∙ e)
-          (in_map (λ x. (cell_at (map (point_entry planes) vs) x.of).signs) incidences x x_in)
+          (Contains-map (λ x. (cell_at (map (point_entry planes) vs) x.of).signs) incidences x x_in)

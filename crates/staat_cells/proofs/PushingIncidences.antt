@@ -4,12 +4,13 @@ use Rattle.std.proofs.lemmas.List.Elements.{Contains-append_left, Contains-appen
 use Rattle.staat_vec.specs.declared.vector.V3.{V3}
 use Rattle.staat_vec.specs.declared.vector.Sign.TheVariants.{Zero}
 use Rattle.staat_vec.specs.Vectors.{cross, dot, negative, sign}
-use Rattle.staat_vec.proofs.Unique.{Contains-cases, Contains-front, Contains-nothing}
-use Rattle.staat_model.proofs.GraphLemmas.{zero_sign}
+use Rattle.staat_vec.proofs.Unique.{Contains-front, Contains-nothing}
 use Rattle.staat_cells.specs.declared.incidence.Incidence.{Incidence}
 use Rattle.staat_cells.specs.Packing.{incidence_of}
 use Rattle.staat_cells.specs.Beside.{beside}
 use Rattle.staat_cells.specs.Stages.{GrewByAll, IsBesideIncidence}
+use Rattle.staat_vec.proofs.ListLaws.{only_one}
+use Rattle.staat_vec.proofs.Signs.{zero_sign}
 
 -- ---- lists that grow
 
@@ -48,9 +49,6 @@ grew_same P Q old new both grew x = (
 )
 
 -- ---- the incidences on one plane
-
-only_one : {X : Type 0} (a x : X) → Contains (a ∷ []) x → x ≡ a
-only_one a x c = ⊎_elim (λ e. e) (λ none. absurd (Contains-nothing x none)) (Contains-cases a [] x c)
 
 pub incidences_on : (planes : List V3) (v m c : V3) (k : ℕ) (old new : List Incidence) → sign (dot c v) ≡ Zero → new ≡ (old ++ incidence_of (beside planes v (cross c m)) k ∷ []) ++ incidence_of (beside planes v (negative (cross c m))) k ∷ []
     → GrewByAll (IsBesideIncidence (c ∷ []) planes v m k) old new

@@ -23,7 +23,8 @@ use Rattle.staat_cells.specs.Beside.{beside}
 use Rattle.staat_cells.specs.Stages.{GrewByAll, IsAxisOff, IsBesideIncidence, IsEdgeIncidence}
 use Rattle.staat_cells.proofs.EdgeIncidences.{beside_edge, edge_is_beside}
 use Rattle.staat_cells.proofs.PushingIncidences.{grew_same}
-use Rattle.staat_cells.proofs.VertexSigns.{vertex_crossed, vertex_some}
+use Rattle.staat_cells.proofs.VertexSigns.{vertex_crossed}
+use Rattle.staat_model.proofs.ListedVertices.{vertex_some}
 
 axis_in : (planes : List V3) (g : V3) → AreTablePlanes planes → Contains axes g → Contains planes g
 axis_in planes g are c = subst (λ l. Contains l g) (sym are.is) (Contains-append_left axes are.others g c)

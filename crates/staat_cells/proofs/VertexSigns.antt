@@ -1,6 +1,5 @@
 -- The vertices of planes and their signs.
 use Rattle.std.proofs.Common.{◌≡◌, ◌≢◌, ℕ, zero, suc, ◌≤◌, refl, sym, ap, subst, ◌∙◌, arith, ℤ, pos, negsuc, neg_ℤ, ◌*ℤ◌, inl, inr, ⊎_elim, List, [], ◌∷◌, Contains}
-use Rattle.std.proofs.lemmas.Int.{ints}
 use Rattle.staat_vec.specs.declared.vector.V3.{V3}
 use Rattle.staat_vec.specs.declared.vector.Sign.{Sign}
 use Rattle.staat_vec.specs.declared.vector.Sign.TheVariants.{Neg, Zero, Pos}
@@ -10,7 +9,7 @@ use Rattle.staat_vec.proofs.Ring.{Ex, num, ring}
 use Rattle.staat_vec.proofs.VecRing.{dotE, values, v0, same_vector, dot_negative, cross_turned, dot_cross_left, dot_cross_right}
 use Rattle.staat_vec.proofs.Order.{cancel_zero}
 use Rattle.staat_vec.proofs.Canons.{negative-negative}
-use Rattle.staat_vec.proofs.Primitives.{IsPrimitive-some, IsPrimitive-negative, primitive-is, primitive-negative}
+use Rattle.staat_vec.proofs.Primitives.{IsPrimitive-negative, primitive-is, primitive-negative}
 use Rattle.staat_model.specs.declared.tree.Kind.TheVariants.{Point}
 use Rattle.staat_model.specs.Cells.{signs_of, kind_of, IsCell}
 use Rattle.staat_model.specs.Planes.{vertices}
@@ -18,21 +17,16 @@ use Rattle.staat_model.proofs.Corners.{HoldsAxes, IsSame}
 use Rattle.staat_model.proofs.CornerLemmas.{dot_multiple}
 use Rattle.staat_model.proofs.EndLemmas.{from_vertices}
 use Rattle.staat_model.proofs.FacetLemmas.{across_crosses}
-use Rattle.staat_model.proofs.GraphLemmas.{zero_sign}
 use Rattle.staat_model.proofs.PlaneLemmas.{NoneParallel}
 use Rattle.staat_model.proofs.VertexLemmas.{in_vertices}
 use Rattle.staat_cells.proofs.Beside.{at_plane, from_planes}
-use Rattle.staat_cells.proofs.EdgeIncidences.{IsCrossed, sign_times}
-use Rattle.staat_cells.proofs.Zeros.{two_zeros, point_kind, two_planes, point_zeros}
+use Rattle.staat_cells.proofs.EdgeIncidences.{IsCrossed, sign_times, dot_same}
+use Rattle.staat_cells.proofs.Zeros.{two_zeros, point_kind, two_planes}
+use Rattle.staat_model.proofs.ListedVertices.{vertex_some}
+use Rattle.staat_vec.proofs.Signs.{zero_sign}
+use Rattle.staat_model.proofs.PointLemmas.{point_zeros}
 
 -- ---- the planes of a vertex
-
-zero_neg : (p q : ℤ) → p ≡ neg_ℤ q → q ≡ pos 0 → p ≡ pos 0
-zero_neg p q e h = omega (arith, ints)
-
-dot_same : (g w f : V3) → IsSame w f → dot g f ≡ pos 0 → dot g w ≡ pos 0
-dot_same g w f (inl e) h = ap (dot g) e ∙ h
-dot_same g w f (inr e) h = zero_neg (dot g w) (dot g f) (ap (dot g) e ∙ dot_negative g f) h
 
 pub vertex_crossed : (planes : List V3) (v : V3) → NoneParallel planes → Contains (vertices planes) v → IsCrossed planes v
 vertex_crossed planes v apart has =
@@ -46,9 +40,6 @@ vertex_primitive planes v apart has =
     let x = from_vertices planes v apart has in
     let p = primitive-is (cross x.g x.h) x.independent in
     ⊎_elim (λ e. subst IsPrimitive (sym e) p.primitive) (λ e. subst IsPrimitive (sym e) (IsPrimitive-negative (primitive (cross x.g x.h)) p.primitive)) x.is
-
-pub vertex_some : (planes : List V3) (v : V3) → NoneParallel planes → Contains (vertices planes) v → v ≢ origin
-vertex_some planes v apart has = IsPrimitive-some v (vertex_primitive planes v apart has)
 
 pub vertex_point : (planes : List V3) (v : V3) → NoneParallel planes → Contains (vertices planes) v → kind_of (signs_of planes v) ≡ Point
 vertex_point planes v apart has =

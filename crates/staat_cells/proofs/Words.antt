@@ -11,6 +11,7 @@ use Rattle.staat_vec.specs.declared.vector.Sign.{Sign}
 use Rattle.staat_vec.specs.declared.vector.Sign.TheVariants.{Neg, Zero, Pos}
 use Rattle.staat_model.specs.Cells.{sign_place, signs_cmp}
 use Rattle.staat_cells.specs.Packing.{packed, packed_after, incidence_cmp, incidence_of}
+use Rattle.staat_vec.proofs.Comparisons.{nat_cmp-less}
 
 -- ---- size
 
@@ -48,9 +49,6 @@ less_after a b [] (y ∷ t) lt e = absurd (omega arith)
 less_after a b (x ∷ s) [] lt e = absurd (omega arith)
 less_after a b (x ∷ s) (y ∷ t) lt e = let p = place_small x in less_after (a * 4 + sign_place x) (b * 4 + sign_place y) s t (omega (arith, p)) (omega arith)
 
-less_is : (m n : ℕ) → m < n → nat_cmp m n ≡ Less
-less_is m n lt = sym (nat_cmp_is m n Less lt)
-
 greater_is : (m n : ℕ) → n < m → nat_cmp m n ≡ Greater
 greater_is m n lt = sym (nat_cmp_is m n Greater lt)
 
@@ -61,7 +59,7 @@ packed_order a [] (y ∷ t) e = absurd (omega arith)
 packed_order a (x ∷ s) [] e = absurd (omega arith)
 packed_order a (x ∷ s) (y ∷ t) e = by_ranked (sign_place x < sign_place y) (sign_place x ≡ sign_place y) (sign_place y < sign_place x) {G = nat_cmp (packed_after (a * 4 + sign_place x) s) (packed_after (a * 4 + sign_place y) t) ≡ signs_cmp (x ∷ s) (y ∷ t)}
     (nat_cmp (sign_place x) (sign_place y)) (ranked (sign_place x) (sign_place y) (nat_cmp (sign_place x) (sign_place y)) refl)
-    (λ o lt. less_is (packed_after (a * 4 + sign_place x) s) (packed_after (a * 4 + sign_place y) t) (less_after (a * 4 + sign_place x) (a * 4 + sign_place y) s t (omega arith) (omega arith)) ∙ sym (ap (λ r. ordering_then r (signs_cmp s t)) o))
+    (λ o lt. nat_cmp-less (packed_after (a * 4 + sign_place x) s) (packed_after (a * 4 + sign_place y) t) (less_after (a * 4 + sign_place x) (a * 4 + sign_place y) s t (omega arith) (omega arith)) ∙ sym (ap (λ r. ordering_then r (signs_cmp s t)) o))
     (λ o same. ap (λ n. nat_cmp (packed_after (a * 4 + sign_place x) s) (packed_after (a * 4 + n) t)) (sym same) ∙ packed_order (a * 4 + sign_place x) s t (omega arith) ∙ sym (ap (λ r. ordering_then r (signs_cmp s t)) o))
     (λ o gt. greater_is (packed_after (a * 4 + sign_place x) s) (packed_after (a * 4 + sign_place y) t) (less_after (a * 4 + sign_place y) (a * 4 + sign_place x) t s (omega arith) (omega arith)) ∙ sym (ap (λ r. ordering_then r (signs_cmp s t)) o))
 

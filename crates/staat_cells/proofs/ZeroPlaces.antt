@@ -16,16 +16,13 @@ use Rattle.staat_cells.specs.Compositions.{composed}
 use Rattle.staat_cells.specs.Packing.{incidence_of}
 use Rattle.staat_cells.proofs.Patching.{changed_incidence, other_is, patched, patched_end, patched_kept, towards_at}
 use Rattle.staat_cells.proofs.Patching.{towards_long, zero_incidence, zero_is}
+use Rattle.staat_vec.proofs.ListLaws.{append_nothing}
 
 -- ---- the zeros, one sign after another
 
 -- what is left of the places, where k signs were passed
 abbrev pub HasZerosTo : List Sign → ℕ → List ℕ → Type 0
 HasZerosTo s k found = found ++ zero_places k (drop k s) ≡ zero_places 0 s
-
-nothing_left : {X : Type 0} (xs : List X) → xs ++ [] ≡ xs
-nothing_left [] = refl
-nothing_left (x ∷ xs) = ap (λ l. x ∷ l) (nothing_left xs)
 
 next_places : (s : List Sign) (k : ℕ) (d : Sign) → k < length s
     → zero_places k (drop k s) ≡ (if is_zero (get_or s k d) then k ∷ zero_places (k + 1)
@@ -55,7 +52,7 @@ module _ (s : List Sign) (k : ℕ) (found : List ℕ) (d : Sign) (lt : k < lengt
 pub all_found : (s : List Sign) (k : ℕ) (found : List ℕ) → length s ≤ k → HasZerosTo s k found
     → found ≡ zero_places 0 s
 all_found s k found le has =
-    sym (nothing_left found) ∙ ap (λ l. found ++ zero_places k l) (sym (drop_all k s le)) ∙ has
+    sym (append_nothing found) ∙ ap (λ l. found ++ zero_places k l) (sym (drop_all k s le)) ∙ has
 
 -- ---- the signs change at these places alone
 

@@ -1,5 +1,5 @@
 -- The incidences of a vertex on the planes at the places of its zeros, which are all planes through it.
-use Rattle.std.proofs.Common.{◌≡◌, ◌↔◌, ◌⊎◌, inl, inr, ⊎_elim, ℕ, zero, suc, ◌+◌, ◌-◌, ◌<◌, ◌≤◌, Bool, true, false, sym, ap, subst, ◌∙◌, arith, pos}
+use Rattle.std.proofs.Common.{◌≡◌, ◌↔◌, ⊎_elim, ℕ, zero, suc, ◌+◌, ◌-◌, ◌<◌, ◌≤◌, Bool, true, false, sym, ap, subst, ◌∙◌, arith, pos}
 use Rattle.std.proofs.Common.{drop-cons, List, [], ◌∷◌, ◌++◌, drop, get_or, length, map, take, Contains}
 use Rattle.std.specs.Prelude.{if◌then◌else◌}
 use Rattle.std.proofs.lemmas.List.{drop_all, get_or-map, get_or_default, length-map, map-append, take_all, take_more}
@@ -9,12 +9,13 @@ use Rattle.staat_vec.specs.declared.vector.Sign.{Sign}
 use Rattle.staat_vec.specs.declared.vector.Sign.TheVariants.{Neg, Zero}
 use Rattle.staat_vec.specs.Vectors.{dot, origin, sign}
 use Rattle.staat_vec.proofs.Unique.{Contains-cases, Contains-front, Contains-later, Contains-nothing}
-use Rattle.staat_model.proofs.Differences.{from_map, in_map}
+use Rattle.staat_model.proofs.Differences.{from_map}
 use Rattle.staat_model.specs.Cells.{is_zero, signs_of}
 use Rattle.staat_cells.specs.declared.incidence.Incidence.{Incidence}
 use Rattle.staat_cells.specs.Changes.{zero_places}
 use Rattle.staat_cells.specs.Stages.{GrewByAll, IsBesideIncidence}
-use Rattle.staat_cells.proofs.PushingIncidences.{no_planes, planes_more}
+use Rattle.staat_cells.proofs.PushingIncidences.{no_planes, planes_more, grew_same}
+use Rattle.staat_vec.proofs.ListLaws.{Contains-map}
 
 -- the planes at these places
 abbrev pub planes_at : List V3 → List ℕ → List V3
@@ -85,13 +86,7 @@ module _ (planes : List V3) (v m : V3) (k : ℕ) where
           let value : get_or (signs_of planes v) j Neg ≡ Zero = get_or-map (λ n. sign (dot n v)) planes j origin Neg lt ∙ (λ i. sign (dot (here i) v)) ∙ ap sign on in
           let listed = zero_listed (signs_of planes v) 0 j Neg (omega (arith, lt, long)) (zero_is_zero (get_or (signs_of planes v) j Neg) value) in
           subst (Contains (planes_at planes (zero_places 0 (signs_of planes v)))) here
-          (in_map (λ j. get_or planes j origin) (zero_places 0 (signs_of planes v)) j (subst (Contains (zero_places 0 (signs_of planes v))) (let e : 0 + j ≡ j = omega arith in e) listed))
-
-  grew_same : (P Q : Incidence → Type 0) (old new : List Incidence) → ((x : Incidence) → P x ↔ Q x) → GrewByAll P old new → GrewByAll Q old new
-  grew_same P Q old new same grew x = (
-    λ h. ⊎_elim {C = Contains old x ⊎ Q x} (λ before. inl before) (λ p. inr ((same x).0 p)) ((grew x).0 h),
-    λ h. (grew x).1 (⊎_elim {C = Contains old x ⊎ P x} (λ before. inl before) (λ q. inr ((same x).1 q)) h),
-  )
+          (Contains-map (λ j. get_or planes j origin) (zero_places 0 (signs_of planes v)) j (subst (Contains (zero_places 0 (signs_of planes v))) (let e : 0 + j ≡ j = omega arith in e) listed))
 
   turned : (cs : List V3) (c : V3) (x : Incidence) → IsOn (cs ++ c ∷ []) x ↔ IsOn (c ∷ cs) x
   turned cs c x = (

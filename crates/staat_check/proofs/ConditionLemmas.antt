@@ -1,5 +1,5 @@
 -- The facets of the arcs of a witness, by their numbers.
-use Rattle.std.proofs.Common.{◌≡◌, ◌⊎◌, ◌≢◌, ◌↔◌, inl, inr, ⊎_elim, ℕ, ◌+◌, ◌<◌, ◌≤◌, arith, sym, ap, subst, ◌∙◌, List, [], ◌∷◌, ◌++◌, append_assoc, length, get_or, take, pos, ◌<ℤ◌, All, Contains}
+use Rattle.std.proofs.Common.{◌≡◌, ◌⊎◌, ◌↔◌, inl, inr, ⊎_elim, ℕ, ◌+◌, ◌<◌, ◌≤◌, arith, sym, ap, subst, ◌∙◌, List, [], ◌∷◌, ◌++◌, append_assoc, length, get_or, take, pos, ◌<ℤ◌, All, Contains}
 use Rattle.std.specs.Prelude.{Some, flat_map, map, slice_get}
 use Rattle.std.proofs.lemmas.List.{flat_map_more, get_or-map, get_or_append_left, get_or_push, length-append, length-map, take_all, take_more}
 use Rattle.std.proofs.lemmas.Option.{get_or_from_slice_get}
@@ -16,9 +16,9 @@ use Rattle.staat_model.specs.declared.certificate.Arc.{Arc}
 use Rattle.staat_model.specs.declared.certificate.Witness.{Witness}
 use Rattle.staat_model.specs.Certificates.{IsBlocking}
 use Rattle.staat_model.specs.Facets.{IsFacet}
-use Rattle.staat_model.proofs.Differences.{from_map, in_map}
+use Rattle.staat_model.proofs.Differences.{from_map}
 use Rattle.staat_model.proofs.Members.{All-from_members, all_back, all_front}
-use Rattle.staat_model.proofs.Places.{one_at_place, place_within, same_some}
+use Rattle.staat_model.proofs.Places.{one_at_place, place_within}
 use Rattle.staat_pairs.specs.declared.table.TheConstants.{SLOTS}
 use Rattle.staat_pairs.specs.Tables.{IsTableArc, IsTable, IsTableFacet, Table, WasMadeFrom, back, facets_of, reversed_facets, slot}
 use Rattle.staat_pairs.proofs.TableLemmas.{facets_ahead, facets_reversed}
@@ -26,6 +26,9 @@ use Rattle.staat_pairs.proofs.ReversedFacets.{from_reversed, in_reversed}
 use Rattle.staat_check.specs.declared.conditions.FacetNumbers.{FacetNumbers}
 use Rattle.staat_check.specs.Conditions.{AddsNumbers, AreConditions, AreFacetNumbers, AreLists, AreNumbers, AreSlotNumbers, HasNumber, HasOpposites, IsAcrossAll, IsEitherOf, IsNumbered, LeadsAheadOf, asked_facets, facets_at}
 use Rattle.staat_check.specs.Negatives.{AddsNegatives}
+use Rattle.staat_vec.proofs.Naturals.{lt_one_more_cases, lt_from_le}
+use Rattle.staat_vec.proofs.ListLaws.{Contains-map}
+use Rattle.staat_vec.proofs.Options.{some_injective}
 
 -- ---- negatives
 
@@ -113,9 +116,6 @@ opposites_end normals facets numbers k le = numbers_end normals (map negative fa
 
 -- ---- numbers by slots
 
-last_or : (m k : ℕ) → m < k + 1 → (m < k) ⊎ (m ≡ k)
-last_or m k lt = grind arith
-
 pub slots_more : (normals : List V3) (at : ℕ → List V3) (k : ℕ) (lists more : List (List ℕ)) (list : List ℕ) → AreSlotNumbers normals at k lists
     → (All (Contains normals) (at k) → AreNumbers normals (at k) list) → more ≡ lists ++ list ∷ [] → AreSlotNumbers normals at (k + 1) more
 slots_more normals at k lists more list are here e = record {
@@ -123,7 +123,7 @@ slots_more normals at k lists more list are here e = record {
   each = λ m lt all. subst (λ l. AreNumbers normals (at m) (get_or l m [])) (sym e) (⊎_elim
       (λ early. subst (AreNumbers normals (at m)) (sym (get_or_append_left lists (list ∷ []) [] m (omega (arith, early, are.count)))) (are.each m early all))
       (λ now. subst (AreNumbers normals (at m)) (sym (get_or_push lists list [] m (are.count ∙ sym now))) (subst (λ j. All (Contains normals) (at j) → AreNumbers normals (at j) list) (sym now) here all))
-      (last_or m k lt));
+      (lt_one_more_cases m k lt));
 }
 
 -- a facet of the table has a plane there, on one of its two sides
@@ -152,17 +152,14 @@ to_reversed : (facets : List V3) (n : V3) → Contains (map negative facets) n �
 to_reversed facets n c = let (x, listed, e) = from_map negative facets n c in subst (Contains (reversed_facets facets)) (sym e) (in_reversed facets x listed)
 
 to_opposites : (facets : List V3) (n : V3) → Contains (reversed_facets facets) n → Contains (map negative facets) n
-to_opposites facets n c = subst (Contains (map negative facets)) (negative-negative n) (in_map negative facets (negative n) (from_reversed facets n c))
-
-lt_or : (a b : ℕ) → a ≢ b → b ≤ a → b < a
-lt_or a b ne le = omega arith
+to_opposites facets n c = subst (Contains (map negative facets)) (negative-negative n) (Contains-map negative facets (negative n) (from_reversed facets n c))
 
 pub numbers_back : (t : Table) (f : FacetNumbers) (arc other : Arc) (k : ℕ) (list : List ℕ) → IsTable t → AreFacetNumbers t f → IsTableArc t arc → arc.b ≤ arc.a → other ≡ back arc → k ≡ slot t.pieces other → k < SLOTS
     → list ≡ get_or f.opposite.items k [] → AreNumbers f.normals.items (facets_of t arc) list
 numbers_back t f arc other k list is are across le e slot_is small list_is =
     let normals : List V3 = f.normals.items in
     let facets : List V3 = facets_at t k in
-    let here : facets ≡ facets_of t other = ap (facets_at t) slot_is ∙ sym (facets_ahead t other (subst (λ (o : Arc). o.a < o.b) (sym e) (lt_or arc.a arc.b across.different le))) in
+    let here : facets ≡ facets_of t other = ap (facets_at t) slot_is ∙ sym (facets_ahead t other (subst (λ (o : Arc). o.a < o.b) (sym e) (lt_from_le arc.a arc.b across.different le))) in
     let turns : facets_of t arc ≡ reversed_facets facets = facets_reversed t arc other facets across le e here in
     let all : All (Contains normals) (map negative facets) = All-from_members (Contains normals) (map negative facets) (λ n c.
     All-contains (Contains normals) (facets_of t arc) n (facets_listed t normals arc is are.normals across) (subst (λ l. Contains l n) (sym turns) (to_reversed facets n c))) in
@@ -212,7 +209,7 @@ lists_more t normals witnesses lists more list k witness at are conditions e = r
       let last : get_or (lists ++ list ∷ []) m [] ≡ list = get_or_push lists list [] m (are.count ∙ sym now) in
       let same : witness ≡ other = one_at_place witnesses k witness other at (subst (λ j. slice_get witnesses j ≡ Some other) now other_at) in
       subst (AreConditions t normals other) (sym last) (subst (λ w. AreConditions t normals w list) same conditions))
-      (last_or m k lt));
+      (lt_one_more_cases m k lt));
 }
 
 pub numbers_small : (normals facets : List V3) (numbers : List ℕ) → AreNumbers normals facets numbers → All (λ k. k < length normals) numbers
@@ -236,8 +233,8 @@ module _ (parts : List Part) (t : Table) (made : WasMadeFrom parts t) (d : V3) w
   arc_ahead_of : (arc : Arc) → IsTableArc t arc → IsBlocking parts d arc → (n : V3) → Contains (facets_of t arc) n → pos 0 <ℤ dot n d
   arc_ahead_of arc across b n c =
       let h = made.facets arc across in
-      let first : h.p ≡ b.p = same_some h.p b.p (sym h.p_is ∙ b.p_is) in
-      let second : h.q ≡ b.q = same_some h.q b.q (sym h.q_is ∙ b.q_is) in
+      let first : h.p ≡ b.p = some_injective h.p b.p (sym h.p_is ∙ b.p_is) in
+      let second : h.q ≡ b.q = some_injective h.q b.q (sym h.q_is ∙ b.q_is) in
       b.holds n (subst (λ p. IsFacet p b.q n) first (subst (λ q. IsFacet h.p q n) second (h.holds.each n c)))
 
   arcs_law : (arcs : List Arc) → All (IsTableArc t) arcs → All Ahead (flat_map (facets_of t) arcs) ↔ All (IsBlocking parts d) arcs

@@ -10,9 +10,11 @@ use Rattle.staat_model.specs.Sets.{Has}
 use Rattle.staat_model.proofs.Places.{place_within}
 use Rattle.staat_model.proofs.SetMembers.{has-single, has-union, has-empty}
 use Rattle.staat_model.proofs.SetWords.{same_members}
-use Rattle.staat_pairs.proofs.DropLemmas.{drop_at, drop_end}
+use Rattle.staat_pairs.proofs.DropLemmas.{drop_at}
 use Rattle.staat_check.specs.declared.front.Read.{Read}
 use Rattle.staat_check.specs.Fronts.{HasRoomFor, TakesNode, Wants, IsTakenUpTo, HasLeaf, forest_nodes}
+use Rattle.staat_model.proofs.WalledNodes.{nodes_some}
+use Rattle.staat_vec.proofs.ListLaws.{drop_end}
 
 -- ---- one node more
 
@@ -110,19 +112,14 @@ whole_count nodes k read is none t more e = let w = is.wants t more e in go w.tr
     go [] n size = omega (arith, size)
     go (u ∷ ts) n size = absurd (omega arith)
 
--- a tree has a node
-pub some_node : (t : WalledPlan) → 1 ≤ length (nodes_of t)
-some_node (walled_leaf p) = omega arith
-some_node (walled_split d seps m r) = omega arith
+pub not_nil_append : (l : List Node) (rest : List Node) → 1 ≤ length l → [] ≡ l ++ rest → ⊥
+not_nil_append [] rest h f = omega arith
+not_nil_append (x ∷ l) rest h f = cc
 
 -- where all nodes were read, none is wanted
 pub all_read : (nodes : List Node) (k : ℕ) (read : Read) → IsTakenUpTo nodes k read → 1 ≤ read.wanted → length nodes ≤ k → (t : WalledPlan) (more : List Node) → nodes ≡ nodes_of t ++ more → ⊥
 all_read nodes k read is some le t more e = let w = is.wants t more e in go w.trees w.count (sym (drop_end nodes k le) ∙ w.behind_are)
   where
-    none : (l : List Node) (rest : List Node) → 1 ≤ length l → [] ≡ l ++ rest → ⊥
-    none [] rest h f = omega arith
-    none (x ∷ l) rest h f = cc
-
     go : (ts : List WalledPlan) → length ts ≡ read.wanted → [] ≡ forest_nodes ts ++ more → ⊥
     go [] n f = no_tree read.wanted n some
-    go (u ∷ ts) n f = none (nodes_of u) (forest_nodes ts ++ more) (some_node u) (f ∙ append_assoc (nodes_of u) (forest_nodes ts) more)
+    go (u ∷ ts) n f = not_nil_append (nodes_of u) (forest_nodes ts ++ more) (nodes_some u) (f ∙ append_assoc (nodes_of u) (forest_nodes ts) more)

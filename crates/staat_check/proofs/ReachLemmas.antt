@@ -10,7 +10,8 @@ use Rattle.staat_model.specs.Sets.{Has, single}
 use Rattle.staat_model.proofs.SetMembers.{has-insert, has-single, has-union}
 use Rattle.staat_model.proofs.SetWords.{same_members}
 use Rattle.staat_check.specs.Reaching.{ReachesNew}
-use Rattle.staat_pairs.proofs.DropLemmas.{drop_at, drop_end}
+use Rattle.staat_pairs.proofs.DropLemmas.{drop_at}
+use Rattle.staat_vec.proofs.ListLaws.{drop_end}
 
 pub union_single : (s one : PartSet) (p : ℕ) → one ≡ single p → set.union s one ≡ set.insert s p
 union_single s one p e = same_members (set.union s one) (set.insert s p)

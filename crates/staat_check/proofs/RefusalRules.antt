@@ -1,5 +1,5 @@
 -- The rules of a refusal, by what was found of them.
-use Rattle.std.proofs.Common.{◌≡◌, ◌⊎◌, ◌↔◌, inl, inr, ⊎_elim, ℕ, ◌+◌, ◌*◌, ◌<◌, ◌≤◌, arith, refl, sym, ap, subst, ◌∙◌, List, [], length, take, get_or, All, Contains}
+use Rattle.std.proofs.Common.{◌≡◌, ◌↔◌, inl, inr, ⊎_elim, ℕ, ◌+◌, ◌*◌, ◌<◌, ◌≤◌, arith, refl, sym, ap, subst, ◌∙◌, List, [], length, take, get_or, All, Contains}
 use Rattle.std.specs.Prelude.{Option, None, Some, slice_index_or, MatchOption, sum_by}
 use Rattle.std.specs.FinSet as set
 use Rattle.std.proofs.lemmas.List.Elements.{All-contains, All-weaker}
@@ -24,10 +24,9 @@ use Rattle.staat_model.proofs.PlaneLemmas.{NoneParallel, planes_apart}
 use Rattle.staat_model.specs.Reasons.{IsNoStuckSet, IsRefusalReason, bad_arc, missing_direction, witness_size}
 use Rattle.staat_model.specs.Sets.{Has, IsNonempty, IsSubset, below}
 use Rattle.staat_model.specs.Texts.{IsWitnessInOrder}
-use Rattle.staat_model.proofs.Differences.{in_map}
 use Rattle.staat_model.proofs.Members.{All-from_members}
-use Rattle.staat_model.proofs.Places.{Contains-from_place, one_at_place, some_at}
-use Rattle.staat_model.proofs.RestrictLemmas.{nonempty_or, member_or_not}
+use Rattle.staat_model.proofs.Places.{one_at_place, some_at}
+use Rattle.staat_model.proofs.RestrictLemmas.{nonempty_or}
 use Rattle.staat_model.proofs.SetBits.{has-below}
 use Rattle.staat_model.proofs.SetMembers.{has-difference}
 use Rattle.staat_model.proofs.ListedVertices.{all_listed}
@@ -36,20 +35,21 @@ use Rattle.staat_check.specs.Conditions.{AreLists, IsAcrossAll, IsFitDir, LeadsA
 use Rattle.staat_check.specs.Verdicts.{IsRefusalVerdict}
 use Rattle.staat_check.proofs.ConditionLemmas.{facets_law, numbers_law, numbers_small}
 use Rattle.staat_check.proofs.ReadLemmas.{more_all}
+use Rattle.staat_vec.proofs.Naturals.{le_or_lt}
+use Rattle.staat_vec.proofs.ListLaws.{Contains-map}
+use Rattle.staat_vec.proofs.Unique.{from_place}
+use Rattle.staat_model.proofs.FreeSides.{member_or}
 
 -- ---- the set
 
 pub no_stuck_set : (parts : List Part) (w first : PartSet) (n : ℕ) → n ≡ length parts → first ≡ below n → (IsSubset w first → ⊥) → IsNoStuckSet parts w
 no_stuck_set parts w first n e is not = ⊎_elim {C = IsNoStuckSet parts w}
     (λ some. let h = (has-difference w first some.0).0 some.1 in inr (some.0, h.0, high some.0 h.1))
-    (λ none. absurd (not (λ p has. elim (member_or_not first p) [ inl h ↦ h | inr out ↦ absurd (none p ((has-difference w first p).1 (has, out))) ])))
+    (λ none. absurd (not (λ p has. elim (member_or first p) [ inl h ↦ h | inr out ↦ absurd (none p ((has-difference w first p).1 (has, out))) ])))
     (nonempty_or (set.difference w first))
   where
-    le_or : (a b : ℕ) → (a ≤ b) ⊎ (b < a)
-    le_or a b = grind arith
-
     high : (p : ℕ) → (Has first p → ⊥) → length parts ≤ p
-    high p out = ⊎_elim (λ le. le) (λ lt. absurd (out (subst (λ s. Has s p) (sym is) ((has-below n p).1 (omega (arith, e, lt)))))) (le_or (length parts) p)
+    high p out = ⊎_elim (λ le. le) (λ lt. absurd (out (subst (λ s. Has s p) (sym is) ((has-below n p).1 (omega (arith, e, lt)))))) (le_or_lt (length parts) p)
 
 pub some_part : (parts : List Part) (w : PartSet) → IsStuckSet parts w → IsNonempty w
 some_part parts w h = ⊎_elim (λ some. some)
@@ -70,15 +70,15 @@ answer_as P Q xs None same all = All-from_members Q xs (λ x c. (same x c).0 (Al
 answer_as P Q xs (Some k) same first = record {
   x = first.x;
   at = first.at;
-  fails = λ q. first.fails ((same first.x (Contains-from_place xs k first.x first.at)).1 q);
-  before = λ m y lt at. (same y (Contains-from_place xs m y at)).0 (first.before m y lt at);
+  fails = λ q. first.fails ((same first.x (from_place xs k first.x first.at)).1 q);
+  before = λ m y lt at. (same y (from_place xs m y at)).0 (first.before m y lt at);
 }
 
 module _ (parts : List Part) (t : Table) (made : WasMadeFrom parts t) (witnesses : List Witness) (normals : List V3) (lists : List (List ℕ)) (across : All (IsAcrossAll t) witnesses) (are : AreLists t normals witnesses (length witnesses) lists) where
   dir_law : (dir : Dir) → dir.witness < length witnesses → LeadsAhead normals lists dir ↔ IsBlocked parts witnesses dir
   dir_law dir lt =
       let some = some_at witnesses dir.witness lt in
-      let is = All-contains (IsAcrossAll t) witnesses some.0 across (Contains-from_place witnesses dir.witness some.0 some.1) in
+      let is = All-contains (IsAcrossAll t) witnesses some.0 across (from_place witnesses dir.witness some.0 some.1) in
       let conditions = are.each dir.witness some.0 lt some.1 in
       let ahead = numbers_law normals (asked_facets t some.0) (slice_index_or lists dir.witness []) dir.d conditions in
       let law = facets_law parts t made dir.d some.0 is in (
@@ -150,8 +150,8 @@ planes_not_parallel parts t made = planes_apart parts t.of t.planes made.planes
 pub next_line : (directions : List V3) (dirs : List Dir) (found k : ℕ) (u : V3) (e : Dir) → found < length directions → k < length dirs → get_or directions found u ≡ (get_or dirs k e).d → All (HasLine dirs) (take found directions) → All (HasLine dirs) (take (found + 1) directions)
 next_line directions dirs found k u e lt in_dirs same all =
     let x : Dir = get_or dirs k e in
-    let c : Contains dirs x = Contains-from_place dirs k x (slice_get-get_or dirs k e in_dirs) in
-    more_all (HasLine dirs) directions found (get_or directions found u) (slice_get-get_or directions found u lt) all (subst (HasLine dirs) (sym same) (in_map (λ (dir : Dir). dir.d) dirs x c))
+    let c : Contains dirs x = from_place dirs k x (slice_get-get_or dirs k e in_dirs) in
+    more_all (HasLine dirs) directions found (get_or directions found u) (slice_get-get_or directions found u lt) all (subst (HasLine dirs) (sym same) (Contains-map (λ (dir : Dir). dir.d) dirs x c))
 
 pub each_listed : (version : ℕ) (planes given ds wanted : List V3) (dirs : List Dir) → given ≡ planes → wanted ≡ ds → NoneParallel planes → Lists vector_cmp (IsDirection version given) ds → All (HasLine dirs) wanted → All (IsListed version dirs) (vertices planes)
 each_listed version planes given ds wanted dirs e is apart lists all =

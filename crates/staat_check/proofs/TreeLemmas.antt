@@ -1,5 +1,5 @@
 -- The splits of a plan, one node after another.
-use Rattle.std.proofs.Common.{◌≡◌, ℕ, zero, suc, ◌+◌, ◌≤◌, arith, refl, sym, ap, subst, ◌∙◌, List, [], ◌∷◌, ◌++◌, length, take, drop, append_assoc, append-nil, length-append, All}
+use Rattle.std.proofs.Common.{◌≡◌, ℕ, suc, ◌+◌, ◌≤◌, arith, refl, sym, ap, subst, ◌∙◌, List, [], ◌∷◌, ◌++◌, length, take, drop, append_assoc, append-nil, length-append, All}
 use Rattle.std.specs.Prelude.{Some, None, slice_get, sum_by}
 use Rattle.std.proofs.Math.Seq.{drop-append_seam}
 use Rattle.std.proofs.lemmas.List.Elements.{All-append, All-cons, All-nil}
@@ -18,15 +18,12 @@ use Rattle.staat_model.proofs.OneReason.{broken_at}
 use Rattle.staat_model.proofs.SplitLists.{splits_hold}
 use Rattle.staat_check.specs.Fronts.{forest_nodes}
 use Rattle.staat_check.specs.Forests.{AreJudged, AreSides, HasPartsOf, IsNodeAnswer, Remains, forest_splits}
-use Rattle.staat_pairs.proofs.DropLemmas.{drop_at, drop_end}
-use Rattle.staat_check.proofs.FrontLemmas.{some_node}
+use Rattle.staat_pairs.proofs.DropLemmas.{drop_at}
+use Rattle.staat_check.proofs.FrontLemmas.{not_nil_append}
+use Rattle.staat_vec.proofs.ListLaws.{get_drop, drop_end}
+use Rattle.staat_model.proofs.WalledNodes.{nodes_some}
 
 -- ---- sides
-
-pub get_drop : {X : Type 0} (xs : List X) (n k : ℕ) → slice_get (drop n xs) k ≡ slice_get xs (n + k)
-get_drop xs zero k = ap (slice_get xs) (let e : k ≡ 0 + k = omega arith in e)
-get_drop [] (suc n) k = refl
-get_drop (x ∷ xs) (suc n) k = get_drop xs n k ∙ ap (slice_get (x ∷ xs)) (let e : suc (n + k) ≡ suc n + k = omega arith in e)
 
 pub sides_are : (parts : List Part) (behind from : List Node) (count : ℕ) (moved rest : PartSet) → HasPartsOf parts behind → from ≡ drop count behind
     → ((q : ℕ) → Has moved q → (k : ℕ) × IsLeafAt behind k q) → ((q : ℕ) → Has rest q → (k : ℕ) × IsLeafAt from k q)
@@ -164,11 +161,7 @@ pub judged_all : (parts : List Part) (nodes : List Node) (k line : ℕ) → leng
 judged_all parts nodes k line le are t e = let r = are.remains t e in
     splits_hold parts t 0 first_line (go r.trees r.before (sym (drop_end nodes k le) ∙ r.behind_are) r.splits_are r.hold)
   where
-    none : (l more : List Node) → 1 ≤ length l → [] ≡ l ++ more → ⊥
-    none [] more h f = omega arith
-    none (x ∷ l) more h f = cc
-
     go : (ts : List WalledPlan) (before : List SplitEntry) → [] ≡ forest_nodes ts → splits_of t 0 first_line ≡ before ++ forest_splits ts k line
         → All (EntryHolds parts) before → All (EntryHolds parts) (splits_of t 0 first_line)
     go [] before f is hold = subst (All (EntryHolds parts)) (sym (is ∙ append-nil before)) hold
-    go (u ∷ ts) before f is hold = absurd (none (nodes_of u) (forest_nodes ts) (some_node u) f)
+    go (u ∷ ts) before f is hold = absurd (not_nil_append (nodes_of u) (forest_nodes ts) (nodes_some u) f)

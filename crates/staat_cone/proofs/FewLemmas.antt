@@ -22,6 +22,7 @@ use Rattle.staat_cone.specs.Pairs.{AddsEdges, HasMultiple}
 use Rattle.staat_cone.specs.Few.{IsCandidate, IsEnough, IsGrown, IsDifferenceStep, IsViolator}
 use Rattle.staat_cone.proofs.EdgeLemmas.{edge_candidate, facet_on_ray}
 use Rattle.staat_cone.proofs.PairLemmas.{above_multiple, facet_grown, facet_on_side}
+use Rattle.staat_vec.proofs.Integers.{negative_nonneg_clash}
 
 -- nothing is known of no vectors
 grown_nothing : (p q : List V3) → IsGrown p q [] [] []
@@ -94,10 +95,7 @@ module _ (p q few untested found : List V3) (n : V3) (is : IsGrown p q few (unte
   grown_violated few' untested' found' v violator e adds same =
       subst (IsGrown p q few' untested') (sym same)
       (grown_with p q few untested found few' untested' v is.steps others is.found_are
-      (λ m f side. without m f (λ ray. clash (dot v n) violator.behind (nonneg_is (dot v n) (pos ray.factor *ℤ dot v m) (dot_multiple v n m ray.factor ray.multiple) (nonneg_mul (pos ray.factor) (dot v m) (nonneg_pos ray.factor) side)))) violator.step e adds)
-    where
-      clash : (a : ℤ) → a <ℤ pos 0 → pos 0 ≤ℤ a → ⊥
-      clash a h g = omega (arith, ints)
+      (λ m f side. without m f (λ ray. negative_nonneg_clash (dot v n) violator.behind (nonneg_is (dot v n) (pos ray.factor *ℤ dot v m) (dot_multiple v n m ray.factor ray.multiple) (nonneg_mul (pos ray.factor) (dot v m) (nonneg_pos ray.factor) side)))) violator.step e adds)
 
 -- where no facet of the few is untested, they are enough
 pub grown_enough : (p q few found : List V3) → IsGrown p q few [] found → IsSpanning few → IsEnough few (differences p q)

@@ -1,15 +1,11 @@
 -- Numbers that went through words of 64 bits, and products of components.
-use Rattle.std.proofs.Common.{◌≡◌, ℕ, ◌*◌, ◌^◌, ◌<◌, ◌≤◌, sym, subst, ℤ, ◌*ℤ◌, to_z, of_z, arith}
+use Rattle.std.proofs.Common.{◌≡◌, ℕ, ◌*◌, ◌≤◌, sym, subst, ℤ, ◌*ℤ◌}
 use Rattle.std.specs.Prelude.{unsigned_abs}
-use Rattle.std.specs.Int.{w64}
-use Rattle.std.proofs.lemmas.Int.{ints, fits_signed_from_abs, to_z-of_z}
+use Rattle.std.proofs.lemmas.Int.{ints}
 use Rattle.staat_vec.specs.declared.vector.V3.{V3}
 use Rattle.staat_vec.specs.Vectors.{IsWithin, vector}
 use Rattle.staat_vec.proofs.Bounds.{abs_mul_le, reads}
-
--- a number below the type's limit is read as it was written
-pub reads_word : (z : ℤ) → unsigned_abs z < 2 ^ 63 → to_z w64 (of_z w64 z) ≡ z
-reads_word z h = to_z-of_z w64 z (fits_signed_from_abs w64 z (omega arith))
+use Rattle.staat_vec.proofs.Integers.{reads_word}
 
 -- for values that went through the machine's signed types
 pub ruleset narrow = (ints, reads, reads_word)

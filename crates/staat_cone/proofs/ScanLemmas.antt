@@ -13,21 +13,20 @@ use Rattle.staat_vec.proofs.Ring.{num, ◌⊖◌, ◌⊗◌, opp, ring, ring_by,
 use Rattle.staat_vec.proofs.Unique.{Contains-nothing}
 use Rattle.staat_vec.proofs.VecRing.{crossE, dotE, detE, negativeE, originE, values, ring3, v0, v1, v2, v3, scale, same_vector, dot_scale, negative_dot}
 use Rattle.staat_model.specs.Cones.{IsAbove, IsConeFacet}
-use Rattle.staat_model.proofs.CornerLemmas.{some_square}
 use Rattle.staat_model.proofs.FacetLemmas.{along, swap_zero}
 use Rattle.staat_cone.specs.Pairs.{Adds, AddsEdges, FromSome, IsEdge, IsThrough}
 use Rattle.staat_cone.specs.Scans.{AreFurthest, IsApart, IsLeftOf, IsLeftmost, IsWallThrough}
 use Rattle.staat_cone.proofs.EdgeLemmas.{edge_of}
 use Rattle.staat_cone.proofs.PairLemmas.{refused}
 use Rattle.staat_cone.proofs.PairLists.{Adds-none, Adds-then, take_more}
+use Rattle.staat_vec.proofs.VectorLaws.{dot_origin, some_square}
+use Rattle.staat_vec.proofs.Integers.{positive_not_zero, cancel_positive, zero_or, product_zero, zero_nonpositive, zero_nonneg, positive_from_nonneg}
+use Rattle.staat_vec.proofs.Canons.{negative-negative}
 
 -- ---- the two sides of v on the plane of n
 
 turned_side : (n v x : V3) → det n (negative v) x ≡ neg_ℤ (det n v x)
 turned_side n v x = ring (values (n ∷ v ∷ x ∷ []) []) (detE v0 (negativeE v1) v2) (opp (detE v0 v1 v2)) tt
-
-turned_twice : (v : V3) → negative (negative v) ≡ v
-turned_twice v = ring3 (values (v ∷ []) []) (negativeE (negativeE v0)) v0 (tt, tt, tt)
 
 opposite : (a b : ℤ) → b ≡ neg_ℤ a → pos 0 <ℤ a → pos 0 <ℤ b → ⊥
 opposite a b e h g = omega (arith, ints)
@@ -37,11 +36,6 @@ sides (pos zero) b e some = absurd (some refl)
 sides (pos (suc n)) b e some = inl (omega (arith, ints))
 sides (negsuc n) b e some = inr (omega (arith, ints))
 
-is_zero : (a : ℤ) → (a ≡ pos 0) ⊎ (a ≢ pos 0)
-is_zero (pos zero) = inl refl
-is_zero (pos (suc n)) = inr (λ e. omega (arith, ints, e))
-is_zero (negsuc n) = inr (λ e. omega (arith, ints, e))
-
 is_positive : (a : ℤ) → (pos 0 <ℤ a) ⊎ (pos 0 <ℤ a → ⊥)
 is_positive (pos zero) = inr (λ h. h.lt)
 is_positive (pos (suc n)) = inl (omega (arith, ints))
@@ -50,7 +44,7 @@ is_positive (negsuc n) = inr (λ h. h.lt)
 left_or_not : (n v x : V3) → IsLeftOf n v x ⊎ (IsLeftOf n v x → ⊥)
 left_or_not n v x =
     ⊎_elim (λ on. ⊎_elim (λ side. inl (record { on = on; side = side })) (λ low. inr (λ l. low l.side)) (is_positive (det n v x)))
-    (λ off. inr (λ l. off l.on)) (is_zero (dot x n))
+    (λ off. inr (λ l. off l.on)) (zero_or (dot x n))
 
 -- what lies on the plane of n and is not parallel to v does not lie in line with v
 not_in_line : (n v x : V3) → n ≢ origin → dot v n ≡ pos 0 → dot x n ≡ pos 0 → IsApart v x → det n v x ≢ pos 0
@@ -91,25 +85,6 @@ a_step s e p q is some hp hq = cancel_positive s e some (above (s *ℤ e) p q is
     above : (t p q : ℤ) → t ≡ p -ℤ q → pos 0 <ℤ p → q ≤ℤ pos 0 → pos 0 <ℤ t
     above t p q e hp hq = omega (arith, ints)
 
-    cancel_positive : (a t : ℤ) → pos 0 <ℤ a → pos 0 <ℤ (a *ℤ t) → pos 0 <ℤ t
-    cancel_positive (pos zero) t h g = absurd h.lt
-    cancel_positive (pos (suc a)) (pos zero) h g = absurd (omega (arith, ints))
-    cancel_positive (pos (suc a)) (pos (suc t)) h g = omega (arith, ints)
-    cancel_positive (pos (suc a)) (negsuc t) h g = absurd (omega (arith, ints))
-    cancel_positive (negsuc a) t h g = absurd h.lt
-
-times_none : (a b : ℤ) → b ≡ pos 0 → a *ℤ b ≡ pos 0
-times_none a b e = ap (λ z. a *ℤ z) e ∙ none a
-  where
-    none : (a : ℤ) → a *ℤ pos 0 ≡ pos 0
-    none a = omega (arith, ints)
-
-no_more : (a : ℤ) → a ≡ pos 0 → a ≤ℤ pos 0
-no_more a e = omega (arith, ints)
-
-no_less : (a : ℤ) → a ≡ pos 0 → pos 0 ≤ℤ a
-no_less a e = omega (arith, ints)
-
 turned_mul : (a b c : ℤ) → b ≡ neg_ℤ a → pos 0 <ℤ b → pos 0 ≤ℤ c → (a *ℤ c) ≤ℤ pos 0
 turned_mul (pos n) b c e h g = absurd (omega (arith, ints))
 turned_mul (negsuc n) b (pos c) e h g = omega (arith, ints)
@@ -120,7 +95,7 @@ module _ (n v a x : V3) (some : n ≢ origin) (on_v : dot v n ≡ pos 0) where
   stays : pos 0 ≤ℤ dot x n → IsLeftOf n v a → pos 0 <ℤ dot x (cross a v) → ⊥
   stays up l =
       no_step (dot n n) (dot x (cross a v)) (det n v x *ℤ dot a n) (det n v a *ℤ dot x n) (step_is n v a x on_v) (some_square n some)
-      (no_more (det n v x *ℤ dot a n) (times_none (det n v x) (dot a n) l.on))
+      (zero_nonpositive (det n v x *ℤ dot a n) (product_zero (det n v x) (dot a n) l.on))
       (nonneg_mul (det n v a) (dot x n) (positive_nonneg (det n v a) l.side) up)
 
   -- what lies right of v is not taken
@@ -128,21 +103,16 @@ module _ (n v a x : V3) (some : n ≢ origin) (on_v : dot v n ≡ pos 0) where
   not_taken up r =
       no_step (dot n n) (dot x (cross a v)) (det n v x *ℤ dot a n) (det n v a *ℤ dot x n) (step_is n v a x on_v) (some_square n some)
       (turned_mul (det n v x) (det n (negative v) x) (dot a n) (turned_side n v x) r.side up)
-      (no_less (det n v a *ℤ dot x n) (times_none (det n v a) (dot x n) r.on))
+      (zero_nonneg (det n v a *ℤ dot x n) (product_zero (det n v a) (dot x n) r.on))
 
   -- what lies left of v is taken in place of what lies off the plane of n
   taken : pos 0 <ℤ dot a n → IsLeftOf n v x → pos 0 <ℤ dot x (cross a v)
   taken off l =
       a_step (dot n n) (dot x (cross a v)) (det n v x *ℤ dot a n) (det n v a *ℤ dot x n) (step_is n v a x on_v) (some_square n some)
       (pos_mul (det n v x) (dot a n) l.side off)
-      (no_more (det n v a *ℤ dot x n) (times_none (det n v a) (dot x n) l.on))
+      (zero_nonpositive (det n v a *ℤ dot x n) (product_zero (det n v a) (dot x n) l.on))
 
 -- ---- a scan
-
-above_zero : (a : ℤ) → pos 0 ≤ℤ a → a ≢ pos 0 → pos 0 <ℤ a
-above_zero (pos zero) h some = absurd (some refl)
-above_zero (pos (suc n)) h some = omega (arith, ints)
-above_zero (negsuc n) h some = absurd h.le
 
 side_of : (vs : List V3) (v n x : V3) → IsWallThrough vs v n → Contains vs x → pos 0 ≤ℤ dot x n
 side_of vs v n x wall c = All-contains (λ w. pos 0 ≤ℤ dot w n) vs x wall.above c
@@ -172,8 +142,8 @@ module _ (vs seen : List V3) (v first a x : V3) (is : IsLeftmost vs seen v first
       now l =
           ⊎_elim
           (λ on. ⊎_elim (λ left. left) (λ right. absurd (old.0 right)) (on_a_side n v a some wall.on on apart))
-          (λ off. absurd (none (taken n v a x some wall.on (above_zero (dot a n) (side_of vs v n a wall a_in) off) l)))
-          (is_zero (dot a n))
+          (λ off. absurd (none (taken n v a x some wall.on (positive_from_nonneg (dot a n) (side_of vs v n a wall a_in) off) l)))
+          (zero_or (dot a n))
 
 leftmost_moved : (vs : List V3) (v first a : V3) (i : ℕ) (z : V3) → i < length vs → IsLeftmost vs (take i vs) v first a → Contains vs a → pos 0 <ℤ dot (get_or vs i z) (cross a v) → IsLeftmost vs (take (i + 1) vs) v first (get_or vs i z)
 leftmost_moved vs v first a i z lt is a_in turn =
@@ -190,16 +160,10 @@ leftmost_whole vs v first a i le is = subst (λ seen. IsLeftmost vs seen v first
 
 -- what is taken is not parallel to v
 taken_apart : (v a x : V3) → pos 0 <ℤ dot x (cross a v) → IsApart v x
-taken_apart v a x turn z = none (dot x (cross a v)) turn (turn_of v a x ∙ ap (dot a) (swap_zero v x z) ∙ flat a)
+taken_apart v a x turn z = positive_not_zero (dot x (cross a v)) turn (turn_of v a x ∙ ap (dot a) (swap_zero v x z) ∙ dot_origin a)
   where
     turn_of : (v a x : V3) → dot x (cross a v) ≡ dot a (cross v x)
     turn_of v a x = ring (values (v ∷ a ∷ x ∷ []) []) (dotE v2 (crossE v1 v0)) (dotE v1 (crossE v0 v2)) tt
-
-    flat : (a : V3) → dot a origin ≡ pos 0
-    flat a = ring (values (a ∷ []) []) (dotE v0 originE) (num (pos 0)) tt
-
-    none : (e : ℤ) → pos 0 <ℤ e → e ≡ pos 0 → ⊥
-    none e h g = omega (arith, ints)
 
 -- how far a scan is: the best so far, and the normal across it and v
 pub record IsScanned (vs seen : List V3) (v first a m : V3) : Type 0 where
@@ -253,7 +217,7 @@ flat_none : (a n : V3) → n ≡ origin → dot a n ≡ pos 0
 flat_none a n e = ap (dot a) e ∙ ring (values (a ∷ []) []) (dotE v0 originE) (num (pos 0)) tt
 
 is_origin : (n : V3) → (n ≡ origin) ⊎ (n ≢ origin)
-is_origin n = go (is_zero n.x) (is_zero n.y) (is_zero n.z)
+is_origin n = go (zero_or n.x) (zero_or n.y) (zero_or n.z)
   where
     go : (n.x ≡ pos 0) ⊎ (n.x ≢ pos 0) → (n.y ≡ pos 0) ⊎ (n.y ≢ pos 0) → (n.z ≡ pos 0) ⊎ (n.z ≢ pos 0) → (n ≡ origin) ⊎ (n ≢ origin)
     go (inl e) (inl f) (inl g) = inl (same_vector n origin e f g)
@@ -271,7 +235,7 @@ on_one vs v first a b left right first_in n w wall w_in apart on_w = ⊎_elim (�
     found : n ≢ origin → (dot a n ≡ pos 0) ⊎ (dot b n ≡ pos 0)
     found some =
         ⊎_elim (λ l. on_one_left vs v first a b n w left right first_in some wall w_in l)
-        (λ r. swapped (on_one_left vs (negative v) first b a n w right (subst (λ u. IsLeftmost vs vs u first a) (sym (turned_twice v)) left) first_in some (wall_turned vs v n wall) w_in r))
+        (λ r. swapped (on_one_left vs (negative v) first b a n w right (subst (λ u. IsLeftmost vs vs u first a) (sym (negative-negative v)) left) first_in some (wall_turned vs v n wall) w_in r))
         (on_a_side n v w some wall.on on_w apart)
 
 turned_cross : (v x : V3) → cross x (negative v) ≡ cross v x
@@ -323,7 +287,7 @@ on_first n v a b on_b on_v apart flat =
     let c = cross b v in
     let k = as_positive (dot c c) (some_square c apart) in
     cancel_zero k.0 (dot a n) k.1
-    (ap (λ z. z *ℤ dot a n) (sym k.2) ∙ sym (dot_scale (dot c c) a n) ∙ ap (dot a) (along n b v on_b on_v) ∙ dot_scale (dot n c) a c ∙ times_none (dot n c) (dot a c) flat)
+    (ap (λ z. z *ℤ dot a n) (sym k.2) ∙ sym (dot_scale (dot c c) a n) ∙ ap (dot a) (along n b v on_b on_v) ∙ dot_scale (dot n c) a c ∙ product_zero (dot n c) (dot a c) flat)
 
 pub first_is_enough : (vs xs ys : List V3) (v a b : V3) → AreFurthest vs v a b → det a b v ≡ pos 0
     → Adds (IsEdge vs a v) xs ys → AddsEdges vs v xs ys
@@ -335,16 +299,8 @@ first_is_enough vs xs ys v a b are flat first = record {
   only = λ f c. ⊎_elim (λ old. inl old) (λ t. inr (a, are.a_in, t)) (first.only f c);
 }
 
--- where all are parallel to v, none goes through it
-pub none_added : (vs xs : List V3) (v : V3) → (Any (IsApart v) vs → ⊥) → AddsEdges vs v xs xs
-none_added vs xs v none = record {
-  kept = λ f c. c;
-  added = λ n (h, (k, lt, at), t). absurd (none (k, h, lt, at, t.independent));
-  only = λ f c. inl c;
-}
-
 pub flat_where_not_off : (r : Bool) (d : ℤ) → IsTrue r ↔ (d ≢ pos 0) → r ≡ false → d ≡ pos 0
-flat_where_not_off r d h e = ⊎_elim (λ flat. flat) (λ off. absurd (refused r (d ≢ pos 0) h e off)) (is_zero d)
+flat_where_not_off r d h e = ⊎_elim (λ flat. flat) (λ off. absurd (refused r (d ≢ pos 0) h e off)) (zero_or d)
 
 -- ---- the first candidate
 

@@ -5,12 +5,12 @@ use Rattle.staat_vec.specs.declared.vector.V3.{V3}
 use Rattle.staat_vec.specs.declared.vector.TheConstants.{DIFF, NORMAL}
 use Rattle.staat_vec.specs.Vectors.{IsWithin, minus, vector_cmp}
 use Rattle.staat_vec.specs.Lists.{Lists}
-use Rattle.staat_vec.proofs.Unique.{Contains-nothing}
+use Rattle.staat_vec.proofs.Unique.{Contains-nothing, Contains-front}
 use Rattle.staat_model.specs.Pieces.{IsPiece}
 use Rattle.staat_model.specs.Meeting.{Overlap}
 use Rattle.staat_model.specs.Cones.{IsConeFacet, IsSpanning, differences}
 use Rattle.staat_model.specs.Facets.{IsDifference, IsFacet}
-use Rattle.staat_model.proofs.Members.{here, All-from_members}
+use Rattle.staat_model.proofs.Members.{All-from_members}
 use Rattle.staat_model.proofs.PieceFacets.{AreDifferences, differences_are, from_cone_facet, to_cone_facet, overlap_by_facets_lemma}
 use Rattle.staat_cone.specs.Few.{IsGrown}
 use Rattle.staat_cone.specs.Pairs.{Adds, FromSome}
@@ -34,7 +34,7 @@ listed_by_all p q vs list same l =
 
 empty_list : (xs : List V3) → ((x : V3) → Contains xs x → ⊥) → xs ≡ []
 empty_list [] none = refl
-empty_list (x ∷ xs) none = absurd (none x (here x xs))
+empty_list (x ∷ xs) none = absurd (none x (Contains-front x xs))
 
 pub overlap_by_list : (p q list : List V3) → IsPiece p → IsPiece q → Lists vector_cmp (IsFacet p q) list → (list ≡ []) ↔ Overlap p q
 overlap_by_list p q list is_p is_q l =

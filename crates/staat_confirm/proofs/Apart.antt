@@ -1,12 +1,11 @@
 -- What takes all parts apart down to its groups keeps the rules of its nodes.
-use Rattle.std.proofs.Common.{◌≡◌, ◌⊎◌, ◌↔◌, ℕ, zero, suc, ◌+◌, ◌-◌, ◌<◌, ◌≤◌, List, [], ◌∷◌, ◌++◌, length, drop, inl, inr, ⊎_elim, refl, sym, ap, subst, ◌∙◌, arith, append_assoc}
+use Rattle.std.proofs.Common.{◌≡◌, ◌↔◌, ℕ, zero, suc, ◌+◌, ◌-◌, ◌<◌, ◌≤◌, List, [], ◌∷◌, ◌++◌, length, drop, inl, inr, ⊎_elim, refl, sym, ap, subst, ◌∙◌, arith, append_assoc}
 use Rattle.std.specs.Prelude.{slice_get}
 use Rattle.std.specs.FinSet as set
 use Rattle.staat_vec.specs.declared.vector.V3.{V3}
 use Rattle.staat_model.specs.declared.assembly.Part.{Part}
 use Rattle.staat_model.specs.declared.set.PartSet.{PartSet}
 use Rattle.staat_model.specs.Sets.{Has, below}
-use Rattle.staat_model.proofs.Places.{same_some}
 use Rattle.staat_model.proofs.SetBits.{has-below}
 use Rattle.staat_model.proofs.SetMembers.{has-single, has-union}
 use Rattle.staat_short.specs.declared.short.ShortNode.{ShortNode}
@@ -15,13 +14,12 @@ use Rattle.staat_short.specs.ShortTexts.{GroupedPlan, grouped, part_alone, short
 use Rattle.staat_confirm.specs.Members.{AreMembersOnce, IsMemberAt, IsMemberOf, StandsAt}
 use Rattle.staat_confirm.specs.ShortVerdicts.{IsGoodDownTo}
 use Rattle.staat_confirm.specs.Splits.{AreClearSplits, IsClearSplit}
-use Rattle.staat_confirm.proofs.Lists.{get_front}
 use Rattle.staat_confirm.proofs.Standing.{one_stands, some_stands, stands_within, whole_stands}
+use Rattle.staat_vec.proofs.Naturals.{lt_or_le}
+use Rattle.staat_vec.proofs.Options.{some_injective}
+use Rattle.staat_vec.proofs.ListLaws.{get_front}
 
 -- ---- places of two lists
-
-split_at : (a b : ℕ) → (a < b) ⊎ (b ≤ a)
-split_at a b = grind arith
 
 get_back : {X : Type 0} (xs ys : List X) (k : ℕ) → slice_get (xs ++ ys) (length xs + k) ≡ slice_get ys k
 get_back [] ys k = ap (slice_get ys) (let e : 0 + k ≡ k = omega arith in e)
@@ -60,7 +58,7 @@ module _ (parts : List Part) where
       (λ lt. of_front lt (record { node = h.node; at = sym (get_before xs ys k lt) ∙ h.at; member = h.member }))
       (λ ge. let e : k ≡ length xs + (k - length xs) = omega (arith, ge) in
       of_back (k - length xs) e (record { node = h.node; at = sym (get_back xs ys (k - length xs)) ∙ ap (slice_get (xs ++ ys)) (sym e) ∙ h.at; member = h.member }))
-      (split_at k (length xs))
+      (lt_or_le k (length xs))
 
   -- ---- the members of a plan are those of its set, each of one node
 
@@ -70,7 +68,7 @@ module _ (parts : List Part) where
     pub once : (k m p : ℕ) → IsMemberAt parts nodes k p → IsMemberAt parts nodes m p → k ≡ m
 
   first_alone : (node : ShortNode) (k p : ℕ) → IsMemberAt parts (node ∷ []) k p → (k ≡ 0) × IsMemberOf parts node p
-  first_alone node zero p h = (refl, subst (λ x. IsMemberOf parts x p) (same_some h.node node (sym h.at)) h.member)
+  first_alone node zero p h = (refl, subst (λ x. IsMemberOf parts x p) (some_injective h.node node (sym h.at)) h.member)
   first_alone node (suc k) p h = let wrong = h.at in cc
 
   one_node : (w : PartSet) (node : ShortNode) → ((p : ℕ) → Has w p ↔ IsMemberOf parts node p) → AreMembersOf w (node ∷ [])
@@ -82,7 +80,7 @@ module _ (parts : List Part) where
 
   -- a split has no members
   not_first : (d : V3) (nodes : List ShortNode) (p : ℕ) → IsMemberAt parts (Split d ∷ nodes) 0 p → ⊥
-  not_first d nodes p h = subst (λ x. IsMemberOf parts x p) (same_some h.node (Split d) (sym h.at)) h.member
+  not_first d nodes p h = subst (λ x. IsMemberOf parts x p) (some_injective h.node (Split d) (sym h.at)) h.member
 
   behind : (d : V3) (nodes : List ShortNode) (k p : ℕ) → IsMemberAt parts (Split d ∷ nodes) k p → (j : ℕ) × (k ≡ suc j) × IsMemberAt parts nodes j p
   behind d nodes zero p h = absurd (not_first d nodes p h)
@@ -179,7 +177,7 @@ module _ (parts : List Part) where
       ⊎_elim {C = IsClearSplit parts d m r}
       (λ lt. clear_within m' a first k d m r (stands_front m' (taken_apart d m r) (short_nodes_of r') k lt rest))
       (λ ge. clear_within r' b second (k - length (short_nodes_of m')) d m r (stands_back (short_nodes_of m') (short_nodes_of r') (taken_apart d m r) k ge rest))
-      (split_at k (length (short_nodes_of m')))
+      (lt_or_le k (length (short_nodes_of m')))
 
   pub clear_splits : (t : GroupedPlan) (w : PartSet) → IsGoodDownTo parts w t → AreClearSplits parts (short_nodes_of t)
   clear_splits t w good k lt d m r at = clear_within t w good k d m r at

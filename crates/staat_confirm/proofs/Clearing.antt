@@ -10,7 +10,7 @@ use Rattle.staat_model.specs.declared.assembly.Part.{Part}
 use Rattle.staat_model.specs.declared.certificate.Arc.{Arc}
 use Rattle.staat_model.specs.Certificates.{arc_cmp}
 use Rattle.staat_model.proofs.Members.{All-from_members}
-use Rattle.staat_model.proofs.Places.{place_within, same_some}
+use Rattle.staat_model.proofs.Places.{place_within}
 use Rattle.staat_short.specs.declared.short.ShortNode.{ShortNode}
 use Rattle.staat_short.specs.declared.short.ShortNode.TheVariants.{Split}
 use Rattle.staat_short.specs.ShortTexts.{GroupedPlan, short_nodes_of, taken_apart}
@@ -78,9 +78,6 @@ clear_at parts nodes k d at ne none d' m r stands =
     let both : Some (Split d') ≡ Some (Split d) = sym (split_first nodes k d' m r stands) ∙ at in
     let same : d ≡ d' = cc in
     subst (λ v. Rattle.staat_confirm.specs.Splits.IsClearSplit parts v m r) same (record { moves = ne; clear = none m r (subst (λ v. StandsAt nodes k (taken_apart v m r)) (sym same) stands) })
-
-pub unsplit_clear : (parts : List Part) (nodes : List ShortNode) (k : ℕ) (node : ShortNode) → slice_get nodes k ≡ Some node → ((d : V3) → node ≡ Split d → ⊥) → IsClearAt parts nodes k
-unsplit_clear parts nodes k node at not d m r stands = absurd (not d (same_some node (Split d) (sym at ∙ split_first nodes k d m r stands)))
 
 -- ---- one node more
 

@@ -2,10 +2,8 @@
 use Rattle.std.proofs.Common.{◌≡◌, ◌⊎◌, ◌↔◌, ℕ, ◌+◌, ◌<◌, ◌≤◌, List, length, get_or, take, inl, inr, ⊎_elim, refl, sym, ap, subst, ◌∙◌, arith, All, Contains}
 use Rattle.std.specs.Prelude.{Any, Option, None, Some}
 use Rattle.std.specs.List.Sorted.{IsStrictlySortedBy}
-use Rattle.std.specs.Ordering.{nat_cmp, ordering_then}
-use Rattle.std.specs.declared.cmp.Ordering.{Ordering}
-use Rattle.std.specs.declared.cmp.Ordering.TheVariants.{Less, Equal}
-use Rattle.std.proofs.lemmas.Bool.Decides.{nat_tests}
+use Rattle.std.specs.Ordering.{nat_cmp}
+use Rattle.std.specs.declared.cmp.Ordering.TheVariants.{Less}
 use Rattle.std.proofs.lemmas.List.Elements.{All-contains}
 use Rattle.staat_vec.specs.declared.vector.V3.{V3}
 use Rattle.staat_vec.specs.Lists.{IsLeast}
@@ -14,35 +12,11 @@ use Rattle.staat_model.specs.declared.certificate.Arc.{Arc}
 use Rattle.staat_model.specs.Assemblies.{piece_count}
 use Rattle.staat_model.specs.Certificates.{arc_cmp}
 use Rattle.staat_model.specs.Removal.{Blocks, MeetsAlong}
-use Rattle.staat_model.proofs.PlanLemmas.{there_is}
 use Rattle.staat_confirm.specs.Found.{FindsLeast, MeetsBetween, MeetsFrom, MeetsFromPiece, MeetsTo}
-use Rattle.staat_confirm.proofs.Lists.{before_place, order, take_cases, take_end}
-
--- ---- the order of arcs
-
-cmp_same : (n : ℕ) → nat_cmp n n ≡ Equal
-cmp_same n = grind (arith, nat_tests)
-
-cmp_less : (m n : ℕ) → m < n → nat_cmp m n ≡ Less
-cmp_less m n h = grind (arith, nat_tests)
-
-same_first : (m n : ℕ) (o : Ordering) → m ≡ n → ordering_then (nat_cmp m n) o ≡ o
-same_first m n o e = ap (λ c. ordering_then c o) (ap (nat_cmp m) (sym e) ∙ cmp_same m)
-
-less_first : (m n : ℕ) (o : Ordering) → m < n → ordering_then (nat_cmp m n) o ≡ Less
-less_first m n o lt = ap (λ c. ordering_then c o) (cmp_less m n lt)
-
-pub by_a : (x y : Arc) → x.a < y.a → arc_cmp x y ≡ Less
-by_a x y h = less_first x.a y.a _ h
-
-pub by_i : (x y : Arc) → x.a ≡ y.a → x.i < y.i → arc_cmp x y ≡ Less
-by_i x y e h = same_first x.a y.a _ e ∙ less_first x.i y.i _ h
-
-pub by_b : (x y : Arc) → x.a ≡ y.a → x.i ≡ y.i → x.b < y.b → arc_cmp x y ≡ Less
-by_b x y e f h = same_first x.a y.a _ e ∙ same_first x.i y.i _ f ∙ less_first x.b y.b _ h
-
-pub by_j : (x y : Arc) → x.a ≡ y.a → x.i ≡ y.i → x.b ≡ y.b → x.j < y.j → arc_cmp x y ≡ Less
-by_j x y e f g h = same_first x.a y.a _ e ∙ same_first x.i y.i _ f ∙ same_first x.b y.b _ g ∙ cmp_less x.j y.j h
+use Rattle.staat_confirm.proofs.Lists.{before_place, take_cases, take_end}
+use Rattle.staat_model.proofs.ArcOrder.{less_by_a, less_by_i, less_by_b, less_by_j}
+use Rattle.staat_model.proofs.PlanLemmas.{piece_within}
+use Rattle.staat_vec.proofs.Naturals.{trichotomy}
 
 -- ---- the least of those with one number is the least of all
 
@@ -52,7 +26,7 @@ least_at P Q f n arc least to from below above = record {
   has = to arc least.has;
   least = λ y p. ⊎_elim {C = (y ≡ arc) ⊎ (arc_cmp arc y ≡ Less)} (λ lt. absurd (below y p lt))
       (λ r. ⊎_elim {C = (y ≡ arc) ⊎ (arc_cmp arc y ≡ Less)} (λ e. least.least y (from y p e)) (λ gt. inr (above y p gt)) r)
-      (order (f y) n);
+      (trichotomy (f y) n);
 }
 
 -- none with P has a number below k
@@ -68,9 +42,6 @@ below_more P f k none here arc p lt = ⊎_elim {C = ⊥} (λ less. none arc p le
 -- none with P has a number among the first k of the list
 abbrev pub NoneListed : (Arc → Type 0) → (Arc → ℕ) → List ℕ → ℕ → Type 0
 NoneListed P f xs k = (arc : Arc) → P arc → Contains (take k xs) (f arc) → ⊥
-
-pub listed_none : (P : Arc → Type 0) (f : Arc → ℕ) (xs : List ℕ) → NoneListed P f xs 0
-listed_none P f xs arc p (k, lt, e) = omega (arith, lt)
 
 pub listed_more : (P : Arc → Type 0) (f : Arc → ℕ) (xs : List ℕ) (k : ℕ) → k < length xs → NoneListed P f xs k → ((arc : Arc) → P arc → f arc ≡ get_or xs k 0 → ⊥) → NoneListed P f xs (k + 1)
 listed_more P f xs k lt none here arc p c = ⊎_elim {C = ⊥} (λ old. none arc p old) (λ e. here arc p (sym e)) (take_cases xs k 0 (f arc) lt c)
@@ -106,7 +77,7 @@ module _ (parts : List Part) (d : V3) where
       let x : Arc = record { a = a; i = i; b = b; j = j } in record {
         has = (refl, refl, refl, meets);
         least = λ y p. ⊎_elim {C = (y ≡ x) ⊎ (arc_cmp x y ≡ Less)} (λ lt. absurd (none y p lt))
-            (λ r. ⊎_elim {C = (y ≡ x) ⊎ (arc_cmp x y ≡ Less)} (λ e. inl (same_arc a i b j y p e)) (λ gt. inr (by_j x y (sym p.0) (sym p.1) (sym p.2) gt)) r) (order y.j j);
+            (λ r. ⊎_elim {C = (y ≡ x) ⊎ (arc_cmp x y ≡ Less)} (λ e. inl (same_arc a i b j y p e)) (λ gt. inr (less_by_j x y (sym p.0) (sym p.1) (sym p.2) gt)) r) (trichotomy y.j j);
       }
 
   pub to_more : (a i b j : ℕ) → NoneBelow (MeetsTo parts d a i b) (λ arc. arc.j) j → (MeetsAlong parts d (record { a = a; i = i; b = b; j = j }) → ⊥) → NoneBelow (MeetsTo parts d a i b) (λ arc. arc.j) (j + 1)
@@ -114,7 +85,7 @@ module _ (parts : List Part) (d : V3) where
 
   pub to_end : (a i b j : ℕ) → piece_count parts b ≤ j → NoneBelow (MeetsTo parts d a i b) (λ arc. arc.j) j → (arc : Arc) → MeetsTo parts d a i b arc → ⊥
   to_end a i b j le none arc p =
-      let lt = there_is parts arc.b arc.j p.3.q p.3.q_is in
+      let lt = piece_within parts arc.b arc.j p.3.q p.3.q_is in
       let same : piece_count parts arc.b ≡ piece_count parts b = ap (piece_count parts) p.2 in
       none arc p (omega (arith, lt, same, le))
 
@@ -124,7 +95,7 @@ module _ (parts : List Part) (d : V3) where
       listed_found (MeetsFromPiece parts d a i rest) (MeetsTo parts d a i (get_or rest k 0)) (λ y. y.b) rest k arc sorted lt none (λ y p. p.2) least
       (λ y q. (q.0, q.1, subst (Contains rest) (sym q.2) listed, q.3))
       (λ y p e. (p.0, p.1, e, p.3))
-      (λ y p gt. let h = least.has in by_b arc y (h.0 ∙ sym p.0) (h.1 ∙ sym p.1) (let e = h.2 in omega (arith, e, gt)))
+      (λ y p gt. let h = least.has in less_by_b arc y (h.0 ∙ sym p.0) (h.1 ∙ sym p.1) (let e = h.2 in omega (arith, e, gt)))
 
   pub piece_more : (a i : ℕ) (rest : List ℕ) (k : ℕ) → k < length rest → NoneListed (MeetsFromPiece parts d a i rest) (λ y. y.b) rest k → ((arc : Arc) → MeetsTo parts d a i (get_or rest k 0) arc → ⊥)
       → NoneListed (MeetsFromPiece parts d a i rest) (λ y. y.b) rest (k + 1)
@@ -136,14 +107,14 @@ module _ (parts : List Part) (d : V3) where
   pub from_found : (a i : ℕ) (rest : List ℕ) (arc : Arc) → NoneBelow (MeetsFrom parts d a rest) (λ y. y.i) i → IsLeast arc_cmp (MeetsFromPiece parts d a i rest) arc → IsLeast arc_cmp (MeetsFrom parts d a rest) arc
   from_found a i rest arc none least =
       least_at (MeetsFrom parts d a rest) (MeetsFromPiece parts d a i rest) (λ y. y.i) i arc least (λ y q. (q.0, q.2, q.3)) (λ y p e. (p.0, e, p.1, p.2)) none
-      (λ y p gt. let h = least.has in by_i arc y (h.0 ∙ sym p.0) (let e = h.1 in omega (arith, e, gt)))
+      (λ y p gt. let h = least.has in less_by_i arc y (h.0 ∙ sym p.0) (let e = h.1 in omega (arith, e, gt)))
 
   pub from_more : (a i : ℕ) (rest : List ℕ) → NoneBelow (MeetsFrom parts d a rest) (λ y. y.i) i → ((arc : Arc) → MeetsFromPiece parts d a i rest arc → ⊥) → NoneBelow (MeetsFrom parts d a rest) (λ y. y.i) (i + 1)
   from_more a i rest none here = below_more (MeetsFrom parts d a rest) (λ y. y.i) i none (λ y p e. here y (p.0, e, p.1, p.2))
 
   pub from_end : (a i : ℕ) (rest : List ℕ) → piece_count parts a ≤ i → NoneBelow (MeetsFrom parts d a rest) (λ y. y.i) i → (arc : Arc) → MeetsFrom parts d a rest arc → ⊥
   from_end a i rest le none arc p =
-      let lt = there_is parts arc.a arc.i p.2.p p.2.p_is in
+      let lt = piece_within parts arc.a arc.i p.2.p p.2.p_is in
       let same : piece_count parts arc.a ≡ piece_count parts a = ap (piece_count parts) p.0 in
       none arc p (omega (arith, lt, same, le))
 
@@ -158,7 +129,7 @@ module _ (parts : List Part) (d : V3) where
       listed_found (MeetsBetween parts d moved rest) (MeetsFrom parts d (get_or moved k 0) rest) (λ y. y.a) moved k arc sorted lt none (λ y p. p.from) least
       (λ y q. record { from = subst (Contains moved) (sym q.0) listed; to = q.1; meets = q.2 })
       (λ y p e. (e, p.to, p.meets))
-      (λ y p gt. let h = least.has in by_a arc y (let e = h.0 in omega (arith, e, gt)))
+      (λ y p gt. let h = least.has in less_by_a arc y (let e = h.0 in omega (arith, e, gt)))
 
   pub between_more : (moved rest : List ℕ) (k : ℕ) → k < length moved → NoneListed (MeetsBetween parts d moved rest) (λ y. y.a) moved k → ((arc : Arc) → MeetsFrom parts d (get_or moved k 0) rest arc → ⊥)
       → NoneListed (MeetsBetween parts d moved rest) (λ y. y.a) moved (k + 1)

@@ -3,19 +3,13 @@ use Rattle.std.proofs.Common.{◌≡◌, ◌≢◌, ◌⊎◌, ℕ, zero, suc, �
 use Rattle.std.specs.Prelude.{Some, slice_get}
 use Rattle.std.specs.List.Sorted.{IsStrictlySortedBy}
 use Rattle.std.specs.Ordering.{nat_cmp}
-use Rattle.std.specs.declared.cmp.Ordering.TheVariants.{Less}
-use Rattle.std.proofs.lemmas.Bool.Decides.{nat_tests}
 use Rattle.std.proofs.lemmas.List.{take_all, take_more}
 use Rattle.std.proofs.lemmas.List.Elements.{Contains-push_cases}
 use Rattle.std.proofs.lemmas.Map.Keys.{Less-from_sorted}
 use Rattle.std.proofs.lemmas.Option.{slice_get-get_or}
-use Rattle.staat_model.proofs.Places.{Contains-from_place}
-
-pub order : (j k : ℕ) → (j < k) ⊎ ((j ≡ k) ⊎ (k < j))
-order j k = grind arith
-
-pub less_number : (m n : ℕ) → nat_cmp m n ≡ Less → m < n
-less_number m n h = grind (arith, nat_tests)
+use Rattle.staat_vec.proofs.Naturals.{trichotomy}
+use Rattle.staat_vec.proofs.Comparisons.{less_number}
+use Rattle.staat_vec.proofs.Unique.{from_place}
 
 -- what comes before an element of an ascending list stands before it
 pub before_place : (xs : List ℕ) (k m : ℕ) → IsStrictlySortedBy nat_cmp xs → k < length xs → Contains xs m → m < get_or xs k 0 → Contains (take k xs) m
@@ -24,7 +18,7 @@ before_place xs k m sorted k_lt (j, j_lt, e) lt = ⊎_elim {C = Contains (take k
     (λ r. absurd (⊎_elim {C = ⊥}
     (λ same. let is : get_or xs k 0 ≡ m = ap (λ i. get_or xs i 0) (sym same) ∙ from_default xs j m 0 j_lt e in omega (arith, is, lt))
     (λ later. let f = less_number (get_or xs k 0) (get_or xs j 0) (Less-from_sorted nat_cmp xs k j 0 sorted later j_lt) in let is = from_default xs j m 0 j_lt e in omega (arith, is, lt, f)) r))
-    (order j k)
+    (trichotomy j k)
   where
     from_default : (ys : List ℕ) (i n d : ℕ) → i < length ys → get_or ys i n ≡ n → get_or ys i d ≡ n
     from_default [] i n d h f = absurd (omega arith)
@@ -44,16 +38,6 @@ pub take_end : {X : Type 0} (xs : List X) (k : ℕ) (x : X) → length xs ≤ k 
 take_end xs k x le c = subst (λ ys. Contains ys x) (sym (take_all k xs le)) c
 
 -- ---- places
-
-pub get_drop : {X : Type 0} (xs : List X) (n k : ℕ) → slice_get (drop n xs) k ≡ slice_get xs (n + k)
-get_drop xs zero k = ap (slice_get xs) (let e : k ≡ 0 + k = omega arith in e)
-get_drop [] (suc n) k = refl
-get_drop (x ∷ xs) (suc n) k = get_drop xs n k ∙ ap (slice_get (x ∷ xs)) (let e : suc (n + k) ≡ suc n + k = omega arith in e)
-
-pub get_front : {X : Type 0} (xs ys : List X) (k : ℕ) (x : X) → slice_get xs k ≡ Some x → slice_get (xs ++ ys) k ≡ Some x
-get_front [] ys k x e = cc
-get_front (y ∷ xs) ys zero x e = e
-get_front (y ∷ xs) ys (suc k) x e = get_front xs ys k x e
 
 pub get_within : {X : Type 0} (xs ys : List X) (k : ℕ) (x : X) → k < length xs → slice_get (xs ++ ys) k ≡ Some x → slice_get xs k ≡ Some x
 get_within [] ys k x lt e = absurd (omega arith)
@@ -81,11 +65,6 @@ pub drop_past : {X : Type 0} (xs : List X) (k : ℕ) (ys zs : List X) → drop k
 drop_past xs k [] zs e = ap (λ m. drop m xs) (let f : k + 0 ≡ k = omega arith in f) ∙ e
 drop_past xs k (y ∷ ys) zs e = ap (λ m. drop m xs) (let f : k + suc (length ys) ≡ k + 1 + length ys = omega arith in f) ∙ drop_past xs (k + 1) ys zs (drop_tail xs k y (ys ++ zs) e)
 
-pub set_here : {X : Type 0} (xs : List X) (k : ℕ) (x : X) → k < length xs → slice_get (set xs k x) k ≡ Some x
-set_here [] k x lt = absurd (omega arith)
-set_here (y ∷ xs) zero x lt = refl
-set_here (y ∷ xs) (suc k) x lt = set_here xs k x (omega arith)
-
 pub set_there : {X : Type 0} (xs : List X) (k m : ℕ) (x : X) → m ≢ k → slice_get (set xs k x) m ≡ slice_get xs m
 set_there [] k m x ne = refl
 set_there (y ∷ xs) zero zero x ne = absurd (ne refl)
@@ -93,12 +72,6 @@ set_there (y ∷ xs) zero (suc m) x ne = refl
 set_there (y ∷ xs) (suc k) zero x ne = refl
 set_there (y ∷ xs) (suc k) (suc m) x ne = set_there xs k m x (λ e. ne (ap suc e))
 
-pub drop_end : {X : Type 0} (xs : List X) (k : ℕ) → length xs ≤ k → drop k xs ≡ []
-drop_end [] zero h = refl
-drop_end [] (suc k) h = refl
-drop_end (x ∷ xs) zero h = absurd (omega arith)
-drop_end (x ∷ xs) (suc k) h = drop_end xs k (omega arith)
-
 -- the element that was read stands in the list
 pub read_in : {X : Type 0} (xs : List X) (k : ℕ) (d : X) → k < length xs → Contains xs (get_or xs k d)
-read_in xs k d lt = Contains-from_place xs k (get_or xs k d) (slice_get-get_or xs k d lt)
+read_in xs k d lt = from_place xs k (get_or xs k d) (slice_get-get_or xs k d lt)

@@ -10,19 +10,20 @@ use Rattle.std.proofs.lemmas.List.Elements.{Contains-append_left, Contains-push,
 use Rattle.std.proofs.lemmas.Option.{slice_get-get_or}
 use Rattle.staat_vec.specs.Lists.{Lists}
 use Rattle.staat_model.specs.declared.assembly.Part.{Part}
-use Rattle.staat_model.proofs.Places.{place_within, same_some}
+use Rattle.staat_model.proofs.Places.{place_within}
 use Rattle.staat_holds.specs.declared.hold.Hold.{Hold}
 use Rattle.staat_holds.specs.Chains.{IsJoinedLast}
 use Rattle.staat_short.specs.declared.short.ShortNode.{ShortNode}
 use Rattle.staat_short.specs.declared.short.ShortNode.TheVariants.{Group}
 use Rattle.staat_confirm.specs.Members.{AreMembersOnce, IsBadMember, IsMemberAt, IsMemberFault, IsMemberOf, bad_member, missing_member}
 use Rattle.staat_confirm.specs.Owners.{AreAllOwned, AreOwners, IsOwnedWithin, IsOwner, IsTakenElsewhere, IsUnowned, RefusesSome, TakesAll}
-use Rattle.staat_confirm.proofs.Lists.{drop_end, order, take_cases}
+use Rattle.staat_confirm.proofs.Lists.{take_cases}
+use Rattle.staat_vec.proofs.Comparisons.{sorted_push_less}
+use Rattle.staat_vec.proofs.Options.{some_injective}
+use Rattle.staat_vec.proofs.ListLaws.{drop_end}
+use Rattle.staat_vec.proofs.Naturals.{trichotomy}
 
 -- ---- some members more
-
-pub takes_none : (xs : List ℕ) (node : ℕ) (old : List (Option ℕ)) → TakesAll (Contains (take 0 xs)) node old old
-takes_none xs node old p k = (λ h. inl h, λ h. ⊎_elim {C = IsOwner old p k} (λ o. o) (λ n. let (i, lt, e) = n.0 in absurd (omega (arith, lt))) h)
 
 pub takes_more : (xs : List ℕ) (i d node : ℕ) (old now new : List (Option ℕ)) → i < length xs → TakesAll (Contains (take i xs)) node old now → TakesAll (λ q. q ≡ get_or xs i d) node now new → TakesAll (Contains (take (i + 1) xs)) node old new
 takes_more xs i d node old now new lt before one p k = (
@@ -60,7 +61,7 @@ owners_next parts nodes k node old new at same are takes = record {
         (λ n. (let e = n.1 in omega (arith, e), subst (λ j. IsMemberAt parts nodes j p) (sym n.1) (record { node = node; at = at; member = n.0 })))
         ((takes p m).0 o),
     λ h. ⊎_elim {C = IsOwner new p m}
-        (λ e. (takes p m).1 (inr (subst (λ x. IsMemberOf parts x p) (same_some h.1.node node (sym h.1.at ∙ subst (λ j. slice_get nodes j ≡ Some node) (sym e) at)) h.1.member, e)))
+        (λ e. (takes p m).1 (inr (subst (λ x. IsMemberOf parts x p) (some_injective h.1.node node (sym h.1.at ∙ subst (λ j. slice_get nodes j ≡ Some node) (sym e) at)) h.1.member, e)))
         (λ ne. (takes p m).1 (inl ((are.are p m).1 (let lt = h.0 in omega (arith, lt, ne), h.1)))) (cases_eq m k),
   );
 }
@@ -83,7 +84,7 @@ member_fault parts nodes k node owners at are (p, member, refused) = bad_member 
         (λ other. let (m, o, ne) = other in let h = (are.are p m).0 o in inr (m, h.0, h.1)) refused;
   };
   least = λ m bad. ⊎_elim {C = (m ≡ k) ⊎ (nat_cmp k m ≡ Less)} (λ lt. absurd (none_bad parts nodes k m owners are lt bad))
-      (λ r. ⊎_elim {C = (m ≡ k) ⊎ (nat_cmp k m ≡ Less)} (λ e. inl e) (λ gt. inr (sym (nat_cmp_is k m Less gt))) r) (order m k);
+      (λ r. ⊎_elim {C = (m ≡ k) ⊎ (nat_cmp k m ≡ Less)} (λ e. inl e) (λ gt. inr (sym (nat_cmp_is k m Less gt))) r) (trichotomy m k);
 })
   where
     here : IsMemberAt parts nodes k p
@@ -111,11 +112,6 @@ push_each : (P : ℕ → Type 0) (xs : List ℕ) (x : ℕ) → Rattle.std.specs.
 push_each P [] x all p = (p, tt)
 push_each P (y ∷ ys) x all p = (all.0, push_each P ys x all.1 p)
 
-sorted_push : (xs : List ℕ) (x : ℕ) → IsStrictlySortedBy nat_cmp xs → ((y : ℕ) → Contains xs y → nat_cmp y x ≡ Less) → IsStrictlySortedBy nat_cmp (xs ++ x ∷ [])
-unfolding IsStrictlySortedBy
-sorted_push [] x h f = (tt, tt)
-sorted_push (y ∷ ys) x h f = (push_each (λ z. nat_cmp y z ≡ Less) ys x h.0 (f y (Rattle.staat_model.proofs.Members.here y ys)), sorted_push ys x h.1 (λ z z_in. f z (Rattle.staat_model.proofs.Members.there y z ys z_in)))
-
 -- what has P, of the numbers below k
 abbrev pub HasBelow : (P : ℕ → Type 0) → (k p : ℕ) → Type 0
 HasBelow P k p = (p < k) × P p
@@ -126,7 +122,7 @@ lists_begin P = record { ascending = tt; each = λ p (k, lt, e). absurd (omega (
 
 pub lists_more : (P : ℕ → Type 0) (k : ℕ) (s : List ℕ) → P k → Lists nat_cmp (HasBelow P k) s → Lists nat_cmp (HasBelow P (k + 1)) (s ++ k ∷ [])
 lists_more P k s has is = record {
-  ascending = sorted_push s k is.ascending (λ y c. let h = is.each y c in sym (nat_cmp_is y k Less h.0));
+  ascending = sorted_push_less s k is.ascending (λ y c. let h = is.each y c in sym (nat_cmp_is y k Less h.0));
   each = λ p h. ⊎_elim {C = HasBelow P (k + 1) p} (λ old. let b = is.each p old in (let less = b.0 in omega (arith, less), b.1))
       (λ new. (omega (arith, new), subst P new has)) (Contains-push_cases s k p h);
   all = λ p h. ⊎_elim {C = Contains (s ++ k ∷ []) p} (λ e. subst (Contains (s ++ k ∷ [])) (sym e) (Contains-push s k))
@@ -151,7 +147,7 @@ pub owned_yes : (owners : List (Option ℕ)) (from end k : ℕ) (d : Option ℕ)
 owned_yes owners from end k d lt (node, e, low, high) = record { node = node; owner = slice_get-get_or owners k d lt ∙ ap Some e; low = low; high = high }
 
 pub owned_no : (owners : List (Option ℕ)) (from end k : ℕ) (d : Option ℕ) → k < length owners → (IsOneWithin (get_or owners k d) from end → ⊥) → IsOwnedWithin owners from end k → ⊥
-owned_no owners from end k d lt not h = not (h.node, same_some (get_or owners k d) (Some h.node) (sym (slice_get-get_or owners k d lt) ∙ h.owner), h.low, h.high)
+owned_no owners from end k d lt not h = not (h.node, some_injective (get_or owners k d) (Some h.node) (sym (slice_get-get_or owners k d lt) ∙ h.owner), h.low, h.high)
 
 pub owned_below : (owners : List (Option ℕ)) (from end k : ℕ) → length owners ≤ k → (p : ℕ) → IsOwnedWithin owners from end p → p < k
 owned_below owners from end k le p h = let lt = place_within owners p (Some h.node) h.owner in omega (arith, lt, le)

@@ -1,5 +1,5 @@
 -- What valid certificates show.
-use Rattle.std.proofs.Common.{◌≡◌, ◌≢◌, ◌⊎◌, ◌↔◌, ℕ, zero, suc, ◌+◌, ◌-◌, ◌<◌, ◌≤◌, List, [], ◌∷◌, ◌++◌, length, map, take, inl, inr, ⊎_elim, refl, sym, ap, subst, ◌∙◌, arith, All, Contains}
+use Rattle.std.proofs.Common.{◌≡◌, ◌≢◌, ◌⊎◌, ◌↔◌, ℕ, zero, suc, ◌+◌, ◌-◌, ◌<◌, ◌≤◌, List, [], ◌∷◌, ◌++◌, length, take, inl, inr, ⊎_elim, refl, sym, ap, subst, ◌∙◌, arith, All, Contains}
 use Rattle.std.specs.Prelude.{Some, slice_get}
 use Rattle.std.specs.FinSet as set
 use Rattle.std.specs.List.Sorted.{IsStrictlySortedBy}
@@ -8,20 +8,20 @@ use Rattle.std.proofs.lemmas.Bool.{cases_eq}
 use Rattle.std.proofs.lemmas.List.FromFn.{length-range_with_len}
 use Rattle.std.proofs.lemmas.List.Elements.{All-append, All-cons, All-contains, All-head, All-nil, All-tail, All-weaker}
 use Rattle.staat_vec.specs.declared.vector.V3.{V3}
-use Rattle.staat_vec.proofs.Unique.{Contains-cases, Contains-front, Contains-later, Contains-nothing}
+use Rattle.staat_vec.proofs.Unique.{Contains-cases, Contains-front, Contains-later, Contains-nothing, from_place}
 use Rattle.staat_model.specs.declared.assembly.Part.{Part}
 use Rattle.staat_model.specs.declared.set.PartSet.{PartSet}
 use Rattle.staat_model.specs.Assemblies.{IsPart}
 use Rattle.staat_model.specs.Plans.{IsGood, IsStuck, Plan, leaf, parts_of, split}
 use Rattle.staat_model.specs.Removal.{IsFree}
 use Rattle.staat_model.specs.Sets.{AreApart, Has, IsSubset, below, single}
-use Rattle.staat_model.proofs.Places.{place_within, same_some, some_at, Contains-from_place}
+use Rattle.staat_model.proofs.Places.{place_within, some_at}
 use Rattle.staat_model.proofs.RestrictLemmas.{restrict_lemma}
 use Rattle.staat_model.proofs.SetBits.{has-below}
 use Rattle.staat_model.proofs.SetMembers.{has-empty, has-single, has-union}
 use Rattle.staat_model.proofs.SetWords.{same_members}
 use Rattle.staat_holds.specs.declared.hold.Hold.{Hold}
-use Rattle.staat_holds.specs.Chains.{AllKeep, IsJoinedLast, IsOfOne, joined_name, names_after, names_before, own_names}
+use Rattle.staat_holds.specs.Chains.{AllKeep, IsJoinedLast, IsOfOne, names_before, own_names}
 use Rattle.staat_holds.proofs.ChainLaw.{last_stuck}
 use Rattle.staat_holds.proofs.NodeNames.{has_named, parts_named}
 use Rattle.staat_short.specs.declared.short.ShortNode.{ShortNode}
@@ -33,16 +33,11 @@ use Rattle.staat_confirm.specs.Owners.{AreFitNodes}
 use Rattle.staat_confirm.specs.Splits.{KeepsHolds}
 use Rattle.staat_confirm.specs.ShortVerdicts.{HasNoPlan, IsGoodDownTo, IsPlanByNodes, IsRefusalByNodes, IsStuckGroup, KeepNodeRules}
 use Rattle.staat_confirm.proofs.Standing.{group_first, member_among, member_within, moved_stands, rest_stands, stands_within, whole_stands}
+use Rattle.staat_vec.proofs.Naturals.{lt_or_le}
+use Rattle.staat_holds.proofs.ChainSteps.{names_after_length}
+use Rattle.staat_vec.proofs.Options.{some_injective}
 
 -- ---- as many names as parts
-
-mapped : {X Y : Type 0} (f : X → Y) (xs : List X) → length (map f xs) ≡ length xs
-mapped f [] = refl
-mapped f (x ∷ xs) = ap suc (mapped f xs)
-
-as_many : (names : List ℕ) (holds : List Hold) → length (names_after names holds) ≡ length names
-as_many names [] = refl
-as_many names (hold ∷ holds) = as_many (map (joined_name hold.nodes) names) holds ∙ mapped (joined_name hold.nodes) names
 
 -- ---- the set that holds join
 
@@ -71,7 +66,7 @@ joined_set parts holds some = go (some_at holds (length holds - 1) (omega (arith
         from : (p : ℕ) → IsJoinedLast parts holds p → IsOfOne (names_before parts holds (length holds - 1)) hold.nodes p
         from p j =
             let e : j.k ≡ length holds - 1 = let l = j.last in omega (arith, l) in
-            let same : j.hold ≡ hold = same_some j.hold hold (sym (subst (λ m. slice_get holds m ≡ Some j.hold) e j.at) ∙ at) in
+            let same : j.hold ≡ hold = some_injective j.hold hold (sym (subst (λ m. slice_get holds m ≡ Some j.hold) e j.at) ∙ at) in
             subst (λ (h : Hold). IsOfOne (names_before parts holds (length holds - 1)) h.nodes p) same (subst (λ m. IsOfOne (names_before parts holds m) j.hold.nodes p) e j.joined)
 
 pub stuck_group : (parts : List Part) (holds : List Hold) → All IsPart parts → AreHoldsInOrder holds → AllKeep parts holds → (w : PartSet) × IsStuckGroup parts w holds
@@ -93,14 +88,14 @@ module _ (parts : List Part) (nodes : List ShortNode) (each : All IsPart parts) 
   alone q p = (from, λ e. (0, record { node = Leaf q; at = refl; member = e }))
     where
       from : IsMemberWithin parts (part_alone q) p → p ≡ q
-      from (zero, h) = subst (λ x. Rattle.staat_confirm.specs.Members.IsMemberOf parts x p) (same_some h.node (Leaf q) (sym h.at)) h.member
+      from (zero, h) = subst (λ x. Rattle.staat_confirm.specs.Members.IsMemberOf parts x p) (some_injective h.node (Leaf q) (sym h.at)) h.member
       from (suc k, h) = let wrong = h.at in cc
 
   in_group : (holds : List Hold) (p : ℕ) → IsMemberWithin parts (grouped holds) p ↔ IsJoinedLast parts holds p
   in_group holds p = (from, λ j. (0, record { node = Group holds; at = refl; member = j }))
     where
       from : IsMemberWithin parts (grouped holds) p → IsJoinedLast parts holds p
-      from (zero, h) = subst (λ x. Rattle.staat_confirm.specs.Members.IsMemberOf parts x p) (same_some h.node (Group holds) (sym h.at)) h.member
+      from (zero, h) = subst (λ x. Rattle.staat_confirm.specs.Members.IsMemberOf parts x p) (some_injective h.node (Group holds) (sym h.at)) h.member
       from (suc k, h) = let wrong = h.at in cc
 
   both_apart : (d : V3) (m r : GroupedPlan) (k : ℕ) → StandsAt nodes k (taken_apart d m r) → TakesApart m → TakesApart r → TakesApart (taken_apart d m r)
@@ -131,15 +126,12 @@ module _ (parts : List Part) (nodes : List ShortNode) (each : All IsPart parts) 
       side p h = let (j, low, high, is) = member_among parts nodes k (taken_apart d m r) p at h in ⊎_elim {C = Has first.w p ⊎ Has second.w p}
           (λ lt. inl ((first.members p).1 (member_within parts nodes (k + 1) m j p moved (above j low is) lt is)))
           (λ ge. inr ((second.members p).1 (member_within parts nodes (k + 1 + length (short_nodes_of m)) r j p rest ge (let e = all in omega (arith, high, e)) is)))
-          (split_at j (k + 1 + length (short_nodes_of m)))
+          (lt_or_le j (k + 1 + length (short_nodes_of m)))
         where
-          split_at : (a b : ℕ) → (a < b) ⊎ (b ≤ a)
-          split_at a b = grind arith
-
           -- a split has no members
           above : (j : ℕ) → k ≤ j → IsMemberAt parts nodes j p → k + 1 ≤ j
           above j low is = ⊎_elim {C = k + 1 ≤ j}
-              (λ e. absurd (subst (λ x. Rattle.staat_confirm.specs.Members.IsMemberOf parts x p) (same_some is.node (Split d) (sym is.at ∙ subst (λ i. slice_get nodes i ≡ Some (Split d)) (sym e) (Rattle.staat_confirm.proofs.Standing.split_first nodes k d m r at))) is.member))
+              (λ e. absurd (subst (λ x. Rattle.staat_confirm.specs.Members.IsMemberOf parts x p) (some_injective is.node (Split d) (sym is.at ∙ subst (λ i. slice_get nodes i ≡ Some (Split d)) (sym e) (Rattle.staat_confirm.proofs.Standing.split_first nodes k d m r at))) is.member))
               (λ ne. omega (arith, low, ne)) (cases_eq j k)
 
       apart : AreApart first.w second.w
@@ -163,7 +155,7 @@ module _ (parts : List Part) (nodes : List ShortNode) (each : All IsPart parts) 
   }
   takes_apart (grouped holds) k at =
       let here = group_first nodes k holds at in
-      let listed = Contains-from_place nodes k (Group holds) here in
+      let listed = from_place nodes k (Group holds) here in
       let order : AreHoldsInOrder holds = All-contains IsShortNodeInOrder nodes (Group holds) fit.order listed in
       let keeps : AllKeep parts holds = All-contains (KeepsHolds parts) nodes (Group holds) keep.holds listed in
       let (w, stuck) = stuck_group parts holds each order keeps in record {
@@ -256,5 +248,5 @@ stuck_shown parts holds each order keep =
     part : (p : ℕ) → IsJoinedLast parts holds p → p < length parts
     part p j =
         let named = place_within (names_before parts holds j.k) p j.joined.name j.joined.named in
-        let long = as_many (own_names (length parts)) (take j.k holds) ∙ length-range_with_len 0 (length parts) in
+        let long = names_after_length (own_names (length parts)) (take j.k holds) ∙ length-range_with_len 0 (length parts) in
         omega (arith, named, long)

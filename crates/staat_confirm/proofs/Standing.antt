@@ -5,14 +5,16 @@ use Rattle.std.proofs.lemmas.Bool.{cases_eq}
 use Rattle.std.proofs.lemmas.Option.{get_or_from_slice_get, slice_get-get_or}
 use Rattle.staat_vec.specs.declared.vector.V3.{V3}
 use Rattle.staat_model.specs.declared.assembly.Part.{Part}
-use Rattle.staat_model.proofs.Places.{place_within, same_some}
+use Rattle.staat_model.proofs.Places.{place_within}
 use Rattle.staat_holds.specs.declared.hold.Hold.{Hold}
 use Rattle.staat_short.specs.declared.short.ShortNode.{ShortNode}
 use Rattle.staat_short.specs.declared.short.ShortNode.TheVariants.{Leaf, Split, Group}
 use Rattle.staat_short.specs.ShortTexts.{GroupedPlan, part_alone, grouped, taken_apart, short_nodes_of}
 use Rattle.staat_confirm.specs.Members.{IsMemberAt, IsMemberWithin, StandsAt}
 use Rattle.staat_confirm.specs.Owners.{AreEndsFrom, AreOnePlan}
-use Rattle.staat_confirm.proofs.Lists.{drop_head, drop_none, drop_past, drop_tail, get_drop, get_front, get_within, set_here, set_there}
+use Rattle.staat_confirm.proofs.Lists.{drop_head, drop_none, drop_past, drop_tail, get_within, set_there}
+use Rattle.staat_vec.proofs.Options.{some_injective}
+use Rattle.staat_vec.proofs.ListLaws.{get_drop, get_front, set_here}
 
 -- ---- the plan that stands at a place is one alone
 
@@ -132,7 +134,7 @@ split_length nodes ends k d s t at =
 pub node_length : (nodes : List ShortNode) (k : ℕ) (node : ShortNode) → slice_get nodes k ≡ Some node → ((d : V3) → node ≡ Split d → ⊥) → (t : GroupedPlan) → StandsAt nodes k t → length (short_nodes_of t) ≡ 1
 node_length nodes k node at not (part_alone p) stands = refl
 node_length nodes k node at not (grouped holds) stands = refl
-node_length nodes k node at not (taken_apart d m r) stands = absurd (not d (same_some node (Split d) (sym at ∙ split_first nodes k d m r stands)))
+node_length nodes k node at not (taken_apart d m r) stands = absurd (not d (some_injective node (Split d) (sym at ∙ split_first nodes k d m r stands)))
 
 pub no_ends : (nodes : List ShortNode) (n : ℕ) (ends : List ℕ) → length nodes ≤ n → AreEndsFrom nodes n ends
 no_ends nodes n ends le k t high at = let lt = stands_within nodes k t at in absurd (omega (arith, lt, le, high))

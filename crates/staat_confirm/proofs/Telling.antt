@@ -1,5 +1,5 @@
 -- What is told of a certificate that states the right number of parts.
-use Rattle.std.proofs.Common.{◌≡◌, ◌≢◌, ℕ, zero, suc, ◌≤◌, List, [], ◌∷◌, ◌++◌, length, refl, subst, arith, All, Ok, Err}
+use Rattle.std.proofs.Common.{◌≡◌, ℕ, zero, suc, ◌≤◌, List, [], ◌∷◌, ◌++◌, subst, arith, All, Ok, Err}
 use Rattle.std.specs.Prelude.{IfOk, Result, Some, flat_map, slice_get}
 use Rattle.std.proofs.lemmas.List.Concat.{flat_map-cons}
 use Rattle.std.proofs.lemmas.List.Elements.{All-head, All-tail}
@@ -16,11 +16,10 @@ use Rattle.staat_short.specs.declared.short.ShortAnswer.TheVariants as answer
 use Rattle.staat_short.specs.declared.short.ShortCertificate.{ShortCertificate}
 use Rattle.staat_short.specs.ShortLines.{IsShortLine}
 use Rattle.staat_short.specs.ShortTexts.{IsAnswerInOrder, IsRestInOrder, IsShortInOrder, lines_of_answer, lines_of_short_node}
-use Rattle.staat_confirm.specs.declared.verdict.ShortReason.TheVariants.{WrongParts}
 use Rattle.staat_confirm.specs.declared.verdict.ShortVerdict.{ShortVerdict}
-use Rattle.staat_confirm.specs.declared.verdict.ShortVerdict.TheVariants.{ValidPlan, ValidRefusal, Not}
+use Rattle.staat_confirm.specs.declared.verdict.ShortVerdict.TheVariants.{ValidPlan, ValidRefusal}
 use Rattle.staat_confirm.specs.Owners.{AreFitNodes}
-use Rattle.staat_confirm.specs.ShortVerdicts.{IsAnswerVerdict, IsFitAnswer, IsShortVerdict, ShowsPlan, ShowsRefusal, right_count, wrong_count}
+use Rattle.staat_confirm.specs.ShortVerdicts.{IsAnswerVerdict, IsFitAnswer, IsShortVerdict, ShowsPlan, ShowsRefusal}
 use Rattle.staat_confirm.proofs.Shown.{plan_shown, refusal_shown, stuck_shown}
 use Rattle.staat_confirm.proofs.Unique.{verdict_one}
 
@@ -52,13 +51,6 @@ fit_answer c order =
     fit_of c.parts c.answer count.1 (all_front IsShortLine (lines_of_answer c.answer) (line.End ∷ []) (All-tail IsShortLine (line.Parts c.parts) body tail)) order.answer
 
 -- ---- verdicts
-
-pub wrong_told : (parts : List Part) (c : ShortCertificate) → c.parts ≢ length parts → IsShortVerdict parts c (Not (WrongParts c.parts))
-wrong_told parts c ne = wrong_count ne refl
-
-pub right_told : (parts : List Part) (c : ShortCertificate) (r : Result ShortVerdict OutOfMemory) → c.parts ≡ length parts → IfOk r (IsAnswerVerdict parts c.answer) → IfOk r (IsShortVerdict parts c)
-right_told parts c (Ok v) e h = right_count e h
-right_told parts c (Err x) e h = tt
 
 pub only_told : (parts : List Part) (c : ShortCertificate) (r : Result ShortVerdict OutOfMemory) → IfOk r (IsShortVerdict parts c) → IfOk r (λ v. (u : ShortVerdict) → IsShortVerdict parts c u → v ≡ u)
 only_told parts c (Ok v) h = λ u k. verdict_one parts c v u h k

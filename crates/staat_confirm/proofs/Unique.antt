@@ -8,7 +8,7 @@ use Rattle.std.proofs.lemmas.List.Elements.{All-contains}
 use Rattle.staat_vec.specs.declared.vector.V3.{V3}
 use Rattle.staat_vec.specs.Lists.{IsFirst, IsLeast}
 use Rattle.staat_vec.specs.Vectors.{origin, vector_cmp}
-use Rattle.staat_vec.proofs.Unique.{IsFirst-unique, IsLeast-unique, Lists-unique}
+use Rattle.staat_vec.proofs.Unique.{IsFirst-unique, IsLeast-unique, Lists-unique, from_place}
 use Rattle.staat_vec.proofs.VectorOrder.{vector_exact, vector_total}
 use Rattle.staat_model.specs.declared.assembly.Part.{Part}
 use Rattle.staat_model.specs.declared.certificate.Arc.{Arc}
@@ -16,17 +16,15 @@ use Rattle.staat_model.specs.Certificates.{arc_cmp}
 use Rattle.staat_model.specs.Cores.{IsCorePlane}
 use Rattle.staat_model.specs.Planes.{axes, vertices}
 use Rattle.staat_model.proofs.Orders.{arc_exact, arc_total}
-use Rattle.staat_model.proofs.Places.{Contains-from_place, same_some}
 use Rattle.staat_holds.specs.declared.hold.BrokenHold.{BrokenHold}
 use Rattle.staat_holds.specs.declared.hold.Hold.{Hold}
 use Rattle.staat_holds.specs.declared.hold.HoldRule.{HoldRule}
 use Rattle.staat_holds.specs.declared.hold.HoldRule.TheVariants.{BadPair, FewNodes, Gap, NoNode}
-use Rattle.staat_holds.specs.Chains.{IsFirstBroken, IsFirstRule, IsHoldPair, IsName, KeepsHoldRules, names_before, places_of}
+use Rattle.staat_holds.specs.Chains.{IsFirstBroken, IsFirstRule, IsHoldPair, IsName, names_before, places_of}
 use Rattle.staat_holds.specs.Holds.{AreHoldPlanes, IsFirstGap, LeadsBetween}
 use Rattle.staat_holds.specs.Reaching.{AllReach}
-use Rattle.staat_holds.proofs.Breaking.{broken_breaks}
-use Rattle.staat_holds.proofs.HoldVertices.{gap_not_joined}
-use Rattle.staat_model.proofs.OneReason.{FailsFirst-some, FailsFirst-unique}
+use Rattle.staat_holds.proofs.Breaking.{broken_breaks, rule_breaks}
+use Rattle.staat_model.proofs.OneReason.{FailsFirst-unique}
 use Rattle.staat_short.specs.declared.short.ShortNode.{ShortNode}
 use Rattle.staat_short.specs.declared.short.ShortNode.TheVariants.{Leaf, Split, Group}
 use Rattle.staat_short.specs.declared.short.ShortAnswer.{ShortAnswer}
@@ -40,12 +38,10 @@ use Rattle.staat_confirm.specs.declared.verdict.ShortVerdict.TheVariants.{ValidP
 use Rattle.staat_confirm.specs.Members.{AreMembersOnce, IsBadMember, IsMemberFault, bad_member, missing_member}
 use Rattle.staat_confirm.specs.Splits.{AreClearSplits, BreaksHolds, IsBrokenGroup, IsClearAt, IsUnclearAt, IsUnclearSplit, KeepsHolds, MeetsAcross, zero_way, pieces_meet}
 use Rattle.staat_confirm.specs.ShortVerdicts.{IsAnswerVerdict, IsHoldsVerdict, IsNodesReason, IsNodesVerdict, IsShortVerdict, KeepNodeRules, group_breaks, bad_members, unclear_split, wrong_count, right_count}
-use Rattle.staat_confirm.proofs.Lists.{order}
 use Rattle.staat_confirm.proofs.Standing.{one_stands, stands_within}
-
--- two places are one where neither is before the other
-same_place : (j k : ℕ) → (j < k → ⊥) → (k < j → ⊥) → j ≡ k
-same_place j k f g = ⊎_elim {C = j ≡ k} (λ lt. absurd (f lt)) (λ r. ⊎_elim {C = j ≡ k} (λ e. e) (λ gt. absurd (g gt)) r) (order j k)
+use Rattle.staat_vec.proofs.Naturals.{same_from_neither}
+use Rattle.staat_vec.proofs.Options.{some_injective}
+use Rattle.staat_vec.proofs.ListLaws.{FailsFirst-some}
 
 -- ---- holds
 
@@ -58,12 +54,6 @@ gap_one parts nodes count core v w a b =
     let same = planes_one parts core a.planes b.planes a.planes_are b.planes_are in
     let P : V3 → Type 0 = λ d. AllReach count (LeadsBetween parts nodes core d) → ⊥ in
     IsFirst-unique P (vertices b.planes) v w (subst (λ ps. IsFirst P (vertices ps) v) same a.first) b.first
-
-rule_breaks : (parts : List Part) (names : List ℕ) (hold : Hold) (rule : HoldRule) → IsFirstRule parts names hold rule → KeepsHoldRules parts names hold → ⊥
-rule_breaks parts names hold (NoNode k) f keeps = FailsFirst-some (IsName names) hold.nodes k f keeps.nodes
-rule_breaks parts names hold FewNodes f keeps = let few = f.1 in let two = keeps.two in absurd (omega (arith, few, two))
-rule_breaks parts names hold (BadPair k) f keeps = FailsFirst-some (IsHoldPair parts names hold.nodes) hold.pairs k f.2 keeps.pairs
-rule_breaks parts names hold (Gap v) f keeps = gap_not_joined parts (places_of hold.nodes names) (length hold.nodes) hold.pairs v f.3 keeps.joins
 
 rule_one : (parts : List Part) (names : List ℕ) (hold : Hold) (r s : HoldRule) → IsFirstRule parts names hold r → IsFirstRule parts names hold s → r ≡ s
 rule_one parts names hold (NoNode k) (NoNode m) a b = ap NoNode (FailsFirst-unique (IsName names) hold.nodes k m a b)
@@ -87,12 +77,12 @@ broken_one : (parts : List Part) (holds : List Hold) (x y : BrokenHold) → IsFi
 broken_one parts holds x y a b = λ i. record { hold = place i; rule = rule i }
   where
     place : x.hold ≡ y.hold
-    place = same_place x.hold y.hold
+    place = same_from_neither x.hold y.hold
         (λ lt. rule_breaks parts (names_before parts holds x.hold) a.hold x.rule a.rule (b.before x.hold a.hold lt a.at))
         (λ lt. rule_breaks parts (names_before parts holds y.hold) b.hold y.rule b.rule (a.before y.hold b.hold lt b.at))
 
     hold : a.hold ≡ b.hold
-    hold = same_some a.hold b.hold (sym (subst (λ k. slice_get holds k ≡ Some a.hold) place a.at) ∙ b.at)
+    hold = some_injective a.hold b.hold (sym (subst (λ k. slice_get holds k ≡ Some a.hold) place a.at) ∙ b.at)
 
     rule : x.rule ≡ y.rule
     rule = rule_one parts (names_before parts holds y.hold) b.hold x.rule y.rule
@@ -111,16 +101,16 @@ breaks_one parts (Split d) x y a b = absurd a
 breaks_one parts (Group holds) x y a b = broken_one parts holds x y a b
 
 group_not : (parts : List Part) (nodes : List ShortNode) (k : ℕ) (x : BrokenHold) → IsBrokenGroup parts nodes k x → All (KeepsHolds parts) nodes → ⊥
-group_not parts nodes k x g all = breaks_not parts g.node x g.breaks (All-contains (KeepsHolds parts) nodes g.node all (Contains-from_place nodes k g.node g.at))
+group_not parts nodes k x g all = breaks_not parts g.node x g.breaks (All-contains (KeepsHolds parts) nodes g.node all (from_place nodes k g.node g.at))
 
 group_one : (parts : List Part) (nodes : List ShortNode) (k m : ℕ) (x y : BrokenHold) → IsBrokenGroup parts nodes k x → IsBrokenGroup parts nodes m y → GroupBreaks k x ≡ GroupBreaks m y
 group_one parts nodes k m x y a b = λ i. GroupBreaks (place i) (broken i)
   where
     place : k ≡ m
-    place = same_place k m (λ lt. breaks_not parts a.node x a.breaks (b.before k a.node lt a.at)) (λ lt. breaks_not parts b.node y b.breaks (a.before m b.node lt b.at))
+    place = same_from_neither k m (λ lt. breaks_not parts a.node x a.breaks (b.before k a.node lt a.at)) (λ lt. breaks_not parts b.node y b.breaks (a.before m b.node lt b.at))
 
     broken : x ≡ y
-    broken = breaks_one parts b.node x y (subst (λ n. BreaksHolds parts n x) (same_some a.node b.node (sym (subst (λ j. slice_get nodes j ≡ Some a.node) place a.at) ∙ b.at)) a.breaks) b.breaks
+    broken = breaks_one parts b.node x y (subst (λ n. BreaksHolds parts n x) (some_injective a.node b.node (sym (subst (λ j. slice_get nodes j ≡ Some a.node) place a.at) ∙ b.at)) a.breaks) b.breaks
 
 -- ---- members
 
@@ -169,7 +159,7 @@ split_not parts nodes r u clear = unclear_not parts nodes u.node r u.unclear (cl
 
 split_one : (parts : List Part) (nodes : List ShortNode) (r s : ShortReason) → IsUnclearSplit parts nodes r → IsUnclearSplit parts nodes s → r ≡ s
 split_one parts nodes r s a b =
-    let place = same_place a.node b.node (λ lt. unclear_not parts nodes a.node r a.unclear (b.before a.node lt)) (λ lt. unclear_not parts nodes b.node s b.unclear (a.before b.node lt)) in
+    let place = same_from_neither a.node b.node (λ lt. unclear_not parts nodes a.node r a.unclear (b.before a.node lt)) (λ lt. unclear_not parts nodes b.node s b.unclear (a.before b.node lt)) in
     unclear_one parts nodes b.node r s (subst (λ k. IsUnclearAt parts nodes k r) place a.unclear) b.unclear
 
 -- ---- nodes

@@ -7,7 +7,6 @@ use Rattle.staat_model.specs.Plans.{IsGood, Plan, leaf, parts_of, split}
 use Rattle.staat_model.specs.SetLists.{set_of}
 use Rattle.staat_model.specs.Sets.{below}
 use Rattle.staat_model.proofs.Members.{all_back, all_front}
-use Rattle.staat_model.proofs.Places.{same_some}
 use Rattle.staat_model.proofs.SetListings.{has-set_of}
 use Rattle.staat_holds.specs.declared.grouped.Group.{Group as GroupValue}
 use Rattle.staat_holds.specs.declared.grouped.GroupedTree.{GroupedTree}
@@ -24,6 +23,7 @@ use Rattle.staat_confirm.specs.declared.verdict.ShortVerdict.TheVariants.{ValidP
 use Rattle.staat_confirm.specs.Splits.{KeepsHolds}
 use Rattle.staat_confirm.specs.ShortVerdicts.{IsGoodDownTo, IsShortVerdict, IsStuckGroup, KeepNodeRules, right_count}
 use Rattle.staat_confirm.proofs.Apart.{clear_splits, members_once}
+use Rattle.staat_vec.proofs.Options.{some_injective}
 
 -- ---- plans
 
@@ -84,7 +84,7 @@ shown_rest parts t shown has =
 -- ---- one hold
 
 one_keeps : (parts : List Part) (hold : Hold) → KeepsHoldRules parts (own_names (length parts)) hold → AllKeep parts (hold ∷ [])
-one_keeps parts hold keep zero other lt at = subst (KeepsHoldRules parts (own_names (length parts))) (same_some hold other at) keep
+one_keeps parts hold keep zero other lt at = subst (KeepsHoldRules parts (own_names (length parts))) (some_injective hold other at) keep
 one_keeps parts hold keep (suc m) other lt at = absurd (omega (arith, lt))
 
 pub kept_hold : (parts : List Part) (hold : Hold) → KeepsHoldRules parts (own_names (length parts)) hold → IsShortVerdict parts (record { parts = length parts; answer = answer.Stuck (hold ∷ []) }) ValidRefusal

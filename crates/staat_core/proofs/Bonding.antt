@@ -20,9 +20,7 @@ use Rattle.staat_core.specs.Cores.{IsCore, core_pairs}
 use Rattle.staat_core.specs.Moves.{HoldsMoves, IsMove}
 use Rattle.staat_core.specs.Sources.{both_ways}
 use Rattle.staat_core.proofs.TableHolding.{all_hold}
-
-same_or : (p q : ℕ) → (p ≡ q) ⊎ (p ≢ q)
-same_or p q = grind arith
+use Rattle.staat_vec.proofs.Naturals.{same_or}
 
 -- two parts that hold each other do not come apart
 module _ (parts : List Part) (arcs : List Arc) (d : V3) (p q : ℕ) (both : PartSet) (is : both ≡ set.union (single p) (single q)) (held : HoldsMoves parts arcs AnySide both d) where

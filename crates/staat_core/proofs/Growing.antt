@@ -10,10 +10,10 @@ use Rattle.staat_vec.specs.Vectors.{IsWithin, vector}
 use Rattle.staat_model.specs.declared.assembly.Part.{Part}
 use Rattle.staat_model.specs.declared.certificate.Arc.{Arc}
 use Rattle.staat_model.specs.Planes.{axes}
-use Rattle.staat_model.proofs.Members.{here}
 use Rattle.staat_core.specs.Sources.{AreFacetsOf}
 use Rattle.staat_core.specs.declared.cores.Core.{Core}
 use Rattle.staat_core.specs.Cores.{StandIn, GoesOn, HasGrown, HasCanons, HasPlanesOf, HasRoom, IsCore, IsEmptyCore, core_pairs, core_planes}
+use Rattle.staat_vec.proofs.Unique.{Contains-front}
 
 pub goes_same : {X : Type 0} (xs ys : List X) → ys ≡ xs → GoesOn xs ys
 goes_same xs ys e = record { more = []; is = e ∙ sym (append-nil xs) }
@@ -28,7 +28,7 @@ pub stays_in : {X : Type 0} (xs ys : List X) (x : X) → GoesOn xs ys → Contai
 stays_in xs ys x g c = subst (λ l. Contains l x) (sym g.is) (Contains-append_left xs g.more x c)
 
 pub last_in : {X : Type 0} (xs : List X) (x : X) → Contains (xs ++ x ∷ []) x
-last_in xs x = Contains-append_right xs (x ∷ []) x (here x [])
+last_in xs x = Contains-append_right xs (x ∷ []) x (Contains-front x [])
 
 pub longer : {X : Type 0} (xs ys : List X) → GoesOn xs ys → length xs ≤ length ys
 longer xs ys g = let e = ap length g.is in omega (arith, e, length-append xs g.more)

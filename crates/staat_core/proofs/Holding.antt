@@ -18,7 +18,7 @@ use Rattle.staat_model.specs.Assemblies.{HoldsAt, IsPart}
 use Rattle.staat_model.specs.Cores.{HasCorePlanes, IsFreeInCore}
 use Rattle.staat_model.specs.Facets.{IsFacet}
 use Rattle.staat_model.specs.Planes.{axes}
-use Rattle.staat_model.specs.Sets.{Has, IsNonempty, IsSide, IsSubset, single}
+use Rattle.staat_model.specs.Sets.{Has, IsSubset, single}
 use Rattle.staat_model.proofs.CoreLemmas.{free_at_crossing_lemma, meets_towards}
 use Rattle.staat_model.proofs.CornerLemmas.{dot_multiple}
 use Rattle.staat_model.proofs.Corners.{HoldsAxes, IsCornerTowards, IsSame, corner_towards}
@@ -26,8 +26,6 @@ use Rattle.staat_model.proofs.Differences.{from_map}
 use Rattle.staat_model.proofs.FreeSides.{member_or}
 use Rattle.staat_model.proofs.GraphLemmas.{piece_in}
 use Rattle.staat_model.proofs.PieceFacets.{meets_by_facets_lemma}
-use Rattle.staat_model.proofs.Places.{same_some}
-use Rattle.staat_model.proofs.RestrictLemmas.{nonempty_or, rest_within}
 use Rattle.staat_model.proofs.Reversed.{meets_opposite_lemma, opposite_facets_lemma}
 use Rattle.staat_model.proofs.SetMembers.{has-difference, has-single}
 use Rattle.staat_model.proofs.SetWords.{same_members}
@@ -41,29 +39,11 @@ use Rattle.staat_core.specs.Moves.{HoldsMoves, IsHeldIn, IsMove}
 use Rattle.staat_core.specs.Sources.{both_ways}
 use Rattle.staat_core.proofs.Growing.{same_place}
 use Rattle.staat_core.proofs.Leading.{first_way, second_way, ways_kept}
+use Rattle.staat_model.proofs.OtherSides.{other_side, back_in}
+use Rattle.staat_vec.proofs.Naturals.{lt_one_more_cases}
+use Rattle.staat_vec.proofs.Options.{some_injective}
 
 -- ---- the rest moves where the set does
-
-rest_some : (w s : PartSet) → IsSide w s → IsNonempty (set.difference w s)
-rest_some w s side = ⊎_elim (λ some. some)
-    (λ none. absurd (side.proper (same_members s w side.within (λ q h. ⊎_elim (λ m. m) (λ out. absurd (none q ((has-difference w s q).1 (h, out)))) (member_or s q)))))
-    (nonempty_or (set.difference w s))
-
-rest_side : (w s : PartSet) → IsSide w s → IsSide w (set.difference w s)
-rest_side w s side = record {
-  nonempty = rest_some w s side;
-  within = rest_within w s;
-  proper = λ e.
-      let p = side.nonempty in
-      let h : Has (set.difference w s) p.0 = subst (λ (t : PartSet). Has t p.0) (sym e) (side.within p.0 p.1) in
-      ((has-difference w s p.0).0 h).1 p.1;
-}
-
--- a member of w that is not in the rest without s is in s
-back_in : (w s : PartSet) (q : ℕ) → Has (set.difference w (set.difference w s)) q → Has s q
-back_in w s q h =
-    let t = (has-difference w (set.difference w s) q).0 h in
-    ⊎_elim (λ m. m) (λ out. absurd (t.1 ((has-difference w s q).1 (t.0, out)))) (member_or s q)
 
 rest_of_rest : (w s : PartSet) → IsSubset s w → set.difference w (set.difference w s) ≡ s
 rest_of_rest w s within = same_members (set.difference w (set.difference w s)) s (back_in w s) (λ q h. (has-difference w (set.difference w s) q).1 (within q h, λ out. ((has-difference w s q).0 out).1 h))
@@ -72,7 +52,7 @@ single_within : (w : PartSet) (p : ℕ) → Has w p → IsSubset (single p) w
 single_within w p has q h = subst (Has w) (sym ((has-single p q).0 h)) has
 
 rest_moves : (moving : Moving) (w s : PartSet) → IsMove moving w s → IsMove moving w (set.difference w s)
-rest_moves AnySide w s side = rest_side w s side
+rest_moves AnySide w s side = other_side w s side
 rest_moves OnePart w s (p, has, inl e) = (p, has, inr (ap (set.difference w) e))
 rest_moves OnePart w s (p, has, inr e) = (p, has, inl (ap (set.difference w) e ∙ rest_of_rest w (single p) (single_within w p has)))
 
@@ -125,8 +105,8 @@ module _ (parts : List Part) (pairs : List Arc) (speaks : List Part → Type 0) 
   plane_of : (arc : Arc) (facet : V3) → Contains (core_pairs k) arc → HoldsAt parts arc (λ p q. IsFacet p q facet) → Contains (core_planes k) (canon facet)
   plane_of arc facet listed f =
       let h = (All-contains (HasPlanesOf parts (core_planes k)) (core_pairs k) arc (is.facets parts sp) listed).holds in
-      let first : f.p ≡ h.p = same_some f.p h.p (sym f.p_is ∙ h.p_is) in
-      let second : f.q ≡ h.q = same_some f.q h.q (sym f.q_is ∙ h.q_is) in
+      let first : f.p ≡ h.p = some_injective f.p h.p (sym f.p_is ∙ h.p_is) in
+      let second : f.q ≡ h.q = some_injective f.q h.q (sym f.q_is ∙ h.q_is) in
       h.holds facet (subst (λ x. IsFacet x h.q facet) first (subst (λ y. IsFacet f.p y facet) second f.holds))
 
   plane_back : (arc x : Arc) (facet : V3) → Contains (core_pairs k) x → arc ≡ back x → HoldsAt parts arc (λ p q. IsFacet p q facet) → Contains (core_planes k) (canon facet)
@@ -216,9 +196,6 @@ module _ (parts : List Part) (pairs : List Arc) (speaks : List Part → Type 0) 
 pub where_kept : (parts : List Part) (xs ys : List Arc) (moving : Moving) (w : PartSet) (g h : V3) → GoesOn xs ys → HoldsWhere parts xs moving w g h → HoldsWhere parts ys moving w g h
 where_kept parts xs ys moving w g h more held apart s moves free = held apart s moves (λ arc listed a_in b_in m. free arc (ways_kept xs ys arc more listed) a_in b_in m)
 
-last_or : (p n : ℕ) → p < n + 1 → (p < n) ⊎ (p ≡ n)
-last_or p n lt = grind arith
-
 module _ (parts : List Part) (k m : Core) (moving : Moving) (w : PartSet) (grows : HasGrown k m) where
   place_same : (i : ℕ) → i < length (core_planes k) → core_plane_at m i ≡ core_plane_at k i
   place_same i lt = same_place (core_planes k) (core_planes m) i origin grows.planes lt
@@ -227,7 +204,7 @@ module _ (parts : List Part) (k m : Core) (moving : Moving) (w : PartSet) (grows
   with_first_more g h n small e before last i lt = ⊎_elim {C = HoldsWhere parts (core_pairs m) moving w g (core_plane_at m i)}
       (λ less. subst (HoldsWhere parts (core_pairs m) moving w g) (sym (place_same i (omega (arith, less, small)))) (where_kept parts (core_pairs k) (core_pairs m) moving w g (core_plane_at k i) grows.pairs (before i less)))
       (λ same. subst (HoldsWhere parts (core_pairs m) moving w g) (e ∙ (sym (place_same n small) ∙ ap (core_plane_at m) (sym same))) last)
-      (last_or i n lt)
+      (lt_one_more_cases i n lt)
 
   -- the planes before a plane
   pub before_more : (h g : V3) (n : ℕ) → n < length (core_planes k) → g ≡ core_plane_at k n → ((i : ℕ) → i < n → HoldsWhere parts (core_pairs k) moving w (core_plane_at k i) h) → HoldsWhere parts (core_pairs m) moving w g h
@@ -235,14 +212,14 @@ module _ (parts : List Part) (k m : Core) (moving : Moving) (w : PartSet) (grows
   before_more h g n small e before last i lt = ⊎_elim {C = HoldsWhere parts (core_pairs m) moving w (core_plane_at m i) h}
       (λ less. subst (λ x. HoldsWhere parts (core_pairs m) moving w x h) (sym (place_same i (omega (arith, less, small)))) (where_kept parts (core_pairs k) (core_pairs m) moving w (core_plane_at k i) h grows.pairs (before i less)))
       (λ same. subst (λ x. HoldsWhere parts (core_pairs m) moving w x h) (e ∙ (sym (place_same n small) ∙ ap (core_plane_at m) (sym same))) last)
-      (last_or i n lt)
+      (lt_one_more_cases i n lt)
 
   pub among_more : (h : V3) (n : ℕ) → n < length (core_planes k) → h ≡ core_plane_at k n → HoldsAmongFirst parts k moving w n → ((i : ℕ) → i < n → HoldsWhere parts (core_pairs m) moving w (core_plane_at m i) h) → HoldsAmongFirst parts m moving w (n + 1)
   among_more h n small e before last i j lt in_j = ⊎_elim {C = HoldsWhere parts (core_pairs m) moving w (core_plane_at m i) (core_plane_at m j)}
       (λ less. subst (λ x. HoldsWhere parts (core_pairs m) moving w x (core_plane_at m j)) (sym (place_same i (omega (arith, lt, less, small))))
       (subst (HoldsWhere parts (core_pairs m) moving w (core_plane_at k i)) (sym (place_same j (omega (arith, less, small)))) (where_kept parts (core_pairs k) (core_pairs m) moving w (core_plane_at k i) (core_plane_at k j) grows.pairs (before i j lt less))))
       (λ same. subst (HoldsWhere parts (core_pairs m) moving w (core_plane_at m i)) (e ∙ (sym (place_same n small) ∙ ap (core_plane_at m) (sym same))) (last i (omega (arith, lt, same))))
-      (last_or j n in_j)
+      (lt_one_more_cases j n in_j)
 
 -- ---- where no arc is wanting
 

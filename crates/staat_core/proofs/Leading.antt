@@ -9,7 +9,7 @@ use Rattle.staat_model.specs.Facets.{IsFacet}
 use Rattle.staat_model.specs.Meeting.{Meets}
 use Rattle.staat_model.specs.Pieces.{IsPiece}
 use Rattle.staat_model.specs.Removal.{MeetsAlong}
-use Rattle.staat_model.proofs.Differences.{from_map, in_map}
+use Rattle.staat_model.proofs.Differences.{from_map}
 use Rattle.staat_model.proofs.GraphLemmas.{piece_in}
 use Rattle.staat_model.proofs.Members.{All-from_members}
 use Rattle.staat_model.proofs.Reversed.{meets_opposite_lemma}
@@ -18,6 +18,7 @@ use Rattle.staat_pairs.specs.Tables.{back}
 use Rattle.staat_core.specs.Cores.{AreLeading, GoesOn, LeadsAlong}
 use Rattle.staat_core.specs.Sources.{AreFacetsOf, both_ways}
 use Rattle.staat_core.proofs.Growing.{stays_in}
+use Rattle.staat_vec.proofs.ListLaws.{Contains-map}
 
 module _ (parts : List Part) (pair : Arc) (facets : List V3) where
   -- what blocks by the facets of the pair meets
@@ -42,7 +43,7 @@ pub first_way : (pairs : List Arc) (pair : Arc) → Contains pairs pair → Cont
 first_way pairs pair c = Contains-append_left pairs (map back pairs) pair c
 
 pub second_way : (pairs : List Arc) (pair : Arc) → Contains pairs pair → Contains (both_ways pairs) (back pair)
-second_way pairs pair c = Contains-append_right pairs (map back pairs) (back pair) (in_map back pairs pair c)
+second_way pairs pair c = Contains-append_right pairs (map back pairs) (back pair) (Contains-map back pairs pair c)
 
 -- more pairs, in both orders
 pub ways_among : (xs ys : List Arc) (arc : Arc) → All (Contains ys) xs → Contains (both_ways xs) arc → Contains (both_ways ys) arc

@@ -9,9 +9,8 @@ use Rattle.staat_model.specs.declared.assembly.Part.{Part}
 use Rattle.staat_model.specs.declared.certificate.Arc.{Arc}
 use Rattle.staat_model.specs.Facets.{IsFacet}
 use Rattle.staat_model.proofs.Members.{All-from_members}
-use Rattle.staat_pairs.specs.Tables.{AreTableFacets, IsTable, IsTableArc, IsTableFacet, Table, WasMadeFrom, facets_of}
-use Rattle.staat_core.specs.Listed.{IsTablePair}
-use Rattle.staat_core.specs.Sources.{AreFacetsOf, IsNormal, IsSmallPair}
+use Rattle.staat_pairs.specs.Tables.{AreTableFacets, IsTableArc, IsTableFacet, Table, WasMadeFrom, facets_of}
+use Rattle.staat_core.specs.Sources.{AreFacetsOf, IsNormal}
 
 -- a member of the list with one more is the last or one of the list
 pub member_or_last : (xs : List Arc) (a x : Arc) → Contains (xs ++ a ∷ []) x → Contains xs x ⊎ (x ≡ a)
@@ -24,15 +23,8 @@ member_or_last xs a x c = ⊎_elim (λ h. inl h) (λ h. inr (only h)) (Contains-
 pub all_put : (P : Arc → Type 0) (xs ys : List Arc) (pair : Arc) → All P xs → P pair → ((x : Arc) → Contains ys x → Contains xs x ⊎ (x ≡ pair)) → All P ys
 all_put P xs ys pair all has more = All-from_members P ys (λ x c. ⊎_elim {C = P x} (λ h. All-contains P xs x all h) (λ e. subst P (sym e) has) (more x c))
 
-pub table_pair : (t : Table) (a i b j : ℕ) (pair : Arc) → pair ≡ record { a = a; i = i; b = b; j = j } → IsTableArc t (record { a = a; i = i; b = b; j = j }) → a < b → IsTablePair t pair
-table_pair t a i b j pair e across order = subst (IsTablePair t) (sym e) (record { across = across; order = order })
-
 pub apart_of : (a b : ℕ) → a < b → a ≢ b
 apart_of a b lt e = omega (arith, lt, e)
-
--- the parts of the pairs are below the number of bits
-pub small_pairs : (t : Table) (pairs : List Arc) → IsTable t → All (IsTablePair t) pairs → All IsSmallPair pairs
-small_pairs t pairs rules = All-weaker (IsTablePair t) IsSmallPair (λ pair h. record { a = rules.small pair.a h.across.a_in; b = rules.small pair.b h.across.b_in }) pairs
 
 pub normals : (planes facets : List V3) → AreTableFacets planes facets → All IsNormal facets
 normals planes facets are = All-weaker (IsTableFacet planes) IsNormal (λ n h. record { some = IsPrimitive-some n h.primitive; within = h.within }) facets are.each

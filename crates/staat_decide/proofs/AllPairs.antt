@@ -2,17 +2,17 @@
 use Rattle.std.proofs.Common.{◌≡◌, ◌≢◌, ℕ, ◌<◌, inl, All, List, Contains, get_or, length, refl, subst, sym}
 use Rattle.std.specs.List.Sorted.{IsStrictlySortedBy}
 use Rattle.std.specs.Ordering.{nat_cmp}
-use Rattle.std.specs.Prelude.{None, Option, Some, option_and_then, option_map, slice_get, unwrap_or}
+use Rattle.std.specs.Prelude.{Option}
 use Rattle.staat_vec.specs.declared.vector.V3.{V3}
 use Rattle.staat_vec.specs.Vectors.{origin}
-use Rattle.staat_vec.proofs.Unique.{IsFirst-in}
+use Rattle.staat_vec.proofs.Unique.{IsFirst-in, from_place}
 use Rattle.staat_model.specs.declared.assembly.Part.{Part}
 use Rattle.staat_model.specs.declared.certificate.Arc.{Arc}
-use Rattle.staat_model.specs.Assemblies.{piece_at, piece_count}
+use Rattle.staat_model.specs.Assemblies.{piece_count}
 use Rattle.staat_model.specs.Planes.{vertices}
 use Rattle.staat_model.specs.Removal.{Blocks}
 use Rattle.staat_model.specs.SetLists.{set_of}
-use Rattle.staat_model.proofs.Places.{Contains-from_place, one_at_place, place_within}
+use Rattle.staat_model.proofs.Places.{one_at_place}
 use Rattle.staat_holds.specs.Chains.{own_names, places_of}
 use Rattle.staat_holds.specs.Holds.{IsCorePair, IsFirstGap, IsOfNode, IsOfSomeNode, LeadsBetween}
 use Rattle.staat_holds.specs.Reaching.{AllReach}
@@ -21,19 +21,11 @@ use Rattle.staat_decide.specs.Ends.{arc_between}
 use Rattle.staat_decide.specs.Peelings.{IsHeldAlong}
 use Rattle.staat_decide.proofs.Gaps.{no_gap}
 use Rattle.staat_decide.proofs.Holdings.{of_own, own_of}
+use Rattle.staat_model.proofs.PlanLemmas.{piece_within}
 
 -- a part of one of the nodes stands in the list
 in_list : (w : List ℕ) (count a : ℕ) → IsOfSomeNode (places_of w (own_names count)) (length w) a → Contains w a
-in_list w count a h = Contains-from_place w h.node a (own_of w count h.node a h.is)
-
--- a piece that exists is one of so many
-piece_in : (parts : List Part) (a i : ℕ) (p : List V3) → piece_at parts a i ≡ Some p → i < piece_count parts a
-piece_in parts a i p e = go (slice_get parts a) e
-  where
-    go : (o : Option Part) → option_and_then (λ part. slice_get part.pieces i) o ≡ Some p
-        → i < unwrap_or (option_map (λ part. length part.pieces) o) 0
-    go None h = cc
-    go (Some part) h = place_within part.pieces i p h
+in_list w count a h = from_place w h.node a (own_of w count h.node a h.is)
 
 module _ (parts : List Part) (w : List ℕ) (pairs : List Arc) where
   pub all_listed : (ends : List End)
@@ -63,7 +55,7 @@ module _ (parts : List Part) (w : List ℕ) (pairs : List Arc) where
         let c = get_or w j 0 in
         let pair : Arc = record { a = a; i = b.i; b = c; j = b.j } in
         let core : IsCorePair parts (places_of w (own_names (length parts))) (length w) pair = record {
-          pieces = record { a_in = below i i_lt; i_in = piece_in parts a b.i m.p m.p_is; b_in = below j j_lt; j_in = piece_in parts c b.j m.q m.q_is };
+          pieces = record { a_in = below i i_lt; i_in = piece_within parts a b.i m.p m.p_is; b_in = below j j_lt; j_in = piece_within parts c b.j m.q m.q_is };
           first = record { node = i; is = node i i_lt; few = i_lt };
           second = record { node = j; is = node j j_lt; few = j_lt };
           apart = λ k of_a of_c. b.different (one_at_place w k a c (own_of w (length parts) k a of_a) (own_of w (length parts) k c of_c));

@@ -7,9 +7,9 @@ use Rattle.staat_model.specs.declared.assembly.Part.{Part}
 use Rattle.staat_model.specs.declared.certificate.Arc.{Arc}
 use Rattle.staat_model.specs.Assemblies.{piece_count}
 use Rattle.staat_decide.specs.Ends.{arc_between}
-use Rattle.staat_decide.proofs.Rows.{any_default}
 use Rattle.std.proofs.lemmas.List.Elements.{Contains-append_left, Contains-push}
 use Rattle.staat_decide.specs.declared.every.End.{End}
+use Rattle.staat_vec.proofs.ListLaws.{any_default}
 
 below_or : (n k : ℕ) → k < n + 1 → (k ≡ n) ⊎ (k < n)
 below_or n k lt = grind arith

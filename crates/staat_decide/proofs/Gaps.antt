@@ -14,9 +14,10 @@ use Rattle.staat_model.specs.SetLists.{set_of}
 use Rattle.staat_model.specs.Sets.{Has, IsSide}
 use Rattle.staat_model.proofs.SetListings.{has-set_of}
 use Rattle.staat_model.proofs.SetMembers.{has-difference, has-empty, has-insert}
-use Rattle.staat_holds.specs.Reaching.{AllReach, Reaches, here, along}
+use Rattle.staat_holds.specs.Reaching.{AllReach, Reaches, here}
 use Rattle.staat_decide.specs.Peelings.{IsHeldAlong}
 use Rattle.staat_decide.proofs.Rows.{distinct}
+use Rattle.staat_holds.proofs.Marking.{reach_more}
 
 -- ---- what cannot fail for one number after the other
 
@@ -71,10 +72,6 @@ set_at w Q (suc n) dec = go (dec n (omega arith)) (set_at w Q n (λ k lt. dec k 
     )
 
 -- ---- a free side
-
-reach_more : {R : ℕ → ℕ → Type 0} {x y z : ℕ} → Reaches R x y → R y z → Reaches R x z
-reach_more {z = z} here r = along z r here
-reach_more (along y r rest) more = along y r (reach_more rest more)
 
 module _ (parts : List Part) (d : V3) (w : List ℕ) (R : ℕ → ℕ → Type 0) (moves : d ≢ origin) (sorted : IsStrictlySortedBy nat_cmp w)
     (leads : (i j : ℕ) → i < length w → j < length w → Blocks parts d (get_or w i 0) (get_or w j 0) → R i j) (held : IsHeldAlong parts d (set_of w)) where

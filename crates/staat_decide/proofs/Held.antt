@@ -24,7 +24,9 @@ use Rattle.staat_decide.specs.Labels.{AreClasses, IsClass}
 use Rattle.staat_decide.specs.Peelings.{IsHeldAlong, IsPeeling}
 use Rattle.staat_decide.specs.Reaching.{AreAllReached, AreReached, HasRowArc, IsClosedAlong, label_of}
 use Rattle.staat_decide.proofs.Marks.{keeps_order_by, label_at, labels_count, labels_differ, labels_small}
-use Rattle.staat_decide.proofs.Rows.{any_default, distinct, peeling_from, row_at, row_count}
+use Rattle.staat_decide.proofs.Rows.{distinct, peeling_from, row_at, row_count}
+use Rattle.staat_vec.proofs.Truth.{not_true_clash}
+use Rattle.staat_vec.proofs.ListLaws.{any_default}
 
 -- ---- two labels
 
@@ -124,12 +126,8 @@ module _ (parts : List Part) (d : V3) (w : List ℕ) (rows : List (List Bool)) (
       (λ i k i_lt k_lt arc here. step i k i_lt k_lt arc here (set.contains s (get_or w k 0)) refl) in
       false≢true (sym (ap not (subst (λ q. set.contains s q ≡ true) (sym e) h)) ∙ out)
     where
-      inside : (b : Bool) → not b ≡ true → b ≡ true → ⊥
-      inside true n h = false≢true n
-      inside false n h = false≢true h
-
       step : (i k : ℕ) → i < length rows → k < length rows → HasRowArc rows k i → IsTrue (not (set.contains s (get_or w i 0))) → (b : Bool) → set.contains s (get_or w k 0) ≡ b → IsTrue (not (set.contains s (get_or w k 0)))
-      step i k i_lt k_lt arc h true e = absurd (clash k i k_lt i_lt arc e (inside (set.contains s (get_or w i 0)) h))
+      step i k i_lt k_lt arc h true e = absurd (clash k i k_lt i_lt arc e (not_true_clash (set.contains s (get_or w i 0)) h))
       step i k i_lt k_lt arc h false e = ap not e
 
 -- where each place is reached along arcs and against them, no side is free

@@ -5,34 +5,28 @@ use Rattle.std.specs.Ordering.{nat_cmp}
 use Rattle.std.specs.Prelude.{Option, Some, slice_get}
 use Rattle.std.proofs.lemmas.List.Elements.{All-contains}
 use Rattle.std.proofs.lemmas.List.FromFn.{get_or-range_with_len, length-range_with_len}
-use Rattle.std.proofs.lemmas.Option.{get_or_from_slice_get, slice_get-get_or}
+use Rattle.std.proofs.lemmas.Option.{slice_get-get_or}
 use Rattle.staat_model.specs.declared.assembly.Part.{Part}
 use Rattle.staat_model.specs.declared.certificate.Arc.{Arc}
 use Rattle.staat_model.specs.Assemblies.{IsPart}
 use Rattle.staat_model.specs.SetLists.{set_of}
 use Rattle.staat_model.specs.Sets.{Has}
-use Rattle.staat_model.proofs.Places.{place_within}
 use Rattle.staat_model.proofs.Members.{All-from_members}
 use Rattle.staat_model.proofs.SetListings.{has-set_of}
 use Rattle.staat_holds.specs.Chains.{IsName, IsOfOne, KeepsHoldRules, own_names, place_of, places_of}
 use Rattle.staat_holds.specs.Holds.{IsCorePair, IsOfNode, JoinsNodes}
-use Rattle.staat_holds.proofs.ChainLaw.{own_nodes, union_stuck}
-use Rattle.staat_holds.proofs.NodeNames.{map_at, of_place, place_to}
+use Rattle.staat_holds.proofs.ChainLaw.{own_nodes, union_stuck, own_is}
+use Rattle.staat_holds.proofs.NodeNames.{of_place, place_to}
 use Rattle.staat_decide.specs.Decided.{IsStuckHold}
+use Rattle.staat_vec.proofs.ListLaws.{place_in_map}
 
 -- ---- names that are the parts' own
 
-own_name : (count p : ℕ) → p < count → slice_get (own_names count) p ≡ Some p
+pub own_name : (count p : ℕ) → p < count → slice_get (own_names count) p ≡ Some p
 own_name count p lt =
     let long = length-range_with_len 0 count in
     let at : p < length (own_names count) = omega (arith, long, lt) in
     slice_get-get_or (own_names count) p 0 at ∙ ap Some (get_or-range_with_len 0 count p 0 lt ∙ zero-add p)
-
-own_is : (count p n : ℕ) → slice_get (own_names count) p ≡ Some n → n ≡ p
-own_is count p n at =
-    let lt = place_within (own_names count) p n at in
-    let long = length-range_with_len 0 count in
-    sym (get_or_from_slice_get (own_names count) p n 0 at) ∙ get_or-range_with_len 0 count p 0 (omega (arith, lt, long)) ∙ zero-add p
 
 -- a part at a place of the list is of that node
 pub of_own : (w : List ℕ) (count k p : ℕ) → IsStrictlySortedBy nat_cmp w → k < length w → get_or w k 0 ≡ p → p < count
@@ -43,7 +37,7 @@ of_own w count k p sorted lt e p_lt =
 -- and a part of a node stands at its place
 pub own_of : (w : List ℕ) (count k p : ℕ) → IsOfNode (places_of w (own_names count)) k p → slice_get w k ≡ Some p
 own_of w count k p h =
-    let (m, named, is) = map_at (place_of w) (own_names count) p (Some k) h in
+    let (m, named, is) = place_in_map (place_of w) (own_names count) p (Some k) h in
     place_to w k m is ∙ (λ i. Some (own_is count p m named i))
 
 -- ---- what is held

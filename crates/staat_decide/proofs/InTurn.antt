@@ -18,9 +18,6 @@ pub record IsInTurn (d : V3) (plans : List Plan) (whole : Plan) : Type 0 where
   pub are : plans ≡ first ∷ others
   pub is : in_turn d first others ≡ whole
 
-pub turn_alone : (d : V3) (p : Plan) → IsInTurn d (p ∷ []) p
-turn_alone d p = record { first = p; others = []; are = refl; is = refl }
-
 -- the two last ones may be joined before
 pub turn_step : (d : V3) (xs : List Plan) (m r whole : Plan) → IsInTurn d ((xs ++ m ∷ []) ++ r ∷ []) whole
     → IsInTurn d (xs ++ split d m r ∷ []) whole
@@ -41,16 +38,6 @@ turn_step d (x ∷ xs) m r whole h = record { first = x; others = xs ++ split d 
         let first : x ≡ p = cc in
         let others : (xs ++ m ∷ []) ++ r ∷ [] ≡ ps = cc in
         sym (same_behind d x xs m r) ∙ subst (λ (qs : List Plan). in_turn d x qs ≡ whole) (sym others) (subst (λ (q : Plan). in_turn d q ps ≡ whole) (sym first) is)
-
--- what is left when one plan is
-pub turn_end : (d : V3) (p whole : Plan) → IsInTurn d (p ∷ []) whole → p ≡ whole
-turn_end d p whole h = go h.first h.others h.are h.is
-  where
-    go : (q : Plan) (qs : List Plan) → p ∷ [] ≡ q ∷ qs → in_turn d q qs ≡ whole → p ≡ whole
-    go q qs e is =
-        let first : p ≡ q = cc in
-        let others : [] ≡ qs = cc in
-        first ∙ subst (λ (rs : List Plan). in_turn d q rs ≡ whole) (sym others) is
 
 -- ---- good plans for one more set
 

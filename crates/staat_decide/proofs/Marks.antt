@@ -111,16 +111,12 @@ back_order false true f = absurd (false≢true (f refl))
 back_order true false f = omega arith
 back_order false false f = omega arith
 
-label_count : (way : Way) (marks : List Bool) → length (map (label_of way) marks) ≡ length marks
-label_count way [] = refl
-label_count way (x ∷ xs) = ap suc (label_count way xs)
-
 pub labels_count : (way : Way) (marks : List Bool) → length (map (label_of way) marks) ≡ length marks
-labels_count = label_count
+labels_count = labels_count
 
 pub keeps_order_by : (way : Way) (rows : List (List Bool)) (marks : List Bool) → IsClosedAlong way rows marks → KeepsOrder rows (map (label_of way) marks)
 keeps_order_by way rows marks closed i i_lt j j_lt arc =
-    let count : length (map (label_of way) marks) ≡ length marks = label_count way marks in
+    let count : length (map (label_of way) marks) ≡ length marks = labels_count way marks in
     let i_in : i < length marks = omega (arith, count, i_lt) in
     let j_in : j < length marks = omega (arith, count, j_lt) in
     subst (λ l. l ≤ get_or (map (label_of way) marks) i 0) (sym (label_at way marks j j_in))

@@ -6,7 +6,6 @@ use Rattle.std.proofs.lemmas.List.FromFn.{get_or-range_with_len, length-range_wi
 use Rattle.staat_vec.specs.declared.vector.V3.{V3}
 use Rattle.staat_model.specs.declared.assembly.Part.{Part}
 use Rattle.staat_model.specs.Removal.{Blocks}
-use Rattle.staat_model.proofs.Members.{here, there}
 use Rattle.staat_motion.proofs.Zips.{zip_read}
 use Rattle.staat_decide.specs.Arcs.{AreBlockingRows, IsRow}
 use Rattle.staat_vec.specs.declared.vector.TheConstants.{DIRECTION}
@@ -17,7 +16,9 @@ use Rattle.staat_decide.specs.Reaching.{HasRowArc}
 use Rattle.std.specs.Prelude.{IfSome, Option, Some}
 use Rattle.std.proofs.lemmas.List.{map-append, take_more}
 use Rattle.staat_decide.specs.Peelings.{IsPeeling}
-use Rattle.staat_decide.proofs.Rows.{any_default, row_at, row_count, row_lengths}
+use Rattle.staat_decide.proofs.Rows.{row_at, row_count, row_lengths}
+use Rattle.staat_vec.proofs.Unique.{Contains-front}
+use Rattle.staat_vec.proofs.ListLaws.{Contains-there, any_default}
 
 -- ---- from the rows of all numbers
 
@@ -47,7 +48,7 @@ module _ (parts : List Part) (d : V3) (rows : List (List Bool)) (is : AreBlockin
 
 zip_map : {X Y : Type 0} (R : X → Y → Type 0) (f : X → Y) (xs : List X) → ((x : X) → Contains xs x → R x (f x)) → AllZip R xs (map f xs)
 zip_map R f [] h = tt
-zip_map R f (x ∷ xs) h = (h x (here x xs), zip_map R f xs (λ y c. h y (there x y xs c)))
+zip_map R f (x ∷ xs) h = (h x (Contains-front x xs), zip_map R f xs (λ y c. h y (Contains-there x y xs c)))
 
 pub rows_of_some : (parts : List Part) (d : V3) (w : List ℕ) (rows : List (List Bool)) → AreAllRows parts d rows
     → All (λ p. p < length parts) w → AreBlockingRows parts d w (map (λ a. map (λ b. get_or (get_or rows a []) b false) w) w)

@@ -13,8 +13,8 @@ use Rattle.staat_model.specs.SetLists.{set_of}
 use Rattle.staat_model.proofs.Members.{All-from_members}
 use Rattle.staat_decide.specs.Peelings.{IsPeeling}
 use Rattle.staat_decide.proofs.Deciding.{good_more}
-use Rattle.staat_decide.proofs.Rows.{any_default}
 use Rattle.staat_decide.proofs.Sides.{set_shorter, set_within}
+use Rattle.staat_vec.proofs.ListLaws.{any_default}
 
 -- the set has a part, ascends, has parts that exist, and fewer than w
 pub record IsReady (parts : List Part) (w s : List ℕ) : Type 0 where

@@ -1,10 +1,8 @@
 -- From labels that ascend against all arcs to sets that leave one after the other.
-use Rattle.std.proofs.Common.{◌≡◌, ℕ, zero, suc, ◌<◌, ◌≤◌, ◌≢◌, ◌↔◌, ◌∙◌, ⊎_elim, Bool, false, List, [], ◌∷◌, All, Contains, IsTrue, arith, get_or, length, map, refl, subst, sym}
+use Rattle.std.proofs.Common.{◌≡◌, ℕ, ◌<◌, ◌≤◌, ◌≢◌, ◌↔◌, ◌∙◌, ⊎_elim, Bool, false, List, [], ◌∷◌, All, Contains, IsTrue, arith, get_or, length, map, refl, subst, sym}
 use Rattle.std.specs.List.Sorted.{IsStrictlySortedBy}
 use Rattle.std.specs.Ordering.{nat_cmp}
-use Rattle.std.specs.declared.cmp.Ordering.TheVariants.{Less}
 use Rattle.std.proofs.lemmas.Bool.{cases_order}
-use Rattle.std.proofs.lemmas.Cmp.{ranked}
 use Rattle.std.proofs.lemmas.Grind.{get_or_default_zero}
 use Rattle.std.proofs.lemmas.List.Elements.{Contains-get_or}
 use Rattle.std.proofs.lemmas.Map.Keys.{Less-from_sorted}
@@ -22,11 +20,8 @@ use Rattle.staat_motion.proofs.Zips.{zip_length, zip_read}
 use Rattle.staat_decide.specs.Arcs.{AreBlockingRows, IsRow}
 use Rattle.staat_decide.specs.Labels.{AllPrecede, AreClasses, HoldsOfLater, KeepsOrder, Precedes}
 use Rattle.staat_decide.specs.Peelings.{IsPeeling}
-
-pub any_default : {X : Type 0} (xs : List X) (i : ℕ) (d e : X) → i < length xs → get_or xs i d ≡ get_or xs i e
-any_default [] i d e lt = absurd (omega (arith, lt))
-any_default (x ∷ xs) zero d e lt = refl
-any_default (x ∷ xs) (suc i) d e lt = any_default xs i d e (omega (arith, lt))
+use Rattle.staat_vec.proofs.ListLaws.{any_default}
+use Rattle.staat_vec.proofs.Comparisons.{less_number}
 
 -- ---- rows
 
@@ -66,9 +61,6 @@ clash parts d w labels rows p q is same keeps h b =
     absurd (omega (arith, le, h.less, f.label, s.label))
 
 -- ---- no part is in two of the sets
-
-less_number : (m n : ℕ) → nat_cmp m n ≡ Less → m < n
-less_number m n e = ranked m n Less (sym e)
 
 pub distinct : (w : List ℕ) (i j : ℕ) → IsStrictlySortedBy nat_cmp w → i < length w → j < length w
     → get_or w i 0 ≡ get_or w j 0 → i ≡ j

@@ -1,6 +1,5 @@
 -- The parts with one label, and those of all labels below a number, one step after the other.
 use Rattle.std.proofs.Common.{All, ◌≡◌, ℕ, ◌+◌, ◌<◌, ◌≤◌, ◌⊎◌, inl, inr, ⊎_elim, List, [], ◌∷◌, ◌++◌, Contains, arith, get_or, length, map, subst, sym, ◌↔◌}
-use Rattle.std.specs.List.{AllByRecursion}
 use Rattle.std.specs.List.Sorted.{IsStrictlySortedBy}
 use Rattle.std.specs.Ordering.{nat_cmp}
 use Rattle.std.specs.declared.cmp.Ordering.TheVariants.{Less}
@@ -9,30 +8,17 @@ use Rattle.std.proofs.lemmas.List.{map-append}
 use Rattle.std.proofs.lemmas.List.Elements.{All-nil, All-push, Contains-push, Contains-push_cases}
 use Rattle.std.proofs.lemmas.Map.Keys.{Less-from_sorted}
 use Rattle.staat_vec.specs.Lists.{Lists}
-use Rattle.staat_vec.proofs.Unique.{Contains-cases}
+use Rattle.staat_vec.proofs.Unique.{Contains-cases, Contains-nothing, Contains-front}
 use Rattle.staat_model.specs.declared.set.PartSet.{PartSet}
 use Rattle.staat_model.specs.SetLists.{set_of, union_of}
 use Rattle.staat_model.specs.Sets.{Has}
-use Rattle.staat_model.proofs.Members.{here, there}
 use Rattle.staat_model.proofs.SetListings.{has-set_of}
 use Rattle.staat_model.proofs.SetMembers.{has-empty, has-insert, has-union}
 use Rattle.staat_decide.specs.Labels.{AllPrecede, AreClasses, HasLabel, HasLabelBelow, HoldsOfLater, IsClass}
-
-pub none : {X : Type 0} (x : X) → Contains [] x → ⊥
-none x (k, lt, e) = absurd (omega (arith, lt))
+use Rattle.staat_vec.proofs.Comparisons.{sorted_push_less}
+use Rattle.staat_vec.proofs.ListLaws.{Contains-there}
 
 -- ---- ascending lists
-
-push_each : (P : ℕ → Type 0) (xs : List ℕ) (x : ℕ) → AllByRecursion P xs → P x → AllByRecursion P (xs ++ x ∷ [])
-push_each P [] x h p = (p, tt)
-push_each P (y ∷ ys) x h p = (h.0, push_each P ys x h.1 p)
-
-pub sorted_push : (xs : List ℕ) (x : ℕ) → IsStrictlySortedBy nat_cmp xs → ((y : ℕ) → Contains xs y → nat_cmp y x ≡ Less)
-    → IsStrictlySortedBy nat_cmp (xs ++ x ∷ [])
-unfolding IsStrictlySortedBy
-sorted_push [] x h f = (tt, tt)
-sorted_push (y ∷ ys) x h f =
-    (push_each (λ z. nat_cmp y z ≡ Less) ys x h.0 (f y (here y ys)), sorted_push ys x h.1 (λ z z_in. f z (there y z ys z_in)))
 
 pub sorted_none : IsStrictlySortedBy nat_cmp []
 unfolding IsStrictlySortedBy
@@ -55,7 +41,7 @@ last_or w labels n k p h = ⊎_elim
 pub no_labels : (w labels : List ℕ) (k : ℕ) → Lists nat_cmp (HasLabel w labels 0 k) []
 no_labels w labels k = record {
   ascending = sorted_none;
-  each = λ p h. absurd (none p h);
+  each = λ p h. absurd (Contains-nothing p h);
   all = λ p h. absurd (omega (arith, h.before));
 }
 
@@ -63,7 +49,7 @@ pub label_more : (w labels : List ℕ) (n k : ℕ) (s : List ℕ) → IsStrictly
     → get_or labels n 0 ≡ k → Lists nat_cmp (HasLabel w labels n k) s
     → Lists nat_cmp (HasLabel w labels (n + 1) k) (s ++ get_or w n 0 ∷ [])
 label_more w labels n k s sorted lt e is = record {
-  ascending = sorted_push s (get_or w n 0) is.ascending (λ y y_in.
+  ascending = sorted_push_less s (get_or w n 0) is.ascending (λ y y_in.
       let h = is.each y y_in in
       subst (λ z. nat_cmp z (get_or w n 0) ≡ Less) h.part (Less-from_sorted nat_cmp w h.i n 0 sorted h.before lt));
   each = λ p h. ⊎_elim {C = HasLabel w labels (n + 1) k p}
@@ -77,10 +63,10 @@ label_more w labels n k s sorted lt e is = record {
 }
   where
     front : (xs : List ℕ) (x p : ℕ) → Contains xs p → Contains (xs ++ x ∷ []) p
-    front [] x p h = absurd (none p h)
+    front [] x p h = absurd (Contains-nothing p h)
     front (y ∷ ys) x p h = ⊎_elim {C = Contains (y ∷ (ys ++ x ∷ [])) p}
-        (λ e. subst (Contains (y ∷ (ys ++ x ∷ []))) (sym e) (here y (ys ++ x ∷ [])))
-        (λ later. there y p (ys ++ x ∷ []) (front ys x p later))
+        (λ e. subst (Contains (y ∷ (ys ++ x ∷ []))) (sym e) (Contains-front y (ys ++ x ∷ [])))
+        (λ later. Contains-there y p (ys ++ x ∷ []) (front ys x p later))
         (Contains-cases y ys p h)
 
 pub label_same : (w labels : List ℕ) (n k : ℕ) (s : List ℕ) → (get_or labels n 0 ≡ k → ⊥)
@@ -120,7 +106,7 @@ union_push (s ∷ rest) t p = (
 )
 
 pub in_union : (sets : List PartSet) (t : PartSet) → Contains sets t → (p : ℕ) → Has t p → Has (union_of sets) p
-in_union [] t t_in p h = absurd (none t t_in)
+in_union [] t t_in p h = absurd (Contains-nothing t t_in)
 in_union (s ∷ rest) t t_in p h = (has-union s (union_of rest) p).1 (⊎_elim {C = Has s p ⊎ Has (union_of rest) p}
     (λ e. inl (subst (λ u. Has u p) e h))
     (λ later. inr (in_union rest t later p h))
@@ -128,13 +114,13 @@ in_union (s ∷ rest) t t_in p h = (has-union s (union_of rest) p).1 (⊎_elim {
 
 pub later_push : (R : PartSet → PartSet → Type 0) (sets : List PartSet) (t : PartSet) → HoldsOfLater R sets
     → ((s : PartSet) → Contains sets s → R s t) → HoldsOfLater R (sets ++ t ∷ [])
-later_push R [] t h f = ((λ u u_in. absurd (none u u_in)), tt)
+later_push R [] t h f = ((λ u u_in. absurd (Contains-nothing u u_in)), tt)
 later_push R (s ∷ rest) t h f = (
   (λ u u_in. ⊎_elim {C = R s u}
       (λ old. h.0 u old)
-      (λ e. subst (R s) e (f s (here s rest)))
+      (λ e. subst (R s) e (f s (Contains-front s rest)))
       (Contains-push_cases rest t u u_in)),
-  later_push R rest t h.1 (λ v v_in. f v (there s v rest v_in)),
+  later_push R rest t h.1 (λ v v_in. f v (Contains-there s v rest v_in)),
 )
 
 -- ---- all labels below a number

@@ -81,9 +81,6 @@ pub group_written : (plan : PartialPlan) (members listed old new line shown : Li
 group_written plan members listed old new line shown is same l s e =
     e ∙ ap (λ t. old ++ t) (s ∙ l ∙ ap (λ m. plan_text (stuck (set_of m))) same) ∙ ap (λ (p : PartialPlan). old ++ stuck_lines p) (sym is)
 
-pub no_steps : (plan : PartialPlan) (text : List ℕ) → step_lines plan ≡ [] → text ≡ text ++ step_lines plan
-no_steps plan text none = sym (ap (λ l. text ++ l) none ∙ append-nil text)
-
 pub no_lines : (plan : PartialPlan) (text : List ℕ) → stuck_lines plan ≡ [] → text ≡ text ++ stuck_lines plan
 no_lines plan text none = sym (ap (λ l. text ++ l) none ∙ append-nil text)
 

@@ -1,5 +1,5 @@
 -- Files that fit what a shelf has shown, before a reading and after it.
-use Rattle.std.proofs.Common.{◌≡◌, ◌<◌, ℕ, true, false, List, [], ◌∷◌, ◌++◌, length, take, Option, Some, None, refl, inl, inr, ◌∙◌, ap, subst, arith}
+use Rattle.std.proofs.Common.{◌≡◌, ◌<◌, ℕ, true, false, List, [], ◌∷◌, ◌++◌, length, take, Option, Some, None, refl, inr, ◌∙◌, ap, subst, arith}
 use Rattle.std.proofs.lemmas.Grind.{common_steps}
 use Rattle.std.proofs.lemmas.List.{length-take}
 use Rattle.std.specs.Prelude.{IsSomeAnd, Bool, ◌==◌, ◌&&◌, nat_lt, if◌then◌else◌}
@@ -8,14 +8,9 @@ use Rattle.staat_edge.specs.Fitting.{FitBy}
 use Rattle.staat_edge.specs.Readings.{IsReadIn, whole_reading, FileReading, after_read, finished, grown}
 use Rattle.staat_edge.specs.Opening.{OpensAll, OpensSome}
 
-before_one : (holds : Option (List (List ℕ × List ℕ))) (reading : FileReading) (before : List FileReading) (files : List (List ℕ × List ℕ)) → FitBy holds (reading ∷ before) files → FitBy holds before files
+pub before_one : (holds : Option (List (List ℕ × List ℕ))) (reading : FileReading) (before : List FileReading) (files : List (List ℕ × List ℕ)) → FitBy holds (reading ∷ before) files → FitBy holds before files
 before_one None reading before files fit = fit.1
 before_one (Some held) reading before files fit = fit
-
--- files that fit after a reading fit before it
-pub fit_before : (holds : Option (List (List ℕ × List ℕ))) (name : List ℕ) (before now : List FileReading) → OpensSome (name ∷ []) before now → (files : List (List ℕ × List ℕ)) → FitBy holds now files → FitBy holds before files
-fit_before holds name before now (inl same) files fit = subst (λ (g : List FileReading). FitBy holds g files) same fit
-fit_before holds name before now (inr (reading, named, is)) files fit = before_one holds reading before files (subst (λ (g : List FileReading). FitBy holds g files) is fit)
 
 one_opened : (name : List ℕ) (reading : FileReading) (before now : List FileReading) → reading.name ≡ name → now ≡ reading ∷ before → OpensSome (name ∷ []) before now
 one_opened name reading before now named is = inr (reading, named, is)

@@ -1,10 +1,11 @@
 -- Files opened one after another.
-use Rattle.std.proofs.Common.{◌≡◌, ℕ, Bool, true, false, List, [], ◌∷◌, ◌++◌, Option, Some, None, Result, Ok, Err, refl, sym, inl, inr, subst}
+use Rattle.std.proofs.Common.{◌≡◌, ℕ, Bool, true, false, List, [], ◌∷◌, ◌++◌, Option, Result, Ok, Err, refl, sym, inl, inr, subst}
 use Rattle.std.specs.Prelude.{IsErrAnd, is_ok}
 use Rattle.staat_edge.specs.Fitting.{Fit, FitBy, Narrows}
 use Rattle.staat_edge.specs.Opening.{OpensAll, OpensFiles, OpensSome, Opens}
 use Rattle.staat_edge.specs.Readings.{Agree, FileReading}
 use Rattle.staat_edge.specs.Told.{ShelfTold}
+use Rattle.staat_edge.proofs.Fitted.{before_one}
 
 -- all are some
 pub all_some : (names : List (List ℕ)) (before now : List FileReading) → OpensAll names before now → OpensSome names before now
@@ -44,15 +45,10 @@ pub refused : {X E : Type 0} (P : E → Type 0) (r : Result X E) (names : List (
 refused P (Ok x) names before now wrong some = absurd wrong
 refused P (Err e) names before now is some = some
 
--- files that fit one reading more fit without it
-fit_without : (holds : Option (List (List ℕ × List ℕ))) (reading : FileReading) (before : List FileReading) (files : List (List ℕ × List ℕ)) → FitBy holds (reading ∷ before) files → FitBy holds before files
-fit_without None reading before files fit = fit.1
-fit_without (Some held) reading before files fit = fit
-
 fit_fewer : (holds : Option (List (List ℕ × List ℕ))) (names : List (List ℕ)) (before now : List FileReading) (files : List (List ℕ × List ℕ)) → OpensSome names before now → FitBy holds now files → FitBy holds before files
 fit_fewer holds [] before now files same fit = subst (λ (g : List FileReading). FitBy holds g files) same fit
 fit_fewer holds (name ∷ names) before now files (inl same) fit = subst (λ (g : List FileReading). FitBy holds g files) same fit
-fit_fewer holds (name ∷ names) before now files (inr (reading, named, some)) fit = fit_without holds reading before files (fit_fewer holds names (reading ∷ before) now files some fit)
+fit_fewer holds (name ∷ names) before now files (inr (reading, named, some)) fit = before_one holds reading before files (fit_fewer holds names (reading ∷ before) now files some fit)
 
 -- files that fit after some were opened fitted before
 pub narrowed : (names : List (List ℕ)) (before now : ShelfTold) → now.holds ≡ before.holds → OpensSome names before.given now.given → Narrows before now

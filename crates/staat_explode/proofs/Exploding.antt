@@ -1,12 +1,11 @@
 -- The splits of a plan, one side after the other.
 use Rattle.std.proofs.Common.{◌≡◌, ℕ, zero, suc, ◌+◌, ◌*◌, ◌<◌, ◌≤◌, List, [], ◌∷◌}
-use Rattle.std.proofs.Common.{◌++◌, map, length, get_or, All, refl, arith, inl, inr, length-append}
+use Rattle.std.proofs.Common.{map, length, get_or, All, refl, arith, inl, length-append}
 use Rattle.std.proofs.lemmas.List.{length-map}
-use Rattle.std.proofs.lemmas.List.Elements.{All-append, All-cons, All-contains, All-head, All-nil, All-tail}
+use Rattle.std.proofs.lemmas.List.Elements.{All-append, All-cons, All-contains, All-nil}
 use Rattle.staat_vec.specs.declared.vector.V3.{V3}
 use Rattle.staat_vec.specs.Vectors.{IsWithin}
-use Rattle.staat_vec.specs.Lists.{IsFirst}
-use Rattle.staat_model.proofs.Members.{here, there, both}
+use Rattle.staat_model.proofs.Members.{both}
 use Rattle.staat_model.specs.Plans.{Plan, leaf, split}
 use Rattle.staat_explode.specs.declared.boxes.Bounds.{Bounds}
 use Rattle.staat_explode.specs.declared.shifted.Shifted.{Shifted}
@@ -16,6 +15,8 @@ use Rattle.staat_explode.specs.declared.refusal.ExplodeRefusal.TheVariants.{TooF
 use Rattle.staat_explode.specs.Shifts.{moved_on, parted, shifted_of, steps_apart}
 use Rattle.staat_explode.specs.Sizes.{IsShiftable, IsShifted}
 use Rattle.staat_explode.specs.Splits.{AllNear, HasFar, IsFar, IsRefused, IsTooFarAt, SplitAt, node_count, splits_from}
+use Rattle.staat_vec.proofs.ListLaws.{first_left, first_right, All-map, Contains-there}
+use Rattle.staat_vec.proofs.Unique.{Contains-front}
 
 pub refused_on : (P Q : ℕ → Type 0) (e : ExplodeRefusal) → ((k : ℕ) → P k → Q k) → IsRefused P e
     → IsRefused Q e
@@ -23,17 +24,6 @@ refused_on P Q (TooFar k) f h = f k h
 refused_on P Q OutOfMemory f h = tt
 
 -- ---- the first of two lists
-
-first_left : {X : Type 0} (P : X → Type 0) (xs ys : List X) (x : X) → IsFirst P xs x → IsFirst P (xs ++ ys) x
-first_left P [] ys x h = absurd h
-first_left P (z ∷ xs) ys x (inl h) = inl h
-first_left P (z ∷ xs) ys x (inr h) = inr (h.0, first_left P xs ys x h.1)
-
-first_right : {X : Type 0} (P : X → Type 0) (xs ys : List X) (x : X) → All (λ y. P y → ⊥) xs
-    → IsFirst P ys x → IsFirst P (xs ++ ys) x
-first_right P [] ys x none h = h
-first_right P (z ∷ xs) ys x none h =
-    inr (All-head (λ y. P y → ⊥) z xs none, first_right P xs ys x (All-tail (λ y. P y → ⊥) z xs none) h)
 
 -- ---- one split
 
@@ -91,11 +81,6 @@ some_placed boxes plan = omega (arith, nodes_by_leaves boxes plan, some_nodes pl
 
 -- ---- parts
 
-All-map : {X Y : Type 0} (f : X → Y) (P : Y → Type 0) (xs : List X) → All (λ x. P (f x)) xs → All P (map f xs)
-All-map f P [] h = All-nil P
-All-map f P (x ∷ xs) h =
-    All-cons P (f x) (map f xs) (All-head (λ y. P (f y)) x xs h) (All-map f P xs (All-tail (λ y. P (f y)) x xs h))
-
 parts_placed : (boxes : List Bounds) (n : ℕ) (plan : Plan) → IsShiftable n plan
     → All (λ p. p.part < n) (shifted_of boxes plan)
 parts_placed boxes n (leaf p) h =
@@ -116,6 +101,6 @@ all_placed boxes n plan h near =
 pub far_in_map : (f : Shifted → Shifted) (ps : List Shifted) (k : ℕ) (d : Shifted) → k < length ps
     → (IsWithin FARTHEST (f (get_or ps k d)).by → ⊥) → HasFar (map f ps)
 far_in_map f [] k d lt far = absurd (omega arith)
-far_in_map f (p ∷ ps) zero d lt far = (f p, here (f p) (map f ps), far)
+far_in_map f (p ∷ ps) zero d lt far = (f p, Contains-front (f p) (map f ps), far)
 far_in_map f (p ∷ ps) (suc k) d lt far =
-    let rest = far_in_map f ps k d (omega arith) far in (rest.0, there (f p) rest.0 (map f ps) rest.1, rest.2)
+    let rest = far_in_map f ps k d (omega arith) far in (rest.0, Contains-there (f p) rest.0 (map f ps) rest.1, rest.2)

@@ -10,7 +10,7 @@ use Rattle.std.proofs.lemmas.List.{take_more, take_all, map-append}
 use Rattle.std.proofs.lemmas.Option.{slice_get_within, get_or_from_slice_get}
 use Rattle.staat_model.proofs.Places.{some_at}
 use Rattle.staat_model.specs.declared.assembly.Part.{Part}
-use Rattle.staat_model.specs.Assemblies.{IsAssembly, IsPart, piece_at, piece_count}
+use Rattle.staat_model.specs.Assemblies.{piece_at, piece_count}
 use Rattle.std.specs.Int.{w128}
 use Rattle.std.proofs.lemmas.Int.{to_z-of_z, clamps, ints}
 use Rattle.std.proofs.lemmas.Grind.{flat_map-append}
@@ -26,6 +26,7 @@ use Rattle.staat_explode.specs.declared.boxes.Bounds.{Bounds}
 use Rattle.staat_explode.specs.declared.shifted.Shifted.{Shifted}
 use Rattle.staat_explode.specs.Boxes.{around, box_of, component, covering, pieces_of_part, points_at, points_of}
 use Rattle.staat_explode.specs.Shifts.{gap_along, high_along, highest, low_along, lowest}
+use Rattle.staat_model.proofs.PartCounts.{pieces_count}
 
 same_either : {A : Type 0} (b : Bool) (x : A) → cond b x x ≡ x
 same_either true x = refl
@@ -117,25 +118,7 @@ points_more parts a i b p is = go (slice_get parts a) is
         ∙ fold_pieces b (take i part.pieces) p
 
 pub pieces_counted : (parts : List Part) (a : ℕ) → piece_count parts a ≡ length (pieces_of_part parts a)
-pieces_counted parts a = go (slice_get parts a)
-  where
-    go : (o : Option Part) → unwrap_or (option_map (λ part. length part.pieces) o) 0
-        ≡ length (unwrap_or (option_map (λ part. part.pieces) o) [])
-    go None = refl
-    go (Some part) = refl
-
-pub at_member : {X : Type 0} (P : X → Type 0) (xs : List X) (k : ℕ) (x : X) → All P xs → slice_get xs k
-    ≡ Some x → P x
-at_member P xs k x all is = subst P (get_or_from_slice_get xs k x x is) (all k x (slice_get_within xs k x is))
-
--- a part of an assembly has a piece
-pub has_piece : (parts : List Part) (a : ℕ) → IsAssembly parts → a < length parts → 1 ≤ piece_count parts a
-has_piece parts a h lt = go (slice_get parts a) (some_at parts a lt)
-  where
-    go : (o : Option Part) → (part : Part) × (slice_get parts a ≡ Some part)
-        → 1 ≤ unwrap_or (option_map (λ part. length part.pieces) (slice_get parts a)) 0
-    go o (part, e) =
-        subst (λ (q : Option Part). 1 ≤ unwrap_or (option_map (λ part. length part.pieces) q) 0) (sym e) (at_member IsPart parts a part h.each e).nonempty
+pieces_counted parts a = pieces_count (slice_get parts a)
 
 -- the first point of a part
 pub first_point : (parts : List Part) (a : ℕ) (p : List V3) (d : V3) → piece_at parts a 0 ≡ Some p
@@ -171,9 +154,6 @@ part_box parts a n p d is some all =
     ∙ box_is (points_at parts a) d first.1
 
 -- ---- sizes
-
-around_small : (p : V3) → IsWithin POINT p → AreBounds (around p)
-around_small p h = record { low = h; high = h }
 
 covering_small : (b : Bounds) (p : V3) → AreBounds b → IsWithin POINT p → AreBounds (covering b p)
 covering_small b p h k = record {

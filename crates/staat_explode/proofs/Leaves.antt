@@ -12,6 +12,7 @@ use Rattle.staat_model.proofs.SetSizes.{len_below, len_more}
 use Rattle.staat_model.proofs.SetWords.{same_members}
 use Rattle.staat_explode.specs.Sizes.{IsShiftable}
 use Rattle.staat_explode.specs.Splits.{leaf_count, node_count}
+use Rattle.staat_model.proofs.LeavingLemmas.{good_parts}
 
 pub placeable : (parts : List Part) (n : ℕ) (w : PartSet) (plan : Plan) → IsGood parts w plan
     → ((p : ℕ) → Has w p → p < n) → IsShiftable n plan
@@ -55,10 +56,6 @@ nodes : (plan : Plan) → node_count plan + 1 ≡ 2 * leaf_count plan
 nodes (leaf p) = refl
 nodes (split d moved rest) = omega (arith, nodes moved, nodes rest)
 
-pub parts_are : (parts : List Part) (w : PartSet) (plan : Plan) → IsGood parts w plan → w ≡ parts_of plan
-parts_are parts w (leaf p) h = h
-parts_are parts w (split d moved rest) h = h.0
-
 -- there are fewer nodes than twice the parts
 pub few_nodes : (parts : List Part) (n : ℕ) (plan : Plan) → IsGood parts (below n) plan
     → node_count plan ≤ 2 * n
@@ -66,7 +63,7 @@ few_nodes parts n plan h =
     let all = joined parts (below n) plan set.empty h (λ q a b. has-empty q b) in
     let most : set.len (set.union (parts_of plan) set.empty) ≤ n = len_below n (set.union (parts_of plan) set.empty)
     (λ q k. elim ((has-union (parts_of plan) set.empty q).0 k) [
-      | inl a ↦ (has-below n q).0 (subst (λ (s : PartSet). Has s q) (sym (parts_are parts (below n) plan h)) a)
+      | inl a ↦ (has-below n q).0 (subst (λ (s : PartSet). Has s q) (sym (good_parts parts (below n) plan h)) a)
       | inr b ↦ absurd (has-empty q b)
     ]) in
     omega (arith, all, most, nodes plan)

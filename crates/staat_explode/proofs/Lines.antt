@@ -4,7 +4,7 @@ use Rattle.std.proofs.Common.{take, length, map, flat_map, get_or, All, ap, sym,
 use Rattle.std.proofs.Common.{append_assoc, decimal, pos, Ok}
 use Rattle.staat_model.specs.Lines.{spaced}
 use Rattle.std.proofs.lemmas.List.{take_more, take_all, length-take-le, length-map, map-append}
-use Rattle.std.proofs.lemmas.List.Elements.{All-append, All-cons, All-head, All-nil, All-tail, All-weaker}
+use Rattle.std.proofs.lemmas.List.Elements.{All-append, All-head, All-nil, All-tail, All-weaker}
 use Rattle.std.proofs.lemmas.Grind.{flat_map-append}
 use Rattle.std.proofs.Common.{length-append}
 use Rattle.staat_vec.specs.declared.vector.V3.{V3}
@@ -17,6 +17,7 @@ use Rattle.staat_explode.specs.Scenes.{corner_text, face_line, faces_behind, off
 use Rattle.staat_explode.specs.Scenes.{points_of_scene, scene_of, shift_at}
 use Rattle.staat_explode.specs.ShiftTexts.{shift_lines_from, shift_line}
 use Rattle.staat_explode.proofs.Rereading.{reading_again}
+use Rattle.staat_vec.proofs.ListLaws.{All-map}
 
 lines_push : (k : ℕ) (vs : List V3) (v : V3) → shift_lines_from k (vs ++ v ∷ []) ≡ shift_lines_from k vs
     ++ shift_line (k + length vs) v
@@ -35,11 +36,6 @@ lines_more vs k d lt =
     ++ shift_line n (get_or vs k d)) (omega (arith, length-take-le k vs (omega arith)))
 
 -- ---- the corners of a scene's faces are the numbers of its points
-
-All-map : {X Y : Type 0} (f : X → Y) (P : Y → Type 0) (xs : List X) → All (λ x. P (f x)) xs → All P (map f xs)
-All-map f P [] h = All-nil P
-All-map f P (x ∷ xs) h =
-    All-cons P (f x) (map f xs) (All-head (λ y. P (f y)) x xs h) (All-map f P xs (All-tail (λ y. P (f y)) x xs h))
 
 abbrev AreBelow : ℕ → List ℕ → Type 0
 AreBelow n ks = All (λ k. k < n) ks

@@ -11,13 +11,16 @@ use Rattle.std.proofs.lemmas.List.FromFn.{map-range_with_len_more}
 use Rattle.std.proofs.lemmas.Option.{slice_get_within, get_or_from_slice_get}
 use Rattle.staat_vec.specs.declared.vector.V3.{V3}
 use Rattle.staat_vec.specs.Vectors.{origin, plus, times}
-use Rattle.staat_model.proofs.Members.{here, there}
 use Rattle.staat_model.proofs.SetMembers.{has-single}
 use Rattle.staat_model.specs.Sets.{single}
 use Rattle.staat_model.specs.Plans.{Plan, leaf, split, parts_of}
 use Rattle.staat_explode.specs.declared.boxes.Bounds.{Bounds}
 use Rattle.staat_explode.specs.declared.shifted.Shifted.{Shifted}
 use Rattle.staat_explode.specs.Shifts.{moved_on, shifted_of, steps_apart, vector_of_part}
+use Rattle.staat_vec.proofs.Truth.{same_truth, or_false}
+use Rattle.staat_vec.proofs.Naturals.{same_from_test}
+use Rattle.staat_vec.proofs.Unique.{Contains-front}
+use Rattle.staat_vec.proofs.ListLaws.{Contains-there}
 
 pub shifts_more : (placed : List Shifted) (n : ℕ) (shifts : List V3) → shifts
     ≡ map (vector_of_part placed) (range_with_len 0 n) → shifts ++ vector_of_part placed n ∷ []
@@ -40,10 +43,6 @@ abbrev pub has_part : List Shifted → ℕ → Bool
 has_part [] q = false
 has_part (p ∷ ps) q = (p.part == q) || has_part ps q
 
-or_false : (b : Bool) → (b || false) ≡ b
-or_false true = refl
-or_false false = refl
-
 or_assoc : (a b c : Bool) → ((a || b) || c) ≡ (a || (b || c))
 or_assoc true b c = refl
 or_assoc false b c = refl
@@ -60,19 +59,11 @@ has_part-moved m d (x ∷ xs) q = ap (λ b. (x.part == q) || b) (has_part-moved 
 
 same_test : (p q : ℕ) → set.contains (single p) q ≡ (p == q)
 same_test p q =
-    by_truth (set.contains (single p) q) (p == q) (λ h. let e =
-    (has-single p q).0 h in test p q (sym e)) (λ h. (has-single p q).1 (sym (tested p q h)))
+    same_truth (set.contains (single p) q) (p == q) (λ h. let e =
+    (has-single p q).0 h in test p q (sym e)) (λ h. (has-single p q).1 (sym (same_from_test p q h)))
   where
-    by_truth : (a b : Bool) → (a ≡ true → b ≡ true) → (b ≡ true → a ≡ true) → a ≡ b
-    by_truth true b f g = sym (f refl)
-    by_truth false true f g = g refl
-    by_truth false false f g = refl
-
     test : (a b : ℕ) → a ≡ b → (a == b) ≡ true
     test a b e = grind arith
-
-    tested : (a b : ℕ) → (a == b) ≡ true → a ≡ b
-    tested a b e = grind arith
 
 -- a plan's list has the plan's parts
 pub has_part-plan : (boxes : List Bounds) (plan : Plan) (q : ℕ) → has_part (shifted_of boxes plan) q
@@ -91,19 +82,16 @@ pub stands : (ps : List Shifted) (q : ℕ) → has_part ps q ≡ true
 stands [] q h = absurd (false≢true h)
 stands (p ∷ ps) q h = go (p.part == q) refl h (stands ps q)
   where
-    tested : (a b : ℕ) → (a == b) ≡ true → a ≡ b
-    tested a b e = grind arith
-
     go : (b : Bool) → (p.part == q) ≡ b → (b || has_part ps q) ≡ true
         → (has_part ps q ≡ true → Contains ps (record { part = q; by = vector_of_part ps q }))
         → Contains (p ∷ ps) (record { part = q; by = if b then p.by else vector_of_part ps q })
     go true e k f =
-        let same = tested p.part q e in subst (λ n. Contains (p ∷ ps) (record {
+        let same = same_from_test p.part q e in subst (λ n. Contains (p ∷ ps) (record {
           part =
               n;
           by = p.by;
-        })) same (here p ps)
-    go false e k f = there p (record { part = q; by = vector_of_part ps q }) ps (f k)
+        })) same (Contains-front p ps)
+    go false e k f = Contains-there p (record { part = q; by = vector_of_part ps q }) ps (f k)
 
 -- ---- after a split
 

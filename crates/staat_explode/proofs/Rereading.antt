@@ -7,7 +7,6 @@ use Rattle.std.specs.Char.{is_ascii_digit}
 use Rattle.std.specs.List.{list_all, prefix_len}
 use Rattle.std.specs.Fmt.{signed_decimal}
 use Rattle.std.specs.Str.Parse.{digits_value}
-use Rattle.std.proofs.lemmas.Bool.Decides.{nat_tests}
 use Rattle.std.proofs.lemmas.Fmt.{length-decimal-le_wide}
 use Rattle.std.proofs.lemmas.List.Elements.{All-head, All-tail}
 use Rattle.staat_vec.specs.declared.vector.V3.{V3}
@@ -27,9 +26,12 @@ use Rattle.staat_off.specs.Reading.{word_or_short}
 use Rattle.staat_off.specs.Scan.{after_line, line_len}
 use Rattle.staat_off.specs.Words.{Word, is_plain}
 use Rattle.staat_explode.specs.Scenes.{face_line, numbers_line, off_text, point_line}
-use Rattle.staat_explode.proofs.WordTexts.{coordinate_read, decimal_digits, decimal_some, decimal_value, digits_plain}
+use Rattle.staat_explode.proofs.WordTexts.{coordinate_read, decimal_digits, decimal_some, digits_plain}
 use Rattle.staat_explode.proofs.WordTexts.{digits_tested, no_word_left, signed_plain, signed_some, word_behind_blank}
 use Rattle.staat_explode.proofs.WordTexts.{word_front}
+use Rattle.std.proofs.lemmas.Bool.{and_from}
+use Rattle.staat_vec.proofs.Naturals.{lt_test, le_test}
+use Rattle.staat_vec.proofs.Decimals.{decimal_value}
 
 -- from the bytes t a reader gives x and leaves u, wherever they stand in the file
 abbrev Gets : {A : Type 0} → Reader A → List ℕ → A → List ℕ → Type 0
@@ -94,17 +96,11 @@ short_is n small =
     let few = length-decimal-le_wide 7 n (omega arith) (omega arith) wide in
     let some = decimal_some n wide in
     tests (nat_lt 0 (length (decimal n))) (nat_le (length (decimal n)) 7) (list_all is_ascii_digit (decimal n)) (digits_value 10 (decimal n))
-    (below 0 (length (decimal n)) some) (within (length (decimal n)) 7 few) (digits_tested (decimal n) (decimal_digits n wide)) (decimal_value n wide)
+    (lt_test 0 (length (decimal n)) some) (le_test (length (decimal n)) 7 few) (digits_tested (decimal n) (decimal_digits n wide)) (decimal_value n wide)
   where
     tests : (a b c : Bool) (v : ℕ) → a ≡ true → b ≡ true → c ≡ true → v ≡ n
         → (if a && (b && c) then Some v else None) ≡ Some n
     tests a b c v e f g h = grind arith
-
-    below : (x y : ℕ) → x < y → nat_lt x y ≡ true
-    below x y h = grind (arith, nat_tests)
-
-    within : (x y : ℕ) → x ≤ y → nat_le x y ≡ true
-    within x y h = grind (arith, nat_tests)
 
 -- a number that passes a test is read
 accepted_gets : (r : Reader ℕ) (test : ℕ → Bool) (refusal : Word → OffRefusal) (n : ℕ) (s : List ℕ)
@@ -132,16 +128,10 @@ accepted_gets r test refusal n s small parted passes same at = (
       }))) (record { bytes = s; at = at + length (decimal n) })) passes,
 )
 
-at_most : (n m : ℕ) → n ≤ m → nat_le n m ≡ true
-at_most n m h = grind (arith, nat_tests)
-
-less : (n m : ℕ) → n < m → nat_lt n m ≡ true
-less n m h = grind (arith, nat_tests)
-
 count_gets : (n : ℕ) (s : List ℕ) → n ≤ MOST_COUNT → IsParted s → Gets count (decimal n ++ s) n s
 unfolding count
 count_gets n s small parted =
-    accepted_gets count (λ n. nat_le n MOST_COUNT) (λ w. BadCount w.at) n s small parted (at_most n MOST_COUNT small) (λ at. refl)
+    accepted_gets count (λ n. nat_le n MOST_COUNT) (λ w. BadCount w.at) n s small parted (le_test n MOST_COUNT small) (λ at. refl)
 
 count_skips : Skips count
 unfolding count
@@ -151,10 +141,7 @@ corner_count_gets : (n : ℕ) (s : List ℕ) → 1 ≤ n → n ≤ MOST_COUNT �
     → Gets corner_count (decimal n ++ s) n s
 unfolding corner_count
 corner_count_gets n s some small parted =
-    accepted_gets corner_count (λ n. nat_le 1 n && nat_le n MOST_COUNT) (λ w. BadCount w.at) n s small parted (both (nat_le 1 n) (nat_le n MOST_COUNT) (at_most 1 n some) (at_most n MOST_COUNT small)) (λ at. refl)
-  where
-    both : (a b : Bool) → a ≡ true → b ≡ true → (a && b) ≡ true
-    both a b e f = grind arith
+    accepted_gets corner_count (λ n. nat_le 1 n && nat_le n MOST_COUNT) (λ w. BadCount w.at) n s small parted (and_from (nat_le 1 n) (nat_le n MOST_COUNT) (le_test 1 n some) (le_test n MOST_COUNT small)) (λ at. refl)
 
 corner_count_skips : Skips corner_count
 unfolding corner_count
@@ -164,7 +151,7 @@ index_gets : (vertices n : ℕ) (s : List ℕ) → n < vertices → vertices ≤
     → Gets (index vertices) (decimal n ++ s) n s
 unfolding index
 index_gets vertices n s lt small parted =
-    accepted_gets (index vertices) (λ n. nat_lt n vertices) (λ w. BadIndex w.at) n s (omega arith) parted (less n vertices lt) (λ at. refl)
+    accepted_gets (index vertices) (λ n. nat_lt n vertices) (λ w. BadIndex w.at) n s (omega arith) parted (lt_test n vertices lt) (λ at. refl)
 
 index_skips : (vertices : ℕ) → Skips (index vertices)
 unfolding index

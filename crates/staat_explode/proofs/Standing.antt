@@ -9,7 +9,6 @@ use Rattle.std.proofs.lemmas.Int.{fold-int_min_reached}
 use Rattle.std.proofs.lemmas.List.Elements.{All-contains, All-cons, Contains-append_cases}
 use Rattle.staat_vec.specs.declared.vector.V3.{V3}
 use Rattle.staat_vec.specs.Vectors.{plus, times}
-use Rattle.staat_model.proofs.Members.{here, there}
 use Rattle.staat_model.specs.Plans.{Plan, leaf, split}
 use Rattle.staat_explode.specs.declared.axis.Axis.{Axis}
 use Rattle.staat_explode.specs.declared.axis.Axis.TheVariants.{X, Y, Z}
@@ -21,38 +20,24 @@ use Rattle.staat_explode.specs.Shifts.{ArePast, axis_of, box_at, high_along, hig
 use Rattle.staat_explode.specs.Shifts.{shifted_of, steps_apart}
 use Rattle.staat_explode.specs.Sizes.{IsShiftable}
 use Rattle.staat_explode.proofs.Stepping.{past}
+use Rattle.staat_vec.proofs.Unique.{Contains-nothing, Contains-front}
+use Rattle.staat_vec.proofs.ListLaws.{Contains-map, Contains-from_map, Contains-there}
 
 -- ---- members
-
-contains_nil : {X : Type 0} (x : X) → Contains [] x → ⊥
-contains_nil x h = absurd (omega (arith, h.1))
 
 contains_cons : {X : Type 0} (y x : X) (xs : List X) → Contains (y ∷ xs) x → (y ≡ x) ⊎ Contains xs x
 contains_cons y x xs (zero, lt, e) = inl e
 contains_cons y x xs (suc k, lt, e) = inr (k, omega arith, e)
 
-map_there : {X Y : Type 0} (f : X → Y) (xs : List X) (x : X) → Contains xs x → Contains (map f xs) (f x)
-map_there f [] x h = absurd (contains_nil x h)
-map_there f (y ∷ xs) x h =
-    elim (contains_cons y x xs h) [ inl e ↦ subst (λ z. Contains (f y ∷ map f xs) (f z)) e (here (f y) (map f xs)) | inr k ↦ there (f y) (f x) (map f xs) (map_there f xs x k) ]
-
-map_back : {X Y : Type 0} (f : X → Y) (xs : List X) (y : Y) → Contains (map f xs) y → (x : X) × Contains xs x
-    × (f x ≡ y)
-map_back f [] y h = absurd (contains_nil y h)
-map_back f (z ∷ xs) y h = elim (contains_cons (f z) y (map f xs) h) [
-  | inl e ↦ (z, here z xs, e)
-  | inr k ↦ let r = map_back f xs y k in (r.0, there z r.0 xs r.1, r.2)
-]
-
 -- ---- the least and the greatest
 
 least_le : (zs : List ℤ) (z : ℤ) → Contains zs z → least zs ≤ℤ z
-least_le [] z h = absurd (contains_nil z h)
+least_le [] z h = absurd (Contains-nothing z h)
 least_le (y ∷ zs) z h = let bound =
     fold-int_min_bounds y zs (fold int_min y zs) refl in All-contains (λ x. fold int_min y zs ≤ℤ x) (y ∷ zs) z (All-cons (λ x. fold int_min y zs ≤ℤ x) y zs bound.0 bound.1) h
 
 le_greatest : (zs : List ℤ) (z : ℤ) → Contains zs z → z ≤ℤ greatest zs
-le_greatest [] z h = absurd (contains_nil z h)
+le_greatest [] z h = absurd (Contains-nothing z h)
 le_greatest (y ∷ zs) z h = let bound =
     fold-int_max_bounds y zs (fold int_max y zs) refl in All-contains (λ x. x ≤ℤ fold int_max y zs) (y ∷ zs) z (All-cons (λ x. x ≤ℤ fold int_max y zs) y zs bound.0 bound.1) h
 
@@ -60,13 +45,13 @@ lowest_le : (boxes : List Bounds) (axis : Axis) (ps : List Shifted) (p : Shifted
     → lowest boxes axis ps ≤ℤ low_along boxes axis p
 unfolding lowest
 lowest_le boxes axis ps p h =
-    least_le (map (low_along boxes axis) ps) (low_along boxes axis p) (map_there (low_along boxes axis) ps p h)
+    least_le (map (low_along boxes axis) ps) (low_along boxes axis p) (Contains-map (low_along boxes axis) ps p h)
 
 le_highest : (boxes : List Bounds) (axis : Axis) (ps : List Shifted) (p : Shifted) → Contains ps p
     → high_along boxes axis p ≤ℤ highest boxes axis ps
 unfolding highest
 le_highest boxes axis ps p h =
-    le_greatest (map (high_along boxes axis) ps) (high_along boxes axis p) (map_there (high_along boxes axis) ps p h)
+    le_greatest (map (high_along boxes axis) ps) (high_along boxes axis p) (Contains-map (high_along boxes axis) ps p h)
 
 -- ---- two parts
 
@@ -119,15 +104,15 @@ pub all_apart : (boxes : List Bounds) (n : ℕ) (plan : Plan) → IsShiftable n 
     → Contains (shifted_of boxes plan) x → Contains (shifted_of boxes plan) y → x.part ≢ y.part
     → Parted boxes x y
 all_apart boxes n (leaf p) h x y hx hy differ =
-    absurd (elim (contains_cons _ x [] hx) [ inl e ↦ elim (contains_cons _ y [] hy) [ inl f ↦ differ (ap (λ (q : Shifted). q.part) (sym e ∙ f)) | inr k ↦ contains_nil y k ] | inr k ↦ contains_nil x k ])
+    absurd (elim (contains_cons _ x [] hx) [ inl e ↦ elim (contains_cons _ y [] hy) [ inl f ↦ differ (ap (λ (q : Shifted). q.part) (sym e ∙ f)) | inr k ↦ Contains-nothing y k ] | inr k ↦ Contains-nothing x k ])
 all_apart boxes n (split d moved rest) h x y hx hy differ =
     let m = steps_apart boxes d (shifted_of boxes moved) (shifted_of boxes rest) in
     let beyond = past boxes d (shifted_of boxes moved) (shifted_of boxes rest) h.0 in
     let f = moved_on m d in
     elim (Contains-append_cases (map f (shifted_of boxes moved)) (shifted_of boxes rest) x hx) [
       | inl a ↦ let u =
-          map_back f (shifted_of boxes moved) x a in elim (Contains-append_cases (map f (shifted_of boxes moved)) (shifted_of boxes rest) y hy) [
-            | inl b ↦ let v = map_back f (shifted_of boxes moved) y b in
+          Contains-from_map f (shifted_of boxes moved) x a in elim (Contains-append_cases (map f (shifted_of boxes moved)) (shifted_of boxes rest) y hy) [
+            | inl b ↦ let v = Contains-from_map f (shifted_of boxes moved) y b in
                 let inner =
                 all_apart boxes n moved h.1 u.0 v.0 u.1 v.1 (λ e. differ (ap (λ (q : Shifted). q.part) (sym u.2) ∙ e ∙ ap (λ (q : Shifted). q.part) v.2)) in
                 subst (λ q. Parted boxes x q) v.2 (subst (λ q. Parted boxes q (f v.0)) u.2 (both_moved boxes m d u.0 v.0 inner))
@@ -135,7 +120,7 @@ all_apart boxes n (split d moved rest) h x y hx hy differ =
           ]
       | inr a ↦ elim (Contains-append_cases (map f (shifted_of boxes moved)) (shifted_of boxes rest) y hy) [
         | inl b ↦ let v =
-            map_back f (shifted_of boxes moved) y b in turned boxes y x (subst (λ q. Parted boxes q x) v.2 (across boxes d (shifted_of boxes moved) (shifted_of boxes rest) m v.0 x beyond v.1 a))
+            Contains-from_map f (shifted_of boxes moved) y b in turned boxes y x (subst (λ q. Parted boxes q x) v.2 (across boxes d (shifted_of boxes moved) (shifted_of boxes rest) m v.0 x beyond v.1 a))
         | inr b ↦ all_apart boxes n rest h.2 x y a b differ
       ]
     ]
@@ -157,11 +142,11 @@ no_common a b x (axis, inr h) p q = let u = p axis in let v = q axis in absurd (
 
 least_there : (z : ℤ) (zs : List ℤ) → Contains (z ∷ zs) (fold int_min z zs)
 least_there z zs =
-    elim (fold-int_min_reached z zs (fold int_min z zs) refl) [ inl e ↦ subst (λ x. Contains (z ∷ zs) x) (sym e) (here z zs) | inr h ↦ there z (fold int_min z zs) zs h ]
+    elim (fold-int_min_reached z zs (fold int_min z zs) refl) [ inl e ↦ subst (λ x. Contains (z ∷ zs) x) (sym e) (Contains-front z zs) | inr h ↦ Contains-there z (fold int_min z zs) zs h ]
 
 greatest_there : (z : ℤ) (zs : List ℤ) → Contains (z ∷ zs) (fold int_max z zs)
 greatest_there z zs =
-    elim (fold-int_max_reached z zs (fold int_max z zs) refl) [ inl e ↦ subst (λ x. Contains (z ∷ zs) x) (sym e) (here z zs) | inr h ↦ there z (fold int_max z zs) zs h ]
+    elim (fold-int_max_reached z zs (fold int_max z zs) refl) [ inl e ↦ subst (λ x. Contains (z ∷ zs) x) (sym e) (Contains-front z zs) | inr h ↦ Contains-there z (fold int_max z zs) zs h ]
 
 component_by : (f : Axis → ℤ) (axis : Axis) → component axis (by_component f) ≡ f axis
 component_by f X = refl
@@ -172,8 +157,8 @@ pub box_least : (points : List V3) → 1 ≤ length points → IsBoxOf points (b
 unfolding box_of
 box_least [] h = absurd (omega arith)
 box_least (v ∷ vs) h = record {
-  low = λ axis p k. subst (λ z. z ≤ℤ component axis p) (sym (component_by (λ a. least (map (component a) (v ∷ vs))) axis)) (least_le (map (component axis) (v ∷ vs)) (component axis p) (map_there (component axis) (v ∷ vs) p k));
-  high = λ axis p k. subst (λ z. component axis p ≤ℤ z) (sym (component_by (λ a. greatest (map (component a) (v ∷ vs))) axis)) (le_greatest (map (component axis) (v ∷ vs)) (component axis p) (map_there (component axis) (v ∷ vs) p k));
+  low = λ axis p k. subst (λ z. z ≤ℤ component axis p) (sym (component_by (λ a. least (map (component a) (v ∷ vs))) axis)) (least_le (map (component axis) (v ∷ vs)) (component axis p) (Contains-map (component axis) (v ∷ vs) p k));
+  high = λ axis p k. subst (λ z. component axis p ≤ℤ z) (sym (component_by (λ a. greatest (map (component a) (v ∷ vs))) axis)) (le_greatest (map (component axis) (v ∷ vs)) (component axis p) (Contains-map (component axis) (v ∷ vs) p k));
   lowest = λ axis. subst (λ z. Contains (map (component axis) (v ∷ vs)) z) (sym (component_by (λ a. least (map (component a) (v ∷ vs))) axis)) (least_there (component axis v) (map (component axis) vs));
   highest = λ axis. subst (λ z. Contains (map (component axis) (v ∷ vs)) z) (sym (component_by (λ a. greatest (map (component a) (v ∷ vs))) axis)) (greatest_there (component axis v) (map (component axis) vs));
 }

@@ -16,15 +16,10 @@ use Rattle.staat_explode.specs.declared.boxes.Bounds.{Bounds}
 use Rattle.staat_explode.specs.Shifts.{shifted_of, steps_apart, vector_of_part}
 use Rattle.staat_explode.specs.Splits.{SplitAt, node_count, splits_from, step_of, sum_of}
 use Rattle.staat_explode.proofs.Looking.{has_part-plan, vector_moved}
+use Rattle.staat_vec.proofs.VectorLaws.{plus_origin, plus_assoc}
 
 zero_plus : (v : V3) → plus origin v ≡ v
 zero_plus v = same_vector _ _ (omega (arith, ints)) (omega (arith, ints)) (omega (arith, ints))
-
-plus_zero : (v : V3) → plus v origin ≡ v
-plus_zero v = same_vector _ _ (omega (arith, ints)) (omega (arith, ints)) (omega (arith, ints))
-
-plus_assoc : (u v w : V3) → plus u (plus v w) ≡ plus (plus u v) w
-plus_assoc u v w = same_vector _ _ (omega (arith, ints)) (omega (arith, ints)) (omega (arith, ints))
 
 sum-append : (m : SplitAt → ℕ) (q : ℕ) (xs ys : List SplitAt) → sum_of m q (xs ++ ys)
     ≡ plus (sum_of m q xs) (sum_of m q ys)
@@ -109,7 +104,7 @@ vector_sum boxes parts w node (split d moved rest) h q =
           rest = rest;
         })) d else origin) e in
         (λ i. plus (f i) (times (steps_of boxes (record { node = node; d = d; moved = moved; rest = rest })) d))
-        ∙ ap (plus (sum_of (steps_of boxes) q (splits_from (node + 1) moved))) (sym (zero_plus (plus (times (steps_of boxes (record { node = node; d = d; moved = moved; rest = rest })) d) origin) ∙ plus_zero (times (steps_of boxes (record { node = node; d = d; moved = moved; rest = rest })) d)))
+        ∙ ap (plus (sum_of (steps_of boxes) q (splits_from (node + 1) moved))) (sym (zero_plus (plus (times (steps_of boxes (record { node = node; d = d; moved = moved; rest = rest })) d) origin) ∙ plus_origin (times (steps_of boxes (record { node = node; d = d; moved = moved; rest = rest })) d)))
         ∙ (λ i. plus (sum_of (steps_of boxes) q (splits_from (node + 1) moved)) (plus (sym none i) (plus (sym step i) origin)))
     go false e f g =
         let none = sum-none (steps_of boxes) q (node + 1) moved e in
@@ -122,7 +117,7 @@ vector_sum boxes parts w node (split d moved rest) h q =
           rest = rest;
         })) d else origin) e in
         g
-        ∙ sym (plus_zero (sum_of (steps_of boxes) q (splits_from (node + 1 + node_count moved) rest)))
+        ∙ sym (plus_origin (sum_of (steps_of boxes) q (splits_from (node + 1 + node_count moved) rest)))
         ∙ sym (zero_plus (plus (sum_of (steps_of boxes) q (splits_from (node + 1 + node_count moved) rest)) origin))
         ∙ (λ i. plus (sym none i) (plus (sum_of (steps_of boxes) q (splits_from (node + 1 + node_count moved) rest)) (sym (zero_plus origin) i)))
         ∙ (λ i. plus (sum_of (steps_of boxes) q (splits_from (node + 1) moved)) (plus (sum_of (steps_of boxes) q (splits_from (node + 1 + node_count moved) rest)) (plus (sym step i) origin)))

@@ -17,10 +17,11 @@ use Rattle.staat_explode.specs.Boxes.{box_of, boxes_of, points_of}
 use Rattle.staat_explode.specs.Shifts.{box_at, shifted_of, shifts_of, vector_of_part}
 use Rattle.staat_explode.specs.Sizes.{IsShifted}
 use Rattle.staat_explode.specs.Splits.{AreSums}
-use Rattle.staat_explode.proofs.Leaves.{parts_are, placeable_below}
+use Rattle.staat_explode.proofs.Leaves.{placeable_below}
 use Rattle.staat_explode.proofs.Looking.{has_part, has_part-plan, no_vector, shift_is, stands}
 use Rattle.staat_explode.proofs.Standing.{all_apart, parted_boxes}
 use Rattle.staat_explode.proofs.Summing.{steps_of, vector_sum}
+use Rattle.staat_model.proofs.LeavingLemmas.{good_parts}
 
 module _ (parts : List Part) (plan : Plan) (good : IsGood parts (below (length parts)) plan) where
   pub sums : AreSums plan (shifts_of parts plan)
@@ -31,7 +32,7 @@ module _ (parts : List Part) (plan : Plan) (good : IsGood parts (below (length p
 
   there_is : (part : ℕ) → part < length parts → has_part (shifted_of (boxes_of parts) plan) part ≡ true
   there_is part lt =
-      has_part-plan (boxes_of parts) plan part ∙ subst (λ (s : PartSet). Has s part) (parts_are parts (below (length parts)) plan good) ((has-below (length parts) part).1 lt)
+      has_part-plan (boxes_of parts) plan part ∙ subst (λ (s : PartSet). Has s part) (good_parts parts (below (length parts)) plan good) ((has-below (length parts) part).1 lt)
 
   pub apart : StandApart parts (shifts_of parts plan)
   apart p q v w ep eq differ =

@@ -8,7 +8,7 @@ use Rattle.std.specs.Char.{is_ascii_digit}
 use Rattle.std.specs.List.{list_all, prefix_len}
 use Rattle.std.specs.Fmt.{signed_decimal}
 use Rattle.std.specs.Str.Parse.{AllDigits, digits_value}
-use Rattle.std.proofs.lemmas.Bool.{false≢true}
+use Rattle.std.proofs.lemmas.Bool.{false≢true, and_from}
 use Rattle.std.proofs.lemmas.Bool.Decides.{nat_tests}
 use Rattle.std.proofs.lemmas.Fmt.{decimal_is_IsNumeral_wide, length-decimal-le_wide}
 use Rattle.std.proofs.lemmas.Str.Parse.{digit_at}
@@ -24,6 +24,7 @@ use Rattle.staat_off.specs.Values.{IsValueOf, IsMagnitude, signed}
 use Rattle.staat_off.specs.Scan.{gap, next_word, word_in_front}
 use Rattle.staat_off.specs.Words.{is_plain}
 use Rattle.staat_off.proofs.Decisions.{spelled_decides}
+use Rattle.staat_vec.proofs.Decimals.{decimal_value}
 
 -- ---- bytes
 
@@ -47,19 +48,13 @@ pub digits_tested : (ds : List ℕ) → AllDigits 10 ds → list_all is_ascii_di
 digits_tested [] h = refl
 digits_tested (c ∷ cs) h =
     let range = digit_at (c ∷ cs) 0 h (omega arith) in
-    all_cons (is_ascii_digit c) (list_all is_ascii_digit cs) (digit_test c range.0 range.1) (digits_tested cs h.1)
-  where
-    all_cons : (a b : Bool) → a ≡ true → b ≡ true → (a && b) ≡ true
-    all_cons a b e f = grind arith
+    and_from (is_ascii_digit c) (list_all is_ascii_digit cs) (digit_test c range.0 range.1) (digits_tested cs h.1)
 
 pub digits_plain : (ds : List ℕ) → AllDigits 10 ds → list_all is_plain ds ≡ true
 digits_plain [] h = refl
 digits_plain (c ∷ cs) h =
     let range = digit_at (c ∷ cs) 0 h (omega arith) in
-    all_cons (is_plain c) (list_all is_plain cs) (high_plain c (omega (arith, range.0))) (digits_plain cs h.1)
-  where
-    all_cons : (a b : Bool) → a ≡ true → b ≡ true → (a && b) ≡ true
-    all_cons a b e f = grind arith
+    and_from (is_plain c) (list_all is_plain cs) (high_plain c (omega (arith, range.0))) (digits_plain cs h.1)
 
 -- ---- numbers
 
@@ -68,9 +63,6 @@ decimal_digits n small = (decimal_is_IsNumeral_wide n small).0.1
 
 pub decimal_some : (n : ℕ) → n < 10 ^ 64 → 0 < length (decimal n)
 decimal_some n small = omega (arith, (decimal_is_IsNumeral_wide n small).0.0)
-
-pub decimal_value : (n : ℕ) → n < 10 ^ 64 → digits_value 10 (decimal n) ≡ n
-decimal_value n small = (decimal_is_IsNumeral_wide n small).1
 
 pub signed_plain : (z : ℤ) → unsigned_abs z < 10 ^ 64 → list_all is_plain (signed_decimal z) ≡ true
 signed_plain (pos n) small = digits_plain (decimal n) (decimal_digits n small)

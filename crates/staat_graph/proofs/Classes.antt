@@ -10,6 +10,11 @@ use Rattle.staat_graph.proofs.Arcs.{arc_or}
 use Rattle.staat_graph.proofs.Finite.{some_least}
 use Rattle.staat_graph.proofs.Reaching.{one_group, some_group}
 use Rattle.staat_graph.proofs.Walking.{walk_ends}
+use Rattle.staat_vec.proofs.Naturals.{lt_or_le, lt_one_more_cases}
+use Rattle.staat_vec.proofs.Unique.{Contains-nothing}
+
+pub one_least : (s : PartSet) (p q : ℕ) → IsLeastOf s p → IsLeastOf s q → p ≡ q
+one_least s p q a b = let l : p ≤ q = a.least q b.has in let r : q ≤ p = b.least p a.has in omega (arith, l, r)
 
 module _ (R : ℕ → ℕ → Type 0) (w : PartSet) where
   -- the groups with a part below n, in order, and the parts of w that are in none of them
@@ -20,29 +25,17 @@ module _ (R : ℕ → ℕ → Type 0) (w : PartSet) where
     pub rest_in : (q : ℕ) → Has rest q → Has w q × ((s : PartSet) → Contains groups s → Has s q → ⊥)
     pub rest_all : (q : ℕ) → Has w q → ((s : PartSet) → Contains groups s → Has s q → ⊥) → Has rest q
 
-  nothing_listed : (s : PartSet) → Contains [] s → ⊥
-  nothing_listed s c = let lt = c.1 in absurd (omega arith)
-
   pub none_below : Below 0 [] w
   none_below = record {
-    each = λ s c. absurd (nothing_listed s c);
+    each = λ s c. absurd (Contains-nothing s c);
     all = λ s p lt. absurd (omega arith);
     in_order = tt;
-    rest_in = λ q h. (h, λ s c. absurd (nothing_listed s c));
+    rest_in = λ q h. (h, λ s c. absurd (Contains-nothing s c));
     rest_all = λ q h none. h;
   }
 
-  below_or : (q n : ℕ) → q < n + 1 → (q < n) ⊎ (q ≡ n)
-  below_or q n lt = grind arith
-
-  less_or : (q n : ℕ) → (q < n) ⊎ (n ≤ q)
-  less_or q n = grind arith
-
-  one_least : (s : PartSet) (p q : ℕ) → IsLeastOf s p → IsLeastOf s q → p ≡ q
-  one_least s p q a b = let l : p ≤ q = a.least q b.has in let r : q ≤ p = b.least p a.has in omega arith
-
   pub order_push : (groups : List PartSet) (s : PartSet) → InOrder groups → ((t : PartSet) (p q : ℕ) → Contains groups t → IsLeastOf t p → IsLeastOf s q → p < q) → InOrder (groups ++ s ∷ [])
-  order_push [] s o f = ((λ t p q c a b. absurd (nothing_listed t c)), tt)
+  order_push [] s o f = ((λ t p q c a b. absurd (Contains-nothing t c)), tt)
   order_push (x ∷ groups) s o f = (
     (λ t p q c a b. ⊎_elim (λ m. o.0 t p q m a b) (λ e. f x p q (0, omega arith, refl) a (subst (λ z. IsLeastOf z q) (sym e) b)) (Contains-push_cases groups s t c)),
     order_push groups s o.1 (λ t p q c a b. f t p q (suc c.0, (let lt = c.1 in omega arith), c.2) a b),
@@ -52,14 +45,14 @@ module _ (R : ℕ → ℕ → Type 0) (w : PartSet) where
   pub below_next : (n : ℕ) (groups : List PartSet) (rest : PartSet) → Below n groups rest → (Has rest n → ⊥) → Below (n + 1) groups rest
   below_next n groups rest b out = record {
     each = λ s c. let e = b.each s c in (e.0, (e.1.0, (let lt = e.1.1 in omega arith), e.1.2));
-    all = λ s p lt group h. ⊎_elim (λ l. b.all s p l group h) (λ e. own s group (subst (Has s) e h)) (below_or p n lt);
+    all = λ s p lt group h. ⊎_elim (λ l. b.all s p l group h) (λ e. own s group (subst (Has s) e h)) (lt_one_more_cases p n lt);
     in_order = b.in_order;
     rest_in = b.rest_in;
     rest_all = b.rest_all;
   }
     where
       listed_or : (L : List PartSet) → ((t : PartSet) × Contains L t × Has t n) ⊎ ((t : PartSet) → Contains L t → Has t n → ⊥)
-      listed_or [] = inr (λ t c h. nothing_listed t c)
+      listed_or [] = inr (λ t c h. Contains-nothing t c)
       listed_or (x ∷ L) = go (member_or x n) (listed_or L)
         where
           not_in : (Has x n → ⊥) → ((t : PartSet) → Contains L t → Has t n → ⊥) → (t : PartSet) → Contains (x ∷ L) t → Has t n → ⊥
@@ -81,10 +74,10 @@ module _ (R : ℕ → ℕ → Type 0) (w : PartSet) where
   pub below_more : (n : ℕ) (groups : List PartSet) (rest more : PartSet) (s : PartSet) → Below n groups rest → Has rest n → IsGroup R w s → Has s n → ((q : ℕ) → (Has more q → Has rest q × (Has s q → ⊥)) × (Has rest q × (Has s q → ⊥) → Has more q)) → Below (n + 1) (groups ++ s ∷ []) more
   below_more n groups rest more s b h group own members =
       let new : Contains groups s → ⊥ = λ c. (b.rest_in n h).1 s c own in
-      let least : IsLeastOf s n = record { has = own; least = λ q m. ⊎_elim (λ lt. absurd (new (b.all s q lt group m))) (λ le. le) (less_or q n) } in
+      let least : IsLeastOf s n = record { has = own; least = λ q m. ⊎_elim (λ lt. absurd (new (b.all s q lt group m))) (λ le. le) (lt_or_le q n) } in
       record {
         each = λ t c. ⊎_elim {C = IsGroup R w t × ((p : ℕ) × (p < n + 1) × IsLeastOf t p)} (λ m. let e = b.each t m in (e.0, (e.1.0, (let lt = e.1.1 in omega arith), e.1.2))) (λ e. subst (λ z. IsGroup R w z × ((p : ℕ) × (p < n + 1) × IsLeastOf z p)) e (group, (n, omega arith, least))) (Contains-push_cases groups s t c);
-        all = λ t p lt is m. ⊎_elim (λ l. Contains-append_left groups (s ∷ []) t (b.all t p l is m)) (λ e. subst (Contains (groups ++ s ∷ [])) (one_group R w s t n group is own (subst (Has t) e m)) (Contains-push groups s)) (below_or p n lt);
+        all = λ t p lt is m. ⊎_elim (λ l. Contains-append_left groups (s ∷ []) t (b.all t p l is m)) (λ e. subst (Contains (groups ++ s ∷ [])) (one_group R w s t n group is own (subst (Has t) e m)) (Contains-push groups s)) (lt_one_more_cases p n lt);
         in_order = order_push groups s b.in_order (λ t p q c x y. let e = b.each t c in let ep : p ≡ e.1.0 = one_least t p e.1.0 x e.1.2 in let eq : q ≡ n = one_least s q n y least in let lt = e.1.1 in omega (arith, ep, eq, lt));
         rest_in = λ q m. let t = (members q).0 m in ((b.rest_in q t.0).0, λ u c hu. ⊎_elim (λ k. (b.rest_in q t.0).1 u k hu) (λ e. t.1 (subst (λ (z : PartSet). Has z q) (sym e) hu)) (Contains-push_cases groups s u c));
         rest_all = λ q hw none. (members q).1 (b.rest_all q hw (λ u c. none u (Contains-append_left groups (s ∷ []) u c)), λ hs. none s (Contains-push groups s) hs);

@@ -1,5 +1,5 @@
 -- Finite sets of numbers: a search of the members, and how many there are.
-use Rattle.std.proofs.Common.{◌≡◌, ◌⊎◌, ℕ, zero, suc, ◌+◌, ◌-◌, ◌<◌, ◌≤◌, Bool, true, false, List, [], ◌∷◌, arith, ap, sym, ◌∙◌, subst, refl, inl, inr, ⊎_elim, cond, true≢false}
+use Rattle.std.proofs.Common.{◌≡◌, ◌⊎◌, ℕ, zero, suc, ◌+◌, ◌-◌, ◌<◌, ◌≤◌, Bool, true, false, List, [], ◌∷◌, arith, ap, sym, ◌∙◌, subst, refl, inl, inr, ⊎_elim, true≢false}
 use Rattle.std.specs.Prelude.{◌&&◌, ◌||◌, nat_eq, not}
 use Rattle.std.proofs.lemmas.Bool.Decides.{nat_tests}
 use Rattle.std.specs.List.{list_any}
@@ -9,12 +9,11 @@ use Rattle.std.specs.FinSet as set
 use Rattle.staat_model.specs.declared.set.PartSet.{PartSet}
 use Rattle.staat_model.specs.Sets.{Has, IsLeastOf, IsNonempty, IsSubset}
 use Rattle.staat_model.proofs.SetMembers.{has-empty, has-insert}
-use Rattle.staat_model.proofs.SetSizes.{len_more}
+use Rattle.staat_model.proofs.SetSizes.{len_more, len_remove}
 use Rattle.staat_model.proofs.SetWords.{same_members}
 use Rattle.staat_model.proofs.FreeSides.{member_or}
-
-pub same_or : (a b : ℕ) → (a ≡ b) ⊎ (a ≡ b → ⊥)
-same_or a b = grind arith
+use Rattle.staat_model.proofs.RestrictLemmas.{nonempty_or}
+use Rattle.staat_vec.proofs.Naturals.{le_from_not_lt}
 
 -- ---- a search
 
@@ -56,13 +55,6 @@ module _ (P : ℕ → Type 0) (dec : (q : ℕ) → P q ⊎ (P q → ⊥)) where
       go (inl t) = inl (t.0, set.contains-items s t.0 ∙ t.1, t.2)
       go (inr none) = inr (λ q h p. none q (sym (set.contains-items s q) ∙ h) p)
 
-pub nonempty_or : (s : PartSet) → IsNonempty s ⊎ ((q : ℕ) → Has s q → ⊥)
-nonempty_or s = go (some_or_none (λ _. Unit {0}) (λ _. inl tt) s)
-  where
-    go : ((q : ℕ) × Has s q × Unit {0}) ⊎ ((q : ℕ) → Has s q → Unit {0} → ⊥) → IsNonempty s ⊎ ((q : ℕ) → Has s q → ⊥)
-    go (inl t) = inl (t.0, t.1)
-    go (inr none) = inr (λ q h. none q h tt)
-
 -- ---- how many members
 
 has-remove : (s : PartSet) (p q : ℕ) → (q ≡ p → ⊥) → Has s q → Has (set.remove s p) q
@@ -78,9 +70,6 @@ has-of-remove s p q h = go (nat_eq q p) refl (sym (set.contains-remove nat_cmp_t
     go : (b : Bool) → nat_eq q p ≡ b → (not b && set.contains s q) ≡ true → (q ≡ p → ⊥) × Has s q
     go true e h = absurd (true≢false (sym h))
     go false e h = let ne : q ≡ p → ⊥ = grind (arith, nat_tests) in (ne, h)
-
-len_remove : (s : PartSet) (p : ℕ) → Has s p → set.len (set.remove s p) ≡ set.len s - 1
-len_remove s p h = set.len-remove nat_cmp_total s p ∙ ap (λ b. cond b (set.len s - 1) (set.len s)) h
 
 pub len_some : (s : PartSet) (p : ℕ) → Has s p → 0 < set.len s
 len_some s p h = go (set.len s) refl
@@ -126,12 +115,9 @@ same_by_len s t h le = same_members s t h (λ q in_t. ⊎_elim (λ m. m) (λ out
 lower_or : (p q : ℕ) → (q < p) ⊎ (q < p → ⊥)
 lower_or p q = grind arith
 
-not_lower : (p q : ℕ) → (q < p → ⊥) → p ≤ q
-not_lower p q out = grind arith
-
 least_step : (s : PartSet) (p : ℕ) → Has s p → ((q : ℕ) → Has s q → q < p → (r : ℕ) × IsLeastOf s r) → ((q : ℕ) × Has s q × (q < p)) ⊎ ((q : ℕ) → Has s q → q < p → ⊥) → (r : ℕ) × IsLeastOf s r
 least_step s p h next (inl t) = next t.0 t.1 t.2
-least_step s p h next (inr none) = (p, record { has = h; least = λ q m. not_lower p q (none q m) })
+least_step s p h next (inr none) = (p, record { has = h; least = λ q m. le_from_not_lt p q (none q m) })
 
 least_below : (n : ℕ) (s : PartSet) (p : ℕ) → Has s p → p < n → (r : ℕ) × IsLeastOf s r
 least_below zero s p h lt = absurd (omega arith)

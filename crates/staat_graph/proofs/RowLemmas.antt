@@ -1,14 +1,10 @@
 -- Rows of marks: their marks as arcs, the walks that they tell, and the groups of parts that reach each other.
 use Rattle.std.proofs.Common.{◌≡◌, ◌∙◌, ◌⊎◌, ◌↔◌, inl, inr, ⊎_elim, ℕ, zero, suc, ◌+◌, ◌*◌, ◌<◌, ◌≤◌, Bool, true, false, List, [], ◌∷◌, ◌++◌, All, Contains, IsTrue, arith, ap, refl, sym, subst, get_or, length, map}
 use Rattle.std.specs.Prelude.{◌/◌, ◌%◌, ◌&&◌, ◌||◌, slice_index}
-use Rattle.std.specs.Cmp.{nat_cmp_is}
 use Rattle.std.specs.Int.{bit_at}
-use Rattle.std.specs.List.{AllByRecursion}
 use Rattle.std.specs.List.Sorted.{IsStrictlySortedBy}
 use Rattle.std.specs.Ordering.{nat_cmp}
-use Rattle.std.specs.declared.cmp.Ordering.TheVariants.{Less}
 use Rattle.std.proofs.lemmas.Bool.{false≢true}
-use Rattle.std.proofs.lemmas.Cmp.{ranked}
 use Rattle.std.proofs.lemmas.List.{get_or_past, map-append}
 use Rattle.std.proofs.lemmas.List.Elements.{All-push, Contains-append_left, Contains-push, Contains-push_cases}
 use Rattle.std.proofs.lemmas.Nat.Bits.{bit_at_lowest, bit_at-suc, bit_at-zero}
@@ -21,11 +17,14 @@ use Rattle.staat_model.proofs.Members.{All-from_members}
 use Rattle.staat_model.proofs.SetBits.{has-below}
 use Rattle.staat_model.proofs.SetListings.{has-set_of}
 use Rattle.staat_graph.specs.Graphs.{AreGroups, HasArc, InOrder, IsGroup, Walks, along, here}
-use Rattle.staat_graph.specs.Rows.{AllLeadOn, AreAscendingBelow, AreWalkRows, HasMark, IsMutualMark, IsSquare, LeadsOn, row_word}
-use Rattle.staat_graph.proofs.Classes.{order_push}
+use Rattle.staat_graph.specs.Rows.{AllLeadOn, AreAscendingBelow, AreWalkRows, HasMark, IsMutualMark, IsSquare, row_word}
+use Rattle.staat_graph.proofs.Classes.{order_push, one_least}
 use Rattle.staat_graph.proofs.Finite.{some_least}
 use Rattle.staat_graph.proofs.Reaching.{one_group}
 use Rattle.staat_graph.proofs.Walking.{joined, walk_ends}
+use Rattle.staat_vec.proofs.Naturals.{lt_or_le, lt_one_more_cases}
+use Rattle.staat_vec.proofs.Truth.{or_false}
+use Rattle.staat_vec.proofs.Comparisons.{sorted_push, above_first}
 
 -- ---- marks as bits
 
@@ -90,9 +89,6 @@ any_default (x ∷ xs) (suc i) d e lt = any_default xs i d e (omega (arith, lt))
 pub row_long : (rows : List (List Bool)) (i : ℕ) (row : List Bool) → IsSquare rows → i < length rows → row ≡ get_or rows i row → length row ≡ length rows
 row_long rows i row square lt is = ap (λ (r : List Bool). length r) is ∙ square i row lt
 
-pub own_row : (rows : List (List Bool)) (i : ℕ) (row : List Bool) → i < length rows → row ≡ get_or rows i row → row ≡ get_or rows i []
-own_row rows i row lt is = is ∙ any_default rows i row [] lt
-
 -- ---- marks that are added
 
 or_cases : (a b c : Bool) → (a || (b && c)) ≡ true → (a ≡ true) ⊎ ((b ≡ true) × (c ≡ true))
@@ -109,26 +105,13 @@ or_second true b c p q = refl
 or_second false true c p q = q
 or_second false false c p q = absurd (false≢true p)
 
-or_none : (a : Bool) → (a || false) ≡ a
-or_none true = refl
-or_none false = refl
-
 pub joined_all : (old others new : List Bool) (j : ℕ) → length others ≡ length old → length others ≤ j
     → ((i : ℕ) → i < j → get_or new i false ≡ (get_or old i false || get_or others i false)) → ((i : ℕ) → j ≤ i → get_or new i false ≡ get_or old i false)
     → (i : ℕ) → get_or new i false ≡ (get_or old i false || get_or others i false)
 joined_all old others new j same long done rest i = ⊎_elim {C = get_or new i false ≡ (get_or old i false || get_or others i false)}
     (λ lt. done i lt)
-    (λ ge. rest i ge ∙ sym (ap (λ b. get_or old i false || b) (get_or_past others i false (omega (arith, long, ge))) ∙ or_none (get_or old i false)))
-    (before_or i j)
-  where
-    before_or : (i j : ℕ) → (i < j) ⊎ (j ≤ i)
-    before_or i j = grind arith
-
-pub led_if : (k : ℕ) (through old new : List Bool) → get_or old k false ≡ true → length new ≡ length old → ((j : ℕ) → get_or new j false ≡ (get_or old j false || get_or through j false)) → LeadsOn k through old new
-led_if k through old new has same are = record { count = same; marks = λ j. are j ∙ sym (ap (λ b. get_or old j false || (b && get_or through j false)) has) }
-
-pub led_not : (k : ℕ) (through old : List Bool) → get_or old k false ≡ false → LeadsOn k through old old
-led_not k through old none = record { count = refl; marks = λ j. sym (ap (λ b. get_or old j false || (b && get_or through j false)) none ∙ or_none (get_or old j false)) }
+    (λ ge. rest i ge ∙ sym (ap (λ b. get_or old i false || b) (get_or_past others i false (omega (arith, long, ge))) ∙ or_false (get_or old i false)))
+    (lt_or_le i j)
 
 module _ (k : ℕ) (old new : List (List Bool)) (led : AllLeadOn k old new) where
   pub led_to : (i j : ℕ) → HasMark new i j → HasMark old i j ⊎ (HasMark old i k × HasMark old k j)
@@ -182,12 +165,9 @@ next_through rows k old new is led = record {
   passes = λ a i j lt p q. ⊎_elim {C = HasMark new i j}
       (λ less. by_cases a i j less (led_to k old new led i a p) (led_to k old new led a j q))
       (λ e. led_through k old new led i j (to_last i (subst (λ b. HasMark new i b) e p)) (from_last j (subst (λ b. HasMark new b j) e q)))
-      (before_or a k lt);
+      (lt_one_more_cases a k lt);
 }
   where
-    before_or : (a k : ℕ) → a < k + 1 → (a < k) ⊎ (a ≡ k)
-    before_or a k lt = grind arith
-
     to_last : (i : ℕ) → HasMark new i k → HasMark old i k
     to_last i h = ⊎_elim {C = HasMark old i k} (λ was. was) (λ (p, q). p) (led_to k old new led i k h)
 
@@ -259,23 +239,6 @@ module _ (rows table : List (List Bool)) (p : ℕ) (group : List ℕ) (are : Are
 
 -- ---- ascending lists
 
-push_each : (P : ℕ → Type 0) (xs : List ℕ) (x : ℕ) → AllByRecursion P xs → P x → AllByRecursion P (xs ++ x ∷ [])
-push_each P [] x h p = (p, tt)
-push_each P (y ∷ ys) x h p = (h.0, push_each P ys x h.1 p)
-
-ascending_push : (xs : List ℕ) (x : ℕ) → IsStrictlySortedBy nat_cmp xs → ((y : ℕ) → Contains xs y → y < x) → IsStrictlySortedBy nat_cmp (xs ++ x ∷ [])
-unfolding IsStrictlySortedBy
-ascending_push [] x h f = (tt, tt)
-ascending_push (y ∷ ys) x h f =
-    (push_each (λ z. nat_cmp y z ≡ Less) ys x h.0 (sym (nat_cmp_is y x Less (f y (0, omega arith, refl)))), ascending_push ys x h.1 (λ z (k, lt, e). f z (suc k, omega (arith, lt), e)))
-
-above_first : (x : ℕ) (xs : List ℕ) → AllByRecursion (λ z. nat_cmp x z ≡ Less) xs → (q : ℕ) → Contains xs q → x < q
-above_first x [] h q c = absurd (Contains-nothing q c)
-above_first x (y ∷ ys) h q c = ⊎_elim {C = x < q}
-    (λ e. let lt : x < y = ranked x y Less (sym h.0) in omega (arith, lt, e))
-    (λ later. above_first x ys h.1 q later)
-    (Contains-cases y ys q c)
-
 first_least : (xs : List ℕ) (q : ℕ) → IsStrictlySortedBy nat_cmp xs → Contains xs q → get_or xs 0 0 ≤ q
 unfolding IsStrictlySortedBy
 first_least [] q h c = absurd (Contains-nothing q c)
@@ -294,7 +257,7 @@ module _ (P : ℕ → Type 0) (n : ℕ) (xs : List ℕ) (lists : Lists nat_cmp (
 
   pub listed_next : P n → Lists nat_cmp (λ q. (q < n + 1) × P q) (xs ++ n ∷ [])
   listed_next h = record {
-    ascending = ascending_push xs n lists.ascending (λ y c. (lists.each y c).0);
+    ascending = sorted_push xs n lists.ascending (λ y c. (lists.each y c).0);
     each = λ q c. ⊎_elim {C = (q < n + 1) × P q}
         (λ old. let e = lists.each q old in let lt = e.0 in (omega (arith, lt), e.1))
         (λ e. subst (λ x. (x < n + 1) × P x) e (omega arith, h))
@@ -335,9 +298,6 @@ no_groups rows = record {
   in_order = tt;
   numbers = λ i d lt. absurd (omega (arith, lt));
 }
-
-one_least : (s : PartSet) (p q : ℕ) → IsLeastOf s p → IsLeastOf s q → p ≡ q
-one_least s p q a b = let l : p ≤ q = a.least q b.has in let r : q ≤ p = b.least p a.has in omega (arith, l, r)
 
 module _ (rows : List (List Bool)) where
   abbrev RowArc : ℕ → ℕ → Type 0

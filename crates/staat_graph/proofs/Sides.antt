@@ -14,9 +14,9 @@ use Rattle.staat_model.proofs.SetWords.{same_members}
 use Rattle.staat_graph.specs.Blocking.{ShowsBlockingBy}
 use Rattle.staat_graph.specs.Graphs.{HasArc, Walks, here, IsShut, IsSink, IsFirstSink, IsStrong}
 use Rattle.staat_graph.proofs.Arcs.{arc_or}
-use Rattle.staat_graph.proofs.Finite.{nonempty_or}
 use Rattle.staat_graph.proofs.Reaching.{reach_of, some_sink}
 use Rattle.staat_graph.proofs.Walking.{stays, walk_ends, reach_shut}
+use Rattle.staat_model.proofs.RestrictLemmas.{nonempty_or}
 
 -- for any relation M of two pieces and a direction
 module _ {M : List V3 → List V3 → V3 → Type 0} (parts : List Part) (d : V3) (w : PartSet) (rows : List ℕ) (moves : d ≢ origin)

@@ -15,7 +15,7 @@ use Rattle.staat_model.specs.Plans.{IsStuck}
 use Rattle.staat_model.specs.SetLists.{AreAllApart, union_of}
 use Rattle.staat_model.specs.Sets.{AreApart, Has, single}
 use Rattle.staat_model.proofs.GroupLemmas.{within_union}
-use Rattle.staat_model.proofs.Places.{Contains-from_place, place_from_Contains, place_within, same_some, some_at}
+use Rattle.staat_model.proofs.Places.{place_within, some_at}
 use Rattle.staat_model.proofs.SetMembers.{has-single}
 use Rattle.staat_model.proofs.SetWords.{same_members}
 use Rattle.staat_holds.specs.declared.hold.Hold.{Hold}
@@ -23,7 +23,10 @@ use Rattle.staat_holds.specs.Chains.{AllKeep, IsJoinedLast, IsName, IsOfOne, Kee
 use Rattle.staat_holds.specs.Holds.{AreNodeSets, IsOfNode}
 use Rattle.staat_holds.proofs.ChainSteps.{after_more}
 use Rattle.staat_holds.proofs.HoldLaw.{held_stick, union_has}
-use Rattle.staat_holds.proofs.NodeNames.{among_or, at_map, below_first, first_of, has_named, joined_in, joined_out, map_at, of_place, parts_named}
+use Rattle.staat_holds.proofs.NodeNames.{among_or, below_first, first_of, has_named, joined_in, joined_out, of_place, parts_named}
+use Rattle.staat_vec.proofs.Unique.{from_place}
+use Rattle.staat_vec.proofs.ListLaws.{place_of, map_at_place, place_in_map}
+use Rattle.staat_vec.proofs.Options.{some_injective}
 
 -- w has exactly the parts of the name
 abbrev pub IsSetNamed : List ℕ → ℕ → PartSet → Type 0
@@ -35,8 +38,8 @@ AreNamesOfNodes parts names = (n : ℕ) (w : PartSet) → IsName names n → IsS
 
 -- ---- at first
 
-own_at : (count p n : ℕ) → slice_get (own_names count) p ≡ Some n → n ≡ p
-own_at count p n at =
+pub own_is : (count p n : ℕ) → slice_get (own_names count) p ≡ Some n → n ≡ p
+own_is count p n at =
     let lt = place_within (own_names count) p n at in
     let long = length-range_with_len 0 count in
     let is = get_or_from_slice_get (own_names count) p n 0 at in
@@ -47,7 +50,7 @@ pub own_nodes : (parts : List Part) (count : ℕ) → AreNamesOfNodes parts (own
 own_nodes parts count n w named is = inl (
   n,
   same_members w (single n)
-      (λ p h. (has-single n p).1 (sym (own_at count p n ((is p).0 h))))
+      (λ p h. (has-single n p).1 (sym (own_is count p n ((is p).0 h))))
       (λ p h. (is p).1 (subst (λ q. slice_get (own_names count) q ≡ Some n) (sym ((has-single n p).0 h)) named)),
 )
 
@@ -60,7 +63,7 @@ are_sets : (names nodes : List ℕ) → IsStrictlySortedBy nat_cmp nodes → Are
 are_sets names nodes sorted = record {
   number = same_length nodes;
   members = λ k a s at.
-      let (n, at_n, is) = map_at (parts_named names) nodes k s at in
+      let (n, at_n, is) = place_in_map (parts_named names) nodes k s at in
       let named = has_named names n a in
       let placed = of_place nodes names k n a sorted at_n in (
         λ h. placed.1 (named.0 (subst (λ t. Has t a) (sym is) h)),
@@ -74,9 +77,9 @@ are_sets names nodes sorted = record {
 
 from_sets : (names nodes : List ℕ) (s : PartSet) → Contains (sets_of names nodes) s → (n : ℕ) × Contains nodes n × (parts_named names n ≡ s)
 from_sets names nodes s c =
-    let (k, at) = place_from_Contains (sets_of names nodes) s c in
-    let (n, at_n, is) = map_at (parts_named names) nodes k s at in
-    (n, Contains-from_place nodes k n at_n, is)
+    let (k, at) = place_of (sets_of names nodes) s c in
+    let (n, at_n, is) = place_in_map (parts_named names) nodes k s at in
+    (n, from_place nodes k n at_n, is)
 
 sets_apart : (names nodes : List ℕ) → IsStrictlySortedBy nat_cmp nodes → AreAllApart (sets_of names nodes)
 sets_apart names [] sorted = tt
@@ -85,10 +88,10 @@ sets_apart names (m ∷ nodes) sorted = (first, sets_apart names nodes (sorted_t
     first : (t : PartSet) → Contains (sets_of names nodes) t → AreApart (parts_named names m) t
     first t c p in_m in_t =
         let (n, listed, is) = from_sets names nodes t c in
-        let (k, at) = place_from_Contains nodes n listed in
+        let (k, at) = place_of nodes n listed in
         let of_m = (has_named names m p).0 in_m in
         let of_n = (has_named names n p).0 (subst (λ s. Has s p) (sym is) in_t) in
-        below_first m nodes k n sorted at (same_some n m (sym of_n ∙ of_m))
+        below_first m nodes k n sorted at (some_injective n m (sym of_n ∙ of_m))
 
 are_nodes : (parts : List Part) (names nodes : List ℕ) → AreNamesOfNodes parts names → IsStrictlySortedBy nat_cmp nodes → 2 ≤ length nodes → All (IsName names) nodes → AreNodes parts (sets_of names nodes)
 are_nodes parts names nodes of_names sorted two all =
@@ -106,12 +109,12 @@ in_union : (names nodes : List ℕ) (p : ℕ) → Has (union_of (sets_of names n
 in_union names nodes p = (
   λ h.
       let (k, (s, at, in_s)) = union_has (sets_of names nodes) p h in
-      let (n, at_n, is) = map_at (parts_named names) nodes k s at in
-      record { name = n; named = (has_named names n p).0 (subst (λ t. Has t p) (sym is) in_s); listed = Contains-from_place nodes k n at_n },
+      let (n, at_n, is) = place_in_map (parts_named names) nodes k s at in
+      record { name = n; named = (has_named names n p).0 (subst (λ t. Has t p) (sym is) in_s); listed = from_place nodes k n at_n },
   λ o.
-      let (k, at) = place_from_Contains nodes o.name o.listed in
+      let (k, at) = place_of nodes o.name o.listed in
       let s = parts_named names o.name in
-      let c = Contains-from_place (sets_of names nodes) k s (at_map (parts_named names) nodes k o.name at) in
+      let c = from_place (sets_of names nodes) k s (map_at_place (parts_named names) nodes k o.name at) in
       within_union (sets_of names nodes) s c p ((has_named names o.name p).1 o.named),
 )
 
@@ -147,12 +150,12 @@ module _ (parts : List Part) (each : All IsPart parts) (names : List ℕ) (hold 
 
       to : (p : ℕ) → slice_get next p ≡ Some n → IsOfOne names ns p
       to p h =
-          let (q, named, e) = map_at (joined_name ns) names p n h in
+          let (q, named, e) = place_in_map (joined_name ns) names p n h in
           ⊎_elim {C = IsOfOne names ns p} (λ t. record { name = q; named = named; listed = t.0 })
           (λ t. absurd (t.0 (subst (Contains ns) (sym n_is ∙ sym e ∙ joined_out ns q t.0) (first_of ns some).1))) (among_or ns q)
 
       from : (p : ℕ) → IsOfOne names ns p → slice_get next p ≡ Some n
-      from p o = at_map (joined_name ns) names p o.name o.named ∙ ap Some (joined_in ns o.name o.listed ∙ first o.name ∙ sym n_is)
+      from p o = map_at_place (joined_name ns) names p o.name o.named ∙ ap Some (joined_in ns o.name o.listed ∙ first o.name ∙ sym n_is)
 
   other_node : (n m : ℕ) (w : PartSet) → slice_get names n ≡ Some m → (Contains ns m → ⊥) → joined_name ns m ≡ n → IsSetNamed next n w → IsNode parts w
   other_node n m w at off is of_w = of_names n w (at ∙ ap Some m_is) (λ p. (λ h. to p ((of_w p).0 h), λ h. (of_w p).1 (from p h)))
@@ -165,24 +168,24 @@ module _ (parts : List Part) (each : All IsPart parts) (names : List ℕ) (hold 
 
       to : (p : ℕ) → slice_get next p ≡ Some n → slice_get names p ≡ Some n
       to p h =
-          let (q, named, e) = map_at (joined_name ns) names p n h in
+          let (q, named, e) = place_in_map (joined_name ns) names p n h in
           ⊎_elim {C = slice_get names p ≡ Some n}
           (λ t. let f = first_of ns some in absurd (off_n (subst (Contains ns) (sym (f.2 q) ∙ sym (joined_in ns q t.0) ∙ e) f.1)))
           (λ t. named ∙ ap Some (sym (joined_out ns q t.0) ∙ e)) (among_or ns q)
 
       from : (p : ℕ) → slice_get names p ≡ Some n → slice_get next p ≡ Some n
-      from p h = at_map (joined_name ns) names p n h ∙ ap Some (joined_out ns n off_n)
+      from p h = map_at_place (joined_name ns) names p n h ∙ ap Some (joined_out ns n off_n)
 
   pub next_nodes : AreNamesOfNodes parts next
   next_nodes n w named of_w =
-      let (m, at, is) = map_at (joined_name ns) names n n named in
+      let (m, at, is) = place_in_map (joined_name ns) names n n named in
       ⊎_elim {C = IsNode parts w} (λ t. joined_node n m w at t.0 is of_w) (λ t. other_node n m w at t.0 is of_w) (among_or ns m)
 
 -- ---- all holds
 
 module _ (parts : List Part) (holds : List Hold) (each : All IsPart parts) (sorted : All (λ (hold : Hold). IsStrictlySortedBy nat_cmp hold.nodes) holds) (keep : AllKeep parts holds) where
   sorted_at : (k : ℕ) (hold : Hold) → slice_get holds k ≡ Some hold → IsStrictlySortedBy nat_cmp hold.nodes
-  sorted_at k hold at = All-contains (λ (h : Hold). IsStrictlySortedBy nat_cmp h.nodes) holds hold sorted (Contains-from_place holds k hold at)
+  sorted_at k hold at = All-contains (λ (h : Hold). IsStrictlySortedBy nat_cmp h.nodes) holds hold sorted (from_place holds k hold at)
 
   nodes_before : (k : ℕ) → k ≤ length holds → AreNamesOfNodes parts (names_before parts holds k)
   nodes_before zero le = own_nodes parts (length parts)
@@ -205,5 +208,5 @@ module _ (parts : List Part) (holds : List Hold) (each : All IsPart parts) (sort
           to : (p : ℕ) → IsJoinedLast parts holds p → IsOfOne (names_before parts holds k) hold.nodes p
           to p j =
               let e : j.k ≡ k = let l = j.last in omega (arith, l) in
-              let same : j.hold ≡ hold = same_some j.hold hold (sym (subst (λ m. slice_get holds m ≡ Some j.hold) e j.at) ∙ at) in
+              let same : j.hold ≡ hold = some_injective j.hold hold (sym (subst (λ m. slice_get holds m ≡ Some j.hold) e j.at) ∙ at) in
               subst (λ (h : Hold). IsOfOne (names_before parts holds k) h.nodes p) same (subst (λ m. IsOfOne (names_before parts holds m) j.hold.nodes p) e j.joined)

@@ -3,44 +3,38 @@ use Rattle.std.proofs.Common.{◌≡◌, ℕ, zero, suc, ◌+◌, ◌<◌, ◌�
 use Rattle.std.specs.Prelude.{Option, None, Some, MatchOption, slice_get}
 use Rattle.std.proofs.lemmas.Bool.{cases_eq}
 use Rattle.std.proofs.lemmas.List.FromFn.{length-range_with_len}
-use Rattle.std.proofs.lemmas.Option.{slice_get-get_or}
 use Rattle.staat_model.specs.declared.assembly.Part.{Part}
-use Rattle.staat_model.proofs.Places.{place_within, same_some}
+use Rattle.staat_model.proofs.Places.{place_within}
 use Rattle.staat_holds.specs.declared.hold.Hold.{Hold}
 use Rattle.staat_holds.specs.declared.hold.HoldRule.{HoldRule}
 use Rattle.staat_holds.specs.Chains.{AllKeep, FirstKeep, IsFirstBroken, IsFirstRule, KeepsHoldRules, joined_name, names_after, names_before, own_names}
+use Rattle.staat_vec.proofs.ListLaws.{map_length, place_is}
+use Rattle.staat_vec.proofs.Options.{some_injective}
 
 pub after_more : (names : List ℕ) (holds : List Hold) (k : ℕ) (hold : Hold) → slice_get holds k ≡ Some hold
     → names_after names (take (suc k) holds) ≡ map (joined_name hold.nodes) (names_after names (take k holds))
 after_more names [] k hold at = cc
-after_more names (h ∷ holds) zero hold at = ap (λ (g : Hold). map (joined_name g.nodes) names) (same_some h hold at)
+after_more names (h ∷ holds) zero hold at = ap (λ (g : Hold). map (joined_name g.nodes) names) (some_injective h hold at)
 after_more names (h ∷ holds) (suc k) hold at = after_more (map (joined_name h.nodes) names) holds k hold at
 
 pub keep_more : (parts : List Part) (holds : List Hold) (k : ℕ) (hold : Hold) → slice_get holds k ≡ Some hold → FirstKeep parts holds k → KeepsHoldRules parts (names_before parts holds k) hold → FirstKeep parts holds (k + 1)
 keep_more parts holds k hold at before keeps m h lt at_m = ⊎_elim {C = KeepsHoldRules parts (names_before parts holds m) h}
     (λ e. subst (λ j. KeepsHoldRules parts (names_before parts holds j) h) (sym e)
-    (subst (KeepsHoldRules parts (names_before parts holds k)) (same_some hold h (sym at ∙ subst (λ j. slice_get holds j ≡ Some h) e at_m)) keeps))
+    (subst (KeepsHoldRules parts (names_before parts holds k)) (some_injective hold h (sym at ∙ subst (λ j. slice_get holds j ≡ Some h) e at_m)) keeps))
     (λ other. before m h (omega (arith, lt, other)) at_m) (cases_eq m k)
 
 -- ---- as many names as parts
 
-mapped : {X Y : Type 0} (f : X → Y) (xs : List X) → length (map f xs) ≡ length xs
-mapped f [] = λ i. 0
-mapped f (x ∷ xs) = ap suc (mapped f xs)
-
-as_many : (names : List ℕ) (holds : List Hold) → length (names_after names holds) ≡ length names
-as_many names [] = λ i. length names
-as_many names (hold ∷ holds) = as_many (map (joined_name hold.nodes) names) holds ∙ mapped (joined_name hold.nodes) names
+pub names_after_length : (names : List ℕ) (holds : List Hold) → length (names_after names holds) ≡ length names
+names_after_length names [] = λ i. length names
+names_after_length names (hold ∷ holds) = names_after_length (map (joined_name hold.nodes) names) holds ∙ map_length (joined_name hold.nodes) names
 
 pub few_names : (parts : List Part) (holds : List Hold) (k : ℕ) (names now : List ℕ) → now ≡ names → names ≡ names_before parts holds k → length parts < 2 ^ 32 → length now < 2 ^ 32
 few_names parts holds k names now same is few =
-    let long = ap length (same ∙ is) ∙ as_many (own_names (length parts)) (take k holds) ∙ length-range_with_len 0 (length parts) in
+    let long = ap length (same ∙ is) ∙ names_after_length (own_names (length parts)) (take k holds) ∙ length-range_with_len 0 (length parts) in
     omega (arith, long, few)
 
 -- ---- a step of the loop
-
-pub place_is : {X : Type 0} (xs : List X) (k : ℕ) (x : X) → k < length xs → x ≡ get_or xs k x → slice_get xs k ≡ Some x
-place_is xs k x lt is = slice_get-get_or xs k x lt ∙ ap Some (sym is)
 
 pub broken_at : (parts : List Part) (holds : List Hold) (k : ℕ) (hold : Hold) (names now : List ℕ) (rule : HoldRule) → now ≡ names → names ≡ names_before parts holds k → k < length holds → hold ≡ get_or holds k hold
     → FirstKeep parts holds k → IsFirstRule parts now hold rule → IsFirstBroken parts holds (record { hold = k; rule = rule })

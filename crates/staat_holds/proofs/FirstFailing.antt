@@ -7,9 +7,11 @@ use Rattle.staat_vec.specs.Lists.{FailsFirst}
 use Rattle.staat_model.specs.declared.assembly.Part.{Part}
 use Rattle.staat_model.specs.declared.certificate.Arc.{Arc}
 use Rattle.staat_model.proofs.Members.{All-from_members}
-use Rattle.staat_model.proofs.Places.{place_from_Contains, place_within, same_some}
+use Rattle.staat_model.proofs.Places.{place_within}
 use Rattle.staat_holds.specs.Chains.{IsHoldPair, places_of}
 use Rattle.staat_holds.specs.Holds.{IsCorePair}
+use Rattle.staat_vec.proofs.ListLaws.{place_of}
+use Rattle.staat_vec.proofs.Options.{some_injective}
 
 module _ {X : Type 0} (P : X → Type 0) (xs : List X) where
   -- the first k keep it
@@ -18,14 +20,14 @@ module _ {X : Type 0} (P : X → Type 0) (xs : List X) where
 
   pub keep_more : (k : ℕ) (d : X) → k < length xs → KeepBefore k → P (get_or xs k d) → KeepBefore (k + 1)
   keep_more k d lt before keeps m x m_lt at = ⊎_elim {C = P x}
-      (λ e. subst P (same_some (get_or xs k d) x (sym (slice_get-get_or xs k d lt) ∙ subst (λ j. slice_get xs j ≡ Some x) e at)) keeps)
+      (λ e. subst P (some_injective (get_or xs k d) x (sym (slice_get-get_or xs k d lt) ∙ subst (λ j. slice_get xs j ≡ Some x) e at)) keeps)
       (λ other. before m x (omega (arith, m_lt, other)) at) (cases_eq m k)
 
   pub fails_at : (k : ℕ) (d : X) → k < length xs → KeepBefore k → (P (get_or xs k d) → ⊥) → FailsFirst P xs k
   fails_at k d lt before fails = record { x = get_or xs k d; at = slice_get-get_or xs k d lt; fails = fails; before = before }
 
   pub keep_all : (k : ℕ) → length xs ≤ k → KeepBefore k → All P xs
-  keep_all k le before = All-from_members P xs (λ x c. let (m, at) = place_from_Contains xs x c in let lt = place_within xs m x at in before m x (omega (arith, lt, le)) at)
+  keep_all k le before = All-from_members P xs (λ x c. let (m, at) = place_of xs x c in let lt = place_within xs m x at in before m x (omega (arith, lt, le)) at)
 
 -- the first bad pair of a hold, whose nodes and pairs are seen in other places
 pub bad_pair : (parts : List Part) (names : List ℕ) (places : List (Option ℕ)) (nodes ns : List ℕ) (pairs ps : List Arc) (k : ℕ) → ns ≡ nodes → ps ≡ pairs → places ≡ places_of ns names

@@ -9,26 +9,16 @@ use Rattle.staat_vec.specs.Primitives.{primitive}
 use Rattle.staat_vec.specs.Vectors.{cross, negative, origin}
 use Rattle.staat_model.specs.Planes.{crossings, vertices}
 use Rattle.staat_model.proofs.Corners.{IsSame}
-use Rattle.staat_model.proofs.Members.{here, there}
-use Rattle.staat_model.proofs.PlaneLemmas.{NoneParallel}
+use Rattle.staat_model.proofs.PlaneLemmas.{NoneParallel, apart_behind}
+use Rattle.staat_vec.proofs.ListLaws.{drop_end, Contains-there}
+use Rattle.staat_vec.proofs.Unique.{Contains-front}
 
 drop_at : {X : Type 0} (xs : List X) (k : ℕ) (d : X) → k < length xs → drop k xs ≡ get_or xs k d ∷ drop (k + 1) xs
 drop_at [] k d lt = absurd (omega (arith, lt))
 drop_at (x ∷ xs) zero d lt = refl
 drop_at (x ∷ xs) (suc k) d lt = drop_at xs k d (omega (arith, lt)) ∙ ap (λ m. get_or xs k d ∷ drop m (x ∷ xs)) (let f : suc (k + 1) ≡ suc k + 1 = omega arith in f)
 
-drop_end : {X : Type 0} (xs : List X) (k : ℕ) → length xs ≤ k → drop k xs ≡ []
-drop_end [] zero h = refl
-drop_end [] (suc k) h = refl
-drop_end (x ∷ xs) zero h = absurd (omega arith)
-drop_end (x ∷ xs) (suc k) h = drop_end xs k (omega arith)
-
 -- ---- planes of which no two are parallel
-
-apart_behind : (gs : List V3) (k : ℕ) → NoneParallel gs → NoneParallel (drop k gs)
-apart_behind gs zero apart = apart
-apart_behind [] (suc k) apart = tt
-apart_behind (g ∷ gs) (suc k) apart = apart_behind gs k apart.1
 
 pub apart_at : (gs behind : List V3) (k : ℕ) (d : V3) → k < length gs → behind ≡ drop (k + 1) gs → NoneParallel gs → All (λ h. cross (get_or gs k d) h ≢ origin) behind
 apart_at gs behind k d lt e apart = subst (All (λ h. cross (get_or gs k d) h ≢ origin)) (sym e) (subst NoneParallel (drop_at gs k d lt) (apart_behind gs k apart)).0
@@ -44,16 +34,16 @@ pub record IsCrossingOf (gs : List V3) (v : V3) : Type 0 where
 
 crossings_from : (g : V3) (hs : List V3) (v : V3) → All (λ h. cross g h ≢ origin) hs → Contains (crossings g hs) v → (h : V3) × Contains hs h × (cross g h ≢ origin) × IsSame v (primitive (cross g h))
 crossings_from g [] v apart (k, lt, e) = absurd (omega (arith, lt))
-crossings_from g (h ∷ hs) v apart (zero, lt, e) = (h, here h hs, All-head (λ h. cross g h ≢ origin) h hs apart, inl (sym e))
-crossings_from g (h ∷ hs) v apart (suc zero, lt, e) = (h, here h hs, All-head (λ h. cross g h ≢ origin) h hs apart, inr (sym e))
+crossings_from g (h ∷ hs) v apart (zero, lt, e) = (h, Contains-front h hs, All-head (λ h. cross g h ≢ origin) h hs apart, inl (sym e))
+crossings_from g (h ∷ hs) v apart (suc zero, lt, e) = (h, Contains-front h hs, All-head (λ h. cross g h ≢ origin) h hs apart, inr (sym e))
 crossings_from g (h ∷ hs) v apart (suc (suc k), lt, e) =
-    let (q, listed, off, is) = crossings_from g hs v (All-tail (λ h. cross g h ≢ origin) h hs apart) (k, omega (arith, lt), e) in (q, there h q hs listed, off, is)
+    let (q, listed, off, is) = crossings_from g hs v (All-tail (λ h. cross g h ≢ origin) h hs apart) (k, omega (arith, lt), e) in (q, Contains-there h q hs listed, off, is)
 
 pub vertices_from : (gs : List V3) (v : V3) → NoneParallel gs → Contains (vertices gs) v → IsCrossingOf gs v
 vertices_from [] v apart (k, lt, e) = absurd (omega (arith, lt))
 vertices_from (g ∷ gs) v apart c = ⊎_elim {C = IsCrossingOf (g ∷ gs) v}
-    (λ first. let (h, listed, off, is) = crossings_from g gs v apart.0 first in record { g = g; h = h; g_in = here g gs; h_in = there g h gs listed; apart = off; is = is })
-    (λ later. let o = vertices_from gs v apart.1 later in record { g = o.g; h = o.h; g_in = there g o.g gs o.g_in; h_in = there g o.h gs o.h_in; apart = o.apart; is = o.is })
+    (λ first. let (h, listed, off, is) = crossings_from g gs v apart.0 first in record { g = g; h = h; g_in = Contains-front g gs; h_in = Contains-there g h gs listed; apart = off; is = is })
+    (λ later. let o = vertices_from gs v apart.1 later in record { g = o.g; h = o.h; g_in = Contains-there g o.g gs o.g_in; h_in = Contains-there g o.h gs o.h_in; apart = o.apart; is = o.is })
     (Contains-append_cases (crossings g gs) (vertices gs) v c)
 
 -- ---- the first that has not P

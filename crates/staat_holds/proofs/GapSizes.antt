@@ -1,16 +1,16 @@
 -- How great the directions are in which planes cross.
-use Rattle.std.proofs.Common.{◌≡◌, ◌≢◌, ℕ, ◌*◌, ◌≤◌, ⊎_elim, sym, ap, subst, ◌∙◌, arith, lit≤, List, All, Contains}
+use Rattle.std.proofs.Common.{◌≡◌, ◌≢◌, ℕ, ◌*◌, ◌≤◌, ⊎_elim, sym, subst, ◌∙◌, arith, lit≤, List, All, Contains}
 use Rattle.std.proofs.lemmas.List.Elements.{All-contains}
 use Rattle.staat_vec.specs.declared.vector.V3.{V3}
 use Rattle.staat_vec.specs.declared.vector.TheConstants.{DIRECTION, NORMAL}
 use Rattle.staat_vec.specs.Primitives.{primitive}
-use Rattle.staat_vec.specs.Vectors.{IsWithin, cross, negative, origin}
+use Rattle.staat_vec.specs.Vectors.{IsWithin, cross, origin}
 use Rattle.staat_vec.proofs.Bounds.{IsWithin-cross, IsWithin-negative}
-use Rattle.staat_vec.proofs.Canons.{negative-negative}
 use Rattle.staat_vec.proofs.Primitives.{IsPrimitive-some, IsWithin-primitive, primitive-is}
 use Rattle.staat_model.specs.Planes.{vertices}
 use Rattle.staat_model.proofs.PlaneLemmas.{NoneParallel}
 use Rattle.staat_holds.proofs.GapLemmas.{vertices_from}
+use Rattle.staat_vec.proofs.VectorLaws.{negative_some}
 
 -- no vertex is zero, nor greater than a direction may be
 pub record IsGapSize (v : V3) : Type 0 where
@@ -23,9 +23,6 @@ wider v h = record { x = le h.x; y = le h.y; z = le h.z }
     le : {n : ℕ} → n ≤ 2 * (NORMAL * NORMAL) → n ≤ DIRECTION
     le {n} small = let most : 2 * (NORMAL * NORMAL) ≤ DIRECTION = lit≤ tt in omega (arith, small, most)
 
-turned_some : (v : V3) → v ≢ origin → negative v ≢ origin
-turned_some v some e = some (sym (negative-negative v) ∙ ap negative e)
-
 pub gap_size : (planes : List V3) → All (IsWithin NORMAL) planes → NoneParallel planes → (v : V3)
     → Contains (vertices planes) v → IsGapSize v
 gap_size planes within apart v c =
@@ -36,5 +33,5 @@ gap_size planes within apart v c =
     let some : u ≢ origin = IsPrimitive-some u p.primitive in
     ⊎_elim {C = IsGapSize v}
     (λ e. record { some = λ z. some (sym e ∙ z); within = subst (IsWithin DIRECTION) (sym e) size })
-    (λ e. record { some = λ z. turned_some u some (sym e ∙ z); within = subst (IsWithin DIRECTION) (sym e) (IsWithin-negative DIRECTION u size) })
+    (λ e. record { some = λ z. negative_some u some (sym e ∙ z); within = subst (IsWithin DIRECTION) (sym e) (IsWithin-negative DIRECTION u size) })
     o.is

@@ -1,6 +1,6 @@
 -- Nodes that a core holds together wherever its planes cross are stuck together.
 use Rattle.std.proofs.Common.{◌≡◌, ◌≢◌, ℕ, zero, suc, ◌*◌, ◌<◌, pos, List, [], ◌∷◌, ◌++◌, map, inl, inr, ⊎_elim, refl, sym, ap, subst, ◌∙◌, arith, All, Contains}
-use Rattle.std.specs.Prelude.{Option, None, Some, slice_get}
+use Rattle.std.specs.Prelude.{Option, Some, slice_get}
 use Rattle.std.specs.FinSet as set
 use Rattle.std.proofs.lemmas.List.Elements.{All-contains, Contains-append_cases, Contains-append_left, Contains-append_right}
 use Rattle.staat_vec.specs.declared.vector.V3.{V3}
@@ -8,12 +8,10 @@ use Rattle.staat_vec.specs.Primitives.{canon, primitive}
 use Rattle.staat_vec.specs.Vectors.{cross, negative, origin, plus, times}
 use Rattle.staat_vec.proofs.Canons.{canon-negative}
 use Rattle.staat_vec.proofs.Primitives.{IsPrimitive-some, primitive-is}
-use Rattle.staat_vec.proofs.Ring.{at, ◌⊗◌}
-use Rattle.staat_vec.proofs.VecRing.{ring3, timesE, v0, values}
 use Rattle.staat_model.specs.declared.assembly.Part.{Part}
 use Rattle.staat_model.specs.declared.certificate.Arc.{Arc}
 use Rattle.staat_model.specs.declared.set.PartSet.{PartSet}
-use Rattle.staat_model.specs.Assemblies.{HoldsAt, IsPart, piece_at}
+use Rattle.staat_model.specs.Assemblies.{HoldsAt, IsPart}
 use Rattle.staat_model.specs.Cores.{HasCorePlanes, IsCorePlane, IsFreeInCore}
 use Rattle.staat_model.specs.Facets.{IsFacet}
 use Rattle.staat_model.specs.Groups.{AreNodes, HoldsNodes, KeepsWhole}
@@ -26,23 +24,22 @@ use Rattle.staat_model.proofs.CoreLemmas.{meets_towards}
 use Rattle.staat_model.proofs.Corners.{HoldsAxes, IsSame, corner_towards}
 use Rattle.staat_model.proofs.FreeSides.{member_or}
 use Rattle.staat_model.proofs.GroupLemmas.{nodes_stuck_lemma, within_union}
-use Rattle.staat_model.proofs.Listings.{Listing, listing_as, listing_image, listing_members, listing_none, listing_over}
-use Rattle.staat_model.proofs.Places.{Contains-from_place, place_within, same_some, some_at}
+use Rattle.staat_model.proofs.Listings.{Listing, listing_image, listing_members, listing_over}
+use Rattle.staat_model.proofs.Places.{place_within, some_at}
 use Rattle.staat_model.proofs.Reversed.{opposite_facets_lemma}
 use Rattle.staat_model.proofs.SetMembers.{has-difference, has-empty, has-union}
 use Rattle.staat_model.proofs.SetWords.{same_members}
-use Rattle.staat_model.proofs.SomePlanes.{facets_listing}
 use Rattle.staat_holds.specs.Holds.{AreNodeSets, HasPair, IsCorePair, JoinsNodes, IsOfNode, IsHoldPlane, LeadsBetween}
 use Rattle.staat_motion.specs.Motions.{turned}
 use Rattle.staat_holds.specs.Reaching.{AllReach, Reaches, here, along}
 use Rattle.staat_holds.proofs.HoldLemmas.{opposite_reach}
 use Rattle.staat_holds.proofs.LinkLemmas.{node_few}
 use Rattle.staat_holds.proofs.ReachLemmas.{carried}
+use Rattle.staat_vec.proofs.VectorLaws.{times_twice}
+use Rattle.staat_model.proofs.SomePlanes.{arc_facets}
+use Rattle.staat_vec.proofs.Unique.{from_place}
 
 -- ---- shorter directions
-
-times_twice : (b k : ℕ) (m : V3) → times b (times k m) ≡ times (b * k) m
-times_twice b k m = ring3 (values (m ∷ []) (pos b ∷ pos k ∷ [])) (timesE (at 3) (timesE (at 4) v0)) (timesE (at 3 ⊗ at 4) v0) (tt, tt, tt)
 
 -- what meets along a multiple of a direction meets along the direction, later
 meets_shorter : (p q : List V3) (k : ℕ) (d : V3) → Meets p q (times k d) → Meets p q d
@@ -107,19 +104,8 @@ from_both core pair c = ⊎_elim {C = HasPair core pair} (λ c. inl c) (λ c. in
 
 -- ---- a list of its planes
 
-pair_facets : (parts : List Part) (pair : Arc) → Listing (λ f. HoldsAt parts pair (λ p q. IsFacet p q f))
-pair_facets parts pair = go (piece_at parts pair.a pair.i) (piece_at parts pair.b pair.j) refl refl
-  where
-    go : (x y : Option (List V3)) → piece_at parts pair.a pair.i ≡ x → piece_at parts pair.b pair.j ≡ y → Listing (λ f. HoldsAt parts pair (λ p q. IsFacet p q f))
-    go None y e g = listing_none (λ f h. let wrong : None ≡ Some h.p = sym e ∙ h.p_is in absurd cc)
-    go (Some p) None e g = listing_none (λ f h. let wrong : None ≡ Some h.q = sym g ∙ h.q_is in absurd cc)
-    go (Some p) (Some q) e g = listing_as (λ f r. record { p = p; q = q; p_is = e; q_is = g; holds = r })
-        (λ f h. let first : h.p ≡ p = same_some h.p p (sym h.p_is ∙ e) in let second : h.q ≡ q = same_some h.q q (sym h.q_is ∙ g) in
-        subst (λ z. IsFacet p z f) second (subst (λ z. IsFacet z h.q f) first h.holds))
-        (facets_listing p q)
-
 some_planes : (parts : List Part) (core : List Arc) → Listing (λ n. (f : V3) × ((arc : Arc) × Contains core arc × HoldsAt parts arc (λ p q. IsFacet p q f)) × (n ≡ canon f))
-some_planes parts core = listing_image canon (listing_over (λ arc f. HoldsAt parts arc (λ p q. IsFacet p q f)) (listing_members core) (pair_facets parts))
+some_planes parts core = listing_image canon (listing_over (λ arc f. HoldsAt parts arc (λ p q. IsFacet p q f)) (listing_members core) (arc_facets parts))
 
 planes_of : List Part → List Arc → List V3
 planes_of parts core = let l = some_planes parts core in axes ++ l.xs
@@ -192,10 +178,10 @@ module _ (parts : List Part) (nodes : List (Option ℕ)) (count : ℕ) (core : L
   whole_node : (s : PartSet) (k p q : ℕ) → KeepsWhole sets s → k < count → IsOfNode nodes k p → Has s p → IsOfNode nodes k q → Has s q
   whole_node s k p q whole lt of_p in_s of_q =
       let (t, here_is) = set_of k lt in
-      whole t (Contains-from_place sets k t here_is) p q ((are.members k p t here_is).1 of_p) ((are.members k q t here_is).1 of_q) in_s
+      whole t (from_place sets k t here_is) p q ((are.members k p t here_is).1 of_p) ((are.members k q t here_is).1 of_q) in_s
 
   in_union : (k p : ℕ) → k < count → IsOfNode nodes k p → Has (union_of sets) p
-  in_union k p lt of_p = let (t, here_is) = set_of k lt in within_union sets t (Contains-from_place sets k t here_is) p ((are.members k p t here_is).1 of_p)
+  in_union k p lt of_p = let (t, here_is) = set_of k lt in within_union sets t (from_place sets k t here_is) p ((are.members k p t here_is).1 of_p)
 
   -- along arcs of the core a free side does not end
   stays_in : (s : PartSet) (d : V3) → KeepsWhole sets s → IsFreeInCore parts (both_orders core) s (set.difference (union_of sets) s) d → {x y : ℕ}

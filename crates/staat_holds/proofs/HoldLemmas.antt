@@ -15,7 +15,6 @@ use Rattle.staat_model.specs.Planes.{axes}
 use Rattle.staat_model.specs.Removal.{MeetsAlong}
 use Rattle.staat_model.proofs.GraphLemmas.{piece_in}
 use Rattle.staat_model.proofs.PieceFacets.{meets_by_facets_lemma}
-use Rattle.staat_model.proofs.Places.{same_some}
 use Rattle.staat_model.proofs.Reversed.{meets_opposite_lemma}
 use Rattle.staat_holds.specs.declared.links.Link.{Link}
 use Rattle.staat_holds.specs.Holds.{AreHoldPlanes, HasPair, IsOfNode, LeadsBetween}
@@ -24,6 +23,7 @@ use Rattle.staat_holds.specs.Links.{AreLinkPlanes, AreLinks, HasLinkOther, IsLin
 use Rattle.staat_holds.specs.Reaching.{AllReach}
 use Rattle.staat_holds.proofs.LinkLemmas.{link_for, pair_for, same_node}
 use Rattle.staat_holds.proofs.ReachLemmas.{all_carried, back}
+use Rattle.staat_vec.proofs.Options.{some_injective}
 
 -- ---- pairs turned round
 
@@ -61,8 +61,8 @@ module _ (parts : List Part) (each : All IsPart parts) where
       let lists : Lists vector_cmp (IsFacet h.p h.q) link.facets = h.holds in (
         λ ahead. record { p = h.p; q = h.q; p_is = h.p_is; q_is = h.q_is; holds = by.1 (λ n f. All-contains (λ n. pos 0 <ℤ dot n d) link.facets n ahead (lists.all n f)) },
         λ m.
-            let first : m.p ≡ h.p = same_some m.p h.p (sym m.p_is ∙ h.p_is) in
-            let second : m.q ≡ h.q = same_some m.q h.q (sym m.q_is ∙ h.q_is) in
+            let first : m.p ≡ h.p = some_injective m.p h.p (sym m.p_is ∙ h.p_is) in
+            let second : m.q ≡ h.q = some_injective m.q h.q (sym m.q_is ∙ h.q_is) in
             let meets : Meets h.p h.q d = subst (λ z. Meets h.p z d) second (subst (λ z. Meets z m.q d) first m.holds) in
             All-weaker (Contains link.facets) (λ n. pos 0 <ℤ dot n d) (λ n c. by.0 meets n (lists.each n c)) link.facets (All-contains_itself link.facets),
       )
@@ -111,8 +111,8 @@ module _ (parts : List Part) (each : All IsPart parts) where
         let (link, at, of) = link_for parts nodes core links plane.arc are plane.listed in
         let h = of.facets in
         let f = plane.holds in
-        let first : f.p ≡ h.p = same_some f.p h.p (sym f.p_is ∙ h.p_is) in
-        let second : f.q ≡ h.q = same_some f.q h.q (sym f.q_is ∙ h.q_is) in
+        let first : f.p ≡ h.p = some_injective f.p h.p (sym f.p_is ∙ h.p_is) in
+        let second : f.q ≡ h.q = some_injective f.q h.q (sym f.q_is ∙ h.q_is) in
         let facet : IsFacet h.p h.q plane.facet = subst (λ z. IsFacet h.p z plane.facet) second (subst (λ z. IsFacet z f.q plane.facet) first f.holds) in
         (link, at, (plane.facet, h.holds.all plane.facet facet, (plane.is, off)))
 

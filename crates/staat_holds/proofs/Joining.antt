@@ -2,7 +2,6 @@
 use Rattle.std.proofs.Common.{◌≡◌, ◌⊎◌, ◌↔◌, ℕ, zero, suc, ◌+◌, ◌<◌, ◌≤◌, List, [], ◌∷◌, ◌++◌, length, get_or, take, inl, inr, ⊎_elim, refl, sym, ap, subst, ◌∙◌, arith, All, Contains}
 use Rattle.std.specs.Prelude.{Some, slice_get}
 use Rattle.std.specs.Cmp.{nat_cmp_is}
-use Rattle.std.specs.List.{AllByRecursion}
 use Rattle.std.specs.List.Sorted.{IsStrictlySortedBy}
 use Rattle.std.specs.Ordering.{nat_cmp}
 use Rattle.std.specs.declared.cmp.Ordering.TheVariants.{Less}
@@ -11,22 +10,14 @@ use Rattle.std.proofs.lemmas.List.Elements.{Contains-append_left, Contains-push,
 use Rattle.std.proofs.lemmas.Option.{get_or_from_slice_get, slice_get-get_or}
 use Rattle.staat_vec.specs.Lists.{Lists}
 use Rattle.staat_model.specs.declared.assembly.Part.{Part}
-use Rattle.staat_model.proofs.Members.{here, there}
-use Rattle.staat_model.proofs.Places.{place_within, same_some}
+use Rattle.staat_model.proofs.Places.{place_within}
 use Rattle.staat_holds.specs.declared.hold.Hold.{Hold}
 use Rattle.staat_holds.specs.Chains.{AllKeep, IsJoinedAt, IsOfOne, names_before}
-use Rattle.staat_holds.proofs.ChainSteps.{place_is}
+use Rattle.staat_vec.proofs.Comparisons.{sorted_push_less}
+use Rattle.staat_vec.proofs.Options.{some_injective}
+use Rattle.staat_vec.proofs.ListLaws.{place_is}
 
 -- ---- one number more of an ascending list
-
-push_each : (P : ℕ → Type 0) (xs : List ℕ) (x : ℕ) → AllByRecursion P xs → P x → AllByRecursion P (xs ++ x ∷ [])
-push_each P [] x all p = (p, tt)
-push_each P (y ∷ ys) x all p = (all.0, push_each P ys x all.1 p)
-
-sorted_push : (xs : List ℕ) (x : ℕ) → IsStrictlySortedBy nat_cmp xs → ((y : ℕ) → Contains xs y → nat_cmp y x ≡ Less) → IsStrictlySortedBy nat_cmp (xs ++ x ∷ [])
-unfolding IsStrictlySortedBy
-sorted_push [] x h f = (tt, tt)
-sorted_push (y ∷ ys) x h f = (push_each (λ z. nat_cmp y z ≡ Less) ys x h.0 (f y (here y ys)), sorted_push ys x h.1 (λ z z_in. f z (there y z ys z_in)))
 
 -- ---- the parts that have the name of one of the nodes
 
@@ -41,7 +32,7 @@ module _ (names nodes : List ℕ) where
 
   pub among_more : (k d : ℕ) (s : List ℕ) → k < length names → Contains nodes (get_or names k d) → Lists nat_cmp (IsOfOneBelow k) s → Lists nat_cmp (IsOfOneBelow (k + 1)) (s ++ k ∷ [])
   among_more k d s lt listed is = record {
-    ascending = sorted_push s k is.ascending (λ y c. let h = is.each y c in sym (nat_cmp_is y k Less h.0));
+    ascending = sorted_push_less s k is.ascending (λ y c. let h = is.each y c in sym (nat_cmp_is y k Less h.0));
     each = λ p h. ⊎_elim {C = IsOfOneBelow (k + 1) p}
         (λ old. let b = is.each p old in (let less = b.0 in omega (arith, less), b.1))
         (λ new. (omega (arith, new), subst (IsOfOne names nodes) new own)) (Contains-push_cases s k p h);
@@ -83,7 +74,7 @@ joined_at parts holds k hold names now nodes members same is of_hold lt at lists
     from : (p : ℕ) → IsJoinedAt parts holds (k + 1) p → IsOfOne (names_before parts holds k) hold.nodes p
     from p j =
         let e : j.k ≡ k = let l = j.last in omega (arith, l) in
-        let same_hold : j.hold ≡ hold = same_some j.hold hold (sym (subst (λ m. slice_get holds m ≡ Some j.hold) e j.at) ∙ place_is holds k hold lt at) in
+        let same_hold : j.hold ≡ hold = some_injective j.hold hold (sym (subst (λ m. slice_get holds m ≡ Some j.hold) e j.at) ∙ place_is holds k hold lt at) in
         subst (λ (h : Hold). IsOfOne (names_before parts holds k) h.nodes p) same_hold (subst (λ m. IsOfOne (names_before parts holds m) j.hold.nodes p) e j.joined)
 
 pub none_joined : (parts : List Part) (holds : List Hold) → Lists nat_cmp (IsJoinedAt parts holds 0) []

@@ -1,6 +1,5 @@
 -- Links at the opposite of a direction and at a multiple of it.
-use Rattle.std.proofs.Common.{◌≡◌, ◌≢◌, ◌↔◌, ℕ, ◌≤◌, ℤ, pos, ◌≤ℤ◌, ◌<ℤ◌, ◌*ℤ◌, List, [], ◌∷◌, inl, inr, ⊎_elim, sym, ap, subst, ◌∙◌, arith}
-use Rattle.std.proofs.lemmas.Int.{ints}
+use Rattle.std.proofs.Common.{◌≡◌, ◌≢◌, ◌↔◌, ℕ, ◌≤◌, ℤ, pos, ◌≤ℤ◌, ◌<ℤ◌, ◌*ℤ◌, List, [], ◌∷◌, inl, inr, ⊎_elim, sym, ap, subst, ◌∙◌}
 use Rattle.std.proofs.lemmas.List.Elements.{All-weaker}
 use Rattle.staat_vec.specs.declared.vector.V3.{V3}
 use Rattle.staat_vec.specs.Primitives.{primitive}
@@ -15,6 +14,7 @@ use Rattle.staat_model.proofs.GraphLemmas.{positive_back}
 use Rattle.staat_holds.specs.declared.links.Link.{Link}
 use Rattle.staat_holds.specs.Links.{IsLinkAhead, IsJoined, LinkLeads, SomeLeads}
 use Rattle.staat_holds.proofs.ReachLemmas.{all_carried, back}
+use Rattle.staat_vec.proofs.Integers.{positive_pos}
 
 -- at the opposite of d ways lead the other way
 pub leads_opposite : (links : List Link) (d : V3) (x y : ℕ) → SomeLeads links d x y → SomeLeads links (negative d) y x
@@ -27,12 +27,9 @@ joined_opposite links count d all x y x_lt y_lt = back (λ a b l. leads_opposite
 ahead_multiple : (link : Link) (c d : V3) (k : ℕ) → 1 ≤ k → c ≡ times k d → IsLinkAhead link c ↔ IsLinkAhead link d
 ahead_multiple link c d k some e = (
   λ ahead. All-weaker (λ n. pos 0 <ℤ dot n c) (λ n. pos 0 <ℤ dot n d) (λ n h. less (dot n c) (dot n d) (dot_multiple n c d k e) h) link.facets ahead,
-  λ ahead. All-weaker (λ n. pos 0 <ℤ dot n d) (λ n. pos 0 <ℤ dot n c) (λ n h. positive_is (dot n c) (pos k *ℤ dot n d) (dot_multiple n c d k e) (pos_mul (pos k) (dot n d) (factor k some) h)) link.facets ahead,
+  λ ahead. All-weaker (λ n. pos 0 <ℤ dot n d) (λ n. pos 0 <ℤ dot n c) (λ n h. positive_is (dot n c) (pos k *ℤ dot n d) (dot_multiple n c d k e) (pos_mul (pos k) (dot n d) (positive_pos k some) h)) link.facets ahead,
 )
   where
-    factor : (k : ℕ) → 1 ≤ k → pos 0 <ℤ pos k
-    factor k h = omega (arith, ints, h)
-
     less : (a b : ℤ) → a ≡ pos k *ℤ b → pos 0 <ℤ a → pos 0 <ℤ b
     less a b same h = positive_back b a (λ low. subst (λ z. z ≤ℤ pos 0) (sym same) (not_positive_mul k b low)) h
 

@@ -16,7 +16,7 @@ use Rattle.staat_holds.specs.declared.ways.Way.{Way}
 use Rattle.staat_holds.specs.Holds.{IsOfNode, IsOfSomeNode}
 use Rattle.staat_holds.specs.Links.{AreLinks, HasLinkOther, HasOther, IsLinkAhead, IsLink, IsLinkOf, IsOther, LinkLeads, SomeLeads}
 use Rattle.staat_holds.specs.Marks.{HasWay, IsWayWithin}
-use Rattle.staat_holds.proofs.ListSteps.{Some', some_at, some_more, some_none}
+use Rattle.staat_holds.proofs.ListSteps.{Some', some_at, some_more}
 
 -- ---- one link
 
@@ -79,15 +79,6 @@ planes_next old now next facets i d lt added so_far n =
 
 pub planes_end : (old now facets : List V3) (i : ℕ) → length facets ≤ i → ((n : V3) → Contains now n ↔ (Contains old n ⊎ HasOther (take i facets) n)) → (n : V3) → Contains now n ↔ (Contains old n ⊎ HasOther facets n)
 planes_end old now facets i le so_far = subst (λ l. (n : V3) → Contains now n ↔ (Contains old n ⊎ HasOther l n)) (take_all i facets le) so_far
-
-pub link_planes_begin : (now : List V3) (links : List Link) → now ≡ [] → (n : V3) → Contains now n ↔ HasLinkOther (take 0 links) n
-link_planes_begin now links is n = (
-  λ h. absurd (nothing (subst (λ l. Contains l n) is h)),
-  λ h. absurd (some_none (λ (link : Link). HasOther link.facets n) links h),
-)
-  where
-    nothing : {m : V3} → Contains [] m → ⊥
-    nothing (k, lt, e) = absurd (omega (arith, lt))
 
 pub link_planes_next : (now next : List V3) (links : List Link) (i : ℕ) (link : Link) (facets : List V3) → i < length links → link ≡ get_or links i link → facets ≡ link.facets
     → ((n : V3) → Contains next n ↔ (Contains now n ⊎ HasOther facets n)) → ((n : V3) → Contains now n ↔ HasLinkOther (take i links) n) → (n : V3) → Contains next n ↔ HasLinkOther (take (i + 1) links) n

@@ -1,6 +1,6 @@
 -- One more element of a list that is gone through.
-use Rattle.std.proofs.Common.{◌≡◌, ◌⊎◌, ◌↔◌, ℕ, ◌+◌, ◌<◌, ◌≤◌, List, [], ◌∷◌, ◌++◌, length, get_or, take, inl, inr, ⊎_elim, sym, subst, arith, Contains}
-use Rattle.std.proofs.lemmas.List.{take_all, take_more}
+use Rattle.std.proofs.Common.{◌≡◌, ◌⊎◌, ◌↔◌, ℕ, ◌+◌, ◌<◌, List, [], ◌∷◌, ◌++◌, length, get_or, take, inl, inr, ⊎_elim, sym, subst, Contains}
+use Rattle.std.proofs.lemmas.List.{take_more}
 use Rattle.std.proofs.lemmas.List.Elements.{Contains-append_left, Contains-push, Contains-push_cases}
 
 -- some member of the list has P
@@ -12,9 +12,6 @@ contains_push xs x y = (
   λ h. Contains-push_cases xs x y h,
   λ h. ⊎_elim {C = Contains (xs ++ x ∷ []) y} (λ g. Contains-append_left xs (x ∷ []) y g) (λ e. subst (Contains (xs ++ x ∷ [])) e (Contains-push xs x)) h,
 )
-
-pub some_none : {X : Type 0} (P : X → Type 0) (xs : List X) → Some' P (take 0 xs) → ⊥
-some_none P xs (x, (k, lt, e), p) = absurd (omega (arith, lt))
 
 pub some_push : {X : Type 0} (P : X → Type 0) (xs : List X) (x : X) → Some' P (xs ++ x ∷ []) ↔ (Some' P xs ⊎ P x)
 some_push P xs x = (
@@ -32,6 +29,3 @@ some_at P xs i d lt =
 
 pub some_more : {X : Type 0} (P : X → Type 0) (xs : List X) (i : ℕ) (x : X) → i < length xs → x ≡ get_or xs i x → Some' P (take (i + 1) xs) ↔ (Some' P (take i xs) ⊎ P x)
 some_more P xs i x lt is = subst (λ y. Some' P (take (i + 1) xs) ↔ (Some' P (take i xs) ⊎ P y)) (sym is) (some_at P xs i x lt)
-
-pub some_all : {X : Type 0} (P : X → Type 0) (xs : List X) (i : ℕ) → length xs ≤ i → Some' P (take i xs) ↔ Some' P xs
-some_all P xs i le = let e = take_all i xs le in (λ h. subst (Some' P) e h, λ h. subst (Some' P) (sym e) h)

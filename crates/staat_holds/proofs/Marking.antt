@@ -1,6 +1,6 @@
 -- Marks while ways are gone through.
 use Rattle.std.proofs.Common.{◌≡◌, ◌⊎◌, ℕ, zero, suc, ◌+◌, ◌<◌, ◌≤◌, Bool, true, false, List, [], ◌∷◌, ◌++◌, length, get_or, take, inl, inr, ⊎_elim, refl, sym, ap, subst, ◌∙◌, arith, Contains}
-use Rattle.std.proofs.lemmas.List.{take_all, take_more}
+use Rattle.std.proofs.lemmas.List.{take_more}
 use Rattle.std.proofs.lemmas.List.Elements.{All-push}
 use Rattle.std.specs.Prelude.{◌||◌}
 use Rattle.staat_holds.specs.declared.ways.Way.{Way}
@@ -13,9 +13,9 @@ get_or_same [] k d e lt = absurd (omega (arith, lt))
 get_or_same (x ∷ xs) zero d e lt = refl
 get_or_same (x ∷ xs) (suc k) d e lt = get_or_same xs k d e (omega (arith, lt))
 
-pub one_more : {R : ℕ → ℕ → Type 0} {x y z : ℕ} → Reaches R x y → R y z → Reaches R x z
-one_more here r = along _ r here
-one_more (along y s rest) r = along y s (one_more rest r)
+pub reach_more : {R : ℕ → ℕ → Type 0} {x y z : ℕ} → Reaches R x y → R y z → Reaches R x z
+reach_more here r = along _ r here
+reach_more (along y s rest) r = along y s (reach_more rest r)
 
 -- the marks after the first ways
 pub record Marks (ways : List Way) (i : ℕ) (old now : List Bool) (is_new : Bool) : Type 0 where
@@ -66,7 +66,7 @@ marks_next ways i d old now next was found is_new lt either step m = record {
   long = step.long ∙ m.long;
   kept = λ k h. step.kept k (m.kept k h);
   reached = λ x r k h. ⊎_elim {C = Reaches (HasWay ways) x k} (λ g. m.reached x r k g)
-      (λ g. one_more (m.reached x r way.from g.0) (subst (λ z. HasWay ways way.from z) g.1 member))
+      (λ g. reach_more (m.reached x r way.from g.0) (subst (λ z. HasWay ways way.from z) g.1 member))
       (step.only k h);
   shut = λ e. let none = either.neither e in
       subst (λ ws. AreShut ws next) (sym (take_more ways i d lt))
@@ -88,6 +88,3 @@ marks_next ways i d old now next was found is_new lt either step m = record {
 
     grown : visited_count now ≤ visited_count next
     grown = by_test found refl
-
-pub shut_all : (ways : List Way) (i : ℕ) (marks : List Bool) → length ways ≤ i → AreShut (take i ways) marks → AreShut ways marks
-shut_all ways i marks le shut = subst (λ ws. AreShut ws marks) (take_all i ways le) shut

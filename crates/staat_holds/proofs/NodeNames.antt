@@ -1,6 +1,6 @@
 -- Names of nodes, and the places that they have among the nodes of a hold.
-use Rattle.std.proofs.Common.{◌≡◌, ◌⊎◌, ◌↔◌, ℕ, zero, suc, ◌+◌, ◌<◌, ◌≤◌, ◌^◌, Bool, true, false, cond, List, [], ◌∷◌, ◌++◌, length, get_or, map, inl, inr, ⊎_elim, refl, sym, ap, subst, ◌∙◌, arith, All, Contains}
-use Rattle.std.specs.Prelude.{Option, None, Some, ◌||◌, nat_eq, option_map, slice_get}
+use Rattle.std.proofs.Common.{◌≡◌, ◌⊎◌, ◌↔◌, ℕ, zero, suc, ◌+◌, ◌<◌, ◌≤◌, ◌^◌, Bool, true, false, cond, List, [], ◌∷◌, ◌++◌, length, get_or, inl, inr, ⊎_elim, refl, sym, ap, subst, ◌∙◌, arith, All, Contains}
+use Rattle.std.specs.Prelude.{Option, None, Some, ◌||◌, nat_eq, slice_get}
 use Rattle.std.specs.FinSet as set
 use Rattle.std.specs.List.{list_any, position_or_len, range_with_len}
 use Rattle.std.specs.List.Sorted.{IsStrictlySortedBy}
@@ -11,14 +11,16 @@ use Rattle.std.proofs.lemmas.List.Elements.{All-weaker}
 use Rattle.std.proofs.lemmas.List.Quantifiers.{position-Some}
 use Rattle.std.proofs.lemmas.Map.Keys.{below_from_sorted, sorted_tail}
 use Rattle.std.proofs.lemmas.Map.Views.{length-le_from_below}
-use Rattle.std.proofs.lemmas.Option.{get_or_from_slice_get, slice_get-get_or, slice_get-map}
+use Rattle.std.proofs.lemmas.Option.{get_or_from_slice_get, slice_get-get_or}
 use Rattle.staat_model.specs.declared.set.PartSet.{PartSet}
 use Rattle.staat_model.specs.Sets.{Has}
-use Rattle.staat_model.proofs.Members.{here, there}
-use Rattle.staat_model.proofs.Places.{place_within, same_some}
+use Rattle.staat_model.proofs.Places.{place_within}
 use Rattle.staat_model.proofs.SetMembers.{has-empty, has-insert}
 use Rattle.staat_holds.specs.Chains.{IsName, joined_name, own_names, place_of, places_of}
 use Rattle.staat_holds.specs.Holds.{IsOfNode}
+use Rattle.staat_vec.proofs.Unique.{Contains-nothing, Contains-front}
+use Rattle.staat_vec.proofs.ListLaws.{place_in_map, map_at_place, Contains-there}
+use Rattle.staat_vec.proofs.Options.{some_injective}
 
 -- ---- whether a name is among some nodes
 
@@ -31,16 +33,13 @@ unequal n m ne = grind (arith, nat_tests)
 same_if : (n m : ℕ) → nat_eq n m ≡ true → n ≡ m
 same_if n m e = grind (arith, nat_tests)
 
-nothing : {X : Type 0} (x : X) → Contains [] x → ⊥
-nothing x (k, lt, e) = absurd (omega (arith, lt))
-
 -- whether the name is one of the nodes, by the test
 abbrev pub IsTested : List ℕ → ℕ → Type 0
 IsTested nodes n = (Contains nodes n × (list_any (nat_eq n) nodes ≡ true)) ⊎ ((Contains nodes n → ⊥) × (list_any (nat_eq n) nodes ≡ false))
 
 among_more : (m : ℕ) (nodes : List ℕ) (n : ℕ) → (n ≡ m) ⊎ (n ≡ m → ⊥) → IsTested nodes n → IsTested (m ∷ nodes) n
-among_more m nodes n (inl e) t = inl (subst (Contains (m ∷ nodes)) (sym e) (here m nodes), ap (λ b. b || list_any (nat_eq n) nodes) (equal n m e))
-among_more m nodes n (inr ne) (inl h) = inl (there m n nodes h.0, ap (λ b. b || list_any (nat_eq n) nodes) (unequal n m ne) ∙ h.1)
+among_more m nodes n (inl e) t = inl (subst (Contains (m ∷ nodes)) (sym e) (Contains-front m nodes), ap (λ b. b || list_any (nat_eq n) nodes) (equal n m e))
+among_more m nodes n (inr ne) (inl h) = inl (Contains-there m n nodes h.0, ap (λ b. b || list_any (nat_eq n) nodes) (unequal n m ne) ∙ h.1)
 among_more m nodes n (inr ne) (inr h) = inr (none, ap (λ b. b || list_any (nat_eq n) nodes) (unequal n m ne) ∙ h.1)
   where
     none : Contains (m ∷ nodes) n → ⊥
@@ -48,7 +47,7 @@ among_more m nodes n (inr ne) (inr h) = inr (none, ap (λ b. b || list_any (nat_
     none (suc k, lt, e) = h.0 (k, omega (arith, lt), e)
 
 pub among_or : (nodes : List ℕ) (n : ℕ) → IsTested nodes n
-among_or [] n = inr (nothing n, refl)
+among_or [] n = inr (Contains-nothing n, refl)
 among_or (m ∷ nodes) n = among_more m nodes n (cases_eq n m) (among_or nodes n)
 
 pub among_yes : (nodes : List ℕ) (n : ℕ) → list_any (nat_eq n) nodes ≡ true → Contains nodes n
@@ -76,7 +75,7 @@ joined_out nodes n off = ⊎_elim {C = joined_name nodes n ≡ n}
 -- the name of what some nodes become
 pub first_of : (nodes : List ℕ) → 1 ≤ length nodes → (r : ℕ) × Contains nodes r × ((n : ℕ) → get_or nodes 0 n ≡ r)
 first_of [] some = absurd (omega (arith, some))
-first_of (r ∷ nodes) some = (r, here r nodes, λ n. refl)
+first_of (r ∷ nodes) some = (r, Contains-front r nodes, λ n. refl)
 
 -- ---- the place of a name among ascending nodes
 
@@ -95,7 +94,7 @@ below_first m nodes k n sorted at e =
 
 place_at : (nodes : List ℕ) (k n : ℕ) → IsStrictlySortedBy nat_cmp nodes → slice_get nodes k ≡ Some n → position_or_len (nat_eq n) nodes ≡ k
 place_at [] k n sorted at = cc
-place_at (m ∷ nodes) zero n sorted at = let hit : nat_eq n m ≡ true = equal n m (sym (same_some m n at)) in grind arith
+place_at (m ∷ nodes) zero n sorted at = let hit : nat_eq n m ≡ true = equal n m (sym (some_injective m n at)) in grind arith
 place_at (m ∷ nodes) (suc k) n sorted at =
     let miss : nat_eq n m ≡ false = unequal n m (below_first m nodes k n sorted at) in
     let rest : position_or_len (nat_eq n) nodes ≡ k = place_at nodes k n (sorted_tail nat_cmp m nodes sorted) at in
@@ -113,21 +112,13 @@ place_few nodes k n e = place_within nodes k n (place_to nodes k n e)
 
 -- ---- maps
 
-pub map_at : {X Y : Type 0} (f : X → Y) (xs : List X) (k : ℕ) (y : Y) → slice_get (map f xs) k ≡ Some y → (x : X) × (slice_get xs k ≡ Some x) × (f x ≡ y)
-map_at f [] k y e = cc
-map_at f (x ∷ xs) zero y e = (x, refl, same_some (f x) y e)
-map_at f (x ∷ xs) (suc k) y e = map_at f xs k y e
-
-pub at_map : {X Y : Type 0} (f : X → Y) (xs : List X) (k : ℕ) (x : X) → slice_get xs k ≡ Some x → slice_get (map f xs) k ≡ Some (f x)
-at_map f xs k x e = slice_get-map f xs k ∙ ap (option_map f) e
-
 -- the part belongs to the node at place k exactly where it has that node's name
 pub of_place : (nodes names : List ℕ) (k n a : ℕ) → IsStrictlySortedBy nat_cmp nodes → slice_get nodes k ≡ Some n → IsOfNode (places_of nodes names) k a ↔ (slice_get names a ≡ Some n)
 of_place nodes names k n a sorted at = (
   λ h.
-      let (m, named, is) = map_at (place_of nodes) names a (Some k) h in
+      let (m, named, is) = place_in_map (place_of nodes) names a (Some k) h in
       named ∙ sym (place_to nodes k m is) ∙ at,
-  λ h. at_map (place_of nodes) names a n h ∙ ap Some (place_from nodes k n sorted at),
+  λ h. map_at_place (place_of nodes) names a n h ∙ ap Some (place_from nodes k n sorted at),
 )
 
 -- ---- the set of the parts that have a name

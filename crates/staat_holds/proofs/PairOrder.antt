@@ -3,7 +3,6 @@ use Rattle.std.proofs.Common.{◌≡◌, ◌≢◌, ◌⊎◌, ℕ, zero, suc, �
 use Rattle.std.specs.Prelude.{Option, cond, length, nat_lt}
 use Rattle.std.specs.Ordering.{eq_by_cmp, is_eq, nat_cmp, ordering_then}
 use Rattle.std.specs.declared.cmp.Ordering.{Ordering}
-use Rattle.std.specs.declared.cmp.Ordering.TheVariants.{Less, Equal, Greater}
 use Rattle.std.specs.Cmp.{IsEquivalence, tied_then, unsigned_tied}
 use Rattle.std.proofs.lemmas.Bool.Decides.{nat_tests}
 use Rattle.std.proofs.lemmas.Cmp.{eq_by_cmp_equiv}
@@ -25,6 +24,7 @@ use Rattle.staat_motion.specs.Motions.{turned}
 use Rattle.staat_holds.specs.Chains.{KeepsHoldRules, places_of}
 use Rattle.staat_holds.specs.Holds.{HasPair, IsCorePair, IsHoldPlane, IsOfNode, JoinsNodes, LeadsBetween, lesser_first}
 use Rattle.staat_holds.proofs.ReachLemmas.{carried}
+use Rattle.staat_vec.proofs.Comparisons.{from_is_eq}
 
 -- ---- arcs are told apart by their order
 
@@ -45,13 +45,8 @@ ties x y =
 pub test_equivalence : IsEquivalence test
 test_equivalence = let p : test ≡ eq_by_cmp arc_cmp = λ i x y. ties x y i in subst (λ F. IsEquivalence F) (sym p) (eq_by_cmp_equiv arc_total)
 
-equal_from : (o : Ordering) → is_eq o ≡ true → o ≡ Equal
-equal_from Less e = cc
-equal_from Equal e = refl
-equal_from Greater e = cc
-
 pub test_exact : (x y : Arc) → test x y ≡ true → x ≡ y
-test_exact x y e = arc_exact x y (equal_from (arc_cmp x y) (sym (ties x y) ∙ e))
+test_exact x y e = arc_exact x y (from_is_eq (arc_cmp x y) (sym (ties x y) ∙ e))
 
 -- ---- the lesser part first
 

@@ -1,13 +1,13 @@
 -- What marks say of what is reached, and walks in two graphs with the same arcs.
-use Rattle.std.proofs.Common.{◌≡◌, ◌↔◌, ℕ, zero, suc, ◌<◌, ◌≤◌, Bool, true, false, List, [], ◌∷◌, length, get_or, set, map, take, drop, ◌++◌, inl, inr, sym, ap, subst, ◌∙◌, arith, All, Contains}
+use Rattle.std.proofs.Common.{◌≡◌, ◌↔◌, ℕ, zero, suc, ◌<◌, ◌≤◌, Bool, true, false, List, [], ◌∷◌, length, get_or, set, map, inl, inr, sym, ap, subst, ◌∙◌, arith, All, Contains}
 use Rattle.std.specs.Prelude.{IsTrue, replicate}
 use Rattle.std.proofs.lemmas.Bool.{cases_eq}
-use Rattle.std.proofs.lemmas.List.{append-nil, drop_all, get_or-set_other, get_or-set_same, length-replicate, length-set, take_all}
+use Rattle.std.proofs.lemmas.List.{get_or-set_other, get_or-set_same, length-replicate, length-set}
 use Rattle.std.proofs.lemmas.List.Elements.{All-contains, All-contains_itself, All-weaker}
 use Rattle.staat_holds.specs.declared.ways.Way.{Way}
 use Rattle.staat_holds.specs.Marks.{KeepsVisited, ReachesVisited, AreShut, HasWay, IsVisited, IsWayWithin, turned_way}
 use Rattle.staat_holds.specs.Reaching.{AllReach, Reaches, here, along}
-use Rattle.staat_holds.proofs.Marking.{get_or_same, one_more}
+use Rattle.staat_holds.proofs.Marking.{get_or_same, reach_more}
 
 pub joined : {R : ℕ → ℕ → Type 0} {x y z : ℕ} → Reaches R x y → Reaches R y z → Reaches R x z
 joined here v = v
@@ -19,7 +19,7 @@ carried f (along y r rest) = along y (f _ y r) (carried f rest)
 
 pub back : {R S : ℕ → ℕ → Type 0} {x y : ℕ} → ((a b : ℕ) → R a b → S b a) → Reaches R x y → Reaches S y x
 back f here = here
-back f (along y r rest) = one_more (back f rest) (f _ y r)
+back f (along y r rest) = reach_more (back f rest) (f _ y r)
 
 pub all_carried : {R S : ℕ → ℕ → Type 0} (count : ℕ) → ((a b : ℕ) → R a b ↔ S a b) → AllReach count R ↔ AllReach count S
 all_carried count same = (
@@ -43,9 +43,6 @@ way_back (w ∷ ways) x y (suc k, lt, e) = let (m, at, is) = way_back ways x y (
 
 pub all_by_first : (ways : List Way) (count : ℕ) → 1 ≤ count → ((k : ℕ) → k < count → Reaches (HasWay ways) 0 k) → ((k : ℕ) → k < count → Reaches (HasWay (map turned_way ways)) 0 k) → AllReach count (HasWay ways)
 all_by_first ways count some out in' x y x_lt y_lt = joined (back (way_back ways) (in' x x_lt)) (out y y_lt)
-
-pub first_by_all : (ways : List Way) (count : ℕ) → 1 ≤ count → AllReach count (HasWay ways) → (k : ℕ) → k < count → Reaches (HasWay ways) 0 k
-first_by_all ways count some all k lt = all 0 k (omega (arith, some)) lt
 
 pub back_by_all : (ways : List Way) (count : ℕ) → 1 ≤ count → AllReach count (HasWay ways) → (k : ℕ) → k < count → Reaches (HasWay (map turned_way ways)) 0 k
 back_by_all ways count some all k lt = back (way_turned ways) (all k 0 lt (omega (arith, some)))
@@ -94,7 +91,3 @@ marks_begun ways count begun marks now answer some is long same kept reached shu
       λ yes. h.0 (t.0 yes),
       λ all. t.1 (h.1 all),
     )
-
-pub written_back : {X : Type 0} (before after : List X) (len : ℕ) → length after ≡ length before → len ≡ length before → take len (after ++ drop (length after) before) ≡ after
-written_back before after len e f =
-    ap (λ rest. take len (after ++ rest)) (drop_all (length after) before (omega (arith, e))) ∙ ap (take len) (append-nil after) ∙ take_all len after (omega (arith, e, f))

@@ -32,10 +32,6 @@ prepend done (Err fault) = Err fault
 abbrev pub Continues : {X Y : Type 0} → (X → Found Y → Type 0) → List X → ℕ → List Y → Type 0
 Continues Step xs i done = (found : Found _) → Each Step (drop i xs) found → Each Step xs (prepend done found)
 
-pub each_begin : {X Y : Type 0} (Step : X → Found Y → Type 0) (xs : List X) → Continues Step xs 0 []
-each_begin Step xs (Ok ys) h = h
-each_begin Step xs (Err fault) h = h
-
 one_more : {X Y : Type 0} (Step : X → Found Y → Type 0) (x : X) (xs : List X) (y : Y) (found : Found (List Y)) → Step x (Ok y) → Each Step xs found → Each Step (x ∷ xs) (prepend (y ∷ []) found)
 one_more Step x xs y (Ok ys) step rest = inr (y, step, inr (ys, rest, refl))
 one_more Step x xs y (Err fault) step rest = inr (y, step, inl (fault, rest, refl))

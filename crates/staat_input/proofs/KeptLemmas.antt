@@ -27,7 +27,7 @@ taken_kept limit files others name Says x keeps (to_read e) = absurd cc
 taken_kept limit files others name Says x keeps (too_long bytes at long e) = absurd cc
 taken_kept limit files others name Says x keeps (taken bytes at short says) = taken bytes (keeps bytes at) short says
 
-each_kept : {X Y : Type 0} (Step Other : X → Found Y → Type 0) (xs : List X) (ys : List Y) → ((x : X) (y : Y) → Contains xs x → Step x (Ok y) → Other x (Ok y)) → Each Step xs (Ok ys) → Each Other xs (Ok ys)
+pub each_kept : {X Y : Type 0} (Step Other : X → Found Y → Type 0) (xs : List X) (ys : List Y) → ((x : X) (y : Y) → Contains xs x → Step x (Ok y) → Other x (Ok y)) → Each Step xs (Ok ys) → Each Other xs (Ok ys)
 each_kept Step Other [] ys keeps e = e
 each_kept Step Other (x ∷ xs) ys keeps (inl (fault, at, e)) = absurd cc
 each_kept Step Other (x ∷ xs) ys keeps (inr (y, first, inl (fault, at, e))) = absurd cc

@@ -1,9 +1,9 @@
 -- How sketches grow.
-use Rattle.std.proofs.Common.{◌≡◌, ◌∙◌, ℕ, zero, suc, ◌+◌, ◌<◌, ◌≤◌, ◌++◌, true, false, List, [], ◌∷◌, map, take, get_or, length, refl, ap, sym, subst, arith, append_assoc, append-nil}
+use Rattle.std.proofs.Common.{◌≡◌, ◌∙◌, ℕ, zero, suc, ◌+◌, ◌<◌, ◌≤◌, ◌++◌, List, [], ◌∷◌, map, take, get_or, length, ap, sym, subst, arith, append_assoc, append-nil}
 use Rattle.std.specs.Prelude.{sum_by}
-use Rattle.std.proofs.lemmas.List.{length_push, map_more, take_more}
+use Rattle.std.proofs.lemmas.List.{map_more, take_more}
 use Rattle.std.proofs.lemmas.List.Sums.{sum_by_push}
-use Rattle.std.proofs.lemmas.List.Elements.{All-append, All-cons, All-nil}
+use Rattle.std.proofs.lemmas.List.Elements.{All-nil}
 use Rattle.staat_off.specs.Raws.{IsCounted}
 use Rattle.staat_manifest.specs.declared.listing.ListedPart.{ListedPart}
 use Rattle.staat_explode.specs.declared.scene.Solid.{Solid}
@@ -11,16 +11,6 @@ use Rattle.staat_explode.specs.Sizes.{IsSolidIn}
 use Rattle.staat_input.specs.declared.sketch.Sketch.{Sketch}
 use Rattle.staat_input.specs.Work.{Files}
 use Rattle.staat_input.specs.Drawing.{AreSmall, Drew, solids_from, solids_of_part}
-
--- a sketch that keeps nothing may be said to have grown by anything
-pub drew_nothing : (sketch : Sketch) (more : List Solid) → sketch.keep ≡ false → Drew sketch sketch more
-drew_nothing sketch more off = record { keep = refl; solids = λ on. absurd (unlike (sym off ∙ on)) }
-  where
-    unlike : false ≡ true → ⊥
-    unlike e = cc
-
-pub drew_start : (sketch : Sketch) → Drew sketch sketch []
-drew_start sketch = record { keep = refl; solids = λ on. sym (append-nil sketch.solids.items) }
 
 pub drew_then : (a b c : Sketch) (xs ys : List Solid) → Drew a b xs → Drew b c ys → Drew a c (xs ++ ys)
 drew_then a b c xs ys first second = record {
@@ -30,13 +20,6 @@ drew_then a b c xs ys first second = record {
 
 pub small_more : (parts most more : ℕ) (solids : List Solid) → most ≤ more → AreSmall parts most solids → AreSmall parts more solids
 small_more parts most more solids le h = record { placed = h.placed; counted = h.counted; few = omega (arith, le, h.few) }
-
-pub small_one : (parts most : ℕ) (solids : List Solid) (s : Solid) → IsSolidIn parts s → IsCounted s.raw → AreSmall parts most solids → AreSmall parts (most + 1) (solids ++ s ∷ [])
-small_one parts most solids s placed counted h = record {
-  placed = All-append (IsSolidIn parts) solids (s ∷ []) h.placed (All-cons (IsSolidIn parts) s [] placed (All-nil (IsSolidIn parts)));
-  counted = All-append (λ (t : Solid). IsCounted t.raw) solids (s ∷ []) h.counted (All-cons (λ (t : Solid). IsCounted t.raw) s [] counted (All-nil (λ (t : Solid). IsCounted t.raw)));
-  few = (let n = length_push solids s in omega (arith, n, h.few));
-}
 
 pub small_none : (parts : ℕ) → AreSmall parts 0 []
 small_none parts = record { placed = All-nil (IsSolidIn parts); counted = All-nil (λ (t : Solid). IsCounted t.raw); few = omega arith }

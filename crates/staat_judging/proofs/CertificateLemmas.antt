@@ -24,7 +24,7 @@ use Rattle.staat_input.specs.Causes.{HasCause, ShelfSide}
 use Rattle.staat_input.proofs.ReadLemmas.{not_taken_within}
 use Rattle.staat_edge.proofs.OpeningLemmas.{none_opened, opens_some, refused}
 use Rattle.staat_judging.proofs.FeedingLemmas.{found_fed}
-use Rattle.staat_judging.proofs.OpenedFurther.{opened_file}
+use Rattle.staat_input.proofs.OpenedLemmas.{all_opened}
 
 -- ---- what the file says
 
@@ -56,7 +56,7 @@ found_certificate told files name reader r fit file says = found_fed (SaysCertif
 pub no_certificate : (told : ShelfTold) (files : Files) (name : List ℕ) (f : Fault) → Fit told files → IsNotTakenWithin TEXT_LIMIT told name f → Follows (IsCertificateIn files name) (Err f)
 no_certificate told files name f fit refused = not_taken_within TEXT_LIMIT (SaysCertificate name) told files name f fit refused
 
-pub ruleset found = (found_certificate, no_certificate, opened_file, refused, none_opened, opens_some)
+pub ruleset found = (found_certificate, no_certificate, all_opened, refused, none_opened, opens_some)
 
 -- ---- the verdict
 

@@ -1,20 +1,14 @@
 -- The files opened after those of an input.
 use Rattle.std.proofs.Common.{◌≡◌, ℕ, Bool, true, false, List, [], ◌∷◌, ◌++◌, append-nil, subst, inl, inr}
 use Rattle.staat_edge.specs.Fitting.{Narrows}
-use Rattle.staat_edge.specs.Opening.{Opens, OpensAll, OpensFiles, OpensSome}
+use Rattle.staat_edge.specs.Opening.{OpensAll, OpensFiles, OpensSome}
 use Rattle.staat_edge.specs.Readings.{FileReading, whole_reading}
 use Rattle.staat_edge.specs.Told.{ShelfTold}
-use Rattle.staat_edge.proofs.OpeningLemmas.{all_some, narrowed, opens_after, opens_some, some_of_more}
+use Rattle.staat_edge.proofs.OpeningLemmas.{narrowed, opens_after, opens_some, some_of_more}
 use Rattle.staat_words.specs.declared.request.Input.{Input}
 use Rattle.staat_words.specs.declared.request.Input.TheVariants as inputs
 use Rattle.staat_input.specs.declared.limits.Limits.{Limits}
 use Rattle.staat_input.specs.Opened.{OpensInput, OpensSomeOf, piece_files}
-
--- where all were opened, they were whether or not the work came to its end
-pub opened_file : (ends : Bool) (names : List (List ℕ)) (before now : List FileReading) → OpensAll names before now
-    → Opens ends names before now
-opened_file true names before now all = all
-opened_file false names before now all = all_some names before now all
 
 -- files that fit after a file was opened fitted before
 pub fitted_before : (ends : Bool) (names : List (List ℕ)) (mid now : ShelfTold) → now.holds ≡ mid.holds

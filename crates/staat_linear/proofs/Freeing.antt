@@ -1,5 +1,5 @@
 -- A part is free of the others of a set along a direction exactly where no arc of the blocking graph leads from it to one of them.
-use Rattle.std.proofs.Common.{◌≡◌, ◌≢◌, ◌⊎◌, ⊎_elim, ℕ, ◌<◌, ◌≤◌, arith, sym, subst, ap, ◌∙◌, List, refl, inl}
+use Rattle.std.proofs.Common.{◌≡◌, ◌≢◌, ⊎_elim, ℕ, ◌≤◌, sym, subst, ◌∙◌, List, refl, inl}
 use Rattle.staat_vec.specs.declared.vector.V3.{V3}
 use Rattle.staat_vec.specs.Vectors.{negative, origin}
 use Rattle.staat_model.specs.declared.assembly.Part.{Part}
@@ -7,7 +7,6 @@ use Rattle.staat_model.specs.declared.set.PartSet.{PartSet}
 use Rattle.staat_model.specs.Sets.{Has, single}
 use Rattle.staat_model.proofs.GraphLemmas.{opposite_blocks_lemma}
 use Rattle.staat_model.proofs.SetMembers.{has-difference, has-single}
-use Rattle.staat_vec.proofs.Canons.{negative-negative}
 use Rattle.staat_graph.specs.Blocking.{ShowsBlocking}
 use Rattle.staat_graph.specs.Graphs.{AreReversed, HasArc}
 use Rattle.staat_core.specs.declared.joins.Moving.TheVariants.{OnePart}
@@ -15,12 +14,7 @@ use Rattle.staat_core.specs.Moves.{NothingMoves}
 use Rattle.staat_linear.specs.Holding.{AreHeld, IsHeld, IsLeastFree, IsLeastLeaving}
 use Rattle.staat_linear.specs.Orders.{LeavesAlong, LetsLeave}
 use Rattle.staat_linear.proofs.Locked.{has-without}
-
-pub negative_some : (d : V3) → d ≢ origin → negative d ≢ origin
-negative_some d some e = some (sym (negative-negative d) ∙ ap negative e)
-
-order : (p q : ℕ) → (p ≤ q) ⊎ (q < p)
-order p q = grind arith
+use Rattle.staat_vec.proofs.Naturals.{le_or_lt}
 
 -- the reversed graph is that of the opposite direction
 pub shows_back : (parts : List Part) (w : PartSet) (d : V3) (rows back : List ℕ) → ShowsBlocking parts d w rows → AreReversed rows back → ShowsBlocking parts (negative d) w back
@@ -58,7 +52,7 @@ module _ (parts : List Part) (w : PartSet) (d : V3) (rows : List ℕ) (shows : S
   pub least_leaves : (p : ℕ) → d ≢ origin → IsLeastFree rows w p → IsLeastLeaving parts w d p
   least_leaves p some h = record {
     leaves = free_leaves p some h.member h.free;
-    least = λ q leaves. ⊎_elim {C = p ≤ q} (λ le. le) (λ lt. absurd (held_stays q (h.before q leaves.member lt) leaves)) (order p q);
+    least = λ q leaves. ⊎_elim {C = p ≤ q} (λ le. le) (λ lt. absurd (held_stays q (h.before q leaves.member lt) leaves)) (le_or_lt p q);
   }
 
 -- where nothing moves by itself, no part leaves

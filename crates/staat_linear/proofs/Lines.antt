@@ -1,19 +1,14 @@
 -- The members of a set as they are written, one more at a time.
-use Rattle.std.proofs.Common.{◌≡◌, ◌∙◌, ℕ, ◌+◌, ◌-◌, ◌<◌, suc, true, false, List, ◌∷◌, ◌++◌, sym, ap, append_assoc, cond, add-one, arith}
+use Rattle.std.proofs.Common.{◌≡◌, ◌∙◌, ℕ, ◌+◌, ◌-◌, ◌<◌, suc, true, false, List, ◌∷◌, ◌++◌, sym, ap, append_assoc, arith}
 use Rattle.std.specs.Prelude.{decimal, map, pos}
 use Rattle.std.specs.FinSet as set
 use Rattle.staat_model.specs.declared.set.PartSet.{PartSet}
 use Rattle.staat_model.specs.Lines.{members_from, spaced}
+use Rattle.staat_model.proofs.MemberLines.{members_more, members_same}
 
 -- the members among the n numbers from p on, and a line feed
 abbrev pub onward : PartSet → ℕ → ℕ → List ℕ
 onward w p n = spaced (map pos (members_from p n w))
-
-members_more : (w : PartSet) (p n : ℕ) → set.contains w p ≡ true → members_from p (suc n) w ≡ p ∷ members_from (p + 1) n w
-members_more w p n e = rw add-one (ap (λ b. cond b (p ∷ members_from (suc p) n w) (members_from (suc p) n w)) e)
-
-members_same : (w : PartSet) (p n : ℕ) → set.contains w p ≡ false → members_from p (suc n) w ≡ members_from (p + 1) n w
-members_same w p n e = rw add-one (ap (λ b. cond b (p ∷ members_from (suc p) n w) (members_from (suc p) n w)) e)
 
 left : (p : ℕ) → p < 32 → 32 - p ≡ suc (32 - (p + 1))
 left p lt = omega arith

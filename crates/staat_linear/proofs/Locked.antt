@@ -4,12 +4,12 @@ use Rattle.std.specs.FinSet as set
 use Rattle.staat_model.specs.declared.assembly.Part.{Part}
 use Rattle.staat_model.specs.declared.set.PartSet.{PartSet}
 use Rattle.staat_model.specs.Sets.{Has, IsSubset, single}
-use Rattle.staat_model.proofs.RestrictLemmas.{member_or_not}
 use Rattle.staat_model.proofs.SetMembers.{has-difference, has-single}
 use Rattle.staat_model.proofs.SetSizes.{len-single}
 use Rattle.staat_graph.proofs.Finite.{len_subset}
 use Rattle.staat_linear.specs.declared.order.Leave.{Leave}
 use Rattle.staat_linear.specs.Orders.{AreFreeInTurn, IsLocked, IsOrder, all_but}
+use Rattle.staat_model.proofs.FreeSides.{member_or}
 
 -- a member other than p
 pub has-without : (w : PartSet) (p q : ℕ) → Has w q → (q ≡ p → ⊥) → Has (all_but w p) q
@@ -30,7 +30,7 @@ locked_lemma parts a w [] last locked within order free =
     let one = len-single last in
     let two : 2 ≤ set.len a = locked.two in
     omega (arith, le, one, two)
-locked_lemma parts a w (leave ∷ leaves) last locked within order free = elim (member_or_not a leave.part) [
+locked_lemma parts a w (leave ∷ leaves) last locked within order free = elim (member_or a leave.part) [
   | inl in_a ↦ locked.held leave.part leave.d in_a (record {
     moves = free.0.moves;
     clear = λ arc from to. free.0.clear arc from (without_within a w leave.part within arc.b to);

@@ -1,20 +1,17 @@
 -- A set of parts has one chosen order.
 use Rattle.std.proofs.Common.{◌≡◌, ◌≤◌, ℕ, List, [], ◌∷◌, Contains, arith, ap, sym, ◌∙◌, subst, refl}
 use Rattle.std.proofs.lemmas.List.Elements.{All-contains}
-use Rattle.std.specs.FinSet as set
 use Rattle.staat_vec.specs.Lists.{IsFirst}
 use Rattle.staat_vec.proofs.Unique.{IsFirst-in, IsFirst-unique}
 use Rattle.staat_model.specs.declared.assembly.Part.{Part}
 use Rattle.staat_model.specs.declared.set.PartSet.{PartSet}
 use Rattle.staat_model.specs.Planes.{vertices}
-use Rattle.staat_model.specs.Sets.{Has, single}
 use Rattle.staat_model.proofs.OneTable.{ArePlanes-unique}
-use Rattle.staat_model.proofs.SetMembers.{has-single}
-use Rattle.staat_model.proofs.SetSizes.{len-single}
 use Rattle.staat_linear.specs.declared.order.Leave.{Leave}
 use Rattle.staat_linear.specs.declared.order.Order.{Order}
 use Rattle.staat_linear.specs.declared.order.Order.TheVariants.{Whole, Locked}
 use Rattle.staat_linear.specs.Orders.{HasNoLeave, IsChosen, IsLeave, LeavesAlong, LetsLeave, no_leave, one_part, then_locked, then_whole, all_but}
+use Rattle.staat_model.proofs.OneOutcome.{one_alone, not_single}
 
 module _ (parts : List Part) where
   leave_unique : (w : PartSet) (x y : Leave) → IsLeave parts w x → IsLeave parts w y → x ≡ y
@@ -31,12 +28,6 @@ module _ (parts : List Part) where
       let planes = ArePlanes-unique parts w a.planes b.planes a.planes_are b.planes_are in
       let found = IsFirst-in (LetsLeave parts w) (vertices b.planes) x.d b.first in
       All-contains (λ v. LetsLeave parts w v → ⊥) (vertices a.planes) x.d a.none (subst (λ ps. Contains (vertices ps) x.d) (sym planes) found.0) found.1
-
-  not_single : (w : PartSet) (p : ℕ) → w ≡ single p → 2 ≤ set.len w → ⊥
-  not_single w p is two = let one : set.len w ≡ 1 = ap set.len is ∙ len-single p in absurd (omega arith)
-
-  one_alone : (p q : ℕ) → single p ≡ single q → p ≡ q
-  one_alone p q e = sym ((has-single p q).0 (subst (λ (u : PartSet). Has u q) (sym e) ((has-single q q).1 refl)))
 
   along : (w : PartSet) (x y : Leave) (o : Order) → x ≡ y → IsChosen parts (all_but w y.part) o → IsChosen parts (all_but w x.part) o
   along w x y o e = subst (λ (l : Leave). IsChosen parts (all_but w l.part) o) (sym e)

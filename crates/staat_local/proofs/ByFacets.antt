@@ -1,6 +1,6 @@
 -- Two pieces touch where some difference lies across all facets, and so where the sum of the facets keeps no two of their points apart.
-use Rattle.std.proofs.Common.{◌≡◌, ◌↔◌, ◌⊎◌, inl, inr, refl, Bool, true, false, IsTrue, Any, ⊎_elim, ◌≢◌, ◌≤◌, sym, ap, subst, ◌∙◌, arith, ℤ, pos, ◌+ℤ◌, ◌-ℤ◌, ◌*ℤ◌, ◌≤ℤ◌, ◌<ℤ◌, neg_ℤ, List, [], ◌∷◌, length, All, Contains}
-use Rattle.std.specs.Prelude.{Option, Some}
+use Rattle.std.proofs.Common.{◌≡◌, ◌↔◌, ◌⊎◌, inl, inr, refl, Bool, true, false, IsTrue, Any, ⊎_elim, ◌≢◌, sym, subst, ◌∙◌, arith, ℤ, pos, ◌+ℤ◌, ◌-ℤ◌, ◌*ℤ◌, ◌≤ℤ◌, ◌<ℤ◌, neg_ℤ, List, All, Contains}
+use Rattle.std.specs.Prelude.{Some}
 use Rattle.std.proofs.lemmas.Int.{ints, by_lt_z}
 use Rattle.std.proofs.lemmas.List.Elements.{All-contains, All-weaker}
 use Rattle.staat_vec.specs.declared.vector.V3.{V3}
@@ -9,44 +9,30 @@ use Rattle.staat_vec.specs.Vectors.{cross, dot, minus, negative, origin, vector_
 use Rattle.staat_vec.specs.Primitives.{primitive}
 use Rattle.staat_vec.proofs.Order.{cancel_zero}
 use Rattle.staat_vec.proofs.Primitives.{primitive-is}
-use Rattle.staat_vec.proofs.Ring.{◌⊖◌, ring}
-use Rattle.staat_vec.proofs.VecRing.{dotE, minusE, values, v0, v1, v2, dot_comm, dot_cross_left, dot_cross_right, negative_dot}
+use Rattle.staat_vec.proofs.VecRing.{dot_comm, dot_cross_left, dot_cross_right, negative_dot}
 use Rattle.staat_model.specs.declared.assembly.Part.{Part}
 use Rattle.staat_model.specs.declared.certificate.Arc.{Arc}
 use Rattle.staat_model.specs.Assemblies.{HoldsAt, IsAssembly, piece_at}
 use Rattle.staat_model.proofs.GraphLemmas.{piece_is}
-use Rattle.staat_model.specs.Cones.{IsAbove, IsConeFacet, IsSpanning, differences}
+use Rattle.staat_model.specs.Cones.{IsAbove, IsConeFacet, differences}
 use Rattle.staat_model.specs.Facets.{IsDifference, IsFacet}
 use Rattle.staat_model.specs.Pieces.{IsPiece}
 use Rattle.staat_model.proofs.Alternative.{IsSeparated, alternative}
 use Rattle.staat_model.proofs.CornerLemmas.{above_primitive, dot_multiple}
-use Rattle.staat_model.proofs.Differences.{differences_span_lemma, in_differences}
+use Rattle.staat_model.proofs.Differences.{in_differences}
 use Rattle.staat_model.proofs.Edge.{edge_below}
-use Rattle.staat_model.proofs.Members.{All-from_members, here}
-use Rattle.staat_model.proofs.PieceFacets.{beyond_is_above, differences_are, from_cone_facet}
+use Rattle.staat_model.proofs.Members.{All-from_members}
+use Rattle.staat_model.proofs.PieceFacets.{beyond_is_above, differences_are, from_cone_facet, pieces_span}
 use Rattle.staat_local.specs.Contacts.{Contact, total}
 use Rattle.staat_local.specs.Touching.{IsNoFarther}
 use Rattle.staat_local.proofs.Contacts.{contact_combined, past_no_contact}
 use Rattle.staat_local.proofs.Points.{all_level}
-
-some_point : (q : List V3) → 1 ≤ length q → (b : V3) × Contains q b
-some_point [] some = absurd (omega arith)
-some_point (b ∷ q) some = (b, here b q)
-
-spans : (p q : List V3) → IsPiece p → IsPiece q → IsSpanning (differences p q)
-spans p q is_p is_q =
-    let four = is_q.at_least in
-    let (b, b_in) = some_point q (omega (arith, four)) in
-    differences_span_lemma p q b is_p.solid b_in
+use Rattle.staat_vec.proofs.Integers.{add_one_le, product_zero}
+use Rattle.staat_vec.proofs.VectorLaws.{dot_minus}
+use Rattle.staat_vec.proofs.Options.{one_answer}
 
 not_below : (p q r : ℤ) → p ≡ neg_ℤ q → q ≡ r → r ≡ pos 0 → p <ℤ pos 0 → ⊥
 not_below p q r e f g h = omega (arith, ints)
-
-nothing_times : (k : ℤ) (m : ℤ) → m ≡ pos 0 → k *ℤ m ≡ pos 0
-nothing_times k m e = ap (λ z. k *ℤ z) e ∙ none k
-  where
-    none : (k : ℤ) → k *ℤ pos 0 ≡ pos 0
-    none k = omega (arith, ints)
 
 module _ (p q : List V3) (is_p : IsPiece p) (is_q : IsPiece q) where
   abbrev vs : List V3
@@ -76,11 +62,11 @@ module _ (p q : List V3) (is_p : IsPiece p) (is_q : IsPiece q) where
     where
       clash : IsSeparated vs (negative w) → ⊥
       clash (x, up, low) =
-          let (g, h, (g_in, h_in, some, above), side) = edge_below vs x (negative w) (spans p q is_p is_q) up low in
+          let (g, h, (g_in, h_in, some, above), side) = edge_below vs x (negative w) (pieces_span p q is_p is_q) up low in
           let n = primitive (cross g h) in
           let r = primitive-is (cross g h) some in
           not_below (dot (negative w) (cross g h)) (dot w (cross g h)) (pos r.factor *ℤ dot w n) (negative_dot w (cross g h)) (dot_multiple w (cross g h) n r.factor r.multiple)
-          (nothing_times (pos r.factor) (dot w n) (across n (facet_of g h g_in h_in some above))) side
+          (product_zero (pos r.factor) (dot w n) (across n (facet_of g h g_in h_in some above))) side
 
 module _ (p q facets : List V3) (is_p : IsPiece p) (is_q : IsPiece q) (are : (n : V3) → Contains facets n ↔ IsFacet p q n) where
   -- no farther along their sum: across each of them
@@ -96,26 +82,17 @@ module _ (p q facets : List V3) (is_p : IsPiece p) (is_q : IsPiece q) (are : (n 
   no_more b a c e h = omega (arith, ints)
 
   more : (b a c : ℤ) → c ≡ b -ℤ a → (c ≤ℤ pos 0 → ⊥) → (a +ℤ pos 1) ≤ℤ b
-  more b a c e not = by_lt_z {P = (a +ℤ pos 1) ≤ℤ b} (pos 0) c (λ up. over b a c e up) (λ low. absurd (not low))
-    where
-      over : (b a c : ℤ) → c ≡ b -ℤ a → pos 0 <ℤ c → (a +ℤ pos 1) ≤ℤ b
-      over b a c e h = omega (arith, ints)
-
-  apart : (b a n : V3) → dot (minus b a) n ≡ dot b n -ℤ dot a n
-  apart b a n = ring (values (b ∷ a ∷ n ∷ []) []) (dotE (minusE v0 v1) v2) (dotE v0 v2 ⊖ dotE v1 v2) tt
+  more b a c e not = by_lt_z {P = (a +ℤ pos 1) ≤ℤ b} (pos 0) c (λ up. add_one_le b a c e up) (λ low. absurd (not low))
 
   -- where all of q lies farther along some vector than what lies farthest of p
   pub no_contact_where_far : (n a : V3) → All (IsNoFarther n a) p → ((b : V3) → Contains q b → IsNoFarther n a b → ⊥) → Contact p q → ⊥
   no_contact_where_far n a most far =
       past_no_contact p q n (dot a n) (record {
-        first = All-weaker (IsNoFarther n a) (λ v. dot v n ≤ℤ dot a n) (λ v h. no_more (dot v n) (dot a n) (dot (minus v a) n) (apart v a n) h) p most;
-        second = All-from_members (λ v. (dot a n +ℤ pos 1) ≤ℤ dot v n) q (λ v v_in. more (dot v n) (dot a n) (dot (minus v a) n) (apart v a n) (far v v_in));
+        first = All-weaker (IsNoFarther n a) (λ v. dot v n ≤ℤ dot a n) (λ v h. no_more (dot v n) (dot a n) (dot (minus v a) n) (dot_minus v a n) h) p most;
+        second = All-from_members (λ v. (dot a n +ℤ pos 1) ≤ℤ dot v n) q (λ v v_in. more (dot v n) (dot a n) (dot (minus v a) n) (dot_minus v a n) (far v v_in));
       })
 
 -- ---- the two pieces of an arc
-
-same_piece : (o : Option (List V3)) (p q : List V3) → o ≡ Some p → o ≡ Some q → p ≡ q
-same_piece o p q e f = cc
 
 -- the sum of the facets tells whether they touch
 pub touching_is : (parts : List Part) (facets p q : List V3) (arc : Arc) (n far : V3) (near : Bool) → IsAssembly parts → HoldsAt parts arc (λ p q. Lists vector_cmp (IsFacet p q) facets)
@@ -132,7 +109,7 @@ touching_is parts facets p q arc n far near is h p_is q_is sum far_in most test 
         holds = contact_where_near p q facets piece_p piece_q are far b far_in (k, lt, e) (subst (λ s. IsNoFarther s far b) sum close);
       }),
   λ touch.
-      let contact : Contact p q = subst (λ x. Contact x q) (same_piece (piece_at parts arc.a arc.i) touch.p p touch.p_is p_is) (subst (λ y. Contact touch.p y) (same_piece (piece_at parts arc.b arc.j) touch.q q touch.q_is q_is) touch.holds) in
+      let contact : Contact p q = subst (λ x. Contact x q) (one_answer (piece_at parts arc.a arc.i) touch.p p touch.p_is p_is) (subst (λ y. Contact touch.p y) (one_answer (piece_at parts arc.b arc.j) touch.q q touch.q_is q_is) touch.holds) in
       ⊎_elim {C = IsTrue near} (λ t. t)
       (λ off. absurd (no_contact_where_far p q facets piece_p piece_q are n far most
       (λ b b_in close. off (test.1 (b_in.0, b, b_in.1, b_in.2, close))) contact))
@@ -151,6 +128,6 @@ touching_is parts facets p q arc n far near is h p_is q_is sum far_in most test 
 
     are : (m : V3) → Contains facets m ↔ IsFacet p q m
     are m =
-        let first : h.p ≡ p = same_piece (piece_at parts arc.a arc.i) h.p p h.p_is p_is in
-        let second : h.q ≡ q = same_piece (piece_at parts arc.b arc.j) h.q q h.q_is q_is in
+        let first : h.p ≡ p = one_answer (piece_at parts arc.a arc.i) h.p p h.p_is p_is in
+        let second : h.q ≡ q = one_answer (piece_at parts arc.b arc.j) h.q q h.q_is q_is in
         subst (λ x. Contains facets m ↔ IsFacet x q m) first (subst (λ y. Contains facets m ↔ IsFacet h.p y m) second (h.holds.each m, h.holds.all m))

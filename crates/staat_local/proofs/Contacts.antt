@@ -1,24 +1,28 @@
 -- Points touch, or a vector keeps them strictly apart; and what is kept so does not collide soon.
-use Rattle.std.proofs.Common.{◌≡◌, ◌↔◌, ℕ, zero, suc, ◌+◌, ◌*◌, ◌≤◌, refl, sym, ap, ap₂, ◌∙◌, subst, arith, ℤ, pos, ◌+ℤ◌, ◌-ℤ◌, ◌*ℤ◌, negsuc, neg_ℤ, ◌≤ℤ◌, ◌<ℤ◌, unsigned_abs, ◌⊎◌, inl, inr, List, [], ◌∷◌, length, map, All, Contains, sum}
+use Rattle.std.proofs.Common.{◌≡◌, ◌↔◌, ℕ, zero, suc, ◌+◌, ◌*◌, ◌≤◌, refl, sym, ap, ap₂, ◌∙◌, subst, arith, ℤ, pos, ◌+ℤ◌, ◌*ℤ◌, negsuc, ◌≤ℤ◌, ◌<ℤ◌, unsigned_abs, ◌⊎◌, inl, inr, List, [], ◌∷◌, length, map, All, Contains, sum}
 use Rattle.std.proofs.lemmas.Int.{ints, by_lt_z}
 use Rattle.std.proofs.lemmas.List.{length-map}
 use Rattle.std.proofs.lemmas.List.Elements.{All-nil, All-cons, All-head, All-tail, All-contains, All-weaker}
 use Rattle.staat_vec.specs.declared.vector.V3.{V3}
 use Rattle.staat_vec.specs.Vectors.{dot, minus, negative, origin, plus, times}
-use Rattle.staat_vec.proofs.Ring.{at, num, ◌⊕◌, ◌⊖◌, ◌⊗◌, ring}
-use Rattle.staat_vec.proofs.VecRing.{dotE, minusE, negativeE, originE, plusE, timesE, values, v0, v1, v2, v3, dot_comm, negative_dot, ring3}
-use Rattle.staat_vec.proofs.Order.{nonneg_is, nonneg_mul, nonneg_pos}
+use Rattle.staat_vec.proofs.Ring.{at, num, ◌⊕◌, ◌⊗◌, ring}
+use Rattle.staat_vec.proofs.VecRing.{dotE, negativeE, originE, plusE, timesE, values, v0, v1, v2, v3, dot_comm, negative_dot, ring3}
+use Rattle.staat_vec.proofs.Order.{nonneg_is, nonneg_pos, nonneg_sum}
 use Rattle.staat_model.specs.Pieces.{IsPiece}
 use Rattle.staat_model.specs.Facets.{IsDifference}
 use Rattle.staat_model.specs.Cones.{IsAbove, IsCombined, differences}
 use Rattle.staat_model.specs.Meeting.{Meets, MeetsAt, mix}
 use Rattle.staat_model.proofs.Alternative.{alternative}
-use Rattle.staat_model.proofs.Members.{All-from_members, here, there}
+use Rattle.staat_model.proofs.Members.{All-from_members}
 use Rattle.staat_model.proofs.Differences.{in_differences}
 use Rattle.staat_model.proofs.Mixes.{mix_scale}
 use Rattle.staat_model.proofs.PieceFacets.{differences_are}
 use Rattle.staat_local.specs.Contacts.{Contact, MeetsWithin, Starts}
-use Rattle.staat_local.proofs.Weights.{LeadsOver, added, leads_both, leads_mixed, leads_one, length-added, mix-added, positive-added, sum-added, sum-cons, sum-scaled}
+use Rattle.staat_local.proofs.Weights.{LeadsOver, added, leads_both, leads_mixed, leads_one, length-added, mix-added, positive-added, sum-added, sum-scaled}
+use Rattle.staat_vec.proofs.Integers.{le_refl_ℤ, add_one_le, opposite_positive_back, sum_mul, pos_mul_le}
+use Rattle.staat_vec.proofs.VectorLaws.{plus_origin, dot_plus, dot_minus}
+use Rattle.staat_vec.proofs.Unique.{Contains-front}
+use Rattle.staat_vec.proofs.ListLaws.{Contains-there, sum-cons}
 
 -- ---- points touch, or some vector keeps them apart
 
@@ -31,34 +35,25 @@ nowhere_above : (vs : List V3) → IsAbove origin vs
 nowhere_above vs = All-from_members (λ v. pos 0 ≤ℤ dot v origin) vs
     (λ v c. nonneg_is (dot v origin) (pos 0) (ring (values (v ∷ []) []) (dotE v0 originE) (num (pos 0)) tt) (nonneg_pos 0))
 
-dot_sum : (v x y : V3) → dot v (plus x y) ≡ dot v x +ℤ dot v y
-dot_sum v x y = ring (values (v ∷ x ∷ y ∷ []) []) (dotE v0 (plusE v1 v2)) (dotE v0 v1 ⊕ dotE v0 v2) tt
-
-sum_nonneg : (r p q : ℤ) → r ≡ p +ℤ q → pos 0 ≤ℤ p → pos 0 ≤ℤ q → pos 0 ≤ℤ r
-sum_nonneg r p q e h g = omega (arith, ints)
-
 sum_left : (r p q : ℤ) → r ≡ p +ℤ q → pos 0 <ℤ p → pos 0 ≤ℤ q → pos 0 <ℤ r
 sum_left r p q e h g = omega (arith, ints)
 
 sum_right : (r p q : ℤ) → r ≡ p +ℤ q → pos 0 ≤ℤ p → pos 0 <ℤ q → pos 0 <ℤ r
 sum_right r p q e h g = omega (arith, ints)
 
-opposite_side : (p q : ℤ) → p ≡ neg_ℤ q → p <ℤ pos 0 → pos 0 <ℤ q
-opposite_side p q e h = omega (arith, ints)
-
 -- one more vector ahead
 ahead_more : (vs ws : List V3) (w x y : V3) → Contains vs w → ((v : V3) → Contains ws v → Contains vs v) → IsAbove x vs → dot (negative w) x <ℤ pos 0 → IsAheadOf vs ws y → IsAheadOf vs (w ∷ ws) (plus x y)
 ahead_more vs ws w x y w_in are up low ahead =
     let above = ahead.above in
     let strictly = ahead.strictly in
-    let ahead_of_w : pos 0 <ℤ dot w x = opposite_side (dot (negative w) x) (dot w x) (negative_dot w x) low in
+    let ahead_of_w : pos 0 <ℤ dot w x = opposite_positive_back (dot (negative w) x) (dot w x) (negative_dot w x) low in
     record {
       above = All-from_members (λ v. pos 0 ≤ℤ dot v (plus x y)) vs
-          (λ v c. sum_nonneg (dot v (plus x y)) (dot v x) (dot v y) (dot_sum v x y) (All-contains (λ v. pos 0 ≤ℤ dot v x) vs v up c) (All-contains (λ v. pos 0 ≤ℤ dot v y) vs v above c));
+          (λ v c. nonneg_sum (dot v (plus x y)) (dot v x) (dot v y) (dot_plus v x y) (All-contains (λ v. pos 0 ≤ℤ dot v x) vs v up c) (All-contains (λ v. pos 0 ≤ℤ dot v y) vs v above c));
       strictly = All-cons (λ v. pos 0 <ℤ dot v (plus x y)) w ws
-          (sum_left (dot w (plus x y)) (dot w x) (dot w y) (dot_sum w x y) ahead_of_w (All-contains (λ v. pos 0 ≤ℤ dot v y) vs w above w_in))
+          (sum_left (dot w (plus x y)) (dot w x) (dot w y) (dot_plus w x y) ahead_of_w (All-contains (λ v. pos 0 ≤ℤ dot v y) vs w above w_in))
           (All-from_members (λ v. pos 0 <ℤ dot v (plus x y)) ws
-          (λ v c. sum_right (dot v (plus x y)) (dot v x) (dot v y) (dot_sum v x y) (All-contains (λ v. pos 0 ≤ℤ dot v x) vs v up (are v c)) (All-contains (λ v. pos 0 <ℤ dot v y) ws v strictly c)));
+          (λ v c. sum_right (dot v (plus x y)) (dot v x) (dot v y) (dot_plus v x y) (All-contains (λ v. pos 0 ≤ℤ dot v x) vs v up (are v c)) (All-contains (λ v. pos 0 <ℤ dot v y) ws v strictly c)));
     }
 
 module _ (p q : List V3) where
@@ -71,9 +66,6 @@ module _ (p q : List V3) where
   gone : (k : ℕ) (w : V3) → plus (times k (negative w)) (times k w) ≡ origin
   gone k w = ring3 (values (w ∷ []) (pos k ∷ [])) (plusE (timesE (at 3) (negativeE v0)) (timesE (at 3) v0)) originE (tt, tt, tt)
 
-  nothing_more : (m : V3) → plus m origin ≡ m
-  nothing_more m = ring3 (values (m ∷ []) []) (plusE v0 originE) v0 (tt, tt, tt)
-
   contact_from : (s : ℕ) → 1 ≤ s → LeadsOver p q s origin → Contact p q
   contact_from s one l = record {
     a = l.a;
@@ -82,7 +74,7 @@ module _ (p q : List V3) where
     b_each = l.b_each;
     some = subst (λ n. 1 ≤ n) (sym l.a_sum) one;
     same_sum = l.a_sum ∙ sym l.b_sum;
-    same_place = sym (nothing_more (mix l.a p)) ∙ l.leads;
+    same_place = sym (plus_origin (mix l.a p)) ∙ l.leads;
   }
 
   -- where the negative of a difference is combined from the differences
@@ -95,15 +87,15 @@ module _ (p q : List V3) where
 
   ahead_or : (ws : List V3) → ((v : V3) → Contains ws v → Contains vs v) → Contact p q ⊎ ((x : V3) × IsAheadOf vs ws x)
   ahead_or [] are = inr (origin, record { above = nowhere_above vs; strictly = All-nil (λ w. pos 0 <ℤ dot w origin) })
-  ahead_or (w ∷ ws) are = go (alternative vs (negative w)) (ahead_or ws (λ v c. are v (there w v ws c)))
+  ahead_or (w ∷ ws) are = go (alternative vs (negative w)) (ahead_or ws (λ v c. are v (Contains-there w v ws c)))
     where
       w_in : Contains vs w
-      w_in = are w (here w ws)
+      w_in = are w (Contains-front w ws)
 
       go : IsCombined vs (negative w) ⊎ ((x : V3) × IsAbove x vs × (dot (negative w) x <ℤ pos 0)) → Contact p q ⊎ ((x : V3) × IsAheadOf vs ws x) → Contact p q ⊎ ((x : V3) × IsAheadOf vs (w ∷ ws) x)
       go (inl c) rest = inl (contact_combined w w_in c)
       go (inr s) (inl touch) = inl touch
-      go (inr (x, up, low)) (inr (y, ahead)) = inr (plus x y, ahead_more vs ws w x y w_in (λ v c. are v (there w v ws c)) up low ahead)
+      go (inr (x, up, low)) (inr (y, ahead)) = inr (plus x y, ahead_more vs ws w x y w_in (λ v c. are v (Contains-there w v ws c)) up low ahead)
 
   pub contact_or_apart : Contact p q ⊎ ((x : V3) × All (λ v. pos 0 <ℤ dot v x) vs)
   contact_or_apart = go (ahead_or vs (λ v c. c))
@@ -116,21 +108,6 @@ module _ (p q : List V3) where
 
 parted : (x : V3) (w : ℕ) (v m : V3) → dot (plus (times w v) m) x ≡ (pos w *ℤ dot v x) +ℤ dot m x
 parted x w v m = ring (values (v ∷ m ∷ x ∷ []) (pos w ∷ [])) (dotE (plusE (timesE (at 9) v0) v1) v2) (at 9 ⊗ dotE v0 v2 ⊕ dotE v1 v2) tt
-
-total : (w : ℕ) (ws : List ℕ) (m : ℤ) → pos (sum (w ∷ ws)) *ℤ m ≡ (pos w *ℤ m) +ℤ (pos (sum ws) *ℤ m)
-total w ws m = ap (λ (k : ℕ). pos k *ℤ m) (sum-cons w ws) ∙ spread w (sum ws) m
-  where
-    spread : (a b : ℕ) (m : ℤ) → pos (a + b) *ℤ m ≡ (pos a *ℤ m) +ℤ (pos b *ℤ m)
-    spread a b m = omega (arith, ints)
-
-not_more : (w : ℕ) (m k : ℤ) → m ≤ℤ k → (pos w *ℤ m) ≤ℤ (pos w *ℤ k)
-not_more w m k h = back (pos w *ℤ m) (pos w *ℤ k) (pos w *ℤ (k -ℤ m)) (ring (pos w ∷ m ∷ k ∷ []) (at 0 ⊗ (at 2 ⊖ at 1)) (at 0 ⊗ at 2 ⊖ at 0 ⊗ at 1) tt) (nonneg_mul (pos w) (k -ℤ m) (nonneg_pos w) (ahead m k h))
-  where
-    ahead : (m k : ℤ) → m ≤ℤ k → pos 0 ≤ℤ (k -ℤ m)
-    ahead m k h = omega (arith, ints)
-
-    back : (a b c : ℤ) → c ≡ b -ℤ a → pos 0 ≤ℤ c → a ≤ℤ b
-    back a b c e h = omega (arith, ints)
 
 join_low : (a b c d e f : ℤ) → e ≡ a +ℤ b → f ≡ c +ℤ d → a ≤ℤ c → b ≤ℤ d → e ≤ℤ f
 join_low a b c d e f p q h g = omega (arith, ints)
@@ -146,7 +123,7 @@ mix_least x m [] vs e h = nothing_least m x
 mix_least x m (w ∷ ws) [] e h = absurd (omega arith)
 mix_least x m (w ∷ ws) (v ∷ vs) e h =
     join_low (pos w *ℤ m) (pos (sum ws) *ℤ m) (pos w *ℤ dot v x) (dot (mix ws vs) x) (pos (sum (w ∷ ws)) *ℤ m) (dot (mix (w ∷ ws) (v ∷ vs)) x)
-    (total w ws m) (parted x w v (mix ws vs)) (not_more w m (dot v x) (All-head (λ v. m ≤ℤ dot v x) v vs h))
+    (sum_mul w ws m) (parted x w v (mix ws vs)) (pos_mul_le w m (dot v x) (All-head (λ v. m ≤ℤ dot v x) v vs h))
     (mix_least x m ws vs (omega arith) (All-tail (λ v. m ≤ℤ dot v x) v vs h))
 
 pub mix_most : (x : V3) (m : ℤ) (ws : List ℕ) (vs : List V3) → length ws ≡ length vs → All (λ v. dot v x ≤ℤ m) vs → dot (mix ws vs) x ≤ℤ (pos (sum ws) *ℤ m)
@@ -154,7 +131,7 @@ mix_most x m [] vs e h = nothing_most m x
 mix_most x m (w ∷ ws) [] e h = absurd (omega arith)
 mix_most x m (w ∷ ws) (v ∷ vs) e h =
     join_low (pos w *ℤ dot v x) (dot (mix ws vs) x) (pos w *ℤ m) (pos (sum ws) *ℤ m) (dot (mix (w ∷ ws) (v ∷ vs)) x) (pos (sum (w ∷ ws)) *ℤ m)
-    (parted x w v (mix ws vs)) (total w ws m) (not_more w (dot v x) m (All-head (λ v. dot v x ≤ℤ m) v vs h))
+    (parted x w v (mix ws vs)) (sum_mul w ws m) (pos_mul_le w (dot v x) m (All-head (λ v. dot v x ≤ℤ m) v vs h))
     (mix_most x m ws vs (omega arith) (All-tail (λ v. dot v x ≤ℤ m) v vs h))
 
 -- all of p lies at m or less far along x, and all of q farther
@@ -184,29 +161,20 @@ past_no_contact p q x m past c =
 
 -- a point that lies farthest along x
 farthest : (x v : V3) (vs : List V3) → (m : V3) × Contains (v ∷ vs) m × All (λ u. dot u x ≤ℤ dot m x) (v ∷ vs)
-farthest x v [] = (v, here v [], All-cons (λ u. dot u x ≤ℤ dot v x) v [] (itself (dot v x)) (All-nil (λ u. dot u x ≤ℤ dot v x)))
-  where
-    itself : (a : ℤ) → a ≤ℤ a
-    itself a = omega (arith, ints)
+farthest x v [] = (v, Contains-front v [], All-cons (λ u. dot u x ≤ℤ dot v x) v [] (le_refl_ℤ (dot v x)) (All-nil (λ u. dot u x ≤ℤ dot v x)))
 farthest x v (u ∷ us) =
     let (m, m_in, most) = farthest x u us in
     by_lt_z {P = (m : V3) × Contains (v ∷ u ∷ us) m × All (λ w. dot w x ≤ℤ dot m x) (v ∷ u ∷ us)} (dot m x) (dot v x)
     (λ less. (
       v,
-      here v (u ∷ us),
-      All-cons (λ w. dot w x ≤ℤ dot v x) v (u ∷ us) (itself (dot v x))
+      Contains-front v (u ∷ us),
+      All-cons (λ w. dot w x ≤ℤ dot v x) v (u ∷ us) (le_refl_ℤ (dot v x))
           (All-weaker (λ w. dot w x ≤ℤ dot m x) (λ w. dot w x ≤ℤ dot v x) (λ w h. below (dot w x) (dot m x) (dot v x) h less) (u ∷ us) most),
     ))
-    (λ more. (m, there v m (u ∷ us) m_in, All-cons (λ w. dot w x ≤ℤ dot m x) v (u ∷ us) more most))
+    (λ more. (m, Contains-there v m (u ∷ us) m_in, All-cons (λ w. dot w x ≤ℤ dot m x) v (u ∷ us) more most))
   where
-    itself : (a : ℤ) → a ≤ℤ a
-    itself a = omega (arith, ints)
-
     below : (a b c : ℤ) → a ≤ℤ b → b <ℤ c → a ≤ℤ c
     below a b c h g = omega (arith, ints)
-
-dot_difference : (b a x : V3) → dot (minus b a) x ≡ dot b x -ℤ dot a x
-dot_difference b a x = ring (values (b ∷ a ∷ x ∷ []) []) (dotE (minusE v0 v1) v2) (dotE v0 v2 ⊖ dotE v1 v2) tt
 
 past_from : (p q : List V3) (x : V3) → 1 ≤ length p → All (λ v. pos 0 <ℤ dot v x) (differences p q) → (m : ℤ) × IsPastAt p q x m
 past_from [] q x some ahead = absurd (omega arith)
@@ -216,13 +184,10 @@ past_from (v ∷ vs) q x some ahead =
       record {
         first = most;
         second = All-from_members (λ b. (dot top x +ℤ pos 1) ≤ℤ dot b x) q
-            (λ b b_in. past (dot b x) (dot top x) (dot (minus b top) x) (dot_difference b top x)
+            (λ b b_in. add_one_le (dot b x) (dot top x) (dot (minus b top) x) (dot_minus b top x)
             (All-contains (λ v. pos 0 <ℤ dot v x) (differences (v ∷ vs) q) (minus b top) ahead (in_differences (v ∷ vs) q top b top_in b_in)));
       },
     )
-  where
-    past : (b a c : ℤ) → c ≡ b -ℤ a → pos 0 <ℤ c → (a +ℤ pos 1) ≤ℤ b
-    past b a c e h = omega (arith, ints)
 
 moved_dot : (x m d : V3) (t : ℕ) → dot (plus m (times t d)) x ≡ dot m x +ℤ pos t *ℤ dot d x
 moved_dot x m d t = ring (values (x ∷ m ∷ d ∷ []) (pos t ∷ [])) (dotE (plusE v1 (timesE (at 9) v2)) v0) (dotE v1 v0 ⊕ at 9 ⊗ dotE v2 v0) tt

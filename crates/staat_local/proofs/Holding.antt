@@ -1,6 +1,6 @@
 -- The graph of the parts that hold each other back, and the sides that begin to move.
 use Rattle.std.proofs.Common.{◌≡◌, ◌≢◌, ◌↔◌, ◌⊎◌, inl, inr, ⊎_elim, ℕ, ◌+◌, ◌<◌, ◌≤◌, refl, sym, ap, subst, ◌∙◌, arith, pos, ◌<ℤ◌, Bool, List, get_or, length, All, Contains}
-use Rattle.std.specs.Prelude.{Option, Some, slice_set}
+use Rattle.std.specs.Prelude.{slice_set}
 use Rattle.std.specs.FinSet as set
 use Rattle.std.specs.Int.{bit_at}
 use Rattle.std.proofs.lemmas.List.{get_or_past}
@@ -16,19 +16,14 @@ use Rattle.staat_model.specs.Meeting.{Meets}
 use Rattle.staat_model.specs.Planes.{ArePlanes, vertices}
 use Rattle.staat_model.specs.Plans.{IsStuck}
 use Rattle.staat_model.specs.Removal.{HoldsAlong, MeetsAlong}
-use Rattle.staat_model.specs.Sets.{AreApart, Has, IsNonempty, IsSide, IsSubset}
-use Rattle.staat_model.proofs.FreeSides.{member_or}
+use Rattle.staat_model.specs.Sets.{AreApart, Has, IsSubset}
 use Rattle.staat_model.proofs.GraphLemmas.{arc_from_border, piece_is}
-use Rattle.staat_model.proofs.PlanLemmas.{there_is}
 use Rattle.staat_model.proofs.RestrictLemmas.{rest_apart, rest_within}
 use Rattle.staat_model.proofs.Reversed.{meets_opposite_lemma}
-use Rattle.staat_model.proofs.SetMembers.{has-difference}
-use Rattle.staat_model.proofs.SetWords.{same_members}
 use Rattle.staat_model.proofs.VertexLemmas.{holds_axes, vertex_on_border_lemma}
 use Rattle.staat_graph.specs.Blocking.{ShowsBlockingBy}
 use Rattle.staat_graph.specs.Graphs.{HasArc}
 use Rattle.staat_graph.proofs.Arcs.{row_set}
-use Rattle.staat_graph.proofs.Finite.{nonempty_or}
 use Rattle.staat_pairs.specs.Searches.{arc_of}
 use Rattle.staat_pairs.specs.Tables.{IsTableArc, Table, WasMadeFrom, back}
 use Rattle.staat_planes.proofs.GraphLaw.{meets_at}
@@ -37,6 +32,9 @@ use Rattle.staat_local.specs.Contacts.{Contact, Starts}
 use Rattle.staat_local.specs.Touching.{AreMarks}
 use Rattle.staat_local.proofs.Contacts.{meets_of_start, starts_by_contact_lemma}
 use Rattle.staat_local.proofs.Marks.{contact_back}
+use Rattle.staat_vec.proofs.Options.{one_answer}
+use Rattle.staat_model.proofs.OtherSides.{back_in, other_side}
+use Rattle.staat_model.proofs.PlanLemmas.{piece_within}
 
 -- ---- rows of a graph
 
@@ -66,9 +64,6 @@ module _ (R : ℕ → ℕ → Type 0) (rows : List ℕ) (n : ℕ) where
 
 -- ---- what the marked graph says of an assembly
 
-same_piece : (o : Option (List V3)) (p q : List V3) → o ≡ Some p → o ≡ Some q → p ≡ q
-same_piece o p q e f = cc
-
 -- the pieces of an arc collide at once where they touch and meet
 pub starts_at : (parts : List Part) (d : V3) (arc : Arc) → IsAssembly parts → HoldsAlong Starts parts d arc ↔ (HoldsAt parts arc Contact × MeetsAlong parts d arc)
 starts_at parts d arc is = (
@@ -80,8 +75,8 @@ starts_at parts d arc is = (
   λ both.
       let c = both.0 in
       let m = both.1 in
-      let first : m.p ≡ c.p = same_piece (piece_at parts arc.a arc.i) m.p c.p m.p_is c.p_is in
-      let second : m.q ≡ c.q = same_piece (piece_at parts arc.b arc.j) m.q c.q m.q_is c.q_is in
+      let first : m.p ≡ c.p = one_answer (piece_at parts arc.a arc.i) m.p c.p m.p_is c.p_is in
+      let second : m.q ≡ c.q = one_answer (piece_at parts arc.b arc.j) m.q c.q m.q_is c.q_is in
       let meets : Meets c.p c.q d = subst (λ x. Meets x c.q d) first (subst (λ y. Meets m.p y d) second m.holds) in record {
         p = c.p;
         q = c.q;
@@ -114,8 +109,8 @@ module _ (parts : List Part) (t : Table) (marks : List Bool) (made : WasMadeFrom
           a_in = h.a_in;
           b_in = h.b_in;
           different = block.different;
-          i_is = subst (λ n. block.i < n) (sym (made.pieces a h.a_in)) (there_is parts a block.i m.p m.p_is);
-          j_is = subst (λ n. block.j < n) (sym (made.pieces b h.b_in)) (there_is parts b block.j m.q m.q_is);
+          i_is = subst (λ n. block.i < n) (sym (made.pieces a h.a_in)) (piece_within parts a block.i m.p m.p_is);
+          j_is = subst (λ n. block.j < n) (sym (made.pieces b h.b_in)) (piece_within parts b block.j m.q m.q_is);
         } in
         let both = (starts_at parts d (arc_of a block.i b block.j) made.assembly).0 m in record {
           i = block.i;
@@ -143,30 +138,12 @@ starts_turned parts d arc is h =
     (starts_at parts (negative d) (back arc) is).1
     (contact_back parts arc both.0, record { p = m.q; q = m.p; p_is = m.q_is; q_is = m.p_is; holds = (meets_opposite_lemma m.q m.p d).1 m.holds })
 
--- a member of w that is not in the rest without s is in s
-back_in : (w s : PartSet) (q : ℕ) → Has (set.difference w (set.difference w s)) q → Has s q
-back_in w s q h =
-    let t = (has-difference w (set.difference w s) q).0 h in
-    ⊎_elim {C = Has s q} (λ m. m) (λ out. absurd (t.1 ((has-difference w s q).1 (t.0, out)))) (member_or s q)
-
-rest_side : (w s : PartSet) → IsSide w s → IsSide w (set.difference w s)
-rest_side w s side = record {
-  nonempty = ⊎_elim {C = IsNonempty (set.difference w s)} (λ some. some)
-      (λ none. absurd (side.proper (same_members s w side.within (λ q h. ⊎_elim {C = Has s q} (λ m. m) (λ out. absurd (none q ((has-difference w s q).1 (h, out)))) (member_or s q)))))
-      (nonempty_or (set.difference w s));
-  within = rest_within w s;
-  proper = λ e.
-      let p = side.nonempty in
-      let h : Has (set.difference w s) p.0 = subst (λ (u : PartSet). Has u p.0) (sym e) (side.within p.0 p.1) in
-      ((has-difference w s p.0).0 h).1 p.1;
-}
-
 -- where a side is loose along the opposite of d, the rest is loose along d
 pub loosens_turned : (parts : List Part) (w : PartSet) (d : V3) → IsAssembly parts → Loosens parts w (negative d) → Loosens parts w d
 loosens_turned parts w d is l =
     let free = l.free in record {
       side = set.difference w l.side;
-      is_side = rest_side w l.side l.is_side;
+      is_side = other_side w l.side l.is_side;
       free = record {
         moves = λ e. free.moves (ap negative e);
         clear = λ arc ha hb starts. free.clear (back arc) (back_in w l.side arc.b hb) ha (starts_turned parts d arc is starts);

@@ -1,5 +1,5 @@
 -- Marks for pairs of pieces that touch: a slot stands for one pair, and marks for some arcs and then for others are marks for both.
-use Rattle.std.proofs.Common.{◌≡◌, ◌≢◌, ◌↔◌, ◌⊎◌, inl, inr, ⊎_elim, ℕ, zero, suc, replicate, ◌+◌, ◌*◌, ◌/◌, ◌%◌, ◌<◌, ◌≤◌, refl, sym, ap, subst, ◌∙◌, arith, Bool, true, false, IsTrue, List, length, sum}
+use Rattle.std.proofs.Common.{◌≡◌, ◌↔◌, ◌⊎◌, inl, inr, ⊎_elim, ℕ, zero, suc, replicate, ◌/◌, ◌%◌, ◌<◌, ◌≤◌, refl, sym, ap, subst, ◌∙◌, arith, Bool, true, false, IsTrue, List, length, sum}
 use Rattle.std.specs.Prelude.{slice_index, slice_index_or}
 use Rattle.staat_vec.specs.declared.vector.V3.{V3}
 use Rattle.staat_model.specs.declared.assembly.Part.{Part}
@@ -12,17 +12,16 @@ use Rattle.staat_pairs.specs.Tabulating.{IsPieceAt}
 use Rattle.staat_pairs.proofs.NumberingLemmas.{below_64, one_number, one_part}
 use Rattle.staat_local.specs.Contacts.{Contact}
 use Rattle.staat_local.specs.Touching.{AreMarks, LinksParts, IsFromPiece, IsPairMarked, IsToGreater, IsUpward, MarksTouching}
+use Rattle.staat_vec.proofs.Naturals.{apart_cases, same_parts_of_64}
+use Rattle.staat_pairs.proofs.TableLemmas.{back_across}
 
 -- ---- slots
-
-same_parts : (p q r s : ℕ) → q < 64 → s < 64 → 64 * p + q ≡ 64 * r + s → (p ≡ r) × (q ≡ s)
-same_parts p q r s h g e = (omega arith, omega arith)
 
 one_slot : (t : Table) (x y : Arc) → IsTable t → IsTableArc t x → IsTableArc t y → slot t.pieces x ≡ slot t.pieces y → x ≡ y
 one_slot t x y is at there e =
     let low : place t.pieces x.b x.j < 64 = below_64 t.pieces x.b x.j is.most at.j_is in
     let down : place t.pieces y.b y.j < 64 = below_64 t.pieces y.b y.j is.most there.j_is in
-    let places = same_parts (place t.pieces x.a x.i) (place t.pieces x.b x.j) (place t.pieces y.a y.i) (place t.pieces y.b y.j) low down e in
+    let places = same_parts_of_64 (place t.pieces x.a x.i) (place t.pieces x.b x.j) (place t.pieces y.a y.i) (place t.pieces y.b y.j) low down e in
     let xa = piece (place t.pieces x.a x.i) x.a x.i at.a_in at.i_is refl in
     let ya = piece (place t.pieces x.a x.i) y.a y.i there.a_in there.i_is (sym places.0) in
     let xb = piece (place t.pieces x.b x.j) x.b x.j at.b_in at.j_is refl in
@@ -49,9 +48,6 @@ contact_back parts arc h =
       q_is = h.p_is;
       holds = record { a = c.b; b = c.a; a_each = c.b_each; b_each = c.a_each; some = omega (arith, some, same); same_sum = sym same; same_place = sym c.same_place };
     }
-
-pub back_across : (t : Table) (arc : Arc) → IsTableArc t arc → IsTableArc t (back arc)
-back_across t arc h = record { a_in = h.b_in; b_in = h.a_in; different = λ e. h.different (sym e); i_is = h.j_is; j_is = h.i_is }
 
 module _ (parts : List Part) (t : Table) (is : IsTable t) where
   -- two slots are marked
@@ -94,33 +90,6 @@ marked_none parts t R marks none x at = (
       (λ r. ⊎_elim {C = IsPairMarked marks (slot t.pieces x)} (λ here. absurd (none x here r.1)) (λ there. absurd (none (back x) there (contact_back parts x r.1))) r.0) h,
 )
 
--- marks for some arcs, then for others
-pub marked_both : (parts : List Part) (t : Table) (R S T : Arc → Type 0) (old mid new : List Bool) → MarksTouching parts t R old mid → MarksTouching parts t S mid new
-    → ((arc : Arc) → IsTableArc t arc → T arc → R arc ⊎ S arc) → ((arc : Arc) → R arc → T arc) → ((arc : Arc) → S arc → T arc) → MarksTouching parts t T old new
-marked_both parts t R S T old mid new first second split left right x at = (
-  (λ h. ⊎_elim {C = Goal}
-      (λ m. ⊎_elim {C = Goal} inl (λ r. inr (either R left r.0, r.1)) ((first x at).0 m))
-      (λ r. inr (either S right r.0, r.1))
-      ((second x at).0 h)),
-  (λ h. ⊎_elim {C = IsPairMarked new (slot t.pieces x)}
-      (λ o. (second x at).1 (inl ((first x at).1 (inl o))))
-      (λ r. ⊎_elim {C = IsPairMarked new (slot t.pieces x)}
-      (λ here. ⊎_elim {C = IsPairMarked new (slot t.pieces x)} (λ a. (second x at).1 (inl ((first x at).1 (inr (inl a, r.1))))) (λ b. (second x at).1 (inr (inl b, r.1))) (split x at here))
-      (λ there. ⊎_elim {C = IsPairMarked new (slot t.pieces x)} (λ a. (second x at).1 (inl ((first x at).1 (inr (inr a, r.1))))) (λ b. (second x at).1 (inr (inr b, r.1))) (split (back x) (back_across t x at) there))
-      r.0)
-      h),
-)
-  where
-    Goal : Type 0
-    Goal = IsPairMarked old (slot t.pieces x) ⊎ ((T x ⊎ T (back x)) × HoldsAt parts x Contact)
-
-    either : (Q : Arc → Type 0) → ((arc : Arc) → Q arc → T arc) → Q x ⊎ Q (back x) → T x ⊎ T (back x)
-    either Q f (inl q) = inl (f x q)
-    either Q f (inr q) = inr (f (back x) q)
-
-below_or : (j n : ℕ) → j < n + 1 → (j < n) ⊎ (j ≡ n)
-below_or j n lt = grind arith
-
 -- all arcs lead to a greater part, this way round or the other
 pub all_marked : (parts : List Part) (t : Table) (n : ℕ) (start marks : List Bool) → IsTable t → 32 ≤ n → ((s : ℕ) → IsPairMarked start s → ⊥) → MarksTouching parts t (IsUpward n) start marks → AreMarks parts t marks
 all_marked parts t n start marks is most none all x at = (
@@ -129,16 +98,13 @@ all_marked parts t n start marks is most none all x at = (
     ⊎_elim {C = IsUpward n x ⊎ IsUpward n (back x)}
         (λ lt. inl (record { order = lt; below = small x.a at.a_in }))
         (λ gt. inr (record { order = gt; below = small x.b at.b_in }))
-        (ways x.a x.b at.different),
+        (apart_cases x.a x.b at.different),
     touch,
   ))),
 )
   where
     small : (a : ℕ) → Has t.of a → a < n
     small a has = let lt : a < 32 = is.small a has in omega arith
-
-    ways : (a b : ℕ) → a ≢ b → (a < b) ⊎ (b < a)
-    ways a b ne = grind arith
 
 none_in : (n s : ℕ) → IsPairMarked (replicate n false) s → ⊥
 none_in zero s h = absurd cc

@@ -12,12 +12,11 @@ use Rattle.staat_vec.proofs.Ring.{num, ◌⊕◌, ◌⊖◌, ring}
 use Rattle.staat_vec.proofs.VecRing.{dotE, minusE, originE, plusE, values, v0, v1, v2, v3, ring3}
 use Rattle.staat_local.specs.Contacts.{total}
 use Rattle.staat_local.specs.Touching.{IsNoFarther}
-
-level : (p : ℤ) → p ≡ pos 0 → p ≤ℤ pos 0
-level p e = omega (arith, ints)
+use Rattle.staat_vec.proofs.Integers.{zero_from_bounds, zero_nonpositive}
+use Rattle.staat_vec.proofs.VectorLaws.{plus_assoc, dot_plus}
 
 pub itself : (n a : V3) → IsNoFarther n a a
-itself n a = level (dot (minus a a) n) (ring (values (n ∷ a ∷ []) []) (dotE (minusE v1 v1) v0) (num (pos 0)) tt)
+itself n a = zero_nonpositive (dot (minus a a) n) (ring (values (n ∷ a ∷ []) []) (dotE (minusE v1 v1) v0) (num (pos 0)) tt)
 
 sum_low : (p q r : ℤ) → r ≡ p +ℤ q → p ≤ℤ pos 0 → q ≤ℤ pos 0 → r ≤ℤ pos 0
 sum_low p q r e h g = omega (arith, ints)
@@ -60,9 +59,6 @@ module _ (n : V3) (points : List V3) (i : ℕ) (lt : i < length points) where
 nothing_before : (v : V3) → plus v origin ≡ plus origin v
 nothing_before v = ring3 (values (v ∷ []) []) (plusE v0 originE) (plusE originE v0) (tt, tt, tt)
 
-regroup : (u t v : V3) → plus u (plus t v) ≡ plus (plus u t) v
-regroup u t v = ring3 (values (u ∷ t ∷ v ∷ []) []) (plusE v0 (plusE v1 v2)) (plusE (plusE v0 v1) v2) (tt, tt, tt)
-
 total_next : (vs : List V3) (m : ℕ) (v : V3) → slice_get vs m ≡ Some v → total (take (suc m) vs) ≡ plus (total (take m vs)) v
 total_next [] m v e = absurd (none e)
   where
@@ -72,7 +68,7 @@ total_next (u ∷ vs) zero v e = ap (λ w. plus w origin) (same e) ∙ nothing_b
   where
     same : Some u ≡ Some v → u ≡ v
     same e = cc
-total_next (u ∷ vs) (suc m) v e = ap (plus u) (total_next vs m v e) ∙ regroup u (total (take m vs)) v
+total_next (u ∷ vs) (suc m) v e = ap (plus u) (total_next vs m v e) ∙ plus_assoc u (total (take m vs)) v
 
 pub total_more : (vs : List V3) (m : ℕ) (v : V3) → slice_get vs m ≡ Some v → total (take (m + 1) vs) ≡ plus (total (take m vs)) v
 total_more vs m v e = ap (λ k. total (take k vs)) (next m) ∙ total_next vs m v e
@@ -86,12 +82,9 @@ sum_within m size s v t e h g = subst (IsWithin ((m + 1) * size)) (sym e) (IsWit
     once_more : (m size : ℕ) → m * size + size ≤ (m + 1) * size
     once_more m size = omega arith
 
-dot_total : (v f t : V3) → dot v (plus f t) ≡ dot v f +ℤ dot v t
-dot_total v f t = ring (values (v ∷ f ∷ t ∷ []) []) (dotE v0 (plusE v1 v2)) (dotE v0 v1 ⊕ dotE v0 v2) tt
-
 total_up : (v : V3) (fs : List V3) → All (λ f. pos 0 ≤ℤ dot v f) fs → pos 0 ≤ℤ dot v (total fs)
 total_up v [] h = nonneg_is (dot v origin) (pos 0) (ring (values (v ∷ []) []) (dotE v0 originE) (num (pos 0)) tt) (nonneg_pos 0)
-total_up v (f ∷ fs) h = nonneg_sum (dot v (total (f ∷ fs))) (dot v f) (dot v (total fs)) (dot_total v f (total fs)) (All-head (λ f. pos 0 ≤ℤ dot v f) f fs h) (total_up v fs (All-tail (λ f. pos 0 ≤ℤ dot v f) f fs h))
+total_up v (f ∷ fs) h = nonneg_sum (dot v (total (f ∷ fs))) (dot v f) (dot v (total fs)) (dot_plus v f (total fs)) (All-head (λ f. pos 0 ≤ℤ dot v f) f fs h) (total_up v fs (All-tail (λ f. pos 0 ≤ℤ dot v f) f fs h))
 
 -- what lies on the positive side of vectors, and of their sum does not, lies across all of them
 pub all_level : (v : V3) (fs : List V3) → All (λ f. pos 0 ≤ℤ dot v f) fs → dot v (total fs) ≤ℤ pos 0 → All (λ f. dot v f ≡ pos 0) fs
@@ -99,8 +92,5 @@ all_level v [] h low = All-nil (λ f. dot v f ≡ pos 0)
 all_level v (f ∷ fs) h low =
     let first = All-head (λ f. pos 0 ≤ℤ dot v f) f fs h in
     let rest = All-tail (λ f. pos 0 ≤ℤ dot v f) f fs h in
-    let both = split_sum (dot v f) (dot v (total fs)) (dot v (total (f ∷ fs))) (dot_total v f (total fs)) low first (total_up v fs rest) in
-    All-cons (λ f. dot v f ≡ pos 0) f fs (none (dot v f) first both.0) (all_level v fs rest both.1)
-  where
-    none : (a : ℤ) → pos 0 ≤ℤ a → a ≤ℤ pos 0 → a ≡ pos 0
-    none a h g = omega (arith, ints)
+    let both = split_sum (dot v f) (dot v (total fs)) (dot v (total (f ∷ fs))) (dot_plus v f (total fs)) low first (total_up v fs rest) in
+    All-cons (λ f. dot v f ≡ pos 0) f fs (zero_from_bounds (dot v f) first both.0) (all_level v fs rest both.1)

@@ -1,18 +1,16 @@
 -- Weights of at least 0, added place by place, and the vectors that lead between the sums of points that they give.
 use Rattle.std.proofs.Common.{◌≡◌, ℕ, zero, suc, ◌+◌, ◌*◌, ◌≤◌, refl, sym, ap, ap₂, ◌∙◌, subst, arith, pos, List, [], ◌∷◌, length, map, All, Contains, sum, replicate}
 use Rattle.std.proofs.lemmas.List.{length-map, length-replicate}
-use Rattle.std.proofs.lemmas.List.Sums.{sum_by-cons}
 use Rattle.std.proofs.lemmas.List.Elements.{All-nil, All-cons, All-head, All-tail}
 use Rattle.staat_vec.specs.declared.vector.V3.{V3}
 use Rattle.staat_vec.specs.Vectors.{minus, origin, plus, times}
-use Rattle.staat_vec.proofs.Ring.{at, num, ◌⊕◌}
+use Rattle.staat_vec.proofs.Ring.{at, num}
 use Rattle.staat_vec.proofs.VecRing.{minusE, originE, plusE, timesE, values, v0, v1, v2, v3, ring3}
 use Rattle.staat_model.specs.Meeting.{mix}
 use Rattle.staat_model.specs.Facets.{IsDifference}
-use Rattle.staat_model.proofs.Members.{here, there}
-
-pub sum-cons : (x : ℕ) (xs : List ℕ) → sum (x ∷ xs) ≡ x + sum xs
-sum-cons x xs = sum_by-cons (λ x. x) x xs
+use Rattle.staat_vec.proofs.ListLaws.{sum-cons, Contains-there}
+use Rattle.staat_vec.proofs.VectorLaws.{times_sum_plus}
+use Rattle.staat_vec.proofs.Unique.{Contains-front}
 
 -- ---- sums place by place
 
@@ -43,18 +41,12 @@ positive-added (x ∷ xs) (y ∷ ys) e h =
 no_more : origin ≡ plus origin origin
 no_more = refl
 
-one_more : (x y : ℕ) (v m n : V3) → plus (times (x + y) v) (plus m n) ≡ plus (plus (times x v) m) (plus (times y v) n)
-one_more x y v m n =
-    ring3 (values (v ∷ m ∷ n ∷ []) (pos x ∷ pos y ∷ []))
-    (plusE (timesE (at 9 ⊕ at 10) v0) (plusE v1 v2))
-    (plusE (plusE (timesE (at 9) v0) v1) (plusE (timesE (at 10) v0) v2)) (tt, tt, tt)
-
 pub mix-added : (xs ys : List ℕ) (vs : List V3) → length xs ≡ length ys → mix (added xs ys) vs ≡ plus (mix xs vs) (mix ys vs)
 mix-added [] [] vs e = no_more
 mix-added [] (y ∷ ys) vs e = absurd (omega arith)
 mix-added (x ∷ xs) [] vs e = absurd (omega arith)
 mix-added (x ∷ xs) (y ∷ ys) [] e = no_more
-mix-added (x ∷ xs) (y ∷ ys) (v ∷ vs) e = ap (plus (times (x + y) v)) (mix-added xs ys vs (omega arith)) ∙ one_more x y v (mix xs vs) (mix ys vs)
+mix-added (x ∷ xs) (y ∷ ys) (v ∷ vs) e = ap (plus (times (x + y) v)) (mix-added xs ys vs (omega arith)) ∙ times_sum_plus x y v (mix xs vs) (mix ys vs)
 
 pub sum-scaled : (n : ℕ) (cs : List ℕ) → sum (map (λ c. n * c) cs) ≡ n * sum cs
 sum-scaled n [] = omega arith
@@ -141,4 +133,4 @@ leads_mixed p q (v ∷ vs) [] e are = absurd (omega arith)
 leads_mixed p q [] (m ∷ ms) e are = absurd (omega arith)
 leads_mixed p q (v ∷ vs) (m ∷ ms) e are =
     subst (λ s. LeadsOver p q s (plus (times m v) (mix ms vs))) (sym (sum-cons m ms))
-    (leads_both p q m (sum ms) (times m v) (mix ms vs) (leads_one p q m v (are v (here v vs))) (leads_mixed p q vs ms (omega arith) (λ u c. are u (there v u vs c))))
+    (leads_both p q m (sum ms) (times m v) (mix ms vs) (leads_one p q m v (are v (Contains-front v vs))) (leads_mixed p q vs ms (omega arith) (λ u c. are u (Contains-there v u vs c))))

@@ -1,20 +1,18 @@
 -- The table of edges, one edge after another.
-use Rattle.std.proofs.Common.{◌≡◌, ◌≢◌, ◌<◌, ◌+◌, ◌*◌, ◌==◌, ◌&&◌, ◌⊎◌, ℕ, zero, suc, Bool, true, false, cond, List, [], ◌∷◌, ◌++◌, length, set, inl, inr, refl, ap, sym, subst, ◌∙◌, arith, eq-eqb, ⊎_elim, get_or-set_other, get_or-set_same}
+use Rattle.std.proofs.Common.{◌≡◌, ◌≢◌, ◌<◌, ◌+◌, ◌*◌, ◌==◌, ◌&&◌, ◌⊎◌, ℕ, true, false, cond, List, [], ◌∷◌, ◌++◌, length, set, inl, inr, refl, ap, sym, subst, ◌∙◌, arith, eq-eqb, ⊎_elim, get_or-set_other, get_or-set_same}
 use Rattle.std.specs.Prelude.{count_by, min, replicate, slice_index}
 use Rattle.std.proofs.lemmas.Bool.{cases_eq}
 use Rattle.std.proofs.lemmas.List.Sums.{sum_by_push}
 use Rattle.staat_limits.specs.declared.limits.TheConstants.{MOST_POINTS}
 use Rattle.staat_mesh.specs.Counts.{Counts, cell, leads}
+use Rattle.staat_vec.proofs.ListLaws.{slice_index-zeros}
+use Rattle.staat_vec.proofs.Naturals.{eq_test_false}
+use Rattle.staat_vec.proofs.Truth.{and_false}
 
 -- ---- a table of nothing
 
-zeros : (n k : ℕ) → slice_index (replicate n 0) k ≡ 0
-zeros zero k = refl
-zeros (suc n) zero = refl
-zeros (suc n) (suc k) = zeros n k
-
 pub counts_none : (n : ℕ) → Counts (replicate n 0) []
-counts_none n i j hi hj = zeros n (cell i j)
+counts_none n i j hi hj = slice_index-zeros n (cell i j)
 
 -- ---- one more edge
 
@@ -22,17 +20,10 @@ leads-same : (i j : ℕ) → leads i j (i, j) ≡ true
 unfolding leads
 leads-same i j = λ k. eq-eqb i i refl k && eq-eqb j j refl k
 
-unequal : (a b : ℕ) → a ≢ b → (a == b) ≡ false
-unequal a b ne = grind arith
-
-and_false : (b : Bool) → (b && false) ≡ false
-and_false true = refl
-and_false false = refl
-
 leads-other : (i j a b : ℕ) → (a ≢ i) ⊎ (b ≢ j) → leads i j (a, b) ≡ false
 unfolding leads
-leads-other i j a b (inl ne) = ap (λ t. t && (b == j)) (unequal a i ne)
-leads-other i j a b (inr ne) = ap (λ t. (a == i) && t) (unequal b j ne) ∙ and_false (a == i)
+leads-other i j a b (inl ne) = ap (λ t. t && (b == j)) (eq_test_false a i ne)
+leads-other i j a b (inr ne) = ap (λ t. (a == i) && t) (eq_test_false b j ne) ∙ and_false (a == i)
 
 -- places in the table
 cell-first : (i j a b : ℕ) → j < MOST_POINTS → b < MOST_POINTS → cell i j ≡ cell a b → i ≡ a

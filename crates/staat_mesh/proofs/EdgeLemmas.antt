@@ -2,12 +2,14 @@
 use Rattle.std.proofs.Common.{◌≡◌, ◌<◌, ◌≤◌, ◌+◌, ◌-◌, ◌⊎◌, ℕ, List, [], ◌∷◌, ◌++◌, length, take, get_or, Some, inl, inr, refl, ap, sym, subst, ◌∙◌, arith, add-one}
 use Rattle.std.specs.Prelude.{All, min, slice_get, slice_index}
 use Rattle.std.specs.List.{zip}
-use Rattle.std.proofs.lemmas.List.{append-nil, append_assoc, get_or-append_right, get_or-map, get_or_append_left, length-append, length-map, take_all, take_more}
+use Rattle.std.proofs.lemmas.List.{append-nil, append_assoc, get_or-append_right, get_or-map, get_or_append_left, length-append, length-map, take_all}
 use Rattle.std.proofs.lemmas.List.Elements.{All-head, All-push, All-tail}
-use Rattle.std.proofs.lemmas.Option.{get_or_from_slice_get, slice_get-get_or, slice_get_within}
+use Rattle.std.proofs.lemmas.Option.{slice_get-get_or}
 use Rattle.std.proofs.lemmas.Slice.Zip.{get_or-zip, length-zip}
 use Rattle.staat_mesh.specs.Counts.{Counts, numbered}
 use Rattle.staat_mesh.specs.Edges.{edges, rotated}
+use Rattle.staat_vec.proofs.Naturals.{min_same}
+use Rattle.staat_vec.proofs.ListLaws.{take_next}
 
 pub length-rotated : {X : Type 0} (xs : List X) → length (rotated xs) ≡ length xs
 length-rotated [] = refl
@@ -34,10 +36,7 @@ rotated-at xs c next d lt (inr (le, e)) = rotated-last xs c d lt le ∙ ap (λ k
 
 pub length-edges : {X : Type 0} (xs : List X) → length (edges xs) ≡ length xs
 unfolding edges
-length-edges xs = length-zip xs (rotated xs) ∙ ap (min (length xs)) (length-rotated xs) ∙ twice (length xs)
-  where
-    twice : (n : ℕ) → min n n ≡ n
-    twice n = omega arith
+length-edges xs = length-zip xs (rotated xs) ∙ ap (min (length xs)) (length-rotated xs) ∙ min_same (length xs)
 
 pub edge-at : {X : Type 0} (xs : List X) (c next : ℕ) (d : X) → c < length xs → IsNext (length xs) c next → slice_get (edges xs) c ≡ Some (get_or xs c d, get_or xs next d)
 unfolding edges
@@ -46,10 +45,7 @@ edge-at xs c next d lt is =
     ∙ ap Some (get_or-zip xs (rotated xs) c (d, d) lt (omega (arith, lt, length-rotated xs)) ∙ ap (λ q. (get_or xs c d, q)) (rotated-at xs c next d lt is))
   where
     length-edges_here : {X : Type 0} (xs : List X) → length (zip xs (rotated xs)) ≡ length xs
-    length-edges_here xs = length-zip xs (rotated xs) ∙ ap (min (length xs)) (length-rotated xs) ∙ twice (length xs)
-      where
-        twice : (n : ℕ) → min n n ≡ n
-        twice n = omega arith
+    length-edges_here xs = length-zip xs (rotated xs) ∙ ap (min (length xs)) (length-rotated xs) ∙ min_same (length xs)
 
 -- the edge of a face at a corner, by numbers
 pub numbered-edge : (numbers face : List ℕ) (c next : ℕ) → c < length face → next < length face → IsNext (length face) c next → slice_get (edges (numbered numbers face)) c ≡ Some (slice_index numbers (slice_index face c), slice_index numbers (slice_index face next))
@@ -59,9 +55,6 @@ numbered-edge numbers face c next lt within is =
     ∙ (λ i. Some (get_or-map (slice_index numbers) face c 0 0 lt i, get_or-map (slice_index numbers) face next 0 0 within i))
 
 -- ---- one more
-
-pub take_next : {X : Type 0} (xs : List X) (i : ℕ) (x : X) → slice_get xs i ≡ Some x → take (i + 1) xs ≡ take i xs ++ x ∷ []
-take_next xs i x e = take_more xs i x (slice_get_within xs i x e) ∙ ap (λ y. take i xs ++ y ∷ []) (get_or_from_slice_get xs i x x e)
 
 -- the table counts what it did, and the first edges of the list
 abbrev pub CountsFront : List ℕ → List ℕ → List (ℕ × ℕ) → ℕ → Type 0

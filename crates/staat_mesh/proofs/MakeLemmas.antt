@@ -1,5 +1,5 @@
 -- The rules put together.
-use Rattle.std.proofs.Common.{◌≡◌, ◌≢◌, ◌≤◌, ◌⊎◌, zero, suc, ℤ, pos, negsuc, List, length, Result, Ok, Err, inl, inr, refl, sym, subst, ⊎_elim}
+use Rattle.std.proofs.Common.{◌≡◌, ◌≤◌, List, length, Result, Ok, Err, sym, subst, ⊎_elim}
 use Rattle.std.specs.Prelude.{All, IsErr}
 use Rattle.std.specs.Result.{IsErrAnd}
 use Rattle.std.proofs.lemmas.List.Elements.{All-contains}
@@ -9,7 +9,6 @@ use Rattle.staat_vec.specs.Lists.{Lists}
 use Rattle.staat_vec.specs.Vectors.{IsWithin, det, minus, vector_cmp}
 use Rattle.staat_limits.specs.declared.limits.TheConstants.{LEAST_POINTS, MOST_POINTS}
 use Rattle.staat_model.specs.Pieces.{IsPiece, IsSolid}
-use Rattle.staat_model.proofs.GraphLemmas.{from_slice_get}
 use Rattle.staat_model.proofs.Members.{All-from_members}
 use Rattle.staat_off.specs.declared.raw.Raw.{Raw}
 use Rattle.staat_off.specs.Raws.{IsIndexed}
@@ -20,22 +19,19 @@ use Rattle.staat_mesh.specs.Judging.{AnswersMesh, Judges}
 use Rattle.staat_mesh.specs.Polygons.{IsUsed, Mesh, mesh}
 use Rattle.staat_mesh.specs.Sides.{InPlane, IsSupporting}
 use Rattle.staat_mesh.proofs.UsedPoints.{IsCorner, from_used}
+use Rattle.staat_vec.proofs.Integers.{zero_or}
+use Rattle.staat_vec.proofs.Unique.{from_place}
 
 -- the points are no farther out than the vertices
 pub points_within : (raw : Raw) (points : List V3) → IsIndexed raw → Lists vector_cmp (IsUsed (mesh raw)) points → All (IsWithin POINT) points
 points_within raw points indexed lists =
     All-from_members (IsWithin POINT) points
-    (λ p h. let at : IsCorner raw.points raw.faces p = from_used raw p (lists.each p h) in All-contains (IsWithin POINT) raw.points p indexed.within (from_slice_get raw.points at.0 p at.2))
-
-zero_or_not : (z : ℤ) → (z ≡ pos 0) ⊎ (z ≢ pos 0)
-zero_or_not (pos zero) = inl refl
-zero_or_not (pos (suc n)) = inr (λ e. cc)
-zero_or_not (negsuc n) = inr (λ e. cc)
+    (λ p h. let at : IsCorner raw.points raw.faces p = from_used raw p (lists.each p h) in All-contains (IsWithin POINT) raw.points p indexed.within (from_place raw.points at.0 p at.2))
 
 -- points that do not span space lie in one plane
 pub in_plane : (points : List V3) → (IsSolid points → ⊥) → InPlane points
 in_plane points none a b c e ha hb hc he =
-    ⊎_elim (λ z. z) (λ ne. absurd (none (record { a = a; b = b; c = c; e = e; a_in = ha; b_in = hb; c_in = hc; e_in = he; apart = ne }))) (zero_or_not (det (minus b a) (minus c a) (minus e a)))
+    ⊎_elim (λ z. z) (λ ne. absurd (none (record { a = a; b = b; c = c; e = e; a_in = ha; b_in = hb; c_in = hc; e_in = he; apart = ne }))) (zero_or (det (minus b a) (minus c a) (minus e a)))
 
 -- the first two rules hold
 pub record IsBody (polygons : Mesh) (points : List V3) : Type 0 where

@@ -1,8 +1,8 @@
 -- Marks of vertices, one corner and one face at a time.
-use Rattle.std.proofs.Common.{◌≡◌, ◌↔◌, ◌<◌, ◌≤◌, ◌+◌, ◌⊎◌, ℕ, zero, suc, Bool, true, false, List, [], ◌∷◌, ◌++◌, length, take, drop, get_or, set, inl, inr, refl, ap, sym, subst, ◌∙◌, arith, Any, Contains, ⊎_elim, get_or-set_other, get_or-set_same}
+use Rattle.std.proofs.Common.{◌≡◌, ◌↔◌, ◌<◌, ◌≤◌, ◌+◌, ◌⊎◌, ℕ, zero, suc, Bool, true, false, List, [], ◌∷◌, ◌++◌, length, take, get_or, set, inl, inr, refl, sym, subst, ◌∙◌, arith, Any, Contains, ⊎_elim, get_or-set_other, get_or-set_same}
 use Rattle.std.specs.Prelude.{replicate}
 use Rattle.std.proofs.lemmas.Bool.{cases_eq}
-use Rattle.std.proofs.lemmas.List.{append-nil, drop_all, take_all, take_more}
+use Rattle.std.proofs.lemmas.List.{take_all, take_more}
 use Rattle.std.proofs.lemmas.List.Elements.{Contains-append_left, Contains-push, Contains-push_cases}
 use Rattle.staat_mesh.specs.Marks.{IsMarked, MarksCorners}
 
@@ -84,7 +84,3 @@ corners_more faces i old marks lt now so_far w =
       λ h. ⊎_elim (λ g. more.1 (inl ((so_far w).0 g))) (λ g. more.1 (inr g)) ((now w).0 h),
       λ h. ⊎_elim (λ g. (now w).1 (inl ((so_far w).1 g))) (λ g. (now w).1 (inr g)) (more.0 h),
     )
-
-pub written_back : {X : Type 0} (before after : List X) (len : ℕ) → length after ≡ length before → len ≡ length before → take len (after ++ drop (length after) before) ≡ after
-written_back before after len e f =
-    ap (λ rest. take len (after ++ rest)) (drop_all (length after) before (omega arith)) ∙ ap (take len) (append-nil after) ∙ take_all len after (omega arith)

@@ -1,7 +1,6 @@
 -- A mesh has one answer.
-use Rattle.std.proofs.Common.{◌≡◌, ◌<◌, ℕ, List, take, Some, Result, Ok, Err, refl, ap, sym, subst, ◌∙◌, arith, ⊎_elim, get_or-take}
+use Rattle.std.proofs.Common.{◌≡◌, ◌<◌, ℕ, List, take, Some, Result, Ok, Err, refl, ap, sym, subst, ◌∙◌, arith, get_or-take}
 use Rattle.std.specs.Prelude.{All, slice_get}
-use Rattle.std.proofs.lemmas.Bool.{cases_lt}
 use Rattle.std.proofs.lemmas.List.{length-take}
 use Rattle.std.proofs.lemmas.Option.{get_or_from_slice_get, slice_get_within}
 use Rattle.staat_vec.specs.declared.vector.V3.{V3}
@@ -17,24 +16,17 @@ use Rattle.staat_mesh.specs.Judging.{HasClosedEdges, IsFirstFace, IsFirstOpen, J
 use Rattle.staat_mesh.specs.Polygons.{IsUsed, Mesh, Polygon}
 use Rattle.staat_mesh.specs.Sides.{InPlane, IsBadFace, IsSupporting, IsCut}
 use Rattle.staat_mesh.proofs.PlaneLemmas.{border_not_cut, plane_not_bad}
+use Rattle.staat_vec.proofs.Options.{from_some}
+use Rattle.staat_vec.proofs.ListLaws.{All-at}
+use Rattle.staat_vec.proofs.Naturals.{same_from_neither}
 
 -- what holds of the first elements holds of each of them
 at_front : {X : Type 0} (P : X → Type 0) (xs : List X) (n i : ℕ) (x : X) → i < n → slice_get xs i ≡ Some x → All P (take n xs) → P x
 at_front P xs n i x lt e all =
     subst P (get_or-take n xs i x lt ∙ get_or_from_slice_get xs i x x e) (all i x (omega (arith, lt, slice_get_within xs i x e, length-take n xs)))
 
-at_place : {X : Type 0} (P : X → Type 0) (xs : List X) (i : ℕ) (x : X) → slice_get xs i ≡ Some x → All P xs → P x
-at_place P xs i x e all = subst P (get_or_from_slice_get xs i x x e) (all i x (slice_get_within xs i x e))
-
--- two places of which neither comes before the other are one
-one_place : (i j : ℕ) → (i < j → ⊥) → (j < i → ⊥) → i ≡ j
-one_place i j h g = ⊎_elim (λ lt. absurd (h lt)) (λ le. ⊎_elim (λ lt. absurd (g lt)) (λ ge. omega (arith, le, ge)) (cases_lt j i)) (cases_lt i j)
-
 same_some : {X : Type 0} (xs : List X) (i j : ℕ) (x y : X) → i ≡ j → slice_get xs i ≡ Some x → slice_get xs j ≡ Some y → x ≡ y
-same_some xs i j x y e f g = same (sym f ∙ ap (slice_get xs) e ∙ g)
-  where
-    same : {X : Type 0} {x y : X} → Some x ≡ Some y → x ≡ y
-    same e = cc
+same_some xs i j x y e f g = from_some (sym f ∙ ap (slice_get xs) e ∙ g)
 
 -- ---- faces
 
@@ -43,12 +35,12 @@ border_not_bad points polygon border bad = plane_not_bad polygon border.a border
 
 first_face : (points : List V3) (polygons : Mesh) (P Q : Polygon → Type 0) → ((polygon : Polygon) → IsSupporting points polygon → P polygon → ⊥) → ((polygon : Polygon) → IsSupporting points polygon → Q polygon → ⊥) → (f g : ℕ) → IsFirstFace points polygons P f → IsFirstFace points polygons Q g → f ≡ g
 first_face points polygons P Q no_p no_q f g a b =
-    one_place f g
+    same_from_neither f g
     (λ lt. no_p a.polygon (at_front (IsSupporting points) polygons g f a.polygon lt a.at b.before) a.broken)
     (λ lt. no_q b.polygon (at_front (IsSupporting points) polygons f g b.polygon lt b.at a.before) b.broken)
 
 not_all_border : (points : List V3) (polygons : Mesh) (P : Polygon → Type 0) → ((polygon : Polygon) → IsSupporting points polygon → P polygon → ⊥) → (f : ℕ) → IsFirstFace points polygons P f → All (IsSupporting points) polygons → ⊥
-not_all_border points polygons P no_p f a all = no_p a.polygon (at_place (IsSupporting points) polygons f a.polygon a.at all) a.broken
+not_all_border points polygons P no_p f a all = no_p a.polygon (All-at (IsSupporting points) polygons f a.polygon a.at all) a.broken
 
 bad_not_cut : (points : List V3) (polygons : Mesh) (f g : ℕ) → IsFirstFace points polygons IsBadFace f → IsFirstFace points polygons (IsCut points) g → ⊥
 bad_not_cut points polygons f g a b =
@@ -63,11 +55,11 @@ open_not_closed polygons f corner first closed = first.unpaired (closed first.ap
 
 not_all_closed : (polygons : Mesh) (f corner : ℕ) → IsFirstOpen polygons f corner → All (HasClosedEdges polygons) polygons → ⊥
 not_all_closed polygons f corner first all =
-    open_not_closed polygons f corner first (at_place (IsClosed polygons) (edges first.polygon) corner (first.from, first.to) first.edge (at_place (HasClosedEdges polygons) polygons f first.polygon first.at all))
+    open_not_closed polygons f corner first (All-at (IsClosed polygons) (edges first.polygon) corner (first.from, first.to) first.edge (All-at (HasClosedEdges polygons) polygons f first.polygon first.at all))
 
 before_face : (polygons : Mesh) (f corner g other : ℕ) → IsFirstOpen polygons f corner → IsFirstOpen polygons g other → f < g → ⊥
 before_face polygons f corner g other a b lt =
-    open_not_closed polygons f corner a (at_place (IsClosed polygons) (edges a.polygon) corner (a.from, a.to) a.edge (at_front (HasClosedEdges polygons) polygons g f a.polygon lt a.at b.faces_before))
+    open_not_closed polygons f corner a (All-at (IsClosed polygons) (edges a.polygon) corner (a.from, a.to) a.edge (at_front (HasClosedEdges polygons) polygons g f a.polygon lt a.at b.faces_before))
 
 before_corner : (polygons : Mesh) (f corner g other : ℕ) → (a : IsFirstOpen polygons f corner) (b : IsFirstOpen polygons g other) → a.polygon ≡ b.polygon → corner < other → ⊥
 before_corner polygons f corner g other a b e lt =
@@ -75,9 +67,9 @@ before_corner polygons f corner g other a b e lt =
 
 one_open : (polygons : Mesh) (f corner g other : ℕ) → IsFirstOpen polygons f corner → IsFirstOpen polygons g other → (f ≡ g) × (corner ≡ other)
 one_open polygons f corner g other a b =
-    let e : f ≡ g = one_place f g (before_face polygons f corner g other a b) (before_face polygons g other f corner b a) in
+    let e : f ≡ g = same_from_neither f g (before_face polygons f corner g other a b) (before_face polygons g other f corner b a) in
     let same : a.polygon ≡ b.polygon = same_some polygons f g a.polygon b.polygon e a.at b.at in
-    (e, one_place corner other (before_corner polygons f corner g other a b same) (before_corner polygons g other f corner b a (sym same)))
+    (e, same_from_neither corner other (before_corner polygons f corner g other a b same) (before_corner polygons g other f corner b a (sym same)))
 
 -- ---- rule by rule
 

@@ -1,41 +1,28 @@
 -- A plane that three corners of a polygon give: what lies in it, and that all such planes have the same two sides.
-use Rattle.std.proofs.Common.{◌≡◌, ◌≢◌, ◌<◌, ◌⊎◌, zero, suc, ℤ, pos, negsuc, ◌+ℤ◌, ◌-ℤ◌, ◌*ℤ◌, ◌≤ℤ◌, ◌<ℤ◌, List, [], ◌∷◌, length, All, Contains, inl, inr, refl, ap, sym, subst, ◌∙◌, arith, ⊎_elim}
+use Rattle.std.proofs.Common.{◌≡◌, ◌≢◌, ◌<◌, ◌⊎◌, zero, suc, ℤ, pos, negsuc, ◌+ℤ◌, ◌-ℤ◌, ◌*ℤ◌, ◌≤ℤ◌, ◌<ℤ◌, List, [], ◌∷◌, length, All, Contains, inl, inr, refl, ap, sym, ◌∙◌, arith, ⊎_elim}
 use Rattle.std.proofs.lemmas.Int.{ints}
 use Rattle.std.proofs.lemmas.List.Elements.{All-contains, All-weaker}
 use Rattle.staat_vec.specs.declared.vector.V3.{V3}
 use Rattle.staat_vec.specs.declared.vector.Sign.TheVariants.{Neg, Zero, Pos}
 use Rattle.staat_vec.specs.Vectors.{origin, minus, dot, cross, sign}
-use Rattle.staat_vec.proofs.Order.{negative_mul, nonneg_mul, pos_mul}
-use Rattle.staat_vec.proofs.Ring.{at, num, ring, ◌⊕◌, ◌⊖◌, ◌⊗◌}
+use Rattle.staat_vec.proofs.Order.{negative_mul, nonneg_mul, pos_mul, positive_nonneg}
+use Rattle.staat_vec.proofs.Ring.{ring, ◌⊕◌, ◌⊖◌, ◌⊗◌}
 use Rattle.staat_vec.proofs.Unique.{Contains-cases, Contains-nothing}
-use Rattle.staat_vec.proofs.VecRing.{cross_self, scale, values, ring3, v0, v1, v2, v3, originE, dotE, crossE, minusE, timesE}
-use Rattle.staat_model.proofs.CornerLemmas.{some_square}
+use Rattle.staat_vec.proofs.VecRing.{cross_self, scale, values, ring3, v0, v1, v2, v3, originE, dotE, crossE, minusE}
 use Rattle.staat_model.proofs.Flat.{on_plane}
 use Rattle.staat_model.proofs.Mixes.{dot_origin}
 use Rattle.staat_mesh.specs.Polygons.{Polygon}
 use Rattle.staat_mesh.specs.Sides.{IsBadFace, IsSupporting, IsCut, LiesInPlane, few, off_plane, on_line, side}
 use Rattle.staat_mesh.proofs.LineLemmas.{no_way}
-use Rattle.staat_mesh.proofs.StanceLemmas.{det-dot}
+use Rattle.staat_vec.proofs.VectorLists.{one_of_two}
+use Rattle.staat_vec.proofs.Signs.{zero_sign, sign_positive, sign_negative}
+use Rattle.staat_vec.proofs.VectorLaws.{cross_twice, no_multiples, some_square, det_dot}
+use Rattle.staat_vec.proofs.Integers.{two_negatives, mixed_product}
 
 -- ---- sides as signs of products with the normal
 
 abbrev normal : V3 → V3 → V3 → V3
 normal a b c = cross (minus b a) (minus c a)
-
-zero_height : (z : ℤ) → sign z ≡ Zero → z ≡ pos 0
-zero_height (pos zero) e = refl
-zero_height (pos (suc n)) e = cc
-zero_height (negsuc n) e = cc
-
-above : (z : ℤ) → sign z ≡ Pos → pos 0 <ℤ z
-above (pos zero) e = absurd cc
-above (pos (suc n)) e = omega (arith, ints)
-above (negsuc n) e = absurd cc
-
-below : (z : ℤ) → sign z ≡ Neg → z <ℤ pos 0
-below (pos zero) e = absurd cc
-below (pos (suc n)) e = absurd cc
-below (negsuc n) e = omega (arith, ints)
 
 not_above : (z : ℤ) → sign z ≢ Pos → z ≤ℤ pos 0
 not_above (pos zero) ne = omega (arith, ints)
@@ -47,12 +34,12 @@ not_below (pos n) ne = omega (arith, ints)
 not_below (negsuc n) ne = absurd (ne refl)
 
 side-normal : (a b c p : V3) → side a b c p ≡ sign (dot (normal a b c) (minus p a))
-side-normal a b c p = ap sign (det-dot (minus b a) (minus c a) (minus p a))
+side-normal a b c p = ap sign (det_dot (minus b a) (minus c a) (minus p a))
 
 -- the corners are at no height
 level : (polygon : Polygon) (a b c : V3) → LiesInPlane polygon a b c → All (λ p. dot (normal a b c) (minus p a) ≡ pos 0) polygon
 level polygon a b c plane =
-    All-weaker (λ p. side a b c p ≡ Zero) (λ p. dot (normal a b c) (minus p a) ≡ pos 0) (λ p e. zero_height (dot (normal a b c) (minus p a)) (sym (side-normal a b c p) ∙ e)) polygon plane.flat
+    All-weaker (λ p. side a b c p ≡ Zero) (λ p. dot (normal a b c) (minus p a) ≡ pos 0) (λ p e. zero_sign (dot (normal a b c) (minus p a)) (sym (side-normal a b c p) ∙ e)) polygon plane.flat
 
 -- ---- a polygon that has a plane is no bad face
 
@@ -67,14 +54,8 @@ too_few (x ∷ []) a b c lt ha hb hc apart =
   where
     only : (x p : V3) → Contains (x ∷ []) p → p ≡ x
     only x p h = ⊎_elim (λ e. e) (λ later. absurd (Contains-nothing p later)) (Contains-cases x [] p h)
-too_few (x ∷ y ∷ []) a b c lt ha hb hc apart = three (either x y a ha) (either x y b hb) (either x y c hc)
+too_few (x ∷ y ∷ []) a b c lt ha hb hc apart = three (one_of_two x y a ha) (one_of_two x y b hb) (one_of_two x y c hc)
   where
-    either : (x y p : V3) → Contains (x ∷ y ∷ []) p → (p ≡ x) ⊎ (p ≡ y)
-    either x y p h = elim (Contains-cases x (y ∷ []) p h) [
-      | inl e ↦ inl e
-      | inr later ↦ elim (Contains-cases y [] p later) [ inl e ↦ inr e | inr nowhere ↦ absurd (Contains-nothing p nowhere) ]
-    ]
-
     first_second : a ≡ b → ⊥
     first_second e = apart (ap (λ q. cross (minus q a) (minus c a)) (sym e) ∙ no_way a (minus c a))
 
@@ -100,12 +81,6 @@ plane_not_bad polygon a b c plane (on_line line) = plane.apart (line a b c plane
 plane_not_bad polygon a b c plane (off_plane solid) = on_plane (normal a b c) a polygon plane.apart (level polygon a b c plane) solid
 
 -- ---- two planes of one polygon
-
-crossed_twice : (n u v : V3) → cross n (cross u v) ≡ minus (scale (dot n v) u) (scale (dot n u) v)
-crossed_twice n u v = ring3 (values (n ∷ u ∷ v ∷ []) []) (crossE v0 (crossE v1 v2)) (minusE (timesE (dotE v0 v2) v1) (timesE (dotE v0 v1) v2)) (tt, tt, tt)
-
-nothing_crossed : (u v : V3) → minus (scale (pos 0) u) (scale (pos 0) v) ≡ origin
-nothing_crossed u v = ring3 (values (u ∷ v ∷ []) []) (minusE (timesE (num (pos 0)) v0) (timesE (num (pos 0)) v1)) originE (tt, tt, tt)
 
 -- a normal of a plane through a is square to what leads from one of its points to another
 between : (n a p q : V3) → dot n (minus q p) ≡ dot n (minus q a) -ℤ dot n (minus p a)
@@ -140,22 +115,11 @@ positive_from s (negsuc n) z hs e hz = let down : (s *ℤ negsuc n) <ℤ pos 0 =
     clash t z e h k = omega (arith, ints)
 
 negative_from : (s x z : ℤ) → pos 0 <ℤ s → s *ℤ x ≡ z → z <ℤ pos 0 → x <ℤ pos 0
-negative_from s (pos n) z hs e hz = let up : pos 0 ≤ℤ (s *ℤ pos n) = nonneg_mul s (pos n) (weaker s hs) (omega (arith, ints)) in absurd (clash (s *ℤ pos n) z e hz up)
+negative_from s (pos n) z hs e hz = let up : pos 0 ≤ℤ (s *ℤ pos n) = nonneg_mul s (pos n) (positive_nonneg s hs) (omega (arith, ints)) in absurd (clash (s *ℤ pos n) z e hz up)
   where
-    weaker : (s : ℤ) → pos 0 <ℤ s → pos 0 ≤ℤ s
-    weaker s h = omega (arith, ints)
-
     clash : (t z : ℤ) → t ≡ z → z <ℤ pos 0 → pos 0 ≤ℤ t → ⊥
     clash t z e h k = omega (arith, ints)
 negative_from s (negsuc n) z hs e hz = omega (arith, ints)
-
-two_negative : (k q : ℤ) → k <ℤ pos 0 → q <ℤ pos 0 → pos 0 <ℤ (k *ℤ q)
-two_negative (pos k) q h g = absurd (omega (arith, ints))
-two_negative (negsuc k) (pos q) h g = absurd (omega (arith, ints))
-two_negative (negsuc k) (negsuc q) h g = omega (arith, ints)
-
-unlike : (k p : ℤ) → k <ℤ pos 0 → pos 0 <ℤ p → (k *ℤ p) <ℤ pos 0
-unlike k p h g = subst (λ z. z <ℤ pos 0) (ring (p ∷ k ∷ []) (at 0 ⊗ at 1) (at 1 ⊗ at 0) tt) (negative_mul p k g h)
 
 -- two numbers of opposite signs, times one number other than 0 and divided by a positive one, have opposite signs
 opposite : (s k x y p q : ℤ) → pos 0 <ℤ s → k ≢ pos 0 → s *ℤ x ≡ k *ℤ p → s *ℤ y ≡ k *ℤ q → pos 0 <ℤ p → q <ℤ pos 0 → ((pos 0 <ℤ x) × (y <ℤ pos 0)) ⊎ ((x <ℤ pos 0) × (pos 0 <ℤ y))
@@ -165,7 +129,7 @@ opposite s (pos (suc n)) x y p q hs ne e f hp hq =
     inl (positive_from s x (pos (suc n) *ℤ p) hs e (pos_mul (pos (suc n)) p up hp), negative_from s y (pos (suc n) *ℤ q) hs f (negative_mul (pos (suc n)) q up hq))
 opposite s (negsuc n) x y p q hs ne e f hp hq =
     let down : negsuc n <ℤ pos 0 = omega (arith, ints) in
-    inr (negative_from s x (negsuc n *ℤ p) hs e (unlike (negsuc n) p down hp), positive_from s y (negsuc n *ℤ q) hs f (two_negative (negsuc n) q down hq))
+    inr (negative_from s x (negsuc n *ℤ p) hs e (mixed_product (negsuc n) p down hp), positive_from s y (negsuc n *ℤ q) hs f (two_negatives (negsuc n) q down hq))
 
 at_no_height : (polygon : Polygon) (a b c p : V3) → LiesInPlane polygon a b c → Contains polygon p → dot (normal a b c) (minus p a) ≡ pos 0
 at_no_height polygon a b c p plane h = All-contains (λ q. dot (normal a b c) (minus q a) ≡ pos 0) polygon p (level polygon a b c plane) h
@@ -178,7 +142,7 @@ parallel_normals polygon a b c x y z one other =
     let at_x = at_no_height polygon a b c x one other.a_in in
     let first : dot n u ≡ pos 0 = square_between _ _ _ (between n a x y) (at_no_height polygon a b c y one other.b_in) at_x in
     let second : dot n v ≡ pos 0 = square_between _ _ _ (between n a x z) (at_no_height polygon a b c z one other.c_in) at_x in
-    crossed_twice n u v ∙ (λ i. minus (scale (second i) u) (scale (first i) v)) ∙ nothing_crossed u v
+    cross_twice n u v ∙ (λ i. minus (scale (second i) u) (scale (first i) v)) ∙ no_multiples u v
 
 -- heights over two planes of the polygon differ by a factor
 same_factor : (polygon : Polygon) (a b c x y z p : V3) → LiesInPlane polygon a b c → LiesInPlane polygon x y z → dot (normal a b c) (normal a b c) *ℤ dot (normal x y z) (minus p x) ≡ dot (normal a b c) (normal x y z) *ℤ dot (normal a b c) (minus p a)
@@ -215,8 +179,8 @@ border_not_cut points polygon border cut =
     let n = normal cut.a cut.b cut.c in
     let m = normal border.a border.b border.c in
     let height : V3 → ℤ = λ p. dot m (minus p border.a) in
-    let ahead : pos 0 <ℤ dot n (minus cut.ahead cut.a) = above _ (sym (side-normal cut.a cut.b cut.c cut.ahead) ∙ cut.ahead_side) in
-    let behind : dot n (minus cut.behind cut.a) <ℤ pos 0 = below _ (sym (side-normal cut.a cut.b cut.c cut.behind) ∙ cut.behind_side) in
+    let ahead : pos 0 <ℤ dot n (minus cut.ahead cut.a) = sign_positive _ (sym (side-normal cut.a cut.b cut.c cut.ahead) ∙ cut.ahead_side) in
+    let behind : dot n (minus cut.behind cut.a) <ℤ pos 0 = sign_negative _ (sym (side-normal cut.a cut.b cut.c cut.behind) ∙ cut.behind_side) in
     let signs = opposite (dot n n) (dot n m) (height cut.ahead) (height cut.behind) (dot n (minus cut.ahead cut.a)) (dot n (minus cut.behind cut.a)) (some_square n cut.plane.apart)
     (normals_meet polygon cut.a cut.b cut.c border.a border.b border.c cut.plane border.plane)
     (same_factor polygon cut.a cut.b cut.c border.a border.b border.c cut.ahead cut.plane border.plane)

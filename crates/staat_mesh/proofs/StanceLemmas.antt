@@ -1,23 +1,19 @@
 -- A face's stance, by the plane that three of its corners give.
-use Rattle.std.proofs.Common.{◌≡◌, ◌≢◌, List, [], ◌∷◌, All, Any, ◌⊎◌, inl, inr, refl, ap, sym, subst, ◌∙◌}
+use Rattle.std.proofs.Common.{◌≡◌, ◌≢◌, List, All, Any, ◌⊎◌, inl, inr, refl, ap, sym, subst, ◌∙◌}
 use Rattle.std.proofs.lemmas.List.Elements.{All-weaker}
 use Rattle.staat_vec.specs.declared.vector.V3.{V3}
 use Rattle.staat_vec.specs.declared.vector.Sign.{Sign}
 use Rattle.staat_vec.specs.declared.vector.Sign.TheVariants.{Neg, Zero, Pos}
-use Rattle.staat_vec.specs.Vectors.{minus, dot, cross, det, sign}
-use Rattle.staat_vec.proofs.Ring.{ring}
-use Rattle.staat_vec.proofs.VecRing.{values, v0, v1, v2, dotE, crossE, detE}
+use Rattle.staat_vec.specs.Vectors.{minus, dot, cross, sign}
 use Rattle.staat_model.proofs.Flat.{off_plane as four_apart}
 use Rattle.staat_mesh.specs.declared.plane.Plane.{Plane}
 use Rattle.staat_mesh.specs.Planes.{IsSpanned, side_of}
 use Rattle.staat_mesh.specs.Sides.{IsBadFace, IsSupporting, IsCut, LiesInPlane, side, off_plane}
-
-pub det-dot : (u v w : V3) → det u v w ≡ dot (cross u v) w
-det-dot u v w = ring (values (u ∷ v ∷ w ∷ []) []) (detE v0 v1 v2) (dotE (crossE v0 v1) v2) tt
+use Rattle.staat_vec.proofs.VectorLaws.{det_dot}
 
 side-side_of : (plane : Plane) (b c p : V3) → plane.normal ≡ cross (minus b plane.through) (minus c plane.through) → side plane.through b c p ≡ side_of plane p
 side-side_of plane b c p e =
-    ap sign (det-dot (minus b plane.through) (minus c plane.through) (minus p plane.through) ∙ ap (λ n. dot n (minus p plane.through)) (sym e))
+    ap sign (det_dot (minus b plane.through) (minus c plane.through) (minus p plane.through) ∙ ap (λ n. dot n (minus p plane.through)) (sym e))
 
 on_sides : (P : Sign → Type 0) (ps : List V3) (plane : Plane) (polygon : List V3) (s : IsSpanned polygon plane) → All (λ p. P (side_of plane p)) ps → All (λ p. P (side plane.through s.b s.c p)) ps
 on_sides P ps plane polygon s all =

@@ -1,19 +1,17 @@
 -- What the table of edges says of the edges of the mesh.
-use Rattle.std.proofs.Common.{◌≡◌, ◌≢◌, ◌<◌, ◌≤◌, ◌+◌, ℕ, Some, List, [], ◌∷◌, length, map, take, get_or, ap, sym, subst, ◌∙◌, arith, Bool, false, true, ⊎_elim}
+use Rattle.std.proofs.Common.{◌≡◌, ◌≢◌, ◌<◌, ◌≤◌, ◌+◌, ℕ, Some, List, length, map, take, get_or, ap, sym, subst, ◌∙◌, arith, Bool, false, true, ⊎_elim}
 use Rattle.std.specs.Prelude.{All, Contains, count_by, min, option_map, slice_get, slice_index}
 use Rattle.std.specs.List.{flat_map}
 use Rattle.std.proofs.lemmas.Bool.{cases_lt}
 use Rattle.std.proofs.lemmas.List.{take-map}
-use Rattle.std.proofs.lemmas.List.Elements.{All-append, All-contains, All-map, All-nil, All-take}
+use Rattle.std.proofs.lemmas.List.Elements.{All-contains, All-map, All-take}
 use Rattle.std.proofs.lemmas.Map.Keys.{IsDistinct-from_sorted, apart_from_distinct}
 use Rattle.std.proofs.lemmas.Option.{get_or_from_slice_get, slice_get-get_or, slice_get-map, slice_get_within}
 use Rattle.std.proofs.lemmas.Simd.{map-map}
 use Rattle.staat_vec.specs.declared.vector.V3.{V3}
 use Rattle.staat_vec.specs.Lists.{Lists}
 use Rattle.staat_vec.specs.Vectors.{origin, vector_cmp}
-use Rattle.staat_vec.proofs.Unique.{Contains-front, Contains-later}
 use Rattle.staat_limits.specs.declared.limits.TheConstants.{MOST_POINTS}
-use Rattle.staat_model.proofs.GraphLemmas.{from_slice_get}
 use Rattle.staat_model.proofs.Members.{All-from_members, both as joined}
 use Rattle.staat_off.specs.declared.raw.Raw.{Raw}
 use Rattle.staat_off.specs.Raws.{IsIndexed}
@@ -25,6 +23,8 @@ use Rattle.staat_mesh.proofs.RenamedEdges.{IsInjective, both, count_by-joins, ed
 use Rattle.staat_mesh.proofs.SameLemmas.{is_same-Decides}
 use Rattle.staat_mesh.proofs.UsedPoints.{to_used}
 use Rattle.staat_mesh.proofs.EdgeLemmas.{All-edges}
+use Rattle.staat_vec.proofs.ListLaws.{All-flat_map}
+use Rattle.staat_vec.proofs.Unique.{from_place}
 
 -- the edges of all faces, by the numbers of their points
 abbrev pub numbered_edges : List ℕ → List (List ℕ) → List (ℕ × ℕ)
@@ -90,10 +90,6 @@ edges_below raw points numbers table t face listed =
 
 -- ---- the whole mesh
 
-All-flat_map : {X Y : Type 0} (P : Y → Type 0) (f : X → List Y) (xs : List X) → ((x : X) → Contains xs x → All P (f x)) → All P (flat_map f xs)
-All-flat_map P f [] each = All-nil P
-All-flat_map P f (x ∷ xs) each = All-append P (f x) (flat_map f xs) (each x (Contains-front x xs)) (All-flat_map P f xs (λ y h. each y (Contains-later x xs y h)))
-
 all_edges : (raw : Raw) (points : List V3) (numbers table : List ℕ) → IsTabled raw points numbers table → flat_map edges (mesh raw) ≡ map (both (point_at points)) (numbered_edges numbers raw.faces)
 all_edges raw points numbers table t =
     flat_map-map edges (polygon raw.points) raw.faces
@@ -144,11 +140,11 @@ face_closed raw points numbers table t face listed paired =
 
 pub face_open : (raw : Raw) (points : List V3) (numbers table : List ℕ) → IsTabled raw points numbers table → (f corner : ℕ) (face : List ℕ) → slice_get raw.faces f ≡ Some face → All (HasClosedEdges (mesh raw)) (take f (mesh raw)) → IsFirstUnpaired table (edges (numbered numbers face)) corner → IsFirstOpen (mesh raw) f corner
 face_open raw points numbers table t f corner face at before first =
-    let listed : Contains raw.faces face = from_slice_get raw.faces f face at in
+    let listed : Contains raw.faces face = from_place raw.faces f face at in
     let es = edges (numbered numbers face) in
     let is : edges (polygon raw.points face) ≡ map (both (point_at points)) es = edges-polygon raw points numbers table t face listed in
     let all_below : All (IsBelow points) es = edges_below raw points numbers table t face listed in
-    let below : IsBelow points (first.from, first.to) = All-contains (IsBelow points) es (first.from, first.to) all_below (from_slice_get es corner (first.from, first.to) first.at) in record {
+    let below : IsBelow points (first.from, first.to) = All-contains (IsBelow points) es (first.from, first.to) all_below (from_place es corner (first.from, first.to) first.at) in record {
       polygon = polygon raw.points face;
       at = polygon_there raw f face at;
       from = point_at points first.from;

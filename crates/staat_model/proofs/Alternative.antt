@@ -12,6 +12,8 @@ use Rattle.staat_vec.proofs.Order.{as_nat, as_negative, coefficient_nonneg, nega
 use Rattle.staat_model.specs.Meeting.{mix}
 use Rattle.staat_model.specs.Cones.{IsAbove, IsCombined}
 use Rattle.staat_model.proofs.Mixes.{mix_scale, mix_above, scale_origin, square_vector}
+use Rattle.staat_vec.proofs.Integers.{negative_nonneg_clash}
+use Rattle.staat_vec.proofs.VectorLaws.{times_zero_plus}
 
 -- some x has the members on its positive side and h strictly on the negative one
 abbrev pub IsSeparated : List V3 → V3 → Type 0
@@ -77,9 +79,6 @@ above_unmap n a x y (v ∷ vs) h =
     (nonneg_is (dot v (lift n a x y)) (dot (reduce n a x v) y) (sym (reduce_dot n a x v y)) (All-head (λ v. pos 0 ≤ℤ dot v y) (reduce n a x v) (map (reduce n a x) vs) h))
     (above_unmap n a x y vs (All-tail (λ v. pos 0 ≤ℤ dot v y) (reduce n a x v) (map (reduce n a x) vs) h))
 
-plus_nothing : (a m : V3) → plus (times 0 a) m ≡ m
-plus_nothing a m = ring3 (values (a ∷ m ∷ []) []) (plusE (timesE (num (pos 0)) v0) v1) v1 (tt, tt, tt)
-
 dot_turned : (h : V3) → dot h (scale (negsuc 0) h) ≡ negsuc 0 *ℤ dot h h
 dot_turned h = ring (values (h ∷ []) []) (dotE v0 (timesE (num (negsuc 0)) v0)) (num (negsuc 0) ⊗ dotE v0 v0) tt
 
@@ -120,7 +119,7 @@ module _ (n : ℕ) (one : 1 ≤ n) (a x h : V3) (vs : List V3) (up : IsAbove x v
   turned (inr s) = inr (turned_separated s)
 
 alternative_step : (a h : V3) (vs : List V3) → Alternative vs h → ((n : ℕ) (x : V3) → Alternative (map (reduce n a x) vs) (reduce n a x h)) → Alternative (a ∷ vs) h
-alternative_step a h vs (inl c) ih = inl (record { k = c.k; positive = c.positive; numbers = 0 ∷ c.numbers; one_each = ap suc c.one_each; is = plus_nothing a (mix c.numbers vs) ∙ c.is })
+alternative_step a h vs (inl c) ih = inl (record { k = c.k; positive = c.positive; numbers = 0 ∷ c.numbers; one_each = ap suc c.one_each; is = times_zero_plus a (mix c.numbers vs) ∙ c.is })
 alternative_step a h vs (inr (x, up, low)) ih =
     by_lt_z {P = Alternative (a ∷ vs) h} (dot a x) (pos 0)
     (λ neg. let d = as_negative (dot a x) neg in turned d.0 d.1 a x h vs up d.2 low (ih d.0 x))
@@ -138,7 +137,4 @@ alternative vs h = alternative_at (length vs) vs h refl
 
 -- what holds wherever the conditions of a list hold is combined from them
 pub combine_lemma : (vs : List V3) (h : V3) → ((x : V3) → IsAbove x vs → pos 0 ≤ℤ dot h x) → IsCombined vs h
-combine_lemma vs h f = ⊎_elim (λ c. c) (λ s. absurd (clash (dot h s.0) s.2 (f s.0 s.1))) (alternative vs h)
-  where
-    clash : (p : ℤ) → p <ℤ pos 0 → pos 0 ≤ℤ p → ⊥
-    clash p h g = omega (arith, ints)
+combine_lemma vs h f = ⊎_elim (λ c. c) (λ s. absurd (negative_nonneg_clash (dot h s.0) s.2 (f s.0 s.1))) (alternative vs h)

@@ -10,11 +10,13 @@ use Rattle.staat_vec.proofs.VecRing.{VEx, dotE, crossE, plusE, timesE, originE, 
 use Rattle.staat_vec.proofs.Order.{nonneg_is, nonneg_pos, nonneg_mul, pos_mul, cancel_nonneg, cancel_zero, positive_nonneg, turned_positive}
 use Rattle.staat_model.specs.Meeting.{mix}
 use Rattle.staat_model.specs.Cones.{IsAbove, IsSpanning, IsCombined, IsOnBorder, HasTwoBorders}
-use Rattle.staat_model.proofs.Members.{here, there, both, All-from_members}
+use Rattle.staat_model.proofs.Members.{both, All-from_members}
 use Rattle.staat_model.proofs.Mixes.{mix_above, dot_step}
 use Rattle.staat_model.proofs.Alternative.{IsSeparated, alternative, combine_lemma}
 use Rattle.staat_model.proofs.Tilt.{dot_pair}
 use Rattle.staat_model.proofs.Edge.{perpendicular}
+use Rattle.staat_vec.proofs.Unique.{Contains-nothing, Contains-front}
+use Rattle.staat_vec.proofs.ListLaws.{Contains-there}
 
 front : (P : V3 → Type 0) (xs ys : List V3) → All P (xs ++ ys) → All P xs
 front P [] ys h = All-nil P
@@ -64,13 +66,13 @@ prune ks (g ∷ rs) needed = go (alternative (ks ++ rs) g) (prune ks rs (All-wea
     out x (suc k, le, e) = inl (k, omega arith, e)
 
     go : IsCombined (ks ++ rs) g ⊎ IsSeparated (ks ++ rs) g → Pruned ks rs → (All (Needed (g ∷ ks) rs) (g ∷ ks) → Pruned (g ∷ ks) rs) → Pruned ks (g ∷ rs)
-    go (inl c) (ls, need, rules, from) other = (ls, need, (λ x up. insert_above ks rs g x (follows (ks ++ rs) g x c (rules x up)) (rules x up)), λ x h. ⊎_elim (λ a. inl a) (λ b. inr (there g x rs b)) (from x h))
+    go (inl c) (ls, need, rules, from) other = (ls, need, (λ x up. insert_above ks rs g x (follows (ks ++ rs) g x c (rules x up)) (rules x up)), λ x h. ⊎_elim (λ a. inl a) (λ b. inr (Contains-there g x rs b)) (from x h))
     go (inr s) without other =
         let (ls, need, rules, from) = other (keep s) in (
           ls,
           need,
           (λ x up. let w = rules x up in insert_above ks rs g x (All-head (λ v. pos 0 ≤ℤ dot v x) g (ks ++ rs) w) (All-tail (λ v. pos 0 ≤ℤ dot v x) g (ks ++ rs) w)),
-          λ x h. ⊎_elim (out x) (λ b. inr (there g x rs b)) (from x h),
+          λ x h. ⊎_elim (out x) (λ b. inr (Contains-there g x rs b)) (from x h),
         )
 
 same_dec : (a b : V3) → Dec (a ≡ b)
@@ -87,8 +89,8 @@ find_other g [] = inr (All-nil (λ m. m ≡ g))
 find_other g (k ∷ ks) = go (same_dec k g) (find_other g ks)
   where
     go : Dec (k ≡ g) → ((h : V3) × Contains ks h × (h ≢ g)) ⊎ All (λ m. m ≡ g) ks → ((h : V3) × Contains (k ∷ ks) h × (h ≢ g)) ⊎ All (λ m. m ≡ g) (k ∷ ks)
-    go (no n) r = inl (k, here k ks, n)
-    go (yes e) (inl (h, c, n)) = inl (h, there k h ks c, n)
+    go (no n) r = inl (k, Contains-front k ks, n)
+    go (yes e) (inl (h, c, n)) = inl (h, Contains-there k h ks c, n)
     go (yes e) (inr rules) = inr (All-cons (λ m. m ≡ g) k ks e rules)
 
 between_zero : (p q : ℤ) → p ≡ neg_ℤ q → pos 0 ≤ℤ q → pos 0 ≤ℤ p → q ≡ pos 0
@@ -239,7 +241,7 @@ two_borders vs (g ∷ ks) d spans inside rules from needed = go (find_other g (g
     go : ((h : V3) × Contains (g ∷ ks) h × (h ≢ g)) ⊎ All (λ m. m ≡ g) (g ∷ ks) → HasTwoBorders vs
     go (inr one) = absurd (not_one vs (g ∷ ks) g spans rules one)
     go (inl (h, in_h, apart)) =
-        let in_g = here g ks in
+        let in_g = Contains-front g ks in
         let b = border_at vs (g ∷ ks) d inside rules from g in_g (All-contains (Needed (g ∷ ks) []) (g ∷ ks) g needed in_g) in
         let c = border_at vs (g ∷ ks) d inside rules from h in_h (All-contains (Needed (g ∷ ks) []) (g ∷ ks) h needed in_h) in
         record { g = g; h = h; y = b.0; z = c.0; y_on = b.1; z_on = c.1; y_inside = b.2 h in_h apart; z_inside = c.2 g in_g (λ e. apart (sym e)) }
@@ -248,7 +250,4 @@ pub borders_lemma : (vs : List V3) (d : V3) → IsSpanning vs → All (λ v. pos
 unfolding Pruned
 borders_lemma vs d spans inside =
     let (ks, needed, rules, from) = prune [] vs (All-nil (Needed [] vs)) in
-    two_borders vs ks d spans inside rules (λ g c. ⊎_elim (λ n. absurd (nothing g n)) (λ y. y) (from g c)) needed
-  where
-    nothing : (g : V3) → Contains [] g → ⊥
-    nothing g (k, lt, e) = omega arith
+    two_borders vs ks d spans inside rules (λ g c. ⊎_elim (λ n. absurd (Contains-nothing g n)) (λ y. y) (from g c)) needed

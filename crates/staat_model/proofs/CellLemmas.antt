@@ -1,5 +1,5 @@
 -- The edges on the border of an open cell: there are two, and directions on two of them add up to one in the cell.
-use Rattle.std.proofs.Common.{◌≡◌, ◌≢◌, ℕ, zero, suc, ◌+◌, refl, sym, ap, subst, ◌∙◌, arith, ℤ, pos, negsuc, neg_ℤ, ◌+ℤ◌, ◌<ℤ◌, ◌⊎◌, inl, inr, ⊎_elim, cond, false, List, [], ◌∷◌, map, All, Contains}
+use Rattle.std.proofs.Common.{◌≡◌, ◌≢◌, ℕ, zero, suc, ◌+◌, refl, sym, ap, subst, ◌∙◌, arith, ℤ, pos, neg_ℤ, ◌+ℤ◌, ◌<ℤ◌, ◌⊎◌, inl, inr, ⊎_elim, cond, false, List, [], ◌∷◌, map, All, Contains}
 use Rattle.std.specs.Prelude.{count_by}
 use Rattle.std.proofs.lemmas.Int.{ints}
 use Rattle.std.proofs.lemmas.List.Sums.{sum_by-cons}
@@ -8,8 +8,7 @@ use Rattle.staat_vec.specs.declared.vector.V3.{V3}
 use Rattle.staat_vec.specs.declared.vector.Sign.{Sign}
 use Rattle.staat_vec.specs.declared.vector.Sign.TheVariants.{Neg, Zero, Pos}
 use Rattle.staat_vec.specs.Vectors.{vector, dot, cross, plus, negative, origin, sign}
-use Rattle.staat_vec.proofs.Ring.{◌⊕◌, ring}
-use Rattle.staat_vec.proofs.VecRing.{dotE, plusE, values, v0, v1, v2, negative_dot}
+use Rattle.staat_vec.proofs.VecRing.{negative_dot}
 use Rattle.staat_model.specs.declared.assembly.Part.{Part}
 use Rattle.staat_model.specs.declared.set.PartSet.{PartSet}
 use Rattle.staat_model.specs.Planes.{ArePlanes}
@@ -17,16 +16,20 @@ use Rattle.staat_model.specs.declared.tree.Kind.TheVariants.{Edge, Open}
 use Rattle.staat_model.specs.Cones.{IsSpanning, IsOnBorder, HasEither}
 use Rattle.staat_model.specs.Cells.{signs_of, is_zero, kind_of, kind_by_count, IsCell, IsBorder}
 use Rattle.staat_model.specs.Borders.{HasTwoEdges}
-use Rattle.staat_model.proofs.Members.{here, there, All-from_members}
-use Rattle.staat_model.proofs.Differences.{in_map, from_map}
+use Rattle.staat_model.proofs.Members.{All-from_members}
+use Rattle.staat_model.proofs.Differences.{from_map}
 use Rattle.staat_model.proofs.Corners.{HoldsAxes, IsSame, cross_signs}
 use Rattle.staat_model.proofs.BorderLemmas.{borders_lemma}
-use Rattle.staat_model.proofs.GraphLemmas.{zero_sign, border_same}
+use Rattle.staat_model.proofs.GraphLemmas.{border_same}
 use Rattle.staat_model.proofs.FacetLemmas.{swap_zero}
 use Rattle.staat_model.proofs.CornerLemmas.{axes_span}
-use Rattle.staat_model.proofs.Edge.{dot_origin_right}
 use Rattle.staat_model.proofs.VertexLemmas.{same_some, holds_axes}
 use Rattle.staat_model.proofs.PlaneLemmas.{NoneParallel, planes_apart}
+use Rattle.staat_vec.proofs.Integers.{zero_not_positive, opposite_negative_back, opposite_zero_back, sum_zero, add-comm_ℤ}
+use Rattle.staat_vec.proofs.Signs.{positive_sign, negative_sign, sign_positive, sign_negative, zero_sign}
+use Rattle.staat_vec.proofs.VectorLaws.{dot_plus, dot_origin}
+use Rattle.staat_vec.proofs.Unique.{Contains-front}
+use Rattle.staat_vec.proofs.ListLaws.{Contains-there, Contains-map}
 
 -- ---- how many planes pass through a cell
 
@@ -36,13 +39,13 @@ zeros s = count_by is_zero s
 pub zeros-cons : (t : Sign) (s : List Sign) → zeros (t ∷ s) ≡ cond (is_zero t) 1 0 + zeros s
 zeros-cons t s = sum_by-cons (λ x. cond (is_zero x) 1 0) t s
 
-open_zeros : (s : List Sign) → kind_of s ≡ Open → zeros s ≡ 0
-open_zeros s e = go (zeros s) e
-  where
-    go : (n : ℕ) → kind_by_count n ≡ Open → n ≡ 0
-    go zero e = refl
-    go (suc zero) e = cc
-    go (suc (suc n)) e = cc
+pub open_no_zero : (n : ℕ) → kind_by_count n ≡ Open → n ≡ 0
+open_no_zero zero e = refl
+open_no_zero (suc zero) e = cc
+open_no_zero (suc (suc n)) e = cc
+
+pub open_zeros : (s : List Sign) → kind_of s ≡ Open → zeros s ≡ 0
+open_zeros s e = open_no_zero (zeros s) e
 
 pub edge_zeros : (s : List Sign) → kind_of s ≡ Edge → zeros s ≡ 1
 edge_zeros s e = go (zeros s) e
@@ -128,25 +131,6 @@ covers_or_same (e ∷ es) (f ∷ fs) (s ∷ ss) ce cf be bf = go e f be.0 bf.0 c
     go Pos Neg p q ce cf rest = neither Pos Neg (other Pos p (λ h. cc)) (other Neg q (λ h. cc)) (rest_of Pos es refl ce) (rest_of Neg fs refl cf) rest
     go Pos Pos p q ce cf rest = neither Pos Pos (other Pos p (λ h. cc)) (other Pos q (λ h. cc)) (rest_of Pos es refl ce) (rest_of Pos fs refl cf) rest
 
-pub positive_sign : (a : ℤ) → pos 0 <ℤ a → sign a ≡ Pos
-positive_sign (pos zero) h = absurd h.lt
-positive_sign (pos (suc n)) h = refl
-positive_sign (negsuc n) h = absurd h.lt
-
-pub negative_sign : (a : ℤ) → a <ℤ pos 0 → sign a ≡ Neg
-negative_sign (pos n) h = absurd (omega (arith, ints))
-negative_sign (negsuc n) h = refl
-
-pub sign_positive : (a : ℤ) → sign a ≡ Pos → pos 0 <ℤ a
-sign_positive (pos zero) e = cc
-sign_positive (pos (suc n)) e = omega (arith, ints)
-sign_positive (negsuc n) e = cc
-
-pub sign_negative : (a : ℤ) → sign a ≡ Neg → a <ℤ pos 0
-sign_negative (pos zero) e = cc
-sign_negative (pos (suc n)) e = cc
-sign_negative (negsuc n) e = omega (arith, ints)
-
 sum_positive : (a b : ℤ) → pos 0 <ℤ a → (pos 0 <ℤ b) ⊎ (b ≡ pos 0) → pos 0 <ℤ (a +ℤ b)
 sum_positive a b h (inl g) = omega (arith, ints)
 sum_positive a b h (inr e) = omega (arith, ints)
@@ -155,20 +139,11 @@ sum_negative : (a b : ℤ) → a <ℤ pos 0 → (b <ℤ pos 0) ⊎ (b ≡ pos 0)
 sum_negative a b h (inl g) = omega (arith, ints)
 sum_negative a b h (inr e) = omega (arith, ints)
 
-sum_zero : (a b : ℤ) → a ≡ pos 0 → b ≡ pos 0 → a +ℤ b ≡ pos 0
-sum_zero a b e f = omega (arith, ints)
-
 -- the sign of a sum of two numbers, one of the sign s and the other of it or 0
 sum_sign : (a b : ℤ) (s : Sign) → sign a ≡ s → (sign b ≡ s) ⊎ (sign b ≡ Zero) → sign (a +ℤ b) ≡ s
 sum_sign a b Pos p q = positive_sign (a +ℤ b) (sum_positive a b (sign_positive a p) (⊎_elim (λ h. inl (sign_positive b h)) (λ h. inr (zero_sign b h)) q))
 sum_sign a b Neg p q = negative_sign (a +ℤ b) (sum_negative a b (sign_negative a p) (⊎_elim (λ h. inl (sign_negative b h)) (λ h. inr (zero_sign b h)) q))
 sum_sign a b Zero p q = ap sign (sum_zero a b (zero_sign a p) (⊎_elim (λ h. zero_sign b h) (λ h. zero_sign b h) q))
-
-pub dot_plus : (g u v : V3) → dot g (plus u v) ≡ dot g u +ℤ dot g v
-dot_plus g u v = ring (values (g ∷ u ∷ v ∷ []) []) (dotE v0 (plusE v1 v2)) (dotE v0 v1 ⊕ dotE v0 v2) tt
-
-turn_sum : (a b : ℤ) → a +ℤ b ≡ b +ℤ a
-turn_sum a b = omega (arith, ints)
 
 pub sum_covers : (gs : List V3) (u v : V3) (ss : List Sign) → Covers (signs_of gs u) (signs_of gs v) ss → IsBorder (signs_of gs u) ss → IsBorder (signs_of gs v) ss → signs_of gs (plus u v) ≡ ss
 sum_covers [] u v [] c bu bv = refl
@@ -178,7 +153,7 @@ sum_covers (g ∷ gs) u v (s ∷ ss) c bu bv = λ i. at_head c.0 i ∷ sum_cover
   where
     at_head : (sign (dot g u) ≡ s) ⊎ (sign (dot g v) ≡ s) → sign (dot g (plus u v)) ≡ s
     at_head (inl e) = ap sign (dot_plus g u v) ∙ sum_sign (dot g u) (dot g v) s e bv.0
-    at_head (inr e) = ap sign (dot_plus g u v ∙ turn_sum (dot g u) (dot g v)) ∙ sum_sign (dot g v) (dot g u) s e bu.0
+    at_head (inr e) = ap sign (dot_plus g u v ∙ add-comm_ℤ (dot g u) (dot g v)) ∙ sum_sign (dot g v) (dot g u) s e bu.0
 
 -- directions on two different edges on the border of a cell add up to one in it
 pub edges_add_up_lemma : (planes : List V3) (s e f : List Sign) (u v : V3) → kind_of e ≡ Edge → kind_of f ≡ Edge → IsBorder e s → IsBorder f s → e ≢ f → signs_of planes u ≡ e → signs_of planes v ≡ f → signs_of planes (plus u v) ≡ s
@@ -210,9 +185,6 @@ module _ (d : V3) where
   turned_front : (p q : ℤ) → p ≡ neg_ℤ q → q <ℤ pos 0 → pos 0 <ℤ p
   turned_front p q e h = omega (arith, ints)
 
-  turned_back : (p q : ℤ) → p ≡ neg_ℤ q → pos 0 <ℤ p → q <ℤ pos 0
-  turned_back p q e h = omega (arith, ints)
-
   faces : (g : V3) → sign (dot g d) ≢ Zero → Faces g
   faces g off = go (sign (dot g d)) refl
     where
@@ -230,16 +202,16 @@ module _ (d : V3) where
           record {
             front = subst (λ z. pos 0 <ℤ dot z d) (sym is) (turned_front (dot (negative g) d) (dot g d) (negative_dot g d) (sign_negative (dot g d) e));
             same = inr is;
-            agrees = λ y h. negative_sign (dot g y) (turned_back (dot (negative g) y) (dot g y) (negative_dot g y) (subst (λ z. pos 0 <ℤ dot z y) is h)) ∙ sym e;
+            agrees = λ y h. negative_sign (dot g y) (opposite_negative_back (dot (negative g) y) (dot g y) (negative_dot g y) (subst (λ z. pos 0 <ℤ dot z y) is h)) ∙ sym e;
           }
 
 -- a sign other than zero
-not_zero : (t : Sign) → t ≢ Zero → is_zero t ≡ false
+pub not_zero : (t : Sign) → t ≢ Zero → is_zero t ≡ false
 not_zero Neg n = refl
 not_zero Zero n = absurd (n refl)
 not_zero Pos n = refl
 
-zeros_off : (t : Sign) (ts : List Sign) → t ≢ Zero → zeros (t ∷ ts) ≡ zeros ts
+pub zeros_off : (t : Sign) (ts : List Sign) → t ≢ Zero → zeros (t ∷ ts) ≡ zeros ts
 zeros_off t ts n = zeros-cons t ts ∙ ap (λ b. cond b 1 0 + zeros ts) (not_zero t n) ∙ omega arith
 
 pub off_all : (gs : List V3) (d : V3) → zeros (signs_of gs d) ≡ 0 → (g : V3) → Contains gs g → sign (dot g d) ≢ Zero
@@ -261,9 +233,9 @@ module _ (d m y : V3) where
   unfolding Sided
   strict_signs [] sided off = (refl, refl)
   strict_signs (g ∷ gs) sided off =
-      let (some, same) = sided g (here g gs) in
-      let is = same (off g (here g gs)) in
-      let rest = strict_signs gs (λ h c. sided h (there g h gs c)) (λ h c. off h (there g h gs c)) in
+      let (some, same) = sided g (Contains-front g gs) in
+      let is = same (off g (Contains-front g gs)) in
+      let rest = strict_signs gs (λ h c. sided h (Contains-there g h gs c)) (λ h c. off h (Contains-there g h gs c)) in
       ((λ i. is i ∷ rest.0 i), zeros_off (sign (dot g y)) (signs_of gs y) (λ z. some (sym is ∙ z)) ∙ rest.1)
 
   border_from_same : (ss ts : List Sign) → ss ≡ ts → IsBorder ss ts
@@ -274,16 +246,16 @@ module _ (d m y : V3) where
   edge_signs [] sided apart (k, lt, e) on = absurd (omega arith)
   edge_signs (g ∷ gs) sided (head, rest) (zero, lt, e) on =
       let zero_here : sign (dot g y) ≡ Zero = ap sign (ap (λ v. dot v y) e ∙ on) in
-      let strict = strict_signs gs (λ h c. sided h (there g h gs c)) (λ h c z. All-contains (λ h. cross g h ≢ origin) gs h head c (swap_zero g h (ap (cross h) e ∙ z))) in
+      let strict = strict_signs gs (λ h c. sided h (Contains-there g h gs c)) (λ h c z. All-contains (λ h. cross g h ≢ origin) gs h head c (swap_zero g h (ap (cross h) e ∙ z))) in
       ((inr zero_here, border_from_same (signs_of gs y) (signs_of gs d) strict.0), zeros-cons (sign (dot g y)) (signs_of gs y) ∙ ap (λ t. cond (is_zero t) 1 0 + zeros (signs_of gs y)) zero_here ∙ ap (λ n. 1 + n) strict.1)
   edge_signs (g ∷ gs) sided (head, rest) (suc k, lt, e) on =
       let inside : Contains gs m = (k, omega arith, e) in
-      let (some, same) = sided g (here g gs) in
+      let (some, same) = sided g (Contains-front g gs) in
       let is = same (All-contains (λ h. cross g h ≢ origin) gs m head inside) in
-      let tail = edge_signs gs (λ h c. sided h (there g h gs c)) rest inside on in
+      let tail = edge_signs gs (λ h c. sided h (Contains-there g h gs c)) rest inside on in
       ((inl is, tail.0), zeros_off (sign (dot g y)) (signs_of gs y) (λ z. some (sym is ∙ z)) ∙ tail.1)
 
-kind_edge : (s : List Sign) → zeros s ≡ 1 → kind_of s ≡ Edge
+pub kind_edge : (s : List Sign) → zeros s ≡ 1 → kind_of s ≡ Edge
 kind_edge s e = ap kind_by_count e
 
 same_at : (gs : List V3) (y z g : V3) → signs_of gs y ≡ signs_of gs z → Contains gs g → sign (dot g y) ≡ sign (dot g z)
@@ -304,7 +276,7 @@ module _ (planes : List V3) (d : V3) (axes : HoldsAxes planes) (apart : NonePara
 
   wall_in : (g : V3) → Contains planes g → Contains walls (facing d g)
   unfolding walls
-  wall_in g c = in_map (facing d) planes g c
+  wall_in g c = Contains-map (facing d) planes g c
 
   either_wall : (axis : V3) → Contains planes axis → HasEither walls axis
   either_wall axis c = ⊎_elim (λ e. inl (subst (Contains walls) e (wall_in axis c))) (λ e. inr (subst (Contains walls) e (wall_in axis c))) (Faces.same (faces_at axis c))
@@ -335,12 +307,9 @@ module _ (planes : List V3) (d : V3) (axes : HoldsAxes planes) (apart : NonePara
       let (border, one) = edge_signs d m y planes sided apart in_m on in
       record { m = m; in_planes = in_m; zero_there = ap sign on; agrees = λ z h q. off_all planes d off m in_m (sym (f.agrees z (subst (λ v. pos 0 <ℤ dot v z) e h)) ∙ q); border = border; one = one }
     where
-      opposite_zero : (p q : ℤ) → p ≡ neg_ℤ q → p ≡ pos 0 → q ≡ pos 0
-      opposite_zero p q e h = omega (arith, ints)
-
       on_plane : (m y : V3) → IsSame g m → dot g y ≡ pos 0 → dot m y ≡ pos 0
       on_plane m y (inl e) on = ap (λ v. dot v y) (sym e) ∙ on
-      on_plane m y (inr e) on = opposite_zero (dot (negative m) y) (dot m y) (negative_dot m y) (ap (λ v. dot v y) (sym e) ∙ on)
+      on_plane m y (inr e) on = opposite_zero_back (dot (negative m) y) (dot m y) (negative_dot m y) (ap (λ v. dot v y) (sym e) ∙ on)
 
       side_of : (g y m : V3) → IsOnBorder walls g y → g ≡ facing d m → Faces d m → Sided d m y planes
       side_of g y m b e f h c = (
@@ -352,10 +321,7 @@ module _ (planes : List V3) (d : V3) (axes : HoldsAxes planes) (apart : NonePara
       )
 
   some_from : (h y : V3) → pos 0 <ℤ dot h y → y ≢ origin
-  some_from h y p e = none (dot h y) (ap (dot h) e ∙ dot_origin_right h) p
-    where
-      none : (a : ℤ) → a ≡ pos 0 → pos 0 <ℤ a → ⊥
-      none a e h = omega (arith, ints)
+  some_from h y p e = zero_not_positive (dot h y) (ap (dot h) e ∙ dot_origin h) p
 
   two_edges : HasTwoEdges planes (signs_of planes d)
   two_edges =

@@ -1,5 +1,5 @@
 -- A core that holds a set of parts together at the crossings with a plane does so along each direction on the plane.
-use Rattle.std.proofs.Common.{◌≡◌, ◌≢◌, zero, suc, ◌≤◌, refl, sym, ap, subst, ◌∙◌, arith, ℤ, pos, neg_ℤ, ◌≤ℤ◌, inl, inr, ⊎_elim, List, ◌∷◌, All, Contains}
+use Rattle.std.proofs.Common.{◌≡◌, ◌≢◌, zero, suc, ◌≤◌, refl, sym, ap, subst, ◌∙◌, arith, ℤ, pos, ◌≤ℤ◌, inl, inr, ⊎_elim, List, ◌∷◌, All, Contains}
 use Rattle.std.proofs.lemmas.Int.{ints}
 use Rattle.std.specs.FinSet as set
 use Rattle.staat_vec.specs.declared.vector.V3.{V3}
@@ -22,10 +22,12 @@ use Rattle.staat_model.proofs.CornerLemmas.{dot_multiple}
 use Rattle.staat_model.proofs.Corners.{HoldsAxes, IsCornerTowards, IsSame, IsTowards, corner_towards}
 use Rattle.staat_model.proofs.FacetLemmas.{across_crosses}
 use Rattle.staat_model.proofs.GraphLemmas.{facet_towards, piece_in, positive_back, same_or_not}
-use Rattle.staat_model.proofs.Members.{here, there}
-use Rattle.staat_model.proofs.Parallels.{parallel}
 use Rattle.staat_model.proofs.PieceFacets.{meets_by_facets_lemma}
 use Rattle.staat_model.proofs.VertexLemmas.{in_vertices, same_some}
+use Rattle.staat_vec.proofs.Integers.{opposite_zero}
+use Rattle.staat_vec.proofs.Unique.{Contains-front}
+use Rattle.staat_vec.proofs.ListLaws.{Contains-there}
+use Rattle.staat_vec.proofs.VectorLaws.{parallel_cross}
 
 -- ---- the core at a direction that is on no other side of its planes
 
@@ -87,12 +89,9 @@ record IsOnBoth (v g h : V3) : Type 0 where
 both_turned : (v g h : V3) → IsOnBoth v g h → IsOnBoth (negative v) g h
 both_turned v g h o = record {
   primitive = IsPrimitive-negative v o.primitive;
-  on_g = turned (dot g (negative v)) (dot g v) (dot_negative g v) o.on_g;
-  on_h = turned (dot h (negative v)) (dot h v) (dot_negative h v) o.on_h;
+  on_g = opposite_zero (dot g (negative v)) (dot g v) (dot_negative g v) o.on_g;
+  on_h = opposite_zero (dot h (negative v)) (dot h v) (dot_negative h v) o.on_h;
 }
-  where
-    turned : (p q : ℤ) → p ≡ neg_ℤ q → q ≡ pos 0 → p ≡ pos 0
-    turned p q e f = omega (arith, ints)
 
 crossing_on_both : (g h : V3) → cross g h ≢ origin → IsOnBoth (primitive (cross g h)) g h
 crossing_on_both g h some =
@@ -124,13 +123,13 @@ crossing_on g d v planes some on c = go (same_or_not (cross g c.g) origin) (same
     go : Dec (cross g c.g ≡ origin) → Dec (cross g c.h ≡ origin) → IsCrossingOn g planes v
     go (no n) q = crossing_at g planes v c.g o.primitive on o.on_g c.g_in n
     go (yes p) (no n) = crossing_at g planes v c.h o.primitive on o.on_h c.h_in n
-    go (yes p) (yes q) = absurd (c.independent (parallel g c.g c.h some p q))
+    go (yes p) (yes q) = absurd (c.independent (parallel_cross g c.g c.h some p q))
 
 with_plane : (g : V3) (planes : List V3) → HoldsAxes planes → HoldsAxes (g ∷ planes)
 with_plane g planes axes = record {
-  x = there g (vector (pos 1) (pos 0) (pos 0)) planes axes.x;
-  y = there g (vector (pos 0) (pos 1) (pos 0)) planes axes.y;
-  z = there g (vector (pos 0) (pos 0) (pos 1)) planes axes.z;
+  x = Contains-there g (vector (pos 1) (pos 0) (pos 0)) planes axes.x;
+  y = Contains-there g (vector (pos 0) (pos 1) (pos 0)) planes axes.y;
+  z = Contains-there g (vector (pos 0) (pos 0) (pos 1)) planes axes.z;
 }
 
 -- what is free along some direction on the plane of g is free along a crossing of it
@@ -139,13 +138,13 @@ pub free_at_crossing_lemma : (parts : List Part) (core : List Arc) (planes : Lis
     → IsFreeInCore parts core s r d → IsFreeAtCrossing parts core planes g s r
 free_at_crossing_lemma parts core planes g s r d each has g_some some on free =
     let (v, c) = corner_towards (g ∷ planes) d (with_plane g planes (core_axes parts core planes has)) some in
-    let t = c.towards g (here g planes) in
+    let t = c.towards g (Contains-front g planes) in
     let on_v : dot g v ≡ pos 0 = zero_here (dot g v) (dot g d) on t.up t.down in record {
       v = v;
       crossing = crossing_on g d v planes g_some on_v c;
       free = λ arc listed a_in b_in m.
           free arc listed a_in b_in
-          (meets_towards parts core planes d v arc each has (λ n n_in. c.towards n (there g n planes n_in)) listed m);
+          (meets_towards parts core planes d v arc each has (λ n n_in. c.towards n (Contains-there g n planes n_in)) listed m);
     }
 
 -- ---- all sides of a set

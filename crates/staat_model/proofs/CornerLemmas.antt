@@ -1,5 +1,5 @@
 -- A pointed cone that holds a vector but zero holds a vertex.
-use Rattle.std.proofs.Common.{◌≡◌, ℕ, ◌≤◌, ◌≢◌, refl, sym, ap, ◌∙◌, arith, ℤ, pos, neg_ℤ, ◌*ℤ◌, ◌≤ℤ◌, ◌<ℤ◌, inl, inr, ⊎_elim, List, [], ◌∷◌, All}
+use Rattle.std.proofs.Common.{◌≡◌, ℕ, ◌≢◌, refl, sym, ap, ◌∙◌, arith, ℤ, pos, neg_ℤ, ◌*ℤ◌, ◌≤ℤ◌, ◌<ℤ◌, inl, inr, List, [], ◌∷◌, All}
 use Rattle.std.proofs.lemmas.Int.{ints}
 use Rattle.std.proofs.lemmas.List.Elements.{All-contains, All-weaker}
 use Rattle.staat_vec.specs.declared.vector.V3.{V3}
@@ -9,17 +9,15 @@ use Rattle.staat_model.specs.Cones.{IsAbove, IsSpanning, HasAxes, HasEither, Has
 use Rattle.staat_vec.proofs.Ring.{Ex, at, num, ◌⊗◌, ring}
 use Rattle.staat_vec.proofs.VecRing.{dotE, timesE, vectorE, values, v0, v1, same_vector, negative_dot}
 use Rattle.staat_vec.proofs.Order.{cancel_nonneg, negative_is, nonneg_is}
-use Rattle.staat_model.proofs.Mixes.{square_vector}
 use Rattle.staat_model.proofs.Edge.{edge_below}
 use Rattle.staat_vec.proofs.Primitives.{primitive-is}
-
-negative_gone : (a : ℤ) → neg_ℤ a ≡ pos 0 → a ≡ pos 0
-negative_gone a e = omega (arith, ints)
+use Rattle.staat_vec.proofs.Integers.{zero_from_opposite, positive_pos}
+use Rattle.staat_vec.proofs.VectorLaws.{some_square}
 
 -- n is at right angles to an axis of the list
 across_axis : (vs : List V3) (a n : V3) → HasEither vs a → All (λ v. dot v n ≡ pos 0) vs → dot a n ≡ pos 0
 across_axis vs a n (inl c) h = All-contains (λ v. dot v n ≡ pos 0) vs a h c
-across_axis vs a n (inr c) h = negative_gone (dot a n) (sym (negative_dot a n) ∙ All-contains (λ v. dot v n ≡ pos 0) vs (negative a) h c)
+across_axis vs a n (inr c) h = zero_from_opposite (dot a n) (sym (negative_dot a n) ∙ All-contains (λ v. dot v n ≡ pos 0) vs (negative a) h c)
 
 pub axes_span : (vs : List V3) → HasAxes vs → IsSpanning vs
 axes_span vs axes n h =
@@ -34,9 +32,6 @@ axes_span vs axes n h =
 pub dot_multiple : (v f n : V3) (k : ℕ) → f ≡ times k n → dot v f ≡ pos k *ℤ dot v n
 dot_multiple v f n k e = ap (dot v) e ∙ ring (values (v ∷ n ∷ []) (pos k ∷ [])) (dotE v0 (timesE (at 6) v1)) (at 6 ⊗ dotE v0 v1) tt
 
-positive_pos : (k : ℕ) → 1 ≤ k → pos 0 <ℤ pos k
-positive_pos k h = omega (arith, ints)
-
 -- the sides of a vector are those of its primitive vector
 pub above_primitive : (vs : List V3) (f n : V3) → IsPrimitiveOf f n → IsAbove f vs → IsAbove n vs
 above_primitive vs f n i h =
@@ -44,9 +39,6 @@ above_primitive vs f n i h =
 
 opposite_low : (q : ℤ) → pos 0 <ℤ q → neg_ℤ q <ℤ pos 0
 opposite_low q h = omega (arith, ints)
-
-pub some_square : (d : V3) → d ≢ origin → pos 0 <ℤ dot d d
-some_square d some = ⊎_elim (λ e. absurd (some e)) (λ p. p) (square_vector d)
 
 pub corner_lemma : (vs : List V3) (d : V3) → HasAxes vs → d ≢ origin → IsAbove d vs → HasCorner vs
 corner_lemma vs d axes some up =

@@ -1,5 +1,5 @@
 -- Some crossing of planes that hold the axes lies on the border of the cell of each direction.
-use Rattle.std.proofs.Common.{◌≡◌, ◌≢◌, ◌∙◌, ap, sym, refl, subst, zero, suc, arith, ℤ, pos, neg_ℤ, ◌≤ℤ◌, ◌<ℤ◌, ◌⊎◌, inl, inr, List, [], ◌∷◌, Contains}
+use Rattle.std.proofs.Common.{◌≡◌, ◌≢◌, ◌∙◌, ap, sym, refl, subst, zero, suc, arith, ℤ, pos, ◌≤ℤ◌, ◌<ℤ◌, ◌⊎◌, inl, inr, List, [], ◌∷◌, Contains}
 use Rattle.std.proofs.lemmas.Int.{ints, by_lt_z}
 use Rattle.std.proofs.lemmas.List.Elements.{All-nil, All-cons, All-contains}
 use Rattle.staat_vec.specs.declared.vector.V3.{V3}
@@ -8,8 +8,10 @@ use Rattle.staat_vec.specs.Primitives.{primitive}
 use Rattle.staat_vec.proofs.VecRing.{crossE, negativeE, values, v0, v1, ring3, negative_dot}
 use Rattle.staat_vec.proofs.Primitives.{primitive-negative}
 use Rattle.staat_model.specs.Cones.{IsAbove, HasAxes, HasEither, IsCrossing}
-use Rattle.staat_model.proofs.Members.{here, there}
 use Rattle.staat_model.proofs.CornerLemmas.{corner_lemma}
+use Rattle.staat_vec.proofs.Integers.{opposite_nonneg, opposite_nonpositive_back, negative_nonpositive, negative_nonneg_clash}
+use Rattle.staat_vec.proofs.Unique.{Contains-front}
+use Rattle.staat_vec.proofs.ListLaws.{Contains-there}
 
 -- v is on no other side of g than d
 pub record IsTowards (d v g : V3) : Type 0 where
@@ -29,44 +31,32 @@ pub record Conditions (d : V3) (gs : List V3) : Type 0 where
   pub up : (g : V3) → Contains gs g → pos 0 ≤ℤ dot g d → Contains cs g
   pub down : (g : V3) → Contains gs g → dot g d ≤ℤ pos 0 → Contains cs (negative g)
 
-turned_up : (p q : ℤ) → p ≡ neg_ℤ q → q ≤ℤ pos 0 → pos 0 ≤ℤ p
-turned_up p q e h = omega (arith, ints)
-
-turned_down : (p q : ℤ) → p ≡ neg_ℤ q → pos 0 ≤ℤ p → q ≤ℤ pos 0
-turned_down p q e h = omega (arith, ints)
-
-weaken : (p : ℤ) → p <ℤ pos 0 → p ≤ℤ pos 0
-weaken p h = omega (arith, ints)
-
-clash : (p : ℤ) → p <ℤ pos 0 → pos 0 ≤ℤ p → ⊥
-clash p h g = omega (arith, ints)
-
 -- one more condition, from a list and a plane
 grow : (d g s : V3) (gs cs : List V3) → IsSame s g → ((c : V3) → Contains cs c → (h : V3) × Contains (g ∷ gs) h × IsSame c h) → (c : V3) → Contains (s ∷ cs) c → (h : V3) × Contains (g ∷ gs) h × IsSame c h
-grow d g s gs cs same only c (zero, lt, e) = (g, here g gs, subst (λ z. IsSame z g) e same)
+grow d g s gs cs same only c (zero, lt, e) = (g, Contains-front g gs, subst (λ z. IsSame z g) e same)
 grow d g s gs cs same only c (suc k, lt, e) = only c (k, omega arith, e)
 
 module _ (d g : V3) (gs : List V3) (rest : Conditions d gs) where
   old : (c : V3) → Contains rest.cs c → (h : V3) × Contains (g ∷ gs) h × IsSame c h
-  old c in_cs = let (h, in_gs, same) = rest.only c in_cs in (h, there g h gs in_gs, same)
+  old c in_cs = let (h, in_gs, same) = rest.only c in_cs in (h, Contains-there g h gs in_gs, same)
 
   -- g has d on its negative side
   turned : dot g d <ℤ pos 0 → Conditions d (g ∷ gs)
   turned low = record {
     cs = negative g ∷ rest.cs;
-    above = All-cons (λ c. pos 0 ≤ℤ dot c d) (negative g) rest.cs (turned_up (dot (negative g) d) (dot g d) (negative_dot g d) (weaken (dot g d) low)) rest.above;
+    above = All-cons (λ c. pos 0 ≤ℤ dot c d) (negative g) rest.cs (opposite_nonneg (dot (negative g) d) (dot g d) (negative_dot g d) (negative_nonpositive (dot g d) low)) rest.above;
     only = grow d g (negative g) gs rest.cs (inr refl) old;
     up = up;
     down = down;
   }
     where
       up : (h : V3) → Contains (g ∷ gs) h → pos 0 ≤ℤ dot h d → Contains (negative g ∷ rest.cs) h
-      up h (zero, lt, e) side = absurd (clash (dot g d) low (subst (λ z. pos 0 ≤ℤ dot z d) (sym e) side))
-      up h (suc k, lt, e) side = there (negative g) h rest.cs (rest.up h (k, omega arith, e) side)
+      up h (zero, lt, e) side = absurd (negative_nonneg_clash (dot g d) low (subst (λ z. pos 0 ≤ℤ dot z d) (sym e) side))
+      up h (suc k, lt, e) side = Contains-there (negative g) h rest.cs (rest.up h (k, omega arith, e) side)
 
       down : (h : V3) → Contains (g ∷ gs) h → dot h d ≤ℤ pos 0 → Contains (negative g ∷ rest.cs) (negative h)
-      down h (zero, lt, e) side = subst (λ z. Contains (negative g ∷ rest.cs) (negative z)) e (here (negative g) rest.cs)
-      down h (suc k, lt, e) side = there (negative g) (negative h) rest.cs (rest.down h (k, omega arith, e) side)
+      down h (zero, lt, e) side = subst (λ z. Contains (negative g ∷ rest.cs) (negative z)) e (Contains-front (negative g) rest.cs)
+      down h (suc k, lt, e) side = Contains-there (negative g) (negative h) rest.cs (rest.down h (k, omega arith, e) side)
 
   -- g has d on its positive side
   straight : pos 0 <ℤ dot g d → Conditions d (g ∷ gs)
@@ -79,33 +69,33 @@ module _ (d g : V3) (gs : List V3) (rest : Conditions d gs) where
   }
     where
       up : (h : V3) → Contains (g ∷ gs) h → pos 0 ≤ℤ dot h d → Contains (g ∷ rest.cs) h
-      up h (zero, lt, e) side = subst (λ z. Contains (g ∷ rest.cs) z) e (here g rest.cs)
-      up h (suc k, lt, e) side = there g h rest.cs (rest.up h (k, omega arith, e) side)
+      up h (zero, lt, e) side = subst (λ z. Contains (g ∷ rest.cs) z) e (Contains-front g rest.cs)
+      up h (suc k, lt, e) side = Contains-there g h rest.cs (rest.up h (k, omega arith, e) side)
 
       down : (h : V3) → Contains (g ∷ gs) h → dot h d ≤ℤ pos 0 → Contains (g ∷ rest.cs) (negative h)
       down h (zero, lt, e) side = absurd (above_too (dot g d) high (subst (λ z. dot z d ≤ℤ pos 0) (sym e) side))
         where
           above_too : (p : ℤ) → pos 0 <ℤ p → p ≤ℤ pos 0 → ⊥
           above_too p h g = omega (arith, ints)
-      down h (suc k, lt, e) side = there g (negative h) rest.cs (rest.down h (k, omega arith, e) side)
+      down h (suc k, lt, e) side = Contains-there g (negative h) rest.cs (rest.down h (k, omega arith, e) side)
 
   -- d lies on g
   across : pos 0 ≤ℤ dot g d → dot g d ≤ℤ pos 0 → Conditions d (g ∷ gs)
   across high low = record {
     cs = g ∷ negative g ∷ rest.cs;
-    above = All-cons (λ c. pos 0 ≤ℤ dot c d) g (negative g ∷ rest.cs) high (All-cons (λ c. pos 0 ≤ℤ dot c d) (negative g) rest.cs (turned_up (dot (negative g) d) (dot g d) (negative_dot g d) low) rest.above);
+    above = All-cons (λ c. pos 0 ≤ℤ dot c d) g (negative g ∷ rest.cs) high (All-cons (λ c. pos 0 ≤ℤ dot c d) (negative g) rest.cs (opposite_nonneg (dot (negative g) d) (dot g d) (negative_dot g d) low) rest.above);
     only = grow d g g gs (negative g ∷ rest.cs) (inl refl) (grow d g (negative g) gs rest.cs (inr refl) old);
     up = up;
     down = down;
   }
     where
       up : (h : V3) → Contains (g ∷ gs) h → pos 0 ≤ℤ dot h d → Contains (g ∷ negative g ∷ rest.cs) h
-      up h (zero, lt, e) side = subst (λ z. Contains (g ∷ negative g ∷ rest.cs) z) e (here g (negative g ∷ rest.cs))
-      up h (suc k, lt, e) side = there g h (negative g ∷ rest.cs) (there (negative g) h rest.cs (rest.up h (k, omega arith, e) side))
+      up h (zero, lt, e) side = subst (λ z. Contains (g ∷ negative g ∷ rest.cs) z) e (Contains-front g (negative g ∷ rest.cs))
+      up h (suc k, lt, e) side = Contains-there g h (negative g ∷ rest.cs) (Contains-there (negative g) h rest.cs (rest.up h (k, omega arith, e) side))
 
       down : (h : V3) → Contains (g ∷ gs) h → dot h d ≤ℤ pos 0 → Contains (g ∷ negative g ∷ rest.cs) (negative h)
-      down h (zero, lt, e) side = subst (λ z. Contains (g ∷ negative g ∷ rest.cs) (negative z)) e (there g (negative g) (negative g ∷ rest.cs) (here (negative g) rest.cs))
-      down h (suc k, lt, e) side = there g (negative h) (negative g ∷ rest.cs) (there (negative g) (negative h) rest.cs (rest.down h (k, omega arith, e) side))
+      down h (zero, lt, e) side = subst (λ z. Contains (g ∷ negative g ∷ rest.cs) (negative z)) e (Contains-there g (negative g) (negative g ∷ rest.cs) (Contains-front (negative g) rest.cs))
+      down h (suc k, lt, e) side = Contains-there g (negative h) (negative g ∷ rest.cs) (Contains-there (negative g) (negative h) rest.cs (rest.down h (k, omega arith, e) side))
 
   next : Conditions d (g ∷ gs)
   next =
@@ -158,7 +148,7 @@ pub record HoldsAxes (gs : List V3) : Type 0 where
 either : (d axis : V3) (gs : List V3) (c : Conditions d gs) → Contains gs axis → HasEither c.cs axis
 either d axis gs c in_gs =
     by_lt_z {P = HasEither c.cs axis} (dot axis d) (pos 0)
-    (λ neg. inr (c.down axis in_gs (weaken (dot axis d) neg)))
+    (λ neg. inr (c.down axis in_gs (negative_nonpositive (dot axis d) neg)))
     (λ nonneg. inl (c.up axis in_gs nonneg))
 
 pub have_axes : (d : V3) (gs : List V3) (c : Conditions d gs) → HoldsAxes gs → HasAxes c.cs
@@ -178,7 +168,7 @@ is_corner d v gs c cr above =
       is = subst (λ z. IsSame z (primitive (cross g h))) (sym cr.is) (primitive_signs (cross cr.g cr.h) (cross g h) same);
       towards = λ m m_in. record {
         up = λ u. All-contains (λ c. pos 0 ≤ℤ dot c v) c.cs m above (c.up m m_in u);
-        down = λ u. turned_down (dot (negative m) v) (dot m v) (negative_dot m v) (All-contains (λ c. pos 0 ≤ℤ dot c v) c.cs (negative m) above (c.down m m_in u));
+        down = λ u. opposite_nonpositive_back (dot (negative m) v) (dot m v) (negative_dot m v) (All-contains (λ c. pos 0 ≤ℤ dot c v) c.cs (negative m) above (c.down m m_in u));
       };
     }
 

@@ -6,6 +6,7 @@ use Rattle.std.proofs.lemmas.Fmt.{decimal_is_IsNumeral_wide, length-decimal-le_w
 use Rattle.std.proofs.lemmas.List.{get_or_default}
 use Rattle.std.proofs.lemmas.List.Elements.{All-cons, All-head, All-weaker}
 use Rattle.std.proofs.lemmas.Str.Parse.{digit_at}
+use Rattle.staat_vec.proofs.Decimals.{decimal_value}
 
 -- small enough for the lemmas on digits
 abbrev pub IsSmall : ℤ → Type 0
@@ -21,11 +22,8 @@ pub signed_plain : (z : ℤ) → IsSmall z → All (λ b. 32 < b) (signed_decima
 signed_plain (pos n) small = All-weaker (λ b. 48 ≤ b) (λ b. 32 < b) (λ b h. omega arith) (decimal n) (decimal_high n small)
 signed_plain (negsuc n) small = All-cons (λ b. 32 < b) 45 (decimal (suc n)) (omega arith) (All-weaker (λ b. 48 ≤ b) (λ b. 32 < b) (λ b h. omega arith) (decimal (suc n)) (decimal_high (suc n) small))
 
-pub value_of : (n : ℕ) → n < 10 ^ 64 → digits_value 10 (decimal n) ≡ n
-value_of n small = (decimal_is_IsNumeral_wide n small).1
-
 pub decimal_same : (m n : ℕ) → m < 10 ^ 64 → n < 10 ^ 64 → decimal m ≡ decimal n → m ≡ n
-decimal_same m n a b e = sym (value_of m a) ∙ ap (digits_value 10) e ∙ value_of n b
+decimal_same m n a b e = sym (decimal_value m a) ∙ ap (digits_value 10) e ∙ decimal_value n b
 
 pub no_minus : (n : ℕ) (ds : List ℕ) → n < 10 ^ 64 → decimal n ≡ 45 ∷ ds → ⊥
 no_minus n ds small e = let high : 48 ≤ 45 = All-head (λ b. 48 ≤ b) 45 ds (subst (All (λ b. 48 ≤ b)) e (decimal_high n small)) in absurd (omega arith)

@@ -1,7 +1,7 @@
 -- What can be decided, and the first and the least that is found.
 use Rattle.std.proofs.Common.{◌≡◌, ◌⊎◌, ℕ, zero, suc, ◌<◌, ℤ, ◌≤ℤ◌, ◌<ℤ◌, Bool, true, false, List, [], ◌∷◌, All, arith, ap, sym, ◌∙◌, subst, refl, inl, inr, T}
 use Rattle.std.specs.Prelude.{Contains, Some, slice_get}
-use Rattle.std.proofs.lemmas.List.Elements.{All-contains, All-from_recursion, All-head, All-tail}
+use Rattle.std.proofs.lemmas.List.Elements.{All-contains, All-from_recursion}
 use Rattle.std.specs.Cmp.{IsTotalOrder}
 use Rattle.std.specs.FinMap.{IsAntisymmetric}
 use Rattle.std.specs.Int.Signed.{le_z, lt_z}
@@ -13,6 +13,7 @@ use Rattle.std.specs.declared.cmp.Ordering.TheVariants.{Less, Equal, Greater}
 use Rattle.staat_vec.specs.Lists.{FailsFirst, IsFirst, Lists}
 use Rattle.staat_vec.proofs.Unique.{Contains-cases, Contains-front, Contains-later, Contains-nothing}
 use Rattle.staat_model.proofs.Members.{All-from_members}
+use Rattle.staat_vec.proofs.ListLaws.{All-at}
 
 abbrev pub Decided : Type 0 → Type 0
 Decided P = P ⊎ (P → ⊥)
@@ -77,12 +78,7 @@ first_or {X} P f (x ∷ xs) = go (f x) (first_or P f xs)
     go (inl p) (inr (y, first)) = inr (y, inr ((λ n. n p), first))
 
 pub all_decided : {X : Type 0} (P : X → Type 0) → ((x : X) → Decided (P x)) → (xs : List X) → Decided (All P xs)
-all_decided P f xs = elim (all_or P f xs) [ inl all ↦ inl all | inr one ↦ inr (λ all. one.1.fails (let at = one.1.at in all_at P xs one.0 one.1.x at all)) ]
-  where
-    all_at : {X : Type 0} (P : X → Type 0) (xs : List X) (k : ℕ) (x : X) → slice_get xs k ≡ Some x → All P xs → P x
-    all_at P [] k x e all = cc
-    all_at P (y ∷ xs) zero x e all = let same : y ≡ x = cc in subst P same (All-head P y xs all)
-    all_at P (y ∷ xs) (suc k) x e all = all_at P xs k x e (All-tail P y xs all)
+all_decided P f xs = elim (all_or P f xs) [ inl all ↦ inl all | inr one ↦ inr (λ all. one.1.fails (let at = one.1.at in All-at P xs one.0 one.1.x at all)) ]
 
 -- the members with a property
 pub kept : {X : Type 0} (P : X → Type 0) → ((x : X) → Decided (P x)) → (xs : List X) → (ys : List X) × ((y : X) → Contains ys y → Contains xs y × P y) × ((y : X) → Contains xs y → P y → Contains ys y)

@@ -6,10 +6,12 @@ use Rattle.staat_vec.specs.declared.vector.V3.{V3}
 use Rattle.staat_vec.specs.Vectors.{dot, cross, origin}
 use Rattle.staat_model.specs.Cones.{IsAbove, IsSpanning}
 use Rattle.staat_vec.proofs.Ring.{at, num, ◌⊖◌, ◌⊗◌, ring, ring_by, ring_by_two}
-use Rattle.staat_vec.proofs.VecRing.{dotE, crossE, originE, vectorE, values, v0, v1, v2, v3, v4, dot_cross_left, dot_cross_right}
+use Rattle.staat_vec.proofs.VecRing.{dotE, crossE, vectorE, values, v0, v1, v2, v3, v4, dot_cross_left, dot_cross_right}
 use Rattle.staat_vec.proofs.Order.{negative_mul, same_side, zero_factor, turned_sign, negative_apart, negative_is, square_sign}
 use Rattle.staat_model.proofs.Mixes.{dot_origin}
-use Rattle.staat_model.proofs.Tilt.{turn, Turned, multiple_zero}
+use Rattle.staat_model.proofs.Tilt.{turn, Turned}
+use Rattle.staat_vec.proofs.VectorLaws.{dot_origin as dot_origin_right}
+use Rattle.staat_vec.proofs.Integers.{product_zero}
 
 -- a cross product of two members that has all members on its positive side, and is not zero
 abbrev pub IsEdge : List V3 → V3 → V3 → Type 0
@@ -35,9 +37,6 @@ perpendicular y = pick (square_sign y.x)
       (λ q. not_positive_zero y.x p (ap (λ v. v.y) q)),
       ring (values (y ∷ []) []) (dotE v0 (vectorE (at 1) (num (pos 0) ⊖ at 0) (num (pos 0)))) (num (pos 0)) tt,
     )
-
-pub dot_origin_right : (v : V3) → dot v origin ≡ pos 0
-dot_origin_right v = ring (values (v ∷ []) []) (dotE v0 originE) (num (pos 0)) tt
 
 -- what follows where w is parallel to y
 crossing : (w y u x : V3) → cross w y ≡ origin → dot y u ≡ pos 0 → dot w u *ℤ dot y x ≡ pos 0
@@ -80,10 +79,10 @@ second_turn : (vs : List V3) (y r u w : V3) → dot y r <ℤ pos 0 → Contains 
 unfolding Turned
 second_turn vs y r u w low in_w e (s, up, v, in_v, apart, f, a, pa, keep) =
     either_edge vs y s w v up in_w in_v
-    (keep w (dot_cross_left w y) ∙ multiple_zero a (dot w r) e)
+    (keep w (dot_cross_left w y) ∙ product_zero a (dot w r) e)
     f
     (negative_is (dot y s) (a *ℤ dot y r) (keep y (dot_cross_right w y)) (negative_mul a (dot y r) pa low))
-    (λ q. apart (cross_cycle v w y ∙ multiple_zero (negsuc 0) (dot y (cross w v)) q))
+    (λ q. apart (cross_cycle v w y ∙ product_zero (negsuc 0) (dot y (cross w v)) q))
 
 first_turn : (vs : List V3) (x y u : V3) → IsSpanning vs → dot y x <ℤ pos 0 → dot y u ≡ pos 0 → Turned vs x u → EdgeBelow vs y
 unfolding Turned

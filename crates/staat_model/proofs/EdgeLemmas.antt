@@ -5,15 +5,19 @@ use Rattle.std.proofs.lemmas.List.Elements.{All-nil, All-cons, All-head, All-tai
 use Rattle.staat_vec.specs.declared.vector.V3.{V3}
 use Rattle.staat_vec.specs.Vectors.{vector, dot, cross, plus, minus, times, negative, origin}
 use Rattle.staat_vec.specs.Primitives.{IsPrimitive, primitive}
-use Rattle.staat_vec.proofs.Ring.{Ex, at, num, ◌⊕◌, ◌⊖◌, ◌⊗◌, opp, ring}
+use Rattle.staat_vec.proofs.Ring.{Ex, at, num, ◌⊕◌, ◌⊖◌, ◌⊗◌, opp, ring, zero-mul_ℤ, from_zero}
 use Rattle.staat_vec.proofs.VecRing.{VEx, dotE, crossE, plusE, minusE, timesE, negativeE, values, v0, v1, v2, scale, same_vector, ring3, negative_dot, dot_negative, dot_cross_left, dot_cross_right, cross_self}
 use Rattle.staat_vec.proofs.Order.{as_positive, cancel_zero, nonneg_is, positive_is, nonneg_mul, pos_mul}
 use Rattle.staat_vec.proofs.Primitives.{IsPrimitive-some, IsPrimitive-negative, primitive-is, same_primitive}
 use Rattle.staat_model.specs.Cones.{IsAbove}
 use Rattle.staat_model.proofs.Members.{All-from_members}
-use Rattle.staat_model.proofs.Edge.{edge_below, dot_origin_right}
-use Rattle.staat_model.proofs.CornerLemmas.{above_primitive, axes_span, dot_multiple, some_square}
+use Rattle.staat_model.proofs.Edge.{edge_below}
+use Rattle.staat_model.proofs.CornerLemmas.{above_primitive, axes_span, dot_multiple}
 use Rattle.staat_model.proofs.Corners.{Conditions, conditions, have_axes, is_corner, HoldsAxes, IsSame, IsTowards, IsCornerTowards}
+use Rattle.staat_vec.proofs.Integers.{mixed_product, opposite_negative, two_negatives, positive_nonpositive_mul, products_swapped, products_zero, opposite_zero}
+use Rattle.staat_vec.proofs.Integers.{opposite_zero_back, positive_from_nonneg, opposite_positive_back, cancel_positive_zero, zero_from_bounds, zero_nonneg, zero_nonpositive}
+use Rattle.staat_vec.proofs.Divisors.{neg-neg}
+use Rattle.staat_vec.proofs.VectorLaws.{dot_along, dot_origin, some_square}
 
 -- ---- far enough along d
 
@@ -29,9 +33,6 @@ reach a (negsuc q) l h g = absurd g.lt
 
 zero_reach : (a q : ℤ) (l : ℕ) → q ≡ pos 0 → a ≡ pos 0 → pos 0 ≤ℤ (pos l *ℤ q +ℤ a)
 zero_reach a q l e f = subst (λ q. pos 0 ≤ℤ (pos l *ℤ q +ℤ a)) (sym e) (subst (λ a. pos 0 ≤ℤ (pos l *ℤ pos 0 +ℤ a)) (sym f) (omega (arith, ints)))
-
-dot_along : (e d t : V3) (l : ℕ) → dot e (plus (times l d) t) ≡ pos l *ℤ dot e d +ℤ dot e t
-dot_along e d t l = ring (values (e ∷ d ∷ t ∷ []) (pos l ∷ [])) (dotE v0 (plusE (timesE (at 9) v1) v2)) (at 9 ⊗ dotE v0 v1 ⊕ dotE v0 v2) tt
 
 far : (d t : V3) (cs : List V3) → All (Ahead d t) cs → (k : ℕ) × ((l : ℕ) → k ≤ l → IsAbove (plus (times l d) t) cs)
 unfolding Ahead
@@ -49,40 +50,23 @@ far d t (e ∷ cs) ahead =
 
 -- ---- a vertex on each side of d
 
-opposite_zero : (p q : ℤ) → p ≡ neg_ℤ q → q ≡ pos 0 → p ≡ pos 0
-opposite_zero p q e h = omega (arith, ints)
-
 same_zero : (e g d : V3) → IsSame e g → dot g d ≡ pos 0 → dot e d ≡ pos 0
 same_zero e g d (inl p) h = ap (λ v. dot v d) p ∙ h
 same_zero e g d (inr p) h = opposite_zero (dot e d) (dot g d) (ap (λ v. dot v d) p ∙ negative_dot g d) h
 
-opposite_back : (p q : ℤ) → p ≡ neg_ℤ q → p ≡ pos 0 → q ≡ pos 0
-opposite_back p q e h = omega (arith, ints)
-
 same_back : (e g d : V3) → IsSame e g → dot e d ≡ pos 0 → dot g d ≡ pos 0
 same_back e g d (inl p) h = ap (λ v. dot v d) (sym p) ∙ h
-same_back e g d (inr p) h = opposite_back (dot e d) (dot g d) (ap (λ v. dot v d) p ∙ negative_dot g d) h
-
-not_zero_positive : (a : ℤ) → pos 0 ≤ℤ a → a ≢ pos 0 → pos 0 <ℤ a
-not_zero_positive (pos zero) h n = absurd (n refl)
-not_zero_positive (pos (suc k)) h n = omega (arith, ints)
-not_zero_positive (negsuc k) h n = absurd h.le
-
-positive_opposite : (p q : ℤ) → p ≡ neg_ℤ q → p <ℤ pos 0 → pos 0 <ℤ q
-positive_opposite p q e h = omega (arith, ints)
+same_back e g d (inr p) h = opposite_zero_back (dot e d) (dot g d) (ap (λ v. dot v d) p ∙ negative_dot g d) h
 
 -- what t has of the vector that is far along d
 back_low : (t d : V3) (l : ℕ) → dot t d ≡ pos 0 → pos 0 <ℤ dot t t → dot (negative t) (plus (times l d) t) <ℤ pos 0
-back_low t d l e p = low (dot (negative t) (plus (times l d) t)) (dot t t) (is ∙ ap (λ z. neg_ℤ (pos l *ℤ z +ℤ dot t t)) e ∙ none l (dot t t)) p
+back_low t d l e p = opposite_negative (dot (negative t) (plus (times l d) t)) (dot t t) (is ∙ ap (λ z. neg_ℤ (pos l *ℤ z +ℤ dot t t)) e ∙ none l (dot t t)) p
   where
     is : dot (negative t) (plus (times l d) t) ≡ neg_ℤ (pos l *ℤ dot t d +ℤ dot t t)
     is = ring (values (t ∷ d ∷ []) (pos l ∷ [])) (dotE (negativeE v0) (plusE (timesE (at 6) v1) v0)) (opp (at 6 ⊗ dotE v0 v1 ⊕ dotE v0 v0)) tt
 
     none : (l : ℕ) (q : ℤ) → neg_ℤ (pos l *ℤ pos 0 +ℤ q) ≡ neg_ℤ q
     none l q = ring (pos l ∷ q ∷ []) (opp (at 0 ⊗ num (pos 0) ⊕ at 1)) (opp (at 1)) tt
-
-    low : (p q : ℤ) → p ≡ neg_ℤ q → pos 0 <ℤ q → p <ℤ pos 0
-    low p q e h = omega (arith, ints)
 
 positive_part : (k : ℕ) (p q : ℤ) → q ≡ pos k *ℤ p → pos 0 <ℤ q → pos 0 <ℤ p
 positive_part k (pos zero) q e h = absurd (omega (arith, ints))
@@ -115,7 +99,7 @@ ahead planes d c t axes one in_plane across some =
     let v = primitive f in record {
       v = v;
       corner = is_corner d v planes cs (record { g = g; h = h; g_in = g_in; h_in = h_in; independent = apart; is = refl }) (above_primitive cs.cs f v p up);
-      side = positive_part p.factor (dot t v) (dot t f) (dot_multiple t f v p.factor p.multiple) (positive_opposite (dot (negative t) f) (dot t f) (negative_dot t f) low);
+      side = positive_part p.factor (dot t v) (dot t f) (dot_multiple t f v p.factor p.multiple) (opposite_positive_back (dot (negative t) f) (dot t f) (negative_dot t f) low);
     }
   where
     condition : (cs : Conditions d planes) (e : V3) → Contains cs.cs e → ((dot e d ≡ pos 0) × (dot e t ≡ pos 0)) ⊎ (pos 0 <ℤ dot e d)
@@ -123,7 +107,7 @@ ahead planes d c t axes one in_plane across some =
         let (g, g_in, same) = cs.only e e_in in
         ⊎_elim
         (λ is. let at_c : IsSame e c = subst (λ z. IsSame e z) is same in inl (same_zero e c d at_c one.on, same_zero e c t at_c in_plane))
-        (λ off. inr (not_zero_positive (dot e d) (All-contains (λ e. pos 0 ≤ℤ dot e d) cs.cs e cs.above e_in) (λ z. off (same_back e g d same z))))
+        (λ off. inr (positive_from_nonneg (dot e d) (All-contains (λ e. pos 0 ≤ℤ dot e d) cs.cs e cs.above e_in) (λ z. off (same_back e g d same z))))
         (one.only g g_in)
 
 -- ---- the vectors of one plane
@@ -157,12 +141,6 @@ dot_scaled m p a = ring (values (m ∷ p ∷ []) (a ∷ [])) (dotE v0 (timesE (a
 along_normal : (c d p m : V3) → dot c d ≡ pos 0 → dot c p ≡ pos 0 → dot (cross c d) p ≡ pos 0 → dot (cross c d) (cross c d) *ℤ dot m p ≡ (dot c c *ℤ dot d p) *ℤ dot m d
 along_normal c d p m e f g = sym (dot_scaled m p (dot (cross c d) (cross c d))) ∙ ap (dot m) (along_d c d p e f g) ∙ dot_scaled m d (dot c c *ℤ dot d p)
 
-factor_zero : (a b : ℤ) → pos 0 <ℤ a → a *ℤ b ≡ pos 0 → b ≡ pos 0
-factor_zero (pos zero) b h e = absurd h.lt
-factor_zero (pos (suc a)) (pos b) h e = omega (arith, ints)
-factor_zero (pos (suc a)) (negsuc b) h e = absurd (omega (arith, ints))
-factor_zero (negsuc a) b h e = absurd h.lt
-
 other_zero : (b q : ℤ) → q ≢ pos 0 → b *ℤ q ≡ pos 0 → b ≡ pos 0
 other_zero b (pos zero) n e = absurd (n refl)
 other_zero (pos b) (pos (suc q)) n e = omega (arith, ints)
@@ -176,12 +154,9 @@ none_along : (c d p : V3) → dot c d ≡ pos 0 → dot c p ≡ pos 0 → dot (c
 none_along c d p e f g some none =
     let whole : scale (dot (cross c d) (cross c d)) p ≡ scale (pos 0) d = along_d c d p e f g ∙ ap (λ k. scale k d) none in
     same_vector p origin
-    (factor_zero (dot (cross c d) (cross c d)) p.x some (ap (λ v. v.x) whole ∙ zero_of d.x))
-    (factor_zero (dot (cross c d) (cross c d)) p.y some (ap (λ v. v.y) whole ∙ zero_of d.y))
-    (factor_zero (dot (cross c d) (cross c d)) p.z some (ap (λ v. v.z) whole ∙ zero_of d.z))
-  where
-    zero_of : (a : ℤ) → pos 0 *ℤ a ≡ pos 0
-    zero_of a = omega (arith, ints)
+    (cancel_positive_zero (dot (cross c d) (cross c d)) p.x some (ap (λ v. v.x) whole ∙ zero-mul_ℤ d.x))
+    (cancel_positive_zero (dot (cross c d) (cross c d)) p.y some (ap (λ v. v.y) whole ∙ zero-mul_ℤ d.y))
+    (cancel_positive_zero (dot (cross c d) (cross c d)) p.z some (ap (λ v. v.z) whole ∙ zero-mul_ℤ d.z))
 
 -- a positive multiple of a number on q's side of 0 is a multiple of q with a factor of at least 0
 factor_nonneg : (k b q x : ℤ) → pos 0 <ℤ k → q ≢ pos 0 → (pos 0 ≤ℤ q → pos 0 ≤ℤ x) → (q ≤ℤ pos 0 → x ≤ℤ pos 0) → k *ℤ x ≡ b *ℤ q → pos 0 ≤ℤ b
@@ -191,15 +166,8 @@ factor_nonneg k b (pos (suc q)) x h n up down e = positive_case b q (nonneg_is (
     positive_case : (b : ℤ) (q : ℕ) → pos 0 ≤ℤ (b *ℤ pos (suc q)) → pos 0 ≤ℤ b
     positive_case (pos b) q h = omega (arith, ints)
     positive_case (negsuc b) q h = absurd (omega (arith, ints))
-factor_nonneg k b (negsuc q) x h n up down e = negative_case b q (low (k *ℤ x) (b *ℤ negsuc q) e (nonpositive k x h (down (omega (arith, ints)))))
+factor_nonneg k b (negsuc q) x h n up down e = negative_case b q (low (k *ℤ x) (b *ℤ negsuc q) e (positive_nonpositive_mul k x h (down (omega (arith, ints)))))
   where
-    nonpositive : (k x : ℤ) → pos 0 <ℤ k → x ≤ℤ pos 0 → (k *ℤ x) ≤ℤ pos 0
-    nonpositive (pos zero) x h g = absurd h.lt
-    nonpositive (pos (suc k)) (pos zero) h g = omega (arith, ints)
-    nonpositive (pos (suc k)) (pos (suc x)) h g = absurd (omega (arith, ints))
-    nonpositive (pos (suc k)) (negsuc x) h g = omega (arith, ints)
-    nonpositive (negsuc k) x h g = absurd h.lt
-
     low : (p r : ℤ) → p ≡ r → p ≤ℤ pos 0 → r ≤ℤ pos 0
     low p r e h = omega (arith, ints)
 
@@ -218,15 +186,6 @@ pub record IsTip (planes : List V3) (d c w : V3) : Type 0 where
   pub off : dot m d ≢ pos 0
   pub on_m : dot m w ≡ pos 0
   pub towards : (g : V3) → Contains planes g → IsTowards d w g
-
-zero_within : (a : ℤ) → pos 0 ≤ℤ a → a ≤ℤ pos 0 → a ≡ pos 0
-zero_within a h g = omega (arith, ints)
-
-zero_nonneg : (a : ℤ) → a ≡ pos 0 → pos 0 ≤ℤ a
-zero_nonneg a e = omega (arith, ints)
-
-zero_low : (a : ℤ) → a ≡ pos 0 → a ≤ℤ pos 0
-zero_low a e = omega (arith, ints)
 
 -- a crossing lies on both its planes
 pub on_left : (g h w : V3) → cross g h ≢ origin → IsSame w (primitive (cross g h)) → dot g w ≡ pos 0
@@ -257,7 +216,7 @@ pub tip : (planes : List V3) (d c w : V3) → IsOnOne planes d c → IsCornerTow
 tip planes d c w one corner = go (one.only corner.g corner.g_in) (one.only corner.h corner.h_in)
   where
     flat_c : dot c w ≡ pos 0
-    flat_c = let t = corner.towards c one.c_in in zero_within (dot c w) (t.up (zero_nonneg (dot c d) one.on)) (t.down (zero_low (dot c d) one.on))
+    flat_c = let t = corner.towards c one.c_in in zero_from_bounds (dot c w) (t.up (zero_nonneg (dot c d) one.on)) (t.down (zero_nonpositive (dot c d) one.on))
 
     at : (m : V3) → Contains planes m → dot m d ≢ pos 0 → dot m w ≡ pos 0 → IsTip planes d c w
     at m m_in off on = record {
@@ -303,21 +262,15 @@ module _ (planes : List V3) (d c : V3) (axes : HoldsAxes planes) (one : IsOnOne 
   unfolding balance
   dot_balance m a b u w = ring (values (m ∷ u ∷ w ∷ []) (a ∷ b ∷ [])) (dotE v0 (minusE (timesE (at 9) v2) (timesE (at 10) v1))) (at 9 ⊗ dotE v0 v2 ⊖ at 10 ⊗ dotE v0 v1) tt
 
-  both_zero : (a b p q : ℤ) → p ≡ pos 0 → q ≡ pos 0 → a *ℤ p -ℤ b *ℤ q ≡ pos 0
-  both_zero a b p q e f = (λ i. a *ℤ e i -ℤ b *ℤ f i) ∙ ring (a ∷ b ∷ []) (at 0 ⊗ num (pos 0) ⊖ at 1 ⊗ num (pos 0)) (num (pos 0)) tt
-
-  turn_about : (a b : ℤ) → a *ℤ b -ℤ b *ℤ a ≡ pos 0
-  turn_about a b = ring (a ∷ b ∷ []) (at 0 ⊗ at 1 ⊖ at 1 ⊗ at 0) (num (pos 0)) tt
-
   -- how much of the balance lies along d
   share : V3 → V3 → ℤ
   share u w = dot c c *ℤ dot d (balance (dot (cross c d) u) (dot (cross c d) w) u w)
 
   balance_on_c : (u w : V3) → dot c u ≡ pos 0 → dot c w ≡ pos 0 → dot c (balance (dot (cross c d) u) (dot (cross c d) w) u w) ≡ pos 0
-  balance_on_c u w e f = dot_balance c (dot (cross c d) u) (dot (cross c d) w) u w ∙ both_zero (dot (cross c d) u) (dot (cross c d) w) (dot c w) (dot c u) f e
+  balance_on_c u w e f = dot_balance c (dot (cross c d) u) (dot (cross c d) w) u w ∙ products_zero (dot (cross c d) u) (dot (cross c d) w) (dot c w) (dot c u) f e
 
   balance_across : (u w : V3) → dot (cross c d) (balance (dot (cross c d) u) (dot (cross c d) w) u w) ≡ pos 0
-  balance_across u w = dot_balance (cross c d) (dot (cross c d) u) (dot (cross c d) w) u w ∙ turn_about (dot (cross c d) u) (dot (cross c d) w)
+  balance_across u w = dot_balance (cross c d) (dot (cross c d) u) (dot (cross c d) w) u w ∙ products_swapped (dot (cross c d) u) (dot (cross c d) w)
 
   -- at another normal m
   balance_at : (u w m : V3) → dot c u ≡ pos 0 → dot c w ≡ pos 0 → big *ℤ (dot (cross c d) u *ℤ dot m w -ℤ dot (cross c d) w *ℤ dot m u) ≡ share u w *ℤ dot m d
@@ -337,9 +290,6 @@ module _ (planes : List V3) (d c : V3) (axes : HoldsAxes planes) (one : IsOnOne 
 
   between_nonneg : (b : ℤ) → pos 0 ≤ℤ b → pos 0 ≤ℤ neg_ℤ b → b ≡ pos 0
   between_nonneg b h g = omega (arith, ints)
-
-  from_difference : (p q : ℤ) → p -ℤ q ≡ pos 0 → p ≡ q
-  from_difference p q e = omega (arith, ints)
 
   -- the equation of two multiples, solved
   same_from : (u w : V3) (a b : ℤ) → IsPrimitive u → IsPrimitive w → pos 0 <ℤ a → pos 0 <ℤ b → scale a w ≡ scale b u → u ≡ w
@@ -363,7 +313,7 @@ module _ (planes : List V3) (d c : V3) (axes : HoldsAxes planes) (one : IsOnOne 
       let down : pos 0 ≤ℤ neg_ℤ s = factor_nonneg (big *ℤ b) (neg_ℤ s) (dot tw.m d) (dot tw.m u) (pos_mul big b big_positive pw) tw.off u_at.up u_at.down
       (right_only big a (dot tw.m w) b (dot tw.m u) s (dot tw.m d) (balance_at u w tw.m tu.on_c tw.on_c) tw.on_m) in
       let none : p ≡ origin = none_along c d p one.on (balance_on_c u w tu.on_c tw.on_c) (balance_across u w) big_positive (between_nonneg s up down) in
-      let same : scale a w ≡ scale b u = same_vector (scale a w) (scale b u) (from_difference (a *ℤ w.x) (b *ℤ u.x) (ap (λ v. v.x) none)) (from_difference (a *ℤ w.y) (b *ℤ u.y) (ap (λ v. v.y) none)) (from_difference (a *ℤ w.z) (b *ℤ u.z) (ap (λ v. v.z) none)) in
+      let same : scale a w ≡ scale b u = same_vector (scale a w) (scale b u) (from_zero (a *ℤ w.x) (b *ℤ u.x) (ap (λ v. v.x) none)) (from_zero (a *ℤ w.y) (b *ℤ u.y) (ap (λ v. v.y) none)) (from_zero (a *ℤ w.z) (b *ℤ u.z) (ap (λ v. v.z) none)) in
       same_from u w a b tu.primitive tw.primitive pu pw same
 
   negated : (k a x s q : ℤ) → (k *ℤ a) *ℤ x ≡ s *ℤ q → (k *ℤ neg_ℤ a) *ℤ x ≡ neg_ℤ s *ℤ q
@@ -371,9 +321,6 @@ module _ (planes : List V3) (d c : V3) (axes : HoldsAxes planes) (one : IsOnOne 
 
   turned_up : (a : ℤ) → a <ℤ pos 0 → pos 0 <ℤ neg_ℤ a
   turned_up a h = omega (arith, ints)
-
-  twice : (s : ℤ) → neg_ℤ (neg_ℤ s) ≡ s
-  twice s = omega (arith, ints)
 
   pub same_tip_low : (u w : V3) → IsTip planes d c u → IsTip planes d c w → dot (cross c d) u <ℤ pos 0 → dot (cross c d) w <ℤ pos 0 → u ≡ w
   unfolding balance big share
@@ -390,13 +337,13 @@ module _ (planes : List V3) (d c : V3) (axes : HoldsAxes planes) (one : IsOnOne 
       (negated big a (dot tu.m w) s (dot tu.m d) (left_only big a (dot tu.m w) b (dot tu.m u) (s *ℤ dot tu.m d) (balance_at u w tu.m tu.on_c tw.on_c) tu.on_m)) in
       let down : pos 0 ≤ℤ neg_ℤ (neg_ℤ s) = factor_nonneg (big *ℤ neg_ℤ b) (neg_ℤ (neg_ℤ s)) (dot tw.m d) (dot tw.m u) (pos_mul big (neg_ℤ b) big_positive pb) tw.off u_at.up u_at.down
       (negated big b (dot tw.m u) (neg_ℤ s) (dot tw.m d) (right_only big a (dot tw.m w) b (dot tw.m u) s (dot tw.m d) (balance_at u w tw.m tu.on_c tw.on_c) tw.on_m)) in
-      let none : p ≡ origin = none_along c d p one.on (balance_on_c u w tu.on_c tw.on_c) (balance_across u w) big_positive (between_nonneg s (subst (λ z. pos 0 ≤ℤ z) (twice s) down) up) in
+      let none : p ≡ origin = none_along c d p one.on (balance_on_c u w tu.on_c tw.on_c) (balance_across u w) big_positive (between_nonneg s (subst (λ z. pos 0 ≤ℤ z) (neg-neg s) down) up) in
       same_from u w (neg_ℤ a) (neg_ℤ b) tu.primitive tw.primitive pa pb
       (same_vector (scale (neg_ℤ a) w) (scale (neg_ℤ b) u) (opposite_equal a w.x b u.x (ap (λ v. v.x) none)) (opposite_equal a w.y b u.y (ap (λ v. v.y) none)) (opposite_equal a w.z b u.z (ap (λ v. v.z) none)))
     where
       opposite_equal : (a x b y : ℤ) → a *ℤ x -ℤ b *ℤ y ≡ pos 0 → neg_ℤ a *ℤ x ≡ neg_ℤ b *ℤ y
       opposite_equal a x b y e =
-          ring (a ∷ x ∷ []) (opp (at 0) ⊗ at 1) (opp (at 0 ⊗ at 1)) tt ∙ ap neg_ℤ (from_difference (a *ℤ x) (b *ℤ y) e) ∙ ring (b ∷ y ∷ []) (opp (at 0 ⊗ at 1)) (opp (at 0) ⊗ at 1) tt
+          ring (a ∷ x ∷ []) (opp (at 0) ⊗ at 1) (opp (at 0 ⊗ at 1)) tt ∙ ap neg_ℤ (from_zero (a *ℤ x) (b *ℤ y) e) ∙ ring (b ∷ y ∷ []) (opp (at 0 ⊗ at 1)) (opp (at 0) ⊗ at 1) tt
 
   -- no end lies along d
   pub tip_aside : (w : V3) → IsTip planes d c w → dot (cross c d) w ≢ pos 0
@@ -413,10 +360,10 @@ module _ (planes : List V3) (d c : V3) (axes : HoldsAxes planes) (one : IsOnOne 
       let a = dot (cross c d) u in
       let b = dot (cross c d) v in
       let p = balance a b u v in
-      let flat : share u v *ℤ dot g d ≡ pos 0 = sym (balance_at u v g tu.on_c tv.on_c) ∙ ap (λ z. big *ℤ z) (both_zero a b (dot g v) (dot g u) ev eu) ∙ ring (big ∷ []) (at 0 ⊗ num (pos 0)) (num (pos 0)) tt in
+      let flat : share u v *ℤ dot g d ≡ pos 0 = sym (balance_at u v g tu.on_c tv.on_c) ∙ ap (λ z. big *ℤ z) (products_zero a b (dot g v) (dot g u) ev eu) ∙ ring (big ∷ []) (at 0 ⊗ num (pos 0)) (num (pos 0)) tt in
       let none : p ≡ origin = none_along c d p one.on (balance_on_c u v tu.on_c tv.on_c) (balance_across u v) big_positive (other_zero (share u v) (dot g d) off flat) in
       IsPrimitive-some u tu.primitive (axes_zero u (λ axis axis_in. let at_u = tu.towards axis axis_in in let at_v = tv.towards axis axis_in in
-      squeeze a b (dot axis u) (dot axis v) (dot axis d) pu nv at_u.up at_u.down at_v.up at_v.down (sym (dot_balance axis a b u v) ∙ ap (dot axis) none ∙ dot_origin_right axis)))
+      squeeze a b (dot axis u) (dot axis v) (dot axis d) pu nv at_u.up at_u.down at_v.up at_v.down (sym (dot_balance axis a b u v) ∙ ap (dot axis) none ∙ dot_origin axis)))
     where
       axes_zero : (u : V3) → ((axis : V3) → Contains planes axis → dot axis u ≡ pos 0) → u ≡ origin
       axes_zero u f =
@@ -432,35 +379,17 @@ module _ (planes : List V3) (d c : V3) (axes : HoldsAxes planes) (one : IsOnOne 
       squeeze : (a b x y q : ℤ) → pos 0 <ℤ a → b <ℤ pos 0 → (pos 0 ≤ℤ q → pos 0 ≤ℤ x) → (q ≤ℤ pos 0 → x ≤ℤ pos 0) → (pos 0 ≤ℤ q → pos 0 ≤ℤ y) → (q ≤ℤ pos 0 → y ≤ℤ pos 0) → a *ℤ y -ℤ b *ℤ x ≡ pos 0 → x ≡ pos 0
       squeeze a b x y q pa nb xu xd yu yd e =
           by_lt_z {P = x ≡ pos 0} q (pos 0)
-          (λ low. zero_within x (squeeze_down a b x y pa nb (yd (omega (arith, ints))) e) (xd (omega (arith, ints))))
-          (λ high. zero_within x (xu high) (squeeze_up a b x y pa nb (yu high) e))
+          (λ low. zero_from_bounds x (squeeze_down a b x y pa nb (yd (omega (arith, ints))) e) (xd (omega (arith, ints))))
+          (λ high. zero_from_bounds x (xu high) (squeeze_up a b x y pa nb (yu high) e))
         where
           squeeze_up : (a b x y : ℤ) → pos 0 <ℤ a → b <ℤ pos 0 → pos 0 ≤ℤ y → a *ℤ y -ℤ b *ℤ x ≡ pos 0 → x ≤ℤ pos 0
-          squeeze_up a b x y pa nb y_up e = by_lt_z {P = x ≤ℤ pos 0} (pos 0) x (λ p. absurd (over (a *ℤ y) (b *ℤ x) (nonneg_mul a y (omega (arith, ints)) y_up) (below b x nb p) e)) (λ h. h)
+          squeeze_up a b x y pa nb y_up e = by_lt_z {P = x ≤ℤ pos 0} (pos 0) x (λ p. absurd (over (a *ℤ y) (b *ℤ x) (nonneg_mul a y (omega (arith, ints)) y_up) (mixed_product b x nb p) e)) (λ h. h)
             where
-              below : (b x : ℤ) → b <ℤ pos 0 → pos 0 <ℤ x → (b *ℤ x) <ℤ pos 0
-              below (pos b) x h g = absurd (omega (arith, ints))
-              below (negsuc b) (pos zero) h g = absurd g.lt
-              below (negsuc b) (pos (suc x)) h g = omega (arith, ints)
-              below (negsuc b) (negsuc x) h g = absurd g.lt
-
               over : (p r : ℤ) → pos 0 ≤ℤ p → r <ℤ pos 0 → p -ℤ r ≡ pos 0 → ⊥
               over p r h g e = omega (arith, ints)
 
           squeeze_down : (a b x y : ℤ) → pos 0 <ℤ a → b <ℤ pos 0 → y ≤ℤ pos 0 → a *ℤ y -ℤ b *ℤ x ≡ pos 0 → pos 0 ≤ℤ x
-          squeeze_down a b x y pa nb y_low e = by_lt_z {P = pos 0 ≤ℤ x} x (pos 0) (λ n. absurd (over (a *ℤ y) (b *ℤ x) (at_most a y pa y_low) (above b x nb n) e)) (λ h. h)
+          squeeze_down a b x y pa nb y_low e = by_lt_z {P = pos 0 ≤ℤ x} x (pos 0) (λ n. absurd (over (a *ℤ y) (b *ℤ x) (positive_nonpositive_mul a y pa y_low) (two_negatives b x nb n) e)) (λ h. h)
             where
-              above : (b x : ℤ) → b <ℤ pos 0 → x <ℤ pos 0 → pos 0 <ℤ (b *ℤ x)
-              above (pos b) x h g = absurd (omega (arith, ints))
-              above (negsuc b) (pos x) h g = absurd (omega (arith, ints))
-              above (negsuc b) (negsuc x) h g = omega (arith, ints)
-
-              at_most : (a y : ℤ) → pos 0 <ℤ a → y ≤ℤ pos 0 → (a *ℤ y) ≤ℤ pos 0
-              at_most (pos zero) y h g = absurd h.lt
-              at_most (pos (suc a)) (pos zero) h g = omega (arith, ints)
-              at_most (pos (suc a)) (pos (suc y)) h g = absurd (omega (arith, ints))
-              at_most (pos (suc a)) (negsuc y) h g = omega (arith, ints)
-              at_most (negsuc a) y h g = absurd h.lt
-
               over : (p r : ℤ) → p ≤ℤ pos 0 → pos 0 <ℤ r → p -ℤ r ≡ pos 0 → ⊥
               over p r h g e = omega (arith, ints)

@@ -1,5 +1,5 @@
 -- The two ends of an edge, as vertices on its border, and their sum.
-use Rattle.std.proofs.Common.{◌≡◌, ◌≢◌, ℕ, zero, suc, ◌+◌, ◌<◌, get_or, refl, sym, ap, subst, ◌∙◌, arith, ℤ, pos, neg_ℤ, ◌≤ℤ◌, ◌<ℤ◌, ◌⊎◌, inl, inr, ⊎_elim, List, [], ◌∷◌, Contains}
+use Rattle.std.proofs.Common.{◌≡◌, ◌≢◌, ℕ, zero, suc, ◌+◌, ◌<◌, get_or, refl, sym, ap, subst, ◌∙◌, arith, ℤ, pos, ◌<ℤ◌, ◌⊎◌, inl, inr, ⊎_elim, List, [], ◌∷◌, Contains}
 use Rattle.std.proofs.lemmas.Int.{ints, by_lt_z}
 use Rattle.std.proofs.lemmas.List.Elements.{All-contains, Contains-append_cases}
 use Rattle.std.proofs.lemmas.Map.Keys.{sorted_from_all_adjacent}
@@ -13,20 +13,24 @@ use Rattle.staat_vec.specs.declared.vector.Sign.{Sign}
 use Rattle.staat_vec.specs.declared.vector.Sign.TheVariants.{Neg, Zero, Pos}
 use Rattle.staat_vec.specs.Vectors.{dot, cross, plus, negative, origin, sign, vector_cmp}
 use Rattle.staat_vec.specs.Primitives.{primitive}
-use Rattle.staat_vec.proofs.VecRing.{crossE, dotE, negativeE, plusE, values, v0, v1, ring3, negative_dot, dot_negative, dot_cross_left, dot_cross_right}
+use Rattle.staat_vec.proofs.VecRing.{crossE, dotE, negativeE, values, v0, v1, negative_dot, dot_negative, dot_cross_left, dot_cross_right}
 use Rattle.staat_vec.proofs.Ring.{ring}
 use Rattle.staat_model.specs.declared.tree.Kind.TheVariants.{Edge}
 use Rattle.staat_vec.specs.Lists.{Lists}
 use Rattle.staat_model.specs.Planes.{vertices, crossings}
 use Rattle.staat_model.specs.Cells.{signs_of, kind_of, IsBorder, IsCell, IsEnd, IsEdgeSum}
-use Rattle.staat_model.proofs.Members.{here, there}
-use Rattle.staat_vec.proofs.VectorOrder.{vector_exact, vector_total}
+use Rattle.staat_vec.proofs.VectorOrder.{vector_exact, vector_total, vector_not_below_itself}
 use Rattle.staat_model.proofs.Corners.{HoldsAxes, IsSame, IsCornerTowards}
-use Rattle.staat_model.proofs.GraphLemmas.{border_towards, towards_border, zero_sign}
+use Rattle.staat_model.proofs.GraphLemmas.{border_towards, towards_border}
 use Rattle.staat_model.proofs.VertexLemmas.{in_vertices}
 use Rattle.staat_model.proofs.PlaneLemmas.{NoneParallel}
 use Rattle.staat_model.proofs.CellLemmas.{zeros, zeros-cons, edge_zeros, off_all, Covers, sum_covers}
 use Rattle.staat_model.proofs.EdgeLemmas.{IsOnOne, IsAhead, IsTip, ahead, tip, cross_positive, same_tip, same_tip_low, tip_aside, not_both}
+use Rattle.staat_vec.proofs.Integers.{opposite_negative_back, zero_from_bounds_down, opposite_zero}
+use Rattle.staat_vec.proofs.VectorLaws.{plus_comm}
+use Rattle.staat_vec.proofs.Unique.{Contains-front}
+use Rattle.staat_vec.proofs.ListLaws.{Contains-there}
+use Rattle.staat_vec.proofs.Signs.{zero_sign}
 
 -- ---- the planes of a vertex
 
@@ -41,17 +45,17 @@ pub record FromTwo (gs : List V3) (v : V3) : Type 0 where
 
 from_crossings : (g : V3) (hs : List V3) (v : V3) → Contains (crossings g hs) v → (h : V3) × Contains hs h × IsSame v (primitive (cross g h))
 from_crossings g [] v (k, lt, e) = absurd (omega arith)
-from_crossings g (h ∷ hs) v (zero, lt, e) = (h, here h hs, inl (sym e))
-from_crossings g (h ∷ hs) v (suc zero, lt, e) = (h, here h hs, inr (sym e))
-from_crossings g (h ∷ hs) v (suc (suc k), lt, e) = let (m, c, s) = from_crossings g hs v (k, omega arith, e) in (m, there h m hs c, s)
+from_crossings g (h ∷ hs) v (zero, lt, e) = (h, Contains-front h hs, inl (sym e))
+from_crossings g (h ∷ hs) v (suc zero, lt, e) = (h, Contains-front h hs, inr (sym e))
+from_crossings g (h ∷ hs) v (suc (suc k), lt, e) = let (m, c, s) = from_crossings g hs v (k, omega arith, e) in (m, Contains-there h m hs c, s)
 
 pub from_vertices : (gs : List V3) (v : V3) → NoneParallel gs → Contains (vertices gs) v → FromTwo gs v
 from_vertices [] v apart (k, lt, e) = absurd (omega arith)
 from_vertices (g ∷ gs) v (head, rest) has = go (Contains-append_cases (crossings g gs) (vertices gs) v has) (from_vertices gs v rest)
   where
     go : Contains (crossings g gs) v ⊎ Contains (vertices gs) v → (Contains (vertices gs) v → FromTwo gs v) → FromTwo (g ∷ gs) v
-    go (inl c) ih = let (h, in_gs, same) = from_crossings g gs v c in record { g = g; h = h; g_in = here g gs; h_in = there g h gs in_gs; independent = All-contains (λ h. cross g h ≢ origin) gs h head in_gs; is = same }
-    go (inr c) ih = let f = ih c in record { g = f.g; h = f.h; g_in = there g f.g gs f.g_in; h_in = there g f.h gs f.h_in; independent = f.independent; is = f.is }
+    go (inl c) ih = let (h, in_gs, same) = from_crossings g gs v c in record { g = g; h = h; g_in = Contains-front g gs; h_in = Contains-there g h gs in_gs; independent = All-contains (λ h. cross g h ≢ origin) gs h head in_gs; is = same }
+    go (inr c) ih = let f = ih c in record { g = f.g; h = f.h; g_in = Contains-there g f.g gs f.g_in; h_in = Contains-there g f.h gs f.h_in; independent = f.independent; is = f.is }
 
 -- the vertices on the border of d's cell are the crossings on no other side than d
 end_corner : (planes : List V3) (d v : V3) → NoneParallel planes → IsEnd planes (signs_of planes d) v → IsCornerTowards planes d v
@@ -91,10 +95,10 @@ on_one (h ∷ gs) d e = by_head (on_one gs d) (sign (dot h d)) refl
     none_of q = let c = zeros-cons Zero (signs_of gs d) in omega (arith, q, c)
 
     further : sign (dot h d) ≢ Zero → Found gs → Found (h ∷ gs)
-    further off (c, c_in, on, only) = (c, there h c gs c_in, on, later c off only)
+    further off (c, c_in, on, only) = (c, Contains-there h c gs c_in, on, later c off only)
 
     by_head : (zeros (signs_of gs d) ≡ 1 → Found gs) → (t : Sign) → sign (dot h d) ≡ t → Found (h ∷ gs)
-    by_head ih Zero q = let none = none_of (subst (λ t. zeros (t ∷ signs_of gs d) ≡ 1) q e) in (h, here h gs, zero_sign (dot h d) q, first none (zero_sign (dot h d) q))
+    by_head ih Zero q = let none = none_of (subst (λ t. zeros (t ∷ signs_of gs d) ≡ 1) q e) in (h, Contains-front h gs, zero_sign (dot h d) q, first none (zero_sign (dot h d) q))
     by_head ih Neg q = further (λ z. let clash : Neg ≡ Zero = sym q ∙ z in cc) (ih (rest_of (sign (dot h d)) (λ z. let clash : Neg ≡ Zero = sym q ∙ z in cc) e))
     by_head ih Pos q = further (λ z. let clash : Pos ≡ Zero = sym q ∙ z in cc) (ih (rest_of (sign (dot h d)) (λ z. let clash : Pos ≡ Zero = sym q ∙ z in cc) e))
 
@@ -102,7 +106,7 @@ on_one (h ∷ gs) d e = by_head (on_one gs d) (sign (dot h d)) refl
 
 covers_all : (gs : List V3) (u v d : V3) → ((g : V3) → Contains gs g → (sign (dot g u) ≡ sign (dot g d)) ⊎ (sign (dot g v) ≡ sign (dot g d))) → Covers (signs_of gs u) (signs_of gs v) (signs_of gs d)
 covers_all [] u v d f = tt
-covers_all (g ∷ gs) u v d f = (f g (here g gs), covers_all gs u v d (λ h c. f h (there g h gs c)))
+covers_all (g ∷ gs) u v d f = (f g (Contains-front g gs), covers_all gs u v d (λ h c. f h (Contains-there g h gs c)))
 
 border_sign : (gs : List V3) (v d : V3) → IsBorder (signs_of gs v) (signs_of gs d) → (g : V3) → Contains gs g → (sign (dot g v) ≡ sign (dot g d)) ⊎ (sign (dot g v) ≡ Zero)
 border_sign [] v d b g (k, lt, e) = absurd (omega arith)
@@ -116,18 +120,6 @@ sorted_pair u v less = sorted_from_all_adjacent vector_total (u ∷ v ∷ []) u 
     next zero lt = less
     next (suc k) lt = absurd (omega arith)
 
-swap_plus : (u v : V3) → plus u v ≡ plus v u
-swap_plus u v = ring3 (values (u ∷ v ∷ []) []) (plusE v0 v1) (plusE v1 v0) (tt, tt, tt)
-
-same_less : (u : V3) → vector_cmp u u ≡ Less → ⊥
-same_less u e = go (vector_cmp u u) refl e
-  where
-    turned : vector_cmp u u ≡ ordering_reverse (vector_cmp u u)
-    turned = vector_total.antisymm u u
-
-    go : (o : Ordering) → vector_cmp u u ≡ o → vector_cmp u u ≡ Less → ⊥
-    go o p e = let clash : Less ≡ Greater = sym e ∙ turned ∙ ap ordering_reverse e in cc
-
 module _ (planes : List V3) (d c : V3) (axes : HoldsAxes planes) (apart : NoneParallel planes) (one : IsOnOne planes d c) (some_c : c ≢ origin) where
   square : pos 0 <ℤ dot (cross c d) (cross c d)
   square = cross_positive c d some_c one.some one.on
@@ -135,9 +127,6 @@ module _ (planes : List V3) (d c : V3) (axes : HoldsAxes planes) (apart : NonePa
   -- the end on the side of c x d
   front : IsAhead planes d (cross c d)
   front = ahead planes d c (cross c d) axes one (dot_cross_left c d) (ring (values (c ∷ d ∷ []) []) (dotE (crossE v0 v1) v1) (dotE v1 (crossE v0 v1)) tt ∙ dot_cross_right c d) square
-
-  opposite_zero : (p q : ℤ) → p ≡ neg_ℤ q → q ≡ pos 0 → p ≡ pos 0
-  opposite_zero p q e h = omega (arith, ints)
 
   -- the end on the other side
   rear : IsAhead planes d (negative (cross c d))
@@ -150,10 +139,7 @@ module _ (planes : List V3) (d c : V3) (axes : HoldsAxes planes) (apart : NonePa
   front_tip w end = tip planes d c w one (end_corner planes d w apart end)
 
   low_side : pos 0 <ℤ dot (negative (cross c d)) rear.v → dot (cross c d) rear.v <ℤ pos 0
-  low_side h = turned (dot (negative (cross c d)) rear.v) (dot (cross c d) rear.v) (negative_dot (cross c d) rear.v) h
-    where
-      turned : (p q : ℤ) → p ≡ neg_ℤ q → pos 0 <ℤ p → q <ℤ pos 0
-      turned p q e h = omega (arith, ints)
+  low_side h = opposite_negative_back (dot (negative (cross c d)) rear.v) (dot (cross c d) rear.v) (negative_dot (cross c d) rear.v) h
 
   -- one of the two is each end
   either_end : (w : V3) → IsEnd planes (signs_of planes d) w → (w ≡ front.v) ⊎ (w ≡ rear.v)
@@ -163,10 +149,7 @@ module _ (planes : List V3) (d c : V3) (axes : HoldsAxes planes) (apart : NonePa
       (λ high. inl (same_tip planes d c axes one some_c w front.v tw (tip planes d c front.v one front.corner) high front.side))
       (λ not_high. by_lt_z {P = (w ≡ front.v) ⊎ (w ≡ rear.v)} (dot (cross c d) w) (pos 0)
       (λ low. inr (same_tip_low planes d c axes one some_c w rear.v tw (tip planes d c rear.v one rear.corner) low (low_side rear.side)))
-      (λ not_low. absurd (tip_aside planes d c axes one some_c w tw (zero_here (dot (cross c d) w) not_high not_low))))
-    where
-      zero_here : (p : ℤ) → p ≤ℤ pos 0 → pos 0 ≤ℤ p → p ≡ pos 0
-      zero_here p h g = omega (arith, ints)
+      (λ not_low. absurd (tip_aside planes d c axes one some_c w tw (zero_from_bounds_down (dot (cross c d) w) not_high not_low))))
 
   -- the sum of the two lies on the edge
   sum_on : signs_of planes (plus front.v rear.v) ≡ signs_of planes d
@@ -229,13 +212,13 @@ module _ (planes : List V3) (d c : V3) (axes : HoldsAxes planes) (apart : NonePa
       ends = s.ends
 
       apart_ends : s.u ≡ s.v → ⊥
-      apart_ends p = same_less s.v (subst (λ z. vector_cmp z s.v ≡ Less) p (All-contains (λ q. vector_cmp s.u q ≡ Less) (s.v ∷ []) s.v (All-after_first vector_cmp s.u (s.v ∷ []) ends.ascending) (0, omega arith, refl)))
+      apart_ends p = vector_not_below_itself s.v (subst (λ z. vector_cmp z s.v ≡ Less) p (All-contains (λ q. vector_cmp s.u q ≡ Less) (s.v ∷ []) s.v (All-after_first vector_cmp s.u (s.v ∷ []) ends.ascending) (0, omega arith, refl)))
 
       go : (s.u ≡ front.v) ⊎ (s.u ≡ rear.v) → (s.v ≡ front.v) ⊎ (s.v ≡ rear.v) → signs_of planes (plus s.u s.v) ≡ signs_of planes d
       go (inl p) (inl q) = absurd (apart_ends (p ∙ sym q))
       go (inr p) (inr q) = absurd (apart_ends (p ∙ sym q))
       go (inl p) (inr q) = (λ i. signs_of planes (plus (p i) (q i))) ∙ sum_on
-      go (inr p) (inl q) = (λ i. signs_of planes (plus (p i) (q i))) ∙ ap (signs_of planes) (swap_plus rear.v front.v) ∙ sum_on
+      go (inr p) (inl q) = (λ i. signs_of planes (plus (p i) (q i))) ∙ ap (signs_of planes) (plus_comm rear.v front.v) ∙ sum_on
 
 -- ---- the law
 

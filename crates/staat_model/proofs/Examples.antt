@@ -1,7 +1,6 @@
 -- The definitions at small examples.
-use Rattle.std.proofs.Common.{◌≡◌, ◌≢◌, ℕ, zero, suc, ◌+◌, ◌≤◌, ◌≤ℤ◌, Bool, true, false, List, [], ◌∷◌, map, length, All, ap, sym, subst, refl, rules, ℤ, pos, neg_ℤ, unsigned_abs, codes, lit<, lit≤, T, leb-true}
+use Rattle.std.proofs.Common.{◌≡◌, ◌≢◌, ℕ, zero, suc, ◌+◌, ◌≤◌, ◌≤ℤ◌, Bool, true, List, [], ◌∷◌, map, length, All, ap, sym, subst, refl, rules, ℤ, pos, neg_ℤ, unsigned_abs, codes, lit<, lit≤, T, leb-true}
 use Rattle.std.specs.Prelude.{Some, ◌&&◌, nat_le}
-use Rattle.std.proofs.lemmas.Bool.{false≢true}
 use Rattle.std.specs.List.Sorted.{IsStrictlySortedBy}
 use Rattle.std.specs.List.{list_all}
 use Rattle.std.specs.Int.Signed.{le_z}
@@ -26,6 +25,7 @@ use Rattle.staat_model.specs.Certificates.{walled_leaf}
 use Rattle.staat_model.specs.Lines.{IsInBounds}
 use Rattle.staat_model.specs.Texts.{IsNodeInOrder, IsReading, lines_of, text_of, whole}
 use Rattle.staat_model.proofs.WallLaws.{wall_keeps_apart}
+use Rattle.staat_vec.proofs.Truth.{and_split}
 
 abbrev pub v : ℤ → ℤ → ℤ → V3
 v = vector
@@ -100,11 +100,7 @@ abbrev keeps_within : ℕ → V3 → Bool
 keeps_within bound p = nat_le (unsigned_abs p.x) bound && (nat_le (unsigned_abs p.y) bound && nat_le (unsigned_abs p.z) bound)
 
 within_by_test : (bound : ℕ) (p : V3) → keeps_within bound p ≡ true → IsWithin bound p
-within_by_test bound p e = let t = both _ _ e in let u = both _ _ t.1 in record { x = leb-true _ bound t.0; y = leb-true _ bound u.0; z = leb-true _ bound u.1 }
-  where
-    both : (a b : Bool) → (a && b) ≡ true → (a ≡ true) × (b ≡ true)
-    both true b h = (refl, h)
-    both false b h = absurd (false≢true h)
+within_by_test bound p e = let t = and_split _ _ e in let u = and_split _ _ t.1 in record { x = leb-true _ bound t.0; y = leb-true _ bound u.0; z = leb-true _ bound u.1 }
 
 cube_ascends : IsStrictlySortedBy vector_cmp cube
 unfolding IsStrictlySortedBy

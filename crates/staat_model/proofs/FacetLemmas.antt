@@ -4,13 +4,14 @@ use Rattle.std.proofs.lemmas.Int.{ints, by_lt_z}
 use Rattle.staat_vec.specs.declared.vector.V3.{V3}
 use Rattle.staat_vec.specs.Vectors.{dot, cross, times, negative, origin}
 use Rattle.staat_vec.specs.Primitives.{IsPrimitive, IsPrimitiveOf, primitive}
-use Rattle.staat_vec.proofs.Ring.{Ex, at, num, ◌⊖◌, ◌⊗◌, ring, ring_by_two, zero-mul_ℤ}
-use Rattle.staat_vec.proofs.VecRing.{VEx, dotE, crossE, timesE, values, v0, v1, v2, scale, same_vector, ring3, cross_turned}
+use Rattle.staat_vec.proofs.Ring.{Ex, num, ◌⊖◌, ◌⊗◌, ring, ring_by_two, zero-mul_ℤ}
+use Rattle.staat_vec.proofs.VecRing.{VEx, dotE, crossE, timesE, values, v0, v1, v2, scale, same_vector, cross_turned}
 use Rattle.staat_vec.proofs.Order.{as_positive, cancel_zero}
 use Rattle.staat_model.specs.Cones.{IsSpanning, IsConeFacet, IsCrossing, IsReached}
 use Rattle.staat_vec.proofs.Primitives.{IsPrimitive-some, primitive-is, primitive-only, same_primitive}
-use Rattle.staat_model.proofs.CornerLemmas.{some_square}
 use Rattle.staat_model.proofs.FarkasLemmas.{farkas_lemma}
+use Rattle.staat_vec.proofs.Integers.{zero_from_bounds_down}
+use Rattle.staat_vec.proofs.VectorLaws.{times_twice, some_square}
 
 -- (f.f) n = (n.f) f for f = g x h
 pub along : (n g h : V3) → dot g n ≡ pos 0 → dot h n ≡ pos 0 → scale (dot (cross g h) (cross g h)) n ≡ scale (dot n (cross g h)) (cross g h)
@@ -27,9 +28,6 @@ along n g h e f =
     (ring_by_two ρ l.y r.y (o ⊖ b.y) (dotE v1 v0) o a.y (dotE v2 v0) o e f tt)
     (ring_by_two ρ l.z r.z (o ⊖ b.z) (dotE v1 v0) o a.z (dotE v2 v0) o e f tt)
 
-times_times : (b k : ℕ) (m : V3) → times b (times k m) ≡ times (b * k) m
-times_times b k m = ring3 (values (m ∷ []) (pos b ∷ pos k ∷ [])) (timesE (at 3) (timesE (at 4) v0)) (timesE (at 3 ⊗ at 4) v0) (tt, tt, tt)
-
 -- where n looks along f = g x h
 pub looks_along : (n g h : V3) → IsPrimitive n → dot g n ≡ pos 0 → dot h n ≡ pos 0 → cross g h ≢ origin → pos 0 <ℤ dot n (cross g h) → IsPrimitiveOf (cross g h) n
 looks_along n g h prim e f some side =
@@ -39,7 +37,7 @@ looks_along n g h prim e f some side =
     let a = as_positive (dot c c) (some_square c some) in
     let b = as_positive (dot n c) side in
     let whole : times a.0 n ≡ times (b.0 * p.factor) m =
-    ap (λ z. scale z n) (sym a.2) ∙ along n g h e f ∙ ap (λ z. scale z c) b.2 ∙ ap (times b.0) p.multiple ∙ times_times b.0 p.factor m in
+    ap (λ z. scale z n) (sym a.2) ∙ along n g h e f ∙ ap (λ z. scale z c) b.2 ∙ ap (times b.0) p.multiple ∙ times_twice b.0 p.factor m in
     let same : n ≡ m = same_primitive a.0 (b.0 * p.factor) n m a.1 (mul-le-mul b.1 p.positive) whole prim p.primitive in
     record { factor = p.factor; positive = p.positive; multiple = p.multiple ∙ ap (times p.factor) (sym same); primitive = prim }
 
@@ -68,13 +66,10 @@ across_crosses n u v p some on_u on_v =
     (λ side. inl (primitive-only (cross u v) n (looks_along n u v p on_u on_v some side)))
     (λ low. by_lt_z {P = (n ≡ primitive (cross u v)) ⊎ (n ≡ primitive (cross v u))} (dot n (cross u v)) (pos 0)
     (λ neg. inr (primitive-only (cross v u) n (looks_along n v u p on_v on_u back (opposite (dot n (cross v u)) (dot n (cross u v)) (swap_dot n u v) neg))))
-    (λ nonneg. absurd (not_across n u v p on_u on_v some (zero_here (dot n (cross u v)) low nonneg))))
+    (λ nonneg. absurd (not_across n u v p on_u on_v some (zero_from_bounds_down (dot n (cross u v)) low nonneg))))
   where
     opposite : (p q : ℤ) → p ≡ negsuc 0 *ℤ q → q <ℤ pos 0 → pos 0 <ℤ p
     opposite p q e h = omega (arith, ints)
-
-    zero_here : (p : ℤ) → p ≤ℤ pos 0 → pos 0 ≤ℤ p → p ≡ pos 0
-    zero_here p h g = omega (arith, ints)
 
 pub facet_crosses_lemma : (vs : List V3) (n : V3) → IsConeFacet vs n → IsCrossing vs n
 facet_crosses_lemma vs n f =

@@ -11,12 +11,14 @@ use Rattle.staat_vec.proofs.VecRing.{dotE, plusE, timesE, negativeE, originE, va
 use Rattle.staat_vec.proofs.Order.{bounded, split_sum, tight_factor, not_positive_mul, cancel_not_positive, cancel_zero, nonneg_mul, nonneg_pos}
 use Rattle.staat_model.specs.Meeting.{mix}
 use Rattle.staat_model.specs.Cones.{IsAbove, IsSpanning, IsCombined, IsReached, IsStopped, ExactlyOne}
-use Rattle.staat_model.proofs.Members.{here, there}
 use Rattle.staat_model.proofs.Mixes.{square_vector, dot_step, mix_above}
 use Rattle.staat_model.proofs.Alternative.{IsSeparated, alternative}
 use Rattle.staat_model.proofs.Edge.{edge_below}
 use Rattle.staat_vec.proofs.Primitives.{IsPrimitive-some, primitive-is}
 use Rattle.staat_model.proofs.CornerLemmas.{above_primitive, dot_multiple}
+use Rattle.staat_vec.proofs.Integers.{negative_nonneg_clash}
+use Rattle.staat_vec.proofs.Unique.{Contains-front}
+use Rattle.staat_vec.proofs.ListLaws.{Contains-there}
 
 -- some member is bad, or one bound serves all members
 search_all : {X : Type 0} (B : X → Type 0) (P : X → ℕ → Type 0) → ((x : X) (k l : ℕ) → k ≤ l → P x k → P x l) → ((x : X) → B x ⊎ ((k : ℕ) × P x k)) → (xs : List X) → ((x : X) × Contains xs x × B x) ⊎ ((k : ℕ) × All (λ x. P x k) xs)
@@ -24,8 +26,8 @@ search_all B P more f [] = inr (0, All-nil (λ x. P x 0))
 search_all {X} B P more f (x ∷ xs) = go (f x) (search_all B P more f xs)
   where
     go : B x ⊎ ((k : ℕ) × P x k) → ((x : X) × Contains xs x × B x) ⊎ ((k : ℕ) × All (λ x. P x k) xs) → ((y : X) × Contains (x ∷ xs) y × B y) ⊎ ((k : ℕ) × All (λ y. P y k) (x ∷ xs))
-    go (inl b) r = inl (x, here x xs, b)
-    go (inr p) (inl (y, c, b)) = inl (y, there x y xs c, b)
+    go (inl b) r = inl (x, Contains-front x xs, b)
+    go (inr p) (inl (y, c, b)) = inl (y, Contains-there x y xs c, b)
     go (inr (k, p)) (inr (l, q)) =
         let top = max k l in
         inr (top, All-cons (λ y. P y top) x xs (more x k top (omega arith) p) (All-weaker (λ y. P y l) (λ y. P y top) (λ y r. more y l top (omega arith) r) xs q))
@@ -37,11 +39,8 @@ decide_above f (v ∷ vs) = go (decide_above f vs)
     go : IsAbove f vs ⊎ (IsAbove f vs → ⊥) → IsAbove f (v ∷ vs) ⊎ (IsAbove f (v ∷ vs) → ⊥)
     go (inr n) = inr (λ h. n (All-tail (λ v. pos 0 ≤ℤ dot v f) v vs h))
     go (inl y) = by_lt_z {P = IsAbove f (v ∷ vs) ⊎ (IsAbove f (v ∷ vs) → ⊥)} (dot v f) (pos 0)
-        (λ neg. inr (λ h. clash (dot v f) neg (All-head (λ v. pos 0 ≤ℤ dot v f) v vs h)))
+        (λ neg. inr (λ h. negative_nonneg_clash (dot v f) neg (All-head (λ v. pos 0 ≤ℤ dot v f) v vs h)))
         (λ nonneg. inl (All-cons (λ v. pos 0 ≤ℤ dot v f) v vs nonneg y))
-      where
-        clash : (p : ℤ) → p <ℤ pos 0 → pos 0 ≤ℤ p → ⊥
-        clash p h g = omega (arith, ints)
 
 total : List V3 → V3
 total [] = origin

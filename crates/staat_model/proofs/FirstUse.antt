@@ -2,10 +2,9 @@
 use Rattle.std.proofs.Common.{◌≡◌, ◌⊎◌, ℕ, zero, suc, ◌<◌, List, length, arith, ap, sym, ◌∙◌, inl, inr}
 use Rattle.std.specs.Prelude.{Some, slice_get}
 use Rattle.staat_model.specs.Certify.{NumbersByFirstUse}
-use Rattle.staat_model.proofs.Places.{one_at_place, place_from_Contains, place_within, same_places, some_at}
-
-order : (j k : ℕ) → (j < k) ⊎ ((j ≡ k) ⊎ (k < j))
-order j k = grind arith
+use Rattle.staat_model.proofs.Places.{one_at_place, place_within, same_places, some_at}
+use Rattle.staat_vec.proofs.Naturals.{trichotomy}
+use Rattle.staat_vec.proofs.ListLaws.{place_of}
 
 -- below the next number: the number itself, or below it
 next_or : (q k : ℕ) → q < suc k → (q < k) ⊎ (k ≡ q)
@@ -45,7 +44,7 @@ lesser us vs ws xs o distinct same i k m before a b lt =
 module _ {X : Type 0} (us vs : List ℕ) (ws xs : List X) (lengths : length us ≡ length vs) (ou : NumbersByFirstUse (length ws) us) (ov : NumbersByFirstUse (length xs) vs) (dw : IsDistinct ws) (dx : IsDistinct xs) (same : StandForSame us vs ws xs) where
   same_below : (n i k m : ℕ) → i < n → slice_get us i ≡ Some k → slice_get vs i ≡ Some m → k ≡ m
   same_below zero i k m lt a b = absurd (omega arith)
-  same_below (suc n) i k m lt a b = elim (order k m) [
+  same_below (suc n) i k m lt a b = elim (trichotomy k m) [
     | inl less ↦ lesser us vs ws xs ov dx same i k m (λ j early at. let u = some_at us j (omega (arith, place_within us i k a)) in u.1 ∙ ap Some (same_below n j u.0 k (omega arith) u.1 at)) a b less
     | inr other ↦ elim other [
       | inl e ↦ e
@@ -64,13 +63,13 @@ module _ {X : Type 0} (us vs : List ℕ) (ws xs : List X) (lengths : length us �
 
   value_across : (k : ℕ) (x : X) → slice_get ws k ≡ Some x → slice_get xs k ≡ Some x
   value_across k x at =
-      let named = place_from_Contains us k (ou.used k (place_within ws k x at)) in
+      let named = place_of us k (ou.used k (place_within ws k x at)) in
       let there = same named.0 k k named.1 (across named.0 k named.1) in
       there.2 ∙ ap Some (one_at_place ws k there.0 x there.1 at)
 
   value_back : (k : ℕ) (x : X) → slice_get xs k ≡ Some x → slice_get ws k ≡ Some x
   value_back k x at =
-      let named = place_from_Contains vs k (ov.used k (place_within xs k x at)) in
+      let named = place_of vs k (ov.used k (place_within xs k x at)) in
       let there = same named.0 k k (back named.0 k named.1) named.1 in
       there.1 ∙ ap Some (one_at_place xs k there.0 x there.2 at)
 

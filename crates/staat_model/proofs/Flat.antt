@@ -1,14 +1,15 @@
 -- Points on one plane, on one line or at one place are not solid.
-use Rattle.std.proofs.Common.{◌≡◌, ◌≢◌, ◌↔◌, Bool, IsTrue, Option, None, Some, MatchOption, is_some, ℤ, pos, ◌-ℤ◌, neg_ℤ, List, [], ◌∷◌, All, Contains, ap, sym, ◌∙◌, arith}
+use Rattle.std.proofs.Common.{◌≡◌, ◌≢◌, ◌↔◌, Bool, IsTrue, Option, None, Some, MatchOption, is_some, pos, neg_ℤ, List, [], ◌∷◌, All, Contains, ap, sym, ◌∙◌, arith}
 use Rattle.std.proofs.lemmas.Int.{ints}
 use Rattle.std.proofs.lemmas.List.Elements.{All-contains, All-weaker}
 use Rattle.staat_vec.specs.declared.vector.V3.{V3}
-use Rattle.staat_vec.specs.Vectors.{vector, origin, minus, dot, cross, det}
+use Rattle.staat_vec.specs.Vectors.{vector, origin, minus, dot, cross}
 use Rattle.staat_model.specs.Pieces.{IsSolid}
-use Rattle.staat_vec.proofs.Ring.{at, num, opp, ring}
-use Rattle.staat_vec.proofs.VecRing.{same_vector, values, vectorE, dotE, crossE, detE, v0, v1, v2}
+use Rattle.staat_vec.proofs.Ring.{at, num, opp, ring, from_zero}
+use Rattle.staat_vec.proofs.VecRing.{same_vector, values, vectorE, dotE, crossE, v0, v1}
 use Rattle.staat_model.proofs.Spanning.{square_to_three}
 use Rattle.staat_model.proofs.WallLaws.{dot-minus, level}
+use Rattle.staat_vec.proofs.VectorLaws.{det_dot}
 
 -- a normal of a plane that solid points share is zero
 level_solid : (n a : V3) (ps : List V3) → All (λ p. dot n (minus p a) ≡ pos 0) ps → IsSolid ps → n ≡ origin
@@ -52,9 +53,6 @@ at_place a ps all solid =
     still : (a : V3) → cross (vector (pos 1) (pos 0) (pos 0)) (minus a a) ≡ origin
     still a = same_vector (cross (vector (pos 1) (pos 0) (pos 0)) (minus a a)) origin (omega (arith, ints)) (omega (arith, ints)) (omega (arith, ints))
 
-det-turn : (u v w : V3) → det u v w ≡ dot (cross u v) w
-det-turn u v w = ring (values (u ∷ v ∷ w ∷ []) []) (detE v0 v1 v2) (dotE (crossE v0 v1) v2) tt
-
 -- four points, the last off the plane of the others
 pub off_plane : (a b c e u n : V3) (ps : List V3) → Contains ps a → Contains ps b → Contains ps c → Contains ps e → u ≡ minus b a → n ≡ cross u (minus c a) → dot n (minus e a) ≢ pos 0 → IsSolid ps
 off_plane a b c e u n ps ka kb kc ke eu en ne = record {
@@ -66,7 +64,7 @@ off_plane a b c e u n ps ka kb kc ke eu en ne = record {
   b_in = kb;
   c_in = kc;
   e_in = ke;
-  apart = λ h. ne (ap (λ m. dot m (minus e a)) (en ∙ ap (λ v. cross v (minus c a)) eu) ∙ sym (det-turn (minus b a) (minus c a) (minus e a)) ∙ h);
+  apart = λ h. ne (ap (λ m. dot m (minus e a)) (en ∙ ap (λ v. cross v (minus c a)) eu) ∙ sym (det_dot (minus b a) (minus c a) (minus e a)) ∙ h);
 }
 
 -- a search for a last point decides whether the points are solid
@@ -74,10 +72,7 @@ pub decided : (r : Option V3) (b : Bool) (A S : Type 0) (B : V3 → Type 0) → 
 decided None b A S B e found none some = (λ h. absurd (cc (e, h)), λ s. absurd (none found s))
 decided (Some x) b A S B e found none some = (λ h. some x found, λ s. e)
 
-zero_difference : (p q : ℤ) → p -ℤ q ≡ pos 0 → p ≡ q
-zero_difference p q e = omega (arith, ints, e)
-
 pub apart : (a b u : V3) → u ≡ minus b a → b ≢ a → u ≢ origin
 apart a b u e ne h =
     let o : minus b a ≡ origin = sym e ∙ h in
-    ne (same_vector b a (zero_difference b.x a.x (ap (λ (v : V3). v.x) o)) (zero_difference b.y a.y (ap (λ (v : V3). v.y) o)) (zero_difference b.z a.z (ap (λ (v : V3). v.z) o)))
+    ne (same_vector b a (from_zero b.x a.x (ap (λ (v : V3). v.x) o)) (from_zero b.y a.y (ap (λ (v : V3). v.y) o)) (from_zero b.z a.z (ap (λ (v : V3). v.z) o)))

@@ -3,7 +3,7 @@ use Rattle.std.proofs.Common.{◌≡◌, ◌≢◌, ◌↔◌, ℕ, zero, suc, r
 use Rattle.std.specs.Prelude.{Some, slice_get}
 use lib.IntN.{ℤ_discrete}
 use Rattle.std.proofs.lemmas.Int.{ints}
-use Rattle.std.proofs.lemmas.Option.{option_and_then_some, slice_get_within, get_or_from_slice_get}
+use Rattle.std.proofs.lemmas.Option.{option_and_then_some}
 use Rattle.std.proofs.lemmas.List.Elements.{All-contains, Contains-append_left, Contains-append_right}
 use Rattle.staat_vec.specs.declared.vector.V3.{V3}
 use Rattle.staat_vec.specs.declared.vector.Sign.{Sign}
@@ -21,21 +21,21 @@ use Rattle.staat_model.specs.Assemblies.{IsAssembly, IsPart, piece_at}
 use Rattle.staat_model.specs.Removal.{MeetsAlong, Blocks}
 use Rattle.staat_model.specs.Planes.{ArePlanes, IsFacetPlane, axes}
 use Rattle.staat_model.specs.Cells.{signs_of, IsBorder}
-use Rattle.staat_model.proofs.Members.{here, there}
 use Rattle.staat_model.proofs.Corners.{IsTowards}
 use Rattle.staat_model.proofs.PieceFacets.{meets_by_facets_lemma}
 use Rattle.staat_model.proofs.Reversed.{meets_opposite_lemma}
+use Rattle.staat_vec.proofs.Integers.{opposite_nonpositive, opposite_nonneg, opposite_nonpositive_back, zero_nonneg, zero_nonpositive}
+use Rattle.staat_vec.proofs.Unique.{from_place, Contains-front}
+use Rattle.staat_vec.proofs.Signs.{zero_sign}
+use Rattle.staat_vec.proofs.ListLaws.{Contains-there}
 
 -- ---- the pieces of an assembly
-
-pub from_slice_get : {X : Type 0} (xs : List X) (k : ℕ) (x : X) → slice_get xs k ≡ Some x → Contains xs x
-from_slice_get xs k x e = (k, slice_get_within xs k x e, get_or_from_slice_get xs k x x e)
 
 -- however many parts there are
 pub piece_in : (parts : List Part) (a i : ℕ) (p : List V3) → All IsPart parts → piece_at parts a i ≡ Some p → IsPiece p
 piece_in parts a i p each e =
     option_and_then_some {P = IsPiece p} (λ part. slice_get part.pieces i) (slice_get parts a) p e
-    (λ part at inside. let whole = All-contains IsPart parts part each (from_slice_get parts a part at) in All-contains IsPiece part.pieces p whole.pieces (from_slice_get part.pieces i p inside))
+    (λ part at inside. let whole = All-contains IsPart parts part each (from_place parts a part at) in All-contains IsPiece part.pieces p whole.pieces (from_place part.pieces i p inside))
 
 pub piece_is : (parts : List Part) (a i : ℕ) (p : List V3) → IsAssembly parts → piece_at parts a i ≡ Some p → IsPiece p
 piece_is parts a i p is e = piece_in parts a i p is.each e
@@ -61,7 +61,7 @@ member_or_not x (y ∷ ys) = go (same_or_not y x) (member_or_not x ys)
 
     go : Dec (y ≡ x) → Contains ys x ⊎ (Contains ys x → ⊥) → Contains (y ∷ ys) x ⊎ (Contains (y ∷ ys) x → ⊥)
     go (yes e) r = inl (0, omega arith, e)
-    go (no n) (inl c) = inl (there y x ys c)
+    go (no n) (inl c) = inl (Contains-there y x ys c)
     go (no n) (inr m) = inr (out n m)
 
 pub plane_in : (parts : List Part) (w : PartSet) (planes : List V3) (n : V3) → ArePlanes parts w planes → IsFacetPlane parts w n → Contains planes n
@@ -73,17 +73,6 @@ pub axis_in : (parts : List Part) (w : PartSet) (planes : List V3) (n : V3) → 
 axis_in parts w planes n are c = subst (λ gs. Contains gs n) (sym are.is) (Contains-append_left axes are.others n c)
 
 -- ---- signs and sides
-
-pub zero_sign : (a : ℤ) → sign a ≡ Zero → a ≡ pos 0
-zero_sign (pos zero) e = refl
-zero_sign (pos (suc n)) e = cc
-zero_sign (negsuc n) e = cc
-
-zero_up : (a : ℤ) → a ≡ pos 0 → pos 0 ≤ℤ a
-zero_up a e = omega (arith, ints)
-
-zero_down : (a : ℤ) → a ≡ pos 0 → a ≤ℤ pos 0
-zero_down a e = omega (arith, ints)
 
 same_up : (a b : ℤ) → sign a ≡ sign b → pos 0 ≤ℤ b → pos 0 ≤ℤ a
 same_up (pos n) b e h = omega (arith, ints)
@@ -106,7 +95,7 @@ towards_border (h ∷ gs) d v b g (zero, lt, e) = subst (IsTowards d v) e (at_he
   where
     at_head : (sign (dot h v) ≡ sign (dot h d)) ⊎ (sign (dot h v) ≡ Zero) → IsTowards d v h
     at_head (inl same) = record { up = same_up (dot h v) (dot h d) same; down = same_down (dot h v) (dot h d) same }
-    at_head (inr none) = let e = zero_sign (dot h v) none in record { up = λ u. zero_up (dot h v) e; down = λ u. zero_down (dot h v) e }
+    at_head (inr none) = let e = zero_sign (dot h v) none in record { up = λ u. zero_nonneg (dot h v) e; down = λ u. zero_nonpositive (dot h v) e }
 
 sign_towards : (a b : ℤ) → (pos 0 ≤ℤ b → pos 0 ≤ℤ a) → (b ≤ℤ pos 0 → a ≤ℤ pos 0) → (sign a ≡ sign b) ⊎ (sign a ≡ Zero)
 sign_towards (pos zero) b up down = inr refl
@@ -118,28 +107,19 @@ sign_towards (negsuc n) (negsuc m) up down = inl refl
 
 pub border_towards : (gs : List V3) (d v : V3) → ((g : V3) → Contains gs g → IsTowards d v g) → IsBorder (signs_of gs v) (signs_of gs d)
 border_towards [] d v f = tt
-border_towards (g ∷ gs) d v f = let t = f g (here g gs) in (sign_towards (dot g v) (dot g d) t.up t.down, border_towards gs d v (λ h c. f h (there g h gs c)))
+border_towards (g ∷ gs) d v f = let t = f g (Contains-front g gs) in (sign_towards (dot g v) (dot g d) t.up t.down, border_towards gs d v (λ h c. f h (Contains-there g h gs c)))
 
 -- the sides of a facet are those of its plane
 pub facet_towards : (d v n : V3) → IsTowards d v (canon n) → IsTowards d v n
 facet_towards d v n t = go (canon-either n)
   where
-    turned_up : (p q : ℤ) → p ≡ neg_ℤ q → pos 0 ≤ℤ q → p ≤ℤ pos 0
-    turned_up p q e h = omega (arith, ints)
-
-    turned_down : (p q : ℤ) → p ≡ neg_ℤ q → q ≤ℤ pos 0 → pos 0 ≤ℤ p
-    turned_down p q e h = omega (arith, ints)
-
     back_up : (p q : ℤ) → p ≡ neg_ℤ q → p ≤ℤ pos 0 → pos 0 ≤ℤ q
     back_up p q e h = omega (arith, ints)
 
-    back_down : (p q : ℤ) → p ≡ neg_ℤ q → pos 0 ≤ℤ p → q ≤ℤ pos 0
-    back_down p q e h = omega (arith, ints)
-
     opposite : IsTowards d v (negative n) → IsTowards d v n
     opposite s = record {
-      up = λ u. back_up (dot (negative n) v) (dot n v) (negative_dot n v) (s.down (turned_up (dot (negative n) d) (dot n d) (negative_dot n d) u));
-      down = λ u. back_down (dot (negative n) v) (dot n v) (negative_dot n v) (s.up (turned_down (dot (negative n) d) (dot n d) (negative_dot n d) u));
+      up = λ u. back_up (dot (negative n) v) (dot n v) (negative_dot n v) (s.down (opposite_nonpositive (dot (negative n) d) (dot n d) (negative_dot n d) u));
+      down = λ u. opposite_nonpositive_back (dot (negative n) v) (dot n v) (negative_dot n v) (s.up (opposite_nonneg (dot (negative n) d) (dot n d) (negative_dot n d) u));
     }
 
     go : (canon n ≡ n) ⊎ (canon n ≡ negative n) → IsTowards d v n

@@ -19,11 +19,12 @@ use Rattle.staat_model.specs.SetLists.{union_of}
 use Rattle.staat_model.specs.Sets.{Has, IsNonempty, IsSubset, single}
 use Rattle.staat_model.proofs.CoreLemmas.{free_at_crossing_lemma, free_at_vertex_lemma}
 use Rattle.staat_model.proofs.WholeLemmas.{left_within, moves_whole_lemma, right_within}
-use Rattle.staat_model.proofs.Members.{here, there}
 use Rattle.staat_model.proofs.RestrictLemmas.{nonempty_or}
 use Rattle.staat_model.proofs.SetMembers.{has-empty, has-single}
 use Rattle.staat_model.proofs.SetSizes.{many}
 use Rattle.staat_model.proofs.SetWords.{same_members}
+use Rattle.staat_vec.proofs.Unique.{Contains-front}
+use Rattle.staat_vec.proofs.ListLaws.{Contains-there}
 
 -- ---- the nodes at each direction
 
@@ -77,14 +78,14 @@ two_parts parts [] are = let two : 2 ≤ length {A = PartSet} [] = are.two in ab
 two_parts parts (s ∷ []) are = let two : 2 ≤ length (s ∷ []) = are.two in absurd (omega (arith, two))
 two_parts parts (s ∷ t ∷ rest) are =
     let nodes : List PartSet = s ∷ t ∷ rest in
-    let s_in : Contains nodes s = here s (t ∷ rest) in
-    let t_in : Contains nodes t = there s t (t ∷ rest) (here t rest) in
+    let s_in : Contains nodes s = Contains-front s (t ∷ rest) in
+    let t_in : Contains nodes t = Contains-there s t (t ∷ rest) (Contains-front t rest) in
     let apart = are.apart in
     let (p, p_in) = node_nonempty parts s (are.each s s_in) in
     let (q, q_in) = node_nonempty parts t (are.each t t_in) in
     let other : IsSubset (union_of nodes) (single p) → ⊥ = λ one.
     let same : q ≡ p = (has-single p q).0 (one q (within_union nodes t t_in q q_in)) in
-    apart.0 t (here t rest) p p_in (subst (Has t) same q_in) in
+    apart.0 t (Contains-front t rest) p p_in (subst (Has t) same q_in) in
     let more : 1 < set.len (union_of nodes) = many (union_of nodes) p (within_union nodes s s_in p p_in) other in
     omega (arith, more)
 

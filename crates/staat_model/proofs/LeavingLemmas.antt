@@ -10,16 +10,17 @@ use Rattle.staat_model.specs.Plans.{IsGood, Plan, leaf, parts_of, split}
 use Rattle.staat_model.specs.Removal.{IsFree, MeetsAlong}
 use Rattle.staat_model.specs.SetLists.{union_of}
 use Rattle.staat_model.specs.Sets.{AreApart, Has}
-use Rattle.staat_model.proofs.Members.{here, there}
 use Rattle.staat_model.proofs.SetMembers.{has-empty, has-union}
 use Rattle.staat_model.proofs.SetWords.{same_members}
+use Rattle.staat_vec.proofs.Unique.{Contains-front}
+use Rattle.staat_vec.proofs.ListLaws.{Contains-there}
 
 -- the set of the list that a member of the union is in
 pub in_one : (sets : List PartSet) (p : ℕ) → Has (union_of sets) p → (t : PartSet) × Contains sets t × Has t p
 in_one [] p h = absurd (has-empty p h)
 in_one (s ∷ rest) p h = ⊎_elim
-    (λ in_s. (s, here s rest, in_s))
-    (λ in_rest. let (t, t_in, has) = in_one rest p in_rest in (t, there s t rest t_in, has))
+    (λ in_s. (s, Contains-front s rest, in_s))
+    (λ in_rest. let (t, t_in, has) = in_one rest p in_rest in (t, Contains-there s t rest t_in, has))
     ((has-union s (union_of rest) p).0 h)
 
 -- ---- each set and all later ones
@@ -62,16 +63,16 @@ leave_in_turn_lemma parts d (s ∷ rest) is =
 -- ---- the plan
 
 -- a plan takes apart the set of its parts, and no other
-all_parts : (parts : List Part) (w : PartSet) (plan : Plan) → IsGood parts w plan → w ≡ parts_of plan
-all_parts parts w (leaf p) good = good
-all_parts parts w (split d moved rest) good = good.0
+pub good_parts : (parts : List Part) (w : PartSet) (plan : Plan) → IsGood parts w plan → w ≡ parts_of plan
+good_parts parts w (leaf p) good = good
+good_parts parts w (split d moved rest) good = good.0
 
 -- two sets with plans of their own, the one free of the other
 split_good : (parts : List Part) (d : V3) (s r : PartSet) (moved rest : Plan) → AreApart s r → IsFree parts s r d
     → IsGood parts s moved → IsGood parts r rest → IsGood parts (set.union s r) (split d moved rest)
 split_good parts d s r moved rest apart free first second =
-    let e = all_parts parts s moved first in
-    let f = all_parts parts r rest second in (
+    let e = good_parts parts s moved first in
+    let f = good_parts parts r rest second in (
       (λ i. set.union (e i) (f i)),
       subst (λ (t : PartSet). AreApart t (parts_of rest)) e (subst (AreApart s) f apart),
       subst (λ (t : PartSet). IsFree parts t (parts_of rest) d) e (subst (λ (t : PartSet). IsFree parts s t d) f free),

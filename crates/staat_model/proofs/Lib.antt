@@ -30,7 +30,6 @@ pub mod Reversed
 pub mod RestrictLemmas
 pub mod GraphLemmas
 pub mod VertexLemmas
-pub mod Parallels
 pub mod CoreLemmas
 pub mod WholeLemmas
 pub mod GroupLemmas
@@ -62,3 +61,6 @@ pub mod Listings
 pub mod SomePlanes
 pub mod SomeVerdict
 pub mod PartCounts
+pub mod ArcOrder
+pub mod WalledNodes
+pub mod MemberLines

@@ -1,11 +1,11 @@
 -- The text of a line: one line feed at its end, fewer than 128 bytes, and no text of two lines.
 use Rattle.std.proofs.Common.{◌≡◌, ◌≢◌, ℕ, zero, suc, ◌+◌, ◌*◌, ◌^◌, ◌<◌, ◌≤◌, Bool, true, false, List, [], ◌∷◌, ◌++◌, map, length, get_or, All, ap, sym, subst, refl, ◌∙◌, arith, ℤ, pos, unsigned_abs, append_assoc, length-append, ◌⊎◌, inl, inr}
-use Rattle.std.specs.Prelude.{codes, if◌then◌else◌, ◌&&◌, nat_lt}
+use Rattle.std.specs.Prelude.{codes, if◌then◌else◌, nat_lt}
 use Rattle.std.specs.List.{list_all}
 use Rattle.std.specs.FinSet as set
 use Rattle.std.specs.Fmt.{signed_decimal}
 use Rattle.std.specs.Str.{bytes_eq}
-use Rattle.std.proofs.lemmas.Bool.{false≢true, ltb-true}
+use Rattle.std.proofs.lemmas.Bool.{ltb-true}
 use Rattle.std.proofs.lemmas.List.Elements.{All-append, All-cons, All-head, All-nil, All-tail, All-weaker}
 use Rattle.staat_vec.specs.declared.vector.V3.{V3}
 use Rattle.staat_vec.specs.declared.vector.TheConstants.{NORMAL, DIRECTION}
@@ -21,6 +21,7 @@ use Rattle.staat_model.proofs.Decimals.{IsSmall, natural_length, signed_length, 
 use Rattle.staat_model.proofs.SetBits.{has-below}
 use Rattle.staat_model.proofs.SetMembers.{has-empty, has-insert}
 use Rattle.staat_model.proofs.SetWords.{same_members}
+use Rattle.staat_vec.proofs.Truth.{and_split}
 
 -- there is one way to cut a word from what follows
 pub one_cut : (xs ys p q : List ℕ) → ArePlain xs → ArePlain ys → IsParted p → IsParted q → xs ++ p ≡ ys ++ q → (xs ≡ ys) × (p ≡ q)
@@ -135,11 +136,7 @@ line_again line.End h = refl
 
 all_plain : (bs : List ℕ) → list_all (λ b. nat_lt 32 b) bs ≡ true → ArePlain bs
 all_plain [] e = All-nil (λ b. 32 < b)
-all_plain (b ∷ bs) e = let t = both (nat_lt 32 b) (list_all (λ c. nat_lt 32 c) bs) e in All-cons (λ c. 32 < c) b bs (ltb-true 32 b t.0) (all_plain bs t.1)
-  where
-    both : (x y : Bool) → (x && y) ≡ true → (x ≡ true) × (y ≡ true)
-    both true y h = (refl, h)
-    both false y h = absurd (false≢true h)
+all_plain (b ∷ bs) e = let t = and_split (nat_lt 32 b) (list_all (λ c. nat_lt 32 c) bs) e in All-cons (λ c. 32 < c) b bs (ltb-true 32 b t.0) (all_plain bs t.1)
 
 pub word_plain : (l : Line) → ArePlain (word_of l)
 word_plain (line.Head version) = all_plain (codes "STAAT") refl
@@ -252,7 +249,7 @@ line_whole l h = record { front = line_front l; is = line_is l; no_feed = line_n
 
 -- ---- lengths
 
-bare_more : (z : ℤ) (zs : List ℤ) (m n : ℕ) → length (signed_decimal z) ≤ m → length (bare zs) ≤ n → length (bare (z ∷ zs)) ≤ m + n + 1
+pub bare_more : (z : ℤ) (zs : List ℤ) (m n : ℕ) → length (signed_decimal z) ≤ m → length (bare zs) ≤ n → length (bare (z ∷ zs)) ≤ m + n + 1
 bare_more z zs m n h k = omega (arith, length-append (signed_decimal z) (bare zs))
 
 arc_length : (arc : Arc) (zs : List ℤ) (n : ℕ) → IsArcInBounds arc → length (bare zs) ≤ n → length (bare (pos arc.a ∷ pos arc.i ∷ pos arc.b ∷ pos arc.j ∷ zs)) ≤ 12 + n

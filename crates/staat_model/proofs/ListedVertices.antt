@@ -15,7 +15,7 @@ use Rattle.staat_model.proofs.PlaneLemmas.{NoneParallel}
 use Rattle.staat_model.proofs.VertexLemmas.{in_vertices, same_some}
 
 -- a vertex is not the origin, and its opposite is a vertex
-vertex_some : (planes : List V3) (v : V3) → NoneParallel planes → Contains (vertices planes) v → v ≢ origin
+pub vertex_some : (planes : List V3) (v : V3) → NoneParallel planes → Contains (vertices planes) v → v ≢ origin
 vertex_some planes v apart c =
     let f = from_vertices planes v apart c in
     let ray = primitive-is (cross f.g f.h) f.independent in

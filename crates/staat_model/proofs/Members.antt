@@ -1,12 +1,6 @@
 -- Members of lists, and what holds of all of them.
-use Rattle.std.proofs.Common.{suc, refl, arith, List, [], ◌∷◌, ◌++◌, All, Contains}
+use Rattle.std.proofs.Common.{List, [], ◌∷◌, ◌++◌, All, Contains}
 use Rattle.std.proofs.lemmas.List.Elements.{All-weaker, All-contains_itself, All-cons, All-head, All-nil, All-tail}
-
-pub here : {X : Type 0} (x : X) (xs : List X) → Contains (x ∷ xs) x
-here x xs = (0, omega arith, refl)
-
-pub there : {X : Type 0} (y x : X) (xs : List X) → Contains xs x → Contains (y ∷ xs) x
-there y x xs (k, h, e) = (suc k, omega arith, e)
 
 pub both : {X : Type 0} (P Q R : X → Type 0) → ((x : X) → P x → Q x → R x) → (xs : List X) → All P xs → All Q xs → All R xs
 both P Q R f xs h g k d l = f _ (h k d l) (g k d l)

@@ -1,5 +1,5 @@
 -- An outcome has one certificate.
-use Rattle.std.proofs.Common.{◌≡◌, ℕ, zero, suc, ◌≤◌, List, [], ◌∷◌, map, length, All, arith, ap, sym, ◌∙◌, subst, refl}
+use Rattle.std.proofs.Common.{◌≡◌, ℕ, ◌≤◌, List, [], ◌∷◌, map, length, All, arith, ap, sym, ◌∙◌, subst, refl}
 use Rattle.std.proofs.lemmas.List.{length-map}
 use Rattle.std.specs.Prelude.{Some, slice_get}
 use Rattle.std.proofs.lemmas.List.Elements.{All-contains, All-head, All-tail}
@@ -29,8 +29,9 @@ use Rattle.staat_model.proofs.FirstUse.{StandForSame, same_numbers, same_values}
 use Rattle.staat_model.proofs.OneTable.{ArePlanes-unique}
 use Rattle.staat_vec.proofs.VectorOrder.{vector_exact, vector_total}
 use Rattle.staat_model.proofs.Orders.{arc_exact, arc_total}
-use Rattle.staat_model.proofs.Places.{Contains-from_place, one_at_place}
-use Rattle.staat_vec.proofs.Unique.{IsLeast-unique, Lists-unique}
+use Rattle.staat_model.proofs.Places.{one_at_place}
+use Rattle.staat_vec.proofs.Unique.{IsLeast-unique, Lists-unique, from_place}
+use Rattle.staat_vec.proofs.ListLaws.{place_in_map, map_at_place}
 
 -- ---- plans
 
@@ -131,16 +132,6 @@ witness_unique parts w d x y a b =
     let ins : x.ins ≡ y.ins = ins_unique parts d x.ins y.ins (tree_unique (λ p q. Blocks parts d q p) w (single b.root) (map inward x.ins) (map inward y.ins) (subst (λ (r : ℕ). IsTree (λ p q. Blocks parts d q p) w (single r) (map inward x.ins)) roots a.ins) b.ins) a.ins_least b.ins_least in
     λ i. record { outs = outs i; ins = ins i }
 
-place_in_map : {X Y : Type 0} (f : X → Y) (xs : List X) (k : ℕ) (y : Y) → slice_get (map f xs) k ≡ Some y → (x : X) × (slice_get xs k ≡ Some x) × (f x ≡ y)
-place_in_map f [] k y e = cc
-place_in_map f (x ∷ xs) zero y e = let same : f x ≡ y = cc in (x, refl, same)
-place_in_map f (x ∷ xs) (suc k) y e = place_in_map f xs k y e
-
-map_at_place : {X Y : Type 0} (f : X → Y) (xs : List X) (k : ℕ) (x : X) → slice_get xs k ≡ Some x → slice_get (map f xs) k ≡ Some (f x)
-map_at_place f [] k x e = cc
-map_at_place f (y ∷ xs) zero x e = let same : y ≡ x = cc in ap (λ z. Some (f z)) same
-map_at_place f (y ∷ xs) (suc k) x e = map_at_place f xs k x e
-
 dirs_same : (xs ys : List Dir) → map (λ dir. dir.d) xs ≡ map (λ dir. dir.d) ys → map (λ dir. dir.witness) xs ≡ map (λ dir. dir.witness) ys → xs ≡ ys
 dirs_same [] [] e f = refl
 dirs_same [] (y ∷ ys) e f = absurd cc
@@ -161,8 +152,8 @@ refusal_unique parts version w ws xs ds es a b =
     let same : StandForSame (map (λ dir. dir.witness) ds) (map (λ dir. dir.witness) es) ws xs = λ i k m at_k at_m.
     let x = place_in_map (λ (dir : Dir). dir.witness) ds i k at_k in
     let y = place_in_map (λ (dir : Dir). dir.witness) es i m at_m in
-    let n = All-contains (NamesWitness parts w ws) ds x.0 a.each (Contains-from_place ds i x.0 x.1) in
-    let o = All-contains (NamesWitness parts w xs) es y.0 b.each (Contains-from_place es i y.0 y.1) in
+    let n = All-contains (NamesWitness parts w ws) ds x.0 a.each (from_place ds i x.0 x.1) in
+    let o = All-contains (NamesWitness parts w xs) es y.0 b.each (from_place es i y.0 y.1) in
     let along : x.0.d ≡ y.0.d = one_at_place (map (λ dir. dir.d) es) i x.0.d y.0.d (ap (λ l. slice_get l i) (sym directions) ∙ map_at_place (λ (dir : Dir). dir.d) ds i x.0 x.1) (map_at_place (λ (dir : Dir). dir.d) es i y.0 y.1) in
     let one : n.witness ≡ o.witness = witness_unique parts w y.0.d n.witness o.witness (subst (λ (d : V3). IsWitnessAt parts w d n.witness) along n.is) o.is in
     (n.witness, subst (λ (j : ℕ). slice_get ws j ≡ Some n.witness) x.2 n.witness_is, subst (λ (j : ℕ). slice_get xs j ≡ Some n.witness) y.2 (o.witness_is ∙ ap Some (sym one))) in (

@@ -16,6 +16,12 @@ use Rattle.staat_model.proofs.SetMembers.{has-single}
 use Rattle.staat_model.proofs.SetSizes.{len-single}
 use Rattle.staat_vec.proofs.Unique.{IsFirst-unique, IsFirst-in}
 
+pub not_single : (w : PartSet) (p : ℕ) → w ≡ single p → 2 ≤ set.len w → ⊥
+not_single w p is two = let one : set.len w ≡ 1 = ap set.len is ∙ len-single p in absurd (omega arith)
+
+pub one_alone : (p q : ℕ) → single p ≡ single q → p ≡ q
+one_alone p q e = sym ((has-single p q).0 (subst (λ (u : PartSet). Has u q) (sym e) ((has-single q q).1 refl)))
+
 module _ (robust : Bool) (parts : List Part) where
   step_unique : (w s t : PartSet) (x y : Try) → IsStep robust parts w x s → IsStep robust parts w y t → (x ≡ y) × (s ≡ t)
   step_unique w s t x y a b =
@@ -28,12 +34,6 @@ module _ (robust : Bool) (parts : List Part) where
       let lists : a.tries ≡ b.tries = tries_unique robust parts w a.tries b.tries a.tries_are b.tries_are in
       let found : Contains b.tries x × Serves parts w x.d = IsFirst-in (λ u. Serves parts w u.d) b.tries x b.first in
       All-contains (λ u. Serves parts w u.d → ⊥) a.tries x a.none (subst (λ us. Contains us x) (sym lists) found.0) found.1
-
-  not_single : (w : PartSet) (p : ℕ) → w ≡ single p → 2 ≤ set.len w → ⊥
-  not_single w p is two = let one : set.len w ≡ 1 = ap set.len is ∙ len-single p in absurd (omega arith)
-
-  one_alone : (p q : ℕ) → single p ≡ single q → p ≡ q
-  one_alone p q e = sym ((has-single p q).0 (subst (λ (u : PartSet). Has u q) (sym e) ((has-single q q).1 refl)))
 
   along : {s t : PartSet} (f : Finding) → s ≡ t → IsOutcome robust parts t f → IsOutcome robust parts s f
   along f e = subst (λ u. IsOutcome robust parts u f) (sym e)

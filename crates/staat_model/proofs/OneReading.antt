@@ -9,6 +9,7 @@ use Rattle.staat_model.specs.Lines.{IsInBounds, line_text}
 use Rattle.staat_model.specs.Texts.{lines_of, text_of, IsTextOf, IsWellFormed, BeginsText, HasNoFeed, IsLine, joined, IsBadAfter, IsFirstBadLine, Reading, whole, bad_line, too_short, IsReading}
 use Rattle.staat_model.proofs.CertificateLines.{lines_end, one_by_lines}
 use Rattle.staat_model.proofs.LineTexts.{line_front, line_is, line_length, line_whole, one_line}
+use Rattle.staat_vec.proofs.ListLaws.{long_not_nil}
 
 abbrev pub text : List Line → List ℕ
 text ls = flat_map line_text ls
@@ -201,11 +202,7 @@ one_bad_line bytes j k x y =
 -- nothing follows: no line is bad
 nothing_bad : (c : Certificate) (ahead : List ℕ) → ahead ≡ [] → IsBadAfter (text_of c) ahead → ⊥
 nothing_bad c ahead e (inl w) = line_some w.line w.rest w.whole (sym w.is ∙ e)
-nothing_bad c ahead e (inr (inl long)) = too_long long.line long.rest long.long (sym long.is ∙ e)
-  where
-    too_long : (line rest : List ℕ) → length line ≡ 128 → line ++ rest ≡ [] → ⊥
-    too_long [] rest n q = absurd (omega arith)
-    too_long (b ∷ line) rest n q = cc
+nothing_bad c ahead e (inr (inl long)) = long_not_nil long.line long.rest long.long (sym long.is ∙ e)
 nothing_bad c ahead e (inr (inr more)) = more.some e
 
 pub no_bad_line_in_text : (bytes : List ℕ) (c : Certificate) (k : ℕ) → IsTextOf bytes c → IsFirstBadLine bytes k → ⊥

@@ -1,5 +1,5 @@
 -- A certificate has one reason at most, and none where it is valid.
-use Rattle.std.proofs.Common.{◌≡◌, ◌⊎◌, ℕ, ◌+◌, ◌<◌, List, [], ◌∷◌, ◌++◌, length, map, All, Contains, arith, ap, sym, ◌∙◌, refl, subst, inl, inr, append_assoc, append-nil}
+use Rattle.std.proofs.Common.{◌≡◌, ℕ, ◌+◌, ◌<◌, List, [], ◌∷◌, ◌++◌, length, map, All, Contains, arith, ap, sym, ◌∙◌, refl, subst, inl, inr, append_assoc, append-nil}
 use Rattle.std.specs.Prelude.{Some, slice_get, sum_by}
 use Rattle.std.proofs.lemmas.List.Elements.{All-contains}
 use Rattle.std.specs.Cmp.{nat_cmp_total}
@@ -11,7 +11,6 @@ use Rattle.staat_model.specs.declared.set.PartSet.{PartSet}
 use Rattle.staat_model.specs.declared.certificate.Arc.{Arc}
 use Rattle.staat_model.specs.declared.certificate.Dir.{Dir}
 use Rattle.staat_model.specs.declared.certificate.Node.{Node}
-use Rattle.staat_model.specs.declared.certificate.Node.TheVariants.{Leaf}
 use Rattle.staat_model.specs.declared.certificate.Witness.{Witness}
 use Rattle.staat_model.specs.declared.certificate.Body.{Body}
 use Rattle.staat_model.specs.declared.certificate.Body.TheVariants as body
@@ -20,7 +19,7 @@ use Rattle.staat_model.specs.declared.verdict.Verdict.{Verdict}
 use Rattle.staat_model.specs.declared.verdict.Verdict.TheVariants.{ValidPlan, ValidRefusal, Not}
 use Rattle.staat_model.specs.declared.verdict.Reason.{Reason}
 use Rattle.staat_model.specs.declared.verdict.Reason.TheVariants.{BadLeaves, BadSeparator, MissingSeparator, BadArc, BadTree, MissingDirection}
-use Rattle.staat_model.specs.Certificates.{WalledPlan, walled_leaf, walled_split, nodes_of, arc_cmp, IsAcross, IsWall, SplitsHold, IsLeafAt, AreAllLeaves, PlanHolds, IsStuckSet, IsWitness, IsBlocked, IsListed, RefusalHolds, IsValidPlan, IsValidRefusal}
+use Rattle.staat_model.specs.Certificates.{WalledPlan, walled_leaf, walled_split, nodes_of, arc_cmp, IsAcross, IsWall, SplitsHold, AreAllLeaves, PlanHolds, IsStuckSet, IsWitness, IsBlocked, IsListed, RefusalHolds, IsValidPlan, IsValidRefusal}
 use Rattle.staat_model.specs.Certificates as certificates
 use Rattle.staat_vec.specs.Lists.{FailsFirst, IsFirst}
 use Rattle.staat_model.specs.Planes.{vertices}
@@ -28,24 +27,20 @@ use Rattle.staat_model.specs.Reasons.{IsBadLeaf, HasMissingLeaf, IsLeafFault, ba
 use Rattle.staat_model.specs.Reasons as reasons
 use Rattle.staat_model.proofs.OneTable.{ArePlanes-unique}
 use Rattle.staat_model.proofs.Orders.{arc_total, arc_exact}
-use Rattle.staat_model.proofs.Places.{Contains-from_place, one_at_place}
+use Rattle.staat_model.proofs.Places.{one_at_place}
 use Rattle.staat_model.proofs.SetBits.{has-below}
 use Rattle.staat_model.proofs.SplitLists.{entries_hold, fails_behind}
 use Rattle.staat_vec.proofs.Unique.{IsFirst-unique, IsFirst-in, IsLeast-unique}
-
-order : (j k : ℕ) → (j < k) ⊎ ((j ≡ k) ⊎ (k < j))
-order j k = grind arith
+use Rattle.staat_vec.proofs.Naturals.{trichotomy}
+use Rattle.staat_vec.proofs.ListLaws.{FailsFirst-some}
 
 -- ---- the first that fails
 
 pub FailsFirst-unique : {X : Type 0} (P : X → Type 0) (xs : List X) (j k : ℕ) → FailsFirst P xs j → FailsFirst P xs k → j ≡ k
-FailsFirst-unique P xs j k a b = elim (order j k) [
+FailsFirst-unique P xs j k a b = elim (trichotomy j k) [
   | inl lt ↦ absurd (a.fails (b.before j a.x lt a.at))
   | inr other ↦ elim other [ inl e ↦ e | inr lt ↦ absurd (b.fails (a.before k b.x lt b.at)) ]
 ]
-
-pub FailsFirst-some : {X : Type 0} (P : X → Type 0) (xs : List X) (k : ℕ) → FailsFirst P xs k → All P xs → ⊥
-FailsFirst-some P xs k a all = a.fails (All-contains P xs a.x all (Contains-from_place xs k a.x a.at))
 
 -- ---- the tree of nodes in preorder is one alone
 
@@ -68,9 +63,6 @@ pub one_tree : (t u : WalledPlan) → nodes_of t ≡ nodes_of u → t ≡ u
 one_tree t u e = (nodes_cancel t u [] [] (append-nil (nodes_of t) ∙ e ∙ sym (append-nil (nodes_of u)))).0
 
 -- ---- leaves
-
-leaf_here : (nodes : List Node) (k p q : ℕ) → IsLeafAt nodes k p → IsLeafAt nodes k q → p ≡ q
-leaf_here nodes k p q a b = let e : Some (Leaf p) ≡ Some (Leaf q) = sym a ∙ b in cc
 
 no_bad_leaf : (n : ℕ) (nodes : List Node) (k : ℕ) → AreAllLeaves n nodes → IsBadLeaf n nodes k → ⊥
 no_bad_leaf n nodes k all bad = elim bad.bad [

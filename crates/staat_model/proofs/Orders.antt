@@ -4,26 +4,21 @@ use Rattle.std.specs.Cmp.{IsTotalOrder, nat_cmp_total}
 use Rattle.std.proofs.lemmas.Cmp.{lists_total, on_total, then_total}
 use Rattle.std.specs.FinMap.{IsAntisymmetric, nat_cmp-IsAntisymmetric, slice_cmp-IsAntisymmetric}
 use Rattle.std.specs.Ordering.{nat_cmp, ordering_then}
-use Rattle.std.specs.declared.cmp.Ordering.{Ordering}
-use Rattle.std.specs.declared.cmp.Ordering.TheVariants.{Less, Equal, Greater}
+use Rattle.std.specs.declared.cmp.Ordering.TheVariants.{Equal}
 use Rattle.staat_vec.specs.declared.vector.Sign.{Sign}
 use Rattle.staat_vec.specs.declared.vector.Sign.TheVariants.{Neg, Zero, Pos}
 use Rattle.staat_model.specs.Certificates.{arc_cmp}
 use Rattle.staat_model.specs.Cells.{sign_place, signs_cmp}
-
-both_equal : (r s : Ordering) → ordering_then r s ≡ Equal → (r ≡ Equal) × (s ≡ Equal)
-both_equal Less s e = absurd cc
-both_equal Equal s e = (refl, e)
-both_equal Greater s e = absurd cc
+use Rattle.staat_vec.proofs.Comparisons.{then_both_equal}
 
 pub arc_total : IsTotalOrder arc_cmp
 arc_total = then_total (on_total (λ p. p.a) nat_cmp_total) (then_total (on_total (λ p. p.i) nat_cmp_total) (then_total (on_total (λ p. p.b) nat_cmp_total) (on_total (λ p. p.j) nat_cmp_total)))
 
 pub arc_exact : IsAntisymmetric arc_cmp
 arc_exact p q e =
-    let a : (nat_cmp p.a q.a ≡ Equal) × (ordering_then (nat_cmp p.i q.i) (ordering_then (nat_cmp p.b q.b) (nat_cmp p.j q.j)) ≡ Equal) = both_equal _ _ e in
-    let i : (nat_cmp p.i q.i ≡ Equal) × (ordering_then (nat_cmp p.b q.b) (nat_cmp p.j q.j) ≡ Equal) = both_equal _ _ a.1 in
-    let b : (nat_cmp p.b q.b ≡ Equal) × (nat_cmp p.j q.j ≡ Equal) = both_equal _ _ i.1 in
+    let a : (nat_cmp p.a q.a ≡ Equal) × (ordering_then (nat_cmp p.i q.i) (ordering_then (nat_cmp p.b q.b) (nat_cmp p.j q.j)) ≡ Equal) = then_both_equal _ _ e in
+    let i : (nat_cmp p.i q.i ≡ Equal) × (ordering_then (nat_cmp p.b q.b) (nat_cmp p.j q.j) ≡ Equal) = then_both_equal _ _ a.1 in
+    let b : (nat_cmp p.b q.b ≡ Equal) × (nat_cmp p.j q.j ≡ Equal) = then_both_equal _ _ i.1 in
     λ t. record {
       a = nat_cmp-IsAntisymmetric p.a q.a a.0 t;
       i = nat_cmp-IsAntisymmetric p.i q.i i.0 t;

@@ -1,5 +1,5 @@
 -- The rest of a set, seen as the side that moves the other way.
-use Rattle.std.proofs.Common.{List, ap, sym, ◌∙◌, inl, inr, subst}
+use Rattle.std.proofs.Common.{List, ap, sym, ◌∙◌, inl, inr, subst, ⊎_elim, ℕ}
 use Rattle.std.specs.FinSet as set
 use Rattle.staat_vec.specs.declared.vector.V3.{V3}
 use Rattle.staat_vec.specs.Vectors.{negative}
@@ -7,24 +7,25 @@ use Rattle.staat_vec.proofs.Canons.{negative-negative}
 use Rattle.staat_model.specs.declared.assembly.Part.{Part}
 use Rattle.staat_model.specs.declared.set.PartSet.{PartSet}
 use Rattle.staat_model.specs.Removal.{IsFree}
-use Rattle.staat_model.specs.Sets.{Has, IsSide, IsSubset}
+use Rattle.staat_model.specs.Sets.{Has, IsSide, IsSubset, IsNonempty}
 use Rattle.staat_model.proofs.Reversed.{meets_opposite_lemma}
-use Rattle.staat_model.proofs.RestrictLemmas.{member_or_not, nonempty_or, rest_within}
+use Rattle.staat_model.proofs.RestrictLemmas.{nonempty_or, rest_within}
 use Rattle.staat_model.proofs.SetMembers.{has-difference}
 use Rattle.staat_model.proofs.SetWords.{same_members}
+use Rattle.staat_model.proofs.FreeSides.{member_or}
 
 -- what a set has outside of the rest of a side is the side's
 within_again : (w s : PartSet) → IsSubset (set.difference w (set.difference w s)) s
 within_again w s p h =
     let (in_w, out) = (has-difference w (set.difference w s) p).0 h in
-    elim (member_or_not s p) [ inl has ↦ has | inr not ↦ absurd (out ((has-difference w s p).1 (in_w, not))) ]
+    elim (member_or s p) [ inl has ↦ has | inr not ↦ absurd (out ((has-difference w s p).1 (in_w, not))) ]
 
 -- the rest of a side is a side
 pub other_side : (w s : PartSet) → IsSide w s → IsSide w (set.difference w s)
 other_side w s side = record {
   nonempty = elim (nonempty_or (set.difference w s)) [
     | inl one ↦ one
-    | inr none ↦ absurd (side.proper (same_members s w side.within (λ p h. elim (member_or_not s p) [ inl has ↦ has | inr not ↦ absurd (none p ((has-difference w s p).1 (h, not))) ])))
+    | inr none ↦ absurd (side.proper (same_members s w side.within (λ p h. elim (member_or s p) [ inl has ↦ has | inr not ↦ absurd (none p ((has-difference w s p).1 (h, not))) ])))
   ];
   within = rest_within w s;
   proper = λ same. let some = side.nonempty in ((has-difference w s some.0).0 (subst (λ (u : PartSet). Has u some.0) (sym same) (side.within some.0 some.1))).1 some.1;
@@ -37,3 +38,14 @@ other_free parts w s d within free = record {
   clear = λ arc a_in b_in m. free.clear (record { a = arc.b; i = arc.j; b = arc.a; j = arc.i }) (within_again w s arc.b b_in) a_in
       (record { p = m.q; q = m.p; p_is = m.q_is; q_is = m.p_is; holds = (meets_opposite_lemma m.p m.q d).0 m.holds });
 }
+
+pub rest_some : (w s : PartSet) → IsSide w s → IsNonempty (set.difference w s)
+rest_some w s side = ⊎_elim (λ some. some)
+    (λ none. absurd (side.proper (same_members s w side.within (λ q h. ⊎_elim (λ m. m) (λ out. absurd (none q ((has-difference w s q).1 (h, out)))) (member_or s q)))))
+    (nonempty_or (set.difference w s))
+
+-- a member of w that is not in the rest without s is in s
+pub back_in : (w s : PartSet) (q : ℕ) → Has (set.difference w (set.difference w s)) q → Has s q
+back_in w s q h =
+    let t = (has-difference w (set.difference w s) q).0 h in
+    ⊎_elim (λ m. m) (λ out. absurd (t.1 ((has-difference w s q).1 (t.0, out)))) (member_or s q)

@@ -1,11 +1,10 @@
 -- From the laws on lists of vectors to those on pieces, whose differences they are.
-use Rattle.std.proofs.Common.{◌≡◌, ◌↔◌, ◌≤◌, ℕ, refl, sym, ap, subst, ◌∙◌, arith, ℤ, pos, ◌≤ℤ◌, ◌<ℤ◌, List, [], ◌∷◌, All, Contains, length}
-use Rattle.std.proofs.lemmas.Int.{ints}
+use Rattle.std.proofs.Common.{◌≡◌, ◌↔◌, ◌≤◌, ℕ, refl, sym, ap, subst, ◌∙◌, arith, pos, ◌≤ℤ◌, ◌<ℤ◌, List, [], ◌∷◌, All, Contains, length}
 use Rattle.std.proofs.lemmas.List.Elements.{All-contains}
 use Rattle.staat_vec.specs.declared.vector.V3.{V3}
 use Rattle.staat_vec.specs.Vectors.{dot, minus, plus, times, origin}
-use Rattle.staat_vec.proofs.Ring.{at, num, ring}
-use Rattle.staat_vec.proofs.VecRing.{dotE, originE, timesE, values, v0, dot_comm, ring3}
+use Rattle.staat_vec.proofs.Ring.{at, num}
+use Rattle.staat_vec.proofs.VecRing.{originE, timesE, dot_comm, ring3}
 use Rattle.staat_model.specs.Pieces.{IsPiece}
 use Rattle.staat_model.specs.Meeting.{Meets, Overlap, mix}
 use Rattle.staat_model.specs.Walls.{IsBeyond}
@@ -15,6 +14,9 @@ use Rattle.staat_model.proofs.Members.{All-from_members}
 use Rattle.staat_model.proofs.Differences.{in_differences, from_differences, differences_span_lemma}
 use Rattle.staat_model.proofs.FacetLemmas.{facet_crosses_lemma, reached_by_facets_lemma}
 use Rattle.staat_model.proofs.WeightLemmas.{reached_from_meets, meets_from_reached}
+use Rattle.staat_vec.proofs.VectorLists.{some_member}
+use Rattle.staat_vec.proofs.VectorLaws.{dot_origin}
+use Rattle.staat_vec.proofs.Integers.{zero_not_positive}
 
 -- vs lists the differences of the two lists of points, in any order and any number of times
 pub record AreDifferences (p q vs : List V3) : Type 0 where
@@ -56,15 +58,11 @@ from_cone_facet p q vs n are f =
       touches = record { u = t.u; v = t.v; u_is = are.each t.u t.u_in; v_is = are.each t.v t.v_in; u_on = dot_comm n t.u ∙ t.u_on; v_on = dot_comm n t.v ∙ t.v_on; independent = t.independent };
     }
 
-some_first : (xs : List V3) → 1 ≤ length xs → (x : V3) × Contains xs x
-some_first [] h = absurd (omega arith)
-some_first (x ∷ xs) h = (x, (0, omega arith, refl))
-
 pub piece_some : (p : List V3) → IsPiece p → 1 ≤ length p
 piece_some p is = let four = is.at_least in omega (arith, four)
 
 pub pieces_span : (p q : List V3) → IsPiece p → IsPiece q → IsSpanning (differences p q)
-pieces_span p q is_p is_q = let (b, b_in) = some_first q (piece_some q is_q) in differences_span_lemma p q b is_p.solid b_in
+pieces_span p q is_p is_q = let (b, b_in) = some_member q (piece_some q is_q) in differences_span_lemma p q b is_p.solid b_in
 
 pub meets_by_facets_lemma : (p q : List V3) (d : V3) → IsPiece p → IsPiece q → Meets p q d ↔ ((n : V3) → IsFacet p q n → pos 0 <ℤ dot n d)
 meets_by_facets_lemma p q d is_p is_q =
@@ -80,21 +78,15 @@ meets_by_facets_lemma p q d is_p is_q =
 at_rest : (t : ℕ) → times t origin ≡ times 0 origin
 at_rest t = ring3 (pos t ∷ []) (timesE (at 0) originE) (timesE (num (pos 0)) originE) (tt, tt, tt)
 
-dot_rest : (n : V3) → dot n origin ≡ pos 0
-dot_rest n = ring (values (n ∷ []) []) (dotE v0 originE) (num (pos 0)) tt
-
 overlap_from_meets : (p q : List V3) → Meets p q origin → Overlap p q
 overlap_from_meets p q m =
     let r = m.meeting in
     record { a = r.a; b = r.b; a_weights = r.a_weights; b_weights = r.b_weights; same_sum = r.same_sum; same_place = ap (plus (mix r.a p)) (sym (at_rest m.t)) ∙ r.same_place }
 
-still : (a : ℤ) → a ≡ pos 0 → pos 0 <ℤ a → ⊥
-still a e h = omega (arith, ints)
-
 pub overlap_by_facets_lemma : (p q : List V3) → IsPiece p → IsPiece q → Overlap p q ↔ ((n : V3) → IsFacet p q n → ⊥)
 overlap_by_facets_lemma p q is_p is_q =
     let law = meets_by_facets_lemma p q origin is_p is_q in (
-      (λ o n f. still (dot n origin) (dot_rest n) (law.0 (record { t = 0; meeting = o }) n f)),
+      (λ o n f. zero_not_positive (dot n origin) (dot_origin n) (law.0 (record { t = 0; meeting = o }) n f)),
       λ none. overlap_from_meets p q (law.1 (λ n f. absurd (none n f))),
     )
 

@@ -1,25 +1,16 @@
 -- The element at a place of a list.
-use Rattle.std.proofs.Common.{◌≡◌, ℕ, zero, suc, ◌<◌, List, [], ◌∷◌, length, Contains, arith, refl, sym, ◌∙◌}
+use Rattle.std.proofs.Common.{◌≡◌, ℕ, zero, suc, ◌<◌, List, [], ◌∷◌, length, arith, refl, sym, ◌∙◌}
 use Rattle.std.specs.Prelude.{Some, slice_get}
-use Rattle.std.proofs.lemmas.Option.{get_or_from_slice_get, slice_get-get_or}
+use Rattle.staat_vec.proofs.Options.{some_injective}
 
 pub place_within : {X : Type 0} (xs : List X) (k : ℕ) (x : X) → slice_get xs k ≡ Some x → k < length xs
 place_within [] k x e = cc
 place_within (y ∷ xs) zero x e = omega arith
 place_within (y ∷ xs) (suc k) x e = let lt : k < length xs = place_within xs k x e in omega arith
 
-pub Contains-from_place : {X : Type 0} (xs : List X) (k : ℕ) (x : X) → slice_get xs k ≡ Some x → Contains xs x
-Contains-from_place xs k x e = (k, place_within xs k x e, get_or_from_slice_get xs k x x e)
-
-pub place_from_Contains : {X : Type 0} (xs : List X) (x : X) → Contains xs x → (k : ℕ) × (slice_get xs k ≡ Some x)
-place_from_Contains xs x (k, lt, e) = (k, slice_get-get_or xs k x lt ∙ (λ i. Some (e i)))
-
-pub same_some : {X : Type 0} (x y : X) → Some x ≡ Some y → x ≡ y
-same_some x y e = cc
-
 -- two elements at one place are one
 pub one_at_place : {X : Type 0} (xs : List X) (k : ℕ) (x y : X) → slice_get xs k ≡ Some x → slice_get xs k ≡ Some y → x ≡ y
-one_at_place xs k x y a b = same_some x y (sym a ∙ b)
+one_at_place xs k x y a b = some_injective x y (sym a ∙ b)
 
 -- lists are equal where they have the same elements at the same places
 pub same_places : {X : Type 0} (xs ys : List X) → ((k : ℕ) (x : X) → slice_get xs k ≡ Some x → slice_get ys k ≡ Some x) → ((k : ℕ) (x : X) → slice_get ys k ≡ Some x → slice_get xs k ≡ Some x) → xs ≡ ys
@@ -28,7 +19,7 @@ same_places [] (y ∷ ys) f g = let wrong = g 0 y refl in cc
 same_places (x ∷ xs) [] f g = let wrong = f 0 x refl in cc
 same_places (x ∷ xs) (y ∷ ys) f g =
     let rest : xs ≡ ys = same_places xs ys (λ k z e. f (suc k) z e) (λ k z e. g (suc k) z e) in
-    let front : y ≡ x = same_some y x (f 0 x refl) in
+    let front : y ≡ x = some_injective y x (f 0 x refl) in
     λ i. sym front i ∷ rest i
 
 -- an element stands at each place below the length

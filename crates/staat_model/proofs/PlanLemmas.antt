@@ -1,6 +1,6 @@
 -- A plan that keeps its rules is right: it takes all parts apart, and no interiors ever meet.
 use Rattle.std.proofs.Common.{◌≡◌, ℕ, zero, suc, ◌<◌, refl, sym, ap, subst, ◌∙◌, arith, ◌⊎◌, inl, inr, ⊎_elim, List, [], ◌∷◌, ◌++◌, length}
-use Rattle.std.specs.Prelude.{Some, slice_get, option_map, unwrap_or}
+use Rattle.std.specs.Prelude.{Some, slice_get, option_map, unwrap_or, option_and_then}
 use Rattle.std.proofs.lemmas.Option.{option_and_then_some, same_Some, slice_get_within}
 use Rattle.std.proofs.lemmas.List.Elements.{All-contains}
 use Rattle.staat_vec.specs.declared.vector.V3.{V3}
@@ -21,6 +21,9 @@ use Rattle.staat_model.proofs.SetMembers.{has-single, has-union}
 use Rattle.staat_model.proofs.SetWords.{same_members}
 use Rattle.staat_model.proofs.GraphLemmas.{piece_is}
 use Rattle.staat_model.proofs.WallLaws.{wall_keeps_apart}
+use Rattle.staat_vec.proofs.Naturals.{suc_same}
+use Rattle.staat_vec.proofs.ListLaws.{get_front}
+use Rattle.std.proofs.Common.{None, Option}
 
 -- ---- places in a list that is put together
 
@@ -33,11 +36,6 @@ after_same : {X : Type 0} (xs : List X) (k m : ℕ) → after xs k ≡ after xs 
 unfolding after
 after_same [] k m e = e
 after_same (x ∷ xs) k m e = after_same xs k m (omega (arith, e))
-
-get_left : {X : Type 0} (xs ys : List X) (k : ℕ) (x : X) → slice_get xs k ≡ Some x → slice_get (xs ++ ys) k ≡ Some x
-get_left [] ys k x e = cc
-get_left (y ∷ xs) ys zero x e = e
-get_left (y ∷ xs) ys (suc k) x e = get_left xs ys k x e
 
 get_right : {X : Type 0} (xs ys : List X) (k : ℕ) (x : X) → slice_get ys k ≡ Some x → slice_get (xs ++ ys) (after xs k) ≡ Some x
 unfolding after
@@ -81,14 +79,14 @@ pub has_leaf : (t : WalledPlan) (p : ℕ) → Has (walled_parts t) p → (k : �
 has_leaf (walled_leaf q) p h = (0, ap (λ n. Some (Leaf n)) (sym ((has-single q p).0 h)))
 has_leaf (walled_split d seps moved rest) p h =
     ⊎_elim
-    (λ m. let (k, e) = has_leaf moved p m in (suc k, get_left (nodes_of moved) (nodes_of rest) k (Leaf p) e))
+    (λ m. let (k, e) = has_leaf moved p m in (suc k, get_front (nodes_of moved) (nodes_of rest) k (Leaf p) e))
     (λ r. let (k, e) = has_leaf rest p r in (suc (after (nodes_of moved) k), get_right (nodes_of moved) (nodes_of rest) k (Leaf p) e))
     ((has-union (walled_parts moved) (walled_parts rest) p).0 h)
 
 -- ---- a split
 
-pub there_is : (parts : List Part) (a i : ℕ) (p : List V3) → piece_at parts a i ≡ Some p → i < piece_count parts a
-there_is parts a i p e =
+pub piece_within : (parts : List Part) (a i : ℕ) (p : List V3) → piece_at parts a i ≡ Some p → i < piece_count parts a
+piece_within parts a i p e =
     option_and_then_some {P = i < piece_count parts a} (λ part. slice_get part.pieces i) (slice_get parts a) p e
     (λ part at inside. subst (λ o. i < unwrap_or (option_map (λ part. length part.pieces) o) 0) (sym at) (slice_get_within part.pieces i p inside))
 
@@ -97,7 +95,7 @@ split_free parts s r d seps is split = record {
   moves = split.moves;
   clear = λ arc a_in b_in m.
       let listed = split.arcs in
-      let across : IsAcross parts s r arc = record { a_in = a_in; b_in = b_in; i_in = there_is parts arc.a arc.i m.p m.p_is; j_in = there_is parts arc.b arc.j m.q m.q_is } in
+      let across : IsAcross parts s r arc = record { a_in = a_in; b_in = b_in; i_in = piece_within parts arc.a arc.i m.p m.p_is; j_in = piece_within parts arc.b arc.j m.q m.q_is } in
       let (sep, in_seps, same) = from_map (λ sep. sep.arc) seps arc (listed.all arc across) in
       let wall = All-contains (IsWall parts s r d) seps sep split.walls in_seps in
       let shown = wall.shown in
@@ -116,14 +114,11 @@ plan_good parts (walled_split d seps moved rest) is (here, splits_moved, splits_
   (λ p in_moved in_rest.
       let (k, e) = has_leaf moved p in_moved in
       let (m, f) = has_leaf rest p in_rest in
-      left_not_right (nodes_of moved) k m (Leaf p) e (down k (after (nodes_of moved) m) (once (suc k) (suc (after (nodes_of moved) m)) p (get_left (nodes_of moved) (nodes_of rest) k (Leaf p) e) (get_right (nodes_of moved) (nodes_of rest) m (Leaf p) f)))),
+      left_not_right (nodes_of moved) k m (Leaf p) e (suc_same k (after (nodes_of moved) m) (once (suc k) (suc (after (nodes_of moved) m)) p (get_front (nodes_of moved) (nodes_of rest) k (Leaf p) e) (get_right (nodes_of moved) (nodes_of rest) m (Leaf p) f)))),
   split_free parts (walled_parts moved) (walled_parts rest) d seps is here,
-  plan_good parts moved is splits_moved (λ k m p e f. down k m (once (suc k) (suc m) p (get_left (nodes_of moved) (nodes_of rest) k (Leaf p) e) (get_left (nodes_of moved) (nodes_of rest) m (Leaf p) f))),
-  plan_good parts rest is splits_rest (λ k m p e f. after_same (nodes_of moved) k m (down (after (nodes_of moved) k) (after (nodes_of moved) m) (once (suc (after (nodes_of moved) k)) (suc (after (nodes_of moved) m)) p (get_right (nodes_of moved) (nodes_of rest) k (Leaf p) e) (get_right (nodes_of moved) (nodes_of rest) m (Leaf p) f)))),
+  plan_good parts moved is splits_moved (λ k m p e f. suc_same k m (once (suc k) (suc m) p (get_front (nodes_of moved) (nodes_of rest) k (Leaf p) e) (get_front (nodes_of moved) (nodes_of rest) m (Leaf p) f))),
+  plan_good parts rest is splits_rest (λ k m p e f. after_same (nodes_of moved) k m (suc_same (after (nodes_of moved) k) (after (nodes_of moved) m) (once (suc (after (nodes_of moved) k)) (suc (after (nodes_of moved) m)) p (get_right (nodes_of moved) (nodes_of rest) k (Leaf p) e) (get_right (nodes_of moved) (nodes_of rest) m (Leaf p) f)))),
 )
-  where
-    down : (a b : ℕ) → suc a ≡ suc b → a ≡ b
-    down a b e = omega (arith, e)
 
 pub plan_is_right_lemma : (parts : List Part) (stated : ℕ) (nodes : List Node) → IsAssembly parts → PlanHolds parts stated nodes
     → (tree : WalledPlan) × (nodes ≡ nodes_of tree) × IsGood parts (below (length parts)) (unwalled tree)
@@ -138,3 +133,13 @@ plan_is_right_lemma parts stated nodes is holds =
     (λ p h. let (k, e) = has_leaf t p h in (has-below (length parts) p).1 (leaves.each k p (at k p e)))
     (λ p h. let (k, e) = leaves.all p ((has-below (length parts) p).0 h) in leaf_has t k p (subst (λ ns. IsLeafAt ns k p) holds.tree_is e)) in
     (t, holds.tree_is, subst (λ w. IsGood parts w (unwalled t)) whole good)
+
+pub part_at : (parts : List Part) (a i : ℕ) (p : List V3) → piece_at parts a i ≡ Some p → (part : Part) × (slice_get parts a ≡ Some part) × (slice_get part.pieces i ≡ Some p)
+part_at parts a i p e = go (slice_get parts a) refl e
+  where
+    go : (o : Option Part) → slice_get parts a ≡ o → option_and_then (λ part. slice_get part.pieces i) o ≡ Some p → (part : Part) × (slice_get parts a ≡ Some part) × (slice_get part.pieces i ≡ Some p)
+    go None q e = cc
+    go (Some part) q e = (part, q, e)
+
+pub part_within : (parts : List Part) (a i : ℕ) (p : List V3) → piece_at parts a i ≡ Some p → a < length parts
+part_within parts a i p e = let t = part_at parts a i p e in slice_get_within parts a t.0 t.1

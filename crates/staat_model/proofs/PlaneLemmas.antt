@@ -4,9 +4,7 @@ use Rattle.std.proofs.lemmas.Int.{ints}
 use Rattle.std.proofs.lemmas.List.Elements.{All-cons, All-contains, Contains-append_cases}
 use Rattle.std.proofs.lemmas.Map.Views.{All-after_first}
 use Rattle.std.proofs.Math.Nat.{eq-one_of_dvd-one}
-use Rattle.std.specs.Cmp.{int_cmp_is}
-use Rattle.std.specs.Ordering.{ordering_then}
-use Rattle.std.specs.declared.cmp.Ordering.TheVariants.{Less, Equal}
+use Rattle.std.specs.declared.cmp.Ordering.TheVariants.{Less}
 use Rattle.std.specs.List.Sorted.{IsStrictlySortedBy}
 use Rattle.staat_vec.specs.declared.vector.V3.{V3}
 use Rattle.staat_vec.specs.Vectors.{cross, origin, vector_cmp}
@@ -16,7 +14,12 @@ use Rattle.staat_vec.proofs.Canons.{IsCanon-canon, IsPrimitive-canon, canon-same
 use Rattle.staat_model.specs.declared.assembly.Part.{Part}
 use Rattle.staat_model.specs.declared.set.PartSet.{PartSet}
 use Rattle.staat_model.specs.Planes.{ArePlanes, IsFacetPlane, axes}
-use Rattle.staat_model.proofs.Members.{here, there, All-from_members}
+use Rattle.staat_model.proofs.Members.{All-from_members}
+use Rattle.staat_vec.proofs.VectorOrder.{less_apart}
+use Rattle.staat_vec.proofs.VectorLists.{sorted_tail}
+use Rattle.staat_vec.proofs.Unique.{Contains-front}
+use Rattle.staat_vec.proofs.ListLaws.{Contains-there}
+use Rattle.std.proofs.Common.{drop}
 
 -- each later plane is not parallel to an earlier one
 abbrev pub NoneParallel : List V3 → Type 0
@@ -28,25 +31,15 @@ pub record IsNormal (n : V3) : Type 0 where
   pub primitive : IsPrimitive n
   pub canonical : IsCanon n
 
-apart : (g h : V3) → IsNormal g → IsNormal h → g ≢ h → cross g h ≢ origin
+pub apart : (g h : V3) → IsNormal g → IsNormal h → g ≢ h → cross g h ≢ origin
 apart g h p q other e = other (sym (canon-same g p.canonical) ∙ same_canon g h p.primitive q.primitive e ∙ canon-same h q.canonical)
 
-same_cmp : (g : V3) → vector_cmp g g ≡ Equal
-same_cmp g = (λ i. ordering_then (sym (int_cmp_is g.x g.x Equal refl) i) (ordering_then (sym (int_cmp_is g.y g.y Equal refl) i) (sym (int_cmp_is g.z g.z Equal refl) i)))
-
-less_other : (g h : V3) → vector_cmp g h ≡ Less → g ≢ h
-less_other g h less e = let same : vector_cmp g h ≡ Equal = ap (vector_cmp g) (sym e) ∙ same_cmp g in cc
-
-sorted_tail : (g : V3) (gs : List V3) → IsStrictlySortedBy vector_cmp (g ∷ gs) → IsStrictlySortedBy vector_cmp gs
-unfolding IsStrictlySortedBy
-sorted_tail g gs s = s.1
-
-sorted_apart : (gs : List V3) → ((g : V3) → Contains gs g → IsNormal g) → IsStrictlySortedBy vector_cmp gs → NoneParallel gs
+pub sorted_apart : (gs : List V3) → ((g : V3) → Contains gs g → IsNormal g) → IsStrictlySortedBy vector_cmp gs → NoneParallel gs
 sorted_apart [] normal s = tt
 sorted_apart (g ∷ gs) normal s = (
   All-from_members (λ h. cross g h ≢ origin) gs
-      (λ h in_gs. apart g h (normal g (here g gs)) (normal h (there g h gs in_gs)) (less_other g h (All-contains (λ q. vector_cmp g q ≡ Less) gs h (All-after_first vector_cmp g gs s) in_gs))),
-  sorted_apart gs (λ h in_gs. normal h (there g h gs in_gs)) (sorted_tail g gs s),
+      (λ h in_gs. apart g h (normal g (Contains-front g gs)) (normal h (Contains-there g h gs in_gs)) (less_apart g h (All-contains (λ q. vector_cmp g q ≡ Less) gs h (All-after_first vector_cmp g gs s) in_gs))),
+  sorted_apart gs (λ h in_gs. normal h (Contains-there g h gs in_gs)) (sorted_tail g gs s),
 )
 
 -- ---- the axes
@@ -54,7 +47,7 @@ sorted_apart (g ∷ gs) normal s = (
 one_unit : (d : ℕ) → Prim.Native.Nat.◌∣◌ d 1 → d ≡ 1
 one_unit d h = eq-one_of_dvd-one h
 
-axis_normal : (g : V3) → Contains axes g → IsNormal g
+pub axis_normal : (g : V3) → Contains axes g → IsNormal g
 axis_normal g (zero, lt, e) = subst IsNormal e (record { primitive = λ d p q r. one_unit d p; canonical = omega (arith, ints) })
 axis_normal g (suc zero, lt, e) = subst IsNormal e (record { primitive = λ d p q r. one_unit d q; canonical = omega (arith, ints) })
 axis_normal g (suc (suc zero), lt, e) = subst IsNormal e (record { primitive = λ d p q r. one_unit d r; canonical = omega (arith, ints) })
@@ -66,7 +59,7 @@ one_zero e = omega (arith, ints)
 minus_zero : ◌≡◌ {A = ℤ} (negsuc 0) (pos 0) → ⊥
 minus_zero e = omega (arith, ints)
 
-with_axes : (others : List V3) → ((g : V3) → Contains others g → IsNormal g) → ((g : V3) → Contains others g → Contains axes g → ⊥) → NoneParallel others → NoneParallel (axes ++ others)
+pub with_axes : (others : List V3) → ((g : V3) → Contains others g → IsNormal g) → ((g : V3) → Contains others g → Contains axes g → ⊥) → NoneParallel others → NoneParallel (axes ++ others)
 with_axes others normal none rest =
     let x : V3 = record { x = pos 1; y = pos 0; z = pos 0 } in
     let y : V3 = record { x = pos 0; y = pos 1; z = pos 0 } in
@@ -96,3 +89,8 @@ plane_normal parts w planes g are has =
 
 pub plane_some : (parts : List Part) (w : PartSet) (planes : List V3) (g : V3) → ArePlanes parts w planes → Contains planes g → g ≢ origin
 plane_some parts w planes g are has = let n = plane_normal parts w planes g are has in IsPrimitive-some g n.primitive
+
+pub apart_behind : (gs : List V3) (k : ℕ) → NoneParallel gs → NoneParallel (drop k gs)
+apart_behind gs zero apart = apart
+apart_behind [] (suc k) apart = tt
+apart_behind (g ∷ gs) (suc k) apart = apart_behind gs k apart.1

@@ -15,15 +15,15 @@ use Rattle.staat_model.specs.declared.tree.Kind.{Kind}
 use Rattle.staat_model.specs.declared.tree.Kind.TheVariants.{Point, Edge, Open}
 use Rattle.staat_model.specs.Planes.{ArePlanes, vertices}
 use Rattle.staat_model.specs.Cells.{signs_of, kind_of, kind_by_count, IsCell, IsEdgeSum, IsRepresentative}
-use Rattle.staat_model.proofs.Members.{here, there}
 use Rattle.staat_model.proofs.CornerLemmas.{dot_multiple}
 use Rattle.staat_model.proofs.FacetLemmas.{across_crosses}
-use Rattle.staat_model.proofs.GraphLemmas.{zero_sign}
 use Rattle.staat_model.proofs.VertexLemmas.{holds_axes, in_vertices}
 use Rattle.staat_model.proofs.PlaneLemmas.{NoneParallel, planes_apart, plane_some}
 use Rattle.staat_model.proofs.CellLemmas.{zeros, zeros-cons, edges_add_up_lemma}
 use Rattle.staat_model.proofs.EndLemmas.{edge_has_sum, edge_sum_in}
-use Rattle.staat_vec.proofs.Unique.{IsFirst-in}
+use Rattle.staat_vec.proofs.Unique.{IsFirst-in, Contains-front}
+use Rattle.staat_vec.proofs.Signs.{sign_zero_or, zero_sign}
+use Rattle.staat_vec.proofs.ListLaws.{Contains-there}
 
 -- ---- two planes through a point
 
@@ -35,18 +35,13 @@ one_more Pos s n off h = let c = zeros-cons Pos s in omega (arith, h, c)
 one_less : (s : List Sign) (n : ℕ) → suc n ≤ zeros (Zero ∷ s) → n ≤ zeros s
 one_less s n h = let c = zeros-cons Zero s in omega (arith, h, c)
 
-is_or_not : (t : Sign) → (t ≡ Zero) ⊎ (t ≢ Zero)
-is_or_not Neg = inr (λ e. cc)
-is_or_not Zero = inl refl
-is_or_not Pos = inr (λ e. cc)
-
 one_plane : (gs : List V3) (d : V3) → 1 ≤ zeros (signs_of gs d) → (g : V3) × Contains gs g × (dot g d ≡ pos 0)
 one_plane [] d h = absurd (omega (arith, h))
-one_plane (g ∷ gs) d h = go (is_or_not (sign (dot g d))) (one_plane gs d)
+one_plane (g ∷ gs) d h = go (sign_zero_or (sign (dot g d))) (one_plane gs d)
   where
     go : (sign (dot g d) ≡ Zero) ⊎ (sign (dot g d) ≢ Zero) → (1 ≤ zeros (signs_of gs d) → (g : V3) × Contains gs g × (dot g d ≡ pos 0)) → (m : V3) × Contains (g ∷ gs) m × (dot m d ≡ pos 0)
-    go (inl e) ih = (g, here g gs, zero_sign (dot g d) e)
-    go (inr n) ih = let (m, c, on) = ih (one_more (sign (dot g d)) (signs_of gs d) 1 n h) in (m, there g m gs c, on)
+    go (inl e) ih = (g, Contains-front g gs, zero_sign (dot g d) e)
+    go (inr n) ih = let (m, c, on) = ih (one_more (sign (dot g d)) (signs_of gs d) 1 n h) in (m, Contains-there g m gs c, on)
 
 -- two planes of the list that d lies on
 record OnTwo (gs : List V3) (d : V3) : Type 0 where
@@ -60,24 +55,24 @@ record OnTwo (gs : List V3) (d : V3) : Type 0 where
 
 two_planes : (gs : List V3) (d : V3) → NoneParallel gs → 2 ≤ zeros (signs_of gs d) → OnTwo gs d
 two_planes [] d apart h = absurd (omega (arith, h))
-two_planes (g ∷ gs) d (head, rest) h = go (is_or_not (sign (dot g d))) (two_planes gs d rest)
+two_planes (g ∷ gs) d (head, rest) h = go (sign_zero_or (sign (dot g d))) (two_planes gs d rest)
   where
     go : (sign (dot g d) ≡ Zero) ⊎ (sign (dot g d) ≢ Zero) → (2 ≤ zeros (signs_of gs d) → OnTwo gs d) → OnTwo (g ∷ gs) d
     go (inl e) ih =
         let (m, c, on) = one_plane gs d (one_less (signs_of gs d) 1 (at_zero e)) in
-        record { g = g; h = m; g_in = here g gs; h_in = there g m gs c; independent = All-contains (λ h. cross g h ≢ origin) gs m head c; on_g = zero_sign (dot g d) e; on_h = on }
+        record { g = g; h = m; g_in = Contains-front g gs; h_in = Contains-there g m gs c; independent = All-contains (λ h. cross g h ≢ origin) gs m head c; on_g = zero_sign (dot g d) e; on_h = on }
       where
         at_zero : sign (dot g d) ≡ Zero → 2 ≤ zeros (Zero ∷ signs_of gs d)
         at_zero e = subst (λ t. 2 ≤ zeros (t ∷ signs_of gs d)) e h
-    go (inr n) ih = let o = ih (one_more (sign (dot g d)) (signs_of gs d) 2 n h) in record { g = o.g; h = o.h; g_in = there g o.g gs o.g_in; h_in = there g o.h gs o.h_in; independent = o.independent; on_g = o.on_g; on_h = o.on_h }
+    go (inr n) ih = let o = ih (one_more (sign (dot g d)) (signs_of gs d) 2 n h) in record { g = o.g; h = o.h; g_in = Contains-there g o.g gs o.g_in; h_in = Contains-there g o.h gs o.h_in; independent = o.independent; on_g = o.on_g; on_h = o.on_h }
 
-point_zeros : (s : List Sign) → kind_of s ≡ Point → 2 ≤ zeros s
-point_zeros s e = go (zeros s) e
-  where
-    go : (n : ℕ) → kind_by_count n ≡ Point → 2 ≤ n
-    go zero e = cc
-    go (suc zero) e = cc
-    go (suc (suc n)) e = omega arith
+pub point_two_zeros : (n : ℕ) → kind_by_count n ≡ Point → 2 ≤ n
+point_two_zeros zero e = cc
+point_two_zeros (suc zero) e = cc
+point_two_zeros (suc (suc n)) e = omega arith
+
+pub point_zeros : (s : List Sign) → kind_of s ≡ Point → 2 ≤ zeros s
+point_zeros s e = point_two_zeros (zeros s) e
 
 pub point_is_vertex_lemma : (parts : List Part) (w : PartSet) (planes : List V3) (d : V3) → ArePlanes parts w planes → d ≢ origin → kind_of (signs_of planes d) ≡ Point → Contains (vertices planes) (primitive d)
 point_is_vertex_lemma parts w planes d are some point =

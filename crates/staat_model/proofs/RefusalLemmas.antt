@@ -15,15 +15,17 @@ use Rattle.staat_model.specs.Removal.{IsFree, MeetsAlong}
 use Rattle.staat_model.specs.Plans.{Plan, IsGood, IsStuck}
 use Rattle.staat_model.specs.Planes.{vertices}
 use Rattle.staat_model.specs.Certificates.{RefusalHolds, IsWitness, IsArcWithin, IsBlocked, IsBlocking, HasLine, IsListed, ReachesAll, outward, inward}
-use Rattle.staat_model.proofs.Members.{here, there}
 use Rattle.staat_model.proofs.Differences.{from_map}
 use Rattle.staat_model.proofs.SetMembers.{has-difference, has-insert, has-single}
 use Rattle.staat_model.proofs.SetWords.{same_members}
 use Rattle.staat_model.proofs.PieceFacets.{meets_by_facets_lemma}
-use Rattle.staat_model.proofs.GraphLemmas.{from_slice_get, piece_is}
+use Rattle.staat_model.proofs.GraphLemmas.{piece_is}
 use Rattle.staat_model.proofs.OtherSides.{other_free, other_side}
 use Rattle.staat_model.proofs.VertexLemmas.{stuck_at_vertices_lemma}
-use Rattle.staat_model.proofs.RestrictLemmas.{member_or_not, restrict_lemma}
+use Rattle.staat_model.proofs.RestrictLemmas.{restrict_lemma}
+use Rattle.staat_vec.proofs.Unique.{Contains-front, from_place}
+use Rattle.staat_vec.proofs.ListLaws.{Contains-there}
+use Rattle.staat_model.proofs.FreeSides.{member_or}
 
 -- ---- what is reached
 
@@ -32,13 +34,13 @@ reached_all : (w : PartSet) (P : ℕ → Type 0) (step : Arc → ℕ × ℕ) (ar
     → (reached : PartSet) → ((p : ℕ) → Has reached p → P p) → ReachesAll w reached (map step arcs) → (p : ℕ) → Has w p → P p
 reached_all w P step [] pass reached known r p h = known p (subst (λ s. Has s p) (sym r) h)
 reached_all w P step (arc ∷ arcs) pass reached known (from, to, new, rest) p h =
-    reached_all w P step arcs (λ other c. pass other (there arc other arcs c)) (set.insert reached (step arc).1) known_next rest p h
+    reached_all w P step arcs (λ other c. pass other (Contains-there arc other arcs c)) (set.insert reached (step arc).1) known_next rest p h
   where
     known_next : (q : ℕ) → Has (set.insert reached (step arc).1) q → P q
     known_next q has = pick ((has-insert reached (step arc).1 q).0 has)
       where
         pick : (q ≡ (step arc).1) ⊎ Has reached q → P q
-        pick (inl e) = subst P (sym e) (pass arc (here arc arcs) (known (step arc).0 from))
+        pick (inl e) = subst P (sym e) (pass arc (Contains-front arc arcs) (known (step arc).0 from))
         pick (inr old) = known q old
 
 module _ (parts : List Part) (is : IsAssembly parts) (w s : PartSet) (v : V3) (side : IsSide w s) (free : IsFree parts s (set.difference w s) v) (witness : Witness) (holds : IsWitness parts w witness)
@@ -54,7 +56,7 @@ module _ (parts : List Part) (is : IsAssembly parts) (w s : PartSet) (v : V3) (s
 
   -- no arc leads out of the side
   stays : (arc : Arc) → IsBlocking parts v arc → Has w arc.b → Has s arc.a → Has s arc.b
-  stays arc b in_w in_s = go (member_or_not s arc.b)
+  stays arc b in_w in_s = go (member_or s arc.b)
     where
       go : Has s arc.b ⊎ (Has s arc.b → ⊥) → Has s arc.b
       go (inl h) = h
@@ -73,7 +75,7 @@ module _ (parts : List Part) (is : IsAssembly parts) (w s : PartSet) (v : V3) (s
       (single holds.root) (λ p h in_s. off_root (subst (Has s) ((has-single holds.root p).0 h) in_s)) holds.ins_reach
 
   not_free : ⊥
-  not_free = go (member_or_not s holds.root)
+  not_free = go (member_or s holds.root)
     where
       go : Has s holds.root ⊎ (Has s holds.root → ⊥) → ⊥
       go (inl h) = side.proper (same_members s w side.within (all_in h))
@@ -90,7 +92,7 @@ refusal_is_stuck parts version stated w witnesses dirs is valid =
     at_line : (dir : Dir) (s : PartSet) → Contains dirs dir → IsSide w s → IsFree parts s (set.difference w s) dir.d → ⊥
     at_line dir s in_dirs side free =
         let b = All-contains (IsBlocked parts witnesses) dirs dir valid.blocked in_dirs in
-        not_free parts is w s dir.d side free b.witness (All-contains (IsWitness parts w) witnesses b.witness valid.trees (from_slice_get witnesses dir.witness b.witness b.witness_is)) b.outs b.ins
+        not_free parts is w s dir.d side free b.witness (All-contains (IsWitness parts w) witnesses b.witness valid.trees (from_place witnesses dir.witness b.witness b.witness_is)) b.outs b.ins
 
     at_direction : (d : V3) (s : PartSet) → HasLine dirs d → IsSide w s → IsFree parts s (set.difference w s) d → ⊥
     at_direction d s has side free = let (dir, in_dirs, same) = from_map (λ dir. dir.d) dirs d has in at_line dir s in_dirs side (subst (IsFree parts s (set.difference w s)) same free)

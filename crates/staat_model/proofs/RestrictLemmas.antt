@@ -1,5 +1,5 @@
 -- A set that is stuck rules out every plan of a set that holds it.
-use Rattle.std.proofs.Common.{◌≡◌, ◌≤◌, ◌⊎◌, ℕ, Bool, true, false, List, [], ◌∷◌, arith, ap, sym, ◌∙◌, subst, refl, inl, inr, ⊎_elim, cond, true≢false, ◌+◌}
+use Rattle.std.proofs.Common.{◌≡◌, ◌≤◌, ◌⊎◌, ℕ, List, [], ◌∷◌, arith, ap, sym, ◌∙◌, subst, refl, inl, inr, ⊎_elim, cond, true≢false, ◌+◌}
 use Rattle.std.specs.Prelude.{◌||◌}
 use Rattle.std.proofs.lemmas.Bool.Decides.{nat_tests}
 use Rattle.std.specs.Cmp.{nat_cmp_total, unsigned_tied}
@@ -14,23 +14,9 @@ use Rattle.staat_model.specs.Removal.{IsFree}
 use Rattle.staat_model.specs.Plans.{Plan, leaf, split, parts_of, IsGood, IsStuck}
 use Rattle.staat_model.proofs.SetMembers.{has-difference, has-intersection, has-single, has-union}
 use Rattle.staat_model.proofs.SetWords.{same_members}
+use Rattle.staat_model.proofs.FreeSides.{member_or, subset_or}
 
 -- ---- what is in a set and what is not
-
-pub member_or_not : (s : PartSet) (p : ℕ) → Has s p ⊎ (Has s p → ⊥)
-member_or_not s p = go (set.contains s p) refl
-  where
-    go : (b : Bool) → set.contains s p ≡ b → Has s p ⊎ (Has s p → ⊥)
-    go true e = inl e
-    go false e = inr (λ h. true≢false (sym h ∙ e))
-
--- each set lies within another, or has a member outside
-within_or_not : (a m : PartSet) → IsSubset a m ⊎ (IsSubset a m → ⊥)
-within_or_not a m = by_test (set.is_subset a m) refl
-  where
-    by_test : (b : Bool) → set.is_subset a m ≡ b → IsSubset a m ⊎ (IsSubset a m → ⊥)
-    by_test true is = inl (set.is_subset-contains nat_cmp_total a m is)
-    by_test false is = inr (λ all. true≢false (sym (set.contains-is_subset nat_cmp_total a m all) ∙ is))
 
 -- a set has a member or is empty
 pub nonempty_or : (s : PartSet) → IsNonempty s ⊎ ((p : ℕ) → Has s p → ⊥)
@@ -48,7 +34,7 @@ rest_apart w s p in_s h = ((has-difference w s p).0 h).1 in_s
 
 -- within the one part there is no set of two
 no_two : (a : PartSet) (p : ℕ) → IsSubset a (single p) → 2 ≤ set.len a → ⊥
-no_two a p within two = go (member_or_not a p)
+no_two a p within two = go (member_or a p)
   where
     length_one : set.len (single p) ≡ 1
     length_one = set.len-insert nat_cmp_total set.empty p ∙ (λ i. cond (set.contains-empty nat_cmp p i) (set.len-empty nat_cmp i) (set.len-empty nat_cmp i + 1))
@@ -82,9 +68,9 @@ restrict_lemma parts a stuck (split d moved rest) w within good =
     let m : PartSet = parts_of moved in
     let r : PartSet = parts_of rest in
     let inside : IsSubset a (set.union m r) = subst (IsSubset a) good.0 within in
-    elim (within_or_not a m) [
+    elim (subset_or a m) [
       | inl all ↦ restrict_lemma parts a stuck moved m all good.3
-      | inr not_moved ↦ elim (within_or_not a r) [
+      | inr not_moved ↦ elim (subset_or a r) [
         | inl all ↦ restrict_lemma parts a stuck rest r all good.4
         | inr not_rest ↦ stuck.held (set.intersection a m) d (record {
           nonempty = elim (nonempty_or (set.intersection a m)) [

@@ -13,6 +13,7 @@ use Rattle.std.specs.Int.Count.{ones}
 use Rattle.staat_model.specs.Bits.{members_below, set_of_word}
 use Rattle.staat_model.specs.SetFacts.{contains-members_below, contains-set_of_word}
 use Rattle.staat_model.specs.Sets.{Has, below, single}
+use Rattle.staat_vec.proofs.Truth.{and_zero_is_one}
 
 same : (s t : set.FinSet nat_cmp) → ((q : ℕ) → set.contains s q ≡ set.contains t q) → s ≡ t
 same s t each = set.same_set nat_cmp_total set.nat_cmp-IsAntisymmetric s t each
@@ -100,11 +101,7 @@ ones_of n q le true e =
     (λ i. inside i && (bit_at_ones n q lt i == 1)) ∙ sym e
 ones_of n q le false e =
     let above : n ≤ q = grind (arith, nat_tests) in
-    ap (λ t. nat_lt q 32 && (t == 1)) (bit_at_ones_above n q above) ∙ none (nat_lt q 32) ∙ sym e
-  where
-    none : (b : Bool) → (b && (0 == 1)) ≡ false
-    none true = refl
-    none false = refl
+    ap (λ t. nat_lt q 32 && (t == 1)) (bit_at_ones_above n q above) ∙ and_zero_is_one (nat_lt q 32) ∙ sym e
 
 -- the lowest n bits are those of the numbers below n
 pub set_of_word-ones : (n : ℕ) → n ≤ 32 → set_of_word (2 ^ n - 1) ≡ below n

@@ -12,14 +12,12 @@ use Rattle.staat_model.specs.Bits.{set_of_word}
 use Rattle.staat_model.specs.SetFacts.{contains-set_of_word}
 use Rattle.staat_model.specs.declared.set.PartSet.{PartSet}
 use Rattle.staat_model.specs.Sets.{Has, IsSubset, IsNonempty, IsLeastOf, single}
-
-both : (a b : Bool) → (a && b) ≡ true → (a ≡ true) × (b ≡ true)
-both true b h = (refl, h)
-both false b h = absurd (true≢false (sym h))
+use Rattle.staat_vec.proofs.Truth.{and_zero_is_one, and_split}
+use Rattle.staat_vec.proofs.Naturals.{lt_or_le}
 
 pub has_bit : (bits q : ℕ) → Has (set_of_word bits) q → (q < 32) × (bit_at bits q ≡ 1)
 has_bit bits q h =
-    let t = both (nat_lt q 32) (bit_at bits q == 1) (sym (contains-set_of_word bits q) ∙ h) in
+    let t = and_split (nat_lt q 32) (bit_at bits q == 1) (sym (contains-set_of_word bits q) ∙ h) in
     let a : nat_lt q 32 ≡ true = t.0 in
     let b : (bit_at bits q == 1) ≡ true = t.1 in
     (grind (arith, nat_tests), grind (arith, nat_tests))
@@ -45,11 +43,7 @@ of_bit bits s e small q b = subst (λ t. Has t q) e (bit_has bits q small b)
 
 pub set_of_word-zero : set_of_word 0 ≡ set.empty
 set_of_word-zero = set.same_set nat_cmp_total set.nat_cmp-IsAntisymmetric _ _ (λ q.
-    contains-set_of_word 0 q ∙ ap (λ t. nat_lt q 32 && (t == 1)) (bit_at-zero q) ∙ none (nat_lt q 32) ∙ sym (set.contains-empty nat_cmp q))
-  where
-    none : (b : Bool) → (b && (0 == 1)) ≡ false
-    none true = refl
-    none false = refl
+    contains-set_of_word 0 q ∙ ap (λ t. nat_lt q 32 && (t == 1)) (bit_at-zero q) ∙ and_zero_is_one (nat_lt q 32) ∙ sym (set.contains-empty nat_cmp q))
 
 module _ (a b : ℕ) (s o : PartSet) (sa : set_of_word a ≡ s) (so : set_of_word b ≡ o) (la : a < 2 ^ 32) (lb : b < 2 ^ 32) where
   pub within_of_zero : bit_and a (4294967295 - b) ≡ 0 → IsSubset s o
@@ -93,11 +87,8 @@ module _ (a : ℕ) (s : PartSet) (sa : set_of_word a ≡ s) (la : a < 2 ^ 32) (s
       }
     where
       go : (q t : ℕ) → bit_at a q ≡ 1 → (q < t → bit_at a q ≡ 0) → t ≤ q
-      go q t one zero' = by_case (le_or q t)
+      go q t one zero' = by_case (lt_or_le q t)
         where
-          le_or : (q t : ℕ) → (q < t) ⊎ (t ≤ q)
-          le_or q t = grind arith
-
           by_case : (q < t) ⊎ (t ≤ q) → t ≤ q
           by_case (inl lt) = let z = zero' lt in absurd (omega arith)
           by_case (inr le) = le
@@ -141,7 +132,7 @@ has-difference s t q = (
 
 pub has-intersection : (s t : PartSet) (q : ℕ) → (Has (set.intersection s t) q → Has s q × Has t q) × (Has s q × Has t q → Has (set.intersection s t) q)
 has-intersection s t q = (
-  λ h. both (set.contains s q) (set.contains t q) (sym (set.contains-intersection nat_cmp_total s t q) ∙ h),
+  λ h. and_split (set.contains s q) (set.contains t q) (sym (set.contains-intersection nat_cmp_total s t q) ∙ h),
   λ h. set.contains-intersection nat_cmp_total s t q ∙ (λ i. h.0 i && h.1 i),
 )
 

@@ -9,6 +9,7 @@ use Rattle.staat_model.specs.declared.set.PartSet.{PartSet}
 use Rattle.staat_model.specs.Sets.{Has, IsSubset, single}
 use Rattle.staat_model.proofs.SetMembers.{has-single, has-empty}
 use Rattle.staat_model.proofs.SetWords.{same_members}
+use Rattle.staat_vec.proofs.Naturals.{same_or}
 
 has-remove : (s : PartSet) (p q : ℕ) → q ≢ p → Has s q → Has (set.remove s p) q
 has-remove s p q ne h = set.contains-remove nat_cmp_total s p q ∙ ap (λ b. not b && set.contains s q) (unsigned_tied q p) ∙ go (nat_eq q p) (let e : nat_eq q p ≡ false = grind (arith, nat_tests) in e)
@@ -17,11 +18,8 @@ has-remove s p q ne h = set.contains-remove nat_cmp_total s p q ∙ ap (λ b. no
     go true e = absurd (true≢false e)
     go false e = h
 
-len_remove : (s : PartSet) (p : ℕ) → Has s p → set.len (set.remove s p) ≡ set.len s - 1
+pub len_remove : (s : PartSet) (p : ℕ) → Has s p → set.len (set.remove s p) ≡ set.len s - 1
 len_remove s p h = set.len-remove nat_cmp_total s p ∙ ap (λ b. cond b (set.len s - 1) (set.len s)) h
-
-same_or : (a b : ℕ) → (a ≡ b) ⊎ (a ≢ b)
-same_or a b = grind arith
 
 pub one_within : (s : PartSet) (p : ℕ) → Has s p → set.len s ≤ 1 → IsSubset s (single p)
 one_within s p h le q m = ⊎_elim (λ e. (has-single p q).1 e)

@@ -1,12 +1,12 @@
 -- A set that holds another and more has the greater word.
-use Rattle.std.proofs.Common.{◌≡◌, ℕ, zero, suc, ◌+◌, ◌<◌, ◌≤◌, ◌≢◌, ◌^◌, Bool, true, false, arith, sym, subst, refl, inl, inr, ◌⊎◌, true≢false}
+use Rattle.std.proofs.Common.{◌≡◌, ℕ, zero, suc, ◌+◌, ◌<◌, ◌≤◌, ◌^◌, Bool, true, false, arith, sym, refl, true≢false}
 use Rattle.std.specs.Prelude.{if◌then◌else◌}
-use Rattle.std.proofs.lemmas.Nat.{pow_pos}
 use Rattle.std.specs.FinSet as set
 use Rattle.std.specs.Cmp.{nat_cmp_total}
 use Rattle.staat_model.specs.Bits.{word_below, word_of_set}
 use Rattle.staat_model.specs.declared.set.PartSet.{PartSet}
 use Rattle.staat_model.specs.Sets.{Has, IsSubset}
+use Rattle.staat_vec.proofs.Truth.{same_truth}
 
 abbrev worth : ℕ → Bool → ℕ
 worth n b = if b then 2 ^ n else 0
@@ -31,37 +31,9 @@ word_small (suc n) s = let p : word_below n s < 2 ^ n = word_small n s in let e 
     most true = omega arith
     most false = omega arith
 
-pub same_word : (n : ℕ) (s t : PartSet) → IsSubset s t → word_below n s ≡ word_below n t → (q : ℕ) → q < n → Has t q → Has s q
-same_word zero s t h e q lt m = absurd (omega arith)
-same_word (suc n) s t h e q lt m =
-    let le : word_below n s ≤ word_below n t = word_le n s t h in
-    let one : worth n (set.contains s n) ≤ worth n (set.contains t n) = le_worth n (set.contains s n) (set.contains t n) (h n) in
-    let low : word_below n s ≡ word_below n t = omega (arith, le, one, e) in
-    let top : worth n (set.contains s n) ≡ worth n (set.contains t n) = omega (arith, le, one, e) in
-    by_case (λ l. same_word n s t h low q l m) top (cases q lt)
-  where
-    cases : (q : ℕ) → q < suc n → (q < n) ⊎ (n ≡ q)
-    cases q lt = grind arith
-
-    same : (a b : Bool) → worth n a ≡ worth n b → b ≡ true → a ≡ true
-    same true b w e = refl
-    same false true w e = absurd (omega (arith, pow_pos n, w))
-    same false false w e = e
-
-    by_case : (q < n → Has s q) → worth n (set.contains s n) ≡ worth n (set.contains t n) → (q < n) ⊎ (n ≡ q) → Has s q
-    by_case below top (inl l) = below l
-    by_case below top (inr e) = subst (Has s) e (same (set.contains s n) (set.contains t n) top (subst (Has t) (sym e) m))
-
 -- every member is below 32
 abbrev pub IsSmall : PartSet → Type 0
 IsSmall s = (q : ℕ) → Has s q → q < 32
-
-pub word_grows : (s t : PartSet) → IsSmall t → IsSubset s t → (IsSubset t s → ⊥) → word_of_set s < word_of_set t
-unfolding word_of_set
-word_grows s t small h more =
-    let le : word_below 32 s ≤ word_below 32 t = word_le 32 s t h in
-    let ne : word_below 32 s ≢ word_below 32 t = λ e. more (λ q m. same_word 32 s t h e q (small q m) m) in
-    omega (arith, le, ne)
 
 pub word_within : (s t : PartSet) → IsSubset s t → word_of_set s ≤ word_of_set t
 unfolding word_of_set
@@ -73,9 +45,4 @@ word_fits s = word_small 32 s
 
 -- sets with the same members are one
 pub same_members : (s t : PartSet) → IsSubset s t → IsSubset t s → s ≡ t
-same_members s t f g = set.same_set nat_cmp_total set.nat_cmp-IsAntisymmetric s t (λ q. both (set.contains s q) (set.contains t q) (f q) (g q))
-  where
-    both : (a b : Bool) → (a ≡ true → b ≡ true) → (b ≡ true → a ≡ true) → a ≡ b
-    both true b f g = sym (f refl)
-    both false true f g = g refl
-    both false false f g = refl
+same_members s t f g = set.same_set nat_cmp_total set.nat_cmp-IsAntisymmetric s t (λ q. same_truth (set.contains s q) (set.contains t q) (f q) (g q))

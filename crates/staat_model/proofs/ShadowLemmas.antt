@@ -1,5 +1,5 @@
 -- A plane between two pieces that a direction does not lead through, and pieces whose shadows lie apart.
-use Rattle.std.proofs.Common.{◌≡◌, ◌≢◌, zero, suc, ap, sym, ◌∙◌, arith, ℤ, pos, neg_ℤ, ◌-ℤ◌, ◌≤ℤ◌}
+use Rattle.std.proofs.Common.{◌≡◌, ◌≢◌, zero, suc, ap, sym, ◌∙◌, arith, ℤ, pos, ◌-ℤ◌, ◌≤ℤ◌}
 use Rattle.std.proofs.Common.{◌⊎◌, inl, inr, List, All, Contains}
 use Rattle.std.proofs.lemmas.Int.{ints}
 use Rattle.std.proofs.lemmas.List.Elements.{All-contains}
@@ -15,6 +15,7 @@ use Rattle.staat_model.specs.Walls.{IsBeyond}
 use Rattle.staat_model.proofs.Members.{All-from_members}
 use Rattle.staat_model.proofs.Reversed.{beyond_turned}
 use Rattle.staat_model.proofs.WallLaws.{dot-minus, wall_keeps_apart}
+use Rattle.staat_vec.proofs.Integers.{zero_nonpositive, zero_nonneg, opposite_nonpositive}
 
 -- what comes before along n has the other beyond it
 before_beyond : (n : V3) (p q : List V3) → IsBefore n p q → IsBeyond p q n
@@ -38,26 +39,17 @@ wall_parts_lemma p q d n solid some (inr (after, towards)) meets =
     (record {
       wall = λ e. some (sym (negative-negative n) ∙ ap negative e);
       beyond = beyond_turned q p n (before_beyond n q p after);
-      away = turned (dot (negative n) d) (dot n d) (negative_dot n d) towards;
+      away = opposite_nonpositive (dot (negative n) d) (dot n d) (negative_dot n d) towards;
     })
     meets
-  where
-    turned : (x y : ℤ) → x ≡ neg_ℤ y → pos 0 ≤ℤ y → x ≤ℤ pos 0
-    turned x y e h = omega (arith, ints)
 
 pub shadows_part_lemma : (p q : List V3) (d n : V3) → IsSolid p → n ≢ origin → HaveShadowsApart n p q d
     → Meets p q d → ⊥
 shadows_part_lemma p q d n solid some are meets = go are.apart
   where
-    low : (x : ℤ) → x ≡ pos 0 → x ≤ℤ pos 0
-    low x e = omega (arith, ints)
-
-    high : (x : ℤ) → x ≡ pos 0 → pos 0 ≤ℤ x
-    high x e = omega (arith, ints)
-
     go : IsBefore n p q ⊎ IsBefore n q p → ⊥
-    go (inl before) = wall_parts_lemma p q d n solid some (inl (before, low (dot n d) are.across)) meets
-    go (inr after) = wall_parts_lemma p q d n solid some (inr (after, high (dot n d) are.across)) meets
+    go (inl before) = wall_parts_lemma p q d n solid some (inl (before, zero_nonpositive (dot n d) are.across)) meets
+    go (inr after) = wall_parts_lemma p q d n solid some (inr (after, zero_nonneg (dot n d) are.across)) meets
 
 one_is_some : pos 1 ≡ pos 0 → ⊥
 one_is_some wrong = omega (arith, ints)

@@ -21,8 +21,8 @@ use Rattle.staat_model.proofs.EdgeLemmas.{on_left, on_right}
 use Rattle.staat_model.proofs.FreeSides.{member_or}
 use Rattle.staat_model.proofs.Listings.{Listing, listing_and, listing_as, listing_below, listing_image, listing_members, listing_none, listing_over, listing_sorted}
 use Rattle.staat_model.proofs.PieceFacets.{beyond_is_above, differences_are, facets_from_differences_lemma, from_cone_facet}
-use Rattle.staat_model.proofs.PlanLemmas.{there_is}
 use Rattle.staat_model.proofs.Places.{place_within}
+use Rattle.staat_model.proofs.PlanLemmas.{piece_within}
 
 pub vector_or : (a b : V3) → Decided (a ≡ b)
 vector_or = equal_or vector_cmp vector_total vector_exact
@@ -74,7 +74,7 @@ holds_or parts arc R f = go (piece_at parts arc.a arc.i) (piece_at parts arc.b a
           let ps : h.p ≡ p = cc in let qs : h.q ≡ q = cc in not (subst (λ z. R p z) qs (subst (λ z. R z h.q) ps h.holds)))
     ]
 
-arc_facets : (parts : List Part) (arc : Arc) → Listing (λ f. HoldsAt parts arc (λ p q. IsFacet p q f))
+pub arc_facets : (parts : List Part) (arc : Arc) → Listing (λ f. HoldsAt parts arc (λ p q. IsFacet p q f))
 arc_facets parts arc = go (piece_at parts arc.a arc.i) (piece_at parts arc.b arc.j) refl refl
   where
     go : (x y : Option (List V3)) → piece_at parts arc.a arc.i ≡ x → piece_at parts arc.b arc.j ≡ y → Listing (λ f. HoldsAt parts arc (λ p q. IsFacet p q f))
@@ -91,8 +91,8 @@ abbrev arc_at : (a i b j : ℕ) → Arc
 arc_at a i b j = record { a = a; i = i; b = b; j = j }
 
 -- a part that has a piece exists
-count_exists : (parts : List Part) (a i : ℕ) → i < piece_count parts a → a < length parts
-count_exists parts a i = go (slice_get parts a) refl
+pub part_there : (parts : List Part) (a i : ℕ) → i < piece_count parts a → a < length parts
+part_there parts a i = go (slice_get parts a) refl
   where
     go : (o : Option Part) → slice_get parts a ≡ o → i < unwrap_or (option_map (λ part. length part.pieces) o) 0 → a < length parts
     go None e lt = absurd (omega (arith, lt))
@@ -132,7 +132,7 @@ arcs_listing parts s r = listing_as to from (listing_and (λ arc. Has s arc.a ×
 
     from : (arc : Arc) → IsAcross parts s r arc → Four arc × (Has s arc.a × Has r arc.b)
     from arc h = (
-      (arc.a, count_exists parts arc.a arc.i h.i_in, (arc.i, h.i_in, (arc.b, count_exists parts arc.b arc.j h.j_in, (arc.j, h.j_in, refl)))),
+      (arc.a, part_there parts arc.a arc.i h.i_in, (arc.i, h.i_in, (arc.b, part_there parts arc.b arc.j h.j_in, (arc.j, h.j_in, refl)))),
       (h.a_in, h.b_in),
     )
 
@@ -166,8 +166,8 @@ module _ (parts : List Part) (w : PartSet) where
         record {
           a_in = h.a_in;
           b_in = h.b_in;
-          i_in = there_is parts h.arc.a h.arc.i h.holds.p h.holds.p_is;
-          j_in = there_is parts h.arc.b h.arc.j h.holds.q h.holds.q_is;
+          i_in = piece_within parts h.arc.a h.arc.i h.holds.p h.holds.p_is;
+          j_in = piece_within parts h.arc.b h.arc.j h.holds.q h.holds.q_is;
         },
         h.different,
       ),

@@ -1,11 +1,8 @@
 -- A certificate that keeps its form has a verdict: the first rule that it breaks is found, or it is valid.
 use Rattle.std.proofs.Common.{◌≡◌, ◌≢◌, ◌⊎◌, ℕ, ◌+◌, ◌<◌, ◌≤◌, pos, ◌<ℤ◌, List, [], ◌∷◌, ◌++◌, length, map, All, ap, arith, sym, ◌∙◌, subst, refl, inl, inr}
 use Rattle.std.specs.Prelude.{Contains, Option, None, Some, slice_get, sum_by}
-use Rattle.std.proofs.lemmas.Bool.Decides.{nat_tests}
 use Rattle.std.proofs.lemmas.List.Elements.{All-cons, All-contains, All-head, All-nil, All-tail}
 use Rattle.std.specs.FinSet as set
-use Rattle.std.specs.Ordering.{nat_cmp}
-use Rattle.std.specs.declared.cmp.Ordering.TheVariants.{Less}
 use Rattle.staat_vec.specs.declared.vector.V3.{V3}
 use Rattle.staat_vec.specs.Vectors.{dot, negative, origin, vector_cmp}
 use Rattle.staat_vec.proofs.Unique.{sorted_once}
@@ -54,17 +51,11 @@ use Rattle.staat_model.proofs.SetSizes.{len_below}
 use Rattle.staat_model.proofs.SetWords.{same_members}
 use Rattle.staat_model.proofs.SplitLists.{IsEntryInOrder, entries_in_order, splits_hold}
 use Rattle.staat_model.proofs.SomePlanes.{arcs_listing, beyond_or, facets_listing, holds_or, some_planes, vector_or}
-
-order : (j k : ℕ) → (j < k) ⊎ ((j ≡ k) ⊎ (k < j))
-order j k = grind arith
-
-less_is : (j k : ℕ) → j < k → nat_cmp j k ≡ Less
-less_is j k lt = grind (arith, nat_tests)
+use Rattle.staat_vec.proofs.Naturals.{trichotomy}
+use Rattle.staat_vec.proofs.Comparisons.{nat_cmp-less}
+use Rattle.staat_model.proofs.PlanLemmas.{same_leaf}
 
 -- ---- leaves
-
-same_leaf : (p q : ℕ) → Some (Leaf p) ≡ Some (Leaf q) → p ≡ q
-same_leaf p q e = cc
 
 leaf_or : (nodes : List Node) (k : ℕ) → ((p : ℕ) × IsLeafAt nodes k p) ⊎ ((p : ℕ) → IsLeafAt nodes k p → ⊥)
 leaf_or nodes k = go (slice_get nodes k) refl
@@ -103,9 +94,9 @@ leaves_or n nodes = elim (below_or (IsBadLeaf n nodes) (bad_or n nodes) (length 
     t.0,
     bad_leaf (record {
       has = t.2;
-      least = λ y bad. elim (order y t.0) [
+      least = λ y bad. elim (trichotomy y t.0) [
         | inl lt ↦ absurd (t.3 y lt bad)
-        | inr other ↦ (elim other [ inl e ↦ inl e | inr gt ↦ inr (less_is t.0 y gt) ])
+        | inr other ↦ (elim other [ inl e ↦ inl e | inr gt ↦ inr (nat_cmp-less t.0 y gt) ])
       ];
     }),
   )
@@ -130,7 +121,7 @@ leaves_or n nodes = elim (below_or (IsBadLeaf n nodes) (bad_or n nodes) (length 
       | inr none ↦ inl (record {
         each = λ k p at. elim (lt_or p n) [ inl low ↦ low | inr high ↦ absurd (good k (record { part = p; leaf_is = at; bad = inl (omega (arith, high)) })) ];
         all = λ p lt. found p (none p lt);
-        once = λ k m p a b. elim (order k m) [
+        once = λ k m p a b. elim (trichotomy k m) [
           | inl lt ↦ absurd (good m (record { part = p; leaf_is = b; bad = inr (k, lt, a) }))
           | inr other ↦ (elim other [ inl e ↦ e | inr gt ↦ absurd (good k (record { part = p; leaf_is = a; bad = inr (m, gt, b) })) ])
         ];

@@ -9,7 +9,7 @@ use Rattle.staat_model.specs.Certificates.{WalledPlan, walled_leaf, walled_split
 use Rattle.staat_model.specs.Reasons.{EntryHolds, SplitEntry, splits_of}
 use Rattle.staat_model.specs.Texts.{IsNodeInOrder}
 use Rattle.staat_model.proofs.Members.{All-from_members}
-use Rattle.staat_model.proofs.Places.{Contains-from_place}
+use Rattle.staat_vec.proofs.Unique.{from_place}
 
 module _ {X : Type 0} (P : X → Type 0) where
   pub at_end : (before more : List X) (x : X) → slice_get (before ++ x ∷ more) (length before) ≡ Some x
@@ -25,7 +25,7 @@ module _ {X : Type 0} (P : X → Type 0) where
   pub kept_before : (before more : List X) → All P before → (m : ℕ) (y : X) → m < length before
       → slice_get (before ++ more) m ≡ Some y → P y
   kept_before before more all m y lt e =
-      All-contains P before y all (Contains-from_place before m y (in_front before more m y lt e))
+      All-contains P before y all (from_place before m y (in_front before more m y lt e))
 
   -- all before x keep the rule, and x breaks it
   abbrev pub fails_behind : (before more : List X) (x : X) → All P before → (P x → ⊥)

@@ -8,7 +8,10 @@ use Rattle.staat_model.specs.Cones.{IsAbove, IsSpanning}
 use Rattle.staat_vec.proofs.Ring.{at, num, ◌⊕◌, ◌⊖◌, ◌⊗◌, ring, ring_by}
 use Rattle.staat_vec.proofs.VecRing.{dotE, plusE, timesE, values, v0, v1, v2, scale, ring3, dot_scale}
 use Rattle.staat_vec.proofs.Order.{nonneg_mul, cancel_nonneg, nonneg_turned, negative_factor, add_nonneg, turned_nonneg, turned_positive, positive_nonneg, zero_between, negative_apart, nonneg_is, nonneg_pos}
-use Rattle.staat_model.proofs.Members.{here, there, both}
+use Rattle.staat_model.proofs.Members.{both}
+use Rattle.staat_vec.proofs.Integers.{product_zero}
+use Rattle.staat_vec.proofs.Unique.{Contains-front}
+use Rattle.staat_vec.proofs.ListLaws.{Contains-there}
 
 -- a member w at which a*x + b*u is zero, where no member is on its negative side
 Hit : List V3 → V3 → V3 → Type 0
@@ -45,7 +48,7 @@ module _ (x u v : V3) (vs : List V3) (up : IsAbove x (v ∷ vs)) where
     turned_positive (dot v u) neg,
     here_up,
     v,
-    here v vs,
+    Contains-front v vs,
     neg,
     meets_at (dot v x) (dot v u),
     All-cons (λ w. pos 0 ≤ℤ ((pos 0 -ℤ dot v u) *ℤ dot w x +ℤ dot v x *ℤ dot w u)) v vs (nonneg_is _ (pos 0) (meets_at (dot v x) (dot v u)) (nonneg_pos 0)) rest,
@@ -65,7 +68,7 @@ module _ (x u v : V3) (vs : List V3) (up : IsAbove x (v ∷ vs)) where
       inr (hit_here q (both (λ w. pos 0 ≤ℤ dot w x) (λ w. pos 0 ≤ℤ (a *ℤ dot w x +ℤ b *ℤ dot w u)) (λ w. pos 0 ≤ℤ ((pos 0 -ℤ dot v u) *ℤ dot w x +ℤ dot v x *ℤ dot w u))
       (λ w p r. ratio a b (dot v x) (dot v u) (dot w x) (dot w u) pa here_up p q neg r)
       vs rest_up rest)))
-      (λ nonneg. inr (a, b, pa, pb, w, there v w vs in_vs, low, e, All-cons (λ v. pos 0 ≤ℤ (a *ℤ dot v x +ℤ b *ℤ dot v u)) v vs nonneg rest))
+      (λ nonneg. inr (a, b, pa, pb, w, Contains-there v w vs in_vs, low, e, All-cons (λ v. pos 0 ≤ℤ (a *ℤ dot v x +ℤ b *ℤ dot v u)) v vs nonneg rest))
 
 hit : (x u : V3) (vs : List V3) → IsAbove x vs → IsAbove u vs ⊎ Hit vs x u
 hit x u [] up = inl (All-nil (λ v. pos 0 ≤ℤ dot v u))
@@ -76,9 +79,6 @@ dot_pair a b v x u = ring (values (v ∷ x ∷ u ∷ []) (a ∷ b ∷ [])) (dotE
 
 drop_term : (a p b q : ℤ) → q ≡ pos 0 → a *ℤ p +ℤ b *ℤ q ≡ a *ℤ p
 drop_term a p b q e = ring_by (a ∷ p ∷ b ∷ q ∷ []) (at 0 ⊗ at 1 ⊕ at 2 ⊗ at 3) (at 0 ⊗ at 1) (at 2) (at 3) (num (pos 0)) e tt
-
-pub multiple_zero : (k a : ℤ) → a ≡ pos 0 → k *ℤ a ≡ pos 0
-multiple_zero k a e = ring_by (k ∷ a ∷ []) (at 0 ⊗ at 1) (num (pos 0)) (at 0) (at 1) (num (pos 0)) e tt
 
 -- x turned towards u or away from it, until a member is hit that u is not at right angles to
 unfoldable pub Turned : List V3 → V3 → V3 → Type 0
@@ -93,11 +93,11 @@ from_hit vs x u k (a, b, pa, pb, w, in_vs, low, e, rest) =
       All-weaker (λ v. pos 0 ≤ℤ (a *ℤ dot v x +ℤ b *ℤ dot v s)) (λ v. pos 0 ≤ℤ dot v r) (λ v h. nonneg_is (dot v r) (a *ℤ dot v x +ℤ b *ℤ dot v s) (dot_pair a b v x s) h) vs rest,
       w,
       in_vs,
-      (λ q. negative_apart (dot w s) low (dot_scale k w u ∙ multiple_zero k (dot w u) q)),
+      (λ q. negative_apart (dot w s) low (dot_scale k w u ∙ product_zero k (dot w u) q)),
       dot_pair a b w x s ∙ e,
       a,
       pa,
-      λ z q. dot_pair a b z x s ∙ drop_term a (dot z x) b (dot z s) (dot_scale k z u ∙ multiple_zero k (dot z u) q),
+      λ z q. dot_pair a b z x s ∙ drop_term a (dot z x) b (dot z s) (dot_scale k z u ∙ product_zero k (dot z u) q),
     )
 
 scale_one : (u : V3) → scale (pos 1) u ≡ u

@@ -24,20 +24,22 @@ use Rattle.staat_model.specs.Bridges.{IsTree}
 use Rattle.staat_model.specs.Certificates.{WalledPlan, walled_leaf, walled_split, nodes_of, unwalled, walled_parts, arc_cmp, outward, inward, AreAllLeaves, HasLine, IsAcross, IsArcWithin, IsBlocked, IsBlocking, IsLeafAt, IsListed, IsStuckSet, IsValidPlan, IsValidRefusal, IsWall, IsWitness, PlanHolds, ReachesAll, RefusalHolds, SplitHolds, SplitsHold}
 use Rattle.staat_model.specs.Certify.{AreLeastWalls, ArePlanNodes, HasLeastWalls, IsBodyOf, IsCertificateOf, IsFacetAway, IsLeastArc, IsRefusalOf, IsWitnessAt, NamesWitness}
 use Rattle.staat_model.specs.Outcomes.{planned, stuck}
-use Rattle.staat_model.specs.Plans.{IsGood, Plan, leaf, parts_of, split}
+use Rattle.staat_model.specs.Plans.{IsGood, Plan}
 use Rattle.staat_model.specs.Removal.{Blocks, MeetsAlong}
 use Rattle.staat_model.specs.Sets.{Has, IsSubset, below, single}
-use Rattle.staat_model.proofs.Differences.{from_map, in_map}
+use Rattle.staat_model.proofs.Differences.{from_map}
 use Rattle.staat_model.proofs.GraphLemmas.{piece_is}
 use Rattle.staat_model.proofs.ListedVertices.{all_listed}
 use Rattle.staat_model.proofs.Members.{All-from_members}
 use Rattle.staat_model.proofs.Orders.{arc_exact, arc_total}
 use Rattle.staat_model.proofs.PieceFacets.{meets_by_facets_lemma}
-use Rattle.staat_model.proofs.Places.{one_at_place, place_from_Contains, place_within}
-use Rattle.staat_model.proofs.PlanLemmas.{has_leaf, leaf_has, no_leaf, there_is}
+use Rattle.staat_model.proofs.Places.{one_at_place, place_within}
+use Rattle.staat_model.proofs.PlanLemmas.{has_leaf, leaf_has, no_leaf, piece_within}
 use Rattle.staat_model.proofs.PlaneLemmas.{planes_apart}
 use Rattle.staat_model.proofs.SetBits.{has-below}
 use Rattle.staat_model.proofs.SetMembers.{has-insert, has-single}
+use Rattle.staat_model.proofs.LeavingLemmas.{good_parts}
+use Rattle.staat_vec.proofs.ListLaws.{Contains-map, place_of}
 
 -- ---- plans
 
@@ -52,7 +54,7 @@ split_holds parts s r d seps moves walls =
           let away = least.has in
           let facet = away.facet in
           record {
-            across = arcs.each sep.arc (in_map (λ (sep : Sep). sep.arc) seps sep c);
+            across = arcs.each sep.arc (Contains-map (λ (sep : Sep). sep.arc) seps sep c);
             shown = record { p = facet.p; q = facet.q; p_is = facet.p_is; q_is = facet.q_is; holds = record { wall = IsPrimitive-some sep.n facet.holds.primitive; beyond = facet.holds.beyond; away = away.away } };
           });
       arcs = record { each = arcs.each; all = arcs.all; once = sorted_once arc_cmp arc_total arc_exact (map (λ sep. sep.arc) seps) arcs.ascending };
@@ -63,11 +65,6 @@ splits_hold parts (walled_leaf p) w walls good = tt
 splits_hold parts (walled_split d seps moved rest) w walls good =
     let free = good.2 in
     (split_holds parts (walled_parts moved) (walled_parts rest) d seps free.moves walls.0, splits_hold parts moved (walled_parts moved) walls.1 good.3, splits_hold parts rest (walled_parts rest) walls.2 good.4)
-
--- the set that is taken apart is that of the leaves
-good_parts : (parts : List Part) (w : PartSet) (plan : Plan) → IsGood parts w plan → w ≡ parts_of plan
-good_parts parts w (leaf p) good = good
-good_parts parts w (split d moved rest) good = good.0
 
 place_cases : {X : Type 0} (xs ys : List X) (k : ℕ) (x : X) → slice_get (xs ++ ys) k ≡ Some x → (slice_get xs k ≡ Some x) ⊎ ((i : ℕ) × (k ≡ length xs + i) × (slice_get ys i ≡ Some x))
 place_cases [] ys k x e = inr (k, omega arith, e)
@@ -109,7 +106,7 @@ plan_holds parts stated plan nodes e good are =
 -- ---- witnesses
 
 there_are : (parts : List Part) (d : V3) (arc : Arc) → MeetsAlong parts d arc → (arc.i < Rattle.staat_model.specs.Assemblies.piece_count parts arc.a) × (arc.j < Rattle.staat_model.specs.Assemblies.piece_count parts arc.b)
-there_are parts d arc m = (there_is parts arc.a arc.i m.p m.p_is, there_is parts arc.b arc.j m.q m.q_is)
+there_are parts d arc m = (piece_within parts arc.a arc.i m.p m.p_is, piece_within parts arc.b arc.j m.q m.q_is)
 
 blocking : (parts : List Part) (d : V3) (arc : Arc) → IsAssembly parts → MeetsAlong parts d arc → IsBlocking parts d arc
 blocking parts d arc is m = record {
@@ -194,7 +191,7 @@ refusal_holds parts version stated w witnesses dirs is e set_is are = record {
     -- each witness is used
     tree : (witness : Witness) → Contains witnesses witness → IsWitness parts w witness
     tree witness c =
-        let place = place_from_Contains witnesses witness c in
+        let place = place_of witnesses witness c in
         let numbers = are.by_first_use in
         let used = from_map (λ (dir : Dir). dir.witness) dirs place.0 (numbers.used place.0 (place_within witnesses place.0 witness place.1)) in
         let named = All-contains (NamesWitness parts w witnesses) dirs used.0 are.each used.1 in

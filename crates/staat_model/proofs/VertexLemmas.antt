@@ -17,10 +17,11 @@ use Rattle.staat_model.specs.Plans.{IsStuck}
 use Rattle.staat_model.specs.Planes.{ArePlanes, axes, vertices, crossings}
 use Rattle.staat_model.specs.Cells.{signs_of, IsBorder}
 use Rattle.staat_model.specs.Borders.{HasBorderVertex, HasFreeVertex}
-use Rattle.staat_model.proofs.Members.{here, there}
 use Rattle.staat_model.proofs.Corners.{HoldsAxes, IsSame, corner_towards}
 use Rattle.staat_model.proofs.RestrictLemmas.{rest_apart, rest_within}
 use Rattle.staat_model.proofs.GraphLemmas.{axis_in, border_towards, arc_from_border}
+use Rattle.staat_vec.proofs.Unique.{Contains-front}
+use Rattle.staat_vec.proofs.ListLaws.{Contains-there}
 
 -- ---- the list of vertices holds each crossing and its negative
 
@@ -31,18 +32,18 @@ both_in vs f v f_in opposite_in (inr e) = subst (λ z. Contains vs z) (sym e) op
 
 in_crossings : (g h : V3) (hs : List V3) → Contains hs h → Contains (crossings g hs) (primitive (cross g h)) × Contains (crossings g hs) (negative (primitive (cross g h)))
 in_crossings g h [] (k, lt, e) = absurd (omega arith)
-in_crossings g h (m ∷ hs) (zero, lt, e) = subst (λ z. Contains (crossings g (m ∷ hs)) (primitive (cross g z)) × Contains (crossings g (m ∷ hs)) (negative (primitive (cross g z)))) e (at_head, there v (negative v) (negative v ∷ crossings g hs) (here (negative v) (crossings g hs)))
+in_crossings g h (m ∷ hs) (zero, lt, e) = subst (λ z. Contains (crossings g (m ∷ hs)) (primitive (cross g z)) × Contains (crossings g (m ∷ hs)) (negative (primitive (cross g z)))) e (at_head, Contains-there v (negative v) (negative v ∷ crossings g hs) (Contains-front (negative v) (crossings g hs)))
   where
     v : V3
     v = primitive (cross g m)
 
     at_head : Contains (v ∷ negative v ∷ crossings g hs) v
-    at_head = here v (negative v ∷ crossings g hs)
+    at_head = Contains-front v (negative v ∷ crossings g hs)
 in_crossings g h (m ∷ hs) (suc k, lt, e) =
     let v = primitive (cross g m) in
     let c = in_crossings g h hs (k, omega arith, e) in
     let f = primitive (cross g h) in
-    (there v f (negative v ∷ crossings g hs) (there (negative v) f (crossings g hs) c.0), there v (negative f) (negative v ∷ crossings g hs) (there (negative v) (negative f) (crossings g hs) c.1))
+    (Contains-there v f (negative v ∷ crossings g hs) (Contains-there (negative v) f (crossings g hs) c.0), Contains-there v (negative f) (negative v ∷ crossings g hs) (Contains-there (negative v) (negative f) (crossings g hs) c.1))
 
 pub in_vertices : (gs : List V3) (g h v : V3) → Contains gs g → Contains gs h → cross g h ≢ origin → IsSame v (primitive (cross g h)) → Contains (vertices gs) v
 in_vertices [] g h v (k, lt, e) h_in some same = absurd (omega arith)

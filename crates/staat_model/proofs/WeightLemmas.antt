@@ -1,7 +1,6 @@
 -- Weights of two lists of points, and numbers for their differences.
 use Rattle.std.proofs.Common.{◌≡◌, ◌↔◌, ℕ, zero, suc, ◌+◌, ◌*◌, ◌≤◌, refl, sym, ap, subst, ◌∙◌, arith, pos, List, [], ◌∷◌, ◌++◌, length, map, All, sum, take, drop, replicate, take-append-drop, length-take-le, length-drop, length-append, mul-le-mul}
 use Rattle.std.proofs.lemmas.List.{length-map, length-replicate}
-use Rattle.std.proofs.lemmas.List.Sums.{sum_by-cons}
 use Rattle.std.proofs.lemmas.List.Elements.{All-nil, All-cons, All-head, All-tail, All-weaker, All-map, All-append, All-take, All-drop}
 use Rattle.staat_vec.specs.declared.vector.V3.{V3}
 use Rattle.staat_vec.specs.Vectors.{plus, times, minus, origin}
@@ -10,9 +9,8 @@ use Rattle.staat_vec.proofs.VecRing.{plusE, minusE, timesE, originE, values, v0,
 use Rattle.staat_model.specs.Meeting.{mix, Meets}
 use Rattle.staat_model.specs.Cones.{differences, IsReached}
 use Rattle.staat_model.proofs.Mixes.{mix_scale}
-
-sum-cons : (x : ℕ) (xs : List ℕ) → sum (x ∷ xs) ≡ x + sum xs
-sum-cons x xs = sum_by-cons (λ x. x) x xs
+use Rattle.staat_vec.proofs.ListLaws.{sum-cons}
+use Rattle.staat_vec.proofs.VectorLaws.{times_sum_plus}
 
 plus_assoc : (a b c : V3) → plus (plus a b) c ≡ plus a (plus b c)
 plus_assoc a b c = ring3 (values (a ∷ b ∷ c ∷ []) []) (plusE (plusE v0 v1) v2) (plusE v0 (plusE v1 v2)) (tt, tt, tt)
@@ -135,18 +133,12 @@ positive-zip_add (x ∷ xs) (y ∷ ys) e h =
     let one = All-head (λ w. 1 ≤ w) x xs h in
     All-cons (λ w. 1 ≤ w) (x + y) (zip_add xs ys) (omega (arith, one)) (positive-zip_add xs ys (omega arith) (All-tail (λ w. 1 ≤ w) x xs h))
 
-zip_step : (x y : ℕ) (v m n : V3) → plus (times (x + y) v) (plus m n) ≡ plus (plus (times x v) m) (plus (times y v) n)
-zip_step x y v m n =
-    ring3 (values (v ∷ m ∷ n ∷ []) (pos x ∷ pos y ∷ []))
-    (plusE (timesE (at 9 ⊕ at 10) v0) (plusE v1 v2))
-    (plusE (plusE (timesE (at 9) v0) v1) (plusE (timesE (at 10) v0) v2)) (tt, tt, tt)
-
 mix-zip_add : (xs ys : List ℕ) (vs : List V3) → length xs ≡ length ys → mix (zip_add xs ys) vs ≡ plus (mix xs vs) (mix ys vs)
 mix-zip_add [] [] vs e = origin_plus origin
 mix-zip_add [] (y ∷ ys) vs e = absurd (omega arith)
 mix-zip_add (x ∷ xs) [] vs e = absurd (omega arith)
 mix-zip_add (x ∷ xs) (y ∷ ys) [] e = origin_plus origin
-mix-zip_add (x ∷ xs) (y ∷ ys) (v ∷ vs) e = ap (plus (times (x + y) v)) (mix-zip_add xs ys vs (omega arith)) ∙ zip_step x y v (mix xs vs) (mix ys vs)
+mix-zip_add (x ∷ xs) (y ∷ ys) (v ∷ vs) e = ap (plus (times (x + y) v)) (mix-zip_add xs ys vs (omega arith)) ∙ times_sum_plus x y v (mix xs vs) (mix ys vs)
 
 mix-zeros : (vs : List V3) → mix (replicate (length vs) 0) vs ≡ origin
 mix-zeros [] = refl

@@ -1,5 +1,5 @@
 -- The pieces of parts and their shadows, by their places.
-use Rattle.std.proofs.Common.{◌≡◌, ◌∙◌, ◌↔◌, Bool, true, false, ℕ, zero, suc, ◌+◌, ◌<◌, ◌≤◌, All, Contains, List, [], ◌∷◌, length, get_or, below_more, ap, subst, sym, refl, arith}
+use Rattle.std.proofs.Common.{◌≡◌, ◌∙◌, ◌↔◌, Bool, false, ℕ, zero, suc, ◌+◌, ◌<◌, ◌≤◌, All, Contains, List, [], ◌∷◌, length, get_or, below_more, ap, subst, sym, refl, arith}
 use Rattle.std.specs.Prelude.{Any, IsTrue, Some, flat_map, slice_get}
 use Rattle.std.specs.List.{AllZip}
 use Rattle.std.proofs.lemmas.List.{get_or_default}
@@ -16,7 +16,7 @@ use Rattle.staat_model.specs.Meeting.{Meets}
 use Rattle.staat_model.specs.Pieces.{IsPiece}
 use Rattle.staat_model.specs.Removal.{Blocks, MeetsAlong}
 use Rattle.staat_model.proofs.Members.{all_back, all_front}
-use Rattle.staat_model.proofs.Places.{Contains-from_place, place_within, same_some}
+use Rattle.staat_model.proofs.Places.{place_within}
 use Rattle.staat_model.proofs.Reversed.{meets_opposite_lemma}
 use Rattle.staat_motion.specs.declared.frame.Frame.{Frame}
 use Rattle.staat_motion.specs.declared.shadow.Shadow.{Shadow}
@@ -24,6 +24,8 @@ use Rattle.staat_motion.specs.Motions.{HasFacets, HasBothPieces, HasShadows, IsM
 use Rattle.staat_motion.specs.Shadows.{ArePartShadows, AreWholes, IsApartAlong, IsBody, IsSeenApart, IsShadow, IsWholeOf, part_points}
 use Rattle.staat_motion.proofs.Walls.{apart_is, seen_never, seen_within}
 use Rattle.staat_motion.proofs.Zips.{zip_back, zip_length}
+use Rattle.staat_model.proofs.GraphLemmas.{piece_in as is_piece_at}
+use Rattle.staat_vec.proofs.Options.{some_injective}
 
 -- ---- one piece
 
@@ -39,7 +41,7 @@ pub shadow_of_piece : (f : Frame) (parts : List Part) (shadows : List (List Shad
     → IsShadow f p s
 shadow_of_piece f parts shadows a i p s z is e =
     let (q, q_is, h) = piece_from_shadow f parts shadows a i s z e in
-    subst (λ r. IsShadow f r s) (same_some q p (sym q_is ∙ is)) h
+    subst (λ r. IsShadow f r s) (some_injective q p (sym q_is ∙ is)) h
 
 -- ---- what is seen of two pieces
 
@@ -56,18 +58,10 @@ apart_at parts along arc s t r is made s_is t_is told = (
       told.1 ((apart_is along.frame along.d at.p at.q s t is.across ps qt).1 at.holds)),
 )
 
--- the pieces of parts are pieces
-is_piece_at : (parts : List Part) (a i : ℕ) (p : List V3) → All IsPart parts → piece_at parts a i ≡ Some p → IsPiece p
-is_piece_at [] a i p all e = absurd cc
-is_piece_at (part ∷ parts) zero i p all e =
-    let here = All-head IsPart part parts all in
-    All-contains IsPiece part.pieces p here.pieces (Contains-from_place part.pieces i p e)
-is_piece_at (part ∷ parts) (suc a) i p all e = is_piece_at parts a i p (All-tail IsPart part parts all) e
-
 pub apart_never : (parts : List Part) (along : Motion) (arc : Arc) → IsMotionOf parts along → HoldsAt parts arc (λ p q. IsSeenApart along.frame p q along.d) → MeetsAlong parts along.d arc → ⊥
 apart_never parts along arc made seen meets =
-    let p_same = same_some meets.p seen.p (sym meets.p_is ∙ seen.p_is) in
-    let q_same = same_some meets.q seen.q (sym meets.q_is ∙ seen.q_is) in
+    let p_same = some_injective meets.p seen.p (sym meets.p_is ∙ seen.p_is) in
+    let q_same = some_injective meets.q seen.q (sym meets.q_is ∙ seen.q_is) in
     seen_never along.frame seen.p seen.q along.d (is_piece_at parts arc.a arc.i seen.p made.parts_are seen.p_is) seen.holds (subst (λ p. Meets p seen.q along.d) p_same (subst (λ q. Meets meets.p q along.d) q_same meets.holds))
 
 -- ---- whole parts
@@ -76,7 +70,7 @@ whole_at : (f : Frame) (parts : List Part) (wholes : List Shadow) (a : ℕ) (w :
 whole_at f [] [] a w z e = absurd cc
 whole_at f [] (u ∷ wholes) a w z e = absurd z
 whole_at f (part ∷ parts) [] a w z e = absurd z
-whole_at f (part ∷ parts) (u ∷ wholes) zero w z e = subst (IsShadow f (points_of_body (part ∷ parts) zero)) (same_some u w e) z.0
+whole_at f (part ∷ parts) (u ∷ wholes) zero w z e = subst (IsShadow f (points_of_body (part ∷ parts) zero)) (some_injective u w e) z.0
 whole_at f (part ∷ parts) (u ∷ wholes) (suc a) w z e = whole_at f parts wholes a w z.1 e
 
 pub parts_apart_at : (parts : List Part) (along : Motion) (a b : ℕ) (s t : Shadow) (r : Bool) → IsMotion along.d along.frame → IsMotionOf parts along → slice_get along.wholes a ≡ Some s → slice_get along.wholes b ≡ Some t
@@ -88,7 +82,7 @@ parts_apart_at parts along a b s t r is made s_is t_is told =
 
 all_of_piece : (F : V3 → Type 0) (pieces : List (List V3)) (i : ℕ) (p : List V3) → All F (flat_map (λ q. q) pieces) → slice_get pieces i ≡ Some p → All F p
 all_of_piece F [] i p all e = absurd cc
-all_of_piece F (q ∷ pieces) zero p all e = subst (All F) (same_some q p e) (all_front F q (flat_map (λ q. q) pieces) (subst (All F) (flat_map-cons (λ q. q) q pieces) all))
+all_of_piece F (q ∷ pieces) zero p all e = subst (All F) (some_injective q p e) (all_front F q (flat_map (λ q. q) pieces) (subst (All F) (flat_map-cons (λ q. q) q pieces) all))
 all_of_piece F (q ∷ pieces) (suc i) p all e = all_of_piece F pieces i p (all_back F q (flat_map (λ q. q) pieces) (subst (All F) (flat_map-cons (λ q. q) q pieces) all)) e
 
 all_at : (F : V3 → Type 0) (parts : List Part) (a i : ℕ) (p : List V3) → All F (points_of_body parts a) → piece_at parts a i ≡ Some p → All F p
@@ -163,7 +157,7 @@ has_shadows parts along arc made has =
 -- all points of a part are those of its pieces
 points_are : (parts : List Part) (a : ℕ) (ps : List (List V3)) → pieces_of_body parts a ≡ Some ps → points_of_body parts a ≡ flat_map (λ p. p) ps
 points_are [] a ps e = absurd cc
-points_are (part ∷ parts) zero ps e = ap (λ (l : List (List V3)). flat_map (λ p. p) l) (same_some part.pieces ps e)
+points_are (part ∷ parts) zero ps e = ap (λ (l : List (List V3)). flat_map (λ p. p) l) (some_injective part.pieces ps e)
 points_are (part ∷ parts) (suc a) ps e = points_are parts a ps e
 
 pub part_zip : (f : Frame) (parts : List Part) (shadows : List (List Shadow)) (a : ℕ) (ps : List (List V3)) (ss : List Shadow) → ArePartShadows f parts shadows → pieces_of_body parts a ≡ Some ps → slice_get shadows a ≡ Some ss
@@ -171,7 +165,7 @@ pub part_zip : (f : Frame) (parts : List Part) (shadows : List (List Shadow)) (a
 part_zip f [] [] a ps ss z p s = absurd cc
 part_zip f [] (t ∷ shadows) a ps ss z p s = absurd z
 part_zip f (part ∷ parts) [] a ps ss z p s = absurd z
-part_zip f (part ∷ parts) (t ∷ shadows) zero ps ss z p s = subst (λ u. AllZip (IsShadow f) u ss) (same_some part.pieces ps p) (subst (AllZip (IsShadow f) part.pieces) (same_some t ss s) z.0)
+part_zip f (part ∷ parts) (t ∷ shadows) zero ps ss z p s = subst (λ u. AllZip (IsShadow f) u ss) (some_injective part.pieces ps p) (subst (AllZip (IsShadow f) part.pieces) (some_injective t ss s) z.0)
 part_zip f (part ∷ parts) (t ∷ shadows) (suc a) ps ss z p s = part_zip f parts shadows a ps ss z.1 p s
 
 pub body_at : (parts : List Part) (along : Motion) (a : ℕ) (ps : List (List V3)) (ss : List Shadow) (w : Shadow) → IsMotionOf parts along → pieces_of_body parts a ≡ Some ps → slice_get along.shadows a ≡ Some ss → slice_get along.wholes a ≡ Some w
@@ -183,7 +177,7 @@ body_at parts along a ps ss w made p s t = record {
 
 piece_in : (parts : List Part) (a i : ℕ) (ps : List (List V3)) → pieces_of_body parts a ≡ Some ps → piece_at parts a i ≡ slice_get ps i
 piece_in [] a i ps e = absurd cc
-piece_in (part ∷ parts) zero i ps e = ap (λ l. slice_get l i) (same_some part.pieces ps e)
+piece_in (part ∷ parts) zero i ps e = ap (λ l. slice_get l i) (some_injective part.pieces ps e)
 piece_in (part ∷ parts) (suc a) i ps e = piece_in parts a i ps e
 
 -- a part blocks another just where some piece of the one meets some piece of the other
@@ -228,10 +222,6 @@ apart_from_all f d p qs is_p seen (j, q, lt, e, m) =
 pub none_any : {X : Type 0} (P : X → Type 0) (xs : List X) (n : ℕ) → n ≡ length xs → ((k : ℕ) (x : X) → k < n → get_or xs k x ≡ x → P x → ⊥) → IsTrue false ↔ Any P xs
 none_any P xs n all none = ((λ t. absurd cc), (λ (k, x, lt, is, h). absurd (none k x (omega (arith, lt, all)) is h)))
 
--- what the element at a place has, some element has
-pub some_any : {X : Type 0} (P : X → Type 0) (xs : List X) (k : ℕ) (x : X) → k < length xs → x ≡ get_or xs k x → P x → IsTrue true ↔ Any P xs
-some_any P xs k x lt is h = ((λ t. (k, x, lt, sym is, h)), (λ a. refl))
-
 -- one more element that does not have it
 pub none_more : {X : Type 0} (P : X → Type 0) (xs : List X) (i : ℕ) (x : X) → i < length xs → x ≡ get_or xs i x → (P x → ⊥) → ((k : ℕ) (y : X) → k < i → get_or xs k y ≡ y → P y → ⊥) → (k : ℕ) (y : X) → k < i + 1 → get_or xs k y ≡ y → P y → ⊥
 none_more P xs i x lt is not none k y =
@@ -243,8 +233,8 @@ pub meets_at : (parts : List Part) (arc : Arc) (d : V3) (p q : List V3) (r : Boo
 meets_at parts arc d p q r p_is q_is told = (
   (λ h. record { p = p; q = q; p_is = p_is; q_is = q_is; holds = told.0 h }),
   (λ at.
-      let p_same = same_some at.p p (sym at.p_is ∙ p_is) in
-      let q_same = same_some at.q q (sym at.q_is ∙ q_is) in
+      let p_same = some_injective at.p p (sym at.p_is ∙ p_is) in
+      let q_same = some_injective at.q q (sym at.q_is ∙ q_is) in
       told.1 (subst (λ u. Meets u q d) p_same (subst (λ u. Meets at.p u d) q_same at.holds))),
 )
 

@@ -16,6 +16,8 @@ use Rattle.staat_motion.specs.declared.spans.Span.{Span}
 use Rattle.staat_motion.specs.Frames.{IsFrame, IsOr, x_axis, y_axis, z_axis}
 use Rattle.staat_motion.specs.Shadows.{IsApartAlong, HasGap, IsSeenApart, IsShadow, IsWallEitherWay, normals}
 use Rattle.staat_motion.specs.Spans.{IsReachOf, IsSpan}
+use Rattle.staat_vec.proofs.Integers.{span_nonneg, le_from_difference}
+use Rattle.staat_vec.proofs.VectorLaws.{negative_some}
 
 -- ---- one normal
 
@@ -23,17 +25,11 @@ use Rattle.staat_motion.specs.Spans.{IsReachOf, IsSpan}
 beyond : (n : V3) (p q : List V3) (s t : Span) → IsSpan n p s → IsSpan n q t → (s.high ≤ℤ t.low) ↔ IsBeyond p q n
 beyond n p q s t ps qt = (
   (λ le. All-from_members (λ a. All (λ b. pos 0 ≤ℤ dot n (minus b a)) q) p (λ a a_in. All-from_members (λ b. pos 0 ≤ℤ dot n (minus b a)) q (λ b b_in.
-      wide (dot n a) (dot n b) s.high t.low (dot n (minus b a)) (dot-minus n b a) (All-contains (λ x. dot n x ≤ℤ s.high) p a ps.greatest a_in) (All-contains (λ x. t.low ≤ℤ dot n x) q b qt.least b_in) le))),
+      span_nonneg (dot n a) (dot n b) s.high t.low (dot n (minus b a)) (dot-minus n b a) (All-contains (λ x. dot n x ≤ℤ s.high) p a ps.greatest a_in) (All-contains (λ x. t.low ≤ℤ dot n x) q b qt.least b_in) le))),
   (λ up. let high = ps.high_in in let low = qt.low_in in
-      meet s.high t.low (dot n high.point) (dot n low.point) (dot n (minus low.point high.point)) high.is low.is (dot-minus n low.point high.point)
+      le_from_difference s.high t.low (dot n high.point) (dot n low.point) (dot n (minus low.point high.point)) high.is low.is (dot-minus n low.point high.point)
       (All-contains (λ b. pos 0 ≤ℤ dot n (minus b high.point)) q low.point (All-contains (λ a. All (λ b. pos 0 ≤ℤ dot n (minus b a)) q) p high.point up high.member) low.member)),
 )
-  where
-    wide : (x y high low z : ℤ) → z ≡ y -ℤ x → x ≤ℤ high → low ≤ℤ y → high ≤ℤ low → pos 0 ≤ℤ z
-    wide x y high low z e h g k = omega (arith, ints, e, h, g, k)
-
-    meet : (high low x y z : ℤ) → high ≡ x → low ≡ y → z ≡ y -ℤ x → pos 0 ≤ℤ z → high ≤ℤ low
-    meet high low x y z a b e h = omega (arith, ints, a, b, e, h)
 
 -- the span along the negative
 abbrev turned : Span → Span
@@ -55,12 +51,6 @@ turn n p s h = record {
 
     up : (x low y : ℤ) → y ≡ neg_ℤ x → low ≤ℤ x → y ≤ℤ neg_ℤ low
     up x low y e h = omega (arith, ints, e, h)
-
-negative_nonzero : (n : V3) → n ≢ origin → negative n ≢ origin
-negative_nonzero n some e = some (λ i. record { x = zeroed n.x (ap (λ v. v.x) e) i; y = zeroed n.y (ap (λ v. v.y) e) i; z = zeroed n.z (ap (λ v. v.z) e) i })
-  where
-    zeroed : (z : ℤ) → neg_ℤ z ≡ pos 0 → z ≡ pos 0
-    zeroed z e = omega (arith, ints, e)
 
 -- the spans show a wall just where there is one with that normal
 between_is_wall : (n d : V3) (p q : List V3) (along : ℤ) (s t : Span) → n ≢ origin → dot n d ≡ along → IsSpan n p s → IsSpan n q t → HasGap along s t ↔ IsWallEitherWay p q d n
@@ -84,7 +74,7 @@ between_is_wall n d p q along s t some is ps qt = (there, back)
     there : HasGap along s t → IsWallEitherWay p q d n
     there (inl (away, le)) = inl (record { wall = some; beyond = law.0 le; away = subst (λ z. z ≤ℤ pos 0) (sym is) away })
     there (inr (ahead, le)) = inr (record {
-      wall = negative_nonzero n some;
+      wall = negative_some n some;
       beyond = law'.0 ((swapped t.high s.low).0 le);
       away = turned_away (dot n d) along (dot (negative n) d) is (negative_dot n d) ahead;
     })

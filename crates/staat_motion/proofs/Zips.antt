@@ -3,7 +3,7 @@ use Rattle.std.proofs.Common.{◌≡◌, ℕ, zero, suc, ◌+◌, ◌<◌, List,
 use Rattle.std.specs.List.{AllZip}
 use Rattle.std.specs.Prelude.{Some, slice_get}
 use Rattle.std.proofs.lemmas.List.{take_more}
-use Rattle.staat_model.proofs.Places.{same_some}
+use Rattle.staat_vec.proofs.Options.{some_injective}
 
 pub zip_push : {X Y : Type 0} (R : X → Y → Type 0) (xs : List X) (ys : List Y) (x : X) (y : Y) → AllZip R xs ys → R x y → AllZip R (xs ++ x ∷ []) (ys ++ y ∷ [])
 zip_push R [] [] x y z r = (r, tt)
@@ -25,7 +25,7 @@ pub zip_at : {X Y : Type 0} (R : X → Y → Type 0) (xs : List X) (ys : List Y)
 zip_at R [] [] k x y z a b = cc
 zip_at R [] (c ∷ ys) k x y z a b = absurd z
 zip_at R (c ∷ xs) [] k x y z a b = absurd z
-zip_at R (c ∷ xs) (e ∷ ys) zero x y z a b = subst (λ u. R u y) (same_some c x a) (subst (R c) (same_some e y b) z.0)
+zip_at R (c ∷ xs) (e ∷ ys) zero x y z a b = subst (λ u. R u y) (some_injective c x a) (subst (R c) (some_injective e y b) z.0)
 zip_at R (c ∷ xs) (e ∷ ys) (suc k) x y z a b = zip_at R xs ys k x y z.1 a b
 
 -- what stands at a place of the second list has its own in the first
@@ -33,7 +33,7 @@ pub zip_back : {X Y : Type 0} (R : X → Y → Type 0) (xs : List X) (ys : List 
 zip_back R [] [] k y z b = absurd cc
 zip_back R [] (e ∷ ys) k y z b = absurd z
 zip_back R (c ∷ xs) [] k y z b = absurd z
-zip_back R (c ∷ xs) (e ∷ ys) zero y z b = (c, refl, subst (R c) (same_some e y b) z.0)
+zip_back R (c ∷ xs) (e ∷ ys) zero y z b = (c, refl, subst (R c) (some_injective e y b) z.0)
 zip_back R (c ∷ xs) (e ∷ ys) (suc k) y z b = zip_back R xs ys k y z.1 b
 
 -- what is read at a place of both

@@ -1,27 +1,22 @@
 -- The computed number is the one whose decimal text stands there.
 use Rattle.std.proofs.Common.{◌≡◌, ◌^◌, ◌<◌, ◌≤◌, ℕ, Bool, true, false, List, length, get_or, ap, sym, refl, arith}
-use Rattle.std.specs.Prelude.{IfSome, IfNone, Option, Some, None, cond, ◌&&◌, nat_le}
+use Rattle.std.specs.Prelude.{IfSome, IfNone, Option, Some, None, cond, nat_le}
 use Rattle.std.specs.Str.{all_ascii_digits}
 use Rattle.std.specs.Str.Parse.{digits_value}
-use Rattle.std.proofs.lemmas.Bool.{false≢true, le-leb, leb-true}
+use Rattle.std.proofs.lemmas.Bool.{le-leb, leb-true}
 use Rattle.std.proofs.lemmas.Bool.Decides.{nat_tests}
 use Rattle.std.proofs.lemmas.Str.Parse.{IsNumeralModel, numerals_by_value, tells_all_ascii_digits}
 use Rattle.staat_number.specs.Numbers.{natural_within}
 use Rattle.staat_number.specs.Spelling.{IsNatural, is_plain_front}
 use Rattle.staat_number.proofs.SpellingLemmas.{natural_front, natural_some}
+use Rattle.staat_vec.proofs.Truth.{and_split}
+use Rattle.staat_vec.proofs.Options.{some_injective}
 
 digit_tests : IsNumeralModel (λ ds. all_ascii_digits ds ≡ true) (digits_value 10)
 digit_tests = numerals_by_value _ tells_all_ascii_digits
 
-both : (a b : Bool) → (a && b) ≡ true → (a ≡ true) × (b ≡ true)
-both true b e = (refl, e)
-both false b e = absurd (false≢true e)
-
-some_is : (m n : ℕ) → Some m ≡ Some n → m ≡ n
-some_is m n e = cc
-
 passed : (b : Bool) (m n : ℕ) → cond b (Some m) None ≡ Some n → (b ≡ true) × (m ≡ n)
-passed true m n e = (refl, some_is m n e)
+passed true m n e = (refl, some_injective m n e)
 passed false m n e = cc
 
 plain_front : (ds : List ℕ) → 0 < length ds → (get_or ds 0 0 ≡ 48 → length ds ≡ 1) → is_plain_front ds ≡ true
@@ -41,8 +36,8 @@ natural_back : (most n : ℕ) (ds : List ℕ) → most < 10 ^ 64 → natural_wit
 unfolding natural_within
 natural_back most n ds small e =
     let found = passed _ (digits_value 10 ds) n e in
-    let front = both (is_plain_front ds) _ found.0 in
-    let digits = both (all_ascii_digits ds) _ front.1 in
+    let front = and_split (is_plain_front ds) _ found.0 in
+    let digits = and_split (all_ascii_digits ds) _ front.1 in
     let bound : digits_value 10 ds ≤ most = leb-true (digits_value 10 ds) most digits.1 in
     natural_some most ds (Some n) small front.0 (record { digits = digit_tests.to ds digits.0; value = sym found.1; bound = omega (arith, bound, found.1) })
 

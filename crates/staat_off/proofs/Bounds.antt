@@ -19,7 +19,7 @@ use Rattle.staat_off.specs.Readers.{Reader, decided, many, resumed, return, valu
 use Rattle.staat_off.specs.Reading.{accepted, coordinate, corner_count, count, end, face, file, header, index, line_passed, point, reading, short_number, word}
 use Rattle.staat_off.specs.Scan.{Rest}
 use Rattle.staat_off.specs.Values.{signed}
-use Rattle.staat_off.proofs.DigitLemmas.{both}
+use Rattle.staat_vec.proofs.Truth.{and_split}
 
 -- what was read before the rest was read on
 pub resumed_ok : {A B : Type 0} (r : Result (A × Rest) OffRefusal) (next : A → Reader B) (y : B × Rest) → resumed r next ≡ Ok y → (x : A × Rest) × (r ≡ Ok x) × (next x.0 x.1 ≡ Ok y)
@@ -71,7 +71,7 @@ unfolding corner_count
 corner_count_bound rest y h =
     let test : ℕ → Bool = λ n. nat_le 1 n && nat_le n MOST_COUNT in
     let w = resumed_ok (word rest) (λ w. accepted test (short_number w.text) (BadCount w.at)) y h in
-    let parts = both (nat_le 1 y.0) (nat_le y.0 MOST_COUNT) (passes test (short_number w.0.0.text) (BadCount w.0.0.at) w.0.1 y w.2) in
+    let parts = and_split (nat_le 1 y.0) (nat_le y.0 MOST_COUNT) (passes test (short_number w.0.0.text) (BadCount w.0.0.at) w.0.1 y w.2) in
     (leb-true 1 y.0 parts.0, leb-true y.0 MOST_COUNT parts.1)
 
 index_below : (vertices : ℕ) (rest : Rest) (y : ℕ × Rest) → index vertices rest ≡ Ok y → y.0 < vertices

@@ -12,12 +12,7 @@ use Rattle.staat_off.specs.Scan.{Rest, after_line, behind, gap, line_len, next_w
 use Rattle.staat_off.specs.Words.{HasNoLineEnd, HasNoWord, IsNextLine, IsNextWord, IsStop, IsWordPlace, Word, end_of, is_plain}
 use Rattle.staat_off.proofs.Places.{byte_at, no_byte, nothing_left}
 use Rattle.staat_off.proofs.WordLemmas.{Flag, IsRun, gap_closes, gap_front, gap_skips, run_of}
-
-none_some : (b : ℕ) → None ≡ Some b → ⊥
-none_some b h = cc
-
-same_some : (a b : ℕ) → Some a ≡ Some b → a ≡ b
-same_some a b h = cc
+use Rattle.staat_vec.proofs.Options.{none_some, some_injective}
 
 -- ---- the word in front
 
@@ -165,7 +160,7 @@ line_none file p b q at ne rest = λ i low high e. elim (cases_lt p i) [
   | inl above ↦ rest i above high e
   | inr here ↦
       let same : i ≡ p = omega arith in
-      ne (same_some b LINE_FEED (sym at ∙ subst (λ k. slice_get file k ≡ Some LINE_FEED) same e))
+      ne (some_injective b LINE_FEED (sym at ∙ subst (λ k. slice_get file k ≡ Some LINE_FEED) same e))
 ]
 
 line_by : (file : List ℕ) (p b n : ℕ) (t : Bool) → (b == LINE_FEED) ≡ t → slice_get file p ≡ Some b → IsNextLine file (suc p) (suc p + n) → IsNextLine file p (p + cond t 1 (n + 1))
@@ -208,7 +203,7 @@ line_stops file p q le (inl line) = record {
   where
     no_word_at_end : (xs : List ℕ) (i : ℕ) → slice_get xs i ≡ Some LINE_FEED → IsWordPlace xs i → ⊥
     no_word_at_end xs i e w =
-        let feed : w.byte ≡ LINE_FEED = same_some w.byte LINE_FEED (sym w.at ∙ e) in
+        let feed : w.byte ≡ LINE_FEED = some_injective w.byte LINE_FEED (sym w.at ∙ e) in
         false≢true (ap is_plain (sym feed) ∙ w.plain)
 line_stops file p q le (inr rest) = record {
   within = omega (arith, rest.0);

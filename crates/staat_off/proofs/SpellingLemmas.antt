@@ -9,7 +9,9 @@ use Rattle.std.proofs.lemmas.List.{take-append-drop}
 use Rattle.std.proofs.Math.Seq.{take-append_seam, drop-append_seam}
 use Rattle.staat_off.specs.Numerals.{IsNumeral, Numeral, after_digits, after_fraction, after_sign, are_digits, digits_in, exponent_of, fraction_in, is_minus_first, is_nonempty, mantissa_of, numeral_of, numeral_with, unsigned_of}
 use Rattle.staat_off.specs.Spelling.{IsPoint, IsPower, IsSign, Spells}
-use Rattle.staat_off.proofs.DigitLemmas.{all_in_front, both, digit_is}
+use Rattle.staat_off.proofs.DigitLemmas.{all_in_front, digit_is}
+use Rattle.staat_vec.proofs.Options.{option_map_found, test_passed}
+use Rattle.staat_vec.proofs.Truth.{and_split}
 
 -- ---- what a word is made of
 
@@ -73,8 +75,8 @@ letter_of b ds false e f =
 power_by : (b : ℕ) (bs : List ℕ) (t : Bool) (d : Bool × List ℕ) → ((b == 101 || b == 69) && are_digits (after_sign bs)) ≡ t → ◌≡◌ {A = Option (Bool × List ℕ)} (cond t (Some (is_minus_first bs, after_sign bs)) None) (Some d) → IsPower d.0 d.1 (b ∷ bs) × (list_all is_ascii_digit d.1 ≡ true)
 power_by b bs false d e h = cc
 power_by b bs true d e h =
-    let outer = both (b == 101 || b == 69) (are_digits (after_sign bs)) e in
-    let digits = both (is_nonempty (after_sign bs)) (list_all is_ascii_digit (after_sign bs)) outer.1 in
+    let outer = and_split (b == 101 || b == 69) (are_digits (after_sign bs)) e in
+    let digits = and_split (is_nonempty (after_sign bs)) (list_all is_ascii_digit (after_sign bs)) outer.1 in
     let sign = sign_of bs in
     let down : is_minus_first bs ≡ d.0 = cc in
     let exponent : after_sign bs ≡ d.1 = cc in
@@ -96,14 +98,6 @@ power_of [] d h =
     (inl (refl, sym down, sym exponent), subst (λ xs. list_all is_ascii_digit xs ≡ true) exponent refl)
 power_of (b ∷ bs) d h =
     power_by b bs ((b == 101 || b == 69) && are_digits (after_sign bs)) d refl h
-
-mapped : {X Y : Type 0} (f : X → Y) (o : Option X) (y : Y) → option_map f o ≡ Some y → (x : X) × (o ≡ Some x) × (f x ≡ y)
-mapped f None y h = cc
-mapped f (Some x) y h = (x, refl, cc)
-
-told : {X : Type 0} (t : Bool) (o : Option X) (x : X) → cond t o None ≡ Some x → (t ≡ true) × (o ≡ Some x)
-told true o x h = (refl, h)
-told false o x h = cc
 
 some_digit : (whole fraction : List ℕ) → (is_nonempty whole || is_nonempty fraction) ≡ true → 1 ≤ length whole + length fraction
 some_digit [] [] h = cc
@@ -128,8 +122,8 @@ spelled_by word n le h =
     let rest = after_digits bs in
     let whole = digits_in bs in
     let fraction = fraction_in rest in
-    let outer = told (is_nonempty whole || is_nonempty fraction) (option_map (numeral_with (is_minus_first word) whole fraction) (exponent_of (after_fraction rest))) n h in
-    let inner = mapped (numeral_with (is_minus_first word) whole fraction) (exponent_of (after_fraction rest)) n outer.1 in
+    let outer = test_passed (is_nonempty whole || is_nonempty fraction) (option_map (numeral_with (is_minus_first word) whole fraction) (exponent_of (after_fraction rest))) n h in
+    let inner = option_map_found (numeral_with (is_minus_first word) whole fraction) (exponent_of (after_fraction rest)) n outer.1 in
     let sign = sign_of word in
     let point = point_of rest in
     let power = power_of (after_fraction rest) inner.0 inner.1 in
@@ -198,7 +192,7 @@ no_front (b ∷ bs) e = go (is_ascii_digit b) refl e
 front_len : (ds tail : List ℕ) → list_all is_ascii_digit ds ≡ true → no_digit_first tail ≡ true → prefix_len is_ascii_digit (ds ++ tail) ≡ length ds
 front_len [] tail all e = no_front tail e
 front_len (d ∷ ds) tail all e =
-    let parts = both (is_ascii_digit d) (list_all is_ascii_digit ds) all in
+    let parts = and_split (is_ascii_digit d) (list_all is_ascii_digit ds) all in
     let first : is_ascii_digit d ≡ true = parts.0 in
     rw first (omega (arith, front_len ds tail parts.1 e))
 
@@ -219,7 +213,7 @@ record IsEnd (is_down : Bool) (exponent text : List ℕ) : Type 0 where
 digits_unsigned : (ds : List ℕ) → list_all is_ascii_digit ds ≡ true → no_sign_first ds ≡ true
 digits_unsigned [] all = refl
 digits_unsigned (d ∷ ds) all =
-    let first = digit_is d (both (is_ascii_digit d) (list_all is_ascii_digit ds) all).0 in
+    let first = digit_is d (and_split (is_ascii_digit d) (list_all is_ascii_digit ds) all).0 in
     grind (arith, nat_tests, first.0)
 
 are_digits_of : (ds : List ℕ) → 1 ≤ length ds → list_all is_ascii_digit ds ≡ true → are_digits ds ≡ true
@@ -290,7 +284,7 @@ middle_is n point power digits (inr (one, some)) end =
 unsigned_whole : (ds tail : List ℕ) → list_all is_ascii_digit ds ≡ true → 1 ≤ length ds → no_sign_first (ds ++ tail) ≡ true
 unsigned_whole [] tail all some = absurd (omega arith)
 unsigned_whole (d ∷ ds) tail all some =
-    let first = digit_is d (both (is_ascii_digit d) (list_all is_ascii_digit ds) all).0 in
+    let first = digit_is d (and_split (is_ascii_digit d) (list_all is_ascii_digit ds) all).0 in
     grind (arith, nat_tests, first.0)
 
 no_sign : (n : Numeral) (point power : List ℕ) → IsNumeral n → IsPoint n.whole n.fraction point → no_sign_first (n.whole ++ (point ++ (n.fraction ++ power))) ≡ true

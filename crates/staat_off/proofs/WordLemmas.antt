@@ -1,5 +1,5 @@
 -- The scan finds the words of a file.
-use Rattle.std.proofs.Common.{◌≡◌, ◌≢◌, ◌==◌, ◌+◌, ◌<◌, ◌≤◌, ℕ, zero, suc, Bool, true, false, not, List, [], ◌∷◌, length, drop, Some, None, refl, sym, ap, ◌∙◌, cond, subst, arith, inl, inr}
+use Rattle.std.proofs.Common.{◌≡◌, ◌≢◌, ◌==◌, ◌+◌, ◌<◌, ◌≤◌, ℕ, zero, suc, Bool, true, false, not, List, [], ◌∷◌, length, drop, Some, refl, sym, ap, ◌∙◌, cond, subst, arith, inl, inr}
 use Rattle.std.specs.Prelude.{slice_get}
 use Rattle.std.specs.List.{prefix_len}
 use Rattle.std.proofs.lemmas.Bool.{cases_lt, eqb-true, eqb-false, false≢true}
@@ -7,14 +7,12 @@ use Rattle.staat_off.specs.declared.rest.TheConstants.{HASH, LINE_FEED}
 use Rattle.staat_off.specs.Scan.{begins, gap, goes_on}
 use Rattle.staat_off.specs.Words.{HasNoWord, IsCommented, IsWordPlace, is_plain}
 use Rattle.staat_off.proofs.Places.{byte_at, no_byte}
+use Rattle.staat_vec.proofs.Options.{none_some, some_injective}
 
 -- whether a comment goes on from before a place
 abbrev pub Flag : Bool → List ℕ → ℕ → Type 0
 Flag true file p = (i : ℕ) × (suc i ≡ p) × IsCommented file i
 Flag false file p = (i : ℕ) → suc i ≡ p → IsCommented file i → ⊥
-
-same_some : (a b : ℕ) → Some a ≡ Some b → a ≡ b
-same_some a b h = cc
 
 -- one place more
 longer : (file : List ℕ) (i b : ℕ) → slice_get file (suc i) ≡ Some b → b ≢ LINE_FEED → IsCommented file i → IsCommented file (suc i)
@@ -26,7 +24,7 @@ longer file i b at ne h = (
     goes_on = λ k low high. elim (cases_lt i k) [
       | inl above ↦
           let last : k ≡ suc i = omega arith in
-          λ e. ne (same_some b LINE_FEED (sym at ∙ subst (λ m. slice_get file m ≡ Some LINE_FEED) last e))
+          λ e. ne (some_injective b LINE_FEED (sym at ∙ subst (λ m. slice_get file m ≡ Some LINE_FEED) last e))
       | inr within ↦ h.1.goes_on k low (omega arith)
     ];
   },
@@ -51,7 +49,7 @@ begun file p at = (
     before = omega arith;
     goes_on = λ k low high e.
         let here : k ≡ p = omega arith in
-        let same : HASH ≡ LINE_FEED = same_some HASH LINE_FEED (sym at ∙ subst (λ m. slice_get file m ≡ Some LINE_FEED) here e) in
+        let same : HASH ≡ LINE_FEED = some_injective HASH LINE_FEED (sym at ∙ subst (λ m. slice_get file m ≡ Some LINE_FEED) here e) in
         omega arith;
   },
 )
@@ -78,7 +76,7 @@ not_within file p b at ne closed there = elim (cases_lt there.0 p) [
   | inl less ↦ not_before file p there less closed
   | inr most ↦
       let same : there.0 ≡ p = omega (arith, there.1.before) in
-      ne (same_some b HASH (sym at ∙ subst (λ m. slice_get file m ≡ Some HASH) same there.1.begins))
+      ne (some_injective b HASH (sym at ∙ subst (λ m. slice_get file m ≡ Some HASH) same there.1.begins))
 ]
 
 after_open : (file : List ℕ) (p b : ℕ) (t : Bool) → (b == HASH) ≡ t → slice_get file p ≡ Some b → Flag false file p → Flag t file (suc p)
@@ -118,7 +116,7 @@ plain_after file p b at plain closed = λ i next commented.
 
 byte_of_place : (file : List ℕ) (p b : ℕ) → slice_get file p ≡ Some b → (w : IsWordPlace file p) → is_plain b ≡ true
 byte_of_place file p b at w =
-    let same : w.byte ≡ b = same_some w.byte b (sym w.at ∙ at) in
+    let same : w.byte ≡ b = some_injective w.byte b (sym w.at ∙ at) in
     ap is_plain (sym same) ∙ w.plain
 
 commented_here : (file : List ℕ) (p b : ℕ) → slice_get file p ≡ Some b → b ≢ LINE_FEED → Flag true file p → IsCommented file p
@@ -226,9 +224,6 @@ run_of file q [] e closed =
       closed = subst (Flag false file) end closed;
       last = subst (λ p. IsWordPlace file p → ⊥) end (λ w. none_some w.byte (sym (no_byte file q e q (omega arith)) ∙ w.at));
     }
-  where
-    none_some : (b : ℕ) → None ≡ Some b → ⊥
-    none_some b h = cc
 run_of file q (c ∷ cs) e closed =
     let there = byte_at file q c cs e in
     run_by file q c (prefix_len is_plain cs) (is_plain c) refl there.0 closed (run_of file (suc q) cs there.1)

@@ -1,5 +1,5 @@
 -- The directions of a certificate are the vertices.
-use Rattle.std.proofs.Common.{◌≡◌, ◌≢◌, ◌⊎◌, inl, inr, ⊎_elim, ℕ, ◌+◌, ◌<◌, ◌≤◌, arith, sym, subst, ◌∙◌, List, [], ◌∷◌, ◌++◌, length, drop, Contains}
+use Rattle.std.proofs.Common.{◌≡◌, ◌≢◌, ◌⊎◌, inl, inr, ⊎_elim, ℕ, ◌+◌, ◌≤◌, sym, subst, ◌∙◌, List, [], ◌∷◌, ◌++◌, length, drop, Contains}
 use Rattle.std.specs.Prelude.{Some, slice_get}
 use Rattle.std.proofs.lemmas.List.Elements.{Contains-append_cases, Contains-append_left, Contains-append_right, Contains-push, Contains-push_cases}
 use Rattle.staat_vec.specs.declared.vector.V3.{V3}
@@ -9,26 +9,24 @@ use Rattle.staat_vec.specs.Vectors.{cross, negative, origin, vector_cmp}
 use Rattle.staat_vec.proofs.Canons.{IsCanon-canon, canon-either, canon-opposite, canon-same}
 use Rattle.staat_model.specs.Certify.{IsDirection}
 use Rattle.staat_model.specs.Planes.{crossings, vertices}
-use Rattle.staat_model.proofs.Members.{here, there}
-use Rattle.staat_pairs.proofs.DropLemmas.{drop_at, drop_end}
+use Rattle.staat_pairs.proofs.DropLemmas.{drop_at}
 use Rattle.staat_pairs.specs.Directions.{AddsListed, IsOfVersion, ListsBehind}
+use Rattle.staat_vec.proofs.Unique.{Contains-nothing, Contains-front}
+use Rattle.staat_vec.proofs.ListLaws.{Contains-there, drop_end}
 
 -- ---- two opposite vectors
 
-no_member : (x : V3) → Contains [] x → ⊥
-no_member x c = let lt : c.0 < 0 = c.1 in omega arith
-
 of_two : (a b x : V3) → Contains (a ∷ b ∷ []) x → (a ≡ x) ⊎ (b ≡ x)
 of_two a b x c = ⊎_elim {C = (a ≡ x) ⊎ (b ≡ x)}
-    (λ h. ⊎_elim {C = (a ≡ x) ⊎ (b ≡ x)} (λ none. absurd (no_member x none)) (λ e. inl e) (Contains-push_cases [] a x h))
+    (λ h. ⊎_elim {C = (a ≡ x) ⊎ (b ≡ x)} (λ none. absurd (Contains-nothing x none)) (λ e. inl e) (Contains-push_cases [] a x h))
     (λ e. inr e)
     (Contains-push_cases (a ∷ []) b x c)
 
 first_of : (v : V3) → Contains (v ∷ negative v ∷ []) v
-first_of v = here v (negative v ∷ [])
+first_of v = Contains-front v (negative v ∷ [])
 
 second_of : (v : V3) → Contains (v ∷ negative v ∷ []) (negative v)
-second_of v = there v (negative v) (negative v ∷ []) (here (negative v) [])
+second_of v = Contains-there v (negative v) (negative v ∷ []) (Contains-front (negative v) [])
 
 canon_of : (v : V3) → Contains (v ∷ negative v ∷ []) (canon v)
 canon_of v = ⊎_elim {C = Contains (v ∷ negative v ∷ []) (canon v)} (λ e. subst (Contains (v ∷ negative v ∷ [])) (sym e) (first_of v)) (λ e. subst (Contains (v ∷ negative v ∷ [])) (sym e) (second_of v)) (canon-either v)
@@ -86,7 +84,7 @@ pub takes_all : (version : ℕ) (whole old taken : List V3) → ListsBehind vers
 takes_all version whole old taken so_far = record {
   from = so_far.from;
   kept = so_far.kept;
-  all = λ v c t. ⊎_elim {C = Contains taken v} (λ none. absurd (no_member v none)) (λ h. h) (so_far.all v c t);
+  all = λ v c t. ⊎_elim {C = Contains taken v} (λ none. absurd (Contains-nothing v none)) (λ h. h) (so_far.all v c t);
 }
 
 -- ---- the planes
@@ -113,6 +111,6 @@ directions_are version gs taken ds k le so_far lists =
     let adds = takes_all version (vertices gs) [] taken (subst (λ l. ListsBehind version (vertices gs) (vertices l) [] taken) (drop_end gs k le) so_far) in
     record {
       ascending = lists.ascending;
-      each = λ v c. ⊎_elim {C = IsDirection version gs v} (λ none. absurd (no_member v none)) (λ h. record { vertex = h.0; canonical = h.1 }) (adds.from v (lists.each v c));
+      each = λ v c. ⊎_elim {C = IsDirection version gs v} (λ none. absurd (Contains-nothing v none)) (λ h. record { vertex = h.0; canonical = h.1 }) (adds.from v (lists.each v c));
       all = λ v d. lists.all v (adds.all v d.vertex d.canonical);
     }

@@ -1,27 +1,16 @@
 -- Lists from a place on, for walks over lists and over pairs of planes.
-use Rattle.std.proofs.Common.{◌≡◌, ◌≢◌, ℕ, zero, suc, ◌+◌, ◌≤◌, refl, sym, ap, subst, ◌∙◌, arith, List, [], ◌∷◌, length, drop, All}
+use Rattle.std.proofs.Common.{◌≡◌, ◌≢◌, ℕ, zero, suc, ◌+◌, sym, ap, subst, ◌∙◌, arith, List, [], ◌∷◌, drop, All}
 use Rattle.std.specs.Prelude.{Some, slice_get}
 use Rattle.staat_vec.specs.declared.vector.V3.{V3}
 use Rattle.staat_vec.specs.Vectors.{cross, origin}
-use Rattle.staat_model.proofs.PlaneLemmas.{NoneParallel}
+use Rattle.staat_model.proofs.PlaneLemmas.{NoneParallel, apart_behind}
 
 pub drop_at : {X : Type 0} (xs : List X) (k : ℕ) (x : X) → slice_get xs k ≡ Some x → drop k xs ≡ x ∷ drop (k + 1) xs
 drop_at [] k x e = cc
 drop_at (y ∷ xs) zero x e = let same : y ≡ x = cc in ap (λ z. z ∷ xs) same
 drop_at (y ∷ xs) (suc k) x e = drop_at xs k x e ∙ ap (λ m. x ∷ drop m (y ∷ xs)) (let f : suc (k + 1) ≡ suc k + 1 = omega arith in f)
 
-pub drop_end : {X : Type 0} (xs : List X) (k : ℕ) → length xs ≤ k → drop k xs ≡ []
-drop_end [] zero h = refl
-drop_end [] (suc k) h = refl
-drop_end (x ∷ xs) zero h = absurd (omega arith)
-drop_end (x ∷ xs) (suc k) h = drop_end xs k (omega arith)
-
 -- ---- planes of which no two are parallel
-
-pub apart_behind : (gs : List V3) (k : ℕ) → NoneParallel gs → NoneParallel (drop k gs)
-apart_behind gs zero apart = apart
-apart_behind [] (suc k) apart = tt
-apart_behind (g ∷ gs) (suc k) apart = apart_behind gs k apart.1
 
 -- the plane at a place crosses each one behind it
 pub apart_at : (gs behind : List V3) (k : ℕ) (g : V3) → slice_get gs k ≡ Some g → behind ≡ drop (k + 1) gs → NoneParallel gs → All (λ h. cross g h ≢ origin) behind

@@ -131,9 +131,6 @@ module _ (t : Table) (xs ys : List CellEntry) where
 
 -- ---- a list, cell by cell
 
-pub none_at_first : (t : Table) (cells : List Cell) → IsStepAmong t (map entry_of (take 0 cells)) None
-none_at_first t cells = record { side = tt; size = tt; step = All-nil (λ (x : CellEntry). ServesNot t t.of x.d) }
-
 one_later : (cells : List Cell) (k : ℕ) (c : Cell) → k < length cells → c ≡ get_or cells k c
     → map entry_of (take (k + 1) cells) ≡ map entry_of (take k cells) ++ entry_of c ∷ []
 one_later cells k c lt at =

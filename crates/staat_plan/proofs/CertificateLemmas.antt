@@ -1,5 +1,5 @@
 -- The certificate of an outcome keeps its form and is valid.
-use Rattle.std.proofs.Common.{◌≡◌, ⊎_elim, ℕ, zero, suc, ◌≤◌, arith, refl, sym, subst, List, [], ◌∷◌, ◌++◌, length, All, Contains}
+use Rattle.std.proofs.Common.{◌≡◌, ⊎_elim, ℕ, ◌≤◌, arith, refl, sym, subst, List, [], ◌∷◌, ◌++◌, length, All, Contains}
 use Rattle.std.proofs.lemmas.List.Elements.{All-append, All-cons, All-nil, Contains-append_cases}
 use Rattle.staat_vec.specs.declared.vector.V3.{V3}
 use Rattle.staat_vec.specs.declared.vector.TheConstants.{NORMAL}
@@ -31,14 +31,9 @@ use Rattle.staat_model.proofs.ValidCertificates.{plan_certificate_valid, refusal
 use Rattle.staat_plan.specs.Certifying.{CanBeCertified, IsValidFor}
 use Rattle.staat_plan.proofs.PlanForms.{plan_in_order, plan_lines}
 use Rattle.staat_plan.proofs.RefusalForms.{refusal_in_order, refusal_lines}
+use Rattle.staat_pairs.proofs.BuildLemmas.{axis_within}
 
 -- ---- the planes of a set
-
-axis_within : (n : V3) → Contains axes n → IsWithin NORMAL n
-axis_within n (zero, lt, e) = subst (IsWithin NORMAL) e (record { x = omega arith; y = omega arith; z = omega arith })
-axis_within n (suc zero, lt, e) = subst (IsWithin NORMAL) e (record { x = omega arith; y = omega arith; z = omega arith })
-axis_within n (suc (suc zero), lt, e) = subst (IsWithin NORMAL) e (record { x = omega arith; y = omega arith; z = omega arith })
-axis_within n (suc (suc (suc k)), lt, e) = absurd (omega arith)
 
 facet_plane_within : (parts : List Part) (w : PartSet) (n : V3) → IsAssembly parts → IsFacetPlane parts w n → IsWithin NORMAL n
 facet_plane_within parts w n is plane =

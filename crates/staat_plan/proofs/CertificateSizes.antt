@@ -1,11 +1,10 @@
 -- How long the text of the certificate of a plan is at most.
-use Rattle.std.proofs.Common.{◌≡◌, ◌⊎◌, ◌∙◌, inl, inr, ℕ, zero, suc, ◌+◌, ◌*◌, ◌^◌, ◌<◌, ◌≤◌, arith, refl, sym, ap, subst, List, [], ◌∷◌, ◌++◌, length, length-append, map, All, Contains, ℤ, pos, negsuc}
+use Rattle.std.proofs.Common.{◌≡◌, ◌∙◌, inl, inr, ℕ, zero, suc, ◌+◌, ◌*◌, ◌^◌, ◌<◌, ◌≤◌, arith, refl, sym, ap, subst, List, [], ◌∷◌, ◌++◌, length, length-append, map, All, Contains, ℤ, pos}
 use Rattle.std.specs.Prelude.{flat_map, sum_by, unsigned_abs}
-use Rattle.std.specs.Fmt.{decimal, signed_decimal}
+use Rattle.std.specs.Fmt.{signed_decimal}
 use Rattle.std.specs.List.Sorted.{IsStrictlySortedBy}
 use Rattle.std.specs.Ordering.{ordering_reverse}
 use Rattle.std.specs.declared.cmp.Ordering.TheVariants.{Less, Greater}
-use Rattle.std.proofs.lemmas.Fmt.{length-decimal-le_wide}
 use Rattle.std.proofs.lemmas.List.{length-map}
 use Rattle.std.proofs.lemmas.List.Concat.{flat_map-cons}
 use Rattle.std.proofs.lemmas.List.Elements.{All-append, All-contains, All-cons, All-from_recursion, All-head, All-nil, All-tail}
@@ -37,17 +36,11 @@ use Rattle.staat_model.specs.Texts.{lines_of, lines_of_node, text_of}
 use Rattle.staat_model.proofs.Orders.{arc_total}
 use Rattle.staat_plan.specs.Planning.{AreWithin}
 use Rattle.staat_plan.proofs.PlanForms.{plan_in_order, plan_lines}
-use Rattle.staat_plan.proofs.WallLemmas.{less_by_a, less_by_b, less_by_i, less_by_j}
+use Rattle.staat_vec.proofs.Decimals.{signed_decimal_length}
+use Rattle.staat_vec.proofs.Naturals.{trichotomy}
+use Rattle.staat_model.proofs.ArcOrder.{not_before_itself, less_by_a, less_by_b, less_by_i, less_by_j}
 
 -- ---- how long a line is
-
-number_long : (z : ℤ) → unsigned_abs z ≤ 2 ^ 81 → length (signed_decimal z) ≤ 26
-number_long (pos n) small =
-    let long : length (decimal n) ≤ 25 = length-decimal-le_wide 25 n (omega arith) (omega (arith, small)) (omega (arith, small)) in
-    omega (arith, long)
-number_long (negsuc n) small =
-    let long : length (decimal (suc n)) ≤ 25 = length-decimal-le_wide 25 (suc n) (omega arith) (omega (arith, small)) (omega (arith, small)) in
-    omega (arith, long)
 
 abbrev AreNumbers : List ℤ → Type 0
 AreNumbers [] = Unit {0}
@@ -56,7 +49,7 @@ AreNumbers (z ∷ zs) = (unsigned_abs z ≤ 2 ^ 81) × AreNumbers zs
 spaced_long : (zs : List ℤ) → AreNumbers zs → length (spaced zs) ≤ 27 * length zs + 1
 spaced_long [] small = omega arith
 spaced_long (z ∷ zs) small =
-    let one = number_long z small.0 in
+    let one = signed_decimal_length z small.0 in
     let rest = spaced_long zs small.1 in
     omega (arith, one, rest, length-append (signed_decimal z) (spaced zs))
 
@@ -143,14 +136,8 @@ HasPiecesOf parts arc = (arc.i < piece_count parts arc.a) × (arc.j < piece_coun
 code : List Part → Arc → ℕ
 code parts arc = 64 * number parts arc.a arc.i + number parts arc.b arc.j
 
-trichotomy : (m n : ℕ) → (m < n) ⊎ ((m ≡ n) ⊎ (n < m))
-trichotomy m n = grind arith
-
 not_both : (x y : Arc) → arc_cmp x y ≡ Less → arc_cmp y x ≡ Less → ⊥
 not_both x y e f = let wrong : Less ≡ Greater = sym e ∙ arc_total.antisymm x y ∙ ap ordering_reverse f in cc
-
-not_itself : (x y : Arc) → arc_cmp x y ≡ Less → x ≡ y → ⊥
-not_itself x y e same = not_both x y e (subst (λ z. arc_cmp y z ≡ Less) (sym same) (subst (λ z. arc_cmp z y ≡ Less) same e))
 
 rises : (parts : List Part) → sum_by (λ part. length part.pieces) parts ≤ 64 → (x y : Arc) → HasPiecesOf parts x → HasPiecesOf parts y → arc_cmp x y ≡ Less → code parts x < code parts y
 unfolding code
@@ -162,7 +149,7 @@ rises parts most x y has_x has_y less = elim (trichotomy x.a y.a) [
       | inl lt ↦ second a i (later_part parts x.b x.j y.b y.j has_x.1 lt)
       | inr (inl b) ↦ (elim (trichotomy x.j y.j) [
         | inl lt ↦ second a i (subst (λ c. number parts x.b x.j < number parts c y.j) b (later_piece parts x.b x.j y.j has_x.1 lt))
-        | inr (inl j) ↦ absurd (not_itself x y less (λ t. record { a = a t; i = i t; b = b t; j = j t }))
+        | inr (inl j) ↦ absurd (not_before_itself x y less (λ t. record { a = a t; i = i t; b = b t; j = j t }))
         | inr (inr gt) ↦ absurd (not_both x y less (less_by_j y x (sym a) (sym i) (sym b) gt))
       ])
       | inr (inr gt) ↦ absurd (not_both x y less (less_by_b y x (sym a) (sym i) gt))

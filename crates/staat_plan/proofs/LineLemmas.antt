@@ -10,7 +10,8 @@ use Rattle.staat_model.specs.declared.certificate.Witness.{Witness}
 use Rattle.staat_model.specs.declared.set.PartSet.{PartSet}
 use Rattle.staat_model.specs.Certify.{IsWitnessAt, NamesWitness}
 use Rattle.staat_plan.specs.Listings.{AreListed, IsWitnessNumber}
-use Rattle.staat_plan.proofs.NumberLemmas.{numbers_next, push_front}
+use Rattle.staat_plan.proofs.NumberLemmas.{numbers_next}
+use Rattle.staat_vec.proofs.ListLaws.{push_front}
 
 module _ (parts : List Part) (w : PartSet) (keys more : List (List ℕ)) (old now : List Witness) (witness : Witness) (i : ℕ) (of : IsWitnessNumber more old now witness i) where
   pub kept : (k : ℕ) (x : Witness) → slice_get old k ≡ Some x → slice_get now k ≡ Some x

@@ -24,10 +24,10 @@ use Rattle.staat_model.proofs.PlaneLemmas.{NoneParallel}
 use Rattle.staat_model.proofs.VertexLemmas.{same_some}
 use Rattle.staat_pairs.specs.Tables.{Table}
 use Rattle.staat_planes.specs.Refusals.{IsTableWithin}
-use Rattle.staat_planes.proofs.FacetCounts.{no_longer}
 use Rattle.staat_plan.specs.declared.listing.Listing.{Listing}
 use Rattle.staat_plan.specs.Listings.{AreListed, IsSizedDirection, key_of}
 use Rattle.staat_plan.proofs.NumberLemmas.{get_map, numbers_none}
+use Rattle.staat_vec.proofs.VectorLists.{length-le_from_contains}
 
 -- the lines so far are those of these directions
 pub record HasLines (parts : List Part) (w : PartSet) (keys : List (List ℕ)) (witnesses : List Witness) (dirs : List Dir) (ds : List V3) : Type 0 where
@@ -61,7 +61,7 @@ vertices_count (g ∷ gs) le =
 
 pub few_directions : (version : ℕ) (planes ds : List V3) → length planes ≤ 1024 → Lists vector_cmp (IsDirection version planes) ds → length ds < LIST_LIMIT
 few_directions version planes ds few lists =
-    let le : length ds ≤ length (vertices planes) = no_longer ds (vertices planes) lists.ascending (λ v c. (lists.each v c).vertex) in
+    let le : length ds ≤ length (vertices planes) = length-le_from_contains ds (vertices planes) lists.ascending (λ v c. (lists.each v c).vertex) in
     let most = vertices_count planes few in
     omega (arith, le, most)
 

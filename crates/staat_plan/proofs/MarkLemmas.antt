@@ -1,13 +1,11 @@
 -- The marks of a robust plan hold.
-use Rattle.std.proofs.Common.{◌≡◌, ◌≢◌, ◌⊎◌, inl, inr, refl, sym, ap, subst, ◌∙◌, true, pos, ℕ, zero, suc, Bool, Ok, Err}
+use Rattle.std.proofs.Common.{◌≡◌, ◌≢◌, ◌⊎◌, inl, inr, refl, sym, ap, subst, ◌∙◌, true, pos, ℕ, Bool, Ok, Err}
 use Rattle.std.proofs.Common.{◌+◌, List, [], ◌∷◌, ◌++◌, All, Contains, map}
-use Rattle.std.specs.Prelude.{cond, false, IfOk, MatchResult, Result}
+use Rattle.std.specs.Prelude.{cond, IfOk, MatchResult, Result}
 use Rattle.std.proofs.lemmas.List.{map-append}
 use Rattle.std.proofs.lemmas.List.Elements.{All-contains}
 use Rattle.std.specs.FinSet as set
 use Rattle.staat_vec.specs.declared.vector.V3.{V3}
-use Rattle.staat_vec.specs.declared.vector.Sign.{Sign}
-use Rattle.staat_vec.specs.declared.vector.Sign.TheVariants.{Neg, Pos, Zero}
 use Rattle.staat_vec.specs.Lists.{IsFirst}
 use Rattle.staat_vec.specs.Primitives.{IsPrimitiveOf, primitive}
 use Rattle.staat_vec.specs.Vectors.{dot, sign}
@@ -19,14 +17,13 @@ use Rattle.staat_model.specs.declared.tree.Kind.{Kind}
 use Rattle.staat_model.specs.declared.tree.Kind.TheVariants.{Edge, Open, Point}
 use Rattle.staat_model.specs.declared.tree.Outcome.{Outcome}
 use Rattle.staat_model.specs.Assemblies.{IsAssembly}
-use Rattle.staat_model.specs.Cells.{AreCellsOf, CellEntry, IsEntry, is_zero, kind_by_count, kind_of, signs_of}
+use Rattle.staat_model.specs.Cells.{AreCellsOf, CellEntry, IsEntry, kind_by_count, kind_of, signs_of}
 use Rattle.staat_model.specs.Outcomes.{AreCellTries, Finding, IsOutcome, IsStep, Serves, Try, both_planned, one_part, planned}
 use Rattle.staat_model.specs.Outcomes.{finding_of, stuck, try_cell}
 use Rattle.staat_model.specs.Planes.{ArePlanes, vertices}
 use Rattle.staat_model.specs.Plans.{Plan, parts_of, split}
-use Rattle.staat_model.proofs.CellLemmas.{off_all, zeros, zeros-cons}
+use Rattle.staat_model.proofs.CellLemmas.{off_all, zeros, zeros-cons, not_zero, open_no_zero}
 use Rattle.staat_model.proofs.Differences.{from_map}
-use Rattle.staat_model.proofs.GraphLemmas.{zero_sign}
 use Rattle.staat_model.proofs.OneTable.{ArePlanes-unique}
 use Rattle.staat_model.proofs.Members.{All-from_members}
 use Rattle.staat_model.proofs.PointLemmas.{point_is_vertex_lemma, representative_lemma}
@@ -37,7 +34,9 @@ use Rattle.staat_plan.specs.Marks.{AreMarksRight, HasOneMark, IsOffPlanes, MarkH
 use Rattle.staat_plan.specs.Marks.{OnlyVerticesServe, at_leaf}
 use Rattle.staat_plan.specs.Marks.{at_split}
 use Rattle.staat_plan.proofs.Right.{right}
-use Rattle.staat_plan.proofs.Tries.{cell_serves, in_kind, mapped}
+use Rattle.staat_plan.proofs.Tries.{cell_serves, in_kind}
+use Rattle.staat_vec.proofs.Signs.{zero_sign}
+use Rattle.staat_vec.proofs.ListLaws.{Contains-map}
 
 -- ---- the first, in one list after another
 
@@ -59,11 +58,6 @@ first_in P (y ∷ xs) ys x (inr h) = elim (first_in P xs ys x h.1) [
 
 -- ---- directions off all planes
 
-not_zero : (s : Sign) → s ≢ Zero → is_zero s ≡ false
-not_zero Neg n = refl
-not_zero Zero n = absurd (n refl)
-not_zero Pos n = refl
-
 no_zeros : (planes : List V3) (d : V3) → ((n : V3) → Contains planes n → dot n d ≢ pos 0)
     → zeros (signs_of planes d) ≡ 0
 no_zeros [] d off = refl
@@ -76,11 +70,6 @@ open_off : (planes : List V3) (d : V3) → All (λ n. dot n d ≢ pos 0) planes
     → kind_of (signs_of planes d) ≡ Open
 open_off planes d off =
     ap kind_by_count (no_zeros planes d (λ n c. All-contains (λ m. dot m d ≢ pos 0) planes n off c))
-
-no_zero : (n : ℕ) → kind_by_count n ≡ Open → n ≡ 0
-no_zero zero e = refl
-no_zero (suc zero) e = cc
-no_zero (suc (suc n)) e = cc
 
 -- ---- the mark of a step
 
@@ -125,14 +114,14 @@ module _ (parts : List Part) (is : IsAssembly parts) (w : PartSet) (planes : Lis
   off_planes : (c : CellEntry) → IsEntry planes Open c → IsOffPlanes parts w c.d
   off_planes c entry others others_are =
       let signs = representative_lemma parts w planes Open c.signs c.d are entry.cell entry.by_count entry.representative in
-      let none : zeros (signs_of planes c.d) ≡ 0 = ap zeros signs ∙ no_zero (zeros c.signs) entry.by_count in
+      let none : zeros (signs_of planes c.d) ≡ 0 = ap zeros signs ∙ open_no_zero (zeros c.signs) entry.by_count in
       subst (All (λ n. dot n c.d ≢ pos 0)) (ArePlanes-unique parts w planes others are others_are)
       (All-from_members (λ n. dot n c.d ≢ pos 0) planes
       (λ n n_in z. off_all planes c.d none n n_in (ap sign z)))
 
   none_tried : (cells : List CellEntry) →
       ((t : Try) → Contains (map try_cell cells) t → Serves parts w t.d → ⊥) → NoneServes cells
-  none_tried cells none c c_in = none (try_cell c) (mapped try_cell cells c c_in)
+  none_tried cells none c c_in = none (try_cell c) (Contains-map try_cell cells c c_in)
 
   marked : (kind : Kind) (cells : List CellEntry) (try : Try) → AreCellsOf planes kind cells
       → IsFirst (λ t. Serves parts w t.d) (map try_cell cells) try

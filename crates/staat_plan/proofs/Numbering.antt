@@ -6,7 +6,7 @@ use Rattle.staat_model.specs.declared.certificate.Witness.{Witness}
 use Rattle.staat_plan.specs.Listings.{IsWitnessNumber, key_of}
 use Rattle.staat_plan.specs.Numbers.{IsNumberOf}
 use Rattle.staat_plan.proofs.Keys.{key_tells}
-use Rattle.staat_plan.proofs.NumberLemmas.{push_cases, push_end}
+use Rattle.staat_vec.proofs.ListLaws.{push_cases, push_end}
 
 -- two lists of which the second has whatever the first has at its place, and is as long
 same_lists : {X : Type 0} (xs ys : List X) → length ys ≡ length xs → ((m : ℕ) (x : X) → slice_get xs m ≡ Some x → slice_get ys m ≡ Some x) → ys ≡ xs

@@ -18,12 +18,12 @@ use Rattle.staat_model.specs.Outcomes.{Finding, HasNoStep, IsOutcome, IsStep, Se
 use Rattle.staat_model.specs.Plans.{leaf, plan_of, split}
 use Rattle.staat_model.specs.Planes.{axes}
 use Rattle.staat_model.specs.Sets.{Has, IsNonempty, IsSide, IsSubset, below, single}
-use Rattle.staat_model.proofs.RestrictLemmas.{rest_within}
+use Rattle.staat_model.proofs.RestrictLemmas.{rest_within, nonempty_or}
 use Rattle.staat_model.proofs.SomePlanes.{some_planes}
 use Rattle.staat_model.proofs.SetMembers.{has-difference, has-empty}
 use Rattle.staat_model.proofs.SetSizes.{one_is, one_within}
 use Rattle.staat_model.proofs.SetWords.{same_members}
-use Rattle.staat_graph.proofs.Finite.{len_fewer, len_some, nonempty_or}
+use Rattle.staat_graph.proofs.Finite.{len_fewer, len_some}
 use Rattle.staat_planes.specs.declared.refusal.PlanesRefusal.{PlanesRefusal}
 use Rattle.staat_planes.specs.Refusals.{IsPlanesRefusal, IsTableWithin}
 use Rattle.staat_plan.specs.Certifying.{CanBeCertified}
@@ -33,7 +33,7 @@ use Rattle.staat_plan.specs.CellSteps.{IsTableStep}
 use Rattle.staat_model.specs.Assemblies.{IsAssembly}
 use Rattle.staat_plan.proofs.Right.{right_lemma}
 use Rattle.staat_plan.proofs.Fewer.{fewer_planes_lemma, single_planes, sub_refused}
-use Rattle.staat_plan.proofs.Opposites.{rest_some}
+use Rattle.staat_model.proofs.OtherSides.{rest_some}
 
 -- a set with a member or more is not empty
 pub some_member : (w : PartSet) → 1 ≤ set.len w → IsNonempty w

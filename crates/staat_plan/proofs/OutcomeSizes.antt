@@ -1,5 +1,5 @@
 -- The directions of a plan that is found are within the bound, so that its certificate is never too long.
-use Rattle.std.proofs.Common.{inl, inr, ℕ, zero, suc, ◌≤◌, arith, lit≤, sym, subst, Bool, true, false, List, ◌++◌, length, All, Contains}
+use Rattle.std.proofs.Common.{inl, inr, ℕ, ◌≤◌, lit≤, sym, subst, Bool, true, false, List, ◌++◌, length, All, Contains}
 use Rattle.std.specs.FinSet as set
 use Rattle.std.proofs.lemmas.List.Elements.{All-contains, Contains-append_cases}
 use Rattle.staat_vec.specs.declared.vector.V3.{V3}
@@ -30,7 +30,7 @@ use Rattle.staat_model.proofs.GraphLemmas.{piece_is}
 use Rattle.staat_model.proofs.Members.{All-from_members}
 use Rattle.staat_model.proofs.PlaneLemmas.{IsNormal, plane_normal, planes_apart}
 use Rattle.staat_pairs.specs.Tables.{AreTablePlanes, IsPlaneNormal}
-use Rattle.staat_pairs.proofs.BuildLemmas.{none_parallel}
+use Rattle.staat_pairs.proofs.BuildLemmas.{none_parallel, axis_within}
 use Rattle.staat_cells.proofs.TableRules.{vertex_small}
 use Rattle.staat_cells.proofs.WholeLists.{cell_small}
 use Rattle.staat_plan.specs.Planning.{AreWithin}
@@ -39,12 +39,6 @@ use Rattle.staat_plan.proofs.Right.{right_lemma}
 use Rattle.staat_plan.proofs.SomeCertificate.{some_plan_certificate}
 
 -- ---- the planes of a set of parts are those of a table
-
-axis_within : (n : V3) → Contains axes n → IsWithin NORMAL n
-axis_within n (zero, lt, e) = subst (IsWithin NORMAL) e (record { x = omega arith; y = omega arith; z = omega arith })
-axis_within n (suc zero, lt, e) = subst (IsWithin NORMAL) e (record { x = omega arith; y = omega arith; z = omega arith })
-axis_within n (suc (suc zero), lt, e) = subst (IsWithin NORMAL) e (record { x = omega arith; y = omega arith; z = omega arith })
-axis_within n (suc (suc (suc k)), lt, e) = absurd (omega arith)
 
 module _ (parts : List Part) (is : IsAssembly parts) where
   plane_within : (w : PartSet) (planes : List V3) → ArePlanes parts w planes → (n : V3) → Contains planes n

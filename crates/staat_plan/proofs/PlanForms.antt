@@ -23,7 +23,6 @@ use Rattle.staat_model.specs.Lines.{IsInBounds}
 use Rattle.staat_model.specs.Plans.{IsGood, Plan, leaf, parts_of, split}
 use Rattle.staat_model.specs.Sets.{AreApart, Has, below, single}
 use Rattle.staat_model.specs.Texts.{IsNodeInOrder, IsPlanInOrder, lines_of_node}
-use Rattle.staat_model.proofs.Differences.{in_map}
 use Rattle.staat_model.proofs.GraphLemmas.{piece_is}
 use Rattle.staat_model.proofs.Members.{All-from_members}
 use Rattle.staat_model.proofs.SetBits.{has-below}
@@ -33,12 +32,10 @@ use Rattle.staat_model.proofs.SetWords.{same_members}
 use Rattle.staat_plan.specs.Planning.{AreWithin}
 use Rattle.staat_plan.specs.Plans.{HasPartNumbers}
 use Rattle.staat_plan.proofs.Forms.{all_flat, arc_formed}
+use Rattle.staat_model.proofs.LeavingLemmas.{good_parts}
+use Rattle.staat_vec.proofs.ListLaws.{Contains-map}
 
 -- ---- the parts of a plan
-
-pub whole_plan : (parts : List Part) (w : PartSet) (plan : Plan) → IsGood parts w plan → w ≡ parts_of plan
-whole_plan parts w (leaf p) good = good
-whole_plan parts w (split d moved rest) good = good.0
 
 numbers_of : (plan : Plan) → ((p : ℕ) → Has (parts_of plan) p → p < MOST_PARTS) → HasPartNumbers plan
 numbers_of (leaf p) small = small p ((has-single p p).1 refl)
@@ -49,7 +46,7 @@ numbers_of (split d moved rest) small = (
 
 pub part_numbers : (parts : List Part) (plan : Plan) → IsAssembly parts → IsGood parts (below (length parts)) plan → HasPartNumbers plan
 part_numbers parts plan is good = numbers_of plan (λ p h.
-    let lt : p < length parts = (has-below (length parts) p).0 (subst (λ (s : PartSet). Has s p) (sym (whole_plan parts (below (length parts)) plan good)) h) in
+    let lt : p < length parts = (has-below (length parts) p).0 (subst (λ (s : PartSet). Has s p) (sym (good_parts parts (below (length parts)) plan good)) h) in
     omega (arith, lt, is.at_most))
 
 -- ---- the number of nodes
@@ -99,7 +96,7 @@ counted parts (walled_split d seps moved rest) w s good apart =
 few_nodes : (parts : List Part) (n : ℕ) (t : WalledPlan) → IsGood parts (below n) (unwalled t) → length (nodes_of t) + 1 ≤ 2 * n
 few_nodes parts n t good =
     let all : set.len (set.union set.empty (walled_parts t)) ≡ set.len (set.empty {R = nat_cmp}) + leaf_count t = counted parts t (below n) set.empty good (λ q none b. has-empty q none) in
-    let same : set.len (set.union set.empty (walled_parts t)) ≡ set.len (below n) = ap set.len (union_empty (walled_parts t) ∙ sym (whole_plan parts (below n) (unwalled t) good)) in
+    let same : set.len (set.union set.empty (walled_parts t)) ≡ set.len (below n) = ap set.len (union_empty (walled_parts t) ∙ sym (good_parts parts (below n) (unwalled t) good)) in
     let most : set.len (below n) ≤ n = len_below n (below n) (λ q h. (has-below n q).0 h) in
     let none : set.len (set.empty {R = nat_cmp}) ≡ 0 = set.len-empty nat_cmp in
     let nodes = node_count t in
@@ -112,7 +109,7 @@ module _ (parts : List Part) (is : IsAssembly parts) where
   seps_formed s r d seps walls = All-from_members (λ sep. IsInBounds (line.Sep sep)) seps (λ sep c.
       let least = All-contains (λ (sep : Sep). IsLeast vector_cmp (IsFacetAway parts d sep.arc) sep.n) seps sep walls.least c in
       let facet = least.has.facet in (
-        arc_formed parts s r sep.arc is (walls.arcs.each sep.arc (in_map (λ (sep : Sep). sep.arc) seps sep c)),
+        arc_formed parts s r sep.arc is (walls.arcs.each sep.arc (Contains-map (λ (sep : Sep). sep.arc) seps sep c)),
         facet_within facet.p facet.q sep.n (piece_is parts sep.arc.a sep.arc.i facet.p is facet.p_is) (piece_is parts sep.arc.b sep.arc.j facet.q is facet.q_is) facet.holds,
       ))
 

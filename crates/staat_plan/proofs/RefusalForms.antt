@@ -22,7 +22,6 @@ use Rattle.staat_model.specs.Certify.{IsRefusalOf}
 use Rattle.staat_model.specs.Lines.{IsArcInBounds, IsInBounds}
 use Rattle.staat_model.specs.Sets.{Has, single}
 use Rattle.staat_model.specs.Texts.{IsRefusalInOrder, IsWitnessInOrder, lines_of_witness, lines_of_witnesses}
-use Rattle.staat_model.proofs.Differences.{in_map}
 use Rattle.staat_model.proofs.Members.{All-from_members}
 use Rattle.staat_model.proofs.PlaneLemmas.{NoneParallel}
 use Rattle.staat_model.proofs.SetBits.{has-below}
@@ -30,6 +29,7 @@ use Rattle.staat_model.proofs.SetSizes.{len-single, len_below, len_more}
 use Rattle.staat_plan.proofs.Forms.{arc_formed}
 use Rattle.staat_plan.proofs.ListedLemmas.{few_directions, vertex_sized}
 use Rattle.staat_plan.proofs.OutcomeLemmas.{some_member}
+use Rattle.staat_vec.proofs.ListLaws.{Contains-map}
 
 -- each arc reaches a new part
 reached_count : (w reached : PartSet) (pairs : List (ℕ × ℕ)) → ReachesAll w reached pairs → length pairs + set.len reached ≡ set.len w
@@ -84,11 +84,11 @@ module _ (parts : List Part) (w : PartSet) (is : IsAssembly parts) (stuck_set : 
         omega (arith, le, e, n)
 
     named : (dir : Dir) → Contains dirs dir → dir.witness < length witnesses
-    named dir c = All-contains (λ k. k < length witnesses) (map (λ (dir : Dir). dir.witness) dirs) dir.witness refusal.by_first_use.below (in_map (λ (dir : Dir). dir.witness) dirs dir c)
+    named dir c = All-contains (λ k. k < length witnesses) (map (λ (dir : Dir). dir.witness) dirs) dir.witness refusal.by_first_use.below (Contains-map (λ (dir : Dir). dir.witness) dirs dir c)
 
     dir_lines : All IsInBounds (map line.Dir dirs)
     dir_lines = All-map IsInBounds line.Dir dirs (All-from_members (λ dir. IsInBounds (line.Dir dir)) dirs (λ dir c.
-        let d = refusal.directions.each dir.d (in_map (λ (dir : Dir). dir.d) dirs dir c) in
+        let d = refusal.directions.each dir.d (Contains-map (λ (dir : Dir). dir.d) dirs dir c) in
         let lt = named dir c in
         let n = witness_count in
         ((vertex_sized refusal.planes dir.d normals apart d.vertex).size, omega (arith, lt, n))))
@@ -107,5 +107,5 @@ module _ (parts : List Part) (w : PartSet) (is : IsAssembly parts) (stuck_set : 
       each = All-weaker (IsWitness parts w) IsWitnessInOrder in_order witnesses trees;
       named = All-from_members (λ dir. dir.witness < length witnesses) dirs named;
       ascending = refusal.directions.ascending;
-      canonical = λ two. All-from_members (λ dir. IsCanon dir.d) dirs (λ dir c. (refusal.directions.each dir.d (in_map (λ (dir : Dir). dir.d) dirs dir c)).canonical two);
+      canonical = λ two. All-from_members (λ dir. IsCanon dir.d) dirs (λ dir c. (refusal.directions.each dir.d (Contains-map (λ (dir : Dir). dir.d) dirs dir c)).canonical two);
     }

@@ -7,13 +7,14 @@ use Rattle.std.proofs.lemmas.Option.{slice_get_within}
 use Rattle.staat_vec.specs.declared.vector.V3.{V3}
 use Rattle.staat_model.specs.declared.assembly.Part.{Part}
 use Rattle.staat_model.specs.declared.set.PartSet.{PartSet}
-use Rattle.staat_graph.proofs.Finite.{same_or}
 use Rattle.staat_ring.specs.Places.{IsStopAt}
 use Rattle.staat_ring.specs.Rings.{Ring, RingStop, linked_of}
 use Rattle.staat_ring.specs.Walked.{IsEntered, Walked}
 use Rattle.staat_ring.proofs.StopLemmas.{one_ring}
-use Rattle.staat_plan.specs.declared.ring_step.Serving.{Serving}
 use Rattle.staat_plan.specs.RingSearches.{IsBest, length_at}
+use Rattle.staat_vec.proofs.Truth.{false_test_clash}
+use Rattle.staat_vec.proofs.Options.{none_some}
+use Rattle.staat_vec.proofs.Naturals.{same_or}
 
 around : (a n : ℕ) → a < n → ((a + 1 ≡ n) × ((a + 1) % n ≡ 0)) ⊎ ((a + 1 < n) × ((a + 1) % n ≡ a + 1))
 around a n lt = ⊎_elim {C = ((a + 1 ≡ n) × ((a + 1) % n ≡ 0)) ⊎ ((a + 1 < n) × ((a + 1) % n ≡ a + 1))} (λ e. inl (e, ap (λ b. b % n) e ∙ mod_self n)) (λ ne. inr (more a n lt ne, mod-eq_of_lt (more a n lt ne))) (same_or (a + 1) n)
@@ -52,19 +53,13 @@ module _ (rings : List Ring) (sorted : Rattle.std.specs.List.Sorted.IsStrictlySo
       goes_on ne = ⊎_elim {C = place ≡ now.place + 1} (λ h. absurd (ne (next_is ∙ h.1))) (λ h. next_is ∙ h.1) (around now.place (length r.stops) place_small)
 
 pub is_zero : (p : ℕ) (b : Bool) → b ≡ false → (p ≢ 0 → IsTrue b) → p ≡ 0
-is_zero p b e h = ⊎_elim {C = p ≡ 0} (λ z. z) (λ ne. absurd (off b e (h ne))) (same_or p 0)
-  where
-    off : (b : Bool) → b ≡ false → IsTrue b → ⊥
-    off b e h = cc
+is_zero p b e h = ⊎_elim {C = p ≡ 0} (λ z. z) (λ ne. absurd (false_test_clash b e (h ne))) (same_or p 0)
 
 pub not_zero : (p : ℕ) (b : Bool) → b ≡ true → (IsTrue b → p ≢ 0) → p ≢ 0
 not_zero p b e h = h e
 
 pub nothing_yet : (parts : List Part) (planes : List V3) (w : PartSet) (i : ℕ) (stops : List RingStop) (m : ℕ) → m ≡ 0 → IsBest parts planes w i stops m None
 nothing_yet parts planes w i stops m z = record {
-  right = λ f e. absurd (no_some f e);
+  right = λ f e. absurd (none_some f e);
   least = λ k s e lt. absurd (omega (arith, lt, z));
 }
-  where
-    no_some : (f : Serving) → None ≡ Some f → ⊥
-    no_some f e = cc

@@ -1,39 +1,30 @@
 -- The lengths of the circles so far.
-use Rattle.std.proofs.Common.{◌≡◌, ◌⊎◌, ⊎_elim, ℕ, ◌+◌, ◌<◌, ◌≤◌, true, false, arith, ap, sym, subst, ◌∙◌, refl, List, [], ◌∷◌, length, Contains, cond}
+use Rattle.std.proofs.Common.{◌≡◌, ⊎_elim, ℕ, ◌+◌, ◌<◌, ◌≤◌, arith, ap, sym, subst, ◌∙◌, refl, List, [], ◌∷◌, length, Contains, cond}
 use Rattle.std.specs.Prelude.{nat_lt}
 use Rattle.std.specs.Ordering.{nat_cmp}
 use Rattle.std.specs.List.Sorted.{IsStrictlySortedBy}
-use Rattle.std.proofs.lemmas.Bool.Decides.{nat_tests}
 use Rattle.std.proofs.lemmas.List.Sums.{sum_by-cons}
 use Rattle.staat_vec.proofs.Unique.{Contains-cases, Contains-front, Contains-later, Contains-nothing}
 use Rattle.staat_ring.specs.Rings.{Ring, linked_of}
-use Rattle.staat_ring.proofs.Mapped.{in_map}
 use Rattle.staat_plan.specs.RingSearches.{lengths_below}
-use Rattle.staat_plan.proofs.RingPairs.{head_less, tail_sorted}
+use Rattle.staat_vec.proofs.Naturals.{lt_test_false, lt_test, lt_or_le, trichotomy}
+use Rattle.staat_vec.proofs.ListLaws.{Contains-map}
+use Rattle.staat_vec.proofs.Comparisons.{head_less, tail_sorted}
 
 abbrev share : ℕ → Ring → ℕ
 share k r = cond (nat_lt r.plane k) (length r.stops) 0
 
 share_in : (k : ℕ) (r : Ring) → r.plane < k → share k r ≡ length r.stops
-share_in k r lt = ap (λ b. cond b (length r.stops) 0) (test r.plane k lt)
-  where
-    test : (x k : ℕ) → x < k → nat_lt x k ≡ true
-    test x k h = grind (arith, nat_tests)
+share_in k r lt = ap (λ b. cond b (length r.stops) 0) (lt_test r.plane k lt)
 
 share_out : (k : ℕ) (r : Ring) → k ≤ r.plane → share k r ≡ 0
-share_out k r le = ap (λ b. cond b (length r.stops) 0) (test r.plane k le)
-  where
-    test : (x k : ℕ) → k ≤ x → nat_lt x k ≡ false
-    test x k h = grind (arith, nat_tests)
+share_out k r le = ap (λ b. cond b (length r.stops) 0) (lt_test_false r.plane k le)
 
 -- from the circle of k on nothing comes before k
 pub lengths_past : (k : ℕ) (rings : List Ring) → ((r : Ring) → Contains rings r → k ≤ r.plane) → lengths_below k rings ≡ 0
 unfolding lengths_below
 lengths_past k [] h = refl
 lengths_past k (r ∷ rings) h = let a = share_out k r (h r (Contains-front r rings)) in let b = lengths_past k rings (λ q c. h q (Contains-later r rings q c)) in omega (arith, a, b, sum_by-cons (share k) r rings)
-
-less_or : (a b : ℕ) → (a < b) ⊎ ((a ≡ b) ⊎ (b < a))
-less_or a b = grind arith
 
 -- with the circle of k
 pub lengths_with : (k : ℕ) (rings : List Ring) (r : Ring) → IsStrictlySortedBy nat_cmp (linked_of rings) → Contains rings r → r.plane ≡ k → lengths_below (k + 1) rings ≡ lengths_below k rings + length r.stops
@@ -45,12 +36,12 @@ lengths_with k (q ∷ rings) r s c e = ⊎_elim {C = lengths_below (k + 1) (q �
     let a = share_in (k + 1) q (omega (arith, p)) in
     let b = share_out k q (omega (arith, p)) in
     let m = ap (λ (x : Ring). length x.stops) is in
-    let after : (x : Ring) → Contains rings x → k + 1 ≤ x.plane = λ x cx. (let lt = head_less q.plane (linked_of rings) x.plane s (in_map (λ r. r.plane) rings x cx) in omega (arith, lt, p)) in
+    let after : (x : Ring) → Contains rings x → k + 1 ≤ x.plane = λ x cx. (let lt = head_less q.plane (linked_of rings) x.plane s (Contains-map (λ r. r.plane) rings x cx) in omega (arith, lt, p)) in
     let t = lengths_past (k + 1) rings after in
     let u = lengths_past k rings (λ x cx. let h = after x cx in omega (arith, h)) in
     omega (arith, a, b, m, t, u, sum_by-cons (share (k + 1)) q rings, sum_by-cons (share k) q rings))
     (λ later.
-    let lt = head_less q.plane (linked_of rings) r.plane s (in_map (λ r. r.plane) rings r later) in
+    let lt = head_less q.plane (linked_of rings) r.plane s (Contains-map (λ r. r.plane) rings r later) in
     let a = share_in (k + 1) q (omega (arith, lt, e)) in
     let b = share_in k q (omega (arith, lt, e)) in
     let rest = lengths_with k rings r (tail_sorted q.plane (linked_of rings) s) later e in
@@ -65,7 +56,7 @@ lengths_without k (q ∷ rings) none =
     let rest = lengths_without k rings (λ c. none (Contains-later q.plane (linked_of rings) k c)) in
     let same : share (k + 1) q ≡ share k q = ⊎_elim {C = share (k + 1) q ≡ share k q} (λ lt. share_in (k + 1) q (omega (arith, lt)) ∙ sym (share_in k q lt))
     (λ o. ⊎_elim {C = share (k + 1) q ≡ share k q} (λ e. absurd (none (subst (Contains (linked_of (q ∷ rings))) e (Contains-front q.plane (linked_of rings))))) (λ gt. share_out (k + 1) q (omega (arith, gt)) ∙ sym (share_out k q (omega (arith, gt)))) o)
-    (less_or q.plane k) in
+    (trichotomy q.plane k) in
     omega (arith, rest, same, sum_by-cons (share (k + 1)) q rings, sum_by-cons (share k) q rings)
 
 pub lengths_rise : (j k : ℕ) (rings : List Ring) → j ≤ k → lengths_below j rings ≤ lengths_below k rings
@@ -73,8 +64,5 @@ unfolding lengths_below
 lengths_rise j k [] le = omega arith
 lengths_rise j k (q ∷ rings) le =
     let rest = lengths_rise j k rings le in
-    let one : share j q ≤ share k q = ⊎_elim {C = share j q ≤ share k q} (λ lt. let a = share_in j q lt in let b = share_in k q (omega (arith, lt, le)) in omega (arith, a, b)) (λ ge. let a = share_out j q ge in omega (arith, a)) (lt_or q.plane j) in
+    let one : share j q ≤ share k q = ⊎_elim {C = share j q ≤ share k q} (λ lt. let a = share_in j q lt in let b = share_in k q (omega (arith, lt, le)) in omega (arith, a, b)) (λ ge. let a = share_out j q ge in omega (arith, a)) (lt_or_le q.plane j) in
     omega (arith, rest, one, sum_by-cons (share j) q rings, sum_by-cons (share k) q rings)
-  where
-    lt_or : (a b : ℕ) → (a < b) ⊎ (b ≤ a)
-    lt_or a b = grind arith

@@ -1,5 +1,5 @@
 -- What the walk finds at its vertex.
-use Rattle.std.proofs.Common.{◌≡◌, ◌≢◌, ◌⊎◌, ◌↔◌, inl, inr, ⊎_elim, ℕ, ◌+◌, ◌*◌, ◌<◌, ◌≤◌, Bool, true, false, if◌then◌else◌, arith, ap, sym, subst, ◌∙◌, List, [], ◌∷◌, length, Contains}
+use Rattle.std.proofs.Common.{◌≡◌, ◌≢◌, ◌↔◌, inl, inr, ⊎_elim, ℕ, ◌+◌, ◌*◌, ◌<◌, ◌≤◌, Bool, true, false, if◌then◌else◌, arith, ap, sym, subst, ◌∙◌, List, [], ◌∷◌, length, Contains}
 use Rattle.std.specs.Prelude.{Option, Some, map, slice_get}
 use Rattle.std.specs.Ordering.{nat_cmp}
 use Rattle.std.specs.List.Sorted.{IsStrictlySortedBy}
@@ -7,12 +7,11 @@ use Rattle.std.proofs.lemmas.Option.{same_Some}
 use Rattle.staat_vec.specs.declared.vector.V3.{V3}
 use Rattle.staat_vec.specs.Lists.{IsFirst}
 use Rattle.staat_vec.specs.Vectors.{origin}
-use Rattle.staat_vec.proofs.Unique.{Contains-cases, IsFirst-in}
+use Rattle.staat_vec.proofs.Unique.{Contains-cases, IsFirst-in, from_place}
 use Rattle.staat_model.specs.declared.assembly.Part.{Part}
 use Rattle.staat_model.specs.declared.set.PartSet.{PartSet}
 use Rattle.staat_model.specs.Outcomes.{Serves}
 use Rattle.staat_model.specs.Removal.{Blocks}
-use Rattle.staat_model.proofs.GraphLemmas.{from_slice_get}
 use Rattle.staat_graph.specs.Blocking.{ShowsBlocking}
 use Rattle.staat_graph.specs.Graphs.{HasArc, IsFirstSink, IsStrong}
 use Rattle.staat_graph.proofs.Sides.{moved_of_first, serves_of_weak, weak_of_serves}
@@ -23,11 +22,12 @@ use Rattle.staat_ring.specs.Rings.{Ring, RingStop, vertex_of}
 use Rattle.staat_ring.specs.Rings.{AreRings}
 use Rattle.staat_ring.specs.Walked.{IsEntered, Walked}
 use Rattle.staat_ring.proofs.StopLemmas.{entries_ascend, entry_small, one_stop, vertex_some}
-use Rattle.staat_ring.proofs.Mapped.{in_map}
 use Rattle.staat_ring.proofs.Strength.{strong_same}
 use Rattle.staat_plan.specs.declared.ring_step.Serving.{Serving}
 use Rattle.staat_plan.specs.RingSearches.{IsBest, IsBetter, IsLater, IsServing, pair_key}
-use Rattle.staat_plan.proofs.RingPairs.{head_less, tail_sorted}
+use Rattle.staat_vec.proofs.Naturals.{lt_one_more_cases}
+use Rattle.staat_vec.proofs.ListLaws.{Contains-map}
+use Rattle.staat_vec.proofs.Comparisons.{head_less, tail_sorted}
 
 key_less : (x y : Entry) → x.plane < y.plane → pair_key x ≤ pair_key y
 key_less x y lt = by x.turned y.turned
@@ -43,15 +43,12 @@ pub first_least : (i : ℕ) (es : List Entry) (x e : Entry) → IsStrictlySorted
 first_least i [] x e s h c lt = absurd h
 first_least i (y ∷ es) x e s (inl h) c lt = ⊎_elim {C = pair_key x ≤ pair_key e}
     (λ q. subst (λ z. pair_key x ≤ pair_key z) (sym q) (let k = ap pair_key h.0 in omega (arith, k)))
-    (λ later. subst (λ z. pair_key z ≤ pair_key e) (sym h.0) (key_less y e (head_less y.plane (map (λ e. e.plane) es) e.plane s (in_map (λ e. e.plane) es e later))))
+    (λ later. subst (λ z. pair_key z ≤ pair_key e) (sym h.0) (key_less y e (head_less y.plane (map (λ e. e.plane) es) e.plane s (Contains-map (λ e. e.plane) es e later))))
     (Contains-cases y es e c)
 first_least i (y ∷ es) x e s (inr h) c lt = ⊎_elim {C = pair_key x ≤ pair_key e}
     (λ q. absurd (h.0 (subst (λ z. i < z.plane) q lt)))
     (λ later. first_least i es x e (tail_sorted y.plane (map (λ e. e.plane) es) s) h.1 later lt)
     (Contains-cases y es e c)
-
-lt_same : (k m : ℕ) → k < m + 1 → (k < m) ⊎ (k ≡ m)
-lt_same k m h = grind arith
 
 module _ (parts : List Part) (planes : List V3) (w : PartSet) (i : ℕ) (stops : List RingStop) (m : ℕ) (best : Option Serving) (s : RingStop) (is : IsBest parts planes w i stops m best) (at : slice_get stops m ≡ Some s) where
   pub nothing_more : (Serves parts w (vertex_of planes i s.entries) → (e : Entry) → Contains s.entries e → i < e.plane → ⊥) → IsBest parts planes w i stops (m + 1) best
@@ -62,7 +59,7 @@ module _ (parts : List Part) (planes : List V3) (w : PartSet) (i : ℕ) (stops :
         (λ here.
         let q : t ≡ s = same_Some t s (sym kt ∙ (ap (slice_get stops) here ∙ at)) in
         absurd (none (subst (λ (x : RingStop). Serves parts w (vertex_of planes i x.entries)) q serves) e (subst (λ (x : RingStop). Contains x.entries e) q ce) later))
-        (lt_same k m lt);
+        (lt_one_more_cases k m lt);
   }
 
   pub one_more : (f : Serving) (result : Option Serving) → IsServing parts planes w i s f → ((e : Entry) → Contains s.entries e → i < e.plane → pair_key f.entry ≤ pair_key e) → IsBetter best f result → IsBest parts planes w i stops (m + 1) result
@@ -70,7 +67,7 @@ module _ (parts : List Part) (planes : List V3) (w : PartSet) (i : ℕ) (stops :
     right = λ g e.
         let q : b.one ≡ g = same_Some b.one g (sym b.is ∙ e) in
         ⊎_elim {C = (s : RingStop) × Contains stops s × IsServing parts planes w i s g}
-        (λ new. (s, from_slice_get stops m s at, subst (IsServing parts planes w i s) (sym new ∙ q) right))
+        (λ new. (s, from_place stops m s at, subst (IsServing parts planes w i s) (sym new ∙ q) right))
         (λ old. is.right g (old ∙ ap (λ x. Some x) q))
         b.which;
     least = λ k t e lt kt serves ce later. (
@@ -82,7 +79,7 @@ module _ (parts : List Part) (planes : List V3) (w : PartSet) (i : ℕ) (stops :
           let q : t ≡ s = same_Some t s (sym kt ∙ (ap (slice_get stops) here ∙ at)) in
           let le = first e (subst (λ (x : RingStop). Contains x.entries e) q ce) later in
           let r = b.least in omega (arith, le, r))
-          (lt_same k m lt),
+          (lt_one_more_cases k m lt),
     );
   }
 

@@ -3,9 +3,7 @@ use Rattle.std.proofs.Common.{◌≡◌, inl, inr, ⊎_elim, ℕ, ◌+◌, ◌*�
 use Rattle.std.specs.Prelude.{map}
 use Rattle.std.specs.Ordering.{nat_cmp}
 use Rattle.std.specs.List.Sorted.{IsStrictlySortedBy}
-use Rattle.std.specs.declared.cmp.Ordering.TheVariants.{Less}
-use Rattle.std.proofs.lemmas.Bool.Decides.{nat_tests}
-use Rattle.std.proofs.lemmas.List.Elements.{All-append, All-contains, All-cons, All-from_recursion, All-nil}
+use Rattle.std.proofs.lemmas.List.Elements.{All-append, All-cons, All-nil}
 use Rattle.staat_vec.specs.declared.vector.V3.{V3}
 use Rattle.staat_vec.specs.Lists.{IsFirst}
 use Rattle.staat_vec.specs.Primitives.{primitive}
@@ -13,29 +11,8 @@ use Rattle.staat_vec.specs.Vectors.{cross}
 use Rattle.staat_vec.proofs.Unique.{Contains-cases, Contains-front, Contains-later, Contains-nothing}
 use Rattle.staat_model.specs.Planes.{crossings, vertices}
 use Rattle.staat_ring.specs.Rings.{facet_by}
-
-less_is : (x y : ℕ) → nat_cmp x y ≡ Less → x < y
-less_is x y e = grind (arith, nat_tests)
-
-pub head_less : (k : ℕ) (ks : List ℕ) (j : ℕ) → IsStrictlySortedBy nat_cmp (k ∷ ks) → Contains ks j → k < j
-unfolding IsStrictlySortedBy
-head_less k ks j s c = less_is k j (All-contains (λ z. nat_cmp k z ≡ Less) ks j (All-from_recursion (λ z. nat_cmp k z ≡ Less) ks s.0) c)
-
-pub tail_sorted : (k : ℕ) (ks : List ℕ) → IsStrictlySortedBy nat_cmp (k ∷ ks) → IsStrictlySortedBy nat_cmp ks
-unfolding IsStrictlySortedBy
-tail_sorted k ks s = s.1
-
-first_append : {X : Type 0} (P : X → Type 0) (xs ys : List X) (x : X) → All (λ y. P y → ⊥) xs → IsFirst P ys x → IsFirst P (xs ++ ys) x
-first_append P [] ys x none h = h
-first_append P (y ∷ xs) ys x none h = inr (All-contains (λ y. P y → ⊥) (y ∷ xs) y none (Contains-front y xs), first_append P xs ys x (tail none) h)
-  where
-    tail : All (λ y. P y → ⊥) (y ∷ xs) → All (λ y. P y → ⊥) xs
-    tail h = Rattle.staat_model.proofs.Members.All-from_members (λ y. P y → ⊥) xs (λ z c. All-contains (λ y. P y → ⊥) (y ∷ xs) z h (Contains-later y xs z c))
-
-first_before : {X : Type 0} (P : X → Type 0) (xs ys : List X) (x : X) → IsFirst P xs x → IsFirst P (xs ++ ys) x
-first_before P [] ys x h = absurd h
-first_before P (y ∷ xs) ys x (inl h) = inl h
-first_before P (y ∷ xs) ys x (inr h) = inr (h.0, first_before P xs ys x h.1)
+use Rattle.staat_vec.proofs.Comparisons.{head_less, tail_sorted}
+use Rattle.staat_vec.proofs.ListLaws.{first_right, first_left}
 
 module _ (f : ℕ → V3) (P : V3 → Type 0) where
   -- the crossing of two planes, or its negative
@@ -99,13 +76,13 @@ module _ (f : ℕ → V3) (P : V3 → Type 0) where
       in_tail m lt c = ⊎_elim {C = Contains ks m} (λ e. absurd (omega (arith, e))) (λ h. h) (Contains-cases k ks m c)
 
       here : i ≡ k → IsFirst P (crossings (f k) (map f ks) ++ vertices (map f ks)) (at i j b)
-      here e = first_before P (crossings (f k) (map f ks)) (vertices (map f ks)) (at i j b)
+      here e = first_left P (crossings (f k) (map f ks)) (vertices (map f ks)) (at i j b)
           (subst (λ h. IsFirst P (crossings (f h) (map f ks)) (at i j b)) e
           (first_of i ks j b (tail_sorted k ks s) (in_tail j (omega (arith, e, lt)) cj) p (λ m c cm h. least m c (Contains-later k ks m cm) (let q = head_less k ks m s cm in omega (arith, q, e)) h)))
 
       later : Contains ks i → IsFirst P (vertices (map f ks)) (at i j b) → IsFirst P (crossings (f k) (map f ks) ++ vertices (map f ks)) (at i j b)
       later c rest =
           let q = head_less k ks i s c in
-          first_append P (crossings (f k) (map f ks)) (vertices (map f ks)) (at i j b)
+          first_right P (crossings (f k) (map f ks)) (vertices (map f ks)) (at i j b)
           (none_of k ks (λ m d cm. none k m d (Contains-front k ks) (Contains-later k ks m cm) q (head_less k ks m s cm)))
           rest

@@ -1,16 +1,13 @@
 -- The planes of a set, as the linked planes of a table of a larger set.
-use Rattle.std.proofs.Common.{◌≡◌, ◌≢◌, ◌⊎◌, ◌↔◌, inl, inr, ⊎_elim, ℕ, zero, suc, ◌+◌, ◌-◌, ◌<◌, ◌≤◌, arith, ap, sym, subst, ◌∙◌, refl, List, [], ◌∷◌, ◌++◌, length, get_or, Contains}
+use Rattle.std.proofs.Common.{◌≡◌, ◌≢◌, ◌⊎◌, ◌↔◌, inl, inr, ⊎_elim, ℕ, ◌+◌, ◌-◌, ◌<◌, ◌≤◌, arith, ap, sym, subst, ◌∙◌, refl, List, ◌∷◌, ◌++◌, length, get_or, Contains}
 use Rattle.std.specs.Prelude.{Some, map, slice_get}
 use Rattle.std.specs.Ordering.{nat_cmp}
-use Rattle.std.specs.List.{AllByRecursion}
 use Rattle.std.specs.List.Sorted.{IsStrictlySortedBy}
-use Rattle.std.specs.declared.cmp.Ordering.TheVariants.{Less}
 use Rattle.std.proofs.lemmas.List.{get_or_append_left, get_or-append_right}
-use Rattle.std.proofs.lemmas.List.Elements.{All-contains, All-from_recursion}
 use Rattle.std.proofs.lemmas.Option.{slice_get-get_or}
 use Rattle.staat_vec.specs.declared.vector.V3.{V3}
 use Rattle.staat_vec.specs.Vectors.{origin, vector_cmp}
-use Rattle.staat_vec.proofs.Unique.{Contains-cases, Contains-front, Contains-later, Contains-nothing}
+use Rattle.staat_vec.proofs.Unique.{Contains-later}
 use Rattle.staat_model.specs.declared.assembly.Part.{Part}
 use Rattle.staat_model.specs.declared.set.PartSet.{PartSet}
 use Rattle.staat_model.specs.Planes.{ArePlanes, IsFacetPlane, axes}
@@ -18,40 +15,12 @@ use Rattle.staat_model.specs.Sets.{IsSubset}
 use Rattle.staat_pairs.specs.Tables.{Table, WasMadeFrom}
 use Rattle.staat_planes.specs.Tables.{IsPlaneOf}
 use Rattle.staat_ring.specs.Rings.{plane_at}
-use Rattle.staat_ring.proofs.Mapped.{from_map, in_map}
-use Rattle.staat_plan.proofs.RingPairs.{head_less, tail_sorted}
+use Rattle.staat_vec.proofs.Naturals.{add_three_back}
+use Rattle.staat_vec.proofs.VectorLists.{sorted_places, picked_sorted}
+use Rattle.staat_vec.proofs.Comparisons.{sorted_begins}
+use Rattle.staat_vec.proofs.ListLaws.{Contains-from_map, Contains-map}
 
 -- ---- a sorted list by its places
-
-sorted_places : (xs : List V3) (i j : ℕ) → IsStrictlySortedBy vector_cmp xs → i < j → j < length xs → vector_cmp (get_or xs i origin) (get_or xs j origin) ≡ Less
-unfolding IsStrictlySortedBy
-sorted_places [] i j s lt small = absurd (omega arith)
-sorted_places (x ∷ xs) zero zero s lt small = absurd (omega arith)
-sorted_places (x ∷ xs) zero (suc j) s lt small = All-contains (λ z. vector_cmp x z ≡ Less) xs (get_or xs j origin) (All-from_recursion (λ z. vector_cmp x z ≡ Less) xs s.0) (j, omega arith, refl')
-  where
-    refl' : get_or xs j (get_or xs j origin) ≡ get_or xs j origin
-    refl' = Rattle.std.proofs.lemmas.List.get_or_default xs j (get_or xs j origin) origin (omega arith)
-sorted_places (x ∷ xs) (suc i) zero s lt small = absurd (omega arith)
-sorted_places (x ∷ xs) (suc i) (suc j) s lt small = sorted_places xs i j s.1 (omega arith) (omega arith)
-
-all_of : {X : Type 0} (P : X → Type 0) (xs : List X) → ((x : X) → Contains xs x → P x) → AllByRecursion P xs
-all_of P [] h = tt
-all_of P (x ∷ xs) h = (h x (Contains-front x xs), all_of P xs (λ y c. h y (Contains-later x xs y c)))
-
-picked_sorted : (f : ℕ → V3) (ks : List ℕ) → IsStrictlySortedBy nat_cmp ks → ((i j : ℕ) → Contains ks i → Contains ks j → i < j → vector_cmp (f i) (f j) ≡ Less) → IsStrictlySortedBy vector_cmp (map f ks)
-unfolding IsStrictlySortedBy
-picked_sorted f [] s h = tt
-picked_sorted f (k ∷ ks) s h = (
-  all_of (λ y. vector_cmp (f k) y ≡ Less) (map f ks) (λ y c. let m = from_map f ks y c in subst (λ z. vector_cmp (f k) z ≡ Less) m.2 (h k m.0 (Contains-front k ks) (Contains-later k ks m.0 m.1) (head_less k ks m.0 s m.1))),
-  picked_sorted f ks (tail_sorted k ks s) (λ i j ci cj lt. h i j (Contains-later k ks i ci) (Contains-later k ks j cj) lt),
-)
-
--- an ascending list of numbers from n on that has n begins with it
-begins : (n : ℕ) (ks : List ℕ) → IsStrictlySortedBy nat_cmp ks → ((k : ℕ) → Contains ks k → n ≤ k) → Contains ks n → (rest : List ℕ) × (ks ≡ n ∷ rest) × IsStrictlySortedBy nat_cmp rest × ((k : ℕ) → Contains rest k → n + 1 ≤ k) × ((k : ℕ) → Contains ks k → n < k → Contains rest k)
-begins n [] s low c = absurd (Contains-nothing n c)
-begins n (k ∷ ks) s low c =
-    let e : n ≡ k = ⊎_elim {C = n ≡ k} (λ e. e) (λ later. absurd (let a = head_less k ks n s later in let b = low k (Contains-front k ks) in omega (arith, a, b))) (Contains-cases k ks n c) in
-    (ks, ap (λ m. m ∷ ks) (sym e), tail_sorted k ks s, (λ m cm. let a = head_less k ks m s cm in omega (arith, a, e)), (λ m cm lt. ⊎_elim {C = Contains ks m} (λ q. absurd (omega (arith, q, e, lt))) (λ h. h) (Contains-cases k ks m cm)))
 
 module _ (parts : List Part) (t : Table) (w : PartSet) (ks : List ℕ) (made : WasMadeFrom parts t) (within : IsSubset w t.of) (sorted : IsStrictlySortedBy nat_cmp ks)
     (linked : (k : ℕ) (n : V3) → slice_get t.planes k ≡ Some n → Contains ks k ↔ IsPlaneOf parts w n) (small : (k : ℕ) → Contains ks k → k < length t.planes) where
@@ -68,9 +37,9 @@ module _ (parts : List Part) (t : Table) (w : PartSet) (ks : List ℕ) (made : W
 
   first_axes : (rest : List ℕ) × (ks ≡ 0 ∷ 1 ∷ 2 ∷ rest) × IsStrictlySortedBy nat_cmp rest × ((k : ℕ) → Contains rest k → 3 ≤ k) × ((k : ℕ) → Contains ks k → 3 ≤ k → Contains rest k)
   first_axes =
-      let a = begins 0 ks sorted (λ k c. omega arith) (axis_at 0 (get_or axes 0 origin) (omega arith) refl) in
-      let b = begins 1 a.0 a.2 a.3 (a.4 1 (axis_at 1 (get_or axes 1 origin) (omega arith) refl) (omega arith)) in
-      let c = begins 2 b.0 b.2 b.3 (b.4 2 (a.4 2 (axis_at 2 (get_or axes 2 origin) (omega arith) refl) (omega arith)) (omega arith)) in
+      let a = sorted_begins 0 ks sorted (λ k c. omega arith) (axis_at 0 (get_or axes 0 origin) (omega arith) refl) in
+      let b = sorted_begins 1 a.0 a.2 a.3 (a.4 1 (axis_at 1 (get_or axes 1 origin) (omega arith) refl) (omega arith)) in
+      let c = sorted_begins 2 b.0 b.2 b.3 (b.4 2 (a.4 2 (axis_at 2 (get_or axes 2 origin) (omega arith) refl) (omega arith)) (omega arith)) in
       (c.0, a.1 ∙ ap (λ r. 0 ∷ r) (b.1 ∙ ap (λ r. 1 ∷ r) c.1), c.2, c.3, (λ k ck le. c.4 k (b.4 k (a.4 k ck (omega arith)) (omega arith)) (omega arith)))
 
   other_place : (k : ℕ) → 3 ≤ k → plane_at t.planes k ≡ get_or made.planes.others (k - 3) origin
@@ -95,7 +64,7 @@ module _ (parts : List Part) (t : Table) (w : PartSet) (ks : List ℕ) (made : W
           (λ i j ci cj lt. (λ d. vector_cmp (other_place i (first_axes.3 i ci) d) (other_place j (first_axes.3 j cj) d))
           ∙ sorted_places made.planes.others (i - 3) (j - 3) made.planes.others_are.ascending (let a = first_axes.3 i ci in omega (arith, a, lt)) (other_small j (first_axes.3 j cj) (rest_small j cj)));
       each = λ n c.
-          let m = from_map (plane_at t.planes) first_axes.0 n c in
+          let m = Contains-from_map (plane_at t.planes) first_axes.0 n c in
           let k : ℕ = m.0 in
           let at : slice_get t.planes k ≡ Some (plane_at t.planes k) = slice_get-get_or t.planes k origin (rest_small k m.1) in
           let no_axis : Contains axes (plane_at t.planes k) → ⊥ = (made.planes.others_are.each (plane_at t.planes k) (other_in k m.1)).1 in
@@ -107,16 +76,13 @@ module _ (parts : List Part) (t : Table) (w : PartSet) (ks : List ℕ) (made : W
           let (m, lt, e) = made.planes.others_are.all n (in_of, h.1) in
           let k : ℕ = m + 3 in
           let small_k : k < length t.planes = (let q = ap length planes_are in let l = Rattle.std.proofs.Common.length-append axes made.planes.others in omega (arith, q, l, lt)) in
-          let is : plane_at t.planes k ≡ n = other_place k (omega arith) ∙ (ap (λ i. get_or made.planes.others i origin) (back m) ∙ (Rattle.std.proofs.lemmas.List.get_or_default made.planes.others m origin n lt ∙ e)) in
+          let is : plane_at t.planes k ≡ n = other_place k (omega arith) ∙ (ap (λ i. get_or made.planes.others i origin) (add_three_back m) ∙ (Rattle.std.proofs.lemmas.List.get_or_default made.planes.others m origin n lt ∙ e)) in
           let at : slice_get t.planes k ≡ Some n = slice_get-get_or t.planes k origin small_k ∙ ap (λ x. Some x) is in
-          subst (Contains (map (plane_at t.planes) first_axes.0)) is (in_map (plane_at t.planes) first_axes.0 k (first_axes.4 k ((linked k n at).1 (inr f)) (omega arith)));
+          subst (Contains (map (plane_at t.planes) first_axes.0)) is (Contains-map (plane_at t.planes) first_axes.0 k (first_axes.4 k ((linked k n at).1 (inr f)) (omega arith)));
     };
     is = ap (map (plane_at t.planes)) first_axes.1 ∙ start;
   }
     where
-      back : (m : ℕ) → m + 3 - 3 ≡ m
-      back m = omega arith
-
       axis_is : (k : ℕ) → k < 3 → plane_at t.planes k ≡ get_or axes k origin
       axis_is k lt = ap (λ ps. get_or ps k origin) planes_are ∙ get_or_append_left axes made.planes.others origin k lt
 

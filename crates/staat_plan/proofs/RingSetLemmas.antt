@@ -1,5 +1,5 @@
 -- Which planes are linked while those that are none of a set of parts are taken out.
-use Rattle.std.proofs.Common.{◌≡◌, ◌≢◌, ◌⊎◌, ◌↔◌, inl, ⊎_elim, ℕ, ◌+◌, ◌<◌, ◌≤◌, Bool, true, false, not, arith, ap, refl, sym, subst, ◌∙◌, List, [], ◌++◌, length, Contains, get_or, eq-eqb}
+use Rattle.std.proofs.Common.{◌≡◌, ◌≢◌, ◌↔◌, inl, ⊎_elim, ℕ, ◌+◌, ◌<◌, ◌≤◌, true, false, not, arith, ap, refl, sym, subst, ◌∙◌, List, [], ◌++◌, length, Contains, get_or}
 use Rattle.std.specs.Prelude.{◌==◌, IsTrue, Some, slice_get}
 use Rattle.std.specs.List.{filter}
 use Rattle.std.proofs.lemmas.List.{get_or_append_left, get_or_default}
@@ -15,10 +15,10 @@ use Rattle.staat_planes.specs.Tables.{IsPlaneOf}
 use Rattle.staat_planes.proofs.PairSteps.{whole_used}
 use Rattle.staat_ring.specs.Rings.{Arrangement, WereMadeFrom, linked_of, unlinked_of}
 use Rattle.staat_ring.specs.Without.{IsUnlinked}
-use Rattle.staat_ring.proofs.Mapped.{differ}
 use Rattle.staat_ring.proofs.RingsWithout.{linked_without}
 use Rattle.staat_ring.proofs.WithoutLemmas.{filter_from, filter_in}
 use Rattle.staat_plan.specs.RingSets.{AreAllLinkedFrom, AreThoseLinked}
+use Rattle.staat_vec.proofs.Naturals.{lt_one_more_cases, apart_from_test, eq_test_false}
 
 -- ---- all planes are linked at first
 
@@ -52,9 +52,6 @@ whole_linked parts t w rings made from whole within over k n at = (
 
 -- ---- the next plane
 
-one_more : (j k : ℕ) → j < k + 1 → (j < k) ⊎ (j ≡ k)
-one_more j k lt = grind arith
-
 -- the planes past it are linked as before
 pub past_next : (planes : List V3) (linked : List ℕ) (k : ℕ) → AreAllLinkedFrom planes linked k → AreAllLinkedFrom planes linked (k + 1)
 past_next planes linked k past j le lt = past j (omega (arith, le)) lt
@@ -68,14 +65,7 @@ used_before parts planes w linked k past before is j n at less = ⊎_elim {C = C
       (λ _. is n (subst (λ m. slice_get planes m ≡ Some n) e at)),
       (λ _. past j (omega (arith, e)) (slice_get_within planes j n at)),
     ))
-    (one_more j k less)
-
-not_same : (k p : ℕ) → not (k == p) ≡ true → k ≢ p
-not_same k p h e = off (k == p) (eq-eqb k p e) h
-  where
-    off : (b : Bool) → b ≡ true → not b ≡ true → ⊥
-    off true a c = cc
-    off false a c = cc
+    (lt_one_more_cases j k less)
 
 -- it is none of w, and is taken out
 module _ (k : ℕ) (a b : Arrangement) (is : IsUnlinked k a b) where
@@ -85,10 +75,10 @@ module _ (k : ℕ) (a b : Arrangement) (is : IsUnlinked k a b) where
   out : (j : ℕ) → Contains (linked_of b.rings) j → Contains (linked_of a.rings) j × (j ≢ k)
   out j c =
       let f = filter_from (λ j. not (j == k)) (linked_of a.rings) j (subst (λ ks. Contains ks j) linked_is c) in
-      (f.0, not_same j k f.1)
+      (f.0, apart_from_test j k f.1)
 
   kept : (j : ℕ) → Contains (linked_of a.rings) j → j ≢ k → Contains (linked_of b.rings) j
-  kept j c ne = subst (λ ks. Contains ks j) (sym linked_is) (filter_in (λ j. not (j == k)) (linked_of a.rings) j c (ap not (differ j k ne)))
+  kept j c ne = subst (λ ks. Contains ks j) (sym linked_is) (filter_in (λ j. not (j == k)) (linked_of a.rings) j c (ap not (eq_test_false j k ne)))
 
   pub unlinked_past : (planes : List V3) → AreAllLinkedFrom planes (linked_of a.rings) k → AreAllLinkedFrom planes (linked_of b.rings) (k + 1)
   unlinked_past planes past j le lt = kept j (past j (omega (arith, le)) lt) (λ e. omega (arith, le, e))
@@ -104,7 +94,7 @@ module _ (k : ℕ) (a b : Arrangement) (is : IsUnlinked k a b) where
         (λ c. absurd ((out j c).1 e)),
         (λ p. absurd (none n (subst (λ m. slice_get planes m ≡ Some n) e at) p)),
       ))
-      (one_more j k less)
+      (lt_one_more_cases j k less)
 
 -- past the last plane those of w are linked and no others
 pub all_past : (parts : List Part) (planes : List V3) (w : PartSet) (linked : List ℕ) (k : ℕ) → AreThoseLinked parts planes w linked k → length planes ≤ k

@@ -1,11 +1,10 @@
 -- The first vertex that serves, from what is found on the circles.
-use Rattle.std.proofs.Common.{◌≡◌, ◌⊎◌, ◌↔◌, inl, inr, ⊎_elim, ℕ, ◌+◌, ◌*◌, ◌<◌, ◌≤◌, false, arith, ap, sym, subst, ◌∙◌, refl, List, [], ◌∷◌, length, Contains, All}
+use Rattle.std.proofs.Common.{◌≡◌, ◌↔◌, ⊎_elim, ℕ, ◌+◌, ◌*◌, ◌<◌, ◌≤◌, false, arith, ap, sym, subst, ◌∙◌, refl, List, length, Contains, All}
 use Rattle.std.specs.Prelude.{Option, Some, None, if◌then◌else◌, map, slice_get}
 use Rattle.std.specs.FinSet as set
 use Rattle.std.proofs.lemmas.List.Elements.{All-contains, All-map}
 use Rattle.std.proofs.lemmas.Option.{slice_get-get_or, slice_get_within, same_Some}
 use Rattle.staat_vec.specs.declared.vector.V3.{V3}
-use Rattle.staat_vec.specs.Lists.{IsFirst}
 use Rattle.staat_vec.specs.Vectors.{origin}
 use Rattle.staat_model.specs.declared.assembly.Part.{Part}
 use Rattle.staat_model.specs.declared.set.PartSet.{PartSet}
@@ -21,18 +20,16 @@ use Rattle.staat_ring.specs.declared.entry.Entry.{Entry}
 use Rattle.staat_ring.specs.Rings.{IsRingOf, Ring, RingStop, crossing, linked_of, vertex_of}
 use Rattle.staat_ring.specs.Rings.{AreRings}
 use Rattle.staat_ring.specs.Rings.{plane_at}
-use Rattle.staat_ring.proofs.Mapped.{from_map, in_map}
 use Rattle.staat_ring.proofs.Covered.{entry_there, entry_vertex}
 use Rattle.staat_ring.proofs.Stops.{none_parallel}
 use Rattle.staat_plan.specs.declared.ring_step.Serving.{Serving}
 use Rattle.staat_plan.specs.RingSearches.{HasServing, IsBest, IsServing, NoneServes, pair_key}
 use Rattle.staat_plan.proofs.RingPlanes.{linked_planes}
 use Rattle.staat_plan.proofs.RingPairs.{first_pair, no_pairs}
-
-map_first : (P : V3 → Type 0) (vs : List V3) (v : V3) → IsFirst P vs v → IsFirst (λ (t : Try). P t.d) (map try_vertex vs) (try_vertex v)
-map_first P [] v h = h
-map_first P (x ∷ vs) v (inl h) = inl (ap try_vertex h.0, h.1)
-map_first P (x ∷ vs) v (inr h) = inr (h.0, map_first P vs v h.1)
+use Rattle.staat_vec.proofs.Naturals.{lt_one_more_cases}
+use Rattle.staat_vec.proofs.Options.{none_some}
+use Rattle.staat_plan.proofs.StepLemmas.{map_first}
+use Rattle.staat_vec.proofs.ListLaws.{Contains-from_map, Contains-map}
 
 module _ (parts : List Part) (t : Table) (w : PartSet) (rules : IsTable t) (rings : List Ring) (out : List ℕ) (are : AreRings t.planes rings out) (made : WasMadeFrom parts t) (within : IsSubset w t.of)
     (linked : (k : ℕ) (n : V3) → slice_get t.planes k ≡ Some n → Contains (linked_of rings) k ↔ IsPlaneOf parts w n) where
@@ -40,7 +37,7 @@ module _ (parts : List Part) (t : Table) (w : PartSet) (rules : IsTable t) (ring
   ks = linked_of rings
 
   ring_for : (k : ℕ) → Contains ks k → (r : Ring) × Contains rings r × (r.plane ≡ k)
-  ring_for k c = from_map (λ r. r.plane) rings k c
+  ring_for k c = Contains-from_map (λ r. r.plane) rings k c
 
   rings_of : (r : Ring) → Contains rings r → IsRingOf t.planes ks r
   rings_of r c = All-contains (IsRingOf t.planes ks) rings r are.each c
@@ -78,8 +75,8 @@ module _ (parts : List Part) (t : Table) (w : PartSet) (rules : IsTable t) (ring
 
     pub found_linked : Contains ks f.entry.plane
     found_linked =
-        let pass = All-contains (λ s. Rattle.staat_vec.specs.Lists.Lists Rattle.std.specs.Ordering.nat_cmp (Rattle.staat_model.specs.Circles.PassesThrough t.planes ks r.plane s.vertex) s.through) (map (Rattle.staat_ring.specs.Rings.stop_of t.planes r.plane) r.stops) (Rattle.staat_ring.specs.Rings.stop_of t.planes r.plane right.0) (rings_of r cr).circle.through (in_map (Rattle.staat_ring.specs.Rings.stop_of t.planes r.plane) r.stops right.0 right.1) in
-        (pass.each f.entry.plane (in_map (λ e. e.plane) right.0.entries f.entry right.2.listed)).linked_is.listed
+        let pass = All-contains (λ s. Rattle.staat_vec.specs.Lists.Lists Rattle.std.specs.Ordering.nat_cmp (Rattle.staat_model.specs.Circles.PassesThrough t.planes ks r.plane s.vertex) s.through) (map (Rattle.staat_ring.specs.Rings.stop_of t.planes r.plane) r.stops) (Rattle.staat_ring.specs.Rings.stop_of t.planes r.plane right.0) (rings_of r cr).circle.through (Contains-map (Rattle.staat_ring.specs.Rings.stop_of t.planes r.plane) r.stops right.0 right.1) in
+        (pass.each f.entry.plane (Contains-map (λ e. e.plane) right.0.entries f.entry right.2.listed)).linked_is.listed
 
     pub found_step : Contains ks i → NoneServes parts t.planes w ks i → IsStep false parts w (try_vertex (crossing t.planes i f.entry)) f.moved
     found_step ci none = record {
@@ -115,17 +112,8 @@ module _ (parts : List Part) (t : Table) (w : PartSet) (rules : IsTable t) (ring
   pub none_more : (i : ℕ) (r : Ring) → Contains rings r → r.plane ≡ i → IsBest parts t.planes w i r.stops (length r.stops) None → NoneServes parts t.planes w ks i → NoneServes parts t.planes w ks (i + 1)
   none_more i r cr plane is none h e ch ce lt later serves = ⊎_elim {C = ⊥}
       (λ before. none h e ch ce before later serves)
-      (λ q. let found = looked i r None e cr plane is ce (omega (arith, q, later)) (subst (λ k. Serves parts w (crossing t.planes k e)) q serves) in no_some found.0 found.1)
-      (lt_same h i lt)
-    where
-      no_some : (f : Serving) → None ≡ Some f → ⊥
-      no_some f e = cc
-
-      lt_same : (k m : ℕ) → k < m + 1 → (k < m) ⊎ (k ≡ m)
-      lt_same k m h = grind arith
+      (λ q. let found = looked i r None e cr plane is ce (omega (arith, q, later)) (subst (λ k. Serves parts w (crossing t.planes k e)) q serves) in none_some found.0 found.1)
+      (lt_one_more_cases h i lt)
 
 pub none_skip : (parts : List Part) (planes : List V3) (w : PartSet) (ks : List ℕ) (i : ℕ) → (Contains ks i → ⊥) → NoneServes parts planes w ks i → NoneServes parts planes w ks (i + 1)
-none_skip parts planes w ks i out none h e ch ce lt later serves = ⊎_elim {C = ⊥} (λ before. none h e ch ce before later serves) (λ q. out (subst (Contains ks) q ch)) (lt_same h i lt)
-  where
-    lt_same : (k m : ℕ) → k < m + 1 → (k < m) ⊎ (k ≡ m)
-    lt_same k m h = grind arith
+none_skip parts planes w ks i out none h e ch ce lt later serves = ⊎_elim {C = ⊥} (λ before. none h e ch ce before later serves) (λ q. out (subst (Contains ks) q ch)) (lt_one_more_cases h i lt)

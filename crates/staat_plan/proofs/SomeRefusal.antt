@@ -6,8 +6,7 @@ use Rattle.std.proofs.lemmas.List.Elements.{All-cons, All-contains, All-nil}
 use Rattle.staat_vec.specs.declared.vector.V3.{V3}
 use Rattle.staat_vec.specs.Lists.{Lists}
 use Rattle.staat_vec.specs.Primitives.{IsCanon, first_nonzero}
-use Rattle.staat_vec.specs.Vectors.{cross, dot, origin, vector_cmp}
-use Rattle.staat_vec.proofs.Primitives.{IsPrimitive-some, primitive-is}
+use Rattle.staat_vec.specs.Vectors.{dot, origin, vector_cmp}
 use Rattle.staat_vec.proofs.Unique.{Contains-cases, Contains-front, Contains-later, Contains-nothing}
 use Rattle.staat_vec.proofs.VectorOrder.{vector_exact, vector_total}
 use Rattle.staat_model.specs.declared.assembly.Part.{Part}
@@ -28,7 +27,6 @@ use Rattle.staat_model.specs.Plans.{IsStuck}
 use Rattle.staat_model.specs.Removal.{Blocks, MeetsAlong}
 use Rattle.staat_model.specs.Sets.{Has, IsLeastOf, IsSubset, single}
 use Rattle.staat_model.proofs.Decisions.{Decided, LeastIn, all_decided, below_or, both_or, carried, equal_or, least_or, less_or, nat_or, not_or}
-use Rattle.staat_model.proofs.EndLemmas.{from_vertices}
 use Rattle.staat_model.proofs.FirstUse.{IsDistinct}
 use Rattle.staat_model.proofs.FreeSides.{member_or, subset_or}
 use Rattle.staat_model.proofs.GraphLemmas.{piece_is}
@@ -36,14 +34,12 @@ use Rattle.staat_model.proofs.Listings.{Listing, listing_and, listing_as, listin
 use Rattle.staat_model.proofs.Members.{All-from_members}
 use Rattle.staat_model.proofs.Orders.{arc_exact, arc_total}
 use Rattle.staat_model.proofs.PieceFacets.{meets_by_facets_lemma}
-use Rattle.staat_model.proofs.PlanLemmas.{there_is}
-use Rattle.staat_model.proofs.PlaneLemmas.{NoneParallel, planes_apart}
+use Rattle.staat_model.proofs.PlaneLemmas.{planes_apart}
 use Rattle.staat_model.proofs.Places.{place_within}
 use Rattle.staat_model.proofs.SetMembers.{has-difference, has-insert, has-single}
 use Rattle.staat_model.proofs.SetSizes.{len_more}
 use Rattle.staat_model.proofs.SetWords.{same_members}
 use Rattle.staat_model.proofs.SomePlanes.{arcs_listing, facets_listing, holds_or, some_planes}
-use Rattle.staat_model.proofs.VertexLemmas.{same_some}
 use Rattle.staat_graph.specs.Graphs.{IsShut, Walks, here}
 use Rattle.staat_graph.proofs.Finite.{len_subset, some_least, some_or_none}
 use Rattle.staat_graph.proofs.Reaching.{reach_of}
@@ -52,19 +48,19 @@ use Rattle.staat_plan.specs.Listings.{IsWitnessNumber, key_of}
 use Rattle.staat_plan.proofs.Keys.{key_tells}
 use Rattle.staat_plan.proofs.LineLemmas.{line_pushed, listed_more}
 use Rattle.staat_plan.proofs.ListedLemmas.{HasLines, no_lines, refusal_listed}
-use Rattle.staat_plan.proofs.NumberLemmas.{push_cases, push_end}
 use Rattle.staat_plan.proofs.OutcomeLemmas.{some_member}
+use Rattle.staat_vec.proofs.Naturals.{le_from_not_lt}
+use Rattle.staat_model.proofs.ListedVertices.{vertex_some}
+use Rattle.staat_model.proofs.PlanLemmas.{piece_within}
+use Rattle.staat_vec.proofs.ListLaws.{push_cases, push_end}
 
 -- ---- trees in a graph whose arcs can be tested
 
 least_number : (P : ℕ → Type 0) → ((k : ℕ) → Decided (P k)) → (q : ℕ) → P q → (k : ℕ) × P k × ((j : ℕ) → P j → k ≤ j)
 least_number P dec q p = go (below_or P dec (suc q))
   where
-    not_below : (k j : ℕ) → (j < k → ⊥) → k ≤ j
-    not_below k j out = grind arith
-
     go : ((k : ℕ) × (k < suc q) × P k × ((j : ℕ) → j < k → P j → ⊥)) ⊎ ((k : ℕ) → k < suc q → P k → ⊥) → (k : ℕ) × P k × ((j : ℕ) → P j → k ≤ j)
-    go (inl (k, lt, has, none)) = (k, has, λ j h. not_below k j (λ less. none j less h))
+    go (inl (k, lt, has, none)) = (k, has, λ j h. le_from_not_lt k j (λ less. none j less h))
     go (inr none) = absurd (none q (omega arith) p)
 
 -- what the bridges of a tree are
@@ -176,8 +172,8 @@ module _ (parts : List Part) (is : IsAssembly parts) (d : V3) where
   listed a b arc h = (arcs_of a b).all arc (record {
     a_in = (has-single a arc.a).1 h.0;
     b_in = (has-single b arc.b).1 h.1;
-    i_in = there_is parts arc.a arc.i h.2.p h.2.p_is;
-    j_in = there_is parts arc.b arc.j h.2.q h.2.q_is;
+    i_in = piece_within parts arc.a arc.i h.2.p h.2.p_is;
+    j_in = piece_within parts arc.b arc.j h.2.q h.2.q_is;
   })
 
   abbrev HasLeast : ℕ → ℕ → Type 0
@@ -379,12 +375,6 @@ module _ (parts : List Part) (w : PartSet) where
 
 -- ---- the directions
 
-vertex_moves : (planes : List V3) (v : V3) → NoneParallel planes → Contains (vertices planes) v → v ≢ origin
-vertex_moves planes v apart c =
-    let f = from_vertices planes v apart c in
-    let ray = primitive-is (cross f.g f.h) f.independent in
-    same_some v _ f.is (IsPrimitive-some _ ray.primitive)
-
 some_directions : (version : ℕ) (planes : List V3) → (ds : List V3) × Lists vector_cmp (IsDirection version planes) ds
 some_directions version planes = listing_sorted vector_cmp vector_total vector_exact
     (listing_as (λ d h. record { vertex = h.0; canonical = h.1 }) (λ d h. (h.vertex, h.canonical))
@@ -405,7 +395,7 @@ some_refusal_certificate parts version w is held =
     let (planes, planes_are) = some_planes parts w in
     let (ds, directions) = some_directions version planes in
     let apart = planes_apart parts w planes planes_are in
-    let t = all_lines parts w ds (λ d c. some_witness parts is d w held (vertex_moves planes d apart (directions.each d c).vertex)) in (
+    let t = all_lines parts w ds (λ d c. some_witness parts is d w held (vertex_some planes d apart (directions.each d c).vertex)) in (
       record { version = version; parts = length parts; body = body.Stuck w t.witnesses t.dirs },
       record {
         version_is = refl;

@@ -28,6 +28,7 @@ use Rattle.staat_planes.proofs.GraphLaw.{ahead_is_blocking}
 use Rattle.staat_plan.specs.Witnesses.{AreTreesAlong, AreEndsAhead, AreEndsAndLeast}
 use Rattle.staat_plan.proofs.WitnessLemmas.{root_within, witness_is}
 use Rattle.staat_plan.proofs.Tries.{stuck_serves_not}
+use Rattle.staat_vec.proofs.Truth.{and_split}
 
 module _ (t : Table) (d : V3) (rows : List ℕ) (says : (a b : ℕ) → HasArc rows a b → IsAhead t d a b) (w : PartSet) where
   pub outs_lead : (reached : PartSet) (pairs : List (ℕ × ℕ)) → IsTree (HasArc rows) w reached pairs → All (AreEndsAhead t d) pairs
@@ -88,15 +89,11 @@ not_not : (b : Bool) → false ≡ not b → b ≡ true
 not_not true e = refl
 not_not false e = cc
 
-both : (a b : Bool) → (a && b) ≡ true → (a ≡ true) × (b ≡ true)
-both true b e = (refl, e)
-both false b e = cc
-
 pub same_arc : (x y : Arc) → false ≡ not ((x.a == y.a) && ((x.i == y.i) && ((x.b == y.b) && (x.j == y.j)))) → x ≡ y
 same_arc x y e =
-    let one = both (x.a == y.a) ((x.i == y.i) && ((x.b == y.b) && (x.j == y.j))) (not_not _ e) in
-    let two = both (x.i == y.i) ((x.b == y.b) && (x.j == y.j)) one.1 in
-    let three = both (x.b == y.b) (x.j == y.j) two.1 in
+    let one = and_split (x.a == y.a) ((x.i == y.i) && ((x.b == y.b) && (x.j == y.j))) (not_not _ e) in
+    let two = and_split (x.i == y.i) ((x.b == y.b) && (x.j == y.j)) one.1 in
+    let three = and_split (x.b == y.b) (x.j == y.j) two.1 in
     let a : x.a ≡ y.a = (Decides-eqb x.a y.a).0 one.0 in
     let i : x.i ≡ y.i = (Decides-eqb x.i y.i).0 two.0 in
     let b : x.b ≡ y.b = (Decides-eqb x.b y.b).0 three.0 in

@@ -10,7 +10,7 @@ use Rattle.staat_vec.specs.Primitives.{primitive}
 use Rattle.staat_vec.specs.Vectors.{cross, negative, origin, vector_cmp}
 use Rattle.staat_vec.proofs.Canons.{negative-negative}
 use Rattle.staat_vec.proofs.Primitives.{primitive-negative}
-use Rattle.staat_vec.proofs.Unique.{sorted_once}
+use Rattle.staat_vec.proofs.Unique.{sorted_once, from_place}
 use Rattle.staat_vec.proofs.VectorOrder.{vector_exact, vector_total}
 use Rattle.staat_vec.proofs.VecRing.{cross_self, cross_turned}
 use Rattle.staat_model.specs.declared.assembly.Part.{Part}
@@ -18,7 +18,6 @@ use Rattle.staat_model.specs.declared.certificate.Witness.{Witness}
 use Rattle.staat_model.specs.declared.set.PartSet.{PartSet}
 use Rattle.staat_model.specs.Certify.{IsDirection, IsWitnessAt, NamesWitness}
 use Rattle.staat_model.proofs.EndLemmas.{from_vertices}
-use Rattle.staat_model.proofs.GraphLemmas.{from_slice_get}
 use Rattle.staat_model.proofs.PlaneLemmas.{NoneParallel}
 use Rattle.staat_pairs.specs.Tables.{AreTablePlanes, Table}
 use Rattle.staat_plan.specs.Listings.{IsWitnessNumber}
@@ -29,10 +28,12 @@ use Rattle.staat_ring.specs.Belonging.{HasAll}
 use Rattle.staat_ring.specs.Places.{IsStopAt}
 use Rattle.staat_ring.specs.Rings.{AreRings, IsRingOf, Ring, RingStop, crossing, facet_by, linked_of, plane_at, vertex_of}
 use Rattle.staat_ring.specs.Walked.{IsEntered, Walked}
-use Rattle.staat_ring.proofs.Covered.{entry_there, place_of}
-use Rattle.staat_ring.proofs.Mapped.{from_map}
+use Rattle.staat_ring.proofs.Covered.{entry_there}
 use Rattle.staat_ring.proofs.StopLemmas.{one_stop, vertex_first}
 use Rattle.staat_ring.proofs.Stops.{none_parallel}
+use Rattle.staat_vec.proofs.Options.{from_some}
+use Rattle.staat_vec.proofs.ListLaws.{set_here, place_of, Contains-from_map}
+use Rattle.staat_vec.proofs.Naturals.{lt_one_more_cases}
 
 -- all planes of the table's set are linked
 pub whole : (t : Table) (w : Walked) (stands : StandsAmong t w) (parts : List Part) → HasAll parts t.of t.planes (linked_of stands.rings)
@@ -54,11 +55,6 @@ set_still (z ∷ xs) zero (suc j) x y e = inl e
 set_still (z ∷ xs) (suc k) zero x y e = inl e
 set_still (z ∷ xs) (suc k) (suc j) x y e = set_still xs k j x y e
 
-pub set_here : {X : Type 0} (xs : List X) (k : ℕ) (x : X) → k < length xs → slice_get (set xs k x) k ≡ Some x
-set_here [] k x lt = absurd (omega (arith, lt))
-set_here (z ∷ xs) zero x lt = refl
-set_here (z ∷ xs) (suc k) x lt = set_here xs k x (omega (arith, lt))
-
 pub none_there : (n k p : ℕ) → slice_get (replicate {A = Option ℕ} n None) k ≡ Some (Some p) → ⊥
 none_there zero k p e = cc
 none_there (suc n) zero p e = cc
@@ -78,16 +74,14 @@ number_is_here parts w d keys more old new witness i of is = record {
 }
 
 module _ (parts : List Part) (w : PartSet) (ds : List V3) (keys : List (List ℕ)) (old new : List Witness) (numbers more : List (Option ℕ)) (k p : ℕ) (v : V3) (sorted : IsStrictlySortedBy vector_cmp ds) (at : slice_get ds k ≡ Some v) (before : AreFound parts w ds old numbers) (here : IsNumberHere parts w v keys old new p) (is : more ≡ set numbers k (Some p)) where
-  some_same : {X : Type 0} {x y : X} → Some x ≡ Some y → x ≡ y
-  some_same e = cc
 
   pub named_more : AreFound parts w ds new more
   named_more = record {
     size = ap length is ∙ (Rattle.std.proofs.Common.length-set numbers k (Some p) ∙ before.size);
     each = λ j q d at_d at_q. ⊎_elim
         (λ h.
-        let same : q ≡ p = sym (some_same h.1) in
-        let there : d ≡ v = some_same (sym at_d ∙ (ap (slice_get ds) h.0 ∙ at)) in
+        let same : q ≡ p = sym (from_some h.1) in
+        let there : d ≡ v = from_some (sym at_d ∙ (ap (slice_get ds) h.0 ∙ at)) in
         subst (λ n. NamesWitness parts w new (record { d = d; witness = n })) (sym same) (subst (λ (u : V3). NamesWitness parts w new (record { d = u; witness = p })) (sym there) here.names))
         (λ h. let names = before.each j q d at_d h in record { witness = names.witness; witness_is = here.kept q names.witness names.witness_is; is = names.is })
         (set_cases numbers k j (Some p) (Some q) (subst (λ ns. slice_get ns j ≡ Some (Some q)) is at_q));
@@ -111,9 +105,6 @@ module _ (parts : List Part) (w : PartSet) (ds : List V3) (keys : List (List ℕ
 
 -- ---- where the circles have been gone round
 
-last_or : (m k : ℕ) → m < k + 1 → (m < k) ⊎ (m ≡ k)
-last_or m k lt = grind arith
-
 module _ (planes : List V3) (rings : List Ring) (table : AreTablePlanes planes) (are : AreRings planes rings []) where
   pub linked : (k : ℕ) → k < length planes → Contains (linked_of rings) k
   linked k lt = ⊎_elim (λ h. h) (λ c. absurd (let lt = c.1 in omega (arith, lt))) (are.all k lt)
@@ -123,7 +114,7 @@ module _ (planes : List V3) (rings : List Ring) (table : AreTablePlanes planes) 
     pub found_crossing : (k j : ℕ) (turned : Bool) → k < n → k < length planes → j < length planes → j ≢ k → IsDirectionFound ds numbers (crossing planes k (record { plane = j; turned = turned }))
     found_crossing k j turned below lt small ne =
         let e : Entry = record { plane = j; turned = turned } in
-        let (r, listed, is) = from_map (λ (r : Ring). r.plane) rings k (linked k lt) in
+        let (r, listed, is) = Contains-from_map (λ (r : Ring). r.plane) rings k (linked k lt) in
         let there = entry_there planes (linked_of rings) r (none_parallel planes (linked_of rings) table) (All-contains (IsRingOf planes (linked_of rings)) rings r are.each listed) e (plane_at planes j) (record { listed = linked j small; is = slice_get-get_or planes j origin small }) (λ q. ne (q ∙ is)) in
         subst (IsDirectionFound ds numbers) (subst (λ c. vertex_of planes c there.stop.entries ≡ crossing planes c e) is there.vertex)
         (before k there.place there.stop below (record { ring = r; listed = listed; plane = is; is = there.is }))
@@ -150,7 +141,7 @@ module _ (planes : List V3) (rings : List Ring) (table : AreTablePlanes planes) 
     -- all directions
     pub all_found : (version : ℕ) → length planes ≤ n → NoneParallel planes → Lists vector_cmp (IsDirection version planes) ds → AreAllFound ds numbers
     all_found version most apart lists k d at =
-        let f = from_vertices planes d apart (lists.each d (from_slice_get ds k d at)).vertex in
+        let f = from_vertices planes d apart (lists.each d (from_place ds k d at)).vertex in
         let (i, at_g) = place_of planes f.g f.g_in in
         let (j, at_h) = place_of planes f.h f.h_in in
         let lt = slice_get_within planes i f.g at_g in
@@ -173,7 +164,7 @@ module _ (planes : List V3) (rings : List Ring) (table : AreTablePlanes planes) 
         let there : IsStopAt rings c m entered.stop = subst (λ k. IsStopAt rings k m entered.stop) circle (subst (λ k. IsStopAt rings w.circle k entered.stop) (place ∙ sym e) entered.at) in
         let same = one_stop rings c m s entered.stop are.ascending at there in
         subst (IsDirectionFound ds new) (entered.vertex ∙ ((λ i. vertex_of planes (circle i) entered.stop.entries) ∙ ap (λ (x : RingStop). vertex_of planes c x.entries) (sym same))) here)
-        (last_or m n lt)
+        (lt_one_more_cases m n lt)
 
     pub below_still : AreFoundBelow planes rings ds old c → AreFoundBelow planes rings ds new c
     below_still below b m s lt at = kept_found (vertex_of planes b s.entries) (below b m s lt at)
@@ -187,4 +178,4 @@ module _ (planes : List V3) (rings : List Ring) (table : AreTablePlanes planes) 
       let l = slice_get_within there.ring.stops m s there.is in
       let z = size there.ring there.listed there.plane in
       subst (λ k. IsDirectionFound ds numbers (vertex_of planes k s.entries)) (sym e) (on m s (omega (arith, l, z, le)) there))
-      (last_or b c lt)
+      (lt_one_more_cases b c lt)

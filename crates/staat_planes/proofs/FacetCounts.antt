@@ -13,6 +13,7 @@ use Rattle.staat_vec.proofs.Canons.{canon-either, negative-negative}
 use Rattle.staat_vec.proofs.Unique.{Contains-cases, Contains-front, Contains-later, Contains-nothing}
 use Rattle.staat_vec.proofs.VectorOrder.{vector_total}
 use Rattle.staat_pairs.specs.Tables.{AreTableFacets, IsTableFacet}
+use Rattle.staat_vec.proofs.VectorLists.{length-le_from_contains}
 
 -- the list without one place of x
 without : (ys : List V3) (x : V3) → Contains ys x → (zs : List V3) × (length ys ≡ suc (length zs)) × ((y : V3) → Contains ys y → (y ≡ x) ⊎ Contains zs y)
@@ -29,18 +30,6 @@ apart : (x : V3) (xs : List V3) → IsStrictlySortedBy vector_cmp (x ∷ xs) →
 unfolding IsStrictlySortedBy
 apart x xs s c = let less : Less ≡ Equal = sym (All-contains (λ z. vector_cmp x z ≡ Less) xs x (All-from_recursion (λ z. vector_cmp x z ≡ Less) xs s.0) c) ∙ tied_itself vector_total x in cc
 
-rest_ascends : (x : V3) (xs : List V3) → IsStrictlySortedBy vector_cmp (x ∷ xs) → IsStrictlySortedBy vector_cmp xs
-unfolding IsStrictlySortedBy
-rest_ascends x xs s = s.1
-
--- an ascending list whose members are all in another is not longer
-pub no_longer : (xs ys : List V3) → IsStrictlySortedBy vector_cmp xs → ((x : V3) → Contains xs x → Contains ys x) → length xs ≤ length ys
-no_longer [] ys s sub = omega arith
-no_longer (x ∷ xs) ys s sub =
-    let (zs, len, each) = without ys x (sub x (Contains-front x xs)) in
-    let le : length xs ≤ length zs = no_longer xs zs (rest_ascends x xs s) (λ y c. ⊎_elim (λ e. absurd (apart x xs s (subst (Contains xs) e c))) (λ m. m) (each y (sub y (Contains-later x xs y c)))) in
-    let bound : suc (length xs) ≤ length ys = omega (arith, le, len) in bound
-
 in_map : (ns : List V3) (n : V3) → Contains ns n → Contains (map negative ns) (negative n)
 in_map [] n c = absurd (Contains-nothing n c)
 in_map (m ∷ ns) n c =
@@ -56,5 +45,5 @@ either_way planes n c =
 
 pub few_facets : (planes facets : List V3) → AreTableFacets planes facets → length facets ≤ 2 * length planes
 few_facets planes facets are =
-    let le = no_longer facets (planes ++ map negative planes) are.ascending (λ n c. let f : IsTableFacet planes n = All-contains (IsTableFacet planes) facets n are.each c in either_way planes n f.plane) in
+    let le = length-le_from_contains facets (planes ++ map negative planes) are.ascending (λ n c. let f : IsTableFacet planes n = All-contains (IsTableFacet planes) facets n are.each c in either_way planes n f.plane) in
     omega (arith, le, length-append planes (map negative planes), length-map planes negative)

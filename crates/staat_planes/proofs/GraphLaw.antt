@@ -12,8 +12,6 @@ use Rattle.staat_model.specs.Meeting.{Meets}
 use Rattle.staat_model.specs.Removal.{MeetsAlong}
 use Rattle.staat_model.specs.Sets.{Has, IsSubset}
 use Rattle.staat_model.proofs.GraphLemmas.{piece_is}
-use Rattle.staat_model.proofs.Places.{same_some}
-use Rattle.staat_model.proofs.PlanLemmas.{there_is}
 use Rattle.std.specs.Int.{bit_at}
 use Rattle.std.proofs.lemmas.List.{get_or_past}
 use Rattle.std.proofs.lemmas.Nat.Bits.{bit_at-zero}
@@ -24,14 +22,17 @@ use Rattle.staat_model.specs.declared.set.PartSet.{PartSet}
 use Rattle.staat_cone.proofs.WallLemmas.{meets_by_list}
 use Rattle.staat_pairs.specs.Tables.{IsTableArc, IsTable, Table, WasMadeFrom, facets_of}
 use Rattle.staat_planes.specs.Tables.{BlocksIn, IsAhead, IsAheadIn}
+use Rattle.staat_vec.proofs.Naturals.{lt_or_le, lt_one_more_cases}
+use Rattle.staat_vec.proofs.Options.{some_injective}
+use Rattle.staat_model.proofs.PlanLemmas.{piece_within}
 
 -- the two pieces of an arc meet exactly where d leads ahead of their facets
 pub meets_at : (parts : List Part) (t : Table) (d : V3) (arc : Arc) → IsAssembly parts → HoldsAt parts arc (λ p q. Lists vector_cmp (IsFacet p q) (facets_of t arc)) → MeetsAlong parts d arc ↔ All (λ n. pos 0 <ℤ dot n d) (facets_of t arc)
 meets_at parts t d arc is h =
     let law = meets_by_list h.p h.q (facets_of t arc) d (piece_is parts arc.a arc.i h.p is h.p_is) (piece_is parts arc.b arc.j h.q is h.q_is) (λ n. (h.holds.each n, h.holds.all n)) in (
       (λ m.
-          let first : m.p ≡ h.p = same_some m.p h.p (sym m.p_is ∙ h.p_is) in
-          let second : m.q ≡ h.q = same_some m.q h.q (sym m.q_is ∙ h.q_is) in
+          let first : m.p ≡ h.p = some_injective m.p h.p (sym m.p_is ∙ h.p_is) in
+          let second : m.q ≡ h.q = some_injective m.q h.q (sym m.q_is ∙ h.q_is) in
           law.0 (subst (λ p. Meets p h.q d) first (subst (λ q. Meets m.p q d) second m.holds))),
       λ ahead. record { p = h.p; q = h.q; p_is = h.p_is; q_is = h.q_is; holds = law.1 ahead },
     )
@@ -56,16 +57,13 @@ ahead_is_blocking parts t d a b made = (
         a_in = h.a_in;
         b_in = h.b_in;
         different = block.different;
-        i_is = subst (λ n. block.i < n) (sym (made.pieces a h.a_in)) (there_is parts a block.i m.p m.p_is);
-        j_is = subst (λ n. block.j < n) (sym (made.pieces b h.b_in)) (there_is parts b block.j m.q m.q_is);
+        i_is = subst (λ n. block.i < n) (sym (made.pieces a h.a_in)) (piece_within parts a block.i m.p m.p_is);
+        j_is = subst (λ n. block.j < n) (sym (made.pieces b h.b_in)) (piece_within parts b block.j m.q m.q_is);
       } in
       record { i = block.i; j = block.j; across = across; ahead = (meets_at parts t d arc made.assembly (made.facets arc across)).0 m },
 )
 
 -- ---- rows
-
-lt_or : (a b : ℕ) → (a < b) ⊎ (b ≤ a)
-lt_or a b = grind arith
 
 none_past : (rows : List ℕ) (a b : ℕ) → length rows ≤ a → HasArc rows a b → ⊥
 none_past rows a b le h =
@@ -73,7 +71,7 @@ none_past rows a b le h =
     absurd (omega arith)
 
 pub whole_rows : (t : Table) (w : PartSet) (d : V3) (rows : List ℕ) (n : ℕ) → IsTable t → length rows ≡ 32 → 32 ≤ n → ((a b : ℕ) → a < n → HasArc rows a b ↔ IsAheadIn t w d a b) → (a b : ℕ) → HasArc rows a b ↔ IsAheadIn t w d a b
-whole_rows t w d rows n is long le each a b = elim (lt_or a 32) [
+whole_rows t w d rows n is long le each a b = elim (lt_or_le a 32) [
   | inl lt ↦ each a b (omega arith)
   | inr past ↦ (λ h. absurd (none_past rows a b (omega arith) h), λ h. absurd (let small : a < 32 = is.small a h.ahead.across.a_in in omega arith))
 ]
@@ -104,15 +102,12 @@ row_written t w d rows n word met long lt before now bits a b below =
     (λ q. (λ h. (now q).0 ((bits q).1 h), λ h. (bits q).0 ((now q).1 h)))
     (λ q ne. before a q (omega arith)) b
 
-below_or : (b n : ℕ) → b < n + 1 → (b < n) ⊎ (b ≡ n)
-below_or b n lt = grind arith
-
 -- one more part that is met
 pub part_met : (P : ℕ → Type 0) (met next : PartSet) (n : ℕ) → ((b : ℕ) → Has met b → P b) → ((b : ℕ) → b < n → P b → Has met b) → ((b : ℕ) → Has next b ↔ (Has met b ⊎ (b ≡ n))) → P n → ((b : ℕ) → Has next b → P b) × ((b : ℕ) → b < n + 1 → P b → Has next b)
 part_met P met next n found all more p = (
   (λ b h. ⊎_elim {C = P b} (λ old. found b old) (λ e. subst P (sym e) p) ((more b).0 h)),
-  (λ b lt h. ⊎_elim {C = Has next b} (λ below. (more b).1 (inl (all b below h))) (λ e. (more b).1 (inr e)) (below_or b n lt)),
+  (λ b lt h. ⊎_elim {C = Has next b} (λ below. (more b).1 (inl (all b below h))) (λ e. (more b).1 (inr e)) (lt_one_more_cases b n lt)),
 )
 
 pub part_not_met : (P : ℕ → Type 0) (met : PartSet) (n : ℕ) → ((b : ℕ) → b < n → P b → Has met b) → (P n → ⊥) → (b : ℕ) → b < n + 1 → P b → Has met b
-part_not_met P met n all none b lt h = ⊎_elim {C = Has met b} (λ below. all b below h) (λ e. absurd (none (subst P e h))) (below_or b n lt)
+part_not_met P met n all none b lt h = ⊎_elim {C = Has met b} (λ below. all b below h) (λ e. absurd (none (subst P e h))) (lt_one_more_cases b n lt)

@@ -1,5 +1,5 @@
 -- The marks of planes.
-use Rattle.std.proofs.Common.{◌≡◌, ◌≢◌, ◌↔◌, ◌⊎◌, inl, inr, ⊎_elim, ℕ, zero, suc, ◌+◌, ◌<◌, ◌≤◌, arith, ap, sym, subst, ◌∙◌, refl, Bool, true, false, List, ◌++◌, length, get_or, set, drop, replicate, true≢false, Contains}
+use Rattle.std.proofs.Common.{◌≡◌, ◌↔◌, ◌⊎◌, inl, inr, ⊎_elim, ℕ, zero, suc, ◌+◌, ◌<◌, ◌≤◌, arith, ap, sym, subst, ◌∙◌, refl, Bool, true, false, List, ◌++◌, length, get_or, set, drop, replicate, true≢false, Contains}
 use Rattle.std.specs.Prelude.{Some, slice_get}
 use Rattle.std.proofs.lemmas.Bool.{cases_lt}
 use Rattle.std.proofs.lemmas.Grind.{get_or-set_at}
@@ -19,6 +19,7 @@ use Rattle.staat_planes.specs.Marks.{AddsMarks, AreUsedMarks, IsPlaneMarked}
 use Rattle.staat_planes.specs.Tables.{IsPlaneOf}
 use Rattle.staat_planes.proofs.PairSteps.{whole_used}
 use Rattle.staat_planes.proofs.UsedLaw.{axis_used, other_at, other_used}
+use Rattle.staat_vec.proofs.Naturals.{lt_one_more_cases, same_or}
 
 -- ---- over a loop
 
@@ -45,14 +46,8 @@ adds_none planes P old none = record {
 pub adds_where : (planes : List V3) (H : Type 0) (P : V3 → Type 0) (old new : List Bool) → H → AddsMarks planes P old new → AddsMarks planes (λ n. H × P n) old new
 adds_where planes H P old new h adds = adds_as planes P (λ n. H × P n) old new adds (λ n p. (h, p)) (λ n b. b.1)
 
-pub adds_start : (planes : List V3) (P : ℕ → V3 → Type 0) (old : List Bool) → AddsMarks planes (IsBelow P 0) old old
-adds_start planes P old = adds_none planes (IsBelow P 0) old (λ n b. let lt = b.lt in absurd (omega (arith, lt)))
-
-below_or : (k j : ℕ) → k < j + 1 → (k < j) ⊎ (k ≡ j)
-below_or k j lt = grind arith
-
 below_more : (P : ℕ → V3 → Type 0) (m : ℕ) (n : V3) → IsBelow P (m + 1) n → IsBelow P m n ⊎ P m n
-below_more P m n b = ⊎_elim {C = IsBelow P m n ⊎ P m n} (λ lt. inl (record { j = b.j; lt = lt; holds = b.holds })) (λ e. inr (subst (λ j. P j n) e b.holds)) (below_or b.j m b.lt)
+below_more P m n b = ⊎_elim {C = IsBelow P m n ⊎ P m n} (λ lt. inl (record { j = b.j; lt = lt; holds = b.holds })) (λ e. inr (subst (λ j. P j n) e b.holds)) (lt_one_more_cases b.j m b.lt)
 
 below_old : (P : ℕ → V3 → Type 0) (m : ℕ) (n : V3) → IsBelow P m n → IsBelow P (m + 1) n
 below_old P m n b = record { j = b.j; lt = (let lt = b.lt in omega (arith, lt)); holds = b.holds }
@@ -75,9 +70,6 @@ pub adds_skip : (planes : List V3) (P : ℕ → V3 → Type 0) (m : ℕ) (old ne
 adds_skip planes P m old new before none = adds_more planes P m old new new before (adds_none planes (P m) new none)
 
 -- ---- one mark
-
-same_or : (k m : ℕ) → (k ≡ m) ⊎ (k ≢ m)
-same_or k m = grind arith
 
 place_beyond : (planes others : List V3) (v : V3) (j : ℕ) → planes ≡ axes ++ others → slice_get (drop 3 planes) j ≡ Some v → slice_get planes (3 + j) ≡ Some v
 place_beyond planes others v j e at =

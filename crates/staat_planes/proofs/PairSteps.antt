@@ -1,5 +1,5 @@
 -- What a place among the pairs of planes has left.
-use Rattle.std.proofs.Common.{◌≡◌, ◌≢◌, ◌↔◌, ◌⊎◌, inl, inr, ⊎_elim, ℕ, zero, suc, ◌+◌, ◌<◌, ◌≤◌, arith, ap, sym, subst, ◌∙◌, refl, Bool, List, [], ◌∷◌, ◌++◌, length, take, drop, Contains}
+use Rattle.std.proofs.Common.{◌≡◌, ◌≢◌, ◌↔◌, inl, inr, ⊎_elim, ℕ, ◌+◌, ◌<◌, ◌≤◌, arith, ap, sym, subst, ◌∙◌, refl, Bool, List, [], ◌∷◌, ◌++◌, length, take, drop, Contains}
 use Rattle.std.specs.Prelude.{IsTrue, Some, slice_get, slice_index, slice_index_or}
 use Rattle.std.specs.Ordering.{nat_cmp}
 use Rattle.std.specs.List.Sorted.{IsStrictlySortedBy}
@@ -10,24 +10,27 @@ use Rattle.std.proofs.lemmas.Option.{slice_get-get_or}
 use Rattle.staat_vec.specs.declared.vector.V3.{V3}
 use Rattle.staat_vec.specs.Primitives.{primitive}
 use Rattle.staat_vec.specs.Vectors.{cross, dot, negative, origin}
-use Rattle.staat_vec.proofs.Canons.{negative-negative}
 use Rattle.staat_vec.proofs.Order.{cancel_zero}
 use Rattle.staat_vec.proofs.Primitives.{IsPrimitive-some, primitive-is}
 use Rattle.staat_vec.proofs.VecRing.{dot_cross_left, dot_negative}
 use Rattle.staat_model.proofs.CornerLemmas.{dot_multiple}
-use Rattle.staat_vec.proofs.Unique.{Contains-cases, Contains-front, Contains-later, Contains-nothing}
+use Rattle.staat_vec.proofs.Unique.{Contains-cases, Contains-front, Contains-later, Contains-nothing, from_place}
 use Rattle.staat_model.specs.declared.assembly.Part.{Part}
 use Rattle.staat_model.specs.declared.set.PartSet.{PartSet}
 use Rattle.staat_model.specs.Planes.{ArePlanes, axes, crossings, vertices}
 use Rattle.staat_model.specs.Sets.{IsSubset}
-use Rattle.staat_model.proofs.Places.{Contains-from_place, place_within}
+use Rattle.staat_model.proofs.Places.{place_within}
 use Rattle.staat_model.proofs.SetWords.{same_members}
 use Rattle.staat_pairs.specs.Tables.{AreTablePlanes, Table, WasMadeFrom}
-use Rattle.staat_pairs.proofs.DropLemmas.{drop_at, drop_end}
+use Rattle.staat_pairs.proofs.DropLemmas.{drop_at}
 use Rattle.staat_planes.specs.declared.pairs.PlanePairs.{PlanePairs}
 use Rattle.staat_planes.specs.Tables.{IsPlaneOf}
 use Rattle.staat_planes.specs.PairOrder.{AreRisingNumbers, HasRowBefore, IsPlaceIn, numbers_of, planes_at, vertices_left}
-use Rattle.staat_planes.proofs.UsedPlanes.{numbered_are, one_behind, places_rise}
+use Rattle.staat_planes.proofs.UsedPlanes.{numbered_are, places_rise}
+use Rattle.staat_vec.proofs.Naturals.{lt_one_more_cases}
+use Rattle.staat_vec.proofs.VectorLaws.{negative_some}
+use Rattle.staat_vec.proofs.ListLaws.{drop_end}
+use Rattle.staat_vec.proofs.Comparisons.{sorted_push}
 
 -- ---- the numbers of the used planes, as far as they were looked at
 
@@ -45,15 +48,12 @@ none_used t w = record {
   used = λ parts k n made lt at. absurd (omega arith);
 }
 
-below_or : (k j : ℕ) → k < j + 1 → (k < j) ⊎ (k ≡ j)
-below_or k j lt = grind arith
-
 abbrev pub Tells : Table → PartSet → ℕ → Bool → Type 0
 Tells t w j r = (parts : List Part) (n : V3) → WasMadeFrom parts t → slice_get t.planes j ≡ Some n → IsTrue r ↔ IsPlaneOf parts w n
 
 pub one_used : (t : Table) (w : PartSet) (j : ℕ) (ks : List ℕ) (r : Bool) → AreUsedBelow t w j ks → Tells t w j r → IsTrue r → AreUsedBelow t w (j + 1) (ks ++ j ∷ [])
 one_used t w j ks r below tells told = record {
-  ascending = one_behind ks j below.ascending below.small;
+  ascending = sorted_push ks j below.ascending below.small;
   small = λ k c. ⊎_elim {C = k < j + 1} (λ h. let lt = below.small k h in omega (arith, lt)) (λ h. ⊎_elim {C = k < j + 1} (λ e. omega (arith, e)) (λ none. absurd (Contains-nothing k none)) (Contains-cases j [] k h)) (Contains-append_cases ks (j ∷ []) k c);
   used = λ parts k n made lt at. ⊎_elim {C = Contains (ks ++ j ∷ []) k ↔ IsPlaneOf parts w n}
       (λ lower. (
@@ -64,7 +64,7 @@ one_used t w j ks r below tells told = record {
         (λ c. (tells parts n made (subst (λ m. slice_get t.planes m ≡ Some n) e at)).0 told),
         (λ p. Contains-append_right ks (j ∷ []) k (subst (Contains (j ∷ [])) (sym e) (Contains-front j []))),
       ))
-      (below_or k j lt);
+      (lt_one_more_cases k j lt);
 }
 
 pub none_more : (t : Table) (w : PartSet) (j : ℕ) (ks : List ℕ) (r : Bool) → AreUsedBelow t w j ks → Tells t w j r → (IsTrue r → ⊥) → AreUsedBelow t w (j + 1) ks
@@ -77,13 +77,13 @@ none_more t w j ks r below tells none = record {
         (λ c. absurd (let lt = below.small k c in omega (arith, lt, e))),
         (λ p. absurd (none ((tells parts n made (subst (λ m. slice_get t.planes m ≡ Some n) e at)).1 p))),
       ))
-      (below_or k j lt);
+      (lt_one_more_cases k j lt);
 }
 
 plane_of : (parts : List Part) (t : Table) (k : ℕ) (n : V3) → WasMadeFrom parts t → slice_get t.planes k ≡ Some n → IsPlaneOf parts t.of n
 plane_of parts t k n made at =
     ⊎_elim {C = IsPlaneOf parts t.of n} (λ axis. inl axis) (λ other. inr (made.planes.others_are.each n other).0)
-    (Contains-append_cases axes made.planes.others n (subst (λ ps. Contains ps n) made.planes.is (Contains-from_place t.planes k n at)))
+    (Contains-append_cases axes made.planes.others n (subst (λ ps. Contains ps n) made.planes.is (from_place t.planes k n at)))
 
 -- all planes of the table are those of its whole set
 pub whole_used : (parts : List Part) (t : Table) (w : PartSet) (k : ℕ) (n : V3) (r : Bool) → WasMadeFrom parts t → IsSubset w t.of → IsSubset t.of w → slice_get t.planes k ≡ Some n → IsTrue r → IsTrue r ↔ IsPlaneOf parts w n
@@ -106,21 +106,6 @@ first_vertices parts t w p planes made within used first second are =
     (λ k n at. used.used parts k n made (place_within t.planes k n at) at) planes are))
 
 -- ---- the next place
-
--- where a row has ended, the next one begins
-pub next_row : (planes : List V3) (ks : List ℕ) (i j : ℕ) → length ks ≤ j
-    → crossings (slice_index_or planes (slice_index ks (i + 1)) origin) (planes_at planes (drop (i + 1 + 1) ks)) ++ vertices (planes_at planes (drop (i + 1 + 1) ks))
-    ≡ crossings (slice_index_or planes (slice_index ks i) origin) (planes_at planes (drop j ks)) ++ vertices (planes_at planes (drop (i + 1) ks))
-next_row planes ks i j le = row planes ks (i + 1) ∙ ap (λ l. crossings (slice_index_or planes (slice_index ks i) origin) (planes_at planes l) ++ vertices (planes_at planes (drop (i + 1) ks))) (sym (drop_end ks j le))
-  where
-    row : (planes : List V3) (ks : List ℕ) (i : ℕ) → crossings (slice_index_or planes (slice_index ks i) origin) (planes_at planes (drop (i + 1) ks)) ++ vertices (planes_at planes (drop (i + 1) ks)) ≡ vertices (planes_at planes (drop i ks))
-    row planes [] zero = refl
-    row planes [] (suc i) = let e : drop (suc i + 1) [] ≡ [] = drop_end [] (suc i + 1) (omega arith) in λ d. crossings (slice_index_or planes (slice_index [] (suc i)) origin) (planes_at planes (e d)) ++ vertices (planes_at planes (e d))
-    row planes (k ∷ ks) zero = refl
-    row planes (k ∷ ks) (suc i) =
-        let e : suc i + 1 ≡ suc (i + 1) = omega arith in
-        ap (λ m. crossings (slice_index_or planes (slice_index (k ∷ ks) (suc i)) origin) (planes_at planes (drop m (k ∷ ks))) ++ vertices (planes_at planes (drop m (k ∷ ks)))) e
-        ∙ row planes ks i
 
 -- behind the last pair nothing is left
 pub nothing_left : (planes : List V3) (ks : List ℕ) (i j : ℕ) → length ks ≤ j → length ks ≤ i + 1
@@ -155,9 +140,6 @@ apart_at planes ks i j g h are numbers lt small eg eh = are.apart (slice_index k
 
 abbrev pub IsOn : V3 → V3 → Type 0
 IsOn g d = (dot g d ≡ pos 0) × (d ≢ origin)
-
-negative_some : (d : V3) → d ≢ origin → negative d ≢ origin
-negative_some d some e = some (sym (negative-negative d) ∙ ap negative e)
 
 crossing_on : (g h : V3) → cross g h ≢ origin → IsOn g (primitive (cross g h))
 crossing_on g h apart =

@@ -1,5 +1,5 @@
 -- The planes of a set of parts, as far as they are picked from the table.
-use Rattle.std.proofs.Common.{◌≡◌, ◌≢◌, ◌⊎◌, ⊎_elim, ℕ, ◌+◌, ◌-◌, ◌<◌, ◌≤◌, arith, ap, sym, subst, ◌∙◌}
+use Rattle.std.proofs.Common.{◌≡◌, ◌≢◌, ⊎_elim, ℕ, ◌+◌, ◌-◌, ◌<◌, ◌≤◌, arith, ap, sym, subst, ◌∙◌}
 use Rattle.std.proofs.Common.{refl, Bool, List, [], ◌∷◌, ◌++◌, length, get_or, map, Contains}
 use Rattle.std.specs.Prelude.{IsTrue, Some, slice_get, slice_index_or}
 use Rattle.std.specs.Ordering.{nat_cmp}
@@ -11,17 +11,20 @@ use Rattle.std.proofs.lemmas.List.Elements.{All-contains, All-map, Contains-appe
 use Rattle.std.proofs.lemmas.Option.{get_or_from_slice_get, slice_get-get_or}
 use Rattle.staat_vec.specs.declared.vector.V3.{V3}
 use Rattle.staat_vec.specs.Vectors.{origin, vector_cmp}
-use Rattle.staat_vec.proofs.Unique.{Contains-front, Contains-later}
+use Rattle.staat_vec.proofs.Unique.{Contains-front, Contains-later, from_place}
 use Rattle.staat_model.specs.declared.set.PartSet.{PartSet}
 use Rattle.staat_model.specs.Planes.{ArePlanes, axes}
 use Rattle.staat_model.specs.Sets.{IsSubset}
 use Rattle.staat_model.proofs.Members.{All-from_members}
-use Rattle.staat_model.proofs.Places.{Contains-from_place, place_within}
+use Rattle.staat_model.proofs.Places.{place_within}
 use Rattle.staat_pairs.specs.Tables.{AreTablePlanes, IsPlaneNormal, Table}
 use Rattle.staat_planes.specs.SetPlanes.{ArePlanesIn}
 use Rattle.staat_planes.specs.PairOrder.{AreRisingNumbers, planes_at}
 use Rattle.staat_planes.proofs.PairSteps.{AreUsedBelow, Tells, none_more, none_used, one_used}
-use Rattle.staat_planes.proofs.UsedPlanes.{begins, numbered_planes, picked_sorted, places_rise, sorted_places}
+use Rattle.staat_planes.proofs.UsedPlanes.{numbered_planes, places_rise}
+use Rattle.staat_vec.proofs.Naturals.{lt_one_more_cases}
+use Rattle.staat_vec.proofs.Comparisons.{sorted_begins}
+use Rattle.staat_vec.proofs.VectorLists.{picked_sorted, sorted_places}
 
 -- ---- ascending numbers of planes, the axes among them
 
@@ -34,9 +37,9 @@ module _ (planes : List V3) (are : AreTablePlanes planes) (ks : List ℕ) (numbe
   behind_axes : (rest : List ℕ) × (ks ≡ 0 ∷ 1 ∷ 2 ∷ rest) × IsStrictlySortedBy nat_cmp rest
       × ((k : ℕ) → Contains rest k → 3 ≤ k)
   behind_axes =
-      let a = begins 0 ks numbers.ascending (λ k c. omega arith) (axes_in 0 (omega arith)) in
-      let b = begins 1 a.0 a.2 a.3 (a.4 1 (axes_in 1 (omega arith)) (omega arith)) in
-      let c = begins 2 b.0 b.2 b.3 (b.4 2 (a.4 2 (axes_in 2 (omega arith)) (omega arith)) (omega arith)) in
+      let a = sorted_begins 0 ks numbers.ascending (λ k c. omega arith) (axes_in 0 (omega arith)) in
+      let b = sorted_begins 1 a.0 a.2 a.3 (a.4 1 (axes_in 1 (omega arith)) (omega arith)) in
+      let c = sorted_begins 2 b.0 b.2 b.3 (b.4 2 (a.4 2 (axes_in 2 (omega arith)) (omega arith)) (omega arith)) in
       (c.0, a.1 ∙ ap (λ r. 0 ∷ r) (b.1 ∙ ap (λ r. 1 ∷ r) c.1), c.2, c.3)
 
   other_place : (k : ℕ) → 3 ≤ k → at k ≡ get_or are.others (k - 3) origin
@@ -80,7 +83,7 @@ module _ (planes : List V3) (are : AreTablePlanes planes) (ks : List ℕ) (numbe
         (let a = behind_axes.3 i ci in omega (arith, a, lt)) (rest_small j cj));
     each = All-map IsPlaneNormal at ks (All-from_members (λ k. IsPlaneNormal (at k)) ks
         (λ k c. All-contains IsPlaneNormal planes (at k) are.each
-        (Contains-from_place planes k (at k) (place_of k (numbers.small k c)))));
+        (from_place planes k (at k) (place_of k (numbers.small k c)))));
     apart = λ i j g h ati atj ne.
         let a = number_at i g ati in
         let b = number_at j h atj in
@@ -118,9 +121,6 @@ none_picked t w = record {
   few = omega arith;
 }
 
-last_or : (k j : ℕ) → k < j + 1 → (k < j) ⊎ (k ≡ j)
-last_or k j lt = grind arith
-
 pub one_picked : (t : Table) (w : PartSet) (j : ℕ) (n : V3) (vs : List V3) (r : Bool) → ArePicked t w j vs
     → slice_get t.planes j ≡ Some n → Tells t w j r → IsTrue r → ArePicked t w (j + 1) (vs ++ n ∷ [])
 one_picked t w j n vs r picked at tells told = record {
@@ -130,7 +130,7 @@ one_picked t w j n vs r picked at tells told = record {
       (λ before. Contains-append_left picked.numbers (j ∷ []) k (picked.axes k lt before))
       (λ e. Contains-append_right picked.numbers (j ∷ []) k
       (subst (Contains (j ∷ [])) (sym e) (Contains-front j [])))
-      (last_or k j small);
+      (lt_one_more_cases k j small);
   is = (λ i. picked.is i ++ sym (get_or_from_slice_get t.planes j n origin at) i ∷ [])
       ∙ sym (map-append (λ k. slice_index_or t.planes k origin) picked.numbers (j ∷ []));
   few = let l = length-append vs (n ∷ []) in let f = picked.few in omega (arith, l, f);
@@ -144,7 +144,7 @@ none_more_picked t w j vs r picked tells axis none = record {
   axes = λ k lt small. ⊎_elim {C = Contains picked.numbers k}
       (λ before. picked.axes k lt before)
       (λ e. absurd (none (axis (omega (arith, lt, e)))))
-      (last_or k j small);
+      (lt_one_more_cases k j small);
   is = picked.is;
   few = let f = picked.few in omega (arith, f);
 }

@@ -5,15 +5,13 @@ use Rattle.std.proofs.lemmas.List.{length-map, length-append}
 use Rattle.std.proofs.lemmas.List.FromFn.{length-range_with_len}
 use Rattle.std.proofs.lemmas.List.Elements.{All-head, All-tail}
 use Rattle.staat_vec.specs.declared.vector.V3.{V3}
-use Rattle.staat_vec.specs.declared.vector.TheConstants.{DIRECTION}
 use Rattle.staat_limits.specs.declared.limits.TheConstants.{MOST_COUNT}
 use Rattle.staat_off.specs.Raws.{IsCounted}
 use Rattle.staat_model.specs.declared.assembly.Part.{Part}
 use Rattle.staat_limits.specs.declared.limits.TheConstants.{MOST_PIECES}
 use Rattle.staat_model.specs.declared.refusal.TextRefusal.{TextRefusal}
 use Rattle.staat_model.specs.declared.refusal.TextRefusal.TheVariants as text
-use Rattle.staat_model.specs.Plans.{Plan, leaf, split}
-use Rattle.staat_plan.specs.Planning.{AreWithin}
+use Rattle.staat_model.specs.Plans.{Plan}
 use Rattle.staat_explode.specs.declared.refusal.ExplodeRefusal.{ExplodeRefusal}
 use Rattle.staat_explode.specs.declared.refusal.ExplodeRefusal.TheVariants as refusal
 use Rattle.staat_explode.specs.declared.scene.Solid.{Solid}
@@ -21,7 +19,6 @@ use Rattle.staat_explode.specs.Boxes.{boxes_of}
 use Rattle.staat_explode.specs.Scenes.{count_of_points, faces_behind, off_text, scene_of}
 use Rattle.staat_explode.specs.Sheets.{Written}
 use Rattle.staat_explode.specs.Shifts.{shifted_of, shifts_of, vector_of_part}
-use Rattle.staat_explode.specs.Sizes.{HasDirections}
 use Rattle.staat_explode.specs.Splits.{Explodes}
 use Rattle.staat_fault.specs.declared.fault.Fault.TheVariants.{TextTooLong}
 use Rattle.staat_input.specs.Work.{Files, Follows, Found}
@@ -39,11 +36,6 @@ use Rattle.staat_planning.specs.Exploding.{AreShifted, IsExploded, IsPlanViewed,
 use Rattle.staat_planning.specs.Exploding.{scene_too_long, shifted_far, shifted_near, vectors}
 use Rattle.staat_planning.specs.Exploding.{explode_fault}
 use Rattle.staat_input.specs.Refusals.{text_fault}
-
--- the directions of a plan that is found are within the bound
-pub plan_directions : (plan : Plan) → AreWithin DIRECTION plan → HasDirections plan
-plan_directions (leaf p) h = tt
-plan_directions (split d moved rest) h = (h.0, plan_directions moved h.1, plan_directions rest h.2)
 
 -- ---- vectors
 

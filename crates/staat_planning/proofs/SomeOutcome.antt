@@ -19,7 +19,6 @@ use Rattle.staat_model.specs.Plans.{leaf, split}
 use Rattle.staat_model.specs.Removal.{IsFree, MeetsAlong}
 use Rattle.staat_model.specs.Sets.{Has, IsNonempty, IsSide, IsSubset, below, single}
 use Rattle.staat_model.proofs.Decisions.{Decided, all_decided, below_or, both_or, carried, less_or, lt_or, not_or}
-use Rattle.staat_model.proofs.Differences.{in_map}
 use Rattle.staat_model.proofs.FreeSides.{member_or, subset_or}
 use Rattle.staat_model.proofs.GraphLemmas.{piece_is}
 use Rattle.staat_model.proofs.Listings.{Listing}
@@ -31,15 +30,16 @@ use Rattle.staat_model.proofs.SetMembers.{has-difference, has-empty, has-insert,
 use Rattle.staat_model.proofs.SetSizes.{one_is, one_within}
 use Rattle.staat_model.proofs.SetWords.{same_members}
 use Rattle.staat_model.proofs.SomePlanes.{arcs_listing, facets_listing, holds_or, some_planes, vector_or}
-use Rattle.staat_model.proofs.PlanLemmas.{there_is}
 use Rattle.staat_graph.proofs.Finite.{len_some}
 use Rattle.staat_cells.proofs.SomeCells.{some_cells}
 use Rattle.staat_limits.specs.declared.limits.TheConstants.{MOST_CELL_PLANES}
 use Rattle.staat_plan.specs.Planning.{HasFewPlanes}
 use Rattle.staat_plan.proofs.Fewer.{fewer_planes_lemma}
-use Rattle.staat_plan.proofs.Opposites.{rest_some}
 use Rattle.staat_plan.proofs.OutcomeLemmas.{rest_fewer, side_fewer}
 use Rattle.staat_planning.proofs.TableLemmas.{table_planes}
+use Rattle.staat_vec.proofs.ListLaws.{Contains-map}
+use Rattle.staat_model.proofs.PlanLemmas.{piece_within}
+use Rattle.staat_model.proofs.OtherSides.{rest_some}
 
 -- ---- searches
 
@@ -99,7 +99,7 @@ subsets (suc n) =
       all = λ s within.
           let rest = t.all (set.difference s (single n)) (without s n within) in
           elim (member_or s n) [
-            | inl has ↦ Contains-append_right t.sets more s (subst (Contains more) (with_it s n has) (in_map (λ s. set.insert s n) t.sets (set.difference s (single n)) rest))
+            | inl has ↦ Contains-append_right t.sets more s (subst (Contains more) (with_it s n has) (Contains-map (λ s. set.insert s n) t.sets (set.difference s (single n)) rest))
             | inr lacks ↦ Contains-append_left t.sets more s (subst (Contains t.sets) (without_it s n lacks) rest)
           ];
     }
@@ -146,7 +146,7 @@ module _ (parts : List Part) (is : IsAssembly parts) where
       there : (d ≢ origin) × All (λ (arc : Arc). MeetsAlong parts d arc → ⊥) all.xs → IsFree parts s r d
       there h = record {
         moves = h.0;
-        clear = λ arc a b m. All-contains (λ (arc : Arc). MeetsAlong parts d arc → ⊥) all.xs arc h.1 (all.all arc (record { a_in = a; b_in = b; i_in = there_is parts arc.a arc.i m.p m.p_is; j_in = there_is parts arc.b arc.j m.q m.q_is })) m;
+        clear = λ arc a b m. All-contains (λ (arc : Arc). MeetsAlong parts d arc → ⊥) all.xs arc h.1 (all.all arc (record { a_in = a; b_in = b; i_in = piece_within parts arc.a arc.i m.p m.p_is; j_in = piece_within parts arc.b arc.j m.q m.q_is })) m;
       }
 
       back : IsFree parts s r d → (d ≢ origin) × All (λ (arc : Arc). MeetsAlong parts d arc → ⊥) all.xs

@@ -8,12 +8,13 @@ use Rattle.staat_vec.specs.declared.vector.V3.{V3}
 use Rattle.staat_model.specs.declared.assembly.Part.{Part}
 use Rattle.staat_model.specs.declared.certificate.Arc.{Arc}
 use Rattle.staat_model.proofs.Members.{All-from_members}
-use Rattle.staat_model.proofs.Places.{Contains-from_place}
 use Rattle.staat_holds.specs.declared.hold.Hold.{Hold}
 use Rattle.staat_holds.specs.Chains.{IsName, KeepsHoldRules, place_of, places_of}
 use Rattle.staat_holds.specs.Holds.{IsCorePair, IsOfNode, IsOfSomeNode, JoinsNodes, LeadsBetween}
-use Rattle.staat_holds.proofs.NodeNames.{map_at, of_place, place_to}
+use Rattle.staat_holds.proofs.NodeNames.{of_place, place_to}
 use Rattle.staat_holds.proofs.ReachLemmas.{carried}
+use Rattle.staat_vec.proofs.Unique.{from_place}
+use Rattle.staat_vec.proofs.ListLaws.{place_in_map}
 
 -- a part that has the name of one of the nodes in the first list has it in the second
 abbrev pub IsKept : (nodes a b : List ℕ) → Type 0
@@ -25,9 +26,9 @@ IsWithinPlaces A B = (k p : ℕ) → IsOfNode A k p → IsOfNode B k p
 
 node_as : (nodes a b : List ℕ) → IsStrictlySortedBy nat_cmp nodes → IsKept nodes a b → IsWithinPlaces (places_of nodes a) (places_of nodes b)
 node_as nodes a b sorted kept k p h =
-    let (n, named, is) = map_at (place_of nodes) a p (Some k) h in
+    let (n, named, is) = place_in_map (place_of nodes) a p (Some k) h in
     let at : slice_get nodes k ≡ Some n = place_to nodes k n is in
-    (of_place nodes b k n p sorted at).1 (kept n p (Contains-from_place nodes k n at) named)
+    (of_place nodes b k n p sorted at).1 (kept n p (from_place nodes k n at) named)
 
 some_as : (A B : List (Option ℕ)) (count p : ℕ) → IsWithinPlaces A B → IsOfSomeNode A count p → IsOfSomeNode B count p
 some_as A B count p to s = record { node = s.node; is = to s.node p s.is; few = s.few }

@@ -2,7 +2,6 @@
 use Rattle.std.proofs.Common.{◌≡◌, ◌⊎◌, ℕ, ◌+◌, ◌<◌, ◌≤◌, List, [], ◌∷◌, ◌++◌, length, get_or, ⊎_elim, sym, ap, subst, ◌∙◌, arith, Contains}
 use Rattle.std.specs.Prelude.{Some, slice_get}
 use Rattle.std.specs.Cmp.{nat_cmp_is}
-use Rattle.std.specs.List.{AllByRecursion}
 use Rattle.std.specs.List.Sorted.{IsStrictlySortedBy}
 use Rattle.std.specs.Ordering.{nat_cmp}
 use Rattle.std.specs.declared.cmp.Ordering.TheVariants.{Less}
@@ -10,18 +9,9 @@ use Rattle.std.proofs.lemmas.Bool.{cases_eq}
 use Rattle.std.proofs.lemmas.List.Elements.{Contains-append_left, Contains-push, Contains-push_cases}
 use Rattle.std.proofs.lemmas.Option.{get_or_from_slice_get, slice_get-get_or}
 use Rattle.staat_vec.specs.Lists.{Lists}
-use Rattle.staat_model.proofs.Members.{here, there}
 use Rattle.staat_model.proofs.Places.{place_within}
 use Rattle.staat_holds.specs.Chains.{IsName}
-
-push_each : (P : ℕ → Type 0) (xs : List ℕ) (x : ℕ) → AllByRecursion P xs → P x → AllByRecursion P (xs ++ x ∷ [])
-push_each P [] x all p = (p, tt)
-push_each P (y ∷ ys) x all p = (all.0, push_each P ys x all.1 p)
-
-sorted_push : (xs : List ℕ) (x : ℕ) → IsStrictlySortedBy nat_cmp xs → ((y : ℕ) → Contains xs y → nat_cmp y x ≡ Less) → IsStrictlySortedBy nat_cmp (xs ++ x ∷ [])
-unfolding IsStrictlySortedBy
-sorted_push [] x h f = (tt, tt)
-sorted_push (y ∷ ys) x h f = (push_each (λ z. nat_cmp y z ≡ Less) ys x h.0 (f y (here y ys)), sorted_push ys x h.1 (λ z z_in. f z (there y z ys z_in)))
+use Rattle.staat_vec.proofs.Comparisons.{sorted_push_less}
 
 -- one of the names below k
 abbrev pub IsNameBelow : List ℕ → ℕ → ℕ → Type 0
@@ -33,7 +23,7 @@ heads_none names = record { ascending = tt; each = λ p (k, lt, e). absurd (omeg
 
 pub heads_more : (names : List ℕ) (k d : ℕ) (s : List ℕ) → k < length names → get_or names k d ≡ k → Lists nat_cmp (IsNameBelow names k) s → Lists nat_cmp (IsNameBelow names (k + 1)) (s ++ k ∷ [])
 heads_more names k d s lt named is = record {
-  ascending = sorted_push s k is.ascending (λ y c. let h = is.each y c in sym (nat_cmp_is y k Less h.0));
+  ascending = sorted_push_less s k is.ascending (λ y c. let h = is.each y c in sym (nat_cmp_is y k Less h.0));
   each = λ p h. ⊎_elim {C = IsNameBelow names (k + 1) p}
       (λ old. let b = is.each p old in (let less = b.0 in omega (arith, less), b.1))
       (λ new. (omega (arith, new), subst (IsName names) new (slice_get-get_or names k d lt ∙ ap Some named))) (Contains-push_cases s k p h);

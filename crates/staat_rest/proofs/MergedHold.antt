@@ -14,13 +14,12 @@ use Rattle.staat_model.specs.Assemblies.{HoldsAt, piece_at, piece_count}
 use Rattle.staat_model.specs.Facets.{IsFacet}
 use Rattle.staat_model.specs.Meeting.{Meets}
 use Rattle.staat_model.proofs.Members.{All-from_members}
-use Rattle.staat_model.proofs.Places.{Contains-from_place, place_from_Contains, same_some, some_at}
-use Rattle.staat_model.proofs.PlanLemmas.{there_is}
+use Rattle.staat_model.proofs.Places.{some_at}
 use Rattle.staat_motion.specs.Motions.{HasBothPieces, turned}
 use Rattle.staat_holds.specs.declared.hold.Hold.{Hold}
 use Rattle.staat_holds.specs.Chains.{IsHoldPair, IsName, KeepsHoldRules, own_names, places_of}
 use Rattle.staat_holds.specs.Holds.{HasPair, IsCorePair, IsHoldPlane, IsOfNode, JoinsNodes, LeadsBetween}
-use Rattle.staat_holds.proofs.NodeNames.{at_map, map_at, of_place}
+use Rattle.staat_holds.proofs.NodeNames.{of_place}
 use Rattle.staat_holds.proofs.LinkLemmas.{same_node}
 use Rattle.staat_holds.proofs.ReachLemmas.{carried}
 use Rattle.staat_decide.specs.Decided.{IsStuckHold}
@@ -29,7 +28,11 @@ use Rattle.staat_rest.specs.declared.merging.Origin.{Origin}
 use Rattle.staat_rest.specs.Merging.{AreMerged, origin_at}
 use Rattle.staat_rest.specs.Nodes.{NamesOnly}
 use Rattle.staat_rest.specs.Turning.{HasOrigins, original_hold, original_nodes, original_pair}
-use Rattle.staat_rest.proofs.MergedPieces.{IsOrigin, merged_count, origin_is, part_exists, piece_from}
+use Rattle.staat_rest.proofs.MergedPieces.{IsOrigin, merged_count, origin_is, piece_from}
+use Rattle.staat_vec.proofs.Unique.{from_place}
+use Rattle.staat_vec.proofs.ListLaws.{place_of, map_at_place, place_in_map}
+use Rattle.staat_vec.proofs.Options.{some_injective}
+use Rattle.staat_model.proofs.PlanLemmas.{piece_within, part_within}
 
 -- the pieces of a pair that exist
 piece_there : (parts : List Part) (a i : ℕ) → a < length parts → i < piece_count parts a → (p : List V3) × (piece_at parts a i ≡ Some p)
@@ -55,7 +58,7 @@ module _ (parts : List Part) (names heads : List ℕ) (origins : List (List Orig
 
   -- the node at a place
   node_at : (x k : ℕ) → slice_get hold.nodes x ≡ Some k → slice_get ns x ≡ Some (get_or heads k 0)
-  node_at x k at = at_map (λ m. get_or heads m 0) hold.nodes x k at
+  node_at x k at = map_at_place (λ m. get_or heads m 0) hold.nodes x k at
 
   pub nodes_ascend : IsStrictlySortedBy nat_cmp ns
   nodes_ascend = sorted_from_strictly_increasing ns (λ j lt.
@@ -71,10 +74,10 @@ module _ (parts : List Part) (names heads : List ℕ) (origins : List (List Orig
 
   pub nodes_named : All (IsName names) ns
   nodes_named = All-from_members (IsName names) ns (λ n c.
-      let (x, at) = place_from_Contains ns n c in
-      let (k, k_at, is) = map_at (λ m. get_or heads m 0) hold.nodes x n at in
-      let lt = All-contains (λ m. m < length heads) hold.nodes k nodes_within (Contains-from_place hold.nodes x k k_at) in
-      subst (IsName names) is (are.heads_are.each (get_or heads k 0) (Contains-from_place heads k (get_or heads k 0) (slice_get-get_or heads k 0 lt))))
+      let (x, at) = place_of ns n c in
+      let (k, k_at, is) = place_in_map (λ m. get_or heads m 0) hold.nodes x n at in
+      let lt = All-contains (λ m. m < length heads) hold.nodes k nodes_within (from_place hold.nodes x k k_at) in
+      subst (IsName names) is (are.heads_are.each (get_or heads k 0) (from_place heads k (get_or heads k 0) (slice_get-get_or heads k 0 lt))))
 
   pub nodes_two : 2 ≤ length ns
   nodes_two = let two = stuck.keeps.two in let long = length-map hold.nodes (λ m. get_or heads m 0) in omega (arith, two, long)
@@ -101,8 +104,8 @@ module _ (parts : List Part) (names heads : List ℕ) (origins : List (List Orig
       let ((p, p_is), (q, q_is)) = pair_pieces pair there in
       let first = origin pair.a pair.i p p_is in
       let second = origin pair.b pair.j q q_is in
-      let same_p : h.p ≡ p = same_some h.p p (sym h.p_is ∙ first.is) in
-      let same_q : h.q ≡ q = same_some h.q q (sym h.q_is ∙ second.is) in
+      let same_p : h.p ≡ p = some_injective h.p p (sym h.p_is ∙ first.is) in
+      let same_q : h.q ≡ q = some_injective h.q q (sym h.q_is ∙ second.is) in
       record { p = p; q = q; p_is = p_is; q_is = q_is; holds = subst (λ z. R p z) same_q (subst (λ z. R z h.q) same_p h.holds) }
 
   to_original : (R : List V3 → List V3 → Type 0) (pair : Arc) → HoldsAt merged pair R → HoldsAt parts (original_pair origins pair) R
@@ -118,9 +121,9 @@ module _ (parts : List Part) (names heads : List ℕ) (origins : List (List Orig
   plane_back : (n : V3) → IsHoldPlane parts pairs n → IsHoldPlane merged hold.pairs n
   plane_back n plane = ⊎_elim {C = IsHoldPlane merged hold.pairs n} (λ axis. inl axis)
       (λ core.
-      let (k, at) = place_from_Contains pairs core.arc core.listed in
-      let (pair, pair_at, is) = map_at (original_pair origins) hold.pairs k core.arc at in
-      let c = Contains-from_place hold.pairs k pair pair_at in
+      let (k, at) = place_of pairs core.arc core.listed in
+      let (pair, pair_at, is) = place_in_map (original_pair origins) hold.pairs k core.arc at in
+      let c = from_place hold.pairs k pair pair_at in
       let there = (All-contains (IsHoldPair merged (own_names (length merged)) hold.nodes) hold.pairs pair stuck.keeps.pairs c).pieces in
       let holds = subst (λ (arc : Arc). HoldsAt parts arc (λ p q. IsFacet p q core.facet)) (sym is) core.holds in
       inr (record { arc = pair; facet = core.facet; listed = c; holds = back_at (λ p q. IsFacet p q core.facet) pair there holds; is = core.is })) plane
@@ -131,8 +134,8 @@ module _ (parts : List Part) (names heads : List ℕ) (origins : List (List Orig
     where
       in_map : (arc : Arc) → Contains hold.pairs arc → Contains pairs (original_pair origins arc)
       in_map arc c =
-          let (k, at) = place_from_Contains hold.pairs arc c in
-          Contains-from_place pairs k (original_pair origins arc) (at_map (original_pair origins) hold.pairs k arc at)
+          let (k, at) = place_of hold.pairs arc c in
+          from_place pairs k (original_pair origins arc) (map_at_place (original_pair origins) hold.pairs k arc at)
 
   module _ (now : List ℕ) (only : NamesOnly names ns now) where
     abbrev new : List (Option ℕ)
@@ -145,7 +148,7 @@ module _ (parts : List Part) (names heads : List ℕ) (origins : List (List Orig
         let at = own_of hold.nodes (length merged) x a h in
         let is : get_or heads a 0 ≡ o.head = get_or_from_slice_get heads a o.head 0 o.head_is in
         let here_is : slice_get ns x ≡ Some o.head = node_at x a at ∙ ap Some is in
-        (of_place ns now x o.head ((origin_at origins a i).part) nodes_ascend here_is).1 (only.joined ((origin_at origins a i).part) o.head o.of (Contains-from_place ns x o.head here_is))
+        (of_place ns now x o.head ((origin_at origins a i).part) nodes_ascend here_is).1 (only.joined ((origin_at origins a i).part) o.head o.of (from_place ns x o.head here_is))
 
     -- and it is of no other
     one_place : (x y a i : ℕ) (p : List V3) → piece_at merged a i ≡ Some p → IsOfNode old x a → IsOfNode new y ((origin_at origins a i).part) → x ≡ y
@@ -160,10 +163,10 @@ module _ (parts : List Part) (names heads : List ℕ) (origins : List (List Orig
         let x_few = c.first.few in
         let y_few = c.second.few in record {
           pieces = record {
-            a_in = part_exists parts ((origin_at origins pair.a pair.i).part) ((origin_at origins pair.a pair.i).piece) p first.is;
-            i_in = there_is parts ((origin_at origins pair.a pair.i).part) ((origin_at origins pair.a pair.i).piece) p first.is;
-            b_in = part_exists parts ((origin_at origins pair.b pair.j).part) ((origin_at origins pair.b pair.j).piece) q second.is;
-            j_in = there_is parts ((origin_at origins pair.b pair.j).part) ((origin_at origins pair.b pair.j).piece) q second.is;
+            a_in = part_within parts ((origin_at origins pair.a pair.i).part) ((origin_at origins pair.a pair.i).piece) p first.is;
+            i_in = piece_within parts ((origin_at origins pair.a pair.i).part) ((origin_at origins pair.a pair.i).piece) p first.is;
+            b_in = part_within parts ((origin_at origins pair.b pair.j).part) ((origin_at origins pair.b pair.j).piece) q second.is;
+            j_in = piece_within parts ((origin_at origins pair.b pair.j).part) ((origin_at origins pair.b pair.j).piece) q second.is;
           };
           first = record { node = c.first.node; is = place_new c.first.node pair.a pair.i p p_is c.first.is; few = omega (arith, x_few, long) };
           second = record { node = c.second.node; is = place_new c.second.node pair.b pair.j q q_is c.second.is; few = omega (arith, y_few, long) };
@@ -192,8 +195,8 @@ module _ (parts : List Part) (names heads : List ℕ) (origins : List (List Orig
       nodes = All-from_members (IsName now) ns (λ n c. only.joined n n (All-contains (IsName names) ns n nodes_named c) c);
       two = nodes_two;
       pairs = All-from_members (IsHoldPair parts now ns) pairs (λ pair c.
-          let (k, at) = place_from_Contains pairs pair c in
-          let (arc, arc_at, is) = map_at (original_pair origins) hold.pairs k pair at in
-          subst (IsHoldPair parts now ns) is (pair_new arc (All-contains (IsHoldPair merged (own_names (length merged)) hold.nodes) hold.pairs arc stuck.keeps.pairs (Contains-from_place hold.pairs k arc arc_at))));
+          let (k, at) = place_of pairs pair c in
+          let (arc, arc_at, is) = place_in_map (original_pair origins) hold.pairs k pair at in
+          subst (IsHoldPair parts now ns) is (pair_new arc (All-contains (IsHoldPair merged (own_names (length merged)) hold.nodes) hold.pairs arc stuck.keeps.pairs (from_place hold.pairs k arc arc_at))));
       joins = joins_new;
     }

@@ -1,32 +1,18 @@
 -- The names after holds that follow others, and the rules that these keep.
-use Rattle.std.proofs.Common.{◌≡◌, ◌⊎◌, ℕ, zero, suc, ◌<◌, List, [], ◌∷◌, ◌++◌, length, get_or, map, take, inl, inr, refl, sym, ap, subst, ◌∙◌, arith, zero-add}
+use Rattle.std.proofs.Common.{◌≡◌, ◌⊎◌, ℕ, zero, suc, List, [], ◌∷◌, ◌++◌, length, get_or, map, take, inl, inr, refl, sym, ap, subst, ◌∙◌}
 use Rattle.std.specs.Prelude.{Option, None, Some, slice_get}
 use Rattle.std.proofs.lemmas.Bool.{cases_eq}
-use Rattle.std.proofs.lemmas.List.{length-map}
-use Rattle.std.proofs.lemmas.List.FromFn.{get_or-range_with_len, length-range_with_len}
-use Rattle.std.proofs.lemmas.Option.{get_or_from_slice_get, slice_get-get_or}
+use Rattle.std.proofs.lemmas.List.FromFn.{length-range_with_len}
 use Rattle.staat_model.specs.declared.assembly.Part.{Part}
-use Rattle.staat_model.proofs.Places.{place_within, same_some}
 use Rattle.staat_holds.specs.declared.hold.Hold.{Hold}
 use Rattle.staat_holds.specs.Chains.{AllKeep, KeepsHoldRules, joined_name, names_after, own_names}
 use Rattle.staat_rest.specs.Nodes.{IsInNode, KeepFrom}
+use Rattle.staat_vec.proofs.Options.{some_injective}
 
 -- ---- names that are the parts' own
 
 pub own_count : (count : ℕ) → length (own_names count) ≡ count
 own_count count = length-range_with_len 0 count
-
-pub own_name : (count p : ℕ) → p < count → slice_get (own_names count) p ≡ Some p
-own_name count p lt =
-    let long = own_count count in
-    let at : p < length (own_names count) = omega (arith, long, lt) in
-    slice_get-get_or (own_names count) p 0 at ∙ ap Some (get_or-range_with_len 0 count p 0 lt ∙ zero-add p)
-
-pub own_is : (count p n : ℕ) → slice_get (own_names count) p ≡ Some n → n ≡ p
-own_is count p n at =
-    let lt = place_within (own_names count) p n at in
-    let long = own_count count in
-    sym (get_or_from_slice_get (own_names count) p n 0 at) ∙ get_or-range_with_len 0 count p 0 (omega (arith, lt, long)) ∙ zero-add p
 
 -- ---- one list of holds after another
 
@@ -34,17 +20,13 @@ pub after_append : (names : List ℕ) (xs ys : List Hold) → names_after names 
 after_append names [] ys = refl
 after_append names (h ∷ xs) ys = after_append (map (joined_name h.nodes) names) xs ys
 
-pub after_count : (names : List ℕ) (holds : List Hold) → length (names_after names holds) ≡ length names
-after_count names [] = refl
-after_count names (h ∷ holds) = after_count (map (joined_name h.nodes) names) holds ∙ length-map names (joined_name h.nodes)
-
 pub keep_append : (parts : List Part) (names : List ℕ) (xs ys : List Hold) → KeepFrom parts names xs → KeepFrom parts (names_after names xs) ys → KeepFrom parts names (xs ++ ys)
 keep_append parts names [] ys first second = second
 keep_append parts names (h ∷ xs) ys first second = (first.0, keep_append parts (map (joined_name h.nodes) names) xs ys first.1 second)
 
 keep_at : (parts : List Part) (names : List ℕ) (holds : List Hold) (m : ℕ) (hold : Hold) → KeepFrom parts names holds → slice_get holds m ≡ Some hold → KeepsHoldRules parts (names_after names (take m holds)) hold
 keep_at parts names [] m hold keep at = absurd cc
-keep_at parts names (h ∷ holds) zero hold keep at = subst (KeepsHoldRules parts names) (same_some h hold at) keep.0
+keep_at parts names (h ∷ holds) zero hold keep at = subst (KeepsHoldRules parts names) (some_injective h hold at) keep.0
 keep_at parts names (h ∷ holds) (suc m) hold keep at = keep_at parts (map (joined_name h.nodes) names) holds m hold keep.1 at
 
 pub keep_all : (parts : List Part) (holds : List Hold) → KeepFrom parts (own_names (length parts)) holds → AllKeep parts holds
@@ -57,7 +39,7 @@ part_or names n p = go (slice_get names p) refl
   where
     some : (m : ℕ) → slice_get names p ≡ Some m → (m ≡ n) ⊎ (m ≡ n → ⊥) → IsInNode names n p ⊎ (IsInNode names n p → ⊥)
     some m is (inl e) = inl (is ∙ ap Some e)
-    some m is (inr ne) = inr (λ h. ne (same_some m n (sym is ∙ h)))
+    some m is (inr ne) = inr (λ h. ne (some_injective m n (sym is ∙ h)))
 
     go : (o : Option ℕ) → slice_get names p ≡ o → IsInNode names n p ⊎ (IsInNode names n p → ⊥)
     go None is = inr (λ h. let wrong : None ≡ Some n = sym is ∙ h in absurd cc)

@@ -6,17 +6,21 @@ use Rattle.std.proofs.lemmas.Bool.{cases_eq}
 use Rattle.std.proofs.lemmas.List.Elements.{All-append, All-contains, All-head, All-nil, All-push, All-tail, All-weaker}
 use Rattle.std.proofs.lemmas.Map.Keys.{below_from_sorted}
 use Rattle.std.proofs.lemmas.Option.{get_or_from_slice_get, slice_get-get_or}
-use Rattle.staat_vec.proofs.Unique.{Contains-cases, Contains-nothing}
+use Rattle.staat_vec.proofs.Unique.{Contains-cases, Contains-nothing, Contains-front, from_place}
 use Rattle.staat_model.specs.declared.assembly.Part.{Part}
-use Rattle.staat_model.proofs.Members.{All-from_members, here, there}
-use Rattle.staat_model.proofs.Places.{Contains-from_place, place_from_Contains, place_within, same_some, some_at}
+use Rattle.staat_model.proofs.Members.{All-from_members}
+use Rattle.staat_model.proofs.Places.{place_within, some_at}
 use Rattle.staat_holds.specs.declared.hold.Hold.{Hold}
 use Rattle.staat_holds.specs.Chains.{IsJoinedLast, IsName, IsOfOne, KeepsHoldRules, joined_name, names_after, names_before, own_names}
 use Rattle.staat_holds.specs.Partials.{IsOrderedHold}
-use Rattle.staat_holds.proofs.NodeNames.{among_or, at_map, first_of, joined_in, joined_out, map_at}
+use Rattle.staat_holds.proofs.NodeNames.{among_or, first_of, joined_in, joined_out}
 use Rattle.staat_rest.specs.Nodes.{AreJoined, AreShown, IsInNode, KeepFrom, NamesOnly, ShowsNode, holds_of}
-use Rattle.staat_rest.proofs.NameSteps.{after_append, keep_append, own_count, own_is, own_name}
+use Rattle.staat_rest.proofs.NameSteps.{after_append, keep_append, own_count}
 use Rattle.staat_rest.proofs.NodeSteps.{holds_keep, name_is}
+use Rattle.staat_vec.proofs.ListLaws.{Contains-there, place_of, map_at_place, place_in_map}
+use Rattle.staat_vec.proofs.Options.{some_injective}
+use Rattle.staat_holds.proofs.ChainLaw.{own_is}
+use Rattle.staat_decide.proofs.Holdings.{own_name}
 
 -- ---- the last of some holds
 
@@ -34,7 +38,7 @@ joined_last parts holds hold p = (
       let last = j.last in
       let long = length-append holds (hold ∷ []) in
       let e : j.k ≡ length holds = omega (arith, last, long) in
-      let same : j.hold ≡ hold = same_some j.hold hold (sym (subst (λ m. slice_get (holds ++ hold ∷ []) m ≡ Some j.hold) e j.at) ∙ last_at holds hold) in
+      let same : j.hold ≡ hold = some_injective j.hold hold (sym (subst (λ m. slice_get (holds ++ hold ∷ []) m ≡ Some j.hold) e j.at) ∙ last_at holds hold) in
       let first : IsOfOne (names_before parts (holds ++ hold ∷ []) (length holds)) hold.nodes p =
       subst (λ (h : Hold). IsOfOne (names_before parts (holds ++ hold ∷ []) (length holds)) h.nodes p) same
       (subst (λ m. IsOfOne (names_before parts (holds ++ hold ∷ []) m) j.hold.nodes p) e j.joined) in
@@ -128,28 +132,28 @@ module _ (parts : List Part) (names : List ℕ) (lists : List (List Hold)) (hold
 
   -- a part of a node of the hold is one of the first node from then on
   in_next : (p m : ℕ) → IsInNode names m p → Contains ns m → IsInNode next r p
-  in_next p m at c = at_map (joined_name ns) names p m at ∙ ap Some (to_r m c)
+  in_next p m at c = map_at_place (joined_name ns) names p m at ∙ ap Some (to_r m c)
 
   out_next : (p m : ℕ) → IsInNode names m p → (Contains ns m → ⊥) → IsInNode next m p
-  out_next p m at off = at_map (joined_name ns) names p m at ∙ ap Some (joined_out ns m off)
+  out_next p m at off = map_at_place (joined_name ns) names p m at ∙ ap Some (joined_out ns m off)
 
   -- a part of the first node was one of a node of the hold
   from_r : (p : ℕ) → IsInNode next r p → (m : ℕ) × IsInNode names m p × Contains ns m
   from_r p h =
-      let (m, at, is) = map_at (joined_name ns) names p r h in
+      let (m, at, is) = place_in_map (joined_name ns) names p r h in
       ⊎_elim {C = (m : ℕ) × IsInNode names m p × Contains ns m} (λ t. (m, at, t.0))
       (λ t. absurd (t.0 (subst (Contains ns) (sym is ∙ joined_out ns m t.0) r_in))) (among_or ns m)
 
   -- and a part of another node is one of it still
   from_other : (p n : ℕ) → (n ≡ r → ⊥) → IsInNode next n p → IsInNode names n p × (Contains ns n → ⊥)
   from_other p n ne h =
-      let (m, at, is) = map_at (joined_name ns) names p n h in
+      let (m, at, is) = place_in_map (joined_name ns) names p n h in
       ⊎_elim {C = IsInNode names n p × (Contains ns n → ⊥)} (λ t. absurd (ne (sym is ∙ to_r m t.0)))
       (λ t. let e : m ≡ n = sym (joined_out ns m t.0) ∙ is in (at ∙ ap Some e, λ c. t.0 (subst (Contains ns) (sym e) c))) (among_or ns m)
 
   next_names : All (IsName next) next
   next_names = All-from_members (IsName next) next (λ n c.
-      let (p, at) = place_from_Contains next n c in
+      let (p, at) = place_of next n c in
       ⊎_elim {C = IsName next n}
       (λ e. subst (IsName next) (sym e) (in_next r r (name_of r r_in) r_in))
       (λ ne. let (of, off) = from_other p n ne at in out_next n n (name p n of) off) (cases_eq n r))
@@ -167,12 +171,12 @@ module _ (parts : List Part) (names : List ℕ) (lists : List (List Hold)) (hold
   pub name_lost : (q : ℕ) × IsName names q × (IsName next q → ⊥)
   name_lost =
       let (q, at) = some_at ns 1 (omega (arith, two)) in
-      let c = Contains-from_place ns 1 q at in
+      let c = from_place ns 1 q at in
       let of = All-contains (IsName names) ns q named c in
       let less = below_from_sorted ns 0 1 0 ordered.nodes (omega arith) (omega (arith, two)) in
       let first = is_r 0 in
       let second = get_or_from_slice_get ns 1 q 0 at in
-      (q, of, λ h. let e : r ≡ q = same_some r q (sym (in_next q q of c) ∙ h) in omega (arith, less, first, second, e))
+      (q, of, λ h. let e : r ≡ q = some_injective r q (sym (in_next q q of c) ∙ h) in omega (arith, less, first, second, e))
 
   -- ---- the first node
 
@@ -188,8 +192,8 @@ module _ (parts : List Part) (names : List ℕ) (lists : List (List Hold)) (hold
   all_within (n ∷ nodes) all listed =
       let of_n = (shown.each n (All-head (IsName names) n nodes all)).within in
       let here_is : All IsInFirst (get_or lists n []) = All-weaker (λ (h : Hold). All (IsInNode names n) h.nodes) IsInFirst
-      (λ h of. All-weaker (IsInNode names n) (IsInNode next r) (λ p at. in_next p n at (listed n (here n nodes))) h.nodes of) (get_or lists n []) of_n in
-      All-append IsInFirst (get_or lists n []) (holds_of lists nodes) here_is (all_within nodes (All-tail (IsName names) n nodes all) (λ m c. listed m (there n m nodes c)))
+      (λ h of. All-weaker (IsInNode names n) (IsInNode next r) (λ p at. in_next p n at (listed n (Contains-front n nodes))) h.nodes of) (get_or lists n []) of_n in
+      All-append IsInFirst (get_or lists n []) (holds_of lists nodes) here_is (all_within nodes (All-tail (IsName names) n nodes all) (λ m c. listed m (Contains-there n m nodes c)))
 
   last_within : IsInFirst hold
   last_within = All-from_members (IsInNode next r) ns (λ m c. in_next m m (All-contains (IsName names) ns m named c) c)
@@ -203,12 +207,12 @@ module _ (parts : List Part) (names : List ℕ) (lists : List (List Hold)) (hold
     joined = λ p n at c. ⊎_elim {C = slice_get (map (joined_name ns) now) p ≡ Some n}
         (λ e.
         let (m, of, listed) = from_r p (at ∙ ap Some e) in
-        at_map (joined_name ns) now p m (so_far.1.joined p m of listed) ∙ ap Some (to_r m listed ∙ sym e))
+        map_at_place (joined_name ns) now p m (so_far.1.joined p m of listed) ∙ ap Some (to_r m listed ∙ sym e))
         (λ none. absurd (Contains-nothing n none)) (Contains-cases r [] n c);
     others = λ p n at out.
-        let (of, off) = from_other p n (λ e. out (subst (Contains (r ∷ [])) (sym e) (here r []))) at in
-        at_map (joined_name ns) now p p (so_far.1.others p n of off) ∙ ap Some (joined_out ns p (λ c.
-        off (subst (Contains ns) (same_some p n (sym (All-contains (IsName names) ns p named c) ∙ of)) c)));
+        let (of, off) = from_other p n (λ e. out (subst (Contains (r ∷ [])) (sym e) (Contains-front r []))) at in
+        map_at_place (joined_name ns) now p p (so_far.1.others p n of off) ∙ ap Some (joined_out ns p (λ c.
+        off (subst (Contains ns) (some_injective p n (sym (All-contains (IsName names) ns p named c) ∙ of)) c)));
   }
 
   first_joined : (p : ℕ) → IsOfOne now ns p ↔ IsInNode next r p
@@ -219,7 +223,7 @@ module _ (parts : List Part) (names : List ℕ) (lists : List (List Hold)) (hold
         let (m, at) = some_at names p (omega (arith, lt, long)) in
         ⊎_elim {C = IsInNode next r p} (λ t. in_next p m at t.0)
         (λ t.
-        let e : o.name ≡ p = same_some o.name p (sym o.named ∙ so_far.1.others p m at t.0) in
+        let e : o.name ≡ p = some_injective o.name p (sym o.named ∙ so_far.1.others p m at t.0) in
         let p_in : Contains ns p = subst (Contains ns) e o.listed in
         in_next p p (All-contains (IsName names) ns p named p_in) p_in) (among_or ns m),
     λ h. let (m, at, c) = from_r p h in record { name = m; named = so_far.1.joined p m at c; listed = c },
@@ -249,12 +253,12 @@ module _ (parts : List Part) (names : List ℕ) (lists : List (List Hold)) (hold
     named = record {
       many = s.named.many ∙ sym (length-map names (joined_name ns));
       joined = λ p m at c. ⊎_elim {C = slice_get (names_after (own_names (length parts)) holds) p ≡ Some m}
-          (λ e. let (of, _) = from_other p n ne (at ∙ ap Some e) in s.named.joined p n of (here n []) ∙ ap Some (sym e))
+          (λ e. let (of, _) = from_other p n ne (at ∙ ap Some e) in s.named.joined p n of (Contains-front n []) ∙ ap Some (sym e))
           (λ none. absurd (Contains-nothing m none)) (Contains-cases n [] m c);
       others = λ p m at out.
-          let (q, of, is) = map_at (joined_name ns) names p m at in
+          let (q, of, is) = place_in_map (joined_name ns) names p m at in
           s.named.others p q of (λ c. ⊎_elim {C = ⊥}
-          (λ e. out (subst (Contains (n ∷ [])) (sym e ∙ sym (joined_out ns q (λ listed. off (subst (Contains ns) e listed))) ∙ is) (here n [])))
+          (λ e. out (subst (Contains (n ∷ [])) (sym e ∙ sym (joined_out ns q (λ listed. off (subst (Contains ns) e listed))) ∙ is) (Contains-front n [])))
           (λ none. Contains-nothing q none) (Contains-cases n [] q c));
     };
     alone = λ e p at. s.alone e p (from_other p n ne at).0;

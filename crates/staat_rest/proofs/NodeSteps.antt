@@ -6,17 +6,20 @@ use Rattle.std.specs.Ordering.{nat_cmp}
 use Rattle.std.proofs.lemmas.List.{length-map}
 use Rattle.std.proofs.lemmas.List.Elements.{All-contains, All-head, All-tail}
 use Rattle.std.proofs.lemmas.Map.Keys.{sorted_tail}
-use Rattle.staat_vec.proofs.Unique.{Contains-cases, Contains-nothing}
+use Rattle.staat_vec.proofs.Unique.{Contains-cases, Contains-nothing, Contains-front, from_place}
 use Rattle.staat_model.specs.declared.assembly.Part.{Part}
-use Rattle.staat_model.proofs.Members.{here, there}
-use Rattle.staat_model.proofs.Places.{Contains-from_place, place_from_Contains, place_within, same_some, some_at}
+use Rattle.staat_model.proofs.Places.{place_within, some_at}
 use Rattle.staat_holds.specs.declared.hold.Hold.{Hold}
 use Rattle.staat_holds.specs.Chains.{IsName, joined_name, names_after, own_names}
 use Rattle.staat_holds.specs.Partials.{IsOrderedHold}
-use Rattle.staat_holds.proofs.NodeNames.{among_or, at_map, below_first, first_of, joined_in, joined_out, map_at}
+use Rattle.staat_holds.proofs.NodeNames.{among_or, below_first, first_of, joined_in, joined_out}
 use Rattle.staat_rest.specs.Nodes.{IsInNode, KeepFrom, NamesOnly, ShowsNode, holds_of}
 use Rattle.staat_rest.proofs.Agreeing.{IsKept, keeps_as}
-use Rattle.staat_rest.proofs.NameSteps.{after_append, keep_append, own_count, own_is, own_name, part_or}
+use Rattle.staat_rest.proofs.NameSteps.{after_append, keep_append, own_count, part_or}
+use Rattle.staat_vec.proofs.ListLaws.{Contains-there, place_of, map_at_place, place_in_map}
+use Rattle.staat_vec.proofs.Options.{some_injective}
+use Rattle.staat_holds.proofs.ChainLaw.{own_is}
+use Rattle.staat_decide.proofs.Holdings.{own_name}
 
 -- both lists name the parts of the node n alike, by parts of it, and no other part by one of them
 record Agree (names : List ℕ) (n : ℕ) (a b : List ℕ) : Type 0 where
@@ -37,7 +40,7 @@ turned_round names n a b g = record {
 
 kept_of : (names : List ℕ) (n : ℕ) (a b nodes : List ℕ) → Agree names n a b → All (IsInNode names n) nodes → IsKept nodes a b
 kept_of names n a b nodes g of k p c at = ⊎_elim {C = slice_get b p ≡ Some k}
-    (λ h. let (m, at_a, at_b, _) = g.inside p h in at_b ∙ ap Some (same_some m k (sym at_a ∙ at)))
+    (λ h. let (m, at_a, at_b, _) = g.inside p h in at_b ∙ ap Some (some_injective m k (sym at_a ∙ at)))
     (λ out. absurd (g.outside_a p k out at (All-contains (IsInNode names n) nodes k of c)))
     (part_or names n p)
 
@@ -51,7 +54,7 @@ outside_step : (names : List ℕ) (n : ℕ) (a nodes : List ℕ) → All (IsInNo
     → ((p m : ℕ) → (IsInNode names n p → ⊥) → slice_get a p ≡ Some m → IsInNode names n m → ⊥)
     → (p m : ℕ) → (IsInNode names n p → ⊥) → slice_get (map (joined_name nodes) a) p ≡ Some m → IsInNode names n m → ⊥
 outside_step names n a nodes of outside p m out at h =
-    let (q, at_q, is) = map_at (joined_name nodes) a p m at in
+    let (q, at_q, is) = place_in_map (joined_name nodes) a p m at in
     ⊎_elim {C = ⊥} (λ t. outside p q out at_q (All-contains (IsInNode names n) nodes q of t.0))
     (λ t. outside p q out at_q (subst (IsInNode names n) (sym is ∙ joined_out nodes q t.0) h)) (among_or nodes q)
 
@@ -61,7 +64,7 @@ agree_step names n a b nodes of some g = record {
   many_b = length-map b (joined_name nodes) ∙ g.many_b;
   inside = λ p h.
       let (m, at_a, at_b, is) = g.inside p h in
-      (joined_name nodes m, at_map (joined_name nodes) a p m at_a, at_map (joined_name nodes) b p m at_b, joined_part names n nodes m of some is);
+      (joined_name nodes m, map_at_place (joined_name nodes) a p m at_a, map_at_place (joined_name nodes) b p m at_b, joined_part names n nodes m of some is);
   outside_a = outside_step names n a nodes of g.outside_a;
   outside_b = outside_step names n b nodes of g.outside_b;
 }
@@ -89,11 +92,11 @@ stays names n b [] within p m at out = at
 stays names n b (h ∷ holds) within p m at out =
     let of = All-head (IsWithinNode names n) h holds within in
     let off : Contains h.nodes m → ⊥ = λ c. out (All-contains (IsInNode names n) h.nodes m of c) in
-    stays names n (map (joined_name h.nodes) b) holds (All-tail (IsWithinNode names n) h holds within) p m (at_map (joined_name h.nodes) b p m at ∙ ap Some (joined_out h.nodes m off)) out
+    stays names n (map (joined_name h.nodes) b) holds (All-tail (IsWithinNode names n) h holds within) p m (map_at_place (joined_name h.nodes) b p m at ∙ ap Some (joined_out h.nodes m off)) out
 
 -- the name of a part is the name of a node
 pub name_is : (names : List ℕ) → All (IsName names) names → (p n : ℕ) → IsInNode names n p → IsName names n
-name_is names names_are p n at = All-contains (IsName names) names n names_are (Contains-from_place names p n at)
+name_is names names_are p n at = All-contains (IsName names) names n names_are (from_place names p n at)
 
 -- the list of the nodes, each before those that came before
 pub onto : List ℕ → List ℕ → List ℕ
@@ -104,15 +107,15 @@ onto_has : (nodes before : List ℕ) (m : ℕ) → Contains nodes m ⊎ Contains
 unfolding onto
 onto_has [] before m h = ⊎_elim {C = Contains before m} (λ c. absurd (Contains-nothing m c)) (λ c. c) h
 onto_has (n ∷ nodes) before m h = onto_has nodes (n ∷ before) m (⊎_elim {C = Contains nodes m ⊎ Contains (n ∷ before) m}
-    (λ c. ⊎_elim {C = Contains nodes m ⊎ Contains (n ∷ before) m} (λ e. inr (subst (Contains (n ∷ before)) (sym e) (here n before))) (λ later. inl later) (Contains-cases n nodes m c))
-    (λ c. inr (there n m before c)) h)
+    (λ c. ⊎_elim {C = Contains nodes m ⊎ Contains (n ∷ before) m} (λ e. inr (subst (Contains (n ∷ before)) (sym e) (Contains-front n before))) (λ later. inl later) (Contains-cases n nodes m c))
+    (λ c. inr (Contains-there n m before c)) h)
 
 has_onto : (nodes before : List ℕ) (m : ℕ) → Contains (onto nodes before) m → Contains nodes m ⊎ Contains before m
 unfolding onto
 has_onto [] before m h = inr h
 has_onto (n ∷ nodes) before m h = ⊎_elim {C = Contains (n ∷ nodes) m ⊎ Contains before m}
-    (λ c. inl (there n m nodes c))
-    (λ c. ⊎_elim {C = Contains (n ∷ nodes) m ⊎ Contains before m} (λ e. inl (subst (Contains (n ∷ nodes)) (sym e) (here n nodes))) (λ old. inr old) (Contains-cases n before m c))
+    (λ c. inl (Contains-there n m nodes c))
+    (λ c. ⊎_elim {C = Contains (n ∷ nodes) m ⊎ Contains before m} (λ e. inl (subst (Contains (n ∷ nodes)) (sym e) (Contains-front n nodes))) (λ old. inr old) (Contains-cases n before m c))
     (has_onto nodes (n ∷ before) m h)
 
 module _ (parts : List Part) (names : List ℕ) (many : length names ≡ length parts) (names_are : All (IsName names) names) where
@@ -132,10 +135,10 @@ module _ (parts : List Part) (names : List ℕ) (many : length names ≡ length 
           let (q, at_q) = some_at names p (omega (arith, lt, long)) in
           ⊎_elim {C = ⊥}
           (λ t.
-          let e : m ≡ q = same_some m q (sym at ∙ is.joined p q at_q t.0) in
-          let same : q ≡ n = same_some q n (sym (name_is names names_are p q at_q) ∙ subst (IsInNode names n) e h) in
+          let e : m ≡ q = some_injective m q (sym at ∙ is.joined p q at_q t.0) in
+          let same : q ≡ n = some_injective q n (sym (name_is names names_are p q at_q) ∙ subst (IsInNode names n) e h) in
           out (at_q ∙ ap Some same))
-          (λ t. out (subst (IsInNode names n) (same_some m p (sym at ∙ is.others p q at_q t.0)) h))
+          (λ t. out (subst (IsInNode names n) (some_injective m p (sym at ∙ is.others p q at_q t.0)) h))
           (among_or done q)
 
   node_step : (n : ℕ) (done now : List ℕ) (holds : List Hold) → NamesOnly names done now → (Contains done n → ⊥) → ShowsNode parts names n holds
@@ -149,13 +152,13 @@ module _ (parts : List Part) (names : List ℕ) (many : length names ≡ length 
           joined = λ p h at c. ⊎_elim {C = slice_get (names_after now holds) p ≡ Some h}
               (λ e.
               let (m, at_a, at_b, _) = after.inside p (at ∙ ap Some e) in
-              let named = shows.named.joined p n (at ∙ ap Some e) (here n []) in
-              at_b ∙ ap Some (same_some m n (sym at_a ∙ named) ∙ sym e))
+              let named = shows.named.joined p n (at ∙ ap Some e) (Contains-front n []) in
+              at_b ∙ ap Some (some_injective m n (sym at_a ∙ named) ∙ sym e))
               (λ old. stays names n now holds shows.within p h (is.joined p h at old)
-              (λ of_n. off (subst (Contains done) (same_some h n (sym (name_is names names_are p h at) ∙ of_n)) old)))
+              (λ of_n. off (subst (Contains done) (some_injective h n (sym (name_is names names_are p h at) ∙ of_n)) old)))
               (Contains-cases n done h c);
-          others = λ p h at out. stays names n now holds shows.within p p (is.others p h at (λ old. out (there n h done old)))
-              (λ of_n. out (subst (Contains (n ∷ done)) (same_some n h (sym of_n ∙ at)) (here n done)));
+          others = λ p h at out. stays names n now holds shows.within p p (is.others p h at (λ old. out (Contains-there n h done old)))
+              (λ of_n. out (subst (Contains (n ∷ done)) (some_injective n h (sym of_n ∙ at)) (Contains-front n done)));
         },
       )
 
@@ -166,14 +169,14 @@ module _ (parts : List Part) (names : List ℕ) (many : length names ≡ length 
   chain lists [] done now shows is sorted named off = (tt, is)
   chain lists (n ∷ nodes) done now shows is sorted named off =
       let holds = get_or lists n [] in
-      let (keep, next) = node_step n done now holds is (off n (here n nodes)) (shows n (All-head (IsName names) n nodes named)) in
+      let (keep, next) = node_step n done now holds is (off n (Contains-front n nodes)) (shows n (All-head (IsName names) n nodes named)) in
       let (keep_rest, end) = chain lists nodes (n ∷ done) (names_after now holds) shows next (sorted_tail nat_cmp n nodes sorted) (All-tail (IsName names) n nodes named) apart in
       (keep_append parts now holds (holds_of lists nodes) keep keep_rest, subst (NamesOnly names (onto nodes (n ∷ done))) (sym (after_append now holds (holds_of lists nodes))) end)
     where
       apart : (m : ℕ) → Contains nodes m → Contains (n ∷ done) m → ⊥
       apart m c old = ⊎_elim {C = ⊥}
-          (λ e. let (k, at) = place_from_Contains nodes m c in below_first n nodes k m sorted at e)
-          (λ earlier. off m (there n m nodes c) earlier) (Contains-cases n done m old)
+          (λ e. let (k, at) = place_of nodes m c in below_first n nodes k m sorted at e)
+          (λ earlier. off m (Contains-there n m nodes c) earlier) (Contains-cases n done m old)
 
   -- the holds of some nodes, one list after another, keep the rules, and join each of these nodes by itself
   pub holds_keep : (lists : List (List Hold)) (nodes : List ℕ) → ((n : ℕ) → IsName names n → ShowsNode parts names n (get_or lists n []))

@@ -10,12 +10,13 @@ use Rattle.staat_vec.specs.declared.vector.V3.{V3}
 use Rattle.staat_model.specs.declared.assembly.Part.{Part}
 use Rattle.staat_model.specs.Assemblies.{piece_at, piece_count}
 use Rattle.staat_model.proofs.Members.{All-from_members}
-use Rattle.staat_model.proofs.Places.{place_from_Contains, place_within}
+use Rattle.staat_model.proofs.Places.{place_within}
 use Rattle.staat_motion.proofs.Zips.{zip_back}
 use Rattle.staat_holds.proofs.ListSteps.{contains_push}
 use Rattle.staat_rest.specs.declared.merging.Origin.{Origin}
 use Rattle.staat_rest.specs.Merging.{AreOrigins}
 use Rattle.staat_rest.specs.Nodes.{IsInNode}
+use Rattle.staat_vec.proofs.ListLaws.{place_of}
 
 pub origin_more : (old xs ys : List Origin) (part n : ℕ) → ys ≡ xs ++ record { part = part; piece = n } ∷ []
     → ((o : Origin) → Contains xs o ↔ (Contains old o ⊎ ((o.part ≡ part) × (o.piece < n))))
@@ -131,6 +132,6 @@ count_read parts k part pieces lt is slice =
 -- the origins of all nodes are of pieces that exist
 pub all_exist : (parts : List Part) (names heads : List ℕ) (all : List (List Origin)) → AllZip (AreOrigins parts names) heads all → All (All (λ (o : Origin). o.piece < piece_count parts o.part)) all
 all_exist parts names heads all zip = All-from_members (All (λ (o : Origin). o.piece < piece_count parts o.part)) all (λ os c.
-    let (k, at) = place_from_Contains all os c in
+    let (k, at) = place_of all os c in
     let (n, _, of) = zip_back (AreOrigins parts names) heads all k os zip at in
     All-weaker (λ (o : Origin). IsInNode names n o.part × (o.piece < piece_count parts o.part)) (λ (o : Origin). o.piece < piece_count parts o.part) (λ o h. h.1) os of.each)

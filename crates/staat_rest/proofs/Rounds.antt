@@ -5,7 +5,7 @@ use Rattle.std.specs.Ordering.{nat_cmp}
 use Rattle.std.proofs.lemmas.List.Elements.{All-weaker}
 use Rattle.staat_model.specs.declared.assembly.Part.{Part}
 use Rattle.staat_model.proofs.Members.{All-from_members}
-use Rattle.staat_model.proofs.Places.{place_from_Contains, place_within, some_at}
+use Rattle.staat_model.proofs.Places.{place_within, some_at}
 use Rattle.staat_holds.specs.declared.hold.Hold.{Hold}
 use Rattle.staat_holds.specs.Chains.{IsName, KeepsHoldRules, joined_name, names_after, own_names}
 use Rattle.staat_holds.specs.Partials.{IsOrderedHold}
@@ -20,6 +20,7 @@ use Rattle.staat_rest.proofs.MergedHold.{hold_keeps, nodes_ascend, nodes_named, 
 use Rattle.staat_rest.proofs.MergedPieces.{merged_count}
 use Rattle.staat_rest.proofs.NextNodes.{name_lost, names_back, next_shown}
 use Rattle.staat_rest.proofs.NodeSteps.{holds_keep, name_is}
+use Rattle.staat_vec.proofs.ListLaws.{place_of}
 
 -- the same for lists that are equal to these
 pub are_as : (parts : List Part) (now names heads heads_now : List ℕ) (origins origins_now : List (List Origin)) (merged merged_now : List Part)
@@ -36,7 +37,7 @@ pub some_merged : (parts : List Part) (names heads : List ℕ) (lists : List (Li
 some_merged parts names heads lists origins merged shown are some =
     let many = shown.many in
     let (n, of) = some_at names 0 (omega (arith, some, many)) in
-    let (k, at) = place_from_Contains heads n (are.heads_are.all n (name_is names shown.names_are 0 n of)) in
+    let (k, at) = place_of heads n (are.heads_are.all n (name_is names shown.names_are 0 n of)) in
     let lt = place_within heads k n at in
     let count = merged_count parts names heads origins merged are in
     omega (arith, lt, count)

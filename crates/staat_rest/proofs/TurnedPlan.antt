@@ -17,7 +17,7 @@ use Rattle.staat_model.specs.Plans.{IsGood, IsStuck, Plan, leaf, parts_of, split
 use Rattle.staat_model.specs.Removal.{IsFree}
 use Rattle.staat_model.specs.SetLists.{set_of}
 use Rattle.staat_model.specs.Sets.{AreApart, Has, below, single}
-use Rattle.staat_model.proofs.Places.{Contains-from_place, place_from_Contains, place_within, same_some, some_at}
+use Rattle.staat_model.proofs.Places.{place_within, some_at}
 use Rattle.staat_model.proofs.SetBits.{has-below}
 use Rattle.staat_model.proofs.SetListings.{has-set_of}
 use Rattle.staat_model.proofs.SetMembers.{has-single, has-union}
@@ -35,6 +35,9 @@ use Rattle.staat_rest.specs.Turning.{HasLeavesBelow, HaveLists, IsGroupOf, IsTur
 use Rattle.staat_rest.proofs.MergedPieces.{merged_count, merged_from, one_head}
 use Rattle.staat_rest.proofs.NameSteps.{keep_all}
 use Rattle.staat_rest.proofs.NodeSteps.{name_is}
+use Rattle.staat_vec.proofs.Unique.{from_place}
+use Rattle.staat_vec.proofs.ListLaws.{place_of}
+use Rattle.staat_vec.proofs.Options.{some_injective}
 
 -- the part p belongs to a node for which a member of s stands
 pub record IsStoodFor (names heads : List ℕ) (s : PartSet) (p : ℕ) : Type 0 where
@@ -67,7 +70,7 @@ module _ (parts : List Part) (names heads : List ℕ) (lists : List (List Hold))
   head_at k lt = slice_get-get_or heads k 0 lt
 
   head_named : (k : ℕ) → k < length heads → IsName names (get_or heads k 0)
-  head_named k lt = are.heads_are.each (get_or heads k 0) (Contains-from_place heads k (get_or heads k 0) (head_at k lt))
+  head_named k lt = are.heads_are.each (get_or heads k 0) (from_place heads k (get_or heads k 0) (head_at k lt))
 
   one_leaf : (k p : ℕ) → Has (single k) p → p ≡ k
   one_leaf k p h = (has-single k p).0 h
@@ -81,7 +84,7 @@ module _ (parts : List Part) (names heads : List ℕ) (lists : List (List Hold))
     λ h. record { k = k; has = own_leaf k; head = get_or heads k 0; at = head_at k lt; of = (is p).0 h },
     λ o.
         let e : o.k ≡ k = one_leaf k o.k o.has in
-        let same : o.head ≡ get_or heads k 0 = same_some o.head (get_or heads k 0) (sym (subst (λ m. slice_get heads m ≡ Some o.head) e o.at) ∙ head_at k lt) in
+        let same : o.head ≡ get_or heads k 0 = some_injective o.head (get_or heads k 0) (sym (subst (λ m. slice_get heads m ≡ Some o.head) e o.at) ∙ head_at k lt) in
         (is p).1 (subst (λ n. IsInNode names n p) same o.of),
   )
 
@@ -126,7 +129,7 @@ module _ (parts : List Part) (names heads : List ℕ) (lists : List (List Hold))
   apart_spread a b s t first second apart p in_s in_t =
       let o = (first p).0 in_s in
       let q = (second p).0 in_t in
-      let same : o.head ≡ q.head = same_some o.head q.head (sym o.of ∙ q.of) in
+      let same : o.head ≡ q.head = some_injective o.head q.head (sym o.of ∙ q.of) in
       let e : o.k ≡ q.k = one_head names heads are.heads_are o.k q.k q.head (o.at ∙ ap Some same) q.at in
       apart q.k (subst (Has a) e o.has) q.has
 
@@ -229,7 +232,7 @@ module _ (parts : List Part) (names heads : List ℕ) (lists : List (List Hold))
       let lt = (has-below (length parts) p).0 h in
       let many = shown.many in
       let (n, of) = some_at names p (omega (arith, lt, many)) in
-      let (k, at) = place_from_Contains heads n (are.heads_are.all n (name_is names shown.names_are p n of)) in
+      let (k, at) = place_of heads n (are.heads_are.all n (name_is names shown.names_are p n of)) in
       let k_lt = place_within heads k n at in
       let count = merged_count parts names heads origins merged are in
       let k_in = (has-below (length merged) k).1 (omega (arith, k_lt, count)) in

@@ -19,10 +19,6 @@ second_write l x u i w k e lt = get_or-set_at (set l x u) i k w 0 e (let s = len
 abbrev two : Links → ℕ → ℕ → ℕ → Links
 two s h x i = record { next = set (set s.next x h) i x; prev = set (set s.prev x i) h x }
 
-last_other : (a y : ℕ) (xs : List ℕ) → Apart a (y ∷ xs) → a ≢ last_of y xs
-last_other a y [] h = λ e. h.0 (sym e)
-last_other a y (z ∷ xs) h = last_other a z xs h.1
-
 pub chain_grows : (s : Links) (h x i a : ℕ) (xs : List ℕ) → i ≡ last_of a xs → x ≢ i → x ≢ h → x < length s.next → x < length s.prev → i < length s.next → h < length s.prev
     → Distinct (a ∷ xs) → Apart h xs → Apart x (a ∷ xs) → Chain s a xs h → Chain (two s h x i) a (xs ++ x ∷ []) h
 chain_grows s h x i a [] ei xi xh ln lp li lh d ah ax c = (
@@ -33,7 +29,7 @@ chain_grows s h x i a [] ei xi xh ln lp li lh d ah ax c = (
   ),
 )
 chain_grows s h x i a (y ∷ xs) ei xi xh ln lp li lh d ah ax c = (
-  kept s.next x h i x a ax.0 (λ e. last_other a y xs d.0 (e ∙ ei)) ∙ c.0,
+  kept s.next x h i x a ax.0 (λ e. apart_last a y xs d.0 (e ∙ ei)) ∙ c.0,
   (
     kept s.prev x i h x y ax.1.0 ah.0 ∙ c.1.0,
     chain_grows s h x i y xs ei xi xh ln lp li lh d.1 ah.1 ax.1 c.1.1,

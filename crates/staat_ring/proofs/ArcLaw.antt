@@ -33,16 +33,14 @@ use Rattle.staat_ring.proofs.Totals.{is_positive, hits, sum_by-total, total-hits
 use Rattle.staat_ring.specs.Rings.{facet_by, plane_at}
 use Rattle.staat_ring.proofs.PairLemmas.{one}
 use Rattle.staat_ring.proofs.Strength.{strong_same}
+use Rattle.staat_vec.proofs.Truth.{and_false}
+use Rattle.staat_vec.proofs.ListLaws.{Contains-map}
 
 -- ---- the count of positive facets is the count of by_plane that are ahead
 
 none_by : (p : PlaneFacet → Bool) (by_plane : List PlaneFacet) → ((w : PlaneFacet) → p w ≡ false) → count_by p by_plane ≡ 0
 none_by p [] h = refl
 none_by p (w ∷ by_plane) h = let r = none_by p by_plane h in let e = ap one (h w) in omega (arith, r, e, sum_by-cons (λ w. one (p w)) w by_plane)
-
-and_false : (b : Bool) → (b && false) ≡ false
-and_false true = refl
-and_false false = refl
 
 module _ (planes facets : List V3) (sides : List Side) (q : ℕ) (is : IsPairIndexed planes facets sides q) where
   abbrev sg : ℕ → Sign
@@ -119,11 +117,6 @@ facet_plane : (turned : Bool) (n : V3) → IsCanon n → n ≡ canon (facet_by t
 facet_plane false n c = canon-only n n c (inl refl)
 facet_plane true n c = canon-only (negative n) n c (inr (sym (negative-negative n)))
 
-pub in_map : {X Y : Type 0} (f : X → Y) (xs : List X) (x : X) → Contains xs x → Contains (map f xs) (f x)
-in_map f [] x (i, lt, e) = absurd (omega arith)
-in_map f (y ∷ xs) x (zero, lt, e) = (zero, omega arith, ap f e)
-in_map f (y ∷ xs) x (suc i, lt, e) = let r = in_map f xs x (i, omega arith, e) in (suc r.0, omega (arith, r.1), r.2)
-
 module _ (parts : List Part) (t : Table) (s : Signed) (linked : List ℕ) (v : V3) (w : PartSet) (made : WasMadeFrom parts t) (table : IsTable t) (to : BelongTo t s) (signs : HoldSigns t.planes linked s v) (within : IsSubset w t.of) (whole : HasAll parts w t.planes linked) where
   module _ (arc : Arc) (across : IsTableArc t arc) (a_in : Has w arc.a) (b_in : Has w arc.b) where
     abbrev q : ℕ
@@ -140,7 +133,7 @@ module _ (parts : List Part) (t : Table) (s : Signed) (linked : List ℕ) (v : V
         let at : slice_get t.planes x.plane ≡ Some n = slice_get-get_or t.planes x.plane origin lt in
         let normal : IsPlaneNormal n = All-get_or IsPlaneNormal t.planes x.plane origin lt table.planes.each in
         let f : V3 = facet_by x.turned n in
-        let listed : Contains (facets_of t arc) f = subst (λ fs. Contains fs f) is.index.are (in_map (facet_at t.planes) is.index.by_plane x c) in
+        let listed : Contains (facets_of t arc) f = subst (λ fs. Contains fs f) is.index.are (Contains-map (facet_at t.planes) is.index.by_plane x c) in
         let h = made.facets arc across in
         record {
           listed = whole x.plane n at (inr (record {

@@ -1,5 +1,5 @@
 -- Arrays in which all circles stand are good, and show the circles of the planes.
-use Rattle.std.proofs.Common.{◌≡◌, ◌≢◌, ◌⊎◌, inl, ⊎_elim, ℕ, zero, suc, ◌+◌, ◌*◌, ◌<◌, ◌≤◌, Bool, true, false, not, arith, ap, refl, sym, subst, ◌∙◌, List, [], ◌∷◌, ◌++◌, length, get_or, All, Contains, take, eq-eqb}
+use Rattle.std.proofs.Common.{◌≡◌, ◌≢◌, inl, ⊎_elim, ℕ, zero, suc, ◌+◌, ◌*◌, ◌<◌, ◌≤◌, Bool, true, false, not, arith, ap, refl, sym, subst, ◌∙◌, List, [], ◌∷◌, ◌++◌, length, get_or, All, Contains, take, eq-eqb}
 use Rattle.std.specs.Prelude.{Some, map, slice_get, ◌==◌}
 use Rattle.std.specs.List.{filter}
 use Rattle.std.specs.Ordering.{nat_cmp}
@@ -29,7 +29,7 @@ use Rattle.staat_ring.specs.Within.{InRange}
 use Rattle.staat_ring.specs.Views.{lists_of}
 use Rattle.staat_ring.proofs.Covered.{entry_there}
 use Rattle.staat_ring.proofs.Linkable.{can_be_linked, other_plane}
-use Rattle.staat_ring.proofs.Mapped.{few_below, from_map, in_map}
+use Rattle.staat_ring.proofs.Mapped.{few_below}
 use Rattle.staat_ring.proofs.Numbering.{entry_back, head_circle, head_small}
 use Rattle.staat_ring.proofs.RingLemmas.{below_small}
 use Rattle.staat_ring.proofs.RowRules as rules
@@ -37,6 +37,8 @@ use Rattle.staat_ring.proofs.SoundLemmas.{two_cases}
 use Rattle.staat_ring.proofs.Stops.{none_parallel}
 use Rattle.staat_ring.proofs.Unlinking.{planes_of_rings}
 use Rattle.staat_ring.proofs.ViewLemmas.{nodes_of_is}
+use Rattle.staat_vec.proofs.Naturals.{lt_suc_cases}
+use Rattle.staat_vec.proofs.ListLaws.{Contains-from_map, Contains-map}
 
 -- ---- the planes below n
 
@@ -54,22 +56,16 @@ length_below (suc n) = length-append (numbers_below n) (n ∷ []) ∙ (let e = l
 
 pub below_all : (n c : ℕ) → c < n → Contains (numbers_below n) c
 below_all zero c lt = absurd (omega (arith, lt))
-below_all (suc n) c lt = ⊎_elim {C = Contains (numbers_below (suc n)) c} (λ l. Contains-append_left (numbers_below n) (n ∷ []) c (below_all n c l)) (λ e. Contains-append_right (numbers_below n) (n ∷ []) c (zero, omega arith, sym e)) (last c n lt)
-  where
-    last : (c n : ℕ) → c < suc n → (c < n) ⊎ (c ≡ n)
-    last c n lt = grind arith
+below_all (suc n) c lt = ⊎_elim {C = Contains (numbers_below (suc n)) c} (λ l. Contains-append_left (numbers_below n) (n ∷ []) c (below_all n c l)) (λ e. Contains-append_right (numbers_below n) (n ∷ []) c (zero, omega arith, sym e)) (lt_suc_cases c n lt)
 
 below_at : (n k : ℕ) → k < n → get_or (numbers_below n) k 0 ≡ k
 below_at zero k lt = absurd (omega (arith, lt))
 below_at (suc n) k lt = go (numbers_below n) (length_below n) (below_at n k)
   where
-    last : (c n : ℕ) → c < suc n → (c < n) ⊎ (c ≡ n)
-    last c n lt = grind arith
-
     go : (xs : List ℕ) → length xs ≡ n → (k < n → get_or xs k 0 ≡ k) → get_or (xs ++ n ∷ []) k 0 ≡ k
     go xs e ih = ⊎_elim {C = get_or (xs ++ n ∷ []) k 0 ≡ k}
         (λ l. Rattle.std.proofs.lemmas.List.get_or_append_left xs (n ∷ []) 0 k (let q : k < length xs = omega (arith, l, e) in q) ∙ ih l)
-        (λ q. Rattle.std.proofs.lemmas.List.get_or_push xs n 0 k (e ∙ sym q) ∙ sym q) (last k n lt)
+        (λ q. Rattle.std.proofs.lemmas.List.get_or_push xs n 0 k (e ∙ sym q) ∙ sym q) (lt_suc_cases k n lt)
 
 -- ---- the entries of a plane
 
@@ -84,10 +80,7 @@ pub in_entries : (n p k c e : ℕ) → c < k → Contains (entries_on n p c) e �
 in_entries n p zero c e lt x = absurd (omega (arith, lt))
 in_entries n p (suc k) c e lt x = ⊎_elim {C = Contains (entries_of n p (suc k)) e}
     (λ l. Contains-append_left (entries_of n p k) (entries_on n p k) e (in_entries n p k c e l x))
-    (λ q. Contains-append_right (entries_of n p k) (entries_on n p k) e (subst (λ d. Contains (entries_on n p d) e) q x)) (last c k lt)
-  where
-    last : (c n : ℕ) → c < suc n → (c < n) ⊎ (c ≡ n)
-    last c n lt = grind arith
+    (λ q. Contains-append_right (entries_of n p k) (entries_on n p k) e (subst (λ d. Contains (entries_on n p d) e) q x)) (lt_suc_cases c k lt)
 
 on_other : (n p c e : ℕ) → Contains (entries_on n p c) e → c ≢ p
 on_other n p c e x q = none (c == p) (eq-eqb c p q) x
@@ -97,7 +90,7 @@ on_other n p c e x q = none (c == p) (eq-eqb c p q) x
     none false h x = cc
 
 on_circle : (n c : ℕ) (e : Entry) → c ≢ e.plane → Contains (entries_on n e.plane c) (entry_number n c e)
-on_circle n c e ne = go (c == e.plane) (Rattle.staat_ring.proofs.Mapped.differ c e.plane ne) e.turned
+on_circle n c e ne = go (c == e.plane) (Rattle.staat_vec.proofs.Naturals.eq_test_false c e.plane ne) e.turned
   where
     go : (b : Bool) → b ≡ false → (t : Bool) → Contains (Rattle.std.specs.Prelude.if◌then◌else◌ b [] ((2 * (c * n + e.plane)) ∷ (2 * (c * n + e.plane) + 1) ∷ [])) (2 * (c * n + e.plane) + (Rattle.std.specs.Prelude.if◌then◌else◌ t 1 0))
     go true h t = cc
@@ -119,9 +112,9 @@ ring_renamed : (planes : List V3) (linked : List ℕ) (c : ℕ) (f : List Entry 
 ring_renamed planes linked c f stops is = record {
   circle = subst (Rattle.staat_model.specs.Circles.IsCircle planes linked c) (map_twice' zero_stop ∙ sym (map_twice' named)) is.circle;
   agree = All-from_members (λ s. All (λ e. Rattle.staat_ring.specs.Rings.crossing planes c e ≡ vertex_of planes c s.entries) s.entries) (map named stops) (λ s cs.
-      let (es, ce, q) = from_map named stops s cs in
+      let (es, ce, q) = Contains-from_map named stops s cs in
       subst (λ (x : RingStop). All (λ e. Rattle.staat_ring.specs.Rings.crossing planes c e ≡ vertex_of planes c x.entries) x.entries) q
-      (All-contains (λ s. All (λ e. Rattle.staat_ring.specs.Rings.crossing planes c e ≡ vertex_of planes c s.entries) s.entries) (map zero_stop stops) (zero_stop es) is.agree (in_map zero_stop stops es ce)));
+      (All-contains (λ s. All (λ e. Rattle.staat_ring.specs.Rings.crossing planes c e ≡ vertex_of planes c s.entries) s.entries) (map zero_stop stops) (zero_stop es) is.agree (Contains-map zero_stop stops es ce)));
 }
   where
     zero_stop : List Entry → RingStop
@@ -198,7 +191,7 @@ module _ (planes : List V3) (table : AreTablePlanes planes) (few : length planes
 
   home_of_row : (c : ℕ) (lc : c < n) (k : ℕ) → k < length (stops c lc) → (x : ℕ) → Contains (node c lc k ∷ numbers c lc k) x → home_of a x ≡ home_of a (node c lc k)
   home_of_row c lc k lk x (zero, lt, e) = ap (home_of a) (sym e)
-  home_of_row c lc k lk x (suc i, lt, e) = let (y, cy, q) = from_map (entry_number n c) (slot c lc k) x (i, omega (arith, lt), e) in ap (home_of a) (sym q) ∙ (home_at c lc k lk y cy ∙ sym (own c lc k lk))
+  home_of_row c lc k lk x (suc i, lt, e) = let (y, cy, q) = Contains-from_map (entry_number n c) (slot c lc k) x (i, omega (arith, lt), e) in ap (home_of a) (sym q) ∙ (home_at c lc k lk y cy ∙ sym (own c lc k lk))
 
   stop_ring : (c : ℕ) (lc : c < n) (k : ℕ) → k < length (stops c lc) → IsRing a.vertices (home_of a) (node c lc k) (numbers c lc k)
   stop_ring c lc k lk = record {
@@ -240,7 +233,7 @@ module _ (planes : List V3) (table : AreTablePlanes planes) (few : length planes
     within = λ c v lc cv. let o = node_of c lc v cv in let w = rules.node_within n c lc (stops c lc) (can c lc) o.place o.within in let s = are.sizes.circles in let q = o.is in omega (arith, w, s, q);
     entries_within = λ c v e lc cv ce.
         let o = node_of c lc v cv in
-        let (x, cx, q) = from_map (entry_number n c) (slot c lc o.place) e (subst (λ xs. Contains xs e) (entries_at c lc v o) ce) in
+        let (x, cx, q) = Contains-from_map (entry_number n c) (slot c lc o.place) e (subst (λ xs. Contains xs e) (entries_at c lc v o) ce) in
         let w = rules.number_within n c lc (stops c lc) (can c lc) o.place o.within x cx in
         let s = are.sizes.vertices in omega (arith, w, s, q);
   }
@@ -259,8 +252,8 @@ module _ (planes : List V3) (table : AreTablePlanes planes) (few : length planes
       let q : (shape n).circle (home_of a (entry_number n c e)) ≡ c = ap (shape n).circle h ∙ rules.circle_of_node n c lc (stops c lc) (can c lc) t.place lk in
       record {
         circle = subst (λ d. d < n) (sym q) lc;
-        vertex = subst (λ d. Contains (l.vertices d) (home_of a (entry_number n c e))) (sym q) (subst (Contains (l.vertices c)) (sym h) (subst (λ xs. Contains xs (node c lc t.place)) (sym (vertices_are c lc)) (in_map (node_number n c) (stops c lc) (slot c lc t.place) (rules.slot_in n c lc (stops c lc) (can c lc) t.place lk))));
-        entry = subst (λ v. Contains (l.entries v) (entry_number n c e)) (sym h) (subst (λ xs. Contains xs (entry_number n c e)) (sym (entries_are c lc t.place lk)) (in_map (entry_number n c) (slot c lc t.place) e ce));
+        vertex = subst (λ d. Contains (l.vertices d) (home_of a (entry_number n c e))) (sym q) (subst (Contains (l.vertices c)) (sym h) (subst (λ xs. Contains xs (node c lc t.place)) (sym (vertices_are c lc)) (Contains-map (node_number n c) (stops c lc) (slot c lc t.place) (rules.slot_in n c lc (stops c lc) (can c lc) t.place lk))));
+        entry = subst (λ v. Contains (l.entries v) (entry_number n c e)) (sym h) (subst (λ xs. Contains xs (entry_number n c e)) (sym (entries_are c lc t.place lk)) (Contains-map (entry_number n c) (slot c lc t.place) e ce));
       }
     where
       same : (k : ℕ) (s : RingStop) (lk : k < length (stops c lc)) → slice_get (map (λ es. record { node = 0; entries = es }) (stops c lc)) k ≡ Some s → s ≡ record { node = 0; entries = slot c lc k }
@@ -290,7 +283,7 @@ module _ (planes : List V3) (table : AreTablePlanes planes) (few : length planes
     present = λ p lp no. all_present (entries_of n p n) (present_number p lp);
     known = λ c v e lc cv ce.
         let o = node_of c lc v cv in
-        let (x, cx, q) = from_map (entry_number n c) (slot c lc o.place) e (subst (λ xs. Contains xs e) (entries_at c lc v o) ce) in
+        let (x, cx, q) = Contains-from_map (entry_number n c) (slot c lc o.place) e (subst (λ xs. Contains xs e) (entries_at c lc v o) ce) in
         let lx = rules.small n c lc (stops c lc) (can c lc) o.place o.within x cx in
         let ne = other_plane planes table (numbers_below n) c (stops c lc) (has c lc).ring (slot c lc o.place) x (rules.slot_in n c lc (stops c lc) (can c lc) o.place o.within) cx in
         let w = in_entries n x.plane n c (entry_number n c x) lc (on_circle n c x (λ z. ne (sym z))) in
@@ -298,7 +291,7 @@ module _ (planes : List V3) (table : AreTablePlanes planes) (few : length planes
         subst (λ i. Contains (entries_of n i n) e) (sym p) (subst (Contains (entries_of n x.plane n)) q w);
     numbered = λ c v e lc cv ce.
         let o = node_of c lc v cv in
-        let (x, cx, q) = from_map (entry_number n c) (slot c lc o.place) e (subst (λ xs. Contains xs e) (entries_at c lc v o) ce) in
+        let (x, cx, q) = Contains-from_map (entry_number n c) (slot c lc o.place) e (subst (λ xs. Contains xs e) (entries_at c lc v o) ce) in
         let lx = rules.small n c lc (stops c lc) (can c lc) o.place o.within x cx in
         ap (λ y. entry_number n c (entry_numbered n y)) (sym q) ∙ (ap (entry_number n c) (entry_back n c x lx) ∙ q);
   }
@@ -337,7 +330,7 @@ module _ (planes : List V3) (table : AreTablePlanes planes) (few : length planes
   pub rings : AreRings planes (rings_of n [] l) []
   rings = record {
     each = All-from_members (IsRingOf planes (linked_of (rings_of n [] l))) (rings_of n [] l) (λ r cr.
-        let (c, cc', q) = from_map (ring_of n l) (filter (λ c. not (is_out [] c)) (numbers_below n)) r cr in
+        let (c, cc', q) = Contains-from_map (ring_of n l) (filter (λ c. not (is_out [] c)) (numbers_below n)) r cr in
         let lc : c < n = below_small n c (subst (λ xs. Contains xs c) (all_stay (numbers_below n)) cc') in
         subst (IsRingOf planes (linked_of (rings_of n [] l))) q (subst (λ ks. IsRingOf planes ks (ring_of n l c)) (sym planes_read)
         (subst (IsRingOf planes (numbers_below n)) (sym (ring_read c lc)) (ring_renamed planes (numbers_below n) c (node_number n c) (stops c lc) (has c lc).ring))));

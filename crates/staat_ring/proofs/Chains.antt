@@ -32,7 +32,7 @@ apart-last a y (z ∷ l) r h = apart-last a z l r h.1
 turned : (a b : ℕ) → a ≢ b → b ≢ a
 turned a b h e = h (sym e)
 
-apart-right : (x : ℕ) (l r : List ℕ) → Apart x (l ++ r) → Apart x r
+pub apart-right : (x : ℕ) (l r : List ℕ) → Apart x (l ++ r) → Apart x r
 apart-right x [] r h = h
 apart-right x (y ∷ l) r h = apart-right x l r h.1
 

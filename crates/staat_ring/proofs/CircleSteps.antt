@@ -9,8 +9,8 @@ use Rattle.staat_ring.specs.Linking.{AreLinkedBelow, AreSized, CanBeLinked, HasC
 use Rattle.staat_ring.specs.Rings.{IsRingOf}
 use Rattle.staat_ring.specs.RingViews.{numbers_below, shape}
 use Rattle.staat_ring.proofs.Linkable.{can_be_linked}
-use Rattle.staat_ring.proofs.Mapped.{same_or}
 use Rattle.staat_ring.proofs.StopSteps.{holds_still}
+use Rattle.staat_vec.proofs.Naturals.{same_or}
 
 pub none_below : (planes : List V3) (n : ℕ) (a : Arrays) → AreSized n a → ((x : ℕ) → x < 4 * (n * n) → IsAlone a x) → ((x : ℕ) → x < 4 * (n * n) → get_or a.home x 0 ≡ x) → AreLinkedBelow planes n 0 a
 none_below planes n a sizes alone home = record {
@@ -50,10 +50,6 @@ module _ (planes : List V3) (table : AreTablePlanes planes) (c : ℕ) (lc : c < 
         };
     own = λ x le lx. home x le ∙ so_far.own x le lx;
   }
-
--- the nodes of the next circle stand alone
-pub next_alone : (planes : List V3) (n c : ℕ) (a : Arrays) → AreLinkedBelow planes n c a → (x : ℕ) → x < 4 * (n * n) → (shape n).circle x ≡ c → IsAlone a x
-next_alone planes n c a so_far x lx e = so_far.alone x lx (λ lt. absurd (omega (arith, lt, e)))
 
 -- as the code has it: the number of planes and the stops by other names
 module _ (planes : List V3) (table : AreTablePlanes planes) (c : ℕ) (lc : c < length planes) (stops : List (List Entry)) (is : IsRingOf planes (numbers_below (length planes)) (ring_by c stops))

@@ -1,5 +1,5 @@
 -- The turning order of a circle without a plane.
-use Rattle.std.proofs.Common.{◌≡◌, ◌≢◌, ◌⊎◌, inl, inr, ⊎_elim, ℕ, zero, suc, ◌+◌, ◌%◌, Bool, true, false, not, arith, ap, sym, subst, ◌∙◌, refl, List, [], ◌∷◌, length, All, Contains, ℤ, pos, negsuc, ◌*ℤ◌, ◌<ℤ◌}
+use Rattle.std.proofs.Common.{◌≡◌, ◌≢◌, ◌⊎◌, inl, inr, ⊎_elim, ℕ, zero, suc, ◌+◌, ◌%◌, Bool, true, false, not, arith, ap, sym, subst, ◌∙◌, refl, List, ◌∷◌, length, All, Contains, ℤ, pos, negsuc, ◌*ℤ◌, ◌<ℤ◌}
 use Rattle.std.specs.Prelude.{◌==◌, Some, map, slice_get}
 use Rattle.std.specs.List.{filter}
 use Rattle.std.proofs.lemmas.Int.{ints}
@@ -11,7 +11,6 @@ use Rattle.staat_vec.specs.Primitives.{primitive}
 use Rattle.staat_vec.specs.Vectors.{cross, dot, negative, origin}
 use Rattle.staat_vec.proofs.Canons.{negative-negative}
 use Rattle.staat_vec.proofs.Primitives.{IsPrimitive-negative, IsPrimitive-some, primitive-is}
-use Rattle.staat_model.proofs.GraphLemmas.{from_slice_get}
 use Rattle.staat_model.specs.Circles.{IsCircle, IsLinked, IsNext, IsOnCircle, PassesThrough, Stop}
 use Rattle.staat_ring.specs.declared.entry.Entry.{Entry}
 use Rattle.staat_ring.specs.Rings.{IsRingOf, Ring, RingStop, crossing, stop_of, vertex_of}
@@ -19,26 +18,23 @@ use Rattle.staat_ring.proofs.Stops.{AreLinkedApart, stop_there}
 use Rattle.staat_ring.proofs.Turns.{turn}
 use Rattle.staat_ring.specs.Rings.{facet_by, plane_at}
 use Rattle.staat_ring.specs.Without.{stays}
-use Rattle.staat_ring.proofs.Mapped.{in_map, from_map}
 use Rattle.staat_ring.proofs.Cycles.{Around, around_filter}
 use Rattle.staat_ring.proofs.Sides.{whole}
-use Rattle.staat_ring.proofs.Mapped.{differ}
 use Rattle.staat_ring.proofs.Skipping.{IsPoint, nothing_kept, still_after}
-use Rattle.staat_ring.proofs.Steps.{on_plane, size_positive}
+use Rattle.staat_ring.proofs.Steps.{on_plane}
 use Rattle.staat_ring.proofs.Turning.{turn_negative_left, turn_negative_right, turn_same}
 use Rattle.staat_ring.proofs.Sides.{turn_is_side}
 use Rattle.staat_ring.proofs.WithoutLemmas.{filter_from, filter_in, leaves_by, stays_by, stays_has}
+use Rattle.staat_vec.proofs.VectorLaws.{cross_origin, some_square}
+use Rattle.staat_vec.proofs.Truth.{false_true_clash}
+use Rattle.staat_vec.proofs.Integers.{positive_not_zero, mul-zero_ℤ}
+use Rattle.staat_vec.proofs.Naturals.{apart_from_test, eq_test_false}
+use Rattle.staat_vec.proofs.Unique.{from_place}
+use Rattle.staat_vec.proofs.ListLaws.{Contains-map, Contains-from_map}
 
 -- the linked planes but p
 abbrev pub planes_without : ℕ → List ℕ → List ℕ
 planes_without p linked = filter (λ k. not (k == p)) linked
-
-not_same : (k p : ℕ) → not (k == p) ≡ true → k ≢ p
-not_same k p h e = off (k == p) ((Rattle.std.proofs.lemmas.Bool.Decides.Decides-eqb k p).1 e) h
-  where
-    off : (b : Bool) → b ≡ true → not b ≡ true → ⊥
-    off true a c = cc
-    off false a c = cc
 
 -- w is the next after v among the vertices that have P
 pub record NextBy (P : V3 → Type 0) (g v w : V3) : Type 0 where
@@ -63,10 +59,10 @@ module _ (planes : List V3) (linked : List ℕ) (r : Ring) (p : ℕ) (apart : Ar
   Kept = IsOnCircle planes (planes_without p linked) c g
 
   pub link_of : (j : ℕ) (h : V3) → IsLinked planes (planes_without p linked) j h → IsLinked planes linked j h × (j ≢ p)
-  link_of j h l = let f = filter_from (λ k. not (k == p)) linked j l.listed in (record { listed = f.0; is = l.is }, not_same j p f.1)
+  link_of j h l = let f = filter_from (λ k. not (k == p)) linked j l.listed in (record { listed = f.0; is = l.is }, apart_from_test j p f.1)
 
   pub link_back : (j : ℕ) (h : V3) → IsLinked planes linked j h → j ≢ p → IsLinked planes (planes_without p linked) j h
-  link_back j h l ne = record { listed = filter_in (λ k. not (k == p)) linked j l.listed (ap not (differ j p ne)); is = l.is }
+  link_back j h l ne = record { listed = filter_in (λ k. not (k == p)) linked j l.listed (ap not (eq_test_false j p ne)); is = l.is }
 
   kept_whole : (x : V3) → Kept x → Whole x
   kept_whole x k = record { other = k.other; h = k.h; other_is = (link_of k.other k.h k.other_is).0; different = k.different; is = k.is }
@@ -100,15 +96,9 @@ module _ (planes : List V3) (linked : List ℕ) (r : Ring) (p : ℕ) (apart : Ar
       let f = flat h a ha nc in (
         primitive u,
         record { other = a; h = h; other_is = link_back a h ha np; different = nc; is = inl refl },
-        λ z. product (dot h v) (dot g g) some (size_positive g (λ e. f (ap (λ y. cross y h) e ∙ zero_cross h))) (sym (turn_is_side g h v pt.on) ∙ (whole g v u f ∙ (ap (λ t. pos (Rattle.staat_vec.specs.Primitives.content u) *ℤ t) z ∙ zero_right (pos (Rattle.staat_vec.specs.Primitives.content u))))),
+        λ z. product (dot h v) (dot g g) some (some_square g (λ e. f (ap (λ y. cross y h) e ∙ cross_origin h))) (sym (turn_is_side g h v pt.on) ∙ (whole g v u f ∙ (ap (λ t. pos (Rattle.staat_vec.specs.Primitives.content u) *ℤ t) z ∙ mul-zero_ℤ (pos (Rattle.staat_vec.specs.Primitives.content u))))),
       )
     where
-      zero_cross : (h : V3) → cross origin h ≡ origin
-      zero_cross h = Rattle.staat_vec.proofs.VecRing.ring3 (Rattle.staat_vec.proofs.VecRing.values (h ∷ []) []) (Rattle.staat_vec.proofs.VecRing.crossE Rattle.staat_vec.proofs.VecRing.originE Rattle.staat_vec.proofs.VecRing.v0) Rattle.staat_vec.proofs.VecRing.originE (tt, tt, tt)
-
-      zero_right : (a : ℤ) → a *ℤ pos 0 ≡ pos 0
-      zero_right a = omega (arith, ints)
-
       product : (a b : ℤ) → a ≢ pos 0 → pos 0 <ℤ b → a *ℤ b ≡ pos 0 → ⊥
       product (pos zero) b na pb e = na refl
       product (pos (suc a)) (pos zero) na pb e = absurd pb.lt
@@ -124,13 +114,13 @@ module _ (planes : List V3) (linked : List ℕ) (r : Ring) (p : ℕ) (apart : Ar
   stops = map (stop_of planes c) r.stops
 
   there : (s : RingStop) → Contains r.stops s → Contains stops (stop_of planes c s)
-  there s cs = in_map (stop_of planes c) r.stops s cs
+  there s cs = Contains-map (stop_of planes c) r.stops s cs
 
   pub pass : (s : RingStop) → Contains r.stops s → Rattle.staat_vec.specs.Lists.Lists Rattle.std.specs.Ordering.nat_cmp (PassesThrough planes linked c (vertex s)) (map (λ e. e.plane) s.entries)
   pass s cs = All-contains (λ s. Rattle.staat_vec.specs.Lists.Lists Rattle.std.specs.Ordering.nat_cmp (PassesThrough planes linked c s.vertex) s.through) stops (stop_of planes c s) is.circle.through (there s cs)
 
   whole_at : (s : RingStop) → Contains r.stops s → Whole (vertex s)
-  whole_at s cs = is.circle.vertices.each (vertex s) (in_map (λ s. s.vertex) stops (stop_of planes c s) (there s cs))
+  whole_at s cs = is.circle.vertices.each (vertex s) (Contains-map (λ s. s.vertex) stops (stop_of planes c s) (there s cs))
 
   agree_at : (s : RingStop) (e : Entry) → Contains r.stops s → Contains s.entries e → crossing planes c e ≡ vertex s
   agree_at s e cs ce = All-contains (λ e. crossing planes c e ≡ vertex s) s.entries e (All-contains (λ s. All (λ e. crossing planes c e ≡ vertex_of planes c s.entries) s.entries) r.stops s is.agree cs) ce
@@ -156,7 +146,7 @@ module _ (planes : List V3) (linked : List ℕ) (r : Ring) (p : ℕ) (apart : Ar
   pub kept_of_stays : (s : RingStop) → Contains r.stops s → stays p s ≡ true → Kept (vertex s)
   kept_of_stays s cs h =
       let (e, fe, ce, ne) = stays_has p s h in
-      let q = (pass s cs).each e.plane (in_map (λ e. e.plane) s.entries e ce) in
+      let q = (pass s cs).each e.plane (Contains-map (λ e. e.plane) s.entries e ce) in
       record { other = e.plane; h = q.h; other_is = link_back e.plane q.h q.linked_is ne; different = q.different; is = entry_way s e cs ce q.h q.linked_is }
 
   pub stays_of_kept : (s : RingStop) → Contains r.stops s → Kept (vertex s) → stays p s ≡ true
@@ -164,7 +154,7 @@ module _ (planes : List V3) (linked : List ℕ) (r : Ring) (p : ℕ) (apart : Ar
       let l = link_of k.other k.h k.other_is in
       let on : dot k.h (vertex s) ≡ pos 0 = on_other k.h (vertex s) k.is (flat k.h k.other l.0 k.different) in
       let c' = (pass s cs).all k.other (record { h = k.h; linked_is = l.0; different = k.different; on = on }) in
-      let (e, ce, ee) = from_map (λ e. e.plane) s.entries k.other c' in
+      let (e, ce, ee) = Contains-from_map (λ e. e.plane) s.entries k.other c' in
       stays_by p s e ce (λ q. l.1 (sym ee ∙ q))
     where
       on_other : (h v : V3) → (v ≡ primitive (cross g h)) ⊎ (v ≡ negative (primitive (cross g h))) → cross g h ≢ origin → dot h v ≡ pos 0
@@ -173,10 +163,7 @@ module _ (planes : List V3) (linked : List ℕ) (r : Ring) (p : ℕ) (apart : Ar
           ⊎_elim {C = dot h v ≡ pos 0} (λ e. ap (dot h) e ∙ on) (λ e. ap (dot h) e ∙ Rattle.staat_ring.proofs.Steps.negative_on h (primitive (cross g h)) on) w
 
   left_is_not : (s : RingStop) → Contains r.stops s → stays p s ≡ false → Kept (vertex s) → ⊥
-  left_is_not s cs h k = off (stays p s) h (stays_of_kept s cs k)
-    where
-      off : (b : Bool) → b ≡ false → b ≡ true → ⊥
-      off b a c = cc
+  left_is_not s cs h k = false_true_clash (stays p s) h (stays_of_kept s cs k)
 
   -- ---- two stops that leave are on one line
 
@@ -186,7 +173,7 @@ module _ (planes : List V3) (linked : List ℕ) (r : Ring) (p : ℕ) (apart : Ar
       let on = Rattle.staat_ring.proofs.Steps.primitive_on w.h (cross g w.h) (Rattle.staat_vec.proofs.VecRing.dot_cross_right g w.h) (flat w.h w.other w.other_is w.different) in
       let z : dot w.h (vertex s) ≡ pos 0 = ⊎_elim {C = dot w.h (vertex s) ≡ pos 0} (λ e. ap (dot w.h) e ∙ on) (λ e. ap (dot w.h) e ∙ Rattle.staat_ring.proofs.Steps.negative_on w.h (primitive (cross g w.h)) on) w.is in
       let c' = (pass s cs).all w.other (record { h = w.h; linked_is = w.other_is; different = w.different; on = z }) in
-      let (e, ce, ee) = from_map (λ e. e.plane) s.entries w.other c' in
+      let (e, ce, ee) = Contains-from_map (λ e. e.plane) s.entries w.other c' in
       let same : w.other ≡ p = sym ee ∙ leaves_by p s h e ce in
       (w.h, w.is, subst (λ j. slice_get planes j ≡ Some w.h) same w.other_is.is)
 
@@ -205,10 +192,7 @@ module _ (planes : List V3) (linked : List ℕ) (r : Ring) (p : ℕ) (apart : Ar
   S s t = NextBy Kept g (vertex s) (vertex t)
 
   gg : pos 0 <ℤ dot g g
-  gg = size_positive g (λ e. let w = is.circle.vertices.each is.circle.first.vertex (in_map (λ s. s.vertex) stops is.circle.first (from_slice_get stops 0 is.circle.first is.circle.first_is)) in flat w.h w.other w.other_is w.different (ap (λ y. cross y w.h) e ∙ zero_cross w.h))
-    where
-      zero_cross : (h : V3) → cross origin h ≡ origin
-      zero_cross h = Rattle.staat_vec.proofs.VecRing.ring3 (Rattle.staat_vec.proofs.VecRing.values (h ∷ []) []) (Rattle.staat_vec.proofs.VecRing.crossE Rattle.staat_vec.proofs.VecRing.originE Rattle.staat_vec.proofs.VecRing.v0) Rattle.staat_vec.proofs.VecRing.originE (tt, tt, tt)
+  gg = some_square g (λ e. let w = is.circle.vertices.each is.circle.first.vertex (Contains-map (λ s. s.vertex) stops is.circle.first (from_place stops 0 is.circle.first is.circle.first_is)) in flat w.h w.other w.other_is w.different (ap (λ y. cross y w.h) e ∙ cross_origin w.h))
 
   both_stay : (a b : RingStop) → stays p a ≡ true → stays p b ≡ true → R a b → S a b
   both_stay a b ka kb h = record { after = h.2.after; none = λ x kx. h.2.none x (kept_whole x kx) }
@@ -229,20 +213,17 @@ module _ (planes : List V3) (linked : List ℕ) (r : Ring) (p : ℕ) (apart : Ar
       let (b, wb, pb) = on_line x h.1 kx in
       let e : b ≡ a = same_Some b a (sym pb ∙ pa) in
       let z = line_turn (primitive (cross g a)) (vertex u) (vertex x) wa (subst (λ y. (vertex x ≡ primitive (cross g y)) ⊎ (vertex x ≡ negative (primitive (cross g y)))) e wb) in
-      nothing (turn g (vertex u) (vertex x)) h.2.after z
-    where
-      nothing : (z : ℤ) → pos 0 <ℤ z → z ≡ pos 0 → ⊥
-      nothing z h q = omega (arith, ints)
+      positive_not_zero (turn g (vertex u) (vertex x)) h.2.after z
 
   around : Around R r.stops
   around k s t ks kt =
       let n = is.circle.turns k (stop_of planes c s) (stop_of planes c t) (stop_there planes r k s ks) (subst (λ m. slice_get stops ((k + 1) % m) ≡ Some (stop_of planes c t)) (sym (length-map r.stops (stop_of planes c))) (stop_there planes r ((k + 1) % length r.stops) t kt)) in (
-        from_slice_get r.stops k s ks,
-        from_slice_get r.stops ((k + 1) % length r.stops) t kt,
+        from_place r.stops k s ks,
+        from_place r.stops ((k + 1) % length r.stops) t kt,
         record {
           after = n.after;
           none = λ x wx a b.
-              let (q, cq, eq) = from_map (λ s. s.vertex) stops x (is.circle.vertices.all x wx) in
+              let (q, cq, eq) = Contains-from_map (λ s. s.vertex) stops x (is.circle.vertices.all x wx) in
               All-contains (λ y. Rattle.staat_model.specs.Circles.IsAfter g (vertex s) y.vertex → Rattle.staat_model.specs.Circles.IsAfter g y.vertex (vertex t) → ⊥) stops q n.nothing_between cq
               (subst (λ y. pos 0 <ℤ turn g (vertex s) y) (sym eq) a) (subst (λ y. pos 0 <ℤ turn g y (vertex t)) (sym eq) b);
         },

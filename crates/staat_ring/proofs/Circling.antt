@@ -5,7 +5,7 @@ use Rattle.std.specs.Ordering.{nat_cmp}
 use Rattle.std.proofs.lemmas.Int.{ints}
 use Rattle.std.proofs.lemmas.List.{get_or-map, get_or_default, length-map}
 use Rattle.std.proofs.lemmas.List.Elements.{All-contains, Contains-append_cases, Contains-append_left}
-use Rattle.std.proofs.lemmas.Option.{get_or_from_slice_get, slice_get_within}
+use Rattle.std.proofs.lemmas.Option.{get_or_from_slice_get, slice_get_within, slice_get-get_or}
 use Rattle.staat_vec.specs.declared.vector.V3.{V3}
 use Rattle.staat_vec.specs.declared.vector.Sign.TheVariants.{Pos, Zero}
 use Rattle.staat_vec.specs.Lists.{Lists}
@@ -13,7 +13,7 @@ use Rattle.staat_vec.specs.Primitives.{IsPrimitive, content, primitive}
 use Rattle.staat_vec.specs.Vectors.{cross, det, dot, negative, origin, sign}
 use Rattle.staat_vec.proofs.Canons.{negative-negative}
 use Rattle.staat_vec.proofs.Primitives.{primitive-is, primitive-negative}
-use Rattle.staat_vec.proofs.VecRing.{crossE, detE, dot_negative, dot_scale, negativeE, originE, ring3, v0, v1, values}
+use Rattle.staat_vec.proofs.VecRing.{crossE, detE, dot_negative, dot_scale, negativeE, ring3, v0, v1, values, dot_cross_left}
 use Rattle.staat_vec.proofs.Ring.{num, ring}
 use Rattle.staat_model.proofs.Members.{All-from_members}
 use Rattle.staat_model.specs.Circles.{IsLinked, IsOnCircle, PassesThrough, Stop, axis_beside}
@@ -23,14 +23,16 @@ use Rattle.staat_ring.specs.Order.{normal_at}
 use Rattle.staat_ring.specs.Rings.{IsRingOf, RingStop, crossing, stop_of, vertex_of}
 use Rattle.staat_ring.proofs.Turns.{IsHalf, Rises, whole_circle, turn}
 use Rattle.staat_ring.specs.Rings.{facet_by, plane_at}
-use Rattle.staat_ring.proofs.Mapped.{from_map}
 use Rattle.staat_ring.proofs.Around.{around_closed, at_contains}
 use Rattle.staat_ring.proofs.Content.{content_divides}
 use Rattle.staat_ring.proofs.Deciding.{order_is}
 use Rattle.staat_ring.proofs.Halves.{circle_from_half}
 use Rattle.staat_ring.proofs.Skipping.{same_ray}
-use Rattle.staat_ring.proofs.Steps.{negative_on, own_side, primitive_on, size_positive}
+use Rattle.staat_ring.proofs.Steps.{negative_on, primitive_on}
 use Rattle.staat_ring.proofs.Turning.{side_of_plane}
+use Rattle.staat_vec.proofs.Integers.{mul-zero_ℤ}
+use Rattle.staat_vec.proofs.ListLaws.{map_twice, Contains-from_map}
+use Rattle.staat_vec.proofs.VectorLaws.{cross_origin, det_same, some_square}
 
 -- ---- numbers and lists
 
@@ -52,11 +54,6 @@ zero_by (negsuc n) b e h = absurd (off (e ∙ ap sign h))
     off : Rattle.staat_vec.specs.declared.vector.Sign.TheVariants.Neg ≡ Zero → ⊥
     off q = cc
 
-pub got : {X : Type 0} (xs : List X) (i : ℕ) (d : X) → i < length xs → slice_get xs i ≡ Some (get_or xs i d)
-got [] i d lt = absurd (omega arith)
-got (x ∷ xs) zero d lt = refl
-got (x ∷ xs) (suc i) d lt = got xs i d (omega arith)
-
 pub maps_agree : {X Y Z : Type 0} (f : X → Z) (h : Y → Z) (dx : X) (dy : Y) (xs : List X) (ys : List Y) → length xs ≡ length ys → ((k : ℕ) → k < length ys → f (get_or xs k dx) ≡ h (get_or ys k dy)) → map f xs ≡ map h ys
 maps_agree f h dx dy [] [] e all = refl
 maps_agree f h dx dy [] (y ∷ ys) e all = absurd (omega arith)
@@ -67,10 +64,6 @@ maps_append : {X Z : Type 0} (f : X → Z) (xs ys : List X) → map f (xs ++ ys)
 maps_append f [] ys = refl
 maps_append f (x ∷ xs) ys = ap (λ zs. f x ∷ zs) (maps_append f xs ys)
 
-maps_twice : {X Y Z : Type 0} (f : Y → Z) (h : X → Y) (xs : List X) → map f (map h xs) ≡ map (λ x. f (h x)) xs
-maps_twice f h [] = refl
-maps_twice f h (x ∷ xs) = ap (λ zs. f (h x) ∷ zs) (maps_twice f h xs)
-
 planes_stay : (es : List Entry) → map (λ e. e.plane) (map opposite es) ≡ map (λ e. e.plane) es
 planes_stay [] = refl
 planes_stay (e ∷ es) = ap (λ zs. e.plane ∷ zs) (planes_stay es)
@@ -79,12 +72,6 @@ planes_stay (e ∷ es) = ap (λ zs. e.plane ∷ zs) (planes_stay es)
 
 pub cross_negative : (g h : V3) → cross g (negative h) ≡ negative (cross g h)
 cross_negative g h = ring3 (values (g ∷ h ∷ []) []) (crossE v0 (negativeE v1)) (negativeE (crossE v0 v1)) (tt, tt, tt)
-
-pub zero_cross : (h : V3) → cross origin h ≡ origin
-zero_cross h = ring3 (values (h ∷ []) []) (crossE originE v0) originE (tt, tt, tt)
-
-det_flat : (g h : V3) → det g h h ≡ pos 0
-det_flat g h = ring (values (g ∷ h ∷ []) []) (detE v0 v1 v1) (num (pos 0)) tt
 
 det_flat_negative : (g h : V3) → det g (negative h) h ≡ pos 0
 det_flat_negative g h = ring (values (g ∷ h ∷ []) []) (detE v0 (negativeE v1) v1) (num (pos 0)) tt
@@ -113,13 +100,13 @@ module _ (planes : List V3) (linked : List ℕ) (c : ℕ) (g axis : V3) (half : 
   link j h e = record { listed = whole j (slice_get_within planes j h e); is = e }
 
   from_flat : (m : V3) → IsFromPlane planes c m → cross g m ≢ origin
-  from_flat m f = subst (λ x. cross g x ≢ origin) (sym f.is) (not_flat g (plane_at planes f.number) f.turned (apart c f.number g (plane_at planes f.number) gi (got planes f.number origin f.within) (λ q. f.different (sym q))))
+  from_flat m f = subst (λ x. cross g x ≢ origin) (sym f.is) (not_flat g (plane_at planes f.number) f.turned (apart c f.number g (plane_at planes f.number) gi (slice_get-get_or planes f.number origin f.within) (λ q. f.different (sym q))))
 
   flat_at : (k : ℕ) → k < length half → cross g (normal_at half k) ≢ origin
   flat_at k lt = from_flat (normal_at half k) (is.each k lt)
 
   gg : pos 0 <ℤ dot g g
-  gg = size_positive g (λ e. flat_at 0 (let t = is.two in omega arith) (ap (λ y. cross y (normal_at half 0)) e ∙ zero_cross (normal_at half 0)))
+  gg = some_square g (λ e. flat_at 0 (let t = is.two in omega arith) (ap (λ y. cross y (normal_at half 0)) e ∙ cross_origin (normal_at half 0)))
 
   abbrev vertices : List V3
   vertices = map (ray g) half
@@ -143,10 +130,10 @@ module _ (planes : List V3) (linked : List ℕ) (c : ℕ) (g axis : V3) (half : 
   on_circle : (k : ℕ) → k < length half → IsOnCircle planes linked c g (ray g (normal_at half k))
   on_circle k lt =
       let f = is.each k lt in
-      record { other = f.number; h = plane_at planes f.number; other_is = link f.number (plane_at planes f.number) (got planes f.number origin f.within); different = f.different; is = way (normal_at half k) (plane_at planes f.number) f.turned f.is }
+      record { other = f.number; h = plane_at planes f.number; other_is = link f.number (plane_at planes f.number) (slice_get-get_or planes f.number origin f.within); different = f.different; is = way (normal_at half k) (plane_at planes f.number) f.turned f.is }
 
   on : (m : V3) → cross g m ≢ origin → dot g (ray g m) ≡ pos 0
-  on m some = primitive_on g (cross g m) (own_side g m) some
+  on m some = primitive_on g (cross g m) (dot_cross_left g m) some
 
   is_primitive : (m : V3) → cross g m ≢ origin → IsPrimitive (ray g m)
   is_primitive m some = (primitive-is (cross g m) some).primitive
@@ -186,7 +173,7 @@ module _ (planes : List V3) (linked : List ℕ) (c : ℕ) (g axis : V3) (half : 
     named m f [] t = absurd (none (t.listed.all f.number (f.within, f.different, flat f.turned f.is)))
       where
         flat : (b : Bool) → m ≡ facet_by b (plane_at planes f.number) → det g m (plane_at planes f.number) ≡ pos 0
-        flat false e = ap (λ x. det g x (plane_at planes f.number)) e ∙ det_flat g (plane_at planes f.number)
+        flat false e = ap (λ x. det g x (plane_at planes f.number)) e ∙ det_same g (plane_at planes f.number)
         flat true e = ap (λ x. det g x (plane_at planes f.number)) e ∙ det_flat_negative g (plane_at planes f.number)
 
         none : Contains [] f.number → ⊥
@@ -220,16 +207,13 @@ module _ (planes : List V3) (linked : List ℕ) (c : ℕ) (g axis : V3) (half : 
         first = maps_agree vertex (ray g) [] origin slots half filled.size named_at
 
         second : map vertex (map (λ es. map opposite es) slots) ≡ map negative vertices
-        second = maps_twice vertex (λ es. map opposite es) slots ∙ (maps_agree (λ es. vertex (map opposite es)) (λ m. negative (ray g m)) [] origin slots half filled.size turned_at ∙ sym (maps_twice negative (ray g) half))
+        second = map_twice vertex (λ es. map opposite es) slots ∙ (maps_agree (λ es. vertex (map opposite es)) (λ m. negative (ray g m)) [] origin slots half filled.size turned_at ∙ sym (map_twice negative (ray g) half))
 
     -- the planes through a vertex and its negative
     flat_of : (m h : V3) → cross g m ≢ origin → dot h (ray g m) ≡ pos 0 → det g m h ≡ pos 0
     flat_of m h some z =
         let q = (content_divides (cross g m) some).1 in
-        sym (side_of_plane g m h) ∙ (ap (dot h) q ∙ (dot_scale (pos (content (cross g m))) h (ray g m) ∙ (ap (λ x. pos (content (cross g m)) *ℤ x) z ∙ right (pos (content (cross g m))))))
-      where
-        right : (a : ℤ) → a *ℤ pos 0 ≡ pos 0
-        right a = omega (arith, ints)
+        sym (side_of_plane g m h) ∙ (ap (dot h) q ∙ (dot_scale (pos (content (cross g m))) h (ray g m) ∙ (ap (λ x. pos (content (cross g m)) *ℤ x) z ∙ mul-zero_ℤ (pos (content (cross g m))))))
 
     un_negative : (h v : V3) → dot h (negative v) ≡ pos 0 → dot h v ≡ pos 0
     un_negative h v e = back (dot h v) (sym (dot_negative h v) ∙ e)
@@ -248,7 +232,7 @@ module _ (planes : List V3) (linked : List ℕ) (c : ℕ) (g axis : V3) (half : 
               let z = primitive_on (plane_at planes j) (cross g m) (side_of_plane g m (plane_at planes j) ∙ x.2) some in
               record {
                 h = plane_at planes j;
-                linked_is = link j (plane_at planes j) (got planes j origin x.0);
+                linked_is = link j (plane_at planes j) (slice_get-get_or planes j origin x.0);
                 different = x.1;
                 on = ⊎_elim {C = dot (plane_at planes j) v ≡ pos 0} (λ e. ap (dot (plane_at planes j)) e ∙ z) (λ e. ap (dot (plane_at planes j)) e ∙ negative_on (plane_at planes j) (ray g m) z) q;
               };
@@ -272,7 +256,7 @@ module _ (planes : List V3) (linked : List ℕ) (c : ℕ) (g axis : V3) (half : 
     of : (es : List Entry) → Contains (all_around slots) es → IsOf es
     of es ce = ⊎_elim {C = IsOf es}
         (λ a. let r = placed es a in record { place = r.0; near = r.1; same = inl r.2 })
-        (λ b. let (x, cx, ex) = from_map (λ es. map opposite es) slots es b in let r = placed x cx in record { place = r.0; near = r.1; same = inr (sym ex ∙ ap (λ es. map opposite es) r.2) })
+        (λ b. let (x, cx, ex) = Contains-from_map (λ es. map opposite es) slots es b in let r = placed x cx in record { place = r.0; near = r.1; same = inr (sym ex ∙ ap (λ es. map opposite es) r.2) })
         (Contains-append_cases slots (map (λ es. map opposite es) slots) es ce)
 
     through_of : (es : List Entry) → IsOf es → Lists nat_cmp (PassesThrough planes linked c (vertex es)) (map (λ e. e.plane) es)
@@ -284,7 +268,7 @@ module _ (planes : List V3) (linked : List ℕ) (c : ℕ) (g axis : V3) (half : 
     agree_of : (es : List Entry) → IsOf es → (x : Entry) → Contains es x → crossing planes c x ≡ vertex es
     agree_of es o x cx = ⊎_elim {C = crossing planes c x ≡ vertex es}
         (λ e. ways x (subst (λ (xs : List Entry). Contains xs x) e cx) ∙ sym (ap vertex e ∙ named_at o.place o.near))
-        (λ e. let (y, cy, ey) = from_map opposite (slot_at slots o.place) x (subst (λ (xs : List Entry). Contains xs x) e cx) in
+        (λ e. let (y, cy, ey) = Contains-from_map opposite (slot_at slots o.place) x (subst (λ (xs : List Entry). Contains xs x) e cx) in
         ap (crossing planes c) (sym ey) ∙ (crossing_opposite planes c y ∙ (ap negative (ways y cy) ∙ sym (ap vertex e ∙ turned_at o.place o.near))))
         o.same
       where
@@ -298,11 +282,11 @@ module _ (planes : List V3) (linked : List ℕ) (c : ℕ) (g axis : V3) (half : 
     ring_is = record {
       circle = circle_from_half planes linked c g axis vertices (map (stop_of planes c) stops) (link c g gi) (link (axis_beside c) axis ai) half_is vertices_are
           (All-from_members (λ s. Lists nat_cmp (PassesThrough planes linked c s.vertex) s.through) (map (stop_of planes c) stops) (λ x cx.
-          let (s, cs, es) = from_map (stop_of planes c) stops x cx in
-          let (l, cl, el) = from_map as_stop (all_around slots) s cs in
+          let (s, cs, es) = Contains-from_map (stop_of planes c) stops x cx in
+          let (l, cl, el) = Contains-from_map as_stop (all_around slots) s cs in
           subst (λ (y : Stop). Lists nat_cmp (PassesThrough planes linked c y.vertex) y.through) (ap (stop_of planes c) el ∙ es) (through_of l (of l cl))));
       agree = All-from_members (λ s. All (λ e. crossing planes c e ≡ vertex_of planes c s.entries) s.entries) stops (λ s cs.
-          let (l, cl, el) = from_map as_stop (all_around slots) s cs in
+          let (l, cl, el) = Contains-from_map as_stop (all_around slots) s cs in
           subst (λ (y : RingStop). All (λ e. crossing planes c e ≡ vertex_of planes c y.entries) y.entries) el
           (All-from_members (λ e. crossing planes c e ≡ vertex l) l (agree_of l (of l cl))));
     }

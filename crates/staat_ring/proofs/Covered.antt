@@ -3,7 +3,7 @@ use Rattle.std.proofs.Common.{◌≡◌, ◌≢◌, ◌⊎◌, inl, inr, ℕ, Bo
 use Rattle.std.specs.Prelude.{Some, map, slice_get}
 use Rattle.std.proofs.lemmas.Int.{ints}
 use Rattle.std.proofs.lemmas.List.Elements.{All-contains}
-use Rattle.std.proofs.lemmas.Option.{get_or_from_slice_get, slice_get-get_or}
+use Rattle.std.proofs.lemmas.Option.{get_or_from_slice_get}
 use Rattle.staat_vec.specs.declared.vector.V3.{V3}
 use Rattle.staat_vec.specs.Primitives.{primitive}
 use Rattle.staat_vec.specs.Vectors.{cross, dot, negative, origin}
@@ -14,8 +14,8 @@ use Rattle.staat_ring.specs.declared.entry.Entry.{Entry}
 use Rattle.staat_ring.specs.Rings.{IsRingOf, Ring, RingStop, crossing, stop_of, vertex_of}
 use Rattle.staat_ring.proofs.Stops.{AreLinkedApart}
 use Rattle.staat_ring.specs.Rings.{facet_by, plane_at}
-use Rattle.staat_ring.proofs.Mapped.{in_map, from_map}
 use Rattle.staat_ring.proofs.Steps.{negative_on, primitive_on}
+use Rattle.staat_vec.proofs.ListLaws.{place_of, Contains-map, Contains-from_map}
 
 self_negative : (a : ℤ) → a ≡ neg_ℤ a → a ≡ pos 0
 self_negative a h = omega (arith, ints)
@@ -36,9 +36,6 @@ pub record IsEntryAt (planes : List V3) (c : ℕ) (stops : List RingStop) (e : E
   pub listed : Contains stop.entries e
   pub vertex : vertex_of planes c stop.entries ≡ crossing planes c e
 
-pub place_of : {X : Type 0} (xs : List X) (x : X) → Contains xs x → (k : ℕ) × (slice_get xs k ≡ Some x)
-place_of xs x (k, lt, e) = (k, slice_get-get_or xs k x lt ∙ ap (λ y. Some y) e)
-
 module _ (planes : List V3) (linked : List ℕ) (r : Ring) (apart : AreLinkedApart planes linked) (is : IsRingOf planes linked r) where
   -- the vertex of a stop is that of each of its entries
   pub entry_vertex : (s : RingStop) (e : Entry) → Contains r.stops s → Contains s.entries e → crossing planes r.plane e ≡ vertex_of planes r.plane s.entries
@@ -48,12 +45,12 @@ module _ (planes : List V3) (linked : List ℕ) (r : Ring) (apart : AreLinkedApa
   entry_there e h hi ne =
       let v : V3 = crossing planes r.plane e in
       let on = is.circle.vertices.all v (record { other = e.plane; h = h; other_is = hi; different = ne; is = way e.turned }) in
-      let (S, cS, eS) = from_map (λ s. s.vertex) (map (stop_of planes r.plane) r.stops) v on in
-      let (s, cs, es) = from_map (stop_of planes r.plane) r.stops S cS in
+      let (S, cS, eS) = Contains-from_map (λ s. s.vertex) (map (stop_of planes r.plane) r.stops) v on in
+      let (s, cs, es) = Contains-from_map (stop_of planes r.plane) r.stops S cS in
       let vs : vertex_of planes r.plane s.entries ≡ v = ap (λ x. x.vertex) es ∙ eS in
-      let pass = All-contains (λ s. Rattle.staat_vec.specs.Lists.Lists Rattle.std.specs.Ordering.nat_cmp (PassesThrough planes linked r.plane s.vertex) s.through) (map (stop_of planes r.plane) r.stops) (stop_of planes r.plane s) is.circle.through (in_map (stop_of planes r.plane) r.stops s cs) in
+      let pass = All-contains (λ s. Rattle.staat_vec.specs.Lists.Lists Rattle.std.specs.Ordering.nat_cmp (PassesThrough planes linked r.plane s.vertex) s.through) (map (stop_of planes r.plane) r.stops) (stop_of planes r.plane s) is.circle.through (Contains-map (stop_of planes r.plane) r.stops s cs) in
       let c = pass.all e.plane (record { h = h; linked_is = hi; different = ne; on = ap (dot h) vs ∙ zero e.turned }) in
-      let (x, cx, ex) = from_map (λ e. e.plane) s.entries e.plane c in
+      let (x, cx, ex) = Contains-from_map (λ e. e.plane) s.entries e.plane c in
       let same : facet_by x.turned u ≡ facet_by e.turned u = sym (ap (λ k. facet_by x.turned (primitive (cross (plane_at planes r.plane) (plane_at planes k)))) ex) ∙ (entry_vertex s x cs cx ∙ vs) in
       let t : x.turned ≡ e.turned = one_way u some_u x.turned e.turned same in
       let q : x ≡ e = λ i. record { plane = ex i; turned = t i } in

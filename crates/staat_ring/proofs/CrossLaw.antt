@@ -1,5 +1,5 @@
 -- From one stop to the next, the signs of the planes through the two are all that changes.
-use Rattle.std.proofs.Common.{◌≡◌, ◌≢◌, ◌⊎◌, inl, inr, ⊎_elim, ℕ, zero, suc, ◌+◌, ◌%◌, ◌<◌, Bool, true, false, arith, ap, sym, subst, ◌∙◌, refl, List, [], ◌∷◌, length, All, Contains, ℤ, pos, negsuc, ◌<ℤ◌}
+use Rattle.std.proofs.Common.{◌≡◌, ◌≢◌, ⊎_elim, ℕ, zero, suc, ◌+◌, ◌%◌, ◌<◌, Bool, true, false, arith, ap, sym, subst, ◌∙◌, refl, List, length, All, Contains, ℤ, pos, negsuc, ◌<ℤ◌}
 use Rattle.std.specs.Prelude.{Some, map, slice_get}
 use Rattle.std.proofs.lemmas.Int.{ints}
 use Rattle.std.proofs.lemmas.List.{length-map}
@@ -9,10 +9,7 @@ use Rattle.staat_vec.specs.declared.vector.V3.{V3}
 use Rattle.staat_vec.specs.declared.vector.Sign.TheVariants.{Neg, Zero, Pos}
 use Rattle.staat_vec.specs.Primitives.{primitive}
 use Rattle.staat_vec.specs.Vectors.{cross, dot, origin, sign}
-use Rattle.staat_vec.proofs.Unique.{Contains-cases, Contains-front, Contains-later, Contains-nothing}
-use Rattle.staat_graph.proofs.Finite.{same_or}
 use Rattle.staat_model.specs.Circles.{IsCircle, IsLinked, IsNext, IsOnCircle, Stop}
-use Rattle.staat_model.proofs.GraphLemmas.{from_slice_get}
 use Rattle.staat_ring.specs.declared.entry.Entry.{Entry}
 use Rattle.staat_ring.specs.Marks.{mark_of, marked}
 use Rattle.staat_ring.specs.Rings.{IsRingOf, Ring, RingStop, crossing, stop_of, vertex_of}
@@ -22,17 +19,14 @@ use Rattle.staat_ring.proofs.Stops.{AreLinkedApart, stop_there}
 use Rattle.staat_ring.proofs.Turns.{turn}
 use Rattle.staat_ring.specs.Belonging.{HoldSigns}
 use Rattle.staat_ring.specs.Rings.{facet_by, plane_at}
-use Rattle.staat_ring.proofs.Mapped.{in_map, from_map}
 use Rattle.staat_ring.proofs.Leaving.{leaves_negative, leaves_positive}
 use Rattle.staat_ring.proofs.Marking.{marked_other, marked_same, marked_there}
 use Rattle.staat_ring.proofs.StepLaw.{step_signs}
-use Rattle.staat_ring.proofs.Steps.{on_plane, size_positive}
-
-pub contains_or : (xs : List ℕ) (j : ℕ) → Contains xs j ⊎ (Contains xs j → ⊥)
-contains_or [] j = inr (λ c. Contains-nothing j c)
-contains_or (x ∷ xs) j = ⊎_elim {C = Contains (x ∷ xs) j ⊎ (Contains (x ∷ xs) j → ⊥)} (λ e. inl (subst (Contains (x ∷ xs)) e (Contains-front x xs)))
-    (λ ne. ⊎_elim {C = Contains (x ∷ xs) j ⊎ (Contains (x ∷ xs) j → ⊥)} (λ c. inl (Contains-later x xs j c)) (λ none. inr (λ c. ⊎_elim (λ e. ne (sym e)) none (Contains-cases x xs j c))) (contains_or xs j))
-    (same_or x j)
+use Rattle.staat_ring.proofs.Steps.{on_plane}
+use Rattle.staat_vec.proofs.VectorLaws.{cross_origin, some_square}
+use Rattle.staat_vec.proofs.ListLaws.{contains_or, Contains-map, Contains-from_map}
+use Rattle.staat_vec.proofs.Naturals.{same_or}
+use Rattle.staat_vec.proofs.Unique.{from_place}
 
 neg_sign : (z : ℤ) → z <ℤ pos 0 → Neg ≡ sign z
 neg_sign (pos n) h = absurd (omega (arith, ints))
@@ -56,7 +50,7 @@ module _ (planes : List V3) (linked : List ℕ) (r : Ring) (apart : AreLinkedApa
   pub on_it : (k : ℕ) (s : RingStop) → slice_get r.stops k ≡ Some s → dot g (vertex_of planes c s.entries) ≡ pos 0
   on_it k s e =
       let v : V3 = vertex_of planes c s.entries in
-      on_plane planes linked c g v apart is.circle.g_is (is.circle.vertices.each v (in_map (λ s. s.vertex) stops (stop_of planes c s) (from_slice_get stops k (stop_of planes c s) (stop_there planes r k s e))))
+      on_plane planes linked c g v apart is.circle.g_is (is.circle.vertices.each v (Contains-map (λ s. s.vertex) stops (stop_of planes c s) (from_place stops k (stop_of planes c s) (stop_there planes r k s e))))
 
   -- where an entry leads from its stop
   leads : (s t : RingStop) (k m : ℕ) → slice_get r.stops k ≡ Some s → slice_get r.stops m ≡ Some t → IsNext g stops (vertex_of planes c s.entries) (vertex_of planes c t.entries)
@@ -70,10 +64,7 @@ module _ (planes : List V3) (linked : List ℕ) (r : Ring) (apart : AreLinkedApa
       some = apart.apart c e.plane g h is.circle.g_is hi (λ q. ne (sym q))
 
       some_g : g ≢ origin
-      some_g q = some (ap (λ x. cross x h) q ∙ zero_cross h)
-        where
-          zero_cross : (h : V3) → cross origin h ≡ origin
-          zero_cross h = Rattle.staat_vec.proofs.VecRing.ring3 (Rattle.staat_vec.proofs.VecRing.values (h ∷ []) []) (Rattle.staat_vec.proofs.VecRing.crossE Rattle.staat_vec.proofs.VecRing.originE Rattle.staat_vec.proofs.VecRing.v0) Rattle.staat_vec.proofs.VecRing.originE (tt, tt, tt)
+      some_g q = some (ap (λ x. cross x h) q ∙ cross_origin h)
 
       normal_is : plane_at planes c ≡ g
       normal_is = get_or_from_slice_get planes c g origin is.circle.g_is.is
@@ -82,7 +73,7 @@ module _ (planes : List V3) (linked : List ℕ) (r : Ring) (apart : AreLinkedApa
       other_is = get_or_from_slice_get planes e.plane h origin hi.is
 
       agree : crossing planes c e ≡ vertex_of planes c s.entries
-      agree = All-contains (λ e. crossing planes c e ≡ vertex_of planes c s.entries) s.entries e (All-contains (λ s. All (λ e. crossing planes c e ≡ vertex_of planes c s.entries) s.entries) r.stops s is.agree (from_slice_get r.stops k s ks)) ce
+      agree = All-contains (λ e. crossing planes c e ≡ vertex_of planes c s.entries) s.entries e (All-contains (λ s. All (λ e. crossing planes c e ≡ vertex_of planes c s.entries) s.entries) r.stops s is.agree (from_place r.stops k s ks)) ce
 
       at : (b : Bool) → e.turned ≡ b → vertex_of planes c s.entries ≡ facet_by b (primitive (cross g h))
       at b q = sym agree ∙ ((λ i. facet_by (q i) (primitive (cross (normal_is i) (other_is i)))))
@@ -91,8 +82,8 @@ module _ (planes : List V3) (linked : List ℕ) (r : Ring) (apart : AreLinkedApa
       ahead b q = subst (λ v. pos 0 <ℤ turn g v w) (at b q) n.after
 
       by : (b : Bool) → e.turned ≡ b → mark_of true e.turned ≡ sign (dot h w)
-      by false q = ap (mark_of true) q ∙ neg_sign (dot h w) (leaves_negative g h w (size_positive g some_g) (on_it m t kt) some (ahead false q))
-      by true q = ap (mark_of true) q ∙ pos_sign (dot h w) (leaves_positive g h w (size_positive g some_g) (on_it m t kt) some (ahead true q))
+      by false q = ap (mark_of true) q ∙ neg_sign (dot h w) (leaves_negative g h w (some_square g some_g) (on_it m t kt) some (ahead false q))
+      by true q = ap (mark_of true) q ∙ pos_sign (dot h w) (leaves_positive g h w (some_square g some_g) (on_it m t kt) some (ahead true q))
 
   module _ (s t : RingStop) (k : ℕ) (ks : slice_get r.stops k ≡ Some s) (kt : slice_get r.stops ((k + 1) % length r.stops) ≡ Some t) where
     abbrev S : Stop
@@ -109,14 +100,14 @@ module _ (planes : List V3) (linked : List ℕ) (r : Ring) (apart : AreLinkedApa
 
     step : StepSigns planes linked c S T
     step =
-        let cs = from_slice_get stops k S (stop_there planes r k s ks) in
-        let ct = from_slice_get stops ((k + 1) % length stops) T next_at in
-        step_signs planes linked c stops S T g apart is.circle is.circle.g_is refl cs ct (in_map (λ s. s.vertex) stops S cs) (in_map (λ s. s.vertex) stops T ct) next
+        let cs = from_place stops k S (stop_there planes r k s ks) in
+        let ct = from_place stops ((k + 1) % length stops) T next_at in
+        step_signs planes linked c stops S T g apart is.circle is.circle.g_is refl cs ct (Contains-map (λ s. s.vertex) stops S cs) (Contains-map (λ s. s.vertex) stops T ct) next
 
     other_planes : (q : RingStop) (m : ℕ) → slice_get r.stops m ≡ Some q → (e : Entry) → Contains q.entries e → e.plane ≢ c
     other_planes q m at e ce =
-        let pass = All-contains (λ s. Rattle.staat_vec.specs.Lists.Lists Rattle.std.specs.Ordering.nat_cmp (Rattle.staat_model.specs.Circles.PassesThrough planes linked c s.vertex) s.through) stops (stop_of planes c q) is.circle.through (from_slice_get stops m (stop_of planes c q) (stop_there planes r m q at)) in
-        (pass.each e.plane (in_map (λ e. e.plane) q.entries e ce)).different
+        let pass = All-contains (λ s. Rattle.staat_vec.specs.Lists.Lists Rattle.std.specs.Ordering.nat_cmp (Rattle.staat_model.specs.Circles.PassesThrough planes linked c s.vertex) s.through) stops (stop_of planes c q) is.circle.through (from_place stops m (stop_of planes c q) (stop_there planes r m q at)) in
+        (pass.each e.plane (Contains-map (λ e. e.plane) q.entries e ce)).different
 
     -- the marks of the stop left and then of the stop reached give the signs there
     pub cross_signs : (now : Signed) → length now.sides ≡ length planes → HoldSigns planes linked now S.vertex → HoldSigns planes linked (marked false t.entries (marked true s.entries now)) T.vertex
@@ -136,21 +127,21 @@ module _ (planes : List V3) (linked : List ℕ) (r : Ring) (apart : AreLinkedApa
 
         reached : Contains T.through j → (side_at after.sides j).sign ≡ sign (dot h T.vertex)
         reached cj =
-            let m = from_map (λ e. e.plane) t.entries j cj in
+            let m = Contains-from_map (λ e. e.plane) t.entries j cj in
             marked_there false t.entries between j Zero lt_between (λ e ce q. refl) m.0 m.1 m.2 ∙ sym (step.reached j h hi cj)
 
         not_reached : (Contains T.through j → ⊥) → (side_at after.sides j).sign ≡ (side_at between.sides j).sign
-        not_reached none = marked_other false t.entries between j (λ e ce q. none (subst (Contains T.through) q (in_map (λ e. e.plane) t.entries e ce)))
+        not_reached none = marked_other false t.entries between j (λ e ce q. none (subst (Contains T.through) q (Contains-map (λ e. e.plane) t.entries e ce)))
 
         left : (Contains T.through j → ⊥) → Contains S.through j → (side_at after.sides j).sign ≡ sign (dot h T.vertex)
         left none cj =
-            let m = from_map (λ e. e.plane) s.entries j cj in
+            let m = Contains-from_map (λ e. e.plane) s.entries j cj in
             not_reached none ∙ marked_there true s.entries now j (sign (dot h T.vertex)) lt
             (λ e ce q. leads s t k ((k + 1) % length r.stops) ks kt next h e ce (subst (λ i. IsLinked planes linked i h) (sym q) hi) (other_planes s k ks e ce)) m.0 m.1 m.2
 
         neither : (Contains T.through j → ⊥) → (Contains S.through j → ⊥) → (side_at after.sides j).sign ≡ sign (dot h T.vertex)
         neither nt ns =
-            not_reached nt ∙ (marked_other true s.entries now j (λ e ce q. ns (subst (Contains S.through) q (in_map (λ e. e.plane) s.entries e ce)))
+            not_reached nt ∙ (marked_other true s.entries now j (λ e ce q. ns (subst (Contains S.through) q (Contains-map (λ e. e.plane) s.entries e ce)))
             ∙ (holds j h hi ∙ ⊎_elim {C = sign (dot h S.vertex) ≡ sign (dot h T.vertex)}
             (λ e.
             let same : h ≡ g = same_Some h g (sym hi.is ∙ (ap (slice_get planes) e ∙ is.circle.g_is.is)) in

@@ -2,7 +2,6 @@
 use Rattle.std.proofs.Common.{◌≡◌, ◌≢◌, ℕ, ◌+◌, ◌%◌, ◌<◌, ◌≤◌, ap, sym, subst, ◌∙◌, List, length, All, true, false}
 use Rattle.std.specs.Prelude.{Some, slice_get}
 use Rattle.staat_vec.specs.declared.vector.V3.{V3}
-use Rattle.staat_model.proofs.GraphLemmas.{from_slice_get}
 use Rattle.staat_pairs.specs.Tables.{IsTable, Table}
 use Rattle.staat_ring.specs.declared.entry.Entry.{Entry}
 use Rattle.staat_ring.specs.Marks.{marked}
@@ -13,6 +12,7 @@ use Rattle.staat_ring.specs.Walked.{IsEntered, Walked}
 use Rattle.staat_ring.specs.Belonging.{BelongTo, HoldSigns}
 use Rattle.staat_ring.proofs.Marking.{belong_same, marked_same}
 use Rattle.staat_ring.proofs.StopLemmas.{circle_small, entry_other, entry_small, few, next_at, next_signs, some, vertex_first}
+use Rattle.staat_vec.proofs.Unique.{from_place}
 
 module _ (t : Table) (rules : IsTable t) (rings : List Ring) (out : List ℕ) (are : AreRings t.planes rings out) (now w : Walked) (view : w ≡ now) (made : BelongTo t now.signs) (entered : IsEntered t.planes rings now) where
   made_here : BelongTo t w.signs
@@ -66,10 +66,10 @@ module _ (t : Table) (rules : IsTable t) (rings : List Ring) (out : List ℕ) (a
       entry_there = first ((w.place + 1) % length here.at.ring.stops) reached reached_at reached_node
 
       pub entry_is_small : entry.plane < length t.planes
-      entry_is_small = entry_small t.planes rings out rules.planes are w.circle ((w.place + 1) % length here.at.ring.stops) reached reached_at entry (from_slice_get reached.entries 0 entry entry_there)
+      entry_is_small = entry_small t.planes rings out rules.planes are w.circle ((w.place + 1) % length here.at.ring.stops) reached reached_at entry (from_place reached.entries 0 entry entry_there)
 
       pub entry_is_other : entry.plane ≢ w.circle
-      entry_is_other = entry_other t.planes rings out rules.planes are w.circle ((w.place + 1) % length here.at.ring.stops) reached reached_at entry (from_slice_get reached.entries 0 entry entry_there)
+      entry_is_other = entry_other t.planes rings out rules.planes are w.circle ((w.place + 1) % length here.at.ring.stops) reached reached_at entry (from_place reached.entries 0 entry entry_there)
 
       module _ (end : Signed) (right : (m : ℕ) (q : RingStop) → IsStopAt rings w.circle m q → q.node ≡ node → end ≡ marked false q.entries mid) (stand : V3) (stand_is : stand ≡ crossing t.planes w.circle entry) (crossed : ℕ) where
         end_is : end ≡ marked false reached.entries (marked true here.stop.entries w.signs)

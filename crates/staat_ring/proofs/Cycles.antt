@@ -4,7 +4,7 @@ use Rattle.std.specs.Prelude.{Some, slice_get}
 use Rattle.std.specs.List.{filter}
 use Rattle.std.proofs.Math.Nat.{mod_self, mod-eq_of_lt}
 use Rattle.std.proofs.lemmas.Option.{same_Some, slice_get_within}
-use Rattle.staat_ring.proofs.Mapped.{same_or}
+use Rattle.staat_vec.proofs.Naturals.{same_or}
 
 -- R holds from a to the first, from each to the next, and from the last to b
 abbrev pub Linked : {A : Type 0} → (A → A → Type 0) → A → List A → A → Type 0

@@ -5,7 +5,6 @@ use Rattle.std.proofs.lemmas.List.{length-map}
 use Rattle.std.proofs.lemmas.Option.{slice_get-get_or, slice_get_within}
 use Rattle.std.proofs.lemmas.List.Elements.{All-contains}
 use Rattle.staat_vec.specs.declared.vector.V3.{V3}
-use Rattle.staat_model.proofs.GraphLemmas.{from_slice_get}
 use Rattle.staat_pairs.specs.Tables.{IsTable, Table}
 use Rattle.staat_ring.specs.declared.entry.Entry.{Entry}
 use Rattle.staat_ring.specs.Places.{HasNode, IsStopAt}
@@ -13,12 +12,13 @@ use Rattle.staat_ring.specs.Rings.{AreRings, IsRingOf, Ring, RingStop, crossing,
 use Rattle.staat_ring.specs.Signs.{Signed}
 use Rattle.staat_ring.specs.Walked.{IsEntered}
 use Rattle.staat_ring.specs.Belonging.{HoldSigns}
-use Rattle.staat_ring.proofs.Mapped.{from_map}
 use Rattle.staat_ring.proofs.StopLemmas.{circle_small, entry_other, entry_small, some, vertex_first}
+use Rattle.staat_vec.proofs.Unique.{from_place}
+use Rattle.staat_vec.proofs.ListLaws.{Contains-from_map}
 
 module _ (t : Table) (rules : IsTable t) (rings : List Ring) (out : List ℕ) (are : AreRings t.planes rings out) (c : ℕ) (linked : Contains (linked_of rings) c) where
   ring_at : (r : Ring) × Contains rings r × (r.plane ≡ c)
-  ring_at = from_map (λ r. r.plane) rings c linked
+  ring_at = Contains-from_map (λ r. r.plane) rings c linked
 
   abbrev first_at : (s : RingStop) × IsStopAt rings c 0 s
   first_at =
@@ -42,10 +42,10 @@ module _ (t : Table) (rules : IsTable t) (rings : List Ring) (out : List ℕ) (a
       entry_is = there 0 first_at.0 first_at.1 (sym (first first_at.0 first_at.1))
 
       pub first_entry_small : entry.plane < length t.planes
-      first_entry_small = entry_small t.planes rings out rules.planes are c 0 first_at.0 first_at.1 entry (from_slice_get first_at.0.entries 0 entry entry_is)
+      first_entry_small = entry_small t.planes rings out rules.planes are c 0 first_at.0 first_at.1 entry (from_place first_at.0.entries 0 entry entry_is)
 
       pub first_entry_other : entry.plane ≢ c
-      first_entry_other = entry_other t.planes rings out rules.planes are c 0 first_at.0 first_at.1 entry (from_slice_get first_at.0.entries 0 entry entry_is)
+      first_entry_other = entry_other t.planes rings out rules.planes are c 0 first_at.0 first_at.1 entry (from_place first_at.0.entries 0 entry entry_is)
 
       pub entered_first : (signs : Signed) (v d : V3) (crossed : ℕ) → v ≡ crossing t.planes c entry → d ≡ v → HoldSigns t.planes (linked_of rings) signs d → IsEntered t.planes rings (record { signs = signs; crossed = crossed; circle = c; place = 0; node = node; vertex = v })
       entered_first signs v d crossed e is holds = record {

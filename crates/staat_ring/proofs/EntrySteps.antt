@@ -9,9 +9,9 @@ use Rattle.staat_ring.specs.Links.{Apart, Distinct, Links, append}
 use Rattle.staat_ring.specs.Linking.{AreHomedAt}
 use Rattle.staat_ring.specs.Numbered.{entry_number}
 use Rattle.staat_ring.proofs.Homing.{homed_more, within_more}
-use Rattle.staat_ring.proofs.Mapped.{from_map}
 use Rattle.staat_ring.proofs.Numbering.{entry_small}
 use Rattle.staat_ring.proofs.Rows.{IsPartly, apart_nth, apart_take, distinct_take, nth_apart, partly_more}
+use Rattle.staat_vec.proofs.ListLaws.{Contains-from_map}
 
 module _ (n c v : ℕ) (es : List Entry) (first s t : Links) (old now : List ℕ) (x k : ℕ) (d : Entry) (lt : k < length es) (x_is : x ≡ entry_number n c (get_or es k d))
     (t_is : t ≡ append v x s) (node : v < length first.next) (room : 4 * (n * n) ≤ length first.next) (same : length old ≡ length first.next) (lc : c < n)
@@ -40,7 +40,7 @@ module _ (n c v : ℕ) (es : List Entry) (first s t : Links) (old now : List ℕ
 
   done_within : All (λ y. y < length s.next) (map f (take k es))
   done_within = All-from_members (λ y. y < length s.next) (map f (take k es)) (λ y cy.
-      let (e, ce, q) = from_map f (take k es) y cy in
+      let (e, ce, q) = Contains-from_map f (take k es) y cy in
       let a = entry_small n c e lc (All-contains (λ e. e.plane < n) (take k es) e (All-take (λ e. e.plane < n) k es small) ce) in
       omega (arith, a, q, size, room))
 

@@ -1,49 +1,37 @@
 -- A plane is put at its place on the half circle.
-use Rattle.std.proofs.Common.{◌≡◌, ◌≢◌, ◌⊎◌, ⊎_elim, ℕ, zero, suc, ◌+◌, ◌<◌, Bool, true, false, arith, ap, sym, subst, ◌∙◌, refl, List, [], ◌∷◌, ◌++◌, length, length-set, get_or-set_same, get_or-set_other, Contains, ℤ, pos, ◌-ℤ◌, ◌<ℤ◌}
+use Rattle.std.proofs.Common.{◌≡◌, ◌≢◌, ⊎_elim, ℕ, zero, suc, ◌+◌, ◌<◌, Bool, true, false, arith, ap, sym, subst, ◌∙◌, refl, List, [], ◌∷◌, ◌++◌, length, length-set, get_or-set_same, get_or-set_other, Contains, ℤ, pos, ◌-ℤ◌, ◌<ℤ◌}
 use Rattle.std.specs.Prelude.{Some, map, replicate, slice_get, slice_set}
 use Rattle.std.specs.List.Sorted.{IsStrictlySortedBy}
 use Rattle.std.specs.Ordering.{nat_cmp}
-use Rattle.std.specs.declared.cmp.Ordering.TheVariants.{Less}
-use Rattle.std.proofs.lemmas.Bool.Decides.{nat_tests}
 use Rattle.std.proofs.lemmas.Int.{ints}
 use Rattle.std.proofs.lemmas.List.{get_or-replicate, length-replicate}
-use Rattle.std.proofs.lemmas.List.Elements.{All-append, All-contains, All-from_recursion, All-nil, Contains-append_left, Contains-append_right, Contains-push_cases, recursion_from_All}
-use Rattle.std.proofs.lemmas.Option.{get_or_from_slice_get, slice_get_within}
+use Rattle.std.proofs.lemmas.List.Elements.{All-append, All-nil, Contains-append_left, Contains-append_right, Contains-push_cases}
+use Rattle.std.proofs.lemmas.Option.{get_or_from_slice_get, slice_get_within, slice_get-get_or}
 use Rattle.staat_vec.specs.declared.vector.V3.{V3}
 use Rattle.staat_vec.specs.Lists.{Lists}
 use Rattle.staat_vec.specs.Primitives.{primitive}
 use Rattle.staat_vec.specs.Vectors.{cross, det, dot, negative, origin}
-use Rattle.staat_vec.proofs.Unique.{Contains-front, Contains-later, Contains-nothing}
+use Rattle.staat_vec.proofs.Unique.{Contains-front, Contains-nothing}
 use Rattle.staat_model.proofs.Members.{All-from_members}
 use Rattle.staat_model.specs.Circles.{axis_beside}
 use Rattle.staat_pairs.specs.Tables.{AreTablePlanes}
-use Rattle.staat_ring.proofs.Mapped.{same_or}
 use Rattle.staat_ring.specs.declared.entry.Entry.{Entry}
 use Rattle.staat_ring.specs.Builds.{AreFilled, IsHalfCircle, IsPlaceOf, AreThroughCrossing, IsUpper, ray, slot_at}
 use Rattle.staat_ring.specs.Order.{normal_at}
 use Rattle.staat_ring.specs.Rings.{crossing}
 use Rattle.staat_ring.proofs.Turns.{turn}
 use Rattle.staat_ring.specs.Rings.{facet_by, plane_at}
-use Rattle.staat_ring.proofs.Circling.{got, not_flat, positive_by, ray_negative, zero_cross}
+use Rattle.staat_ring.proofs.Circling.{not_flat, positive_by, ray_negative}
 use Rattle.staat_ring.proofs.Deciding.{order_is}
-use Rattle.staat_ring.proofs.Halving.{det_back, det_facet, facet_det}
-use Rattle.staat_ring.proofs.Steps.{size_positive}
+use Rattle.staat_ring.proofs.Halving.{det_facet, facet_det}
 use Rattle.staat_ring.proofs.Turning.{turn_negative_right, turn_same}
 use Rattle.staat_ring.proofs.Upper.{same_way}
+use Rattle.staat_vec.proofs.Naturals.{trichotomy, same_or}
+use Rattle.staat_vec.proofs.Comparisons.{sorted_push}
+use Rattle.staat_vec.proofs.Integers.{zero_not_positive, zero_not_negative}
+use Rattle.staat_vec.proofs.VectorLaws.{cross_origin, det_back, some_square}
 
 -- ---- ascending numbers
-
-less : (x y : ℕ) → x < y → nat_cmp x y ≡ Less
-less x y h = grind (arith, nat_tests)
-
-sorted_push : (xs : List ℕ) (y : ℕ) → IsStrictlySortedBy nat_cmp xs → ((x : ℕ) → Contains xs x → x < y) → IsStrictlySortedBy nat_cmp (xs ++ y ∷ [])
-unfolding IsStrictlySortedBy
-sorted_push [] y s below = (tt, tt)
-sorted_push (x ∷ xs) y s below = (
-  recursion_from_All (λ z. nat_cmp x z ≡ Less) (xs ++ y ∷ []) (All-from_members (λ z. nat_cmp x z ≡ Less) (xs ++ y ∷ [])
-      (λ z c. ⊎_elim {C = nat_cmp x z ≡ Less} (λ early. All-contains (λ w. nat_cmp x w ≡ Less) xs z (All-from_recursion (λ w. nat_cmp x w ≡ Less) xs s.0) early) (λ e. subst (λ w. nat_cmp x w ≡ Less) e (less x y (below x (Contains-front x xs)))) (Contains-push_cases xs y z c))),
-  sorted_push xs y s.1 (λ z c. below z (Contains-later x xs z c)),
-)
 
 none_sorted : IsStrictlySortedBy nat_cmp []
 unfolding IsStrictlySortedBy
@@ -82,12 +70,6 @@ filled_own planes c j g half slots e a = record {
 
 -- ---- one plane more
 
-zero_positive : (z : ℤ) → z ≡ pos 0 → pos 0 <ℤ z → ⊥
-zero_positive z e h = omega (arith, ints)
-
-zero_negative : (z : ℤ) → z ≡ pos 0 → z <ℤ pos 0 → ⊥
-zero_negative z e h = omega (arith, ints)
-
 opposed : (a b : ℤ) → b ≡ pos 0 -ℤ a → pos 0 <ℤ a → pos 0 <ℤ b → ⊥
 opposed a b e h k = omega (arith, ints)
 
@@ -102,7 +84,7 @@ module _ (planes : List V3) (c : ℕ) (g axis : V3) (half : List V3) (rules : Ar
   flat_at : (k : ℕ) → k < length half → cross g (normal_at half k) ≢ origin
   flat_at k lt =
       let f = is.each k lt in
-      subst (λ x. cross g x ≢ origin) (sym f.is) (not_flat g (plane_at planes f.number) f.turned (rules.apart c f.number g (plane_at planes f.number) gi (got planes f.number origin f.within) (λ q. f.different (sym q))))
+      subst (λ x. cross g x ≢ origin) (sym f.is) (not_flat g (plane_at planes f.number) f.turned (rules.apart c f.number g (plane_at planes f.number) gi (slice_get-get_or planes f.number origin f.within) (λ q. f.different (sym q))))
 
   first : 0 < length half
   first = let w = is.two in omega (arith, w)
@@ -111,7 +93,7 @@ module _ (planes : List V3) (c : ℕ) (g axis : V3) (half : List V3) (rules : Ar
   axis_flat = subst (λ x. cross g x ≢ origin) is.start (flat_at 0 first)
 
   gg : pos 0 <ℤ dot g g
-  gg = size_positive g (λ e. axis_flat (ap (λ y. cross y axis) e ∙ zero_cross axis))
+  gg = some_square g (λ e. axis_flat (ap (λ y. cross y axis) e ∙ cross_origin axis))
 
   -- the turn of two crossings is positive exactly where the determinant is
   turn_by : (a b : V3) → cross g a ≢ origin → cross g b ≢ origin → pos 0 <ℤ det g a b → pos 0 <ℤ turn g (ray g a) (ray g b)
@@ -125,12 +107,12 @@ module _ (planes : List V3) (c : ℕ) (g axis : V3) (half : List V3) (rules : Ar
       let one : pos 0 <ℤ turn g (ray g axis) (negative (ray g H)) = subst (λ x. pos 0 <ℤ turn g (ray g axis) x) e (turn_by axis m axis_flat sm p) in
       ⊎_elim {C = ⊥}
       (λ a. opposed (turn g (ray g axis) (ray g H)) (turn g (ray g axis) (negative (ray g H))) (turn_negative_right g (ray g axis) (ray g H)) (turn_by axis H axis_flat H_flat a) one)
-      (λ q. zero_positive (turn g (ray g axis) (negative (ray g H))) (ap (λ x. turn g (ray g axis) (negative x)) q ∙ (turn_negative_right g (ray g axis) (ray g axis) ∙ ap (λ z. pos 0 -ℤ z) (turn_same g (ray g axis)))) one)
+      (λ q. zero_not_positive (turn g (ray g axis) (negative (ray g H))) (ap (λ x. turn g (ray g axis) (negative x)) q ∙ (turn_negative_right g (ray g axis) (ray g axis) ∙ ap (λ z. pos 0 -ℤ z) (turn_same g (ray g axis)))) one)
       up
 
   ray_at : (i : ℕ) → i < length half → det g (normal_at half i) H ≡ pos 0 → ray g (normal_at half i) ≡ ray g H
   ray_at zero lt z = ⊎_elim {C = ray g (normal_at half 0) ≡ ray g H}
-      (λ p. absurd (zero_positive (det g axis H) (ap (λ x. det g x H) (sym is.start) ∙ z) p))
+      (λ p. absurd (zero_not_positive (det g axis H) (ap (λ x. det g x H) (sym is.start) ∙ z) p))
       (λ q. ap (ray g) is.start ∙ sym q)
       up
   ray_at (suc i) lt z = ⊎_elim {C = ray g (normal_at half (suc i)) ≡ ray g H} (λ e. e)
@@ -188,10 +170,7 @@ module _ (planes : List V3) (c : ℕ) (g axis : V3) (half : List V3) (rules : Ar
       off : (k : ℕ) → k < length half → k ≢ i → det g (normal_at half k) (plane_at planes j) ≡ pos 0 → ⊥
       off k lt d z =
           let y : det g (normal_at half k) H ≡ pos 0 = det_facet g (normal_at half k) h t (ap (det g (normal_at half k)) (sym plane_is) ∙ z) in
-          ⊎_elim {C = ⊥} (λ l. zero_positive (det g (normal_at half k) H) y (p.before k l)) (λ o. ⊎_elim {C = ⊥} (λ q. d q) (λ l. zero_negative (det g (normal_at half k) H) y (p.after k l lt)) o) (side k i)
-        where
-          side : (k i : ℕ) → (k < i) ⊎ ((k ≡ i) ⊎ (i < k))
-          side k i = grind arith
+          ⊎_elim {C = ⊥} (λ l. zero_not_positive (det g (normal_at half k) H) y (p.before k l)) (λ o. ⊎_elim {C = ⊥} (λ q. d q) (λ l. zero_not_negative (det g (normal_at half k) H) y (p.after k l lt)) o) (trichotomy k i)
 
       same : (k : ℕ) → k < length half → k ≢ i → AreThroughCrossing planes c g (normal_at half k) (j + 1) (slot_at old k)
       same k lt d = let th = a.each k lt in record {

@@ -1,13 +1,14 @@
 -- Taking a plane's entries out one after another filters the lists.
-use Rattle.std.proofs.Common.{◌≡◌, ◌≢◌, ℕ, zero, suc, ◌<◌, refl, sym, ap, subst, ◌∙◌, arith, List, [], ◌∷◌, Bool, true, false, not, ◌&&◌, cond, if◌then◌else◌, eqb, Contains, ◌⊎◌, inl, inr, eq-eqb}
+use Rattle.std.proofs.Common.{◌≡◌, ◌≢◌, ℕ, zero, suc, ◌<◌, refl, sym, ap, subst, ◌∙◌, arith, List, [], ◌∷◌, Bool, true, false, not, ◌&&◌, cond, if◌then◌else◌, Contains, inl, inr, eq-eqb}
 use Rattle.std.specs.List.{filter}
 use Rattle.std.specs.Prelude.{◌==◌}
-use Rattle.std.proofs.lemmas.Bool.Decides.{nat_tests}
 use Rattle.staat_ring.specs.Links.{Arrays, Distinct, take}
 use Rattle.staat_ring.specs.Stands.{is_empty, Shape, RingLists, home_of, StandFor, IsPresent, AllPresent}
 use Rattle.staat_ring.proofs.ListsWithout.{lists_without_plane, lists_without_all, lists_without, without, AreSame}
 use Rattle.staat_ring.proofs.Without.{without_none, tagged_apart}
-use Rattle.staat_ring.proofs.TwoLevels.{decide, stands-take, all-after, contains_before}
+use Rattle.staat_ring.proofs.TwoLevels.{stands-take, all-after, contains_before}
+use Rattle.staat_vec.proofs.Naturals.{eqb_false, same_or}
+use Rattle.staat_vec.proofs.ListLaws.{filter_inside, filter_twice, contains_or}
 
 abbrev dropped : List ℕ → List ℕ → List ℕ
 dropped [] xs = xs
@@ -20,15 +21,6 @@ keeps (e ∷ es) y = not (y == e) && keeps es y
 entries_are : (home : ℕ → ℕ) (es : List ℕ) (l : RingLists) (v : ℕ) → (lists_without_all home es l).entries v ≡ dropped es (l.entries v)
 entries_are home [] l v = refl
 entries_are home (e ∷ es) l v = entries_are home es (lists_without (home e) e l) v
-
-filter_twice : (p q : ℕ → Bool) (xs : List ℕ) → filter q (filter p xs) ≡ filter (λ y. p y && q y) xs
-filter_twice p q [] = refl
-filter_twice p q (x ∷ xs) = step (p x) (filter_twice p q xs)
-  where
-    step : (a : Bool) → filter q (filter p xs) ≡ filter (λ y. p y && q y) xs
-        → filter q (cond a (x ∷ filter p xs) (filter p xs)) ≡ cond (a && q x) (x ∷ filter (λ y. p y && q y) xs) (filter (λ y. p y && q y) xs)
-    step true ih = ap (λ r. cond (q x) (x ∷ r) r) ih
-    step false ih = ih
 
 dropped_is : (es xs : List ℕ) → dropped es xs ≡ filter (keeps es) xs
 dropped_is [] xs = sym (all_kept xs)
@@ -50,10 +42,7 @@ keeps_not (e ∷ es) y h =
     (λ i. not (unlike i) && keeps_not es y (λ c. h (suc c.0, omega (arith, c.1), c.2)) i)
   where
     unlike : (y == e) ≡ false
-    unlike = elim (decide y e) [ inl q ↦ absurd (h (zero, omega arith, sym q)) | inr n ↦ off y e n ]
-      where
-        off : (x y : ℕ) → x ≢ y → eqb x y ≡ false
-        off x y h = grind (arith, nat_tests)
+    unlike = elim (same_or y e) [ inl q ↦ absurd (h (zero, omega arith, sym q)) | inr n ↦ eqb_false y e n ]
 
 keeps_listed : (es : List ℕ) (y : ℕ) → Contains es y → keeps es y ≡ false
 keeps_listed [] y (k, lt, q) = absurd (omega arith)
@@ -67,13 +56,10 @@ keeps_listed (e ∷ es) y (suc k, lt, q) = last (not (y == e)) (keeps es y) (kee
 -- a node that fails the test may be left out first
 filter_without : (test : ℕ → Bool) (x : ℕ) (xs : List ℕ) → test x ≡ false → filter test (without x xs) ≡ filter test xs
 filter_without test x [] h = refl
-filter_without test x (y ∷ xs) h = elim (decide y x) [
+filter_without test x (y ∷ xs) h = elim (same_or y x) [
   | inl q ↦ ap (λ b. filter test (cond (not b) (y ∷ without x xs) (without x xs))) (eq-eqb y x q) ∙ (filter_without test x xs h ∙ sym (ap (λ b. cond b (y ∷ filter test xs) (filter test xs)) (ap test q ∙ h)))
-  | inr n ↦ ap (λ b. filter test (cond (not b) (y ∷ without x xs) (without x xs))) (off y x n) ∙ ap (λ r. cond (test y) (y ∷ r) r) (filter_without test x xs h)
+  | inr n ↦ ap (λ b. filter test (cond (not b) (y ∷ without x xs) (without x xs))) (eqb_false y x n) ∙ ap (λ r. cond (test y) (y ∷ r) r) (filter_without test x xs h)
 ]
-  where
-    off : (x y : ℕ) → x ≢ y → eqb x y ≡ false
-    off x y h = grind (arith, nat_tests)
 
 dropped_nil : (es : List ℕ) → dropped es [] ≡ []
 dropped_nil [] = refl
@@ -89,14 +75,11 @@ AreFull g l = (c v : ℕ) → c < g.count → Contains (l.vertices c) v → is_e
 
 not_in_without : (x : ℕ) (xs : List ℕ) → Contains (without x xs) x → ⊥
 not_in_without x [] (k, lt, q) = omega arith
-not_in_without x (y ∷ xs) h = elim (decide y x) [
+not_in_without x (y ∷ xs) h = elim (same_or y x) [
   | inl q ↦ not_in_without x xs (subst (λ b. Contains (cond (not b) (y ∷ without x xs) (without x xs)) x) (eq-eqb y x q) h)
-  | inr n ↦ later n (subst (λ b. Contains (cond (not b) (y ∷ without x xs) (without x xs)) x) (off y x n) h) (not_in_without x xs)
+  | inr n ↦ later n (subst (λ b. Contains (cond (not b) (y ∷ without x xs) (without x xs)) x) (eqb_false y x n) h) (not_in_without x xs)
 ]
   where
-    off : (x y : ℕ) → x ≢ y → eqb x y ≡ false
-    off x y h = grind (arith, nat_tests)
-
     later : y ≢ x → Contains (y ∷ without x xs) x → (Contains (without x xs) x → ⊥) → ⊥
     later n (zero, lt, q) ih = n q
     later n (suc k, lt, q) ih = ih (k, omega arith, q)
@@ -110,11 +93,11 @@ full-after g l a e st pr full c w hc cw = go (is_empty (without e (l.entries (ho
         ap is_empty (without_none e (l.entries w) (tagged_apart (home_of a) (home_of a w) e (l.entries w) r.tagged.1 (λ q. n (sym (q ∙ st.owns c w hc cv))))) ∙ full c w hc cv
 
     go : (b : Bool) → is_empty (without e (l.entries (home_of a e))) ≡ b → Contains (if b then without (home_of a e) (l.vertices c) else l.vertices c) w → is_empty (without e (l.entries w)) ≡ false
-    go true h cv = elim (decide w (home_of a e)) [
+    go true h cv = elim (same_or w (home_of a e)) [
       | inl q ↦ absurd (not_in_without (home_of a e) (l.vertices c) (subst (λ x. Contains (without (home_of a e) (l.vertices c)) x) q cv))
       | inr n ↦ kept n (contains_before (home_of a e) w (l.vertices c) cv)
     ]
-    go false h cv = elim (decide w (home_of a e)) [
+    go false h cv = elim (same_or w (home_of a e)) [
       | inl q ↦ ap (λ x. is_empty (without e (l.entries x))) q ∙ h
       | inr n ↦ kept n cv
     ]
@@ -140,45 +123,19 @@ pub record AreEntriesOf (g : Shape) (l : RingLists) (plane_of : ℕ → ℕ) (p 
   pub each : (e : ℕ) → Contains es e → plane_of e ≡ p
   pub all : (c v e : ℕ) → c < g.count → Contains (l.vertices c) v → Contains (l.entries v) e → plane_of e ≡ p → Contains es e
 
-contains_or_not : (es : List ℕ) (y : ℕ) → Contains es y ⊎ (Contains es y → ⊥)
-contains_or_not [] y = inr (λ c. let q = c.1 in omega arith)
-contains_or_not (e ∷ es) y = elim (decide e y) [
-  | inl q ↦ inl (zero, omega arith, q)
-  | inr n ↦ elim (contains_or_not es y) [
-    | inl c ↦ inl (suc c.0, omega (arith, c.1), c.2)
-    | inr m ↦ inr (λ c. later n m c)
-  ]
-]
-  where
-    later : e ≢ y → (Contains es y → ⊥) → Contains (e ∷ es) y → ⊥
-    later n m (zero, lt, q) = n q
-    later n m (suc k, lt, q) = m (k, omega arith, q)
-
 pub without-plane : (g : Shape) (plane_of : ℕ → ℕ) (p : ℕ) (es : List ℕ) (l : RingLists) (a : Arrays) → StandFor g l a → Distinct es → AllPresent g l a es → AreFull g l → AreEntriesOf g l plane_of p es
     → AreSame g (lists_without_plane plane_of p l) (lists_without_all (home_of a) es l)
 without-plane g plane_of p es l a st d pr full of = record {
   vertices = λ c hc. filter_same (λ v. not (is_empty (filter (λ e. not (plane_of e == p)) (l.entries v)))) (λ v. not (is_empty (dropped es (l.entries v)))) (l.vertices c)
       (λ v cv. ap (λ xs. not (is_empty xs)) (at c v hc cv)) ∙ sym (vertices_are g es l a st d pr full c hc);
-  entries = λ c v hc cv. at c v hc (inside (λ w. not (is_empty (filter (λ e. not (plane_of e == p)) (l.entries w)))) (l.vertices c) v cv) ∙ sym (entries_are (home_of a) es l v);
+  entries = λ c v hc cv. at c v hc (filter_inside (λ w. not (is_empty (filter (λ e. not (plane_of e == p)) (l.entries w)))) (l.vertices c) v cv) ∙ sym (entries_are (home_of a) es l v);
 }
   where
     test_is : (c v e : ℕ) → c < g.count → Contains (l.vertices c) v → Contains (l.entries v) e → not (plane_of e == p) ≡ keeps es e
-    test_is c v e hc cv ce = elim (contains_or_not es e) [
+    test_is c v e hc cv ce = elim (contains_or es e) [
       | inl m ↦ ap not (eq-eqb (plane_of e) p (of.each e m)) ∙ sym (keeps_listed es e m)
-      | inr n ↦ ap not (off (plane_of e) p (λ q. n (of.all c v e hc cv ce q))) ∙ sym (keeps_not es e n)
+      | inr n ↦ ap not (eqb_false (plane_of e) p (λ q. n (of.all c v e hc cv ce q))) ∙ sym (keeps_not es e n)
     ]
-      where
-        off : (x y : ℕ) → x ≢ y → eqb x y ≡ false
-        off x y h = grind (arith, nat_tests)
 
     at : (c v : ℕ) → c < g.count → Contains (l.vertices c) v → filter (λ e. not (plane_of e == p)) (l.entries v) ≡ dropped es (l.entries v)
     at c v hc cv = filter_same (λ e. not (plane_of e == p)) (keeps es) (l.entries v) (λ e ce. test_is c v e hc cv ce) ∙ sym (dropped_is es (l.entries v))
-
-    inside : (test : ℕ → Bool) (xs : List ℕ) (v : ℕ) → Contains (filter test xs) v → Contains xs v
-    inside test [] v c = c
-    inside test (x ∷ xs) v c = go (test x) (inside test xs v) c
-      where
-        go : (b : Bool) → (Contains (filter test xs) v → Contains xs v) → Contains (cond b (x ∷ filter test xs) (filter test xs)) v → Contains (x ∷ xs) v
-        go false ih c = let r = ih c in (suc r.0, omega (arith, r.1), r.2)
-        go true ih (zero, lt, q) = (zero, omega arith, q)
-        go true ih (suc k, lt, q) = let r = ih (k, omega arith, q) in (suc r.0, omega (arith, r.1), r.2)

@@ -7,12 +7,12 @@ use Rattle.std.proofs.lemmas.Grind.{get_or-set_at}
 use Rattle.staat_ring.specs.Links.{Arrays}
 use Rattle.staat_ring.specs.RingInvariant.{AreFlags, HaveTakenOut, AreFlagged}
 use Rattle.staat_ring.specs.RingViews.{is_out, numbers_below, still_linked}
-use Rattle.staat_ring.proofs.Mapped.{differ, same_or}
 use Rattle.staat_ring.proofs.RingLemmas.{filter_by, listed-push}
 use Rattle.staat_ring.proofs.RingSteps.{order_push}
+use Rattle.staat_vec.proofs.Naturals.{eq_test_false, same_or}
 
 other_stays : (out : List ℕ) (p q : ℕ) → p ≢ q → not (is_out (out ++ p ∷ []) q) ≡ not (is_out out q)
-other_stays out p q ne = listed-push out p q ∙ go (p == q) (not (is_out out q)) (differ p q ne)
+other_stays out p q ne = listed-push out p q ∙ go (p == q) (not (is_out out q)) (eq_test_false p q ne)
   where
     go : (b d : Bool) → b ≡ false → (d && not b) ≡ d
     go true d e = cc

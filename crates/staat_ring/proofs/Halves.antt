@@ -13,10 +13,12 @@ use Rattle.staat_model.proofs.Members.{All-from_members}
 use Rattle.std.specs.Prelude.{All}
 use Rattle.std.proofs.Common.{refl, [], ◌∷◌}
 use Rattle.staat_model.specs.Circles.{Stop, IsLinked, IsOnCircle, IsNext, IsCircle, IsAfter, PassesThrough, axis_beside}
-use Rattle.staat_ring.proofs.Mapped.{in_map}
 use Rattle.staat_ring.proofs.Turns.{turn, Rises, whole_circle, IsHalf}
 use Rattle.staat_ring.proofs.Turning.{turn_same, turn_negative_left, turn_negative_right}
-use Rattle.staat_ring.proofs.Around.{on_around, around_closed, negative_twice, next_around, first_half, length_around, where_in}
+use Rattle.staat_ring.proofs.Around.{on_around, around_closed, next_around, first_half, length_around, where_in}
+use Rattle.staat_vec.proofs.Naturals.{same_or_apart}
+use Rattle.staat_vec.proofs.ListLaws.{Contains-map}
+use Rattle.staat_vec.proofs.Canons.{negative-negative}
 
 abbrev at : List V3 → ℕ → V3
 at hs k = get_or hs k origin
@@ -28,7 +30,7 @@ crossing_turned table linked c g v x = record {
   h = x.h;
   other_is = x.other_is;
   different = x.different;
-  is = elim x.is [ inl e ↦ inr (ap negative e) | inr e ↦ inl (ap negative e ∙ negative_twice (primitive (cross g x.h))) ];
+  is = elim x.is [ inl e ↦ inr (ap negative e) | inr e ↦ inl (ap negative e ∙ negative-negative (primitive (cross g x.h))) ];
 }
 
 abbrev vertices_of : List Stop → List V3
@@ -43,29 +45,23 @@ zero_or : (a : ℤ) → a ≡ pos 0 -ℤ a → pos 0 <ℤ a → ⊥
 zero_or a e h = omega (arith, ints)
 
 distinct_half : (g : V3) (hs : List V3) (i k : ℕ) → Rises g hs → i < length hs → k < length hs → at hs i ≡ at hs k → i ≡ k
-distinct_half g hs i k r li lk e = elim (cases i k) [
+distinct_half g hs i k r li lk e = elim (same_or_apart i k) [
   | inl q ↦ q
   | inr (inl lt) ↦ absurd (none (r i k lt lk) (sym (ap (λ v. turn g v (at hs k)) (sym e)) ∙ turn_same g (at hs k)))
   | inr (inr gt) ↦ absurd (none (r k i gt li) (sym (ap (λ v. turn g (at hs k) v) (sym e)) ∙ turn_same g (at hs k)))
 ]
   where
-    cases : (i k : ℕ) → (i ≡ k) ⊎ ((i < k) ⊎ (k < i))
-    cases i k = grind arith
-
     none : {a : ℤ} → pos 0 <ℤ a → a ≡ pos 0 → ⊥
     none h e = omega (arith, ints)
 
 -- no vertex of the half circle is the negative of one
 apart_half : (g : V3) (hs : List V3) (i k : ℕ) → Rises g hs → 1 < length hs → i < length hs → k < length hs → at hs i ≡ negative (at hs k) → ⊥
-apart_half g hs i k r two li lk e = elim (cases i k) [
+apart_half g hs i k r two li lk e = elim (same_or_apart i k) [
   | inl q ↦ self i li (e ∙ ap (λ n. negative (at hs n)) (sym q))
   | inr (inl lt) ↦ none (r i k lt lk) (ap (λ v. turn g v (at hs k)) e ∙ (turn_negative_left g (at hs k) (at hs k) ∙ ap (λ z. pos 0 -ℤ z) (turn_same g (at hs k))))
   | inr (inr gt) ↦ none (r k i gt li) (ap (λ v. turn g (at hs k) v) e ∙ (turn_negative_right g (at hs k) (at hs k) ∙ ap (λ z. pos 0 -ℤ z) (turn_same g (at hs k))))
 ]
   where
-    cases : (i k : ℕ) → (i ≡ k) ⊎ ((i < k) ⊎ (k < i))
-    cases i k = grind arith
-
     none : {a : ℤ} → pos 0 <ℤ a → a ≡ pos 0 -ℤ pos 0 → ⊥
     none h e = omega (arith, ints)
 
@@ -86,7 +82,7 @@ distinct_around g hs i k r two li lk e =
     go m n lm ln (inl a) (inr b) = absurd (apart_half g hs m n r two lm ln (sym a.1 ∙ (e ∙ b.1)))
     go m n lm ln (inr a) (inl b) = absurd (apart_half g hs n m r two ln lm (sym b.1 ∙ (sym e ∙ a.1)))
     go m n lm ln (inr a) (inr b) =
-        let s = distinct_half g hs m n r lm ln (sym (negative_twice (at hs m)) ∙ (ap negative (sym a.1 ∙ (e ∙ b.1)) ∙ negative_twice (at hs n))) in omega (arith, a.0, b.0)
+        let s = distinct_half g hs m n r lm ln (sym (negative-negative (at hs m)) ∙ (ap negative (sym a.1 ∙ (e ∙ b.1)) ∙ negative-negative (at hs n))) in omega (arith, a.0, b.0)
 
 -- the stops at the half circle's vertices and their negatives are the circle
 pub circle_from_half : (table : List V3) (linked : List ℕ) (c : ℕ) (g axis : V3) (hs : List V3) (stops : List Stop) → IsLinked table linked c g → IsLinked table linked (axis_beside c) axis
@@ -148,6 +144,6 @@ circle_from_half table linked c g axis hs stops gi ai half vs through = record {
         let ew = place ((k + 1) % length (whole_circle hs)) t kt' in
         record {
           after = subst (λ v. pos 0 <ℤ turn g v t.vertex) ev (subst (λ w. pos 0 <ℤ turn g (at (whole_circle hs) k) w) ew n.ahead);
-          nothing_between = All-from_members (λ s'. IsAfter g s.vertex s'.vertex → IsAfter g s'.vertex t.vertex → ⊥) stops (λ u cu vu uw. n.nothing_between u.vertex (subst (λ xs. Contains xs u.vertex) vs (in_map (λ s. s.vertex) stops u cu))
+          nothing_between = All-from_members (λ s'. IsAfter g s.vertex s'.vertex → IsAfter g s'.vertex t.vertex → ⊥) stops (λ u cu vu uw. n.nothing_between u.vertex (subst (λ xs. Contains xs u.vertex) vs (Contains-map (λ s. s.vertex) stops u cu))
               (subst (λ v. pos 0 <ℤ turn g v u.vertex) (sym ev) vu) (subst (λ w. pos 0 <ℤ turn g u.vertex w) (sym ew) uw));
         }

@@ -1,43 +1,29 @@
 -- The half circle from the crossings ahead of the axis.
-use Rattle.std.proofs.Common.{◌≡◌, ◌≢◌, ◌⊎◌, ◌↔◌, inl, inr, ⊎_elim, ℕ, zero, suc, ◌+◌, ◌<◌, Bool, true, false, arith, ap, sym, subst, ◌∙◌, refl, List, [], ◌∷◌, ◌++◌, length, get_or, Contains, ℤ, pos, neg_ℤ, ◌-ℤ◌, ◌<ℤ◌}
+use Rattle.std.proofs.Common.{◌≡◌, ◌≢◌, ◌⊎◌, ◌↔◌, inl, inr, ⊎_elim, ℕ, zero, suc, ◌+◌, ◌<◌, Bool, true, false, arith, ap, sym, subst, ◌∙◌, refl, List, [], ◌∷◌, ◌++◌, length, get_or, Contains, ℤ, pos, neg_ℤ, ◌<ℤ◌}
 use Rattle.std.specs.Prelude.{Some, slice_get}
-use Rattle.std.specs.List.{insert}
 use Rattle.std.proofs.lemmas.Int.{ints}
 use Rattle.std.proofs.lemmas.List.{get_or_default}
-use Rattle.std.proofs.lemmas.List.Elements.{All-contains, All-nil, Contains-append_cases, Contains-append_left, Contains-append_right}
+use Rattle.std.proofs.lemmas.List.Elements.{All-contains, Contains-append_cases, Contains-append_left, Contains-append_right}
 use Rattle.std.proofs.lemmas.Option.{get_or_from_slice_get, same_Some, slice_get_within}
 use Rattle.staat_vec.specs.declared.vector.V3.{V3}
 use Rattle.staat_vec.specs.declared.vector.TheConstants.{NORMAL}
 use Rattle.staat_vec.specs.Vectors.{IsWithin, cross, det, dot, negative, origin}
-use Rattle.staat_vec.proofs.Ring.{num, opp, ◌⊖◌, ring}
-use Rattle.staat_vec.proofs.Unique.{Contains-front, Contains-nothing}
+use Rattle.staat_vec.proofs.Ring.{num, opp, ring}
+use Rattle.staat_vec.proofs.Unique.{Contains-front}
 use Rattle.staat_vec.proofs.VecRing.{detE, negativeE, same_vector, v0, v1, v2, values}
 use Rattle.staat_model.proofs.Members.{All-from_members}
 use Rattle.staat_model.specs.Circles.{axis_beside}
 use Rattle.staat_model.specs.Planes.{axes}
 use Rattle.staat_pairs.specs.Tables.{AreTablePlanes, IsPlaneNormal}
-use Rattle.staat_ring.proofs.Mapped.{same_or}
 use Rattle.staat_ring.specs.Builds.{AreTurnedAhead, IsAheadOf, IsFromPlane, IsHalfCircle, IsCrossedAt, IsPut, IsPutIn}
 use Rattle.staat_ring.specs.Order.{HasRay, IsHalfOf, normal_at}
 use Rattle.staat_ring.specs.Rings.{facet_by, plane_at}
-use Rattle.staat_ring.proofs.Circling.{zero_cross}
-use Rattle.staat_ring.proofs.Steps.{size_positive}
-
-only_one : {X : Type 0} (h x : X) → Contains (h ∷ []) x → x ≡ h
-only_one h x (zero, lt, e) = sym e
-only_one h x (suc k, lt, e) = absurd (omega arith)
-
-later : {X : Type 0} (w u : X) (ws : List X) → Contains ws u → Contains (w ∷ ws) u
-later w u ws (k, lt, e) = (suc k, omega arith, e)
+use Rattle.staat_vec.proofs.Integers.{zero_from_opposite, positive_not_zero}
+use Rattle.staat_vec.proofs.ListLaws.{only_one}
+use Rattle.staat_vec.proofs.Naturals.{same_or}
+use Rattle.staat_vec.proofs.VectorLaws.{cross_origin, some_square}
 
 -- ---- one plane more
-
-pub ahead_none : (planes : List V3) (g axis : V3) → AreTurnedAhead planes g axis 0 []
-ahead_none planes g axis = record {
-  small = All-nil (IsWithin NORMAL);
-  each = λ h c. absurd (Contains-nothing h c);
-  all = λ j lt. absurd (omega (arith, lt));
-}
 
 pub ahead_more : (planes : List V3) (g axis h : V3) (j : ℕ) (old new : List V3) → slice_get planes j ≡ Some h → IsPut g axis h old new → AreTurnedAhead planes g axis j old → AreTurnedAhead planes g axis (j + 1) new
 ahead_more planes g axis h j old new is (inl (z, e)) a = subst (λ (v : List V3). AreTurnedAhead planes g axis (j + 1) v) (sym e) (record {
@@ -68,24 +54,15 @@ det_negative g a b = ring (values (g ∷ a ∷ b ∷ []) []) (detE v0 v1 (negati
 det_own : (g a : V3) → det g a g ≡ pos 0
 det_own g a = ring (values (g ∷ a ∷ []) []) (detE v0 v1 v0) (num (pos 0)) tt
 
-det_same : (g a : V3) → det g a a ≡ pos 0
-det_same g a = ring (values (g ∷ a ∷ []) []) (detE v0 v1 v1) (num (pos 0)) tt
-
 pub det_facet : (g a b : V3) (t : Bool) → det g a b ≡ pos 0 → det g a (facet_by t b) ≡ pos 0
 det_facet g a b false z = z
 det_facet g a b true z = det_negative g a b ∙ ap neg_ℤ z
 
 pub facet_det : (g a b : V3) (t : Bool) → det g a (facet_by t b) ≡ pos 0 → det g a b ≡ pos 0
 facet_det g a b false z = z
-facet_det g a b true z = back (det g a b) (sym (det_negative g a b) ∙ z)
-  where
-    back : (a : ℤ) → neg_ℤ a ≡ pos 0 → a ≡ pos 0
-    back a q = omega (arith, ints)
+facet_det g a b true z = zero_from_opposite (det g a b) (sym (det_negative g a b) ∙ z)
 
-not_zero : (z : ℤ) → pos 0 <ℤ z → z ≡ pos 0 → ⊥
-not_zero z h e = omega (arith, ints)
-
-axis_differs : (c : ℕ) → axis_beside c ≢ c
+pub axis_differs : (c : ℕ) → axis_beside c ≢ c
 axis_differs zero e = absurd (omega (arith, e))
 axis_differs (suc c) e = absurd (omega (arith, e))
 
@@ -111,7 +88,7 @@ module _ (planes : List V3) (c : ℕ) (g axis : V3) (hs rest : List V3) (rules :
   flat = rules.apart c (axis_beside c) g axis gi ai (λ e. axis_differs c (sym e))
 
   gg : pos 0 <ℤ dot g g
-  gg = size_positive g (λ e. flat (ap (λ y. cross y axis) e ∙ zero_cross axis))
+  gg = some_square g (λ e. flat (ap (λ y. cross y axis) e ∙ cross_origin axis))
 
   at : (k : ℕ) → k < length rest → Contains rest (normal_at rest k)
   at k lt = (k, lt, get_or_default rest k (normal_at rest k) origin lt)
@@ -122,7 +99,7 @@ module _ (planes : List V3) (c : ℕ) (g axis : V3) (hs rest : List V3) (rules :
       record {
         number = a.number;
         within = a.within;
-        different = λ e. not_zero (det g axis m) a.ahead (ap (det g axis) a.is ∙ det_facet g axis (plane_at planes a.number) a.turned (ap (λ k. det g axis (plane_at planes k)) e ∙ (ap (det g axis) (get_or_from_slice_get planes c g origin gi) ∙ det_own g axis)));
+        different = λ e. positive_not_zero (det g axis m) a.ahead (ap (det g axis) a.is ∙ det_facet g axis (plane_at planes a.number) a.turned (ap (λ k. det g axis (plane_at planes k)) e ∙ (ap (det g axis) (get_or_from_slice_get planes c g origin gi) ∙ det_own g axis)));
         turned = a.turned;
         is = a.is;
       }
@@ -183,9 +160,6 @@ module _ (planes : List V3) (c : ℕ) (g axis : V3) (hs rest : List V3) (rules :
     all = λ j lt ne. met j lt;
   })
 
-pub insert_front : (xs : List V3) (x : V3) → insert xs 0 x ≡ x ∷ xs
-insert_front xs x = refl
-
 pub negative_ahead : (g a b : V3) → det g a b <ℤ pos 0 → pos 0 <ℤ det g a (negative b)
 negative_ahead g a b h = let e = det_negative g a b in turned (det g a b) (det g a (negative b)) e h
   where
@@ -197,9 +171,6 @@ pub half_circle_told : (planes : List V3) (c a : ℕ) (g axis : V3) (hs rest hal
 half_circle_told planes c a g axis hs rest half rules gi ai ea ahead of e h b hi bi =
     let at : slice_get planes (axis_beside c) ≡ Some axis = subst (λ k. slice_get planes k ≡ Some axis) ea ai in
     subst (λ x. IsHalfCircle planes c x b half) (same_Some g h (sym gi ∙ hi)) (subst (λ x. IsHalfCircle planes c g x half) (same_Some axis b (sym at ∙ bi)) (half_circle_is planes c g axis hs rest rules gi at ahead of half e))
-
-pub det_back : (g a b : V3) → det g a b ≡ pos 0 -ℤ det g b a
-det_back g a b = ring (values (g ∷ a ∷ b ∷ []) []) (detE v0 v1 v2) (num (pos 0) ⊖ detE v0 v2 v1) tt
 
 pub ahead_same : (planes : List V3) (g axis : V3) (n : ℕ) (hs new : List V3) → ((h : V3) → Contains new h ↔ Contains hs h) → AreTurnedAhead planes g axis n hs → AreTurnedAhead planes g axis n new
 ahead_same planes g axis n hs new same a = record {

@@ -8,10 +8,10 @@ use Rattle.staat_vec.specs.declared.vector.V3.{V3}
 use Rattle.staat_vec.specs.Vectors.{origin}
 use Rattle.staat_vec.proofs.Unique.{Contains-front}
 use Rattle.staat_model.proofs.Members.{All-from_members}
-use Rattle.staat_ring.proofs.Mapped.{same_or}
 use Rattle.staat_ring.specs.Builds.{AreKeysBelow}
 use Rattle.staat_ring.specs.Order.{normal_at}
-use Rattle.staat_ring.proofs.Mapped.{from_map, in_map}
+use Rattle.staat_vec.proofs.Naturals.{same_or}
+use Rattle.staat_vec.proofs.ListLaws.{Contains-from_map, Contains-map}
 
 pub numbers_none : AreKeysBelow 0 []
 numbers_none = record { within = All-nil (λ (k : ℤ × ℕ). k.1 < 0); each = λ i lt. absurd (omega (arith, lt)) }
@@ -33,10 +33,10 @@ picks_within hs keys order a p = All-from_members (λ (k : ℤ × ℕ). k.1 < le
 
 pub picks_same : (hs new : List V3) (keys order : List (ℤ × ℕ)) → AreKeysBelow (length hs) keys → IsPermutation keys order → new ≡ map (λ (k : ℤ × ℕ). normal_at hs k.1) order → (h : V3) → Contains new h ↔ Contains hs h
 picks_same hs new keys order a p e h = (
-  λ c. let (x, cx, ex) = from_map (λ (k : ℤ × ℕ). normal_at hs k.1) order h (subst (λ (v : List V3). Contains v h) e c) in
+  λ c. let (x, cx, ex) = Contains-from_map (λ (k : ℤ × ℕ). normal_at hs k.1) order h (subst (λ (v : List V3). Contains v h) e c) in
       let l = All-contains (λ (k : ℤ × ℕ). k.1 < length hs) order x (picks_within hs keys order a p) cx in
       (x.1, l, get_or_default hs x.1 h origin l ∙ ex),
   λ (i, lt, q). let r = a.each i lt in
       subst (λ (v : List V3). Contains v h) (sym e) (subst (Contains (map (λ (k : ℤ × ℕ). normal_at hs k.1) order)) (get_or_default hs i origin h lt ∙ q)
-      (in_map (λ (k : ℤ × ℕ). normal_at hs k.1) order (r.0, i) (Contains-permutation keys order (r.0, i) p r.1))),
+      (Contains-map (λ (k : ℤ × ℕ). normal_at hs k.1) order (r.0, i) (Contains-permutation keys order (r.0, i) p r.1))),
 )

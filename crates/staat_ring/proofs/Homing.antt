@@ -1,20 +1,13 @@
 -- Entries are noted at the node of their stop, one after another.
-use Rattle.std.proofs.Common.{◌≡◌, ◌≢◌, ◌⊎◌, inl, inr, ⊎_elim, ℕ, zero, suc, ◌<◌, refl, sym, subst, ◌∙◌, List, [], ◌∷◌, ◌++◌, length, get_or, set, All, Contains, arith}
+use Rattle.std.proofs.Common.{◌≡◌, ◌≢◌, ◌⊎◌, inl, inr, ⊎_elim, ℕ, zero, suc, ◌<◌, sym, subst, ◌∙◌, List, [], ◌∷◌, ◌++◌, length, get_or, set, All, Contains, arith}
 use Rattle.std.proofs.Math.ListN.{length-set}
 use Rattle.std.proofs.lemmas.List.{get_or-set_other}
 use Rattle.std.proofs.lemmas.Grind.{get_or-set_at}
 use Rattle.std.proofs.lemmas.List.Elements.{All-contains, All-set, Contains-append_cases}
 use Rattle.staat_model.proofs.Members.{All-from_members}
-use Rattle.staat_ring.specs.Links.{Apart}
 use Rattle.staat_ring.specs.Linking.{AreHomedAt}
-use Rattle.staat_ring.proofs.Mapped.{same_or}
-
-apart_front : (y x : ℕ) (xs : List ℕ) → Apart y (xs ++ x ∷ []) → Apart y xs × (x ≢ y)
-apart_front y x [] a = (tt, a.0)
-apart_front y x (z ∷ xs) a = let r = apart_front y x xs a.1 in ((a.0, r.0), r.1)
-
-pub homed_none : (old : List ℕ) (v : ℕ) → AreHomedAt old old v []
-homed_none old v = record { size = refl; here = λ k d lt. absurd (omega (arith, lt)); others = λ y a. refl }
+use Rattle.staat_ring.proofs.Rows.{apart_front}
+use Rattle.staat_vec.proofs.Naturals.{same_or}
 
 pub homed_more : (old now new : List ℕ) (v x : ℕ) (done more : List ℕ) → new ≡ set now x v → more ≡ done ++ x ∷ [] → x < length now → AreHomedAt old now v done → AreHomedAt old new v more
 homed_more old now new v x done more e em lx h = subst (λ (t : List ℕ). AreHomedAt old t v more) (sym e) (subst (λ (m : List ℕ). AreHomedAt old (set now x v) v m) (sym em) (record {

@@ -11,7 +11,6 @@ use Rattle.staat_vec.specs.declared.vector.Sign.TheVariants.{Neg, Zero, Pos}
 use Rattle.staat_vec.specs.Primitives.{canon}
 use Rattle.staat_vec.specs.Vectors.{negative}
 use Rattle.staat_vec.proofs.Canons.{canon-either, negative-negative}
-use Rattle.staat_graph.proofs.Finite.{same_or}
 use Rattle.staat_model.specs.declared.certificate.Arc.{Arc}
 use Rattle.staat_pairs.specs.Tables.{Table, facets_of, slot}
 use Rattle.staat_ring.specs.Blocks.{parts_at}
@@ -23,8 +22,10 @@ use Rattle.staat_ring.specs.Belonging.{IsPairIndexed, IsPairOf, PlaneFacet, face
 use Rattle.staat_ring.proofs.Totals.{is_positive, hits, sum_by-total, total-hits, total-plus, total-same}
 use Rattle.staat_ring.specs.Rings.{facet_by}
 use Rattle.staat_ring.proofs.ArcLaw.{positives-none}
-use Rattle.staat_ring.proofs.PairLemmas.{differ, one}
+use Rattle.staat_ring.proofs.PairLemmas.{one}
 use Rattle.staat_ring.proofs.PushLemmas.{occurs-push, sign_with}
+use Rattle.staat_vec.proofs.Truth.{and_true}
+use Rattle.staat_vec.proofs.Naturals.{add_none, same_or, eq_test_false}
 
 -- of the facets of pair q so many are put down
 pub record IsPartly (planes facets : List V3) (first s : Signed) (q m : ℕ) : Type 0 where
@@ -48,29 +49,17 @@ plane_facet_is facet n true e t f = ⊎_elim {C = negative n ≡ facet} (λ same
 abbrev both : Bool → Bool → Bool
 both a b = a && b
 
+pub plus_none : (n : ℕ) (b : Bool) → n ≡ n + one (b && false)
+plus_none n true = omega arith
+plus_none n false = omega arith
+
 along_with : (p q : ℕ) (turned : Bool) (s : Side) → occurs p (with_pair turned q s).along ≡ occurs p s.along + one ((q == p) && not turned)
 along_with p q false s = occurs-push p q s.along ∙ ap (λ b. occurs p s.along + one b) (sym (and_true (q == p)))
-  where
-    and_true : (b : Bool) → (b && true) ≡ b
-    and_true true = refl
-    and_true false = refl
 along_with p q true s = plus_none (occurs p s.along) (q == p)
-  where
-    plus_none : (n : ℕ) (b : Bool) → n ≡ n + one (b && false)
-    plus_none n true = omega arith
-    plus_none n false = omega arith
 
 against_with : (p q : ℕ) (turned : Bool) (s : Side) → occurs p (with_pair turned q s).against ≡ occurs p s.against + one ((q == p) && turned)
 against_with p q true s = occurs-push p q s.against ∙ ap (λ b. occurs p s.against + one b) (sym (and_true (q == p)))
-  where
-    and_true : (b : Bool) → (b && true) ≡ b
-    and_true true = refl
-    and_true false = refl
 against_with p q false s = plus_none (occurs p s.against) (q == p)
-  where
-    plus_none : (n : ℕ) (b : Bool) → n ≡ n + one (b && false)
-    plus_none n true = omega arith
-    plus_none n false = omega arith
 
 module _ (s : Signed) (w : PlaneFacet) (q : ℕ) (lt : w.plane < length s.sides) where
   abbrev new : Signed
@@ -86,21 +75,15 @@ module _ (s : Signed) (w : PlaneFacet) (q : ℕ) (lt : w.plane < length s.sides)
   along_after p k = ⊎_elim {C = occurs p (side_at new.sides k).along ≡ occurs p (side_at s.sides k).along + one ((w.plane == k) && ((q == p) && not w.turned))}
       (λ e. subst (λ k. occurs p (side_at new.sides k).along ≡ occurs p (side_at s.sides k).along + one ((w.plane == k) && ((q == p) && not w.turned))) (sym e)
       (ap (λ x. occurs p x.along) at_plane ∙ (along_with p q w.turned (side_at s.sides w.plane) ∙ ap (λ b. occurs p (side_at s.sides w.plane).along + one (b && ((q == p) && not w.turned))) (sym (eq-eqb w.plane w.plane refl)))))
-      (λ ne. ap (λ x. occurs p x.along) (elsewhere k ne) ∙ (add_none (occurs p (side_at s.sides k).along) ∙ ap (λ b. occurs p (side_at s.sides k).along + one (b && ((q == p) && not w.turned))) (sym (differ w.plane k (λ e. ne (sym e))))))
+      (λ ne. ap (λ x. occurs p x.along) (elsewhere k ne) ∙ (add_none (occurs p (side_at s.sides k).along) ∙ ap (λ b. occurs p (side_at s.sides k).along + one (b && ((q == p) && not w.turned))) (sym (eq_test_false w.plane k (λ e. ne (sym e))))))
       (same_or k w.plane)
-    where
-      add_none : (n : ℕ) → n ≡ n + 0
-      add_none n = omega arith
 
   pub against_after : (p k : ℕ) → occurs p (side_at new.sides k).against ≡ occurs p (side_at s.sides k).against + one ((w.plane == k) && ((q == p) && w.turned))
   against_after p k = ⊎_elim {C = occurs p (side_at new.sides k).against ≡ occurs p (side_at s.sides k).against + one ((w.plane == k) && ((q == p) && w.turned))}
       (λ e. subst (λ k. occurs p (side_at new.sides k).against ≡ occurs p (side_at s.sides k).against + one ((w.plane == k) && ((q == p) && w.turned))) (sym e)
       (ap (λ x. occurs p x.against) at_plane ∙ (against_with p q w.turned (side_at s.sides w.plane) ∙ ap (λ b. occurs p (side_at s.sides w.plane).against + one (b && ((q == p) && w.turned))) (sym (eq-eqb w.plane w.plane refl)))))
-      (λ ne. ap (λ x. occurs p x.against) (elsewhere k ne) ∙ (add_none (occurs p (side_at s.sides k).against) ∙ ap (λ b. occurs p (side_at s.sides k).against + one (b && ((q == p) && w.turned))) (sym (differ w.plane k (λ e. ne (sym e))))))
+      (λ ne. ap (λ x. occurs p x.against) (elsewhere k ne) ∙ (add_none (occurs p (side_at s.sides k).against) ∙ ap (λ b. occurs p (side_at s.sides k).against + one (b && ((q == p) && w.turned))) (sym (eq_test_false w.plane k (λ e. ne (sym e))))))
       (same_or k w.plane)
-    where
-      add_none : (n : ℕ) → n ≡ n + 0
-      add_none n = omega arith
 
   pub zero_after : AreZero s → AreZero new
   zero_after z k = ⊎_elim {C = (side_at new.sides k).sign ≡ Zero} (λ e. subst (λ k. (side_at new.sides k).sign ≡ Zero) (sym e) (ap (λ x. x.sign) at_plane ∙ (sign_with w.turned q (side_at s.sides w.plane) ∙ z w.plane))) (λ ne. ap (λ x. x.sign) (elsewhere k ne) ∙ z k) (same_or k w.plane)
@@ -109,8 +92,8 @@ module _ (s : Signed) (w : PlaneFacet) (q : ℕ) (lt : w.plane < length s.sides)
   pub others_after : (p : ℕ) → p ≢ q → IsPairKept s new p
   others_after p ne = record {
     pair = refl;
-    along = λ k. let e = along_after p k in let z = off (w.plane == k) (not w.turned) (differ q p (λ x. ne (sym x))) in omega (arith, e, z);
-    against = λ k. let e = against_after p k in let z = off (w.plane == k) w.turned (differ q p (λ x. ne (sym x))) in omega (arith, e, z);
+    along = λ k. let e = along_after p k in let z = off (w.plane == k) (not w.turned) (eq_test_false q p (λ x. ne (sym x))) in omega (arith, e, z);
+    against = λ k. let e = against_after p k in let z = off (w.plane == k) w.turned (eq_test_false q p (λ x. ne (sym x))) in omega (arith, e, z);
   }
     where
       off : (a c : Bool) → (q == p) ≡ false → one (a && ((q == p) && c)) ≡ 0

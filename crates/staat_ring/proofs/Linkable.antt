@@ -4,7 +4,6 @@ use Rattle.std.specs.Prelude.{Some, map, option_map, slice_get}
 use Rattle.std.specs.Ordering.{nat_cmp}
 use Rattle.std.specs.List.Sorted.{IsStrictlySortedBy}
 use Rattle.std.specs.declared.cmp.Ordering.TheVariants.{Less}
-use Rattle.std.proofs.lemmas.Bool.Decides.{nat_tests}
 use Rattle.std.proofs.lemmas.List.Elements.{All-contains, All-from_recursion}
 use Rattle.std.proofs.lemmas.Option.{slice_get-get_or, slice_get-map, slice_get_within}
 use Rattle.staat_vec.specs.declared.vector.V3.{V3}
@@ -22,13 +21,12 @@ use Rattle.staat_ring.specs.Links.{Distinct}
 use Rattle.staat_ring.specs.Linking.{CanBeLinked}
 use Rattle.staat_ring.specs.Numbered.{HasEntry, entry_number}
 use Rattle.staat_ring.specs.Rings.{IsRingOf, RingStop, stop_of, vertex_of}
-use Rattle.staat_ring.proofs.Mapped.{apart_from, from_map, in_map}
+use Rattle.staat_ring.proofs.Mapped.{apart_from}
 use Rattle.staat_ring.proofs.Numbering.{entry_once, one_entry}
 use Rattle.staat_ring.proofs.Steps.{negative_on, primitive_on}
 use Rattle.staat_ring.proofs.Stops.{none_parallel}
-
-less_is : (x y : ℕ) → nat_cmp x y ≡ Less → x < y
-less_is x y e = grind (arith, nat_tests)
+use Rattle.staat_vec.proofs.Comparisons.{less_number}
+use Rattle.staat_vec.proofs.ListLaws.{Contains-from_map, Contains-map}
 
 -- entries of ascending planes have different numbers
 distinct_numbers : (n c : ℕ) (es : List Entry) → ((e : Entry) → Contains es e → e.plane < n) → IsStrictlySortedBy nat_cmp (map (λ e. e.plane) es) → Distinct (map (entry_number n c) es)
@@ -36,8 +34,8 @@ unfolding IsStrictlySortedBy
 distinct_numbers n c [] small s = tt
 distinct_numbers n c (e ∷ es) small s = (
   apart_from (entry_number n c e) (map (entry_number n c) es) (λ y cy q.
-      let (f, cf, ef) = from_map (entry_number n c) es y cy in
-      let lt = less_is e.plane f.plane (All-contains (λ z. nat_cmp e.plane z ≡ Less) (map (λ e. e.plane) es) f.plane (All-from_recursion (λ z. nat_cmp e.plane z ≡ Less) (map (λ e. e.plane) es) s.0) (in_map (λ e. e.plane) es f cf)) in
+      let (f, cf, ef) = Contains-from_map (entry_number n c) es y cy in
+      let lt = less_number e.plane f.plane (All-contains (λ z. nat_cmp e.plane z ≡ Less) (map (λ e. e.plane) es) f.plane (All-from_recursion (λ z. nat_cmp e.plane z ≡ Less) (map (λ e. e.plane) es) s.0) (Contains-map (λ e. e.plane) es f cf)) in
       let same = ap (λ x. x.plane) (one_entry n c e f (small e (Contains-front e es)) (small f (Contains-later e es f cf)) (sym q ∙ sym ef)) in
       absurd (omega (arith, lt, same))),
   distinct_numbers n c es (λ f cf. small f (Contains-later e es f cf)) s.1,
@@ -48,13 +46,13 @@ module _ (planes : List V3) (table : AreTablePlanes planes) (linked : List ℕ) 
   as_stop es = record { node = 0; entries = es }
 
   pub stop_in : (es : List Entry) → Contains stops es → Contains (map (stop_of planes c) (map as_stop stops)) (stop_of planes c (as_stop es))
-  stop_in es ce = in_map (stop_of planes c) (map as_stop stops) (as_stop es) (in_map as_stop stops es ce)
+  stop_in es ce = Contains-map (stop_of planes c) (map as_stop stops) (as_stop es) (Contains-map as_stop stops es ce)
 
   pub pass : (es : List Entry) → Contains stops es → Lists nat_cmp (PassesThrough planes linked c (vertex_of planes c es)) (map (λ e. e.plane) es)
   pass es ce = All-contains (λ s. Lists nat_cmp (PassesThrough planes linked c s.vertex) s.through) (map (stop_of planes c) (map as_stop stops)) (stop_of planes c (as_stop es)) is.circle.through (stop_in es ce)
 
   passes : (es : List Entry) (e : Entry) → Contains stops es → Contains es e → PassesThrough planes linked c (vertex_of planes c es) e.plane
-  passes es e cs ce = (pass es cs).each e.plane (in_map (λ e. e.plane) es e ce)
+  passes es e cs ce = (pass es cs).each e.plane (Contains-map (λ e. e.plane) es e ce)
 
   pub small_plane : (es : List Entry) (e : Entry) → Contains stops es → Contains es e → e.plane < length planes
   small_plane es e cs ce = let p = passes es e cs ce in slice_get_within planes e.plane p.h p.linked_is.is
@@ -65,13 +63,13 @@ module _ (planes : List V3) (table : AreTablePlanes planes) (linked : List ℕ) 
   pub some_entry : (es : List Entry) → Contains stops es → HasEntry es
   some_entry es ce =
       let v : V3 = vertex_of planes c es in
-      let x = is.circle.vertices.each v (in_map (λ s. s.vertex) (map (stop_of planes c) (map as_stop stops)) (stop_of planes c (as_stop es)) (stop_in es ce)) in
+      let x = is.circle.vertices.each v (Contains-map (λ s. s.vertex) (map (stop_of planes c) (map as_stop stops)) (stop_of planes c (as_stop es)) (stop_in es ce)) in
       let g : V3 = is.circle.g in
       let flat : cross g x.h ≢ origin = (none_parallel planes linked table).apart c x.other g x.h is.circle.g_is x.other_is (λ q. x.different (sym q)) in
       let on : dot x.h (primitive (cross g x.h)) ≡ pos 0 = primitive_on x.h (cross g x.h) (dot_cross_right g x.h) flat in
       let zero : dot x.h v ≡ pos 0 = ⊎_elim {C = dot x.h v ≡ pos 0} (λ e. ap (dot x.h) e ∙ on) (λ e. ap (dot x.h) e ∙ negative_on x.h (primitive (cross g x.h)) on) x.is in
       let m = (pass es ce).all x.other (record { h = x.h; linked_is = x.other_is; different = x.different; on = zero }) in
-      let f = from_map (λ e. e.plane) es x.other m in
+      let f = Contains-from_map (λ e. e.plane) es x.other m in
       let e = f.1 in omega (arith, e.1)
 
   slot_in : (k : ℕ) → k < length stops → Contains stops (slot_at stops k)

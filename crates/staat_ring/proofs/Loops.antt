@@ -1,9 +1,9 @@
 -- The loops over the circles.
-use Rattle.std.proofs.Common.{◌≡◌, ◌≢◌, ℕ, suc, ◌+◌, ◌*◌, refl, sym, ap, ◌∙◌, List, [], ◌∷◌, ◌++◌, false, arith, add-one, eq-eqb, eqb}
+use Rattle.std.proofs.Common.{◌≡◌, ◌≢◌, ℕ, suc, ◌+◌, ◌*◌, refl, sym, ap, ◌∙◌, List, [], ◌∷◌, ◌++◌, add-one, eq-eqb}
 use Rattle.std.specs.Prelude.{if◌then◌else◌}
-use Rattle.std.proofs.lemmas.Bool.Decides.{nat_tests}
 use Rattle.staat_ring.specs.Links.{Arrays, take, give, take_all, give_all}
 use Rattle.staat_ring.specs.Planes.{entries_on, entries_of}
+use Rattle.staat_vec.proofs.Naturals.{eqb_false}
 
 pub take_all-append : (xs ys : List ℕ) (a : Arrays) → take_all (xs ++ ys) a ≡ take_all ys (take_all xs a)
 take_all-append [] ys a = refl
@@ -13,11 +13,8 @@ pub give_all-append : (xs ys : List ℕ) (a : Arrays) → give_all (xs ++ ys) a 
 give_all-append [] ys a = refl
 give_all-append (x ∷ xs) ys a = ap (give x) (give_all-append xs ys a)
 
-differs : (x y : ℕ) → x ≢ y → eqb x y ≡ false
-differs x y h = grind (arith, nat_tests)
-
 two_entries : (n p c : ℕ) → c ≢ p → entries_on n p c ≡ (2 * (c * n + p)) ∷ (2 * (c * n + p) + 1) ∷ []
-two_entries n p c h = ap (λ b. if b then [] else (2 * (c * n + p)) ∷ (2 * (c * n + p) + 1) ∷ []) (differs c p h)
+two_entries n p c h = ap (λ b. if b then [] else (2 * (c * n + p)) ∷ (2 * (c * n + p) + 1) ∷ []) (eqb_false c p h)
 
 no_entries : (n p c : ℕ) → c ≡ p → entries_on n p c ≡ []
 no_entries n p c h = ap (λ b. if b then [] else (2 * (c * n + p)) ∷ (2 * (c * n + p) + 1) ∷ []) (eq-eqb c p h)

@@ -1,5 +1,5 @@
 -- Unlinking and relinking keep what rings were made from, and what lists of them do.
-use Rattle.std.proofs.Common.{◌≡◌, ◌≢◌, ◌⊎◌, ◌↔◌, inl, inr, ⊎_elim, ℕ, zero, suc, ◌+◌, ◌<◌, ◌≤◌, Bool, true, false, not, arith, ap, refl, sym, subst, ◌∙◌, List, [], ◌∷◌, ◌++◌, length, take, All, Contains}
+use Rattle.std.proofs.Common.{◌≡◌, ◌⊎◌, ◌↔◌, inl, inr, ⊎_elim, ℕ, zero, suc, ◌+◌, ◌<◌, ◌≤◌, not, arith, ap, refl, sym, subst, ◌∙◌, List, [], ◌∷◌, ◌++◌, length, take, All, Contains}
 use Rattle.std.specs.Prelude.{◌==◌, Some, slice_get}
 use Rattle.std.proofs.lemmas.List.{append-nil, append_assoc}
 use Rattle.std.proofs.lemmas.List.Elements.{All-contains}
@@ -14,6 +14,8 @@ use Rattle.staat_ring.specs.Rings.{AreRings, Arrangement, Kept, Ring, WereMadeFr
 use Rattle.staat_ring.specs.Without.{IsRelinked, IsUnlinked, kept_plane, rings_without}
 use Rattle.staat_ring.proofs.RingsWithout.{linked_without, rings_stay}
 use Rattle.staat_ring.proofs.WithoutLemmas.{filter_from}
+use Rattle.staat_vec.proofs.Naturals.{apart_from_test}
+use Rattle.staat_ring.proofs.RingSteps.{last_or, last_is}
 
 abbrev Unlinks : Type 0
 Unlinks = List (Kept (List Ring))
@@ -63,15 +65,6 @@ relinked_made planes p a b is made = record {
 
 -- ---- lists of unlinks and relinks
 
-last_or : {X : Type 0} → X → List X → X
-last_or d [] = d
-last_or d (x ∷ xs) = last_or x xs
-
-last_is : {X : Type 0} (d : X) (xs : List X) (x : X) → last_or d (xs ++ x ∷ []) ≡ x
-unfolding last_or
-last_is d [] x = refl
-last_is d (y ∷ xs) x = last_is y xs x
-
 same_push : {X : Type 0} (xs ys : List X) (x y : X) → xs ++ x ∷ [] ≡ ys ++ y ∷ [] → (xs ≡ ys) × (x ≡ y)
 same_push xs ys x y e =
     let q : x ≡ y = sym (last_is x xs x) ∙ (ap (last_or x) e ∙ last_is x ys y) in
@@ -104,14 +97,7 @@ gone [] a b u k c = (subst (λ (x : Arrangement). Contains (linked_of x.rings) k
 gone (p ∷ ps) a b (m, is, us) k c =
     let (cm, absent) = gone ps m b us k c in
     let f = filter_from (λ k. not (k == p)) (linked_of a.rings) k (subst (λ ks. Contains ks k) (ap linked_of is.rings ∙ linked_without p a.rings) cm) in
-    (f.0, λ cp. ⊎_elim {C = ⊥} (λ e. not_same k p f.1 e) absent (Contains-cases p ps k cp))
-  where
-    not_same : (k p : ℕ) → not (k == p) ≡ true → k ≢ p
-    not_same k p h e = off (k == p) (Rattle.std.proofs.Common.eq-eqb k p e) h
-      where
-        off : (b : Bool) → b ≡ true → not b ≡ true → ⊥
-        off true a c = cc
-        off false a c = cc
+    (f.0, λ cp. ⊎_elim {C = ⊥} (λ e. apart_from_test k p f.1 e) absent (Contains-cases p ps k cp))
 
 pub of_a_set : (parts : List Part) (w : PartSet) (planes : List V3) (ps : List ℕ) (a b : Arrangement) → AreTablePlanes planes → WereMadeFrom planes a → a.unlinked ≡ [] → HasNoAxis ps
     → AreOtherPlanes parts w planes ps → AreUnlinked ps a b → AreRingsOfSet parts w planes b

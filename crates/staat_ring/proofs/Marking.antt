@@ -7,7 +7,6 @@ use Rattle.std.proofs.Math.ListN.{drop_of_length-le}
 use Rattle.staat_vec.specs.declared.vector.Sign.{Sign}
 use Rattle.staat_vec.specs.Lists.{IsFirst}
 use Rattle.staat_vec.proofs.Unique.{Contains-cases, Contains-front, Contains-later, Contains-nothing}
-use Rattle.staat_graph.proofs.Finite.{same_or}
 use Rattle.staat_model.specs.declared.certificate.Arc.{Arc}
 use Rattle.staat_pairs.specs.Tables.{IsTableArc, Table, slot}
 use Rattle.staat_ring.specs.declared.pairs.PairCount.{PairCount}
@@ -16,6 +15,7 @@ use Rattle.staat_ring.specs.Belonging.{BelongTo, IsUnused}
 use Rattle.staat_ring.specs.Signs.{Side, Signed, no_side, side_at}
 use Rattle.staat_ring.specs.SignChanges.{with_sign, with_plane_sign}
 use Rattle.staat_ring.specs.Marks.{mark_of, marked}
+use Rattle.staat_vec.proofs.Naturals.{lt_or_le, same_or}
 
 pub drop_next : (es : List Entry) (i : ℕ) (e : Entry) → slice_get es i ≡ Some e → drop i es ≡ e ∷ drop (i + 1) es
 drop_next es i e at = drop-cons es i e (slice_get_within es i e at) ∙ ((λ k. get_or_from_slice_get es i e e at k ∷ drop (suc i) es) ∙ ap (λ n. e ∷ drop n es) (sym (add-one i)))
@@ -44,9 +44,6 @@ same_itself s = record { size = refl; along = λ k. refl; against = λ k. refl; 
 pub same_trans : (s t u : Signed) → SameLists s t → SameLists t u → SameLists s u
 same_trans s t u p q = record { size = p.size ∙ q.size; along = λ k. p.along k ∙ q.along k; against = λ k. p.against k ∙ q.against k; pairs = p.pairs ∙ q.pairs }
 
-pub lt_or : (a b : ℕ) → (a < b) ⊎ (b ≤ a)
-lt_or a b = grind arith
-
 pub set_past : (xs : List Side) (k : ℕ) (x : Side) → length xs ≤ k → set xs k x ≡ xs
 set_past [] k x h = refl
 set_past (y ∷ xs) zero x h = absurd (omega arith)
@@ -58,7 +55,7 @@ kept_at {X = X} f sides k sign j same = ⊎_elim {C = f (side_at (set sides k (w
     (λ e. ⊎_elim {C = f (side_at (set sides k (with_sign sign (side_at sides k))) j) ≡ f (side_at sides j)}
     (λ lt. ap (λ i. f (side_at (set sides k (with_sign sign (side_at sides k))) i)) e ∙ (ap f (get_or-set_same sides k (with_sign sign (side_at sides k)) no_side lt) ∙ (same (side_at sides k) ∙ ap (λ i. f (side_at sides i)) (sym e))))
     (λ le. ap (λ xs. f (side_at xs j)) (set_past sides k (with_sign sign (side_at sides k)) le))
-    (lt_or k (length sides)))
+    (lt_or_le k (length sides)))
     (λ ne. ap f (get_or-set_other sides k j (with_sign sign (side_at sides k)) no_side ne))
     (same_or j k)
 

@@ -2,16 +2,16 @@
 use Rattle.std.proofs.Common.{◌≡◌, ◌+◌, ◌*◌, ◌%◌, ◌<◌, ◌≤◌, refl, Bool, true, false, if◌then◌else◌, ℕ, zero, [], ◌∷◌, arith, ap, sym, ◌∙◌, List, All, Contains, eq-eqb}
 use Rattle.std.specs.Prelude.{Some, map, slice_get, ◌==◌}
 use Rattle.std.proofs.lemmas.List.Elements.{All-contains}
-use Rattle.std.proofs.lemmas.Option.{slice_get-map}
 use Rattle.staat_vec.specs.declared.vector.V3.{V3}
-use Rattle.staat_model.proofs.GraphLemmas.{from_slice_get}
 use Rattle.staat_ring.specs.declared.entry.Entry.{Entry}
 use Rattle.staat_ring.specs.Numbered.{HasEntry, head_number, node_number, entry_number, entry_numbered}
 use Rattle.staat_ring.specs.Rings.{IsRingOf, Ring, RingStop, crossing, stop_of, vertex_of}
 use Rattle.staat_ring.specs.RingViews.{shape}
-use Rattle.staat_ring.proofs.Mapped.{differ}
 use Rattle.staat_ring.proofs.Numbers.{circle_of_number, circle_of_vertex, number_once, number_small}
 use Rattle.staat_ring.proofs.SoundLemmas.{plane_of_entry}
+use Rattle.staat_vec.proofs.ListLaws.{map_at_place}
+use Rattle.staat_vec.proofs.Unique.{from_place}
+use Rattle.staat_vec.proofs.Naturals.{eq_test_false}
 
 abbrev bit : Bool → ℕ
 bit b = if b then 1 else 0
@@ -46,7 +46,7 @@ entry_back n c e le = λ i. record { plane = plane_of_entry n e.plane c (bit e.t
 
     odd : (b : Bool) → ((2 * (c * n + e.plane) + bit b) % 2 == 1) ≡ b
     odd true = eq-eqb ((2 * (c * n + e.plane) + 1) % 2) 1 (rest (c * n + e.plane) 1 (omega arith))
-    odd false = differ ((2 * (c * n + e.plane) + 0) % 2) 1 (λ q. let r = rest (c * n + e.plane) 0 (omega arith) in omega (arith, q, r))
+    odd false = eq_test_false ((2 * (c * n + e.plane) + 0) % 2) 1 (λ q. let r = rest (c * n + e.plane) 0 (omega arith) in omega (arith, q, r))
 
 -- ---- the nodes of a circle
 
@@ -79,11 +79,8 @@ pub entry_once : (planes : List V3) (linked : List ℕ) (r : Ring) → IsRingOf 
 entry_once planes linked r is k m s t e ks mt ce de =
     is.circle.vertices.once k m (vertex_of planes r.plane s.entries) (place k s ks) (place m t mt ∙ ap (λ v. Some v) (sym (agree m t de mt) ∙ agree k s ce ks))
   where
-    at_map : {X Y : Type 0} (f : X → Y) (xs : List X) (k : ℕ) (x : X) → slice_get xs k ≡ Some x → slice_get (map f xs) k ≡ Some (f x)
-    at_map f xs k x e = slice_get-map f xs k ∙ ap (Rattle.std.specs.Prelude.option_map f) e
-
     place : (k : ℕ) (s : RingStop) → slice_get r.stops k ≡ Some s → slice_get (map (λ s. s.vertex) (map (stop_of planes r.plane) r.stops)) k ≡ Some (vertex_of planes r.plane s.entries)
-    place k s ks = at_map (λ s. s.vertex) (map (stop_of planes r.plane) r.stops) k (stop_of planes r.plane s) (at_map (stop_of planes r.plane) r.stops k s ks)
+    place k s ks = map_at_place (λ s. s.vertex) (map (stop_of planes r.plane) r.stops) k (stop_of planes r.plane s) (map_at_place (stop_of planes r.plane) r.stops k s ks)
 
     agree : (k : ℕ) (s : RingStop) → Contains s.entries e → slice_get r.stops k ≡ Some s → crossing planes r.plane e ≡ vertex_of planes r.plane s.entries
-    agree k s ce ks = All-contains (λ e. crossing planes r.plane e ≡ vertex_of planes r.plane s.entries) s.entries e (All-contains (λ s. All (λ e. crossing planes r.plane e ≡ vertex_of planes r.plane s.entries) s.entries) r.stops s is.agree (from_slice_get r.stops k s ks)) ce
+    agree k s ce ks = All-contains (λ e. crossing planes r.plane e ≡ vertex_of planes r.plane s.entries) s.entries e (All-contains (λ s. All (λ e. crossing planes r.plane e ≡ vertex_of planes r.plane s.entries) s.entries) r.stops s is.agree (from_place r.stops k s ks)) ce

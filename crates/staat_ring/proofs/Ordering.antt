@@ -1,51 +1,35 @@
 -- A crossing that is put at its place leaves the others rising.
 use Rattle.std.proofs.Common.{inl, inr, refl, Bool, true, if◌then◌else◌}
-use Rattle.std.proofs.Common.{◌≡◌, ◌⊎◌, ⊎_elim, ℕ, zero, suc, ◌+◌, ◌-◌, ◌<◌, ◌≤◌, arith, ap, sym, subst, ◌∙◌, List, length, ℤ, pos, negsuc, ◌*ℤ◌, ◌-ℤ◌, ◌<ℤ◌, [], ◌∷◌}
+use Rattle.std.proofs.Common.{◌≡◌, ◌⊎◌, ⊎_elim, ℕ, zero, suc, ◌+◌, ◌-◌, ◌<◌, ◌≤◌, arith, ap, sym, subst, ◌∙◌, List, length, pos, ◌<ℤ◌, [], ◌∷◌}
 use Rattle.std.proofs.lemmas.Int.{ints}
 use Rattle.std.specs.Prelude.{false}
 use Rattle.staat_vec.specs.declared.vector.V3.{V3}
-use Rattle.staat_vec.specs.declared.vector.Sign.TheVariants.{Neg, Pos, Zero}
-use Rattle.staat_vec.specs.Vectors.{IsWithin, cross, det, dot, origin, sign}
+use Rattle.staat_vec.specs.Vectors.{IsWithin, cross, det, dot, origin}
 use Rattle.staat_vec.proofs.Order.{pos_mul}
-use Rattle.staat_vec.proofs.Ring.{num, ◌⊖◌, ring}
-use Rattle.staat_vec.proofs.VecRing.{detE, values, v0, v1, v2}
 use Rattle.std.specs.List.{insert}
-use Rattle.std.proofs.Common.{Contains, get_or, ◌++◌, take}
+use Rattle.std.proofs.Common.{Contains, get_or, ◌++◌}
 use Rattle.std.proofs.lemmas.List.{get_or_default}
 use Rattle.std.proofs.lemmas.List.Edits.{get_or-insert_above, get_or-insert_at, get_or-insert_below, length-insert}
-use Rattle.std.proofs.lemmas.List.Elements.{All-contains, All-nil, Contains-append_cases, Contains-append_left, Contains-append_right}
+use Rattle.std.proofs.lemmas.List.Elements.{All-contains, Contains-append_cases, Contains-append_left, Contains-append_right}
 use Rattle.staat_vec.specs.declared.vector.TheConstants.{NORMAL}
-use Rattle.staat_vec.proofs.Unique.{Contains-front, Contains-nothing}
+use Rattle.staat_vec.proofs.Unique.{Contains-front}
 use Rattle.staat_model.proofs.Members.{All-from_members}
-use Rattle.staat_ring.proofs.Mapped.{same_or}
 use Rattle.staat_ring.specs.Order.{HasRay, IsHalfOf, IsPlace, RiseFrom, normal_at}
 use Rattle.staat_ring.proofs.Turns.{turn}
-use Rattle.staat_ring.proofs.Turning.{cancel_positive, turn_of_planes, turn_trans}
+use Rattle.staat_ring.proofs.Turning.{turn_of_planes, turn_trans}
+use Rattle.staat_vec.proofs.Integers.{mul-comm_ℤ, cancel_positive}
+use Rattle.staat_vec.proofs.Naturals.{lt_or_le, trichotomy, same_or}
+use Rattle.staat_vec.proofs.VectorLaws.{det_back, det_same}
+use Rattle.staat_vec.proofs.Signs.{sign_negative, sign_positive, zero_sign}
 
 abbrev Ahead : V3 → V3 → V3 → Type 0
 Ahead g a b = pos 0 <ℤ det g a b
-
-det_back : (g a b : V3) → det g a b ≡ pos 0 -ℤ det g b a
-det_back g a b = ring (values (g ∷ a ∷ b ∷ []) []) (detE v0 v1 v2) (num (pos 0) ⊖ detE v0 v2 v1) tt
-
-by_neg : (z : ℤ) → sign z ≡ Neg → z <ℤ pos 0
-by_neg (pos zero) e = cc
-by_neg (pos (suc n)) e = cc
-by_neg (negsuc n) e = omega (arith, ints)
-
-by_pos : (z : ℤ) → sign z ≡ Pos → pos 0 <ℤ z
-by_pos (pos zero) e = cc
-by_pos (pos (suc n)) e = omega (arith, ints)
-by_pos (negsuc n) e = cc
 
 turn_ahead : (g a b : V3) → pos 0 <ℤ dot g g → Ahead g a b → pos 0 <ℤ turn g (cross g a) (cross g b)
 turn_ahead g a b gg h = subst (λ z. pos 0 <ℤ z) (sym (turn_of_planes g a b)) (pos_mul (det g a b) (dot g g) h gg)
 
 ahead_turn : (g a b : V3) → pos 0 <ℤ dot g g → pos 0 <ℤ turn g (cross g a) (cross g b) → Ahead g a b
-ahead_turn g a b gg h = cancel_positive (dot g g) (det g a b) gg (subst (λ z. pos 0 <ℤ z) (turn_of_planes g a b ∙ flip (det g a b) (dot g g)) h)
-  where
-    flip : (x y : ℤ) → x *ℤ y ≡ y *ℤ x
-    flip x y = omega (arith, ints)
+ahead_turn g a b gg h = cancel_positive (dot g g) (det g a b) gg (subst (λ z. pos 0 <ℤ z) (turn_of_planes g a b ∙ mul-comm_ℤ (det g a b) (dot g g)) h)
 
 -- on the open half turn from the crossing with p
 pub ahead_trans : (g p a b c : V3) → pos 0 <ℤ dot g g → Ahead g p a → Ahead g p b → Ahead g p c → Ahead g a b → Ahead g b c → Ahead g a c
@@ -55,14 +39,14 @@ ahead_trans g p a b c gg pa pb pc ab bc =
 module _ (g p h : V3) (hs new : List V3) (i : ℕ) (gg : pos 0 <ℤ dot g g) (ph : Ahead g p h) (rise : RiseFrom g p hs) (at : IsPlace g hs h i false)
     (size : length new ≡ length hs + 1) (low : (k : ℕ) → k < i → normal_at new k ≡ normal_at hs k) (here : normal_at new i ≡ h) (high : (k : ℕ) → i < k → normal_at new k ≡ normal_at hs (k - 1)) where
   after : (k : ℕ) → i ≤ k → k < length hs → Ahead g h (normal_at hs k)
-  after k le lt = let n = by_neg (det g (normal_at hs k) h) (at.after k le lt) in let b = det_back g h (normal_at hs k) in omega (arith, ints)
+  after k le lt = let n = sign_negative (det g (normal_at hs k) h) (at.after k le lt) in let b = det_back g h (normal_at hs k) in omega (arith, ints)
 
   before : (k : ℕ) → k < i → Ahead g (normal_at hs k) h
   before k lt = ⊎_elim {C = Ahead g (normal_at hs k) h}
-      (λ e. by_pos (det g (normal_at hs k) h) (at.before k e))
+      (λ e. sign_positive (det g (normal_at hs k) h) (at.before k e))
       (λ ne.
       let last : i - 1 < length hs = (let w = at.within in omega (arith, w, lt)) in
-      let b = by_pos (det g (normal_at hs (i - 1)) h) (at.before (i - 1) (omega arith)) in
+      let b = sign_positive (det g (normal_at hs (i - 1)) h) (at.before (i - 1) (omega arith)) in
       ahead_trans g p (normal_at hs k) (normal_at hs (i - 1)) h gg (rise.ahead k (let w = at.within in omega (arith, w, lt))) (rise.ahead (i - 1) last) ph (rise.rises k (i - 1) (omega (arith, lt, ne)) last) b)
       (same_or (k + 1) i)
 
@@ -96,22 +80,11 @@ module _ (g p h : V3) (hs new : List V3) (i : ℕ) (gg : pos 0 <ℤ dot g g) (ph
 
 -- ---- one normal more
 
-det_same : (g a : V3) → det g a a ≡ pos 0
-det_same g a = ring (values (g ∷ a ∷ []) []) (detE v0 v1 v1) (num (pos 0)) tt
-
-by_zero : (z : ℤ) → sign z ≡ Zero → z ≡ pos 0
-by_zero (pos zero) e = refl
-by_zero (pos (suc n)) e = cc
-by_zero (negsuc n) e = cc
-
 in_before : (hs : List V3) (h : V3) (i : ℕ) → i ≤ length hs → (w : V3) → Contains hs w → Contains (insert hs i h) w
 in_before hs h i le w (k, lt, e) = ⊎_elim {C = Contains (insert hs i h) w}
     (λ low. (k, (let l = length-insert hs i h le in omega (arith, l, lt)), get_or-insert_below hs i h w k low le ∙ e))
     (λ high. (k + 1, (let l = length-insert hs i h le in omega (arith, l, lt)), get_or-insert_above hs i h w k high le ∙ e))
-    (lt_or k i)
-  where
-    lt_or : (a b : ℕ) → (a < b) ⊎ (b ≤ a)
-    lt_or a b = grind arith
+    (lt_or_le k i)
 
 in_new : (hs : List V3) (h : V3) (i : ℕ) → i ≤ length hs → Contains (insert hs i h) h
 in_new hs h i le = (i, (let l = length-insert hs i h le in omega (arith, l, le)), get_or-insert_at hs i h h le)
@@ -121,24 +94,10 @@ in_only hs h i le w (k, lt, e) = ⊎_elim {C = (w ≡ h) ⊎ Contains hs w}
     (λ low. inr (k, omega (arith, low, le), sym (get_or-insert_below hs i h w k low le) ∙ e))
     (λ o. ⊎_elim {C = (w ≡ h) ⊎ Contains hs w} (λ here. inl (sym (sym (get_or-insert_at hs i h w le) ∙ (ap (λ j. get_or (insert hs i h) j w) (sym here) ∙ e))))
     (λ high. inr (k - 1, (let l = length-insert hs i h le in omega (arith, l, lt, high)), sym (get_or-insert_above hs i h w (k - 1) (omega arith) le) ∙ (ap (λ j. get_or (insert hs i h) j w) (back k i high) ∙ e))) o)
-    (where_is k i)
+    (trichotomy k i)
   where
-    where_is : (k i : ℕ) → (k < i) ⊎ ((k ≡ i) ⊎ (i < k))
-    where_is k i = grind arith
-
     back : (k i : ℕ) → i < k → k - 1 + 1 ≡ k
     back k i lt = omega arith
-
-none_half : (g : V3) → IsHalfOf g [] []
-none_half g = record {
-  within = All-nil (IsWithin NORMAL);
-  each = λ h c. absurd (Contains-nothing h c);
-  only = λ h c. absurd (Contains-nothing h c);
-  rises = λ p gg all. record { ahead = λ k lt. absurd (omega (arith, lt)); rises = λ i k lt l. absurd (omega (arith, l)) };
-}
-
-pub half_start : (g : V3) (hs : List V3) → IsHalfOf g (take 0 hs) []
-half_start g hs = none_half g
 
 pub half_more : (g h : V3) (hs done half new : List V3) → IsWithin NORMAL h → done ≡ hs ++ h ∷ [] → ((i : ℕ) × (same : Bool) × IsPlace g half h i same × (new ≡ (if same then half else insert half i h))) → IsHalfOf g hs half → IsHalfOf g done new
 half_more g h hs done half new small e (i, true, at, set) is = subst (λ (ds : List V3). IsHalfOf g ds new) (sym e) (subst (λ (v : List V3). IsHalfOf g (hs ++ h ∷ []) v) (sym set) (record {
@@ -157,7 +116,7 @@ half_more g h hs done half new small e (i, true, at, set) is = subst (λ (ds : L
     some (suc j) le ne at = record {
       member = normal_at half j;
       listed = (j, omega arith, get_or_default half j (normal_at half j) origin (omega arith));
-      same = by_zero (det g (normal_at half j) h) (at.before j (omega arith));
+      same = zero_sign (det g (normal_at half j) h) (at.before j (omega arith));
     }
 
     ray : HasRay g half h

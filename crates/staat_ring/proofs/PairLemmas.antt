@@ -1,11 +1,10 @@
 -- One more or one less positive facet of one pair.
-use Rattle.std.proofs.Common.{◌≡◌, ◌≢◌, ◌⊎◌, ⊎_elim, ℕ, zero, suc, ◌+◌, ◌-◌, ◌<◌, ◌≤◌, Bool, true, false, not, ◌&&◌, arith, ap, sym, subst, ◌∙◌, refl, List, [], ◌∷◌, length, take, get_or, set, cond, eq-eqb, get_or-set_other, get_or-set_same, length-set}
+use Rattle.std.proofs.Common.{◌≡◌, ◌≢◌, ⊎_elim, ℕ, zero, suc, ◌+◌, ◌-◌, ◌<◌, ◌≤◌, Bool, true, false, not, ◌&&◌, arith, ap, sym, subst, ◌∙◌, refl, List, [], ◌∷◌, length, take, get_or, set, cond, eq-eqb, get_or-set_other, get_or-set_same, length-set}
 use Rattle.std.specs.Prelude.{IsTrue, ◌↔◌, ◌==◌, nat_lt, slice_index, slice_set}
 use Rattle.std.specs.Prelude.{replicate}
-use Rattle.std.proofs.lemmas.Bool.Decides.{nat_tests, Decides-eqb}
+use Rattle.std.proofs.lemmas.Bool.Decides.{Decides-eqb}
 use Rattle.std.proofs.lemmas.List.{set-get_or, get_or_default, get_or-replicate, get_or_past, length-replicate}
 use Rattle.std.proofs.lemmas.List.Sums.{sum_by-cons, sum_by-set, get_or-le-sum_by, count_by-le-length, count_by_more_yes, sum_by-take-le}
-use Rattle.staat_graph.proofs.Finite.{same_or}
 use Rattle.staat_ring.specs.declared.pairs.PairCount.{PairCount}
 use Rattle.staat_model.specs.declared.set.PartSet.{PartSet}
 use Rattle.staat_model.specs.Sets.{Has}
@@ -13,6 +12,8 @@ use Rattle.staat_graph.specs.Graphs.{IsStrong}
 use Rattle.staat_ring.specs.Blocks.{HasBlock, parts_at}
 use Rattle.staat_ring.proofs.Strength.{strong_same}
 use Rattle.staat_ring.specs.Pairs.{HasFullPair, CountBlocks, blocks, fresh, gained, is_block, no_pair, occurs, pair_at}
+use Rattle.staat_vec.proofs.Naturals.{lt_or_le, eq_test_false, lt_test, lt_test_false, same_or}
+use Rattle.staat_vec.proofs.Truth.{and_false, and_true}
 
 abbrev pub one : Bool → ℕ
 one b = cond b 1 0
@@ -21,28 +22,11 @@ one b = cond b 1 0
 written : (x : ℕ) (pairs : List PairCount) (q : ℕ) (p : PairCount) → q < length pairs → blocks x (set pairs q p) + one (is_block x (pair_at pairs q)) ≡ blocks x pairs + one (is_block x p)
 written x pairs q p lt = sum_by-set (λ r. one (is_block x r)) pairs q p no_pair lt
 
-pub differ : (a b : ℕ) → a ≢ b → (a == b) ≡ false
-differ a b h = grind (arith, nat_tests)
-
-lt_test : (a b : ℕ) → a < b → nat_lt a b ≡ true
-lt_test a b h = grind (arith, nat_tests)
-
-le_test : (a b : ℕ) → b ≤ a → nat_lt a b ≡ false
-le_test a b h = grind (arith, nat_tests)
-
-both_false : (b : Bool) → (b && false) ≡ false
-both_false true = refl
-both_false false = refl
-
-both_true : (b : Bool) → (b && true) ≡ b
-both_true true = refl
-both_true false = refl
-
 -- the facet that completes a pair
 pub completes : (x : ℕ) (p : PairCount) → p.positive + 1 ≡ p.wanted → (is_block x p ≡ false) × (is_block x (gained 1 p) ≡ (p.parts == x))
 completes x p e = (
-  ap (λ b. (p.parts == x) && not b) (lt_test p.positive p.wanted (omega arith)) ∙ both_false (p.parts == x),
-  ap (λ b. (p.parts == x) && not b) (le_test (p.positive + 1) p.wanted (omega arith)) ∙ both_true (p.parts == x),
+  ap (λ b. (p.parts == x) && not b) (lt_test p.positive p.wanted (omega arith)) ∙ and_false (p.parts == x),
+  ap (λ b. (p.parts == x) && not b) (lt_test_false (p.positive + 1) p.wanted (omega arith)) ∙ and_true (p.parts == x),
 )
 
 -- any other
@@ -50,15 +34,12 @@ pub leaves : (x : ℕ) (p : PairCount) → p.positive + 1 ≢ p.wanted → is_bl
 leaves x p n = ap (λ b. (p.parts == x) && not b) (same p.positive p.wanted n)
   where
     same : (a w : ℕ) → a + 1 ≢ w → nat_lt (a + 1) w ≡ nat_lt a w
-    same a w n = ⊎_elim (λ lt. lt_test (a + 1) w (omega arith) ∙ sym (lt_test a w lt)) (λ le. le_test (a + 1) w (omega arith) ∙ sym (le_test a w le)) (less_or a w)
-      where
-        less_or : (a w : ℕ) → (a < w) ⊎ (w ≤ a)
-        less_or a w = grind arith
+    same a w n = ⊎_elim (λ lt. lt_test (a + 1) w (omega arith) ∙ sym (lt_test a w lt)) (λ le. lt_test_false (a + 1) w (omega arith) ∙ sym (lt_test_false a w le)) (lt_or_le a w)
 
 count_at : (counts : List ℕ) (y n x : ℕ) → y < length counts → slice_index (slice_set counts y n) x ≡ cond (y == x) n (slice_index counts x)
 count_at counts y n x lt = ⊎_elim {C = slice_index (slice_set counts y n) x ≡ cond (y == x) n (slice_index counts x)}
     (λ e. ap (λ z. slice_index (slice_set counts y n) z) (sym e) ∙ (get_or-set_same counts y n 0 lt ∙ sym (ap (λ b. cond b n (slice_index counts x)) (eq-eqb y x e))))
-    (λ ne. get_or-set_other counts y x n 0 (λ e. ne (sym e)) ∙ sym (ap (λ b. cond b n (slice_index counts x)) (differ y x ne)))
+    (λ ne. get_or-set_other counts y x n 0 (λ e. ne (sym e)) ∙ sym (ap (λ b. cond b n (slice_index counts x)) (eq_test_false y x ne)))
     (same_or y x)
 
 parts_after : (pairs : List PairCount) (q : ℕ) (p : PairCount) → p.parts < 1024 → ((r : ℕ) → (pair_at pairs r).parts < 1024) → q < length pairs → (r : ℕ) → (pair_at (set pairs q p) r).parts < 1024
@@ -153,10 +134,6 @@ gain_more pairs counts after q p is lt at full e =
     subst (CountBlocks (set pairs q (gained 1 p))) (sym e)
     (counted_more pairs counts q is lt (gained 1 p) (ap (λ r. r.parts) (sym at)) (λ x. ap (is_block x) at ∙ (completes x p full).0) (λ x. (completes x p full).1))
 
-pub gain_same : (pairs : List PairCount) (counts : List ℕ) (q : ℕ) (p : PairCount) → CountBlocks pairs counts → q < length pairs → pair_at pairs q ≡ p → p.positive + 1 ≢ p.wanted → CountBlocks (set pairs q (gained 1 p)) counts
-gain_same pairs counts q p is lt at not_full =
-    counted_same pairs counts q is lt (gained 1 p) (ap (λ r. r.parts) (sym at)) (λ x. leaves x p not_full ∙ ap (is_block x) (sym at))
-
 abbrev pub lost : PairCount → PairCount
 lost p = record { positive = p.positive - 1; wanted = p.wanted; parts = p.parts }
 
@@ -172,11 +149,6 @@ lose_less pairs counts after q p is lt at some full e =
     let c : (x : ℕ) → (is_block x (lost p) ≡ false) × (is_block x (gained 1 (lost p)) ≡ (p.parts == x)) = λ x. completes x (lost p) (omega arith) in
     subst (CountBlocks (set pairs q (lost p))) (sym e)
     (counted_less pairs counts q is lt (lost p) (ap (λ r. r.parts) (sym at)) (λ x. (c x).0) (λ x. ap (is_block x) at ∙ (ap (is_block x) (sym back) ∙ (c x).1)))
-
-pub lose_same : (pairs : List PairCount) (counts : List ℕ) (q : ℕ) (p : PairCount) → CountBlocks pairs counts → q < length pairs → pair_at pairs q ≡ p → 0 < p.positive → p.positive ≢ p.wanted → CountBlocks (set pairs q (lost p)) counts
-lose_same pairs counts q p is lt at some not_full =
-    let back = gained-lost p some in
-    counted_same pairs counts q is lt (lost p) (ap (λ r. r.parts) (sym at)) (λ x. sym (leaves x (lost p) (λ e. not_full (omega arith))) ∙ (ap (is_block x) back ∙ ap (is_block x) (sym at)))
 
 set-set : (xs : List PairCount) (i : ℕ) (a b : PairCount) → set (set xs i a) i b ≡ set xs i b
 set-set [] i a b = refl
@@ -203,19 +175,15 @@ not_yet qs i lt =
 -- ---- a pair is told its parts and the number of its facets
 
 none_blocks : (x : ℕ) (p : PairCount) → p.positive < p.wanted → is_block x p ≡ false
-none_blocks x p lt = ap (λ b. (p.parts == x) && not b) (lt_test p.positive p.wanted lt) ∙ both_false (p.parts == x)
+none_blocks x p lt = ap (λ b. (p.parts == x) && not b) (lt_test p.positive p.wanted lt) ∙ and_false (p.parts == x)
 
 full_blocks : (x : ℕ) (p : PairCount) → p.wanted ≤ p.positive → is_block x p ≡ (p.parts == x)
-full_blocks x p le = ap (λ b. (p.parts == x) && not b) (le_test p.positive p.wanted le) ∙ both_true (p.parts == x)
+full_blocks x p le = ap (λ b. (p.parts == x) && not b) (lt_test_false p.positive p.wanted le) ∙ and_true (p.parts == x)
 
 pub want_full : (pairs : List PairCount) (counts after : List ℕ) (q wanted parts : ℕ) → CountBlocks pairs counts → q < length pairs → pair_at pairs q ≡ no_pair → parts < 1024 → wanted ≡ 0 → after ≡ slice_set counts parts (slice_index counts parts + 1) → CountBlocks (set pairs q (fresh wanted parts)) after
 want_full pairs counts after q wanted parts is lt at small z e =
     subst (CountBlocks (set pairs q (fresh wanted parts))) (sym e)
     (counted_full pairs counts q is lt (fresh wanted parts) small (λ x. ap (is_block x) at ∙ none_blocks x no_pair (omega arith)) (λ x. full_blocks x (fresh wanted parts) (omega arith)))
-
-pub want_none : (pairs : List PairCount) (counts : List ℕ) (q wanted parts : ℕ) → CountBlocks pairs counts → q < length pairs → pair_at pairs q ≡ no_pair → parts < 1024 → wanted ≢ 0 → CountBlocks (set pairs q (fresh wanted parts)) counts
-want_none pairs counts q wanted parts is lt at small some =
-    counted_new pairs counts q is lt (fresh wanted parts) small (λ x. ap (is_block x) at ∙ none_blocks x no_pair (omega arith)) (λ x. none_blocks x (fresh wanted parts) (omega arith))
 
 pub counted_start : (n : ℕ) → n ≤ 4096 → CountBlocks (replicate n no_pair) (replicate 1024 0)
 counted_start n le = record {
@@ -225,14 +193,11 @@ counted_start n le = record {
   each = λ x low. zero_at x ∙ sym (none x n);
 }
   where
-    in_or : (q n : ℕ) → (q < n) ⊎ (n ≤ q)
-    in_or q n = grind arith
-
     homes : (q : ℕ) → (pair_at (replicate n no_pair) q).parts < 1024
-    homes q = ⊎_elim {C = (pair_at (replicate n no_pair) q).parts < 1024} (λ lt. subst (λ (p : PairCount). p.parts < 1024) (sym (get_or-replicate n q no_pair no_pair lt)) (omega arith)) (λ past. subst (λ (p : PairCount). p.parts < 1024) (sym (get_or_past (replicate n no_pair) q no_pair (let e = length-replicate {A = PairCount} n no_pair in omega (arith, e, past)))) (omega arith)) (in_or q n)
+    homes q = ⊎_elim {C = (pair_at (replicate n no_pair) q).parts < 1024} (λ lt. subst (λ (p : PairCount). p.parts < 1024) (sym (get_or-replicate n q no_pair no_pair lt)) (omega arith)) (λ past. subst (λ (p : PairCount). p.parts < 1024) (sym (get_or_past (replicate n no_pair) q no_pair (let e = length-replicate {A = PairCount} n no_pair in omega (arith, e, past)))) (omega arith)) (lt_or_le q n)
 
     zero_at : (x : ℕ) → slice_index (replicate 1024 0) x ≡ 0
-    zero_at x = ⊎_elim {C = slice_index (replicate 1024 0) x ≡ 0} (λ lt. get_or-replicate 1024 x 0 0 lt) (λ past. get_or_past (replicate 1024 0) x 0 (let e = length-replicate {A = ℕ} 1024 0 in omega (arith, e, past))) (in_or x 1024)
+    zero_at x = ⊎_elim {C = slice_index (replicate 1024 0) x ≡ 0} (λ lt. get_or-replicate 1024 x 0 0 lt) (λ past. get_or_past (replicate 1024 0) x 0 (let e = length-replicate {A = ℕ} 1024 0 in omega (arith, e, past))) (lt_or_le x 1024)
 
     none : (x n : ℕ) → blocks x (replicate n no_pair) ≡ 0
     none x zero = refl

@@ -10,6 +10,7 @@ use Rattle.staat_ring.specs.Numbered.{entry_numbered, plane_of}
 use Rattle.staat_ring.specs.declared.entry.Entry.{Entry}
 use Rattle.staat_ring.specs.Rings.{RingStop}
 use Rattle.staat_ring.specs.Without.{has_some, other_than, stays, stop_without, ring_without, rings_without}
+use Rattle.staat_vec.proofs.ListLaws.{filter_twice, filter_inside}
 
 map_filter : {X Y : Type 0} (f : X → Y) (test : Y → Bool) (xs : List X) → filter test (map f xs) ≡ map f (filter (λ x. test (f x)) xs)
 map_filter f test [] = refl
@@ -27,15 +28,6 @@ map_twice f g (x ∷ xs) = ap (λ l. g (f x) ∷ l) (map_twice f g xs)
 pub filter_by : (p q : ℕ → Bool) (xs : List ℕ) → ((x : ℕ) → p x ≡ q x) → filter p xs ≡ filter q xs
 filter_by p q [] h = refl
 filter_by p q (x ∷ xs) h = λ i. cond (h x i) (x ∷ filter_by p q xs h i) (filter_by p q xs h i)
-
-pub filter_twice : (p q : ℕ → Bool) (xs : List ℕ) → filter q (filter p xs) ≡ filter (λ y. p y && q y) xs
-filter_twice p q [] = refl
-filter_twice p q (x ∷ xs) = step (p x) (filter_twice p q xs)
-  where
-    step : (a : Bool) → filter q (filter p xs) ≡ filter (λ y. p y && q y) xs
-        → filter q (cond a (x ∷ filter p xs) (filter p xs)) ≡ cond (a && q x) (x ∷ filter (λ y. p y && q y) xs) (filter (λ y. p y && q y) xs)
-    step true ih = ap (λ r. cond (q x) (x ∷ r) r) ih
-    step false ih = ih
 
 pub listed-push : (out : List ℕ) (p c : ℕ) → not (is_out (out ++ p ∷ []) c) ≡ (not (is_out out c) && not (p == c))
 listed-push [] p c = flat (p == c)
@@ -115,15 +107,6 @@ below_small (suc n) c h = go (numbers_below n) (below_small n c) h
     go [] ih (suc k, lt, e) = absurd (omega arith)
     go (x ∷ xs) ih (zero, lt, e) = let q = ih (zero, omega arith, e) in omega arith
     go (x ∷ xs) ih (suc k, lt, e) = go xs (λ d. ih (suc d.0, omega (arith, d.1), d.2)) (k, omega arith, e)
-
-filter_inside : (test : ℕ → Bool) (xs : List ℕ) (v : ℕ) → Contains (filter test xs) v → Contains xs v
-filter_inside test [] v c = c
-filter_inside test (x ∷ xs) v c = go (test x) (filter_inside test xs v) c
-  where
-    go : (b : Bool) → (Contains (filter test xs) v → Contains xs v) → Contains (cond b (x ∷ filter test xs) (filter test xs)) v → Contains (x ∷ xs) v
-    go false ih c = let r = ih c in (suc r.0, omega (arith, r.1), r.2)
-    go true ih (zero, lt, q) = (zero, omega arith, q)
-    go true ih (suc k, lt, q) = let r = ih (k, omega arith, q) in (suc r.0, omega (arith, r.1), r.2)
 
 pub rings-same : (n : ℕ) (out : List ℕ) (l m : RingLists) → AreSame (shape n) l m → rings_of n out l ≡ rings_of n out m
 rings-same n out l m s = map_same (ring_of n l) (ring_of n m) (filter (λ c. not (is_out out c)) (numbers_below n))

@@ -14,12 +14,13 @@ use Rattle.staat_ring.specs.Rings as rings
 use Rattle.staat_ring.specs.Stands.{IsRing, IsShortRing}
 use Rattle.staat_ring.proofs.Numbering.{head_small}
 use Rattle.staat_ring.specs.Views.{lists_of}
-use Rattle.staat_ring.proofs.Mapped.{from_apart, from_map}
+use Rattle.staat_ring.proofs.Mapped.{from_apart}
 use Rattle.staat_ring.proofs.RingLemmas.{below_small}
 use Rattle.staat_ring.proofs.SoundLemmas.{filter_inside}
 use Rattle.staat_ring.proofs.Unlinking.{linked_plane, planes_of_rings, sound_is_good}
 use Rattle.staat_ring.proofs.Built.{below_all}
 use Rattle.staat_ring.proofs.WithoutLemmas.{filter_in}
+use Rattle.staat_vec.proofs.ListLaws.{Contains-from_map}
 
 chain_step : (s : Links) (a : ℕ) (xs : List ℕ) (b k : ℕ) → Chain s a xs b → k ≤ length xs → get_or s.next (get_or (a ∷ xs) k 0) 0 ≡ get_or (xs ++ b ∷ []) k 0
 chain_step s a [] b zero c le = c.0
@@ -69,9 +70,6 @@ node_within s head xs node k short at = ⊎_elim {C = node < length s.next}
 
 -- ---- tests
 
-pub is_below : (a b : ℕ) → a < b → nat_lt a b ≡ true
-is_below a b h = grind (arith, nat_tests)
-
 pub not_below : (a b : ℕ) → b ≤ a → nat_lt a b ≡ true → ⊥
 not_below a b h e = let lt : a < b = grind (arith, nat_tests) in omega (arith, h, lt)
 
@@ -89,12 +87,12 @@ module _ (n count : ℕ) (order : List ℕ) (a : Arrays) (now : Arrangement) (vi
 
   pub ring_there : (r : rings.Ring) → Contains now.rings r → (c : ℕ) × (c < n) × (ring_of n (lists_of (shape n) a) c ≡ r)
   ring_there r cr =
-      let (c, cc', q) = from_map (ring_of n (lists_of (shape n) a)) (filter (λ c. not (is_out out c)) (numbers_below n)) r (subst (λ (v : Arrangement). Contains v.rings r) (sym view) cr) in
+      let (c, cc', q) = Contains-from_map (ring_of n (lists_of (shape n) a)) (filter (λ c. not (is_out out c)) (numbers_below n)) r (subst (λ (v : Arrangement). Contains v.rings r) (sym view) cr) in
       (c, below_small n c (filter_inside (λ c. not (is_out out c)) (numbers_below n) c cc').0, q)
 
   pub linked_small : (c : ℕ) → Contains (linked_of now.rings) c → c < n
   linked_small c cc' =
-      let (r, cr, e) = from_map (λ (r : rings.Ring). r.plane) now.rings c cc' in
+      let (r, cr, e) = Contains-from_map (λ (r : rings.Ring). r.plane) now.rings c cc' in
       let (d, ld, q) = ring_there r cr in
       subst (λ x. x < n) (ap (λ (r : rings.Ring). r.plane) q ∙ e) ld
 

@@ -1,5 +1,5 @@
 -- What unlink and relink do to the view and the invariant.
-use Rattle.std.proofs.Common.{◌≡◌, ℕ, zero, suc, ◌+◌, ◌-◌, ◌<◌, ◌≤◌, refl, sym, ap, subst, ◌∙◌, arith, List, [], ◌∷◌, ◌++◌, map, length, take, Contains, ◌⊎◌, inl, inr, set, get_or, add-one}
+use Rattle.std.proofs.Common.{◌≡◌, ℕ, zero, suc, ◌+◌, ◌-◌, ◌<◌, refl, sym, ap, subst, ◌∙◌, arith, List, [], ◌∷◌, ◌++◌, map, length, take, Contains, inl, inr, set, get_or, add-one}
 use Rattle.std.proofs.Math.Seq.{take-suc-set, take-suc}
 use Rattle.std.proofs.lemmas.List.{take-set-le, get_or-set_other}
 use Rattle.std.proofs.lemmas.Grind.{get_or-set_at}
@@ -15,7 +15,7 @@ use Rattle.staat_ring.specs.RingInvariant.{HaveTakenOut}
 use Rattle.staat_ring.proofs.ViewLemmas.{kept-push}
 use Rattle.staat_ring.proofs.SoundLemmas.{good-unlink, undone, rings-unlink}
 use Rattle.staat_ring.proofs.Unlinking.{sound_is_good, sound-push, sound-pop, planes_of_rings, linked_plane, one_less}
-use Rattle.staat_ring.proofs.TwoLevels.{decide}
+use Rattle.staat_vec.proofs.Naturals.{le_or_past, same_or}
 
 pub is_linked : (n : ℕ) (out : List ℕ) (a : Arrays) (v : Arrangement) (p : ℕ) → arrangement_of n out a ≡ v → Contains (map (λ r. r.plane) v.rings) p → Contains (still_linked n out) p
 is_linked n out a v p e c = subst (λ xs. Contains xs p) (ap (λ x. map (λ r. r.plane) x.rings) (sym e) ∙ planes_of_rings n out (lists_of (shape n) a)) c
@@ -74,7 +74,7 @@ module _ (n count : ℕ) (order : List ℕ) (a b : Arrays) (v : Arrangement) (p 
         room = let q = k.room in omega arith;
         size = omega arith;
         most = omega arith;
-        all = λ j le. elim (at_most j count) [
+        all = λ j le. elim (le_or_past j count) [
           | inl g ↦ subst (λ o. j + length (still_linked n o) ≡ n) (sym (take-set-le j order count p g)) (k.all j g)
           | inr g ↦ let m = one_less n p (take count order) linked in
               let t = k.all count (omega arith) in
@@ -82,7 +82,7 @@ module _ (n count : ℕ) (order : List ℕ) (a b : Arrays) (v : Arrangement) (p 
               let w = ap (λ o. length (still_linked n o)) (ap (λ i. take i (set order count p)) j' ∙ order_push count order p room) in
               omega arith
         ];
-        planes = λ j lt. elim (decide j count) [
+        planes = λ j lt. elim (same_or j count) [
           | inl q ↦ subst (λ x. x < n) (sym (get_or-set_at order count j p 0 q room)) l.0
           | inr q ↦ subst (λ x. x < n) (sym (get_or-set_other order count j p 0 q)) (k.planes j (omega arith))
         ];
@@ -90,16 +90,13 @@ module _ (n count : ℕ) (order : List ℕ) (a b : Arrays) (v : Arrangement) (p 
             (sound-push n p (take count order) a b back
             (subst (λ x. Rattle.staat_ring.specs.RingViews.StandForCircles n (take count order ++ p ∷ []) x) (sym is) (good-unlink n p (take count order) a l.0 l.1 (sound_is_good n (take count order) a k.sound))) k.sound);
       }
-    where
-      at_most : (k m : ℕ) → (k ≤ m) ⊎ (m + 1 ≤ k)
-      at_most k m = grind arith
 
 -- ---- relink
-last_or : {X : Type 0} → X → List X → X
+pub last_or : {X : Type 0} → X → List X → X
 last_or d [] = d
 last_or d (x ∷ xs) = last_or x xs
 
-last_is : {X : Type 0} (d : X) (xs : List X) (x : X) → last_or d (xs ++ x ∷ []) ≡ x
+pub last_is : {X : Type 0} (d : X) (xs : List X) (x : X) → last_or d (xs ++ x ∷ []) ≡ x
 unfolding last_or
 last_is d [] x = refl
 last_is d (y ∷ xs) x = last_is y xs x

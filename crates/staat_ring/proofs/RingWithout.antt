@@ -1,49 +1,31 @@
 -- The ring without a plane is a ring of the planes without it.
 use Rattle.std.proofs.Common.{◌≡◌, ◌≢◌, inl, ℕ, zero, suc, ◌+◌, ◌%◌, ◌<◌, ◌≤◌, Bool, true, false, not, arith, ap, sym, subst, ◌∙◌, refl, List, [], ◌∷◌, length, cond, All, Contains, pos}
-use Rattle.std.specs.Prelude.{◌==◌, Option, None, Some, map, option_map, slice_get}
+use Rattle.std.specs.Prelude.{◌==◌, Some, map, slice_get}
 use Rattle.std.specs.List.{filter}
 use Rattle.std.specs.Ordering.{nat_cmp}
 use Rattle.std.proofs.lemmas.List.{length-map}
 use Rattle.std.proofs.lemmas.List.Kept.{IsStrictlySortedBy-filter}
-use Rattle.std.proofs.lemmas.Option.{same_Some, slice_get-map, slice_get_within}
+use Rattle.std.proofs.lemmas.Option.{same_Some, slice_get_within}
 use Rattle.staat_vec.specs.declared.vector.V3.{V3}
 use Rattle.staat_vec.specs.Lists.{Lists, ListsOnce}
 use Rattle.staat_vec.specs.Primitives.{primitive}
 use Rattle.staat_vec.specs.Vectors.{cross, dot, origin}
-use Rattle.staat_vec.proofs.Unique.{Contains-front, Contains-later}
-use Rattle.staat_model.proofs.GraphLemmas.{from_slice_get}
+use Rattle.staat_vec.proofs.Unique.{Contains-front, Contains-later, from_place}
 use Rattle.staat_model.proofs.Members.{All-from_members}
 use Rattle.staat_model.specs.Circles.{IsAfter, IsLinked, IsNext, IsOnCircle, PassesThrough, Stop, axis_beside}
 use Rattle.staat_ring.specs.declared.entry.Entry.{Entry}
 use Rattle.staat_ring.specs.Rings.{IsRingOf, Ring, RingStop, stop_of, vertex_of}
 use Rattle.staat_ring.proofs.Stops.{AreLinkedApart}
 use Rattle.staat_ring.specs.Without.{other_than, ring_without, stays, stop_without}
-use Rattle.staat_ring.proofs.Mapped.{in_map, from_map}
-use Rattle.staat_ring.proofs.Covered.{place_of}
 use Rattle.staat_ring.proofs.CircleWithout.{NextBy, around_without, kept_of_stays, link_back, link_of, pass, planes_without, stays_of_kept}
 use Rattle.staat_ring.proofs.WithoutLemmas.{Different, agree_without, different_filter, filter_from, filter_in, vertex_stays}
+use Rattle.staat_vec.proofs.Naturals.{zero_not_suc, suc_same}
+use Rattle.staat_vec.proofs.ListLaws.{map_twice, place_in_map, map_at_place, Contains-map, Contains-from_map, place_of}
+use Rattle.staat_ring.proofs.Halving.{axis_differs}
 
 map_same : {X Y : Type 0} (f g : X → Y) (xs : List X) → ((x : X) → Contains xs x → f x ≡ g x) → map f xs ≡ map g xs
 map_same f g [] h = refl
 map_same f g (x ∷ xs) h = λ i. h x (Contains-front x xs) i ∷ map_same f g xs (λ y c. h y (Contains-later x xs y c)) i
-
-map_twice : {X Y Z : Type 0} (f : Y → Z) (g : X → Y) (xs : List X) → map f (map g xs) ≡ map (λ x. f (g x)) xs
-map_twice f g [] = refl
-map_twice f g (x ∷ xs) = ap (λ r. f (g x) ∷ r) (map_twice f g xs)
-
--- what stands in a list that is mapped
-map_at : {X Y : Type 0} (f : X → Y) (xs : List X) (k : ℕ) (y : Y) → slice_get (map f xs) k ≡ Some y → (x : X) × (slice_get xs k ≡ Some x) × (f x ≡ y)
-map_at {X = X} {Y = Y} f xs k y e = go (slice_get xs k) refl (sym (slice_get-map f xs k) ∙ e)
-  where
-    go : (o : Option X) → slice_get xs k ≡ o → option_map f o ≡ Some y → (x : X) × (slice_get xs k ≡ Some x) × (f x ≡ y)
-    go None q h = absurd (nothing y h)
-      where
-        nothing : (y : Y) → None ≡ Some y → ⊥
-        nothing y e = cc
-    go (Some x) q h = (x, q, same_Some (f x) y h)
-
-map_there : {X Y : Type 0} (f : X → Y) (xs : List X) (k : ℕ) (x : X) → slice_get xs k ≡ Some x → slice_get (map f xs) k ≡ Some (f x)
-map_there f xs k x e = slice_get-map f xs k ∙ ap (option_map f) e
 
 -- ---- each once
 
@@ -55,21 +37,15 @@ different_of_once f [] h = tt
 different_of_once f (x ∷ xs) h = (
   (λ y c e.
       let (k, at) = place_of xs y c in
-      zero_not k (h zero (suc k) (f x) refl (map_there f xs k y at ∙ ap (λ z. Some z) (sym e)))),
-  different_of_once f xs (λ k m y p q. one_less k m (h (suc k) (suc m) y p q)),
+      zero_not_suc k (h zero (suc k) (f x) refl (map_at_place f xs k y at ∙ ap (λ z. Some z) (sym e)))),
+  different_of_once f xs (λ k m y p q. suc_same k m (h (suc k) (suc m) y p q)),
 )
-  where
-    zero_not : (k : ℕ) → 0 ≡ suc k → ⊥
-    zero_not k e = absurd (omega (arith, e))
-
-    one_less : (k m : ℕ) → suc k ≡ suc m → k ≡ m
-    one_less k m e = omega (arith, e)
 
 once_of_different : {X : Type 0} (f : X → V3) (xs : List X) → Different f xs → Once (map f xs)
 once_of_different f [] h k m y p q = absurd (let lt = slice_get_within [] k y p in omega (arith, lt))
 once_of_different f (x ∷ xs) h zero zero y p q = refl
-once_of_different f (x ∷ xs) h zero (suc m) y p q = let (z, at, e) = map_at f xs m y q in absurd (h.0 z (from_slice_get xs m z at) (same_Some (f x) y p ∙ sym e))
-once_of_different f (x ∷ xs) h (suc k) zero y p q = let (z, at, e) = map_at f xs k y p in absurd (h.0 z (from_slice_get xs k z at) (same_Some (f x) y q ∙ sym e))
+once_of_different f (x ∷ xs) h zero (suc m) y p q = let (z, at, e) = place_in_map f xs m y q in absurd (h.0 z (from_place xs m z at) (same_Some (f x) y p ∙ sym e))
+once_of_different f (x ∷ xs) h (suc k) zero y p q = let (z, at, e) = place_in_map f xs k y p in absurd (h.0 z (from_place xs k z at) (same_Some (f x) y q ∙ sym e))
 once_of_different f (x ∷ xs) h (suc k) (suc m) y p q = ap suc (once_of_different f xs h.1 k m y p q)
 
 -- ---- entries and planes
@@ -85,10 +61,6 @@ filter_planes p (e ∷ es) = go (not (e.plane == p)) (filter_planes p es)
 beside_small : (c : ℕ) → axis_beside c < 3
 beside_small zero = omega arith
 beside_small (suc c) = omega arith
-
-beside_other : (c : ℕ) → axis_beside c ≢ c
-beside_other zero e = absurd (omega (arith, e))
-beside_other (suc c) e = absurd (omega (arith, e))
 
 module _ (planes : List V3) (linked : List ℕ) (r : Ring) (p : ℕ) (apart : AreLinkedApart planes linked) (is : IsRingOf planes linked r)
     (axis : (v : V3) → v ≢ origin → dot is.circle.g v ≡ pos 0 → (a : ℕ) × (h : V3) × IsLinked planes linked a h × (a ≢ p) × (a ≢ r.plane) × (dot h v ≢ pos 0))
@@ -123,14 +95,14 @@ module _ (planes : List V3) (linked : List ℕ) (r : Ring) (p : ℕ) (apart : Ar
 
   vertices_list : ListsOnce Kept (map vertex kept)
   vertices_list = record {
-    each = λ v cv. let (s, cs, e) = from_map vertex kept v cv in let f = filter_from (stays p) r.stops s cs in subst Kept e (kept_of_stays planes linked r p apart is axis s f.0 f.1);
+    each = λ v cv. let (s, cs, e) = Contains-from_map vertex kept v cv in let f = filter_from (stays p) r.stops s cs in subst Kept e (kept_of_stays planes linked r p apart is axis s f.0 f.1);
     all = λ v k.
         let l = link_of planes linked r p apart is axis k.other k.h k.other_is in
         let w : IsOnCircle planes linked c g v = record { other = k.other; h = k.h; other_is = l.0; different = k.different; is = k.is } in
-        let (S, cS, eS) = from_map (λ s. s.vertex) (map (stop_of planes c) r.stops) v (is.circle.vertices.all v w) in
-        let (s, cs, es) = from_map (stop_of planes c) r.stops S cS in
+        let (S, cS, eS) = Contains-from_map (λ s. s.vertex) (map (stop_of planes c) r.stops) v (is.circle.vertices.all v w) in
+        let (s, cs, es) = Contains-from_map (stop_of planes c) r.stops S cS in
         let e : vertex s ≡ v = ap (λ x. x.vertex) es ∙ eS in
-        subst (Contains (map vertex kept)) e (in_map vertex kept s (filter_in (stays p) r.stops s cs (stays_of_kept planes linked r p apart is axis s cs (subst Kept (sym e) k))));
+        subst (Contains (map vertex kept)) e (Contains-map vertex kept s (filter_in (stays p) r.stops s cs (stays_of_kept planes linked r p apart is axis s cs (subst Kept (sym e) k))));
     once = once_of_different vertex kept (different_filter vertex (stays p) r.stops (different_of_once vertex r.stops original));
   }
 
@@ -155,7 +127,7 @@ module _ (planes : List V3) (linked : List ℕ) (r : Ring) (p : ℕ) (apart : Ar
   axis_stays = link_back planes linked r p apart is axis (axis_beside c) is.circle.axis is.circle.axis_is (λ e. absurd (let b = beside_small c in omega (arith, b, e, no_axis)))
 
   head_stays : stays p head ≡ true
-  head_stays = stays_of_kept planes linked r p apart is axis head head_in (record { other = axis_beside c; h = is.circle.axis; other_is = axis_stays; different = beside_other c; is = inl head_vertex })
+  head_stays = stays_of_kept planes linked r p apart is axis head head_in (record { other = axis_beside c; h = is.circle.axis; other_is = axis_stays; different = axis_differs c; is = inl head_vertex })
 
   kept_is : kept ≡ head ∷ filter (stays p) first_stop.1
   kept_is = ap (filter (stays p)) first_stop.2 ∙ ap (λ b. cond b (head ∷ filter (stays p) first_stop.1) (filter (stays p) first_stop.1)) head_stays
@@ -171,23 +143,23 @@ module _ (planes : List V3) (linked : List ℕ) (r : Ring) (p : ℕ) (apart : Ar
   turns_left : (k : ℕ) (s t : Stop) → slice_get left k ≡ Some s → slice_get left ((k + 1) % length left) ≡ Some t → IsNext g left s.vertex t.vertex
   turns_left k s t ks kt =
       let size : length left ≡ length kept = ap length left_is ∙ length-map kept (λ s. stop_of planes c (stop_without p s)) in
-      let (a, ka, ea) = map_at (λ s. stop_of planes c (stop_without p s)) kept k s (subst (λ xs. slice_get xs k ≡ Some s) left_is ks) in
-      let (b, kb, eb) = map_at (λ s. stop_of planes c (stop_without p s)) kept ((k + 1) % length left) t (subst (λ xs. slice_get xs ((k + 1) % length left) ≡ Some t) left_is kt) in
+      let (a, ka, ea) = place_in_map (λ s. stop_of planes c (stop_without p s)) kept k s (subst (λ xs. slice_get xs k ≡ Some s) left_is ks) in
+      let (b, kb, eb) = place_in_map (λ s. stop_of planes c (stop_without p s)) kept ((k + 1) % length left) t (subst (λ xs. slice_get xs ((k + 1) % length left) ≡ Some t) left_is kt) in
       let n = next_kept k a b ka (subst (λ m. slice_get kept ((k + 1) % m) ≡ Some b) size kb) in
-      let fa = filter_from (stays p) r.stops a (from_slice_get kept k a ka) in
-      let fb = filter_from (stays p) r.stops b (from_slice_get kept ((k + 1) % length left) b kb) in
+      let fa = filter_from (stays p) r.stops a (from_place kept k a ka) in
+      let fb = filter_from (stays p) r.stops b (from_place kept ((k + 1) % length left) b kb) in
       let va : vertex a ≡ s.vertex = sym (vertex_stays planes linked r p apart is a fa.0 fa.1) ∙ ap (λ x. x.vertex) ea in
       let vb : vertex b ≡ t.vertex = sym (vertex_stays planes linked r p apart is b fb.0 fb.1) ∙ ap (λ x. x.vertex) eb in
       let m : NextBy Kept g s.vertex t.vertex = subst (λ v. NextBy Kept g v t.vertex) va (subst (λ v. NextBy Kept g (vertex a) v) vb n) in
       record {
         after = m.after;
-        nothing_between = All-from_members (λ x. IsAfter g s.vertex x.vertex → IsAfter g x.vertex t.vertex → ⊥) left (λ x cx. m.none x.vertex (vertices_list.each x.vertex (subst (λ vs. Contains vs x.vertex) vertices_are (in_map (λ s. s.vertex) left x cx))));
+        nothing_between = All-from_members (λ x. IsAfter g s.vertex x.vertex → IsAfter g x.vertex t.vertex → ⊥) left (λ x cx. m.none x.vertex (vertices_list.each x.vertex (subst (λ vs. Contains vs x.vertex) vertices_are (Contains-map (λ s. s.vertex) left x cx))));
       }
 
   -- the planes through a stop
   through_left : All (λ s. Lists nat_cmp (PassesThrough planes (planes_without p linked) c s.vertex) s.through) left
   through_left = All-from_members (λ s. Lists nat_cmp (PassesThrough planes (planes_without p linked) c s.vertex) s.through) left (λ x cx.
-      let (s, cs, es) = from_map (λ s. stop_of planes c (stop_without p s)) kept x (subst (λ xs. Contains xs x) left_is cx) in
+      let (s, cs, es) = Contains-from_map (λ s. stop_of planes c (stop_without p s)) kept x (subst (λ xs. Contains xs x) left_is cx) in
       let f = filter_from (stays p) r.stops s cs in
       let v = vertex_stays planes linked r p apart is s f.0 f.1 in
       let q = pass planes linked r p apart is axis s f.0 in

@@ -1,5 +1,5 @@
 -- Without a plane that is no axis, rings are the rings of the other linked planes.
-use Rattle.std.proofs.Common.{◌≡◌, ◌≢◌, ◌⊎◌, inl, inr, ℕ, zero, suc, ◌<◌, ◌≤◌, Bool, true, false, not, arith, ap, sym, subst, ◌∙◌, refl, List, [], ◌∷◌, ◌++◌, ⊎_elim, length, get_or, cond, Contains, length-append, ℤ, pos, negsuc}
+use Rattle.std.proofs.Common.{◌≡◌, ◌≢◌, ◌⊎◌, inl, inr, ℕ, ◌<◌, ◌≤◌, Bool, true, false, not, arith, ap, sym, subst, ◌∙◌, refl, List, [], ◌∷◌, ◌++◌, ⊎_elim, length, get_or, cond, Contains, length-append, pos}
 use Rattle.std.specs.Prelude.{◌==◌, Some, map, slice_get}
 use Rattle.std.specs.List.{filter}
 use Rattle.std.specs.Ordering.{nat_cmp}
@@ -18,16 +18,13 @@ use Rattle.staat_pairs.specs.Tables.{AreTablePlanes}
 use Rattle.staat_ring.specs.Rings.{IsRingOf, Ring, linked_of}
 use Rattle.staat_ring.specs.Without.{ring_without, rings_without}
 use Rattle.staat_ring.specs.Rings.{AreRings}
-use Rattle.staat_ring.proofs.Mapped.{differ, from_map, same_or}
 use Rattle.staat_ring.proofs.CircleWithout.{planes_without}
 use Rattle.staat_ring.proofs.Stops.{none_parallel}
 use Rattle.staat_ring.proofs.RingWithout.{ring_stays}
 use Rattle.staat_ring.proofs.WithoutLemmas.{filter_from, filter_in}
-
-zero_or : (a : ℤ) → (a ≡ pos 0) ⊎ (a ≢ pos 0)
-zero_or (pos zero) = inl refl
-zero_or (pos (suc n)) = inr (λ e. cc)
-zero_or (negsuc n) = inr (λ e. cc)
+use Rattle.staat_vec.proofs.Naturals.{apart_from_test, eq_test_false, same_or}
+use Rattle.staat_vec.proofs.Integers.{zero_or}
+use Rattle.staat_vec.proofs.ListLaws.{Contains-from_map}
 
 along_x : (v : V3) → dot (vector (pos 1) (pos 0) (pos 0)) v ≡ v.x
 along_x v = omega (arith, ints)
@@ -74,14 +71,14 @@ linked_without p (r ∷ rings) = go (not (r.plane == p)) (linked_without p rings
 pub rings_stay : (planes : List V3) (rings : List Ring) (out : List ℕ) (p : ℕ) → AreTablePlanes planes → AreRings planes rings out → 3 ≤ p → AreRings planes (rings_without p rings) (out ++ p ∷ [])
 rings_stay planes rings out p table are no_axis = record {
   each = All-from_members (IsRingOf planes (linked_of (rings_without p rings))) (rings_without p rings) (λ q cq.
-      let (r, cr, e) = from_map (ring_without p) (filter (λ r. not (r.plane == p)) rings) q cq in
+      let (r, cr, e) = Contains-from_map (ring_without p) (filter (λ r. not (r.plane == p)) rings) q cq in
       let f = filter_from (λ r. not (r.plane == p)) rings r cr in
       let is : IsRingOf planes (linked_of rings) r = All-contains (IsRingOf planes (linked_of rings)) rings r are.each f.0 in
       subst (IsRingOf planes (linked_of (rings_without p rings))) e
       (subst (λ ks. IsRingOf planes ks (ring_without p r)) (sym (linked_without p rings))
       (ring_stays planes (linked_of rings) r p (none_parallel planes (linked_of rings) table) is
       (off_axis planes table (linked_of rings) are.axes p no_axis r.plane is.circle.g is.circle.g_is)
-      no_axis (not_same r.plane p f.1))));
+      no_axis (apart_from_test r.plane p f.1))));
   ascending = subst (Rattle.std.specs.List.Sorted.IsStrictlySortedBy nat_cmp) (sym (linked_without p rings)) (IsStrictlySortedBy-filter nat_cmp (λ k. not (k == p)) (linked_of rings) are.ascending);
   axes = λ a lt. still a (λ e. absurd (omega (arith, e, lt, no_axis))) (are.axes a lt);
   all = λ k lt. ⊎_elim {C = Contains (linked_of (rings_without p rings)) k ⊎ Contains (out ++ p ∷ []) k}
@@ -92,11 +89,4 @@ rings_stay planes rings out p table are no_axis = record {
 }
   where
     still : (k : ℕ) → k ≢ p → Contains (linked_of rings) k → Contains (linked_of (rings_without p rings)) k
-    still k ne c = subst (λ ks. Contains ks k) (sym (linked_without p rings)) (filter_in (λ k. not (k == p)) (linked_of rings) k c (ap not (differ k p ne)))
-
-    not_same : (k p : ℕ) → not (k == p) ≡ true → k ≢ p
-    not_same k p h e = off (k == p) ((Rattle.std.proofs.lemmas.Bool.Decides.Decides-eqb k p).1 e) h
-      where
-        off : (b : Bool) → b ≡ true → not b ≡ true → ⊥
-        off true a c = cc
-        off false a c = cc
+    still k ne c = subst (λ ks. Contains ks k) (sym (linked_without p rings)) (filter_in (λ k. not (k == p)) (linked_of rings) k c (ap not (eq_test_false k p ne)))

@@ -13,8 +13,9 @@ use Rattle.staat_ring.proofs.Rows.{AreRows}
 use Rattle.staat_ring.specs.Numbered.{HasEntry, head_number, node_number, vertex_row, entry_number}
 use Rattle.staat_ring.specs.RingViews.{shape}
 use Rattle.staat_ring.specs.Rows.{Row, all_of, no_row, row_at}
-use Rattle.staat_ring.proofs.Mapped.{apart_from, distinct_by, from_map}
+use Rattle.staat_ring.proofs.Mapped.{apart_from, distinct_by}
 use Rattle.staat_ring.proofs.Numbering.{entry_circle, entry_small, first_entry, head_circle, head_small, node_circle, node_great, node_small, one_entry}
+use Rattle.staat_vec.proofs.ListLaws.{Contains-from_map}
 
 module _ (n c : ℕ) (lc : c < n) (stops : List (List Entry)) (can : CanBeLinked n c stops) where
   abbrev slot : ℕ → List Entry
@@ -64,7 +65,7 @@ module _ (n c : ℕ) (lc : c < n) (stops : List (List Entry)) (can : CanBeLinked
 
   pub node_of_row : (k y : ℕ) → Contains (all_of (vertex_row n c (slot k))) y → IsNodeOf k y
   node_of_row k y (zero, lt, e) = record { way = inl (sym e) }
-  node_of_row k y (suc i, lt, e) = record { way = inr (from_map (entry_number n c) (slot k) y (i, omega (arith, lt), e)) }
+  node_of_row k y (suc i, lt, e) = record { way = inr (Contains-from_map (entry_number n c) (slot k) y (i, omega (arith, lt), e)) }
 
   pub circle_of_row : (k y : ℕ) → k < length stops → Contains (all_of (vertex_row n c (slot k))) y → (shape n).circle y ≡ c
   circle_of_row k y lk cy = ⊎_elim {C = (shape n).circle y ≡ c} (λ e. ap (shape n).circle e ∙ circle_of_node k lk)
@@ -83,7 +84,7 @@ module _ (n c : ℕ) (lc : c < n) (stops : List (List Entry)) (can : CanBeLinked
 
   pub row_distinct : (k : ℕ) → k < length stops → Distinct (all_of (vertex_row n c (slot k)))
   row_distinct k lk = (
-    apart_from (node k) (map (entry_number n c) (slot k)) (λ y cy q. let (e, ce, w) = from_map (entry_number n c) (slot k) y cy in let s = number_within k lk e ce in let g = great k lk in absurd (omega (arith, s, g, w, q))),
+    apart_from (node k) (map (entry_number n c) (slot k)) (λ y cy q. let (e, ce, w) = Contains-from_map (entry_number n c) (slot k) y cy in let s = number_within k lk e ce in let g = great k lk in absurd (omega (arith, s, g, w, q))),
     can.distinct k lk,
   )
 
@@ -117,7 +118,7 @@ module _ (n c : ℕ) (lc : c < n) (stops : List (List Entry)) (can : CanBeLinked
 
   pub node_in : (y : ℕ) → Contains nodes y → (k : ℕ) × (k < length stops) × (node k ≡ y)
   node_in y cy =
-      let (es, (k, lt, e), q) = from_map (node_number n c) stops y cy in
+      let (es, (k, lt, e), q) = Contains-from_map (node_number n c) stops y cy in
       (k, lt, ap (node_number n c) (get_or_default stops k [] es lt ∙ e) ∙ q)
 
   pub nodes_distinct : Distinct nodes

@@ -1,5 +1,5 @@
 -- A ring is linked node by node, and rings one after another.
-use Rattle.std.proofs.Common.{◌≡◌, ◌≢◌, ◌⊎◌, inl, inr, ⊎_elim, ℕ, zero, suc, ◌+◌, ◌<◌, refl, sym, ap, subst, ◌∙◌, List, [], ◌∷◌, ◌++◌, length, get_or, take, All, Contains, arith}
+use Rattle.std.proofs.Common.{◌≡◌, ◌≢◌, ⊎_elim, ℕ, zero, suc, ◌+◌, ◌<◌, refl, sym, ap, subst, ◌∙◌, List, [], ◌∷◌, ◌++◌, length, get_or, take, All, Contains, arith}
 use Rattle.std.proofs.Math.ListN.{length-set}
 use Rattle.std.proofs.lemmas.List.Elements.{All-contains}
 use Rattle.staat_ring.specs.Links.{Apart, Chain, Distinct, Links, IsLinkedRing, append}
@@ -7,6 +7,7 @@ use Rattle.staat_ring.proofs.Ends.{last_of}
 use Rattle.staat_ring.specs.Linking.{AreLinked, IsSameAt}
 use Rattle.staat_ring.specs.Rows.{Row, all_of, row_at}
 use Rattle.staat_ring.proofs.Appending.{apart_last, kept, prev_last, ring-append}
+use Rattle.staat_vec.proofs.Naturals.{same_or}
 
 -- each row's nodes are distinct and below n, and no two rows have a node in common
 pub record AreRows (n : ℕ) (rows : List Row) : Type 0 where
@@ -38,7 +39,7 @@ nth_apart k d [] lt s = absurd (omega arith)
 nth_apart zero d (x ∷ xs) lt s = tt
 nth_apart (suc k) d (x ∷ xs) lt s = (λ e. apart_nth x k d xs (omega arith) s.0 (sym e), nth_apart k d xs (omega arith) s.1)
 
-apart_front : (y x : ℕ) (xs : List ℕ) → Apart y (xs ++ x ∷ []) → Apart y xs × (x ≢ y)
+pub apart_front : (y x : ℕ) (xs : List ℕ) → Apart y (xs ++ x ∷ []) → Apart y xs × (x ≢ y)
 apart_front y x [] a = (tt, a.0)
 apart_front y x (z ∷ xs) a = let r = apart_front y x xs a.1 in ((a.0, r.0), r.1)
 
@@ -119,12 +120,6 @@ linked_more s t rows m n lm rules ring others l = record {
   alone = λ k no lk. ring_same s t (row_at rows k).head [] (λ y cy. others y (rules.apart k m y lk lm (λ e. no (below k e)) (head_in (row_at rows k) y cy))) (l.alone k (λ lt. no (further k lt)) lk);
 }
   where
-    same_or : (a b : ℕ) → (a ≡ b) ⊎ (a ≢ b)
-    same_or a b = elim (three a b) [ inl e ↦ inl e | inr o ↦ inr (elim o [ inl x ↦ λ e. absurd (omega arith) | inr x ↦ λ e. absurd (omega arith) ]) ]
-      where
-        three : (a b : ℕ) → (a ≡ b) ⊎ ((a < b) ⊎ (b < a))
-        three a b = grind arith
-
     before : (k : ℕ) → k < m + 1 → k ≢ m → k < m
     before k lt ne = omega (arith, lt, ne)
 

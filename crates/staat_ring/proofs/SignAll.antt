@@ -1,18 +1,17 @@
 -- All linked planes get their signs.
-use Rattle.std.proofs.Common.{◌≡◌, ◌⊎◌, ⊎_elim, ℕ, ◌+◌, ◌<◌, ◌≤◌, true, false, arith, ap, subst, ◌∙◌, List, [], ◌∷◌, length, cond, Contains, get_or-set_other}
+use Rattle.std.proofs.Common.{◌≡◌, ⊎_elim, ℕ, ◌+◌, ◌<◌, ◌≤◌, arith, ap, subst, ◌∙◌, List, [], ◌∷◌, length, cond, Contains, get_or-set_other}
 use Rattle.std.specs.Prelude.{Some, nat_lt, slice_get}
-use Rattle.std.proofs.lemmas.Bool.Decides.{nat_tests}
 use Rattle.std.proofs.lemmas.List.Sums.{sum_by-cons, count_by-le-length}
 use Rattle.staat_vec.specs.declared.vector.V3.{V3}
 use Rattle.staat_vec.specs.declared.vector.Sign.{Sign}
 use Rattle.staat_vec.specs.Vectors.{dot, sign}
 use Rattle.staat_vec.proofs.Unique.{Contains-cases, Contains-nothing}
-use Rattle.staat_graph.proofs.Finite.{same_or}
 use Rattle.staat_model.specs.Circles.{IsLinked}
 use Rattle.staat_ring.specs.SignChanges.{with_plane_sign, with_sign}
 use Rattle.staat_ring.specs.Signs.{Signed, no_side, side_at}
 use Rattle.staat_ring.specs.Stepping.{count_below}
 use Rattle.staat_ring.proofs.Marking.{sign_of_set}
+use Rattle.staat_vec.proofs.Naturals.{lt_test_false, lt_test, lt_or_le, same_or}
 
 abbrev pub Done : List V3 → List ℕ → V3 → Signed → ℕ → Type 0
 Done planes linked d s k = (j : ℕ) (n : V3) → j < k → IsLinked planes linked j n → (side_at s.sides j).sign ≡ sign (dot n d)
@@ -30,22 +29,13 @@ abbrev below : ℕ → ℕ → ℕ
 below k x = cond (nat_lt x k) 1 0
 
 below_yes : (x k : ℕ) → x < k → below k x ≡ 1
-below_yes x k h = ap {B = ℕ} (λ b. cond b 1 0) (test x k h)
-  where
-    test : (x k : ℕ) → x < k → nat_lt x k ≡ true
-    test x k h = grind (arith, nat_tests)
+below_yes x k h = ap {B = ℕ} (λ b. cond b 1 0) (lt_test x k h)
 
 below_off : (x k : ℕ) → k ≤ x → below k x ≡ 0
-below_off x k h = ap {B = ℕ} (λ b. cond b 1 0) (test x k h)
-  where
-    test : (x k : ℕ) → k ≤ x → nat_lt x k ≡ false
-    test x k h = grind (arith, nat_tests)
-
-lt_or : (a b : ℕ) → (a < b) ⊎ (b ≤ a)
-lt_or a b = grind arith
+below_off x k h = ap {B = ℕ} (λ b. cond b 1 0) (lt_test_false x k h)
 
 one_less : (x k : ℕ) → below k x ≤ below (k + 1) x
-one_less x k = ⊎_elim {C = below k x ≤ below (k + 1) x} (λ lt. let a = below_yes x (k + 1) (omega arith) in let b = below_yes x k lt in omega (arith, a, b)) (λ le. let b = below_off x k le in omega (arith, b)) (lt_or x k)
+one_less x k = ⊎_elim {C = below k x ≤ below (k + 1) x} (λ lt. let a = below_yes x (k + 1) (omega arith) in let b = below_yes x k lt in omega (arith, a, b)) (λ le. let b = below_off x k le in omega (arith, b)) (lt_or_le x k)
 
 one_here : (k : ℕ) → (below k k ≡ 0) × (below (k + 1) k ≡ 1)
 one_here k = (below_off k k (omega arith), below_yes k (k + 1) (omega arith))

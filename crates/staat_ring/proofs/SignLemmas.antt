@@ -1,6 +1,6 @@
 -- One plane gets another sign.
 use Rattle.std.proofs.Common.{◌≡◌, ℕ, zero, suc, ◌+◌, ◌<◌, ◌≤◌, arith, ap, sym, subst, ◌∙◌, refl, List, [], ◌∷◌, length, set, cond, All, get_or-set_same}
-use Rattle.std.specs.Prelude.{IsTrue, ◌==◌, ◌↔◌, ◌&&◌, Bool, true, false, map}
+use Rattle.std.specs.Prelude.{IsTrue, ◌==◌, ◌↔◌, Bool, true, false, map}
 use Rattle.std.proofs.Math.ListN.{get_or-map}
 use Rattle.std.proofs.lemmas.List.{ext_get_or, length-map}
 use Rattle.std.proofs.lemmas.List.Elements.{All-set, All-get_or}
@@ -16,6 +16,8 @@ use Rattle.staat_ring.proofs.Strength.{strong_same}
 use Rattle.staat_ring.specs.Pairs.{HasFullPair, blocks, gained, is_block, is_full, no_pair, occurs, pair_at}
 use Rattle.staat_ring.specs.Signs.{HasBlockingPair, IsBlockingPair, Side, Signed, no_side, pairs_by, positive_pairs, positives, side_at}
 use Rattle.staat_ring.specs.SignChanges.{AreSigned, uses, emptied, with_sign}
+use Rattle.staat_vec.proofs.Truth.{and_split}
+use Rattle.std.proofs.lemmas.Bool.{and_from}
 
 positive_part : (s : Sign) (along against : List ℕ) (q : ℕ) → occurs q (pairs_by s along against) ≤ occurs q along + occurs q against
 positive_part Neg along against q = omega arith
@@ -99,16 +101,6 @@ full_le p h = grind (arith, nat_tests)
 le_full : (p : PairCount) → p.wanted ≤ p.positive → is_full p ≡ true
 le_full p h = grind (arith, nat_tests)
 
-both : (a b : Bool) → (a && b) ≡ true → (a ≡ true) × (b ≡ true)
-both true true h = (refl, refl)
-both true false h = cc
-both false b h = cc
-
-all_of : (a b : Bool) → a ≡ true → b ≡ true → (a && b) ≡ true
-all_of true true h g = refl
-all_of true false h g = cc
-all_of false b h g = cc
-
 -- a pair that is counted
 found : (x : ℕ) (pairs : List PairCount) → 0 < blocks x pairs → (q : ℕ) × (q < length pairs) × (is_block x (pair_at pairs q) ≡ true)
 found x [] h = absurd (omega arith)
@@ -125,7 +117,7 @@ pub blocking_is : (now : Signed) (sides : List Side) (pairs : List PairCount) �
 blocking_is now sides pairs view is x = (
   λ h.
       let (q, lt, b) = found x pairs h in
-      let t = both ((pair_at pairs q).parts == x) (is_full (pair_at pairs q)) b in (
+      let t = and_split ((pair_at pairs q).parts == x) (is_full (pair_at pairs q)) b in (
         q,
         subst (λ (s : Signed). IsBlockingPair s x q) view (record {
           within = subst (λ n. q < n) (sym (length-map pairs emptied)) lt;
@@ -136,7 +128,7 @@ blocking_is now sides pairs view is x = (
   λ (q, h).
       let k = subst (λ (s : Signed). IsBlockingPair s x q) (sym view) h in
       counted x pairs q (subst (λ n. q < n) (length-map pairs emptied) k.within)
-      (all_of ((pair_at pairs q).parts == x) (is_full (pair_at pairs q)) ((Decides-eqb (pair_at pairs q).parts x).1 (sym (ap (λ p. p.parts) (get_or-map emptied pairs q no_pair)) ∙ k.parts))
+      (and_from ((pair_at pairs q).parts == x) (is_full (pair_at pairs q)) ((Decides-eqb (pair_at pairs q).parts x).1 (sym (ap (λ p. p.parts) (get_or-map emptied pairs q no_pair)) ∙ k.parts))
       (le_full (pair_at pairs q) (subst (λ n. (pair_at pairs q).wanted ≤ n) (sym (is.each q)) (subst (λ (p : PairCount). p.wanted ≤ positives q sides) (get_or-map emptied pairs q no_pair) k.full)))),
 )
 

@@ -19,6 +19,8 @@ use Rattle.staat_ring.proofs.TwoLevels.{stands-take_all, present-after}
 use Rattle.staat_ring.proofs.ViewLemmas.{AreShort, lists_of_is, stands_same}
 use Rattle.staat_ring.proofs.Filters.{without-plane}
 use Rattle.staat_ring.proofs.RingLemmas.{rings-without, rings-same}
+use Rattle.staat_ring.proofs.Mapped.{apart_from}
+use Rattle.staat_vec.proofs.Truth.{from_not_true}
 
 -- ---- the numbers of the entries
 pub plane_of_entry : (n p c s : ℕ) → p < n → s < 2 → plane_of n (2 * (c * n + p) + s) ≡ p
@@ -50,10 +52,6 @@ entries_below n p (suc k) e h c = elim (Contains-append_cases (entries_of n p k)
   | inr b ↦ let t = two_cases n p k e b in omega (arith, t.1, t.2)
 ]
 
-apart_all : (x : ℕ) (ys : List ℕ) → ((y : ℕ) → Contains ys y → y ≢ x) → Apart x ys
-apart_all x [] h = tt
-apart_all x (y ∷ ys) h = (h y (zero, omega arith, refl), apart_all x ys (λ z c. h z (suc c.0, omega (arith, c.1), c.2)))
-
 apart_append : (x : ℕ) (xs ys : List ℕ) → Apart x xs → Apart x ys → Apart x (xs ++ ys)
 apart_append x [] ys h g = g
 apart_append x (y ∷ xs) ys h g = (h.0, apart_append x xs ys h.1 g)
@@ -61,7 +59,7 @@ apart_append x (y ∷ xs) ys h g = (h.0, apart_append x xs ys h.1 g)
 distinct_append : (xs ys : List ℕ) → Distinct xs → Distinct ys → ((x y : ℕ) → Contains xs x → Contains ys y → x < y) → Distinct (xs ++ ys)
 distinct_append [] ys dx dy h = dy
 distinct_append (x ∷ xs) ys dx dy h = (
-  apart_append x xs ys dx.0 (apart_all x ys (λ y c e. let lt = h x y (zero, omega arith, refl) c in omega arith)),
+  apart_append x xs ys dx.0 (apart_from x ys (λ y c e. let lt = h x y (zero, omega arith, refl) c in omega arith)),
   distinct_append xs ys dx.1 dy (λ a b c d. h a b (suc c.0, omega (arith, c.1), c.2) d),
 )
 
@@ -130,10 +128,6 @@ filter_inside test (x ∷ xs) v c = go (test x) refl (filter_inside test xs v) c
     go false h ih c = let r = ih c in ((suc r.0.0, omega (arith, r.0.1), r.0.2), r.1)
     go true h ih (zero, lt, q) = ((zero, omega arith, q), ap test (sym q) ∙ h)
     go true h ih (suc k, lt, q) = let r = ih (k, omega arith, q) in ((suc r.0.0, omega (arith, r.0.1), r.0.2), r.1)
-
-not_true : (b : Bool) → not b ≡ true → b ≡ false
-not_true true h = cc
-not_true false h = refl
 
 listed_apart : (out : List ℕ) (p q : ℕ) → is_out (out ++ p ∷ []) q ≡ false → (is_out out q ≡ false) × (q ≢ p)
 listed_apart [] p q h = (refl, λ e. last (p == q) (eq-eqb p q (sym e)) h)
@@ -212,14 +206,14 @@ module _ (n p : ℕ) (out : List ℕ) (a : Arrays) (in' : p < n) (linked : is_ou
     full = λ c v hc cv.
         let cv' = in_cut c v hc (new_mid c v hc cv) in
         ap is_empty (sym (cut_new.entries c v hc cv'))
-        ∙ not_true (is_empty (cut.entries v)) (filter_inside (λ w. not (is_empty (filter (λ e. not (plane_of n e == p)) (old.entries w)))) (old.vertices c) v cv').1;
+        ∙ from_not_true (is_empty (cut.entries v)) (filter_inside (λ w. not (is_empty (filter (λ e. not (plane_of n e == p)) (old.entries w)))) (old.vertices c) v cv').1;
     short_circles = λ c hc. subst (λ xs. length xs < length (take_all es a).circles.next) (mid_new.vertices c hc) (short.vertices c hc);
     short_vertices = λ c v hc cv. subst (λ xs. length xs < length (take_all es a).vertices.next) (mid_new.entries c v hc (new_mid c v hc cv)) (short.entries c v hc (new_mid c v hc cv));
     present = λ q hq lq.
         let s = listed_apart out p q lq in
         each_same (shape n) mid new (take_all es a) (entries_of n q n) mid_new
         (each_present (shape n) es (entries_of n q n) old a
-        (λ f cf. apart_all f es (λ e ce x. s.1 (sym (entries_planes n q n f hq cf) ∙ (ap (plane_of n) (sym x) ∙ entries_planes n p n e in' ce))))
+        (λ f cf. apart_from f es (λ e ce x. s.1 (sym (entries_planes n q n f hq cf) ∙ (ap (plane_of n) (sym x) ∙ entries_planes n p n e in' ce))))
         (good.present q hq s.0));
     known = λ c v e hc cv ce.
         let cv' = new_mid c v hc cv in

@@ -1,6 +1,5 @@
 -- A step along a circle changes the signs of the planes through the two stops, and nothing else.
-use Rattle.std.proofs.Common.{◌≡◌, ◌≢◌, ℕ, zero, suc, refl, sym, ap, subst, ◌∙◌, arith, ℤ, pos, negsuc, ◌<ℤ◌, List, map, inl, inr, Contains}
-use Rattle.std.proofs.lemmas.Int.{ints}
+use Rattle.std.proofs.Common.{◌≡◌, ◌≢◌, ℕ, refl, sym, ap, subst, ◌∙◌, ℤ, pos, ◌<ℤ◌, List, map, inl, inr, Contains}
 use Rattle.std.proofs.lemmas.List.Elements.{All-contains}
 use Rattle.std.proofs.lemmas.Option.{same_Some}
 use Rattle.std.specs.Ordering.{nat_cmp}
@@ -13,23 +12,18 @@ use Rattle.staat_model.specs.Circles.{Stop, IsLinked, IsOnCircle, IsNext, IsCirc
 use Rattle.staat_ring.proofs.Stops.{AreLinkedApart}
 use Rattle.staat_ring.proofs.StepSigns.{StepSigns}
 use Rattle.staat_ring.proofs.Turns.{turn}
-use Rattle.staat_ring.proofs.Mapped.{from_map}
-use Rattle.staat_ring.proofs.Steps.{no_turn_origin, not_both, on_plane, size_positive}
+use Rattle.staat_ring.proofs.Steps.{no_turn_origin, not_both, on_plane}
 use Rattle.staat_ring.proofs.Walking.{sign_stays}
+use Rattle.staat_vec.proofs.Integers.{positive_not_zero}
+use Rattle.staat_vec.proofs.Signs.{zero_sign}
+use Rattle.staat_vec.proofs.ListLaws.{Contains-from_map}
+use Rattle.staat_vec.proofs.VectorLaws.{some_square}
 
 normal_positive : (g v w : V3) → pos 0 <ℤ turn g v w → pos 0 <ℤ dot g g
-normal_positive g v w h = size_positive g (λ e. none (turn g v w) h (ap (λ x. turn x v w) e ∙ no_turn_origin v w))
-  where
-    none : (a : ℤ) → pos 0 <ℤ a → a ≡ pos 0 → ⊥
-    none a h e = omega (arith, ints)
+normal_positive g v w h = some_square g (λ e. positive_not_zero (turn g v w) h (ap (λ x. turn x v w) e ∙ no_turn_origin v w))
 
 sign_zero : (a : ℤ) → a ≡ pos 0 → sign a ≡ Zero
 sign_zero a e = ap sign e
-
-zero_sign : (a : ℤ) → sign a ≡ Zero → a ≡ pos 0
-zero_sign (pos zero) e = refl
-zero_sign (pos (suc n)) e = cc
-zero_sign (negsuc n) e = cc
 
 pub step_signs : (table : List V3) (linked : List ℕ) (c : ℕ) (stops : List Stop) (s t : Stop) (g : V3) → AreLinkedApart table linked → (ci : IsCircle table linked c stops) → IsLinked table linked c g → ci.g ≡ g
     → Contains stops s → Contains stops t → Contains (map (λ r. r.vertex) stops) s.vertex → Contains (map (λ r. r.vertex) stops) t.vertex → IsNext g stops s.vertex t.vertex → StepSigns table linked c s t
@@ -68,6 +62,6 @@ step_signs table linked c stops s t g np ci gi same_g cs ct vs vt n =
 
     between : (u : V3) → Contains (map (λ r. r.vertex) stops) u → pos 0 <ℤ turn g s.vertex u → pos 0 <ℤ turn g u t.vertex → ⊥
     between u cu a b =
-        let m = from_map (λ r. r.vertex) stops u cu in
+        let m = Contains-from_map (λ r. r.vertex) stops u cu in
         All-contains (λ r. IsAfter g s.vertex r.vertex → IsAfter g r.vertex t.vertex → ⊥) stops m.0 n.nothing_between m.1
         (subst (λ x. pos 0 <ℤ turn g s.vertex x) (sym m.2) a) (subst (λ x. pos 0 <ℤ turn g x t.vertex) (sym m.2) b)

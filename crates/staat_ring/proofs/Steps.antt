@@ -1,5 +1,5 @@
 -- Crossings lie on their planes, and two planes do not meet in two vertices that follow each other.
-use Rattle.std.proofs.Common.{◌≡◌, ◌≢◌, ℕ, sym, ap, ◌∙◌, arith, ℤ, pos, ◌+ℤ◌, ◌-ℤ◌, ◌*ℤ◌, neg_ℤ, ◌≤ℤ◌, ◌<ℤ◌, List, [], ◌∷◌, ◌⊎◌, inl, inr}
+use Rattle.std.proofs.Common.{◌≡◌, ◌≢◌, ℕ, sym, ap, ◌∙◌, arith, ℤ, pos, ◌+ℤ◌, ◌-ℤ◌, ◌*ℤ◌, ◌<ℤ◌, List, [], ◌∷◌, inl, inr}
 use Rattle.std.proofs.lemmas.Int.{ints}
 use Rattle.staat_vec.specs.declared.vector.V3.{V3}
 use Rattle.staat_vec.specs.Vectors.{dot, cross, det, negative, origin}
@@ -7,34 +7,21 @@ use Rattle.staat_vec.specs.Primitives.{primitive, content}
 use Rattle.staat_model.specs.Circles.{IsLinked, IsOnCircle}
 use Rattle.staat_ring.proofs.Turns.{turn}
 use Rattle.staat_ring.proofs.Stops.{AreLinkedApart}
-use Rattle.staat_vec.proofs.Ring.{at, num, ◌⊕◌, ◌⊖◌, ◌⊗◌, ring}
-use Rattle.staat_vec.proofs.VecRing.{dotE, crossE, detE, values, v0, v1, v2, v3, timesE}
-use Rattle.staat_vec.proofs.Order.{pos_mul, square_sign, square_nonneg, cancel_zero}
+use Rattle.staat_vec.proofs.Ring.{at, num, ◌⊕◌, ◌⊖◌, ◌⊗◌, ring, zero-mul_ℤ}
+use Rattle.staat_vec.proofs.VecRing.{dotE, detE, values, v0, v1, v2, v3, timesE, dot_cross_left}
+use Rattle.staat_vec.proofs.Order.{pos_mul, cancel_zero}
 use Rattle.staat_ring.proofs.Turning.{turnE, turn_back}
 use Rattle.staat_ring.proofs.Content.{content_divides}
 use Rattle.staat_ring.proofs.Sides.{turn_is_side}
+use Rattle.staat_vec.proofs.Integers.{neg_is_minus, positive_not_zero}
+use Rattle.staat_vec.proofs.VectorLaws.{some_square}
 
 -- ---- sizes
-pub size_positive : (v : V3) → v ≢ origin → pos 0 <ℤ dot v v
-size_positive v some = go (square_sign v.x) (square_sign v.y) (square_sign v.z)
-  where
-    sum : (a b c : ℤ) → pos 0 ≤ℤ a → pos 0 ≤ℤ b → pos 0 ≤ℤ c → (pos 0 <ℤ a) ⊎ ((pos 0 <ℤ b) ⊎ (pos 0 <ℤ c)) → pos 0 <ℤ (a +ℤ b +ℤ c)
-    sum a b c p q r (inl h) = omega (arith, ints)
-    sum a b c p q r (inr (inl h)) = omega (arith, ints)
-    sum a b c p q r (inr (inr h)) = omega (arith, ints)
-
-    go : (v.x ≡ pos 0) ⊎ (pos 0 <ℤ (v.x *ℤ v.x)) → (v.y ≡ pos 0) ⊎ (pos 0 <ℤ (v.y *ℤ v.y)) → (v.z ≡ pos 0) ⊎ (pos 0 <ℤ (v.z *ℤ v.z)) → pos 0 <ℤ dot v v
-    go (inr a) y z = sum (v.x *ℤ v.x) (v.y *ℤ v.y) (v.z *ℤ v.z) (square_nonneg v.x) (square_nonneg v.y) (square_nonneg v.z) (inl a)
-    go (inl e) (inr b) z = sum (v.x *ℤ v.x) (v.y *ℤ v.y) (v.z *ℤ v.z) (square_nonneg v.x) (square_nonneg v.y) (square_nonneg v.z) (inr (inl b))
-    go (inl e) (inl f) (inr c) = sum (v.x *ℤ v.x) (v.y *ℤ v.y) (v.z *ℤ v.z) (square_nonneg v.x) (square_nonneg v.y) (square_nonneg v.z) (inr (inr c))
-    go (inl e) (inl f) (inl k) = absurd (some (λ i. record { x = e i; y = f i; z = k i }))
 
 pub no_turn_origin : (v w : V3) → turn origin v w ≡ pos 0
 no_turn_origin v w = ring (values (v ∷ w ∷ []) []) (turnE (record { x = num (pos 0); y = num (pos 0); z = num (pos 0) }) v0 v1) (num (pos 0)) tt
 
 -- ---- a crossing lies on the plane
-pub own_side : (g h : V3) → dot g (cross g h) ≡ pos 0
-own_side g h = ring (values (g ∷ h ∷ []) []) (dotE v0 (crossE v0 v1)) (num (pos 0)) tt
 
 dot_times : (g v : V3) (k : ℤ) → dot g (record { x = k *ℤ v.x; y = k *ℤ v.y; z = k *ℤ v.z }) ≡ k *ℤ dot g v
 dot_times g v k = ring (values (g ∷ v ∷ []) (k ∷ [])) (dotE v0 (timesE (at 6) v1)) (at 6 ⊗ dotE v0 v1) tt
@@ -47,11 +34,8 @@ primitive_on g u e some =
 pub negative_on : (g v : V3) → dot g v ≡ pos 0 → dot g (negative v) ≡ pos 0
 negative_on g v e = turned ∙ ap (λ z. pos 0 -ℤ z) e
   where
-    minus : (a : ℤ) → neg_ℤ a ≡ pos 0 -ℤ a
-    minus a = omega (arith, ints)
-
     turned : dot g (negative v) ≡ pos 0 -ℤ dot g v
-    turned = (λ i. g.x *ℤ minus v.x i +ℤ g.y *ℤ minus v.y i +ℤ g.z *ℤ minus v.z i)
+    turned = (λ i. g.x *ℤ neg_is_minus v.x i +ℤ g.y *ℤ neg_is_minus v.y i +ℤ g.z *ℤ neg_is_minus v.z i)
         ∙ ring (values (g ∷ v ∷ []) []) (dotE v0 (record { x = num (pos 0) ⊖ at 3; y = num (pos 0) ⊖ at 4; z = num (pos 0) ⊖ at 5 })) (num (pos 0) ⊖ dotE v0 v1) tt
 
 -- four vectors, of which the last lies on the plane g
@@ -62,26 +46,20 @@ four_on g u v w = ring (values (g ∷ u ∷ v ∷ w ∷ []) []) (turnE v0 v2 v3 
 pub not_both : (g h v w : V3) → pos 0 <ℤ turn g v w → dot g v ≡ pos 0 → dot g w ≡ pos 0 → cross g h ≢ origin → dot h v ≡ pos 0 → dot h w ≡ pos 0 → ⊥
 not_both g h v w ahead ev ew apart hv hw =
     let u : V3 = cross g h in
-    let big = pos_mul (turn g v w) (dot u u) ahead (size_positive u apart) in
-    let vu : turn g v u ≡ pos 0 = turn_is_side g h v ev ∙ ap (λ z. z *ℤ dot g g) hv ∙ zero_times (dot g g) in
-    let wu : turn g w u ≡ pos 0 = turn_is_side g h w ew ∙ ap (λ z. z *ℤ dot g g) hw ∙ zero_times (dot g g) in
+    let big = pos_mul (turn g v w) (dot u u) ahead (some_square u apart) in
+    let vu : turn g v u ≡ pos 0 = turn_is_side g h v ev ∙ ap (λ z. z *ℤ dot g g) hv ∙ zero-mul_ℤ (dot g g) in
+    let wu : turn g w u ≡ pos 0 = turn_is_side g h w ew ∙ ap (λ z. z *ℤ dot g g) hw ∙ zero-mul_ℤ (dot g g) in
     let uw : turn g u w ≡ pos 0 = turn_back g u w ∙ ap (λ z. pos 0 -ℤ z) wu in
-    none (turn g v w *ℤ dot u u) big
-    (four_on g u v w ∙ (λ i. uw i *ℤ dot v u +ℤ vu i *ℤ dot w u +ℤ det u v w *ℤ own_side g h i) ∙ three_zeros (dot v u) (dot w u) (det u v w))
+    positive_not_zero (turn g v w *ℤ dot u u) big
+    (four_on g u v w ∙ (λ i. uw i *ℤ dot v u +ℤ vu i *ℤ dot w u +ℤ det u v w *ℤ dot_cross_left g h i) ∙ three_zeros (dot v u) (dot w u) (det u v w))
   where
-    zero_times : (a : ℤ) → pos 0 *ℤ a ≡ pos 0
-    zero_times a = omega (arith, ints)
-
     three_zeros : (a b c : ℤ) → pos 0 *ℤ a +ℤ pos 0 *ℤ b +ℤ c *ℤ pos 0 ≡ pos 0
     three_zeros a b c = omega (arith, ints)
-
-    none : (a : ℤ) → pos 0 <ℤ a → a ≡ pos 0 → ⊥
-    none a h e = omega (arith, ints)
 
 -- a vertex of the circle lies on its plane
 pub on_plane : (table : List V3) (linked : List ℕ) (c : ℕ) (g v : V3) → AreLinkedApart table linked → IsLinked table linked c g → IsOnCircle table linked c g v → dot g v ≡ pos 0
 on_plane table linked c g v np gi x =
-    let p = primitive_on g (cross g x.h) (own_side g x.h) (np.apart c x.other g x.h gi x.other_is (λ e. x.different (sym e))) in
+    let p = primitive_on g (cross g x.h) (dot_cross_left g x.h) (np.apart c x.other g x.h gi x.other_is (λ e. x.different (sym e))) in
     elim x.is [
       | inl e ↦ ap (λ u. dot g u) e ∙ p
       | inr e ↦ ap (λ u. dot g u) e ∙ negative_on g (primitive (cross g x.h)) p

@@ -4,7 +4,6 @@ use Rattle.std.specs.Prelude.{Some, map, slice_get}
 use Rattle.std.specs.Ordering.{nat_cmp}
 use Rattle.std.specs.List.Sorted.{IsStrictlySortedBy}
 use Rattle.std.specs.declared.cmp.Ordering.TheVariants.{Less}
-use Rattle.std.proofs.lemmas.Bool.Decides.{nat_tests}
 use Rattle.std.proofs.lemmas.List.{length-map}
 use Rattle.std.proofs.lemmas.List.Elements.{All-contains, All-from_recursion}
 use Rattle.std.proofs.lemmas.Option.{same_Some, slice_get_within}
@@ -14,9 +13,8 @@ use Rattle.staat_vec.specs.Primitives.{primitive}
 use Rattle.staat_vec.specs.Vectors.{cross, dot, negative, origin}
 use Rattle.staat_vec.proofs.Canons.{negative-negative}
 use Rattle.staat_vec.proofs.Primitives.{IsPrimitive-some, primitive-is}
-use Rattle.staat_vec.proofs.Unique.{Contains-cases, Contains-front, Contains-later, Contains-nothing}
+use Rattle.staat_vec.proofs.Unique.{Contains-cases, Contains-front, Contains-later, Contains-nothing, from_place}
 use Rattle.staat_model.specs.Circles.{PassesThrough, Stop}
-use Rattle.staat_model.proofs.GraphLemmas.{from_slice_get}
 use Rattle.staat_model.proofs.Members.{All-from_members}
 use Rattle.staat_pairs.specs.Tables.{AreTablePlanes}
 use Rattle.staat_ring.specs.declared.entry.Entry.{Entry}
@@ -26,12 +24,10 @@ use Rattle.staat_ring.specs.Rings.{AreRings, IsRingOf, Ring, RingStop, linked_of
 use Rattle.staat_ring.specs.Signs.{Signed}
 use Rattle.staat_ring.proofs.Stops.{AreLinkedApart, none_parallel, stop_there}
 use Rattle.staat_ring.specs.Belonging.{HoldSigns}
-use Rattle.staat_ring.proofs.Mapped.{in_map, from_map}
 use Rattle.staat_ring.proofs.CrossLaw.{cross_signs}
 use Rattle.staat_ring.proofs.Steps.{primitive_on, negative_on}
-
-less_is : (x y : ℕ) → nat_cmp x y ≡ Less → x < y
-less_is x y e = grind (arith, nat_tests)
+use Rattle.staat_vec.proofs.Comparisons.{less_number}
+use Rattle.staat_vec.proofs.ListLaws.{Contains-map, Contains-from_map}
 
 -- ascending numbers from lo to below n are few
 ascending_few : (n lo : ℕ) (xs : List ℕ) → IsStrictlySortedBy nat_cmp xs → ((x : ℕ) → Contains xs x → (lo ≤ x) × (x < n)) → length xs ≤ n - lo
@@ -39,7 +35,7 @@ unfolding IsStrictlySortedBy
 ascending_few n lo [] s h = omega arith
 ascending_few n lo (x ∷ xs) s h =
     let here = h x (Contains-front x xs) in
-    let rest = ascending_few n (x + 1) xs s.1 (λ y c. (let lt = less_is x y (All-contains (λ z. nat_cmp x z ≡ Less) xs y (All-from_recursion (λ z. nat_cmp x z ≡ Less) xs s.0) c) in omega (arith, lt), (h y (Contains-later x xs y c)).1)) in
+    let rest = ascending_few n (x + 1) xs s.1 (λ y c. (let lt = less_number x y (All-contains (λ z. nat_cmp x z ≡ Less) xs y (All-from_recursion (λ z. nat_cmp x z ≡ Less) xs s.0) c) in omega (arith, lt), (h y (Contains-later x xs y c)).1)) in
     omega (arith, here, rest)
 
 module _ (planes : List V3) (rings : List Ring) (out : List ℕ) (table : AreTablePlanes planes) (are : AreRings planes rings out) where
@@ -54,7 +50,7 @@ module _ (planes : List V3) (rings : List Ring) (out : List ℕ) (table : AreTab
     stops = map (stop_of planes at.ring.plane) at.ring.stops
 
     here : Contains stops (stop_of planes at.ring.plane s)
-    here = from_slice_get stops m (stop_of planes at.ring.plane s) (stop_there planes at.ring m s at.is)
+    here = from_place stops m (stop_of planes at.ring.plane s) (stop_there planes at.ring m s at.is)
 
     pass : Lists nat_cmp (PassesThrough planes (linked_of rings) at.ring.plane (vertex_of planes at.ring.plane s.entries)) (map (λ e. e.plane) s.entries)
     pass = All-contains (λ s. Lists nat_cmp (PassesThrough planes (linked_of rings) at.ring.plane s.vertex) s.through) stops (stop_of planes at.ring.plane s) is.circle.through here
@@ -63,10 +59,10 @@ module _ (planes : List V3) (rings : List Ring) (out : List ℕ) (table : AreTab
     small k ck = let p = pass.each k ck in slice_get_within planes k p.h p.linked_is.is
 
     pub entry_small : (e : Entry) → Contains s.entries e → e.plane < length planes
-    entry_small e ce = small e.plane (in_map (λ e. e.plane) s.entries e ce)
+    entry_small e ce = small e.plane (Contains-map (λ e. e.plane) s.entries e ce)
 
     pub entry_other : (e : Entry) → Contains s.entries e → e.plane ≢ c
-    entry_other e ce q = (pass.each e.plane (in_map (λ e. e.plane) s.entries e ce)).different (q ∙ sym at.plane)
+    entry_other e ce q = (pass.each e.plane (Contains-map (λ e. e.plane) s.entries e ce)).different (q ∙ sym at.plane)
 
     pub few : (length s.entries ≤ length planes) × All (λ e. e.plane < length planes) s.entries
     few = (
@@ -82,13 +78,13 @@ module _ (planes : List V3) (rings : List Ring) (out : List ℕ) (table : AreTab
     pub some : 0 < length s.entries
     some =
         let v : V3 = vertex_of planes at.ring.plane s.entries in
-        let x = is.circle.vertices.each v (in_map (λ s. s.vertex) stops (stop_of planes at.ring.plane s) here) in
+        let x = is.circle.vertices.each v (Contains-map (λ s. s.vertex) stops (stop_of planes at.ring.plane s) here) in
         let g : V3 = is.circle.g in
         let flat : cross g x.h ≢ origin = apart.apart at.ring.plane x.other g x.h is.circle.g_is x.other_is (λ q. x.different (sym q)) in
         let on : dot x.h (primitive (cross g x.h)) ≡ pos 0 = primitive_on x.h (cross g x.h) (Rattle.staat_vec.proofs.VecRing.dot_cross_right g x.h) flat in
         let zero : dot x.h v ≡ pos 0 = ⊎_elim {C = dot x.h v ≡ pos 0} (λ e. ap (dot x.h) e ∙ on) (λ e. ap (dot x.h) e ∙ negative_on x.h (primitive (cross g x.h)) on) x.is in
         let c = pass.all x.other (record { h = x.h; linked_is = x.other_is; different = x.different; on = zero }) in
-        let f = from_map (λ e. e.plane) s.entries x.other c in
+        let f = Contains-from_map (λ e. e.plane) s.entries x.other c in
         let e = f.1 in omega (arith, e.1)
 
     -- the next stop, and the signs there
@@ -111,7 +107,7 @@ vertex_first planes c (x ∷ es) e h = ap (Rattle.staat_ring.specs.Rings.crossin
 
 rings_head : (r : Ring) (rings : List Ring) (q : Ring) → IsStrictlySortedBy nat_cmp (map (λ r. r.plane) (r ∷ rings)) → Contains rings q → r.plane < q.plane
 unfolding IsStrictlySortedBy
-rings_head r rings q s c = less_is r.plane q.plane (All-contains (λ z. nat_cmp r.plane z ≡ Less) (map (λ r. r.plane) rings) q.plane (All-from_recursion (λ z. nat_cmp r.plane z ≡ Less) (map (λ r. r.plane) rings) s.0) (in_map (λ r. r.plane) rings q c))
+rings_head r rings q s c = less_number r.plane q.plane (All-contains (λ z. nat_cmp r.plane z ≡ Less) (map (λ r. r.plane) rings) q.plane (All-from_recursion (λ z. nat_cmp r.plane z ≡ Less) (map (λ r. r.plane) rings) s.0) (Contains-map (λ r. r.plane) rings q c))
 
 rings_tail : (r : Ring) (rings : List Ring) → IsStrictlySortedBy nat_cmp (map (λ r. r.plane) (r ∷ rings)) → IsStrictlySortedBy nat_cmp (map (λ r. r.plane) rings)
 unfolding IsStrictlySortedBy
@@ -141,7 +137,7 @@ module _ (planes : List V3) (rings : List Ring) (out : List ℕ) (table : AreTab
   vertex_some = subst (λ k. vertex_of planes k s.entries ≢ origin) at.plane (λ z.
       let r : IsRingOf planes (linked_of rings) at.ring = All-contains (IsRingOf planes (linked_of rings)) rings at.ring are.each at.listed in
       let v : V3 = vertex_of planes at.ring.plane s.entries in
-      let x = r.circle.vertices.each v (in_map (λ s. s.vertex) (map (stop_of planes at.ring.plane) at.ring.stops) (stop_of planes at.ring.plane s) (here planes rings out table are c m s at)) in
+      let x = r.circle.vertices.each v (Contains-map (λ s. s.vertex) (map (stop_of planes at.ring.plane) at.ring.stops) (stop_of planes at.ring.plane s) (here planes rings out table are c m s at)) in
       let flat : cross r.circle.g x.h ≢ origin = (none_parallel planes (linked_of rings) table).apart at.ring.plane x.other r.circle.g x.h r.circle.g_is x.other_is (λ q. x.different (sym q)) in
       let p = IsPrimitive-some (primitive (cross r.circle.g x.h)) (primitive-is (cross r.circle.g x.h) flat).primitive in
       ⊎_elim {C = ⊥} (λ e. p (sym e ∙ z)) (λ e. p (sym (negative-negative (primitive (cross r.circle.g x.h))) ∙ (ap negative (sym e ∙ z)))) x.is)

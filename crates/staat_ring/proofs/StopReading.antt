@@ -1,10 +1,9 @@
 -- What the arrays tell of a stop that one stands at: the next stop, and the next entry.
 use Rattle.std.proofs.Common.{◌≡◌, ◌≢◌, ℕ, zero, suc, ◌+◌, ◌*◌, ◌^◌, ◌/◌, ◌%◌, ◌-◌, ◌<◌, ◌≤◌, arith, ap, refl, sym, subst, ◌∙◌, List, [], ◌∷◌, ◌++◌, length, get_or, take, drop, Contains, Bool}
-use Rattle.std.specs.Prelude.{Option, None, Some, map, option_map, slice_get, ◌==◌}
+use Rattle.std.specs.Prelude.{Some, map, option_map, slice_get, ◌==◌}
 use Rattle.std.proofs.Math.Nat.{mul-le-mul}
 use Rattle.std.proofs.lemmas.List.{get_or_default, length-map, length-take-le}
 use Rattle.std.proofs.lemmas.Option.{get_or_from_slice_get, same_Some, slice_get-get_or, slice_get-map, slice_get_within}
-use Rattle.staat_model.proofs.GraphLemmas.{from_slice_get}
 use Rattle.staat_model.proofs.Members.{All-from_members}
 use Rattle.staat_ring.specs.declared.entry.Entry.{Entry}
 use Rattle.staat_ring.specs.Links.{Arrays, Links}
@@ -15,19 +14,10 @@ use Rattle.staat_ring.specs.RingViews.{StandForCircles, arrangement_of, ring_of,
 use Rattle.staat_ring.specs.Rings.{Arrangement, Ring, RingStop, linked_of}
 use Rattle.staat_ring.specs.Stands.{IsRing, IsShortRing, RingLists, home_of}
 use Rattle.staat_ring.specs.Views.{kept_of, lists_of}
-use Rattle.staat_ring.proofs.Mapped.{in_map}
 use Rattle.staat_ring.proofs.RingLength.{IsAtPlace, at_next, at_start, before_end, ends, goes_on, linked_are, node_within, ring_there, short_ring}
 use Rattle.staat_ring.proofs.Unlinking.{sound_is_good}
-
-map_at : {X Y : Type 0} (f : X → Y) (xs : List X) (k : ℕ) (y : Y) → slice_get (map f xs) k ≡ Some y → (x : X) × (slice_get xs k ≡ Some x) × (f x ≡ y)
-map_at {X = X} {Y = Y} f xs k y e = go (slice_get xs k) refl (sym (slice_get-map f xs k) ∙ e)
-  where
-    go : (o : Option X) → slice_get xs k ≡ o → option_map f o ≡ Some y → (x : X) × (slice_get xs k ≡ Some x) × (f x ≡ y)
-    go None q h = absurd (nothing y h)
-      where
-        nothing : (y : Y) → None ≡ Some y → ⊥
-        nothing y e = cc
-    go (Some x) q h = (x, q, same_Some (f x) y h)
+use Rattle.staat_vec.proofs.ListLaws.{place_in_map, Contains-map}
+use Rattle.staat_vec.proofs.Unique.{from_place}
 
 -- ---- a node at a place
 
@@ -104,7 +94,7 @@ module _ (n count : ℕ) (order : List ℕ) (a : Arrays) (now : Arrangement) (vi
     stops_are = ap (λ (r : Ring). r.stops) (sym here.2) ∙ ap (λ d. map read (l.vertices d)) same_circle
 
     stop_is : (v : ℕ) × (slice_get (l.vertices c) m ≡ Some v) × (read v ≡ s)
-    stop_is = map_at read (l.vertices c) m s (subst (λ (xs : List RingStop). slice_get xs m ≡ Some s) stops_are at.is)
+    stop_is = place_in_map read (l.vertices c) m s (subst (λ (xs : List RingStop). slice_get xs m ≡ Some s) stops_are at.is)
 
     pub node_at : slice_get (l.vertices c) m ≡ Some s.node
     node_at = stop_is.1 ∙ ap (λ x. Some x) (ap (λ (x : RingStop). x.node) stop_is.2)
@@ -119,13 +109,13 @@ module _ (n count : ℕ) (order : List ℕ) (a : Arrays) (now : Arrangement) (vi
     entry_size = ap length entries_are ∙ length-map (l.entries s.node) (entry_numbered n)
 
     linked : Contains (linked_of now.rings) c
-    linked = subst (Contains (linked_of now.rings)) at.plane (in_map (λ (r : Ring). r.plane) now.rings at.ring at.listed)
+    linked = subst (Contains (linked_of now.rings)) at.plane (Contains-map (λ (r : Ring). r.plane) now.rings at.ring at.listed)
 
     ring : (head : ℕ) → head ≡ head_number n c → IsShortRing a.circles head (l.vertices c)
     ring head e = short_ring n count order a now view is same c linked head e
 
     listed : Contains (l.vertices c) s.node
-    listed = from_slice_get (l.vertices c) m s.node node_at
+    listed = from_place (l.vertices c) m s.node node_at
 
     pub node_small : s.node < length a.circles.next
     node_small = good.stands.within c s.node circle_small listed
@@ -192,7 +182,7 @@ module _ (n count : ℕ) (order : List ℕ) (a : Arrays) (now : Arrangement) (vi
     entry_listed i x h ne = place_is s.node (l.entries s.node) i x (to_place i x h) (goes_on s.node (l.entries s.node) x i (to_place i x h) ne)
 
     numbered : (i x : ℕ) → IsAtEntry (plane_count now) c s i x → x ≢ s.node → entry_number n c (entry_numbered n x) ≡ x
-    numbered i x h ne = good.numbered c s.node x circle_small listed (from_slice_get (l.entries s.node) i x (entry_listed i x h ne))
+    numbered i x h ne = good.numbered c s.node x circle_small listed (from_place (l.entries s.node) i x (entry_listed i x h ne))
 
     pub plane_ahead : (i x : ℕ) → IsAtEntry (plane_count now) c s i x → x ≢ s.node → c * n ≤ x / 2
     plane_ahead i x h ne = (plane_back n c (entry_numbered n x) x (numbered i x h ne)).0

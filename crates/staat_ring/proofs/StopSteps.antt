@@ -11,10 +11,12 @@ use Rattle.staat_ring.specs.Linking.{AreHomedAt, AreLinked, AreSized, AreStopsLi
 use Rattle.staat_ring.specs.Numbered.{head_number, node_number, vertex_row, entry_number}
 use Rattle.staat_ring.specs.RingViews.{shape}
 use Rattle.staat_ring.specs.Rows.{Row, all_of}
-use Rattle.staat_ring.proofs.Mapped.{apart_from, from_map, in_map, same_or}
+use Rattle.staat_ring.proofs.Mapped.{apart_from}
 use Rattle.staat_ring.proofs.Numbering.{entry_circle}
 use Rattle.staat_ring.proofs.RowRules as rules
 use Rattle.staat_ring.proofs.Rows.{linked_row, ring_same}
+use Rattle.staat_vec.proofs.ListLaws.{Contains-from_map, Contains-map}
+use Rattle.staat_vec.proofs.Naturals.{same_or}
 
 -- the entries of an item of the stops
 pub slot_is : (stops : List (List Entry)) (x es : List Entry) (k : ℕ) → k < length stops → x ≡ get_or stops k x → es ≡ x → es ≡ slot_at stops k
@@ -52,12 +54,12 @@ module _ (n c : ℕ) (lc : c < n) (stops : List (List Entry)) (can : CanBeLinked
 
     here : All (λ e. get_or new (entry_number n c e) 0 ≡ node_number n c (slot m)) (slot m)
     here = All-from_members (λ e. get_or new (entry_number n c e) 0 ≡ node_number n c (slot m)) (slot m)
-        (λ e ce. All-contains (λ x. get_or new x 0 ≡ node_number n c (slot m)) (map (entry_number n c) (slot m)) (entry_number n c e) homed.here (in_map (entry_number n c) (slot m) e ce))
+        (λ e ce. All-contains (λ x. get_or new x 0 ≡ node_number n c (slot m)) (map (entry_number n c) (slot m)) (entry_number n c e) homed.here (Contains-map (entry_number n c) (slot m) e ce))
 
     there : (k : ℕ) → k < length stops → k ≢ m → All (λ e. get_or now (entry_number n c e) 0 ≡ node_number n c (slot k)) (slot k) → All (λ e. get_or new (entry_number n c e) 0 ≡ node_number n c (slot k)) (slot k)
     there k lk ne old_words = All-from_members (λ e. get_or new (entry_number n c e) 0 ≡ node_number n c (slot k)) (slot k) (λ e ce.
         homed.others (entry_number n c e) (apart_from (entry_number n c e) (map (entry_number n c) (slot m)) (λ y cy q.
-        let (f, cf, ef) = from_map (entry_number n c) (slot m) y cy in
+        let (f, cf, ef) = Contains-from_map (entry_number n c) (slot m) y cy in
         ne (sym (rules.one_stop n c lc stops can m k f e lm lk cf ce (ef ∙ q)))))
         ∙ All-contains (λ e. get_or now (entry_number n c e) 0 ≡ node_number n c (slot k)) (slot k) e old_words ce)
 
@@ -115,7 +117,7 @@ module _ (n c : ℕ) (lc : c < n) (stops : List (List Entry)) (can : CanBeLinked
   -- vertices are no entries
   pub above : (y : ℕ) → 2 * (n * n) ≤ y → (k : ℕ) → k < length stops → Apart y (map (entry_number n c) (slot k))
   above y le k lk = apart_from y (map (entry_number n c) (slot k)) (λ z cz q.
-      let (e, ce, w) = from_map (entry_number n c) (slot k) z cz in
+      let (e, ce, w) = Contains-from_map (entry_number n c) (slot k) z cz in
       let s = rules.number_within n c lc stops can k lk e ce in absurd (omega (arith, s, w, q, le)))
 
   -- before, each of its nodes stands alone

@@ -13,6 +13,7 @@ use Rattle.staat_ring.specs.Index.{AreSameBut, AreToldBelow, IsFresh, IsPairKept
 use Rattle.staat_ring.specs.Pairs.{no_pair, occurs, pair_at}
 use Rattle.staat_ring.specs.Signs.{Side, Signed, no_side, side_at}
 use Rattle.staat_ring.specs.Belonging.{BelongTo, IsPairOf, IsUnused}
+use Rattle.staat_vec.proofs.Naturals.{parts_by_64, lt_or_le, lt_one_more_cases, same_parts_of_64}
 
 -- ---- what stays
 
@@ -37,9 +38,6 @@ told_same : (t : Table) (s u : Signed) (q : ℕ) → length u.pairs ≡ length s
 told_same t s u q size same (inl (arc, across, e, p)) = inl (arc, across, e, pair_same t s u arc size (subst (IsPairKept s u) (sym e) same) p)
 told_same t s u q size same (inr (f, none)) = inr (unused_same s u q same f, none)
 
-lt_same : (k m : ℕ) → k < m + 1 → (k < m) ⊎ (k ≡ m)
-lt_same k m h = grind arith
-
 -- ---- one number more
 
 pub no_pair_here : (t : Table) (s : Signed) (q : ℕ) → AreToldBelow t s q → ((arc : Arc) → IsTableArc t arc → slot t.pieces arc ≡ q → ⊥) → AreToldBelow t s (q + 1)
@@ -47,7 +45,7 @@ no_pair_here t s q told none = record {
   sides = told.sides;
   pairs = told.pairs;
   zero = told.zero;
-  told = λ p lt. ⊎_elim {C = IsTold t s p} (λ before. told.told p before) (λ e. subst (IsTold t s) (sym e) (inr (unused_of s q (told.rest q (omega arith)), none))) (lt_same p q lt);
+  told = λ p lt. ⊎_elim {C = IsTold t s p} (λ before. told.told p before) (λ e. subst (IsTold t s) (sym e) (inr (unused_of s q (told.rest q (omega arith)), none))) (lt_one_more_cases p q lt);
   rest = λ p le. told.rest p (omega (arith, le));
 }
 
@@ -56,7 +54,7 @@ pair_here t s u q arc told across at pair same = record {
   sides = same.sides ∙ told.sides;
   pairs = same.pairs ∙ told.pairs;
   zero = same.zero;
-  told = λ p lt. ⊎_elim {C = IsTold t u p} (λ before. told_same t s u p same.pairs (same.others p (λ e. absurd (omega (arith, e, before)))) (told.told p before)) (λ e. subst (IsTold t u) (sym e) (inl (arc, across, at, pair))) (lt_same p q lt);
+  told = λ p lt. ⊎_elim {C = IsTold t u p} (λ before. told_same t s u p same.pairs (same.others p (λ e. absurd (omega (arith, e, before)))) (told.told p before)) (λ e. subst (IsTold t u) (sym e) (inl (arc, across, at, pair))) (lt_one_more_cases p q lt);
   rest = λ p le. fresh_same s u p (same.others p (λ e. absurd (omega (arith, e, le)))) (told.rest p (omega (arith, le)));
 }
 
@@ -65,9 +63,6 @@ both_ok (Ok x) P Q R h g f = f h g
 both_ok (Err e) P Q R h g f = tt
 
 -- ---- numbers and pieces
-
-parted : (p r a b : ℕ) → r < 64 → b < 64 → 64 * p + r ≡ 64 * a + b → (p ≡ a) × (r ≡ b)
-parted p r a b h g e = (omega arith, omega arith)
 
 module _ (t : Table) (rules : IsTable t) where
   piece_at : (a i : ℕ) → Rattle.staat_model.specs.Sets.Has t.of a → i < pieces_of t a → IsPieceAt t.pieces (place t.pieces a i) a i
@@ -86,14 +81,14 @@ module _ (t : Table) (rules : IsTable t) where
   -- two pieces of one part are no pair
   pub one_part_no_pair : (a i b j q : ℕ) → Rattle.staat_model.specs.Sets.Has t.of a → i < pieces_of t a → Rattle.staat_model.specs.Sets.Has t.of b → j < pieces_of t b → 64 * place t.pieces a i + place t.pieces b j ≡ q → a ≡ b → (arc : Arc) → IsTableArc t arc → slot t.pieces arc ≡ q → ⊥
   one_part_no_pair a i b j q ha la hb lb at e arc across sl =
-      let both = parted (place t.pieces arc.a arc.i) (place t.pieces arc.b arc.j) (place t.pieces a i) (place t.pieces b j) (below arc.b arc.j across.j_is) (below b j lb) (sl ∙ sym at) in
+      let both = same_parts_of_64 (place t.pieces arc.a arc.i) (place t.pieces arc.b arc.j) (place t.pieces a i) (place t.pieces b j) (below arc.b arc.j across.j_is) (below b j lb) (sl ∙ sym at) in
       let x = same_part arc.a arc.i a i across.a_in across.i_is ha la both.0 in
       let y = same_part arc.b arc.j b j across.b_in across.j_is hb lb both.1 in
       across.different (x.0 ∙ (e ∙ sym y.0))
 
   pub one_arc : (x y : Arc) → IsTableArc t x → IsTableArc t y → slot t.pieces x ≡ slot t.pieces y → x ≡ y
   one_arc x y p q e =
-      let both = parted (place t.pieces x.a x.i) (place t.pieces x.b x.j) (place t.pieces y.a y.i) (place t.pieces y.b y.j) (below x.b x.j p.j_is) (below y.b y.j q.j_is) e in
+      let both = same_parts_of_64 (place t.pieces x.a x.i) (place t.pieces x.b x.j) (place t.pieces y.a y.i) (place t.pieces y.b y.j) (below x.b x.j p.j_is) (below y.b y.j q.j_is) e in
       let a = same_part x.a x.i y.a y.i p.a_in p.i_is q.a_in q.i_is both.0 in
       let b = same_part x.b x.j y.b y.j p.b_in p.j_is q.b_in q.j_is both.1 in
       λ k. record { a = a.0 k; i = a.1 k; b = b.0 k; j = b.1 k }
@@ -110,11 +105,8 @@ module _ (t : Table) (rules : IsTable t) where
   past_no_pair n q size past arc across sl =
       let a = place_within arc.a arc.i across.a_in across.i_is in
       let b = place_within arc.b arc.j across.b_in across.j_is in
-      let d = divided (place t.pieces arc.a arc.i) (place t.pieces arc.b arc.j) q (below arc.b arc.j across.j_is) sl in
+      let d = parts_by_64 (place t.pieces arc.a arc.i) (place t.pieces arc.b arc.j) q (below arc.b arc.j across.j_is) sl in
       ⊎_elim {C = ⊥} (λ h. absurd (omega (arith, a, size, d.0, h))) (λ h. absurd (omega (arith, b, size, d.1, h))) past
-    where
-      divided : (p r q : ℕ) → r < 64 → 64 * p + r ≡ q → (p ≡ q / 64) × (r ≡ q % 64)
-      divided p r q lt e = (omega arith, omega arith)
 
   pub slot_small : (arc : Arc) → IsTableArc t arc → slot t.pieces arc < 4096
   slot_small arc across = let a = below arc.a arc.i across.i_is in let b = below arc.b arc.j across.j_is in omega (arith, a, b)
@@ -143,11 +135,8 @@ none_told t s n e is = subst (λ (u : Signed). AreToldBelow t u 0) (sym is) (rec
   rest = λ q le. record { pair = fresh_pair q; along = λ k. ap (λ x. occurs q x.along) (empty k); against = λ k. ap (λ x. occurs q x.against) (empty k) };
 })
   where
-    in_or : (q n : ℕ) → (q < n) ⊎ (n ≤ q)
-    in_or q n = grind arith
-
     empty : (k : ℕ) → side_at (replicate n no_side) k ≡ no_side
-    empty k = ⊎_elim {C = side_at (replicate n no_side) k ≡ no_side} (λ lt. get_or-replicate n k no_side no_side lt) (λ past. get_or_past (replicate n no_side) k no_side (let l = length-replicate {A = Side} n no_side in omega (arith, l, past))) (in_or k n)
+    empty k = ⊎_elim {C = side_at (replicate n no_side) k ≡ no_side} (λ lt. get_or-replicate n k no_side no_side lt) (λ past. get_or_past (replicate n no_side) k no_side (let l = length-replicate {A = Side} n no_side in omega (arith, l, past))) (lt_or_le k n)
 
     fresh_pair : (q : ℕ) → pair_at (replicate 4096 no_pair) q ≡ no_pair
-    fresh_pair q = ⊎_elim {C = pair_at (replicate 4096 no_pair) q ≡ no_pair} (λ lt. get_or-replicate 4096 q no_pair no_pair lt) (λ past. get_or_past (replicate 4096 no_pair) q no_pair (let l = length-replicate {A = PairCount} 4096 no_pair in omega (arith, l, past))) (in_or q 4096)
+    fresh_pair q = ⊎_elim {C = pair_at (replicate 4096 no_pair) q ≡ no_pair} (λ lt. get_or-replicate 4096 q no_pair no_pair lt) (λ past. get_or_past (replicate 4096 no_pair) q no_pair (let l = length-replicate {A = PairCount} 4096 no_pair in omega (arith, l, past))) (lt_or_le q 4096)

@@ -6,10 +6,10 @@ use Rattle.std.proofs.lemmas.List.Sums.{sum_by-cons}
 use Rattle.std.proofs.lemmas.List.Elements.{All-get_or, All-from_get_or}
 use Rattle.staat_vec.specs.declared.vector.Sign.{Sign}
 use Rattle.staat_ring.specs.Belonging.{PlaneFacet}
-use Rattle.staat_ring.proofs.PairLemmas.{differ, one}
-use Rattle.staat_graph.proofs.Finite.{same_or}
+use Rattle.staat_ring.proofs.PairLemmas.{one}
 use Rattle.std.specs.Prelude.{Bool, false, not}
 use Rattle.staat_vec.specs.declared.vector.Sign.TheVariants.{Neg, Zero, Pos}
+use Rattle.staat_vec.proofs.Naturals.{eq_test_false, same_or}
 
 -- whether the facet is positive where the plane has this sign
 abbrev pub is_positive : Sign → Bool → Bool
@@ -60,7 +60,7 @@ abbrev pub hits : Sign → ℕ → List PlaneFacet → ℕ
 hits s k by_plane = count_by (λ w. (w.plane == k) && is_positive s w.turned) by_plane
 
 hit_off : (w : PlaneFacet) (k : ℕ) (s : Sign) → k ≢ w.plane → one ((w.plane == k) && is_positive s w.turned) ≡ 0
-hit_off w k s ne = ap (λ b. one (b && is_positive s w.turned)) (differ w.plane k (λ e. ne (sym e)))
+hit_off w k s ne = ap (λ b. one (b && is_positive s w.turned)) (eq_test_false w.plane k (λ e. ne (sym e)))
 
 -- each facet is counted at its plane
 pub total-hits : (sg : ℕ → Sign) (n : ℕ) (by_plane : List PlaneFacet) → All (λ w. w.plane < n) by_plane → total (λ k. hits (sg k) k by_plane) 0 n ≡ count_by (λ w. is_positive (sg w.plane) w.turned) by_plane

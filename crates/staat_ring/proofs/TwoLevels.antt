@@ -3,20 +3,13 @@ use Rattle.std.proofs.Common.{◌≡◌, ◌≢◌, ℕ, zero, suc, ◌<◌, ref
 use Rattle.std.proofs.lemmas.List.{get_or-set_other}
 use Rattle.std.proofs.lemmas.Grind.{get_or-set_at}
 use Rattle.std.proofs.Math.ListN.{length-set}
-use Rattle.std.proofs.lemmas.Bool.Decides.{Decides-eqb}
 use Rattle.staat_ring.specs.Links.{Links, Apart, Distinct, unlink, Arrays, is_bare, take, take_all}
 use Rattle.staat_ring.proofs.Taking.{CanTakeAll, CanTake}
 use Rattle.staat_ring.specs.Stands.{is_empty, Tagged, IsRing, Shape, RingLists, home_of, StandFor, IsPresent, AllPresent}
 use Rattle.staat_ring.specs.Within.{InRange}
 use Rattle.staat_ring.proofs.ListsWithout.{lists_without_all, lists_without, without}
 use Rattle.staat_ring.proofs.Without.{without_other, without_none, node_between, tagged_apart, prev_tag, next_tag, ring_stays, ring_shrinks, bare_is}
-
-pub decide : (x y : ℕ) → (x ≡ y) ⊎ (x ≢ y)
-decide x y = go (eqb x y) refl
-  where
-    go : (b : Bool) → eqb x y ≡ b → (x ≡ y) ⊎ (x ≢ y)
-    go true h = inl ((Decides-eqb x y).0 h)
-    go false h = inr (λ e. let t : eqb x y ≡ true = (Decides-eqb x y).1 e in cc)
+use Rattle.staat_vec.proofs.Naturals.{same_or}
 
 contains_cases : (z y : ℕ) (zs : List ℕ) → Contains (z ∷ zs) y → (z ≡ y) ⊎ Contains zs y
 contains_cases z y zs (zero, lt, e) = inl e
@@ -49,7 +42,7 @@ contains_after x y (z ∷ xs) n h = elim (contains_cases z y xs h) [
 
 -- a word of an array after a write
 pub word_below : (l : List ℕ) (i u x n : ℕ) → u < n → get_or l x 0 < n → i < length l → get_or (set l i u) x 0 < n
-word_below l i u x n hu hx hi = elim (decide x i) [
+word_below l i u x n hu hx hi = elim (same_or x i) [
   | inl e ↦ subst (λ w. w < n) (sym (get_or-set_at l i x u 0 e hi)) hu
   | inr d ↦ subst (λ w. w < n) (sym (get_or-set_other l i x u 0 d)) hx
 ]
@@ -87,7 +80,7 @@ length_if false s x = refl
 -- one ring of a family where the node x of the ring h' leaves
 pub ring_after : (s : Links) (tag : ℕ → ℕ) (x h' : ℕ) (xs' : List ℕ) (h : ℕ) (xs : List ℕ) → x < length s.next → InRange s → Contains xs' x → IsRing s tag h' xs'
     → (tag h ≡ tag h' → (h ≡ h') × (xs ≡ xs')) → IsRing s tag h xs → IsRing (unlink x s) tag h (without x xs)
-ring_after s tag x h' xs' h xs lt g c r' same r = elim (decide (tag h) (tag h')) [
+ring_after s tag x h' xs' h xs lt g c r' same r = elim (same_or (tag h) (tag h')) [
   | inl e ↦ ring_shrinks s tag x h xs (node_in_range s x lt g) (subst (λ l. Contains l x) (sym (same e).1) c) r
   | inr d ↦
       let p = prev_tag s tag x h' xs' c r' in

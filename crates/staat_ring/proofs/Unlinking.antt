@@ -1,5 +1,5 @@
 -- The invariant with the list of unlinked planes.
-use Rattle.std.proofs.Common.{◌≡◌, ◌≢◌, ℕ, zero, suc, ◌+◌, ◌<◌, ◌≤◌, refl, sym, ap, subst, ◌∙◌, arith, List, [], ◌∷◌, ◌++◌, map, length, take, drop, Bool, true, false, not, ◌&&◌, Contains, ◌⊎◌, inl, inr}
+use Rattle.std.proofs.Common.{◌≡◌, ◌≢◌, ℕ, zero, suc, ◌+◌, ◌<◌, ◌≤◌, refl, sym, ap, subst, ◌∙◌, arith, List, [], ◌∷◌, ◌++◌, map, length, take, drop, false, not, ◌&&◌, Contains, inl, inr}
 use Rattle.std.specs.Prelude.{◌==◌}
 use Rattle.staat_ring.specs.Links.{Arrays, Apart, Distinct}
 use Rattle.staat_ring.specs.Stands.{RingLists}
@@ -8,8 +8,11 @@ use Rattle.staat_ring.specs.Views.{undo_all}
 use Rattle.staat_ring.specs.RingViews.{rings_of, rings_at, undo, StandForCircles, CanBeUndone, still_linked, is_out, numbers_below, shape}
 use Rattle.staat_ring.proofs.ViewLemmas.{undo-push}
 use Rattle.staat_ring.proofs.SoundLemmas.{filter_inside}
-use Rattle.staat_ring.proofs.RingLemmas.{listed-push, filter_twice, filter_by, eqb_turned, below_small}
+use Rattle.staat_ring.proofs.RingLemmas.{listed-push, filter_by, eqb_turned, below_small}
 use Rattle.staat_ring.proofs.Without.{split, without_mid, distinct_filter}
+use Rattle.staat_vec.proofs.Truth.{from_not_true}
+use Rattle.staat_vec.proofs.Naturals.{le_or_past}
+use Rattle.staat_vec.proofs.ListLaws.{filter_twice}
 
 take-push : (k : ℕ) (out : List ℕ) (p : ℕ) → k ≤ length out → take k (out ++ p ∷ []) ≡ take k out
 take-push zero out p h = refl
@@ -33,9 +36,6 @@ drop_all-list zero (x ∷ out) h = absurd (omega arith)
 drop_all-list (suc k) [] h = refl
 drop_all-list (suc k) (x ∷ out) h = drop_all-list k out (omega arith)
 
-at_most : (k m : ℕ) → (k ≤ m) ⊎ (m + 1 ≤ k)
-at_most k m = grind arith
-
 length-push : (out : List ℕ) (p : ℕ) → length (out ++ p ∷ []) ≡ length out + 1
 length-push [] p = refl
 length-push (x ∷ out) p = let r = length-push out p in omega arith
@@ -46,7 +46,7 @@ sound_is_good n out a s =
     (subst (λ l. StandForCircles n (take (length out) out) (undo_all (undo n) l a)) (drop_all-list (length out) out (omega arith)) (s (length out) (omega arith)))
 
 pub sound-push : (n p : ℕ) (out : List ℕ) (a b : Arrays) → undo n p b ≡ a → StandForCircles n (out ++ p ∷ []) b → CanBeUndone n out a → CanBeUndone n (out ++ p ∷ []) b
-sound-push n p out a b e good s k le = elim (at_most k (length out)) [
+sound-push n p out a b e good s k le = elim (le_or_past k (length out)) [
   | inl h ↦ subst (λ l. StandForCircles n l (undo_all (undo n) (drop k (out ++ p ∷ [])) b)) (sym (take-push k out p h))
       (subst (λ x. StandForCircles n (take k out) x) (sym (ap (λ l. undo_all (undo n) l b) (drop-push k out p h) ∙ (undo-push (undo n) (drop k out) p b ∙ ap (undo_all (undo n) (drop k out)) e))) (s k h))
   | inr h ↦ let l = length-push out p in
@@ -71,11 +71,7 @@ planes_of_rings n out l = go (still_linked n out)
 pub linked_plane : (n : ℕ) (out : List ℕ) (p : ℕ) → Contains (still_linked n out) p → (p < n) × (is_out out p ≡ false)
 linked_plane n out p c =
     let f = filter_inside (λ c. not (is_out out c)) (numbers_below n) p c in
-    (below_small n p f.0, off (is_out out p) f.1)
-  where
-    off : (b : Bool) → not b ≡ true → b ≡ false
-    off true h = cc
-    off false h = refl
+    (below_small n p f.0, from_not_true (is_out out p) f.1)
 
 length_mid : (l : List ℕ) (x : ℕ) (r : List ℕ) → length (l ++ x ∷ r) ≡ length (l ++ r) + 1
 length_mid [] x r = omega arith

@@ -1,11 +1,11 @@
 -- The view: what it is after unlink and relink.
-use Rattle.std.proofs.Common.{◌≡◌, ◌≢◌, ℕ, zero, suc, ◌<◌, refl, sym, ap, subst, ◌∙◌, arith, List, [], ◌∷◌, ◌++◌, length, false, get_or, append_assoc, eqb, Contains, eq-eqb}
+use Rattle.std.proofs.Common.{◌≡◌, ℕ, zero, suc, ◌<◌, refl, sym, ap, subst, ◌∙◌, arith, List, [], ◌∷◌, ◌++◌, length, get_or, append_assoc, eqb, Contains, eq-eqb}
 use Rattle.std.specs.Prelude.{if◌then◌else◌}
-use Rattle.std.proofs.lemmas.Bool.Decides.{nat_tests}
 use Rattle.staat_ring.specs.Links.{Links, Chain, Apart, Arrays}
 use Rattle.staat_ring.specs.Stands.{Shape, RingLists, StandFor, IsRing}
 use Rattle.staat_ring.specs.Views.{nodes_from, ring_nodes, lists_of, undo_all, kept_of}
 use Rattle.staat_ring.proofs.ListsWithout.{AreSame}
+use Rattle.staat_vec.proofs.Naturals.{eqb_false}
 
 pub undo-push : {A : Type 0} (undo : ℕ → A → A) (ps : List ℕ) (q : ℕ) (a : A) → undo_all undo (ps ++ q ∷ []) a ≡ undo_all undo ps (undo q a)
 undo-push undo [] q a = refl
@@ -25,15 +25,13 @@ kept-push undo rings done (p ∷ ps) q a =
     (append_assoc done (p ∷ []) ps)
 
 -- ---- the nodes of a ring
-differs : (x y : ℕ) → x ≢ y → eqb x y ≡ false
-differs x y h = grind (arith, nat_tests)
 
 pub nodes_from_is : (n : ℕ) (s : Links) (h a : ℕ) (xs : List ℕ) → length xs < n → Apart h xs → Chain s a xs h → nodes_from n s.next h (get_or s.next a 0) ≡ xs
 nodes_from_is zero s h a xs lt d c = absurd (omega arith)
 nodes_from_is (suc n) s h a [] lt d c = ap (λ b. if b then [] else get_or s.next a 0 ∷ nodes_from n s.next h (get_or s.next (get_or s.next a 0) 0)) (eq-eqb (get_or s.next a 0) h c.0)
 nodes_from_is (suc n) s h a (x ∷ xs) lt d c =
     ap (λ y. if eqb y h then [] else y ∷ nodes_from n s.next h (get_or s.next y 0)) c.0
-    ∙ (ap (λ b. if b then [] else x ∷ nodes_from n s.next h (get_or s.next x 0)) (differs x h d.0)
+    ∙ (ap (λ b. if b then [] else x ∷ nodes_from n s.next h (get_or s.next x 0)) (eqb_false x h d.0)
     ∙ ap (λ l. x ∷ l) (nodes_from_is n s h x xs (omega arith) d.1 c.1.1))
 
 -- what the arrays give is what they stand for

@@ -1,5 +1,5 @@
 -- What a step along a circle changes: only planes through the vertex left and the vertex reached.
-use Rattle.std.proofs.Common.{◌≡◌, ◌≢◌, ℕ, zero, suc, ◌≤◌, refl, sym, ap, subst, ◌∙◌, arith, ℤ, pos, negsuc, ◌-ℤ◌, ◌*ℤ◌, ◌<ℤ◌, List, [], ◌∷◌, Contains}
+use Rattle.std.proofs.Common.{◌≡◌, ◌≢◌, zero, suc, refl, sym, ap, subst, ◌∙◌, arith, ℤ, pos, negsuc, ◌-ℤ◌, ◌*ℤ◌, ◌<ℤ◌, List, [], ◌∷◌, Contains}
 use Rattle.std.proofs.lemmas.Int.{ints}
 use Rattle.staat_vec.specs.declared.vector.V3.{V3}
 use Rattle.staat_vec.specs.Vectors.{dot, cross, negative, origin, sign}
@@ -8,9 +8,10 @@ use Rattle.staat_ring.proofs.Turns.{turn, NextIn}
 use Rattle.staat_vec.proofs.Ring.{num, ring}
 use Rattle.staat_vec.proofs.VecRing.{values, v0, v1}
 use Rattle.staat_vec.proofs.Order.{pos_mul}
-use Rattle.staat_ring.proofs.Turning.{turnE, turn_back, turn_negative_left, turn_negative_right, cancel_positive}
+use Rattle.staat_ring.proofs.Turning.{turnE, turn_back, turn_negative_left, turn_negative_right}
 use Rattle.staat_ring.proofs.Content.{content_divides}
 use Rattle.staat_ring.proofs.Sides.{turn_is_side, turn_times_right}
+use Rattle.staat_vec.proofs.Integers.{positive_pos, cancel_positive}
 
 -- the crossing, and with it its primitive vector, is ahead of what is on the positive side of h
 crossing_ahead : (g h v : V3) → pos 0 <ℤ dot g g → dot g v ≡ pos 0 → pos 0 <ℤ dot h v → pos 0 <ℤ turn g v (cross g h)
@@ -35,14 +36,11 @@ not_origin g v u h e = zero_turn (subst (λ x. pos 0 <ℤ turn g v x) e h)
     zero_turn : pos 0 <ℤ turn g v origin → ⊥
     zero_turn q = let e = none in omega (arith, ints)
 
-positive_content : (k : ℕ) → 1 ≤ k → pos 0 <ℤ pos k
-positive_content k h = omega (arith, ints)
-
 -- the sides of a vector are those of its primitive vector
 primitive_ahead : (g v u : V3) → pos 0 <ℤ turn g v u → pos 0 <ℤ turn g v (primitive u)
 primitive_ahead g v u h =
     let c = content_divides u (not_origin g v u h) in
-    cancel_positive (pos (content u)) (turn g v (primitive u)) (positive_content (content u) c.0)
+    cancel_positive (pos (content u)) (turn g v (primitive u)) (positive_pos (content u) c.0)
     (subst (λ z. pos 0 <ℤ z) (ap (λ x. turn g v x) c.1 ∙ turn_times_right g v (primitive u) (pos (content u))) h)
 
 primitive_behind : (g u w : V3) → pos 0 <ℤ turn g u w → pos 0 <ℤ turn g (primitive u) w
@@ -72,7 +70,7 @@ primitive_behind g u w h = flip (primitive_ahead' (behind h))
     primitive_ahead' : turn g w u <ℤ pos 0 → turn g w (primitive u) <ℤ pos 0
     primitive_ahead' q =
         let c = content_divides u (some q) in
-        cancel_negative (pos (content u)) (turn g w (primitive u)) (positive_content (content u) c.0)
+        cancel_negative (pos (content u)) (turn g w (primitive u)) (positive_pos (content u) c.0)
         (subst (λ z. z <ℤ pos 0) (ap (λ x. turn g w x) c.1 ∙ turn_times_right g w (primitive u) (pos (content u))) q)
 
 -- the crossings of h are on the circle
@@ -93,7 +91,7 @@ turned_ahead g v u h = let e = turn_negative_right g v u in omega (arith, ints)
 turned_behind : (g u w : V3) → turn g u w <ℤ pos 0 → pos 0 <ℤ turn g (negative u) w
 turned_behind g u w h = let e = turn_negative_left g u w in omega (arith, ints)
 
-back_negative : (g u v : V3) → pos 0 <ℤ turn g u v → turn g v u <ℤ pos 0
+pub back_negative : (g u v : V3) → pos 0 <ℤ turn g u v → turn g v u <ℤ pos 0
 back_negative g u v h = let e = turn_back g u v in omega (arith, ints)
 
 -- nor back

@@ -22,10 +22,6 @@ pub without_none : (x : ℕ) (xs : List ℕ) → Apart x xs → without x xs ≡
 without_none x [] h = refl
 without_none x (y ∷ xs) h = without_other x y xs h.0 ∙ ap (λ zs. y ∷ zs) (without_none x xs h.1)
 
-apart-right : (x : ℕ) (l r : List ℕ) → Apart x (l ++ r) → Apart x r
-apart-right x [] r h = h
-apart-right x (y ∷ l) r h = apart-right x l r h.1
-
 apart_mid : (y x : ℕ) (l r : List ℕ) → Apart y (l ++ x ∷ r) → x ≢ y
 apart_mid y x [] r h = h.0
 apart_mid y x (z ∷ l) r h = apart_mid y x l r h.1

@@ -5,15 +5,15 @@ use Rattle.std.specs.List.{filter}
 use Rattle.std.proofs.lemmas.Bool.Decides.{Decides-eqb}
 use Rattle.staat_vec.proofs.Unique.{Contains-cases, Contains-front, Contains-later, Contains-nothing}
 use Rattle.staat_vec.specs.declared.vector.V3.{V3}
-use Rattle.staat_ring.proofs.Mapped.{same_or}
 use Rattle.staat_model.proofs.Members.{All-from_members}
 use Rattle.std.proofs.lemmas.List.Elements.{All-contains}
 use Rattle.staat_ring.specs.declared.entry.Entry.{Entry}
 use Rattle.staat_ring.specs.Rings.{IsRingOf, Ring, RingStop, crossing, vertex_of}
 use Rattle.staat_ring.proofs.Stops.{AreLinkedApart}
 use Rattle.staat_ring.specs.Without.{has_some, other_than, ring_without, stays, stop_without}
-use Rattle.staat_ring.proofs.Mapped.{from_map}
-use Rattle.staat_ring.proofs.Mapped.{differ}
+use Rattle.staat_vec.proofs.Truth.{false_true_clash, true_not_clash}
+use Rattle.staat_vec.proofs.Naturals.{same_or, eq_test_false}
+use Rattle.staat_vec.proofs.ListLaws.{Contains-from_map}
 
 -- ---- filtered lists
 
@@ -55,14 +55,10 @@ different_filter {X = X} f p (x ∷ xs) h = go (p x) (different_filter f p xs h.
 -- ---- entries
 
 other_is : (p : ℕ) (e : Entry) → e.plane ≢ p → other_than p e ≡ true
-other_is p e ne = ap not (differ e.plane p ne)
+other_is p e ne = ap not (eq_test_false e.plane p ne)
 
 is_other : (p : ℕ) (e : Entry) → other_than p e ≡ true → e.plane ≢ p
-is_other p e h q = off (e.plane == p) ((Decides-eqb e.plane p).1 q) h
-  where
-    off : (b : Bool) → b ≡ true → not b ≡ true → ⊥
-    off true a c = cc
-    off false a c = cc
+is_other p e h q = true_not_clash (e.plane == p) ((Decides-eqb e.plane p).1 q) h
 
 some_has : (es : List Entry) (e : Entry) → Contains es e → has_some es ≡ true
 some_has [] e c = absurd (Contains-nothing e c)
@@ -84,10 +80,7 @@ stays_has p s h =
 
 -- one that does not has none
 pub leaves_by : (p : ℕ) (s : RingStop) → stays p s ≡ false → (e : Entry) → Contains s.entries e → e.plane ≡ p
-leaves_by p s h e c = ⊎_elim {C = e.plane ≡ p} (λ q. q) (λ ne. absurd (off (stays p s) h (stays_by p s e c ne))) (same_or e.plane p)
-  where
-    off : (b : Bool) → b ≡ false → b ≡ true → ⊥
-    off b a c = cc
+leaves_by p s h e c = ⊎_elim {C = e.plane ≡ p} (λ q. q) (λ ne. absurd (false_true_clash (stays p s) h (stays_by p s e c ne))) (same_or e.plane p)
 
 -- ---- the vertex of a stop stays
 
@@ -105,7 +98,7 @@ module _ (planes : List V3) (linked : List ℕ) (r : Ring) (p : ℕ) (apart : Ar
   -- each entry of a stop that stays still names its vertex
   pub agree_without : All (λ s. All (λ e. crossing planes r.plane e ≡ vertex_of planes r.plane s.entries) s.entries) (ring_without p r).stops
   agree_without = All-from_members (λ s. All (λ e. crossing planes r.plane e ≡ vertex_of planes r.plane s.entries) s.entries) (map (stop_without p) (filter (stays p) r.stops)) (λ u cu.
-      let (s, cs, es) = from_map (stop_without p) (filter (stays p) r.stops) u cu in
+      let (s, cs, es) = Contains-from_map (stop_without p) (filter (stays p) r.stops) u cu in
       let f = filter_from (stays p) r.stops s cs in
       subst (λ (u : RingStop). All (λ e. crossing planes r.plane e ≡ vertex_of planes r.plane u.entries) u.entries) es
       (All-from_members (λ e. crossing planes r.plane e ≡ vertex_of planes r.plane (filter (other_than p) s.entries)) (filter (other_than p) s.entries) (λ e ce. agree s e f.0 (filter_from (other_than p) s.entries e ce).0 ∙ sym (vertex_stays s f.0 f.1))))

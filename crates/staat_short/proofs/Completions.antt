@@ -14,7 +14,6 @@ use Rattle.staat_model.proofs.Members.{all_back, all_front}
 use Rattle.staat_holds.specs.declared.hold.Hold.{Hold}
 use Rattle.staat_cert.specs.Machine.{follows}
 use Rattle.staat_cert.proofs.Lists.{all_one, length_one}
-use Rattle.staat_cert.proofs.LineLemmas.{let_through}
 use Rattle.staat_short.specs.declared.stage.Kind.{Kind}
 use Rattle.staat_short.specs.declared.stage.Kind.TheVariants as kind
 use Rattle.staat_short.specs.declared.short.ShortNode.{ShortNode}
@@ -28,6 +27,7 @@ use Rattle.staat_short.specs.ShortLines.{IsShortLine}
 use Rattle.staat_short.specs.ShortTexts.{GroupedPlan, part_alone, grouped, taken_apart, short_nodes_of, lines_of_hold, lines_of_short_node, short_lines, AreHoldsInOrder, IsAnswerInOrder, IsHoldInOrder, IsRestInOrder, IsShortInOrder, IsShortNodeInOrder, IsUngrouped}
 use Rattle.staat_short.specs.Fronts.{Place, whole_answer, in_plan, Front, untitled, titled, counting, planning, holding, complete, holds_in, grouped_in, short_answer, after_leaf, after_split, after_group, after_end, front_after, then_line, after_lines}
 use Rattle.staat_short.proofs.FrontLines.{follows_in, lines_good}
+use Rattle.staat_vec.proofs.Options.{let_through}
 
 pub after_both : (xs ys : List ShortLine) (o : Option Front) → after_lines o (xs ++ ys) ≡ after_lines (after_lines o xs) ys
 after_both [] ys o = refl

@@ -1,12 +1,12 @@
 -- What may follow is the front of a certificate.
-use Rattle.std.proofs.Common.{◌≡◌, ◌++◌, ◌∷◌, ◌+◌, ◌*◌, ◌≤◌, ℕ, zero, suc, Bool, true, false, List, [], map, length, All, ap, sym, subst, refl, ◌∙◌, arith, append_assoc, append-nil}
+use Rattle.std.proofs.Common.{◌≡◌, ◌++◌, ◌∷◌, ◌+◌, ◌*◌, ◌≤◌, ℕ, zero, suc, true, List, [], map, length, All, ap, sym, subst, refl, ◌∙◌, arith, append_assoc, append-nil}
 use Rattle.std.specs.Prelude.{Option, Some, None, ◌&&◌, ◌==◌, nat_le, flat_map}
 use Rattle.std.specs.Cmp.{IsTotalOrder}
 use Rattle.std.specs.List.Sorted.{IsStrictlySortedBy}
 use Rattle.std.specs.Ordering.{nat_cmp}
 use Rattle.std.specs.declared.cmp.Ordering.{Ordering}
 use Rattle.std.proofs.lemmas.Cmp.{nat_cmp_total}
-use Rattle.std.proofs.lemmas.Bool.{eqb-true, leb-true, false≢true}
+use Rattle.std.proofs.lemmas.Bool.{leb-true}
 use Rattle.std.proofs.lemmas.List.{map-append, map-id}
 use Rattle.std.proofs.lemmas.List.Elements.{All-head, All-nil, All-push, All-tail}
 use Rattle.staat_vec.specs.declared.vector.V3.{V3}
@@ -17,7 +17,6 @@ use Rattle.staat_model.proofs.Members.{all_back, all_front}
 use Rattle.staat_holds.specs.declared.hold.Hold.{Hold}
 use Rattle.staat_cert.specs.Machine.{follows}
 use Rattle.staat_cert.proofs.Lists.{ascending_one, flat_one, follows_there, length_one}
-use Rattle.staat_cert.proofs.Sound.{is_some, passed}
 use Rattle.staat_short.specs.declared.stage.Kind.{Kind}
 use Rattle.staat_short.specs.declared.stage.Kind.TheVariants as kind
 use Rattle.staat_short.specs.declared.short.ShortNode.{ShortNode}
@@ -27,10 +26,10 @@ use Rattle.staat_short.specs.declared.line.ShortLine.TheVariants as line
 use Rattle.staat_short.specs.ShortLines.{IsShortLine}
 use Rattle.staat_short.specs.ShortTexts.{GroupedPlan, part_alone, grouped, taken_apart, short_nodes_of, lines_of_hold, lines_of_short_node, short_lines, AreHoldsInOrder, IsAnswerInOrder, IsHoldInOrder, IsShortNodeInOrder, IsUngrouped}
 use Rattle.staat_short.specs.Fronts.{Place, whole_answer, in_plan, Front, untitled, titled, counting, planning, holding, complete, holds_in, grouped_in, short_answer, after_title, after_parts, after_kind, after_stuck, after_leaf, after_split, after_group, after_hold, after_part, after_pair, after_end, front_after, after_lines}
-
-both : (a b : Bool) → (a && b) ≡ true → (a ≡ true) × (b ≡ true)
-both true b e = (refl, e)
-both false b e = absurd (false≢true e)
+use Rattle.staat_vec.proofs.Truth.{and_split}
+use Rattle.staat_vec.proofs.ListLaws.{length_test_nil}
+use Rattle.staat_vec.proofs.Options.{some_injective}
+use Rattle.std.proofs.lemmas.Option.{cond_some}
 
 -- ---- ascending lists of what is compared itself
 
@@ -101,7 +100,7 @@ record Follows (s : Front) (r : ShortLine) (t : Front) : Type 0 where
   lines : lines_of_front t ≡ lines_of_front s ++ r ∷ []
 
 moved : (s : Front) (r : ShortLine) (t u : Front) → Some t ≡ Some u → Follows s r t → Follows s r u
-moved s r t u e h = subst (λ (x : Front). Follows s r x) (is_some t u e) h
+moved s r t u e h = subst (λ (x : Front). Follows s r x) (some_injective t u e) h
 
 -- ---- trees
 
@@ -218,7 +217,7 @@ split_good (counting n) d t h e = cc
 split_good (planning n k nodes zero) d t h e = cc
 split_good (planning n k nodes (suc wanted)) d t h e =
     let new : Front = planning n k (nodes ++ Split d ∷ []) (suc (suc wanted)) in
-    let test = passed (nat_le (length nodes + wanted + 4) (2 * n)) new t e in
+    let test = cond_some (nat_le (length nodes + wanted + 4) (2 * n)) new t e in
     let fits : length nodes + wanted + 4 ≤ 2 * n = leb-true (length nodes + wanted + 4) (2 * n) test.0 in
     subst (λ (s : Front). Follows (planning n k nodes (suc wanted)) (line.Split d) s) test.1 (record {
       good = record {
@@ -265,10 +264,6 @@ hold_good (holding n place holds last) t h e =
     })
 hold_good (complete c) t h e = cc
 
-nothing_in : {X : Type 0} (xs : List X) → (length xs == 0) ≡ true → xs ≡ []
-nothing_in [] e = refl
-nothing_in (x ∷ xs) e = absurd (let none : suc (length xs) ≡ 0 = eqb-true (suc (length xs)) 0 e in omega arith)
-
 -- the last hold, changed
 last_changed : (holds : List Hold) (old new : Hold) → All IsHoldInOrder (holds ++ old ∷ []) → (IsHoldInOrder old → IsHoldInOrder new) → All IsHoldInOrder (holds ++ new ∷ [])
 last_changed holds old new h f = All-push IsHoldInOrder holds new (all_front IsHoldInOrder holds (old ∷ []) h) (f (All-head IsHoldInOrder old [] (all_back IsHoldInOrder holds (old ∷ []) h)))
@@ -281,9 +276,9 @@ part_good (planning n k nodes wanted) p t h e = cc
 part_good (holding n place holds None) p t h e = cc
 part_good (holding n place holds (Some hold)) p t h e =
     let new : Hold = record { nodes = hold.nodes ++ p ∷ []; pairs = hold.pairs } in
-    let test = passed ((length hold.pairs == 0) && follows nat_cmp hold.nodes p) (holding n place holds (Some new)) t e in
-    let tests = both _ _ test.0 in
-    let none : hold.pairs ≡ [] = nothing_in hold.pairs tests.0 in
+    let test = cond_some ((length hold.pairs == 0) && follows nat_cmp hold.nodes p) (holding n place holds (Some new)) t e in
+    let tests = and_split _ _ test.0 in
+    let none : hold.pairs ≡ [] = length_test_nil hold.pairs tests.0 in
     let added : map line.Part (hold.nodes ++ p ∷ []) ++ map line.Pair hold.pairs ≡ (map line.Part hold.nodes ++ map line.Pair hold.pairs) ++ line.Part p ∷ [] =
     ap (λ l. map line.Part (hold.nodes ++ p ∷ []) ++ map line.Pair l) none ∙ append-nil (map line.Part (hold.nodes ++ p ∷ [])) ∙ map-append line.Part hold.nodes (p ∷ [])
     ∙ ap (λ l. l ++ line.Part p ∷ []) (sym (append-nil (map line.Part hold.nodes))) ∙ ap (λ l. (map line.Part hold.nodes ++ map line.Pair l) ++ line.Part p ∷ []) (sym none) in
@@ -301,7 +296,7 @@ pair_good (planning n k nodes wanted) pair t h e = cc
 pair_good (holding n place holds None) pair t h e = cc
 pair_good (holding n place holds (Some hold)) pair t h e =
     let new : Hold = record { nodes = hold.nodes; pairs = hold.pairs ++ pair ∷ [] } in
-    let test = passed (follows arc_cmp hold.pairs pair) (holding n place holds (Some new)) t e in
+    let test = cond_some (follows arc_cmp hold.pairs pair) (holding n place holds (Some new)) t e in
     let added : map line.Part hold.nodes ++ map line.Pair (hold.pairs ++ pair ∷ []) ≡ (map line.Part hold.nodes ++ map line.Pair hold.pairs) ++ line.Pair pair ∷ [] =
     ap (λ l. map line.Part hold.nodes ++ l) (map-append line.Pair hold.pairs (pair ∷ [])) ∙ sym (append_assoc (map line.Part hold.nodes) (map line.Pair hold.pairs) (line.Pair pair ∷ [])) in
     subst (λ (s : Front). Follows (holding n place holds (Some hold)) (line.Pair pair) s) test.1 (record {
@@ -361,5 +356,5 @@ by_line r rs s t f h rest (Some u) same k =
 
 -- what lines lead to is good, and has read these lines
 pub lines_good : (rs : List ShortLine) (s t : Front) → All IsShortLine rs → IsGoodFront s → after_lines (Some s) rs ≡ Some t → IsGoodFront t × (lines_of_front t ≡ lines_of_front s ++ rs)
-lines_good [] s t f h e = let same : s ≡ t = is_some s t e in subst (λ (x : Front). IsGoodFront x × (lines_of_front x ≡ lines_of_front s ++ [])) same (h, sym (append-nil (lines_of_front s)))
+lines_good [] s t f h e = let same : s ≡ t = some_injective s t e in subst (λ (x : Front). IsGoodFront x × (lines_of_front x ≡ lines_of_front s ++ [])) same (h, sym (append-nil (lines_of_front s)))
 lines_good (r ∷ rs) s t f h e = by_line r rs s t (All-head IsShortLine r rs f) h (λ u g k. lines_good rs u t (All-tail IsShortLine r rs f) g k) (front_after s r) refl e

@@ -8,13 +8,14 @@ use Rattle.staat_model.specs.Plans.{IsGood, Plan, leaf, parts_of, split}
 use Rattle.staat_model.specs.SetLists.{set_of}
 use Rattle.staat_model.specs.Sets.{AreApart, Has, IsNonempty, IsSubset, below}
 use Rattle.staat_model.proofs.SetBits.{has-below}
-use Rattle.staat_model.proofs.SetMembers.{has-empty, has-insert, has-single, has-union}
+use Rattle.staat_model.proofs.SetMembers.{has-empty, has-insert, has-single}
 use Rattle.staat_model.proofs.SetSizes.{len_below, len_more}
 use Rattle.staat_holds.specs.declared.grouped.GroupedTree.{GroupedTree}
 use Rattle.staat_holds.specs.declared.grouped.GroupedTree as tree
 use Rattle.staat_holds.specs.Partials.{IsGoodPartial, partial_of, parts_in}
 use Rattle.staat_short.specs.PlanNodes.{grouped_plan_of, without_groups}
 use Rattle.staat_short.specs.ShortTexts.{GroupedPlan, grouped, part_alone, short_nodes_of, taken_apart}
+use Rattle.staat_model.proofs.WholeLemmas.{left_within, right_within}
 
 -- each end of the plan has a part of its own in the set
 abbrev pub HasOwn : GroupedPlan → PartSet → Type 0
@@ -69,19 +70,13 @@ few_nodes n t own =
 
 -- ---- good plans
 
-left : (s r : PartSet) → IsSubset s (set.union s r)
-left s r q h = (has-union s r q).1 (inl h)
-
-right : (s r : PartSet) → IsSubset r (set.union s r)
-right s r q h = (has-union s r q).1 (inr h)
-
 pub own_parts : (parts : List Part) (w : PartSet) (plan : Plan) → IsGood parts w plan → HasOwn (without_groups plan) w
 own_parts parts w (leaf p) good = subst (λ (s : PartSet). Has s p) (sym good) ((has-single p p).1 refl)
 own_parts parts w (split d m r) good = subst (HasOwn (taken_apart d (without_groups m) (without_groups r))) (sym good.0) (
   parts_of m,
   (
     parts_of r,
-    (good.1, left (parts_of m) (parts_of r), right (parts_of m) (parts_of r), own_parts parts (parts_of m) m good.3, own_parts parts (parts_of r) r good.4),
+    (good.1, left_within (parts_of m) (parts_of r), right_within (parts_of m) (parts_of r), own_parts parts (parts_of m) m good.3, own_parts parts (parts_of r) r good.4),
   ),
 )
 
@@ -96,4 +91,4 @@ own_groups parts w (tree.Group group) good = subst IsNonempty (sym good.0) (some
 own_groups parts w (tree.Split' d p m q r) good =
     let a = parts_in (partial_of m) in
     let b = parts_in (partial_of r) in
-    subst (HasOwn (taken_apart d (grouped_plan_of m) (grouped_plan_of r))) (sym good.0) (a, (b, (good.1, left a b, right a b, own_groups parts a m good.3, own_groups parts b r good.4)))
+    subst (HasOwn (taken_apart d (grouped_plan_of m) (grouped_plan_of r))) (sym good.0) (a, (b, (good.1, left_within a b, right_within a b, own_groups parts a m good.3, own_groups parts b r good.4)))

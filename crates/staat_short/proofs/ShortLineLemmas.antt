@@ -1,10 +1,9 @@
 -- A line of a short certificate is read exactly from its text, which has one line feed, at its end, and fewer than 128
 -- bytes.
 use Rattle.std.proofs.Common.{◌≡◌, ◌≢◌, ◌++◌, ◌∷◌, ◌+◌, ◌^◌, ◌<◌, ◌≤◌, ℕ, Bool, true, false, List, [], length, All, ap, ap₂, sym, subst, refl, ◌∙◌, arith, ℤ, pos, append_assoc, length-append, ◌⊎◌, inl, inr}
-use Rattle.std.specs.Prelude.{Option, Some, None, cond, ◌==◌, ◌&&◌, nat_lt, nat_le, option_and_then, option_map, codes, get_or, IfSome, IfNone}
+use Rattle.std.specs.Prelude.{Option, Some, None, cond, ◌==◌, nat_lt, nat_le, option_and_then, option_map, codes, get_or, IfSome, IfNone}
 use Rattle.std.specs.List.{list_all}
 use Rattle.std.specs.Str.{bytes_eq}
-use Rattle.std.specs.Fmt.{signed_decimal}
 use Rattle.std.proofs.lemmas.Slice.Eq.{bytes_eq-Decides}
 use Rattle.std.proofs.lemmas.Bool.{leb-true, ltb-true, lt-ltb, le-leb, eq-eqb, false≢true}
 use Rattle.std.proofs.lemmas.List.Elements.{All-append, All-cons, All-nil, All-tail, All-head}
@@ -16,17 +15,20 @@ use Rattle.staat_model.specs.declared.certificate.Arc.{Arc}
 use Rattle.staat_model.specs.Lines.{arc_numbers, spaced, vector_numbers, ArePlain}
 use Rattle.staat_model.specs.Texts.{HasNoFeed, IsLine}
 use Rattle.staat_model.proofs.Decimals.{natural_length, signed_length}
-use Rattle.staat_model.proofs.LineTexts.{bare, bare_no_feed, one_cut, parted_spaced, spaced_bare, spaced_same}
+use Rattle.staat_model.proofs.LineTexts.{bare, bare_no_feed, one_cut, parted_spaced, spaced_bare, spaced_same, bare_more}
 use Rattle.staat_cert.specs.LineReading.{natural_from, vector_from}
 use Rattle.staat_cert.specs.Spaced.{IsBounded, IsSpaced, AreCut}
 use Rattle.staat_cert.proofs.Cuts.{all_small, one_list}
-use Rattle.staat_cert.proofs.LineLemmas.{passed, let_through, natural_again, vector_found, vector_again, one_of, three_of, vector_bounded, cons, nil}
-use Rattle.staat_cert.proofs.Options.{some_is, and_then_found, map_found, natural_found}
+use Rattle.staat_cert.proofs.LineLemmas.{natural_again, vector_found, vector_again, one_of, three_of, vector_bounded, cons, nil}
+use Rattle.staat_cert.proofs.Options.{and_then_found, natural_found}
 use Rattle.staat_short.specs.declared.line.ShortLine.{ShortLine}
 use Rattle.staat_short.specs.declared.line.ShortLine.TheVariants as line
 use Rattle.staat_short.specs.ShortLines.{IsOrderedPair, IsShortLine, short_line_text, short_numbers, short_word}
 use Rattle.staat_short.specs.ShortReading.{IsShortLineOf, alone_from, along_from, count_from, pair_from, part_from, pieces_from, short_line_from, single_from}
 use Rattle.staat_short.specs.ShortStanding.{IsShortLineText}
+use Rattle.staat_vec.proofs.Truth.{and_split}
+use Rattle.std.proofs.lemmas.Option.{cond_some}
+use Rattle.staat_vec.proofs.Options.{let_through, some_injective, option_map_found}
 
 -- ---- from numbers
 
@@ -39,13 +41,13 @@ count_found [] r e = cc
 count_found (z ∷ []) r e =
     let s = and_then_found _ (natural_from (MOST_PRODUCT_PARTS + 1) z) r e in
     let f = natural_found (MOST_PRODUCT_PARTS + 1) z s.0 s.1 in
-    let test = passed (nat_le 1 s.0) (line.Parts s.0) r s.2 in
+    let test = cond_some (nat_le 1 s.0) (line.Parts s.0) r s.2 in
     made _ _ (line.Parts s.0) r test.1 (record { word_is = refl; numbers_are = one_of z (pos s.0) f.0; bounds = (leb-true 1 s.0 test.0, omega (arith, f.1)) })
 count_found (z ∷ y ∷ zs) r e = cc
 
 alone_found : (l : ShortLine) (word : List ℕ) → word ≡ short_word l → [] ≡ short_numbers l → IsShortLine l → (zs : List ℤ) (r : ShortLine) → alone_from l zs ≡ Some r → IsShortLineOf word zs r
 unfolding alone_from
-alone_found l word w n b [] r e = made _ _ l r (some_is l r e) (record { word_is = w; numbers_are = n; bounds = b })
+alone_found l word w n b [] r e = made _ _ l r (some_injective l r e) (record { word_is = w; numbers_are = n; bounds = b })
 alone_found l word w n b (z ∷ zs) r e = cc
 
 along_found : (zs : List ℤ) (r : ShortLine) → along_from zs ≡ Some r → IsShortLineOf (codes "split") zs r
@@ -54,7 +56,7 @@ along_found [] r e = cc
 along_found (x ∷ []) r e = cc
 along_found (x ∷ y ∷ []) r e = cc
 along_found (x ∷ y ∷ z ∷ []) r e =
-    let s = map_found line.Split (vector_from DIRECTION x y z) r e in
+    let s = option_map_found line.Split (vector_from DIRECTION x y z) r e in
     let f = vector_found DIRECTION x y z s.0 s.1 in
     made _ _ (line.Split s.0) r s.2 (record { word_is = refl; numbers_are = three_of DIRECTION x y z s.0 f; bounds = f.bounds })
 along_found (x ∷ y ∷ z ∷ w ∷ zs) r e = cc
@@ -63,7 +65,7 @@ single_found : (zs : List ℤ) (r : ShortLine) → single_from zs ≡ Some r →
 unfolding single_from
 single_found [] r e = cc
 single_found (z ∷ []) r e =
-    let s = map_found line.Leaf (natural_from MOST_PRODUCT_PARTS z) r e in
+    let s = option_map_found line.Leaf (natural_from MOST_PRODUCT_PARTS z) r e in
     let f = natural_found MOST_PRODUCT_PARTS z s.0 s.1 in
     made _ _ (line.Leaf s.0) r s.2 (record { word_is = refl; numbers_are = one_of z (pos s.0) f.0; bounds = f.1 })
 single_found (z ∷ y ∷ zs) r e = cc
@@ -72,7 +74,7 @@ part_found : (zs : List ℤ) (r : ShortLine) → part_from zs ≡ Some r → IsS
 unfolding part_from
 part_found [] r e = cc
 part_found (z ∷ []) r e =
-    let s = map_found line.Part (natural_from MOST_PRODUCT_PARTS z) r e in
+    let s = option_map_found line.Part (natural_from MOST_PRODUCT_PARTS z) r e in
     let f = natural_found MOST_PRODUCT_PARTS z s.0 s.1 in
     made _ _ (line.Part s.0) r s.2 (record { word_is = refl; numbers_are = one_of z (pos s.0) f.0; bounds = f.1 })
 part_found (z ∷ y ∷ zs) r e = cc
@@ -92,7 +94,7 @@ pieces_found a i b j pair e =
     let sa = and_then_found _ (natural_from MOST_PRODUCT_PARTS a) pair e in
     let si = and_then_found _ (natural_from MOST_PRODUCT_PIECES i) pair sa.2 in
     let sb = and_then_found _ (natural_from MOST_PRODUCT_PARTS b) pair si.2 in
-    let sj = map_found _ (natural_from MOST_PRODUCT_PIECES j) pair sb.2 in
+    let sj = option_map_found _ (natural_from MOST_PRODUCT_PIECES j) pair sb.2 in
     let fa = natural_found MOST_PRODUCT_PARTS a sa.0 sa.1 in
     let fi = natural_found MOST_PRODUCT_PIECES i si.0 si.1 in
     let fb = natural_found MOST_PRODUCT_PARTS b sb.0 sb.1 in
@@ -115,7 +117,7 @@ pair_found (a ∷ i ∷ b ∷ []) r e = cc
 pair_found (a ∷ i ∷ b ∷ j ∷ []) r e =
     let s = and_then_found _ (pieces_from a i b j) r e in
     let f = pieces_found a i b j s.0 s.1 in
-    let test = passed (nat_lt s.0.a s.0.b) (line.Pair s.0) r s.2 in
+    let test = cond_some (nat_lt s.0.a s.0.b) (line.Pair s.0) r s.2 in
     made _ _ (line.Pair s.0) r test.1 (record { word_is = refl; numbers_are = four_pieces a i b j s.0 f; bounds = record { i = f.i_few; b = f.b_few; j = f.j_few; below = ltb-true s.0.a s.0.b test.0 } })
 pair_found (a ∷ i ∷ b ∷ j ∷ x ∷ zs) r e = cc
 
@@ -189,11 +191,7 @@ numbers_bounded line.End h = nil
 
 all_above : (low : ℕ) (bs : List ℕ) → list_all (λ b. nat_lt low b) bs ≡ true → All (λ b. low < b) bs
 all_above low [] e = All-nil (λ b. low < b)
-all_above low (b ∷ bs) e = let t = both (nat_lt low b) (list_all (λ c. nat_lt low c) bs) e in All-cons (λ c. low < c) b bs (ltb-true low b t.0) (all_above low bs t.1)
-  where
-    both : (x y : Bool) → (x && y) ≡ true → (x ≡ true) × (y ≡ true)
-    both true y h = (refl, h)
-    both false y h = absurd (false≢true h)
+all_above low (b ∷ bs) e = let t = and_split (nat_lt low b) (list_all (λ c. nat_lt low c) bs) e in All-cons (λ c. low < c) b bs (ltb-true low b t.0) (all_above low bs t.1)
 
 no_feed_above : (bs : List ℕ) → All (λ b. 31 < b) bs → HasNoFeed bs
 no_feed_above [] h = All-nil (λ b. b ≢ 10)
@@ -279,7 +277,7 @@ one_word_line : (l m : ShortLine) → HasWord l → HasWord m → IsShortLine l 
 one_word_line l m u w f g e =
     let cuts = one_cut (short_word l) (short_word m) (spaced (short_numbers l)) (spaced (short_numbers m)) (word_plain l u) (word_plain m w) (parted_spaced (short_numbers l)) (parted_spaced (short_numbers m)) e in
     let same : short_numbers l ≡ short_numbers m = spaced_same (short_numbers l) (short_numbers m) (all_small (short_numbers l) (numbers_bounded l f)) (all_small (short_numbers m) (numbers_bounded m g)) cuts.1 in
-    some_is l m (sym (line_again l u f) ∙ ap₂ short_line_from cuts.0 same ∙ line_again m w g)
+    some_injective l m (sym (line_again l u f) ∙ ap₂ short_line_from cuts.0 same ∙ line_again m w g)
 
 -- no line has the text of another
 pub one_short_line : (l m : ShortLine) → IsShortLine l → IsShortLine m → short_line_text l ≡ short_line_text m → l ≡ m
@@ -347,9 +345,6 @@ pub short_line_whole : (l : ShortLine) → IsShortLine l → IsLine (short_line_
 short_line_whole l h = record { front = short_line_front l; is = short_line_is l; no_feed = front_no_feed l h }
 
 -- ---- lengths
-
-bare_more : (z : ℤ) (zs : List ℤ) (m n : ℕ) → length (signed_decimal z) ≤ m → length (bare zs) ≤ n → length (bare (z ∷ zs)) ≤ m + n + 1
-bare_more z zs m n h k = omega (arith, length-append (signed_decimal z) (bare zs))
 
 natural_more : (k n : ℕ) (zs : List ℤ) (m : ℕ) → 0 < k → n < 10 ^ k → n < 10 ^ 64 → length (bare zs) ≤ m → length (bare (pos n ∷ zs)) ≤ k + m + 1
 natural_more k n zs m some h wide b = bare_more (pos n) zs k m (natural_length k n some h wide) b

@@ -12,11 +12,13 @@ use Rattle.staat_short.specs.declared.line.ShortLine.{ShortLine}
 use Rattle.staat_short.specs.declared.line.ShortLine.TheVariants as line
 use Rattle.staat_short.specs.ShortLines.{IsShortLine, short_line_text}
 use Rattle.staat_short.specs.ShortTexts.{BeginsShortText, IsBadShortAfter, IsFirstBadShortLine, IsShortInOrder, IsShortTextOf, short_lines, short_text}
-use Rattle.staat_short.specs.Fronts.{Front, untitled, complete, front_after, after_lines}
+use Rattle.staat_short.specs.Fronts.{untitled, complete, front_after, after_lines}
 use Rattle.staat_short.specs.ShortFeeds.{IsShortReadAnswer}
 use Rattle.staat_short.proofs.ShortLineLemmas.{one_short_line, short_line_front, short_line_is, short_line_length, short_line_whole}
 use Rattle.staat_short.proofs.FrontLines.{none_after}
 use Rattle.staat_short.proofs.Completions.{after_both, certificate_runs}
+use Rattle.staat_vec.proofs.ListLaws.{long_not_nil}
+use Rattle.staat_vec.proofs.Options.{none_some}
 
 abbrev pub text : List ShortLine → List ℕ
 text ls = flat_map short_line_text ls
@@ -67,9 +69,6 @@ complete_same c d e = cc
 one_by_lines : (c d : ShortCertificate) → IsShortInOrder c → IsShortInOrder d → short_lines c ≡ short_lines d → c ≡ d
 one_by_lines c d f g e = complete_same c d (sym (certificate_runs c f) ∙ ap (after_lines (Some untitled)) e ∙ certificate_runs d g)
 
-nothing_said : (s : Front) → None ≡ Some s → ⊥
-nothing_said s e = cc
-
 nothing_follows : (c : ShortCertificate) (l : ShortLine) → front_after (complete c) l ≡ None
 nothing_follows c line.Title = refl
 nothing_follows c (line.Parts n) = refl
@@ -89,7 +88,7 @@ lines_end : (c d : ShortCertificate) → IsShortInOrder c → IsShortInOrder d �
 lines_end c d f g l back e =
     let ran : after_lines (Some untitled) (short_lines c ++ l ∷ back) ≡ None =
     after_both (short_lines c) (l ∷ back) (Some untitled) ∙ ap (λ o. after_lines o (l ∷ back)) (certificate_runs c f) ∙ ap (λ o. after_lines o back) (nothing_follows c l) ∙ none_after back in
-    nothing_said (complete d) (sym ran ∙ ap (after_lines (Some untitled)) (sym e) ∙ certificate_runs d g)
+    none_some (complete d) (sym ran ∙ ap (after_lines (Some untitled)) (sym e) ∙ certificate_runs d g)
 
 pub one_certificate : (bytes : List ℕ) (c d : ShortCertificate) → IsShortTextOf bytes c → IsShortTextOf bytes d → c ≡ d
 one_certificate bytes c d f g = one_by_lines c d f.form g.form (lines_by_text (short_lines c) (short_lines d) f.form.lines g.form.lines (sym f.is ∙ g.is))
@@ -203,11 +202,7 @@ one_bad_line bytes j k x y =
 -- nothing follows: no line is bad
 nothing_bad : (c : ShortCertificate) (ahead : List ℕ) → ahead ≡ [] → IsBadShortAfter (short_text c) ahead → ⊥
 nothing_bad c ahead e (inl w) = line_some w.line w.rest w.whole (sym w.is ∙ e)
-nothing_bad c ahead e (inr (inl long)) = too_long long.line long.rest long.long (sym long.is ∙ e)
-  where
-    too_long : (line rest : List ℕ) → length line ≡ 128 → line ++ rest ≡ [] → ⊥
-    too_long [] rest n q = absurd (omega arith)
-    too_long (b ∷ line) rest n q = cc
+nothing_bad c ahead e (inr (inl long)) = long_not_nil long.line long.rest long.long (sym long.is ∙ e)
 nothing_bad c ahead e (inr (inr more)) = more.some e
 
 pub no_bad_line_in_text : (bytes : List ℕ) (c : ShortCertificate) (k : ℕ) → IsShortTextOf bytes c → IsFirstBadShortLine bytes k → ⊥

@@ -1,8 +1,6 @@
 -- The certificates of what is shown are within the bounds of their text, and in its orders.
 use Rattle.std.proofs.Common.{◌≡◌, ℕ, ◌+◌, ◌*◌, ◌<◌, ◌≤◌, List, [], ◌∷◌, ◌++◌, length, map, take, inl, inr, refl, sym, subst, ◌∙◌, arith, All, Contains}
 use Rattle.std.specs.Prelude.{flat_map}
-use Rattle.std.proofs.lemmas.List.{length-map}
-use Rattle.std.proofs.lemmas.List.Concat.{flat_map-cons}
 use Rattle.std.proofs.lemmas.List.Elements.{All-append, All-cons, All-contains, All-map, All-nil}
 use Rattle.std.proofs.lemmas.List.FromFn.{length-range_with_len}
 use Rattle.staat_vec.specs.declared.vector.V3.{V3}
@@ -15,14 +13,14 @@ use Rattle.staat_model.specs.Plans.{IsGood, Plan, leaf, parts_of, split}
 use Rattle.staat_model.specs.Sets.{Has, IsSubset, below}
 use Rattle.staat_model.proofs.Members.{All-from_members}
 use Rattle.staat_model.proofs.PartCounts.{piece_count_small}
-use Rattle.staat_model.proofs.Places.{place_from_Contains, place_within}
+use Rattle.staat_model.proofs.Places.{place_within}
 use Rattle.staat_model.proofs.SetBits.{has-below}
 use Rattle.staat_model.proofs.SetMembers.{has-single, has-union}
 use Rattle.staat_holds.specs.declared.grouped.Group.{Group as GroupValue}
 use Rattle.staat_holds.specs.declared.grouped.GroupedTree.{GroupedTree}
 use Rattle.staat_holds.specs.declared.grouped.GroupedTree as tree
 use Rattle.staat_holds.specs.declared.hold.Hold.{Hold}
-use Rattle.staat_holds.specs.Chains.{IsHoldPair, IsName, KeepsHoldRules, joined_name, names_after, names_before, own_names}
+use Rattle.staat_holds.specs.Chains.{IsHoldPair, IsName, KeepsHoldRules, names_before, own_names}
 use Rattle.staat_holds.specs.Partials.{HasShownGroups, HasSmallDirections, HasSmallSteps, IsGoodPartial, IsOrderedHold, IsShownGroup, IsShownRest, partial_of, parts_in}
 use Rattle.staat_short.specs.declared.line.ShortLine.TheVariants as line
 use Rattle.staat_short.specs.declared.short.ShortAnswer.{ShortAnswer}
@@ -34,11 +32,8 @@ use Rattle.staat_short.specs.ShortLines.{IsShortLine}
 use Rattle.staat_short.specs.ShortTexts.{AreHoldsInOrder, IsHoldInOrder, IsShortInOrder, IsShortNodeInOrder, lines_of_answer, lines_of_hold, lines_of_short_node, short_nodes_of}
 use Rattle.staat_short.proofs.PlanSizes.{few_nodes, own_groups, own_parts}
 use Rattle.staat_short.proofs.PlanTrees.{no_groups, one_tree}
-
--- each element that a function makes of one of the list
-pub all_flat : {X Y : Type 0} (P : Y → Type 0) (f : X → List Y) (xs : List X) → ((x : X) → Contains xs x → All P (f x)) → All P (flat_map f xs)
-all_flat P f [] h = All-nil P
-all_flat P f (x ∷ xs) h = subst (All P) (sym (flat_map-cons f x xs)) (All-append P (f x) (flat_map f xs) (h x (Rattle.staat_model.proofs.Members.here x xs)) (all_flat P f xs (λ y c. h y (Rattle.staat_model.proofs.Members.there x y xs c))))
+use Rattle.staat_vec.proofs.ListLaws.{All-flat_map, place_of}
+use Rattle.staat_holds.proofs.ChainSteps.{names_after_length}
 
 -- ---- holds
 
@@ -49,16 +44,12 @@ record IsShownHold (parts : List Part) (hold : Hold) : Type 0 where
   pub ordered : IsOrderedHold hold
   pub keeps : KeepsHoldRules parts names hold
 
-names_many : (names : List ℕ) (holds : List Hold) → length (names_after names holds) ≡ length names
-names_many names [] = refl
-names_many names (hold ∷ holds) = names_many (map (joined_name hold.nodes) names) holds ∙ length-map names (joined_name hold.nodes)
-
 before_many : (parts : List Part) (holds : List Hold) (k : ℕ) → length (names_before parts holds k) ≡ length parts
-before_many parts holds k = names_many (own_names (length parts)) (take k holds) ∙ length-range_with_len 0 (length parts)
+before_many parts holds k = names_after_length (own_names (length parts)) (take k holds) ∙ length-range_with_len 0 (length parts)
 
 group_shown : (parts : List Part) (group : GroupValue) → IsShownGroup parts group → All (IsShownHold parts) group.holds
 group_shown parts group shown = All-from_members (IsShownHold parts) group.holds (λ hold c.
-    let (k, at) = place_from_Contains group.holds hold c in record {
+    let (k, at) = place_of group.holds hold c in record {
       names = names_before parts group.holds k;
       as_many = before_many parts group.holds k;
       ordered = All-contains IsOrderedHold group.holds hold shown.ordered c;
@@ -97,7 +88,7 @@ module _ (parts : List Part) (product : IsProduct parts) where
       (All-map IsShortLine line.Pair hold.pairs (All-from_members (λ pair. IsShortLine (line.Pair pair)) hold.pairs (pair_line hold shown))))
 
   holds_lines : (holds : List Hold) → All (IsShownHold parts) holds → All IsShortLine (flat_map lines_of_hold holds)
-  holds_lines holds shown = all_flat IsShortLine lines_of_hold holds (λ hold c. hold_lines hold (All-contains (IsShownHold parts) holds hold shown c))
+  holds_lines holds shown = All-flat_map IsShortLine lines_of_hold holds (λ hold c. hold_lines hold (All-contains (IsShownHold parts) holds hold shown c))
 
   holds_order : (holds : List Hold) → 1 ≤ length holds → All (IsShownHold parts) holds → AreHoldsInOrder holds
   holds_order holds some shown = record {
@@ -154,7 +145,7 @@ module _ (parts : List Part) (product : IsProduct parts) where
       (plan_formed b r (λ x h. inside x ((has-union a b x).1 (inr h))) good.4 small.2))
 
   nodes_lines : (nodes : List ShortNode) → All IsFormed nodes → All IsShortLine (flat_map lines_of_short_node nodes)
-  nodes_lines nodes formed = all_flat IsShortLine lines_of_short_node nodes (λ node c. (All-contains IsFormed nodes node formed c).lines)
+  nodes_lines nodes formed = All-flat_map IsShortLine lines_of_short_node nodes (λ node c. (All-contains IsFormed nodes node formed c).lines)
 
   nodes_order : (nodes : List ShortNode) → All IsFormed nodes → All IsShortNodeInOrder nodes
   nodes_order nodes formed = All-from_members IsShortNodeInOrder nodes (λ node c. (All-contains IsFormed nodes node formed c).order)

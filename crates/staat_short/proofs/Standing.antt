@@ -3,11 +3,10 @@ use Rattle.std.proofs.Common.{◌≡◌, ◌≢◌, ◌++◌, ◌∷◌, ◌+◌
 use Rattle.std.specs.Prelude.{Some, None}
 use Rattle.std.proofs.lemmas.Grind.{flat_map-append}
 use Rattle.std.proofs.lemmas.List.Elements.{All-append, All-cons, All-head, All-nil, All-tail}
-use Rattle.staat_model.specs.Texts.{HasNoFeed, IsLine, joined}
-use Rattle.staat_model.proofs.OneReading.{line_some, lines_once, no_feed_stops, with_feed}
+use Rattle.staat_model.specs.Texts.{IsLine, joined}
+use Rattle.staat_model.proofs.OneReading.{line_some, lines_once}
 use Rattle.staat_model.proofs.Members.{all_back}
 use Rattle.staat_cert.proofs.Lists.{all_one}
-use Rattle.staat_cert.proofs.Sound.{is_some}
 use Rattle.staat_short.specs.declared.short.ShortCertificate.{ShortCertificate}
 use Rattle.staat_short.specs.declared.line.ShortLine.{ShortLine}
 use Rattle.staat_short.specs.ShortLines.{IsShortLine, short_line_text}
@@ -18,38 +17,28 @@ use Rattle.staat_short.proofs.ShortLineLemmas.{short_line_whole}
 use Rattle.staat_short.proofs.FrontLines.{none_after}
 use Rattle.staat_short.proofs.Completions.{after_both, accepted_begins, certificate_runs, complete_whole}
 use Rattle.staat_short.proofs.ShortReadings.{text, nested, text_some, lines_by_text, texts_joined, texts_count, not_bad, before, front_bounds}
+use Rattle.staat_vec.proofs.ListLaws.{append_not_nil, length_zero_nil, push_not_nil}
+use Rattle.staat_cert.proofs.Standing.{no_line, feed_free}
+use Rattle.staat_vec.proofs.Options.{none_some, some_injective}
 
 lines_whole : (ls : List ShortLine) → All IsShortLine ls → All IsLine (map short_line_text ls)
 lines_whole [] h = All-nil IsLine
 lines_whole (l ∷ ls) h = All-cons IsLine (short_line_text l) (map short_line_text ls) (short_line_whole l (All-head IsShortLine l ls h)) (lines_whole ls (All-tail IsShortLine l ls h))
-
--- bytes without a line feed do not begin with a whole line
-no_line : (l p rest : List ℕ) → IsLine l → HasNoFeed rest → rest ≡ l ++ p → ⊥
-no_line l p rest a h e =
-    let is : rest ≡ a.front ++ 10 ∷ p = e ∙ ap (λ x. x ++ p) a.is ∙ with_feed a.front p in
-    no_feed_stops rest a.front [] p h (omega (arith, ap length is, length-append a.front (10 ∷ p))) (append-nil rest ∙ is)
 
 begins : (ls : List ShortLine) (s : Front) → All IsShortLine ls → after_lines (Some untitled) ls ≡ Some s → BeginsShortText (text ls)
 begins ls s f e =
     let b = accepted_begins ls s f e in
     record { certificate = b.certificate; form = b.form; more = text b.more; is = ap text b.is ∙ flat_map-append short_line_text ls b.more }
 
-nothing : (t : Front) → None ≡ Some t → ⊥
-nothing t e = cc
-
 -- lines that are a certificate's end it
 end_of : (ls : List ShortLine) (t : Front) (c : ShortCertificate) → All IsShortLine ls → after_lines (Some untitled) ls ≡ Some t → IsShortTextOf (text ls) c → t ≡ complete c
-end_of ls t c f e h = is_some t (complete c) (sym e ∙ ap (after_lines (Some untitled)) (lines_by_text ls (short_lines c) f h.form.lines h.is) ∙ certificate_runs c h.form)
-
-not_empty : (x : List ℕ) → length x ≡ 0 → x ≡ []
-not_empty [] e = refl
-not_empty (b ∷ x) e = absurd (omega arith)
+end_of ls t c f e h = some_injective t (complete c) (sym e ∙ ap (after_lines (Some untitled)) (lines_by_text ls (short_lines c) f h.form.lines h.is) ∙ certificate_runs c h.form)
 
 -- where lines are accepted, what follows them is not bad
 not_bad_rest : (bytes : List ℕ) (ls : List ShortLine) (t : Front) (rest : List ℕ) → IsShortAt bytes ls t rest → IsBadShortAfter (text ls) rest → ⊥
 not_bad_rest bytes ls t rest h (inl w) = no_line w.line w.rest rest w.whole h.no_feed w.is
 not_bad_rest bytes ls t rest h (inr (inl l)) = omega (arith, ap length l.is, length-append l.line l.rest, l.long, h.short)
-not_bad_rest bytes ls t rest h (inr (inr x)) = x.some (not_empty rest (h.closed (ap is_complete (end_of ls t x.certificate h.bounds h.runs x.whole))))
+not_bad_rest bytes ls t rest h (inr (inr x)) = x.some (length_zero_nil rest (h.closed (ap is_complete (end_of ls t x.certificate h.bounds h.runs x.whole))))
 
 -- nor is one of them
 not_bad_line : (bytes : List ℕ) (ls few : List ShortLine) (l : ShortLine) (back : List ShortLine) (t : Front) (rest ahead : List ℕ) → IsShortAt bytes ls t rest → ls ≡ few ++ l ∷ back → ahead ≡ text (l ∷ back) ++ rest → IsBadShortAfter (text few) ahead → ⊥
@@ -90,9 +79,6 @@ bad_at bytes ls t rest more h b = record {
   bad = subst (λ (x : List ℕ). IsBadShortAfter x (rest ++ more)) (sym (texts_joined ls)) b;
 }
 
-feed_free : (rest : List ℕ) (b : ℕ) → HasNoFeed rest → b ≢ 10 → HasNoFeed (rest ++ b ∷ [])
-feed_free rest b h n = All-append (λ x. x ≢ 10) rest (b ∷ []) h (all_one (λ x. x ≢ 10) b n)
-
 -- one byte more of a line
 pub byte_more : (bytes : List ℕ) (ls : List ShortLine) (t : Front) (rest : List ℕ) (b : ℕ) → IsShortAt bytes ls t rest → is_complete t ≡ false → b ≢ 10 → length rest + 1 < 128 → IsShortAt (bytes ++ b ∷ []) ls t (rest ++ b ∷ [])
 byte_more bytes ls t rest b h o n l = record {
@@ -108,14 +94,10 @@ pub too_long_line : (bytes : List ℕ) (ls : List ShortLine) (t : Front) (rest :
 too_long_line bytes ls t rest b h n l =
     bad_at bytes ls t rest (b ∷ []) h (inr (inl (record { line = rest ++ b ∷ []; rest = []; is = sym (append-nil (rest ++ b ∷ [])); long = length-append rest (b ∷ []) ∙ l; no_feed = feed_free rest b h.no_feed n })))
 
-some_more : (rest : List ℕ) (b : ℕ) → rest ++ b ∷ [] ≢ []
-some_more [] b e = cc
-some_more (x ∷ rest) b e = cc
-
 pub byte_after_end : (bytes : List ℕ) (ls : List ShortLine) (c : ShortCertificate) (rest : List ℕ) (b : ℕ) → IsShortAt bytes ls (complete c) rest → IsFirstBadShortLine (bytes ++ b ∷ []) (length ls + 1)
 byte_after_end bytes ls c rest b h =
     let whole = complete_whole ls c h.bounds h.runs in
-    bad_at bytes ls (complete c) rest (b ∷ []) h (inr (inr (record { certificate = c; whole = record { form = whole.0; is = ap text whole.1 }; some = some_more rest b })))
+    bad_at bytes ls (complete c) rest (b ∷ []) h (inr (inr (record { certificate = c; whole = record { form = whole.0; is = ap text whole.1 }; some = push_not_nil rest b })))
 
 -- one line more
 pub line_more : (bytes : List ℕ) (ls : List ShortLine) (s t : Front) (rest : List ℕ) (l : ShortLine) → IsShortAt bytes ls s rest → IsShortLineText (rest ++ 10 ∷ []) l → front_after s l ≡ Some t → IsShortAt (bytes ++ 10 ∷ []) (ls ++ l ∷ []) t []
@@ -143,7 +125,7 @@ not_begun bytes ls s line more rest c h whole none runs bounds e =
         let once = lines_once line (short_line_text l) more (text back ++ []) whole (short_line_whole l bound) (a ∙ append_assoc (short_line_text l) (text back) []) in
         let stuck : front_after s l ≡ None = none l (record { text = once.0; bounds = bound }) in
         let ran : after_lines (Some untitled) (ls ++ l ∷ back) ≡ None = after_both ls (l ∷ back) (Some untitled) ∙ ap (λ o. after_lines o (l ∷ back)) h.runs ∙ ap (λ o. after_lines o back) stuck ∙ none_after back in
-        nothing (complete c) (sym ran ∙ ap (after_lines (Some untitled)) (sym is) ∙ runs)
+        none_some (complete c) (sym ran ∙ ap (after_lines (Some untitled)) (sym is) ∙ runs)
 
     off : (back : List ShortLine) → All IsShortLine (short_lines c ++ back) → [] ≡ text back ++ (line ++ more) → ⊥
     off [] f a = line_some line more whole (sym a)
@@ -174,14 +156,10 @@ bad_more bytes more k b = record {
   bad = go b.bad;
 }
   where
-    some : (a m : List ℕ) → a ≢ [] → a ++ m ≢ []
-    some [] m n e = n refl
-    some (x ∷ a) m n e = cc
-
     go : IsBadShortAfter (joined b.before) b.ahead → IsBadShortAfter (joined b.before) (b.ahead ++ more)
     go (inl w) = inl (record { line = w.line; rest = w.rest ++ more; is = ap (λ x. x ++ more) w.is ∙ append_assoc w.line w.rest more; whole = w.whole; wrong = w.wrong })
     go (inr (inl l)) = inr (inl (record { line = l.line; rest = l.rest ++ more; is = ap (λ x. x ++ more) l.is ∙ append_assoc l.line l.rest more; long = l.long; no_feed = l.no_feed }))
-    go (inr (inr x)) = inr (inr (record { certificate = x.certificate; whole = x.whole; some = some b.ahead more x.some }))
+    go (inr (inr x)) = inr (inr (record { certificate = x.certificate; whole = x.whole; some = append_not_nil b.ahead more x.some }))
 
 -- nothing was read
 pub at_start : IsShortAt [] [] untitled []
@@ -191,14 +169,14 @@ at_start = record { is = refl; bounds = All-nil IsShortLine; runs = refl; no_fee
 pub whole_text : (bytes : List ℕ) (ls : List ShortLine) (c : ShortCertificate) (rest : List ℕ) → IsShortAt bytes ls (complete c) rest → IsShortTextOf bytes c
 whole_text bytes ls c rest h =
     let whole = complete_whole ls c h.bounds h.runs in
-    record { form = whole.0; is = h.is ∙ ap (λ x. text ls ++ x) (not_empty rest (h.closed refl)) ∙ append-nil (text ls) ∙ ap text whole.1 }
+    record { form = whole.0; is = h.is ∙ ap (λ x. text ls ++ x) (length_zero_nil rest (h.closed refl)) ∙ append-nil (text ls) ∙ ap text whole.1 }
 
 -- a text that has not complete is too short
 pub open_short : (bytes : List ℕ) (ls : List ShortLine) (t : Front) (rest : List ℕ) → IsShortAt bytes ls t rest → is_complete t ≡ false → EndsTooSoon bytes
 open_short bytes ls t rest h o = record { no_text = no_text; no_bad_line = at_no_bad bytes ls t rest h }
   where
     end : (c : ShortCertificate) → after_lines (Some untitled) (short_lines c) ≡ Some (complete c) → ls ≡ short_lines c → ⊥
-    end c runs e = let same : t ≡ complete c = is_some t (complete c) (sym h.runs ∙ ap (after_lines (Some untitled)) e ∙ runs) in let wrong : true ≡ false = sym (ap is_complete same) ∙ o in cc
+    end c runs e = let same : t ≡ complete c = some_injective t (complete c) (sym h.runs ∙ ap (after_lines (Some untitled)) e ∙ runs) in let wrong : true ≡ false = sym (ap is_complete same) ∙ o in cc
 
     on : (c : ShortCertificate) (back : List ShortLine) → after_lines (Some untitled) (short_lines c) ≡ Some (complete c) → All IsShortLine (ls ++ back) → short_lines c ≡ ls ++ back → rest ≡ text back ++ [] → ⊥
     on c [] runs f e a = end c runs (sym (e ∙ append-nil ls))

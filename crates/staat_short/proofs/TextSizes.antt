@@ -1,8 +1,7 @@
 -- How long the text of a plan for a product is at most.
-use Rattle.std.proofs.Common.{◌≡◌, ◌∙◌, ℕ, suc, ◌+◌, ◌*◌, ◌^◌, ◌≤◌, arith, refl, ap, List, [], ◌∷◌, ◌++◌, length, length-append, All, ℤ, pos, negsuc}
+use Rattle.std.proofs.Common.{◌≡◌, ◌∙◌, ℕ, ◌+◌, ◌*◌, ◌^◌, ◌≤◌, arith, refl, ap, List, [], ◌∷◌, ◌++◌, length, length-append, All, ℤ, pos}
 use Rattle.std.specs.Prelude.{flat_map, unsigned_abs}
-use Rattle.std.specs.Fmt.{decimal, signed_decimal}
-use Rattle.std.proofs.lemmas.Fmt.{length-decimal-le_wide}
+use Rattle.std.specs.Fmt.{signed_decimal}
 use Rattle.std.proofs.lemmas.List.Concat.{flat_map-cons}
 use Rattle.std.proofs.lemmas.List.Elements.{All-head, All-tail}
 use Rattle.staat_limits.specs.declared.limits.TheConstants.{TEXT_LIMIT}
@@ -22,16 +21,9 @@ use Rattle.staat_short.specs.ShortLines.{IsShortLine, short_line_text, short_wor
 use Rattle.staat_short.specs.ShortTexts.{IsUngrouped, lines_of_short_node, short_lines, short_text}
 use Rattle.staat_short.proofs.PlanTrees.{no_groups}
 use Rattle.staat_short.proofs.ShownOrders.{plan_ordered}
+use Rattle.staat_vec.proofs.Decimals.{signed_decimal_length}
 
 -- ---- how long a line is
-
-number_long : (z : ℤ) → unsigned_abs z ≤ 2 ^ 81 → length (signed_decimal z) ≤ 26
-number_long (pos n) small =
-    let long : length (decimal n) ≤ 25 = length-decimal-le_wide 25 n (omega arith) (omega (arith, small)) (omega (arith, small)) in
-    omega (arith, long)
-number_long (negsuc n) small =
-    let long : length (decimal (suc n)) ≤ 25 = length-decimal-le_wide 25 (suc n) (omega arith) (omega (arith, small)) (omega (arith, small)) in
-    omega (arith, long)
 
 abbrev AreNumbers : List ℤ → Type 0
 AreNumbers [] = Unit {0}
@@ -40,7 +32,7 @@ AreNumbers (z ∷ zs) = (unsigned_abs z ≤ 2 ^ 81) × AreNumbers zs
 spaced_long : (zs : List ℤ) → AreNumbers zs → length (spaced zs) ≤ 27 * length zs + 1
 spaced_long [] small = omega arith
 spaced_long (z ∷ zs) small =
-    let one = number_long z small.0 in
+    let one = signed_decimal_length z small.0 in
     let rest = spaced_long zs small.1 in
     omega (arith, one, rest, length-append (signed_decimal z) (spaced zs))
 

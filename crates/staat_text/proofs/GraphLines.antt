@@ -2,7 +2,6 @@
 use Rattle.std.proofs.Common.{◌≡◌, ◌∙◌, ℕ, suc, ◌+◌, ◌-◌, ◌<◌, Bool, true, false, List, ◌∷◌, ◌++◌, refl, sym, ap, arith, append_assoc}
 use Rattle.std.specs.Prelude.{map, filter, flat_map}
 use Rattle.std.specs.List.{range_with_len}
-use Rattle.std.specs.FinSet as set
 use Rattle.std.proofs.lemmas.Bool.Decides.{nat_tests}
 use Rattle.std.proofs.lemmas.Grind.{flat_map-append}
 use Rattle.staat_model.specs.declared.set.PartSet.{PartSet}
@@ -75,9 +74,3 @@ row_written line_of rows a parts text lines new whole lt is more so_far =
 
 after : (group : PartSet) (p n : ℕ) → members_from (suc p) n group ≡ members_from (p + 1) n group
 after group p n = ap (λ q. members_from q n group) (omega arith)
-
-pub members_more : (group : PartSet) (p n : ℕ) → set.contains group p ≡ true → members_from p (suc n) group ≡ p ∷ members_from (p + 1) n group
-members_more group p n e = let first : members_from p (suc n) group ≡ p ∷ members_from (suc p) n group = rw e refl in first ∙ ap (λ ps. p ∷ ps) (after group p n)
-
-pub members_same : (group : PartSet) (p n : ℕ) → set.contains group p ≡ false → members_from p (suc n) group ≡ members_from (p + 1) n group
-members_same group p n e = let first : members_from p (suc n) group ≡ members_from (suc p) n group = rw e refl in first ∙ after group p n

@@ -3,13 +3,11 @@ use Rattle.std.proofs.Common.{◌≡◌, ◌∙◌, ◌⊎◌, ℕ, zero, suc, �
 use Rattle.staat_vec.specs.declared.vector.V3.{V3}
 use Rattle.staat_model.specs.declared.set.PartSet.{PartSet}
 use Rattle.staat_model.specs.Sets.{IsLeastOf, below}
-use Rattle.staat_model.proofs.Members.{here, there}
 use Rattle.staat_graph.specs.Graphs.{AreGroups, HasArc, InOrder}
 use Rattle.staat_graph.proofs.Finite.{some_least}
 use Rattle.staat_text.specs.GraphTexts.{IsGraphText, arcs_of, graph_text}
-
-none_listed : (s : PartSet) → Contains [] s → ⊥
-none_listed s c = let lt = c.1 in absurd (omega arith)
+use Rattle.staat_vec.proofs.Unique.{Contains-nothing, Contains-front}
+use Rattle.staat_vec.proofs.ListLaws.{Contains-there}
 
 first_or_later : (x : PartSet) (xs : List PartSet) (s : PartSet) → Contains (x ∷ xs) s → (x ≡ s) ⊎ Contains xs s
 first_or_later x xs s (zero, lt, is) = inl is
@@ -26,8 +24,8 @@ same_first : (x y : PartSet) (xs ys : List PartSet) → InOrder (x ∷ xs) → I
 same_first x y xs ys o q f g (inl e) b = sym e
 same_first x y xs ys o q f g (inr c) (inl e) = e
 same_first x y xs ys o q f g (inr c) (inr d) =
-    let (m, is_m) = f x (here x xs) in
-    let (n, is_n) = g y (here y ys) in
+    let (m, is_m) = f x (Contains-front x xs) in
+    let (n, is_n) = g y (Contains-front y ys) in
     let one : n < m = q.0 x n m c is_n is_m in
     let two : m < n = o.0 y m n d is_m is_n in
     absurd (omega (arith, one, two))
@@ -36,19 +34,19 @@ same_first x y xs ys o q f g (inr c) (inr d) =
 rest_in : (x y : PartSet) (xs ys : List PartSet) → x ≡ y → InOrder (x ∷ xs) → HaveLeast (x ∷ xs) → (s : PartSet) → Contains xs s → (y ≡ s) ⊎ Contains ys s → Contains ys s
 rest_in x y xs ys e o f s c (inr d) = d
 rest_in x y xs ys e o f s c (inl i) =
-    let (m, is_m) = f x (here x xs) in
+    let (m, is_m) = f x (Contains-front x xs) in
     let again : m < m = o.0 s m m c is_m (subst (λ (t : PartSet). IsLeastOf t m) (e ∙ i) is_m) in
     absurd (omega (arith, again))
 
 same_lists : (xs ys : List PartSet) → InOrder xs → InOrder ys → HaveLeast xs → HaveLeast ys → AreIn xs ys → AreIn ys xs → xs ≡ ys
 same_lists [] [] o q f g a b = refl
-same_lists [] (y ∷ ys) o q f g a b = absurd (none_listed y (b y (here y ys)))
-same_lists (x ∷ xs) [] o q f g a b = absurd (none_listed x (a x (here x xs)))
+same_lists [] (y ∷ ys) o q f g a b = absurd (Contains-nothing y (b y (Contains-front y ys)))
+same_lists (x ∷ xs) [] o q f g a b = absurd (Contains-nothing x (a x (Contains-front x xs)))
 same_lists (x ∷ xs) (y ∷ ys) o q f g a b =
-    let e : x ≡ y = same_first x y xs ys o q f g (first_or_later y ys x (a x (here x xs))) (first_or_later x xs y (b y (here y ys))) in
-    ap₂ (λ s r. s ∷ r) e (same_lists xs ys o.1 q.1 (λ s c. f s (there x s xs c)) (λ s c. g s (there y s ys c))
-    (λ s c. rest_in x y xs ys e o f s c (first_or_later y ys s (a s (there x s xs c))))
-    (λ s c. rest_in y x ys xs (sym e) q g s c (first_or_later x xs s (b s (there y s ys c)))))
+    let e : x ≡ y = same_first x y xs ys o q f g (first_or_later y ys x (a x (Contains-front x xs))) (first_or_later x xs y (b y (Contains-front y ys))) in
+    ap₂ (λ s r. s ∷ r) e (same_lists xs ys o.1 q.1 (λ s c. f s (Contains-there x s xs c)) (λ s c. g s (Contains-there y s ys c))
+    (λ s c. rest_in x y xs ys e o f s c (first_or_later y ys s (a s (Contains-there x s xs c))))
+    (λ s c. rest_in y x ys xs (sym e) q g s c (first_or_later x xs s (b s (Contains-there y s ys c)))))
 
 one_list_of_groups : (R : ℕ → ℕ → Type 0) (w : PartSet) (xs ys : List PartSet) → AreGroups R w xs → AreGroups R w ys → xs ≡ ys
 one_list_of_groups R w xs ys a b = same_lists xs ys a.in_order b.in_order

@@ -9,6 +9,7 @@ use Rattle.staat_vec.specs.declared.vector.V3.{V3}
 use Rattle.staat_model.specs.declared.assembly.Part.{Part}
 use Rattle.staat_model.specs.Assemblies.{piece_at, piece_count}
 use Rattle.staat_text.specs.Parts.{pieces_at, point_count, part_line, lines_from}
+use Rattle.staat_model.proofs.PartCounts.{pieces_count}
 
 -- the points of one more piece
 pub points_more : (parts : List Part) (a i : ℕ) (p : List V3) → piece_at parts a i ≡ Some p → point_count (take (i + 1) (pieces_at parts a)) ≡ point_count (take i (pieces_at parts a)) + length p
@@ -19,11 +20,7 @@ points_more parts a i p is = go (slice_get parts a) is
     go (Some part) e = sum_by_more length part.pieces i p (slice_get_within part.pieces i p e) ∙ ap (λ x. point_count (take i part.pieces) + length x) (get_or_from_slice_get part.pieces i p p e)
 
 pub pieces_counted : (parts : List Part) (a : ℕ) → piece_count parts a ≡ length (pieces_at parts a)
-pieces_counted parts a = go (slice_get parts a)
-  where
-    go : (o : Option Part) → unwrap_or (option_map (λ part. length part.pieces) o) 0 ≡ length (unwrap_or (option_map (λ part. part.pieces) o) [])
-    go None = refl
-    go (Some part) = refl
+pieces_counted parts a = pieces_count (slice_get parts a)
 
 -- all points of a part
 pub points_all : (parts : List Part) (a n : ℕ) → n ≡ piece_count parts a → point_count (take n (pieces_at parts a)) ≡ point_count (pieces_at parts a)

@@ -9,15 +9,16 @@ use Rattle.std.specs.List.Sorted.{IsStrictlySortedBy}
 use Rattle.std.specs.Ordering.{nat_cmp}
 use Rattle.std.specs.declared.cmp.Ordering.TheVariants.{Less}
 use Rattle.std.proofs.lemmas.List.Elements.{All-contains}
-use Rattle.staat_vec.proofs.Unique.{Contains-cases, Contains-nothing, same_list}
+use Rattle.staat_vec.proofs.Unique.{Contains-cases, Contains-nothing, same_list, Contains-front}
 use Rattle.staat_model.specs.declared.set.PartSet.{PartSet}
 use Rattle.staat_model.specs.Lines.{members_from}
 use Rattle.staat_model.specs.SetLists.{set_of}
 use Rattle.staat_model.specs.Sets.{Has}
-use Rattle.staat_model.proofs.Members.{here, there}
 use Rattle.staat_model.proofs.SetListings.{has-set_of}
 use Rattle.staat_text.specs.PlanTexts.{part_numbers}
-use Rattle.staat_text.proofs.GraphLines.{left, members_more, members_same}
+use Rattle.staat_text.proofs.GraphLines.{left}
+use Rattle.staat_vec.proofs.ListLaws.{Contains-there}
+use Rattle.staat_model.proofs.MemberLines.{members_more, members_same}
 
 -- ---- the members among the n numbers from s on
 
@@ -54,8 +55,8 @@ all_in (suc n) s w p low high h = go (set.contains w s) refl (λ le. all_in n (s
     first_or le = grind arith
 
     go : (b : Bool) → set.contains w s ≡ b → (suc s ≤ p → Contains (members_from (suc s) n w) p) → (p ≡ s) ⊎ (suc s ≤ p) → Contains (if b then s ∷ members_from (suc s) n w else members_from (suc s) n w) p
-    go true has later (inl e) = subst (Contains (s ∷ members_from (suc s) n w)) (sym e) (here s (members_from (suc s) n w))
-    go true has later (inr le) = there s p (members_from (suc s) n w) (later le)
+    go true has later (inl e) = subst (Contains (s ∷ members_from (suc s) n w)) (sym e) (Contains-front s (members_from (suc s) n w))
+    go true has later (inr le) = Contains-there s p (members_from (suc s) n w) (later le)
     go false none later (inl e) = absurd (true≢false (sym (subst (Has w) e h) ∙ none))
     go false none later (inr le) = later le
 

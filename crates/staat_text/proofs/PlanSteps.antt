@@ -9,11 +9,13 @@ use Rattle.staat_model.specs.Sets.{AreApart, Has, IsNonempty, IsSubset, single}
 use Rattle.staat_model.proofs.SetMembers.{has-difference, has-empty, has-insert, has-single, has-union}
 use Rattle.staat_model.proofs.SetSizes.{len-single, len_below, len_more}
 use Rattle.staat_model.proofs.SetWords.{same_members}
-use Rattle.staat_graph.proofs.Finite.{len_fewer, len_subset, nonempty_or, same_or}
+use Rattle.staat_graph.proofs.Finite.{len_fewer, len_subset}
 use Rattle.std.specs.Prelude.{Bool}
 use Rattle.staat_model.specs.declared.assembly.Part.{Part}
 use Rattle.staat_model.proofs.OneOutcome.{IsOutcome-unique}
 use Rattle.staat_text.specs.PlanTexts.{AreLeavesApart, HasLeaves, IsPlanText, plan_text, steps_of}
+use Rattle.staat_model.proofs.RestrictLemmas.{nonempty_or}
+use Rattle.staat_vec.proofs.Naturals.{same_or}
 
 module _ (a b : PartSet) (p : ℕ) (h : Has a p) where
   abbrev less : PartSet
@@ -114,9 +116,3 @@ product_leaves parts plan w small good = record {
 
 pub good_leaves : (parts : List Part) (plan : Plan) (w : PartSet) → ((p : ℕ) → Has w p → p < 32) → IsGood parts w plan → HasLeaves plan
 good_leaves parts plan w small good = product_leaves parts plan w (λ p h. omega (arith, small p h)) good
-
-pub two_leaves : (d : V3) (a b : ℕ) → a < 32 → b < 32 → (a ≡ b → ⊥) → HasLeaves (split d (leaf a) (leaf b))
-two_leaves d a b small_a small_b different = record {
-  small = λ p h. ⊎_elim (λ l. omega (arith, small_a, (has-single a p).0 l)) (λ r. omega (arith, small_b, (has-single b p).0 r)) ((has-union (single a) (single b) p).0 h);
-  apart = ((λ p l r. different (sym ((has-single a p).0 l) ∙ (has-single b p).0 r)), tt, tt);
-}

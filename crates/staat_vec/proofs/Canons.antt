@@ -6,8 +6,9 @@ use Rattle.staat_vec.specs.declared.vector.V3.{V3}
 use Rattle.staat_vec.specs.Vectors.{IsWithin, origin, negative, cross}
 use Rattle.staat_vec.specs.Primitives.{IsPrimitive, or_next, first_nonzero, IsCanon, canon}
 use Rattle.staat_vec.proofs.Bounds.{IsWithin-negative}
-use Rattle.staat_vec.proofs.Divisors.{same_vector, neg-neg}
+use Rattle.staat_vec.proofs.Divisors.{neg-neg}
 use Rattle.staat_vec.proofs.Primitives.{IsPrimitive-some, IsPrimitive-negative, parallel_primitives}
+use Rattle.staat_vec.proofs.VecRing.{same_vector}
 
 pub negative-negative : (v : V3) → negative (negative v) ≡ v
 negative-negative v = same_vector (negative (negative v)) v (neg-neg v.x) (neg-neg v.y) (neg-neg v.z)
@@ -84,9 +85,6 @@ IsCanon-canon v some = by (by_sign (first_nonzero v))
     by (inr (inr h)) =
         let opposite : IsCanon (negative v) = subst (λ a. pos 0 <ℤ a) (sym (first_nonzero-negative v)) h in
         subst (λ w. IsCanon w) (sym (canon-opposite v opposite)) opposite
-
-pub IsCanon-not_both : (v : V3) → IsCanon v → ¬ (IsCanon (negative v))
-IsCanon-not_both v h k = let opposite = IsCanon-negative v k in omega (arith, ints)
 
 -- only one is canonical
 pub canon-only : (v c : V3) → IsCanon c → (c ≡ v) ⊎ (c ≡ negative v) → c ≡ canon v

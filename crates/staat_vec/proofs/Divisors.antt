@@ -2,17 +2,13 @@
 use Rattle.std.proofs.Common.{◌≡◌, ◌≢◌, ℕ, zero, suc, ◌+◌, ◌*◌, ◌/◌, ◌%◌, ◌<◌, ◌≤◌, Bool, true, false, if◌then◌else◌, ◌==◌, ◌&&◌, refl, sym, ap, subst, ◌∙◌, arith, ℤ, pos, negsuc, ◌*ℤ◌, neg_ℤ, int_div, unsigned_abs, mod-lt, mul-zero}
 use Prim.Native.Nat.{◌∣◌}
 use native.Mathlib.Nat.{dvd-zero, one-dvd, dvd_trans, dvd-add, dvd_antisymm, le_of_dvd, pos_of_dvd_of_pos, mod-eq-zero_of_dvd, dvd_of_mod-eq-zero, mul-div_cancel', mul-div_cancel_left, zero-div, div-le_self, eq-zero_of_zero-dvd, mul-dvd-mul_left}
-use Rattle.std.proofs.Math.Nat.{div-one}
 use Rattle.std.specs.Int.{IsGcd}
 use Rattle.std.proofs.lemmas.Int.{unsigned_abs-mul}
 use Rattle.std.proofs.lemmas.Nat.Gcd.{IsGcd-from_zero, IsGcd-from_mod}
 use Rattle.staat_vec.specs.declared.vector.V3.{V3}
 use Rattle.staat_vec.specs.Vectors.{origin, IsWithin}
 use Rattle.staat_vec.specs.Primitives.{divides_all, greatest_divisor, content}
-
--- vectors with equal components are equal
-pub same_vector : (a b : V3) → a.x ≡ b.x → a.y ≡ b.y → a.z ≡ b.z → a ≡ b
-same_vector a b ex ey ez = λ i. record { x = ex i; y = ey i; z = ez i }
+use Rattle.staat_vec.proofs.VecRing.{same_vector}
 
 -- the number divides all three components, and each number that does divides it
 pub record IsContent (v : V3) (g : ℕ) : Type 0 where
@@ -144,10 +140,6 @@ pub neg-neg : (a : ℤ) → neg_ℤ (neg_ℤ a) ≡ a
 neg-neg (pos zero) = refl
 neg-neg (pos (suc n)) = refl
 neg-neg (negsuc n) = refl
-
-pub int_div-one : (a : ℤ) → int_div a (pos 1) ≡ a
-int_div-one (pos n) = ap pos (div-one n)
-int_div-one (negsuc n) = ap (λ m. neg_ℤ (pos m)) (div-one (suc n))
 
 pub int_div-neg : (a : ℤ) (g : ℕ) → int_div (neg_ℤ a) (pos g) ≡ neg_ℤ (int_div a (pos g))
 int_div-neg (pos zero) g = ap pos (zero-div g) ∙ ap (λ n. neg_ℤ (pos n)) (sym (zero-div g))

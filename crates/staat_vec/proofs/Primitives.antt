@@ -7,7 +7,8 @@ use lib.IntN.{ℤ_discrete}
 use Rattle.staat_vec.specs.declared.vector.V3.{V3}
 use Rattle.staat_vec.specs.Vectors.{IsWithin, origin, negative, times, cross}
 use Rattle.staat_vec.specs.Primitives.{IsPrimitive, IsPrimitiveOf, content, primitive}
-use Rattle.staat_vec.proofs.Divisors.{same_vector, content-is, content-only, content-positive, abs-neg, abs-int_div_le, int_div-neg, int_div-mul, mul-neg, mul-int_div, mul-divides}
+use Rattle.staat_vec.proofs.Divisors.{content-is, content-only, content-positive, abs-neg, abs-int_div_le, int_div-neg, int_div-mul, mul-neg, mul-int_div, mul-divides}
+use Rattle.staat_vec.proofs.VecRing.{same_vector}
 
 -- a primitive vector is not the origin, which 2 divides
 pub IsPrimitive-some : (v : V3) → IsPrimitive v → v ≢ origin
@@ -68,10 +69,6 @@ same_primitive a c n m one other e pn pm =
 
 one-mul_ℤ : (a : ℤ) → a ≡ pos 1 *ℤ a
 one-mul_ℤ a = omega (arith, ints)
-
--- a primitive vector is its own
-pub primitive-same : (v : V3) → IsPrimitive v → primitive v ≡ v
-primitive-same v prim = sym (primitive-only v v (record { factor = 1; positive = omega arith; multiple = same_vector v (times 1 v) (one-mul_ℤ v.x) (one-mul_ℤ v.y) (one-mul_ℤ v.z); primitive = prim }))
 
 pub content-negative : (v : V3) → content (negative v) ≡ content v
 content-negative v =

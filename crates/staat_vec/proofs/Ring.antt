@@ -209,7 +209,7 @@ no_term_is ρ ((pos zero, m) ∷ p) h = ap (λ z. z +ℤ poly ρ p) (zero-mul_�
 no_term_is ρ ((pos (suc n), m) ∷ p) h = absurd h
 no_term_is ρ ((negsuc n, m) ∷ p) h = absurd h
 
-from_zero : (x y : ℤ) → x -ℤ y ≡ pos 0 → x ≡ y
+pub from_zero : (x y : ℤ) → x -ℤ y ≡ pos 0 → x ≡ y
 from_zero x y e = sym (-ℤ-+ℤ_cancel x y) ∙ ap (λ z. z +ℤ y) e ∙ +ℤ_idl y
 
 -- a and b are equal at the values ρ, if multiplying out a - b leaves nothing: `ring ρ a b tt`

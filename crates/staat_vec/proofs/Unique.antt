@@ -25,7 +25,7 @@ Contains-later y ys x (k, lt, is) = (suc k, omega (arith, lt), is)
 pub Contains-nothing : {X : Type 0} (x : X) → Contains {X = X} [] x → ⊥
 Contains-nothing x (k, lt, is) = absurd (omega (arith, lt))
 
-from_place : {X : Type 0} (xs : List X) (k : ℕ) (x : X) → slice_get xs k ≡ Some x → Contains xs x
+pub from_place : {X : Type 0} (xs : List X) (k : ℕ) (x : X) → slice_get xs k ≡ Some x → Contains xs x
 from_place xs k x e = (k, slice_get_within xs k x e, get_or_from_slice_get xs k x x e)
 
 -- the first element is one alone

@@ -1,6 +1,6 @@
 use Rattle.std.proofs.Common.{arith, ◌<◌, length}
-use Rattle.staat_asm.proofs.SearchLemmas.{part_within}
 use Rattle.staat_asm.proofs.search.search.Goals as goal
+use Rattle.staat_model.proofs.PlanLemmas.{part_within}
 
 pub returns : goal.returns
 returns g c = λ arc p.

@@ -1,7 +1,7 @@
 use Rattle.std.proofs.Common.{◌<◌, arith, subst}
 use Rattle.staat_model.specs.Assemblies.{piece_count}
-use Rattle.staat_asm.proofs.SearchLemmas.{piece_within}
 use Rattle.staat_asm.proofs.search.search_from.Goals as goal
+use Rattle.staat_model.proofs.PlanLemmas.{piece_within}
 
 pub returns : goal.returns
 returns g c = λ arc p.

@@ -2,8 +2,9 @@ use Rattle.std.proofs.Common.{◌<◌, arith, subst}
 use Rattle.staat_model.specs.Assemblies.{piece_count}
 use Rattle.staat_motion.proofs.Kept.{counts_are, parts_are, wholes_count}
 use Rattle.staat_asm.proofs.BoxLemmas.{none_with_part}
-use Rattle.staat_asm.proofs.SearchLemmas.{found, piece_within}
+use Rattle.staat_asm.proofs.SearchLemmas.{found}
 use Rattle.staat_asm.proofs.search.search_part.Goals as goal
+use Rattle.staat_model.proofs.PlanLemmas.{piece_within}
 
 pub piece_apart-requires-clause-part : goal.piece_apart-requires-clause-part
 piece_apart-requires-clause-part g c = omega (arith, c.requires.first, parts_are c.args.product.now c.args.boxes.now c.requires.boxes.made)

@@ -1,5 +1,5 @@
-use Rattle.staat_check.proofs.VertexSearch.{found_at, not_found}
 use Rattle.staat_check.proofs.conditions.number_of.Goals as goal
+use Rattle.staat_vec.proofs.VectorLists.{found_at, not_found}
 
 pub returns-in-Ok : goal.returns-in-Ok
 returns-in-Ok c = λ listed. found_at c.args.normals.now c.args.v c.in-Ok.k c.in-Ok.ensures.bound c.in-Ok.ensures.ok

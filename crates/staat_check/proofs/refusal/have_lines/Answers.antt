@@ -1,10 +1,10 @@
 use Rattle.std.proofs.Common.{arith, ◌≤◌, subst, sym, All, length, take}
 use Rattle.std.proofs.lemmas.Bool.Decides.{nat_tests}
 use Rattle.staat_model.specs.Certificates.{HasLine}
-use Rattle.staat_check.proofs.ReadLemmas.{whole_all}
 use Rattle.staat_check.proofs.RefusalRules.{next_line}
 use Rattle.staat_check.proofs.refusal.have_lines.Goals.{then-found-directions+then-is_same, else-found-directions}
 use Rattle.staat_check.proofs.refusal.have_lines.Goals as goal
+use Rattle.staat_vec.proofs.ListLaws.{All-taken}
 
 pub loop-dir-preserved : goal.loop-dir-preserved
 loop-dir-preserved c = elim c.if-found-directions.branch [
@@ -14,4 +14,4 @@ loop-dir-preserved c = elim c.if-found-directions.branch [
 ]
 
 pub returns : goal.returns
-returns c = λ yes. whole_all (HasLine c.args.dirs.now) c.args.directions.now c.loop-dir.found (grind (arith, nat_tests, yes)) c.loop-dir.invariant.1
+returns c = λ yes. All-taken (HasLine c.args.dirs.now) c.args.directions.now c.loop-dir.found (grind (arith, nat_tests, yes)) c.loop-dir.invariant.1

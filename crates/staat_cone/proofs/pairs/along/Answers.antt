@@ -4,8 +4,8 @@ use Rattle.staat_vec.specs.declared.vector.TheConstants.{DIFF, NORMAL}
 use Rattle.staat_vec.specs.Vectors.{dot}
 use Rattle.staat_vec.proofs.Bounds.{abs_dot_le}
 use Rattle.staat_vec.proofs.VecRing.{dot_comm}
-use Rattle.staat_cone.proofs.NarrowLemmas.{reads_word}
 use Rattle.staat_cone.proofs.pairs.along.Goals as goal
+use Rattle.staat_vec.proofs.Integers.{reads_word}
 
 pub returns : goal.returns
 returns c =

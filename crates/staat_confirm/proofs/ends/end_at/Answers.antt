@@ -1,7 +1,7 @@
 use Rattle.std.proofs.Common.{arith}
-use Rattle.staat_holds.proofs.ChainSteps.{place_is}
 use Rattle.staat_confirm.proofs.Standing.{end_is, middle_within, node_length, node_sides, split_length}
 use Rattle.staat_confirm.proofs.ends.end_at.Goals as goal
+use Rattle.staat_vec.proofs.ListLaws.{place_is}
 
 pub bounds-ends-k : goal.bounds-ends-k
 bounds-ends-k c =

@@ -1,9 +1,9 @@
 use Rattle.std.proofs.Common.{arith, subst}
-use Rattle.staat_holds.proofs.ChainSteps.{place_is}
 use Rattle.staat_confirm.specs.Members.{IsMemberOf}
 use Rattle.staat_confirm.specs.Owners.{AreOwners, RefusesSome}
 use Rattle.staat_confirm.proofs.Owning.{member_fault, owners_written}
 use Rattle.staat_confirm.proofs.owners.taken.Goals as goal
+use Rattle.staat_vec.proofs.ListLaws.{place_is}
 
 pub returns-then-not-branch : goal.returns-then-not-branch
 returns-then-not-branch c =

@@ -1,8 +1,8 @@
 use Rattle.std.proofs.Common.{◌≡◌, ◌∙◌, arith, Bool, List, [], IsTrue, get_or, subst, sym}
 use Rattle.std.proofs.lemmas.Bool.{false≢true}
 use Rattle.staat_decide.specs.Labels.{LeadsBack}
-use Rattle.staat_decide.proofs.Rows.{any_default}
 use Rattle.staat_decide.proofs.order.rows_keep.Goals as goal
+use Rattle.staat_vec.proofs.ListLaws.{any_default}
 
 pub returns-then-not-row_keeps : goal.returns-then-not-row_keeps
 returns-then-not-row_keeps c =

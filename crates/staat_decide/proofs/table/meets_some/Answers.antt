@@ -2,10 +2,10 @@ use Rattle.std.proofs.Common.{◌<◌, ℕ, List, arith, length}
 use Rattle.std.proofs.lemmas.Bool.{false≢true}
 use Rattle.staat_model.specs.declared.assembly.Part.{Part}
 use Rattle.staat_model.specs.Assemblies.{piece_count}
-use Rattle.staat_model.proofs.PlanLemmas.{there_is}
 use Rattle.staat_motion.specs.Motions.{HasShadows, IsMotionOf, Motion}
 use Rattle.staat_motion.proofs.Kept.{has_shadows, wholes_count}
 use Rattle.staat_decide.proofs.table.meets_some.Goals as goal
+use Rattle.staat_model.proofs.PlanLemmas.{piece_within}
 
 own_shadow : (parts : List Part) (along : Motion) (a i : ℕ) → IsMotionOf parts along → a < length parts → i < piece_count parts a
     → HasShadows along (record { a = a; i = i; b = a; j = i })
@@ -33,6 +33,6 @@ returns-then-piece_apart-clause-answer g c = (
 pub returns-clause-answer : goal.returns-clause-answer
 returns-clause-answer g c = (
   λ e. absurd (false≢true e),
-  λ m. let lt = there_is c.args.parts.now c.args.b m.j m.meets.q m.meets.q_is in
+  λ m. let lt = piece_within c.args.parts.now c.args.b m.j m.meets.q m.meets.q_is in
       absurd (c.loop-j.invariant.none m.j (omega (arith, lt, c.requires.count, c.loop-j-test.false)) m.meets),
 )

@@ -5,8 +5,8 @@ use Rattle.staat_model.specs.Certificates.{arc_cmp}
 use Rattle.staat_holds.specs.Chains.{places_of}
 use Rattle.staat_holds.specs.Holds.{lesser_first}
 use Rattle.staat_holds.proofs.PairOrder.{in_order_pairs, lesser_parts, same_rules}
-use Rattle.staat_holds.proofs.ReachLemmas.{written_back}
 use Rattle.staat_holds.proofs.ordering.ordered.Goals as goal
+use Rattle.staat_vec.proofs.ListLaws.{written_back}
 
 -- the pairs that were found list the old ones, turned
 listed : (old items now turned found new : List Arc) (len : ℕ) → items ≡ old → now ≡ items → turned ≡ map lesser_first now → length turned ≡ length items → len ≡ length items → new ≡ found

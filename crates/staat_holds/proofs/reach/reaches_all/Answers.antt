@@ -1,7 +1,8 @@
 use Rattle.std.proofs.Common.{◌≡◌, Bool, List, true, false, length, ap, sym, ◌∙◌, set}
 use Rattle.std.specs.Prelude.{replicate}
-use Rattle.staat_holds.proofs.ReachLemmas.{marks_begun, written_back}
+use Rattle.staat_holds.proofs.ReachLemmas.{marks_begun}
 use Rattle.staat_holds.proofs.reach.reaches_all.Goals as goal
+use Rattle.staat_vec.proofs.ListLaws.{written_back}
 
 pub returns : goal.returns
 returns c =

@@ -1,13 +1,14 @@
 use Rattle.std.proofs.Common.{ℕ, List, length, ap, subst, arith}
 use Rattle.std.specs.Prelude.{All}
-use Rattle.staat_model.proofs.GraphLemmas.{from_slice_get}
 use Rattle.staat_mesh.specs.Counts.{IsFirstUnpaired, IsPaired, numbered}
 use Rattle.staat_mesh.specs.Edges.{edges}
 use Rattle.staat_mesh.specs.Judging.{HasClosedEdges}
 use Rattle.staat_mesh.specs.Polygons.{mesh}
 use Rattle.staat_mesh.proofs.TableLemmas.{face_closed, face_open, face_there, polygon_there, tabled}
-use Rattle.staat_mesh.proofs.PolygonLemmas.{All-next, All-taken, length-mesh}
+use Rattle.staat_mesh.proofs.PolygonLemmas.{All-next, length-mesh}
 use Rattle.staat_mesh.proofs.edges.check_edges.Goals as goal
+use Rattle.staat_vec.proofs.Unique.{from_place}
+use Rattle.staat_vec.proofs.ListLaws.{All-taken}
 
 pub returns-in-Some : goal.returns-in-Some
 returns-in-Some c =
@@ -29,7 +30,7 @@ loop-number-preserved c =
     let t = tabled raw c.args.points.now numbers table _ _ _ c.requires.indexed c.requires.used c.requires.number c.as_slice.ensures c.as_slice-2.ensures.value c.as_slice-3.ensures c.in_ok-numbers.ensures c.in_ok-table.ensures in
     let at = face_there raw c.loop-number.number face _ _ c.as_slice-in-loop-number-2.ensures c.face-item.is c.as_slice-face-items.ensures c.loop-number-test.true in
     All-next (HasClosedEdges (mesh raw)) (mesh raw) c.loop-number.number _ c.loop-number.invariant (polygon_there raw c.loop-number.number face at)
-    (face_closed raw c.args.points.now numbers table t face (from_slice_get raw.faces c.loop-number.number face at)
+    (face_closed raw c.args.points.now numbers table t face (from_place raw.faces c.loop-number.number face at)
     (subst (λ (ns : List ℕ). All (IsPaired table) (edges (numbered ns face))) c.as_slice-in-loop-number.ensures.value c.in_default.ensures.paired))
 
 pub returns : goal.returns

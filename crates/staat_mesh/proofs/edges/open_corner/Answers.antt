@@ -1,10 +1,11 @@
 use Rattle.std.proofs.Common.{arith, sym, ◌∙◌}
 use Rattle.staat_mesh.specs.Counts.{IsPaired, numbered}
 use Rattle.staat_mesh.specs.Edges.{edges}
-use Rattle.staat_mesh.proofs.PolygonLemmas.{All-next, All-taken}
+use Rattle.staat_mesh.proofs.PolygonLemmas.{All-next}
 use Rattle.staat_mesh.proofs.EdgeLemmas.{length-numbered-edges}
 use Rattle.staat_mesh.proofs.edges.open_corner.Goals as goal
 use Rattle.staat_mesh.proofs.edges.open_corner.Goals.{else-from-to-via-then-from-to+else-between-ne2, else-from-to-via-else-from-to}
+use Rattle.staat_vec.proofs.ListLaws.{All-taken}
 
 pub loop-corner-preserved : goal.loop-corner-preserved
 loop-corner-preserved c =

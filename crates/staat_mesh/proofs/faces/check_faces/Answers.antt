@@ -3,8 +3,9 @@ use Rattle.staat_vec.specs.declared.vector.TheConstants.{POINT}
 use Rattle.staat_vec.specs.Vectors.{IsWithin}
 use Rattle.staat_mesh.specs.Polygons.{mesh}
 use Rattle.staat_mesh.specs.Sides.{IsSupporting}
-use Rattle.staat_mesh.proofs.PolygonLemmas.{All-member, All-next, All-taken, length-mesh, traced}
+use Rattle.staat_mesh.proofs.PolygonLemmas.{All-member, All-next, length-mesh, traced}
 use Rattle.staat_mesh.proofs.faces.check_faces.Goals as goal
+use Rattle.staat_vec.proofs.ListLaws.{All-taken}
 
 pub stance_of-requires-clause-polygon : goal.stance_of-requires-clause-polygon
 stance_of-requires-clause-polygon c =

@@ -1,5 +1,5 @@
-use Rattle.staat_pairs.proofs.PlaceSearch.{found_at, not_found}
 use Rattle.staat_pairs.proofs.vertices.place_among.Goals as goal
+use Rattle.staat_vec.proofs.VectorLists.{found_at, not_found}
 
 pub returns-in-Ok : goal.returns-in-Ok
 returns-in-Ok c = found_at c.args.listed.now c.args.v c.in-Ok.k c.in-Ok.ensures.bound c.in-Ok.ensures.ok

@@ -1,17 +1,15 @@
 use Rattle.std.proofs.Common.{◌≡◌, inl, inr, arith, ap, sym, ◌∙◌, refl}
-use Rattle.std.specs.Prelude.{Some, None}
+use Rattle.std.specs.Prelude.{Some}
 use Rattle.staat_plan.specs.declared.ring_step.Serving.{Serving}
 use Rattle.staat_plan.specs.RingSearches.{pair_key}
 use Rattle.staat_plan.proofs.ring_step.better.Goals as goal
+use Rattle.staat_vec.proofs.Options.{none_some}
 
 same : (x y : Serving) → Some x ≡ Some y → x ≡ y
 same x y e = cc
 
 pub returns-in-None : goal.returns-in-None
-returns-in-None c = record { one = c.args.f; is = refl; least = omega arith; which = inl refl; before = λ h e. absurd (none h (sym c.in-None.is ∙ e)) }
-  where
-    none : (h : Serving) → None ≡ Some h → ⊥
-    none h e = cc
+returns-in-None c = record { one = c.args.f; is = refl; least = omega arith; which = inl refl; before = λ h e. absurd (none_some h (sym c.in-None.is ∙ e)) }
 
 pub returns-then-pair_key : goal.returns-then-pair_key
 returns-then-pair_key c = record {

@@ -1,6 +1,6 @@
 use Rattle.staat_ring.specs.Rings.{unlinked_of}
 use Rattle.std.proofs.Common.{◌≡◌, ◌↔◌, ◌<◌, ◌≤◌, ℕ, arith, subst, sym, All, ap, ◌∙◌, length}
-use Rattle.std.specs.Prelude.{Bool, false, IsTrue, Some}
+use Rattle.std.specs.Prelude.{IsTrue, Some}
 use Rattle.std.proofs.lemmas.List.Elements.{All-contains}
 use Rattle.std.proofs.lemmas.Option.{same_Some}
 use Rattle.staat_graph.specs.Blocking.{ShowsBlocking}
@@ -11,9 +11,7 @@ use Rattle.staat_plan.specs.declared.ring_step.Serving.{Serving}
 use Rattle.staat_plan.specs.RingSearches.{IsLater}
 use Rattle.staat_plan.proofs.RingLooking.{ascend_is, at_circle, entry_placed, first_least, moves_is, nothing_more, one_more, right_is, strong_serves_not, vertex_is}
 use Rattle.staat_plan.proofs.ring_step.look.Goals as goal
-
-no_test : (b : Bool) → b ≡ false → IsTrue b → ⊥
-no_test b e h = cc
+use Rattle.staat_vec.proofs.Truth.{false_test_clash}
 
 pub returns-then-is_strong-clause-best : goal.returns-then-is_strong-clause-best
 returns-then-is_strong-clause-best c parts made s at is before =
@@ -63,6 +61,6 @@ returns-else-is_strong-clause-best c parts made s at is before =
     let first = c.in-Some.ensures s (at_circle c.args.table.now.planes rings (unlinked_of c.args.rings.now.unlinked) c.len-len.ensures.rules.planes c.requires.rings.now c.args.walk.now c.args.i c.requires.circle c.requires.entered s at) is in
     let f : Serving = record { entry = c.in-Some.entry; moved = c.sink_of-moved.result } in
     one_more parts c.args.table.now.planes c.args.w c.args.i at.ring.stops c.args.walk.now.place c.args.best s before at.is f c.better.result
-    (right_is parts c.args.table.now.planes c.args.w c.args.i s c.graph-graph.result.rows moves shows f (λ strong. no_test c.is_strong.result c.if-is_strong.false (told.1 strong)) first c.sink_of-moved.ensures)
+    (right_is parts c.args.table.now.planes c.args.w c.args.i s c.graph-graph.result.rows moves shows f (λ strong. false_test_clash c.is_strong.result c.if-is_strong.false (told.1 strong)) first c.sink_of-moved.ensures)
     (λ e ce later. first_least c.args.i s.entries c.in-Some.entry e (ascend_is c.args.table.now.planes rings (unlinked_of c.args.rings.now.unlinked) c.len-len.ensures.rules.planes c.requires.rings.now c.args.walk.now c.args.i c.requires.circle c.requires.entered s at) first ce later)
     c.better.ensures

@@ -1,5 +1,5 @@
 use Rattle.staat_ring.specs.Rings.{unlinked_of}
-use Rattle.std.proofs.Common.{◌≡◌, ℕ, ◌+◌, ◌*◌, ◌-◌, ◌<◌, ◌≤◌, min, arith, sym, subst, refl, List, length, ◌⊎◌, ⊎_elim}
+use Rattle.std.proofs.Common.{◌≡◌, ℕ, ◌+◌, ◌*◌, ◌-◌, ◌<◌, ◌≤◌, min, arith, sym, subst, refl, List, length, ⊎_elim}
 use Rattle.std.specs.Prelude.{Option, None, Some, false}
 use Rattle.staat_plan.specs.declared.ring_step.Serving.{Serving}
 use Rattle.std.proofs.lemmas.List.{length-map}
@@ -14,13 +14,11 @@ use Rattle.staat_plan.proofs.RingLengths.{lengths_past, lengths_rise}
 use Rattle.staat_plan.proofs.RingStepLaw.{has_no_step, is_stuck}
 use Rattle.staat_plan.proofs.StepLemmas.{not_stuck}
 use Rattle.staat_plan.proofs.ring_step.part_step_rings.Goals as goal
+use Rattle.staat_vec.proofs.Naturals.{min_at_start, lt_or_le}
 
 none_of : (o : Option Serving) → ((x : Serving) → o ≡ Some x → ⊥) → o ≡ None
 none_of None h = refl
 none_of (Some x) h = absurd (h x refl)
-
-at_start : (old sum top : ℕ) → sum ≡ 0 → min (old + sum) top ≤ old
-at_start old sum top h = omega arith
 
 in_all : (s now a b n k : ℕ) → now ≤ s + a → a ≤ b → now ≤ s + b
 in_all s now a b n k h g = omega arith
@@ -31,7 +29,7 @@ loop-i-init g c = record {
   made = c.requires.made;
   none = λ parts made h e ch ce lt. absurd (omega (arith, lt));
   steps = omega arith;
-  crossed = at_start c.args.walk.now.crossed (lengths_below 0 c.args.rings.now.rings) 18446744073709551615 (lengths_past 0 c.args.rings.now.rings (λ r cr. omega arith));
+  crossed = min_at_start c.args.walk.now.crossed (lengths_below 0 c.args.rings.now.rings) 18446744073709551615 (lengths_past 0 c.args.rings.now.rings (λ r cr. omega arith));
 }
 
 pub step_of-requires-clause-plane : goal.step_of-requires-clause-plane
@@ -59,9 +57,6 @@ next_crossed old sum more all now new top h e f = omega arith
 less_crossed : (old part all new top : ℕ) → part ≤ all → min (old + all) top ≤ new → min (old + part) top ≤ new
 less_crossed old part all new top h e = omega arith
 
-apart : (i k : ℕ) → (i < k) ⊎ (k ≤ i)
-apart i k = grind arith
-
 grows : (a b : ℕ) → a ≤ b → b ≡ a + (b - a)
 grows a b h = omega arith
 
@@ -77,7 +72,7 @@ returns-in-Some-clause-crossed g c parts k made lt none =
     ⊎_elim
     (λ before. absurd (none serving.ring serving.stop serving.listed (subst (λ j. j < k) (sym serving.plane) before) serving.on serving.serves))
     (λ le. less_crossed old (lengths_below (k + 1) rings) next c.search.new.walk.crossed 18446744073709551615 (lengths_rise (k + 1) (c.loop-i.i + 1) rings (omega (arith, le))) all)
-    (apart c.loop-i.i k)
+    (lt_or_le c.loop-i.i k)
 
 pub returns-in-Some-clause-step : goal.returns-in-Some-clause-step
 returns-in-Some-clause-step g c parts made =

@@ -1,21 +1,17 @@
 use Rattle.std.proofs.Common.{◌≡◌, ℕ, ◌+◌, ◌≤◌, min, arith, sym, subst, ◌∙◌, refl, Contains, length}
-use Rattle.std.specs.Prelude.{Some, None}
 use Rattle.staat_ring.specs.Rings.{Ring}
-use Rattle.staat_ring.proofs.Mapped.{from_map}
-use Rattle.staat_plan.specs.declared.ring_step.Serving.{Serving}
 use Rattle.staat_plan.specs.RingSearches.{IsBest}
 use Rattle.staat_plan.proofs.RingGoing.{at_end, goes_on, is_zero, length_has, not_zero, nothing_yet, place_small, stop_in}
 use Rattle.staat_plan.proofs.ring_step.search_circle.Goals as goal
-
-no_some : (f : Serving) → None ≡ Some f → ⊥
-no_some f e = cc
+use Rattle.staat_vec.proofs.Options.{none_some}
+use Rattle.staat_vec.proofs.ListLaws.{Contains-from_map}
 
 pub stops-init : goal.stops-init
 stops-init g c = record {
   made = c.enter.ensures.made;
   entered = c.enter.ensures.entered;
   circle = c.enter.ensures.circle;
-  placed = λ h e. absurd (no_some h e);
+  placed = λ h e. absurd (none_some h e);
   crossed = (let z = c.enter.ensures.place in let k = c.enter.ensures.counted in let e = c.enter.ensures.crossed in omega (arith, z, k, e));
   steps = refl;
   best = λ parts made r cr plane. nothing_yet parts c.args.table.now.planes c.args.w c.args.i r.stops c.enter.new.self.place c.enter.ensures.place;
@@ -43,7 +39,7 @@ pub stops-smaller : goal.stops-smaller
 stops-smaller g c =
     let rings = c.args.rings.now.rings in
     let ne = not_zero c.cross.new.self.place c.cross.result c.if-not-cross.false c.cross.ensures.back.0 in
-    let (r, cr, plane) = from_map (λ (r : Ring). r.plane) rings c.args.i c.requires.circle in
+    let (r, cr, plane) = Contains-from_map (λ (r : Ring). r.plane) rings c.args.i c.requires.circle in
     let e = goes_on rings c.requires.rings.now.ascending c.args.table.now.planes c.stops.walk c.args.i c.stops.invariant.circle c.stops.invariant.entered r cr plane c.cross.new.self.place c.cross.ensures.place ne in
     let lt = place_small rings c.requires.rings.now.ascending c.args.table.now.planes c.stops.walk c.args.i c.stops.invariant.circle c.stops.invariant.entered r cr plane in
     let le = subst (λ k. length r.stops ≤ Rattle.staat_plan.specs.RingSearches.length_at k rings) plane (length_has rings r cr) in
@@ -54,7 +50,7 @@ stops-preserved g c =
     let rings = c.args.rings.now.rings in
     let ne = not_zero c.cross.new.self.place c.cross.result c.if-not-cross.false c.cross.ensures.back.0 in
     let goes : (r : Ring) → Contains rings r → r.plane ≡ c.args.i → c.cross.new.self.place ≡ c.stops.walk.place + 1 = λ r cr plane. goes_on rings c.requires.rings.now.ascending c.args.table.now.planes c.stops.walk c.args.i c.stops.invariant.circle c.stops.invariant.entered r cr plane c.cross.new.self.place c.cross.ensures.place ne in
-    let f = from_map (λ (r : Ring). r.plane) rings c.args.i c.requires.circle in
+    let f = Contains-from_map (λ (r : Ring). r.plane) rings c.args.i c.requires.circle in
     record {
       made = c.cross.ensures.made;
       entered = c.cross.ensures.entered;

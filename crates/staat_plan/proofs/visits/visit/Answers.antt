@@ -1,11 +1,11 @@
 use Rattle.std.proofs.Common.{◌∙◌, Contains, List, ℕ, ap, map, set, subst, sym}
 use Rattle.std.specs.Prelude.{Option, Some}
-use Rattle.staat_model.proofs.GraphLemmas.{from_slice_get}
 use Rattle.staat_plan.proofs.VisitLemmas.{found_here, named_more, still_found}
 use Rattle.staat_plan.proofs.visits.visit.Goals as goal
+use Rattle.staat_vec.proofs.Unique.{from_place}
 
 pub returns-in-None-clause-here : goal.returns-in-None-clause-here
-returns-in-None-clause-here c = record { number = λ k at. absurd (c.in-None.ensures (subst (Contains c.args.directions.now) (sym c.at-v.ensures.is) (from_slice_get c.args.directions.now k c.args.walk.now.vertex at))) }
+returns-in-None-clause-here c = record { number = λ k at. absurd (c.in-None.ensures (subst (Contains c.args.directions.now) (sym c.at-v.ensures.is) (from_place c.args.directions.now k c.args.walk.now.vertex at))) }
 
 pub returns-in_ok-number-in-Some-clause-found : goal.returns-in_ok-number-in-Some-clause-found
 returns-in_ok-number-in-Some-clause-found c =

@@ -1,24 +1,17 @@
-use Rattle.std.proofs.Common.{◌≡◌, ◌≢◌, ℕ, ◌<◌, ap, sym, ◌∙◌, subst, length}
-use Rattle.std.specs.Prelude.{Bool, true, false, not}
+use Rattle.std.proofs.Common.{◌≢◌, ℕ, ◌<◌, ap, sym, ◌∙◌, subst, length}
+use Rattle.std.specs.Prelude.{not}
 use Rattle.staat_vec.proofs.Primitives.{IsPrimitive-some}
 use Rattle.staat_ring.specs.Belonging.{PlaneFacet}
 use Rattle.staat_ring.specs.Rings.{facet_by}
 use Rattle.staat_ring.proofs.IndexLemmas.{on_ok, plane_facet_is}
 use Rattle.staat_ring.proofs.index.push_facet.Goals as goal
+use Rattle.staat_vec.proofs.Truth.{not_true_clash, from_not_false}
 
 pub canon-n-requires-clause-some : goal.canon-n-requires-clause-some
 canon-n-requires-clause-some c = IsPrimitive-some c.args.facet c.requires.facet.primitive
-
-flipped : (b : Bool) → not b ≡ true → b ≡ true → ⊥
-flipped true h e = cc
-flipped false h e = cc
-
-straight : (b : Bool) → not b ≡ false → b ≡ true
-straight true h = Rattle.std.proofs.Common.refl
-straight false h = cc
 
 pub returns : goal.returns
 returns c =
     let h = c.push.ensures in
     let w : PlaneFacet = record { plane = c.number_of_plane-k.result; turned = not c.is_same.result } in
-    on_ok c.push.result _ _ c.push.ensures (λ e. (w, c.number_of_plane-k.ensures.within, ap (facet_by (not c.is_same.result)) c.number_of_plane-k.ensures.is ∙ plane_facet_is c.args.facet c.canon-n.result (not c.is_same.result) c.canon-n.ensures.value (λ f q. flipped c.is_same.result f (c.is_same.ensures.1 q)) (λ f. c.is_same.ensures.0 (straight c.is_same.result f)), e))
+    on_ok c.push.result _ _ c.push.ensures (λ e. (w, c.number_of_plane-k.ensures.within, ap (facet_by (not c.is_same.result)) c.number_of_plane-k.ensures.is ∙ plane_facet_is c.args.facet c.canon-n.result (not c.is_same.result) c.canon-n.ensures.value (λ f q. not_true_clash c.is_same.result f (c.is_same.ensures.1 q)) (λ f. c.is_same.ensures.0 (from_not_false c.is_same.result f)), e))

@@ -1,9 +1,9 @@
 use Rattle.std.proofs.Common.{◌≡◌, ⊎_elim, ◌-◌, arith, ap, sym, ◌∙◌}
 use Rattle.staat_vec.specs.declared.vector.Sign.TheVariants.{Neg}
 use Rattle.staat_vec.specs.Vectors.{det, sign}
-use Rattle.staat_ring.proofs.Mapped.{same_or}
 use Rattle.staat_ring.specs.Order.{normal_at}
 use Rattle.staat_ring.proofs.order.place_in.Goals as goal
+use Rattle.staat_vec.proofs.Naturals.{same_or}
 
 pub back-preserved : goal.back-preserved
 back-preserved c = record {

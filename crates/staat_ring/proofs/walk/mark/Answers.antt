@@ -1,13 +1,13 @@
 use Rattle.std.proofs.Common.{◌<◌, arith, ap, sym, subst, ◌∙◌, refl, length, length-set}
 use Rattle.std.proofs.lemmas.Option.{slice_get_within}
 use Rattle.std.proofs.lemmas.List.Elements.{All-contains}
-use Rattle.staat_model.proofs.GraphLemmas.{from_slice_get}
 use Rattle.staat_ring.specs.declared.entry.Entry.{Entry}
 use Rattle.staat_ring.specs.Signs.{side_at}
 use Rattle.staat_ring.specs.SignChanges.{with_sign}
 use Rattle.staat_ring.specs.Marks.{marked}
 use Rattle.staat_ring.proofs.Marking.{mark_end, mark_next}
 use Rattle.staat_ring.proofs.walk.mark.Goals as goal
+use Rattle.staat_vec.proofs.Unique.{from_place}
 
 pub loop-passed-init : goal.loop-passed-init
 loop-passed-init c = record {
@@ -35,7 +35,7 @@ pub set-requires : goal.set-requires
 set-requires c =
     let h = c.requires.at in
     let e = c.in-Some.ensures h.place h.stop h.at h.is c.loop-passed._passed (c.loop-passed.invariant.left h.place h.stop h.at h.is) in
-    let w = All-contains (λ (e : Entry). e.plane < length c.args.signs.now.sides) h.stop.entries c.in-Some.entry (c.requires.few h.place h.stop h.at h.is).1 (from_slice_get h.stop.entries c.loop-passed._passed c.in-Some.entry e) in
+    let w = All-contains (λ (e : Entry). e.plane < length c.args.signs.now.sides) h.stop.entries c.in-Some.entry (c.requires.few h.place h.stop h.at h.is).1 (from_place h.stop.entries c.loop-passed._passed c.in-Some.entry e) in
     subst (λ n. c.in-Some.entry.plane < n) (sym c.loop-passed.invariant.size) w
 
 pub loop-passed-preserved : goal.loop-passed-preserved

@@ -1,5 +1,4 @@
-use Rattle.std.proofs.Common.{◌≡◌, ◌+◌, ◌<◌, arith, sym, subst, ◌∙◌, length}
-use Rattle.std.specs.Prelude.{Bool, false, IsTrue}
+use Rattle.std.proofs.Common.{◌+◌, ◌<◌, arith, sym, subst, ◌∙◌, length}
 use Rattle.std.proofs.lemmas.List.{length-map}
 use Rattle.std.proofs.lemmas.Option.{slice_get_within}
 use Rattle.staat_ring.specs.Rings.{linked_of}
@@ -10,9 +9,7 @@ use Rattle.staat_ring.proofs.Marking.{belong_same, signed_same}
 use Rattle.staat_ring.proofs.SignAll.{Done, count_all, count_more, count_same, more_done, same_done}
 use Rattle.staat_ring.proofs.walk.sign_all.Goals as goal
 use Rattle.staat_ring.proofs.walk.sign_all.Goals.{then-is_linked, else-is_linked}
-
-no_test : (b : Bool) → b ≡ false → IsTrue b → ⊥
-no_test b e h = cc
+use Rattle.staat_vec.proofs.Truth.{false_test_clash}
 
 pub loop-k-preserved : goal.loop-k-preserved
 loop-k-preserved g c = elim c.if-is_linked.branch [
@@ -29,7 +26,7 @@ loop-k-preserved g c = elim c.if-is_linked.branch [
       record {
         all = c.loop-k.invariant.all;
         made = subst (BelongTo c.args.table.now) (sym w.signs-is) c.loop-k.invariant.made;
-        done = subst (λ (s : Signed). Done c.args.table.now.planes (linked_of c.args.rings.now.rings) c.args.d s (c.loop-k.k + 1)) (sym w.signs-is) (same_done c.args.table.now.planes (linked_of c.args.rings.now.rings) c.args.d c.loop-k.signs c.loop-k.k (λ h. no_test c.is_linked.result w.if-is_linked.false (c.is_linked.ensures.1 h)) c.loop-k.invariant.done);
+        done = subst (λ (s : Signed). Done c.args.table.now.planes (linked_of c.args.rings.now.rings) c.args.d s (c.loop-k.k + 1)) (sym w.signs-is) (same_done c.args.table.now.planes (linked_of c.args.rings.now.rings) c.args.d c.loop-k.signs c.loop-k.k (λ h. false_test_clash c.is_linked.result w.if-is_linked.false (c.is_linked.ensures.1 h)) c.loop-k.invariant.done);
         few = (let m = count_same c.loop-k.k (linked_of c.args.rings.now.rings) in let s = w.steps-is in let f = c.loop-k.invariant.few in omega (arith, m, s, f));
       }
 ]

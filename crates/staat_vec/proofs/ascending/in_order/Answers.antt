@@ -1,7 +1,5 @@
-use Rattle.std.proofs.Common.{◌≡◌, ◌∙◌, sym, ap, subst, Bool, true, ◌&&◌, refl}
+use Rattle.std.proofs.Common.{◌≡◌, ◌∙◌, sym, ap, subst, Bool, true, ◌&&◌}
 use Rattle.std.specs.Ordering.{eq_by_cmp, is_eq, int_cmp, ordering_then}
-use Rattle.std.specs.declared.cmp.Ordering.{Ordering}
-use Rattle.std.specs.declared.cmp.Ordering.TheVariants.{Less, Equal, Greater}
 use Rattle.std.specs.Cmp.{IsEquivalence, tied_then}
 use Rattle.std.proofs.lemmas.List.Filters.{dedup_is}
 use Rattle.std.proofs.lemmas.List.Kept.{Contains-dedup, Contains-from_dedup, IsStrictlySortedBy-dedup}
@@ -12,6 +10,7 @@ use Rattle.staat_vec.specs.Vectors.{vector_cmp}
 use Rattle.staat_vec.proofs.VectorOrder.{vector_total, vector_exact}
 use Rattle.staat_vec.specs.contracts.vector.V3PartialEq.TheImpl as impl
 use Rattle.staat_vec.proofs.ascending.in_order.Goals as goal
+use Rattle.staat_vec.proofs.Comparisons.{from_is_eq}
 
 abbrev E : V3 → V3 → Bool
 E x y = impl.ghosts.eq x y
@@ -22,13 +21,8 @@ ties x y = ap (λ b. is_eq (int_cmp x.x y.x) && b) (tied_then (int_cmp x.y y.y) 
 equiv : IsEquivalence E
 equiv = let p : E ≡ eq_by_cmp vector_cmp = λ i x y. ties x y i in subst (λ F. IsEquivalence F) (sym p) (eq_by_cmp_equiv vector_total)
 
-equal_from : (o : Ordering) → is_eq o ≡ true → o ≡ Equal
-equal_from Less e = cc
-equal_from Equal e = refl
-equal_from Greater e = cc
-
 exact : (x y : V3) → E x y ≡ true → x ≡ y
-exact x y e = vector_exact x y (equal_from (vector_cmp x y) (sym (ties x y) ∙ e))
+exact x y e = vector_exact x y (from_is_eq (vector_cmp x y) (sym (ties x y) ∙ e))
 
 pub returns : goal.returns
 returns c =

@@ -2,9 +2,9 @@ use Rattle.std.proofs.Common.{◌≡◌, ◌∙◌, ap, sym, subst, rules, ℕ, 
 use Rattle.std.specs.Int.{w128}
 use Rattle.std.proofs.lemmas.Int.{to_z-of_z}
 use Rattle.staat_vec.specs.Primitives.{IsPrimitiveOf, content, primitive}
-use Rattle.staat_vec.proofs.Divisors.{same_vector}
 use Rattle.staat_vec.proofs.Primitives.{primitive-is}
 use Rattle.staat_vec.proofs.rays.primitive.Goals as goal
+use Rattle.staat_vec.proofs.VecRing.{same_vector}
 
 -- a component without the content, as it is read back
 part : (q a : ℤ) (g k : ℕ) → FitsSigned w128 q → FitsSigned w128 a → q ≡ int_div (to_z w128 (of_z w128 a)) (pos g) → g ≡ k → to_z w128 (of_z w128 q) ≡ int_div a (pos k)

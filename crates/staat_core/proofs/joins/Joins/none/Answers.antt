@@ -1,5 +1,5 @@
-use Rattle.staat_core.proofs.Shutting.{empty_graph}
 use Rattle.staat_core.proofs.joins.Joins.none.Goals as goal
+use Rattle.staat_graph.proofs.Arcs.{empty_graph}
 
 pub returns-clause-ahead : goal.returns-clause-ahead
 returns-clause-ahead c = empty_graph

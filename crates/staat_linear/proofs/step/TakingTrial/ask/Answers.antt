@@ -1,6 +1,7 @@
 use Rattle.staat_vec.specs.Vectors.{negative}
-use Rattle.staat_linear.proofs.Freeing.{least_leaves, negative_some, none_leaves, shows_back}
+use Rattle.staat_linear.proofs.Freeing.{least_leaves, none_leaves, shows_back}
 use Rattle.staat_linear.proofs.step.TakingTrial.ask.Goals as goal
+use Rattle.staat_vec.proofs.VectorLaws.{negative_some}
 
 pub returns-in-Some-clause-tried : goal.returns-in-Some-clause-tried
 returns-in-Some-clause-tried c parts made known =

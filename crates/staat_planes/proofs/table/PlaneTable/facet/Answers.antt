@@ -2,11 +2,11 @@ use Rattle.std.proofs.Common.{◌≡◌, ◌<◌, ◌∙◌, ap, sym, subst, len
 use Rattle.std.specs.Prelude.{slice_get}
 use Rattle.std.proofs.lemmas.List.Elements.{All-contains}
 use Rattle.std.proofs.lemmas.Option.{slice_get-get_or}
-use Rattle.staat_model.proofs.Places.{Contains-from_place}
 use Rattle.staat_pairs.specs.Tables.{AreTableFacets, IsTableFacet, facets_of, reversed_facets}
 use Rattle.staat_pairs.proofs.TableLemmas.{facets_reversed}
 use Rattle.staat_pairs.proofs.ReversedFacets.{length-reversed}
 use Rattle.staat_planes.proofs.table.PlaneTable.facet.Goals as goal
+use Rattle.staat_vec.proofs.Unique.{from_place}
 
 pub reversed_at-requires-clause-place : goal.reversed_at-requires-clause-place
 reversed_at-requires-clause-place c =
@@ -26,4 +26,4 @@ returns-else-arc-clause-is c =
 pub returns-else-arc-clause-rules : goal.returns-else-arc-clause-rules
 returns-else-arc-clause-rules c =
     let rules : AreTableFacets c.args.self.now.planes (facets_of c.args.self.now c.args.arc) = c.kept_facets-else-arc.ensures.table.facets c.args.arc c.requires.across in
-    All-contains (IsTableFacet c.args.self.now.planes) (facets_of c.args.self.now c.args.arc) c.reversed_at.result rules.each (Contains-from_place (facets_of c.args.self.now c.args.arc) c.args.m c.reversed_at.result (returns-else-arc-clause-is c))
+    All-contains (IsTableFacet c.args.self.now.planes) (facets_of c.args.self.now c.args.arc) c.reversed_at.result rules.each (from_place (facets_of c.args.self.now c.args.arc) c.args.m c.reversed_at.result (returns-else-arc-clause-is c))

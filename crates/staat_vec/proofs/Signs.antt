@@ -1,0 +1,40 @@
+-- The sign of a number, and the number of a sign.
+use Rattle.staat_vec.specs.declared.vector.Sign.TheVariants.{Zero, Pos, Neg}
+use Rattle.std.proofs.Common.{negsuc, pos, refl, suc, zero, ℤ, ◌≡◌, arith, ◌<ℤ◌, ◌≢◌, inl, inr, ◌⊎◌}
+use Rattle.staat_vec.specs.Vectors.{sign}
+use Rattle.std.proofs.lemmas.Int.{ints}
+use Rattle.staat_vec.specs.declared.vector.Sign.{Sign}
+
+pub zero_sign : (z : ℤ) → sign z ≡ Zero → z ≡ pos 0
+zero_sign (pos zero) e = refl
+zero_sign (pos (suc n)) e = cc
+zero_sign (negsuc n) e = cc
+
+pub sign_positive : (z : ℤ) → sign z ≡ Pos → pos 0 <ℤ z
+sign_positive (pos zero) e = absurd cc
+sign_positive (pos (suc n)) e = omega (arith, ints)
+sign_positive (negsuc n) e = absurd cc
+
+pub sign_negative : (z : ℤ) → sign z ≡ Neg → z <ℤ pos 0
+sign_negative (pos zero) e = absurd cc
+sign_negative (pos (suc n)) e = absurd cc
+sign_negative (negsuc n) e = omega (arith, ints)
+
+pub positive_sign : (a : ℤ) → pos 0 <ℤ a → sign a ≡ Pos
+positive_sign (pos zero) h = absurd h.lt
+positive_sign (pos (suc n)) h = refl
+positive_sign (negsuc n) h = absurd h.lt
+
+pub negative_sign : (a : ℤ) → a <ℤ pos 0 → sign a ≡ Neg
+negative_sign (pos n) h = absurd (omega (arith, ints))
+negative_sign (negsuc n) h = refl
+
+pub sign_some : (a : ℤ) → a ≢ pos 0 → sign a ≢ Zero
+sign_some (pos zero) n e = n refl
+sign_some (pos (suc k)) n e = cc
+sign_some (negsuc k) n e = cc
+
+pub sign_zero_or : (t : Sign) → (t ≡ Zero) ⊎ (t ≢ Zero)
+sign_zero_or Neg = inr (λ e. cc)
+sign_zero_or Zero = inl refl
+sign_zero_or Pos = inr (λ e. cc)
