@@ -10,11 +10,11 @@ mod certificates;
 #[cfg(test)]
 mod comparing;
 #[cfg(test)]
+mod failing_reads;
+#[cfg(test)]
 mod inputs;
 #[cfg(test)]
 mod judging;
-#[cfg(test)]
-mod reading;
 #[cfg(test)]
 mod refusals;
 #[cfg(test)]

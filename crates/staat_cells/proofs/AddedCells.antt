@@ -13,7 +13,7 @@ use Rattle.staat_model.specs.Cells.{AreCells, AreCellsOf}
 use Rattle.staat_pairs.specs.Tables.{AreTablePlanes}
 use Rattle.staat_cells.specs.declared.cell.Cell.{Cell}
 use Rattle.staat_cells.specs.declared.incidence.Incidence.{Incidence}
-use Rattle.staat_cells.specs.declared.lower.LowerCells.{LowerCells}
+use Rattle.staat_cells.specs.declared.lower_cells.LowerCells.{LowerCells}
 use Rattle.staat_cells.specs.Compositions.{AddsComposed, begins_cell, begun_up_to, composed_up_to}
 use Rattle.staat_cells.specs.Compositions.{entry_of}
 use Rattle.staat_cells.specs.Packing.{incidence_cmp}

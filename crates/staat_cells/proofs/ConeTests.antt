@@ -9,10 +9,10 @@ use Rattle.std.proofs.lemmas.Nat.Bits.{bit_at_set_other, bit_at_set_same, bit_at
 use Rattle.staat_vec.specs.declared.vector.Sign.{Sign}
 use Rattle.staat_vec.specs.declared.vector.Sign.TheVariants.{Neg, Zero, Pos}
 use Rattle.staat_model.specs.Cells.{sign_place}
-use Rattle.staat_cells.specs.declared.blocks.PlaneTest.{PlaneTest}
-use Rattle.staat_cells.specs.declared.half_spaces.Side.{Side}
-use Rattle.staat_cells.specs.HalfSpaces.{AreInside, IsOnSide, sign_at}
-use Rattle.staat_cells.specs.Blocks.{IsLeft, IsLeftByAll, outside_at, outside_by}
+use Rattle.staat_cells.specs.declared.batches.PlaneTest.{PlaneTest}
+use Rattle.staat_cells.specs.declared.half_spaces.HalfSpace.{HalfSpace}
+use Rattle.staat_cells.specs.HalfSpaces.{AreInside, IsInHalfSpace, sign_at}
+use Rattle.staat_cells.specs.Batches.{IsLeft, IsLeftByAll, outside_at, outside_by}
 use Rattle.staat_cells.proofs.Elements.{all_more, all_pushed, all_set}
 use Rattle.staat_vec.proofs.Naturals.{zero_not_one, same_or}
 
@@ -86,82 +86,82 @@ module _ (o : List ℕ) (j : ℕ) (lt : j < 128) where
       (sym e)
       above_it
 
--- ---- a side more
+-- ---- a half-space more
 
 -- the tests have grown by what has Q of the cone j
-abbrev pub AddsSides : (List Sign → Type 0) → ℕ → List PlaneTest → List PlaneTest → Type 0
-AddsSides Q j old new = (signs : List Sign) (k : ℕ)
+abbrev pub AddsHalfSpaces : (List Sign → Type 0) → ℕ → List PlaneTest → List PlaneTest → Type 0
+AddsHalfSpaces Q j old new = (signs : List Sign) (k : ℕ)
     → IsLeftByAll (outside_by signs) new k ↔ (IsLeftByAll (outside_by signs) old k × (k ≡ j → Q signs))
 
 -- the test of a plane with the side s of the cone j
 abbrev pub HasGrown : PlaneTest → PlaneTest → Sign → ℕ → Type 0
 HasGrown old new s j = (t : Sign) (k : ℕ) → IsLeft (outside_at new t) k ↔ (IsLeft (outside_at old t) k × (k ≡ j → t ≡ s))
 
-pub side_set : (tests : List PlaneTest) (side : Side) (j at : ℕ) (d x : PlaneTest) → at < length tests
-    → d ≡ get_or tests at d → d.plane ≡ side.plane → x.plane ≡ d.plane → HasGrown d x side.sign j
-    → AddsSides (λ signs. IsOnSide signs side) j tests (slice_set tests at x)
-side_set tests side j at d x lt is plane same grown signs k =
-    all_set (λ t. IsLeft (outside_at t (sign_at signs t.plane)) k) tests at d x (k ≡ j → IsOnSide signs side) lt own
+pub half_space_set : (tests : List PlaneTest) (half_space : HalfSpace) (j at : ℕ) (d x : PlaneTest) → at < length tests
+    → d ≡ get_or tests at d → d.plane ≡ half_space.plane → x.plane ≡ d.plane → HasGrown d x half_space.sign j
+    → AddsHalfSpaces (λ signs. IsInHalfSpace signs half_space) j tests (slice_set tests at x)
+half_space_set tests half_space j at d x lt is plane same grown signs k =
+    all_set (λ t. IsLeft (outside_at t (sign_at signs t.plane)) k) tests at d x (k ≡ j → IsInHalfSpace signs half_space) lt own
   where
     own : IsLeft (outside_at x (sign_at signs x.plane)) k
         ↔ (IsLeft (outside_at (get_or tests at d) (sign_at signs (get_or tests at d).plane)) k × (k ≡ j
-        → IsOnSide signs side))
+        → IsInHalfSpace signs half_space))
     own = subst (λ (y : PlaneTest). IsLeft (outside_at x (sign_at signs x.plane)) k
-        ↔ (IsLeft (outside_at y (sign_at signs y.plane)) k × (k ≡ j → IsOnSide signs side))) is
+        ↔ (IsLeft (outside_at y (sign_at signs y.plane)) k × (k ≡ j → IsInHalfSpace signs half_space))) is
         (subst (λ n. IsLeft (outside_at x (sign_at signs n)) k
-        ↔ (IsLeft (outside_at d (sign_at signs d.plane)) k × (k ≡ j → IsOnSide signs side))) (sym same)
+        ↔ (IsLeft (outside_at d (sign_at signs d.plane)) k × (k ≡ j → IsInHalfSpace signs half_space))) (sym same)
         (subst (λ n. IsLeft (outside_at x (sign_at signs d.plane)) k
-        ↔ (IsLeft (outside_at d (sign_at signs d.plane)) k × (k ≡ j → sign_at signs n ≡ side.sign))) plane
+        ↔ (IsLeft (outside_at d (sign_at signs d.plane)) k × (k ≡ j → sign_at signs n ≡ half_space.sign))) plane
         (grown (sign_at signs d.plane) k)))
 
-pub side_pushed : (tests new : List PlaneTest) (side : Side) (j : ℕ) (x : PlaneTest) → x.plane ≡ side.plane
-    → HasGrown (record { plane = side.plane; outside = 0 ∷ 0 ∷ 0 ∷ [] }) x side.sign j
+pub half_space_pushed : (tests new : List PlaneTest) (half_space : HalfSpace) (j : ℕ) (x : PlaneTest) → x.plane ≡ half_space.plane
+    → HasGrown (record { plane = half_space.plane; outside = 0 ∷ 0 ∷ 0 ∷ [] }) x half_space.sign j
     → new ≡ tests ++ x ∷ []
-    → AddsSides (λ signs. IsOnSide signs side) j tests new
-side_pushed tests new side j x same grown is signs k =
+    → AddsHalfSpaces (λ signs. IsInHalfSpace signs half_space) j tests new
+half_space_pushed tests new half_space j x same grown is signs k =
     subst (λ l. IsLeftByAll (outside_by signs) l k ↔ (IsLeftByAll (outside_by signs) tests k × (k ≡ j
-    → IsOnSide signs side))) (sym is) (from, to)
+    → IsInHalfSpace signs half_space))) (sym is) (from, to)
   where
     P : PlaneTest → Type 0
     P t = IsLeft (outside_at t (sign_at signs t.plane)) k
 
-    left : (t : Sign) → IsLeft (outside_at (record { plane = side.plane; outside = 0 ∷ 0 ∷ 0 ∷ [] }) t) k
+    left : (t : Sign) → IsLeft (outside_at (record { plane = half_space.plane; outside = 0 ∷ 0 ∷ 0 ∷ [] }) t) k
     left Neg = bit_at-zero k
     left Zero = bit_at-zero k
     left Pos = bit_at-zero k
 
-    own : P x ↔ (k ≡ j → IsOnSide signs side)
-    own = subst (λ n. IsLeft (outside_at x (sign_at signs n)) k ↔ (k ≡ j → IsOnSide signs side)) (sym same) (
-      λ h. ((grown (sign_at signs side.plane) k).0 h).1,
-      λ h. (grown (sign_at signs side.plane) k).1 (left (sign_at signs side.plane), h),
+    own : P x ↔ (k ≡ j → IsInHalfSpace signs half_space)
+    own = subst (λ n. IsLeft (outside_at x (sign_at signs n)) k ↔ (k ≡ j → IsInHalfSpace signs half_space)) (sym same) (
+      λ h. ((grown (sign_at signs half_space.plane) k).0 h).1,
+      λ h. (grown (sign_at signs half_space.plane) k).1 (left (sign_at signs half_space.plane), h),
     )
 
-    from : IsLeftByAll (outside_by signs) (tests ++ x ∷ []) k → IsLeftByAll (outside_by signs) tests k × (k ≡ j → IsOnSide signs side)
+    from : IsLeftByAll (outside_by signs) (tests ++ x ∷ []) k → IsLeftByAll (outside_by signs) tests k × (k ≡ j → IsInHalfSpace signs half_space)
     from h = let both = (all_pushed P tests x).0 h in (both.0, own.0 both.1)
 
-    to : IsLeftByAll (outside_by signs) tests k × (k ≡ j → IsOnSide signs side) → IsLeftByAll (outside_by signs) (tests ++ x ∷ []) k
+    to : IsLeftByAll (outside_by signs) tests k × (k ≡ j → IsInHalfSpace signs half_space) → IsLeftByAll (outside_by signs) (tests ++ x ∷ []) k
     to h = (all_pushed P tests x).1 (h.0, own.1 h.1)
 
-pub no_sides : (tests : List PlaneTest) (cone : List Side) (j : ℕ)
-    → AddsSides (λ signs. AreInside signs (take 0 cone)) j tests tests
-no_sides tests cone j signs k = (λ h. (h, λ e i d lt. absurd (omega (arith, lt))), λ h. h.0)
+pub no_half_spaces : (tests : List PlaneTest) (cone : List HalfSpace) (j : ℕ)
+    → AddsHalfSpaces (λ signs. AreInside signs (take 0 cone)) j tests tests
+no_half_spaces tests cone j signs k = (λ h. (h, λ e i d lt. absurd (omega (arith, lt))), λ h. h.0)
 
-pub more_sides : (cone : List Side) (x : Side) (i j : ℕ) (old mid new : List PlaneTest) → i < length cone
-    → x ≡ get_or cone i x → AddsSides (λ signs. AreInside signs (take i cone)) j old mid
-    → AddsSides (λ signs. IsOnSide signs x) j mid new
-    → AddsSides (λ signs. AreInside signs (take (i + 1) cone)) j old new
-more_sides cone x i j old mid new lt at before one signs k =
-    let more = all_more (IsOnSide signs) cone i x lt at in (
+pub more_half_spaces : (cone : List HalfSpace) (x : HalfSpace) (i j : ℕ) (old mid new : List PlaneTest) → i < length cone
+    → x ≡ get_or cone i x → AddsHalfSpaces (λ signs. AreInside signs (take i cone)) j old mid
+    → AddsHalfSpaces (λ signs. IsInHalfSpace signs x) j mid new
+    → AddsHalfSpaces (λ signs. AreInside signs (take (i + 1) cone)) j old new
+more_half_spaces cone x i j old mid new lt at before one signs k =
+    let more = all_more (IsInHalfSpace signs) cone i x lt at in (
       λ h. let last = (one signs k).0 h in
           let first = (before signs k).0 last.0 in
           (first.0, λ e. more.1 (first.1 e, last.1 e)),
       λ h. (one signs k).1 ((before signs k).1 (h.0, λ e. (more.0 (h.1 e)).0), λ e. (more.0 (h.1 e)).1),
     )
 
-pub all_sides : (cone : List Side) (i j : ℕ) (old new : List PlaneTest) → length cone ≤ i
-    → AddsSides (λ signs. AreInside signs (take i cone)) j old new
-    → AddsSides (λ signs. AreInside signs cone) j old new
-all_sides cone i j old new le h = subst (λ l. AddsSides (λ signs. AreInside signs l) j old new) (take_all i cone
+pub all_half_spaces : (cone : List HalfSpace) (i j : ℕ) (old new : List PlaneTest) → length cone ≤ i
+    → AddsHalfSpaces (λ signs. AreInside signs (take i cone)) j old new
+    → AddsHalfSpaces (λ signs. AreInside signs cone) j old new
+all_half_spaces cone i j old new le h = subst (λ l. AddsHalfSpaces (λ signs. AreInside signs l) j old new) (take_all i cone
     le) h
 
 -- ---- what is in one word and not in another

@@ -16,8 +16,8 @@ use Rattle.staat_vec.proofs.Canons.{canon-either}
 use Rattle.staat_vec.proofs.Primitives.{IsPrimitive-some}
 use Rattle.staat_vec.proofs.VecRing.{cross_self, negative_dot}
 use Rattle.staat_model.specs.Cells.{signs_of}
-use Rattle.staat_cells.specs.declared.half_spaces.Side.{Side}
-use Rattle.staat_cells.specs.HalfSpaces.{AreAhead, AreInside, IsOnSide, IsSignAhead, sign_at}
+use Rattle.staat_cells.specs.declared.half_spaces.HalfSpace.{HalfSpace}
+use Rattle.staat_cells.specs.HalfSpaces.{AreAhead, AreInside, IsInHalfSpace, IsSignAhead, sign_at}
 use Rattle.staat_cells.specs.CellGraphs.{IsAheadBy}
 use Rattle.staat_planes.specs.Tables.{IsAhead}
 use Rattle.staat_pairs.specs.Searches.{arc_of}
@@ -37,10 +37,10 @@ sign_there [] k g d e = cc
 sign_there (h ∷ planes) zero g d e = cc
 sign_there (h ∷ planes) (suc k) g d e = sign_there planes k g d e
 
--- ---- the side of a plane
+-- ---- the half-space of a plane
 
 pub ahead_positive : (planes : List V3) (n d : V3) (k : ℕ) → slice_get planes k ≡ Some n
-    → IsOnSide (signs_of planes d) (record { plane = k; sign = Pos }) ↔ (pos 0 <ℤ dot n d)
+    → IsInHalfSpace (signs_of planes d) (record { plane = k; sign = Pos }) ↔ (pos 0 <ℤ dot n d)
 ahead_positive planes n d k at =
     let here = sign_there planes k n d at in (
       λ h. sign_positive (dot n d) (sym here ∙ h),
@@ -48,7 +48,7 @@ ahead_positive planes n d k at =
     )
 
 pub ahead_negative : (planes : List V3) (n d : V3) (k : ℕ) → slice_get planes k ≡ Some (negative n)
-    → IsOnSide (signs_of planes d) (record { plane = k; sign = Neg }) ↔ (pos 0 <ℤ dot n d)
+    → IsInHalfSpace (signs_of planes d) (record { plane = k; sign = Neg }) ↔ (pos 0 <ℤ dot n d)
 ahead_negative planes n d k at =
     let here = sign_there planes k (negative n) d at in (
       λ h. turned_back (dot n d) (dot (negative n) d) (negative_dot n d)
@@ -60,7 +60,7 @@ ahead_negative planes n d k at =
     turned_back : (a b : ℤ) → b ≡ neg_ℤ a → b <ℤ pos 0 → pos 0 <ℤ a
     turned_back a b e lt = omega (arith, ints, e, lt)
 
--- ---- the side of a facet
+-- ---- the half-space of a facet
 
 sign_of_square : (n : V3) → n ≢ origin → sign (dot n n) ≡ Pos
 sign_of_square n some = positive_sign (dot n n) (some_square n some)
@@ -75,9 +75,9 @@ one_place planes rules k m n at also = ⊎_elim {C = k ≡ m} (λ e. e)
     (λ ne. absurd (rules.apart k m n n at also ne (cross_self n))) (nat_or k m)
 
 module _ (planes : List V3) (rules : AreTablePlanes planes) (n : V3) (some : n ≢ origin) (k : ℕ) where
-  pub side_positive : slice_get planes k ≡ Some n → canon n ≡ n → (signs : List Sign)
-      → IsOnSide signs (record { plane = k; sign = Pos }) ↔ IsSignAhead planes signs n
-  side_positive at same signs = (
+  pub half_space_positive : slice_get planes k ≡ Some n → canon n ≡ n → (signs : List Sign)
+      → IsInHalfSpace signs (record { plane = k; sign = Pos }) ↔ IsSignAhead planes signs n
+  half_space_positive at same signs = (
     λ h. record { plane = k; at = at ∙ ap Some (sym same); same = h ∙ sym own },
     λ h. ap (sign_at signs) (one_place planes rules k h.plane n at (h.at ∙ ap Some same)) ∙ h.same ∙ own,
   )
@@ -85,9 +85,9 @@ module _ (planes : List V3) (rules : AreTablePlanes planes) (n : V3) (some : n �
       own : sign (dot (canon n) n) ≡ Pos
       own = ap (λ m. sign (dot m n)) same ∙ sign_of_square n some
 
-  pub side_negative : slice_get planes k ≡ Some (negative n) → canon n ≡ negative n → (signs : List Sign)
-      → IsOnSide signs (record { plane = k; sign = Neg }) ↔ IsSignAhead planes signs n
-  side_negative at same signs = (
+  pub half_space_negative : slice_get planes k ≡ Some (negative n) → canon n ≡ negative n → (signs : List Sign)
+      → IsInHalfSpace signs (record { plane = k; sign = Neg }) ↔ IsSignAhead planes signs n
+  half_space_negative at same signs = (
     λ h. record { plane = k; at = at ∙ ap Some (sym same); same = h ∙ sym own },
     λ h. ap (sign_at signs) (one_place planes rules k h.plane (negative n) at (h.at ∙ ap Some same)) ∙ h.same ∙ own,
   )
@@ -104,11 +104,11 @@ ahead_by_sign planes rules n d facet =
     let some = IsPrimitive-some n facet.primitive in
     ⊎_elim {C = IsSignAhead planes (signs_of planes d) n ↔ (pos 0 <ℤ dot n d)}
     (λ e. let here = at ∙ ap Some e in
-    let side = side_positive planes rules n some k here e (signs_of planes d) in
-    let law = ahead_positive planes n d k here in (λ h. law.0 (side.1 h), λ lt. side.0 (law.1 lt)))
+    let half_space = half_space_positive planes rules n some k here e (signs_of planes d) in
+    let law = ahead_positive planes n d k here in (λ h. law.0 (half_space.1 h), λ lt. half_space.0 (law.1 lt)))
     (λ e. let here = at ∙ ap Some e in
-    let side = side_negative planes rules n some k here e (signs_of planes d) in
-    let law = ahead_negative planes n d k here in (λ h. law.0 (side.1 h), λ lt. side.0 (law.1 lt)))
+    let half_space = half_space_negative planes rules n some k here e (signs_of planes d) in
+    let law = ahead_negative planes n d k here in (λ h. law.0 (half_space.1 h), λ lt. half_space.0 (law.1 lt)))
     (canon-either n)
 
 pub ahead_by_signs : (t : Table) (d : V3) (a b : ℕ) → IsTable t
@@ -139,34 +139,34 @@ ahead_by_signs t d a b rules = (
 
 -- ---- facet by facet
 
-pub no_facets : (planes facets : List V3) (cone : List Side) → cone ≡ [] → AreAhead planes (take 0 facets) cone
+pub no_facets : (planes facets : List V3) (cone : List HalfSpace) → cone ≡ [] → AreAhead planes (take 0 facets) cone
 no_facets planes facets cone none signs =
     subst (λ l. AreInside signs l ↔ All (IsSignAhead planes signs) (take 0 facets)) (sym none)
     (λ i k e lt. absurd (omega (arith, lt)), λ i k e lt. absurd (omega (arith, lt)))
 
-pub facet_more : (planes facets : List V3) (n : V3) (k : ℕ) (old new : List Side) (side : Side)
+pub facet_more : (planes facets : List V3) (n : V3) (k : ℕ) (old new : List HalfSpace) (half_space : HalfSpace)
     → slice_get facets k ≡ Some n
-    → ((signs : List Sign) → IsOnSide signs side ↔ IsSignAhead planes signs n)
-    → new ≡ old ++ side ∷ []
+    → ((signs : List Sign) → IsInHalfSpace signs half_space ↔ IsSignAhead planes signs n)
+    → new ≡ old ++ half_space ∷ []
     → AreAhead planes (take k facets) old → AreAhead planes (take (k + 1) facets) new
-facet_more planes facets n k old new side at ahead grown before signs =
+facet_more planes facets n k old new half_space at ahead grown before signs =
     subst (λ l. AreInside signs new ↔ All Ahead l) (sym (take_next facets k n at))
     (subst (λ l. AreInside signs l ↔ All Ahead (take k facets ++ n ∷ [])) (sym grown) (from, to))
   where
     Ahead : V3 → Type 0
     Ahead m = IsSignAhead planes signs m
 
-    from : AreInside signs (old ++ side ∷ []) → All Ahead (take k facets ++ n ∷ [])
+    from : AreInside signs (old ++ half_space ∷ []) → All Ahead (take k facets ++ n ∷ [])
     from i =
-        let both = (all_pushed (IsOnSide signs) old side).0 i in
+        let both = (all_pushed (IsInHalfSpace signs) old half_space).0 i in
         (all_pushed Ahead (take k facets) n).1 ((before signs).0 both.0, (ahead signs).0 both.1)
 
-    to : All Ahead (take k facets ++ n ∷ []) → AreInside signs (old ++ side ∷ [])
+    to : All Ahead (take k facets ++ n ∷ []) → AreInside signs (old ++ half_space ∷ [])
     to all =
         let both = (all_pushed Ahead (take k facets) n).0 all in
-        (all_pushed (IsOnSide signs) old side).1 ((before signs).1 both.0, (ahead signs).1 both.1)
+        (all_pushed (IsInHalfSpace signs) old half_space).1 ((before signs).1 both.0, (ahead signs).1 both.1)
 
-pub facets_all : (planes facets : List V3) (k : ℕ) (cone : List Side) → length facets ≤ k
+pub facets_all : (planes facets : List V3) (k : ℕ) (cone : List HalfSpace) → length facets ≤ k
     → AreAhead planes (take k facets) cone → AreAhead planes facets cone
 facets_all planes facets k cone le = subst (λ l. AreAhead planes l cone) (take_all k facets le)
 

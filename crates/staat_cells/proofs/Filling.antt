@@ -11,9 +11,9 @@ use Rattle.staat_vec.specs.declared.vector.Sign.TheVariants.{Neg, Zero, Pos}
 use Rattle.staat_model.specs.Cells.{sign_place}
 use Rattle.staat_cells.specs.declared.incidence.Incidence.{Incidence}
 use Rattle.staat_cells.specs.Beside.{filled, then_sign}
-use Rattle.staat_cells.specs.Changes.{IsSignWord}
+use Rattle.staat_cells.specs.ZeroSigns.{IsSignWord}
 use Rattle.staat_cells.specs.Packing.{incidence_of, packed, packed_after}
-use Rattle.staat_cells.proofs.Changing.{below}
+use Rattle.staat_cells.proofs.ZeroSignLemmas.{below}
 use Rattle.staat_cells.proofs.Words.{length_taken}
 
 -- ---- the zeros as digits

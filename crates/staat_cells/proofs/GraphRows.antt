@@ -1,4 +1,4 @@
--- The rows of the graph of a cell, block by block.
+-- The rows of the graph of a cell, batch by batch.
 use Rattle.std.proofs.Common.{◌≡◌, ◌≢◌, ◌⊎◌, ◌↔◌, inl, inr, ⊎_elim, ℕ, ◌+◌, ◌<◌}
 use Rattle.std.proofs.Common.{◌≤◌, refl, sym, ap, subst, ◌∙◌, arith}
 use Rattle.std.proofs.Common.{List, [], length, get_or, replicate, take, Any}
@@ -16,17 +16,17 @@ use Rattle.staat_graph.proofs.Arcs.{row_set}
 use Rattle.staat_pairs.specs.Tables.{IsTable, Table, WasMadeFrom}
 use Rattle.staat_planes.specs.Tables.{IsAhead}
 use Rattle.staat_planes.proofs.GraphLaw.{arcs_are_blocking, shows_blocking}
-use Rattle.staat_cells.specs.declared.blocks.ArcCones.{ArcCones}
-use Rattle.staat_cells.specs.declared.joined.JoinedBlock.{JoinedBlock}
-use Rattle.staat_cells.specs.declared.joined.JoinedTest.{JoinedTest}
-use Rattle.staat_cells.specs.Blocks.{HasLeft, IsJoinedArc, IsLeft, IsLeftByAll, joined_outside}
+use Rattle.staat_cells.specs.declared.batches.ArcCones.{ArcCones}
+use Rattle.staat_cells.specs.declared.joined_batches.JoinedBatch.{JoinedBatch}
+use Rattle.staat_cells.specs.declared.joined_batches.JoinedTest.{JoinedTest}
+use Rattle.staat_cells.specs.Batches.{HasLeft, IsJoinedArc, IsLeft, IsLeftByAll, joined_outside}
 use Rattle.staat_cells.specs.CellGraphs.{HasArcsOf, IsAheadBy, IsArcAt, IsCellGraph}
 use Rattle.staat_cells.proofs.Elements.{any_more}
 use Rattle.staat_cells.proofs.FacetPlanes.{ahead_by_signs}
 use Rattle.staat_cells.proofs.PushingIncidences.{either_more}
 use Rattle.staat_vec.proofs.Naturals.{lt_or_le}
 
--- ---- the arcs of a block
+-- ---- the arcs of a batch
 
 -- these are parts with a cone that is not ruled out
 abbrev pub IsArcLeft : ℕ → ℕ → ℕ → ArcCones → Type 0
@@ -73,13 +73,13 @@ left_more outside word k arcs x old mid is lt at small bits before = record {
       (any_more (IsArcLeft outside a b) arcs k x lt at);
 }
 
-pub block_arcs : (block : JoinedBlock) (signs : List Sign) (outside k : ℕ) (arcs : List ArcCones) (tests : List JoinedTest)
-    (old new : List ℕ) → arcs ≡ block.arcs.items → tests ≡ block.tests.items → length arcs ≤ k
+pub batch_arcs : (batch : JoinedBatch) (signs : List Sign) (outside k : ℕ) (arcs : List ArcCones) (tests : List JoinedTest)
+    (old new : List ℕ) → arcs ≡ batch.arcs.items → tests ≡ batch.tests.items → length arcs ≤ k
     → ((j : ℕ) → IsLeft outside j ↔ IsLeftByAll (joined_outside signs) tests j)
     → AddsLeft outside (take k arcs) old new
-    → (a b : ℕ) → HasArc new a b ↔ (HasArc old a b ⊎ IsJoinedArc block signs a b)
-block_arcs block signs outside k arcs tests old new arcs_are tests_are le ruled all a b = (
-  λ h. ⊎_elim {C = HasArc old a b ⊎ IsJoinedArc block signs a b} (λ o. inl o) (λ p. inr (from (whole.0 p)))
+    → (a b : ℕ) → HasArc new a b ↔ (HasArc old a b ⊎ IsJoinedArc batch signs a b)
+batch_arcs batch signs outside k arcs tests old new arcs_are tests_are le ruled all a b = (
+  λ h. ⊎_elim {C = HasArc old a b ⊎ IsJoinedArc batch signs a b} (λ o. inl o) (λ p. inr (from (whole.0 p)))
       ((all.has a b).0 h),
   ⊎_elim {C = HasArc new a b} (λ o. (all.has a b).1 (inl o)) (λ p. (all.has a b).1 (inr (whole.1 (to p)))),
 )
@@ -87,17 +87,17 @@ block_arcs block signs outside k arcs tests old new arcs_are tests_are le ruled 
     Left : List ArcCones → Type 0
     Left l = Any (IsArcLeft outside a b) l
 
-    whole : Left (take k arcs) ↔ Left block.arcs.items
+    whole : Left (take k arcs) ↔ Left batch.arcs.items
     whole = (subst Left (take_all k arcs le ∙ arcs_are), subst Left (sym (take_all k arcs le ∙ arcs_are)))
 
-    from : Left block.arcs.items → IsJoinedArc block signs a b
+    from : Left batch.arcs.items → IsJoinedArc batch signs a b
     from (i, x, lt, e, (a_is, b_is, (j, one, out))) = record {
       cone = j;
       has = (i, x, lt, e, (a_is, b_is, one));
       is_left = subst (λ l. IsLeftByAll (joined_outside signs) l j) tests_are ((ruled j).0 out);
     }
 
-    to : IsJoinedArc block signs a b → Left block.arcs.items
+    to : IsJoinedArc batch signs a b → Left batch.arcs.items
     to h = let (i, x, lt, e, (a_is, b_is, one)) = h.has in (
       i,
       x,
@@ -114,14 +114,14 @@ block_arcs block signs outside k arcs tests old new arcs_are tests_are le ruled 
       ),
     )
 
--- ---- all blocks
+-- ---- all batches
 
--- the rows have the arcs of the first blocks
-abbrev pub HasArcsUpTo : List ℕ → List JoinedBlock → List Sign → ℕ → Type 0
-HasArcsUpTo rows blocks signs k = (a b : ℕ) → HasArc rows a b ↔ IsArcAt (take k blocks) signs a b
+-- the rows have the arcs of the first batches
+abbrev pub HasArcsUpTo : List ℕ → List JoinedBatch → List Sign → ℕ → Type 0
+HasArcsUpTo rows batches signs k = (a b : ℕ) → HasArc rows a b ↔ IsArcAt (take k batches) signs a b
 
-pub no_rows : (blocks : List JoinedBlock) (signs : List Sign) → HasArcsUpTo (replicate 32 0) blocks signs 0
-no_rows blocks signs a b = (λ h. absurd (none h), λ h. absurd (let lt = h.2 in omega (arith, lt)))
+pub no_rows : (batches : List JoinedBatch) (signs : List Sign) → HasArcsUpTo (replicate 32 0) batches signs 0
+no_rows batches signs a b = (λ h. absurd (none h), λ h. absurd (let lt = h.2 in omega (arith, lt)))
   where
     zero_row : slice_index (replicate 32 0) a ≡ 0
     zero_row = ⊎_elim (λ lt. get_or-replicate 32 a 0 0 lt) (λ le. get_or_past (replicate 32 0) a 0 le) (lt_or_le a 32)
@@ -130,29 +130,29 @@ no_rows blocks signs a b = (λ h. absurd (none h), λ h. absurd (let lt = h.2 in
     none h = let e : bit_at (slice_index (replicate 32 0) a) b ≡ 0 =
         ap (λ r. bit_at r b) zero_row ∙ bit_at-zero b in absurd (omega (arith, e, h))
 
-pub rows_after : (blocks : List JoinedBlock) (signs : List Sign) (k : ℕ) (x : JoinedBlock) (old new : List ℕ)
-    → k < length blocks → x ≡ get_or blocks k x
+pub rows_after : (batches : List JoinedBatch) (signs : List Sign) (k : ℕ) (x : JoinedBatch) (old new : List ℕ)
+    → k < length batches → x ≡ get_or batches k x
     → ((a b : ℕ) → HasArc new a b ↔ (HasArc old a b ⊎ IsJoinedArc x signs a b))
-    → HasArcsUpTo old blocks signs k → HasArcsUpTo new blocks signs (k + 1)
-rows_after blocks signs k x old new lt at grew before a b =
-    let more = any_more (λ block. IsJoinedArc block signs a b) blocks k x lt at in (
-      λ h. more.1 (⊎_elim {C = IsArcAt (take k blocks) signs a b ⊎ IsJoinedArc x signs a b}
+    → HasArcsUpTo old batches signs k → HasArcsUpTo new batches signs (k + 1)
+rows_after batches signs k x old new lt at grew before a b =
+    let more = any_more (λ batch. IsJoinedArc batch signs a b) batches k x lt at in (
+      λ h. more.1 (⊎_elim {C = IsArcAt (take k batches) signs a b ⊎ IsJoinedArc x signs a b}
           (λ o. inl ((before a b).0 o)) (λ p. inr p) ((grew a b).0 h)),
       λ h. (grew a b).1 (⊎_elim {C = HasArc old a b ⊎ IsJoinedArc x signs a b}
           (λ o. inl ((before a b).1 o)) (λ p. inr p) (more.0 h)),
     )
 
-pub graph_is : (t : Table) (blocks : List JoinedBlock) (signs : List Sign) (rows : List ℕ) (k : ℕ)
-    → length blocks ≤ k
-    → HasArcsUpTo rows blocks signs k → HasArcsOf t blocks
+pub graph_is : (t : Table) (batches : List JoinedBatch) (signs : List Sign) (rows : List ℕ) (k : ℕ)
+    → length batches ≤ k
+    → HasArcsUpTo rows batches signs k → HasArcsOf t batches
     → IsCellGraph t signs rows
-graph_is t blocks signs rows k le all tells a b = (
+graph_is t batches signs rows k le all tells a b = (
   λ h. (tells.arcs signs a b).0 (subst (λ l. IsArcAt l signs a b) whole ((all a b).0 h)),
   λ h. (all a b).1 (subst (λ l. IsArcAt l signs a b) (sym whole) ((tells.arcs signs a b).1 h)),
 )
   where
-    whole : take k blocks ≡ blocks
-    whole = take_all k blocks le
+    whole : take k batches ≡ batches
+    whole = take_all k batches le
 
 -- the arcs by the signs of a direction are those at the direction
 pub graph_at : (t : Table) (d : V3) (signs : List Sign) (rows : List ℕ) → IsTable t → IsCellGraph t signs rows

@@ -6,7 +6,7 @@ use Rattle.std.proofs.lemmas.Nat.{one_shl, pow-add}
 use Rattle.staat_vec.specs.declared.vector.Sign.{Sign}
 use Rattle.staat_model.specs.Cells.{sign_place}
 use Rattle.staat_cells.specs.Packing.{packed, packed_after}
-use Rattle.staat_cells.proofs.Changing.{below, packed_more, two_four}
+use Rattle.staat_cells.proofs.ZeroSignLemmas.{below, packed_more, two_four}
 
 pub power_is : (count : ℕ) → count ≤ 32 → (1 * 2 ^ (2 * count)) % 2 ^ 128 ≡ 4 ^ count
 power_is count le = one_shl (2 * count) 128 (omega arith) ∙ two_four count

@@ -1,6 +1,6 @@
 pub mod Halves
 pub mod Patching
-pub mod Changing
+pub mod ZeroSignLemmas
 pub mod ZeroPlaces
 pub mod Filling
 pub mod KindLists
@@ -30,10 +30,10 @@ pub mod Beside
 pub mod Elements
 pub mod Cones
 pub mod ConeTests
-pub mod BlockCones
+pub mod BatchCones
 pub mod FacetPlanes
 pub mod PartArcs
-pub mod JoinedTests
+pub mod JoinedBatches
 pub mod GraphRows
 pub mod MachineWords
 pub mod Narrowing

@@ -11,7 +11,7 @@ use Rattle.staat_model.specs.declared.tree.Kind.TheVariants.{Edge, Open}
 use Rattle.staat_model.specs.Cells.{signs_of, CellEntry, IsBorder}
 use Rattle.staat_cells.specs.declared.cell.Cell.{Cell}
 use Rattle.staat_cells.specs.declared.incidence.Incidence.{Incidence}
-use Rattle.staat_cells.specs.Changes.{HasFewSigns}
+use Rattle.staat_cells.specs.ZeroSigns.{HasFewSigns}
 use Rattle.staat_cells.specs.Compositions.{entry_of, no_cell, no_incidence}
 use Rattle.staat_cells.specs.Packing.{incidence_of}
 use Rattle.staat_cells.specs.Beside.{filled}

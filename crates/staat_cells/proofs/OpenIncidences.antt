@@ -76,7 +76,6 @@ border_filled (x ∷ e) (y ∷ s) one none b = go x y one none b.0 (border_fille
 -- ---- directions
 
 module _ (planes : List V3) (d c : V3) (some : c ≢ origin) (c_in : Contains planes c) (on : dot c d ≡ pos 0) (only : (g : V3) → Contains planes g → (g ≡ c) ⊎ (dot g d ≢ pos 0)) where
-
   keeps : (s t u : Sign) → s ≢ Zero → then_sign s t ≡ then_sign s u
   keeps Neg t u n = refl
   keeps Zero t u n = absurd (n refl)

@@ -6,9 +6,9 @@ use Rattle.std.proofs.lemmas.List.{take_all}
 use Rattle.staat_vec.specs.declared.vector.Sign.{Sign}
 use Rattle.staat_pairs.specs.Searches.{arc_of}
 use Rattle.staat_pairs.specs.Tables.{IsTable, IsTableArc, Table, facets_of, pieces_of}
-use Rattle.staat_cells.specs.declared.blocks.Block.{Block}
-use Rattle.staat_cells.specs.declared.half_spaces.Side.{Side}
-use Rattle.staat_cells.specs.Blocks.{IsBlock}
+use Rattle.staat_cells.specs.declared.batches.Batch.{Batch}
+use Rattle.staat_cells.specs.declared.half_spaces.HalfSpace.{HalfSpace}
+use Rattle.staat_cells.specs.Batches.{IsBatch}
 use Rattle.staat_cells.specs.CellGraphs.{AddsArcs, AddsCone, AddsCones, AddsConesOf, ArePartsAhead, ListsArcsOf, IsListedArc}
 use Rattle.staat_cells.specs.CellGraphs.{IsAheadBy, IsFromPart, IsPairAhead, IsPieceAhead}
 use Rattle.staat_cells.specs.HalfSpaces.{AreAhead, AreInside}
@@ -22,10 +22,10 @@ use Rattle.staat_vec.proofs.Naturals.{lt_one_more_cases}
 abbrev pub Below : (ℕ → List Sign → Type 0) → ℕ → List Sign → Type 0
 Below F k signs = (j : ℕ) × (j < k) × F j signs
 
-pub no_cones : (F : ℕ → List Sign → Type 0) (old : List (List Side)) → AddsCones (Below F 0) old old
+pub no_cones : (F : ℕ → List Sign → Type 0) (old : List (List HalfSpace)) → AddsCones (Below F 0) old old
 no_cones F old signs = (λ h. inl h, ⊎_elim (λ h. h) (λ p. absurd (let lt = p.1 in omega (arith, lt))))
 
-pub more_cones : (F : ℕ → List Sign → Type 0) (k : ℕ) (old mid new : List (List Side))
+pub more_cones : (F : ℕ → List Sign → Type 0) (k : ℕ) (old mid new : List (List HalfSpace))
     → AddsCones (Below F k) old mid
     → AddsCones (F k) mid new → AddsCones (Below F (k + 1)) old new
 more_cones F k old mid new p q signs = either_more (p signs) (q signs) (from, to)
@@ -39,7 +39,7 @@ more_cones F k old mid new p q signs = either_more (p signs) (q signs) (from, to
     to (inl (j, lt, h)) = (j, omega (arith, lt), h)
     to (inr h) = (k, omega arith, h)
 
-same_cones : (P Q : List Sign → Type 0) (old new : List (List Side)) → AddsCones P old new
+same_cones : (P Q : List Sign → Type 0) (old new : List (List HalfSpace)) → AddsCones P old new
     → ((signs : List Sign) → P signs ↔ Q signs)
     → AddsCones Q old new
 same_cones P Q old new p both signs = (
@@ -50,7 +50,7 @@ same_cones P Q old new p both signs = (
 )
 
 -- a pair of pieces more
-pub pair_more : (t : Table) (a i b j : ℕ) (old mid new : List (List Side)) (cone : List Side)
+pub pair_more : (t : Table) (a i b j : ℕ) (old mid new : List (List HalfSpace)) (cone : List HalfSpace)
     → IsTableArc t (arc_of a i b j)
     → AreAhead t.planes (facets_of t (arc_of a i b j)) cone
     → ((signs : List Sign) → Any (AreInside signs) new ↔ (Any (AreInside signs) mid ⊎ AreInside signs cone))
@@ -64,7 +64,7 @@ pair_more t a i b j old mid new cone across ahead grew before =
           (λ p. (grew signs).1 (inr ((ahead signs).1 p.1))),
     ))
 
-pub pieces_listed : (t : Table) (a i b k : ℕ) (old new : List (List Side)) → pieces_of t b ≤ k
+pub pieces_listed : (t : Table) (a i b k : ℕ) (old new : List (List HalfSpace)) → pieces_of t b ≤ k
     → AddsCones (Below (IsPairAhead t a i b) k) old new → AddsCones (IsPieceAhead t a b i) old new
 pieces_listed t a i b k old new le p =
     same_cones (Below (IsPairAhead t a i b) k) (IsPieceAhead t a b i) old new p (λ signs. (from signs, to signs))
@@ -76,7 +76,7 @@ pieces_listed t a i b k old new le p =
     to signs h = (h.j, (let lt = h.across.j_is in omega (arith, lt, le)), (h.across, h.ahead))
 
 -- all pairs of pieces of two parts, with nothing before
-pub parts_listed : (t : Table) (a b k : ℕ) (new : List (List Side)) → pieces_of t a ≤ k
+pub parts_listed : (t : Table) (a b k : ℕ) (new : List (List HalfSpace)) → pieces_of t a ≤ k
     → AddsCones (Below (IsPieceAhead t a b) k) [] new
     → (signs : List Sign) → Any (AreInside signs) new ↔ IsAheadBy t signs a b
 parts_listed t a b k new le p signs = (
@@ -93,22 +93,22 @@ parts_listed t a b k new le p signs = (
 
 -- ---- parts
 
-pub adds_none : (P : List Sign → ℕ → ℕ → Type 0) (old : List Block) → All IsBlock old
+pub adds_none : (P : List Sign → ℕ → ℕ → Type 0) (old : List Batch) → All IsBatch old
     → ((signs : List Sign) (a b : ℕ) → P signs a b → ⊥) → AddsArcs P old old
 adds_none P old rules none = record {
   arcs = λ signs a b. (λ h. inl h, ⊎_elim (λ h. h) (λ p. absurd (none signs a b p)));
-  blocks = rules;
+  batches = rules;
 }
 
-adds_both : (P Q R : List Sign → ℕ → ℕ → Type 0) (old mid new : List Block) → AddsArcs P old mid
+adds_both : (P Q R : List Sign → ℕ → ℕ → Type 0) (old mid new : List Batch) → AddsArcs P old mid
     → AddsArcs Q mid new
     → ((signs : List Sign) (a b : ℕ) → R signs a b ↔ (P signs a b ⊎ Q signs a b)) → AddsArcs R old new
 adds_both P Q R old mid new p q either = record {
   arcs = λ signs a b. either_more (p.arcs signs a b) (q.arcs signs a b) (either signs a b);
-  blocks = q.blocks;
+  batches = q.batches;
 }
 
-pub adds_same : (P Q : List Sign → ℕ → ℕ → Type 0) (old new : List Block) → AddsArcs P old new
+pub adds_same : (P Q : List Sign → ℕ → ℕ → Type 0) (old new : List Batch) → AddsArcs P old new
     → ((signs : List Sign) (a b : ℕ) → P signs a b ↔ Q signs a b) → AddsArcs Q old new
 adds_same P Q old new p both = record {
   arcs = λ signs a b. (
@@ -117,19 +117,19 @@ adds_same P Q old new p both = record {
     ⊎_elim {C = IsListedArc new signs a b} (λ h. (p.arcs signs a b).1 (inl h))
         (λ h. (p.arcs signs a b).1 (inr ((both signs a b).1 h))),
   );
-  blocks = p.blocks;
+  batches = p.batches;
 }
 
 -- F holds of some number below k
 abbrev pub BelowParts : (ℕ → List Sign → ℕ → ℕ → Type 0) → ℕ → List Sign → ℕ → ℕ → Type 0
 BelowParts F k signs a b = (j : ℕ) × (j < k) × F j signs a b
 
-pub below_none : (F : ℕ → List Sign → ℕ → ℕ → Type 0) (old : List Block) → All IsBlock old
+pub below_none : (F : ℕ → List Sign → ℕ → ℕ → Type 0) (old : List Batch) → All IsBatch old
     → AddsArcs (BelowParts F 0) old old
 below_none F old rules = adds_none (BelowParts F 0) old rules
     (λ signs a b h. absurd (let lt = h.1 in omega (arith, lt)))
 
-pub below_more : (F : ℕ → List Sign → ℕ → ℕ → Type 0) (k : ℕ) (old mid new : List Block)
+pub below_more : (F : ℕ → List Sign → ℕ → ℕ → Type 0) (k : ℕ) (old mid new : List Batch)
     → AddsArcs (BelowParts F k) old mid
     → AddsArcs (F k) mid new → AddsArcs (BelowParts F (k + 1)) old new
 below_more F k old mid new p q = adds_both (BelowParts F k) (F k) (BelowParts F (k + 1)) old mid new p q
@@ -143,7 +143,7 @@ below_more F k old mid new p q = adds_both (BelowParts F k) (F k) (BelowParts F 
     to signs a b (inl (j, lt, h)) = (j, omega (arith, lt), h)
     to signs a b (inr h) = (k, omega arith, h)
 
-pub from_listed : (t : Table) (a k : ℕ) (old new : List Block) → IsTable t → 32 ≤ k
+pub from_listed : (t : Table) (a k : ℕ) (old new : List Batch) → IsTable t → 32 ≤ k
     → AddsArcs (BelowParts (ArePartsAhead t a) k) old new
     → AddsArcs (IsFromPart t a) old new
 from_listed t a k old new is le p = adds_same (BelowParts (ArePartsAhead t a) k) (IsFromPart t a) old new p
@@ -155,7 +155,7 @@ from_listed t a k old new is le p = adds_same (BelowParts (ArePartsAhead t a) k)
     to : (signs : List Sign) (x y : ℕ) → IsFromPart t a signs x y → BelowParts (ArePartsAhead t a) k signs x y
     to signs x y (e, h) = (y, (let lt = is.small y h.across.b_in in omega (arith, lt, le)), (e, refl, h))
 
-pub all_listed : (t : Table) (k : ℕ) (new : List Block) → IsTable t → 32 ≤ k
+pub all_listed : (t : Table) (k : ℕ) (new : List Batch) → IsTable t → 32 ≤ k
     → AddsArcs (BelowParts (IsFromPart t) k) [] new → ListsArcsOf t new
 all_listed t k new is le p signs a b = (
   λ h. ⊎_elim {C = IsAheadBy t signs a b} (λ none. absurd (let lt = none.2 in omega (arith, lt))) (λ f. from f)
@@ -168,18 +168,18 @@ all_listed t k new is le p signs a b = (
 
 -- ---- cones of two parts
 
-pub no_cones_added : (a b : ℕ) (old : List Block) → All IsBlock old → AddsConesOf [] a b old old
+pub no_cones_added : (a b : ℕ) (old : List Batch) → All IsBatch old → AddsConesOf [] a b old old
 no_cones_added a b old rules = record {
   arcs = λ signs x y. (λ h. inl h, ⊎_elim (λ h. h) (λ p. absurd (let lt = p.2.2 in omega (arith, lt))));
-  blocks = rules;
+  batches = rules;
 }
 
-pub cone_added : (cones : List (List Side)) (cone : List Side) (k a b : ℕ) (old mid new : List Block)
+pub cone_added : (cones : List (List HalfSpace)) (cone : List HalfSpace) (k a b : ℕ) (old mid new : List Batch)
     → k < length cones → cone ≡ get_or cones k cone → AddsConesOf (take k cones) a b old mid
     → AddsCone cone a b mid new → AddsConesOf (take (k + 1) cones) a b old new
 cone_added cones cone k a b old mid new lt at before one = record {
   arcs = λ signs x y. either_more (before.arcs signs x y) (one.arcs signs x y) (either signs x y);
-  blocks = one.blocks;
+  batches = one.batches;
 }
   where
     either : (signs : List Sign) (x y : ℕ) → ((x ≡ a) × (y ≡ b) × Any (AreInside signs) (take (k + 1) cones))
@@ -194,11 +194,11 @@ cone_added cones cone k a b old mid new lt at before one = record {
               (λ o. (o.0, o.1, more.1 (inl o.2))) (λ p. (p.0, p.1, more.1 (inr p.2))),
         )
 
-pub cones_added : (cones : List (List Side)) (k a b : ℕ) (old new : List Block) → length cones ≤ k
+pub cones_added : (cones : List (List HalfSpace)) (k a b : ℕ) (old new : List Batch) → length cones ≤ k
     → AddsConesOf (take k cones) a b old new → AddsConesOf cones a b old new
 cones_added cones k a b old new le = subst (λ l. AddsConesOf l a b old new) (take_all k cones le)
 
-pub pair_added : (t : Table) (a b : ℕ) (cones : List (List Side)) (old new : List Block)
+pub pair_added : (t : Table) (a b : ℕ) (cones : List (List HalfSpace)) (old new : List Batch)
     → ((signs : List Sign) → Any (AreInside signs) cones ↔ IsAheadBy t signs a b)
     → AddsConesOf cones a b old new → AddsArcs (ArePartsAhead t a b) old new
 pair_added t a b cones old new ahead added = record {
@@ -208,5 +208,5 @@ pair_added t a b cones old new ahead added = record {
     ⊎_elim {C = IsListedArc new signs x y} (λ o. (added.arcs signs x y).1 (inl o))
         (λ p. (added.arcs signs x y).1 (inr (p.0, p.1, (ahead signs).1 p.2))),
   );
-  blocks = added.blocks;
+  batches = added.batches;
 }

@@ -12,7 +12,7 @@ use Rattle.staat_vec.specs.declared.vector.Sign.TheVariants.{Neg, Zero, Pos}
 use Rattle.staat_vec.specs.Vectors.{dot, sign}
 use Rattle.staat_model.specs.Cells.{is_zero, signs_of}
 use Rattle.staat_cells.specs.declared.incidence.Incidence.{Incidence}
-use Rattle.staat_cells.specs.Changes.{HasIncidenceZeroAt, IsZeroAt}
+use Rattle.staat_cells.specs.ZeroSigns.{HasIncidenceZeroAt, IsZeroAt}
 use Rattle.staat_cells.specs.Compositions.{composed}
 use Rattle.staat_cells.specs.Packing.{incidence_of}
 use Rattle.staat_cells.specs.Beside.{then_sign}

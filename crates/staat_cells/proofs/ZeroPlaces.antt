@@ -11,7 +11,7 @@ use Rattle.staat_vec.specs.declared.vector.Sign.TheVariants.{Pos, Zero}
 use Rattle.staat_model.specs.Cells.{is_zero, signs_of}
 use Rattle.staat_cells.specs.declared.incidence.Incidence.{Incidence}
 use Rattle.staat_cells.specs.Beside.{then_sign}
-use Rattle.staat_cells.specs.Changes.{HasIncidenceZeroAt, IsZeroAt, zero_places}
+use Rattle.staat_cells.specs.ZeroSigns.{HasIncidenceZeroAt, IsZeroAt, zero_places}
 use Rattle.staat_cells.specs.Compositions.{composed}
 use Rattle.staat_cells.specs.Packing.{incidence_of}
 use Rattle.staat_cells.proofs.Patching.{changed_incidence, other_is, patched, patched_end, patched_kept, towards_at}

@@ -12,7 +12,7 @@ use Rattle.staat_vec.proofs.Unique.{Contains-cases, Contains-front, Contains-lat
 use Rattle.staat_model.proofs.Differences.{from_map}
 use Rattle.staat_model.specs.Cells.{is_zero, signs_of}
 use Rattle.staat_cells.specs.declared.incidence.Incidence.{Incidence}
-use Rattle.staat_cells.specs.Changes.{zero_places}
+use Rattle.staat_cells.specs.ZeroSigns.{zero_places}
 use Rattle.staat_cells.specs.Stages.{GrewByAll, IsBesideIncidence}
 use Rattle.staat_cells.proofs.PushingIncidences.{no_planes, planes_more, grew_same}
 use Rattle.staat_vec.proofs.ListLaws.{Contains-map}

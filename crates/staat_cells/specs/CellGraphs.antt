@@ -5,10 +5,10 @@ use Rattle.staat_vec.specs.declared.vector.Sign.{Sign}
 use Rattle.staat_graph.specs.Graphs.{HasArc}
 use Rattle.staat_pairs.specs.Searches.{arc_of}
 use Rattle.staat_pairs.specs.Tables.{IsTable, IsTableArc, Table, facets_of}
-use Rattle.staat_cells.specs.declared.blocks.Block.{Block}
-use Rattle.staat_cells.specs.declared.half_spaces.Side.{Side}
-use Rattle.staat_cells.specs.declared.joined.JoinedBlock.{JoinedBlock}
-use Rattle.staat_cells.specs.Blocks.{IsBlock, IsBlockArc, IsJoinedArc}
+use Rattle.staat_cells.specs.declared.batches.Batch.{Batch}
+use Rattle.staat_cells.specs.declared.half_spaces.HalfSpace.{HalfSpace}
+use Rattle.staat_cells.specs.declared.joined_batches.JoinedBatch.{JoinedBatch}
+use Rattle.staat_cells.specs.Batches.{IsBatch, IsBatchArc, IsJoinedArc}
 use Rattle.staat_cells.specs.HalfSpaces.{AreInside, IsSignAhead}
 
 -- directions with these signs lead ahead of all facets of piece i of the part a against some piece of the part b
@@ -29,45 +29,45 @@ abbrev pub IsCellGraph : Table → List Sign → List ℕ → Type 0
 IsCellGraph t signs rows = (a b : ℕ) → HasArc rows a b ↔ IsAheadBy t signs a b
 
 -- directions with these signs lead ahead of some two pieces of the parts a and b
-abbrev pub IsArcAt : List JoinedBlock → List Sign → ℕ → ℕ → Type 0
-IsArcAt blocks signs a b = Any (λ block. IsJoinedArc block signs a b) blocks
+abbrev pub IsArcAt : List JoinedBatch → List Sign → ℕ → ℕ → Type 0
+IsArcAt batches signs a b = Any (λ batch. IsJoinedArc batch signs a b) batches
 
--- the blocks tell the arcs that the table has by any signs
-pub record HasArcsOf (t : Table) (blocks : List JoinedBlock) : Type 0 where
+-- the batches tell the arcs that the table has by any signs
+pub record HasArcsOf (t : Table) (batches : List JoinedBatch) : Type 0 where
   pub rules : IsTable t
-  pub arcs : (signs : List Sign) (a b : ℕ) → IsArcAt blocks signs a b ↔ IsAheadBy t signs a b
+  pub arcs : (signs : List Sign) (a b : ℕ) → IsArcAt batches signs a b ↔ IsAheadBy t signs a b
 
 -- ---- while the cones and the arcs are listed
 
--- the same of blocks whose tests are not joined
-abbrev pub IsListedArc : List Block → List Sign → ℕ → ℕ → Type 0
-IsListedArc blocks signs a b = Any (λ block. IsBlockArc block signs a b) blocks
+-- the same of batches whose tests are not joined
+abbrev pub IsListedArc : List Batch → List Sign → ℕ → ℕ → Type 0
+IsListedArc batches signs a b = Any (λ batch. IsBatchArc batch signs a b) batches
 
-abbrev pub ListsArcsOf : Table → List Block → Type 0
-ListsArcsOf t blocks = (signs : List Sign) (a b : ℕ) → IsListedArc blocks signs a b ↔ IsAheadBy t signs a b
+abbrev pub ListsArcsOf : Table → List Batch → Type 0
+ListsArcsOf t batches = (signs : List Sign) (a b : ℕ) → IsListedArc batches signs a b ↔ IsAheadBy t signs a b
 
 -- the list has grown by cones of the directions whose signs have P
-abbrev pub AddsCones : (List Sign → Type 0) → List (List Side) → List (List Side) → Type 0
+abbrev pub AddsCones : (List Sign → Type 0) → List (List HalfSpace) → List (List HalfSpace) → Type 0
 AddsCones P old new = (signs : List Sign) → Any (AreInside signs) new ↔ (Any (AreInside signs) old ⊎ P signs)
 
--- the blocks have grown by a cone of the parts a and b
-pub record AddsCone (cone : List Side) (a b : ℕ) (old new : List Block) : Type 0 where
+-- the batches have grown by a cone of the parts a and b
+pub record AddsCone (cone : List HalfSpace) (a b : ℕ) (old new : List Batch) : Type 0 where
   pub arcs : (signs : List Sign) (x y : ℕ)
       → IsListedArc new signs x y ↔ (IsListedArc old signs x y ⊎ ((x ≡ a) × (y ≡ b) × AreInside signs cone))
-  pub blocks : All IsBlock new
+  pub batches : All IsBatch new
 
 -- by cones of the parts a and b
-pub record AddsConesOf (cones : List (List Side)) (a b : ℕ) (old new : List Block) : Type 0 where
+pub record AddsConesOf (cones : List (List HalfSpace)) (a b : ℕ) (old new : List Batch) : Type 0 where
   pub arcs : (signs : List Sign) (x y : ℕ)
       → IsListedArc new signs x y ↔
       (IsListedArc old signs x y ⊎ ((x ≡ a) × (y ≡ b) × Any (AreInside signs) cones))
-  pub blocks : All IsBlock new
+  pub batches : All IsBatch new
 
--- the blocks have grown by what has the arcs of P
-pub record AddsArcs (P : List Sign → ℕ → ℕ → Type 0) (old new : List Block) : Type 0 where
+-- the batches have grown by what has the arcs of P
+pub record AddsArcs (P : List Sign → ℕ → ℕ → Type 0) (old new : List Batch) : Type 0 where
   pub arcs : (signs : List Sign) (a b : ℕ)
       → IsListedArc new signs a b ↔ (IsListedArc old signs a b ⊎ P signs a b)
-  pub blocks : All IsBlock new
+  pub batches : All IsBatch new
 
 -- these signs lead ahead of piece i of a and piece j of b
 abbrev pub IsPairAhead : Table → ℕ → ℕ → ℕ → ℕ → List Sign → Type 0

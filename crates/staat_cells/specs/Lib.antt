@@ -3,9 +3,9 @@ pub mod Packing
 pub mod Mirrors
 pub mod Compositions
 pub mod Stages
-pub mod Changes
+pub mod ZeroSigns
 pub mod HalfSpaces
-pub mod Blocks
+pub mod Batches
 pub mod CellGraphs
 pub mod Skeletons
 pub mod FirstCell

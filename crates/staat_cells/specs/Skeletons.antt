@@ -10,7 +10,7 @@ use Rattle.staat_model.specs.declared.tree.Kind.TheVariants.{Edge, Open, Point}
 use Rattle.staat_model.specs.Cells.{AreCellsOf, CellEntry}
 use Rattle.staat_cells.specs.declared.cell.Cell.{Cell}
 use Rattle.staat_cells.specs.declared.incidence.Incidence.{Incidence}
-use Rattle.staat_cells.specs.declared.lower.LowerCells.{LowerCells}
+use Rattle.staat_cells.specs.declared.lower_cells.LowerCells.{LowerCells}
 use Rattle.staat_cells.specs.declared.skeleton.Skeleton.{Skeleton}
 use Rattle.staat_cells.specs.Compositions.{HaveEqualLengths, HavePairs, begins_cell, composed_at, composed_up_to}
 use Rattle.staat_cells.specs.Compositions.{entry_of}

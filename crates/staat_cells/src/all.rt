@@ -8,7 +8,7 @@ ghost use Rattle.staat_cells.specs.Compositions.{entry_of};
 
 use crate::cell::{Cell, Cells};
 use crate::compose::push_composed;
-use crate::lower::LowerCells;
+use crate::lower_cells::LowerCells;
 use staat_limits::MOST_CELL_PLANES;
 use staat_model::Kind;
 use staat_planes::PlaneTable;

@@ -7,7 +7,7 @@ ghost use Rattle.staat_model.specs.Planes.{vertices};
 ghost use Rattle.staat_pairs.specs.Tables.{AreTablePlanes};
 ghost use Rattle.staat_model.specs.declared.tree.Kind.TheVariants.{Edge};
 ghost use Rattle.staat_cells.specs.declared.incidence.Incidence.{Incidence as IncidenceValue};
-ghost use Rattle.staat_cells.specs.Changes.{zero_places};
+ghost use Rattle.staat_cells.specs.ZeroSigns.{zero_places};
 ghost use Rattle.staat_cells.specs.Compositions.{entry_of};
 ghost use Rattle.staat_cells.specs.Packing.{incidence_of};
 ghost use Rattle.staat_cells.specs.Beside.{beside};
@@ -15,8 +15,8 @@ ghost use Rattle.staat_cells.specs.Stages.{GrewByAll, HaveSigns, IsAxisOff, IsBe
 ghost use Rattle.staat_cells.specs.Stages.{IsIncidence, IsVertexPoint};
 
 use crate::cell::Cell;
-use crate::change::{incidence_towards, zeros_of};
 use crate::incidence::Incidence;
+use crate::zero_signs::{incidence_towards, zeros_of};
 use staat_vec::{DIRECTION, NORMAL, OutOfMemory, Sign, V3, VERTEX, cross_normal, neg};
 use std::alloc::Global;
 

@@ -7,8 +7,8 @@ ghost use Rattle.staat_graph.specs.Blocking.{ShowsBlocking};
 ghost use Rattle.staat_pairs.specs.Tables.{Table, WasMadeFrom};
 ghost use Rattle.staat_cells.specs.CellGraphs.{HasArcsOf, IsCellGraph};
 
-use crate::joined::{JoinedBlock, add_block_arcs, joined_blocks};
-use crate::part_arcs::all_blocks;
+use crate::joined_batches::{JoinedBatch, add_batch_arcs, joined_batches};
+use crate::part_arcs::all_batches;
 use staat_graph::Graph;
 use staat_planes::PlaneTable;
 use staat_vec::{OutOfMemory, Sign};
@@ -18,19 +18,19 @@ use std::marker::Model;
 /// The cones of the directions ahead of the pieces of a table, so that signs alone tell which parts block which.
 #[derive(Drop)]
 pub struct CellGraphs {
-    blocks: Vec<JoinedBlock>,
+    batches: Vec<JoinedBatch>,
 }
 
 impl Model for CellGraphs {
     ghost use Rattle.std.specs.Prelude.{All, List};
-    ghost use Rattle.staat_cells.specs.declared.joined.JoinedBlock.{JoinedBlock};
-    ghost use Rattle.staat_cells.specs.Blocks.{IsJoinedBlock};
+    ghost use Rattle.staat_cells.specs.declared.joined_batches.JoinedBatch.{JoinedBatch};
+    ghost use Rattle.staat_cells.specs.Batches.{IsJoinedBatch};
 
-    ghost Value = { List JoinedBlock };
+    ghost Value = { List JoinedBatch };
 
-    ghost view = { λ g. g.blocks.items };
+    ghost view = { λ g. g.batches.items };
 
-    ghost invariant = { λ g. All IsJoinedBlock g.blocks.items };
+    ghost invariant = { λ g. All IsJoinedBatch g.batches.items };
 }
 
 impl CellGraphs {
@@ -39,9 +39,9 @@ impl CellGraphs {
     pub fn of(alloc: Global, table: &PlaneTable) -> Result<CellGraphs, OutOfMemory>
         ensures { IfOk result (λ graphs. HasArcsOf table.now graphs) }
     {
-        let blocks = all_blocks(alloc, table)?;
+        let batches = all_batches(alloc, table)?;
         Ok(CellGraphs {
-            blocks: joined_blocks(alloc, &blocks)?,
+            batches: joined_batches(alloc, &batches)?,
         })
     }
 
@@ -53,8 +53,8 @@ impl CellGraphs {
             → WasMadeFrom parts t → signs_of t.planes d ≡ signs.now → ShowsBlocking parts d t.of result.rows }
     {
         let mut rows = [0u32; 32];
-        for block in &self.blocks {
-            add_block_arcs(&mut rows, block, signs);
+        for batch in &self.batches {
+            add_batch_arcs(&mut rows, batch, signs);
         }
         Graph { rows }
     }

@@ -3,25 +3,25 @@ ghost use Rattle.std.specs.Prelude.{◌≡◌, ◌<◌, ◌⊎◌, ◌↔◌};
 ghost use Rattle.std.specs.Prelude.{All, Any, Contains, IfOk, IsTrue, List, OnOk, Some, length, slice_get};
 ghost use Rattle.staat_vec.specs.declared.vector.Sign.{Sign as SignValue};
 ghost use Rattle.staat_pairs.specs.Tables.{AreTablePlanes, IsTableArc, IsTableFacet, facets_of};
-ghost use Rattle.staat_cells.specs.HalfSpaces.{AreAhead, AreAmong, AreInside, IsOnSide, IsSignAhead};
+ghost use Rattle.staat_cells.specs.HalfSpaces.{AreAhead, AreAmong, AreInside, IsInHalfSpace, IsSignAhead};
 
 use staat_model::Arc;
 use staat_planes::PlaneTable;
 use staat_vec::{Listed, OutOfMemory, Sign, V3, canon, is_same};
 use std::alloc::Global;
 
-/// A side of a plane of a table: the number of the plane, and its sign on that side.
+/// An open half-space that a plane of a table bounds: the number of the plane, and its sign there.
 #[derive(Clone, Copy, PartialEq, Eq)]
-pub struct Side {
+pub struct HalfSpace {
     pub(crate) plane: usize,
     pub(crate) sign: Sign,
 }
 
-/// Open half-spaces, each a side of a plane.
-pub type HalfSpaces = Listed<Side>;
+/// Open half-spaces, each bounded by a plane.
+pub type HalfSpaces = Listed<HalfSpace>;
 
 // the number of a plane
-fn number_of(planes: &[V3], n: V3) -> usize
+fn number_of_plane(planes: &[V3], n: V3) -> usize
     requires { Contains planes.now n }
     ensures is { slice_get planes.now result ≡ Some n }
     ensures place { result < length planes.now }
@@ -35,21 +35,21 @@ fn number_of(planes: &[V3], n: V3) -> usize
     0
 }
 
-// the side of a plane that is ahead of a facet
-fn side_ahead(planes: &[V3], n: V3) -> Side
+// the half-space that is ahead of a facet
+fn half_space_ahead(planes: &[V3], n: V3) -> HalfSpace
     requires rules { AreTablePlanes planes.now }
     requires facet { IsTableFacet planes.now n }
-    ensures { (signs : List SignValue) → IsOnSide signs result ↔ IsSignAhead planes.now signs n }
+    ensures { (signs : List SignValue) → IsInHalfSpace signs result ↔ IsSignAhead planes.now signs n }
 {
     let normal = canon(n);
-    let plane = number_of(planes, normal);
+    let plane = number_of_plane(planes, normal);
     if is_same(normal, n) {
-        Side {
+        HalfSpace {
             plane,
             sign: Sign::Pos,
         }
     } else {
-        Side {
+        HalfSpace {
             plane,
             sign: Sign::Neg,
         }
@@ -61,31 +61,31 @@ pub(crate) fn half_spaces(
     alloc: Global,
     table: &PlaneTable,
     arc: Arc,
-) -> Result<Vec<Side>, OutOfMemory>
+) -> Result<Vec<HalfSpace>, OutOfMemory>
     requires { IsTableArc table.now arc }
-    ensures { IfOk result (λ sides. AreAhead table.now.planes (facets_of table.now arc) sides.items) }
+    ensures { IfOk result (λ half_spaces. AreAhead table.now.planes (facets_of table.now arc) half_spaces.items) }
 {
     let planes = table.planes();
     let mut found = Vec::new(alloc);
     for m in 0..table.facet_count(arc) {
-        found.push(side_ahead(planes, table.facet(arc, m)))?;
+        found.push(half_space_ahead(planes, table.facet(arc, m)))?;
     }
     Ok(found)
 }
 
-// whether a side is listed
-fn has_side(sides: &[Side], side: Side) -> bool
-    ensures { IsTrue result ↔ Contains sides.now side }
+// whether a half-space is listed
+fn has_half_space(half_spaces: &[HalfSpace], half_space: HalfSpace) -> bool
+    ensures { IsTrue result ↔ Contains half_spaces.now half_space }
 {
-    sides.contains(&side)
+    half_spaces.contains(&half_space)
 }
 
-// whether each side of one cone is a side of the other
-fn are_among(cone: &[Side], other: &[Side]) -> bool
+// whether each half-space of one cone is one of the other
+fn are_among(cone: &[HalfSpace], other: &[HalfSpace]) -> bool
     ensures { IsTrue result ↔ AreAmong cone.now other.now }
 {
-    for side in cone {
-        if !has_side(other, *side) {
+    for half_space in cone {
+        if !has_half_space(other, *half_space) {
             return false;
         }
     }
@@ -93,7 +93,7 @@ fn are_among(cone: &[Side], other: &[Side]) -> bool
 }
 
 // whether one of the cones holds all that the cone holds
-fn any_wider(cones: &[HalfSpaces], cone: &[Side]) -> bool
+fn any_wider(cones: &[HalfSpaces], cone: &[HalfSpace]) -> bool
     ensures { IsTrue result ↔ Any (λ wider. AreAmong wider cone.now) cones.now }
 {
     for wider in cones {
@@ -104,15 +104,18 @@ fn any_wider(cones: &[HalfSpaces], cone: &[Side]) -> bool
     false
 }
 
-/// Whether two cones have the same sides in the same order.
-pub(crate) fn is_same_cone(cone: &[Side], other: &[Side]) -> bool
+/// Whether two cones have the same half-spaces in the same order.
+pub(crate) fn is_same_cone(cone: &[HalfSpace], other: &[HalfSpace]) -> bool
     ensures { IsTrue result ↔ (cone.now ≡ other.now) }
 {
     cone == other
 }
 
 /// Adds a cone, unless it lies in one that is listed.
-pub(crate) fn push_cone(cones: &mut Vec<HalfSpaces>, cone: Vec<Side>) -> Result<(), OutOfMemory>
+pub(crate) fn push_cone(
+    cones: &mut Vec<HalfSpaces>,
+    cone: Vec<HalfSpace>,
+) -> Result<(), OutOfMemory>
     ensures { OnOk result ((signs : List SignValue) → Any (AreInside signs) cones.new.items
         ↔ (Any (AreInside signs) cones.old.items ⊎ AreInside signs cone.items)) }
 {
@@ -124,7 +127,7 @@ pub(crate) fn push_cone(cones: &mut Vec<HalfSpaces>, cone: Vec<Side>) -> Result<
 }
 
 /// A cone once more.
-pub(crate) fn copied(alloc: Global, cone: &[Side]) -> Result<Vec<Side>, OutOfMemory>
+pub(crate) fn copied(alloc: Global, cone: &[HalfSpace]) -> Result<Vec<HalfSpace>, OutOfMemory>
     ensures { IfOk result (λ same. same.items ≡ cone.now) }
 {
     Ok(cone.to_vec(alloc)?)

@@ -2,26 +2,26 @@
 #![tactic(auto)]
 
 mod all;
-mod blocks;
+mod batches;
 mod cell;
-mod change;
 mod compose;
 mod edge_incidences;
 mod first_cell;
 mod graphs;
 mod half_spaces;
 mod incidence;
-mod joined;
+mod joined_batches;
 pub mod laws;
-mod lower;
-mod narrow;
+mod lower_cells;
 mod open_incidences;
 mod order;
 mod part_arcs;
+mod plane_signs;
 mod points;
 mod signs;
 mod skeleton;
 mod vertices;
+mod zero_signs;
 
 pub use all::all_cells;
 pub use cell::{Cell, Cells, Signs};

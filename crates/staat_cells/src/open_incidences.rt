@@ -4,15 +4,15 @@ ghost use Rattle.std.specs.Prelude.{All, Contains, IfOk, List, OnOk, length, map
 ghost use Rattle.staat_vec.specs.declared.vector.Sign.{Sign as SignValue};
 ghost use Rattle.staat_vec.specs.declared.vector.Sign.TheVariants.{Neg, Pos};
 ghost use Rattle.staat_cells.specs.declared.incidence.Incidence.{Incidence as IncidenceValue};
-ghost use Rattle.staat_cells.specs.Changes.{HasFewSigns};
+ghost use Rattle.staat_cells.specs.ZeroSigns.{HasFewSigns};
 ghost use Rattle.staat_cells.specs.Compositions.{entry_of};
 ghost use Rattle.staat_cells.specs.Packing.{incidence_of};
 ghost use Rattle.staat_cells.specs.Beside.{filled};
 ghost use Rattle.staat_cells.specs.Stages.{HaveSigns, IsFilledIncidence};
 
 use crate::cell::Cell;
-use crate::change::incidence_filled;
 use crate::incidence::Incidence;
+use crate::zero_signs::incidence_filled;
 use staat_vec::{OutOfMemory, Sign};
 
 // adds both incidences of the edge with the number k, from one with its signs

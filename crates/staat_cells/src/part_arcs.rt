@@ -3,12 +3,12 @@ ghost use Rattle.std.specs.Prelude.{◌≡◌, ◌≢◌, ◌<◌, ◌↔◌, Al
 ghost use Rattle.staat_vec.specs.declared.vector.Sign.{Sign as SignValue};
 ghost use Rattle.staat_model.specs.Sets.{Has};
 ghost use Rattle.staat_pairs.specs.Tables.{IsTable, IsTableArc, pieces_of};
-ghost use Rattle.staat_cells.specs.Blocks.{IsBlock};
+ghost use Rattle.staat_cells.specs.Batches.{IsBatch};
 ghost use Rattle.staat_cells.specs.CellGraphs.{AddsArcs, AddsCones, AddsConesOf, ArePartsAhead, ListsArcsOf};
 ghost use Rattle.staat_cells.specs.CellGraphs.{IsAheadBy, IsAheadFromBy, IsFromPart, IsPairAhead, IsPieceAhead};
 ghost use Rattle.staat_cells.specs.HalfSpaces.{AreInside};
 
-use crate::blocks::{Block, add_cone};
+use crate::batches::{Batch, add_cone};
 use crate::half_spaces::{HalfSpaces, half_spaces, push_cone, wide_cones};
 use staat_limits::MOST_PARTS;
 use staat_model::{Arc, PartSet};
@@ -65,15 +65,15 @@ fn add_cones(
     cones: &[HalfSpaces],
     a: u32,
     b: u32,
-    blocks: &mut Vec<Block>,
+    batches: &mut Vec<Batch>,
 ) -> Result<(), OutOfMemory>
-    requires blocks { All IsBlock blocks.old.items }
+    requires batches { All IsBatch batches.old.items }
     requires a { a < MOST_PARTS }
     requires b { b < MOST_PARTS }
-    ensures { OnOk result (AddsConesOf cones.now a b blocks.old.items blocks.new.items) }
+    ensures { OnOk result (AddsConesOf cones.now a b batches.old.items batches.new.items) }
 {
     for k in 0..cones.len() {
-        add_cone(alloc, blocks, cones[k].as_slice(), a, b)?;
+        add_cone(alloc, batches, cones[k].as_slice(), a, b)?;
     }
     Ok(())
 }
@@ -84,18 +84,18 @@ fn push_pair(
     table: &PlaneTable,
     a: u32,
     b: u32,
-    blocks: &mut Vec<Block>,
+    batches: &mut Vec<Batch>,
 ) -> Result<(), OutOfMemory>
     requires rules { IsTable table.now }
-    requires blocks { All IsBlock blocks.old.items }
+    requires batches { All IsBatch batches.old.items }
     requires a_in { Has table.now.of a }
     requires b_in { Has table.now.of b }
     requires different { a ≢ b }
-    ensures { OnOk result (AddsArcs (ArePartsAhead table.now a b) blocks.old.items blocks.new.items) }
+    ensures { OnOk result (AddsArcs (ArePartsAhead table.now a b) batches.old.items batches.new.items) }
 {
     let all = cones_of(alloc, table, a, b)?;
     let wide = wide_cones(alloc, &all)?;
-    add_cones(alloc, &wide, a, b, blocks)
+    add_cones(alloc, &wide, a, b, batches)
 }
 
 // adds two parts, and none where they are one or not both in the set
@@ -105,17 +105,17 @@ fn push_parts(
     set: PartSet,
     a: u32,
     b: u32,
-    blocks: &mut Vec<Block>,
+    batches: &mut Vec<Batch>,
 ) -> Result<(), OutOfMemory>
     requires rules { IsTable table.now }
-    requires blocks { All IsBlock blocks.old.items }
+    requires batches { All IsBatch batches.old.items }
     requires set { set ≡ table.now.of }
     requires a { a < MOST_PARTS }
     requires b { b < MOST_PARTS }
-    ensures { OnOk result (AddsArcs (ArePartsAhead table.now a b) blocks.old.items blocks.new.items) }
+    ensures { OnOk result (AddsArcs (ArePartsAhead table.now a b) batches.old.items batches.new.items) }
 {
     if a != b && set.has(a) && set.has(b) {
-        push_pair(alloc, table, a, b, blocks)
+        push_pair(alloc, table, a, b, batches)
     } else {
         Ok(())
     }
@@ -127,30 +127,30 @@ fn push_from(
     table: &PlaneTable,
     set: PartSet,
     a: u32,
-    blocks: &mut Vec<Block>,
+    batches: &mut Vec<Batch>,
 ) -> Result<(), OutOfMemory>
     requires rules { IsTable table.now }
-    requires blocks { All IsBlock blocks.old.items }
+    requires batches { All IsBatch batches.old.items }
     requires set { set ≡ table.now.of }
     requires a { a < MOST_PARTS }
-    ensures { OnOk result (AddsArcs (IsFromPart table.now a) blocks.old.items blocks.new.items) }
+    ensures { OnOk result (AddsArcs (IsFromPart table.now a) batches.old.items batches.new.items) }
 {
     for b in 0..MOST_PARTS {
-        push_parts(alloc, table, set, a, b, blocks)?;
+        push_parts(alloc, table, set, a, b, batches)?;
     }
     Ok(())
 }
 
-/// The cones of each ordered pair of different parts of the table's set, in blocks.
-pub(crate) fn all_blocks(alloc: Global, table: &PlaneTable) -> Result<Vec<Block>, OutOfMemory>
-    ensures arcs { IfOk result (λ blocks. ListsArcsOf table.now blocks.items) }
-    ensures blocks { IfOk result (λ blocks. All IsBlock blocks.items) }
+/// The cones of each ordered pair of different parts of the table's set, in batches.
+pub(crate) fn all_batches(alloc: Global, table: &PlaneTable) -> Result<Vec<Batch>, OutOfMemory>
+    ensures arcs { IfOk result (λ batches. ListsArcsOf table.now batches.items) }
+    ensures batches { IfOk result (λ batches. All IsBatch batches.items) }
     ensures rules { IsTable table.now }
 {
     let set = table.set();
-    let mut blocks = Vec::new(alloc);
+    let mut batches = Vec::new(alloc);
     for a in 0..MOST_PARTS {
-        push_from(alloc, table, set, a, &mut blocks)?;
+        push_from(alloc, table, set, a, &mut batches)?;
     }
-    Ok(blocks)
+    Ok(batches)
 }

@@ -8,7 +8,7 @@ ghost use Rattle.staat_cells.specs.Stages.{IsOwnIncidence, cell_at, opposite_ent
 
 use crate::cell::{Cell, Signs};
 use crate::incidence::{Incidence, incidence_of};
-use crate::narrow::{SMALL_NORMAL, are_small};
+use crate::plane_signs::{SMALL_NORMAL, are_small};
 use crate::signs::{flipped_signs, signs_where};
 use staat_model::Kind;
 use staat_vec::{NORMAL, OutOfMemory, V3, VERTEX, is_same, neg};

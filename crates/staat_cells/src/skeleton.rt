@@ -8,7 +8,7 @@ ghost use Rattle.staat_cells.specs.Skeletons.{HasEdges, IsFoundAt, IsSkeleton};
 use crate::cell::Cell;
 use crate::compose::composed_at;
 use crate::incidence::Incidence;
-use crate::lower::LowerCells;
+use crate::lower_cells::LowerCells;
 use staat_limits::MOST_CELL_PLANES;
 use staat_model::Kind;
 use staat_planes::PlaneTable;

@@ -38,7 +38,7 @@ fn both_normals(alloc: Global, planes: &[V3]) -> Result<Vec<V3>, OutOfMemory>
 }
 
 // where the vector stands among the ascending normals, if it does, by halving
-fn number_of(normals: &[V3], v: V3) -> usize
+fn number_of_normal(normals: &[V3], v: V3) -> usize
     requires { IsStrictlySortedBy vector_cmp normals.now }
     ensures { Contains normals.now v → slice_get normals.now result ≡ Some v }
 {
@@ -56,7 +56,7 @@ fn number_of_opposite(normals: &[V3], v: V3) -> usize
     ensures { Contains normals.now (negative v) → slice_get normals.now result ≡ Some (negative v) }
 {
     match normals.binary_search(&v) {
-        Ok(_) => number_of(normals, neg(v)),
+        Ok(_) => number_of_normal(normals, neg(v)),
         Err(k) => k,
     }
 }
@@ -69,7 +69,7 @@ fn numbers_of(alloc: Global, normals: &[V3], facets: &[V3]) -> Result<Vec<usize>
 {
     let mut numbers = Vec::new(alloc);
     for facet in facets {
-        numbers.push(number_of(normals, *facet))?;
+        numbers.push(number_of_normal(normals, *facet))?;
     }
     Ok(numbers)
 }

@@ -58,7 +58,7 @@ fn put(table: &mut Vec<u32>, v: V3, number: u32)
 }
 
 /// A table of the places of the lines' directions. There are fewer than 2^32 lines.
-pub fn places_of(alloc: Global, dirs: &[Dir]) -> Result<Vec<u32>, OutOfMemory>
+pub fn table_of_places(alloc: Global, dirs: &[Dir]) -> Result<Vec<u32>, OutOfMemory>
     requires few { length dirs.now < 2 ^ 32 }
     ensures { IfOk result (λ places. 1 ≤ length places.items) }
 {

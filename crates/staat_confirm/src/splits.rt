@@ -23,7 +23,7 @@ use std::alloc::Global;
 // A product with the boxes of its pieces, and the nodes of a plan: for each part the number of its node, and for each
 // node the number behind the last one of the plan that begins with it.
 #[derive(Clone, Copy)]
-struct Judged<'a> {
+struct JudgedPlan<'a> {
     product: &'a Product,
     bodies: &'a Bodies,
     nodes: &'a [ShortNode],
@@ -56,7 +56,7 @@ fn meeting_at<F: FacetSource>(
     alloc: Global,
     source: &F,
     along: &Along,
-    judged: &Judged,
+    judged: &JudgedPlan,
     k: usize,
 ) -> Result<Option<Arc>, OutOfMemory>
     requires made { IsMotionOf judged.now.product.now along.now }
@@ -87,7 +87,7 @@ fn split_reason<F: FacetSource>(
     alloc: Global,
     source: &F,
     along: &mut Along,
-    judged: &Judged,
+    judged: &JudgedPlan,
     k: usize,
     d: V3,
 ) -> Result<Option<ShortReason>, OutOfMemory>
@@ -120,7 +120,7 @@ fn node_reason<F: FacetSource>(
     alloc: Global,
     source: &F,
     along: &mut Along,
-    judged: &Judged,
+    judged: &JudgedPlan,
     k: usize,
 ) -> Result<Option<ShortReason>, OutOfMemory>
     requires made { IsMotionOf judged.now.product.now along.old }
@@ -142,7 +142,7 @@ fn first_reason<F: FacetSource>(
     alloc: Global,
     source: &F,
     along: &mut Along,
-    judged: &Judged,
+    judged: &JudgedPlan,
 ) -> Result<Option<ShortReason>, OutOfMemory>
     requires made { IsMotionOf judged.now.product.now along.old }
     requires bodies { AreBodies judged.now.product.now judged.now.bodies.now }
@@ -192,7 +192,7 @@ pub fn unclear_split<F: FacetSource>(
     let parts = product.as_slice();
     let bodies = Bodies::of(alloc, parts)?;
     let mut along = Along::of(alloc, parts, &bodies, first_direction(nodes))?;
-    let judged = Judged {
+    let judged = JudgedPlan {
         product,
         bodies: &bodies,
         nodes,

@@ -9,7 +9,7 @@ ghost use Rattle.staat_core.specs.Bonds.{AreTogether};
 ghost use Rattle.staat_core.specs.Sources.{both_ways};
 
 use crate::cores::Core;
-use crate::decide::Answer;
+use crate::decide::CoreAnswer;
 use crate::joins::Moving;
 use crate::source::PairSource;
 use staat_limits::MOST_PARTS;
@@ -26,8 +26,8 @@ fn is_bond<S: PairSource>(source: &S, p: u32, q: u32) -> bool
     let both = PartSet::single(p).union(PartSet::single(q));
     let mut core = Core::none();
     match core.holds(source, both, Moving::AnySide) {
-        Answer::Held => true,
-        Answer::Open(_) => false,
+        CoreAnswer::Held => true,
+        CoreAnswer::Open(_) => false,
     }
 }
 

@@ -20,7 +20,7 @@ const MOST_ROUNDS: u32 = 96;
 
 /// What a core says of a set of parts.
 #[derive(Clone, Copy, Debug, PartialEq, Eq)]
-pub enum Answer {
+pub enum CoreAnswer {
     /// Nothing moves away from the rest.
     Held,
     /// It is not seen that nothing moves along this direction or its opposite. Mostly something does; else the core has
@@ -37,24 +37,25 @@ impl Core {
         moving: Moving,
         g: V3,
         h: V3,
-    ) -> Answer
+    ) -> CoreAnswer
         requires core { IsCore (S.pairs source.now) (S.speaks source.now) self.old }
         requires some { IsNonempty w }
         requires g { IsWithin NORMAL g }
         requires h { IsWithin NORMAL h }
         ensures core { IsCore (S.pairs source.now) (S.speaks source.now) self.new }
         ensures grows { HasGrown self.old self.new }
-        ensures held { result ≡ Answer.Held → (parts : List PartValue) → S.speaks source.now parts
+        ensures held { result ≡ CoreAnswer.Held → (parts : List PartValue)
+            → S.speaks source.now parts
             → HoldsWhere parts (core_pairs self.new) moving w g h }
     {
         let d = cross_normal(g, h);
         if is_same(d, ORIGIN) {
-            return Answer::Held;
+            return CoreAnswer::Held;
         }
         if self.settle(source, w, moving, d) {
-            Answer::Held
+            CoreAnswer::Held
         } else {
-            Answer::Open(d)
+            CoreAnswer::Open(d)
         }
     }
 
@@ -69,13 +70,14 @@ impl Core {
         w: PartSet,
         moving: Moving,
         g: V3,
-    ) -> Answer
+    ) -> CoreAnswer
         requires core { IsCore (S.pairs source.now) (S.speaks source.now) self.old }
         requires some { IsNonempty w }
         requires g { IsWithin NORMAL g }
         ensures core { IsCore (S.pairs source.now) (S.speaks source.now) self.new }
         ensures grows { HasGrown self.old self.new }
-        ensures held { result ≡ Answer.Held → (parts : List PartValue) (d : Vector) → S.speaks source.now parts
+        ensures held { result ≡ CoreAnswer.Held → (parts : List PartValue) (d : Vector)
+            → S.speaks source.now parts
             → g ≢ origin → dot g d ≡ pos 0 → d ≢ origin
             → HoldsMoves parts (both_ways (core_pairs self.new)) moving w d }
     {
@@ -83,14 +85,14 @@ impl Core {
         let _pairs = source.pairs();
         for k in 0..MOST_ROUNDS {
             let Some(h) = self.plane(k) else {
-                return Answer::Held;
+                return CoreAnswer::Held;
             };
             match self.settle_crossing(source, w, moving, g, h) {
-                Answer::Held => {}
-                Answer::Open(d) => return Answer::Open(d),
+                CoreAnswer::Held => {}
+                CoreAnswer::Open(d) => return CoreAnswer::Open(d),
             }
         }
-        Answer::Open(g)
+        CoreAnswer::Open(g)
     }
 
     // what is told of the directions in which plane j, which is h, crosses the planes before it
@@ -101,7 +103,7 @@ impl Core {
         moving: Moving,
         j: u32,
         h: V3,
-    ) -> Answer
+    ) -> CoreAnswer
         requires core { IsCore (S.pairs source.now) (S.speaks source.now) self.old }
         requires some { IsNonempty w }
         requires place { j < length (core_planes self.old) }
@@ -109,44 +111,46 @@ impl Core {
         requires size { IsWithin NORMAL h }
         ensures core { IsCore (S.pairs source.now) (S.speaks source.now) self.new }
         ensures grows { HasGrown self.old self.new }
-        ensures held { result ≡ Answer.Held → (parts : List PartValue) (i : ℕ) → S.speaks source.now parts → i < j
+        ensures held { result ≡ CoreAnswer.Held → (parts : List PartValue) (i : ℕ)
+            → S.speaks source.now parts → i < j
             → HoldsWhere parts (core_pairs self.new) moving w (core_plane_at self.new i) h }
     {
         for i in 0..j {
             let Some(g) = self.plane(i) else {
-                return Answer::Held;
+                return CoreAnswer::Held;
             };
             match self.settle_crossing(source, w, moving, g, h) {
-                Answer::Held => {}
-                Answer::Open(d) => return Answer::Open(d),
+                CoreAnswer::Held => {}
+                CoreAnswer::Open(d) => return CoreAnswer::Open(d),
             }
         }
-        Answer::Held
+        CoreAnswer::Held
     }
 
     /// Whether nothing of `w` moves along any direction.
     ///
     /// `w` is not empty. The core is one for this source. It is asked where its own planes cross, and grows where it
     /// does not hold the set there. It takes no memory.
-    pub fn holds<S: PairSource>(&mut self, source: &S, w: PartSet, moving: Moving) -> Answer
+    pub fn holds<S: PairSource>(&mut self, source: &S, w: PartSet, moving: Moving) -> CoreAnswer
         requires core { IsCore (S.pairs source.now) (S.speaks source.now) self.old }
         requires some { IsNonempty w }
         ensures core { IsCore (S.pairs source.now) (S.speaks source.now) self.new }
         ensures grows { HasGrown self.old self.new }
-        ensures held { result ≡ Answer.Held → (parts : List PartValue) (d : Vector) → S.speaks source.now parts
+        ensures held { result ≡ CoreAnswer.Held → (parts : List PartValue) (d : Vector)
+            → S.speaks source.now parts
             → d ≢ origin → HoldsMoves parts (both_ways (core_pairs self.new)) moving w d }
     {
         // the parts of the source are parts
         let _pairs = source.pairs();
         for j in 0..MOST_ROUNDS {
             let Some(h) = self.plane(j) else {
-                return Answer::Held;
+                return CoreAnswer::Held;
             };
             match self.holds_before(source, w, moving, j, h) {
-                Answer::Held => {}
-                Answer::Open(d) => return Answer::Open(d),
+                CoreAnswer::Held => {}
+                CoreAnswer::Open(d) => return CoreAnswer::Open(d),
             }
         }
-        Answer::Open(ORIGIN)
+        CoreAnswer::Open(ORIGIN)
     }
 }

@@ -13,7 +13,7 @@ ghost use Rattle.staat_core.specs.TableCores.{IsTableCore};
 
 use crate::bonds::stays_together;
 use crate::cores::Core;
-use crate::decide::Answer;
+use crate::decide::CoreAnswer;
 use crate::joins::Moving;
 use crate::listed::PairList;
 use crate::table_pairs::TablePairs;
@@ -71,8 +71,8 @@ impl TableCore {
             pairs: self.list.pairs(),
         };
         match self.core.holds_on(&source, w, moving, g) {
-            Answer::Held => true,
-            Answer::Open(_) => false,
+            CoreAnswer::Held => true,
+            CoreAnswer::Open(_) => false,
         }
     }
 
@@ -114,8 +114,8 @@ impl TableCore {
             pairs: self.list.pairs(),
         };
         match self.core.holds(&source, w, moving) {
-            Answer::Held => true,
-            Answer::Open(_) => false,
+            CoreAnswer::Held => true,
+            CoreAnswer::Open(_) => false,
         }
     }
 }

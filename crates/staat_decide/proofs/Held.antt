@@ -23,7 +23,7 @@ use Rattle.staat_decide.specs.Arcs.{AreBlockingRows}
 use Rattle.staat_decide.specs.Labels.{AreClasses, IsClass}
 use Rattle.staat_decide.specs.Peelings.{IsHeldAlong, IsPeeling}
 use Rattle.staat_decide.specs.Reaching.{AreAllReached, AreReached, HasRowArc, IsClosedAlong, label_of}
-use Rattle.staat_decide.proofs.Marks.{keeps_order_by, label_at, labels_count, labels_differ, labels_small}
+use Rattle.staat_decide.proofs.MarkedPlaces.{keeps_order_by, label_at, labels_count, labels_differ, labels_small}
 use Rattle.staat_decide.proofs.Rows.{distinct, peeling_from, row_at, row_count}
 use Rattle.staat_vec.proofs.Truth.{not_true_clash}
 use Rattle.staat_vec.proofs.ListLaws.{any_default}

@@ -1,6 +1,6 @@
 pub mod Steps
 pub mod Rows
-pub mod Marks
+pub mod MarkedPlaces
 pub mod Held
 pub mod InTurn
 pub mod Sides

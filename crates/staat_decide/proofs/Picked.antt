@@ -10,7 +10,7 @@ use Rattle.staat_motion.proofs.Zips.{zip_read}
 use Rattle.staat_decide.specs.Arcs.{AreBlockingRows, IsRow}
 use Rattle.staat_vec.specs.declared.vector.TheConstants.{DIRECTION}
 use Rattle.staat_vec.specs.Vectors.{IsWithin, origin}
-use Rattle.staat_decide.specs.declared.likely.Asked.{Asked}
+use Rattle.staat_decide.specs.declared.likely.AskedRows.{AskedRows}
 use Rattle.staat_decide.specs.Asking.{AreAllRows, AreAskedRows}
 use Rattle.staat_decide.specs.Reaching.{HasRowArc}
 use Rattle.std.specs.Prelude.{IfSome, Option, Some}
@@ -76,7 +76,7 @@ asked_is parts d e numbers rows kept size moves same is kept_is are = record {
       (subst (λ (v : V3). AreBlockingRows parts v (range_with_len 0 (length parts)) rows) same (subst (λ (xs : List ℕ). AreBlockingRows parts e xs rows) is are)));
 }
 
-pub picked_are : (parts : List Part) (asked : Asked) (w : List ℕ) (rows : List (List Bool)) → AreAskedRows parts asked
+pub picked_are : (parts : List Part) (asked : AskedRows) (w : List ℕ) (rows : List (List Bool)) → AreAskedRows parts asked
     → All (λ p. p < length parts) w
     → rows ≡ map (λ a. map (λ b. get_or (get_or asked.rows a []) b false) w) w → AreBlockingRows parts asked.d w rows
 picked_are parts asked w rows is within e =
@@ -102,7 +102,7 @@ picked_more rows w picked next i row kept some lt in' at same is before push =
     push ∙ ap (λ (xs : List (List Bool)). xs ++ some ∷ []) before ∙ ap (λ (x : List Bool). map F (take i w) ++ x ∷ []) last
     ∙ sym (ap (map F) (take_more w i 0 lt) ∙ map-append F (take i w) (get_or w i 0 ∷ []))
 
-pub kept_are : (parts : List Part) (asked : Asked) (w : List ℕ) (slice rows kept : List (List Bool)) → AreAskedRows parts asked
+pub kept_are : (parts : List Part) (asked : AskedRows) (w : List ℕ) (slice rows kept : List (List Bool)) → AreAskedRows parts asked
     → All (λ p. p < length parts) w → slice ≡ asked.rows
     → rows ≡ map (λ a. map (λ b. get_or (get_or slice a []) b false) w) w → kept ≡ rows → AreBlockingRows parts asked.d w kept
 kept_are parts asked w slice rows kept is within same e kept_is =

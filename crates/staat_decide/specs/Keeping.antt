@@ -7,20 +7,20 @@ use Rattle.staat_model.specs.declared.assembly.Part.{Part}
 use Rattle.staat_model.specs.declared.certificate.Arc.{Arc}
 use Rattle.staat_model.specs.Removal.{MeetsAlong}
 use Rattle.staat_motion.specs.Motions.{HasFacets, turned}
-use Rattle.staat_decide.specs.declared.table.Kept.{Kept}
+use Rattle.staat_decide.specs.declared.table.KeptFacets.{KeptFacets}
 
 -- the facets are those of the pair
-pub record IsKept (parts : List Part) (kept : Kept) : Type 0 where
+pub record IsKept (parts : List Part) (kept : KeptFacets) : Type 0 where
   pub facets : HasFacets parts kept.pair kept.facets
   pub small : All (IsWithin NORMAL) kept.facets
 
 -- so for each slot that is not empty
-abbrev pub AreKept : List Part → List (Option Kept) → Type 0
+abbrev pub AreKept : List Part → List (Option KeptFacets) → Type 0
 AreKept parts slots = All (λ slot. IfSome slot (IsKept parts)) slots
 
 -- the slot has the pair
-pub record KeepsPair (slot : Option Kept) (pair : Arc) : Type 0 where
-  pub kept : Kept
+pub record KeepsPair (slot : Option KeptFacets) (pair : Arc) : Type 0 where
+  pub kept : KeptFacets
   pub is : slot ≡ Some kept
   pub same : kept.pair ≡ pair
 

@@ -4,7 +4,7 @@ ghost use Rattle.staat_motion.specs.Motions.{IsMotionOf};
 ghost use Rattle.staat_decide.specs.Arcs.{AreBlockingRows, IsRow};
 ghost use Rattle.staat_decide.specs.Keeping.{AreKept};
 
-use crate::table::{Table, blocks_with, table_for};
+use crate::table::{KeptTable, blocks_with, table_for};
 use staat_cone::FacetSource;
 use staat_model::Part;
 use staat_motion::Along;
@@ -16,7 +16,7 @@ pub type Row = Listed<bool>;
 
 // which parts of w the part a blocks
 fn row_of<F: FacetSource>(
-    table: &mut Table,
+    table: &mut KeptTable,
     alloc: Global,
     source: &F,
     parts: &[Part],
@@ -43,7 +43,7 @@ fn row_of<F: FacetSource>(
 
 /// The same as [`rows_of`], with facets that are kept.
 pub fn rows_with<F: FacetSource>(
-    table: &mut Table,
+    table: &mut KeptTable,
     alloc: Global,
     source: &F,
     parts: &[Part],

@@ -6,9 +6,9 @@ ghost use Rattle.staat_decide.specs.Asking.{AreAskedRows};
 ghost use Rattle.staat_decide.specs.Keeping.{AreKept};
 
 use crate::directions::likely_directions;
-use crate::likely::{Asked, asked_along, is_direction, takes_all_apart};
+use crate::likely::{AskedRows, asked_along, is_direction, takes_all_apart};
 use crate::planes::{X_AXIS, Y_AXIS, Z_AXIS};
-use crate::table::{Table, table_for};
+use crate::table::{KeptTable, table_for};
 use staat_cone::FacetSource;
 use staat_model::Part;
 use staat_motion::Bodies;
@@ -16,14 +16,14 @@ use staat_vec::{OutOfMemory, V3};
 use std::alloc::Global;
 
 // whether it was asked along this direction
-fn was_asked(asked: &[Asked], d: V3) -> bool {
+fn was_asked(asked: &[AskedRows], d: V3) -> bool {
     asked.iter().any(|one| one.d == d)
 }
 
 // asks along a direction, if it is one and was not asked along before, and says whether it takes all parts apart
 fn ask_one<F: FacetSource>(
-    asked: &mut Vec<Asked>,
-    table: &mut Table,
+    asked: &mut Vec<AskedRows>,
+    table: &mut KeptTable,
     alloc: Global,
     source: &F,
     parts: &[Part],
@@ -51,8 +51,8 @@ fn ask_one<F: FacetSource>(
 
 // asks along the directions one after the other, until one takes all parts apart
 fn ask_along<F: FacetSource>(
-    asked: &mut Vec<Asked>,
-    table: &mut Table,
+    asked: &mut Vec<AskedRows>,
+    table: &mut KeptTable,
     alloc: Global,
     source: &F,
     parts: &[Part],
@@ -84,7 +84,7 @@ pub fn asked_of<F: FacetSource>(
     parts: &[Part],
     bodies: &Bodies,
     all: &[u32],
-) -> Result<Vec<Asked>, OutOfMemory>
+) -> Result<Vec<AskedRows>, OutOfMemory>
     requires bodies { AreBodies parts.now bodies.now }
     requires all { all.now ≡ range_with_len 0 (length parts.now) }
     ensures { IfOk result (λ asked. All (AreAskedRows parts.now) asked.items) }

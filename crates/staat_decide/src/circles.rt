@@ -12,7 +12,7 @@ use std::alloc::Global;
 
 // A facet, and the direction of the circle at which what is ahead of it ends.
 #[derive(Clone, Copy)]
-struct End {
+struct SpanEnd {
     facet: V3,
     at: V3,
     ghost normal: { IsWithin NORMAL facet },
@@ -22,22 +22,22 @@ struct End {
 // The arc of a pair on a circle: what is ahead of two of its facets is ahead of all. And how the pair leads there, and
 // whether the pairs were looked at where the arc ends.
 #[derive(Clone, Copy)]
-struct Span {
-    first: End,
-    last: End,
+struct CircleSpan {
+    first: SpanEnd,
+    last: SpanEnd,
     lead: Lead,
     is_seen: bool,
 }
 
 // where what is ahead of the facet ends on the circle of the plane g, unless they are parallel
-fn end_of(g: Normal, facet: V3) -> Option<End>
+fn end_of(g: Normal, facet: V3) -> Option<SpanEnd>
     requires { IsWithin NORMAL facet }
 {
     let at = cross_normal(g.v, facet);
     if at == ORIGIN {
         return None;
     }
-    Some(End { facet, at })
+    Some(SpanEnd { facet, at })
 }
 
 // whether two directions of a circle that are parallel are the same, and not opposite
@@ -46,12 +46,12 @@ fn is_same_way(a: V3, b: V3) -> bool {
 }
 
 // what of a span is ahead of one more facet
-fn narrowed(span: Span, end: End) -> Option<Span> {
+fn narrowed(span: CircleSpan, end: SpanEnd) -> Option<CircleSpan> {
     let from_first = sign_dot(end.facet, span.first.at);
     let from_last = sign_dot(end.facet, span.last.at);
     match (from_first, from_last) {
-        (Sign::Pos, Sign::Pos) => Some(Span { last: end, ..span }),
-        (Sign::Neg, Sign::Neg) => Some(Span { first: end, ..span }),
+        (Sign::Pos, Sign::Pos) => Some(CircleSpan { last: end, ..span }),
+        (Sign::Neg, Sign::Neg) => Some(CircleSpan { first: end, ..span }),
         (Sign::Pos, _) | (Sign::Zero, Sign::Neg) => Some(span),
         (Sign::Zero, Sign::Zero) if is_same_way(end.at, span.first.at) => Some(span),
         _ => None,
@@ -59,8 +59,8 @@ fn narrowed(span: Span, end: End) -> Option<Span> {
 }
 
 // what is ahead of one facet
-fn span_of(end: End, lead: Lead) -> Span {
-    Span {
+fn span_of(end: SpanEnd, lead: Lead) -> CircleSpan {
+    CircleSpan {
         first: end,
         last: end,
         lead,
@@ -69,7 +69,7 @@ fn span_of(end: End, lead: Lead) -> Span {
 }
 
 // the arc that a pair has on the circle of the plane g, if it has one
-fn span_on(facets: &Facets, g: Normal, lead: Lead) -> Option<Span> {
+fn span_on(facets: &Facets, g: Normal, lead: Lead) -> Option<CircleSpan> {
     let mut found = None;
     for facet in normals_of(facets) {
         let Some(end) = end_of(g, *facet) else {
@@ -88,7 +88,7 @@ fn span_on(facets: &Facets, g: Normal, lead: Lead) -> Option<Span> {
 }
 
 // how the pair leads at a direction of the circle, if it does: back where it does ahead at the opposite direction
-fn lead_at(span: &mut Span, d: V3) -> Option<Lead>
+fn lead_at(span: &mut CircleSpan, d: V3) -> Option<Lead>
     requires { IsWithin DIRECTION d }
 {
     let side = sign_dot(span.first.facet, d);
@@ -112,7 +112,7 @@ fn lead_at(span: &mut Span, d: V3) -> Option<Lead>
 /// how often it was looked how they lead at the end of an arc.
 #[derive(Drop)]
 pub struct Circle {
-    spans: Vec<Span>,
+    spans: Vec<CircleSpan>,
     pub looks: usize,
     pub leads: Vec<Lead>,
     pub marks: Vec<bool>,

@@ -1,7 +1,7 @@
 // Directions along which something is likely to come apart: the normals that most pairs of pieces that touch have in
 // common, and the directions in which two of them cross.
 use crate::planes::{crossing_of, piece_at, plane_of};
-use crate::spots::{Spot, spots_of, touch};
+use crate::spots::{Spot, boxes_touch, spots_of};
 use staat_cone::FacetSource;
 use staat_model::Part;
 use staat_vec::{ORIGIN, OutOfMemory, V3};
@@ -84,7 +84,7 @@ fn add_touches<F: FacetSource>(
         if other.low.x > spot.high.x {
             return Ok(count);
         }
-        if other.part != spot.part && touch(spot, other) {
+        if other.part != spot.part && boxes_touch(spot, other) {
             add_normals(normals, alloc, source, parts, spot, other)?;
             count = count.saturating_add(1);
         }

@@ -27,7 +27,7 @@ pub const BOUND: usize = 3000;
 /// What growing ends with: a direction along which the set should come apart, or pairs of pieces that should hold it,
 /// or the set is too large for the bound.
 #[derive(Drop)]
-pub enum Growth {
+pub enum GrowthEnd {
     Free(V3),
     Core(Vec<Arc>),
     Large,
@@ -36,7 +36,7 @@ pub enum Growth {
 // What is known of a set of parts: pairs of their pieces, those first that look large from each other, the places of
 // those in the core, and the planes of the core. The circle is that of one of the planes.
 #[derive(Drop)]
-struct Search {
+struct CoreSearch {
     list: Vec<Candidate>,
     core: Vec<usize>,
     planes: Vec<Normal>,
@@ -63,7 +63,7 @@ fn listed_last<F: FacetSource>(
 
 // the first pair across of which the one piece meets the other, of those that are listed, or else of all
 fn next_met<F: FacetSource>(
-    search: &mut Search,
+    search: &mut CoreSearch,
     alloc: Global,
     source: &F,
     parts: &[Part],
@@ -97,7 +97,7 @@ fn next_met<F: FacetSource>(
 }
 
 // adds the pair at the place k to the core, with its planes and its lead
-fn choose(search: &mut Search, met: Met) -> Result<(), OutOfMemory> {
+fn choose(search: &mut CoreSearch, met: Met) -> Result<(), OutOfMemory> {
     if met.k >= search.list.len() {
         return Ok(());
     }
@@ -115,7 +115,7 @@ fn choose(search: &mut Search, met: Met) -> Result<(), OutOfMemory> {
 
 // adds pairs to the core until all places are reached on the way along the direction, and says whether they are
 fn grow_on<F: FacetSource>(
-    search: &mut Search,
+    search: &mut CoreSearch,
     alloc: Global,
     source: &F,
     parts: &[Part],
@@ -141,7 +141,7 @@ fn grow_on<F: FacetSource>(
 }
 
 // adds the arcs on the circle of the plane g of the pairs of the core from a number on
-fn add_arcs(search: &mut Search, g: Normal, first: usize) -> Result<(), OutOfMemory> {
+fn add_arcs(search: &mut CoreSearch, g: Normal, first: usize) -> Result<(), OutOfMemory> {
     for n in first..search.core.len() {
         if n < search.core.len() && search.core[n] < search.list.len() {
             let candidate = &search.list[search.core[n]];
@@ -166,7 +166,7 @@ fn primitive_of(v: V3) -> Option<V3>
 }
 
 // a direction of the plane j at which the core, whose pairs from a number on are new, does not lead everywhere
-fn loose_on(search: &mut Search, j: usize, first: usize) -> Result<Option<V3>, OutOfMemory>
+fn loose_on(search: &mut CoreSearch, j: usize, first: usize) -> Result<Option<V3>, OutOfMemory>
     ensures { IfOk result (λ answer. IfSome answer (IsWithin DIRECTION)) }
 {
     if j >= search.planes.len() {
@@ -184,7 +184,7 @@ fn loose_on(search: &mut Search, j: usize, first: usize) -> Result<Option<V3>, O
 
 // lets the core grow until it leads everywhere at d, a direction of the circle, and says whether it does
 fn grow_at<F: FacetSource>(
-    search: &mut Search,
+    search: &mut CoreSearch,
     alloc: Global,
     source: &F,
     parts: &[Part],
@@ -206,7 +206,7 @@ fn grow_at<F: FacetSource>(
 
 // lets the core grow until it leads everywhere on the plane j; a direction of it if the set comes apart there
 fn free_on<F: FacetSource>(
-    search: &mut Search,
+    search: &mut CoreSearch,
     alloc: Global,
     source: &F,
     parts: &[Part],
@@ -234,14 +234,14 @@ fn free_on<F: FacetSource>(
 }
 
 // no core yet
-fn search_of(alloc: Global, parts: &[Part], w: &[u32]) -> Result<Search, OutOfMemory> {
+fn search_of(alloc: Global, parts: &[Part], w: &[u32]) -> Result<CoreSearch, OutOfMemory> {
     let spots = spots_of(alloc, parts, w)?;
     let pairs = pairs_of(alloc, spots.as_slice())?;
     let mut planes = Vec::new(alloc);
     for axis in [Z_AXIS, Y_AXIS, X_AXIS] {
         add_plane(&mut planes, axis)?;
     }
-    Ok(Search {
+    Ok(CoreSearch {
         list: list_of(alloc, pairs.as_slice())?,
         core: Vec::new(alloc),
         planes,
@@ -250,7 +250,7 @@ fn search_of(alloc: Global, parts: &[Part], w: &[u32]) -> Result<Search, OutOfMe
 }
 
 // the pairs of the core
-fn core_of(alloc: Global, search: &Search) -> Result<Vec<Arc>, OutOfMemory> {
+fn core_of(alloc: Global, search: &CoreSearch) -> Result<Vec<Arc>, OutOfMemory> {
     let mut core = Vec::new(alloc);
     for k in search.core.as_slice() {
         if *k < search.list.len() {
@@ -269,24 +269,24 @@ pub fn grown<F: FacetSource>(
     bodies: &Bodies,
     w: &[u32],
     bound: usize,
-) -> Result<Growth, OutOfMemory>
+) -> Result<GrowthEnd, OutOfMemory>
     requires { AreBodies parts.now bodies.now }
 {
     let mut search = search_of(alloc, parts, w)?;
     let mut used = 0usize;
     for j in 0..usize::MAX {
         if j >= search.planes.len() {
-            return Ok(Growth::Core(core_of(alloc, &search)?));
+            return Ok(GrowthEnd::Core(core_of(alloc, &search)?));
         }
         if used > bound {
-            return Ok(Growth::Large);
+            return Ok(GrowthEnd::Large);
         }
         let before = search.circle.looks;
         if let Some(d) = free_on(&mut search, alloc, source, parts, bodies, w, j)? {
-            return Ok(Growth::Free(d));
+            return Ok(GrowthEnd::Free(d));
         }
         let looks = search.circle.looks.saturating_sub(before);
         used = used.saturating_add(looks.max(j));
     }
-    Ok(Growth::Large)
+    Ok(GrowthEnd::Large)
 }

@@ -2,9 +2,9 @@
 // each other, else the whole set within a bound, else fewer and fewer of its parts within it, else without a bound.
 ghost use Rattle.staat_motion.specs.Motions.{AreBodies};
 
-use crate::growing::{BOUND, Growth, grown};
+use crate::growing::{BOUND, GrowthEnd, grown};
 use crate::halves::{Fewer, halved};
-use crate::likely::Asked;
+use crate::likely::AskedRows;
 use crate::pairs::held_pair;
 use crate::suspects::{Suspects, suspected};
 use staat_cone::FacetSource;
@@ -27,7 +27,7 @@ fn few_of<F: FacetSource>(
     source: &F,
     parts: &[Part],
     bodies: &Bodies,
-    asked: &[Asked],
+    asked: &[AskedRows],
     w: &[u32],
 ) -> Result<Option<Suspects>, OutOfMemory>
     requires { AreBodies parts.now bodies.now }
@@ -40,7 +40,7 @@ fn few_of<F: FacetSource>(
         return Ok(None);
     }
     match grown(alloc, source, parts, bodies, left.as_slice(), usize::MAX)? {
-        Growth::Core(pairs) => Ok(Some(Suspects { nodes: left, pairs })),
+        GrowthEnd::Core(pairs) => Ok(Some(Suspects { nodes: left, pairs })),
         _ => Ok(None),
     }
 }
@@ -56,9 +56,9 @@ fn whole<F: FacetSource>(
     requires { AreBodies parts.now bodies.now }
 {
     match grown(alloc, source, parts, bodies, w, usize::MAX)? {
-        Growth::Free(d) => Ok(Guess::Free(d)),
-        Growth::Core(pairs) => Ok(Guess::Stuck(suspected(alloc, w, pairs)?)),
-        Growth::Large => Ok(Guess::None),
+        GrowthEnd::Free(d) => Ok(Guess::Free(d)),
+        GrowthEnd::Core(pairs) => Ok(Guess::Stuck(suspected(alloc, w, pairs)?)),
+        GrowthEnd::Large => Ok(Guess::None),
     }
 }
 
@@ -68,7 +68,7 @@ pub fn guess_of<F: FacetSource>(
     source: &F,
     parts: &[Part],
     bodies: &Bodies,
-    asked: &[Asked],
+    asked: &[AskedRows],
     w: &[u32],
 ) -> Result<Guess, OutOfMemory>
     requires { AreBodies parts.now bodies.now }
@@ -77,9 +77,9 @@ pub fn guess_of<F: FacetSource>(
         return Ok(Guess::Stuck(found));
     }
     match grown(alloc, source, parts, bodies, w, BOUND)? {
-        Growth::Free(d) => return Ok(Guess::Free(d)),
-        Growth::Core(pairs) => return Ok(Guess::Stuck(suspected(alloc, w, pairs)?)),
-        Growth::Large => {}
+        GrowthEnd::Free(d) => return Ok(Guess::Free(d)),
+        GrowthEnd::Core(pairs) => return Ok(Guess::Stuck(suspected(alloc, w, pairs)?)),
+        GrowthEnd::Large => {}
     }
     if let Some(found) = few_of(alloc, source, parts, bodies, asked, w)? {
         return Ok(Guess::Stuck(found));

@@ -2,8 +2,8 @@
 // of it are left out, then quarters, and so on: what is still too large without them is looked at on.
 ghost use Rattle.staat_motion.specs.Motions.{AreBodies};
 
-use crate::growing::{BOUND, Growth, grown};
-use crate::likely::Asked;
+use crate::growing::{BOUND, GrowthEnd, grown};
+use crate::likely::AskedRows;
 use crate::pairs::comes_apart;
 use crate::suspects::Suspects;
 use staat_cone::FacetSource;
@@ -36,7 +36,7 @@ fn leave_out<F: FacetSource>(
     source: &F,
     parts: &[Part],
     bodies: &Bodies,
-    asked: &[Asked],
+    asked: &[AskedRows],
     w: Vec<u32>,
     low: u32,
     high: u32,
@@ -48,9 +48,9 @@ fn leave_out<F: FacetSource>(
         return Ok(Fewer::Left(w));
     }
     match grown(alloc, source, parts, bodies, rest.as_slice(), BOUND)? {
-        Growth::Core(pairs) => Ok(Fewer::Stuck(Suspects { nodes: rest, pairs })),
-        Growth::Large => Ok(Fewer::Left(rest)),
-        Growth::Free(_) => Ok(Fewer::Left(w)),
+        GrowthEnd::Core(pairs) => Ok(Fewer::Stuck(Suspects { nodes: rest, pairs })),
+        GrowthEnd::Large => Ok(Fewer::Left(rest)),
+        GrowthEnd::Free(_) => Ok(Fewer::Left(w)),
     }
 }
 
@@ -60,7 +60,7 @@ fn leave_out_by<F: FacetSource>(
     source: &F,
     parts: &[Part],
     bodies: &Bodies,
-    asked: &[Asked],
+    asked: &[AskedRows],
     w: &[u32],
     count: usize,
 ) -> Result<Fewer, OutOfMemory>
@@ -85,7 +85,7 @@ pub fn halved<F: FacetSource>(
     source: &F,
     parts: &[Part],
     bodies: &Bodies,
-    asked: &[Asked],
+    asked: &[AskedRows],
     w: &[u32],
 ) -> Result<Fewer, OutOfMemory>
     requires { AreBodies parts.now bodies.now }

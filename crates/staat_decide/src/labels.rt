@@ -13,7 +13,7 @@ pub struct Labels {
 
 // a walk: what it has seen, where it stands, and what it is done with
 #[derive(Drop)]
-struct Walk {
+struct ArcWalk {
     seen: Vec<bool>,
     path: Vec<usize>,
     done: Vec<usize>,
@@ -72,7 +72,7 @@ fn fresh_before(rows: &[Row], seen: &[bool], v: usize) -> Option<usize> {
 }
 
 // goes on against the arcs from where the walk stands, or is done with that place and goes back
-fn step(rows: &[Row], walk: &mut Walk) -> Result<(), OutOfMemory> {
+fn step(rows: &[Row], walk: &mut ArcWalk) -> Result<(), OutOfMemory> {
     if let Some(v) = walk.path.pop() {
         match fresh_before(rows, walk.seen.as_slice(), v) {
             None => walk.done.push(v)?,
@@ -87,7 +87,7 @@ fn step(rows: &[Row], walk: &mut Walk) -> Result<(), OutOfMemory> {
 }
 
 // walks against the arcs from a place as far as it goes: two steps for each place are enough
-fn walk_from(rows: &[Row], walk: &mut Walk, root: usize) -> Result<(), OutOfMemory> {
+fn walk_from(rows: &[Row], walk: &mut ArcWalk, root: usize) -> Result<(), OutOfMemory> {
     if is_marked(walk.seen.as_slice(), root) {
         return Ok(());
     }
@@ -105,7 +105,7 @@ fn walk_from(rows: &[Row], walk: &mut Walk, root: usize) -> Result<(), OutOfMemo
 
 // all places, in the order in which walks against the arcs are done with them
 fn places_done(alloc: Global, rows: &[Row]) -> Result<Vec<usize>, OutOfMemory> {
-    let mut walk = Walk {
+    let mut walk = ArcWalk {
         seen: no_marks(alloc, rows.len())?,
         path: Vec::new(alloc),
         done: Vec::new(alloc),

@@ -13,7 +13,7 @@ ghost use Rattle.staat_decide.specs.Keeping.{AreKept};
 use crate::arcs::{Row, rows_with};
 use crate::decision::Leaving;
 use crate::peeling::take_apart;
-use crate::table::Table;
+use crate::table::KeptTable;
 use staat_cone::FacetSource;
 use staat_model::Part;
 use staat_motion::{Along, Bodies};
@@ -28,7 +28,7 @@ pub type Rows = Listed<Row>;
 
 /// A direction, and for each part a row in which the parts that it blocks along the direction are marked.
 #[derive(Drop)]
-pub struct Asked {
+pub struct AskedRows {
     pub d: V3,
     pub rows: Rows,
 }
@@ -56,14 +56,14 @@ pub fn numbers(alloc: Global, count: u32) -> Result<Vec<u32>, OutOfMemory>
 
 /// Which part blocks which along the direction; `all` are the numbers of the parts.
 pub fn asked_along<F: FacetSource>(
-    table: &mut Table,
+    table: &mut KeptTable,
     alloc: Global,
     source: &F,
     parts: &[Part],
     bodies: &Bodies,
     all: &[u32],
     d: V3,
-) -> Result<Asked, OutOfMemory>
+) -> Result<AskedRows, OutOfMemory>
     requires bodies { AreBodies parts.now bodies.now }
     requires all { all.now ≡ range_with_len 0 (length parts.now) }
     requires size { IsWithin DIRECTION d }
@@ -76,7 +76,7 @@ pub fn asked_along<F: FacetSource>(
 {
     let along = Along::of(alloc, parts, bodies, d)?;
     let rows = rows_with(table, alloc, source, parts, &along, all)?;
-    Ok(Asked {
+    Ok(AskedRows {
         d,
         rows: Rows::from_vec(rows),
     })
@@ -114,7 +114,7 @@ fn picked_rows(alloc: Global, rows: &[Row], w: &[u32]) -> Result<Vec<Row>, OutOf
 fn leaving_along(
     alloc: Global,
     parts: &[Part],
-    asked: &Asked,
+    asked: &AskedRows,
     w: &[u32],
 ) -> Result<Option<Leaving>, OutOfMemory>
     requires asked { AreAskedRows parts.now asked.now }
@@ -152,7 +152,7 @@ fn finer(first: Option<Leaving>, second: Option<Leaving>) -> Option<Leaving>
 fn leaving_as_before(
     alloc: Global,
     parts: &[Part],
-    asked: &[Asked],
+    asked: &[AskedRows],
     w: &[u32],
     before: V3,
 ) -> Result<Option<Leaving>, OutOfMemory>
@@ -181,7 +181,7 @@ fn is_fine(leaving: &Option<Leaving>, count: usize, k: usize) -> bool {
 pub fn likely_leaving(
     alloc: Global,
     parts: &[Part],
-    asked: &[Asked],
+    asked: &[AskedRows],
     w: &[u32],
     before: V3,
 ) -> Result<Option<Leaving>, OutOfMemory>
@@ -205,7 +205,7 @@ pub fn likely_leaving(
 pub fn takes_all_apart(
     alloc: Global,
     parts: &[Part],
-    asked: &Asked,
+    asked: &AskedRows,
     all: &[u32],
 ) -> Result<bool, OutOfMemory>
     requires asked { AreAskedRows parts.now asked.now }

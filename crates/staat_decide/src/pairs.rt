@@ -2,9 +2,9 @@
 // a set apart.
 ghost use Rattle.staat_motion.specs.Motions.{AreBodies};
 
-use crate::growing::{Growth, grown};
+use crate::growing::{GrowthEnd, grown};
 use crate::labels::has_arc;
-use crate::likely::Asked;
+use crate::likely::AskedRows;
 use crate::reach::Way;
 use crate::spreading::{are_all, mark, no_marks};
 use crate::suspects::{Suspects, suspected};
@@ -18,7 +18,7 @@ use std::alloc::Global;
 const PAIR_BOUND: usize = 20000;
 
 // whether two parts block each other along all likely directions
-fn hold_each_other(asked: &[Asked], a: u32, b: u32) -> bool {
+fn hold_each_other(asked: &[AskedRows], a: u32, b: u32) -> bool {
     for one in asked {
         let rows = one.rows.as_slice();
         if !has_arc(rows, a as usize, b as usize) || !has_arc(rows, b as usize, a as usize) {
@@ -34,7 +34,7 @@ fn held_with<F: FacetSource>(
     source: &F,
     parts: &[Part],
     bodies: &Bodies,
-    asked: &[Asked],
+    asked: &[AskedRows],
     a: u32,
     w: &[u32],
 ) -> Result<Option<Suspects>, OutOfMemory>
@@ -43,7 +43,7 @@ fn held_with<F: FacetSource>(
     for b in w {
         if a < *b && hold_each_other(asked, a, *b) {
             let two = [a, *b];
-            if let Growth::Core(pairs) = grown(alloc, source, parts, bodies, &two, PAIR_BOUND)? {
+            if let GrowthEnd::Core(pairs) = grown(alloc, source, parts, bodies, &two, PAIR_BOUND)? {
                 return Ok(Some(suspected(alloc, &two, pairs)?));
             }
         }
@@ -57,7 +57,7 @@ pub fn held_pair<F: FacetSource>(
     source: &F,
     parts: &[Part],
     bodies: &Bodies,
-    asked: &[Asked],
+    asked: &[AskedRows],
     w: &[u32],
 ) -> Result<Option<Suspects>, OutOfMemory>
     requires { AreBodies parts.now bodies.now }
@@ -72,7 +72,7 @@ pub fn held_pair<F: FacetSource>(
 
 // marks the places of parts of w to which the way leads from the part a, and puts them at the end of the list
 fn add_next(
-    asked: &Asked,
+    asked: &AskedRows,
     w: &[u32],
     way: Way,
     a: u32,
@@ -93,7 +93,7 @@ fn add_next(
 }
 
 // whether each part of w is reached from the first one on the way
-fn reaches_all(alloc: Global, asked: &Asked, w: &[u32], way: Way) -> Result<bool, OutOfMemory> {
+fn reaches_all(alloc: Global, asked: &AskedRows, w: &[u32], way: Way) -> Result<bool, OutOfMemory> {
     let mut marks = no_marks(alloc, w.len())?;
     let mut next = Vec::new(alloc);
     mark(&mut marks, 0);
@@ -109,7 +109,7 @@ fn reaches_all(alloc: Global, asked: &Asked, w: &[u32], way: Way) -> Result<bool
 }
 
 /// Whether one of the likely directions takes the parts of `w` apart.
-pub fn comes_apart(alloc: Global, asked: &[Asked], w: &[u32]) -> Result<bool, OutOfMemory> {
+pub fn comes_apart(alloc: Global, asked: &[AskedRows], w: &[u32]) -> Result<bool, OutOfMemory> {
     for one in asked {
         if !reaches_all(alloc, one, w, Way::Ahead)? || !reaches_all(alloc, one, w, Way::Back)? {
             return Ok(true);

@@ -11,7 +11,7 @@ ghost use Rattle.staat_decide.specs.Decided.{IsDecision, IsParting};
 
 use crate::asking::asked_of;
 use crate::decision::{Decision, Parting};
-use crate::likely::{Asked, likely_leaving, numbers};
+use crate::likely::{AskedRows, likely_leaving, numbers};
 use crate::settling::{parting_by_all, parting_by_guess};
 use crate::turns::joined;
 use staat_cone::FacetSource;
@@ -26,7 +26,7 @@ fn parting<F: FacetSource>(
     source: &F,
     parts: &[Part],
     bodies: &Bodies,
-    asked: &[Asked],
+    asked: &[AskedRows],
     w: &[u32],
     before: V3,
 ) -> Result<Parting, OutOfMemory>
@@ -56,7 +56,7 @@ fn decision_of<F: FacetSource>(
     source: &F,
     parts: &[Part],
     bodies: &Bodies,
-    asked: &[Asked],
+    asked: &[AskedRows],
     w: &[u32],
     before: V3,
 ) -> Result<Decision, OutOfMemory>

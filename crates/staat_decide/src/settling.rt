@@ -14,7 +14,7 @@ use crate::decision::{Leaving, Parting};
 use crate::every::all_pairs;
 use crate::guess::{Guess, guess_of};
 use crate::holding::{copied, held_by, is_part_set, places_in};
-use crate::likely::{Asked, is_direction};
+use crate::likely::{AskedRows, is_direction};
 use crate::peeling::peel;
 use crate::suspects::Suspects;
 use staat_cone::FacetSource;
@@ -76,7 +76,7 @@ pub fn parting_by_guess<F: FacetSource>(
     source: &F,
     parts: &[Part],
     bodies: &Bodies,
-    asked: &[Asked],
+    asked: &[AskedRows],
     w: &[u32],
 ) -> Result<Option<Parting>, OutOfMemory>
     requires bodies { AreBodies parts.now bodies.now }

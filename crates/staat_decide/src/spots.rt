@@ -110,7 +110,7 @@ pub fn spots_of(alloc: Global, parts: &[Part], w: &[u32]) -> Result<Vec<Spot>, O
 }
 
 /// Whether the boxes of two pieces touch.
-pub fn touch(a: &Spot, b: &Spot) -> bool {
+pub fn boxes_touch(a: &Spot, b: &Spot) -> bool {
     are_met(a.low.x, a.high.x, b.low.x, b.high.x)
         && are_met(a.low.y, a.high.y, b.low.y, b.high.y)
         && are_met(a.low.z, a.high.z, b.low.z, b.high.z)

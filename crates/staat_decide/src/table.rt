@@ -15,13 +15,13 @@ use std::alloc::Global;
 
 /// The facets of a pair of pieces.
 #[derive(Drop)]
-pub struct Kept {
+pub struct KeptFacets {
     pub pair: Arc,
     pub facets: Listed<V3>,
 }
 
 /// Facets of pairs of pieces, by their slots.
-pub type Table = Vec<Option<Kept>>;
+pub type KeptTable = Vec<Option<KeptFacets>>;
 
 // how many slots there are for each piece, and at most
 const SLOTS: usize = 32;
@@ -74,7 +74,7 @@ fn kept_of<F: FacetSource>(
     source: &F,
     parts: &[Part],
     pair: Arc,
-) -> Result<Kept, OutOfMemory>
+) -> Result<KeptFacets, OutOfMemory>
     requires { HasBothPieces parts.now pair }
     ensures kept { IfOk result (IsKept parts.now) }
     ensures pair { IfOk result (λ kept. kept.pair ≡ pair) }
@@ -82,7 +82,7 @@ fn kept_of<F: FacetSource>(
     let p = piece_of(parts, pair.a, pair.i);
     let q = piece_of(parts, pair.b, pair.j);
     let facets = source.facets(alloc, p, q)?;
-    Ok(Kept {
+    Ok(KeptFacets {
         pair,
         facets: Listed::from_vec(facets),
     })
@@ -95,7 +95,7 @@ fn is_pair(p: Arc, q: Arc) -> bool
 }
 
 // whether the slot has the pair
-fn has_pair(slot: &Option<Kept>, pair: Arc) -> bool
+fn has_pair(slot: &Option<KeptFacets>, pair: Arc) -> bool
     ensures { IsTrue result ↔ KeepsPair slot.now pair }
 {
     match slot {
@@ -106,7 +106,7 @@ fn has_pair(slot: &Option<Kept>, pair: Arc) -> bool
 
 // sees that the slot has the pair
 fn keep<F: FacetSource>(
-    slot: &mut Option<Kept>,
+    slot: &mut Option<KeptFacets>,
     alloc: Global,
     source: &F,
     parts: &[Part],
@@ -126,7 +126,7 @@ fn keep<F: FacetSource>(
 }
 
 // whether of the pair, whose pieces are those that are kept, the first piece meets the second
-fn meets_by(kept: &Kept, parts: &[Part], along: &Along, pair: Arc) -> bool
+fn meets_by(kept: &KeptFacets, parts: &[Part], along: &Along, pair: Arc) -> bool
     requires made { IsMotionOf parts.now along.now }
     requires pieces { HasBothPieces parts.now pair }
     requires kept { IsKept parts.now kept.now }
@@ -141,7 +141,7 @@ fn meets_by(kept: &Kept, parts: &[Part], along: &Along, pair: Arc) -> bool
 }
 
 // the same where the slot has them
-fn meets_in(slot: &Option<Kept>, parts: &[Part], along: &Along, pair: Arc, key: Arc) -> bool
+fn meets_in(slot: &Option<KeptFacets>, parts: &[Part], along: &Along, pair: Arc, key: Arc) -> bool
     requires made { IsMotionOf parts.now along.now }
     requires pieces { HasBothPieces parts.now pair }
     requires kept { IfSome slot.now (IsKept parts.now) }
@@ -156,7 +156,7 @@ fn meets_in(slot: &Option<Kept>, parts: &[Part], along: &Along, pair: Arc, key: 
 }
 
 // so many empty slots
-fn empty(alloc: Global, count: usize) -> Result<Table, OutOfMemory>
+fn empty(alloc: Global, count: usize) -> Result<KeptTable, OutOfMemory>
     ensures some { IfOk result (λ table. length table.items ≡ count) }
     ensures kept { IfOk result (λ table. (parts : List PartValue) → AreKept parts table.items) }
 {
@@ -177,7 +177,7 @@ fn piece_number(parts: &[Part]) -> usize {
 }
 
 /// A table that keeps nothing yet.
-pub fn table_for(alloc: Global, parts: &[Part]) -> Result<Table, OutOfMemory>
+pub fn table_for(alloc: Global, parts: &[Part]) -> Result<KeptTable, OutOfMemory>
     ensures some { IfOk result (λ table. 1 ≤ length table.items) }
     ensures kept { IfOk result (λ table. AreKept parts.now table.items) }
 {
@@ -190,7 +190,7 @@ pub fn table_for(alloc: Global, parts: &[Part]) -> Result<Table, OutOfMemory>
 
 // whether of the slot's pair the first piece meets the second, whether it has it before or not
 fn ask_slot<F: FacetSource>(
-    slot: &mut Option<Kept>,
+    slot: &mut Option<KeptFacets>,
     alloc: Global,
     source: &F,
     parts: &[Part],
@@ -211,7 +211,7 @@ fn ask_slot<F: FacetSource>(
 
 // whether the first piece meets the second
 fn pair_meets<F: FacetSource>(
-    table: &mut Table,
+    table: &mut KeptTable,
     alloc: Global,
     source: &F,
     parts: &[Part],
@@ -250,7 +250,7 @@ fn count_of(parts: &[Part], a: u32) -> Option<u32>
 
 // whether the piece i of the part a meets one of the part b, which has so many
 fn meets_some<F: FacetSource>(
-    table: &mut Table,
+    table: &mut KeptTable,
     alloc: Global,
     source: &F,
     parts: &[Part],
@@ -284,7 +284,7 @@ fn meets_some<F: FacetSource>(
 
 // whether one of the first pieces of the part a, so many, meets one of the part b
 fn some_meets<F: FacetSource>(
-    table: &mut Table,
+    table: &mut KeptTable,
     alloc: Global,
     source: &F,
     parts: &[Part],
@@ -316,7 +316,7 @@ fn some_meets<F: FacetSource>(
 
 /// Whether the part `a` blocks the part `b` along the direction.
 pub fn blocks_with<F: FacetSource>(
-    table: &mut Table,
+    table: &mut KeptTable,
     alloc: Global,
     source: &F,
     parts: &[Part],

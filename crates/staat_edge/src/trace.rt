@@ -1,14 +1,14 @@
 // What calls did. It exists only in proofs: it takes no memory, and its methods do nothing when they run.
 ghost use Rattle.std.specs.Prelude.{◌≡◌, ◌≤◌, ◌∷◌, ◌++◌, List, [], length};
 ghost use Rattle.std.specs.Borrow.{ftrue};
-ghost use Rattle.staat_edge.specs.Steps.{Step};
+ghost use Rattle.staat_edge.specs.Steps.{FileStep};
 
 use std::marker::Model;
 
 /// The steps so far, the last one first.
 #[derive(Drop)]
 pub(crate) struct Trace {
-    ghost steps: { List Step },
+    ghost steps: { List FileStep },
 }
 
 impl Model for Trace {

@@ -15,7 +15,7 @@ use Rattle.staat_holds.specs.declared.links.Link.{Link}
 use Rattle.staat_holds.specs.declared.ways.Way.{Way}
 use Rattle.staat_holds.specs.Holds.{IsOfNode, IsOfSomeNode}
 use Rattle.staat_holds.specs.Links.{AreLinks, HasLinkOther, HasOther, IsLinkAhead, IsLink, IsLinkOf, IsOther, LinkLeads, SomeLeads}
-use Rattle.staat_holds.specs.Marks.{HasWay, IsWayWithin}
+use Rattle.staat_holds.specs.VisitedNodes.{HasWay, IsWayWithin}
 use Rattle.staat_holds.proofs.ListSteps.{Some', some_at, some_more}
 
 -- ---- one link

@@ -4,7 +4,7 @@ use Rattle.std.proofs.lemmas.List.{take_more}
 use Rattle.std.proofs.lemmas.List.Elements.{All-push}
 use Rattle.std.specs.Prelude.{◌||◌}
 use Rattle.staat_holds.specs.declared.ways.Way.{Way}
-use Rattle.staat_holds.specs.Marks.{KeepsVisited, ReachesVisited, AreShut, HasWay, IsVisited, visited_count}
+use Rattle.staat_holds.specs.VisitedNodes.{KeepsVisited, ReachesVisited, AreShut, HasWay, IsVisited, visited_count}
 use Rattle.staat_holds.specs.Reaching.{Reaches, here, along}
 
 -- an element is the same whatever stands for a missing one

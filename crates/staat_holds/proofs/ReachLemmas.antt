@@ -5,7 +5,7 @@ use Rattle.std.proofs.lemmas.Bool.{cases_eq}
 use Rattle.std.proofs.lemmas.List.{get_or-set_other, get_or-set_same, length-replicate, length-set}
 use Rattle.std.proofs.lemmas.List.Elements.{All-contains, All-contains_itself, All-weaker}
 use Rattle.staat_holds.specs.declared.ways.Way.{Way}
-use Rattle.staat_holds.specs.Marks.{KeepsVisited, ReachesVisited, AreShut, HasWay, IsVisited, IsWayWithin, turned_way}
+use Rattle.staat_holds.specs.VisitedNodes.{KeepsVisited, ReachesVisited, AreShut, HasWay, IsVisited, IsWayWithin, turned_way}
 use Rattle.staat_holds.specs.Reaching.{AllReach, Reaches, here, along}
 use Rattle.staat_holds.proofs.Marking.{get_or_same, reach_more}
 

@@ -1,6 +1,6 @@
 pub mod Chains
 pub mod Holds
 pub mod Links
-pub mod Marks
+pub mod VisitedNodes
 pub mod Partials
 pub mod Reaching

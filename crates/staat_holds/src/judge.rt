@@ -12,7 +12,7 @@ ghost use Rattle.staat_model.specs.SetLists.{union_of};
 ghost use Rattle.staat_model.proofs.PlaneLemmas.{NoneParallel};
 ghost use Rattle.staat_holds.specs.Holds.{AreNodeSets, IsCorePair, IsFirstGap, JoinsNodes};
 ghost use Rattle.staat_holds.specs.Links.{IsGap, IsJoined, IsLink, LinkLeads, SomeLeads};
-ghost use Rattle.staat_holds.specs.Marks.{HasWay};
+ghost use Rattle.staat_holds.specs.VisitedNodes.{HasWay};
 
 use crate::links::{Link, links_of};
 use crate::planes::{planes_from, planes_of};

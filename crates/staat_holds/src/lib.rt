@@ -4,8 +4,8 @@
 
 mod grouped;
 mod hold;
-mod joined;
 mod judge;
+mod last_joined;
 pub mod laws;
 mod links;
 mod names;
@@ -17,8 +17,8 @@ mod ways;
 
 pub use grouped::{Group, GroupedTree};
 pub use hold::{BrokenHold, Hold, HoldRule, Holds};
-pub use joined::joined_parts;
 pub use judge::{first_gap, judge_hold};
+pub use last_joined::joined_parts;
 pub use links::is_core_pair;
 pub use names::{own_names, places_of};
 pub use ordering::ordered;

@@ -1,7 +1,7 @@
 // What ways reach.
 ghost use Rattle.std.specs.Prelude.{◌≡◌, ◌<◌, ◌≤◌, ◌⊎◌, ◌↔◌, ℕ, All, IfOk, IsFalse, IsTrue, length};
-ghost use Rattle.staat_holds.specs.Marks.{AreShut, HasWay, IsVisited, IsWayWithin, KeepsVisited, ReachesVisited};
-ghost use Rattle.staat_holds.specs.Marks.{visited_count};
+ghost use Rattle.staat_holds.specs.VisitedNodes.{AreShut, HasWay, IsVisited, IsWayWithin, KeepsVisited, ReachesVisited};
+ghost use Rattle.staat_holds.specs.VisitedNodes.{visited_count};
 ghost use Rattle.staat_holds.specs.Reaching.{AllReach, Reaches};
 
 use crate::ways::{Way, turned};

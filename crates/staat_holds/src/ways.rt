@@ -1,6 +1,6 @@
 // Ways between nodes.
 ghost use Rattle.std.specs.Prelude.{◌≡◌, ◌⊎◌, ◌↔◌, ℕ, IfOk, IsTrue, OnOk, map};
-ghost use Rattle.staat_holds.specs.Marks.{HasWay, turned_way};
+ghost use Rattle.staat_holds.specs.VisitedNodes.{HasWay, turned_way};
 
 use std::alloc::{AllocError, Global};
 

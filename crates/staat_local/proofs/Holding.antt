@@ -31,7 +31,7 @@ use Rattle.staat_local.specs.Beginnings.{HoldsBack, HoldsBetween, IsLoose, IsTig
 use Rattle.staat_local.specs.Contacts.{Contact, Starts}
 use Rattle.staat_local.specs.Touching.{AreMarks}
 use Rattle.staat_local.proofs.Contacts.{meets_of_start, starts_by_contact_lemma}
-use Rattle.staat_local.proofs.Marks.{contact_back}
+use Rattle.staat_local.proofs.TouchMarks.{contact_back}
 use Rattle.staat_vec.proofs.Options.{one_answer}
 use Rattle.staat_model.proofs.OtherSides.{back_in, other_side}
 use Rattle.staat_model.proofs.PlanLemmas.{piece_within}

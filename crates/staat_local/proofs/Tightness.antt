@@ -18,7 +18,7 @@ use Rattle.staat_local.specs.Contacts.{Contact}
 use Rattle.staat_local.specs.Tightness.{IsMarkedCore, IsMarkedPair}
 use Rattle.staat_local.specs.Touching.{AreMarks}
 use Rattle.staat_local.proofs.Holding.{starts_at}
-use Rattle.staat_local.proofs.Marks.{contact_back}
+use Rattle.staat_local.proofs.TouchMarks.{contact_back}
 
 module _ (parts : List Part) (t : Table) (marks : List Bool) (pairs : List Arc) (made : WasMadeFrom parts t) (are : AreMarks parts t marks) (all : All (IsMarkedPair t marks) pairs) where
   touches : (pair : Arc) → Contains pairs pair → HoldsAt parts pair Contact

@@ -10,7 +10,7 @@ ghost use Rattle.staat_local.specs.Beginnings.{HoldsBack, HoldsBetween, HoldsFro
 ghost use Rattle.staat_local.specs.Contacts.{Starts};
 ghost use Rattle.staat_local.specs.Touching.{IsPairMarked};
 
-use crate::touching::{Marks, touching};
+use crate::touching::{TouchMarks, touching};
 use staat_graph::Graph;
 use staat_limits::MOST_PARTS;
 use staat_model::{Arc, PartSet, Sound};
@@ -18,7 +18,7 @@ use staat_planes::PlaneTable;
 use staat_vec::{DIRECTION, V3};
 
 // whether the pieces of an arc are marked, and d leads ahead of all their facets
-fn holds(marks: &Marks, table: &PlaneTable, arc: Arc, d: V3) -> bool
+fn holds(marks: &TouchMarks, table: &PlaneTable, arc: Arc, d: V3) -> bool
     requires across { IsTableArc table.now arc }
     requires direction { IsWithin DIRECTION d }
     ensures { IsTrue result ↔ (IsPairMarked marks.now (slot table.now.pieces arc)
@@ -28,7 +28,7 @@ fn holds(marks: &Marks, table: &PlaneTable, arc: Arc, d: V3) -> bool
 }
 
 // whether this is so for piece i of the part a and some piece of the part b
-fn holds_from(marks: &Marks, table: &PlaneTable, a: u32, i: u32, b: u32, d: V3) -> bool
+fn holds_from(marks: &TouchMarks, table: &PlaneTable, a: u32, i: u32, b: u32, d: V3) -> bool
     requires a_in { Has table.now.of a }
     requires b_in { Has table.now.of b }
     requires different { a ≢ b }
@@ -45,7 +45,7 @@ fn holds_from(marks: &Marks, table: &PlaneTable, a: u32, i: u32, b: u32, d: V3) 
 }
 
 // whether this is so for some piece of the part a and some piece of the part b
-fn holds_between(marks: &Marks, table: &PlaneTable, a: u32, b: u32, d: V3) -> bool
+fn holds_between(marks: &TouchMarks, table: &PlaneTable, a: u32, b: u32, d: V3) -> bool
     requires a_in { Has table.now.of a }
     requires b_in { Has table.now.of b }
     requires different { a ≢ b }
@@ -61,7 +61,7 @@ fn holds_between(marks: &Marks, table: &PlaneTable, a: u32, b: u32, d: V3) -> bo
 }
 
 // the parts that hold the part a back, and none where it is not in the set
-fn held_by(marks: &Marks, table: &PlaneTable, a: u32, d: V3) -> PartSet
+fn held_by(marks: &TouchMarks, table: &PlaneTable, a: u32, d: V3) -> PartSet
     requires part { a < MOST_PARTS }
     requires direction { IsWithin DIRECTION d }
     ensures { (b : ℕ) → Has result b ↔ HoldsBetween table.now marks.now d a b }
@@ -77,7 +77,7 @@ fn held_by(marks: &Marks, table: &PlaneTable, a: u32, d: V3) -> PartSet
 }
 
 /// The graph of the marked pairs at the direction `d`.
-pub(crate) fn graph_of(marks: &Marks, table: &PlaneTable, d: V3) -> Graph
+pub(crate) fn graph_of(marks: &TouchMarks, table: &PlaneTable, d: V3) -> Graph
     requires { IsWithin DIRECTION d }
     ensures { (a b : ℕ) → HasArc result.rows a b ↔ HoldsBetween table.now marks.now d a b }
 {

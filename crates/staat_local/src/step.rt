@@ -13,7 +13,7 @@ ghost use Rattle.staat_local.specs.Touching.{AreMarks};
 use crate::graph::graph_of;
 use crate::side::Loose;
 use crate::tight::marked_core;
-use crate::touching::{Marks, touching};
+use crate::touching::{TouchMarks, touching};
 use staat_core::{Moving, TableCore};
 use staat_graph::{is_strong, sink_of};
 use staat_model::{PartSet, Sound};
@@ -24,7 +24,7 @@ use staat_vec::{DIRECTION, V3};
 #[derive(Drop)]
 struct Contacts<'a> {
     table: &'a PlaneTable,
-    marks: Marks,
+    marks: TouchMarks,
     core: TableCore,
 }
 

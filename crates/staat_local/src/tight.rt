@@ -3,13 +3,13 @@ ghost use Rattle.std.specs.Prelude.{◌≡◌, All};
 ghost use Rattle.staat_core.specs.Listed.{HasListRoom, IsTablePair, pairs_in_use};
 ghost use Rattle.staat_local.specs.Tightness.{IsMarkedCore, IsMarkedPair};
 
-use crate::touching::Marks;
+use crate::touching::TouchMarks;
 use staat_core::{PairList, TableCore};
 use staat_model::Arc;
 use staat_planes::PlaneTable;
 
 // puts a pair into the list, if it is marked
-fn put_marked(list: &mut PairList, marks: &Marks, table: &PlaneTable, pair: Arc)
+fn put_marked(list: &mut PairList, marks: &TouchMarks, table: &PlaneTable, pair: Arc)
     requires room { HasListRoom list.old }
     requires marked { All (IsMarkedPair table.now marks.now) (pairs_in_use list.old) }
     requires pair { IsTablePair table.now pair }
@@ -23,7 +23,7 @@ fn put_marked(list: &mut PairList, marks: &Marks, table: &PlaneTable, pair: Arc)
 }
 
 // the marked pairs of these
-fn marked_pairs(marks: &Marks, table: &PlaneTable, pairs: &[Arc]) -> PairList
+fn marked_pairs(marks: &TouchMarks, table: &PlaneTable, pairs: &[Arc]) -> PairList
     requires { All (IsTablePair table.now) pairs.now }
     ensures room { HasListRoom result }
     ensures marked { All (IsMarkedPair table.now marks.now) (pairs_in_use result) }
@@ -36,7 +36,7 @@ fn marked_pairs(marks: &Marks, table: &PlaneTable, pairs: &[Arc]) -> PairList
 }
 
 /// A core that may grow by all marked pairs of the table.
-pub(crate) fn marked_core(marks: &Marks, table: &PlaneTable) -> TableCore
+pub(crate) fn marked_core(marks: &TouchMarks, table: &PlaneTable) -> TableCore
     ensures { IsMarkedCore table.now marks.now result }
 {
     let set = table.set();

@@ -12,10 +12,10 @@ use staat_pairs::back;
 use staat_planes::PlaneTable;
 
 /// For each slot of an ordered pair of pieces whether it is marked.
-pub(crate) type Marks = [bool; 4096];
+pub(crate) type TouchMarks = [bool; 4096];
 
 // marks a slot
-fn mark(marks: &mut Marks, slot: u32)
+fn mark(marks: &mut TouchMarks, slot: u32)
     requires { slot < 4096 }
     ensures { (s : ℕ) → IsPairMarked marks.new s ↔ (IsPairMarked marks.old s ⊎ (s ≡ slot)) }
 {
@@ -23,7 +23,7 @@ fn mark(marks: &mut Marks, slot: u32)
 }
 
 // marks the pieces of an arc, both ways round, if they touch
-fn mark_arc(marks: &mut Marks, table: &PlaneTable, sound: &Sound, arc: Arc)
+fn mark_arc(marks: &mut TouchMarks, table: &PlaneTable, sound: &Sound, arc: Arc)
     requires made { WasMadeFrom sound.now table.now }
     requires across { IsTableArc table.now arc }
     ensures { MarksTouching sound.now table.now (λ x. x ≡ arc) marks.old marks.new }
@@ -35,7 +35,7 @@ fn mark_arc(marks: &mut Marks, table: &PlaneTable, sound: &Sound, arc: Arc)
 }
 
 // marks those of piece i of the part a and a piece of the part b
-fn mark_from(marks: &mut Marks, table: &PlaneTable, sound: &Sound, a: u32, i: u32, b: u32)
+fn mark_from(marks: &mut TouchMarks, table: &PlaneTable, sound: &Sound, a: u32, i: u32, b: u32)
     requires made { WasMadeFrom sound.now table.now }
     requires a_in { Has table.now.of a }
     requires b_in { Has table.now.of b }
@@ -49,7 +49,7 @@ fn mark_from(marks: &mut Marks, table: &PlaneTable, sound: &Sound, a: u32, i: u3
 }
 
 // marks those of a piece of the part a and a piece of the part b
-fn mark_between(marks: &mut Marks, table: &PlaneTable, sound: &Sound, a: u32, b: u32)
+fn mark_between(marks: &mut TouchMarks, table: &PlaneTable, sound: &Sound, a: u32, b: u32)
     requires made { WasMadeFrom sound.now table.now }
     requires a_in { Has table.now.of a }
     requires b_in { Has table.now.of b }
@@ -62,7 +62,7 @@ fn mark_between(marks: &mut Marks, table: &PlaneTable, sound: &Sound, a: u32, b:
 }
 
 // marks those of the part a and a greater part
-fn mark_greater(marks: &mut Marks, table: &PlaneTable, sound: &Sound, a: u32)
+fn mark_greater(marks: &mut TouchMarks, table: &PlaneTable, sound: &Sound, a: u32)
     requires made { WasMadeFrom sound.now table.now }
     requires a_in { Has table.now.of a }
     ensures { MarksTouching sound.now table.now (IsToGreater a 32) marks.old marks.new }
@@ -76,7 +76,7 @@ fn mark_greater(marks: &mut Marks, table: &PlaneTable, sound: &Sound, a: u32)
 }
 
 /// Marks for the pairs of pieces of different parts of the table's set that touch. Each unordered pair is tested once.
-pub(crate) fn touching(table: &PlaneTable, sound: &Sound) -> Marks
+pub(crate) fn touching(table: &PlaneTable, sound: &Sound) -> TouchMarks
     requires { WasMadeFrom sound.now table.now }
     ensures { AreMarks sound.now table.now result }
 {

@@ -4,7 +4,7 @@ use Rattle.std.specs.Prelude.{replicate}
 use Rattle.std.proofs.lemmas.Bool.{cases_eq}
 use Rattle.std.proofs.lemmas.List.{take_all, take_more}
 use Rattle.std.proofs.lemmas.List.Elements.{Contains-append_left, Contains-push, Contains-push_cases}
-use Rattle.staat_mesh.specs.Marks.{IsMarked, MarksCorners}
+use Rattle.staat_mesh.specs.MarkedVertices.{IsMarked, MarksCorners}
 
 -- ---- one more element
 

@@ -10,7 +10,7 @@ use Rattle.staat_vec.specs.Lists.{Lists}
 use Rattle.staat_vec.specs.Vectors.{vector_cmp}
 use Rattle.staat_vec.proofs.Unique.{Contains-cases, Contains-front, Contains-later, Contains-nothing}
 use Rattle.staat_off.specs.declared.raw.Raw.{Raw}
-use Rattle.staat_mesh.specs.Marks.{IsMarked, MarksCorners}
+use Rattle.staat_mesh.specs.MarkedVertices.{IsMarked, MarksCorners}
 use Rattle.staat_mesh.specs.Polygons.{IsUsed, mesh, polygon}
 
 -- ---- the members of a filter_map

@@ -4,6 +4,6 @@ pub mod Sides
 pub mod Edges
 pub mod Judging
 pub mod Stances
-pub mod Marks
+pub mod MarkedVertices
 pub mod Counts
 pub mod Checks

@@ -9,7 +9,7 @@ use staat_vec::V3;
 use std::alloc::{AllocError, Global};
 
 // the number of the position among the points, or 0 where it is not there
-fn number_of(points: &[V3], position: V3) -> u8
+fn number_of_position(points: &[V3], position: V3) -> u8
     requires ascending { IsStrictlySortedBy vector_cmp points.now }
     requires number { length points.now ≤ MOST_POINTS }
     ensures at { Contains points.now position → slice_get points.now result ≡ Some position }
@@ -29,7 +29,7 @@ pub fn numbers_of(alloc: Global, points: &[V3], positions: &[V3]) -> Result<Vec<
 {
     let mut numbers = Vec::new(alloc);
     for position in positions {
-        numbers.push(number_of(points, *position))?;
+        numbers.push(number_of_position(points, *position))?;
     }
     Ok(numbers)
 }

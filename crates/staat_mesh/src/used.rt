@@ -5,7 +5,7 @@ ghost use Rattle.std.specs.List.{zip};
 ghost use Rattle.staat_vec.specs.Lists.{Lists};
 ghost use Rattle.staat_vec.specs.Vectors.{vector_cmp};
 ghost use Rattle.staat_off.specs.Raws.{IsIndexed};
-ghost use Rattle.staat_mesh.specs.Marks.{IsMarked, MarksCorners};
+ghost use Rattle.staat_mesh.specs.MarkedVertices.{IsMarked, MarksCorners};
 ghost use Rattle.staat_mesh.specs.Polygons.{IsUsed, mesh};
 
 use staat_off::{Corners, Raw};

@@ -73,7 +73,7 @@ fn read_faces(
 }
 
 #[tactic(auto, unfolding(crate::specs::Reading::file))]
-fn read_file(alloc: Global, digits: u32, rest: &mut Rest<'_>) -> Result<Raw, OffRefusal>
+fn read_raw(alloc: Global, digits: u32, rest: &mut Rest<'_>) -> Result<Raw, OffRefusal>
     requires { digits ≤ MOST_DIGITS }
     ensures { Gives (λ raw. raw) result rest.new (file digits rest.old) }
 {
@@ -102,5 +102,5 @@ pub fn read_off(alloc: Global, bytes: &[u8], digits: u32) -> Result<Raw, OffRefu
     ensures counted { IfOk result IsCounted }
     ensures corners { IfOk result HasCorners }
 {
-    read_file(alloc, digits, &mut Rest::of(bytes))
+    read_raw(alloc, digits, &mut Rest::of(bytes))
 }

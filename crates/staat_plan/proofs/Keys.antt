@@ -3,7 +3,7 @@ use Rattle.std.proofs.Common.{◌≡◌, ◌∷◌, [], ◌++◌, ℕ, List, ref
 use Rattle.std.specs.Prelude.{flat_map}
 use Rattle.staat_model.specs.declared.certificate.Arc.{Arc}
 use Rattle.staat_model.specs.declared.certificate.Witness.{Witness}
-use Rattle.staat_plan.specs.Listings.{key_of, key_numbers}
+use Rattle.staat_plan.specs.WitnessListings.{key_of, key_numbers}
 
 module _ (side : ℕ) where
   arcs_same : (xs ys : List Arc) → flat_map (key_numbers side) xs ≡ flat_map (key_numbers side) ys → xs ≡ ys

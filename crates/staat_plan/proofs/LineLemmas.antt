@@ -9,7 +9,7 @@ use Rattle.staat_model.specs.declared.certificate.Dir.{Dir}
 use Rattle.staat_model.specs.declared.certificate.Witness.{Witness}
 use Rattle.staat_model.specs.declared.set.PartSet.{PartSet}
 use Rattle.staat_model.specs.Certify.{IsWitnessAt, NamesWitness}
-use Rattle.staat_plan.specs.Listings.{AreListed, IsWitnessNumber}
+use Rattle.staat_plan.specs.WitnessListings.{AreListed, IsWitnessNumber}
 use Rattle.staat_plan.proofs.NumberLemmas.{numbers_next}
 use Rattle.staat_vec.proofs.ListLaws.{push_front}
 

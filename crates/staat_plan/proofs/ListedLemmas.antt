@@ -24,8 +24,8 @@ use Rattle.staat_model.proofs.PlaneLemmas.{NoneParallel}
 use Rattle.staat_model.proofs.VertexLemmas.{same_some}
 use Rattle.staat_pairs.specs.Tables.{Table}
 use Rattle.staat_planes.specs.Refusals.{IsTableWithin}
-use Rattle.staat_plan.specs.declared.listing.Listing.{Listing}
-use Rattle.staat_plan.specs.Listings.{AreListed, IsSizedDirection, key_of}
+use Rattle.staat_plan.specs.declared.listing.WitnessListing.{WitnessListing}
+use Rattle.staat_plan.specs.WitnessListings.{AreListed, IsSizedDirection, key_of}
 use Rattle.staat_plan.proofs.NumberLemmas.{get_map, numbers_none}
 use Rattle.staat_vec.proofs.VectorLists.{length-le_from_contains}
 
@@ -83,7 +83,7 @@ refusal_listed parts version w planes ds keys witnesses dirs planes_are lists li
 pub planes_of : (parts : List Part) (w : PartSet) (limit : ℕ) (t : Table) (planes : List V3) → IsTableWithin parts w limit t → planes ≡ t.planes → ArePlanes parts w planes
 planes_of parts w limit t planes within e = subst (ArePlanes parts w) (sym e) (subst (λ (u : PartSet). ArePlanes parts u t.planes) within.table.set within.table.made.planes)
 
-pub listed_end : (parts : List Part) (version : ℕ) (w of : PartSet) (planes ds : List V3) (answer : Result Listing OutOfMemory) → of ≡ w → ArePlanes parts w planes → Lists vector_cmp (IsDirection version planes) ds
+pub listed_end : (parts : List Part) (version : ℕ) (w of : PartSet) (planes ds : List V3) (answer : Result WitnessListing OutOfMemory) → of ≡ w → ArePlanes parts w planes → Lists vector_cmp (IsDirection version planes) ds
     → IfOk answer (λ l. AreListed parts of (map (λ v. v.items) l.keys.keys) l.witnesses.items l.dirs.items) → IfOk answer (λ l. map (λ dir. dir.d) l.dirs.items ≡ ds) → IfOk answer (λ l. IsRefusalOf parts version w l.witnesses.items l.dirs.items)
 listed_end parts version w of planes ds (Ok l) e are lists listed lines = refusal_listed parts version w planes ds (map (λ v. v.items) l.keys.keys) l.witnesses.items l.dirs.items are lists (subst (λ (u : PartSet). AreListed parts u (map (λ v. v.items) l.keys.keys) l.witnesses.items l.dirs.items) e listed) lines
 listed_end parts version w of planes ds (Err x) e are lists listed lines = tt

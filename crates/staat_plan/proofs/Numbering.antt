@@ -3,7 +3,7 @@ use Rattle.std.proofs.Common.{◌≡◌, inl, inr, ⊎_elim, ℕ, ◌+◌, zero,
 use Rattle.std.specs.Prelude.{Some, slice_get}
 use Rattle.std.proofs.lemmas.List.{length-map, map-append}
 use Rattle.staat_model.specs.declared.certificate.Witness.{Witness}
-use Rattle.staat_plan.specs.Listings.{IsWitnessNumber, key_of}
+use Rattle.staat_plan.specs.WitnessListings.{IsWitnessNumber, key_of}
 use Rattle.staat_plan.specs.Numbers.{IsNumberOf}
 use Rattle.staat_plan.proofs.Keys.{key_tells}
 use Rattle.staat_vec.proofs.ListLaws.{push_cases, push_end}

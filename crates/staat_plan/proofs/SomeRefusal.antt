@@ -44,7 +44,7 @@ use Rattle.staat_graph.specs.Graphs.{IsShut, Walks, here}
 use Rattle.staat_graph.proofs.Finite.{len_subset, some_least, some_or_none}
 use Rattle.staat_graph.proofs.Reaching.{reach_of}
 use Rattle.staat_graph.proofs.Walking.{reach_shut, stays, turned, walk_ends}
-use Rattle.staat_plan.specs.Listings.{IsWitnessNumber, key_of}
+use Rattle.staat_plan.specs.WitnessListings.{IsWitnessNumber, key_of}
 use Rattle.staat_plan.proofs.Keys.{key_tells}
 use Rattle.staat_plan.proofs.LineLemmas.{line_pushed, listed_more}
 use Rattle.staat_plan.proofs.ListedLemmas.{HasLines, no_lines, refusal_listed}

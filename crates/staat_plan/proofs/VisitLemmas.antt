@@ -20,7 +20,7 @@ use Rattle.staat_model.specs.Certify.{IsDirection, IsWitnessAt, NamesWitness}
 use Rattle.staat_model.proofs.EndLemmas.{from_vertices}
 use Rattle.staat_model.proofs.PlaneLemmas.{NoneParallel}
 use Rattle.staat_pairs.specs.Tables.{AreTablePlanes, Table}
-use Rattle.staat_plan.specs.Listings.{IsWitnessNumber}
+use Rattle.staat_plan.specs.WitnessListings.{IsWitnessNumber}
 use Rattle.staat_plan.specs.Visits.{AreAllFound, AreFound, AreFoundBelow, AreFoundOn, AreStillFound, IsDirectionFound, IsNumberHere, StandsAmong}
 use Rattle.staat_plan.proofs.LineLemmas.{kept}
 use Rattle.staat_ring.specs.declared.entry.Entry.{Entry}
@@ -74,7 +74,6 @@ number_is_here parts w d keys more old new witness i of is = record {
 }
 
 module _ (parts : List Part) (w : PartSet) (ds : List V3) (keys : List (List ℕ)) (old new : List Witness) (numbers more : List (Option ℕ)) (k p : ℕ) (v : V3) (sorted : IsStrictlySortedBy vector_cmp ds) (at : slice_get ds k ≡ Some v) (before : AreFound parts w ds old numbers) (here : IsNumberHere parts w v keys old new p) (is : more ≡ set numbers k (Some p)) where
-
   pub named_more : AreFound parts w ds new more
   named_more = record {
     size = ap length is ∙ (Rattle.std.proofs.Common.length-set numbers k (Some p) ∙ before.size);

@@ -9,7 +9,7 @@ use Rattle.staat_graph.specs.Graphs.{AreTrees, HasArc}
 use Rattle.staat_pairs.specs.Tables.{Table, WasMadeFrom}
 use Rattle.staat_plan.specs.declared.visits.Found.{Found}
 use Rattle.staat_plan.specs.declared.witnesses.GraphTrees.{GraphTrees}
-use Rattle.staat_plan.specs.Listings.{key_of}
+use Rattle.staat_plan.specs.WitnessListings.{key_of}
 use Rattle.staat_ring.specs.Places.{IsStopAt}
 use Rattle.staat_ring.specs.Rings.{Ring, RingStop, linked_of, vertex_of}
 use Rattle.staat_ring.specs.Walked.{IsEntered, WalkWasMadeFrom, Walked}

@@ -8,12 +8,12 @@ ghost use Rattle.staat_model.specs.Outcomes.{finding_of};
 ghost use Rattle.staat_model.specs.Plans.{IsStuck};
 ghost use Rattle.staat_model.specs.Texts.{IsWellFormed};
 ghost use Rattle.staat_pairs.specs.Tables.{WasMadeFrom};
-ghost use Rattle.staat_plan.specs.Listings.{AreListed, IsSizedDirection};
+ghost use Rattle.staat_plan.specs.WitnessListings.{AreListed, IsSizedDirection};
 ghost use Rattle.staat_plan.specs.Certifying.{CanBeCertified, IsValidFor};
 ghost use Rattle.staat_plan.specs.Planning.{HasFewPlanes};
 
-use crate::listing::{Listing, listing_of};
-use crate::nodes::plan_nodes;
+use crate::listing::{WitnessListing, listing_of};
+use crate::nodes::certificate_nodes;
 use crate::visits::found_at;
 use staat_cone::FacetSource;
 use staat_limits::{LIST_LIMIT, MOST_PLANES};
@@ -33,7 +33,7 @@ fn lines_at<L: Ledger>(
     version: u32,
     taken: &[V3],
     blank: Blank,
-) -> Result<Listing, OutOfMemory>
+) -> Result<WitnessListing, OutOfMemory>
     requires made { WasMadeFrom sound.now table.now }
     requires stuck { IsStuck sound.now table.now.of }
     requires lists { Lists vector_cmp (IsDirection version table.now.planes) taken.now }
@@ -57,7 +57,7 @@ fn refusal_lines<F: FacetSource>(
     sound: &Sound,
     w: PartSet,
     version: u32,
-) -> Result<Listing, OutOfMemory>
+) -> Result<WitnessListing, OutOfMemory>
     requires stuck { IsStuck sound.now w }
     requires few { HasFewPlanes sound.now w MOST_PLANES }
     ensures { IfOk result (λ l. IsRefusalOf sound.now version w l.witnesses.items l.dirs.items) }
@@ -91,7 +91,7 @@ fn body_of<F: FacetSource>(
 {
     match outcome {
         Outcome::Plan { tree, .. } => {
-            let nodes = plan_nodes(alloc, source, sound.assembly(), tree)?;
+            let nodes = certificate_nodes(alloc, source, sound.assembly(), tree)?;
             Ok(Body::Plan(nodes))
         }
         Outcome::Stuck(w) => {

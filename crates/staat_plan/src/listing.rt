@@ -16,10 +16,10 @@ ghost use Rattle.std.specs.Prelude.{
 ghost use Rattle.staat_vec.specs.declared.vector.V3.{V3 as Vector};
 ghost use Rattle.staat_model.specs.declared.certificate.Witness.{Witness as WitnessValue};
 ghost use Rattle.staat_model.specs.Certify.{NamesWitness};
-ghost use Rattle.staat_plan.specs.Listings.{AreKeys, AreListed, AreNames, IsWitnessNumber, key_of, key_numbers};
+ghost use Rattle.staat_plan.specs.WitnessListings.{AreKeys, AreListed, AreNames, IsWitnessNumber, key_of, key_numbers};
 ghost use Rattle.staat_plan.specs.Visits.{AreAllFound, AreFound};
 
-use crate::numbers::number_of;
+use crate::numbers::number_of_key;
 use crate::visits::{Found, no_numbers};
 use indexmap::IndexSet;
 use staat_limits::LIST_LIMIT;
@@ -30,7 +30,7 @@ use std::alloc::Global;
 
 /// The witnesses so far, with their keys, and the lines so far.
 #[derive(Drop)]
-pub struct Listing {
+pub struct WitnessListing {
     pub keys: IndexSet<Vec<u32>>,
     pub witnesses: Vec<Witness>,
     pub dirs: Vec<Dir>,
@@ -68,7 +68,7 @@ pub fn number_witness(
         witnesses.new.items witness i) }
 {
     let key = key_of(alloc, &witness)?;
-    let number = number_of(keys, key)?;
+    let number = number_of_key(keys, key)?;
     if number == witnesses.len() {
         witnesses.push(witness)?;
     }
@@ -144,7 +144,7 @@ fn push_dir(
     k: usize,
     found: &Found,
     names: &mut Vec<Option<usize>>,
-    listing: &mut Listing,
+    listing: &mut WitnessListing,
 ) -> Result<(), OutOfMemory>
     requires place { k < length directions.now }
     requires found { AreFound sound.now table.now.of directions.now found.now.witnesses.items
@@ -183,7 +183,7 @@ pub fn listing_of(
     table: &PlaneTable,
     directions: &[V3],
     found: &Found,
-) -> Result<Listing, OutOfMemory>
+) -> Result<WitnessListing, OutOfMemory>
     requires found { AreFound sound.now table.now.of directions.now found.now.witnesses.items
         found.now.numbers.items }
     requires all { AreAllFound directions.now found.now.numbers.items }
@@ -192,7 +192,7 @@ pub fn listing_of(
         l.witnesses.items l.dirs.items) }
     ensures lines { IfOk result (λ l. map (λ dir. dir.d) l.dirs.items ≡ directions.now) }
 {
-    let mut listing = Listing {
+    let mut listing = WitnessListing {
         keys: IndexSet::new(alloc),
         witnesses: Vec::new(alloc),
         dirs: Vec::new(alloc),

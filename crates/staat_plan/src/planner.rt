@@ -208,7 +208,7 @@ fn join(
 }
 
 // the outcome of a set of parts of the table: the moved side is planned first, and then the rest
-fn outcome_of<F: FacetSource>(
+fn outcome_of_set<F: FacetSource>(
     alloc: Global,
     source: &F,
     sound: &Sound,
@@ -237,10 +237,10 @@ fn outcome_of<F: FacetSource>(
         return Ok(Outcome::Stuck(w));
     };
     let step = found.step;
-    match outcome_of(alloc, source, sound, table, walker, step.moved, options)? {
+    match outcome_of_set(alloc, source, sound, table, walker, step.moved, options)? {
         Outcome::Stuck(a) => Ok(Outcome::Stuck(a)),
         Outcome::Plan { tree, marks } => {
-            match outcome_of(
+            match outcome_of_set(
                 alloc,
                 source,
                 sound,
@@ -296,5 +296,5 @@ pub fn plan<F: FacetSource>(
     let all = PartSet::first(sound.assembly().parts());
     let table = tabulate(alloc, source, sound, all, options.planes)?;
     let mut walker = None;
-    outcome_of(alloc, source, sound, &table, &mut walker, all, options)
+    outcome_of_set(alloc, source, sound, &table, &mut walker, all, options)
 }

@@ -33,7 +33,7 @@ ghost use Rattle.staat_ring.specs.Walked.{IsEntered, WalkWasMadeFrom};
 use staat_graph::sink_of;
 use staat_model::{PartSet, Step};
 use staat_planes::{PlaneTable, Steps};
-use staat_ring::{Crossing, Entry, Rings, Walk};
+use staat_ring::{Entry, Rings, Vertex, Walk};
 use staat_vec::DIRECTION;
 use std::sync::ledger::Ledger;
 
@@ -192,7 +192,7 @@ fn step_of(table: &PlaneTable, i: u32, found: Serving) -> Step
     ensures d { result.d ≡ crossing table.now.planes i found.entry }
     ensures within { IsWithin DIRECTION result.d }
 {
-    let d = Crossing::of(table, i, found.entry).direction();
+    let d = Vertex::of(table, i, found.entry).direction();
     Step {
         moved: found.moved,
         d,

@@ -23,7 +23,7 @@ ghost use Rattle.staat_model.specs.Plans.{IsStuck};
 ghost use Rattle.staat_pairs.specs.Tables.{WasMadeFrom};
 ghost use Rattle.staat_ring.specs.Rings.{WereMadeFrom, linked_of};
 ghost use Rattle.staat_ring.specs.Walked.{IsEntered, WalkWasMadeFrom};
-ghost use Rattle.staat_plan.specs.Listings.{IsSizedDirection, key_of};
+ghost use Rattle.staat_plan.specs.WitnessListings.{IsSizedDirection, key_of};
 ghost use Rattle.staat_plan.specs.Visits.{AreAllFound, AreFound, AreFoundBelow, KeepsTrees, AreStillFound, HasFound};
 ghost use Rattle.staat_plan.specs.Visits.{IsDirectionFound, IsNumberHere, StandsAmong};
 ghost use Rattle.staat_plan.specs.Witnesses.{AreTreesAlong};

@@ -15,7 +15,7 @@ use Rattle.staat_model.specs.Sets.{IsSubset}
 use Rattle.staat_model.proofs.Places.{one_at_place, place_within}
 use Rattle.staat_pairs.specs.Searches.{HasPlane, IsCanonOf}
 use Rattle.staat_pairs.specs.Tables.{AreTablePlanes, Table}
-use Rattle.staat_planes.specs.Marks.{AddsMarks, AreUsedMarks, IsPlaneMarked}
+use Rattle.staat_planes.specs.MarkedPlanes.{AddsMarks, AreUsedMarks, IsPlaneMarked}
 use Rattle.staat_planes.specs.Tables.{IsPlaneOf}
 use Rattle.staat_planes.proofs.PairSteps.{whole_used}
 use Rattle.staat_planes.proofs.UsedLaw.{axis_used, other_at, other_used}

@@ -2,5 +2,5 @@ pub mod Tables
 pub mod Refusals
 pub mod PairOrder
 pub mod VertexSearch
-pub mod Marks
+pub mod MarkedPlanes
 pub mod SetPlanes

@@ -3,7 +3,7 @@
 
 mod build;
 mod graph;
-mod marks;
+mod marked_planes;
 mod pairs;
 mod refusal;
 mod search;

@@ -25,11 +25,11 @@ use Rattle.staat_graph.specs.Graphs.{HasArc, IsStrong}
 use Rattle.staat_planes.specs.Tables.{IsAhead}
 use Rattle.staat_pairs.specs.Tables.{IsTableArc, IsPlaneNormal, IsTable, Table, WasMadeFrom, facets_of, slot}
 use Rattle.staat_planes.proofs.GraphLaw.{ahead_is_blocking}
-use Rattle.staat_ring.specs.Blocks.{parts_at}
+use Rattle.staat_ring.specs.BlockCounts.{parts_at}
 use Rattle.staat_ring.specs.Pairs.{occurs, pair_at}
-use Rattle.staat_ring.specs.Signs.{HasBlockingPair, IsBlockingPair, Side, Signed, no_side, pairs_by, positive_pairs, positives, side_at}
+use Rattle.staat_ring.specs.CountedSigns.{HasBlockingPair, IsBlockingPair, PlaneState, Signed, no_state, pairs_by, positive_pairs, positives, state_at}
 use Rattle.staat_ring.specs.Belonging.{BelongTo, HasAll, HoldSigns, IsCountedAt, IsPairIndexed, IsPairOf, IsUnused, PlaneFacet, facet_at, positive_at}
-use Rattle.staat_ring.proofs.Totals.{is_positive, hits, sum_by-total, total-hits, total-same, total-zero}
+use Rattle.staat_ring.proofs.SumsBelow.{is_positive, hits, sum_by-total, total-hits, total-same, total-zero}
 use Rattle.staat_ring.specs.Rings.{facet_by, plane_at}
 use Rattle.staat_ring.proofs.PairLemmas.{one}
 use Rattle.staat_ring.proofs.Strength.{strong_same}
@@ -42,26 +42,26 @@ none_by : (p : PlaneFacet → Bool) (by_plane : List PlaneFacet) → ((w : Plane
 none_by p [] h = refl
 none_by p (w ∷ by_plane) h = let r = none_by p by_plane h in let e = ap one (h w) in omega (arith, r, e, sum_by-cons (λ w. one (p w)) w by_plane)
 
-module _ (planes facets : List V3) (sides : List Side) (q : ℕ) (is : IsPairIndexed planes facets sides q) where
+module _ (planes facets : List V3) (states : List PlaneState) (q : ℕ) (is : IsPairIndexed planes facets states q) where
   abbrev sg : ℕ → Sign
-  sg k = (side_at sides k).sign
+  sg k = (state_at states k).sign
 
-  by_sign : (s : Sign) (k : ℕ) → occurs q (pairs_by s (side_at sides k).along (side_at sides k).against) ≡ hits s k is.by_plane
+  by_sign : (s : Sign) (k : ℕ) → occurs q (pairs_by s (state_at states k).along (state_at states k).against) ≡ hits s k is.by_plane
   by_sign Neg k = is.against k
   by_sign Zero k = sym (none_by (λ w. (w.plane == k) && false) is.by_plane (λ w. and_false (w.plane == k)))
   by_sign Pos k = is.along k
 
-  pub positives-by_plane : length sides ≡ length planes → positives q sides ≡ count_by (λ w. is_positive (sg w.plane) w.turned) is.by_plane
+  pub positives-by_plane : length states ≡ length planes → positives q states ≡ count_by (λ w. is_positive (sg w.plane) w.turned) is.by_plane
   positives-by_plane e =
-      sum_by-total (λ s. occurs q (positive_pairs s)) sides no_side
-      ∙ (total-same (λ k. occurs q (positive_pairs (side_at sides k))) (λ k. hits (sg k) k is.by_plane) 0 (length sides) (λ k. by_sign (sg k) k)
-      ∙ total-hits sg (length sides) is.by_plane (subst (λ n. All (λ w. w.plane < n) is.by_plane) (sym e) is.within))
+      sum_by-total (λ s. occurs q (positive_pairs s)) states no_state
+      ∙ (total-same (λ k. occurs q (positive_pairs (state_at states k))) (λ k. hits (sg k) k is.by_plane) 0 (length states) (λ k. by_sign (sg k) k)
+      ∙ total-hits sg (length states) is.by_plane (subst (λ n. All (λ w. w.plane < n) is.by_plane) (sym e) is.within))
 
 -- a number in no list has no positive facet
-pub positives-none : (sides : List Side) (q : ℕ) → ((k : ℕ) → occurs q (side_at sides k).along ≡ 0) → ((k : ℕ) → occurs q (side_at sides k).against ≡ 0) → positives q sides ≡ 0
-positives-none sides q along against = sum_by-total (λ s. occurs q (positive_pairs s)) sides no_side ∙ total-zero (λ k. occurs q (positive_pairs (side_at sides k))) 0 (length sides) (λ k le. by_sign (side_at sides k).sign k)
+pub positives-none : (states : List PlaneState) (q : ℕ) → ((k : ℕ) → occurs q (state_at states k).along ≡ 0) → ((k : ℕ) → occurs q (state_at states k).against ≡ 0) → positives q states ≡ 0
+positives-none states q along against = sum_by-total (λ s. occurs q (positive_pairs s)) states no_state ∙ total-zero (λ k. occurs q (positive_pairs (state_at states k))) 0 (length states) (λ k le. by_sign (state_at states k).sign k)
   where
-    by_sign : (s : Sign) (k : ℕ) → occurs q (pairs_by s (side_at sides k).along (side_at sides k).against) ≡ 0
+    by_sign : (s : Sign) (k : ℕ) → occurs q (pairs_by s (state_at states k).along (state_at states k).against) ≡ 0
     by_sign Neg k = against k
     by_sign Zero k = refl
     by_sign Pos k = along k
@@ -151,25 +151,25 @@ module _ (parts : List Part) (t : Table) (s : Signed) (linked : List ℕ) (v : V
     abbrev facets : List V3
     facets = facets_of t arc
 
-    test_is : (x : PlaneFacet) → Contains is.index.by_plane x → is_positive (side_at s.sides x.plane).sign x.turned ≡ int_lt (pos 0) (dot (facet_at t.planes x) v)
+    test_is : (x : PlaneFacet) → Contains is.index.by_plane x → is_positive (state_at s.states x.plane).sign x.turned ≡ int_lt (pos 0) (dot (facet_at t.planes x) v)
     test_is x c =
         let n : V3 = plane_at t.planes x.plane in
         ap (λ g. is_positive g x.turned) (signs x.plane n (linked_is x c))
         ∙ (sign_tells (dot n v) x.turned ∙ ap (int_lt (pos 0)) (sym (facet_dot x.turned n v)))
 
-    count : positives q s.sides ≡ positive_at v facets
+    count : positives q s.states ≡ positive_at v facets
     count =
-        positives-by_plane t.planes facets s.sides q is.index to.sides
-        ∙ (count_by-map (λ x. is_positive (side_at s.sides x.plane).sign x.turned) (λ n. int_lt (pos 0) (dot n v)) (facet_at t.planes) is.index.by_plane test_is
+        positives-by_plane t.planes facets s.states q is.index to.states
+        ∙ (count_by-map (λ x. is_positive (state_at s.states x.plane).sign x.turned) (λ n. int_lt (pos 0) (dot n v)) (facet_at t.planes) is.index.by_plane test_is
         ∙ ap (positive_at v) is.index.are)
 
-    ahead_of_full : length facets ≤ positives q s.sides → (n : V3) → Contains facets n → pos 0 <ℤ dot n v
+    ahead_of_full : length facets ≤ positives q s.states → (n : V3) → Contains facets n → pos 0 <ℤ dot n v
     ahead_of_full le n c = from_test (dot n v) (all_counted (λ n. int_lt (pos 0) (dot n v)) facets (let e = count in omega (arith, e, le)) n c)
 
-    full_of_ahead : ((n : V3) → Contains facets n → pos 0 <ℤ dot n v) → positives q s.sides ≡ length facets
+    full_of_ahead : ((n : V3) → Contains facets n → pos 0 <ℤ dot n v) → positives q s.states ≡ length facets
     full_of_ahead all = count ∙ counted_all (λ n. int_lt (pos 0) (dot n v)) facets (λ n c. let h = all n c in grind (arith, ints, h))
 
-    pub full_says : (length facets ≤ positives q s.sides) ↔ All (λ n. pos 0 <ℤ dot n v) facets
+    pub full_says : (length facets ≤ positives q s.states) ↔ All (λ n. pos 0 <ℤ dot n v) facets
     full_says = (
       λ le. All-from_members (λ n. pos 0 <ℤ dot n v) facets (ahead_of_full le),
       λ all. (let e = full_of_ahead (λ n c. All-contains (λ n. pos 0 <ℤ dot n v) facets n all c) in omega (arith, e)),
@@ -196,7 +196,7 @@ module _ (parts : List Part) (t : Table) (s : Signed) (linked : List ℕ) (v : V
         by_arc (arc, across, e) =
             let pair = to.all arc across in
             let same = parts_apart arc.a arc.b a b (table.small arc.b across.b_in) (table.small b (within b b_in)) (sym pair.parts ∙ (ap (λ k. (pair_at s.pairs k).parts) e ∙ h.parts)) in
-            let full : length (facets_of t arc) ≤ positives (slot t.pieces arc) s.sides = subst (λ n. n ≤ positives (slot t.pieces arc) s.sides) pair.wanted (subst (λ k. (pair_at s.pairs k).wanted ≤ positives k s.sides) (sym e) h.full) in
+            let full : length (facets_of t arc) ≤ positives (slot t.pieces arc) s.states = subst (λ n. n ≤ positives (slot t.pieces arc) s.states) pair.wanted (subst (λ k. (pair_at s.pairs k).wanted ≤ positives k s.states) (sym e) h.full) in
             let all = ahead_of_full arc across (subst (Has w) (sym same.0) a_in) (subst (Has w) (sym same.1) b_in) full in
             let turned : Arc = record { a = a; i = arc.i; b = b; j = arc.j } in
             let is : arc ≡ turned = λ i. record { a = same.0 i; i = arc.i; b = same.1 i; j = arc.j } in
@@ -204,7 +204,7 @@ module _ (parts : List Part) (t : Table) (s : Signed) (linked : List ℕ) (v : V
 
         unused : IsUnused s q → IsAhead t v a b
         unused u =
-            let z = positives-none s.sides q u.along u.against in
+            let z = positives-none s.states q u.along u.against in
             let f = h.full in
             let o = u.wanted in
             absurd (omega (arith, z, f, o))

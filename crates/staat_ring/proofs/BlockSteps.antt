@@ -2,7 +2,7 @@
 use Rattle.std.proofs.Common.{◌≡◌, ◌≢◌, ⊎_elim, ℕ, ◌/◌, ◌%◌, ◌<◌, ◌↔◌, arith, ap, sym, subst, ◌∙◌, List, length, get_or-set_other, get_or-set_same}
 use Rattle.std.specs.Prelude.{slice_index, slice_set}
 use Rattle.staat_graph.specs.Graphs.{AreReversed, HasArc}
-use Rattle.staat_ring.specs.Blocks.{HasBlock, parts_at}
+use Rattle.staat_ring.specs.BlockCounts.{HasBlock, parts_at}
 use Rattle.staat_vec.proofs.Naturals.{same_or}
 
 -- the arc from a to b is out

@@ -20,9 +20,9 @@ use Rattle.staat_ring.specs.Rings.{facet_by, plane_at}
 use Rattle.staat_ring.specs.Without.{stays}
 use Rattle.staat_ring.proofs.Cycles.{Around, around_filter}
 use Rattle.staat_ring.proofs.Sides.{whole}
-use Rattle.staat_ring.proofs.Skipping.{IsPoint, nothing_kept, still_after}
+use Rattle.staat_ring.proofs.NextVertexWithout.{IsPoint, nothing_kept, still_after}
 use Rattle.staat_ring.proofs.Steps.{on_plane}
-use Rattle.staat_ring.proofs.Turning.{turn_negative_left, turn_negative_right, turn_same}
+use Rattle.staat_ring.proofs.TurnOrder.{turn_negative_left, turn_negative_right, turn_same}
 use Rattle.staat_ring.proofs.Sides.{turn_is_side}
 use Rattle.staat_ring.proofs.WithoutLemmas.{filter_from, filter_in, leaves_by, stays_by, stays_has}
 use Rattle.staat_vec.proofs.VectorLaws.{cross_origin, some_square}

@@ -11,16 +11,16 @@ use Rattle.staat_vec.specs.Primitives.{primitive}
 use Rattle.staat_vec.specs.Vectors.{cross, dot, origin, sign}
 use Rattle.staat_model.specs.Circles.{IsCircle, IsLinked, IsNext, IsOnCircle, Stop}
 use Rattle.staat_ring.specs.declared.entry.Entry.{Entry}
-use Rattle.staat_ring.specs.Marks.{mark_of, marked}
+use Rattle.staat_ring.specs.StopSigns.{stop_sign, with_stop_signs}
 use Rattle.staat_ring.specs.Rings.{IsRingOf, Ring, RingStop, crossing, stop_of, vertex_of}
-use Rattle.staat_ring.specs.Signs.{Signed, side_at}
+use Rattle.staat_ring.specs.CountedSigns.{Signed, state_at}
 use Rattle.staat_ring.proofs.StepSigns.{StepSigns}
 use Rattle.staat_ring.proofs.Stops.{AreLinkedApart, stop_there}
 use Rattle.staat_ring.proofs.Turns.{turn}
 use Rattle.staat_ring.specs.Belonging.{HoldSigns}
 use Rattle.staat_ring.specs.Rings.{facet_by, plane_at}
 use Rattle.staat_ring.proofs.Leaving.{leaves_negative, leaves_positive}
-use Rattle.staat_ring.proofs.Marking.{marked_other, marked_same, marked_there}
+use Rattle.staat_ring.proofs.StopSigns.{marked_other, marked_same, marked_there}
 use Rattle.staat_ring.proofs.StepLaw.{step_signs}
 use Rattle.staat_ring.proofs.Steps.{on_plane}
 use Rattle.staat_vec.proofs.VectorLaws.{cross_origin, some_square}
@@ -54,7 +54,7 @@ module _ (planes : List V3) (linked : List ℕ) (r : Ring) (apart : AreLinkedApa
 
   -- where an entry leads from its stop
   leads : (s t : RingStop) (k m : ℕ) → slice_get r.stops k ≡ Some s → slice_get r.stops m ≡ Some t → IsNext g stops (vertex_of planes c s.entries) (vertex_of planes c t.entries)
-      → (h : V3) (e : Entry) → Contains s.entries e → IsLinked planes linked e.plane h → e.plane ≢ c → mark_of true e.turned ≡ sign (dot h (vertex_of planes c t.entries))
+      → (h : V3) (e : Entry) → Contains s.entries e → IsLinked planes linked e.plane h → e.plane ≢ c → stop_sign true e.turned ≡ sign (dot h (vertex_of planes c t.entries))
   leads s t k m ks kt n h e ce hi ne = by e.turned refl
     where
       w : V3
@@ -81,9 +81,9 @@ module _ (planes : List V3) (linked : List ℕ) (r : Ring) (apart : AreLinkedApa
       ahead : (b : Bool) → e.turned ≡ b → pos 0 <ℤ turn g (facet_by b (primitive (cross g h))) w
       ahead b q = subst (λ v. pos 0 <ℤ turn g v w) (at b q) n.after
 
-      by : (b : Bool) → e.turned ≡ b → mark_of true e.turned ≡ sign (dot h w)
-      by false q = ap (mark_of true) q ∙ neg_sign (dot h w) (leaves_negative g h w (some_square g some_g) (on_it m t kt) some (ahead false q))
-      by true q = ap (mark_of true) q ∙ pos_sign (dot h w) (leaves_positive g h w (some_square g some_g) (on_it m t kt) some (ahead true q))
+      by : (b : Bool) → e.turned ≡ b → stop_sign true e.turned ≡ sign (dot h w)
+      by false q = ap (stop_sign true) q ∙ neg_sign (dot h w) (leaves_negative g h w (some_square g some_g) (on_it m t kt) some (ahead false q))
+      by true q = ap (stop_sign true) q ∙ pos_sign (dot h w) (leaves_positive g h w (some_square g some_g) (on_it m t kt) some (ahead true q))
 
   module _ (s t : RingStop) (k : ℕ) (ks : slice_get r.stops k ≡ Some s) (kt : slice_get r.stops ((k + 1) % length r.stops) ≡ Some t) where
     abbrev S : Stop
@@ -109,37 +109,37 @@ module _ (planes : List V3) (linked : List ℕ) (r : Ring) (apart : AreLinkedApa
         let pass = All-contains (λ s. Rattle.staat_vec.specs.Lists.Lists Rattle.std.specs.Ordering.nat_cmp (Rattle.staat_model.specs.Circles.PassesThrough planes linked c s.vertex) s.through) stops (stop_of planes c q) is.circle.through (from_place stops m (stop_of planes c q) (stop_there planes r m q at)) in
         (pass.each e.plane (Contains-map (λ e. e.plane) q.entries e ce)).different
 
-    -- the marks of the stop left and then of the stop reached give the signs there
-    pub cross_signs : (now : Signed) → length now.sides ≡ length planes → HoldSigns planes linked now S.vertex → HoldSigns planes linked (marked false t.entries (marked true s.entries now)) T.vertex
-    cross_signs now size holds j h hi = ⊎_elim {C = (side_at after.sides j).sign ≡ sign (dot h T.vertex)} reached left_or (contains_or T.through j)
+    -- the planes through the stop left and then those through the stop reached get the signs there
+    pub cross_signs : (now : Signed) → length now.states ≡ length planes → HoldSigns planes linked now S.vertex → HoldSigns planes linked (with_stop_signs false t.entries (with_stop_signs true s.entries now)) T.vertex
+    cross_signs now size holds j h hi = ⊎_elim {C = (state_at after.states j).sign ≡ sign (dot h T.vertex)} reached left_or (contains_or T.through j)
       where
         between : Signed
-        between = marked true s.entries now
+        between = with_stop_signs true s.entries now
 
         after : Signed
-        after = marked false t.entries between
+        after = with_stop_signs false t.entries between
 
-        lt : j < length now.sides
+        lt : j < length now.states
         lt = subst (λ n. j < n) (sym size) (slice_get_within planes j h hi.is)
 
-        lt_between : j < length between.sides
+        lt_between : j < length between.states
         lt_between = subst (λ n. j < n) (sym (marked_same true s.entries now).size) lt
 
-        reached : Contains T.through j → (side_at after.sides j).sign ≡ sign (dot h T.vertex)
+        reached : Contains T.through j → (state_at after.states j).sign ≡ sign (dot h T.vertex)
         reached cj =
             let m = Contains-from_map (λ e. e.plane) t.entries j cj in
             marked_there false t.entries between j Zero lt_between (λ e ce q. refl) m.0 m.1 m.2 ∙ sym (step.reached j h hi cj)
 
-        not_reached : (Contains T.through j → ⊥) → (side_at after.sides j).sign ≡ (side_at between.sides j).sign
+        not_reached : (Contains T.through j → ⊥) → (state_at after.states j).sign ≡ (state_at between.states j).sign
         not_reached none = marked_other false t.entries between j (λ e ce q. none (subst (Contains T.through) q (Contains-map (λ e. e.plane) t.entries e ce)))
 
-        left : (Contains T.through j → ⊥) → Contains S.through j → (side_at after.sides j).sign ≡ sign (dot h T.vertex)
+        left : (Contains T.through j → ⊥) → Contains S.through j → (state_at after.states j).sign ≡ sign (dot h T.vertex)
         left none cj =
             let m = Contains-from_map (λ e. e.plane) s.entries j cj in
             not_reached none ∙ marked_there true s.entries now j (sign (dot h T.vertex)) lt
             (λ e ce q. leads s t k ((k + 1) % length r.stops) ks kt next h e ce (subst (λ i. IsLinked planes linked i h) (sym q) hi) (other_planes s k ks e ce)) m.0 m.1 m.2
 
-        neither : (Contains T.through j → ⊥) → (Contains S.through j → ⊥) → (side_at after.sides j).sign ≡ sign (dot h T.vertex)
+        neither : (Contains T.through j → ⊥) → (Contains S.through j → ⊥) → (state_at after.states j).sign ≡ sign (dot h T.vertex)
         neither nt ns =
             not_reached nt ∙ (marked_other true s.entries now j (λ e ce q. ns (subst (Contains S.through) q (Contains-map (λ e. e.plane) s.entries e ce)))
             ∙ (holds j h hi ∙ ⊎_elim {C = sign (dot h S.vertex) ≡ sign (dot h T.vertex)}
@@ -149,5 +149,5 @@ module _ (planes : List V3) (linked : List ℕ) (r : Ring) (apart : AreLinkedApa
             (λ ne. sym (step.same j h hi ne ns nt))
             (same_or j c)))
 
-        left_or : (Contains T.through j → ⊥) → (side_at after.sides j).sign ≡ sign (dot h T.vertex)
-        left_or none = ⊎_elim {C = (side_at after.sides j).sign ≡ sign (dot h T.vertex)} (left none) (neither none) (contains_or S.through j)
+        left_or : (Contains T.through j → ⊥) → (state_at after.states j).sign ≡ sign (dot h T.vertex)
+        left_or none = ⊎_elim {C = (state_at after.states j).sign ≡ sign (dot h T.vertex)} (left none) (neither none) (contains_or S.through j)

@@ -4,13 +4,13 @@ use Rattle.std.specs.Prelude.{Some, slice_get}
 use Rattle.staat_vec.specs.declared.vector.V3.{V3}
 use Rattle.staat_pairs.specs.Tables.{IsTable, Table}
 use Rattle.staat_ring.specs.declared.entry.Entry.{Entry}
-use Rattle.staat_ring.specs.Marks.{marked}
+use Rattle.staat_ring.specs.StopSigns.{with_stop_signs}
 use Rattle.staat_ring.specs.Places.{HasNode, IsStopAt}
 use Rattle.staat_ring.specs.Rings.{AreRings, Ring, RingStop, crossing, linked_of, vertex_of}
-use Rattle.staat_ring.specs.Signs.{Signed}
+use Rattle.staat_ring.specs.CountedSigns.{Signed}
 use Rattle.staat_ring.specs.Walked.{IsEntered, Walked}
 use Rattle.staat_ring.specs.Belonging.{BelongTo, HoldSigns}
-use Rattle.staat_ring.proofs.Marking.{belong_same, marked_same}
+use Rattle.staat_ring.proofs.StopSigns.{belong_same, marked_same}
 use Rattle.staat_ring.proofs.StopLemmas.{circle_small, entry_other, entry_small, few, next_at, next_signs, some, vertex_first}
 use Rattle.staat_vec.proofs.Unique.{from_place}
 
@@ -21,13 +21,13 @@ module _ (t : Table) (rules : IsTable t) (rings : List Ring) (out : List ℕ) (a
   here : IsEntered t.planes rings w
   here = subst (IsEntered t.planes rings) (sym view) entered
 
-  pub few_for : (s : Signed) → length s.sides ≡ length t.planes → (m : ℕ) (q : RingStop) → IsStopAt rings w.circle m q → (length q.entries ≤ length t.planes) × All (λ e. e.plane < length s.sides) q.entries
+  pub few_for : (s : Signed) → length s.states ≡ length t.planes → (m : ℕ) (q : RingStop) → IsStopAt rings w.circle m q → (length q.entries ≤ length t.planes) × All (λ e. e.plane < length s.states) q.entries
   few_for s size m q at =
       let f = few t.planes rings out rules.planes are w.circle m q at in
       (f.0, subst (λ k. All (λ e. e.plane < k) q.entries) (sym size) f.1)
 
-  pub first_few : (m : ℕ) (q : RingStop) → IsStopAt rings w.circle m q → q.node ≡ w.node → (length q.entries ≤ length t.planes) × All (λ e. e.plane < length w.signs.sides) q.entries
-  first_few m q at is = few_for w.signs made_here.sides m q at
+  pub first_few : (m : ℕ) (q : RingStop) → IsStopAt rings w.circle m q → q.node ≡ w.node → (length q.entries ≤ length t.planes) × All (λ e. e.plane < length w.signs.states) q.entries
+  first_few m q at is = few_for w.signs made_here.states m q at
 
   pub circle_is : w.circle < length t.planes
   circle_is = circle_small t.planes rings out rules.planes are w.circle w.place here.stop here.at
@@ -35,7 +35,7 @@ module _ (t : Table) (rules : IsTable t) (rings : List Ring) (out : List ℕ) (a
   pub some_for : (node m : ℕ) (q : RingStop) → IsStopAt rings w.circle m q → q.node ≡ node → 0 < length q.entries
   some_for node m q at is = some t.planes rings out rules.planes are w.circle m q at
 
-  module _ (mid : Signed) (left : (m : ℕ) (q : RingStop) → IsStopAt rings w.circle m q → q.node ≡ w.node → mid ≡ marked true q.entries w.signs)
+  module _ (mid : Signed) (left : (m : ℕ) (q : RingStop) → IsStopAt rings w.circle m q → q.node ≡ w.node → mid ≡ with_stop_signs true q.entries w.signs)
       (node place : ℕ) (next : (q : RingStop) → (at : IsStopAt rings w.circle w.place q) → q.node ≡ w.node → (r : RingStop) × (slice_get at.ring.stops ((w.place + 1) % length at.ring.stops) ≡ Some r) × (r.node ≡ node) × (place ≡ (w.place + 1) % length at.ring.stops)) where
     abbrev reached : RingStop
     reached = (next here.stop here.at here.node).0
@@ -49,13 +49,13 @@ module _ (t : Table) (rules : IsTable t) (rings : List Ring) (out : List ℕ) (a
     pub next_node : HasNode rings w.circle node
     next_node = record { place = (w.place + 1) % length here.at.ring.stops; stop = reached; at = reached_at; is = reached_node }
 
-    mid_is : mid ≡ marked true here.stop.entries w.signs
+    mid_is : mid ≡ with_stop_signs true here.stop.entries w.signs
     mid_is = left w.place here.stop here.at here.node
 
-    mid_size : length mid.sides ≡ length t.planes
-    mid_size = ap (λ s. length s.sides) mid_is ∙ ((marked_same true here.stop.entries w.signs).size ∙ made_here.sides)
+    mid_size : length mid.states ≡ length t.planes
+    mid_size = ap (λ s. length s.states) mid_is ∙ ((marked_same true here.stop.entries w.signs).size ∙ made_here.states)
 
-    pub second_few : (m : ℕ) (q : RingStop) → IsStopAt rings w.circle m q → q.node ≡ node → (length q.entries ≤ length t.planes) × All (λ e. e.plane < length mid.sides) q.entries
+    pub second_few : (m : ℕ) (q : RingStop) → IsStopAt rings w.circle m q → q.node ≡ node → (length q.entries ≤ length t.planes) × All (λ e. e.plane < length mid.states) q.entries
     second_few m q at is = few_for mid mid_size m q at
 
     pub place_is : (q : RingStop) → (at : IsStopAt rings now.circle now.place q) → q.node ≡ now.node → place ≡ (now.place + 1) % length at.ring.stops
@@ -71,17 +71,17 @@ module _ (t : Table) (rules : IsTable t) (rings : List Ring) (out : List ℕ) (a
       pub entry_is_other : entry.plane ≢ w.circle
       entry_is_other = entry_other t.planes rings out rules.planes are w.circle ((w.place + 1) % length here.at.ring.stops) reached reached_at entry (from_place reached.entries 0 entry entry_there)
 
-      module _ (end : Signed) (right : (m : ℕ) (q : RingStop) → IsStopAt rings w.circle m q → q.node ≡ node → end ≡ marked false q.entries mid) (stand : V3) (stand_is : stand ≡ crossing t.planes w.circle entry) (crossed : ℕ) where
-        end_is : end ≡ marked false reached.entries (marked true here.stop.entries w.signs)
-        end_is = right ((w.place + 1) % length here.at.ring.stops) reached reached_at reached_node ∙ ap (marked false reached.entries) mid_is
+      module _ (end : Signed) (right : (m : ℕ) (q : RingStop) → IsStopAt rings w.circle m q → q.node ≡ node → end ≡ with_stop_signs false q.entries mid) (stand : V3) (stand_is : stand ≡ crossing t.planes w.circle entry) (crossed : ℕ) where
+        end_is : end ≡ with_stop_signs false reached.entries (with_stop_signs true here.stop.entries w.signs)
+        end_is = right ((w.place + 1) % length here.at.ring.stops) reached reached_at reached_node ∙ ap (with_stop_signs false reached.entries) mid_is
 
         vertex_is : stand ≡ vertex_of t.planes w.circle reached.entries
         vertex_is = stand_is ∙ vertex_first t.planes w.circle reached.entries entry entry_there
 
         pub made_end : BelongTo t end
         made_end = subst (BelongTo t) (sym end_is)
-            (belong_same t (marked true here.stop.entries w.signs) (marked false reached.entries (marked true here.stop.entries w.signs)) (marked_same false reached.entries (marked true here.stop.entries w.signs))
-            (belong_same t w.signs (marked true here.stop.entries w.signs) (marked_same true here.stop.entries w.signs) made_here))
+            (belong_same t (with_stop_signs true here.stop.entries w.signs) (with_stop_signs false reached.entries (with_stop_signs true here.stop.entries w.signs)) (marked_same false reached.entries (with_stop_signs true here.stop.entries w.signs))
+            (belong_same t w.signs (with_stop_signs true here.stop.entries w.signs) (marked_same true here.stop.entries w.signs) made_here))
 
         pub entered_end : IsEntered t.planes rings (record { signs = end; crossed = crossed; circle = w.circle; place = place; node = node; vertex = stand })
         entered_end = record {
@@ -90,6 +90,6 @@ module _ (t : Table) (rules : IsTable t) (rings : List Ring) (out : List ℕ) (a
           node = reached_node;
           vertex = vertex_is;
           signs = subst (λ v. HoldSigns t.planes (linked_of rings) end v) (sym vertex_is) (subst (λ s. HoldSigns t.planes (linked_of rings) s (vertex_of t.planes w.circle reached.entries)) (sym end_is)
-              (next_signs t.planes rings out rules.planes are w.circle w.place here.stop here.at reached (next here.stop here.at here.node).1 w.signs made_here.sides
+              (next_signs t.planes rings out rules.planes are w.circle w.place here.stop here.at reached (next here.stop here.at here.node).1 w.signs made_here.states
               (subst (λ v. HoldSigns t.planes (linked_of rings) w.signs v) here.vertex here.signs)));
         }

@@ -9,7 +9,7 @@ use Rattle.staat_pairs.specs.Tables.{IsTable, Table}
 use Rattle.staat_ring.specs.declared.entry.Entry.{Entry}
 use Rattle.staat_ring.specs.Places.{HasNode, IsStopAt}
 use Rattle.staat_ring.specs.Rings.{AreRings, IsRingOf, Ring, RingStop, crossing, linked_of, stop_of}
-use Rattle.staat_ring.specs.Signs.{Signed}
+use Rattle.staat_ring.specs.CountedSigns.{Signed}
 use Rattle.staat_ring.specs.Walked.{IsEntered}
 use Rattle.staat_ring.specs.Belonging.{HoldSigns}
 use Rattle.staat_ring.proofs.StopLemmas.{circle_small, entry_other, entry_small, some, vertex_first}

@@ -8,7 +8,7 @@ use Rattle.staat_ring.specs.declared.entry.Entry.{Entry}
 use Rattle.staat_ring.specs.Links.{Apart, Distinct, Links, append}
 use Rattle.staat_ring.specs.Linking.{AreHomedAt}
 use Rattle.staat_ring.specs.Numbered.{entry_number}
-use Rattle.staat_ring.proofs.Homing.{homed_more, within_more}
+use Rattle.staat_ring.proofs.EntryHomes.{homed_more, within_more}
 use Rattle.staat_ring.proofs.Numbering.{entry_small}
 use Rattle.staat_ring.proofs.Rows.{IsPartly, apart_nth, apart_take, distinct_take, nth_apart, partly_more}
 use Rattle.staat_vec.proofs.ListLaws.{Contains-from_map}

@@ -21,11 +21,11 @@ use Rattle.staat_ring.specs.Order.{normal_at}
 use Rattle.staat_ring.specs.Rings.{crossing}
 use Rattle.staat_ring.proofs.Turns.{turn}
 use Rattle.staat_ring.specs.Rings.{facet_by, plane_at}
-use Rattle.staat_ring.proofs.Circling.{not_flat, positive_by, ray_negative}
+use Rattle.staat_ring.proofs.CircleFromPlaces.{not_flat, positive_by, ray_negative}
 use Rattle.staat_ring.proofs.Deciding.{order_is}
-use Rattle.staat_ring.proofs.Halving.{det_facet, facet_det}
-use Rattle.staat_ring.proofs.Turning.{turn_negative_right, turn_same}
-use Rattle.staat_ring.proofs.Upper.{same_way}
+use Rattle.staat_ring.proofs.HalfCircleFromAxis.{det_facet, facet_det}
+use Rattle.staat_ring.proofs.TurnOrder.{turn_negative_right, turn_same}
+use Rattle.staat_ring.proofs.HalfCirclePlaces.{same_way}
 use Rattle.staat_vec.proofs.Naturals.{trichotomy, same_or}
 use Rattle.staat_vec.proofs.Comparisons.{sorted_push}
 use Rattle.staat_vec.proofs.Integers.{zero_not_positive, zero_not_negative}

@@ -5,7 +5,7 @@ use Rattle.std.specs.Prelude.{◌==◌}
 use Rattle.staat_ring.specs.Links.{Arrays, Distinct, take}
 use Rattle.staat_ring.specs.Stands.{is_empty, Shape, RingLists, home_of, StandFor, IsPresent, AllPresent}
 use Rattle.staat_ring.proofs.ListsWithout.{lists_without_plane, lists_without_all, lists_without, without, AreSame}
-use Rattle.staat_ring.proofs.Without.{without_none, tagged_apart}
+use Rattle.staat_ring.proofs.WithoutNumber.{without_none, tagged_apart}
 use Rattle.staat_ring.proofs.TwoLevels.{stands-take, all-after, contains_before}
 use Rattle.staat_vec.proofs.Naturals.{eqb_false, same_or}
 use Rattle.staat_vec.proofs.ListLaws.{filter_inside, filter_twice, contains_or}

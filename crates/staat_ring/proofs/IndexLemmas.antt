@@ -13,13 +13,13 @@ use Rattle.staat_vec.specs.Vectors.{negative}
 use Rattle.staat_vec.proofs.Canons.{canon-either, negative-negative}
 use Rattle.staat_model.specs.declared.certificate.Arc.{Arc}
 use Rattle.staat_pairs.specs.Tables.{Table, facets_of, slot}
-use Rattle.staat_ring.specs.Blocks.{parts_at}
+use Rattle.staat_ring.specs.BlockCounts.{parts_at}
 use Rattle.staat_ring.specs.Index.{AreSameBut, AreZero, IsFresh, IsPairKept, with_facet}
 use Rattle.staat_ring.specs.Pairs.{fresh, no_pair, occurs, pair_at}
-use Rattle.staat_ring.specs.Signs.{Side, Signed, no_side, positives, side_at}
+use Rattle.staat_ring.specs.CountedSigns.{PlaneState, Signed, no_state, positives, state_at}
 use Rattle.staat_ring.specs.SignChanges.{uses, with_pair}
 use Rattle.staat_ring.specs.Belonging.{IsPairIndexed, IsPairOf, PlaneFacet, facet_at}
-use Rattle.staat_ring.proofs.Totals.{is_positive, hits, sum_by-total, total-hits, total-plus, total-same}
+use Rattle.staat_ring.proofs.SumsBelow.{is_positive, hits, sum_by-total, total-hits, total-plus, total-same}
 use Rattle.staat_ring.specs.Rings.{facet_by}
 use Rattle.staat_ring.proofs.ArcLaw.{positives-none}
 use Rattle.staat_ring.proofs.PairLemmas.{one}
@@ -29,8 +29,8 @@ use Rattle.staat_vec.proofs.Naturals.{add_none, same_or, eq_test_false}
 
 -- of the facets of pair q so many are put down
 pub record IsPartly (planes facets : List V3) (first s : Signed) (q m : ℕ) : Type 0 where
-  pub index : IsPairIndexed planes (take m facets) s.sides q
-  pub sides : length s.sides ≡ length first.sides
+  pub index : IsPairIndexed planes (take m facets) s.states q
+  pub states : length s.states ≡ length first.states
   pub pairs : s.pairs ≡ first.pairs
   pub zero : AreZero s
   pub others : (p : ℕ) → p ≢ q → IsPairKept first s p
@@ -53,40 +53,40 @@ pub plus_none : (n : ℕ) (b : Bool) → n ≡ n + one (b && false)
 plus_none n true = omega arith
 plus_none n false = omega arith
 
-along_with : (p q : ℕ) (turned : Bool) (s : Side) → occurs p (with_pair turned q s).along ≡ occurs p s.along + one ((q == p) && not turned)
+along_with : (p q : ℕ) (turned : Bool) (s : PlaneState) → occurs p (with_pair turned q s).along ≡ occurs p s.along + one ((q == p) && not turned)
 along_with p q false s = occurs-push p q s.along ∙ ap (λ b. occurs p s.along + one b) (sym (and_true (q == p)))
 along_with p q true s = plus_none (occurs p s.along) (q == p)
 
-against_with : (p q : ℕ) (turned : Bool) (s : Side) → occurs p (with_pair turned q s).against ≡ occurs p s.against + one ((q == p) && turned)
+against_with : (p q : ℕ) (turned : Bool) (s : PlaneState) → occurs p (with_pair turned q s).against ≡ occurs p s.against + one ((q == p) && turned)
 against_with p q true s = occurs-push p q s.against ∙ ap (λ b. occurs p s.against + one b) (sym (and_true (q == p)))
 against_with p q false s = plus_none (occurs p s.against) (q == p)
 
-module _ (s : Signed) (w : PlaneFacet) (q : ℕ) (lt : w.plane < length s.sides) where
+module _ (s : Signed) (w : PlaneFacet) (q : ℕ) (lt : w.plane < length s.states) where
   abbrev new : Signed
   new = with_facet w q s
 
-  at_plane : side_at new.sides w.plane ≡ with_pair w.turned q (side_at s.sides w.plane)
-  at_plane = get_or-set_same s.sides w.plane (with_pair w.turned q (side_at s.sides w.plane)) no_side lt
+  at_plane : state_at new.states w.plane ≡ with_pair w.turned q (state_at s.states w.plane)
+  at_plane = get_or-set_same s.states w.plane (with_pair w.turned q (state_at s.states w.plane)) no_state lt
 
-  elsewhere : (k : ℕ) → k ≢ w.plane → side_at new.sides k ≡ side_at s.sides k
-  elsewhere k ne = get_or-set_other s.sides w.plane k (with_pair w.turned q (side_at s.sides w.plane)) no_side ne
+  elsewhere : (k : ℕ) → k ≢ w.plane → state_at new.states k ≡ state_at s.states k
+  elsewhere k ne = get_or-set_other s.states w.plane k (with_pair w.turned q (state_at s.states w.plane)) no_state ne
 
-  pub along_after : (p k : ℕ) → occurs p (side_at new.sides k).along ≡ occurs p (side_at s.sides k).along + one ((w.plane == k) && ((q == p) && not w.turned))
-  along_after p k = ⊎_elim {C = occurs p (side_at new.sides k).along ≡ occurs p (side_at s.sides k).along + one ((w.plane == k) && ((q == p) && not w.turned))}
-      (λ e. subst (λ k. occurs p (side_at new.sides k).along ≡ occurs p (side_at s.sides k).along + one ((w.plane == k) && ((q == p) && not w.turned))) (sym e)
-      (ap (λ x. occurs p x.along) at_plane ∙ (along_with p q w.turned (side_at s.sides w.plane) ∙ ap (λ b. occurs p (side_at s.sides w.plane).along + one (b && ((q == p) && not w.turned))) (sym (eq-eqb w.plane w.plane refl)))))
-      (λ ne. ap (λ x. occurs p x.along) (elsewhere k ne) ∙ (add_none (occurs p (side_at s.sides k).along) ∙ ap (λ b. occurs p (side_at s.sides k).along + one (b && ((q == p) && not w.turned))) (sym (eq_test_false w.plane k (λ e. ne (sym e))))))
+  pub along_after : (p k : ℕ) → occurs p (state_at new.states k).along ≡ occurs p (state_at s.states k).along + one ((w.plane == k) && ((q == p) && not w.turned))
+  along_after p k = ⊎_elim {C = occurs p (state_at new.states k).along ≡ occurs p (state_at s.states k).along + one ((w.plane == k) && ((q == p) && not w.turned))}
+      (λ e. subst (λ k. occurs p (state_at new.states k).along ≡ occurs p (state_at s.states k).along + one ((w.plane == k) && ((q == p) && not w.turned))) (sym e)
+      (ap (λ x. occurs p x.along) at_plane ∙ (along_with p q w.turned (state_at s.states w.plane) ∙ ap (λ b. occurs p (state_at s.states w.plane).along + one (b && ((q == p) && not w.turned))) (sym (eq-eqb w.plane w.plane refl)))))
+      (λ ne. ap (λ x. occurs p x.along) (elsewhere k ne) ∙ (add_none (occurs p (state_at s.states k).along) ∙ ap (λ b. occurs p (state_at s.states k).along + one (b && ((q == p) && not w.turned))) (sym (eq_test_false w.plane k (λ e. ne (sym e))))))
       (same_or k w.plane)
 
-  pub against_after : (p k : ℕ) → occurs p (side_at new.sides k).against ≡ occurs p (side_at s.sides k).against + one ((w.plane == k) && ((q == p) && w.turned))
-  against_after p k = ⊎_elim {C = occurs p (side_at new.sides k).against ≡ occurs p (side_at s.sides k).against + one ((w.plane == k) && ((q == p) && w.turned))}
-      (λ e. subst (λ k. occurs p (side_at new.sides k).against ≡ occurs p (side_at s.sides k).against + one ((w.plane == k) && ((q == p) && w.turned))) (sym e)
-      (ap (λ x. occurs p x.against) at_plane ∙ (against_with p q w.turned (side_at s.sides w.plane) ∙ ap (λ b. occurs p (side_at s.sides w.plane).against + one (b && ((q == p) && w.turned))) (sym (eq-eqb w.plane w.plane refl)))))
-      (λ ne. ap (λ x. occurs p x.against) (elsewhere k ne) ∙ (add_none (occurs p (side_at s.sides k).against) ∙ ap (λ b. occurs p (side_at s.sides k).against + one (b && ((q == p) && w.turned))) (sym (eq_test_false w.plane k (λ e. ne (sym e))))))
+  pub against_after : (p k : ℕ) → occurs p (state_at new.states k).against ≡ occurs p (state_at s.states k).against + one ((w.plane == k) && ((q == p) && w.turned))
+  against_after p k = ⊎_elim {C = occurs p (state_at new.states k).against ≡ occurs p (state_at s.states k).against + one ((w.plane == k) && ((q == p) && w.turned))}
+      (λ e. subst (λ k. occurs p (state_at new.states k).against ≡ occurs p (state_at s.states k).against + one ((w.plane == k) && ((q == p) && w.turned))) (sym e)
+      (ap (λ x. occurs p x.against) at_plane ∙ (against_with p q w.turned (state_at s.states w.plane) ∙ ap (λ b. occurs p (state_at s.states w.plane).against + one (b && ((q == p) && w.turned))) (sym (eq-eqb w.plane w.plane refl)))))
+      (λ ne. ap (λ x. occurs p x.against) (elsewhere k ne) ∙ (add_none (occurs p (state_at s.states k).against) ∙ ap (λ b. occurs p (state_at s.states k).against + one (b && ((q == p) && w.turned))) (sym (eq_test_false w.plane k (λ e. ne (sym e))))))
       (same_or k w.plane)
 
   pub zero_after : AreZero s → AreZero new
-  zero_after z k = ⊎_elim {C = (side_at new.sides k).sign ≡ Zero} (λ e. subst (λ k. (side_at new.sides k).sign ≡ Zero) (sym e) (ap (λ x. x.sign) at_plane ∙ (sign_with w.turned q (side_at s.sides w.plane) ∙ z w.plane))) (λ ne. ap (λ x. x.sign) (elsewhere k ne) ∙ z k) (same_or k w.plane)
+  zero_after z k = ⊎_elim {C = (state_at new.states k).sign ≡ Zero} (λ e. subst (λ k. (state_at new.states k).sign ≡ Zero) (sym e) (ap (λ x. x.sign) at_plane ∙ (sign_with w.turned q (state_at s.states w.plane) ∙ z w.plane))) (λ ne. ap (λ x. x.sign) (elsewhere k ne) ∙ z k) (same_or k w.plane)
 
   -- other pairs keep theirs
   pub others_after : (p : ℕ) → p ≢ q → IsPairKept s new p
@@ -113,25 +113,25 @@ halves (w ∷ by_plane) = let r = halves by_plane in let o = split w.turned in o
     split true = refl
     split false = refl
 
-pub uses-by_plane : (planes facets : List V3) (sides : List Side) (q : ℕ) (is : IsPairIndexed planes facets sides q) → length sides ≡ length planes → uses q sides ≡ length is.by_plane
-uses-by_plane planes facets sides q is e =
-    sum_by-total (λ s. occurs q s.along + occurs q s.against) sides no_side
-    ∙ (total-same (λ k. occurs q (side_at sides k).along + occurs q (side_at sides k).against) (λ k. hits Pos k is.by_plane + hits Neg k is.by_plane) 0 (length sides) (λ k. (λ i. is.along k i + is.against k i))
-    ∙ (total-plus (λ k. hits Pos k is.by_plane) (λ k. hits Neg k is.by_plane) 0 (length sides)
-    ∙ ((λ i. total-hits (λ _. Pos) (length sides) is.by_plane within i + total-hits (λ _. Neg) (length sides) is.by_plane within i) ∙ halves is.by_plane)))
+pub uses-by_plane : (planes facets : List V3) (states : List PlaneState) (q : ℕ) (is : IsPairIndexed planes facets states q) → length states ≡ length planes → uses q states ≡ length is.by_plane
+uses-by_plane planes facets states q is e =
+    sum_by-total (λ s. occurs q s.along + occurs q s.against) states no_state
+    ∙ (total-same (λ k. occurs q (state_at states k).along + occurs q (state_at states k).against) (λ k. hits Pos k is.by_plane + hits Neg k is.by_plane) 0 (length states) (λ k. (λ i. is.along k i + is.against k i))
+    ∙ (total-plus (λ k. hits Pos k is.by_plane) (λ k. hits Neg k is.by_plane) 0 (length states)
+    ∙ ((λ i. total-hits (λ _. Pos) (length states) is.by_plane within i + total-hits (λ _. Neg) (length states) is.by_plane within i) ∙ halves is.by_plane)))
   where
-    within : All (λ w. w.plane < length sides) is.by_plane
+    within : All (λ w. w.plane < length states) is.by_plane
     within = subst (λ n. All (λ w. w.plane < n) is.by_plane) (sym e) is.within
 
 -- ---- the steps of the loop
 
-fresh_index : (planes facets : List V3) (sides : List Side) (q : ℕ) → ((k : ℕ) → occurs q (side_at sides k).along ≡ 0) → ((k : ℕ) → occurs q (side_at sides k).against ≡ 0) → IsPairIndexed planes (take 0 facets) sides q
-fresh_index planes facets sides q a b = record { by_plane = []; are = refl; within = All-nil (λ w. w.plane < length planes); along = a; against = b }
+fresh_index : (planes facets : List V3) (states : List PlaneState) (q : ℕ) → ((k : ℕ) → occurs q (state_at states k).along ≡ 0) → ((k : ℕ) → occurs q (state_at states k).against ≡ 0) → IsPairIndexed planes (take 0 facets) states q
+fresh_index planes facets states q a b = record { by_plane = []; are = refl; within = All-nil (λ w. w.plane < length planes); along = a; against = b }
 
-pub partly_start : (planes facets : List V3) (s : Signed) (q : ℕ) → AreZero s → ((k : ℕ) → occurs q (side_at s.sides k).along ≡ 0) → ((k : ℕ) → occurs q (side_at s.sides k).against ≡ 0) → IsPartly planes facets s s q 0
+pub partly_start : (planes facets : List V3) (s : Signed) (q : ℕ) → AreZero s → ((k : ℕ) → occurs q (state_at s.states k).along ≡ 0) → ((k : ℕ) → occurs q (state_at s.states k).against ≡ 0) → IsPartly planes facets s s q 0
 partly_start planes facets s q z a b = record {
-  index = fresh_index planes facets s.sides q a b;
-  sides = refl;
+  index = fresh_index planes facets s.states q a b;
+  states = refl;
   pairs = refl;
   zero = z;
   others = λ p ne. record { pair = refl; along = λ k. refl; against = λ k. refl };
@@ -149,7 +149,7 @@ map_push : (planes : List V3) (by_plane : List PlaneFacet) (w : PlaneFacet) → 
 map_push planes [] w = refl
 map_push planes (x ∷ by_plane) w = ap (λ r. facet_at planes x ∷ r) (map_push planes by_plane w)
 
-pub partly_more : (planes facets : List V3) (first s after : Signed) (q m : ℕ) (facet : V3) (w : PlaneFacet) → length s.sides ≡ length planes → slice_get facets m ≡ Some facet → w.plane < length planes → facet_at planes w ≡ facet → after ≡ with_facet w q s → IsPartly planes facets first s q m → IsPartly planes facets first after q (m + 1)
+pub partly_more : (planes facets : List V3) (first s after : Signed) (q m : ℕ) (facet : V3) (w : PlaneFacet) → length s.states ≡ length planes → slice_get facets m ≡ Some facet → w.plane < length planes → facet_at planes w ≡ facet → after ≡ with_facet w q s → IsPartly planes facets first s q m → IsPartly planes facets first after q (m + 1)
 partly_more planes facets first s after q m facet w size at lt is e p = subst (λ (u : Signed). IsPartly planes facets first u q (m + 1)) (sym e) (record {
   index = record {
     by_plane = p.index.by_plane ++ w ∷ [];
@@ -158,24 +158,24 @@ partly_more planes facets first s after q m facet w size at lt is e p = subst (�
     along = λ k. along_after s w q small q k ∙ ((λ i. p.index.along k i + one ((w.plane == k) && (own i && not w.turned))) ∙ sym (sum_by_push (λ w. one ((w.plane == k) && not w.turned)) p.index.by_plane w));
     against = λ k. against_after s w q small q k ∙ ((λ i. p.index.against k i + one ((w.plane == k) && (own i && w.turned))) ∙ sym (sum_by_push (λ w. one ((w.plane == k) && w.turned)) p.index.by_plane w));
   };
-  sides = length-set s.sides w.plane (with_pair w.turned q (side_at s.sides w.plane)) ∙ p.sides;
+  states = length-set s.states w.plane (with_pair w.turned q (state_at s.states w.plane)) ∙ p.states;
   pairs = p.pairs;
   zero = zero_after s w q small p.zero;
   others = λ x ne. same_at_trans first s (with_facet w q s) x (p.others x ne) (others_after s w q small x ne);
 })
   where
-    small : w.plane < length s.sides
+    small : w.plane < length s.states
     small = subst (λ n. w.plane < n) (sym size) lt
 
     own : (q == q) ≡ true
     own = eq-eqb q q refl
 
-pub no_positives : (s : Signed) (q : ℕ) → IsFresh s q → positives q s.sides ≡ 0
-no_positives s q f = positives-none s.sides q f.along f.against
+pub no_positives : (s : Signed) (q : ℕ) → IsFresh s q → positives q s.states ≡ 0
+no_positives s q f = positives-none s.states q f.along f.against
 
-pub partly_room : (planes facets : List V3) (first s : Signed) (q m n : ℕ) → length s.sides ≡ length planes → length facets ≤ 2 * n → n ≤ 1024 → IsPartly planes facets first s q m → uses q s.sides + 1 < 65536
+pub partly_room : (planes facets : List V3) (first s : Signed) (q m n : ℕ) → length s.states ≡ length planes → length facets ≤ 2 * n → n ≤ 1024 → IsPartly planes facets first s q m → uses q s.states + 1 < 65536
 partly_room planes facets first s q m n size few small p =
-    let u = uses-by_plane planes (take m facets) s.sides q p.index size in
+    let u = uses-by_plane planes (take m facets) s.states q p.index size in
     let e = ap length p.index.are in
     let l = length-map p.index.by_plane (facet_at planes) in
     let t = length_take m facets in
@@ -188,11 +188,11 @@ partly_room planes facets first s q m n size few small p =
 
 -- ---- the pair of an arc is told
 
-pub told_start : (planes facets : List V3) (s told : Signed) (q wanted parts : ℕ) → told ≡ record { sides = s.sides; pairs = set s.pairs q (fresh wanted parts) } → AreZero s → IsFresh s q → IsPartly planes facets told told q 0
+pub told_start : (planes facets : List V3) (s told : Signed) (q wanted parts : ℕ) → told ≡ record { states = s.states; pairs = set s.pairs q (fresh wanted parts) } → AreZero s → IsFresh s q → IsPartly planes facets told told q 0
 told_start planes facets s told q wanted parts e z f = partly_start planes facets told q
-    (λ k. ap (λ (u : Signed). (side_at u.sides k).sign) e ∙ z k) (λ k. ap (λ (u : Signed). occurs q (side_at u.sides k).along) e ∙ f.along k) (λ k. ap (λ (u : Signed). occurs q (side_at u.sides k).against) e ∙ f.against k)
+    (λ k. ap (λ (u : Signed). (state_at u.states k).sign) e ∙ z k) (λ k. ap (λ (u : Signed). occurs q (state_at u.states k).along) e ∙ f.along k) (λ k. ap (λ (u : Signed). occurs q (state_at u.states k).against) e ∙ f.against k)
 
-module _ (t : Table) (arc : Arc) (s told new : Signed) (q wanted parts m : ℕ) (told_is : told ≡ record { sides = s.sides; pairs = set s.pairs q (fresh wanted parts) }) (at : slot t.pieces arc ≡ q) (lt : q < length s.pairs)
+module _ (t : Table) (arc : Arc) (s told new : Signed) (q wanted parts m : ℕ) (told_is : told ≡ record { states = s.states; pairs = set s.pairs q (fresh wanted parts) }) (at : slot t.pieces arc ≡ q) (lt : q < length s.pairs)
     (count : wanted ≡ length (facets_of t arc)) (parts_is : parts ≡ parts_at arc.a arc.b) (whole : length (facets_of t arc) ≤ m) (p : IsPartly t.planes (facets_of t arc) told new q m) where
   pairs_are : new.pairs ≡ set s.pairs q (fresh wanted parts)
   pairs_are = p.pairs ∙ ap (λ (u : Signed). u.pairs) told_is
@@ -205,17 +205,17 @@ module _ (t : Table) (arc : Arc) (s told new : Signed) (q wanted parts m : ℕ) 
     within = (let e = ap length pairs_are in let l = length-set s.pairs q (fresh wanted parts) in omega (arith, e, l, at, lt));
     parts = ap (λ x. x.parts) pair_is ∙ parts_is;
     wanted = ap (λ x. x.wanted) pair_is ∙ count;
-    index = subst (IsPairIndexed t.planes (facets_of t arc) new.sides) (sym at) (subst (λ fs. IsPairIndexed t.planes fs new.sides q) (Rattle.std.proofs.lemmas.List.take_all m (facets_of t arc) whole) p.index);
+    index = subst (IsPairIndexed t.planes (facets_of t arc) new.states) (sym at) (subst (λ fs. IsPairIndexed t.planes fs new.states q) (Rattle.std.proofs.lemmas.List.take_all m (facets_of t arc) whole) p.index);
   }
 
   pub same_but : AreSameBut s new q
   same_but = record {
-    sides = p.sides ∙ ap (λ (u : Signed). length u.sides) told_is;
+    states = p.states ∙ ap (λ (u : Signed). length u.states) told_is;
     pairs = ap length pairs_are ∙ length-set s.pairs q (fresh wanted parts);
     zero = p.zero;
     others = λ x ne. record {
       pair = ap (λ ps. pair_at ps x) pairs_are ∙ get_or-set_other s.pairs q x (fresh wanted parts) no_pair ne;
-      along = λ k. (p.others x ne).along k ∙ ap (λ (u : Signed). occurs x (side_at u.sides k).along) told_is;
-      against = λ k. (p.others x ne).against k ∙ ap (λ (u : Signed). occurs x (side_at u.sides k).against) told_is;
+      along = λ k. (p.others x ne).along k ∙ ap (λ (u : Signed). occurs x (state_at u.states k).along) told_is;
+      against = λ k. (p.others x ne).against k ∙ ap (λ (u : Signed). occurs x (state_at u.states k).against) told_is;
     };
   }

@@ -5,7 +5,7 @@ use Rattle.staat_vec.specs.declared.vector.V3.{V3}
 use Rattle.staat_vec.specs.Vectors.{dot, cross, negative, origin}
 use Rattle.staat_vec.specs.Primitives.{primitive, content}
 use Rattle.staat_ring.proofs.Turns.{turn}
-use Rattle.staat_ring.proofs.Turning.{turn_back, turn_negative_left}
+use Rattle.staat_ring.proofs.TurnOrder.{turn_back, turn_negative_left}
 use Rattle.staat_ring.proofs.Sides.{turn_is_side, whole}
 use Rattle.staat_ring.proofs.Content.{content_divides}
 use Rattle.staat_vec.proofs.Order.{pos_mul, negative_mul}

@@ -10,7 +10,7 @@ use Rattle.staat_model.specs.declared.assembly.Part.{Part}
 use Rattle.staat_model.specs.declared.set.PartSet.{PartSet}
 use Rattle.staat_pairs.specs.Tables.{AreTablePlanes}
 use Rattle.staat_ring.specs.Laws.{AreOtherPlanes, AreRelinked, AreRingsOfSet, AreUnlinked, HasNoAxis}
-use Rattle.staat_ring.specs.Rings.{AreRings, Arrangement, Kept, Ring, WereMadeFrom, linked_of, unlinked_of}
+use Rattle.staat_ring.specs.Rings.{AreRings, Arrangement, UnlinkedPlane, Ring, WereMadeFrom, linked_of, unlinked_of}
 use Rattle.staat_ring.specs.Without.{IsRelinked, IsUnlinked, kept_plane, rings_without}
 use Rattle.staat_ring.proofs.RingsWithout.{linked_without, rings_stay}
 use Rattle.staat_ring.proofs.WithoutLemmas.{filter_from}
@@ -18,14 +18,14 @@ use Rattle.staat_vec.proofs.Naturals.{apart_from_test}
 use Rattle.staat_ring.proofs.RingSteps.{last_or, last_is}
 
 abbrev Unlinks : Type 0
-Unlinks = List (Kept (List Ring))
+Unlinks = List (UnlinkedPlane (List Ring))
 
-unlinked_push : (us : Unlinks) (u : Kept (List Ring)) → unlinked_of (us ++ u ∷ []) ≡ unlinked_of us ++ u.plane ∷ []
+unlinked_push : (us : Unlinks) (u : UnlinkedPlane (List Ring)) → unlinked_of (us ++ u ∷ []) ≡ unlinked_of us ++ u.plane ∷ []
 unlinked_push [] u = refl
 unlinked_push (x ∷ us) u = ap (λ ks. x.plane ∷ ks) (unlinked_push us u)
 
 -- a place in a list with one more at its end
-at_push : (us : Unlinks) (u : Kept (List Ring)) (k : ℕ) (x : Kept (List Ring)) → slice_get (us ++ u ∷ []) k ≡ Some x
+at_push : (us : Unlinks) (u : UnlinkedPlane (List Ring)) (k : ℕ) (x : UnlinkedPlane (List Ring)) → slice_get (us ++ u ∷ []) k ≡ Some x
     → ((slice_get us k ≡ Some x) × (take k (us ++ u ∷ []) ≡ take k us)) ⊎ ((u ≡ x) × (take k (us ++ u ∷ []) ≡ us))
 at_push [] u zero x e = inr (same_Some u x e, refl)
 at_push [] u (suc k) x e = cc
@@ -33,12 +33,12 @@ at_push (y ∷ us) u zero x e = inl (e, refl)
 at_push (y ∷ us) u (suc k) x e = ⊎_elim {C = ((slice_get us k ≡ Some x) × (take (suc k) (y ∷ us ++ u ∷ []) ≡ take (suc k) (y ∷ us))) ⊎ ((u ≡ x) × (take (suc k) (y ∷ us ++ u ∷ []) ≡ y ∷ us))}
     (λ a. inl (a.0, ap (λ xs. y ∷ xs) a.1)) (λ b. inr (b.0, ap (λ xs. y ∷ xs) b.1)) (at_push us u k x e)
 
-at_front : (us : Unlinks) (u : Kept (List Ring)) (k : ℕ) (x : Kept (List Ring)) → slice_get us k ≡ Some x → (slice_get (us ++ u ∷ []) k ≡ Some x) × (take k (us ++ u ∷ []) ≡ take k us)
+at_front : (us : Unlinks) (u : UnlinkedPlane (List Ring)) (k : ℕ) (x : UnlinkedPlane (List Ring)) → slice_get us k ≡ Some x → (slice_get (us ++ u ∷ []) k ≡ Some x) × (take k (us ++ u ∷ []) ≡ take k us)
 at_front [] u k x e = absurd (let lt = slice_get_within [] k x e in omega (arith, lt))
 at_front (y ∷ us) u zero x e = (e, refl)
 at_front (y ∷ us) u (suc k) x e = let r = at_front us u k x e in (r.0, ap (λ xs. y ∷ xs) r.1)
 
-at_end : (us : Unlinks) (u : Kept (List Ring)) → (slice_get (us ++ u ∷ []) (length us) ≡ Some u) × (take (length us) (us ++ u ∷ []) ≡ us)
+at_end : (us : Unlinks) (u : UnlinkedPlane (List Ring)) → (slice_get (us ++ u ∷ []) (length us) ≡ Some u) × (take (length us) (us ++ u ∷ []) ≡ us)
 at_end [] u = (refl, refl)
 at_end (y ∷ us) u = let r = at_end us u in (r.0, ap (λ xs. y ∷ xs) r.1)
 
@@ -49,9 +49,9 @@ unlinked_made planes p a b table no_axis is made = record {
   before = λ k x e. subst (λ (us : Unlinks). AreRings planes x.before (unlinked_of (take k us))) (sym is.unlinked) (by k x (at_push a.unlinked (kept_plane p a.rings) k x (subst (λ (us : Unlinks). slice_get us k ≡ Some x) is.unlinked e)));
 }
   where
-    by : (k : ℕ) (x : Kept (List Ring)) → ((slice_get a.unlinked k ≡ Some x) × (take k (a.unlinked ++ kept_plane p a.rings ∷ []) ≡ take k a.unlinked)) ⊎ ((kept_plane p a.rings ≡ x) × (take k (a.unlinked ++ kept_plane p a.rings ∷ []) ≡ a.unlinked)) → AreRings planes x.before (unlinked_of (take k (a.unlinked ++ kept_plane p a.rings ∷ [])))
+    by : (k : ℕ) (x : UnlinkedPlane (List Ring)) → ((slice_get a.unlinked k ≡ Some x) × (take k (a.unlinked ++ kept_plane p a.rings ∷ []) ≡ take k a.unlinked)) ⊎ ((kept_plane p a.rings ≡ x) × (take k (a.unlinked ++ kept_plane p a.rings ∷ []) ≡ a.unlinked)) → AreRings planes x.before (unlinked_of (take k (a.unlinked ++ kept_plane p a.rings ∷ [])))
     by k x (inl (e, t)) = subst (λ (us : Unlinks). AreRings planes x.before (unlinked_of us)) (sym t) (made.before k x e)
-    by k x (inr (e, t)) = subst (λ (us : Unlinks). AreRings planes x.before (unlinked_of us)) (sym t) (subst (λ (y : Kept (List Ring)). AreRings planes y.before (unlinked_of a.unlinked)) e made.now)
+    by k x (inr (e, t)) = subst (λ (us : Unlinks). AreRings planes x.before (unlinked_of us)) (sym t) (subst (λ (y : UnlinkedPlane (List Ring)). AreRings planes y.before (unlinked_of a.unlinked)) e made.now)
 
 pub relinked_made : (planes : List V3) (p : ℕ) (a b : Arrangement) → IsRelinked p a b → WereMadeFrom planes a → WereMadeFrom planes b
 relinked_made planes p a b is made = record {
@@ -73,7 +73,7 @@ same_push xs ys x y e =
 pub relinked_back : (p : ℕ) (a m b : Arrangement) → IsUnlinked p a m → IsRelinked p m b → b ≡ a
 relinked_back p a m b u r =
     let (us, k) = same_push b.unlinked a.unlinked (kept_plane p b.rings) (kept_plane p a.rings) (sym r ∙ u.unlinked) in
-    λ i. record { rings = (ap (λ (x : Kept (List Ring)). x.before) k) i; unlinked = us i }
+    λ i. record { rings = (ap (λ (x : UnlinkedPlane (List Ring)). x.before) k) i; unlinked = us i }
 
 pub undone : (ps : List ℕ) (a b c : Arrangement) → AreUnlinked ps a b → AreRelinked ps b c → c ≡ a
 undone [] a b c u r = sym r ∙ sym u

@@ -16,7 +16,7 @@ use Rattle.staat_vec.proofs.Unique.{Contains-front}
 use Rattle.staat_model.proofs.Members.{All-from_members}
 use Rattle.staat_ring.specs.Order.{HasRay, IsHalfOf, IsPlace, RiseFrom, normal_at}
 use Rattle.staat_ring.proofs.Turns.{turn}
-use Rattle.staat_ring.proofs.Turning.{turn_of_planes, turn_trans}
+use Rattle.staat_ring.proofs.TurnOrder.{turn_of_planes, turn_trans}
 use Rattle.staat_vec.proofs.Integers.{mul-comm_ℤ, cancel_positive}
 use Rattle.staat_vec.proofs.Naturals.{lt_or_le, trichotomy, same_or}
 use Rattle.staat_vec.proofs.VectorLaws.{det_back, det_same}

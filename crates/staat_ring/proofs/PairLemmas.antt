@@ -9,7 +9,7 @@ use Rattle.staat_ring.specs.declared.pairs.PairCount.{PairCount}
 use Rattle.staat_model.specs.declared.set.PartSet.{PartSet}
 use Rattle.staat_model.specs.Sets.{Has}
 use Rattle.staat_graph.specs.Graphs.{IsStrong}
-use Rattle.staat_ring.specs.Blocks.{HasBlock, parts_at}
+use Rattle.staat_ring.specs.BlockCounts.{HasBlock, parts_at}
 use Rattle.staat_ring.proofs.Strength.{strong_same}
 use Rattle.staat_ring.specs.Pairs.{HasFullPair, CountBlocks, blocks, fresh, gained, is_block, no_pair, occurs, pair_at}
 use Rattle.staat_vec.proofs.Naturals.{lt_or_le, eq_test_false, lt_test, lt_test_false, same_or}

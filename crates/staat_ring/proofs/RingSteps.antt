@@ -8,7 +8,7 @@ use Rattle.staat_ring.specs.Links.{Arrays, take_all, give_all}
 use Rattle.staat_ring.specs.Planes.{entries_of}
 use Rattle.staat_ring.specs.Views.{kept_of}
 use Rattle.staat_ring.specs.RingViews.{rings_at, rings_of, undo, arrangement_of, CanBeUndone, still_linked, shape}
-use Rattle.staat_ring.specs.Rings.{Arrangement, Kept, Ring}
+use Rattle.staat_ring.specs.Rings.{Arrangement, UnlinkedPlane, Ring}
 use Rattle.staat_ring.specs.Without.{IsUnlinked, kept_plane, rings_without}
 use Rattle.staat_ring.specs.Views.{lists_of}
 use Rattle.staat_ring.specs.RingInvariant.{HaveTakenOut}
@@ -109,7 +109,7 @@ not_nil [] x e = cc
 not_nil (y ∷ xs) x e = cc
 
 module _ (n count : ℕ) (order : List ℕ) (a : Arrays) (v : Arrangement) (p : ℕ) (k : HaveTakenOut n count order a) (e : arrangement_of n (take count order) a ≡ v)
-    (u : List (Kept (List Ring))) (before : List Ring) (last : v.unlinked ≡ u ++ kept_plane p before ∷ []) where
+    (u : List (UnlinkedPlane (List Ring))) (before : List Ring) (last : v.unlinked ≡ u ++ kept_plane p before ∷ []) where
   pub some : 0 < count
   some = go count refl
     where

@@ -7,7 +7,7 @@ use Rattle.staat_vec.specs.Primitives.{primitive, content}
 use Rattle.staat_ring.proofs.Turns.{turn}
 use Rattle.staat_vec.proofs.Ring.{at, ◌⊖◌, ◌⊗◌, ring}
 use Rattle.staat_vec.proofs.VecRing.{dotE, crossE, values, v0, v1, v2, timesE}
-use Rattle.staat_ring.proofs.Turning.{turnE}
+use Rattle.staat_ring.proofs.TurnOrder.{turnE}
 use Rattle.staat_ring.proofs.Content.{content_divides}
 
 -- on which side of the plane h a vertex is, by the turning sense from it to the crossing with h

@@ -11,10 +11,10 @@ use Rattle.staat_vec.specs.declared.vector.Sign.TheVariants.{Neg, Zero, Pos}
 use Rattle.staat_ring.specs.declared.pairs.PairCount.{PairCount}
 use Rattle.staat_model.specs.declared.set.PartSet.{PartSet}
 use Rattle.staat_graph.specs.Graphs.{IsStrong}
-use Rattle.staat_ring.specs.Blocks.{parts_at}
+use Rattle.staat_ring.specs.BlockCounts.{parts_at}
 use Rattle.staat_ring.proofs.Strength.{strong_same}
 use Rattle.staat_ring.specs.Pairs.{HasFullPair, blocks, gained, is_block, is_full, no_pair, occurs, pair_at}
-use Rattle.staat_ring.specs.Signs.{HasBlockingPair, IsBlockingPair, Side, Signed, no_side, pairs_by, positive_pairs, positives, side_at}
+use Rattle.staat_ring.specs.CountedSigns.{HasBlockingPair, IsBlockingPair, PlaneState, Signed, no_state, pairs_by, positive_pairs, positives, state_at}
 use Rattle.staat_ring.specs.SignChanges.{AreSigned, uses, emptied, with_sign}
 use Rattle.staat_vec.proofs.Truth.{and_split}
 use Rattle.std.proofs.lemmas.Bool.{and_from}
@@ -24,28 +24,28 @@ positive_part Neg along against q = omega arith
 positive_part Zero along against q = omega arith
 positive_part Pos along against q = omega arith
 
-pub positives-le-uses : (q : ℕ) (sides : List Side) → positives q sides ≤ uses q sides
+pub positives-le-uses : (q : ℕ) (states : List PlaneState) → positives q states ≤ uses q states
 positives-le-uses q [] = omega arith
-positives-le-uses q (s ∷ sides) =
-    let r = positives-le-uses q sides in
+positives-le-uses q (s ∷ states) =
+    let r = positives-le-uses q states in
     let h = positive_part s.sign s.along s.against q in
-    omega (arith, r, h, sum_by-cons (λ s. occurs q (positive_pairs s)) s sides, sum_by-cons (λ s. occurs q s.along + occurs q s.against) s sides)
+    omega (arith, r, h, sum_by-cons (λ s. occurs q (positive_pairs s)) s states, sum_by-cons (λ s. occurs q s.along + occurs q s.against) s states)
 
-module _ (sides : List Side) (k : ℕ) (sign : Sign) (lt : k < length sides) where
-  abbrev there : Side
-  there = side_at sides k
+module _ (states : List PlaneState) (k : ℕ) (sign : Sign) (lt : k < length states) where
+  abbrev there : PlaneState
+  there = state_at states k
 
-  abbrev after : List Side
-  after = set sides k (with_sign sign there)
+  abbrev after : List PlaneState
+  after = set states k (with_sign sign there)
 
-  pub positives-set : (q : ℕ) → positives q after + occurs q (positive_pairs there) ≡ positives q sides + occurs q (positive_pairs (with_sign sign there))
-  positives-set q = sum_by-set (λ s. occurs q (positive_pairs s)) sides k (with_sign sign there) no_side lt
+  pub positives-set : (q : ℕ) → positives q after + occurs q (positive_pairs there) ≡ positives q states + occurs q (positive_pairs (with_sign sign there))
+  positives-set q = sum_by-set (λ s. occurs q (positive_pairs s)) states k (with_sign sign there) no_state lt
 
-  pub uses-set : (q : ℕ) → uses q after ≡ uses q sides
-  uses-set q = let e = sum_by-set (λ s. occurs q s.along + occurs q s.against) sides k (with_sign sign there) no_side lt in omega (arith, e)
+  pub uses-set : (q : ℕ) → uses q after ≡ uses q states
+  uses-set q = let e = sum_by-set (λ s. occurs q s.along + occurs q s.against) states k (with_sign sign there) no_state lt in omega (arith, e)
 
-  module _ (old lost : List PairCount) (is : AreSigned sides old) (less : (q : ℕ) → pair_at old q ≡ gained (occurs q (positive_pairs there)) (pair_at lost q)) where
-    left : (q : ℕ) → (pair_at lost q).positive + occurs q (positive_pairs there) ≡ positives q sides
+  module _ (old lost : List PairCount) (is : AreSigned states old) (less : (q : ℕ) → pair_at old q ≡ gained (occurs q (positive_pairs there)) (pair_at lost q)) where
+    left : (q : ℕ) → (pair_at lost q).positive + occurs q (positive_pairs there) ≡ positives q states
     left q = sym (ap (λ p. p.positive) (less q)) ∙ is.each q
 
     pub room : (q : ℕ) → (pair_at lost q).positive + occurs q (positive_pairs (with_sign sign there)) < 65536
@@ -56,8 +56,8 @@ module _ (sides : List Side) (k : ℕ) (sign : Sign) (lt : k < length sides) whe
       set_signed = record {
         each = λ q. let e = positives-set q in let l = left q in let m = ap (λ p. p.positive) (more q) in omega (arith, e, l, m);
         few = λ q. subst (λ n. n < 65536) (sym (uses-set q)) (is.few q);
-        along = subst (λ n. All (λ s. All (λ q. q < n) s.along) after) (sym same) (All-set (λ s. All (λ q. q < length old) s.along) sides k (with_sign sign there) (All-get_or (λ s. All (λ q. q < length old) s.along) sides k no_side lt is.along) is.along);
-        against = subst (λ n. All (λ s. All (λ q. q < n) s.against) after) (sym same) (All-set (λ s. All (λ q. q < length old) s.against) sides k (with_sign sign there) (All-get_or (λ s. All (λ q. q < length old) s.against) sides k no_side lt is.against) is.against);
+        along = subst (λ n. All (λ s. All (λ q. q < n) s.along) after) (sym same) (All-set (λ s. All (λ q. q < length old) s.along) states k (with_sign sign there) (All-get_or (λ s. All (λ q. q < length old) s.along) states k no_state lt is.along) is.along);
+        against = subst (λ n. All (λ s. All (λ q. q < n) s.against) after) (sym same) (All-set (λ s. All (λ q. q < length old) s.against) states k (with_sign sign there) (All-get_or (λ s. All (λ q. q < length old) s.against) states k no_state lt is.against) is.against);
       }
 
       pub set_pairs : map emptied new ≡ map emptied old
@@ -65,33 +65,33 @@ module _ (sides : List Side) (k : ℕ) (sign : Sign) (lt : k < length sides) whe
           (λ q small. get_or-map emptied new q no_pair ∙ ap emptied (more q) ∙ ap emptied (sym (less q)) ∙ sym (get_or-map emptied old q no_pair))
 
 -- ---- the step, as the code takes it
-module _ (now : Signed) (sides after : List Side) (old lost : List PairCount) (k : ℕ) (sign : Sign) (first second : List ℕ)
-    (view : record { sides = sides; pairs = map emptied old } ≡ now) (is : AreSigned sides old) (lt : k < length now.sides)
-    (first_is : first ≡ positive_pairs (side_at sides k)) (after_is : after ≡ set sides k (with_sign sign (side_at sides k))) (second_is : second ≡ positive_pairs (side_at after k))
+module _ (now : Signed) (states after : List PlaneState) (old lost : List PairCount) (k : ℕ) (sign : Sign) (first second : List ℕ)
+    (view : record { states = states; pairs = map emptied old } ≡ now) (is : AreSigned states old) (lt : k < length now.states)
+    (first_is : first ≡ positive_pairs (state_at states k)) (after_is : after ≡ set states k (with_sign sign (state_at states k))) (second_is : second ≡ positive_pairs (state_at after k))
     (less : (q : ℕ) → pair_at old q ≡ gained (occurs q first) (pair_at lost q)) where
-  place : k < length sides
-  place = subst (λ (s : Signed). k < length s.sides) (sym view) lt
+  place : k < length states
+  place = subst (λ (s : Signed). k < length s.states) (sym view) lt
 
-  less_is : (q : ℕ) → pair_at old q ≡ gained (occurs q (positive_pairs (side_at sides k))) (pair_at lost q)
+  less_is : (q : ℕ) → pair_at old q ≡ gained (occurs q (positive_pairs (state_at states k))) (pair_at lost q)
   less_is q = less q ∙ ap (λ qs. gained (occurs q qs) (pair_at lost q)) first_is
 
-  second_by : second ≡ positive_pairs (with_sign sign (side_at sides k))
-  second_by = second_is ∙ ap positive_pairs (ap (λ xs. side_at xs k) after_is ∙ get_or-set_same sides k (with_sign sign (side_at sides k)) no_side place)
+  second_by : second ≡ positive_pairs (with_sign sign (state_at states k))
+  second_by = second_is ∙ ap positive_pairs (ap (λ xs. state_at xs k) after_is ∙ get_or-set_same states k (with_sign sign (state_at states k)) no_state place)
 
   pub step_room : (q : ℕ) → (pair_at lost q).positive + occurs q second < 65536
-  step_room q = subst (λ qs. (pair_at lost q).positive + occurs q qs < 65536) (sym second_by) (room sides k sign place old lost is less_is q)
+  step_room q = subst (λ qs. (pair_at lost q).positive + occurs q qs < 65536) (sym second_by) (room states k sign place old lost is less_is q)
 
   module _ (new : List PairCount) (more : (q : ℕ) → pair_at new q ≡ gained (occurs q second) (pair_at lost q)) (short : length lost ≡ length old) (same : length new ≡ length lost) where
-    more_is : (q : ℕ) → pair_at new q ≡ gained (occurs q (positive_pairs (with_sign sign (side_at sides k)))) (pair_at lost q)
+    more_is : (q : ℕ) → pair_at new q ≡ gained (occurs q (positive_pairs (with_sign sign (state_at states k)))) (pair_at lost q)
     more_is q = more q ∙ ap (λ qs. gained (occurs q qs) (pair_at lost q)) second_by
 
     pub step_signed : AreSigned after new
-    step_signed = subst (λ xs. AreSigned xs new) (sym after_is) (set_signed sides k sign place old lost is less_is new more_is (same ∙ short))
+    step_signed = subst (λ xs. AreSigned xs new) (sym after_is) (set_signed states k sign place old lost is less_is new more_is (same ∙ short))
 
-    pub step_value : ◌≡◌ {A = Signed} (record { sides = after; pairs = map emptied new }) (record { sides = set now.sides k (with_sign sign (side_at now.sides k)); pairs = now.pairs })
+    pub step_value : ◌≡◌ {A = Signed} (record { states = after; pairs = map emptied new }) (record { states = set now.states k (with_sign sign (state_at now.states k)); pairs = now.pairs })
     step_value =
-        (λ i. record { sides = after_is i; pairs = set_pairs sides k sign place old lost is less_is new more_is (same ∙ short) i })
-        ∙ (λ i. record { sides = set (view i).sides k (with_sign sign (side_at (view i).sides k)); pairs = (view i).pairs })
+        (λ i. record { states = after_is i; pairs = set_pairs states k sign place old lost is less_is new more_is (same ∙ short) i })
+        ∙ (λ i. record { states = set (view i).states k (with_sign sign (state_at (view i).states k)); pairs = (view i).pairs })
 
 -- ---- the graph
 
@@ -113,8 +113,8 @@ found x (p ∷ pairs) h = go (is_block x p) refl (found x pairs) (let e = sum_by
 counted : (x : ℕ) (pairs : List PairCount) (q : ℕ) → q < length pairs → is_block x (pair_at pairs q) ≡ true → 0 < blocks x pairs
 counted x pairs q lt e = let le = get_or-le-sum_by (λ r. cond (is_block x r) 1 0) pairs q no_pair lt in let o = ap {B = ℕ} (λ b. cond b 1 0) e in omega (arith, le, o)
 
-pub blocking_is : (now : Signed) (sides : List Side) (pairs : List PairCount) → record { sides = sides; pairs = map emptied pairs } ≡ now → AreSigned sides pairs → (x : ℕ) → (0 < blocks x pairs) ↔ ((q : ℕ) × IsBlockingPair now x q)
-blocking_is now sides pairs view is x = (
+pub blocking_is : (now : Signed) (states : List PlaneState) (pairs : List PairCount) → record { states = states; pairs = map emptied pairs } ≡ now → AreSigned states pairs → (x : ℕ) → (0 < blocks x pairs) ↔ ((q : ℕ) × IsBlockingPair now x q)
+blocking_is now states pairs view is x = (
   λ h.
       let (q, lt, b) = found x pairs h in
       let t = and_split ((pair_at pairs q).parts == x) (is_full (pair_at pairs q)) b in (
@@ -122,17 +122,17 @@ blocking_is now sides pairs view is x = (
         subst (λ (s : Signed). IsBlockingPair s x q) view (record {
           within = subst (λ n. q < n) (sym (length-map pairs emptied)) lt;
           parts = ap (λ p. p.parts) (get_or-map emptied pairs q no_pair) ∙ (Decides-eqb (pair_at pairs q).parts x).0 t.0;
-          full = subst (λ (p : PairCount). p.wanted ≤ positives q sides) (sym (get_or-map emptied pairs q no_pair)) (subst (λ n. (pair_at pairs q).wanted ≤ n) (is.each q) (full_le (pair_at pairs q) t.1));
+          full = subst (λ (p : PairCount). p.wanted ≤ positives q states) (sym (get_or-map emptied pairs q no_pair)) (subst (λ n. (pair_at pairs q).wanted ≤ n) (is.each q) (full_le (pair_at pairs q) t.1));
         }),
       ),
   λ (q, h).
       let k = subst (λ (s : Signed). IsBlockingPair s x q) (sym view) h in
       counted x pairs q (subst (λ n. q < n) (length-map pairs emptied) k.within)
       (and_from ((pair_at pairs q).parts == x) (is_full (pair_at pairs q)) ((Decides-eqb (pair_at pairs q).parts x).1 (sym (ap (λ p. p.parts) (get_or-map emptied pairs q no_pair)) ∙ k.parts))
-      (le_full (pair_at pairs q) (subst (λ n. (pair_at pairs q).wanted ≤ n) (sym (is.each q)) (subst (λ (p : PairCount). p.wanted ≤ positives q sides) (get_or-map emptied pairs q no_pair) k.full)))),
+      (le_full (pair_at pairs q) (subst (λ n. (pair_at pairs q).wanted ≤ n) (sym (is.each q)) (subst (λ (p : PairCount). p.wanted ≤ positives q states) (get_or-map emptied pairs q no_pair) k.full)))),
 )
 
-pub blocking_strong : (now : Signed) (sides : List Side) (pairs : List PairCount) (w : PartSet) (b : Bool) → record { sides = sides; pairs = map emptied pairs } ≡ now → AreSigned sides pairs → IsTrue b ↔ IsStrong (HasFullPair pairs) w → IsTrue b ↔ IsStrong (HasBlockingPair now) w
-blocking_strong now sides pairs w b view is told =
-    let same = strong_same (HasFullPair pairs) (HasBlockingPair now) w (λ p q p_in q_in. blocking_is now sides pairs view is (parts_at p q)) in
+pub blocking_strong : (now : Signed) (states : List PlaneState) (pairs : List PairCount) (w : PartSet) (b : Bool) → record { states = states; pairs = map emptied pairs } ≡ now → AreSigned states pairs → IsTrue b ↔ IsStrong (HasFullPair pairs) w → IsTrue b ↔ IsStrong (HasBlockingPair now) w
+blocking_strong now states pairs w b view is told =
+    let same = strong_same (HasFullPair pairs) (HasBlockingPair now) w (λ p q p_in q_in. blocking_is now states pairs view is (parts_at p q)) in
     (λ e. same.0 (told.0 e), λ s. told.1 (same.1 s))

@@ -14,7 +14,7 @@ use Rattle.staat_ring.specs.Views.{lists_of}
 use Rattle.staat_ring.specs.RingViews.{shape, is_out, undo, rings_at, StandForCircles}
 use Rattle.staat_ring.specs.Numbered.{plane_of}
 use Rattle.staat_ring.specs.Without.{rings_without}
-use Rattle.staat_ring.proofs.Undo.{give_all-take_all}
+use Rattle.staat_ring.proofs.RelinkUndoesUnlink.{give_all-take_all}
 use Rattle.staat_ring.proofs.TwoLevels.{stands-take_all, present-after}
 use Rattle.staat_ring.proofs.ViewLemmas.{AreShort, lists_of_is, stands_same}
 use Rattle.staat_ring.proofs.Filters.{without-plane}

@@ -10,7 +10,7 @@ use Rattle.staat_ring.proofs.Stops.{AreLinkedApart}
 use Rattle.staat_vec.proofs.Ring.{at, num, ◌⊕◌, ◌⊖◌, ◌⊗◌, ring, zero-mul_ℤ}
 use Rattle.staat_vec.proofs.VecRing.{dotE, detE, values, v0, v1, v2, v3, timesE, dot_cross_left}
 use Rattle.staat_vec.proofs.Order.{pos_mul, cancel_zero}
-use Rattle.staat_ring.proofs.Turning.{turnE, turn_back}
+use Rattle.staat_ring.proofs.TurnOrder.{turnE, turn_back}
 use Rattle.staat_ring.proofs.Content.{content_divides}
 use Rattle.staat_ring.proofs.Sides.{turn_is_side}
 use Rattle.staat_vec.proofs.Integers.{neg_is_minus, positive_not_zero}

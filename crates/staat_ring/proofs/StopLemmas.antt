@@ -18,10 +18,10 @@ use Rattle.staat_model.specs.Circles.{PassesThrough, Stop}
 use Rattle.staat_model.proofs.Members.{All-from_members}
 use Rattle.staat_pairs.specs.Tables.{AreTablePlanes}
 use Rattle.staat_ring.specs.declared.entry.Entry.{Entry}
-use Rattle.staat_ring.specs.Marks.{marked}
+use Rattle.staat_ring.specs.StopSigns.{with_stop_signs}
 use Rattle.staat_ring.specs.Places.{IsStopAt}
 use Rattle.staat_ring.specs.Rings.{AreRings, IsRingOf, Ring, RingStop, linked_of, stop_of, vertex_of}
-use Rattle.staat_ring.specs.Signs.{Signed}
+use Rattle.staat_ring.specs.CountedSigns.{Signed}
 use Rattle.staat_ring.proofs.Stops.{AreLinkedApart, none_parallel, stop_there}
 use Rattle.staat_ring.specs.Belonging.{HoldSigns}
 use Rattle.staat_ring.proofs.CrossLaw.{cross_signs}
@@ -92,9 +92,9 @@ module _ (planes : List V3) (rings : List Ring) (out : List ℕ) (table : AreTab
       pub next_at : IsStopAt rings c ((m + 1) % length at.ring.stops) t
       next_at = record { ring = at.ring; listed = at.listed; plane = at.plane; is = there }
 
-      pub next_signs : (now : Signed) → length now.sides ≡ length planes → HoldSigns planes (linked_of rings) now (vertex_of planes c s.entries) → HoldSigns planes (linked_of rings) (marked false t.entries (marked true s.entries now)) (vertex_of planes c t.entries)
+      pub next_signs : (now : Signed) → length now.states ≡ length planes → HoldSigns planes (linked_of rings) now (vertex_of planes c s.entries) → HoldSigns planes (linked_of rings) (with_stop_signs false t.entries (with_stop_signs true s.entries now)) (vertex_of planes c t.entries)
       next_signs now size holds =
-          subst (λ k. HoldSigns planes (linked_of rings) (marked false t.entries (marked true s.entries now)) (vertex_of planes k t.entries)) at.plane
+          subst (λ k. HoldSigns planes (linked_of rings) (with_stop_signs false t.entries (with_stop_signs true s.entries now)) (vertex_of planes k t.entries)) at.plane
           (cross_signs planes (linked_of rings) at.ring apart is s t m at.is there now size
           (subst (λ k. HoldSigns planes (linked_of rings) now (vertex_of planes k s.entries)) (sym at.plane) holds))
 

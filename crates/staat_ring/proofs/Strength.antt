@@ -4,7 +4,7 @@ use Rattle.staat_model.specs.declared.set.PartSet.{PartSet}
 use Rattle.staat_model.specs.Sets.{Has, IsSubset}
 use Rattle.staat_graph.specs.Graphs.{HasArc, IsReach, IsStrong, Walks, here, along}
 use Rattle.staat_graph.proofs.Walking.{joined, reach_back, turned, turned_back, walk_starts}
-use Rattle.staat_ring.specs.Blocks.{HasBlock, ShowsCounts}
+use Rattle.staat_ring.specs.BlockCounts.{HasBlock, ShowsCounts}
 
 carried_in : {R S : ℕ → ℕ → Type 0} {w : PartSet} → ((a b : ℕ) → Has w a → Has w b → R a b → S a b) → {a c : ℕ} → Walks R w a c → Walks S w a c
 carried_in f (here h) = here h

@@ -8,7 +8,7 @@ use Rattle.staat_ring.proofs.Taking.{CanTakeAll, CanTake}
 use Rattle.staat_ring.specs.Stands.{is_empty, Tagged, IsRing, Shape, RingLists, home_of, StandFor, IsPresent, AllPresent}
 use Rattle.staat_ring.specs.Within.{InRange}
 use Rattle.staat_ring.proofs.ListsWithout.{lists_without_all, lists_without, without}
-use Rattle.staat_ring.proofs.Without.{without_other, without_none, node_between, tagged_apart, prev_tag, next_tag, ring_stays, ring_shrinks, bare_is}
+use Rattle.staat_ring.proofs.WithoutNumber.{without_other, without_none, node_between, tagged_apart, prev_tag, next_tag, ring_stays, ring_shrinks, bare_is}
 use Rattle.staat_vec.proofs.Naturals.{same_or}
 
 contains_cases : (z y : ℕ) (zs : List ℕ) → Contains (z ∷ zs) y → (z ≡ y) ⊎ Contains zs y

@@ -9,7 +9,7 @@ use Rattle.staat_ring.specs.RingViews.{rings_of, rings_at, undo, StandForCircles
 use Rattle.staat_ring.proofs.ViewLemmas.{undo-push}
 use Rattle.staat_ring.proofs.SoundLemmas.{filter_inside}
 use Rattle.staat_ring.proofs.RingLemmas.{listed-push, filter_by, eqb_turned, below_small}
-use Rattle.staat_ring.proofs.Without.{split, without_mid, distinct_filter}
+use Rattle.staat_ring.proofs.WithoutNumber.{split, without_mid, distinct_filter}
 use Rattle.staat_vec.proofs.Truth.{from_not_true}
 use Rattle.staat_vec.proofs.Naturals.{le_or_past}
 use Rattle.staat_vec.proofs.ListLaws.{filter_twice}

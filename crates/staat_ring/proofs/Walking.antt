@@ -8,7 +8,7 @@ use Rattle.staat_ring.proofs.Turns.{turn, NextIn}
 use Rattle.staat_vec.proofs.Ring.{num, ring}
 use Rattle.staat_vec.proofs.VecRing.{values, v0, v1}
 use Rattle.staat_vec.proofs.Order.{pos_mul}
-use Rattle.staat_ring.proofs.Turning.{turnE, turn_back, turn_negative_left, turn_negative_right}
+use Rattle.staat_ring.proofs.TurnOrder.{turnE, turn_back, turn_negative_left, turn_negative_right}
 use Rattle.staat_ring.proofs.Content.{content_divides}
 use Rattle.staat_ring.proofs.Sides.{turn_is_side, turn_times_right}
 use Rattle.staat_vec.proofs.Integers.{positive_pos, cancel_positive}

@@ -9,12 +9,12 @@ use Rattle.staat_model.specs.declared.certificate.Arc.{Arc}
 use Rattle.staat_model.specs.declared.set.PartSet.{PartSet}
 use Rattle.staat_model.specs.Circles.{IsLinked}
 use Rattle.staat_pairs.specs.Tables.{IsTableArc, Table, facets_of, slot}
-use Rattle.staat_ring.specs.Blocks.{parts_at}
+use Rattle.staat_ring.specs.BlockCounts.{parts_at}
 use Rattle.staat_planes.specs.Tables.{IsPlaneOf}
 use Rattle.staat_ring.specs.declared.pairs.PairCount.{PairCount}
 use Rattle.staat_ring.specs.Pairs.{pair_at}
 use Rattle.staat_ring.specs.Rings.{facet_by, plane_at}
-use Rattle.staat_ring.specs.Signs.{IsBlockingPair, Side, Signed, against_at, along_at, positives, side_at}
+use Rattle.staat_ring.specs.CountedSigns.{IsBlockingPair, PlaneState, Signed, against_at, along_at, positives, state_at}
 
 -- ---- the law
 
@@ -25,7 +25,7 @@ positive_at v facets = count_by (λ n. int_lt (pos 0) (dot n v)) facets
 -- The count of the pair of the arc is the number of its facets that are positive at v, and the pair blocks where that
 -- is the number of its facets.
 pub record IsCountedAt (v : V3) (t : Table) (s : Signed) (arc : Arc) : Type 0 where
-  pub count : positives (slot t.pieces arc) s.sides ≡ positive_at v (facets_of t arc)
+  pub count : positives (slot t.pieces arc) s.states ≡ positive_at v (facets_of t arc)
   pub blocks : IsBlockingPair s (parts_at arc.a arc.b) (slot t.pieces arc)
       ↔ (positive_at v (facets_of t arc) ≡ length (facets_of t arc))
 
@@ -47,12 +47,12 @@ abbrev pub against_plane : ℕ → List PlaneFacet → ℕ
 against_plane k by_plane = count_by (λ w. (w.plane == k) && w.turned) by_plane
 
 -- pair q stands at each plane as often as the normal, and as often as the negative, is one of these facets
-pub record IsPairIndexed (planes facets : List V3) (sides : List Side) (q : ℕ) : Type 0 where
+pub record IsPairIndexed (planes facets : List V3) (states : List PlaneState) (q : ℕ) : Type 0 where
   pub by_plane : List PlaneFacet
   pub are : map (facet_at planes) by_plane ≡ facets
   pub within : All (λ w. w.plane < length planes) by_plane
-  pub along : (k : ℕ) → along_at sides k q ≡ along_plane k by_plane
-  pub against : (k : ℕ) → against_at sides k q ≡ against_plane k by_plane
+  pub along : (k : ℕ) → along_at states k q ≡ along_plane k by_plane
+  pub against : (k : ℕ) → against_at states k q ≡ against_plane k by_plane
 
 -- ---- signs that were made from a table
 
@@ -65,17 +65,17 @@ pub record IsPairOf (t : Table) (s : Signed) (arc : Arc) : Type 0 where
   pub within : slot t.pieces arc < length s.pairs
   pub parts : (pair_of t s arc).parts ≡ parts_at arc.a arc.b
   pub wanted : (pair_of t s arc).wanted ≡ length (facets_of t arc)
-  pub index : IsPairIndexed t.planes (facets_of t arc) s.sides (slot t.pieces arc)
+  pub index : IsPairIndexed t.planes (facets_of t arc) s.states (slot t.pieces arc)
 
 -- a number that is no pair's: it wants a facet, and has none
 pub record IsUnused (s : Signed) (q : ℕ) : Type 0 where
   pub wanted : 1 ≤ (pair_at s.pairs q).wanted
-  pub along : (k : ℕ) → along_at s.sides k q ≡ 0
-  pub against : (k : ℕ) → against_at s.sides k q ≡ 0
+  pub along : (k : ℕ) → along_at s.states k q ≡ 0
+  pub against : (k : ℕ) → against_at s.states k q ≡ 0
 
 -- the signs were made from the table: one for each of its planes, and the pairs are those of its pieces
 pub record BelongTo (t : Table) (s : Signed) : Type 0 where
-  pub sides : length s.sides ≡ length t.planes
+  pub states : length s.states ≡ length t.planes
   pub all : (arc : Arc) → IsTableArc t arc → IsPairOf t s arc
   pub only : (q : ℕ) → q < length s.pairs → ((arc : Arc) × IsTableArc t arc × (slot t.pieces arc ≡ q))
       ⊎ IsUnused s q
@@ -83,7 +83,7 @@ pub record BelongTo (t : Table) (s : Signed) : Type 0 where
 -- the signs of the linked planes are those at v
 abbrev pub HoldSigns : List V3 → List ℕ → Signed → V3 → Type 0
 HoldSigns planes linked s v = (k : ℕ) (n : V3) → IsLinked planes linked k n
-    → (side_at s.sides k).sign ≡ sign (dot n v)
+    → (state_at s.states k).sign ≡ sign (dot n v)
 
 -- all planes of w are linked
 abbrev pub HasAll : List Part → PartSet → List V3 → List ℕ → Type 0

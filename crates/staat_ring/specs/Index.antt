@@ -8,7 +8,7 @@ use Rattle.staat_pairs.specs.declared.table.TheConstants.{SLOTS}
 use Rattle.staat_pairs.specs.Tables.{IsTableArc, Table, pieces_of, place, slot}
 use Rattle.staat_ring.specs.declared.index.PiecePlace.{PiecePlace}
 use Rattle.staat_ring.specs.Pairs.{no_pair, pair_at}
-use Rattle.staat_ring.specs.Signs.{Signed, against_at, along_at, side_at}
+use Rattle.staat_ring.specs.CountedSigns.{Signed, against_at, along_at, state_at}
 use Rattle.staat_ring.specs.SignChanges.{with_plane_pair}
 use Rattle.staat_ring.specs.Belonging.{IsPairOf, IsUnused, PlaneFacet}
 
@@ -25,23 +25,23 @@ pub record ArePlaces (t : Table) (n : ℕ) (places : List PiecePlace) : Type 0 w
 
 -- every plane has the sign Zero
 abbrev pub AreZero : Signed → Type 0
-AreZero s = (k : ℕ) → (side_at s.sides k).sign ≡ Zero
+AreZero s = (k : ℕ) → (state_at s.states k).sign ≡ Zero
 
 -- nothing is known of the pair
 pub record IsFresh (s : Signed) (q : ℕ) : Type 0 where
   pub pair : pair_at s.pairs q ≡ no_pair
-  pub along : (k : ℕ) → along_at s.sides k q ≡ 0
-  pub against : (k : ℕ) → against_at s.sides k q ≡ 0
+  pub along : (k : ℕ) → along_at s.states k q ≡ 0
+  pub against : (k : ℕ) → against_at s.states k q ≡ 0
 
 -- what is known of the pair is as before
 pub record IsPairKept (s u : Signed) (q : ℕ) : Type 0 where
   pub pair : pair_at u.pairs q ≡ pair_at s.pairs q
-  pub along : (k : ℕ) → along_at u.sides k q ≡ along_at s.sides k q
-  pub against : (k : ℕ) → against_at u.sides k q ≡ against_at s.sides k q
+  pub along : (k : ℕ) → along_at u.states k q ≡ along_at s.states k q
+  pub against : (k : ℕ) → against_at u.states k q ≡ against_at s.states k q
 
 -- the pairs but q are as before
 pub record AreSameBut (s u : Signed) (q : ℕ) : Type 0 where
-  pub sides : length u.sides ≡ length s.sides
+  pub states : length u.states ≡ length s.states
   pub pairs : length u.pairs ≡ length s.pairs
   pub zero : AreZero u
   pub others : (p : ℕ) → p ≢ q → IsPairKept s u p
@@ -54,7 +54,7 @@ IsTold t s q =
 
 -- the numbers below n are told, and of the others nothing is known
 pub record AreToldBelow (t : Table) (s : Signed) (n : ℕ) : Type 0 where
-  pub sides : length s.sides ≡ length t.planes
+  pub states : length s.states ≡ length t.planes
   pub pairs : length s.pairs ≡ SLOTS
   pub zero : AreZero s
   pub told : (q : ℕ) → q < n → IsTold t s q

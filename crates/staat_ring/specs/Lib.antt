@@ -14,12 +14,12 @@ pub mod Rows
 pub mod Numbered
 pub mod Linking
 pub mod Places
-pub mod Blocks
+pub mod BlockCounts
 pub mod Pairs
-pub mod Signs
+pub mod CountedSigns
 pub mod SignChanges
 pub mod Belonging
 pub mod Index
 pub mod Stepping
-pub mod Marks
+pub mod StopSigns
 pub mod Walked

@@ -3,7 +3,7 @@ use Rattle.std.specs.Prelude.{◌≡◌, ℕ, ◌+◌, ◌<◌, ◌≤◌, List,
 use Rattle.std.specs.Prelude.{◌==◌, ◌&&◌, slice_index, slice_index_or}
 use Rattle.std.specs.List.{count_by}
 use Rattle.staat_pairs.specs.declared.table.TheConstants.{SLOTS}
-use Rattle.staat_ring.specs.Blocks.{part_pairs, parts_at}
+use Rattle.staat_ring.specs.BlockCounts.{part_pairs, parts_at}
 use Rattle.staat_ring.specs.declared.pairs.PairCount.{PairCount}
 
 -- a pair that does not block

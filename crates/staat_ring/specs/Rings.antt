@@ -21,19 +21,19 @@ pub record Ring : Type 0 where
   pub stops : List RingStop
 
 -- an unlinked plane with the circles that stood before
-pub record Kept (R : Type 0) : Type 0 where
+pub record UnlinkedPlane (R : Type 0) : Type 0 where
   pub plane : ℕ
   pub before : R
 
 -- the circles of the linked planes, and the unlinked planes in the order of their unlinking
 pub record Arrangement : Type 0 where
   pub rings : List Ring
-  pub unlinked : List (Kept (List Ring))
+  pub unlinked : List (UnlinkedPlane (List Ring))
 
 abbrev pub linked_of : List Ring → List ℕ
 linked_of rings = map (λ r. r.plane) rings
 
-abbrev pub unlinked_of : List (Kept (List Ring)) → List ℕ
+abbrev pub unlinked_of : List (UnlinkedPlane (List Ring)) → List ℕ
 unlinked_of kept = map (λ k. k.plane) kept
 
 -- ---- the vertices
@@ -79,5 +79,5 @@ pub record AreRings (planes : List V3) (rings : List Ring) (out : List ℕ) : Ty
 -- the circles are those of these planes, and so were those before each unlinking
 pub record WereMadeFrom (planes : List V3) (a : Arrangement) : Type 0 where
   pub now : AreRings planes a.rings (unlinked_of a.unlinked)
-  pub before : (k : ℕ) (kept : Kept (List Ring)) → slice_get a.unlinked k ≡ Some kept
+  pub before : (k : ℕ) (kept : UnlinkedPlane (List Ring)) → slice_get a.unlinked k ≡ Some kept
       → AreRings planes kept.before (unlinked_of (take k a.unlinked))

@@ -5,40 +5,40 @@ use Rattle.std.specs.List.{sum_by}
 use Rattle.staat_vec.specs.declared.vector.Sign.{Sign}
 use Rattle.staat_ring.specs.declared.pairs.PairCount.{PairCount}
 use Rattle.staat_ring.specs.Pairs.{occurs, pair_at}
-use Rattle.staat_ring.specs.Signs.{Side, Signed, positives, side_at}
+use Rattle.staat_ring.specs.CountedSigns.{PlaneState, Signed, positives, state_at}
 
 -- the plane with another sign
-abbrev pub with_sign : Sign → Side → Side
+abbrev pub with_sign : Sign → PlaneState → PlaneState
 with_sign sign s = record { sign = sign; along = s.along; against = s.against }
 
 -- the plane k is this one
-abbrev pub with_side : ℕ → Side → Signed → Signed
-with_side k side s = record { sides = slice_set s.sides k side; pairs = s.pairs }
+abbrev pub with_state : ℕ → PlaneState → Signed → Signed
+with_state k state s = record { states = slice_set s.states k state; pairs = s.pairs }
 
 -- the plane k gets the sign
 abbrev pub with_plane_sign : ℕ → Sign → Signed → Signed
-with_plane_sign k sign s = with_side k (with_sign sign (side_at s.sides k)) s
+with_plane_sign k sign s = with_state k (with_sign sign (state_at s.states k)) s
 
 -- one more pair has the normal as a facet, or its negative
-abbrev pub with_pair : Bool → ℕ → Side → Side
+abbrev pub with_pair : Bool → ℕ → PlaneState → PlaneState
 with_pair false q s = record { sign = s.sign; along = s.along ++ q ∷ []; against = s.against }
 with_pair true q s = record { sign = s.sign; along = s.along; against = s.against ++ q ∷ [] }
 
 -- one more facet of pair q lies on the plane k
 abbrev pub with_plane_pair : ℕ → Bool → ℕ → Signed → Signed
-with_plane_pair k turned q s = with_side k (with_pair turned q (side_at s.sides k)) s
+with_plane_pair k turned q s = with_state k (with_pair turned q (state_at s.states k)) s
 
 -- a pair of which no facet is positive
 abbrev pub emptied : PairCount → PairCount
 emptied p = record { positive = 0; wanted = p.wanted; parts = p.parts }
 
 -- how many facets pair q has
-abbrev pub uses : ℕ → List Side → ℕ
-uses q sides = sum_by (λ s. occurs q s.along + occurs q s.against) sides
+abbrev pub uses : ℕ → List PlaneState → ℕ
+uses q states = sum_by (λ s. occurs q s.along + occurs q s.against) states
 
 -- the counts are those of the signs, and none can grow too great for its word
-pub record AreSigned (sides : List Side) (pairs : List PairCount) : Type 0 where
-  pub each : (q : ℕ) → (pair_at pairs q).positive ≡ positives q sides
-  pub few : (q : ℕ) → uses q sides < 65536
-  pub along : All (λ s. All (λ q. q < length pairs) s.along) sides
-  pub against : All (λ s. All (λ q. q < length pairs) s.against) sides
+pub record AreSigned (states : List PlaneState) (pairs : List PairCount) : Type 0 where
+  pub each : (q : ℕ) → (pair_at pairs q).positive ≡ positives q states
+  pub few : (q : ℕ) → uses q states < 65536
+  pub along : All (λ s. All (λ q. q < length pairs) s.along) states
+  pub against : All (λ s. All (λ q. q < length pairs) s.against) states

@@ -2,7 +2,7 @@
 use Rattle.std.specs.Prelude.{ℕ, zero, suc, List, [], ◌∷◌, ◌++◌, length, slice_index, ◌==◌}
 use Rattle.std.specs.Prelude.{if◌then◌else◌}
 use Rattle.staat_ring.specs.Links.{Links, Arrays}
-use Rattle.staat_ring.specs.Rings.{Kept}
+use Rattle.staat_ring.specs.Rings.{UnlinkedPlane}
 use Rattle.staat_ring.specs.Stands.{Shape, RingLists}
 
 -- the nodes from x on until the head comes, at most so many
@@ -25,7 +25,7 @@ undo_all undo (p ∷ ps) a = undo p (undo_all undo ps a)
 
 -- the unlinked planes in the order of their unlinking; done are those before
 abbrev pub kept_of : {A R : Type 0} → (ℕ → A → A) → (List ℕ → A → R) → List ℕ → List ℕ → A
-    → List (Kept R)
+    → List (UnlinkedPlane R)
 kept_of undo rings done [] a = []
 kept_of undo rings done (p ∷ ps) a =
     (record { plane = p; before = rings done (undo p (undo_all undo ps a)) })

@@ -7,7 +7,7 @@ use Rattle.staat_pairs.specs.Tables.{Table}
 use Rattle.staat_ring.specs.Belonging.{BelongTo, HoldSigns}
 use Rattle.staat_ring.specs.Places.{IsStopAt}
 use Rattle.staat_ring.specs.Rings.{Ring, RingStop, linked_of, vertex_of}
-use Rattle.staat_ring.specs.Signs.{Signed}
+use Rattle.staat_ring.specs.CountedSigns.{Signed}
 
 -- two normals that are not parallel, and not too great
 pub record DoCross (own other : V3) : Type 0 where

@@ -2,7 +2,7 @@
 use Rattle.std.specs.Prelude.{◌≡◌, ℕ, List, [], ◌∷◌, ◌++◌, map, Bool, true, false, not, ◌==◌}
 use Rattle.std.specs.List.{filter}
 use Rattle.staat_ring.specs.declared.entry.Entry.{Entry}
-use Rattle.staat_ring.specs.Rings.{Arrangement, Kept, Ring, RingStop}
+use Rattle.staat_ring.specs.Rings.{Arrangement, UnlinkedPlane, Ring, RingStop}
 
 abbrev pub other_than : ℕ → Entry → Bool
 other_than p e = not (e.plane == p)
@@ -26,7 +26,7 @@ abbrev pub rings_without : ℕ → List Ring → List Ring
 rings_without p rings = map (ring_without p) (filter (λ r. not (r.plane == p)) rings)
 
 -- an unlinked plane with the circles that stood before
-abbrev pub kept_plane : ℕ → List Ring → Kept (List Ring)
+abbrev pub kept_plane : ℕ → List Ring → UnlinkedPlane (List Ring)
 kept_plane p rings = record { plane = p; before = rings }
 
 -- b is a without the plane p, which joins the unlinked planes with the circles of a
@@ -36,7 +36,7 @@ pub record IsUnlinked (p : ℕ) (a b : Arrangement) : Type 0 where
 
 -- p is the last of the unlinked planes
 pub record IsLastUnlinked (p : ℕ) (a : Arrangement) : Type 0 where
-  pub others : List (Kept (List Ring))
+  pub others : List (UnlinkedPlane (List Ring))
   pub before : List Ring
   pub is : a.unlinked ≡ others ++ kept_plane p before ∷ []
 

@@ -9,7 +9,7 @@ ghost use Rattle.staat_ring.specs.Builds.{slot_at};
 ghost use Rattle.staat_ring.specs.Rings.{IsRingOf};
 
 use crate::entry::Entry;
-use crate::half::{axis_of, facet, half_circle, is_opposite};
+use crate::half_circle::{axis_beside, facet_by, half_circle, is_opposite};
 use staat_planes::PlaneTable;
 use staat_vec::{DIRECTION, NORMAL, OutOfMemory, Sign, V3, cross_normal, sign_dot};
 use std::alloc::Global;
@@ -133,10 +133,10 @@ fn fill(
     let _set = table.set();
     let _planes = table.len();
     let g = table.plane(c);
-    let axis = table.plane(axis_of(c));
+    let axis = table.plane(axis_beside(c));
     let h = table.plane(j);
     let turned = is_opposite(g, axis, h);
-    let at = place_of(g, half, facet(turned, h));
+    let at = place_of(g, half, facet_by(turned, h));
     push_at(slots, at, Entry { plane: j, turned })?;
     Ok(())
 }
@@ -183,7 +183,7 @@ pub fn circle_of(alloc: Global, table: &PlaneTable, c: u32) -> Result<Vec<Throug
     let _set = table.set();
     let _planes = table.len();
     let _g = table.plane(c);
-    let _axis = table.plane(axis_of(c));
+    let _axis = table.plane(axis_beside(c));
     let half = half_circle(alloc, table, c)?;
     let slots = all_filled(alloc, table, c, half.as_slice())?;
     let circle = both_halves(alloc, slots)?;

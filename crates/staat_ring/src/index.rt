@@ -7,8 +7,8 @@ ghost use Rattle.staat_ring.specs.Index.{with_facet, AreSameBut, AreToldBelow, A
 ghost use Rattle.staat_ring.specs.SignChanges.{uses};
 ghost use Rattle.staat_ring.specs.Belonging.{BelongTo, IsPairOf, PlaneFacet as PlaneFacetValue, facet_at};
 
+use crate::counted_signs::CountedSigns;
 use crate::plane_number::number_of_plane;
-use crate::signs::Signs;
 use staat_limits::{MOST_PARTS, MOST_PIECES};
 use staat_model::Arc;
 use staat_pairs::SLOTS;
@@ -50,12 +50,17 @@ fn places_of(alloc: Global, table: &PlaneTable) -> Result<Vec<PiecePlace>, OutOf
 }
 
 // puts down one facet of the pair q, in the list of its plane and sense
-fn push_facet(signs: &mut Signs, table: &PlaneTable, facet: V3, q: u16) -> Result<(), OutOfMemory>
+fn push_facet(
+    signs: &mut CountedSigns,
+    table: &PlaneTable,
+    facet: V3,
+    q: u16,
+) -> Result<(), OutOfMemory>
     requires facet { IsTableFacet table.now.planes facet }
-    requires sides { length signs.old.sides ≡ length table.now.planes }
+    requires states { length signs.old.states ≡ length table.now.planes }
     requires zero { AreZero signs.old }
     requires pair { q < length signs.old.pairs }
-    requires room { uses q signs.old.sides + 1 < 65536 }
+    requires room { uses q signs.old.states + 1 < 65536 }
     ensures { OnOk result ((w : PlaneFacetValue) × (w.plane < length table.now.planes)
         × (facet_at table.now.planes w ≡ facet) × (signs.new ≡ with_facet w q signs.old)) }
 {
@@ -65,10 +70,15 @@ fn push_facet(signs: &mut Signs, table: &PlaneTable, facet: V3, q: u16) -> Resul
 }
 
 // tells the pair q, and puts down its facets
-fn add_pair(signs: &mut Signs, table: &PlaneTable, arc: Arc, q: u16) -> Result<(), OutOfMemory>
+fn add_pair(
+    signs: &mut CountedSigns,
+    table: &PlaneTable,
+    arc: Arc,
+    q: u16,
+) -> Result<(), OutOfMemory>
     requires across { IsTableArc table.now arc }
     requires slot { slot table.now.pieces arc ≡ q }
-    requires sides { length signs.old.sides ≡ length table.now.planes }
+    requires states { length signs.old.states ≡ length table.now.planes }
     requires pairs { q < length signs.old.pairs }
     requires zero { AreZero signs.old }
     requires fresh { IsFresh signs.old q }
@@ -87,7 +97,7 @@ fn add_pair(signs: &mut Signs, table: &PlaneTable, arc: Arc, q: u16) -> Result<(
 
 // adds the pair of the number q, if there is one: that of two pieces of different parts
 fn add_slot(
-    signs: &mut Signs,
+    signs: &mut CountedSigns,
     table: &PlaneTable,
     places: &[PiecePlace],
     q: u32,
@@ -117,12 +127,12 @@ fn add_slot(
 
 /// The signs of the planes of a table, all Zero, with its ordered pairs of pieces by their slots, and for each plane
 /// the pairs that have its normal or the negative as a facet.
-pub fn signs_of(alloc: Global, table: &PlaneTable) -> Result<Signs, OutOfMemory>
+pub fn counted_signs(alloc: Global, table: &PlaneTable) -> Result<CountedSigns, OutOfMemory>
     ensures { IfOk result (λ s. BelongTo table.now s) }
 {
     let _set = table.set();
     let places = places_of(alloc, table)?;
-    let mut signs = Signs::new(alloc, table.len(), SLOTS)?;
+    let mut signs = CountedSigns::new(alloc, table.len(), SLOTS)?;
     for q in 0..SLOTS {
         add_slot(&mut signs, table, places.as_slice(), q)?;
     }

@@ -11,7 +11,7 @@ ghost use Rattle.staat_ring.specs.Belonging.{IsCountedAt};
 ghost use Rattle.staat_ring.specs.Laws.{AreOtherPlanes, AreRelinked, AreRingsOfSet, AreUnlinked, HasNoAxis};
 ghost use Rattle.staat_ring.specs.Laws.{HoldsAllSigns};
 ghost use Rattle.staat_ring.specs.Rings.{Arrangement, WereMadeFrom};
-ghost use Rattle.staat_ring.specs.Signs.{HasBlockingPair};
+ghost use Rattle.staat_ring.specs.CountedSigns.{HasBlockingPair};
 ghost use Rattle.staat_ring.specs.Walked.{Walked};
 
 /// Planes that were unlinked and are relinked in the reverse order leave the rings as they were.

@@ -3,26 +3,26 @@
 #![tactic(auto)]
 
 mod arrays;
-mod blocks;
+mod block_counts;
 mod build;
 mod circle;
+mod counted_signs;
 mod entry;
-mod half;
+mod half_circle;
 mod index;
 mod keys;
 pub mod laws;
 mod linking;
+mod next_stops;
 mod nodes;
 mod order;
 mod pairs;
 mod plane_number;
-mod reading;
 mod rings;
-mod signs;
 mod vertex;
 mod walk;
 
 pub use entry::Entry;
 pub use rings::Rings;
-pub use vertex::Crossing;
+pub use vertex::Vertex;
 pub use walk::Walk;

@@ -3,10 +3,10 @@ ghost use Rattle.std.specs.Prelude.{◌≡◌, ℕ, ◌+◌, ◌*◌, ◌<◌, �
 ghost use Rattle.std.specs.Prelude.{◌-◌, All, IfOk, IsTrue, length, replicate, slice_set};
 ghost use Rattle.staat_model.specs.Sets.{IsNonempty};
 ghost use Rattle.staat_graph.specs.Graphs.{IsStrong};
-ghost use Rattle.staat_ring.specs.Blocks.{IsGraphOf, part_pairs};
+ghost use Rattle.staat_ring.specs.BlockCounts.{IsGraphOf, part_pairs};
 ghost use Rattle.staat_ring.specs.Pairs.{CountBlocks, HasFullPair, fresh, gained, no_pair, occurs, pair_at};
 
-use crate::blocks::BlockCounts;
+use crate::block_counts::BlockCounts;
 use staat_graph::Graph;
 use staat_model::PartSet;
 use staat_pairs::SLOTS;

@@ -13,13 +13,13 @@ use std::marker::Model;
 
 /// The crossing of two planes, seen as its direction. It is computed only when it is asked for.
 #[derive(Drop)]
-pub struct Crossing {
+pub struct Vertex {
     own: V3,
     other: V3,
     turned: bool,
 }
 
-impl Model for Crossing {
+impl Model for Vertex {
     ghost use Rattle.staat_vec.specs.declared.vector.V3.{V3};
     ghost use Rattle.staat_vec.specs.Vectors.{cross};
     ghost use Rattle.staat_vec.specs.Primitives.{primitive};
@@ -33,24 +33,24 @@ impl Model for Crossing {
     ghost invariant = { λ c. DoCross c.own c.other };
 }
 
-impl Crossing {
+impl Vertex {
     // the crossing of two planes that are not parallel, or its negative
-    fn new(own: V3, other: V3, turned: bool) -> Crossing
+    fn new(own: V3, other: V3, turned: bool) -> Vertex
         requires { DoCross own other }
         ensures { result ≡ facet_by turned (primitive (cross own other)) }
     {
-        Crossing { own, other, turned }
+        Vertex { own, other, turned }
     }
 
     /// The crossing of the plane `c` of a table and the plane of an entry.
-    pub fn of(table: &PlaneTable, c: u32, entry: Entry) -> Crossing
+    pub fn of(table: &PlaneTable, c: u32, entry: Entry) -> Vertex
         requires c { c < length table.now.planes }
         requires plane { entry.plane < length table.now.planes }
         requires different { entry.plane ≢ c }
         ensures { result ≡ crossing table.now.planes c entry }
     {
         let _set = table.set();
-        Crossing::new(table.plane(c), table.plane(entry.plane), entry.turned)
+        Vertex::new(table.plane(c), table.plane(entry.plane), entry.turned)
     }
 
     /// The direction.

@@ -26,14 +26,14 @@ ghost use Rattle.staat_graph.specs.Blocking.{ShowsBlocking};
 ghost use Rattle.staat_graph.specs.Graphs.{IsStrong};
 ghost use Rattle.staat_pairs.specs.Tables.{IsTable, IsTableArc, Table, WasMadeFrom, facets_of};
 ghost use Rattle.staat_ring.specs.Belonging.{BelongTo, HasAll, HoldSigns};
-ghost use Rattle.staat_ring.specs.Marks.{mark_of, marked};
+ghost use Rattle.staat_ring.specs.StopSigns.{stop_sign, with_stop_signs};
 ghost use Rattle.staat_ring.specs.Places.{AtNode, HasNode, IsStopAt};
 ghost use Rattle.staat_ring.specs.Rings.{Ring, RingStop, WereMadeFrom, linked_of};
 ghost use Rattle.staat_ring.specs.Walked.{AtStop, IsEntered, WalkWasMadeFrom};
 
-use crate::index::signs_of;
-use crate::signs::Signs;
-use crate::vertex::Crossing;
+use crate::counted_signs::CountedSigns;
+use crate::index::counted_signs;
+use crate::vertex::Vertex;
 use crate::{Entry, Rings};
 use staat_graph::Graph;
 use staat_model::{Arc, PartSet};
@@ -44,8 +44,8 @@ use std::marker::Model;
 use std::sync::ledger::Ledger;
 
 // the sign of a plane just after a stop that is left, or at one that is reached
-fn mark_of(leaves: bool, turned: bool) -> Sign
-    ensures { result ≡ mark_of leaves turned }
+fn stop_sign(leaves: bool, turned: bool) -> Sign
+    ensures { result ≡ stop_sign leaves turned }
 {
     match (leaves, turned) {
         (false, _) => Sign::Zero,
@@ -55,18 +55,25 @@ fn mark_of(leaves: bool, turned: bool) -> Sign
 }
 
 // gives the planes through a stop, at most so many, their signs
-fn mark(signs: &mut Signs, rings: &Rings, circle: u32, node: u32, most: u32, leaves: bool)
+fn sign_stop(
+    signs: &mut CountedSigns,
+    rings: &Rings,
+    circle: u32,
+    node: u32,
+    most: u32,
+    leaves: bool,
+)
     requires at { HasNode rings.now.rings circle node }
     requires few { AtNode rings.now.rings circle node (λ _ s _.
-        (length s.entries ≤ most) × All (λ e. e.plane < length signs.old.sides) s.entries) }
-    ensures { AtNode rings.now.rings circle node (λ _ s _. signs.new ≡ marked leaves s.entries signs.old) }
+        (length s.entries ≤ most) × All (λ e. e.plane < length signs.old.states) s.entries) }
+    ensures { AtNode rings.now.rings circle node (λ _ s _. signs.new ≡ with_stop_signs leaves s.entries signs.old) }
 {
     let mut at = rings.first_entry(node);
     for _passed in 0..most {
         match rings.entry(circle, node, at) {
             None => return,
             Some(entry) => {
-                signs.set(entry.plane, mark_of(leaves, entry.turned));
+                signs.set(entry.plane, stop_sign(leaves, entry.turned));
                 at = rings.next_entry(at);
             }
         }
@@ -123,7 +130,7 @@ fn next_of(rings: &Rings, circle: u32, node: u32, place: u32) -> (u32, u32)
 
 // gives the linked planes their signs at a direction
 fn sign_all<L: Ledger>(
-    signs: &mut Signs,
+    signs: &mut CountedSigns,
     table: &PlaneTable,
     rings: &Rings,
     d: V3,
@@ -147,14 +154,14 @@ fn sign_all<L: Ledger>(
 /// of its pairs of pieces that block, with the words of the blocking graph.
 #[derive(Drop)]
 pub struct Walk {
-    signs: Signs,
+    signs: CountedSigns,
     // Contracts alone speak of it, and no code reads it. It costs an addition a step: a ghost field keeps facts and no
     // numbers, and a ledger, which takes no bytes, would be a parameter of `Walk` and of all that hold a walk.
     crossed: u64,
     circle: u32,
     place: u32,
     node: u32,
-    vertex: Crossing,
+    vertex: Vertex,
 }
 
 impl Model for Walk {
@@ -182,7 +189,7 @@ impl Walk {
         ensures crossed { IfOk result (λ w. w.crossed ≡ 0) }
     {
         let _len = table.len();
-        let signs = signs_of(alloc, table)?;
+        let signs = counted_signs(alloc, table)?;
         let entry = Entry {
             plane: 1,
             turned: false,
@@ -193,7 +200,7 @@ impl Walk {
             circle: 0,
             place: 0,
             node: 0,
-            vertex: Crossing::of(table, 0, entry),
+            vertex: Vertex::of(table, 0, entry),
         })
     }
 
@@ -276,10 +283,10 @@ impl Walk {
         ensures back { IsTrue result ↔ (self.new.place ≢ 0) }
     {
         let most = table.len();
-        mark(&mut self.signs, rings, self.circle, self.node, most, true);
+        sign_stop(&mut self.signs, rings, self.circle, self.node, most, true);
         let (node, place) = next_of(rings, self.circle, self.node, self.place);
-        mark(&mut self.signs, rings, self.circle, node, most, false);
-        self.vertex = Crossing::of(table, self.circle, entry_of(rings, self.circle, node));
+        sign_stop(&mut self.signs, rings, self.circle, node, most, false);
+        self.vertex = Vertex::of(table, self.circle, entry_of(rings, self.circle, node));
         self.node = node;
         self.place = place;
         self.crossed = self.crossed.saturating_add(1);
@@ -307,7 +314,7 @@ impl Walk {
     {
         let _len = table.len();
         let node = rings.first(circle);
-        let vertex = Crossing::of(table, circle, entry_of(rings, circle, node));
+        let vertex = Vertex::of(table, circle, entry_of(rings, circle, node));
         sign_all(&mut self.signs, table, rings, vertex.direction(), steps);
         self.vertex = vertex;
         self.circle = circle;

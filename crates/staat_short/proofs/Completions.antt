@@ -14,8 +14,8 @@ use Rattle.staat_model.proofs.Members.{all_back, all_front}
 use Rattle.staat_holds.specs.declared.hold.Hold.{Hold}
 use Rattle.staat_cert.specs.Machine.{follows}
 use Rattle.staat_cert.proofs.Lists.{all_one, length_one}
-use Rattle.staat_short.specs.declared.stage.Kind.{Kind}
-use Rattle.staat_short.specs.declared.stage.Kind.TheVariants as kind
+use Rattle.staat_short.specs.declared.stage.PlanKind.{PlanKind}
+use Rattle.staat_short.specs.declared.stage.PlanKind.TheVariants as kind
 use Rattle.staat_short.specs.declared.short.ShortNode.{ShortNode}
 use Rattle.staat_short.specs.declared.short.ShortNode.TheVariants.{Leaf, Split, Group}
 use Rattle.staat_short.specs.declared.short.ShortAnswer.{ShortAnswer}
@@ -110,16 +110,16 @@ nodes_some (part_alone p) = omega arith
 nodes_some (grouped holds) = omega arith
 nodes_some (taken_apart d m r) = omega arith
 
-leaf_runs : (s : Front) (n : ℕ) (k : Kind) (nodes : List ShortNode) (wanted p : ℕ) → grouped_in s ≡ planning n k nodes (suc wanted) → front_after s (line.Leaf p) ≡ Some (planning n k (nodes ++ Leaf p ∷ []) wanted)
+leaf_runs : (s : Front) (n : ℕ) (k : PlanKind) (nodes : List ShortNode) (wanted p : ℕ) → grouped_in s ≡ planning n k nodes (suc wanted) → front_after s (line.Leaf p) ≡ Some (planning n k (nodes ++ Leaf p ∷ []) wanted)
 leaf_runs s n k nodes wanted p e = ap (λ x. after_leaf x p) e
 
-split_runs : (s : Front) (n : ℕ) (k : Kind) (nodes : List ShortNode) (wanted : ℕ) (d : V3) → grouped_in s ≡ planning n k nodes (suc wanted) → length nodes + wanted + 4 ≤ 2 * n → front_after s (line.Split d) ≡ Some (planning n k (nodes ++ Split d ∷ []) (suc (suc wanted)))
+split_runs : (s : Front) (n : ℕ) (k : PlanKind) (nodes : List ShortNode) (wanted : ℕ) (d : V3) → grouped_in s ≡ planning n k nodes (suc wanted) → length nodes + wanted + 4 ≤ 2 * n → front_after s (line.Split d) ≡ Some (planning n k (nodes ++ Split d ∷ []) (suc (suc wanted)))
 split_runs s n k nodes wanted d e room = ap (λ x. after_split x d) e ∙ let_through (nat_le (length nodes + wanted + 4) (2 * n)) _ (le-leb _ _ room)
 
 group_runs : (s : Front) (n : ℕ) (nodes : List ShortNode) (wanted : ℕ) → grouped_in s ≡ planning n kind.Rest nodes (suc wanted) → front_after s line.Group ≡ Some (holding n (in_plan nodes wanted) [] None)
 group_runs s n nodes wanted e = ap after_group e
 
-group_reaches : (s : Front) (n : ℕ) (k : Kind) (nodes : List ShortNode) (wanted : ℕ) (holds : List Hold) → grouped_in s ≡ planning n k nodes (suc wanted) → AreHoldsInOrder holds → (k ≡ kind.Plan → ⊥) → Reaches s (flat_map lines_of_short_node (Group holds ∷ [])) (planning n k (nodes ++ Group holds ∷ []) wanted)
+group_reaches : (s : Front) (n : ℕ) (k : PlanKind) (nodes : List ShortNode) (wanted : ℕ) (holds : List Hold) → grouped_in s ≡ planning n k nodes (suc wanted) → AreHoldsInOrder holds → (k ≡ kind.Plan → ⊥) → Reaches s (flat_map lines_of_short_node (Group holds ∷ [])) (planning n k (nodes ++ Group holds ∷ []) wanted)
 group_reaches s n kind.Plan nodes wanted holds e h other = absurd (other refl)
 group_reaches s n kind.Rest nodes wanted holds e h other =
     let all = all_holds_run n (in_plan nodes wanted) holds h in
@@ -132,7 +132,7 @@ group_reaches s n kind.Rest nodes wanted holds e h other =
       grouped_is = ap (λ l. planning n kind.Rest (nodes ++ Group l ∷ []) wanted) all.all_are;
     }
 
-tree_runs : (t : GroupedPlan) (s : Front) (n : ℕ) (k : Kind) (nodes : List ShortNode) (wanted : ℕ) → grouped_in s ≡ planning n k nodes (suc wanted) → length nodes + length (short_nodes_of t) + wanted + 1 ≤ 2 * n → All IsShortNodeInOrder (short_nodes_of t) → (k ≡ kind.Plan → All IsUngrouped (short_nodes_of t)) → Reaches s (flat_map lines_of_short_node (short_nodes_of t)) (planning n k (nodes ++ short_nodes_of t) wanted)
+tree_runs : (t : GroupedPlan) (s : Front) (n : ℕ) (k : PlanKind) (nodes : List ShortNode) (wanted : ℕ) → grouped_in s ≡ planning n k nodes (suc wanted) → length nodes + length (short_nodes_of t) + wanted + 1 ≤ 2 * n → All IsShortNodeInOrder (short_nodes_of t) → (k ≡ kind.Plan → All IsUngrouped (short_nodes_of t)) → Reaches s (flat_map lines_of_short_node (short_nodes_of t)) (planning n k (nodes ++ short_nodes_of t) wanted)
 tree_runs (part_alone p) s n k nodes wanted e room h plain = record {
   last = planning n k (nodes ++ Leaf p ∷ []) wanted;
   is = ap (after_lines (Some s)) (flat_map-cons lines_of_short_node (Leaf p) []) ∙ onward s (planning n k (nodes ++ Leaf p ∷ []) wanted) (line.Leaf p) [] (leaf_runs s n k nodes wanted p e);
@@ -164,10 +164,10 @@ tree_runs (taken_apart d m r) s n k nodes wanted e room h plain =
 
 -- ---- certificates
 
-end_runs : (s : Front) (n : ℕ) (k : Kind) (nodes : List ShortNode) → grouped_in s ≡ planning n k nodes 0 → front_after s line.End ≡ Some (complete (record { parts = n; answer = short_answer k nodes }))
+end_runs : (s : Front) (n : ℕ) (k : PlanKind) (nodes : List ShortNode) → grouped_in s ≡ planning n k nodes 0 → front_after s line.End ≡ Some (complete (record { parts = n; answer = short_answer k nodes }))
 end_runs s n k nodes e = ap after_end e
 
-plan_runs : (n : ℕ) (k : Kind) (nodes : List ShortNode) → IsRestInOrder n nodes → (k ≡ kind.Plan → All IsUngrouped nodes) → after_lines (Some (planning n k [] 1)) (flat_map lines_of_short_node nodes ++ line.End ∷ []) ≡ Some (complete (record { parts = n; answer = short_answer k nodes }))
+plan_runs : (n : ℕ) (k : PlanKind) (nodes : List ShortNode) → IsRestInOrder n nodes → (k ≡ kind.Plan → All IsUngrouped nodes) → after_lines (Some (planning n k [] 1)) (flat_map lines_of_short_node nodes ++ line.End ∷ []) ≡ Some (complete (record { parts = n; answer = short_answer k nodes }))
 plan_runs n k nodes h plain =
     let all : List ShortNode = short_nodes_of h.tree in
     let tree = tree_runs h.tree (planning n k [] 1) n k [] 0 refl (omega (arith, h.most, ap length h.is)) (subst (λ (l : List ShortNode). All IsShortNodeInOrder l) h.is h.each) (λ same. subst (λ (l : List ShortNode). All IsUngrouped l) h.is (plain same)) in
@@ -206,7 +206,7 @@ completion (holding n (in_plan nodes wanted) holds None) = line.Hold ∷ leaves 
 completion (holding n (in_plan nodes wanted) holds (Some hold)) = leaves wanted
 completion (complete c) = []
 
-leaves_run : (wanted : ℕ) (s : Front) (n : ℕ) (k : Kind) (nodes : List ShortNode) → grouped_in s ≡ planning n k nodes wanted → (c : ShortCertificate) × (after_lines (Some s) (leaves wanted) ≡ Some (complete c))
+leaves_run : (wanted : ℕ) (s : Front) (n : ℕ) (k : PlanKind) (nodes : List ShortNode) → grouped_in s ≡ planning n k nodes wanted → (c : ShortCertificate) × (after_lines (Some s) (leaves wanted) ≡ Some (complete c))
 leaves_run zero s n k nodes e = (record { parts = n; answer = short_answer k nodes }, end_runs s n k nodes e)
 leaves_run (suc wanted) s n k nodes e =
     let new : Front = planning n k (nodes ++ Leaf 0 ∷ []) wanted in

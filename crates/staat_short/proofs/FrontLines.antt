@@ -17,8 +17,8 @@ use Rattle.staat_model.proofs.Members.{all_back, all_front}
 use Rattle.staat_holds.specs.declared.hold.Hold.{Hold}
 use Rattle.staat_cert.specs.Machine.{follows}
 use Rattle.staat_cert.proofs.Lists.{ascending_one, flat_one, follows_there, length_one}
-use Rattle.staat_short.specs.declared.stage.Kind.{Kind}
-use Rattle.staat_short.specs.declared.stage.Kind.TheVariants as kind
+use Rattle.staat_short.specs.declared.stage.PlanKind.{PlanKind}
+use Rattle.staat_short.specs.declared.stage.PlanKind.TheVariants as kind
 use Rattle.staat_short.specs.declared.short.ShortNode.{ShortNode}
 use Rattle.staat_short.specs.declared.short.ShortNode.TheVariants.{Leaf, Split, Group}
 use Rattle.staat_short.specs.declared.line.ShortLine.{ShortLine}
@@ -46,7 +46,7 @@ none_ascends cmp = tt
 
 -- ---- the lines that a front has read
 
-abbrev pub kind_line : Kind → ShortLine
+abbrev pub kind_line : PlanKind → ShortLine
 kind_line kind.Plan = line.Plan
 kind_line kind.Rest = line.Rest
 
@@ -77,7 +77,7 @@ forest (t ∷ ts) = short_nodes_of t ++ forest ts
 abbrev pub IsOpenTree : List ShortNode → ℕ → Type 0
 IsOpenTree nodes wanted = (ts : List GroupedPlan) → length ts ≡ wanted → (t : GroupedPlan) × (short_nodes_of t ≡ nodes ++ forest ts)
 
-pub record IsGoodPlan (parts : ℕ) (k : Kind) (nodes : List ShortNode) (wanted : ℕ) : Type 0 where
+pub record IsGoodPlan (parts : ℕ) (k : PlanKind) (nodes : List ShortNode) (wanted : ℕ) : Type 0 where
   pub tree : IsOpenTree nodes wanted
   pub room : length nodes + wanted + 1 ≤ 2 * parts
   pub each : All IsShortNodeInOrder nodes
@@ -177,7 +177,7 @@ parts_good (planning m k nodes wanted) n t f h e = cc
 parts_good (holding m place holds last) n t f h e = cc
 parts_good (complete c) n t f h e = cc
 
-kind_good : (k : Kind) (s t : Front) → IsGoodFront s → after_kind k s ≡ Some t → Follows s (kind_line k) t
+kind_good : (k : PlanKind) (s t : Front) → IsGoodFront s → after_kind k s ≡ Some t → Follows s (kind_line k) t
 kind_good k untitled t h e = cc
 kind_good k titled t h e = cc
 kind_good k (counting n) t h e = moved (counting n) (kind_line k) (planning n k [] 1) t e (record { good = record { tree = no_more; room = omega (arith, h); each = All-nil IsShortNodeInOrder; ungrouped = λ same. All-nil IsUngrouped }; lines = refl })
@@ -305,7 +305,7 @@ pair_good (holding n place holds (Some hold)) pair t h e =
     })
 pair_good (complete c) pair t h e = cc
 
-plan_in_order : (n : ℕ) (k : Kind) (nodes : List ShortNode) → IsGoodPlan n k nodes 0 → IsAnswerInOrder n (short_answer k nodes)
+plan_in_order : (n : ℕ) (k : PlanKind) (nodes : List ShortNode) → IsGoodPlan n k nodes 0 → IsAnswerInOrder n (short_answer k nodes)
 plan_in_order n kind.Plan nodes h =
     let t = h.tree [] refl in
     (record { tree = t.0; is = sym (t.1 ∙ append-nil nodes); most = omega (arith, h.room); each = h.each }, h.ungrouped refl)
@@ -313,7 +313,7 @@ plan_in_order n kind.Rest nodes h =
     let t = h.tree [] refl in
     record { tree = t.0; is = sym (t.1 ∙ append-nil nodes); most = omega (arith, h.room); each = h.each }
 
-plan_lines : (n : ℕ) (k : Kind) (nodes : List ShortNode) → short_lines (record { parts = n; answer = short_answer k nodes }) ≡ lines_of_front (planning n k nodes 0) ++ line.End ∷ []
+plan_lines : (n : ℕ) (k : PlanKind) (nodes : List ShortNode) → short_lines (record { parts = n; answer = short_answer k nodes }) ≡ lines_of_front (planning n k nodes 0) ++ line.End ∷ []
 plan_lines n kind.Plan nodes = refl
 plan_lines n kind.Rest nodes = refl
 

@@ -7,7 +7,7 @@ use Rattle.std.proofs.lemmas.List.Elements.{All-head, All-tail}
 use Rattle.staat_model.specs.Texts.{HasNoFeed}
 use Rattle.staat_cert.specs.Views.{IsRun}
 use Rattle.staat_cert.proofs.Runs.{feed_first}
-use Rattle.staat_short.specs.declared.reading.Reading.{Reading}
+use Rattle.staat_short.specs.declared.progress.Progress.{Progress}
 use Rattle.staat_short.specs.Fronts.{Front}
 use Rattle.staat_short.specs.ShortStanding.{HasCome, is_complete}
 use Rattle.staat_short.specs.ShortViews.{HasReadShort}
@@ -48,21 +48,21 @@ no_run s rest count bad text (b ∷ run) e h = absurd (omega arith)
 -- ---- a piece
 
 -- the front of the piece was read, and this is the rest
-pub record ReadFront (old now : Reading) (piece rest : List ℕ) : Type 0 where
+pub record ReadFront (old now : Progress) (piece rest : List ℕ) : Type 0 where
   pub done : List ℕ
   pub is : piece ≡ done ++ rest
   pub count : now.count ≤ old.count + length done
   pub read : (text : List ℕ) → HasReadShort old text → HasReadShort now (text ++ done)
 
-pub front_none : (r : Reading) (piece : List ℕ) → ReadFront r r piece piece
+pub front_none : (r : Progress) (piece : List ℕ) → ReadFront r r piece piece
 front_none r piece = record { done = []; is = refl; count = omega arith; read = λ text h. subst (HasReadShort r) (sym (append-nil text)) h }
 
-pub front_all : (old now : Reading) (piece rest : List ℕ) → rest ≡ [] → ReadFront old now piece rest → (now.count ≤ old.count + length piece) × ((text : List ℕ) → HasReadShort old text → HasReadShort now (text ++ piece))
+pub front_all : (old now : Progress) (piece rest : List ℕ) → rest ≡ [] → ReadFront old now piece rest → (now.count ≤ old.count + length piece) × ((text : List ℕ) → HasReadShort old text → HasReadShort now (text ++ piece))
 front_all old now piece rest e h =
     let all : piece ≡ h.done = h.is ∙ ap (λ l. h.done ++ l) e ∙ append-nil h.done in
     (omega (arith, h.count, ap length all), λ text k. subst (λ (l : List ℕ). HasReadShort now (text ++ l)) (sym all) (h.read text k))
 
-pub front_more : (old mid now : Reading) (piece rest some after : List ℕ) → ReadFront old mid piece rest → rest ≡ some ++ after → now.count ≤ mid.count + length some → ((text : List ℕ) → HasReadShort mid text → HasReadShort now (text ++ some)) → ReadFront old now piece after
+pub front_more : (old mid now : Progress) (piece rest some after : List ℕ) → ReadFront old mid piece rest → rest ≡ some ++ after → now.count ≤ mid.count + length some → ((text : List ℕ) → HasReadShort mid text → HasReadShort now (text ++ some)) → ReadFront old now piece after
 front_more old mid now piece rest some after h e n f = record {
   done = h.done ++ some;
   is = h.is ∙ ap (λ l. h.done ++ l) e ∙ sym (append_assoc h.done some after);
@@ -71,7 +71,7 @@ front_more old mid now piece rest some after h e n f = record {
 }
 
 -- a run, and the line feed behind it
-pub line_read : (old mid run_now now : Reading) (piece rest run behind : List ℕ) → ReadFront old mid piece rest → IsRun rest run behind → 1 ≤ length behind → run_now.count ≡ mid.count → (HasNoFeed run → (text : List ℕ) → HasReadShort mid text → HasReadShort run_now (text ++ run)) → now.count ≤ run_now.count + 1 → ((text : List ℕ) → HasReadShort run_now text → HasReadShort now (text ++ get_or behind 0 0 ∷ [])) → ReadFront old now piece (take (length behind - 1) (drop 1 behind))
+pub line_read : (old mid run_now now : Progress) (piece rest run behind : List ℕ) → ReadFront old mid piece rest → IsRun rest run behind → 1 ≤ length behind → run_now.count ≡ mid.count → (HasNoFeed run → (text : List ℕ) → HasReadShort mid text → HasReadShort run_now (text ++ run)) → now.count ≤ run_now.count + 1 → ((text : List ℕ) → HasReadShort run_now text → HasReadShort now (text ++ get_or behind 0 0 ∷ [])) → ReadFront old now piece (take (length behind - 1) (drop 1 behind))
 line_read old mid run_now now piece rest run behind h r some n f m g =
     front_more old run_now now piece behind (get_or behind 0 0 ∷ []) (take (length behind - 1) (drop 1 behind))
     (front_more old mid run_now piece rest run behind h r.is (omega (arith, n)) (f r.inner)) (feed_first behind some) (omega (arith, m)) g

@@ -15,8 +15,8 @@ use Rattle.staat_short.specs.declared.short.ShortAnswer.TheVariants as answer
 use Rattle.staat_short.specs.declared.short.ShortCertificate.{ShortCertificate}
 use Rattle.staat_short.specs.declared.line.ShortLine.{ShortLine}
 use Rattle.staat_short.specs.declared.line.ShortLine.TheVariants as line
-use Rattle.staat_short.specs.declared.stage.Kind.{Kind}
-use Rattle.staat_short.specs.declared.stage.Kind.TheVariants as kind
+use Rattle.staat_short.specs.declared.stage.PlanKind.{PlanKind}
+use Rattle.staat_short.specs.declared.stage.PlanKind.TheVariants as kind
 
 -- where holds stand: they are the whole answer, or a group behind the nodes so far, with so many trees wanted after it
 pub data Place : Type 0 where
@@ -28,7 +28,7 @@ pub data Front : Type 0 where
   untitled : Front
   titled : Front
   counting : (parts : ℕ) → Front
-  planning : (parts : ℕ) → Kind → (nodes : List ShortNode) → (wanted : ℕ) → Front
+  planning : (parts : ℕ) → PlanKind → (nodes : List ShortNode) → (wanted : ℕ) → Front
   holding : (parts : ℕ) → Place → List Hold → (last : Option Hold) → Front
   complete : ShortCertificate → Front
 
@@ -43,7 +43,7 @@ grouped_in (holding parts (in_plan nodes wanted) holds (Some hold)) =
     planning parts kind.Rest (nodes ++ Group (holds ++ hold ∷ []) ∷ []) wanted
 grouped_in s = s
 
-abbrev pub short_answer : Kind → List ShortNode → ShortAnswer
+abbrev pub short_answer : PlanKind → List ShortNode → ShortAnswer
 short_answer kind.Plan nodes = answer.Plan nodes
 short_answer kind.Rest nodes = answer.Rest nodes
 
@@ -55,7 +55,7 @@ abbrev pub after_parts : Front → ℕ → Option Front
 after_parts titled n = Some (counting n)
 after_parts s n = None
 
-abbrev pub after_kind : Kind → Front → Option Front
+abbrev pub after_kind : PlanKind → Front → Option Front
 after_kind k (counting n) = Some (planning n k [] 1)
 after_kind k s = None
 

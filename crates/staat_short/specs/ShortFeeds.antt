@@ -16,7 +16,7 @@ IsFailing r = r.is_out ≡ true
 pub record WasFedShort (r : ShortReader) (text : List ℕ) : Type 0 where
   pub long : r.is_out ≡ false → r.is_long ≡ true → TEXT_LIMIT < length text
   pub total : r.is_out ≡ false → r.is_long ≡ false → r.total ≡ length text
-  pub read : r.is_out ≡ false → r.is_long ≡ false → HasReadShort r.reading text
+  pub read : r.is_out ≡ false → r.is_long ≡ false → HasReadShort r.progress text
 
 -- what `feed` answers where the text is now this one
 abbrev pub IsShortFeedAnswer : List ℕ → Result (Unit {0}) CertRefusal → Type 0

@@ -6,7 +6,7 @@ use Rattle.staat_short.specs.declared.stage.Place.{Place as StagePlace}
 use Rattle.staat_short.specs.declared.stage.Place.TheVariants.{Whole, InPlan}
 use Rattle.staat_short.specs.declared.stage.Stage.{Stage}
 use Rattle.staat_short.specs.declared.stage.Stage.TheVariants.{Untitled, Titled, Counting, Planning, Holding, Complete}
-use Rattle.staat_short.specs.declared.reading.Reading.{Reading}
+use Rattle.staat_short.specs.declared.progress.Progress.{Progress}
 use Rattle.staat_short.specs.Fronts.{Place, whole_answer, in_plan}
 use Rattle.staat_short.specs.Fronts.{Front, untitled, titled, counting, planning, holding, complete}
 use Rattle.staat_short.specs.ShortStanding.{HasCome}
@@ -31,15 +31,15 @@ front_of (Holding n h) = holding n (place_in h.place) h.holds.items (last_hold h
 front_of (Complete c) = complete c
 
 -- the text was read
-abbrev pub HasReadShort : Reading → List ℕ → Type 0
+abbrev pub HasReadShort : Progress → List ℕ → Type 0
 HasReadShort r text = HasCome (front_of r.stage) r.line.items r.count r.is_bad text
 
 -- each text that was read is read on by these bytes
-abbrev pub ReadsShortOn : (old new : Reading) → List ℕ → Type 0
+abbrev pub ReadsShortOn : (old new : Progress) → List ℕ → Type 0
 ReadsShortOn old new more = (text : List ℕ) → HasReadShort old text → HasReadShort new (text ++ more)
 
 -- the line is whole: a text that was read up to it is read on by its line feed
-abbrev pub EndsShortLine : (old new : Reading) → Type 0
+abbrev pub EndsShortLine : (old new : Progress) → Type 0
 EndsShortLine old new =
     (text front : List ℕ) → old.line.items ≡ front ++ 10 ∷ [] → old.is_bad ≡ false →
     HasCome (front_of old.stage) front old.count false text → HasReadShort new (text ++ 10 ∷ [])

@@ -9,7 +9,7 @@ use crate::hold_lines::{all_holds, hold, pair, part};
 use crate::line::ShortLine;
 use crate::plan_lines::{group, leaf, split, with_group_closed};
 use crate::short::{ShortAnswer, ShortCertificate, ShortNode};
-use crate::stage::{Growth, Holding, Kind, Place, Stage};
+use crate::stage::{Growth, Holding, Place, PlanKind, Stage};
 use staat_vec::Listed;
 use std::alloc::{AllocError, Global};
 
@@ -31,7 +31,7 @@ fn parts(stage: Stage, n: u32) -> Option<Stage>
     }
 }
 
-fn plan(alloc: Global, kind: Kind, stage: Stage) -> Option<Stage>
+fn plan(alloc: Global, kind: PlanKind, stage: Stage) -> Option<Stage>
     ensures { option_map front_of result ≡ after_kind kind (front_of stage) }
 {
     match stage {
@@ -66,12 +66,12 @@ fn stuck(alloc: Global, stage: Stage) -> Option<Stage>
     }
 }
 
-fn answer_of(kind: Kind, nodes: Vec<ShortNode>) -> ShortAnswer
+fn answer_of(kind: PlanKind, nodes: Vec<ShortNode>) -> ShortAnswer
     ensures { result ≡ short_answer kind nodes.items }
 {
     match kind {
-        Kind::Plan => ShortAnswer::Plan(Listed::from_vec(nodes)),
-        Kind::Rest => ShortAnswer::Rest(Listed::from_vec(nodes)),
+        PlanKind::Plan => ShortAnswer::Plan(Listed::from_vec(nodes)),
+        PlanKind::Rest => ShortAnswer::Rest(Listed::from_vec(nodes)),
     }
 }
 
@@ -120,9 +120,9 @@ pub fn stage_after(
     match line {
         ShortLine::Title => Ok(title(stage)),
         ShortLine::Parts(n) => Ok(parts(stage, n)),
-        ShortLine::Plan => Ok(plan(alloc, Kind::Plan, stage)),
+        ShortLine::Plan => Ok(plan(alloc, PlanKind::Plan, stage)),
         ShortLine::Stuck => Ok(stuck(alloc, stage)),
-        ShortLine::Rest => Ok(plan(alloc, Kind::Rest, stage)),
+        ShortLine::Rest => Ok(plan(alloc, PlanKind::Rest, stage)),
         ShortLine::Leaf(p) => leaf(with_group_closed(stage)?, p),
         ShortLine::Split(d) => split(with_group_closed(stage)?, d),
         ShortLine::Group => Ok(group(alloc, with_group_closed(stage)?)),

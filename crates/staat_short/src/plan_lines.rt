@@ -7,7 +7,7 @@ ghost use Rattle.staat_short.specs.ShortViews.{front_of, last_hold, place_in};
 
 use crate::hold_lines::all_holds;
 use crate::short::ShortNode;
-use crate::stage::{Growth, Holding, Kind, OpenHold, Place, Stage};
+use crate::stage::{Growth, Holding, OpenHold, Place, PlanKind, Stage};
 use staat_holds::Hold;
 use staat_vec::{Listed, V3};
 use std::alloc::{AllocError, Global};
@@ -28,7 +28,7 @@ fn with_group(
     let growth = Growth { nodes, wanted };
     Ok(Stage::Planning {
         parts,
-        kind: Kind::Rest,
+        kind: PlanKind::Rest,
         growth,
     })
 }
@@ -134,7 +134,7 @@ pub fn group(alloc: Global, stage: Stage) -> Option<Stage>
     match stage {
         Stage::Planning {
             parts,
-            kind: Kind::Rest,
+            kind: PlanKind::Rest,
             growth,
         } => {
             let Growth { nodes, wanted } = growth;

@@ -4,7 +4,7 @@ ghost use Rattle.staat_limits.specs.declared.limits.TheConstants.{TEXT_LIMIT};
 
 use crate::bytes::push_all;
 use crate::machine::certificate;
-use crate::reading::Reading;
+use crate::progress::Progress;
 use crate::short::ShortCertificate;
 use crate::stage::Stage;
 use staat_cert::CertRefusal;
@@ -16,11 +16,11 @@ use std::alloc::Global;
 #[derive(Drop)]
 pub struct ShortReader {
     alloc: Global,
-    reading: Reading,
+    progress: Progress,
     total: u64,
     is_long: bool,
     is_out: bool,
-    ghost counted: { reading.count ≤ total },
+    ghost counted: { progress.count ≤ total },
     ghost bounded: { total ≤ TEXT_LIMIT },
 }
 
@@ -36,7 +36,7 @@ impl ShortReader {
     {
         Ok(ShortReader {
             alloc,
-            reading: Reading {
+            progress: Progress {
                 stage: Stage::Untitled,
                 line: Vec::new(alloc),
                 numbers: Vec::new(alloc),
@@ -66,14 +66,14 @@ impl ShortReader {
             return Err(CertRefusal::TooLong);
         }
         self.total += piece.len() as u64;
-        match push_all(self.alloc, &mut self.reading, piece) {
+        match push_all(self.alloc, &mut self.progress, piece) {
             Err(_) => {
                 self.is_out = true;
                 Err(CertRefusal::OutOfMemory)
             }
             Ok(()) => {
-                if self.reading.is_bad {
-                    return Err(CertRefusal::BadLine((self.reading.count + 1) as u32));
+                if self.progress.is_bad {
+                    return Err(CertRefusal::BadLine((self.progress.count + 1) as u32));
                 }
                 Ok(())
             }
@@ -92,11 +92,11 @@ impl ShortReader {
         if self.is_long {
             return Err(CertRefusal::TooLong);
         }
-        let reading = self.reading;
-        if reading.is_bad {
-            return Err(CertRefusal::BadLine((reading.count + 1) as u32));
+        let progress = self.progress;
+        if progress.is_bad {
+            return Err(CertRefusal::BadLine((progress.count + 1) as u32));
         }
-        match certificate(reading.stage) {
+        match certificate(progress.stage) {
             Some(certificate) => Ok(certificate),
             None => Err(CertRefusal::ShortCert),
         }

@@ -7,7 +7,7 @@ use staat_model::Arc;
 
 /// Whether a plan takes all parts apart, or may end in groups.
 #[derive(Clone, Copy, Debug, PartialEq, Eq)]
-pub enum Kind {
+pub enum PlanKind {
     Plan,
     Rest,
 }
@@ -51,7 +51,7 @@ pub enum Stage {
     Counting(u32),
     Planning {
         parts: u32,
-        kind: Kind,
+        kind: PlanKind,
         growth: Growth,
     },
     Holding {

@@ -24,7 +24,7 @@ use Rattle.staat_text.specs.declared.holding.HeldText.{HeldText}
 use Rattle.staat_text.specs.CellTexts.{EachCell, IsCellsText, IsGraphOfCell, IsTextOfCells}
 use Rattle.staat_text.specs.CellTexts.{cell_line, cell_lines, cells_text, totals_line, kind_count, same_kind}
 use Rattle.staat_text.specs.CellTexts.{kind_word, short_arcs}
-use Rattle.staat_text.specs.Holding.{Holds, HoldsCells, HoldsMore}
+use Rattle.staat_text.specs.Holding.{HoldsText, HoldsCells, HoldsMore}
 use Rattle.staat_text.specs.PlanTexts.{numbers_before}
 use Rattle.staat_text.proofs.SameArcs.{same_arcs}
 
@@ -65,7 +65,7 @@ cells_more t n k cells c rows line old mid new lt at before graph is more = subs
         let lines = lines_more n R first graphs (entry_of c) rows each in (
           graphs ++ rows ∷ [],
           each_more R first graphs (entry_of c) rows each graph,
-          subst (Holds new) (append_assoc text (cell_lines n first graphs) line ∙ ap (λ l. text ++ (cell_lines n first graphs ++ l)) is ∙ ap (λ l. text ++ l) (sym lines))
+          subst (HoldsText new) (append_assoc text (cell_lines n first graphs) line ∙ ap (λ l. text ++ (cell_lines n first graphs ++ l)) is ∙ ap (λ l. text ++ l) (sym lines))
               (more (text ++ cell_lines n first graphs) held),
         )
 
@@ -86,7 +86,7 @@ each_same R S f (x ∷ cells) (y ∷ graphs) all = (f x y all.0, each_same R S f
 pub whole_text : (t : Table) (n planes : ℕ) (cells : List CellEntry) (counts : List ℕ) (empty first last : HeldText)
     → planes ≡ length t.planes → counts ≡ totals_line planes cells → empty.length ≡ 0 → empty.bytes.items ≡ []
     → HoldsMore empty first counts → HoldsCells t n cells first last
-    → (text : List ℕ) × IsTextOfCells t n cells text × Holds last text
+    → (text : List ℕ) × IsTextOfCells t n cells text × HoldsText last text
 whole_text t n planes cells counts empty first last count is none nothing more adds =
     let (graphs, each, held) = adds counts (more [] (record { long = none; bytes = λ few. nothing })) in (
       counts ++ cell_lines n cells graphs,

@@ -1,5 +1,5 @@
 use Rattle.std.proofs.Common.{◌∙◌, ap}
-use Rattle.staat_cells.specs.Changes.{zero_places}
+use Rattle.staat_cells.specs.ZeroSigns.{zero_places}
 use Rattle.std.proofs.lemmas.List.Elements.{Contains-get_or}
 use Rattle.staat_cells.proofs.ZeroPlanes.{all_zeros, next_zero, no_zeros}
 use Rattle.staat_cells.proofs.edge_incidences.push_all.Goals as goal

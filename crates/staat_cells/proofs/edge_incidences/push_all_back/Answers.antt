@@ -1,6 +1,6 @@
 use Rattle.std.proofs.Common.{◌∙◌, ◌-◌, ap, ◌<◌, arith, length}
 use Rattle.std.proofs.lemmas.List.Elements.{Contains-get_or}
-use Rattle.staat_cells.specs.Changes.{zero_places}
+use Rattle.staat_cells.specs.ZeroSigns.{zero_places}
 use Rattle.staat_cells.proofs.ZeroPlanes.{last_zeros, zero_before, zeros_back}
 use Rattle.staat_cells.proofs.edge_incidences.push_all_back.Goals as goal
 

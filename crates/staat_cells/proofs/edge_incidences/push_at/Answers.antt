@@ -2,7 +2,7 @@ use Rattle.std.proofs.Common.{◌∙◌, ap, arith, get_or, length}
 use Rattle.std.proofs.lemmas.List.{get_or-map, length-map}
 use Rattle.staat_vec.specs.declared.vector.Sign.TheVariants.{Neg}
 use Rattle.staat_vec.specs.Vectors.{dot, origin, sign}
-use Rattle.staat_cells.specs.Changes.{zero_places}
+use Rattle.staat_cells.specs.ZeroSigns.{zero_places}
 use Rattle.staat_cells.proofs.ZeroPlanes.{zero_place}
 use Rattle.staat_cells.proofs.edge_incidences.push_at.Goals as goal
 

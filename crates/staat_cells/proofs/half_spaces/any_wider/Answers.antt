@@ -1,5 +1,5 @@
 use Rattle.std.proofs.Common.{◌∙◌, List, refl, subst, sym, true≢false}
-use Rattle.staat_cells.specs.declared.half_spaces.Side.{Side}
+use Rattle.staat_cells.specs.declared.half_spaces.HalfSpace.{HalfSpace}
 use Rattle.staat_cells.specs.HalfSpaces.{AreAmong}
 use Rattle.staat_cells.proofs.Cones.{none_wider, no_wider}
 use Rattle.staat_cells.proofs.half_spaces.any_wider.Goals as goal
@@ -11,7 +11,7 @@ returns-then-are_among c = (
     c.wider-item.result,
     c.loop-wider-test.true,
     sym c.wider-item.is,
-    subst (λ (l : List Side). AreAmong l c.args.cone.now) c.as_slice.ensures
+    subst (λ (l : List HalfSpace). AreAmong l c.args.cone.now) c.as_slice.ensures
         (c.are_among.ensures.0 c.if-are_among.true),
   ),
   λ h. refl,
@@ -22,7 +22,7 @@ loop-wider-preserved c =
     none_wider c.args.cones.now c.args.cone.now c.wider-item.result c.loop-wider.wider-index c.loop-wider-test.true
     c.wider-item.is
     (λ among. true≢false (sym (c.are_among.ensures.1
-    (subst (λ (l : List Side). AreAmong l c.args.cone.now) (sym c.as_slice.ensures) among)) ∙ c.if-are_among.false))
+    (subst (λ (l : List HalfSpace). AreAmong l c.args.cone.now) (sym c.as_slice.ensures) among)) ∙ c.if-are_among.false))
     c.loop-wider.invariant
 
 pub returns : goal.returns

@@ -1,11 +1,11 @@
 use Rattle.std.proofs.Common.{◌≡◌, ◌∙◌, sym, true}
 use Rattle.std.proofs.Common.{rules}
 use lib.Pointwise.{pointwise_decides}
-use Rattle.staat_cells.specs.declared.half_spaces.Side.{Side}
-use Rattle.staat_cells.specs.contracts.half_spaces.SidePartialEq.TheImpl.{eq-value}
+use Rattle.staat_cells.specs.declared.half_spaces.HalfSpace.{HalfSpace}
+use Rattle.staat_cells.specs.contracts.half_spaces.HalfSpacePartialEq.TheImpl.{eq-value}
 use Rattle.staat_cells.proofs.half_spaces.is_same_cone.Goals as goal
 
-decides : (x y : Side) → (eq-value.it x y ≡ true → x ≡ y) × (x ≡ y → eq-value.it x y ≡ true)
+decides : (x y : HalfSpace) → (eq-value.it x y ≡ true → x ≡ y) × (x ≡ y → eq-value.it x y ≡ true)
 decides x y = search rules
 
 pub returns : goal.returns

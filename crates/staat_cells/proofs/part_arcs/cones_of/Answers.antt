@@ -1,5 +1,5 @@
 use Rattle.std.proofs.Common.{◌≤◌, [], List, subst, sym}
-use Rattle.staat_cells.specs.declared.half_spaces.Side.{Side}
+use Rattle.staat_cells.specs.declared.half_spaces.HalfSpace.{HalfSpace}
 use Rattle.staat_cells.specs.CellGraphs.{AddsCones, IsPieceAhead}
 use Rattle.staat_cells.proofs.PartArcs.{Below, more_cones, no_cones, parts_listed}
 use Rattle.staat_cells.proofs.part_arcs.cones_of.Goals as goal
@@ -7,7 +7,7 @@ use Rattle.staat_cells.proofs.part_arcs.cones_of.Goals as goal
 pub loop-i-init : goal.loop-i-init
 loop-i-init c =
     let t = c.args.table.now in
-    subst (λ (l : List (List Side)). AddsCones (Below (IsPieceAhead t c.args.a c.args.b) 0) [] l)
+    subst (λ (l : List (List HalfSpace)). AddsCones (Below (IsPieceAhead t c.args.a c.args.b) 0) [] l)
     (sym c.new-cones.ensures.items) (no_cones (IsPieceAhead t c.args.a c.args.b) [])
 
 pub loop-i-preserved : goal.loop-i-preserved

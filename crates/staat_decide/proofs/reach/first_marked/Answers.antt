@@ -1,5 +1,5 @@
 use Rattle.std.proofs.Common.{arith}
-use Rattle.staat_decide.proofs.Marks.{count_push, marked_front, marked_push, unmarked_push}
+use Rattle.staat_decide.proofs.MarkedPlaces.{count_push, marked_front, marked_push, unmarked_push}
 use Rattle.staat_decide.proofs.reach.first_marked.Goals as goal
 
 pub loop-preserved : goal.loop-preserved

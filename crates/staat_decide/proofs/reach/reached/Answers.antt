@@ -1,6 +1,6 @@
 use Rattle.std.proofs.Common.{arith, Bool, List, subst}
 use Rattle.staat_decide.specs.Reaching.{IsNextPlace}
-use Rattle.staat_decide.proofs.Marks.{all_marked, reached_more, unmarked_set}
+use Rattle.staat_decide.proofs.MarkedPlaces.{all_marked, reached_more, unmarked_set}
 use Rattle.staat_decide.proofs.reach.reached.Goals as goal
 
 pub loop-preserved : goal.loop-preserved

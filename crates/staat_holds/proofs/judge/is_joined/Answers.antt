@@ -2,7 +2,7 @@ use Rattle.std.proofs.Common.{◌↔◌, List, sym, subst, All}
 use Rattle.std.specs.Prelude.{IsTrue}
 use Rattle.staat_holds.specs.declared.ways.Way.{Way}
 use Rattle.staat_holds.specs.Links.{SomeLeads}
-use Rattle.staat_holds.specs.Marks.{HasWay, IsWayWithin}
+use Rattle.staat_holds.specs.VisitedNodes.{HasWay, IsWayWithin}
 use Rattle.staat_holds.specs.Reaching.{AllReach}
 use Rattle.staat_holds.proofs.LinkLemmas.{ways_within}
 use Rattle.staat_holds.proofs.ReachLemmas.{all_carried}

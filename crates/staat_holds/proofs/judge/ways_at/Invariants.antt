@@ -1,6 +1,6 @@
 use Rattle.std.proofs.Common.{◌↔◌, ℕ, take}
 use Rattle.staat_holds.specs.Links.{SomeLeads}
-use Rattle.staat_holds.specs.Marks.{HasWay}
+use Rattle.staat_holds.specs.VisitedNodes.{HasWay}
 use Rattle.staat_holds.proofs.judge.ways_at.Given as goal
 
 abbrev pub invariant-loop-link : goal.invariant-loop-link

@@ -1,7 +1,7 @@
 use Rattle.std.proofs.Common.{◌≡◌, ◌↔◌, ℕ, ◌<◌, List, sym, subst, ◌∙◌, map, All}
 use Rattle.std.specs.Prelude.{IsTrue}
 use Rattle.staat_holds.specs.declared.ways.Way.{Way}
-use Rattle.staat_holds.specs.Marks.{HasWay, IsWayWithin, turned_way}
+use Rattle.staat_holds.specs.VisitedNodes.{HasWay, IsWayWithin, turned_way}
 use Rattle.staat_holds.specs.Reaching.{Reaches}
 use Rattle.staat_holds.proofs.ReachLemmas.{all_by_first, back_by_all, turned_within}
 use Rattle.staat_holds.proofs.reach.all_reach.Goals as goal

@@ -1,5 +1,5 @@
 use Rattle.std.proofs.Common.{◌≡◌, ℕ, ◌-◌, length}
-use Rattle.staat_holds.specs.Marks.{KeepsVisited, ReachesVisited, visited_count}
+use Rattle.staat_holds.specs.VisitedNodes.{KeepsVisited, ReachesVisited, visited_count}
 use Rattle.staat_holds.proofs.reach.mark_all.Given as goal
 
 abbrev pub invariant-rounds : goal.invariant-rounds

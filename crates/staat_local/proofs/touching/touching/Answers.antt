@@ -1,5 +1,5 @@
 use Rattle.std.proofs.Common.{false, replicate}
-use Rattle.staat_local.proofs.Marks.{all_marked, nothing_marked}
+use Rattle.staat_local.proofs.TouchMarks.{all_marked, nothing_marked}
 use Rattle.staat_local.proofs.touching.touching.Goals as goal
 
 pub returns : goal.returns

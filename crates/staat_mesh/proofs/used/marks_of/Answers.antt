@@ -1,7 +1,7 @@
 use Rattle.std.proofs.Common.{◌≡◌, ◌⊎◌, ◌↔◌, ℕ, Bool, List, [], false, length, ap, sym, subst, ◌∙◌}
 use Rattle.std.specs.Prelude.{Contains}
 use Rattle.std.proofs.lemmas.List.{get_or_read, length-replicate}
-use Rattle.staat_mesh.specs.Marks.{IsMarked, MarksCorners}
+use Rattle.staat_mesh.specs.MarkedVertices.{IsMarked, MarksCorners}
 use Rattle.staat_mesh.proofs.MarkLemmas.{corners_more, corners_none}
 use Rattle.staat_mesh.proofs.used.marks_of.Goals as goal
 use Rattle.staat_vec.proofs.ListLaws.{written_back}

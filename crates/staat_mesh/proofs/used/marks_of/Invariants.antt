@@ -1,5 +1,5 @@
 use Rattle.std.proofs.Common.{◌≡◌, length, take}
-use Rattle.staat_mesh.specs.Marks.{MarksCorners}
+use Rattle.staat_mesh.specs.MarkedVertices.{MarksCorners}
 use Rattle.staat_mesh.proofs.used.marks_of.Given as goal
 
 abbrev pub invariant-loop-face : goal.invariant-loop-face

@@ -3,7 +3,7 @@ use Rattle.std.specs.Prelude.{Contains}
 use Rattle.staat_vec.specs.declared.vector.V3.{V3}
 use Rattle.staat_vec.specs.Lists.{Lists}
 use Rattle.staat_vec.specs.Vectors.{vector_cmp}
-use Rattle.staat_mesh.specs.Marks.{MarksCorners}
+use Rattle.staat_mesh.specs.MarkedVertices.{MarksCorners}
 use Rattle.staat_mesh.proofs.UsedPoints.{length-marked_of, lists_used, marked_of}
 use Rattle.staat_mesh.proofs.used.used_points.Goals as goal
 use Rattle.staat_vec.proofs.VectorLists.{length-le_from_contains}

@@ -1,5 +1,5 @@
 use Rattle.std.proofs.Common.{map, take}
-use Rattle.staat_plan.specs.Listings.{AreNames}
+use Rattle.staat_plan.specs.WitnessListings.{AreNames}
 use Rattle.staat_plan.proofs.ListedLemmas.{HasLines}
 use Rattle.staat_plan.proofs.listing.listing_of.Given as goal
 

@@ -1,6 +1,6 @@
 use Rattle.std.proofs.Common.{◌≡◌, ◌++◌, take}
 use Rattle.std.specs.Prelude.{flat_map}
-use Rattle.staat_plan.specs.Listings.{key_numbers}
+use Rattle.staat_plan.specs.WitnessListings.{key_numbers}
 use Rattle.staat_plan.proofs.listing.push_arcs.Given as goal
 
 abbrev pub invariant-loop-arc : goal.invariant-loop-arc

@@ -1,6 +1,6 @@
 use Rattle.std.proofs.Common.{◌≡◌, ◌+◌, ◌%◌, ◌<◌, ◌≤◌, ◌∙◌, ℕ, List, [], length, subst, ap, arith}
 use Rattle.std.proofs.Math.Nat.{mod-eq_of_lt}
-use Rattle.staat_ring.specs.Rings.{AreRings, Kept, Ring, unlinked_of}
+use Rattle.staat_ring.specs.Rings.{AreRings, UnlinkedPlane, Ring, unlinked_of}
 use Rattle.staat_plan.proofs.VisitLemmas.{below_more, below_still, on_more}
 use Rattle.staat_plan.proofs.visits.go_round.Goals as goal
 
@@ -14,7 +14,7 @@ loop-place-preserved c =
     let planes = c.args.table.now.planes in
     let rings = c.args.rings.now.rings in
     let table = c.set-set.ensures.rules.planes in
-    let are : AreRings planes rings [] = subst (λ (out : List (Kept (List Ring))). AreRings planes rings (unlinked_of out)) c.requires.all c.requires.rings.now in
+    let are : AreRings planes rings [] = subst (λ (out : List (UnlinkedPlane (List Ring))). AreRings planes rings (unlinked_of out)) c.requires.all c.requires.rings.now in
     let i = c.loop-place.invariant in
     let place : c.loop-place.walk.place ≡ c.loop-place._place = i.place c.loop-place-test.true in
     let ring = i.entered.at.ring in
@@ -33,6 +33,6 @@ returns-clause-below c =
     let planes = c.args.table.now.planes in
     let rings = c.args.rings.now.rings in
     let table = c.set-set.ensures.rules.planes in
-    let are : AreRings planes rings [] = subst (λ (out : List (Kept (List Ring))). AreRings planes rings (unlinked_of out)) c.requires.all c.requires.rings.now in
+    let are : AreRings planes rings [] = subst (λ (out : List (UnlinkedPlane (List Ring))). AreRings planes rings (unlinked_of out)) c.requires.all c.requires.rings.now in
     below_more planes rings table are c.args.directions.now c.loop-place.found.numbers.items c.args.circle c.circle_vertices-place-end.result c.loop-place._place c.circle_vertices-place-end.ensures
     (let past : c.circle_vertices-place-end.result ≤ c.loop-place._place = omega (arith, c.loop-place-test.false) in past) c.loop-place.invariant.below c.loop-place.invariant.on

@@ -1,5 +1,5 @@
 use Rattle.std.proofs.Common.{◌<◌, List, [], sym, subst}
-use Rattle.staat_ring.specs.Rings.{AreRings, Kept, Ring, unlinked_of}
+use Rattle.staat_ring.specs.Rings.{AreRings, UnlinkedPlane, Ring, unlinked_of}
 use Rattle.staat_ring.proofs.StopLemmas.{circle_small}
 use Rattle.staat_plan.specs.Visits.{IsDirectionFound}
 use Rattle.staat_plan.proofs.VisitLemmas.{found_earlier, linked}
@@ -11,7 +11,7 @@ returns-then-first_entry-circle-clause-here c =
     let rings = c.args.rings.now.rings in
     let walk = c.args.walk.now in
     let table = c.set-set.ensures.rules.planes in
-    let are : AreRings planes rings [] = subst (λ (out : List (Kept (List Ring))). AreRings planes rings (unlinked_of out)) c.requires.all c.requires.rings.now in
+    let are : AreRings planes rings [] = subst (λ (out : List (UnlinkedPlane (List Ring))). AreRings planes rings (unlinked_of out)) c.requires.all c.requires.rings.now in
     let entered = c.requires.entered in
     let small = circle_small planes rings [] table are walk.circle walk.place entered.stop entered.at in
     let e = c.first_entry.ensures entered.stop entered.at entered.node in
@@ -23,7 +23,7 @@ pub visit-requires-clause-stands : goal.visit-requires-clause-stands
 visit-requires-clause-stands c =
     let planes = c.args.table.now.planes in
     let rings = c.args.rings.now.rings in
-    let are : AreRings planes rings [] = subst (λ (out : List (Kept (List Ring))). AreRings planes rings (unlinked_of out)) c.requires.all c.requires.rings.now in
+    let are : AreRings planes rings [] = subst (λ (out : List (UnlinkedPlane (List Ring))). AreRings planes rings (unlinked_of out)) c.requires.all c.requires.rings.now in
     record {
       made = c.requires.signs;
       rings = rings;

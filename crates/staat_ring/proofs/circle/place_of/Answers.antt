@@ -1,7 +1,7 @@
 use Rattle.std.proofs.Common.{◌+◌, ◌-◌, ◌/◌, arith, sym, ◌∙◌}
 use Rattle.staat_vec.specs.Vectors.{det}
 use Rattle.staat_ring.specs.Order.{normal_at}
-use Rattle.staat_ring.proofs.Upper.{above, below, found}
+use Rattle.staat_ring.proofs.HalfCirclePlaces.{above, below, found}
 use Rattle.staat_ring.proofs.circle.place_of.Goals as goal
 use Rattle.staat_vec.proofs.Signs.{sign_negative, sign_positive, zero_sign}
 

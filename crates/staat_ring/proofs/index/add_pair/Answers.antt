@@ -18,7 +18,7 @@ sides_now a b n e f = e ∙ f
 pub push_facet-requires-clause-room : goal.push_facet-requires-clause-room
 push_facet-requires-clause-room c =
     partly_room c.args.table.now.planes (facets_of c.args.table.now c.args.arc) c.want.new.self c.loop-m.signs c.args.q c.loop-m.m (length c.args.table.now.planes)
-    (c.loop-m.invariant.partly.sides ∙ (ap (λ s. length s.sides) c.want.ensures ∙ c.requires.sides))
+    (c.loop-m.invariant.partly.states ∙ (ap (λ s. length s.states) c.want.ensures ∙ c.requires.states))
     (let e = c.facet_count-count.ensures.is in let m = c.facet_count-count.ensures.most in omega (arith, e, m))
     c.set.ensures.most c.loop-m.invariant.partly
 
@@ -28,7 +28,7 @@ loop-m-preserved c =
     record {
       all = c.loop-m.invariant.all;
       partly = partly_more c.args.table.now.planes (facets_of c.args.table.now c.args.arc) c.want.new.self c.loop-m.signs c.push_facet.new.signs c.args.q c.loop-m.m c.facet.result w
-          (c.loop-m.invariant.partly.sides ∙ (ap (λ s. length s.sides) c.want.ensures ∙ c.requires.sides)) c.facet.ensures.is lt at set c.loop-m.invariant.partly;
+          (c.loop-m.invariant.partly.states ∙ (ap (λ s. length s.states) c.want.ensures ∙ c.requires.states)) c.facet.ensures.is lt at set c.loop-m.invariant.partly;
     }
 
 pub returns-clause-others : goal.returns-clause-others

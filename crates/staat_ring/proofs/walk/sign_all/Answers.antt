@@ -2,10 +2,10 @@ use Rattle.std.proofs.Common.{◌+◌, ◌<◌, arith, sym, subst, ◌∙◌, le
 use Rattle.std.proofs.lemmas.List.{length-map}
 use Rattle.std.proofs.lemmas.Option.{slice_get_within}
 use Rattle.staat_ring.specs.Rings.{linked_of}
-use Rattle.staat_ring.specs.Signs.{Signed}
+use Rattle.staat_ring.specs.CountedSigns.{Signed}
 use Rattle.staat_ring.specs.SignChanges.{with_plane_sign}
 use Rattle.staat_ring.specs.Belonging.{BelongTo}
-use Rattle.staat_ring.proofs.Marking.{belong_same, signed_same}
+use Rattle.staat_ring.proofs.StopSigns.{belong_same, signed_same}
 use Rattle.staat_ring.proofs.SignAll.{Done, count_all, count_more, count_same, more_done, same_done}
 use Rattle.staat_ring.proofs.walk.sign_all.Goals as goal
 use Rattle.staat_ring.proofs.walk.sign_all.Goals.{then-is_linked, else-is_linked}
@@ -14,7 +14,7 @@ use Rattle.staat_vec.proofs.Truth.{false_test_clash}
 pub loop-k-preserved : goal.loop-k-preserved
 loop-k-preserved g c = elim c.if-is_linked.branch [
   | then-is_linked w ↦
-      let lt : c.loop-k.k < length c.loop-k.signs.sides = (let s = c.loop-k.invariant.made.sides in let a = c.loop-k.invariant.all in let t = c.loop-k-test.true in omega (arith, s, a, t)) in
+      let lt : c.loop-k.k < length c.loop-k.signs.states = (let s = c.loop-k.invariant.made.states in let a = c.loop-k.invariant.all in let t = c.loop-k-test.true in omega (arith, s, a, t)) in
       let set = w.signs-is ∙ w.set.ensures in
       record {
         all = c.loop-k.invariant.all;

@@ -1,5 +1,5 @@
 use Rattle.staat_cells.proofs.GraphRows.{HasArcsUpTo}
 use Rattle.staat_cells.proofs.graphs.CellGraphs.graph_of.Given as goal
 
-abbrev pub invariant-loop-block : goal.invariant-loop-block
-invariant-loop-block l = HasArcsUpTo l.rows l.block-items l.signs l.block-index
+abbrev pub invariant-loop-batch : goal.invariant-loop-batch
+invariant-loop-batch l = HasArcsUpTo l.rows l.batch-items l.signs l.batch-index

@@ -1,5 +1,5 @@
 use Rattle.staat_pairs.specs.Searches.{HasPlaneFrom}
-use Rattle.staat_planes.specs.Marks.{AddsMarks}
+use Rattle.staat_planes.specs.MarkedPlanes.{AddsMarks}
 use Rattle.staat_planes.proofs.Marking.{IsBelow}
 use Rattle.staat_planes.proofs.table.PlaneTable.mark_between.Given as goal
 

@@ -1,6 +1,6 @@
 use Rattle.staat_pairs.specs.Searches.{IsCanonOf, arc_of}
 use Rattle.staat_pairs.specs.Tables.{facets_of}
-use Rattle.staat_planes.specs.Marks.{AddsMarks}
+use Rattle.staat_planes.specs.MarkedPlanes.{AddsMarks}
 use Rattle.staat_planes.proofs.Marking.{IsBelow}
 use Rattle.staat_planes.proofs.table.PlaneTable.mark_from.Given as goal
 

@@ -1,6 +1,6 @@
 use Rattle.staat_model.specs.Sets.{Has}
 use Rattle.staat_pairs.specs.Searches.{HasPlaneOf}
-use Rattle.staat_planes.specs.Marks.{AddsMarks}
+use Rattle.staat_planes.specs.MarkedPlanes.{AddsMarks}
 use Rattle.staat_planes.proofs.Marking.{IsBelow}
 use Rattle.staat_planes.proofs.table.PlaneTable.mark_in.Given as goal
 

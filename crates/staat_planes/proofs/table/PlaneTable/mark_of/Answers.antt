@@ -2,7 +2,7 @@ use Rattle.std.proofs.Common.{ℕ, ◌<◌, ◌+◌, ◌∙◌, Bool, List, arit
 use Rattle.staat_model.specs.Sets.{Has}
 use Rattle.staat_vec.specs.declared.vector.V3.{V3}
 use Rattle.staat_pairs.specs.Searches.{HasPlaneBetween, HasPlaneOf}
-use Rattle.staat_planes.specs.Marks.{AddsMarks}
+use Rattle.staat_planes.specs.MarkedPlanes.{AddsMarks}
 use Rattle.staat_planes.proofs.Marking.{IsBelow, adds_as, adds_more, adds_skip}
 use Rattle.staat_planes.proofs.table.PlaneTable.mark_of.Goals.{then-a-b+then-has, else-a-b, else-a-b-via-then-a-b+else-has, else-a-b-via-else-a-b}
 use Rattle.staat_planes.proofs.table.PlaneTable.mark_of.Goals as goal

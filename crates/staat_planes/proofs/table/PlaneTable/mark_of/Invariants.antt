@@ -1,7 +1,7 @@
 use Rattle.std.proofs.Common.{◌<◌}
 use Rattle.staat_model.specs.Sets.{Has}
 use Rattle.staat_pairs.specs.Searches.{HasPlaneBetween}
-use Rattle.staat_planes.specs.Marks.{AddsMarks}
+use Rattle.staat_planes.specs.MarkedPlanes.{AddsMarks}
 use Rattle.staat_planes.proofs.Marking.{IsBelow}
 use Rattle.staat_planes.proofs.table.PlaneTable.mark_of.Given as goal
 

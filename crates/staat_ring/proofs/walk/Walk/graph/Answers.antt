@@ -1,6 +1,6 @@
 use Rattle.std.proofs.Common.{ℕ, ◌<◌, ◌↔◌, subst}
 use Rattle.staat_graph.specs.Graphs.{HasArc}
-use Rattle.staat_ring.specs.Signs.{HasBlockingPair}
+use Rattle.staat_ring.specs.CountedSigns.{HasBlockingPair}
 use Rattle.staat_ring.specs.Walked.{Walked}
 use Rattle.staat_ring.specs.Rings.{linked_of}
 use Rattle.staat_ring.proofs.ArcLaw.{shows_blocking}

@@ -2,7 +2,7 @@ use Rattle.std.proofs.Common.{◌↔◌, subst}
 use Rattle.std.specs.Prelude.{IsTrue}
 use Rattle.staat_graph.specs.Graphs.{IsStrong}
 use Rattle.staat_ring.specs.Rings.{linked_of}
-use Rattle.staat_ring.specs.Signs.{HasBlockingPair}
+use Rattle.staat_ring.specs.CountedSigns.{HasBlockingPair}
 use Rattle.staat_ring.specs.Walked.{Walked}
 use Rattle.staat_ring.proofs.ArcLaw.{strong_blocking}
 use Rattle.staat_ring.proofs.walk.Walk.is_strong.Goals as goal

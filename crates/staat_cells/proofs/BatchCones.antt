@@ -1,0 +1,195 @@
+-- Batches of cones, as one cone or its parts are added.
+use Rattle.std.proofs.Common.{◌≡◌, ◌⊎◌, ◌↔◌, inl, inr, ⊎_elim, ℕ, ◌<◌, ◌≤◌, refl, sym, ap, subst}
+use Rattle.std.proofs.Common.{◌∙◌, arith, List, [], ◌∷◌, ◌++◌, length, get_or, All, Any}
+use Rattle.std.specs.Prelude.{Some, slice_get, slice_set}
+use Rattle.std.proofs.lemmas.List.{length_push}
+use Rattle.std.proofs.lemmas.List.Elements.{All-push, All-set}
+use Rattle.staat_vec.specs.declared.vector.Sign.{Sign}
+use Rattle.staat_model.proofs.Places.{one_at_place, place_within}
+use Rattle.staat_cells.specs.declared.batches.ArcCones.{ArcCones}
+use Rattle.staat_cells.specs.declared.batches.Batch.{Batch}
+use Rattle.staat_cells.specs.declared.half_spaces.HalfSpace.{HalfSpace}
+use Rattle.staat_cells.specs.HalfSpaces.{AreInside}
+use Rattle.staat_cells.specs.Batches.{AddsToBatch, AreInsideCone, HasCone, HasParts, IsBatch, IsBatchArc, IsLeftByAll, outside_by}
+use Rattle.staat_cells.specs.CellGraphs.{AddsCone}
+use Rattle.staat_cells.proofs.ConeTests.{AddsHalfSpaces}
+use Rattle.staat_cells.proofs.Elements.{any_pushed, any_set}
+use Rattle.staat_vec.proofs.ListLaws.{push_cases, push_front, push_end}
+
+-- the arcs have grown by the cone j of the parts a and b
+abbrev pub AddsArc : ℕ → ℕ → ℕ → List ArcCones → List ArcCones → Type 0
+AddsArc a b j old new = (x y k : ℕ) → HasCone new x y k ↔ (HasCone old x y k ⊎ ((x ≡ a) × (y ≡ b)
+    × (k ≡ j)))
+
+-- ---- a list with one more at the end
+
+-- ---- parts more
+
+pub parts_batch : (old new : Batch) (cone : List HalfSpace) (a b j : ℕ) → IsBatch old
+    → new.cones.items ≡ old.cones.items
+    → new.tests.items ≡ old.tests.items → slice_get old.cones.items j ≡ Some cone
+    → All HasParts new.arcs.items
+    → AddsArc a b j old.arcs.items new.arcs.items → AddsToBatch cone a b old new
+parts_batch old new cone a b j rules cones_are tests_are at parts adds = record {
+  batch = record {
+    few = subst (λ l. length l ≤ 128) (sym cones_are) rules.few;
+    tests = λ signs k. subst (λ l. IsLeftByAll (outside_by signs) l k ↔ AreInsideCone signs new.cones.items k)
+        (sym tests_are) (subst (λ l. IsLeftByAll (outside_by signs) old.tests.items k ↔ AreInsideCone signs l k)
+        (sym cones_are) (rules.tests signs k));
+    within = λ x y k h. subst (λ l. k < length l) (sym cones_are) (⊎_elim {C = k < length old.cones.items}
+        (λ o. rules.within x y k o)
+        (λ p. subst (λ n. n < length old.cones.items) (sym p.2) (place_within old.cones.items j cone at))
+        ((adds x y k).0 h));
+    parts = parts;
+  };
+  arcs = λ signs x y. (from signs x y, to signs x y);
+}
+  where
+    from : (signs : List Sign) (x y : ℕ) → IsBatchArc new signs x y
+        → IsBatchArc old signs x y ⊎ ((x ≡ a) × (y ≡ b) × AreInside signs cone)
+    from signs x y h =
+        let is_left = subst (λ l. IsLeftByAll (outside_by signs) l h.cone) tests_are h.is_left in
+        ⊎_elim {C = IsBatchArc old signs x y ⊎ ((x ≡ a) × (y ≡ b) × AreInside signs cone)}
+        (λ o. inl (record { cone = h.cone; has = o; is_left = is_left }))
+        (λ p. inr (
+          p.0,
+          p.1,
+          (rules.tests signs j).0 (subst (IsLeftByAll (outside_by signs) old.tests.items) p.2 is_left) cone at,
+        ))
+        ((adds x y h.cone).0 h.has)
+
+    to : (signs : List Sign) (x y : ℕ) → IsBatchArc old signs x y ⊎ ((x ≡ a) × (y ≡ b)
+        × AreInside signs cone)
+        → IsBatchArc new signs x y
+    to signs x y (inl h) = record {
+      cone = h.cone;
+      has = (adds x y h.cone).1 (inl h.has);
+      is_left = subst (λ l. IsLeftByAll (outside_by signs) l h.cone) (sym tests_are) h.is_left;
+    }
+    to signs x y (inr (e, f, inside)) = record {
+      cone = j;
+      has = (adds x y j).1 (inr (e, f, refl));
+      is_left = subst (λ l. IsLeftByAll (outside_by signs) l j) (sym tests_are) ((rules.tests signs j).1
+          (λ o is. subst (AreInside signs) (one_at_place old.cones.items j cone o at is) inside));
+    }
+
+-- ---- a cone more
+
+pub cone_batch : (old new : Batch) (cone : List HalfSpace) (a b j : ℕ) → IsBatch old → j ≡ length old.cones.items
+    → length old.cones.items < 128 → new.cones.items ≡ old.cones.items ++ cone ∷ []
+    → AddsHalfSpaces (λ signs. AreInside signs cone) j old.tests.items new.tests.items → All HasParts new.arcs.items
+    → AddsArc a b j old.arcs.items new.arcs.items → AddsToBatch cone a b old new
+cone_batch old new cone a b j rules last room cones_are half_spaces parts adds = record {
+  batch = record {
+    few = subst (λ l. length l ≤ 128) (sym cones_are) (let e = length_push old.cones.items cone in omega (
+      arith,
+      e,
+      room,
+    ));
+    tests = λ signs k. (tested signs k, untested signs k);
+    within = λ x y k h. subst (λ l. k < length l) (sym cones_are) (⊎_elim {C = k < length (old.cones.items ++
+        cone ∷ [])}
+        (λ o. let lt = rules.within x y k o in let e = length_push old.cones.items cone in omega (arith, e, lt))
+        (λ p. let is = p.2 in let e = length_push old.cones.items cone in omega (arith, e, is, last))
+        ((adds x y k).0 h));
+    parts = parts;
+  };
+  arcs = λ signs x y. (from signs x y, to signs x y);
+}
+  where
+    tested : (signs : List Sign) (k : ℕ) → IsLeftByAll (outside_by signs) new.tests.items k
+        → AreInsideCone signs new.cones.items k
+    tested signs k h o at =
+        let both = (half_spaces signs k).0 h in
+        ⊎_elim {C = AreInside signs o} (λ e. (rules.tests signs k).0 both.0 o e)
+        (λ p. subst (AreInside signs) p.1 (both.1 (p.0 ∙ sym last)))
+        (push_cases old.cones.items cone o k (subst (λ l. slice_get l k ≡ Some o) cones_are at))
+
+    untested : (signs : List Sign) (k : ℕ) → AreInsideCone signs new.cones.items k
+        → IsLeftByAll (outside_by signs) new.tests.items k
+    untested signs k all = (half_spaces signs k).1 (
+      (rules.tests signs k).1 (λ o e. all o (subst (λ l. slice_get l k ≡ Some o) (sym cones_are)
+          (push_front old.cones.items cone o k e))),
+      λ e. all cone (subst (λ l. slice_get l k ≡ Some cone) (sym cones_are)
+          (subst (λ n. slice_get (old.cones.items ++ cone ∷ []) n ≡ Some cone) (sym (e ∙ last))
+          (push_end old.cones.items cone))),
+    )
+
+    from : (signs : List Sign) (x y : ℕ) → IsBatchArc new signs x y
+        → IsBatchArc old signs x y ⊎ ((x ≡ a) × (y ≡ b) × AreInside signs cone)
+    from signs x y h =
+        let both = (half_spaces signs h.cone).0 h.is_left in
+        ⊎_elim {C = IsBatchArc old signs x y ⊎ ((x ≡ a) × (y ≡ b) × AreInside signs cone)}
+        (λ o. inl (record { cone = h.cone; has = o; is_left = both.0 }))
+        (λ p. inr (p.0, p.1, both.1 p.2))
+        ((adds x y h.cone).0 h.has)
+
+    to : (signs : List Sign) (x y : ℕ) → IsBatchArc old signs x y ⊎ ((x ≡ a) × (y ≡ b)
+        × AreInside signs cone)
+        → IsBatchArc new signs x y
+    to signs x y (inl h) = record {
+      cone = h.cone;
+      has = (adds x y h.cone).1 (inl h.has);
+      is_left = (half_spaces signs h.cone).1 (
+        h.is_left,
+        λ e. absurd (let lt = rules.within x y h.cone h.has in omega (arith, lt, e, last)),
+      );
+    }
+    to signs x y (inr (e, f, inside)) = record {
+      cone = j;
+      has = (adds x y j).1 (inr (e, f, refl));
+      is_left = (half_spaces signs j).1 (
+        (rules.tests signs j).1 (λ o is. absurd (let lt = place_within old.cones.items j o is in
+            omega (arith, lt, last))),
+        λ same. inside,
+      );
+    }
+
+pub no_batch_arcs : (batch : Batch) → batch.arcs.items ≡ [] → (signs : List Sign) (x y : ℕ)
+    → IsBatchArc batch signs x y
+    → ⊥
+no_batch_arcs batch none signs x y h =
+    let (k, arc, lt, e, is) = h.has in
+    let few : length batch.arcs.items ≡ 0 = ap length none in omega (arith, lt, few)
+
+-- ---- all batches
+
+pub batch_set : (batches : List Batch) (k : ℕ) (old new : Batch) (cone : List HalfSpace) (a b : ℕ) → k < length batches
+    → old ≡ get_or batches k old → All IsBatch batches → AddsToBatch cone a b old new
+    → AddsCone cone a b batches (slice_set batches k new)
+batch_set batches k old new cone a b lt at rules added = record {
+  arcs = λ signs x y. any_set (λ batch. IsBatchArc batch signs x y) batches k old new
+      ((x ≡ a) × (y ≡ b) × AreInside signs cone) lt
+      (subst (λ batch. IsBatchArc new signs x y
+      ↔ (IsBatchArc batch signs x y ⊎ ((x ≡ a) × (y ≡ b)
+      × AreInside signs cone))) at (added.arcs signs x y));
+  batches = All-set IsBatch batches k new added.batch rules;
+}
+
+pub batch_pushed : (batches grown : List Batch) (none new : Batch) (cone : List HalfSpace) (a b : ℕ)
+    → none.arcs.items ≡ [] → grown ≡ batches ++ new ∷ [] → All IsBatch batches
+    → AddsToBatch cone a b none new
+    → AddsCone cone a b batches grown
+batch_pushed batches grown none new cone a b empty is rules added =
+    subst (λ l. AddsCone cone a b batches l) (sym is) (record {
+      arcs = λ signs x y. (from signs x y, to signs x y);
+      batches = All-push IsBatch batches new rules added.batch;
+    })
+  where
+    Arc : List Sign → ℕ → ℕ → Batch → Type 0
+    Arc signs x y batch = IsBatchArc batch signs x y
+
+    New : List Sign → ℕ → ℕ → Type 0
+    New signs x y = (x ≡ a) × (y ≡ b) × AreInside signs cone
+
+    from : (signs : List Sign) (x y : ℕ) → Any (Arc signs x y) (batches ++ new ∷ [])
+        → Any (Arc signs x y) batches ⊎ New signs x y
+    from signs x y h = ⊎_elim {C = Any (Arc signs x y) batches ⊎ New signs x y} (λ o. inl o)
+        (λ p. ⊎_elim {C = Any (Arc signs x y) batches ⊎ New signs x y}
+        (λ o. absurd (no_batch_arcs none empty signs x y o)) (λ q. inr q) ((added.arcs signs x y).0 p))
+        ((any_pushed (Arc signs x y) batches new).0 h)
+
+    to : (signs : List Sign) (x y : ℕ) → Any (Arc signs x y) batches ⊎ New signs x y
+        → Any (Arc signs x y) (batches ++ new ∷ [])
+    to signs x y (inl o) = (any_pushed (Arc signs x y) batches new).1 (inl o)
+    to signs x y (inr q) = (any_pushed (Arc signs x y) batches new).1 (inr ((added.arcs signs x y).1 (inr q)))

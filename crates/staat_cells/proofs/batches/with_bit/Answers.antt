@@ -1,0 +1,5 @@
+use Rattle.staat_cells.proofs.ConeTests.{set_bit}
+use Rattle.staat_cells.proofs.batches.with_bit.Goals as goal
+
+pub returns-clause-cones : goal.returns-clause-cones
+returns-clause-cones c = λ k. set_bit c.args.arc.cones c.args.j k c.requires

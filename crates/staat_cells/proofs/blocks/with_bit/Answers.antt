@@ -1,5 +1,0 @@
-use Rattle.staat_cells.proofs.ConeTests.{set_bit}
-use Rattle.staat_cells.proofs.blocks.with_bit.Goals as goal
-
-pub returns-clause-cones : goal.returns-clause-cones
-returns-clause-cones c = λ k. set_bit c.args.arc.cones c.args.j k c.requires

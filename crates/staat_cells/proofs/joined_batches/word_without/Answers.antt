@@ -1,0 +1,5 @@
+use Rattle.staat_cells.proofs.ConeTests.{without_some}
+use Rattle.staat_cells.proofs.joined_batches.word_without.Goals as goal
+
+pub returns : goal.returns
+returns c = without_some c.args.x c.args.y

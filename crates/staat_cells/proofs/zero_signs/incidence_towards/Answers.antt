@@ -1,0 +1,56 @@
+use Rattle.std.proofs.Common.{arith, get_or}
+use Rattle.staat_vec.specs.Vectors.{origin}
+use Rattle.staat_cells.proofs.ZeroPlaces.{towards_all, towards_none, zero_changed, zero_there, zero_within}
+use Rattle.staat_cells.proofs.zero_signs.incidence_towards.Goals as goal
+
+pub loop-i-init : goal.loop-i-init
+loop-i-init c =
+    towards_none c.args.planes.now c.args.signs.now c.args.w c.requires.signs c.args.base c.args.base.of
+    c.args.zeros.now
+    c.requires.zeros c.requires.base
+
+pub offset_bounds-planes-j : goal.offset_bounds-planes-j
+offset_bounds-planes-j c =
+    let within = zero_within c.args.planes.now c.args.signs.now c.args.w c.requires.signs c.loop-i.incidence
+    c.args.base.of
+    c.args.zeros.now c.loop-i.i c.loop-i-test.true c.loop-i.invariant in
+    let long = c.requires.signs in
+    let few = c.requires.few in
+    omega (arith, within, long, few)
+
+pub bounds-planes-j : goal.bounds-planes-j
+bounds-planes-j c =
+    let within = zero_within c.args.planes.now c.args.signs.now c.args.w c.requires.signs c.loop-i.incidence
+    c.args.base.of
+    c.args.zeros.now c.loop-i.i c.loop-i-test.true c.loop-i.invariant in
+    let long = c.requires.signs in
+    omega (arith, within, long)
+
+pub sign_there-requires-clause-n : goal.sign_there-requires-clause-n
+sign_there-requires-clause-n c =
+    let within = zero_within c.args.planes.now c.args.signs.now c.args.w c.requires.signs c.loop-i.incidence
+    c.args.base.of
+    c.args.zeros.now c.loop-i.i c.loop-i-test.true c.loop-i.invariant in
+    let long = c.requires.signs in
+    c.requires.planes (get_or c.args.zeros.now c.loop-i.i 0) origin (omega (arith, within, long))
+
+pub changed-incidence-requires-clause-place : goal.changed-incidence-requires-clause-place
+changed-incidence-requires-clause-place c =
+    zero_within c.args.planes.now c.args.signs.now c.args.w c.requires.signs c.loop-i.incidence c.args.base.of
+    c.args.zeros.now c.loop-i.i c.loop-i-test.true c.loop-i.invariant
+
+pub changed-incidence-requires-clause-zero_at : goal.changed-incidence-requires-clause-zero_at
+changed-incidence-requires-clause-zero_at c =
+    zero_there c.args.planes.now c.args.signs.now c.args.w c.requires.signs c.loop-i.incidence c.args.base.of
+    c.args.zeros.now c.loop-i.i c.loop-i-test.true c.loop-i.invariant
+
+pub loop-i-preserved : goal.loop-i-preserved
+loop-i-preserved c =
+    zero_changed c.args.planes.now c.args.signs.now c.args.w c.requires.signs c.loop-i.incidence c.args.base.of
+    c.args.zeros.now c.loop-i.i c.loop-i-test.true c.loop-i.invariant c.changed-incidence.result c.sign_there.result
+    c.sign_there.ensures c.changed-incidence.ensures
+
+pub returns : goal.returns
+returns c =
+    towards_all c.args.planes.now c.args.signs.now c.args.w c.requires.signs c.loop-i.incidence c.args.base.of
+    c.args.zeros.now c.loop-i.i c.loop-i-test.false c.loop-i.invariant

@@ -1,0 +1,147 @@
+// Packed signs in which a zero gives way to another sign.
+ghost use Rattle.std.specs.Prelude.{◌≡◌, ◌<◌, ◌≤◌, ◌-◌, ◌^◌};
+ghost use Rattle.std.specs.Prelude.{All, IfOk, List, length, slice_set, min};
+ghost use Rattle.staat_vec.specs.declared.vector.Sign.{Sign as SignValue};
+ghost use Rattle.staat_vec.specs.Vectors.{IsWithin};
+ghost use Rattle.staat_model.specs.Cells.{is_zero, signs_of};
+ghost use Rattle.staat_cells.specs.ZeroSigns.{HasFewSigns, HasIncidenceZeroAt, HasZeroAt, IsSignWord, IsZeroAt};
+ghost use Rattle.staat_cells.specs.ZeroSigns.{zero_places};
+ghost use Rattle.staat_cells.specs.Compositions.{composed};
+ghost use Rattle.staat_cells.specs.Packing.{packed, incidence_of};
+ghost use Rattle.staat_cells.specs.Beside.{filled};
+
+use crate::incidence::Incidence;
+use crate::plane_signs::sign_there;
+use staat_vec::{DIRECTION, NORMAL, OutOfMemory, Sign, V3};
+use std::alloc::Global;
+
+// how much a digit counts at a place of a word of so many digits
+fn weight(count: usize, k: usize) -> u128
+    requires place { k < count }
+    requires word { count ≤ 64 }
+    ensures { result ≡ 4 ^ (count - 1 - k) }
+{
+    1 << (2 * (count - 1 - k))
+}
+
+// the word with t in place of the zero at k
+fn changed_word(word: u128, count: usize, k: usize, t: Sign) -> u128
+    requires place { k < count }
+    requires word { count ≤ 64 }
+    requires zero_at { HasZeroAt word count k }
+    ensures { (s : List SignValue) → packed s ≡ word → length s ≡ count → IsZeroAt s k
+        → result ≡ packed (slice_set s k t) }
+{
+    match t {
+        Sign::Neg => word - weight(count, k),
+        Sign::Zero => word,
+        Sign::Pos => word + weight(count, k),
+    }
+}
+
+// how many signs a word has, where so many are left
+fn word_count(left: usize) -> usize
+    ensures is { result ≡ min 64 left }
+    ensures most { result ≤ 64 }
+{
+    if left < 64 { left } else { 64 }
+}
+
+/// The incidence with `t` in place of the zero at `k`, of so many signs.
+pub(crate) fn changed(incidence: Incidence, count: usize, k: usize, t: Sign) -> Incidence
+    requires few { count ≤ 256 }
+    requires place { k < count }
+    requires zero_at { HasIncidenceZeroAt incidence count k }
+    ensures { (s : List SignValue) → incidence ≡ incidence_of s incidence.of → length s ≡ count
+        → IsZeroAt s k → result ≡ incidence_of (slice_set s k t) incidence.of }
+{
+    let mut new = incidence;
+    if k < 64 {
+        new.a = changed_word(incidence.a, word_count(count), k, t);
+    } else if k < 128 {
+        new.b = changed_word(incidence.b, word_count(count - 64), k - 64, t);
+    } else if k < 192 {
+        new.c = changed_word(incidence.c, word_count(count - 128), k - 128, t);
+    } else {
+        new.d = changed_word(incidence.d, word_count(count - 192), k - 192, t);
+    }
+    new
+}
+
+fn is_zero(s: Sign) -> bool
+    ensures { result ≡ is_zero s }
+{
+    match s {
+        Sign::Zero => true,
+        _ => false,
+    }
+}
+
+/// The places of the zeros.
+pub(crate) fn zeros_of(alloc: Global, signs: &[Sign]) -> Result<Vec<usize>, OutOfMemory>
+    ensures { IfOk result (λ zeros. zeros.items ≡ zero_places 0 signs.now) }
+{
+    let mut zeros = Vec::new(alloc);
+    for j in 0..signs.len() {
+        if is_zero(signs[j]) {
+            zeros.push(j)?;
+        }
+    }
+    Ok(zeros)
+}
+
+/// The incidence towards `w` of the cell with these signs, the zeros at these places, whose own incidence is `base`:
+/// in place of each zero stands the sign of the plane at `w`.
+pub(crate) fn incidence_towards(
+    planes: &[V3],
+    signs: &[Sign],
+    zeros: &[usize],
+    base: Incidence,
+    w: V3,
+) -> Incidence
+    requires planes { All (IsWithin NORMAL) planes.now }
+    requires direction { IsWithin DIRECTION w }
+    requires few { length planes.now ≤ 256 }
+    requires signs { length signs.now ≡ length planes.now }
+    requires zeros { zeros.now ≡ zero_places 0 signs.now }
+    requires base { base ≡ incidence_of signs.now base.of }
+    ensures { result ≡ incidence_of (composed signs.now (signs_of planes.now w)) base.of }
+{
+    let mut incidence = base;
+    for i in 0..zeros.len() {
+        let j = zeros[i];
+        incidence = changed(incidence, signs.len(), j, sign_there(planes[j], w));
+    }
+    incidence
+}
+
+/// A one in each digit of a word.
+const ONES: u128 = 0x5555_5555_5555_5555_5555_5555_5555_5555;
+
+// the word with t in place of each zero, which alone has an odd digit
+fn filled_word(word: u128, t: Sign) -> u128
+    requires word { IsSignWord word }
+    ensures { (s : List SignValue) → packed s ≡ word → length s ≤ 64 → result ≡ packed (filled t s) }
+{
+    let zeros = word & ONES;
+    match t {
+        Sign::Neg => word - zeros,
+        Sign::Zero => word,
+        Sign::Pos => word + zeros,
+    }
+}
+
+/// The incidence with `t` in place of each zero.
+pub(crate) fn incidence_filled(base: Incidence, t: Sign) -> Incidence
+    requires few { HasFewSigns base }
+    ensures { (s : List SignValue) → base ≡ incidence_of s base.of → length s ≤ 256
+        → result ≡ incidence_of (filled t s) base.of }
+{
+    Incidence {
+        a: filled_word(base.a, t),
+        b: filled_word(base.b, t),
+        c: filled_word(base.c, t),
+        d: filled_word(base.d, t),
+        of: base.of,
+    }
+}

@@ -1,7 +1,0 @@
-use Rattle.std.specs.Ordering.{nat_cmp}
-use Rattle.staat_vec.specs.Lists.{Lists}
-use Rattle.staat_holds.proofs.Joining.{IsOfOneBelow}
-use Rattle.staat_holds.proofs.joined.parts_among.Given as goal
-
-abbrev pub invariant-loop-p : goal.invariant-loop-p
-invariant-loop-p l = Lists nat_cmp (IsOfOneBelow l.names l.nodes l.p) l.members.items

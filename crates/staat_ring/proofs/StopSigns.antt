@@ -1,0 +1,152 @@
+-- The signs of the planes through a stop.
+use Rattle.std.proofs.Common.{◌≡◌, ◌≢◌, ℕ, zero, suc, ◌+◌, ◌<◌, ◌≤◌, Bool, arith, ap, sym, subst, ◌∙◌, refl, List, [], ◌∷◌, length, drop, take, set, add-one, drop-cons, ◌⊎◌, inl, inr, ⊎_elim, Contains, length-set, get_or-set_same, get_or-set_other}
+use Rattle.std.specs.Prelude.{Some, slice_get}
+use Rattle.std.proofs.lemmas.Option.{get_or_from_slice_get, slice_get_within}
+use Rattle.staat_ring.specs.declared.entry.Entry.{Entry}
+use Rattle.std.proofs.Math.ListN.{drop_of_length-le}
+use Rattle.staat_vec.specs.declared.vector.Sign.{Sign}
+use Rattle.staat_vec.specs.Lists.{IsFirst}
+use Rattle.staat_vec.proofs.Unique.{Contains-cases, Contains-front, Contains-later, Contains-nothing}
+use Rattle.staat_model.specs.declared.certificate.Arc.{Arc}
+use Rattle.staat_pairs.specs.Tables.{IsTableArc, Table, slot}
+use Rattle.staat_ring.specs.declared.pairs.PairCount.{PairCount}
+use Rattle.staat_ring.specs.Pairs.{occurs, pair_at}
+use Rattle.staat_ring.specs.Belonging.{BelongTo, IsUnused}
+use Rattle.staat_ring.specs.CountedSigns.{PlaneState, Signed, no_state, state_at}
+use Rattle.staat_ring.specs.SignChanges.{with_sign, with_plane_sign}
+use Rattle.staat_ring.specs.StopSigns.{stop_sign, with_stop_signs}
+use Rattle.staat_vec.proofs.Naturals.{lt_or_le, same_or}
+
+pub drop_next : (es : List Entry) (i : ℕ) (e : Entry) → slice_get es i ≡ Some e → drop i es ≡ e ∷ drop (i + 1) es
+drop_next es i e at = drop-cons es i e (slice_get_within es i e at) ∙ ((λ k. get_or_from_slice_get es i e e at k ∷ drop (suc i) es) ∙ ap (λ n. e ∷ drop n es) (sym (add-one i)))
+
+-- one entry more
+pub stop_sign_next : (leaves : Bool) (es : List Entry) (i : ℕ) (e : Entry) (sign : Sign) (now new first : Signed) → slice_get es i ≡ Some e → sign ≡ stop_sign leaves e.turned → new ≡ with_plane_sign e.plane sign now → with_stop_signs leaves (drop i es) now ≡ first → with_stop_signs leaves (drop (i + 1) es) new ≡ first
+stop_sign_next leaves es i e sign now new first at is set rest =
+    ap (with_stop_signs leaves (drop (i + 1) es)) (set ∙ ap (λ s. with_plane_sign e.plane s now) is) ∙ (sym (ap (λ r. with_stop_signs leaves r now) (drop_next es i e at)) ∙ rest)
+
+-- none left
+pub stop_sign_end : (leaves : Bool) (es : List Entry) (i : ℕ) (now first : Signed) → length es ≤ i → with_stop_signs leaves (drop i es) now ≡ first → now ≡ first
+stop_sign_end leaves es i now first past rest = sym (ap (λ r. with_stop_signs leaves r now) (drop_of_length-le es past)) ∙ rest
+
+-- ---- what is kept
+
+-- the same planes and pairs, whatever the signs
+pub record SameLists (s t : Signed) : Type 0 where
+  pub size : length s.states ≡ length t.states
+  pub along : (k : ℕ) → (state_at s.states k).along ≡ (state_at t.states k).along
+  pub against : (k : ℕ) → (state_at s.states k).against ≡ (state_at t.states k).against
+  pub pairs : s.pairs ≡ t.pairs
+
+pub same_itself : (s : Signed) → SameLists s s
+same_itself s = record { size = refl; along = λ k. refl; against = λ k. refl; pairs = refl }
+
+pub same_trans : (s t u : Signed) → SameLists s t → SameLists t u → SameLists s u
+same_trans s t u p q = record { size = p.size ∙ q.size; along = λ k. p.along k ∙ q.along k; against = λ k. p.against k ∙ q.against k; pairs = p.pairs ∙ q.pairs }
+
+pub set_past : (xs : List PlaneState) (k : ℕ) (x : PlaneState) → length xs ≤ k → set xs k x ≡ xs
+set_past [] k x h = refl
+set_past (y ∷ xs) zero x h = absurd (omega arith)
+set_past (y ∷ xs) (suc k) x h = ap (λ r. y ∷ r) (set_past xs k x (omega arith))
+
+-- what a plane keeps of what the change at a plane leaves
+kept_at : {X : Type 0} (f : PlaneState → X) (states : List PlaneState) (k : ℕ) (sign : Sign) (j : ℕ) → ((s : PlaneState) → f (with_sign sign s) ≡ f s) → f (state_at (set states k (with_sign sign (state_at states k))) j) ≡ f (state_at states j)
+kept_at {X = X} f states k sign j same = ⊎_elim {C = f (state_at (set states k (with_sign sign (state_at states k))) j) ≡ f (state_at states j)}
+    (λ e. ⊎_elim {C = f (state_at (set states k (with_sign sign (state_at states k))) j) ≡ f (state_at states j)}
+    (λ lt. ap (λ i. f (state_at (set states k (with_sign sign (state_at states k))) i)) e ∙ (ap f (get_or-set_same states k (with_sign sign (state_at states k)) no_state lt) ∙ (same (state_at states k) ∙ ap (λ i. f (state_at states i)) (sym e))))
+    (λ le. ap (λ xs. f (state_at xs j)) (set_past states k (with_sign sign (state_at states k)) le))
+    (lt_or_le k (length states)))
+    (λ ne. ap f (get_or-set_other states k j (with_sign sign (state_at states k)) no_state ne))
+    (same_or j k)
+
+pub signed_same : (k : ℕ) (sign : Sign) (s : Signed) → SameLists (with_plane_sign k sign s) s
+signed_same k sign s = record {
+  size = length-set s.states k (with_sign sign (state_at s.states k));
+  along = λ j. kept_at (λ x. x.along) s.states k sign j (λ x. refl);
+  against = λ j. kept_at (λ x. x.against) s.states k sign j (λ x. refl);
+  pairs = refl;
+}
+
+pub marked_same : (leaves : Bool) (es : List Entry) (s : Signed) → SameLists (with_stop_signs leaves es s) s
+marked_same leaves [] s = same_itself s
+marked_same leaves (e ∷ es) s =
+    let next : Signed = with_plane_sign e.plane (stop_sign leaves e.turned) s in
+    same_trans (with_stop_signs leaves es next) next s (marked_same leaves es next) (signed_same e.plane (stop_sign leaves e.turned) s)
+
+-- signs that belong to a table still do
+pub belong_same : (t : Table) (s u : Signed) → SameLists u s → BelongTo t s → BelongTo t u
+belong_same t s u same to = record {
+  states = same.size ∙ to.states;
+  all = λ arc across.
+      let p = to.all arc across in
+      let i = p.index in
+      record {
+        within = subst (λ (ps : List PairCount). slot t.pieces arc < length ps) (sym same.pairs) p.within;
+        parts = ap (λ ps. (pair_at ps (slot t.pieces arc)).parts) same.pairs ∙ p.parts;
+        wanted = ap (λ ps. (pair_at ps (slot t.pieces arc)).wanted) same.pairs ∙ p.wanted;
+        index = record {
+          by_plane = i.by_plane;
+          are = i.are;
+          within = i.within;
+          along = λ k. ap (occurs (slot t.pieces arc)) (same.along k) ∙ i.along k;
+          against = λ k. ap (occurs (slot t.pieces arc)) (same.against k) ∙ i.against k;
+        };
+      };
+  only = λ q lt. ⊎_elim {C = ((arc : Arc) × IsTableArc t arc × (slot t.pieces arc ≡ q)) ⊎ IsUnused u q} (λ h. inl h)
+      (λ n. inr (record {
+        wanted = subst (λ (ps : List PairCount). 1 ≤ (pair_at ps q).wanted) (sym same.pairs) n.wanted;
+        along = λ k. ap (occurs q) (same.along k) ∙ n.along k;
+        against = λ k. ap (occurs q) (same.against k) ∙ n.against k;
+      }))
+      (to.only q (subst (λ (ps : List PairCount). q < length ps) same.pairs lt));
+}
+
+-- ---- the signs
+
+pub sign_of_set : (states : List PlaneState) (k : ℕ) (sign : Sign) → k < length states → (state_at (set states k (with_sign sign (state_at states k))) k).sign ≡ sign
+sign_of_set states k sign lt = ap (λ s. s.sign) (get_or-set_same states k (with_sign sign (state_at states k)) no_state lt)
+
+-- a plane through which no entry goes keeps its sign
+pub marked_other : (leaves : Bool) (es : List Entry) (s : Signed) (j : ℕ) → ((e : Entry) → Contains es e → e.plane ≢ j) → (state_at (with_stop_signs leaves es s).states j).sign ≡ (state_at s.states j).sign
+marked_other leaves [] s j none = refl
+marked_other leaves (e ∷ es) s j none =
+    marked_other leaves es (with_plane_sign e.plane (stop_sign leaves e.turned) s) j (λ x c. none x (Contains-later e es x c))
+    ∙ ap (λ x. x.sign) (get_or-set_other s.states e.plane j (with_sign (stop_sign leaves e.turned) (state_at s.states e.plane)) no_state (λ q. none e (Contains-front e es) (sym q)))
+
+-- one through which some entry goes gets the sign that all of them give
+pub marked_there : (leaves : Bool) (es : List Entry) (s : Signed) (j : ℕ) (sign : Sign) → j < length s.states → ((e : Entry) → Contains es e → e.plane ≡ j → stop_sign leaves e.turned ≡ sign) → (x : Entry) → Contains es x → x.plane ≡ j
+    → (state_at (with_stop_signs leaves es s).states j).sign ≡ sign
+marked_there leaves [] s j sign lt all x c is = absurd (Contains-nothing x c)
+marked_there leaves (e ∷ es) s j sign lt all x c is = by (marked_there leaves es next j sign small (λ y cy. all y (Contains-later e es y cy))) (some_or es j)
+  where
+    next : Signed
+    next = with_plane_sign e.plane (stop_sign leaves e.turned) s
+
+    small : j < length next.states
+    small = subst (λ n. j < n) (sym (length-set s.states e.plane (with_sign (stop_sign leaves e.turned) (state_at s.states e.plane)))) lt
+
+    some_or : (es : List Entry) (j : ℕ) → ((x : Entry) × Contains es x × (x.plane ≡ j)) ⊎ ((x : Entry) → Contains es x → x.plane ≢ j)
+    some_or [] j = inr (λ x c e. Contains-nothing x c)
+    some_or (y ∷ ys) j = ⊎_elim {C = ((x : Entry) × Contains (y ∷ ys) x × (x.plane ≡ j)) ⊎ ((x : Entry) → Contains (y ∷ ys) x → x.plane ≢ j)} (λ e. inl (y, Contains-front y ys, e))
+        (λ ne. ⊎_elim {C = ((x : Entry) × Contains (y ∷ ys) x × (x.plane ≡ j)) ⊎ ((x : Entry) → Contains (y ∷ ys) x → x.plane ≢ j)} (λ h. inl (h.0, Contains-later y ys h.0 h.1, h.2))
+        (λ none. inr (λ x c e. ⊎_elim (λ q. ne (sym (ap (λ z. z.plane) q) ∙ e)) (λ l. none x l e) (Contains-cases y ys x c)))
+        (some_or ys j))
+        (same_or y.plane j)
+
+    first : ((x : Entry) → Contains es x → x.plane ≢ j) → (state_at (with_stop_signs leaves es next).states j).sign ≡ sign
+    first none =
+        let e_is : e.plane ≡ j = ⊎_elim (λ q. sym (ap (λ z. z.plane) q) ∙ is) (λ l. absurd (none x l is)) (Contains-cases e es x c) in
+        marked_other leaves es next j none
+        ∙ (ap (λ i. (state_at next.states i).sign) (sym e_is)
+        ∙ (sign_of_set s.states e.plane (stop_sign leaves e.turned) (subst (λ i. i < length s.states) (sym e_is) lt) ∙ all e (Contains-front e es) e_is))
+
+    by : ((x : Entry) → Contains es x → x.plane ≡ j → (state_at (with_stop_signs leaves es next).states j).sign ≡ sign) → ((x : Entry) × Contains es x × (x.plane ≡ j)) ⊎ ((x : Entry) → Contains es x → x.plane ≢ j) → (state_at (with_stop_signs leaves es next).states j).sign ≡ sign
+    by rest (inl (y, cy, ey)) = rest y cy ey
+    by rest (inr none) = first none
+
+-- ---- the first entry with a property
+
+pub first_after : (P : Entry → Type 0) (es : List Entry) (i : ℕ) (e : Entry) → slice_get es i ≡ Some e → ((x : Entry) → Contains (take i es) x → P x → ⊥) → P e → IsFirst P es e
+first_after P [] i e at none p = absurd (let lt = slice_get_within [] i e at in omega (arith, lt))
+first_after P (x ∷ es) zero e at none p = let q : x ≡ e = get_or_from_slice_get (x ∷ es) zero e e at in inl (sym q, subst P (sym q) p)
+first_after P (x ∷ es) (suc i) e at none p = inr (none x (Contains-front x (take i es)), first_after P es i e at (λ y c. none y (Contains-later x (take i es) y c)) p)

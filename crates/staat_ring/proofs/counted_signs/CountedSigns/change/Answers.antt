@@ -1,0 +1,19 @@
+use Rattle.staat_ring.proofs.SignLemmas.{step_room, step_signed, step_value}
+use Rattle.staat_ring.proofs.counted_signs.CountedSigns.change.Goals as goal
+
+pub gain_all-requires-clause-room : goal.gain_all-requires-clause-room
+gain_all-requires-clause-room c =
+    step_room c.args.self.now c.self.inside.states.items c.set_sign_at.new.states.items c.self.inside.counts c.lose_all.new.self c.args.k c.args.sign c.pairs_at.result.now c.pairs_at-2.result.now
+    c.self.view_is c.self.invariant c.requires c.pairs_at.ensures c.set_sign_at.ensures c.pairs_at-2.ensures c.lose_all.ensures.each
+
+pub invariant_of-self : goal.invariant_of-self
+invariant_of-self c =
+    step_signed c.args.self.now c.self.inside.states.items c.set_sign_at.new.states.items c.self.inside.counts c.lose_all.new.self c.args.k c.args.sign c.pairs_at.result.now c.pairs_at-2.result.now
+    c.self.view_is c.self.invariant c.requires c.pairs_at.ensures c.set_sign_at.ensures c.pairs_at-2.ensures c.lose_all.ensures.each
+    c.gain_all.new.self c.gain_all.ensures.each c.lose_all.ensures.length c.gain_all.ensures.length
+
+pub returns : goal.returns
+returns c =
+    step_value c.args.self.now c.self.inside.states.items c.set_sign_at.new.states.items c.self.inside.counts c.lose_all.new.self c.args.k c.args.sign c.pairs_at.result.now c.pairs_at-2.result.now
+    c.self.view_is c.self.invariant c.requires c.pairs_at.ensures c.set_sign_at.ensures c.pairs_at-2.ensures c.lose_all.ensures.each
+    c.gain_all.new.self c.gain_all.ensures.each c.lose_all.ensures.length c.gain_all.ensures.length

@@ -1,0 +1,5 @@
+use Rattle.staat_ring.specs.Index.{AreToldBelow}
+use Rattle.staat_ring.proofs.index.counted_signs.Given as goal
+
+abbrev pub invariant-loop-q : goal.invariant-loop-q
+invariant-loop-q l = AreToldBelow l.table l.signs l.q

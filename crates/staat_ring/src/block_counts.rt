@@ -1,0 +1,138 @@
+// How many pairs of pieces block for each ordered pair of parts, and the graph that shows where there are some.
+ghost use Rattle.std.specs.Prelude.{◌≡◌, ℕ, ◌+◌, ◌<◌, ◌^◌, ◌↔◌};
+ghost use Rattle.std.specs.Prelude.{◌⊎◌, IfOk, IsTrue};
+ghost use Rattle.std.specs.Prelude.{replicate, slice_index, slice_set, ◌-◌};
+ghost use Rattle.staat_model.specs.Sets.{IsNonempty};
+ghost use Rattle.staat_graph.specs.Graphs.{HasArc, IsStrong};
+ghost use Rattle.staat_ring.specs.BlockCounts.{HasBlock, IsGraphOf, part_pairs};
+ghost use Rattle.std.specs.Int.{bit_at};
+
+use staat_graph::{Graph, reach};
+use staat_limits::MOST_PARTS;
+use staat_model::PartSet;
+use staat_vec::OutOfMemory;
+use std::alloc::Global;
+use std::marker::Model;
+
+/// How many pairs of pieces block for each ordered pair of parts, seen as the list of these numbers: that of the part
+/// `a` against the part `b` stands at 32 a + b.
+///
+/// Beside them stand the words of the graph in which an arc stands exactly where the number is not 0, and those of the
+/// same graph with each arc turned round, so that arcs are found from either end.
+#[derive(Drop)]
+pub struct BlockCounts {
+    counts: Vec<u16>,
+    graph: Graph,
+    back: Graph,
+}
+
+impl Model for BlockCounts {
+    ghost use Rattle.std.specs.Prelude.{ℕ, List};
+    ghost use Rattle.staat_ring.specs.BlockCounts.{ShowsCounts};
+
+    ghost Value = { List ℕ };
+
+    ghost view = { λ b. b.counts.items };
+
+    ghost invariant = { λ b. ShowsCounts b.counts.items b.graph.rows b.back.rows };
+}
+
+// the word with the bit b set
+fn with_bit(word: u32, b: u32) -> u32
+    requires { b < MOST_PARTS }
+    ensures { (q : ℕ) → (bit_at result q ≡ 1) ↔ ((bit_at word q ≡ 1) ⊎ (q ≡ b)) }
+{
+    PartSet::from_bits(word).union(PartSet::single(b)).bits()
+}
+
+// the word with the bit b cleared
+fn without_bit(word: u32, b: u32) -> u32
+    requires { b < MOST_PARTS }
+    ensures { (q : ℕ) → (bit_at result q ≡ 1) ↔ ((bit_at word q ≡ 1) × (q ≡ b → ⊥)) }
+{
+    PartSet::from_bits(word).without(PartSet::single(b)).bits()
+}
+
+// puts an arc into the graph
+fn set_arc(rows: &mut [u32; 32], a: u32, b: u32)
+    requires from { a < MOST_PARTS }
+    requires to { b < MOST_PARTS }
+    ensures { (p q : ℕ) → HasArc rows.new p q ↔ (HasArc rows.old p q ⊎ ((p ≡ a) × (q ≡ b))) }
+{
+    rows[a as usize] = with_bit(rows[a as usize], b);
+}
+
+// takes it out
+fn clear_arc(rows: &mut [u32; 32], a: u32, b: u32)
+    requires from { a < MOST_PARTS }
+    requires to { b < MOST_PARTS }
+    ensures { (p q : ℕ) → HasArc rows.new p q ↔ (HasArc rows.old p q × ((p ≡ a) → (q ≡ b) → ⊥)) }
+{
+    rows[a as usize] = without_bit(rows[a as usize], b);
+}
+
+impl BlockCounts {
+    /// No pair blocks.
+    pub fn new(alloc: Global) -> Result<BlockCounts, OutOfMemory>
+        ensures { IfOk result (λ b. b ≡ replicate part_pairs 0) }
+    {
+        let counts = vec![in alloc; 0u16; 1024]?;
+        let graph = Graph { rows: [0; 32] };
+        let back = Graph { rows: [0; 32] };
+        Ok(BlockCounts {
+            counts,
+            graph,
+            back,
+        })
+    }
+
+    /// One more pair of pieces blocks for the parts whose number stands at `x`.
+    pub fn more(&mut self, x: u16)
+        requires place { x < part_pairs }
+        requires room { slice_index self.old x + 1 < 2 ^ 16 }
+        ensures { self.new ≡ slice_set self.old x (slice_index self.old x + 1) }
+    {
+        let count = self.counts[x as usize] + 1;
+        self.counts[x as usize] = count;
+        if count == 1 {
+            let (a, b) = (x as u32 / 32, x as u32 % 32);
+            set_arc(&mut self.graph.rows, a, b);
+            set_arc(&mut self.back.rows, b, a);
+        }
+    }
+
+    /// One less blocks.
+    pub fn less(&mut self, x: u16)
+        requires place { x < part_pairs }
+        requires some { 0 < slice_index self.old x }
+        ensures { self.new ≡ slice_set self.old x (slice_index self.old x - 1) }
+    {
+        let count = self.counts[x as usize] - 1;
+        self.counts[x as usize] = count;
+        if count == 0 {
+            let (a, b) = (x as u32 / 32, x as u32 % 32);
+            clear_arc(&mut self.graph.rows, a, b);
+            clear_arc(&mut self.back.rows, b, a);
+        }
+    }
+
+    /// The graph in which an arc stands where some pair of pieces blocks.
+    pub fn graph(&self) -> Graph
+        ensures { IsGraphOf (HasBlock self.now) result.rows }
+    {
+        self.graph
+    }
+
+    /// Whether each part of `w` reaches each other by a walk inside `w` along the arcs of the graph. `w` is not empty.
+    ///
+    /// What reaches a part is found in the turned graph, which is kept and not made anew.
+    pub fn is_strong(&self, w: PartSet) -> bool
+        requires { IsNonempty w }
+        ensures { IsTrue result ↔ IsStrong (HasBlock self.now) w }
+    {
+        // all members are below the number of bits
+        let _bits = w.bits();
+        let p = w.least();
+        w.within(reach(&self.graph, w, p)) && w.within(reach(&self.back, w, p))
+    }
+}

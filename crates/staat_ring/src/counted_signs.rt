@@ -1,0 +1,236 @@
+// The signs of the planes at a vertex, and the graph there.
+ghost use Rattle.std.specs.Prelude.{◌≡◌, ◌+◌, ◌<◌, ◌≤◌, ◌↔◌};
+ghost use Rattle.std.specs.Prelude.{IfOk, IsTrue, OnErr, OnOk, length, replicate, slice_set};
+ghost use Rattle.staat_model.specs.Sets.{IsNonempty};
+ghost use Rattle.staat_graph.specs.Graphs.{IsStrong};
+ghost use Rattle.staat_vec.specs.declared.vector.Sign.TheVariants.{Zero};
+ghost use Rattle.staat_ring.specs.BlockCounts.{IsGraphOf, part_pairs};
+ghost use Rattle.staat_ring.specs.Pairs.{fresh, no_pair, pair_at};
+ghost use Rattle.staat_ring.specs.CountedSigns.{HasBlockingPair, no_state, positive_pairs, positives, state_at};
+ghost use Rattle.staat_ring.specs.SignChanges.{uses, with_pair, with_plane_pair, with_plane_sign, with_sign};
+
+use crate::pairs::PairCounts;
+use staat_graph::Graph;
+use staat_model::PartSet;
+use staat_pairs::SLOTS;
+use staat_vec::{OutOfMemory, Sign};
+use std::alloc::Global;
+use std::marker::Model;
+
+/// A plane: its sign, the numbers of the ordered pairs of pieces of which its normal is a facet, and those of which
+/// the negative is. A number stands as often as the pair has the facet.
+#[derive(Drop)]
+pub struct PlaneState {
+    sign: Sign,
+    along: Vec<u16>,
+    against: Vec<u16>,
+}
+
+impl Model for PlaneState {
+    ghost use Rattle.staat_ring.specs.CountedSigns.{PlaneState};
+
+    ghost Value = { PlaneState };
+
+    ghost view = { λ s. record { sign = s.sign; along = s.along.items; against = s.against.items } };
+}
+
+impl PlaneState {
+    // the pairs whose facet on the plane is positive
+    fn positive_pairs(&self) -> &[u16]
+        ensures { result.now ≡ positive_pairs self.now }
+    {
+        match self.sign {
+            Sign::Neg => self.against.as_slice(),
+            Sign::Zero => &[],
+            Sign::Pos => self.along.as_slice(),
+        }
+    }
+
+    // whether the plane has the sign
+    fn has_sign(&self, sign: Sign) -> bool
+        ensures { IsTrue result ↔ (self.now.sign ≡ sign) }
+    {
+        self.sign == sign
+    }
+
+    // gives the plane another sign
+    fn set_sign(&mut self, sign: Sign)
+        ensures { self.new ≡ with_sign sign self.old }
+    {
+        self.sign = sign;
+    }
+}
+
+// the pairs whose facet on the plane k is positive
+fn pairs_at(states: &Vec<PlaneState>, k: u32) -> &[u16]
+    requires { k < length states.now.items }
+    ensures { result.now ≡ positive_pairs (state_at states.now.items k) }
+{
+    states[k as usize].positive_pairs()
+}
+
+// whether the plane k has the sign
+fn has_sign(states: &Vec<PlaneState>, k: u32, sign: Sign) -> bool
+    requires { k < length states.now.items }
+    ensures { IsTrue result ↔ ((state_at states.now.items k).sign ≡ sign) }
+{
+    states[k as usize].has_sign(sign)
+}
+
+// gives the plane k another sign
+fn set_sign_at(states: &mut Vec<PlaneState>, k: u32, sign: Sign)
+    requires { k < length states.old.items }
+    ensures { states.new.items ≡ slice_set states.old.items k (with_sign sign (state_at states.old.items k)) }
+{
+    states[k as usize].set_sign(sign);
+}
+
+/// The signs of planes, with the graph in which an arc stands where all facets of some pair of pieces are positive.
+///
+/// A facet is positive where its plane has the sign Pos, or Neg if it is the negative of the plane's normal. Seen are
+/// the planes, each with its sign and its pairs, and the pairs, each with its parts and the number of its facets.
+/// There are at most 4,096 numbers of ordered pairs of pieces. The counts and the graph follow from these, and are
+/// kept up to date: a sign that changes costs the pairs of its plane alone.
+#[derive(Drop)]
+pub struct CountedSigns {
+    states: Vec<PlaneState>,
+    counts: PairCounts,
+}
+
+impl Model for CountedSigns {
+    ghost use Rattle.std.specs.Prelude.{map};
+    ghost use Rattle.staat_ring.specs.CountedSigns.{Signed};
+    ghost use Rattle.staat_ring.specs.SignChanges.{AreSigned, emptied};
+
+    ghost Value = { Signed };
+
+    ghost view = { λ s. record { states = s.states.items; pairs = map emptied s.counts } };
+
+    ghost invariant = { λ s. AreSigned s.states.items s.counts };
+}
+
+// planes of the sign Zero through no facet
+fn empty_states(alloc: Global, count: u32) -> Result<Vec<PlaneState>, OutOfMemory>
+    ensures { IfOk result (λ v. v.items ≡ replicate count no_state) }
+{
+    let mut states = Vec::new(alloc);
+    for _k in 0..count {
+        states.push(PlaneState {
+            sign: Sign::Zero,
+            along: Vec::new(alloc),
+            against: Vec::new(alloc),
+        })?;
+    }
+    Ok(states)
+}
+
+impl PlaneState {
+    // one more pair has the normal as a facet, or its negative
+    fn push(&mut self, turned: bool, q: u16) -> Result<(), OutOfMemory>
+        ensures ok { OnOk result (self.new ≡ with_pair turned q self.old) }
+        ensures err { OnErr result (self.new ≡ self.old) }
+    {
+        if turned {
+            self.against.push(q)?;
+        } else {
+            self.along.push(q)?;
+        }
+        Ok(())
+    }
+}
+
+// the same of the plane k
+fn push_at(states: &mut Vec<PlaneState>, k: u32, turned: bool, q: u16) -> Result<(), OutOfMemory>
+    requires { k < length states.old.items }
+    ensures ok { OnOk result
+        (states.new.items ≡ slice_set states.old.items k (with_pair turned q (state_at states.old.items k))) }
+    ensures err { OnErr result (states.new.items ≡ states.old.items) }
+{
+    states[k as usize].push(turned, q)
+}
+
+impl CountedSigns {
+    /// So many planes of the sign Zero through no facet, and so many numbers that are no pairs.
+    pub fn new(alloc: Global, planes: u32, pairs: u32) -> Result<CountedSigns, OutOfMemory>
+        requires { pairs ≤ SLOTS }
+        ensures { IfOk result (λ s. s ≡ record {
+          states = replicate planes no_state;
+          pairs = replicate pairs no_pair;
+        }) }
+    {
+        let states = empty_states(alloc, planes)?;
+        let counts = PairCounts::new(alloc, pairs)?;
+        Ok(CountedSigns { states, counts })
+    }
+
+    /// One more facet of the pair `q` lies on the plane `k`: its normal, or the negative if `turned`. The plane has
+    /// the sign Zero.
+    pub fn push(&mut self, k: u32, turned: bool, q: u16) -> Result<(), OutOfMemory>
+        requires plane { k < length self.old.states }
+        requires zero { (state_at self.old.states k).sign ≡ Zero }
+        requires pair { q < length self.old.pairs }
+        requires room { uses q self.old.states + 1 < 65536 }
+        ensures { OnOk result (self.new ≡ with_plane_pair k turned q self.old) }
+    {
+        push_at(&mut self.states, k, turned, q)?;
+        Ok(())
+    }
+
+    /// Tells the place of the parts of a pair, 32 a + b for the parts `a` and `b`, and how many facets it has. Nothing
+    /// was told of the pair before, and none of its facets is positive.
+    pub fn want(&mut self, q: u16, wanted: u16, parts: u16)
+        requires place { q < length self.old.pairs }
+        requires fresh { pair_at self.old.pairs q ≡ no_pair }
+        requires none { positives q self.old.states ≡ 0 }
+        requires parts { parts < part_pairs }
+        ensures { self.new ≡ record {
+          states = self.old.states;
+          pairs = slice_set self.old.pairs q (fresh wanted parts);
+        } }
+    {
+        self.counts.want(q, wanted, parts);
+    }
+
+    // gives the plane another sign: a facet less of each pair in one list is positive, one more of each in the other
+    fn change(&mut self, k: u32, sign: Sign)
+        requires { k < length self.old.states }
+        ensures { self.new ≡ with_plane_sign k sign self.old }
+    {
+        self.counts.lose_all(pairs_at(&self.states, k));
+        set_sign_at(&mut self.states, k, sign);
+        self.counts.gain_all(pairs_at(&self.states, k));
+    }
+
+    /// Gives the plane `k` a sign. Where it has that sign, nothing is done.
+    pub fn set(&mut self, k: u32, sign: Sign)
+        requires { k < length self.old.states }
+        ensures { self.new ≡ with_plane_sign k sign self.old }
+    {
+        if !has_sign(&self.states, k, sign) {
+            self.change(k, sign);
+        }
+    }
+
+    /// Whether all facets of the pair `q` are positive.
+    pub fn is_full(&self, q: u16) -> bool
+        requires { q < length self.now.pairs }
+        ensures { IsTrue result ↔ ((pair_at self.now.pairs q).wanted ≤ positives q self.now.states) }
+    {
+        self.counts.is_full(q)
+    }
+
+    /// The graph in which an arc stands where all facets of some pair of pieces are positive.
+    pub fn graph(&self) -> Graph
+        ensures { IsGraphOf (HasBlockingPair self.now) result.rows }
+    {
+        self.counts.graph()
+    }
+
+    /// Whether each part of `w` reaches each other by a walk inside `w` along the arcs of the graph. `w` is not empty.
+    pub fn is_strong(&self, w: PartSet) -> bool
+        requires { IsNonempty w }
+        ensures { IsTrue result ↔ IsStrong (HasBlockingPair self.now) w }
+    {
+        self.counts.is_strong(w)
+    }
+}
