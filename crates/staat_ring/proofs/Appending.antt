@@ -19,6 +19,10 @@ second_write l x u i w k e lt = get_or-set_at (set l x u) i k w 0 e (let s = len
 abbrev two : Links → ℕ → ℕ → ℕ → Links
 two s h x i = record { next = set (set s.next x h) i x; prev = set (set s.prev x i) h x }
 
+pub apart_last : (x a : ℕ) (xs : List ℕ) → Apart x (a ∷ xs) → x ≢ last_of a xs
+apart_last x a [] h = λ e. h.0 (sym e)
+apart_last x a (y ∷ xs) h = apart_last x y xs h.1
+
 pub chain_grows : (s : Links) (h x i a : ℕ) (xs : List ℕ) → i ≡ last_of a xs → x ≢ i → x ≢ h → x < length s.next → x < length s.prev → i < length s.next → h < length s.prev
     → Distinct (a ∷ xs) → Apart h xs → Apart x (a ∷ xs) → Chain s a xs h → Chain (two s h x i) a (xs ++ x ∷ []) h
 chain_grows s h x i a [] ei xi xh ln lp li lh d ah ax c = (
@@ -39,10 +43,6 @@ chain_grows s h x i a (y ∷ xs) ei xi xh ln lp li lh d ah ax c = (
 pub prev_last : (s : Links) (h a : ℕ) (xs : List ℕ) → Chain s a xs h → get_or s.prev h 0 ≡ last_of a xs
 prev_last s h a [] c = c.1
 prev_last s h a (y ∷ xs) c = prev_last s h y xs c.1.1
-
-pub apart_last : (x a : ℕ) (xs : List ℕ) → Apart x (a ∷ xs) → x ≢ last_of a xs
-apart_last x a [] h = λ e. h.0 (sym e)
-apart_last x a (y ∷ xs) h = apart_last x y xs h.1
 
 -- the ring has x at its end
 pub ring-append : (s : Links) (h x : ℕ) (xs : List ℕ) → x < length s.next → x < length s.prev → get_or s.prev h 0 < length s.next → h < length s.prev
