@@ -3,14 +3,16 @@
 A link has to lead to a file of the repository, and its `#head` to a heading of that page. A path that a page names in
 its text, as docs/TRUST.md or crates/staat_top/src/top.rt, has to be there too; those with a placeholder in capitals or
 a star, and what is built in `out` folders, are passed over. Where a page says that a name stands in a file of code, as
-`staat` in crates/staat_top/src/top.rt, that file has to declare it.
+`staat` in crates/staat_top/src/top.rt, that file has to declare it. Below a heading that names crates, as
+docs/DEFINITIONS.md has them, each word that a table explains has to stand in the definitions or the code of one.
 """
 
 from __future__ import annotations
 
+import functools
 import re
 import sys
-from collections.abc import Iterator
+from collections.abc import Collection, Iterator
 from pathlib import Path
 
 import pages
@@ -22,6 +24,9 @@ _PATH = re.compile(
     r"(?<![\w./-])(?:bench|bin|crates|docs|examples|gallery|tests|tools|workbench)/[\w./*-]*\w"
 )
 _NAME = re.compile(r"`(?:\w+::)*(\w+)`\s+in\s+(crates/\w+/src/\w+\.rt)")
+_CRATE = re.compile(r"`(staat_\w+)`")
+_QUOTED = re.compile(r"`([^\s`]+)[^`]*`")
+_WORD = re.compile(r"[^\s(){}\[\],;.:`|]+")
 _PASSED_OVER = re.compile(r"\*|\b[A-Z]{3,}\b(?!\.md)|/out\b")
 
 
@@ -58,6 +63,32 @@ def names_of(text: str) -> Iterator[tuple[int, str, str]]:
         yield text.count("\n", 0, found.start()) + 1, found[1], found[2]
 
 
+def words_of(text: str) -> Iterator[tuple[int, str, list[str]]]:
+    """The words that tables explain below a heading that names crates, with the number of the line and the crates."""
+    crates: list[str] = []
+    for number, line in enumerate(text.split("\n"), 1):
+        if line.startswith("#"):
+            crates = _CRATE.findall(line)
+        elif crates and line.startswith("| `"):
+            for word in _QUOTED.findall(line.split(" | ")[0]):
+                yield number, word, crates
+
+
+@functools.cache
+def spoken_in(crate: str) -> frozenset[str]:
+    """All words of a crate's definitions and code."""
+    folder = scratch.TOP / "crates" / crate
+    files = [*folder.glob("specs/*.antt"), *folder.glob("src/*.rt")]
+    return frozenset(
+        word for file in files for word in _WORD.findall(file.read_text(encoding="utf-8"))
+    )
+
+
+def is_spoken(word: str, crates: Collection[str]) -> bool:
+    """Whether a word stands in the definitions or the code of one of the crates."""
+    return any(word in spoken_in(crate) for crate in crates)
+
+
 def declares(code: str, name: str) -> bool:
     """Whether a text of code declares a function, a type or a constant of this name."""
     return re.search(rf"\b(?:fn|struct|enum|trait|const|type)\s+{name}\b", code) is not None
@@ -82,6 +113,9 @@ def seen(page: Path) -> Iterator[tuple[int, str]]:
         code = scratch.TOP / file
         is_right = code.is_file() and declares(code.read_text(encoding="utf-8"), name)
         yield number, "" if is_right else f"{file} declares no {name}"
+    for number, word, crates in words_of(text):
+        is_right = is_spoken(word, crates)
+        yield number, "" if is_right else f"no {word} stands in {', '.join(crates)}"
 
 
 def main() -> int:

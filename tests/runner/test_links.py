@@ -34,6 +34,15 @@ class Tests(unittest.TestCase):
         self.assertTrue(links.declares("    pub fn weigh(&self) -> u32", "weigh"))
         self.assertFalse(links.declares("fn weighed() { weigh() }", "weigh"))
 
+    def test_words(self) -> None:
+        head = "## Sets (`staat_a`: `Sets`; `staat_b`)\n\n| Word | Meaning |\n"
+        text = head + "| `Has s p`, `Lacks s p` | it is there |\n"
+        wanted = [(4, "Has", ["staat_a", "staat_b"]), (4, "Lacks", ["staat_a", "staat_b"])]
+        self.assertEqual(list(links.words_of(text)), wanted)
+        self.assertEqual(list(links.words_of("## Words\n| `Has` | it is there |\n")), [])
+        self.assertTrue(links.is_spoken("IsGood", ["staat_model"]))
+        self.assertFalse(links.is_spoken("IsGoodAndDry", ["staat_model", "staat_vec"]))
+
     def test_where_links_lead(self) -> None:
         with tempfile.TemporaryDirectory() as room:
             page = Path(room, "page.md")
