@@ -112,7 +112,8 @@ back_order true false f = omega arith
 back_order false false f = omega arith
 
 pub labels_count : (way : Way) (marks : List Bool) → length (map (label_of way) marks) ≡ length marks
-labels_count = labels_count
+labels_count way [] = refl
+labels_count way (x ∷ xs) = ap suc (labels_count way xs)
 
 pub keeps_order_by : (way : Way) (rows : List (List Bool)) (marks : List Bool) → IsClosedAlong way rows marks → KeepsOrder rows (map (label_of way) marks)
 keeps_order_by way rows marks closed i i_lt j j_lt arc =
