@@ -36,7 +36,7 @@ _LAMBDA = re.compile(r"λ((?:\s+[^\s.(){}]+)+)\.")
 
 @dataclass(frozen=True)
 class Statement:
-    """A statement with where it stands, its name, what it says (words with their modules), and the lines of its proof."""
+    """A statement: where it stands, its name, what it says (words with their modules), and the lines of its proof."""
 
     path: pathlib.Path
     line: int
