@@ -10,7 +10,6 @@ from __future__ import annotations
 
 import os
 import pathlib
-import resource
 import subprocess
 import sys
 import threading
@@ -23,12 +22,6 @@ import times
 
 BUILT = steps.TOP / "crates" / "staat_cli" / "out" / "staat_cli"
 STORED = steps.TOP / "bin" / "staat"  # the program that comes with the repository
-
-
-def _used() -> float:
-    """The processor seconds of all commands that ended."""
-    usage = resource.getrusage(resource.RUSAGE_CHILDREN)
-    return usage.ru_utime + usage.ru_stime
 
 
 def is_of_these_sources() -> bool:
@@ -52,7 +45,7 @@ def find_program() -> pathlib.Path | None:
 
 def prove() -> tuple[steps.Result, list[str]]:
     """Runs `rt ci`, printing what it prints, and answers its result and the table of its times."""
-    began, used = time.monotonic(), _used()
+    began = time.monotonic()
     lines: list[str] = []
     with subprocess.Popen(
         ["rt", "ci"],
@@ -70,12 +63,14 @@ def prove() -> tuple[steps.Result, list[str]]:
         for line in process.stdout:
             print(line, end="", flush=True)
             lines.append(line)
-        status = process.wait()
+        _, ended, usage = os.wait4(process.pid, 0)
+        status = process.returncode = os.waitstatus_to_exitcode(ended)
         sampler.end()
         looking.join()
     passed, failed = steps.counts("".join(lines[-1:]), status)
     result = steps.Result("proofs", passed, failed, time.monotonic() - began, "")
-    return result, times.table(sampler.seconds(), _used() - used)
+    table = times.table(sampler.seconds(), usage.ru_utime + usage.ru_stime)
+    return result, table + times.dearest(sampler.edits(), steps.TOP)
 
 
 def run_steps(
@@ -101,14 +96,15 @@ def main(words: list[str]) -> int:
         return 2
     chosen = steps.chosen(names, is_quick)
     wanted = {need for step in chosen for need in step.needs} | (set() if is_quick else {"rt"})
-    missing = needs.provide(wanted)
     results: list[steps.Result] = []
     table: list[str] = []
-    if not is_quick:
-        proofs, table = (
-            prove() if "rt" not in missing else (steps.Result("proofs", 0, 1, 0, ""), [])
-        )
-        results.append(proofs)
+    with ThreadPoolExecutor(1) as pool:  # what the proofs do not need is installed beside them
+        providing = pool.submit(needs.provide, wanted)
+        if not is_quick:
+            lacks_rt = needs.missing(["rt"])
+            proofs, table = (steps.Result("proofs", 0, 1, 0, ""), []) if lacks_rt else prove()
+            results.append(proofs)
+        missing = providing.result()
     program = find_program() if is_quick else (BUILT if BUILT.exists() else None)
     if is_quick and program == BUILT and steps.is_older(BUILT):
         print(

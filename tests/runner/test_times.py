@@ -76,6 +76,30 @@ class Tests(unittest.TestCase):
         self.sampler.look()
         self.assertEqual(self.sampler.seconds(), {("staat_cone", "proofs"): 4.0})
 
+    def test_edits(self) -> None:
+        rattle = "rattle check --crate-name"
+        self.put(101, TOP, 900, f"{rattle} staat_top src/lib.rt", "/tmp/rt-edit-1", start=8)
+        self.put(99, TOP, 400, f"{rattle} staat_top src/lib.rt", "/tmp/rt-edit-2", start=9)
+        self.put(105, TOP, 100, f"{rattle} staat_top src/lib.rt", "/tmp/rt-edit-3", start=10)
+        self.put(102, TOP, 500, f"{rattle} staat_cone src/lib.rt", "/tmp/rt-edit-4", start=7)
+        self.put(103, TOP, 600, f"{rattle} staat_cone src/lib.rt", "/repository", start=7)
+        self.sampler.look()
+        edits = self.sampler.edits()
+        self.assertEqual(edits, {"staat_top": [9.0, 4.0, 1.0], "staat_cone": [5.0]})
+        for name in (
+            "staat_top/must-fail/second",
+            "staat_top/must-fail/first",
+            "staat_cone/must-fail/one",
+        ):
+            file = self.proc / "crates" / f"{name}.edit"
+            file.parent.mkdir(parents=True, exist_ok=True)
+            file.touch()
+        self.assertEqual(
+            times.dearest(edits, self.proc),
+            ["dearest wrong bodies, seconds: staat_cone/one 5, staat_top/second 4"],
+        )
+        self.assertEqual(times.dearest({}, self.proc), [])
+
     def test_table(self) -> None:
         seconds = {
             ("staat_cone", "proofs"): 60.0,

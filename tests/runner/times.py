@@ -17,6 +17,7 @@ KINDS = ("proofs", "tests", "edits")
 
 _PROCESS = "rattle"
 _SLOWEST = 5  # how many are named as the slowest
+_DEAREST = 12  # how many wrong bodies are named as the dearest
 
 
 @dataclass(frozen=True)
@@ -114,6 +115,38 @@ class Sampler:
         for seen in self._seen.values():
             sums[seen.crate, seen.kind] += seen.seconds
         return dict(sums)
+
+    def edits(self) -> dict[str, list[float]]:
+        """The processor seconds of each check of a wrong body, by crate, in the order in which they began."""
+        found: dict[str, list[float]] = collections.defaultdict(list)
+        for (process, start), seen in sorted(
+            self._seen.items(), key=lambda it: (it[0][1], it[0][0])
+        ):
+            if seen.kind == "edits":
+                found[seen.crate].append(seen.seconds)
+        return dict(found)
+
+
+def names_of_edits(top: pathlib.Path, crate: str) -> list[str]:
+    """The names of a crate's wrong bodies, in the order in which `rt ci` tries them."""
+    return sorted(it.stem for it in (top / "crates" / crate / "must-fail").glob("*.edit"))
+
+
+def dearest(edits: dict[str, list[float]], top: pathlib.Path) -> list[str]:
+    """A line that names the dearest wrong bodies, with their processor seconds.
+
+    Over the check of the first of several, `rt ci` keeps the proof of the whole crate for the others: it is not named.
+    A check behind that of the last, which tries the crate without any, is not named either.
+    """
+    tried = [
+        (seconds, f"{crate}/{name}")
+        for crate, taken in edits.items()
+        for name, seconds in list(zip(names_of_edits(top, crate), taken))[len(taken) > 1 :]
+    ]
+    told = ", ".join(
+        f"{name} {seconds:.0f}" for seconds, name in sorted(tried)[: -_DEAREST - 1 : -1]
+    )
+    return [f"dearest wrong bodies, seconds: {told}"] if told else []
 
 
 def table(seconds: dict[tuple[str, str], float], total: float) -> list[str]:
