@@ -10,6 +10,7 @@ from __future__ import annotations
 
 import os
 import pathlib
+import re
 import subprocess
 import sys
 import threading
@@ -22,6 +23,7 @@ import times
 
 BUILT = steps.TOP / "crates" / "staat_cli" / "out" / "staat_cli"
 STORED = steps.TOP / "bin" / "staat"  # the program that comes with the repository
+MEMORY = 3 << 30  # bytes that a check of `rt ci` may take; it was seen to take from 0.5 to 2 GB
 
 
 def is_of_these_sources() -> bool:
@@ -43,6 +45,18 @@ def find_program() -> pathlib.Path | None:
     return STORED if STORED.exists() and is_of_these_sources() else None
 
 
+def lanes() -> int:
+    """How many checks `rt ci` runs side by side: one for each processor, as far as the free memory goes.
+
+    Left to itself it would keep processors idle, since it thinks that a check of a high crate takes 6 GB, and give a
+    crate beside which no other is ready four jobs, which take twice the processor time of one.
+    """
+    processors = len(os.sched_getaffinity(0))
+    told = pathlib.Path("/proc/meminfo").read_text(encoding="ascii")
+    free = re.search(r"MemAvailable:\s+(\d+) kB", told)
+    return max(1, min(processors, 1024 * int(free.group(1)) // MEMORY if free else processors))
+
+
 def prove() -> tuple[steps.Result, list[str]]:
     """Runs `rt ci`, printing what it prints, and answers its result and the table of its times."""
     began = time.monotonic()
@@ -50,6 +64,7 @@ def prove() -> tuple[steps.Result, list[str]]:
     with subprocess.Popen(
         ["rt", "ci"],
         cwd=steps.TOP,
+        env={"RT_JOBS": str(lanes()), **os.environ},
         stdin=subprocess.DEVNULL,
         stdout=subprocess.PIPE,
         stderr=subprocess.STDOUT,
