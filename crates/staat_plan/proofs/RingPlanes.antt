@@ -14,7 +14,7 @@ use Rattle.staat_model.specs.Planes.{ArePlanes, IsFacetPlane, axes}
 use Rattle.staat_model.specs.Sets.{IsSubset}
 use Rattle.staat_pairs.specs.Tables.{Table, WasMadeFrom}
 use Rattle.staat_planes.specs.Tables.{IsPlaneOf}
-use Rattle.staat_ring.specs.Rings.{plane_at}
+use Rattle.staat_planes.specs.PairOrder.{plane_at}
 use Rattle.staat_vec.proofs.Naturals.{add_three_back}
 use Rattle.staat_vec.proofs.VectorLists.{sorted_places, picked_sorted}
 use Rattle.staat_vec.proofs.Comparisons.{sorted_begins}

@@ -26,7 +26,8 @@ use Rattle.staat_plan.proofs.LineLemmas.{kept}
 use Rattle.staat_ring.specs.declared.entry.Entry.{Entry}
 use Rattle.staat_ring.specs.Belonging.{HasAll}
 use Rattle.staat_ring.specs.Places.{IsStopAt}
-use Rattle.staat_ring.specs.Rings.{AreRings, IsRingOf, Ring, RingStop, crossing, facet_by, linked_of, plane_at, vertex_of}
+use Rattle.staat_ring.specs.Rings.{AreRings, IsRingOf, Ring, RingStop, crossing, facet_by, linked_of, vertex_of}
+use Rattle.staat_planes.specs.PairOrder.{plane_at}
 use Rattle.staat_ring.specs.Walked.{IsEntered, Walked}
 use Rattle.staat_ring.proofs.Covered.{entry_there}
 use Rattle.staat_ring.proofs.StopLemmas.{one_stop, vertex_first}

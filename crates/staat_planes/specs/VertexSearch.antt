@@ -13,8 +13,8 @@ use Rattle.staat_planes.specs.declared.search.Tried.TheVariants.{Neither, Ahead,
 -- ---- the first that serves
 
 -- none of the directions serves
-abbrev pub NoneServes : (V3 → Type 0) → List V3 → Type 0
-NoneServes serves vs = All (λ v. serves v → ⊥) vs
+abbrev pub NoDirectionServes : (V3 → Type 0) → List V3 → Type 0
+NoDirectionServes serves vs = All (λ v. serves v → ⊥) vs
 
 -- the first of the directions that serves, with what is found there
 pub record IsFirstServed {F : Type 0} (serves : V3 → Type 0) (finds : V3 → F → Type 0) (vs : List V3)
@@ -25,13 +25,13 @@ pub record IsFirstServed {F : Type 0} (serves : V3 → Type 0) (finds : V3 → F
 -- the same, or none where none of the directions serves
 abbrev pub IsFirstIfAny : {F : Type 0} → (V3 → Type 0) → (V3 → F → Type 0) → List V3
     → Option (Served F) → Type 0
-IsFirstIfAny serves finds vs result = MatchOption result (NoneServes serves vs) (IsFirstServed serves finds vs)
+IsFirstIfAny serves finds vs result = MatchOption result (NoDirectionServes serves vs) (IsFirstServed serves finds vs)
 
 -- the same of a search that may end undecided, and what is so then
 abbrev pub IsFirstUnless : {F : Type 0} → (undecided : Type 0) → (V3 → Type 0) → (V3 → F → Type 0)
     → List V3 → Search F → Type 0
 IsFirstUnless undecided serves finds vs (First s) = IsFirstServed serves finds vs s
-IsFirstUnless undecided serves finds vs Nothing = NoneServes serves vs
+IsFirstUnless undecided serves finds vs Nothing = NoDirectionServes serves vs
 IsFirstUnless undecided serves finds vs Undecided = undecided
 
 -- the same of a direction and its opposite
@@ -46,7 +46,7 @@ IsFirstOfTwo serves finds d (Opposite f) = (serves d → ⊥) × serves (negativ
 pub record ArePassed (serves : V3 → Type 0) (vs left : List V3) : Type 0 where
   pub before : List V3
   pub is : vs ≡ before ++ left
-  pub none : NoneServes serves before
+  pub none : NoDirectionServes serves before
 
 -- those before them are the crossings of so many pairs of planes, two of each
 abbrev pub ArePairsPassed : (V3 → Type 0) → (vs left : List V3) → (pairs : ℕ) → Type 0

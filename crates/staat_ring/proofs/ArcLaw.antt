@@ -30,7 +30,8 @@ use Rattle.staat_ring.specs.Pairs.{occurs, pair_at}
 use Rattle.staat_ring.specs.CountedSigns.{HasBlockingPair, IsBlockingPair, PlaneState, Signed, no_state, pairs_by, positive_pairs, positives, state_at}
 use Rattle.staat_ring.specs.Belonging.{BelongTo, HasAll, HoldSigns, IsCountedAt, IsPairIndexed, IsPairOf, IsUnused, PlaneFacet, facet_at, positive_at}
 use Rattle.staat_ring.proofs.SumsBelow.{is_positive, hits, sum_by-total, total-hits, total-same, total-zero}
-use Rattle.staat_ring.specs.Rings.{facet_by, plane_at}
+use Rattle.staat_ring.specs.Rings.{facet_by}
+use Rattle.staat_planes.specs.PairOrder.{plane_at}
 use Rattle.staat_ring.proofs.PairLemmas.{one}
 use Rattle.staat_ring.proofs.Strength.{strong_same}
 use Rattle.staat_vec.proofs.Truth.{and_false}

@@ -21,7 +21,8 @@ use Rattle.staat_ring.specs.Links.{Arrays}
 use Rattle.staat_ring.specs.Linking.{AreLinkedBelow, CanBeLinked, HasCircle}
 use Rattle.staat_ring.specs.Numbered.{head_number, node_number, entry_number, plane_of, entry_numbered}
 use Rattle.staat_ring.specs.Planes.{entries_of, entries_on}
-use Rattle.staat_ring.specs.Rings.{AreRings, IsRingOf, Ring, RingStop, WereMadeFrom, linked_of, plane_at, stop_of, vertex_of}
+use Rattle.staat_ring.specs.Rings.{AreRings, IsRingOf, Ring, RingStop, WereMadeFrom, linked_of, stop_of, vertex_of}
+use Rattle.staat_planes.specs.PairOrder.{plane_at}
 use Rattle.staat_ring.specs.RingInvariant.{HaveTakenOut}
 use Rattle.staat_ring.specs.RingViews.{StandForCircles, CanBeUndone, arrangement_of, numbers_below, is_out, ring_of, rings_of, shape, still_linked}
 use Rattle.staat_ring.specs.Stands.{AllPresent, IsPresent, IsRing, StandFor, Tagged, home_of, is_empty}

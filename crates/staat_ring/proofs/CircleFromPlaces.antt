@@ -22,7 +22,8 @@ use Rattle.staat_ring.specs.Builds.{AreFilled, IsFromPlane, IsHalfCircle, AreThr
 use Rattle.staat_ring.specs.Order.{normal_at}
 use Rattle.staat_ring.specs.Rings.{IsRingOf, RingStop, crossing, stop_of, vertex_of}
 use Rattle.staat_ring.proofs.Turns.{IsHalf, Rises, whole_circle, turn}
-use Rattle.staat_ring.specs.Rings.{facet_by, plane_at}
+use Rattle.staat_ring.specs.Rings.{facet_by}
+use Rattle.staat_planes.specs.PairOrder.{plane_at}
 use Rattle.staat_ring.proofs.NextOnHalfCircle.{around_closed, at_contains}
 use Rattle.staat_ring.proofs.Content.{content_divides}
 use Rattle.staat_ring.proofs.Deciding.{order_is}

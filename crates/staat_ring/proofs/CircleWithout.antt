@@ -16,7 +16,8 @@ use Rattle.staat_ring.specs.declared.entry.Entry.{Entry}
 use Rattle.staat_ring.specs.Rings.{IsRingOf, Ring, RingStop, crossing, stop_of, vertex_of}
 use Rattle.staat_ring.proofs.Stops.{AreLinkedApart, stop_there}
 use Rattle.staat_ring.proofs.Turns.{turn}
-use Rattle.staat_ring.specs.Rings.{facet_by, plane_at}
+use Rattle.staat_ring.specs.Rings.{facet_by}
+use Rattle.staat_planes.specs.PairOrder.{plane_at}
 use Rattle.staat_ring.specs.Without.{stays}
 use Rattle.staat_ring.proofs.Cycles.{Around, around_filter}
 use Rattle.staat_ring.proofs.Sides.{whole}

@@ -13,7 +13,8 @@ use Rattle.staat_model.specs.Circles.{IsLinked, PassesThrough}
 use Rattle.staat_ring.specs.declared.entry.Entry.{Entry}
 use Rattle.staat_ring.specs.Rings.{IsRingOf, Ring, RingStop, crossing, stop_of, vertex_of}
 use Rattle.staat_ring.proofs.Stops.{AreLinkedApart}
-use Rattle.staat_ring.specs.Rings.{facet_by, plane_at}
+use Rattle.staat_ring.specs.Rings.{facet_by}
+use Rattle.staat_planes.specs.PairOrder.{plane_at}
 use Rattle.staat_ring.proofs.Steps.{negative_on, primitive_on}
 use Rattle.staat_vec.proofs.ListLaws.{place_of, Contains-map, Contains-from_map}
 

@@ -18,9 +18,10 @@ use Rattle.staat_ring.proofs.StepSigns.{StepSigns}
 use Rattle.staat_ring.proofs.Stops.{AreLinkedApart, stop_there}
 use Rattle.staat_ring.proofs.Turns.{turn}
 use Rattle.staat_ring.specs.Belonging.{HoldSigns}
-use Rattle.staat_ring.specs.Rings.{facet_by, plane_at}
+use Rattle.staat_ring.specs.Rings.{facet_by}
+use Rattle.staat_planes.specs.PairOrder.{plane_at}
 use Rattle.staat_ring.proofs.Leaving.{leaves_negative, leaves_positive}
-use Rattle.staat_ring.proofs.StopSigns.{marked_other, marked_same, marked_there}
+use Rattle.staat_ring.proofs.StopSigns.{stop_signs_other, stop_signs_same, stop_signs_there}
 use Rattle.staat_ring.proofs.StepLaw.{step_signs}
 use Rattle.staat_ring.proofs.Steps.{on_plane}
 use Rattle.staat_vec.proofs.VectorLaws.{cross_origin, some_square}
@@ -123,25 +124,25 @@ module _ (planes : List V3) (linked : List ℕ) (r : Ring) (apart : AreLinkedApa
         lt = subst (λ n. j < n) (sym size) (slice_get_within planes j h hi.is)
 
         lt_between : j < length between.states
-        lt_between = subst (λ n. j < n) (sym (marked_same true s.entries now).size) lt
+        lt_between = subst (λ n. j < n) (sym (stop_signs_same true s.entries now).size) lt
 
         reached : Contains T.through j → (state_at after.states j).sign ≡ sign (dot h T.vertex)
         reached cj =
             let m = Contains-from_map (λ e. e.plane) t.entries j cj in
-            marked_there false t.entries between j Zero lt_between (λ e ce q. refl) m.0 m.1 m.2 ∙ sym (step.reached j h hi cj)
+            stop_signs_there false t.entries between j Zero lt_between (λ e ce q. refl) m.0 m.1 m.2 ∙ sym (step.reached j h hi cj)
 
         not_reached : (Contains T.through j → ⊥) → (state_at after.states j).sign ≡ (state_at between.states j).sign
-        not_reached none = marked_other false t.entries between j (λ e ce q. none (subst (Contains T.through) q (Contains-map (λ e. e.plane) t.entries e ce)))
+        not_reached none = stop_signs_other false t.entries between j (λ e ce q. none (subst (Contains T.through) q (Contains-map (λ e. e.plane) t.entries e ce)))
 
         left : (Contains T.through j → ⊥) → Contains S.through j → (state_at after.states j).sign ≡ sign (dot h T.vertex)
         left none cj =
             let m = Contains-from_map (λ e. e.plane) s.entries j cj in
-            not_reached none ∙ marked_there true s.entries now j (sign (dot h T.vertex)) lt
+            not_reached none ∙ stop_signs_there true s.entries now j (sign (dot h T.vertex)) lt
             (λ e ce q. leads s t k ((k + 1) % length r.stops) ks kt next h e ce (subst (λ i. IsLinked planes linked i h) (sym q) hi) (other_planes s k ks e ce)) m.0 m.1 m.2
 
         neither : (Contains T.through j → ⊥) → (Contains S.through j → ⊥) → (state_at after.states j).sign ≡ sign (dot h T.vertex)
         neither nt ns =
-            not_reached nt ∙ (marked_other true s.entries now j (λ e ce q. ns (subst (Contains S.through) q (Contains-map (λ e. e.plane) s.entries e ce)))
+            not_reached nt ∙ (stop_signs_other true s.entries now j (λ e ce q. ns (subst (Contains S.through) q (Contains-map (λ e. e.plane) s.entries e ce)))
             ∙ (holds j h hi ∙ ⊎_elim {C = sign (dot h S.vertex) ≡ sign (dot h T.vertex)}
             (λ e.
             let same : h ≡ g = same_Some h g (sym hi.is ∙ (ap (slice_get planes) e ∙ is.circle.g_is.is)) in

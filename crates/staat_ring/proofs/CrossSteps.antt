@@ -10,7 +10,7 @@ use Rattle.staat_ring.specs.Rings.{AreRings, Ring, RingStop, crossing, linked_of
 use Rattle.staat_ring.specs.CountedSigns.{Signed}
 use Rattle.staat_ring.specs.Walked.{IsEntered, Walked}
 use Rattle.staat_ring.specs.Belonging.{BelongTo, HoldSigns}
-use Rattle.staat_ring.proofs.StopSigns.{belong_same, marked_same}
+use Rattle.staat_ring.proofs.StopSigns.{belong_same, stop_signs_same}
 use Rattle.staat_ring.proofs.StopLemmas.{circle_small, entry_other, entry_small, few, next_at, next_signs, some, vertex_first}
 use Rattle.staat_vec.proofs.Unique.{from_place}
 
@@ -53,7 +53,7 @@ module _ (t : Table) (rules : IsTable t) (rings : List Ring) (out : List ℕ) (a
     mid_is = left w.place here.stop here.at here.node
 
     mid_size : length mid.states ≡ length t.planes
-    mid_size = ap (λ s. length s.states) mid_is ∙ ((marked_same true here.stop.entries w.signs).size ∙ made_here.states)
+    mid_size = ap (λ s. length s.states) mid_is ∙ ((stop_signs_same true here.stop.entries w.signs).size ∙ made_here.states)
 
     pub second_few : (m : ℕ) (q : RingStop) → IsStopAt rings w.circle m q → q.node ≡ node → (length q.entries ≤ length t.planes) × All (λ e. e.plane < length mid.states) q.entries
     second_few m q at is = few_for mid mid_size m q at
@@ -80,8 +80,8 @@ module _ (t : Table) (rules : IsTable t) (rings : List Ring) (out : List ℕ) (a
 
         pub made_end : BelongTo t end
         made_end = subst (BelongTo t) (sym end_is)
-            (belong_same t (with_stop_signs true here.stop.entries w.signs) (with_stop_signs false reached.entries (with_stop_signs true here.stop.entries w.signs)) (marked_same false reached.entries (with_stop_signs true here.stop.entries w.signs))
-            (belong_same t w.signs (with_stop_signs true here.stop.entries w.signs) (marked_same true here.stop.entries w.signs) made_here))
+            (belong_same t (with_stop_signs true here.stop.entries w.signs) (with_stop_signs false reached.entries (with_stop_signs true here.stop.entries w.signs)) (stop_signs_same false reached.entries (with_stop_signs true here.stop.entries w.signs))
+            (belong_same t w.signs (with_stop_signs true here.stop.entries w.signs) (stop_signs_same true here.stop.entries w.signs) made_here))
 
         pub entered_end : IsEntered t.planes rings (record { signs = end; crossed = crossed; circle = w.circle; place = place; node = node; vertex = stand })
         entered_end = record {

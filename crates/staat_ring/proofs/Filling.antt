@@ -20,7 +20,8 @@ use Rattle.staat_ring.specs.Builds.{AreFilled, IsHalfCircle, IsPlaceOf, AreThrou
 use Rattle.staat_ring.specs.Order.{normal_at}
 use Rattle.staat_ring.specs.Rings.{crossing}
 use Rattle.staat_ring.proofs.Turns.{turn}
-use Rattle.staat_ring.specs.Rings.{facet_by, plane_at}
+use Rattle.staat_ring.specs.Rings.{facet_by}
+use Rattle.staat_planes.specs.PairOrder.{plane_at}
 use Rattle.staat_ring.proofs.CircleFromPlaces.{not_flat, positive_by, ray_negative}
 use Rattle.staat_ring.proofs.Deciding.{order_is}
 use Rattle.staat_ring.proofs.HalfCircleFromAxis.{det_facet, facet_det}

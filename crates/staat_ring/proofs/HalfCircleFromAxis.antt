@@ -17,7 +17,8 @@ use Rattle.staat_model.specs.Planes.{axes}
 use Rattle.staat_pairs.specs.Tables.{AreTablePlanes, IsPlaneNormal}
 use Rattle.staat_ring.specs.Builds.{AreTurnedAhead, IsAheadOf, IsFromPlane, IsHalfCircle, IsCrossedAt, IsPut, IsPutIn}
 use Rattle.staat_ring.specs.Order.{HasRay, IsHalfOf, normal_at}
-use Rattle.staat_ring.specs.Rings.{facet_by, plane_at}
+use Rattle.staat_ring.specs.Rings.{facet_by}
+use Rattle.staat_planes.specs.PairOrder.{plane_at}
 use Rattle.staat_vec.proofs.Integers.{zero_from_opposite, positive_not_zero}
 use Rattle.staat_vec.proofs.ListLaws.{only_one}
 use Rattle.staat_vec.proofs.Naturals.{same_or}

@@ -11,7 +11,7 @@ use Rattle.staat_model.specs.declared.set.PartSet.{PartSet}
 use Rattle.staat_pairs.specs.Tables.{AreTablePlanes}
 use Rattle.staat_ring.specs.Laws.{AreOtherPlanes, AreRelinked, AreRingsOfSet, AreUnlinked, HasNoAxis}
 use Rattle.staat_ring.specs.Rings.{AreRings, Arrangement, UnlinkedPlane, Ring, WereMadeFrom, linked_of, unlinked_of}
-use Rattle.staat_ring.specs.Without.{IsRelinked, IsUnlinked, kept_plane, rings_without}
+use Rattle.staat_ring.specs.Without.{IsRelinked, IsUnlinked, unlinked_plane, rings_without}
 use Rattle.staat_ring.proofs.RingsWithout.{linked_without, rings_stay}
 use Rattle.staat_ring.proofs.WithoutLemmas.{filter_from}
 use Rattle.staat_vec.proofs.Naturals.{apart_from_test}
@@ -45,21 +45,21 @@ at_end (y ∷ us) u = let r = at_end us u in (r.0, ap (λ xs. y ∷ xs) r.1)
 pub unlinked_made : (planes : List V3) (p : ℕ) (a b : Arrangement) → AreTablePlanes planes → 3 ≤ p → IsUnlinked p a b → WereMadeFrom planes a → WereMadeFrom planes b
 unlinked_made planes p a b table no_axis is made = record {
   now = subst (λ (rs : List Ring). AreRings planes rs (unlinked_of b.unlinked)) (sym is.rings)
-      (subst (AreRings planes (rings_without p a.rings)) (sym (ap unlinked_of is.unlinked ∙ unlinked_push a.unlinked (kept_plane p a.rings))) (rings_stay planes a.rings (unlinked_of a.unlinked) p table made.now no_axis));
-  before = λ k x e. subst (λ (us : Unlinks). AreRings planes x.before (unlinked_of (take k us))) (sym is.unlinked) (by k x (at_push a.unlinked (kept_plane p a.rings) k x (subst (λ (us : Unlinks). slice_get us k ≡ Some x) is.unlinked e)));
+      (subst (AreRings planes (rings_without p a.rings)) (sym (ap unlinked_of is.unlinked ∙ unlinked_push a.unlinked (unlinked_plane p a.rings))) (rings_stay planes a.rings (unlinked_of a.unlinked) p table made.now no_axis));
+  before = λ k x e. subst (λ (us : Unlinks). AreRings planes x.before (unlinked_of (take k us))) (sym is.unlinked) (by k x (at_push a.unlinked (unlinked_plane p a.rings) k x (subst (λ (us : Unlinks). slice_get us k ≡ Some x) is.unlinked e)));
 }
   where
-    by : (k : ℕ) (x : UnlinkedPlane (List Ring)) → ((slice_get a.unlinked k ≡ Some x) × (take k (a.unlinked ++ kept_plane p a.rings ∷ []) ≡ take k a.unlinked)) ⊎ ((kept_plane p a.rings ≡ x) × (take k (a.unlinked ++ kept_plane p a.rings ∷ []) ≡ a.unlinked)) → AreRings planes x.before (unlinked_of (take k (a.unlinked ++ kept_plane p a.rings ∷ [])))
+    by : (k : ℕ) (x : UnlinkedPlane (List Ring)) → ((slice_get a.unlinked k ≡ Some x) × (take k (a.unlinked ++ unlinked_plane p a.rings ∷ []) ≡ take k a.unlinked)) ⊎ ((unlinked_plane p a.rings ≡ x) × (take k (a.unlinked ++ unlinked_plane p a.rings ∷ []) ≡ a.unlinked)) → AreRings planes x.before (unlinked_of (take k (a.unlinked ++ unlinked_plane p a.rings ∷ [])))
     by k x (inl (e, t)) = subst (λ (us : Unlinks). AreRings planes x.before (unlinked_of us)) (sym t) (made.before k x e)
     by k x (inr (e, t)) = subst (λ (us : Unlinks). AreRings planes x.before (unlinked_of us)) (sym t) (subst (λ (y : UnlinkedPlane (List Ring)). AreRings planes y.before (unlinked_of a.unlinked)) e made.now)
 
 pub relinked_made : (planes : List V3) (p : ℕ) (a b : Arrangement) → IsRelinked p a b → WereMadeFrom planes a → WereMadeFrom planes b
 relinked_made planes p a b is made = record {
   now =
-      let (e, t) = at_end b.unlinked (kept_plane p b.rings) in
-      subst (λ (us : Unlinks). AreRings planes b.rings (unlinked_of us)) (ap (take (length b.unlinked)) is ∙ t) (made.before (length b.unlinked) (kept_plane p b.rings) (subst (λ (us : Unlinks). slice_get us (length b.unlinked) ≡ Some (kept_plane p b.rings)) (sym is) e));
+      let (e, t) = at_end b.unlinked (unlinked_plane p b.rings) in
+      subst (λ (us : Unlinks). AreRings planes b.rings (unlinked_of us)) (ap (take (length b.unlinked)) is ∙ t) (made.before (length b.unlinked) (unlinked_plane p b.rings) (subst (λ (us : Unlinks). slice_get us (length b.unlinked) ≡ Some (unlinked_plane p b.rings)) (sym is) e));
   before = λ k x e.
-      let (f, t) = at_front b.unlinked (kept_plane p b.rings) k x e in
+      let (f, t) = at_front b.unlinked (unlinked_plane p b.rings) k x e in
       subst (λ (us : Unlinks). AreRings planes x.before (unlinked_of us)) (ap (take k) is ∙ t) (made.before k x (subst (λ (us : Unlinks). slice_get us k ≡ Some x) (sym is) f));
 }
 
@@ -72,7 +72,7 @@ same_push xs ys x y e =
 
 pub relinked_back : (p : ℕ) (a m b : Arrangement) → IsUnlinked p a m → IsRelinked p m b → b ≡ a
 relinked_back p a m b u r =
-    let (us, k) = same_push b.unlinked a.unlinked (kept_plane p b.rings) (kept_plane p a.rings) (sym r ∙ u.unlinked) in
+    let (us, k) = same_push b.unlinked a.unlinked (unlinked_plane p b.rings) (unlinked_plane p a.rings) (sym r ∙ u.unlinked) in
     λ i. record { rings = (ap (λ (x : UnlinkedPlane (List Ring)). x.before) k) i; unlinked = us i }
 
 pub undone : (ps : List ℕ) (a b c : Arrangement) → AreUnlinked ps a b → AreRelinked ps b c → c ≡ a
@@ -89,7 +89,7 @@ all_made planes (p ∷ ps) a b table none (m, is, us) made =
 
 out_of : (ps : List ℕ) (a b : Arrangement) → AreUnlinked ps a b → unlinked_of b.unlinked ≡ unlinked_of a.unlinked ++ ps
 out_of [] a b u = ap (λ (x : Arrangement). unlinked_of x.unlinked) (sym u) ∙ sym (append-nil (unlinked_of a.unlinked))
-out_of (p ∷ ps) a b (m, is, us) = out_of ps m b us ∙ (ap (λ ks. ks ++ ps) (ap unlinked_of is.unlinked ∙ unlinked_push a.unlinked (kept_plane p a.rings)) ∙ append_assoc (unlinked_of a.unlinked) (p ∷ []) ps)
+out_of (p ∷ ps) a b (m, is, us) = out_of ps m b us ∙ (ap (λ ks. ks ++ ps) (ap unlinked_of is.unlinked ∙ unlinked_push a.unlinked (unlinked_plane p a.rings)) ∙ append_assoc (unlinked_of a.unlinked) (p ∷ []) ps)
 
 -- no plane of the list is linked any more
 gone : (ps : List ℕ) (a b : Arrangement) → AreUnlinked ps a b → (k : ℕ) → Contains (linked_of b.rings) k → Contains (linked_of a.rings) k × (Contains ps k → ⊥)

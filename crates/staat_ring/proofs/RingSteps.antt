@@ -6,10 +6,10 @@ use Rattle.std.proofs.lemmas.Grind.{get_or-set_at}
 use Rattle.std.proofs.Math.ListN.{length-set}
 use Rattle.staat_ring.specs.Links.{Arrays, take_all, give_all}
 use Rattle.staat_ring.specs.Planes.{entries_of}
-use Rattle.staat_ring.specs.Views.{kept_of}
+use Rattle.staat_ring.specs.Views.{unlinked_planes}
 use Rattle.staat_ring.specs.RingViews.{rings_at, rings_of, undo, arrangement_of, CanBeUndone, still_linked, shape}
 use Rattle.staat_ring.specs.Rings.{Arrangement, UnlinkedPlane, Ring}
-use Rattle.staat_ring.specs.Without.{IsUnlinked, kept_plane, rings_without}
+use Rattle.staat_ring.specs.Without.{IsUnlinked, unlinked_plane, rings_without}
 use Rattle.staat_ring.specs.Views.{lists_of}
 use Rattle.staat_ring.specs.RingInvariant.{HaveTakenOut}
 use Rattle.staat_ring.proofs.ViewLemmas.{kept-push}
@@ -53,11 +53,11 @@ module _ (n count : ℕ) (order : List ℕ) (a b : Arrays) (v : Arrangement) (p 
       ∙ (rings-unlink n p (take count order) a l.0 l.1 (sound_is_good n (take count order) a k.sound)
       ∙ ap (λ x. rings_without p x.rings) e))
 
-  pub unlink_kept : kept_of (undo n) (rings_at n) [] (take (count + 1) (set order count p)) b ≡ v.unlinked ++ (record { plane = p; before = v.rings }) ∷ []
+  pub unlink_kept : unlinked_planes (undo n) (rings_at n) [] (take (count + 1) (set order count p)) b ≡ v.unlinked ++ (record { plane = p; before = v.rings }) ∷ []
   unlink_kept =
-      ap (λ o. kept_of (undo n) (rings_at n) [] o b) (order_push count order p room)
+      ap (λ o. unlinked_planes (undo n) (rings_at n) [] o b) (order_push count order p room)
       ∙ (kept-push (undo n) (rings_at n) [] (take count order) p b
-      ∙ (ap (λ x. kept_of (undo n) (rings_at n) [] (take count order) x ++ (record { plane = p; before = rings_at n (take count order) x }) ∷ []) back
+      ∙ (ap (λ x. unlinked_planes (undo n) (rings_at n) [] (take count order) x ++ (record { plane = p; before = rings_at n (take count order) x }) ∷ []) back
       ∙ ap (λ x. x.unlinked ++ (record { plane = p; before = x.rings }) ∷ []) e))
 
   pub unlink_is : IsUnlinked p v (arrangement_of n (take (count + 1) (set order count p)) b)
@@ -109,12 +109,12 @@ not_nil [] x e = cc
 not_nil (y ∷ xs) x e = cc
 
 module _ (n count : ℕ) (order : List ℕ) (a : Arrays) (v : Arrangement) (p : ℕ) (k : HaveTakenOut n count order a) (e : arrangement_of n (take count order) a ≡ v)
-    (u : List (UnlinkedPlane (List Ring))) (before : List Ring) (last : v.unlinked ≡ u ++ kept_plane p before ∷ []) where
+    (u : List (UnlinkedPlane (List Ring))) (before : List Ring) (last : v.unlinked ≡ u ++ unlinked_plane p before ∷ []) where
   pub some : 0 < count
   some = go count refl
     where
       go : (m : ℕ) → m ≡ count → 0 < count
-      go zero q = absurd (not_nil u (record { plane = p; before = before }) (ap (λ m. kept_of (undo n) (rings_at n) [] (take m order) a) q ∙ (ap (λ x. x.unlinked) e ∙ last)))
+      go zero q = absurd (not_nil u (record { plane = p; before = before }) (ap (λ m. unlinked_planes (undo n) (rings_at n) [] (take m order) a) q ∙ (ap (λ x. x.unlinked) e ∙ last)))
       go (suc m) q = omega arith
 
   split_order : take count order ≡ take (count - 1) order ++ get_or order (count - 1) 0 ∷ []
@@ -125,16 +125,16 @@ module _ (n count : ℕ) (order : List ℕ) (a : Arrays) (v : Arrangement) (p : 
       let m = k.most in
       ap (λ i. take i order) q ∙ take-suc order (count - 1) 0 (omega arith)
 
-  pushed : v.unlinked ≡ kept_of (undo n) (rings_at n) [] (take (count - 1) order) (undo n (get_or order (count - 1) 0) a)
+  pushed : v.unlinked ≡ unlinked_planes (undo n) (rings_at n) [] (take (count - 1) order) (undo n (get_or order (count - 1) 0) a)
       ++ (record { plane = get_or order (count - 1) 0; before = rings_at n (take (count - 1) order) (undo n (get_or order (count - 1) 0) a) }) ∷ []
   pushed =
       ap (λ x. x.unlinked) (sym e)
-      ∙ (ap (λ o. kept_of (undo n) (rings_at n) [] o a) split_order
+      ∙ (ap (λ o. unlinked_planes (undo n) (rings_at n) [] o a) split_order
       ∙ kept-push (undo n) (rings_at n) [] (take (count - 1) order) (get_or order (count - 1) 0) a)
 
   pub is_last : get_or order (count - 1) 0 ≡ p
   is_last = ap (λ x. x.plane) (same_last
-      (kept_of (undo n) (rings_at n) [] (take (count - 1) order) (undo n (get_or order (count - 1) 0) a)) u
+      (unlinked_planes (undo n) (rings_at n) [] (take (count - 1) order) (undo n (get_or order (count - 1) 0) a)) u
       (record { plane = get_or order (count - 1) 0; before = rings_at n (take (count - 1) order) (undo n (get_or order (count - 1) 0) a) }) (record { plane = p; before = before })
       (sym pushed ∙ last))
 
@@ -145,11 +145,11 @@ module _ (n count : ℕ) (order : List ℕ) (a : Arrays) (v : Arrangement) (p : 
   last_small = let s = some in subst (λ x. x < n) is_last (k.planes (count - 1) (omega arith))
 
   pub relink_kept : (b : Arrays) → b ≡ give_all (entries_of n p n) a
-      → v.unlinked ≡ kept_of (undo n) (rings_at n) [] (take (count - 1) order) b ++ (record { plane = p; before = rings_at n (take (count - 1) order) b }) ∷ []
+      → v.unlinked ≡ unlinked_planes (undo n) (rings_at n) [] (take (count - 1) order) b ++ (record { plane = p; before = rings_at n (take (count - 1) order) b }) ∷ []
   relink_kept b is =
       pushed
-      ∙ (ap (λ q. kept_of (undo n) (rings_at n) [] (take (count - 1) order) (undo n q a) ++ (record { plane = q; before = rings_at n (take (count - 1) order) (undo n q a) }) ∷ []) is_last
-      ∙ ap (λ x. kept_of (undo n) (rings_at n) [] (take (count - 1) order) x ++ (record { plane = p; before = rings_at n (take (count - 1) order) x }) ∷ []) (sym is))
+      ∙ (ap (λ q. unlinked_planes (undo n) (rings_at n) [] (take (count - 1) order) (undo n q a) ++ (record { plane = q; before = rings_at n (take (count - 1) order) (undo n q a) }) ∷ []) is_last
+      ∙ ap (λ x. unlinked_planes (undo n) (rings_at n) [] (take (count - 1) order) x ++ (record { plane = p; before = rings_at n (take (count - 1) order) x }) ∷ []) (sym is))
 
   pub relink_invariant : (b : Arrays) → b ≡ give_all (entries_of n p n) a → length b.home ≡ length a.home → HaveTakenOut n (count - 1) order b
   relink_invariant b is h =

@@ -5,7 +5,7 @@ use Rattle.std.proofs.lemmas.Option.{get_or_from_slice_get}
 use Rattle.staat_vec.specs.declared.vector.V3.{V3}
 use Rattle.staat_vec.specs.Vectors.{origin}
 use Rattle.staat_model.specs.Planes.{axes}
-use Rattle.staat_ring.specs.Rings.{plane_at}
+use Rattle.staat_planes.specs.PairOrder.{plane_at}
 
 -- ---- by halving
 

@@ -13,7 +13,7 @@ use Rattle.staat_ring.specs.RingInvariant.{HaveTakenOut}
 use Rattle.staat_ring.specs.RingViews.{StandForCircles, arrangement_of, ring_of, rings_at, shape, undo}
 use Rattle.staat_ring.specs.Rings.{Arrangement, Ring, RingStop, linked_of}
 use Rattle.staat_ring.specs.Stands.{IsRing, IsShortRing, RingLists, home_of}
-use Rattle.staat_ring.specs.Views.{kept_of, lists_of}
+use Rattle.staat_ring.specs.Views.{unlinked_planes, lists_of}
 use Rattle.staat_ring.proofs.RingLength.{IsAtPlace, at_next, at_start, before_end, ends, goes_on, linked_are, node_within, ring_there, short_ring}
 use Rattle.staat_ring.proofs.Unlinking.{sound_is_good}
 use Rattle.staat_vec.proofs.ListLaws.{place_in_map, Contains-map}
@@ -49,7 +49,7 @@ plane_back n c e x q = go e.turned q
     go Rattle.std.specs.Prelude.true q = let h : x / 2 ≡ c * n + e.plane = omega (arith, q) in (omega (arith, h), omega (arith, h))
     go Rattle.std.specs.Prelude.false q = let h : x / 2 ≡ c * n + e.plane = omega (arith, q) in (omega (arith, h), omega (arith, h))
 
-kept_length : {A R : Type 0} (undo : ℕ → A → A) (rings : List ℕ → A → R) (done ps : List ℕ) (a : A) → length (kept_of undo rings done ps a) ≡ length ps
+kept_length : {A R : Type 0} (undo : ℕ → A → A) (rings : List ℕ → A → R) (done ps : List ℕ) (a : A) → length (unlinked_planes undo rings done ps a) ≡ length ps
 kept_length undo rings done [] a = refl
 kept_length undo rings done (p ∷ ps) a = ap suc (kept_length undo rings (done ++ p ∷ []) ps a)
 

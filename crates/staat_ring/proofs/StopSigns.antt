@@ -67,11 +67,11 @@ signed_same k sign s = record {
   pairs = refl;
 }
 
-pub marked_same : (leaves : Bool) (es : List Entry) (s : Signed) → SameLists (with_stop_signs leaves es s) s
-marked_same leaves [] s = same_itself s
-marked_same leaves (e ∷ es) s =
+pub stop_signs_same : (leaves : Bool) (es : List Entry) (s : Signed) → SameLists (with_stop_signs leaves es s) s
+stop_signs_same leaves [] s = same_itself s
+stop_signs_same leaves (e ∷ es) s =
     let next : Signed = with_plane_sign e.plane (stop_sign leaves e.turned) s in
-    same_trans (with_stop_signs leaves es next) next s (marked_same leaves es next) (signed_same e.plane (stop_sign leaves e.turned) s)
+    same_trans (with_stop_signs leaves es next) next s (stop_signs_same leaves es next) (signed_same e.plane (stop_sign leaves e.turned) s)
 
 -- signs that belong to a table still do
 pub belong_same : (t : Table) (s u : Signed) → SameLists u s → BelongTo t s → BelongTo t u
@@ -107,17 +107,17 @@ pub sign_of_set : (states : List PlaneState) (k : ℕ) (sign : Sign) → k < len
 sign_of_set states k sign lt = ap (λ s. s.sign) (get_or-set_same states k (with_sign sign (state_at states k)) no_state lt)
 
 -- a plane through which no entry goes keeps its sign
-pub marked_other : (leaves : Bool) (es : List Entry) (s : Signed) (j : ℕ) → ((e : Entry) → Contains es e → e.plane ≢ j) → (state_at (with_stop_signs leaves es s).states j).sign ≡ (state_at s.states j).sign
-marked_other leaves [] s j none = refl
-marked_other leaves (e ∷ es) s j none =
-    marked_other leaves es (with_plane_sign e.plane (stop_sign leaves e.turned) s) j (λ x c. none x (Contains-later e es x c))
+pub stop_signs_other : (leaves : Bool) (es : List Entry) (s : Signed) (j : ℕ) → ((e : Entry) → Contains es e → e.plane ≢ j) → (state_at (with_stop_signs leaves es s).states j).sign ≡ (state_at s.states j).sign
+stop_signs_other leaves [] s j none = refl
+stop_signs_other leaves (e ∷ es) s j none =
+    stop_signs_other leaves es (with_plane_sign e.plane (stop_sign leaves e.turned) s) j (λ x c. none x (Contains-later e es x c))
     ∙ ap (λ x. x.sign) (get_or-set_other s.states e.plane j (with_sign (stop_sign leaves e.turned) (state_at s.states e.plane)) no_state (λ q. none e (Contains-front e es) (sym q)))
 
 -- one through which some entry goes gets the sign that all of them give
-pub marked_there : (leaves : Bool) (es : List Entry) (s : Signed) (j : ℕ) (sign : Sign) → j < length s.states → ((e : Entry) → Contains es e → e.plane ≡ j → stop_sign leaves e.turned ≡ sign) → (x : Entry) → Contains es x → x.plane ≡ j
+pub stop_signs_there : (leaves : Bool) (es : List Entry) (s : Signed) (j : ℕ) (sign : Sign) → j < length s.states → ((e : Entry) → Contains es e → e.plane ≡ j → stop_sign leaves e.turned ≡ sign) → (x : Entry) → Contains es x → x.plane ≡ j
     → (state_at (with_stop_signs leaves es s).states j).sign ≡ sign
-marked_there leaves [] s j sign lt all x c is = absurd (Contains-nothing x c)
-marked_there leaves (e ∷ es) s j sign lt all x c is = by (marked_there leaves es next j sign small (λ y cy. all y (Contains-later e es y cy))) (some_or es j)
+stop_signs_there leaves [] s j sign lt all x c is = absurd (Contains-nothing x c)
+stop_signs_there leaves (e ∷ es) s j sign lt all x c is = by (stop_signs_there leaves es next j sign small (λ y cy. all y (Contains-later e es y cy))) (some_or es j)
   where
     next : Signed
     next = with_plane_sign e.plane (stop_sign leaves e.turned) s
@@ -136,7 +136,7 @@ marked_there leaves (e ∷ es) s j sign lt all x c is = by (marked_there leaves 
     first : ((x : Entry) → Contains es x → x.plane ≢ j) → (state_at (with_stop_signs leaves es next).states j).sign ≡ sign
     first none =
         let e_is : e.plane ≡ j = ⊎_elim (λ q. sym (ap (λ z. z.plane) q) ∙ is) (λ l. absurd (none x l is)) (Contains-cases e es x c) in
-        marked_other leaves es next j none
+        stop_signs_other leaves es next j none
         ∙ (ap (λ i. (state_at next.states i).sign) (sym e_is)
         ∙ (sign_of_set s.states e.plane (stop_sign leaves e.turned) (subst (λ i. i < length s.states) (sym e_is) lt) ∙ all e (Contains-front e es) e_is))
 

@@ -13,7 +13,8 @@ use Rattle.staat_ring.specs.BlockCounts.{parts_at}
 use Rattle.staat_planes.specs.Tables.{IsPlaneOf}
 use Rattle.staat_ring.specs.declared.pairs.PairCount.{PairCount}
 use Rattle.staat_ring.specs.Pairs.{pair_at}
-use Rattle.staat_ring.specs.Rings.{facet_by, plane_at}
+use Rattle.staat_ring.specs.Rings.{facet_by}
+use Rattle.staat_planes.specs.PairOrder.{plane_at}
 use Rattle.staat_ring.specs.CountedSigns.{IsBlockingPair, PlaneState, Signed, against_at, along_at, positives, state_at}
 
 -- ---- the law

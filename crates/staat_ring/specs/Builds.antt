@@ -12,7 +12,8 @@ use Rattle.staat_vec.specs.Lists.{Lists}
 use Rattle.staat_ring.specs.declared.entry.Entry.{Entry}
 use Rattle.staat_ring.specs.Order.{normal_at}
 use Rattle.staat_ring.specs.Rings.{Ring, crossing}
-use Rattle.staat_ring.specs.Rings.{facet_by, plane_at}
+use Rattle.staat_ring.specs.Rings.{facet_by}
+use Rattle.staat_planes.specs.PairOrder.{plane_at}
 
 -- the direction in which two planes cross
 abbrev pub ray : V3 → V3 → V3

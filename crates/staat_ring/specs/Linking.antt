@@ -6,7 +6,7 @@ use Rattle.staat_ring.specs.declared.entry.Entry.{Entry}
 use Rattle.staat_ring.specs.Builds.{ring_by, slot_at}
 use Rattle.staat_ring.specs.Links.{Apart, Arrays, Distinct, Links, IsLinkedRing}
 use Rattle.staat_ring.specs.Numbered.{HasEntry, circle_of_node, entry_count, entry_number}
-use Rattle.staat_ring.specs.Numbered.{entry_numbers, head_number, node_count, node_number, vertex_row}
+use Rattle.staat_ring.specs.Numbered.{entry_numbers, head_number, ring_node_count, node_number, vertex_row}
 use Rattle.staat_ring.specs.Rings.{IsRingOf}
 use Rattle.staat_ring.specs.RingViews.{numbers_below}
 use Rattle.staat_ring.specs.Rows.{Row, all_of, row_at}
@@ -88,13 +88,13 @@ pub record HasCircle (planes : List V3) (n : ℕ) (a : Arrays) (c : ℕ) : Type 
 
 -- arrays for n planes
 pub record AreSized (n : ℕ) (a : Arrays) : Type 0 where
-  pub home : length a.home ≡ node_count n
-  pub circles : length a.circles.next ≡ node_count n
-  pub vertices : length a.vertices.next ≡ node_count n
+  pub home : length a.home ≡ ring_node_count n
+  pub circles : length a.circles.next ≡ ring_node_count n
+  pub vertices : length a.vertices.next ≡ ring_node_count n
 
 -- the circles below d stand in the arrays, and the nodes of the others stand alone
 pub record AreLinkedBelow (planes : List V3) (n d : ℕ) (a : Arrays) : Type 0 where
   pub sizes : AreSized n a
   pub circles : (c : ℕ) → c < d → HasCircle planes n a c
-  pub alone : (x : ℕ) → x < node_count n → (circle_of_node n x < d → ⊥) → IsAlone a x
-  pub own : (x : ℕ) → entry_count n ≤ x → x < node_count n → slice_index a.home x ≡ x
+  pub alone : (x : ℕ) → x < ring_node_count n → (circle_of_node n x < d → ⊥) → IsAlone a x
+  pub own : (x : ℕ) → entry_count n ≤ x → x < ring_node_count n → slice_index a.home x ≡ x

@@ -29,8 +29,8 @@ node_number n c [] = 0
 node_number n c (e ∷ es) = entry_count n + entry_number n c e
 
 -- how many numbers there are: as many again for stops
-abbrev pub node_count : ℕ → ℕ
-node_count n = 4 * (n * n)
+abbrev pub ring_node_count : ℕ → ℕ
+ring_node_count n = 4 * (n * n)
 
 -- ---- what a number stands for
 

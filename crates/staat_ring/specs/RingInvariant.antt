@@ -15,13 +15,13 @@ use Rattle.std.specs.Prelude.{
 use Rattle.std.specs.Prelude.{slice_index, slice_index_or}
 use Rattle.staat_limits.specs.declared.limits.TheConstants.{MOST_PLANES}
 use Rattle.staat_ring.specs.Links.{Arrays}
-use Rattle.staat_ring.specs.Numbered.{node_count}
+use Rattle.staat_ring.specs.Numbered.{ring_node_count}
 use Rattle.staat_ring.specs.RingViews.{CanBeUndone, is_out, still_linked}
 
 -- arrays of n planes, of which the first ones of the order were taken out
 pub record HaveTakenOut (n count : ℕ) (order : List ℕ) (a : Arrays) : Type 0 where
   pub few : n ≤ MOST_PLANES
-  pub room : length a.home ≡ node_count n
+  pub room : length a.home ≡ ring_node_count n
   pub size : length order ≡ n
   pub most : count ≤ n
   -- each plane that was taken out was linked until then

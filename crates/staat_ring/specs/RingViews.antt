@@ -7,7 +7,7 @@ use Rattle.staat_ring.specs.Numbered.{circle_of_node, entry_number, entry_number
 use Rattle.staat_ring.specs.Rings.{Arrangement, Ring}
 use Rattle.staat_ring.specs.Stands.{AllPresent, EachEntry, EachVertex, RingLists, Shape, StandFor, is_empty}
 use Rattle.staat_ring.specs.Planes.{entries_of}
-use Rattle.staat_ring.specs.Views.{lists_of, undo_all, kept_of}
+use Rattle.staat_ring.specs.Views.{lists_of, undo_all, unlinked_planes}
 
 -- the heads and the circles of the numbers for n planes
 abbrev pub shape : ℕ → Shape
@@ -45,7 +45,7 @@ rings_at n out a = rings_of n out (lists_of (shape n) a)
 abbrev pub arrangement_of : ℕ → List ℕ → Arrays → Arrangement
 arrangement_of n out a = record {
   rings = rings_at n out a;
-  unlinked = kept_of (undo n) (rings_at n) [] out a;
+  unlinked = unlinked_planes (undo n) (rings_at n) [] out a;
 }
 
 -- arrays that stand for these lists, where these planes are out

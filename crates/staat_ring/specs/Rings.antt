@@ -1,13 +1,14 @@
 -- The circles of the linked planes, as they are kept: stops with the entries of the planes through them.
 use Rattle.std.specs.Prelude.{◌≡◌, ◌⊎◌, ℕ, ◌<◌, List, [], ◌∷◌}
 use Rattle.std.specs.Prelude.{length, map, take, All, Bool, true, false}
-use Rattle.std.specs.Prelude.{Contains, Some, slice_get, slice_index_or}
+use Rattle.std.specs.Prelude.{Contains, Some, slice_get}
 use Rattle.std.specs.List.Sorted.{IsStrictlySortedBy}
 use Rattle.std.specs.Ordering.{nat_cmp}
 use Rattle.staat_vec.specs.declared.vector.V3.{V3}
 use Rattle.staat_vec.specs.Vectors.{cross, negative, origin}
 use Rattle.staat_vec.specs.Primitives.{primitive}
 use Rattle.staat_model.specs.Circles.{IsCircle, Stop}
+use Rattle.staat_planes.specs.PairOrder.{plane_at}
 use Rattle.staat_ring.specs.declared.entry.Entry.{Entry}
 
 -- a stop on a circle: its node, and the entries of the other planes through it
@@ -37,9 +38,6 @@ abbrev pub unlinked_of : List (UnlinkedPlane (List Ring)) → List ℕ
 unlinked_of kept = map (λ k. k.plane) kept
 
 -- ---- the vertices
-
-abbrev pub plane_at : List V3 → ℕ → V3
-plane_at planes k = slice_index_or planes k origin
 
 -- the vector, or its negative
 abbrev pub facet_by : Bool → V3 → V3

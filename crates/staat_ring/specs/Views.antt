@@ -24,9 +24,9 @@ undo_all undo [] a = a
 undo_all undo (p ∷ ps) a = undo p (undo_all undo ps a)
 
 -- the unlinked planes in the order of their unlinking; done are those before
-abbrev pub kept_of : {A R : Type 0} → (ℕ → A → A) → (List ℕ → A → R) → List ℕ → List ℕ → A
-    → List (UnlinkedPlane R)
-kept_of undo rings done [] a = []
-kept_of undo rings done (p ∷ ps) a =
+abbrev pub unlinked_planes : {A R : Type 0} → (ℕ → A → A) → (List ℕ → A → R) → List ℕ → List ℕ
+    → A → List (UnlinkedPlane R)
+unlinked_planes undo rings done [] a = []
+unlinked_planes undo rings done (p ∷ ps) a =
     (record { plane = p; before = rings done (undo p (undo_all undo ps a)) })
-    ∷ kept_of undo rings (done ++ p ∷ []) ps a
+    ∷ unlinked_planes undo rings (done ++ p ∷ []) ps a

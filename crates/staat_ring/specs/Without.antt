@@ -26,20 +26,20 @@ abbrev pub rings_without : ℕ → List Ring → List Ring
 rings_without p rings = map (ring_without p) (filter (λ r. not (r.plane == p)) rings)
 
 -- an unlinked plane with the circles that stood before
-abbrev pub kept_plane : ℕ → List Ring → UnlinkedPlane (List Ring)
-kept_plane p rings = record { plane = p; before = rings }
+abbrev pub unlinked_plane : ℕ → List Ring → UnlinkedPlane (List Ring)
+unlinked_plane p rings = record { plane = p; before = rings }
 
 -- b is a without the plane p, which joins the unlinked planes with the circles of a
 pub record IsUnlinked (p : ℕ) (a b : Arrangement) : Type 0 where
   pub rings : b.rings ≡ rings_without p a.rings
-  pub unlinked : b.unlinked ≡ a.unlinked ++ kept_plane p a.rings ∷ []
+  pub unlinked : b.unlinked ≡ a.unlinked ++ unlinked_plane p a.rings ∷ []
 
 -- p is the last of the unlinked planes
 pub record IsLastUnlinked (p : ℕ) (a : Arrangement) : Type 0 where
   pub others : List (UnlinkedPlane (List Ring))
   pub before : List Ring
-  pub is : a.unlinked ≡ others ++ kept_plane p before ∷ []
+  pub is : a.unlinked ≡ others ++ unlinked_plane p before ∷ []
 
 -- p, the last of the unlinked planes of a, leaves them, and the circles of b are those that stood before
 abbrev pub IsRelinked : ℕ → Arrangement → Arrangement → Type 0
-IsRelinked p a b = a.unlinked ≡ b.unlinked ++ kept_plane p b.rings ∷ []
+IsRelinked p a b = a.unlinked ≡ b.unlinked ++ unlinked_plane p b.rings ∷ []

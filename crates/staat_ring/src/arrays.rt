@@ -6,7 +6,7 @@ ghost use Rattle.staat_ring.specs.Stands.{IsShortRing};
 ghost use Rattle.staat_ring.specs.Within.{InRange};
 ghost use Rattle.staat_ring.specs.Planes.{entries_of};
 ghost use Rattle.staat_ring.specs.Linking.{AreSized, CanBeLinked, HoldsCircle, IsAlone, IsKeptAt};
-ghost use Rattle.staat_ring.specs.Numbered.{circle_of_node, entry_count, entry_of_plane, head_number, node_count};
+ghost use Rattle.staat_ring.specs.Numbered.{circle_of_node, entry_count, entry_of_plane, head_number, ring_node_count};
 ghost use Rattle.staat_ring.specs.Numbered.{node_number};
 
 use crate::circle::Through;
@@ -173,8 +173,8 @@ impl RingArrays {
     pub fn alone(alloc: Global, planes: u32) -> Result<RingArrays, OutOfMemory>
         requires { planes ≤ MOST_PLANES }
         ensures sizes { IfOk result (AreSized planes) }
-        ensures alone { IfOk result (λ a. (x : ℕ) → x < node_count planes → IsAlone a x) }
-        ensures home { IfOk result (λ a. (x : ℕ) → x < node_count planes → slice_index a.home x ≡ x) }
+        ensures alone { IfOk result (λ a. (x : ℕ) → x < ring_node_count planes → IsAlone a x) }
+        ensures home { IfOk result (λ a. (x : ℕ) → x < ring_node_count planes → slice_index a.home x ≡ x) }
     {
         let count = 4 * (planes * planes);
         let circles = NodeLinks::alone(alloc, count)?;
@@ -194,7 +194,7 @@ impl RingArrays {
         requires sizes { AreSized planes self.old }
         requires stops { CanBeLinked planes c stops.now }
         requires nodes { nodes.now ≡ map (node_number planes c) stops.now }
-        requires alone { (x : ℕ) → x < node_count planes → circle_of_node planes x ≡ c
+        requires alone { (x : ℕ) → x < ring_node_count planes → circle_of_node planes x ≡ c
             → IsAlone self.old x }
         ensures sizes { AreSized planes self.new }
         ensures holds { HoldsCircle planes self.new c stops.now }

@@ -1,6 +1,6 @@
 // A plane through a stop of a circle, and the numbers of entries and stops.
 ghost use Rattle.std.specs.Prelude.{◌≡◌, ◌<◌, ◌≤◌, ◌^◌, All};
-ghost use Rattle.staat_ring.specs.Numbered.{HasEntry, entry_count, entry_number, node_count, node_number};
+ghost use Rattle.staat_ring.specs.Numbered.{HasEntry, entry_count, entry_number, ring_node_count, node_number};
 
 use staat_limits::MOST_PLANES;
 
@@ -33,7 +33,7 @@ pub fn node_of(planes: u32, c: u32, entries: &[Entry]) -> u32
     requires entries { All (λ e. e.plane < planes) entries.now }
     requires some { HasEntry entries.now }
     ensures is { result ≡ node_number planes c entries.now }
-    ensures within { result < node_count planes }
+    ensures within { result < ring_node_count planes }
 {
     2 * (planes * planes) + number_of_entry(planes, c, entries[0])
 }

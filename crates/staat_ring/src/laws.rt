@@ -27,8 +27,8 @@ pub fn rings_of_a_set()
 {}
 
 /// What it means that a walk was made from a table: once the linked planes have their signs at a direction, it counts,
-/// of each ordered pair of pieces whose planes are all linked, the facets that are positive there. Some pair of pieces
-/// of two parts has positive facets alone exactly where the one part blocks the other along this direction.
+/// of each ordered pair of pieces whose planes are all linked, the facets that are positive there. Of two parts whose
+/// planes are all linked, some pair of pieces has positive facets alone exactly where the one blocks the other there.
 pub fn walk_of_a_table()
     ensures counts { (parts : List PartValue) (t : Table) (walk : Walked) (v : Vector) (w : SetValue)
         → HoldsAllSigns parts t walk v w → (arc : ArcValue) → IsTableArc t arc → Has w arc.a → Has w arc.b

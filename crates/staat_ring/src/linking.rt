@@ -2,7 +2,7 @@
 ghost use Rattle.std.specs.Prelude.{◌≡◌, ℕ, ◌<◌, ◌≤◌, ◌∷◌, [], All, IfOk, length};
 ghost use Rattle.std.specs.Prelude.{map};
 ghost use Rattle.staat_ring.specs.Links.{Apart, Distinct, IsLinkedRing};
-ghost use Rattle.staat_ring.specs.Numbered.{entry_numbers, node_count, node_number};
+ghost use Rattle.staat_ring.specs.Numbered.{entry_numbers, ring_node_count, node_number};
 ghost use Rattle.staat_ring.specs.Linking.{AreHomedAt, AreLinked, AreStopsLinked, CanBeLinked, IsSameAt, rows_of};
 
 use crate::circle::Through;
@@ -61,7 +61,7 @@ fn link_entries(
     requires planes { planes ≤ MOST_PLANES }
     requires circle { c < planes }
     requires node { v < length vertices.old.next }
-    requires room { node_count planes ≤ length vertices.old.next }
+    requires room { ring_node_count planes ≤ length vertices.old.next }
     requires homes { length home.old.items ≡ length vertices.old.next }
     requires entries { All (λ e. e.plane < planes) entries.now }
     requires distinct { Distinct (v ∷ entry_numbers planes c entries.now) }
@@ -92,7 +92,7 @@ pub fn link_stops(
 )
     requires planes { planes ≤ MOST_PLANES }
     requires circle { c < planes }
-    requires room { node_count planes ≤ length vertices.old.next }
+    requires room { ring_node_count planes ≤ length vertices.old.next }
     requires homes { length home.old.items ≡ length vertices.old.next }
     requires stops { CanBeLinked planes c stops.now }
     requires alone { AreLinked vertices.old (rows_of planes c stops.now) 0 }

@@ -3,7 +3,7 @@ ghost use Rattle.std.specs.Prelude.{◌≡◌, ◌≢◌, ◌<◌, ◌≤◌, �
 ghost use Rattle.std.specs.Prelude.{length, slice_get};
 ghost use Rattle.std.specs.List.Sorted.{IsStrictlySortedBy};
 ghost use Rattle.staat_vec.specs.Vectors.{vector_cmp};
-ghost use Rattle.staat_ring.specs.Rings.{plane_at};
+ghost use Rattle.staat_planes.specs.PairOrder.{plane_at};
 
 use staat_limits::LEAST_PLANES;
 use staat_pairs::planes_from;

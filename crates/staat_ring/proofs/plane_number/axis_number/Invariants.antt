@@ -1,5 +1,5 @@
 use Rattle.std.proofs.Common.{◌≢◌, ℕ, ◌<◌}
-use Rattle.staat_ring.specs.Rings.{plane_at}
+use Rattle.staat_planes.specs.PairOrder.{plane_at}
 use Rattle.staat_ring.proofs.plane_number.axis_number.Given as goal
 
 abbrev pub invariant-loop-k : goal.invariant-loop-k

@@ -1,7 +1,7 @@
 use Rattle.std.proofs.Common.{◌≡◌, ◌+◌, ◌∙◌, ap, subst, sym, List}
 use Rattle.std.specs.Prelude.{Some, slice_get}
 use Rattle.staat_vec.specs.declared.vector.V3.{V3}
-use Rattle.staat_ring.specs.Rings.{plane_at}
+use Rattle.staat_planes.specs.PairOrder.{plane_at}
 use Rattle.staat_ring.proofs.Searching.{drop_axes, plane_beyond}
 use Rattle.staat_ring.proofs.plane_number.number_of_plane.Goals as goal
 
