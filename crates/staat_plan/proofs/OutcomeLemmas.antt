@@ -1,10 +1,11 @@
 -- The outcome of a set from those of its two sides.
-use Rattle.std.proofs.Common.{◌≡◌, inl, inr, ⊎_elim, ℕ, ◌<◌, ◌≤◌, arith, ap, sym, ◌∙◌, subst, refl, List, [], ◌∷◌, ◌++◌, length}
+use Rattle.std.proofs.Common.{◌≡◌, ◌≢◌, inl, inr, ⊎_elim, ℕ, ◌<◌, ◌≤◌, arith, ap, sym, ◌∙◌, subst, refl, List, [], ◌∷◌, ◌++◌, length}
 use Rattle.std.specs.Prelude.{Option, None, Some, Result, Ok, Err, IfOk, IfSome, MatchOption, MatchResult}
 use Rattle.std.specs.Result.{IsErrAnd}
 use Rattle.std.specs.FinSet as set
 use Rattle.std.specs.Ordering.{nat_cmp}
 use Rattle.staat_vec.specs.Lists.{IsFirst}
+use Rattle.staat_vec.specs.Vectors.{origin}
 use Rattle.staat_model.specs.declared.assembly.Part.{Part}
 use Rattle.staat_model.specs.declared.set.PartSet.{PartSet}
 use Rattle.staat_model.specs.declared.tree.Kind.{Kind}
@@ -68,6 +69,10 @@ served : (parts : List Part) (w : PartSet) (tries : List Try) (try : Try) → Is
 served parts w [] try first = absurd first
 served parts w (t ∷ tries) try (inl h) = subst (λ (x : Try). Serves parts w x.d) (sym h.0) h.1
 served parts w (t ∷ tries) try (inr h) = served parts w tries try h.1
+
+-- a step leads along a direction other than zero
+pub step_some : (robust : Bool) (parts : List Part) (w : PartSet) (try : Try) (side : PartSet) → IsStep robust parts w try side → try.d ≢ origin
+step_some robust parts w try side step = let serves = served parts w step.tries try step.first in let free = serves.free in free.moves
 
 -- what moves in a step is a side, since some side is free and what moves has none that is
 step_side : (robust : Bool) (parts : List Part) (w : PartSet) (try : Try) (side : PartSet) → IsStep robust parts w try side → IsSide w side

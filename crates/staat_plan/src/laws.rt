@@ -1,11 +1,11 @@
 //! Laws on what the planner finds. Each is a function that does nothing, and its contract is the law.
-ghost use Rattle.std.specs.Prelude.{◌≡◌, ◌↔◌, ◌≤◌, ℕ, All, Bool, List, length, map, take, true};
+ghost use Rattle.std.specs.Prelude.{◌≡◌, ◌≢◌, ◌↔◌, ◌≤◌, ℕ, All, Bool, List, length, map, take, true};
 ghost use Rattle.std.specs.FinSet as set;
 ghost use Rattle.staat_limits.specs.Versions.{IsVersion};
 ghost use Rattle.staat_limits.specs.declared.limits.TheConstants.{TEXT_LIMIT};
 ghost use Rattle.staat_vec.specs.declared.vector.V3.{V3 as Vector};
 ghost use Rattle.staat_vec.specs.declared.vector.TheConstants.{DIRECTION};
-ghost use Rattle.staat_vec.specs.Vectors.{negative};
+ghost use Rattle.staat_vec.specs.Vectors.{cross, negative, origin};
 ghost use Rattle.staat_model.specs.declared.assembly.Part.{Part as PartValue};
 ghost use Rattle.staat_model.specs.declared.certificate.Certificate.{Certificate as CertificateValue};
 ghost use Rattle.staat_model.specs.declared.certificate.Witness.{Witness as WitnessValue};
@@ -23,6 +23,7 @@ ghost use Rattle.staat_model.specs.Texts.{text_of};
 ghost use Rattle.staat_graph.specs.declared.trees.Trees.{Trees as TreesValue};
 ghost use Rattle.staat_graph.specs.Blocking.{ShowsBlocking};
 ghost use Rattle.staat_graph.specs.Graphs.{AreTrees, HasArc};
+ghost use Rattle.staat_plan.specs.LoneLines.{OnlyPlanesThroughServe};
 ghost use Rattle.staat_plan.specs.Marks.{HasOneMark, MarksHold};
 ghost use Rattle.staat_plan.specs.Planning.{AreWithin, Settles};
 
@@ -52,6 +53,14 @@ pub fn tries_decide()
     ensures { (robust : Bool) (parts : List PartValue) (w : PartSetValue) (tries : List Try)
         → IsAssembly parts → 2 ≤ set.len w → AreTries robust parts w tries
         → IsStuck parts w ↔ All (λ t. Serves parts w t.d → ⊥) tries }
+{}
+
+/// Where each plane of a set on which some direction serves passes through v, each direction that serves lies on the line
+/// of v. So no edge and no open cell serves.
+pub fn lone_line_serves()
+    ensures { (parts : List PartValue) (w : PartSetValue) (planes : List Vector) (v d : Vector)
+        → IsAssembly parts → ArePlanes parts w planes → v ≢ origin → OnlyPlanesThroughServe parts w planes v
+        → Serves parts w d → cross d v ≡ origin }
 {}
 
 /// In a robust plan a step has one mark. It is an open cell only where the direction lies off all planes of the set, an

@@ -14,6 +14,7 @@ ghost use Rattle.staat_plan.specs.Planning.{HasFewPlanes, IsOutcomeOf, Settles, 
 ghost use Rattle.staat_plan.specs.RingSets.{IsReadyFor};
 
 use crate::cell_steps::{cell_step, first_open_step};
+use crate::lone_step::lone_step;
 use crate::marked::Marked;
 use crate::step::{early_step, step_of};
 use crate::walker::Walker;
@@ -88,9 +89,10 @@ fn vertex_step(
     }
 }
 
-// The step of a set of parts of the table in a robust plan. Most sets that come apart do so in their first open cell,
-// and where no vertex serves a set, no cell does, by the law `tries_decide`: for both the one table is enough. Only
-// where neither decides are all cells made; those of a smaller set are the cells of a table of its own.
+// The step of a set of parts of the table in a robust plan. Most sets that come apart do so in their first open cell;
+// where no vertex serves a set, no cell does, by the law `tries_decide`; and where it comes apart along one line alone,
+// no other vertex is looked at. For all three the one table is enough. Only where none of them decides are all cells
+// made; those of a smaller set are the cells of a table of its own.
 fn robust_step<F: FacetSource>(
     alloc: Global,
     source: &F,
@@ -111,9 +113,12 @@ fn robust_step<F: FacetSource>(
     if let Some(found) = first_open_step(alloc, table, w)? {
         return Ok(Some(found));
     }
-    let Some(_) = step_of(table, w) else {
+    let Some(first) = step_of(table, w) else {
         return Ok(None);
     };
+    if let Some(found) = lone_step(alloc, table, w, first)? {
+        return Ok(Some(found));
+    }
     if table.set().within(w) {
         return Ok(cell_step(alloc, table)?);
     }
@@ -268,8 +273,8 @@ fn outcome_of_set<F: FacetSource>(
 /// planned first, then the rest, and the first set that is stuck is the outcome. The marks of a plan stand in
 /// preorder; a plan that is not robust has none.
 ///
-/// One table is made for all parts, and in a robust plan one more for each smaller set that comes apart, but not in its
-/// first open cell. Where the first vertices of a set do not decide in a plan that is not robust, its vertices are gone
+/// One table is made for all parts, and in a robust plan one more for each smaller set that comes apart, but neither in
+/// its first open cell nor along one line alone. Where the first vertices of a set do not decide in a plan that is not robust, its vertices are gone
 /// through by a walk along rings, which are made once.
 ///
 /// There are at most `planes` planes, from 3 to [`MOST_PLANES`], and to [`MOST_CELL_PLANES`] in a robust plan;

@@ -1,11 +1,14 @@
 use Rattle.std.proofs.Common.{◌≤◌, arith, length, sym, subst}
-use Rattle.std.specs.Prelude.{None, Some}
+use Rattle.std.specs.Prelude.{IfSome, None, Option, Some, false, true}
 use Rattle.std.specs.FinSet as set
 use Rattle.staat_model.specs.declared.set.PartSet.{PartSet}
+use Rattle.staat_model.specs.Outcomes.{try_vertex}
 use Rattle.staat_model.specs.Sets.{Has, IsSubset}
+use Rattle.staat_plan.specs.declared.marked.Marked.{Marked}
 use Rattle.staat_plan.specs.CellSteps.{IsFirstOpenStep}
+use Rattle.staat_plan.specs.Planning.{IsSetStep}
 use Rattle.staat_plan.proofs.CellStepLemmas.{first_found, stuck_step}
-use Rattle.staat_plan.proofs.OutcomeLemmas.{own_step, some_member, step_in_table, whole_step}
+use Rattle.staat_plan.proofs.OutcomeLemmas.{own_step, some_member, step_in_table, step_some, whole_step}
 use Rattle.staat_plan.proofs.planner.robust_step.Goals as goal
 
 pub first_open_step-requires-clause-some : goal.first_open_step-requires-clause-some
@@ -33,6 +36,23 @@ returns-in_default-step_of g c =
     step_in_table _ c.args.sound.now t c.args.w c.args.limit None c.requires.made c.requires.within c.requires.few
     (stuck_step t c.args.w first.planes first.planes_are most c.requires.two
     (λ parts made. (c.step_of.ensures.stuck parts made).0 c.in_default-step_of.is))
+
+pub lone_step-requires-clause-some : goal.lone_step-requires-clause-some
+lone_step-requires-clause-some g c =
+    let two : 2 ≤ set.len c.args.w = c.requires.two in some_member c.args.w (omega (arith, two))
+
+pub lone_step-requires-clause-nonzero : goal.lone_step-requires-clause-nonzero
+lone_step-requires-clause-nonzero g c =
+    step_some false c.args.sound.now c.args.w (try_vertex c.in-Some-step_of.first.d) c.in-Some-step_of.first.moved
+    (c.in-Some-step_of.ensures.step c.args.sound.now c.requires.made)
+
+pub returns-in-Some-2 : goal.returns-in-Some-2
+returns-in-Some-2 g c =
+    let t = c.args.table.now in
+    step_in_table _ c.args.sound.now t c.args.w c.args.limit (Some c.in-Some-2.found) c.requires.made
+    c.requires.within c.requires.few
+    (subst (λ (o : Option Marked). IfSome o (λ m. IsSetStep true t c.args.w (Some m))) c.in-Some-2.is
+    c.in_ok-found-2.ensures)
 
 pub tabulate-requires-clause-some : goal.tabulate-requires-clause-some
 tabulate-requires-clause-some g c =

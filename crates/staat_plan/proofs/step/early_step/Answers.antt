@@ -2,8 +2,6 @@ use Rattle.std.proofs.Common.{◌≤◌, arith, subst, All}
 use Rattle.std.specs.FinSet as set
 use Rattle.staat_vec.specs.declared.vector.V3.{V3}
 use Rattle.staat_model.specs.Outcomes.{IsMovedSide, Serves}
-use Rattle.staat_model.specs.Planes.{vertices}
-use Rattle.staat_model.proofs.Members.{All-from_members}
 use Rattle.staat_model.proofs.SomePlanes.{some_planes}
 use Rattle.staat_planes.specs.VertexSearch.{IsFirstServed}
 use Rattle.staat_plan.proofs.OutcomeLemmas.{some_member}
