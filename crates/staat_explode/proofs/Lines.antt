@@ -1,9 +1,10 @@
--- The lines of the parts, one more at a time; and the faces of a scene.
+-- The lines of the parts and of a scene, one more at a time.
 use Rattle.std.proofs.Common.{◌≡◌, ℕ, zero, suc, ◌+◌, ◌<◌, ◌≤◌, List, [], ◌∷◌, ◌++◌}
-use Rattle.std.proofs.Common.{take, length, map, flat_map, get_or, All, ap, sym, refl, ◌∙◌, arith, append-nil}
+use Rattle.std.proofs.Common.{take, drop, length, map, flat_map, get_or, All, ap, sym, subst, refl, ◌∙◌, arith, append-nil}
 use Rattle.std.proofs.Common.{append_assoc, decimal, pos, Ok}
 use Rattle.staat_model.specs.Lines.{spaced}
-use Rattle.std.proofs.lemmas.List.{take_more, take_all, length-take-le, length-map, map-append}
+use Rattle.std.proofs.lemmas.List.{drop_more, take_more, take_all, length-take-le, length-map}
+use Rattle.std.proofs.lemmas.List.Folds.{flat_map-map}
 use Rattle.std.proofs.lemmas.List.Elements.{All-append, All-head, All-nil, All-tail, All-weaker}
 use Rattle.std.proofs.lemmas.Grind.{flat_map-append}
 use Rattle.std.proofs.Common.{length-append}
@@ -13,8 +14,10 @@ use Rattle.staat_vec.specs.Vectors.{IsWithin, plus}
 use Rattle.staat_off.specs.Raws.{HasCorners, IsCounted, IsIndexed}
 use Rattle.staat_off.specs.Reading.{reading}
 use Rattle.staat_explode.specs.declared.scene.Solid.{Solid}
+use Rattle.staat_explode.specs.declared.sheet.Sheet.{Sheet}
 use Rattle.staat_explode.specs.Scenes.{corner_text, face_line, faces_behind, off_text, placed_points, count_of_points}
-use Rattle.staat_explode.specs.Scenes.{points_of_scene, scene_of, shift_at}
+use Rattle.staat_explode.specs.Scenes.{point_line, points_of_scene, scene_of, shift_at}
+use Rattle.staat_explode.specs.Sheets.{Adds, Keeps}
 use Rattle.staat_explode.specs.ShiftTexts.{shift_lines_from, shift_line}
 use Rattle.staat_explode.proofs.Rereading.{reading_again}
 use Rattle.staat_vec.proofs.ListLaws.{All-map}
@@ -77,33 +80,40 @@ scene_again solids shifts indexed small counted corners =
 
 -- ---- a face's line
 
-corners_spaced : (ks : List ℕ) → flat_map corner_text ks ++ 10 ∷ [] ≡ spaced (map pos ks)
-corners_spaced [] = refl
-corners_spaced (k ∷ ks) =
-    append_assoc (corner_text k) (flat_map corner_text ks) (10 ∷ []) ∙ ap (λ l. corner_text k
-    ++ l) (corners_spaced ks)
+corners_spaced : (before : ℕ) (ks : List ℕ) → flat_map (λ corner. corner_text (before + corner)) ks ++ 10 ∷ []
+    ≡ spaced (map pos (map (λ corner. before + corner) ks))
+corners_spaced before [] = refl
+corners_spaced before (k ∷ ks) =
+    append_assoc (corner_text (before + k)) (flat_map (λ corner. corner_text (before + corner)) ks) (10 ∷ [])
+    ∙ ap (λ l. corner_text (before + k) ++ l) (corners_spaced before ks)
 
-pub corners_all : (n : ℕ) (ks : List ℕ) → length ks ≤ n
-    → (decimal (length ks) ++ flat_map corner_text (take n ks)) ++ 10 ∷ [] ≡ face_line ks
-corners_all n ks all =
-    ap (λ l. (decimal (length ks) ++ flat_map corner_text l) ++ 10 ∷ []) (take_all n ks all)
-    ∙ append_assoc (decimal (length ks)) (flat_map corner_text ks) (10 ∷ [])
-    ∙ ap (λ l. decimal (length ks) ++ l) (corners_spaced ks)
+pub corners_all : (before n : ℕ) (ks : List ℕ) → length ks ≤ n
+    → (decimal (length ks) ++ flat_map (λ corner. corner_text (before + corner)) (take n ks)) ++ 10 ∷ []
+    ≡ face_line (map (λ corner. before + corner) ks)
+corners_all before n ks all =
+    let text = flat_map (λ corner. corner_text (before + corner)) in
+    ap (λ l. (decimal (length ks) ++ text l) ++ 10 ∷ []) (take_all n ks all)
+    ∙ append_assoc (decimal (length ks)) (text ks) (10 ∷ [])
+    ∙ ap (λ l. decimal (length ks) ++ l) (corners_spaced before ks)
+    ∙ ap (λ m. decimal m ++ spaced (map pos (map (λ corner. before + corner) ks))) (sym (length-map ks (λ corner. before + corner)))
+
+-- ---- lines behind lines
+
+pub adds_none : (a : Sheet) → Adds a a []
+adds_none a text h = subst (Keeps a) (sym (append-nil text)) h
+
+pub adds_then : (a b c : Sheet) (x y z : List ℕ) → x ++ y ≡ z → Adds a b x → Adds b c y → Adds a c z
+adds_then a b c x y z e first second text h =
+    subst (Keeps c) (append_assoc text x y ∙ ap (λ r. text ++ r) e) (second (text ++ x) (first text h))
+
+pub line_more : {X : Type 0} (line : X → List ℕ) (xs : List X) (i : ℕ) (d : X) → i < length xs
+    → flat_map line (take i xs) ++ line (get_or xs i d) ≡ flat_map line (take (i + 1) xs)
+line_more line xs i d lt =
+    ap (λ l. flat_map line (take i xs) ++ l) (sym (append-nil (line (get_or xs i d))))
+    ∙ sym (flat_map-append line (take i xs) (get_or xs i d ∷ []))
+    ∙ ap (flat_map line) (sym (take_more xs i d lt))
 
 -- ---- solids, one more at a time
-
-map_more : {X Y : Type 0} (f : X → Y) (xs : List X) (i : ℕ) (d : X) → i < length xs → map f (take (i + 1) xs)
-    ≡ map f (take i xs) ++ f (get_or xs i d) ∷ []
-map_more f xs i d lt = ap (map f) (take_more xs i d lt) ∙ map-append f (take i xs) (get_or xs i d ∷ [])
-
-pub face_more : (before : ℕ) (old now : List (List ℕ)) (more : List (List ℕ)) (i : ℕ) (next item e : List ℕ)
-    → i < length more → now ≡ old ++ map (map (λ corner. before + corner)) (take i more) → next
-    ≡ map (λ corner. before + corner) item → item ≡ get_or more i e
-    → now ++ next ∷ [] ≡ old ++ map (map (λ corner. before + corner)) (take (i + 1) more)
-face_more before old now more i next item e lt so_far is at =
-    (λ k. so_far k ++ (is ∙ ap (map (λ corner. before + corner)) at) k ∷ [])
-    ∙ append_assoc old (map (map (λ corner. before + corner)) (take i more)) (map (λ corner. before + corner) (get_or more i e) ∷ [])
-    ∙ ap (λ l. old ++ l) (sym (map_more (map (λ corner. before + corner)) more i e lt))
 
 shift_there : (shifts : List V3) (part : ℕ) (d : V3) → part < length shifts → get_or shifts part d
     ≡ shift_at shifts part
@@ -111,19 +121,44 @@ shift_there [] part d lt = absurd (omega arith)
 shift_there (v ∷ vs) zero d lt = refl
 shift_there (v ∷ vs) (suc n) d lt = shift_there vs n d (omega arith)
 
-pub points_more : (shifts : List V3) (solids : List Solid) (i : ℕ) (item e : Solid) (points more : List V3) (d : V3)
-    → i < length solids → item ≡ get_or solids i e → item.part < length shifts → points
-    ≡ points_of_scene (take i solids) shifts
-    → more ≡ map (λ p. plus (plus p item.at) (get_or shifts item.part d)) item.raw.points → points ++ more
-    ≡ points_of_scene (take (i + 1) solids) shifts
-points_more shifts solids i item e points more d lt at part so_far is =
-    let here : more ≡ placed_points shifts item =
-    is ∙ ap (λ v. map (λ p. plus (plus p item.at) v) item.raw.points) (shift_there shifts item.part d part) in
-    (λ k. so_far k ++ here k)
-    ∙ ap (λ l. points_of_scene (take i solids) shifts
-    ++ l) (ap (placed_points shifts) at ∙ sym (append-nil (placed_points shifts (get_or solids i e))))
-    ∙ sym (flat_map-append (placed_points shifts) (take i solids) (get_or solids i e ∷ []))
-    ∙ ap (flat_map (placed_points shifts)) (sym (take_more solids i e lt))
+-- the solid at a place, before those that are left
+left : (solids : List Solid) (i : ℕ) (s e : Solid) → i < length solids → s ≡ get_or solids i e
+    → s ∷ drop (i + 1) solids ≡ drop i solids
+left solids i s e lt at = ap (λ (t : Solid). t ∷ drop (i + 1) solids) at ∙ sym (drop_more solids i e lt)
+
+pub points_left : (solids : List Solid) (i : ℕ) (s e : Solid) → i < length solids → s ≡ get_or solids i e
+    → length s.raw.points + count_of_points (drop (i + 1) solids) ≡ count_of_points (drop i solids)
+points_left solids i s e lt at = ap count_of_points (left solids i s e lt at)
+
+pub faces_left : (before : ℕ) (solids : List Solid) (i : ℕ) (s e : Solid) → i < length solids → s ≡ get_or solids i e
+    → length s.raw.faces + length (faces_behind (before + length s.raw.points) (drop (i + 1) solids))
+    ≡ length (faces_behind before (drop i solids))
+faces_left before solids i s e lt at =
+    let own = map (map (λ corner. before + corner)) s.raw.faces in
+    let rest = faces_behind (before + length s.raw.points) (drop (i + 1) solids) in
+    omega (arith, length-append own rest, length-map s.raw.faces (map (λ corner. before + corner)), ap (λ l. length (faces_behind before l)) (left solids i s e lt at))
+
+pub points_then : (shifts : List V3) (solids : List Solid) (i : ℕ) (s e : Solid) (d : V3) → i < length solids
+    → s ≡ get_or solids i e → s.part < length shifts
+    → flat_map (λ p. point_line (plus (plus p s.at) (get_or shifts s.part d))) s.raw.points
+    ++ flat_map point_line (points_of_scene (drop (i + 1) solids) shifts)
+    ≡ flat_map point_line (points_of_scene (drop i solids) shifts)
+points_then shifts solids i s e d lt at part =
+    let rest = points_of_scene (drop (i + 1) solids) shifts in
+    ap (λ v. flat_map (λ p. point_line (plus (plus p s.at) v)) s.raw.points ++ flat_map point_line rest) (shift_there shifts s.part d part)
+    ∙ ap (λ l. l ++ flat_map point_line rest) (sym (flat_map-map point_line (λ p. plus (plus p s.at) (shift_at shifts s.part)) s.raw.points))
+    ∙ sym (flat_map-append point_line (placed_points shifts s) rest)
+    ∙ ap (λ (l : List Solid). flat_map point_line (points_of_scene l shifts)) (left solids i s e lt at)
+
+pub faces_then : (before : ℕ) (solids : List Solid) (i : ℕ) (s e : Solid) → i < length solids → s ≡ get_or solids i e
+    → flat_map (λ face. face_line (map (λ corner. before + corner) face)) s.raw.faces
+    ++ flat_map face_line (faces_behind (before + length s.raw.points) (drop (i + 1) solids))
+    ≡ flat_map face_line (faces_behind before (drop i solids))
+faces_then before solids i s e lt at =
+    let rest = faces_behind (before + length s.raw.points) (drop (i + 1) solids) in
+    ap (λ l. l ++ flat_map face_line rest) (sym (flat_map-map face_line (map (λ corner. before + corner)) s.raw.faces))
+    ∙ sym (flat_map-append face_line (map (map (λ corner. before + corner)) s.raw.faces) rest)
+    ∙ ap (λ (l : List Solid). flat_map face_line (faces_behind before l)) (left solids i s e lt at)
 
 pub points_counted : (solids : List Solid) (shifts : List V3) → length (points_of_scene solids shifts)
     ≡ count_of_points solids

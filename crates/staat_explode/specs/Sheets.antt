@@ -1,5 +1,5 @@
 -- Texts up to a limit.
-use Rattle.std.specs.Prelude.{◌≡◌, ◌<◌, ◌≤◌, ℕ, List, length, Result, Ok, Err}
+use Rattle.std.specs.Prelude.{◌≡◌, ◌<◌, ◌≤◌, ◌++◌, ℕ, List, length, Result, Ok, Err}
 use Rattle.staat_limits.specs.declared.limits.TheConstants.{TEXT_LIMIT}
 use Rattle.staat_model.specs.declared.refusal.TextRefusal.{TextRefusal}
 use Rattle.staat_model.specs.declared.refusal.TextRefusal.TheVariants.{TextTooLong, OutOfMemory}
@@ -9,6 +9,10 @@ use Rattle.staat_explode.specs.declared.sheet.Sheet.{Sheet}
 pub record Keeps (sheet : Sheet) (text : List ℕ) : Type 0 where
   pub count : sheet.length ≡ length text
   pub bytes : length text ≤ TEXT_LIMIT → sheet.bytes.items ≡ text
+
+-- one text was written behind another
+abbrev pub Adds : Sheet → Sheet → List ℕ → Type 0
+Adds before after more = (text : List ℕ) → Keeps before text → Keeps after (text ++ more)
 
 -- the text where it is within the limit, and else its length; or memory ran out
 abbrev pub Written : List ℕ → Result (List ℕ) TextRefusal → Type 0

@@ -1,18 +1,17 @@
 // Scenes of solids, each at its place.
-ghost use Rattle.std.specs.Prelude.{◌≡◌, ◌<◌, ◌≤◌, ◌+◌, ◌^◌, ◌++◌, All, IfOk, OnOk};
-ghost use Rattle.std.specs.Prelude.{length, map};
+ghost use Rattle.std.specs.Prelude.{◌≡◌, ◌<◌, ◌≤◌, ◌+◌, ◌*◌, ◌^◌, All, OnOk, flat_map, length, map};
 ghost use Rattle.staat_vec.specs.Vectors.{IsWithin, plus};
-ghost use Rattle.staat_explode.specs.Scenes.{faces_behind, placed_points, count_of_points, points_of_scene, scene_of};
-ghost use Rattle.staat_explode.specs.Scenes.{shift_at, off_text};
-ghost use Rattle.staat_explode.specs.Sheets.{Written};
+ghost use Rattle.staat_explode.specs.Scenes.{count_of_points, face_line, faces_behind, off_text, point_line};
+ghost use Rattle.staat_explode.specs.Scenes.{points_of_scene, scene_of};
+ghost use Rattle.staat_explode.specs.Sheets.{Adds, Written};
 ghost use Rattle.staat_explode.specs.Sizes.{IsSolidIn};
 
 use crate::grow::FARTHEST;
-use crate::off::off_text;
+use crate::off::{face_line, head_text, point_line};
 use crate::refusal::SceneRefusal;
+use crate::sheet::Sheet;
 use crate::shifts::Shifts;
-use staat_model::Points;
-use staat_off::{Corners, Faces, Raw};
+use staat_off::{Corners, Raw, Vertex};
 use staat_vec::{Bytes, DIRECTION, Listed, POINT, V3, add};
 use std::alloc::{AllocError, Global};
 
@@ -50,81 +49,112 @@ fn placed(p: V3, at: V3, shift: V3) -> V3
     moved(add(p, at), shift)
 }
 
-// The points of a solid, each at its place in the scene.
-fn placed_points(alloc: Global, points: &[V3], at: V3, shift: V3) -> Result<Vec<V3>, AllocError>
-    requires points { All (IsWithin POINT) points.now }
+// Writes the points of a solid, each at its place in the scene.
+fn write_points(
+    alloc: Global,
+    vertices: &[Vertex],
+    at: V3,
+    shift: V3,
+    sheet: &mut Sheet,
+) -> Result<(), AllocError>
+    requires points { All (IsWithin POINT) vertices.now }
     requires at { IsWithin POINT at }
     requires shift { IsWithin FARTHEST shift }
-    ensures { IfOk result (λ v. v.items ≡ map (λ p. plus (plus p at) shift) points.now) }
+    requires room { sheet.old.length + length vertices.now * 2 ^ 64 < 2 ^ 126 }
+    ensures text { OnOk result (Adds sheet.old sheet.new
+        (flat_map (λ p. point_line (plus (plus p at) shift)) vertices.now)) }
+    ensures room { OnOk result (sheet.new.length ≤ sheet.old.length + length vertices.now * 2 ^ 64) }
 {
-    let mut all = Vec::new(alloc);
-    for p in points {
-        all.push(placed(*p, at, shift))?;
-    }
-    Ok(all)
-}
-
-// The points of all solids in order.
-fn points_of_scene(alloc: Global, solids: &[Solid], shifts: &[V3]) -> Result<Vec<V3>, AllocError>
-    requires solids { All (IsSolidIn (length shifts.now)) solids.now }
-    requires shifts { All (IsWithin FARTHEST) shifts.now }
-    ensures { IfOk result (λ v. v.items ≡ points_of_scene solids.now shifts.now) }
-{
-    let mut points = Vec::new(alloc);
-    for solid in solids {
-        let shift = shifts[solid.part as usize];
-        let more = placed_points(alloc, solid.raw.points.as_slice(), solid.at, shift)?;
-        points.extend_from_slice(more.as_slice())?;
-    }
-    Ok(points)
-}
-
-// A face, with each corner raised.
-fn raised(alloc: Global, before: u32, face: &[u32]) -> Result<Corners, AllocError>
-    requires { All (λ corner. before + corner < 2 ^ 32) face.now }
-    ensures { IfOk result (λ corners. corners ≡ map (λ corner. before + corner) face.now) }
-{
-    let mut corners = Vec::new(alloc);
-    for corner in face {
-        corners.push(before + *corner)?;
-    }
-    Ok(Corners::from_vec(corners))
-}
-
-// Lists the faces behind others, with each corner raised.
-fn add_faces(
-    alloc: Global,
-    faces: &mut Vec<Corners>,
-    before: u32,
-    more: &[Corners],
-) -> Result<(), AllocError>
-    requires { All (All (λ corner. before + corner < 2 ^ 32)) more.now }
-    ensures { OnOk result (faces.new.items ≡ faces.old.items ++ map (map (λ corner. before + corner)) more.now) }
-{
-    for face in more {
-        let next = raised(alloc, before, face.as_slice())?;
-        faces.push(next)?;
+    for vertex in vertices {
+        let line = point_line(alloc, placed(vertex.point(), at, shift))?;
+        sheet.write(line.as_bytes())?;
     }
     Ok(())
 }
 
-// The faces of all solids in order.
-fn faces_of_scene(alloc: Global, solids: &[Solid], parts: usize) -> Result<Vec<Corners>, AllocError>
-    requires solids { All (IsSolidIn parts) solids.now }
-    requires count { count_of_points solids.now < 2 ^ 32 }
-    ensures { IfOk result (λ v. v.items ≡ faces_behind 0 solids.now) }
+// Writes the points of all solids in order.
+fn write_all_points(
+    alloc: Global,
+    solids: &[Solid],
+    shifts: &[V3],
+    sheet: &mut Sheet,
+) -> Result<(), AllocError>
+    requires solids { All (IsSolidIn (length shifts.now)) solids.now }
+    requires shifts { All (IsWithin FARTHEST) shifts.now }
+    requires points { count_of_points solids.now < 2 ^ 32 }
+    requires room { sheet.old.length < 2 ^ 65 }
+    ensures text { OnOk result (Adds sheet.old sheet.new
+        (flat_map point_line (points_of_scene solids.now shifts.now))) }
+    ensures room { OnOk result (sheet.new.length < 2 ^ 98) }
 {
-    let mut faces = Vec::new(alloc);
+    for solid in solids {
+        let shift = shifts[solid.part as usize];
+        write_points(alloc, solid.raw.points.as_slice(), solid.at, shift, sheet)?;
+    }
+    Ok(())
+}
+
+// Writes the faces of a solid, with each corner raised.
+fn write_faces(
+    alloc: Global,
+    before: u32,
+    faces: &[Corners],
+    sheet: &mut Sheet,
+) -> Result<(), AllocError>
+    requires corners { All (All (λ corner. before + corner < 2 ^ 32)) faces.now }
+    requires room { sheet.old.length + length faces.now * 2 ^ 64 < 2 ^ 126 }
+    ensures text { OnOk result (Adds sheet.old sheet.new
+        (flat_map (λ face. face_line (map (λ corner. before + corner) face)) faces.now)) }
+    ensures room { OnOk result (sheet.new.length ≤ sheet.old.length + length faces.now * 2 ^ 64) }
+{
+    for face in faces {
+        let line = face_line(alloc, before, face.as_slice())?;
+        sheet.write(line.as_slice())?;
+    }
+    Ok(())
+}
+
+// Writes the faces of all solids in order.
+fn write_all_faces(
+    alloc: Global,
+    solids: &[Solid],
+    parts: usize,
+    sheet: &mut Sheet,
+) -> Result<(), AllocError>
+    requires solids { All (IsSolidIn parts) solids.now }
+    requires points { count_of_points solids.now < 2 ^ 32 }
+    requires faces { length (faces_behind 0 solids.now) < 2 ^ 32 }
+    requires room { sheet.old.length < 2 ^ 98 }
+    ensures { OnOk result (Adds sheet.old sheet.new (flat_map face_line (faces_behind 0 solids.now))) }
+{
     let mut before = 0;
     for solid in solids {
-        add_faces(alloc, &mut faces, before, solid.raw.faces.as_slice())?;
+        write_faces(alloc, before, solid.raw.faces.as_slice(), sheet)?;
         before += solid.raw.points.as_slice().len() as u32;
     }
-    Ok(faces)
+    Ok(())
+}
+
+// How many points and how many faces the solids have in all.
+fn counts(solids: &[Solid]) -> (u32, u32)
+    requires points { count_of_points solids.now < 2 ^ 32 }
+    requires faces { length (faces_behind 0 solids.now) < 2 ^ 32 }
+    ensures points { result.0 ≡ count_of_points solids.now }
+    ensures faces { result.1 ≡ length (faces_behind 0 solids.now) }
+{
+    let mut points = 0;
+    let mut faces = 0;
+    for solid in solids {
+        points += solid.raw.points.as_slice().len() as u32;
+        faces += solid.raw.faces.as_slice().len() as u32;
+    }
+    (points, faces)
 }
 
 /// The text of a scene in the Object File Format: the points of all solids, each moved by its solid's vector and by
 /// its part's, and their faces.
+///
+/// Beside the text it takes memory for one line.
 pub fn scene_text(alloc: Global, solids: &Solids, s: &Shifts) -> Result<Bytes, SceneRefusal>
     requires solids { All (IsSolidIn (length s.now)) solids.now }
     requires shifts { All (IsWithin FARTHEST) s.now }
@@ -132,12 +162,13 @@ pub fn scene_text(alloc: Global, solids: &Solids, s: &Shifts) -> Result<Bytes, S
     requires faces { length (faces_behind 0 solids.now) < 2 ^ 32 }
     ensures { Written (off_text (scene_of solids.now s.now)) result }
 {
+    let all = solids.as_slice();
     let shifts = s.as_slice();
-    let points = points_of_scene(alloc, solids.as_slice(), shifts)?;
-    let faces = faces_of_scene(alloc, solids.as_slice(), shifts.len())?;
-    let scene = Raw {
-        points: Points::from_vec(points),
-        faces: Faces::from_vec(faces),
-    };
-    off_text(alloc, &scene)
+    let mut sheet = Sheet::new(alloc);
+    let (points, faces) = counts(all);
+    let head = head_text(alloc, points, faces)?;
+    sheet.write(head.as_bytes())?;
+    write_all_points(alloc, all, shifts, &mut sheet)?;
+    write_all_faces(alloc, all, shifts.len(), &mut sheet)?;
+    sheet.text()
 }

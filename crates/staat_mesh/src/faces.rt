@@ -7,18 +7,18 @@ ghost use Rattle.staat_mesh.specs.Polygons.{mesh, polygon};
 
 use crate::face::{Stance, stance_of};
 use crate::refusal::MeshRefusal;
-use staat_off::Raw;
+use staat_off::{Raw, Vertex};
 use staat_vec::{POINT, V3};
 use std::alloc::{AllocError, Global};
 
 // puts the positions of a face's corners into the list, in place of what it held
-fn trace(corners: &mut Vec<V3>, positions: &[V3], face: &[u32]) -> Result<(), AllocError>
-    requires { All (λ v. v < length positions.now) face.now }
-    ensures { OnOk result (corners.new.items ≡ polygon positions.now face.now) }
+fn trace(corners: &mut Vec<V3>, vertices: &[Vertex], face: &[u32]) -> Result<(), AllocError>
+    requires { All (λ v. v < length vertices.now) face.now }
+    ensures { OnOk result (corners.new.items ≡ polygon vertices.now face.now) }
 {
     corners.clear();
     for vertex in face {
-        corners.push(positions[*vertex as usize])?;
+        corners.push(vertices[*vertex as usize].point())?;
     }
     Ok(())
 }
@@ -32,10 +32,10 @@ pub fn check_faces(alloc: Global, raw: &Raw, points: &[V3]) -> Result<(), MeshRe
     requires points { All (IsWithin POINT) points.now }
     ensures { ChecksFaces (mesh raw.now) points.now result }
 {
-    let positions = raw.points.as_slice();
+    let vertices = raw.points.as_slice();
     let mut corners = Vec::new(alloc);
     for (number, face) in raw.faces.as_slice().iter().enumerate() {
-        trace(&mut corners, positions, face.as_slice())?;
+        trace(&mut corners, vertices, face.as_slice())?;
         match stance_of(points, corners.as_slice()) {
             Stance::Bad => return Err(MeshRefusal::BadFace(number as u32)),
             Stance::Cut => return Err(MeshRefusal::NotConvex(number as u32)),

@@ -5,6 +5,7 @@ ghost use Rattle.staat_vec.specs.Vectors.{vector_cmp};
 ghost use Rattle.staat_mesh.specs.Counts.{Numbers};
 
 use staat_limits::MOST_POINTS;
+use staat_off::Vertex;
 use staat_vec::V3;
 use std::alloc::{AllocError, Global};
 
@@ -22,14 +23,14 @@ fn number_of_position(points: &[V3], position: V3) -> u8
 }
 
 /// The number of each vertex's position among the points. The time is linear in the number of vertices.
-pub fn numbers_of(alloc: Global, points: &[V3], positions: &[V3]) -> Result<Vec<u8>, AllocError>
+pub fn numbers_of(alloc: Global, points: &[V3], vertices: &[Vertex]) -> Result<Vec<u8>, AllocError>
     requires ascending { IsStrictlySortedBy vector_cmp points.now }
     requires number { length points.now ≤ MOST_POINTS }
-    ensures { IfOk result (λ numbers. Numbers points.now positions.now numbers.items) }
+    ensures { IfOk result (λ numbers. Numbers points.now vertices.now numbers.items) }
 {
     let mut numbers = Vec::new(alloc);
-    for position in positions {
-        numbers.push(number_of_position(points, *position))?;
+    for vertex in vertices {
+        numbers.push(number_of_position(points, vertex.point()))?;
     }
     Ok(numbers)
 }

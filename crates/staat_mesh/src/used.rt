@@ -8,7 +8,7 @@ ghost use Rattle.staat_off.specs.Raws.{IsIndexed};
 ghost use Rattle.staat_mesh.specs.MarkedVertices.{IsMarked, MarksCorners};
 ghost use Rattle.staat_mesh.specs.Polygons.{IsUsed, mesh};
 
-use staat_off::{Corners, Raw};
+use staat_off::{Corners, Raw, Vertex};
 use staat_vec::{V3, in_order};
 use std::alloc::{AllocError, Global};
 
@@ -35,16 +35,16 @@ fn marks_of(alloc: Global, vertices: usize, faces: &[Corners]) -> Result<Vec<boo
     Ok(marks)
 }
 
-// the marked ones of the positions
-fn marked(alloc: Global, positions: &[V3], marks: &[bool]) -> Result<Vec<V3>, AllocError>
+// the positions of the marked ones of the vertices
+fn marked(alloc: Global, vertices: &[Vertex], marks: &[bool]) -> Result<Vec<V3>, AllocError>
     ensures { IfOk result
-        (λ used. used.items ≡ map (λ e. e.0) (filter (λ e. e.1) (zip positions.now marks.now))) }
+        (λ used. used.items ≡ map (λ e. e.0) (filter (λ e. e.1) (zip vertices.now marks.now))) }
 {
-    positions
+    vertices
         .iter()
         .zip(marks)
         .filter(|(_, is_marked)| **is_marked)
-        .map(|(position, _)| *position)
+        .map(|(vertex, _)| vertex.point())
         .collect(alloc)
 }
 
@@ -55,7 +55,7 @@ pub fn used_points(alloc: Global, raw: &Raw) -> Result<Vec<V3>, AllocError>
     ensures used { IfOk result (λ points. Lists vector_cmp (IsUsed (mesh raw.now)) points.items) }
     ensures number { IfOk result (λ points. length points.items ≤ length raw.now.points) }
 {
-    let positions = raw.points.as_slice();
-    let marks = marks_of(alloc, positions.len(), raw.faces.as_slice())?;
-    Ok(in_order(marked(alloc, positions, marks.as_slice())?))
+    let vertices = raw.points.as_slice();
+    let marks = marks_of(alloc, vertices.len(), raw.faces.as_slice())?;
+    Ok(in_order(marked(alloc, vertices, marks.as_slice())?))
 }

@@ -117,7 +117,7 @@ vector_within : (x y z : ℤ) (v : V3) → vector x y z ≡ v → unsigned_abs x
 vector_within x y z v told hx hy hz =
     subst (IsWithin POINT) told (record { x = hx; y = hy; z = hz })
 
-point_bound : (digits : ℕ) (rest : Rest) (v : V3 × Rest) → point digits rest ≡ Ok v → IsWithin POINT v.0
+pub point_bound : (digits : ℕ) (rest : Rest) (v : V3 × Rest) → point digits rest ≡ Ok v → IsWithin POINT v.0
 unfolding point
 point_bound digits rest v h =
     let x = resumed_ok (coordinate digits rest) (λ x after. resumed (coordinate digits after) (λ y later. resumed (coordinate digits later) (λ z. return (vector x y z)))) v h in

@@ -6,11 +6,10 @@ ghost use Rattle.staat_off.specs.Readers.{many};
 ghost use Rattle.staat_off.specs.Reading.{face, file, index, point, reading};
 
 use crate::fields::{read_corner_count, read_count, read_end, read_header, read_index, read_point};
-use crate::raw::{Corners, Faces, Raw};
+use crate::raw::{Corners, Faces, Raw, Vertex, Vertices};
 use crate::refusal::OffRefusal;
 use crate::rest::Rest;
 use staat_limits::MOST_DIGITS;
-use staat_model::Points;
 use std::alloc::Global;
 
 fn read_points(
@@ -18,16 +17,17 @@ fn read_points(
     number: u32,
     digits: u32,
     rest: &mut Rest<'_>,
-) -> Result<Points, OffRefusal>
+) -> Result<Vertices, OffRefusal>
     requires { digits ≤ MOST_DIGITS }
     ensures { Gives (λ points. points) result rest.new (many number (point digits) rest.old) }
 {
     let mut points = Vec::new(alloc);
     'points: for _ in 0..number {
         let point = read_point(digits, rest)?;
-        points.push(point)?;
+        points.push(Vertex::of(point))?;
     }
-    Ok(Points::from_vec(points))
+    points.shrink_to_fit();
+    Ok(Vertices::from_vec(points))
 }
 
 fn read_indices(
@@ -43,6 +43,7 @@ fn read_indices(
         let corner = read_index(vertices, rest)?;
         corners.push(corner)?;
     }
+    corners.shrink_to_fit();
     Ok(Corners::from_vec(corners))
 }
 
@@ -69,6 +70,7 @@ fn read_faces(
         let face = read_face(alloc, vertices, rest)?;
         faces.push(face)?;
     }
+    faces.shrink_to_fit();
     Ok(Faces::from_vec(faces))
 }
 

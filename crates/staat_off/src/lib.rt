@@ -13,5 +13,5 @@ mod rest;
 mod trim;
 
 pub use file::read_off;
-pub use raw::{Corners, Faces, Raw};
+pub use raw::{Corners, Faces, Raw, Vertex, Vertices};
 pub use refusal::OffRefusal;

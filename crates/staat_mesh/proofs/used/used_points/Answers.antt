@@ -12,7 +12,7 @@ pub returns-clause-used : goal.returns-clause-used
 returns-clause-used c =
     let raw = c.args.raw.now in
     let marks = c.in_ok-marks.marks.items in
-    let is : c.in_ok-marked.field-0.items ≡ marked_of raw.points marks = c.in_ok-marked.ensures ∙ ap (λ (ps : List V3). marked_of ps c.as_slice-2.result.now) c.as_slice-positions.ensures ∙ ap (λ (ms : List Bool). marked_of raw.points ms) c.as_slice-2.ensures.value in
+    let is : c.in_ok-marked.field-0.items ≡ marked_of raw.points marks = c.in_ok-marked.ensures ∙ ap (λ (ps : List V3). marked_of ps c.as_slice-2.result.now) c.as_slice-vertices.ensures ∙ ap (λ (ms : List Bool). marked_of raw.points ms) c.as_slice-2.ensures.value in
     let corners = subst (λ (faces : List (List ℕ)). MarksCorners faces marks) c.as_slice.ensures c.in_ok-marks.ensures.corners in
     lists_used raw marks c.in_order.result.items corners (subst (λ (ps : List V3). Lists vector_cmp (Contains ps) c.in_order.result.items) is c.in_order.ensures)
 
@@ -20,5 +20,5 @@ pub returns-clause-number : goal.returns-clause-number
 returns-clause-number c =
     let raw = c.args.raw.now in
     let marks = c.in_ok-marks.marks.items in
-    let is : c.in_ok-marked.field-0.items ≡ marked_of raw.points marks = c.in_ok-marked.ensures ∙ ap (λ (ps : List V3). marked_of ps c.as_slice-2.result.now) c.as_slice-positions.ensures ∙ ap (λ (ms : List Bool). marked_of raw.points ms) c.as_slice-2.ensures.value in
+    let is : c.in_ok-marked.field-0.items ≡ marked_of raw.points marks = c.in_ok-marked.ensures ∙ ap (λ (ps : List V3). marked_of ps c.as_slice-2.result.now) c.as_slice-vertices.ensures ∙ ap (λ (ms : List Bool). marked_of raw.points ms) c.as_slice-2.ensures.value in
     omega (arith, length-le_from_contains c.in_order.result.items c.in_ok-marked.field-0.items c.in_order.ensures.ascending c.in_order.ensures.each, ap length is, length-marked_of raw.points marks)

@@ -16,5 +16,5 @@ faces-preserved c =
 
 pub returns : goal.returns
 returns c =
-    rw c.from_vec.ensures
+    rw (c.from_vec.ensures ∙ c.shrink_to_fit.ensures.items)
     (sym c.faces.invariant ∙ many_ends (face c.args.vertices) c.args.number c.faces.counter c.faces.faces.items c.faces.rest (omega arith))

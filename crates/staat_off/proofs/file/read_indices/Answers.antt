@@ -16,5 +16,5 @@ corners-preserved c =
 
 pub returns : goal.returns
 returns c =
-    rw c.from_vec.ensures
+    rw (c.from_vec.ensures ∙ c.shrink_to_fit.ensures.items)
     (sym c.corners.invariant ∙ many_ends (index c.args.vertices) c.args.number c.corners.counter c.corners.corners.items c.corners.rest (omega arith))
