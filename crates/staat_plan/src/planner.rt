@@ -6,7 +6,7 @@ ghost use Rattle.std.specs.Option.{option_to_list};
 ghost use Rattle.staat_model.specs.Outcomes.{IsOutcome, finding_of, planned};
 ghost use Rattle.staat_model.specs.Plans.{leaf, plan_of, split};
 ghost use Rattle.staat_model.specs.Sets.{Has, IsNonempty, IsSubset, below};
-ghost use Rattle.staat_pairs.specs.Tables.{WasMadeFrom};
+ghost use Rattle.staat_pairs.specs.Tables.{IsTableOf, WasMadeFrom};
 ghost use Rattle.staat_planes.specs.Refusals.{IsPlanesRefusal};
 ghost use Rattle.staat_plan.specs.Certifying.{CanBeCertified};
 ghost use Rattle.staat_plan.specs.Marks.{AreMarksRight};
@@ -17,6 +17,7 @@ use crate::cell_steps::{cell_step, first_open_step};
 use crate::lone_step::lone_step;
 use crate::marked::Marked;
 use crate::step::{early_step, step_of};
+use crate::tabulated::Tabulated;
 use crate::walker::Walker;
 use staat_cone::FacetSource;
 use staat_limits::{LEAST_PLANES, MOST_CELL_PLANES, MOST_PLANES};
@@ -92,7 +93,7 @@ fn vertex_step(
 // The step of a set of parts of the table in a robust plan. Most sets that come apart do so in their first open cell;
 // where no vertex serves a set, no cell does, by the law `tries_decide`; and where it comes apart along one line alone,
 // no other vertex is looked at. For all three the one table is enough. Only where none of them decides are all cells
-// made; those of a smaller set are the cells of a table of its own.
+// made; those of a smaller set are the cells of a table of its own, whose facets are those of the table.
 fn robust_step<F: FacetSource>(
     alloc: Global,
     source: &F,
@@ -122,7 +123,7 @@ fn robust_step<F: FacetSource>(
     if table.set().within(w) {
         return Ok(cell_step(alloc, table)?);
     }
-    let own = tabulate(alloc, source, sound, w, limit)?;
+    let own = tabulate(alloc, &Tabulated::of(source, sound, table), sound, w, limit)?;
     Ok(cell_step(alloc, &own)?)
 }
 
@@ -264,6 +265,32 @@ fn outcome_of_set<F: FacetSource>(
     }
 }
 
+/// The outcome of an assembly, as [`plan`] answers it, and the table of all parts that it is found by.
+///
+/// The facets of two pieces are asked of `source` once. By the table, [`Tabulated`] answers all that is asked later.
+pub fn plan_with_table<F: FacetSource>(
+    alloc: Global,
+    source: &F,
+    sound: &Sound,
+    options: Options,
+) -> Result<(Outcome, PlaneTable), PlanRefusal>
+    requires least { LEAST_PLANES ≤ options.planes }
+    requires most { options.planes ≤ MOST_PLANES }
+    requires cells { options.robust ≡ true → options.planes ≤ MOST_CELL_PLANES }
+    ensures outcome { MatchResult result
+        (λ o. IsOutcomeOf options.robust sound.now (below (length sound.now)) options.planes o.0)
+        (IsPlanesRefusal sound.now (below (length sound.now)) options.planes) }
+    ensures right { IfOk result (λ o. Settles sound.now (below (length sound.now)) (finding_of o.0)) }
+    ensures certified { IfOk result (λ o. CanBeCertified sound.now (finding_of o.0)) }
+    ensures table { IfOk result (λ o. IsTableOf sound.now (below (length sound.now)) o.1) }
+{
+    let all = PartSet::first(sound.assembly().parts());
+    let table = tabulate(alloc, source, sound, all, options.planes)?;
+    let mut walker = None;
+    let outcome = outcome_of_set(alloc, source, sound, &table, &mut walker, all, options)?;
+    Ok((outcome, table))
+}
+
 /// The outcome of an assembly: a plan for all its parts, or a set of parts that no step takes apart.
 ///
 /// For a set of parts the step is that of [`part_step`](crate::part_step). In a robust plan it is instead the step
@@ -274,8 +301,9 @@ fn outcome_of_set<F: FacetSource>(
 /// preorder; a plan that is not robust has none.
 ///
 /// One table is made for all parts, and in a robust plan one more for each smaller set that comes apart, but neither in
-/// its first open cell nor along one line alone. Where the first vertices of a set do not decide in a plan that is not robust, its vertices are gone
-/// through by a walk along rings, which are made once.
+/// its first open cell nor along one line alone; the facets of two pieces are asked of `source` once. Where the first
+/// vertices of a set do not decide in a plan that is not robust, its vertices are gone through by a walk along rings,
+/// which are made once.
 ///
 /// There are at most `planes` planes, from 3 to [`MOST_PLANES`], and to [`MOST_CELL_PLANES`] in a robust plan;
 /// [`TooManyPlanes`](PlanesRefusal::TooManyPlanes) comes exactly where all parts together have more, with their
@@ -298,8 +326,8 @@ pub fn plan<F: FacetSource>(
     ensures planes { MatchResult result (λ o. HasFewPlanes sound.now (below (length sound.now)) options.planes)
         (IsPlanesRefusal sound.now (below (length sound.now)) options.planes) }
 {
-    let all = PartSet::first(sound.assembly().parts());
-    let table = tabulate(alloc, source, sound, all, options.planes)?;
-    let mut walker = None;
-    outcome_of_set(alloc, source, sound, &table, &mut walker, all, options)
+    // the parts are those of an assembly
+    let _parts = sound.assembly().parts();
+    let (outcome, _table) = plan_with_table(alloc, source, sound, options)?;
+    Ok(outcome)
 }

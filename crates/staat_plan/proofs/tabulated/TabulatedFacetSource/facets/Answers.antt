@@ -1,0 +1,18 @@
+use Rattle.std.proofs.Common.{◌∙◌, ap}
+use Rattle.std.specs.Prelude.{Some}
+use Rattle.staat_cone.proofs.Sources.{listed_within, overlap_by_list}
+use Rattle.staat_plan.proofs.TableFacets.{facets_listed}
+use Rattle.staat_plan.proofs.tabulated.TabulatedFacetSource.facets.Goals as goal
+
+pub returns-in_ok-facets-in-Some-clause-facets : goal.returns-in_ok-facets-in-Some-clause-facets
+returns-in_ok-facets-in-Some-clause-facets g c =
+    facets_listed c.self.inside.sound.now c.self.inside.table.now c.in-Some.arc c.args.p.now c.args.q.now c.in_ok-facets-in-Some.facets.items c.self.invariant c.in-Some.ensures.0
+    (c.in-Some.ensures.1 ∙ ap Some c.points.ensures.points) (c.in-Some.ensures.2 ∙ ap Some c.points-2.ensures.points) c.in_ok-facets-in-Some.ensures
+
+pub returns-in_ok-facets-in-Some-clause-overlap : goal.returns-in_ok-facets-in-Some-clause-overlap
+returns-in_ok-facets-in-Some-clause-overlap g c =
+    overlap_by_list c.args.p.now c.args.q.now c.in_ok-facets-in-Some.facets.items c.points.ensures.piece c.points-2.ensures.piece (returns-in_ok-facets-in-Some-clause-facets g c)
+
+pub returns-in_ok-facets-in-Some-clause-size : goal.returns-in_ok-facets-in-Some-clause-size
+returns-in_ok-facets-in-Some-clause-size g c =
+    listed_within c.args.p.now c.args.q.now c.in_ok-facets-in-Some.facets.items c.points.ensures.piece c.points-2.ensures.piece (returns-in_ok-facets-in-Some-clause-facets g c)
