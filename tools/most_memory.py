@@ -3,10 +3,11 @@
 
     tools/most_memory.py PROGRAM
 
-Each product has as many pieces as a product may have, each in a file that is nearly as long as a file may be: of one, the
-files list vertices that no face uses; of the other, each has a face of very many corners. A line for each tells the
-greatest resident memory of `explode --off`. The last line is `N passed, M failed`, and the status is 1 if a run did not
-end with the drawing, or took more than 350 MB.
+Each product has as many pieces as a product may have, each in a file that is nearly as long as a
+file may be: of one, the files list vertices that no face uses; of the other, each has a face of
+very many corners. A line for each tells the greatest resident memory of `explode --off`. The last
+line is `N passed, M failed`, and the status is 1 if a run did not end with the drawing, or took
+more than 350 MB.
 """
 
 from __future__ import annotations
