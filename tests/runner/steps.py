@@ -94,6 +94,7 @@ STEPS = (
         is_quick=False,
     ),
     Step("readings", _python("tools/compare_readings.py", "{program}")),
+    Step("large files", _python("tools/most_memory.py", "{program}")),
     Step("tools", _python("tests/runner/units.py", "tools"), ("cc",)),
     Step("runner", _python("tests/runner/units.py", "tests/runner"), needs_program=False),
     Step("bench", _python("tests/runner/units.py", "bench"), ("cc",), needs_program=False),
