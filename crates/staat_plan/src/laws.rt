@@ -1,5 +1,6 @@
 //! Laws on what the planner finds. Each is a function that does nothing, and its contract is the law.
-ghost use Rattle.std.specs.Prelude.{◌≡◌, ◌≢◌, ◌↔◌, ◌≤◌, ℕ, All, Bool, List, length, map, take, true};
+ghost use Rattle.std.specs.Prelude.{◌≡◌, ◌≢◌, ◌↔◌, ◌≤◌, ℕ, All, Bool, List};
+ghost use Rattle.std.specs.Prelude.{length, map, take, true};
 ghost use Rattle.std.specs.FinSet as set;
 ghost use Rattle.staat_limits.specs.Versions.{IsVersion};
 ghost use Rattle.staat_limits.specs.declared.limits.TheConstants.{TEXT_LIMIT};
@@ -55,8 +56,8 @@ pub fn tries_decide()
         → IsStuck parts w ↔ All (λ t. Serves parts w t.d → ⊥) tries }
 {}
 
-/// Where each plane of a set on which some direction serves passes through v, each direction that serves lies on the line
-/// of v. So no edge and no open cell serves.
+/// Where each plane of a set on which some direction serves passes through v, each direction that serves lies on the
+/// line of v. So no edge and no open cell serves.
 pub fn lone_line_serves()
     ensures { (parts : List PartValue) (w : PartSetValue) (planes : List Vector) (v d : Vector)
         → IsAssembly parts → ArePlanes parts w planes → v ≢ origin → OnlyPlanesThroughServe parts w planes v
