@@ -1,11 +1,9 @@
-use Rattle.std.proofs.Common.{◌≡◌, ◌∙◌, ◌<◌, ℕ, ap, subst, sym}
+use Rattle.std.proofs.Common.{◌∙◌, ◌<◌, ap, subst}
 use Rattle.std.specs.Prelude.{None, Some}
 use Rattle.std.proofs.lemmas.Bool.Decides.{Decides-ltb}
 use Rattle.std.proofs.lemmas.Option.{slice_get-get_or}
+use Rattle.staat_holds.proofs.LinkLemmas.{same_node}
 use Rattle.staat_holds.proofs.links.is_of_node.Goals as goal
-
-same_node : (n m : ℕ) → Some (Some n) ≡ Some (Some m) → n ≡ m
-same_node n m e = cc
 
 pub returns-in-Some : goal.returns-in-Some
 returns-in-Some c =
@@ -13,5 +11,5 @@ returns-in-Some c =
     let here = slice_get-get_or c.args.nodes.now c.args.a None c.if-a-nodes.false ∙ ap Some c.in-Some.is in
     let decides = Decides-ltb node c.args.count in (
       λ t. record { node = node; is = here; few = decides.0 t },
-      λ h. decides.1 (subst (λ n. n < c.args.count) (same_node h.node node (sym h.is ∙ here)) h.few),
+      λ h. decides.1 (subst (λ n. n < c.args.count) (same_node c.args.nodes.now c.args.a h.node node h.is here) h.few),
     )
