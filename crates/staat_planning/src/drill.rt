@@ -5,6 +5,7 @@ ghost use Rattle.staat_model.specs.Certify.{IsCertificateOf};
 ghost use Rattle.staat_model.specs.Outcomes.{IsOutcome, finding_of};
 ghost use Rattle.staat_model.specs.Texts.{IsWellFormed};
 ghost use Rattle.staat_cert.specs.Writing.{IsTextAnswer};
+ghost use Rattle.staat_pairs.specs.Tables.{WasMadeFrom};
 ghost use Rattle.staat_plan.specs.Certifying.{CanBeCertified};
 ghost use Rattle.staat_text.specs.PlanTexts.{CanBeShown};
 ghost use Rattle.staat_words.specs.Requests.{IsNamedProduct};
@@ -22,7 +23,8 @@ use staat_fault::Fault;
 use staat_input::{Answer, tested, text_fault};
 use staat_limits::MOST_PLANES;
 use staat_model::{Assembly, Certificate, Outcome, Sound, Verdict};
-use staat_plan::certify;
+use staat_plan::{Tabulated, certify};
+use staat_planes::PlaneTable;
 use staat_text::drill_text;
 use staat_vec::{Bytes, OutOfMemory};
 use staat_words::DrillProduct;
@@ -75,8 +77,10 @@ fn drilled(
     alloc: Global,
     name: DrillProduct,
     sound: &Sound,
+    table: &PlaneTable,
     outcome: &Outcome,
 ) -> Result<Answer, Fault>
+    requires made { WasMadeFrom sound.now table.now }
     requires outcome { IsOutcome false sound.now (all_parts sound.now) (finding_of outcome.now) }
     requires shown { CanBeShown (finding_of outcome.now) }
     requires certified { CanBeCertified sound.now (finding_of outcome.now) }
@@ -84,7 +88,8 @@ fn drilled(
     ensures drilled { Follows (IsDrilled name sound.now) result }
     ensures cause { (shelf : ShelfSide) → IfErr result (HasCause shelf) }
 {
-    let certificate = certify(alloc, &Scan, sound, outcome, 2)?;
+    let source = Tabulated::of(&Scan, sound, table);
+    let certificate = certify(alloc, &source, sound, outcome, 2)?;
     match cert_text(alloc, &certificate) {
         Ok(text) => {
             let read = read_again(alloc, &text)?;
@@ -106,6 +111,6 @@ pub fn drill(alloc: Global, name: DrillProduct) -> Result<Answer, Fault>
 {
     let assembly = product(alloc, name)?;
     let sound = tested(alloc, assembly)?;
-    let outcome = outcome_of(alloc, &sound, MOST_PLANES, false)?;
-    drilled(alloc, name, &sound, &outcome)
+    let (outcome, table) = outcome_of(alloc, &sound, MOST_PLANES, false)?;
+    drilled(alloc, name, &sound, &table, &outcome)
 }

@@ -149,7 +149,7 @@ pub fn explode<H: Shelf>(
 {
     let mut sketch = Sketch::new(alloc, request.off);
     let sound = read_sketched(alloc, shelf, &request.asked, &mut sketch)?;
-    let outcome = outcome_of(alloc, &sound, request.planes, false)?;
+    let (outcome, _table) = outcome_of(alloc, &sound, request.planes, false)?;
     let solids = Solids::from_vec(sketch.solids);
     shown(alloc, &sound, &outcome, &solids, request.off)
 }

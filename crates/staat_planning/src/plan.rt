@@ -7,6 +7,7 @@ ghost use Rattle.staat_model.specs.Assemblies.{IsAssembly};
 ghost use Rattle.staat_limits.specs.Versions.{IsVersion};
 ghost use Rattle.staat_model.specs.Outcomes.{IsOutcome, finding_of};
 ghost use Rattle.staat_limits.specs.declared.limits.TheConstants.{LEAST_PLANES, MOST_CELL_PLANES, MOST_PLANES};
+ghost use Rattle.staat_pairs.specs.Tables.{WasMadeFrom};
 ghost use Rattle.staat_plan.specs.Certifying.{CanBeCertified};
 ghost use Rattle.staat_plan.specs.Planning.{HasFewPlanes};
 ghost use Rattle.staat_text.specs.PlanTexts.{CanBeShown};
@@ -23,7 +24,8 @@ use staat_edge::Shelf;
 use staat_fault::Fault;
 use staat_input::{Answer, planes_fault, read_sound, text_fault};
 use staat_model::{Outcome, Sound};
-use staat_plan::{Options, certify};
+use staat_plan::{Options, Tabulated, certify, plan_with_table};
+use staat_planes::PlaneTable;
 use staat_text::plan_text;
 use staat_vec::Bytes;
 use staat_words::PlanRequest;
@@ -36,23 +38,29 @@ fn know(sound: &Sound)
     let _ = sound.assembly().parts();
 }
 
-/// The outcome of an assembly that has at most so many planes, robust or not.
+/// The outcome of an assembly that has at most so many planes, robust or not, and the table of all its parts.
 #[tactic(auto, using(crate::proofs::PlanLemmas::planning))]
-pub fn outcome_of(alloc: Global, sound: &Sound, planes: u32, robust: bool) -> Result<Outcome, Fault>
+pub fn outcome_of(
+    alloc: Global,
+    sound: &Sound,
+    planes: u32,
+    robust: bool,
+) -> Result<(Outcome, PlaneTable), Fault>
     requires least { LEAST_PLANES ≤ planes }
     requires most { planes ≤ MOST_PLANES }
     requires cells { robust ≡ true → planes ≤ MOST_CELL_PLANES }
-    ensures outcome { IfOk result (λ o. IsOutcome robust sound.now (all_parts sound.now) (finding_of o)) }
+    ensures outcome { IfOk result (λ o. IsOutcome robust sound.now (all_parts sound.now) (finding_of o.0)) }
     ensures few { IfOk result (λ _. HasFewPlanes sound.now (all_parts sound.now) planes) }
-    ensures shown { IfOk result (λ o. CanBeShown (finding_of o)) }
-    ensures certified { IfOk result (λ o. CanBeCertified sound.now (finding_of o)) }
+    ensures shown { IfOk result (λ o. CanBeShown (finding_of o.0)) }
+    ensures certified { IfOk result (λ o. CanBeCertified sound.now (finding_of o.0)) }
+    ensures made { IfOk result (λ o. WasMadeFrom sound.now o.1) }
     ensures refused { IfErr result (λ fault. Follows (AreCounted sound.now planes) (Err fault)) }
     ensures cause { (shelf : ShelfSide) → IfErr result (HasCause shelf) }
 {
     let options = Options { planes, robust };
     know(sound);
-    match staat_plan::plan(alloc, &Scan, sound, options) {
-        Ok(outcome) => Ok(outcome),
+    match plan_with_table(alloc, &Scan, sound, options) {
+        Ok(found) => Ok(found),
         Err(refusal) => Err(planes_fault(refusal)),
     }
 }
@@ -62,15 +70,18 @@ pub fn outcome_of(alloc: Global, sound: &Sound, planes: u32, robust: bool) -> Re
 fn certificate_text(
     alloc: Global,
     sound: &Sound,
+    table: &PlaneTable,
     outcome: &Outcome,
     version: u32,
 ) -> Result<Bytes, Fault>
     requires version { IsVersion version }
+    requires made { WasMadeFrom sound.now table.now }
     requires certified { CanBeCertified sound.now (finding_of outcome.now) }
     ensures written { Follows (IsWritten sound.now (finding_of outcome.now) (Some version)) result }
     ensures cause { (shelf : ShelfSide) → IfErr result (HasCause shelf) }
 {
-    let certificate = certify(alloc, &Scan, sound, outcome, version)?;
+    let source = Tabulated::of(&Scan, sound, table);
+    let certificate = certify(alloc, &source, sound, outcome, version)?;
     match cert_text(alloc, &certificate) {
         Ok(text) => Ok(text),
         Err(refusal) => Err(text_fault(refusal)),
@@ -82,10 +93,12 @@ fn certificate_text(
 fn text_of(
     alloc: Global,
     sound: &Sound,
+    table: &PlaneTable,
     outcome: &Outcome,
     certificate: Option<u32>,
 ) -> Result<Bytes, Fault>
     requires version { IfSome certificate IsVersion }
+    requires made { WasMadeFrom sound.now table.now }
     requires shown { CanBeShown (finding_of outcome.now) }
     requires certified { CanBeCertified sound.now (finding_of outcome.now) }
     ensures written { Follows (IsWritten sound.now (finding_of outcome.now) certificate) result }
@@ -96,7 +109,7 @@ fn text_of(
             let text = plan_text(alloc, outcome)?;
             Ok(text)
         }
-        Some(version) => certificate_text(alloc, sound, outcome, version),
+        Some(version) => certificate_text(alloc, sound, table, outcome, version),
     }
 }
 
@@ -125,7 +138,7 @@ pub fn plan<H: Shelf>(alloc: Global, request: &PlanRequest, shelf: &mut H) -> Re
     ensures cause { IfErr result (HasCause (over (H.told shelf.old) (H.told shelf.new))) }
 {
     let sound = read_sound(alloc, shelf, &request.asked)?;
-    let outcome = outcome_of(alloc, &sound, request.planes, request.robust)?;
-    let text = text_of(alloc, &sound, &outcome, request.certificate)?;
+    let (outcome, table) = outcome_of(alloc, &sound, request.planes, request.robust)?;
+    let text = text_of(alloc, &sound, &table, &outcome, request.certificate)?;
     Ok(answer_of(&outcome, text))
 }
