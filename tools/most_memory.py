@@ -1,5 +1,5 @@
 #!/usr/bin/python3
-"""Measures how much memory the built planner takes at most for the drawing of a product of large files.
+"""Measures the most memory that the built planner takes for the drawing of large files.
 
     tools/most_memory.py PROGRAM
 
@@ -27,7 +27,7 @@ FACES = ("0 1 3 2", "4 5 7 6", "0 1 5 4", "2 3 7 6", "0 2 6 4")
 
 
 def off(corner: int, vertices: int, end: str) -> str:
-    """A cube of side 1 in which so many vertices follow its own; the text of its last face is `end`."""
+    """A cube of side 1, so many vertices that no face uses, and `end` as its last face."""
     cube = [f"{corner + x} {y} {z}" for x in (0, 1) for y in (0, 1) for z in (0, 1)]
     lines = [*cube, *["0 0 0"] * vertices, *(f"4 {face}" for face in FACES), end]
     return f"OFF\n{8 + vertices} 6 0\n" + "\n".join(lines) + "\n"
@@ -45,7 +45,7 @@ def with_corners(corner: int) -> str:
 
 
 def memory_of(program: str, folder: Path, text: Callable[[int], str]) -> tuple[int, int]:
-    """The status of the drawing of such pieces, two to a part, and the greatest resident memory in bytes."""
+    """The status of the drawing of such pieces, two to a part, and its greatest memory in bytes."""
     parts = [
         {"name": str(part), "pieces": [str(folder / f"{2 * part + k}.off") for k in (0, 1)]}
         for part in range(PIECES // 2)
