@@ -28,6 +28,7 @@ pub mod EdgeIncidences
 pub mod Zeros
 pub mod Beside
 pub mod Elements
+pub mod SignLists
 pub mod Cones
 pub mod ConeTests
 pub mod BatchCones
