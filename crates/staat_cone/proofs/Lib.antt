@@ -10,3 +10,4 @@ pub mod LawLemmas
 pub mod FewLemmas
 pub mod Sources
 pub mod AxisWallLemmas
+pub mod WordLemmas
