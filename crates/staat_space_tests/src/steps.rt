@@ -1,9 +1,12 @@
 // The step of two cubes, and how often a plan asks for the facets of two pieces.
-use crate::fixtures::{CUBE, CUBES, Corners, LIDDED, RIGHT, Shape, sound, table};
+use crate::fixtures::{
+    ABOVE, BEFORE, BEHIND, BELOW, CUBE, CUBES, Corners, LEFT as WALL, LIDDED, RIGHT, Shape, sound,
+    table,
+};
 use staat_cone::{FacetSource, Plain};
-use staat_limits::{MOST_CELL_PLANES, MOST_PLANES};
-use staat_model::{Kind, Marks, Outcome, Piece, Sound};
-use staat_plan::{Options, part_step, plan};
+use staat_limits::{LEAST_PLANES, MOST_CELL_PLANES, MOST_PLANES};
+use staat_model::{Assembly, Kind, Outcome, Piece};
+use staat_plan::{Options, Tabulated, certify, part_step, plan, plan_with_table};
 use staat_samples::at;
 use staat_vec::{OutOfMemory, V3};
 use std::alloc::Global;
@@ -32,56 +35,60 @@ fn the_step_of_two_cubes(rt: HostRuntime) {
     assert_eq!(rt; step, Some((1, at(0, 0, 1))));
 }
 
-// answers as `Plain`, and counts how often it is asked for the cube and the right wall, in each order
+// answers as `Plain`, and counts how often it is asked
 #[derive(Drop)]
 struct Counting {
-    ahead: Cell<u32>,
-    back: Cell<u32>,
-}
-
-// whether the points of the first piece have the one corner, and those of the second the other
-fn have_corners(p: &Piece, first: V3, q: &Piece, second: V3) -> bool {
-    p.points().contains(&first) && q.points().contains(&second)
-}
-
-fn count_one(count: &Cell<u32>) {
-    count.set(count.get().saturating_add(1));
+    asked: Cell<u32>,
 }
 
 impl FacetSource for Counting {
     fn facets(&self, alloc: Global, p: &Piece, q: &Piece) -> Result<Vec<V3>, OutOfMemory> {
-        let (cube, wall) = (at(0, 0, 0), at(2, -1, -1));
-        if have_corners(p, cube, q, wall) {
-            count_one(&self.ahead);
-        }
-        if have_corners(p, wall, q, cube) {
-            count_one(&self.back);
-        }
+        self.asked.set(self.asked.get().saturating_add(1));
         Plain.facets(alloc, p, q)
     }
 }
 
-// the marks of a plan
-fn marks_of(outcome: Outcome) -> Option<Marks> {
-    match outcome {
-        Outcome::Plan { tree: _tree, marks } => Some(marks),
-        Outcome::Stuck(_) => None,
+// how many pairs of pieces of different parts there are
+fn pairs_of(assembly: &Assembly) -> u32 {
+    let mut pairs = 0u32;
+    let mut before = 0u32;
+    for a in 0..assembly.parts() {
+        let pieces = assembly.pieces(a);
+        pairs = pairs.saturating_add(pieces.saturating_mul(before));
+        before = before.saturating_add(pieces);
     }
+    pairs
 }
 
-// the marks of the plan, and how often each order was asked for
-fn asked(rt: &impl Abort, alloc: Global, parts: &Sound, robust: bool) -> (Marks, u32, u32) {
+// Plans the parts and certifies what comes. Each two pieces are asked for once, and none for the certificate; and once
+// by a plan alone. The marks of the plan, if it is one, are those that are wanted.
+fn asks_once(
+    rt: &impl Abort,
+    alloc: Global,
+    shapes: &[Shape],
+    options: Options,
+    wanted: Option<&[Kind]>,
+) {
+    let parts = sound(rt, alloc, shapes);
     let source = Counting {
-        ahead: Cell::new(0),
-        back: Cell::new(0),
+        asked: Cell::new(0),
     };
-    let outcome = if robust {
-        plan(alloc, &source, parts, ROBUST)
-    } else {
-        plan(alloc, &source, parts, PLAIN)
+    assert!(rt; options.planes >= LEAST_PLANES && options.planes <= MOST_PLANES);
+    assert!(rt; !options.robust || options.planes <= MOST_CELL_PLANES);
+    let found = plan_with_table(alloc, &source, &parts, options);
+    let (outcome, table) = found.expect(rt, "an outcome");
+    let pairs = pairs_of(parts.assembly());
+    assert_eq!(rt; source.asked.get(), pairs);
+    let kept = Tabulated::of(&source, &parts, &table);
+    let _certificate = certify(alloc, &kept, &parts, &outcome, 2).expect(rt, "memory");
+    assert_eq!(rt; source.asked.get(), pairs);
+    let _same = plan(alloc, &source, &parts, options).expect(rt, "an outcome");
+    assert_eq!(rt; source.asked.get(), pairs.saturating_mul(2));
+    let marks = match &outcome {
+        Outcome::Plan { marks, .. } => Some(marks.as_slice()),
+        Outcome::Stuck(_) => None,
     };
-    let marks = marks_of(outcome.expect(rt, "an outcome")).expect(rt, "a plan");
-    (marks, source.ahead.get(), source.back.get())
+    assert_eq!(rt; marks, wanted);
 }
 
 // the cube, the right wall, and a cube on the left
@@ -91,19 +98,22 @@ const ROW: [Shape<'static>; 3] = [
     Shape::Boxes(&[LEFT]),
 ];
 
+// the cube in a closed box, and a cube beside the box
+const BOXED: [Shape<'static>; 3] = [
+    Shape::Boxes(&[CUBE]),
+    Shape::Boxes(&[RIGHT, WALL, BEHIND, BEFORE, ABOVE, BELOW]),
+    Shape::Boxes(&[[4, 0, 0, 6, 2, 2]]),
+];
+
 const OPEN: [Kind; 2] = [Kind::Open, Kind::Open];
 
-// asks for a plan, of which so many steps have room
-fn asks_once(rt: &impl Abort, alloc: Global, shapes: &[Shape], robust: bool, wanted: &[Kind]) {
-    let parts = sound(rt, alloc, shapes);
-    let (marks, ahead, back) = asked(rt, alloc, &parts, robust);
-    assert_eq!(rt; marks.as_slice(), wanted);
-    assert!(rt; ahead <= 1 && back <= 1 && (ahead, back) != (0, 0));
-}
-
-// in the robust plan the cube on the left leaves first, and then the other cube and the wall stand for themselves
+// in the robust plan the cube on the left leaves first, and then the other cube and the wall stand for themselves; the
+// cube in the box is stuck with it, when the cube beside them has left
 #[test]
 fn facets_are_asked_for_once(rt: HostRuntime) {
-    asks_once(&rt, rt.alloc(), &LIDDED, false, &[]);
-    asks_once(&rt, rt.alloc(), &ROW, true, &OPEN);
+    let alloc = rt.alloc();
+    asks_once(&rt, alloc, &LIDDED, PLAIN, Some(&[]));
+    asks_once(&rt, alloc, &ROW, ROBUST, Some(&OPEN));
+    asks_once(&rt, alloc, &BOXED, PLAIN, None);
+    asks_once(&rt, alloc, &BOXED, ROBUST, None);
 }
