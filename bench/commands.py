@@ -19,7 +19,7 @@ import pathlib
 import subprocess
 import sys
 import tempfile
-from collections.abc import Iterator
+from collections.abc import Callable, Iterator
 from dataclasses import dataclass
 
 import solids
@@ -68,17 +68,24 @@ class Figure:
 Figures = dict[str, dict[str, Figure]]  # by product and command
 
 
-def large() -> Iterator[tuple[str, list[solids.Piece], int]]:
-    """Large products: the name, with how many pieces of how many corners, the pieces, and how many make a part."""
-    yield "flat balls 64x64", solids.flat_pieces([64] * 64), 2
-    yield "flat balls 64x8", solids.flat_pieces([8] * 64), 2
-    yield "far balls 64x8", solids.far_pieces([8] * 64), 2
-    yield "flat balls 12x12", solids.flat_pieces([12] * 12), 1
-
-
 def part_of(each: int, piece: int) -> int:
     """The part of a piece where so many make one."""
     return piece // each
+
+
+def tube_of(piece: int) -> int:
+    """The part of a piece of nested tubes: the first is the rod, and each four behind it are a tube."""
+    return (piece + 3) // 4
+
+
+def large() -> Iterator[tuple[str, list[solids.Piece], Callable[[int], int]]]:
+    """Large products: the name, with numbers of pieces and corners, or of parts; the pieces; and the part of each."""
+    by_twos = functools.partial(part_of, 2)
+    yield "flat balls 64x64", solids.flat_pieces([64] * 64), by_twos
+    yield "flat balls 64x8", solids.flat_pieces([8] * 64), by_twos
+    yield "far balls 64x8", solids.far_pieces([8] * 64), by_twos
+    yield "flat balls 12x12", solids.flat_pieces([12] * 12), functools.partial(part_of, 1)
+    yield "nested tubes 9", solids.nested_tubes(9), tube_of
 
 
 def listed() -> Iterator[tuple[str, str]]:
@@ -96,10 +103,10 @@ def products(folder: pathlib.Path) -> Iterator[tuple[str, pathlib.Path, str]]:
     """
     for name, listing in listed():
         yield name, TOP, listing
-    for number, (name, pieces, each) in enumerate(large()):
+    for number, (name, pieces, parts) in enumerate(large()):
         at = folder / str(number)
         at.mkdir()
-        solids.write(str(at), pieces, functools.partial(part_of, each))
+        solids.write(str(at), pieces, parts)
         yield name, at, "parts.json"
 
 

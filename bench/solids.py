@@ -10,7 +10,7 @@ import random
 from collections.abc import Callable
 
 Point = tuple[int, int, int]
-Face = tuple[int, int, int]  # numbers of points, counterclockwise as seen from outside
+Face = tuple[int, ...]  # numbers of points, counterclockwise as seen from outside
 Piece = tuple[list[Point], list[Face]]
 
 GREATEST = 65536  # of a coordinate, in absolute value
@@ -21,6 +21,12 @@ GAP = 1000  # from one ball of the grid to the next: more than twice RADIUS alon
 # A flat ball is the image of a ball under this map: long across (1,1,1), and as thick along it as the ball was. So
 # flat balls in a row along (1,1,1) are apart, but their bounding boxes overlap.
 FLAT = ((120, 70, 1), (-120, 70, 1), (0, -140, 1))
+
+# Tubes are the images of upright ones under this map, which leans them out of every axis: long along (17,9001,31).
+LEAN = ((313, 307, 17), (5, 8, 9001), (293, -311, 31))
+
+# The faces of a box whose corner number x + 2y + 4z stands at its lower (0) or upper (1) end in each coordinate.
+BOX_FACES = ((0, 4, 6, 2), (1, 3, 7, 5), (0, 1, 5, 4), (2, 6, 7, 3), (0, 2, 3, 1), (4, 5, 7, 6))
 
 
 # ---- exact geometry of whole points
@@ -73,7 +79,7 @@ def side_of_all(points: list[Point], a: int, b: int, c: int) -> int:
 
 def hull(points: list[Point]) -> list[Face] | None:
     """The triangles of the convex hull, or None unless each point is a corner and each face a triangle."""
-    faces = []
+    faces: list[Face] = []
     for a, b, c in itertools.combinations(range(len(points)), 3):
         side = side_of_all(points, a, b, c)
         if side != 0:
@@ -149,11 +155,29 @@ def far_pieces(counts: list[int]) -> list[Piece]:
     return checked(pieces)
 
 
+def leaning_box(low: tuple[int, int], high: tuple[int, int]) -> Piece:
+    """The image under `LEAN` of the box over a rectangle, from -1 to 1 along the last axis."""
+    corners = itertools.product((-1, 1), (low[1], high[1]), (low[0], high[0]))
+    return [image(LEAN, (x, y, z)) for z, y, x in corners], list(BOX_FACES)
+
+
+def nested_tubes(count: int) -> list[Piece]:
+    """A rod, and around it one tube in another, of four pieces each: each leaves along one line alone."""
+    pieces = [leaning_box((-1, -1), (1, 1))]
+    for inner in range(1, count):
+        outer = inner + 1
+        pieces.append(leaning_box((-outer, -outer), (-inner, outer)))
+        pieces.append(leaning_box((inner, -outer), (outer, outer)))
+        pieces.append(leaning_box((-inner, -outer), (inner, -inner)))
+        pieces.append(leaning_box((-inner, inner), (inner, outer)))
+    return pieces
+
+
 def checked(pieces: list[Piece]) -> list[Piece]:
     """The pieces, which are convex and within the limits."""
     for points, faces in pieces:
         assert all(abs(x) <= GREATEST for p in points for x in p), "a point is too far out"
-        assert all(side_of_all(points, *face) != 0 for face in faces), "a piece is not convex"
+        assert all(side_of_all(points, *face[:3]) != 0 for face in faces), "a piece is not convex"
     return pieces
 
 
@@ -161,7 +185,7 @@ def off_text(points: list[Point], faces: list[Face]) -> str:
     """The file of a piece."""
     lines = ["OFF", f"{len(points)} {len(faces)} 0"]
     lines += [f"{x} {y} {z}" for x, y, z in points]
-    lines += [f"3 {a} {b} {c}" for a, b, c in faces]
+    lines += [" ".join(map(str, (len(face), *face))) for face in faces]
     return "\n".join(lines) + "\n"
 
 
