@@ -17,7 +17,7 @@ use Rattle.staat_explode.specs.declared.scene.Solid.{Solid}
 use Rattle.staat_explode.specs.declared.sheet.Sheet.{Sheet}
 use Rattle.staat_explode.specs.Scenes.{corner_text, face_line, faces_behind, off_text, placed_points, count_of_points}
 use Rattle.staat_explode.specs.Scenes.{point_line, points_of_scene, scene_of, shift_at}
-use Rattle.staat_explode.specs.Sheets.{Adds, Keeps}
+use Rattle.staat_explode.specs.Sheets.{AddsText, Keeps}
 use Rattle.staat_explode.specs.ShiftTexts.{shift_lines_from, shift_line}
 use Rattle.staat_explode.proofs.Rereading.{reading_again}
 use Rattle.staat_vec.proofs.ListLaws.{All-map}
@@ -99,10 +99,10 @@ corners_all before n ks all =
 
 -- ---- lines behind lines
 
-pub adds_none : (a : Sheet) → Adds a a []
+pub adds_none : (a : Sheet) → AddsText a a []
 adds_none a text h = subst (Keeps a) (sym (append-nil text)) h
 
-pub adds_then : (a b c : Sheet) (x y z : List ℕ) → x ++ y ≡ z → Adds a b x → Adds b c y → Adds a c z
+pub adds_then : (a b c : Sheet) (x y z : List ℕ) → x ++ y ≡ z → AddsText a b x → AddsText b c y → AddsText a c z
 adds_then a b c x y z e first second text h =
     subst (Keeps c) (append_assoc text x y ∙ ap (λ r. text ++ r) e) (second (text ++ x) (first text h))
 

@@ -11,8 +11,8 @@ pub record Keeps (sheet : Sheet) (text : List ℕ) : Type 0 where
   pub bytes : length text ≤ TEXT_LIMIT → sheet.bytes.items ≡ text
 
 -- one text was written behind another
-abbrev pub Adds : Sheet → Sheet → List ℕ → Type 0
-Adds before after more = (text : List ℕ) → Keeps before text → Keeps after (text ++ more)
+abbrev pub AddsText : Sheet → Sheet → List ℕ → Type 0
+AddsText before after more = (text : List ℕ) → Keeps before text → Keeps after (text ++ more)
 
 -- the text where it is within the limit, and else its length; or memory ran out
 abbrev pub Written : List ℕ → Result (List ℕ) TextRefusal → Type 0

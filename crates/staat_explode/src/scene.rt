@@ -3,7 +3,7 @@ ghost use Rattle.std.specs.Prelude.{◌≡◌, ◌<◌, ◌≤◌, ◌+◌, ◌*
 ghost use Rattle.staat_vec.specs.Vectors.{IsWithin, plus};
 ghost use Rattle.staat_explode.specs.Scenes.{count_of_points, face_line, faces_behind, off_text, point_line};
 ghost use Rattle.staat_explode.specs.Scenes.{points_of_scene, scene_of};
-ghost use Rattle.staat_explode.specs.Sheets.{Adds, Written};
+ghost use Rattle.staat_explode.specs.Sheets.{AddsText, Written};
 ghost use Rattle.staat_explode.specs.Sizes.{IsSolidIn};
 
 use crate::grow::FARTHEST;
@@ -61,7 +61,7 @@ fn write_points(
     requires at { IsWithin POINT at }
     requires shift { IsWithin FARTHEST shift }
     requires room { sheet.old.length + length vertices.now * 2 ^ 64 < 2 ^ 126 }
-    ensures text { OnOk result (Adds sheet.old sheet.new
+    ensures text { OnOk result (AddsText sheet.old sheet.new
         (flat_map (λ p. point_line (plus (plus p at) shift)) vertices.now)) }
     ensures room { OnOk result (sheet.new.length ≤ sheet.old.length + length vertices.now * 2 ^ 64) }
 {
@@ -83,7 +83,7 @@ fn write_all_points(
     requires shifts { All (IsWithin FARTHEST) shifts.now }
     requires points { count_of_points solids.now < 2 ^ 32 }
     requires room { sheet.old.length < 2 ^ 65 }
-    ensures text { OnOk result (Adds sheet.old sheet.new
+    ensures text { OnOk result (AddsText sheet.old sheet.new
         (flat_map point_line (points_of_scene solids.now shifts.now))) }
     ensures room { OnOk result (sheet.new.length < 2 ^ 98) }
 {
@@ -103,7 +103,7 @@ fn write_faces(
 ) -> Result<(), AllocError>
     requires corners { All (All (λ corner. before + corner < 2 ^ 32)) faces.now }
     requires room { sheet.old.length + length faces.now * 2 ^ 64 < 2 ^ 126 }
-    ensures text { OnOk result (Adds sheet.old sheet.new
+    ensures text { OnOk result (AddsText sheet.old sheet.new
         (flat_map (λ face. face_line (map (λ corner. before + corner) face)) faces.now)) }
     ensures room { OnOk result (sheet.new.length ≤ sheet.old.length + length faces.now * 2 ^ 64) }
 {
@@ -125,7 +125,7 @@ fn write_all_faces(
     requires points { count_of_points solids.now < 2 ^ 32 }
     requires faces { length (faces_behind 0 solids.now) < 2 ^ 32 }
     requires room { sheet.old.length < 2 ^ 98 }
-    ensures { OnOk result (Adds sheet.old sheet.new (flat_map face_line (faces_behind 0 solids.now))) }
+    ensures { OnOk result (AddsText sheet.old sheet.new (flat_map face_line (faces_behind 0 solids.now))) }
 {
     let mut before = 0;
     for solid in solids {

@@ -1,7 +1,7 @@
 // A text that is kept while it is short, and counted on.
 ghost use Rattle.std.specs.Prelude.{◌≡◌, ◌<◌, ◌+◌, ◌^◌, [], ℕ, List};
 ghost use Rattle.std.specs.Prelude.{IfOk, OnOk, length};
-ghost use Rattle.staat_explode.specs.Sheets.{Adds, Keeps, Written};
+ghost use Rattle.staat_explode.specs.Sheets.{AddsText, Keeps, Written};
 
 use crate::refusal::SceneRefusal;
 use staat_limits::TEXT_LIMIT;
@@ -28,7 +28,7 @@ impl Sheet {
     /// Writes a line behind what was written.
     pub(crate) fn write(&mut self, line: &[u8]) -> Result<(), AllocError>
         requires { self.old.length < 2 ^ 126 }
-        ensures text { OnOk result (Adds self.old self.new line.now) }
+        ensures text { OnOk result (AddsText self.old self.new line.now) }
         ensures length { OnOk result (self.new.length ≡ self.old.length + length line.now) }
     {
         self.length += line.len() as u128;

@@ -1,11 +1,11 @@
 use Rattle.std.proofs.Common.{◌≤◌, ◌*◌, ◌+◌, ◌^◌, take, flat_map}
 use Rattle.staat_vec.specs.Vectors.{plus}
 use Rattle.staat_explode.specs.Scenes.{point_line}
-use Rattle.staat_explode.specs.Sheets.{Adds}
+use Rattle.staat_explode.specs.Sheets.{AddsText}
 use Rattle.staat_explode.proofs.scene.write_points.Given as goal
 
 abbrev pub invariant-loop-vertex : goal.invariant-loop-vertex
 invariant-loop-vertex l = record {
-  text : Adds l.initial.sheet l.sheet (flat_map (λ p. point_line (plus (plus p l.at) l.shift)) (take l.vertex-index l.vertices));
+  text : AddsText l.initial.sheet l.sheet (flat_map (λ p. point_line (plus (plus p l.at) l.shift)) (take l.vertex-index l.vertices));
   room : l.sheet.length ≤ l.initial.sheet.length + l.vertex-index * 2 ^ 64;
 }
