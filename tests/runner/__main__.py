@@ -23,7 +23,7 @@ import times
 
 BUILT = steps.TOP / "crates" / "staat_cli" / "out" / "staat_cli"
 STORED = steps.TOP / "bin" / "staat"  # the program that comes with the repository
-MEMORY = 3 << 30  # bytes that a check of `rt ci` may take; it was seen to take from 0.5 to 2 GB
+MEMORY = 3 << 30  # bytes for each check of `rt ci`: most take 1 to 2 GB, the greatest seen took 3.4
 
 
 def is_of_these_sources() -> bool:
