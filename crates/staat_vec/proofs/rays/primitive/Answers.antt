@@ -1,8 +1,9 @@
 use Rattle.std.proofs.Common.{◌≡◌, ◌∙◌, ap, sym, subst, rules, ℕ, ℤ, pos, int_div, FitsSigned, to_z, of_z}
 use Rattle.std.specs.Int.{w128}
 use Rattle.std.proofs.lemmas.Int.{to_z-of_z}
+use Rattle.staat_vec.specs.Vectors.{IsWithin}
 use Rattle.staat_vec.specs.Primitives.{IsPrimitiveOf, content, primitive}
-use Rattle.staat_vec.proofs.Primitives.{primitive-is}
+use Rattle.staat_vec.proofs.Primitives.{IsWithin-primitive, primitive-is}
 use Rattle.staat_vec.proofs.rays.primitive.Goals as goal
 use Rattle.staat_vec.proofs.VecRing.{same_vector}
 
@@ -24,3 +25,7 @@ returns-clause-value c =
 
 pub returns-clause-ray : goal.returns-clause-ray
 returns-clause-ray c = subst (IsPrimitiveOf c.args.v) (sym (returns-clause-value c)) (primitive-is c.args.v c.requires.some)
+
+pub returns-clause-size : goal.returns-clause-size
+returns-clause-size c bound h =
+    subst (IsWithin bound) (sym (returns-clause-value c)) (IsWithin-primitive bound c.args.v h)
