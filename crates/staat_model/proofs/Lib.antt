@@ -56,6 +56,7 @@ pub mod Examples
 pub mod CellExamples
 mod VersionExamples
 pub mod PointLemmas
+pub mod ProductParts
 pub mod Decisions
 pub mod Listings
 pub mod SomePlanes
