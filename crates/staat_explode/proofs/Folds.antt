@@ -5,7 +5,7 @@ use Rattle.std.proofs.Common.{map, length, get_or, take, ap, sym, refl, ◌∙�
 use Rattle.std.proofs.Common.{flat_map}
 use Rattle.std.specs.Int.{int_max, int_min}
 use Rattle.std.specs.List.{fold}
-use Rattle.std.specs.Prelude.{int_lt, All, if◌then◌else◌, slice_get, option_map, option_and_then, unwrap_or}
+use Rattle.std.specs.Prelude.{int_lt, All, if◌then◌else◌, slice_get, option_map, option_and_then, unsigned_abs, unwrap_or}
 use Rattle.std.proofs.lemmas.List.{take_more, take_all, map-append}
 use Rattle.std.proofs.lemmas.Option.{slice_get_within, get_or_from_slice_get}
 use Rattle.staat_model.proofs.Places.{some_at}
@@ -36,6 +36,11 @@ fold_map : {A B C : Type 0} (f : C → B → C) (g : A → B) (a : C) (xs : List
     ≡ fold f a (map g xs)
 fold_map f g a [] = refl
 fold_map f g a (x ∷ xs) = fold_map f g (f a (g x)) xs
+
+-- of two numbers within a bound either is
+pub either_within : (b : Bool) (x y : ℤ) (m : ℕ) → unsigned_abs x ≤ m → unsigned_abs y ≤ m → unsigned_abs (cond b x y) ≤ m
+either_within true x y m h k = h
+either_within false x y m h k = k
 
 abbrev pub lower : List Bounds → Axis → ℤ → Shifted → ℤ
 lower boxes axis z p = int_min z (low_along boxes axis p)
