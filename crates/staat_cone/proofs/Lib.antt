@@ -11,3 +11,4 @@ pub mod FewLemmas
 pub mod Sources
 pub mod AxisWallLemmas
 pub mod WordLemmas
+pub mod BackLemmas

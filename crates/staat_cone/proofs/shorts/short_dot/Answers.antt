@@ -3,6 +3,7 @@ use Rattle.std.specs.Int.{w128}
 use Rattle.std.proofs.lemmas.Int.{fits_signed_from_abs, to_z-of_z}
 use Rattle.staat_vec.specs.declared.vector.TheConstants.{NORMAL}
 use Rattle.staat_cone.specs.declared.shorts.TheConstants.{SHORT}
+use Rattle.staat_cone.proofs.BackLemmas.{within_back, within_twice}
 use Rattle.staat_cone.proofs.WordLemmas.{product_read, sum_within, word_read}
 use Rattle.staat_cone.proofs.shorts.short_dot.Goals as goal
 
@@ -22,3 +23,57 @@ returns c =
     let within = sum_within (NORMAL * SHORT) c.sum.result c.product.result c.product-2.result c.product-3.result c.product.ensures.size c.product-2.ensures.size c.product-3.ensures.size
     (c.sum.ensures ∙ (λ i. (first i +ℤ second i) +ℤ third i)) in
     to_z-of_z w128 c.sum.result (fits_signed_from_abs w128 c.sum.result (omega (arith, within))) ∙ c.sum.ensures ∙ (λ i. (x i +ℤ y i) +ℤ z i)
+
+pub widened-requires : goal.widened-requires
+widened-requires c = within_back w128 c.args.n.x NORMAL SHORT c.requires.normal.x (omega arith) (omega arith)
+
+pub widened-requires-2 : goal.widened-requires-2
+widened-requires-2 c = within_back w128 c.args.d.x SHORT SHORT c.requires.short.x (omega arith) (omega arith)
+
+pub product-requires-clause-a : goal.product-requires-clause-a
+product-requires-clause-a c =
+    within_twice w128 w128 c.widened.result c.args.n.x NORMAL NORMAL c.widened.ensures c.requires.normal.x (omega arith) (omega arith) (omega arith)
+
+pub product-requires-clause-b : goal.product-requires-clause-b
+product-requires-clause-b c =
+    within_twice w128 w128 c.widened-2.result c.args.d.x SHORT SHORT c.widened-2.ensures c.requires.short.x (omega arith) (omega arith) (omega arith)
+
+pub widened-requires-3 : goal.widened-requires-3
+widened-requires-3 c = within_back w128 c.args.n.y NORMAL SHORT c.requires.normal.y (omega arith) (omega arith)
+
+pub widened-requires-4 : goal.widened-requires-4
+widened-requires-4 c = within_back w128 c.args.d.y SHORT SHORT c.requires.short.y (omega arith) (omega arith)
+
+pub product-requires-2-clause-a : goal.product-requires-2-clause-a
+product-requires-2-clause-a c =
+    within_twice w128 w128 c.widened-3.result c.args.n.y NORMAL NORMAL c.widened-3.ensures c.requires.normal.y (omega arith) (omega arith) (omega arith)
+
+pub product-requires-2-clause-b : goal.product-requires-2-clause-b
+product-requires-2-clause-b c =
+    within_twice w128 w128 c.widened-4.result c.args.d.y SHORT SHORT c.widened-4.ensures c.requires.short.y (omega arith) (omega arith) (omega arith)
+
+pub widened-requires-5 : goal.widened-requires-5
+widened-requires-5 c = within_back w128 c.args.n.z NORMAL SHORT c.requires.normal.z (omega arith) (omega arith)
+
+pub widened-requires-6 : goal.widened-requires-6
+widened-requires-6 c = within_back w128 c.args.d.z SHORT SHORT c.requires.short.z (omega arith) (omega arith)
+
+pub product-requires-3-clause-a : goal.product-requires-3-clause-a
+product-requires-3-clause-a c =
+    within_twice w128 w128 c.widened-5.result c.args.n.z NORMAL NORMAL c.widened-5.ensures c.requires.normal.z (omega arith) (omega arith) (omega arith)
+
+pub product-requires-3-clause-b : goal.product-requires-3-clause-b
+product-requires-3-clause-b c =
+    within_twice w128 w128 c.widened-6.result c.args.d.z SHORT SHORT c.widened-6.ensures c.requires.short.z (omega arith) (omega arith) (omega arith)
+
+pub sum-requires-clause-x : goal.sum-requires-clause-x
+sum-requires-clause-x c =
+    within_back w128 c.product.result (NORMAL * SHORT) (NORMAL * SHORT) c.product.ensures.size (omega arith) (omega arith)
+
+pub sum-requires-clause-y : goal.sum-requires-clause-y
+sum-requires-clause-y c =
+    within_back w128 c.product-2.result (NORMAL * SHORT) (NORMAL * SHORT) c.product-2.ensures.size (omega arith) (omega arith)
+
+pub sum-requires-clause-z : goal.sum-requires-clause-z
+sum-requires-clause-z c =
+    within_back w128 c.product-3.result (NORMAL * SHORT) (NORMAL * SHORT) c.product-3.ensures.size (omega arith) (omega arith)

@@ -1,0 +1,64 @@
+-- Numbers far below the limit of a machine's signed type: each is read from it as it was written, and sums and
+-- differences are exact.
+use Rattle.std.proofs.Common.{◌≡◌, ◌∙◌, ◌<◌, ◌≤◌, ◌+◌, ◌*◌, ◌^◌, ℕ, ℤ, ◌+ℤ◌, ◌-ℤ◌, ◌*ℤ◌, FitsSigned, arith, of_z, to_z, unsigned_abs}
+use Rattle.std.specs.Int.{Width}
+use Rattle.std.proofs.lemmas.Int.{fits_signed_from_abs, to_z-of_z}
+use mir.Val.{hbits}
+use Rattle.staat_vec.proofs.Bounds.{abs_diff_le, abs_sum_le}
+
+pub read_back : (w : Width) (z : ℤ) (n : ℕ) → unsigned_abs z ≤ n → n < 2 ^ hbits w → to_z w (of_z w z) ≡ z
+read_back w z n h k = to_z-of_z w z (fits_signed_from_abs w z (omega arith))
+
+pub within_back : (w : Width) (z : ℤ) (m n : ℕ) → unsigned_abs z ≤ m → m < 2 ^ hbits w → m ≤ n → unsigned_abs (to_z w (of_z w z)) ≤ n
+within_back w z m n h k l = rw (read_back w z m h k) (omega arith)
+
+-- for a number r that was read from z
+pub within_twice : (v w : Width) (r z : ℤ) (m n : ℕ) → r ≡ to_z v (of_z v z) → unsigned_abs z ≤ m → m < 2 ^ hbits v → m < 2 ^ hbits w → m ≤ n → unsigned_abs (to_z w (of_z w r)) ≤ n
+within_twice v w r z m n e h k l le = rw (e, read_back v z m h k, read_back w z m h l) (omega arith)
+
+pub read_twice : (v w : Width) (r z : ℤ) (m : ℕ) → r ≡ to_z v (of_z v z) → unsigned_abs z ≤ m → m < 2 ^ hbits v → m < 2 ^ hbits w → to_z w (of_z w r) ≡ z
+read_twice v w r z m e h k l = rw (e, read_back v z m h k, read_back w z m h l)
+
+pub minus_fits : (w : Width) (a b : ℤ) (m n : ℕ) → unsigned_abs a ≤ m → unsigned_abs b ≤ n → m + n < 2 ^ hbits w → FitsSigned w (to_z w (of_z w a) -ℤ to_z w (of_z w b))
+minus_fits w a b m n h k l =
+    rw (read_back w a m h (omega arith), read_back w b n k (omega arith))
+    (fits_signed_from_abs w (a -ℤ b) (omega (arith, abs_diff_le a b m n h k)))
+
+pub minus_read : (w : Width) (a b : ℤ) (m n : ℕ) → unsigned_abs a ≤ m → unsigned_abs b ≤ n → m + n < 2 ^ hbits w → to_z w (of_z w (to_z w (of_z w a) -ℤ to_z w (of_z w b))) ≡ a -ℤ b
+minus_read w a b m n h k l =
+    rw (read_back w a m h (omega arith), read_back w b n k (omega arith))
+    (read_back w (a -ℤ b) (m + n) (abs_diff_le a b m n h k) l)
+
+pub product_of : (w : Width) (r a b : ℤ) (n : ℕ) → unsigned_abs a ≤ n → unsigned_abs b ≤ n → n < 2 ^ hbits w → r ≡ to_z w (of_z w a) *ℤ to_z w (of_z w b) → r ≡ a *ℤ b
+product_of w r a b n ha hb k e = e ∙ rw (read_back w a n ha k, read_back w b n hb k)
+
+pub minor_of : (w : Width) (r a b c d : ℤ) (m n : ℕ) → unsigned_abs a ≤ n → unsigned_abs b ≤ n → unsigned_abs c ≤ n → unsigned_abs d ≤ n → n < 2 ^ hbits w
+    → unsigned_abs r ≤ m → m < 2 ^ hbits w → r ≡ (to_z w (of_z w a) *ℤ to_z w (of_z w d)) -ℤ (to_z w (of_z w b) *ℤ to_z w (of_z w c)) → to_z w (of_z w r) ≡ (a *ℤ d) -ℤ (b *ℤ c)
+minor_of w r a b c d m n ha hb hc hd hn hr hm e =
+    read_back w r m hr hm ∙ e
+    ∙ rw (read_back w a n ha hn, read_back w d n hd hn, read_back w b n hb hn, read_back w c n hc hn)
+
+three_within : (a b c : ℤ) (n : ℕ) → unsigned_abs a ≤ n → unsigned_abs b ≤ n → unsigned_abs c ≤ n → unsigned_abs ((a +ℤ b) +ℤ c) ≤ 3 * n
+three_within a b c n ha hb hc = omega (arith, abs_sum_le (a +ℤ b) c (n + n) n (abs_sum_le a b n n ha hb) hc)
+
+pub two_fit : (w : Width) (a b : ℤ) (n : ℕ) → unsigned_abs a ≤ n → unsigned_abs b ≤ n → 3 * n < 2 ^ hbits w → FitsSigned w (to_z w (of_z w a) +ℤ to_z w (of_z w b))
+two_fit w a b n ha hb k =
+    rw (read_back w a n ha (omega arith), read_back w b n hb (omega arith))
+    (fits_signed_from_abs w (a +ℤ b) (omega (arith, abs_sum_le a b n n ha hb)))
+
+two_read : (w : Width) (a b : ℤ) (n : ℕ) → unsigned_abs a ≤ n → unsigned_abs b ≤ n → 3 * n < 2 ^ hbits w → to_z w (of_z w (to_z w (of_z w a) +ℤ to_z w (of_z w b))) ≡ a +ℤ b
+two_read w a b n ha hb k =
+    rw (read_back w a n ha (omega arith), read_back w b n hb (omega arith))
+    (read_back w (a +ℤ b) (n + n) (abs_sum_le a b n n ha hb) (omega arith))
+
+pub three_fit : (w : Width) (a b c : ℤ) (n : ℕ) → unsigned_abs a ≤ n → unsigned_abs b ≤ n → unsigned_abs c ≤ n → 3 * n < 2 ^ hbits w
+    → FitsSigned w (to_z w (of_z w (to_z w (of_z w a) +ℤ to_z w (of_z w b))) +ℤ to_z w (of_z w c))
+three_fit w a b c n ha hb hc k =
+    rw (two_read w a b n ha hb k, read_back w c n hc (omega arith))
+    (fits_signed_from_abs w ((a +ℤ b) +ℤ c) (omega (arith, three_within a b c n ha hb hc)))
+
+pub three_read : (w : Width) (a b c : ℤ) (n : ℕ) → unsigned_abs a ≤ n → unsigned_abs b ≤ n → unsigned_abs c ≤ n → 3 * n < 2 ^ hbits w
+    → to_z w (of_z w (to_z w (of_z w (to_z w (of_z w a) +ℤ to_z w (of_z w b))) +ℤ to_z w (of_z w c))) ≡ (a +ℤ b) +ℤ c
+three_read w a b c n ha hb hc k =
+    rw (two_read w a b n ha hb k, read_back w c n hc (omega arith))
+    (read_back w ((a +ℤ b) +ℤ c) (3 * n) (three_within a b c n ha hb hc) k)
