@@ -1,5 +1,9 @@
-use Rattle.std.proofs.Common.{subst, sym, ◌∷◌, [], Contains}
-use Rattle.std.proofs.lemmas.List.Elements.{Contains-append_left, Contains-push}
+use Rattle.std.proofs.Common.{◌≡◌, subst, sym, ◌∷◌, [], ◌++◌, List, All, Contains, arith}
+use Rattle.std.proofs.lemmas.List.Elements.{All-push, Contains-append_left, Contains-push}
+use Rattle.std.proofs.lemmas.Result.{err_from_is_err_and}
+use Rattle.staat_vec.specs.declared.vector.V3.{V3}
+use Rattle.staat_vec.specs.declared.vector.TheConstants.{DIFF}
+use Rattle.staat_vec.specs.Vectors.{IsWithin}
 use Rattle.staat_model.proofs.Differences.{span_from_three}
 use Rattle.staat_cone.proofs.FewLemmas.{grown_start, grown_by}
 use Rattle.staat_cone.proofs.few.start.Goals as goal
@@ -34,3 +38,63 @@ returns-clause-spanning c =
     (subst (λ vs. Contains vs u) (sym c.in_ok-insert-3.ensures.members) (Contains-append_left b (w ∷ []) u u_still))
     (subst (λ vs. Contains vs v) (sym c.in_ok-insert-3.ensures.members) (Contains-append_left b (w ∷ []) v v_in))
     c.in-Some.ensures.spanning
+
+-- how great the members are, as one after the other is added
+none_within : (vs : List V3) → vs ≡ [] → All (IsWithin DIFF) vs
+none_within vs e = subst (All (IsWithin DIFF)) (sym e) (λ k d h. absurd (omega arith))
+
+more_within : (old new : List V3) (v : V3) → new ≡ old ++ v ∷ [] → All (IsWithin DIFF) old → IsWithin DIFF v → All (IsWithin DIFF) new
+more_within old new v e h within = subst (All (IsWithin DIFF)) (sym e) (All-push (IsWithin DIFF) old v h within)
+
+pub insert-requires-clause-members : goal.insert-requires-clause-members
+insert-requires-clause-members c = none_within c.new-few.result.members.items c.new-few.ensures.members
+
+pub insert-requires-clause-vector : goal.insert-requires-clause-vector
+insert-requires-clause-vector c = c.in-Some.ensures.steps.0.within
+
+pub insert-requires-2-clause-members : goal.insert-requires-2-clause-members
+insert-requires-2-clause-members c =
+    let none = none_within c.new-few.result.members.items c.new-few.ensures.members in
+    more_within c.new-few.result.members.items c.insert.new.self.members.items c.in-Some.u c.in_ok-insert.ensures.members none c.in-Some.ensures.steps.0.within
+
+pub insert-requires-2-clause-vector : goal.insert-requires-2-clause-vector
+insert-requires-2-clause-vector c = c.in-Some.ensures.steps.1.within
+
+pub insert-requires-3-clause-members : goal.insert-requires-3-clause-members
+insert-requires-3-clause-members c =
+    let none = none_within c.new-few.result.members.items c.new-few.ensures.members in
+    let one = more_within c.new-few.result.members.items c.insert.new.self.members.items c.in-Some.u c.in_ok-insert.ensures.members none c.in-Some.ensures.steps.0.within in
+    more_within c.insert.new.self.members.items c.insert-2.new.self.members.items c.in-Some.v c.in_ok-insert-2.ensures.members one c.in-Some.ensures.steps.1.within
+
+pub insert-requires-3-clause-vector : goal.insert-requires-3-clause-vector
+insert-requires-3-clause-vector c = c.in-Some.ensures.steps.2.within
+
+pub returns-in_err-insert-clause-grown : goal.returns-in_err-insert-clause-grown
+returns-in_err-insert-clause-grown c =
+    let p = err_from_is_err_and c.from_residual.result c.from_residual.ensures.1 in
+    rw p.1 tt
+
+pub returns-in_err-insert-clause-spanning : goal.returns-in_err-insert-clause-spanning
+returns-in_err-insert-clause-spanning c =
+    let p = err_from_is_err_and c.from_residual.result c.from_residual.ensures.1 in
+    rw p.1 tt
+
+pub returns-in_err-insert-2-clause-grown : goal.returns-in_err-insert-2-clause-grown
+returns-in_err-insert-2-clause-grown c =
+    let p = err_from_is_err_and c.from_residual-in_err-insert-2.result c.from_residual-in_err-insert-2.ensures.1 in
+    rw p.1 tt
+
+pub returns-in_err-insert-2-clause-spanning : goal.returns-in_err-insert-2-clause-spanning
+returns-in_err-insert-2-clause-spanning c =
+    let p = err_from_is_err_and c.from_residual-in_err-insert-2.result c.from_residual-in_err-insert-2.ensures.1 in
+    rw p.1 tt
+
+pub returns-in_err-insert-3-clause-grown : goal.returns-in_err-insert-3-clause-grown
+returns-in_err-insert-3-clause-grown c =
+    let p = err_from_is_err_and c.from_residual-in_err-insert-3.result c.from_residual-in_err-insert-3.ensures.1 in
+    rw p.1 tt
+
+pub returns-in_err-insert-3-clause-spanning : goal.returns-in_err-insert-3-clause-spanning
+returns-in_err-insert-3-clause-spanning c =
+    let p = err_from_is_err_and c.from_residual-in_err-insert-3.result c.from_residual-in_err-insert-3.ensures.1 in
+    rw p.1 tt
