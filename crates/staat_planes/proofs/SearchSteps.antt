@@ -1,7 +1,6 @@
 -- What a search over directions has found.
-use Rattle.std.proofs.Common.{◌≡◌, inl, inr, ℕ, ◌+◌, ◌*◌, ◌<◌, ◌≤◌, Bool, not, true≢false, arith, ap, sym, subst, ◌∙◌, refl, List, [], ◌∷◌, ◌++◌, length, length-append, All, Contains}
-use Rattle.std.specs.Prelude.{IsTrue, MatchOption, None, Option, Some}
-use Rattle.std.specs.Option.{is_some}
+use Rattle.std.proofs.Common.{◌≡◌, inl, inr, ℕ, ◌+◌, ◌*◌, ◌<◌, ◌≤◌, arith, ap, sym, subst, ◌∙◌, refl, List, [], ◌∷◌, ◌++◌, length, length-append, All, Contains}
+use Rattle.std.specs.Prelude.{None, Option, Some}
 use Rattle.std.proofs.lemmas.List.{append-nil, append_assoc}
 use Rattle.std.proofs.lemmas.List.Elements.{All-append, All-cons, All-contains, All-nil}
 use Rattle.staat_vec.specs.declared.vector.V3.{V3}

@@ -1,7 +1,7 @@
 use Rattle.std.proofs.Common.{◌≡◌, ◌*◌, arith, refl, subst, [], length}
 use Rattle.std.proofs.lemmas.List.Elements.{All-nil}
 use Rattle.staat_planes.specs.PairOrder.{vertices_left}
-use Rattle.staat_planes.proofs.SearchSteps.{first_of, two_longer, two_passed}
+use Rattle.staat_planes.proofs.SearchSteps.{all_passed, first_of, two_longer, two_passed}
 use Rattle.staat_planes.proofs.search.first_few.Goals as goal
 
 pub loop-k-init : goal.loop-k-init
@@ -42,3 +42,10 @@ returns-clause-first g c parts made knows =
     let end : c.loop-k._k ≡ c.args.limit = (let a = c.loop-k-test.false in let b = c.loop-k.auto._k-end in omega (arith, a, b)) in
     let p = c.loop-k.invariant.passed parts made knows in
     (p.0, subst (λ k. length p.0.before ≡ 2 * k) end p.1)
+
+pub returns-in_default-clause-first : goal.returns-in_default-clause-first
+returns-in_default-clause-first g c = λ parts made knows.
+    all_passed (g.T.Trial.serves parts c.args.w) (vertices_left c.args.table.now.planes c.args.pairs.now) (vertices_left c.args.table.now.planes c.loop-k.pairs) (c.loop-k.invariant.passed parts made knows).0 c.in_default.ensures.crossing
+
+pub returns-in-Some-served_at-clause-among : goal.returns-in-Some-served_at-clause-among
+returns-in-Some-served_at-clause-among g c = c.in-Some-served_at.ensures.among

@@ -18,3 +18,6 @@ returns-clause-first g c parts planes made knows are =
     subst (λ vs. IsFirstIfAny serves finds vs c.first_left.result)
     (c.of-pairs.ensures.vertices parts planes made are)
     (searched_behind serves finds (left c.of-pairs.result) (left c.pass_rows.new.pairs) c.first_left.result (c.pass_rows.ensures.passed parts made known) (c.first_left.ensures.first parts made (c.pass_rows.ensures.knows parts known)))
+
+pub returns-clause-among : goal.returns-clause-among
+returns-clause-among g c = c.first_left.ensures.among

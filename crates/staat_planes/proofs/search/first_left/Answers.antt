@@ -1,5 +1,5 @@
 use Rattle.staat_planes.specs.PairOrder.{vertices_left}
-use Rattle.staat_planes.proofs.SearchSteps.{first_of, passed_both, shorter, two_passed}
+use Rattle.staat_planes.proofs.SearchSteps.{all_passed, first_of, passed_both, shorter, two_passed}
 use Rattle.staat_planes.proofs.search.first_left.Goals as goal
 
 pub returns-in-Some-served_at-clause-first : goal.returns-in-Some-served_at-clause-first
@@ -30,3 +30,10 @@ loop-d-preserved g c = record {
       (c.in_default-served_at.ensures.served parts made (c.loop-d.invariant.knows parts knows)))
       (c.pass_rows.ensures.passed parts made (c.served_at.ensures.knows parts (c.loop-d.invariant.knows parts knows)));
 }
+
+pub returns-in-Some-served_at-clause-among : goal.returns-in-Some-served_at-clause-among
+returns-in-Some-served_at-clause-among g c = c.in-Some-served_at.ensures.among
+
+pub returns-clause-first : goal.returns-clause-first
+returns-clause-first g c = λ parts made knows.
+    all_passed (g.T.Trial.serves parts c.args.w) (vertices_left c.args.table.now.planes c.args.pairs.now) (vertices_left c.args.table.now.planes c.loop-d.pairs) (c.loop-d.invariant.passed parts made knows) c.in_default.ensures.crossing

@@ -1,4 +1,4 @@
-use Rattle.std.proofs.Common.{All, subst}
+use Rattle.std.proofs.Common.{subst}
 use Rattle.staat_model.specs.Planes.{vertices}
 use Rattle.staat_planes.specs.PairOrder.{vertices_left}
 use Rattle.staat_planes.specs.VertexSearch.{ArePassed}
@@ -42,3 +42,6 @@ loop-k-preserved g c = record {
       (c.in_default-served_at.ensures.served parts made (c.loop-k.invariant.knows parts knows)))
       (c.pass_rows-in-loop-k.ensures.passed parts made (c.served_at.ensures.knows parts (c.loop-k.invariant.knows parts knows)));
 }
+
+pub returns-in-Some-served_at-clause-among : goal.returns-in-Some-served_at-clause-among
+returns-in-Some-served_at-clause-among g c = c.in-Some-served_at.ensures.among

@@ -16,3 +16,9 @@ returns-in-Nothing-clause-first g c parts planes made knows are =
 
 pub returns-in-Undecided-clause-first : goal.returns-in-Undecided-clause-first
 returns-in-Undecided-clause-first g c parts planes made knows are = c.first_late.ensures.first parts planes made (c.first_few.ensures.knows parts knows) are
+
+pub returns-in-First-clause-among : goal.returns-in-First-clause-among
+returns-in-First-clause-among g c = c.in-First.ensures.among
+
+pub returns-in-Undecided-clause-among : goal.returns-in-Undecided-clause-among
+returns-in-Undecided-clause-among g c = c.first_late.ensures.among

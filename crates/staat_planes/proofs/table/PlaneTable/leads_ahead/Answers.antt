@@ -1,9 +1,10 @@
 use Rattle.std.proofs.Common.{◌≡◌, ◌↔◌, sym, subst, pos, ◌<ℤ◌, All}
 use Rattle.std.specs.Prelude.{IsTrue}
 use Rattle.staat_vec.specs.Vectors.{dot, negative}
-use Rattle.staat_pairs.specs.Tables.{facets_of, reversed_facets}
+use Rattle.staat_pairs.specs.Tables.{facets_of, reversed_facets, IsTableArc}
 use Rattle.staat_pairs.proofs.TableLemmas.{facets_reversed}
 use Rattle.staat_pairs.proofs.ReversedFacets.{ahead_reversed}
+use Rattle.staat_vec.specs.declared.vector.TheConstants.{DIRECTION}
 use Rattle.staat_planes.proofs.table.PlaneTable.leads_ahead.Goals as goal
 
 pub returns-else-arc : goal.returns-else-arc
@@ -13,3 +14,15 @@ returns-else-arc c =
     let told : IsTrue c.blocks-else-arc.result ↔ All (λ n. pos 0 <ℤ dot n (negative c.args.d)) list = subst (λ e. IsTrue c.blocks-else-arc.result ↔ All (λ n. pos 0 <ℤ dot n e) list) c.neg.ensures.value c.blocks-else-arc.ensures.ahead in
     let law = ahead_reversed list c.args.d in
     subst (λ l. IsTrue c.blocks-else-arc.result ↔ All (λ n. pos 0 <ℤ dot n c.args.d) l) (sym is) (λ h. law.0 (told.0 h), λ h. told.1 (law.1 h))
+
+pub kept_facets-requires-else-arc-clause-across : goal.kept_facets-requires-else-arc-clause-across
+kept_facets-requires-else-arc-clause-across c =
+    let across = c.requires.across in
+    subst (IsTableArc c.args.self.now) (sym c.back.ensures)
+    (record { a_in = across.b_in; b_in = across.a_in; different = λ e. across.different (sym e); i_is = across.j_is; j_is = across.i_is })
+
+pub blocks-requires-else-arc-clause-direction : goal.blocks-requires-else-arc-clause-direction
+blocks-requires-else-arc-clause-direction c = c.neg.ensures.size DIRECTION c.requires.direction
+
+pub returns-then-arc : goal.returns-then-arc
+returns-then-arc c = subst (λ l. IsTrue c.blocks-then-arc.result ↔ All (λ n. pos 0 <ℤ dot n c.args.d) l) c.kept_facets.ensures.is c.blocks-then-arc.ensures.ahead
