@@ -2,7 +2,7 @@ use Rattle.std.proofs.Common.{◌≡◌, ◌∙◌, ℕ, List, All, length, subs
 use Rattle.std.specs.Prelude.{Option}
 use Rattle.staat_model.specs.declared.certificate.Arc.{Arc}
 use Rattle.staat_holds.specs.Chains.{places_of}
-use Rattle.staat_holds.specs.Holds.{IsCorePair, JoinsNodes}
+use Rattle.staat_holds.specs.Holds.{IsCorePair, IsFirstGap, JoinsNodes}
 use Rattle.staat_holds.proofs.FirstFailing.{bad_pair}
 use Rattle.staat_holds.proofs.rules.broken_pairs.Goals as goal
 
@@ -35,3 +35,18 @@ returns g c =
       joins = as_held (λ ns qs ps. JoinsNodes parts qs (length ns) ps) c.args.names.now hold.nodes nodes hold.pairs pairs c.as_slice-2.result.now
           c.as_slice-nodes.ensures c.as_slice-pairs.ensures (c.as_slice-2.ensures.value ∙ c.in_ok-places.ensures) joins;
     }
+
+pub returns-in-Some-2 : goal.returns-in-Some-2
+returns-in-Some-2 g c =
+    let parts = c.args.parts.now in
+    let hold = c.args.hold.now in
+    let nodes = c.as_slice-nodes.result.now in
+    let pairs = c.as_slice-pairs.result.now in
+    let first = rw c.in-Some-2.is at c.in_ok-v.ensures.first in (
+      c.requires.nodes,
+      c.requires.two,
+      as_held (λ ns qs ps. All (IsCorePair parts qs (length ns)) ps) c.args.names.now hold.nodes nodes hold.pairs pairs c.as_slice.result.now
+      c.as_slice-nodes.ensures c.as_slice-pairs.ensures (c.as_slice.ensures.value ∙ c.in_ok-places.ensures) c.in_default.ensures,
+      as_held (λ ns qs ps. IsFirstGap parts qs (length ns) ps c.in-Some-2.v) c.args.names.now hold.nodes nodes hold.pairs pairs c.as_slice-2.result.now
+      c.as_slice-nodes.ensures c.as_slice-pairs.ensures (c.as_slice-2.ensures.value ∙ c.in_ok-places.ensures) first,
+    )
