@@ -12,3 +12,4 @@ pub mod AllPairs
 pub mod EndSteps
 pub mod Ready
 pub mod SmallSteps
+pub mod EachPasses

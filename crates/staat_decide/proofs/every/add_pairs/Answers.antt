@@ -1,7 +1,9 @@
-use Rattle.std.proofs.Common.{◌∷◌, [], sym, ◌∙◌}
+use Rattle.std.proofs.Common.{◌∷◌, [], Contains, arith, subst, sym, ◌∙◌}
 use Rattle.std.proofs.lemmas.Bool.{false≢true}
 use Rattle.std.proofs.lemmas.List.Elements.{All-push, Contains-append_left}
 use Rattle.staat_holds.specs.Holds.{IsCorePair}
+use Rattle.staat_decide.specs.declared.every.End.{End}
+use Rattle.staat_decide.specs.Ends.{arc_between}
 use Rattle.staat_decide.proofs.EndSteps.{pair_comes, pair_passed}
 use Rattle.staat_decide.proofs.every.add_pairs.Goals.{then-is_core_pair+in_ok-push, else-is_core_pair}
 use Rattle.staat_decide.proofs.every.add_pairs.Goals as goal
@@ -25,3 +27,17 @@ loop-end-preserved c =
             (λ core. false≢true (sym w.if-is_core_pair.false ∙ c.is_core_pair.ensures.1 core));
       })
     ]
+
+pub returns : goal.returns
+returns c =
+    let P = IsCorePair c.args.parts.now c.args.nodes.now c.args.count in
+    let xs = c.loop-end.pairs.items in
+    let i = c.loop-end.invariant in
+    record {
+      right = i.right;
+      kept = i.kept;
+      each = λ e listed core.
+          let (k, lt, is) = listed in
+          subst (λ (x : End). Contains xs (arc_between c.args.first x)) is
+          (i.each k (omega (arith, lt, c.loop-end-test.false)) e (subst (λ (x : End). P (arc_between c.args.first x)) (sym is) core));
+    }
