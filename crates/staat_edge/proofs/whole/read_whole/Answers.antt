@@ -42,7 +42,7 @@ pieces-preserved g c =
     let buf = c.read.new.buf in
     let here : count ≤ length buf = c.in-Ok.ensures.room in
     let grew : taken ++ take count buf ≡ c.extend_from_slice.new.self.items =
-        grown_items count taken buf (drop c.min-want.result c.pieces.buf) _ here c.in_ok-extend_from_slice-in-Ok.ensures.items in
+    grown_items count taken buf (drop c.min-want.result c.pieces.buf) _ here c.in_ok-extend_from_slice-in-Ok.ensures.items in
     let reading = λ (l : List ℕ). record { name = c.args.name.now; bytes = l; ended = false } ∷ (g.H.Shelf.told c.args.shelf.now).given in
     record {
       room = room_left c.args.limit c.len.result c.pieces.taken.len c.len-in-pieces.result c.min-want.result count taken buf c.pieces.buf _ c.pieces-test.true c.len.ensures c.pieces.taken.ok.0 here c.read.auto.buf

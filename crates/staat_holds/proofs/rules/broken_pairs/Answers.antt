@@ -46,7 +46,7 @@ returns-in-Some-2 g c =
       c.requires.nodes,
       c.requires.two,
       as_held (λ ns qs ps. All (IsCorePair parts qs (length ns)) ps) c.args.names.now hold.nodes nodes hold.pairs pairs c.as_slice.result.now
-      c.as_slice-nodes.ensures c.as_slice-pairs.ensures (c.as_slice.ensures.value ∙ c.in_ok-places.ensures) c.in_default.ensures,
+          c.as_slice-nodes.ensures c.as_slice-pairs.ensures (c.as_slice.ensures.value ∙ c.in_ok-places.ensures) c.in_default.ensures,
       as_held (λ ns qs ps. IsFirstGap parts qs (length ns) ps c.in-Some-2.v) c.args.names.now hold.nodes nodes hold.pairs pairs c.as_slice-2.result.now
-      c.as_slice-nodes.ensures c.as_slice-pairs.ensures (c.as_slice-2.ensures.value ∙ c.in_ok-places.ensures) first,
+          c.as_slice-nodes.ensures c.as_slice-pairs.ensures (c.as_slice-2.ensures.value ∙ c.in_ok-places.ensures) first,
     )
