@@ -11,4 +11,3 @@ pub mod FewLemmas
 pub mod Sources
 pub mod AxisWallLemmas
 pub mod WordLemmas
-pub mod BackLemmas

@@ -3,7 +3,7 @@ use Rattle.std.specs.Prelude.{unsigned_abs}
 use Rattle.std.specs.Int.{w64, w128}
 use Rattle.staat_vec.specs.declared.vector.TheConstants.{DIFF, NORMAL}
 use Rattle.staat_vec.proofs.Bounds.{abs_diff_le, abs_minor_le}
-use Rattle.staat_cone.proofs.BackLemmas.{minus_fits, minus_read, product_of, read_back, within_back}
+use Rattle.staat_vec.proofs.ReadBack.{minus_fits, minus_read, product_of, read_back, within_back}
 use Rattle.staat_cone.proofs.narrow.minor.Goals as goal
 
 pub square-requires-clause-a : goal.square-requires-clause-a
@@ -34,8 +34,8 @@ returns-clause-value c =
     let h = c.requires in
     let p = c.square in
     let q = c.square-2 in
-    let first = product_of w128 p.result c.args.a c.args.d DIFF h.a h.d (omega arith) p.ensures.value in
-    let second = product_of w128 q.result c.args.b c.args.c DIFF h.b h.c (omega arith) q.ensures.value in
+    let first = product_of w128 p.result c.args.a c.args.d DIFF DIFF h.a h.d (omega arith) (omega arith) p.ensures.value in
+    let second = product_of w128 q.result c.args.b c.args.c DIFF DIFF h.b h.c (omega arith) (omega arith) q.ensures.value in
     let size = abs_minor_le c.args.a c.args.b c.args.c c.args.d DIFF DIFF h.a h.b h.c h.d in
     rw (c.long.ensures, minus_read w64 p.result q.result (DIFF * DIFF) (DIFF * DIFF) p.ensures.size q.ensures.size (omega arith), first, second)
     (read_back w128 ((c.args.a *ℤ c.args.d) -ℤ (c.args.b *ℤ c.args.c)) NORMAL size (omega arith))

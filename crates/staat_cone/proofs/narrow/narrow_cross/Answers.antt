@@ -3,7 +3,7 @@ use Rattle.std.specs.Int.{w128}
 use Rattle.staat_vec.specs.Vectors.{cross}
 use Rattle.staat_vec.specs.declared.vector.TheConstants.{DIFF, NORMAL}
 use Rattle.staat_vec.proofs.VecRing.{same_vector}
-use Rattle.staat_cone.proofs.BackLemmas.{minor_of, within_back}
+use Rattle.staat_vec.proofs.ReadBack.{minor_of, within_back}
 use Rattle.staat_cone.proofs.narrow.narrow_cross.Goals as goal
 
 pub minor-requires-clause-a : goal.minor-requires-clause-a

@@ -2,7 +2,7 @@ use Rattle.std.proofs.Common.{◌∙◌, ◌*◌, ◌+ℤ◌, arith}
 use Rattle.std.specs.Int.{w64, w128}
 use Rattle.std.proofs.lemmas.Int.{fits_signed_from_abs, to_z-of_z}
 use Rattle.staat_vec.specs.declared.vector.TheConstants.{DIFF, NORMAL}
-use Rattle.staat_cone.proofs.BackLemmas.{within_back, within_twice}
+use Rattle.staat_vec.proofs.ReadBack.{within_back, within_twice}
 use Rattle.staat_cone.proofs.WordLemmas.{product_read, sum_within, word_read}
 use Rattle.staat_cone.proofs.narrow.narrow_dot.Goals as goal
 

@@ -4,7 +4,7 @@ use Rattle.std.specs.Int.{w64, w128}
 use Rattle.std.proofs.lemmas.Int.{fits_signed_from_abs}
 use Rattle.staat_vec.specs.declared.vector.TheConstants.{DIFF, NORMAL}
 use Rattle.staat_vec.proofs.Bounds.{abs_mul_le}
-use Rattle.staat_cone.proofs.BackLemmas.{read_twice, within_back, within_twice}
+use Rattle.staat_vec.proofs.ReadBack.{read_twice, within_back, within_twice}
 use Rattle.staat_cone.proofs.WordLemmas.{product_read}
 use Rattle.staat_cone.proofs.narrow.square.Goals as goal
 

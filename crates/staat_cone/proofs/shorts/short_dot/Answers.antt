@@ -3,7 +3,7 @@ use Rattle.std.specs.Int.{w128}
 use Rattle.std.proofs.lemmas.Int.{fits_signed_from_abs, to_z-of_z}
 use Rattle.staat_vec.specs.declared.vector.TheConstants.{NORMAL}
 use Rattle.staat_cone.specs.declared.shorts.TheConstants.{SHORT}
-use Rattle.staat_cone.proofs.BackLemmas.{within_back, within_twice}
+use Rattle.staat_vec.proofs.ReadBack.{within_back, within_twice}
 use Rattle.staat_cone.proofs.WordLemmas.{product_read, sum_within, word_read}
 use Rattle.staat_cone.proofs.shorts.short_dot.Goals as goal
 

@@ -1,36 +1,37 @@
-use Rattle.std.proofs.Common.{◌≡◌, ◌∙◌, ◌≤◌, ◌*◌, sym, subst, arith}
+use Rattle.std.proofs.Common.{◌≤◌, ◌*◌, sym, subst, arith}
 use Rattle.std.specs.Prelude.{unsigned_abs}
+use Rattle.std.specs.Int.{w128}
 use Rattle.staat_vec.specs.declared.vector.TheConstants.{DIRECTION, NORMAL}
 use Rattle.staat_vec.proofs.Bounds.{abs_dot_le}
-use Rattle.staat_vec.proofs.Machine.{plus_fits, product_of, small_within, three_back, three_fits}
+use Rattle.staat_vec.proofs.ReadBack.{plus_fits, product_of, three_fits, three_read, within_back}
 use Rattle.staat_vec.proofs.products.dot.Goals as goal
 
 pub product-requires-clause-a : goal.product-requires-clause-a
-product-requires-clause-a c = small_within c.args.n.x NORMAL NORMAL c.requires.n.x (omega arith) (omega arith)
+product-requires-clause-a c = within_back w128 c.args.n.x NORMAL NORMAL c.requires.n.x (omega arith) (omega arith)
 
 pub product-requires-clause-b : goal.product-requires-clause-b
-product-requires-clause-b c = small_within c.args.d.x DIRECTION DIRECTION c.requires.d.x (omega arith) (omega arith)
+product-requires-clause-b c = within_back w128 c.args.d.x DIRECTION DIRECTION c.requires.d.x (omega arith) (omega arith)
 
 pub product-requires-2-clause-a : goal.product-requires-2-clause-a
-product-requires-2-clause-a c = small_within c.args.n.y NORMAL NORMAL c.requires.n.y (omega arith) (omega arith)
+product-requires-2-clause-a c = within_back w128 c.args.n.y NORMAL NORMAL c.requires.n.y (omega arith) (omega arith)
 
 pub product-requires-2-clause-b : goal.product-requires-2-clause-b
-product-requires-2-clause-b c = small_within c.args.d.y DIRECTION DIRECTION c.requires.d.y (omega arith) (omega arith)
+product-requires-2-clause-b c = within_back w128 c.args.d.y DIRECTION DIRECTION c.requires.d.y (omega arith) (omega arith)
 
 pub product-requires-3-clause-a : goal.product-requires-3-clause-a
-product-requires-3-clause-a c = small_within c.args.n.z NORMAL NORMAL c.requires.n.z (omega arith) (omega arith)
+product-requires-3-clause-a c = within_back w128 c.args.n.z NORMAL NORMAL c.requires.n.z (omega arith) (omega arith)
 
 pub product-requires-3-clause-b : goal.product-requires-3-clause-b
-product-requires-3-clause-b c = small_within c.args.d.z DIRECTION DIRECTION c.requires.d.z (omega arith) (omega arith)
+product-requires-3-clause-b c = within_back w128 c.args.d.z DIRECTION DIRECTION c.requires.d.z (omega arith) (omega arith)
 
 pub overflow_add-result : goal.overflow_add-result
 overflow_add-result c =
-    plus_fits c.product.result c.product-2.result (NORMAL * DIRECTION) (NORMAL * DIRECTION)
+    plus_fits w128 c.product.result c.product-2.result (NORMAL * DIRECTION) (NORMAL * DIRECTION)
     c.product.ensures.size c.product-2.ensures.size (omega arith)
 
 pub overflow_add-result-2 : goal.overflow_add-result-2
 overflow_add-result-2 c =
-    three_fits c.product.result c.product-2.result c.product-3.result (NORMAL * DIRECTION)
+    three_fits w128 c.product.result c.product-2.result c.product-3.result (NORMAL * DIRECTION)
     c.product.ensures.size c.product-2.ensures.size c.product-3.ensures.size (omega arith)
 
 pub returns-clause-value : goal.returns-clause-value
@@ -39,11 +40,11 @@ returns-clause-value c =
     let d = c.args.d in
     let h = c.requires.n in
     let k = c.requires.d in
-    let x = product_of c.product.result n.x d.x NORMAL DIRECTION h.x k.x (omega arith) (omega arith) c.product.ensures.value in
-    let y = product_of c.product-2.result n.y d.y NORMAL DIRECTION h.y k.y (omega arith) (omega arith) c.product-2.ensures.value in
-    let z = product_of c.product-3.result n.z d.z NORMAL DIRECTION h.z k.z (omega arith) (omega arith) c.product-3.ensures.value in
+    let x = product_of w128 c.product.result n.x d.x NORMAL DIRECTION h.x k.x (omega arith) (omega arith) c.product.ensures.value in
+    let y = product_of w128 c.product-2.result n.y d.y NORMAL DIRECTION h.y k.y (omega arith) (omega arith) c.product-2.ensures.value in
+    let z = product_of w128 c.product-3.result n.z d.z NORMAL DIRECTION h.z k.z (omega arith) (omega arith) c.product-3.ensures.value in
     rw (← x, ← y, ← z)
-    (three_back c.product.result c.product-2.result c.product-3.result (NORMAL * DIRECTION)
+    (three_read w128 c.product.result c.product-2.result c.product-3.result (NORMAL * DIRECTION)
     c.product.ensures.size c.product-2.ensures.size c.product-3.ensures.size (omega arith))
 
 pub returns-clause-size : goal.returns-clause-size

@@ -1,16 +1,15 @@
-use Rattle.std.proofs.Common.{◌≡◌, ◌≢◌, ◌∙◌, true, false, arith, sym, ℤ, pos, neg_ℤ, ◌<ℤ◌, FitsSigned, subst}
+use Rattle.std.proofs.Common.{◌≡◌, ◌≢◌, ◌∙◌, true, false, arith, sym, ℤ, pos, neg_ℤ, ◌<ℤ◌, FitsSigned, subst, to_z, of_z}
 use Rattle.std.specs.Int.{w128}
 use Rattle.std.proofs.lemmas.Int.{ints, to_z-of_z}
 use lib.Signed.{lt_z}
 use Rattle.staat_vec.specs.Primitives.{first_nonzero}
 use Rattle.staat_vec.proofs.Canons.{canon-same, canon-opposite, first_nonzero-negative, first_nonzero-zero}
-use Rattle.staat_vec.proofs.Machine.{back}
 use Rattle.staat_vec.proofs.rays.canon.Goals as goal
 
-above : (r z : ℤ) → FitsSigned w128 r → lt_z (pos 0) (back r) ≡ true → r ≡ z → pos 0 <ℤ z
+above : (r z : ℤ) → FitsSigned w128 r → lt_z (pos 0) (to_z w128 (of_z w128 r)) ≡ true → r ≡ z → pos 0 <ℤ z
 above r z fits test e = let h = rw (to_z-of_z w128 r fits) at test in omega (arith, ints)
 
-not_above : (r z : ℤ) → FitsSigned w128 r → lt_z (pos 0) (back r) ≡ false → r ≡ z → z ≢ pos 0 → pos 0 <ℤ neg_ℤ z
+not_above : (r z : ℤ) → FitsSigned w128 r → lt_z (pos 0) (to_z w128 (of_z w128 r)) ≡ false → r ≡ z → z ≢ pos 0 → pos 0 <ℤ neg_ℤ z
 not_above r z fits test e some = let h = rw (to_z-of_z w128 r fits) at test in omega (arith, ints)
 
 pub returns-then-first_nonzero-gt0-clause-first : goal.returns-then-first_nonzero-gt0-clause-first
