@@ -45,10 +45,10 @@ class Kit:
         self.folder = Path(page.strip()).parent
         self.version = subprocess.run(["rt", "version"], check=True, capture_output=True).stdout
 
-    def build(self, crate: Crate, jobs: int, to: Path) -> list[str]:
-        """The words that prove a crate, and write what it is for those above it, or the program's code."""
+    def _words(self, verb: str, crate: Crate, jobs: int) -> list[str]:
+        """The words for a crate over the libraries below it, as they were proved."""
         libraries = self.folder / "rlibs"
-        words = [str(self.folder / "bin" / "rattle"), "build", "--crate-name", crate.name]
+        words = [str(self.folder / "bin" / "rattle"), verb, "--crate-name", crate.name]
         words += [crate.root, "-L", f"dependency={libraries}"]
         for name in ("std", *crate.of_kit):
             words += ["--extern", f"{name}={libraries / name}.rlib"]
@@ -58,10 +58,19 @@ class Kit:
             words += ["-L", f"dependency={below.library.parent}"]
         words += ["--antt-project", str(self.folder / "rattle" / "logic" / "antt-project.json")]
         words += ["--logic-built", str(self.folder / "logic_built"), "--jobs", str(jobs)]
-        words += ["--links", f"{crate.name}=", "-o", str(to)]
+        return [*words, "--links", f"{crate.name}="]
+
+    def build(self, crate: Crate, jobs: int, to: Path) -> list[str]:
+        """The words that prove a crate, and write what it is for those above it, or the program's code."""
+        words = [*self._words("build", crate, jobs), "-o", str(to)]
         if crate.is_program:
             return [*words, "--toolchain", str(self.folder / "toolchain"), "--backend", "llvm"]
         return [*words, "--statements"]
+
+    def check(self, crate: Crate, kept: Path) -> list[str]:
+        """The words that prove a crate by one job, and leave a file in `kept` for each module that was proved."""
+        words = [*self._words("check", crate, 1), "--incremental", str(kept)]
+        return [*words, "--test"] if crate.name.endswith("_tests") else words
 
     def link(self, code: Path, to: Path) -> list[str]:
         """The words that make the program of its code."""
