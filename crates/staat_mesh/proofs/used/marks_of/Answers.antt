@@ -1,6 +1,7 @@
-use Rattle.std.proofs.Common.{◌≡◌, ◌⊎◌, ◌↔◌, ℕ, Bool, List, [], false, length, ap, sym, subst, ◌∙◌}
+use Rattle.std.proofs.Common.{◌≡◌, ◌<◌, ◌⊎◌, ◌↔◌, ℕ, All, Bool, List, [], false, get_or, length, ap, sym, subst, ◌∙◌}
 use Rattle.std.specs.Prelude.{Contains}
-use Rattle.std.proofs.lemmas.List.{get_or_read, length-replicate}
+use Rattle.std.proofs.lemmas.List.{get_or_read, length-replicate, take_all}
+use Rattle.std.proofs.lemmas.Result.{err_from_is_err_and}
 use Rattle.staat_mesh.specs.MarkedVertices.{IsMarked, MarksCorners}
 use Rattle.staat_mesh.proofs.MarkLemmas.{corners_more, corners_none}
 use Rattle.staat_mesh.proofs.used.marks_of.Goals as goal
@@ -24,3 +25,30 @@ loop-face-preserved c =
       number = same ∙ c.loop-face.invariant.number;
       corners = corners_more c.args.faces.now c.loop-face.face-index marks.items c.mark.new.marks c.loop-face-test.true now c.loop-face.invariant.corners;
     })
+
+within_marks : (faces : List (List ℕ)) (vertices i : ℕ) (xs : List ℕ) (marks : List Bool) → All (All (λ v. v < vertices)) faces → i < length faces
+    → xs ≡ get_or faces i [] → length marks ≡ vertices → All (λ v. v < length marks) xs
+within_marks faces vertices i xs marks h lt e n = rw (e, n) (h i [] lt)
+
+pub mark-requires : goal.mark-requires
+mark-requires c =
+    let face = c.as_slice.ensures ∙ get_or_read c.args.faces.now c.loop-face.face-index _ c.loop-face-test.true c.face-item.is [] in
+    within_marks c.args.faces.now c.args.vertices c.loop-face.face-index c.as_slice.result.now c.as_mut_slice.result.now c.requires c.loop-face-test.true
+    face (ap length c.as_mut_slice.ensures.value ∙ c.loop-face.invariant.number)
+
+pub returns-in_err-marks-clause-number : goal.returns-in_err-marks-clause-number
+returns-in_err-marks-clause-number c =
+    let p = err_from_is_err_and c.from_residual.result c.from_residual.ensures.1 in
+    rw p.1 tt
+
+pub returns-in_err-marks-clause-corners : goal.returns-in_err-marks-clause-corners
+returns-in_err-marks-clause-corners c =
+    let p = err_from_is_err_and c.from_residual.result c.from_residual.ensures.1 in
+    rw p.1 tt
+
+pub returns-clause-number : goal.returns-clause-number
+returns-clause-number c = c.loop-face.invariant.number
+
+pub returns-clause-corners : goal.returns-clause-corners
+returns-clause-corners c =
+    subst (λ (faces : List (List ℕ)). MarksCorners faces c.loop-face.marks.items) (take_all c.loop-face.face-index c.args.faces.now c.loop-face-test.false) c.loop-face.invariant.corners
