@@ -1,4 +1,7 @@
 use Rattle.std.proofs.Common.{◌≡◌, Option, None, MatchOption, sym, subst}
+use Rattle.std.proofs.lemmas.List.Elements.{All-contains}
+use Rattle.staat_vec.specs.declared.vector.TheConstants.{POINT}
+use Rattle.staat_vec.specs.Vectors.{IsWithin, origin}
 use Rattle.staat_model.proofs.Flat.{apart}
 use Rattle.staat_mesh.proofs.LineLemmas.{on_line_at, on_line_through}
 use Rattle.staat_mesh.proofs.plane.plane_of.Goals as goal
@@ -11,3 +14,48 @@ returns-in_err-second-clause-plane c = nothing _ _ _ c.from_residual-in_err-seco
 
 pub returns-in_err-normal-clause-plane : goal.returns-in_err-normal-clause-plane
 returns-in_err-normal-clause-plane c = nothing _ _ _ c.from_residual-in_err-normal.ensures (on_line_through _ _ _ (apart _ _ _ c.sub.ensures.value c.in_ok-second.ensures.1) c.in_err-normal.ensures.line)
+
+pub returns-in_err-first-clause-through : goal.returns-in_err-first-clause-through
+returns-in_err-first-clause-through c = rw c.from_residual.ensures tt
+
+pub returns-in_err-first-clause-size : goal.returns-in_err-first-clause-size
+returns-in_err-first-clause-size c = rw c.from_residual.ensures tt
+
+pub returns-in_err-second-clause-through : goal.returns-in_err-second-clause-through
+returns-in_err-second-clause-through c = rw c.from_residual-in_err-second.ensures tt
+
+pub returns-in_err-second-clause-size : goal.returns-in_err-second-clause-size
+returns-in_err-second-clause-size c = rw c.from_residual-in_err-second.ensures tt
+
+pub returns-in_err-normal-clause-through : goal.returns-in_err-normal-clause-through
+returns-in_err-normal-clause-through c = rw c.from_residual-in_err-normal.ensures tt
+
+pub returns-in_err-normal-clause-size : goal.returns-in_err-normal-clause-size
+returns-in_err-normal-clause-size c = rw c.from_residual-in_err-normal.ensures tt
+
+pub sub-requires-clause-a : goal.sub-requires-clause-a
+sub-requires-clause-a c = All-contains (IsWithin POINT) c.args.points.now c.in_ok-second.second c.requires c.in_ok-second.ensures.0
+
+pub normal_off_line-requires-clause-points : goal.normal_off_line-requires-clause-points
+normal_off_line-requires-clause-points c = c.requires
+
+pub normal_off_line-requires-clause-along : goal.normal_off_line-requires-clause-along
+normal_off_line-requires-clause-along c = c.sub.ensures.size
+
+pub returns-clause-size : goal.returns-clause-size
+returns-clause-size c = c.in_ok-normal.ensures.size
+
+pub returns-clause-through : goal.returns-clause-through
+returns-clause-through c =
+    let first = c.in_ok-first.ensures.item.3 in
+    rw (first.1 origin) (c.requires 0 origin first.0)
+
+pub sub-requires-clause-b : goal.sub-requires-clause-b
+sub-requires-clause-b c =
+    let first = c.in_ok-first.ensures.item.3 in
+    rw (first.1 origin) (c.requires 0 origin first.0)
+
+pub normal_off_line-requires-clause-a : goal.normal_off_line-requires-clause-a
+normal_off_line-requires-clause-a c =
+    let first = c.in_ok-first.ensures.item.3 in
+    rw (first.1 origin) (c.requires 0 origin first.0)
