@@ -1,9 +1,16 @@
-use Rattle.std.proofs.Common.{◌∙◌, ◌+◌, Some, sym, subst, ◌≡◌}
+use Rattle.std.proofs.Common.{◌∙◌, ◌+◌, Some, sym, subst, ◌≡◌, ◌<◌, ◌≤◌, ℕ, arith, le_trans, suc, zero}
 use Rattle.std.specs.Prelude.{slice_get}
 use Rattle.std.proofs.lemmas.Option.{same_Some}
 use Rattle.staat_ring.specs.Builds.{AreFilled, IsPlaceOf}
 use Rattle.staat_ring.proofs.Filling.{filled_more, filled_own, place}
+use Rattle.std.proofs.lemmas.Result.{err_from_is_err_and}
+use Rattle.staat_model.specs.Circles.{axis_beside}
+use Rattle.staat_ring.proofs.HalfCircleFromAxis.{axis_differs}
 use Rattle.staat_ring.proofs.circle.fill.Goals as goal
+
+beside_small : (c : ℕ) → axis_beside c < 3
+beside_small zero = omega arith
+beside_small (suc c) = omega arith
 
 pub place_of-at-requires-clause-half : goal.place_of-at-requires-clause-half
 place_of-at-requires-clause-half c =
@@ -27,3 +34,47 @@ returns c =
 
 pub returns-then-j-c : goal.returns-then-j-c
 returns-then-j-c c = λ g gi. filled_own c.args.table.now.planes c.args.c c.args.j g c.args.half.now c.args.slots.now.items c.if-j-c.true (c.requires.slots g gi)
+
+pub plane-axis-requires : goal.plane-axis-requires
+plane-axis-requires c = le_trans (subst (λ k. k < 3) (sym c.axis_beside.ensures) (beside_small c.args.c)) (subst (λ n. 3 ≤ n) c.len-planes.ensures.is c.len-planes.ensures.least)
+
+pub plane-g-requires : goal.plane-g-requires
+plane-g-requires c = c.requires.c
+
+pub push_at-requires : goal.push_at-requires
+push_at-requires c = subst (λ n. c.place_of-at.result < n) (sym (c.requires.slots c.plane-g.result c.plane-g.ensures.is).size) c.place_of-at.ensures.within
+
+pub place_of-at-requires-clause-g : goal.place_of-at-requires-clause-g
+place_of-at-requires-clause-g c = c.plane-g.ensures.rules.within
+
+pub place_of-at-requires-clause-h : goal.place_of-at-requires-clause-h
+place_of-at-requires-clause-h c = c.facet_by.ensures.within
+
+pub returns-in_err-push_at : goal.returns-in_err-push_at
+returns-in_err-push_at c =
+    let p = err_from_is_err_and c.from_residual.result c.from_residual.ensures.1 in
+    rw p.1 tt
+
+pub plane-h-requires : goal.plane-h-requires
+plane-h-requires c = c.requires.j
+
+pub is_opposite-turned-requires-clause-start : goal.is_opposite-turned-requires-clause-start
+is_opposite-turned-requires-clause-start c =
+    let ai = subst (λ k. slice_get c.args.table.now.planes k ≡ Some c.plane-axis.result) c.axis_beside.ensures c.plane-axis.ensures.is in
+    c.set-set.ensures.rules.planes.apart c.args.c (axis_beside c.args.c) c.plane-g.result c.plane-axis.result c.plane-g.ensures.is ai (λ e. axis_differs c.args.c (sym e))
+
+pub is_opposite-turned-requires-clause-apart : goal.is_opposite-turned-requires-clause-apart
+is_opposite-turned-requires-clause-apart c =
+    c.set-set.ensures.rules.planes.apart c.args.c c.args.j c.plane-g.result c.plane-h.result c.plane-g.ensures.is c.plane-h.ensures.is (λ e. c.if-j-c.false (sym e))
+
+pub is_opposite-turned-requires-clause-g : goal.is_opposite-turned-requires-clause-g
+is_opposite-turned-requires-clause-g c = c.plane-g.ensures.rules.within
+
+pub is_opposite-turned-requires-clause-axis : goal.is_opposite-turned-requires-clause-axis
+is_opposite-turned-requires-clause-axis c = c.plane-axis.ensures.rules.within
+
+pub is_opposite-turned-requires-clause-h : goal.is_opposite-turned-requires-clause-h
+is_opposite-turned-requires-clause-h c = c.plane-h.ensures.rules.within
+
+pub facet_by-requires : goal.facet_by-requires
+facet_by-requires c = c.plane-h.ensures.rules.within

@@ -1,4 +1,4 @@
-use Rattle.std.proofs.Common.{◌≢◌, ℕ, ◌<◌, ap, sym, ◌∙◌, subst, length}
+use Rattle.std.proofs.Common.{ap, ◌∙◌}
 use Rattle.std.specs.Prelude.{not}
 use Rattle.staat_vec.proofs.Primitives.{IsPrimitive-some}
 use Rattle.staat_ring.specs.Belonging.{PlaneFacet}
