@@ -1,25 +1,21 @@
 -- Parts that stay together.
-use Rattle.std.proofs.Common.{◌≡◌, ◌≢◌, ◌⊎◌, ⊎_elim, inl, inr, ℕ, ◌<◌, ◌≤◌, arith, sym, subst, ◌∙◌, refl, ap, List}
+use Rattle.std.proofs.Common.{◌≡◌, ◌≢◌, ◌⊎◌, ⊎_elim, inl, inr, ℕ, ◌≤◌, arith, sym, subst, refl, ap, List}
 use Rattle.std.specs.FinSet as set
 use Rattle.staat_vec.specs.declared.vector.V3.{V3}
 use Rattle.staat_model.specs.declared.assembly.Part.{Part}
 use Rattle.staat_model.specs.declared.certificate.Arc.{Arc}
 use Rattle.staat_model.specs.declared.set.PartSet.{PartSet}
 use Rattle.staat_model.specs.Cores.{IsFreeInCore}
-use Rattle.staat_model.specs.Sets.{Has, IsNonempty, IsSide, IsSubset, single}
+use Rattle.staat_model.specs.Sets.{Has, IsSubset, single}
 use Rattle.staat_model.proofs.FreeSides.{member_or}
 use Rattle.staat_model.proofs.RestrictLemmas.{nonempty_or}
 use Rattle.staat_model.proofs.SetMembers.{has-difference, has-single, has-union}
 use Rattle.staat_model.proofs.SetSizes.{len-single, one_is}
 use Rattle.staat_model.proofs.SetWords.{same_members}
-use Rattle.staat_core.specs.declared.cores.Core.{Core}
 use Rattle.staat_core.specs.declared.joins.Moving.{Moving}
 use Rattle.staat_core.specs.declared.joins.Moving.TheVariants.{AnySide, OnePart}
 use Rattle.staat_core.specs.Bonds.{AreTogether}
-use Rattle.staat_core.specs.Cores.{IsCore, core_pairs}
-use Rattle.staat_core.specs.Moves.{HoldsMoves, IsMove}
-use Rattle.staat_core.specs.Sources.{both_ways}
-use Rattle.staat_core.proofs.TableHolding.{all_hold}
+use Rattle.staat_core.specs.Moves.{HoldsMoves}
 use Rattle.staat_vec.proofs.Naturals.{same_or}
 
 -- two parts that hold each other do not come apart

@@ -1,4 +1,4 @@
-use Rattle.std.proofs.Common.{◌≡◌, ◌⊎◌, ◌∙◌, ⊎_elim, inl, inr, true, sym, subst}
+use Rattle.std.proofs.Common.{◌⊎◌, ◌∙◌, ⊎_elim, inl, inr, sym, subst}
 use Rattle.staat_model.specs.Sets.{Has}
 use Rattle.staat_core.specs.Bonds.{AreTogether}
 use Rattle.staat_core.specs.Sources.{both_ways}

@@ -5,6 +5,7 @@ use Rattle.staat_vec.specs.Primitives.{canon}
 use Rattle.staat_vec.specs.Vectors.{origin}
 use Rattle.staat_core.specs.Cores.{HasCanons, core_planes}
 use Rattle.staat_core.proofs.Growing.{canons_kept, goes_further, goes_same}
+use Rattle.std.proofs.lemmas.Bool.{false≢true}
 use Rattle.staat_core.proofs.cores.Core.put_facets.Goals as goal
 
 pub loop-n-init : goal.loop-n-init
@@ -33,3 +34,9 @@ loop-n-preserved c =
 
 pub returns-clause-put : goal.returns-clause-put
 returns-clause-put c told = subst (HasCanons (core_planes c.loop-n.self)) (take_all c.loop-n.n-index c.args.facets.now c.loop-n-test.false) c.loop-n.invariant.put
+
+pub returns-then-not-put_plane-clause-pairs : goal.returns-then-not-put_plane-clause-pairs
+returns-then-not-put_plane-clause-pairs c = c.put_plane.ensures.pairs ∙ c.loop-n.invariant.pairs
+
+pub returns-then-not-put_plane-clause-put : goal.returns-then-not-put_plane-clause-put
+returns-then-not-put_plane-clause-put c = λ t. absurd (false≢true t)

@@ -5,6 +5,8 @@ use Rattle.staat_core.specs.Sources.{IsSmallPair}
 use Rattle.staat_core.proofs.Growing.{grows_further, grows_not}
 use Rattle.staat_core.proofs.Holding.{held_by_arcs}
 use Rattle.staat_core.proofs.Leading.{leading_kept}
+use Rattle.std.proofs.lemmas.Bool.{false≢true}
+use Rattle.staat_vec.specs.declared.vector.TheConstants.{DIRECTION}
 use Rattle.staat_core.proofs.cores.Core.settle.Goals as goal
 
 pub loop-k-init : goal.loop-k-init
@@ -31,3 +33,57 @@ loop-k-preserved g c =
           c.put_pair.ensures.leads parts (core_pairs c.take.new.self) speaks (c.take.ensures.listed told)
           (leading_kept parts (core_pairs c.loop-k.self) (core_pairs c.take.new.self) c.args.d c.loop-k.joins.ahead.rows c.take.ensures.grows.pairs (c.loop-k.invariant.leads parts speaks));
     }
+
+pub returns-clause-core : goal.returns-clause-core
+returns-clause-core g c = c.loop-k.invariant.core
+
+pub returns-clause-grows : goal.returns-clause-grows
+returns-clause-grows g c = c.loop-k.invariant.grows
+
+pub returns-clause-held : goal.returns-clause-held
+returns-clause-held g c = λ t. absurd (false≢true t)
+
+pub returns-then-not-take-clause-core : goal.returns-then-not-take-clause-core
+returns-then-not-take-clause-core g c = c.take.ensures.core
+
+pub returns-then-not-take-clause-held : goal.returns-then-not-take-clause-held
+returns-then-not-take-clause-held g c = λ t. absurd (false≢true t)
+
+pub returns-in_default-wanted-clause-core : goal.returns-in_default-wanted-clause-core
+returns-in_default-wanted-clause-core g c = c.loop-k.invariant.core
+
+pub returns-in_default-wanted-clause-grows : goal.returns-in_default-wanted-clause-grows
+returns-in_default-wanted-clause-grows g c = c.loop-k.invariant.grows
+
+pub returns-in_default-wanted-clause-held : goal.returns-in_default-wanted-clause-held
+returns-in_default-wanted-clause-held g c = λ t. absurd (false≢true t)
+
+pub returns-in_default-clause-core : goal.returns-in_default-clause-core
+returns-in_default-clause-core g c = c.loop-k.invariant.core
+
+pub returns-in_default-clause-grows : goal.returns-in_default-clause-grows
+returns-in_default-clause-grows g c = c.loop-k.invariant.grows
+
+pub put_pair-requires-clause-pair : goal.put_pair-requires-clause-pair
+put_pair-requires-clause-pair g c = c.in-Some-wanted.ensures
+
+pub put_pair-requires-clause-e : goal.put_pair-requires-clause-e
+put_pair-requires-clause-e g c = c.neg-e.ensures.size DIRECTION c.requires.direction
+
+pub put_pair-requires-clause-opposite : goal.put_pair-requires-clause-opposite
+put_pair-requires-clause-opposite g c = c.neg-e.ensures.value
+
+pub put_pair-requires-clause-reversed : goal.put_pair-requires-clause-reversed
+put_pair-requires-clause-reversed g c = c.loop-k.invariant.reversed
+
+pub wanted-requires-clause-core : goal.wanted-requires-clause-core
+wanted-requires-clause-core g c = c.loop-k.invariant.core
+
+pub take-requires-clause-core : goal.take-requires-clause-core
+take-requires-clause-core g c = c.loop-k.invariant.core
+
+pub take-requires-clause-pair : goal.take-requires-clause-pair
+take-requires-clause-pair g c = c.in-Some-wanted.ensures
+
+pub shut-requires-clause-reversed : goal.shut-requires-clause-reversed
+shut-requires-clause-reversed g c = c.loop-k.invariant.reversed

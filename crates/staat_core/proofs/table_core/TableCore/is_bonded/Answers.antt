@@ -1,5 +1,4 @@
 use Rattle.std.proofs.Common.{◌≤◌, subst}
-use Rattle.std.specs.FinSet as set
 use Rattle.staat_core.specs.Bonds.{AreTogether}
 use Rattle.staat_core.specs.Listed.{pairs_in_use}
 use Rattle.staat_core.specs.Sources.{both_ways}
