@@ -1,5 +1,7 @@
-use Rattle.std.proofs.Common.{◌<◌, ◌-◌, ◌/◌, ◌%◌, ◌∙◌, length-set, subst, sym}
+use Rattle.std.proofs.Common.{◌<◌, ◌-◌, ◌/◌, ◌%◌, ◌∙◌, length-set, subst, sym, ap, arith, length, set}
 use Rattle.staat_ring.proofs.BlockSteps.{counted_clear, reversed_clear}
+use Rattle.std.specs.Prelude.{slice_index}
+use Rattle.std.proofs.lemmas.List.{get_or_read}
 use Rattle.staat_ring.proofs.block_counts.BlockCounts.less.Goals as goal
 
 pub invariant_of-self : goal.invariant_of-self
@@ -8,3 +10,39 @@ invariant_of-self c = record {
   rows_are = counted_clear c.self.inside.counts.items c.self.inside.graph.rows c.clear_arc.new.rows c.args.x (c.index.result.now - 1) (subst (λ n. c.args.x < n) (sym c.self.invariant.length_is) c.requires.place) c.if-count-eq0.true c.self.invariant.rows_are c.clear_arc.ensures;
   back_are = reversed_clear c.self.inside.graph.rows c.self.inside.back.rows c.clear_arc.new.rows c.clear_arc-then-count-eq0.new.rows (c.args.x / 32) (c.args.x % 32) c.self.invariant.back_are c.clear_arc.ensures c.clear_arc-then-count-eq0.ensures;
 }
+
+pub returns-then-count-eq0 : goal.returns-then-count-eq0
+returns-then-count-eq0 c =
+    let items = c.self.inside.counts.items in
+    let inside : c.args.x < length c.self.inside.counts.items = subst (λ n. c.args.x < n) (sym c.self.invariant.length_is) c.requires.place in
+    ap (λ n. set items c.args.x (n - 1)) (get_or_read items c.args.x c.index.result.now inside c.index.ensures 0)
+    ∙ ap (λ xs. set xs c.args.x (slice_index xs c.args.x - 1)) c.self.view_is
+
+pub returns-else-count-eq0 : goal.returns-else-count-eq0
+returns-else-count-eq0 c =
+    let items = c.self.inside.counts.items in
+    let inside : c.args.x < length c.self.inside.counts.items = subst (λ n. c.args.x < n) (sym c.self.invariant.length_is) c.requires.place in
+    ap (λ n. set items c.args.x (n - 1)) (get_or_read items c.args.x c.index.result.now inside c.index.ensures 0)
+    ∙ ap (λ xs. set xs c.args.x (slice_index xs c.args.x - 1)) c.self.view_is
+
+pub index-requires : goal.index-requires
+index-requires c =
+    let inside : c.args.x < length c.self.inside.counts.items = subst (λ n. c.args.x < n) (sym c.self.invariant.length_is) c.requires.place in
+    omega (arith, inside, c.self.inside.counts.ok.0)
+
+pub index_mut-requires : goal.index_mut-requires
+index_mut-requires c =
+    let inside : c.args.x < length c.self.inside.counts.items = subst (λ n. c.args.x < n) (sym c.self.invariant.length_is) c.requires.place in
+    omega (arith, inside, c.self.inside.counts.ok.0)
+
+pub clear_arc-requires-clause-from : goal.clear_arc-requires-clause-from
+clear_arc-requires-clause-from c = let lt : c.args.x < 1024 = c.requires.place in omega (arith, lt)
+
+pub clear_arc-requires-clause-to : goal.clear_arc-requires-clause-to
+clear_arc-requires-clause-to c = let lt : c.args.x < 1024 = c.requires.place in omega (arith, lt)
+
+pub clear_arc-requires-then-count-eq0-clause-from : goal.clear_arc-requires-then-count-eq0-clause-from
+clear_arc-requires-then-count-eq0-clause-from c = let lt : c.args.x < 1024 = c.requires.place in omega (arith, lt)
+
+pub clear_arc-requires-then-count-eq0-clause-to : goal.clear_arc-requires-then-count-eq0-clause-to
+clear_arc-requires-then-count-eq0-clause-to c = let lt : c.args.x < 1024 = c.requires.place in omega (arith, lt)
