@@ -17,3 +17,15 @@ returns-clause-bound g c parts w d x speaks some p_in x_in h =
     let e = (c.single.ensures.members x).0 here in
     inr (subst (AreTogether parts arcs w d c.args.p) (sym e) (c.is_bond.ensures c.if-not-is_bond.false parts w d speaks some p_in (subst (Has w) e x_in))))
     ((c.union.ensures.members x).0 h)
+
+pub returns-then-not-has-clause-within : goal.returns-then-not-has-clause-within
+returns-then-not-has-clause-within g c = λ x h. inl h
+
+pub returns-then-not-has-clause-bound : goal.returns-then-not-has-clause-bound
+returns-then-not-has-clause-bound g c = λ parts w d x speaks some p_in x_in h. inl h
+
+pub returns-then-not-is_bond-clause-within : goal.returns-then-not-is_bond-clause-within
+returns-then-not-is_bond-clause-within g c = λ x h. inl h
+
+pub returns-then-not-is_bond-clause-bound : goal.returns-then-not-is_bond-clause-bound
+returns-then-not-is_bond-clause-bound g c = λ parts w d x speaks some p_in x_in h. inl h
