@@ -27,7 +27,7 @@ product_beyond m s r some h =
     let more : r / s + 1 ≤ m = omega arith in
     omega (arith, mul-le-mul_right s more)
 
-factor_within : (m s r : ℕ) → 0 < s → m * s ≤ r → m ≤ r
+pub factor_within : (m s r : ℕ) → 0 < s → m * s ≤ r → m ≤ r
 factor_within m s r some h =
     let one : 1 ≤ s = omega arith in
     omega (arith, mul-le-mul_left m one)
