@@ -1,7 +1,8 @@
 -- Bytes that were added, one after another.
-use Rattle.std.proofs.Common.{◌≡◌, ◌++◌, ◌∷◌, ◌^◌, ◌<◌, ◌≤◌, ℕ, List, [], length, ap, sym, subst, ◌∙◌, arith, append_assoc}
+use Rattle.std.proofs.Common.{◌≡◌, ◌+◌, ◌++◌, ◌∷◌, ◌^◌, ◌<◌, ◌≤◌, ℕ, List, [], get_or, length, map, take, ap, sym, subst, ◌∙◌, arith, append_assoc}
 use Rattle.std.specs.Prelude.{flat_map}
 use Rattle.std.proofs.lemmas.Grind.{flat_map-append}
+use Rattle.std.proofs.lemmas.List.{flat_map_more, map_more, take_more}
 use Rattle.staat_limits.specs.declared.limits.TheConstants.{TEXT_LIMIT}
 use Rattle.staat_short.specs.declared.short.ShortCertificate.{ShortCertificate}
 use Rattle.staat_short.specs.declared.line.ShortLine.{ShortLine}
@@ -17,6 +18,17 @@ adds_both a b c xs ys f g text h =
 
 pub adds_same : (a b : Writer) (xs ys : List ShortLine) → xs ≡ ys → AddsShortLines a b xs → AddsShortLines a b ys
 adds_same a b xs ys e f = subst (AddsShortLines a b) e f
+
+-- the line or the lines of one more were added
+pub line_added : {X : Type 0} (line : X → ShortLine) (xs : List X) (i : ℕ) (d : X) (a b c : Writer) → i < length xs → AddsShortLines a b (map line (take i xs))
+    → AddsShortLines b c (line (get_or xs i d) ∷ []) → AddsShortLines a c (map line (take (i + 1) xs))
+line_added line xs i d a b c lt f g = adds_same a c _ _ (sym (map_more line xs i d lt)) (adds_both a b c (map line (take i xs)) (line (get_or xs i d) ∷ []) f g)
+
+pub lines_added : {X : Type 0} (lines : X → List ShortLine) (xs : List X) (i : ℕ) (d : X) (a b c : Writer) → i < length xs → AddsShortLines a b (flat_map lines (take i xs))
+    → AddsShortLines b c (lines (get_or xs i d)) → AddsShortLines a c (flat_map lines (take (i + 1) xs))
+lines_added lines xs i d a b c lt f g =
+    adds_same a c _ _ (flat_map_more lines [] (take i xs) (get_or xs i d) ∙ ap (flat_map lines) (sym (take_more xs i d lt)))
+    (adds_both a b c (flat_map lines (take i xs)) (lines (get_or xs i d)) f g)
 
 pub four_added : (a b c d e : Writer) (n : ℕ) (ls : List ShortLine) → AddsShortLines a b (line.Title ∷ []) → AddsShortLines b c (line.Parts n ∷ []) → AddsShortLines c d ls → AddsShortLines d e (line.End ∷ []) → AddsShortLines a e (line.Title ∷ line.Parts n ∷ (ls ++ line.End ∷ []))
 four_added a b c d e n ls f g h k =
