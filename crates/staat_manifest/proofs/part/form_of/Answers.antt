@@ -1,5 +1,6 @@
-use Rattle.std.proofs.Common.{◌≡◌, ◌∙◌, ◌++◌, ◌∷◌, ◌==◌, ℕ, Bool, true, false, List, [], None, Some, ap, append_assoc, arith, length, map, subst, sym}
-use Rattle.std.proofs.lemmas.Bool.Decides.{nat_tests}
+use Rattle.std.proofs.Common.{◌≡◌, ◌∙◌, ◌++◌, ◌∷◌, ◌==◌, ℕ, Bool, true, false, List, [], None, Some, ap, append_assoc, length, map, subst, sym}
+use Rattle.std.proofs.Common.{le_of_eq, pos_of_ne-zero}
+use borrow.Author.Tests.{eqb-false, eqb-true, le-false, lt-true}
 use Rattle.std.proofs.lemmas.List.{length-map}
 use Rattle.std.proofs.lemmas.Result.{err_from_is_err_and}
 use Rattle.std.specs.Prelude.{codes, is_some, nat_lt}
@@ -21,10 +22,10 @@ is_named part name r {b = b} same tested is = sym (ap is_name same) ∙ sym test
 
 -- there are pieces exactly where the slice of them is not empty
 some_pieces : (vs : List Value) (r : Bool) → r ≡ (length vs == 0) → r ≡ false → nat_lt 0 (length (map view vs)) ≡ true
-some_pieces vs r same is = grind (arith, nat_tests, length-map)
+some_pieces vs r same is = sym (lt-true 0 _ (rw length-map (pos_of_ne-zero (eqb-false (length vs) 0 (sym same ∙ is)))))
 
 none_there : (vs : List Value) (r : Bool) → r ≡ (length vs == 0) → r ≡ true → nat_lt 0 (length (map view vs)) ≡ false
-none_there vs r same is = grind (arith, nat_tests, length-map)
+none_there vs r same is = sym (le-false 0 _ (rw length-map (le_of_eq (eqb-true (length vs) 0 (sym same ∙ is)))))
 
 at_member : (k : ℕ) (name : Text) → Some (BadShape (part_path k ++ (codes "/" ++ name))) ≡ Some (BadShape (part_path k ++ codes "/" ++ name))
 at_member k name = ap (λ p. Some (BadShape p)) (sym (append_assoc (part_path k) (codes "/") name))

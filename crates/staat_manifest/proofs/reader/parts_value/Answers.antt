@@ -1,0 +1,108 @@
+use Rattle.std.proofs.Common.{◌≡◌, ◌∙◌, ◌<◌, ◌≤◌, ◌∷◌, ◌==◌, ℕ, Bool, Bor, true, false, List, [], Option, None, Some, ap, length, map}
+use Rattle.std.proofs.Common.{le_of_eq, pos_of_ne-zero, refl, subst, sym}
+use borrow.Author.Tests.{eqb-false, eqb-true, le-false, le-true, lt-false, lt-true}
+use Rattle.std.proofs.lemmas.List.{length-map}
+use Rattle.std.specs.Prelude.{codes, is_some, nat_le, nat_lt, option_map, unwrap_or}
+use Rattle.serde_json.specs.Data.{Data}
+use Rattle.serde_json.specs.Find.{as_object}
+use Rattle.serde_json.specs.View.{view}
+use Rattle.serde_json.specs.declared.value.Value.{Value}
+use Rattle.staat_manifest.specs.declared.refusal.ManifestRefusal.TheVariants.{BadShape, TooManyParts}
+use Rattle.staat_manifest.specs.Answers.{RefusesPart}
+use Rattle.staat_manifest.specs.Rules.{first_refusal, whole_rules}
+use Rattle.staat_manifest.specs.Values.{array_at, has_only, parts_value}
+use Rattle.staat_manifest.proofs.reader.parts_value.Goals as goal
+
+-- the parts that were found, or none
+parts_are : (found : Option (Bor (List Value))) (r none : Bor (List Value)) (value : Data) → r ≡ unwrap_or found none → none.now ≡ []
+    → option_map (λ s. map view s.now) found ≡ array_at (codes "parts") value → map view r.now ≡ parts_value value
+parts_are None r none value is empty at =
+    ap (λ s. map view s.now) is ∙ ap (map view) empty ∙ ap (λ o. unwrap_or o []) at
+parts_are (Some s) r none value is empty at = ap (λ s. map view s.now) is ∙ ap (λ o. unwrap_or o []) at
+
+some_parts : (vs : List Value) (r : Bool) → r ≡ (length vs == 0) → r ≡ false → nat_lt 0 (length (map view vs)) ≡ true
+some_parts vs r same is = sym (lt-true 0 _ (rw length-map (pos_of_ne-zero (eqb-false (length vs) 0 (sym same ∙ is)))))
+
+no_parts : (vs : List Value) (r : Bool) → r ≡ (length vs == 0) → r ≡ true → nat_lt 0 (length (map view vs)) ≡ false
+no_parts vs r same is = sym (le-false 0 _ (rw length-map (le_of_eq (eqb-true (length vs) 0 (sym same ∙ is)))))
+
+few_parts : (vs : List Value) (most : ℕ) → length vs ≤ most → nat_le (length (map view vs)) most ≡ true
+few_parts vs most few = sym (le-true _ most (rw length-map few))
+
+many_parts : (vs : List Value) (most : ℕ) → most < length vs → nat_le (length (map view vs)) most ≡ false
+many_parts vs most many = sym (lt-false _ most (rw length-map many))
+
+-- the rules before the first that is broken
+module _ (most : ℕ) (value : Data) where
+  no_object : is_some (as_object value) ≡ false → first_refusal (whole_rules most value) ≡ Some (BadShape (codes "/"))
+  unfolding whole_rules
+  no_object wrong = rw (wrong)
+
+  module _ (object : is_some (as_object value) ≡ true) (ps : List Data) (parts : ps ≡ parts_value value) where
+    no_part : nat_lt 0 (length ps) ≡ false → first_refusal (whole_rules most value) ≡ Some (BadShape (codes "/parts"))
+    unfolding whole_rules
+    no_part wrong = rw (object, ← parts, wrong)
+
+    module _ (some : nat_lt 0 (length ps) ≡ true) where
+      more_members : has_only (codes "parts" ∷ []) value ≡ false → first_refusal (whole_rules most value) ≡ Some (BadShape (codes "/"))
+      unfolding whole_rules
+      more_members wrong = rw (object, ← parts, some, wrong)
+
+      module _ (only : has_only (codes "parts" ∷ []) value ≡ true) where
+        too_many : nat_le (length ps) most ≡ false → first_refusal (whole_rules most value) ≡ Some TooManyParts
+        unfolding whole_rules
+        too_many wrong = rw (object, ← parts, some, only, wrong)
+
+        none_broken : nat_le (length ps) most ≡ true → first_refusal (whole_rules most value) ≡ None
+        unfolding whole_rules
+        none_broken few = rw (object, ← parts, some, only, few)
+
+pub returns-then-not-is_object-clause-rules : goal.returns-then-not-is_object-clause-rules
+returns-then-not-is_object-clause-rules c =
+    let wrong = no_object c.args.most_parts (view c.args.value.now) (sym c.is_object.ensures ∙ c.if-not-is_object.true) in
+    subst (λ o. RefusesPart o c.bad_shape.result) (sym wrong) c.bad_shape.ensures
+
+pub returns-then-is_empty-clause-rules : goal.returns-then-is_empty-clause-rules
+returns-then-is_empty-clause-rules c =
+    let value = view c.args.value.now in
+    let object = sym c.is_object.ensures ∙ c.if-not-is_object.false in
+    let found = c.unwrap_or-parts.result.now in
+    let parts = parts_are c.array_at.result c.unwrap_or-parts.result _ value c.unwrap_or-parts.ensures refl c.array_at.ensures in
+    let none = no_parts found c.is_empty.result c.is_empty.ensures c.if-is_empty.true in
+    subst (λ o. RefusesPart o c.bad_shape-then-is_empty.result) (sym (no_part c.args.most_parts value object _ parts none))
+    c.bad_shape-then-is_empty.ensures
+
+pub returns-then-not-has_only-clause-rules : goal.returns-then-not-has_only-clause-rules
+returns-then-not-has_only-clause-rules c =
+    let value = view c.args.value.now in
+    let object = sym c.is_object.ensures ∙ c.if-not-is_object.false in
+    let found = c.unwrap_or-parts.result.now in
+    let parts = parts_are c.array_at.result c.unwrap_or-parts.result _ value c.unwrap_or-parts.ensures refl c.array_at.ensures in
+    let some = some_parts found c.is_empty.result c.is_empty.ensures c.if-is_empty.false in
+    let wrong = sym c.has_only.ensures ∙ c.if-not-has_only.true in
+    subst (λ o. RefusesPart o c.bad_shape-then-not-has_only.result)
+    (sym (more_members c.args.most_parts value object _ parts some wrong)) c.bad_shape-then-not-has_only.ensures
+
+pub returns-then-parts-most_parts-clause-rules : goal.returns-then-parts-most_parts-clause-rules
+returns-then-parts-most_parts-clause-rules c =
+    let value = view c.args.value.now in
+    let object = sym c.is_object.ensures ∙ c.if-not-is_object.false in
+    let found = c.unwrap_or-parts.result.now in
+    let parts = parts_are c.array_at.result c.unwrap_or-parts.result _ value c.unwrap_or-parts.ensures refl c.array_at.ensures in
+    let some = some_parts found c.is_empty.result c.is_empty.ensures c.if-is_empty.false in
+    let only = sym c.has_only.ensures ∙ c.if-not-has_only.false in
+    too_many c.args.most_parts value object _ parts some only (many_parts found c.args.most_parts c.if-parts-most_parts.true)
+
+pub returns : goal.returns
+returns c =
+    let value = view c.args.value.now in
+    let object = sym c.is_object.ensures ∙ c.if-not-is_object.false in
+    let found = c.unwrap_or-parts.result.now in
+    let parts = parts_are c.array_at.result c.unwrap_or-parts.result _ value c.unwrap_or-parts.ensures refl c.array_at.ensures in
+    let some = some_parts found c.is_empty.result c.is_empty.ensures c.if-is_empty.false in
+    let only = sym c.has_only.ensures ∙ c.if-not-has_only.false in
+    record {
+      rules = none_broken c.args.most_parts value object _ parts some only (few_parts found c.args.most_parts c.if-parts-most_parts.false);
+      parts = parts;
+      few = c.if-parts-most_parts.false;
+    }
