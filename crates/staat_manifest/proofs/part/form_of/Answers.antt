@@ -62,7 +62,6 @@ module _ (k : ℕ) (part : Data) (object : is_some (as_object part) ≡ true) wh
           unfolding form_rules
           by_pieces some = rw (object, named, ← array, ← placed, only, some)
 
-
 pub returns-then-not-is_name-clause-rules : goal.returns-then-not-is_name-clause-rules
 returns-then-not-is_name-clause-rules c =
     let k = c.args.k in
