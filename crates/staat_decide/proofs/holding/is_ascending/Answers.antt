@@ -25,11 +25,11 @@ more xs k some lt here all j d l =
     let within : j + 1 ≤ k = omega (arith, l) in
     ⊎_elim {C = get_or xs j d < get_or xs (j + 1) d}
     (λ e.
-        let first : j ≡ k - 1 = omega (arith, e) in
-        let above : get_or xs j 0 < get_or xs (j + 1) 0 = subst (λ n. get_or xs n 0 < get_or xs (j + 1) 0) (sym first) (subst (λ n. get_or xs (k - 1) 0 < get_or xs n 0) (sym e) here) in
-        let low = get_or_default xs j 0 d (omega (arith, e, lt)) in
-        let high = get_or_default xs (j + 1) 0 d (omega (arith, e, lt)) in
-        omega (arith, above, low, high))
+    let first : j ≡ k - 1 = omega (arith, e) in
+    let above : get_or xs j 0 < get_or xs (j + 1) 0 = subst (λ n. get_or xs n 0 < get_or xs (j + 1) 0) (sym first) (subst (λ n. get_or xs (k - 1) 0 < get_or xs n 0) (sym e) here) in
+    let low = get_or_default xs j 0 d (omega (arith, e, lt)) in
+    let high = get_or_default xs (j + 1) 0 d (omega (arith, e, lt)) in
+    omega (arith, above, low, high))
     (λ before. all j d before) (eq-or-lt_of_le within)
 
 pub loop-k-preserved : goal.loop-k-preserved

@@ -15,7 +15,7 @@ returns c =
     let a = c.args.a in
     let part = c.index-parts-a.result in
     let count : piece_count parts a ≡ length part.pieces =
-        ap (λ o. unwrap_or (option_map (λ p. length p.pieces) o) 0) (slice_get_read parts (length parts) a part refl c.if-a-parts.false c.index-parts-a.is) in
+    ap (λ o. unwrap_or (option_map (λ p. length p.pieces) o) 0) (slice_get_read parts (length parts) a part refl c.if-a-parts.false c.index-parts-a.is) in
     let same : length c.as_slice.result.now ≡ piece_count parts a = ap length c.as_slice.ensures ∙ sym count in
     let decides = Decides-ltb c.args.i (length c.as_slice.result.now) in (
       λ t. (c.if-a-parts.false, subst (λ n. c.args.i < n) same (decides.0 t)),

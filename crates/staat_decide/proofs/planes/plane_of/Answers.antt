@@ -7,7 +7,7 @@ use Rattle.staat_decide.proofs.planes.plane_of.Goals as goal
 pub canon-requires-clause-some : goal.canon-requires-clause-some
 canon-requires-clause-some c = λ none.
     let same : c.eq.result ≡ true =
-        c.eq.ensures ∙ ap (λ (v : V3). int_eq v.x (pos 0) && (int_eq v.y (pos 0) && int_eq v.z (pos 0))) none in
+    c.eq.ensures ∙ ap (λ (v : V3). int_eq v.x (pos 0) && (int_eq v.y (pos 0) && int_eq v.z (pos 0))) none in
     false≢true (sym c.if-eq.false ∙ same)
 
 pub returns : goal.returns

@@ -25,7 +25,7 @@ loop-i-preserved c =
     let marks = c.args.marks.now in
     let Leaves : ℕ → Type 0 = λ k. c.args.low ≤ k → IsMarkedPlace marks k → LeadsToMarked c.args.way c.args.rows.now marks k in
     let here : Leaves c.loop-i.i = λ low marked. elim c.if-marks-i.branch [
-      then-marks-i+in_default w ↦ w.in_default.ensures.none
+      | then-marks-i+in_default w ↦ w.in_default.ensures.none
       | else-marks-i w ↦ absurd (false≢true (sym w.if-marks-i.false ∙ marked))
     ] in
     λ k low lt marked. below_more Leaves c.loop-i.i (λ n l h m. c.loop-i.invariant n h l m) here k lt low marked

@@ -25,6 +25,6 @@ returns-else-is_pair c =
     let parts = c.args.parts.now in
     let back = turned c.args.pair in
     let facets = ⊎_elim {C = HasFacets parts back c.args.kept.now.facets}
-        (λ same. let told : IsTrue c.is_pair.result = c.is_pair.ensures.1 same in absurd (false≢true (sym c.if-is_pair.false ∙ told)))
-        (λ other. subst (λ (arc : Arc). HasFacets parts arc c.args.kept.now.facets) other c.requires.kept.facets) c.requires.order in
+    (λ same. let told : IsTrue c.is_pair.result = c.is_pair.ensures.1 same in absurd (false≢true (sym c.if-is_pair.false ∙ told)))
+    (λ other. subst (λ (arc : Arc). HasFacets parts arc c.args.kept.now.facets) other c.requires.kept.facets) c.requires.order in
     c.meets_with_turned.ensures parts c.requires.made (subst (HasFacets parts back) (sym c.as_slice-else-is_pair.ensures) facets)

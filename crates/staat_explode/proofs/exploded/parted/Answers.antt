@@ -16,5 +16,5 @@ returns c =
     let moved = c.in_ok-placed.ensures.0 ∙ ap (λ m. map (moved_on m c.args.d) c.args.moved.now) c.steps_apart-m.ensures in (
       items ∙ ap (λ ps. ps ++ rest) moved,
       subst (All (λ (p : Shifted). IsWithin FARTHEST p.by)) (sym items)
-      (All-append (λ (p : Shifted). IsWithin FARTHEST p.by) c.in_ok-placed.placed.items rest c.in_ok-placed.ensures.1 (λ k d lt. (c.requires.rest k d lt).near)),
+          (All-append (λ (p : Shifted). IsWithin FARTHEST p.by) c.in_ok-placed.placed.items rest c.in_ok-placed.ensures.1 (λ k d lt. (c.requires.rest k d lt).near)),
     )

@@ -32,9 +32,9 @@ returns-in-Some-Some-Some c =
     let d = c.args.d in
     let all = c.in-Some-Some-Some in (
       same_vector _ _
-      (part_is all.x v.x d.x c.args.m c.requires.v.x c.requires.d.x all.ensures)
-      (part_is all.y v.y d.y c.args.m c.requires.v.y c.requires.d.y all.ensures')
-      (part_is all.z v.z d.z c.args.m c.requires.v.z c.requires.d.z all.ensures''),
+          (part_is all.x v.x d.x c.args.m c.requires.v.x c.requires.d.x all.ensures)
+          (part_is all.y v.y d.y c.args.m c.requires.v.y c.requires.d.y all.ensures')
+          (part_is all.z v.z d.z c.args.m c.requires.v.z c.requires.d.z all.ensures''),
       record { x = part_small all.x all.ensures.1; y = part_small all.y all.ensures'.1; z = part_small all.z all.ensures''.1 },
     )
 

@@ -17,9 +17,9 @@ over text piece total few is long = omega (arith, length-append text piece)
 
 pub returns-then-self-2-clause-answer : goal.returns-then-self-2-clause-answer
 returns-then-self-2-clause-answer c = λ text h. elim c.then-self-2.branch [
-  then-self-2-via-then-self-2 w ↦ further text c.args.piece.now (h.long c.if-self.false w.if-self-2.true)
+  | then-self-2-via-then-self-2 w ↦ further text c.args.piece.now (h.long c.if-self.false w.if-self-2.true)
   | then-self-2-via-else-self-2+then-piece-self w ↦
-    over text c.args.piece.now c.args.self.now.total c.args.self.now.bounded (h.total c.if-self.false w.if-self-2.false) w.if-piece-self.true
+      over text c.args.piece.now c.args.self.now.total c.args.self.now.bounded (h.total c.if-self.false w.if-self-2.false) w.if-piece-self.true
 ]
 
 pub returns-then-self-2-clause-fed : goal.returns-then-self-2-clause-fed
