@@ -1,6 +1,9 @@
 -- From serde_json's clauses to the values that a part list reads.
-use Rattle.std.proofs.Common.{◌≡◌, Bool, true, false, List, [], ◌∷◌, map, Some, None, refl, ap, codes, string_bytes, Bor, ◌∙◌}
-use Rattle.std.specs.Prelude.{String, ◌&&◌, ◌||◌}
+use Rattle.std.proofs.Common.{◌≡◌, ◌==◌, Bool, true, false, List, [], ◌∷◌, length, map, Some, None, refl, sym, ap, codes, string_bytes, Bor, ◌∙◌}
+use Rattle.std.proofs.Common.{le_of_eq, pos_of_ne-zero}
+use borrow.Author.Tests.{eqb-false, eqb-true, le-false, lt-true}
+use Rattle.std.specs.Prelude.{String, ◌&&◌, ◌||◌, nat_lt}
+use Rattle.std.proofs.lemmas.List.{length-map}
 use Rattle.std.specs.Str.{IsUtf8, is_utf8, bytes_eq}
 use Rattle.std.specs.List.{list_all, list_any}
 use Rattle.std.specs.declared.alloc.Global.{Global}
@@ -18,6 +21,13 @@ use Rattle.staat_manifest.specs.Values.{Text, array_at, has_only, json_of, list_
 pub json_from : (bytes : Text) (d : Data) → IsUtf8 bytes → read bytes ≡ Some d → json_of bytes ≡ Some d
 unfolding json_of
 json_from bytes d utf8 e = rw (is_utf8-from_IsUtf8 bytes utf8) e
+
+-- there are values exactly where the slice of them is not empty
+pub some_values : (vs : List Value) (r : Bool) → r ≡ (length vs == 0) → r ≡ false → nat_lt 0 (length (map view vs)) ≡ true
+some_values vs r same is = sym (lt-true 0 _ (rw length-map (pos_of_ne-zero (eqb-false (length vs) 0 (sym same ∙ is)))))
+
+pub no_values : (vs : List Value) (r : Bool) → r ≡ (length vs == 0) → r ≡ true → nat_lt 0 (length (map view vs)) ≡ false
+no_values vs r same is = sym (le-false 0 _ (rw length-map (le_of_eq (eqb-true (length vs) 0 (sym same ∙ is)))))
 
 -- where nothing was read, there is none
 pub no_json : (bytes : Text) → (IsUtf8 bytes → read bytes ≡ None) → json_of bytes ≡ None

@@ -58,7 +58,7 @@ filter_planes p (e ∷ es) = go (not (e.plane == p)) (filter_planes p es)
     go true r = ap (λ q. e.plane ∷ q) r
     go false r = r
 
-beside_small : (c : ℕ) → axis_beside c < 3
+pub beside_small : (c : ℕ) → axis_beside c < 3
 beside_small zero = omega arith
 beside_small (suc c) = omega arith
 

@@ -1,31 +1,21 @@
-use Rattle.std.proofs.Common.{◌≡◌, ◌∙◌, ◌++◌, ◌∷◌, ◌==◌, ℕ, Bool, true, false, List, [], None, Some, ap, append_assoc, length, map, subst, sym}
-use Rattle.std.proofs.Common.{le_of_eq, pos_of_ne-zero}
-use borrow.Author.Tests.{eqb-false, eqb-true, le-false, lt-true}
-use Rattle.std.proofs.lemmas.List.{length-map}
+use Rattle.std.proofs.Common.{◌≡◌, ◌∙◌, ◌++◌, ◌∷◌, ℕ, Bool, true, false, List, [], None, Some, ap, append_assoc, length, map, subst, sym}
 use Rattle.std.proofs.lemmas.Result.{err_from_is_err_and}
 use Rattle.std.specs.Prelude.{codes, is_some, nat_lt}
 use Rattle.serde_json.specs.Data.{Data}
 use Rattle.serde_json.specs.Find.{as_object}
 use Rattle.serde_json.specs.View.{view}
-use Rattle.serde_json.specs.declared.value.Value.{Value}
 use Rattle.staat_vec.specs.declared.vector.V3.{V3}
 use Rattle.staat_manifest.specs.declared.refusal.ManifestRefusal.TheVariants.{BadShape, NoPieces}
 use Rattle.staat_manifest.specs.Answers.{RefusesPart}
 use Rattle.staat_manifest.specs.Placements.{placement_of}
 use Rattle.staat_manifest.specs.Rules.{first_refusal, form_rules, is_name, part_path, piece_rules}
 use Rattle.staat_manifest.specs.Values.{Text, array_at, has_only, name_of}
+use Rattle.staat_manifest.proofs.ValueLemmas.{no_values, some_values}
 use Rattle.staat_manifest.proofs.part.form_of.Goals as goal
 
 is_named : (part : Data) (name : Text) (r : Bool) {b : Bool} → name ≡ name_of part → r ≡ is_name name → r ≡ b
     → is_name (name_of part) ≡ b
 is_named part name r {b = b} same tested is = sym (ap is_name same) ∙ sym tested ∙ is
-
--- there are pieces exactly where the slice of them is not empty
-some_pieces : (vs : List Value) (r : Bool) → r ≡ (length vs == 0) → r ≡ false → nat_lt 0 (length (map view vs)) ≡ true
-some_pieces vs r same is = sym (lt-true 0 _ (rw length-map (pos_of_ne-zero (eqb-false (length vs) 0 (sym same ∙ is)))))
-
-none_there : (vs : List Value) (r : Bool) → r ≡ (length vs == 0) → r ≡ true → nat_lt 0 (length (map view vs)) ≡ false
-none_there vs r same is = sym (le-false 0 _ (rw length-map (le_of_eq (eqb-true (length vs) 0 (sym same ∙ is)))))
 
 at_member : (k : ℕ) (name : Text) → Some (BadShape (part_path k ++ (codes "/" ++ name))) ≡ Some (BadShape (part_path k ++ codes "/" ++ name))
 at_member k name = ap (λ p. Some (BadShape p)) (sym (append_assoc (part_path k) (codes "/") name))
@@ -107,7 +97,7 @@ returns-then-is_empty-clause-rules c =
     let named = is_named part c.text_at-name.result.now c.is_name.result c.text_at-name.ensures c.is_name.ensures c.if-not-is_name.false in
     let pieces = map view c.in-Some.pieces.now in
     let only = sym c.has_only.ensures ∙ c.if-not-has_only.false in
-    let none = none_there c.in-Some.pieces.now c.is_empty.result c.is_empty.ensures c.if-is_empty.true in
+    let none = no_values c.in-Some.pieces.now c.is_empty.result c.is_empty.ensures c.if-is_empty.true in
     no_pieces k part object named pieces c.in-Some.ensures _ c.in-Some-placement_of.ensures only none
 
 pub returns-in_err-check_pieces-clause-rules : goal.returns-in_err-check_pieces-clause-rules
@@ -118,7 +108,7 @@ returns-in_err-check_pieces-clause-rules c =
     let named = is_named part c.text_at-name.result.now c.is_name.result c.text_at-name.ensures c.is_name.ensures c.if-not-is_name.false in
     let pieces = map view c.in-Some.pieces.now in
     let only = sym c.has_only.ensures ∙ c.if-not-has_only.false in
-    let some = some_pieces c.in-Some.pieces.now c.is_empty.result c.is_empty.ensures c.if-is_empty.false in
+    let some = some_values c.in-Some.pieces.now c.is_empty.result c.is_empty.ensures c.if-is_empty.false in
     let p = err_from_is_err_and c.from_residual.result c.from_residual.ensures.1 in
     let same = by_pieces k part object named pieces c.in-Some.ensures _ c.in-Some-placement_of.ensures only some in
     rw (p.1, p.2) (subst (λ o. RefusesPart o c.in_err-check_pieces.field-0.0) (sym same) c.in_err-check_pieces.ensures)
@@ -131,5 +121,5 @@ returns-clause-rules c =
     let named = is_named part c.text_at-name.result.now c.is_name.result c.text_at-name.ensures c.is_name.ensures c.if-not-is_name.false in
     let pieces = map view c.in-Some.pieces.now in
     let only = sym c.has_only.ensures ∙ c.if-not-has_only.false in
-    let some = some_pieces c.in-Some.pieces.now c.is_empty.result c.is_empty.ensures c.if-is_empty.false in
+    let some = some_values c.in-Some.pieces.now c.is_empty.result c.is_empty.ensures c.if-is_empty.false in
     by_pieces k part object named pieces c.in-Some.ensures _ c.in-Some-placement_of.ensures only some ∙ c.in_ok-check_pieces.ensures

@@ -1,6 +1,6 @@
-use Rattle.std.proofs.Common.{◌≡◌, ◌∙◌, ◌<◌, ◌≤◌, ◌∷◌, ◌==◌, ℕ, Bool, Bor, true, false, List, [], Option, None, Some, ap, length, map}
-use Rattle.std.proofs.Common.{le_of_eq, pos_of_ne-zero, refl, subst, sym}
-use borrow.Author.Tests.{eqb-false, eqb-true, le-false, le-true, lt-false, lt-true}
+use Rattle.std.proofs.Common.{◌≡◌, ◌∙◌, ◌<◌, ◌≤◌, ◌∷◌, ℕ, Bor, true, false, List, [], Option, None, Some, ap, length, map}
+use Rattle.std.proofs.Common.{refl, subst, sym}
+use borrow.Author.Tests.{le-true, lt-false}
 use Rattle.std.proofs.lemmas.List.{length-map}
 use Rattle.std.specs.Prelude.{codes, is_some, nat_le, nat_lt, option_map, unwrap_or}
 use Rattle.serde_json.specs.Data.{Data}
@@ -11,6 +11,7 @@ use Rattle.staat_manifest.specs.declared.refusal.ManifestRefusal.TheVariants.{Ba
 use Rattle.staat_manifest.specs.Answers.{RefusesPart}
 use Rattle.staat_manifest.specs.Rules.{first_refusal, whole_rules}
 use Rattle.staat_manifest.specs.Values.{array_at, has_only, parts_value}
+use Rattle.staat_manifest.proofs.ValueLemmas.{no_values, some_values}
 use Rattle.staat_manifest.proofs.reader.parts_value.Goals as goal
 
 -- the parts that were found, or none
@@ -19,12 +20,6 @@ parts_are : (found : Option (Bor (List Value))) (r none : Bor (List Value)) (val
 parts_are None r none value is empty at =
     ap (λ s. map view s.now) is ∙ ap (map view) empty ∙ ap (λ o. unwrap_or o []) at
 parts_are (Some s) r none value is empty at = ap (λ s. map view s.now) is ∙ ap (λ o. unwrap_or o []) at
-
-some_parts : (vs : List Value) (r : Bool) → r ≡ (length vs == 0) → r ≡ false → nat_lt 0 (length (map view vs)) ≡ true
-some_parts vs r same is = sym (lt-true 0 _ (rw length-map (pos_of_ne-zero (eqb-false (length vs) 0 (sym same ∙ is)))))
-
-no_parts : (vs : List Value) (r : Bool) → r ≡ (length vs == 0) → r ≡ true → nat_lt 0 (length (map view vs)) ≡ false
-no_parts vs r same is = sym (le-false 0 _ (rw length-map (le_of_eq (eqb-true (length vs) 0 (sym same ∙ is)))))
 
 few_parts : (vs : List Value) (most : ℕ) → length vs ≤ most → nat_le (length (map view vs)) most ≡ true
 few_parts vs most few = sym (le-true _ most (rw length-map few))
@@ -68,7 +63,7 @@ returns-then-is_empty-clause-rules c =
     let object = sym c.is_object.ensures ∙ c.if-not-is_object.false in
     let found = c.unwrap_or-parts.result.now in
     let parts = parts_are c.array_at.result c.unwrap_or-parts.result _ value c.unwrap_or-parts.ensures refl c.array_at.ensures in
-    let none = no_parts found c.is_empty.result c.is_empty.ensures c.if-is_empty.true in
+    let none = no_values found c.is_empty.result c.is_empty.ensures c.if-is_empty.true in
     subst (λ o. RefusesPart o c.bad_shape-then-is_empty.result) (sym (no_part c.args.most_parts value object _ parts none))
     c.bad_shape-then-is_empty.ensures
 
@@ -78,7 +73,7 @@ returns-then-not-has_only-clause-rules c =
     let object = sym c.is_object.ensures ∙ c.if-not-is_object.false in
     let found = c.unwrap_or-parts.result.now in
     let parts = parts_are c.array_at.result c.unwrap_or-parts.result _ value c.unwrap_or-parts.ensures refl c.array_at.ensures in
-    let some = some_parts found c.is_empty.result c.is_empty.ensures c.if-is_empty.false in
+    let some = some_values found c.is_empty.result c.is_empty.ensures c.if-is_empty.false in
     let wrong = sym c.has_only.ensures ∙ c.if-not-has_only.true in
     subst (λ o. RefusesPart o c.bad_shape-then-not-has_only.result)
     (sym (more_members c.args.most_parts value object _ parts some wrong)) c.bad_shape-then-not-has_only.ensures
@@ -89,7 +84,7 @@ returns-then-parts-most_parts-clause-rules c =
     let object = sym c.is_object.ensures ∙ c.if-not-is_object.false in
     let found = c.unwrap_or-parts.result.now in
     let parts = parts_are c.array_at.result c.unwrap_or-parts.result _ value c.unwrap_or-parts.ensures refl c.array_at.ensures in
-    let some = some_parts found c.is_empty.result c.is_empty.ensures c.if-is_empty.false in
+    let some = some_values found c.is_empty.result c.is_empty.ensures c.if-is_empty.false in
     let only = sym c.has_only.ensures ∙ c.if-not-has_only.false in
     too_many c.args.most_parts value object _ parts some only (many_parts found c.args.most_parts c.if-parts-most_parts.true)
 
@@ -99,7 +94,7 @@ returns c =
     let object = sym c.is_object.ensures ∙ c.if-not-is_object.false in
     let found = c.unwrap_or-parts.result.now in
     let parts = parts_are c.array_at.result c.unwrap_or-parts.result _ value c.unwrap_or-parts.ensures refl c.array_at.ensures in
-    let some = some_parts found c.is_empty.result c.is_empty.ensures c.if-is_empty.false in
+    let some = some_values found c.is_empty.result c.is_empty.ensures c.if-is_empty.false in
     let only = sym c.has_only.ensures ∙ c.if-not-has_only.false in
     record {
       rules = none_broken c.args.most_parts value object _ parts some only (few_parts found c.args.most_parts c.if-parts-most_parts.false);

@@ -1,16 +1,13 @@
-use Rattle.std.proofs.Common.{◌∙◌, ◌+◌, Some, sym, subst, ◌≡◌, ◌<◌, ◌≤◌, ℕ, arith, le_trans, suc, zero}
+use Rattle.std.proofs.Common.{◌∙◌, ◌+◌, Some, sym, subst, ◌≡◌, ◌<◌, ◌≤◌, le_trans}
 use Rattle.std.specs.Prelude.{slice_get}
 use Rattle.std.proofs.lemmas.Option.{same_Some}
 use Rattle.staat_ring.specs.Builds.{AreFilled, IsPlaceOf}
+use Rattle.staat_ring.proofs.RingWithout.{beside_small}
 use Rattle.staat_ring.proofs.Filling.{filled_more, filled_own, place}
 use Rattle.std.proofs.lemmas.Result.{err_from_is_err_and}
 use Rattle.staat_model.specs.Circles.{axis_beside}
 use Rattle.staat_ring.proofs.HalfCircleFromAxis.{axis_differs}
 use Rattle.staat_ring.proofs.circle.fill.Goals as goal
-
-beside_small : (c : ℕ) → axis_beside c < 3
-beside_small zero = omega arith
-beside_small (suc c) = omega arith
 
 pub place_of-at-requires-clause-half : goal.place_of-at-requires-clause-half
 place_of-at-requires-clause-half c =

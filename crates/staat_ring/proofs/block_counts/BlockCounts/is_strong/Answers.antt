@@ -1,4 +1,5 @@
-use Rattle.std.proofs.Common.{◌≡◌, Bool, true, false, subst, sym, List, ℕ}
+use Rattle.std.proofs.Common.{subst, sym, List, ℕ}
+use Rattle.staat_vec.proofs.Truth.{false_true_clash}
 use Rattle.staat_graph.specs.Graphs.{IsStrong}
 use Rattle.staat_ring.specs.BlockCounts.{HasBlock}
 use Rattle.staat_ring.proofs.Strength.{reached_of, reaching_of, strong_of}
@@ -14,12 +15,9 @@ returns-then-within c = (
       c.reach-then-within.ensures (subst (λ (xs : List ℕ). IsStrong (HasBlock xs) c.args.w) (sym c.self.view_is) strong)),
 )
 
-off : (b : Bool) → b ≡ true → b ≡ false → ⊥
-off b h e = cc
-
 pub returns-else-within : goal.returns-else-within
 returns-else-within c = (
-  λ e. absurd (off c.within.result e c.if-within.false),
+  λ e. absurd (false_true_clash c.within.result c.if-within.false e),
   λ strong. c.within.ensures.1
       (reached_of c.self.inside.counts.items c.self.inside.graph.rows c.self.inside.back.rows c.args.w c.reach.result c.reach.result c.least-p.result c.self.invariant c.bits-bits.ensures.small c.least-p.ensures.least.has
       c.reach.ensures (subst (λ (xs : List ℕ). IsStrong (HasBlock xs) c.args.w) (sym c.self.view_is) strong)),
