@@ -1,8 +1,10 @@
-use Rattle.std.proofs.Common.{◌≡◌, Option, None, MatchOption, sym, subst}
+use Rattle.std.proofs.Common.{◌≡◌, ◌∙◌, ◌<◌, ◌≤◌, List, Option, None, MatchOption, ap, length, sym, subst, arith}
 use Rattle.std.proofs.lemmas.List.Elements.{All-contains}
 use Rattle.staat_vec.specs.declared.vector.TheConstants.{POINT}
-use Rattle.staat_vec.specs.Vectors.{IsWithin, origin}
+use Rattle.staat_vec.specs.declared.vector.V3.{V3}
+use Rattle.staat_vec.specs.Vectors.{IsWithin, cross, minus, origin}
 use Rattle.staat_model.proofs.Flat.{apart}
+use Rattle.staat_mesh.specs.Sides.{OnLine}
 use Rattle.staat_mesh.proofs.LineLemmas.{on_line_at, on_line_through}
 use Rattle.staat_mesh.proofs.plane.plane_of.Goals as goal
 
@@ -59,3 +61,24 @@ pub normal_off_line-requires-clause-a : goal.normal_off_line-requires-clause-a
 normal_off_line-requires-clause-a c =
     let first = c.in_ok-first.ensures.item.3 in
     rw (first.1 origin) (c.requires 0 origin first.0)
+
+no_points : (points : List V3) → length points ≤ 0 → OnLine points
+no_points points h a b c a_in b_in c_in = let lt : a_in.0 < length points = a_in.1 in absurd (omega arith)
+
+pub returns-in_err-first-clause-plane : goal.returns-in_err-first-clause-plane
+returns-in_err-first-clause-plane c = nothing _ _ _ c.from_residual.ensures (no_points c.args.points.now c.in_err-first.ensures.item.3)
+
+pub returns-clause-plane : goal.returns-clause-plane
+returns-clause-plane c =
+    let a = c.in_ok-first.first.now in
+    let first = c.in_ok-first.ensures.item.3 in
+    let off = c.in_ok-normal.ensures.line in
+    let third = off.1 in record {
+      b = c.in_ok-second.second;
+      c = third.1;
+      a_in = (0, first.0, sym (first.1 a));
+      b_in = c.in_ok-second.ensures.0;
+      c_in = (third.0, third.2, third.3);
+      normal = third.4 ∙ ap (λ d. cross d (minus third.1 a)) c.sub.ensures.value;
+      apart = off.0;
+    }
