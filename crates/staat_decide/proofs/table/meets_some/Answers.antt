@@ -1,11 +1,13 @@
-use Rattle.std.proofs.Common.{◌<◌, ℕ, List, arith, length}
+use Rattle.std.proofs.Common.{◌∙◌, ◌≤◌, ◌<◌, ℕ, List, arith, length, refl, subst, sym}
 use Rattle.std.proofs.lemmas.Bool.{false≢true}
 use Rattle.staat_model.specs.declared.assembly.Part.{Part}
+use Rattle.staat_model.specs.Removal.{MeetsAlong}
 use Rattle.staat_model.specs.Assemblies.{piece_count}
 use Rattle.staat_motion.specs.Motions.{HasShadows, IsMotionOf, Motion}
 use Rattle.staat_motion.proofs.Kept.{has_shadows, wholes_count}
 use Rattle.staat_decide.proofs.table.meets_some.Goals as goal
 use Rattle.staat_model.proofs.PlanLemmas.{piece_within}
+use borrow.Author.Count.{below_more}
 
 own_shadow : (parts : List Part) (along : Motion) (a i : ℕ) → IsMotionOf parts along → a < length parts → i < piece_count parts a
     → HasShadows along (record { a = a; i = i; b = a; j = i })
@@ -36,3 +38,33 @@ returns-clause-answer g c = (
   λ m. let lt = piece_within c.args.parts.now c.args.b m.j m.meets.q m.meets.q_is in
       absurd (c.loop-j.invariant.none m.j (omega (arith, lt, c.requires.count, c.loop-j-test.false)) m.meets),
 )
+
+pub pair_meets-requires : goal.pair_meets-requires
+pair_meets-requires g c = record {
+  made = c.requires.made;
+  pieces = record {
+    a_in = c.requires.a_in;
+    i_in = c.requires.i_in;
+    b_in = c.requires.b_in;
+    j_in = subst (λ n. c.loop-j.j < n) c.requires.count c.loop-j-test.true;
+  };
+  some = subst (λ n. 1 ≤ n) (sym c.loop-j.invariant.some) c.requires.some;
+  kept = c.loop-j.invariant.kept;
+}
+
+pub loop-j-preserved : goal.loop-j-preserved
+loop-j-preserved g c =
+    let Free : ℕ → Type 0 = λ k. MeetsAlong c.args.parts.now c.args.along.now.d (record { a = c.args.a; i = c.args.i; b = c.args.b; j = k }) → ⊥ in
+    let here : Free c.loop-j.j = λ m. false≢true (sym c.if-branch.false ∙ c.in_ok-pair_meets.ensures.answer.1 m) in
+    record {
+      some = c.in_ok-pair_meets.ensures.some ∙ c.loop-j.invariant.some;
+      kept = c.in_ok-pair_meets.ensures.kept;
+      none = below_more Free c.loop-j.j c.loop-j.invariant.none here;
+    }
+
+pub returns-then-branch : goal.returns-then-branch
+returns-then-branch g c = record {
+  some = c.in_ok-pair_meets.ensures.some ∙ c.loop-j.invariant.some;
+  kept = c.in_ok-pair_meets.ensures.kept;
+  answer = (λ t. record { j = c.loop-j.j; meets = c.in_ok-pair_meets.ensures.answer.0 c.if-branch.true }, λ m. refl);
+}
