@@ -1,4 +1,5 @@
-use Rattle.std.proofs.Common.{arith, ◌+◌, ◌↔◌, IsTrue, subst, sym, take}
+use Rattle.std.proofs.Common.{arith, ◌+◌, ◌↔◌, IsTrue, List, subst, sym, take, ℕ}
+use Rattle.std.proofs.lemmas.List.{take_all}
 use Rattle.staat_model.specs.Removal.{Blocks}
 use Rattle.staat_motion.proofs.Zips.{zip_more}
 use Rattle.staat_decide.specs.Arcs.{IsRow}
@@ -15,4 +16,14 @@ loop-b-preserved g c =
           (zip_more (λ b answer. IsTrue answer ↔ Blocks parts d c.args.a b) w c.loop-b.row.items i 0 c.in_ok-answer.answer c.loop-b-test.true c.loop-b.invariant.row c.in_ok-answer.ensures.answer);
       some = omega (arith, c.in_ok-answer.ensures.some, c.loop-b.invariant.some);
       kept = c.in_ok-answer.ensures.kept;
+    }
+
+pub returns : goal.returns
+returns g c =
+    let row = subst (λ (ws : List ℕ). IsRow c.args.parts.now c.args.along.now.d ws c.args.a c.loop-b.row.items)
+        (take_all c.loop-b.b-index c.args.w.now c.loop-b-test.false) c.loop-b.invariant.row in
+    record {
+      some = c.loop-b.invariant.some;
+      kept = c.loop-b.invariant.kept;
+      row = subst (IsRow c.args.parts.now c.args.along.now.d c.args.w.now c.args.a) (sym c.from_vec.ensures) row;
     }
