@@ -21,7 +21,7 @@ loop-b-preserved g c =
 pub returns : goal.returns
 returns g c =
     let row = subst (λ (ws : List ℕ). IsRow c.args.parts.now c.args.along.now.d ws c.args.a c.loop-b.row.items)
-        (take_all c.loop-b.b-index c.args.w.now c.loop-b-test.false) c.loop-b.invariant.row in
+    (take_all c.loop-b.b-index c.args.w.now c.loop-b-test.false) c.loop-b.invariant.row in
     record {
       some = c.loop-b.invariant.some;
       kept = c.loop-b.invariant.kept;
