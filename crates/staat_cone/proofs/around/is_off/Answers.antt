@@ -1,4 +1,4 @@
-use Rattle.std.proofs.Common.{◌≡◌, ◌≢◌, ◌∙◌, ◌-◌, ◌^◌, ℕ, zero, suc, ℤ, pos, negsuc, FitsSigned, not, of_z, ap, refl, sym, arith}
+use Rattle.std.proofs.Common.{◌≢◌, ◌∙◌, ◌-◌, ◌^◌, zero, suc, ℤ, pos, negsuc, FitsSigned, not, of_z, ap, refl, sym, arith}
 use Rattle.std.specs.Prelude.{◌↔◌, ◌==◌, IsTrue}
 use Rattle.std.specs.Int.{w64}
 use Rattle.std.proofs.lemmas.Bool.{ne_eqb}

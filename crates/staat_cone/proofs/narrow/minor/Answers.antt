@@ -1,4 +1,4 @@
-use Rattle.std.proofs.Common.{◌≡◌, ◌∙◌, ◌≤◌, ◌*◌, ◌*ℤ◌, ◌-ℤ◌, sym, subst, arith}
+use Rattle.std.proofs.Common.{◌≤◌, ◌*◌, ◌*ℤ◌, ◌-ℤ◌, sym, subst, arith}
 use Rattle.std.specs.Prelude.{unsigned_abs}
 use Rattle.std.specs.Int.{w64, w128}
 use Rattle.staat_vec.specs.declared.vector.TheConstants.{DIFF, NORMAL}
