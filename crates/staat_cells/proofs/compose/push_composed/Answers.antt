@@ -1,8 +1,11 @@
-use Rattle.std.proofs.Common.{◌≡◌, ◌∙◌, List, ap, arith, drop, length, map, subst}
+use Rattle.std.proofs.Common.{◌≡◌, ◌∙◌, List, ap, arith, drop, length, map, subst, All, length-append, sym}
 use Rattle.staat_cells.specs.declared.cell.Cell.{Cell}
-use Rattle.staat_cells.specs.Compositions.{entry_of}
+use Rattle.staat_cells.specs.Compositions.{entry_of, HaveEqualLengths, HavePairs}
 use Rattle.staat_cells.specs.Skeletons.{IsFoundAt}
-use Rattle.staat_cells.proofs.AddedCells.{added_more, added_none, added_same, lower_stay}
+use Rattle.staat_cells.proofs.AddedCells.{added_more, added_none, added_same, lower_stay, added_all}
+use Rattle.std.proofs.lemmas.Result.{err_from_is_err_and}
+use Rattle.staat_vec.specs.declared.vector.TheConstants.{EDGE}
+use Rattle.staat_vec.specs.Vectors.{IsWithin}
 use Rattle.staat_cells.proofs.compose.push_composed.Goals as goal
 use Rattle.staat_cells.proofs.compose.push_composed.Goals.{in-Some+in_ok-push, in_default}
 
@@ -30,3 +33,50 @@ loop-i-preserved c =
           added_same kind from incidences old c.loop-i.i c.loop-i.cells.items c.match-branch-2.cells.items before
           (ap (λ v. v.items) w.cells-is) (subst is_found w.in_default.is at)
     ]
+
+pub returns : goal.returns
+returns c = added_all c.args.kind c.args.from c.args.incidences.now c.args.cells.now.items c.loop-i.i c.loop-i.cells.items (omega (arith, c.loop-i-test.false, c.loop-i.auto.i-end)) c.loop-i.invariant
+
+pub returns-in_err-push : goal.returns-in_err-push
+returns-in_err-push c =
+    let p = err_from_is_err_and c.from_residual-in_err-push.result c.from_residual-in_err-push.ensures.1 in
+    rw p.1 tt
+
+pub returns-in_err-cell : goal.returns-in_err-cell
+returns-in_err-cell c =
+    let p = err_from_is_err_and c.from_residual.result c.from_residual.ensures.1 in
+    rw p.1 tt
+
+pub composed_within-requires-clause-from : goal.composed_within-requires-clause-from
+composed_within-requires-clause-from c = omega (arith, c.requires.place, c.len-end.ensures, c.args.cells.now.ok.0)
+
+pub composed_within-requires-clause-end : goal.composed_within-requires-clause-end
+composed_within-requires-clause-end c =
+    let old = c.args.cells.now.items in
+    let before = c.loop-i.invariant in
+    let long = ap length (c.deref.ensures.value ∙ before.is) in
+    omega (arith, long, length-append old before.added, c.len-end.ensures, c.args.cells.now.ok.0)
+
+pub composed_within-requires-clause-place : goal.composed_within-requires-clause-place
+composed_within-requires-clause-place c = c.loop-i-test.true
+
+pub composed_within-requires-clause-pairs : goal.composed_within-requires-clause-pairs
+composed_within-requires-clause-pairs c =
+    let old = c.args.cells.now.items in
+    let before = c.loop-i.invariant in
+    let lower = sym (lower_stay c.args.from c.len-end.result old c.deref.result.now before.added (omega (arith, c.len-end.ensures, c.args.cells.now.ok.0)) (c.deref.ensures.value ∙ before.is)) in
+    subst (λ (l : List Cell). HavePairs c.args.incidences.now (length l)) lower c.requires.pairs
+
+pub composed_within-requires-clause-size : goal.composed_within-requires-clause-size
+composed_within-requires-clause-size c =
+    let old = c.args.cells.now.items in
+    let before = c.loop-i.invariant in
+    let lower = sym (lower_stay c.args.from c.len-end.result old c.deref.result.now before.added (omega (arith, c.len-end.ensures, c.args.cells.now.ok.0)) (c.deref.ensures.value ∙ before.is)) in
+    subst (All (λ (cell : Cell). IsWithin EDGE cell.d)) lower c.requires.size
+
+pub composed_within-requires-clause-signs : goal.composed_within-requires-clause-signs
+composed_within-requires-clause-signs c =
+    let old = c.args.cells.now.items in
+    let before = c.loop-i.invariant in
+    let lower = sym (lower_stay c.args.from c.len-end.result old c.deref.result.now before.added (omega (arith, c.len-end.ensures, c.args.cells.now.ok.0)) (c.deref.ensures.value ∙ before.is)) in
+    subst HaveEqualLengths lower c.requires.signs

@@ -1,6 +1,6 @@
 use Rattle.std.proofs.Common.{◌≡◌, ℕ, ◌+◌, ◌-◌, ◌<◌, ◌≤◌, List, arith, get_or, sym, subst, ⊎_elim}
 use Rattle.std.specs.Prelude.{Some, slice_get}
-use Rattle.std.proofs.lemmas.Option.{get_or_from_slice_get}
+use Rattle.std.proofs.lemmas.Option.{get_or_from_slice_get, slice_get-get_or}
 use Rattle.staat_vec.specs.declared.vector.V3.{V3}
 use Rattle.staat_vec.specs.Vectors.{origin}
 use Rattle.staat_vec.proofs.Naturals.{lt_one_more_cases}
@@ -21,3 +21,23 @@ looked_more P planes end j e below here k g le lt is = ⊎_elim
 
 pub loop-j-preserved : goal.loop-j-preserved
 loop-j-preserved c = looked_more (HasNoLow c.args.planes.now) c.args.planes.now c.args.end c.loop-j.j origin c.loop-j.invariant c.in-None.ensures
+
+pub returns-in-Some : goal.returns-in-Some
+returns-in-Some c =
+    let planes = c.args.planes.now in
+    let end = c.args.end in
+    let place = end - 1 - c.loop-j.j in
+    let before : place < end = omega (arith, c.loop-j-test.true) in
+    record {
+      g = get_or planes place origin;
+      before = before;
+      at = slice_get-get_or planes place origin (omega (arith, before, c.requires.end));
+      edge = c.in-Some.ensures;
+      later = λ k h more lt is. c.loop-j.invariant k h (omega (arith, more, c.loop-j-test.true)) lt is;
+    }
+
+pub returns : goal.returns
+returns c = λ k g lt is. c.loop-j.invariant k g (omega (arith, c.loop-j-test.false)) lt is
+
+pub edge_on-requires-clause-planes : goal.edge_on-requires-clause-planes
+edge_on-requires-clause-planes c = c.requires.planes
