@@ -1,6 +1,15 @@
-use Rattle.std.proofs.Common.{◌∙◌, ap, map, subst}
+use Rattle.std.proofs.Common.{◌∙◌, ℕ, List, Result, Ok, Err, ap, map, refl, subst, sym}
+use Rattle.std.specs.Prelude.{IfOk}
 use Rattle.staat_words.specs.Requests.{IsInputWithin}
-use Rattle.staat_input.specs.Inputs.{alone}
+use Rattle.staat_fault.specs.declared.fault.Fault.{Fault}
+use Rattle.staat_manifest.specs.declared.listing.ListedPart.{ListedPart}
+use Rattle.staat_words.specs.declared.request.Input.{Input}
+use Rattle.staat_words.specs.declared.request.Input.TheVariants.{Manifest}
+use Rattle.staat_input.specs.Causes.{MayName}
+use Rattle.staat_input.specs.Shapes.{ListsPiece}
+use Rattle.staat_input.specs.Inputs.{IsListingOfWithin, alone}
+use Rattle.staat_input.specs.Opened.{ReadsNames}
+use Rattle.staat_input.specs.Work.{Follows}
 use Rattle.staat_input.proofs.InputLemmas.{named_files}
 use Rattle.staat_input.proofs.OpenedLemmas.{list_refused, none_refused}
 use Rattle.staat_input.proofs.input.names_of.Goals as goal
@@ -14,3 +23,34 @@ returns-in-Manifest-clause-opens g c =
 
 pub returns-in_ok-listing-in-Files-clause-few : goal.returns-in_ok-listing-in-Files-clause-few
 returns-in_ok-listing-in-Files-clause-few g c = named_files c.args.limits c.in-Files.names c.in_ok-listing-in-Files.listing c.requires.room (subst (IsInputWithin c.args.limits.parts) c.in-Files.is c.requires.input) (c.in_ok-listing-in-Files.ensures ∙ ap (map alone) c.as_slice.ensures)
+
+pub returns-in-Manifest-clause-gave : goal.returns-in-Manifest-clause-gave
+returns-in-Manifest-clause-gave g c =
+    subst (λ (i : Input). IfOk c.read_list.result (λ l. ReadsNames c.args.limits i l (g.H.Shelf.told c.args.shelf.now) (g.H.Shelf.told c.read_list.new.shelf)))
+    (sym c.in-Manifest.is) c.read_list.ensures.gave
+
+pub returns-in-Manifest-clause-found : goal.returns-in-Manifest-clause-found
+returns-in-Manifest-clause-found g c = λ files fit.
+    subst (λ (i : Input). Follows (IsListingOfWithin c.args.limits files i) c.read_list.result) (sym c.in-Manifest.is) (c.read_list.ensures.found files fit)
+
+-- a part list may name any file
+names_free : (r : Result (List ListedPart) Fault) (list : List ℕ)
+    → IfOk r (λ listing. (name : List ℕ) → ListsPiece listing name → MayName (Manifest list) name)
+names_free (Ok listing) list = λ name lists. tt
+names_free (Err fault) list = tt
+
+pub returns-in-Manifest-clause-names : goal.returns-in-Manifest-clause-names
+returns-in-Manifest-clause-names g c =
+    subst (λ (i : Input). IfOk c.read_list.result (λ listing. (name : List ℕ) → ListsPiece listing name → MayName i name))
+    (sym c.in-Manifest.is) (names_free c.read_list.result c.in-Manifest.name)
+
+pub returns-in_ok-listing-in-Files-clause-gave : goal.returns-in_ok-listing-in-Files-clause-gave
+returns-in_ok-listing-in-Files-clause-gave g c =
+    let told = g.H.Shelf.told c.args.shelf.now in
+    subst (λ (i : Input). ReadsNames c.args.limits i c.in_ok-listing-in-Files.listing told told) (sym c.in-Files.is)
+    (refl, c.in_ok-listing-in-Files.ensures ∙ ap (map alone) c.as_slice.ensures)
+
+pub returns-in_ok-listing-in-Files-clause-found : goal.returns-in_ok-listing-in-Files-clause-found
+returns-in_ok-listing-in-Files-clause-found g c = λ files fit.
+    subst (λ (i : Input). IsListingOfWithin c.args.limits files i (Ok c.in_ok-listing-in-Files.listing)) (sym c.in-Files.is)
+    (ap (λ (l : List ListedPart). Ok l) (c.in_ok-listing-in-Files.ensures ∙ ap (map alone) c.as_slice.ensures))
