@@ -22,9 +22,9 @@ loop-b-preserved g c =
     let a = c.args.a in
     let Free : ℕ → Type 0 = λ k. (b : ℕ) → get_or rest k b ≡ b → Blocks c.args.product.now d a b → ⊥ in
     let here : Free i = λ b is blocks.
-        let same = sym is ∙ get_or_default rest i b 0 c.loop-b-test.true in
-        let told = subst (λ (ps : List Part). Blocks ps d a (get_or rest i 0)) (sym c.as_slice.ensures.parts) (subst (Blocks c.args.product.now d a) same blocks) in
-        false≢true (sym c.if-branch.false ∙ c.in_ok-blocks.ensures.1 told) in
+    let same = sym is ∙ get_or_default rest i b 0 c.loop-b-test.true in
+    let told = subst (λ (ps : List Part). Blocks ps d a (get_or rest i 0)) (sym c.as_slice.ensures.parts) (subst (Blocks c.args.product.now d a) same blocks) in
+    false≢true (sym c.if-branch.false ∙ c.in_ok-blocks.ensures.1 told) in
     λ k b lt. below_more Free i (λ n l e. c.loop-b.invariant n e l) here k lt b
 
 pub returns : goal.returns
