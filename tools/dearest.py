@@ -89,20 +89,15 @@ def main() -> int:
     locks = build.lock(crates, sys.stderr)
     try:
         below = [it for it in crates if it is not crate]
+        crate.log.parent.mkdir(parents=True, exist_ok=True)
         if below and not build.Builder(below, build.slots(), sys.stderr).run(locks):
             return 1
         with tempfile.TemporaryDirectory() as room:
-            done = subprocess.run(
-                build.Kit().check(crate, Path(room)),
-                cwd=crate.folder,
-                stdin=subprocess.DEVNULL,
-                capture_output=True,
-                encoding="utf-8",
-                errors="replace",
-                check=False,
-            )
+            with crate.log.open("wb") as log:
+                words_of_check = build.Kit().check(crate, Path(room))
+                done = subprocess.run(words_of_check, cwd=crate.folder, stdout=log, stderr=log)
             if done.returncode:
-                print(done.stdout[-4000:], file=sys.stderr)
+                print(f"dearest: {crate.name} was refused: {crate.log}", file=sys.stderr)
                 return 1
             print("\n".join(listing(seconds_of(Path(room)), crate.name, words.most)))
         return 0
