@@ -168,7 +168,8 @@ pub record Planned (request : PlanRequest) (files : Files) (shelf : ShelfSide) (
       NoFault shelf out err → status ≢ 7 → status < 2
   pub checked : (others : Files) (version : ℕ) (name : List ℕ) → request.certificate ≡ Some version →
       status < 2 →
-      TookRight out (λ text. KeepsNamed ASSEMBLY files others request.asked.input → bytes_of name others ≡ Some text →
+      TookRight out (λ text. KeepsNamed ASSEMBLY files others request.asked.input →
+      bytes_of name others ≡ Some text →
       IsReply (Some (Check (record { asked = request.asked; certificate = name }))) others
       (answered (answer 0 (valid_line status))))
 
