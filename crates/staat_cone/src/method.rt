@@ -8,7 +8,7 @@ use crate::edges::add_all_edges;
 use staat_vec::{DIFF, OutOfMemory, V3};
 
 /// How the facets that go through a vector are found.
-#[derive(Clone, Copy, Debug)]
+#[derive(Clone, Copy)]
 pub enum Method {
     /// From all its pairs with the others.
     Pairs,

@@ -11,7 +11,7 @@ use std::alloc::Global;
 /// The list of the few begins with three differences that span space. Each facet of the few is tested in two passes
 /// over the points, and the difference that lies farthest behind it joins the few. Where none lies behind any, few and
 /// all have the same facets ([`few_facets`](crate::laws::few_facets)). Each pair is tried once.
-#[derive(Clone, Copy, Debug)]
+#[derive(Clone, Copy)]
 pub struct Plain;
 
 impl FacetSource for Plain {

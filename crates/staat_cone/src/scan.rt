@@ -11,7 +11,7 @@ use std::alloc::Global;
 /// The list of the few grows as that of [`Plain`](crate::Plain) does. For each difference that joins, two scans find
 /// the ones that lie furthest to either side of it ([`furthest`](crate::furthest)), and only the normals across it and
 /// one of these are tested. So the time grows with the square of the number of the few, and not with its cube.
-#[derive(Clone, Copy, Debug)]
+#[derive(Clone, Copy)]
 pub struct Scan;
 
 impl FacetSource for Scan {

@@ -21,7 +21,7 @@ pub fn is_wall(v: V3) -> bool
 }
 
 /// A point, and how far it lies along a normal.
-#[derive(Clone, Copy, Debug)]
+#[derive(Clone, Copy)]
 pub struct Placed {
     pub point: V3,
     pub along: i64,

@@ -7,7 +7,7 @@ use staat_limits::MOST_PARTS;
 use staat_model::PartSet;
 
 /// A graph on the parts: bit `b` of row `a` is the arc from the part `a` to the part `b`.
-#[derive(Clone, Copy, Debug, PartialEq, Eq)]
+#[derive(Clone, Copy, PartialEq, Eq)]
 pub struct Graph {
     pub rows: [u32; 32],
 }

@@ -12,7 +12,7 @@ use staat_limits::MOST_PARTS;
 use staat_model::PartSet;
 
 /// Groups of parts: the first `count` sets are in use.
-#[derive(Clone, Copy, Debug)]
+#[derive(Clone, Copy)]
 pub struct Groups {
     pub count: u32,
     pub of: [PartSet; 32],

@@ -14,7 +14,7 @@ use staat_model::PartSet;
 
 /// Arcs by which the parts of a set are reached from its least part, and arcs by which they reach it, each a pair of
 /// the part that it leads from and the part that it leads to. The first `count` of each list are in use.
-#[derive(Clone, Copy, Debug, PartialEq, Eq)]
+#[derive(Clone, Copy, PartialEq, Eq)]
 pub struct Trees {
     pub count: u32,
     pub outs: [(u32, u32); 32],

@@ -13,7 +13,7 @@ pub struct Hold {
 pub type Holds = Listed<Hold>;
 
 /// A rule that a hold breaks. Places in lists count from 0.
-#[derive(Clone, Copy, Debug, PartialEq, Eq)]
+#[derive(Clone, Copy, PartialEq, Eq)]
 pub enum HoldRule {
     /// No node has the name at this place.
     NoNode(usize),
@@ -26,7 +26,7 @@ pub enum HoldRule {
 }
 
 /// The place of a hold, and a rule that it breaks.
-#[derive(Clone, Copy, Debug, PartialEq, Eq)]
+#[derive(Clone, Copy, PartialEq, Eq)]
 pub struct BrokenHold {
     pub hold: usize,
     pub rule: HoldRule,

@@ -5,7 +5,7 @@ ghost use Rattle.staat_holds.specs.VisitedNodes.{HasWay, turned_way};
 use std::alloc::{AllocError, Global};
 
 /// A way from one node to another.
-#[derive(Clone, Copy, Debug, PartialEq, Eq)]
+#[derive(Clone, Copy, PartialEq, Eq)]
 pub struct Way {
     pub from: u32,
     pub to: u32,

@@ -3,7 +3,7 @@ use crate::set::PartSet;
 use staat_vec::{Listed, V3};
 
 /// Piece `i` of part `a` against piece `j` of part `b`. Arcs are ordered by `a`, then `i`, then `b`, then `j`.
-#[derive(Clone, Copy, Debug, PartialEq, Eq, PartialOrd, Ord)]
+#[derive(Clone, Copy, PartialEq, Eq, PartialOrd, Ord)]
 pub struct Arc {
     pub a: u32,
     pub i: u32,
@@ -12,7 +12,7 @@ pub struct Arc {
 }
 
 /// The normal of a wall that keeps the two pieces of an arc apart.
-#[derive(Clone, Copy, Debug, PartialEq, Eq)]
+#[derive(Clone, Copy, PartialEq, Eq)]
 pub struct Sep {
     pub arc: Arc,
     pub n: V3,
@@ -34,7 +34,7 @@ pub struct Witness {
 }
 
 /// A direction, and the number of the witness for it.
-#[derive(Clone, Copy, Debug, PartialEq, Eq)]
+#[derive(Clone, Copy, PartialEq, Eq)]
 pub struct Dir {
     pub d: V3,
     pub witness: u32,

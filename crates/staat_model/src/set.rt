@@ -8,7 +8,7 @@ use staat_limits::MOST_PARTS;
 use std::marker::Model;
 
 /// A set of part numbers below [`MOST_PARTS`], seen as the finite set of its members.
-#[derive(Clone, Copy, Debug)]
+#[derive(Clone, Copy)]
 pub struct PartSet {
     bits: u32,
 }

@@ -34,7 +34,7 @@ pub enum Outcome {
 }
 
 /// One step: the side that moves, and its direction.
-#[derive(Clone, Copy, Debug, PartialEq, Eq)]
+#[derive(Clone, Copy, PartialEq, Eq)]
 pub struct Step {
     pub moved: PartSet,
     pub d: V3,

@@ -13,7 +13,7 @@ pub const Z_AXIS: V3 = V3 { x: 0, y: 0, z: 1 };
 
 /// For each axis a normal at right angles to a direction: the cross product of the axis and the direction, and the
 /// next axis where that is zero.
-#[derive(Clone, Copy, Debug)]
+#[derive(Clone, Copy)]
 pub struct Frame {
     pub x: V3,
     pub y: V3,

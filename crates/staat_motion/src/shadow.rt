@@ -23,7 +23,7 @@ use staat_vec::{Listed, OutOfMemory, V3};
 use std::alloc::Global;
 
 /// How far a piece or a part reaches along each axis (its box), and along each normal across a direction.
-#[derive(Clone, Copy, Debug)]
+#[derive(Clone, Copy)]
 pub struct Shadow {
     pub bounds: Bounds,
     pub across_x: Span,

@@ -6,7 +6,7 @@ ghost use Rattle.staat_motion.specs.Spans.{IsJoinedSpan, IsSpan};
 use staat_vec::{DIRECTION, POINT, V3, dot};
 
 /// The least and the greatest place of a piece's points along a normal: their products with it.
-#[derive(Clone, Copy, Debug)]
+#[derive(Clone, Copy)]
 pub struct Span {
     pub low: i128,
     pub high: i128,

@@ -31,7 +31,7 @@ pub type PlanRefusal = PlanesRefusal;
 
 /// How an assembly is planned: with at most this many planes, and whether its plan is robust, so that steps lead into
 /// open cells where they can.
-#[derive(Clone, Copy, Debug, PartialEq, Eq)]
+#[derive(Clone, Copy, PartialEq, Eq)]
 pub struct Options {
     pub planes: u32,
     pub robust: bool,

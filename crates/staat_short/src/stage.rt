@@ -6,7 +6,7 @@ use staat_holds::Hold;
 use staat_model::Arc;
 
 /// Whether a plan takes all parts apart, or may end in groups.
-#[derive(Clone, Copy, Debug, PartialEq, Eq)]
+#[derive(Clone, Copy, PartialEq, Eq)]
 pub enum PlanKind {
     Plan,
     Rest,
