@@ -4,6 +4,9 @@
 //! call of the system's library. Status 9 says that a file before `--` cannot be read, or that there is no memory.
 #![tactic(auto)]
 
+ghost use Rattle.std.specs.Prelude.{IfSome, map, string_bytes};
+ghost use Rattle.staat_in_memory.specs.Parting.{AreParted};
+
 use staat_edge::{Calls, Files, MemoryShelf, StreamSink};
 use staat_top::staat;
 use staat_vec::{Bytes, Name};
@@ -25,8 +28,11 @@ fn load(rt: &HostRuntime, names: &[String]) -> Option<Files> {
     Some(Files::from_vec(files))
 }
 
-/// The words before `--`, and those behind it; none where there is no memory.
-fn parted(alloc: Global, given: Vec<String>) -> Option<(Vec<String>, Vec<String>)> {
+/// The words before the first `--`, and those behind it; none where there is no memory.
+fn parted(alloc: Global, given: Vec<String>) -> Option<(Vec<String>, Vec<String>)>
+    ensures { IfSome result (λ both. AreParted (map string_bytes given.items)
+        (map string_bytes both.0.items) (map string_bytes both.1.items)) }
+{
     let mut names = Vec::new(alloc);
     let mut words = Vec::new(alloc);
     let mut is_name = true;

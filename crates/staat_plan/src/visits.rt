@@ -14,7 +14,7 @@ ghost use Rattle.std.specs.Prelude.{
   [],
   length,
 };
-ghost use Rattle.std.specs.Prelude.{map, replicate, slice_get};
+ghost use Rattle.std.specs.Prelude.{false, map, replicate, slice_get};
 ghost use Rattle.std.specs.List.Sorted.{IsStrictlySortedBy};
 ghost use Rattle.staat_vec.specs.Lists.{Lists};
 ghost use Rattle.staat_vec.specs.Vectors.{vector_cmp, origin};
@@ -60,6 +60,25 @@ pub fn no_numbers(alloc: Global, count: usize) -> Result<Vec<Option<usize>>, Out
         numbers.push(None)?;
     }
     Ok(numbers)
+}
+
+impl Found {
+    // nothing, for so many directions
+    fn none(alloc: Global, count: usize) -> Result<Found, OutOfMemory>
+        ensures keys { IfOk result (λ f. f.keys.keys ≡ []) }
+        ensures witnesses { IfOk result (λ f. f.witnesses.items ≡ []) }
+        ensures numbers { IfOk result (λ f. f.numbers.items ≡ replicate count None) }
+        ensures kept { IfOk result (λ f. f.kept.known ≡ false) }
+    {
+        let numbers = no_numbers(alloc, count)?;
+        Ok(Found {
+            keys: IndexSet::new(alloc),
+            witnesses: Vec::new(alloc),
+            numbers,
+            kept: GraphTrees::none(),
+            latest: 0,
+        })
+    }
 }
 
 // whether the witness at the vertex is the one at the vertex that was visited last
@@ -260,6 +279,37 @@ fn go_round_all<L: Ledger>(
     Ok(())
 }
 
+// the witnesses at these directions, where all circles are linked
+fn found_along<L: Ledger>(
+    alloc: Global,
+    sound: &Sound,
+    table: &PlaneTable,
+    rings: &Rings,
+    directions: &[V3],
+    blank: Blank,
+) -> Result<Found, OutOfMemory>
+    requires made { WasMadeFrom sound.now table.now }
+    requires stuck { IsStuck sound.now table.now.of }
+    requires rings { WereMadeFrom table.now.planes rings.now }
+    requires all { rings.now.unlinked ≡ [] }
+    requires ascending { IsStrictlySortedBy vector_cmp directions.now }
+    requires each { All IsSizedDirection directions.now }
+    requires name { blank.name ≡ L.name }
+    requires parts { blank.parts ≡ L.parts }
+    requires some { 0 < blank.parts }
+    ensures found { IfOk result (HasFound sound.now table.now.of directions.now) }
+    ensures below { IfOk result (λ f. AreFoundBelow table.now.planes rings.now.rings directions.now
+        f.numbers.items (length table.now.planes)) }
+{
+    let mut walk = Walk::new(alloc, table)?;
+    let mut found = Found::none(alloc, directions.len())?;
+    let mut steps = Steps::<L>::new(blank);
+    go_round_all(
+        alloc, sound, table, rings, &mut walk, directions, &mut steps, &mut found,
+    )?;
+    Ok(found)
+}
+
 /// The witnesses at these directions, which are the vertices of the table's planes or some of them, ascending.
 ///
 /// Each vertex is visited on the circle of the least plane through it. Of its witness only the arcs are looked at that
@@ -284,18 +334,6 @@ pub fn found_at<L: Ledger>(
     ensures all { IfOk result (λ f. AreAllFound directions.now f.numbers.items) }
 {
     let _set = table.set();
-    let mut steps = Steps::<L>::new(blank);
     let rings = Rings::build(alloc, table)?;
-    let mut walk = Walk::new(alloc, table)?;
-    let mut found = Found {
-        keys: IndexSet::new(alloc),
-        witnesses: Vec::new(alloc),
-        numbers: no_numbers(alloc, directions.len())?,
-        kept: GraphTrees::none(),
-        latest: 0,
-    };
-    go_round_all(
-        alloc, sound, table, &rings, &mut walk, directions, &mut steps, &mut found,
-    )?;
-    Ok(found)
+    found_along::<L>(alloc, sound, table, &rings, directions, blank)
 }
