@@ -265,6 +265,30 @@ fn outcome_of_set<F: FacetSource>(
     }
 }
 
+// the outcome of a set of parts, with no walk begun
+fn outcome_at_first<F: FacetSource>(
+    alloc: Global,
+    source: &F,
+    sound: &Sound,
+    table: &PlaneTable,
+    w: PartSet,
+    options: Options,
+) -> Result<Outcome, PlanRefusal>
+    requires some { IsNonempty w }
+    requires parts { (p : ℕ) → Has w p → p < length sound.now }
+    requires made { WasMadeFrom sound.now table.now }
+    requires within { IsSubset w table.now.of }
+    requires few { length table.now.planes ≤ options.planes }
+    requires least { LEAST_PLANES ≤ options.planes }
+    requires most { options.planes ≤ MOST_PLANES }
+    requires cells { options.robust ≡ true → options.planes ≤ MOST_CELL_PLANES }
+    ensures outcome { MatchResult result (IsOutcomeOf options.robust sound.now w options.planes)
+        (IsPlanesRefusal sound.now w options.planes) }
+{
+    let mut walker = None;
+    outcome_of_set(alloc, source, sound, table, &mut walker, w, options)
+}
+
 /// The outcome of an assembly, as [`plan`] answers it, and the table of all parts that it is found by.
 ///
 /// The facets of two pieces are asked of `source` once. By the table, [`Tabulated`] answers all that is asked later.
@@ -286,8 +310,7 @@ pub fn plan_with_table<F: FacetSource>(
 {
     let all = PartSet::first(sound.assembly().parts());
     let table = tabulate(alloc, source, sound, all, options.planes)?;
-    let mut walker = None;
-    let outcome = outcome_of_set(alloc, source, sound, &table, &mut walker, all, options)?;
+    let outcome = outcome_at_first(alloc, source, sound, &table, all, options)?;
     Ok((outcome, table))
 }
 
