@@ -1,5 +1,5 @@
 // The line that words and numbers make.
-ghost use Rattle.std.specs.Prelude.{◌≡◌, IfOk, IfSome, IfNone};
+ghost use Rattle.std.specs.Prelude.{◌≡◌, IfOk, IfSome, IfNone, None, codes, if◌then◌else◌};
 ghost use Rattle.std.specs.Str.{bytes_eq};
 ghost use Rattle.staat_short.specs.declared.line.ShortLine.{ShortLine as LineValue};
 ghost use Rattle.staat_short.specs.declared.line.ShortLine.TheVariants as line;
@@ -108,34 +108,54 @@ fn pair_line(numbers: &[i128]) -> Option<ShortLine>
     }
 }
 
+fn is_word(word: &[u8], name: &[u8]) -> bool
+    ensures { result ≡ bytes_eq word.now name.now }
+{
+    word == name
+}
+
+// A line before the nodes and the holds.
+fn opening_line(word: &[u8], numbers: &[i128]) -> Option<ShortLine>
+    ensures { result
+        ≡ (if bytes_eq word.now (codes "plan") then alone_from line.Plan numbers.now
+        else if bytes_eq word.now (codes "stuck") then alone_from line.Stuck numbers.now
+        else if bytes_eq word.now (codes "rest") then alone_from line.Rest numbers.now
+        else if bytes_eq word.now (codes "parts") then count_from numbers.now
+        else None) }
+{
+    if is_word(word, b"plan") {
+        line_alone(ShortLine::Plan, numbers)
+    } else if is_word(word, b"stuck") {
+        line_alone(ShortLine::Stuck, numbers)
+    } else if is_word(word, b"rest") {
+        line_alone(ShortLine::Rest, numbers)
+    } else if is_word(word, b"parts") {
+        parts_line(numbers)
+    } else {
+        None
+    }
+}
+
 #[tactic(auto, unfolding(crate::specs::ShortReading::short_line_from))]
 fn line_from(word: &[u8], numbers: &[i128]) -> Option<ShortLine>
     ensures { result ≡ short_line_from word.now numbers.now }
 {
-    if word == b"pair".as_slice() {
+    if is_word(word, b"pair") {
         pair_line(numbers)
-    } else if word == b"part".as_slice() {
+    } else if is_word(word, b"part") {
         part_line(numbers)
-    } else if word == b"hold".as_slice() {
+    } else if is_word(word, b"hold") {
         line_alone(ShortLine::Hold, numbers)
-    } else if word == b"leaf".as_slice() {
+    } else if is_word(word, b"leaf") {
         leaf_line(numbers)
-    } else if word == b"split".as_slice() {
+    } else if is_word(word, b"split") {
         split_line(numbers)
-    } else if word == b"group".as_slice() {
+    } else if is_word(word, b"group") {
         line_alone(ShortLine::Group, numbers)
-    } else if word == b"end".as_slice() {
+    } else if is_word(word, b"end") {
         line_alone(ShortLine::End, numbers)
-    } else if word == b"plan".as_slice() {
-        line_alone(ShortLine::Plan, numbers)
-    } else if word == b"stuck".as_slice() {
-        line_alone(ShortLine::Stuck, numbers)
-    } else if word == b"rest".as_slice() {
-        line_alone(ShortLine::Rest, numbers)
-    } else if word == b"parts".as_slice() {
-        parts_line(numbers)
     } else {
-        None
+        opening_line(word, numbers)
     }
 }
 
