@@ -1,5 +1,6 @@
 // The reading of the command words.
-ghost use Rattle.std.specs.Prelude.{◌≡◌, map, string_bytes, IfOk, IsErrOf, Some, option_map, true, false};
+ghost use Rattle.std.specs.Prelude.{◌≡◌, bytes_eq, codes, if◌then◌else◌, map, string_bytes, true, false};
+ghost use Rattle.std.specs.Prelude.{IfOk, IsErrOf, None, Some, option_map};
 ghost use Rattle.clap.specs.Words.{found_of, rows_of, subcommand_rows_of};
 ghost use Rattle.staat_words.specs.Command.{is_taken, matches as matches_at};
 ghost use Rattle.staat_words.specs.Requests.{ReadsWords, HasBounds, IsAskedWithin, IsGraphRequestWithin};
@@ -221,7 +222,71 @@ fn matches_of<'a>(alloc: Global, words: &'a [String]) -> Result<ArgMatches<'a>, 
     }
 }
 
-// The request of a subcommand: a line for each command.
+// Whether a subcommand's name is this word.
+fn is_called(name: &str, word: &str) -> bool
+    ensures { result ≡ bytes_eq name.now word.now }
+{
+    name == word
+}
+
+// The request of a subcommand about a product of any size.
+fn request_of_any_size(
+    alloc: Global,
+    name: &str,
+    matches: &ArgMatches<'_>,
+) -> Result<Request, RequestRefusal>
+    ensures answers { let rows = rows_of (found_of matches.now) in ReadsWords (
+        if bytes_eq name.now (codes "decide") then option_map Decide (decide_in rows)
+        else (if bytes_eq name.now (codes "confirm") then option_map Confirm (check_in MOST_PRODUCT_PARTS rows)
+        else (if bytes_eq name.now (codes "blocks") then option_map Blocks (graph_in MOST_PRODUCT_PARTS rows)
+        else None))) result }
+    ensures bounds { IfOk result HasBounds }
+{
+    if is_called(name, "decide") {
+        decide_of(alloc, matches)
+    } else if is_called(name, "confirm") {
+        confirm_of(alloc, matches)
+    } else if is_called(name, "blocks") {
+        blocks_of(alloc, matches)
+    } else {
+        Err(RequestRefusal::Usage)
+    }
+}
+
+// The request of a subcommand beyond shapes, blocking and plans.
+fn request_beyond_plans(
+    alloc: Global,
+    name: &str,
+    matches: &ArgMatches<'_>,
+) -> Result<Request, RequestRefusal>
+    ensures answers { let rows = rows_of (found_of matches.now) in ReadsWords (
+        if bytes_eq name.now (codes "cells") then option_map Cells (cells_in rows)
+        else (if bytes_eq name.now (codes "drill") then option_map Drill (drill_in rows)
+        else (if bytes_eq name.now (codes "explode") then option_map Explode (explode_in rows)
+        else (if bytes_eq name.now (codes "linear") then option_map Linear (linear_in rows)
+        else (if bytes_eq name.now (codes "local") then option_map Local (local_in rows)
+        else (if bytes_eq name.now (codes "decide") then option_map Decide (decide_in rows)
+        else (if bytes_eq name.now (codes "confirm") then option_map Confirm (check_in MOST_PRODUCT_PARTS rows)
+        else (if bytes_eq name.now (codes "blocks") then option_map Blocks (graph_in MOST_PRODUCT_PARTS rows)
+        else None)))))))) result }
+    ensures bounds { IfOk result HasBounds }
+{
+    if is_called(name, "cells") {
+        cells_of(alloc, matches)
+    } else if is_called(name, "drill") {
+        drill_of(matches)
+    } else if is_called(name, "explode") {
+        explode_of(alloc, matches)
+    } else if is_called(name, "linear") {
+        linear_of(alloc, matches)
+    } else if is_called(name, "local") {
+        local_of(alloc, matches)
+    } else {
+        request_of_any_size(alloc, name, matches)
+    }
+}
+
+// The request of a subcommand.
 #[tactic(auto, unfolding(crate::specs::Requests::request_in))]
 fn request_named(
     alloc: Global,
@@ -231,34 +296,18 @@ fn request_named(
     ensures answers { ReadsWords (request_in (Some (name.now, rows_of (found_of matches.now)))) result }
     ensures bounds { IfOk result HasBounds }
 {
-    if name == "pair" {
+    if is_called(name, "pair") {
         pair_of(alloc, matches)
-    } else if name == "look" {
+    } else if is_called(name, "look") {
         look_of(alloc, matches)
-    } else if name == "graph" {
+    } else if is_called(name, "graph") {
         graph_of(alloc, matches)
-    } else if name == "plan" {
+    } else if is_called(name, "plan") {
         plan_of(alloc, matches)
-    } else if name == "check" {
+    } else if is_called(name, "check") {
         check_of(alloc, matches)
-    } else if name == "cells" {
-        cells_of(alloc, matches)
-    } else if name == "drill" {
-        drill_of(matches)
-    } else if name == "explode" {
-        explode_of(alloc, matches)
-    } else if name == "linear" {
-        linear_of(alloc, matches)
-    } else if name == "local" {
-        local_of(alloc, matches)
-    } else if name == "decide" {
-        decide_of(alloc, matches)
-    } else if name == "confirm" {
-        confirm_of(alloc, matches)
-    } else if name == "blocks" {
-        blocks_of(alloc, matches)
     } else {
-        Err(RequestRefusal::Usage)
+        request_beyond_plans(alloc, name, matches)
     }
 }
 
