@@ -63,7 +63,8 @@ fn facets_in(alloc: Global, table: &PlaneTable, arc: Arc) -> Result<Vec<V3>, Out
 
 // a part of the table, and the number of a piece of it that has these points, if there is one
 fn place_of(sound: &Sound, table: &PlaneTable, points: &[V3]) -> Option<(u32, u32)>
-    ensures { IfSome result (λ place. Has table.now.of place.0 × (piece_at sound.now place.0 place.1 ≡ Some points.now)) }
+    ensures { IfSome result (λ place. Has table.now.of place.0
+        × (piece_at sound.now place.0 place.1 ≡ Some points.now)) }
 {
     let assembly = sound.assembly();
     let set = table.set();
