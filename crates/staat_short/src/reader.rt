@@ -25,7 +25,7 @@ pub struct ShortReader {
 }
 
 impl ShortReader {
-    ghost use Rattle.std.specs.Prelude.{◌≡◌, ◌++◌, [], ℕ, List, Err, IfOk};
+    ghost use Rattle.std.specs.Prelude.{◌≡◌, ◌↔◌, ◌++◌, [], ℕ, List, false, Err, IfOk, IfSome, IfNone};
     ghost use Rattle.staat_cert.specs.declared.cert_refusal.CertRefusal.TheVariants.{OutOfMemory as NoMemory};
     ghost use Rattle.staat_short.specs.ShortFeeds.{IsFailing, IsShortFeedAnswer, IsShortReadAnswer, WasFedShort};
 
@@ -80,25 +80,37 @@ impl ShortReader {
         }
     }
 
+    // Why there is none, whatever the last line is.
+    fn refusal(&self) -> Option<CertRefusal>
+        ensures answer { IfSome result (λ e. (text : List ℕ) → WasFedShort self.now text → IsShortReadAnswer text (Err e)) }
+        ensures memory { IfSome result (λ e. (e ≡ NoMemory) ↔ IsFailing self.now) }
+        ensures none { IfNone result
+            ((self.now.is_out ≡ false) × (self.now.is_long ≡ false) × (self.now.progress.is_bad ≡ false)) }
+    {
+        if self.is_out {
+            return Some(CertRefusal::OutOfMemory);
+        }
+        if self.is_long {
+            return Some(CertRefusal::TooLong);
+        }
+        if self.progress.is_bad {
+            return Some(CertRefusal::BadLine((self.progress.count + 1) as u32));
+        }
+        None
+    }
+
     /// The certificate whose text was fed.
     pub fn finish(self) -> Result<ShortCertificate, CertRefusal>
         ensures answer { (text : List ℕ) → WasFedShort self text → IsShortReadAnswer text result }
         ensures failed { IsFailing self → result ≡ Err NoMemory }
         ensures only { result ≡ Err NoMemory → IsFailing self }
     {
-        if self.is_out {
-            return Err(CertRefusal::OutOfMemory);
-        }
-        if self.is_long {
-            return Err(CertRefusal::TooLong);
-        }
+        let refusal = self.refusal();
         let progress = self.progress;
-        if progress.is_bad {
-            return Err(CertRefusal::BadLine((progress.count + 1) as u32));
-        }
-        match certificate(progress.stage) {
-            Some(certificate) => Ok(certificate),
-            None => Err(CertRefusal::ShortCert),
+        let certificate = certificate(progress.stage);
+        match refusal {
+            Some(refusal) => Err(refusal),
+            None => certificate.ok_or(CertRefusal::ShortCert),
         }
     }
 }
