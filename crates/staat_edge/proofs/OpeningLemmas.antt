@@ -1,9 +1,9 @@
 -- Files opened one after another.
-use Rattle.std.proofs.Common.{◌≡◌, ℕ, Bool, true, false, List, [], ◌∷◌, ◌++◌, Option, Result, Ok, Err, refl, sym, inl, inr, subst}
+use Rattle.std.proofs.Common.{◌≡◌, ℕ, Bool, true, false, List, [], ◌∷◌, ◌++◌, Option, Result, Ok, Err, inl, inr, subst}
 use Rattle.std.specs.Prelude.{IsErrAnd, is_ok}
-use Rattle.staat_edge.specs.Fitting.{Fit, FitBy, Narrows}
-use Rattle.staat_edge.specs.Opening.{OpensAll, OpensFiles, OpensSome, Opens}
-use Rattle.staat_edge.specs.Readings.{Agree, FileReading}
+use Rattle.staat_edge.specs.Fitting.{FitBy, Narrows}
+use Rattle.staat_edge.specs.Opening.{OpensAll, OpensSome, Opens}
+use Rattle.staat_edge.specs.Readings.{FileReading}
 use Rattle.staat_edge.specs.Told.{ShelfTold}
 use Rattle.staat_edge.proofs.Fitted.{before_one}
 
