@@ -1,9 +1,12 @@
 use Rattle.std.proofs.Common.{Ok, true, false, [], ◌∷◌}
+use Rattle.staat_input.specs.Causes.{over}
 use Rattle.staat_input.specs.Work.{Then}
+use Rattle.staat_input.specs.declared.limits.TheConstants.Limits.{PRODUCT}
 use Rattle.staat_input.specs.Assembling.{IsSoundProductOf}
 use Rattle.staat_judging.specs.Confirming.{IsShortCertificateIn, IsConfirmed}
 use Rattle.staat_input.proofs.InputLemmas.{then_failed, then_given}
-use Rattle.staat_judging.proofs.OpenedFurther.{fitted_before}
+use Rattle.staat_judging.proofs.ConfirmCauses.{certificate_cause, input_cause}
+use Rattle.staat_judging.proofs.OpenedFurther.{fitted_before, input_begun, opened_after_input}
 use Rattle.staat_judging.proofs.confirm.confirm.Goals as goal
 
 pub returns-in_err-certificate-clause-found : goal.returns-in_err-certificate-clause-found
@@ -35,3 +38,47 @@ returns-clause-found g c = λ files fit.
     c.in_ok-certificate.certificate (Ok c.in_ok-answer.answer)
     (c.in_ok-certificate.ensures.found files fit)
     c.in_ok-answer.ensures.confirmed)
+
+-- where the input is refused
+
+pub returns-in_err-product-clause-opens : goal.returns-in_err-product-clause-opens
+returns-in_err-product-clause-opens g c = input_begun PRODUCT c.args.request.now.asked.input
+    (c.args.request.now.certificate ∷ []) (g.H.Shelf.told c.args.shelf.now) (g.H.Shelf.told c.read_product.new.shelf)
+    c.in_err-product.ensures.opens
+
+pub returns-in_err-product-clause-found : goal.returns-in_err-product-clause-found
+returns-in_err-product-clause-found g c = λ files fit.
+    let request = c.args.request.now in
+    then_failed (IsSoundProductOf files request.asked)
+    (λ parts. Then (IsShortCertificateIn files request.certificate) (λ certificate. IsConfirmed parts certificate))
+    c.in_err-product.field-0.0 c.from_residual.result (c.in_err-product.ensures.found files fit)
+    c.from_residual.ensures.1
+
+pub returns-in_err-product-clause-cause : goal.returns-in_err-product-clause-cause
+returns-in_err-product-clause-cause g c = input_cause c.args.request.now
+    (over (g.H.Shelf.told c.args.shelf.now) (g.H.Shelf.told c.read_product.new.shelf)) c.in_err-product.field-0.0
+    c.from_residual.result c.in_err-product.ensures.cause c.in_err-product.ensures.named
+    c.in_err-product.ensures.found c.from_residual.ensures.1
+
+-- where it is sound
+
+pub returns-in_err-certificate-clause-opens : goal.returns-in_err-certificate-clause-opens
+returns-in_err-certificate-clause-opens g c = opened_after_input PRODUCT false c.args.request.now.asked.input
+    (c.args.request.now.certificate ∷ []) (g.H.Shelf.told c.args.shelf.now) (g.H.Shelf.told c.read_product.new.shelf)
+    (g.H.Shelf.told c.read_short_certificate.new.shelf) c.in_ok-product.ensures.opens c.in_err-certificate.ensures.opens
+
+pub returns-in_err-certificate-clause-cause : goal.returns-in_err-certificate-clause-cause
+returns-in_err-certificate-clause-cause g c = certificate_cause c.args.request.now (g.H.Shelf.told c.args.shelf.now)
+    (g.H.Shelf.told c.read_product.new.shelf) (g.H.Shelf.told c.read_short_certificate.new.shelf)
+    c.in_err-certificate.field-0.0 c.from_residual-in_err-certificate.result c.in_ok-product.ensures.count
+    c.in_ok-product.ensures.holds c.in_err-certificate.ensures.cause c.from_residual-in_err-certificate.ensures.1
+
+pub returns-in_err-answer-clause-opens : goal.returns-in_err-answer-clause-opens
+returns-in_err-answer-clause-opens g c = opened_after_input PRODUCT true c.args.request.now.asked.input
+    (c.args.request.now.certificate ∷ []) (g.H.Shelf.told c.args.shelf.now) (g.H.Shelf.told c.read_product.new.shelf)
+    (g.H.Shelf.told c.read_short_certificate.new.shelf) c.in_ok-product.ensures.opens c.in_ok-certificate.ensures.opens
+
+pub returns-clause-opens : goal.returns-clause-opens
+returns-clause-opens g c = opened_after_input PRODUCT true c.args.request.now.asked.input
+    (c.args.request.now.certificate ∷ []) (g.H.Shelf.told c.args.shelf.now) (g.H.Shelf.told c.read_product.new.shelf)
+    (g.H.Shelf.told c.read_short_certificate.new.shelf) c.in_ok-product.ensures.opens c.in_ok-certificate.ensures.opens
