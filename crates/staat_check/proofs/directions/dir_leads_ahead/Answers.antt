@@ -1,13 +1,8 @@
-use Rattle.std.proofs.Common.{◌≡◌, ◌↔◌, ◌∙◌, ◌<◌, get_or, length, subst, sym, [], List, ℕ, All}
+use Rattle.std.proofs.Common.{◌↔◌, ◌∙◌, ◌<◌, length, subst, sym, [], List, ℕ, All}
 use Rattle.std.specs.Bool.{IsTrue}
 use Rattle.staat_check.specs.Conditions.{LeadsAheadOf}
 use Rattle.staat_check.proofs.directions.dir_leads_ahead.Goals as goal
 use Rattle.staat_vec.proofs.ListLaws.{other_default}
-
--- the slice of the list at k
-slice_is : (lists : List (List ℕ)) (k : ℕ) (item slice : List ℕ) → k < length lists → item ≡ get_or lists k item
-    → slice ≡ item → get_or lists k [] ≡ slice
-slice_is lists k item slice lt is e = sym (e ∙ other_default lists k item [] lt is)
 
 pub bounds-lists-dir : goal.bounds-lists-dir
 bounds-lists-dir c = c.requires.dir.named
@@ -20,8 +15,8 @@ leads_ahead_small-requires-clause-direction c = c.is_within.ensures.0 c.if-is_wi
 
 pub leads_ahead_small-requires-clause-numbers : goal.leads_ahead_small-requires-clause-numbers
 leads_ahead_small-requires-clause-numbers c =
-    let same = slice_is c.args.lists.now c.args.dir.witness c.index-lists-dir.result c.as_slice-numbers.result.now
-    c.requires.dir.named c.index-lists-dir.is c.as_slice-numbers.ensures in
+    let same = sym (c.as_slice-numbers.ensures ∙ other_default c.args.lists.now c.args.dir.witness c.index-lists-dir.result []
+    c.requires.dir.named c.index-lists-dir.is) in
     subst (λ (numbers : List ℕ). All (λ k. k < length c.args.normals.now) numbers) same c.requires.dir.numbers
 
 pub leads_ahead-requires-clause-normals : goal.leads_ahead-requires-clause-normals
@@ -32,20 +27,20 @@ leads_ahead-requires-clause-direction c = c.requires.dir.size
 
 pub leads_ahead-requires-clause-numbers : goal.leads_ahead-requires-clause-numbers
 leads_ahead-requires-clause-numbers c =
-    let same = slice_is c.args.lists.now c.args.dir.witness c.index-lists-dir.result c.as_slice-numbers.result.now
-    c.requires.dir.named c.index-lists-dir.is c.as_slice-numbers.ensures in
+    let same = sym (c.as_slice-numbers.ensures ∙ other_default c.args.lists.now c.args.dir.witness c.index-lists-dir.result []
+    c.requires.dir.named c.index-lists-dir.is) in
     subst (λ (numbers : List ℕ). All (λ k. k < length c.args.normals.now) numbers) same c.requires.dir.numbers
 
 pub returns-then-is_within : goal.returns-then-is_within
 returns-then-is_within c =
-    let same = slice_is c.args.lists.now c.args.dir.witness c.index-lists-dir.result c.as_slice-numbers.result.now
-    c.requires.dir.named c.index-lists-dir.is c.as_slice-numbers.ensures in
+    let same = sym (c.as_slice-numbers.ensures ∙ other_default c.args.lists.now c.args.dir.witness c.index-lists-dir.result []
+    c.requires.dir.named c.index-lists-dir.is) in
     subst (λ (numbers : List ℕ). IsTrue c.leads_ahead_small.result
     ↔ All (LeadsAheadOf c.args.normals.now c.args.dir.d) numbers) (sym same) c.leads_ahead_small.ensures
 
 pub returns-else-small : goal.returns-else-small
 returns-else-small c =
-    let same = slice_is c.args.lists.now c.args.dir.witness c.index-lists-dir.result c.as_slice-numbers.result.now
-    c.requires.dir.named c.index-lists-dir.is c.as_slice-numbers.ensures in
+    let same = sym (c.as_slice-numbers.ensures ∙ other_default c.args.lists.now c.args.dir.witness c.index-lists-dir.result []
+    c.requires.dir.named c.index-lists-dir.is) in
     subst (λ (numbers : List ℕ). IsTrue c.leads_ahead.result
     ↔ All (LeadsAheadOf c.args.normals.now c.args.dir.d) numbers) (sym same) c.leads_ahead.ensures
