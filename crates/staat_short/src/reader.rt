@@ -80,9 +80,10 @@ impl ShortReader {
         }
     }
 
-    // Why there is none, whatever the last line is.
+    // Why there is no certificate, whatever the last line is.
     fn refusal(&self) -> Option<CertRefusal>
-        ensures answer { IfSome result (λ e. (text : List ℕ) → WasFedShort self.now text → IsShortReadAnswer text (Err e)) }
+        ensures answer { IfSome result
+            (λ e. (text : List ℕ) → WasFedShort self.now text → IsShortReadAnswer text (Err e)) }
         ensures memory { IfSome result (λ e. (e ≡ NoMemory) ↔ IsFailing self.now) }
         ensures none { IfNone result
             ((self.now.is_out ≡ false) × (self.now.is_long ≡ false) × (self.now.progress.is_bad ≡ false)) }

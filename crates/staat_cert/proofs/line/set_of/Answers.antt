@@ -1,4 +1,5 @@
-use Rattle.std.proofs.Common.{◌≡◌, ◌∙◌, ◌+◌, ◌<◌, ◌≤◌, ℕ, ℤ, List, false, true, ap, drop, get_or, length, pos, arith, sym, to_z, of_z, if◌then◌else◌}
+use Rattle.std.proofs.Common.{◌≡◌, ◌∙◌, ◌+◌, ◌<◌, ◌≤◌, ℕ, ℤ, List, false, true, ap, drop, get_or, length, pos, arith}
+use Rattle.std.proofs.Common.{sym, to_z, of_z, if◌then◌else◌}
 use Rattle.std.specs.Prelude.{None, Option, Some, nat_le, option_and_then}
 use Rattle.std.specs.FinSet as set
 use Rattle.std.specs.Int.{w128}
@@ -15,10 +16,12 @@ use Rattle.staat_cert.proofs.line.set_of.Goals as goal
 -- what one number more makes of the set
 read_on : (zs : List ℤ) (i least : ℕ) (w : PartSet) (d : ℤ) (o : Option ℕ) (whole : Option PartSet) → i < length zs
     → o ≡ natural_from MOST_PARTS (get_or zs i d) → set_from least w (drop i zs) ≡ whole
-    → option_and_then (λ p. if nat_le least p then set_from (p + 1) (set.union w (single p)) (drop (i + 1) zs) else None) o
+    → option_and_then
+    (λ p. if nat_le least p then set_from (p + 1) (set.union w (single p)) (drop (i + 1) zs) else None) o
     ≡ whole
 read_on zs i least w d o whole lt is so_far =
-    ap (option_and_then (λ p. if nat_le least p then set_from (p + 1) (set.union w (single p)) (drop (i + 1) zs) else None)) is
+    ap (option_and_then
+    (λ p. if nat_le least p then set_from (p + 1) (set.union w (single p)) (drop (i + 1) zs) else None)) is
     ∙ sym (at_drop_more (set_from least w) zs i d lt)
     ∙ so_far
 
@@ -36,26 +39,35 @@ returns c =
 
 pub returns-in_err-p : goal.returns-in_err-p
 returns-in_err-p c =
-    let same : to_z w128 (of_z w128 (get_or c.args.numbers.now c.numbers.z-index (pos 0))) ≡ get_or c.args.numbers.now c.numbers.z-index (pos 0) = grind (arith, ints, to_z-of_z) in
+    let same : to_z w128 (of_z w128 (get_or c.args.numbers.now c.numbers.z-index (pos 0)))
+    ≡ get_or c.args.numbers.now c.numbers.z-index (pos 0) = grind (arith, ints, to_z-of_z) in
     c.from_residual.ensures
     ∙ read_on c.args.numbers.now c.numbers.z-index c.numbers.least c.numbers.w (pos 0) None _ c.numbers-test.true
     (sym c.in_err-p.was ∙ rw same at c.natural_of.ensures) c.numbers.invariant.0
 
 pub returns-then-p-least : goal.returns-then-p-least
 returns-then-p-least c =
-    let same : to_z w128 (of_z w128 (get_or c.args.numbers.now c.numbers.z-index (pos 0))) ≡ get_or c.args.numbers.now c.numbers.z-index (pos 0) = grind (arith, ints, to_z-of_z) in
+    let same : to_z w128 (of_z w128 (get_or c.args.numbers.now c.numbers.z-index (pos 0)))
+    ≡ get_or c.args.numbers.now c.numbers.z-index (pos 0) = grind (arith, ints, to_z-of_z) in
     too_low c.numbers.least c.in_ok-p.p _ c.if-p-least.true
-    ∙ read_on c.args.numbers.now c.numbers.z-index c.numbers.least c.numbers.w (pos 0) (Some c.in_ok-p.p) _ c.numbers-test.true
+    ∙ read_on c.args.numbers.now c.numbers.z-index c.numbers.least c.numbers.w (pos 0)
+    (Some c.in_ok-p.p) _ c.numbers-test.true
     (sym c.in_ok-p.was ∙ rw same at c.natural_of.ensures) c.numbers.invariant.0
 
 pub numbers-preserved : goal.numbers-preserved
 numbers-preserved c =
-    let same : to_z w128 (of_z w128 (get_or c.args.numbers.now c.numbers.z-index (pos 0))) ≡ get_or c.args.numbers.now c.numbers.z-index (pos 0) = grind (arith, ints, to_z-of_z) in
-    let found : Some c.in_ok-p.p ≡ natural_from MOST_PARTS (get_or c.args.numbers.now c.numbers.z-index (pos 0)) = sym c.in_ok-p.was ∙ rw same at c.natural_of.ensures in (
+    let same : to_z w128 (of_z w128 (get_or c.args.numbers.now c.numbers.z-index (pos 0)))
+    ≡ get_or c.args.numbers.now c.numbers.z-index (pos 0) = grind (arith, ints, to_z-of_z) in
+    let found : Some c.in_ok-p.p ≡ natural_from MOST_PARTS (get_or c.args.numbers.now c.numbers.z-index (pos 0)) =
+    sym c.in_ok-p.was ∙ rw same at c.natural_of.ensures in (
       ap (λ s. set_from (c.in_ok-p.p + 1) s (drop (c.numbers.z-index + 1) c.args.numbers.now))
           (c.union-w.ensures.is ∙ ap (set.union c.numbers.w) c.single.ensures.is)
           ∙ high_enough c.numbers.least c.in_ok-p.p _ c.if-p-least.false
-          ∙ read_on c.args.numbers.now c.numbers.z-index c.numbers.least c.numbers.w (pos 0) (Some c.in_ok-p.p) _ c.numbers-test.true
+          ∙ read_on c.args.numbers.now c.numbers.z-index c.numbers.least c.numbers.w (pos 0)
+          (Some c.in_ok-p.p) _ c.numbers-test.true
           found c.numbers.invariant.0,
-      omega (arith, (natural_found MOST_PARTS (get_or c.args.numbers.now c.numbers.z-index (pos 0)) c.in_ok-p.p (sym found)).1),
+      omega (
+        arith,
+        (natural_found MOST_PARTS (get_or c.args.numbers.now c.numbers.z-index (pos 0)) c.in_ok-p.p (sym found)).1,
+      ),
     )

@@ -1,4 +1,5 @@
-use Rattle.std.proofs.Common.{◌≡◌, ◌∙◌, ◌+◌, ◌++◌, ◌∷◌, ◌≤◌, [], List, ap, append-nil, arith, length, length-append, length-drop, subst, sym, ℕ}
+use Rattle.std.proofs.Common.{◌≡◌, ◌∙◌, ◌+◌, ◌++◌, ◌∷◌, ◌≤◌, [], List, ap, append-nil, arith, length, length-append}
+use Rattle.std.proofs.Common.{length-drop, subst, sym, ℕ}
 use Rattle.std.proofs.lemmas.Bool.{eqb-false}
 use Rattle.std.proofs.lemmas.Bool.Decides.{Decides-eqb}
 use Rattle.std.proofs.lemmas.List.{length-take}
@@ -30,16 +31,19 @@ returns c =
     record { count = all.0; read = all.1 }
 
 -- how many lines there are at most while a piece is read
-count_within : (old mid : Progress) (piece rest : List ℕ) → ReadFront old mid piece rest → mid.count ≤ old.count + length piece
+count_within : (old mid : Progress) (piece rest : List ℕ) → ReadFront old mid piece rest
+    → mid.count ≤ old.count + length piece
 count_within old mid piece rest h = omega (arith, h.count, simp length-append at (ap length h.is))
 
-count_more : (old mid : Progress) (piece rest run behind : List ℕ) → ReadFront old mid piece rest → IsRun rest run behind → 1 ≤ length behind → mid.count + 1 ≤ old.count + length piece
+count_more : (old mid : Progress) (piece rest run behind : List ℕ) → ReadFront old mid piece rest
+    → IsRun rest run behind → 1 ≤ length behind → mid.count + 1 ≤ old.count + length piece
 count_more old mid piece rest run behind h cut some =
     omega (arith, h.count, simp length-append at (ap length h.is), simp length-append at (ap length cut.is))
 
 pub returns-in_err-push_run-clause-count : goal.returns-in_err-push_run-clause-count
 returns-in_err-push_run-clause-count c =
-    rw c.push_run.ensures.count (count_within c.args.progress.now c.runs.progress c.args.piece.now c.runs.rest.now c.runs.invariant)
+    rw c.push_run.ensures.count
+    (count_within c.args.progress.now c.runs.progress c.args.piece.now c.runs.rest.now c.runs.invariant)
 
 pub returns-in_err-push_run-clause-read : goal.returns-in_err-push_run-clause-read
 returns-in_err-push_run-clause-read c =
@@ -52,22 +56,27 @@ runs-smaller-then-behind-lt1 c =
 
 pub runs-preserved-then-behind-lt1 : goal.runs-preserved-then-behind-lt1
 runs-preserved-then-behind-lt1 c =
-    front_more c.args.progress.now c.runs.progress c.push_run.new.progress c.args.piece.now c.runs.rest.now _ _ c.runs.invariant
-    c.cut_run.ensures.is (omega (arith, c.push_run.ensures.count)) (c.in_ok-push_run.ensures.read c.cut_run.ensures.inner)
+    front_more c.args.progress.now c.runs.progress c.push_run.new.progress c.args.piece.now c.runs.rest.now _ _
+    c.runs.invariant
+    c.cut_run.ensures.is (omega (arith, c.push_run.ensures.count))
+    (c.in_ok-push_run.ensures.read c.cut_run.ensures.inner)
 
 pub push-requires : goal.push-requires
 push-requires c =
-    let more = count_more c.args.progress.now c.runs.progress c.args.piece.now c.runs.rest.now _ _ c.runs.invariant c.cut_run.ensures c.in-len1-up.len_at_least in
+    let more = count_more c.args.progress.now c.runs.progress c.args.piece.now c.runs.rest.now _ _ c.runs.invariant
+    c.cut_run.ensures c.in-len1-up.len_at_least in
     rw c.push_run.ensures.count (omega (arith, more, c.requires))
 
 pub returns-in_err-push-in-len1-up-clause-count : goal.returns-in_err-push-in-len1-up-clause-count
 returns-in_err-push-in-len1-up-clause-count c =
-    let more = count_more c.args.progress.now c.runs.progress c.args.piece.now c.runs.rest.now _ _ c.runs.invariant c.cut_run.ensures c.in-len1-up.len_at_least in
+    let more = count_more c.args.progress.now c.runs.progress c.args.piece.now c.runs.rest.now _ _ c.runs.invariant
+    c.cut_run.ensures c.in-len1-up.len_at_least in
     omega (arith, more, c.push.ensures.count, c.push_run.ensures.count)
 
 pub returns-in_err-push-in-len1-up-clause-read : goal.returns-in_err-push-in-len1-up-clause-read
 returns-in_err-push-in-len1-up-clause-read c =
-    let p = err_from_is_err_and c.from_residual-in_err-push-in-len1-up.result c.from_residual-in_err-push-in-len1-up.ensures.1 in
+    let p = err_from_is_err_and c.from_residual-in_err-push-in-len1-up.result
+    c.from_residual-in_err-push-in-len1-up.ensures.1 in
     rw p.1 tt
 
 pub runs-smaller : goal.runs-smaller

@@ -13,7 +13,8 @@ use Rattle.staat_short.specs.ShortViews.{HasReadShort, front_of}
 use Rattle.staat_short.proofs.Steps.{text_found, text_short}
 use Rattle.staat_short.proofs.reader.ShortReader.finish.Goals as goal
 
-answered : (r : ShortReader) (text : List ℕ) (o : Option ShortCertificate) → o ≡ whole_certificate (front_of r.progress.stage)
+answered : (r : ShortReader) (text : List ℕ) (o : Option ShortCertificate)
+    → o ≡ whole_certificate (front_of r.progress.stage)
     → r.progress.is_bad ≡ false → length text ≤ TEXT_LIMIT → HasReadShort r.progress text
     → IsShortReadAnswer text (ok_or o ShortCert)
 answered r text None is good short read = (short, text_short _ _ _ _ text good (sym is) read)
@@ -29,7 +30,8 @@ returns-in-Some-clause-answer c = c.in-Some.ensures.answer
 pub returns-in-Some-clause-failed : goal.returns-in-Some-clause-failed
 returns-in-Some-clause-failed c = λ failing. ap (λ e. Err e) (c.in-Some.ensures.memory.1 failing)
 
-same_refusal : (r : CertRefusal) → ◌≡◌ {A = Result ShortCertificate CertRefusal} (Err r) (Err OutOfMemory) → r ≡ OutOfMemory
+same_refusal : (r : CertRefusal) → ◌≡◌ {A = Result ShortCertificate CertRefusal} (Err r) (Err OutOfMemory)
+    → r ≡ OutOfMemory
 same_refusal r e = cc
 
 pub returns-in-Some-clause-only : goal.returns-in-Some-clause-only
