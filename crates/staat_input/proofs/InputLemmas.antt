@@ -1,6 +1,6 @@
 -- Steps for the members of a list, one after another, and the parts that they give.
 use Rattle.std.proofs.Common.{◌≡◌, ◌∙◌, refl, sym, ap, ap₂, subst, arith, ℕ, ◌+◌, ◌<◌, ◌≤◌, List, [], ◌∷◌, ◌++◌, take, drop, map, length, get_or, All, Ok, Err, inl, inr, append_assoc, append-nil}
-use Rattle.std.specs.Prelude.{Result, IfErr, IsErrAnd, sum_by}
+use Rattle.std.specs.Prelude.{Result, IfErr, IsErrAnd, sum_by, IfOk, OnOk}
 use Rattle.std.proofs.Common.{lit≤}
 use Rattle.std.proofs.lemmas.List.{drop_more, drop_all, map_more, map-append, length-map}
 use Rattle.std.proofs.lemmas.List.Elements.{All-nil, All-cons, All-head, All-tail, All-append}
@@ -95,6 +95,25 @@ cause_from before mid after f le same h = h
 pub failed_with : {X : Type 0} (P : Fault → Type 0) (f : Fault) (r : Result X Fault) → P f → IsErrAnd r (λ e. e ≡ f) → IfErr r P
 failed_with P f (Ok x) h fails = absurd fails
 failed_with P f (Err e) h fails = subst P (sym fails) h
+
+-- nothing is said of a value where there is a fault
+pub no_value : {X : Type 0} (P : X → Type 0) (Q : Fault → Type 0) (r : Result X Fault) → IsErrAnd r Q → IfOk r P
+no_value P Q (Ok x) fails = absurd fails
+no_value P Q (Err f) fails = tt
+
+pub no_value_on : {X : Type 0} (P : Type 0) (Q : Fault → Type 0) (r : Result X Fault) → IsErrAnd r Q → OnOk r P
+no_value_on P Q (Ok x) fails = absurd fails
+no_value_on P Q (Err f) fails = tt
+
+-- want of memory is free
+pub memory_free : {X : Type 0} (Step : Found X → Type 0) (r : Result X Fault) → IsErrAnd r (λ e. e ≡ fault.OutOfMemory) → Follows Step r
+memory_free Step (Ok x) fails = absurd fails
+memory_free Step (Err f) fails = subst (λ g. Follows Step (Err g)) (sym fails) tt
+
+-- what holds in any case holds where there is a value
+pub value_on : {X : Type 0} (P : Type 0) (r : Result X Fault) → P → OnOk r P
+value_on P (Ok x) h = h
+value_on P (Err f) h = tt
 
 -- ---- the parts
 

@@ -12,6 +12,9 @@ use Rattle.staat_input.specs.Opened.{ReadsNames}
 use Rattle.staat_input.specs.Work.{Follows}
 use Rattle.staat_input.proofs.InputLemmas.{named_files}
 use Rattle.staat_input.proofs.OpenedLemmas.{list_refused, none_refused}
+use Rattle.staat_fault.specs.declared.fault.Fault.TheVariants.{OutOfMemory}
+use Rattle.staat_input.specs.Causes.{HasCause, IfTooLong, over}
+use Rattle.staat_input.proofs.InputLemmas.{failed_with, memory_free, no_value}
 use Rattle.staat_input.proofs.input.names_of.Goals as goal
 
 pub returns-in_err-listing-in-Files-clause-opens : goal.returns-in_err-listing-in-Files-clause-opens
@@ -54,3 +57,21 @@ pub returns-in_ok-listing-in-Files-clause-found : goal.returns-in_ok-listing-in-
 returns-in_ok-listing-in-Files-clause-found g c = λ files fit.
     subst (λ (i : Input). IsListingOfWithin c.args.limits files i (Ok c.in_ok-listing-in-Files.listing)) (sym c.in-Files.is)
     (ap (λ (l : List ListedPart). Ok l) (c.in_ok-listing-in-Files.ensures ∙ ap (map alone) c.as_slice.ensures))
+
+pub returns-in_err-listing-in-Files-clause-gave : goal.returns-in_err-listing-in-Files-clause-gave
+returns-in_err-listing-in-Files-clause-gave g c = no_value _ _ c.from_residual.result c.from_residual.ensures.1
+
+pub returns-in_err-listing-in-Files-clause-few : goal.returns-in_err-listing-in-Files-clause-few
+returns-in_err-listing-in-Files-clause-few g c = no_value _ _ c.from_residual.result c.from_residual.ensures.1
+
+pub returns-in_err-listing-in-Files-clause-names : goal.returns-in_err-listing-in-Files-clause-names
+returns-in_err-listing-in-Files-clause-names g c = no_value _ _ c.from_residual.result c.from_residual.ensures.1
+
+pub returns-in_err-listing-in-Files-clause-found : goal.returns-in_err-listing-in-Files-clause-found
+returns-in_err-listing-in-Files-clause-found g c = λ files fit. memory_free (IsListingOfWithin c.args.limits files c.args.input.now) c.from_residual.result c.from_residual.ensures.1
+
+pub returns-in_err-listing-in-Files-clause-cause : goal.returns-in_err-listing-in-Files-clause-cause
+returns-in_err-listing-in-Files-clause-cause g c = failed_with (HasCause (over (g.H.Shelf.told c.args.shelf.now) (g.H.Shelf.told c.args.shelf.now))) OutOfMemory c.from_residual.result tt c.from_residual.ensures.1
+
+pub returns-in_err-listing-in-Files-clause-named : goal.returns-in_err-listing-in-Files-clause-named
+returns-in_err-listing-in-Files-clause-named g c = failed_with (IfTooLong (MayName c.args.input.now)) OutOfMemory c.from_residual.result tt c.from_residual.ensures.1

@@ -14,6 +14,9 @@ use Rattle.staat_input.proofs.CauseLemmas.{named_wider}
 use Rattle.staat_input.proofs.InputLemmas.{Continues, each_failed, each_more, each_end, one_read}
 use Rattle.staat_input.proofs.OpenedLemmas.{part_more, parts_some}
 use Rattle.staat_input.proofs.SketchLemmas.{parts_more, pieces_counted}
+use Rattle.staat_fault.specs.declared.fault.Fault.TheVariants.{OutOfMemory}
+use Rattle.staat_input.specs.Causes.{HasCause, IfTooLong, over}
+use Rattle.staat_input.proofs.InputLemmas.{cause_from, failed_with, memory_free, no_value, no_value_on}
 use Rattle.staat_input.proofs.input.read_parts.Goals as goal
 
 pub returns-in_err-parts-clause-opens : goal.returns-in_err-parts-clause-opens
@@ -86,3 +89,52 @@ pub returns-clause-small : goal.returns-clause-small
 returns-clause-small g c = λ parts most le h.
     subst (λ (named : List ListedPart). AreSmall parts (most + sum_by (λ (n : ListedPart). length n.pieces) named) c.loop-named.sketch.solids.items) (take_all c.loop-named.named-index c.args.listing.now c.loop-named-test.false)
     (c.loop-named.invariant.small parts most le h)
+
+pub returns-in_err-parts-clause-found : goal.returns-in_err-parts-clause-found
+returns-in_err-parts-clause-found g c = λ files fit. memory_free (Each (IsPartOf files c.args.digits) c.args.listing.now) c.from_residual.result c.from_residual.ensures.1
+
+pub returns-in_err-parts-clause-read : goal.returns-in_err-parts-clause-read
+returns-in_err-parts-clause-read g c = no_value _ _ c.from_residual.result c.from_residual.ensures.1
+
+pub returns-in_err-parts-clause-drawn : goal.returns-in_err-parts-clause-drawn
+returns-in_err-parts-clause-drawn g c = λ files fit. no_value_on _ _ c.from_residual.result c.from_residual.ensures.1
+
+pub returns-in_err-parts-clause-small : goal.returns-in_err-parts-clause-small
+returns-in_err-parts-clause-small g c = λ parts most few small. no_value_on _ _ c.from_residual.result c.from_residual.ensures.1
+
+pub returns-in_err-parts-clause-cause : goal.returns-in_err-parts-clause-cause
+returns-in_err-parts-clause-cause g c = failed_with (HasCause (over (g.H.Shelf.told c.args.shelf.now) (g.H.Shelf.told c.args.shelf.now))) OutOfMemory c.from_residual.result tt c.from_residual.ensures.1
+
+pub returns-in_err-parts-clause-named : goal.returns-in_err-parts-clause-named
+returns-in_err-parts-clause-named g c = failed_with (IfTooLong (ListsPiece c.args.listing.now)) OutOfMemory c.from_residual.result tt c.from_residual.ensures.1
+
+pub returns-in_err-push-clause-found : goal.returns-in_err-push-clause-found
+returns-in_err-push-clause-found g c = λ files fit. memory_free (Each (IsPartOf files c.args.digits) c.args.listing.now) c.from_residual-in_err-push.result c.from_residual-in_err-push.ensures.1
+
+pub returns-in_err-push-clause-read : goal.returns-in_err-push-clause-read
+returns-in_err-push-clause-read g c = no_value _ _ c.from_residual-in_err-push.result c.from_residual-in_err-push.ensures.1
+
+pub returns-in_err-push-clause-drawn : goal.returns-in_err-push-clause-drawn
+returns-in_err-push-clause-drawn g c = λ files fit. no_value_on _ _ c.from_residual-in_err-push.result c.from_residual-in_err-push.ensures.1
+
+pub returns-in_err-push-clause-small : goal.returns-in_err-push-clause-small
+returns-in_err-push-clause-small g c = λ parts most few small. no_value_on _ _ c.from_residual-in_err-push.result c.from_residual-in_err-push.ensures.1
+
+pub returns-in_err-push-clause-cause : goal.returns-in_err-push-clause-cause
+returns-in_err-push-clause-cause g c = failed_with (HasCause (over (g.H.Shelf.told c.args.shelf.now) (g.H.Shelf.told c.read_part.new.shelf))) OutOfMemory c.from_residual-in_err-push.result tt c.from_residual-in_err-push.ensures.1
+
+pub returns-in_err-push-clause-named : goal.returns-in_err-push-clause-named
+returns-in_err-push-clause-named g c = failed_with (IfTooLong (ListsPiece c.args.listing.now)) OutOfMemory c.from_residual-in_err-push.result tt c.from_residual-in_err-push.ensures.1
+
+pub returns-in_err-read_part-clause-read : goal.returns-in_err-read_part-clause-read
+returns-in_err-read_part-clause-read g c = no_value _ _ c.from_residual-in_err-read_part.result c.from_residual-in_err-read_part.ensures.1
+
+pub returns-in_err-read_part-clause-drawn : goal.returns-in_err-read_part-clause-drawn
+returns-in_err-read_part-clause-drawn g c = λ files fit. no_value_on _ _ c.from_residual-in_err-read_part.result c.from_residual-in_err-read_part.ensures.1
+
+pub returns-in_err-read_part-clause-small : goal.returns-in_err-read_part-clause-small
+returns-in_err-read_part-clause-small g c = λ parts most few small. no_value_on _ _ c.from_residual-in_err-read_part.result c.from_residual-in_err-read_part.ensures.1
+
+pub returns-in_err-read_part-clause-cause : goal.returns-in_err-read_part-clause-cause
+returns-in_err-read_part-clause-cause g c = failed_with (HasCause (over (g.H.Shelf.told c.args.shelf.now) (g.H.Shelf.told c.read_part.new.shelf))) c.in_err-read_part.field-0.0 c.from_residual-in_err-read_part.result
+    (cause_from (g.H.Shelf.told c.args.shelf.now) (g.H.Shelf.told c.loop-named.shelf) (g.H.Shelf.told c.read_part.new.shelf) c.in_err-read_part.field-0.0 c.loop-named.invariant.count c.loop-named.invariant.holds c.in_err-read_part.ensures.cause) c.from_residual-in_err-read_part.ensures.1
