@@ -12,12 +12,14 @@ pub where_refused : {X E P : Type 0} (r : Result X E) → is_err r ≡ true → 
 where_refused (Ok x) wrong holds = absurd (false_true_clash false refl wrong)
 where_refused (Err e) is holds = holds
 
-pub not_lacking : (holds : Option (List (List ℕ × List ℕ))) (name : List ℕ) → IsSome (content_of holds name) → Lacks holds name → ⊥
+pub not_lacking : (holds : Option (List (List ℕ × List ℕ))) (name : List ℕ) → IsSome (content_of holds name)
+    → Lacks holds name → ⊥
 not_lacking None name there lacks = lacks
 not_lacking (Some files) name there lacks = false_true_clash false refl (subst IsSome lacks there)
 
 -- the name that is told of the open file is that of a held one
-pub told_held : (holds : Option (List (List ℕ × List ℕ))) (name : List ℕ) → (Lacks holds name → ⊥) → told_name holds name ≡ held_name holds name
+pub told_held : (holds : Option (List (List ℕ × List ℕ))) (name : List ℕ) → (Lacks holds name → ⊥)
+    → told_name holds name ≡ held_name holds name
 told_held None name has = refl
 told_held (Some files) name has = at (bytes_of name files) has where
   at : (o : Option (List ℕ)) → (o ≡ None → ⊥) → Some name ≡ option_map (λ _. name) o
@@ -25,8 +27,9 @@ told_held (Some files) name has = at (bytes_of name files) has where
   at (Some bytes) has = refl
 
 -- what was taken up to the end are all bytes of the file
-pub taken_whole : (holds : Option (List (List ℕ × List ℕ))) (name taken : List ℕ) (left : Option (List ℕ)) (held : List (List ℕ × List ℕ)) → (Lacks holds name → ⊥)
-    → Consumes (content_of holds name) left taken → IsAtEnd left → holds ≡ Some held → bytes_of name held ≡ Some taken
+pub taken_whole : (holds : Option (List (List ℕ × List ℕ))) (name taken : List ℕ) (left : Option (List ℕ))
+    (held : List (List ℕ × List ℕ)) → (Lacks holds name → ⊥) → Consumes (content_of holds name) left taken
+    → IsAtEnd left → holds ≡ Some held → bytes_of name held ≡ Some taken
 taken_whole None name taken left held has consumes end is = absurd (none-some held is)
 taken_whole (Some files) name taken left held has consumes end is =
     ap (λ h. content_of h name) (sym is) ∙ at (bytes_of name files) left has consumes end
@@ -37,11 +40,14 @@ taken_whole (Some files) name taken left held has consumes end is =
     at (Some xs) (Some ys) has consumes end = ap Some (consumes ∙ ap (λ r. taken ++ r) end ∙ append-nil taken)
 
 -- what was taken is no longer than the file
-pub taken_longer : (holds : Option (List (List ℕ × List ℕ))) (name taken : List ℕ) (limit : ℕ) (left : Option (List ℕ)) (held : List (List ℕ × List ℕ)) → (Lacks holds name → ⊥)
-    → limit < length taken → Consumes (content_of holds name) left taken → holds ≡ Some held → IsSomeAnd (bytes_of name held) (λ bytes. limit < length bytes)
+pub taken_longer : (holds : Option (List (List ℕ × List ℕ))) (name taken : List ℕ) (limit : ℕ) (left : Option (List ℕ))
+    (held : List (List ℕ × List ℕ)) → (Lacks holds name → ⊥) → limit < length taken
+    → Consumes (content_of holds name) left taken → holds ≡ Some held
+    → IsSomeAnd (bytes_of name held) (λ bytes. limit < length bytes)
 taken_longer None name taken limit left held has long consumes is = absurd (none-some held is)
 taken_longer (Some files) name taken limit left held has long consumes is =
-    subst (λ o. IsSomeAnd o (λ bytes. limit < length bytes)) (ap (λ h. content_of h name) is) (at (bytes_of name files) left has consumes)
+    subst (λ o. IsSomeAnd o (λ bytes. limit < length bytes)) (ap (λ h. content_of h name) is)
+    (at (bytes_of name files) left has consumes)
   where
     at : (o l : Option (List ℕ)) → (o ≡ None → ⊥) → Consumes o l taken → IsSomeAnd o (λ bytes. limit < length bytes)
     at None l has consumes = absurd (has refl)

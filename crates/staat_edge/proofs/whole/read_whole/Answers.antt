@@ -1,4 +1,6 @@
-use Rattle.std.proofs.Common.{⊎_elim, append-nil, ◌<◌, ◌≡◌, ◌∙◌, ◌≤◌, ◌+◌, ◌-◌, ◌∷◌, ◌++◌, ℕ, List, Option, None, Some, [], ap₂, true, false, drop, min, refl, ap, arith, le_trans, length, pos_of_ne-zero, sym, subst, take}
+use Rattle.std.proofs.Common.{⊎_elim, append-nil, ◌<◌, ◌≡◌, ◌∙◌, ◌≤◌, ◌+◌, ◌-◌, ◌∷◌, ◌++◌, ℕ, List, Option, None, Some}
+use Rattle.std.proofs.Common.{[], ap₂, true, false, drop, min, refl, ap, arith, le_trans, length, pos_of_ne-zero, sym}
+use Rattle.std.proofs.Common.{subst, take}
 use Rattle.std.specs.Prelude.{option_map}
 use Rattle.std.specs.Io.KnownBytes.{Consumes}
 use Rattle.std.proofs.KnownBytes.{Consumes-trans}
@@ -11,7 +13,8 @@ use Rattle.staat_edge.proofs.Taken.{not_lacking, taken_longer, taken_whole, told
 use Rattle.staat_edge.proofs.whole.read_whole.Goals as goal
 
 pub returns-then-is_err-clause-narrows : goal.returns-then-is_err-clause-narrows
-returns-then-is_err-clause-narrows g c = narrowed [] (g.H.Shelf.told c.args.shelf.now) (g.H.Shelf.told c.open.new.self) c.open.ensures.holds (
+returns-then-is_err-clause-narrows g c = narrowed [] (g.H.Shelf.told c.args.shelf.now)
+    (g.H.Shelf.told c.open.new.self) c.open.ensures.holds (
     where_refused c.open.result (sym c.is_err.ensures.value ∙ c.if-is_err.true) c.open.ensures.none_begun)
 
 pub returns-then-is_err-clause-no_fault : goal.returns-then-is_err-clause-no_fault
@@ -21,13 +24,24 @@ returns-then-is_err-clause-no_fault g c = λ there no_rise _. ⊎_elim
 
 -- the read had room for a byte
 had_room : (g : _) (c : goal.After-from_vec g) → 0 < length c.read.new.buf
-had_room g c = omega (arith, length-take c.min-want.result c.pieces.buf, c.read.auto.buf, c.min-want.ensures, c.len-in-pieces.ensures, c.len.ensures, c.pieces-test.true, c.pieces.taken.ok.0)
+had_room g c = omega (
+  arith,
+  length-take c.min-want.result c.pieces.buf,
+  c.read.auto.buf,
+  c.min-want.ensures,
+  c.len-in-pieces.ensures,
+  c.len.ensures,
+  c.pieces-test.true,
+  c.pieces.taken.ok.0,
+)
 
 -- the last read ended the reading
 ended : (g : _) (c : goal.After-from_vec g) → (g.H.Shelf.told c.read.new.self).given
     ≡ whole_reading c.args.name.now c.pieces.taken.items ∷ (g.H.Shelf.told c.args.shelf.now).given
-ended g c = ended_by c.read.new.buf c.args.name.now c.pieces.taken.items _ _ _ (had_room g c) c.pieces.invariant.given (
-    c.in-Ok-eq0.ensures.gave ∙ ap (λ n. after_read n c.read.new.buf (g.H.Shelf.told c.pieces.shelf).given) c.in-Ok-eq0.field-0-test)
+ended g c = ended_by c.read.new.buf c.args.name.now c.pieces.taken.items _ _ _ (had_room g c) c.pieces.invariant.given
+    (
+    c.in-Ok-eq0.ensures.gave ∙ ap (λ n. after_read n c.read.new.buf (g.H.Shelf.told c.pieces.shelf).given)
+    c.in-Ok-eq0.field-0-test)
 
 pub returns-in-Ok-eq0-clause-gave : goal.returns-in-Ok-eq0-clause-gave
 returns-in-Ok-eq0-clause-gave g c = ended g c
@@ -38,7 +52,8 @@ returns-in-Ok-eq0-clause-opens g c = (whole_reading c.args.name.now c.pieces.tak
 
 pub returns-in-Ok-eq0-clause-narrows : goal.returns-in-Ok-eq0-clause-narrows
 returns-in-Ok-eq0-clause-narrows g c =
-    narrowed (c.args.name.now ∷ []) (g.H.Shelf.told c.args.shelf.now) (g.H.Shelf.told c.read.new.self) (c.read.ensures.holds ∙ c.pieces.invariant.holds) (
+    narrowed (c.args.name.now ∷ []) (g.H.Shelf.told c.args.shelf.now) (g.H.Shelf.told c.read.new.self)
+    (c.read.ensures.holds ∙ c.pieces.invariant.holds) (
     all_some (c.args.name.now ∷ []) _ _ (returns-in-Ok-eq0-clause-opens g c))
 
 pub returns-in-Ok-eq0-clause-content : goal.returns-in-Ok-eq0-clause-content
@@ -57,7 +72,8 @@ returns-in-Ok-eq0-clause-content g c =
 pub returns-in_err-extend_from_slice-in-Ok-clause-narrows :
     goal.returns-in_err-extend_from_slice-in-Ok-clause-narrows
 returns-in_err-extend_from_slice-in-Ok-clause-narrows g c =
-    narrowed (c.args.name.now ∷ []) (g.H.Shelf.told c.args.shelf.now) (g.H.Shelf.told c.read.new.self) (c.read.ensures.holds ∙ c.pieces.invariant.holds) (
+    narrowed (c.args.name.now ∷ []) (g.H.Shelf.told c.args.shelf.now) (g.H.Shelf.told c.read.new.self)
+    (c.read.ensures.holds ∙ c.pieces.invariant.holds) (
     still_one c.in-Ok.count c.read.new.buf _ _ _ _ _ c.pieces.invariant.given c.in-Ok.ensures.gave)
 
 pub returns-in_err-extend_from_slice-in-Ok-clause-opens :
@@ -69,22 +85,26 @@ returns-in-Err-clause-opens g c = as_it_is _ _ _ _ (c.in-Err.ensures.gave ∙ c.
 
 pub returns-in-Err-clause-narrows : goal.returns-in-Err-clause-narrows
 returns-in-Err-clause-narrows g c =
-    narrowed (c.args.name.now ∷ []) (g.H.Shelf.told c.args.shelf.now) (g.H.Shelf.told c.read.new.self) (c.read.ensures.holds ∙ c.pieces.invariant.holds) (returns-in-Err-clause-opens g c)
+    narrowed (c.args.name.now ∷ []) (g.H.Shelf.told c.args.shelf.now) (g.H.Shelf.told c.read.new.self)
+    (c.read.ensures.holds ∙ c.pieces.invariant.holds) (returns-in-Err-clause-opens g c)
 
 pub returns-in-Err-clause-failed : goal.returns-in-Err-clause-failed
 returns-in-Err-clause-failed g c = λ _. c.in-Err.ensures.failed
-    ∙ ap₂ (failed_at true) (c.pieces.invariant.name ∙ told_held _ c.args.name.now c.pieces.invariant.has) c.pieces.invariant.failed
+    ∙ ap₂ (failed_at true) (c.pieces.invariant.name ∙ told_held _ c.args.name.now c.pieces.invariant.has)
+    c.pieces.invariant.failed
 
 pub returns-clause-opens : goal.returns-clause-opens
 returns-clause-opens g c = as_it_is _ _ _ _ c.pieces.invariant.given
 
 pub returns-clause-narrows : goal.returns-clause-narrows
 returns-clause-narrows g c =
-    narrowed (c.args.name.now ∷ []) (g.H.Shelf.told c.args.shelf.now) (g.H.Shelf.told c.pieces.shelf) c.pieces.invariant.holds (returns-clause-opens g c)
+    narrowed (c.args.name.now ∷ []) (g.H.Shelf.told c.args.shelf.now) (g.H.Shelf.told c.pieces.shelf)
+    c.pieces.invariant.holds (returns-clause-opens g c)
 
 pub returns-clause-longer : goal.returns-clause-longer
 returns-clause-longer g c = λ _.
-    let long : c.args.limit < length c.pieces.taken.items = omega (arith, c.pieces-test.false, c.len.ensures, c.pieces.taken.ok.0) in
+    let long : c.args.limit < length c.pieces.taken.items = omega
+    (arith, c.pieces-test.false, c.len.ensures, c.pieces.taken.ok.0) in
     longer_fits _ c.args.name.now c.pieces.taken.items c.args.limit _ _ long c.pieces.invariant.given (λ held is.
     taken_longer _ c.args.name.now c.pieces.taken.items c.args.limit _ held c.pieces.invariant.has long
     c.pieces.invariant.bytes (sym c.pieces.invariant.holds ∙ is))

@@ -68,10 +68,14 @@ pub returns-in_err-listing-in-Files-clause-names : goal.returns-in_err-listing-i
 returns-in_err-listing-in-Files-clause-names g c = no_value _ _ c.from_residual.result c.from_residual.ensures.1
 
 pub returns-in_err-listing-in-Files-clause-found : goal.returns-in_err-listing-in-Files-clause-found
-returns-in_err-listing-in-Files-clause-found g c = λ files fit. memory_free (IsListingOfWithin c.args.limits files c.args.input.now) c.from_residual.result c.from_residual.ensures.1
+returns-in_err-listing-in-Files-clause-found g c = λ files fit. memory_free
+    (IsListingOfWithin c.args.limits files c.args.input.now) c.from_residual.result c.from_residual.ensures.1
 
 pub returns-in_err-listing-in-Files-clause-cause : goal.returns-in_err-listing-in-Files-clause-cause
-returns-in_err-listing-in-Files-clause-cause g c = failed_with (HasCause (over (g.H.Shelf.told c.args.shelf.now) (g.H.Shelf.told c.args.shelf.now))) OutOfMemory c.from_residual.result tt c.from_residual.ensures.1
+returns-in_err-listing-in-Files-clause-cause g c = failed_with
+    (HasCause (over (g.H.Shelf.told c.args.shelf.now) (g.H.Shelf.told c.args.shelf.now))) OutOfMemory
+    c.from_residual.result tt c.from_residual.ensures.1
 
 pub returns-in_err-listing-in-Files-clause-named : goal.returns-in_err-listing-in-Files-clause-named
-returns-in_err-listing-in-Files-clause-named g c = failed_with (IfTooLong (MayName c.args.input.now)) OutOfMemory c.from_residual.result tt c.from_residual.ensures.1
+returns-in_err-listing-in-Files-clause-named g c = failed_with (IfTooLong (MayName c.args.input.now)) OutOfMemory
+    c.from_residual.result tt c.from_residual.ensures.1

@@ -22,7 +22,8 @@ returns-clause-small g c = λ parts most lt h.
     subst (λ (names : List (List ℕ)). AreSmall parts (most + length names) c.read_pieces.new.sketch.solids.items) c.as_slice-names.ensures (c.in_ok-pieces.ensures.small parts most lt h)
 
 pub returns-in_err-name-clause-found : goal.returns-in_err-name-clause-found
-returns-in_err-name-clause-found g c = λ files fit. memory_free (IsPartOf files c.args.digits c.args.named.now) c.from_residual.result c.from_residual.ensures.1
+returns-in_err-name-clause-found g c = λ files fit. memory_free (IsPartOf files c.args.digits c.args.named.now)
+    c.from_residual.result c.from_residual.ensures.1
 
 pub returns-in_err-name-clause-pieces : goal.returns-in_err-name-clause-pieces
 returns-in_err-name-clause-pieces g c = no_value _ _ c.from_residual.result c.from_residual.ensures.1
@@ -34,29 +35,40 @@ pub returns-in_err-name-clause-drawn : goal.returns-in_err-name-clause-drawn
 returns-in_err-name-clause-drawn g c = λ files fit. no_value_on _ _ c.from_residual.result c.from_residual.ensures.1
 
 pub returns-in_err-name-clause-small : goal.returns-in_err-name-clause-small
-returns-in_err-name-clause-small g c = λ parts most few small. no_value_on _ _ c.from_residual.result c.from_residual.ensures.1
+returns-in_err-name-clause-small g c = λ parts most few small. no_value_on _ _ c.from_residual.result
+    c.from_residual.ensures.1
 
 pub returns-in_err-name-clause-cause : goal.returns-in_err-name-clause-cause
-returns-in_err-name-clause-cause g c = failed_with (HasCause (over (g.H.Shelf.told c.args.shelf.now) (g.H.Shelf.told c.args.shelf.now))) OutOfMemory c.from_residual.result tt c.from_residual.ensures.1
+returns-in_err-name-clause-cause g c = failed_with (HasCause (over (g.H.Shelf.told c.args.shelf.now)
+    (g.H.Shelf.told c.args.shelf.now))) OutOfMemory c.from_residual.result tt c.from_residual.ensures.1
 
 pub returns-in_err-name-clause-named : goal.returns-in_err-name-clause-named
-returns-in_err-name-clause-named g c = failed_with (IfTooLong (Contains c.args.named.now.pieces)) OutOfMemory c.from_residual.result tt c.from_residual.ensures.1
+returns-in_err-name-clause-named g c = failed_with (IfTooLong (Contains c.args.named.now.pieces)) OutOfMemory
+    c.from_residual.result tt c.from_residual.ensures.1
 
 pub returns-in_err-pieces-clause-pieces : goal.returns-in_err-pieces-clause-pieces
-returns-in_err-pieces-clause-pieces g c = no_value _ _ c.from_residual-in_err-pieces.result c.from_residual-in_err-pieces.ensures.1
+returns-in_err-pieces-clause-pieces g c = no_value _ _ c.from_residual-in_err-pieces.result
+    c.from_residual-in_err-pieces.ensures.1
 
 pub returns-in_err-pieces-clause-each : goal.returns-in_err-pieces-clause-each
-returns-in_err-pieces-clause-each g c = no_value _ _ c.from_residual-in_err-pieces.result c.from_residual-in_err-pieces.ensures.1
+returns-in_err-pieces-clause-each g c = no_value _ _ c.from_residual-in_err-pieces.result
+    c.from_residual-in_err-pieces.ensures.1
 
 pub returns-in_err-pieces-clause-drawn : goal.returns-in_err-pieces-clause-drawn
-returns-in_err-pieces-clause-drawn g c = λ files fit. no_value_on _ _ c.from_residual-in_err-pieces.result c.from_residual-in_err-pieces.ensures.1
+returns-in_err-pieces-clause-drawn g c = λ files fit. no_value_on _ _ c.from_residual-in_err-pieces.result
+    c.from_residual-in_err-pieces.ensures.1
 
 pub returns-in_err-pieces-clause-small : goal.returns-in_err-pieces-clause-small
-returns-in_err-pieces-clause-small g c = λ parts most few small. no_value_on _ _ c.from_residual-in_err-pieces.result c.from_residual-in_err-pieces.ensures.1
+returns-in_err-pieces-clause-small g c = λ parts most few small. no_value_on _ _ c.from_residual-in_err-pieces.result
+    c.from_residual-in_err-pieces.ensures.1
 
 pub returns-in_err-pieces-clause-cause : goal.returns-in_err-pieces-clause-cause
-returns-in_err-pieces-clause-cause g c = failed_with (HasCause (over (g.H.Shelf.told c.args.shelf.now) (g.H.Shelf.told c.read_pieces.new.shelf))) c.in_err-pieces.field-0.0 c.from_residual-in_err-pieces.result c.in_err-pieces.ensures.cause c.from_residual-in_err-pieces.ensures.1
+returns-in_err-pieces-clause-cause g c = failed_with (HasCause
+    (over (g.H.Shelf.told c.args.shelf.now) (g.H.Shelf.told c.read_pieces.new.shelf))) c.in_err-pieces.field-0.0
+    c.from_residual-in_err-pieces.result c.in_err-pieces.ensures.cause c.from_residual-in_err-pieces.ensures.1
 
 pub returns-in_err-pieces-clause-named : goal.returns-in_err-pieces-clause-named
-returns-in_err-pieces-clause-named g c = failed_with (IfTooLong (Contains c.args.named.now.pieces)) c.in_err-pieces.field-0.0 c.from_residual-in_err-pieces.result
-    (subst (λ (names : List (List ℕ)). IfTooLong (Contains names) c.in_err-pieces.field-0.0) c.as_slice-names.ensures c.in_err-pieces.ensures.named) c.from_residual-in_err-pieces.ensures.1
+returns-in_err-pieces-clause-named g c = failed_with (IfTooLong (Contains c.args.named.now.pieces))
+    c.in_err-pieces.field-0.0 c.from_residual-in_err-pieces.result
+    (subst (λ (names : List (List ℕ)). IfTooLong (Contains names) c.in_err-pieces.field-0.0) c.as_slice-names.ensures
+    c.in_err-pieces.ensures.named) c.from_residual-in_err-pieces.ensures.1

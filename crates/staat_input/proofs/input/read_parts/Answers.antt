@@ -91,7 +91,8 @@ returns-clause-small g c = λ parts most le h.
     (c.loop-named.invariant.small parts most le h)
 
 pub returns-in_err-parts-clause-found : goal.returns-in_err-parts-clause-found
-returns-in_err-parts-clause-found g c = λ files fit. memory_free (Each (IsPartOf files c.args.digits) c.args.listing.now) c.from_residual.result c.from_residual.ensures.1
+returns-in_err-parts-clause-found g c = λ files fit. memory_free
+    (Each (IsPartOf files c.args.digits) c.args.listing.now) c.from_residual.result c.from_residual.ensures.1
 
 pub returns-in_err-parts-clause-read : goal.returns-in_err-parts-clause-read
 returns-in_err-parts-clause-read g c = no_value _ _ c.from_residual.result c.from_residual.ensures.1
@@ -100,41 +101,60 @@ pub returns-in_err-parts-clause-drawn : goal.returns-in_err-parts-clause-drawn
 returns-in_err-parts-clause-drawn g c = λ files fit. no_value_on _ _ c.from_residual.result c.from_residual.ensures.1
 
 pub returns-in_err-parts-clause-small : goal.returns-in_err-parts-clause-small
-returns-in_err-parts-clause-small g c = λ parts most few small. no_value_on _ _ c.from_residual.result c.from_residual.ensures.1
+returns-in_err-parts-clause-small g c = λ parts most few small. no_value_on _ _ c.from_residual.result
+    c.from_residual.ensures.1
 
 pub returns-in_err-parts-clause-cause : goal.returns-in_err-parts-clause-cause
-returns-in_err-parts-clause-cause g c = failed_with (HasCause (over (g.H.Shelf.told c.args.shelf.now) (g.H.Shelf.told c.args.shelf.now))) OutOfMemory c.from_residual.result tt c.from_residual.ensures.1
+returns-in_err-parts-clause-cause g c = failed_with (HasCause
+    (over (g.H.Shelf.told c.args.shelf.now) (g.H.Shelf.told c.args.shelf.now))) OutOfMemory c.from_residual.result tt
+    c.from_residual.ensures.1
 
 pub returns-in_err-parts-clause-named : goal.returns-in_err-parts-clause-named
-returns-in_err-parts-clause-named g c = failed_with (IfTooLong (ListsPiece c.args.listing.now)) OutOfMemory c.from_residual.result tt c.from_residual.ensures.1
+returns-in_err-parts-clause-named g c = failed_with (IfTooLong (ListsPiece c.args.listing.now)) OutOfMemory
+    c.from_residual.result tt c.from_residual.ensures.1
 
 pub returns-in_err-push-clause-found : goal.returns-in_err-push-clause-found
-returns-in_err-push-clause-found g c = λ files fit. memory_free (Each (IsPartOf files c.args.digits) c.args.listing.now) c.from_residual-in_err-push.result c.from_residual-in_err-push.ensures.1
+returns-in_err-push-clause-found g c = λ files fit. memory_free
+    (Each (IsPartOf files c.args.digits) c.args.listing.now) c.from_residual-in_err-push.result
+    c.from_residual-in_err-push.ensures.1
 
 pub returns-in_err-push-clause-read : goal.returns-in_err-push-clause-read
-returns-in_err-push-clause-read g c = no_value _ _ c.from_residual-in_err-push.result c.from_residual-in_err-push.ensures.1
+returns-in_err-push-clause-read g c = no_value _ _ c.from_residual-in_err-push.result
+    c.from_residual-in_err-push.ensures.1
 
 pub returns-in_err-push-clause-drawn : goal.returns-in_err-push-clause-drawn
-returns-in_err-push-clause-drawn g c = λ files fit. no_value_on _ _ c.from_residual-in_err-push.result c.from_residual-in_err-push.ensures.1
+returns-in_err-push-clause-drawn g c = λ files fit. no_value_on _ _ c.from_residual-in_err-push.result
+    c.from_residual-in_err-push.ensures.1
 
 pub returns-in_err-push-clause-small : goal.returns-in_err-push-clause-small
-returns-in_err-push-clause-small g c = λ parts most few small. no_value_on _ _ c.from_residual-in_err-push.result c.from_residual-in_err-push.ensures.1
+returns-in_err-push-clause-small g c = λ parts most few small. no_value_on _ _ c.from_residual-in_err-push.result
+    c.from_residual-in_err-push.ensures.1
 
 pub returns-in_err-push-clause-cause : goal.returns-in_err-push-clause-cause
-returns-in_err-push-clause-cause g c = failed_with (HasCause (over (g.H.Shelf.told c.args.shelf.now) (g.H.Shelf.told c.read_part.new.shelf))) OutOfMemory c.from_residual-in_err-push.result tt c.from_residual-in_err-push.ensures.1
+returns-in_err-push-clause-cause g c = failed_with (HasCause (over (g.H.Shelf.told c.args.shelf.now)
+    (g.H.Shelf.told c.read_part.new.shelf))) OutOfMemory c.from_residual-in_err-push.result tt
+    c.from_residual-in_err-push.ensures.1
 
 pub returns-in_err-push-clause-named : goal.returns-in_err-push-clause-named
-returns-in_err-push-clause-named g c = failed_with (IfTooLong (ListsPiece c.args.listing.now)) OutOfMemory c.from_residual-in_err-push.result tt c.from_residual-in_err-push.ensures.1
+returns-in_err-push-clause-named g c = failed_with (IfTooLong (ListsPiece c.args.listing.now)) OutOfMemory
+    c.from_residual-in_err-push.result tt c.from_residual-in_err-push.ensures.1
 
 pub returns-in_err-read_part-clause-read : goal.returns-in_err-read_part-clause-read
-returns-in_err-read_part-clause-read g c = no_value _ _ c.from_residual-in_err-read_part.result c.from_residual-in_err-read_part.ensures.1
+returns-in_err-read_part-clause-read g c = no_value _ _ c.from_residual-in_err-read_part.result
+    c.from_residual-in_err-read_part.ensures.1
 
 pub returns-in_err-read_part-clause-drawn : goal.returns-in_err-read_part-clause-drawn
-returns-in_err-read_part-clause-drawn g c = λ files fit. no_value_on _ _ c.from_residual-in_err-read_part.result c.from_residual-in_err-read_part.ensures.1
+returns-in_err-read_part-clause-drawn g c = λ files fit. no_value_on _ _ c.from_residual-in_err-read_part.result
+    c.from_residual-in_err-read_part.ensures.1
 
 pub returns-in_err-read_part-clause-small : goal.returns-in_err-read_part-clause-small
-returns-in_err-read_part-clause-small g c = λ parts most few small. no_value_on _ _ c.from_residual-in_err-read_part.result c.from_residual-in_err-read_part.ensures.1
+returns-in_err-read_part-clause-small g c = λ parts most few small. no_value_on _ _
+    c.from_residual-in_err-read_part.result c.from_residual-in_err-read_part.ensures.1
 
 pub returns-in_err-read_part-clause-cause : goal.returns-in_err-read_part-clause-cause
-returns-in_err-read_part-clause-cause g c = failed_with (HasCause (over (g.H.Shelf.told c.args.shelf.now) (g.H.Shelf.told c.read_part.new.shelf))) c.in_err-read_part.field-0.0 c.from_residual-in_err-read_part.result
-    (cause_from (g.H.Shelf.told c.args.shelf.now) (g.H.Shelf.told c.loop-named.shelf) (g.H.Shelf.told c.read_part.new.shelf) c.in_err-read_part.field-0.0 c.loop-named.invariant.count c.loop-named.invariant.holds c.in_err-read_part.ensures.cause) c.from_residual-in_err-read_part.ensures.1
+returns-in_err-read_part-clause-cause g c = failed_with (HasCause
+    (over (g.H.Shelf.told c.args.shelf.now) (g.H.Shelf.told c.read_part.new.shelf))) c.in_err-read_part.field-0.0
+    c.from_residual-in_err-read_part.result
+    (cause_from (g.H.Shelf.told c.args.shelf.now) (g.H.Shelf.told c.loop-named.shelf)
+    (g.H.Shelf.told c.read_part.new.shelf) c.in_err-read_part.field-0.0 c.loop-named.invariant.count
+    c.loop-named.invariant.holds c.in_err-read_part.ensures.cause) c.from_residual-in_err-read_part.ensures.1

@@ -84,7 +84,9 @@ returns-clause-small g c = λ parts most lt h.
     small_more parts (most + c.loop-name.name-index) (most + length c.args.names.now) c.loop-name.sketch.solids.items (omega (arith, c.loop-name-test.false)) (c.loop-name.invariant.small parts most lt h)
 
 pub returns-in_err-pieces-clause-found : goal.returns-in_err-pieces-clause-found
-returns-in_err-pieces-clause-found g c = λ files fit. memory_free (Each (IsMovedPieceOf files c.args.digits c.args.at) c.args.names.now) c.from_residual.result c.from_residual.ensures.1
+returns-in_err-pieces-clause-found g c = λ files fit. memory_free
+    (Each (IsMovedPieceOf files c.args.digits c.args.at) c.args.names.now) c.from_residual.result
+    c.from_residual.ensures.1
 
 pub returns-in_err-pieces-clause-pieces : goal.returns-in_err-pieces-clause-pieces
 returns-in_err-pieces-clause-pieces g c = no_value _ _ c.from_residual.result c.from_residual.ensures.1
@@ -96,47 +98,68 @@ pub returns-in_err-pieces-clause-drawn : goal.returns-in_err-pieces-clause-drawn
 returns-in_err-pieces-clause-drawn g c = λ files fit. no_value_on _ _ c.from_residual.result c.from_residual.ensures.1
 
 pub returns-in_err-pieces-clause-small : goal.returns-in_err-pieces-clause-small
-returns-in_err-pieces-clause-small g c = λ parts most few small. no_value_on _ _ c.from_residual.result c.from_residual.ensures.1
+returns-in_err-pieces-clause-small g c = λ parts most few small. no_value_on _ _ c.from_residual.result
+    c.from_residual.ensures.1
 
 pub returns-in_err-pieces-clause-cause : goal.returns-in_err-pieces-clause-cause
-returns-in_err-pieces-clause-cause g c = failed_with (HasCause (over (g.H.Shelf.told c.args.shelf.now) (g.H.Shelf.told c.args.shelf.now))) OutOfMemory c.from_residual.result tt c.from_residual.ensures.1
+returns-in_err-pieces-clause-cause g c = failed_with (HasCause
+    (over (g.H.Shelf.told c.args.shelf.now) (g.H.Shelf.told c.args.shelf.now))) OutOfMemory c.from_residual.result tt
+    c.from_residual.ensures.1
 
 pub returns-in_err-pieces-clause-named : goal.returns-in_err-pieces-clause-named
-returns-in_err-pieces-clause-named g c = failed_with (IfTooLong (Contains c.args.names.now)) OutOfMemory c.from_residual.result tt c.from_residual.ensures.1
+returns-in_err-pieces-clause-named g c = failed_with (IfTooLong (Contains c.args.names.now)) OutOfMemory
+    c.from_residual.result tt c.from_residual.ensures.1
 
 pub returns-in_err-push-clause-found : goal.returns-in_err-push-clause-found
-returns-in_err-push-clause-found g c = λ files fit. memory_free (Each (IsMovedPieceOf files c.args.digits c.args.at) c.args.names.now) c.from_residual-in_err-push.result c.from_residual-in_err-push.ensures.1
+returns-in_err-push-clause-found g c = λ files fit. memory_free
+    (Each (IsMovedPieceOf files c.args.digits c.args.at) c.args.names.now) c.from_residual-in_err-push.result
+    c.from_residual-in_err-push.ensures.1
 
 pub returns-in_err-push-clause-pieces : goal.returns-in_err-push-clause-pieces
-returns-in_err-push-clause-pieces g c = no_value _ _ c.from_residual-in_err-push.result c.from_residual-in_err-push.ensures.1
+returns-in_err-push-clause-pieces g c = no_value _ _ c.from_residual-in_err-push.result
+    c.from_residual-in_err-push.ensures.1
 
 pub returns-in_err-push-clause-each : goal.returns-in_err-push-clause-each
-returns-in_err-push-clause-each g c = no_value _ _ c.from_residual-in_err-push.result c.from_residual-in_err-push.ensures.1
+returns-in_err-push-clause-each g c = no_value _ _ c.from_residual-in_err-push.result
+    c.from_residual-in_err-push.ensures.1
 
 pub returns-in_err-push-clause-drawn : goal.returns-in_err-push-clause-drawn
-returns-in_err-push-clause-drawn g c = λ files fit. no_value_on _ _ c.from_residual-in_err-push.result c.from_residual-in_err-push.ensures.1
+returns-in_err-push-clause-drawn g c = λ files fit. no_value_on _ _ c.from_residual-in_err-push.result
+    c.from_residual-in_err-push.ensures.1
 
 pub returns-in_err-push-clause-small : goal.returns-in_err-push-clause-small
-returns-in_err-push-clause-small g c = λ parts most few small. no_value_on _ _ c.from_residual-in_err-push.result c.from_residual-in_err-push.ensures.1
+returns-in_err-push-clause-small g c = λ parts most few small. no_value_on _ _ c.from_residual-in_err-push.result
+    c.from_residual-in_err-push.ensures.1
 
 pub returns-in_err-push-clause-cause : goal.returns-in_err-push-clause-cause
-returns-in_err-push-clause-cause g c = failed_with (HasCause (over (g.H.Shelf.told c.args.shelf.now) (g.H.Shelf.told c.read_moved.new.shelf))) OutOfMemory c.from_residual-in_err-push.result tt c.from_residual-in_err-push.ensures.1
+returns-in_err-push-clause-cause g c = failed_with (HasCause (over (g.H.Shelf.told c.args.shelf.now)
+    (g.H.Shelf.told c.read_moved.new.shelf))) OutOfMemory c.from_residual-in_err-push.result tt
+    c.from_residual-in_err-push.ensures.1
 
 pub returns-in_err-push-clause-named : goal.returns-in_err-push-clause-named
-returns-in_err-push-clause-named g c = failed_with (IfTooLong (Contains c.args.names.now)) OutOfMemory c.from_residual-in_err-push.result tt c.from_residual-in_err-push.ensures.1
+returns-in_err-push-clause-named g c = failed_with (IfTooLong (Contains c.args.names.now)) OutOfMemory
+    c.from_residual-in_err-push.result tt c.from_residual-in_err-push.ensures.1
 
 pub returns-in_err-piece-clause-pieces : goal.returns-in_err-piece-clause-pieces
-returns-in_err-piece-clause-pieces g c = no_value _ _ c.from_residual-in_err-piece.result c.from_residual-in_err-piece.ensures.1
+returns-in_err-piece-clause-pieces g c = no_value _ _ c.from_residual-in_err-piece.result
+    c.from_residual-in_err-piece.ensures.1
 
 pub returns-in_err-piece-clause-each : goal.returns-in_err-piece-clause-each
-returns-in_err-piece-clause-each g c = no_value _ _ c.from_residual-in_err-piece.result c.from_residual-in_err-piece.ensures.1
+returns-in_err-piece-clause-each g c = no_value _ _ c.from_residual-in_err-piece.result
+    c.from_residual-in_err-piece.ensures.1
 
 pub returns-in_err-piece-clause-drawn : goal.returns-in_err-piece-clause-drawn
-returns-in_err-piece-clause-drawn g c = λ files fit. no_value_on _ _ c.from_residual-in_err-piece.result c.from_residual-in_err-piece.ensures.1
+returns-in_err-piece-clause-drawn g c = λ files fit. no_value_on _ _ c.from_residual-in_err-piece.result
+    c.from_residual-in_err-piece.ensures.1
 
 pub returns-in_err-piece-clause-small : goal.returns-in_err-piece-clause-small
-returns-in_err-piece-clause-small g c = λ parts most few small. no_value_on _ _ c.from_residual-in_err-piece.result c.from_residual-in_err-piece.ensures.1
+returns-in_err-piece-clause-small g c = λ parts most few small. no_value_on _ _ c.from_residual-in_err-piece.result
+    c.from_residual-in_err-piece.ensures.1
 
 pub returns-in_err-piece-clause-cause : goal.returns-in_err-piece-clause-cause
-returns-in_err-piece-clause-cause g c = failed_with (HasCause (over (g.H.Shelf.told c.args.shelf.now) (g.H.Shelf.told c.read_moved.new.shelf))) c.in_err-piece.field-0.0 c.from_residual-in_err-piece.result
-    (cause_from (g.H.Shelf.told c.args.shelf.now) (g.H.Shelf.told c.loop-name.shelf) (g.H.Shelf.told c.read_moved.new.shelf) c.in_err-piece.field-0.0 c.loop-name.invariant.count c.loop-name.invariant.holds c.in_err-piece.ensures.cause) c.from_residual-in_err-piece.ensures.1
+returns-in_err-piece-clause-cause g c = failed_with (HasCause
+    (over (g.H.Shelf.told c.args.shelf.now) (g.H.Shelf.told c.read_moved.new.shelf))) c.in_err-piece.field-0.0
+    c.from_residual-in_err-piece.result
+    (cause_from (g.H.Shelf.told c.args.shelf.now) (g.H.Shelf.told c.loop-name.shelf)
+    (g.H.Shelf.told c.read_moved.new.shelf) c.in_err-piece.field-0.0 c.loop-name.invariant.count
+    c.loop-name.invariant.holds c.in_err-piece.ensures.cause) c.from_residual-in_err-piece.ensures.1

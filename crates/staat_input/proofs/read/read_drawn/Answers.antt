@@ -30,7 +30,10 @@ pub returns-in_err-bytes-clause-counted : goal.returns-in_err-bytes-clause-count
 returns-in_err-bytes-clause-counted g c = no_value _ _ c.from_residual.result c.from_residual.ensures.1
 
 pub returns-in_err-bytes-clause-cause : goal.returns-in_err-bytes-clause-cause
-returns-in_err-bytes-clause-cause g c = failed_with (HasCause (over (g.H.Shelf.told c.args.shelf.now) (g.H.Shelf.told c.read_file.new.shelf))) c.in_err-bytes.field-0.0 c.from_residual.result c.in_err-bytes.ensures.cause c.from_residual.ensures.1
+returns-in_err-bytes-clause-cause g c = failed_with (HasCause
+    (over (g.H.Shelf.told c.args.shelf.now) (g.H.Shelf.told c.read_file.new.shelf))) c.in_err-bytes.field-0.0
+    c.from_residual.result c.in_err-bytes.ensures.cause c.from_residual.ensures.1
 
 pub returns-clause-cause : goal.returns-clause-cause
-returns-clause-cause g c = c.drawn_in.ensures.cause (over (g.H.Shelf.told c.args.shelf.now) (g.H.Shelf.told c.read_file.new.shelf))
+returns-clause-cause g c = c.drawn_in.ensures.cause (over (g.H.Shelf.told c.args.shelf.now)
+    (g.H.Shelf.told c.read_file.new.shelf))

@@ -24,18 +24,23 @@ returns-clause-found g c = λ files fit.
 
 pub returns-in_err-parts-clause-found : goal.returns-in_err-parts-clause-found
 returns-in_err-parts-clause-found g c = λ files fit.
-    then_failed (IsInputOfWithin PRODUCT files c.args.asked.now) IsTested c.in_err-parts.field-0.0 c.from_residual.result (c.in_err-parts.ensures.found files fit) c.from_residual.ensures.1
+    then_failed (IsInputOfWithin PRODUCT files c.args.asked.now) IsTested c.in_err-parts.field-0.0
+    c.from_residual.result (c.in_err-parts.ensures.found files fit) c.from_residual.ensures.1
 
 pub returns-in_err-parts-clause-cause : goal.returns-in_err-parts-clause-cause
 returns-in_err-parts-clause-cause g c =
-    failed_with (HasCause (over (g.H.Shelf.told c.args.shelf.now) (g.H.Shelf.told c.read_within.new.shelf))) c.in_err-parts.field-0.0 c.from_residual.result c.in_err-parts.ensures.cause c.from_residual.ensures.1
+    failed_with (HasCause (over (g.H.Shelf.told c.args.shelf.now) (g.H.Shelf.told c.read_within.new.shelf)))
+    c.in_err-parts.field-0.0 c.from_residual.result c.in_err-parts.ensures.cause c.from_residual.ensures.1
 
 pub returns-in_err-parts-clause-named : goal.returns-in_err-parts-clause-named
 returns-in_err-parts-clause-named g c =
-    failed_with (IfTooLong (MayName c.args.asked.now.input)) c.in_err-parts.field-0.0 c.from_residual.result c.in_err-parts.ensures.named c.from_residual.ensures.1
+    failed_with (IfTooLong (MayName c.args.asked.now.input)) c.in_err-parts.field-0.0 c.from_residual.result
+    c.in_err-parts.ensures.named c.from_residual.ensures.1
 
 pub returns-clause-cause : goal.returns-clause-cause
-returns-clause-cause g c = c.tested_product.ensures.cause (over (g.H.Shelf.told c.args.shelf.now) (g.H.Shelf.told c.read_within.new.shelf))
+returns-clause-cause g c = c.tested_product.ensures.cause (over (g.H.Shelf.told c.args.shelf.now)
+    (g.H.Shelf.told c.read_within.new.shelf))
 
 pub returns-clause-named : goal.returns-clause-named
-returns-clause-named g c = never_long (MayName c.args.asked.now.input) c.tested_product.result c.tested_product.ensures.cause
+returns-clause-named g c = never_long (MayName c.args.asked.now.input) c.tested_product.result
+    c.tested_product.ensures.cause
