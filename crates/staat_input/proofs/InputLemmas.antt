@@ -106,8 +106,8 @@ no_value_on P Q (Ok x) fails = absurd fails
 no_value_on P Q (Err f) fails = tt
 
 -- want of memory is free
-pub memory_free : {X : Type 0} (Step : Found X → Type 0) (r : Result X Fault)
-    → IsErrAnd r (λ e. e ≡ fault.OutOfMemory) → Follows Step r
+pub memory_free : {X : Type 0} (Step : Found X → Type 0) (r : Result X Fault) → IsErrAnd r
+    (λ e. e ≡ fault.OutOfMemory) → Follows Step r
 memory_free Step (Ok x) fails = absurd fails
 memory_free Step (Err f) fails = subst (λ g. Follows Step (Err g)) (sym fails) tt
 

@@ -19,8 +19,8 @@ tested_overlap parts r (asm.Overlap a i b j) e first = overlapping (record { a =
 tested_overlap parts r asm.OutOfMemory e first = tt
 
 -- what holds of the parts holds of those that are sound
-pub tested_same : (P : List Part → Type 0) (parts : List Part) (r : Result (List Part) Fault)
-    → Follows (IsTested parts) r → P parts → IfOk r P
+pub tested_same : (P : List Part → Type 0) (parts : List Part) (r : Result (List Part) Fault) → Follows
+    (IsTested parts) r → P parts → IfOk r P
 tested_same P parts (Ok found) (overlapping arc first wrong) h = absurd cc
 tested_same P parts (Ok found) (sound is e) h = let same : parts ≡ found = cc in subst P same h
 tested_same P parts (Err f) found h = tt

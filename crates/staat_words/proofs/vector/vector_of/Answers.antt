@@ -1,5 +1,4 @@
-use Rattle.std.proofs.Common.{◌≡◌, ◌≢◌, ◌<◌, ◌≤◌, ◌^◌, ◌∙◌, ◌&&◌, ℕ, ℤ, Bool, true, false, Option, Some, None, IfSome}
-use Rattle.std.proofs.Common.{ap, pos, refl, subst, sym}
+use Rattle.std.proofs.Common.{◌≡◌, ◌≢◌, ◌<◌, ◌≤◌, ◌^◌, ◌∙◌, ◌&&◌, ℕ, ℤ, Bool, true, false, Option, Some, None, IfSome, ap, pos, refl, subst, sym}
 use Rattle.std.proofs.Common.{arith, of_z, to_z, unsigned_abs}
 use Rattle.std.specs.Int.{w128}
 use Rattle.std.proofs.lemmas.Int.{ints, to_z-of_z}
@@ -26,11 +25,9 @@ taken P v found same holds = subst (λ o. IfSome o P) (sym same) (at (is_zero v)
 read_back : (most : ℕ) (z : ℤ) → most < 2 ^ 100 → unsigned_abs z ≤ most → to_z w128 (of_z w128 z) ≡ z
 read_back most z few bound = grind (arith, ints, to_z-of_z)
 
-vector_back : (most : ℕ) (x y z : ℤ) → most < 2 ^ 100 → unsigned_abs x ≤ most → unsigned_abs y ≤ most
-    → unsigned_abs z ≤ most
+vector_back : (most : ℕ) (x y z : ℤ) → most < 2 ^ 100 → unsigned_abs x ≤ most → unsigned_abs y ≤ most → unsigned_abs z ≤ most
     → vector (to_z w128 (of_z w128 x)) (to_z w128 (of_z w128 y)) (to_z w128 (of_z w128 z)) ≡ vector x y z
-vector_back most x y z few in_x in_y in_z = rw (read_back most x few in_x) rw (read_back most y few in_y)
-    rw (read_back most z few in_z) refl
+vector_back most x y z few in_x in_y in_z = rw (read_back most x few in_x) rw (read_back most y few in_y) rw (read_back most z few in_z) refl
 
 pub returns-in_err-first-clause-exact : goal.returns-in_err-first-clause-exact
 unfolding vector_within
@@ -71,8 +68,7 @@ returns-clause-exact c = went_on _ _ _ _ c.in_ok-first.ensures (went_on _ _ _ _ 
 
 pub returns-clause-bound : goal.returns-clause-bound
 returns-clause-bound c =
-    taken (IsWithin c.args.most) (vector c.in_ok-x.x c.in_ok-y.y c.in_ok-z.z) c.nonzero.result (by_numbers c)
-    (λ _. record {
+    taken (IsWithin c.args.most) (vector c.in_ok-x.x c.in_ok-y.y c.in_ok-z.z) c.nonzero.result (by_numbers c) (λ _. record {
       x = c.in_ok-x.ensures.found.bound;
       y = c.in_ok-y.ensures.found.bound;
       z = c.in_ok-z.ensures.found.bound;
