@@ -5,8 +5,8 @@
     python3 tools/guards.py --check    says whether the page is what it would write; status 1 where it is not
 
 A guard is a wrong body that the proof must refuse, a file of crates/NAME/must-fail, or a test. A wrong body aims at
-the public function in whose text it stands. Where it stands in a helper, it aims at each public function that reaches
-the helper by calls within the crate, or at those that it names itself:
+the public function in whose text it stands. Where it stands in a helper, it aims at each public function (in a program:
+at `main`) that reaches the helper by calls within the crate, or at those that it names itself:
 
     # aims at: sink_of
     # refused by: least of sink_of
@@ -27,6 +27,8 @@ from rattle_source import Crate, Function
 TOP = Path(__file__).resolve().parent.parent
 PAGE = "docs/GUARDS.md"
 MOST_EDITS = 10
+# What stands for the public functions of a program with wrong bodies.
+MAIN = "main"
 # The call that the program makes; each file tests/*.txt shows runs of the program.
 CALL = "staat"
 HEAD = """# What guards each public function
@@ -181,8 +183,10 @@ def tests_of(crate: Crate, of: Function, testing: Crate) -> list[str]:
 
 def guarded(folder: Path, crate: Crate, traits: set[str], crates: list[Crate]) -> Guarded:
     """Finds what guards each public function of the crate in a folder, with tests of any of the crates."""
-    public = crate.public_functions(traits)
     edits = [Edit.read(it) for it in sorted(folder.glob("must-fail/*.edit"))]
+    public = crate.public_functions(traits)
+    if edits and not public:
+        public = [it for it in crate.functions if it.title == MAIN]
     bodies: dict[str, list[tuple[Edit, str]]] = {it.title: [] for it in public}
     for edit in edits:
         for it, helper in aims_of(crate, public, edit):

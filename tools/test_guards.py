@@ -239,6 +239,21 @@ class Guards(unittest.TestCase):
         with mock.patch.object(guards, "CALL", "heaviest"):
             self.assertIn("| `tests`, `tests/weights.txt` |", self.page())
 
+    def test_program(self) -> None:
+        folder = self.top / "crates" / "weigh"
+        for part in ("src", "must-fail"):
+            (folder / part).mkdir(parents=True)
+        with (self.top / "crates.txt").open("a") as rows:
+            rows.write("weigh:\n")
+        (folder / "src" / "main.rt").write_text(
+            "fn twice(n: u32) -> u32\n    ensures { result ≡ n + n }\n{\n    n + n\n}\n"
+            "fn main() {\n    twice(1);\n}\n"
+        )
+        self.assertNotIn("## weigh", self.page())
+        edit = "file: src/main.rt\nold:     n + n\nnew:     n\n"
+        (folder / "must-fail" / "once.edit").write_text(edit)
+        self.assertIn("| `main` | `once` in `twice` | `twice` | - |", self.page())
+
     def test_check(self) -> None:
         self.assertEqual(self.run_it("--check")[0], 1)
         self.page()

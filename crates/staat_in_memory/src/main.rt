@@ -5,7 +5,7 @@
 #![tactic(auto)]
 
 ghost use Rattle.std.specs.Prelude.{IfSome, map, string_bytes};
-ghost use Rattle.staat_in_memory.specs.Parting.{AreParted};
+ghost use Rattle.staat_in_memory.specs.Parting.{FallApart};
 
 use staat_edge::{Calls, Files, MemoryShelf, StreamSink};
 use staat_top::staat;
@@ -30,7 +30,7 @@ fn load(rt: &HostRuntime, names: &[String]) -> Option<Files> {
 
 /// The words before the first `--`, and those behind it; none where there is no memory.
 fn parted(alloc: Global, given: Vec<String>) -> Option<(Vec<String>, Vec<String>)>
-    ensures { IfSome result (λ both. AreParted (map string_bytes given.items)
+    ensures { IfSome result (λ both. FallApart (map string_bytes given.items)
         (map string_bytes both.0.items) (map string_bytes both.1.items)) }
 {
     let mut names = Vec::new(alloc);
