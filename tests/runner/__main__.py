@@ -1,6 +1,7 @@
 """Proves everything and runs every test.
 
-    ./test                  `rt ci`, which proves all and builds the program, and then the steps below
+    ./test                  `rt ci`, which proves all and builds the program, and the steps below: most of them as
+                            soon as the program is built, the others behind `rt ci`
     ./test quick [STEP..]   the steps alone, or those that are named, with the program that is built
 
 The last line is `N passed, M failed` over all of it, and the status is 1 where something failed.
@@ -8,21 +9,30 @@ The last line is `N passed, M failed` over all of it, and the status is 1 where 
 
 from __future__ import annotations
 
+import filecmp
 import os
 import pathlib
 import re
+import shutil
 import subprocess
 import sys
+import tempfile
 import threading
 import time
-from concurrent.futures import ThreadPoolExecutor, as_completed
+from collections.abc import Callable
+from concurrent.futures import Future, ThreadPoolExecutor
 
 import needs
 import steps
 import times
+from turns import Turns
 
 BUILT = steps.TOP / "crates" / "staat_cli" / "out" / "staat_cli"
 STORED = steps.TOP / "bin" / "staat"  # the program that comes with the repository
+_IS_BUILT = re.compile(
+    r"rt: staat_cli (proved$|is kept:)"
+)  # what `rt ci` says once the program is there
+OLDER = "test: the program is older than the sources of the crates; ./test builds it anew"
 MEMORY = 3 << 30  # bytes for each check of `rt ci`: most take 1 to 2 GB, the greatest seen took 3.4
 
 
@@ -57,8 +67,11 @@ def lanes() -> int:
     return max(1, min(processors, 1024 * int(free.group(1)) // MEMORY if free else processors))
 
 
-def prove() -> tuple[steps.Result, list[str]]:
-    """Runs `rt ci`, printing what it prints, and answers its result and the table of its times."""
+def prove(begin: Callable[[], object]) -> tuple[steps.Result, list[str]]:
+    """Runs `rt ci`, printing what it prints, and answers its result and the table of its times.
+
+    `begin` is called once the program is built.
+    """
     began = time.monotonic()
     lines: list[str] = []
     with subprocess.Popen(
@@ -78,6 +91,8 @@ def prove() -> tuple[steps.Result, list[str]]:
         for line in process.stdout:
             print(line, end="", flush=True)
             lines.append(line)
+            if _IS_BUILT.match(line):
+                begin()
         _, ended, usage = os.wait4(process.pid, 0)
         status = process.returncode = os.waitstatus_to_exitcode(ended)
         sampler.end()
@@ -88,18 +103,44 @@ def prove() -> tuple[steps.Result, list[str]]:
     return result, table + times.dearest(sampler.edits(), steps.TOP)
 
 
-def run_steps(
-    chosen: list[steps.Step], program: pathlib.Path | None, missing: list[str]
-) -> list[steps.Result]:
-    """Runs steps side by side and says of each how it ended."""
-    results = []
-    with ThreadPoolExecutor(os.cpu_count()) as pool:
-        for job in as_completed(
-            [pool.submit(steps.run, step, program, missing) for step in chosen]
-        ):
-            results.append(job.result())
-            print(steps.report(results[-1]), flush=True)
-    return results
+def prove_and_run(
+    chosen: list[steps.Step], providing: Future[list[str]]
+) -> tuple[list[steps.Result], list[str]]:
+    """Runs `rt ci` and the steps, and answers all results and the table of times.
+
+    Once the program is built, one step after another runs beside the wrong bodies, with a copy of the program. The
+    late steps, and those that are left, run side by side when `rt ci` has ended. Where it has left another program
+    than that one, all steps run again.
+    """
+    turns = Turns(chosen)
+    early: list[Future[None]] = []
+    with tempfile.TemporaryDirectory() as room, ThreadPoolExecutor(1) as pool:
+        copy = pathlib.Path(room) / "staat"
+
+        def begin() -> None:
+            if BUILT.exists() and not early:
+                shutil.copy2(BUILT, copy)
+                early.append(
+                    pool.submit(lambda: turns.take(copy, providing.result(), is_early=True))
+                )
+
+        proofs, table = prove(begin)
+        program = BUILT if BUILT.exists() else None
+        if early and not (program and filecmp.cmp(copy, program, shallow=False)):
+            early.pop().result()
+            turns = Turns(chosen)
+        run_steps(turns, program, providing.result())
+        for job in early:
+            job.result()
+    return [proofs, *turns.results], table
+
+
+def run_steps(turns: Turns, program: pathlib.Path | None, missing: list[str]) -> None:
+    """Runs the steps that are left side by side."""
+    lanes_of_steps = os.cpu_count() or 1
+    with ThreadPoolExecutor(lanes_of_steps) as pool:
+        for job in [pool.submit(turns.take, program, missing) for _ in range(lanes_of_steps)]:
+            job.result()
 
 
 def main(words: list[str]) -> int:
@@ -115,18 +156,15 @@ def main(words: list[str]) -> int:
     table: list[str] = []
     with ThreadPoolExecutor(1) as pool:  # what the proofs do not need is installed beside them
         providing = pool.submit(needs.provide, wanted)
-        if not is_quick:
-            lacks_rt = needs.missing(["rt"])
-            proofs, table = (steps.Result("proofs", 0, 1, 0, ""), []) if lacks_rt else prove()
-            results.append(proofs)
-        missing = providing.result()
-    program = find_program() if is_quick else (BUILT if BUILT.exists() else None)
-    if is_quick and program == BUILT and steps.is_older(BUILT):
-        print(
-            "test: the program is older than the sources of the crates; ./test builds it anew",
-            file=sys.stderr,
-        )
-    results += run_steps(chosen, program, missing)
+        if is_quick or needs.missing(["rt"]):
+            turns = Turns(chosen)
+            program = find_program() if is_quick else (BUILT if BUILT.exists() else None)
+            if is_quick and program == BUILT and steps.is_older(BUILT):
+                print(OLDER, file=sys.stderr)
+            run_steps(turns, program, providing.result())
+            results = [steps.Result("proofs", 0, 1, 0, "")] * (not is_quick) + turns.results
+        else:
+            results, table = prove_and_run(chosen, providing)
     print("\n".join(["", *table, *(f"{it.name}: {it.seconds:.0f} seconds" for it in results)]))
     passed, failed = sum(it.passed for it in results), sum(it.failed for it in results)
     print(f"{passed} passed, {failed} failed", flush=True)

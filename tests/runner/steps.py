@@ -26,7 +26,8 @@ class Step:
     """A command that runs at the top of the repository. `{program}` in its words is the path of the built program.
 
     Where its last line is `N passed, M failed` these are counted; else it is one test, which its status decides.
-    is_quick: it runs in `./test quick`, too; is_named: it runs only where it is named; seconds: how long it may take
+    is_quick: it runs in `./test quick`, too; is_named: it runs only where it is named; is_late: it waits until the
+    proofs have ended, since it tells times, drives a browser, or looks at what they left; seconds: how long it may take
     """
 
     name: str
@@ -35,6 +36,7 @@ class Step:
     needs_program: bool = True
     is_quick: bool = True
     is_named: bool = False
+    is_late: bool = False
     seconds: int = SECONDS
 
 
@@ -73,17 +75,24 @@ STEPS = (
     Step("short", _python("tools/compare_short.py", "--program={program}", "--broken=400")),
     Step("planners", _python("tools/compare_planners.py", "--program={program}", "--made=400")),
     Step("shelves", _python("tools/compare_shelves.py", "{program}"), ("cc",), is_quick=False),
-    Step("pages", _python("tests/runner/pages.py", "{program}"), (*MODELS, *SHOW, "as1")),
+    Step(
+        "pages",
+        _python("tests/runner/pages.py", "{program}"),
+        (*MODELS, *SHOW, "as1"),
+        is_late=True,
+    ),
     Step(
         "show",
         _python("tests/runner/units.py", "workbench/tests/show"),
         (*SHOW, "assimp", "blender", "scipy"),
         is_quick=False,
+        is_late=True,
     ),
     Step(
         "workbench",
         _python("tests/runner/units.py", "workbench/tests/quick"),
         (*MODELS, "geomview"),
+        is_late=True,
     ),
     Step("transcripts", _python("tests/runner/transcripts.py", "{program}")),
     Step("gallery", _python("gallery/run", "{program}")),
@@ -92,6 +101,7 @@ STEPS = (
         _python("gallery/run", "--reports", "{program}"),
         (*MODELS, *SHOW, "as1"),
         is_quick=False,
+        is_late=True,
     ),
     Step("readings", _python("tools/compare_readings.py", "{program}")),
     Step("large files", _python("tools/most_memory.py", "{program}")),
@@ -108,6 +118,7 @@ STEPS = (
         _python("tests/runner/units.py", "workbench/tests/packaged"),
         (*MODELS, "as1", "cgal meshes", "geomview"),
         is_quick=False,
+        is_late=True,
     ),
     Step(
         "more models",
@@ -115,6 +126,7 @@ STEPS = (
         (*MODELS, "as1", "blender", "cgal meshes", "freecad", "geomview"),
         is_quick=False,
         is_named=True,
+        is_late=True,
         seconds=3 * SECONDS,
     ),
     Step(
@@ -124,9 +136,15 @@ STEPS = (
         needs_program=False,
         is_quick=False,
         is_named=True,
+        is_late=True,
         seconds=12 * SECONDS,
     ),
-    Step("stored program", _python("tools/compare_program.py", "{program}"), is_quick=False),
+    Step(
+        "stored program",
+        _python("tools/compare_program.py", "{program}"),
+        is_quick=False,
+        is_late=True,
+    ),
 )
 
 

@@ -22,10 +22,11 @@ _DEAREST = 12  # how many wrong bodies are named as the dearest
 
 @dataclass(frozen=True)
 class Seen:
-    """A process at one look: of what crate and kind it is, and the processor seconds that it used so far."""
+    """A process at one look: its crate, kind and folder, and the processor seconds that it used so far."""
 
     crate: str
     kind: str
+    place: str
     seconds: float
 
 
@@ -97,7 +98,7 @@ class Sampler:
         if os.path.basename(words[0]) == _PROCESS and "--crate-name" in words[:-1]:
             crate = words[words.index("--crate-name") + 1]
             self._seen[process, status.start] = Seen(
-                crate, _kind(words, place), status.ticks / self._ticks
+                crate, _kind(words, place), place, status.ticks / self._ticks
             )
 
     def run(self) -> None:
@@ -117,13 +118,17 @@ class Sampler:
         return dict(sums)
 
     def edits(self) -> dict[str, list[float]]:
-        """The processor seconds of each check of a wrong body, by crate, in the order in which they began."""
-        found: dict[str, list[float]] = collections.defaultdict(list)
-        for (process, start), seen in sorted(
-            self._seen.items(), key=lambda it: (it[0][1], it[0][0])
-        ):
+        """The processor seconds of each check of a wrong body, by crate, in the order in which they began.
+
+        Each has a folder of its own, where more than one process may be at work for it.
+        """
+        checks: dict[tuple[str, str], float] = collections.defaultdict(float)
+        for _, seen in sorted(self._seen.items(), key=lambda it: (it[0][1], it[0][0])):
             if seen.kind == "edits":
-                found[seen.crate].append(seen.seconds)
+                checks[seen.crate, seen.place] += seen.seconds
+        found: dict[str, list[float]] = collections.defaultdict(list)
+        for (crate, _), seconds in checks.items():
+            found[crate].append(seconds)
         return dict(found)
 
 
