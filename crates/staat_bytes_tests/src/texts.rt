@@ -84,25 +84,25 @@ fn a_line_for_each_verdict(rt: HostRuntime) {
     }
 }
 
-fn faults(rt: &impl Abort, alloc: Global, fault: &Fault, status: usize, want: &str) {
-    let line = fault_line(alloc, fault).expect(rt, "memory");
+fn faults(rt: &impl Abort, alloc: Global, fault: Fault, status: usize, want: &str) {
+    let line = fault_line(alloc, &fault).expect(rt, "memory");
     same_bytes(rt, line.as_slice(), want.as_bytes(), want);
-    same_count(rt, status_of(fault) as usize, status, want);
+    same_count(rt, status_of(&fault) as usize, status, want);
 }
 
 #[test]
 fn faults_have_lines_and_statuses(rt: HostRuntime) {
     let alloc = rt.alloc();
-    let fault = Fault::BadNumber(name(&rt, alloc, "a.off"), u64::MAX);
+    let number = Fault::BadNumber(name(&rt, alloc, "a.off"), u64::MAX);
     faults(
         &rt,
         alloc,
-        &fault,
+        number,
         3,
         "staat: a.off: bad number at 18446744073709551615\n",
     );
-    let fault = Fault::TextTooLong(134217729);
-    faults(&rt, alloc, &fault, 4, "staat: text too long (134217729)\n");
+    let length = Fault::TextTooLong(134217729);
+    faults(&rt, alloc, length, 4, "staat: text too long (134217729)\n");
 }
 
 #[test]

@@ -1,12 +1,32 @@
 // Worked directions: the cells of two cubes that touch, and what touches and holds back at once.
 use crate::fixtures::{BESIDE, CUBE, CUBES, Corners, Shape, is_across, sound, table, table_of};
-use staat_cells::{CellGraphs, all_cells, first_open};
+use staat_cells::{Cell, CellGraphs, all_cells, first_open};
 use staat_local::{local_graph, touch};
 use staat_model::{Arc, Kind};
+use staat_planes::PlaneTable;
 use staat_samples::at;
 use staat_vec::Sign;
 use std::alloc::Global;
 use std::process::Abort;
+
+// the cells of two cubes, whose last is open
+fn are_cells(rt: &impl Abort, cells: &[Cell]) {
+    assert!(rt; cells.len() == 26);
+    assert_eq!(rt;
+        [cells[0].kind, cells[6].kind, cells[18].kind],
+        [Kind::Point, Kind::Edge, Kind::Open]
+    );
+    assert!(rt; cells[25].signs.as_slice() == [Sign::Pos; 3].as_slice());
+    assert_eq!(rt; cells[25].d, at(1, 1, 2));
+}
+
+// the first two words of the graph of an open cell of the planes of a table
+fn rows_on(rt: &impl Abort, alloc: Global, table: &PlaneTable, signs: &[Sign]) -> [u32; 2] {
+    assert!(rt; signs.len() == 3 && table.len() == 3);
+    let graphs = CellGraphs::of(alloc, table).expect(rt, "memory");
+    let rows = graphs.graph_of(signs).rows;
+    [rows[0], rows[1]]
+}
 
 #[test]
 fn each_cell_has_the_graph_of_its_directions(rt: HostRuntime) {
@@ -14,21 +34,10 @@ fn each_cell_has_the_graph_of_its_directions(rt: HostRuntime) {
     let table = table(&rt, alloc, &CUBES);
     assert!(rt; table.len() == 3);
     let cells = all_cells(alloc, &table).expect(&rt, "memory");
-    let cells = cells.as_slice();
-    let graphs = CellGraphs::of(alloc, &table).expect(&rt, "memory");
-    assert!(rt; cells.len() == 26);
-    assert_eq!(rt;
-        [cells[0].kind, cells[6].kind, cells[18].kind],
-        [Kind::Point, Kind::Edge, Kind::Open]
-    );
-    let last = &cells[25];
-    assert_eq!(rt;
-        [first_open(table.planes()), last.d],
-        [at(-2, -1, -1), at(1, 1, 2)]
-    );
-    assert!(rt; last.signs.as_slice() == [Sign::Pos; 3].as_slice());
-    let rows = graphs.graph_of(last.signs.as_slice()).rows;
-    assert_eq!(rt; [rows[0], rows[1]], [0b10, 0]);
+    are_cells(&rt, cells.as_slice());
+    assert_eq!(rt; first_open(table.planes()), at(-2, -1, -1));
+    let rows = rows_on(&rt, alloc, &table, [Sign::Pos; 3].as_slice());
+    assert_eq!(rt; rows, [0b10, 0]);
 }
 
 const FIRST: Arc = Arc {

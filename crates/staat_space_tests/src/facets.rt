@@ -125,18 +125,27 @@ fn bowl(rt: &impl Abort, alloc: Global) -> Piece {
 }
 
 #[test]
-fn a_bowl_and_three_differences(rt: HostRuntime) {
+fn a_bowl_and_a_cube(rt: HostRuntime) {
     let alloc = rt.alloc();
     let bowl = bowl(&rt, alloc);
     let cube = box_of(&rt, alloc, [0, 0, 98, 7, 7, 105]);
+    assert!(rt;
+        is_same_by_both(&rt, alloc, &bowl, &cube) && is_same_by_both(&rt, alloc, &cube, &bowl)
+    );
     let facets = Scan.facets(alloc, &bowl, &cube).expect(&rt, "memory");
-    let found = [
-        is_same_by_both(&rt, alloc, &bowl, &cube),
-        is_same_by_both(&rt, alloc, &cube, &bowl),
-        facets.as_slice().contains(&at(0, 0, 1)),
-    ];
-    assert_eq!(rt; found, [true; 3]);
-    let diffs = [at(1, 0, 0), at(1, 1, 0), at(0, 1, 0)];
-    let (left, right) = furthest(diffs.as_slice(), at(0, 0, 1));
-    assert_eq!(rt; [left, right], [at(1, 0, 0), at(0, 1, 0)]);
+    assert!(rt; facets.as_slice().contains(&UPWARDS));
+}
+
+const UPWARDS: V3 = V3 { x: 0, y: 0, z: 1 };
+
+const DIFFERENCES: [V3; 3] = [
+    V3 { x: 1, y: 0, z: 0 },
+    V3 { x: 1, y: 1, z: 0 },
+    V3 { x: 0, y: 1, z: 0 },
+];
+
+#[test]
+fn three_differences(rt: HostRuntime) {
+    let (left, right) = furthest(DIFFERENCES.as_slice(), UPWARDS);
+    assert!(rt; left == DIFFERENCES[0] && right == DIFFERENCES[2]);
 }

@@ -5,7 +5,7 @@ use crate::fixtures::{
 };
 use staat_cone::{FacetSource, Plain};
 use staat_limits::{LEAST_PLANES, MOST_CELL_PLANES, MOST_PLANES};
-use staat_model::{Assembly, Kind, Outcome, Piece};
+use staat_model::{Assembly, Kind, Outcome, Piece, Sound};
 use staat_plan::{Options, Tabulated, certify, part_step, plan, plan_with_table};
 use staat_samples::at;
 use staat_vec::{OutOfMemory, V3};
@@ -60,8 +60,49 @@ fn pairs_of(assembly: &Assembly) -> u32 {
     pairs
 }
 
-// Plans the parts and certifies what comes. Each two pieces are asked for once, and none for the certificate; and once
-// by a plan alone. The marks of the plan, if it is one, are those that are wanted.
+// whether the marks of the plan, if it is one, are those that are wanted
+fn has_marks(outcome: &Outcome, wanted: Option<&[Kind]>) -> bool {
+    match outcome {
+        Outcome::Plan { marks, .. } => wanted == Some(marks.as_slice()),
+        Outcome::Stuck(_) => wanted.is_none(),
+    }
+}
+
+// Plans the parts and certifies what comes: each two pieces are asked for once, and none for the certificate.
+fn asks_once_for_both(
+    rt: &impl Abort,
+    alloc: Global,
+    source: &Counting,
+    parts: &Sound,
+    options: Options,
+    wanted: Option<&[Kind]>,
+) {
+    assert!(rt; options.planes >= LEAST_PLANES && options.planes <= MOST_PLANES);
+    assert!(rt; !options.robust || options.planes <= MOST_CELL_PLANES);
+    let found = plan_with_table(alloc, source, parts, options);
+    let (outcome, table) = found.expect(rt, "an outcome");
+    let planned = source.asked.get();
+    let kept = Tabulated::of(source, parts, &table);
+    let _certificate = certify(alloc, &kept, parts, &outcome, 2).expect(rt, "memory");
+    assert!(rt; source.asked.get() == planned && has_marks(&outcome, wanted));
+}
+
+// how often a plan alone asks
+fn asked_by_a_plan(
+    rt: &impl Abort,
+    alloc: Global,
+    source: &Counting,
+    parts: &Sound,
+    options: Options,
+) -> u32 {
+    assert!(rt; options.planes >= LEAST_PLANES && options.planes <= MOST_PLANES);
+    assert!(rt; !options.robust || options.planes <= MOST_CELL_PLANES);
+    let before = source.asked.get();
+    let _same = plan(alloc, source, parts, options).expect(rt, "an outcome");
+    source.asked.get().saturating_sub(before)
+}
+
+// A plan with its certificate asks once for each two pieces, and so does a plan alone.
 fn asks_once(
     rt: &impl Abort,
     alloc: Global,
@@ -73,22 +114,10 @@ fn asks_once(
     let source = Counting {
         asked: Cell::new(0),
     };
-    assert!(rt; options.planes >= LEAST_PLANES && options.planes <= MOST_PLANES);
-    assert!(rt; !options.robust || options.planes <= MOST_CELL_PLANES);
-    let found = plan_with_table(alloc, &source, &parts, options);
-    let (outcome, table) = found.expect(rt, "an outcome");
     let pairs = pairs_of(parts.assembly());
+    asks_once_for_both(rt, alloc, &source, &parts, options, wanted);
     assert_eq!(rt; source.asked.get(), pairs);
-    let kept = Tabulated::of(&source, &parts, &table);
-    let _certificate = certify(alloc, &kept, &parts, &outcome, 2).expect(rt, "memory");
-    assert_eq!(rt; source.asked.get(), pairs);
-    let _same = plan(alloc, &source, &parts, options).expect(rt, "an outcome");
-    assert_eq!(rt; source.asked.get(), pairs.saturating_mul(2));
-    let marks = match &outcome {
-        Outcome::Plan { marks, .. } => Some(marks.as_slice()),
-        Outcome::Stuck(_) => None,
-    };
-    assert_eq!(rt; marks, wanted);
+    assert_eq!(rt; asked_by_a_plan(rt, alloc, &source, &parts, options), pairs);
 }
 
 // the cube, the right wall, and a cube on the left

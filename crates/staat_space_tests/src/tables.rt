@@ -108,6 +108,20 @@ fn a_closed_box(rt: HostRuntime) {
     assert_eq!(rt; arcs, Some((1, (0, 1), (1, 0))));
 }
 
+const DOWN: [V3; 4] = [
+    V3 { x: -2, y: 0, z: -3 },
+    V3 { x: 0, y: -2, z: -3 },
+    V3 { x: 0, y: 2, z: -3 },
+    V3 { x: 2, y: 0, z: -3 },
+];
+
+const UP: [V3; 4] = [
+    V3 { x: -2, y: 0, z: 3 },
+    V3 { x: 0, y: -2, z: 3 },
+    V3 { x: 0, y: 2, z: 3 },
+    V3 { x: 2, y: 0, z: 3 },
+];
+
 #[test]
 fn a_box_with_a_lid(rt: HostRuntime) {
     let alloc = rt.alloc();
@@ -115,10 +129,8 @@ fn a_box_with_a_lid(rt: HostRuntime) {
     assert_eq!(rt; rows_at(&lidded, at(0, 0, 1)), [0b100, 0b101, 0]);
     let groups = strong_parts(&lidded.graph_at(at(0, 0, 1)), lidded.set());
     assert_eq!(rt; groups.count, 3);
-    let down = [at(-2, 0, -3), at(0, -2, -3), at(0, 2, -3), at(2, 0, -3)];
-    has_facets(&rt, alloc, &lidded, [2, 0, 1, 4], &down);
-    let up = [at(-2, 0, 3), at(0, -2, 3), at(0, 2, 3), at(2, 0, 3)];
-    has_facets(&rt, alloc, &lidded, [1, 4, 2, 0], &up);
+    has_facets(&rt, alloc, &lidded, [2, 0, 1, 4], &DOWN);
+    has_facets(&rt, alloc, &lidded, [1, 4, 2, 0], &UP);
 }
 
 // whether each plane is one of those of the parts
