@@ -9,7 +9,7 @@ ghost use Rattle.staat_plan.specs.Certifying.{CanBeCertified};
 ghost use Rattle.staat_text.specs.PlanTexts.{CanBeShown};
 ghost use Rattle.staat_words.specs.Requests.{IsNamedProduct};
 ghost use Rattle.staat_input.specs.Work.{Files, Follows};
-ghost use Rattle.staat_planning.specs.Drills.{IsDrilled, drill_line, parts_of_product, DrillWork};
+ghost use Rattle.staat_planning.specs.Drills.{IsCountedDrill, IsDrilled, drill_line, parts_of_product, DrillWork};
 ghost use Rattle.staat_input.specs.Counting.{all_parts};
 ghost use Rattle.staat_input.specs.Causes.{HasCause, ShelfSide};
 
@@ -100,6 +100,16 @@ fn drilled(
     Ok(Answer { status: 0, text })
 }
 
+// The answer for a sound product.
+fn counted(alloc: Global, name: DrillProduct, sound: &Sound) -> Result<Answer, Fault>
+    ensures status { IfOk result (λ a. a.status < 2) }
+    ensures drilled { Follows (IsCountedDrill name sound.now) result }
+    ensures cause { (shelf : ShelfSide) → IfErr result (HasCause shelf) }
+{
+    let (outcome, table) = outcome_of(alloc, sound, MOST_PLANES, false)?;
+    drilled(alloc, name, sound, &table, &outcome)
+}
+
 /// The answer to the command `drill`: a product that the program makes itself is planned, its certificate is written,
 /// read again and judged, and a line says what came of it. No file is read.
 pub fn drill(alloc: Global, name: DrillProduct) -> Result<Answer, Fault>
@@ -110,6 +120,5 @@ pub fn drill(alloc: Global, name: DrillProduct) -> Result<Answer, Fault>
 {
     let assembly = product(alloc, name)?;
     let sound = tested(alloc, assembly)?;
-    let (outcome, table) = outcome_of(alloc, &sound, MOST_PLANES, false)?;
-    drilled(alloc, name, &sound, &table, &outcome)
+    counted(alloc, name, &sound)
 }

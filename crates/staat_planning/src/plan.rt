@@ -70,7 +70,7 @@ pub fn outcome_of(
 
 /// The text of the certificate of an outcome.
 #[tactic(auto, using(crate::proofs::PlanLemmas::writing))]
-pub fn certificate_text(
+pub(crate) fn certificate_text(
     alloc: Global,
     sound: &Sound,
     table: &PlaneTable,
