@@ -21,6 +21,10 @@ pub data AreTabled (parts : List Part) : Found Answer → Type 0 where
   table_too_long : {found : Found Answer} (text : List ℕ) → IsCellsText parts (length parts) text →
       TEXT_LIMIT < length text → found ≡ Err (TextTooLong (length text)) → AreTabled parts found
 
+-- what it finds for sound parts: their planes are counted, and then the cells are told
+abbrev pub AreCountedCells : ℕ → List Part → Found Answer → Type 0
+AreCountedCells limit parts found = Then (AreCounted parts limit) (λ planes. AreTabled parts) found
+
 -- what the work on `cells` finds
 abbrev pub CellsWork : CellsRequest → Files → Found Answer → Type 0
 CellsWork request files found =

@@ -19,6 +19,10 @@ pub record IsGraphed (parts : List Part) (d : V3) (found : Found Answer) : Type 
   pub text_is : IsGraphText (length parts) d rows text
   pub is : found ≡ Ok (record { status = 0; text = text })
 
+-- what it finds for sound parts: their planes are counted, and then the graph is told
+abbrev pub IsCountedGraph : V3 → List Part → Found Answer → Type 0
+IsCountedGraph d parts found = Then (AreCounted parts MOST_PLANES) (λ planes. IsGraphed parts d) found
+
 -- what the work on `graph` finds
 abbrev pub GraphWork : GraphRequest → Files → Found Answer → Type 0
 GraphWork request files found =

@@ -3,12 +3,12 @@ ghost use Rattle.std.specs.Prelude.{◌≡◌, ◌≤◌, ◌<◌, IfOk, IfErr, 
 ghost use Rattle.std.specs.Prelude.{[]};
 ghost use Rattle.staat_input.specs.Opened.{OpensSomeOf};
 ghost use Rattle.staat_input.specs.declared.limits.TheConstants.Limits.{ASSEMBLY};
-ghost use Rattle.staat_limits.specs.declared.limits.TheConstants.{MOST_CELL_PLANES};
+ghost use Rattle.staat_limits.specs.declared.limits.TheConstants.{LEAST_PLANES, MOST_CELL_PLANES};
 ghost use Rattle.staat_words.specs.Requests.{IsCellsRequest};
 ghost use Rattle.staat_pairs.specs.Tables.{WasMadeFrom};
 ghost use Rattle.staat_edge.specs.Fitting.{Fit};
 ghost use Rattle.staat_input.specs.Work.{Files, Follows};
-ghost use Rattle.staat_directions.specs.CellTables.{AreTabled, CellsWork};
+ghost use Rattle.staat_directions.specs.CellTables.{AreCountedCells, AreTabled, CellsWork};
 ghost use Rattle.staat_input.specs.Counting.{all_parts};
 ghost use Rattle.staat_input.specs.Causes.{HasCause, ShelfSide, over};
 
@@ -39,6 +39,18 @@ fn tabled(alloc: Global, sound: &Sound, table: &PlaneTable) -> Result<Answer, Fa
     }
 }
 
+// The answer for a sound assembly that has at most so many planes.
+fn counted(alloc: Global, sound: &Sound, planes: u32) -> Result<Answer, Fault>
+    requires least { LEAST_PLANES ≤ planes }
+    requires most { planes ≤ MOST_CELL_PLANES }
+    ensures status { IfOk result (λ a. a.status < 2) }
+    ensures tabled { Follows (AreCountedCells planes sound.now) result }
+    ensures cause { (shelf : ShelfSide) → IfErr result (HasCause shelf) }
+{
+    let table = table_of(alloc, sound, planes)?;
+    tabled(alloc, sound, &table)
+}
+
 /// The answer to the command `cells`: all cells into which the planes of all parts cut the directions, each with the
 /// arcs of the blocking graph at every direction of the cell.
 #[tactic(auto, using(staat_input::proofs::OpenedLemmas::input_some))]
@@ -57,6 +69,5 @@ pub fn cells<H: Shelf>(
     ensures cause { IfErr result (HasCause (over (H.told shelf.old) (H.told shelf.new))) }
 {
     let sound = read_sound(alloc, shelf, &request.asked)?;
-    let table = table_of(alloc, &sound, request.planes)?;
-    tabled(alloc, &sound, &table)
+    counted(alloc, &sound, request.planes)
 }

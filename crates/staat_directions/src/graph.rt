@@ -8,9 +8,9 @@ ghost use Rattle.staat_words.specs.Requests.{IsGraphRequest};
 ghost use Rattle.staat_pairs.specs.Tables.{WasMadeFrom};
 ghost use Rattle.staat_edge.specs.Fitting.{Fit};
 ghost use Rattle.staat_input.specs.Work.{Files, Follows};
-ghost use Rattle.staat_directions.specs.Graphing.{IsGraphed, GraphWork};
+ghost use Rattle.staat_directions.specs.Graphing.{IsCountedGraph, IsGraphed, GraphWork};
 ghost use Rattle.staat_input.specs.Counting.{all_parts};
-ghost use Rattle.staat_input.specs.Causes.{HasCause, over};
+ghost use Rattle.staat_input.specs.Causes.{HasCause, ShelfSide, over};
 
 use staat_edge::Shelf;
 use staat_fault::Fault;
@@ -41,6 +41,18 @@ fn graphed(
     Ok(Answer { status: 0, text })
 }
 
+// The answer for a sound assembly.
+fn counted(alloc: Global, sound: &Sound, along: V3) -> Result<Answer, Fault>
+    requires { IsWithin DIRECTION along }
+    ensures status { IfOk result (λ a. a.status < 2) }
+    ensures graphed { Follows (IsCountedGraph along sound.now) result }
+    ensures cause { (shelf : ShelfSide) → IfErr result (HasCause shelf) }
+{
+    let table = table_of(alloc, sound, MOST_PLANES)?;
+    let answer = graphed(alloc, sound, &table, along)?;
+    Ok(answer)
+}
+
 /// The answer to the command `graph`: the arcs of the blocking graph along a direction, and its strong groups.
 #[tactic(auto, using(staat_input::proofs::OpenedLemmas::input_some))]
 pub fn graph<H: Shelf>(
@@ -58,7 +70,5 @@ pub fn graph<H: Shelf>(
     ensures cause { IfErr result (HasCause (over (H.told shelf.old) (H.told shelf.new))) }
 {
     let sound = read_sound(alloc, shelf, &request.asked)?;
-    let table = table_of(alloc, &sound, MOST_PLANES)?;
-    let answer = graphed(alloc, &sound, &table, request.along)?;
-    Ok(answer)
+    counted(alloc, &sound, request.along)
 }

@@ -3,13 +3,14 @@ ghost use Rattle.std.specs.Prelude.{◌≡◌, ◌≤◌, ◌<◌, ◌↔◌, �
 ghost use Rattle.std.specs.Prelude.{IsTrue, IfOk, IfErr};
 ghost use Rattle.std.specs.Prelude.{◌∷◌, []};
 ghost use Rattle.staat_edge.specs.Opening.{OpensSome};
+ghost use Rattle.staat_fault.specs.declared.fault.Fault.TheVariants.{OutOfMemory};
 ghost use Rattle.staat_vec.specs.Vectors.{IsWithin, dot};
 ghost use Rattle.staat_model.specs.Walls.{IsShown};
 ghost use Rattle.staat_words.specs.Requests.{IsPairRequest};
 ghost use Rattle.staat_edge.specs.Fitting.{Fit};
 ghost use Rattle.staat_input.specs.Work.{Files, Follows};
 ghost use Rattle.staat_directions.specs.Pairs.{IsJudged, PairWork};
-ghost use Rattle.staat_input.specs.Causes.{HasCause, over};
+ghost use Rattle.staat_input.specs.Causes.{HasCause, ShelfSide, over};
 
 use staat_cone::separates;
 use staat_edge::Shelf;
@@ -18,12 +19,13 @@ use staat_input::{Answer, read_piece};
 use staat_model::Piece;
 use staat_vec::{Bytes, DIRECTION, NORMAL, V3, dot};
 use staat_words::PairRequest;
-use std::alloc::{AllocError, Global};
+use std::alloc::Global;
 
 // The answer with this status and this text.
-fn answer(alloc: Global, status: u8, text: &[u8]) -> Result<Answer, AllocError>
+fn answer(alloc: Global, status: u8, text: &[u8]) -> Result<Answer, Fault>
     ensures status { IfOk result (λ a. a.status ≡ status) }
     ensures text { IfOk result (λ a. a.text ≡ text.now) }
+    ensures memory { IfErr result (λ fault. fault ≡ OutOfMemory) }
 {
     Ok(Answer {
         status,
@@ -49,12 +51,14 @@ fn is_shown(p: &Piece, q: &Piece, d: V3, n: V3) -> bool
     leads_away(n, d) && separates(n, p, q)
 }
 
+// The answer for two pieces.
 #[tactic(auto, using(crate::proofs::PairLemmas::judged))]
-fn judge(alloc: Global, p: &Piece, q: &Piece, along: V3, wall: V3) -> Result<Answer, AllocError>
+fn judge(alloc: Global, p: &Piece, q: &Piece, along: V3, wall: V3) -> Result<Answer, Fault>
     requires along { IsWithin DIRECTION along }
     requires wall { IsWithin NORMAL wall }
     ensures status { IfOk result (λ a. a.status < 2) }
-    ensures judged { IfOk result (λ a. IsJudged p.now q.now along wall (Ok a)) }
+    ensures judged { Follows (IsJudged p.now q.now along wall) result }
+    ensures cause { (shelf : ShelfSide) → IfErr result (HasCause shelf) }
 {
     if is_shown(p, q, along, wall) {
         answer(alloc, 0, b"free\n")
@@ -78,6 +82,5 @@ pub fn pair<H: Shelf>(alloc: Global, request: &PairRequest, shelf: &mut H) -> Re
 {
     let p = read_piece(alloc, request.digits, shelf, &request.first)?;
     let q = read_piece(alloc, request.digits, shelf, &request.second)?;
-    let answer = judge(alloc, &p, &q, request.along, request.wall)?;
-    Ok(answer)
+    judge(alloc, &p, &q, request.along, request.wall)
 }

@@ -28,6 +28,10 @@ pub record IsBegun (parts : List Part) (found : Found Answer) : Type 0 where
   pub is_found : IsFoundIn parts (all_parts parts) begins
   pub is : found ≡ Ok (local_answer (all_parts parts) begins)
 
+-- what it finds for sound parts: their planes are counted, and then the side that begins to move is told
+abbrev pub IsCountedBeginning : ℕ → List Part → Found Answer → Type 0
+IsCountedBeginning limit parts found = Then (AreCounted parts limit) (λ planes. IsBegun parts) found
+
 -- what the work on `local` finds
 abbrev pub LocalWork : LocalRequest → Files → Found Answer → Type 0
 LocalWork request files found =

@@ -29,6 +29,10 @@ pub record IsOrdered (parts : List Part) (found : Found Answer) : Type 0 where
   pub chosen : IsChosen parts (all_parts parts) order
   pub is : found ≡ Ok (order_answer order)
 
+-- what it finds for sound parts: their planes are counted, and then they are ordered
+abbrev pub IsCountedOrder : ℕ → List Part → Found Answer → Type 0
+IsCountedOrder limit parts found = Then (AreCounted parts limit) (λ planes. IsOrdered parts) found
+
 -- what the work on `linear` finds
 abbrev pub LinearWork : LinearRequest → Files → Found Answer → Type 0
 LinearWork request files found =

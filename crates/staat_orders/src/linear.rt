@@ -9,7 +9,7 @@ ghost use Rattle.staat_words.specs.Requests.{IsLinearRequest};
 ghost use Rattle.staat_edge.specs.Fitting.{Fit};
 ghost use Rattle.staat_input.specs.Work.{Files, Follows};
 ghost use Rattle.staat_input.specs.Counting.{AreCounted, all_parts};
-ghost use Rattle.staat_orders.specs.Ordering.{order_answer, LinearWork};
+ghost use Rattle.staat_orders.specs.Ordering.{IsCountedOrder, order_answer, LinearWork};
 ghost use Rattle.staat_input.specs.Causes.{HasCause, ShelfSide, over};
 
 use staat_cone::Scan;
@@ -50,6 +50,19 @@ fn answer_of(alloc: Global, order: &Order) -> Result<Answer, OutOfMemory>
     }
 }
 
+// The answer for a sound assembly that has at most so many planes.
+fn counted(alloc: Global, sound: &Sound, planes: u32) -> Result<Answer, Fault>
+    requires least { LEAST_PLANES ≤ planes }
+    requires most { planes ≤ MOST_PLANES }
+    ensures status { IfOk result (λ a. a.status < 2) }
+    ensures ordered { Follows (IsCountedOrder planes sound.now) result }
+    ensures cause { (shelf : ShelfSide) → IfErr result (HasCause shelf) }
+{
+    let order = order_of(alloc, sound, planes)?;
+    let answer = answer_of(alloc, &order)?;
+    Ok(answer)
+}
+
 /// The answer to the command `linear`: the order in which the parts are taken away, one at a time, each free of all
 /// that are left; or the parts of which none can be taken away.
 #[tactic(auto, using(staat_input::proofs::OpenedLemmas::input_some))]
@@ -68,7 +81,5 @@ pub fn linear<H: Shelf>(
     ensures cause { IfErr result (HasCause (over (H.told shelf.old) (H.told shelf.new))) }
 {
     let sound = read_sound(alloc, shelf, &request.asked)?;
-    let order = order_of(alloc, &sound, request.planes)?;
-    let answer = answer_of(alloc, &order)?;
-    Ok(answer)
+    counted(alloc, &sound, request.planes)
 }

@@ -3,13 +3,14 @@ ghost use Rattle.std.specs.Prelude.{◌≡◌, ◌≤◌, ◌<◌, Ok, Some, IfO
 ghost use Rattle.std.specs.Prelude.{[]};
 ghost use Rattle.staat_input.specs.Opened.{OpensSomeOf};
 ghost use Rattle.staat_input.specs.declared.limits.TheConstants.Limits.{ASSEMBLY};
+ghost use Rattle.staat_limits.specs.declared.limits.TheConstants.{LEAST_PLANES, MOST_PLANES};
 ghost use Rattle.staat_model.specs.Sets.{IsSide};
 ghost use Rattle.staat_words.specs.Requests.{IsLocalRequest};
 ghost use Rattle.staat_pairs.specs.Tables.{WasMadeFrom};
 ghost use Rattle.staat_local.specs.Beginnings.{IsFoundIn};
-ghost use Rattle.staat_orders.specs.Beginning.{IsBegun, local_status, LocalWork};
+ghost use Rattle.staat_orders.specs.Beginning.{IsBegun, IsCountedBeginning, local_status, LocalWork};
 ghost use Rattle.staat_input.specs.Counting.{all_parts};
-ghost use Rattle.staat_input.specs.Causes.{HasCause, over};
+ghost use Rattle.staat_input.specs.Causes.{HasCause, ShelfSide, over};
 ghost use Rattle.staat_edge.specs.Fitting.{Fit};
 ghost use Rattle.staat_input.specs.Work.{Files, Follows};
 
@@ -63,6 +64,19 @@ fn begun(alloc: Global, sound: &Sound, table: &PlaneTable) -> Result<Answer, Out
     })
 }
 
+// The answer for a sound assembly that has at most so many planes.
+fn counted(alloc: Global, sound: &Sound, planes: u32) -> Result<Answer, Fault>
+    requires least { LEAST_PLANES ≤ planes }
+    requires most { planes ≤ MOST_PLANES }
+    ensures status { IfOk result (λ a. a.status < 2) }
+    ensures begun { Follows (IsCountedBeginning planes sound.now) result }
+    ensures cause { (shelf : ShelfSide) → IfErr result (HasCause shelf) }
+{
+    let table = table_of(alloc, sound, planes)?;
+    let answer = begun(alloc, sound, &table)?;
+    Ok(answer)
+}
+
 /// The answer to the command `local`: the side of all parts that begins to move, or that none does.
 #[tactic(auto, using(staat_input::proofs::OpenedLemmas::input_some))]
 pub fn local<H: Shelf>(
@@ -80,7 +94,5 @@ pub fn local<H: Shelf>(
     ensures cause { IfErr result (HasCause (over (H.told shelf.old) (H.told shelf.new))) }
 {
     let sound = read_sound(alloc, shelf, &request.asked)?;
-    let table = table_of(alloc, &sound, request.planes)?;
-    let answer = begun(alloc, &sound, &table)?;
-    Ok(answer)
+    counted(alloc, &sound, request.planes)
 }

@@ -1,11 +1,9 @@
 -- What is said of a product that the program makes itself.
-use Rattle.std.proofs.Common.{◌≡◌, ◌∙◌, ◌<◌, ◌≤◌, ◌⊎◌, ℕ, List, length, Ok, Err, false, refl, ap, subst, inl, inr}
-use Rattle.std.specs.Prelude.{Result}
+use Rattle.std.proofs.Common.{◌≡◌, ◌∙◌, ◌<◌, ◌≤◌, ◌⊎◌, ℕ, List, length, Some, Ok, Err, false, refl, ap, subst, sym, inl, inr}
+use Rattle.std.specs.Prelude.{IsErrAnd, Result}
 use Rattle.staat_model.specs.declared.assembly.Part.{Part}
 use Rattle.staat_model.specs.declared.certificate.Certificate.{Certificate}
 use Rattle.staat_limits.specs.declared.limits.TheConstants.{TEXT_LIMIT}
-use Rattle.staat_model.specs.declared.refusal.TextRefusal.{TextRefusal}
-use Rattle.staat_model.specs.declared.refusal.TextRefusal.TheVariants as refusal
 use Rattle.staat_model.specs.declared.verdict.Verdict.{Verdict}
 use Rattle.staat_model.specs.declared.verdict.Verdict.TheVariants.{ValidPlan, ValidRefusal}
 use Rattle.staat_model.specs.Assemblies.{IsAssembly, IsSound}
@@ -20,7 +18,7 @@ use Rattle.staat_cert.specs.Feeds.{IsReadAnswer}
 use Rattle.staat_cert.specs.Writing.{IsTextAnswer}
 use Rattle.staat_cert.proofs.AnswerLemmas.{one_read_answer}
 use Rattle.staat_drill.proofs.ProductLemmas.{nest_is_assembly, row_is_assembly}
-use Rattle.staat_fault.specs.declared.fault.Fault.TheVariants.{TextTooLong}
+use Rattle.staat_fault.specs.declared.fault.Fault.{Fault}
 use Rattle.staat_plan.specs.Certifying.{IsValidFor}
 use Rattle.staat_words.specs.declared.request.DrillProduct.{DrillProduct}
 use Rattle.staat_words.specs.declared.request.DrillProduct.TheVariants.{Boxes, Cubes}
@@ -28,7 +26,9 @@ use Rattle.staat_words.specs.Requests.{IsNamedProduct}
 use Rattle.staat_input.specs.Work.{Follows}
 use Rattle.staat_planning.specs.Drills.{IsDrilled, drill_line, drill_too_long, drilled, parts_of_product}
 use Rattle.staat_input.specs.Counting.{all_parts}
-use Rattle.staat_input.specs.Refusals.{text_fault}
+use Rattle.staat_input.specs.declared.answer.Answer.{Answer}
+use Rattle.staat_input.proofs.InputLemmas.{follows_fault}
+use Rattle.staat_planning.specs.Planning.{IsWritten, certificate, text_too_long}
 use Rattle.staat_planning.specs.Drills.{SaysDrilled}
 
 pub product_is_assembly : (product : DrillProduct) → IsNamedProduct product → IsAssembly (parts_of_product product)
@@ -60,11 +60,18 @@ says_drilled product f c v is sound valid outcome certified judged =
       says = refl;
     }
 
--- the certificate's text is too long
-pub drill_refused : (product : DrillProduct) (parts : List Part) (f : Finding) (c : Certificate) (r : TextRefusal) → IsOutcome false parts (all_parts parts) f → IsCertificateOf parts 2 f c → IsTextAnswer c (Err r) → Follows (IsDrilled product parts) (Err (text_fault r))
-drill_refused product parts f c (refusal.TextTooLong n) outcome is (e, many) =
-    drill_too_long f c outcome is (subst (λ n. TEXT_LIMIT < n) e many) (ap (λ n. Err (TextTooLong n)) e)
-drill_refused product parts f c refusal.OutOfMemory outcome is answer = tt
+-- the certificate was not written
+same_fault : (g x : Fault) → ◌≡◌ {A = Result (List ℕ) Fault} (Err g) (Err x) → g ≡ x
+same_fault g x e = cc
+
+not_written : (product : DrillProduct) (parts : List Part) (f : Finding) (g : Fault) → IsOutcome false parts (all_parts parts) f → IsWritten parts f (Some 2) (Err g) → IsDrilled product parts (Err g)
+not_written product parts f g outcome (certificate c is short e) = absurd cc
+not_written product parts f g outcome (text_too_long c is many e) = drill_too_long f c outcome is many (ap Err (same_fault g _ e))
+
+pub drill_failed : (product : DrillProduct) (parts : List Part) (f : Finding) (e : Fault) (r : Result Answer Fault) → IsOutcome false parts (all_parts parts) f → Follows (IsWritten parts f (Some 2)) (Err e) → IsErrAnd r (λ x. x ≡ e) → Follows (IsDrilled product parts) r
+drill_failed product parts f e (Ok a) outcome h fails = absurd fails
+drill_failed product parts f e (Err x) outcome h fails = subst (λ g. Follows (IsDrilled product parts) (Err g)) (sym fails)
+    (follows_fault (IsWritten parts f (Some 2)) (IsDrilled product parts) e (λ g at. not_written product parts f g outcome at) h)
 
 -- what is read in the text that was written, unless there is no memory
 pub read_is : (c : Certificate) (text : List ℕ) (r : Result Certificate CertRefusal) → IsTextAnswer c (Ok text) → IsReadAnswer text r → (r ≡ Err NoMemory → ⊥) → r ≡ Ok c
@@ -92,8 +99,8 @@ no_bad_line c text k written read = other (read_is c text (Err (BadLine k)) writ
     no_fault e = cc
 
 -- the line for what was written, read and judged
-pub drill_answer : (product : DrillProduct) (parts : List Part) (f : Finding) (c d : Certificate) (v : Verdict) (bytes line : List ℕ) (n : ℕ) → IsOutcome false parts (all_parts parts) f → IsCertificateOf parts 2 f c → IsTextAnswer c (Ok bytes) → d ≡ c → IsVerdict parts d v → n ≡ length bytes
+pub drill_answer : (product : DrillProduct) (parts : List Part) (f : Finding) (c : Certificate) (v : Verdict) (bytes line : List ℕ) (n : ℕ) → IsOutcome false parts (all_parts parts) f → IsCertificateOf parts 2 f c → IsTextAnswer c (Ok bytes) → IsVerdict parts c v → n ≡ length bytes
     → line ≡ drill_line product f n v → IsDrilled product parts (Ok (record { status = 0; text = line }))
-drill_answer product parts f c d v bytes line n outcome is (written, short) same judged long says =
-    drilled f c v outcome is (subst (λ (t : List ℕ). length t ≤ TEXT_LIMIT) written.is short) (subst (λ (x : Certificate). IsVerdict parts x v) same judged)
+drill_answer product parts f c v bytes line n outcome is (written, short) judged long says =
+    drilled f c v outcome is (subst (λ (t : List ℕ). length t ≤ TEXT_LIMIT) written.is short) judged
     (ap (λ (t : List ℕ). Ok (record { status = 0; text = t })) (says ∙ ap (λ m. drill_line product f m v) (long ∙ ap length written.is)))

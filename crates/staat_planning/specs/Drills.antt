@@ -42,6 +42,10 @@ pub data IsDrilled (product : DrillProduct) (parts : List Part) : Found Answer �
       TEXT_LIMIT < length (text_of c) → found ≡ Err (TextTooLong (length (text_of c))) →
       IsDrilled product parts found
 
+-- what it finds for sound parts: their planes are counted, and then they are planned
+abbrev pub IsCountedDrill : DrillProduct → List Part → Found Answer → Type 0
+IsCountedDrill product parts found = Then (AreCounted parts MOST_PLANES) (λ planes. IsDrilled product parts) found
+
 -- what the work on `drill` finds, whatever the files are
 abbrev pub DrillWork : DrillProduct → Files → Found Answer → Type 0
 DrillWork product files found =

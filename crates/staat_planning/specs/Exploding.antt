@@ -71,6 +71,11 @@ pub record IsExploded (files : Files) (request : ExplodeRequest) (parts : List P
   pub outcome : IsOutcome false parts (all_parts parts) finding
   pub shown : IsOutcomeViewed parts (solids_of files request.asked.digits named) request.off finding found
 
+-- what it finds for sound parts: their planes are counted, and then they are shown
+abbrev pub IsCountedView : Files → ExplodeRequest → List Part → Found Answer → Type 0
+IsCountedView files request parts found =
+    Then (AreCounted parts request.planes) (λ planes. IsExploded files request parts) found
+
 -- what the work on `explode` finds
 abbrev pub ExplodeWork : ExplodeRequest → Files → Found Answer → Type 0
 ExplodeWork request files found =

@@ -49,6 +49,11 @@ pub record IsPlanned (parts : List Part) (robust : Bool) (certificate : Option �
   pub written : Then (IsWritten parts finding certificate) (λ text found. found ≡ Ok (outcome_answer finding text))
       found
 
+-- what it finds for sound parts: their planes are counted, and then they are planned
+abbrev pub IsCountedPlan : PlanRequest → List Part → Found Answer → Type 0
+IsCountedPlan request parts found =
+    Then (AreCounted parts request.planes) (λ planes. IsPlanned parts request.robust request.certificate) found
+
 -- what the work on `plan` finds
 abbrev pub PlanWork : PlanRequest → Files → Found Answer → Type 0
 PlanWork request files found =

@@ -1,29 +1,26 @@
 // The command `drill`: the program tried on a product of its own.
 ghost use Rattle.std.specs.Prelude.{◌≡◌, ◌<◌, Ok, IfOk, IfErr, false};
 ghost use Rattle.staat_model.specs.declared.certificate.Certificate.{Certificate as CertificateValue};
-ghost use Rattle.staat_model.specs.Certify.{IsCertificateOf};
 ghost use Rattle.staat_model.specs.Outcomes.{IsOutcome, finding_of};
-ghost use Rattle.staat_model.specs.Texts.{IsWellFormed};
+ghost use Rattle.staat_model.specs.Reasons.{IsVerdict};
 ghost use Rattle.staat_cert.specs.Writing.{IsTextAnswer};
 ghost use Rattle.staat_pairs.specs.Tables.{WasMadeFrom};
 ghost use Rattle.staat_plan.specs.Certifying.{CanBeCertified};
 ghost use Rattle.staat_text.specs.PlanTexts.{CanBeShown};
 ghost use Rattle.staat_words.specs.Requests.{IsNamedProduct};
 ghost use Rattle.staat_input.specs.Work.{Files, Follows};
-ghost use Rattle.staat_planning.specs.Drills.{IsDrilled, drill_line, parts_of_product, DrillWork};
+ghost use Rattle.staat_planning.specs.Drills.{IsCountedDrill, IsDrilled, drill_line, parts_of_product, DrillWork};
 ghost use Rattle.staat_input.specs.Counting.{all_parts};
 ghost use Rattle.staat_input.specs.Causes.{HasCause, ShelfSide};
 
-use crate::plan::outcome_of;
-use staat_cert::{CertRefusal, cert_text, read_cert};
+use crate::plan::{certificate_text, outcome_of};
+use staat_cert::{CertRefusal, read_cert};
 use staat_check::check;
-use staat_cone::Scan;
 use staat_drill::{nested_boxes, row_of_cubes};
 use staat_fault::Fault;
-use staat_input::{Answer, tested, text_fault};
+use staat_input::{Answer, tested};
 use staat_limits::MOST_PLANES;
 use staat_model::{Assembly, Certificate, Outcome, Sound, Verdict};
-use staat_plan::{Tabulated, certify};
 use staat_planes::PlaneTable;
 use staat_text::drill_text;
 use staat_vec::{Bytes, OutOfMemory};
@@ -53,6 +50,15 @@ fn read_again(alloc: Global, text: &Bytes) -> Result<Certificate, OutOfMemory>
         Err(CertRefusal::ShortCert) => unreachable!(),
         Err(CertRefusal::TooLong) => unreachable!(),
     }
+}
+
+// The verdict on the certificate that is read in a text.
+fn judged(alloc: Global, sound: &Sound, text: &Bytes) -> Result<Verdict, OutOfMemory>
+    requires { (c : CertificateValue) × IsTextAnswer c (Ok text.now) }
+    ensures { (c : CertificateValue) → IsTextAnswer c (Ok text.now) → IfOk result (IsVerdict sound.now c) }
+{
+    let read = read_again(alloc, text)?;
+    check(alloc, sound, &read)
 }
 
 // The line of a product, with the verdict on the certificate that is read in the text.
@@ -88,17 +94,20 @@ fn drilled(
     ensures drilled { Follows (IsDrilled name sound.now) result }
     ensures cause { (shelf : ShelfSide) → IfErr result (HasCause shelf) }
 {
-    let source = Tabulated::of(&Scan, sound, table);
-    let certificate = certify(alloc, &source, sound, outcome, 2)?;
-    match cert_text(alloc, &certificate) {
-        Ok(text) => {
-            let read = read_again(alloc, &text)?;
-            let verdict = check(alloc, sound, &read)?;
-            let text = line(alloc, name, outcome, text.as_slice().len(), &verdict)?;
-            Ok(Answer { status: 0, text })
-        }
-        Err(refusal) => Err(text_fault(refusal)),
-    }
+    let certificate = certificate_text(alloc, sound, table, outcome, 2)?;
+    let verdict = judged(alloc, sound, &certificate)?;
+    let text = line(alloc, name, outcome, certificate.as_slice().len(), &verdict)?;
+    Ok(Answer { status: 0, text })
+}
+
+// The answer for a sound product.
+fn counted(alloc: Global, name: DrillProduct, sound: &Sound) -> Result<Answer, Fault>
+    ensures status { IfOk result (λ a. a.status < 2) }
+    ensures drilled { Follows (IsCountedDrill name sound.now) result }
+    ensures cause { (shelf : ShelfSide) → IfErr result (HasCause shelf) }
+{
+    let (outcome, table) = outcome_of(alloc, sound, MOST_PLANES, false)?;
+    drilled(alloc, name, sound, &table, &outcome)
 }
 
 /// The answer to the command `drill`: a product that the program makes itself is planned, its certificate is written,
@@ -111,6 +120,5 @@ pub fn drill(alloc: Global, name: DrillProduct) -> Result<Answer, Fault>
 {
     let assembly = product(alloc, name)?;
     let sound = tested(alloc, assembly)?;
-    let (outcome, table) = outcome_of(alloc, &sound, MOST_PLANES, false)?;
-    drilled(alloc, name, &sound, &table, &outcome)
+    counted(alloc, name, &sound)
 }

@@ -1,5 +1,5 @@
 // The command `explode`: how far each part moves, so that all parts stand apart for a drawing.
-ghost use Rattle.std.specs.Prelude.{◌≡◌, ◌≤◌, ◌<◌, IfOk, IfErr, All, length, true};
+ghost use Rattle.std.specs.Prelude.{◌≡◌, ◌≤◌, ◌<◌, Ok, IfOk, IfErr, List, All, length, true};
 ghost use Rattle.std.specs.Prelude.{[]};
 ghost use Rattle.staat_input.specs.Opened.{OpensSomeOf};
 ghost use Rattle.staat_input.specs.declared.limits.TheConstants.Limits.{ASSEMBLY};
@@ -7,6 +7,7 @@ ghost use Rattle.staat_vec.specs.Vectors.{IsWithin};
 ghost use Rattle.staat_limits.specs.declared.limits.TheConstants.{MOST_PIECES};
 ghost use Rattle.staat_model.specs.Outcomes.{finding_of};
 ghost use Rattle.staat_model.specs.Plans.{IsGood, plan_of};
+ghost use Rattle.staat_manifest.specs.declared.listing.ListedPart.{ListedPart as ListedPartValue};
 ghost use Rattle.staat_explode.specs.declared.grow.TheConstants.{FARTHEST};
 ghost use Rattle.staat_explode.specs.Sizes.{HasDirections};
 ghost use Rattle.staat_plan.specs.Certifying.{CanBeCertified};
@@ -14,8 +15,9 @@ ghost use Rattle.staat_text.specs.PlanTexts.{CanBeShown};
 ghost use Rattle.staat_words.specs.Requests.{IsExplodeRequest};
 ghost use Rattle.staat_edge.specs.Fitting.{Fit};
 ghost use Rattle.staat_input.specs.Work.{Files, Follows};
-ghost use Rattle.staat_input.specs.Drawing.{AreSmall};
-ghost use Rattle.staat_planning.specs.Exploding.{explode_fault, AreShifted, ExplodeWork};
+ghost use Rattle.staat_input.specs.Inputs.{IsListingOf};
+ghost use Rattle.staat_input.specs.Drawing.{AreSmall, solids_of};
+ghost use Rattle.staat_planning.specs.Exploding.{explode_fault, AreShifted, ExplodeWork, IsCountedView};
 ghost use Rattle.staat_planning.specs.Exploding.{IsPlanViewed, IsOutcomeViewed, IsViewed};
 ghost use Rattle.staat_input.specs.Counting.{all_parts};
 ghost use Rattle.staat_input.specs.Causes.{HasCause, ShelfSide, over};
@@ -130,6 +132,26 @@ fn shown(
     }
 }
 
+// The answer for a sound assembly and its solids.
+fn exploded(
+    alloc: Global,
+    sound: &Sound,
+    request: &ExplodeRequest,
+    solids: &Solids,
+) -> Result<Answer, Fault>
+    requires request { IsExplodeRequest request.now }
+    requires small { AreSmall (length sound.now) MOST_PIECES solids.now }
+    ensures status { IfOk result (λ a. a.status < 2) }
+    ensures exploded { (files : Files) (named : List ListedPartValue)
+        → IsListingOf files request.now.asked.input (Ok named)
+        → (request.now.off ≡ true → solids.now ≡ solids_of files request.now.asked.digits named)
+        → Follows (IsCountedView files request.now sound.now) result }
+    ensures cause { (shelf : ShelfSide) → IfErr result (HasCause shelf) }
+{
+    let (outcome, _table) = outcome_of(alloc, sound, request.planes, false)?;
+    shown(alloc, sound, &outcome, solids, request.off)
+}
+
 /// The answer to the command `explode`: the vectors that move the parts of a plan apart, or the scene of the parts so
 /// moved; or the parts that no plan takes apart.
 #[tactic(auto, using(staat_input::proofs::OpenedLemmas::input_some))]
@@ -149,7 +171,6 @@ pub fn explode<H: Shelf>(
 {
     let mut sketch = Sketch::new(alloc, request.off);
     let sound = read_sketched(alloc, shelf, &request.asked, &mut sketch)?;
-    let (outcome, _table) = outcome_of(alloc, &sound, request.planes, false)?;
     let solids = Solids::from_vec(sketch.solids);
-    shown(alloc, &sound, &outcome, &solids, request.off)
+    exploded(alloc, &sound, request, &solids)
 }

@@ -1,13 +1,16 @@
 // The command `plan`: how all parts come apart, or which parts do not.
-ghost use Rattle.std.specs.Prelude.{◌≡◌, ◌≤◌, ◌<◌, Some, IfOk, IfErr, IfSome, true};
+ghost use Rattle.std.specs.Prelude.{◌≡◌, ◌≤◌, ◌<◌, Ok, Some, IfOk, IfErr, IfSome, true};
 ghost use Rattle.std.specs.Prelude.{[]};
 ghost use Rattle.staat_input.specs.Opened.{OpensSomeOf};
 ghost use Rattle.staat_input.specs.declared.limits.TheConstants.Limits.{ASSEMBLY};
 ghost use Rattle.staat_model.specs.Assemblies.{IsAssembly};
 ghost use Rattle.staat_limits.specs.Versions.{IsVersion};
+ghost use Rattle.staat_model.specs.declared.certificate.Certificate.{Certificate as CertificateValue};
+ghost use Rattle.staat_model.specs.Certify.{IsCertificateOf};
 ghost use Rattle.staat_model.specs.Outcomes.{IsOutcome, finding_of};
 ghost use Rattle.staat_limits.specs.declared.limits.TheConstants.{LEAST_PLANES, MOST_CELL_PLANES, MOST_PLANES};
 ghost use Rattle.staat_pairs.specs.Tables.{WasMadeFrom};
+ghost use Rattle.staat_cert.specs.Writing.{IsTextAnswer};
 ghost use Rattle.staat_plan.specs.Certifying.{CanBeCertified};
 ghost use Rattle.staat_plan.specs.Planning.{HasFewPlanes};
 ghost use Rattle.staat_text.specs.PlanTexts.{CanBeShown};
@@ -15,7 +18,7 @@ ghost use Rattle.staat_words.specs.Requests.{IsPlanRequest};
 ghost use Rattle.staat_edge.specs.Fitting.{Fit};
 ghost use Rattle.staat_input.specs.Work.{Files, Follows};
 ghost use Rattle.staat_input.specs.Counting.{AreCounted, all_parts};
-ghost use Rattle.staat_planning.specs.Planning.{IsWritten, outcome_answer, PlanWork};
+ghost use Rattle.staat_planning.specs.Planning.{IsCountedPlan, IsWritten, outcome_answer, PlanWork};
 ghost use Rattle.staat_input.specs.Causes.{HasCause, ShelfSide, over};
 
 use staat_cert::cert_text;
@@ -65,9 +68,9 @@ pub fn outcome_of(
     }
 }
 
-// The text of the certificate of an outcome.
+/// The text of the certificate of an outcome.
 #[tactic(auto, using(crate::proofs::PlanLemmas::writing))]
-fn certificate_text(
+pub(crate) fn certificate_text(
     alloc: Global,
     sound: &Sound,
     table: &PlaneTable,
@@ -78,6 +81,8 @@ fn certificate_text(
     requires made { WasMadeFrom sound.now table.now }
     requires certified { CanBeCertified sound.now (finding_of outcome.now) }
     ensures written { Follows (IsWritten sound.now (finding_of outcome.now) (Some version)) result }
+    ensures certificate { IfOk result (λ text. (c : CertificateValue)
+        × IsCertificateOf sound.now version (finding_of outcome.now) c × IsTextAnswer c (Ok text)) }
     ensures cause { (shelf : ShelfSide) → IfErr result (HasCause shelf) }
 {
     let source = Tabulated::of(&Scan, sound, table);
@@ -124,6 +129,18 @@ fn answer_of(outcome: &Outcome, text: Bytes) -> Answer
     }
 }
 
+// The answer for a sound assembly.
+fn planned(alloc: Global, sound: &Sound, request: &PlanRequest) -> Result<Answer, Fault>
+    requires { IsPlanRequest request.now }
+    ensures status { IfOk result (λ a. a.status < 2) }
+    ensures planned { Follows (IsCountedPlan request.now sound.now) result }
+    ensures cause { (shelf : ShelfSide) → IfErr result (HasCause shelf) }
+{
+    let (outcome, table) = outcome_of(alloc, sound, request.planes, request.robust)?;
+    let text = text_of(alloc, sound, &table, &outcome, request.certificate)?;
+    Ok(answer_of(&outcome, text))
+}
+
 /// The answer to the command `plan`: the steps of a plan that takes all parts apart, or the parts that no plan takes
 /// apart; or the certificate of either.
 #[tactic(auto, using(staat_input::proofs::OpenedLemmas::input_some))]
@@ -138,7 +155,5 @@ pub fn plan<H: Shelf>(alloc: Global, request: &PlanRequest, shelf: &mut H) -> Re
     ensures cause { IfErr result (HasCause (over (H.told shelf.old) (H.told shelf.new))) }
 {
     let sound = read_sound(alloc, shelf, &request.asked)?;
-    let (outcome, table) = outcome_of(alloc, &sound, request.planes, request.robust)?;
-    let text = text_of(alloc, &sound, &table, &outcome, request.certificate)?;
-    Ok(answer_of(&outcome, text))
+    planned(alloc, &sound, request)
 }

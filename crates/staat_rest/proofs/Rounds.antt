@@ -13,7 +13,7 @@ use Rattle.staat_holds.proofs.NodeNames.{few_nodes}
 use Rattle.staat_decide.specs.Decided.{IsStuckHold}
 use Rattle.staat_rest.specs.declared.merging.Origin.{Origin}
 use Rattle.staat_rest.specs.Merging.{AreMerged}
-use Rattle.staat_rest.specs.Nodes.{AreJoined, AreShown, NamesOnly, holds_of}
+use Rattle.staat_rest.specs.Nodes.{AreJoined, AreShown, IsNodeHold, NamesOnly, holds_of}
 use Rattle.staat_rest.specs.Turning.{original_hold, original_nodes}
 use Rattle.staat_rest.proofs.CountSteps.{names_below, names_less}
 use Rattle.staat_rest.proofs.MergedHold.{hold_keeps, nodes_ascend, nodes_named, nodes_two}
@@ -56,17 +56,11 @@ module _ (parts : List Part) (names heads : List ℕ) (lists : List (List Hold))
     (hold turned : Hold) (stuck : IsStuckHold merged hold) (nodes : turned.nodes ≡ original_nodes heads hold.nodes)
     (ordered : (ps : List Part) (ns : List ℕ) → IsStrictlySortedBy nat_cmp (original_nodes heads hold.nodes) → KeepsHoldRules ps ns (original_hold heads origins hold) → IsOrderedHold turned)
     (keeps : (ps : List Part) (ns : List ℕ) → KeepsHoldRules ps ns (original_hold heads origins hold) → KeepsHoldRules ps ns turned) where
-  pub turned_two : 2 ≤ length turned.nodes
+  turned_two : 2 ≤ length turned.nodes
   turned_two = let two = nodes_two parts names heads origins merged are hold stuck in let long = ap length nodes in omega (arith, two, long)
 
   turned_named : All (IsName names) turned.nodes
   turned_named = subst (All (IsName names)) (sym nodes) (nodes_named parts names heads origins merged are hold stuck)
-
-  pub turned_within : All (λ n. n < length lists) turned.nodes
-  turned_within =
-      let many = shown.many in
-      let lists_many = shown.lists_many in
-      All-weaker (IsName names) (λ n. n < length lists) (λ n named. let lt = place_within names n n named in omega (arith, lt, many, lists_many)) turned.nodes turned_named
 
   abbrev now : List ℕ
   now = names_after (own_names (length parts)) (holds_of lists turned.nodes)
@@ -74,24 +68,29 @@ module _ (parts : List Part) (names heads : List ℕ) (lists : List (List Hold))
   ascend : IsStrictlySortedBy nat_cmp (original_nodes heads hold.nodes)
   ascend = nodes_ascend parts names heads origins merged are hold stuck
 
-  pub turned_ascend : IsStrictlySortedBy nat_cmp turned.nodes
-  turned_ascend = subst (IsStrictlySortedBy nat_cmp) (sym nodes) ascend
-
   original_keeps : KeepsHoldRules parts now (original_hold heads origins hold)
   original_keeps =
-      let only = (holds_keep parts names shown.many shown.names_are lists turned.nodes shown.each turned_ascend turned_named).1 in
+      let only = (holds_keep parts names shown.many shown.names_are lists turned.nodes shown.each (subst (IsStrictlySortedBy nat_cmp) (sym nodes) ascend) turned_named).1 in
       hold_keeps parts names heads origins merged are hold stuck now (subst (λ ns. NamesOnly names ns now) nodes only)
 
-  pub round_next : (next : List ℕ) (new : List (List Hold)) → next ≡ map (joined_name turned.nodes) names → AreJoined lists turned new → AreShown parts next new
-  round_next next new is joined =
-      subst (λ ns. AreShown parts ns new) (sym is) (next_shown parts names lists turned shown (ordered parts now ascend original_keeps) turned_two turned_named (keeps parts now original_keeps) new joined)
+  pub node_hold : IsNodeHold parts names lists turned
+  node_hold = record { ordered = ordered parts now ascend original_keeps; two = turned_two; named = turned_named; keeps = keeps parts now original_keeps }
 
-  pub round_less : (next : List ℕ) → next ≡ map (joined_name turned.nodes) names → names_below next (length parts) < names_below names (length parts)
-  round_less next is =
-      let is_ordered = ordered parts now ascend original_keeps in
-      let kept = keeps parts now original_keeps in
-      let (q, of, lost) = name_lost parts names lists turned shown is_ordered turned_two turned_named kept in
+module _ (parts : List Part) (names : List ℕ) (lists : List (List Hold)) (shown : AreShown parts names lists) (hold : Hold) (is : IsNodeHold parts names lists hold) where
+  pub hold_within : All (λ n. n < length lists) hold.nodes
+  hold_within =
+      let many = shown.many in
+      let lists_many = shown.lists_many in
+      All-weaker (IsName names) (λ n. n < length lists) (λ n named. let lt = place_within names n n named in omega (arith, lt, many, lists_many)) hold.nodes is.named
+
+  pub round_next : (next : List ℕ) (new : List (List Hold)) → next ≡ map (joined_name hold.nodes) names → AreJoined lists hold new → AreShown parts next new
+  round_next next new same joined =
+      subst (λ ns. AreShown parts ns new) (sym same) (next_shown parts names lists hold shown is.ordered is.two is.named is.keeps new joined)
+
+  pub round_less : (next : List ℕ) → next ≡ map (joined_name hold.nodes) names → names_below next (length parts) < names_below names (length parts)
+  round_less next same =
+      let (q, of, lost) = name_lost parts names lists hold shown is.ordered is.two is.named is.keeps in
       let lt = place_within names q q of in
       let many = shown.many in
-      subst (λ ns. names_below ns (length parts) < names_below names (length parts)) (sym is)
-      (names_less names (map (joined_name turned.nodes) names) (length parts) q (names_back parts names lists turned shown is_ordered turned_two turned_named kept) (omega (arith, lt, many)) of lost)
+      subst (λ ns. names_below ns (length parts) < names_below names (length parts)) (sym same)
+      (names_less names (map (joined_name hold.nodes) names) (length parts) q (names_back parts names lists hold shown is.ordered is.two is.named is.keeps) (omega (arith, lt, many)) of lost)

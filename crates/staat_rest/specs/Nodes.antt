@@ -49,3 +49,10 @@ pub record AreJoined (old : List (List Hold)) (hold : Hold) (new : List (List Ho
   pub many : length new ≡ length old
   pub first : get_or new (get_or hold.nodes 0 0) [] ≡ holds_of old hold.nodes ++ hold ∷ []
   pub others : (n : ℕ) → (Contains hold.nodes n → ⊥) → get_or new n [] ≡ get_or old n []
+
+-- the hold is one of some of these nodes, whose parts the holds at their names have joined
+pub record IsNodeHold (parts : List Part) (names : List ℕ) (lists : List (List Hold)) (hold : Hold) : Type 0 where
+  pub ordered : IsOrderedHold hold
+  pub two : 2 ≤ length hold.nodes
+  pub named : All (IsName names) hold.nodes
+  pub keeps : KeepsHoldRules parts (names_after (own_names (length parts)) (holds_of lists hold.nodes)) hold

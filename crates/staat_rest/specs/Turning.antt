@@ -9,8 +9,12 @@ use Rattle.staat_holds.specs.declared.grouped.Group.{Group as GroupValue}
 use Rattle.staat_holds.specs.declared.grouped.GroupedTree.{GroupedTree, Leaf, Group, Split'}
 use Rattle.staat_holds.specs.declared.hold.Hold.{Hold}
 use Rattle.staat_holds.specs.Chains.{AllKeep, IsJoinedLast}
+use Rattle.staat_holds.specs.Partials.{IsShownRest}
 use Rattle.staat_rest.specs.declared.merging.Origin.{Origin}
+use Rattle.staat_rest.specs.declared.rest.Round.{Round}
+use Rattle.staat_rest.specs.declared.rest.Round.TheVariants as round
 use Rattle.staat_rest.specs.Merging.{origin_at}
+use Rattle.staat_rest.specs.Nodes.{IsNodeHold}
 
 -- the pair of pieces that a pair of the merged product was
 abbrev pub original_pair : List (List Origin) → Arc → Arc
@@ -60,3 +64,8 @@ HaveLists parts heads lists =
 abbrev pub HasLeavesBelow : ℕ → Plan → Type 0
 HasLeavesBelow count (leaf k) = k < count
 HasLeavesBelow count (split d moved rest) = HasLeavesBelow count moved × HasLeavesBelow count rest
+
+-- a plan down to groups, or a hold of some of these nodes
+abbrev pub IsRound : List Part → List ℕ → List (List Hold) → Round → Type 0
+IsRound parts names lists (round.Rest rest) = IsShownRest parts rest
+IsRound parts names lists (round.Held hold) = IsNodeHold parts names lists hold

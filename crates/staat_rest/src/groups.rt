@@ -1,13 +1,14 @@
 // Joining nodes: their names, and the holds that show them.
 ghost use Rattle.std.specs.Prelude.{◌≡◌, ◌<◌, ◌≤◌, [], ℕ};
-ghost use Rattle.std.specs.Prelude.{All, Contains, IfOk, OnOk, get_or, length, map, nat_eq};
+ghost use Rattle.std.specs.Prelude.{List, All, Contains, IfOk, OnOk, get_or, length, map, nat_eq};
 ghost use Rattle.std.specs.List.{list_any};
 ghost use Rattle.std.specs.List.Sorted.{IsStrictlySortedBy};
 ghost use Rattle.std.specs.Ordering.{nat_cmp};
+ghost use Rattle.staat_model.specs.declared.assembly.Part.{Part as PartValue};
 ghost use Rattle.staat_holds.specs.Chains.{joined_name};
-ghost use Rattle.staat_rest.specs.Nodes.{AreJoined, holds_of};
+ghost use Rattle.staat_rest.specs.Nodes.{AreJoined, AreShown, holds_of};
 
-use staat_holds::{Hold, Holds};
+use staat_holds::{Hold, Holds, own_names};
 use staat_vec::OutOfMemory;
 use std::alloc::Global;
 use std::mem;
@@ -32,8 +33,8 @@ fn joined_name(nodes: &[u32], name: u32) -> u32
     }
 }
 
-/// The names once these nodes, one at least, are one.
-pub fn joined_names(alloc: Global, nodes: &[u32], names: &[u32]) -> Result<Vec<u32>, OutOfMemory>
+// the names once these nodes, one at least, are one
+fn joined_names(alloc: Global, nodes: &[u32], names: &[u32]) -> Result<Vec<u32>, OutOfMemory>
     requires { 1 ≤ length nodes.now }
     ensures { IfOk result (λ next. next.items ≡ map (joined_name nodes.now) names.now) }
 {
@@ -44,8 +45,8 @@ pub fn joined_names(alloc: Global, nodes: &[u32], names: &[u32]) -> Result<Vec<u
     Ok(next)
 }
 
-/// No holds, for each of so many parts.
-pub fn no_holds(alloc: Global, count: usize) -> Result<Vec<Holds>, OutOfMemory>
+// no holds, for each of so many parts
+fn no_holds(alloc: Global, count: usize) -> Result<Vec<Holds>, OutOfMemory>
     ensures many { IfOk result (λ lists. length lists.items ≡ count) }
     ensures none { IfOk result (λ lists. (n : ℕ) → get_or lists.items n [] ≡ []) }
 {
@@ -78,8 +79,8 @@ fn take_holds(
     Ok(joined)
 }
 
-/// Joins the lists of the hold's nodes, and the hold, at the place of the first node. The nodes ascend.
-pub fn join_holds(alloc: Global, lists: &mut Vec<Holds>, hold: Hold) -> Result<(), OutOfMemory>
+// joins the lists of the hold's nodes, and the hold, at the place of the first node. The nodes ascend.
+fn join_holds(alloc: Global, lists: &mut Vec<Holds>, hold: Hold) -> Result<(), OutOfMemory>
     requires ascending { IsStrictlySortedBy nat_cmp hold.nodes }
     requires some { 1 ≤ length hold.nodes }
     requires within { All (λ n. n < length lists.old.items) hold.nodes }
@@ -90,4 +91,35 @@ pub fn join_holds(alloc: Global, lists: &mut Vec<Holds>, hold: Hold) -> Result<(
     joined.push(hold)?;
     lists[first] = Holds::from_vec(joined);
     Ok(())
+}
+
+/// The nodes that there are: the name of each part's node, and at the place of a name the holds that show that node.
+#[derive(Drop)]
+pub struct Groups {
+    pub names: Vec<u32>,
+    pub lists: Vec<Holds>,
+}
+
+impl Groups {
+    /// Of so many parts, each is a node by itself.
+    pub fn apart(alloc: Global, count: u32) -> Result<Groups, OutOfMemory>
+        ensures { IfOk result (λ groups. (parts : List PartValue) → length parts ≡ count
+            → AreShown parts groups.names.items groups.lists.items) }
+    {
+        let names = own_names(alloc, count)?;
+        let lists = no_holds(alloc, count as usize)?;
+        Ok(Groups { names, lists })
+    }
+
+    /// The nodes of the hold are one from then on. They ascend.
+    pub fn join(&mut self, alloc: Global, hold: Hold) -> Result<(), OutOfMemory>
+        requires ascending { IsStrictlySortedBy nat_cmp hold.nodes }
+        requires some { 1 ≤ length hold.nodes }
+        requires within { All (λ n. n < length self.old.lists.items) hold.nodes }
+        ensures names { OnOk result (self.new.names.items ≡ map (joined_name hold.nodes) self.old.names.items) }
+        ensures lists { OnOk result (AreJoined self.old.lists.items hold self.new.lists.items) }
+    {
+        self.names = joined_names(alloc, hold.nodes.as_slice(), self.names.as_slice())?;
+        join_holds(alloc, &mut self.lists, hold)
+    }
 }

@@ -1,7 +1,8 @@
-use Rattle.std.proofs.Common.{◌∷◌, [], Ok, false, true}
+use Rattle.std.proofs.Common.{◌∷◌, [], false, true}
 use Rattle.staat_edge.proofs.OpeningLemmas.{narrowed, opens_after, opens_some, some_of_more}
 use Rattle.staat_input.specs.Work.{Then}
 use Rattle.staat_input.specs.Pieces.{IsPieceOf}
+use Rattle.staat_input.specs.Causes.{over}
 use Rattle.staat_directions.specs.Pairs.{IsJudged}
 use Rattle.staat_input.proofs.InputLemmas.{then_failed, then_given}
 use Rattle.staat_directions.proofs.pair.pair.Goals as goal
@@ -26,12 +27,6 @@ returns-in_err-q-clause-found g c = λ files fit.
     (then_failed (IsPieceOf files request.digits request.second) (λ q. IsJudged c.in_ok-p.p q request.along request.wall)
     c.in_err-q.field-0.0 c.from_residual-in_err-q.result (c.in_err-q.ensures.found files fit) c.from_residual-in_err-q.ensures.1)
 
-pub returns-in_err-answer-clause-opens : goal.returns-in_err-answer-clause-opens
-returns-in_err-answer-clause-opens g c =
-    let request = c.args.request.now in
-    opens_some true (request.first ∷ request.second ∷ []) _ _
-    (opens_after true (request.first ∷ []) (request.second ∷ []) _ _ _ c.in_ok-p.ensures.opens c.in_ok-q.ensures.opens)
-
 pub returns-clause-opens : goal.returns-clause-opens
 returns-clause-opens g c =
     let request = c.args.request.now in
@@ -45,6 +40,9 @@ returns-clause-found g c = λ files fit.
     let before = narrowed (request.second ∷ []) (g.H.Shelf.told c.read_piece.new.shelf) (g.H.Shelf.told c.read_piece-2.new.shelf) c.in_ok-q.ensures.holds some files fit in
     then_given (IsPieceOf files request.digits request.first)
     (λ p. Then (IsPieceOf files request.digits request.second) (λ q. IsJudged p q request.along request.wall))
-    c.in_ok-p.p (Ok c.in_ok-answer.answer) (c.in_ok-p.ensures.found files before)
+    c.in_ok-p.p c.judge.result (c.in_ok-p.ensures.found files before)
     (then_given (IsPieceOf files request.digits request.second) (λ q. IsJudged c.in_ok-p.p q request.along request.wall)
-    c.in_ok-q.q (Ok c.in_ok-answer.answer) (c.in_ok-q.ensures.found files fit) c.in_ok-answer.ensures.judged)
+    c.in_ok-q.q c.judge.result (c.in_ok-q.ensures.found files fit) c.judge.ensures.judged)
+
+pub returns-clause-cause : goal.returns-clause-cause
+returns-clause-cause g c = c.judge.ensures.cause (over (g.H.Shelf.told c.args.shelf.now) (g.H.Shelf.told c.read_piece-2.new.shelf))

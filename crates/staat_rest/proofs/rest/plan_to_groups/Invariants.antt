@@ -4,7 +4,7 @@ use Rattle.staat_rest.proofs.CountSteps.{names_below}
 use Rattle.staat_rest.proofs.rest.plan_to_groups.Given as goal
 
 abbrev pub invariant-rounds : goal.invariant-rounds
-invariant-rounds g l = AreShown l.parts l.names.items l.lists.items
+invariant-rounds g l = AreShown l.parts l.groups.names.items l.groups.lists.items
 
 abbrev pub decreases-rounds : goal.decreases-rounds
-decreases-rounds g l = names_below l.names.items (length l.parts)
+decreases-rounds g l = names_below l.groups.names.items (length l.parts)
