@@ -47,9 +47,11 @@ returns-clause-longer g c = λ _. fed_long (g.H.Shelf.told c.args.shelf.now) (g.
     c.args.name.now _ _ c.pieces.taken c.pieces.invariant.has c.pieces.invariant.holds c.pieces-test.false
     c.pieces.invariant.fed
 
-not_failed : (name before : Option (List ℕ)) → failed_at false name before ≡ before
-not_failed None before = refl
-not_failed (Some name) before = refl
+-- where a read did not fail, the shelf tells the same file as before as the one at which it failed last
+failed_before : (name before now first : Option (List ℕ)) → now ≡ failed_at false name before → before ≡ first
+    → now ≡ first
+failed_before None before now first is same = is ∙ same
+failed_before (Some name) before now first is same = is ∙ same
 
 pub pieces-preserved : goal.pieces-preserved
 pieces-preserved g c =
@@ -59,7 +61,7 @@ pieces-preserved g c =
       room = omega (arith, c.pieces-test.true, c.in-Ok.ensures.room, c.read.auto.buf);
       holds = c.read.ensures.holds ∙ c.pieces.invariant.holds;
       count = le_trans c.pieces.invariant.count c.read.ensures.count;
-      failed = c.in-Ok.ensures.failed ∙ not_failed _ _ ∙ c.pieces.invariant.failed;
+      failed = failed_before _ _ _ _ c.in-Ok.ensures.failed c.pieces.invariant.failed;
       name = c.read.ensures.name ∙ c.pieces.invariant.name;
       place = c.in-Ok.ensures.moved ∙ ap (option_map (λ at. at + count)) c.pieces.invariant.place;
       has = c.pieces.invariant.has;
