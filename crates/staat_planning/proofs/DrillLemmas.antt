@@ -1,5 +1,5 @@
 -- What is said of a product that the program makes itself.
-use Rattle.std.proofs.Common.{◌≡◌, ◌∙◌, ◌<◌, ◌≤◌, ◌⊎◌, ℕ, List, length, Some, Ok, Err, false, refl, ap, subst, sym, inl, inr}
+use Rattle.std.proofs.Common.{◌≡◌, ◌∙◌, ◌≤◌, ◌⊎◌, ℕ, List, length, Some, Ok, Err, false, refl, ap, subst, sym, inl, inr}
 use Rattle.std.specs.Prelude.{IsErrAnd, Result}
 use Rattle.staat_model.specs.declared.assembly.Part.{Part}
 use Rattle.staat_model.specs.declared.certificate.Certificate.{Certificate}
