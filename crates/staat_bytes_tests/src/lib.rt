@@ -7,8 +7,7 @@
 
 #[cfg(test)]
 mod certificates;
-#[cfg(test)]
-mod comparing;
+pub mod comparing;
 #[cfg(test)]
 mod failing_reads;
 #[cfg(test)]

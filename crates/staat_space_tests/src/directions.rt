@@ -1,5 +1,6 @@
 // Worked directions: the cells of two cubes that touch, and what touches and holds back at once.
-use crate::fixtures::{BESIDE, CUBE, CUBES, Corners, Shape, is_across, sound, table, table_of};
+use crate::conditions::is_across;
+use crate::fixtures::{BESIDE, CUBE, CUBES, Corners, Shape, sound, table, table_of};
 use staat_cells::{Cell, CellGraphs, all_cells, first_open};
 use staat_local::{local_graph, touch};
 use staat_model::{Arc, Kind};

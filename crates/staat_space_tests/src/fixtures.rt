@@ -1,12 +1,10 @@
 // Pieces, parts and assemblies that several tests share.
-ghost use Rattle.std.specs.Prelude.{◌≢◌, IsTrue};
-ghost use Rattle.staat_model.specs.Sets.{Has};
-ghost use Rattle.staat_pairs.specs.Tables.{IsTableArc, WasMadeFrom};
+ghost use Rattle.staat_pairs.specs.Tables.{WasMadeFrom};
 
 use staat_asm::build;
 use staat_cone::Plain;
-use staat_limits::{MOST_PARTS, MOST_PLANES};
-use staat_model::{Arc, Assembly, Part, PartSet, Piece, Sound};
+use staat_limits::MOST_PLANES;
+use staat_model::{Assembly, Part, PartSet, Piece, Sound};
 use staat_planes::{PlaneTable, tabulate};
 use staat_samples::{assembly_of, at, boxed, part_of, prism};
 use std::alloc::Global;
@@ -156,19 +154,4 @@ pub fn table_of(rt: &impl Abort, alloc: Global, sound: &Sound) -> PlaneTable
 /// The table of all parts of an assembly.
 pub fn table(rt: &impl Abort, alloc: Global, shapes: &[Shape]) -> PlaneTable {
     table_of(rt, alloc, &sound(rt, alloc, shapes))
-}
-
-// whether two different parts are of the table's set
-fn has_parts(table: &PlaneTable, a: u32, b: u32) -> bool
-    ensures { IsTrue result → Has table.now.of a × Has table.now.of b × (a ≢ b) }
-{
-    let set = table.set();
-    a < MOST_PARTS && b < MOST_PARTS && a != b && set.has(a) && set.has(b)
-}
-
-/// Whether an arc is of pieces of two parts of the table's set.
-pub fn is_across(table: &PlaneTable, arc: Arc) -> bool
-    ensures { IsTrue result → IsTableArc table.now arc }
-{
-    has_parts(table, arc.a, arc.b) && arc.i < table.pieces(arc.a) && arc.j < table.pieces(arc.b)
 }

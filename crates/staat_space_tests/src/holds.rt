@@ -1,49 +1,12 @@
 // Worked holds: a cube in a box, which pairs of pieces hold together as long as they are all there.
-ghost use Rattle.std.specs.Prelude.{◌↔◌, ◌≤◌, All, IsTrue, length};
-ghost use Rattle.staat_model.specs.Assemblies.{IsPart};
-ghost use Rattle.staat_model.specs.Pieces.{IsPiece};
-ghost use Rattle.staat_holds.specs.Holds.{IsCorePair};
-
+use crate::conditions::{are_core_pairs, are_parts};
 use crate::fixtures::{CLOSED, LIDDED, Shape, parts_of};
 use staat_cone::Plain;
-use staat_holds::{first_gap, is_core_pair, judge_hold};
-use staat_model::{Arc, Part, Piece};
+use staat_holds::{first_gap, judge_hold};
+use staat_model::{Arc, Part};
 use staat_vec::{OutOfMemory, V3};
 use std::alloc::Global;
 use std::process::Abort;
-
-fn is_piece(piece: &Piece) -> bool
-    ensures { IsTrue result ↔ IsPiece piece.now }
-{
-    let _points = piece.points();
-    true
-}
-
-fn are_pieces(pieces: &[Piece]) -> bool
-    ensures { IsTrue result ↔ All IsPiece pieces.now }
-{
-    pieces.iter().all(|piece| is_piece(piece))
-}
-
-fn is_part(part: &Part) -> bool
-    ensures { IsTrue result ↔ IsPart part.now }
-{
-    let pieces = part.pieces.as_slice();
-    pieces.len() >= 1 && are_pieces(pieces)
-}
-
-fn are_parts(parts: &[Part]) -> bool
-    ensures { IsTrue result ↔ All IsPart parts.now }
-{
-    parts.iter().all(|part| is_part(part))
-}
-
-fn are_core_pairs(parts: &[Part], nodes: &[Option<u32>], count: u32, core: &[Arc]) -> bool
-    ensures { IsTrue result ↔ All (IsCorePair parts.now nodes.now count) core.now }
-{
-    core.iter()
-        .all(|pair| is_core_pair(parts, nodes, count, *pair))
-}
 
 // the first gap of a core, and whether there is none; nothing where parts, nodes and core do not fit
 fn judged(

@@ -5,6 +5,7 @@
 mod assembling;
 #[cfg(test)]
 mod circles;
+pub mod conditions;
 #[cfg(test)]
 mod cores;
 #[cfg(test)]

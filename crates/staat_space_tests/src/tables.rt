@@ -2,7 +2,8 @@
 ghost use Rattle.std.specs.Prelude.{◌≡◌, ◌<◌};
 ghost use Rattle.staat_vec.specs.Vectors.{IsWithin};
 
-use crate::fixtures::{CLOSED, DOVETAIL, LIDDED, is_across, shows, sound, table};
+use crate::conditions::is_across;
+use crate::fixtures::{CLOSED, DOVETAIL, LIDDED, shows, sound, table};
 use staat_cone::Plain;
 use staat_graph::{strong_parts, trees_of};
 use staat_model::{Arc, PartSet};
