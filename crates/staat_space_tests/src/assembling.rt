@@ -1,10 +1,12 @@
 // Worked assemblies over a source that answers for equal pieces alone: it has no memory for others.
+ghost use Rattle.staat_vec.specs.Vectors.{IsWithin};
+
 use crate::fixtures::{BESIDE, CUBE, Corners, Shape, assembly, box_of, prism_of, shows};
 use staat_asm::{AsmRefusal, PlaceRefusal, build, place};
 use staat_cone::{FacetSource, Plain, overlap};
 use staat_model::Piece;
 use staat_samples::at;
-use staat_vec::{OutOfMemory, V3};
+use staat_vec::{OutOfMemory, POINT, V3};
 use std::alloc::Global;
 use std::process::Abort;
 
@@ -87,26 +89,35 @@ fn one_slanted_wall_is_found(rt: HostRuntime) {
     assert_eq!(rt; overlap(alloc, &EqualAlone, &low, &high), Ok(false));
 }
 
+// the cube, moved
+fn moved(rt: &impl Abort, alloc: Global, by: V3) -> Result<Piece, PlaceRefusal>
+    requires { IsWithin POINT by }
+{
+    place(alloc, box_of(rt, alloc, CUBE), by)
+}
+
+// whether two pieces have the same points
+fn are_same(moved: &Piece, wanted: &Piece) -> bool {
+    moved.points() == wanted.points()
+}
+
 // the box to which the cube is moved
-fn is_box(rt: &impl Abort, alloc: Global, placed: Result<Piece, PlaceRefusal>, wanted: Corners) {
-    let piece = placed.expect(rt, "a place");
-    assert!(rt; piece.points() == box_of(rt, alloc, wanted).points());
+fn moves(rt: &impl Abort, alloc: Global, by: V3, wanted: Corners)
+    requires { IsWithin POINT by }
+{
+    let piece = moved(rt, alloc, by).expect(rt, "a place");
+    assert!(rt; are_same(&piece, &box_of(rt, alloc, wanted)));
 }
 
 #[test]
 fn pieces_are_placed(rt: HostRuntime) {
     let alloc = rt.alloc();
-    let cube = box_of(&rt, alloc, CUBE);
-    is_box(&rt, alloc, place(alloc, cube, at(2, 0, 0)), BESIDE);
-    let cube = box_of(&rt, alloc, CUBE);
-    is_box(&rt, alloc, place(alloc, cube, at(0, 0, 2)), ABOVE);
-    let cube = box_of(&rt, alloc, CUBE);
-    is_box(&rt, alloc, place(alloc, cube, at(1, 1, 1)), INNER);
-    let cube = box_of(&rt, alloc, CUBE);
-    is_box(&rt, alloc, place(alloc, cube, at(0, 0, 0)), CUBE);
-    let cube = box_of(&rt, alloc, CUBE);
-    let refused = place(alloc, cube, at(0, -262144, 262143));
-    assert_eq!(rt; refused.err(), Some(PlaceRefusal::PlacedFar));
+    moves(&rt, alloc, at(2, 0, 0), BESIDE);
+    moves(&rt, alloc, at(0, 0, 2), ABOVE);
+    moves(&rt, alloc, at(1, 1, 1), INNER);
+    moves(&rt, alloc, at(0, 0, 0), CUBE);
+    let refused = moved(&rt, alloc, at(0, -262144, 262143)).err();
+    assert_eq!(rt; refused, Some(PlaceRefusal::PlacedFar));
 }
 
 #[test]

@@ -27,16 +27,20 @@ const WHOLE: [u32; 7] = [8, 8, 4, 8, 8, 8, 8];
 
 const WITHOUT: [u32; 7] = [8, 6, 4, 6, 6, 8, 0];
 
+fn out_and_back(rt: &impl Abort, rings: &mut Rings) {
+    assert_eq!(rt; lengths(rings), WHOLE);
+    assert!(rt; rings.is_linked(6));
+    rings.unlink(6);
+    assert_eq!(rt; lengths(rings), WITHOUT);
+    rings.relink(6);
+    assert_eq!(rt; lengths(rings), WHOLE);
+}
+
 #[test]
 fn a_plane_out_and_back(rt: HostRuntime) {
     let table = table(&rt, rt.alloc(), &LIDDED);
     let mut rings = Rings::build(rt.alloc(), &table).expect(&rt, "memory");
-    assert_eq!(rt; lengths(&rings), WHOLE);
-    assert!(rt; rings.is_linked(6));
-    rings.unlink(6);
-    assert_eq!(rt; lengths(&rings), WITHOUT);
-    rings.relink(6);
-    assert_eq!(rt; lengths(&rings), WHOLE);
+    out_and_back(&rt, &mut rings);
 }
 
 // enters the circle of a plane

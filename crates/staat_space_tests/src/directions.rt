@@ -1,9 +1,11 @@
 // Worked directions: the cells of two cubes that touch, and what touches and holds back at once.
+ghost use Rattle.staat_pairs.specs.Tables.{WasMadeFrom};
+
 use crate::conditions::is_across;
 use crate::fixtures::{BESIDE, CUBE, CUBES, Corners, Shape, sound, table, table_of};
 use staat_cells::{Cell, CellGraphs, all_cells, first_open};
 use staat_local::{local_graph, touch};
-use staat_model::{Arc, Kind};
+use staat_model::{Arc, Kind, Sound};
 use staat_planes::PlaneTable;
 use staat_samples::at;
 use staat_vec::Sign;
@@ -48,19 +50,25 @@ const FIRST: Arc = Arc {
     j: 0,
 };
 
-// Whether a box touches the cube, and the parts that hold the cube back along x at once, and sooner or later.
+// whether two parts touch, and the parts that hold the first back along x at once, and sooner or later
+fn backing(rt: &impl Abort, planes: &PlaneTable, sound: &Sound) -> (bool, u32, u32)
+    requires { WasMadeFrom sound.now planes.now }
+{
+    let along = at(1, 0, 0);
+    assert!(rt; is_across(planes, FIRST));
+    (
+        touch(planes, sound, FIRST),
+        local_graph(planes, sound, along).rows[0],
+        planes.graph_at(along).rows[0],
+    )
+}
+
+// the same of the cube and a box
 fn holds_back(rt: &impl Abort, alloc: Global, second: Corners, wanted: (bool, u32, u32)) {
     let shapes = [Shape::Boxes(&[CUBE]), Shape::Boxes(&[second])];
     let sound = sound(rt, alloc, &shapes);
     let planes = table_of(rt, alloc, &sound);
-    let along = at(1, 0, 0);
-    assert!(rt; is_across(&planes, FIRST));
-    let found = (
-        touch(&planes, &sound, FIRST),
-        local_graph(&planes, &sound, along).rows[0],
-        planes.graph_at(along).rows[0],
-    );
-    assert_eq!(rt; found, wanted);
+    assert_eq!(rt; backing(rt, &planes, &sound), wanted);
 }
 
 // Boxes at a corner of the cube, at a face and apart.

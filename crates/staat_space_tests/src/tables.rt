@@ -97,16 +97,19 @@ fn a_dovetail(rt: HostRuntime) {
     assert_eq!(rt; rows_at(&table, at(0, 0, 1)), [0b10, 0b01, 0]);
 }
 
-#[test]
-fn a_closed_box(rt: HostRuntime) {
-    let closed = table(&rt, rt.alloc(), &CLOSED);
+fn is_closed(rt: &impl Abort, closed: &PlaneTable) {
     let set = closed.set();
     assert_eq!(rt; [closed.len(), set.count()], [3, 2]);
-    assert_eq!(rt; rows_at(&closed, at(1, 0, 0)), [0b10, 0b01, 0]);
+    assert_eq!(rt; rows_at(closed, at(1, 0, 0)), [0b10, 0b01, 0]);
     assert!(rt; set.has(0));
     let trees = trees_of(&closed.graph_at(at(1, 0, 0)), set);
     let arcs = trees.map(|t| (t.count, t.outs[0], t.ins[0]));
     assert_eq!(rt; arcs, Some((1, (0, 1), (1, 0))));
+}
+
+#[test]
+fn a_closed_box(rt: HostRuntime) {
+    is_closed(&rt, &table(&rt, rt.alloc(), &CLOSED));
 }
 
 const DOWN: [V3; 4] = [
@@ -123,15 +126,17 @@ const UP: [V3; 4] = [
     V3 { x: 2, y: 0, z: 3 },
 ];
 
-#[test]
-fn a_box_with_a_lid(rt: HostRuntime) {
-    let alloc = rt.alloc();
-    let lidded = table(&rt, alloc, &LIDDED);
-    assert_eq!(rt; rows_at(&lidded, at(0, 0, 1)), [0b100, 0b101, 0]);
+fn is_lidded(rt: &impl Abort, alloc: Global, lidded: &PlaneTable) {
+    assert_eq!(rt; rows_at(lidded, at(0, 0, 1)), [0b100, 0b101, 0]);
     let groups = strong_parts(&lidded.graph_at(at(0, 0, 1)), lidded.set());
     assert_eq!(rt; groups.count, 3);
-    has_facets(&rt, alloc, &lidded, [2, 0, 1, 4], &DOWN);
-    has_facets(&rt, alloc, &lidded, [1, 4, 2, 0], &UP);
+    has_facets(rt, alloc, lidded, [2, 0, 1, 4], &DOWN);
+    has_facets(rt, alloc, lidded, [1, 4, 2, 0], &UP);
+}
+
+#[test]
+fn a_box_with_a_lid(rt: HostRuntime) {
+    is_lidded(&rt, rt.alloc(), &table(&rt, rt.alloc(), &LIDDED));
 }
 
 // whether each plane is one of those of the parts
