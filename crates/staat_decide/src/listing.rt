@@ -23,12 +23,12 @@ pub struct Candidate {
     pub facets: Option<Facets>,
 }
 
-/// A pair by its place in the list, whether it is the second piece that meets the first, and how many planes its
-/// facets add.
+/// A pair by its place in the list, how it leads from the piece that meets the other, and how many planes its facets
+/// add.
 #[derive(Clone, Copy)]
 pub struct Met {
     pub k: usize,
-    pub is_turned: bool,
+    pub lead: Lead,
     pub planes: usize,
 }
 
@@ -154,6 +154,33 @@ fn fewer(best: Option<Met>, next: Met) -> Option<Met> {
     }
 }
 
+// how the pair k meets across, on the way from a marked place to one that is not, if it does
+fn met_by<F: FacetSource>(
+    k: usize,
+    candidate: &mut Candidate,
+    alloc: Global,
+    source: &F,
+    parts: &[Part],
+    along: &Along,
+    planes: &[Normal],
+    marks: &[bool],
+    way: Way,
+) -> Result<Option<Met>, OutOfMemory>
+    requires { IsMotionOf parts.now along.now }
+{
+    let Some(is_turned) = turned_on(marks, way, &candidate.pair) else {
+        return Ok(None);
+    };
+    if !meets(candidate, alloc, source, parts, along, is_turned)? {
+        return Ok(None);
+    }
+    Ok(Some(Met {
+        k,
+        lead: lead_of(&candidate.pair, is_turned),
+        planes: planes_added(candidate, planes),
+    }))
+}
+
 /// Of the first pairs of which one piece meets the other across, on the way from a marked place to one that is not,
 /// that which adds the fewest planes.
 pub fn first_met<F: FacetSource>(
@@ -171,23 +198,15 @@ pub fn first_met<F: FacetSource>(
     let mut best = None;
     let mut count = 0usize;
     for (k, candidate) in list.iter_mut().enumerate() {
-        if let Some(is_turned) = turned_on(marks, way, &candidate.pair) {
-            if meets(candidate, alloc, source, parts, along, is_turned)? {
-                let planes = planes_added(candidate, planes);
-                best = fewer(
-                    best,
-                    Met {
-                        k,
-                        is_turned,
-                        planes,
-                    },
-                );
-                count = if planes == 0 {
-                    MOST_MET
-                } else {
-                    count.saturating_add(1)
-                };
-            }
+        if let Some(met) = met_by(
+            k, candidate, alloc, source, parts, along, planes, marks, way,
+        )? {
+            best = fewer(best, met);
+            count = if met.planes == 0 {
+                MOST_MET
+            } else {
+                count.saturating_add(1)
+            };
         }
         if count >= MOST_MET {
             return Ok(best);

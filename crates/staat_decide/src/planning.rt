@@ -7,10 +7,10 @@ ghost use Rattle.staat_model.specs.SetLists.{set_of};
 ghost use Rattle.staat_model.specs.Sets.{below};
 ghost use Rattle.staat_motion.specs.Motions.{AreBodies};
 ghost use Rattle.staat_decide.specs.Asking.{AreAskedRows};
-ghost use Rattle.staat_decide.specs.Decided.{IsDecision, IsParting};
+ghost use Rattle.staat_decide.specs.Decided.{IsDecision, IsLeaving, IsParting};
 
 use crate::asking::asked_of;
-use crate::decision::{Decision, Parting};
+use crate::decision::{Decision, Leaving, Parting};
 use crate::likely::{AskedRows, likely_leaving, numbers};
 use crate::settling::{parting_by_all, parting_by_guess};
 use crate::turns::joined;
@@ -50,7 +50,41 @@ fn parting<F: FacetSource>(
     Ok(found)
 }
 
-// a plan of the parts of w, or parts that are stuck: what leaves along one direction is planned set by set
+// a plan of the parts of w, which leave along one direction, set by set, or parts that are stuck
+#[cycle(deciding)]
+fn planned<F: FacetSource>(
+    alloc: Global,
+    source: &F,
+    parts: &[Part],
+    bodies: &Bodies,
+    asked: &[AskedRows],
+    w: &[u32],
+    leaving: &Leaving,
+) -> Result<Decision, OutOfMemory>
+    requires bodies { AreBodies parts.now bodies.now }
+    requires count { length parts.now < 2 ^ 32 }
+    requires pieces { All (λ part. length part.pieces < 2 ^ 32) parts.now }
+    requires asked { All (AreAskedRows parts.now) asked.now }
+    requires members { All (λ p. p < length parts.now) w.now }
+    requires ascending { IsStrictlySortedBy nat_cmp w.now }
+    requires few { length w.now < 2 ^ 32 }
+    requires leaves { IsLeaving parts.now w.now leaving.now }
+    ensures { IfOk result (IsDecision parts.now (set_of w.now)) }
+{
+    let sets = leaving.sets.as_slice();
+    let mut trees = Vec::new(alloc);
+    for s in sets {
+        match decision_of(alloc, source, parts, bodies, asked, s.as_slice(), leaving.d)? {
+            Decision::Held(stuck) => return Ok(Decision::Held(stuck)),
+            Decision::Apart(tree) => trees.push(tree)?,
+        }
+    }
+    let whole = joined(alloc, leaving.d, trees)?;
+    Ok(Decision::Apart(whole))
+}
+
+// a plan of the parts of w, or parts that are stuck
+#[cycle(deciding)]
 fn decision_of<F: FacetSource>(
     alloc: Global,
     source: &F,
@@ -76,16 +110,8 @@ fn decision_of<F: FacetSource>(
     match parting(alloc, source, parts, bodies, asked, w, before)? {
         Parting::Stays(held) => Ok(Decision::Held(held)),
         Parting::Leaves(leaving) => {
-            let sets = leaving.sets.as_slice();
-            let mut trees = Vec::new(alloc);
-            for s in sets {
-                match decision_of(alloc, source, parts, bodies, asked, s.as_slice(), leaving.d)? {
-                    Decision::Held(stuck) => return Ok(Decision::Held(stuck)),
-                    Decision::Apart(tree) => trees.push(tree)?,
-                }
-            }
-            let whole = joined(alloc, leaving.d, trees)?;
-            Ok(Decision::Apart(whole))
+            let decision = planned(alloc, source, parts, bodies, asked, w, &leaving)?;
+            Ok(decision)
         }
     }
 }
