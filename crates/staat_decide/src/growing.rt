@@ -213,8 +213,7 @@ fn grow_at<F: FacetSource>(
     if !grow_on(search, alloc, source, parts, &along, w, Way::Ahead)? {
         return Ok(false);
     }
-    let is_back = grow_on(search, alloc, source, parts, &along, w, Way::Back)?;
-    Ok(is_back)
+    grow_on(search, alloc, source, parts, &along, w, Way::Back)
 }
 
 // lets the core grow until it leads everywhere on the plane j; a direction of it if the set comes apart there

@@ -96,14 +96,12 @@ fn walk_over(alloc: Global, count: usize) -> Result<ArcWalk, OutOfMemory> {
     })
 }
 
-// a walk against the arcs, with all places, those first that it was done with last
-fn walked_back(alloc: Global, rows: &[Row]) -> Result<ArcWalk, OutOfMemory> {
-    let mut walk = walk_over(alloc, rows.len())?;
+// walks against the arcs until it is done with all places
+fn walk_back(rows: &[Row], walk: &mut ArcWalk) -> Result<(), OutOfMemory> {
     for root in 0..rows.len() {
-        walk_from(rows, Way::Back, &mut walk, root)?;
+        walk_from(rows, Way::Back, walk, root)?;
     }
-    walk.done.reverse();
-    Ok(walk)
+    Ok(())
 }
 
 // gives the next label to the places
@@ -116,36 +114,42 @@ fn set_label(labels: &mut Labels, places: &[usize]) {
     labels.count = labels.count.saturating_add(1);
 }
 
-// gives the next label to what is reached along arcs from a place and was not seen before, if there is anything
+// walks along arcs from the place that it was done with as the k-th, and gives the next label to what it sees
 fn label_from(
     rows: &[Row],
     walk: &mut ArcWalk,
-    root: usize,
+    k: usize,
     labels: &mut Labels,
 ) -> Result<(), OutOfMemory> {
-    walk.done.clear();
-    walk_from(rows, Way::Ahead, walk, root)?;
-    if !walk.done.is_empty() {
-        set_label(labels, walk.done.as_slice());
+    let before = walk.done.len();
+    if k < before {
+        let root = walk.done[k];
+        walk_from(rows, Way::Ahead, walk, root)?;
+    }
+    let done = walk.done.as_slice();
+    if before < done.len() {
+        set_label(labels, &done[before..]);
     }
     Ok(())
 }
 
-// labels by walks along arcs from one place after the other
-fn labels_from(alloc: Global, rows: &[Row], places: &[usize]) -> Result<Labels, OutOfMemory> {
+// labels by walks along arcs from the places that the walk was done with, the last of them first
+fn labels_along(alloc: Global, rows: &[Row], walk: &mut ArcWalk) -> Result<Labels, OutOfMemory> {
     let mut labels = Labels {
         of: vec![in alloc; 0; rows.len()]?,
         count: 0,
     };
-    let mut walk = walk_over(alloc, rows.len())?;
-    for root in places {
-        label_from(rows, &mut walk, *root, &mut labels)?;
+    let count = walk.done.len();
+    walk.seen.as_mut_slice().fill(false);
+    for k in 0..count {
+        label_from(rows, walk, count - 1 - k, &mut labels)?;
     }
     Ok(labels)
 }
 
 /// Labels of parts, of which the rows are given, so that no arc should lead to a greater one.
 pub fn labels_of(alloc: Global, rows: &[Row]) -> Result<Labels, OutOfMemory> {
-    let walk = walked_back(alloc, rows)?;
-    labels_from(alloc, rows, walk.done.as_slice())
+    let mut walk = walk_over(alloc, rows.len())?;
+    walk_back(rows, &mut walk)?;
+    labels_along(alloc, rows, &mut walk)
 }

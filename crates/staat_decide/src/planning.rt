@@ -1,5 +1,6 @@
 // Plans for sets of parts.
-ghost use Rattle.std.specs.Prelude.{◌<◌, ◌≤◌, ◌^◌, All, IfOk, length};
+ghost use Rattle.std.specs.Prelude.{◌≡◌, ◌<◌, ◌≤◌, ◌^◌, All, IfOk, length};
+ghost use Rattle.std.specs.List.{range_with_len};
 ghost use Rattle.std.specs.List.Sorted.{IsStrictlySortedBy};
 ghost use Rattle.std.specs.Ordering.{nat_cmp};
 ghost use Rattle.staat_model.specs.Assemblies.{IsPart};
@@ -46,8 +47,7 @@ fn parting<F: FacetSource>(
     if let Some(found) = parting_by_guess(alloc, source, parts, bodies, asked, w)? {
         return Ok(found);
     }
-    let found = parting_by_all(alloc, source, parts, bodies, w)?;
-    Ok(found)
+    parting_by_all(alloc, source, parts, bodies, w)
 }
 
 // a plan of the parts of w, which leave along one direction, set by set, or parts that are stuck
@@ -116,6 +116,25 @@ fn decision_of<F: FacetSource>(
     }
 }
 
+// a plan of all parts, whose numbers are given, or parts that are stuck
+fn decision_of_all<F: FacetSource>(
+    alloc: Global,
+    source: &F,
+    parts: &[Part],
+    bodies: &Bodies,
+    all: &[u32],
+) -> Result<Decision, OutOfMemory>
+    requires bodies { AreBodies parts.now bodies.now }
+    requires some { 1 ≤ length parts.now }
+    requires count { length parts.now < 2 ^ 32 }
+    requires pieces { All (λ part. length part.pieces < 2 ^ 32) parts.now }
+    requires all { all.now ≡ range_with_len 0 (length parts.now) }
+    ensures { IfOk result (IsDecision parts.now (below (length parts.now))) }
+{
+    let asked = asked_of(alloc, source, parts, bodies, all)?;
+    decision_of(alloc, source, parts, bodies, asked.as_slice(), all, ORIGIN)
+}
+
 /// A plan that takes all parts apart, or parts that are stuck.
 pub fn decide<F: FacetSource>(
     alloc: Global,
@@ -130,15 +149,5 @@ pub fn decide<F: FacetSource>(
 {
     let bodies = Bodies::of(alloc, parts)?;
     let all = numbers(alloc, parts.len() as u32)?;
-    let asked = asked_of(alloc, source, parts, &bodies, all.as_slice())?;
-    let decision = decision_of(
-        alloc,
-        source,
-        parts,
-        &bodies,
-        asked.as_slice(),
-        all.as_slice(),
-        ORIGIN,
-    )?;
-    Ok(decision)
+    decision_of_all(alloc, source, parts, &bodies, all.as_slice())
 }

@@ -89,14 +89,8 @@ pub fn parting_by_guess<F: FacetSource>(
 {
     match guess_of(alloc, source, parts, bodies, asked, w)? {
         Guess::None => Ok(None),
-        Guess::Free(d) => {
-            let answer = leaving_if_free(alloc, source, parts, bodies, w, d)?;
-            Ok(answer)
-        }
-        Guess::Stuck(suspects) => {
-            let answer = staying_if_held(alloc, source, parts, suspects)?;
-            Ok(answer)
-        }
+        Guess::Free(d) => leaving_if_free(alloc, source, parts, bodies, w, d),
+        Guess::Stuck(suspects) => staying_if_held(alloc, source, parts, suspects),
     }
 }
 

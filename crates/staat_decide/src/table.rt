@@ -337,11 +337,10 @@ pub fn blocks_with<F: FacetSource>(
         return Ok(false);
     }
     let Some(first) = count_of(parts, a) else {
-        return Ok(along.blocks(alloc, source, parts, a, b)?);
+        return along.blocks(alloc, source, parts, a, b);
     };
     let Some(second) = count_of(parts, b) else {
-        return Ok(along.blocks(alloc, source, parts, a, b)?);
+        return along.blocks(alloc, source, parts, a, b);
     };
-    let answer = some_meets(table, alloc, source, parts, along, a, first, b, second)?;
-    Ok(answer)
+    some_meets(table, alloc, source, parts, along, a, first, b, second)
 }

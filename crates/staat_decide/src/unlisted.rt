@@ -56,7 +56,7 @@ fn blocks_part<F: FacetSource>(
     if a as usize >= parts.len() || b as usize >= parts.len() {
         return Ok(false);
     }
-    Ok(along.blocks(alloc, source, parts, a, b)?)
+    along.blocks(alloc, source, parts, a, b)
 }
 
 // the first piece of the part a that meets one of the part b, if a blocks b
