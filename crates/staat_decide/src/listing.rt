@@ -1,16 +1,15 @@
 // Pairs of pieces that are listed, with their facets once these were asked for, and those of them that meet across a
 // border between marked places and others.
-ghost use Rattle.std.specs.Prelude.{◌<◌, ◌↔◌, IsTrue, length};
 ghost use Rattle.staat_vec.specs.declared.vector.TheConstants.{DIRECTION};
 ghost use Rattle.staat_vec.specs.Vectors.{IsWithin};
-ghost use Rattle.staat_model.specs.Assemblies.{piece_count};
-ghost use Rattle.staat_motion.specs.Motions.{HasBothPieces, IsMotionOf};
+ghost use Rattle.staat_motion.specs.Motions.{IsMotionOf};
 
 use crate::planes::{Facets, Normal, facets_of, is_ahead, new_planes};
 use crate::reach::Way;
 use crate::spots::Pair;
 use crate::spreading::{Lead, is_marked};
 use staat_cone::FacetSource;
+use staat_holds::has_pieces;
 use staat_model::{Arc, Part};
 use staat_motion::Along;
 use staat_vec::{DIRECTION, OutOfMemory, V3, neg};
@@ -34,24 +33,6 @@ pub struct Met {
 
 /// How many pairs that meet are looked at for the one that adds the fewest planes.
 const MOST_MET: usize = 3;
-
-// whether the part has the piece
-fn has_piece(parts: &[Part], a: u32, i: u32) -> bool
-    ensures { IsTrue result ↔ ((a < length parts.now) × (i < piece_count parts.now a)) }
-{
-    if a as usize >= parts.len() {
-        return false;
-    }
-    let part = &parts[a as usize];
-    (i as usize) < part.pieces.as_slice().len()
-}
-
-/// Whether the two pieces exist.
-pub fn has_pieces(parts: &[Part], pair: Arc) -> bool
-    ensures { IsTrue result ↔ HasBothPieces parts.now pair }
-{
-    has_piece(parts, pair.a, pair.i) && has_piece(parts, pair.b, pair.j)
-}
 
 // whether boxes and spans leave it open that the first piece meets the second
 fn may_meet(parts: &[Part], along: &Along, pair: Arc) -> bool

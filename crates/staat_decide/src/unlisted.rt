@@ -2,11 +2,11 @@
 // pieces to list them all. Boxes and spans of whole parts leave few parts to look at.
 ghost use Rattle.staat_motion.specs.Motions.{IsMotionOf};
 
-use crate::listing::has_pieces;
 use crate::reach::Way;
 use crate::spots::Pair;
 use crate::spreading::is_marked;
 use staat_cone::FacetSource;
+use staat_holds::has_pieces;
 use staat_model::{Arc, Part};
 use staat_motion::Along;
 use staat_vec::OutOfMemory;
