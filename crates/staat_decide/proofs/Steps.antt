@@ -13,7 +13,7 @@ use Rattle.staat_model.specs.declared.set.PartSet.{PartSet}
 use Rattle.staat_model.specs.SetLists.{set_of, union_of}
 use Rattle.staat_model.specs.Sets.{Has}
 use Rattle.staat_model.proofs.SetListings.{has-set_of}
-use Rattle.staat_model.proofs.SetMembers.{has-empty, has-insert, has-union}
+use Rattle.staat_model.proofs.SetMembers.{has-empty, has-union}
 use Rattle.staat_decide.specs.Labels.{AllPrecede, AreClasses, HasLabel, HasLabelBelow, HoldsOfLater, IsClass}
 use Rattle.staat_vec.proofs.Comparisons.{sorted_push_less}
 use Rattle.staat_vec.proofs.ListLaws.{Contains-there}

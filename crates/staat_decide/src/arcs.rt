@@ -79,6 +79,5 @@ pub fn rows_of<F: FacetSource>(
     ensures { IfOk result (λ rows. AreBlockingRows parts.now along.now.d w.now rows.items) }
 {
     let mut table = table_for(alloc, parts)?;
-    let rows = rows_with(&mut table, alloc, source, parts, along, w)?;
-    Ok(rows)
+    rows_with(&mut table, alloc, source, parts, along, w)
 }

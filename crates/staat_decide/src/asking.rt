@@ -12,12 +12,17 @@ use crate::table::{KeptTable, table_for};
 use staat_cone::FacetSource;
 use staat_model::Part;
 use staat_motion::Bodies;
-use staat_vec::{OutOfMemory, V3};
+use staat_vec::{OutOfMemory, V3, is_same};
 use std::alloc::Global;
 
 // whether it was asked along this direction
 fn was_asked(asked: &[AskedRows], d: V3) -> bool {
-    asked.iter().any(|one| one.d == d)
+    for one in asked {
+        if is_same(one.d, d) {
+            return true;
+        }
+    }
+    false
 }
 
 // asks along a direction, if it is one and was not asked along before, and says whether it takes all parts apart

@@ -175,22 +175,31 @@ fn leads_everywhere(circle: &mut Circle, d: V3) -> Result<bool, OutOfMemory>
     Ok(reaches(circle, Way::Ahead) && reaches(circle, Way::Back))
 }
 
-/// The first end of an arc at which the pairs do not lead everywhere, or `other` where there are no arcs. Round a
-/// circle what leads anywhere is least at some end of an arc.
-pub fn loose_end(circle: &mut Circle, other: V3) -> Result<Option<V3>, OutOfMemory>
+// the end of the arc n, unless it was looked at there or there is no such arc
+fn unseen_end(circle: &Circle, n: usize) -> Option<V3>
+    ensures { IfSome result (IsWithin DIRECTION) }
+{
+    if n >= circle.spans.len() || circle.spans[n].is_seen {
+        return None;
+    }
+    Some(circle.spans[n].first.at)
+}
+
+/// The first end of an arc at which the pairs do not lead everywhere, or `other` where there are no arcs; zero where
+/// there is no such end. Round a circle what leads anywhere is least at some end of an arc.
+pub fn loose_end(circle: &mut Circle, other: V3) -> Result<V3, OutOfMemory>
     requires { IsWithin DIRECTION other }
-    ensures { IfOk result (λ answer. IfSome answer (IsWithin DIRECTION)) }
+    ensures { IfOk result (IsWithin DIRECTION) }
 {
     if circle.spans.is_empty() {
-        return Ok(Some(other));
+        return Ok(other);
     }
     for n in 0..circle.spans.len() {
-        if n < circle.spans.len() {
-            let span = circle.spans[n];
-            if !span.is_seen && !leads_everywhere(circle, span.first.at)? {
-                return Ok(Some(span.first.at));
+        if let Some(at) = unseen_end(circle, n) {
+            if !leads_everywhere(circle, at)? {
+                return Ok(at);
             }
         }
     }
-    Ok(None)
+    Ok(ORIGIN)
 }

@@ -9,7 +9,7 @@ ghost use Rattle.staat_motion.specs.Motions.{AreBodies, IsMotionOf};
 
 use crate::circles::{Circle, add_arc, circle_for, clear, look_at, loose_end};
 use crate::listing::{Candidate, Met, first_met, lead_of, list_of};
-use crate::planes::{Normal, X_AXIS, Y_AXIS, Z_AXIS, add_plane, add_planes, crossing, facets_of};
+use crate::planes::{Normal, add_planes, axis_planes, crossing, facets_of};
 use crate::reach::Way;
 use crate::spots::{MOST_PAIRS, Pair, pairs_of, spots_of};
 use crate::spreading::{are_all, mark_first, spread_all};
@@ -51,14 +51,14 @@ fn listed_last<F: FacetSource>(
     parts: &[Part],
     pair: Pair,
 ) -> Result<Met, OutOfMemory> {
-    let facets = facets_of(alloc, source, parts, pair.arc)?;
-    let k = list.len();
-    list.push(Candidate { pair, facets })?;
-    Ok(Met {
-        k,
-        is_turned: false,
+    let met = Met {
+        k: list.len(),
+        lead: lead_of(&pair, false),
         planes: 0,
-    })
+    };
+    let facets = facets_of(alloc, source, parts, pair.arc)?;
+    list.push(Candidate { pair, facets })?;
+    Ok(met)
 }
 
 // the first pair across of which the one piece meets the other, of those that are listed, or else of all
@@ -96,19 +96,20 @@ fn next_met<F: FacetSource>(
     }
 }
 
-// adds the pair at the place k to the core, with its planes and its lead
-fn choose(search: &mut CoreSearch, met: Met) -> Result<(), OutOfMemory> {
-    if met.k >= search.list.len() {
-        return Ok(());
+// adds the planes of a pair
+fn add_planes_of(planes: &mut Vec<Normal>, pair: &Candidate) -> Result<(), OutOfMemory> {
+    if let Some(facets) = &pair.facets {
+        add_planes(planes, facets)?;
     }
+    Ok(())
+}
+
+// adds the pair to the core, with its planes and its lead
+fn choose(search: &mut CoreSearch, met: Met) -> Result<(), OutOfMemory> {
     search.core.push(met.k)?;
-    let candidate = &search.list[met.k];
-    search
-        .circle
-        .leads
-        .push(lead_of(&candidate.pair, met.is_turned))?;
-    if let Some(facets) = &candidate.facets {
-        add_planes(&mut search.planes, facets)?;
+    search.circle.leads.push(met.lead)?;
+    if met.k < search.list.len() {
+        add_planes_of(&mut search.planes, &search.list[met.k])?;
     }
     Ok(())
 }
@@ -140,15 +141,24 @@ fn grow_on<F: FacetSource>(
     Ok(false)
 }
 
-// adds the arcs on the circle of the plane g of the pairs of the core from a number on
-fn add_arcs(search: &mut CoreSearch, g: Normal, first: usize) -> Result<(), OutOfMemory> {
-    for n in first..search.core.len() {
-        if n < search.core.len() && search.core[n] < search.list.len() {
-            let candidate = &search.list[search.core[n]];
-            if let Some(facets) = &candidate.facets {
-                let lead = lead_of(&candidate.pair, false);
-                add_arc(&mut search.circle, facets, g, lead)?;
-            }
+// adds the arc of a pair on the circle of the plane g
+fn add_arc_of(circle: &mut Circle, pair: &Candidate, g: Normal) -> Result<(), OutOfMemory> {
+    if let Some(facets) = &pair.facets {
+        add_arc(circle, facets, g, lead_of(&pair.pair, false))?;
+    }
+    Ok(())
+}
+
+// adds the arcs on the circle of the plane g of the pairs at the places
+fn add_arcs(
+    circle: &mut Circle,
+    list: &[Candidate],
+    places: &[usize],
+    g: Normal,
+) -> Result<(), OutOfMemory> {
+    for k in places {
+        if *k < list.len() {
+            add_arc_of(circle, &list[*k], g)?;
         }
     }
     Ok(())
@@ -172,13 +182,16 @@ fn loose_on(search: &mut CoreSearch, j: usize, first: usize) -> Result<Option<V3
     if j >= search.planes.len() {
         return Ok(None);
     }
-    let g = search.planes[j];
-    add_arcs(search, g, first)?;
+    let places = &search.core[first.min(search.core.len())..];
+    add_arcs(
+        &mut search.circle,
+        search.list.as_slice(),
+        places,
+        search.planes[j],
+    )?;
     let i = if j == 0 { 1 } else { 0 };
     let other = crossing(search.planes.as_slice(), i, j);
-    let Some(end) = loose_end(&mut search.circle, other)? else {
-        return Ok(None);
-    };
+    let end = loose_end(&mut search.circle, other)?;
     Ok(primitive_of(end))
 }
 
@@ -200,8 +213,7 @@ fn grow_at<F: FacetSource>(
     if !grow_on(search, alloc, source, parts, &along, w, Way::Ahead)? {
         return Ok(false);
     }
-    let is_back = grow_on(search, alloc, source, parts, &along, w, Way::Back)?;
-    Ok(is_back)
+    grow_on(search, alloc, source, parts, &along, w, Way::Back)
 }
 
 // lets the core grow until it leads everywhere on the plane j; a direction of it if the set comes apart there
@@ -233,19 +245,23 @@ fn free_on<F: FacetSource>(
     Ok(None)
 }
 
-// no core yet
-fn search_of(alloc: Global, parts: &[Part], w: &[u32]) -> Result<CoreSearch, OutOfMemory> {
+// the pairs of pieces of different parts of w, with no facets yet
+fn pairs_listed(alloc: Global, parts: &[Part], w: &[u32]) -> Result<Vec<Candidate>, OutOfMemory> {
     let spots = spots_of(alloc, parts, w)?;
     let pairs = pairs_of(alloc, spots.as_slice())?;
-    let mut planes = Vec::new(alloc);
-    for axis in [Z_AXIS, Y_AXIS, X_AXIS] {
-        add_plane(&mut planes, axis)?;
-    }
+    list_of(alloc, pairs.as_slice())
+}
+
+// no core yet
+fn search_of(alloc: Global, parts: &[Part], w: &[u32]) -> Result<CoreSearch, OutOfMemory> {
+    let list = pairs_listed(alloc, parts, w)?;
+    let planes = axis_planes(alloc)?;
+    let circle = circle_for(alloc, w.len())?;
     Ok(CoreSearch {
-        list: list_of(alloc, pairs.as_slice())?,
+        list,
         core: Vec::new(alloc),
         planes,
-        circle: circle_for(alloc, w.len())?,
+        circle,
     })
 }
 
@@ -261,6 +277,36 @@ fn core_of(alloc: Global, search: &CoreSearch) -> Result<Vec<Arc>, OutOfMemory> 
     Ok(core)
 }
 
+// lets the core grow plane by plane, by at most about so many vertices as the bound
+fn grow<F: FacetSource>(
+    search: &mut CoreSearch,
+    alloc: Global,
+    source: &F,
+    parts: &[Part],
+    bodies: &Bodies,
+    w: &[u32],
+    bound: usize,
+) -> Result<GrowthEnd, OutOfMemory>
+    requires { AreBodies parts.now bodies.now }
+{
+    let mut used = 0usize;
+    for j in 0..usize::MAX {
+        if j >= search.planes.len() {
+            return Ok(GrowthEnd::Core(core_of(alloc, search)?));
+        }
+        if used > bound {
+            return Ok(GrowthEnd::Large);
+        }
+        let before = search.circle.looks;
+        if let Some(d) = free_on(search, alloc, source, parts, bodies, w, j)? {
+            return Ok(GrowthEnd::Free(d));
+        }
+        let looks = search.circle.looks.saturating_sub(before);
+        used = used.saturating_add(looks.max(j));
+    }
+    Ok(GrowthEnd::Large)
+}
+
 /// Lets a core of the set of parts `w` grow, by at most about so many vertices as the bound.
 pub fn grown<F: FacetSource>(
     alloc: Global,
@@ -273,20 +319,5 @@ pub fn grown<F: FacetSource>(
     requires { AreBodies parts.now bodies.now }
 {
     let mut search = search_of(alloc, parts, w)?;
-    let mut used = 0usize;
-    for j in 0..usize::MAX {
-        if j >= search.planes.len() {
-            return Ok(GrowthEnd::Core(core_of(alloc, &search)?));
-        }
-        if used > bound {
-            return Ok(GrowthEnd::Large);
-        }
-        let before = search.circle.looks;
-        if let Some(d) = free_on(&mut search, alloc, source, parts, bodies, w, j)? {
-            return Ok(GrowthEnd::Free(d));
-        }
-        let looks = search.circle.looks.saturating_sub(before);
-        used = used.saturating_add(looks.max(j));
-    }
-    Ok(GrowthEnd::Large)
+    grow(&mut search, alloc, source, parts, bodies, w, bound)
 }

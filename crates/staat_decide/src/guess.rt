@@ -3,7 +3,7 @@
 ghost use Rattle.staat_motion.specs.Motions.{AreBodies};
 
 use crate::growing::{BOUND, GrowthEnd, grown};
-use crate::halves::{Fewer, halved};
+use crate::halves::halved;
 use crate::likely::AskedRows;
 use crate::pairs::held_pair;
 use crate::suspects::{Suspects, suspected};
@@ -32,10 +32,10 @@ fn few_of<F: FacetSource>(
 ) -> Result<Option<Suspects>, OutOfMemory>
     requires { AreBodies parts.now bodies.now }
 {
-    let left = match halved(alloc, source, parts, bodies, asked, w)? {
-        Fewer::Stuck(found) => return Ok(Some(found)),
-        Fewer::Left(left) => left,
-    };
+    let mut left = w.to_vec(alloc)?;
+    if let Some(pairs) = halved(alloc, source, parts, bodies, asked, &mut left)? {
+        return Ok(Some(Suspects { nodes: left, pairs }));
+    }
     if left.len() == w.len() {
         return Ok(None);
     }
@@ -45,21 +45,39 @@ fn few_of<F: FacetSource>(
     }
 }
 
-// what growing without a bound ends with
-fn whole<F: FacetSource>(
+// what growing within a bound ends with
+fn guess_within<F: FacetSource>(
     alloc: Global,
     source: &F,
     parts: &[Part],
     bodies: &Bodies,
     w: &[u32],
+    bound: usize,
 ) -> Result<Guess, OutOfMemory>
     requires { AreBodies parts.now bodies.now }
 {
-    match grown(alloc, source, parts, bodies, w, usize::MAX)? {
+    match grown(alloc, source, parts, bodies, w, bound)? {
         GrowthEnd::Free(d) => Ok(Guess::Free(d)),
         GrowthEnd::Core(pairs) => Ok(Guess::Stuck(suspected(alloc, w, pairs)?)),
         GrowthEnd::Large => Ok(Guess::None),
     }
+}
+
+// a guess at how a set that is too large for a bound goes on
+fn guess_large<F: FacetSource>(
+    alloc: Global,
+    source: &F,
+    parts: &[Part],
+    bodies: &Bodies,
+    asked: &[AskedRows],
+    w: &[u32],
+) -> Result<Guess, OutOfMemory>
+    requires { AreBodies parts.now bodies.now }
+{
+    if let Some(found) = few_of(alloc, source, parts, bodies, asked, w)? {
+        return Ok(Guess::Stuck(found));
+    }
+    guess_within(alloc, source, parts, bodies, w, usize::MAX)
 }
 
 /// A guess at how the parts of `w` go on.
@@ -76,14 +94,8 @@ pub fn guess_of<F: FacetSource>(
     if let Some(found) = held_pair(alloc, source, parts, bodies, asked, w)? {
         return Ok(Guess::Stuck(found));
     }
-    match grown(alloc, source, parts, bodies, w, BOUND)? {
-        GrowthEnd::Free(d) => return Ok(Guess::Free(d)),
-        GrowthEnd::Core(pairs) => return Ok(Guess::Stuck(suspected(alloc, w, pairs)?)),
-        GrowthEnd::Large => {}
+    match guess_within(alloc, source, parts, bodies, w, BOUND)? {
+        Guess::None => guess_large(alloc, source, parts, bodies, asked, w),
+        guess => Ok(guess),
     }
-    if let Some(found) = few_of(alloc, source, parts, bodies, asked, w)? {
-        return Ok(Guess::Stuck(found));
-    }
-    let guess = whole(alloc, source, parts, bodies, w)?;
-    Ok(guess)
 }

@@ -1,5 +1,5 @@
 // Whether pairs of pieces hold a set of parts together.
-ghost use Rattle.std.specs.Prelude.{◌≡◌, ◌<◌, ◌≤◌, ◌^◌, ◌↔◌, All, IfOk, IfSome, IsTrue, length};
+ghost use Rattle.std.specs.Prelude.{◌≡◌, ◌<◌, ◌≤◌, ◌^◌, ◌↔◌, All, IfOk, IsTrue, length};
 ghost use Rattle.std.specs.List.Sorted.{IsStrictlySortedBy};
 ghost use Rattle.std.specs.Ordering.{nat_cmp};
 ghost use Rattle.staat_model.specs.Assemblies.{IsPart};
@@ -10,8 +10,8 @@ ghost use Rattle.staat_decide.specs.Decided.{IsStuckHold};
 use crate::order::all_below;
 use crate::sets::PartList;
 use staat_cone::FacetSource;
-use staat_holds::{Hold, is_core_pair, judge_hold, own_names, places_of};
-use staat_model::{Arc, Arcs, Part};
+use staat_holds::{is_core_pair, judge_hold, own_names, places_of};
+use staat_model::{Arc, Part};
 use staat_vec::OutOfMemory;
 use std::alloc::Global;
 
@@ -68,39 +68,28 @@ pub fn is_part_set(w: &[u32], count: u32) -> bool
     w.len() >= 2 && w.len() <= count as usize && all_below(w, count) && is_ascending(w)
 }
 
-/// The parts of `w` with the pairs, if these hold them together.
-pub fn held_by<F: FacetSource>(
+/// Whether the pairs are of pieces of parts of `w`, and hold these together.
+pub fn are_held<F: FacetSource>(
     alloc: Global,
     source: &F,
     parts: &[Part],
     w: &[u32],
-    pairs: Vec<Arc>,
-) -> Result<Option<Hold>, OutOfMemory>
+    pairs: &[Arc],
+) -> Result<bool, OutOfMemory>
     requires parts { All IsPart parts.now }
     requires count { length parts.now < 2 ^ 32 }
     requires members { All (λ p. p < length parts.now) w.now }
     requires ascending { IsStrictlySortedBy nat_cmp w.now }
     requires two { 2 ≤ length w.now }
     requires few { length w.now < 2 ^ 32 }
-    ensures { IfOk result (λ answer. IfSome answer (IsStuckHold parts.now)) }
+    ensures { IfOk result (λ answer. IsTrue answer
+        → IsStuckHold parts.now (record { nodes = w.now; pairs = pairs.now })) }
 {
     let places = places_in(alloc, w, parts.len() as u32)?;
     let count = w.len() as u32;
-    if !are_core_pairs(parts, places.as_slice(), count, pairs.as_slice()) {
-        return Ok(None);
+    if !are_core_pairs(parts, places.as_slice(), count, pairs) {
+        return Ok(false);
     }
-    let is_held = judge_hold(
-        alloc,
-        source,
-        parts,
-        places.as_slice(),
-        count,
-        pairs.as_slice(),
-    )?;
-    if !is_held {
-        return Ok(None);
-    }
-    let nodes = copied(alloc, w)?;
-    let pairs = Arcs::from_vec(pairs);
-    Ok(Some(Hold { nodes, pairs }))
+    let is_held = judge_hold(alloc, source, parts, places.as_slice(), count, pairs)?;
+    Ok(is_held)
 }

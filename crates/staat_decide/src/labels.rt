@@ -1,6 +1,8 @@
 // A guess at labels, which is judged afterwards: that of each strong component, those first that no arc leaves. It is
 // found by two walks: one against the arcs, which tells in what order parts are done with, and one along them.
 use crate::arcs::Row;
+use crate::reach::Way;
+use crate::spreading::{is_marked, mark, no_marks};
 use staat_vec::OutOfMemory;
 use std::alloc::Global;
 
@@ -11,11 +13,18 @@ pub struct Labels {
     pub count: u32,
 }
 
+// a place where a walk stands, and the first of those that it did not look at from there
+#[derive(Clone, Copy)]
+struct Stand {
+    place: usize,
+    next: usize,
+}
+
 // a walk: what it has seen, where it stands, and what it is done with
 #[derive(Drop)]
 struct ArcWalk {
     seen: Vec<bool>,
-    path: Vec<usize>,
+    path: Vec<Stand>,
     done: Vec<usize>,
 }
 
@@ -28,144 +37,119 @@ pub fn has_arc(rows: &[Row], i: usize, j: usize) -> bool {
     j < row.len() && row[j]
 }
 
-// whether the place is marked, or there is none
-fn is_marked(marks: &[bool], i: usize) -> bool {
-    i >= marks.len() || marks[i]
-}
-
-fn mark(marks: &mut [bool], i: usize) {
-    if i < marks.len() {
-        marks[i] = true;
+/// Whether the way leads from the place `i` to the place `j`.
+pub fn leads(rows: &[Row], way: Way, i: usize, j: usize) -> bool {
+    match way {
+        Way::Ahead => has_arc(rows, i, j),
+        Way::Back => has_arc(rows, j, i),
     }
 }
 
-fn set_label(labels: &mut [u32], i: usize, k: u32) {
-    if i < labels.len() {
-        labels[i] = k;
-    }
-}
-
-fn no_marks(alloc: Global, count: usize) -> Result<Vec<bool>, OutOfMemory> {
-    let mut marks = Vec::new(alloc);
-    for _ in 0..count {
-        marks.push(false)?;
-    }
-    Ok(marks)
-}
-
-fn no_labels(alloc: Global, count: usize) -> Result<Vec<u32>, OutOfMemory> {
-    let mut labels = Vec::new(alloc);
-    for _ in 0..count {
-        labels.push(0)?;
-    }
-    Ok(labels)
-}
-
-// the first place that is not seen and from which an arc leads to the place v
-fn fresh_before(rows: &[Row], seen: &[bool], v: usize) -> Option<usize> {
-    for i in 0..rows.len() {
-        if !is_marked(seen, i) && has_arc(rows, i, v) {
-            return Some(i);
+// the next place that is not seen and to which the way leads from where the walk stands
+fn fresh_from(rows: &[Row], way: Way, seen: &[bool], at: Stand) -> Option<usize> {
+    for j in at.next..rows.len() {
+        if !is_marked(seen, j) && leads(rows, way, at.place, j) {
+            return Some(j);
         }
     }
     None
 }
 
-// goes on against the arcs from where the walk stands, or is done with that place and goes back
-fn step(rows: &[Row], walk: &mut ArcWalk) -> Result<(), OutOfMemory> {
-    if let Some(v) = walk.path.pop() {
-        match fresh_before(rows, walk.seen.as_slice(), v) {
-            None => walk.done.push(v)?,
-            Some(i) => {
-                mark(walk.seen.as_mut_slice(), i);
-                walk.path.push(v)?;
-                walk.path.push(i)?;
-            }
-        }
+// goes on from where the walk stands, or is done with that place and goes back
+fn step(rows: &[Row], way: Way, walk: &mut ArcWalk) -> Result<(), OutOfMemory> {
+    if let Some(at) = walk.path.pop() {
+        let Some(place) = fresh_from(rows, way, walk.seen.as_slice(), at) else {
+            walk.done.push(at.place)?;
+            return Ok(());
+        };
+        mark(&mut walk.seen, place);
+        let back = Stand { next: place, ..at };
+        walk.path
+            .extend_from_slice(&[back, Stand { place, next: 0 }])?;
     }
     Ok(())
 }
 
-// walks against the arcs from a place as far as it goes: two steps for each place are enough
-fn walk_from(rows: &[Row], walk: &mut ArcWalk, root: usize) -> Result<(), OutOfMemory> {
-    if is_marked(walk.seen.as_slice(), root) {
-        return Ok(());
+// walks from a place, unless it was seen, as far as it goes: two steps for each place are enough
+fn walk_from(rows: &[Row], way: Way, walk: &mut ArcWalk, root: usize) -> Result<(), OutOfMemory> {
+    if mark(&mut walk.seen, root) {
+        walk.path.push(Stand {
+            place: root,
+            next: 0,
+        })?;
     }
-    mark(walk.seen.as_mut_slice(), root);
-    walk.path.push(root)?;
-    for _ in 0..rows.len() {
+    for _ in 0..rows.len().saturating_mul(2) {
         if walk.path.is_empty() {
             return Ok(());
         }
-        step(rows, walk)?;
-        step(rows, walk)?;
+        step(rows, way, walk)?;
     }
     Ok(())
 }
 
-// all places, in the order in which walks against the arcs are done with them
-fn places_done(alloc: Global, rows: &[Row]) -> Result<Vec<usize>, OutOfMemory> {
-    let mut walk = ArcWalk {
-        seen: no_marks(alloc, rows.len())?,
+// a walk over so many places that has seen none
+fn walk_over(alloc: Global, count: usize) -> Result<ArcWalk, OutOfMemory> {
+    Ok(ArcWalk {
+        seen: no_marks(alloc, count)?,
         path: Vec::new(alloc),
         done: Vec::new(alloc),
-    };
+    })
+}
+
+// walks against the arcs until it is done with all places
+fn walk_back(rows: &[Row], walk: &mut ArcWalk) -> Result<(), OutOfMemory> {
     for root in 0..rows.len() {
-        walk_from(rows, &mut walk, root)?;
-    }
-    Ok(walk.done)
-}
-
-// marks the places to which an arc leads from v and that are not marked yet, and puts them at the end of the list
-fn add_ahead(
-    rows: &[Row],
-    v: usize,
-    seen: &mut Vec<bool>,
-    ahead: &mut Vec<usize>,
-) -> Result<(), OutOfMemory> {
-    for j in 0..rows.len() {
-        if !is_marked(seen.as_slice(), j) && has_arc(rows, v, j) {
-            mark(seen.as_mut_slice(), j);
-            ahead.push(j)?;
-        }
+        walk_from(rows, Way::Back, walk, root)?;
     }
     Ok(())
 }
 
-// gives the label k to what is reached from v along arcs and not seen before
+// gives the next label to the places
+fn set_label(labels: &mut Labels, places: &[usize]) {
+    for place in places {
+        if *place < labels.of.len() {
+            labels.of[*place] = labels.count;
+        }
+    }
+    labels.count = labels.count.saturating_add(1);
+}
+
+// walks along arcs from the place that it was done with as the k-th, and gives the next label to what it sees
 fn label_from(
-    alloc: Global,
     rows: &[Row],
-    v: usize,
-    k: u32,
-    seen: &mut Vec<bool>,
-    labels: &mut Vec<u32>,
+    walk: &mut ArcWalk,
+    k: usize,
+    labels: &mut Labels,
 ) -> Result<(), OutOfMemory> {
-    let mut ahead = Vec::new(alloc);
-    mark(seen.as_mut_slice(), v);
-    ahead.push(v)?;
-    for _ in 0..rows.len() {
-        if let Some(u) = ahead.pop() {
-            set_label(labels.as_mut_slice(), u, k);
-            add_ahead(rows, u, seen, &mut ahead)?;
-        }
+    let before = walk.done.len();
+    if k < before {
+        let root = walk.done[k];
+        walk_from(rows, Way::Ahead, walk, root)?;
+    }
+    let done = walk.done.as_slice();
+    if before < done.len() {
+        set_label(labels, &done[before..]);
     }
     Ok(())
+}
+
+// labels by walks along arcs from the places that the walk was done with, the last of them first
+fn labels_along(alloc: Global, rows: &[Row], walk: &mut ArcWalk) -> Result<Labels, OutOfMemory> {
+    let mut labels = Labels {
+        of: vec![in alloc; 0; rows.len()]?,
+        count: 0,
+    };
+    let count = walk.done.len();
+    walk.seen.as_mut_slice().fill(false);
+    for k in 0..count {
+        label_from(rows, walk, count - 1 - k, &mut labels)?;
+    }
+    Ok(labels)
 }
 
 /// Labels of parts, of which the rows are given, so that no arc should lead to a greater one.
 pub fn labels_of(alloc: Global, rows: &[Row]) -> Result<Labels, OutOfMemory> {
-    let mut done = places_done(alloc, rows)?;
-    let mut seen = no_marks(alloc, rows.len())?;
-    let mut labels = no_labels(alloc, rows.len())?;
-    let mut count = 0u32;
-    for _ in 0..rows.len() {
-        if let Some(v) = done.pop() {
-            if !is_marked(seen.as_slice(), v) {
-                label_from(alloc, rows, v, count, &mut seen, &mut labels)?;
-                count = count.saturating_add(1);
-            }
-        }
-    }
-    Ok(Labels { of: labels, count })
+    let mut walk = walk_over(alloc, rows.len())?;
+    walk_back(rows, &mut walk)?;
+    labels_along(alloc, rows, &mut walk)
 }

@@ -163,8 +163,7 @@ fn leaving_as_before(
 {
     for one in asked {
         if is_same(one.d, before) {
-            let answer = leaving_along(alloc, parts, one, w)?;
-            return Ok(answer);
+            return leaving_along(alloc, parts, one, w);
         }
     }
     Ok(None)

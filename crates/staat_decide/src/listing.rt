@@ -1,16 +1,15 @@
 // Pairs of pieces that are listed, with their facets once these were asked for, and those of them that meet across a
 // border between marked places and others.
-ghost use Rattle.std.specs.Prelude.{◌<◌, ◌↔◌, IsTrue, length};
 ghost use Rattle.staat_vec.specs.declared.vector.TheConstants.{DIRECTION};
 ghost use Rattle.staat_vec.specs.Vectors.{IsWithin};
-ghost use Rattle.staat_model.specs.Assemblies.{piece_count};
-ghost use Rattle.staat_motion.specs.Motions.{HasBothPieces, IsMotionOf};
+ghost use Rattle.staat_motion.specs.Motions.{IsMotionOf};
 
 use crate::planes::{Facets, Normal, facets_of, is_ahead, new_planes};
 use crate::reach::Way;
 use crate::spots::Pair;
 use crate::spreading::{Lead, is_marked};
 use staat_cone::FacetSource;
+use staat_holds::has_pieces;
 use staat_model::{Arc, Part};
 use staat_motion::Along;
 use staat_vec::{DIRECTION, OutOfMemory, V3, neg};
@@ -23,35 +22,17 @@ pub struct Candidate {
     pub facets: Option<Facets>,
 }
 
-/// A pair by its place in the list, whether it is the second piece that meets the first, and how many planes its
-/// facets add.
+/// A pair by its place in the list, how it leads from the piece that meets the other, and how many planes its facets
+/// add.
 #[derive(Clone, Copy)]
 pub struct Met {
     pub k: usize,
-    pub is_turned: bool,
+    pub lead: Lead,
     pub planes: usize,
 }
 
 /// How many pairs that meet are looked at for the one that adds the fewest planes.
 const MOST_MET: usize = 3;
-
-// whether the part has the piece
-fn has_piece(parts: &[Part], a: u32, i: u32) -> bool
-    ensures { IsTrue result ↔ ((a < length parts.now) × (i < piece_count parts.now a)) }
-{
-    if a as usize >= parts.len() {
-        return false;
-    }
-    let part = &parts[a as usize];
-    (i as usize) < part.pieces.as_slice().len()
-}
-
-/// Whether the two pieces exist.
-pub fn has_pieces(parts: &[Part], pair: Arc) -> bool
-    ensures { IsTrue result ↔ HasBothPieces parts.now pair }
-{
-    has_piece(parts, pair.a, pair.i) && has_piece(parts, pair.b, pair.j)
-}
 
 // whether boxes and spans leave it open that the first piece meets the second
 fn may_meet(parts: &[Part], along: &Along, pair: Arc) -> bool
@@ -154,6 +135,33 @@ fn fewer(best: Option<Met>, next: Met) -> Option<Met> {
     }
 }
 
+// how the pair k meets across, on the way from a marked place to one that is not, if it does
+fn met_by<F: FacetSource>(
+    k: usize,
+    candidate: &mut Candidate,
+    alloc: Global,
+    source: &F,
+    parts: &[Part],
+    along: &Along,
+    planes: &[Normal],
+    marks: &[bool],
+    way: Way,
+) -> Result<Option<Met>, OutOfMemory>
+    requires { IsMotionOf parts.now along.now }
+{
+    let Some(is_turned) = turned_on(marks, way, &candidate.pair) else {
+        return Ok(None);
+    };
+    if !meets(candidate, alloc, source, parts, along, is_turned)? {
+        return Ok(None);
+    }
+    Ok(Some(Met {
+        k,
+        lead: lead_of(&candidate.pair, is_turned),
+        planes: planes_added(candidate, planes),
+    }))
+}
+
 /// Of the first pairs of which one piece meets the other across, on the way from a marked place to one that is not,
 /// that which adds the fewest planes.
 pub fn first_met<F: FacetSource>(
@@ -171,23 +179,15 @@ pub fn first_met<F: FacetSource>(
     let mut best = None;
     let mut count = 0usize;
     for (k, candidate) in list.iter_mut().enumerate() {
-        if let Some(is_turned) = turned_on(marks, way, &candidate.pair) {
-            if meets(candidate, alloc, source, parts, along, is_turned)? {
-                let planes = planes_added(candidate, planes);
-                best = fewer(
-                    best,
-                    Met {
-                        k,
-                        is_turned,
-                        planes,
-                    },
-                );
-                count = if planes == 0 {
-                    MOST_MET
-                } else {
-                    count.saturating_add(1)
-                };
-            }
+        if let Some(met) = met_by(
+            k, candidate, alloc, source, parts, along, planes, marks, way,
+        )? {
+            best = fewer(best, met);
+            count = if met.planes == 0 {
+                MOST_MET
+            } else {
+                count.saturating_add(1)
+            };
         }
         if count >= MOST_MET {
             return Ok(best);

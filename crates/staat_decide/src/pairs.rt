@@ -3,7 +3,7 @@
 ghost use Rattle.staat_motion.specs.Motions.{AreBodies};
 
 use crate::growing::{GrowthEnd, grown};
-use crate::labels::has_arc;
+use crate::labels::{has_arc, leads};
 use crate::likely::AskedRows;
 use crate::reach::Way;
 use crate::spreading::{are_all, mark, no_marks};
@@ -70,23 +70,25 @@ pub fn held_pair<F: FacetSource>(
     Ok(None)
 }
 
-// marks the places of parts of w to which the way leads from the part a, and puts them at the end of the list
+// marks for the places of parts, and the parts from which it is to go on
+#[derive(Drop)]
+struct Reach {
+    marks: Vec<bool>,
+    next: Vec<u32>,
+}
+
+// marks the places of parts of w to which the way leads from the part a, from which it is then to go on
 fn add_next(
     asked: &AskedRows,
     w: &[u32],
     way: Way,
     a: u32,
-    marks: &mut Vec<bool>,
-    next: &mut Vec<usize>,
+    reach: &mut Reach,
 ) -> Result<(), OutOfMemory> {
     let rows = asked.rows.as_slice();
     for (j, b) in w.iter().enumerate() {
-        let leads = match way {
-            Way::Ahead => has_arc(rows, a as usize, *b as usize),
-            Way::Back => has_arc(rows, *b as usize, a as usize),
-        };
-        if leads && mark(marks, j) {
-            next.push(j)?;
+        if leads(rows, way, a as usize, *b as usize) && mark(&mut reach.marks, j) {
+            reach.next.push(*b)?;
         }
     }
     Ok(())
@@ -94,18 +96,20 @@ fn add_next(
 
 // whether each part of w is reached from the first one on the way
 fn reaches_all(alloc: Global, asked: &AskedRows, w: &[u32], way: Way) -> Result<bool, OutOfMemory> {
-    let mut marks = no_marks(alloc, w.len())?;
-    let mut next = Vec::new(alloc);
-    mark(&mut marks, 0);
-    next.push(0usize)?;
+    if w.is_empty() {
+        return Ok(true);
+    }
+    let mut reach = Reach {
+        marks: no_marks(alloc, w.len())?,
+        next: vec![in alloc; w[0]]?,
+    };
+    mark(&mut reach.marks, 0);
     for _ in 0..w.len() {
-        if let Some(u) = next.pop() {
-            if u < w.len() {
-                add_next(asked, w, way, w[u], &mut marks, &mut next)?;
-            }
+        if let Some(a) = reach.next.pop() {
+            add_next(asked, w, way, a, &mut reach)?;
         }
     }
-    Ok(are_all(marks.as_slice()))
+    Ok(are_all(reach.marks.as_slice()))
 }
 
 /// Whether one of the likely directions takes the parts of `w` apart.

@@ -5,7 +5,7 @@ ghost use Rattle.staat_vec.specs.Vectors.{IsWithin};
 
 use staat_cone::{FacetSource, blocks};
 use staat_model::{Arc, Part, Piece};
-use staat_vec::{NORMAL, ORIGIN, OutOfMemory, V3, canon, cross_normal, primitive};
+use staat_vec::{NORMAL, ORIGIN, OutOfMemory, V3, canon, cross_normal, is_same, primitive};
 use std::alloc::Global;
 
 /// The axes.
@@ -37,7 +37,12 @@ fn is_normal(v: V3) -> bool
 }
 
 fn has_plane(planes: &[Normal], v: V3) -> bool {
-    planes.iter().any(|n| n.v == v)
+    for plane in planes {
+        if is_same(plane.v, v) {
+            return true;
+        }
+    }
+    false
 }
 
 /// The canonical normal of the plane that the vector is a normal of, if it is not zero and not too great.
@@ -62,14 +67,23 @@ pub fn crossing_of(g: V3, h: V3) -> Option<V3> {
     Some(canon(primitive(d)))
 }
 
-/// Adds the plane that the vector is a normal of, unless it is there.
-pub fn add_plane(planes: &mut Vec<Normal>, v: V3) -> Result<(), OutOfMemory> {
+// adds the plane that the vector is a normal of, unless it is there
+fn add_plane(planes: &mut Vec<Normal>, v: V3) -> Result<(), OutOfMemory> {
     if let Some(plane) = plane_of(v) {
         if !has_plane(planes.as_slice(), plane) {
             planes.push(Normal { v: plane })?;
         }
     }
     Ok(())
+}
+
+/// The planes across the axes.
+pub fn axis_planes(alloc: Global) -> Result<Vec<Normal>, OutOfMemory> {
+    Ok(vec![in alloc;
+        Normal { v: Z_AXIS },
+        Normal { v: Y_AXIS },
+        Normal { v: X_AXIS },
+    ]?)
 }
 
 /// Adds the planes of the facets.
@@ -110,8 +124,8 @@ pub fn normals_of(facets: &Facets) -> &[V3]
     facets.list.as_slice()
 }
 
-/// The piece `i` of the part `a`, if there is one.
-pub fn piece_at(parts: &[Part], a: u32, i: u32) -> Option<&Piece> {
+// the piece i of the part a, if there is one
+fn piece_at(parts: &[Part], a: u32, i: u32) -> Option<&Piece> {
     if a as usize >= parts.len() {
         return None;
     }

@@ -1,5 +1,6 @@
 // Plans for sets of parts.
-ghost use Rattle.std.specs.Prelude.{◌<◌, ◌≤◌, ◌^◌, All, IfOk, length};
+ghost use Rattle.std.specs.Prelude.{◌≡◌, ◌<◌, ◌≤◌, ◌^◌, All, IfOk, length};
+ghost use Rattle.std.specs.List.{range_with_len};
 ghost use Rattle.std.specs.List.Sorted.{IsStrictlySortedBy};
 ghost use Rattle.std.specs.Ordering.{nat_cmp};
 ghost use Rattle.staat_model.specs.Assemblies.{IsPart};
@@ -7,10 +8,10 @@ ghost use Rattle.staat_model.specs.SetLists.{set_of};
 ghost use Rattle.staat_model.specs.Sets.{below};
 ghost use Rattle.staat_motion.specs.Motions.{AreBodies};
 ghost use Rattle.staat_decide.specs.Asking.{AreAskedRows};
-ghost use Rattle.staat_decide.specs.Decided.{IsDecision, IsParting};
+ghost use Rattle.staat_decide.specs.Decided.{IsDecision, IsLeaving, IsParting};
 
 use crate::asking::asked_of;
-use crate::decision::{Decision, Parting};
+use crate::decision::{Decision, Leaving, Parting};
 use crate::likely::{AskedRows, likely_leaving, numbers};
 use crate::settling::{parting_by_all, parting_by_guess};
 use crate::turns::joined;
@@ -46,11 +47,44 @@ fn parting<F: FacetSource>(
     if let Some(found) = parting_by_guess(alloc, source, parts, bodies, asked, w)? {
         return Ok(found);
     }
-    let found = parting_by_all(alloc, source, parts, bodies, w)?;
-    Ok(found)
+    parting_by_all(alloc, source, parts, bodies, w)
 }
 
-// a plan of the parts of w, or parts that are stuck: what leaves along one direction is planned set by set
+// a plan of the parts of w, which leave along one direction, set by set, or parts that are stuck
+#[cycle(deciding)]
+fn planned<F: FacetSource>(
+    alloc: Global,
+    source: &F,
+    parts: &[Part],
+    bodies: &Bodies,
+    asked: &[AskedRows],
+    w: &[u32],
+    leaving: &Leaving,
+) -> Result<Decision, OutOfMemory>
+    requires bodies { AreBodies parts.now bodies.now }
+    requires count { length parts.now < 2 ^ 32 }
+    requires pieces { All (λ part. length part.pieces < 2 ^ 32) parts.now }
+    requires asked { All (AreAskedRows parts.now) asked.now }
+    requires members { All (λ p. p < length parts.now) w.now }
+    requires ascending { IsStrictlySortedBy nat_cmp w.now }
+    requires few { length w.now < 2 ^ 32 }
+    requires leaves { IsLeaving parts.now w.now leaving.now }
+    ensures { IfOk result (IsDecision parts.now (set_of w.now)) }
+{
+    let sets = leaving.sets.as_slice();
+    let mut trees = Vec::new(alloc);
+    for s in sets {
+        match decision_of(alloc, source, parts, bodies, asked, s.as_slice(), leaving.d)? {
+            Decision::Held(stuck) => return Ok(Decision::Held(stuck)),
+            Decision::Apart(tree) => trees.push(tree)?,
+        }
+    }
+    let whole = joined(alloc, leaving.d, trees)?;
+    Ok(Decision::Apart(whole))
+}
+
+// a plan of the parts of w, or parts that are stuck
+#[cycle(deciding)]
 fn decision_of<F: FacetSource>(
     alloc: Global,
     source: &F,
@@ -76,18 +110,29 @@ fn decision_of<F: FacetSource>(
     match parting(alloc, source, parts, bodies, asked, w, before)? {
         Parting::Stays(held) => Ok(Decision::Held(held)),
         Parting::Leaves(leaving) => {
-            let sets = leaving.sets.as_slice();
-            let mut trees = Vec::new(alloc);
-            for s in sets {
-                match decision_of(alloc, source, parts, bodies, asked, s.as_slice(), leaving.d)? {
-                    Decision::Held(stuck) => return Ok(Decision::Held(stuck)),
-                    Decision::Apart(tree) => trees.push(tree)?,
-                }
-            }
-            let whole = joined(alloc, leaving.d, trees)?;
-            Ok(Decision::Apart(whole))
+            let decision = planned(alloc, source, parts, bodies, asked, w, &leaving)?;
+            Ok(decision)
         }
     }
+}
+
+// a plan of all parts, whose numbers are given, or parts that are stuck
+fn decision_of_all<F: FacetSource>(
+    alloc: Global,
+    source: &F,
+    parts: &[Part],
+    bodies: &Bodies,
+    all: &[u32],
+) -> Result<Decision, OutOfMemory>
+    requires bodies { AreBodies parts.now bodies.now }
+    requires some { 1 ≤ length parts.now }
+    requires count { length parts.now < 2 ^ 32 }
+    requires pieces { All (λ part. length part.pieces < 2 ^ 32) parts.now }
+    requires all { all.now ≡ range_with_len 0 (length parts.now) }
+    ensures { IfOk result (IsDecision parts.now (below (length parts.now))) }
+{
+    let asked = asked_of(alloc, source, parts, bodies, all)?;
+    decision_of(alloc, source, parts, bodies, asked.as_slice(), all, ORIGIN)
 }
 
 /// A plan that takes all parts apart, or parts that are stuck.
@@ -104,15 +149,5 @@ pub fn decide<F: FacetSource>(
 {
     let bodies = Bodies::of(alloc, parts)?;
     let all = numbers(alloc, parts.len() as u32)?;
-    let asked = asked_of(alloc, source, parts, &bodies, all.as_slice())?;
-    let decision = decision_of(
-        alloc,
-        source,
-        parts,
-        &bodies,
-        asked.as_slice(),
-        all.as_slice(),
-        ORIGIN,
-    )?;
-    Ok(decision)
+    decision_of_all(alloc, source, parts, &bodies, all.as_slice())
 }

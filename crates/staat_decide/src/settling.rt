@@ -13,9 +13,10 @@ ghost use Rattle.staat_decide.specs.Peelings.{IsHeldAlong};
 use crate::decision::{Leaving, Parting};
 use crate::every::all_pairs;
 use crate::guess::{Guess, guess_of};
-use crate::holding::{copied, held_by, is_part_set, places_in};
+use crate::holding::{are_held, copied, is_part_set, places_in};
 use crate::likely::{AskedRows, is_direction};
 use crate::peeling::peel;
+use crate::sets::PartList;
 use crate::suspects::Suspects;
 use staat_cone::FacetSource;
 use staat_holds::{Hold, first_gap};
@@ -59,15 +60,14 @@ fn staying_if_held<F: FacetSource>(
     requires count { length parts.now < 2 ^ 32 }
     ensures { (w : List ℕ) → IfOk result (λ answer. IfSome answer (IsParting parts.now w)) }
 {
-    let pairs = suspects.pairs;
     let w = suspects.nodes.as_slice();
-    if !is_part_set(w, parts.len() as u32) {
+    let pairs = suspects.pairs.as_slice();
+    if !is_part_set(w, parts.len() as u32) || !are_held(alloc, source, parts, w, pairs)? {
         return Ok(None);
     }
-    match held_by(alloc, source, parts, w, pairs)? {
-        None => Ok(None),
-        Some(hold) => Ok(Some(Parting::Stays(hold))),
-    }
+    let nodes = PartList::from_vec(suspects.nodes);
+    let pairs = Arcs::from_vec(suspects.pairs);
+    Ok(Some(Parting::Stays(Hold { nodes, pairs })))
 }
 
 /// How `w` goes on by a guess, if that is right.
@@ -89,14 +89,8 @@ pub fn parting_by_guess<F: FacetSource>(
 {
     match guess_of(alloc, source, parts, bodies, asked, w)? {
         Guess::None => Ok(None),
-        Guess::Free(d) => {
-            let answer = leaving_if_free(alloc, source, parts, bodies, w, d)?;
-            Ok(answer)
-        }
-        Guess::Stuck(suspects) => {
-            let answer = staying_if_held(alloc, source, parts, suspects)?;
-            Ok(answer)
-        }
+        Guess::Free(d) => leaving_if_free(alloc, source, parts, bodies, w, d),
+        Guess::Stuck(suspects) => staying_if_held(alloc, source, parts, suspects),
     }
 }
 

@@ -142,15 +142,20 @@ fn smallness(a: &Spot, b: &Spot) -> u128 {
     distance.saturating_mul(FINE) / size
 }
 
+/// The pair of two pieces.
+pub fn arc_between(first: &Spot, second: &Spot) -> Arc {
+    Arc {
+        a: first.part,
+        i: first.piece,
+        b: second.part,
+        j: second.piece,
+    }
+}
+
 fn pair_of(first: &Spot, second: &Spot) -> Pair {
     Pair {
         smallness: smallness(first, second),
-        arc: Arc {
-            a: first.part,
-            i: first.piece,
-            b: second.part,
-            j: second.piece,
-        },
+        arc: arc_between(first, second),
         from: first.place,
         to: second.place,
     }

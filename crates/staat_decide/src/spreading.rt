@@ -26,16 +26,12 @@ pub fn mark(marks: &mut Vec<bool>, i: usize) -> bool {
 
 /// Whether all places are marked.
 pub fn are_all(marks: &[bool]) -> bool {
-    marks.iter().all(|m| *m)
+    !marks.contains(&false)
 }
 
 /// Marks for so many places, none of which is marked.
 pub fn no_marks(alloc: Global, count: usize) -> Result<Vec<bool>, OutOfMemory> {
-    let mut marks = Vec::new(alloc);
-    for _ in 0..count {
-        marks.push(false)?;
-    }
-    Ok(marks)
+    Ok(vec![in alloc; false; count]?)
 }
 
 /// Marks the first place alone.

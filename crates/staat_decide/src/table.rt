@@ -1,14 +1,15 @@
 // The facets of pairs of pieces, kept so that they are found once for all directions. Each pair has a slot, which it
 // may share with others: that which was asked about last is kept.
-ghost use Rattle.std.specs.Prelude.{◌≡◌, ◌≢◌, ◌<◌, ◌≤◌, ◌↔◌, List, IfOk, IfSome, IsTrue, OnOk, Some, length};
+ghost use Rattle.std.specs.Prelude.{◌≡◌, ◌≢◌, ◌<◌, ◌≤◌, ◌↔◌, List, IfOk, IfSome, IsTrue, OnOk, length};
 ghost use Rattle.staat_model.specs.declared.assembly.Part.{Part as PartValue};
-ghost use Rattle.staat_model.specs.Assemblies.{piece_at, piece_count};
+ghost use Rattle.staat_model.specs.Assemblies.{piece_count};
 ghost use Rattle.staat_model.specs.Removal.{Blocks, MeetsAlong};
 ghost use Rattle.staat_motion.specs.Motions.{HasBothPieces, IsMotionOf};
 ghost use Rattle.staat_decide.specs.Keeping.{AreKept, IsEitherOrder, IsKept, KeepsPair, MeetsSome};
 
 use staat_cone::FacetSource;
-use staat_model::{Arc, Part, Piece};
+use staat_holds::piece_of;
+use staat_model::{Arc, Part};
 use staat_motion::Along;
 use staat_vec::{Listed, OutOfMemory, V3};
 use std::alloc::Global;
@@ -56,16 +57,6 @@ fn ordered(pair: Arc) -> Arc
     } else {
         pair
     }
-}
-
-// the piece i of the part a
-fn piece_of(parts: &[Part], a: u32, i: u32) -> &Piece
-    requires part { a < length parts.now }
-    requires piece { i < piece_count parts.now a }
-    ensures { piece_at parts.now a i ≡ Some result.now }
-{
-    let part = &parts[a as usize];
-    &part.pieces.as_slice()[i as usize]
 }
 
 // the pair with its facets
@@ -337,11 +328,10 @@ pub fn blocks_with<F: FacetSource>(
         return Ok(false);
     }
     let Some(first) = count_of(parts, a) else {
-        return Ok(along.blocks(alloc, source, parts, a, b)?);
+        return along.blocks(alloc, source, parts, a, b);
     };
     let Some(second) = count_of(parts, b) else {
-        return Ok(along.blocks(alloc, source, parts, a, b)?);
+        return along.blocks(alloc, source, parts, a, b);
     };
-    let answer = some_meets(table, alloc, source, parts, along, a, first, b, second)?;
-    Ok(answer)
+    some_meets(table, alloc, source, parts, along, a, first, b, second)
 }

@@ -2,11 +2,11 @@
 // pieces to list them all. Boxes and spans of whole parts leave few parts to look at.
 ghost use Rattle.staat_motion.specs.Motions.{IsMotionOf};
 
-use crate::listing::has_pieces;
 use crate::reach::Way;
 use crate::spots::Pair;
 use crate::spreading::is_marked;
 use staat_cone::FacetSource;
+use staat_holds::has_pieces;
 use staat_model::{Arc, Part};
 use staat_motion::Along;
 use staat_vec::OutOfMemory;
@@ -42,6 +42,23 @@ fn met_by_piece<F: FacetSource>(
     Ok(None)
 }
 
+// whether the part a blocks the part b, if there are such parts
+fn blocks_part<F: FacetSource>(
+    alloc: Global,
+    source: &F,
+    parts: &[Part],
+    along: &Along,
+    a: u32,
+    b: u32,
+) -> Result<bool, OutOfMemory>
+    requires { IsMotionOf parts.now along.now }
+{
+    if a as usize >= parts.len() || b as usize >= parts.len() {
+        return Ok(false);
+    }
+    along.blocks(alloc, source, parts, a, b)
+}
+
 // the first piece of the part a that meets one of the part b, if a blocks b
 fn met_by_part<F: FacetSource>(
     alloc: Global,
@@ -53,15 +70,11 @@ fn met_by_part<F: FacetSource>(
 ) -> Result<Option<Arc>, OutOfMemory>
     requires { IsMotionOf parts.now along.now }
 {
-    if a as usize >= parts.len() || b as usize >= parts.len() {
-        return Ok(None);
-    }
-    if !along.blocks(alloc, source, parts, a, b)? {
-        return Ok(None);
-    }
-    for i in 0..piece_number(parts, a) {
-        if let Some(arc) = met_by_piece(alloc, source, parts, along, a, i, b)? {
-            return Ok(Some(arc));
+    if blocks_part(alloc, source, parts, along, a, b)? {
+        for i in 0..piece_number(parts, a) {
+            if let Some(arc) = met_by_piece(alloc, source, parts, along, a, i, b)? {
+                return Ok(Some(arc));
+            }
         }
     }
     Ok(None)

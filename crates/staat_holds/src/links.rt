@@ -18,8 +18,8 @@ pub struct Link {
     pub facets: Listed<V3>,
 }
 
-// the piece i of the part a
-fn piece_of(parts: &[Part], a: u32, i: u32) -> &Piece
+/// The piece `i` of the part `a`.
+pub fn piece_of(parts: &[Part], a: u32, i: u32) -> &Piece
     requires part { a < length parts.now }
     requires piece { i < piece_count parts.now a }
     ensures { piece_at parts.now a i ≡ Some result.now }
@@ -52,8 +52,8 @@ fn has_piece(parts: &[Part], a: u32, i: u32) -> bool
     (i as usize) < part.pieces.as_slice().len()
 }
 
-// whether the two pieces exist
-fn has_pieces(parts: &[Part], pair: Arc) -> bool
+/// Whether the two pieces exist.
+pub fn has_pieces(parts: &[Part], pair: Arc) -> bool
     ensures { IsTrue result ↔ HasBothPieces parts.now pair }
 {
     has_piece(parts, pair.a, pair.i) && has_piece(parts, pair.b, pair.j)

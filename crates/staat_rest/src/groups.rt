@@ -1,49 +1,16 @@
 // Joining nodes: their names, and the holds that show them.
 ghost use Rattle.std.specs.Prelude.{◌≡◌, ◌<◌, ◌≤◌, [], ℕ};
-ghost use Rattle.std.specs.Prelude.{List, All, Contains, IfOk, OnOk, get_or, length, map, nat_eq};
-ghost use Rattle.std.specs.List.{list_any};
+ghost use Rattle.std.specs.Prelude.{List, All, Contains, IfOk, OnOk, get_or, length, map};
 ghost use Rattle.std.specs.List.Sorted.{IsStrictlySortedBy};
 ghost use Rattle.std.specs.Ordering.{nat_cmp};
 ghost use Rattle.staat_model.specs.declared.assembly.Part.{Part as PartValue};
 ghost use Rattle.staat_holds.specs.Chains.{joined_name};
 ghost use Rattle.staat_rest.specs.Nodes.{AreJoined, AreShown, holds_of};
 
-use staat_holds::{Hold, Holds, own_names};
+use staat_holds::{Hold, Holds, joined_names, own_names};
 use staat_vec::OutOfMemory;
 use std::alloc::Global;
 use std::mem;
-
-// whether some of the nodes has the name
-fn is_among(nodes: &[u32], name: u32) -> bool
-    ensures { result ≡ list_any (nat_eq name) nodes.now }
-{
-    nodes.iter().any(|node| name == *node)
-}
-
-// the name of a node once these nodes are one
-#[tactic(auto, unfolding(staat_holds::specs::Chains::joined_name))]
-fn joined_name(nodes: &[u32], name: u32) -> u32
-    requires { 1 ≤ length nodes.now }
-    ensures { result ≡ joined_name nodes.now name }
-{
-    if is_among(nodes, name) {
-        nodes[0]
-    } else {
-        name
-    }
-}
-
-// the names once these nodes, one at least, are one
-fn joined_names(alloc: Global, nodes: &[u32], names: &[u32]) -> Result<Vec<u32>, OutOfMemory>
-    requires { 1 ≤ length nodes.now }
-    ensures { IfOk result (λ next. next.items ≡ map (joined_name nodes.now) names.now) }
-{
-    let mut next = Vec::new(alloc);
-    for name in names {
-        next.push(joined_name(nodes, *name))?;
-    }
-    Ok(next)
-}
 
 // no holds, for each of so many parts
 fn no_holds(alloc: Global, count: usize) -> Result<Vec<Holds>, OutOfMemory>

@@ -1,9 +1,13 @@
-use Rattle.std.proofs.Common.{subst}
+use Rattle.std.proofs.Common.{◌≢◌, subst, sym}
 use Rattle.staat_vec.specs.declared.vector.V3.{V3}
+use Rattle.staat_vec.specs.Vectors.{origin}
 use Rattle.staat_model.specs.SetLists.{set_of}
 use Rattle.staat_decide.specs.Peelings.{IsHeldAlong}
 use Rattle.staat_decide.proofs.Held.{none_is}
 use Rattle.staat_decide.proofs.settling.leaving_at_gap.Goals as goal
+
+pub peel-requires-clause-moves : goal.peel-requires-clause-moves
+peel-requires-clause-moves g c = subst (λ (v : V3). v ≢ origin) (sym c.in_ok-along.ensures.direction) c.requires.moves
 
 pub unreachable-requires : goal.unreachable-requires
 unreachable-requires g c =
