@@ -40,7 +40,6 @@ fn graphed(alloc: Global, product: &SoundProduct, along: V3) -> Result<Answer, O
 
 /// The answer to the command `blocks`: the arcs of the blocking graph of a product along a direction, and its strong
 /// groups.
-#[tactic(auto, using(staat_input::proofs::OpenedLemmas::input_some))]
 pub fn blocks<H: Shelf>(
     alloc: Global,
     request: &GraphRequest,

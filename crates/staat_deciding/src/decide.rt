@@ -187,7 +187,6 @@ fn answer_as(
 /// The answer to the command `decide`: the steps of a plan that takes all parts of a product apart, or parts that are
 /// stuck, so that none does; where the rest is asked for, all that comes apart and the groups that are stuck; where a
 /// certificate is asked for, the text of one.
-#[tactic(auto, using(staat_input::proofs::OpenedLemmas::input_some))]
 pub fn decide<H: Shelf>(
     alloc: Global,
     request: &DecideRequest,

@@ -53,7 +53,6 @@ fn counted(alloc: Global, sound: &Sound, planes: u32) -> Result<Answer, Fault>
 
 /// The answer to the command `cells`: all cells into which the planes of all parts cut the directions, each with the
 /// arcs of the blocking graph at every direction of the cell.
-#[tactic(auto, using(staat_input::proofs::OpenedLemmas::input_some))]
 pub fn cells<H: Shelf>(
     alloc: Global,
     request: &CellsRequest,

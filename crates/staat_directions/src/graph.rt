@@ -54,7 +54,6 @@ fn counted(alloc: Global, sound: &Sound, along: V3) -> Result<Answer, Fault>
 }
 
 /// The answer to the command `graph`: the arcs of the blocking graph along a direction, and its strong groups.
-#[tactic(auto, using(staat_input::proofs::OpenedLemmas::input_some))]
 pub fn graph<H: Shelf>(
     alloc: Global,
     request: &GraphRequest,

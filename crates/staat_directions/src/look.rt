@@ -17,7 +17,6 @@ use staat_words::Asked;
 use std::alloc::Global;
 
 /// The answer to the command `look`: a line for each part, and that they are sound.
-#[tactic(auto, using(staat_input::proofs::OpenedLemmas::input_some))]
 pub fn look<H: Shelf>(alloc: Global, asked: &Asked, shelf: &mut H) -> Result<Answer, Fault>
     requires { IsAsked asked.now }
     ensures holds { (H.told shelf.new).holds ≡ (H.told shelf.old).holds }

@@ -20,7 +20,8 @@ use Rattle.staat_judging.specs.Checking.{cert_fault}
 use Rattle.staat_judging.specs.Checking.{SaysCertificate, says_whole, says_bad, says_short, IsCertificateIn}
 use Rattle.staat_judging.specs.Checking.{IsChecked, verdict_answer}
 use Rattle.staat_judging.specs.Feeding.{IsFed, IsFedFile}
-use Rattle.staat_input.specs.Causes.{HasCause, ShelfSide}
+use Rattle.staat_input.specs.Causes.{ShelfSide}
+use Rattle.staat_judging.specs.Causes.{HasCertificateCause}
 use Rattle.staat_input.proofs.ReadLemmas.{not_taken_within}
 use Rattle.staat_edge.proofs.OpeningLemmas.{none_opened, opens_some, refused}
 use Rattle.staat_judging.proofs.FeedingLemmas.{found_fed}
@@ -40,13 +41,11 @@ says_refused name text cert.ShortCert le h = says_short h.1 refl
 says_refused name text cert.TooLong le h = absurd (omega (arith, le, h))
 says_refused name text cert.OutOfMemory le h = tt
 
-pub refused_cause : (shelf : ShelfSide) (name text : List ℕ) (refusal : CertRefusal) → length text ≤ TEXT_LIMIT → IsReadAnswer text (Err refusal) → HasCause shelf (cert_fault name refusal)
+pub refused_cause : (shelf : ShelfSide) (name text : List ℕ) (refusal : CertRefusal) → length text ≤ TEXT_LIMIT → IsReadAnswer text (Err refusal) → HasCertificateCause name shelf (cert_fault name refusal)
 refused_cause shelf name text (cert.BadLine k) le h = tt
 refused_cause shelf name text cert.ShortCert le h = tt
 refused_cause shelf name text cert.TooLong le h = absurd (omega (arith, le, h))
 refused_cause shelf name text cert.OutOfMemory le h = tt
-
-pub ruleset said = (says_read, read_formed, says_refused, refused_cause)
 
 -- the whole file was fed
 pub found_certificate : (told : ShelfTold) (files : Files) (name : List ℕ) (reader : CertReader) (r : Result Certificate Fault) → Fit told files → IsFedFile told name (WasFed reader) → ((text : List ℕ) → IsFed (WasFed reader) text → Follows (SaysCertificate name text) r) → Follows (IsCertificateIn files name) r

@@ -16,7 +16,8 @@ use Rattle.staat_confirm.specs.declared.verdict.ShortVerdict.{ShortVerdict}
 use Rattle.staat_confirm.specs.ShortVerdicts.{IsShortVerdict}
 use Rattle.staat_input.specs.declared.answer.Answer.{Answer}
 use Rattle.staat_input.specs.Work.{Files, Follows, IsNotTakenWithin}
-use Rattle.staat_input.specs.Causes.{HasCause, ShelfSide}
+use Rattle.staat_input.specs.Causes.{ShelfSide}
+use Rattle.staat_judging.specs.Causes.{HasCertificateCause}
 use Rattle.staat_judging.specs.Checking.{cert_fault}
 use Rattle.staat_judging.specs.Confirming.{SaysShortCertificate, says_short, says_no, IsShortCertificateIn}
 use Rattle.staat_judging.specs.Confirming.{IsConfirmed, short_verdict_answer}
@@ -44,13 +45,11 @@ says_refused name text cert.TooLong le h = absurd (omega (arith, le, h))
 says_refused name text cert.OutOfMemory le h = tt
 
 pub refused_cause : (shelf : ShelfSide) (name text : List ℕ) (refusal : CertRefusal) → length text ≤ TEXT_LIMIT
-    → IsShortReadAnswer text (Err refusal) → HasCause shelf (cert_fault name refusal)
+    → IsShortReadAnswer text (Err refusal) → HasCertificateCause name shelf (cert_fault name refusal)
 refused_cause shelf name text (cert.BadLine k) le h = tt
 refused_cause shelf name text cert.ShortCert le h = tt
 refused_cause shelf name text cert.TooLong le h = absurd (omega (arith, le, h))
 refused_cause shelf name text cert.OutOfMemory le h = tt
-
-pub ruleset said = (says_read, read_formed, says_refused, refused_cause)
 
 -- the whole file was fed
 pub found_certificate : (told : ShelfTold) (files : Files) (name : List ℕ) (reader : ShortReader)

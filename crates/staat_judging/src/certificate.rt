@@ -20,7 +20,6 @@ use staat_vec::Name;
 use std::alloc::Global;
 
 // The certificate whose text the reader was fed.
-#[tactic(auto, using(crate::proofs::CertificateLemmas::said))]
 fn certificate_in(alloc: Global, reader: CertReader, name: &Name) -> Result<Certificate, Fault>
     requires { (text : List ℕ) × IsFed (WasFed reader) text }
     ensures says { (text : List ℕ) → IsFed (WasFed reader) text →

@@ -1,15 +1,16 @@
 // The command `check`: whether a certificate is valid for the parts.
-ghost use Rattle.std.specs.Prelude.{◌≡◌, ◌≤◌, ◌<◌, Ok, IfOk, IfErr};
+ghost use Rattle.std.specs.Prelude.{◌≡◌, ◌≤◌, ◌<◌, IfOk, IfErr};
 ghost use Rattle.std.specs.Prelude.{◌∷◌, []};
 ghost use Rattle.staat_input.specs.Opened.{OpensSomeOf};
 ghost use Rattle.staat_input.specs.declared.limits.TheConstants.Limits.{ASSEMBLY};
 ghost use Rattle.staat_model.specs.Texts.{IsWellFormed};
 ghost use Rattle.staat_words.specs.Requests.{IsAsked};
+ghost use Rattle.staat_words.specs.declared.request.CheckRequest.{CheckRequest};
 ghost use Rattle.staat_edge.specs.Fitting.{Fit};
 ghost use Rattle.staat_input.specs.Work.{Files, Follows};
 ghost use Rattle.staat_judging.specs.Checking.{IsChecked, verdict_answer, CheckWork};
 ghost use Rattle.staat_judging.specs.Causes.{HasCheckCause};
-ghost use Rattle.staat_input.specs.Causes.{over};
+ghost use Rattle.staat_input.specs.Causes.{ShelfSide, over};
 
 use crate::certificate::read_certificate;
 use staat_edge::Shelf;
@@ -36,10 +37,11 @@ fn answer_of(alloc: Global, verdict: &Verdict) -> Result<Answer, OutOfMemory>
 
 // The answer that the verdict on the certificate is.
 #[tactic(auto, using(crate::proofs::CertificateLemmas::checked))]
-fn judged(alloc: Global, sound: &Sound, certificate: &Certificate) -> Result<Answer, OutOfMemory>
+fn judged(alloc: Global, sound: &Sound, certificate: &Certificate) -> Result<Answer, Fault>
     requires { IsWellFormed certificate.now }
     ensures status { IfOk result (λ a. a.status < 2) }
-    ensures checked { IfOk result (λ a. IsChecked sound.now certificate.now (Ok a)) }
+    ensures checked { Follows (IsChecked sound.now certificate.now) result }
+    ensures cause { (request : CheckRequest) (shelf : ShelfSide) → IfErr result (HasCheckCause request shelf) }
 {
     let verdict = staat_check::check(alloc, sound, certificate)?;
     let answer = answer_of(alloc, &verdict)?;
@@ -66,6 +68,5 @@ pub fn check<H: Shelf>(
 {
     let sound = read_sound(alloc, shelf, &request.asked)?;
     let certificate = read_certificate(alloc, shelf, &request.certificate)?;
-    let answer = judged(alloc, &sound, &certificate)?;
-    Ok(answer)
+    judged(alloc, &sound, &certificate)
 }

@@ -1,14 +1,15 @@
 // The command `confirm`: whether a short certificate is valid for a product of any size.
-ghost use Rattle.std.specs.Prelude.{◌≡◌, ◌≤◌, ◌<◌, Ok, IfOk, IfErr};
+ghost use Rattle.std.specs.Prelude.{◌≡◌, ◌≤◌, ◌<◌, IfOk, IfErr};
 ghost use Rattle.std.specs.Prelude.{◌∷◌, []};
 ghost use Rattle.staat_input.specs.Opened.{OpensSomeOf};
 ghost use Rattle.staat_input.specs.declared.limits.TheConstants.Limits.{PRODUCT};
 ghost use Rattle.staat_limits.specs.declared.limits.TheConstants.{MOST_PRODUCT_PARTS};
 ghost use Rattle.staat_short.specs.ShortTexts.{IsShortInOrder};
 ghost use Rattle.staat_words.specs.Requests.{IsAskedWithin};
+ghost use Rattle.staat_words.specs.declared.request.CheckRequest.{CheckRequest};
 ghost use Rattle.staat_edge.specs.Fitting.{Fit};
 ghost use Rattle.staat_input.specs.Work.{Files, Follows};
-ghost use Rattle.staat_input.specs.Causes.{over};
+ghost use Rattle.staat_input.specs.Causes.{ShelfSide, over};
 ghost use Rattle.staat_judging.specs.Causes.{HasConfirmCause};
 ghost use Rattle.staat_judging.specs.Confirming.{ConfirmWork, IsConfirmed, short_verdict_answer};
 
@@ -48,10 +49,11 @@ fn judged(
     alloc: Global,
     product: &SoundProduct,
     certificate: &ShortCertificate,
-) -> Result<Answer, OutOfMemory>
+) -> Result<Answer, Fault>
     requires { IsShortInOrder certificate.now }
     ensures status { IfOk result (λ a. a.status < 2) }
-    ensures confirmed { IfOk result (λ a. IsConfirmed product.now certificate.now (Ok a)) }
+    ensures confirmed { Follows (IsConfirmed product.now certificate.now) result }
+    ensures cause { (request : CheckRequest) (shelf : ShelfSide) → IfErr result (HasConfirmCause request shelf) }
 {
     let verdict = staat_confirm::confirm(alloc, &Scan, product, certificate)?;
     let answer = answer_of(alloc, &certificate.answer, &verdict)?;
@@ -78,6 +80,5 @@ pub fn confirm<H: Shelf>(
 {
     let product = read_product(alloc, shelf, &request.asked)?;
     let certificate = read_short_certificate(alloc, shelf, &request.certificate)?;
-    let answer = judged(alloc, &product, &certificate)?;
-    Ok(answer)
+    judged(alloc, &product, &certificate)
 }

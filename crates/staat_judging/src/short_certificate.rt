@@ -19,7 +19,6 @@ use staat_vec::Name;
 use std::alloc::Global;
 
 // The short certificate whose text the reader was fed.
-#[tactic(auto, using(crate::proofs::ShortLemmas::said))]
 fn short_certificate_in(
     alloc: Global,
     reader: ShortReader,

@@ -1,8 +1,9 @@
 -- Rules that are tested one after another, part by part.
-use Rattle.std.proofs.Common.{◌≡◌, ◌++◌, ◌+◌, ◌∷◌, ◌<◌, ◌≤◌, ℕ, List, [], map, length, drop, take, get_or, Option, Some, None, Result, Err, ap, refl, subst, sym, ◌∙◌, arith}
+use Rattle.std.proofs.Common.{◌≡◌, ◌++◌, ◌+◌, ◌∷◌, ◌<◌, ◌≤◌, ℕ, List, [], map, length, drop, take, get_or, Option, Some, None, Result, Ok, Err, ap, refl, subst, sym, ◌∙◌, arith}
+use borrow.Author.Tests.{le-true, lt-false}
 use Rattle.std.specs.List.{sum_by}
-use Rattle.std.proofs.lemmas.Bool.Decides.{nat_tests}
-use Rattle.std.proofs.lemmas.List.{at_drop_more, map_more, map_push}
+use Rattle.std.specs.Prelude.{IsErrAnd}
+use Rattle.std.proofs.lemmas.List.{at_drop_more, drop_all, map_more, map_push, take_all}
 use Rattle.std.proofs.lemmas.List.Sums.{sum_by-append}
 use Rattle.serde_json.specs.Data.{Data}
 use Rattle.serde_json.specs.View.{view}
@@ -12,8 +13,8 @@ use Rattle.staat_manifest.specs.declared.refusal.ManifestRefusal.TheVariants as 
 use Rattle.staat_manifest.specs.declared.listing.ListedPart.{ListedPart}
 use Rattle.staat_manifest.specs.Listings.{listed}
 use Rattle.staat_manifest.specs.Values.{Text, json_of, parts_value}
-use Rattle.staat_manifest.specs.Answers.{AnswersList, RefusesPart}
-use Rattle.staat_manifest.specs.Rules.{unless_broken, answer_of, count_rule, first_refusal, form_rules, joint_rules, name_rule, part_list_within, rules_from, whole_rules}
+use Rattle.staat_manifest.specs.Answers.{AnswersList, JudgesPart, RefusesPart}
+use Rattle.staat_manifest.specs.Rules.{unless_broken, answer_of, count_rule, first_refusal, form_rules, joint_rules, name_rule, part_list_within, part_rules, rule, rules_from, whole_rules}
 
 -- where these rules hold, the others decide
 pub passed : (rules others : List (Option ManifestRefusal)) → first_refusal rules ≡ None → first_refusal (rules ++ others) ≡ first_refusal others
@@ -36,6 +37,20 @@ passed_on (refusal.NoPieces part) some all parts h j = ap (λ o. unless_broken o
 passed_on refusal.TooManyParts some all parts h j = ap (λ o. unless_broken o parts) (h _ j)
 passed_on refusal.TooManyPieces some all parts h j = ap (λ o. unless_broken o parts) (h _ j)
 passed_on refusal.OutOfMemory some all parts h j = tt
+
+refused_too : (e : ManifestRefusal) (some all : Option ManifestRefusal) → ((d : ManifestRefusal) → some ≡ Some d → all ≡ Some d) → RefusesPart some e → RefusesPart all e
+refused_too refusal.NotJson some all h j = h _ j
+refused_too (refusal.BadShape path) some all h j = h _ j
+refused_too (refusal.RepeatedName name) some all h j = h _ j
+refused_too (refusal.NoPieces part) some all h j = h _ j
+refused_too refusal.TooManyParts some all h j = h _ j
+refused_too refusal.TooManyPieces some all h j = h _ j
+refused_too refusal.OutOfMemory some all h j = tt
+
+-- the same where the answer is no list
+pub refused_by : {X : Type 0} (e : ManifestRefusal) (some all : Option ManifestRefusal) (r : Result X ManifestRefusal) → IsErrAnd r (λ f. f ≡ e) → ((d : ManifestRefusal) → some ≡ Some d → all ≡ Some d) → RefusesPart some e → JudgesPart all r
+refused_by e some all (Ok x) fails h j = absurd fails
+refused_by e some all (Err f) fails h j = subst (RefusesPart all) (sym fails) (refused_too e some all h j)
 
 -- ---- a part with those before it
 
@@ -61,55 +76,61 @@ module _ (most : ℕ) (earlier : List ListedPart) (part : ListedPart) (names : L
   by_count h = second _ _ (sym name ∙ h) ∙ ap (count_rule most) total
 
 pub count_over : (most count : ℕ) → most < count → count_rule most count ≡ Some refusal.TooManyPieces
-count_over most count over = grind (arith, nat_tests)
+count_over most count over = ap (λ holds. rule holds refusal.TooManyPieces) (sym (lt-false count most over))
 
 pub count_within : (most count : ℕ) → count ≤ most → count_rule most count ≡ None
-count_within most count within = grind (arith, nat_tests)
+count_within most count within = ap (λ holds. rule holds refusal.TooManyPieces) (sym (le-true count most within))
+
+-- ---- all rules for a part
+
+module _ (most : ℕ) (earlier : List ListedPart) (value : Data) (k : ℕ) (number : k ≡ length earlier) where
+  form : first_refusal (form_rules (length earlier) value) ≡ first_refusal (form_rules k value)
+  form = ap (λ n. first_refusal (form_rules n value)) (sym number)
+
+  -- the part breaks a rule by itself
+  pub form_refuses : (e : ManifestRefusal) → first_refusal (form_rules k value) ≡ Some e → first_refusal (part_rules most earlier value) ≡ Some e
+  form_refuses e h = stopped e (form_rules (length earlier) value) (joint_rules most earlier (listed value)) (form ∙ h)
+
+  -- it breaks none by itself, so those decide that it has with the parts before it
+  pub by_joint : first_refusal (form_rules k value) ≡ None → first_refusal (part_rules most earlier value) ≡ first_refusal (joint_rules most earlier (listed value))
+  by_joint h = passed (form_rules (length earlier) value) (joint_rules most earlier (listed value)) (form ∙ h)
 
 -- ---- the parts from part k on
 
-module _ (most : ℕ) (earlier : List ListedPart) (values : List Value) (k : ℕ) (v : Value) (more : k < length values) (is : v ≡ get_or values k v) (part : ListedPart) (same : part ≡ listed (view v)) where
+module _ (most : ℕ) (earlier : List ListedPart) (values : List Value) (k : ℕ) (v : Value) (more : k < length values) (is : v ≡ get_or values k v) where
   -- the list with this part
-  pub list_more : (list : List ListedPart) → list ≡ earlier ++ part ∷ [] → earlier ≡ map listed (map view (take k values)) → list ≡ map listed (map view (take (k + 1) values))
+  pub list_more : (list : List ListedPart) → list ≡ earlier ++ listed (view v) ∷ [] → earlier ≡ map listed (map view (take k values)) → list ≡ map listed (map view (take (k + 1) values))
   list_more list grown so_far =
-      grown ∙ ap (λ p. earlier ++ p ∷ []) same ∙ ap (λ xs. xs ++ listed (view v) ∷ []) so_far
+      grown ∙ ap (λ xs. xs ++ listed (view v) ∷ []) so_far
       ∙ ap (λ x. map listed (map view (take k values)) ++ listed (view x) ∷ []) is
       ∙ sym (ap (map listed) (map_more view values k v more) ∙ map_push listed (map view (take k values)) (view (get_or values k v)))
 
-  module _ (number : length earlier ≡ k) (all : Option ManifestRefusal) (whole : first_refusal (rules_from most earlier (map view (drop k values))) ≡ all) where
-    form : List (Option ManifestRefusal)
-    form = form_rules k (view v)
-
-    joint : List (Option ManifestRefusal)
-    joint = joint_rules most earlier part
-
+  module _ (all : Option ManifestRefusal) (whole : first_refusal (rules_from most earlier (map view (drop k values))) ≡ all) where
     later : List (Option ManifestRefusal)
-    later = rules_from most (earlier ++ part ∷ []) (map view (drop (k + 1) values))
+    later = rules_from most (earlier ++ listed (view v) ∷ []) (map view (drop (k + 1) values))
 
-    here : first_refusal (form ++ joint ++ later) ≡ all
-    unfolding form joint later
+    here : first_refusal (part_rules most earlier (view v) ++ later) ≡ all
+    unfolding later
     here =
-        ap (λ n. first_refusal (form_rules n (view v) ++ joint ++ later)) (sym number)
-        ∙ ap (λ p. first_refusal (form_rules (length earlier) (view v) ++ joint_rules most earlier p ++ rules_from most (earlier ++ p ∷ []) (map view (drop (k + 1) values)))) same
-        ∙ ap (λ x. first_refusal (rules_from most earlier (view x ∷ map view (drop (k + 1) values)))) is
+        ap (λ x. first_refusal (rules_from most earlier (view x ∷ map view (drop (k + 1) values)))) is
         ∙ sym (at_drop_more (λ vs. first_refusal (rules_from most earlier (map view vs))) values k v more) ∙ whole
 
-    -- the part breaks a rule by itself
-    pub form_refuses : (e : ManifestRefusal) → first_refusal (form_rules k (view v)) ≡ Some e → all ≡ Some e
-    unfolding form joint later
-    form_refuses e h = sym here ∙ stopped e (form ++ joint) later (stopped e form joint h)
-
-    -- the part breaks a rule with those before it
-    pub joint_refuses : first_refusal (form_rules k (view v)) ≡ None → (e : ManifestRefusal) → first_refusal (joint_rules most earlier part) ≡ Some e → all ≡ Some e
-    unfolding form joint later
-    joint_refuses f e h = sym here ∙ stopped e (form ++ joint) later (passed form joint f ∙ h)
+    -- the part breaks a rule
+    pub part_refuses : (e : ManifestRefusal) → first_refusal (part_rules most earlier (view v)) ≡ Some e → all ≡ Some e
+    part_refuses e h = sym here ∙ stopped e (part_rules most earlier (view v)) later h
 
     -- the part keeps its rules
-    pub goes_on : first_refusal (form_rules k (view v)) ≡ None → first_refusal (joint_rules most earlier part) ≡ None → (list : List ListedPart) → list ≡ earlier ++ part ∷ [] → first_refusal (rules_from most list (map view (drop (k + 1) values))) ≡ all
-    unfolding form joint later
-    goes_on f h list grown =
+    pub goes_on : first_refusal (part_rules most earlier (view v)) ≡ None → (list : List ListedPart) → list ≡ earlier ++ listed (view v) ∷ [] → first_refusal (rules_from most list (map view (drop (k + 1) values))) ≡ all
+    unfolding later
+    goes_on h list grown =
         ap (λ l. first_refusal (rules_from most l (map view (drop (k + 1) values)))) grown
-        ∙ sym (passed (form ++ joint) later (passed form joint f ∙ h)) ∙ here
+        ∙ sym (passed (part_rules most earlier (view v)) later h) ∙ here
+
+-- all parts keep their rules
+pub all_listed : (most : ℕ) (values : List Value) (k : ℕ) (list : List ListedPart) → length values ≤ k → first_refusal (rules_from most list (map view (drop k values))) ≡ first_refusal (rules_from most [] (map view values)) → list ≡ map listed (map view (take k values)) → unless_broken (first_refusal (rules_from most [] (map view values))) (map listed (map view values)) ≡ Ok list
+all_listed most values k list le rules is =
+    ap (λ broken. unless_broken broken (map listed (map view values))) (sym rules ∙ ap (λ vs. first_refusal (rules_from most list (map view vs))) (drop_all k values le))
+    ∙ ap Ok (sym (is ∙ ap (λ vs. map listed (map view vs)) (take_all k values le)))
 
 -- ---- the whole
 

@@ -86,12 +86,16 @@ joint_rules most_pieces earlier part =
     ∷ count_rule most_pieces (sum_by (λ other. length other.pieces) (earlier ++ part ∷ []))
     ∷ []
 
+-- all rules for a part that comes after these
+abbrev pub part_rules : ℕ → List ListedPart → Data → List (Option ManifestRefusal)
+part_rules most_pieces earlier part =
+    form_rules (length earlier) part ++ joint_rules most_pieces earlier (listed part)
+
 -- the rules for all parts that come after these
 abbrev pub rules_from : ℕ → List ListedPart → List Data → List (Option ManifestRefusal)
 rules_from most_pieces earlier [] = []
 rules_from most_pieces earlier (part ∷ later) =
-    form_rules (length earlier) part ++ joint_rules most_pieces earlier (listed part)
-    ++ rules_from most_pieces (earlier ++ listed part ∷ []) later
+    part_rules most_pieces earlier part ++ rules_from most_pieces (earlier ++ listed part ∷ []) later
 
 -- ---- the answer
 

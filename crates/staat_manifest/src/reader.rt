@@ -2,10 +2,10 @@
 ghost use Rattle.std.specs.Prelude.{◌≡◌, ◌<◌, ◌≤◌, ◌^◌, ◌++◌, ◌∷◌, [], IfOk, OnOk, length, map};
 ghost use Rattle.serde_json.specs.View.{view};
 ghost use Rattle.staat_manifest.specs.Answers.{AnswersList, JudgesPart};
-ghost use Rattle.staat_manifest.specs.Listings.{IsListing, IsListingWithin, listed};
+ghost use Rattle.staat_manifest.specs.Listings.{IsListing, IsListingWithin, IsTally, listed};
 ghost use Rattle.staat_manifest.specs.Values.{parts_value, text_in};
 ghost use Rattle.staat_manifest.specs.Rules.{unless_broken, first_refusal, name_rule, part_list};
-ghost use Rattle.staat_manifest.specs.Rules.{part_list_within, rules_from, whole_rules};
+ghost use Rattle.staat_manifest.specs.Rules.{part_list_within, part_rules, rules_from, whole_rules};
 
 use crate::json::{array_at, has_only, value_of};
 use crate::listing::{ListedPart, name_of, names_of};
@@ -70,6 +70,32 @@ fn listed(alloc: Global, form: &Form<'_>) -> Result<ListedPart, AllocError>
     })
 }
 
+// Puts a part behind those that are listed, unless it breaks a rule, and tells how many pieces there are then. The
+// number of a name is that of its part.
+fn add_part<'v>(
+    alloc: Global,
+    list: &mut Vec<ListedPart>,
+    names: &mut IndexSet<&'v str>,
+    piece_count: usize,
+    part: &'v Value,
+    most_pieces: u32,
+) -> Result<usize, ManifestRefusal>
+    requires room { length list.old.items < 2 ^ 32 }
+    requires tallied { IsTally most_pieces list.old.items (map (λ s. s.now) names.old.keys) piece_count }
+    ensures rules { JudgesPart (first_refusal (part_rules most_pieces list.old.items (view part.entry.now))) result }
+    ensures added { OnOk result (list.new.items ≡ list.old.items ++ listed (view part.entry.now) ∷ []) }
+    ensures tallied { IfOk result (IsTally most_pieces list.new.items (map (λ s. s.now) names.new.keys)) }
+{
+    let form = form_of(alloc, list.len() as u32, part)?;
+    add_name(alloc, names, form.name)?;
+    let piece_count = piece_count + form.pieces.len();
+    if piece_count > most_pieces as usize {
+        return Err(ManifestRefusal::TooManyPieces);
+    }
+    list.push(listed(alloc, &form)?)?;
+    Ok(piece_count)
+}
+
 // The list of the parts, unless one of them breaks a rule.
 fn list_parts(alloc: Global, parts: &[Value], most_pieces: u32) -> Result<Listing, ManifestRefusal>
     requires { length parts.now < 2 ^ 32 }
@@ -77,17 +103,10 @@ fn list_parts(alloc: Global, parts: &[Value], most_pieces: u32) -> Result<Listin
         (map listed (map view parts.now))) result }
 {
     let mut list = Vec::with_capacity(alloc, parts.len())?;
-    // The number of a name is that of its part.
     let mut names = IndexSet::with_capacity(alloc, parts.len())?;
     let mut piece_count = 0;
-    for (k, part) in parts.iter().enumerate() {
-        let form = form_of(alloc, k as u32, part)?;
-        add_name(alloc, &mut names, form.name)?;
-        piece_count += form.pieces.len();
-        if piece_count > most_pieces as usize {
-            return Err(ManifestRefusal::TooManyPieces);
-        }
-        list.push(listed(alloc, &form)?)?;
+    for part in parts {
+        piece_count = add_part(alloc, &mut list, &mut names, piece_count, part, most_pieces)?;
     }
     Ok(Listing::from_vec(list))
 }

@@ -65,7 +65,6 @@ fn counted(alloc: Global, sound: &Sound, planes: u32) -> Result<Answer, Fault>
 
 /// The answer to the command `linear`: the order in which the parts are taken away, one at a time, each free of all
 /// that are left; or the parts of which none can be taken away.
-#[tactic(auto, using(staat_input::proofs::OpenedLemmas::input_some))]
 pub fn linear<H: Shelf>(
     alloc: Global,
     request: &LinearRequest,

@@ -78,7 +78,6 @@ fn counted(alloc: Global, sound: &Sound, planes: u32) -> Result<Answer, Fault>
 }
 
 /// The answer to the command `local`: the side of all parts that begins to move, or that none does.
-#[tactic(auto, using(staat_input::proofs::OpenedLemmas::input_some))]
 pub fn local<H: Shelf>(
     alloc: Global,
     request: &LocalRequest,

@@ -1,11 +1,11 @@
 // The values of a subcommand's arguments, as `clap` found them.
-ghost use Rattle.std.specs.Prelude.{◌≡◌, ◌≤◌, ◌≢◌, codes, map, option_map, IfSome, IfOk};
+ghost use Rattle.std.specs.Prelude.{◌≡◌, ◌≤◌, ◌≢◌, None, Some, codes, map, option_map, IfSome, IfOk, ℕ};
 ghost use Rattle.clap.specs.Words.{all_of, first_of, found_of, rows_of};
 ghost use Rattle.staat_vec.specs.Vectors.{IsWithin, origin};
 ghost use Rattle.staat_limits.specs.Versions.{IsVersion};
 ghost use Rattle.staat_limits.specs.declared.limits.TheConstants.{LEAST_PLANES};
 ghost use Rattle.staat_words.specs.Requests.{ReadsWords, IsInputWithin, IsNamedProduct, certificate_in};
-ghost use Rattle.staat_words.specs.Requests.{count_within, digits_asked, input_in, is_given, limit_of, product_of};
+ghost use Rattle.staat_words.specs.Requests.{count_within, digits_asked, input_from, input_in, is_given, limit_of, product_of};
 ghost use Rattle.staat_words.specs.Requests.{planes_in, planes_within, vector_in, version_from, version_within};
 
 use crate::request::{DrillProduct, Input, RequestRefusal};
@@ -201,6 +201,29 @@ fn names_of(alloc: Global, words: &[&str]) -> Result<Names, AllocError>
     Ok(Names::from_vec(names))
 }
 
+// The part list of that name, unless files are named too.
+fn list_alone(alloc: Global, name: &str, files: Option<&[&str]>) -> Result<Input, RequestRefusal>
+    ensures answers { (most : ℕ) → ReadsWords
+        (input_from most (Some name.now) (option_map (λ s. map (λ v. v.now) s.now) files.entry)) result }
+    ensures bounds { (most : ℕ) → IfOk result (IsInputWithin most) }
+{
+    if files.is_some() {
+        return Err(RequestRefusal::Usage);
+    }
+    Ok(Input::Manifest(name_of(alloc, name)?))
+}
+
+// 1 to so many files.
+fn files_within(alloc: Global, files: Option<&[&str]>, most: u32) -> Result<Input, RequestRefusal>
+    ensures { ReadsWords (input_from most None (option_map (λ s. map (λ v. v.now) s.now) files.entry)) result }
+{
+    let files = files.ok_or(RequestRefusal::Usage)?;
+    if files.is_empty() || files.len() > most as usize {
+        return Err(RequestRefusal::Usage);
+    }
+    Ok(Input::Files(names_of(alloc, files)?))
+}
+
 /// Where the parts come from: either a part list, or 1 to so many files.
 #[tactic(auto, unfolding(crate::specs::Requests::input_in))]
 pub fn input_of(alloc: Global, matches: &ArgMatches<'_>, most: u32) -> Result<Input, RequestRefusal>
@@ -209,18 +232,7 @@ pub fn input_of(alloc: Global, matches: &ArgMatches<'_>, most: u32) -> Result<In
 {
     let files = values_of(matches, "files");
     match value_of(matches, "manifest") {
-        Some(name) => {
-            if files.is_some() {
-                return Err(RequestRefusal::Usage);
-            }
-            Ok(Input::Manifest(name_of(alloc, name)?))
-        }
-        None => {
-            let files = files.ok_or(RequestRefusal::Usage)?;
-            if files.is_empty() || files.len() > most as usize {
-                return Err(RequestRefusal::Usage);
-            }
-            Ok(Input::Files(names_of(alloc, files)?))
-        }
+        Some(name) => list_alone(alloc, name, files),
+        None => files_within(alloc, files, most),
     }
 }

@@ -2,9 +2,9 @@ use Rattle.std.proofs.Common.{◌∷◌, [], false, true}
 use Rattle.staat_edge.proofs.OpeningLemmas.{narrowed, opens_after, opens_some, some_of_more}
 use Rattle.staat_input.specs.Work.{Then}
 use Rattle.staat_input.specs.Pieces.{IsPieceOf}
-use Rattle.staat_input.specs.Causes.{over}
+use Rattle.staat_input.specs.Causes.{HasCause, over}
 use Rattle.staat_directions.specs.Pairs.{IsJudged}
-use Rattle.staat_input.proofs.InputLemmas.{then_failed, then_given}
+use Rattle.staat_input.proofs.InputLemmas.{cause_from, failed_with, then_failed, then_given}
 use Rattle.staat_directions.proofs.pair.pair.Goals as goal
 
 pub returns-in_err-p-clause-opens : goal.returns-in_err-p-clause-opens
@@ -46,3 +46,24 @@ returns-clause-found g c = λ files fit.
 
 pub returns-clause-cause : goal.returns-clause-cause
 returns-clause-cause g c = c.judge.ensures.cause (over (g.H.Shelf.told c.args.shelf.now) (g.H.Shelf.told c.read_piece-2.new.shelf))
+
+pub returns-in_err-p-clause-found : goal.returns-in_err-p-clause-found
+returns-in_err-p-clause-found g c = λ files fit.
+    let request = c.args.request.now in
+    then_failed (IsPieceOf files request.digits request.first)
+    (λ p. Then (IsPieceOf files request.digits request.second) (λ q. IsJudged p q request.along request.wall))
+    c.in_err-p.field-0.0 c.from_residual.result (c.in_err-p.ensures.found files fit) c.from_residual.ensures.1
+
+pub returns-in_err-p-clause-cause : goal.returns-in_err-p-clause-cause
+returns-in_err-p-clause-cause g c =
+    failed_with (HasCause (over (g.H.Shelf.told c.args.shelf.now) (g.H.Shelf.told c.read_piece.new.shelf)))
+    c.in_err-p.field-0.0 c.from_residual.result c.in_err-p.ensures.cause c.from_residual.ensures.1
+
+pub returns-in_err-q-clause-cause : goal.returns-in_err-q-clause-cause
+returns-in_err-q-clause-cause g c =
+    let before = g.H.Shelf.told c.args.shelf.now in
+    let mid = g.H.Shelf.told c.read_piece.new.shelf in
+    let now = g.H.Shelf.told c.read_piece-2.new.shelf in
+    failed_with (HasCause (over before now)) c.in_err-q.field-0.0 c.from_residual-in_err-q.result
+    (cause_from before mid now c.in_err-q.field-0.0 c.in_ok-p.ensures.count c.in_ok-p.ensures.holds
+    c.in_err-q.ensures.cause) c.from_residual-in_err-q.ensures.1

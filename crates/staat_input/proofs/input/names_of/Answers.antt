@@ -1,5 +1,5 @@
 use Rattle.std.proofs.Common.{◌∙◌, ℕ, List, Result, Ok, Err, ap, map, refl, subst, sym}
-use Rattle.std.specs.Prelude.{IfOk}
+use Rattle.std.specs.Prelude.{IfErr, IfOk}
 use Rattle.staat_words.specs.Requests.{IsInputWithin}
 use Rattle.staat_fault.specs.declared.fault.Fault.{Fault}
 use Rattle.staat_manifest.specs.declared.listing.ListedPart.{ListedPart}
@@ -12,7 +12,7 @@ use Rattle.staat_input.specs.Opened.{ReadsNames}
 use Rattle.staat_input.specs.Work.{Follows}
 use Rattle.staat_input.proofs.InputLemmas.{named_files}
 use Rattle.staat_input.proofs.OpenedLemmas.{list_refused, none_refused}
-use Rattle.staat_fault.specs.declared.fault.Fault.TheVariants.{OutOfMemory}
+use Rattle.staat_fault.specs.declared.fault.Fault.TheVariants.{OutOfMemory, TooLong}
 use Rattle.staat_input.specs.Causes.{HasCause, IfTooLong, over}
 use Rattle.staat_input.proofs.InputLemmas.{failed_with, memory_free, no_value}
 use Rattle.staat_input.proofs.input.names_of.Goals as goal
@@ -41,6 +41,22 @@ names_free : (r : Result (List ListedPart) Fault) (list : List ℕ)
     → IfOk r (λ listing. (name : List ℕ) → ListsPiece listing name → MayName (Manifest list) name)
 names_free (Ok listing) list = λ name lists. tt
 names_free (Err fault) list = tt
+
+-- and be read of any
+long_free : (r : Result (List ListedPart) Fault) (list : List ℕ) → IfErr r (IfTooLong (MayName (Manifest list)))
+long_free (Ok listing) list = tt
+long_free (Err (TooLong name)) list = tt
+long_free (Err fault) list = tt
+
+pub returns-in-Manifest-clause-named : goal.returns-in-Manifest-clause-named
+returns-in-Manifest-clause-named g c = subst (λ (i : Input). IfErr c.read_list.result (IfTooLong (MayName i)))
+    (sym c.in-Manifest.is) (long_free c.read_list.result c.in-Manifest.name)
+
+pub returns-in-Manifest-clause-cause : goal.returns-in-Manifest-clause-cause
+returns-in-Manifest-clause-cause g c = c.read_list.ensures.cause
+
+pub returns-in-Manifest-clause-few : goal.returns-in-Manifest-clause-few
+returns-in-Manifest-clause-few g c = c.read_list.ensures.few
 
 pub returns-in-Manifest-clause-names : goal.returns-in-Manifest-clause-names
 returns-in-Manifest-clause-names g c =

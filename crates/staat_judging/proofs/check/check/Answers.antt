@@ -1,4 +1,4 @@
-use Rattle.std.proofs.Common.{Ok, true, false, [], ◌∷◌}
+use Rattle.std.proofs.Common.{true, false, [], ◌∷◌}
 use Rattle.staat_input.specs.Causes.{over}
 use Rattle.staat_input.specs.Work.{Then}
 use Rattle.staat_input.specs.declared.limits.TheConstants.Limits.{ASSEMBLY}
@@ -23,11 +23,11 @@ pub returns-clause-found : goal.returns-clause-found
 returns-clause-found g c = λ files fit.
     let request = c.args.request.now in
     then_given (IsSoundOf files request.asked) (λ parts. Then (IsCertificateIn files request.certificate) (λ certificate. IsChecked parts certificate))
-    c.in_ok-sound.sound (Ok c.in_ok-answer.answer) (c.in_ok-sound.ensures.found files
+    c.in_ok-sound.sound c.judged.result (c.in_ok-sound.ensures.found files
     (fitted_before true (request.certificate ∷ []) (g.H.Shelf.told c.read_sound.new.shelf)
     (g.H.Shelf.told c.read_certificate.new.shelf) c.in_ok-certificate.ensures.holds c.in_ok-certificate.ensures.opens files fit))
     (then_given (IsCertificateIn files request.certificate) (λ certificate. IsChecked c.in_ok-sound.sound certificate)
-    c.in_ok-certificate.certificate (Ok c.in_ok-answer.answer) (c.in_ok-certificate.ensures.found files fit) c.in_ok-answer.ensures.checked)
+    c.in_ok-certificate.certificate c.judged.result (c.in_ok-certificate.ensures.found files fit) c.judged.ensures.checked)
 
 -- where the input is refused
 
@@ -63,12 +63,11 @@ returns-in_err-certificate-clause-cause g c = certificate_cause c.args.request.n
     c.in_err-certificate.field-0.0 c.from_residual-in_err-certificate.result c.in_ok-sound.ensures.count
     c.in_ok-sound.ensures.holds c.in_err-certificate.ensures.cause c.from_residual-in_err-certificate.ensures.1
 
-pub returns-in_err-answer-clause-opens : goal.returns-in_err-answer-clause-opens
-returns-in_err-answer-clause-opens g c = opened_after_input ASSEMBLY true c.args.request.now.asked.input
-    (c.args.request.now.certificate ∷ []) (g.H.Shelf.told c.args.shelf.now) (g.H.Shelf.told c.read_sound.new.shelf)
-    (g.H.Shelf.told c.read_certificate.new.shelf) c.in_ok-sound.ensures.opens c.in_ok-certificate.ensures.opens
-
 pub returns-clause-opens : goal.returns-clause-opens
 returns-clause-opens g c = opened_after_input ASSEMBLY true c.args.request.now.asked.input
     (c.args.request.now.certificate ∷ []) (g.H.Shelf.told c.args.shelf.now) (g.H.Shelf.told c.read_sound.new.shelf)
     (g.H.Shelf.told c.read_certificate.new.shelf) c.in_ok-sound.ensures.opens c.in_ok-certificate.ensures.opens
+
+pub returns-clause-cause : goal.returns-clause-cause
+returns-clause-cause g c = c.judged.ensures.cause c.args.request.now
+    (over (g.H.Shelf.told c.args.shelf.now) (g.H.Shelf.told c.read_certificate.new.shelf))

@@ -1,10 +1,10 @@
 use Rattle.std.proofs.Common.{◌<◌, ◌≡◌, ◌∙◌, ◌+◌, ℕ, List, refl, ap, arith, le_trans, length}
-use Rattle.std.proofs.Common.{Option, None, Some, false, pos_of_ne-zero, subst, take}
-use Rattle.std.specs.Prelude.{option_map}
+use Rattle.std.proofs.Common.{Err, Ok, Option, None, Some, Result, false, pos_of_ne-zero, subst, sym, take}
+use Rattle.std.specs.Prelude.{IsErr, OnOk, is_err, option_map}
 use Rattle.std.specs.Io.KnownBytes.{Consumes}
-use Rattle.staat_edge.specs.Files.{content_of, failed_at}
+use Rattle.staat_edge.specs.Files.{content_of, failed_at, held_name}
 use Rattle.staat_edge.specs.Readings.{after_read}
-use Rattle.staat_judging.proofs.FeedingLemmas.{fed_long, fed_more, fed_whole, opened_so_far, opened_whole}
+use Rattle.staat_judging.proofs.FeedingLemmas.{fed_long, fed_more, fed_nothing, fed_whole, opened_so_far, opened_whole}
 use Rattle.staat_judging.proofs.feeding.feed_file.Goals as goal
 
 -- a read has room for a byte
@@ -52,6 +52,35 @@ failed_before : (name before now first : Option (List ℕ)) → now ≡ failed_a
     → now ≡ first
 failed_before None before now first is same = is ∙ same
 failed_before (Some name) before now first is same = is ∙ same
+
+-- what is said of a call that did not fail
+said_of_ok : {X E : Type 0} (r : Result X E) (P : Type 0) → is_err r ≡ false → OnOk r P → P
+said_of_ok (Ok x) P good says = says
+said_of_ok (Err e) P good says = cc
+
+not_refused : {X E : Type 0} (r : Result X E) → is_err r ≡ false → IsErr r → ⊥
+not_refused (Ok x) good refused = cc
+not_refused (Err e) good refused = cc
+
+pub pieces-init : goal.pieces-init
+pieces-init g c =
+    let before = g.H.Shelf.told c.args.shelf.now in
+    let now = g.H.Shelf.told c.open.new.self in
+    let good = sym c.if-is_err.ensures.value in
+    record {
+      room = omega arith;
+      holds = c.open.ensures.holds;
+      count = c.open.ensures.count;
+      failed = failed_before _ _ _ _ (c.open.ensures.failed
+          ∙ ap (λ bad. failed_at bad (held_name before.holds c.args.name.now) before.failed) good) refl;
+      name = said_of_ok c.open.result _ good c.open.ensures.name;
+      place = said_of_ok c.open.result _ good c.open.ensures.start;
+      has = λ lacks. not_refused c.open.result good (c.open.ensures.lacking lacks).0;
+      fed = fed_nothing (content_of before.holds c.args.name.now) (g.H.Shelf.left c.open.new.self) c.args.name.now
+          before.given now.given (g.R.TextReader.was_fed c.args.reader.now) c.requires
+          (said_of_ok c.open.result _ good c.open.ensures.content)
+          (said_of_ok c.open.result _ good c.open.ensures.begun);
+    }
 
 pub pieces-preserved : goal.pieces-preserved
 pieces-preserved g c =
