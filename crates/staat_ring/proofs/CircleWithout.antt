@@ -221,7 +221,8 @@ module _ (planes : List V3) (linked : List ℕ) (r : Ring) (p : ℕ) (apart : Ar
       let (a, wa, pa) = on_line u h.0 ku in
       let (b, wb, pb) = on_line x h.1 kx in
       let e : b ≡ a = same_Some b a (sym pb ∙ pa) in
-      let z = line_turn g (primitive (cross g a)) (vertex u) (vertex x) wa (subst (λ y. (vertex x ≡ primitive (cross g y)) ⊎ (vertex x ≡ negative (primitive (cross g y)))) e wb) in
+      let z = line_turn g (primitive (cross g a)) (vertex u) (vertex x) wa
+      (subst (λ y. (vertex x ≡ primitive (cross g y)) ⊎ (vertex x ≡ negative (primitive (cross g y)))) e wb) in
       positive_not_zero (turn g (vertex u) (vertex x)) h.2.after z
 
   around : Around R r.stops

@@ -135,7 +135,8 @@ gain_more pairs counts after q p is lt at full e =
     (counted_more pairs counts q is lt (gained 1 p) (ap (λ r. r.parts) (sym at)) (λ x. ap (is_block x) at ∙ (completes x p full).0) (λ x. (completes x p full).1))
 
 pub gain_same : (pairs : List PairCount) (counts : List ℕ) (q : ℕ) (p : PairCount) → CountBlocks pairs counts
-    → q < length pairs → pair_at pairs q ≡ p → p.positive + 1 ≢ p.wanted → CountBlocks (set pairs q (gained 1 p)) counts
+    → q < length pairs → pair_at pairs q ≡ p → p.positive + 1 ≢ p.wanted
+    → CountBlocks (set pairs q (gained 1 p)) counts
 gain_same pairs counts q p is lt at other =
     counted_same pairs counts q is lt (gained 1 p) (ap (λ r. r.parts) (sym at))
     (λ x. leaves x p other ∙ ap (is_block x) (sym at))

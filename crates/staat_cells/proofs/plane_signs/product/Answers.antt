@@ -20,4 +20,5 @@ pub overflow_mul-result : goal.overflow_mul-result
 overflow_mul-result c =
     let a_fits = c.ranges.a in
     let b_fits = c.ranges.b in
-    simp to_z-of_z (fits_signed_mul w128 c.args.a c.args.b NORMAL WORD_DIRECTION c.requires.a c.requires.b (omega arith))
+    simp to_z-of_z
+    (fits_signed_mul w128 c.args.a c.args.b NORMAL WORD_DIRECTION c.requires.a c.requires.b (omega arith))

@@ -19,4 +19,5 @@ pub overflow_mul-result : goal.overflow_mul-result
 overflow_mul-result c =
     let a_fits = c.ranges.a in
     let b_fits = c.ranges.b in
-    simp to_z-of_z (fits_signed_mul w64 c.args.a c.args.b SMALL_NORMAL SMALL_DIRECTION c.requires.a c.requires.b (omega arith))
+    simp to_z-of_z
+    (fits_signed_mul w64 c.args.a c.args.b SMALL_NORMAL SMALL_DIRECTION c.requires.a c.requires.b (omega arith))

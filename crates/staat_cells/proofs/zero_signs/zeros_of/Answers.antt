@@ -15,7 +15,8 @@ loop-j-preserved c =
           (ap (λ v. v.items) w.zeros-is ∙ w.in_ok-push.ensures.items)
       | else-is_zero w ↦
           rw w.zeros-is
-          (other_found s j zeros Neg c.loop-j-test.true c.loop-j.invariant (sym c.is_zero.ensures ∙ w.if-is_zero.false))
+          (other_found s j zeros Neg c.loop-j-test.true c.loop-j.invariant
+          (sym c.is_zero.ensures ∙ w.if-is_zero.false))
     ]
 
 pub returns : goal.returns

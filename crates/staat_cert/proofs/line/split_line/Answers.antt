@@ -12,7 +12,8 @@ returns-in_ok-vector_of-in-len3 c =
     let x : Reads zs 0 = grind (arith, ints, to_z-of_z) in
     let y : Reads zs 1 = grind (arith, ints, to_z-of_z) in
     let z : Reads zs 2 = grind (arith, ints, to_z-of_z) in
-    ap (option_map line.Split) (sym c.in_ok-vector_of-in-len3.was ∙ rw (x, y, z) at c.vector_of.ensures) ∙ split_of zs long
+    ap (option_map line.Split) (sym c.in_ok-vector_of-in-len3.was ∙ rw (x, y, z) at c.vector_of.ensures)
+    ∙ split_of zs long
 
 pub returns-in_err-vector_of-in-len3 : goal.returns-in_err-vector_of-in-len3
 returns-in_err-vector_of-in-len3 c =

@@ -9,8 +9,8 @@ use Rattle.staat_vec.proofs.ListLaws.{push_front}
 use Rattle.staat_vec.proofs.Options.{from_some}
 
 -- the names with that of one witness more
-names_more : (found listed more : List Witness) (keys : List (List ℕ)) (names : List (Option ℕ)) (p i : ℕ) (x : Witness)
-    → AreNames found listed names → slice_get found p ≡ Some x → IsWitnessNumber keys listed more x i
+names_more : (found listed more : List Witness) (keys : List (List ℕ)) (names : List (Option ℕ)) (p i : ℕ)
+    (x : Witness) → AreNames found listed names → slice_get found p ≡ Some x → IsWitnessNumber keys listed more x i
     → AreNames found more (set names p (Some i))
 names_more found listed more keys names p i x before at number = record {
   size = length-set names p (Some i) ∙ before.size;
@@ -36,7 +36,8 @@ returns-clause-names c =
     let x = c.in_ok-witness.witness in
     let r = c.index-found-p.result in
     let at : slice_get found c.args.p ≡ Some x =
-    slice_get-get_or found c.args.p r c.requires.place ∙ ap Some (sym (c.in_ok-witness.ensures ∙ c.index-found-p.is)) in
+    slice_get-get_or found c.args.p r c.requires.place
+    ∙ ap Some (sym (c.in_ok-witness.ensures ∙ c.index-found-p.is)) in
     names_more found c.args.witnesses.now.items c.number_witness.new.witnesses.items _ c.args.names.now.items c.args.p
     c.in_ok-number.number x c.requires.names at c.in_ok-number.ensures
 
@@ -46,6 +47,7 @@ returns-clause-number c witness named =
     let x = c.in_ok-witness.witness in
     let r = c.index-found-p.result in
     let at : slice_get found c.args.p ≡ Some x =
-    slice_get-get_or found c.args.p r c.requires.place ∙ ap Some (sym (c.in_ok-witness.ensures ∙ c.index-found-p.is)) in
+    slice_get-get_or found c.args.p r c.requires.place
+    ∙ ap Some (sym (c.in_ok-witness.ensures ∙ c.index-found-p.is)) in
     subst (λ y. IsWitnessNumber (map (λ v. v.items) c.number_witness.new.keys.keys) c.args.witnesses.now.items
     c.number_witness.new.witnesses.items y c.in_ok-number.number) (from_some (sym at ∙ named)) c.in_ok-number.ensures

@@ -1,5 +1,5 @@
-use Rattle.std.proofs.Common.{◌≡◌, ◌∙◌, ◌-◌, ◌≤◌, ℕ, All, List, ap, arith, drop, length, length-append, map, subst, sym}
-use Rattle.std.proofs.Common.{take}
+use Rattle.std.proofs.Common.{◌≡◌, ◌∙◌, ◌-◌, ◌≤◌, ℕ, All, List, ap, arith, drop, length}
+use Rattle.std.proofs.Common.{length-append, map, subst, sym, take}
 use Rattle.std.proofs.lemmas.List.{take_rest}
 use Rattle.staat_vec.specs.declared.vector.V3.{V3}
 use Rattle.staat_vec.specs.Lists.{Lists}
