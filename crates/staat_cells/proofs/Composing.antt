@@ -1,12 +1,14 @@
 -- Steps of the loops that join lists of signs and cells.
-use Rattle.std.proofs.Common.{◌≡◌, ℕ, ◌+◌, ◌<◌, ap, sym, ◌∙◌, refl, add-one, List, [], ◌∷◌, ◌++◌, length, get_or, map, false, true, if◌then◌else◌}
-use Rattle.std.proofs.lemmas.List.{get_or-map, map-append}
+use Rattle.std.proofs.Common.{◌≡◌, ℕ, ◌+◌, ◌<◌, ◌≤◌, ap, sym, ◌∙◌, refl, add-one, append_assoc, List, [], ◌∷◌, ◌++◌}
+use Rattle.std.proofs.Common.{drop, length, get_or, map, false, true, if◌then◌else◌}
+use Rattle.std.proofs.lemmas.List.{at_drop_more, drop_all, get_or-map, map-append}
 use Rattle.staat_model.specs.declared.tree.Kind.{Kind}
 use Rattle.staat_model.specs.Cells.{CellEntry}
 use Rattle.staat_cells.specs.declared.cell.Cell.{Cell}
 use Rattle.staat_cells.specs.declared.incidence.Incidence.{Incidence}
 use Rattle.staat_cells.specs.Compositions.{begins_cell, begun_up_to, entry_of, composed_at, composed_up_to, no_cell, no_incidence}
 use Rattle.staat_cells.specs.Skeletons.{IsComposedAt}
+use Rattle.staat_cells.specs.Stages.{cell_at}
 use Rattle.staat_vec.proofs.ListLaws.{append_nothing}
 
 -- ---- cells of the first incidences
@@ -24,7 +26,7 @@ composed_with kind lower incidences i old new cell before is at =
     ∙ ap (λ b. composed_up_to kind lower incidences i ++ (if b then composed_at kind lower incidences i ∷ [] else [])) (sym at.begins)
     ∙ ap (composed_up_to kind lower incidences) (sym (add-one i))
 
-entry_at : (lower : List Cell) (k : ℕ) (a : Cell) → k < length lower → a ≡ get_or lower k a
+pub entry_at : (lower : List Cell) (k : ℕ) (a : Cell) → k < length lower → a ≡ get_or lower k a
     → entry_of a ≡ get_or (map entry_of lower) k no_cell
 entry_at lower k a lt e = ap entry_of e ∙ sym (get_or-map entry_of lower k a no_cell lt)
 
@@ -57,3 +59,34 @@ begun_same incidences i found before none =
     before ∙ sym (append_nothing (begun_up_to incidences i))
     ∙ ap (λ b. begun_up_to incidences i ++ (if b then get_or incidences i no_incidence ∷ [] else [])) (sym none)
     ∙ ap (begun_up_to incidences) (sym (add-one i))
+
+-- ---- the cells of incidences, copied
+
+-- the cells of the first incidences were copied
+abbrev pub AreCopiedTo : List Cell → List Incidence → ℕ → List Cell → Type 0
+AreCopiedTo cells incidences i found =
+    map entry_of found ++ map (λ x. cell_at (map entry_of cells) x.of) (drop i incidences)
+    ≡ map (λ x. cell_at (map entry_of cells) x.of) incidences
+
+pub copied_more : (cells : List Cell) (incidences : List Incidence) (i : ℕ) (old new : List Cell) (copy a : Cell)
+    → i < length incidences → (get_or incidences i no_incidence).of < length cells
+    → a ≡ get_or cells (get_or incidences i no_incidence).of a → entry_of copy ≡ entry_of a → new ≡ old ++ copy ∷ []
+    → AreCopiedTo cells incidences i old → AreCopiedTo cells incidences (i + 1) new
+copied_more cells incidences i old new copy a lt listed a_is same is so_far =
+    let f : Incidence → CellEntry = λ x. cell_at (map entry_of cells) x.of in
+    let rest = map f (drop (i + 1) incidences) in
+    let at = same ∙ entry_at cells (get_or incidences i no_incidence).of a listed a_is in
+    ap (λ l. map entry_of l ++ rest) is
+    ∙ ap (λ l. l ++ rest) (map-append entry_of old (copy ∷ []))
+    ∙ append_assoc (map entry_of old) (entry_of copy ∷ []) rest
+    ∙ ap (λ e. map entry_of old ++ e ∷ rest) at
+    ∙ ap (λ l. map entry_of old ++ l) (sym (at_drop_more (map f) incidences i no_incidence lt))
+    ∙ so_far
+
+pub copied_all : (cells : List Cell) (incidences : List Incidence) (i : ℕ) (found : List Cell)
+    → length incidences ≤ i → AreCopiedTo cells incidences i found
+    → map entry_of found ≡ map (λ x. cell_at (map entry_of cells) x.of) incidences
+copied_all cells incidences i found le so_far =
+    sym (append_nothing (map entry_of found))
+    ∙ ap (λ l. map entry_of found ++ map (λ x. cell_at (map entry_of cells) x.of) l) (sym (drop_all i incidences le))
+    ∙ so_far

@@ -42,6 +42,20 @@ pub record NextBy (P : V3 → Type 0) (g v w : V3) : Type 0 where
   pub after : pos 0 <ℤ turn g v w
   pub none : (x : V3) → P x → pos 0 <ℤ turn g v x → pos 0 <ℤ turn g x w → ⊥
 
+-- of two vectors on one line neither is turned from the other
+line_turn : (g q x y : V3) → (x ≡ q) ⊎ (x ≡ negative q) → (y ≡ q) ⊎ (y ≡ negative q) → turn g x y ≡ pos 0
+line_turn g q x y (inl a) (inl b) = (λ i. turn g (a i) (b i)) ∙ turn_same g q
+line_turn g q x y (inl a) (inr b) =
+    (λ i. turn g (a i) (b i))
+    ∙ (let t = turn_negative_right g q q in let s = turn_same g q in omega (arith, ints))
+line_turn g q x y (inr a) (inl b) =
+    (λ i. turn g (a i) (b i))
+    ∙ (let t = turn_negative_left g q q in let s = turn_same g q in omega (arith, ints))
+line_turn g q x y (inr a) (inr b) =
+    (λ i. turn g (a i) (b i))
+    ∙ (let t = turn_negative_left g q (negative q) in let u = turn_negative_right g q q in
+    let s = turn_same g q in omega (arith, ints))
+
 module _ (planes : List V3) (linked : List ℕ) (r : Ring) (p : ℕ) (apart : AreLinkedApart planes linked) (is : IsRingOf planes linked r)
     (axis : (v : V3) → v ≢ origin → dot is.circle.g v ≡ pos 0 → (a : ℕ) × (h : V3) × IsLinked planes linked a h × (a ≢ p) × (a ≢ r.plane) × (dot h v ≢ pos 0)) where
   abbrev g : V3
@@ -178,12 +192,6 @@ module _ (planes : List V3) (linked : List ℕ) (r : Ring) (p : ℕ) (apart : Ar
       let same : w.other ≡ p = sym ee ∙ leaves_by p s h e ce in
       (w.h, w.is, subst (λ j. slice_get planes j ≡ Some w.h) same w.other_is.is)
 
-  line_turn : (q x y : V3) → (x ≡ q) ⊎ (x ≡ negative q) → (y ≡ q) ⊎ (y ≡ negative q) → turn g x y ≡ pos 0
-  line_turn q x y (inl a) (inl b) = (λ i. turn g (a i) (b i)) ∙ turn_same g q
-  line_turn q x y (inl a) (inr b) = (λ i. turn g (a i) (b i)) ∙ (let t = turn_negative_right g q q in let s = turn_same g q in omega (arith, ints))
-  line_turn q x y (inr a) (inl b) = (λ i. turn g (a i) (b i)) ∙ (let t = turn_negative_left g q q in let s = turn_same g q in omega (arith, ints))
-  line_turn q x y (inr a) (inr b) = (λ i. turn g (a i) (b i)) ∙ (let t = turn_negative_left g q (negative q) in let u = turn_negative_right g q q in let s = turn_same g q in omega (arith, ints))
-
   -- ---- the order
 
   abbrev R : RingStop → RingStop → Type 0
@@ -213,7 +221,8 @@ module _ (planes : List V3) (linked : List ℕ) (r : Ring) (p : ℕ) (apart : Ar
       let (a, wa, pa) = on_line u h.0 ku in
       let (b, wb, pb) = on_line x h.1 kx in
       let e : b ≡ a = same_Some b a (sym pb ∙ pa) in
-      let z = line_turn (primitive (cross g a)) (vertex u) (vertex x) wa (subst (λ y. (vertex x ≡ primitive (cross g y)) ⊎ (vertex x ≡ negative (primitive (cross g y)))) e wb) in
+      let z = line_turn g (primitive (cross g a)) (vertex u) (vertex x) wa
+      (subst (λ y. (vertex x ≡ primitive (cross g y)) ⊎ (vertex x ≡ negative (primitive (cross g y)))) e wb) in
       positive_not_zero (turn g (vertex u) (vertex x)) h.2.after z
 
   around : Around R r.stops

@@ -134,6 +134,13 @@ gain_more pairs counts after q p is lt at full e =
     subst (CountBlocks (set pairs q (gained 1 p))) (sym e)
     (counted_more pairs counts q is lt (gained 1 p) (ap (λ r. r.parts) (sym at)) (λ x. ap (is_block x) at ∙ (completes x p full).0) (λ x. (completes x p full).1))
 
+pub gain_same : (pairs : List PairCount) (counts : List ℕ) (q : ℕ) (p : PairCount) → CountBlocks pairs counts
+    → q < length pairs → pair_at pairs q ≡ p → p.positive + 1 ≢ p.wanted
+    → CountBlocks (set pairs q (gained 1 p)) counts
+gain_same pairs counts q p is lt at other =
+    counted_same pairs counts q is lt (gained 1 p) (ap (λ r. r.parts) (sym at))
+    (λ x. leaves x p other ∙ ap (is_block x) (sym at))
+
 abbrev pub lost : PairCount → PairCount
 lost p = record { positive = p.positive - 1; wanted = p.wanted; parts = p.parts }
 
@@ -156,6 +163,14 @@ set-set (x ∷ xs) zero a b = refl
 set-set (x ∷ xs) (suc i) a b = ap (λ r. x ∷ r) (set-set xs i a b)
 
 -- what `pairs[q]` gives
+pub lose_same : (pairs : List PairCount) (counts : List ℕ) (q : ℕ) (p : PairCount) → CountBlocks pairs counts
+    → q < length pairs → pair_at pairs q ≡ p → 0 < p.positive → p.positive ≢ p.wanted
+    → CountBlocks (set pairs q (lost p)) counts
+lose_same pairs counts q p is lt at some other =
+    let back = gained-lost p some in
+    counted_same pairs counts q is lt (lost p) (ap (λ r. r.parts) (sym at))
+    (λ x. sym (leaves x (lost p) (λ e. other (sym (ap (λ r. r.positive) back) ∙ e))) ∙ ap (is_block x) (back ∙ sym at))
+
 pub read : (pairs : List PairCount) (q : ℕ) (p : PairCount) → p ≡ get_or pairs q p → q < length pairs → pair_at pairs q ≡ p
 read pairs q p e lt = get_or_default pairs q no_pair p lt ∙ sym e
 
@@ -184,6 +199,14 @@ pub want_full : (pairs : List PairCount) (counts after : List ℕ) (q wanted par
 want_full pairs counts after q wanted parts is lt at small z e =
     subst (CountBlocks (set pairs q (fresh wanted parts))) (sym e)
     (counted_full pairs counts q is lt (fresh wanted parts) small (λ x. ap (is_block x) at ∙ none_blocks x no_pair (omega arith)) (λ x. full_blocks x (fresh wanted parts) (omega arith)))
+
+pub want_open : (pairs : List PairCount) (counts : List ℕ) (q wanted parts : ℕ) → CountBlocks pairs counts
+    → q < length pairs → pair_at pairs q ≡ no_pair → parts < 1024 → wanted ≢ 0
+    → CountBlocks (set pairs q (fresh wanted parts)) counts
+want_open pairs counts q wanted parts is lt at small some =
+    counted_new pairs counts q is lt (fresh wanted parts) small
+    (λ x. ap (is_block x) at ∙ none_blocks x no_pair (omega arith))
+    (λ x. none_blocks x (fresh wanted parts) (omega (arith, some)))
 
 pub counted_start : (n : ℕ) → n ≤ 4096 → CountBlocks (replicate n no_pair) (replicate 1024 0)
 counted_start n le = record {

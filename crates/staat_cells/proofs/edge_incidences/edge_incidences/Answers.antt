@@ -1,12 +1,22 @@
-use Rattle.std.proofs.Common.{length, map}
+use Rattle.std.proofs.Common.{length, map, subst, sym}
 use Rattle.staat_model.specs.declared.tree.Kind.TheVariants.{Edge}
 use Rattle.staat_cells.specs.Compositions.{entry_of}
-use Rattle.staat_cells.specs.Stages.{IsIncidence}
-use Rattle.staat_cells.proofs.Numbered.{edge_more, holds_all, holds_none, listed_was, own_at}
+use Rattle.staat_cells.specs.Stages.{IsIncidence, IsVertexPoint}
+use Rattle.staat_cells.proofs.Numbered.{edge_more, holds_all, holds_none, listed_was, own_at, own_place}
 use Rattle.staat_cells.proofs.edge_incidences.edge_incidences.Goals as goal
 
 pub loop-k-init : goal.loop-k-init
 loop-k-init c = holds_none (IsIncidence c.args.planes.now Edge (map entry_of c.args.points.now)) c.in_ok-incidences.incidences.items c.in_ok-incidences.ensures.items
+
+pub bounds-own-k : goal.bounds-own-k
+bounds-own-k c = own_place c.args.points.now c.args.own.now c.requires.own c.loop-k.k c.loop-k-test.true
+
+pub push_edge_incidences-requires-clause-vertex : goal.push_edge_incidences-requires-clause-vertex
+push_edge_incidences-requires-clause-vertex c =
+    let point : IsVertexPoint c.args.planes.now c.index-points-k.result =
+    subst (IsVertexPoint c.args.planes.now) (sym c.index-points-k.is)
+    (c.requires.points c.loop-k.k c.index-points-k.result c.loop-k-test.true) in
+    point.vertex
 
 pub push_edge_incidences-requires-clause-own : goal.push_edge_incidences-requires-clause-own
 push_edge_incidences-requires-clause-own c =

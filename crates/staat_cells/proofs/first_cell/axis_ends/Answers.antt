@@ -1,5 +1,7 @@
-use Rattle.std.proofs.Common.{arith}
+use Rattle.std.proofs.Common.{◌<◌, ◌^◌, arith}
+use Rattle.staat_vec.specs.declared.vector.TheConstants.{NORMAL}
 use Rattle.staat_vec.proofs.Bounds.{wide}
+use Rattle.staat_cells.proofs.MachineWords.{not_above, not_below}
 use Rattle.staat_cells.proofs.Narrowing.{last_down, x_down, x_up, y_down, y_up, z_down, z_up}
 use Rattle.staat_cells.proofs.first_cell.axis_ends.Goals as goal
 
@@ -43,20 +45,18 @@ returns-then-g-gt0-3 c =
     x_up c.args.g c.ends_between-then-g-gt0-3.result (omega (arith, wide, size, test))
     (e.first, e.second, e.first_size, e.second_size)
 
+-- the size of a component
+small : NORMAL < 2 ^ 127
+small = omega arith
+
 pub returns-else-g-gt0-3 : goal.returns-else-g-gt0-3
 returns-else-g-gt0-3 c =
     let e = c.ends_between-else-g-gt0-3.ensures in
-    let size_x = c.requires.size.x in
-    let size_y = c.requires.size.y in
-    let size_z = c.requires.size.z in
-    let t = c.if-g-gt0.false in
-    let u = c.if-g-lt0.false in
-    let v = c.if-g-gt0-2.false in
-    let w = c.if-g-lt0-2.false in
-    let x = c.if-g-gt0-3.false in
-    x_down c.args.g c.ends_between-else-g-gt0-3.result
-    (last_down c.args.g c.requires.some
-    (λ h. omega (arith, wide, size_z, t, h)) (λ h. omega (arith, wide, size_z, u, h))
-    (λ h. omega (arith, wide, size_y, v, h)) (λ h. omega (arith, wide, size_y, w, h))
-    (λ h. omega (arith, wide, size_x, x, h)))
+    let g = c.args.g in
+    let size = c.requires.size in
+    x_down g c.ends_between-else-g-gt0-3.result
+    (last_down g c.requires.some
+    (not_above g.z NORMAL size.z small c.if-g-gt0.false) (not_below g.z NORMAL size.z small c.if-g-lt0.false)
+    (not_above g.y NORMAL size.y small c.if-g-gt0-2.false) (not_below g.y NORMAL size.y small c.if-g-lt0-2.false)
+    (not_above g.x NORMAL size.x small c.if-g-gt0-3.false))
     (e.first, e.second, e.first_size, e.second_size)

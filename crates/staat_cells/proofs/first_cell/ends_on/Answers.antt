@@ -1,5 +1,7 @@
-use Rattle.std.proofs.Common.{take}
+use Rattle.std.proofs.Common.{subst, take}
+use Rattle.std.proofs.lemmas.List.{take_all}
 use Rattle.std.proofs.lemmas.List.Elements.{Contains-get_or}
+use Rattle.staat_cells.specs.FirstCell.{AreArcEnds}
 use Rattle.staat_cells.proofs.LowEdges.{from_axes, one_more}
 use Rattle.staat_cells.proofs.first_cell.ends_on.Goals as goal
 
@@ -19,3 +21,9 @@ loop-h-preserved c =
     one_more planes c.args.g c.in-Some.new c.loop-h.h-index _ c.loop-h-test.true
     (c.in-Some.ensures planes (take c.loop-h.h-index planes)
     (Contains-get_or planes c.loop-h.h-index _ c.loop-h-test.true) c.loop-h.invariant)
+
+pub returns : goal.returns
+returns c =
+    let planes = c.args.planes.now in
+    subst (λ l. AreArcEnds planes c.args.g l c.loop-h.ends) (take_all c.loop-h.h-index planes c.loop-h-test.false)
+    c.loop-h.invariant

@@ -14,3 +14,10 @@ returns c =
       value = simp to_z-of_z;
       size = simp to_z-of_z (abs_mul_le c.args.a c.args.b SMALL_NORMAL SMALL_DIRECTION c.requires.a c.requires.b);
     }
+
+pub overflow_mul-result : goal.overflow_mul-result
+overflow_mul-result c =
+    let a_fits = c.ranges.a in
+    let b_fits = c.ranges.b in
+    simp to_z-of_z
+    (fits_signed_mul w64 c.args.a c.args.b SMALL_NORMAL SMALL_DIRECTION c.requires.a c.requires.b (omega arith))

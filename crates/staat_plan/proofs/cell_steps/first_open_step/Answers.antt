@@ -7,6 +7,12 @@ use Rattle.staat_plan.proofs.CellStepLemmas.{cell_some}
 use Rattle.staat_plan.proofs.StepLemmas.{moves_along, serves_not}
 use Rattle.staat_plan.proofs.cell_steps.first_open_step.Goals as goal
 
+pub first_open-d-requires : goal.first_open-d-requires
+first_open-d-requires c =
+    let are : ArePlanesIn c.args.table.now c.args.w c.as_slice.result.now =
+    subst (ArePlanesIn c.args.table.now c.args.w) (sym c.as_slice.ensures.value) c.in_ok-planes.ensures in
+    are.rules
+
 pub returns-then-is_strong : goal.returns-then-is_strong
 returns-then-is_strong c =
     let t = c.args.table.now in

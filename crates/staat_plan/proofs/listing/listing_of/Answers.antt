@@ -1,5 +1,6 @@
 use Rattle.std.proofs.Common.{◌≡◌, ◌<◌, ◌∷◌, [], ◌++◌, ◌∙◌, List, ap, arith, length, map, subst, sym, get_or}
 use Rattle.std.specs.Prelude.{Some, slice_get}
+use Rattle.std.proofs.lemmas.List.{take_all}
 use Rattle.std.proofs.lemmas.Option.{slice_get-get_or}
 use Rattle.staat_cone.proofs.PairLists.{take_more}
 use Rattle.staat_vec.specs.declared.vector.V3.{V3}
@@ -32,3 +33,7 @@ loop-k-preserved c =
       };
       names = c.in_ok-push_dir.ensures.names;
     }
+
+pub returns-clause-lines : goal.returns-clause-lines
+returns-clause-lines c =
+    c.loop-k.invariant.lines.lines ∙ take_all c.loop-k.k c.args.directions.now c.loop-k-test.false

@@ -3,8 +3,19 @@ use Rattle.std.specs.Prelude.{Some, slice_get}
 use Rattle.std.proofs.lemmas.Option.{get_or_from_slice_get, slice_get-get_or}
 use Rattle.staat_vec.specs.Vectors.{origin}
 use Rattle.staat_model.specs.declared.certificate.Witness.{Witness}
+use Rattle.staat_plan.specs.WitnessListings.{AreNames}
 use Rattle.staat_plan.proofs.LineLemmas.{line_pushed, listed_more, number_small}
 use Rattle.staat_plan.proofs.listing.push_dir.Goals as goal
+
+pub name_of-requires-clause-names : goal.name_of-requires-clause-names
+name_of-requires-clause-names c =
+    subst (λ found. AreNames found c.args.listing.now.witnesses.items c.args.names.now.items)
+    (sym c.as_slice.ensures.value) c.requires.names
+
+pub returns-clause-names : goal.returns-clause-names
+returns-clause-names c =
+    subst (λ found. AreNames found c.name_of.new.witnesses.items c.name_of.new.names.items) c.as_slice.ensures.value
+    c.in_ok-number.ensures.names
 
 pub overflow_cast-number : goal.overflow_cast-number
 overflow_cast-number c =

@@ -1,4 +1,4 @@
-use Rattle.std.proofs.Common.{◌≡◌, ◌<◌, arith, subst}
+use Rattle.std.proofs.Common.{◌≡◌, ◌∙◌, ◌<◌, arith, subst, sym}
 use Rattle.std.specs.Prelude.{Some}
 use Rattle.std.specs.FinSet as set
 use Rattle.staat_model.specs.Sets.{IsSide, IsSubset}
@@ -8,7 +8,7 @@ use Rattle.staat_plan.proofs.planner.+outcome_of_set.Goals as goal
 
 pub returns-then-count-eq1-clause-outcome : goal.returns-then-count-eq1-clause-outcome
 returns-then-count-eq1-clause-outcome g t c =
-    let one : set.len c.args.w ≡ 1 = (let a = c.count.ensures.is in let b = c.if-count-eq1.true in cc) in
+    let one : set.len c.args.w ≡ 1 = sym c.count.ensures.is ∙ c.if-count-eq1.true in
     leaf_found c.args.options.robust c.args.sound.now c.args.w c.args.options.planes c.least.result c.leaf.result one c.least.ensures.least.has c.requires.least c.leaf.ensures
 
 pub next_step-requires-clause-two : goal.next_step-requires-clause-two

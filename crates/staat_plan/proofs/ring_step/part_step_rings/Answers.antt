@@ -12,7 +12,7 @@ use Rattle.staat_plan.specs.RingSearches.{lengths_below}
 use Rattle.staat_plan.proofs.OutcomeLemmas.{some_member}
 use Rattle.staat_plan.proofs.RingLengths.{lengths_past, lengths_rise}
 use Rattle.staat_plan.proofs.RingStepLaw.{has_no_step, is_stuck}
-use Rattle.staat_plan.proofs.StepLemmas.{not_stuck}
+use Rattle.staat_plan.proofs.StepLemmas.{not_stuck, some_found}
 use Rattle.staat_plan.proofs.ring_step.part_step_rings.Goals as goal
 use Rattle.staat_vec.proofs.Naturals.{min_at_start, lt_or_le}
 
@@ -124,7 +124,7 @@ returns-clause-stuck g c parts made =
 
 pub returns-in-Some-clause-stuck : goal.returns-in-Some-clause-stuck
 returns-in-Some-clause-stuck g c parts made = (
-  (λ none. absurd cc),
+  (λ none. absurd (some_found _ none)),
   (λ stuck. absurd (not_stuck parts c.args.w (try_vertex c.step_of.result.d) c.step_of.result.moved (returns-in-Some-clause-step g c parts made) stuck)),
 )
 

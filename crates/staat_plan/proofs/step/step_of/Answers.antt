@@ -3,7 +3,7 @@ use Rattle.std.specs.FinSet as set
 use Rattle.staat_model.specs.Outcomes.{try_vertex}
 use Rattle.staat_model.proofs.SomePlanes.{some_planes}
 use Rattle.staat_plan.proofs.OutcomeLemmas.{some_member}
-use Rattle.staat_plan.proofs.StepLemmas.{is_stuck, no_step, not_stuck, step_is}
+use Rattle.staat_plan.proofs.StepLemmas.{is_stuck, no_step, not_stuck, some_found, step_is}
 use Rattle.staat_plan.proofs.step.step_of.Goals as goal
 
 pub first_vertex-requires-clause-fits : goal.first_vertex-requires-clause-fits
@@ -28,6 +28,6 @@ returns-in-Some-clause-step c parts made =
 
 pub returns-in-Some-clause-stuck : goal.returns-in-Some-clause-stuck
 returns-in-Some-clause-stuck c parts made = (
-  (λ none. absurd cc),
+  (λ none. absurd (some_found _ none)),
   (λ stuck. absurd (not_stuck parts c.args.w (try_vertex c.in-Some.served.d) c.in-Some.served.found (returns-in-Some-clause-step c parts made) stuck)),
 )

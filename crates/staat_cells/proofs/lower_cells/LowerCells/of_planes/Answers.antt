@@ -1,4 +1,5 @@
-use Rattle.std.proofs.Common.{◌≡◌, ◌∙◌, ◌-◌, ◌≤◌, ℕ, All, List, ap, arith, drop, length, map, subst, sym, take}
+use Rattle.std.proofs.Common.{◌≡◌, ◌∙◌, ◌-◌, ◌≤◌, ℕ, All, List, ap, arith, drop, length}
+use Rattle.std.proofs.Common.{length-append, map, subst, sym, take}
 use Rattle.std.proofs.lemmas.List.{take_rest}
 use Rattle.staat_vec.specs.declared.vector.V3.{V3}
 use Rattle.staat_vec.specs.Lists.{Lists}
@@ -29,6 +30,24 @@ slice_is : (points cells slice : List Cell) (ends : List Incidence) (count : ℕ
     → take (length slice - count) (drop count slice) ≡ adds.added
 slice_is points cells slice ends count e same adds =
     take_rest slice count ∙ ap (drop count) same ∙ added_behind points adds.added cells count e adds.is
+
+-- the points are no more than all
+fewer : (points cells slice : List Cell) (ends : List Incidence) (count : ℕ) → count ≡ length points → slice ≡ cells
+    → AddsComposed Edge 0 ends points cells → count ≤ length slice
+fewer points cells slice ends count e same adds =
+    omega (arith, e, ap length same, ap length adds.is, length-append points adds.added)
+
+pub slice_bounds-incidences_of_edges-count : goal.slice_bounds-incidences_of_edges-count
+slice_bounds-incidences_of_edges-count c =
+    let points = c.in_ok-cells.cells.items in
+    let cells = c.push_composed.new.cells.items in
+    let ends = c.in_ok-ends.ends.items in
+    let count : c.len-points.result ≡ length points = omega arith in
+    fewer points cells c.deref-5.result.now ends c.len-points.result count c.deref-5.ensures.value
+    (composed_of c.deref-3.result.now ends points cells c.deref-3.ensures.value c.in_ok-push_composed.ensures)
+
+pub slice_bounds-incidences_of_edges-start : goal.slice_bounds-incidences_of_edges-start
+slice_bounds-incidences_of_edges-start c = slice_bounds-incidences_of_edges-count c
 
 pub push_composed-requires-clause-pairs : goal.push_composed-requires-clause-pairs
 push_composed-requires-clause-pairs c =
