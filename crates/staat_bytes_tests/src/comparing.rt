@@ -1,36 +1,27 @@
 // The comparisons of all tests. Each ends the test where two values differ, and says at what.
-ghost use Rattle.std.specs.Prelude.{◌≡◌};
 
 use std::alloc::Global;
 use std::fmt::Display;
 use std::process::Abort;
 
 /// Two truths.
-pub fn same_truth(rt: &impl Abort, truth: bool, want: bool, at: &str)
-    ensures { truth ≡ want }
-{
-    assert_eq!(rt; truth, want, "at {at}");
+pub fn same_truth(rt: &impl Abort, got: bool, want: bool, at: &str) {
+    assert_eq!(rt; got, want, "at {at}");
 }
 
 /// Two counts.
-pub fn same_count(rt: &impl Abort, count: usize, want: usize, at: &str)
-    ensures { count ≡ want }
-{
-    assert_eq!(rt; count, want, "at {at}");
+pub fn same_count(rt: &impl Abort, got: usize, want: usize, at: &str) {
+    assert_eq!(rt; got, want, "at {at}");
 }
 
 /// Two texts.
-pub fn same_text(rt: &impl Abort, text: &str, want: &str, at: &str)
-    ensures { text.now ≡ want.now }
-{
-    assert_eq!(rt; text, want, "at {at}");
+pub fn same_text(rt: &impl Abort, got: &str, want: &str, at: &str) {
+    assert_eq!(rt; got, want, "at {at}");
 }
 
 /// Two runs of bytes.
-pub fn same_bytes(rt: &impl Abort, bytes: &[u8], want: &[u8], at: &str)
-    ensures { bytes.now ≡ want.now }
-{
-    assert_eq!(rt; bytes, want, "at {at}");
+pub fn same_bytes(rt: &impl Abort, got: &[u8], want: &[u8], at: &str) {
+    assert_eq!(rt; got, want, "at {at}");
 }
 
 /// The text of a value.

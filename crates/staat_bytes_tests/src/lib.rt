@@ -7,7 +7,8 @@
 
 #[cfg(test)]
 mod certificates;
-pub mod comparing;
+#[cfg(test)]
+mod comparing;
 #[cfg(test)]
 mod failing_reads;
 #[cfg(test)]
