@@ -1,5 +1,6 @@
 // The comparisons of all tests. Each ends the test where two values differ, and says at what.
 
+use crate::sameness::{are_same_bytes, are_same_counts, are_same_texts};
 use std::alloc::Global;
 use std::fmt::Display;
 use std::process::Abort;
@@ -11,17 +12,17 @@ pub fn same_truth(rt: &impl Abort, got: bool, want: bool, at: &str) {
 
 /// Two counts.
 pub fn same_count(rt: &impl Abort, got: usize, want: usize, at: &str) {
-    assert_eq!(rt; got, want, "at {at}");
+    assert!(rt; are_same_counts(got, want), "at {at}: {got}, not {want}");
 }
 
 /// Two texts.
 pub fn same_text(rt: &impl Abort, got: &str, want: &str, at: &str) {
-    assert_eq!(rt; got, want, "at {at}");
+    assert!(rt; are_same_texts(got, want), "at {at}: {got:?}, not {want:?}");
 }
 
 /// Two runs of bytes.
 pub fn same_bytes(rt: &impl Abort, got: &[u8], want: &[u8], at: &str) {
-    assert_eq!(rt; got, want, "at {at}");
+    assert!(rt; are_same_bytes(got, want), "at {at}: {got:?}, not {want:?}");
 }
 
 /// The text of a value.

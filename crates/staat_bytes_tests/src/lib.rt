@@ -19,6 +19,7 @@ mod judging;
 mod refusals;
 #[cfg(test)]
 mod replies;
+pub mod sameness;
 #[cfg(test)]
 mod shelves;
 #[cfg(test)]
