@@ -1,9 +1,8 @@
 -- The outcome of a set from those of its two sides.
-use Rattle.std.proofs.Common.{◌≡◌, ◌≢◌, inl, inr, ⊎_elim, ℕ, ◌<◌, ◌≤◌, arith, ap, sym, ◌∙◌, subst, refl, List, [], ◌∷◌, ◌++◌, length}
+use Rattle.std.proofs.Common.{◌≡◌, ◌≢◌, inl, inr, ℕ, ◌<◌, ◌≤◌, arith, sym, subst, refl, List, [], ◌∷◌, ◌++◌, length}
 use Rattle.std.specs.Prelude.{Option, None, Some, Result, Ok, Err, IfOk, IfSome, MatchOption, MatchResult}
 use Rattle.std.specs.Result.{IsErrAnd}
 use Rattle.std.specs.FinSet as set
-use Rattle.std.specs.Ordering.{nat_cmp}
 use Rattle.staat_vec.specs.Lists.{IsFirst}
 use Rattle.staat_vec.specs.Vectors.{origin}
 use Rattle.staat_model.specs.declared.assembly.Part.{Part}
@@ -19,28 +18,22 @@ use Rattle.staat_model.specs.Outcomes.{Finding, HasNoStep, IsOutcome, IsStep, Se
 use Rattle.staat_model.specs.Plans.{leaf, plan_of, split}
 use Rattle.staat_model.specs.Planes.{axes}
 use Rattle.staat_model.specs.Sets.{Has, IsNonempty, IsSide, IsSubset, below, single}
-use Rattle.staat_model.proofs.RestrictLemmas.{rest_within, nonempty_or}
+use Rattle.staat_model.proofs.RestrictLemmas.{rest_within}
 use Rattle.staat_model.proofs.SomePlanes.{some_planes}
-use Rattle.staat_model.proofs.SetMembers.{has-difference, has-empty}
+use Rattle.staat_model.proofs.SetMembers.{has-difference}
 use Rattle.staat_model.proofs.SetSizes.{one_is, one_within}
 use Rattle.staat_model.proofs.SetWords.{same_members}
 use Rattle.staat_graph.proofs.Finite.{len_fewer, len_some}
 use Rattle.staat_planes.specs.declared.refusal.PlanesRefusal.{PlanesRefusal}
 use Rattle.staat_planes.specs.Refusals.{IsPlanesRefusal, IsTableWithin}
-use Rattle.staat_plan.specs.Certifying.{CanBeCertified}
-use Rattle.staat_plan.specs.Planning.{HasFewPlanes, IsOutcomeOf, Settles, IsSetStep, IsSized, IsStepOf, try_of}
+use Rattle.staat_certify.specs.Certifying.{CanBeCertified, HasFewPlanes}
+use Rattle.staat_plan.specs.Planning.{IsOutcomeOf, Settles, IsSetStep, IsSized, IsStepOf, try_of}
 use Rattle.staat_pairs.specs.Tables.{Table, WasMadeFrom}
 use Rattle.staat_plan.specs.CellSteps.{IsTableStep}
 use Rattle.staat_model.specs.Assemblies.{IsAssembly}
 use Rattle.staat_plan.proofs.Right.{right_lemma}
 use Rattle.staat_plan.proofs.Fewer.{fewer_planes_lemma, single_planes, sub_refused}
 use Rattle.staat_model.proofs.OtherSides.{rest_some}
-
--- a set with a member or more is not empty
-pub some_member : (w : PartSet) → 1 ≤ set.len w → IsNonempty w
-some_member w some = ⊎_elim (λ h. h)
-    (λ none. let e : set.len w ≡ 0 = ap set.len (same_members w set.empty (λ q h. absurd (none q h)) (λ q h. absurd (has-empty q h))) ∙ set.len-empty nat_cmp in absurd (omega (arith, e, some)))
-    (nonempty_or w)
 
 -- both sides have fewer parts than the set
 pub side_fewer : (w s : PartSet) → IsSide w s → set.len s < set.len w

@@ -33,10 +33,10 @@ use Rattle.staat_pairs.specs.Tables.{AreTablePlanes, IsPlaneNormal}
 use Rattle.staat_pairs.proofs.BuildLemmas.{none_parallel, axis_within}
 use Rattle.staat_cells.proofs.TableRules.{vertex_small}
 use Rattle.staat_cells.proofs.WholeLists.{cell_small}
-use Rattle.staat_plan.specs.Planning.{AreWithin}
-use Rattle.staat_plan.proofs.CertificateSizes.{plan_text_short}
+use Rattle.staat_certify.specs.Plans.{AreWithin}
+use Rattle.staat_certify.proofs.CertificateSizes.{plan_text_short}
 use Rattle.staat_plan.proofs.Right.{right_lemma}
-use Rattle.staat_plan.proofs.SomeCertificate.{some_plan_certificate}
+use Rattle.staat_certify.proofs.SomeCertificate.{some_plan_certificate}
 
 -- ---- the planes of a set of parts are those of a table
 

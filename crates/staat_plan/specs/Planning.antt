@@ -1,31 +1,20 @@
 -- What the planner finds for a set of parts.
-use Rattle.std.specs.Prelude.{ℕ, ◌≤◌, List, Option, Bool, MatchOption, IfSome, length}
+use Rattle.std.specs.Prelude.{ℕ, List, Option, Bool, MatchOption, IfSome}
 use Rattle.std.specs.Option.{option_to_list}
-use Rattle.staat_vec.specs.declared.vector.V3.{V3}
 use Rattle.staat_vec.specs.declared.vector.TheConstants.{DIRECTION}
 use Rattle.staat_vec.specs.Vectors.{IsWithin}
 use Rattle.staat_model.specs.declared.assembly.Part.{Part}
 use Rattle.staat_model.specs.declared.set.PartSet.{PartSet}
-use Rattle.staat_plan.specs.declared.marked.Marked.{Marked}
 use Rattle.staat_model.specs.declared.tree.Outcome.{Outcome}
 use Rattle.staat_model.specs.Outcomes.{Finding, HasNoStep, IsOutcome, IsStep, Try, finding_of, planned, stuck}
-use Rattle.staat_model.specs.Planes.{ArePlanes}
-use Rattle.staat_model.specs.Plans.{IsGood, IsStuck, Plan, leaf, split}
+use Rattle.staat_model.specs.Plans.{IsGood, IsStuck}
 use Rattle.staat_model.specs.Sets.{IsSide, IsSubset}
 use Rattle.staat_pairs.specs.Tables.{Table, WasMadeFrom}
+use Rattle.staat_certify.specs.Certifying.{HasFewPlanes}
+use Rattle.staat_certify.specs.Plans.{AreWithin}
+use Rattle.staat_plan.specs.declared.marked.Marked.{Marked}
 
--- the parts of w have no more planes than the limit
-pub record HasFewPlanes (parts : List Part) (w : PartSet) (limit : ℕ) : Type 0 where
-  pub planes : List V3
-  pub planes_are : ArePlanes parts w planes
-  pub few : length planes ≤ limit
-
--- each direction of the plan is within the bound
-abbrev pub AreWithin : ℕ → Plan → Type 0
-AreWithin bound (leaf p) = Unit {0}
-AreWithin bound (split d moved rest) = IsWithin bound d × AreWithin bound moved × AreWithin bound rest
-
--- those of a plan that is found are
+-- each direction of a plan that is found is within the bound
 abbrev pub IsSized : Finding → Type 0
 IsSized (planned plan marks) = AreWithin DIRECTION plan
 IsSized (stuck a) = Unit {0}

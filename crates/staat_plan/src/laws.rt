@@ -1,6 +1,6 @@
 //! Laws on what the planner finds. Each is a function that does nothing, and its contract is the law.
 ghost use Rattle.std.specs.Prelude.{◌≡◌, ◌≢◌, ◌↔◌, ◌≤◌, ℕ, All, Bool, List};
-ghost use Rattle.std.specs.Prelude.{length, map, take, true};
+ghost use Rattle.std.specs.Prelude.{length, true};
 ghost use Rattle.std.specs.FinSet as set;
 ghost use Rattle.staat_limits.specs.Versions.{IsVersion};
 ghost use Rattle.staat_limits.specs.declared.limits.TheConstants.{TEXT_LIMIT};
@@ -9,24 +9,19 @@ ghost use Rattle.staat_vec.specs.declared.vector.TheConstants.{DIRECTION};
 ghost use Rattle.staat_vec.specs.Vectors.{cross, negative, origin};
 ghost use Rattle.staat_model.specs.declared.assembly.Part.{Part as PartValue};
 ghost use Rattle.staat_model.specs.declared.certificate.Certificate.{Certificate as CertificateValue};
-ghost use Rattle.staat_model.specs.declared.certificate.Witness.{Witness as WitnessValue};
 ghost use Rattle.staat_model.specs.declared.set.PartSet.{PartSet as PartSetValue};
 ghost use Rattle.staat_model.specs.Assemblies.{IsAssembly};
-ghost use Rattle.staat_model.specs.Bridges.{swapped};
-ghost use Rattle.staat_model.specs.Certificates.{inward, outward};
-ghost use Rattle.staat_model.specs.Certify.{IsCertificateOf, IsLeastArc, IsWitnessAt};
+ghost use Rattle.staat_model.specs.Certify.{IsCertificateOf};
 ghost use Rattle.staat_model.specs.declared.tree.Kind.{Kind as KindValue};
 ghost use Rattle.staat_model.specs.Outcomes.{AreTries, Finding, IsOutcome, IsStep, Serves, Try, planned, stuck};
 ghost use Rattle.staat_model.specs.Planes.{ArePlanes};
-ghost use Rattle.staat_model.specs.Plans.{IsGood, IsStuck, Plan};
-ghost use Rattle.staat_model.specs.Sets.{IsLeastOf, IsSubset, below};
+ghost use Rattle.staat_model.specs.Plans.{IsStuck, Plan};
+ghost use Rattle.staat_model.specs.Sets.{IsSubset, below};
 ghost use Rattle.staat_model.specs.Texts.{text_of};
-ghost use Rattle.staat_graph.specs.declared.trees.Trees.{Trees as TreesValue};
-ghost use Rattle.staat_graph.specs.Blocking.{ShowsBlocking};
-ghost use Rattle.staat_graph.specs.Graphs.{AreTrees, HasArc};
+ghost use Rattle.staat_certify.specs.Plans.{AreWithin};
 ghost use Rattle.staat_plan.specs.LoneLines.{OnlyPlanesThroughServe};
 ghost use Rattle.staat_plan.specs.Marks.{HasOneMark, MarksHold};
-ghost use Rattle.staat_plan.specs.Planning.{AreWithin, Settles};
+ghost use Rattle.staat_plan.specs.Planning.{Settles};
 
 /// Some side of a set is free of the rest along a direction exactly where one is along the opposite direction.
 pub fn opposite_serves()
@@ -79,34 +74,6 @@ pub fn marks_hold()
         → IsAssembly parts → IsOutcome true parts w (planned plan marks) → MarksHold parts plan marks }
 {}
 
-/// Arcs with the ends of the trees of a graph that shows who blocks whom along a direction, each with the least
-/// pieces, are the witness of the direction.
-pub fn witness_of_trees()
-    ensures { (parts : List PartValue) (d : Vector) (w : PartSetValue) (rows : List ℕ) (trees : TreesValue)
-        (root : ℕ) (witness : WitnessValue)
-        → ShowsBlocking parts d w rows → AreTrees (HasArc rows) w trees → IsLeastOf w root
-        → map outward witness.outs ≡ take trees.count trees.outs
-        → map inward witness.ins ≡ map swapped (take trees.count trees.ins)
-        → All (IsLeastArc parts d) witness.outs → All (IsLeastArc parts d) witness.ins
-        → IsWitnessAt parts w d witness }
-{}
-
-/// A plan that takes all parts apart has a certificate.
-pub fn plan_has_certificate()
-    ensures { (parts : List PartValue) (version : ℕ) (plan : Plan) (marks : List KindValue) →
-        IsAssembly parts → IsGood parts (below (length parts)) plan →
-        (c : CertificateValue) × IsCertificateOf parts version (planned plan marks) c }
-{}
-
-/// The text of the certificate of a plan is never too long, where the directions of the plan are within their bound: a
-/// plan has at most 63 nodes, a split at most one wall for each two of the 64 pieces, and a line has at most 256 bytes.
-pub fn plan_certificate_is_short()
-    ensures { (parts : List PartValue) (version : ℕ) (plan : Plan) (marks : List KindValue) (c : CertificateValue) →
-        IsAssembly parts → IsVersion version → IsGood parts (below (length parts)) plan →
-        AreWithin DIRECTION plan → IsCertificateOf parts version (planned plan marks) c →
-        length (text_of c) ≤ TEXT_LIMIT }
-{}
-
 /// The directions of a plan that is found are within their bound, in a robust plan too.
 pub fn outcome_is_sized()
     ensures { (robust : Bool) (parts : List PartValue) (w : PartSetValue) (plan : Plan) (marks : List KindValue) →
@@ -119,10 +86,4 @@ pub fn outcome_has_certificate()
         IsAssembly parts → IsVersion version → IsOutcome robust parts (below (length parts)) (planned plan marks) →
         (c : CertificateValue) × IsCertificateOf parts version (planned plan marks) c ×
         (length (text_of c) ≤ TEXT_LIMIT) }
-{}
-
-/// A set that is stuck has a certificate, too, in each version.
-pub fn refusal_has_certificate()
-    ensures { (parts : List PartValue) (version : ℕ) (w : PartSetValue) →
-        IsAssembly parts → IsStuck parts w → (c : CertificateValue) × IsCertificateOf parts version (stuck w) c }
 {}

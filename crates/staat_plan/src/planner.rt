@@ -8,9 +8,9 @@ ghost use Rattle.staat_model.specs.Plans.{leaf, plan_of, split};
 ghost use Rattle.staat_model.specs.Sets.{Has, IsNonempty, IsSubset, below};
 ghost use Rattle.staat_pairs.specs.Tables.{IsTableOf, WasMadeFrom};
 ghost use Rattle.staat_planes.specs.Refusals.{IsPlanesRefusal};
-ghost use Rattle.staat_plan.specs.Certifying.{CanBeCertified};
+ghost use Rattle.staat_certify.specs.Certifying.{CanBeCertified, HasFewPlanes};
 ghost use Rattle.staat_plan.specs.Marks.{AreMarksRight};
-ghost use Rattle.staat_plan.specs.Planning.{HasFewPlanes, IsOutcomeOf, Settles, IsSetStep, IsSized, IsStepOf};
+ghost use Rattle.staat_plan.specs.Planning.{IsOutcomeOf, Settles, IsSetStep, IsSized, IsStepOf};
 ghost use Rattle.staat_plan.specs.RingSets.{IsReadyFor};
 
 use crate::cell_steps::{cell_step, first_open_step};

@@ -19,7 +19,7 @@ use Rattle.staat_cert.specs.Writing.{IsTextAnswer}
 use Rattle.staat_cert.proofs.AnswerLemmas.{one_read_answer}
 use Rattle.staat_drill.proofs.ProductLemmas.{nest_is_assembly, row_is_assembly}
 use Rattle.staat_fault.specs.declared.fault.Fault.{Fault}
-use Rattle.staat_plan.specs.Certifying.{IsValidFor}
+use Rattle.staat_certify.specs.Certifying.{IsValidFor}
 use Rattle.staat_words.specs.declared.request.DrillProduct.{DrillProduct}
 use Rattle.staat_words.specs.declared.request.DrillProduct.TheVariants.{Boxes, Cubes}
 use Rattle.staat_words.specs.Requests.{IsNamedProduct}

@@ -25,11 +25,11 @@ use Rattle.staat_model.proofs.Differences.{from_map}
 use Rattle.staat_model.proofs.PlaneLemmas.{planes_apart}
 use Rattle.staat_model.proofs.SomePlanes.{some_planes}
 use Rattle.staat_cells.proofs.WholeLists.{cell_small}
-use Rattle.staat_plan.specs.Certifying.{CanBeCertified, IsValidFor}
-use Rattle.staat_plan.specs.Planning.{HasFewPlanes, IsSized, Settles}
-use Rattle.staat_plan.proofs.CertificateLemmas.{formed, planes_within}
+use Rattle.staat_certify.specs.Certifying.{CanBeCertified, HasFewPlanes, IsValidFor}
+use Rattle.staat_plan.specs.Planning.{IsSized, Settles}
+use Rattle.staat_certify.proofs.CertificateLemmas.{formed, planes_within}
 use Rattle.staat_plan.proofs.Fewer.{fewer_planes_lemma}
-use Rattle.staat_plan.proofs.ListedLemmas.{vertex_sized}
+use Rattle.staat_certify.proofs.ListedLemmas.{vertex_sized}
 use Rattle.staat_plan.proofs.Right.{right_lemma}
 use Rattle.staat_words.specs.declared.request.PlanRequest.{PlanRequest}
 use Rattle.staat_words.specs.Requests.{IsPlanRequest}

@@ -23,7 +23,7 @@ use Rattle.staat_model.specs.declared.certificate.Certificate.{Certificate}
 use Rattle.staat_model.specs.Certify.{IsCertificateOf}
 use Rattle.staat_model.proofs.StuckSets.{stuck_exists}
 use Rattle.staat_model.proofs.ValidCertificates.{plan_certificate_valid, refusal_certificate_valid}
-use Rattle.staat_plan.specs.Certifying.{IsValidFor}
+use Rattle.staat_certify.specs.Certifying.{IsValidFor}
 use Rattle.staat_plan.specs.Planning.{Settles}
 use Rattle.staat_words.specs.declared.request.PlanRequest.{PlanRequest}
 use Rattle.staat_planning.specs.Planning.{IsWritten, certificate, outcome_answer, outcome_status, steps}

@@ -33,7 +33,7 @@ use Rattle.staat_model.proofs.SomePlanes.{arcs_listing, facets_listing, holds_or
 use Rattle.staat_graph.proofs.Finite.{len_some}
 use Rattle.staat_cells.proofs.SomeCells.{some_cells}
 use Rattle.staat_limits.specs.declared.limits.TheConstants.{MOST_CELL_PLANES}
-use Rattle.staat_plan.specs.Planning.{HasFewPlanes}
+use Rattle.staat_certify.specs.Certifying.{HasFewPlanes}
 use Rattle.staat_plan.proofs.Fewer.{fewer_planes_lemma}
 use Rattle.staat_plan.proofs.OutcomeLemmas.{rest_fewer, side_fewer}
 use Rattle.staat_planning.proofs.TableLemmas.{table_planes}

@@ -11,7 +11,7 @@ use Rattle.staat_model.specs.Planes.{ArePlanes}
 use Rattle.staat_model.proofs.Members.{All-from_members}
 use Rattle.staat_model.proofs.PlaneLemmas.{plane_normal, planes_apart}
 use Rattle.staat_pairs.specs.Tables.{AreTablePlanes, IsPlaneNormal}
-use Rattle.staat_plan.proofs.CertificateLemmas.{planes_within}
+use Rattle.staat_certify.proofs.CertificateLemmas.{planes_within}
 use Rattle.staat_pairs.proofs.BuildLemmas.{none_parallel}
 
 pub table_planes : (parts : List Part) (w : PartSet) (planes : List V3) → IsAssembly parts → ArePlanes parts w planes → AreTablePlanes planes

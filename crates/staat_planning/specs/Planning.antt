@@ -15,7 +15,7 @@ use Rattle.staat_model.specs.declared.set.PartSet.{PartSet}
 use Rattle.staat_model.specs.declared.tree.Kind.{Kind}
 use Rattle.staat_model.specs.Plans.{IsGood, IsStuck, Plan as Tree}
 use Rattle.staat_model.specs.Sets.{IsSubset}
-use Rattle.staat_plan.specs.Certifying.{IsValidFor}
+use Rattle.staat_certify.specs.Certifying.{IsValidFor}
 use Rattle.staat_plan.specs.Marks.{MarksHold}
 use Rattle.staat_words.specs.declared.request.PlanRequest.{PlanRequest}
 use Rattle.staat_input.specs.Assembling.{IsSoundOf, AreSoundParts}

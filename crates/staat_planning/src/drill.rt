@@ -5,7 +5,7 @@ ghost use Rattle.staat_model.specs.Outcomes.{IsOutcome, finding_of};
 ghost use Rattle.staat_model.specs.Reasons.{IsVerdict};
 ghost use Rattle.staat_cert.specs.Writing.{IsTextAnswer};
 ghost use Rattle.staat_pairs.specs.Tables.{WasMadeFrom};
-ghost use Rattle.staat_plan.specs.Certifying.{CanBeCertified};
+ghost use Rattle.staat_certify.specs.Certifying.{CanBeCertified};
 ghost use Rattle.staat_text.specs.PlanTexts.{CanBeShown};
 ghost use Rattle.staat_words.specs.Requests.{IsNamedProduct};
 ghost use Rattle.staat_input.specs.Work.{Files, Follows};

@@ -10,7 +10,7 @@ ghost use Rattle.staat_model.specs.Plans.{IsGood, plan_of};
 ghost use Rattle.staat_manifest.specs.declared.listing.ListedPart.{ListedPart as ListedPartValue};
 ghost use Rattle.staat_explode.specs.declared.grow.TheConstants.{FARTHEST};
 ghost use Rattle.staat_explode.specs.Sizes.{HasDirections};
-ghost use Rattle.staat_plan.specs.Certifying.{CanBeCertified};
+ghost use Rattle.staat_certify.specs.Certifying.{CanBeCertified};
 ghost use Rattle.staat_text.specs.PlanTexts.{CanBeShown};
 ghost use Rattle.staat_words.specs.Requests.{IsExplodeRequest};
 ghost use Rattle.staat_edge.specs.Fitting.{Fit};

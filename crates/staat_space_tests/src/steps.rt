@@ -3,10 +3,11 @@ use crate::fixtures::{
     ABOVE, BEFORE, BEHIND, BELOW, CUBE, CUBES, Corners, LEFT as WALL, LIDDED, RIGHT, Shape, sound,
     table,
 };
+use staat_certify::certify;
 use staat_cone::{FacetSource, Plain};
 use staat_limits::{LEAST_PLANES, MOST_CELL_PLANES, MOST_PLANES};
 use staat_model::{Assembly, Kind, Outcome, Piece, Sound};
-use staat_plan::{Options, Tabulated, certify, part_step, plan, plan_with_table};
+use staat_plan::{Options, Tabulated, part_step, plan, plan_with_table};
 use staat_samples::at;
 use staat_vec::{OutOfMemory, V3};
 use std::alloc::Global;

@@ -42,7 +42,7 @@ use Rattle.staat_top.proofs.RightLemmas.{status_is_right, status_is_denied}
 use Rattle.staat_input.specs.Counting.{all_parts}
 use Rattle.staat_plan.proofs.OutcomeSizes.{outcome_certified}
 use Rattle.staat_plan.proofs.Right.{right_lemma}
-use Rattle.staat_plan.proofs.SomeRefusal.{some_refusal_certificate}
+use Rattle.staat_certify.proofs.SomeRefusal.{some_refusal_certificate}
 use Rattle.staat_planning.proofs.SomeOutcome.{some_outcome}
 use Rattle.staat_top.proofs.PrintedLemmas.{printed_is_valid}
 

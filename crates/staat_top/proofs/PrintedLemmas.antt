@@ -10,7 +10,7 @@ use Rattle.staat_model.specs.Outcomes.{Finding, IsOutcome, planned, stuck}
 use Rattle.staat_model.specs.Reasons.{IsVerdict}
 use Rattle.staat_model.specs.Texts.{IsTextOf}
 use Rattle.staat_edge.specs.Files.{bytes_of}
-use Rattle.staat_plan.specs.Certifying.{IsValidFor}
+use Rattle.staat_certify.specs.Certifying.{IsValidFor}
 use Rattle.staat_text.specs.Verdicts.{verdict_text}
 use Rattle.staat_words.specs.declared.request.Asked.{Asked}
 use Rattle.staat_words.specs.declared.request.PlanRequest.{PlanRequest}

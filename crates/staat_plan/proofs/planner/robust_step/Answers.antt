@@ -8,7 +8,8 @@ use Rattle.staat_plan.specs.declared.marked.Marked.{Marked}
 use Rattle.staat_plan.specs.CellSteps.{IsFirstOpenStep}
 use Rattle.staat_plan.specs.Planning.{IsSetStep}
 use Rattle.staat_plan.proofs.CellStepLemmas.{first_found, stuck_step}
-use Rattle.staat_plan.proofs.OutcomeLemmas.{own_step, some_member, step_in_table, step_some, whole_step}
+use Rattle.staat_certify.proofs.SomeMember.{some_member}
+use Rattle.staat_plan.proofs.OutcomeLemmas.{own_step, step_in_table, step_some, whole_step}
 use Rattle.staat_plan.proofs.planner.robust_step.Goals as goal
 
 pub first_open_step-requires-clause-some : goal.first_open_step-requires-clause-some

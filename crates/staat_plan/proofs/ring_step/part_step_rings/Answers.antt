@@ -9,7 +9,7 @@ use Rattle.staat_ring.specs.Rings.{Ring, linked_of}
 use Rattle.staat_ring.specs.Stepping.{count_below}
 use Rattle.staat_ring.proofs.SignAll.{count_all}
 use Rattle.staat_plan.specs.RingSearches.{lengths_below}
-use Rattle.staat_plan.proofs.OutcomeLemmas.{some_member}
+use Rattle.staat_certify.proofs.SomeMember.{some_member}
 use Rattle.staat_plan.proofs.RingLengths.{lengths_past, lengths_rise}
 use Rattle.staat_plan.proofs.RingStepLaw.{has_no_step, is_stuck}
 use Rattle.staat_plan.proofs.StepLemmas.{not_stuck, some_found}

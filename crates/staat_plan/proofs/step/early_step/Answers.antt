@@ -4,7 +4,7 @@ use Rattle.staat_vec.specs.declared.vector.V3.{V3}
 use Rattle.staat_model.specs.Outcomes.{IsMovedSide, Serves}
 use Rattle.staat_model.proofs.SomePlanes.{some_planes}
 use Rattle.staat_planes.specs.VertexSearch.{IsFirstServed}
-use Rattle.staat_plan.proofs.OutcomeLemmas.{some_member}
+use Rattle.staat_certify.proofs.SomeMember.{some_member}
 use Rattle.staat_plan.proofs.StepLemmas.{no_step, step_is}
 use Rattle.staat_plan.proofs.step.early_step.Goals as goal
 

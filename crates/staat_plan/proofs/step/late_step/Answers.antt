@@ -5,7 +5,7 @@ use Rattle.staat_model.specs.Outcomes.{Serves}
 use Rattle.staat_model.specs.Planes.{vertices}
 use Rattle.staat_model.proofs.Members.{All-from_members}
 use Rattle.staat_model.proofs.SomePlanes.{some_planes}
-use Rattle.staat_plan.proofs.OutcomeLemmas.{some_member}
+use Rattle.staat_certify.proofs.SomeMember.{some_member}
 use Rattle.staat_plan.proofs.StepLemmas.{no_step, step_is}
 use Rattle.staat_plan.proofs.step.late_step.Goals as goal
 

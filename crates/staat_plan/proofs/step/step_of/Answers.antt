@@ -2,7 +2,7 @@ use Rattle.std.proofs.Common.{◌≤◌, arith, refl}
 use Rattle.std.specs.FinSet as set
 use Rattle.staat_model.specs.Outcomes.{try_vertex}
 use Rattle.staat_model.proofs.SomePlanes.{some_planes}
-use Rattle.staat_plan.proofs.OutcomeLemmas.{some_member}
+use Rattle.staat_certify.proofs.SomeMember.{some_member}
 use Rattle.staat_plan.proofs.StepLemmas.{is_stuck, no_step, not_stuck, some_found, step_is}
 use Rattle.staat_plan.proofs.step.step_of.Goals as goal
 

@@ -1,0 +1,110 @@
+-- The lines of a refusal, and how many they are.
+use Rattle.std.proofs.Common.{◌≡◌, ◌∙◌, take, ap, ⊎_elim, ℕ, ◌*◌, ◌<◌, ◌≤◌, arith, refl, sym, subst, List, [], ◌∷◌, length, length-append, map, All, Contains}
+use Rattle.std.specs.Prelude.{Err, IfOk, Ok, Result, Some, slice_get}
+use Rattle.std.proofs.lemmas.List.{length-map, length-take-le}
+use Rattle.std.proofs.lemmas.List.Elements.{All-contains, All-nil}
+use Rattle.staat_vec.specs.declared.vector.V3.{V3}
+use Rattle.staat_vec.specs.declared.vector.TheConstants.{DIRECTION, NORMAL}
+use Rattle.staat_vec.specs.declared.memory.OutOfMemory.{OutOfMemory}
+use Rattle.staat_vec.specs.Lists.{Lists}
+use Rattle.staat_vec.specs.Primitives.{primitive}
+use Rattle.staat_vec.specs.Vectors.{IsWithin, cross, vector_cmp}
+use Rattle.staat_vec.proofs.Bounds.{IsWithin-cross, IsWithin-negative, IsWithin-wider}
+use Rattle.staat_vec.proofs.Primitives.{IsPrimitive-some, IsWithin-primitive, primitive-is}
+use Rattle.staat_model.specs.declared.assembly.Part.{Part}
+use Rattle.staat_model.specs.declared.certificate.Dir.{Dir}
+use Rattle.staat_model.specs.declared.certificate.Witness.{Witness}
+use Rattle.staat_limits.specs.declared.limits.TheConstants.{LIST_LIMIT}
+use Rattle.staat_model.specs.declared.set.PartSet.{PartSet}
+use Rattle.staat_model.specs.Certify.{IsDirection, IsRefusalOf, NamesWitness}
+use Rattle.staat_model.specs.Planes.{ArePlanes, crossings, vertices}
+use Rattle.staat_model.proofs.EndLemmas.{from_vertices}
+use Rattle.staat_model.proofs.Members.{All-from_members}
+use Rattle.staat_model.proofs.PlaneLemmas.{NoneParallel}
+use Rattle.staat_model.proofs.VertexLemmas.{same_some}
+use Rattle.staat_pairs.specs.Tables.{Table}
+use Rattle.staat_planes.specs.Refusals.{IsTableWithin}
+use Rattle.staat_certify.specs.declared.listing.WitnessListing.{WitnessListing}
+use Rattle.staat_certify.specs.WitnessListings.{AreListed, IsSizedDirection, key_of}
+use Rattle.staat_certify.proofs.NumberLemmas.{get_map, numbers_none}
+use Rattle.staat_vec.proofs.VectorLists.{length-le_from_contains}
+
+-- the lines so far are those of these directions
+pub record HasLines (parts : List Part) (w : PartSet) (keys : List (List ℕ)) (witnesses : List Witness) (dirs : List Dir) (ds : List V3) : Type 0 where
+  pub listed : AreListed parts w keys witnesses dirs
+  pub lines : map (λ dir. dir.d) dirs ≡ ds
+
+-- ---- the vertices of planes
+
+pub vertex_sized : (planes : List V3) (v : V3) → All (IsWithin NORMAL) planes → NoneParallel planes → Contains (vertices planes) v → IsSizedDirection v
+vertex_sized planes v small apart c =
+    let f = from_vertices planes v apart c in
+    let g : IsWithin NORMAL f.g = All-contains (IsWithin NORMAL) planes f.g small f.g_in in
+    let h : IsWithin NORMAL f.h = All-contains (IsWithin NORMAL) planes f.h small f.h_in in
+    let turn : IsWithin DIRECTION (cross f.g f.h) = IsWithin-wider (2 * (NORMAL * NORMAL)) DIRECTION (cross f.g f.h) (omega arith) (IsWithin-cross NORMAL NORMAL f.g f.h g h) in
+    let ray : IsWithin DIRECTION (primitive (cross f.g f.h)) = IsWithin-primitive DIRECTION (cross f.g f.h) turn in
+    record {
+      size = ⊎_elim {C = IsWithin DIRECTION v} (λ e. subst (IsWithin DIRECTION) (sym e) ray) (λ e. subst (IsWithin DIRECTION) (sym e) (IsWithin-negative DIRECTION (primitive (cross f.g f.h)) ray)) f.is;
+      some = same_some v _ f.is (IsPrimitive-some _ (primitive-is (cross f.g f.h) f.independent).primitive);
+    }
+
+crossings_count : (g : V3) (hs : List V3) → length (crossings g hs) ≡ 2 * length hs
+crossings_count g [] = refl
+crossings_count g (h ∷ hs) = let rest = crossings_count g hs in omega (arith, rest)
+
+vertices_count : (gs : List V3) → length gs ≤ 1024 → length (vertices gs) ≤ 2048 * length gs
+vertices_count [] le = omega arith
+vertices_count (g ∷ gs) le =
+    let here = crossings_count g gs in
+    let rest = vertices_count gs (omega arith) in
+    omega (arith, here, rest, length-append (crossings g gs) (vertices gs))
+
+pub few_directions : (version : ℕ) (planes ds : List V3) → length planes ≤ 1024 → Lists vector_cmp (IsDirection version planes) ds → length ds < LIST_LIMIT
+few_directions version planes ds few lists =
+    let le : length ds ≤ length (vertices planes) = length-le_from_contains ds (vertices planes) lists.ascending (λ v c. (lists.each v c).vertex) in
+    let most = vertices_count planes few in
+    omega (arith, le, most)
+
+pub sized_directions : (version : ℕ) (planes ds : List V3) → All (IsWithin NORMAL) planes → NoneParallel planes → Lists vector_cmp (IsDirection version planes) ds → All IsSizedDirection ds
+sized_directions version planes ds small apart lists = All-from_members IsSizedDirection ds (λ v c. vertex_sized planes v small apart (lists.each v c).vertex)
+
+-- ---- the whole list
+
+pub refusal_listed : (parts : List Part) (version : ℕ) (w : PartSet) (planes ds : List V3) (keys : List (List ℕ)) (witnesses : List Witness) (dirs : List Dir) → ArePlanes parts w planes → Lists vector_cmp (IsDirection version planes) ds → AreListed parts w keys witnesses dirs → map (λ dir. dir.d) dirs ≡ ds → IsRefusalOf parts version w witnesses dirs
+refusal_listed parts version w planes ds keys witnesses dirs planes_are lists listed e = record {
+  planes = planes;
+  planes_are = planes_are;
+  directions = subst (Lists vector_cmp (IsDirection version planes)) (sym e) lists;
+  each = listed.each;
+  distinct = λ k m x a b. listed.distinct k m (key_of x) (subst (λ ks. slice_get ks k ≡ Some (key_of x)) (sym listed.keys_are) (get_map key_of witnesses k x a)) (subst (λ ks. slice_get ks m ≡ Some (key_of x)) (sym listed.keys_are) (get_map key_of witnesses m x b));
+  by_first_use = listed.by_first_use;
+}
+
+pub planes_of : (parts : List Part) (w : PartSet) (limit : ℕ) (t : Table) (planes : List V3) → IsTableWithin parts w limit t → planes ≡ t.planes → ArePlanes parts w planes
+planes_of parts w limit t planes within e = subst (ArePlanes parts w) (sym e) (subst (λ (u : PartSet). ArePlanes parts u t.planes) within.table.set within.table.made.planes)
+
+pub listed_end : (parts : List Part) (version : ℕ) (w of : PartSet) (planes ds : List V3) (answer : Result WitnessListing OutOfMemory) → of ≡ w → ArePlanes parts w planes → Lists vector_cmp (IsDirection version planes) ds
+    → IfOk answer (λ l. AreListed parts of (map (λ v. v.items) l.keys.keys) l.witnesses.items l.dirs.items) → IfOk answer (λ l. map (λ dir. dir.d) l.dirs.items ≡ ds) → IfOk answer (λ l. IsRefusalOf parts version w l.witnesses.items l.dirs.items)
+listed_end parts version w of planes ds (Ok l) e are lists listed lines = refusal_listed parts version w planes ds (map (λ v. v.items) l.keys.keys) l.witnesses.items l.dirs.items are lists (subst (λ (u : PartSet). AreListed parts u (map (λ v. v.items) l.keys.keys) l.witnesses.items l.dirs.items) e listed) lines
+listed_end parts version w of planes ds (Err x) e are lists listed lines = tt
+
+-- ---- the lines so far
+
+pub no_lines : (parts : List Part) (w : PartSet) (keys : List (List ℕ)) (witnesses : List Witness) (dirs : List Dir) → keys ≡ [] → witnesses ≡ [] → dirs ≡ [] → HasLines parts w keys witnesses dirs []
+no_lines parts w keys witnesses dirs k x d =
+    subst (λ ks. HasLines parts w ks witnesses dirs []) (sym k) (subst (λ ws. HasLines parts w [] ws dirs []) (sym x) (subst (λ ds. HasLines parts w [] [] ds []) (sym d) (record {
+      listed = record {
+        keys_are = refl;
+        distinct = λ i j key a b. cc;
+        each = All-nil (NamesWitness parts w []);
+        by_first_use = numbers_none;
+        few = omega arith;
+      };
+      lines = refl;
+    })))
+
+pub few_lines : (ds : List V3) (dirs : List Dir) (k : ℕ) → map (λ dir. dir.d) dirs ≡ take k ds → k < length ds → length ds < LIST_LIMIT → length dirs < LIST_LIMIT
+few_lines ds dirs k lines lt few =
+    let e : length dirs ≡ length (take k ds) = sym (length-map dirs (λ (dir : Dir). dir.d)) ∙ ap length lines in
+    let t = length-take-le k ds (omega (arith, lt)) in
+    omega (arith, e, t, lt, few)

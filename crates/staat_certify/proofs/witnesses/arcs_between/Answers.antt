@@ -1,0 +1,20 @@
+use Rattle.std.proofs.lemmas.List.{take_all}
+use Rattle.std.proofs.lemmas.List.Elements.{All-push}
+use Rattle.std.proofs.Common.{All, sym, subst, List}
+use Rattle.staat_model.specs.declared.certificate.Arc.{Arc}
+use Rattle.staat_model.specs.Certify.{IsLeastArc}
+use Rattle.staat_certify.specs.Witnesses.{AreEndsAndLeast}
+use Rattle.staat_certify.proofs.TreeArcs.{ends_more}
+use Rattle.staat_certify.proofs.witnesses.arcs_between.Goals as goal
+
+pub loop-ends-preserved : goal.loop-ends-preserved
+loop-ends-preserved c =
+    let is = c.in_ok-push.ensures.items in record {
+      ends = ends_more c.args.pairs.now c.loop-ends.ends-index (0, 0) c.loop-ends.arcs.items c.push.new.self.items c.arc_between.result c.loop-ends-test.true c.loop-ends.invariant.ends c.arc_between.ensures.ends is;
+      least = subst (λ (arcs : List Arc). All (IsLeastArc c.args.sound.now c.args.walk.now.vertex) arcs) (sym is) (All-push (IsLeastArc c.args.sound.now c.args.walk.now.vertex) c.loop-ends.arcs.items c.arc_between.result c.loop-ends.invariant.least c.arc_between.ensures.least);
+    }
+
+pub returns : goal.returns
+returns c =
+    subst (λ l. AreEndsAndLeast c.args.sound.now c.args.walk.now.vertex l c.loop-ends.arcs.items)
+    (take_all c.loop-ends.ends-index c.args.pairs.now c.loop-ends-test.false) c.loop-ends.invariant

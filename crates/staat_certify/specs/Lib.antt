@@ -1,0 +1,8 @@
+pub mod Arcs
+pub mod Walls
+pub mod Plans
+pub mod Numbers
+pub mod Witnesses
+pub mod WitnessListings
+pub mod Visits
+pub mod Certifying

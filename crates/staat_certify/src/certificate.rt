@@ -1,0 +1,134 @@
+// The certificate of an outcome.
+ghost use Rattle.std.specs.Prelude.{◌≡◌, ◌<◌, All, IfOk, length, map};
+ghost use Rattle.staat_vec.specs.Lists.{Lists};
+ghost use Rattle.staat_vec.specs.Vectors.{vector_cmp};
+ghost use Rattle.staat_model.specs.Certify.{IsBodyOf, IsCertificateOf, IsDirection, IsRefusalOf};
+ghost use Rattle.staat_limits.specs.Versions.{IsVersion};
+ghost use Rattle.staat_model.specs.Outcomes.{finding_of};
+ghost use Rattle.staat_model.specs.Plans.{IsStuck};
+ghost use Rattle.staat_model.specs.Texts.{IsWellFormed};
+ghost use Rattle.staat_pairs.specs.Tables.{WasMadeFrom};
+ghost use Rattle.staat_certify.specs.WitnessListings.{AreListed, IsSizedDirection};
+ghost use Rattle.staat_certify.specs.Certifying.{CanBeCertified, IsValidFor};
+ghost use Rattle.staat_certify.specs.Certifying.{HasFewPlanes};
+
+use crate::listing::{WitnessListing, listing_of};
+use crate::nodes::certificate_nodes;
+use crate::visits::found_at;
+use staat_cone::FacetSource;
+use staat_limits::{LIST_LIMIT, MOST_PLANES};
+use staat_model::{Body, Certificate, Dirs, Outcome, PartSet, Sound, Witnesses};
+use staat_pairs::directions;
+use staat_planes::{PlaneTable, PlanesRefusal, tabulate};
+use staat_vec::{OutOfMemory, V3};
+use std::alloc::Global;
+use std::marker::Brand;
+use std::sync::ledger::{Blank, Ledger};
+
+// the lines of a table's set, which is stuck, in these directions
+fn lines_at<L: Ledger>(
+    alloc: Global,
+    sound: &Sound,
+    table: &PlaneTable,
+    version: u32,
+    taken: &[V3],
+    blank: Blank,
+) -> Result<WitnessListing, OutOfMemory>
+    requires made { WasMadeFrom sound.now table.now }
+    requires stuck { IsStuck sound.now table.now.of }
+    requires lists { Lists vector_cmp (IsDirection version table.now.planes) taken.now }
+    requires each { All IsSizedDirection taken.now }
+    requires few { length taken.now < LIST_LIMIT }
+    requires name { blank.name ≡ L.name }
+    requires parts { blank.parts ≡ L.parts }
+    requires some { 0 < blank.parts }
+    ensures listed { IfOk result (λ l. AreListed sound.now table.now.of (map (λ v. v.items) l.keys.keys)
+        l.witnesses.items l.dirs.items) }
+    ensures lines { IfOk result (λ l. map (λ dir. dir.d) l.dirs.items ≡ taken.now) }
+{
+    let found = found_at::<L>(alloc, sound, table, version, taken, blank)?;
+    listing_of(alloc, sound, table, taken, &found)
+}
+
+// the lines of a set that is stuck
+fn refusal_lines<F: FacetSource>(
+    alloc: Global,
+    source: &F,
+    sound: &Sound,
+    w: PartSet,
+    version: u32,
+) -> Result<WitnessListing, OutOfMemory>
+    requires stuck { IsStuck sound.now w }
+    requires few { HasFewPlanes sound.now w MOST_PLANES }
+    ensures { IfOk result (λ l. IsRefusalOf sound.now version w l.witnesses.items l.dirs.items) }
+{
+    let table = match tabulate(alloc, source, sound, w, MOST_PLANES) {
+        Ok(table) => table,
+        Err(PlanesRefusal::OutOfMemory) => return Err(OutOfMemory),
+        Err(PlanesRefusal::TooManyPlanes(_)) => unreachable!(),
+    };
+    let taken = directions(alloc, version, table.planes())?;
+    lines_at::<Brand>(
+        alloc,
+        sound,
+        &table,
+        version,
+        taken.as_slice(),
+        Blank::new(1),
+    )
+}
+
+// what the certificate says of the outcome
+fn body_of<F: FacetSource>(
+    alloc: Global,
+    source: &F,
+    sound: &Sound,
+    outcome: &Outcome,
+    version: u32,
+) -> Result<Body, OutOfMemory>
+    requires { CanBeCertified sound.now (finding_of outcome.now) }
+    ensures { IfOk result (IsBodyOf sound.now version (finding_of outcome.now)) }
+{
+    match outcome {
+        Outcome::Plan { tree, .. } => {
+            let nodes = certificate_nodes(alloc, source, sound.assembly(), tree)?;
+            Ok(Body::Plan(nodes))
+        }
+        Outcome::Stuck(w) => {
+            let lines = refusal_lines(alloc, source, sound, *w, version)?;
+            Ok(Body::Stuck {
+                set: *w,
+                witnesses: Witnesses::from_vec(lines.witnesses),
+                dirs: Dirs::from_vec(lines.dirs),
+            })
+        }
+    }
+}
+
+/// The certificate, of version 1 or 2, of an outcome.
+///
+/// The outcome is a plan that takes all parts apart, whose directions are at most
+/// [`DIRECTION`](staat_vec::DIRECTION), or a set that is stuck and has at most [`MOST_PLANES`] planes; each outcome of
+/// `plan` of staat_plan is one. The facets of two pieces are asked of `source` once. The certificate keeps the bounds
+/// and orders of its text, and it is valid.
+pub fn certify<F: FacetSource>(
+    alloc: Global,
+    source: &F,
+    sound: &Sound,
+    outcome: &Outcome,
+    version: u32,
+) -> Result<Certificate, OutOfMemory>
+    requires version { IsVersion version }
+    requires outcome { CanBeCertified sound.now (finding_of outcome.now) }
+    ensures certificate { IfOk result (IsCertificateOf sound.now version (finding_of outcome.now)) }
+    ensures form { IfOk result IsWellFormed }
+    ensures valid { IfOk result (IsValidFor sound.now (finding_of outcome.now)) }
+{
+    let parts = sound.assembly().parts();
+    let body = body_of(alloc, source, sound, outcome, version)?;
+    Ok(Certificate {
+        version,
+        parts,
+        body,
+    })
+}

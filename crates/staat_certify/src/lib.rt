@@ -1,0 +1,14 @@
+//! The certificate of a plan or of a refusal.
+#![tactic(auto)]
+
+mod arcs;
+mod certificate;
+pub mod laws;
+mod listing;
+mod nodes;
+mod numbers;
+mod visits;
+mod walls;
+mod witnesses;
+
+pub use certificate::certify;

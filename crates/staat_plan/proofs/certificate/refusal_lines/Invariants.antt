@@ -1,4 +1,0 @@
-use Rattle.staat_plan.proofs.certificate.refusal_lines.Given as goal
-
-abbrev pub ghosts-lines_at : goal.ghosts-lines_at
-ghosts-lines_at g a = record { name = a.blank.name; parts = a.blank.parts }

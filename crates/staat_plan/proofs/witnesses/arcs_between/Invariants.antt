@@ -1,6 +1,0 @@
-use Rattle.std.proofs.Common.{take}
-use Rattle.staat_plan.specs.Witnesses.{AreEndsAndLeast}
-use Rattle.staat_plan.proofs.witnesses.arcs_between.Given as goal
-
-abbrev pub invariant-loop-ends : goal.invariant-loop-ends
-invariant-loop-ends l = AreEndsAndLeast l.sound l.walk.vertex (take l.ends-index l.pairs) l.arcs.items
