@@ -1,7 +1,7 @@
 -- The lines of a refusal, and how many they are.
-use Rattle.std.proofs.Common.{◌≡◌, ◌∙◌, take, ap, ⊎_elim, ℕ, ◌*◌, ◌<◌, ◌≤◌, arith, refl, sym, subst, List, [], ◌∷◌, length, length-append, map, All, Contains}
+use Rattle.std.proofs.Common.{◌≡◌, ◌∙◌, take, ap, ⊎_elim, ℕ, ◌+◌, ◌*◌, ◌<◌, ◌≤◌, arith, refl, sym, subst, List, [], ◌∷◌, ◌++◌, length, length-append, map, All, Contains}
 use Rattle.std.specs.Prelude.{Err, IfOk, Ok, Result, Some, slice_get}
-use Rattle.std.proofs.lemmas.List.{length-map, length-take-le}
+use Rattle.std.proofs.lemmas.List.{length-map, length-take-le, map-append}
 use Rattle.std.proofs.lemmas.List.Elements.{All-contains, All-nil}
 use Rattle.staat_vec.specs.declared.vector.V3.{V3}
 use Rattle.staat_vec.specs.declared.vector.TheConstants.{DIRECTION, NORMAL}
@@ -19,14 +19,16 @@ use Rattle.staat_model.specs.declared.set.PartSet.{PartSet}
 use Rattle.staat_model.specs.Certify.{IsDirection, IsRefusalOf, NamesWitness}
 use Rattle.staat_model.specs.Planes.{ArePlanes, crossings, vertices}
 use Rattle.staat_model.proofs.EndLemmas.{from_vertices}
-use Rattle.staat_model.proofs.Members.{All-from_members}
 use Rattle.staat_model.proofs.PlaneLemmas.{NoneParallel}
 use Rattle.staat_model.proofs.VertexLemmas.{same_some}
 use Rattle.staat_pairs.specs.Tables.{Table}
 use Rattle.staat_planes.specs.Refusals.{IsTableWithin}
 use Rattle.staat_certify.specs.declared.listing.WitnessListing.{WitnessListing}
+use Rattle.staat_certify.specs.declared.visits.Visit.{Visit}
+use Rattle.staat_certify.specs.Visits.{visited_directions}
 use Rattle.staat_certify.specs.WitnessListings.{AreListed, IsSizedDirection, key_of}
 use Rattle.staat_certify.proofs.NumberLemmas.{get_map, numbers_none}
+use Rattle.staat_vec.proofs.ListLaws.{take_next}
 use Rattle.staat_vec.proofs.VectorLists.{length-le_from_contains}
 
 -- the lines so far are those of these directions
@@ -65,8 +67,11 @@ few_directions version planes ds few lists =
     let most = vertices_count planes few in
     omega (arith, le, most)
 
-pub sized_directions : (version : ℕ) (planes ds : List V3) → All (IsWithin NORMAL) planes → NoneParallel planes → Lists vector_cmp (IsDirection version planes) ds → All IsSizedDirection ds
-sized_directions version planes ds small apart lists = All-from_members IsSizedDirection ds (λ v c. vertex_sized planes v small apart (lists.each v c).vertex)
+pub few_visits : (version : ℕ) (planes : List V3) (visited : List Visit) → length planes ≤ 1024 → Lists vector_cmp (IsDirection version planes) (visited_directions visited) → length visited < LIST_LIMIT
+few_visits version planes visited few lists =
+    let lt = few_directions version planes (visited_directions visited) few lists in
+    let same = length-map visited (λ (visit : Visit). visit.d) in
+    omega (arith, lt, same)
 
 -- ---- the whole list
 
@@ -80,8 +85,8 @@ refusal_listed parts version w planes ds keys witnesses dirs planes_are lists li
   by_first_use = listed.by_first_use;
 }
 
-pub planes_of : (parts : List Part) (w : PartSet) (limit : ℕ) (t : Table) (planes : List V3) → IsTableWithin parts w limit t → planes ≡ t.planes → ArePlanes parts w planes
-planes_of parts w limit t planes within e = subst (ArePlanes parts w) (sym e) (subst (λ (u : PartSet). ArePlanes parts u t.planes) within.table.set within.table.made.planes)
+pub planes_of : (parts : List Part) (w : PartSet) (limit : ℕ) (t : Table) → IsTableWithin parts w limit t → ArePlanes parts w t.planes
+planes_of parts w limit t within = subst (λ (u : PartSet). ArePlanes parts u t.planes) within.table.set within.table.made.planes
 
 pub listed_end : (parts : List Part) (version : ℕ) (w of : PartSet) (planes ds : List V3) (answer : Result WitnessListing OutOfMemory) → of ≡ w → ArePlanes parts w planes → Lists vector_cmp (IsDirection version planes) ds
     → IfOk answer (λ l. AreListed parts of (map (λ v. v.items) l.keys.keys) l.witnesses.items l.dirs.items) → IfOk answer (λ l. map (λ dir. dir.d) l.dirs.items ≡ ds) → IfOk answer (λ l. IsRefusalOf parts version w l.witnesses.items l.dirs.items)
@@ -103,8 +108,13 @@ no_lines parts w keys witnesses dirs k x d =
       lines = refl;
     })))
 
-pub few_lines : (ds : List V3) (dirs : List Dir) (k : ℕ) → map (λ dir. dir.d) dirs ≡ take k ds → k < length ds → length ds < LIST_LIMIT → length dirs < LIST_LIMIT
-few_lines ds dirs k lines lt few =
-    let e : length dirs ≡ length (take k ds) = sym (length-map dirs (λ (dir : Dir). dir.d)) ∙ ap length lines in
-    let t = length-take-le k ds (omega (arith, lt)) in
+pub few_lines : (visited : List Visit) (dirs : List Dir) (k : ℕ) → map (λ dir. dir.d) dirs ≡ visited_directions (take k visited) → k < length visited → length visited < LIST_LIMIT → length dirs < LIST_LIMIT
+few_lines visited dirs k lines lt few =
+    let e : length dirs ≡ length (take k visited) = sym (length-map dirs (λ (dir : Dir). dir.d)) ∙ (ap length lines ∙ length-map (take k visited) (λ (visit : Visit). visit.d)) in
+    let t = length-take-le k visited (omega (arith, lt)) in
     omega (arith, e, t, lt, few)
+
+pub lines_more : (visited : List Visit) (before after : List Dir) (k : ℕ) (visit : Visit) → map (λ dir. dir.d) before ≡ visited_directions (take k visited) → slice_get visited k ≡ Some visit → map (λ dir. dir.d) after ≡ map (λ dir. dir.d) before ++ visit.d ∷ []
+    → map (λ dir. dir.d) after ≡ visited_directions (take (k + 1) visited)
+lines_more visited before after k visit lines at line =
+    line ∙ (ap (λ (ds : List V3). ds ++ visit.d ∷ []) lines ∙ sym (ap visited_directions (take_next visited k visit at) ∙ map-append (λ (v : Visit). v.d) (take k visited) (visit ∷ [])))

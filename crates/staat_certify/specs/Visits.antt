@@ -1,13 +1,18 @@
--- What a walk over the vertices of a table's planes has found: the witness at each of a list of directions.
-use Rattle.std.specs.Prelude.{◌≡◌, ℕ, ◌<◌, List, Contains, Option, Some, length, map, slice_get, true}
+-- What a walk over the vertices of a table's planes has found: the directions that it has visited, and their
+-- witnesses.
+use Rattle.std.specs.Prelude.{◌≡◌, ℕ, ◌<◌, List, All, Contains, Some, length, map, slice_get, true}
+use Rattle.std.specs.List.Sorted.{IsStrictlySortedBy}
 use Rattle.staat_vec.specs.declared.vector.V3.{V3}
+use Rattle.staat_vec.specs.Primitives.{IsCanon}
+use Rattle.staat_vec.specs.Vectors.{vector_cmp}
 use Rattle.staat_model.specs.declared.assembly.Part.{Part}
 use Rattle.staat_model.specs.declared.certificate.Witness.{Witness}
 use Rattle.staat_model.specs.declared.set.PartSet.{PartSet}
-use Rattle.staat_model.specs.Certify.{NamesWitness}
+use Rattle.staat_model.specs.Certify.{IsDirection, NamesWitness}
 use Rattle.staat_graph.specs.Graphs.{AreTrees, HasArc}
 use Rattle.staat_pairs.specs.Tables.{Table, WasMadeFrom}
 use Rattle.staat_certify.specs.declared.visits.Found.{Found}
+use Rattle.staat_certify.specs.declared.visits.Visit.{Visit}
 use Rattle.staat_certify.specs.declared.witnesses.GraphTrees.{GraphTrees}
 use Rattle.staat_certify.specs.WitnessListings.{key_of}
 use Rattle.staat_ring.specs.Places.{IsStopAt}
@@ -28,18 +33,19 @@ pub record StandsAmong (t : Table) (w : Walked) : Type 0 where
 pub record KeepsTrees (w : PartSet) (kept : GraphTrees) : Type 0 where
   pub trees : kept.known ≡ true → AreTrees (HasArc kept.graph.rows) w kept.trees
 
--- the number of a witness, where there is one, names that of the direction
-pub record AreFound (parts : List Part) (w : PartSet) (directions : List V3) (witnesses : List Witness)
-    (numbers : List (Option ℕ)) : Type 0 where
-  pub size : length numbers ≡ length directions
-  pub each : (k p : ℕ) (d : V3) → slice_get directions k ≡ Some d → slice_get numbers k ≡ Some (Some p)
-      → NamesWitness parts w witnesses (record { d = d; witness = p })
+-- the number of the visit names the witness at its direction
+abbrev pub IsNamed : List Part → PartSet → List Witness → Visit → Type 0
+IsNamed parts w witnesses visit = NamesWitness parts w witnesses (record { d = visit.d; witness = visit.number })
+
+abbrev pub visited_directions : List Visit → List V3
+visited_directions visited = map (λ visit. visit.d) visited
 
 -- what the walk has found so far, with the trees that it keeps and the keys of the witnesses
-pub record HasFound (parts : List Part) (w : PartSet) (directions : List V3) (found : Found) : Type 0 where
-  pub kept : KeepsTrees w found.kept
+pub record HasFound (parts : List Part) (t : Table) (version : ℕ) (found : Found) : Type 0 where
+  pub kept : KeepsTrees t.of found.kept
   pub keys_are : map (λ v. v.items) found.keys.keys ≡ map key_of found.witnesses.items
-  pub named : AreFound parts w directions found.witnesses.items found.numbers.items
+  pub each : All (λ visit. IsDirection version t.planes visit.d) found.visited.items
+  pub named : All (IsNamed parts t.of found.witnesses.items) found.visited.items
 
 -- the number names the witness at d; the old list of witnesses stands at the front of the new one, whose keys these
 -- are
@@ -49,25 +55,26 @@ pub record IsNumberHere (parts : List Part) (w : PartSet) (d : V3) (keys : List 
   pub kept : (k : ℕ) (x : Witness) → slice_get old k ≡ Some x → slice_get new k ≡ Some x
   pub names : NamesWitness parts w new (record { d = d; witness = p })
 
--- where the vector is among the directions, there is a number
-pub record IsDirectionFound (directions : List V3) (numbers : List (Option ℕ)) (v : V3) : Type 0 where
-  pub number : (k : ℕ) → slice_get directions k ≡ Some v → (p : ℕ) × (slice_get numbers k ≡ Some (Some p))
+-- the vertex has been visited, if it is one of the directions
+abbrev pub IsVisited : ℕ → List Visit → V3 → Type 0
+IsVisited version visited v = (version ≡ 2 → IsCanon v) → Contains (visited_directions visited) v
 
--- what has been found stays found
-abbrev pub AreStillFound : List V3 → List (Option ℕ) → List (Option ℕ) → Type 0
-AreStillFound directions old new = (v : V3) → IsDirectionFound directions old v → IsDirectionFound directions new v
+-- what has been visited stays so
+abbrev pub AreStillVisited : List Visit → List Visit → Type 0
+AreStillVisited old new = (v : V3) → Contains (visited_directions old) v → Contains (visited_directions new) v
 
--- each of the directions has been found
-abbrev pub AreAllFound : List V3 → List (Option ℕ) → Type 0
-AreAllFound directions numbers = (k : ℕ) (d : V3) → slice_get directions k ≡ Some d
-    → IsDirectionFound directions numbers d
+-- the vertices on the circles of the planes below c have been visited
+abbrev pub AreVisitedBelow : List V3 → List Ring → ℕ → List Visit → ℕ → Type 0
+AreVisitedBelow planes rings version visited c = (b m : ℕ) (s : RingStop) → b < c → IsStopAt rings b m s
+    → IsVisited version visited (vertex_of planes b s.entries)
 
--- the vertices on the circles of the planes below c have been found
-abbrev pub AreFoundBelow : List V3 → List Ring → List V3 → List (Option ℕ) → ℕ → Type 0
-AreFoundBelow planes rings directions numbers c = (b m : ℕ) (s : RingStop) → b < c → IsStopAt rings b m s
-    → IsDirectionFound directions numbers (vertex_of planes b s.entries)
+-- those at the places below n of the circle c have been visited
+abbrev pub AreVisitedOn : List V3 → List Ring → ℕ → List Visit → ℕ → ℕ → Type 0
+AreVisitedOn planes rings version visited c n = (m : ℕ) (s : RingStop) → m < n → IsStopAt rings c m s
+    → IsVisited version visited (vertex_of planes c s.entries)
 
--- those at the places below n of the circle c have been found
-abbrev pub AreFoundOn : List V3 → List Ring → List V3 → List (Option ℕ) → ℕ → ℕ → Type 0
-AreFoundOn planes rings directions numbers c n = (m : ℕ) (s : RingStop) → m < n → IsStopAt rings c m s
-    → IsDirectionFound directions numbers (vertex_of planes c s.entries)
+-- the new visits are some of the old ones, of each direction one, in the order of the directions
+pub record SortsVisits (old new : List Visit) : Type 0 where
+  pub ascending : IsStrictlySortedBy vector_cmp (visited_directions new)
+  pub each : (visit : Visit) → Contains new visit → Contains old visit
+  pub all : AreStillVisited old new

@@ -1,14 +1,10 @@
 // The certificate of an outcome.
-ghost use Rattle.std.specs.Prelude.{◌≡◌, ◌<◌, All, IfOk, length, map};
-ghost use Rattle.staat_vec.specs.Lists.{Lists};
-ghost use Rattle.staat_vec.specs.Vectors.{vector_cmp};
-ghost use Rattle.staat_model.specs.Certify.{IsBodyOf, IsCertificateOf, IsDirection, IsRefusalOf};
+ghost use Rattle.std.specs.Prelude.{IfOk};
+ghost use Rattle.staat_model.specs.Certify.{IsBodyOf, IsCertificateOf, IsRefusalOf};
 ghost use Rattle.staat_limits.specs.Versions.{IsVersion};
 ghost use Rattle.staat_model.specs.Outcomes.{finding_of};
 ghost use Rattle.staat_model.specs.Plans.{IsStuck};
 ghost use Rattle.staat_model.specs.Texts.{IsWellFormed};
-ghost use Rattle.staat_pairs.specs.Tables.{WasMadeFrom};
-ghost use Rattle.staat_certify.specs.WitnessListings.{AreListed, IsSizedDirection};
 ghost use Rattle.staat_certify.specs.Certifying.{CanBeCertified, IsValidFor};
 ghost use Rattle.staat_certify.specs.Certifying.{HasFewPlanes};
 
@@ -16,39 +12,13 @@ use crate::listing::{WitnessListing, listing_of};
 use crate::nodes::certificate_nodes;
 use crate::visits::found_at;
 use staat_cone::FacetSource;
-use staat_limits::{LIST_LIMIT, MOST_PLANES};
+use staat_limits::MOST_PLANES;
 use staat_model::{Body, Certificate, Dirs, Outcome, PartSet, Sound, Witnesses};
-use staat_pairs::directions;
-use staat_planes::{PlaneTable, PlanesRefusal, tabulate};
-use staat_vec::{OutOfMemory, V3};
+use staat_planes::{PlanesRefusal, tabulate};
+use staat_vec::OutOfMemory;
 use std::alloc::Global;
 use std::marker::Brand;
-use std::sync::ledger::{Blank, Ledger};
-
-// the lines of a table's set, which is stuck, in these directions
-fn lines_at<L: Ledger>(
-    alloc: Global,
-    sound: &Sound,
-    table: &PlaneTable,
-    version: u32,
-    taken: &[V3],
-    blank: Blank,
-) -> Result<WitnessListing, OutOfMemory>
-    requires made { WasMadeFrom sound.now table.now }
-    requires stuck { IsStuck sound.now table.now.of }
-    requires lists { Lists vector_cmp (IsDirection version table.now.planes) taken.now }
-    requires each { All IsSizedDirection taken.now }
-    requires few { length taken.now < LIST_LIMIT }
-    requires name { blank.name ≡ L.name }
-    requires parts { blank.parts ≡ L.parts }
-    requires some { 0 < blank.parts }
-    ensures listed { IfOk result (λ l. AreListed sound.now table.now.of (map (λ v. v.items) l.keys.keys)
-        l.witnesses.items l.dirs.items) }
-    ensures lines { IfOk result (λ l. map (λ dir. dir.d) l.dirs.items ≡ taken.now) }
-{
-    let found = found_at::<L>(alloc, sound, table, version, taken, blank)?;
-    listing_of(alloc, sound, table, taken, &found)
-}
+use std::sync::ledger::Blank;
 
 // the lines of a set that is stuck
 fn refusal_lines<F: FacetSource>(
@@ -67,15 +37,8 @@ fn refusal_lines<F: FacetSource>(
         Err(PlanesRefusal::OutOfMemory) => return Err(OutOfMemory),
         Err(PlanesRefusal::TooManyPlanes(_)) => unreachable!(),
     };
-    let taken = directions(alloc, version, table.planes())?;
-    lines_at::<Brand>(
-        alloc,
-        sound,
-        &table,
-        version,
-        taken.as_slice(),
-        Blank::new(1),
-    )
+    let found = found_at::<Brand>(alloc, sound, &table, version, Blank::new(1))?;
+    listing_of(alloc, sound, &table, &found)
 }
 
 // what the certificate says of the outcome

@@ -5,6 +5,7 @@ ghost use Rattle.std.specs.Prelude.{
   ◌++◌,
   ◌∷◌,
   [],
+  All,
   IfOk,
   OnOk,
   Some,
@@ -13,19 +14,17 @@ ghost use Rattle.std.specs.Prelude.{
   map,
   slice_get,
 };
-ghost use Rattle.staat_vec.specs.declared.vector.V3.{V3 as Vector};
 ghost use Rattle.staat_model.specs.declared.certificate.Witness.{Witness as WitnessValue};
-ghost use Rattle.staat_model.specs.Certify.{NamesWitness};
 ghost use Rattle.staat_certify.specs.WitnessListings.{AreKeys, AreListed, AreNames, IsWitnessNumber, key_of, key_numbers};
-ghost use Rattle.staat_certify.specs.Visits.{AreAllFound, AreFound};
+ghost use Rattle.staat_certify.specs.Visits.{IsNamed, visited_directions};
 
 use crate::numbers::number_of_key;
-use crate::visits::{Found, no_numbers};
+use crate::visits::{Found, Visit};
 use indexmap::IndexSet;
 use staat_limits::LIST_LIMIT;
 use staat_model::{Arc, Arcs, Dir, Sound, Witness};
 use staat_planes::PlaneTable;
-use staat_vec::{OutOfMemory, V3};
+use staat_vec::OutOfMemory;
 use std::alloc::Global;
 
 /// The witnesses so far, with their keys, and the lines so far.
@@ -119,93 +118,70 @@ fn name_of(
     Ok(number)
 }
 
-// the number of the witness that the walk has found at the direction k
-fn number_at(table: &PlaneTable, sound: &Sound, directions: &[V3], k: usize, found: &Found) -> usize
-    requires place { k < length directions.now }
-    requires found { AreFound sound.now table.now.of directions.now found.now.witnesses.items
-        found.now.numbers.items }
-    requires all { AreAllFound directions.now found.now.numbers.items }
-    ensures names { (d : Vector) → slice_get directions.now k ≡ Some d → NamesWitness sound.now table.now.of
-        found.now.witnesses.items (record { d = d; witness = result }) }
-    ensures within { result < length found.now.witnesses.items }
-{
-    match found.numbers[k] {
-        Some(number) => number,
-        None => unreachable!(),
-    }
-}
-
-// adds the line of the direction k, with its witness
+// adds the line of a direction, with its witness
 fn push_dir(
     alloc: Global,
     sound: &Sound,
     table: &PlaneTable,
-    directions: &[V3],
-    k: usize,
-    found: &Found,
+    visit: Visit,
+    found: &[Witness],
     names: &mut Vec<Option<usize>>,
     listing: &mut WitnessListing,
 ) -> Result<(), OutOfMemory>
-    requires place { k < length directions.now }
-    requires found { AreFound sound.now table.now.of directions.now found.now.witnesses.items
-        found.now.numbers.items }
-    requires all { AreAllFound directions.now found.now.numbers.items }
-    requires names { AreNames found.now.witnesses.items listing.old.witnesses.items names.old.items }
+    requires named { IsNamed sound.now table.now.of found.now visit }
+    requires names { AreNames found.now listing.old.witnesses.items names.old.items }
     requires listed { AreListed sound.now table.now.of (map (λ v. v.items) listing.old.keys.keys)
         listing.old.witnesses.items listing.old.dirs.items }
     requires room { length listing.old.dirs.items < LIST_LIMIT }
-    ensures names { OnOk result (AreNames found.now.witnesses.items listing.new.witnesses.items names.new.items) }
+    ensures names { OnOk result (AreNames found.now listing.new.witnesses.items names.new.items) }
     ensures listed { OnOk result (AreListed sound.now table.now.of (map (λ v. v.items) listing.new.keys.keys)
         listing.new.witnesses.items listing.new.dirs.items) }
-    ensures line { OnOk result ((d : Vector) → slice_get directions.now k ≡ Some d → map (λ dir. dir.d)
-        listing.new.dirs.items ≡ map (λ dir. dir.d) listing.old.dirs.items ++ d ∷ []) }
+    ensures line { OnOk result (map (λ dir. dir.d) listing.new.dirs.items ≡ map (λ dir. dir.d)
+        listing.old.dirs.items ++ visit.d ∷ []) }
 {
-    let p = number_at(table, sound, directions, k, found);
     let number = name_of(
         alloc,
-        found.witnesses.as_slice(),
-        p,
+        found,
+        visit.number,
         names,
         &mut listing.keys,
         &mut listing.witnesses,
     )?;
     listing.dirs.push(Dir {
-        d: directions[k],
+        d: visit.d,
         witness: number as u32,
     })?;
     Ok(())
 }
 
-/// The lines of these directions, in their order, each with the witness that was found there.
+/// The lines of the directions that were found, in their order, each with its witness.
 pub fn listing_of(
     alloc: Global,
     sound: &Sound,
     table: &PlaneTable,
-    directions: &[V3],
     found: &Found,
 ) -> Result<WitnessListing, OutOfMemory>
-    requires found { AreFound sound.now table.now.of directions.now found.now.witnesses.items
-        found.now.numbers.items }
-    requires all { AreAllFound directions.now found.now.numbers.items }
-    requires few { length directions.now < LIST_LIMIT }
+    requires named { All (IsNamed sound.now table.now.of found.now.witnesses.items) found.now.visited.items }
+    requires few { length found.now.visited.items < LIST_LIMIT }
     ensures listed { IfOk result (λ l. AreListed sound.now table.now.of (map (λ v. v.items) l.keys.keys)
         l.witnesses.items l.dirs.items) }
-    ensures lines { IfOk result (λ l. map (λ dir. dir.d) l.dirs.items ≡ directions.now) }
+    ensures lines { IfOk result (λ l. map (λ dir. dir.d) l.dirs.items ≡ visited_directions
+        found.now.visited.items) }
 {
     let mut listing = WitnessListing {
         keys: IndexSet::new(alloc),
         witnesses: Vec::new(alloc),
         dirs: Vec::new(alloc),
     };
-    let mut names = no_numbers(alloc, found.witnesses.len())?;
-    for k in 0..directions.len() {
+    let witnesses = found.witnesses.as_slice();
+    let mut names = vec![in alloc; None; witnesses.len()]?;
+    for visit in &found.visited {
         push_dir(
             alloc,
             sound,
             table,
-            directions,
-            k,
-            found,
+            *visit,
+            witnesses,
             &mut names,
             &mut listing,
         )?;

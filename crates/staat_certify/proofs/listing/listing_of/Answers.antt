@@ -1,39 +1,54 @@
-use Rattle.std.proofs.Common.{◌≡◌, ◌<◌, ◌∷◌, [], ◌++◌, ◌∙◌, List, ap, arith, length, map, subst, sym, get_or}
-use Rattle.std.specs.Prelude.{Some, slice_get}
-use Rattle.std.proofs.lemmas.List.{take_all}
+use Rattle.std.proofs.Common.{◌≡◌, ◌<◌, ◌∙◌, List, ap, arith, length, get_or, map, refl, replicate, subst, ℕ, zero, suc}
+use Rattle.std.specs.Prelude.{None, Option, Some, slice_get}
+use Rattle.std.proofs.lemmas.List.{length-replicate, take_all}
 use Rattle.std.proofs.lemmas.Option.{slice_get-get_or}
-use Rattle.staat_cone.proofs.PairLists.{take_more}
-use Rattle.staat_vec.specs.declared.vector.V3.{V3}
 use Rattle.staat_vec.specs.Vectors.{origin}
-use Rattle.staat_certify.proofs.ListedLemmas.{few_lines, no_lines}
-use Rattle.staat_certify.proofs.VisitLemmas.{none_there, size_none}
+use Rattle.staat_certify.specs.declared.visits.Visit.{Visit}
+use Rattle.staat_certify.specs.Visits.{visited_directions}
+use Rattle.staat_certify.proofs.ListedLemmas.{few_lines, lines_more, no_lines}
 use Rattle.staat_certify.proofs.listing.listing_of.Goals as goal
 
-pub loop-k-init : goal.loop-k-init
-loop-k-init c = record {
-  lines = no_lines c.args.sound.now c.args.table.now.of (map (λ v. v.items) c.new.result.keys) c.new-2.result.items c.new-3.result.items (ap (map (λ v. v.items)) c.new.ensures.empty) c.new-2.ensures.items c.new-3.ensures.items;
-  names = record {
-    size = (let a : length c.in_ok-names.names.items ≡ c.len.result = ap length c.in_ok-names.ensures ∙ size_none c.len.result in let b = c.len.ensures in omega (arith, a, b));
-    each = λ p i at. absurd (none_there c.len.result p i (subst (λ ns. slice_get ns p ≡ Some (Some i)) c.in_ok-names.ensures at));
-  };
-}
+none_there : (n k p : ℕ) → slice_get (replicate {A = Option ℕ} n None) k ≡ Some (Some p) → ⊥
+none_there zero k p e = cc
+none_there (suc n) zero p e = cc
+none_there (suc n) (suc k) p e = none_there n k p e
+
+none_only : (P : Option ℕ → Type 0) → ((n : ℕ) → P (Some n) → ⊥) → (y : Option ℕ) → P y → y ≡ None
+none_only P other None p = refl
+none_only P other (Some n) p = absurd (other n p)
+
+pub loop-visit-init : goal.loop-visit-init
+loop-visit-init c =
+    let count = length c.as_slice-witnesses.result.now in
+    let names : c.in_ok-names.names.items ≡ replicate {A = Option ℕ} count None = c.in_ok-names.ensures.items_if_clones_equal (none_only _ (λ n p. p)) in
+    record {
+      lines = no_lines c.args.sound.now c.args.table.now.of (map (λ v. v.items) c.new.result.keys) c.new-2.result.items c.new-3.result.items (ap (map (λ v. v.items)) c.new.ensures.empty) c.new-2.ensures.items c.new-3.ensures.items;
+      names = record {
+        size = ap length names ∙ length-replicate count None;
+        each = λ p i at. absurd (none_there count p i (subst (λ ns. slice_get ns p ≡ Some (Some i)) names at));
+      };
+    }
 
 pub push_dir-requires-clause-room : goal.push_dir-requires-clause-room
-push_dir-requires-clause-room c = few_lines c.args.directions.now c.loop-k.listing.dirs.items c.loop-k.k c.loop-k.invariant.lines.lines (omega (arith, c.loop-k-test.true)) c.requires.few
+push_dir-requires-clause-room c =
+    few_lines c.args.found.now.visited.items c.loop-visit.listing.dirs.items c.loop-visit.visit-index c.loop-visit.invariant.lines.lines
+    (subst (λ (vs : List Visit). c.loop-visit.visit-index < length vs) c.deref-visit-items.ensures.value c.loop-visit-test.true) c.requires.few
 
-pub loop-k-preserved : goal.loop-k-preserved
-loop-k-preserved c =
-    let ds = c.args.directions.now in
-    let k = c.loop-k.k in
-    let lt : k < length ds = omega (arith, c.loop-k-test.true) in
+pub loop-visit-preserved : goal.loop-visit-preserved
+loop-visit-preserved c =
+    let k = c.loop-visit.visit-index in
+    let from = c.deref-visit-items.result.now in
+    let visit : Visit = get_or from k (record { d = origin; number = 0 }) in
+    let at = subst (λ (vs : List Visit). slice_get vs k ≡ Some visit) c.deref-visit-items.ensures.value (slice_get-get_or from k (record { d = origin; number = 0 }) c.loop-visit-test.true) in
     record {
       lines = record {
         listed = c.in_ok-push_dir.ensures.listed;
-        lines = c.in_ok-push_dir.ensures.line (get_or ds k origin) (slice_get-get_or ds k origin lt) ∙ ap (λ (vs : List V3). vs ++ get_or ds k origin ∷ []) c.loop-k.invariant.lines.lines ∙ sym (take_more ds k origin lt);
+        lines = lines_more c.args.found.now.visited.items c.loop-visit.listing.dirs.items c.push_dir.new.listing.dirs.items k visit c.loop-visit.invariant.lines.lines at c.in_ok-push_dir.ensures.line;
       };
       names = c.in_ok-push_dir.ensures.names;
     }
 
 pub returns-clause-lines : goal.returns-clause-lines
 returns-clause-lines c =
-    c.loop-k.invariant.lines.lines ∙ take_all c.loop-k.k c.args.directions.now c.loop-k-test.false
+    let end = subst (λ (vs : List Visit). c.loop-visit.visit-index < length vs → ⊥) c.deref-visit-items.ensures.value (λ lt. omega (arith, lt, c.loop-visit-test.false)) in
+    c.loop-visit.invariant.lines.lines ∙ ap visited_directions (take_all c.loop-visit.visit-index c.args.found.now.visited.items (omega (arith, end)))

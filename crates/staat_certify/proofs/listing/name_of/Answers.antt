@@ -1,12 +1,19 @@
-use Rattle.std.proofs.Common.{◌≡◌, ◌∙◌, ⊎_elim, ℕ, List, ap, length-set, map, set, subst, sym}
+use Rattle.std.proofs.Common.{◌≡◌, ◌⊎◌, ◌∙◌, ◌∷◌, [], inl, inr, ⊎_elim, ℕ, zero, suc, List, ap, length-set, map, refl, set, subst, sym}
 use Rattle.std.specs.Prelude.{Option, Some, slice_get}
 use Rattle.std.proofs.lemmas.Option.{slice_get-get_or}
 use Rattle.staat_model.specs.declared.certificate.Witness.{Witness}
 use Rattle.staat_certify.specs.WitnessListings.{AreNames, IsWitnessNumber}
-use Rattle.staat_certify.proofs.VisitLemmas.{set_cases}
 use Rattle.staat_certify.proofs.listing.name_of.Goals as goal
 use Rattle.staat_vec.proofs.ListLaws.{push_front}
 use Rattle.staat_vec.proofs.Options.{from_some}
+
+-- one place of a list is written
+set_cases : {X : Type 0} (xs : List X) (k j : ℕ) (x y : X) → slice_get (set xs k x) j ≡ Some y → ((j ≡ k) × (x ≡ y)) ⊎ (slice_get xs j ≡ Some y)
+set_cases [] k j x y e = absurd cc
+set_cases (z ∷ xs) zero zero x y e = let same : x ≡ y = cc in inl (refl, same)
+set_cases (z ∷ xs) zero (suc j) x y e = inr e
+set_cases (z ∷ xs) (suc k) zero x y e = inr e
+set_cases (z ∷ xs) (suc k) (suc j) x y e = ⊎_elim (λ h. inl (ap suc h.0, h.1)) (λ h. inr h) (set_cases xs k j x y e)
 
 -- the names with that of one witness more
 names_more : (found listed more : List Witness) (keys : List (List ℕ)) (names : List (Option ℕ)) (p i : ℕ)

@@ -1,7 +1,6 @@
-use Rattle.std.proofs.Common.{◌≡◌, ◌+◌, ◌%◌, ◌<◌, ◌≤◌, ◌∙◌, ℕ, List, [], length, subst, ap, arith}
+use Rattle.std.proofs.Common.{◌≡◌, ◌+◌, ◌%◌, ◌<◌, ◌≤◌, ◌∙◌, ℕ, length, ap, arith}
 use Rattle.std.proofs.Math.Nat.{mod-eq_of_lt}
-use Rattle.staat_ring.specs.Rings.{AreRings, UnlinkedPlane, Ring, unlinked_of}
-use Rattle.staat_certify.proofs.VisitLemmas.{below_more, below_still, on_more}
+use Rattle.staat_certify.proofs.VisitLemmas.{below_more, below_still, on_more, whole_rings}
 use Rattle.staat_certify.proofs.visits.go_round.Goals as goal
 
 next_place : (k place new count size : ℕ) → k + 1 < count → place ≡ k → new ≡ (place + 1) % size → count ≡ size → new ≡ k + 1
@@ -14,7 +13,7 @@ loop-place-preserved c =
     let planes = c.args.table.now.planes in
     let rings = c.args.rings.now.rings in
     let table = c.set-set.ensures.rules.planes in
-    let are : AreRings planes rings [] = subst (λ (out : List (UnlinkedPlane (List Ring))). AreRings planes rings (unlinked_of out)) c.requires.all c.requires.rings.now in
+    let are = whole_rings planes c.args.rings.now c.requires.rings c.requires.all in
     let i = c.loop-place.invariant in
     let place : c.loop-place.walk.place ≡ c.loop-place._place = i.place c.loop-place-test.true in
     let ring = i.entered.at.ring in
@@ -24,8 +23,8 @@ loop-place-preserved c =
       circle = c.cross.ensures.circle ∙ i.circle;
       place = λ lt. next_place c.loop-place._place c.loop-place.walk.place c.cross.new.self.place c.circle_vertices-place-end.result (length ring.stops) lt place (c.cross.ensures.place i.entered.stop i.entered.at i.entered.node) (c.circle_vertices-place-end.ensures ring i.entered.at.listed (i.entered.at.plane ∙ i.circle));
       found = c.in_ok-visit_once.ensures.found;
-      below = below_still planes rings table are c.args.directions.now c.loop-place.found.numbers.items c.visit_once.new.found.numbers.items c.args.circle c.loop-place._place c.in_ok-visit_once.ensures.kept i.below;
-      on = on_more planes rings table are c.args.directions.now c.loop-place.found.numbers.items c.visit_once.new.found.numbers.items c.args.circle c.loop-place._place c.in_ok-visit_once.ensures.kept c.loop-place.walk i.entered i.circle place c.in_ok-visit_once.ensures.here i.on;
+      below = below_still planes rings table are c.args.version c.loop-place.found.visited.items c.visit_once.new.found.visited.items c.args.circle c.loop-place._place c.in_ok-visit_once.ensures.kept i.below;
+      on = on_more planes rings table are c.args.version c.loop-place.found.visited.items c.visit_once.new.found.visited.items c.args.circle c.loop-place._place c.in_ok-visit_once.ensures.kept c.loop-place.walk i.entered i.circle place c.in_ok-visit_once.ensures.here i.on;
     }
 
 pub returns-clause-below : goal.returns-clause-below
@@ -33,6 +32,6 @@ returns-clause-below c =
     let planes = c.args.table.now.planes in
     let rings = c.args.rings.now.rings in
     let table = c.set-set.ensures.rules.planes in
-    let are : AreRings planes rings [] = subst (λ (out : List (UnlinkedPlane (List Ring))). AreRings planes rings (unlinked_of out)) c.requires.all c.requires.rings.now in
-    below_more planes rings table are c.args.directions.now c.loop-place.found.numbers.items c.args.circle c.circle_vertices-place-end.result c.loop-place._place c.circle_vertices-place-end.ensures
+    let are = whole_rings planes c.args.rings.now c.requires.rings c.requires.all in
+    below_more planes rings table are c.args.version c.loop-place.found.visited.items c.args.circle c.circle_vertices-place-end.result c.loop-place._place c.circle_vertices-place-end.ensures
     (let past : c.circle_vertices-place-end.result ≤ c.loop-place._place = omega (arith, c.loop-place-test.false) in past) c.loop-place.invariant.below c.loop-place.invariant.on

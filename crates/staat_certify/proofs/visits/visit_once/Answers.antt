@@ -1,34 +1,52 @@
-use Rattle.std.proofs.Common.{◌<◌, List, [], sym, subst}
-use Rattle.staat_ring.specs.Rings.{AreRings, UnlinkedPlane, Ring, unlinked_of}
-use Rattle.staat_ring.proofs.StopLemmas.{circle_small}
-use Rattle.staat_certify.specs.Visits.{IsDirectionFound}
-use Rattle.staat_certify.proofs.VisitLemmas.{found_earlier, linked}
+use Rattle.std.proofs.Common.{◌≢◌, ◌<◌, Contains, [], subst, sym}
+use Rattle.staat_vec.specs.declared.vector.V3.{V3}
+use Rattle.staat_vec.specs.Vectors.{origin}
+use Rattle.staat_model.specs.Planes.{vertices}
+use Rattle.staat_ring.proofs.StopLemmas.{circle_small, vertex_some}
+use Rattle.staat_certify.specs.Visits.{IsVisited}
+use Rattle.staat_certify.proofs.VisitLemmas.{linked, stop_listed, visited_earlier, whole_rings}
 use Rattle.staat_certify.proofs.visits.visit_once.Goals as goal
 
 pub returns-then-first_entry-circle-clause-here : goal.returns-then-first_entry-circle-clause-here
 returns-then-first_entry-circle-clause-here c =
     let planes = c.args.table.now.planes in
     let rings = c.args.rings.now.rings in
+    let visited = c.args.found.now.visited.items in
     let walk = c.args.walk.now in
     let table = c.set-set.ensures.rules.planes in
-    let are : AreRings planes rings [] = subst (λ (out : List (UnlinkedPlane (List Ring))). AreRings planes rings (unlinked_of out)) c.requires.all c.requires.rings.now in
+    let are = whole_rings planes c.args.rings.now c.requires.rings c.requires.all in
     let entered = c.requires.entered in
     let small = circle_small planes rings [] table are walk.circle walk.place entered.stop entered.at in
     let e = c.first_entry.ensures entered.stop entered.at entered.node in
-    subst (IsDirectionFound c.args.directions.now c.args.found.now.numbers.items) (sym entered.vertex)
-    (found_earlier planes rings table are c.args.directions.now c.args.found.now.numbers.items c.args.circle c.requires.below walk.circle walk.place entered.stop c.first_entry.result (sym c.requires.circle) small e
+    subst (IsVisited c.args.version visited) (sym entered.vertex)
+    (visited_earlier planes rings table are c.args.version visited c.args.circle c.requires.below walk.circle walk.place entered.stop c.first_entry.result (sym c.requires.circle) small e
     (subst (λ k. c.first_entry.result.plane < k) (sym c.requires.circle) c.if-first_entry-circle.true))
 
-pub visit-requires-clause-stands : goal.visit-requires-clause-stands
-visit-requires-clause-stands c =
+pub keep_visit-requires-clause-stands : goal.keep_visit-requires-clause-stands
+keep_visit-requires-clause-stands c =
     let planes = c.args.table.now.planes in
-    let rings = c.args.rings.now.rings in
-    let are : AreRings planes rings [] = subst (λ (out : List (UnlinkedPlane (List Ring))). AreRings planes rings (unlinked_of out)) c.requires.all c.requires.rings.now in
+    let are = whole_rings planes c.args.rings.now c.requires.rings c.requires.all in
     record {
       made = c.requires.signs;
-      rings = rings;
+      rings = c.args.rings.now.rings;
       entered = c.requires.entered;
-      all = linked planes rings c.set-set.ensures.rules.planes are;
+      all = linked planes c.args.rings.now.rings c.set-set.ensures.rules.planes are;
       parts = c.args.sound.now;
       from = c.requires.made;
     }
+
+pub keep_visit-requires-clause-vertex : goal.keep_visit-requires-clause-vertex
+keep_visit-requires-clause-vertex c =
+    let planes = c.args.table.now.planes in
+    let walk = c.args.walk.now in
+    let are = whole_rings planes c.args.rings.now c.requires.rings c.requires.all in
+    let entered = c.requires.entered in
+    subst (Contains (vertices planes)) (sym entered.vertex) (stop_listed planes c.args.rings.now.rings c.set-set.ensures.rules.planes are walk.circle walk.place entered.stop entered.at)
+
+pub keep_visit-requires-clause-some : goal.keep_visit-requires-clause-some
+keep_visit-requires-clause-some c =
+    let planes = c.args.table.now.planes in
+    let walk = c.args.walk.now in
+    let are = whole_rings planes c.args.rings.now c.requires.rings c.requires.all in
+    let entered = c.requires.entered in
+    subst (λ (v : V3). v ≢ origin) (sym entered.vertex) (vertex_some planes c.args.rings.now.rings [] c.set-set.ensures.rules.planes are walk.circle walk.place entered.stop entered.at)
