@@ -35,7 +35,7 @@ use Rattle.staat_model.proofs.VertexLemmas.{in_vertices}
 use Rattle.staat_pairs.specs.Tables.{AreTablePlanes, Table}
 use Rattle.staat_certify.specs.WitnessListings.{IsWitnessNumber}
 use Rattle.staat_certify.specs.declared.visits.Visit.{Visit}
-use Rattle.staat_certify.specs.Visits.{AreStillVisited, AreVisitedBelow, AreVisitedOn, IsNamed, IsNumberHere, IsVisited, SortsVisits, StandsAmong, visited_directions}
+use Rattle.staat_certify.specs.Visits.{AreStillVisited, AreVisitedBelow, AreVisitedOn, IsNamed, IsNumberHere, IsVisitedDirection, SortsVisits, StandsAmong, visited_directions}
 use Rattle.staat_certify.proofs.LineLemmas.{kept}
 use Rattle.staat_ring.specs.declared.entry.Entry.{Entry}
 use Rattle.staat_ring.specs.Belonging.{HasAll}
@@ -102,12 +102,12 @@ module _ (planes : List V3) (rings : List Ring) (table : AreTablePlanes planes) 
 
   module _ (version : ℕ) (visited : List Visit) (n : ℕ) (before : AreVisitedBelow planes rings version visited n) where
     -- the crossing of two planes is the vertex of a stop on the circle of the first
-    visited_crossing : (k j : ℕ) (turned : Bool) → k < n → k < length planes → j < length planes → j ≢ k → IsVisited version visited (crossing planes k (record { plane = j; turned = turned }))
+    visited_crossing : (k j : ℕ) (turned : Bool) → k < n → k < length planes → j < length planes → j ≢ k → IsVisitedDirection version visited (crossing planes k (record { plane = j; turned = turned }))
     visited_crossing k j turned below lt small ne =
         let e : Entry = record { plane = j; turned = turned } in
         let (r, listed, is) = Contains-from_map (λ (r : Ring). r.plane) rings k (linked k lt) in
         let there = entry_there planes (linked_of rings) r (none_parallel planes (linked_of rings) table) (All-contains (IsRingOf planes (linked_of rings)) rings r are.each listed) e (plane_at planes j) (record { listed = linked j small; is = slice_get-get_or planes j origin small }) (λ q. ne (q ∙ is)) in
-        subst (IsVisited version visited) (subst (λ c. vertex_of planes c there.stop.entries ≡ crossing planes c e) is there.vertex)
+        subst (IsVisitedDirection version visited) (subst (λ c. vertex_of planes c there.stop.entries ≡ crossing planes c e) is there.vertex)
         (before k there.place there.stop below (record { ring = r; listed = listed; plane = is; is = there.is }))
 
     crossing_back : (b c : ℕ) (turned : Bool) → crossing planes b (record { plane = c; turned = not turned }) ≡ crossing planes c (record { plane = b; turned = turned })
@@ -124,9 +124,9 @@ module _ (planes : List V3) (rings : List Ring) (table : AreTablePlanes planes) 
         go true = back
 
     -- a vertex through which a plane before that of the circle passes
-    pub visited_earlier : (c m : ℕ) (s : RingStop) (e : Entry) → n ≡ c → c < length planes → slice_get s.entries 0 ≡ Some e → e.plane < c → IsVisited version visited (vertex_of planes c s.entries)
+    pub visited_earlier : (c m : ℕ) (s : RingStop) (e : Entry) → n ≡ c → c < length planes → slice_get s.entries 0 ≡ Some e → e.plane < c → IsVisitedDirection version visited (vertex_of planes c s.entries)
     visited_earlier c m s e same small at lt =
-        subst (IsVisited version visited) (crossing_back e.plane c e.turned ∙ vertex_first planes c s.entries e at)
+        subst (IsVisitedDirection version visited) (crossing_back e.plane c e.turned ∙ vertex_first planes c s.entries e at)
         (visited_crossing e.plane c (not e.turned) (omega (arith, same, lt)) (omega (arith, small, lt)) small (λ q. omega (arith, q, lt)))
 
     -- all directions
@@ -141,21 +141,21 @@ module _ (planes : List V3) (rings : List Ring) (table : AreTablePlanes planes) 
         let h_is = get_or_from_slice_get planes j f.h origin at_h in
         let ne : j ≢ i = λ q. f.independent (ap (λ z. cross z f.h) (sym g_is ∙ (ap (plane_at planes) (sym q) ∙ h_is)) ∙ cross_self f.h) in
         let u : primitive (cross (plane_at planes i) (plane_at planes j)) ≡ primitive (cross f.g f.h) = λ t. primitive (cross (g_is t) (h_is t)) in
-        ⊎_elim {C = IsVisited version visited d}
-        (λ e. subst (IsVisited version visited) (u ∙ sym e) (visited_crossing i j false (omega (arith, lt, most)) lt small ne))
-        (λ e. subst (IsVisited version visited) (ap negative u ∙ sym e) (visited_crossing i j true (omega (arith, lt, most)) lt small ne))
+        ⊎_elim {C = IsVisitedDirection version visited d}
+        (λ e. subst (IsVisitedDirection version visited) (u ∙ sym e) (visited_crossing i j false (omega (arith, lt, most)) lt small ne))
+        (λ e. subst (IsVisitedDirection version visited) (ap negative u ∙ sym e) (visited_crossing i j true (omega (arith, lt, most)) lt small ne))
         f.is
         is.canonical
 
   -- one more stop of the circle c
   module _ (version : ℕ) (old new : List Visit) (c n : ℕ) (still : AreStillVisited old new) where
-    pub on_more : (w : Walked) → IsEntered planes rings w → w.circle ≡ c → w.place ≡ n → IsVisited version new w.vertex → AreVisitedOn planes rings version old c n → AreVisitedOn planes rings version new c (n + 1)
-    on_more w entered circle place here on m s lt at = ⊎_elim {C = IsVisited version new (vertex_of planes c s.entries)}
+    pub on_more : (w : Walked) → IsEntered planes rings w → w.circle ≡ c → w.place ≡ n → IsVisitedDirection version new w.vertex → AreVisitedOn planes rings version old c n → AreVisitedOn planes rings version new c (n + 1)
+    on_more w entered circle place here on m s lt at = ⊎_elim {C = IsVisitedDirection version new (vertex_of planes c s.entries)}
         (λ less canonical. still (vertex_of planes c s.entries) (on m s less at canonical))
         (λ e.
         let there : IsStopAt rings c m entered.stop = subst (λ k. IsStopAt rings k m entered.stop) circle (subst (λ k. IsStopAt rings w.circle k entered.stop) (place ∙ sym e) entered.at) in
         let same = one_stop rings c m s entered.stop are.ascending at there in
-        subst (IsVisited version new) (entered.vertex ∙ ((λ i. vertex_of planes (circle i) entered.stop.entries) ∙ ap (λ (x : RingStop). vertex_of planes c x.entries) (sym same))) here)
+        subst (IsVisitedDirection version new) (entered.vertex ∙ ((λ i. vertex_of planes (circle i) entered.stop.entries) ∙ ap (λ (x : RingStop). vertex_of planes c x.entries) (sym same))) here)
         (lt_one_more_cases m n lt)
 
     pub below_still : AreVisitedBelow planes rings version old c → AreVisitedBelow planes rings version new c
@@ -163,13 +163,13 @@ module _ (planes : List V3) (rings : List Ring) (table : AreTablePlanes planes) 
 
   -- the circle c has been gone round
   pub below_more : (version : ℕ) (visited : List Visit) (c count n : ℕ) → ((r : Ring) → Contains rings r → r.plane ≡ c → count ≡ length r.stops) → count ≤ n → AreVisitedBelow planes rings version visited c → AreVisitedOn planes rings version visited c n → AreVisitedBelow planes rings version visited (c + 1)
-  below_more version visited c count n size le below on b m s lt at = ⊎_elim {C = IsVisited version visited (vertex_of planes b s.entries)}
+  below_more version visited c count n size le below on b m s lt at = ⊎_elim {C = IsVisitedDirection version visited (vertex_of planes b s.entries)}
       (λ less. below b m s less at)
       (λ e.
       let there : IsStopAt rings c m s = subst (λ k. IsStopAt rings k m s) e at in
       let l = slice_get_within there.ring.stops m s there.is in
       let z = size there.ring there.listed there.plane in
-      subst (λ k. IsVisited version visited (vertex_of planes k s.entries)) (sym e) (on m s (omega (arith, l, z, le)) there))
+      subst (λ k. IsVisitedDirection version visited (vertex_of planes k s.entries)) (sym e) (on m s (omega (arith, l, z, le)) there))
       (lt_one_more_cases b c lt)
 
 -- ---- in the order of the directions

@@ -56,8 +56,8 @@ pub record IsNumberHere (parts : List Part) (w : PartSet) (d : V3) (keys : List 
   pub names : NamesWitness parts w new (record { d = d; witness = p })
 
 -- the vertex has been visited, if it is one of the directions
-abbrev pub IsVisited : ℕ → List Visit → V3 → Type 0
-IsVisited version visited v = (version ≡ 2 → IsCanon v) → Contains (visited_directions visited) v
+abbrev pub IsVisitedDirection : ℕ → List Visit → V3 → Type 0
+IsVisitedDirection version visited v = (version ≡ 2 → IsCanon v) → Contains (visited_directions visited) v
 
 -- what has been visited stays so
 abbrev pub AreStillVisited : List Visit → List Visit → Type 0
@@ -66,12 +66,12 @@ AreStillVisited old new = (v : V3) → Contains (visited_directions old) v → C
 -- the vertices on the circles of the planes below c have been visited
 abbrev pub AreVisitedBelow : List V3 → List Ring → ℕ → List Visit → ℕ → Type 0
 AreVisitedBelow planes rings version visited c = (b m : ℕ) (s : RingStop) → b < c → IsStopAt rings b m s
-    → IsVisited version visited (vertex_of planes b s.entries)
+    → IsVisitedDirection version visited (vertex_of planes b s.entries)
 
 -- those at the places below n of the circle c have been visited
 abbrev pub AreVisitedOn : List V3 → List Ring → ℕ → List Visit → ℕ → ℕ → Type 0
 AreVisitedOn planes rings version visited c n = (m : ℕ) (s : RingStop) → m < n → IsStopAt rings c m s
-    → IsVisited version visited (vertex_of planes c s.entries)
+    → IsVisitedDirection version visited (vertex_of planes c s.entries)
 
 -- the new visits are some of the old ones, of each direction one, in the order of the directions
 pub record SortsVisits (old new : List Visit) : Type 0 where

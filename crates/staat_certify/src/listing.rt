@@ -15,7 +15,8 @@ ghost use Rattle.std.specs.Prelude.{
   slice_get,
 };
 ghost use Rattle.staat_model.specs.declared.certificate.Witness.{Witness as WitnessValue};
-ghost use Rattle.staat_certify.specs.WitnessListings.{AreKeys, AreListed, AreNames, IsWitnessNumber, key_of, key_numbers};
+ghost use Rattle.staat_certify.specs.WitnessListings.{AreKeys, AreListed, AreNames, IsWitnessNumber};
+ghost use Rattle.staat_certify.specs.WitnessListings.{key_of, key_numbers};
 ghost use Rattle.staat_certify.specs.Visits.{IsNamed, visited_directions};
 
 use crate::numbers::number_of_key;

@@ -24,7 +24,8 @@ ghost use Rattle.staat_pairs.specs.Tables.{WasMadeFrom};
 ghost use Rattle.staat_ring.specs.Rings.{WereMadeFrom};
 ghost use Rattle.staat_ring.specs.Walked.{IsEntered, WalkWasMadeFrom};
 ghost use Rattle.staat_certify.specs.WitnessListings.{key_of};
-ghost use Rattle.staat_certify.specs.Visits.{AreStillVisited, AreVisitedBelow, HasFound, IsNumberHere, IsVisited};
+ghost use Rattle.staat_certify.specs.Visits.{AreStillVisited, AreVisitedBelow, HasFound};
+ghost use Rattle.staat_certify.specs.Visits.{IsNumberHere, IsVisitedDirection};
 ghost use Rattle.staat_certify.specs.Visits.{KeepsTrees, SortsVisits, StandsAmong, visited_directions};
 ghost use Rattle.staat_certify.specs.Witnesses.{AreTreesAlong};
 
@@ -166,7 +167,7 @@ fn keep_visit(
     requires some { walk.now.vertex ≢ origin }
     requires found { HasFound sound.now table.now version found.old }
     ensures found { OnOk result (HasFound sound.now table.now version found.new) }
-    ensures here { OnOk result (IsVisited version found.new.visited.items walk.now.vertex) }
+    ensures here { OnOk result (IsVisitedDirection version found.new.visited.items walk.now.vertex) }
     ensures kept { OnOk result (AreStillVisited found.old.visited.items found.new.visited.items) }
 {
     let d = walk.at();
@@ -199,7 +200,7 @@ fn visit_once(
     requires found { HasFound sound.now table.now version found.old }
     requires below { AreVisitedBelow table.now.planes rings.now.rings version found.old.visited.items circle }
     ensures found { OnOk result (HasFound sound.now table.now version found.new) }
-    ensures here { OnOk result (IsVisited version found.new.visited.items walk.now.vertex) }
+    ensures here { OnOk result (IsVisitedDirection version found.new.visited.items walk.now.vertex) }
     ensures kept { OnOk result (AreStillVisited found.old.visited.items found.new.visited.items) }
 {
     let _set = table.set();

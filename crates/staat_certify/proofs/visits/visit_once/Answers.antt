@@ -3,7 +3,7 @@ use Rattle.staat_vec.specs.declared.vector.V3.{V3}
 use Rattle.staat_vec.specs.Vectors.{origin}
 use Rattle.staat_model.specs.Planes.{vertices}
 use Rattle.staat_ring.proofs.StopLemmas.{circle_small, vertex_some}
-use Rattle.staat_certify.specs.Visits.{IsVisited}
+use Rattle.staat_certify.specs.Visits.{IsVisitedDirection}
 use Rattle.staat_certify.proofs.VisitLemmas.{linked, stop_listed, visited_earlier, whole_rings}
 use Rattle.staat_certify.proofs.visits.visit_once.Goals as goal
 
@@ -18,7 +18,7 @@ returns-then-first_entry-circle-clause-here c =
     let entered = c.requires.entered in
     let small = circle_small planes rings [] table are walk.circle walk.place entered.stop entered.at in
     let e = c.first_entry.ensures entered.stop entered.at entered.node in
-    subst (IsVisited c.args.version visited) (sym entered.vertex)
+    subst (IsVisitedDirection c.args.version visited) (sym entered.vertex)
     (visited_earlier planes rings table are c.args.version visited c.args.circle c.requires.below walk.circle walk.place entered.stop c.first_entry.result (sym c.requires.circle) small e
     (subst (λ k. c.first_entry.result.plane < k) (sym c.requires.circle) c.if-first_entry-circle.true))
 
