@@ -1,8 +1,9 @@
 -- The rules of a refusal, by what was found of them.
-use Rattle.std.proofs.Common.{◌≡◌, ◌↔◌, inl, inr, ⊎_elim, ℕ, ◌+◌, ◌*◌, ◌<◌, ◌≤◌, arith, refl, sym, ap, subst, ◌∙◌, List, [], length, take, get_or, All, Contains}
+use Rattle.std.proofs.Common.{◌≡◌, ◌↔◌, inl, inr, ⊎_elim, ℕ, ◌+◌, ◌*◌, ◌<◌, ◌≤◌, arith, refl, sym, ap, subst, ◌∙◌, pos, List, [], ◌∷◌, ◌++◌, map, length, take, get_or, All, Contains}
 use Rattle.staat_vec.specs.declared.memory.OutOfMemory.{OutOfMemory}
 use Rattle.std.specs.Prelude.{Err, IfOk, Ok, Option, None, Result, Some, slice_index_or, MatchOption, sum_by}
 use Rattle.std.specs.FinSet as set
+use Rattle.std.proofs.lemmas.List.{map-append, take_more}
 use Rattle.std.proofs.lemmas.List.Elements.{All-contains, All-weaker}
 use Rattle.std.proofs.lemmas.Option.{slice_get-get_or}
 use Rattle.std.proofs.lemmas.List.Sums.{sum_by-le, sum_by_more, sum_by_more_le}
@@ -154,6 +155,13 @@ pub planes_not_parallel : (parts : List Part) (t : Table) → WasMadeFrom parts 
 planes_not_parallel parts t made = planes_apart parts t.of t.planes made.planes
 
 -- ---- directions
+
+abbrev pub no_dir : Dir
+no_dir = record { d = record { x = pos 0; y = pos 0; z = pos 0 }; witness = 0 }
+
+pub dirs_more : (dirs : List Dir) (k : ℕ) (e : Dir) (old new : List V3) → k < length dirs → old ≡ map (λ (dir : Dir). dir.d) (take k dirs) → new ≡ old ++ (get_or dirs k e).d ∷ [] → new ≡ map (λ (dir : Dir). dir.d) (take (k + 1) dirs)
+dirs_more dirs k e old new lt are is =
+    is ∙ ap (λ l. l ++ (get_or dirs k e).d ∷ []) are ∙ sym (ap (λ l. map (λ (dir : Dir). dir.d) l) (take_more dirs k e lt) ∙ map-append (λ (dir : Dir). dir.d) (take k dirs) (get_or dirs k e ∷ []))
 
 pub next_line : (directions : List V3) (dirs : List Dir) (found k : ℕ) (u : V3) (e : Dir) → found < length directions → k < length dirs → get_or directions found u ≡ (get_or dirs k e).d → All (HasLine dirs) (take found directions) → All (HasLine dirs) (take (found + 1) directions)
 next_line directions dirs found k u e lt in_dirs same all =
