@@ -44,9 +44,9 @@ fn end_of(start: usize, places: usize) -> usize
 }
 
 // puts the number of a line at the first empty one of its direction's places, if there is one
-fn put(table: &mut [u32], v: V3, number: u32)
-    requires { 1 ≤ length table.old }
-    ensures { length table.new ≡ length table.old }
+fn put(table: &mut Vec<u32>, v: V3, number: u32)
+    requires { 1 ≤ length table.old.items }
+    ensures { length table.new.items ≡ length table.old.items }
 {
     let start = start_of(v, table.len());
     for place in start..end_of(start, table.len()) {
@@ -57,24 +57,15 @@ fn put(table: &mut [u32], v: V3, number: u32)
     }
 }
 
-// puts the numbers of all lines
-fn put_all(table: &mut [u32], dirs: &[Dir])
-    requires some { 1 ≤ length table.old }
-    requires few { length dirs.now < 2 ^ 32 }
-    ensures { length table.new ≡ length table.old }
-{
-    for (k, dir) in dirs.iter().enumerate() {
-        put(table, dir.d, k as u32);
-    }
-}
-
 /// A table of the places of the lines' directions. There are fewer than 2^32 lines.
 pub fn table_of_places(alloc: Global, dirs: &[Dir]) -> Result<Vec<u32>, OutOfMemory>
     requires few { length dirs.now < 2 ^ 32 }
     ensures { IfOk result (λ places. 1 ≤ length places.items) }
 {
     let mut places = vec![in alloc; EMPTY; 3 * dirs.len() + 1]?;
-    put_all(places.as_mut_slice(), dirs);
+    for (k, dir) in dirs.iter().enumerate() {
+        put(&mut places, dir.d, k as u32);
+    }
     Ok(places)
 }
 
