@@ -44,10 +44,9 @@ module _ (step : Arc → ℕ × ℕ) (w start : PartSet) (arcs : List Arc) where
     λ h. same.1 (subst (λ l. ReachesAll w old (map step l)) (drop_end arcs k le) (law.1 h)),
   )
 
--- ---- one root
+-- ---- from the least part, which is one
 
-pub root_one : (w : PartSet) (p q : ℕ) → IsLeastOf w p → IsLeastOf w q → p ≡ q
-root_one w p q a b = omega (arith, a.least q b.has, b.least p a.has)
-
-pub reach_as : (step : Arc → ℕ × ℕ) (w : PartSet) (p q : ℕ) (arcs others : List Arc) → p ≡ q → arcs ≡ others → ReachesAll w (single p) (map step arcs) → ReachesAll w (single q) (map step others)
-reach_as step w p q arcs others e f h = subst (λ n. ReachesAll w (single n) (map step others)) e (subst (λ l. ReachesAll w (single p) (map step l)) f h)
+pub reach_as : (step : Arc → ℕ × ℕ) (w : PartSet) (p q : ℕ) (arcs others : List Arc) → IsLeastOf w p → IsLeastOf w q → arcs ≡ others → ReachesAll w (single p) (map step arcs) → ReachesAll w (single q) (map step others)
+reach_as step w p q arcs others a b e h =
+    let same : p ≡ q = omega (arith, a.least q b.has, b.least p a.has) in
+    subst (λ n. ReachesAll w (single n) (map step others)) same (subst (λ l. ReachesAll w (single p) (map step l)) e h)

@@ -5,7 +5,7 @@ use Rattle.staat_check.proofs.RefusalRules.{dirs_more, no_dir}
 use Rattle.staat_check.proofs.refusal.directions_of.Goals as goal
 
 pub loop-dir-init : goal.loop-dir-init
-loop-dir-init c = c.new-listed.ensures.items
+loop-dir-init c = c.in_ok-listed.ensures.items
 
 pub loop-dir-preserved : goal.loop-dir-preserved
 loop-dir-preserved c = dirs_more c.args.dirs.now c.loop-dir.dir-index no_dir c.loop-dir.listed.items c.push.new.self.items c.loop-dir-test.true c.loop-dir.invariant c.in_ok-push.ensures.items
