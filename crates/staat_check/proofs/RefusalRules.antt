@@ -1,6 +1,7 @@
 -- The rules of a refusal, by what was found of them.
 use Rattle.std.proofs.Common.{◌≡◌, ◌↔◌, inl, inr, ⊎_elim, ℕ, ◌+◌, ◌*◌, ◌<◌, ◌≤◌, arith, refl, sym, ap, subst, ◌∙◌, pos, List, [], ◌∷◌, ◌++◌, map, length, take, get_or, All, Contains}
-use Rattle.std.specs.Prelude.{Option, None, Some, slice_index_or, MatchOption, sum_by}
+use Rattle.staat_vec.specs.declared.memory.OutOfMemory.{OutOfMemory}
+use Rattle.std.specs.Prelude.{Err, IfOk, Ok, Option, None, Result, Some, slice_index_or, MatchOption, sum_by}
 use Rattle.std.specs.FinSet as set
 use Rattle.std.proofs.lemmas.List.{map-append, take_more}
 use Rattle.std.proofs.lemmas.List.Elements.{All-contains, All-weaker}
@@ -33,7 +34,7 @@ use Rattle.staat_model.proofs.SetMembers.{has-difference}
 use Rattle.staat_model.proofs.ListedVertices.{all_listed}
 use Rattle.staat_pairs.specs.Tables.{IsTableArc, Table, WasMadeFrom}
 use Rattle.staat_check.specs.Conditions.{AreLists, IsAcrossAll, IsFitDir, LeadsAhead, asked_facets}
-use Rattle.staat_check.specs.Verdicts.{IsRefusalVerdict}
+use Rattle.staat_check.specs.Verdicts.{IsRefusalVerdict, IsSaidBy}
 use Rattle.staat_check.proofs.ConditionLemmas.{facets_law, numbers_law, numbers_small}
 use Rattle.staat_check.proofs.ReadLemmas.{more_all}
 use Rattle.staat_vec.proofs.Naturals.{le_or_lt}
@@ -171,3 +172,12 @@ next_line directions dirs found k u e lt in_dirs same all =
 pub each_listed : (version : ℕ) (planes ds wanted : List V3) (dirs : List Dir) → wanted ≡ ds → NoneParallel planes → Lists vector_cmp (IsDirection version planes) ds → All (HasLine dirs) wanted → All (IsListed version dirs) (vertices planes)
 each_listed version planes ds wanted dirs is apart lists all =
     all_listed version planes dirs apart (λ v d. All-contains (HasLine dirs) wanted v all (subst (λ l. Contains l v) (sym is) (lists.all v d)))
+
+-- ---- what is said by a table
+
+pub said_by : (parts : List Part) (t : Table) (w : PartSet) (version : ℕ) (witnesses : List Witness) (dirs : List Dir) (r : Result Verdict OutOfMemory) → IfOk r (IsSaidBy t version witnesses dirs) → t.of ≡ w → WasMadeFrom parts t → IsStuckSet parts w → All (IsWitness parts w) witnesses
+    → IfOk r (IsRefusalVerdict parts version (length parts) w witnesses dirs)
+said_by parts t w version witnesses dirs (Ok v) said e made stuck trees =
+    subst (λ s. IsRefusalVerdict parts version (length parts) s witnesses dirs v) e
+    (said parts made (subst (IsStuckSet parts) (sym e) stuck) (subst (λ s. All (IsWitness parts s) witnesses) (sym e) trees))
+said_by parts t w version witnesses dirs (Err x) said e made stuck trees = tt
