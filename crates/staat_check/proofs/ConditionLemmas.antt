@@ -1,6 +1,7 @@
 -- The facets of the arcs of a witness, by their numbers.
-use Rattle.std.proofs.Common.{◌≡◌, ◌⊎◌, ◌↔◌, inl, inr, ⊎_elim, ℕ, ◌+◌, ◌<◌, ◌≤◌, arith, sym, ap, subst, ◌∙◌, List, [], ◌∷◌, ◌++◌, append_assoc, length, get_or, take, pos, ◌<ℤ◌, All, Contains}
-use Rattle.std.specs.Prelude.{Some, flat_map, map, slice_get}
+use Rattle.std.proofs.Common.{◌≡◌, ◌⊎◌, ◌↔◌, inl, inr, ⊎_elim, ℕ, ◌+◌, ◌<◌, ◌≤◌, arith, refl, sym, ap, subst, ◌∙◌, List, [], ◌∷◌, ◌++◌, append-nil, append_assoc, length, get_or, take, pos, ◌<ℤ◌, All, Contains}
+use Rattle.std.specs.Prelude.{Bool, Err, Ok, OnOk, Result, Some, false, flat_map, map, slice_get, true}
+use Rattle.staat_vec.specs.declared.memory.OutOfMemory.{OutOfMemory}
 use Rattle.std.proofs.lemmas.List.{flat_map_more, get_or-map, get_or_append_left, get_or_push, length-append, length-map, take_all, take_more}
 use Rattle.std.proofs.lemmas.Option.{get_or_from_slice_get}
 use Rattle.std.proofs.lemmas.List.Elements.{All-append, All-cons, All-contains, All-head, All-nil, All-tail, Contains-append_cases, Contains-append_left, Contains-append_right, Contains-push, Contains-push_cases}
@@ -24,7 +25,7 @@ use Rattle.staat_pairs.specs.Tables.{IsTableArc, IsTable, IsTableFacet, Table, W
 use Rattle.staat_pairs.proofs.TableLemmas.{facets_ahead, facets_reversed}
 use Rattle.staat_pairs.proofs.ReversedFacets.{from_reversed, in_reversed}
 use Rattle.staat_check.specs.declared.conditions.FacetNumbers.{FacetNumbers}
-use Rattle.staat_check.specs.Conditions.{AddsNumbers, AreConditions, AreFacetNumbers, AreLists, AreNumbers, AreSlotNumbers, HasNumber, HasOpposites, IsAcrossAll, IsEitherOf, IsNumbered, LeadsAheadOf, asked_facets, facets_at}
+use Rattle.staat_check.specs.Conditions.{AddsNumbers, AreConditions, AreFacetNumbers, AreLists, AreNumbers, AreSlotNumbers, HasNumber, HasOpposites, IsAcrossAll, IsEitherOf, IsNumbered, LeadsAheadOf, asked_facets, facets_at, turned_all, turned_if}
 use Rattle.staat_check.specs.Negatives.{AddsNegatives}
 use Rattle.staat_vec.proofs.Naturals.{lt_one_more_cases, lt_from_le}
 use Rattle.staat_vec.proofs.ListLaws.{Contains-map}
@@ -85,8 +86,11 @@ number_more normals facets old new k number d lt are at is =
           (Contains-push_cases (take k facets) x n c);
     })
 
+no_numbers : (normals : List V3) (none : List ℕ) → none ≡ [] → AreNumbers normals [] none
+no_numbers normals none empty = subst (AreNumbers normals []) (sym empty) (record { from = λ k c. absurd (Contains-nothing k c); all = λ n c. absurd (Contains-nothing n c) })
+
 -- with more facets, where all of these are among the normals
-pub numbers_more : (normals facets : List V3) (old new : List ℕ) (k number : ℕ) (d : V3) → k < length facets
+numbers_more : (normals facets : List V3) (old new : List ℕ) (k number : ℕ) (d : V3) → k < length facets
     → (All (Contains normals) (take k facets) → AreNumbers normals (take k facets) old)
     → (Contains normals (get_or facets k d) → slice_get normals number ≡ Some (get_or facets k d))
     → new ≡ old ++ number ∷ [] → All (Contains normals) (take (k + 1) facets) → AreNumbers normals (take (k + 1) facets) new
@@ -96,7 +100,7 @@ numbers_more normals facets old new k number d lt before found is all =
     let here : Contains normals x = All-head (Contains normals) x [] (all_back (Contains normals) (take k facets) (x ∷ []) both) in
     number_more normals facets old new k number d lt (before (all_front (Contains normals) (take k facets) (x ∷ []) both)) (found here) is
 
-pub opposites_more : (normals facets : List V3) (old new : List ℕ) (k number : ℕ) (d : V3) → k < length facets
+opposites_more : (normals facets : List V3) (old new : List ℕ) (k number : ℕ) (d : V3) → k < length facets
     → (All (Contains normals) (take k (map negative facets)) → AreNumbers normals (take k (map negative facets)) old)
     → (Contains normals (negative (get_or facets k d)) → slice_get normals number ≡ Some (negative (get_or facets k d)))
     → new ≡ old ++ number ∷ [] → All (Contains normals) (take (k + 1) (map negative facets)) → AreNumbers normals (take (k + 1) (map negative facets)) new
@@ -105,16 +109,32 @@ opposites_more normals facets old new k number d lt before found is =
     numbers_more normals (map negative facets) old new k number (negative d) (omega (arith, lt, length-map facets negative)) before
     (subst (λ x. Contains normals x → slice_get normals number ≡ Some x) (sym same) found) is
 
-pub numbers_end : (normals facets : List V3) (numbers : List ℕ) (k : ℕ) → length facets ≤ k
-    → (All (Contains normals) (take k facets) → AreNumbers normals (take k facets) numbers) → All (Contains normals) facets → AreNumbers normals facets numbers
-numbers_end normals facets numbers k le are = subst (λ l. All (Contains normals) l → AreNumbers normals l numbers) (take_all k facets le) are
+pub turned_none : (normals facets : List V3) (none : List ℕ) → none ≡ [] → All (Contains normals) (take 0 facets) → AreNumbers normals (take 0 facets) none
+turned_none normals facets none empty all = no_numbers normals none empty
 
-pub opposites_end : (normals facets : List V3) (numbers : List ℕ) (k : ℕ) → length facets ≤ k
-    → (All (Contains normals) (take k (map negative facets)) → AreNumbers normals (take k (map negative facets)) numbers)
-    → All (Contains normals) (map negative facets) → AreNumbers normals (map negative facets) numbers
-opposites_end normals facets numbers k le = numbers_end normals (map negative facets) numbers k (omega (arith, le, length-map facets negative))
+pub turned_more : (turned : Bool) (normals facets : List V3) (old new : List ℕ) (k number : ℕ) (d : V3) → k < length facets
+    → (All (Contains normals) (take k (turned_all turned facets)) → AreNumbers normals (take k (turned_all turned facets)) old)
+    → (Contains normals (turned_if turned (get_or facets k d)) → slice_get normals number ≡ Some (turned_if turned (get_or facets k d)))
+    → new ≡ old ++ number ∷ [] → All (Contains normals) (take (k + 1) (turned_all turned facets)) → AreNumbers normals (take (k + 1) (turned_all turned facets)) new
+turned_more false normals facets old new k number d lt before found is = numbers_more normals facets old new k number d lt before found is
+turned_more true normals facets old new k number d lt before found is = opposites_more normals facets old new k number d lt before found is
+
+turned_size : (turned : Bool) (facets : List V3) → length (turned_all turned facets) ≡ length facets
+turned_size false facets = refl
+turned_size true facets = length-map facets negative
+
+pub turned_end : (turned : Bool) (normals facets : List V3) (numbers list : List ℕ) (k : ℕ) → length facets ≤ k → list ≡ numbers
+    → (All (Contains normals) (take k (turned_all turned facets)) → AreNumbers normals (take k (turned_all turned facets)) numbers)
+    → All (Contains normals) (turned_all turned facets) → AreNumbers normals (turned_all turned facets) list
+turned_end turned normals facets numbers list k le e are =
+    let all : length (turned_all turned facets) ≤ k = omega (arith, le, turned_size turned facets) in
+    subst (λ n. All (Contains normals) (turned_all turned facets) → AreNumbers normals (turned_all turned facets) n) (sym e)
+    (subst (λ l. All (Contains normals) l → AreNumbers normals l numbers) (take_all k (turned_all turned facets) all) are)
 
 -- ---- numbers by slots
+
+pub slots_none : (normals : List V3) (at : ℕ → List V3) (lists : List (List ℕ)) → lists ≡ [] → AreSlotNumbers normals at 0 lists
+slots_none normals at lists e = record { count = ap length e; each = λ slot lt. absurd (omega (arith, lt)) }
 
 pub slots_more : (normals : List V3) (at : ℕ → List V3) (k : ℕ) (lists more : List (List ℕ)) (list : List ℕ) → AreSlotNumbers normals at k lists
     → (All (Contains normals) (at k) → AreNumbers normals (at k) list) → more ≡ lists ++ list ∷ [] → AreSlotNumbers normals at (k + 1) more
@@ -125,6 +145,9 @@ slots_more normals at k lists more list are here e = record {
       (λ now. subst (AreNumbers normals (at m)) (sym (get_or_push lists list [] m (are.count ∙ sym now))) (subst (λ j. All (Contains normals) (at j) → AreNumbers normals (at j) list) (sym now) here all))
       (lt_one_more_cases m k lt));
 }
+
+pub slots_end : (normals : List V3) (at : ℕ → List V3) (k n : ℕ) (lists : List (List ℕ)) → n ≤ k → k ≤ n → AreSlotNumbers normals at k lists → AreSlotNumbers normals at n lists
+slots_end normals at k n lists le ge are = subst (λ m. AreSlotNumbers normals at m lists) (omega (arith, le, ge)) are
 
 -- a facet of the table has a plane there, on one of its two sides
 facets_listed : (t : Table) (normals : List V3) (arc : Arc) → IsTable t → Lists vector_cmp (IsEitherOf t.planes) normals → IsTableArc t arc → All (Contains normals) (facets_of t arc)
@@ -188,17 +211,32 @@ arcs_more t normals arcs k d old mid new list lt adds are is = λ facets before.
     let whole : flat_map (facets_of t) (take (k + 1) arcs) ≡ early ++ now = ap (flat_map (facets_of t)) (take_more arcs k d lt) ∙ sym (flat_map_more (facets_of t) [] (take k arcs) (get_or arcs k d)) in
     subst (λ l. AreNumbers normals l new) (append_assoc facets early now ∙ ap (λ l. facets ++ l) (sym whole)) (numbers_joined normals now mid list new are is (facets ++ early) (adds facets before))
 
-pub conditions_are : (t : Table) (normals : List V3) (witness : Witness) (none some all once : List ℕ) → none ≡ [] → AddsNumbers normals (flat_map (facets_of t) witness.outs) none some
-    → AddsNumbers normals (flat_map (facets_of t) witness.ins) some all → ((m : ℕ) → Contains once m ↔ Contains all m) → AreConditions t normals witness once
-conditions_are t normals witness none some all once empty outs ins same =
-    let first : AreNumbers normals [] none = subst (AreNumbers normals []) (sym empty) (record { from = λ k c. absurd (Contains-nothing k c); all = λ n c. absurd (Contains-nothing n c) }) in
-    let whole = ins (flat_map (facets_of t) witness.outs) (outs [] first) in
+pub arcs_none : (t : Table) (normals : List V3) (arcs : List Arc) (old : List ℕ) → AddsNumbers normals (flat_map (facets_of t) (take 0 arcs)) old old
+arcs_none t normals arcs old = λ facets before. subst (λ l. AreNumbers normals l old) (sym (append-nil facets)) before
+
+pub arcs_end : (t : Table) (normals : List V3) (arcs : List Arc) (k : ℕ) (old new : List ℕ) → length arcs ≤ k → AddsNumbers normals (flat_map (facets_of t) (take k arcs)) old new → AddsNumbers normals (flat_map (facets_of t) arcs) old new
+arcs_end t normals arcs k old new le adds = subst (λ l. AddsNumbers normals (flat_map (facets_of t) l) old new) (take_all k arcs le) adds
+
+pub witness_arcs : (t : Table) (normals : List V3) (witness : Witness) (outs ins : List Arc) (old mid new : List ℕ) (r : Result (Unit {0}) OutOfMemory) → outs ≡ witness.outs → ins ≡ witness.ins → AddsNumbers normals (flat_map (facets_of t) outs) old mid
+    → OnOk r (AddsNumbers normals (flat_map (facets_of t) ins) mid new) → OnOk r (AddsNumbers normals (asked_facets t witness) old new)
+witness_arcs t normals witness outs ins old mid new (Ok u) e f first second = λ facets before.
+    let some : AddsNumbers normals (flat_map (facets_of t) witness.outs) old mid = subst (λ l. AddsNumbers normals (flat_map (facets_of t) l) old mid) e first in
+    let more : AddsNumbers normals (flat_map (facets_of t) witness.ins) mid new = subst (λ l. AddsNumbers normals (flat_map (facets_of t) l) mid new) f second in
+    subst (λ l. AreNumbers normals l new) (append_assoc facets (flat_map (facets_of t) witness.outs) (flat_map (facets_of t) witness.ins)) (more (facets ++ flat_map (facets_of t) witness.outs) (some facets before))
+witness_arcs t normals witness outs ins old mid new (Err x) e f first second = tt
+
+pub conditions_are : (t : Table) (normals : List V3) (witness : Witness) (none all once : List ℕ) → none ≡ [] → AddsNumbers normals (asked_facets t witness) none all → ((m : ℕ) → Contains once m ↔ Contains all m) → AreConditions t normals witness once
+conditions_are t normals witness none all once empty adds same =
+    let whole = adds [] (no_numbers normals none empty) in
     record {
       from = λ m c. whole.from m ((same m).0 c);
       all = λ n c. let h = whole.all n c in record { number = h.number; listed = (same h.number).1 h.listed; at = h.at };
     }
 
 -- ---- lists for witnesses
+
+pub lists_none : (t : Table) (normals : List V3) (witnesses : List Witness) (lists : List (List ℕ)) → lists ≡ [] → AreLists t normals witnesses 0 lists
+lists_none t normals witnesses lists e = record { count = ap length e; each = λ m witness lt. absurd (omega (arith, lt)) }
 
 pub lists_more : (t : Table) (normals : List V3) (witnesses : List Witness) (lists more : List (List ℕ)) (list : List ℕ) (k : ℕ) (witness : Witness) → slice_get witnesses k ≡ Some witness → AreLists t normals witnesses k lists → AreConditions t normals witness list → more ≡ lists ++ list ∷ [] → AreLists t normals witnesses (k + 1) more
 lists_more t normals witnesses lists more list k witness at are conditions e = record {
@@ -211,6 +249,9 @@ lists_more t normals witnesses lists more list k witness at are conditions e = r
       subst (AreConditions t normals other) (sym last) (subst (λ w. AreConditions t normals w list) same conditions))
       (lt_one_more_cases m k lt));
 }
+
+pub lists_end : (t : Table) (normals : List V3) (witnesses : List Witness) (lists : List (List ℕ)) (k n : ℕ) → n ≤ k → k ≤ n → AreLists t normals witnesses k lists → AreLists t normals witnesses n lists
+lists_end t normals witnesses lists k n le ge are = subst (λ m. AreLists t normals witnesses m lists) (omega (arith, le, ge)) are
 
 pub numbers_small : (normals facets : List V3) (numbers : List ℕ) → AreNumbers normals facets numbers → All (λ k. k < length normals) numbers
 numbers_small normals facets numbers are = All-from_members (λ k. k < length normals) numbers (λ k c. let h = are.from k c in place_within normals k h.facet h.at)

@@ -1,12 +1,12 @@
 -- What is reached by arcs, one after another.
-use Rattle.std.proofs.Common.{◌≡◌, ◌⊎◌, ◌↔◌, inl, inr, ⊎_elim, ℕ, ◌+◌, ◌≤◌, sym, subst, List, length, map, drop, IsTrue}
+use Rattle.std.proofs.Common.{◌≡◌, ◌⊎◌, ◌↔◌, inl, inr, ⊎_elim, ℕ, ◌+◌, ◌≤◌, arith, sym, subst, List, length, map, drop, IsTrue}
 use Rattle.std.specs.Prelude.{Bool, false, Some, slice_get}
 use Rattle.std.specs.FinSet as set
 use Rattle.std.proofs.lemmas.Bool.{false≢true}
 use Rattle.staat_model.specs.declared.certificate.Arc.{Arc}
 use Rattle.staat_model.specs.declared.set.PartSet.{PartSet}
 use Rattle.staat_model.specs.Certificates.{ReachesAll}
-use Rattle.staat_model.specs.Sets.{Has, single}
+use Rattle.staat_model.specs.Sets.{Has, IsLeastOf, single}
 use Rattle.staat_model.proofs.SetMembers.{has-insert, has-single, has-union}
 use Rattle.staat_model.proofs.SetWords.{same_members}
 use Rattle.staat_check.specs.Reaching.{ReachesNew}
@@ -43,3 +43,10 @@ module _ (step : Arc → ℕ × ℕ) (w start : PartSet) (arcs : List Arc) where
     λ t. law.0 (subst (λ l. ReachesAll w old (map step l)) (sym (drop_end arcs k le)) (same.0 t)),
     λ h. same.1 (subst (λ l. ReachesAll w old (map step l)) (drop_end arcs k le) (law.1 h)),
   )
+
+-- ---- from the least part, which is one
+
+pub reach_as : (step : Arc → ℕ × ℕ) (w : PartSet) (p q : ℕ) (arcs others : List Arc) → IsLeastOf w p → IsLeastOf w q → arcs ≡ others → ReachesAll w (single p) (map step arcs) → ReachesAll w (single q) (map step others)
+reach_as step w p q arcs others a b e h =
+    let same : p ≡ q = omega (arith, a.least q b.has, b.least p a.has) in
+    subst (λ n. ReachesAll w (single n) (map step others)) same (subst (λ l. ReachesAll w (single p) (map step l)) e h)

@@ -1,10 +1,12 @@
 -- The rules of a refusal, by what was found of them.
-use Rattle.std.proofs.Common.{◌≡◌, ◌↔◌, inl, inr, ⊎_elim, ℕ, ◌+◌, ◌*◌, ◌<◌, ◌≤◌, arith, refl, sym, ap, subst, ◌∙◌, List, [], length, take, get_or, All, Contains}
-use Rattle.std.specs.Prelude.{Option, None, Some, slice_index_or, MatchOption, sum_by}
+use Rattle.std.proofs.Common.{◌≡◌, ◌↔◌, inl, inr, ⊎_elim, ℕ, ◌+◌, ◌*◌, ◌<◌, ◌≤◌, arith, refl, sym, ap, subst, ◌∙◌, pos, List, [], ◌∷◌, ◌++◌, map, length, take, get_or, All, Contains}
+use Rattle.staat_vec.specs.declared.memory.OutOfMemory.{OutOfMemory}
+use Rattle.std.specs.Prelude.{Err, IfOk, Ok, Option, None, Result, Some, slice_index_or, MatchOption, sum_by}
 use Rattle.std.specs.FinSet as set
+use Rattle.std.proofs.lemmas.List.{map-append, take_more}
 use Rattle.std.proofs.lemmas.List.Elements.{All-contains, All-weaker}
 use Rattle.std.proofs.lemmas.Option.{slice_get-get_or}
-use Rattle.std.proofs.lemmas.List.Sums.{sum_by-le}
+use Rattle.std.proofs.lemmas.List.Sums.{sum_by-le, sum_by_more, sum_by_more_le}
 use Rattle.staat_vec.specs.declared.vector.V3.{V3}
 use Rattle.staat_vec.specs.declared.vector.TheConstants.{DIRECTION}
 use Rattle.staat_vec.specs.Lists.{FailsFirst, IsFirst, Lists}
@@ -32,7 +34,7 @@ use Rattle.staat_model.proofs.SetMembers.{has-difference}
 use Rattle.staat_model.proofs.ListedVertices.{all_listed}
 use Rattle.staat_pairs.specs.Tables.{IsTableArc, Table, WasMadeFrom}
 use Rattle.staat_check.specs.Conditions.{AreLists, IsAcrossAll, IsFitDir, LeadsAhead, asked_facets}
-use Rattle.staat_check.specs.Verdicts.{IsRefusalVerdict}
+use Rattle.staat_check.specs.Verdicts.{IsRefusalVerdict, IsSaidBy}
 use Rattle.staat_check.proofs.ConditionLemmas.{facets_law, numbers_law, numbers_small}
 use Rattle.staat_check.proofs.ReadLemmas.{more_all}
 use Rattle.staat_vec.proofs.Naturals.{le_or_lt}
@@ -125,6 +127,13 @@ few_lines witnesses each few =
     let most : length witnesses * 63 ≤ 33554432 * 63 = omega (arith, few) in
     omega (arith, sizes, most)
 
+pub lines_fit : (witnesses : List Witness) (k lines : ℕ) (w : Witness) → k < length witnesses → w ≡ get_or witnesses k w → lines ≡ sum_by witness_size (take k witnesses) → lines + witness_size w ≤ sum_by witness_size witnesses
+lines_fit witnesses k lines w lt is e = omega (arith, e, ap witness_size is, sum_by_more_le witness_size witnesses k w lt)
+
+pub lines_more : (witnesses : List Witness) (k lines : ℕ) (w : Witness) (outs ins : List Arc) → k < length witnesses → w ≡ get_or witnesses k w → outs ≡ w.outs → ins ≡ w.ins → lines ≡ sum_by witness_size (take k witnesses)
+    → lines + (1 + length outs + length ins) ≡ sum_by witness_size (take (k + 1) witnesses)
+lines_more witnesses k lines w outs ins lt is outs_are ins_are e = omega (arith, e, ap length outs_are, ap length ins_are, ap witness_size is, sum_by_more witness_size witnesses k w lt)
+
 -- ---- reasons
 
 module _ (parts : List Part) (w : PartSet) (witnesses : List Witness) (dirs : List Dir) (set_is : IsStuckSet parts w) (trees : All (IsWitness parts w) witnesses) where
@@ -147,12 +156,28 @@ planes_not_parallel parts t made = planes_apart parts t.of t.planes made.planes
 
 -- ---- directions
 
+abbrev pub no_dir : Dir
+no_dir = record { d = record { x = pos 0; y = pos 0; z = pos 0 }; witness = 0 }
+
+pub dirs_more : (dirs : List Dir) (k : ℕ) (e : Dir) (old new : List V3) → k < length dirs → old ≡ map (λ (dir : Dir). dir.d) (take k dirs) → new ≡ old ++ (get_or dirs k e).d ∷ [] → new ≡ map (λ (dir : Dir). dir.d) (take (k + 1) dirs)
+dirs_more dirs k e old new lt are is =
+    is ∙ ap (λ l. l ++ (get_or dirs k e).d ∷ []) are ∙ sym (ap (λ l. map (λ (dir : Dir). dir.d) l) (take_more dirs k e lt) ∙ map-append (λ (dir : Dir). dir.d) (take k dirs) (get_or dirs k e ∷ []))
+
 pub next_line : (directions : List V3) (dirs : List Dir) (found k : ℕ) (u : V3) (e : Dir) → found < length directions → k < length dirs → get_or directions found u ≡ (get_or dirs k e).d → All (HasLine dirs) (take found directions) → All (HasLine dirs) (take (found + 1) directions)
 next_line directions dirs found k u e lt in_dirs same all =
     let x : Dir = get_or dirs k e in
     let c : Contains dirs x = from_place dirs k x (slice_get-get_or dirs k e in_dirs) in
     more_all (HasLine dirs) directions found (get_or directions found u) (slice_get-get_or directions found u lt) all (subst (HasLine dirs) (sym same) (Contains-map (λ (dir : Dir). dir.d) dirs x c))
 
-pub each_listed : (version : ℕ) (planes given ds wanted : List V3) (dirs : List Dir) → given ≡ planes → wanted ≡ ds → NoneParallel planes → Lists vector_cmp (IsDirection version given) ds → All (HasLine dirs) wanted → All (IsListed version dirs) (vertices planes)
-each_listed version planes given ds wanted dirs e is apart lists all =
-    all_listed version planes dirs apart (λ v d. All-contains (HasLine dirs) wanted v all (subst (λ l. Contains l v) (sym is) (lists.all v (subst (λ ps. IsDirection version ps v) (sym e) d))))
+pub each_listed : (version : ℕ) (planes ds wanted : List V3) (dirs : List Dir) → wanted ≡ ds → NoneParallel planes → Lists vector_cmp (IsDirection version planes) ds → All (HasLine dirs) wanted → All (IsListed version dirs) (vertices planes)
+each_listed version planes ds wanted dirs is apart lists all =
+    all_listed version planes dirs apart (λ v d. All-contains (HasLine dirs) wanted v all (subst (λ l. Contains l v) (sym is) (lists.all v d)))
+
+-- ---- what is said by a table
+
+pub said_by : (parts : List Part) (t : Table) (w : PartSet) (version : ℕ) (witnesses : List Witness) (dirs : List Dir) (r : Result Verdict OutOfMemory) → IfOk r (IsSaidBy t version witnesses dirs) → t.of ≡ w → WasMadeFrom parts t → IsStuckSet parts w → All (IsWitness parts w) witnesses
+    → IfOk r (IsRefusalVerdict parts version (length parts) w witnesses dirs)
+said_by parts t w version witnesses dirs (Ok v) said e made stuck trees =
+    subst (λ s. IsRefusalVerdict parts version (length parts) s witnesses dirs v) e
+    (said parts made (subst (IsStuckSet parts) (sym e) stuck) (subst (λ s. All (IsWitness parts s) witnesses) (sym e) trees))
+said_by parts t w version witnesses dirs (Err x) said e made stuck trees = tt

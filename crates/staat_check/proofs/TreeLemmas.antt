@@ -1,9 +1,9 @@
 -- The splits of a plan, one node after another.
-use Rattle.std.proofs.Common.{◌≡◌, ℕ, suc, ◌+◌, ◌≤◌, arith, refl, sym, ap, subst, ◌∙◌, List, [], ◌∷◌, ◌++◌, length, take, drop, append_assoc, append-nil, length-append, All}
-use Rattle.std.specs.Prelude.{Some, None, slice_get, sum_by}
+use Rattle.std.proofs.Common.{◌≡◌, ℕ, suc, ◌+◌, ◌^◌, ◌<◌, ◌≤◌, arith, refl, sym, ap, subst, ◌∙◌, List, [], ◌∷◌, ◌++◌, length, take, drop, append_assoc, append-nil, length-append, All}
+use Rattle.std.specs.Prelude.{MatchOption, None, Option, Some, slice_get, sum_by}
 use Rattle.std.proofs.Math.Seq.{drop-append_seam}
 use Rattle.std.proofs.lemmas.List.Elements.{All-append, All-cons, All-nil}
-use Rattle.std.proofs.lemmas.List.Sums.{sum_by-append, sum_by-cons, sum_by-take-drop}
+use Rattle.std.proofs.lemmas.List.Sums.{sum_by-append, sum_by-cons, sum_by-take-drop, sum_by-take-le}
 use Rattle.staat_vec.specs.declared.vector.V3.{V3}
 use Rattle.staat_model.specs.declared.assembly.Part.{Part}
 use Rattle.staat_model.specs.declared.certificate.Node.{Node}
@@ -130,6 +130,9 @@ line_next nodes k node at =
     let cut : sum_by node_size (drop k nodes) ≡ node_size node + sum_by node_size (drop (k + 1) nodes) = ap (sum_by node_size) (drop_at nodes k node at) ∙ sum_by-cons node_size node (drop (k + 1) nodes) in
     omega (arith, before, after, cut)
 
+pub lines_left : (parts : List Part) (nodes : List Node) (k line : ℕ) (node : Node) → slice_get nodes k ≡ Some node → AreJudged parts nodes k line → first_line + sum_by node_size nodes < 2 ^ 32 → line + node_size node < 2 ^ 32
+lines_left parts nodes k line node at are few = omega (arith, are.line_is, line_next nodes k node at, sum_by-take-le node_size nodes (k + 1), few)
+
 pub judged_none : (parts : List Part) (nodes : List Node) → AreJudged parts nodes 0 first_line
 judged_none parts nodes = record {
   line_is = refl;
@@ -165,3 +168,16 @@ judged_all parts nodes k line le are t e = let r = are.remains t e in
         → All (EntryHolds parts) before → All (EntryHolds parts) (splits_of t 0 first_line)
     go [] before f is hold = subst (All (EntryHolds parts)) (sym (is ∙ append-nil before)) hold
     go (u ∷ ts) before f is hold = absurd (not_nil_append (nodes_of u) (forest_nodes ts) (nodes_some u) f)
+
+-- ---- what is said of a split
+
+pub split_answer : (parts : List Part) (node : Node) (behind : List Node) (number line : ℕ) (d : V3) (seps given : List Sep) (moved rest : PartSet) (answer : Option Reason) → node ≡ Split d seps → given ≡ seps → AreSides parts behind moved rest
+    → MatchOption answer (SplitHolds parts moved rest d given) (IsSplitReason parts (record { node = number; line = line; moved = moved; rest = rest; d = d; seps = given })) → IsNodeAnswer parts node behind number line answer
+split_answer parts node behind number line d seps given moved rest answer is same sides said = subst (λ n. IsNodeAnswer parts n behind number line answer) (sym is) (λ m r more e.
+    let both = sides.are m r more e in
+    said_as (walled_parts m) (walled_parts r) both.0 both.1)
+  where
+    said_as : (s t : PartSet) → moved ≡ s → rest ≡ t → MatchOption answer (SplitHolds parts s t d seps) (IsSplitReason parts (record { node = number; line = line; moved = s; rest = t; d = d; seps = seps }))
+    said_as s t e f = subst (λ x. MatchOption answer (SplitHolds parts x t d seps) (IsSplitReason parts (record { node = number; line = line; moved = x; rest = t; d = d; seps = seps }))) e
+        (subst (λ x. MatchOption answer (SplitHolds parts moved x d seps) (IsSplitReason parts (record { node = number; line = line; moved = moved; rest = x; d = d; seps = seps }))) f
+        (subst (λ l. MatchOption answer (SplitHolds parts moved rest d l) (IsSplitReason parts (record { node = number; line = line; moved = moved; rest = rest; d = d; seps = l }))) same said))

@@ -93,3 +93,10 @@ known_by_canon version listed v two = go (canon-either v)
 
 pub known_alone : (version : ℕ) (listed : List V3) (v : V3) → version ≢ 2 → Contains listed v ↔ IsKnown version listed v
 known_alone version listed v other = (λ c. inl c, ⊎_elim {C = Contains listed v} (λ c. c) (λ h. absurd (other h.0)))
+
+-- and a line serves both
+pub known_opposite : (version : ℕ) (listed : List V3) (v : V3) → version ≡ 2 → IsKnown version listed v → IsKnown version listed (negative v)
+known_opposite version listed v two known = ⊎_elim {C = IsKnown version listed (negative v)}
+    (λ c. inr (two, subst (Contains listed) (sym (negative-negative v)) c))
+    (λ h. inl h.1)
+    known

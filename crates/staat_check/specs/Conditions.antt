@@ -1,5 +1,6 @@
 -- What a witness asks of the directions that name it.
 use Rattle.std.specs.Prelude.{◌≡◌, ◌⊎◌, ◌<◌, ℕ, ◌<ℤ◌, ◌++◌, []}
+use Rattle.std.specs.Prelude.{Bool, false, true}
 use Rattle.std.specs.Prelude.{pos, List, All, Contains, flat_map, length, map, Some, slice_get, slice_index_or}
 use Rattle.staat_vec.specs.declared.vector.V3.{V3}
 use Rattle.staat_vec.specs.declared.vector.TheConstants.{DIRECTION}
@@ -56,6 +57,18 @@ facets_at t slot = slice_index_or t.facets slot []
 
 abbrev pub opposites_at : Table → ℕ → List V3
 opposites_at t slot = map negative (facets_at t slot)
+
+-- a vector or, if it is turned, its opposite
+abbrev pub turned_if : Bool → V3 → V3
+turned_if false v = v
+turned_if true v = negative v
+
+abbrev pub turned_all : Bool → List V3 → List V3
+turned_all false vs = vs
+turned_all true vs = map negative vs
+
+abbrev pub turned_at : Bool → Table → ℕ → List V3
+turned_at turned t slot = turned_all turned (facets_at t slot)
 
 -- a list for each of the first k slots: the numbers of the vectors there, if all of these are among the normals
 pub record AreSlotNumbers (normals : List V3) (at : ℕ → List V3) (k : ℕ) (lists : List (List ℕ)) : Type 0 where

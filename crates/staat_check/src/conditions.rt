@@ -1,13 +1,13 @@
 // What the witnesses ask of directions: the facets of their arcs, by their numbers, each once.
 ghost use Rattle.std.specs.Prelude.{◌≡◌, ◌↔◌, ℕ};
-ghost use Rattle.std.specs.Prelude.{All, Contains, IfOk, OnOk, Some, flat_map, length, map, slice_get};
+ghost use Rattle.std.specs.Prelude.{All, Contains, IfOk, OnOk, Some, flat_map, length, slice_get};
 ghost use Rattle.std.specs.List.Sorted.{IsStrictlySortedBy};
 ghost use Rattle.staat_vec.specs.Lists.{Lists};
 ghost use Rattle.staat_vec.specs.Vectors.{IsWithin, negative, vector_cmp};
 ghost use Rattle.staat_pairs.specs.Tables.{IsTableArc, facets_of};
 ghost use Rattle.staat_check.specs.Conditions.{AddsNumbers, AreConditions, AreLists, AreNumbers, AreSlotNumbers};
 ghost use Rattle.staat_check.specs.Conditions.{AreFacetNumbers, HasOpposites, IsAcrossAll, IsEitherOf};
-ghost use Rattle.staat_check.specs.Conditions.{facets_at, opposites_at};
+ghost use Rattle.staat_check.specs.Conditions.{asked_facets, turned_all, turned_at, turned_if};
 ghost use Rattle.staat_check.specs.Negatives.{AddsNegatives};
 
 use staat_model::{Arc, Witness};
@@ -61,70 +61,55 @@ fn number_of_opposite(normals: &[V3], v: V3) -> usize
     }
 }
 
-// where the facets stand among the ascending normals, if they do
-fn numbers_of(alloc: Global, normals: &[V3], facets: &[V3]) -> Result<Vec<usize>, OutOfMemory>
-    requires { IsStrictlySortedBy vector_cmp normals.now }
-    ensures { IfOk result (λ numbers. All (Contains normals.now) facets.now
-        → AreNumbers normals.now facets.now numbers.items) }
-{
-    let mut numbers = Vec::new(alloc);
-    for facet in facets {
-        numbers.push(number_of_normal(normals, *facet))?;
-    }
-    Ok(numbers)
-}
-
-// where their opposites stand, if they do
-fn numbers_of_opposites(
-    alloc: Global,
-    normals: &[V3],
-    facets: &[V3],
-) -> Result<Vec<usize>, OutOfMemory>
+// where the vector stands among the ascending normals, or its opposite, if it does
+fn number_of(normals: &[V3], v: V3, turned: bool) -> usize
     requires ascending { IsStrictlySortedBy vector_cmp normals.now }
     requires size { All (IsWithin NORMAL) normals.now }
     requires opposites { HasOpposites normals.now }
-    ensures { IfOk result (λ numbers. All (Contains normals.now) (map negative facets.now)
-        → AreNumbers normals.now (map negative facets.now) numbers.items) }
+    ensures { Contains normals.now (turned_if turned v) → slice_get normals.now result ≡ Some (turned_if turned v) }
+{
+    if turned {
+        number_of_opposite(normals, v)
+    } else {
+        number_of_normal(normals, v)
+    }
+}
+
+// where the facets stand among the ascending normals, or their opposites, if they do
+fn numbers_of(
+    alloc: Global,
+    normals: &[V3],
+    facets: &[V3],
+    turned: bool,
+) -> Result<Listed<usize>, OutOfMemory>
+    requires ascending { IsStrictlySortedBy vector_cmp normals.now }
+    requires size { All (IsWithin NORMAL) normals.now }
+    requires opposites { HasOpposites normals.now }
+    ensures { IfOk result (λ numbers. All (Contains normals.now) (turned_all turned facets.now)
+        → AreNumbers normals.now (turned_all turned facets.now) numbers) }
 {
     let mut numbers = Vec::new(alloc);
     for facet in facets {
-        numbers.push(number_of_opposite(normals, *facet))?;
+        numbers.push(number_of(normals, *facet, turned))?;
     }
-    Ok(numbers)
+    Ok(Listed::from_vec(numbers))
 }
 
-// for each slot of the table the numbers of its facets
+// for each slot of the table the numbers of its facets, or of their opposites
 fn slot_numbers(
     alloc: Global,
     table: &FacetTable,
     normals: &[V3],
-) -> Result<Vec<Listed<usize>>, OutOfMemory>
-    requires { IsStrictlySortedBy vector_cmp normals.now }
-    ensures { IfOk result (λ lists. AreSlotNumbers normals.now (facets_at table.now) SLOTS lists.items) }
-{
-    let mut lists = Vec::new(alloc);
-    for slot in 0..SLOTS {
-        let numbers = numbers_of(alloc, normals, table.facets_at(slot))?;
-        lists.push(Listed::from_vec(numbers))?;
-    }
-    Ok(lists)
-}
-
-// for each slot of the table the numbers of the opposites of its facets
-fn slot_numbers_of_opposites(
-    alloc: Global,
-    table: &FacetTable,
-    normals: &[V3],
+    turned: bool,
 ) -> Result<Vec<Listed<usize>>, OutOfMemory>
     requires ascending { IsStrictlySortedBy vector_cmp normals.now }
     requires size { All (IsWithin NORMAL) normals.now }
     requires opposites { HasOpposites normals.now }
-    ensures { IfOk result (λ lists. AreSlotNumbers normals.now (opposites_at table.now) SLOTS lists.items) }
+    ensures { IfOk result (λ lists. AreSlotNumbers normals.now (turned_at turned table.now) SLOTS lists.items) }
 {
     let mut lists = Vec::new(alloc);
     for slot in 0..SLOTS {
-        let numbers = numbers_of_opposites(alloc, normals, table.facets_at(slot))?;
-        lists.push(Listed::from_vec(numbers))?;
+        lists.push(numbers_of(alloc, normals, table.facets_at(slot), turned)?)?;
     }
     Ok(lists)
 }
@@ -143,8 +128,8 @@ pub fn facet_numbers(alloc: Global, table: &FacetTable) -> Result<FacetNumbers, 
     ensures { IfOk result (AreFacetNumbers table.now) }
 {
     let normals = both_normals(alloc, table.planes())?;
-    let kept = slot_numbers(alloc, table, normals.as_slice())?;
-    let opposite = slot_numbers_of_opposites(alloc, table, normals.as_slice())?;
+    let kept = slot_numbers(alloc, table, normals.as_slice(), false)?;
+    let opposite = slot_numbers(alloc, table, normals.as_slice(), true)?;
     Ok(FacetNumbers {
         normals,
         kept,
@@ -185,13 +170,29 @@ fn push_arcs(
     Ok(())
 }
 
+// adds those of all arcs of a witness
+fn push_witness(
+    table: &FacetTable,
+    facets: &FacetNumbers,
+    witness: &Witness,
+    numbers: &mut Vec<usize>,
+) -> Result<(), OutOfMemory>
+    requires numbers { AreFacetNumbers table.now facets.now }
+    requires across { IsAcrossAll table.now witness.now }
+    ensures { OnOk result (AddsNumbers facets.now.normals.items (asked_facets table.now witness.now)
+        numbers.old.items numbers.new.items) }
+{
+    push_arcs(table, facets, witness.outs.as_slice(), numbers)?;
+    push_arcs(table, facets, witness.ins.as_slice(), numbers)
+}
+
 // the numbers, each once
-fn each_once(mut numbers: Vec<usize>) -> Vec<usize>
-    ensures { (k : ℕ) → Contains result.items k ↔ Contains numbers.items k }
+fn each_once(mut numbers: Vec<usize>) -> Listed<usize>
+    ensures { (k : ℕ) → Contains result k ↔ Contains numbers.items k }
 {
     numbers.sort_unstable();
     numbers.dedup();
-    numbers
+    Listed::from_vec(numbers)
 }
 
 // the numbers of the facets of all arcs of a witness, each once
@@ -200,14 +201,13 @@ fn conditions(
     table: &FacetTable,
     facets: &FacetNumbers,
     witness: &Witness,
-) -> Result<Vec<usize>, OutOfMemory>
+) -> Result<Listed<usize>, OutOfMemory>
     requires numbers { AreFacetNumbers table.now facets.now }
     requires across { IsAcrossAll table.now witness.now }
-    ensures { IfOk result (λ numbers. AreConditions table.now facets.now.normals.items witness.now numbers.items) }
+    ensures { IfOk result (AreConditions table.now facets.now.normals.items witness.now) }
 {
     let mut numbers = Vec::new(alloc);
-    push_arcs(table, facets, witness.outs.as_slice(), &mut numbers)?;
-    push_arcs(table, facets, witness.ins.as_slice(), &mut numbers)?;
+    push_witness(table, facets, witness, &mut numbers)?;
     Ok(each_once(numbers))
 }
 
@@ -225,8 +225,7 @@ pub fn all_conditions(
 {
     let mut lists = Vec::new(alloc);
     for witness in witnesses {
-        let numbers = conditions(alloc, table, facets, witness)?;
-        lists.push(Listed::from_vec(numbers))?;
+        lists.push(conditions(alloc, table, facets, witness)?)?;
     }
     Ok(lists)
 }

@@ -22,7 +22,12 @@ pub fn is_within(v: V3, bound: u128) -> bool
 pub fn are_small(normals: &[V3]) -> bool
     ensures { IsTrue result ↔ All (IsWithin SMALL_NORMAL) normals.now }
 {
-    normals.iter().all(|n| is_within(*n, SMALL_NORMAL))
+    for n in normals {
+        if !is_within(*n, SMALL_NORMAL) {
+            return false;
+        }
+    }
+    true
 }
 
 // the exact product of two components

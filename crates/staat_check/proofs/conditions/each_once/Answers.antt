@@ -6,7 +6,8 @@ use Rattle.staat_check.proofs.conditions.each_once.Goals as goal
 pub returns : goal.returns
 returns c = λ k.
     let is = dedup_is _ _ _ c.dedup.ensures.filtered in
-    let moved = c.sort_unstable.ensures.permutation in (
-      λ h. Contains-permutation _ _ k (IsPermutation-sym _ _ moved) (Contains-from_dedup _ _ k (rw is at h)),
-      λ h. rw is (Contains-dedup_nat _ k (Contains-permutation _ _ k moved h)),
+    let moved = c.sort_unstable.ensures.permutation in
+    let same = c.from_vec.ensures in (
+      λ h. Contains-permutation _ _ k (IsPermutation-sym _ _ moved) (Contains-from_dedup _ _ k (rw is at (rw same at h))),
+      λ h. rw same (rw is (Contains-dedup_nat _ k (Contains-permutation _ _ k moved h))),
     )

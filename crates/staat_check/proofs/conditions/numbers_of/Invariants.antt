@@ -1,6 +1,7 @@
 use Rattle.std.proofs.Common.{take, All, Contains}
-use Rattle.staat_check.specs.Conditions.{AreNumbers}
+use Rattle.staat_check.specs.Conditions.{AreNumbers, turned_all}
 use Rattle.staat_check.proofs.conditions.numbers_of.Given as goal
 
 abbrev pub invariant-loop-facet : goal.invariant-loop-facet
-invariant-loop-facet l = All (Contains l.normals) (take l.facet-index l.facets) → AreNumbers l.normals (take l.facet-index l.facets) l.numbers.items
+invariant-loop-facet l =
+    All (Contains l.normals) (take l.facet-index (turned_all l.turned l.facets)) → AreNumbers l.normals (take l.facet-index (turned_all l.turned l.facets)) l.numbers.items

@@ -14,3 +14,12 @@ loop-k-preserved c = plane_next c.args.version c.args.listed.now _ c.args.planes
 
 pub returns : goal.returns
 returns c = plane_end c.args.version c.args.listed.now c.args.planes.now c.loop-k.k c.loop-k-test.false c.loop-k.invariant
+
+pub loop-k-init : goal.loop-k-init
+loop-k-init c = record { all = λ all. all; first = λ v first. first }
+
+pub unknown_crossing-requires-clause-ascending : goal.unknown_crossing-requires-clause-ascending
+unknown_crossing-requires-clause-ascending c = c.requires.ascending
+
+pub unknown_crossing-requires-clause-g : goal.unknown_crossing-requires-clause-g
+unknown_crossing-requires-clause-g c = c.requires.planes c.loop-k.k _ c.loop-k-test.true

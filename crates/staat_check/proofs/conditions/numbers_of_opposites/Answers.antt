@@ -1,9 +1,0 @@
-use Rattle.staat_vec.specs.Vectors.{origin}
-use Rattle.staat_check.proofs.ConditionLemmas.{opposites_end, opposites_more}
-use Rattle.staat_check.proofs.conditions.numbers_of_opposites.Goals as goal
-
-pub loop-facet-preserved : goal.loop-facet-preserved
-loop-facet-preserved c = opposites_more c.args.normals.now c.args.facets.now c.loop-facet.numbers.items c.push.new.self.items c.loop-facet.facet-index c.number_of_opposite.result origin c.loop-facet-test.true c.loop-facet.invariant c.number_of_opposite.ensures c.in_ok-push.ensures.items
-
-pub returns : goal.returns
-returns c = opposites_end c.args.normals.now c.args.facets.now c.loop-facet.numbers.items c.loop-facet.facet-index c.loop-facet-test.false c.loop-facet.invariant
