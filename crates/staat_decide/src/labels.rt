@@ -2,7 +2,7 @@
 // found by two walks: one against the arcs, which tells in what order parts are done with, and one along them.
 use crate::arcs::Row;
 use crate::reach::Way;
-use crate::spreading::{is_marked, mark, no_marks};
+use crate::spreading::{is_marked, mark};
 use staat_vec::OutOfMemory;
 use std::alloc::Global;
 
@@ -87,17 +87,9 @@ fn walk_from(rows: &[Row], way: Way, walk: &mut ArcWalk, root: usize) -> Result<
     Ok(())
 }
 
-// a walk over so many places that has seen none
-fn walk_over(alloc: Global, count: usize) -> Result<ArcWalk, OutOfMemory> {
-    Ok(ArcWalk {
-        seen: no_marks(alloc, count)?,
-        path: Vec::new(alloc),
-        done: Vec::new(alloc),
-    })
-}
-
 // walks against the arcs until it is done with all places
 fn walk_back(rows: &[Row], walk: &mut ArcWalk) -> Result<(), OutOfMemory> {
+    walk.seen.resize(rows.len(), false)?;
     for root in 0..rows.len() {
         walk_from(rows, Way::Back, walk, root)?;
     }
@@ -133,23 +125,34 @@ fn label_from(
     Ok(())
 }
 
-// labels by walks along arcs from the places that the walk was done with, the last of them first
-fn labels_along(alloc: Global, rows: &[Row], walk: &mut ArcWalk) -> Result<Labels, OutOfMemory> {
-    let mut labels = Labels {
-        of: vec![in alloc; 0; rows.len()]?,
-        count: 0,
-    };
-    let count = walk.done.len();
+// gives labels by walks along arcs from the places that the walk was done with, the last of them first
+fn label_along(rows: &[Row], walk: &mut ArcWalk, labels: &mut Labels) -> Result<(), OutOfMemory> {
+    labels.of.resize(rows.len(), 0)?;
     walk.seen.as_mut_slice().fill(false);
+    let count = walk.done.len();
     for k in 0..count {
-        label_from(rows, walk, count - 1 - k, &mut labels)?;
+        label_from(rows, walk, count - 1 - k, labels)?;
     }
-    Ok(labels)
+    Ok(())
+}
+
+// gives each part a label, of which there are none yet
+fn label_all(alloc: Global, rows: &[Row], labels: &mut Labels) -> Result<(), OutOfMemory> {
+    let mut walk = ArcWalk {
+        seen: Vec::new(alloc),
+        path: Vec::new(alloc),
+        done: Vec::new(alloc),
+    };
+    walk_back(rows, &mut walk)?;
+    label_along(rows, &mut walk, labels)
 }
 
 /// Labels of parts, of which the rows are given, so that no arc should lead to a greater one.
 pub fn labels_of(alloc: Global, rows: &[Row]) -> Result<Labels, OutOfMemory> {
-    let mut walk = walk_over(alloc, rows.len())?;
-    walk_back(rows, &mut walk)?;
-    labels_along(alloc, rows, &mut walk)
+    let mut labels = Labels {
+        of: Vec::new(alloc),
+        count: 0,
+    };
+    label_all(alloc, rows, &mut labels)?;
+    Ok(labels)
 }

@@ -7,8 +7,8 @@ use Rattle.staat_decide.proofs.arcs.row_of.Goals as goal
 
 pub loop-b-preserved : goal.loop-b-preserved
 loop-b-preserved g c =
-    let parts = c.args.parts.now in
-    let d = c.args.along.now.d in
+    let parts = c.args.view.now.parts.now in
+    let d = c.args.view.now.along.now.d in
     let w = c.args.w.now in
     let i = c.loop-b.b-index in
     record {
@@ -20,10 +20,10 @@ loop-b-preserved g c =
 
 pub returns : goal.returns
 returns g c =
-    let row = subst (λ (ws : List ℕ). IsRow c.args.parts.now c.args.along.now.d ws c.args.a c.loop-b.row.items)
+    let row = subst (λ (ws : List ℕ). IsRow c.args.view.now.parts.now c.args.view.now.along.now.d ws c.args.a c.loop-b.row.items)
     (take_all c.loop-b.b-index c.args.w.now c.loop-b-test.false) c.loop-b.invariant.row in
     record {
       some = c.loop-b.invariant.some;
       kept = c.loop-b.invariant.kept;
-      row = subst (IsRow c.args.parts.now c.args.along.now.d c.args.w.now c.args.a) (sym c.from_vec.ensures) row;
+      row = subst (IsRow c.args.view.now.parts.now c.args.view.now.along.now.d c.args.w.now c.args.a) (sym c.from_vec.ensures) row;
     }

@@ -16,8 +16,8 @@ row_of-requires g c = record {
 
 pub loop-a-preserved : goal.loop-a-preserved
 loop-a-preserved g c =
-    let parts = c.args.parts.now in
-    let d = c.args.along.now.d in
+    let parts = c.args.view.now.parts.now in
+    let d = c.args.view.now.along.now.d in
     let w = c.args.w.now in
     let i = c.loop-a.a-index in
     record {
@@ -33,6 +33,6 @@ returns g c =
     record {
       some = c.loop-a.invariant.some;
       kept = c.loop-a.invariant.kept;
-      rows = subst (λ (ws : List ℕ). AllZip (IsRow c.args.parts.now c.args.along.now.d w) ws c.loop-a.rows.items)
+      rows = subst (λ (ws : List ℕ). AllZip (IsRow c.args.view.now.parts.now c.args.view.now.along.now.d w) ws c.loop-a.rows.items)
           (take_all c.loop-a.a-index w c.loop-a-test.false) c.loop-a.invariant.rows;
     }
