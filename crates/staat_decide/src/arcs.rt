@@ -33,8 +33,7 @@ fn row_of<F: FacetSource>(
 {
     let mut row = Vec::new(view.alloc);
     for b in w {
-        let answer = blocks_with(table, view, a, *b)?;
-        row.push(answer)?;
+        row.push(blocks_with(table, view, a, *b)?)?;
     }
     Ok(Row::from_vec(row))
 }
@@ -55,8 +54,7 @@ pub fn rows_with<F: FacetSource>(
 {
     let mut rows = Vec::new(view.alloc);
     for a in w {
-        let row = row_of(table, view, w, *a)?;
-        rows.push(row)?;
+        rows.push(row_of(table, view, w, *a)?)?;
     }
     Ok(rows)
 }

@@ -77,7 +77,26 @@ fn ask_along<F: FacetSource>(
     Ok(false)
 }
 
-/// What is asked along likely directions: the axes, and where none of them takes all parts apart some more.
+// asks along likely directions: the axes, and where none of them takes all parts apart some more
+fn ask_all<F: FacetSource>(
+    asked: &mut Vec<AskedRows>,
+    scene: &Scene<F>,
+    all: &[u32],
+) -> Result<bool, OutOfMemory>
+    requires bodies { AreBodies scene.now.parts.now scene.now.bodies.now }
+    requires all { all.now ≡ range_with_len 0 (length scene.now.parts.now) }
+    requires asked { All (AreAskedRows scene.now.parts.now) asked.old.items }
+    ensures { OnOk result (All (AreAskedRows scene.now.parts.now) asked.new.items) }
+{
+    let mut table = table_for(scene.alloc, scene.parts)?;
+    if ask_along(asked, &mut table, scene, all, &AXES)? {
+        return Ok(true);
+    }
+    let more = likely_directions(scene.alloc, scene.source, scene.parts, all)?;
+    ask_along(asked, &mut table, scene, all, more.as_slice())
+}
+
+/// What is asked along likely directions.
 pub fn asked_of<F: FacetSource>(
     scene: &Scene<F>,
     all: &[u32],
@@ -87,11 +106,6 @@ pub fn asked_of<F: FacetSource>(
     ensures { IfOk result (λ asked. All (AreAskedRows scene.now.parts.now) asked.items) }
 {
     let mut asked = Vec::new(scene.alloc);
-    let mut table = table_for(scene.alloc, scene.parts)?;
-    if ask_along(&mut asked, &mut table, scene, all, &AXES)? {
-        return Ok(asked);
-    }
-    let more = likely_directions(scene.alloc, scene.source, scene.parts, all)?;
-    ask_along(&mut asked, &mut table, scene, all, more.as_slice())?;
+    ask_all(&mut asked, scene, all)?;
     Ok(asked)
 }

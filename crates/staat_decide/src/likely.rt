@@ -108,8 +108,7 @@ fn picked_rows(alloc: Global, rows: &[Row], w: &[u32]) -> Result<Vec<Row>, OutOf
     let mut picked = Vec::new(alloc);
     for a in w {
         let row = &rows[*a as usize];
-        let some = picked_row(alloc, row.as_slice(), w)?;
-        picked.push(some)?;
+        picked.push(picked_row(alloc, row.as_slice(), w)?)?;
     }
     Ok(picked)
 }

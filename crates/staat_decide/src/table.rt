@@ -1,7 +1,6 @@
 // The facets of pairs of pieces, kept so that they are found once for all directions. Each pair has a slot, which it
 // may share with others: that which was asked about last is kept.
-ghost use Rattle.std.specs.Prelude.{◌≡◌, ◌≢◌, ◌<◌, ◌≤◌, ◌↔◌, List, IfOk, IfSome, IsTrue, OnOk, length};
-ghost use Rattle.staat_model.specs.declared.assembly.Part.{Part as PartValue};
+ghost use Rattle.std.specs.Prelude.{◌≡◌, ◌≢◌, ◌<◌, ◌≤◌, ◌↔◌, IfOk, IfSome, IsTrue, OnOk, length};
 ghost use Rattle.staat_model.specs.Assemblies.{piece_count};
 ghost use Rattle.staat_model.specs.Removal.{Blocks, MeetsAlong};
 ghost use Rattle.staat_motion.specs.Motions.{HasBothPieces, IsMotionOf};
@@ -147,18 +146,6 @@ fn meets_in(slot: &Option<KeptFacets>, parts: &[Part], along: &Along, pair: Arc,
     }
 }
 
-// so many empty slots
-fn empty(alloc: Global, count: usize) -> Result<KeptTable, OutOfMemory>
-    ensures some { IfOk result (λ table. length table.items ≡ count) }
-    ensures kept { IfOk result (λ table. (parts : List PartValue) → AreKept parts table.items) }
-{
-    let mut table = Vec::new(alloc);
-    for _ in 0..count {
-        table.push(None)?;
-    }
-    Ok(table)
-}
-
 // the number of pieces
 fn piece_number(parts: &[Part]) -> usize {
     let mut count = 0usize;
@@ -176,7 +163,10 @@ pub fn table_for(alloc: Global, parts: &[Part]) -> Result<KeptTable, OutOfMemory
     let count = piece_number(parts)
         .saturating_mul(SLOTS)
         .clamp(1, MOST_SLOTS);
-    let table = empty(alloc, count)?;
+    let mut table = Vec::new(alloc);
+    for _ in 0..count {
+        table.push(None)?;
+    }
     Ok(table)
 }
 
@@ -217,8 +207,7 @@ fn pair_meets<F: FacetSource>(
     }
     let key = ordered(pair);
     let k = slot_of(key, table.len());
-    let answer = ask_slot(&mut table[k], view, pair, key)?;
-    Ok(answer)
+    ask_slot(&mut table[k], view, pair, key)
 }
 
 // how many pieces the part a has, unless they are too many to be numbered

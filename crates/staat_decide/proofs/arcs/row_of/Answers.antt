@@ -13,9 +13,9 @@ loop-b-preserved g c =
     let i = c.loop-b.b-index in
     record {
       row = subst (IsRow parts d (take (i + 1) w) c.args.a) (sym c.in_ok-push.ensures.items)
-          (zip_more (λ b answer. IsTrue answer ↔ Blocks parts d c.args.a b) w c.loop-b.row.items i 0 c.in_ok-answer.answer c.loop-b-test.true c.loop-b.invariant.row c.in_ok-answer.ensures.answer);
-      some = omega (arith, c.in_ok-answer.ensures.some, c.loop-b.invariant.some);
-      kept = c.in_ok-answer.ensures.kept;
+          (zip_more (λ b answer. IsTrue answer ↔ Blocks parts d c.args.a b) w c.loop-b.row.items i 0 c.in_ok-blocks_with.field-0 c.loop-b-test.true c.loop-b.invariant.row c.in_ok-blocks_with.ensures.answer);
+      some = omega (arith, c.in_ok-blocks_with.ensures.some, c.loop-b.invariant.some);
+      kept = c.in_ok-blocks_with.ensures.kept;
     }
 
 pub returns : goal.returns

@@ -22,9 +22,9 @@ loop-a-preserved g c =
     let i = c.loop-a.a-index in
     record {
       rows = subst (AllZip (IsRow parts d w) (take (i + 1) w)) (sym c.in_ok-push.ensures.items)
-          (zip_more (IsRow parts d w) w c.loop-a.rows.items i 0 c.in_ok-row.row c.loop-a-test.true c.loop-a.invariant.rows c.in_ok-row.ensures.row);
-      some = omega (arith, c.in_ok-row.ensures.some, c.loop-a.invariant.some);
-      kept = c.in_ok-row.ensures.kept;
+          (zip_more (IsRow parts d w) w c.loop-a.rows.items i 0 c.in_ok-row_of.field-0 c.loop-a-test.true c.loop-a.invariant.rows c.in_ok-row_of.ensures.row);
+      some = omega (arith, c.in_ok-row_of.ensures.some, c.loop-a.invariant.some);
+      kept = c.in_ok-row_of.ensures.kept;
     }
 
 pub returns : goal.returns

@@ -21,7 +21,3 @@ ask_slot-requires-clause-kept g c =
 pub returns-clause-kept : goal.returns-clause-kept
 returns-clause-kept g c =
     All-set (Fits c.args.view.now.parts.now) c.args.table.now.items c.slot_of-k.result c.ask_slot.new.slot c.ask_slot.ensures.kept c.requires.kept
-
-pub returns-in_err-answer-clause-kept : goal.returns-in_err-answer-clause-kept
-returns-in_err-answer-clause-kept g c =
-    All-set (Fits c.args.view.now.parts.now) c.args.table.now.items c.slot_of-k.result c.ask_slot.new.slot c.ask_slot.ensures.kept c.requires.kept
