@@ -124,6 +124,5 @@ pub fn peel<F: FacetSource>(
     ensures none { IfOk result (λ answer. IfNone answer (IsHeldAlong parts.now along.now.d (set_of w.now))) }
 {
     let rows = rows_of(alloc, source, parts, along, w)?;
-    let answer = take_apart(alloc, rows.as_slice(), w)?;
-    Ok(answer)
+    take_apart(alloc, rows.as_slice(), w)
 }
