@@ -1,7 +1,7 @@
 // A guess at labels, which is judged afterwards: that of each strong component, those first that no arc leaves. It is
 // found by two walks: one against the arcs, which tells in what order parts are done with, and one along them.
 use crate::arcs::Row;
-use crate::reach::Way;
+use crate::reach::{Way, leads};
 use crate::spreading::{is_marked, mark};
 use staat_vec::OutOfMemory;
 use std::alloc::Global;
@@ -26,23 +26,6 @@ struct ArcWalk {
     seen: Vec<bool>,
     path: Vec<Stand>,
     done: Vec<usize>,
-}
-
-/// Whether an arc leads from the place `i` to the place `j`.
-pub fn has_arc(rows: &[Row], i: usize, j: usize) -> bool {
-    if i >= rows.len() {
-        return false;
-    }
-    let row = rows[i].as_slice();
-    j < row.len() && row[j]
-}
-
-/// Whether the way leads from the place `i` to the place `j`.
-pub fn leads(rows: &[Row], way: Way, i: usize, j: usize) -> bool {
-    match way {
-        Way::Ahead => has_arc(rows, i, j),
-        Way::Back => has_arc(rows, j, i),
-    }
 }
 
 // the next place that is not seen and to which the way leads from where the walk stands

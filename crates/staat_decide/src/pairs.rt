@@ -3,9 +3,8 @@
 ghost use Rattle.staat_motion.specs.Motions.{AreBodies};
 
 use crate::growing::{Guess, grown};
-use crate::labels::{has_arc, leads};
 use crate::likely::AskedRows;
-use crate::reach::Way;
+use crate::reach::{Way, has_arc, leads};
 use crate::scene::Scene;
 use crate::spreading::{are_all, mark};
 use staat_cone::FacetSource;
