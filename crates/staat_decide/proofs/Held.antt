@@ -1,6 +1,6 @@
 -- Two labels make two sets; and where each place is reached along arcs and against them, no side of the set is free.
 use Rattle.std.proofs.Common.{◌≡◌, ◌≢◌, ◌∙◌, ℕ, ◌<◌, ◌≤◌, ◌↔◌, ⊎_elim, Bool, true, false, IsTrue, List, [], ◌∷◌, arith, ap, get_or, length, map, not, refl, subst, sym}
-use Rattle.std.specs.Prelude.{IfNone, None, Option, Some}
+use Rattle.std.specs.Prelude.{Err, IfNone, IfOk, None, Ok, Option, Result, Some}
 use Rattle.std.specs.FinSet as set
 use Rattle.std.specs.List.Sorted.{IsStrictlySortedBy}
 use Rattle.std.specs.Ordering.{nat_cmp}
@@ -146,6 +146,10 @@ held_none parts d (p ∷ w) e s side free = absurd (omega (arith, e))
 pub none_weaker : {X A B : Type 0} → (o : Option X) → (A → B) → IfNone o A → IfNone o B
 none_weaker None f h = f h
 none_weaker (Some x) f h = tt
+
+pub none_weaker_told : {X A B E : Type 0} → (r : Result (Option X) E) → (A → B) → IfOk r (λ o. IfNone o A) → IfOk r (λ o. IfNone o B)
+none_weaker_told (Ok o) f h = none_weaker o f h
+none_weaker_told (Err e) f h = tt
 
 pub none_if : {X A : Type 0} → (o : Option X) → IfNone o A → ((x : X) → o ≡ Some x → ⊥) → A
 none_if None h not_some = h

@@ -4,6 +4,7 @@ ghost use Rattle.staat_motion.specs.Motions.{IsMotionOf};
 ghost use Rattle.staat_decide.specs.Arcs.{AreBlockingRows, IsRow};
 ghost use Rattle.staat_decide.specs.Keeping.{AreKept};
 
+use crate::scene::View;
 use crate::table::{KeptTable, blocks_with, table_for};
 use staat_cone::FacetSource;
 use staat_model::Part;
@@ -17,26 +18,22 @@ pub type Row = Listed<bool>;
 // which parts of w the part a blocks
 fn row_of<F: FacetSource>(
     table: &mut KeptTable,
-    alloc: Global,
-    source: &F,
-    parts: &[Part],
-    along: &Along,
+    view: &View<F>,
     w: &[u32],
     a: u32,
 ) -> Result<Row, OutOfMemory>
-    requires made { IsMotionOf parts.now along.now }
-    requires members { All (λ p. p < length parts.now) w.now }
-    requires a_in { a < length parts.now }
+    requires made { IsMotionOf view.now.parts.now view.now.along.now }
+    requires members { All (λ p. p < length view.now.parts.now) w.now }
+    requires a_in { a < length view.now.parts.now }
     requires some { 1 ≤ length table.old.items }
-    requires kept { AreKept parts.now table.old.items }
+    requires kept { AreKept view.now.parts.now table.old.items }
     ensures some { length table.new.items ≡ length table.old.items }
-    ensures kept { AreKept parts.now table.new.items }
-    ensures row { IfOk result (IsRow parts.now along.now.d w.now a) }
+    ensures kept { AreKept view.now.parts.now table.new.items }
+    ensures row { IfOk result (IsRow view.now.parts.now view.now.along.now.d w.now a) }
 {
-    let mut row = Vec::new(alloc);
+    let mut row = Vec::new(view.alloc);
     for b in w {
-        let answer = blocks_with(table, alloc, source, parts, along, a, *b)?;
-        row.push(answer)?;
+        row.push(blocks_with(table, view, a, *b)?)?;
     }
     Ok(Row::from_vec(row))
 }
@@ -44,24 +41,20 @@ fn row_of<F: FacetSource>(
 /// The same as [`rows_of`], with facets that are kept.
 pub fn rows_with<F: FacetSource>(
     table: &mut KeptTable,
-    alloc: Global,
-    source: &F,
-    parts: &[Part],
-    along: &Along,
+    view: &View<F>,
     w: &[u32],
 ) -> Result<Vec<Row>, OutOfMemory>
-    requires made { IsMotionOf parts.now along.now }
-    requires members { All (λ p. p < length parts.now) w.now }
+    requires made { IsMotionOf view.now.parts.now view.now.along.now }
+    requires members { All (λ p. p < length view.now.parts.now) w.now }
     requires some { 1 ≤ length table.old.items }
-    requires kept { AreKept parts.now table.old.items }
+    requires kept { AreKept view.now.parts.now table.old.items }
     ensures some { length table.new.items ≡ length table.old.items }
-    ensures kept { AreKept parts.now table.new.items }
-    ensures rows { IfOk result (λ rows. AreBlockingRows parts.now along.now.d w.now rows.items) }
+    ensures kept { AreKept view.now.parts.now table.new.items }
+    ensures rows { IfOk result (λ rows. AreBlockingRows view.now.parts.now view.now.along.now.d w.now rows.items) }
 {
-    let mut rows = Vec::new(alloc);
+    let mut rows = Vec::new(view.alloc);
     for a in w {
-        let row = row_of(table, alloc, source, parts, along, w, *a)?;
-        rows.push(row)?;
+        rows.push(row_of(table, view, w, *a)?)?;
     }
     Ok(rows)
 }
@@ -79,5 +72,11 @@ pub fn rows_of<F: FacetSource>(
     ensures { IfOk result (λ rows. AreBlockingRows parts.now along.now.d w.now rows.items) }
 {
     let mut table = table_for(alloc, parts)?;
-    rows_with(&mut table, alloc, source, parts, along, w)
+    let view = View {
+        alloc,
+        source,
+        parts,
+        along,
+    };
+    rows_with(&mut table, &view, w)
 }

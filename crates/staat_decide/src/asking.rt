@@ -7,7 +7,8 @@ ghost use Rattle.staat_decide.specs.Keeping.{AreKept};
 
 use crate::directions::likely_directions;
 use crate::likely::{AskedRows, asked_along, is_direction, takes_all_apart};
-use crate::planes::{X_AXIS, Y_AXIS, Z_AXIS};
+use crate::planes::AXES;
+use crate::scene::Scene;
 use crate::table::{KeptTable, table_for};
 use staat_cone::FacetSource;
 use staat_model::Part;
@@ -29,27 +30,24 @@ fn was_asked(asked: &[AskedRows], d: V3) -> bool {
 fn ask_one<F: FacetSource>(
     asked: &mut Vec<AskedRows>,
     table: &mut KeptTable,
-    alloc: Global,
-    source: &F,
-    parts: &[Part],
-    bodies: &Bodies,
+    scene: &Scene<F>,
     all: &[u32],
     d: V3,
 ) -> Result<bool, OutOfMemory>
-    requires bodies { AreBodies parts.now bodies.now }
-    requires all { all.now ≡ range_with_len 0 (length parts.now) }
-    requires asked { All (AreAskedRows parts.now) asked.old.items }
+    requires bodies { AreBodies scene.now.parts.now scene.now.bodies.now }
+    requires all { all.now ≡ range_with_len 0 (length scene.now.parts.now) }
+    requires asked { All (AreAskedRows scene.now.parts.now) asked.old.items }
     requires some { 1 ≤ length table.old.items }
-    requires kept { AreKept parts.now table.old.items }
+    requires kept { AreKept scene.now.parts.now table.old.items }
     ensures some { length table.new.items ≡ length table.old.items }
-    ensures kept { AreKept parts.now table.new.items }
-    ensures asked { OnOk result (All (AreAskedRows parts.now) asked.new.items) }
+    ensures kept { AreKept scene.now.parts.now table.new.items }
+    ensures asked { OnOk result (All (AreAskedRows scene.now.parts.now) asked.new.items) }
 {
     if !is_direction(d) || was_asked(asked.as_slice(), d) {
         return Ok(false);
     }
-    let one = asked_along(table, alloc, source, parts, bodies, all, d)?;
-    let is_done = takes_all_apart(alloc, parts, &one, all)?;
+    let one = asked_along(table, scene, all, d)?;
+    let is_done = takes_all_apart(scene.alloc, scene.parts, &one, all)?;
     asked.push(one)?;
     Ok(is_done)
 }
@@ -58,60 +56,56 @@ fn ask_one<F: FacetSource>(
 fn ask_along<F: FacetSource>(
     asked: &mut Vec<AskedRows>,
     table: &mut KeptTable,
-    alloc: Global,
-    source: &F,
-    parts: &[Part],
-    bodies: &Bodies,
+    scene: &Scene<F>,
     all: &[u32],
     directions: &[V3],
 ) -> Result<bool, OutOfMemory>
-    requires bodies { AreBodies parts.now bodies.now }
-    requires all { all.now ≡ range_with_len 0 (length parts.now) }
-    requires asked { All (AreAskedRows parts.now) asked.old.items }
+    requires bodies { AreBodies scene.now.parts.now scene.now.bodies.now }
+    requires all { all.now ≡ range_with_len 0 (length scene.now.parts.now) }
+    requires asked { All (AreAskedRows scene.now.parts.now) asked.old.items }
     requires some { 1 ≤ length table.old.items }
-    requires kept { AreKept parts.now table.old.items }
+    requires kept { AreKept scene.now.parts.now table.old.items }
     ensures some { length table.new.items ≡ length table.old.items }
-    ensures kept { AreKept parts.now table.new.items }
-    ensures asked { OnOk result (All (AreAskedRows parts.now) asked.new.items) }
+    ensures kept { AreKept scene.now.parts.now table.new.items }
+    ensures asked { OnOk result (All (AreAskedRows scene.now.parts.now) asked.new.items) }
 {
     for d in directions {
-        if ask_one(asked, table, alloc, source, parts, bodies, all, *d)? {
+        if ask_one(asked, table, scene, all, *d)? {
             return Ok(true);
         }
     }
     Ok(false)
 }
 
-/// What is asked along likely directions: the axes, and where none of them takes all parts apart some more.
+// asks along likely directions: the axes, and where none of them takes all parts apart some more
+fn ask_all<F: FacetSource>(
+    asked: &mut Vec<AskedRows>,
+    scene: &Scene<F>,
+    all: &[u32],
+) -> Result<bool, OutOfMemory>
+    requires bodies { AreBodies scene.now.parts.now scene.now.bodies.now }
+    requires all { all.now ≡ range_with_len 0 (length scene.now.parts.now) }
+    requires asked { All (AreAskedRows scene.now.parts.now) asked.old.items }
+    ensures { OnOk result (All (AreAskedRows scene.now.parts.now) asked.new.items) }
+{
+    let mut table = table_for(scene.alloc, scene.parts)?;
+    if ask_along(asked, &mut table, scene, all, &AXES)? {
+        return Ok(true);
+    }
+    let more = likely_directions(scene.alloc, scene.source, scene.parts, all)?;
+    ask_along(asked, &mut table, scene, all, more.as_slice())
+}
+
+/// What is asked along likely directions.
 pub fn asked_of<F: FacetSource>(
-    alloc: Global,
-    source: &F,
-    parts: &[Part],
-    bodies: &Bodies,
+    scene: &Scene<F>,
     all: &[u32],
 ) -> Result<Vec<AskedRows>, OutOfMemory>
-    requires bodies { AreBodies parts.now bodies.now }
-    requires all { all.now ≡ range_with_len 0 (length parts.now) }
-    ensures { IfOk result (λ asked. All (AreAskedRows parts.now) asked.items) }
+    requires bodies { AreBodies scene.now.parts.now scene.now.bodies.now }
+    requires all { all.now ≡ range_with_len 0 (length scene.now.parts.now) }
+    ensures { IfOk result (λ asked. All (AreAskedRows scene.now.parts.now) asked.items) }
 {
-    let mut asked = Vec::new(alloc);
-    let mut table = table_for(alloc, parts)?;
-    let axes = [Z_AXIS, Y_AXIS, X_AXIS];
-    if ask_along(
-        &mut asked, &mut table, alloc, source, parts, bodies, all, &axes,
-    )? {
-        return Ok(asked);
-    }
-    let more = likely_directions(alloc, source, parts, all)?;
-    ask_along(
-        &mut asked,
-        &mut table,
-        alloc,
-        source,
-        parts,
-        bodies,
-        all,
-        more.as_slice(),
-    )?;
+    let mut asked = Vec::new(scene.alloc);
+    ask_all(&mut asked, scene, all)?;
     Ok(asked)
 }

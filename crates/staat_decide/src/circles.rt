@@ -1,12 +1,12 @@
 // The directions of a plane, a circle of them, and the arcs of it along which the first piece of a pair meets the
 // second: those ahead of all facets, from where one of two facets begins to where the other ends.
-ghost use Rattle.std.specs.Prelude.{IfOk, IfSome};
+ghost use Rattle.std.specs.Prelude.{All, IfOk, IfSome};
 ghost use Rattle.staat_vec.specs.declared.vector.TheConstants.{DIRECTION, NORMAL};
 ghost use Rattle.staat_vec.specs.Vectors.{IsWithin};
 
-use crate::planes::{Facets, Normal, normals_of};
+use crate::planes::Normal;
 use crate::reach::Way;
-use crate::spreading::{Lead, are_all, mark_first, no_marks, spread_all};
+use crate::spreading::{Lead, are_all, mark_first, spread_all, turned};
 use staat_vec::{ORIGIN, OutOfMemory, Sign, V3, cross_normal, first_nonzero, sign_dot};
 use std::alloc::Global;
 
@@ -69,9 +69,11 @@ fn span_of(end: SpanEnd, lead: Lead) -> CircleSpan {
 }
 
 // the arc that a pair has on the circle of the plane g, if it has one
-fn span_on(facets: &Facets, g: Normal, lead: Lead) -> Option<CircleSpan> {
+fn span_on(facets: &[V3], g: Normal, lead: Lead) -> Option<CircleSpan>
+    requires { All (IsWithin NORMAL) facets.now }
+{
     let mut found = None;
-    for facet in normals_of(facets) {
+    for facet in facets {
         let Some(end) = end_of(g, *facet) else {
             return None;
         };
@@ -101,10 +103,7 @@ fn lead_at(span: &mut CircleSpan, d: V3) -> Option<Lead>
     }
     match side {
         Sign::Pos => Some(span.lead),
-        _ => Some(Lead {
-            from: span.lead.to,
-            to: span.lead.from,
-        }),
+        _ => Some(turned(span.lead)),
     }
 }
 
@@ -118,14 +117,14 @@ pub struct Circle {
     pub marks: Vec<bool>,
 }
 
-/// No arcs, for so many places.
-pub fn circle_for(alloc: Global, count: usize) -> Result<Circle, OutOfMemory> {
-    Ok(Circle {
+/// No arcs, and no marks.
+pub fn no_circle(alloc: Global) -> Circle {
+    Circle {
         spans: Vec::new(alloc),
         looks: 0,
         leads: Vec::new(alloc),
-        marks: no_marks(alloc, count)?,
-    })
+        marks: Vec::new(alloc),
+    }
 }
 
 /// Begins with no arcs.
@@ -134,12 +133,9 @@ pub fn clear(circle: &mut Circle) {
 }
 
 /// Adds the arc of a pair, by its facets and how it leads ahead of these, if it has one.
-pub fn add_arc(
-    circle: &mut Circle,
-    facets: &Facets,
-    g: Normal,
-    lead: Lead,
-) -> Result<(), OutOfMemory> {
+pub fn add_arc(circle: &mut Circle, facets: &[V3], g: Normal, lead: Lead) -> Result<(), OutOfMemory>
+    requires { All (IsWithin NORMAL) facets.now }
+{
     if let Some(span) = span_on(facets, g, lead) {
         circle.spans.push(span)?;
     }

@@ -39,10 +39,8 @@ fn add_normals_of<F: FacetSource>(
     a: &Spot,
     b: &Spot,
 ) -> Result<(), OutOfMemory> {
-    if let Some(facets) = facets_of(alloc, source, parts, arc_between(a, b))? {
-        add_normals(normals, normals_of(&facets))?;
-    }
-    Ok(())
+    let facets = facets_of(alloc, source, parts, arc_between(a, b))?;
+    add_normals(normals, normals_of(&facets))
 }
 
 // adds those of a piece and the later ones that it touches, of pieces by where their boxes begin, and counts these
@@ -67,35 +65,35 @@ fn add_touches<F: FacetSource>(
     Ok(count)
 }
 
-// those of pieces that touch, by where their boxes begin, ascending
-fn normals_among<F: FacetSource>(
+// adds those of pieces that touch, of pieces by where their boxes begin
+fn add_all_touches<F: FacetSource>(
+    normals: &mut Vec<V3>,
     alloc: Global,
     source: &F,
     parts: &[Part],
     spots: &[Spot],
-) -> Result<Vec<V3>, OutOfMemory> {
-    let mut normals = Vec::new(alloc);
+) -> Result<(), OutOfMemory> {
     let mut seen = 0usize;
     for (k, spot) in spots.iter().enumerate() {
         if seen < MOST_TOUCHES {
-            let count = add_touches(&mut normals, alloc, source, parts, spot, &spots[k..])?;
+            let count = add_touches(normals, alloc, source, parts, spot, &spots[k..])?;
             seen = seen.saturating_add(count);
         }
     }
-    normals.sort_unstable();
-    Ok(normals)
+    Ok(())
 }
 
-// the normals of planes of pairs that touch, ascending
-fn touching_normals<F: FacetSource>(
+// adds the normals of planes of pairs that touch
+fn add_touching<F: FacetSource>(
+    normals: &mut Vec<V3>,
     alloc: Global,
     source: &F,
     parts: &[Part],
     all: &[u32],
-) -> Result<Vec<V3>, OutOfMemory> {
+) -> Result<(), OutOfMemory> {
     let mut spots = spots_of(alloc, parts, all)?;
     spots.sort_unstable_by_key(|spot| spot.low.x);
-    normals_among(alloc, source, parts, spots.as_slice())
+    add_all_touches(normals, alloc, source, parts, spots.as_slice())
 }
 
 // counts a normal, which is the last one or another
@@ -144,22 +142,34 @@ fn add_crossings(directions: &mut Vec<V3>, normals: &[V3], normal: V3) -> Result
     Ok(())
 }
 
-// the most frequent normals
+// adds the normals that were counted
+fn add_counted(directions: &mut Vec<V3>, counts: &[Count]) -> Result<(), OutOfMemory> {
+    for one in counts {
+        add_direction(directions, one.normal)?;
+    }
+    Ok(())
+}
+
+// adds the directions in which two of the planes cross
+fn add_all_crossings(directions: &mut Vec<V3>, normals: &[V3]) -> Result<(), OutOfMemory> {
+    for n in normals {
+        add_crossings(directions, normals, *n)?;
+    }
+    Ok(())
+}
+
+// the most frequent of the normals, which ascend
 fn most_frequent(alloc: Global, normals: &[V3]) -> Result<Vec<V3>, OutOfMemory> {
     let counts = counts_of(alloc, normals)?;
     let mut most = Vec::new(alloc);
-    for one in counts.as_slice() {
-        add_direction(&mut most, one.normal)?;
-    }
+    add_counted(&mut most, counts.as_slice())?;
     Ok(most)
 }
 
 // the normals, and the directions in which two of their planes cross
 fn with_crossings(alloc: Global, normals: &[V3]) -> Result<Vec<V3>, OutOfMemory> {
     let mut directions = normals.to_vec(alloc)?;
-    for n in normals {
-        add_crossings(&mut directions, normals, *n)?;
-    }
+    add_all_crossings(&mut directions, normals)?;
     Ok(directions)
 }
 
@@ -170,7 +180,9 @@ pub fn likely_directions<F: FacetSource>(
     parts: &[Part],
     all: &[u32],
 ) -> Result<Vec<V3>, OutOfMemory> {
-    let found = touching_normals(alloc, source, parts, all)?;
-    let normals = most_frequent(alloc, found.as_slice())?;
-    with_crossings(alloc, normals.as_slice())
+    let mut normals = Vec::new(alloc);
+    add_touching(&mut normals, alloc, source, parts, all)?;
+    normals.sort_unstable();
+    let most = most_frequent(alloc, normals.as_slice())?;
+    with_crossings(alloc, most.as_slice())
 }

@@ -118,6 +118,5 @@ pub fn all_pairs(
         → Contains pairs.items pair) }
 {
     let ends = ends_of(alloc, parts, w)?;
-    let pairs = pairs_of(alloc, parts, nodes, w.len() as u32, ends.as_slice())?;
-    Ok(pairs)
+    pairs_of(alloc, parts, nodes, w.len() as u32, ends.as_slice())
 }

@@ -7,15 +7,18 @@ ghost use Rattle.staat_vec.specs.declared.vector.TheConstants.{DIRECTION};
 ghost use Rattle.staat_vec.specs.Vectors.{IsWithin};
 ghost use Rattle.staat_motion.specs.Motions.{AreBodies, IsMotionOf};
 
-use crate::circles::{Circle, add_arc, circle_for, clear, look_at, loose_end};
-use crate::listing::{Candidate, Met, first_met, lead_of, list_of};
-use crate::planes::{Normal, add_planes, axis_planes, crossing, facets_of};
+use crate::circles::{Circle, add_arc, clear, look_at, loose_end, no_circle};
+use crate::holding::copied;
+use crate::listing::{Candidate, Met, add_candidates, first_met};
+use crate::planes::{AXES, Normal, add_planes, crossing, facets_of, normals_of};
 use crate::reach::Way;
+use crate::scene::{Scene, View};
 use crate::spots::{MOST_PAIRS, Pair, pairs_of, spots_of};
 use crate::spreading::{are_all, mark_first, spread_all};
 use crate::unlisted::met_across;
 use staat_cone::FacetSource;
-use staat_model::{Arc, Part};
+use staat_holds::Hold;
+use staat_model::{Arc, Arcs, Part};
 use staat_motion::{Along, Bodies};
 use staat_vec::{DIRECTION, ORIGIN, OutOfMemory, V3, primitive};
 use std::alloc::Global;
@@ -24,13 +27,13 @@ use std::alloc::Global;
 /// or those that were looked at, if these are more.
 pub const BOUND: usize = 3000;
 
-/// What growing ends with: a direction along which the set should come apart, or pairs of pieces that should hold it,
-/// or the set is too large for the bound.
+/// What is guessed: a direction along which the set should come apart, or parts that should be stuck, or nothing, as
+/// the set is too large for the bound.
 #[derive(Drop)]
-pub enum GrowthEnd {
+pub enum Guess {
+    None,
     Free(V3),
-    Core(Vec<Arc>),
-    Large,
+    Stuck(Hold),
 }
 
 // What is known of a set of parts: pairs of their pieces, those first that look large from each other, the places of
@@ -46,62 +49,42 @@ struct CoreSearch {
 // lists a pair that was not listed, with its facets, for which there was no room before
 fn listed_last<F: FacetSource>(
     list: &mut Vec<Candidate>,
-    alloc: Global,
-    source: &F,
-    parts: &[Part],
+    view: &View<F>,
     pair: Pair,
-) -> Result<Met, OutOfMemory> {
+) -> Result<Option<Met>, OutOfMemory> {
     let met = Met {
         k: list.len(),
-        lead: lead_of(&pair, false),
+        lead: pair.lead,
         planes: 0,
     };
-    let facets = facets_of(alloc, source, parts, pair.arc)?;
-    list.push(Candidate { pair, facets })?;
-    Ok(met)
+    list.push(Candidate {
+        pair,
+        facets: facets_of(view.alloc, view.source, view.parts, pair.arc)?,
+    })?;
+    Ok(Some(met))
 }
 
 // the first pair across of which the one piece meets the other, of those that are listed, or else of all
 fn next_met<F: FacetSource>(
     search: &mut CoreSearch,
-    alloc: Global,
-    source: &F,
-    parts: &[Part],
-    along: &Along,
+    view: &View<F>,
     w: &[u32],
     way: Way,
 ) -> Result<Option<Met>, OutOfMemory>
-    requires { IsMotionOf parts.now along.now }
+    requires { IsMotionOf view.now.parts.now view.now.along.now }
 {
     let marks = search.circle.marks.as_slice();
     let planes = search.planes.as_slice();
-    if let Some(met) = first_met(
-        &mut search.list,
-        alloc,
-        source,
-        parts,
-        along,
-        planes,
-        marks,
-        way,
-    )? {
+    if let Some(met) = first_met(&mut search.list, view, planes, marks, way)? {
         return Ok(Some(met));
     }
     if search.list.len() < MOST_PAIRS {
         return Ok(None);
     }
-    match met_across(alloc, source, parts, along, w, marks, way)? {
+    match met_across(view, w, marks, way)? {
         None => Ok(None),
-        Some(pair) => Ok(Some(listed_last(&mut search.list, alloc, source, parts, pair)?)),
+        Some(pair) => listed_last(&mut search.list, view, pair),
     }
-}
-
-// adds the planes of a pair
-fn add_planes_of(planes: &mut Vec<Normal>, pair: &Candidate) -> Result<(), OutOfMemory> {
-    if let Some(facets) = &pair.facets {
-        add_planes(planes, facets)?;
-    }
-    Ok(())
 }
 
 // adds the pair to the core, with its planes and its lead
@@ -109,7 +92,7 @@ fn choose(search: &mut CoreSearch, met: Met) -> Result<(), OutOfMemory> {
     search.core.push(met.k)?;
     search.circle.leads.push(met.lead)?;
     if met.k < search.list.len() {
-        add_planes_of(&mut search.planes, &search.list[met.k])?;
+        add_planes(&mut search.planes, normals_of(&search.list[met.k].facets))?;
     }
     Ok(())
 }
@@ -117,14 +100,11 @@ fn choose(search: &mut CoreSearch, met: Met) -> Result<(), OutOfMemory> {
 // adds pairs to the core until all places are reached on the way along the direction, and says whether they are
 fn grow_on<F: FacetSource>(
     search: &mut CoreSearch,
-    alloc: Global,
-    source: &F,
-    parts: &[Part],
-    along: &Along,
+    view: &View<F>,
     w: &[u32],
     way: Way,
 ) -> Result<bool, OutOfMemory>
-    requires { IsMotionOf parts.now along.now }
+    requires { IsMotionOf view.now.parts.now view.now.along.now }
 {
     mark_first(&mut search.circle.marks);
     for _ in 0..w.len() {
@@ -133,20 +113,12 @@ fn grow_on<F: FacetSource>(
         if are_all(search.circle.marks.as_slice()) {
             return Ok(true);
         }
-        let Some(met) = next_met(search, alloc, source, parts, along, w, way)? else {
+        let Some(met) = next_met(search, view, w, way)? else {
             return Ok(false);
         };
         choose(search, met)?;
     }
     Ok(false)
-}
-
-// adds the arc of a pair on the circle of the plane g
-fn add_arc_of(circle: &mut Circle, pair: &Candidate, g: Normal) -> Result<(), OutOfMemory> {
-    if let Some(facets) = &pair.facets {
-        add_arc(circle, facets, g, lead_of(&pair.pair, false))?;
-    }
-    Ok(())
 }
 
 // adds the arcs on the circle of the plane g of the pairs at the places
@@ -158,7 +130,13 @@ fn add_arcs(
 ) -> Result<(), OutOfMemory> {
     for k in places {
         if *k < list.len() {
-            add_arc_of(circle, &list[*k], g)?;
+            let candidate = &list[*k];
+            add_arc(
+                circle,
+                normals_of(&candidate.facets),
+                g,
+                candidate.pair.lead,
+            )?;
         }
     }
     Ok(())
@@ -198,35 +176,35 @@ fn loose_on(search: &mut CoreSearch, j: usize, first: usize) -> Result<Option<V3
 // lets the core grow until it leads everywhere at d, a direction of the circle, and says whether it does
 fn grow_at<F: FacetSource>(
     search: &mut CoreSearch,
-    alloc: Global,
-    source: &F,
-    parts: &[Part],
-    bodies: &Bodies,
+    scene: &Scene<F>,
     w: &[u32],
     d: V3,
 ) -> Result<bool, OutOfMemory>
-    requires bodies { AreBodies parts.now bodies.now }
+    requires bodies { AreBodies scene.now.parts.now scene.now.bodies.now }
     requires size { IsWithin DIRECTION d }
 {
     look_at(&mut search.circle, d)?;
-    let along = Along::of(alloc, parts, bodies, d)?;
-    if !grow_on(search, alloc, source, parts, &along, w, Way::Ahead)? {
+    let along = Along::of(scene.alloc, scene.parts, scene.bodies, d)?;
+    let view = View {
+        alloc: scene.alloc,
+        source: scene.source,
+        parts: scene.parts,
+        along: &along,
+    };
+    if !grow_on(search, &view, w, Way::Ahead)? {
         return Ok(false);
     }
-    grow_on(search, alloc, source, parts, &along, w, Way::Back)
+    grow_on(search, &view, w, Way::Back)
 }
 
 // lets the core grow until it leads everywhere on the plane j; a direction of it if the set comes apart there
 fn free_on<F: FacetSource>(
     search: &mut CoreSearch,
-    alloc: Global,
-    source: &F,
-    parts: &[Part],
-    bodies: &Bodies,
+    scene: &Scene<F>,
     w: &[u32],
     j: usize,
 ) -> Result<Option<V3>, OutOfMemory>
-    requires { AreBodies parts.now bodies.now }
+    requires { AreBodies scene.now.parts.now scene.now.bodies.now }
 {
     clear(&mut search.circle);
     let mut first = 0usize;
@@ -235,7 +213,7 @@ fn free_on<F: FacetSource>(
             return Ok(None);
         };
         first = search.core.len();
-        if !grow_at(search, alloc, source, parts, bodies, w, d)? {
+        if !grow_at(search, scene, w, d)? {
             return Ok(Some(d));
         }
         if search.core.len() == first {
@@ -245,24 +223,28 @@ fn free_on<F: FacetSource>(
     Ok(None)
 }
 
-// the pairs of pieces of different parts of w, with no facets yet
-fn pairs_listed(alloc: Global, parts: &[Part], w: &[u32]) -> Result<Vec<Candidate>, OutOfMemory> {
+// lists the pairs of pieces of different parts of w, with no facets yet
+fn list_pairs(
+    list: &mut Vec<Candidate>,
+    alloc: Global,
+    parts: &[Part],
+    w: &[u32],
+) -> Result<(), OutOfMemory> {
     let spots = spots_of(alloc, parts, w)?;
     let pairs = pairs_of(alloc, spots.as_slice())?;
-    list_of(alloc, pairs.as_slice())
+    add_candidates(list, pairs.as_slice())
 }
 
-// no core yet
-fn search_of(alloc: Global, parts: &[Part], w: &[u32]) -> Result<CoreSearch, OutOfMemory> {
-    let list = pairs_listed(alloc, parts, w)?;
-    let planes = axis_planes(alloc)?;
-    let circle = circle_for(alloc, w.len())?;
-    Ok(CoreSearch {
-        list,
-        core: Vec::new(alloc),
-        planes,
-        circle,
-    })
+// begins with the planes across the axes and no core
+fn begin(
+    search: &mut CoreSearch,
+    alloc: Global,
+    parts: &[Part],
+    w: &[u32],
+) -> Result<(), OutOfMemory> {
+    search.circle.marks.resize(w.len(), false)?;
+    add_planes(&mut search.planes, &AXES)?;
+    list_pairs(&mut search.list, alloc, parts, w)
 }
 
 // the pairs of the core
@@ -277,47 +259,57 @@ fn core_of(alloc: Global, search: &CoreSearch) -> Result<Vec<Arc>, OutOfMemory> 
     Ok(core)
 }
 
+// that the parts of w should be stuck, by the pairs of the core
+fn stuck_by(alloc: Global, search: &CoreSearch, w: &[u32]) -> Result<Guess, OutOfMemory> {
+    let nodes = copied(alloc, w)?;
+    let core = core_of(alloc, search)?;
+    Ok(Guess::Stuck(Hold {
+        nodes,
+        pairs: Arcs::from_vec(core),
+    }))
+}
+
 // lets the core grow plane by plane, by at most about so many vertices as the bound
 fn grow<F: FacetSource>(
     search: &mut CoreSearch,
-    alloc: Global,
-    source: &F,
-    parts: &[Part],
-    bodies: &Bodies,
+    scene: &Scene<F>,
     w: &[u32],
     bound: usize,
-) -> Result<GrowthEnd, OutOfMemory>
-    requires { AreBodies parts.now bodies.now }
+) -> Result<Guess, OutOfMemory>
+    requires { AreBodies scene.now.parts.now scene.now.bodies.now }
 {
     let mut used = 0usize;
     for j in 0..usize::MAX {
         if j >= search.planes.len() {
-            return Ok(GrowthEnd::Core(core_of(alloc, search)?));
+            return stuck_by(scene.alloc, search, w);
         }
         if used > bound {
-            return Ok(GrowthEnd::Large);
+            return Ok(Guess::None);
         }
         let before = search.circle.looks;
-        if let Some(d) = free_on(search, alloc, source, parts, bodies, w, j)? {
-            return Ok(GrowthEnd::Free(d));
+        if let Some(d) = free_on(search, scene, w, j)? {
+            return Ok(Guess::Free(d));
         }
         let looks = search.circle.looks.saturating_sub(before);
         used = used.saturating_add(looks.max(j));
     }
-    Ok(GrowthEnd::Large)
+    Ok(Guess::None)
 }
 
 /// Lets a core of the set of parts `w` grow, by at most about so many vertices as the bound.
 pub fn grown<F: FacetSource>(
-    alloc: Global,
-    source: &F,
-    parts: &[Part],
-    bodies: &Bodies,
+    scene: &Scene<F>,
     w: &[u32],
     bound: usize,
-) -> Result<GrowthEnd, OutOfMemory>
-    requires { AreBodies parts.now bodies.now }
+) -> Result<Guess, OutOfMemory>
+    requires { AreBodies scene.now.parts.now scene.now.bodies.now }
 {
-    let mut search = search_of(alloc, parts, w)?;
-    grow(&mut search, alloc, source, parts, bodies, w, bound)
+    let mut search = CoreSearch {
+        list: Vec::new(scene.alloc),
+        core: Vec::new(scene.alloc),
+        planes: Vec::new(scene.alloc),
+        circle: no_circle(scene.alloc),
+    };
+    begin(&mut search, scene.alloc, scene.parts, w)?;
+    grow(&mut search, scene, w, bound)
 }

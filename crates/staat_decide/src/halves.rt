@@ -2,11 +2,13 @@
 // of it are left out, then quarters, and so on: what is still too large without them is looked at on.
 ghost use Rattle.staat_motion.specs.Motions.{AreBodies};
 
-use crate::growing::{BOUND, GrowthEnd, grown};
+use crate::growing::{BOUND, Guess, grown};
 use crate::likely::AskedRows;
 use crate::pairs::comes_apart;
+use crate::scene::Scene;
 use staat_cone::FacetSource;
-use staat_model::{Arc, Part};
+use staat_holds::Hold;
+use staat_model::Part;
 use staat_motion::Bodies;
 use staat_vec::OutOfMemory;
 use std::alloc::Global;
@@ -22,70 +24,58 @@ fn without(alloc: Global, w: &[u32], low: u32, high: u32) -> Result<Vec<u32>, Ou
     Ok(rest)
 }
 
-// leaves out the parts from low to high if the rest is still too large, or if pairs should hold it together: these
+// leaves out the parts from low to high if the rest is still too large; the rest, if pairs should hold it together
 fn leave_out<F: FacetSource>(
-    alloc: Global,
-    source: &F,
-    parts: &[Part],
-    bodies: &Bodies,
+    scene: &Scene<F>,
     asked: &[AskedRows],
     left: &mut Vec<u32>,
     low: u32,
     high: u32,
-) -> Result<Option<Vec<Arc>>, OutOfMemory>
-    requires { AreBodies parts.now bodies.now }
+) -> Result<Option<Hold>, OutOfMemory>
+    requires { AreBodies scene.now.parts.now scene.now.bodies.now }
 {
-    let rest = without(alloc, left.as_slice(), low, high)?;
-    if rest.len() < 2 || comes_apart(alloc, asked, rest.as_slice())? {
+    let rest = without(scene.alloc, left.as_slice(), low, high)?;
+    if rest.len() < 2 || comes_apart(scene.alloc, asked, rest.as_slice())? {
         return Ok(None);
     }
-    match grown(alloc, source, parts, bodies, rest.as_slice(), BOUND)? {
-        GrowthEnd::Free(_) => Ok(None),
-        GrowthEnd::Large => {
+    match grown(scene, rest.as_slice(), BOUND)? {
+        Guess::Free(_) => Ok(None),
+        Guess::Stuck(hold) => Ok(Some(hold)),
+        Guess::None => {
             *left = rest;
             Ok(None)
-        }
-        GrowthEnd::Core(pairs) => {
-            *left = rest;
-            Ok(Some(pairs))
         }
     }
 }
 
 // leaves out so many parts at a time
 fn leave_out_by<F: FacetSource>(
-    alloc: Global,
-    source: &F,
-    parts: &[Part],
-    bodies: &Bodies,
+    scene: &Scene<F>,
     asked: &[AskedRows],
     left: &mut Vec<u32>,
     count: usize,
-) -> Result<Option<Vec<Arc>>, OutOfMemory>
-    requires { AreBodies parts.now bodies.now }
+) -> Result<Option<Hold>, OutOfMemory>
+    requires { AreBodies scene.now.parts.now scene.now.bodies.now }
 {
-    let all = left.as_slice().to_vec(alloc)?;
+    let all = left.as_slice().to_vec(scene.alloc)?;
     for chunk in all.chunks(count.max(1)) {
         let low = chunk[0];
         let high = chunk[chunk.len() - 1];
-        if let Some(pairs) = leave_out(alloc, source, parts, bodies, asked, left, low, high)? {
-            return Ok(Some(pairs));
+        if let Some(hold) = leave_out(scene, asked, left, low, high)? {
+            return Ok(Some(hold));
         }
     }
     Ok(None)
 }
 
-/// Leaves parts out of a set that is too large as long as the rest is: a half, quarters, and so on. The pairs that
-/// should hold the rest together, once it is not.
+/// Leaves parts out of a set that is too large as long as the rest is: a half, quarters, and so on. A rest that pairs
+/// should hold together, once there is one.
 pub fn halved<F: FacetSource>(
-    alloc: Global,
-    source: &F,
-    parts: &[Part],
-    bodies: &Bodies,
+    scene: &Scene<F>,
     asked: &[AskedRows],
     left: &mut Vec<u32>,
-) -> Result<Option<Vec<Arc>>, OutOfMemory>
-    requires { AreBodies parts.now bodies.now }
+) -> Result<Option<Hold>, OutOfMemory>
+    requires { AreBodies scene.now.parts.now scene.now.bodies.now }
 {
     let mut count = left.len();
     for _ in 0..usize::BITS {
@@ -93,8 +83,8 @@ pub fn halved<F: FacetSource>(
             return Ok(None);
         }
         count = count / 2 + count % 2;
-        if let Some(pairs) = leave_out_by(alloc, source, parts, bodies, asked, left, count)? {
-            return Ok(Some(pairs));
+        if let Some(hold) = leave_out_by(scene, asked, left, count)? {
+            return Ok(Some(hold));
         }
     }
     Ok(None)

@@ -10,7 +10,7 @@ ghost use Rattle.staat_decide.specs.Decided.{IsStuckHold};
 use crate::order::all_below;
 use crate::sets::PartList;
 use staat_cone::FacetSource;
-use staat_holds::{is_core_pair, judge_hold, own_names, places_of};
+use staat_holds::{Hold, is_core_pair, judge_hold, own_names, places_of};
 use staat_model::{Arc, Part};
 use staat_vec::OutOfMemory;
 use std::alloc::Global;
@@ -21,8 +21,7 @@ pub fn places_in(alloc: Global, w: &[u32], count: u32) -> Result<Vec<Option<u32>
     ensures { IfOk result (λ places. places.items ≡ places_of w.now (own_names count)) }
 {
     let names = own_names(alloc, count)?;
-    let places = places_of(alloc, w, names.as_slice())?;
-    Ok(places)
+    places_of(alloc, w, names.as_slice())
 }
 
 // whether all pairs are of pieces of different nodes
@@ -58,8 +57,8 @@ fn is_ascending(w: &[u32]) -> bool
     true
 }
 
-/// Whether these are at least two numbers below the count, ascending, and no more than the count.
-pub fn is_part_set(w: &[u32], count: u32) -> bool
+// whether these are at least two numbers below the count, ascending, and no more than the count
+fn is_part_set(w: &[u32], count: u32) -> bool
     ensures ascending { IsTrue result → IsStrictlySortedBy nat_cmp w.now }
     ensures below { IsTrue result → All (λ p. p < count) w.now }
     ensures two { IsTrue result → 2 ≤ length w.now }
@@ -68,23 +67,22 @@ pub fn is_part_set(w: &[u32], count: u32) -> bool
     w.len() >= 2 && w.len() <= count as usize && all_below(w, count) && is_ascending(w)
 }
 
-/// Whether the pairs are of pieces of parts of `w`, and hold these together.
+/// Whether the pairs are of pieces of the parts, and hold these together.
 pub fn are_held<F: FacetSource>(
     alloc: Global,
     source: &F,
     parts: &[Part],
-    w: &[u32],
-    pairs: &[Arc],
+    hold: &Hold,
 ) -> Result<bool, OutOfMemory>
     requires parts { All IsPart parts.now }
     requires count { length parts.now < 2 ^ 32 }
-    requires members { All (λ p. p < length parts.now) w.now }
-    requires ascending { IsStrictlySortedBy nat_cmp w.now }
-    requires two { 2 ≤ length w.now }
-    requires few { length w.now < 2 ^ 32 }
-    ensures { IfOk result (λ answer. IsTrue answer
-        → IsStuckHold parts.now (record { nodes = w.now; pairs = pairs.now })) }
+    ensures { IfOk result (λ answer. IsTrue answer → IsStuckHold parts.now hold.now) }
 {
+    let w = hold.nodes.as_slice();
+    let pairs = hold.pairs.as_slice();
+    if !is_part_set(w, parts.len() as u32) {
+        return Ok(false);
+    }
     let places = places_in(alloc, w, parts.len() as u32)?;
     let count = w.len() as u32;
     if !are_core_pairs(parts, places.as_slice(), count, pairs) {

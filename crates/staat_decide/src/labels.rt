@@ -1,8 +1,8 @@
 // A guess at labels, which is judged afterwards: that of each strong component, those first that no arc leaves. It is
 // found by two walks: one against the arcs, which tells in what order parts are done with, and one along them.
 use crate::arcs::Row;
-use crate::reach::Way;
-use crate::spreading::{is_marked, mark, no_marks};
+use crate::reach::{Way, leads};
+use crate::spreading::{is_marked, mark};
 use staat_vec::OutOfMemory;
 use std::alloc::Global;
 
@@ -26,23 +26,6 @@ struct ArcWalk {
     seen: Vec<bool>,
     path: Vec<Stand>,
     done: Vec<usize>,
-}
-
-/// Whether an arc leads from the place `i` to the place `j`.
-pub fn has_arc(rows: &[Row], i: usize, j: usize) -> bool {
-    if i >= rows.len() {
-        return false;
-    }
-    let row = rows[i].as_slice();
-    j < row.len() && row[j]
-}
-
-/// Whether the way leads from the place `i` to the place `j`.
-pub fn leads(rows: &[Row], way: Way, i: usize, j: usize) -> bool {
-    match way {
-        Way::Ahead => has_arc(rows, i, j),
-        Way::Back => has_arc(rows, j, i),
-    }
 }
 
 // the next place that is not seen and to which the way leads from where the walk stands
@@ -87,17 +70,9 @@ fn walk_from(rows: &[Row], way: Way, walk: &mut ArcWalk, root: usize) -> Result<
     Ok(())
 }
 
-// a walk over so many places that has seen none
-fn walk_over(alloc: Global, count: usize) -> Result<ArcWalk, OutOfMemory> {
-    Ok(ArcWalk {
-        seen: no_marks(alloc, count)?,
-        path: Vec::new(alloc),
-        done: Vec::new(alloc),
-    })
-}
-
 // walks against the arcs until it is done with all places
 fn walk_back(rows: &[Row], walk: &mut ArcWalk) -> Result<(), OutOfMemory> {
+    walk.seen.resize(rows.len(), false)?;
     for root in 0..rows.len() {
         walk_from(rows, Way::Back, walk, root)?;
     }
@@ -133,23 +108,34 @@ fn label_from(
     Ok(())
 }
 
-// labels by walks along arcs from the places that the walk was done with, the last of them first
-fn labels_along(alloc: Global, rows: &[Row], walk: &mut ArcWalk) -> Result<Labels, OutOfMemory> {
-    let mut labels = Labels {
-        of: vec![in alloc; 0; rows.len()]?,
-        count: 0,
-    };
-    let count = walk.done.len();
+// gives labels by walks along arcs from the places that the walk was done with, the last of them first
+fn label_along(rows: &[Row], walk: &mut ArcWalk, labels: &mut Labels) -> Result<(), OutOfMemory> {
+    labels.of.resize(rows.len(), 0)?;
     walk.seen.as_mut_slice().fill(false);
+    let count = walk.done.len();
     for k in 0..count {
-        label_from(rows, walk, count - 1 - k, &mut labels)?;
+        label_from(rows, walk, count - 1 - k, labels)?;
     }
-    Ok(labels)
+    Ok(())
+}
+
+// gives each part a label, of which there are none yet
+fn label_all(alloc: Global, rows: &[Row], labels: &mut Labels) -> Result<(), OutOfMemory> {
+    let mut walk = ArcWalk {
+        seen: Vec::new(alloc),
+        path: Vec::new(alloc),
+        done: Vec::new(alloc),
+    };
+    walk_back(rows, &mut walk)?;
+    label_along(rows, &mut walk, labels)
 }
 
 /// Labels of parts, of which the rows are given, so that no arc should lead to a greater one.
 pub fn labels_of(alloc: Global, rows: &[Row]) -> Result<Labels, OutOfMemory> {
-    let mut walk = walk_over(alloc, rows.len())?;
-    walk_back(rows, &mut walk)?;
-    labels_along(alloc, rows, &mut walk)
+    let mut labels = Labels {
+        of: Vec::new(alloc),
+        count: 0,
+    };
+    label_all(alloc, rows, &mut labels)?;
+    Ok(labels)
 }

@@ -13,6 +13,7 @@ ghost use Rattle.staat_decide.specs.Keeping.{AreKept};
 use crate::arcs::{Row, rows_with};
 use crate::decision::Leaving;
 use crate::peeling::take_apart;
+use crate::scene::{Scene, View};
 use crate::table::KeptTable;
 use staat_cone::FacetSource;
 use staat_model::Part;
@@ -57,25 +58,28 @@ pub fn numbers(alloc: Global, count: u32) -> Result<Vec<u32>, OutOfMemory>
 /// Which part blocks which along the direction; `all` are the numbers of the parts.
 pub fn asked_along<F: FacetSource>(
     table: &mut KeptTable,
-    alloc: Global,
-    source: &F,
-    parts: &[Part],
-    bodies: &Bodies,
+    scene: &Scene<F>,
     all: &[u32],
     d: V3,
 ) -> Result<AskedRows, OutOfMemory>
-    requires bodies { AreBodies parts.now bodies.now }
-    requires all { all.now ≡ range_with_len 0 (length parts.now) }
+    requires bodies { AreBodies scene.now.parts.now scene.now.bodies.now }
+    requires all { all.now ≡ range_with_len 0 (length scene.now.parts.now) }
     requires size { IsWithin DIRECTION d }
     requires moves { d ≢ origin }
     requires some { 1 ≤ length table.old.items }
-    requires kept { AreKept parts.now table.old.items }
+    requires kept { AreKept scene.now.parts.now table.old.items }
     ensures some { length table.new.items ≡ length table.old.items }
-    ensures kept { AreKept parts.now table.new.items }
-    ensures asked { IfOk result (AreAskedRows parts.now) }
+    ensures kept { AreKept scene.now.parts.now table.new.items }
+    ensures asked { IfOk result (AreAskedRows scene.now.parts.now) }
 {
-    let along = Along::of(alloc, parts, bodies, d)?;
-    let rows = rows_with(table, alloc, source, parts, &along, all)?;
+    let along = Along::of(scene.alloc, scene.parts, scene.bodies, d)?;
+    let view = View {
+        alloc: scene.alloc,
+        source: scene.source,
+        parts: scene.parts,
+        along: &along,
+    };
+    let rows = rows_with(table, &view, all)?;
     Ok(AskedRows {
         d,
         rows: Rows::from_vec(rows),
@@ -104,8 +108,7 @@ fn picked_rows(alloc: Global, rows: &[Row], w: &[u32]) -> Result<Vec<Row>, OutOf
     let mut picked = Vec::new(alloc);
     for a in w {
         let row = &rows[*a as usize];
-        let some = picked_row(alloc, row.as_slice(), w)?;
-        picked.push(some)?;
+        picked.push(picked_row(alloc, row.as_slice(), w)?)?;
     }
     Ok(picked)
 }

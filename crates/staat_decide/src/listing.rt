@@ -4,10 +4,11 @@ ghost use Rattle.staat_vec.specs.declared.vector.TheConstants.{DIRECTION};
 ghost use Rattle.staat_vec.specs.Vectors.{IsWithin};
 ghost use Rattle.staat_motion.specs.Motions.{IsMotionOf};
 
-use crate::planes::{Facets, Normal, facets_of, is_ahead, new_planes};
+use crate::planes::{Facets, Normal, facets_of, is_ahead, new_planes, normals_of};
 use crate::reach::Way;
+use crate::scene::View;
 use crate::spots::Pair;
-use crate::spreading::{Lead, is_marked};
+use crate::spreading::{Lead, is_marked, turned};
 use staat_cone::FacetSource;
 use staat_holds::has_pieces;
 use staat_model::{Arc, Part};
@@ -59,18 +60,12 @@ fn arc_of(pair: &Pair, is_turned: bool) -> Arc {
     }
 }
 
-/// The same for the places of their parts.
-pub fn lead_of(pair: &Pair, is_turned: bool) -> Lead {
+// the same for the places of their parts
+fn lead_of(pair: &Pair, is_turned: bool) -> Lead {
     if is_turned {
-        Lead {
-            from: pair.to,
-            to: pair.from,
-        }
+        turned(pair.lead)
     } else {
-        Lead {
-            from: pair.from,
-            to: pair.to,
-        }
+        pair.lead
     }
 }
 
@@ -87,43 +82,32 @@ fn leads_along(candidate: &Candidate, d: V3) -> bool
 // whether of the pair the one piece meets the other
 fn meets<F: FacetSource>(
     candidate: &mut Candidate,
-    alloc: Global,
-    source: &F,
-    parts: &[Part],
-    along: &Along,
+    view: &View<F>,
     is_turned: bool,
 ) -> Result<bool, OutOfMemory>
-    requires { IsMotionOf parts.now along.now }
+    requires { IsMotionOf view.now.parts.now view.now.along.now }
 {
-    if !may_meet(parts, along, arc_of(&candidate.pair, is_turned)) {
+    if !may_meet(view.parts, view.along, arc_of(&candidate.pair, is_turned)) {
         return Ok(false);
     }
     if candidate.facets.is_none() {
-        candidate.facets = facets_of(alloc, source, parts, candidate.pair.arc)?;
+        candidate.facets = facets_of(view.alloc, view.source, view.parts, candidate.pair.arc)?;
     }
-    let d = along.direction();
+    let d = view.along.direction();
     let towards = if is_turned { neg(d) } else { d };
     Ok(leads_along(candidate, towards))
 }
 
 // whether the arc that a pair may have on the way from a marked place to one that is not is turned, if there is one
 fn turned_on(marks: &[bool], way: Way, pair: &Pair) -> Option<bool> {
-    let is_first = is_marked(marks, pair.from);
-    let is_second = is_marked(marks, pair.to);
+    let is_first = is_marked(marks, pair.lead.from);
+    let is_second = is_marked(marks, pair.lead.to);
     if is_first == is_second {
         return None;
     }
     match way {
         Way::Ahead => Some(is_second),
         Way::Back => Some(is_first),
-    }
-}
-
-// how many planes of the facets are not there
-fn planes_added(candidate: &Candidate, planes: &[Normal]) -> usize {
-    match &candidate.facets {
-        None => 0,
-        Some(facets) => new_planes(planes, facets),
     }
 }
 
@@ -139,26 +123,23 @@ fn fewer(best: Option<Met>, next: Met) -> Option<Met> {
 fn met_by<F: FacetSource>(
     k: usize,
     candidate: &mut Candidate,
-    alloc: Global,
-    source: &F,
-    parts: &[Part],
-    along: &Along,
+    view: &View<F>,
     planes: &[Normal],
     marks: &[bool],
     way: Way,
 ) -> Result<Option<Met>, OutOfMemory>
-    requires { IsMotionOf parts.now along.now }
+    requires { IsMotionOf view.now.parts.now view.now.along.now }
 {
     let Some(is_turned) = turned_on(marks, way, &candidate.pair) else {
         return Ok(None);
     };
-    if !meets(candidate, alloc, source, parts, along, is_turned)? {
+    if !meets(candidate, view, is_turned)? {
         return Ok(None);
     }
     Ok(Some(Met {
         k,
         lead: lead_of(&candidate.pair, is_turned),
-        planes: planes_added(candidate, planes),
+        planes: new_planes(planes, normals_of(&candidate.facets)),
     }))
 }
 
@@ -166,22 +147,17 @@ fn met_by<F: FacetSource>(
 /// that which adds the fewest planes.
 pub fn first_met<F: FacetSource>(
     list: &mut Vec<Candidate>,
-    alloc: Global,
-    source: &F,
-    parts: &[Part],
-    along: &Along,
+    view: &View<F>,
     planes: &[Normal],
     marks: &[bool],
     way: Way,
 ) -> Result<Option<Met>, OutOfMemory>
-    requires { IsMotionOf parts.now along.now }
+    requires { IsMotionOf view.now.parts.now view.now.along.now }
 {
     let mut best = None;
     let mut count = 0usize;
     for (k, candidate) in list.iter_mut().enumerate() {
-        if let Some(met) = met_by(
-            k, candidate, alloc, source, parts, along, planes, marks, way,
-        )? {
+        if let Some(met) = met_by(k, candidate, view, planes, marks, way)? {
             best = fewer(best, met);
             count = if met.planes == 0 {
                 MOST_MET
@@ -196,14 +172,13 @@ pub fn first_met<F: FacetSource>(
     Ok(best)
 }
 
-/// The list of the pairs, with no facets yet.
-pub fn list_of(alloc: Global, pairs: &[Pair]) -> Result<Vec<Candidate>, OutOfMemory> {
-    let mut list = Vec::new(alloc);
+/// Lists the pairs, with no facets yet.
+pub fn add_candidates(list: &mut Vec<Candidate>, pairs: &[Pair]) -> Result<(), OutOfMemory> {
     for pair in pairs {
         list.push(Candidate {
             pair: *pair,
             facets: None,
         })?;
     }
-    Ok(list)
+    Ok(())
 }

@@ -2,13 +2,13 @@
 // a set apart.
 ghost use Rattle.staat_motion.specs.Motions.{AreBodies};
 
-use crate::growing::{GrowthEnd, grown};
-use crate::labels::{has_arc, leads};
+use crate::growing::{Guess, grown};
 use crate::likely::AskedRows;
-use crate::reach::Way;
-use crate::spreading::{are_all, mark, no_marks};
-use crate::suspects::{Suspects, suspected};
+use crate::reach::{Way, has_arc, leads};
+use crate::scene::Scene;
+use crate::spreading::{are_all, mark};
 use staat_cone::FacetSource;
+use staat_holds::Hold;
 use staat_model::Part;
 use staat_motion::Bodies;
 use staat_vec::OutOfMemory;
@@ -30,21 +30,18 @@ fn hold_each_other(asked: &[AskedRows], a: u32, b: u32) -> bool {
 
 // two parts that should be stuck: the first and a later one
 fn held_with<F: FacetSource>(
-    alloc: Global,
-    source: &F,
-    parts: &[Part],
-    bodies: &Bodies,
+    scene: &Scene<F>,
     asked: &[AskedRows],
     a: u32,
     w: &[u32],
-) -> Result<Option<Suspects>, OutOfMemory>
-    requires { AreBodies parts.now bodies.now }
+) -> Result<Option<Hold>, OutOfMemory>
+    requires { AreBodies scene.now.parts.now scene.now.bodies.now }
 {
     for b in w {
         if a < *b && hold_each_other(asked, a, *b) {
             let two = [a, *b];
-            if let GrowthEnd::Core(pairs) = grown(alloc, source, parts, bodies, &two, PAIR_BOUND)? {
-                return Ok(Some(suspected(alloc, &two, pairs)?));
+            if let Guess::Stuck(hold) = grown(scene, &two, PAIR_BOUND)? {
+                return Ok(Some(hold));
             }
         }
     }
@@ -53,17 +50,14 @@ fn held_with<F: FacetSource>(
 
 /// Two parts of `w` that should be stuck.
 pub fn held_pair<F: FacetSource>(
-    alloc: Global,
-    source: &F,
-    parts: &[Part],
-    bodies: &Bodies,
+    scene: &Scene<F>,
     asked: &[AskedRows],
     w: &[u32],
-) -> Result<Option<Suspects>, OutOfMemory>
-    requires { AreBodies parts.now bodies.now }
+) -> Result<Option<Hold>, OutOfMemory>
+    requires { AreBodies scene.now.parts.now scene.now.bodies.now }
 {
     for a in w {
-        if let Some(found) = held_with(alloc, source, parts, bodies, asked, *a, w)? {
+        if let Some(found) = held_with(scene, asked, *a, w)? {
             return Ok(Some(found));
         }
     }
@@ -94,21 +88,28 @@ fn add_next(
     Ok(())
 }
 
-// whether each part of w is reached from the first one on the way
-fn reaches_all(alloc: Global, asked: &AskedRows, w: &[u32], way: Way) -> Result<bool, OutOfMemory> {
-    if w.is_empty() {
-        return Ok(true);
+// marks the places of all parts of w to which the way leads from the first one
+fn go_on(asked: &AskedRows, w: &[u32], way: Way, reach: &mut Reach) -> Result<(), OutOfMemory> {
+    reach.marks.resize(w.len(), false)?;
+    if let Some(first) = w.first() {
+        mark(&mut reach.marks, 0);
+        reach.next.push(*first)?;
     }
-    let mut reach = Reach {
-        marks: no_marks(alloc, w.len())?,
-        next: vec![in alloc; w[0]]?,
-    };
-    mark(&mut reach.marks, 0);
     for _ in 0..w.len() {
         if let Some(a) = reach.next.pop() {
-            add_next(asked, w, way, a, &mut reach)?;
+            add_next(asked, w, way, a, reach)?;
         }
     }
+    Ok(())
+}
+
+// whether each part of w is reached from the first one on the way
+fn reaches_all(alloc: Global, asked: &AskedRows, w: &[u32], way: Way) -> Result<bool, OutOfMemory> {
+    let mut reach = Reach {
+        marks: Vec::new(alloc),
+        next: Vec::new(alloc),
+    };
+    go_on(asked, w, way, &mut reach)?;
     Ok(are_all(reach.marks.as_slice()))
 }
 

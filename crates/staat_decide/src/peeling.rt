@@ -78,10 +78,7 @@ fn decided(alloc: Global, rows: &[Row], w: &[u32]) -> Result<Option<Sets>, OutOf
 {
     match split(alloc, rows, w, Way::Ahead)? {
         Some(sets) => Ok(Some(sets)),
-        None => {
-            let answer = split(alloc, rows, w, Way::Back)?;
-            Ok(answer)
-        }
+        None => split(alloc, rows, w, Way::Back),
     }
 }
 
@@ -107,8 +104,7 @@ pub fn take_apart(alloc: Global, rows: &[Row], w: &[u32]) -> Result<Option<Sets>
     if let Some(sets) = judged(alloc, rows, w, &labels)? {
         return Ok(Some(sets));
     }
-    let answer = decided(alloc, rows, w)?;
-    Ok(answer)
+    decided(alloc, rows, w)
 }
 
 /// Sets that together are `w` and leave one after the other along the direction: none of their parts blocks one of a
@@ -128,6 +124,5 @@ pub fn peel<F: FacetSource>(
     ensures none { IfOk result (λ answer. IfNone answer (IsHeldAlong parts.now along.now.d (set_of w.now))) }
 {
     let rows = rows_of(alloc, source, parts, along, w)?;
-    let answer = take_apart(alloc, rows.as_slice(), w)?;
-    Ok(answer)
+    take_apart(alloc, rows.as_slice(), w)
 }

@@ -9,11 +9,11 @@ use staat_vec::{NORMAL, ORIGIN, OutOfMemory, V3, canon, cross_normal, is_same, p
 use std::alloc::Global;
 
 /// The axes.
-pub const X_AXIS: V3 = V3 { x: 1, y: 0, z: 0 };
-
-pub const Y_AXIS: V3 = V3 { x: 0, y: 1, z: 0 };
-
-pub const Z_AXIS: V3 = V3 { x: 0, y: 0, z: 1 };
+pub const AXES: [V3; 3] = [
+    V3 { x: 0, y: 0, z: 1 },
+    V3 { x: 0, y: 1, z: 0 },
+    V3 { x: 1, y: 0, z: 0 },
+];
 
 // A normal of a plane, none of whose components is too great.
 #[derive(Clone, Copy)]
@@ -77,27 +77,18 @@ fn add_plane(planes: &mut Vec<Normal>, v: V3) -> Result<(), OutOfMemory> {
     Ok(())
 }
 
-/// The planes across the axes.
-pub fn axis_planes(alloc: Global) -> Result<Vec<Normal>, OutOfMemory> {
-    Ok(vec![in alloc;
-        Normal { v: Z_AXIS },
-        Normal { v: Y_AXIS },
-        Normal { v: X_AXIS },
-    ]?)
-}
-
 /// Adds the planes of the facets.
-pub fn add_planes(planes: &mut Vec<Normal>, facets: &Facets) -> Result<(), OutOfMemory> {
-    for n in facets.list.as_slice() {
+pub fn add_planes(planes: &mut Vec<Normal>, facets: &[V3]) -> Result<(), OutOfMemory> {
+    for n in facets {
         add_plane(planes, *n)?;
     }
     Ok(())
 }
 
 /// How many of the facets have planes that are not there.
-pub fn new_planes(planes: &[Normal], facets: &Facets) -> usize {
+pub fn new_planes(planes: &[Normal], facets: &[V3]) -> usize {
     let mut count = 0usize;
-    for n in facets.list.as_slice() {
+    for n in facets {
         if let Some(plane) = plane_of(*n) {
             if !has_plane(planes, plane) {
                 count = count.saturating_add(1);
@@ -117,11 +108,14 @@ pub fn crossing(planes: &[Normal], i: usize, j: usize) -> V3
     cross_normal(planes[i].v, planes[j].v)
 }
 
-/// The facets, as normals of planes.
-pub fn normals_of(facets: &Facets) -> &[V3]
+/// The facets that are known, as normals of planes.
+pub fn normals_of(facets: &Option<Facets>) -> &[V3]
     ensures { All (IsWithin NORMAL) result.now }
 {
-    facets.list.as_slice()
+    match facets {
+        None => &[],
+        Some(facets) => facets.list.as_slice(),
+    }
 }
 
 // the piece i of the part a, if there is one

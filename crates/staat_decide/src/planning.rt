@@ -13,6 +13,7 @@ ghost use Rattle.staat_decide.specs.Decided.{IsDecision, IsLeaving, IsParting};
 use crate::asking::asked_of;
 use crate::decision::{Decision, Leaving, Parting};
 use crate::likely::{AskedRows, likely_leaving, numbers};
+use crate::scene::Scene;
 use crate::settling::{parting_by_all, parting_by_guess};
 use crate::turns::joined;
 use staat_cone::FacetSource;
@@ -23,116 +24,98 @@ use std::alloc::Global;
 
 // how w goes on: along a likely direction, or by a guess that is right, or by all pairs of its pieces
 fn parting<F: FacetSource>(
-    alloc: Global,
-    source: &F,
-    parts: &[Part],
-    bodies: &Bodies,
+    scene: &Scene<F>,
     asked: &[AskedRows],
     w: &[u32],
     before: V3,
 ) -> Result<Parting, OutOfMemory>
-    requires bodies { AreBodies parts.now bodies.now }
-    requires count { length parts.now < 2 ^ 32 }
-    requires pieces { All (λ part. length part.pieces < 2 ^ 32) parts.now }
-    requires asked { All (AreAskedRows parts.now) asked.now }
-    requires members { All (λ p. p < length parts.now) w.now }
+    requires bodies { AreBodies scene.now.parts.now scene.now.bodies.now }
+    requires count { length scene.now.parts.now < 2 ^ 32 }
+    requires pieces { All (λ part. length part.pieces < 2 ^ 32) scene.now.parts.now }
+    requires asked { All (AreAskedRows scene.now.parts.now) asked.now }
+    requires members { All (λ p. p < length scene.now.parts.now) w.now }
     requires ascending { IsStrictlySortedBy nat_cmp w.now }
     requires two { 2 ≤ length w.now }
     requires few { length w.now < 2 ^ 32 }
-    ensures { IfOk result (IsParting parts.now w.now) }
+    ensures { IfOk result (IsParting scene.now.parts.now w.now) }
 {
-    if let Some(leaving) = likely_leaving(alloc, parts, asked, w, before)? {
+    if let Some(leaving) = likely_leaving(scene.alloc, scene.parts, asked, w, before)? {
         return Ok(Parting::Leaves(leaving));
     }
-    if let Some(found) = parting_by_guess(alloc, source, parts, bodies, asked, w)? {
+    if let Some(found) = parting_by_guess(scene, asked, w)? {
         return Ok(found);
     }
-    parting_by_all(alloc, source, parts, bodies, w)
+    parting_by_all(scene, w)
 }
 
 // a plan of the parts of w, which leave along one direction, set by set, or parts that are stuck
 #[cycle(deciding)]
 fn planned<F: FacetSource>(
-    alloc: Global,
-    source: &F,
-    parts: &[Part],
-    bodies: &Bodies,
+    scene: &Scene<F>,
     asked: &[AskedRows],
     w: &[u32],
     leaving: &Leaving,
 ) -> Result<Decision, OutOfMemory>
-    requires bodies { AreBodies parts.now bodies.now }
-    requires count { length parts.now < 2 ^ 32 }
-    requires pieces { All (λ part. length part.pieces < 2 ^ 32) parts.now }
-    requires asked { All (AreAskedRows parts.now) asked.now }
-    requires members { All (λ p. p < length parts.now) w.now }
+    requires bodies { AreBodies scene.now.parts.now scene.now.bodies.now }
+    requires count { length scene.now.parts.now < 2 ^ 32 }
+    requires pieces { All (λ part. length part.pieces < 2 ^ 32) scene.now.parts.now }
+    requires asked { All (AreAskedRows scene.now.parts.now) asked.now }
+    requires members { All (λ p. p < length scene.now.parts.now) w.now }
     requires ascending { IsStrictlySortedBy nat_cmp w.now }
     requires few { length w.now < 2 ^ 32 }
-    requires leaves { IsLeaving parts.now w.now leaving.now }
-    ensures { IfOk result (IsDecision parts.now (set_of w.now)) }
+    requires leaves { IsLeaving scene.now.parts.now w.now leaving.now }
+    ensures { IfOk result (IsDecision scene.now.parts.now (set_of w.now)) }
 {
     let sets = leaving.sets.as_slice();
-    let mut trees = Vec::new(alloc);
+    let mut trees = Vec::new(scene.alloc);
     for s in sets {
-        match decision_of(alloc, source, parts, bodies, asked, s.as_slice(), leaving.d)? {
+        match decision_of(scene, asked, s.as_slice(), leaving.d)? {
             Decision::Held(stuck) => return Ok(Decision::Held(stuck)),
             Decision::Apart(tree) => trees.push(tree)?,
         }
     }
-    let whole = joined(alloc, leaving.d, trees)?;
+    let whole = joined(scene.alloc, leaving.d, trees)?;
     Ok(Decision::Apart(whole))
 }
 
 // a plan of the parts of w, or parts that are stuck
 #[cycle(deciding)]
 fn decision_of<F: FacetSource>(
-    alloc: Global,
-    source: &F,
-    parts: &[Part],
-    bodies: &Bodies,
+    scene: &Scene<F>,
     asked: &[AskedRows],
     w: &[u32],
     before: V3,
 ) -> Result<Decision, OutOfMemory>
-    requires bodies { AreBodies parts.now bodies.now }
-    requires count { length parts.now < 2 ^ 32 }
-    requires pieces { All (λ part. length part.pieces < 2 ^ 32) parts.now }
-    requires asked { All (AreAskedRows parts.now) asked.now }
-    requires members { All (λ p. p < length parts.now) w.now }
+    requires bodies { AreBodies scene.now.parts.now scene.now.bodies.now }
+    requires count { length scene.now.parts.now < 2 ^ 32 }
+    requires pieces { All (λ part. length part.pieces < 2 ^ 32) scene.now.parts.now }
+    requires asked { All (AreAskedRows scene.now.parts.now) asked.now }
+    requires members { All (λ p. p < length scene.now.parts.now) w.now }
     requires ascending { IsStrictlySortedBy nat_cmp w.now }
     requires some { 1 ≤ length w.now }
     requires few { length w.now < 2 ^ 32 }
-    ensures { IfOk result (IsDecision parts.now (set_of w.now)) }
+    ensures { IfOk result (IsDecision scene.now.parts.now (set_of w.now)) }
 {
     if w.len() == 1 {
         return Ok(Decision::Apart(Tree::Leaf(w[0])));
     }
-    match parting(alloc, source, parts, bodies, asked, w, before)? {
+    match parting(scene, asked, w, before)? {
         Parting::Stays(held) => Ok(Decision::Held(held)),
-        Parting::Leaves(leaving) => {
-            let decision = planned(alloc, source, parts, bodies, asked, w, &leaving)?;
-            Ok(decision)
-        }
+        Parting::Leaves(leaving) => planned(scene, asked, w, &leaving),
     }
 }
 
 // a plan of all parts, whose numbers are given, or parts that are stuck
-fn decision_of_all<F: FacetSource>(
-    alloc: Global,
-    source: &F,
-    parts: &[Part],
-    bodies: &Bodies,
-    all: &[u32],
-) -> Result<Decision, OutOfMemory>
-    requires bodies { AreBodies parts.now bodies.now }
-    requires some { 1 ≤ length parts.now }
-    requires count { length parts.now < 2 ^ 32 }
-    requires pieces { All (λ part. length part.pieces < 2 ^ 32) parts.now }
-    requires all { all.now ≡ range_with_len 0 (length parts.now) }
-    ensures { IfOk result (IsDecision parts.now (below (length parts.now))) }
+fn decision_of_all<F: FacetSource>(scene: &Scene<F>, all: &[u32]) -> Result<Decision, OutOfMemory>
+    requires bodies { AreBodies scene.now.parts.now scene.now.bodies.now }
+    requires some { 1 ≤ length scene.now.parts.now }
+    requires count { length scene.now.parts.now < 2 ^ 32 }
+    requires pieces { All (λ part. length part.pieces < 2 ^ 32) scene.now.parts.now }
+    requires all { all.now ≡ range_with_len 0 (length scene.now.parts.now) }
+    ensures { IfOk result (IsDecision scene.now.parts.now (below (length scene.now.parts.now))) }
 {
-    let asked = asked_of(alloc, source, parts, bodies, all)?;
-    decision_of(alloc, source, parts, bodies, asked.as_slice(), all, ORIGIN)
+    let asked = asked_of(scene, all)?;
+    decision_of(scene, asked.as_slice(), all, ORIGIN)
 }
 
 /// A plan that takes all parts apart, or parts that are stuck.
@@ -149,5 +132,11 @@ pub fn decide<F: FacetSource>(
 {
     let bodies = Bodies::of(alloc, parts)?;
     let all = numbers(alloc, parts.len() as u32)?;
-    decision_of_all(alloc, source, parts, &bodies, all.as_slice())
+    let scene = Scene {
+        alloc,
+        source,
+        parts,
+        bodies: &bodies,
+    };
+    decision_of_all(&scene, all.as_slice())
 }

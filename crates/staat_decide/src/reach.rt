@@ -25,20 +25,19 @@ pub enum Way {
     Back,
 }
 
-fn has_arc(rows: &[Row], i: usize, j: usize) -> bool
-    requires each { All (λ row. length row ≡ length rows.now) rows.now }
-    requires i { i < length rows.now }
-    requires j { j < length rows.now }
+/// Whether an arc leads from the place `i` to the place `j`.
+pub fn has_arc(rows: &[Row], i: usize, j: usize) -> bool
     ensures { IsTrue result ↔ HasRowArc rows.now i j }
 {
+    if i >= rows.len() {
+        return false;
+    }
     let row = rows[i].as_slice();
-    row[j]
+    j < row.len() && row[j]
 }
 
-fn leads(rows: &[Row], way: Way, i: usize, j: usize) -> bool
-    requires each { All (λ row. length row ≡ length rows.now) rows.now }
-    requires i { i < length rows.now }
-    requires j { j < length rows.now }
+/// Whether the way leads from the place `i` to the place `j`.
+pub fn leads(rows: &[Row], way: Way, i: usize, j: usize) -> bool
     ensures { IsTrue result ↔ Leads way rows.now i j }
 {
     match way {

@@ -1,4 +1,5 @@
 // How large pieces look from each other: what a guess at a core goes by.
+use crate::spreading::Lead;
 use staat_model::{Arc, Part, Piece};
 use staat_vec::{OutOfMemory, V3};
 use std::alloc::Global;
@@ -131,8 +132,7 @@ pub const MOST_PAIRS: usize = 1 << 20;
 pub struct Pair {
     pub smallness: u128,
     pub arc: Arc,
-    pub from: usize,
-    pub to: usize,
+    pub lead: Lead,
 }
 
 // how small two pieces look from each other: the square of their distance by that of their sizes
@@ -156,8 +156,10 @@ fn pair_of(first: &Spot, second: &Spot) -> Pair {
     Pair {
         smallness: smallness(first, second),
         arc: arc_between(first, second),
-        from: first.place,
-        to: second.place,
+        lead: Lead {
+            from: first.place,
+            to: second.place,
+        },
     }
 }
 

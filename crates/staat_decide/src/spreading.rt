@@ -1,13 +1,18 @@
 // Marks on places, and what arcs between them lead to.
 use crate::reach::Way;
-use staat_vec::OutOfMemory;
-use std::alloc::Global;
-
 /// An arc from one place of a list to another.
 #[derive(Clone, Copy)]
 pub struct Lead {
     pub from: usize,
     pub to: usize,
+}
+
+/// The arc back.
+pub fn turned(lead: Lead) -> Lead {
+    Lead {
+        from: lead.to,
+        to: lead.from,
+    }
 }
 
 /// Whether the place is marked.
@@ -29,11 +34,6 @@ pub fn are_all(marks: &[bool]) -> bool {
     !marks.contains(&false)
 }
 
-/// Marks for so many places, none of which is marked.
-pub fn no_marks(alloc: Global, count: usize) -> Result<Vec<bool>, OutOfMemory> {
-    Ok(vec![in alloc; false; count]?)
-}
-
 /// Marks the first place alone.
 pub fn mark_first(marks: &mut Vec<bool>) {
     for (k, m) in marks.iter_mut().enumerate() {
@@ -45,11 +45,11 @@ pub fn mark_first(marks: &mut Vec<bool>) {
 fn spread(leads: &[Lead], way: Way, marks: &mut Vec<bool>) -> bool {
     let mut more = false;
     for lead in leads {
-        let (from, to) = match way {
-            Way::Ahead => (lead.from, lead.to),
-            Way::Back => (lead.to, lead.from),
+        let arc = match way {
+            Way::Ahead => *lead,
+            Way::Back => turned(*lead),
         };
-        if is_marked(marks.as_slice(), from) && mark(marks, to) {
+        if is_marked(marks.as_slice(), arc.from) && mark(marks, arc.to) {
             more = true;
         }
     }

@@ -1,12 +1,12 @@
 // The facets of pairs of pieces, kept so that they are found once for all directions. Each pair has a slot, which it
 // may share with others: that which was asked about last is kept.
-ghost use Rattle.std.specs.Prelude.{◌≡◌, ◌≢◌, ◌<◌, ◌≤◌, ◌↔◌, List, IfOk, IfSome, IsTrue, OnOk, length};
-ghost use Rattle.staat_model.specs.declared.assembly.Part.{Part as PartValue};
+ghost use Rattle.std.specs.Prelude.{◌≡◌, ◌≢◌, ◌<◌, ◌≤◌, ◌↔◌, IfOk, IfSome, IsTrue, OnOk, length};
 ghost use Rattle.staat_model.specs.Assemblies.{piece_count};
 ghost use Rattle.staat_model.specs.Removal.{Blocks, MeetsAlong};
 ghost use Rattle.staat_motion.specs.Motions.{HasBothPieces, IsMotionOf};
 ghost use Rattle.staat_decide.specs.Keeping.{AreKept, IsEitherOrder, IsKept, KeepsPair, MeetsSome};
 
+use crate::scene::View;
 use staat_cone::FacetSource;
 use staat_holds::piece_of;
 use staat_model::{Arc, Part};
@@ -146,18 +146,6 @@ fn meets_in(slot: &Option<KeptFacets>, parts: &[Part], along: &Along, pair: Arc,
     }
 }
 
-// so many empty slots
-fn empty(alloc: Global, count: usize) -> Result<KeptTable, OutOfMemory>
-    ensures some { IfOk result (λ table. length table.items ≡ count) }
-    ensures kept { IfOk result (λ table. (parts : List PartValue) → AreKept parts table.items) }
-{
-    let mut table = Vec::new(alloc);
-    for _ in 0..count {
-        table.push(None)?;
-    }
-    Ok(table)
-}
-
 // the number of pieces
 fn piece_number(parts: &[Part]) -> usize {
     let mut count = 0usize;
@@ -175,55 +163,51 @@ pub fn table_for(alloc: Global, parts: &[Part]) -> Result<KeptTable, OutOfMemory
     let count = piece_number(parts)
         .saturating_mul(SLOTS)
         .clamp(1, MOST_SLOTS);
-    let table = empty(alloc, count)?;
+    let mut table = Vec::new(alloc);
+    for _ in 0..count {
+        table.push(None)?;
+    }
     Ok(table)
 }
 
 // whether of the slot's pair the first piece meets the second, whether it has it before or not
 fn ask_slot<F: FacetSource>(
     slot: &mut Option<KeptFacets>,
-    alloc: Global,
-    source: &F,
-    parts: &[Part],
-    along: &Along,
+    view: &View<F>,
     pair: Arc,
     key: Arc,
 ) -> Result<bool, OutOfMemory>
-    requires made { IsMotionOf parts.now along.now }
-    requires pieces { HasBothPieces parts.now pair }
+    requires made { IsMotionOf view.now.parts.now view.now.along.now }
+    requires pieces { HasBothPieces view.now.parts.now pair }
     requires order { IsEitherOrder pair key }
-    requires kept { IfSome slot.old (IsKept parts.now) }
-    ensures kept { IfSome slot.new (IsKept parts.now) }
-    ensures answer { IfOk result (λ answer. IsTrue answer ↔ MeetsAlong parts.now along.now.d pair) }
+    requires kept { IfSome slot.old (IsKept view.now.parts.now) }
+    ensures kept { IfSome slot.new (IsKept view.now.parts.now) }
+    ensures answer { IfOk result (λ answer. IsTrue answer ↔ MeetsAlong view.now.parts.now view.now.along.now.d pair) }
 {
-    keep(slot, alloc, source, parts, key)?;
-    Ok(meets_in(slot, parts, along, pair, key))
+    keep(slot, view.alloc, view.source, view.parts, key)?;
+    Ok(meets_in(slot, view.parts, view.along, pair, key))
 }
 
 // whether the first piece meets the second
 fn pair_meets<F: FacetSource>(
     table: &mut KeptTable,
-    alloc: Global,
-    source: &F,
-    parts: &[Part],
-    along: &Along,
+    view: &View<F>,
     pair: Arc,
 ) -> Result<bool, OutOfMemory>
-    requires made { IsMotionOf parts.now along.now }
-    requires pieces { HasBothPieces parts.now pair }
+    requires made { IsMotionOf view.now.parts.now view.now.along.now }
+    requires pieces { HasBothPieces view.now.parts.now pair }
     requires some { 1 ≤ length table.old.items }
-    requires kept { AreKept parts.now table.old.items }
+    requires kept { AreKept view.now.parts.now table.old.items }
     ensures some { length table.new.items ≡ length table.old.items }
-    ensures kept { AreKept parts.now table.new.items }
-    ensures answer { IfOk result (λ answer. IsTrue answer ↔ MeetsAlong parts.now along.now.d pair) }
+    ensures kept { AreKept view.now.parts.now table.new.items }
+    ensures answer { IfOk result (λ answer. IsTrue answer ↔ MeetsAlong view.now.parts.now view.now.along.now.d pair) }
 {
-    if along.apart(pair) {
+    if view.along.apart(pair) {
         return Ok(false);
     }
     let key = ordered(pair);
     let k = slot_of(key, table.len());
-    let answer = ask_slot(&mut table[k], alloc, source, parts, along, pair, key)?;
-    Ok(answer)
+    ask_slot(&mut table[k], view, pair, key)
 }
 
 // how many pieces the part a has, unless they are too many to be numbered
@@ -242,31 +226,28 @@ fn count_of(parts: &[Part], a: u32) -> Option<u32>
 // whether the piece i of the part a meets one of the part b, which has so many
 fn meets_some<F: FacetSource>(
     table: &mut KeptTable,
-    alloc: Global,
-    source: &F,
-    parts: &[Part],
-    along: &Along,
+    view: &View<F>,
     a: u32,
     i: u32,
     b: u32,
     count: u32,
 ) -> Result<bool, OutOfMemory>
-    requires made { IsMotionOf parts.now along.now }
-    requires a_in { a < length parts.now }
-    requires i_in { i < piece_count parts.now a }
-    requires b_in { b < length parts.now }
-    requires count { count ≡ piece_count parts.now b }
+    requires made { IsMotionOf view.now.parts.now view.now.along.now }
+    requires a_in { a < length view.now.parts.now }
+    requires i_in { i < piece_count view.now.parts.now a }
+    requires b_in { b < length view.now.parts.now }
+    requires count { count ≡ piece_count view.now.parts.now b }
     requires some { 1 ≤ length table.old.items }
-    requires kept { AreKept parts.now table.old.items }
+    requires kept { AreKept view.now.parts.now table.old.items }
     ensures some { length table.new.items ≡ length table.old.items }
-    ensures kept { AreKept parts.now table.new.items }
-    ensures answer { IfOk result (λ answer. IsTrue answer ↔ MeetsSome parts.now along.now.d a i b) }
+    ensures kept { AreKept view.now.parts.now table.new.items }
+    ensures answer { IfOk result (λ answer. IsTrue answer ↔ MeetsSome view.now.parts.now view.now.along.now.d a i b) }
 {
-    if along.piece_apart(a, i, b) {
+    if view.along.piece_apart(a, i, b) {
         return Ok(false);
     }
     for j in 0..count {
-        if pair_meets(table, alloc, source, parts, along, Arc { a, i, b, j })? {
+        if pair_meets(table, view, Arc { a, i, b, j })? {
             return Ok(true);
         }
     }
@@ -276,29 +257,26 @@ fn meets_some<F: FacetSource>(
 // whether one of the first pieces of the part a, so many, meets one of the part b
 fn some_meets<F: FacetSource>(
     table: &mut KeptTable,
-    alloc: Global,
-    source: &F,
-    parts: &[Part],
-    along: &Along,
+    view: &View<F>,
     a: u32,
     first: u32,
     b: u32,
     second: u32,
 ) -> Result<bool, OutOfMemory>
-    requires made { IsMotionOf parts.now along.now }
-    requires a_in { a < length parts.now }
-    requires b_in { b < length parts.now }
+    requires made { IsMotionOf view.now.parts.now view.now.along.now }
+    requires a_in { a < length view.now.parts.now }
+    requires b_in { b < length view.now.parts.now }
     requires different { a ≢ b }
-    requires first { first ≡ piece_count parts.now a }
-    requires second { second ≡ piece_count parts.now b }
+    requires first { first ≡ piece_count view.now.parts.now a }
+    requires second { second ≡ piece_count view.now.parts.now b }
     requires some { 1 ≤ length table.old.items }
-    requires kept { AreKept parts.now table.old.items }
+    requires kept { AreKept view.now.parts.now table.old.items }
     ensures some { length table.new.items ≡ length table.old.items }
-    ensures kept { AreKept parts.now table.new.items }
-    ensures answer { IfOk result (λ answer. IsTrue answer ↔ Blocks parts.now along.now.d a b) }
+    ensures kept { AreKept view.now.parts.now table.new.items }
+    ensures answer { IfOk result (λ answer. IsTrue answer ↔ Blocks view.now.parts.now view.now.along.now.d a b) }
 {
     for i in 0..first {
-        if meets_some(table, alloc, source, parts, along, a, i, b, second)? {
+        if meets_some(table, view, a, i, b, second)? {
             return Ok(true);
         }
     }
@@ -308,30 +286,24 @@ fn some_meets<F: FacetSource>(
 /// Whether the part `a` blocks the part `b` along the direction.
 pub fn blocks_with<F: FacetSource>(
     table: &mut KeptTable,
-    alloc: Global,
-    source: &F,
-    parts: &[Part],
-    along: &Along,
+    view: &View<F>,
     a: u32,
     b: u32,
 ) -> Result<bool, OutOfMemory>
-    requires made { IsMotionOf parts.now along.now }
-    requires a_in { a < length parts.now }
-    requires b_in { b < length parts.now }
+    requires made { IsMotionOf view.now.parts.now view.now.along.now }
+    requires a_in { a < length view.now.parts.now }
+    requires b_in { b < length view.now.parts.now }
     requires some { 1 ≤ length table.old.items }
-    requires kept { AreKept parts.now table.old.items }
+    requires kept { AreKept view.now.parts.now table.old.items }
     ensures some { length table.new.items ≡ length table.old.items }
-    ensures kept { AreKept parts.now table.new.items }
-    ensures answer { IfOk result (λ answer. IsTrue answer ↔ Blocks parts.now along.now.d a b) }
+    ensures kept { AreKept view.now.parts.now table.new.items }
+    ensures answer { IfOk result (λ answer. IsTrue answer ↔ Blocks view.now.parts.now view.now.along.now.d a b) }
 {
-    if a == b || along.parts_apart(a, b) {
+    if a == b || view.along.parts_apart(a, b) {
         return Ok(false);
     }
-    let Some(first) = count_of(parts, a) else {
-        return along.blocks(alloc, source, parts, a, b);
-    };
-    let Some(second) = count_of(parts, b) else {
-        return along.blocks(alloc, source, parts, a, b);
-    };
-    some_meets(table, alloc, source, parts, along, a, first, b, second)
+    match (count_of(view.parts, a), count_of(view.parts, b)) {
+        (Some(first), Some(second)) => { some_meets(table, view, a, first, b, second) }
+        _ => view.along.blocks(view.alloc, view.source, view.parts, a, b),
+    }
 }

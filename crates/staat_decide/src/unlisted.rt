@@ -3,8 +3,9 @@
 ghost use Rattle.staat_motion.specs.Motions.{IsMotionOf};
 
 use crate::reach::Way;
+use crate::scene::View;
 use crate::spots::Pair;
-use crate::spreading::is_marked;
+use crate::spreading::{Lead, is_marked};
 use staat_cone::FacetSource;
 use staat_holds::has_pieces;
 use staat_model::{Arc, Part};
@@ -23,19 +24,18 @@ fn piece_number(parts: &[Part], a: u32) -> u32 {
 
 // the first piece of the part b that the piece i of the part a meets
 fn met_by_piece<F: FacetSource>(
-    alloc: Global,
-    source: &F,
-    parts: &[Part],
-    along: &Along,
+    view: &View<F>,
     a: u32,
     i: u32,
     b: u32,
 ) -> Result<Option<Arc>, OutOfMemory>
-    requires { IsMotionOf parts.now along.now }
+    requires { IsMotionOf view.now.parts.now view.now.along.now }
 {
-    for j in 0..piece_number(parts, b) {
+    for j in 0..piece_number(view.parts, b) {
         let arc = Arc { a, i, b, j };
-        if has_pieces(parts, arc) && along.meets(alloc, source, parts, arc)? {
+        if has_pieces(view.parts, arc)
+            && view.along.meets(view.alloc, view.source, view.parts, arc)?
+        {
             return Ok(Some(arc));
         }
     }
@@ -43,36 +43,22 @@ fn met_by_piece<F: FacetSource>(
 }
 
 // whether the part a blocks the part b, if there are such parts
-fn blocks_part<F: FacetSource>(
-    alloc: Global,
-    source: &F,
-    parts: &[Part],
-    along: &Along,
-    a: u32,
-    b: u32,
-) -> Result<bool, OutOfMemory>
-    requires { IsMotionOf parts.now along.now }
+fn blocks_part<F: FacetSource>(view: &View<F>, a: u32, b: u32) -> Result<bool, OutOfMemory>
+    requires { IsMotionOf view.now.parts.now view.now.along.now }
 {
-    if a as usize >= parts.len() || b as usize >= parts.len() {
+    if a as usize >= view.parts.len() || b as usize >= view.parts.len() {
         return Ok(false);
     }
-    along.blocks(alloc, source, parts, a, b)
+    view.along.blocks(view.alloc, view.source, view.parts, a, b)
 }
 
 // the first piece of the part a that meets one of the part b, if a blocks b
-fn met_by_part<F: FacetSource>(
-    alloc: Global,
-    source: &F,
-    parts: &[Part],
-    along: &Along,
-    a: u32,
-    b: u32,
-) -> Result<Option<Arc>, OutOfMemory>
-    requires { IsMotionOf parts.now along.now }
+fn met_by_part<F: FacetSource>(view: &View<F>, a: u32, b: u32) -> Result<Option<Arc>, OutOfMemory>
+    requires { IsMotionOf view.now.parts.now view.now.along.now }
 {
-    if blocks_part(alloc, source, parts, along, a, b)? {
-        for i in 0..piece_number(parts, a) {
-            if let Some(arc) = met_by_piece(alloc, source, parts, along, a, i, b)? {
+    if blocks_part(view, a, b)? {
+        for i in 0..piece_number(view.parts, a) {
+            if let Some(arc) = met_by_piece(view, a, i, b)? {
                 return Ok(Some(arc));
             }
         }
@@ -82,17 +68,14 @@ fn met_by_part<F: FacetSource>(
 
 // the first part at a place that is not marked to which the way leads from the part at the place x
 fn met_from<F: FacetSource>(
-    alloc: Global,
-    source: &F,
-    parts: &[Part],
-    along: &Along,
+    view: &View<F>,
     w: &[u32],
     marks: &[bool],
     way: Way,
     x: usize,
     a: u32,
 ) -> Result<Option<Pair>, OutOfMemory>
-    requires { IsMotionOf parts.now along.now }
+    requires { IsMotionOf view.now.parts.now view.now.along.now }
 {
     for (y, b) in w.iter().enumerate() {
         if !is_marked(marks, y) {
@@ -100,12 +83,11 @@ fn met_from<F: FacetSource>(
                 Way::Ahead => (x, y, a, *b),
                 Way::Back => (y, x, *b, a),
             };
-            if let Some(arc) = met_by_part(alloc, source, parts, along, p, q)? {
+            if let Some(arc) = met_by_part(view, p, q)? {
                 return Ok(Some(Pair {
                     smallness: 0,
                     arc,
-                    from,
-                    to,
+                    lead: Lead { from, to },
                 }));
             }
         }
@@ -116,19 +98,16 @@ fn met_from<F: FacetSource>(
 /// The first pieces that meet across on the way from a marked place to one that is not; `w` has the parts at the
 /// places.
 pub fn met_across<F: FacetSource>(
-    alloc: Global,
-    source: &F,
-    parts: &[Part],
-    along: &Along,
+    view: &View<F>,
     w: &[u32],
     marks: &[bool],
     way: Way,
 ) -> Result<Option<Pair>, OutOfMemory>
-    requires { IsMotionOf parts.now along.now }
+    requires { IsMotionOf view.now.parts.now view.now.along.now }
 {
     for (x, a) in w.iter().enumerate() {
         if is_marked(marks, x) {
-            if let Some(pair) = met_from(alloc, source, parts, along, w, marks, way, x, *a)? {
+            if let Some(pair) = met_from(view, w, marks, way, x, *a)? {
                 return Ok(Some(pair));
             }
         }

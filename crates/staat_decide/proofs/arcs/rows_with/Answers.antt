@@ -16,15 +16,15 @@ row_of-requires g c = record {
 
 pub loop-a-preserved : goal.loop-a-preserved
 loop-a-preserved g c =
-    let parts = c.args.parts.now in
-    let d = c.args.along.now.d in
+    let parts = c.args.view.now.parts.now in
+    let d = c.args.view.now.along.now.d in
     let w = c.args.w.now in
     let i = c.loop-a.a-index in
     record {
       rows = subst (AllZip (IsRow parts d w) (take (i + 1) w)) (sym c.in_ok-push.ensures.items)
-          (zip_more (IsRow parts d w) w c.loop-a.rows.items i 0 c.in_ok-row.row c.loop-a-test.true c.loop-a.invariant.rows c.in_ok-row.ensures.row);
-      some = omega (arith, c.in_ok-row.ensures.some, c.loop-a.invariant.some);
-      kept = c.in_ok-row.ensures.kept;
+          (zip_more (IsRow parts d w) w c.loop-a.rows.items i 0 c.in_ok-row_of.field-0 c.loop-a-test.true c.loop-a.invariant.rows c.in_ok-row_of.ensures.row);
+      some = omega (arith, c.in_ok-row_of.ensures.some, c.loop-a.invariant.some);
+      kept = c.in_ok-row_of.ensures.kept;
     }
 
 pub returns : goal.returns
@@ -33,6 +33,6 @@ returns g c =
     record {
       some = c.loop-a.invariant.some;
       kept = c.loop-a.invariant.kept;
-      rows = subst (λ (ws : List ℕ). AllZip (IsRow c.args.parts.now c.args.along.now.d w) ws c.loop-a.rows.items)
+      rows = subst (λ (ws : List ℕ). AllZip (IsRow c.args.view.now.parts.now c.args.view.now.along.now.d w) ws c.loop-a.rows.items)
           (take_all c.loop-a.a-index w c.loop-a-test.false) c.loop-a.invariant.rows;
     }

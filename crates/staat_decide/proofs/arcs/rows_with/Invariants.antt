@@ -6,7 +6,7 @@ use Rattle.staat_decide.proofs.arcs.rows_with.Given as goal
 
 abbrev pub invariant-loop-a : goal.invariant-loop-a
 invariant-loop-a g l = record {
-  rows : AllZip (IsRow l.parts l.along.d l.w) (take l.a-index l.w) l.rows.items;
+  rows : AllZip (IsRow l.view.parts.now l.view.along.now.d l.w) (take l.a-index l.w) l.rows.items;
   some : length l.table.items ≡ length l.initial.table.items;
-  kept : AreKept l.parts l.table.items;
+  kept : AreKept l.view.parts.now l.table.items;
 }

@@ -5,7 +5,7 @@ use Rattle.staat_decide.proofs.asking.ask_along.Given as goal
 
 abbrev pub invariant-loop-d : goal.invariant-loop-d
 invariant-loop-d g l = record {
-  asked : All (AreAskedRows l.parts) l.asked.items;
+  asked : All (AreAskedRows l.scene.parts.now) l.asked.items;
   some : length l.table.items ≡ length l.initial.table.items;
-  kept : AreKept l.parts l.table.items;
+  kept : AreKept l.scene.parts.now l.table.items;
 }

@@ -9,13 +9,13 @@ use Rattle.staat_decide.proofs.asking.ask_one.Goals as goal
 
 pub takes_all_apart-requires-clause-members : goal.takes_all_apart-requires-clause-members
 takes_all_apart-requires-clause-members g c =
-    subst (All (λ p. p < length c.args.parts.now)) (sym c.requires.all) (numbers_small (length c.args.parts.now))
+    subst (All (λ p. p < length c.args.scene.now.parts.now)) (sym c.requires.all) (numbers_small (length c.args.scene.now.parts.now))
 
 pub takes_all_apart-requires-clause-ascending : goal.takes_all_apart-requires-clause-ascending
 takes_all_apart-requires-clause-ascending g c =
-    subst (IsStrictlySortedBy nat_cmp) (sym c.requires.all) (numbers_sorted (length c.args.parts.now))
+    subst (IsStrictlySortedBy nat_cmp) (sym c.requires.all) (numbers_sorted (length c.args.scene.now.parts.now))
 
 pub returns-clause-asked : goal.returns-clause-asked
 returns-clause-asked g c =
-    subst (All (AreAskedRows c.args.parts.now)) (sym c.in_ok-push.ensures.items)
-    (All-push (AreAskedRows c.args.parts.now) c.args.asked.now.items c.in_ok-one.one c.requires.asked c.in_ok-one.ensures.asked)
+    subst (All (AreAskedRows c.args.scene.now.parts.now)) (sym c.in_ok-push.ensures.items)
+    (All-push (AreAskedRows c.args.scene.now.parts.now) c.args.asked.now.items c.in_ok-one.one c.requires.asked c.in_ok-one.ensures.asked)

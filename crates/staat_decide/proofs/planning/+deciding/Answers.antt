@@ -11,11 +11,11 @@ use Rattle.staat_decide.specs.declared.decision.Decision.TheVariants as decision
 use Rattle.staat_decide.proofs.planning.+deciding.Goals as goal
 
 pub decision_of-returns-then-w-eq1 : goal.decision_of-returns-then-w-eq1
-decision_of-returns-then-w-eq1 g t c = (leaf_good c.args.parts.now c.args.w.now (omega (arith, c.if-w-eq1.true)), tt)
+decision_of-returns-then-w-eq1 g t c = (leaf_good c.args.scene.now.parts.now c.args.w.now (omega (arith, c.if-w-eq1.true)), tt)
 
 pub decision_of-planned-requires : goal.decision_of-planned-requires
 decision_of-planned-requires g t c κs within =
-    let parts = c.args.parts.now in
+    let parts = c.args.scene.now.parts.now in
     let w = c.args.w.now in
     let leaves : IsLeaving parts w c.in-Leaves.leaving = subst (IsParting parts w) c.in-Leaves.is c.in_ok-held.ensures in
     let q = c.requires in
@@ -23,13 +23,13 @@ decision_of-planned-requires g t c κs within =
 
 pub planned-loop-s-init : goal.planned-loop-s-init
 planned-loop-s-init g t c = record {
-  good = subst (λ (trees : List Tree). AreGoodPlans c.args.parts.now [] (map plan_of trees)) (sym c.new-trees.ensures.items) tt;
+  good = subst (λ (trees : List Tree). AreGoodPlans c.args.scene.now.parts.now [] (map plan_of trees)) (sym c.new-trees.ensures.items) tt;
   small = subst (λ (trees : List Tree). HaveSmallDirections (map plan_of trees)) (sym c.new-trees.ensures.items) tt;
 }
 
 pub planned-decision_of-requires : goal.planned-decision_of-requires
 planned-decision_of-requires g t c κs within =
-    let parts = c.args.parts.now in
+    let parts = c.args.scene.now.parts.now in
     let leaving = c.args.leaving.now in
     let q = c.requires in
     let s = own_place leaving.sets c.as_slice-sets.result.now c.loop-s.s-index c.s-item.result c.as_slice.result.now c.as_slice-sets.ensures c.loop-s-test.true c.s-item.is c.as_slice.ensures in
@@ -39,7 +39,7 @@ planned-decision_of-requires g t c κs within =
 
 pub planned-loop-s-preserved : goal.planned-loop-s-preserved
 planned-loop-s-preserved g t c =
-    let parts = c.args.parts.now in
+    let parts = c.args.scene.now.parts.now in
     let leaving = c.args.leaving.now in
     let s = own_place leaving.sets c.as_slice-sets.result.now c.loop-s.s-index c.s-item.result c.as_slice.result.now c.as_slice-sets.ensures c.loop-s-test.true c.s-item.is c.as_slice.ensures in
     let apart : IsDecision parts (set_of c.as_slice.result.now) (decision.Apart c.in-Apart.tree) = subst (IsDecision parts (set_of c.as_slice.result.now)) c.in-Apart.is c.in_ok-stuck.ensures in
@@ -52,18 +52,18 @@ planned-loop-s-preserved g t c =
 pub planned-joined-requires : goal.planned-joined-requires
 planned-joined-requires g t c =
     let leaving = c.args.leaving.now in
-    let are = all_planned c.args.parts.now leaving.sets c.as_slice-sets.result.now c.loop-s.trees.items c.loop-s.s-index c.as_slice-sets.ensures c.loop-s-test.false c.loop-s.invariant.good in
+    let are = all_planned c.args.scene.now.parts.now leaving.sets c.as_slice-sets.result.now c.loop-s.trees.items c.loop-s.s-index c.as_slice-sets.ensures c.loop-s-test.false c.loop-s.invariant.good in
     let two : 2 ≤ length leaving.sets = c.requires.leaves.peels.two in
-    omega (arith, good_count c.args.parts.now leaving.sets c.loop-s.trees.items are, two)
+    omega (arith, good_count c.args.scene.now.parts.now leaving.sets c.loop-s.trees.items are, two)
 
 pub planned-returns : goal.planned-returns
 planned-returns g t c =
     let leaving = c.args.leaving.now in
     let leaves = c.requires.leaves in
-    let are = all_planned c.args.parts.now leaving.sets c.as_slice-sets.result.now c.loop-s.trees.items c.loop-s.s-index c.as_slice-sets.ensures c.loop-s-test.false c.loop-s.invariant.good in
+    let are = all_planned c.args.scene.now.parts.now leaving.sets c.as_slice-sets.result.now c.loop-s.trees.items c.loop-s.s-index c.as_slice-sets.ensures c.loop-s-test.false c.loop-s.invariant.good in
     let two : 2 ≤ length leaving.sets = leaves.peels.two in
-    let some : 1 ≤ length c.loop-s.trees.items = omega (arith, good_count c.args.parts.now leaving.sets c.loop-s.trees.items are, two) in
+    let some : 1 ≤ length c.loop-s.trees.items = omega (arith, good_count c.args.scene.now.parts.now leaving.sets c.loop-s.trees.items are, two) in
     let whole = plan_of c.in_ok-whole.whole in (
-      good_whole c.args.parts.now leaving.d c.args.w.now leaving.sets c.loop-s.trees.items whole leaves.peels are c.in_ok-whole.ensures,
+      good_whole c.args.scene.now.parts.now leaving.d c.args.w.now leaving.sets c.loop-s.trees.items whole leaves.peels are c.in_ok-whole.ensures,
       small_whole leaving.d c.loop-s.trees.items whole some leaves.size c.loop-s.invariant.small c.in_ok-whole.ensures,
     )

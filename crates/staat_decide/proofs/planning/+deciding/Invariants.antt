@@ -7,7 +7,7 @@ use Rattle.staat_decide.proofs.planning.+deciding.Given as goal
 
 abbrev pub invariant-planned-loop-s : goal.invariant-planned-loop-s
 invariant-planned-loop-s g l = record {
-  good : AreGoodPlans l.parts (map set_of (take l.s-index l.sets)) (map plan_of l.trees.items);
+  good : AreGoodPlans l.scene.parts.now (map set_of (take l.s-index l.sets)) (map plan_of l.trees.items);
   small : HaveSmallDirections (map plan_of l.trees.items);
 }
 

@@ -16,26 +16,26 @@ own_shadow parts along a i made a_in i_in =
 
 pub piece_apart-requires-clause-part : goal.piece_apart-requires-clause-part
 piece_apart-requires-clause-part g c =
-    (own_shadow c.args.parts.now c.args.along.now c.args.a c.args.i c.requires.made c.requires.a_in c.requires.i_in).a_in
+    (own_shadow c.args.view.now.parts.now c.args.view.now.along.now c.args.a c.args.i c.requires.made c.requires.a_in c.requires.i_in).a_in
 
 pub piece_apart-requires-clause-piece : goal.piece_apart-requires-clause-piece
 piece_apart-requires-clause-piece g c =
-    (own_shadow c.args.parts.now c.args.along.now c.args.a c.args.i c.requires.made c.requires.a_in c.requires.i_in).i_in
+    (own_shadow c.args.view.now.parts.now c.args.view.now.along.now c.args.a c.args.i c.requires.made c.requires.a_in c.requires.i_in).i_in
 
 pub piece_apart-requires-clause-b_in : goal.piece_apart-requires-clause-b_in
 piece_apart-requires-clause-b_in g c =
-    let count = wholes_count c.args.parts.now c.args.along.now c.requires.made in omega (arith, count, c.requires.b_in)
+    let count = wholes_count c.args.view.now.parts.now c.args.view.now.along.now c.requires.made in omega (arith, count, c.requires.b_in)
 
 pub returns-then-piece_apart-clause-answer : goal.returns-then-piece_apart-clause-answer
 returns-then-piece_apart-clause-answer g c = (
   λ e. absurd (false≢true e),
-  λ m. absurd (c.piece_apart.ensures.never c.args.parts.now m.j c.requires.made c.if-piece_apart.true m.meets),
+  λ m. absurd (c.piece_apart.ensures.never c.args.view.now.parts.now m.j c.requires.made c.if-piece_apart.true m.meets),
 )
 
 pub returns-clause-answer : goal.returns-clause-answer
 returns-clause-answer g c = (
   λ e. absurd (false≢true e),
-  λ m. let lt = piece_within c.args.parts.now c.args.b m.j m.meets.q m.meets.q_is in
+  λ m. let lt = piece_within c.args.view.now.parts.now c.args.b m.j m.meets.q m.meets.q_is in
       absurd (c.loop-j.invariant.none m.j (omega (arith, lt, c.requires.count, c.loop-j-test.false)) m.meets),
 )
 
@@ -54,7 +54,7 @@ pair_meets-requires g c = record {
 
 pub loop-j-preserved : goal.loop-j-preserved
 loop-j-preserved g c =
-    let Free : ℕ → Type 0 = λ k. MeetsAlong c.args.parts.now c.args.along.now.d (record { a = c.args.a; i = c.args.i; b = c.args.b; j = k }) → ⊥ in
+    let Free : ℕ → Type 0 = λ k. MeetsAlong c.args.view.now.parts.now c.args.view.now.along.now.d (record { a = c.args.a; i = c.args.i; b = c.args.b; j = k }) → ⊥ in
     let here : Free c.loop-j.j = λ m. false≢true (sym c.if-branch.false ∙ c.in_ok-pair_meets.ensures.answer.1 m) in
     record {
       some = c.in_ok-pair_meets.ensures.some ∙ c.loop-j.invariant.some;

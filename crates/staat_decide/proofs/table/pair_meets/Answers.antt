@@ -11,17 +11,13 @@ abbrev Fits : List Part → Option KeptFacets → Type 0
 Fits parts slot = IfSome slot (IsKept parts)
 
 pub apart-requires : goal.apart-requires
-apart-requires g c = has_shadows c.args.parts.now c.args.along.now c.args.pair c.requires.made c.requires.pieces
+apart-requires g c = has_shadows c.args.view.now.parts.now c.args.view.now.along.now c.args.pair c.requires.made c.requires.pieces
 
 pub ask_slot-requires-clause-kept : goal.ask_slot-requires-clause-kept
 ask_slot-requires-clause-kept g c =
-    subst (Fits c.args.parts.now) (sym c.index_mut.ensures.value)
+    subst (Fits c.args.view.now.parts.now) (sym c.index_mut.ensures.value)
     (c.requires.kept c.slot_of-k.result _ (omega (arith, c.slot_of-k.ensures, c.len.ensures)))
 
 pub returns-clause-kept : goal.returns-clause-kept
 returns-clause-kept g c =
-    All-set (Fits c.args.parts.now) c.args.table.now.items c.slot_of-k.result c.ask_slot.new.slot c.ask_slot.ensures.kept c.requires.kept
-
-pub returns-in_err-answer-clause-kept : goal.returns-in_err-answer-clause-kept
-returns-in_err-answer-clause-kept g c =
-    All-set (Fits c.args.parts.now) c.args.table.now.items c.slot_of-k.result c.ask_slot.new.slot c.ask_slot.ensures.kept c.requires.kept
+    All-set (Fits c.args.view.now.parts.now) c.args.table.now.items c.slot_of-k.result c.ask_slot.new.slot c.ask_slot.ensures.kept c.requires.kept

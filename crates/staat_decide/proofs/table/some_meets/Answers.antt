@@ -8,7 +8,7 @@ use borrow.Author.Count.{below_more}
 pub returns-clause-answer : goal.returns-clause-answer
 returns-clause-answer g c = (
   λ e. absurd (false≢true e),
-  λ b. let lt = piece_within c.args.parts.now c.args.a b.i b.meets.p b.meets.p_is in
+  λ b. let lt = piece_within c.args.view.now.parts.now c.args.a b.i b.meets.p b.meets.p_is in
       absurd (c.loop-i.invariant.none b.i (omega (arith, lt, c.requires.first, c.loop-i-test.false)) (record { j = b.j; meets = b.meets })),
 )
 
@@ -25,7 +25,7 @@ meets_some-requires g c = record {
 
 pub loop-i-preserved : goal.loop-i-preserved
 loop-i-preserved g c =
-    let Free : ℕ → Type 0 = λ k. MeetsSome c.args.parts.now c.args.along.now.d c.args.a k c.args.b → ⊥ in
+    let Free : ℕ → Type 0 = λ k. MeetsSome c.args.view.now.parts.now c.args.view.now.along.now.d c.args.a k c.args.b → ⊥ in
     let here : Free c.loop-i.i = λ m. false≢true (sym c.if-branch.false ∙ c.in_ok-meets_some.ensures.answer.1 m) in
     record {
       some = c.in_ok-meets_some.ensures.some ∙ c.loop-i.invariant.some;

@@ -5,6 +5,6 @@ use Rattle.staat_decide.proofs.table.some_meets.Given as goal
 abbrev pub invariant-loop-i : goal.invariant-loop-i
 invariant-loop-i g l = record {
   some : length l.table.items ≡ length l.initial.table.items;
-  kept : AreKept l.parts l.table.items;
-  none : (k : ℕ) → k < l.i → MeetsSome l.parts l.along.d l.a k l.b → ⊥;
+  kept : AreKept l.view.parts.now l.table.items;
+  none : (k : ℕ) → k < l.i → MeetsSome l.view.parts.now l.view.along.now.d l.a k l.b → ⊥;
 }

@@ -1,11 +1,9 @@
 use Rattle.std.proofs.Common.{◌≡◌, length}
-use Rattle.std.specs.Prelude.{List}
-use Rattle.staat_model.specs.declared.assembly.Part.{Part}
 use Rattle.staat_decide.specs.Keeping.{AreKept}
-use Rattle.staat_decide.proofs.table.empty.Given as goal
+use Rattle.staat_decide.proofs.table.table_for.Given as goal
 
 abbrev pub invariant-loop : goal.invariant-loop
 invariant-loop l = record {
   some : length l.table.items ≡ l.counter;
-  kept : (parts : List Part) → AreKept parts l.table.items;
+  kept : AreKept l.parts l.table.items;
 }
