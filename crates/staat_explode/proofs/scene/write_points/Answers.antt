@@ -12,10 +12,10 @@ loop-vertex-preserved c =
     let points = c.args.vertices.now in
     let i = c.loop-vertex.vertex-index in
     let d = c.vertex-item.result in
-    let is : c.as_bytes.result.now ≡ line (get_or points i d) =
-    c.as_bytes.ensures.value ∙ c.in_ok-line.ensures ∙ ap point_line c.placed.ensures ∙ ap line (c.point.ensures ∙ c.vertex-item.is) in
+    let is : point_line c.placed.result ≡ line (get_or points i d) =
+    ap point_line c.placed.ensures ∙ ap line (c.point.ensures ∙ c.vertex-item.is) in
     record {
-      text = adds_then c.args.sheet.now c.loop-vertex.sheet c.write.new.self (flat_map line (take i points)) (line (get_or points i d)) _
-          (line_more line points i d c.loop-vertex-test.true) c.loop-vertex.invariant.text (subst (AddsText c.loop-vertex.sheet c.write.new.self) is c.in_ok-write.ensures.text);
-      room = omega (arith, c.in_ok-write.ensures.length, c.as_bytes.ensures.len);
+      text = adds_then c.args.sheet.now c.loop-vertex.sheet c.write_point.new.sheet (flat_map line (take i points)) (line (get_or points i d)) _
+          (line_more line points i d c.loop-vertex-test.true) c.loop-vertex.invariant.text (subst (AddsText c.loop-vertex.sheet c.write_point.new.sheet) is c.in_ok-write_point.ensures.text);
+      room = omega (arith, c.in_ok-write_point.ensures.room);
     }
