@@ -19,3 +19,6 @@ loop-vertex-preserved c =
           (line_more line points i d c.loop-vertex-test.true) c.loop-vertex.invariant.text (subst (AddsText c.loop-vertex.sheet c.write_point.new.sheet) is c.in_ok-write_point.ensures.text);
       room = omega (arith, c.in_ok-write_point.ensures.room);
     }
+
+pub zzz : goal.zzz
+zzz c = ?
