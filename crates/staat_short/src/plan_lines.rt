@@ -1,5 +1,5 @@
 // The lines of plans, one by one.
-ghost use Rattle.std.specs.Prelude.{◌≡◌, ◌++◌, ◌∷◌, [], ℕ, IfOk, MatchOption};
+ghost use Rattle.std.specs.Prelude.{◌≡◌, ℕ, IfOk, MatchOption, None, Some};
 ghost use Rattle.staat_short.specs.declared.stage.PlanKind.{PlanKind as Kind};
 ghost use Rattle.staat_short.specs.declared.stage.PlanKind.TheVariants.{Rest};
 ghost use Rattle.staat_short.specs.Fronts.{after_group, after_leaf, after_split, grouped_in, planning};
@@ -7,18 +7,12 @@ ghost use Rattle.staat_short.specs.ShortStanding.{Makes};
 ghost use Rattle.staat_short.specs.ShortViews.{Grows, front_of, holding_of};
 
 use crate::hold_lines::close_hold;
+use crate::nodes::push_node;
 use crate::short::ShortNode;
 use crate::stage::{Growth, Holding, Place, PlanKind, Stage, advance};
 use staat_vec::{Listed, V3};
 use std::alloc::{AllocError, Global};
 use std::mem;
-
-fn push_node(nodes: &mut Vec<ShortNode>, node: ShortNode) -> Result<(), AllocError>
-    ensures { IfOk result (λ _. nodes.new.items ≡ nodes.old.items ++ node ∷ []) }
-{
-    nodes.push(node)?;
-    Ok(())
-}
 
 // The plan with a node more, where the holds are a group that has a hold.
 fn with_group(alloc: Global, holding: &mut Holding) -> Result<Option<Growth>, AllocError>
@@ -106,6 +100,25 @@ pub fn split(stage: &mut Stage, d: V3) -> Result<bool, AllocError>
     }
 }
 
+// The holds of a group that begins, where a tree is wanted.
+fn begun_group(alloc: Global, growth: &mut Growth) -> Option<Holding>
+    ensures { MatchOption result
+        ((n : ℕ) → after_group (planning n Rest growth.old.nodes.items growth.old.wanted) ≡ None)
+        (λ h. (n : ℕ) → after_group (planning n Rest growth.old.nodes.items growth.old.wanted)
+            ≡ Some (holding_of n h)) }
+{
+    if growth.wanted == 0 {
+        return None;
+    }
+    let wanted = growth.wanted - 1;
+    let nodes = mem::replace(&mut growth.nodes, Vec::new(alloc));
+    Some(Holding {
+        place: Place::InPlan(Growth { nodes, wanted }),
+        holds: Vec::new(alloc),
+        last: None,
+    })
+}
+
 /// The beginning of a group, where a tree is wanted that may be one.
 pub fn group(alloc: Global, stage: &mut Stage) -> bool
     ensures { Makes (after_group (front_of stage.old)) result (front_of stage.new) }
@@ -116,19 +129,14 @@ pub fn group(alloc: Global, stage: &mut Stage) -> bool
             kind: PlanKind::Rest,
             growth,
         } => {
-            if growth.wanted == 0 {
-                return false;
-            }
             let parts = *parts;
-            let wanted = growth.wanted - 1;
-            let nodes = mem::replace(&mut growth.nodes, Vec::new(alloc));
-            let holding = Holding {
-                place: Place::InPlan(Growth { nodes, wanted }),
-                holds: Vec::new(alloc),
-                last: None,
-            };
-            advance(stage, Stage::Holding { parts, holding });
-            true
+            match begun_group(alloc, growth) {
+                None => false,
+                Some(holding) => {
+                    advance(stage, Stage::Holding { parts, holding });
+                    true
+                }
+            }
         }
         _ => false,
     }

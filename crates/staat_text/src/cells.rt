@@ -1,5 +1,5 @@
 // The text of all cells of directions, each with its blocking graph.
-ghost use Rattle.std.specs.Prelude.{◌≡◌, ◌++◌, ◌<◌, ◌≤◌, ◌+◌, ◌^◌, [], IfOk, List};
+ghost use Rattle.std.specs.Prelude.{◌≡◌, ◌++◌, ◌<◌, ◌≤◌, ◌^◌, [], IfOk, List};
 ghost use Rattle.std.specs.Prelude.{codes, decimal, flat_map, length, map, string_bytes};
 ghost use Rattle.std.specs.Fmt.{signed_decimal};
 ghost use Rattle.staat_model.specs.declared.assembly.Part.{Part as PartValue};
@@ -12,7 +12,7 @@ ghost use Rattle.staat_cells.specs.Compositions.{entry_of};
 ghost use Rattle.staat_text.specs.CellTexts.{IsAnswer, IsCellsAnswer, IsTextOfCells, count_line, line_with};
 ghost use Rattle.staat_text.specs.CellTexts.{kind_count, kind_word, same_kind, short_arc, short_arcs, totals_line};
 ghost use Rattle.staat_text.specs.GraphTexts.{arcs_from, arcs_of};
-ghost use Rattle.staat_text.specs.Holding.{HoldsCells, HoldsMore};
+ghost use Rattle.staat_text.specs.Holding.{HoldsCells};
 ghost use Rattle.staat_text.specs.PlanTexts.{numbers_before};
 
 use crate::holding::{HeldText, hold};
@@ -205,29 +205,6 @@ fn totals_line(alloc: Global, planes: u32, cells: &[Cell]) -> Result<String, All
     count_line(alloc, planes, points, edges, opens)
 }
 
-// Adds the line of a cell, whose graph is g. Its arcs take the place of those of the last graph.
-fn hold_cell(
-    held: &mut HeldText,
-    line: &mut Vec<u8>,
-    arcs: &mut Vec<u8>,
-    last: &mut Graph,
-    g: &Graph,
-    cell: &Cell,
-    parts: u32,
-) -> Result<(), AllocError>
-    requires parts { parts ≤ MOST_PARTS }
-    requires room { held.old.length < 2 ^ 127 }
-    requires before { arcs.old.items ≡ short_arcs (arcs_of last.old.rows parts) }
-    ensures same { IfOk result (λ _. arcs.new.items ≡ short_arcs (arcs_of last.new.rows parts)) }
-    ensures room { IfOk result (λ _. held.new.length < held.old.length + 2 ^ 64) }
-    ensures more { IfOk result (λ _. HoldsMore held.old held.new
-        (line_with (entry_of cell.now) (short_arcs (arcs_of g.now.rows parts)))) }
-{
-    renew_arcs(arcs, last, g, parts)?;
-    write_cell(line, cell, arcs)?;
-    hold(held, line.as_slice())
-}
-
 // Adds a line for each cell.
 fn hold_cells(
     alloc: Global,
@@ -247,7 +224,9 @@ fn hold_cells(
     push_arcs_or_dash(&mut arcs, &last, parts)?;
     for cell in cells {
         let g = graphs.graph_of(cell.signs.as_slice());
-        hold_cell(held, &mut line, &mut arcs, &mut last, &g, cell, parts)?;
+        renew_arcs(&mut arcs, &mut last, &g, parts)?;
+        write_cell(&mut line, cell, &arcs)?;
+        hold(held, line.as_slice())?;
     }
     Ok(())
 }

@@ -2,8 +2,7 @@
 ghost use Rattle.std.specs.Prelude.{◌≡◌, ◌++◌, IfOk, codes, decimal};
 ghost use Rattle.staat_model.specs.Outcomes.{finding_of};
 ghost use Rattle.staat_model.specs.Plans.{plan_of};
-ghost use Rattle.staat_text.specs.DrillTexts.{drill_text, length_words, outcome_words, size_words};
-ghost use Rattle.staat_text.specs.DrillTexts.{verdict_words};
+ghost use Rattle.staat_text.specs.DrillTexts.{drill_text, outcome_words, verdict_words};
 ghost use Rattle.staat_text.specs.PlanTexts.{CanBeShown, HasLeaves, steps_of};
 
 use crate::plans::steps_of;
@@ -48,25 +47,6 @@ fn push_verdict(alloc: Global, text: &mut Vec<u8>, verdict: &Verdict) -> Result<
     Ok(())
 }
 
-// Adds what the line says of the trial.
-fn push_trial(
-    text: &mut Vec<u8>,
-    kind: &str,
-    n: u32,
-    outcome: &Outcome,
-    bytes: usize,
-) -> Result<(), AllocError>
-    requires { CanBeShown (finding_of outcome.now) }
-    ensures { IfOk result (λ _. text.new.items ≡ text.old.items
-        ++ (kind.now ++ size_words n ++ outcome_words (finding_of outcome.now) ++ length_words bytes)) }
-{
-    text.extend_from_slice(kind.as_bytes())?;
-    push_counted(text, b" ", n as u64, b": ")?;
-    push_outcome(text, outcome)?;
-    push_counted(text, b", ", bytes as u64, b" bytes, ")?;
-    Ok(())
-}
-
 /// The line of a trial: `drill KIND N: `, then `K splits` or `stuck K parts`, `, B bytes, ` and the verdict on the
 /// certificate, which has so many bytes: `valid`, or the rule that it breaks.
 ///
@@ -84,7 +64,10 @@ pub fn drill_text(
         text ≡ drill_text kind.now n (finding_of outcome.now) bytes verdict.now) }
 {
     let mut text = b"drill ".to_vec(alloc)?;
-    push_trial(&mut text, kind, n, outcome, bytes)?;
+    text.extend_from_slice(kind.as_bytes())?;
+    push_counted(&mut text, b" ", n as u64, b": ")?;
+    push_outcome(&mut text, outcome)?;
+    push_counted(&mut text, b", ", bytes as u64, b" bytes, ")?;
     push_verdict(alloc, &mut text, verdict)?;
     Ok(Bytes::from_vec(text))
 }

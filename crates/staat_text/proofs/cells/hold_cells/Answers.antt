@@ -1,4 +1,4 @@
-use Rattle.std.proofs.Common.{ℕ, List, arith, refl, subst}
+use Rattle.std.proofs.Common.{◌∙◌, ℕ, List, ap, arith, subst, sym}
 use Rattle.staat_cells.specs.CellGraphs.{IsCellGraph}
 use Rattle.staat_cells.specs.Compositions.{entry_of}
 use Rattle.staat_text.specs.CellTexts.{line_with, short_arcs}
@@ -9,16 +9,18 @@ use Rattle.staat_text.proofs.cells.hold_cells.Goals as goal
 pub loop-cell-preserved : goal.loop-cell-preserved
 loop-cell-preserved c = record {
   room =
-      let more = c.in_ok-hold_cell.ensures.room in
+      let long = c.in_ok-hold.ensures.long in
       let before = c.loop-cell.invariant.room in
-      omega (arith, more, before);
+      let fits = c.as_slice-in-loop-cell.type_inv.0 in
+      omega (arith, long, before, fits);
   so_far = λ t tells.
-      cells_more t c.args.parts c.loop-cell.cell-index c.args.cells.now c.cell-item.result c.graph_of-g.result.rows
-      (line_with (entry_of c.cell-item.result) (short_arcs (arcs_of c.graph_of-g.result.rows c.args.parts)))
-      c.args.held.now c.loop-cell.held c.hold_cell.new.held c.loop-cell-test.true c.cell-item.is (c.loop-cell.invariant.so_far t tells)
+      cells_more t c.args.parts c.loop-cell.cell-index c.args.cells.now c.cell-item.result c.graph_of-g.result.rows c.as_slice-in-loop-cell.result.now
+      c.args.held.now c.loop-cell.held c.hold.new.held c.loop-cell-test.true c.cell-item.is (c.loop-cell.invariant.so_far t tells)
       (subst (λ s. IsCellGraph t s c.graph_of-g.result.rows) c.as_slice.ensures (c.graph_of-g.ensures.table t tells))
-      refl c.in_ok-hold_cell.ensures.more;
-  same = c.in_ok-hold_cell.ensures.same;
+      (c.as_slice-in-loop-cell.ensures.value ∙ c.in_ok-write_cell.ensures
+      ∙ ap (line_with (entry_of c.cell-item.result)) (c.deref.ensures.value ∙ c.in_ok-renew_arcs.ensures.arcs)) c.in_ok-hold.ensures.more;
+  same = c.in_ok-renew_arcs.ensures.arcs
+      ∙ ap (λ (rows : List ℕ). short_arcs (arcs_of rows c.args.parts)) (sym c.in_ok-renew_arcs.ensures.last);
 }
 
 pub returns : goal.returns
