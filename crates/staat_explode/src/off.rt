@@ -1,5 +1,5 @@
 // The lines of points and faces.
-ghost use Rattle.std.specs.Prelude.{◌≡◌, ◌<◌, ◌+◌, ◌++◌, ◌^◌, All, IfOk, decimal, map, string_bytes};
+ghost use Rattle.std.specs.Prelude.{◌≡◌, ◌<◌, ◌+◌, ◌^◌, All, IfOk, decimal, map, string_bytes};
 ghost use Rattle.staat_explode.specs.Scenes.{corner_text, face_line, head_text, point_line};
 
 use staat_vec::V3;
@@ -28,15 +28,6 @@ fn next_corner(alloc: Global, corner: u32) -> Result<String, AllocError>
     format!(in alloc; " {corner}")
 }
 
-// Adds a corner to the line.
-fn push_corner(alloc: Global, line: &mut Vec<u8>, corner: u32) -> Result<(), AllocError>
-    ensures { IfOk result (λ _. line.new.items ≡ line.old.items ++ corner_text corner) }
-{
-    let next = next_corner(alloc, corner)?;
-    line.extend_from_slice(next.as_bytes())?;
-    Ok(())
-}
-
 // The number of corners of a face.
 fn corner_count(alloc: Global, corners: usize) -> Result<String, AllocError>
     ensures { IfOk result (λ s. string_bytes s ≡ decimal corners) }
@@ -51,7 +42,8 @@ pub(crate) fn face_line(alloc: Global, before: u32, face: &[u32]) -> Result<Vec<
 {
     let mut line = corner_count(alloc, face.len())?.into_bytes();
     for corner in face {
-        push_corner(alloc, &mut line, before + *corner)?;
+        let next = next_corner(alloc, before + *corner)?;
+        line.extend_from_slice(next.as_bytes())?;
     }
     line.extend_from_slice(b"\n")?;
     Ok(line)

@@ -49,16 +49,6 @@ fn placed(p: V3, at: V3, shift: V3) -> V3
     moved(add(p, at), shift)
 }
 
-// Writes the line of a point.
-fn write_point(alloc: Global, p: V3, sheet: &mut Sheet) -> Result<(), AllocError>
-    requires { sheet.old.length < 2 ^ 126 }
-    ensures text { OnOk result (AddsText sheet.old sheet.new (point_line p)) }
-    ensures room { OnOk result (sheet.new.length ≤ sheet.old.length + 2 ^ 64) }
-{
-    let line = point_line(alloc, p)?;
-    sheet.write(line.as_bytes())
-}
-
 // Writes the points of a solid, each at its place in the scene.
 fn write_points(
     alloc: Global,
@@ -76,7 +66,8 @@ fn write_points(
     ensures room { OnOk result (sheet.new.length ≤ sheet.old.length + length vertices.now * 2 ^ 64) }
 {
     for vertex in vertices {
-        write_point(alloc, placed(vertex.point(), at, shift), sheet)?;
+        let line = point_line(alloc, placed(vertex.point(), at, shift))?;
+        sheet.write(line.as_bytes())?;
     }
     Ok(())
 }
@@ -103,22 +94,6 @@ fn write_all_points(
     Ok(())
 }
 
-// Writes the line of a face, with each corner raised.
-fn write_face(
-    alloc: Global,
-    before: u32,
-    face: &[u32],
-    sheet: &mut Sheet,
-) -> Result<(), AllocError>
-    requires corners { All (λ corner. before + corner < 2 ^ 32) face.now }
-    requires room { sheet.old.length < 2 ^ 126 }
-    ensures text { OnOk result (AddsText sheet.old sheet.new (face_line (map (λ corner. before + corner) face.now))) }
-    ensures room { OnOk result (sheet.new.length ≤ sheet.old.length + 2 ^ 64) }
-{
-    let line = face_line(alloc, before, face)?;
-    sheet.write(line.as_slice())
-}
-
 // Writes the faces of a solid, with each corner raised.
 fn write_faces(
     alloc: Global,
@@ -133,7 +108,8 @@ fn write_faces(
     ensures room { OnOk result (sheet.new.length ≤ sheet.old.length + length faces.now * 2 ^ 64) }
 {
     for face in faces {
-        write_face(alloc, before, face.as_slice(), sheet)?;
+        let line = face_line(alloc, before, face.as_slice())?;
+        sheet.write(line.as_slice())?;
     }
     Ok(())
 }

@@ -16,5 +16,16 @@ loop-solid-preserved c =
       faces = omega (arith, count, ap length c.as_slice-in-loop-solid.ensures, faces_left points solids i s s c.loop-solid-test.true c.solid-item.is, ap (λ n. length (rest n)) count, c.loop-solid.invariant.faces);
     }
 
-pub zzz : goal.zzz
-zzz c = ?
+pub overflow_add-points : goal.overflow_add-points
+overflow_add-points c =
+    let solids = c.args.solids.now in
+    let s = c.solid-item.result in
+    let i = c.loop-solid.solid-index in
+    omega (arith, ap length c.as_slice.ensures, points_left solids i s s c.loop-solid-test.true c.solid-item.is, c.loop-solid.invariant.points, c.requires.points)
+
+pub overflow_add-faces : goal.overflow_add-faces
+overflow_add-faces c =
+    let solids = c.args.solids.now in
+    let s = c.solid-item.result in
+    let i = c.loop-solid.solid-index in
+    omega (arith, ap length c.as_slice-in-loop-solid.ensures, faces_left c.loop-solid.points solids i s s c.loop-solid-test.true c.solid-item.is, c.loop-solid.invariant.faces, c.requires.faces)

@@ -11,9 +11,9 @@ loop-face-preserved c =
     let faces = c.args.faces.now in
     let i = c.loop-face.face-index in
     let d = c.face-item.result in
-    let is : line c.as_slice.result.now ≡ line (get_or faces i d) = ap line (c.as_slice.ensures ∙ c.face-item.is) in record {
-      text = adds_then c.args.sheet.now c.loop-face.sheet c.write_face.new.sheet (flat_map line (take i faces)) (line (get_or faces i d)) _ (line_more line faces i d c.loop-face-test.true) c.loop-face.invariant.text (subst (AddsText c.loop-face.sheet c.write_face.new.sheet) is c.in_ok-write_face.ensures.text);
-      room = omega (arith, c.in_ok-write_face.ensures.room, c.loop-face.invariant.room);
+    let is : c.as_slice-in-loop-face.result.now ≡ line (get_or faces i d) = c.as_slice-in-loop-face.ensures.value ∙ c.in_ok-line.ensures ∙ ap line (c.as_slice.ensures ∙ c.face-item.is) in record {
+      text = adds_then c.args.sheet.now c.loop-face.sheet c.write.new.self (flat_map line (take i faces)) (line (get_or faces i d)) _ (line_more line faces i d c.loop-face-test.true) c.loop-face.invariant.text (subst (AddsText c.loop-face.sheet c.write.new.self) is c.in_ok-write.ensures.text);
+      room = search rules;
     }
 
 pub returns-clause-text : goal.returns-clause-text

@@ -1,6 +1,7 @@
-use Rattle.std.proofs.Common.{◌≡◌, ◌∙◌, List, ℕ, take, flat_map, get_or, ap, subst, arith}
+use Rattle.std.proofs.Common.{◌≡◌, ◌∙◌, List, ℕ, take, flat_map, get_or, ap, subst, sym, arith}
 use Rattle.staat_vec.specs.declared.vector.V3.{V3}
-use Rattle.staat_vec.specs.Vectors.{plus}
+use Rattle.staat_vec.specs.declared.vector.TheConstants.{POINT}
+use Rattle.staat_vec.specs.Vectors.{IsWithin, plus}
 use Rattle.staat_explode.specs.Scenes.{point_line}
 use Rattle.staat_explode.specs.Sheets.{AddsText}
 use Rattle.staat_explode.proofs.Lines.{adds_then, line_more}
@@ -12,13 +13,18 @@ loop-vertex-preserved c =
     let points = c.args.vertices.now in
     let i = c.loop-vertex.vertex-index in
     let d = c.vertex-item.result in
-    let is : point_line c.placed.result ≡ line (get_or points i d) =
-    ap point_line c.placed.ensures ∙ ap line (c.point.ensures ∙ c.vertex-item.is) in
+    let is : c.as_bytes.result.now ≡ line (get_or points i d) =
+    c.as_bytes.ensures.value ∙ c.in_ok-line.ensures ∙ ap point_line c.placed.ensures ∙ ap line (c.point.ensures ∙ c.vertex-item.is) in
     record {
-      text = adds_then c.args.sheet.now c.loop-vertex.sheet c.write_point.new.sheet (flat_map line (take i points)) (line (get_or points i d)) _
-          (line_more line points i d c.loop-vertex-test.true) c.loop-vertex.invariant.text (subst (AddsText c.loop-vertex.sheet c.write_point.new.sheet) is c.in_ok-write_point.ensures.text);
-      room = omega (arith, c.in_ok-write_point.ensures.room);
+      text = adds_then c.args.sheet.now c.loop-vertex.sheet c.write.new.self (flat_map line (take i points)) (line (get_or points i d)) _
+          (line_more line points i d c.loop-vertex-test.true) c.loop-vertex.invariant.text (subst (AddsText c.loop-vertex.sheet c.write.new.self) is c.in_ok-write.ensures.text);
+      room = omega (arith, c.in_ok-write.ensures.length, c.as_bytes.ensures.len);
     }
 
-pub zzz : goal.zzz
-zzz c = ?
+pub placed-requires-clause-p : goal.placed-requires-clause-p
+placed-requires-clause-p c =
+    let same = c.point.ensures ∙ c.vertex-item.is in
+    subst (IsWithin POINT) (sym same) (c.requires.points c.loop-vertex.vertex-index c.vertex-item.result c.loop-vertex-test.true)
+
+pub write-requires : goal.write-requires
+write-requires c = omega (arith, c.loop-vertex.invariant.room, c.requires.room, c.loop-vertex-test.true)
