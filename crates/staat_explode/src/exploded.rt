@@ -130,7 +130,11 @@ pub(crate) fn shifted_of(
 }
 
 // The parts of a plan for an assembly with their vectors, unless one is too far after some split.
-fn placed_of(alloc: Global, assembly: &Assembly, tree: &Tree) -> Result<Vec<Shifted>, ExplodeRefusal>
+fn placed_of(
+    alloc: Global,
+    assembly: &Assembly,
+    tree: &Tree,
+) -> Result<Vec<Shifted>, ExplodeRefusal>
     requires plan { IsShiftable (length (boxes_of assembly.now)) (plan_of tree.now) }
     requires directions { HasDirections (plan_of tree.now) }
     requires nodes { node_count (plan_of tree.now) ≤ 2 * MOST_PARTS }

@@ -53,6 +53,7 @@ fn pair_follows(pairs: &[Arc], pair: Arc) -> bool
     }
 }
 
+// The last hold joins the others.
 fn push_hold(holds: &mut Vec<Hold>, hold: OpenHold) -> Result<(), AllocError>
     ensures { IfOk result (λ _. holds.new.items ≡ holds.old.items ++ hold_of hold ∷ []) }
 {

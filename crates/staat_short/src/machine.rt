@@ -48,7 +48,14 @@ fn plan(alloc: Global, kind: PlanKind, stage: &mut Stage) -> bool
                 nodes: Vec::new(alloc),
                 wanted: 1,
             };
-            advance(stage, Stage::Planning { parts, kind, growth });
+            advance(
+                stage,
+                Stage::Planning {
+                    parts,
+                    kind,
+                    growth,
+                },
+            );
             true
         }
         _ => false,
@@ -110,29 +117,22 @@ fn whole_plan(alloc: Global, kind: PlanKind, growth: &mut Growth) -> Option<Shor
     Some(answer_of(kind, nodes))
 }
 
-fn certified(parts: u32, answer: Option<ShortAnswer>) -> Option<ShortCertificate>
-    ensures { result ≡ option_map (λ a. record { parts = parts; answer = a }) answer }
-{
-    match answer {
-        None => None,
-        Some(answer) => Some(ShortCertificate { parts, answer }),
-    }
-}
-
 // The certificate that ends there.
 fn ending(alloc: Global, stage: &mut Stage) -> Result<Option<ShortCertificate>, AllocError>
     ensures { IfOk result (λ o. option_map complete o ≡ after_end (front_of stage.old)) }
 {
-    match stage {
-        Stage::Planning { parts, kind, growth } => {
-            Ok(certified(*parts, whole_plan(alloc, *kind, growth)))
-        }
-        Stage::Holding { parts, holding } => {
-            let parts = *parts;
-            let answer = whole_holds(alloc, holding)?;
-            Ok(certified(parts, answer))
-        }
-        _ => Ok(None),
+    let (parts, answer) = match stage {
+        Stage::Planning {
+            parts,
+            kind,
+            growth,
+        } => (*parts, whole_plan(alloc, *kind, growth)),
+        Stage::Holding { parts, holding } => (*parts, whole_holds(alloc, holding)?),
+        _ => return Ok(None),
+    };
+    match answer {
+        None => Ok(None),
+        Some(answer) => Ok(Some(ShortCertificate { parts, answer })),
     }
 }
 

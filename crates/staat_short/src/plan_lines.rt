@@ -43,7 +43,14 @@ pub fn close_group(alloc: Global, stage: &mut Stage) -> Result<(), AllocError>
             let parts = *parts;
             let kind = PlanKind::Rest;
             if let Some(growth) = with_group(alloc, holding)? {
-                advance(stage, Stage::Planning { parts, kind, growth });
+                advance(
+                    stage,
+                    Stage::Planning {
+                        parts,
+                        kind,
+                        growth,
+                    },
+                );
             }
             Ok(())
         }
@@ -105,7 +112,7 @@ fn begun_group(alloc: Global, growth: &mut Growth) -> Option<Holding>
     ensures { MatchOption result
         ((n : ℕ) → after_group (planning n Rest growth.old.nodes.items growth.old.wanted) ≡ None)
         (λ h. (n : ℕ) → after_group (planning n Rest growth.old.nodes.items growth.old.wanted)
-            ≡ Some (holding_of n h)) }
+        ≡ Some (holding_of n h)) }
 {
     if growth.wanted == 0 {
         return None;
