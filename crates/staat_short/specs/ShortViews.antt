@@ -5,7 +5,7 @@ use Rattle.staat_short.specs.declared.stage.OpenHold.{OpenHold}
 use Rattle.staat_short.specs.declared.stage.Place.{Place as StagePlace}
 use Rattle.staat_short.specs.declared.stage.Place.TheVariants.{Whole, InPlan}
 use Rattle.staat_short.specs.declared.stage.Growth.{Growth}
-use Rattle.staat_short.specs.declared.stage.Holding.{Holding as Stands}
+use Rattle.staat_short.specs.declared.stage.Holding.{Holding as StageHolding}
 use Rattle.staat_short.specs.declared.stage.PlanKind.{PlanKind}
 use Rattle.staat_short.specs.declared.stage.Stage.{Stage}
 use Rattle.staat_short.specs.declared.stage.Stage.TheVariants.{Untitled, Titled, Counting, Planning, Holding, Complete}
@@ -34,7 +34,7 @@ front_of (Holding n h) = holding n (place_in h.place) h.holds.items (last_hold h
 front_of (Complete c) = complete c
 
 -- what the holds make of the front of so many parts
-abbrev pub holding_of : ℕ → Stands → Front
+abbrev pub holding_of : ℕ → StageHolding → Front
 holding_of n h = holding n (place_in h.place) h.holds.items (last_hold h.last)
 
 -- of each plan that has grown so far, the line made one that has grown on or was not taken

@@ -28,3 +28,9 @@ placed-requires-clause-p c =
 
 pub write-requires : goal.write-requires
 write-requires c = omega (arith, c.loop-vertex.invariant.room, c.requires.room, c.loop-vertex-test.true)
+
+pub placed-requires-clause-at : goal.placed-requires-clause-at
+placed-requires-clause-at c = c.requires.at
+
+pub placed-requires-clause-shift : goal.placed-requires-clause-shift
+placed-requires-clause-shift c = c.requires.shift
