@@ -6,6 +6,7 @@ ghost use Rattle.staat_vec.specs.Vectors.{IsWithin, origin};
 ghost use Rattle.staat_model.specs.Plans.{IsGood, parts_of, plan_of};
 ghost use Rattle.staat_model.specs.Sets.{below};
 ghost use Rattle.staat_explode.specs.Apart.{StandApart};
+ghost use Rattle.staat_explode.specs.Boxes.{boxes_of};
 ghost use Rattle.staat_explode.specs.Shifts.{moved_on, parted, shifted_of, vector_of_part};
 ghost use Rattle.staat_explode.specs.Sizes.{HasDirections, AreBounds, IsShiftable, IsShifted};
 ghost use Rattle.staat_explode.specs.Splits.{AllNear, AreSums, Explodes, HasFar, IsRefused, IsTooFarAt, leaf_count};
@@ -17,7 +18,7 @@ use crate::refusal::ExplodeRefusal;
 use crate::shifted::{Shifted, steps_apart, vector_of_part};
 use crate::shifts::Shifts;
 use staat_limits::MOST_PARTS;
-use staat_model::{Sound, Tree};
+use staat_model::{Assembly, Sound, Tree};
 use staat_vec::{DIRECTION, V3};
 use std::alloc::{AllocError, Global};
 
@@ -128,6 +129,25 @@ pub(crate) fn shifted_of(
     }
 }
 
+// The parts of a plan for an assembly with their vectors, unless one is too far after some split.
+fn placed_of(
+    alloc: Global,
+    assembly: &Assembly,
+    tree: &Tree,
+) -> Result<Vec<Shifted>, ExplodeRefusal>
+    requires plan { IsShiftable (length (boxes_of assembly.now)) (plan_of tree.now) }
+    requires directions { HasDirections (plan_of tree.now) }
+    requires nodes { node_count (plan_of tree.now) ≤ 2 * MOST_PARTS }
+    ensures { MatchResult result
+        (λ ps. (ps.items ≡ shifted_of (boxes_of assembly.now) (plan_of tree.now))
+        × All (IsShifted (length (boxes_of assembly.now))) ps.items
+        × AllNear (boxes_of assembly.now) 0 (plan_of tree.now))
+        (λ e. IsRefused (IsTooFarAt (boxes_of assembly.now) 0 (plan_of tree.now)) e) }
+{
+    let boxes = boxes_of(alloc, assembly)?;
+    shifted_of(alloc, boxes.as_slice(), tree, 0)
+}
+
 // The vector of each part, in the order of the parts.
 pub(crate) fn shifts_of(
     alloc: Global,
@@ -160,8 +180,7 @@ pub fn explode(alloc: Global, sound: &Sound, tree: &Tree) -> Result<Shifts, Expl
 {
     let assembly = sound.assembly();
     let parts = assembly.parts();
-    let boxes = boxes_of(alloc, assembly)?;
-    let placed = shifted_of(alloc, boxes.as_slice(), tree, 0)?;
+    let placed = placed_of(alloc, assembly, tree)?;
     let shifts = shifts_of(alloc, parts, placed.as_slice())?;
     Ok(Shifts::from_vec(shifts))
 }

@@ -4,10 +4,11 @@ use Rattle.std.specs.Prelude.{List, length, ◌++◌, flat_map, All}
 use Rattle.staat_limits.specs.declared.limits.TheConstants.{LINE_LIMIT}
 use Rattle.staat_model.specs.Texts.{HasNoFeed}
 use Rattle.staat_short.specs.declared.line.ShortLine.{ShortLine}
+use Rattle.staat_short.specs.declared.line.ShortLine.TheVariants as line
 use Rattle.staat_short.specs.declared.short.ShortCertificate.{ShortCertificate}
 use Rattle.staat_short.specs.ShortLines.{IsShortLine, short_line_text}
 use Rattle.staat_short.specs.ShortTexts.{IsFirstBadShortLine}
-use Rattle.staat_short.specs.Fronts.{Front, untitled, complete, after_lines}
+use Rattle.staat_short.specs.Fronts.{Front, untitled, complete, after_lines, front_after}
 
 -- the bytes are the text of the line, whose numbers are within their bounds
 pub record IsShortLineText (bytes : List ℕ) (l : ShortLine) : Type 0 where
@@ -22,6 +23,22 @@ whole_certificate s = None
 abbrev pub is_complete : Front → Bool
 is_complete (complete c) = true
 is_complete s = false
+
+-- the line belongs to no hold and closes a group
+abbrev pub EndsGroup : ShortLine → Type 0
+EndsGroup (line.Leaf p) = Unit {0}
+EndsGroup (line.Split d) = Unit {0}
+EndsGroup line.Group = Unit {0}
+EndsGroup line.End = Unit {0}
+EndsGroup l = ⊥
+
+-- whether the line was taken, and what it made of the front
+abbrev pub Makes : Option Front → Bool → Front → Type 0
+Makes o true t = o ≡ Some t
+Makes o false t = o ≡ None
+
+abbrev pub Takes : Front → ShortLine → Bool → Front → Type 0
+Takes s l b t = Makes (front_after s l) b t
 
 -- the text is these lines, which lead to the front, and bytes without a line feed
 pub record IsShortAt (text : List ℕ) (ls : List ShortLine) (s : Front) (rest : List ℕ) : Type 0 where

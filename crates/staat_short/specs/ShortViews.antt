@@ -1,15 +1,18 @@
 -- The stages of reading as fronts, and what a reading has read.
-use Rattle.std.specs.Prelude.{◌≡◌, ◌++◌, ◌∷◌, [], ℕ, false, List, Option, Some, None}
+use Rattle.std.specs.Prelude.{◌≡◌, ◌++◌, ◌∷◌, [], ℕ, Bool, false, List, Option, Some, None}
 use Rattle.staat_holds.specs.declared.hold.Hold.{Hold}
 use Rattle.staat_short.specs.declared.stage.OpenHold.{OpenHold}
 use Rattle.staat_short.specs.declared.stage.Place.{Place as StagePlace}
 use Rattle.staat_short.specs.declared.stage.Place.TheVariants.{Whole, InPlan}
+use Rattle.staat_short.specs.declared.stage.Growth.{Growth}
+use Rattle.staat_short.specs.declared.stage.Holding.{Holding as StageHolding}
+use Rattle.staat_short.specs.declared.stage.PlanKind.{PlanKind}
 use Rattle.staat_short.specs.declared.stage.Stage.{Stage}
 use Rattle.staat_short.specs.declared.stage.Stage.TheVariants.{Untitled, Titled, Counting, Planning, Holding, Complete}
 use Rattle.staat_short.specs.declared.progress.Progress.{Progress}
 use Rattle.staat_short.specs.Fronts.{Place, whole_answer, in_plan}
 use Rattle.staat_short.specs.Fronts.{Front, untitled, titled, counting, planning, holding, complete}
-use Rattle.staat_short.specs.ShortStanding.{HasCome}
+use Rattle.staat_short.specs.ShortStanding.{HasCome, Makes}
 
 abbrev pub hold_of : OpenHold → Hold
 hold_of hold = record { nodes = hold.nodes.items; pairs = hold.pairs.items }
@@ -29,6 +32,22 @@ front_of (Counting n) = counting n
 front_of (Planning n k growth) = planning n k growth.nodes.items growth.wanted
 front_of (Holding n h) = holding n (place_in h.place) h.holds.items (last_hold h.last)
 front_of (Complete c) = complete c
+
+-- what the holds make of the front of so many parts
+abbrev pub holding_of : ℕ → StageHolding → Front
+holding_of n h = holding n (place_in h.place) h.holds.items (last_hold h.last)
+
+-- of each plan that has grown so far, the line made one that has grown on or was not taken
+abbrev pub Grows : (Front → Option Front) → (old : Growth) → Bool → (new : Growth) → Type 0
+Grows after old b new =
+    (n : ℕ) (k : PlanKind) →
+    Makes (after (planning n k old.nodes.items old.wanted)) b (planning n k new.nodes.items new.wanted)
+
+-- of all holds of which this is the last, the line made those of which that is the last or was not taken
+abbrev pub GoesOn : (Front → Option Front) → (old : OpenHold) → Bool → (new : OpenHold) → Type 0
+GoesOn after old b new =
+    (n : ℕ) (place : Place) (holds : List Hold) →
+    Makes (after (holding n place holds (Some (hold_of old)))) b (holding n place holds (Some (hold_of new)))
 
 -- the text was read
 abbrev pub HasReadShort : Progress → List ℕ → Type 0

@@ -4,13 +4,11 @@ ghost use Rattle.staat_model.specs.Texts.{HasNoFeed};
 ghost use Rattle.staat_short.specs.ShortViews.{EndsShortLine, ReadsShortOn};
 
 use crate::line_reading::line_of;
-use crate::machine::{is_complete, stage_after};
+use crate::machine::{is_complete, take};
 use crate::progress::Progress;
-use crate::stage::Stage;
 use staat_cert::cut_run;
 use staat_limits::LINE_LIMIT;
 use std::alloc::{AllocError, Global};
-use std::mem;
 
 // The line is whole.
 fn end_line(alloc: Global, progress: &mut Progress) -> Result<(), AllocError>
@@ -24,16 +22,12 @@ fn end_line(alloc: Global, progress: &mut Progress) -> Result<(), AllocError>
             progress.is_bad = true;
         }
         Some(line) => {
-            let stage = mem::replace(&mut progress.stage, Stage::Untitled);
-            match stage_after(alloc, stage, line)? {
-                None => {
-                    progress.is_bad = true;
-                }
-                Some(next) => {
-                    progress.stage = next;
-                    progress.count += 1;
-                    progress.line.clear();
-                }
+            let taken = take(alloc, &mut progress.stage, line)?;
+            if taken {
+                progress.count += 1;
+                progress.line.clear();
+            } else {
+                progress.is_bad = true;
             }
         }
     }
@@ -82,8 +76,7 @@ fn push_run(progress: &mut Progress, run: &[u8]) -> Result<(), AllocError>
         progress.is_bad = true;
         return Ok(());
     }
-    progress.line.extend_from_slice(run)?;
-    Ok(())
+    progress.line.extend_from_slice(run)
 }
 
 /// More bytes.

@@ -1,10 +1,11 @@
 // The lines of holds, one by one.
-ghost use Rattle.std.specs.Prelude.{◌≡◌, IfOk, option_map};
+ghost use Rattle.std.specs.Prelude.{◌≡◌, ◌++◌, ◌∷◌, [], ℕ, IfOk, None};
 ghost use Rattle.std.specs.Ordering.{is_lt, nat_cmp};
 ghost use Rattle.staat_model.specs.Certificates.{arc_cmp};
 ghost use Rattle.staat_cert.specs.Machine.{follows};
 ghost use Rattle.staat_short.specs.Fronts.{after_hold, after_pair, after_part, holds_in};
-ghost use Rattle.staat_short.specs.ShortViews.{front_of, hold_of, last_hold};
+ghost use Rattle.staat_short.specs.ShortStanding.{Makes};
+ghost use Rattle.staat_short.specs.ShortViews.{GoesOn, front_of, hold_of, holding_of, last_hold};
 
 use crate::stage::{Holding, OpenHold, Stage};
 use staat_holds::Hold;
@@ -52,91 +53,94 @@ fn pair_follows(pairs: &[Arc], pair: Arc) -> bool
     }
 }
 
-fn closed_hold(hold: OpenHold) -> Hold
-    ensures { result ≡ hold_of hold }
+// The last hold joins the others.
+fn push_hold(holds: &mut Vec<Hold>, hold: OpenHold) -> Result<(), AllocError>
+    ensures { IfOk result (λ _. holds.new.items ≡ holds.old.items ++ hold_of hold ∷ []) }
 {
-    Hold {
-        nodes: Listed::from_vec(hold.nodes),
-        pairs: Listed::from_vec(hold.pairs),
+    let OpenHold { nodes, pairs } = hold;
+    holds.push(Hold {
+        nodes: Listed::from_vec(nodes),
+        pairs: Listed::from_vec(pairs),
+    })?;
+    Ok(())
+}
+
+/// Closes the last hold.
+pub fn close_hold(holding: &mut Holding) -> Result<(), AllocError>
+    ensures holds { IfOk result (λ _. holding.new.holds.items
+        ≡ holds_in holding.old.holds.items (last_hold holding.old.last)) }
+    ensures none { IfOk result (λ _. holding.new.last ≡ None) }
+    ensures place { holding.new.place ≡ holding.old.place }
+{
+    match holding.last.take() {
+        None => Ok(()),
+        Some(hold) => push_hold(&mut holding.holds, hold),
     }
 }
 
-/// The holds so far, the last one among them.
-pub fn all_holds(holds: Vec<Hold>, last: Option<OpenHold>) -> Result<Vec<Hold>, AllocError>
-    ensures { IfOk result (λ all. all.items ≡ holds_in holds.items (last_hold last)) }
+// A hold more.
+fn begin_hold(alloc: Global, holding: &mut Holding) -> Result<bool, AllocError>
+    ensures { IfOk result (λ b. (n : ℕ) → Makes (after_hold (holding_of n holding.old)) b (holding_of n holding.new)) }
 {
-    let mut holds = holds;
-    match last {
-        None => Ok(holds),
-        Some(hold) => {
-            holds.push(closed_hold(hold))?;
-            Ok(holds)
-        }
-    }
+    close_hold(holding)?;
+    holding.last = Some(OpenHold {
+        nodes: Vec::new(alloc),
+        pairs: Vec::new(alloc),
+    });
+    Ok(true)
 }
 
-pub fn hold(alloc: Global, stage: Stage) -> Result<Option<Stage>, AllocError>
-    ensures { IfOk result (λ o. option_map front_of o ≡ after_hold (front_of stage)) }
+pub fn hold(alloc: Global, stage: &mut Stage) -> Result<bool, AllocError>
+    ensures { IfOk result (λ b. Makes (after_hold (front_of stage.old)) b (front_of stage.new)) }
 {
     match stage {
-        Stage::Holding { parts, holding } => {
-            let Holding { place, holds, last } = holding;
-            let holds = all_holds(holds, last)?;
-            let last = Some(OpenHold {
-                nodes: Vec::new(alloc),
-                pairs: Vec::new(alloc),
-            });
-            let holding = Holding { place, holds, last };
-            Ok(Some(Stage::Holding { parts, holding }))
-        }
-        _ => Ok(None),
+        Stage::Holding { holding, .. } => begin_hold(alloc, holding),
+        _ => Ok(false),
     }
 }
 
-pub fn part(stage: Stage, p: u32) -> Result<Option<Stage>, AllocError>
-    ensures { IfOk result (λ o. option_map front_of o ≡ after_part (front_of stage) p) }
+// A node of the last hold.
+fn take_part(hold: &mut OpenHold, p: u32) -> Result<bool, AllocError>
+    ensures { IfOk result (λ b. GoesOn (λ s. after_part s p) hold.old b hold.new) }
+{
+    if !hold.pairs.is_empty() || !part_follows(hold.nodes.as_slice(), p) {
+        return Ok(false);
+    }
+    hold.nodes.push(p)?;
+    Ok(true)
+}
+
+// A pair of the last hold.
+fn take_pair(hold: &mut OpenHold, pair: Arc) -> Result<bool, AllocError>
+    ensures { IfOk result (λ b. GoesOn (λ s. after_pair s pair) hold.old b hold.new) }
+{
+    if !pair_follows(hold.pairs.as_slice(), pair) {
+        return Ok(false);
+    }
+    hold.pairs.push(pair)?;
+    Ok(true)
+}
+
+pub fn part(stage: &mut Stage, p: u32) -> Result<bool, AllocError>
+    ensures { IfOk result (λ b. Makes (after_part (front_of stage.old) p) b (front_of stage.new)) }
 {
     match stage {
-        Stage::Holding { parts, holding } => {
-            let Holding { place, holds, last } = holding;
-            match last {
-                None => Ok(None),
-                Some(hold) => {
-                    let OpenHold { mut nodes, pairs } = hold;
-                    if !pairs.is_empty() || !part_follows(nodes.as_slice(), p) {
-                        return Ok(None);
-                    }
-                    nodes.push(p)?;
-                    let last = Some(OpenHold { nodes, pairs });
-                    let holding = Holding { place, holds, last };
-                    Ok(Some(Stage::Holding { parts, holding }))
-                }
-            }
-        }
-        _ => Ok(None),
+        Stage::Holding { holding, .. } => match &mut holding.last {
+            None => Ok(false),
+            Some(hold) => take_part(hold, p),
+        },
+        _ => Ok(false),
     }
 }
 
-pub fn pair(stage: Stage, pair: Arc) -> Result<Option<Stage>, AllocError>
-    ensures { IfOk result (λ o. option_map front_of o ≡ after_pair (front_of stage) pair) }
+pub fn pair(stage: &mut Stage, pair: Arc) -> Result<bool, AllocError>
+    ensures { IfOk result (λ b. Makes (after_pair (front_of stage.old) pair) b (front_of stage.new)) }
 {
     match stage {
-        Stage::Holding { parts, holding } => {
-            let Holding { place, holds, last } = holding;
-            match last {
-                None => Ok(None),
-                Some(hold) => {
-                    let OpenHold { nodes, mut pairs } = hold;
-                    if !pair_follows(pairs.as_slice(), pair) {
-                        return Ok(None);
-                    }
-                    pairs.push(pair)?;
-                    let last = Some(OpenHold { nodes, pairs });
-                    let holding = Holding { place, holds, last };
-                    Ok(Some(Stage::Holding { parts, holding }))
-                }
-            }
-        }
-        _ => Ok(None),
+        Stage::Holding { holding, .. } => match &mut holding.last {
+            None => Ok(false),
+            Some(hold) => take_pair(hold, pair),
+        },
+        _ => Ok(false),
     }
 }

@@ -1,68 +1,82 @@
 // Whether the next line may stand there.
-ghost use Rattle.std.specs.Prelude.{◌≡◌, IfOk, option_map};
-ghost use Rattle.staat_short.specs.Fronts.{after_end, after_kind, after_parts, after_stuck, after_title, front_after};
-ghost use Rattle.staat_short.specs.Fronts.{short_answer};
-ghost use Rattle.staat_short.specs.ShortStanding.{is_complete, whole_certificate};
-ghost use Rattle.staat_short.specs.ShortViews.{front_of};
+ghost use Rattle.std.specs.Prelude.{◌≡◌, ℕ, IfOk, option_map};
+ghost use Rattle.staat_short.specs.Fronts.{after_end, after_kind, after_parts, after_stuck, after_title, complete};
+ghost use Rattle.staat_short.specs.Fronts.{planning, short_answer};
+ghost use Rattle.staat_short.specs.ShortStanding.{EndsGroup, Makes, Takes, is_complete, whole_certificate};
+ghost use Rattle.staat_short.specs.ShortViews.{front_of, holding_of};
 
-use crate::hold_lines::{all_holds, hold, pair, part};
+use crate::hold_lines::{close_hold, hold, pair, part};
 use crate::line::ShortLine;
-use crate::plan_lines::{group, leaf, split, with_group_closed};
+use crate::plan_lines::{close_group, group, leaf, split};
 use crate::short::{ShortAnswer, ShortCertificate, ShortNode};
-use crate::stage::{Growth, Holding, Place, PlanKind, Stage};
+use crate::stage::{Growth, Holding, Place, PlanKind, Stage, advance};
 use staat_vec::Listed;
 use std::alloc::{AllocError, Global};
+use std::mem;
 
-fn title(stage: Stage) -> Option<Stage>
-    ensures { option_map front_of result ≡ after_title (front_of stage) }
+fn title(stage: &mut Stage) -> bool
+    ensures { Makes (after_title (front_of stage.old)) result (front_of stage.new) }
 {
     match stage {
-        Stage::Untitled => Some(Stage::Titled),
-        _ => None,
+        Stage::Untitled => {
+            advance(stage, Stage::Titled);
+            true
+        }
+        _ => false,
     }
 }
 
-fn parts(stage: Stage, n: u32) -> Option<Stage>
-    ensures { option_map front_of result ≡ after_parts (front_of stage) n }
+fn parts(stage: &mut Stage, n: u32) -> bool
+    ensures { Makes (after_parts (front_of stage.old) n) result (front_of stage.new) }
 {
     match stage {
-        Stage::Titled => Some(Stage::Counting(n)),
-        _ => None,
+        Stage::Titled => {
+            advance(stage, Stage::Counting(n));
+            true
+        }
+        _ => false,
     }
 }
 
-fn plan(alloc: Global, kind: PlanKind, stage: Stage) -> Option<Stage>
-    ensures { option_map front_of result ≡ after_kind kind (front_of stage) }
+fn plan(alloc: Global, kind: PlanKind, stage: &mut Stage) -> bool
+    ensures { Makes (after_kind kind (front_of stage.old)) result (front_of stage.new) }
 {
     match stage {
         Stage::Counting(parts) => {
+            let parts = *parts;
             let growth = Growth {
                 nodes: Vec::new(alloc),
                 wanted: 1,
             };
-            Some(Stage::Planning {
-                parts,
-                kind,
-                growth,
-            })
+            advance(
+                stage,
+                Stage::Planning {
+                    parts,
+                    kind,
+                    growth,
+                },
+            );
+            true
         }
-        _ => None,
+        _ => false,
     }
 }
 
-fn stuck(alloc: Global, stage: Stage) -> Option<Stage>
-    ensures { option_map front_of result ≡ after_stuck (front_of stage) }
+fn stuck(alloc: Global, stage: &mut Stage) -> bool
+    ensures { Makes (after_stuck (front_of stage.old)) result (front_of stage.new) }
 {
     match stage {
         Stage::Counting(parts) => {
+            let parts = *parts;
             let holding = Holding {
                 place: Place::Whole,
                 holds: Vec::new(alloc),
                 last: None,
             };
-            Some(Stage::Holding { parts, holding })
+            advance(stage, Stage::Holding { parts, holding });
+            true
         }
-        _ => None,
+        _ => false,
     }
 }
 
@@ -75,47 +89,82 @@ fn answer_of(kind: PlanKind, nodes: Vec<ShortNode>) -> ShortAnswer
     }
 }
 
-fn end(stage: Stage) -> Result<Option<Stage>, AllocError>
-    ensures { IfOk result (λ o. option_map front_of o ≡ after_end (front_of stage)) }
+// The holds, where they are the whole answer and there is one at least.
+fn whole_holds(alloc: Global, holding: &mut Holding) -> Result<Option<ShortAnswer>, AllocError>
+    ensures { IfOk result (λ o. (n : ℕ)
+        → option_map (λ answer. complete (record { parts = n; answer = answer })) o
+        ≡ after_end (holding_of n holding.old)) }
 {
-    match stage {
-        Stage::Planning {
-            parts,
-            kind,
-            growth,
-        } => {
-            let Growth { nodes, wanted } = growth;
-            if wanted != 0 {
-                return Ok(None);
-            }
-            let answer = answer_of(kind, nodes);
-            Ok(Some(Stage::Complete(ShortCertificate { parts, answer })))
-        }
-        Stage::Holding { parts, holding } => {
-            let Holding { place, holds, last } = holding;
-            match place {
-                Place::InPlan(_) => Ok(None),
-                Place::Whole => match last {
-                    None => Ok(None),
-                    Some(hold) => {
-                        let holds = all_holds(holds, Some(hold))?;
-                        let answer = ShortAnswer::Stuck(Listed::from_vec(holds));
-                        Ok(Some(Stage::Complete(ShortCertificate { parts, answer })))
-                    }
-                },
-            }
+    match (&holding.place, &holding.last) {
+        (Place::Whole, Some(_)) => {
+            close_hold(holding)?;
+            let holds = mem::replace(&mut holding.holds, Vec::new(alloc));
+            Ok(Some(ShortAnswer::Stuck(Listed::from_vec(holds))))
         }
         _ => Ok(None),
     }
 }
 
-/// What the line makes of the stage, if it may stand there.
-pub fn stage_after(
-    alloc: Global,
-    stage: Stage,
-    line: ShortLine,
-) -> Result<Option<Stage>, AllocError>
-    ensures { IfOk result (λ o. option_map front_of o ≡ front_after (front_of stage) line) }
+// The nodes, where no tree is wanted.
+fn whole_plan(alloc: Global, kind: PlanKind, growth: &mut Growth) -> Option<ShortAnswer>
+    ensures { (n : ℕ) → option_map (λ answer. complete (record { parts = n; answer = answer })) result
+        ≡ after_end (planning n kind growth.old.nodes.items growth.old.wanted) }
+{
+    if growth.wanted != 0 {
+        return None;
+    }
+    let nodes = mem::replace(&mut growth.nodes, Vec::new(alloc));
+    Some(answer_of(kind, nodes))
+}
+
+// The certificate that ends there.
+fn ending(alloc: Global, stage: &mut Stage) -> Result<Option<ShortCertificate>, AllocError>
+    ensures { IfOk result (λ o. option_map complete o ≡ after_end (front_of stage.old)) }
+{
+    let (parts, answer) = match stage {
+        Stage::Planning {
+            parts,
+            kind,
+            growth,
+        } => (*parts, whole_plan(alloc, *kind, growth)),
+        Stage::Holding { parts, holding } => (*parts, whole_holds(alloc, holding)?),
+        _ => return Ok(None),
+    };
+    match answer {
+        None => Ok(None),
+        Some(answer) => Ok(Some(ShortCertificate { parts, answer })),
+    }
+}
+
+fn end(alloc: Global, stage: &mut Stage) -> Result<bool, AllocError>
+    ensures { IfOk result (λ b. Makes (after_end (front_of stage.old)) b (front_of stage.new)) }
+{
+    match ending(alloc, stage)? {
+        Some(certificate) => {
+            advance(stage, Stage::Complete(certificate));
+            Ok(true)
+        }
+        None => Ok(false),
+    }
+}
+
+// A line that belongs to no hold.
+fn line_behind(alloc: Global, stage: &mut Stage, line: ShortLine) -> Result<bool, AllocError>
+    requires { EndsGroup line }
+    ensures { IfOk result (λ b. Takes (front_of stage.old) line b (front_of stage.new)) }
+{
+    close_group(alloc, stage)?;
+    match line {
+        ShortLine::Leaf(p) => leaf(stage, p),
+        ShortLine::Split(d) => split(stage, d),
+        ShortLine::Group => Ok(group(alloc, stage)),
+        _ => end(alloc, stage),
+    }
+}
+
+/// Whether the line may stand there. If so it is taken.
+pub fn take(alloc: Global, stage: &mut Stage, line: ShortLine) -> Result<bool, AllocError>
+    ensures { IfOk result (λ b. Takes (front_of stage.old) line b (front_of stage.new)) }
 {
     match line {
         ShortLine::Title => Ok(title(stage)),
@@ -123,13 +172,10 @@ pub fn stage_after(
         ShortLine::Plan => Ok(plan(alloc, PlanKind::Plan, stage)),
         ShortLine::Stuck => Ok(stuck(alloc, stage)),
         ShortLine::Rest => Ok(plan(alloc, PlanKind::Rest, stage)),
-        ShortLine::Leaf(p) => leaf(with_group_closed(stage)?, p),
-        ShortLine::Split(d) => split(with_group_closed(stage)?, d),
-        ShortLine::Group => Ok(group(alloc, with_group_closed(stage)?)),
         ShortLine::Hold => hold(alloc, stage),
         ShortLine::Part(p) => part(stage, p),
         ShortLine::Pair(arc) => pair(stage, arc),
-        ShortLine::End => end(with_group_closed(stage)?),
+        _ => line_behind(alloc, stage, line),
     }
 }
 

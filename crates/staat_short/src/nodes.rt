@@ -1,5 +1,5 @@
 // The nodes of a plan.
-ghost use Rattle.std.specs.Prelude.{◌≡◌, ◌++◌, IfOk};
+ghost use Rattle.std.specs.Prelude.{◌≡◌, ◌++◌, ◌∷◌, [], IfOk};
 ghost use Rattle.staat_model.specs.Plans.{plan_of};
 ghost use Rattle.staat_short.specs.PlanNodes.{grouped_plan_of, plan_nodes};
 ghost use Rattle.staat_short.specs.ShortTexts.{short_nodes_of};
@@ -10,16 +10,21 @@ use staat_model::Tree;
 use staat_vec::OutOfMemory;
 use std::alloc::{AllocError, Global};
 
+/// Adds a node.
+pub(crate) fn push_node(nodes: &mut Vec<ShortNode>, node: ShortNode) -> Result<(), AllocError>
+    ensures { IfOk result (λ _. nodes.new.items ≡ nodes.old.items ++ node ∷ []) }
+{
+    nodes.push(node)?;
+    Ok(())
+}
+
 fn push_nodes(nodes: &mut Vec<ShortNode>, tree: &Tree) -> Result<(), AllocError>
     ensures { IfOk result (λ _. nodes.new.items ≡ nodes.old.items ++ plan_nodes (plan_of tree.now)) }
 {
     match tree {
-        Tree::Leaf(p) => {
-            nodes.push(ShortNode::Leaf(*p))?;
-            Ok(())
-        }
+        Tree::Leaf(p) => push_node(nodes, ShortNode::Leaf(*p)),
         Tree::Split { d, moved, rest } => {
-            nodes.push(ShortNode::Split(*d))?;
+            push_node(nodes, ShortNode::Split(*d))?;
             push_nodes(nodes, moved)?;
             push_nodes(nodes, rest)
         }
@@ -39,16 +44,10 @@ fn push_grouped_nodes(nodes: &mut Vec<ShortNode>, tree: GroupedTree) -> Result<(
     ensures { IfOk result (λ _. nodes.new.items ≡ nodes.old.items ++ short_nodes_of (grouped_plan_of tree)) }
 {
     match tree {
-        GroupedTree::Leaf(p) => {
-            nodes.push(ShortNode::Leaf(p))?;
-            Ok(())
-        }
-        GroupedTree::Group(group) => {
-            nodes.push(ShortNode::Group(group.holds))?;
-            Ok(())
-        }
+        GroupedTree::Leaf(p) => push_node(nodes, ShortNode::Leaf(p)),
+        GroupedTree::Group(group) => push_node(nodes, ShortNode::Group(group.holds)),
         GroupedTree::Split { d, moved, rest } => {
-            nodes.push(ShortNode::Split(d))?;
+            push_node(nodes, ShortNode::Split(d))?;
             push_grouped_nodes(nodes, Box::into_inner(moved))?;
             push_grouped_nodes(nodes, Box::into_inner(rest))
         }

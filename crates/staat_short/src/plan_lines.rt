@@ -1,135 +1,134 @@
 // The lines of plans, one by one.
-ghost use Rattle.std.specs.Prelude.{◌≡◌, IfOk, Some, option_map};
-ghost use Rattle.staat_short.specs.declared.stage.Place.TheVariants.{InPlan};
-ghost use Rattle.staat_short.specs.declared.stage.Stage.TheVariants as stages;
-ghost use Rattle.staat_short.specs.Fronts.{after_group, after_leaf, after_split, grouped_in, holding as holding_front};
-ghost use Rattle.staat_short.specs.ShortViews.{front_of, last_hold, place_in};
+ghost use Rattle.std.specs.Prelude.{◌≡◌, ℕ, IfOk, MatchOption, None, Some};
+ghost use Rattle.staat_short.specs.declared.stage.PlanKind.{PlanKind as Kind};
+ghost use Rattle.staat_short.specs.declared.stage.PlanKind.TheVariants.{Rest};
+ghost use Rattle.staat_short.specs.Fronts.{after_group, after_leaf, after_split, grouped_in, planning};
+ghost use Rattle.staat_short.specs.ShortStanding.{Makes};
+ghost use Rattle.staat_short.specs.ShortViews.{Grows, front_of, holding_of};
 
-use crate::hold_lines::all_holds;
+use crate::hold_lines::close_hold;
+use crate::nodes::push_node;
 use crate::short::ShortNode;
-use crate::stage::{Growth, Holding, OpenHold, Place, PlanKind, Stage};
-use staat_holds::Hold;
+use crate::stage::{Growth, Holding, Place, PlanKind, Stage, advance};
 use staat_vec::{Listed, V3};
 use std::alloc::{AllocError, Global};
+use std::mem;
 
-// The plan with a node more, a group of these holds.
-fn with_group(
-    parts: u32,
-    growth: Growth,
-    holds: Vec<Hold>,
-    last: OpenHold,
-) -> Result<Stage, AllocError>
-    ensures { IfOk result (λ s. front_of s
-        ≡ grouped_in (holding_front parts (place_in (InPlan growth)) holds.items (last_hold (Some last)))) }
+// The plan with a node more, where the holds are a group that has a hold.
+fn with_group(alloc: Global, holding: &mut Holding) -> Result<Option<Growth>, AllocError>
+    ensures { IfOk result (λ o. MatchOption o
+        ((n : ℕ) → holding_of n holding.new ≡ grouped_in (holding_of n holding.old))
+        (λ g. (n : ℕ) → planning n Rest g.nodes.items g.wanted ≡ grouped_in (holding_of n holding.old))) }
 {
-    let Growth { mut nodes, wanted } = growth;
-    let holds = all_holds(holds, Some(last))?;
-    nodes.push(ShortNode::Group(Listed::from_vec(holds)))?;
-    let growth = Growth { nodes, wanted };
-    Ok(Stage::Planning {
-        parts,
-        kind: PlanKind::Rest,
-        growth,
-    })
-}
-
-// Closes a group that has a hold.
-fn with_holds_closed(parts: u32, holding: Holding) -> Result<Stage, AllocError>
-    ensures { IfOk result (λ s. front_of s ≡ grouped_in (front_of (stages.Holding parts holding))) }
-{
-    let Holding { place, holds, last } = holding;
-    match place {
-        Place::Whole => {
-            let place = Place::Whole;
-            let holding = Holding { place, holds, last };
-            Ok(Stage::Holding { parts, holding })
+    if holding.last.is_none() {
+        return Ok(None);
+    }
+    match mem::replace(&mut holding.place, Place::Whole) {
+        Place::Whole => Ok(None),
+        Place::InPlan(mut growth) => {
+            close_hold(holding)?;
+            let holds = mem::replace(&mut holding.holds, Vec::new(alloc));
+            push_node(&mut growth.nodes, ShortNode::Group(Listed::from_vec(holds)))?;
+            Ok(Some(growth))
         }
-        Place::InPlan(growth) => match last {
-            None => {
-                let place = Place::InPlan(growth);
-                let last = None;
-                let holding = Holding { place, holds, last };
-                Ok(Stage::Holding { parts, holding })
-            }
-            Some(last) => with_group(parts, growth, holds, last),
-        },
     }
 }
 
 /// Closes a group that has a hold.
-pub fn with_group_closed(stage: Stage) -> Result<Stage, AllocError>
-    ensures { IfOk result (λ s. front_of s ≡ grouped_in (front_of stage)) }
+pub fn close_group(alloc: Global, stage: &mut Stage) -> Result<(), AllocError>
+    ensures { IfOk result (λ _. front_of stage.new ≡ grouped_in (front_of stage.old)) }
 {
     match stage {
-        Stage::Holding { parts, holding } => with_holds_closed(parts, holding),
-        other => Ok(other),
+        Stage::Holding { parts, holding } => {
+            let parts = *parts;
+            let kind = PlanKind::Rest;
+            if let Some(growth) = with_group(alloc, holding)? {
+                advance(
+                    stage,
+                    Stage::Planning {
+                        parts,
+                        kind,
+                        growth,
+                    },
+                );
+            }
+            Ok(())
+        }
+        _ => Ok(()),
     }
+}
+
+// A leaf more, where a tree is wanted.
+fn take_leaf(growth: &mut Growth, p: u32) -> Result<bool, AllocError>
+    ensures { IfOk result (λ b. Grows (λ s. after_leaf s p) growth.old b growth.new) }
+{
+    if growth.wanted == 0 {
+        return Ok(false);
+    }
+    push_node(&mut growth.nodes, ShortNode::Leaf(p))?;
+    growth.wanted -= 1;
+    Ok(true)
 }
 
 /// A leaf, where a tree is wanted.
-pub fn leaf(stage: Stage, p: u32) -> Result<Option<Stage>, AllocError>
-    ensures { IfOk result (λ o. option_map front_of o ≡ after_leaf (front_of stage) p) }
+pub fn leaf(stage: &mut Stage, p: u32) -> Result<bool, AllocError>
+    ensures { IfOk result (λ b. Makes (after_leaf (front_of stage.old) p) b (front_of stage.new)) }
 {
     match stage {
-        Stage::Planning {
-            parts,
-            kind,
-            growth,
-        } => {
-            let Growth { mut nodes, wanted } = growth;
-            if wanted == 0 {
-                return Ok(None);
-            }
-            nodes.push(ShortNode::Leaf(p))?;
-            let growth = Growth {
-                nodes,
-                wanted: wanted - 1,
-            };
-            Ok(Some(Stage::Planning {
-                parts,
-                kind,
-                growth,
-            }))
-        }
-        _ => Ok(None),
+        Stage::Planning { growth, .. } => take_leaf(growth, p),
+        _ => Ok(false),
     }
+}
+
+// A split more, where a tree is wanted and so many parts have as many nodes.
+fn take_split(growth: &mut Growth, parts: u32, d: V3) -> Result<bool, AllocError>
+    ensures { IfOk result (λ b. (k : Kind) →
+        Makes (after_split (planning parts k growth.old.nodes.items growth.old.wanted) d) b
+        (planning parts k growth.new.nodes.items growth.new.wanted)) }
+{
+    if growth.wanted == 0 {
+        return Ok(false);
+    }
+    if growth.nodes.len() as u128 + (growth.wanted - 1) as u128 + 4 > 2 * parts as u128 {
+        return Ok(false);
+    }
+    push_node(&mut growth.nodes, ShortNode::Split(d))?;
+    growth.wanted += 1;
+    Ok(true)
 }
 
 /// A split, where a tree is wanted.
-pub fn split(stage: Stage, d: V3) -> Result<Option<Stage>, AllocError>
-    ensures { IfOk result (λ o. option_map front_of o ≡ after_split (front_of stage) d) }
+pub fn split(stage: &mut Stage, d: V3) -> Result<bool, AllocError>
+    ensures { IfOk result (λ b. Makes (after_split (front_of stage.old) d) b (front_of stage.new)) }
 {
     match stage {
-        Stage::Planning {
-            parts,
-            kind,
-            growth,
-        } => {
-            let Growth { mut nodes, wanted } = growth;
-            if wanted == 0 {
-                return Ok(None);
-            }
-            if nodes.len() as u128 + (wanted - 1) as u128 + 4 > 2 * parts as u128 {
-                return Ok(None);
-            }
-            nodes.push(ShortNode::Split(d))?;
-            let growth = Growth {
-                nodes,
-                wanted: wanted + 1,
-            };
-            Ok(Some(Stage::Planning {
-                parts,
-                kind,
-                growth,
-            }))
-        }
-        _ => Ok(None),
+        Stage::Planning { parts, growth, .. } => take_split(growth, *parts, d),
+        _ => Ok(false),
     }
 }
 
+// The holds of a group that begins, where a tree is wanted.
+fn begun_group(alloc: Global, growth: &mut Growth) -> Option<Holding>
+    ensures { MatchOption result
+        ((n : ℕ) → after_group (planning n Rest growth.old.nodes.items growth.old.wanted) ≡ None)
+        (λ h. (n : ℕ) → after_group (planning n Rest growth.old.nodes.items growth.old.wanted)
+        ≡ Some (holding_of n h)) }
+{
+    if growth.wanted == 0 {
+        return None;
+    }
+    let wanted = growth.wanted - 1;
+    let nodes = mem::replace(&mut growth.nodes, Vec::new(alloc));
+    Some(Holding {
+        place: Place::InPlan(Growth { nodes, wanted }),
+        holds: Vec::new(alloc),
+        last: None,
+    })
+}
+
 /// The beginning of a group, where a tree is wanted that may be one.
-pub fn group(alloc: Global, stage: Stage) -> Option<Stage>
-    ensures { option_map front_of result ≡ after_group (front_of stage) }
+pub fn group(alloc: Global, stage: &mut Stage) -> bool
+    ensures { Makes (after_group (front_of stage.old)) result (front_of stage.new) }
 {
     match stage {
         Stage::Planning {
@@ -137,21 +136,15 @@ pub fn group(alloc: Global, stage: Stage) -> Option<Stage>
             kind: PlanKind::Rest,
             growth,
         } => {
-            let Growth { nodes, wanted } = growth;
-            if wanted == 0 {
-                return None;
+            let parts = *parts;
+            match begun_group(alloc, growth) {
+                None => false,
+                Some(holding) => {
+                    advance(stage, Stage::Holding { parts, holding });
+                    true
+                }
             }
-            let growth = Growth {
-                nodes,
-                wanted: wanted - 1,
-            };
-            let holding = Holding {
-                place: Place::InPlan(growth),
-                holds: Vec::new(alloc),
-                last: None,
-            };
-            Some(Stage::Holding { parts, holding })
         }
-        _ => None,
+        _ => false,
     }
 }

@@ -1,12 +1,12 @@
 // What the lines so far have said.
-ghost use Rattle.std.specs.Prelude.{◌<◌, ◌^◌};
+ghost use Rattle.std.specs.Prelude.{◌≡◌, ◌<◌, ◌^◌};
 
 use crate::short::{ShortCertificate, ShortNode};
 use staat_holds::Hold;
 use staat_model::Arc;
 
 /// Whether a plan takes all parts apart, or may end in groups.
-#[derive(Clone, Copy, PartialEq, Eq)]
+#[derive(Clone, Copy)]
 pub enum PlanKind {
     Plan,
     Rest,
@@ -59,4 +59,11 @@ pub enum Stage {
         holding: Holding,
     },
     Complete(ShortCertificate),
+}
+
+/// The next stage takes the place of this one.
+pub fn advance(stage: &mut Stage, next: Stage)
+    ensures { stage.new ≡ next }
+{
+    *stage = next;
 }

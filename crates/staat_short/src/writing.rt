@@ -1,5 +1,5 @@
 // The lines of a short certificate, written.
-ghost use Rattle.std.specs.Prelude.{◌++◌, ◌∷◌, [], IfOk, map, flat_map};
+ghost use Rattle.std.specs.Prelude.{◌++◌, ◌∷◌, [], IfOk, map, flat_map, pos};
 ghost use Rattle.staat_model.specs.Lines.{spaced};
 ghost use Rattle.staat_short.specs.ShortTexts.{
   IsShortInOrder,
@@ -26,10 +26,16 @@ fn add_row(w: &mut Writer, word: &[u8], numbers: &[i128]) -> Result<(), AllocErr
 {
     write_row(&mut w.line, word, numbers)?;
     w.length = w.length.saturating_add(w.line.len() as u128);
-    if w.length <= TEXT_LIMIT {
-        w.bytes.extend_from_slice(w.line.as_slice())?;
+    if w.length > TEXT_LIMIT {
+        return Ok(());
     }
-    Ok(())
+    w.bytes.extend_from_slice(w.line.as_slice())
+}
+
+fn add_number(w: &mut Writer, word: &[u8], n: u32) -> Result<(), AllocError>
+    ensures { IfOk result (λ _. AddsBytes w.old w.new (word.now ++ spaced (pos n ∷ []))) }
+{
+    add_row(w, word, &[n as i128])
 }
 
 fn add_pair(w: &mut Writer, pair: Arc) -> Result<(), AllocError>
@@ -44,15 +50,15 @@ fn add_line(w: &mut Writer, next: ShortLine) -> Result<(), AllocError>
 {
     match next {
         ShortLine::Title => add_row(w, b"STAAT SHORT 1", &[]),
-        ShortLine::Parts(n) => add_row(w, b"parts", &[n as i128]),
+        ShortLine::Parts(n) => add_number(w, b"parts", n),
         ShortLine::Plan => add_row(w, b"plan", &[]),
         ShortLine::Stuck => add_row(w, b"stuck", &[]),
         ShortLine::Rest => add_row(w, b"rest", &[]),
         ShortLine::Split(d) => add_row(w, b"split", &[d.x, d.y, d.z]),
-        ShortLine::Leaf(p) => add_row(w, b"leaf", &[p as i128]),
+        ShortLine::Leaf(p) => add_number(w, b"leaf", p),
         ShortLine::Group => add_row(w, b"group", &[]),
         ShortLine::Hold => add_row(w, b"hold", &[]),
-        ShortLine::Part(p) => add_row(w, b"part", &[p as i128]),
+        ShortLine::Part(p) => add_number(w, b"part", p),
         ShortLine::Pair(pair) => add_pair(w, pair),
         ShortLine::End => add_row(w, b"end", &[]),
     }
@@ -93,16 +99,20 @@ fn add_holds(w: &mut Writer, holds: &[Hold]) -> Result<(), AllocError>
     Ok(())
 }
 
+fn add_group(w: &mut Writer, holds: &[Hold]) -> Result<(), AllocError>
+    ensures { IfOk result (λ _. AddsShortLines w.old w.new (line.Group ∷ flat_map lines_of_hold holds.now)) }
+{
+    add_line(w, ShortLine::Group)?;
+    add_holds(w, holds)
+}
+
 fn add_node(w: &mut Writer, node: &ShortNode) -> Result<(), AllocError>
     ensures { IfOk result (λ _. AddsShortLines w.old w.new (lines_of_short_node node.now)) }
 {
     match node {
         ShortNode::Leaf(p) => add_line(w, ShortLine::Leaf(*p)),
         ShortNode::Split(d) => add_line(w, ShortLine::Split(*d)),
-        ShortNode::Group(holds) => {
-            add_line(w, ShortLine::Group)?;
-            add_holds(w, holds.as_slice())
-        }
+        ShortNode::Group(holds) => add_group(w, holds.as_slice()),
     }
 }
 
@@ -115,22 +125,28 @@ fn add_nodes(w: &mut Writer, nodes: &[ShortNode]) -> Result<(), AllocError>
     Ok(())
 }
 
+// The line that says what the nodes are, and the nodes.
+fn add_plan(w: &mut Writer, first: ShortLine, nodes: &[ShortNode]) -> Result<(), AllocError>
+    ensures { IfOk result (λ _. AddsShortLines w.old w.new (first ∷ flat_map lines_of_short_node nodes.now)) }
+{
+    add_line(w, first)?;
+    add_nodes(w, nodes)
+}
+
+fn add_stuck(w: &mut Writer, holds: &[Hold]) -> Result<(), AllocError>
+    ensures { IfOk result (λ _. AddsShortLines w.old w.new (line.Stuck ∷ flat_map lines_of_hold holds.now)) }
+{
+    add_line(w, ShortLine::Stuck)?;
+    add_holds(w, holds)
+}
+
 fn add_answer(w: &mut Writer, answer: &ShortAnswer) -> Result<(), AllocError>
     ensures { IfOk result (λ _. AddsShortLines w.old w.new (lines_of_answer answer.now)) }
 {
     match answer {
-        ShortAnswer::Plan(nodes) => {
-            add_line(w, ShortLine::Plan)?;
-            add_nodes(w, nodes.as_slice())
-        }
-        ShortAnswer::Stuck(holds) => {
-            add_line(w, ShortLine::Stuck)?;
-            add_holds(w, holds.as_slice())
-        }
-        ShortAnswer::Rest(nodes) => {
-            add_line(w, ShortLine::Rest)?;
-            add_nodes(w, nodes.as_slice())
-        }
+        ShortAnswer::Plan(nodes) => add_plan(w, ShortLine::Plan, nodes.as_slice()),
+        ShortAnswer::Stuck(holds) => add_stuck(w, holds.as_slice()),
+        ShortAnswer::Rest(nodes) => add_plan(w, ShortLine::Rest, nodes.as_slice()),
     }
 }
 
@@ -140,8 +156,7 @@ fn add_certificate(w: &mut Writer, c: &ShortCertificate) -> Result<(), AllocErro
     add_line(w, ShortLine::Title)?;
     add_line(w, ShortLine::Parts(c.parts))?;
     add_answer(w, &c.answer)?;
-    add_line(w, ShortLine::End)?;
-    Ok(())
+    add_line(w, ShortLine::End)
 }
 
 /// The text of a certificate, or its length where that is above [`TEXT_LIMIT`].

@@ -1,9 +1,10 @@
 -- The lines of a graph, one more at a time.
-use Rattle.std.proofs.Common.{◌≡◌, ◌∙◌, ℕ, suc, ◌+◌, ◌-◌, ◌<◌, Bool, true, false, List, ◌∷◌, ◌++◌, refl, sym, ap, arith, append_assoc}
+use Rattle.std.proofs.Common.{◌≡◌, ◌∙◌, ℕ, suc, ◌+◌, ◌-◌, ◌<◌, Bool, true, false, List, [], ◌∷◌, ◌++◌, refl, sym, ap, arith, append_assoc, get_or, length, take}
 use Rattle.std.specs.Prelude.{map, filter, flat_map}
 use Rattle.std.specs.List.{range_with_len}
 use Rattle.std.proofs.lemmas.Bool.Decides.{nat_tests}
 use Rattle.std.proofs.lemmas.Grind.{flat_map-append}
+use Rattle.std.proofs.lemmas.List.{flat_map_more, take_more}
 use Rattle.staat_model.specs.declared.set.PartSet.{PartSet}
 use Rattle.staat_model.specs.Lines.{members_from}
 use Rattle.staat_graph.specs.Graphs.{HasArc}
@@ -12,6 +13,17 @@ use Rattle.staat_text.specs.GraphTexts.{arcs_from, has_arc}
 -- what is left from b on is b, if it is counted, and what is left from b + 1 on
 pub left : (b n : ℕ) → b < n → n - b ≡ suc (n - (b + 1))
 left b n lt = omega arith
+
+-- the text of one item more
+pub text_more : {X : Type 0} (text_of : X → List ℕ) (xs : List X) (i : ℕ) (d : X) (old text new : List ℕ) → i < length xs
+    → text ≡ old ++ flat_map text_of (take i xs) → new ≡ text ++ text_of (get_or xs i d)
+    → new ≡ old ++ flat_map text_of (take (i + 1) xs)
+text_more text_of xs i d old text new lt so_far is =
+    let front = flat_map text_of (take i xs) in
+    let item = text_of (get_or xs i d) in
+    is ∙ ap (λ t. t ++ item) so_far ∙ append_assoc old front item
+    ∙ ap (λ t. old ++ t) (flat_map_more text_of [] (take i xs) (get_or xs i d)
+    ∙ ap (flat_map text_of) (sym (take_more xs i d lt)))
 
 -- ---- arcs
 

@@ -1,63 +1,50 @@
 // The text of a trial on a product that the program makes itself.
-ghost use Rattle.std.specs.Prelude.{◌≡◌, ◌++◌, IfOk, codes, decimal, string_bytes};
+ghost use Rattle.std.specs.Prelude.{◌≡◌, ◌++◌, IfOk, codes, decimal};
 ghost use Rattle.staat_model.specs.Outcomes.{finding_of};
 ghost use Rattle.staat_model.specs.Plans.{plan_of};
-ghost use Rattle.staat_text.specs.DrillTexts.{drill_text, length_words, outcome_words, size_words};
-ghost use Rattle.staat_text.specs.DrillTexts.{verdict_words};
+ghost use Rattle.staat_text.specs.DrillTexts.{drill_text, outcome_words, verdict_words};
 ghost use Rattle.staat_text.specs.PlanTexts.{CanBeShown, HasLeaves, steps_of};
 
 use crate::plans::steps_of;
 use crate::verdicts::verdict_text;
-use staat_model::{Outcome, Tree, Verdict};
+use staat_model::{Outcome, Verdict};
+use staat_number::push_number;
 use staat_vec::{Bytes, OutOfMemory};
 use std::alloc::{AllocError, Global};
 
-// How many splits a plan has.
-fn splits(alloc: Global, tree: &Tree) -> Result<String, AllocError>
-    requires { HasLeaves (plan_of tree.now) }
-    ensures { IfOk result (λ s. string_bytes s ≡ decimal (steps_of (plan_of tree.now)) ++ codes " splits") }
+// Adds a number between two words.
+fn push_counted(text: &mut Vec<u8>, before: &[u8], n: u64, behind: &[u8]) -> Result<(), AllocError>
+    ensures { IfOk result (λ _. text.new.items ≡ text.old.items ++ (before.now ++ decimal n ++ behind.now)) }
 {
-    let steps = steps_of(tree);
-    format!(in alloc; "{steps} splits")
+    text.extend_from_slice(before)?;
+    push_number(text, n as i128)?;
+    text.extend_from_slice(behind)?;
+    Ok(())
 }
 
-// How many splits a plan has, or how many parts are stuck.
-fn outcome_words(alloc: Global, outcome: &Outcome) -> Result<String, AllocError>
+// Adds how many splits a plan has, or how many parts are stuck.
+fn push_outcome(text: &mut Vec<u8>, outcome: &Outcome) -> Result<(), AllocError>
     requires { CanBeShown (finding_of outcome.now) }
-    ensures { IfOk result (λ s. string_bytes s ≡ outcome_words (finding_of outcome.now)) }
+    ensures { IfOk result (λ _. text.new.items ≡ text.old.items ++ outcome_words (finding_of outcome.now)) }
 {
     match outcome {
-        Outcome::Plan { tree, .. } => splits(alloc, tree),
-        Outcome::Stuck(w) => {
-            let parts = w.count();
-            format!(in alloc; "stuck {parts} parts")
-        }
+        Outcome::Plan { tree, .. } => push_counted(text, b"", steps_of(tree) as u64, b" splits"),
+        Outcome::Stuck(w) => push_counted(text, b"stuck ", w.count() as u64, b" parts"),
     }
 }
 
-// The end of the line.
-fn verdict_words(alloc: Global, verdict: &Verdict) -> Result<Bytes, OutOfMemory>
-    ensures { IfOk result (λ text. text ≡ verdict_words verdict.now) }
+// Adds the end of the line.
+fn push_verdict(alloc: Global, text: &mut Vec<u8>, verdict: &Verdict) -> Result<(), OutOfMemory>
+    ensures { IfOk result (λ _. text.new.items ≡ text.old.items ++ verdict_words verdict.now) }
 {
     match verdict {
-        Verdict::ValidPlan => Ok(Bytes::from_vec(b"valid\n".to_vec(alloc)?)),
-        Verdict::ValidRefusal => Ok(Bytes::from_vec(b"valid\n".to_vec(alloc)?)),
-        Verdict::Not(_) => verdict_text(alloc, verdict),
+        Verdict::ValidPlan | Verdict::ValidRefusal => text.extend_from_slice(b"valid\n")?,
+        Verdict::Not(_) => {
+            let words = verdict_text(alloc, verdict)?;
+            text.extend_from_slice(words.as_slice())?;
+        }
     }
-}
-
-// The size of the product.
-fn size_words(alloc: Global, n: u32) -> Result<String, AllocError>
-    ensures { IfOk result (λ s. string_bytes s ≡ size_words n) }
-{
-    format!(in alloc; " {n}: ")
-}
-
-// The length of the certificate.
-fn length_words(alloc: Global, bytes: usize) -> Result<String, AllocError>
-    ensures { IfOk result (λ s. string_bytes s ≡ length_words bytes) }
-{
-    format!(in alloc; ", {bytes} bytes, ")
+    Ok(())
 }
 
 /// The line of a trial: `drill KIND N: `, then `K splits` or `stuck K parts`, `, B bytes, ` and the verdict on the
@@ -78,9 +65,9 @@ pub fn drill_text(
 {
     let mut text = b"drill ".to_vec(alloc)?;
     text.extend_from_slice(kind.as_bytes())?;
-    text.extend_from_slice(size_words(alloc, n)?.as_bytes())?;
-    text.extend_from_slice(outcome_words(alloc, outcome)?.as_bytes())?;
-    text.extend_from_slice(length_words(alloc, bytes)?.as_bytes())?;
-    text.extend_from_slice(verdict_words(alloc, verdict)?.as_slice())?;
+    push_counted(&mut text, b" ", n as u64, b": ")?;
+    push_outcome(&mut text, outcome)?;
+    push_counted(&mut text, b", ", bytes as u64, b" bytes, ")?;
+    push_verdict(alloc, &mut text, verdict)?;
     Ok(Bytes::from_vec(text))
 }

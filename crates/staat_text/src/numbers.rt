@@ -30,13 +30,21 @@ fn push_part(text: &mut Vec<u8>, p: u32) -> Result<(), AllocError>
     push_number(text, p as i128)
 }
 
+/// Adds the numbers, each after a space.
+pub(crate) fn push_numbers(text: &mut Vec<u8>, numbers: &[u32]) -> Result<(), AllocError>
+    ensures { IfOk result (λ _. text.new.items ≡ text.old.items ++ numbers_text numbers.now) }
+{
+    for p in numbers {
+        push_part(text, *p)?;
+    }
+    Ok(())
+}
+
 /// The numbers, each after a space.
 pub fn numbers_text(alloc: Global, numbers: &[u32]) -> Result<Vec<u8>, AllocError>
     ensures { IfOk result (λ text. text.items ≡ numbers_text numbers.now) }
 {
     let mut text = Vec::new(alloc);
-    for p in numbers {
-        push_part(&mut text, *p)?;
-    }
+    push_numbers(&mut text, numbers)?;
     Ok(text)
 }

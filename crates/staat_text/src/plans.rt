@@ -10,7 +10,7 @@ ghost use Rattle.staat_model.specs.Sets.{Has};
 ghost use Rattle.staat_text.specs.PlanTexts.{CanBeShown, HasLeaves, move_line, move_lines, plan_text, steps_of};
 ghost use Rattle.staat_text.specs.PlanTexts.{direction_text, kind_text, mark_text, numbers_text, parts_listed};
 
-use crate::numbers::{numbers_of, numbers_text};
+use crate::numbers::{numbers_of, numbers_text, push_numbers};
 use staat_limits::MOST_PRODUCT_PARTS;
 use staat_model::{Kind, Outcome, PartSet, Tree};
 use staat_vec::{Bytes, OutOfMemory, V3};
@@ -71,40 +71,47 @@ pub fn each_once(mut numbers: Vec<u32>) -> Vec<u32>
     numbers
 }
 
-// The parts at the leaves, ascending, each after a space.
-fn leaves_listed(alloc: Global, side: &Tree) -> Result<Vec<u8>, AllocError>
+// Adds the parts at the leaves, ascending, each after a space.
+fn push_side(alloc: Global, text: &mut Vec<u8>, side: &Tree) -> Result<(), AllocError>
     requires { HasLeaves (plan_of side.now) }
-    ensures { IfOk result (λ text. text.items ≡ parts_listed (parts_of (plan_of side.now))) }
+    ensures { IfOk result (λ _. text.new.items ≡ text.old.items ++ parts_listed (parts_of (plan_of side.now))) }
 {
     let mut numbers = Vec::new(alloc);
     push_leaves(&mut numbers, side)?;
     let numbers = each_once(numbers);
-    numbers_text(alloc, numbers.as_slice())
+    push_numbers(text, numbers.as_slice())
 }
 
-// The line of a step.
-fn move_line(
+// Adds the words between two sides.
+fn push_direction(alloc: Global, text: &mut Vec<u8>, d: V3) -> Result<(), AllocError>
+    ensures { IfOk result (λ _. text.new.items ≡ text.old.items ++ direction_text d) }
+{
+    let along = direction_text(alloc, d)?;
+    text.extend_from_slice(along.as_bytes())?;
+    Ok(())
+}
+
+// Adds the line of a step.
+fn push_move(
     alloc: Global,
+    text: &mut Vec<u8>,
     moved: &Tree,
     d: V3,
     rest: &Tree,
     marks: &[Kind],
-) -> Result<Vec<u8>, AllocError>
+) -> Result<(), AllocError>
     requires moved { HasLeaves (plan_of moved.now) }
     requires rest { HasLeaves (plan_of rest.now) }
-    ensures { IfOk result (λ line. line.items ≡
-        move_line (parts_of (plan_of moved.now)) d (parts_of (plan_of rest.now)) marks.now) }
+    ensures { IfOk result (λ _. text.new.items ≡ text.old.items
+        ++ move_line (parts_of (plan_of moved.now)) d (parts_of (plan_of rest.now)) marks.now) }
 {
-    let moved = leaves_listed(alloc, moved)?;
-    let along = direction_text(alloc, d)?;
-    let rest = leaves_listed(alloc, rest)?;
-    let mut line = b"move".to_vec(alloc)?;
-    line.extend_from_slice(moved.as_slice())?;
-    line.extend_from_slice(along.as_bytes())?;
-    line.extend_from_slice(rest.as_slice())?;
-    line.extend_from_slice(mark_text(marks))?;
-    line.extend_from_slice(b"\n")?;
-    Ok(line)
+    text.extend_from_slice(b"move")?;
+    push_side(alloc, text, moved)?;
+    push_direction(alloc, text, d)?;
+    push_side(alloc, text, rest)?;
+    text.extend_from_slice(mark_text(marks))?;
+    text.push(b'\n')?;
+    Ok(())
 }
 
 // The number of steps.
@@ -141,8 +148,7 @@ fn push_moves(
     match tree {
         Tree::Leaf(_) => Ok(()),
         Tree::Split { d, moved, rest } => {
-            let line = move_line(alloc, moved, *d, rest, marks)?;
-            text.extend_from_slice(line.as_slice())?;
+            push_move(alloc, text, moved, *d, rest, marks)?;
             push_moves(alloc, text, moved, marks_from(marks, 1))?;
             push_moves(alloc, text, rest, marks_from(marks, 1 + steps_of(moved)))
         }
@@ -172,10 +178,9 @@ fn moves_text(alloc: Global, tree: &Tree, marks: &[Kind]) -> Result<Vec<u8>, All
 fn stuck_line(alloc: Global, members: &[u32]) -> Result<Vec<u8>, AllocError>
     ensures { IfOk result (λ line. line.items ≡ codes "stuck" ++ numbers_text members.now ++ codes "\n") }
 {
-    let parts = numbers_text(alloc, members)?;
     let mut line = b"stuck".to_vec(alloc)?;
-    line.extend_from_slice(parts.as_slice())?;
-    line.extend_from_slice(b"\n")?;
+    push_numbers(&mut line, members)?;
+    line.push(b'\n')?;
     Ok(line)
 }
 

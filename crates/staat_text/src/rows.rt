@@ -6,7 +6,7 @@ ghost use Rattle.staat_text.specs.GraphTexts.{IsGraphText, arc_line, arcs_from, 
 ghost use Rattle.staat_text.specs.PlanTexts.{numbers_text};
 
 use crate::graphs::along_line;
-use crate::numbers::numbers_text;
+use crate::numbers::push_numbers;
 use staat_graph::{PartNumbers, Row, row_groups};
 use staat_limits::MOST_PRODUCT_PARTS;
 use staat_number::push_number;
@@ -24,7 +24,7 @@ fn has_arc(rows: &[Row], a: usize, b: usize) -> bool
 }
 
 // Adds the line of the arc from a to b.
-fn push_arc(text: &mut Vec<u8>, a: u32, b: u32) -> Result<(), AllocError>
+pub(crate) fn push_arc(text: &mut Vec<u8>, a: u32, b: u32) -> Result<(), AllocError>
     ensures { IfOk result (λ _. text.new.items ≡ text.old.items ++ arc_line (a, b)) }
 {
     text.extend_from_slice(b"arc ")?;
@@ -65,25 +65,24 @@ fn push_arcs(text: &mut Vec<u8>, rows: &[Row]) -> Result<(), AllocError>
 }
 
 // Adds the line of a group.
-fn push_group(alloc: Global, text: &mut Vec<u8>, group: &[u32]) -> Result<(), AllocError>
+pub(crate) fn push_group(text: &mut Vec<u8>, group: &[u32]) -> Result<(), AllocError>
     ensures { IfOk result (λ _. text.new.items ≡
         text.old.items ++ (codes "group" ++ numbers_text group.now ++ codes "\n")) }
 {
-    let parts = numbers_text(alloc, group)?;
     text.extend_from_slice(b"group")?;
-    text.extend_from_slice(parts.as_slice())?;
+    push_numbers(text, group)?;
     text.push(b'\n')?;
     Ok(())
 }
 
 // Adds the lines of the groups.
-fn push_groups(alloc: Global, text: &mut Vec<u8>, groups: &[PartNumbers]) -> Result<(), AllocError>
+fn push_groups(text: &mut Vec<u8>, groups: &[PartNumbers]) -> Result<(), AllocError>
     requires { All (AreAscendingBelow MOST_PRODUCT_PARTS) groups.now }
     ensures { IfOk result (λ _. text.new.items ≡
         text.old.items ++ flat_map group_line (map set_of groups.now)) }
 {
     for group in groups {
-        push_group(alloc, text, group.as_slice())?;
+        push_group(text, group.as_slice())?;
     }
     Ok(())
 }
@@ -100,6 +99,6 @@ pub fn rows_text(alloc: Global, d: V3, rows: &[Row]) -> Result<Bytes, OutOfMemor
     let groups = row_groups(alloc, rows)?;
     let mut text = along_line(alloc, d)?.into_bytes();
     push_arcs(&mut text, rows)?;
-    push_groups(alloc, &mut text, groups.as_slice())?;
+    push_groups(&mut text, groups.as_slice())?;
     Ok(Bytes::from_vec(text))
 }

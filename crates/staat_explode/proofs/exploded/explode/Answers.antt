@@ -1,6 +1,7 @@
-use Rattle.std.proofs.Common.{◌≡◌, length, All, ap, subst, sym, arith, ◌∙◌, map}
+use Rattle.std.proofs.Common.{◌≡◌, List, length, All, ap, subst, sym, arith, ◌∙◌, map}
 use Rattle.std.specs.List.{range_with_len}
 use Rattle.staat_vec.specs.Vectors.{IsWithin}
+use Rattle.staat_model.specs.declared.assembly.Part.{Part}
 use Rattle.staat_model.specs.Plans.{plan_of}
 use Rattle.staat_explode.specs.declared.grow.TheConstants.{FARTHEST}
 use Rattle.staat_explode.specs.Apart.{StandApart}
@@ -12,33 +13,35 @@ use Rattle.staat_explode.proofs.Leaves.{few_nodes, placeable_below}
 use Rattle.staat_explode.proofs.Viewing.{sums, apart, all_near, boxes_length}
 use Rattle.staat_explode.proofs.exploded.explode.Goals as goal
 
-pub shifted_of-requires-clause-plan : goal.shifted_of-requires-clause-plan
-shifted_of-requires-clause-plan c =
-    let boxes = c.as_slice.ensures.value ∙ c.in_ok-boxes.ensures.boxes ∙ ap boxes_of c.assembly-assembly.ensures.assembly in
-    subst (λ n. IsShiftable n (plan_of c.args.tree.now)) (sym (ap length boxes ∙ boxes_length c.args.sound.now)) (placeable_below c.args.sound.now (length c.args.sound.now) (plan_of c.args.tree.now) c.requires.good)
+pub placed_of-requires-clause-plan : goal.placed_of-requires-clause-plan
+placed_of-requires-clause-plan c =
+    let sound = c.args.sound.now in
+    let plan = plan_of c.args.tree.now in
+    subst (λ (a : List Part). IsShiftable (length (boxes_of a)) plan) (sym c.assembly-assembly.ensures.assembly)
+    (subst (λ n. IsShiftable n plan) (sym (boxes_length sound)) (placeable_below sound (length sound) plan c.requires.good))
 
-pub shifted_of-requires-clause-nodes : goal.shifted_of-requires-clause-nodes
-shifted_of-requires-clause-nodes c =
+pub placed_of-requires-clause-nodes : goal.placed_of-requires-clause-nodes
+placed_of-requires-clause-nodes c =
     omega (arith, few_nodes c.args.sound.now (length c.args.sound.now) (plan_of c.args.tree.now) c.requires.good, c.parts-parts.ensures.assembly.at_most, ap length c.assembly-assembly.ensures.assembly)
 
 pub returns-clause-exact : goal.returns-clause-exact
 returns-clause-exact c =
     let sound = c.args.sound.now in
     let plan = plan_of c.args.tree.now in
-    let boxes : c.as_slice.result.now ≡ boxes_of c.args.sound.now = c.as_slice.ensures.value ∙ c.in_ok-boxes.ensures.boxes ∙ ap boxes_of c.assembly-assembly.ensures.assembly in
+    let same = c.assembly-assembly.ensures.assembly in
     let ok = c.in_ok-placed.ensures in
-    let placed : c.as_slice-2.result.now ≡ shifted_of (boxes_of c.args.sound.now) (plan_of c.args.tree.now) = c.as_slice-2.ensures.value ∙ ok.0 ∙ ap (λ b. shifted_of b (plan_of c.args.tree.now)) boxes in
+    let placed : c.as_slice.result.now ≡ shifted_of (boxes_of c.args.sound.now) (plan_of c.args.tree.now) = c.as_slice.ensures.value ∙ ok.0 ∙ ap (λ (a : List Part). shifted_of (boxes_of a) (plan_of c.args.tree.now)) same in
     let count : c.parts-parts.result ≡ length c.args.sound.now = c.parts-parts.ensures.count ∙ ap length c.assembly-assembly.ensures.assembly in
     let value : c.from_vec.result ≡ shifts_of c.args.sound.now (plan_of c.args.tree.now) = c.from_vec.ensures ∙ c.in_ok-shifts.ensures ∙ (λ i. map (vector_of_part (placed i)) (range_with_len 0 (count i))) in
-    (value, subst (λ b. AllNear b 0 plan) boxes ok.2)
+    (value, subst (λ (a : List Part). AllNear (boxes_of a) 0 plan) same ok.2)
 
 pub returns-clause-sums : goal.returns-clause-sums
 returns-clause-sums c =
     let sound = c.args.sound.now in
     let plan = plan_of c.args.tree.now in
-    let boxes : c.as_slice.result.now ≡ boxes_of c.args.sound.now = c.as_slice.ensures.value ∙ c.in_ok-boxes.ensures.boxes ∙ ap boxes_of c.assembly-assembly.ensures.assembly in
+    let same = c.assembly-assembly.ensures.assembly in
     let ok = c.in_ok-placed.ensures in
-    let placed : c.as_slice-2.result.now ≡ shifted_of (boxes_of c.args.sound.now) (plan_of c.args.tree.now) = c.as_slice-2.ensures.value ∙ ok.0 ∙ ap (λ b. shifted_of b (plan_of c.args.tree.now)) boxes in
+    let placed : c.as_slice.result.now ≡ shifted_of (boxes_of c.args.sound.now) (plan_of c.args.tree.now) = c.as_slice.ensures.value ∙ ok.0 ∙ ap (λ (a : List Part). shifted_of (boxes_of a) (plan_of c.args.tree.now)) same in
     let count : c.parts-parts.result ≡ length c.args.sound.now = c.parts-parts.ensures.count ∙ ap length c.assembly-assembly.ensures.assembly in
     let value : c.from_vec.result ≡ shifts_of c.args.sound.now (plan_of c.args.tree.now) = c.from_vec.ensures ∙ c.in_ok-shifts.ensures ∙ (λ i. map (vector_of_part (placed i)) (range_with_len 0 (count i))) in
     subst (AreSums plan) (sym value) (sums sound plan c.requires.good)
@@ -47,9 +50,9 @@ pub returns-clause-apart : goal.returns-clause-apart
 returns-clause-apart c =
     let sound = c.args.sound.now in
     let plan = plan_of c.args.tree.now in
-    let boxes : c.as_slice.result.now ≡ boxes_of c.args.sound.now = c.as_slice.ensures.value ∙ c.in_ok-boxes.ensures.boxes ∙ ap boxes_of c.assembly-assembly.ensures.assembly in
+    let same = c.assembly-assembly.ensures.assembly in
     let ok = c.in_ok-placed.ensures in
-    let placed : c.as_slice-2.result.now ≡ shifted_of (boxes_of c.args.sound.now) (plan_of c.args.tree.now) = c.as_slice-2.ensures.value ∙ ok.0 ∙ ap (λ b. shifted_of b (plan_of c.args.tree.now)) boxes in
+    let placed : c.as_slice.result.now ≡ shifted_of (boxes_of c.args.sound.now) (plan_of c.args.tree.now) = c.as_slice.ensures.value ∙ ok.0 ∙ ap (λ (a : List Part). shifted_of (boxes_of a) (plan_of c.args.tree.now)) same in
     let count : c.parts-parts.result ≡ length c.args.sound.now = c.parts-parts.ensures.count ∙ ap length c.assembly-assembly.ensures.assembly in
     let value : c.from_vec.result ≡ shifts_of c.args.sound.now (plan_of c.args.tree.now) = c.from_vec.ensures ∙ c.in_ok-shifts.ensures ∙ (λ i. map (vector_of_part (placed i)) (range_with_len 0 (count i))) in
     subst (StandApart sound) (sym value) (apart sound plan c.requires.good)
@@ -57,5 +60,6 @@ returns-clause-apart c =
 pub returns-clause-near : goal.returns-clause-near
 returns-clause-near c =
     let value = c.from_vec.ensures ∙ c.in_ok-shifts.ensures in
-    let items = c.as_slice-2.ensures.value in
-    subst (All (IsWithin FARTHEST)) (sym value) (all_near (length c.as_slice.result.now) c.parts-parts.result c.as_slice-2.result.now (subst (All (IsShifted (length c.as_slice.result.now))) (sym items) c.in_ok-placed.ensures.1))
+    let items = c.as_slice.ensures.value in
+    let count = length (boxes_of c.assembly-assembly.result.now) in
+    subst (All (IsWithin FARTHEST)) (sym value) (all_near count c.parts-parts.result c.as_slice.result.now (subst (All (IsShifted count)) (sym items) c.in_ok-placed.ensures.1))

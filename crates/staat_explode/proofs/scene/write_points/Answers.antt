@@ -1,6 +1,7 @@
-use Rattle.std.proofs.Common.{◌≡◌, ◌∙◌, List, ℕ, take, flat_map, get_or, ap, subst, arith}
+use Rattle.std.proofs.Common.{◌≡◌, ◌∙◌, List, ℕ, take, flat_map, get_or, ap, subst, sym, arith}
 use Rattle.staat_vec.specs.declared.vector.V3.{V3}
-use Rattle.staat_vec.specs.Vectors.{plus}
+use Rattle.staat_vec.specs.declared.vector.TheConstants.{POINT}
+use Rattle.staat_vec.specs.Vectors.{IsWithin, plus}
 use Rattle.staat_explode.specs.Scenes.{point_line}
 use Rattle.staat_explode.specs.Sheets.{AddsText}
 use Rattle.staat_explode.proofs.Lines.{adds_then, line_more}
@@ -19,3 +20,17 @@ loop-vertex-preserved c =
           (line_more line points i d c.loop-vertex-test.true) c.loop-vertex.invariant.text (subst (AddsText c.loop-vertex.sheet c.write.new.self) is c.in_ok-write.ensures.text);
       room = omega (arith, c.in_ok-write.ensures.length, c.as_bytes.ensures.len);
     }
+
+pub placed-requires-clause-p : goal.placed-requires-clause-p
+placed-requires-clause-p c =
+    let same = c.point.ensures ∙ c.vertex-item.is in
+    subst (IsWithin POINT) (sym same) (c.requires.points c.loop-vertex.vertex-index c.vertex-item.result c.loop-vertex-test.true)
+
+pub write-requires : goal.write-requires
+write-requires c = omega (arith, c.loop-vertex.invariant.room, c.requires.room, c.loop-vertex-test.true)
+
+pub placed-requires-clause-at : goal.placed-requires-clause-at
+placed-requires-clause-at c = c.requires.at
+
+pub placed-requires-clause-shift : goal.placed-requires-clause-shift
+placed-requires-clause-shift c = c.requires.shift

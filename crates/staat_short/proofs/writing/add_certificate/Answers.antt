@@ -1,6 +1,11 @@
+use Rattle.std.proofs.lemmas.Result.{IfOk-weaker}
 use Rattle.staat_short.specs.ShortTexts.{lines_of_answer}
 use Rattle.staat_short.proofs.AddLemmas.{four_added}
 use Rattle.staat_short.proofs.writing.add_certificate.Goals as goal
 
 pub returns : goal.returns
-returns c = four_added _ _ _ _ _ _ (lines_of_answer c.args.c.now.answer) c.in_ok-add_line.ensures c.in_ok-add_line-2.ensures c.in_ok-add_answer.ensures c.in_ok-add_line-3.ensures
+returns c =
+    IfOk-weaker c.add_line-3.result _ _ (λ x ends.
+    four_added _ _ _ _ _ _ (lines_of_answer c.args.c.now.answer) c.in_ok-add_line.ensures c.in_ok-add_line-2.ensures
+    c.in_ok-add_answer.ensures ends)
+    c.add_line-3.ensures

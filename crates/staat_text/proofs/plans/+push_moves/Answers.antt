@@ -1,19 +1,19 @@
-use Rattle.std.proofs.Common.{◌≡◌, ◌<◌, ◌+◌, ◌++◌, ap, arith, ◌∙◌, subst, sym, drop}
+use Rattle.std.proofs.Common.{◌≡◌, ◌<◌, ◌+◌, ◌++◌, ap, arith, ◌∙◌, refl, subst, sym, drop}
 use Rattle.staat_model.specs.declared.tree.Tree.{Tree}
 use Rattle.staat_text.proofs.PlanLines.{split_written}
 use Rattle.staat_model.specs.Plans.{Plan, parts_of, plan_of, split}
-use Rattle.staat_text.specs.PlanTexts.{HasLeaves, steps_of}
+use Rattle.staat_text.specs.PlanTexts.{HasLeaves, move_line, steps_of}
 use Rattle.staat_text.proofs.PlanSteps.{moved_fewer, moved_leaves, moved_steps, rest_fewer, rest_leaves}
 use Rattle.staat_text.proofs.plans.+push_moves.Goals as goal
 
-pub move_line-requires-clause-moved : goal.move_line-requires-clause-moved
-move_line-requires-clause-moved t c =
+pub push_move-requires-clause-moved : goal.push_move-requires-clause-moved
+push_move-requires-clause-moved t c =
     let is : plan_of c.args.tree.now ≡ split c.in-Split.d (plan_of c.in-Split.moved.value) (plan_of c.in-Split.rest.value) = ap plan_of c.in-Split.is in
     let e : plan_of c.deref.result.now ≡ plan_of c.in-Split.moved.value = ap plan_of c.deref.ensures in
     subst (λ (p : Plan). HasLeaves p) (sym e) (moved_leaves (plan_of c.args.tree.now) c.in-Split.d (plan_of c.in-Split.moved.value) (plan_of c.in-Split.rest.value) is c.requires)
 
-pub move_line-requires-clause-rest : goal.move_line-requires-clause-rest
-move_line-requires-clause-rest t c =
+pub push_move-requires-clause-rest : goal.push_move-requires-clause-rest
+push_move-requires-clause-rest t c =
     let is : plan_of c.args.tree.now ≡ split c.in-Split.d (plan_of c.in-Split.moved.value) (plan_of c.in-Split.rest.value) = ap plan_of c.in-Split.is in
     let e : plan_of c.deref-in-Split.result.now ≡ plan_of c.in-Split.rest.value = ap plan_of c.deref-in-Split.ensures in
     subst (λ (p : Plan). HasLeaves p) (sym e) (rest_leaves (plan_of c.args.tree.now) c.in-Split.d (plan_of c.in-Split.moved.value) (plan_of c.in-Split.rest.value) is c.requires)
@@ -49,7 +49,7 @@ overflow_add-steps_of t c =
 pub returns-in_ok-push_moves-in-Split : goal.returns-in_ok-push_moves-in-Split
 returns-in_ok-push_moves-in-Split t c =
     split_written c.args.tree.now c.in-Split.d c.in-Split.moved.value c.in-Split.rest.value (ap plan_of c.in-Split.is) c.args.marks.now _ _ _ _ c.push_moves-in-Split.result
-    c.in_ok-line-in-Split.line.items c.deref.result.now c.deref-in-Split.result.now c.deref-in-Split-2.result.now c.deref-in-Split-3.result.now c.marks_from.result.now c.marks_from-in-Split.result.now
+    (move_line (parts_of (plan_of c.deref.result.now)) c.in-Split.d (parts_of (plan_of c.deref-in-Split.result.now)) c.args.marks.now) c.deref.result.now c.deref-in-Split.result.now c.deref-in-Split-2.result.now c.deref-in-Split-3.result.now c.marks_from.result.now c.marks_from-in-Split.result.now
     c.deref.ensures c.deref-in-Split.ensures
     c.deref-in-Split-2.ensures c.deref-in-Split-3.ensures c.marks_from.ensures (c.marks_from-in-Split.ensures ∙ ap (λ n. drop n c.args.marks.now) (ap (λ n. 1 + n) (c.steps_of.ensures ∙ ap (λ (x : Tree). steps_of (plan_of x)) c.deref-in-Split-4.ensures)))
-    c.in_ok-line-in-Split.ensures (c.in_ok-extend_from_slice-in-Split.ensures.items ∙ ap (λ t. c.args.text.now.items ++ t) c.as_slice.ensures.value) c.in_ok-push_moves-in-Split.ensures c.push_moves-in-Split.ensures
+    refl c.in_ok-push_move-in-Split.ensures c.in_ok-push_moves-in-Split.ensures c.push_moves-in-Split.ensures
