@@ -2,7 +2,7 @@
 use staat_holds::BrokenHold;
 
 /// The first rule that a short certificate breaks. Nodes, parts, pieces, and the holds of a list count from 0.
-#[derive(Clone, Copy, PartialEq, Eq)]
+#[derive(Clone, Copy)]
 pub enum ShortReason {
     /// It states this number of parts, which is not the product's.
     WrongParts(u32),
@@ -30,7 +30,7 @@ pub enum ShortReason {
 }
 
 /// What is said of a short certificate for a product.
-#[derive(Clone, Copy, PartialEq, Eq)]
+#[derive(Clone, Copy)]
 pub enum ShortVerdict {
     /// It is valid, and its plan takes all parts apart.
     ValidPlan,

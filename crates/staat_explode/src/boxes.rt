@@ -11,7 +11,7 @@ use staat_vec::V3;
 use std::alloc::{AllocError, Global};
 
 /// A box, by the least and the greatest number of its points in each component.
-#[derive(Clone, Copy, PartialEq, Eq)]
+#[derive(Clone, Copy)]
 pub struct Bounds {
     pub low: V3,
     pub high: V3,

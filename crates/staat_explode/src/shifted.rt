@@ -13,7 +13,7 @@ use crate::grow::FARTHEST;
 use staat_vec::{DIRECTION, POINT, V3};
 
 /// A part, and the vector by which it is moved.
-#[derive(Clone, Copy, PartialEq, Eq)]
+#[derive(Clone, Copy)]
 pub struct Shifted {
     pub part: u32,
     pub by: V3,

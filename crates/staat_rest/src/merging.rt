@@ -12,7 +12,7 @@ use staat_vec::{Listed, Name, OutOfMemory};
 use std::alloc::Global;
 
 /// The part and the piece that a piece of the merged product was.
-#[derive(Clone, Copy, PartialEq, Eq)]
+#[derive(Clone, Copy)]
 pub struct Origin {
     pub part: u32,
     pub piece: u32,

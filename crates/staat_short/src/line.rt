@@ -3,7 +3,7 @@ use staat_model::Arc;
 use staat_vec::V3;
 
 /// What one line of a short certificate's text says: words and their numbers.
-#[derive(Clone, Copy, PartialEq, Eq)]
+#[derive(Clone, Copy)]
 pub enum ShortLine {
     /// `STAAT SHORT 1`.
     Title,
