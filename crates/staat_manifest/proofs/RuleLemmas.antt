@@ -134,17 +134,13 @@ all_listed most values k list le rules is =
 
 -- ---- the whole
 
-module _ (most_parts most : ℕ) (bytes : Text) (value : Data) (is : json_of bytes ≡ Some value) where
-  is_answer : part_list_within most_parts most bytes ≡ unless_broken (first_refusal (whole_rules most_parts value ++ rules_from most [] (parts_value value))) (map listed (parts_value value))
-  unfolding part_list_within
-  is_answer = ap (answer_of most_parts most) is
-
+module _ (most_parts most : ℕ) (value : Data) where
   -- the whole value breaks a rule
-  pub whole_refuses : (e : ManifestRefusal) → RefusesPart (first_refusal (whole_rules most_parts value)) e → AnswersList (part_list_within most_parts most bytes) (Err e)
-  whole_refuses e h = subst (λ (wanted : Result (List ListedPart) ManifestRefusal). AnswersList wanted (Err e)) (sym is_answer) (passed_on e _ _ _ (λ d. stopped d (whole_rules most_parts value) (rules_from most [] (parts_value value))) h)
+  pub whole_refuses : (e : ManifestRefusal) → RefusesPart (first_refusal (whole_rules most_parts value)) e → AnswersList (answer_of most_parts most (Some value)) (Err e)
+  whole_refuses e h = passed_on e _ _ _ (λ d. stopped d (whole_rules most_parts value) (rules_from most [] (parts_value value))) h
 
   -- the parts decide
-  pub by_parts : first_refusal (whole_rules most_parts value) ≡ None → (parts : List Data) → parts ≡ parts_value value → part_list_within most_parts most bytes ≡ unless_broken (first_refusal (rules_from most [] parts)) (map listed parts)
+  pub by_parts : first_refusal (whole_rules most_parts value) ≡ None → (parts : List Data) → parts ≡ parts_value value → answer_of most_parts most (Some value) ≡ unless_broken (first_refusal (rules_from most [] parts)) (map listed parts)
   by_parts h parts same =
-      is_answer ∙ ap (λ o. unless_broken o (map listed (parts_value value))) (passed (whole_rules most_parts value) (rules_from most [] (parts_value value)) h)
+      ap (λ o. unless_broken o (map listed (parts_value value))) (passed (whole_rules most_parts value) (rules_from most [] (parts_value value)) h)
       ∙ ap (λ ps. unless_broken (first_refusal (rules_from most [] ps)) (map listed ps)) (sym same)

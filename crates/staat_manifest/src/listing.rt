@@ -32,7 +32,7 @@ pub(crate) fn name_of(alloc: Global, text: &str) -> Result<Name, AllocError>
 pub(crate) fn names_of(alloc: Global, values: &[Value]) -> Result<Names, AllocError>
     ensures { IfOk result (λ names. names ≡ map text_in (map view values.now)) }
 {
-    let mut names = Vec::with_capacity(alloc, values.len())?;
+    let mut names = Vec::new(alloc);
     for value in values {
         names.push(name_of(alloc, text_in(value))?)?;
     }

@@ -21,7 +21,12 @@ const LONGEST_NAME: usize = 255;
 fn has_no_controls(bytes: &[u8]) -> bool
     ensures { result ≡ list_all (λ b. nat_le 32 b) bytes.now }
 {
-    bytes.iter().all(|b| b' ' <= *b)
+    for byte in bytes {
+        if *byte < b' ' {
+            return false;
+        }
+    }
+    true
 }
 
 fn is_name(text: &str) -> bool
