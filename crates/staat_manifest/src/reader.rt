@@ -4,7 +4,7 @@ ghost use Rattle.serde_json.specs.View.{view};
 ghost use Rattle.staat_manifest.specs.Answers.{AnswersList, JudgesPart};
 ghost use Rattle.staat_manifest.specs.Listings.{IsListing, IsListingWithin, IsTally, listed};
 ghost use Rattle.staat_manifest.specs.Values.{text_in};
-ghost use Rattle.staat_manifest.specs.Rules.{answer_of, first_refusal, name_rule, part_list, unless_broken};
+ghost use Rattle.staat_manifest.specs.Rules.{answer_of, first_refusal, part_list, unless_broken};
 ghost use Rattle.staat_manifest.specs.Rules.{part_list_within, part_rules, rules_from};
 
 use crate::json::{array_at, has_only};
@@ -16,23 +16,6 @@ use indexmap::IndexSet;
 use serde_json::Value;
 use staat_limits::{MOST_PARTS, MOST_PIECES};
 use std::alloc::{AllocError, Global};
-
-// Gives the name the next number, unless an earlier part has it.
-fn add_name<'v>(
-    alloc: Global,
-    names: &mut IndexSet<&'v str>,
-    name: &'v str,
-) -> Result<(), ManifestRefusal>
-    ensures rule { JudgesPart (name_rule (map (λ s. s.now) names.old.keys) name.entry.now) result }
-    ensures added { OnOk result (map (λ s. s.now) names.new.keys
-        ≡ map (λ s. s.now) names.old.keys ++ name.entry.now ∷ []) }
-{
-    if names.insert(name)? {
-        Ok(())
-    } else {
-        Err(repeated_name(alloc, name))
-    }
-}
 
 // The part of this form.
 fn listed(alloc: Global, form: &Form<'_>) -> Result<ListedPart, AllocError>
@@ -64,7 +47,9 @@ fn add_part<'v>(
     ensures tallied { IfOk result (IsTally most_pieces list.new.items (map (λ s. s.now) names.new.keys)) }
 {
     let form = form_of(alloc, list.len() as u32, part)?;
-    add_name(alloc, names, form.name)?;
+    if !names.insert(form.name)? {
+        return Err(repeated_name(alloc, form.name));
+    }
     let piece_count = piece_count + form.pieces.len();
     if piece_count > most_pieces as usize {
         return Err(ManifestRefusal::TooManyPieces);
