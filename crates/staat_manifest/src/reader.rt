@@ -7,14 +7,15 @@ ghost use Rattle.staat_manifest.specs.Values.{text_in};
 ghost use Rattle.staat_manifest.specs.Rules.{answer_of, first_refusal, part_list, unless_broken};
 ghost use Rattle.staat_manifest.specs.Rules.{part_list_within, part_rules, rules_from};
 
-use crate::json::{array_at, has_only};
-use crate::listing::{ListedPart, name_of, names_of};
+use crate::json::{array_at, has_only, text_in};
+use crate::listing::{ListedPart, name_of};
 use crate::part::{Form, form_of};
 use crate::paths::{bad_shape, repeated_name};
 use crate::{Listing, ManifestRefusal};
 use indexmap::IndexSet;
 use serde_json::Value;
 use staat_limits::{MOST_PARTS, MOST_PIECES};
+use staat_vec::Names;
 use std::alloc::{AllocError, Global};
 
 // The part of this form.
@@ -23,9 +24,13 @@ fn listed(alloc: Global, form: &Form<'_>) -> Result<ListedPart, AllocError>
     ensures pieces { IfOk result (λ part. part.pieces ≡ map text_in (map view form.now.pieces.now)) }
     ensures at { IfOk result (λ part. part.at ≡ form.now.at) }
 {
+    let mut pieces = Vec::new(alloc);
+    for piece in form.pieces {
+        pieces.push(name_of(alloc, text_in(piece))?)?;
+    }
     Ok(ListedPart {
         name: name_of(alloc, form.name)?,
-        pieces: names_of(alloc, form.pieces)?,
+        pieces: Names::from_vec(pieces),
         at: form.at,
     })
 }
