@@ -1,8 +1,8 @@
 -- The marked positions are those that faces use.
-use Rattle.std.proofs.Common.{◌≡◌, ◌≤◌, ◌⊎◌, ℕ, zero, suc, Bool, true, false, List, [], ◌∷◌, length, map, Option, Some, None, inl, inr, refl, ap, sym, subst, ◌∙◌, arith, ⊎_elim}
+use Rattle.std.proofs.Common.{◌≡◌, ◌++◌, ◌+◌, ◌<◌, append_assoc, ◌≤◌, ◌⊎◌, ℕ, drop, get_or, zero, suc, Bool, true, false, List, [], ◌∷◌, length, map, Option, Some, None, inl, inr, refl, ap, sym, subst, ◌∙◌, arith, ⊎_elim}
 use Rattle.std.specs.Prelude.{Any, Contains, filter, slice_get}
 use Rattle.std.specs.List.{zip, filter_map, cons_option}
-use Rattle.std.proofs.lemmas.List.{length-map}
+use Rattle.std.proofs.lemmas.List.{at_drop_more, length-map}
 use Rattle.std.proofs.lemmas.List.Sums.{count_by-le-length, length-filter}
 use Rattle.std.proofs.lemmas.Slice.Zip.{length-zip}
 use Rattle.staat_vec.specs.declared.vector.V3.{V3}
@@ -101,6 +101,32 @@ to_marked (x ∷ xs) (true ∷ ms) zero p e h = let same : x ≡ p = cc in subst
 to_marked (x ∷ xs) (true ∷ ms) (suc v) p e h = Contains-later x (marked_of xs ms) p (to_marked xs ms v p e h)
 to_marked (x ∷ xs) (false ∷ ms) zero p e h = absurd cc
 to_marked (x ∷ xs) (false ∷ ms) (suc v) p e h = to_marked xs ms v p e h
+
+-- the rest begins with the next position where that is marked
+module _ (positions : List V3) (marks : List Bool) (k : ℕ) (p : V3) (here : k < length positions) (marking : k < length marks) (is : p ≡ get_or positions k p) where
+  rest : Bool → List V3
+  rest mark = marked_of (p ∷ drop (k + 1) positions) (mark ∷ drop (k + 1) marks)
+
+  opened : marked_of (drop k positions) (drop k marks) ≡ rest (get_or marks k false)
+  unfolding rest
+  opened =
+      at_drop_more (λ ps. marked_of ps (drop k marks)) positions k p here
+      ∙ at_drop_more (λ ms. marked_of (get_or positions k p ∷ drop (k + 1) positions) ms) marks k false marking
+      ∙ ap (λ q. marked_of (q ∷ drop (k + 1) positions) (get_or marks k false ∷ drop (k + 1) marks)) (sym is)
+
+  later : List V3
+  later = marked_of (drop (k + 1) positions) (drop (k + 1) marks)
+
+  -- what is marked so far and of the rest, with the next position where that is marked, and without it elsewhere
+  module _ (used more all : List V3) (so_far : used ++ marked_of (drop k positions) (drop k marks) ≡ all) where
+    pub marked_next : get_or marks k false ≡ true → more ≡ used ++ p ∷ [] → more ++ marked_of (drop (k + 1) positions) (drop (k + 1) marks) ≡ all
+    unfolding rest later
+    marked_next on grown =
+        ap (λ ps. ps ++ later) grown ∙ append_assoc used (p ∷ []) later ∙ ap (λ ps. used ++ ps) (sym (opened ∙ ap rest on)) ∙ so_far
+
+    pub passed_over : get_or marks k false ≡ false → more ≡ used → more ++ marked_of (drop (k + 1) positions) (drop (k + 1) marks) ≡ all
+    unfolding rest later
+    passed_over off same = ap (λ ps. ps ++ later) same ∙ ap (λ ps. used ++ ps) (sym (opened ∙ ap rest off)) ∙ so_far
 
 pub length-marked_of : (positions : List V3) (marks : List Bool) → length (marked_of positions marks) ≤ length positions
 length-marked_of positions marks =

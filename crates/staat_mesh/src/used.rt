@@ -37,15 +37,17 @@ fn marks_of(alloc: Global, vertices: usize, faces: &[Corners]) -> Result<Vec<boo
 
 // the positions of the marked ones of the vertices
 fn marked(alloc: Global, vertices: &[Vertex], marks: &[bool]) -> Result<Vec<V3>, AllocError>
+    requires { length marks.now ≡ length vertices.now }
     ensures { IfOk result
         (λ used. used.items ≡ map (λ e. e.0) (filter (λ e. e.1) (zip vertices.now marks.now))) }
 {
-    vertices
-        .iter()
-        .zip(marks)
-        .filter(|(_, is_marked)| **is_marked)
-        .map(|(vertex, _)| vertex.point())
-        .collect(alloc)
+    let mut used = Vec::new(alloc);
+    for (number, vertex) in vertices.iter().enumerate() {
+        if marks[number] {
+            used.push(vertex.point())?;
+        }
+    }
+    Ok(used)
 }
 
 /// The positions that the faces use, ascending and each once. The time is n log n in the number of vertices, and

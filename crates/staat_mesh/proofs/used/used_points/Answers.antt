@@ -22,3 +22,6 @@ returns-clause-number c =
     let marks = c.in_ok-marks.marks.items in
     let is : c.in_ok-marked.field-0.items ≡ marked_of raw.points marks = c.in_ok-marked.ensures ∙ ap (λ (ps : List V3). marked_of ps c.as_slice-2.result.now) c.as_slice-vertices.ensures ∙ ap (λ (ms : List Bool). marked_of raw.points ms) c.as_slice-2.ensures.value in
     omega (arith, length-le_from_contains c.in_order.result.items c.in_ok-marked.field-0.items c.in_order.ensures.ascending c.in_order.ensures.each, ap length is, length-marked_of raw.points marks)
+
+pub marked-requires : goal.marked-requires
+marked-requires c = omega (arith, ap length c.as_slice-2.ensures.value, c.in_ok-marks.ensures.number)
