@@ -97,13 +97,17 @@ module _ (most : ℕ) (earlier : List ListedPart) (value : Data) (k : ℕ) (numb
 
 -- ---- the parts from part k on
 
+-- what is listed of the values so far, with the next one
+pub seen_more : {X : Type 0} (f : Data → X) (values : List Value) (k : ℕ) (v : Value) → k < length values → v ≡ get_or values k v → (so_far list : List X) → list ≡ so_far ++ f (view v) ∷ [] → so_far ≡ map f (map view (take k values)) → list ≡ map f (map view (take (k + 1) values))
+seen_more f values k v more is so_far list grown same =
+    grown ∙ ap (λ xs. xs ++ f (view v) ∷ []) same
+    ∙ ap (λ x. map f (map view (take k values)) ++ f (view x) ∷ []) is
+    ∙ sym (ap (map f) (map_more view values k v more) ∙ map_push f (map view (take k values)) (view (get_or values k v)))
+
 module _ (most : ℕ) (earlier : List ListedPart) (values : List Value) (k : ℕ) (v : Value) (more : k < length values) (is : v ≡ get_or values k v) where
   -- the list with this part
   pub list_more : (list : List ListedPart) → list ≡ earlier ++ listed (view v) ∷ [] → earlier ≡ map listed (map view (take k values)) → list ≡ map listed (map view (take (k + 1) values))
-  list_more list grown so_far =
-      grown ∙ ap (λ xs. xs ++ listed (view v) ∷ []) so_far
-      ∙ ap (λ x. map listed (map view (take k values)) ++ listed (view x) ∷ []) is
-      ∙ sym (ap (map listed) (map_more view values k v more) ∙ map_push listed (map view (take k values)) (view (get_or values k v)))
+  list_more list grown so_far = seen_more listed values k v more is earlier list grown so_far
 
   module _ (all : Option ManifestRefusal) (whole : first_refusal (rules_from most earlier (map view (drop k values))) ≡ all) where
     later : List (Option ManifestRefusal)

@@ -1,15 +1,22 @@
-use Rattle.std.proofs.Common.{◌≡◌, None, Some, ap, arith, length, map, subst, sym, ◌∙◌}
+use Rattle.std.proofs.Common.{◌≡◌, ◌++◌, ◌∷◌, [], None, Some, ap, arith, length, map, subst, sym, ◌∙◌}
 use Rattle.std.specs.Str.{bytes_eq}
 use Rattle.std.proofs.lemmas.List.{length-map}
+use Rattle.serde_json.specs.Data.{Data}
 use Rattle.serde_json.specs.View.{view}
+use Rattle.staat_manifest.specs.declared.listing.ListedPart.{ListedPart}
+use Rattle.staat_manifest.specs.Placements.{at_of}
 use Rattle.staat_manifest.specs.declared.refusal.ManifestRefusal.TheVariants.{RepeatedName}
 use Rattle.staat_manifest.specs.Answers.{RefusesPart}
 use Rattle.staat_manifest.specs.Listings.{listed}
 use Rattle.staat_manifest.specs.Rules.{name_rule}
-use Rattle.staat_manifest.specs.Values.{text_in}
+use Rattle.staat_manifest.specs.Values.{name_of, pieces_in, text_in}
 use Rattle.staat_manifest.proofs.RuleLemmas.{by_count, by_joint, count_over, count_within, form_refuses, name_repeated, refused_by}
 use Rattle.staat_manifest.proofs.ValueLemmas.{any_seen}
 use Rattle.staat_manifest.proofs.reader.add_part.Goals as goal
+
+-- a part of this name and these pieces, which is moved so, is the one that is listed
+is_listed : (part : ListedPart) (value : Data) → part.name ≡ name_of value → part.pieces ≡ map text_in (pieces_in value) → part.at ≡ at_of value → part ≡ listed value
+is_listed part value name pieces at = λ i. record { name = name i; pieces = pieces i; at = at i }
 
 pub returns-in_err-form-clause-rules : goal.returns-in_err-form-clause-rules
 returns-in_err-form-clause-rules c =
@@ -57,3 +64,9 @@ returns-clause-rules c =
     let size : length part.pieces ≡ length c.in_ok-form.form.pieces.now =
     sym (ap (λ pieces. length (map text_in pieces)) c.in_ok-form.ensures.pieces) ∙ simp length-map in
     joint ∙ counted ∙ count_within c.args.most_pieces _ (omega (arith, size))
+
+pub returns-clause-added : goal.returns-clause-added
+returns-clause-added c =
+    c.in_ok-push.ensures.items ∙ ap (λ part. c.args.list.now.items ++ part ∷ [])
+    (is_listed c.in_ok-listed.field-0 (view c.args.part.now) (c.in_ok-listed.ensures.name ∙ c.in_ok-form.ensures.name)
+    (c.in_ok-listed.ensures.pieces ∙ ap (map text_in) c.in_ok-form.ensures.pieces) (c.in_ok-listed.ensures.at ∙ c.in_ok-form.ensures.at))
