@@ -12,9 +12,9 @@ use Rattle.staat_manifest.specs.declared.refusal.ManifestRefusal.{ManifestRefusa
 use Rattle.staat_manifest.specs.declared.refusal.ManifestRefusal.TheVariants as refusal
 use Rattle.staat_manifest.specs.declared.listing.ListedPart.{ListedPart}
 use Rattle.staat_manifest.specs.Listings.{listed}
-use Rattle.staat_manifest.specs.Values.{Text, json_of, parts_value}
+use Rattle.staat_manifest.specs.Values.{Text, parts_value}
 use Rattle.staat_manifest.specs.Answers.{AnswersList, JudgesPart, RefusesPart}
-use Rattle.staat_manifest.specs.Rules.{unless_broken, answer_of, count_rule, first_refusal, form_rules, joint_rules, name_rule, part_list_within, part_rules, rule, rules_from, whole_rules}
+use Rattle.staat_manifest.specs.Rules.{unless_broken, answer_of, count_rule, first_refusal, form_rules, joint_rules, name_rule, part_rules, rule, rules_from, whole_rules}
 
 -- where these rules hold, the others decide
 pub passed : (rules others : List (Option ManifestRefusal)) → first_refusal rules ≡ None → first_refusal (rules ++ others) ≡ first_refusal others

@@ -26,10 +26,7 @@ pub(crate) fn text_at<'v>(value: &'v Value, name: &str) -> &'v str
 pub(crate) fn array_at<'v>(value: &'v Value, name: &str) -> Option<&'v [Value]>
     ensures { option_map (λ s. map view s.now) result ≡ array_at name.now (view value.entry.now) }
 {
-    value
-        .get(name)
-        .and_then(Value::as_array)
-        .map(Vec::as_slice)
+    value.get(name).and_then(Value::as_array).map(Vec::as_slice)
 }
 
 // The name is one of these.

@@ -1,4 +1,4 @@
-use Rattle.std.proofs.Common.{Ok, [], ap, arith, length, length-append, map, refl, sym, ◌∙◌}
+use Rattle.std.proofs.Common.{Ok, ap, arith, length, length-append, map, refl, sym, ◌∙◌}
 use Rattle.std.proofs.lemmas.Result.{err_from_is_err_and}
 use Rattle.std.specs.List.{sum_by}
 use Rattle.serde_json.specs.View.{view}
