@@ -21,6 +21,13 @@ fn plain(alloc: Global, body: &str) -> Result<String, AllocError>
     format!(in alloc; "staat: {body}\n")
 }
 
+// A fault that says the name of a file within its words.
+fn around(alloc: Global, before: &str, after: &str) -> Result<String, AllocError>
+    ensures { IfOk result (λ s. string_bytes s ≡ whole (before.now ++ after.now)) }
+{
+    format!(in alloc; "staat: {before}{after}\n")
+}
+
 fn about(alloc: Global, name: &Name, what: &str) -> Result<String, AllocError>
     ensures { IfOk result (λ s. string_bytes s ≡ whole (of_file name.now what.now)) }
 {
@@ -28,20 +35,12 @@ fn about(alloc: Global, name: &Name, what: &str) -> Result<String, AllocError>
     format!(in alloc; "staat: {name}: {what}\n")
 }
 
-// A fault at a byte of a file.
+// A fault at a byte of a file, or of a numbered face, part or line.
 fn about_at(alloc: Global, name: &Name, what: &str, at: u64) -> Result<String, AllocError>
     ensures { IfOk result (λ s. string_bytes s ≡ whole (of_file name.now (what.now ++ decimal at))) }
 {
     let name = name.as_str();
     format!(in alloc; "staat: {name}: {what}{at}\n")
-}
-
-// A fault of a numbered face, part or line.
-fn about_nth(alloc: Global, name: &Name, what: &str, n: u32) -> Result<String, AllocError>
-    ensures { IfOk result (λ s. string_bytes s ≡ whole (of_file name.now (what.now ++ decimal n))) }
-{
-    let name = name.as_str();
-    format!(in alloc; "staat: {name}: {what}{n}\n")
 }
 
 fn about_count(alloc: Global, name: &Name, what: &str, n: u32) -> Result<String, AllocError>
@@ -74,36 +73,17 @@ fn overlap(alloc: Global, a: u32, i: u32, b: u32, j: u32) -> Result<String, Allo
     format!(in alloc; "staat: parts {a} and {b} overlap in pieces {i} and {j}\n")
 }
 
-fn cannot_read(alloc: Global, name: &Name) -> Result<String, AllocError>
-    ensures { IfOk result (λ s. string_bytes s ≡ whole (codes "cannot read " ++ name.now)) }
-{
-    let name = name.as_str();
-    format!(in alloc; "staat: cannot read {name}\n")
-}
-
-fn too_long(alloc: Global, name: &Name) -> Result<String, AllocError>
-    ensures { IfOk result (λ s. string_bytes s ≡ whole (name.now ++ codes " is too long")) }
-{
-    let name = name.as_str();
-    format!(in alloc; "staat: {name} is too long\n")
-}
-
-fn too_many_planes(alloc: Global, found: u64) -> Result<String, AllocError>
-    ensures { IfOk result (λ s. string_bytes s ≡ whole (codes "too many planes (" ++ decimal found ++ codes ")")) }
-{
-    format!(in alloc; "staat: too many planes ({found})\n")
-}
-
 fn too_far(alloc: Global, node: u32) -> Result<String, AllocError>
     ensures { IfOk result (λ s. string_bytes s ≡ whole (codes "exploded view too far at node " ++ decimal node)) }
 {
     format!(in alloc; "staat: exploded view too far at node {node}\n")
 }
 
-fn text_too_long(alloc: Global, length: u128) -> Result<String, AllocError>
-    ensures { IfOk result (λ s. string_bytes s ≡ whole (codes "text too long (" ++ decimal length ++ codes ")")) }
+// A fault of a number that is too great.
+fn too_great(alloc: Global, what: &str, found: u128) -> Result<String, AllocError>
+    ensures { IfOk result (λ s. string_bytes s ≡ whole (what.now ++ codes " (" ++ decimal found ++ codes ")")) }
 {
-    format!(in alloc; "staat: text too long ({length})\n")
+    format!(in alloc; "staat: {what} ({found})\n")
 }
 
 #[tactic(auto, unfolding(crate::specs::Faults::line_of, crate::specs::Faults::body_of))]
@@ -112,8 +92,8 @@ fn line_text(alloc: Global, fault: &Fault) -> Result<String, AllocError>
 {
     match fault {
         Fault::Usage => plain(alloc, "usage"),
-        Fault::ReadFault(name) => cannot_read(alloc, name),
-        Fault::TooLong(name) => too_long(alloc, name),
+        Fault::ReadFault(name) => around(alloc, "cannot read ", name.as_str()),
+        Fault::TooLong(name) => around(alloc, name.as_str(), " is too long"),
         Fault::NoHeader(name) => about(alloc, name, "no OFF header"),
         Fault::BadNumber(name, at) => about_at(alloc, name, "bad number at ", *at),
         Fault::NotWhole(name, at) => about_at(alloc, name, "not a whole number at ", *at),
@@ -125,22 +105,22 @@ fn line_text(alloc: Global, fault: &Fault) -> Result<String, AllocError>
         Fault::TooFewPoints(name, n) => about_count(alloc, name, "too few points (", *n),
         Fault::TooManyPoints(name, n) => about_count(alloc, name, "too many points (", *n),
         Fault::Flat(name) => about(alloc, name, "all points in one plane"),
-        Fault::BadFace(name, face) => about_nth(alloc, name, "bad face ", *face),
-        Fault::NotConvex(name, face) => about_nth(alloc, name, "not convex at face ", *face),
+        Fault::BadFace(name, n) => about_at(alloc, name, "bad face ", u64::from(*n)),
+        Fault::NotConvex(name, n) => about_at(alloc, name, "not convex at face ", u64::from(*n)),
         Fault::OpenEdge(name, face, corner) => open_edge(alloc, name, *face, *corner),
         Fault::PlacedFar(name) => about(alloc, name, "placed too far"),
         Fault::NotJson(name) => about(alloc, name, "not JSON"),
         Fault::BadShape(name, path) => about_text(alloc, name, "bad shape at ", path),
         Fault::RepeatedName(name, part) => about_text(alloc, name, "repeated name ", part),
-        Fault::NoPieces(name, part) => about_nth(alloc, name, "no pieces in part ", *part),
+        Fault::NoPieces(name, n) => about_at(alloc, name, "no pieces in part ", u64::from(*n)),
         Fault::TooManyParts(name) => about(alloc, name, "too many parts"),
         Fault::TooManyPieces(name) => about(alloc, name, "too many pieces"),
         Fault::Overlap(a, i, b, j) => overlap(alloc, *a, *i, *b, *j),
-        Fault::BadLine(name, line) => about_nth(alloc, name, "bad line ", *line),
+        Fault::BadLine(name, n) => about_at(alloc, name, "bad line ", u64::from(*n)),
         Fault::ShortCert(name) => about(alloc, name, "certificate too short"),
-        Fault::TooManyPlanes(found) => too_many_planes(alloc, *found),
+        Fault::TooManyPlanes(found) => too_great(alloc, "too many planes", u128::from(*found)),
         Fault::TooFar(node) => too_far(alloc, *node),
-        Fault::TextTooLong(length) => text_too_long(alloc, *length),
+        Fault::TextTooLong(length) => too_great(alloc, "text too long", *length),
         Fault::WriteFault => plain(alloc, "write fault"),
         Fault::OutOfMemory => plain(alloc, "out of memory"),
     }

@@ -12,9 +12,9 @@ use Rattle.staat_manifest.specs.declared.refusal.ManifestRefusal.{ManifestRefusa
 use Rattle.staat_manifest.specs.declared.refusal.ManifestRefusal.TheVariants as refusal
 use Rattle.staat_manifest.specs.declared.listing.ListedPart.{ListedPart}
 use Rattle.staat_manifest.specs.Listings.{listed}
-use Rattle.staat_manifest.specs.Values.{Text, json_of, parts_value}
+use Rattle.staat_manifest.specs.Values.{Text, parts_value}
 use Rattle.staat_manifest.specs.Answers.{AnswersList, JudgesPart, RefusesPart}
-use Rattle.staat_manifest.specs.Rules.{unless_broken, answer_of, count_rule, first_refusal, form_rules, joint_rules, name_rule, part_list_within, part_rules, rule, rules_from, whole_rules}
+use Rattle.staat_manifest.specs.Rules.{unless_broken, answer_of, count_rule, first_refusal, form_rules, joint_rules, name_rule, part_rules, rule, rules_from, whole_rules}
 
 -- where these rules hold, the others decide
 pub passed : (rules others : List (Option ManifestRefusal)) → first_refusal rules ≡ None → first_refusal (rules ++ others) ≡ first_refusal others
@@ -97,13 +97,17 @@ module _ (most : ℕ) (earlier : List ListedPart) (value : Data) (k : ℕ) (numb
 
 -- ---- the parts from part k on
 
+-- what is listed of the values so far, with the next one
+pub seen_more : {X : Type 0} (f : Data → X) (values : List Value) (k : ℕ) (v : Value) → k < length values → v ≡ get_or values k v → (so_far list : List X) → list ≡ so_far ++ f (view v) ∷ [] → so_far ≡ map f (map view (take k values)) → list ≡ map f (map view (take (k + 1) values))
+seen_more f values k v more is so_far list grown same =
+    grown ∙ ap (λ xs. xs ++ f (view v) ∷ []) same
+    ∙ ap (λ x. map f (map view (take k values)) ++ f (view x) ∷ []) is
+    ∙ sym (ap (map f) (map_more view values k v more) ∙ map_push f (map view (take k values)) (view (get_or values k v)))
+
 module _ (most : ℕ) (earlier : List ListedPart) (values : List Value) (k : ℕ) (v : Value) (more : k < length values) (is : v ≡ get_or values k v) where
   -- the list with this part
   pub list_more : (list : List ListedPart) → list ≡ earlier ++ listed (view v) ∷ [] → earlier ≡ map listed (map view (take k values)) → list ≡ map listed (map view (take (k + 1) values))
-  list_more list grown so_far =
-      grown ∙ ap (λ xs. xs ++ listed (view v) ∷ []) so_far
-      ∙ ap (λ x. map listed (map view (take k values)) ++ listed (view x) ∷ []) is
-      ∙ sym (ap (map listed) (map_more view values k v more) ∙ map_push listed (map view (take k values)) (view (get_or values k v)))
+  list_more list grown so_far = seen_more listed values k v more is earlier list grown so_far
 
   module _ (all : Option ManifestRefusal) (whole : first_refusal (rules_from most earlier (map view (drop k values))) ≡ all) where
     later : List (Option ManifestRefusal)
@@ -134,17 +138,13 @@ all_listed most values k list le rules is =
 
 -- ---- the whole
 
-module _ (most_parts most : ℕ) (bytes : Text) (value : Data) (is : json_of bytes ≡ Some value) where
-  is_answer : part_list_within most_parts most bytes ≡ unless_broken (first_refusal (whole_rules most_parts value ++ rules_from most [] (parts_value value))) (map listed (parts_value value))
-  unfolding part_list_within
-  is_answer = ap (answer_of most_parts most) is
-
+module _ (most_parts most : ℕ) (value : Data) where
   -- the whole value breaks a rule
-  pub whole_refuses : (e : ManifestRefusal) → RefusesPart (first_refusal (whole_rules most_parts value)) e → AnswersList (part_list_within most_parts most bytes) (Err e)
-  whole_refuses e h = subst (λ (wanted : Result (List ListedPart) ManifestRefusal). AnswersList wanted (Err e)) (sym is_answer) (passed_on e _ _ _ (λ d. stopped d (whole_rules most_parts value) (rules_from most [] (parts_value value))) h)
+  pub whole_refuses : (e : ManifestRefusal) → RefusesPart (first_refusal (whole_rules most_parts value)) e → AnswersList (answer_of most_parts most (Some value)) (Err e)
+  whole_refuses e h = passed_on e _ _ _ (λ d. stopped d (whole_rules most_parts value) (rules_from most [] (parts_value value))) h
 
   -- the parts decide
-  pub by_parts : first_refusal (whole_rules most_parts value) ≡ None → (parts : List Data) → parts ≡ parts_value value → part_list_within most_parts most bytes ≡ unless_broken (first_refusal (rules_from most [] parts)) (map listed parts)
+  pub by_parts : first_refusal (whole_rules most_parts value) ≡ None → (parts : List Data) → parts ≡ parts_value value → answer_of most_parts most (Some value) ≡ unless_broken (first_refusal (rules_from most [] parts)) (map listed parts)
   by_parts h parts same =
-      is_answer ∙ ap (λ o. unless_broken o (map listed (parts_value value))) (passed (whole_rules most_parts value) (rules_from most [] (parts_value value)) h)
+      ap (λ o. unless_broken o (map listed (parts_value value))) (passed (whole_rules most_parts value) (rules_from most [] (parts_value value)) h)
       ∙ ap (λ ps. unless_broken (first_refusal (rules_from most [] ps)) (map listed ps)) (sym same)

@@ -1,10 +1,7 @@
 -- Answers in which want of memory is free.
 use Rattle.std.specs.Prelude.{◌≡◌, Option, Some, None, Result, Ok, Err, ⊤}
-use Rattle.serde_json.specs.Data.{Data}
-use Rattle.serde_json.specs.View.{view}
-use Rattle.serde_json.specs.declared.value.Value.{Value}
 use Rattle.staat_manifest.specs.declared.refusal.ManifestRefusal.{ManifestRefusal}
-use Rattle.staat_manifest.specs.declared.refusal.ManifestRefusal.TheVariants.{NotJson, OutOfMemory}
+use Rattle.staat_manifest.specs.declared.refusal.ManifestRefusal.TheVariants.{OutOfMemory}
 
 -- the refusal is the one of the broken rule
 abbrev pub RefusesPart : Option ManifestRefusal → ManifestRefusal → Type 0
@@ -15,13 +12,6 @@ RefusesPart broken refusal = broken ≡ Some refusal
 abbrev pub JudgesPart : {X : Type 0} → Option ManifestRefusal → Result X ManifestRefusal → Type 0
 JudgesPart broken (Ok x) = broken ≡ None
 JudgesPart broken (Err refusal) = RefusesPart broken refusal
-
--- the value that was read is this one, and where there is none the bytes are not JSON
-abbrev pub IsRead : Option Data → Result Value ManifestRefusal → Type 0
-IsRead wanted (Ok value) = wanted ≡ Some (view value)
-IsRead wanted (Err NotJson) = wanted ≡ None
-IsRead wanted (Err OutOfMemory) = ⊤
-IsRead wanted (Err refusal) = ⊥
 
 -- the answer is this one
 abbrev pub AnswersList : {X : Type 0} → Result X ManifestRefusal → Result X ManifestRefusal → Type 0

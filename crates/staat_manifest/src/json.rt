@@ -1,26 +1,12 @@
 // What a part list reads of a JSON value.
-ghost use Rattle.std.specs.Prelude.{◌≡◌, option_map, map, string_bytes, Ok, Err};
+ghost use Rattle.std.specs.Prelude.{◌≡◌, option_map, map, string_bytes};
 ghost use Rattle.std.specs.List.{list_all, list_any};
 ghost use Rattle.std.specs.Str.{bytes_eq};
 ghost use Rattle.std.specs.BTreeMap.{keys};
 ghost use Rattle.serde_json.specs.View.{view};
-ghost use Rattle.staat_manifest.specs.Values.{array_at, has_only, json_of, text_at, text_in};
-ghost use Rattle.staat_manifest.specs.Answers.{IsRead};
+ghost use Rattle.staat_manifest.specs.Values.{array_at, has_only, text_at, text_in};
 
-use crate::ManifestRefusal;
 use serde_json::{Map, Value};
-use std::alloc::Global;
-
-/// The JSON value that the bytes are.
-pub(crate) fn value_of(alloc: Global, bytes: &[u8]) -> Result<Value, ManifestRefusal>
-    ensures { IsRead (json_of bytes.now) result }
-{
-    match Value::from_slice(alloc, bytes) {
-        Ok(value) => Ok(value),
-        Err(error) if error.is_memory() => Err(ManifestRefusal::OutOfMemory),
-        Err(_) => Err(ManifestRefusal::NotJson),
-    }
-}
 
 /// The text that the value is, or the empty text where it is none.
 pub(crate) fn text_in(value: &Value) -> &str
@@ -40,15 +26,19 @@ pub(crate) fn text_at<'v>(value: &'v Value, name: &str) -> &'v str
 pub(crate) fn array_at<'v>(value: &'v Value, name: &str) -> Option<&'v [Value]>
     ensures { option_map (λ s. map view s.now) result ≡ array_at name.now (view value.entry.now) }
 {
-    let array = value.get(name)?.as_array()?;
-    Some(array.as_slice())
+    value.get(name).and_then(Value::as_array).map(Vec::as_slice)
 }
 
 // The name is one of these.
 fn is_among(names: &[&str], name: &str) -> bool
     ensures { result ≡ list_any (λ known. bytes_eq name.now known.now) names.now }
 {
-    names.iter().any(|known| name == *known)
+    for known in names {
+        if name == *known {
+            return true;
+        }
+    }
+    false
 }
 
 fn all_among(members: &Map<String, Value>, names: &[&str]) -> bool

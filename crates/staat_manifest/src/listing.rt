@@ -1,10 +1,6 @@
 // What a part list says, copied from the JSON value.
-ghost use Rattle.std.specs.Prelude.{◌≡◌, IfOk, map};
-ghost use Rattle.serde_json.specs.View.{view};
-ghost use Rattle.staat_manifest.specs.Values.{text_in};
+ghost use Rattle.std.specs.Prelude.{◌≡◌, IfOk};
 
-use crate::json::text_in;
-use serde_json::Value;
 use staat_vec::{Listed, Name, Names, V3};
 use std::alloc::{AllocError, Global};
 
@@ -26,15 +22,4 @@ pub(crate) fn name_of(alloc: Global, text: &str) -> Result<Name, AllocError>
     ensures { IfOk result (λ name. name ≡ text.now) }
 {
     Ok(Name::from_string(String::from_str(alloc, text)?))
-}
-
-/// The names that the values are as texts.
-pub(crate) fn names_of(alloc: Global, values: &[Value]) -> Result<Names, AllocError>
-    ensures { IfOk result (λ names. names ≡ map text_in (map view values.now)) }
-{
-    let mut names = Vec::with_capacity(alloc, values.len())?;
-    for value in values {
-        names.push(name_of(alloc, text_in(value))?)?;
-    }
-    Ok(Names::from_vec(names))
 }

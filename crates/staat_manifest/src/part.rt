@@ -5,7 +5,7 @@ ghost use Rattle.serde_json.specs.View.{view};
 ghost use Rattle.staat_manifest.specs.Answers.{JudgesPart};
 ghost use Rattle.staat_manifest.specs.Placements.{at_of};
 ghost use Rattle.staat_manifest.specs.Values.{name_of, pieces_in};
-ghost use Rattle.staat_manifest.specs.Rules.{first_refusal, form_rules, is_name, is_piece, piece_rules};
+ghost use Rattle.staat_manifest.specs.Rules.{first_refusal, form_rules, is_name, piece_rules};
 
 use crate::ManifestRefusal;
 use crate::json::{array_at, has_only, text_at, text_in};
@@ -21,7 +21,12 @@ const LONGEST_NAME: usize = 255;
 fn has_no_controls(bytes: &[u8]) -> bool
     ensures { result ≡ list_all (λ b. nat_le 32 b) bytes.now }
 {
-    bytes.iter().all(|b| b' ' <= *b)
+    for byte in bytes {
+        if *byte < b' ' {
+            return false;
+        }
+    }
+    true
 }
 
 fn is_name(text: &str) -> bool
@@ -30,17 +35,11 @@ fn is_name(text: &str) -> bool
     !text.is_empty() && text.len() <= LONGEST_NAME && has_no_controls(text.as_bytes())
 }
 
-fn is_piece(value: &Value) -> bool
-    ensures { result ≡ is_piece (view value.now) }
-{
-    !text_in(value).is_empty()
-}
-
 fn check_pieces(alloc: Global, k: u32, pieces: &[Value]) -> Result<(), ManifestRefusal>
     ensures { JudgesPart (first_refusal (piece_rules k 0 (map view pieces.now))) result }
 {
     for (i, piece) in pieces.iter().enumerate() {
-        if !is_piece(piece) {
+        if text_in(piece).is_empty() {
             return Err(bad_piece(alloc, k, i));
         }
     }

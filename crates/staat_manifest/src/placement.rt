@@ -1,28 +1,20 @@
 // Where a part is to stand: the vector by which its pieces are moved.
 ghost use Rattle.std.specs.Prelude.{◌≡◌, map};
 ghost use Rattle.serde_json.specs.View.{view};
-ghost use Rattle.staat_manifest.specs.Placements.{as_coordinate, placement_of, small, three_in};
+ghost use Rattle.staat_manifest.specs.Placements.{as_coordinate, placement_of, three_in};
 
 use serde_json::Value;
 use staat_vec::{ORIGIN, POINT, V3};
 
-// The number as a coordinate, where it is not too great for one.
-fn small(number: i64) -> Option<i128>
-    ensures { result ≡ small number }
-{
-    if u128::from(number.unsigned_abs()) <= POINT {
-        Some(i128::from(number))
-    } else {
-        None
-    }
-}
-
-// The coordinate that the value is.
+// The coordinate that the value is: a number that is not too great for one.
 #[tactic(auto, unfolding(crate::specs::Placements::as_coordinate))]
 fn as_coordinate(value: &Value) -> Option<i128>
     ensures { result ≡ as_coordinate (view value.now) }
 {
-    small(value.as_i64()?)
+    match value.as_i64() {
+        Some(number) if u128::from(number.unsigned_abs()) <= POINT => Some(i128::from(number)),
+        _ => None,
+    }
 }
 
 // The vector that three values are.

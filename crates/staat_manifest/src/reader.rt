@@ -1,61 +1,22 @@
 // The whole part list: its shape, its parts one after another, and what they may not share.
-ghost use Rattle.std.specs.Prelude.{◌≡◌, ◌<◌, ◌≤◌, ◌^◌, ◌++◌, ◌∷◌, [], IfOk, OnOk, length, map};
+ghost use Rattle.std.specs.Prelude.{◌≡◌, ◌<◌, ◌^◌, ◌++◌, ◌∷◌, [], IfOk, OnOk, Some, length, map};
 ghost use Rattle.serde_json.specs.View.{view};
 ghost use Rattle.staat_manifest.specs.Answers.{AnswersList, JudgesPart};
 ghost use Rattle.staat_manifest.specs.Listings.{IsListing, IsListingWithin, IsTally, listed};
-ghost use Rattle.staat_manifest.specs.Values.{parts_value, text_in};
-ghost use Rattle.staat_manifest.specs.Rules.{unless_broken, first_refusal, name_rule, part_list};
-ghost use Rattle.staat_manifest.specs.Rules.{part_list_within, part_rules, rules_from, whole_rules};
+ghost use Rattle.staat_manifest.specs.Values.{text_in};
+ghost use Rattle.staat_manifest.specs.Rules.{answer_of, first_refusal, part_list, unless_broken};
+ghost use Rattle.staat_manifest.specs.Rules.{part_list_within, part_rules, rules_from};
 
-use crate::json::{array_at, has_only, value_of};
-use crate::listing::{ListedPart, name_of, names_of};
+use crate::json::{array_at, has_only, text_in};
+use crate::listing::{ListedPart, name_of};
 use crate::part::{Form, form_of};
 use crate::paths::{bad_shape, repeated_name};
 use crate::{Listing, ManifestRefusal};
 use indexmap::IndexSet;
 use serde_json::Value;
 use staat_limits::{MOST_PARTS, MOST_PIECES};
+use staat_vec::Names;
 use std::alloc::{AllocError, Global};
-
-// The values of the parts, unless the whole breaks a rule.
-#[tactic(auto, unfolding(crate::specs::Rules::whole_rules))]
-fn parts_value(alloc: Global, value: &Value, most_parts: u32) -> Result<&[Value], ManifestRefusal>
-    ensures rules { JudgesPart (first_refusal (whole_rules most_parts (view value.entry.now))) result }
-    ensures parts { IfOk result (λ parts. map view parts.now ≡ parts_value (view value.entry.now)) }
-    ensures few { IfOk result (λ parts. length parts.now ≤ most_parts) }
-{
-    if !value.is_object() {
-        return Err(bad_shape(alloc, "/"));
-    }
-    let parts = array_at(value, "parts").unwrap_or(&[]);
-    if parts.is_empty() {
-        return Err(bad_shape(alloc, "/parts"));
-    }
-    if !has_only(value, &["parts"]) {
-        return Err(bad_shape(alloc, "/"));
-    }
-    if parts.len() > most_parts as usize {
-        return Err(ManifestRefusal::TooManyParts);
-    }
-    Ok(parts)
-}
-
-// Gives the name the next number, unless an earlier part has it.
-fn add_name<'v>(
-    alloc: Global,
-    names: &mut IndexSet<&'v str>,
-    name: &'v str,
-) -> Result<(), ManifestRefusal>
-    ensures rule { JudgesPart (name_rule (map (λ s. s.now) names.old.keys) name.entry.now) result }
-    ensures added { OnOk result (map (λ s. s.now) names.new.keys
-        ≡ map (λ s. s.now) names.old.keys ++ name.entry.now ∷ []) }
-{
-    if names.insert(name)? {
-        Ok(())
-    } else {
-        Err(repeated_name(alloc, name))
-    }
-}
 
 // The part of this form.
 fn listed(alloc: Global, form: &Form<'_>) -> Result<ListedPart, AllocError>
@@ -63,9 +24,13 @@ fn listed(alloc: Global, form: &Form<'_>) -> Result<ListedPart, AllocError>
     ensures pieces { IfOk result (λ part. part.pieces ≡ map text_in (map view form.now.pieces.now)) }
     ensures at { IfOk result (λ part. part.at ≡ form.now.at) }
 {
+    let mut pieces = Vec::new(alloc);
+    for piece in form.pieces {
+        pieces.push(name_of(alloc, text_in(piece))?)?;
+    }
     Ok(ListedPart {
         name: name_of(alloc, form.name)?,
-        pieces: names_of(alloc, form.pieces)?,
+        pieces: Names::from_vec(pieces),
         at: form.at,
     })
 }
@@ -87,7 +52,9 @@ fn add_part<'v>(
     ensures tallied { IfOk result (IsTally most_pieces list.new.items (map (λ s. s.now) names.new.keys)) }
 {
     let form = form_of(alloc, list.len() as u32, part)?;
-    add_name(alloc, names, form.name)?;
+    if !names.insert(form.name)? {
+        return Err(repeated_name(alloc, form.name));
+    }
     let piece_count = piece_count + form.pieces.len();
     if piece_count > most_pieces as usize {
         return Err(ManifestRefusal::TooManyPieces);
@@ -102,13 +69,39 @@ fn list_parts(alloc: Global, parts: &[Value], most_pieces: u32) -> Result<Listin
     ensures { AnswersList (unless_broken (first_refusal (rules_from most_pieces [] (map view parts.now)))
         (map listed (map view parts.now))) result }
 {
-    let mut list = Vec::with_capacity(alloc, parts.len())?;
-    let mut names = IndexSet::with_capacity(alloc, parts.len())?;
+    let mut list = Vec::new(alloc);
+    let mut names = IndexSet::new(alloc);
     let mut piece_count = 0;
     for part in parts {
         piece_count = add_part(alloc, &mut list, &mut names, piece_count, part, most_pieces)?;
     }
     Ok(Listing::from_vec(list))
+}
+
+// The list of the parts of the value, unless the whole or one of the parts breaks a rule.
+#[tactic(auto, unfolding(crate::specs::Rules::whole_rules))]
+fn listing_of(
+    alloc: Global,
+    value: &Value,
+    most_parts: u32,
+    most_pieces: u32,
+) -> Result<Listing, ManifestRefusal>
+    ensures { AnswersList (answer_of most_parts most_pieces (Some (view value.now))) result }
+{
+    if !value.is_object() {
+        return Err(bad_shape(alloc, "/"));
+    }
+    let parts = array_at(value, "parts").unwrap_or(&[]);
+    if parts.is_empty() {
+        return Err(bad_shape(alloc, "/parts"));
+    }
+    if !has_only(value, &["parts"]) {
+        return Err(bad_shape(alloc, "/"));
+    }
+    if parts.len() > most_parts as usize {
+        return Err(ManifestRefusal::TooManyParts);
+    }
+    list_parts(alloc, parts, most_pieces)
 }
 
 /// The parts that the bytes list, each with its name, the names of its pieces' files and the vector that moves it.
@@ -128,8 +121,11 @@ pub fn read_listing(
     ensures exact { AnswersList (part_list_within most_parts most_pieces bytes.now) result }
     ensures bounds { IfOk result (IsListingWithin most_parts most_pieces) }
 {
-    let value = value_of(alloc, bytes)?;
-    list_parts(alloc, parts_value(alloc, &value, most_parts)?, most_pieces)
+    match Value::from_slice(alloc, bytes) {
+        Ok(value) => listing_of(alloc, &value, most_parts, most_pieces),
+        Err(error) if error.is_memory() => Err(ManifestRefusal::OutOfMemory),
+        Err(_) => Err(ManifestRefusal::NotJson),
+    }
 }
 
 /// The parts that the bytes list, by [`read_listing`]: at most [`MOST_PARTS`] with at most [`MOST_PIECES`] pieces.

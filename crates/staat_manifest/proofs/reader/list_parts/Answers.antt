@@ -1,4 +1,4 @@
-use Rattle.std.proofs.Common.{Ok, [], ap, arith, length, length-append, map, refl, sym, ◌∙◌}
+use Rattle.std.proofs.Common.{Ok, ap, arith, length, length-append, map, refl, sym, ◌∙◌}
 use Rattle.std.proofs.lemmas.Result.{err_from_is_err_and}
 use Rattle.std.specs.List.{sum_by}
 use Rattle.serde_json.specs.View.{view}
@@ -8,8 +8,8 @@ use Rattle.staat_manifest.proofs.reader.list_parts.Goals as goal
 
 pub returns-in_err-piece_count : goal.returns-in_err-piece_count
 returns-in_err-piece_count c =
-    let p = err_from_is_err_and c.from_residual-in_err-piece_count.result
-    c.from_residual-in_err-piece_count.ensures.1 in
+    let p = err_from_is_err_and c.from_residual.result
+    c.from_residual.ensures.1 in
     rw (p.1, p.2) (passed_on _ _ _ _ (part_refuses c.args.most_pieces c.loop-part.list.items c.args.parts.now
     c.loop-part.part-index c.part-item.result (omega arith) c.part-item.is _ c.loop-part.invariant.rules)
     c.in_err-piece_count.ensures.rules)
@@ -29,13 +29,13 @@ loop-part-preserved c =
 
 pub loop-part-init : goal.loop-part-init
 loop-part-init c =
-    let none = c.in_ok-list.ensures.items in
+    let none = c.new-list.ensures.items in
     record {
       rules = ap (λ list. first_refusal (rules_from c.args.most_pieces list (map view c.args.parts.now))) none;
       list = none;
       number = ap length none;
       tallied = record {
-        named = rw (none, c.in_ok-names.ensures.empty) refl;
+        named = rw (none, c.new-names.ensures.empty) refl;
         counted = sym (ap (sum_by (λ part. length part.pieces)) none);
         within = omega arith;
       };

@@ -1,22 +1,22 @@
-use Rattle.std.proofs.Common.{List, Result, subst, sym}
-use Rattle.std.proofs.lemmas.Result.{err_from_is_err_and}
+use Rattle.std.proofs.Common.{ap, rules, subst, sym}
 use Rattle.serde_json.specs.View.{view}
-use Rattle.staat_manifest.specs.declared.refusal.ManifestRefusal.{ManifestRefusal}
-use Rattle.staat_manifest.specs.declared.listing.ListedPart.{ListedPart}
 use Rattle.staat_manifest.specs.Answers.{AnswersList}
+use Rattle.staat_manifest.specs.Rules.{answer_of, part_list_within}
 use Rattle.staat_manifest.proofs.Accepted.{within_limits}
-use Rattle.staat_manifest.proofs.RuleLemmas.{by_parts, whole_refuses}
+use Rattle.staat_manifest.proofs.ValueLemmas.{json_from, no_json}
 use Rattle.staat_manifest.proofs.reader.read_listing.Goals as goal
 
-pub returns-in_err-parts_value-clause-exact : goal.returns-in_err-parts_value-clause-exact
-returns-in_err-parts_value-clause-exact c =
-    let p = err_from_is_err_and c.from_residual-in_err-parts_value.result c.from_residual-in_err-parts_value.ensures.1 in
-    rw (p.1, p.2) (whole_refuses c.args.most_parts c.args.most_pieces c.args.bytes.now (view c.in_ok-value.value) c.in_ok-value.ensures _ c.in_err-parts_value.ensures.rules)
+pub returns-in-Ok-clause-exact : goal.returns-in-Ok-clause-exact
+unfolding part_list_within
+returns-in-Ok-clause-exact c =
+    let read = json_from c.args.bytes.now (view c.in-Ok.value) c.in-Ok.ensures.ok.0 c.in-Ok.ensures.ok.1 in
+    subst (λ found. AnswersList (answer_of c.args.most_parts c.args.most_pieces found) c.listing_of.result) (sym read) c.listing_of.ensures
 
-pub returns-clause-exact : goal.returns-clause-exact
-returns-clause-exact c =
-    let same = by_parts c.args.most_parts c.args.most_pieces c.args.bytes.now (view c.in_ok-value.value) c.in_ok-value.ensures c.in_ok-parts_value.ensures.rules _ c.in_ok-parts_value.ensures.parts in
-    subst (λ (wanted : Result (List ListedPart) ManifestRefusal). AnswersList wanted c.list_parts.result) (sym same) c.list_parts.ensures
+pub returns-in-Ok-clause-bounds : goal.returns-in-Ok-clause-bounds
+returns-in-Ok-clause-bounds c =
+    within_limits c.args.most_parts c.args.most_pieces c.args.bytes.now c.listing_of.result (returns-in-Ok-clause-exact c)
 
-pub returns-clause-bounds : goal.returns-clause-bounds
-returns-clause-bounds c = within_limits c.args.most_parts c.args.most_pieces c.args.bytes.now c.list_parts.result (returns-clause-exact c)
+pub returns-in-Err-2-clause-exact : goal.returns-in-Err-2-clause-exact
+unfolding part_list_within
+returns-in-Err-2-clause-exact c =
+    ap (answer_of c.args.most_parts c.args.most_pieces) (no_json c.args.bytes.now (c.in-Err.ensures.err (search rules)))

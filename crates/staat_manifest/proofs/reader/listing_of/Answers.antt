@@ -1,4 +1,4 @@
-use Rattle.std.proofs.Common.{◌≡◌, ◌∙◌, ◌<◌, ◌≤◌, ◌∷◌, ℕ, Bor, true, false, List, [], Option, None, Some, ap, length, map}
+use Rattle.std.proofs.Common.{◌≡◌, ◌∙◌, ◌<◌, ◌≤◌, ◌∷◌, ℕ, Bor, true, false, List, [], Option, None, Some, Result, ap, arith, length, map}
 use Rattle.std.proofs.Common.{refl, subst, sym}
 use borrow.Author.Tests.{le-true, lt-false}
 use Rattle.std.proofs.lemmas.List.{length-map}
@@ -7,12 +7,15 @@ use Rattle.serde_json.specs.Data.{Data}
 use Rattle.serde_json.specs.Find.{as_object}
 use Rattle.serde_json.specs.View.{view}
 use Rattle.serde_json.specs.declared.value.Value.{Value}
+use Rattle.staat_manifest.specs.declared.listing.ListedPart.{ListedPart}
+use Rattle.staat_manifest.specs.declared.refusal.ManifestRefusal.{ManifestRefusal}
 use Rattle.staat_manifest.specs.declared.refusal.ManifestRefusal.TheVariants.{BadShape, TooManyParts}
-use Rattle.staat_manifest.specs.Answers.{RefusesPart}
+use Rattle.staat_manifest.specs.Answers.{AnswersList, RefusesPart}
 use Rattle.staat_manifest.specs.Rules.{first_refusal, whole_rules}
 use Rattle.staat_manifest.specs.Values.{array_at, has_only, parts_value}
+use Rattle.staat_manifest.proofs.RuleLemmas.{by_parts, whole_refuses}
 use Rattle.staat_manifest.proofs.ValueLemmas.{no_values, some_values}
-use Rattle.staat_manifest.proofs.reader.parts_value.Goals as goal
+use Rattle.staat_manifest.proofs.reader.listing_of.Goals as goal
 
 -- the parts that were found, or none
 parts_are : (found : Option (Bor (List Value))) (r none : Bor (List Value)) (value : Data) → r ≡ unwrap_or found none → none.now ≡ []
@@ -52,41 +55,46 @@ module _ (most : ℕ) (value : Data) where
         unfolding whole_rules
         none_broken few = rw (object, ← parts, some, only, few)
 
-pub returns-then-not-is_object-clause-rules : goal.returns-then-not-is_object-clause-rules
-returns-then-not-is_object-clause-rules c =
-    let wrong = no_object c.args.most_parts (view c.args.value.now) (sym c.is_object.ensures ∙ c.if-not-is_object.true) in
-    subst (λ o. RefusesPart o c.bad_shape.result) (sym wrong) c.bad_shape.ensures
+pub returns-then-not-is_object : goal.returns-then-not-is_object
+returns-then-not-is_object c =
+    let value = view c.args.value.now in
+    let wrong = no_object c.args.most_parts value (sym c.is_object.ensures ∙ c.if-not-is_object.true) in
+    whole_refuses c.args.most_parts c.args.most_pieces value _ (subst (λ o. RefusesPart o c.bad_shape.result) (sym wrong) c.bad_shape.ensures)
 
-pub returns-then-is_empty-clause-rules : goal.returns-then-is_empty-clause-rules
-returns-then-is_empty-clause-rules c =
+pub returns-then-is_empty : goal.returns-then-is_empty
+returns-then-is_empty c =
     let value = view c.args.value.now in
     let object = sym c.is_object.ensures ∙ c.if-not-is_object.false in
     let found = c.unwrap_or-parts.result.now in
     let parts = parts_are c.array_at.result c.unwrap_or-parts.result _ value c.unwrap_or-parts.ensures refl c.array_at.ensures in
     let none = no_values found c.is_empty.result c.is_empty.ensures c.if-is_empty.true in
-    subst (λ o. RefusesPart o c.bad_shape-then-is_empty.result) (sym (no_part c.args.most_parts value object _ parts none))
-    c.bad_shape-then-is_empty.ensures
+    whole_refuses c.args.most_parts c.args.most_pieces value _ (subst (λ o. RefusesPart o c.bad_shape-then-is_empty.result)
+    (sym (no_part c.args.most_parts value object _ parts none)) c.bad_shape-then-is_empty.ensures)
 
-pub returns-then-not-has_only-clause-rules : goal.returns-then-not-has_only-clause-rules
-returns-then-not-has_only-clause-rules c =
+pub returns-then-not-has_only : goal.returns-then-not-has_only
+returns-then-not-has_only c =
     let value = view c.args.value.now in
     let object = sym c.is_object.ensures ∙ c.if-not-is_object.false in
     let found = c.unwrap_or-parts.result.now in
     let parts = parts_are c.array_at.result c.unwrap_or-parts.result _ value c.unwrap_or-parts.ensures refl c.array_at.ensures in
     let some = some_values found c.is_empty.result c.is_empty.ensures c.if-is_empty.false in
     let wrong = sym c.has_only.ensures ∙ c.if-not-has_only.true in
-    subst (λ o. RefusesPart o c.bad_shape-then-not-has_only.result)
-    (sym (more_members c.args.most_parts value object _ parts some wrong)) c.bad_shape-then-not-has_only.ensures
+    whole_refuses c.args.most_parts c.args.most_pieces value _ (subst (λ o. RefusesPart o c.bad_shape-then-not-has_only.result)
+    (sym (more_members c.args.most_parts value object _ parts some wrong)) c.bad_shape-then-not-has_only.ensures)
 
-pub returns-then-parts-most_parts-clause-rules : goal.returns-then-parts-most_parts-clause-rules
-returns-then-parts-most_parts-clause-rules c =
+pub returns-then-parts-most_parts : goal.returns-then-parts-most_parts
+returns-then-parts-most_parts c =
     let value = view c.args.value.now in
     let object = sym c.is_object.ensures ∙ c.if-not-is_object.false in
     let found = c.unwrap_or-parts.result.now in
     let parts = parts_are c.array_at.result c.unwrap_or-parts.result _ value c.unwrap_or-parts.ensures refl c.array_at.ensures in
     let some = some_values found c.is_empty.result c.is_empty.ensures c.if-is_empty.false in
     let only = sym c.has_only.ensures ∙ c.if-not-has_only.false in
-    too_many c.args.most_parts value object _ parts some only (many_parts found c.args.most_parts c.if-parts-most_parts.true)
+    whole_refuses c.args.most_parts c.args.most_pieces value TooManyParts
+    (too_many c.args.most_parts value object _ parts some only (many_parts found c.args.most_parts c.if-parts-most_parts.true))
+
+pub list_parts-requires : goal.list_parts-requires
+list_parts-requires c = omega (arith, c.if-parts-most_parts.false)
 
 pub returns : goal.returns
 returns c =
@@ -96,8 +104,6 @@ returns c =
     let parts = parts_are c.array_at.result c.unwrap_or-parts.result _ value c.unwrap_or-parts.ensures refl c.array_at.ensures in
     let some = some_values found c.is_empty.result c.is_empty.ensures c.if-is_empty.false in
     let only = sym c.has_only.ensures ∙ c.if-not-has_only.false in
-    record {
-      rules = none_broken c.args.most_parts value object _ parts some only (few_parts found c.args.most_parts c.if-parts-most_parts.false);
-      parts = parts;
-      few = c.if-parts-most_parts.false;
-    }
+    let held = none_broken c.args.most_parts value object _ parts some only (few_parts found c.args.most_parts c.if-parts-most_parts.false) in
+    subst (λ (wanted : Result (List ListedPart) ManifestRefusal). AnswersList wanted c.list_parts.result)
+    (sym (by_parts c.args.most_parts c.args.most_pieces value held _ parts)) c.list_parts.ensures

@@ -1,5 +1,5 @@
 use Rattle.std.proofs.Common.{append_assoc, rules}
-use Rattle.staat_fault.proofs.line.too_many_planes.Goals as goal
+use Rattle.staat_fault.proofs.line.around.Goals as goal
 
 pub returns : goal.returns
 returns c = search (rules, append_assoc)
