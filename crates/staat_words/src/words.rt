@@ -4,6 +4,8 @@ ghost use Rattle.std.specs.Prelude.{IfOk, IsErrOf, None, Some, option_map};
 ghost use Rattle.clap.specs.Words.{found_of, rows_of, subcommand_rows_of};
 ghost use Rattle.staat_words.specs.Command.{is_taken, matches as matches_at};
 ghost use Rattle.staat_words.specs.Requests.{ReadsWords, HasBounds, IsAskedWithin, IsGraphRequestWithin};
+ghost use Rattle.staat_words.specs.Requests.{IsPairRequest, IsPlanRequest, IsCellsRequest, IsNamedProduct};
+ghost use Rattle.staat_words.specs.Requests.{IsExplodeRequest, IsLinearRequest, IsLocalRequest};
 ghost use Rattle.staat_words.specs.Requests.{asked_in, cells_in, check_in, decide_in, drill_in, explode_in, graph_in};
 ghost use Rattle.staat_words.specs.Requests.{linear_in, local_in, pair_in, plan_in, request, request_in};
 ghost use Rattle.staat_words.specs.declared.request.Request.TheVariants.{Pair, Look, Graph, Plan, Check};
@@ -16,8 +18,8 @@ use crate::arguments::{
 };
 use crate::command::staat_command;
 use crate::request::{
-    Asked, CellsRequest, CheckRequest, DecideRequest, ExplodeRequest, GraphRequest, LinearRequest,
-    LocalRequest, PairRequest, PlanRequest, Request, RequestRefusal,
+    Asked, CellsRequest, CheckRequest, DecideRequest, DrillProduct, ExplodeRequest, GraphRequest,
+    LinearRequest, LocalRequest, PairRequest, PlanRequest, Request, RequestRefusal,
 };
 use clap::ArgMatches;
 use clap::error::ErrorKind;
@@ -37,34 +39,27 @@ fn asked_of(alloc: Global, matches: &ArgMatches<'_>, most: u32) -> Result<Asked,
 }
 
 #[tactic(auto, unfolding(crate::specs::Requests::pair_in))]
-fn pair_of(alloc: Global, matches: &ArgMatches<'_>) -> Result<Request, RequestRefusal>
-    ensures answers { ReadsWords (option_map Pair (pair_in (rows_of (found_of matches.now)))) result }
-    ensures bounds { IfOk result HasBounds }
+fn pair_of(alloc: Global, matches: &ArgMatches<'_>) -> Result<PairRequest, RequestRefusal>
+    ensures answers { ReadsWords (pair_in (rows_of (found_of matches.now))) result }
+    ensures bounds { IfOk result IsPairRequest }
 {
     let digits = digits_of(matches)?;
     let along = vector_in(matches, "along", DIRECTION)?;
     let wall = vector_in(matches, "wall", NORMAL)?;
     let first = name_in(alloc, matches, "first")?;
     let second = name_in(alloc, matches, "second")?;
-    Ok(Request::Pair(PairRequest {
+    Ok(PairRequest {
         digits,
         along,
         wall,
         first,
         second,
-    }))
-}
-
-fn look_of(alloc: Global, matches: &ArgMatches<'_>) -> Result<Request, RequestRefusal>
-    ensures answers { ReadsWords (option_map Look (asked_in MOST_PARTS (rows_of (found_of matches.now)))) result }
-    ensures bounds { IfOk result HasBounds }
-{
-    Ok(Request::Look(asked_of(alloc, matches, MOST_PARTS)?))
+    })
 }
 
 // A direction, and what is asked about, where there may be so many files.
 #[tactic(auto, unfolding(crate::specs::Requests::graph_in))]
-fn graph_within(
+fn graph_of(
     alloc: Global,
     matches: &ArgMatches<'_>,
     most: u32,
@@ -72,38 +67,31 @@ fn graph_within(
     ensures answers { ReadsWords (graph_in most (rows_of (found_of matches.now))) result }
     ensures bounds { IfOk result (IsGraphRequestWithin most) }
 {
-    let asked = asked_of(alloc, matches, most)?;
     let along = vector_in(matches, "along", DIRECTION)?;
+    let asked = asked_of(alloc, matches, most)?;
     Ok(GraphRequest { asked, along })
 }
 
-fn graph_of(alloc: Global, matches: &ArgMatches<'_>) -> Result<Request, RequestRefusal>
-    ensures answers { ReadsWords (option_map Graph (graph_in MOST_PARTS (rows_of (found_of matches.now)))) result }
-    ensures bounds { IfOk result HasBounds }
-{
-    Ok(Request::Graph(graph_within(alloc, matches, MOST_PARTS)?))
-}
-
 #[tactic(auto, unfolding(crate::specs::Requests::plan_in))]
-fn plan_of(alloc: Global, matches: &ArgMatches<'_>) -> Result<Request, RequestRefusal>
-    ensures answers { ReadsWords (option_map Plan (plan_in (rows_of (found_of matches.now)))) result }
-    ensures bounds { IfOk result HasBounds }
+fn plan_of(alloc: Global, matches: &ArgMatches<'_>) -> Result<PlanRequest, RequestRefusal>
+    ensures answers { ReadsWords (plan_in (rows_of (found_of matches.now))) result }
+    ensures bounds { IfOk result IsPlanRequest }
 {
-    let asked = asked_of(alloc, matches, MOST_PARTS)?;
-    let planes = planes_of(matches, MOST_PLANES)?;
-    let certificate = certificate_of(matches)?;
     let robust = is_given(matches, "robust");
-    Ok(Request::Plan(PlanRequest {
+    let certificate = certificate_of(matches)?;
+    let planes = planes_of(matches, MOST_PLANES)?;
+    let asked = asked_of(alloc, matches, MOST_PARTS)?;
+    Ok(PlanRequest {
         asked,
         planes: limit_of(robust, planes),
         robust,
         certificate,
-    }))
+    })
 }
 
 // The certificate's file, and what is asked about, where there may be so many files.
 #[tactic(auto, unfolding(crate::specs::Requests::check_in))]
-fn check_within(
+fn check_of(
     alloc: Global,
     matches: &ArgMatches<'_>,
     most: u32,
@@ -111,99 +99,75 @@ fn check_within(
     ensures answers { ReadsWords (check_in most (rows_of (found_of matches.now))) result }
     ensures bounds { IfOk result (λ request. IsAskedWithin most request.asked) }
 {
-    let asked = asked_of(alloc, matches, most)?;
     let certificate = name_in(alloc, matches, "certificate")?;
+    let asked = asked_of(alloc, matches, most)?;
     Ok(CheckRequest { asked, certificate })
 }
 
-fn check_of(alloc: Global, matches: &ArgMatches<'_>) -> Result<Request, RequestRefusal>
-    ensures answers { ReadsWords (option_map Check (check_in MOST_PARTS (rows_of (found_of matches.now)))) result }
-    ensures bounds { IfOk result HasBounds }
-{
-    Ok(Request::Check(check_within(alloc, matches, MOST_PARTS)?))
-}
-
 #[tactic(auto, unfolding(crate::specs::Requests::cells_in))]
-fn cells_of(alloc: Global, matches: &ArgMatches<'_>) -> Result<Request, RequestRefusal>
-    ensures answers { ReadsWords (option_map Cells (cells_in (rows_of (found_of matches.now)))) result }
-    ensures bounds { IfOk result HasBounds }
+fn cells_of(alloc: Global, matches: &ArgMatches<'_>) -> Result<CellsRequest, RequestRefusal>
+    ensures answers { ReadsWords (cells_in (rows_of (found_of matches.now))) result }
+    ensures bounds { IfOk result IsCellsRequest }
 {
-    let asked = asked_of(alloc, matches, MOST_PARTS)?;
     let planes = planes_of(matches, MOST_CELL_PLANES)?;
-    Ok(Request::Cells(CellsRequest { asked, planes }))
+    let asked = asked_of(alloc, matches, MOST_PARTS)?;
+    Ok(CellsRequest { asked, planes })
 }
 
 #[tactic(auto, unfolding(crate::specs::Requests::drill_in))]
-fn drill_of(matches: &ArgMatches<'_>) -> Result<Request, RequestRefusal>
-    ensures answers { ReadsWords (option_map Drill (drill_in (rows_of (found_of matches.now)))) result }
-    ensures bounds { IfOk result HasBounds }
+fn drill_of(matches: &ArgMatches<'_>) -> Result<DrillProduct, RequestRefusal>
+    ensures answers { ReadsWords (drill_in (rows_of (found_of matches.now))) result }
+    ensures bounds { IfOk result IsNamedProduct }
 {
     let kind = value_of(matches, "kind").ok_or(RequestRefusal::Usage)?;
     let number = value_of(matches, "number").ok_or(RequestRefusal::Usage)?;
-    let product = product_of(kind, number).ok_or(RequestRefusal::Usage)?;
-    Ok(Request::Drill(product))
+    product_of(kind, number).ok_or(RequestRefusal::Usage)
 }
 
 #[tactic(auto, unfolding(crate::specs::Requests::explode_in))]
-fn explode_of(alloc: Global, matches: &ArgMatches<'_>) -> Result<Request, RequestRefusal>
-    ensures answers { ReadsWords (option_map Explode (explode_in (rows_of (found_of matches.now)))) result }
-    ensures bounds { IfOk result HasBounds }
+fn explode_of(alloc: Global, matches: &ArgMatches<'_>) -> Result<ExplodeRequest, RequestRefusal>
+    ensures answers { ReadsWords (explode_in (rows_of (found_of matches.now))) result }
+    ensures bounds { IfOk result IsExplodeRequest }
 {
-    let asked = asked_of(alloc, matches, MOST_PARTS)?;
-    let planes = planes_of(matches, MOST_PLANES)?;
     let off = is_given(matches, "off");
-    Ok(Request::Explode(ExplodeRequest { asked, planes, off }))
+    let planes = planes_of(matches, MOST_PLANES)?;
+    let asked = asked_of(alloc, matches, MOST_PARTS)?;
+    Ok(ExplodeRequest { asked, planes, off })
 }
 
 #[tactic(auto, unfolding(crate::specs::Requests::linear_in))]
-fn linear_of(alloc: Global, matches: &ArgMatches<'_>) -> Result<Request, RequestRefusal>
-    ensures answers { ReadsWords (option_map Linear (linear_in (rows_of (found_of matches.now)))) result }
-    ensures bounds { IfOk result HasBounds }
+fn linear_of(alloc: Global, matches: &ArgMatches<'_>) -> Result<LinearRequest, RequestRefusal>
+    ensures answers { ReadsWords (linear_in (rows_of (found_of matches.now))) result }
+    ensures bounds { IfOk result IsLinearRequest }
 {
-    let asked = asked_of(alloc, matches, MOST_PARTS)?;
     let planes = planes_of(matches, MOST_PLANES)?;
-    Ok(Request::Linear(LinearRequest { asked, planes }))
+    let asked = asked_of(alloc, matches, MOST_PARTS)?;
+    Ok(LinearRequest { asked, planes })
 }
 
 #[tactic(auto, unfolding(crate::specs::Requests::local_in))]
-fn local_of(alloc: Global, matches: &ArgMatches<'_>) -> Result<Request, RequestRefusal>
-    ensures answers { ReadsWords (option_map Local (local_in (rows_of (found_of matches.now)))) result }
-    ensures bounds { IfOk result HasBounds }
+fn local_of(alloc: Global, matches: &ArgMatches<'_>) -> Result<LocalRequest, RequestRefusal>
+    ensures answers { ReadsWords (local_in (rows_of (found_of matches.now))) result }
+    ensures bounds { IfOk result IsLocalRequest }
 {
-    let asked = asked_of(alloc, matches, MOST_PARTS)?;
     let planes = planes_of(matches, MOST_PLANES)?;
-    Ok(Request::Local(LocalRequest { asked, planes }))
+    let asked = asked_of(alloc, matches, MOST_PARTS)?;
+    Ok(LocalRequest { asked, planes })
 }
 
 #[tactic(auto, unfolding(crate::specs::Requests::decide_in))]
-fn decide_of(alloc: Global, matches: &ArgMatches<'_>) -> Result<Request, RequestRefusal>
-    ensures answers { ReadsWords (option_map Decide (decide_in (rows_of (found_of matches.now)))) result }
-    ensures bounds { IfOk result HasBounds }
+fn decide_of(alloc: Global, matches: &ArgMatches<'_>) -> Result<DecideRequest, RequestRefusal>
+    ensures answers { ReadsWords (decide_in (rows_of (found_of matches.now))) result }
+    ensures bounds { IfOk result (λ request. IsAskedWithin MOST_PRODUCT_PARTS request.asked) }
 {
-    let asked = asked_of(alloc, matches, MOST_PRODUCT_PARTS)?;
     let rest = is_given(matches, "rest");
     let certificate = is_given(matches, "cert");
-    Ok(Request::Decide(DecideRequest {
+    let asked = asked_of(alloc, matches, MOST_PRODUCT_PARTS)?;
+    Ok(DecideRequest {
         asked,
         rest,
         certificate,
-    }))
-}
-
-fn confirm_of(alloc: Global, matches: &ArgMatches<'_>) -> Result<Request, RequestRefusal>
-    ensures answers { ReadsWords
-        (option_map Confirm (check_in MOST_PRODUCT_PARTS (rows_of (found_of matches.now)))) result }
-    ensures bounds { IfOk result HasBounds }
-{
-    Ok(Request::Confirm(check_within(alloc, matches, MOST_PRODUCT_PARTS)?))
-}
-
-fn blocks_of(alloc: Global, matches: &ArgMatches<'_>) -> Result<Request, RequestRefusal>
-    ensures answers { ReadsWords
-        (option_map Blocks (graph_in MOST_PRODUCT_PARTS (rows_of (found_of matches.now)))) result }
-    ensures bounds { IfOk result HasBounds }
-{
-    Ok(Request::Blocks(graph_within(alloc, matches, MOST_PRODUCT_PARTS)?))
+    })
 }
 
 // The matches of words that `clap` takes.
@@ -222,71 +186,7 @@ fn matches_of<'a>(alloc: Global, words: &'a [String]) -> Result<ArgMatches<'a>, 
     }
 }
 
-// Whether a subcommand's name is this word.
-fn is_called(name: &str, word: &str) -> bool
-    ensures { result ≡ bytes_eq name.now word.now }
-{
-    name == word
-}
-
-// The request of a subcommand about a product of any size.
-fn request_of_any_size(
-    alloc: Global,
-    name: &str,
-    matches: &ArgMatches<'_>,
-) -> Result<Request, RequestRefusal>
-    ensures answers { let rows = rows_of (found_of matches.now) in ReadsWords (
-        if bytes_eq name.now (codes "decide") then option_map Decide (decide_in rows)
-        else (if bytes_eq name.now (codes "confirm") then option_map Confirm (check_in MOST_PRODUCT_PARTS rows)
-        else (if bytes_eq name.now (codes "blocks") then option_map Blocks (graph_in MOST_PRODUCT_PARTS rows)
-        else None))) result }
-    ensures bounds { IfOk result HasBounds }
-{
-    if is_called(name, "decide") {
-        decide_of(alloc, matches)
-    } else if is_called(name, "confirm") {
-        confirm_of(alloc, matches)
-    } else if is_called(name, "blocks") {
-        blocks_of(alloc, matches)
-    } else {
-        Err(RequestRefusal::Usage)
-    }
-}
-
-// The request of a subcommand beyond shapes, blocking and plans.
-fn request_beyond_plans(
-    alloc: Global,
-    name: &str,
-    matches: &ArgMatches<'_>,
-) -> Result<Request, RequestRefusal>
-    ensures answers { let rows = rows_of (found_of matches.now) in ReadsWords (
-        if bytes_eq name.now (codes "cells") then option_map Cells (cells_in rows)
-        else (if bytes_eq name.now (codes "drill") then option_map Drill (drill_in rows)
-        else (if bytes_eq name.now (codes "explode") then option_map Explode (explode_in rows)
-        else (if bytes_eq name.now (codes "linear") then option_map Linear (linear_in rows)
-        else (if bytes_eq name.now (codes "local") then option_map Local (local_in rows)
-        else (if bytes_eq name.now (codes "decide") then option_map Decide (decide_in rows)
-        else (if bytes_eq name.now (codes "confirm") then option_map Confirm (check_in MOST_PRODUCT_PARTS rows)
-        else (if bytes_eq name.now (codes "blocks") then option_map Blocks (graph_in MOST_PRODUCT_PARTS rows)
-        else None)))))))) result }
-    ensures bounds { IfOk result HasBounds }
-{
-    if is_called(name, "cells") {
-        cells_of(alloc, matches)
-    } else if is_called(name, "drill") {
-        drill_of(matches)
-    } else if is_called(name, "explode") {
-        explode_of(alloc, matches)
-    } else if is_called(name, "linear") {
-        linear_of(alloc, matches)
-    } else if is_called(name, "local") {
-        local_of(alloc, matches)
-    } else {
-        request_of_any_size(alloc, name, matches)
-    }
-}
-
-// The request of a subcommand.
+// The request of a subcommand: a line for each command.
 #[tactic(auto, unfolding(crate::specs::Requests::request_in))]
 fn request_named(
     alloc: Global,
@@ -296,18 +196,21 @@ fn request_named(
     ensures answers { ReadsWords (request_in (Some (name.now, rows_of (found_of matches.now)))) result }
     ensures bounds { IfOk result HasBounds }
 {
-    if is_called(name, "pair") {
-        pair_of(alloc, matches)
-    } else if is_called(name, "look") {
-        look_of(alloc, matches)
-    } else if is_called(name, "graph") {
-        graph_of(alloc, matches)
-    } else if is_called(name, "plan") {
-        plan_of(alloc, matches)
-    } else if is_called(name, "check") {
-        check_of(alloc, matches)
-    } else {
-        request_beyond_plans(alloc, name, matches)
+    match name {
+        "pair" => pair_of(alloc, matches).map(Request::Pair),
+        "look" => asked_of(alloc, matches, MOST_PARTS).map(Request::Look),
+        "graph" => graph_of(alloc, matches, MOST_PARTS).map(Request::Graph),
+        "plan" => plan_of(alloc, matches).map(Request::Plan),
+        "check" => check_of(alloc, matches, MOST_PARTS).map(Request::Check),
+        "cells" => cells_of(alloc, matches).map(Request::Cells),
+        "drill" => drill_of(matches).map(Request::Drill),
+        "explode" => explode_of(alloc, matches).map(Request::Explode),
+        "linear" => linear_of(alloc, matches).map(Request::Linear),
+        "local" => local_of(alloc, matches).map(Request::Local),
+        "decide" => decide_of(alloc, matches).map(Request::Decide),
+        "confirm" => check_of(alloc, matches, MOST_PRODUCT_PARTS).map(Request::Confirm),
+        "blocks" => graph_of(alloc, matches, MOST_PRODUCT_PARTS).map(Request::Blocks),
+        _ => Err(RequestRefusal::Usage),
     }
 }
 
