@@ -4,22 +4,20 @@ ghost use Rattle.std.specs.Prelude.{IfOk, IsErrOf, None, Some, option_map};
 ghost use Rattle.clap.specs.Words.{found_of, rows_of, subcommand_rows_of};
 ghost use Rattle.staat_words.specs.Command.{is_taken, matches as matches_at};
 ghost use Rattle.staat_words.specs.Requests.{ReadsWords, HasBounds, IsAskedWithin, IsGraphRequestWithin};
-ghost use Rattle.staat_words.specs.Requests.{IsPairRequest, IsPlanRequest, IsCellsRequest, IsNamedProduct};
-ghost use Rattle.staat_words.specs.Requests.{IsExplodeRequest, IsLinearRequest, IsLocalRequest};
-ghost use Rattle.staat_words.specs.Requests.{asked_in, cells_in, check_in, decide_in, drill_in, explode_in, graph_in};
+ghost use Rattle.staat_words.specs.Requests.{asked_in, cells_in, check_in, decide_in, explode_in, graph_in};
 ghost use Rattle.staat_words.specs.Requests.{linear_in, local_in, pair_in, plan_in, request, request_in};
 ghost use Rattle.staat_words.specs.declared.request.Request.TheVariants.{Pair, Look, Graph, Plan, Check};
 ghost use Rattle.staat_words.specs.declared.request.Request.TheVariants.{Cells, Drill, Explode, Linear, Local};
 ghost use Rattle.staat_words.specs.declared.request.Request.TheVariants.{Decide, Confirm, Blocks};
 
 use crate::arguments::{
-    certificate_of, digits_of, input_of, is_given, limit_of, name_in, planes_of, product_of,
-    value_of, vector_in,
+    certificate_of, digits_of, drill_in, input_of, is_given, limit_of, name_in, planes_of,
+    vector_in,
 };
 use crate::command::staat_command;
 use crate::request::{
-    Asked, CellsRequest, CheckRequest, DecideRequest, DrillProduct, ExplodeRequest, GraphRequest,
-    LinearRequest, LocalRequest, PairRequest, PlanRequest, Request, RequestRefusal,
+    Asked, CellsRequest, CheckRequest, DecideRequest, ExplodeRequest, GraphRequest, LinearRequest,
+    LocalRequest, PairRequest, PlanRequest, Request, RequestRefusal,
 };
 use clap::ArgMatches;
 use clap::error::ErrorKind;
@@ -39,22 +37,22 @@ fn asked_of(alloc: Global, matches: &ArgMatches<'_>, most: u32) -> Result<Asked,
 }
 
 #[tactic(auto, unfolding(crate::specs::Requests::pair_in))]
-fn pair_of(alloc: Global, matches: &ArgMatches<'_>) -> Result<PairRequest, RequestRefusal>
-    ensures answers { ReadsWords (pair_in (rows_of (found_of matches.now))) result }
-    ensures bounds { IfOk result IsPairRequest }
+fn pair_of(alloc: Global, matches: &ArgMatches<'_>) -> Result<Request, RequestRefusal>
+    ensures answers { ReadsWords (option_map Pair (pair_in (rows_of (found_of matches.now)))) result }
+    ensures bounds { IfOk result HasBounds }
 {
     let digits = digits_of(matches)?;
     let along = vector_in(matches, "along", DIRECTION)?;
     let wall = vector_in(matches, "wall", NORMAL)?;
     let first = name_in(alloc, matches, "first")?;
     let second = name_in(alloc, matches, "second")?;
-    Ok(PairRequest {
+    Ok(Request::Pair(PairRequest {
         digits,
         along,
         wall,
         first,
         second,
-    })
+    }))
 }
 
 // A direction, and what is asked about, where there may be so many files.
@@ -73,20 +71,20 @@ fn graph_of(
 }
 
 #[tactic(auto, unfolding(crate::specs::Requests::plan_in))]
-fn plan_of(alloc: Global, matches: &ArgMatches<'_>) -> Result<PlanRequest, RequestRefusal>
-    ensures answers { ReadsWords (plan_in (rows_of (found_of matches.now))) result }
-    ensures bounds { IfOk result IsPlanRequest }
+fn plan_of(alloc: Global, matches: &ArgMatches<'_>) -> Result<Request, RequestRefusal>
+    ensures answers { ReadsWords (option_map Plan (plan_in (rows_of (found_of matches.now)))) result }
+    ensures bounds { IfOk result HasBounds }
 {
     let robust = is_given(matches, "robust");
     let certificate = certificate_of(matches)?;
     let planes = planes_of(matches, MOST_PLANES)?;
     let asked = asked_of(alloc, matches, MOST_PARTS)?;
-    Ok(PlanRequest {
+    Ok(Request::Plan(PlanRequest {
         asked,
         planes: limit_of(robust, planes),
         robust,
         certificate,
-    })
+    }))
 }
 
 // The certificate's file, and what is asked about, where there may be so many files.
@@ -105,69 +103,59 @@ fn check_of(
 }
 
 #[tactic(auto, unfolding(crate::specs::Requests::cells_in))]
-fn cells_of(alloc: Global, matches: &ArgMatches<'_>) -> Result<CellsRequest, RequestRefusal>
-    ensures answers { ReadsWords (cells_in (rows_of (found_of matches.now))) result }
-    ensures bounds { IfOk result IsCellsRequest }
+fn cells_of(alloc: Global, matches: &ArgMatches<'_>) -> Result<Request, RequestRefusal>
+    ensures answers { ReadsWords (option_map Cells (cells_in (rows_of (found_of matches.now)))) result }
+    ensures bounds { IfOk result HasBounds }
 {
     let planes = planes_of(matches, MOST_CELL_PLANES)?;
     let asked = asked_of(alloc, matches, MOST_PARTS)?;
-    Ok(CellsRequest { asked, planes })
-}
-
-#[tactic(auto, unfolding(crate::specs::Requests::drill_in))]
-fn drill_of(matches: &ArgMatches<'_>) -> Result<DrillProduct, RequestRefusal>
-    ensures answers { ReadsWords (drill_in (rows_of (found_of matches.now))) result }
-    ensures bounds { IfOk result IsNamedProduct }
-{
-    let kind = value_of(matches, "kind").ok_or(RequestRefusal::Usage)?;
-    let number = value_of(matches, "number").ok_or(RequestRefusal::Usage)?;
-    product_of(kind, number).ok_or(RequestRefusal::Usage)
+    Ok(Request::Cells(CellsRequest { asked, planes }))
 }
 
 #[tactic(auto, unfolding(crate::specs::Requests::explode_in))]
-fn explode_of(alloc: Global, matches: &ArgMatches<'_>) -> Result<ExplodeRequest, RequestRefusal>
-    ensures answers { ReadsWords (explode_in (rows_of (found_of matches.now))) result }
-    ensures bounds { IfOk result IsExplodeRequest }
+fn explode_of(alloc: Global, matches: &ArgMatches<'_>) -> Result<Request, RequestRefusal>
+    ensures answers { ReadsWords (option_map Explode (explode_in (rows_of (found_of matches.now)))) result }
+    ensures bounds { IfOk result HasBounds }
 {
     let off = is_given(matches, "off");
     let planes = planes_of(matches, MOST_PLANES)?;
     let asked = asked_of(alloc, matches, MOST_PARTS)?;
-    Ok(ExplodeRequest { asked, planes, off })
+    Ok(Request::Explode(ExplodeRequest { asked, planes, off }))
 }
 
 #[tactic(auto, unfolding(crate::specs::Requests::linear_in))]
-fn linear_of(alloc: Global, matches: &ArgMatches<'_>) -> Result<LinearRequest, RequestRefusal>
-    ensures answers { ReadsWords (linear_in (rows_of (found_of matches.now))) result }
-    ensures bounds { IfOk result IsLinearRequest }
+fn linear_of(alloc: Global, matches: &ArgMatches<'_>) -> Result<Request, RequestRefusal>
+    ensures answers { ReadsWords (option_map Linear (linear_in (rows_of (found_of matches.now)))) result }
+    ensures bounds { IfOk result HasBounds }
 {
     let planes = planes_of(matches, MOST_PLANES)?;
     let asked = asked_of(alloc, matches, MOST_PARTS)?;
-    Ok(LinearRequest { asked, planes })
+    Ok(Request::Linear(LinearRequest { asked, planes }))
 }
 
 #[tactic(auto, unfolding(crate::specs::Requests::local_in))]
-fn local_of(alloc: Global, matches: &ArgMatches<'_>) -> Result<LocalRequest, RequestRefusal>
-    ensures answers { ReadsWords (local_in (rows_of (found_of matches.now))) result }
-    ensures bounds { IfOk result IsLocalRequest }
+fn local_of(alloc: Global, matches: &ArgMatches<'_>) -> Result<Request, RequestRefusal>
+    ensures answers { ReadsWords (option_map Local (local_in (rows_of (found_of matches.now)))) result }
+    ensures bounds { IfOk result HasBounds }
 {
     let planes = planes_of(matches, MOST_PLANES)?;
     let asked = asked_of(alloc, matches, MOST_PARTS)?;
-    Ok(LocalRequest { asked, planes })
+    Ok(Request::Local(LocalRequest { asked, planes }))
 }
 
 #[tactic(auto, unfolding(crate::specs::Requests::decide_in))]
-fn decide_of(alloc: Global, matches: &ArgMatches<'_>) -> Result<DecideRequest, RequestRefusal>
-    ensures answers { ReadsWords (decide_in (rows_of (found_of matches.now))) result }
-    ensures bounds { IfOk result (λ request. IsAskedWithin MOST_PRODUCT_PARTS request.asked) }
+fn decide_of(alloc: Global, matches: &ArgMatches<'_>) -> Result<Request, RequestRefusal>
+    ensures answers { ReadsWords (option_map Decide (decide_in (rows_of (found_of matches.now)))) result }
+    ensures bounds { IfOk result HasBounds }
 {
     let rest = is_given(matches, "rest");
     let certificate = is_given(matches, "cert");
     let asked = asked_of(alloc, matches, MOST_PRODUCT_PARTS)?;
-    Ok(DecideRequest {
+    Ok(Request::Decide(DecideRequest {
         asked,
         rest,
         certificate,
-    })
+    }))
 }
 
 // The matches of words that `clap` takes.
@@ -197,41 +185,34 @@ fn request_named(
     ensures bounds { IfOk result HasBounds }
 {
     match name {
-        "pair" => pair_of(alloc, matches).map(Request::Pair),
+        "pair" => pair_of(alloc, matches),
         "look" => asked_of(alloc, matches, MOST_PARTS).map(Request::Look),
         "graph" => graph_of(alloc, matches, MOST_PARTS).map(Request::Graph),
-        "plan" => plan_of(alloc, matches).map(Request::Plan),
+        "plan" => plan_of(alloc, matches),
         "check" => check_of(alloc, matches, MOST_PARTS).map(Request::Check),
-        "cells" => cells_of(alloc, matches).map(Request::Cells),
-        "drill" => drill_of(matches).map(Request::Drill),
-        "explode" => explode_of(alloc, matches).map(Request::Explode),
-        "linear" => linear_of(alloc, matches).map(Request::Linear),
-        "local" => local_of(alloc, matches).map(Request::Local),
-        "decide" => decide_of(alloc, matches).map(Request::Decide),
+        "cells" => cells_of(alloc, matches),
+        "drill" => drill_in(matches)
+            .map(Request::Drill)
+            .ok_or(RequestRefusal::Usage),
+        "explode" => explode_of(alloc, matches),
+        "linear" => linear_of(alloc, matches),
+        "local" => local_of(alloc, matches),
+        "decide" => decide_of(alloc, matches),
         "confirm" => check_of(alloc, matches, MOST_PRODUCT_PARTS).map(Request::Confirm),
         "blocks" => graph_of(alloc, matches, MOST_PRODUCT_PARTS).map(Request::Blocks),
         _ => Err(RequestRefusal::Usage),
     }
 }
 
-// The request of the subcommand that was entered.
-#[tactic(auto, unfolding(crate::specs::Requests::request_in))]
-fn request_from(alloc: Global, matches: &ArgMatches<'_>) -> Result<Request, RequestRefusal>
-    ensures answers { ReadsWords (request_in (subcommand_rows_of matches.now)) result }
-    ensures bounds { IfOk result HasBounds }
-{
-    match matches.subcommand() {
-        Some((name, inner)) => request_named(alloc, name, inner),
-        None => Err(RequestRefusal::Usage),
-    }
-}
-
 /// The request of the words after the program's name. Usage comes exactly where they make none.
-#[tactic(auto, unfolding(crate::specs::Requests::request))]
+#[tactic(auto, unfolding(crate::specs::Requests::request, crate::specs::Requests::request_in))]
 pub fn request_of(alloc: Global, words: &Vec<String>) -> Result<Request, RequestRefusal>
     ensures answers { ReadsWords (request (map string_bytes words.now.items)) result }
     ensures bounds { IfOk result HasBounds }
 {
     let matches = matches_of(alloc, words.as_slice())?;
-    request_from(alloc, &matches)
+    match matches.subcommand() {
+        Some((name, inner)) => request_named(alloc, name, inner),
+        None => Err(RequestRefusal::Usage),
+    }
 }

@@ -1,22 +1,20 @@
 use Rattle.staat_words.specs.Requests.{request_in}
-use Rattle.staat_words.specs.declared.request.Request.TheVariants.{Pair, Look, Graph, Plan, Check, Cells}
-use Rattle.staat_words.specs.declared.request.Request.TheVariants.{Drill, Explode, Linear, Local, Decide}
-use Rattle.staat_words.specs.declared.request.Request.TheVariants.{Confirm, Blocks}
+use Rattle.staat_words.specs.declared.request.Request.TheVariants.{Look, Graph, Check, Confirm, Blocks}
 use Rattle.staat_words.proofs.Made.{bounded, made}
 use Rattle.staat_words.proofs.words.request_named.Goals as goal
 
 pub returns-in-pair : goal.returns-in-pair
 unfolding request_in
 returns-in-pair c = record {
-  answers = rw c.in-pair.is (made Pair _ c.pair_of.result c.map.result c.pair_of.ensures.answers c.map.ensures.cases);
-  bounds = bounded Pair _ c.pair_of.result c.map.result (λ x h. h) c.pair_of.ensures.bounds c.map.ensures.cases;
+  answers = rw c.in-pair.is c.pair_of.ensures.answers;
+  bounds = c.pair_of.ensures.bounds;
 }
 
 pub returns-in-look : goal.returns-in-look
 unfolding request_in
 returns-in-look c = record {
-  answers = rw c.in-look.is (made Look _ c.asked_of.result c.map-in-look.result c.asked_of.ensures.answers c.map-in-look.ensures.cases);
-  bounds = bounded Look _ c.asked_of.result c.map-in-look.result (λ x h. h) c.asked_of.ensures.bounds c.map-in-look.ensures.cases;
+  answers = rw c.in-look.is (made Look _ c.asked_of.result c.map.result c.asked_of.ensures.answers c.map.ensures.cases);
+  bounds = bounded Look _ c.asked_of.result c.map.result (λ x h. h) c.asked_of.ensures.bounds c.map.ensures.cases;
 }
 
 pub returns-in-graph : goal.returns-in-graph
@@ -29,8 +27,8 @@ returns-in-graph c = record {
 pub returns-in-plan : goal.returns-in-plan
 unfolding request_in
 returns-in-plan c = record {
-  answers = rw c.in-plan.is (made Plan _ c.plan_of.result c.map-in-plan.result c.plan_of.ensures.answers c.map-in-plan.ensures.cases);
-  bounds = bounded Plan _ c.plan_of.result c.map-in-plan.result (λ x h. h) c.plan_of.ensures.bounds c.map-in-plan.ensures.cases;
+  answers = rw c.in-plan.is c.plan_of.ensures.answers;
+  bounds = c.plan_of.ensures.bounds;
 }
 
 pub returns-in-check : goal.returns-in-check
@@ -43,43 +41,36 @@ returns-in-check c = record {
 pub returns-in-cells : goal.returns-in-cells
 unfolding request_in
 returns-in-cells c = record {
-  answers = rw c.in-cells.is (made Cells _ c.cells_of.result c.map-in-cells.result c.cells_of.ensures.answers c.map-in-cells.ensures.cases);
-  bounds = bounded Cells _ c.cells_of.result c.map-in-cells.result (λ x h. h) c.cells_of.ensures.bounds c.map-in-cells.ensures.cases;
-}
-
-pub returns-in-drill : goal.returns-in-drill
-unfolding request_in
-returns-in-drill c = record {
-  answers = rw c.in-drill.is (made Drill _ c.drill_of.result c.map-in-drill.result c.drill_of.ensures.answers c.map-in-drill.ensures.cases);
-  bounds = bounded Drill _ c.drill_of.result c.map-in-drill.result (λ x h. h) c.drill_of.ensures.bounds c.map-in-drill.ensures.cases;
+  answers = rw c.in-cells.is c.cells_of.ensures.answers;
+  bounds = c.cells_of.ensures.bounds;
 }
 
 pub returns-in-explode : goal.returns-in-explode
 unfolding request_in
 returns-in-explode c = record {
-  answers = rw c.in-explode.is (made Explode _ c.explode_of.result c.map-in-explode.result c.explode_of.ensures.answers c.map-in-explode.ensures.cases);
-  bounds = bounded Explode _ c.explode_of.result c.map-in-explode.result (λ x h. h) c.explode_of.ensures.bounds c.map-in-explode.ensures.cases;
+  answers = rw c.in-explode.is c.explode_of.ensures.answers;
+  bounds = c.explode_of.ensures.bounds;
 }
 
 pub returns-in-linear : goal.returns-in-linear
 unfolding request_in
 returns-in-linear c = record {
-  answers = rw c.in-linear.is (made Linear _ c.linear_of.result c.map-in-linear.result c.linear_of.ensures.answers c.map-in-linear.ensures.cases);
-  bounds = bounded Linear _ c.linear_of.result c.map-in-linear.result (λ x h. h) c.linear_of.ensures.bounds c.map-in-linear.ensures.cases;
+  answers = rw c.in-linear.is c.linear_of.ensures.answers;
+  bounds = c.linear_of.ensures.bounds;
 }
 
 pub returns-in-local : goal.returns-in-local
 unfolding request_in
 returns-in-local c = record {
-  answers = rw c.in-local.is (made Local _ c.local_of.result c.map-in-local.result c.local_of.ensures.answers c.map-in-local.ensures.cases);
-  bounds = bounded Local _ c.local_of.result c.map-in-local.result (λ x h. h) c.local_of.ensures.bounds c.map-in-local.ensures.cases;
+  answers = rw c.in-local.is c.local_of.ensures.answers;
+  bounds = c.local_of.ensures.bounds;
 }
 
 pub returns-in-decide : goal.returns-in-decide
 unfolding request_in
 returns-in-decide c = record {
-  answers = rw c.in-decide.is (made Decide _ c.decide_of.result c.map-in-decide.result c.decide_of.ensures.answers c.map-in-decide.ensures.cases);
-  bounds = bounded Decide _ c.decide_of.result c.map-in-decide.result (λ x h. h) c.decide_of.ensures.bounds c.map-in-decide.ensures.cases;
+  answers = rw c.in-decide.is c.decide_of.ensures.answers;
+  bounds = c.decide_of.ensures.bounds;
 }
 
 pub returns-in-confirm : goal.returns-in-confirm
