@@ -1,5 +1,6 @@
 -- A request that is made of what a command's own reading gives.
-use Rattle.std.proofs.Common.{◌≡◌, Option, Result, Ok, Err, IfOk, option_map, refl}
+use Rattle.std.proofs.Common.{◌≡◌, Option, Some, None, Result, Ok, Err, IfOk, IfSome, option_map, refl, sym}
+use Rattle.std.specs.Option.{ok_or}
 use Rattle.std.specs.Prelude.{IsOkAnd, MatchResult}
 use Rattle.staat_words.specs.declared.request.Request.{Request}
 use Rattle.staat_words.specs.declared.request.RequestRefusal.{RequestRefusal}
@@ -21,3 +22,12 @@ pub bounded : {X : Type 0} (make : X → Request) (P : X → Type 0) (found : Re
 bounded make P (Ok x) (Ok request) has bounds is = rw is (has x bounds)
 bounded make P (Ok x) (Err e) has bounds is = tt
 bounded make P (Err e) answer has bounds is = rw is tt
+
+-- the same of a value that is there or is a usage fault
+pub read : {X : Type 0} (asked found : Option X) (answer : Result X RequestRefusal) → found ≡ asked → answer ≡ ok_or found Usage → ReadsWords asked answer
+read asked (Some x) answer same is = rw is (sym same)
+read asked None answer same is = rw is (sym same)
+
+pub read_bounded : {X : Type 0} (P : X → Type 0) (found : Option X) (answer : Result X RequestRefusal) → IfSome found P → answer ≡ ok_or found Usage → IfOk answer P
+read_bounded P (Some x) answer bounds is = rw is bounds
+read_bounded P None answer bounds is = rw is tt

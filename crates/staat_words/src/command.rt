@@ -1,7 +1,7 @@
 // The command that `clap` reads the words by: long options alone, files as plain words.
 ghost use Rattle.std.specs.Prelude.{◌≡◌, IfOk, fold, map, true, false};
 ghost use Rattle.clap.specs.Words.{app_of, rule_of};
-ghost use Rattle.staat_words.specs.Command.{app, argument_rule, command, IsLocal, plain, with_command};
+ghost use Rattle.staat_words.specs.Command.{argument_rule, command, plain, with_command};
 
 use Kind::{Flag, Optional, Required, Word, Words};
 use clap::{Arg, ArgAction, Command};
@@ -165,30 +165,33 @@ fn argument<'a>(alloc: Global, id: &'a str, kind: Kind) -> Arg<'a>
     }
 }
 
-// A command as `clap` takes it.
-fn subcommand<'a>(alloc: Global, row: &CommandRow<'a>) -> Result<Command<'a>, AllocError>
-    ensures app { IfOk result (λ c. app_of c ≡ app (plain row.now)) }
-    ensures local { IfOk result IsLocal }
+// The whole command with one subcommand more.
+fn with_command<'a>(
+    alloc: Global,
+    whole: Command<'a>,
+    row: &CommandRow<'a>,
+) -> Result<Command<'a>, AllocError>
+    ensures { IfOk result (λ c. app_of c ≡ with_command (app_of whole.entry) (plain row.now)) }
 {
     let mut command = Command::new(alloc, row.name);
     for (id, kind) in row.arguments {
         command = command.arg(argument(alloc, id, *kind))?;
     }
-    Ok(command)
+    whole.subcommand(command)
 }
 
-// A command with a subcommand for each row.
-fn with_subcommands<'a>(
+// The whole command with a subcommand more for each row.
+fn with_commands<'a>(
     alloc: Global,
-    mut command: Command<'a>,
+    mut whole: Command<'a>,
     rows: &[CommandRow<'a>],
 ) -> Result<Command<'a>, AllocError>
-    ensures { IfOk result (λ c. app_of c ≡ fold with_command (app_of command.entry) (map plain rows.now)) }
+    ensures { IfOk result (λ c. app_of c ≡ fold with_command (app_of whole.entry) (map plain rows.now)) }
 {
     for row in rows {
-        command = command.subcommand(subcommand(alloc, row)?)?;
+        whole = with_command(alloc, whole, row)?;
     }
-    Ok(command)
+    Ok(whole)
 }
 
 /// The whole command: a subcommand for each kind of request.
@@ -199,5 +202,5 @@ pub fn staat_command<'a>(alloc: Global) -> Result<Command<'a>, AllocError>
     let command = Command::new(alloc, "staat")
         .no_binary_name(true)
         .subcommand_required(true);
-    with_subcommands(alloc, command, &COMMANDS)
+    with_commands(alloc, command, &COMMANDS)
 }

@@ -4,6 +4,7 @@ ghost use Rattle.std.specs.Prelude.{IfOk, IsErrOf, None, Some, option_map};
 ghost use Rattle.clap.specs.Words.{found_of, rows_of, subcommand_rows_of};
 ghost use Rattle.staat_words.specs.Command.{is_taken, matches as matches_at};
 ghost use Rattle.staat_words.specs.Requests.{ReadsWords, HasBounds, IsAskedWithin, IsGraphRequestWithin};
+ghost use Rattle.staat_words.specs.Requests.{IsPairRequest};
 ghost use Rattle.staat_words.specs.Requests.{asked_in, cells_in, check_in, decide_in, explode_in, graph_in};
 ghost use Rattle.staat_words.specs.Requests.{linear_in, local_in, pair_in, plan_in, request, request_in};
 ghost use Rattle.staat_words.specs.declared.request.Request.TheVariants.{Pair, Look, Graph, Plan, Check};
@@ -37,22 +38,22 @@ fn asked_of(alloc: Global, matches: &ArgMatches<'_>, most: u32) -> Result<Asked,
 }
 
 #[tactic(auto, unfolding(crate::specs::Requests::pair_in))]
-fn pair_of(alloc: Global, matches: &ArgMatches<'_>) -> Result<Request, RequestRefusal>
-    ensures answers { ReadsWords (option_map Pair (pair_in (rows_of (found_of matches.now)))) result }
-    ensures bounds { IfOk result HasBounds }
+fn pair_of(alloc: Global, matches: &ArgMatches<'_>) -> Result<PairRequest, RequestRefusal>
+    ensures answers { ReadsWords (pair_in (rows_of (found_of matches.now))) result }
+    ensures bounds { IfOk result IsPairRequest }
 {
     let digits = digits_of(matches)?;
     let along = vector_in(matches, "along", DIRECTION)?;
     let wall = vector_in(matches, "wall", NORMAL)?;
     let first = name_in(alloc, matches, "first")?;
     let second = name_in(alloc, matches, "second")?;
-    Ok(Request::Pair(PairRequest {
+    Ok(PairRequest {
         digits,
         along,
         wall,
         first,
         second,
-    }))
+    })
 }
 
 // A direction, and what is asked about, where there may be so many files.
@@ -185,15 +186,15 @@ fn request_named(
     ensures bounds { IfOk result HasBounds }
 {
     match name {
-        "pair" => pair_of(alloc, matches),
+        "pair" => pair_of(alloc, matches).map(Request::Pair),
         "look" => asked_of(alloc, matches, MOST_PARTS).map(Request::Look),
         "graph" => graph_of(alloc, matches, MOST_PARTS).map(Request::Graph),
         "plan" => plan_of(alloc, matches),
         "check" => check_of(alloc, matches, MOST_PARTS).map(Request::Check),
         "cells" => cells_of(alloc, matches),
         "drill" => drill_in(matches)
-            .map(Request::Drill)
-            .ok_or(RequestRefusal::Usage),
+            .ok_or(RequestRefusal::Usage)
+            .map(Request::Drill),
         "explode" => explode_of(alloc, matches),
         "linear" => linear_of(alloc, matches),
         "local" => local_of(alloc, matches),

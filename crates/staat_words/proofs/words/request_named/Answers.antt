@@ -1,20 +1,20 @@
-use Rattle.staat_words.specs.Requests.{request_in}
-use Rattle.staat_words.specs.declared.request.Request.TheVariants.{Look, Graph, Check, Confirm, Blocks}
-use Rattle.staat_words.proofs.Made.{bounded, made}
+use Rattle.staat_words.specs.Requests.{IsNamedProduct, request_in}
+use Rattle.staat_words.specs.declared.request.Request.TheVariants.{Pair, Look, Graph, Check, Drill, Confirm, Blocks}
+use Rattle.staat_words.proofs.Made.{bounded, made, read, read_bounded}
 use Rattle.staat_words.proofs.words.request_named.Goals as goal
 
 pub returns-in-pair : goal.returns-in-pair
 unfolding request_in
 returns-in-pair c = record {
-  answers = rw c.in-pair.is c.pair_of.ensures.answers;
-  bounds = c.pair_of.ensures.bounds;
+  answers = rw c.in-pair.is (made Pair _ c.pair_of.result c.map.result c.pair_of.ensures.answers c.map.ensures.cases);
+  bounds = bounded Pair _ c.pair_of.result c.map.result (λ x h. h) c.pair_of.ensures.bounds c.map.ensures.cases;
 }
 
 pub returns-in-look : goal.returns-in-look
 unfolding request_in
 returns-in-look c = record {
-  answers = rw c.in-look.is (made Look _ c.asked_of.result c.map.result c.asked_of.ensures.answers c.map.ensures.cases);
-  bounds = bounded Look _ c.asked_of.result c.map.result (λ x h. h) c.asked_of.ensures.bounds c.map.ensures.cases;
+  answers = rw c.in-look.is (made Look _ c.asked_of.result c.map-in-look.result c.asked_of.ensures.answers c.map-in-look.ensures.cases);
+  bounds = bounded Look _ c.asked_of.result c.map-in-look.result (λ x h. h) c.asked_of.ensures.bounds c.map-in-look.ensures.cases;
 }
 
 pub returns-in-graph : goal.returns-in-graph
@@ -85,4 +85,11 @@ unfolding request_in
 returns-in-blocks c = record {
   answers = rw c.in-blocks.is (made Blocks _ c.graph_of-in-blocks.result c.map-in-blocks.result c.graph_of-in-blocks.ensures.answers c.map-in-blocks.ensures.cases);
   bounds = bounded Blocks _ c.graph_of-in-blocks.result c.map-in-blocks.result (λ x h. h) c.graph_of-in-blocks.ensures.bounds c.map-in-blocks.ensures.cases;
+}
+
+pub returns-in-drill : goal.returns-in-drill
+unfolding request_in
+returns-in-drill c = record {
+  answers = rw c.in-drill.is (made Drill _ c.ok_or.result c.map-in-drill.result (read _ _ _ c.drill_in.ensures.exact c.ok_or.ensures.value) c.map-in-drill.ensures.cases);
+  bounds = bounded Drill IsNamedProduct c.ok_or.result c.map-in-drill.result (λ x h. h) (read_bounded _ _ _ c.drill_in.ensures.bounds c.ok_or.ensures.value) c.map-in-drill.ensures.cases;
 }
