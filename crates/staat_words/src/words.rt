@@ -1,8 +1,6 @@
 // The reading of the command words.
-ghost use Rattle.std.specs.Prelude.{◌≡◌, bytes_eq, codes, if◌then◌else◌, map, string_bytes, true, false};
-ghost use Rattle.std.specs.Prelude.{IfOk, IsErrOf, None, Some, option_map};
+ghost use Rattle.std.specs.Prelude.{IfOk, Some, map, option_map, string_bytes};
 ghost use Rattle.clap.specs.Words.{found_of, rows_of, subcommand_rows_of};
-ghost use Rattle.staat_words.specs.Command.{is_taken, matches as matches_at};
 ghost use Rattle.staat_words.specs.Requests.{ReadsWords, HasBounds, IsAskedWithin, IsGraphRequestWithin};
 ghost use Rattle.staat_words.specs.Requests.{IsPairRequest};
 ghost use Rattle.staat_words.specs.Requests.{asked_in, cells_in, check_in, decide_in, explode_in, graph_in};
@@ -159,22 +157,6 @@ fn decide_of(alloc: Global, matches: &ArgMatches<'_>) -> Result<Request, Request
     }))
 }
 
-// The matches of words that `clap` takes.
-fn matches_of<'a>(alloc: Global, words: &'a [String]) -> Result<ArgMatches<'a>, RequestRefusal>
-    ensures taken { IfOk result (λ m. is_taken (map string_bytes words.entry.now) ≡ true) }
-    ensures matches { IfOk result (λ m. subcommand_rows_of m ≡ matches_at (map string_bytes words.entry.now)) }
-    ensures usage { IsErrOf result RequestRefusal.Usage → is_taken (map string_bytes words.entry.now) ≡ false }
-{
-    let command = staat_command(alloc)?;
-    match command.try_get_matches_from(words) {
-        Ok(matches) => Ok(matches),
-        Err(error) => match error.kind() {
-            ErrorKind::OutOfMemory => Err(RequestRefusal::OutOfMemory),
-            _ => Err(RequestRefusal::Usage),
-        },
-    }
-}
-
 // The request of a subcommand: a line for each command.
 #[tactic(auto, unfolding(crate::specs::Requests::request_in))]
 fn request_named(
@@ -205,15 +187,29 @@ fn request_named(
     }
 }
 
+// The request of the subcommand that was entered.
+#[tactic(auto, unfolding(crate::specs::Requests::request_in))]
+fn request_from(alloc: Global, matches: &ArgMatches<'_>) -> Result<Request, RequestRefusal>
+    ensures answers { ReadsWords (request_in (subcommand_rows_of matches.now)) result }
+    ensures bounds { IfOk result HasBounds }
+{
+    match matches.subcommand() {
+        Some((name, inner)) => request_named(alloc, name, inner),
+        None => Err(RequestRefusal::Usage),
+    }
+}
+
 /// The request of the words after the program's name. Usage comes exactly where they make none.
-#[tactic(auto, unfolding(crate::specs::Requests::request, crate::specs::Requests::request_in))]
 pub fn request_of(alloc: Global, words: &Vec<String>) -> Result<Request, RequestRefusal>
     ensures answers { ReadsWords (request (map string_bytes words.now.items)) result }
     ensures bounds { IfOk result HasBounds }
 {
-    let matches = matches_of(alloc, words.as_slice())?;
-    match matches.subcommand() {
-        Some((name, inner)) => request_named(alloc, name, inner),
-        None => Err(RequestRefusal::Usage),
+    let command = staat_command(alloc)?;
+    match command.try_get_matches_from(words.as_slice()) {
+        Ok(matches) => request_from(alloc, &matches),
+        Err(error) => match error.kind() {
+            ErrorKind::OutOfMemory => Err(RequestRefusal::OutOfMemory),
+            _ => Err(RequestRefusal::Usage),
+        },
     }
 }
