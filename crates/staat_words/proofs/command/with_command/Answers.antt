@@ -1,5 +1,5 @@
-use Rattle.std.proofs.Common.{◌∙◌, ◌||◌, ap, ap₂, sym}
-use Rattle.clap.specs.Words.{app_of, new_app, with_rule, with_subcommand}
+use Rattle.std.proofs.Common.{◌∙◌, ◌||◌, ap₂, sym}
+use Rattle.clap.specs.Words.{new_app, with_rule}
 use Rattle.staat_words.specs.Command.{plain_argument, with_argument}
 use Rattle.staat_words.proofs.Folds.{fold-map_more}
 use Rattle.staat_words.proofs.command.with_command.Goals as goal
