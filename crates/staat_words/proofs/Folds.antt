@@ -11,3 +11,9 @@ pub fold-map_more : {X Y Z : Type 0} (step : Z → Y → Z) (f : X → Y) (a : Z
 fold-map_more step f a xs i d lt =
     fold-map step f a (take (i + 1) xs) ∙ fold_more (λ z x. step z (f x)) a xs i d lt
     ∙ ap (λ z. step z (f (get_or xs i d))) (sym (fold-map step f a (take i xs)))
+
+pub fold-map_step : {X Y Z : Type 0} (step : Z → Y → Z) (f : X → Y) (a : Z) (xs : List X) (i : ℕ) (d : X) (so_far next : Z) → i < length xs
+    → so_far ≡ fold step a (map f (take i xs)) → next ≡ step so_far (f (get_or xs i d))
+    → next ≡ fold step a (map f (take (i + 1) xs))
+fold-map_step step f a xs i d so_far next lt was is =
+    is ∙ ap (λ z. step z (f (get_or xs i d))) was ∙ sym (fold-map_more step f a xs i d lt)

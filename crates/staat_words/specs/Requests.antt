@@ -47,11 +47,15 @@ digits_asked rows = natural_within MOST_DIGITS (unwrap_or (first_of (codes "digi
 unfoldable pub vector_in : Text → ℕ → List Row → Option V3
 vector_in id most rows = option_and_then (vector_within most) (first_of id rows)
 
+-- the number that a text spells, from the least one to the greatest one
+abbrev pub number_within : ℕ → ℕ → Text → Option ℕ
+number_within least most text = do
+  n ← natural_within most text
+  if nat_le least n then Some n else None
+
 -- the number of planes that a text spells, where there may be so many at most
 abbrev pub planes_within : ℕ → Text → Option ℕ
-planes_within most text = do
-  planes ← natural_within most text
-  if nat_le LEAST_PLANES planes then Some planes else None
+planes_within most text = number_within LEAST_PLANES most text
 
 -- what `--planes` gives, as many as there may be where it is not given
 abbrev pub planes_from : ℕ → Option Text → Option ℕ
@@ -71,9 +75,7 @@ limit_of robust planes = if robust && nat_lt MOST_CELL_PLANES planes then MOST_C
 
 -- the version of certificates that a text spells
 abbrev pub version_within : Text → Option ℕ
-version_within text = do
-  version ← natural_within 2 text
-  if nat_le 1 version then Some version else None
+version_within text = number_within 1 2 text
 
 -- which version a certificate has: what `--format` says, 2 where it is not given
 abbrev pub version_from : Option Text → Option ℕ
@@ -150,9 +152,7 @@ cells_in rows = do
 
 -- the number from 1 to the greatest one that a text spells
 abbrev pub count_within : ℕ → Text → Option ℕ
-count_within most text = do
-  n ← natural_within most text
-  if nat_le 1 n then Some n else None
+count_within most text = number_within 1 most text
 
 -- the product of this kind and size
 abbrev pub product_of : Text → Text → Option DrillProduct

@@ -1,12 +1,12 @@
 // The values of a subcommand's arguments, as `clap` found them.
-ghost use Rattle.std.specs.Prelude.{◌≡◌, ◌≤◌, ◌≢◌, None, Some, codes, map, option_map, IfSome, IfOk, ℕ};
+ghost use Rattle.std.specs.Prelude.{◌≡◌, ◌≤◌, ◌≢◌, map, option_map, IfSome, IfOk};
 ghost use Rattle.clap.specs.Words.{all_of, first_of, found_of, rows_of};
 ghost use Rattle.staat_vec.specs.Vectors.{IsWithin, origin};
 ghost use Rattle.staat_limits.specs.Versions.{IsVersion};
 ghost use Rattle.staat_limits.specs.declared.limits.TheConstants.{LEAST_PLANES};
 ghost use Rattle.staat_words.specs.Requests.{ReadsWords, IsInputWithin, IsNamedProduct, certificate_in};
-ghost use Rattle.staat_words.specs.Requests.{count_within, digits_asked, input_from, input_in, is_given, limit_of, product_of};
-ghost use Rattle.staat_words.specs.Requests.{planes_in, planes_within, vector_in, version_from, version_within};
+ghost use Rattle.staat_words.specs.Requests.{digits_asked, drill_in, input_in, is_given, limit_of, number_within};
+ghost use Rattle.staat_words.specs.Requests.{planes_in, vector_in};
 
 use crate::request::{DrillProduct, Input, RequestRefusal};
 use crate::vector::vector_of;
@@ -42,17 +42,17 @@ pub fn digits_of(matches: &ArgMatches<'_>) -> Result<u32, RequestRefusal>
     Ok(n as u32)
 }
 
-// The number of planes that a text spells, where there may be so many at most.
-fn planes_within(text: &str, most: u32) -> Option<u32>
-    ensures exact { result ≡ planes_within most text.now }
-    ensures least { IfSome result (λ n. LEAST_PLANES ≤ n) }
+// The number that a text spells, from the least one to the greatest one.
+fn number_of(text: &str, least: u32, most: u32) -> Option<u32>
+    ensures exact { result ≡ number_within least most text.now }
+    ensures least { IfSome result (λ n. least ≤ n) }
     ensures most { IfSome result (λ n. n ≤ most) }
 {
-    let planes = natural_of(text, u128::from(most))?;
-    if planes < u128::from(LEAST_PLANES) {
+    let n = natural_of(text, u128::from(most))?;
+    if n < u128::from(least) {
         return None;
     }
-    Some(planes as u32)
+    Some(n as u32)
 }
 
 /// The option `--planes`, as many as there may be where it is not given.
@@ -65,7 +65,7 @@ pub fn planes_of(matches: &ArgMatches<'_>, most: u32) -> Result<u32, RequestRefu
 {
     match value_of(matches, "planes") {
         None => Ok(most),
-        Some(text) => planes_within(text, most).ok_or(RequestRefusal::Usage),
+        Some(text) => number_of(text, LEAST_PLANES, most).ok_or(RequestRefusal::Usage),
     }
 }
 
@@ -73,10 +73,7 @@ pub fn planes_of(matches: &ArgMatches<'_>, most: u32) -> Result<u32, RequestRefu
 pub fn is_given(matches: &ArgMatches<'_>, id: &str) -> bool
     ensures { result ≡ is_given id.now (rows_of (found_of matches.now)) }
 {
-    match value_of(matches, id) {
-        Some(text) => text == "true",
-        None => false,
-    }
+    matches!(value_of(matches, id), Some("true"))
 }
 
 /// How many planes there may be: in a robust plan no more than those whose cells are listed.
@@ -90,29 +87,6 @@ pub fn limit_of(robust: bool, planes: u32) -> u32
     }
 }
 
-// The version of certificates that a text spells.
-fn version_within(text: &str) -> Option<u32>
-    ensures exact { result ≡ version_within text.now }
-    ensures version { IfSome result IsVersion }
-{
-    let version = natural_of(text, 2)?;
-    if version == 0 {
-        return None;
-    }
-    Some(version as u32)
-}
-
-// Which version a certificate has.
-fn version_of(matches: &ArgMatches<'_>) -> Option<u32>
-    ensures exact { result ≡ version_from (first_of (codes "format") (rows_of (found_of matches.now))) }
-    ensures version { IfSome result IsVersion }
-{
-    match value_of(matches, "format") {
-        None => Some(2),
-        Some(text) => version_within(text),
-    }
-}
-
 /// The version of the certificate, where the flag `--cert` asks for one: that of the option `--format`, 2 where it is
 /// not given. Usage comes where the flag is not given and the option is.
 #[tactic(auto, unfolding(crate::specs::Requests::certificate_in))]
@@ -120,42 +94,26 @@ pub fn certificate_of(matches: &ArgMatches<'_>) -> Result<Option<u32>, RequestRe
     ensures answers { ReadsWords (certificate_in (rows_of (found_of matches.now))) result }
     ensures version { IfOk result (λ certificate. IfSome certificate IsVersion) }
 {
-    if is_given(matches, "cert") {
-        let version = version_of(matches).ok_or(RequestRefusal::Usage)?;
-        return Ok(Some(version));
-    }
-    match value_of(matches, "format") {
-        None => Ok(None),
-        Some(_) => Err(RequestRefusal::Usage),
+    match (is_given(matches, "cert"), value_of(matches, "format")) {
+        (true, None) => Ok(Some(2)),
+        (true, Some(text)) => Ok(Some(number_of(text, 1, 2).ok_or(RequestRefusal::Usage)?)),
+        (false, None) => Ok(None),
+        (false, Some(_)) => Err(RequestRefusal::Usage),
     }
 }
 
-// The number from 1 to the greatest one that a text spells.
-fn count_within(text: &str, most: u32) -> Option<u32>
-    ensures exact { result ≡ count_within most text.now }
-    ensures least { IfSome result (λ n. 1 ≤ n) }
-    ensures most { IfSome result (λ n. n ≤ most) }
-{
-    let n = natural_of(text, u128::from(most))?;
-    if n < 1 {
-        return None;
-    }
-    Some(n as u32)
-}
-
-/// The product of this kind and size.
-pub fn product_of(kind: &str, number: &str) -> Option<DrillProduct>
-    ensures exact { result ≡ product_of kind.now number.now }
+/// The product of the kind and size that are given.
+#[tactic(auto, unfolding(crate::specs::Requests::drill_in))]
+pub fn drill_in(matches: &ArgMatches<'_>) -> Option<DrillProduct>
+    ensures exact { result ≡ drill_in (rows_of (found_of matches.now)) }
     ensures bounds { IfSome result IsNamedProduct }
 {
-    if kind == "row" {
-        let n = count_within(number, MOST_PARTS)?;
-        Some(DrillProduct::Cubes(n))
-    } else if kind == "box" {
-        let n = count_within(number, MOST_BOXES)?;
-        Some(DrillProduct::Boxes(n))
-    } else {
-        None
+    let kind = value_of(matches, "kind")?;
+    let number = value_of(matches, "number")?;
+    match kind {
+        "row" => Some(DrillProduct::Cubes(number_of(number, 1, MOST_PARTS)?)),
+        "box" => Some(DrillProduct::Boxes(number_of(number, 1, MOST_BOXES)?)),
+        _ => None,
     }
 }
 
@@ -173,19 +131,12 @@ pub fn vector_in(matches: &ArgMatches<'_>, id: &str, most: u128) -> Result<V3, R
     }
 }
 
-// The name that a word is.
-fn name_of(alloc: Global, word: &str) -> Result<Name, AllocError>
-    ensures { IfOk result (λ n. n ≡ word.now) }
-{
-    Ok(Name::from_string(String::from_str(alloc, word)?))
-}
-
 /// The name that an argument gives.
 pub fn name_in(alloc: Global, matches: &ArgMatches<'_>, id: &str) -> Result<Name, RequestRefusal>
     ensures { ReadsWords (first_of id.now (rows_of (found_of matches.now))) result }
 {
     match value_of(matches, id) {
-        Some(word) => Ok(name_of(alloc, word)?),
+        Some(word) => Ok(Name::from_text(alloc, word)?),
         None => Err(RequestRefusal::Usage),
     }
 }
@@ -196,32 +147,9 @@ fn names_of(alloc: Global, words: &[&str]) -> Result<Names, AllocError>
 {
     let mut names = Vec::new(alloc);
     for word in words {
-        names.push(name_of(alloc, word)?)?;
+        names.push(Name::from_text(alloc, word)?)?;
     }
     Ok(Names::from_vec(names))
-}
-
-// The part list of that name, unless files are named too.
-fn list_alone(alloc: Global, name: &str, files: Option<&[&str]>) -> Result<Input, RequestRefusal>
-    ensures answers { (most : ℕ) → ReadsWords
-        (input_from most (Some name.now) (option_map (λ s. map (λ v. v.now) s.now) files.entry)) result }
-    ensures bounds { (most : ℕ) → IfOk result (IsInputWithin most) }
-{
-    if files.is_some() {
-        return Err(RequestRefusal::Usage);
-    }
-    Ok(Input::Manifest(name_of(alloc, name)?))
-}
-
-// 1 to so many files.
-fn files_within(alloc: Global, files: Option<&[&str]>, most: u32) -> Result<Input, RequestRefusal>
-    ensures { ReadsWords (input_from most None (option_map (λ s. map (λ v. v.now) s.now) files.entry)) result }
-{
-    let files = files.ok_or(RequestRefusal::Usage)?;
-    if files.is_empty() || files.len() > most as usize {
-        return Err(RequestRefusal::Usage);
-    }
-    Ok(Input::Files(names_of(alloc, files)?))
 }
 
 /// Where the parts come from: either a part list, or 1 to so many files.
@@ -230,9 +158,11 @@ pub fn input_of(alloc: Global, matches: &ArgMatches<'_>, most: u32) -> Result<In
     ensures answers { ReadsWords (input_in most (rows_of (found_of matches.now))) result }
     ensures bounds { IfOk result (IsInputWithin most) }
 {
-    let files = values_of(matches, "files");
-    match value_of(matches, "manifest") {
-        Some(name) => list_alone(alloc, name, files),
-        None => files_within(alloc, files, most),
+    match (value_of(matches, "manifest"), values_of(matches, "files")) {
+        (Some(list), None) => Ok(Input::Manifest(Name::from_text(alloc, list)?)),
+        (None, Some(files)) if !files.is_empty() && files.len() <= most as usize => {
+            Ok(Input::Files(names_of(alloc, files)?))
+        }
+        _ => Err(RequestRefusal::Usage),
     }
 }

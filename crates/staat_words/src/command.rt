@@ -1,7 +1,7 @@
 // The command that `clap` reads the words by: long options alone, files as plain words.
-ghost use Rattle.std.specs.Prelude.{◌≡◌, IfOk, map, true, false};
+ghost use Rattle.std.specs.Prelude.{◌≡◌, IfOk, fold, map, true, false};
 ghost use Rattle.clap.specs.Words.{app_of, rule_of};
-ghost use Rattle.staat_words.specs.Command.{app, argument_rule, command, commands, IsLocal, plain};
+ghost use Rattle.staat_words.specs.Command.{argument_rule, command, plain, with_command};
 
 use Kind::{Flag, Optional, Required, Word, Words};
 use clap::{Arg, ArgAction, Command};
@@ -30,129 +30,125 @@ pub struct CommandRow<'a> {
 }
 
 // All commands: a row for each.
-fn commands<'a>() -> [CommandRow<'a>; 13]
-    ensures { map plain result ≡ commands }
-{
-    [
-        CommandRow {
-            name: "pair",
-            arguments: &[
-                ("digits", Optional),
-                ("along", Required),
-                ("wall", Required),
-                ("first", Word),
-                ("second", Word),
-            ],
-        },
-        CommandRow {
-            name: "look",
-            arguments: &[
-                ("digits", Optional),
-                ("manifest", Optional),
-                ("files", Words),
-            ],
-        },
-        CommandRow {
-            name: "graph",
-            arguments: &[
-                ("digits", Optional),
-                ("manifest", Optional),
-                ("along", Required),
-                ("files", Words),
-            ],
-        },
-        CommandRow {
-            name: "plan",
-            arguments: &[
-                ("digits", Optional),
-                ("manifest", Optional),
-                ("planes", Optional),
-                ("robust", Flag),
-                ("cert", Flag),
-                ("format", Optional),
-                ("files", Words),
-            ],
-        },
-        CommandRow {
-            name: "check",
-            arguments: &[
-                ("digits", Optional),
-                ("manifest", Optional),
-                ("certificate", Word),
-                ("files", Words),
-            ],
-        },
-        CommandRow {
-            name: "cells",
-            arguments: &[
-                ("digits", Optional),
-                ("manifest", Optional),
-                ("planes", Optional),
-                ("files", Words),
-            ],
-        },
-        CommandRow {
-            name: "drill",
-            arguments: &[("kind", Word), ("number", Word)],
-        },
-        CommandRow {
-            name: "explode",
-            arguments: &[
-                ("digits", Optional),
-                ("manifest", Optional),
-                ("planes", Optional),
-                ("off", Flag),
-                ("files", Words),
-            ],
-        },
-        CommandRow {
-            name: "linear",
-            arguments: &[
-                ("digits", Optional),
-                ("manifest", Optional),
-                ("planes", Optional),
-                ("files", Words),
-            ],
-        },
-        CommandRow {
-            name: "local",
-            arguments: &[
-                ("digits", Optional),
-                ("manifest", Optional),
-                ("planes", Optional),
-                ("files", Words),
-            ],
-        },
-        CommandRow {
-            name: "decide",
-            arguments: &[
-                ("digits", Optional),
-                ("manifest", Optional),
-                ("rest", Flag),
-                ("cert", Flag),
-                ("files", Words),
-            ],
-        },
-        CommandRow {
-            name: "confirm",
-            arguments: &[
-                ("digits", Optional),
-                ("manifest", Optional),
-                ("certificate", Word),
-                ("files", Words),
-            ],
-        },
-        CommandRow {
-            name: "blocks",
-            arguments: &[
-                ("digits", Optional),
-                ("manifest", Optional),
-                ("along", Required),
-                ("files", Words),
-            ],
-        },
-    ]
-}
+static COMMANDS: [CommandRow<'static>; 13] = [
+    CommandRow {
+        name: "pair",
+        arguments: &[
+            ("digits", Optional),
+            ("along", Required),
+            ("wall", Required),
+            ("first", Word),
+            ("second", Word),
+        ],
+    },
+    CommandRow {
+        name: "look",
+        arguments: &[
+            ("digits", Optional),
+            ("manifest", Optional),
+            ("files", Words),
+        ],
+    },
+    CommandRow {
+        name: "graph",
+        arguments: &[
+            ("digits", Optional),
+            ("manifest", Optional),
+            ("along", Required),
+            ("files", Words),
+        ],
+    },
+    CommandRow {
+        name: "plan",
+        arguments: &[
+            ("digits", Optional),
+            ("manifest", Optional),
+            ("planes", Optional),
+            ("robust", Flag),
+            ("cert", Flag),
+            ("format", Optional),
+            ("files", Words),
+        ],
+    },
+    CommandRow {
+        name: "check",
+        arguments: &[
+            ("digits", Optional),
+            ("manifest", Optional),
+            ("certificate", Word),
+            ("files", Words),
+        ],
+    },
+    CommandRow {
+        name: "cells",
+        arguments: &[
+            ("digits", Optional),
+            ("manifest", Optional),
+            ("planes", Optional),
+            ("files", Words),
+        ],
+    },
+    CommandRow {
+        name: "drill",
+        arguments: &[("kind", Word), ("number", Word)],
+    },
+    CommandRow {
+        name: "explode",
+        arguments: &[
+            ("digits", Optional),
+            ("manifest", Optional),
+            ("planes", Optional),
+            ("off", Flag),
+            ("files", Words),
+        ],
+    },
+    CommandRow {
+        name: "linear",
+        arguments: &[
+            ("digits", Optional),
+            ("manifest", Optional),
+            ("planes", Optional),
+            ("files", Words),
+        ],
+    },
+    CommandRow {
+        name: "local",
+        arguments: &[
+            ("digits", Optional),
+            ("manifest", Optional),
+            ("planes", Optional),
+            ("files", Words),
+        ],
+    },
+    CommandRow {
+        name: "decide",
+        arguments: &[
+            ("digits", Optional),
+            ("manifest", Optional),
+            ("rest", Flag),
+            ("cert", Flag),
+            ("files", Words),
+        ],
+    },
+    CommandRow {
+        name: "confirm",
+        arguments: &[
+            ("digits", Optional),
+            ("manifest", Optional),
+            ("certificate", Word),
+            ("files", Words),
+        ],
+    },
+    CommandRow {
+        name: "blocks",
+        arguments: &[
+            ("digits", Optional),
+            ("manifest", Optional),
+            ("along", Required),
+            ("files", Words),
+        ],
+    },
+];
 
 // An argument as `clap` takes it.
 fn argument<'a>(alloc: Global, id: &'a str, kind: Kind) -> Arg<'a>
@@ -169,16 +165,33 @@ fn argument<'a>(alloc: Global, id: &'a str, kind: Kind) -> Arg<'a>
     }
 }
 
-// A command as `clap` takes it.
-fn subcommand<'a>(alloc: Global, row: &CommandRow<'a>) -> Result<Command<'a>, AllocError>
-    ensures app { IfOk result (λ c. app_of c ≡ app (plain row.now)) }
-    ensures local { IfOk result IsLocal }
+// The whole command with one subcommand more.
+fn with_command<'a>(
+    alloc: Global,
+    whole: Command<'a>,
+    row: &CommandRow<'a>,
+) -> Result<Command<'a>, AllocError>
+    ensures { IfOk result (λ c. app_of c ≡ with_command (app_of whole.entry) (plain row.now)) }
 {
     let mut command = Command::new(alloc, row.name);
     for (id, kind) in row.arguments {
         command = command.arg(argument(alloc, id, *kind))?;
     }
-    Ok(command)
+    whole.subcommand(command)
+}
+
+// The whole command with a subcommand more for each row.
+fn with_commands<'a>(
+    alloc: Global,
+    mut whole: Command<'a>,
+    rows: &[CommandRow<'a>],
+) -> Result<Command<'a>, AllocError>
+    ensures { IfOk result (λ c. app_of c ≡ fold with_command (app_of whole.entry) (map plain rows.now)) }
+{
+    for row in rows {
+        whole = with_command(alloc, whole, row)?;
+    }
+    Ok(whole)
 }
 
 /// The whole command: a subcommand for each kind of request.
@@ -186,12 +199,8 @@ fn subcommand<'a>(alloc: Global, row: &CommandRow<'a>) -> Result<Command<'a>, Al
 pub fn staat_command<'a>(alloc: Global) -> Result<Command<'a>, AllocError>
     ensures { IfOk result (λ c. app_of c ≡ command) }
 {
-    let mut command = Command::new(alloc, "staat")
+    let command = Command::new(alloc, "staat")
         .no_binary_name(true)
         .subcommand_required(true);
-    let rows = commands();
-    for row in &rows {
-        command = command.subcommand(subcommand(alloc, row)?)?;
-    }
-    Ok(command)
+    with_commands(alloc, command, &COMMANDS)
 }

@@ -2,7 +2,7 @@ use Rattle.std.proofs.Common.{◌∙◌, ◌||◌, ap₂, sym}
 use Rattle.clap.specs.Words.{new_app, with_rule}
 use Rattle.staat_words.specs.Command.{plain_argument, with_argument}
 use Rattle.staat_words.proofs.Folds.{fold-map_more}
-use Rattle.staat_words.proofs.command.subcommand.Goals as goal
+use Rattle.staat_words.proofs.command.with_command.Goals as goal
 
 pub loop-id-preserved : goal.loop-id-preserved
 loop-id-preserved c = record {
