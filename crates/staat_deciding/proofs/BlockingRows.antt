@@ -1,16 +1,15 @@
 -- The rows that tell which parts of a product block which are those of its blocking graph.
-use Rattle.std.proofs.Common.{◌≡◌, ◌∙◌, ◌↔◌, ◌<◌, ◌≤◌, ℕ, Bool, false, List, [], IsTrue, Ok, arith, ap, get_or, length, map, subst, sym, zero-add}
+use Rattle.std.proofs.Common.{◌≡◌, ◌∙◌, ◌↔◌, ◌<◌, ℕ, Bool, false, List, [], IsTrue, Ok, arith, ap, get_or, length, map, subst, sym, zero-add}
 use Rattle.std.specs.List.{range_with_len}
 use Rattle.std.proofs.lemmas.Grind.{get_or_default_zero}
 use Rattle.std.proofs.lemmas.List.FromFn.{get_or-range_with_len, length-range_with_len}
 use Rattle.staat_vec.specs.declared.vector.V3.{V3}
 use Rattle.staat_model.specs.declared.assembly.Part.{Part}
 use Rattle.staat_model.specs.Removal.{Blocks}
-use Rattle.staat_model.specs.Sets.{Has, below}
+use Rattle.staat_model.specs.Sets.{below}
 use Rattle.staat_model.proofs.SetBits.{has-below}
 use Rattle.staat_motion.proofs.Zips.{zip_read}
 use Rattle.staat_graph.specs.Blocking.{ShowsBlocking}
-use Rattle.staat_graph.specs.Graphs.{HasArc}
 use Rattle.staat_graph.specs.Rows.{HasMark, IsSquare, row_word}
 use Rattle.staat_graph.proofs.RowLemmas.{arc_mark}
 use Rattle.staat_text.specs.GraphTexts.{IsGraphText}

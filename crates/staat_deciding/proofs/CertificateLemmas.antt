@@ -1,6 +1,5 @@
 -- What a certificate's text is an answer to.
 use Rattle.std.proofs.Common.{◌≡◌, ◌≤◌, Bool, List, length, Ok, Err, ap₂, refl, arith}
-use Rattle.std.specs.Prelude.{Result}
 use Rattle.staat_limits.specs.declared.limits.TheConstants.{TEXT_LIMIT}
 use Rattle.staat_model.specs.declared.assembly.Part.{Part}
 use Rattle.staat_model.specs.declared.refusal.TextRefusal.{TextRefusal}

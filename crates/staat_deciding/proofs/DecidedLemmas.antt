@@ -1,6 +1,6 @@
 -- What a decision is written as.
-use Rattle.std.proofs.Common.{◌≡◌, ◌∙◌, ◌<◌, ◌≤◌, ℕ, ◌+◌, Bool, true, false, List, [], ◌∷◌, All, Ok, ap, ap₂, arith, length}
-use Rattle.std.specs.Prelude.{◌^◌, cond, Result}
+use Rattle.std.proofs.Common.{◌≡◌, ◌<◌, ◌≤◌, ℕ, ◌+◌, Bool, true, false, List, [], ◌∷◌, All, Ok, ap₂, arith, length}
+use Rattle.std.specs.Prelude.{◌^◌, cond}
 use Rattle.std.specs.FinSet as set
 use Rattle.std.specs.Cmp.{nat_cmp_total}
 use Rattle.std.specs.Ordering.{nat_cmp}
@@ -18,9 +18,8 @@ use Rattle.staat_text.specs.PlanTexts.{HasLeaves, plan_text}
 use Rattle.staat_text.proofs.PlanSteps.{product_leaves}
 use Rattle.staat_input.specs.declared.answer.Answer.{Answer}
 use Rattle.staat_input.specs.Counting.{all_parts}
-use Rattle.staat_input.specs.Work.{Follows, answer}
-use Rattle.staat_fault.specs.declared.fault.Fault.{Fault}
-use Rattle.staat_deciding.specs.Deciding.{IsDecided, IsDecidedAs, IsDecidedDown, IsDecidedShort, apart, held}
+use Rattle.staat_input.specs.Work.{answer}
+use Rattle.staat_deciding.specs.Deciding.{IsDecided, apart, held}
 
 pub few_pieces : (parts : List Part) → IsProduct parts → All (λ part. length part.pieces < 2 ^ 32) parts
 few_pieces parts is i d lt =
@@ -62,30 +61,6 @@ pub hold_decided : (parts : List Part) (hold : Hold) (a : Answer) → IsStuckHol
 hold_decided parts hold a is s t =
     let two = is.stuck.two in
     held hold.nodes is.nodes_are.ascending (omega (arith, len_list hold.nodes, two)) is.within is.stuck (ap₂ (λ x y. Ok (answer x y)) s t)
-
--- ---- as the flags ask
-
-pub plain_as : (parts : List Part) (rest certificate : Bool) (a : Answer) → certificate ≡ false → rest ≡ false → IsDecided parts (Ok a) → IsDecidedAs rest certificate parts (Ok a)
-plain_as parts false false a plain few d = d
-plain_as parts true certificate a plain few d = absurd cc
-plain_as parts false true a plain few d = absurd cc
-
-pub down_as : (parts : List Part) (rest certificate : Bool) (a : Answer) → certificate ≡ false → rest ≡ true → IsDecidedDown parts (Ok a) → IsDecidedAs rest certificate parts (Ok a)
-down_as parts true false a plain all d = d
-down_as parts false certificate a plain all d = absurd cc
-down_as parts true true a plain all d = absurd cc
-
-pub short_as : (parts : List Part) (rest certificate : Bool) (r : Result Answer Fault) → certificate ≡ true → rest ≡ false → Follows (IsDecidedShort false parts) r → Follows (IsDecidedAs rest certificate parts) r
-short_as parts false true r short few d = d
-short_as parts true certificate r short few d = absurd cc
-short_as parts false false r short few d = absurd cc
-
-pub short_down_as : (parts : List Part) (rest certificate : Bool) (r : Result Answer Fault) → certificate ≡ true → rest ≡ true → Follows (IsDecidedShort true parts) r → Follows (IsDecidedAs rest certificate parts) r
-short_down_as parts true true r short all d = d
-short_down_as parts false certificate r short all d = absurd cc
-short_down_as parts true false r short all d = absurd cc
-
-pub ruleset cases = (plain_as, down_as, short_as, short_down_as)
 
 pub ruleset deciding = (good_shown, numbers_small, plan_decided, hold_decided)
 

@@ -1,17 +1,13 @@
 -- What a plan that takes a product apart down to groups is written as.
-use Rattle.std.proofs.Common.{◌≡◌, ◌∙◌, ◌↔◌, ◌<◌, ℕ, Bool, true, false, List, [], Ok, ap₂, arith, length, subst, sym, true≢false}
+use Rattle.std.proofs.Common.{◌≡◌, ◌∙◌, ◌↔◌, Bool, true, false, List, Ok, ap₂, arith, length, subst, sym, true≢false}
 use Rattle.std.specs.Prelude.{IsTrue}
-use Rattle.std.specs.List.Sorted.{IsStrictlySortedBy}
-use Rattle.std.specs.Ordering.{nat_cmp}
 use Rattle.staat_model.specs.declared.assembly.Part.{Part}
 use Rattle.staat_model.specs.declared.set.PartSet.{PartSet}
 use Rattle.staat_model.specs.Assemblies.{IsProduct}
-use Rattle.staat_model.specs.Outcomes.{planned}
 use Rattle.staat_model.specs.Sets.{Has, below}
 use Rattle.staat_model.proofs.SetBits.{has-below}
 use Rattle.staat_holds.specs.declared.grouped.GroupedTree.{GroupedTree, Leaf, Group, Split'}
-use Rattle.staat_holds.specs.Partials.{HasShownGroups, HasTogether, IsShownRest, partial_of, parts_in}
-use Rattle.staat_text.specs.PlanTexts.{plan_text}
+use Rattle.staat_holds.specs.Partials.{HasShownGroups, HasTogether, IsShownRest, partial_of}
 use Rattle.staat_input.specs.declared.answer.Answer.{Answer}
 use Rattle.staat_input.specs.Work.{answer}
 use Rattle.staat_deciding.specs.Deciding.{IsDecidedDown, all_apart, some_apart}

@@ -1,5 +1,5 @@
 -- What statuses 0 and 1 of `decide` and `blocks` mean.
-use Rattle.std.proofs.Common.{◌≡◌, ◌<◌, ℕ, List, [], arith, inl, inr, length, refl, subst}
+use Rattle.std.proofs.Common.{◌≡◌, List, arith, inl, inr}
 use Rattle.std.specs.Prelude.{Ok}
 use Rattle.staat_model.specs.declared.assembly.Part.{Part}
 use Rattle.staat_words.specs.Requests.{IsBlocksRequest}

@@ -1,5 +1,5 @@
 // The command `blocks`: who blocks whom along a direction, in a product of any size.
-ghost use Rattle.std.specs.Prelude.{◌≡◌, ◌≤◌, ◌<◌, Ok, IfOk, IfErr};
+ghost use Rattle.std.specs.Prelude.{◌≡◌, ◌≤◌, ◌<◌, IfOk, IfErr};
 ghost use Rattle.std.specs.Prelude.{[]};
 ghost use Rattle.staat_input.specs.Opened.{OpensSomeOf};
 ghost use Rattle.staat_input.specs.declared.limits.TheConstants.Limits.{PRODUCT};
@@ -8,7 +8,7 @@ ghost use Rattle.staat_words.specs.Requests.{IsBlocksRequest};
 ghost use Rattle.staat_directions.specs.Graphing.{IsGraphed};
 ghost use Rattle.staat_edge.specs.Fitting.{Fit};
 ghost use Rattle.staat_input.specs.Work.{Files, Follows};
-ghost use Rattle.staat_input.specs.Causes.{HasCause, over};
+ghost use Rattle.staat_input.specs.Causes.{HasCause, ShelfSide, over};
 ghost use Rattle.staat_deciding.specs.Blocks.{BlocksWork};
 
 use staat_cone::Scan;
@@ -19,15 +19,16 @@ use staat_input::{Answer, read_product};
 use staat_model::SoundProduct;
 use staat_motion::{Along, Bodies};
 use staat_text::rows_text;
-use staat_vec::{DIRECTION, OutOfMemory, V3};
+use staat_vec::{DIRECTION, V3};
 use staat_words::GraphRequest;
 use std::alloc::Global;
 
 // The text of the blocking graph along a direction. Each two parts are asked about once, in either order.
-fn graphed(alloc: Global, product: &SoundProduct, along: V3) -> Result<Answer, OutOfMemory>
+fn graphed(alloc: Global, product: &SoundProduct, along: V3) -> Result<Answer, Fault>
     requires { IsWithin DIRECTION along }
     ensures status { IfOk result (λ a. a.status < 2) }
-    ensures graphed { IfOk result (λ a. IsGraphed product.now along (Ok a)) }
+    ensures graphed { Follows (IsGraphed product.now along) result }
+    ensures cause { (shelf : ShelfSide) → IfErr result (HasCause shelf) }
 {
     let parts = product.product().as_slice();
     let bodies = Bodies::of(alloc, parts)?;
@@ -55,6 +56,5 @@ pub fn blocks<H: Shelf>(
     ensures cause { IfErr result (HasCause (over (H.told shelf.old) (H.told shelf.new))) }
 {
     let product = read_product(alloc, shelf, &request.asked)?;
-    let answer = graphed(alloc, &product, request.along)?;
-    Ok(answer)
+    graphed(alloc, &product, request.along)
 }

@@ -1,5 +1,5 @@
 // The command `decide`: a plan that takes a product of any size apart, or parts of it that are stuck.
-ghost use Rattle.std.specs.Prelude.{◌≡◌, ◌≤◌, ◌<◌, Ok, IfOk, IfErr, false, true};
+ghost use Rattle.std.specs.Prelude.{◌≡◌, ◌≤◌, ◌<◌, IfOk, IfErr, false, true};
 ghost use Rattle.std.specs.Prelude.{[]};
 ghost use Rattle.staat_input.specs.Opened.{OpensSomeOf};
 ghost use Rattle.staat_input.specs.declared.limits.TheConstants.Limits.{PRODUCT};
@@ -28,17 +28,17 @@ use staat_input::{Answer, read_product};
 use staat_model::{Part, SoundProduct};
 use staat_rest::plan_to_groups;
 use staat_text::{steps_text, stuck_text};
-use staat_vec::OutOfMemory;
 use staat_words::DecideRequest;
 use std::alloc::Global;
 
 // The answer for what the parts of a product come to.
 #[tactic(auto, using(crate::proofs::DecidedLemmas::deciding))]
-fn answer_of(alloc: Global, parts: &[Part], decision: &Decision) -> Result<Answer, OutOfMemory>
+fn answer_of(alloc: Global, parts: &[Part], decision: &Decision) -> Result<Answer, Fault>
     requires product { IsProduct parts.now }
     requires decision { IsDecision parts.now (all_parts parts.now) decision.now }
     ensures status { IfOk result (λ a. a.status < 2) }
-    ensures decided { IfOk result (λ a. IsDecided parts.now (Ok a)) }
+    ensures decided { Follows (IsDecided parts.now) result }
+    ensures cause { (shelf : ShelfSide) → IfErr result (HasCause shelf) }
 {
     match decision {
         Decision::Apart(tree) => {
@@ -52,24 +52,14 @@ fn answer_of(alloc: Global, parts: &[Part], decision: &Decision) -> Result<Answe
     }
 }
 
-// The answer for a product: the steps of a plan that takes all parts apart, or parts that are stuck.
-#[tactic(auto, using(crate::proofs::DecidedLemmas::bounds))]
-fn decided(alloc: Global, product: &SoundProduct) -> Result<Answer, OutOfMemory>
-    ensures status { IfOk result (λ a. a.status < 2) }
-    ensures decided { IfOk result (λ a. IsDecided product.now (Ok a)) }
-{
-    let parts = product.product().as_slice();
-    let decision = staat_decide::decide(alloc, &Scan, parts)?;
-    answer_of(alloc, parts, &decision)
-}
-
 // The answer for the plan that parts come to where all is taken apart that comes apart.
 #[tactic(auto, using(crate::proofs::DownLemmas::writing))]
-fn down_answer(alloc: Global, parts: &[Part], tree: &GroupedTree) -> Result<Answer, OutOfMemory>
+fn down_answer(alloc: Global, parts: &[Part], tree: &GroupedTree) -> Result<Answer, Fault>
     requires product { IsProduct parts.now }
     requires shown { IsShownRest parts.now tree.now }
     ensures status { IfOk result (λ a. a.status < 2) }
-    ensures decided { IfOk result (λ a. IsDecidedDown parts.now (Ok a)) }
+    ensures decided { Follows (IsDecidedDown parts.now) result }
+    ensures cause { (shelf : ShelfSide) → IfErr result (HasCause shelf) }
 {
     let text = rest_text(alloc, tree)?;
     if has_groups(tree) {
@@ -77,17 +67,6 @@ fn down_answer(alloc: Global, parts: &[Part], tree: &GroupedTree) -> Result<Answ
     } else {
         Ok(Answer { status: 0, text })
     }
-}
-
-// The answer for a product where all is taken apart that comes apart: the steps, and the groups that are stuck.
-#[tactic(auto, using(crate::proofs::DecidedLemmas::bounds))]
-fn decided_down(alloc: Global, product: &SoundProduct) -> Result<Answer, OutOfMemory>
-    ensures status { IfOk result (λ a. a.status < 2) }
-    ensures decided { IfOk result (λ a. IsDecidedDown product.now (Ok a)) }
-{
-    let parts = product.product().as_slice();
-    let tree = plan_to_groups(alloc, &Scan, parts)?;
-    down_answer(alloc, parts, &tree)
 }
 
 // The certificate of what the parts of a product come to, as an answer.
@@ -113,16 +92,21 @@ fn certificate_answer(
     }
 }
 
-// The certificate of what a product comes to, as an answer.
+// The answer for a product: the steps of a plan that takes all parts apart, or parts that are stuck; or the
+// certificate of either.
 #[tactic(auto, using(crate::proofs::DecidedLemmas::bounds))]
-fn certified(alloc: Global, product: &SoundProduct) -> Result<Answer, Fault>
+fn decided(alloc: Global, product: &SoundProduct, certificate: bool) -> Result<Answer, Fault>
     ensures status { IfOk result (λ a. a.status < 2) }
-    ensures decided { Follows (IsDecidedShort false product.now) result }
+    ensures decided { Follows (IsDecidedAs false certificate product.now) result }
     ensures cause { (shelf : ShelfSide) → IfErr result (HasCause shelf) }
 {
     let parts = product.product().as_slice();
     let decision = staat_decide::decide(alloc, &Scan, parts)?;
-    certificate_answer(alloc, product, decision)
+    if certificate {
+        certificate_answer(alloc, product, decision)
+    } else {
+        answer_of(alloc, parts, &decision)
+    }
 }
 
 // The certificate of a plan down to groups, as an answer.
@@ -145,20 +129,24 @@ fn down_certificate_answer(
     }
 }
 
-// The certificate of what a product comes to where all is taken apart that comes apart, as an answer.
+// The answer for a product where all is taken apart that comes apart: the steps, and the groups that are stuck; or
+// the certificate of them.
 #[tactic(auto, using(crate::proofs::DecidedLemmas::bounds))]
-fn certified_down(alloc: Global, product: &SoundProduct) -> Result<Answer, Fault>
+fn decided_down(alloc: Global, product: &SoundProduct, certificate: bool) -> Result<Answer, Fault>
     ensures status { IfOk result (λ a. a.status < 2) }
-    ensures decided { Follows (IsDecidedShort true product.now) result }
+    ensures decided { Follows (IsDecidedAs true certificate product.now) result }
     ensures cause { (shelf : ShelfSide) → IfErr result (HasCause shelf) }
 {
     let parts = product.product().as_slice();
     let tree = plan_to_groups(alloc, &Scan, parts)?;
-    down_certificate_answer(alloc, product, tree)
+    if certificate {
+        down_certificate_answer(alloc, product, tree)
+    } else {
+        down_answer(alloc, parts, &tree)
+    }
 }
 
 // The answer for a product, as the flags ask.
-#[tactic(auto, using(crate::proofs::DecidedLemmas::cases))]
 fn answer_as(
     alloc: Global,
     product: &SoundProduct,
@@ -169,18 +157,10 @@ fn answer_as(
     ensures decided { Follows (IsDecidedAs rest certificate product.now) result }
     ensures cause { (shelf : ShelfSide) → IfErr result (HasCause shelf) }
 {
-    if certificate {
-        if rest {
-            certified_down(alloc, product)
-        } else {
-            certified(alloc, product)
-        }
-    } else if rest {
-        let answer = decided_down(alloc, product)?;
-        Ok(answer)
+    if rest {
+        decided_down(alloc, product, certificate)
     } else {
-        let answer = decided(alloc, product)?;
-        Ok(answer)
+        decided(alloc, product, certificate)
     }
 }
 

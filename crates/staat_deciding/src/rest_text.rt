@@ -75,13 +75,10 @@ fn step_line(
     ensures { IfOk result (λ line. line.items ≡
         move_line (parts_in (partial_of moved.now)) d (parts_in (partial_of rest.now)) []) }
 {
-    let moved = ends_listed(alloc, moved)?;
-    let along = direction_text(alloc, d)?;
-    let rest = ends_listed(alloc, rest)?;
     let mut line = b"move".to_vec(alloc)?;
-    line.extend_from_slice(moved.as_slice())?;
-    line.extend_from_slice(along.as_bytes())?;
-    line.extend_from_slice(rest.as_slice())?;
+    line.extend_from_slice(ends_listed(alloc, moved)?.as_slice())?;
+    line.extend_from_slice(direction_text(alloc, d)?.as_bytes())?;
+    line.extend_from_slice(ends_listed(alloc, rest)?.as_slice())?;
     line.extend_from_slice(b"\n")?;
     Ok(line)
 }

@@ -5,11 +5,9 @@ ghost use Rattle.staat_input.specs.Opened.{OpensSomeOf};
 ghost use Rattle.staat_input.specs.declared.limits.TheConstants.Limits.{ASSEMBLY};
 ghost use Rattle.staat_vec.specs.Vectors.{IsWithin};
 ghost use Rattle.staat_words.specs.Requests.{IsGraphRequest};
-ghost use Rattle.staat_pairs.specs.Tables.{WasMadeFrom};
 ghost use Rattle.staat_edge.specs.Fitting.{Fit};
 ghost use Rattle.staat_input.specs.Work.{Files, Follows};
-ghost use Rattle.staat_directions.specs.Graphing.{IsCountedGraph, IsGraphed, GraphWork};
-ghost use Rattle.staat_input.specs.Counting.{all_parts};
+ghost use Rattle.staat_directions.specs.Graphing.{IsCountedGraph, GraphWork};
 ghost use Rattle.staat_input.specs.Causes.{HasCause, ShelfSide, over};
 
 use staat_edge::Shelf;
@@ -17,29 +15,10 @@ use staat_fault::Fault;
 use staat_input::{Answer, read_sound, table_of};
 use staat_limits::MOST_PLANES;
 use staat_model::Sound;
-use staat_planes::PlaneTable;
 use staat_text::graph_text;
-use staat_vec::{DIRECTION, OutOfMemory, V3};
+use staat_vec::{DIRECTION, V3};
 use staat_words::GraphRequest;
 use std::alloc::Global;
-
-// The text of the blocking graph along a direction.
-fn graphed(
-    alloc: Global,
-    sound: &Sound,
-    table: &PlaneTable,
-    along: V3,
-) -> Result<Answer, OutOfMemory>
-    requires along { IsWithin DIRECTION along }
-    requires made { WasMadeFrom sound.now table.now }
-    requires all { table.now.of ≡ all_parts sound.now }
-    ensures status { IfOk result (λ a. a.status < 2) }
-    ensures graphed { IfOk result (λ a. IsGraphed sound.now along (Ok a)) }
-{
-    let parts = sound.assembly().parts();
-    let text = graph_text(alloc, parts, along, &table.graph_at(along))?;
-    Ok(Answer { status: 0, text })
-}
 
 // The answer for a sound assembly.
 fn counted(alloc: Global, sound: &Sound, along: V3) -> Result<Answer, Fault>
@@ -49,8 +28,9 @@ fn counted(alloc: Global, sound: &Sound, along: V3) -> Result<Answer, Fault>
     ensures cause { (shelf : ShelfSide) → IfErr result (HasCause shelf) }
 {
     let table = table_of(alloc, sound, MOST_PLANES)?;
-    let answer = graphed(alloc, sound, &table, along)?;
-    Ok(answer)
+    let parts = sound.assembly().parts();
+    let text = graph_text(alloc, parts, along, &table.graph_at(along))?;
+    Ok(Answer { status: 0, text })
 }
 
 /// The answer to the command `graph`: the arcs of the blocking graph along a direction, and its strong groups.

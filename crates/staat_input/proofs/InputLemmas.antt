@@ -96,6 +96,13 @@ pub failed_with : {X : Type 0} (P : Fault → Type 0) (f : Fault) (r : Result X 
 failed_with P f (Ok x) h fails = absurd fails
 failed_with P f (Err e) h fails = subst P (sym fails) h
 
+-- what is found of a fault is found of the answer with it
+pub follows_failed : {X Y : Type 0} (First : Found X → Type 0) (Whole : Found Y → Type 0) (f : Fault) (r : Result Y Fault) →
+    ((g : Fault) → First (Err g) → Whole (Err g)) → Follows First (Err f) → IsErrAnd r (λ e. e ≡ f) → Follows Whole r
+follows_failed First Whole f (Ok x) both h fails = absurd fails
+follows_failed First Whole f (Err e) both h fails =
+    subst (λ g. Follows Whole (Err g)) (sym fails) (follows_fault First Whole f both h)
+
 -- nothing is said of a value where there is a fault
 pub no_value : {X : Type 0} (P : X → Type 0) (Q : Fault → Type 0) (r : Result X Fault) → IsErrAnd r Q → IfOk r P
 no_value P Q (Ok x) fails = absurd fails

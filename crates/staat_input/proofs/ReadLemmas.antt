@@ -1,6 +1,6 @@
 -- What the step finds that reads the piece of a file.
-use Rattle.std.proofs.Common.{◌≡◌, ℕ, ◌<◌, ◌≤◌, List, length, Option, Some, None, Ok, Err, refl, sym, ap, subst}
-use Rattle.std.specs.Prelude.{Result, IsSomeAnd}
+use Rattle.std.proofs.Common.{◌≡◌, ◌∙◌, ℕ, ◌<◌, ◌≤◌, List, length, Option, Some, None, Ok, Err, refl, sym, ap, subst}
+use Rattle.std.specs.Prelude.{Result, IfOk, IsErrAnd, IsSomeAnd}
 use Rattle.staat_vec.specs.declared.vector.V3.{V3}
 use Rattle.staat_edge.specs.Files.{bytes_of}
 use Rattle.staat_edge.specs.Fitting.{Fit, IsLonger, IsWhole}
@@ -26,6 +26,8 @@ use Rattle.staat_input.specs.Work.{Files, Found, Follows, IsNotTaken, IsNotTaken
 use Rattle.staat_input.specs.Work.{to_read, too_long, taken}
 use Rattle.staat_input.specs.Refusals.{off_fault, mesh_fault, manifest_fault}
 use Rattle.staat_input.specs.Pieces.{SaysPiece, no_file, no_piece, piece}
+use Rattle.staat_input.specs.Drawing.{piece_found, raw_in, raw_read}
+use Rattle.staat_input.specs.declared.read.Drawn.{Drawn}
 use Rattle.staat_input.specs.declared.limits.Limits.{Limits}
 use Rattle.staat_input.specs.Inputs.{SaysListingWithin, no_listing, listing}
 
@@ -95,6 +97,16 @@ says_no_listing l name bytes manifest.OutOfMemory e = tt
 -- it is one
 pub says_listing : (l : Limits) (name bytes : List ℕ) (parts : List ListedPart) → part_list_within l.parts l.pieces bytes ≡ Ok parts → SaysListingWithin l name bytes (Ok parts)
 says_listing l name bytes parts e = listing parts e refl
+
+-- what is found of a fault is found of what was read with it
+pub drawn_failed : (Whole : Found (List V3) → Type 0) (f : Fault) (r : Result Drawn Fault) → Follows Whole (Err f) → IsErrAnd r (λ e. e ≡ f) → Follows Whole (piece_found r)
+drawn_failed Whole f (Ok x) h fails = absurd fails
+drawn_failed Whole f (Err e) h fails = subst (λ g. Follows Whole (Err g)) (sym fails) h
+
+-- what was read are the points and faces of the file
+pub raw_found : (digits : ℕ) (o : Option (List ℕ)) (bytes : List ℕ) (r : Result Drawn Fault) → o ≡ Some bytes → IfOk r (λ drawn. reading digits bytes ≡ Ok drawn.raw) → IfOk r (λ drawn. drawn.raw ≡ raw_in digits o)
+raw_found digits o bytes (Ok drawn) is read = sym (ap (raw_in digits) is ∙ ap raw_read read)
+raw_found digits o bytes (Err f) is read = tt
 
 pub ruleset listing_says = (says_no_listing, says_listing)
 

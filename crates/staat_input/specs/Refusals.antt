@@ -2,6 +2,8 @@
 use Rattle.std.specs.Prelude.{ℕ, List}
 use Rattle.staat_fault.specs.declared.fault.Fault.{Fault}
 use Rattle.staat_fault.specs.declared.fault.Fault.TheVariants as fault
+use Rattle.staat_edge.specs.declared.whole.ReadRefusal.{ReadRefusal}
+use Rattle.staat_edge.specs.declared.whole.ReadRefusal.TheVariants as read
 use Rattle.staat_off.specs.declared.refusal.OffRefusal.{OffRefusal}
 use Rattle.staat_off.specs.declared.refusal.OffRefusal.TheVariants as off
 use Rattle.staat_mesh.specs.declared.refusal.MeshRefusal.{MeshRefusal}
@@ -14,6 +16,11 @@ use Rattle.staat_planes.specs.declared.refusal.PlanesRefusal.{PlanesRefusal}
 use Rattle.staat_planes.specs.declared.refusal.PlanesRefusal.TheVariants as planes
 use Rattle.staat_manifest.specs.declared.refusal.ManifestRefusal.{ManifestRefusal}
 use Rattle.staat_manifest.specs.declared.refusal.ManifestRefusal.TheVariants as manifest
+
+abbrev pub read_fault : List ℕ → ReadRefusal → Fault
+read_fault name read.ReadFault = fault.ReadFault name
+read_fault name read.TooLong = fault.TooLong name
+read_fault name read.OutOfMemory = fault.OutOfMemory
 
 abbrev pub off_fault : List ℕ → OffRefusal → Fault
 off_fault name off.NoHeader = fault.NoHeader name

@@ -4,19 +4,18 @@ ghost use Rattle.std.specs.Prelude.{IfOk, IfErr, OnErr, OnOk, length, map, sum_b
 ghost use Rattle.std.specs.Prelude.{is_ok};
 ghost use Rattle.staat_edge.specs.Opening.{OpensFiles};
 ghost use Rattle.staat_input.specs.Opened.{OpensInput, OpensSomeOf, ReadsList, ReadsNames, piece_files};
-ghost use Rattle.staat_input.specs.declared.limits.TheConstants.Limits.{ASSEMBLY};
 ghost use Rattle.staat_limits.specs.declared.limits.TheConstants.{MOST_DIGITS};
 ghost use Rattle.staat_vec.specs.Vectors.{IsWithin};
 ghost use Rattle.staat_model.specs.Pieces.{IsPiece};
 ghost use Rattle.staat_model.specs.Assemblies.{ArePartsWithin};
-ghost use Rattle.staat_limits.specs.declared.limits.TheConstants.{MOST_PIECES, MOST_PRODUCT_PARTS};
-ghost use Rattle.staat_words.specs.Requests.{IsAsked, IsAskedWithin, IsInputWithin};
+ghost use Rattle.staat_limits.specs.declared.limits.TheConstants.{MOST_PRODUCT_PARTS};
+ghost use Rattle.staat_words.specs.Requests.{IsAskedWithin, IsInputWithin};
 ghost use Rattle.staat_edge.specs.Fitting.{Fit};
 ghost use Rattle.staat_input.specs.Work.{Each, Files, Follows, IsTaken};
-ghost use Rattle.staat_input.specs.Drawing.{AreSmall, Drew, IsDrawn, IsDrawnWithin, solid_of};
+ghost use Rattle.staat_input.specs.Drawing.{AreSmall, Drew, IsDrawnWithin, solid_of};
 ghost use Rattle.staat_input.specs.Drawing.{solids_of, solids_of_part};
 ghost use Rattle.staat_input.specs.Moved.{IsMovedPieceOf};
-ghost use Rattle.staat_input.specs.Inputs.{alone, IsInputOf, IsInputOfWithin, IsListingOfWithin, IsPartOf};
+ghost use Rattle.staat_input.specs.Inputs.{alone, IsInputOfWithin, IsListingOfWithin, IsPartOf};
 ghost use Rattle.staat_input.specs.Inputs.{SaysListingWithin};
 ghost use Rattle.staat_input.specs.Shapes.{AreRead, IsFewWithin, ListsPiece};
 ghost use Rattle.staat_input.specs.Causes.{HasCause, IfTooLong, MayName, ShelfSide, over};
@@ -29,7 +28,7 @@ use crate::sketch::Sketch;
 use staat_edge::Shelf;
 use staat_fault::Fault;
 use staat_manifest::{ListedPart, Listing, read_listing};
-use staat_model::{Assembly, Part, Parts, Piece, Pieces};
+use staat_model::{Part, Parts, Piece, Pieces};
 use staat_vec::{Name, Names, ORIGIN, POINT, V3};
 use staat_words::{Asked, Input};
 use std::alloc::{AllocError, Global};
@@ -260,29 +259,4 @@ pub fn read_within<H: Shelf>(
 {
     let listing = names_of(alloc, shelf, &asked.input, limits)?;
     read_parts(alloc, asked.digits, shelf, listing.as_slice(), sketch)
-}
-
-/// The assembly that an input names, by [`read_within`].
-pub fn read_input<H: Shelf>(
-    alloc: Global,
-    shelf: &mut H,
-    asked: &Asked,
-    sketch: &mut Sketch,
-) -> Result<Assembly, Fault>
-    requires { IsAsked asked.now }
-    ensures holds { (H.told shelf.new).holds ≡ (H.told shelf.old).holds }
-    ensures count { (H.told shelf.old).faults ≤ (H.told shelf.new).faults }
-    ensures opens { OpensInput ASSEMBLY (is_ok result) asked.now.input [] (H.told shelf.old)
-        (H.told shelf.new) }
-    ensures found { (files : Files) → Fit (H.told shelf.new) files →
-        Follows (IsInputOf files asked.now) result }
-    ensures drawn { (files : Files) → Fit (H.told shelf.new) files → sketch.old.solids.items ≡ [] →
-        OnOk result (IsDrawn files asked.now sketch.old.keep sketch.new) }
-    ensures small { sketch.old.solids.items ≡ [] →
-        IfOk result (λ assembly. AreSmall (length assembly) MOST_PIECES sketch.new.solids.items) }
-    ensures cause { IfErr result (HasCause (over (H.told shelf.old) (H.told shelf.new))) }
-    ensures named { IfErr result (IfTooLong (MayName asked.now.input)) }
-{
-    let parts = read_within(alloc, shelf, asked, Limits::ASSEMBLY, sketch)?;
-    Ok(Assembly::seal(parts))
 }

@@ -59,9 +59,7 @@ pub fn read_moved<H: Shelf>(
     ensures cause { IfErr result (HasCause (over (H.told shelf.old) (H.told shelf.new))) }
     ensures named { IfErr result (IfTooLong (λ long. long ≡ name.now)) }
 {
-    let drawn = read_drawn(alloc, digits, shelf, name)?;
-    let Drawn { raw, piece } = drawn;
-    let placed = moved(alloc, name, piece, at)?;
+    let Drawn { raw, piece } = read_drawn(alloc, digits, shelf, name)?;
     sketch.add(part, at, raw)?;
-    Ok(placed)
+    moved(alloc, name, piece, at)
 }

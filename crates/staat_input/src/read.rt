@@ -13,8 +13,8 @@ ghost use Rattle.staat_input.specs.Drawing.{piece_found, raw_in};
 ghost use Rattle.staat_input.specs.Pieces.{IsPieceOf, SaysPiece};
 ghost use Rattle.staat_input.specs.Causes.{HasCause, IfTooLong, ShelfSide, over};
 
-use crate::refusals::{mesh_fault, off_fault};
-use staat_edge::{ReadRefusal, Shelf, read_whole};
+use crate::refusals::{mesh_fault, off_fault, read_fault};
+use staat_edge::{Shelf, read_whole};
 use staat_fault::Fault;
 use staat_limits::FILE_LIMIT;
 use staat_mesh::make_piece;
@@ -37,9 +37,7 @@ pub fn read_file<H: Shelf>(alloc: Global, shelf: &mut H, name: &Name) -> Result<
 {
     match read_whole(alloc, shelf, name.as_str(), FILE_LIMIT) {
         Ok(bytes) => Ok(bytes),
-        Err(ReadRefusal::ReadFault) => Err(Fault::ReadFault(name.copied(alloc)?)),
-        Err(ReadRefusal::TooLong) => Err(Fault::TooLong(name.copied(alloc)?)),
-        Err(ReadRefusal::OutOfMemory) => Err(Fault::OutOfMemory),
+        Err(refusal) => Err(read_fault(name.copied(alloc)?, refusal)),
     }
 }
 
@@ -111,6 +109,6 @@ pub fn read_piece<H: Shelf>(
     ensures cause { IfErr result (HasCause (over (H.told shelf.old) (H.told shelf.new))) }
     ensures named { IfErr result (IfTooLong (λ long. long ≡ name.now)) }
 {
-    let drawn = read_drawn(alloc, digits, shelf, name)?;
-    Ok(drawn.piece)
+    let Drawn { piece, .. } = read_drawn(alloc, digits, shelf, name)?;
+    Ok(piece)
 }

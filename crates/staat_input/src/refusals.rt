@@ -1,9 +1,10 @@
 // The faults that the refusals of the readers are.
 ghost use Rattle.std.specs.Prelude.{◌≡◌};
 ghost use Rattle.staat_input.specs.Refusals.{asm_fault, manifest_fault, mesh_fault, off_fault};
-ghost use Rattle.staat_input.specs.Refusals.{planes_fault, text_fault};
+ghost use Rattle.staat_input.specs.Refusals.{planes_fault, read_fault, text_fault};
 
 use staat_asm::AsmRefusal;
+use staat_edge::ReadRefusal;
 use staat_fault::Fault;
 use staat_manifest::ManifestRefusal;
 use staat_mesh::MeshRefusal;
@@ -11,6 +12,17 @@ use staat_model::TextRefusal;
 use staat_off::OffRefusal;
 use staat_planes::PlanesRefusal;
 use staat_vec::Name;
+
+/// The fault of a file that is not read to its end.
+pub fn read_fault(name: Name, refusal: ReadRefusal) -> Fault
+    ensures { result ≡ read_fault name refusal }
+{
+    match refusal {
+        ReadRefusal::ReadFault => Fault::ReadFault(name),
+        ReadRefusal::TooLong => Fault::TooLong(name),
+        ReadRefusal::OutOfMemory => Fault::OutOfMemory,
+    }
+}
 
 /// The fault of a file that is no OFF file.
 pub fn off_fault(name: Name, refusal: OffRefusal) -> Fault

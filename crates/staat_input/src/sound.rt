@@ -11,7 +11,7 @@ ghost use Rattle.staat_input.specs.Assembling.{IsSoundOf, IsSoundProductOf, IsTe
 ghost use Rattle.staat_input.specs.Drawing.{AreSmall, IsDrawn};
 ghost use Rattle.staat_input.specs.Causes.{HasCause, IfTooLong, MayName, ShelfSide, over};
 
-use crate::input::{read_input, read_within};
+use crate::input::read_within;
 use crate::limits::Limits;
 use crate::refusals::asm_fault;
 use crate::sketch::Sketch;
@@ -58,8 +58,8 @@ pub fn read_sketched<H: Shelf>(
     ensures cause { IfErr result (HasCause (over (H.told shelf.old) (H.told shelf.new))) }
     ensures named { IfErr result (IfTooLong (MayName asked.now.input)) }
 {
-    let assembly = read_input(alloc, shelf, asked, sketch)?;
-    tested(alloc, assembly)
+    let parts = read_within(alloc, shelf, asked, Limits::ASSEMBLY, sketch)?;
+    tested(alloc, Assembly::seal(parts))
 }
 
 /// The same where nothing is drawn.

@@ -1,6 +1,6 @@
 -- What the steps find that read a certificate and judge it.
-use Rattle.std.proofs.Common.{◌≡◌, refl, ap, arith, ℕ, ◌≤◌, List, length, Ok, Err}
-use Rattle.std.specs.Prelude.{Result}
+use Rattle.std.proofs.Common.{◌≡◌, refl, ap, subst, sym, arith, ℕ, ◌≤◌, List, length, Ok, Err}
+use Rattle.std.specs.Prelude.{IfErr, IfOk, Result}
 use Rattle.staat_cert.specs.declared.reader.CertReader.{CertReader}
 use Rattle.staat_cert.specs.declared.cert_refusal.CertRefusal.{CertRefusal}
 use Rattle.staat_cert.specs.declared.cert_refusal.CertRefusal.TheVariants as cert
@@ -8,6 +8,7 @@ use Rattle.staat_cert.specs.Feeds.{IsReadAnswer, WasFed}
 use Rattle.staat_edge.specs.Fitting.{Fit}
 use Rattle.staat_edge.specs.Told.{ShelfTold}
 use Rattle.staat_fault.specs.declared.fault.Fault.{Fault}
+use Rattle.staat_fault.specs.declared.fault.Fault.TheVariants.{OutOfMemory}
 use Rattle.staat_model.specs.declared.assembly.Part.{Part}
 use Rattle.staat_model.specs.declared.certificate.Certificate.{Certificate}
 use Rattle.staat_limits.specs.declared.limits.TheConstants.{TEXT_LIMIT}
@@ -59,7 +60,6 @@ pub ruleset found = (found_certificate, no_certificate, all_opened, refused, non
 
 -- ---- the verdict
 
-pub checked_answer : (parts : List Part) (c : Certificate) (v : Verdict) (a : Answer) → IsVerdict parts c v → a ≡ verdict_answer v → IsChecked parts c (Ok a)
-checked_answer parts c v a h e = record { verdict = v; right = h; is = ap Ok e }
-
-pub ruleset checked = (checked_answer)
+pub checked_answer : (parts : List Part) (c : Certificate) (v : Verdict) (r : Result Answer Fault) → IsVerdict parts c v → IfOk r (λ a. a ≡ verdict_answer v) → IfErr r (λ f. f ≡ OutOfMemory) → Follows (IsChecked parts c) r
+checked_answer parts c v (Ok a) h e memory = record { verdict = v; right = h; is = ap Ok e }
+checked_answer parts c v (Err f) h e memory = subst (λ g. Follows (IsChecked parts c) (Err g)) (sym memory) tt

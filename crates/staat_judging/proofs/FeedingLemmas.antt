@@ -1,7 +1,7 @@
 -- What a reader was fed of a file.
 use Rattle.std.proofs.Common.{◌≡◌, ◌∙◌, refl, sym, ap, subst, arith, ℕ, ◌+◌, ◌<◌, ◌≤◌}
 use Rattle.std.proofs.Common.{List, [], ◌∷◌, ◌++◌, length, take, append-nil, Option, Some, None, false, Ok, Err}
-use Rattle.std.specs.Prelude.{Result, IfSome, IsErrAnd, IsSomeAnd}
+use Rattle.std.specs.Prelude.{Result, IfErr, IfSome, IsErrAnd, IsSomeAnd}
 use Rattle.std.specs.Io.KnownBytes.{Consumes, IsAtEnd}
 use Rattle.std.proofs.KnownBytes.{Consumes-all, Consumes-nil, Consumes-trans}
 use Rattle.std.specs.Option.{option_and_then}
@@ -14,6 +14,7 @@ use Rattle.staat_edge.specs.Readings.{FileReading, after_read, begun}
 use Rattle.staat_edge.specs.Told.{ShelfTold}
 use Rattle.staat_edge.proofs.Fitted.{as_it_is, ended_by, grown_by, longer_fits, one_ended, whole_fits}
 use Rattle.staat_fault.specs.declared.fault.Fault.{Fault}
+use Rattle.staat_fault.specs.declared.fault.Fault.TheVariants.{OutOfMemory}
 use Rattle.staat_limits.specs.declared.limits.TheConstants.{TEXT_LIMIT}
 use Rattle.staat_input.specs.Work.{Files, Found, Follows, IsTakenWithin}
 use Rattle.staat_judging.specs.Feeding.{IsFed, IsFedFile}
@@ -138,3 +139,9 @@ pub follows_failed : {X : Type 0} (P : Found X → Type 0) (f : Fault) (r : Resu
     → IsErrAnd r (λ e. e ≡ f) → Follows P r
 follows_failed P f (Ok x) h fails = absurd fails
 follows_failed P f (Err e) h fails = subst (λ g. Follows P (Err g)) (sym fails) h
+
+-- what holds of want of memory holds of an answer with no other fault
+pub memory_alone : {X : Type 0} (P : Fault → Type 0) (r : Result X Fault) → P OutOfMemory
+    → IfErr r (λ f. f ≡ OutOfMemory) → IfErr r P
+memory_alone P (Ok x) h only = tt
+memory_alone P (Err e) h only = subst P (sym only) h

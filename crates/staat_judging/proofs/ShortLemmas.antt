@@ -1,11 +1,12 @@
 -- What the steps find that read a short certificate and judge it.
-use Rattle.std.proofs.Common.{◌≡◌, refl, ap, arith, ℕ, ◌≤◌, List, length, Ok, Err}
-use Rattle.std.specs.Prelude.{Result}
+use Rattle.std.proofs.Common.{◌≡◌, refl, ap, subst, sym, arith, ℕ, ◌≤◌, List, length, Ok, Err}
+use Rattle.std.specs.Prelude.{IfErr, IfOk, Result}
 use Rattle.staat_cert.specs.declared.cert_refusal.CertRefusal.{CertRefusal}
 use Rattle.staat_cert.specs.declared.cert_refusal.CertRefusal.TheVariants as cert
 use Rattle.staat_edge.specs.Fitting.{Fit}
 use Rattle.staat_edge.specs.Told.{ShelfTold}
 use Rattle.staat_fault.specs.declared.fault.Fault.{Fault}
+use Rattle.staat_fault.specs.declared.fault.Fault.TheVariants.{OutOfMemory}
 use Rattle.staat_model.specs.declared.assembly.Part.{Part}
 use Rattle.staat_limits.specs.declared.limits.TheConstants.{TEXT_LIMIT}
 use Rattle.staat_short.specs.declared.reader.ShortReader.{ShortReader}
@@ -69,8 +70,8 @@ pub ruleset found = (found_certificate, no_certificate, all_opened, refused, non
 
 -- ---- the verdict
 
-pub confirmed_answer : (parts : List Part) (c : ShortCertificate) (v : ShortVerdict) (a : Answer)
-    → IsShortVerdict parts c v → a ≡ short_verdict_answer c.answer v → IsConfirmed parts c (Ok a)
-confirmed_answer parts c v a h e = record { verdict = v; right = h; is = ap Ok e }
-
-pub ruleset confirmed = (confirmed_answer)
+pub confirmed_answer : (parts : List Part) (c : ShortCertificate) (v : ShortVerdict) (r : Result Answer Fault)
+    → IsShortVerdict parts c v → IfOk r (λ a. a ≡ short_verdict_answer c.answer v) → IfErr r (λ f. f ≡ OutOfMemory)
+    → Follows (IsConfirmed parts c) r
+confirmed_answer parts c v (Ok a) h e memory = record { verdict = v; right = h; is = ap Ok e }
+confirmed_answer parts c v (Err f) h e memory = subst (λ g. Follows (IsConfirmed parts c) (Err g)) (sym memory) tt

@@ -1,6 +1,7 @@
 // The command `check`: whether a certificate is valid for the parts.
 ghost use Rattle.std.specs.Prelude.{◌≡◌, ◌≤◌, ◌<◌, IfOk, IfErr};
 ghost use Rattle.std.specs.Prelude.{◌∷◌, []};
+ghost use Rattle.staat_fault.specs.declared.fault.Fault.TheVariants.{OutOfMemory};
 ghost use Rattle.staat_input.specs.Opened.{OpensSomeOf};
 ghost use Rattle.staat_input.specs.declared.limits.TheConstants.Limits.{ASSEMBLY};
 ghost use Rattle.staat_model.specs.Texts.{IsWellFormed};
@@ -18,14 +19,14 @@ use staat_fault::Fault;
 use staat_input::{Answer, read_sound};
 use staat_model::{Certificate, Sound, Verdict};
 use staat_text::verdict_text;
-use staat_vec::OutOfMemory;
 use staat_words::CheckRequest;
 use std::alloc::Global;
 
 // The answer that a verdict is.
-fn answer_of(alloc: Global, verdict: &Verdict) -> Result<Answer, OutOfMemory>
+fn answer_of(alloc: Global, verdict: &Verdict) -> Result<Answer, Fault>
     ensures status { IfOk result (λ a. a.status < 2) }
     ensures is { IfOk result (λ a. a ≡ verdict_answer verdict.now) }
+    ensures memory { IfErr result (λ fault. fault ≡ OutOfMemory) }
 {
     let text = verdict_text(alloc, verdict)?;
     match verdict {
@@ -36,7 +37,6 @@ fn answer_of(alloc: Global, verdict: &Verdict) -> Result<Answer, OutOfMemory>
 }
 
 // The answer that the verdict on the certificate is.
-#[tactic(auto, using(crate::proofs::CertificateLemmas::checked))]
 fn judged(alloc: Global, sound: &Sound, certificate: &Certificate) -> Result<Answer, Fault>
     requires { IsWellFormed certificate.now }
     ensures status { IfOk result (λ a. a.status < 2) }
@@ -44,8 +44,7 @@ fn judged(alloc: Global, sound: &Sound, certificate: &Certificate) -> Result<Ans
     ensures cause { (request : CheckRequest) (shelf : ShelfSide) → IfErr result (HasCheckCause request shelf) }
 {
     let verdict = staat_check::check(alloc, sound, certificate)?;
-    let answer = answer_of(alloc, &verdict)?;
-    Ok(answer)
+    answer_of(alloc, &verdict)
 }
 
 /// The answer to the command `check`: whether the certificate is valid for the parts, or the first rule that it

@@ -1,6 +1,7 @@
 // The command `confirm`: whether a short certificate is valid for a product of any size.
 ghost use Rattle.std.specs.Prelude.{◌≡◌, ◌≤◌, ◌<◌, IfOk, IfErr};
 ghost use Rattle.std.specs.Prelude.{◌∷◌, []};
+ghost use Rattle.staat_fault.specs.declared.fault.Fault.TheVariants.{OutOfMemory};
 ghost use Rattle.staat_input.specs.Opened.{OpensSomeOf};
 ghost use Rattle.staat_input.specs.declared.limits.TheConstants.Limits.{PRODUCT};
 ghost use Rattle.staat_limits.specs.declared.limits.TheConstants.{MOST_PRODUCT_PARTS};
@@ -22,18 +23,14 @@ use staat_fault::Fault;
 use staat_input::{Answer, read_product};
 use staat_model::SoundProduct;
 use staat_short::{ShortAnswer, ShortCertificate};
-use staat_vec::OutOfMemory;
 use staat_words::CheckRequest;
 use std::alloc::Global;
 
 // The answer that a verdict on a certificate with this answer is.
-fn answer_of(
-    alloc: Global,
-    answer: &ShortAnswer,
-    verdict: &ShortVerdict,
-) -> Result<Answer, OutOfMemory>
+fn answer_of(alloc: Global, answer: &ShortAnswer, verdict: &ShortVerdict) -> Result<Answer, Fault>
     ensures status { IfOk result (λ a. a.status < 2) }
     ensures is { IfOk result (λ a. a ≡ short_verdict_answer answer.now verdict.now) }
+    ensures memory { IfErr result (λ fault. fault ≡ OutOfMemory) }
 {
     let text = short_verdict_text(alloc, answer, verdict)?;
     match verdict {
@@ -44,7 +41,6 @@ fn answer_of(
 }
 
 // The answer that the verdict on the certificate is.
-#[tactic(auto, using(crate::proofs::ShortLemmas::confirmed))]
 fn judged(
     alloc: Global,
     product: &SoundProduct,
@@ -56,8 +52,7 @@ fn judged(
     ensures cause { (request : CheckRequest) (shelf : ShelfSide) → IfErr result (HasConfirmCause request shelf) }
 {
     let verdict = staat_confirm::confirm(alloc, &Scan, product, certificate)?;
-    let answer = answer_of(alloc, &certificate.answer, &verdict)?;
-    Ok(answer)
+    answer_of(alloc, &certificate.answer, &verdict)
 }
 
 /// The answer to the command `confirm`: whether the short certificate is valid for the parts, or the first rule that

@@ -1,6 +1,7 @@
 // The command `linear`: in what order the parts are taken away, one at a time.
 ghost use Rattle.std.specs.Prelude.{◌≡◌, ◌≤◌, ◌<◌, IfOk, IfErr};
 ghost use Rattle.std.specs.Prelude.{[]};
+ghost use Rattle.staat_fault.specs.declared.fault.Fault.TheVariants.{OutOfMemory};
 ghost use Rattle.staat_input.specs.Opened.{OpensSomeOf};
 ghost use Rattle.staat_input.specs.declared.limits.TheConstants.Limits.{ASSEMBLY};
 ghost use Rattle.staat_limits.specs.declared.limits.TheConstants.{LEAST_PLANES, MOST_PLANES};
@@ -18,7 +19,6 @@ use staat_fault::Fault;
 use staat_input::{Answer, planes_fault, read_sound};
 use staat_linear::{Order, linear_text};
 use staat_model::Sound;
-use staat_vec::OutOfMemory;
 use staat_words::LinearRequest;
 use std::alloc::Global;
 
@@ -39,9 +39,10 @@ fn order_of(alloc: Global, sound: &Sound, planes: u32) -> Result<Order, Fault>
 }
 
 // The answer for an order.
-fn answer_of(alloc: Global, order: &Order) -> Result<Answer, OutOfMemory>
+fn answer_of(alloc: Global, order: &Order) -> Result<Answer, Fault>
     ensures status { IfOk result (λ a. a.status < 2) }
     ensures is { IfOk result (λ a. a ≡ order_answer order.now) }
+    ensures memory { IfErr result (λ fault. fault ≡ OutOfMemory) }
 {
     let text = linear_text(alloc, order)?;
     match order {
@@ -59,8 +60,7 @@ fn counted(alloc: Global, sound: &Sound, planes: u32) -> Result<Answer, Fault>
     ensures cause { (shelf : ShelfSide) → IfErr result (HasCause shelf) }
 {
     let order = order_of(alloc, sound, planes)?;
-    let answer = answer_of(alloc, &order)?;
-    Ok(answer)
+    answer_of(alloc, &order)
 }
 
 /// The answer to the command `linear`: the order in which the parts are taken away, one at a time, each free of all

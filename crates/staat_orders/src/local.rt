@@ -1,5 +1,5 @@
 // The command `local`: whether some side of the parts begins to move.
-ghost use Rattle.std.specs.Prelude.{◌≡◌, ◌≤◌, ◌<◌, Ok, Some, IfOk, IfErr, IfSome};
+ghost use Rattle.std.specs.Prelude.{◌≡◌, ◌≤◌, ◌<◌, Some, IfOk, IfErr, IfSome};
 ghost use Rattle.std.specs.Prelude.{[]};
 ghost use Rattle.staat_input.specs.Opened.{OpensSomeOf};
 ghost use Rattle.staat_input.specs.declared.limits.TheConstants.Limits.{ASSEMBLY};
@@ -8,8 +8,7 @@ ghost use Rattle.staat_model.specs.Sets.{IsSide};
 ghost use Rattle.staat_words.specs.Requests.{IsLocalRequest};
 ghost use Rattle.staat_pairs.specs.Tables.{WasMadeFrom};
 ghost use Rattle.staat_local.specs.Beginnings.{IsFoundIn};
-ghost use Rattle.staat_orders.specs.Beginning.{IsBegun, IsCountedBeginning, local_status, LocalWork};
-ghost use Rattle.staat_input.specs.Counting.{all_parts};
+ghost use Rattle.staat_orders.specs.Beginning.{IsCountedBeginning, local_status, LocalWork};
 ghost use Rattle.staat_input.specs.Causes.{HasCause, ShelfSide, over};
 ghost use Rattle.staat_edge.specs.Fitting.{Fit};
 ghost use Rattle.staat_input.specs.Work.{Files, Follows};
@@ -20,7 +19,6 @@ use staat_input::{Answer, read_sound, table_of};
 use staat_local::{Loose, local_step, local_text};
 use staat_model::{PartSet, Sound};
 use staat_planes::PlaneTable;
-use staat_vec::OutOfMemory;
 use staat_words::LocalRequest;
 use std::alloc::Global;
 
@@ -48,22 +46,6 @@ fn status_of(of: PartSet, found: &Option<Loose>) -> u8
     }
 }
 
-// What is found of all parts, written.
-fn begun(alloc: Global, sound: &Sound, table: &PlaneTable) -> Result<Answer, OutOfMemory>
-    requires made { WasMadeFrom sound.now table.now }
-    requires all { table.now.of ≡ all_parts sound.now }
-    ensures status { IfOk result (λ a. a.status < 2) }
-    ensures begun { IfOk result (λ a. IsBegun sound.now (Ok a)) }
-{
-    let of = table.set();
-    let found = beginning(sound, table);
-    let text = local_text(alloc, of, &found)?;
-    Ok(Answer {
-        status: status_of(of, &found),
-        text,
-    })
-}
-
 // The answer for a sound assembly that has at most so many planes.
 fn counted(alloc: Global, sound: &Sound, planes: u32) -> Result<Answer, Fault>
     requires least { LEAST_PLANES ≤ planes }
@@ -73,8 +55,13 @@ fn counted(alloc: Global, sound: &Sound, planes: u32) -> Result<Answer, Fault>
     ensures cause { (shelf : ShelfSide) → IfErr result (HasCause shelf) }
 {
     let table = table_of(alloc, sound, planes)?;
-    let answer = begun(alloc, sound, &table)?;
-    Ok(answer)
+    let of = table.set();
+    let found = beginning(sound, &table);
+    let text = local_text(alloc, of, &found)?;
+    Ok(Answer {
+        status: status_of(of, &found),
+        text,
+    })
 }
 
 /// The answer to the command `local`: the side of all parts that begins to move, or that none does.

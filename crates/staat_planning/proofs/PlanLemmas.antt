@@ -1,6 +1,6 @@
 -- The outcome of an assembly, and how it is written.
-use Rattle.std.proofs.Common.{◌≡◌, ◌<◌, ◌≤◌, ℕ, Bool, List, length, Option, Some, None, Ok, Err, refl, ap, sym, subst, arith, inl}
-use Rattle.std.specs.Prelude.{Result, IsErrAnd}
+use Rattle.std.proofs.Common.{◌≡◌, ◌<◌, ◌≤◌, ℕ, Bool, List, length, Option, Some, None, Ok, Err, ap, sym, subst, arith}
+use Rattle.std.specs.Prelude.{Result}
 use Rattle.staat_model.specs.declared.assembly.Part.{Part}
 use Rattle.staat_model.specs.declared.certificate.Certificate.{Certificate}
 use Rattle.staat_limits.specs.declared.limits.TheConstants.{MOST_PARTS, TEXT_LIMIT}
@@ -19,9 +19,9 @@ use Rattle.staat_text.specs.PlanTexts.{CanBeShown, plan_text}
 use Rattle.staat_text.proofs.PlanSteps.{good_leaves}
 use Rattle.staat_input.specs.declared.answer.Answer.{Answer}
 use Rattle.staat_input.specs.Counting.{all_parts}
-use Rattle.staat_planning.specs.Planning.{IsPlanned, IsWritten, certificate, steps, text_too_long}
+use Rattle.staat_planning.specs.Planning.{IsPlanned, IsWritten, certificate, outcome_answer, steps, text_too_long}
 use Rattle.staat_input.specs.Refusals.{text_fault}
-use Rattle.staat_input.specs.Work.{Follows}
+use Rattle.staat_input.specs.Work.{Follows, Then}
 use Rattle.staat_input.proofs.InputLemmas.{follows_fault}
 use Rattle.staat_input.proofs.CountingLemmas.{counted_many}
 
@@ -48,9 +48,10 @@ written_long parts f version c refusal.OutOfMemory is answer = tt
 pub ruleset writing = (written_steps, written_certificate, written_long)
 
 -- the outcome was not written
-pub planned_failed : (parts : List Part) (robust : Bool) (f : Finding) (o : Option ℕ) (e : Fault) (r : Result Answer Fault) → IsOutcome robust parts (all_parts parts) f → Follows (IsWritten parts f o) (Err e) → IsErrAnd r (λ x. x ≡ e) → Follows (IsPlanned parts robust o) r
-planned_failed parts robust f o e (Ok a) outcome h fails = absurd fails
-planned_failed parts robust f o e (Err x) outcome h fails = subst (λ g. Follows (IsPlanned parts robust o) (Err g)) (sym fails)
-    (follows_fault (IsWritten parts f o) (IsPlanned parts robust o) e (λ g at. record { finding = f; outcome = outcome; written = inl (g, at, refl) }) h)
+pub planned_found : (parts : List Part) (robust : Bool) (f : Finding) (o : Option ℕ) (r : Result Answer Fault) → IsOutcome robust parts (all_parts parts) f → Follows (Then (IsWritten parts f o) (λ text found. found ≡ Ok (outcome_answer f text))) r → Follows (IsPlanned parts robust o) r
+planned_found parts robust f o (Ok a) outcome h = record { finding = f; outcome = outcome; written = h }
+planned_found parts robust f o (Err e) outcome h =
+    follows_fault (Then (IsWritten parts f o) (λ text found. found ≡ Ok (outcome_answer f text))) (IsPlanned parts robust o) e
+    (λ g at. record { finding = f; outcome = outcome; written = at }) h
 
 pub ruleset planning = (can_be_shown, counted_many)

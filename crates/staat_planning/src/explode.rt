@@ -154,7 +154,6 @@ fn exploded(
 
 /// The answer to the command `explode`: the vectors that move the parts of a plan apart, or the scene of the parts so
 /// moved; or the parts that no plan takes apart.
-#[tactic(auto, using(staat_input::proofs::OpenedLemmas::input_some))]
 pub fn explode<H: Shelf>(
     alloc: Global,
     request: &ExplodeRequest,

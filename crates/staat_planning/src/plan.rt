@@ -15,7 +15,7 @@ ghost use Rattle.staat_certify.specs.Certifying.{CanBeCertified, HasFewPlanes};
 ghost use Rattle.staat_text.specs.PlanTexts.{CanBeShown};
 ghost use Rattle.staat_words.specs.Requests.{IsPlanRequest};
 ghost use Rattle.staat_edge.specs.Fitting.{Fit};
-ghost use Rattle.staat_input.specs.Work.{Files, Follows};
+ghost use Rattle.staat_input.specs.Work.{Files, Follows, Then};
 ghost use Rattle.staat_input.specs.Counting.{AreCounted, all_parts};
 ghost use Rattle.staat_planning.specs.Planning.{IsCountedPlan, IsWritten, outcome_answer, PlanWork};
 ghost use Rattle.staat_input.specs.Causes.{HasCause, ShelfSide, over};
@@ -117,14 +117,27 @@ fn text_of(
     }
 }
 
-// The answer for an outcome with this text.
-fn answer_of(outcome: &Outcome, text: Bytes) -> Answer
-    ensures status { result.status < 2 }
-    ensures is { result ≡ outcome_answer (finding_of outcome.now) text }
+// The answer for an outcome: its steps, or the text of its certificate.
+fn answer_of(
+    alloc: Global,
+    sound: &Sound,
+    table: &PlaneTable,
+    outcome: &Outcome,
+    certificate: Option<u32>,
+) -> Result<Answer, Fault>
+    requires version { IfSome certificate IsVersion }
+    requires made { WasMadeFrom sound.now table.now }
+    requires shown { CanBeShown (finding_of outcome.now) }
+    requires certified { CanBeCertified sound.now (finding_of outcome.now) }
+    ensures status { IfOk result (λ a. a.status < 2) }
+    ensures written { Follows (Then (IsWritten sound.now (finding_of outcome.now) certificate)
+        (λ text found. found ≡ Ok (outcome_answer (finding_of outcome.now) text))) result }
+    ensures cause { (shelf : ShelfSide) → IfErr result (HasCause shelf) }
 {
+    let text = text_of(alloc, sound, table, outcome, certificate)?;
     match outcome {
-        Outcome::Plan { .. } => Answer { status: 0, text },
-        Outcome::Stuck(_) => Answer { status: 1, text },
+        Outcome::Plan { .. } => Ok(Answer { status: 0, text }),
+        Outcome::Stuck(_) => Ok(Answer { status: 1, text }),
     }
 }
 
@@ -136,13 +149,11 @@ fn planned(alloc: Global, sound: &Sound, request: &PlanRequest) -> Result<Answer
     ensures cause { (shelf : ShelfSide) → IfErr result (HasCause shelf) }
 {
     let (outcome, table) = outcome_of(alloc, sound, request.planes, request.robust)?;
-    let text = text_of(alloc, sound, &table, &outcome, request.certificate)?;
-    Ok(answer_of(&outcome, text))
+    answer_of(alloc, sound, &table, &outcome, request.certificate)
 }
 
 /// The answer to the command `plan`: the steps of a plan that takes all parts apart, or the parts that no plan takes
 /// apart; or the certificate of either.
-#[tactic(auto, using(staat_input::proofs::OpenedLemmas::input_some))]
 pub fn plan<H: Shelf>(alloc: Global, request: &PlanRequest, shelf: &mut H) -> Result<Answer, Fault>
     requires { IsPlanRequest request.now }
     ensures holds { (H.told shelf.new).holds ≡ (H.told shelf.old).holds }

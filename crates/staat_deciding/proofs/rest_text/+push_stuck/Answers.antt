@@ -1,4 +1,4 @@
-use Rattle.std.proofs.Common.{◌≡◌, ◌<◌, ◌∙◌, ◌++◌, ap, arith, subst, sym}
+use Rattle.std.proofs.Common.{◌≡◌, ◌<◌, ◌++◌, ap, arith, subst, sym}
 use Rattle.std.specs.List.Sorted.{IsStrictlySortedBy}
 use Rattle.std.specs.Ordering.{nat_cmp}
 use Rattle.std.proofs.lemmas.Result.{IfOk-weaker}
@@ -6,7 +6,7 @@ use Rattle.staat_holds.specs.declared.grouped.GroupedTree.{GroupedTree}
 use Rattle.staat_holds.specs.Partials.{PartialPlan, parted, partial_of}
 use Rattle.staat_deciding.specs.RestTexts.{HasAscendingGroups, HasSmallParts, steps_in, stuck_lines}
 use Rattle.staat_deciding.proofs.PartialLemmas.{moved_fewer, moved_small, rest_fewer, rest_small}
-use Rattle.staat_deciding.proofs.RestLines.{group_small, group_written, stuck_written}
+use Rattle.staat_deciding.proofs.RestLines.{group_small, stuck_written}
 use Rattle.staat_deciding.proofs.rest_text.+push_stuck.Goals as goal
 
 pub stuck_text-requires-clause-ascending : goal.stuck_text-requires-clause-ascending

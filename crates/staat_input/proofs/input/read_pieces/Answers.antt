@@ -18,33 +18,6 @@ use Rattle.staat_input.specs.Causes.{HasCause, IfTooLong, over}
 use Rattle.staat_input.proofs.InputLemmas.{cause_from, failed_with, memory_free, no_value, no_value_on}
 use Rattle.staat_input.proofs.input.read_pieces.Goals as goal
 
-pub returns-in_err-pieces-clause-opens : goal.returns-in_err-pieces-clause-opens
-returns-in_err-pieces-clause-opens g c = refused _ c.from_residual.result _ _ _ c.from_residual.ensures.1 (none_opened c.args.names.now (g.H.Shelf.told c.args.shelf.now).given (g.H.Shelf.told c.args.shelf.now).given refl)
-
-pub returns-in_err-piece-clause-opens : goal.returns-in_err-piece-clause-opens
-returns-in_err-piece-clause-opens g c =
-    refused _ c.from_residual-in_err-piece.result _ _ _ c.from_residual-in_err-piece.ensures.1
-    (names_some c.args.names.now (c.loop-name.name-index + 1) (g.H.Shelf.told c.args.shelf.now).given (g.H.Shelf.told c.read_moved.new.shelf).given
-    (name_more c.args.names.now c.loop-name.name-index c.name-item.result false (g.H.Shelf.told c.args.shelf.now).given (g.H.Shelf.told c.loop-name.shelf).given (g.H.Shelf.told c.read_moved.new.shelf).given c.loop-name-test.true c.name-item.is c.loop-name.invariant.opens c.in_err-piece.ensures.opens))
-
-pub returns-in_err-push-clause-opens : goal.returns-in_err-push-clause-opens
-returns-in_err-push-clause-opens g c =
-    refused _ c.from_residual-in_err-push.result _ _ _ c.from_residual-in_err-push.ensures.1
-    (names_some c.args.names.now (c.loop-name.name-index + 1) (g.H.Shelf.told c.args.shelf.now).given (g.H.Shelf.told c.read_moved.new.shelf).given
-    (all_some (take (c.loop-name.name-index + 1) c.args.names.now) (g.H.Shelf.told c.args.shelf.now).given (g.H.Shelf.told c.read_moved.new.shelf).given (name_more c.args.names.now c.loop-name.name-index c.name-item.result true (g.H.Shelf.told c.args.shelf.now).given (g.H.Shelf.told c.loop-name.shelf).given (g.H.Shelf.told c.read_moved.new.shelf).given c.loop-name-test.true c.name-item.is c.loop-name.invariant.opens c.in_ok-piece.ensures.opens)))
-
-pub returns-in_err-piece-clause-found : goal.returns-in_err-piece-clause-found
-returns-in_err-piece-clause-found g c = λ files fit.
-    each_failed (IsMovedPieceOf files c.args.digits c.args.at) c.args.names.now c.loop-name.name-index c.loop-name.pieces.items c.name-item.result c.in_err-piece.field-0.0 c.from_residual-in_err-piece.result
-    c.loop-name-test.true c.name-item.is
-    (c.loop-name.invariant.found files (narrowed (c.name-item.result ∷ []) (g.H.Shelf.told c.loop-name.shelf) (g.H.Shelf.told c.read_moved.new.shelf) c.in_err-piece.ensures.holds c.in_err-piece.ensures.opens files fit))
-    (c.in_err-piece.ensures.found files fit) c.from_residual-in_err-piece.ensures.1
-
-pub returns-in_err-piece-clause-named : goal.returns-in_err-piece-clause-named
-returns-in_err-piece-clause-named g c =
-    named_wider (λ long. long ≡ c.name-item.result) (Contains c.args.names.now) c.in_err-piece.field-0.0 c.from_residual-in_err-piece.result
-    (λ name e. subst (Contains c.args.names.now) (sym e) (c.loop-name.name-index, c.loop-name-test.true, sym c.name-item.is)) c.in_err-piece.ensures.named c.from_residual-in_err-piece.ensures.1
-
 pub loop-name-preserved : goal.loop-name-preserved
 loop-name-preserved g c =
     let items = c.in_ok-push.ensures.items in
@@ -66,100 +39,96 @@ loop-name-preserved g c =
           subst (λ n. AreSmall parts n c.read_moved.new.sketch.solids.items) (omega arith) (c.in_ok-piece.ensures.small parts (most + c.loop-name.name-index) lt (c.loop-name.invariant.small parts most lt h));
     }
 
-pub returns-clause-found : goal.returns-clause-found
-returns-clause-found g c = λ files fit.
-    subst (λ done. Each (IsMovedPieceOf files c.args.digits c.args.at) c.args.names.now (Ok done)) (sym c.from_vec.ensures)
-    (each_end (IsMovedPieceOf files c.args.digits c.args.at) c.args.names.now c.loop-name.name-index c.loop-name.pieces.items c.loop-name-test.false (c.loop-name.invariant.found files fit))
+pub returns-in_err-pieces : goal.returns-in_err-pieces
+returns-in_err-pieces g c = record {
+  holds = refl;
+  count = omega arith;
+  opens = refused _ c.from_residual.result _ _ _ c.from_residual.ensures.1 (none_opened c.args.names.now (g.H.Shelf.told c.args.shelf.now).given (g.H.Shelf.told c.args.shelf.now).given refl);
+  found = λ files fit. memory_free
+      (Each (IsMovedPieceOf files c.args.digits c.args.at) c.args.names.now) c.from_residual.result
+      c.from_residual.ensures.1;
+  pieces = no_value _ _ c.from_residual.result c.from_residual.ensures.1;
+  each = no_value _ _ c.from_residual.result c.from_residual.ensures.1;
+  drawn = λ files fit. no_value_on _ _ c.from_residual.result c.from_residual.ensures.1;
+  small = λ parts most few small. no_value_on _ _ c.from_residual.result
+      c.from_residual.ensures.1;
+  cause = failed_with (HasCause
+      (over (g.H.Shelf.told c.args.shelf.now) (g.H.Shelf.told c.args.shelf.now))) OutOfMemory c.from_residual.result tt
+      c.from_residual.ensures.1;
+  named = failed_with (IfTooLong (Contains c.args.names.now)) OutOfMemory
+      c.from_residual.result tt c.from_residual.ensures.1;
+}
 
-pub returns-clause-opens : goal.returns-clause-opens
-returns-clause-opens g c = subst (λ (names : List (List ℕ)). OpensAll names (g.H.Shelf.told c.args.shelf.now).given (g.H.Shelf.told c.loop-name.shelf).given) (take_all c.loop-name.name-index c.args.names.now c.loop-name-test.false) c.loop-name.invariant.opens
+pub returns-in_err-piece : goal.returns-in_err-piece
+returns-in_err-piece g c = record {
+  holds = c.in_err-piece.ensures.holds ∙ c.loop-name.invariant.holds;
+  count = omega (arith, c.loop-name.invariant.count, c.in_err-piece.ensures.count);
+  opens = refused _ c.from_residual-in_err-piece.result _ _ _ c.from_residual-in_err-piece.ensures.1
+      (names_some c.args.names.now (c.loop-name.name-index + 1) (g.H.Shelf.told c.args.shelf.now).given (g.H.Shelf.told c.read_moved.new.shelf).given
+      (name_more c.args.names.now c.loop-name.name-index c.name-item.result false (g.H.Shelf.told c.args.shelf.now).given (g.H.Shelf.told c.loop-name.shelf).given (g.H.Shelf.told c.read_moved.new.shelf).given c.loop-name-test.true c.name-item.is c.loop-name.invariant.opens c.in_err-piece.ensures.opens));
+  found = λ files fit.
+      each_failed (IsMovedPieceOf files c.args.digits c.args.at) c.args.names.now c.loop-name.name-index c.loop-name.pieces.items c.name-item.result c.in_err-piece.field-0.0 c.from_residual-in_err-piece.result
+      c.loop-name-test.true c.name-item.is
+      (c.loop-name.invariant.found files (narrowed (c.name-item.result ∷ []) (g.H.Shelf.told c.loop-name.shelf) (g.H.Shelf.told c.read_moved.new.shelf) c.in_err-piece.ensures.holds c.in_err-piece.ensures.opens files fit))
+      (c.in_err-piece.ensures.found files fit) c.from_residual-in_err-piece.ensures.1;
+  named = named_wider (λ long. long ≡ c.name-item.result) (Contains c.args.names.now) c.in_err-piece.field-0.0 c.from_residual-in_err-piece.result
+      (λ name e. subst (Contains c.args.names.now) (sym e) (c.loop-name.name-index, c.loop-name-test.true, sym c.name-item.is)) c.in_err-piece.ensures.named c.from_residual-in_err-piece.ensures.1;
+  pieces = no_value _ _ c.from_residual-in_err-piece.result
+      c.from_residual-in_err-piece.ensures.1;
+  each = no_value _ _ c.from_residual-in_err-piece.result
+      c.from_residual-in_err-piece.ensures.1;
+  drawn = λ files fit. no_value_on _ _ c.from_residual-in_err-piece.result
+      c.from_residual-in_err-piece.ensures.1;
+  small = λ parts most few small. no_value_on _ _ c.from_residual-in_err-piece.result
+      c.from_residual-in_err-piece.ensures.1;
+  cause = failed_with (HasCause
+      (over (g.H.Shelf.told c.args.shelf.now) (g.H.Shelf.told c.read_moved.new.shelf))) c.in_err-piece.field-0.0
+      c.from_residual-in_err-piece.result
+      (cause_from (g.H.Shelf.told c.args.shelf.now) (g.H.Shelf.told c.loop-name.shelf)
+      (g.H.Shelf.told c.read_moved.new.shelf) c.in_err-piece.field-0.0 c.loop-name.invariant.count
+      c.loop-name.invariant.holds c.in_err-piece.ensures.cause) c.from_residual-in_err-piece.ensures.1;
+}
 
-pub returns-clause-drawn : goal.returns-clause-drawn
-returns-clause-drawn g c = λ files fit.
-    subst (λ names. Drew c.args.sketch.now c.loop-name.sketch (map (solid_of files c.args.digits c.args.part c.args.at) names)) (take_all c.loop-name.name-index c.args.names.now c.loop-name-test.false)
-    (c.loop-name.invariant.drawn files fit)
+pub returns-in_err-push : goal.returns-in_err-push
+returns-in_err-push g c = record {
+  holds = c.in_ok-piece.ensures.holds ∙ c.loop-name.invariant.holds;
+  count = omega (arith, c.loop-name.invariant.count, c.in_ok-piece.ensures.count);
+  opens = refused _ c.from_residual-in_err-push.result _ _ _ c.from_residual-in_err-push.ensures.1
+      (names_some c.args.names.now (c.loop-name.name-index + 1) (g.H.Shelf.told c.args.shelf.now).given (g.H.Shelf.told c.read_moved.new.shelf).given
+      (all_some (take (c.loop-name.name-index + 1) c.args.names.now) (g.H.Shelf.told c.args.shelf.now).given (g.H.Shelf.told c.read_moved.new.shelf).given (name_more c.args.names.now c.loop-name.name-index c.name-item.result true (g.H.Shelf.told c.args.shelf.now).given (g.H.Shelf.told c.loop-name.shelf).given (g.H.Shelf.told c.read_moved.new.shelf).given c.loop-name-test.true c.name-item.is c.loop-name.invariant.opens c.in_ok-piece.ensures.opens)));
+  found = λ files fit. memory_free
+      (Each (IsMovedPieceOf files c.args.digits c.args.at) c.args.names.now) c.from_residual-in_err-push.result
+      c.from_residual-in_err-push.ensures.1;
+  pieces = no_value _ _ c.from_residual-in_err-push.result
+      c.from_residual-in_err-push.ensures.1;
+  each = no_value _ _ c.from_residual-in_err-push.result
+      c.from_residual-in_err-push.ensures.1;
+  drawn = λ files fit. no_value_on _ _ c.from_residual-in_err-push.result
+      c.from_residual-in_err-push.ensures.1;
+  small = λ parts most few small. no_value_on _ _ c.from_residual-in_err-push.result
+      c.from_residual-in_err-push.ensures.1;
+  cause = failed_with (HasCause (over (g.H.Shelf.told c.args.shelf.now)
+      (g.H.Shelf.told c.read_moved.new.shelf))) OutOfMemory c.from_residual-in_err-push.result tt
+      c.from_residual-in_err-push.ensures.1;
+  named = failed_with (IfTooLong (Contains c.args.names.now)) OutOfMemory
+      c.from_residual-in_err-push.result tt c.from_residual-in_err-push.ensures.1;
+}
 
-pub returns-clause-small : goal.returns-clause-small
-returns-clause-small g c = λ parts most lt h.
-    small_more parts (most + c.loop-name.name-index) (most + length c.args.names.now) c.loop-name.sketch.solids.items (omega (arith, c.loop-name-test.false)) (c.loop-name.invariant.small parts most lt h)
-
-pub returns-in_err-pieces-clause-found : goal.returns-in_err-pieces-clause-found
-returns-in_err-pieces-clause-found g c = λ files fit. memory_free
-    (Each (IsMovedPieceOf files c.args.digits c.args.at) c.args.names.now) c.from_residual.result
-    c.from_residual.ensures.1
-
-pub returns-in_err-pieces-clause-pieces : goal.returns-in_err-pieces-clause-pieces
-returns-in_err-pieces-clause-pieces g c = no_value _ _ c.from_residual.result c.from_residual.ensures.1
-
-pub returns-in_err-pieces-clause-each : goal.returns-in_err-pieces-clause-each
-returns-in_err-pieces-clause-each g c = no_value _ _ c.from_residual.result c.from_residual.ensures.1
-
-pub returns-in_err-pieces-clause-drawn : goal.returns-in_err-pieces-clause-drawn
-returns-in_err-pieces-clause-drawn g c = λ files fit. no_value_on _ _ c.from_residual.result c.from_residual.ensures.1
-
-pub returns-in_err-pieces-clause-small : goal.returns-in_err-pieces-clause-small
-returns-in_err-pieces-clause-small g c = λ parts most few small. no_value_on _ _ c.from_residual.result
-    c.from_residual.ensures.1
-
-pub returns-in_err-pieces-clause-cause : goal.returns-in_err-pieces-clause-cause
-returns-in_err-pieces-clause-cause g c = failed_with (HasCause
-    (over (g.H.Shelf.told c.args.shelf.now) (g.H.Shelf.told c.args.shelf.now))) OutOfMemory c.from_residual.result tt
-    c.from_residual.ensures.1
-
-pub returns-in_err-pieces-clause-named : goal.returns-in_err-pieces-clause-named
-returns-in_err-pieces-clause-named g c = failed_with (IfTooLong (Contains c.args.names.now)) OutOfMemory
-    c.from_residual.result tt c.from_residual.ensures.1
-
-pub returns-in_err-push-clause-found : goal.returns-in_err-push-clause-found
-returns-in_err-push-clause-found g c = λ files fit. memory_free
-    (Each (IsMovedPieceOf files c.args.digits c.args.at) c.args.names.now) c.from_residual-in_err-push.result
-    c.from_residual-in_err-push.ensures.1
-
-pub returns-in_err-push-clause-pieces : goal.returns-in_err-push-clause-pieces
-returns-in_err-push-clause-pieces g c = no_value _ _ c.from_residual-in_err-push.result
-    c.from_residual-in_err-push.ensures.1
-
-pub returns-in_err-push-clause-each : goal.returns-in_err-push-clause-each
-returns-in_err-push-clause-each g c = no_value _ _ c.from_residual-in_err-push.result
-    c.from_residual-in_err-push.ensures.1
-
-pub returns-in_err-push-clause-drawn : goal.returns-in_err-push-clause-drawn
-returns-in_err-push-clause-drawn g c = λ files fit. no_value_on _ _ c.from_residual-in_err-push.result
-    c.from_residual-in_err-push.ensures.1
-
-pub returns-in_err-push-clause-small : goal.returns-in_err-push-clause-small
-returns-in_err-push-clause-small g c = λ parts most few small. no_value_on _ _ c.from_residual-in_err-push.result
-    c.from_residual-in_err-push.ensures.1
-
-pub returns-in_err-push-clause-cause : goal.returns-in_err-push-clause-cause
-returns-in_err-push-clause-cause g c = failed_with (HasCause (over (g.H.Shelf.told c.args.shelf.now)
-    (g.H.Shelf.told c.read_moved.new.shelf))) OutOfMemory c.from_residual-in_err-push.result tt
-    c.from_residual-in_err-push.ensures.1
-
-pub returns-in_err-push-clause-named : goal.returns-in_err-push-clause-named
-returns-in_err-push-clause-named g c = failed_with (IfTooLong (Contains c.args.names.now)) OutOfMemory
-    c.from_residual-in_err-push.result tt c.from_residual-in_err-push.ensures.1
-
-pub returns-in_err-piece-clause-pieces : goal.returns-in_err-piece-clause-pieces
-returns-in_err-piece-clause-pieces g c = no_value _ _ c.from_residual-in_err-piece.result
-    c.from_residual-in_err-piece.ensures.1
-
-pub returns-in_err-piece-clause-each : goal.returns-in_err-piece-clause-each
-returns-in_err-piece-clause-each g c = no_value _ _ c.from_residual-in_err-piece.result
-    c.from_residual-in_err-piece.ensures.1
-
-pub returns-in_err-piece-clause-drawn : goal.returns-in_err-piece-clause-drawn
-returns-in_err-piece-clause-drawn g c = λ files fit. no_value_on _ _ c.from_residual-in_err-piece.result
-    c.from_residual-in_err-piece.ensures.1
-
-pub returns-in_err-piece-clause-small : goal.returns-in_err-piece-clause-small
-returns-in_err-piece-clause-small g c = λ parts most few small. no_value_on _ _ c.from_residual-in_err-piece.result
-    c.from_residual-in_err-piece.ensures.1
-
-pub returns-in_err-piece-clause-cause : goal.returns-in_err-piece-clause-cause
-returns-in_err-piece-clause-cause g c = failed_with (HasCause
-    (over (g.H.Shelf.told c.args.shelf.now) (g.H.Shelf.told c.read_moved.new.shelf))) c.in_err-piece.field-0.0
-    c.from_residual-in_err-piece.result
-    (cause_from (g.H.Shelf.told c.args.shelf.now) (g.H.Shelf.told c.loop-name.shelf)
-    (g.H.Shelf.told c.read_moved.new.shelf) c.in_err-piece.field-0.0 c.loop-name.invariant.count
-    c.loop-name.invariant.holds c.in_err-piece.ensures.cause) c.from_residual-in_err-piece.ensures.1
+pub returns : goal.returns
+returns g c = record {
+  holds = c.loop-name.invariant.holds;
+  count = c.loop-name.invariant.count;
+  pieces = subst (All IsPiece) (sym c.from_vec.ensures) c.loop-name.invariant.pieces;
+  each = ap length c.from_vec.ensures ∙ c.loop-name.invariant.each ∙ omega arith;
+  cause = tt;
+  named = tt;
+  found = λ files fit.
+      subst (λ done. Each (IsMovedPieceOf files c.args.digits c.args.at) c.args.names.now (Ok done)) (sym c.from_vec.ensures)
+      (each_end (IsMovedPieceOf files c.args.digits c.args.at) c.args.names.now c.loop-name.name-index c.loop-name.pieces.items c.loop-name-test.false (c.loop-name.invariant.found files fit));
+  opens = subst (λ (names : List (List ℕ)). OpensAll names (g.H.Shelf.told c.args.shelf.now).given (g.H.Shelf.told c.loop-name.shelf).given) (take_all c.loop-name.name-index c.args.names.now c.loop-name-test.false) c.loop-name.invariant.opens;
+  drawn = λ files fit.
+      subst (λ names. Drew c.args.sketch.now c.loop-name.sketch (map (solid_of files c.args.digits c.args.part c.args.at) names)) (take_all c.loop-name.name-index c.args.names.now c.loop-name-test.false)
+      (c.loop-name.invariant.drawn files fit);
+  small = λ parts most lt h.
+      small_more parts (most + c.loop-name.name-index) (most + length c.args.names.now) c.loop-name.sketch.solids.items (omega (arith, c.loop-name-test.false)) (c.loop-name.invariant.small parts most lt h);
+}

@@ -17,7 +17,7 @@ use Rattle.staat_input.specs.Drawing.{AreSmall, Drew, IsDrawnWithin, solids_of}
 use Rattle.staat_input.specs.Inputs.{IsListingOfWithin, IsPartOf}
 use Rattle.staat_input.specs.Shapes.{AreRead, IsFewWithin, ListsPiece}
 use Rattle.staat_input.specs.Work.{Each, Files}
-use Rattle.staat_input.proofs.InputLemmas.{cause_from, few_read, same_length, then_given}
+use Rattle.staat_input.proofs.InputLemmas.{cause_from, failed_with, few_read, no_value, no_value_on, same_length, then_failed, then_given}
 use Rattle.staat_input.specs.Opened.{ReadsNames, piece_files}
 use Rattle.staat_input.proofs.OpenedLemmas.{input_refused, pieces_opened}
 use Rattle.staat_input.proofs.SketchLemmas.{small_more, small_none}
@@ -54,45 +54,44 @@ named_by P Q (Ok parts) wider h = tt
 named_by P Q (Err (TooLong name)) wider h = wider name h
 named_by P Q (Err f) wider h = tt
 
-pub returns-in_err-listing-clause-opens : goal.returns-in_err-listing-clause-opens
-returns-in_err-listing-clause-opens g c = input_refused _ c.args.limits c.from_residual.result c.args.asked.now.input [] (g.H.Shelf.told c.args.shelf.now) (g.H.Shelf.told c.names_of.new.shelf) c.from_residual.ensures.1 c.in_err-listing.ensures.opens
+pub returns-in_err-listing : goal.returns-in_err-listing
+returns-in_err-listing g c = record {
+  holds = c.in_err-listing.ensures.holds;
+  count = c.in_err-listing.ensures.count;
+  found = λ files fit. then_failed (IsListingOfWithin c.args.limits files c.args.asked.now.input) (Each (IsPartOf files c.args.asked.now.digits)) c.in_err-listing.field-0.0 c.from_residual.result (c.in_err-listing.ensures.found files fit) c.from_residual.ensures.1;
+  few = no_value _ _ c.from_residual.result c.from_residual.ensures.1;
+  drawn = λ files fit empty. no_value_on _ _ c.from_residual.result c.from_residual.ensures.1;
+  small = λ empty. no_value _ _ c.from_residual.result c.from_residual.ensures.1;
+  cause = failed_with (HasCause (over (g.H.Shelf.told c.args.shelf.now) (g.H.Shelf.told c.names_of.new.shelf))) c.in_err-listing.field-0.0 c.from_residual.result c.in_err-listing.ensures.cause c.from_residual.ensures.1;
+  named = failed_with (IfTooLong (MayName c.args.asked.now.input)) c.in_err-listing.field-0.0 c.from_residual.result c.in_err-listing.ensures.named c.from_residual.ensures.1;
+  opens = input_refused _ c.args.limits c.from_residual.result c.args.asked.now.input [] (g.H.Shelf.told c.args.shelf.now) (g.H.Shelf.told c.names_of.new.shelf) c.from_residual.ensures.1 c.in_err-listing.ensures.opens;
+}
 
-pub returns-clause-opens : goal.returns-clause-opens
-returns-clause-opens g c =
-    pieces_opened c.args.limits (is_ok c.read_parts.result) c.args.asked.now.input c.as_slice.result.now
-    (g.H.Shelf.told c.args.shelf.now) (g.H.Shelf.told c.names_of.new.shelf) (g.H.Shelf.told c.read_parts.new.shelf)
-    (subst (λ (n : List ListedPart). ReadsNames c.args.limits c.args.asked.now.input n (g.H.Shelf.told c.args.shelf.now) (g.H.Shelf.told c.names_of.new.shelf)) (sym c.as_slice.ensures) c.in_ok-listing.ensures.gave) c.read_parts.ensures.opens
-
-pub returns-clause-found : goal.returns-clause-found
-returns-clause-found g c = λ files fit.
-    let back : Narrows (g.H.Shelf.told c.names_of.new.shelf) (g.H.Shelf.told c.read_parts.new.shelf) = narrowed (piece_files c.as_slice.result.now) (g.H.Shelf.told c.names_of.new.shelf) (g.H.Shelf.told c.read_parts.new.shelf) c.read_parts.ensures.holds
-    (opens_some (is_ok c.read_parts.result) (piece_files c.as_slice.result.now) (g.H.Shelf.told c.names_of.new.shelf).given (g.H.Shelf.told c.read_parts.new.shelf).given c.read_parts.ensures.opens) in
-    let listed = subst (λ (n : List ListedPart). IsListingOfWithin c.args.limits files c.args.asked.now.input (Ok n)) (sym c.as_slice.ensures) (c.in_ok-listing.ensures.found files (back files fit)) in
-    then_given (IsListingOfWithin c.args.limits files c.args.asked.now.input) (Each (IsPartOf files c.args.asked.now.digits)) c.as_slice.result.now c.read_parts.result listed
-    (c.read_parts.ensures.found files fit)
-
-pub returns-clause-few : goal.returns-clause-few
-returns-clause-few g c = parts_few c.args.limits c.as_slice.result.now c.read_parts.result (subst (IsFewWithin c.args.limits) (sym c.as_slice.ensures) c.in_ok-listing.ensures.few) c.read_parts.ensures.read
-
-pub returns-clause-drawn : goal.returns-clause-drawn
-returns-clause-drawn g c = λ files fit empty.
-    let back : Narrows (g.H.Shelf.told c.names_of.new.shelf) (g.H.Shelf.told c.read_parts.new.shelf) = narrowed (piece_files c.as_slice.result.now) (g.H.Shelf.told c.names_of.new.shelf) (g.H.Shelf.told c.read_parts.new.shelf) c.read_parts.ensures.holds
-    (opens_some (is_ok c.read_parts.result) (piece_files c.as_slice.result.now) (g.H.Shelf.told c.names_of.new.shelf).given (g.H.Shelf.told c.read_parts.new.shelf).given c.read_parts.ensures.opens) in
-    let listed = subst (λ (n : List ListedPart). IsListingOfWithin c.args.limits files c.args.asked.now.input (Ok n)) (sym c.as_slice.ensures) (c.in_ok-listing.ensures.found files (back files fit)) in
-    parts_drawn c.args.limits files c.args.asked.now c.args.sketch.now c.read_parts.new.sketch c.as_slice.result.now c.read_parts.result listed empty
-    (c.read_parts.ensures.drawn files fit)
-
-pub returns-clause-small : goal.returns-clause-small
-returns-clause-small g c = λ empty.
-    parts_small c.args.limits c.args.sketch.now c.read_parts.new.sketch c.as_slice.result.now c.read_parts.result (subst (IsFewWithin c.args.limits) (sym c.as_slice.ensures) c.in_ok-listing.ensures.few)
-    c.read_parts.ensures.read empty c.read_parts.ensures.small
-
-pub returns-clause-cause : goal.returns-clause-cause
-returns-clause-cause g c =
-    cause_before (g.H.Shelf.told c.args.shelf.now) (g.H.Shelf.told c.names_of.new.shelf) (g.H.Shelf.told c.read_parts.new.shelf) c.read_parts.result
-    c.in_ok-listing.ensures.count c.in_ok-listing.ensures.holds c.read_parts.ensures.cause
-
-pub returns-clause-named : goal.returns-clause-named
-returns-clause-named g c =
-    named_by (ListsPiece c.as_slice.result.now) (MayName c.args.asked.now.input) c.read_parts.result
-    (λ name h. c.in_ok-listing.ensures.names name (subst (λ (n : List ListedPart). ListsPiece n name) c.as_slice.ensures h)) c.read_parts.ensures.named
+pub returns : goal.returns
+returns g c = record {
+  holds = c.read_parts.ensures.holds ∙ c.in_ok-listing.ensures.holds;
+  count = omega (arith, c.in_ok-listing.ensures.count, c.read_parts.ensures.count);
+  opens = pieces_opened c.args.limits (is_ok c.read_parts.result) c.args.asked.now.input c.as_slice.result.now
+      (g.H.Shelf.told c.args.shelf.now) (g.H.Shelf.told c.names_of.new.shelf) (g.H.Shelf.told c.read_parts.new.shelf)
+      (subst (λ (n : List ListedPart). ReadsNames c.args.limits c.args.asked.now.input n (g.H.Shelf.told c.args.shelf.now) (g.H.Shelf.told c.names_of.new.shelf)) (sym c.as_slice.ensures) c.in_ok-listing.ensures.gave) c.read_parts.ensures.opens;
+  found = λ files fit.
+      let back : Narrows (g.H.Shelf.told c.names_of.new.shelf) (g.H.Shelf.told c.read_parts.new.shelf) = narrowed (piece_files c.as_slice.result.now) (g.H.Shelf.told c.names_of.new.shelf) (g.H.Shelf.told c.read_parts.new.shelf) c.read_parts.ensures.holds
+      (opens_some (is_ok c.read_parts.result) (piece_files c.as_slice.result.now) (g.H.Shelf.told c.names_of.new.shelf).given (g.H.Shelf.told c.read_parts.new.shelf).given c.read_parts.ensures.opens) in
+      let listed = subst (λ (n : List ListedPart). IsListingOfWithin c.args.limits files c.args.asked.now.input (Ok n)) (sym c.as_slice.ensures) (c.in_ok-listing.ensures.found files (back files fit)) in
+      then_given (IsListingOfWithin c.args.limits files c.args.asked.now.input) (Each (IsPartOf files c.args.asked.now.digits)) c.as_slice.result.now c.read_parts.result listed
+      (c.read_parts.ensures.found files fit);
+  few = parts_few c.args.limits c.as_slice.result.now c.read_parts.result (subst (IsFewWithin c.args.limits) (sym c.as_slice.ensures) c.in_ok-listing.ensures.few) c.read_parts.ensures.read;
+  drawn = λ files fit empty.
+      let back : Narrows (g.H.Shelf.told c.names_of.new.shelf) (g.H.Shelf.told c.read_parts.new.shelf) = narrowed (piece_files c.as_slice.result.now) (g.H.Shelf.told c.names_of.new.shelf) (g.H.Shelf.told c.read_parts.new.shelf) c.read_parts.ensures.holds
+      (opens_some (is_ok c.read_parts.result) (piece_files c.as_slice.result.now) (g.H.Shelf.told c.names_of.new.shelf).given (g.H.Shelf.told c.read_parts.new.shelf).given c.read_parts.ensures.opens) in
+      let listed = subst (λ (n : List ListedPart). IsListingOfWithin c.args.limits files c.args.asked.now.input (Ok n)) (sym c.as_slice.ensures) (c.in_ok-listing.ensures.found files (back files fit)) in
+      parts_drawn c.args.limits files c.args.asked.now c.args.sketch.now c.read_parts.new.sketch c.as_slice.result.now c.read_parts.result listed empty
+      (c.read_parts.ensures.drawn files fit);
+  small = λ empty.
+      parts_small c.args.limits c.args.sketch.now c.read_parts.new.sketch c.as_slice.result.now c.read_parts.result (subst (IsFewWithin c.args.limits) (sym c.as_slice.ensures) c.in_ok-listing.ensures.few)
+      c.read_parts.ensures.read empty c.read_parts.ensures.small;
+  cause = cause_before (g.H.Shelf.told c.args.shelf.now) (g.H.Shelf.told c.names_of.new.shelf) (g.H.Shelf.told c.read_parts.new.shelf) c.read_parts.result
+      c.in_ok-listing.ensures.count c.in_ok-listing.ensures.holds c.read_parts.ensures.cause;
+  named = named_by (ListsPiece c.as_slice.result.now) (MayName c.args.asked.now.input) c.read_parts.result
+      (λ name h. c.in_ok-listing.ensures.names name (subst (λ (n : List ListedPart). ListsPiece n name) c.as_slice.ensures h)) c.read_parts.ensures.named;
+}

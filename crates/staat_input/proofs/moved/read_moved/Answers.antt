@@ -1,94 +1,75 @@
-use Rattle.std.proofs.Common.{◌≡◌, [], ◌∷◌, List, Err}
-use Rattle.staat_vec.specs.declared.vector.V3.{V3}
-use Rattle.std.proofs.lemmas.Result.{err_from_is_err_and}
+use Rattle.std.proofs.Common.{◌≡◌, ◌+◌, [], ◌∷◌, subst}
+use Rattle.std.specs.Prelude.{is_ok}
 use Rattle.staat_edge.proofs.OpeningLemmas.{all_some, refused}
-use Rattle.staat_input.specs.Pieces.{IsPieceOf}
-use Rattle.staat_input.specs.Moved.{MovesPiece}
-use Rattle.staat_input.specs.Causes.{HasCause, IfTooLong, over}
-use Rattle.staat_input.proofs.CauseLemmas.{never_long}
-use Rattle.staat_input.proofs.InputLemmas.{failed_with, then_failed, then_given}
 use Rattle.staat_fault.specs.declared.fault.Fault.TheVariants.{OutOfMemory}
-use Rattle.staat_input.specs.Moved.{IsMovedPieceOf}
-use Rattle.staat_input.proofs.InputLemmas.{memory_free, no_value_on}
+use Rattle.staat_off.specs.declared.raw.Raw.{Raw}
+use Rattle.staat_input.specs.Causes.{HasCause, IfTooLong, over}
+use Rattle.staat_input.specs.Drawing.{AreSmall, Drew, solid_of}
+use Rattle.staat_input.specs.Moved.{IsMovedPieceOf, MovesPiece}
+use Rattle.staat_input.specs.Pieces.{IsPieceOf}
+use Rattle.staat_input.proofs.CauseLemmas.{never_long}
+use Rattle.staat_input.proofs.InputLemmas.{failed_with, memory_free, no_value_on, then_failed, then_given, value_on}
+use Rattle.staat_input.proofs.OpenedLemmas.{all_opened}
 use Rattle.staat_input.proofs.moved.read_moved.Goals as goal
 
-pub returns-in_err-drawn-clause-opens : goal.returns-in_err-drawn-clause-opens
-returns-in_err-drawn-clause-opens g c = refused _ c.from_residual.result _ _ _ c.from_residual.ensures.1 c.in_err-drawn.ensures.opens
+pub returns-in_err-raw : goal.returns-in_err-raw
+returns-in_err-raw g c =
+    let before = g.H.Shelf.told c.args.shelf.now in
+    let now = g.H.Shelf.told c.read_drawn.new.shelf in
+    let name = c.args.name.now in
+    let fault = c.in_err-raw.field-0.0 in
+    let found = c.from_residual.result in
+    let is = c.from_residual.ensures.1 in
+    record {
+      holds = c.read_drawn.ensures.holds;
+      count = c.read_drawn.ensures.count;
+      opens = refused _ found _ _ _ is c.in_err-raw.ensures.opens;
+      found = λ files fit. then_failed (IsPieceOf files c.args.digits name) (MovesPiece name c.args.at) fault found
+          (c.in_err-raw.ensures.found files fit) is;
+      drawn = λ files fit. no_value_on _ _ found is;
+      small = λ parts most few small. no_value_on _ _ found is;
+      cause = failed_with (HasCause (over before now)) fault found c.in_err-raw.ensures.cause is;
+      named = failed_with (IfTooLong (λ long. long ≡ name)) fault found c.in_err-raw.ensures.named is;
+    }
 
-pub returns-in_err-placed-clause-opens : goal.returns-in_err-placed-clause-opens
-returns-in_err-placed-clause-opens g c =
-    refused _ c.from_residual-in_err-placed.result _ _ _ c.from_residual-in_err-placed.ensures.1
-    (all_some (c.args.name.now ∷ []) (g.H.Shelf.told c.args.shelf.now).given (g.H.Shelf.told c.read_drawn.new.shelf).given c.in_ok-drawn.ensures.opens)
+pub returns-in_err-add : goal.returns-in_err-add
+returns-in_err-add g c =
+    let before = g.H.Shelf.told c.args.shelf.now in
+    let now = g.H.Shelf.told c.read_drawn.new.shelf in
+    let name = c.args.name.now in
+    let found = c.from_residual-in_err-add.result in
+    let is = c.from_residual-in_err-add.ensures.1 in
+    record {
+      holds = c.read_drawn.ensures.holds;
+      count = c.read_drawn.ensures.count;
+      opens = refused _ found _ _ _ is (all_some (name ∷ []) before.given now.given c.in_ok-raw.ensures.opens);
+      found = λ files fit. memory_free (IsMovedPieceOf files c.args.digits c.args.at name) found is;
+      drawn = λ files fit. no_value_on _ _ found is;
+      small = λ parts most few small. no_value_on _ _ found is;
+      cause = failed_with (HasCause (over before now)) OutOfMemory found tt is;
+      named = failed_with (IfTooLong (λ long. long ≡ name)) OutOfMemory found tt is;
+    }
 
-pub returns-in_err-add-clause-opens : goal.returns-in_err-add-clause-opens
-returns-in_err-add-clause-opens g c =
-    refused _ c.from_residual-in_err-add.result _ _ _ c.from_residual-in_err-add.ensures.1
-    (all_some (c.args.name.now ∷ []) (g.H.Shelf.told c.args.shelf.now).given (g.H.Shelf.told c.read_drawn.new.shelf).given c.in_ok-drawn.ensures.opens)
-
-pub returns-in_err-drawn-clause-found : goal.returns-in_err-drawn-clause-found
-returns-in_err-drawn-clause-found g c = λ files fit.
-    then_failed (IsPieceOf files c.args.digits c.args.name.now) (MovesPiece c.args.name.now c.args.at)
-    c.in_err-drawn.field-0.0 c.from_residual.result (c.in_err-drawn.ensures.found files fit) c.from_residual.ensures.1
-
-pub returns-in_err-placed-clause-found : goal.returns-in_err-placed-clause-found
-returns-in_err-placed-clause-found g c = λ files fit.
-    let p = err_from_is_err_and c.from_residual-in_err-placed.result c.from_residual-in_err-placed.ensures.1 in
-    then_given (IsPieceOf files c.args.digits c.args.name.now) (MovesPiece c.args.name.now c.args.at)
-    c.in_ok-drawn.drawn.piece c.from_residual-in_err-placed.result (c.in_ok-drawn.ensures.found files fit)
-    (rw (p.1, p.2) c.in_err-placed.ensures.moves)
-
-pub returns-in_err-placed-clause-cause : goal.returns-in_err-placed-clause-cause
-returns-in_err-placed-clause-cause g c =
-    failed_with (HasCause (over (g.H.Shelf.told c.args.shelf.now) (g.H.Shelf.told c.read_drawn.new.shelf))) c.in_err-placed.field-0.0
-    c.from_residual-in_err-placed.result (c.in_err-placed.ensures.cause _) c.from_residual-in_err-placed.ensures.1
-
-pub returns-in_err-placed-clause-named : goal.returns-in_err-placed-clause-named
-returns-in_err-placed-clause-named g c =
-    failed_with (IfTooLong (λ long. long ≡ c.args.name.now)) c.in_err-placed.field-0.0 c.from_residual-in_err-placed.result
-    (never_long {X = List V3} (λ long. long ≡ c.args.name.now) (Err c.in_err-placed.field-0.0) c.in_err-placed.ensures.cause) c.from_residual-in_err-placed.ensures.1
-
-pub returns-in_err-drawn-clause-drawn : goal.returns-in_err-drawn-clause-drawn
-returns-in_err-drawn-clause-drawn g c = λ files fit. no_value_on _ _ c.from_residual.result c.from_residual.ensures.1
-
-pub returns-in_err-drawn-clause-small : goal.returns-in_err-drawn-clause-small
-returns-in_err-drawn-clause-small g c = λ parts most few small. no_value_on _ _ c.from_residual.result
-    c.from_residual.ensures.1
-
-pub returns-in_err-placed-clause-drawn : goal.returns-in_err-placed-clause-drawn
-returns-in_err-placed-clause-drawn g c = λ files fit. no_value_on _ _ c.from_residual-in_err-placed.result
-    c.from_residual-in_err-placed.ensures.1
-
-pub returns-in_err-placed-clause-small : goal.returns-in_err-placed-clause-small
-returns-in_err-placed-clause-small g c = λ parts most few small. no_value_on _ _ c.from_residual-in_err-placed.result
-    c.from_residual-in_err-placed.ensures.1
-
-pub returns-in_err-add-clause-drawn : goal.returns-in_err-add-clause-drawn
-returns-in_err-add-clause-drawn g c = λ files fit. no_value_on _ _ c.from_residual-in_err-add.result
-    c.from_residual-in_err-add.ensures.1
-
-pub returns-in_err-add-clause-small : goal.returns-in_err-add-clause-small
-returns-in_err-add-clause-small g c = λ parts most few small. no_value_on _ _ c.from_residual-in_err-add.result
-    c.from_residual-in_err-add.ensures.1
-
-pub returns-in_err-drawn-clause-cause : goal.returns-in_err-drawn-clause-cause
-returns-in_err-drawn-clause-cause g c = failed_with (HasCause
-    (over (g.H.Shelf.told c.args.shelf.now) (g.H.Shelf.told c.read_drawn.new.shelf))) c.in_err-drawn.field-0.0
-    c.from_residual.result c.in_err-drawn.ensures.cause c.from_residual.ensures.1
-
-pub returns-in_err-drawn-clause-named : goal.returns-in_err-drawn-clause-named
-returns-in_err-drawn-clause-named g c = failed_with (IfTooLong (λ long. long ≡ c.args.name.now))
-    c.in_err-drawn.field-0.0 c.from_residual.result c.in_err-drawn.ensures.named c.from_residual.ensures.1
-
-pub returns-in_err-add-clause-found : goal.returns-in_err-add-clause-found
-returns-in_err-add-clause-found g c = λ files fit. memory_free
-    (IsMovedPieceOf files c.args.digits c.args.at c.args.name.now) c.from_residual-in_err-add.result
-    c.from_residual-in_err-add.ensures.1
-
-pub returns-in_err-add-clause-cause : goal.returns-in_err-add-clause-cause
-returns-in_err-add-clause-cause g c = failed_with (HasCause (over (g.H.Shelf.told c.args.shelf.now)
-    (g.H.Shelf.told c.read_drawn.new.shelf))) OutOfMemory c.from_residual-in_err-add.result tt
-    c.from_residual-in_err-add.ensures.1
-
-pub returns-in_err-add-clause-named : goal.returns-in_err-add-clause-named
-returns-in_err-add-clause-named g c = failed_with (IfTooLong (λ long. long ≡ c.args.name.now)) OutOfMemory
-    c.from_residual-in_err-add.result tt c.from_residual-in_err-add.ensures.1
+pub returns : goal.returns
+returns g c =
+    let before = g.H.Shelf.told c.args.shelf.now in
+    let now = g.H.Shelf.told c.read_drawn.new.shelf in
+    let name = c.args.name.now in
+    let sketch = c.args.sketch.now in
+    let kept = c.add.new.self in
+    record {
+      holds = c.read_drawn.ensures.holds;
+      count = c.read_drawn.ensures.count;
+      opens = all_opened (is_ok c.moved.result) (name ∷ []) before.given now.given c.in_ok-raw.ensures.opens;
+      found = λ files fit. then_given (IsPieceOf files c.args.digits name) (MovesPiece name c.args.at)
+          c.in_ok-raw.field-0.piece c.moved.result (c.in_ok-raw.ensures.found files fit) c.moved.ensures.moves;
+      drawn = λ files fit.
+          value_on (Drew sketch kept (solid_of files c.args.digits c.args.part c.args.at name ∷ [])) c.moved.result
+          (subst (λ (raw : Raw). Drew sketch kept (record { part = c.args.part; at = c.args.at; raw = raw } ∷ []))
+          (c.in_ok-raw.ensures.raw files fit) c.in_ok-add.ensures.drew);
+      small = λ parts most few small.
+          value_on (AreSmall parts (most + 1) kept.solids.items) c.moved.result
+          (c.in_ok-add.ensures.small parts most few small);
+      cause = c.moved.ensures.cause (over before now);
+      named = never_long (λ long. long ≡ name) c.moved.result c.moved.ensures.cause;
+    }

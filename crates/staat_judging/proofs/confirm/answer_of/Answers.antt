@@ -1,4 +1,6 @@
 use Rattle.std.proofs.Common.{◌≡◌, ◌∙◌, ℕ, List, ap, refl, sym}
+use Rattle.staat_fault.specs.declared.fault.Fault.TheVariants.{OutOfMemory}
+use Rattle.staat_input.proofs.InputLemmas.{failed_with, no_value}
 use Rattle.staat_input.specs.declared.answer.Answer.{Answer}
 use Rattle.staat_short.specs.declared.short.ShortAnswer.{ShortAnswer}
 use Rattle.staat_confirm.specs.declared.verdict.ShortVerdict.{ShortVerdict}
@@ -27,3 +29,13 @@ returns-in-ValidPlan-clause-is c = said c.args.answer.now c.args.verdict.now Val
 pub returns-in-ValidRefusal-clause-is : goal.returns-in-ValidRefusal-clause-is
 returns-in-ValidRefusal-clause-is c = said c.args.answer.now c.args.verdict.now ValidRefusal 0 c.in_ok-text.text
     c.in_ok-text.ensures c.in-ValidRefusal.is refl
+
+pub returns-in_err-text : goal.returns-in_err-text
+returns-in_err-text c =
+    let found = c.from_residual.result in
+    let is = c.from_residual.ensures.1 in
+    record {
+      status = no_value _ _ found is;
+      is = no_value _ _ found is;
+      memory = failed_with (λ fault. fault ≡ OutOfMemory) OutOfMemory found refl is;
+    }

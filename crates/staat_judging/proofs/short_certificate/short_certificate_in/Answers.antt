@@ -1,5 +1,7 @@
 use Rattle.std.proofs.Common.{◌≡◌, ◌∙◌, Err, ap, subst, sym}
 use Rattle.staat_fault.specs.declared.fault.Fault.{Fault}
+use Rattle.staat_fault.specs.declared.fault.Fault.TheVariants.{OutOfMemory}
+use Rattle.staat_input.proofs.InputLemmas.{failed_with, memory_free, no_value}
 use Rattle.staat_input.specs.Work.{Follows}
 use Rattle.staat_judging.specs.Causes.{HasCertificateCause}
 use Rattle.staat_judging.specs.Checking.{cert_fault}
@@ -30,4 +32,14 @@ returns-in_ok-copied-in-Err c =
       formed = tt;
       cause = λ shelf. subst (HasCertificateCause name shelf) (sym named)
           (refused_cause shelf name c.requires.0 refusal c.requires.1.within (refused c.requires.0 c.requires.1.fed));
+    }
+
+pub returns-in_err-copied-in-Err : goal.returns-in_err-copied-in-Err
+returns-in_err-copied-in-Err c =
+    let found = c.from_residual.result in
+    let is = c.from_residual.ensures.1 in
+    record {
+      says = λ text fed. memory_free (SaysShortCertificate c.args.name.now text) found is;
+      formed = no_value _ _ found is;
+      cause = λ shelf. failed_with (HasCertificateCause c.args.name.now shelf) OutOfMemory found tt is;
     }

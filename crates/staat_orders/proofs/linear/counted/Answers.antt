@@ -1,23 +1,52 @@
-use Rattle.std.proofs.Common.{Ok, ap}
-use Rattle.staat_input.specs.Counting.{AreCounted}
+use Rattle.std.proofs.Common.{◌≡◌, Err, List, Ok, Result, ap, subst, sym}
+use Rattle.std.specs.Prelude.{IfErr, IfOk}
+use Rattle.staat_fault.specs.declared.fault.Fault.{Fault}
+use Rattle.staat_fault.specs.declared.fault.Fault.TheVariants.{OutOfMemory}
+use Rattle.staat_linear.specs.Orders.{IsChosen}
+use Rattle.staat_linear.specs.declared.order.Order.{Order}
+use Rattle.staat_model.specs.declared.assembly.Part.{Part}
+use Rattle.staat_input.specs.declared.answer.Answer.{Answer}
+use Rattle.staat_input.specs.Counting.{AreCounted, all_parts}
 use Rattle.staat_input.specs.Causes.{HasCause}
+use Rattle.staat_input.specs.Work.{Follows}
 use Rattle.staat_input.proofs.CountingLemmas.{counted_few}
-use Rattle.staat_input.proofs.InputLemmas.{failed_with, then_failed, then_given}
-use Rattle.staat_orders.specs.Ordering.{IsOrdered}
+use Rattle.staat_input.proofs.InputLemmas.{failed_with, no_value, then_failed, then_given}
+use Rattle.staat_orders.specs.Ordering.{IsOrdered, order_answer}
 use Rattle.staat_orders.proofs.linear.counted.Goals as goal
 
-pub returns-in_err-order-clause-ordered : goal.returns-in_err-order-clause-ordered
-returns-in_err-order-clause-ordered c =
-    then_failed (AreCounted c.args.sound.now c.args.planes) (λ planes. IsOrdered c.args.sound.now)
-    c.in_err-order.field-0.0 c.from_residual.result c.in_err-order.ensures.refused c.from_residual.ensures.1
+-- the chosen order, written, or want of memory
+ordered : (parts : List Part) (order : Order) (r : Result Answer Fault) → IsChosen parts (all_parts parts) order
+    → IfOk r (λ a. a ≡ order_answer order) → IfErr r (λ f. f ≡ OutOfMemory) → Follows (IsOrdered parts) r
+ordered parts order (Ok a) chosen is memory = record { order = order; chosen = chosen; is = ap Ok is }
+ordered parts order (Err f) chosen is memory = subst (λ g. Follows (IsOrdered parts) (Err g)) (sym memory) tt
 
-pub returns-in_err-order-clause-cause : goal.returns-in_err-order-clause-cause
-returns-in_err-order-clause-cause c = λ shelf.
-    failed_with (HasCause shelf) c.in_err-order.field-0.0 c.from_residual.result (c.in_err-order.ensures.cause shelf) c.from_residual.ensures.1
+-- no other fault than want of memory
+caused : (P : Fault → Type 0) (r : Result Answer Fault) → P OutOfMemory → IfErr r (λ f. f ≡ OutOfMemory) → IfErr r P
+caused P (Ok a) h memory = tt
+caused P (Err f) h memory = subst P (sym memory) h
 
-pub returns-clause-ordered : goal.returns-clause-ordered
-returns-clause-ordered c =
+pub returns-in_err-order : goal.returns-in_err-order
+returns-in_err-order c =
+    let fault = c.in_err-order.field-0.0 in
+    let found = c.from_residual.result in
+    let is = c.from_residual.ensures.1 in
+    record {
+      status = no_value _ _ found is;
+      ordered = then_failed (AreCounted c.args.sound.now c.args.planes) (λ planes. IsOrdered c.args.sound.now) fault found
+          c.in_err-order.ensures.refused is;
+      cause = λ shelf. failed_with (HasCause shelf) fault found (c.in_err-order.ensures.cause shelf) is;
+    }
+
+pub returns : goal.returns
+returns c =
+    let parts = c.args.sound.now in
     let table = c.in_ok-order.ensures.few in
-    then_given (AreCounted c.args.sound.now c.args.planes) (λ planes. IsOrdered c.args.sound.now)
-    table.0.planes (Ok c.in_ok-answer.answer) (counted_few c.args.sound.now c.args.planes table.0 table.1)
-    (record { order = c.in_ok-order.order; chosen = c.in_ok-order.ensures.chosen; is = ap Ok c.in_ok-answer.ensures.is })
+    let found = c.answer_of.result in
+    let memory = c.answer_of.ensures.memory in
+    record {
+      status = c.answer_of.ensures.status;
+      ordered = then_given (AreCounted parts c.args.planes) (λ planes. IsOrdered parts) table.0.planes found
+          (counted_few parts c.args.planes table.0 table.1)
+          (ordered parts c.in_ok-order.order found c.in_ok-order.ensures.chosen c.answer_of.ensures.is memory);
+      cause = λ shelf. caused (HasCause shelf) found tt memory;
+    }
