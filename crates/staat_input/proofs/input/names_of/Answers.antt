@@ -18,7 +18,6 @@ use Rattle.staat_input.specs.Causes.{HasCause, IfTooLong, over}
 use Rattle.staat_input.proofs.InputLemmas.{failed_with, memory_free, no_value}
 use Rattle.staat_input.proofs.input.names_of.Goals as goal
 
-
 -- the parts that files are have no other pieces
 lists_alone : (names : List (List ℕ)) (name : List ℕ) → ListsPiece (map alone names) name → Contains names name
 lists_alone names name lists = grind (arith, elements)

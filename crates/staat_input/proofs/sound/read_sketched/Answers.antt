@@ -41,7 +41,7 @@ returns g c =
     let input = c.args.asked.now.input in
     let parts = c.in_ok-parts.parts in
     let tested : Follows (IsTested parts) c.tested.result =
-        subst (λ (p : List Part). Follows (IsTested p) c.tested.result) c.seal.ensures c.tested.ensures.found in
+    subst (λ (p : List Part). Follows (IsTested p) c.tested.result) c.seal.ensures c.tested.ensures.found in
     record {
       holds = c.in_ok-parts.ensures.holds;
       count = c.in_ok-parts.ensures.count;
