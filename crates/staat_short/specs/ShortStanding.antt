@@ -33,12 +33,12 @@ EndsGroup line.End = Unit {0}
 EndsGroup l = ⊥
 
 -- whether the line was taken, and what it made of the front
-abbrev pub Makes : Option Front → Bool → Front → Type 0
-Makes o true t = o ≡ Some t
-Makes o false t = o ≡ None
+abbrev pub MakesFront : Option Front → Bool → Front → Type 0
+MakesFront o true t = o ≡ Some t
+MakesFront o false t = o ≡ None
 
-abbrev pub Takes : Front → ShortLine → Bool → Front → Type 0
-Takes s l b t = Makes (front_after s l) b t
+abbrev pub TakesShortLine : Front → ShortLine → Bool → Front → Type 0
+TakesShortLine s l b t = MakesFront (front_after s l) b t
 
 -- the text is these lines, which lead to the front, and bytes without a line feed
 pub record IsShortAt (text : List ℕ) (ls : List ShortLine) (s : Front) (rest : List ℕ) : Type 0 where

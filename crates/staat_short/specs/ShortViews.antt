@@ -12,7 +12,7 @@ use Rattle.staat_short.specs.declared.stage.Stage.TheVariants.{Untitled, Titled,
 use Rattle.staat_short.specs.declared.progress.Progress.{Progress}
 use Rattle.staat_short.specs.Fronts.{Place, whole_answer, in_plan}
 use Rattle.staat_short.specs.Fronts.{Front, untitled, titled, counting, planning, holding, complete}
-use Rattle.staat_short.specs.ShortStanding.{HasCome, Makes}
+use Rattle.staat_short.specs.ShortStanding.{HasCome, MakesFront}
 
 abbrev pub hold_of : OpenHold → Hold
 hold_of hold = record { nodes = hold.nodes.items; pairs = hold.pairs.items }
@@ -38,16 +38,16 @@ abbrev pub holding_of : ℕ → StageHolding → Front
 holding_of n h = holding n (place_in h.place) h.holds.items (last_hold h.last)
 
 -- of each plan that has grown so far, the line made one that has grown on or was not taken
-abbrev pub Grows : (Front → Option Front) → (old : Growth) → Bool → (new : Growth) → Type 0
-Grows after old b new =
+abbrev pub PlanGoesOn : (Front → Option Front) → (old : Growth) → Bool → (new : Growth) → Type 0
+PlanGoesOn after old b new =
     (n : ℕ) (k : PlanKind) →
-    Makes (after (planning n k old.nodes.items old.wanted)) b (planning n k new.nodes.items new.wanted)
+    MakesFront (after (planning n k old.nodes.items old.wanted)) b (planning n k new.nodes.items new.wanted)
 
 -- of all holds of which this is the last, the line made those of which that is the last or was not taken
-abbrev pub GoesOn : (Front → Option Front) → (old : OpenHold) → Bool → (new : OpenHold) → Type 0
-GoesOn after old b new =
+abbrev pub HoldGoesOn : (Front → Option Front) → (old : OpenHold) → Bool → (new : OpenHold) → Type 0
+HoldGoesOn after old b new =
     (n : ℕ) (place : Place) (holds : List Hold) →
-    Makes (after (holding n place holds (Some (hold_of old)))) b (holding n place holds (Some (hold_of new)))
+    MakesFront (after (holding n place holds (Some (hold_of old)))) b (holding n place holds (Some (hold_of new)))
 
 -- the text was read
 abbrev pub HasReadShort : Progress → List ℕ → Type 0

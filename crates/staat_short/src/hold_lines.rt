@@ -4,8 +4,8 @@ ghost use Rattle.std.specs.Ordering.{is_lt, nat_cmp};
 ghost use Rattle.staat_model.specs.Certificates.{arc_cmp};
 ghost use Rattle.staat_cert.specs.Machine.{follows};
 ghost use Rattle.staat_short.specs.Fronts.{after_hold, after_pair, after_part, holds_in};
-ghost use Rattle.staat_short.specs.ShortStanding.{Makes};
-ghost use Rattle.staat_short.specs.ShortViews.{GoesOn, front_of, hold_of, holding_of, last_hold};
+ghost use Rattle.staat_short.specs.ShortStanding.{MakesFront};
+ghost use Rattle.staat_short.specs.ShortViews.{HoldGoesOn, front_of, hold_of, holding_of, last_hold};
 
 use crate::stage::{Holding, OpenHold, Stage};
 use staat_holds::Hold;
@@ -80,7 +80,8 @@ pub fn close_hold(holding: &mut Holding) -> Result<(), AllocError>
 
 // A hold more.
 fn begin_hold(alloc: Global, holding: &mut Holding) -> Result<bool, AllocError>
-    ensures { IfOk result (λ b. (n : ℕ) → Makes (after_hold (holding_of n holding.old)) b (holding_of n holding.new)) }
+    ensures { IfOk result (λ b. (n : ℕ) →
+        MakesFront (after_hold (holding_of n holding.old)) b (holding_of n holding.new)) }
 {
     close_hold(holding)?;
     holding.last = Some(OpenHold {
@@ -91,7 +92,7 @@ fn begin_hold(alloc: Global, holding: &mut Holding) -> Result<bool, AllocError>
 }
 
 pub fn hold(alloc: Global, stage: &mut Stage) -> Result<bool, AllocError>
-    ensures { IfOk result (λ b. Makes (after_hold (front_of stage.old)) b (front_of stage.new)) }
+    ensures { IfOk result (λ b. MakesFront (after_hold (front_of stage.old)) b (front_of stage.new)) }
 {
     match stage {
         Stage::Holding { holding, .. } => begin_hold(alloc, holding),
@@ -101,7 +102,7 @@ pub fn hold(alloc: Global, stage: &mut Stage) -> Result<bool, AllocError>
 
 // A node of the last hold.
 fn take_part(hold: &mut OpenHold, p: u32) -> Result<bool, AllocError>
-    ensures { IfOk result (λ b. GoesOn (λ s. after_part s p) hold.old b hold.new) }
+    ensures { IfOk result (λ b. HoldGoesOn (λ s. after_part s p) hold.old b hold.new) }
 {
     if !hold.pairs.is_empty() || !part_follows(hold.nodes.as_slice(), p) {
         return Ok(false);
@@ -112,7 +113,7 @@ fn take_part(hold: &mut OpenHold, p: u32) -> Result<bool, AllocError>
 
 // A pair of the last hold.
 fn take_pair(hold: &mut OpenHold, pair: Arc) -> Result<bool, AllocError>
-    ensures { IfOk result (λ b. GoesOn (λ s. after_pair s pair) hold.old b hold.new) }
+    ensures { IfOk result (λ b. HoldGoesOn (λ s. after_pair s pair) hold.old b hold.new) }
 {
     if !pair_follows(hold.pairs.as_slice(), pair) {
         return Ok(false);
@@ -122,7 +123,7 @@ fn take_pair(hold: &mut OpenHold, pair: Arc) -> Result<bool, AllocError>
 }
 
 pub fn part(stage: &mut Stage, p: u32) -> Result<bool, AllocError>
-    ensures { IfOk result (λ b. Makes (after_part (front_of stage.old) p) b (front_of stage.new)) }
+    ensures { IfOk result (λ b. MakesFront (after_part (front_of stage.old) p) b (front_of stage.new)) }
 {
     match stage {
         Stage::Holding { holding, .. } => match &mut holding.last {
@@ -134,7 +135,7 @@ pub fn part(stage: &mut Stage, p: u32) -> Result<bool, AllocError>
 }
 
 pub fn pair(stage: &mut Stage, pair: Arc) -> Result<bool, AllocError>
-    ensures { IfOk result (λ b. Makes (after_pair (front_of stage.old) pair) b (front_of stage.new)) }
+    ensures { IfOk result (λ b. MakesFront (after_pair (front_of stage.old) pair) b (front_of stage.new)) }
 {
     match stage {
         Stage::Holding { holding, .. } => match &mut holding.last {

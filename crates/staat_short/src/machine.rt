@@ -2,7 +2,8 @@
 ghost use Rattle.std.specs.Prelude.{◌≡◌, ℕ, IfOk, option_map};
 ghost use Rattle.staat_short.specs.Fronts.{after_end, after_kind, after_parts, after_stuck, after_title, complete};
 ghost use Rattle.staat_short.specs.Fronts.{planning, short_answer};
-ghost use Rattle.staat_short.specs.ShortStanding.{EndsGroup, Makes, Takes, is_complete, whole_certificate};
+ghost use Rattle.staat_short.specs.ShortStanding.{EndsGroup, MakesFront, TakesShortLine};
+ghost use Rattle.staat_short.specs.ShortStanding.{is_complete, whole_certificate};
 ghost use Rattle.staat_short.specs.ShortViews.{front_of, holding_of};
 
 use crate::hold_lines::{close_hold, hold, pair, part};
@@ -15,7 +16,7 @@ use std::alloc::{AllocError, Global};
 use std::mem;
 
 fn title(stage: &mut Stage) -> bool
-    ensures { Makes (after_title (front_of stage.old)) result (front_of stage.new) }
+    ensures { MakesFront (after_title (front_of stage.old)) result (front_of stage.new) }
 {
     match stage {
         Stage::Untitled => {
@@ -27,7 +28,7 @@ fn title(stage: &mut Stage) -> bool
 }
 
 fn parts(stage: &mut Stage, n: u32) -> bool
-    ensures { Makes (after_parts (front_of stage.old) n) result (front_of stage.new) }
+    ensures { MakesFront (after_parts (front_of stage.old) n) result (front_of stage.new) }
 {
     match stage {
         Stage::Titled => {
@@ -39,7 +40,7 @@ fn parts(stage: &mut Stage, n: u32) -> bool
 }
 
 fn plan(alloc: Global, kind: PlanKind, stage: &mut Stage) -> bool
-    ensures { Makes (after_kind kind (front_of stage.old)) result (front_of stage.new) }
+    ensures { MakesFront (after_kind kind (front_of stage.old)) result (front_of stage.new) }
 {
     match stage {
         Stage::Counting(parts) => {
@@ -63,7 +64,7 @@ fn plan(alloc: Global, kind: PlanKind, stage: &mut Stage) -> bool
 }
 
 fn stuck(alloc: Global, stage: &mut Stage) -> bool
-    ensures { Makes (after_stuck (front_of stage.old)) result (front_of stage.new) }
+    ensures { MakesFront (after_stuck (front_of stage.old)) result (front_of stage.new) }
 {
     match stage {
         Stage::Counting(parts) => {
@@ -137,7 +138,7 @@ fn ending(alloc: Global, stage: &mut Stage) -> Result<Option<ShortCertificate>, 
 }
 
 fn end(alloc: Global, stage: &mut Stage) -> Result<bool, AllocError>
-    ensures { IfOk result (λ b. Makes (after_end (front_of stage.old)) b (front_of stage.new)) }
+    ensures { IfOk result (λ b. MakesFront (after_end (front_of stage.old)) b (front_of stage.new)) }
 {
     match ending(alloc, stage)? {
         Some(certificate) => {
@@ -151,7 +152,7 @@ fn end(alloc: Global, stage: &mut Stage) -> Result<bool, AllocError>
 // A line that belongs to no hold.
 fn line_behind(alloc: Global, stage: &mut Stage, line: ShortLine) -> Result<bool, AllocError>
     requires { EndsGroup line }
-    ensures { IfOk result (λ b. Takes (front_of stage.old) line b (front_of stage.new)) }
+    ensures { IfOk result (λ b. TakesShortLine (front_of stage.old) line b (front_of stage.new)) }
 {
     close_group(alloc, stage)?;
     match line {
@@ -164,7 +165,7 @@ fn line_behind(alloc: Global, stage: &mut Stage, line: ShortLine) -> Result<bool
 
 /// Whether the line may stand there. If so it is taken.
 pub fn take(alloc: Global, stage: &mut Stage, line: ShortLine) -> Result<bool, AllocError>
-    ensures { IfOk result (λ b. Takes (front_of stage.old) line b (front_of stage.new)) }
+    ensures { IfOk result (λ b. TakesShortLine (front_of stage.old) line b (front_of stage.new)) }
 {
     match line {
         ShortLine::Title => Ok(title(stage)),

@@ -3,8 +3,8 @@ ghost use Rattle.std.specs.Prelude.{◌≡◌, ℕ, IfOk, MatchOption, None, Som
 ghost use Rattle.staat_short.specs.declared.stage.PlanKind.{PlanKind as Kind};
 ghost use Rattle.staat_short.specs.declared.stage.PlanKind.TheVariants.{Rest};
 ghost use Rattle.staat_short.specs.Fronts.{after_group, after_leaf, after_split, grouped_in, planning};
-ghost use Rattle.staat_short.specs.ShortStanding.{Makes};
-ghost use Rattle.staat_short.specs.ShortViews.{Grows, front_of, holding_of};
+ghost use Rattle.staat_short.specs.ShortStanding.{MakesFront};
+ghost use Rattle.staat_short.specs.ShortViews.{PlanGoesOn, front_of, holding_of};
 
 use crate::hold_lines::close_hold;
 use crate::nodes::push_node;
@@ -60,7 +60,7 @@ pub fn close_group(alloc: Global, stage: &mut Stage) -> Result<(), AllocError>
 
 // A leaf more, where a tree is wanted.
 fn take_leaf(growth: &mut Growth, p: u32) -> Result<bool, AllocError>
-    ensures { IfOk result (λ b. Grows (λ s. after_leaf s p) growth.old b growth.new) }
+    ensures { IfOk result (λ b. PlanGoesOn (λ s. after_leaf s p) growth.old b growth.new) }
 {
     if growth.wanted == 0 {
         return Ok(false);
@@ -72,7 +72,7 @@ fn take_leaf(growth: &mut Growth, p: u32) -> Result<bool, AllocError>
 
 /// A leaf, where a tree is wanted.
 pub fn leaf(stage: &mut Stage, p: u32) -> Result<bool, AllocError>
-    ensures { IfOk result (λ b. Makes (after_leaf (front_of stage.old) p) b (front_of stage.new)) }
+    ensures { IfOk result (λ b. MakesFront (after_leaf (front_of stage.old) p) b (front_of stage.new)) }
 {
     match stage {
         Stage::Planning { growth, .. } => take_leaf(growth, p),
@@ -83,7 +83,7 @@ pub fn leaf(stage: &mut Stage, p: u32) -> Result<bool, AllocError>
 // A split more, where a tree is wanted and so many parts have as many nodes.
 fn take_split(growth: &mut Growth, parts: u32, d: V3) -> Result<bool, AllocError>
     ensures { IfOk result (λ b. (k : Kind) →
-        Makes (after_split (planning parts k growth.old.nodes.items growth.old.wanted) d) b
+        MakesFront (after_split (planning parts k growth.old.nodes.items growth.old.wanted) d) b
         (planning parts k growth.new.nodes.items growth.new.wanted)) }
 {
     if growth.wanted == 0 {
@@ -99,7 +99,7 @@ fn take_split(growth: &mut Growth, parts: u32, d: V3) -> Result<bool, AllocError
 
 /// A split, where a tree is wanted.
 pub fn split(stage: &mut Stage, d: V3) -> Result<bool, AllocError>
-    ensures { IfOk result (λ b. Makes (after_split (front_of stage.old) d) b (front_of stage.new)) }
+    ensures { IfOk result (λ b. MakesFront (after_split (front_of stage.old) d) b (front_of stage.new)) }
 {
     match stage {
         Stage::Planning { parts, growth, .. } => take_split(growth, *parts, d),
@@ -128,7 +128,7 @@ fn begun_group(alloc: Global, growth: &mut Growth) -> Option<Holding>
 
 /// The beginning of a group, where a tree is wanted that may be one.
 pub fn group(alloc: Global, stage: &mut Stage) -> bool
-    ensures { Makes (after_group (front_of stage.old)) result (front_of stage.new) }
+    ensures { MakesFront (after_group (front_of stage.old)) result (front_of stage.new) }
 {
     match stage {
         Stage::Planning {
