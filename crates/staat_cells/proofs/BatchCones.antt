@@ -1,8 +1,8 @@
 -- Batches of cones, as one cone or its parts are added.
-use Rattle.std.proofs.Common.{◌≡◌, ◌⊎◌, ◌↔◌, inl, inr, ⊎_elim, ℕ, ◌<◌, ◌≤◌, refl, sym, ap, subst}
-use Rattle.std.proofs.Common.{◌∙◌, arith, List, [], ◌∷◌, ◌++◌, length, get_or, All, Any}
+use Rattle.std.proofs.Common.{◌≡◌, ◌⊎◌, ◌↔◌, inl, inr, ⊎_elim, ℕ, ◌+◌, ◌-◌, ◌<◌, ◌≤◌, refl, sym, ap, subst}
+use Rattle.std.proofs.Common.{◌∙◌, arith, List, [], ◌∷◌, ◌++◌, length, get_or, All}
 use Rattle.std.specs.Prelude.{Some, slice_get, slice_set}
-use Rattle.std.proofs.lemmas.List.{length_push}
+use Rattle.std.proofs.lemmas.List.{get_or_push, length_push}
 use Rattle.std.proofs.lemmas.List.Elements.{All-push, All-set}
 use Rattle.staat_vec.specs.declared.vector.Sign.{Sign}
 use Rattle.staat_model.proofs.Places.{one_at_place, place_within}
@@ -11,7 +11,7 @@ use Rattle.staat_cells.specs.declared.batches.Batch.{Batch}
 use Rattle.staat_cells.specs.declared.half_spaces.HalfSpace.{HalfSpace}
 use Rattle.staat_cells.specs.HalfSpaces.{AreInside}
 use Rattle.staat_cells.specs.Batches.{AddsToBatch, AreInsideCone, HasCone, HasParts, IsBatch, IsBatchArc, IsLeftByAll, outside_by}
-use Rattle.staat_cells.specs.CellGraphs.{AddsCone}
+use Rattle.staat_cells.specs.CellGraphs.{AddsCone, HasRoom, IsListedArc}
 use Rattle.staat_cells.proofs.ConeTests.{AddsHalfSpaces}
 use Rattle.staat_cells.proofs.Elements.{any_pushed, any_set}
 use Rattle.staat_vec.proofs.ListLaws.{push_cases, push_front, push_end}
@@ -166,30 +166,42 @@ batch_set batches k old new cone a b lt at rules added = record {
   batches = All-set IsBatch batches k new added.batch rules;
 }
 
-pub batch_pushed : (batches grown : List Batch) (none new : Batch) (cone : List HalfSpace) (a b : ℕ)
-    → none.arcs.items ≡ [] → grown ≡ batches ++ new ∷ [] → All IsBatch batches
-    → AddsToBatch cone a b none new
-    → AddsCone cone a b batches grown
-batch_pushed batches grown none new cone a b empty is rules added =
-    subst (λ l. AddsCone cone a b batches l) (sym is) (record {
-      arcs = λ signs x y. (from signs x y, to signs x y);
-      batches = All-push IsBatch batches new rules added.batch;
+-- an empty batch behind them
+pub batch_empty : (batches grown : List Batch) (none : Batch) → none.cones.items ≡ [] → none.tests.items ≡ []
+    → none.arcs.items ≡ [] → grown ≡ batches ++ none ∷ [] → All IsBatch batches → HasRoom batches grown
+batch_empty batches grown none cones tests arcs is rules =
+    subst (λ l. HasRoom batches l) (sym is) (record {
+      some = omega (arith, long);
+      room = λ d. subst (λ (b : Batch). length b.cones.items < 128) (sym (get_or_push batches none d
+          (length (batches ++ none ∷ []) - 1) (omega (arith, long)))) (omega (arith, ap length cones));
+      arcs = λ signs x y. (
+        λ h. ⊎_elim {C = IsListedArc batches signs x y} (λ o. o) (λ p. absurd (no_batch_arcs none arcs signs x y p))
+            ((any_pushed (λ b. IsBatchArc b signs x y) batches none).0 h),
+        λ o. (any_pushed (λ b. IsBatchArc b signs x y) batches none).1 (inl o),
+      );
+      batches = All-push IsBatch batches none rules (record {
+        few = omega (arith, ap length cones);
+        tests = λ signs j. (
+          λ h cone at. absurd (let lt = place_within none.cones.items j cone at in omega (arith, lt, ap length cones)),
+          λ h k d lt. absurd (omega (arith, lt, ap length tests)),
+        );
+        within = λ x y j h. absurd (let lt = h.2 in omega (arith, lt, ap length arcs));
+        parts = λ k d lt. absurd (omega (arith, lt, ap length arcs));
+      });
     })
   where
-    Arc : List Sign → ℕ → ℕ → Batch → Type 0
-    Arc signs x y batch = IsBatchArc batch signs x y
+    long : length (batches ++ none ∷ []) ≡ length batches + 1
+    long = length_push batches none
 
-    New : List Sign → ℕ → ℕ → Type 0
-    New signs x y = (x ≡ a) × (y ≡ b) × AreInside signs cone
-
-    from : (signs : List Sign) (x y : ℕ) → Any (Arc signs x y) (batches ++ new ∷ [])
-        → Any (Arc signs x y) batches ⊎ New signs x y
-    from signs x y h = ⊎_elim {C = Any (Arc signs x y) batches ⊎ New signs x y} (λ o. inl o)
-        (λ p. ⊎_elim {C = Any (Arc signs x y) batches ⊎ New signs x y}
-        (λ o. absurd (no_batch_arcs none empty signs x y o)) (λ q. inr q) ((added.arcs signs x y).0 p))
-        ((any_pushed (Arc signs x y) batches new).0 h)
-
-    to : (signs : List Sign) (x y : ℕ) → Any (Arc signs x y) batches ⊎ New signs x y
-        → Any (Arc signs x y) (batches ++ new ∷ [])
-    to signs x y (inl o) = (any_pushed (Arc signs x y) batches new).1 (inl o)
-    to signs x y (inr q) = (any_pushed (Arc signs x y) batches new).1 (inr ((added.arcs signs x y).1 (inr q)))
+-- a cone more where no arc had come before
+pub batch_room : (old mid new : List Batch) (cone : List HalfSpace) (a b : ℕ) → HasRoom old mid
+    → AddsCone cone a b mid new → AddsCone cone a b old new
+batch_room old mid new cone a b room adds = record {
+  arcs = λ signs x y. (
+    λ h. ⊎_elim {C = IsListedArc old signs x y ⊎ ((x ≡ a) × (y ≡ b) × AreInside signs cone)}
+        (λ o. inl ((room.arcs signs x y).0 o)) (λ q. inr q) ((adds.arcs signs x y).0 h),
+    ⊎_elim {C = IsListedArc new signs x y} (λ o. (adds.arcs signs x y).1 (inl ((room.arcs signs x y).1 o)))
+        (λ q. (adds.arcs signs x y).1 (inr q)),
+  );
+  batches = adds.batches;
+}

@@ -1,12 +1,12 @@
 -- The incidences of a vertex on the planes at the places of its zeros, which are all planes through it.
-use Rattle.std.proofs.Common.{◌≡◌, ◌↔◌, ⊎_elim, ℕ, zero, suc, ◌+◌, ◌-◌, ◌<◌, ◌≤◌, Bool, true, false, sym, ap, subst, ◌∙◌, arith, pos}
+use Rattle.std.proofs.Common.{◌≡◌, ◌↔◌, ⊎_elim, ℕ, zero, suc, ◌+◌, ◌-◌, ◌<◌, ◌≤◌, Bool, true, false, refl, sym, ap, subst, ◌∙◌, arith, pos}
 use Rattle.std.proofs.Common.{drop-cons, List, [], ◌∷◌, ◌++◌, drop, get_or, length, map, take, Contains}
 use Rattle.std.specs.Prelude.{if◌then◌else◌}
 use Rattle.std.proofs.lemmas.List.{drop_all, get_or-map, get_or_default, length-map, map-append, take_all, take_more}
 use Rattle.std.proofs.lemmas.List.Elements.{Contains-append_left, Contains-get_or, Contains-push, Contains-push_cases}
 use Rattle.staat_vec.specs.declared.vector.V3.{V3}
 use Rattle.staat_vec.specs.declared.vector.Sign.{Sign}
-use Rattle.staat_vec.specs.declared.vector.Sign.TheVariants.{Neg, Zero}
+use Rattle.staat_vec.specs.declared.vector.Sign.TheVariants.{Neg, Pos, Zero}
 use Rattle.staat_vec.specs.Vectors.{dot, origin, sign}
 use Rattle.staat_vec.proofs.Unique.{Contains-cases, Contains-front, Contains-later, Contains-nothing}
 use Rattle.staat_model.proofs.Differences.{from_map}
@@ -52,6 +52,27 @@ zero_place planes v ks j is listed =
     let long = length-map planes (λ n. sign (dot n v)) in
     let within = (zero_within (signs_of planes v) 0 j (subst (λ zs. Contains zs j) is listed)).1 in
     omega (arith, long, within)
+
+listed_zero : (s : List Sign) (n k : ℕ) (d : Sign) → Contains (zero_places n s) (n + k) → get_or s k d ≡ Zero
+listed_zero [] n k d h = absurd (Contains-nothing (n + k) h)
+listed_zero (x ∷ s) n zero d h = first x h
+  where
+    first : (x : Sign) → Contains (if is_zero x then n ∷ zero_places (suc n) s else zero_places (suc n) s) (n + 0) → x ≡ Zero
+    first Zero _ = refl
+    first Neg later = absurd (let w = (zero_within s (suc n) (n + 0) later).0 in omega (arith, w))
+    first Pos later = absurd (let w = (zero_within s (suc n) (n + 0) later).0 in omega (arith, w))
+listed_zero (x ∷ s) n (suc k) d h =
+    listed_zero s (suc n) k d (subst (Contains (zero_places (suc n) s)) (let e : n + suc k ≡ suc n + k = omega arith in e) (later (is_zero x) h))
+  where
+    later : (r : Bool) → Contains (if r then n ∷ zero_places (suc n) s else zero_places (suc n) s) (n + suc k) → Contains (zero_places (suc n) s) (n + suc k)
+    later true h = ⊎_elim {C = Contains (zero_places (suc n) s) (n + suc k)} (λ e. absurd (omega (arith, e))) (λ l. l) (Contains-cases n (zero_places (suc n) s) (n + suc k) h)
+    later false h = h
+
+pub zero_sign_there : (planes : List V3) (v : V3) (ks : List ℕ) (j : ℕ) → ks ≡ zero_places 0 (signs_of planes v) → Contains ks j → sign (dot (get_or planes j origin) v) ≡ Zero
+zero_sign_there planes v ks j is listed =
+    sym (get_or-map (λ n. sign (dot n v)) planes j origin Neg (zero_place planes v ks j is listed))
+    ∙ listed_zero (signs_of planes v) 0 j Neg
+    (subst (Contains (zero_places 0 (signs_of planes v))) (let e : j ≡ 0 + j = omega arith in e) (subst (λ zs. Contains zs j) is listed))
 
 zero_is_zero : (z : Sign) → z ≡ Zero → is_zero z ≡ true
 zero_is_zero z e = ap is_zero e

@@ -1,6 +1,6 @@
 -- The blocking graph of a cell: its arcs at every direction with the signs of the cell.
-use Rattle.std.specs.Prelude.{◌≡◌, ◌↔◌, ◌⊎◌, ℕ}
-use Rattle.std.specs.Prelude.{List, All, Any}
+use Rattle.std.specs.Prelude.{◌≡◌, ◌↔◌, ◌⊎◌, ◌-◌, ◌<◌, ℕ}
+use Rattle.std.specs.Prelude.{List, All, Any, length, slice_index_or}
 use Rattle.staat_vec.specs.declared.vector.Sign.{Sign}
 use Rattle.staat_graph.specs.Graphs.{HasArc}
 use Rattle.staat_pairs.specs.Searches.{arc_of}
@@ -49,6 +49,13 @@ ListsArcsOf t batches = (signs : List Sign) (a b : ℕ) → IsListedArc batches 
 -- the list has grown by cones of the directions whose signs have P
 abbrev pub AddsCones : (List Sign → Type 0) → List (List HalfSpace) → List (List HalfSpace) → Type 0
 AddsCones P old new = (signs : List Sign) → Any (AreInside signs) new ↔ (Any (AreInside signs) old ⊎ P signs)
+
+-- the last batch has room for a cone, and no arc has come
+pub record HasRoom (old new : List Batch) : Type 0 where
+  pub some : 0 < length new
+  pub room : (d : Batch) → length (slice_index_or new (length new - 1) d).cones.items < 128
+  pub arcs : (signs : List Sign) (x y : ℕ) → IsListedArc new signs x y ↔ IsListedArc old signs x y
+  pub batches : All IsBatch new
 
 -- the batches have grown by a cone of the parts a and b
 pub record AddsCone (cone : List HalfSpace) (a b : ℕ) (old new : List Batch) : Type 0 where

@@ -3,35 +3,16 @@ ghost use Rattle.std.specs.Prelude.{◌≡◌, ◌≢◌, ◌≤◌, All, IfOk, 
 ghost use Rattle.staat_vec.specs.declared.vector.V3.{V3 as Vector};
 ghost use Rattle.staat_vec.specs.Vectors.{IsWithin, origin};
 ghost use Rattle.staat_model.specs.Cells.{AreCells, HasOneCell, signs_of};
-ghost use Rattle.staat_pairs.specs.Tables.{AreTablePlanes};
 ghost use Rattle.staat_cells.specs.Compositions.{entry_of};
 
-use crate::cell::{Cell, Cells};
+use crate::cell::Cells;
 use crate::compose::push_composed;
 use crate::lower_cells::LowerCells;
 use staat_limits::MOST_CELL_PLANES;
 use staat_model::Kind;
 use staat_planes::PlaneTable;
-use staat_vec::{DIRECTION, OutOfMemory, V3};
+use staat_vec::{DIRECTION, OutOfMemory};
 use std::alloc::Global;
-
-// the cells of planes
-fn cells_of_planes(alloc: Global, planes: &[V3]) -> Result<Vec<Cell>, OutOfMemory>
-    requires planes { AreTablePlanes planes.now }
-    requires few { length planes.now ≤ MOST_CELL_PLANES }
-    ensures { IfOk result (λ cells. AreCells planes.now (map entry_of cells.items)) }
-{
-    let lower = LowerCells::of_planes(alloc, planes)?;
-    let mut cells = lower.cells;
-    push_composed(
-        alloc,
-        Kind::Open,
-        &mut cells,
-        lower.points,
-        &lower.incidences,
-    )?;
-    Ok(cells)
-}
 
 /// All cells of the planes of the table: the points, then the edges, then the open cells, each kind ascending by
 /// signs.
@@ -47,6 +28,14 @@ pub fn all_cells(alloc: Global, table: &PlaneTable) -> Result<Cells, OutOfMemory
     ensures one { IfOk result (λ cells. (d : Vector) → d ≢ origin
         → HasOneCell table.now.planes (map entry_of cells) d) }
 {
-    let cells = cells_of_planes(alloc, table.planes())?;
+    let lower = LowerCells::of_planes(alloc, table.planes())?;
+    let mut cells = lower.cells;
+    push_composed(
+        alloc,
+        Kind::Open,
+        &mut cells,
+        lower.points,
+        &lower.incidences,
+    )?;
     Ok(Cells::from_vec(cells))
 }

@@ -21,11 +21,11 @@ ghost use Rattle.staat_cells.specs.declared.half_spaces.HalfSpace.{HalfSpace as 
 ghost use Rattle.staat_cells.specs.HalfSpaces.{AreInside, IsInHalfSpace};
 ghost use Rattle.staat_cells.specs.Batches.{AddsToBatch, HasCone, HasParts, IsBatch, IsLeft, IsLeftByAll};
 ghost use Rattle.staat_cells.specs.Batches.{outside_at, outside_by};
-ghost use Rattle.staat_cells.specs.CellGraphs.{AddsCone};
+ghost use Rattle.staat_cells.specs.CellGraphs.{AddsCone, HasRoom};
 
-use crate::half_spaces::{HalfSpace, HalfSpaces, copied, is_same_cone};
+use crate::half_spaces::{HalfSpace, HalfSpaces, is_same_cone, push_copy};
 use staat_limits::MOST_PARTS;
-use staat_vec::{Listed, OutOfMemory, Sign};
+use staat_vec::{OutOfMemory, Sign};
 use std::alloc::Global;
 
 /// How many cones a batch has at most.
@@ -194,8 +194,7 @@ fn add_new(
     let j = batch.cones.len();
     add_half_spaces(&mut batch.tests, cone, j)?;
     add_arc(&mut batch.arcs, a, b, j)?;
-    batch.cones.push(Listed::from_vec(copied(alloc, cone)?))?;
-    Ok(())
+    push_copy(alloc, &mut batch.cones, cone)
 }
 
 // adds the parts a and b to those of the cone j
@@ -247,6 +246,22 @@ fn has_room(batches: &[Batch]) -> bool
     count > 0 && batches[count - 1].cones.len() < BATCH
 }
 
+// adds an empty batch, unless there is room for a cone in the last
+fn make_room(alloc: Global, batches: &mut Vec<Batch>) -> Result<(), OutOfMemory>
+    requires { All IsBatch batches.old.items }
+    ensures { OnOk result (HasRoom batches.old.items batches.new.items) }
+{
+    if has_room(batches) {
+        return Ok(());
+    }
+    batches.push(Batch {
+        cones: Vec::new(alloc),
+        tests: Vec::new(alloc),
+        arcs: Vec::new(alloc),
+    })?;
+    Ok(())
+}
+
 /// Adds a cone of the parts `a` and `b`. A cone that is in a batch already gets these parts too.
 pub(crate) fn add_cone(
     alloc: Global,
@@ -263,16 +278,7 @@ pub(crate) fn add_cone(
     if let Some((k, j)) = find(batches, cone) {
         return add_parts(&mut batches[k], j, a, b);
     }
-    if has_room(batches) {
-        let last = batches.len() - 1;
-        return add_new(alloc, &mut batches[last], cone, a, b);
-    }
-    let mut batch = Batch {
-        cones: Vec::new(alloc),
-        tests: Vec::new(alloc),
-        arcs: Vec::new(alloc),
-    };
-    add_new(alloc, &mut batch, cone, a, b)?;
-    batches.push(batch)?;
-    Ok(())
+    make_room(alloc, batches)?;
+    let last = batches.len() - 1;
+    add_new(alloc, &mut batches[last], cone, a, b)
 }

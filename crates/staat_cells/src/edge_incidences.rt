@@ -1,7 +1,7 @@
 // The incidences of vertices: the edges that end there.
 ghost use Rattle.std.specs.Prelude.{◌≡◌, ◌≢◌, ◌≤◌, ◌↔◌, ◌++◌, [], ◌∷◌};
-ghost use Rattle.std.specs.Prelude.{All, Contains, IfOk, List, OnOk, length, map, slice_index_or};
-ghost use Rattle.staat_vec.specs.Vectors.{IsWithin, cross, dot, negative, origin, sign};
+ghost use Rattle.std.specs.Prelude.{All, Contains, IfOk, OnOk, length, map, slice_index_or};
+ghost use Rattle.staat_vec.specs.Vectors.{IsWithin, origin};
 ghost use Rattle.staat_model.specs.Cells.{signs_of};
 ghost use Rattle.staat_model.specs.Planes.{vertices};
 ghost use Rattle.staat_pairs.specs.Tables.{AreTablePlanes};
@@ -17,7 +17,7 @@ ghost use Rattle.staat_cells.specs.Stages.{IsIncidence, IsVertexPoint};
 use crate::cell::Cell;
 use crate::incidence::Incidence;
 use crate::zero_signs::{incidence_towards, zeros_of};
-use staat_vec::{DIRECTION, NORMAL, OutOfMemory, Sign, V3, VERTEX, cross_normal, neg};
+use staat_vec::{DIRECTION, NORMAL, OutOfMemory, V3, cross_normal, neg};
 use std::alloc::Global;
 
 // an axis whose plane the vector does not lie on
@@ -57,61 +57,7 @@ fn push_towards(
     Ok(())
 }
 
-// adds the two incidences of a vertex on the plane c
-fn push_both(
-    planes: &[V3],
-    point: &Cell,
-    zeros: &[usize],
-    base: Incidence,
-    c: V3,
-    m: V3,
-    incidences: &mut Vec<Incidence>,
-) -> Result<(), OutOfMemory>
-    requires planes { All (IsWithin NORMAL) planes.now }
-    requires few { length planes.now ≤ 256 }
-    requires signs { point.now.signs ≡ signs_of planes.now point.now.d }
-    requires zeros { zeros.now ≡ zero_places 0 point.now.signs }
-    requires base { base ≡ incidence_of point.now.signs base.of }
-    requires c { IsWithin NORMAL c }
-    requires m { IsWithin NORMAL m }
-    ensures { OnOk result (incidences.new.items
-        ≡ (incidences.old.items ++ incidence_of (beside planes.now point.now.d (cross c m)) base.of ∷ [])
-        ++ incidence_of (beside planes.now point.now.d (negative (cross c m))) base.of ∷ []) }
-{
-    let w = cross_normal(c, m);
-    push_towards(planes, point, zeros, base, w, incidences)?;
-    push_towards(planes, point, zeros, base, neg(w), incidences)
-}
-
-// adds the incidences of a vertex on the plane c, if it is through the vertex, which has the sign s there
-fn push_on(
-    planes: &[V3],
-    point: &Cell,
-    zeros: &[usize],
-    base: Incidence,
-    c: V3,
-    s: Sign,
-    m: V3,
-    incidences: &mut Vec<Incidence>,
-) -> Result<(), OutOfMemory>
-    requires planes { All (IsWithin NORMAL) planes.now }
-    requires few { length planes.now ≤ 256 }
-    requires signs { point.now.signs ≡ signs_of planes.now point.now.d }
-    requires zeros { zeros.now ≡ zero_places 0 point.now.signs }
-    requires base { base ≡ incidence_of point.now.signs base.of }
-    requires c { IsWithin NORMAL c }
-    requires s { s ≡ sign (dot c point.now.d) }
-    requires m { IsWithin NORMAL m }
-    ensures { OnOk result (GrewByAll (IsBesideIncidence (c ∷ []) planes.now point.now.d m base.of)
-        incidences.old.items incidences.new.items) }
-{
-    match s {
-        Sign::Zero => push_both(planes, point, zeros, base, c, m, incidences),
-        _ => Ok(()),
-    }
-}
-
-// adds the incidences of a vertex on a plane at which it has a zero
+// adds both incidences of a vertex on a plane at which it has a zero
 fn push_at(
     planes: &[V3],
     point: &Cell,
@@ -131,8 +77,9 @@ fn push_at(
     ensures { OnOk result (GrewByAll (IsBesideIncidence (slice_index_or planes.now j origin ∷ []) planes.now
         point.now.d m base.of) incidences.old.items incidences.new.items) }
 {
-    let s = point.signs.as_slice()[j];
-    push_on(planes, point, zeros, base, planes[j], s, m, incidences)
+    let w = cross_normal(planes[j], m);
+    push_towards(planes, point, zeros, base, w, incidences)?;
+    push_towards(planes, point, zeros, base, neg(w), incidences)
 }
 
 // adds the incidences of a vertex on all planes through it

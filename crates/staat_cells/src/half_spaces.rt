@@ -1,6 +1,6 @@
 // The directions ahead of two pieces, as half-spaces.
-ghost use Rattle.std.specs.Prelude.{◌≡◌, ◌<◌, ◌⊎◌, ◌↔◌};
-ghost use Rattle.std.specs.Prelude.{All, Any, Contains, IfOk, IsTrue, List, OnOk, Some, length, slice_get};
+ghost use Rattle.std.specs.Prelude.{◌≡◌, ◌<◌, ◌⊎◌, ◌↔◌, ◌++◌, [], ◌∷◌};
+ghost use Rattle.std.specs.Prelude.{Any, Contains, IfOk, IsTrue, List, OnOk, Some, length, slice_get};
 ghost use Rattle.staat_vec.specs.declared.vector.Sign.{Sign as SignValue};
 ghost use Rattle.staat_pairs.specs.Tables.{AreTablePlanes, IsTableArc, IsTableFacet, facets_of};
 ghost use Rattle.staat_cells.specs.HalfSpaces.{AreAhead, AreAmong, AreInside, IsInHalfSpace, IsSignAhead};
@@ -111,26 +111,31 @@ pub(crate) fn is_same_cone(cone: &[HalfSpace], other: &[HalfSpace]) -> bool
     cone == other
 }
 
-/// Adds a cone, unless it lies in one that is listed.
-pub(crate) fn push_cone(
+/// Adds a copy of a cone.
+pub(crate) fn push_copy(
+    alloc: Global,
     cones: &mut Vec<HalfSpaces>,
-    cone: Vec<HalfSpace>,
+    cone: &[HalfSpace],
 ) -> Result<(), OutOfMemory>
-    ensures { OnOk result ((signs : List SignValue) → Any (AreInside signs) cones.new.items
-        ↔ (Any (AreInside signs) cones.old.items ⊎ AreInside signs cone.items)) }
+    ensures { OnOk result (cones.new.items ≡ cones.old.items ++ cone.now ∷ []) }
 {
-    if any_wider(cones, &cone) {
-        return Ok(());
-    }
-    cones.push(Listed::from_vec(cone))?;
+    cones.push(Listed::from_vec(cone.to_vec(alloc)?))?;
     Ok(())
 }
 
-/// A cone once more.
-pub(crate) fn copied(alloc: Global, cone: &[HalfSpace]) -> Result<Vec<HalfSpace>, OutOfMemory>
-    ensures { IfOk result (λ same. same.items ≡ cone.now) }
+/// Adds a copy of a cone, unless it lies in one that is listed.
+pub(crate) fn push_cone(
+    alloc: Global,
+    cones: &mut Vec<HalfSpaces>,
+    cone: &[HalfSpace],
+) -> Result<(), OutOfMemory>
+    ensures { OnOk result ((signs : List SignValue) → Any (AreInside signs) cones.new.items
+        ↔ (Any (AreInside signs) cones.old.items ⊎ AreInside signs cone.now)) }
 {
-    Ok(cone.to_vec(alloc)?)
+    if any_wider(cones, cone) {
+        return Ok(());
+    }
+    push_copy(alloc, cones, cone)
 }
 
 /// The cones without those that lie in a later one, from the last on.
@@ -143,8 +148,8 @@ pub(crate) fn wide_cones(
 {
     let mut wide = Vec::new(alloc);
     for k in 0..cones.len() {
-        let cone = copied(alloc, cones[cones.len() - 1 - k].as_slice())?;
-        push_cone(&mut wide, cone)?;
+        let cone = cones[cones.len() - 1 - k].as_slice();
+        push_cone(alloc, &mut wide, cone)?;
     }
     Ok(wide)
 }

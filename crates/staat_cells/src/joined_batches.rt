@@ -1,6 +1,6 @@
 // Batches as they are tested at the signs of a cell: their tests are joined by threes, so that three signs choose a
 // word at once.
-ghost use Rattle.std.specs.Prelude.{◌≡◌, ◌≢◌, ◌⊎◌, ◌↔◌, ◌+◌, ◌*◌, ◌<◌, ◌≤◌, ℕ, List, All, Any, IfOk, length};
+ghost use Rattle.std.specs.Prelude.{◌≡◌, ◌≢◌, ◌⊎◌, ◌↔◌, ◌+◌, ◌*◌, ◌<◌, ◌≤◌, ℕ, List, All, IfOk, length};
 ghost use Rattle.std.specs.Prelude.{slice_index, slice_index_or};
 ghost use Rattle.std.specs.Int.{bit_at};
 ghost use Rattle.staat_vec.specs.declared.vector.Sign.{Sign as SignValue};
@@ -111,13 +111,6 @@ fn last_plane(tests: &[JoinedTest]) -> usize
     last
 }
 
-// parts with their cones once more
-fn copied_arcs(alloc: Global, arcs: &[ArcCones]) -> Result<Vec<ArcCones>, OutOfMemory>
-    ensures { IfOk result (λ same. same.items ≡ arcs.now) }
-{
-    Ok(arcs.to_vec(alloc)?)
-}
-
 // a batch with joined tests
 fn joined_batch(alloc: Global, batch: &Batch) -> Result<JoinedBatch, OutOfMemory>
     requires { All HasParts batch.now.arcs.items }
@@ -127,7 +120,7 @@ fn joined_batch(alloc: Global, batch: &Batch) -> Result<JoinedBatch, OutOfMemory
 {
     let tests = joined_tests(alloc, &batch.tests)?;
     let last = last_plane(&tests);
-    let arcs = copied_arcs(alloc, &batch.arcs)?;
+    let arcs = batch.arcs.to_vec(alloc)?;
     Ok(JoinedBatch { tests, last, arcs })
 }
 

@@ -1,10 +1,8 @@
 // The points and edges of planes, in one list.
-ghost use Rattle.std.specs.Prelude.{◌≡◌, ◌≤◌, All, Contains, IfOk, length, map};
+ghost use Rattle.std.specs.Prelude.{◌≤◌, All, IfOk, length, map};
 ghost use Rattle.staat_vec.specs.Lists.{Lists};
-ghost use Rattle.staat_vec.specs.Vectors.{vector_cmp};
 ghost use Rattle.staat_model.specs.declared.tree.Kind.TheVariants.{Edge, Point};
 ghost use Rattle.staat_model.specs.Cells.{AreCellsOf};
-ghost use Rattle.staat_model.specs.Planes.{vertices};
 ghost use Rattle.staat_pairs.specs.Tables.{AreTablePlanes};
 ghost use Rattle.staat_cells.specs.Compositions.{entry_of};
 ghost use Rattle.staat_cells.specs.Packing.{incidence_cmp};
@@ -34,18 +32,13 @@ pub(crate) struct LowerCells {
 }
 
 // the points, ascending by signs, and incidences with their signs
-fn points_of(
-    alloc: Global,
-    planes: &[V3],
-    corners: &[V3],
-) -> Result<(Vec<Cell>, Vec<Incidence>), OutOfMemory>
+fn points_of(alloc: Global, planes: &[V3]) -> Result<(Vec<Cell>, Vec<Incidence>), OutOfMemory>
     requires planes { AreTablePlanes planes.now }
     requires few { length planes.now ≤ MOST_CELL_PLANES }
-    requires corners { Lists vector_cmp (Contains (vertices planes.now)) corners.now }
     ensures points { IfOk result (λ found. AreCellsOf planes.now Point (map entry_of found.0.items)) }
     ensures signs { IfOk result (λ found. HaveSigns (map entry_of found.0.items) found.1.items) }
 {
-    let raw = points_at(alloc, planes, corners)?;
+    let raw = points_at(alloc, planes, &vertices_of(alloc, planes)?)?;
     let incidences = in_order(own_incidences(alloc, &raw)?)?;
     let points = cells_of(alloc, &raw, &incidences)?;
     Ok((points, incidences))
@@ -65,8 +58,7 @@ fn incidences_of_points(
     ensures { IfOk result (λ found. Lists incidence_cmp (IsIncidence planes.now Edge (map entry_of points.now))
         found.items) }
 {
-    let found = edge_incidences(alloc, planes, points, &own)?;
-    in_order(found)
+    in_order(edge_incidences(alloc, planes, points, &own)?)
 }
 
 // the incidences of edges with open cells, in the order of these, from those with the signs of the edges
@@ -79,8 +71,7 @@ fn incidences_of_edges(
     requires own { HaveSigns (map entry_of edges.now) own.now }
     ensures { IfOk result (λ found. Lists incidence_cmp (IsFilledIncidence (map entry_of edges.now)) found.items) }
 {
-    let found = open_incidences(room, edges, own)?;
-    in_order(found)
+    in_order(open_incidences(room, edges, own)?)
 }
 
 impl LowerCells {
@@ -90,8 +81,7 @@ impl LowerCells {
         requires few { length planes.now ≤ MOST_CELL_PLANES }
         ensures { IfOk result (AreLowerCells planes.now) }
     {
-        let corners = vertices_of(alloc, planes)?;
-        let (mut cells, own) = points_of(alloc, planes, &corners)?;
+        let (mut cells, own) = points_of(alloc, planes)?;
         let points = cells.len();
         let ends = incidences_of_points(alloc, planes, &cells, own)?;
         push_composed(alloc, Kind::Edge, &mut cells, 0, &ends)?;

@@ -11,19 +11,6 @@ use crate::incidence::Incidence;
 use staat_vec::OutOfMemory;
 use std::cmp::Ordering;
 
-// the sum of the numbers of two incidences, where it fits
-fn sum_of(x: Incidence, y: Incidence) -> Option<Incidence>
-    ensures { IfSome result (λ sum. IsUpTo sum x) }
-{
-    Some(Incidence {
-        a: x.a.checked_add(y.a)?,
-        b: x.b.checked_add(y.b)?,
-        c: x.c.checked_add(y.c)?,
-        d: x.d.checked_add(y.d)?,
-        of: x.of.checked_add(y.of)?,
-    })
-}
-
 // whether the numbers of an incidence are at most those of `sum`
 fn is_up_to(sum: Incidence, x: Incidence) -> bool
     ensures { IsTrue result → IsUpTo sum x }
@@ -72,9 +59,19 @@ fn is_mirrored(sum: Incidence, incidences: &[Incidence]) -> bool
 fn mirror_sum(incidences: &[Incidence]) -> Option<Incidence>
     ensures { IfSome result (λ sum. IsMirrored sum incidences.now) }
 {
-    let first = incidences.first()?;
-    let last = incidences.last()?;
-    let sum = sum_of(*first, *last)?;
+    if incidences.is_empty() {
+        return None;
+    }
+    let first = incidences[0];
+    let last = incidences[incidences.len() - 1];
+    // a sum that wraps is less than what was added, and so no sum of mirror images
+    let sum = Incidence {
+        a: first.a.wrapping_add(last.a),
+        b: first.b.wrapping_add(last.b),
+        c: first.c.wrapping_add(last.c),
+        d: first.d.wrapping_add(last.d),
+        of: first.of.wrapping_add(last.of),
+    };
     if is_mirrored(sum, incidences) {
         Some(sum)
     } else {

@@ -2,10 +2,10 @@
 ghost use Rattle.std.specs.Prelude.{◌≡◌, ◌≢◌, ◌<◌, ◌↔◌, All, Any, IfOk, List, OnOk};
 ghost use Rattle.staat_vec.specs.declared.vector.Sign.{Sign as SignValue};
 ghost use Rattle.staat_model.specs.Sets.{Has};
-ghost use Rattle.staat_pairs.specs.Tables.{IsTable, IsTableArc, pieces_of};
+ghost use Rattle.staat_pairs.specs.Tables.{IsTable, pieces_of};
 ghost use Rattle.staat_cells.specs.Batches.{IsBatch};
 ghost use Rattle.staat_cells.specs.CellGraphs.{AddsArcs, AddsCones, AddsConesOf, ArePartsAhead, ListsArcsOf};
-ghost use Rattle.staat_cells.specs.CellGraphs.{IsAheadBy, IsAheadFromBy, IsFromPart, IsPairAhead, IsPieceAhead};
+ghost use Rattle.staat_cells.specs.CellGraphs.{IsAheadBy, IsFromPart, IsPieceAhead};
 ghost use Rattle.staat_cells.specs.HalfSpaces.{AreInside};
 
 use crate::batches::{Batch, add_cone};
@@ -33,7 +33,11 @@ fn push_piece(
     ensures { OnOk result (AddsCones (IsPieceAhead table.now a b i) cones.old.items cones.new.items) }
 {
     for j in 0..table.pieces(b) {
-        push_cone(cones, half_spaces(alloc, table, Arc { a, i, b, j })?)?;
+        push_cone(
+            alloc,
+            cones,
+            &half_spaces(alloc, table, Arc { a, i, b, j })?,
+        )?;
     }
     Ok(())
 }
@@ -93,8 +97,7 @@ fn push_pair(
     requires different { a ≢ b }
     ensures { OnOk result (AddsArcs (ArePartsAhead table.now a b) batches.old.items batches.new.items) }
 {
-    let all = cones_of(alloc, table, a, b)?;
-    let wide = wide_cones(alloc, &all)?;
+    let wide = wide_cones(alloc, &cones_of(alloc, table, a, b)?)?;
     add_cones(alloc, &wide, a, b, batches)
 }
 

@@ -6,15 +6,13 @@ ghost use Rattle.staat_vec.specs.Vectors.{IsWithin, dot, sign};
 use staat_vec::{DIRECTION, NORMAL, Sign, V3, sign_dot};
 
 /// How great a component of a direction is at most that fits a word.
-pub(crate) const WORD_DIRECTION: u128 = 1 << 62;
+const WORD_DIRECTION: u128 = 1 << 62;
 
-/// Whether the components fit words.
-pub(crate) fn fits_words(d: V3) -> bool
-    ensures { IsTrue result → IsWithin WORD_DIRECTION d }
+/// Whether no component is greater than the bound in absolute value.
+pub(crate) fn is_within(v: V3, bound: u128) -> bool
+    ensures { IsTrue result → IsWithin bound v }
 {
-    d.x.unsigned_abs() <= WORD_DIRECTION
-        && d.y.unsigned_abs() <= WORD_DIRECTION
-        && d.z.unsigned_abs() <= WORD_DIRECTION
+    v.x.unsigned_abs() <= bound && v.y.unsigned_abs() <= bound && v.z.unsigned_abs() <= bound
 }
 
 // a component, by way of a word, so that a product of two takes one multiplication
@@ -68,8 +66,8 @@ fn sign_of(value: i128) -> Sign
     }
 }
 
-/// The sign of a plane at a direction whose components fit words.
-pub(crate) fn word_sign(n: V3, d: V3) -> Sign
+// the sign of a plane at a direction whose components fit words
+fn word_sign(n: V3, d: V3) -> Sign
     requires n { IsWithin NORMAL n }
     requires d { IsWithin WORD_DIRECTION d }
     ensures { result ≡ sign (dot n d) }
@@ -83,7 +81,7 @@ pub(crate) fn sign_there(n: V3, d: V3) -> Sign
     requires d { IsWithin DIRECTION d }
     ensures { result ≡ sign (dot n d) }
 {
-    if fits_words(d) {
+    if is_within(d, WORD_DIRECTION) {
         word_sign(n, d)
     } else {
         sign_dot(n, d)
@@ -98,28 +96,11 @@ pub(crate) const SMALL_NORMAL: u128 = 1 << 22;
 /// How great a component of a small direction is at most: so the product with a small normal fits a word.
 pub(crate) const SMALL_DIRECTION: u128 = 1 << 39;
 
-fn is_small_normal(n: V3) -> bool
-    ensures { IsTrue result → IsWithin SMALL_NORMAL n }
-{
-    n.x.unsigned_abs() <= SMALL_NORMAL
-        && n.y.unsigned_abs() <= SMALL_NORMAL
-        && n.z.unsigned_abs() <= SMALL_NORMAL
-}
-
 /// Whether all these normals are small.
 pub(crate) fn are_small(planes: &[V3]) -> bool
     ensures { IsTrue result → All (IsWithin SMALL_NORMAL) planes.now }
 {
-    planes.iter().all(|n| is_small_normal(*n))
-}
-
-/// Whether a direction is small.
-pub(crate) fn is_small(d: V3) -> bool
-    ensures { IsTrue result → IsWithin SMALL_DIRECTION d }
-{
-    d.x.unsigned_abs() <= SMALL_DIRECTION
-        && d.y.unsigned_abs() <= SMALL_DIRECTION
-        && d.z.unsigned_abs() <= SMALL_DIRECTION
+    planes.iter().all(|n| is_within(*n, SMALL_NORMAL))
 }
 
 // a component as a word

@@ -1,6 +1,6 @@
 // The points, ascending by their signs.
-ghost use Rattle.std.specs.Prelude.{◌≡◌, ◌<◌, ◌↔◌, ◌++◌, [], ◌∷◌};
-ghost use Rattle.std.specs.Prelude.{All, Contains, IfOk, IsTrue, List, length, map, slice_index_or, take};
+ghost use Rattle.std.specs.Prelude.{◌≡◌, ◌<◌, ◌↔◌};
+ghost use Rattle.std.specs.Prelude.{All, Contains, IfOk, IsTrue, length, map, slice_index_or, take};
 ghost use Rattle.staat_vec.specs.Vectors.{IsWithin, origin};
 ghost use Rattle.staat_cells.specs.declared.incidence.Incidence.{Incidence as IncidenceValue};
 ghost use Rattle.staat_cells.specs.Compositions.{entry_of};
@@ -80,8 +80,7 @@ pub(crate) fn points_at(
     let small = are_small(planes);
     let mut cells = Vec::with_capacity(alloc, vertices.len())?;
     for k in 0..vertices.len() {
-        let cell = point_after(alloc, planes, small, vertices, &cells, k)?;
-        cells.push(cell)?;
+        cells.push(point_after(alloc, planes, small, vertices, &cells, k)?)?;
     }
     Ok(cells)
 }

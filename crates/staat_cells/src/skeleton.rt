@@ -1,7 +1,6 @@
 // The points and edges of the planes of a table, and its open cells one at a time.
 ghost use Rattle.std.specs.Prelude.{◌≡◌, ◌<◌, ◌≤◌, IfOk, length, map};
 ghost use Rattle.staat_model.specs.declared.tree.Kind.TheVariants.{Open};
-ghost use Rattle.staat_pairs.specs.Tables.{AreTablePlanes};
 ghost use Rattle.staat_cells.specs.Compositions.{entry_of};
 ghost use Rattle.staat_cells.specs.Skeletons.{HasEdges, IsFoundAt, IsSkeleton};
 
@@ -12,7 +11,7 @@ use crate::lower_cells::LowerCells;
 use staat_limits::MOST_CELL_PLANES;
 use staat_model::Kind;
 use staat_planes::PlaneTable;
-use staat_vec::{OutOfMemory, V3};
+use staat_vec::OutOfMemory;
 use std::alloc::Global;
 
 /// The points and edges of the planes of a table, and the incidences of its edges with its open cells, in the order
@@ -25,13 +24,12 @@ pub struct Skeleton {
 }
 
 impl Skeleton {
-    /// The skeleton of planes.
-    pub(crate) fn of_planes(alloc: Global, planes: &[V3]) -> Result<Skeleton, OutOfMemory>
-        requires planes { AreTablePlanes planes.now }
-        requires few { length planes.now ≤ MOST_CELL_PLANES }
-        ensures { IfOk result (IsSkeleton planes.now) }
+    /// The skeleton of the planes of the table, which has at most [`MOST_CELL_PLANES`] planes.
+    pub fn of(alloc: Global, table: &PlaneTable) -> Result<Skeleton, OutOfMemory>
+        requires { length table.now.planes ≤ MOST_CELL_PLANES }
+        ensures { IfOk result (IsSkeleton table.now.planes) }
     {
-        let lower = LowerCells::of_planes(alloc, planes)?;
+        let lower = LowerCells::of_planes(alloc, table.planes())?;
         let mut points = lower.cells;
         let edges = points.split_off(lower.points)?;
         Ok(Skeleton {
@@ -39,14 +37,6 @@ impl Skeleton {
             edges,
             incidences: lower.incidences,
         })
-    }
-
-    /// The skeleton of the planes of the table, which has at most [`MOST_CELL_PLANES`] planes.
-    pub fn of(alloc: Global, table: &PlaneTable) -> Result<Skeleton, OutOfMemory>
-        requires { length table.now.planes ≤ MOST_CELL_PLANES }
-        ensures { IfOk result (IsSkeleton table.now.planes) }
-    {
-        Skeleton::of_planes(alloc, table.planes())
     }
 
     /// The points, ascending by signs.

@@ -4,7 +4,7 @@ use Rattle.std.proofs.lemmas.Result.{on_ok_weaker}
 use Rattle.staat_model.proofs.Places.{place_within}
 use Rattle.staat_cells.specs.declared.batches.Batch.{Batch}
 use Rattle.staat_cells.specs.declared.half_spaces.HalfSpace.{HalfSpace}
-use Rattle.staat_cells.proofs.BatchCones.{batch_pushed, batch_set}
+use Rattle.staat_cells.proofs.BatchCones.{batch_room, batch_set}
 use Rattle.staat_cells.proofs.batches.add_cone.Goals as goal
 
 there : (batches items : List Batch) (k j : ℕ) (x : Batch) (cone : List HalfSpace) → batches ≡ items
@@ -34,18 +34,14 @@ returns-in-Some c =
     c.index_mut.ensures.value (c.find.ensures.cone c.in-Some.k c.in-Some.j c.in-Some.is x))))
     c.add_parts.ensures
 
-pub returns-then-has_room : goal.returns-then-has_room
-returns-then-has_room c =
-    let last = c.len-last.result - 1 in
-    let lt : c.len-last.result - 1 < length c.args.batches.now.items = omega arith in
-    on_ok_weaker c.add_new.result (λ added.
-    batch_set c.args.batches.now.items last c.index_mut-then-has_room.result.now c.add_new.new.batch c.args.cone.now
-    c.args.a c.args.b lt c.index_mut-then-has_room.ensures.value c.requires.rules added)
-    c.add_new.ensures
-
 pub returns : goal.returns
 returns c =
-    batch_pushed c.args.batches.now.items c.push.new.self.items
-    (record { cones = c.new.result; tests = c.new-2.result; arcs = c.new-3.result }) c.add_new-2.new.batch
-    c.args.cone.now c.args.a c.args.b c.new-3.ensures.items c.in_ok-push.ensures.items c.requires.rules
-    c.in_ok-add_new.ensures
+    let room = c.in_ok-make_room.ensures in
+    let mid = c.make_room.new.batches.items in
+    let some = room.some in
+    let lt : c.len-last.result - 1 < length mid = omega (arith, some) in
+    on_ok_weaker c.add_new.result (λ added.
+    batch_room c.args.batches.now.items mid _ c.args.cone.now c.args.a c.args.b room
+    (batch_set mid (c.len-last.result - 1) c.index_mut-2.result.now c.add_new.new.batch c.args.cone.now
+    c.args.a c.args.b lt c.index_mut-2.ensures.value room.batches added))
+    c.add_new.ensures

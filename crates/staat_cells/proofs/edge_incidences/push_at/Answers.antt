@@ -1,19 +1,12 @@
-use Rattle.std.proofs.Common.{◌∙◌, ap, arith, get_or, length}
-use Rattle.std.proofs.lemmas.List.{get_or-map, length-map}
-use Rattle.staat_vec.specs.declared.vector.Sign.TheVariants.{Neg}
-use Rattle.staat_vec.specs.Vectors.{dot, origin, sign}
+use Rattle.std.proofs.Common.{◌∙◌, ◌++◌, ◌∷◌, [], ap, arith, get_or}
+use Rattle.std.proofs.lemmas.Result.{on_ok_weaker}
+use Rattle.staat_vec.specs.Vectors.{negative, origin}
+use Rattle.staat_cells.specs.Beside.{beside}
+use Rattle.staat_cells.specs.Packing.{incidence_of}
 use Rattle.staat_cells.specs.ZeroSigns.{zero_places}
-use Rattle.staat_cells.proofs.ZeroPlanes.{zero_place}
+use Rattle.staat_cells.proofs.PushingIncidences.{incidences_on}
+use Rattle.staat_cells.proofs.ZeroPlanes.{zero_place, zero_sign_there}
 use Rattle.staat_cells.proofs.edge_incidences.push_at.Goals as goal
-
-pub bounds-as_slice-j : goal.bounds-as_slice-j
-bounds-as_slice-j c =
-    let planes = c.args.planes.now in
-    let v = c.args.point.now.d in
-    let small = zero_place planes v c.args.zeros.now c.args.j (c.requires.zeros ∙ ap (zero_places 0) c.requires.signs) c.requires.listed in
-    let long = ap length (c.as_slice.ensures ∙ c.requires.signs) in
-    let same = length-map planes (λ n. sign (dot n v)) in
-    omega (arith, small, long, same)
 
 pub bounds-planes-j : goal.bounds-planes-j
 bounds-planes-j c = zero_place c.args.planes.now c.args.point.now.d c.args.zeros.now c.args.j (c.requires.zeros ∙ ap (zero_places 0) c.requires.signs) c.requires.listed
@@ -24,10 +17,19 @@ offset_bounds-planes-j c =
     let few = c.requires.few in
     omega (arith, small, few)
 
-pub push_on-requires-clause-s : goal.push_on-requires-clause-s
-push_on-requires-clause-s c =
+pub returns : goal.returns
+returns c =
     let planes = c.args.planes.now in
     let v = c.args.point.now.d in
-    ap (λ l. get_or l c.args.j Neg) (c.as_slice.ensures ∙ c.requires.signs)
-    ∙ get_or-map (λ n. sign (dot n v)) planes c.args.j origin Neg
-    (zero_place planes v c.args.zeros.now c.args.j (c.requires.zeros ∙ ap (zero_places 0) c.requires.signs) c.requires.listed)
+    let k = c.args.base.of in
+    let old = c.args.incidences.now.items in
+    let first = c.in_ok-push_towards.ensures in
+    let towards = c.cross_normal-w.ensures.value in
+    let back = c.neg.ensures.value in
+    on_ok_weaker c.push_towards-2.result (λ is.
+    incidences_on planes v c.args.m (get_or planes c.args.j origin) k old c.push_towards-2.new.incidences.items
+    (zero_sign_there planes v c.args.zeros.now c.args.j (c.requires.zeros ∙ ap (zero_places 0) c.requires.signs) c.requires.listed)
+    (is ∙ (λ i. first i ++ incidence_of (beside planes v (back i)) k ∷ [])
+    ∙ (λ i. (old ++ incidence_of (beside planes v (towards i)) k ∷ [])
+    ++ incidence_of (beside planes v (negative (towards i))) k ∷ [])))
+    c.push_towards-2.ensures

@@ -8,7 +8,7 @@ use Rattle.staat_cells.proofs.joined_batches.joined_batch.Goals as goal
 
 pub returns : goal.returns
 returns c =
-    let same = c.in_ok-arcs.ensures ∙ c.deref-3.ensures.value in record {
+    let same = c.in_ok-arcs.ensures.items_if_clones_equal (λ x y e. e) ∙ c.deref-3.ensures.value in record {
       rules = record {
         planes = subst (λ (l : List JoinedTest). All (HasPlanesUpTo c.last_plane-last.result) l) c.deref-2.ensures.value
             c.last_plane-last.ensures;

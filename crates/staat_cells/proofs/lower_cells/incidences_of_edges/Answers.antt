@@ -9,8 +9,8 @@ use Rattle.staat_cells.proofs.lower_cells.incidences_of_edges.Goals as goal
 
 pub returns : goal.returns
 returns c =
-    IfOk-weaker c.in_order.result (λ sorted. Lists incidence_cmp (Contains c.in_ok-found.found.items) sorted.items)
+    IfOk-weaker c.in_order.result (λ sorted. Lists incidence_cmp (Contains c.in_ok-open_incidences.field-0.items) sorted.items)
     (λ sorted. Lists incidence_cmp (IsFilledIncidence (map entry_of c.args.edges.now)) sorted.items)
-    (λ sorted lists. lists_same (IsFilledIncidence (map entry_of c.args.edges.now)) c.in_ok-found.found.items
-    sorted.items c.in_ok-found.ensures lists)
+    (λ sorted lists. lists_same (IsFilledIncidence (map entry_of c.args.edges.now)) c.in_ok-open_incidences.field-0.items
+    sorted.items c.in_ok-open_incidences.ensures lists)
     c.in_order.ensures

@@ -13,8 +13,8 @@ edge_incidences-requires-clause-points c = vertex_points c.args.planes.now c.req
 
 pub returns : goal.returns
 returns c =
-    IfOk-weaker c.in_order.result (λ sorted. Lists incidence_cmp (Contains c.in_ok-found.found.items) sorted.items)
+    IfOk-weaker c.in_order.result (λ sorted. Lists incidence_cmp (Contains c.in_ok-edge_incidences.field-0.items) sorted.items)
     (λ sorted. Lists incidence_cmp (IsIncidence c.args.planes.now Edge (map entry_of c.args.points.now)) sorted.items)
     (λ sorted lists. lists_same (IsIncidence c.args.planes.now Edge (map entry_of c.args.points.now))
-    c.in_ok-found.found.items sorted.items c.in_ok-found.ensures lists)
+    c.in_ok-edge_incidences.field-0.items sorted.items c.in_ok-edge_incidences.ensures lists)
     c.in_order.ensures

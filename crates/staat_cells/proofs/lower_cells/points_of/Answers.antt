@@ -1,32 +1,38 @@
 use Rattle.std.proofs.Common.{◌∙◌, ◌↔◌, ◌<◌, sym, ap, refl, subst, length, map, List, All, Contains}
+use Rattle.staat_vec.specs.Lists.{Lists}
+use Rattle.staat_vec.specs.Vectors.{vector_cmp}
+use Rattle.staat_model.specs.Planes.{vertices}
 use Rattle.staat_cells.specs.declared.cell.Cell.{Cell}
 use Rattle.staat_cells.specs.declared.incidence.Incidence.{Incidence}
 use Rattle.staat_cells.specs.Compositions.{entry_of}
-use Rattle.staat_cells.specs.Stages.{IsOwnIncidence, cell_at}
+use Rattle.staat_cells.specs.Stages.{IsOwnIncidence, cell_at, point_entry}
 use Rattle.staat_cells.proofs.KindLists.{points_listed, points_signs, incidences_listed}
 use Rattle.staat_cells.proofs.TableRules.{listed_small}
 use Rattle.staat_cells.proofs.lower_cells.points_of.Goals as goal
 
 pub points_at-requires-clause-vertices : goal.points_at-requires-clause-vertices
-points_at-requires-clause-vertices c = listed_small c.args.planes.now c.args.corners.now c.requires.planes c.requires.corners
+points_at-requires-clause-vertices c =
+    listed_small c.args.planes.now c.deref.result.now c.requires.planes
+    (subst (Lists vector_cmp (Contains (vertices c.args.planes.now))) (sym c.deref.ensures.value) c.in_ok-vertices_of.ensures)
 
 pub cells_of-requires : goal.cells_of-requires
 cells_of-requires c =
     let raw = c.in_ok-raw.raw.items in
-    let own : (x : Incidence) → Contains c.in_ok-own_incidences.field-0.items x ↔ IsOwnIncidence (map entry_of raw) x = subst (λ (l : List Cell). (x : Incidence) → Contains c.in_ok-own_incidences.field-0.items x ↔ IsOwnIncidence (map entry_of l) x) c.deref.ensures.value c.in_ok-own_incidences.ensures in
-    subst (λ (l : List Cell). All (λ x. x.of < length l) c.deref-3.result.now) (sym c.deref-2.ensures.value)
-    (incidences_listed c.args.planes.now c.requires.planes c.requires.few raw c.in_ok-own_incidences.field-0.items c.in_ok-incidences.incidences.items c.deref-3.result.now c.deref-3.ensures.value own c.in_ok-incidences.ensures)
+    let own : (x : Incidence) → Contains c.in_ok-own_incidences.field-0.items x ↔ IsOwnIncidence (map entry_of raw) x = subst (λ (l : List Cell). (x : Incidence) → Contains c.in_ok-own_incidences.field-0.items x ↔ IsOwnIncidence (map entry_of l) x) c.deref-2.ensures.value c.in_ok-own_incidences.ensures in
+    subst (λ (l : List Cell). All (λ x. x.of < length l) c.deref-4.result.now) (sym c.deref-3.ensures.value)
+    (incidences_listed c.args.planes.now c.requires.planes c.requires.few raw c.in_ok-own_incidences.field-0.items c.in_ok-incidences.incidences.items c.deref-4.result.now c.deref-4.ensures.value own c.in_ok-incidences.ensures)
 
 pub returns-clause-points : goal.returns-clause-points
 returns-clause-points c =
     let raw = c.in_ok-raw.raw.items in
     let found = c.in_ok-own_incidences.field-0.items in
     let own : (x : Incidence) → Contains found x ↔ IsOwnIncidence (map entry_of raw) x =
-    subst (λ (l : List Cell). (x : Incidence) → Contains found x ↔ IsOwnIncidence (map entry_of l) x) c.deref.ensures.value c.in_ok-own_incidences.ensures in
+    subst (λ (l : List Cell). (x : Incidence) → Contains found x ↔ IsOwnIncidence (map entry_of l) x) c.deref-2.ensures.value c.in_ok-own_incidences.ensures in
     points_listed c.args.planes.now c.requires.planes c.requires.few raw c.in_ok-points.points.items
-    c.args.corners.now found c.in_ok-incidences.incidences.items c.deref-3.result.now c.in_ok-raw.ensures
-    c.requires.corners c.deref-3.ensures.value own c.in_ok-incidences.ensures
-    (c.in_ok-points.ensures ∙ ap (λ (l : List Cell). map (λ (x : Incidence). cell_at (map entry_of l) x.of) c.deref-3.result.now) c.deref-2.ensures.value)
+    c.in_ok-vertices_of.field-0.items found c.in_ok-incidences.incidences.items c.deref-4.result.now
+    (c.in_ok-raw.ensures ∙ ap (map (point_entry c.args.planes.now)) c.deref.ensures.value)
+    c.in_ok-vertices_of.ensures c.deref-4.ensures.value own c.in_ok-incidences.ensures
+    (c.in_ok-points.ensures ∙ ap (λ (l : List Cell). map (λ (x : Incidence). cell_at (map entry_of l) x.of) c.deref-4.result.now) c.deref-3.ensures.value)
 
 pub returns-clause-signs : goal.returns-clause-signs
 returns-clause-signs c =
@@ -34,8 +40,8 @@ returns-clause-signs c =
     let found = c.in_ok-own_incidences.field-0.items in
     let sorted = c.in_ok-incidences.incidences.items in
     let own : (x : Incidence) → Contains found x ↔ IsOwnIncidence (map entry_of raw) x =
-    subst (λ (l : List Cell). (x : Incidence) → Contains found x ↔ IsOwnIncidence (map entry_of l) x) c.deref.ensures.value c.in_ok-own_incidences.ensures in
+    subst (λ (l : List Cell). (x : Incidence) → Contains found x ↔ IsOwnIncidence (map entry_of l) x) c.deref-2.ensures.value c.in_ok-own_incidences.ensures in
     points_signs c.args.planes.now c.requires.planes c.requires.few raw c.in_ok-points.points.items found sorted sorted
     refl own c.in_ok-incidences.ensures
     (c.in_ok-points.ensures
-    ∙ (λ i. map (λ (x : Incidence). cell_at (map entry_of (c.deref-2.ensures.value i)) x.of) (c.deref-3.ensures.value i)))
+    ∙ (λ i. map (λ (x : Incidence). cell_at (map entry_of (c.deref-3.ensures.value i)) x.of) (c.deref-4.ensures.value i)))

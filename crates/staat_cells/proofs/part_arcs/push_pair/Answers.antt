@@ -17,7 +17,7 @@ returns c =
     let b = c.args.b in
     let ahead = subst (λ (l : List (List HalfSpace)). (signs : List Sign) → Any (AreInside signs) l
     ↔ IsAheadBy t signs a b)
-    (sym c.deref.ensures.value) c.in_ok-all.ensures in
+    (sym c.deref.ensures.value) c.in_ok-cones_of.ensures in
     on_ok_weaker c.add_cones.result (λ added.
     pair_added t a b c.deref-2.result.now c.args.batches.now.items c.add_cones.new.batches.items
     (subst (λ (l : List (List HalfSpace)). (signs : List Sign) → Any (AreInside signs) l ↔ IsAheadBy t signs a b)

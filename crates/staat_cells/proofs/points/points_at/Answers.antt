@@ -13,7 +13,7 @@ pub loop-k-preserved : goal.loop-k-preserved
 loop-k-preserved c = record {
   long = let long = c.loop-k.invariant.long in let more = c.in_ok-push.ensures.len in omega (arith, long, more);
   are = points_more c.args.planes.now c.args.vertices.now c.loop-k.k c.loop-k.cells.items c.push.new.self.items _
-      c.loop-k-test.true c.loop-k.invariant.are c.in_ok-cell.ensures c.in_ok-push.ensures.items;
+      c.loop-k-test.true c.loop-k.invariant.are c.in_ok-point_after.ensures c.in_ok-push.ensures.items;
 }
 
 pub returns : goal.returns

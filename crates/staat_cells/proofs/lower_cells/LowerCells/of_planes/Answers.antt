@@ -43,8 +43,8 @@ slice_bounds-incidences_of_edges-count c =
     let cells = c.push_composed.new.cells.items in
     let ends = c.in_ok-ends.ends.items in
     let count : c.len-points.result ≡ length points = omega arith in
-    fewer points cells c.deref-5.result.now ends c.len-points.result count c.deref-5.ensures.value
-    (composed_of c.deref-3.result.now ends points cells c.deref-3.ensures.value c.in_ok-push_composed.ensures)
+    fewer points cells c.deref-4.result.now ends c.len-points.result count c.deref-4.ensures.value
+    (composed_of c.deref-2.result.now ends points cells c.deref-2.ensures.value c.in_ok-push_composed.ensures)
 
 pub slice_bounds-incidences_of_edges-start : goal.slice_bounds-incidences_of_edges-start
 slice_bounds-incidences_of_edges-start c = slice_bounds-incidences_of_edges-count c
@@ -52,10 +52,10 @@ slice_bounds-incidences_of_edges-start c = slice_bounds-incidences_of_edges-coun
 pub push_composed-requires-clause-pairs : goal.push_composed-requires-clause-pairs
 push_composed-requires-clause-pairs c =
     let points = c.in_ok-cells.cells.items in
-    subst (λ ends. HavePairs ends (length points)) (sym c.deref-3.ensures.value)
+    subst (λ ends. HavePairs ends (length points)) (sym c.deref-2.ensures.value)
     (edge_pairs c.args.planes.now c.requires.planes c.requires.few points c.in_ok-cells.ensures.points
     c.in_ok-ends.ends.items
-    (ends_of c.args.planes.now c.deref-2.result.now points c.in_ok-ends.ends.items c.deref-2.ensures.value
+    (ends_of c.args.planes.now c.deref.result.now points c.in_ok-ends.ends.items c.deref.ensures.value
     c.in_ok-ends.ensures))
 
 pub push_composed-requires-clause-size : goal.push_composed-requires-clause-size
@@ -73,11 +73,11 @@ incidences_of_edges-requires-clause-few c =
     let cells = c.push_composed.new.cells.items in
     let ends = c.in_ok-ends.ends.items in
     let count : c.len-points.result ≡ length points = omega arith in
-    let lists = ends_of planes c.deref-2.result.now points ends c.deref-2.ensures.value c.in_ok-ends.ensures in
-    let adds = composed_of c.deref-3.result.now ends points cells c.deref-3.ensures.value c.in_ok-push_composed.ensures in
+    let lists = ends_of planes c.deref.result.now points ends c.deref.ensures.value c.in_ok-ends.ensures in
+    let adds = composed_of c.deref-2.result.now ends points cells c.deref-2.ensures.value c.in_ok-push_composed.ensures in
     let edges = edges_are planes c.requires.planes c.requires.few points cells c.in_ok-cells.ensures.points ends lists adds in
     subst (All (λ (x : Cell). length x.signs ≤ 256))
-    (sym (slice_is points cells c.deref-5.result.now ends c.len-points.result count c.deref-5.ensures.value adds))
+    (sym (slice_is points cells c.deref-4.result.now ends c.len-points.result count c.deref-4.ensures.value adds))
     (few_signs planes c.requires.planes Edge adds.added edges c.requires.few)
 
 pub incidences_of_edges-requires-clause-own : goal.incidences_of_edges-requires-clause-own
@@ -87,15 +87,15 @@ incidences_of_edges-requires-clause-own c =
     let cells = c.push_composed.new.cells.items in
     let ends = c.in_ok-ends.ends.items in
     let count : c.len-points.result ≡ length points = omega arith in
-    let lists = ends_of planes c.deref-2.result.now points ends c.deref-2.ensures.value c.in_ok-ends.ensures in
-    let adds = composed_of c.deref-3.result.now ends points cells c.deref-3.ensures.value c.in_ok-push_composed.ensures in
-    let slice = c.deref-5.result.now in
+    let lists = ends_of planes c.deref.result.now points ends c.deref.ensures.value c.in_ok-ends.ensures in
+    let adds = composed_of c.deref-2.result.now ends points cells c.deref-2.ensures.value c.in_ok-push_composed.ensures in
+    let slice = c.deref-4.result.now in
     let n = c.len-points.result in
     let own = own_added planes c.requires.planes c.requires.few points cells c.in_ok-cells.ensures.points ends lists adds
-    c.in_ok-own.own.items (c.in_ok-own.ensures ∙ ap (λ l. begun_up_to l (length l)) c.deref-4.ensures.value) in
-    subst (HaveSigns (map entry_of (take (length slice - n) (drop n slice)))) (sym c.deref-6.ensures.value)
+    c.in_ok-own.own.items (c.in_ok-own.ensures ∙ ap (λ l. begun_up_to l (length l)) c.deref-3.ensures.value) in
+    subst (HaveSigns (map entry_of (take (length slice - n) (drop n slice)))) (sym c.deref-5.ensures.value)
     (subst (λ (l : List Cell). HaveSigns (map entry_of l) c.in_ok-own.own.items)
-    (sym (slice_is points cells slice ends n count c.deref-5.ensures.value adds)) own)
+    (sym (slice_is points cells slice ends n count c.deref-4.ensures.value adds)) own)
 
 pub returns : goal.returns
 returns c =
@@ -104,13 +104,13 @@ returns c =
     let cells = c.push_composed.new.cells.items in
     let ends = c.in_ok-ends.ends.items in
     let count : c.len-points.result ≡ length points = omega arith in
-    let lists = ends_of planes c.deref-2.result.now points ends c.deref-2.ensures.value c.in_ok-ends.ensures in
-    let adds = composed_of c.deref-3.result.now ends points cells c.deref-3.ensures.value c.in_ok-push_composed.ensures in
+    let lists = ends_of planes c.deref.result.now points ends c.deref.ensures.value c.in_ok-ends.ensures in
+    let adds = composed_of c.deref-2.result.now ends points cells c.deref-2.ensures.value c.in_ok-push_composed.ensures in
     let edges = edges_added planes c.requires.planes c.requires.few points cells c.in_ok-cells.ensures.points ends lists
     adds in
     let n = c.len-points.result in
-    let slice = c.deref-5.result.now in
+    let slice = c.deref-4.result.now in
     lower_is planes
     (record { cells = c.push_composed.new.cells; points = n; incidences = c.in_ok-incidences.incidences })
     points (take (length slice - n) (drop n slice)) count c.in_ok-cells.ensures.points edges
-    (take_rest slice n ∙ ap (drop n) c.deref-5.ensures.value) c.in_ok-incidences.ensures
+    (take_rest slice n ∙ ap (drop n) c.deref-4.ensures.value) c.in_ok-incidences.ensures
