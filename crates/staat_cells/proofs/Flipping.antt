@@ -1,6 +1,8 @@
 -- Signs that are turned round one after another.
-use Rattle.std.proofs.Common.{◌≡◌, ℕ, zero, suc, ◌+◌, ◌<◌, ◌++◌, ◌∙◌, add-one, ap, arith, refl, sym, drop, get_or, length, map, take, List, [], ◌∷◌}
+use Rattle.std.proofs.Common.{◌≡◌, ℕ, zero, suc, ◌+◌, ◌<◌, ◌≤◌, ◌++◌, ◌∙◌, add-one, ap, arith, refl, sym, drop, get_or, length, map, take, List, [], ◌∷◌}
 use Rattle.std.specs.Prelude.{slice_set}
+use Rattle.std.proofs.lemmas.List.{drop_all, take_all}
+use Rattle.staat_vec.proofs.ListLaws.{append_nothing}
 use Rattle.staat_vec.specs.declared.vector.Sign.{Sign}
 use Rattle.staat_cells.specs.Stages.{flipped}
 
@@ -17,6 +19,10 @@ one_more : (s : List Sign) (i : ℕ) (d : Sign) → i < length s → slice_set (
 one_more [] i d lt = absurd (omega arith)
 one_more (x ∷ s) zero d lt = refl
 one_more (x ∷ s) (suc i) d lt = ap (λ l. flipped x ∷ l) (one_more s i d (omega arith))
+
+pub flip_all : (s items : List Sign) (i : ℕ) → length s ≤ i → items ≡ flipped_to i s → items ≡ map flipped s
+flip_all s items i le are =
+    are ∙ (λ j. map flipped (take_all i s le j) ++ drop_all i s le j) ∙ append_nothing (map flipped s)
 
 pub flip_next : (s items : List Sign) (i : ℕ) (d new : Sign) → i < length s → items ≡ flipped_to i s → new ≡ flipped (get_or items i d)
     → slice_set items i new ≡ flipped_to (i + 1) s

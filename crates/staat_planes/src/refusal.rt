@@ -3,7 +3,6 @@ ghost use Rattle.std.specs.Prelude.{◌≡◌};
 ghost use Rattle.staat_planes.specs.declared.refusal.PlanesRefusal.TheVariants.{OutOfMemory as NoMemory};
 
 use staat_vec::OutOfMemory;
-use std::alloc::{AllocError, AllocFailed};
 use thiserror::Error;
 
 /// Why there is no table of planes.
@@ -21,22 +20,6 @@ impl From<OutOfMemory> for PlanesRefusal {
     ghost from_gives = { λ _ e. e ≡ NoMemory };
 
     fn from(_: OutOfMemory) -> Self {
-        PlanesRefusal::OutOfMemory
-    }
-}
-
-impl From<AllocError> for PlanesRefusal {
-    ghost from_gives = { λ _ e. e ≡ NoMemory };
-
-    fn from(_: AllocError) -> Self {
-        PlanesRefusal::OutOfMemory
-    }
-}
-
-impl<T: Drop> From<AllocFailed<T>> for PlanesRefusal {
-    ghost from_gives = { λ _ e. e ≡ NoMemory };
-
-    fn from(_: AllocFailed<T>) -> Self {
         PlanesRefusal::OutOfMemory
     }
 }

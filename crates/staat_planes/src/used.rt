@@ -1,9 +1,7 @@
 // Which planes belong to a smaller set of parts.
-ghost use Rattle.std.specs.Prelude.{◌≡◌, ◌<◌, ◌↔◌, ◌⊎◌, List, Contains, IsTrue, Some, length};
+ghost use Rattle.std.specs.Prelude.{◌≡◌, ◌<◌, ◌↔◌, List, Contains, IsTrue, Some, length};
 ghost use Rattle.std.specs.Prelude.{slice_get};
-ghost use Rattle.std.specs.List.{Any};
 ghost use Rattle.staat_vec.specs.declared.vector.V3.{V3 as Vector};
-ghost use Rattle.staat_vec.specs.Vectors.{IsWithin, negative};
 ghost use Rattle.staat_model.specs.declared.assembly.Part.{Part as PartValue};
 ghost use Rattle.staat_model.specs.Planes.{ArePlanes};
 ghost use Rattle.staat_model.specs.Sets.{Has, IsSubset};
@@ -14,22 +12,13 @@ ghost use Rattle.staat_planes.specs.Tables.{IsPlaneOf};
 use crate::table::PlaneTable;
 use staat_limits::{LEAST_PLANES, MOST_PARTS};
 use staat_model::{Arc, PartSet};
-use staat_vec::{NORMAL, V3, is_same, neg};
+use staat_vec::{V3, neg};
 
-// whether the facet is n or its negative
-fn is_either(facet: V3, n: V3) -> bool
-    requires { IsWithin NORMAL n }
-    ensures { IsTrue result ↔ ((facet ≡ n) ⊎ (facet ≡ negative n)) }
+// whether n is one of the facets
+fn is_facet(facets: &[V3], n: V3) -> bool
+    ensures { IsTrue result ↔ Contains facets.now n }
 {
-    is_same(facet, n) || is_same(facet, neg(n))
-}
-
-// whether n or its negative is among the facets
-fn has_either(facets: &[V3], n: V3) -> bool
-    requires { IsWithin NORMAL n }
-    ensures { IsTrue result ↔ Any (λ f. (f ≡ n) ⊎ (f ≡ negative n)) facets.now }
-{
-    facets.iter().any(|facet| is_either(*facet, n))
+    facets.contains(&n)
 }
 
 // whether n is the normal of the plane of one of the facets
@@ -37,7 +26,7 @@ fn has_plane(facets: &[V3], n: V3) -> bool
     requires { IsPlaneNormal n }
     ensures { IsTrue result ↔ IsCanonOf facets.now n }
 {
-    has_either(facets, n)
+    is_facet(facets, n) || is_facet(facets, neg(n))
 }
 
 impl PlaneTable {

@@ -1,5 +1,5 @@
-use Rattle.std.proofs.Common.{◌∙◌, ap, get_or, refl, sym}
-use Rattle.staat_cells.specs.Compositions.{no_incidence}
+use Rattle.std.proofs.Common.{◌≡◌, ◌∙◌, ap, arith, get_or, length, refl, sym}
+use Rattle.staat_cells.specs.Compositions.{begun_up_to, no_incidence}
 use Rattle.staat_cells.proofs.Composing.{begun_more, begun_none, begun_same}
 use Rattle.staat_cells.proofs.compose.begun.Goals as goal
 use Rattle.staat_cells.proofs.compose.begun.Goals.{then-begins_cell+in_ok-push, else-begins_cell}
@@ -20,3 +20,8 @@ loop-i-preserved c =
           begun_same incidences i c.if-begins_cell.found.items (ap (λ v. v.items) w.found-is ∙ c.loop-i.invariant)
           (sym c.begins_cell.ensures ∙ w.if-begins_cell.false)
     ]
+
+pub returns : goal.returns
+returns c =
+    let all : c.loop-i.i ≡ length c.args.incidences.now = omega (arith, c.loop-i-test.false, c.loop-i.auto.i-end) in
+    c.loop-i.invariant ∙ ap (begun_up_to c.args.incidences.now) all

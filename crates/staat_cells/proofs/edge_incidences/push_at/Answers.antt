@@ -17,6 +17,11 @@ offset_bounds-planes-j c =
     let few = c.requires.few in
     omega (arith, small, few)
 
+pub cross_normal-w-requires-clause-a : goal.cross_normal-w-requires-clause-a
+cross_normal-w-requires-clause-a c =
+    c.requires.planes c.args.j origin
+    (zero_place c.args.planes.now c.args.point.now.d c.args.zeros.now c.args.j (c.requires.zeros ∙ ap (zero_places 0) c.requires.signs) c.requires.listed)
+
 pub returns : goal.returns
 returns c =
     let planes = c.args.planes.now in

@@ -1,4 +1,5 @@
-use Rattle.std.proofs.Common.{◌≡◌, ◌∙◌, ap, ◌++◌, ◌∷◌, [], List}
+use Rattle.std.proofs.Common.{◌≡◌, ◌∙◌, ap, ◌++◌, ◌∷◌, [], List, length}
+use Rattle.std.proofs.lemmas.List.{length-map}
 use Rattle.staat_vec.specs.declared.vector.Sign.{Sign}
 use Rattle.staat_vec.specs.Vectors.{dot, sign}
 use Rattle.staat_model.specs.Cells.{signs_of}
@@ -8,6 +9,11 @@ use Rattle.staat_cells.specs.Packing.{incidence_of}
 use Rattle.staat_cells.specs.Beside.{beside}
 use Rattle.staat_cells.proofs.Listed.{composed_map}
 use Rattle.staat_cells.proofs.edge_incidences.push_towards.Goals as goal
+
+pub incidence_towards-requires-clause-signs : goal.incidence_towards-requires-clause-signs
+incidence_towards-requires-clause-signs c =
+    ap length (c.as_slice.ensures ∙ c.requires.signs)
+    ∙ length-map c.args.planes.now (λ n. sign (dot n c.args.point.now.d))
 
 pub returns : goal.returns
 returns c =

@@ -4,6 +4,7 @@ use Rattle.std.proofs.lemmas.List.{take_rest}
 use Rattle.staat_vec.specs.declared.vector.V3.{V3}
 use Rattle.staat_vec.specs.Lists.{Lists}
 use Rattle.staat_model.specs.declared.tree.Kind.TheVariants.{Edge, Point}
+use Rattle.staat_model.specs.Cells.{AreCellsOf}
 use Rattle.staat_cells.specs.declared.cell.Cell.{Cell}
 use Rattle.staat_cells.specs.declared.incidence.Incidence.{Incidence}
 use Rattle.staat_cells.specs.Compositions.{AddsComposed, HavePairs, begun_up_to, entry_of}
@@ -36,6 +37,11 @@ fewer : (points cells slice : List Cell) (ends : List Incidence) (count : ℕ) �
     → AddsComposed Edge 0 ends points cells → count ≤ length slice
 fewer points cells slice ends count e same adds =
     omega (arith, e, ap length same, ap length adds.is, length-append points adds.added)
+
+pub incidences_of_points-requires-clause-points : goal.incidences_of_points-requires-clause-points
+incidences_of_points-requires-clause-points c =
+    subst (λ (l : List Cell). AreCellsOf c.args.planes.now Point (map entry_of l)) (sym c.deref.ensures.value)
+    c.in_ok-cells.ensures.points
 
 pub slice_bounds-incidences_of_edges-count : goal.slice_bounds-incidences_of_edges-count
 slice_bounds-incidences_of_edges-count c =
