@@ -21,6 +21,11 @@ use Rattle.staat_vec.proofs.ListLaws.{Contains-map}
 abbrev pub planes_at : List V3 → List ℕ → List V3
 planes_at planes ks = map (λ k. get_or planes k origin) ks
 
+-- the first of the places, or the last
+abbrev pub passed : Bool → List ℕ → ℕ → List ℕ
+passed true ks i = drop (length ks - i) ks
+passed false ks i = take i ks
+
 -- ---- the places of zeros
 
 pub zero_listed : (s : List Sign) (n k : ℕ) (d : Sign) → k < length s → is_zero (get_or s k d) ≡ true → Contains (zero_places n s) (n + k)
@@ -123,16 +128,16 @@ module _ (planes : List V3) (v m : V3) (k : ℕ) where
 
   -- ---- one zero after the other
 
-  pub no_zeros : (ks : List ℕ) (incidences : List Incidence) → GrewByAll (IsOn (planes_at planes (take 0 ks))) incidences incidences
+  no_zeros : (ks : List ℕ) (incidences : List Incidence) → GrewByAll (IsOn (planes_at planes (take 0 ks))) incidences incidences
   no_zeros ks incidences = no_planes planes v m k incidences
 
-  pub next_zero : (ks : List ℕ) (i : ℕ) (old mid new : List Incidence) → i < length ks → GrewByAll (IsOn (planes_at planes (take i ks))) old mid
+  next_zero : (ks : List ℕ) (i : ℕ) (old mid new : List Incidence) → i < length ks → GrewByAll (IsOn (planes_at planes (take i ks))) old mid
       → GrewByAll (IsOn (get_or planes (get_or ks i 0) origin ∷ [])) mid new → GrewByAll (IsOn (planes_at planes (take (i + 1) ks))) old new
   next_zero ks i old mid new lt p q =
       subst (λ cs. GrewByAll (IsOn cs) old new) (sym (ap (planes_at planes) (take_more ks i 0 lt) ∙ map-append (λ j. get_or planes j origin) (take i ks) (get_or ks i 0 ∷ [])))
       (planes_more (planes_at planes (take i ks)) (get_or planes (get_or ks i 0) origin ∷ []) planes v m k old mid new p q)
 
-  pub all_zeros : (ks : List ℕ) (i : ℕ) (old new : List Incidence) → length ks ≤ i → ks ≡ zero_places 0 (signs_of planes v)
+  all_zeros : (ks : List ℕ) (i : ℕ) (old new : List Incidence) → length ks ≤ i → ks ≡ zero_places 0 (signs_of planes v)
       → GrewByAll (IsOn (planes_at planes (take i ks))) old new → GrewByAll (IsOn planes) old new
   all_zeros ks i old new le is grew =
       grew_same (IsOn (planes_at planes (zero_places 0 (signs_of planes v)))) (IsOn planes) old new same_planes
@@ -140,10 +145,10 @@ module _ (planes : List V3) (v m : V3) (k : ℕ) where
 
   -- ---- from the last zero on
 
-  pub last_zeros : (ks : List ℕ) (incidences : List Incidence) → GrewByAll (IsOn (planes_at planes (drop (length ks - 0) ks))) incidences incidences
+  last_zeros : (ks : List ℕ) (incidences : List Incidence) → GrewByAll (IsOn (planes_at planes (drop (length ks - 0) ks))) incidences incidences
   last_zeros ks incidences = subst (λ zs. GrewByAll (IsOn (planes_at planes zs)) incidences incidences) (sym (drop_all (length ks - 0) ks (omega arith))) (no_planes planes v m k incidences)
 
-  pub zero_before : (ks : List ℕ) (i : ℕ) (old mid new : List Incidence) → i < length ks → GrewByAll (IsOn (planes_at planes (drop (length ks - i) ks))) old mid
+  zero_before : (ks : List ℕ) (i : ℕ) (old mid new : List Incidence) → i < length ks → GrewByAll (IsOn (planes_at planes (drop (length ks - i) ks))) old mid
       → GrewByAll (IsOn (get_or planes (get_or ks (length ks - 1 - i) 0) origin ∷ [])) mid new → GrewByAll (IsOn (planes_at planes (drop (length ks - (i + 1)) ks))) old new
   zero_before ks i old mid new lt p q =
       subst (λ zs. GrewByAll (IsOn (planes_at planes zs)) old new) (sym split)
@@ -166,9 +171,32 @@ module _ (planes : List V3) (v m : V3) (k : ℕ) where
       split = ap (λ n. drop n ks) first ∙ drop-cons ks (length ks - 1 - i) 0 (omega (arith, lt))
           ∙ ap (λ n. get_or ks (length ks - 1 - i) 0 ∷ drop n ks) next
 
-  pub zeros_back : (ks : List ℕ) (i : ℕ) (old new : List Incidence) → length ks ≤ i → ks ≡ zero_places 0 (signs_of planes v)
+  zeros_back : (ks : List ℕ) (i : ℕ) (old new : List Incidence) → length ks ≤ i → ks ≡ zero_places 0 (signs_of planes v)
       → GrewByAll (IsOn (planes_at planes (drop (length ks - i) ks))) old new → GrewByAll (IsOn planes) old new
   zeros_back ks i old new le is grew =
       let none : length ks - i ≡ 0 = omega (arith, le) in
       grew_same (IsOn (planes_at planes (zero_places 0 (signs_of planes v)))) (IsOn planes) old new same_planes
       (subst (λ zs. GrewByAll (IsOn (planes_at planes zs)) old new) (ap (λ n. drop n ks) none ∙ is) grew)
+
+  -- ---- from either end on
+
+  pub none_passed : (back : Bool) (ks : List ℕ) (incidences : List Incidence)
+      → GrewByAll (IsOn (planes_at planes (passed back ks 0))) incidences incidences
+  none_passed true ks incidences = last_zeros ks incidences
+  none_passed false ks incidences = no_zeros ks incidences
+
+  pub next_passed : (back : Bool) (ks : List ℕ) (i at : ℕ) (old mid new : List Incidence) → i < length ks
+      → (back ≡ true → at ≡ length ks - 1 - i) → (back ≡ false → at ≡ i)
+      → GrewByAll (IsOn (planes_at planes (passed back ks i))) old mid
+      → GrewByAll (IsOn (get_or planes (get_or ks at 0) origin ∷ [])) mid new
+      → GrewByAll (IsOn (planes_at planes (passed back ks (i + 1)))) old new
+  next_passed true ks i at old mid new lt is _ p q =
+      zero_before ks i old mid new lt p (subst (λ n. GrewByAll (IsOn (get_or planes (get_or ks n 0) origin ∷ [])) mid new) (is refl) q)
+  next_passed false ks i at old mid new lt _ is p q =
+      next_zero ks i old mid new lt p (subst (λ n. GrewByAll (IsOn (get_or planes (get_or ks n 0) origin ∷ [])) mid new) (is refl) q)
+
+  pub all_passed : (back : Bool) (ks : List ℕ) (i : ℕ) (old new : List Incidence) → length ks ≤ i
+      → ks ≡ zero_places 0 (signs_of planes v) → GrewByAll (IsOn (planes_at planes (passed back ks i))) old new
+      → GrewByAll (IsOn planes) old new
+  all_passed true ks i old new le is grew = zeros_back ks i old new le is grew
+  all_passed false ks i old new le is grew = all_zeros ks i old new le is grew

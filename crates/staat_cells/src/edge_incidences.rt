@@ -1,5 +1,5 @@
 // The incidences of vertices: the edges that end there.
-ghost use Rattle.std.specs.Prelude.{◌≡◌, ◌≢◌, ◌≤◌, ◌↔◌, ◌++◌, [], ◌∷◌};
+ghost use Rattle.std.specs.Prelude.{◌≡◌, ◌≢◌, ◌<◌, ◌≤◌, ◌↔◌, ◌-◌, ◌++◌, [], ◌∷◌, false, true};
 ghost use Rattle.std.specs.Prelude.{All, Contains, IfOk, OnOk, length, map, slice_index_or};
 ghost use Rattle.staat_vec.specs.Vectors.{IsWithin, origin};
 ghost use Rattle.staat_model.specs.Cells.{signs_of};
@@ -82,13 +82,24 @@ fn push_at(
     push_towards(planes, point, zeros, base, neg(w), incidences)
 }
 
-// adds the incidences of a vertex on all planes through it
+// the place of the i-th of so many, counted from the end or from the beginning
+fn place_from(count: usize, i: usize, back: bool) -> usize
+    requires { i < count }
+    ensures back { back ≡ true → result ≡ count - 1 - i }
+    ensures front { back ≡ false → result ≡ i }
+    ensures small { result < count }
+{
+    if back { count - 1 - i } else { i }
+}
+
+// adds the incidences of a vertex on all planes through it, from the last one on or from the first one on
 fn push_all(
     planes: &[V3],
     point: &Cell,
     zeros: &[usize],
     base: Incidence,
     m: V3,
+    back: bool,
     incidences: &mut Vec<Incidence>,
 ) -> Result<(), OutOfMemory>
     requires planes { All (IsWithin NORMAL) planes.now }
@@ -101,31 +112,7 @@ fn push_all(
         incidences.old.items incidences.new.items) }
 {
     for i in 0..zeros.len() {
-        push_at(planes, point, zeros, base, zeros[i], m, incidences)?;
-    }
-    Ok(())
-}
-
-// the same, from the last plane on
-fn push_all_back(
-    planes: &[V3],
-    point: &Cell,
-    zeros: &[usize],
-    base: Incidence,
-    m: V3,
-    incidences: &mut Vec<Incidence>,
-) -> Result<(), OutOfMemory>
-    requires planes { All (IsWithin NORMAL) planes.now }
-    requires few { length planes.now ≤ 256 }
-    requires signs { point.now.signs ≡ signs_of planes.now point.now.d }
-    requires zeros { zeros.now ≡ zero_places 0 point.now.signs }
-    requires base { base ≡ incidence_of point.now.signs base.of }
-    requires m { IsWithin NORMAL m }
-    ensures { OnOk result (GrewByAll (IsBesideIncidence planes.now planes.now point.now.d m base.of)
-        incidences.old.items incidences.new.items) }
-{
-    for i in 0..zeros.len() {
-        let j = zeros[zeros.len() - 1 - i];
+        let j = zeros[place_from(zeros.len(), i, back)];
         push_at(planes, point, zeros, base, j, m, incidences)?;
     }
     Ok(())
@@ -153,11 +140,7 @@ fn push_edge_incidences(
     let base = Incidence { of: k, ..own };
     let zeros = zeros_of(alloc, point.signs.as_slice())?;
     let m = axis_off(point.d);
-    if back {
-        push_all_back(planes, point, &zeros, base, m, incidences)
-    } else {
-        push_all(planes, point, &zeros, base, m, incidences)
-    }
+    push_all(planes, point, &zeros, base, m, back, incidences)
 }
 
 /// The incidences of vertices towards the edges that end there, from those with the signs of the vertices.

@@ -1,5 +1,5 @@
 // The search for the first vertex of the planes of a set of parts that serves.
-ghost use Rattle.std.specs.Prelude.{◌≡◌, ◌≢◌, ◌≤◌, List, ◌∷◌, [], All, IfSome, IsTrue, length, pos, ⊤};
+ghost use Rattle.std.specs.Prelude.{◌≡◌, ◌≢◌, ◌≤◌, List, ◌∷◌, [], IfSome, IsTrue, length, pos, ⊤};
 ghost use Rattle.staat_vec.specs.declared.vector.V3.{V3 as Vector};
 ghost use Rattle.staat_vec.specs.Vectors.{IsWithin, dot, negative, origin};
 ghost use Rattle.staat_model.specs.declared.assembly.Part.{Part as PartValue};
@@ -241,25 +241,6 @@ pub fn first_passing<T: Trial>(
     Search::Undecided
 }
 
-// the first of the vertices that serves, where it is asked first whether no direction serves, and then about each row
-fn first_late<T: Trial>(table: &PlaneTable, w: PartSet, trial: &mut T) -> Option<Served<T::Found>>
-    requires fits { T.fits trial.old table.now w }
-    requires within { IsSubset w table.now.of }
-    ensures fits { T.fits trial.new table.now w }
-    ensures knows { (parts : List PartValue) → T.knows trial.old parts → T.knows trial.new parts }
-    ensures among { IfSome result (IsDirectionWith (T.among w)) }
-    ensures first { (parts : List PartValue) (planes : List Vector) → WasMadeFrom parts table.now
-        → T.knows trial.old parts → ArePlanes parts w planes
-        → IsFirstIfAny (T.serves parts w) (T.finds parts w) (vertices planes) result }
-{
-    if trial.rules_out_all(table, w) {
-        return None;
-    }
-    let mut pairs = PlanePairs::of(table, w);
-    pass_rows(&mut pairs, table, w, trial);
-    first_left(&mut pairs, table, w, trial)
-}
-
 /// The first of the vertices of the planes of `w`, in pair order, that serves, and what is found there. None exactly
 /// where none of them serves.
 ///
@@ -283,6 +264,14 @@ pub fn first_vertex<T: Trial>(
     match first_few(&mut pairs, table, w, trial, FEW_PAIRS) {
         Search::First(served) => Some(served),
         Search::Nothing => None,
-        Search::Undecided => first_late(table, w, trial),
+        // most sets that are stuck are seen to be so at once, and most rows have no direction that serves
+        Search::Undecided => {
+            if trial.rules_out_all(table, w) {
+                return None;
+            }
+            let mut pairs = PlanePairs::of(table, w);
+            pass_rows(&mut pairs, table, w, trial);
+            first_left(&mut pairs, table, w, trial)
+        }
     }
 }
