@@ -20,7 +20,6 @@ mod plane_signs;
 mod points;
 mod signs;
 mod skeleton;
-mod vertices;
 mod zero_signs;
 
 pub use all::all_cells;

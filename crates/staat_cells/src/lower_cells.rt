@@ -16,9 +16,9 @@ use crate::incidence::Incidence;
 use crate::open_incidences::open_incidences;
 use crate::order::in_order;
 use crate::points::{cells_of, own_incidences, points_at};
-use crate::vertices::vertices_of;
 use staat_limits::MOST_CELL_PLANES;
 use staat_model::Kind;
+use staat_pairs::directions;
 use staat_vec::{OutOfMemory, V3};
 use std::alloc::Global;
 
@@ -38,7 +38,8 @@ fn points_of(alloc: Global, planes: &[V3]) -> Result<(Vec<Cell>, Vec<Incidence>)
     ensures points { IfOk result (λ found. AreCellsOf planes.now Point (map entry_of found.0.items)) }
     ensures signs { IfOk result (λ found. HaveSigns (map entry_of found.0.items) found.1.items) }
 {
-    let raw = points_at(alloc, planes, &vertices_of(alloc, planes)?)?;
+    // a refusal of version 1 lists just the vertices
+    let raw = points_at(alloc, planes, &directions(alloc, 1, planes)?)?;
     let incidences = in_order(own_incidences(alloc, &raw)?)?;
     let points = cells_of(alloc, &raw, &incidences)?;
     Ok((points, incidences))

@@ -7,13 +7,20 @@ use Rattle.staat_cells.specs.declared.incidence.Incidence.{Incidence}
 use Rattle.staat_cells.specs.Compositions.{entry_of}
 use Rattle.staat_cells.specs.Stages.{IsOwnIncidence, cell_at, point_entry}
 use Rattle.staat_cells.proofs.KindLists.{points_listed, points_signs, incidences_listed}
-use Rattle.staat_cells.proofs.TableRules.{listed_small}
+use Rattle.staat_cells.proofs.TableRules.{listed_small, planes_apart, planes_within, vertices_listed}
 use Rattle.staat_cells.proofs.lower_cells.points_of.Goals as goal
+
+pub directions-requires-clause-planes : goal.directions-requires-clause-planes
+directions-requires-clause-planes c = planes_within c.args.planes.now c.requires.planes
+
+pub directions-requires-clause-apart : goal.directions-requires-clause-apart
+directions-requires-clause-apart c = planes_apart c.args.planes.now c.requires.planes
 
 pub points_at-requires-clause-vertices : goal.points_at-requires-clause-vertices
 points_at-requires-clause-vertices c =
     listed_small c.args.planes.now c.deref.result.now c.requires.planes
-    (subst (Lists vector_cmp (Contains (vertices c.args.planes.now))) (sym c.deref.ensures.value) c.in_ok-vertices_of.ensures)
+    (subst (Lists vector_cmp (Contains (vertices c.args.planes.now))) (sym c.deref.ensures.value)
+    (vertices_listed c.args.planes.now c.in_ok-directions.field-0.items c.in_ok-directions.ensures))
 
 pub cells_of-requires : goal.cells_of-requires
 cells_of-requires c =
@@ -29,9 +36,9 @@ returns-clause-points c =
     let own : (x : Incidence) → Contains found x ↔ IsOwnIncidence (map entry_of raw) x =
     subst (λ (l : List Cell). (x : Incidence) → Contains found x ↔ IsOwnIncidence (map entry_of l) x) c.deref-2.ensures.value c.in_ok-own_incidences.ensures in
     points_listed c.args.planes.now c.requires.planes c.requires.few raw c.in_ok-points.points.items
-    c.in_ok-vertices_of.field-0.items found c.in_ok-incidences.incidences.items c.deref-4.result.now
+    c.in_ok-directions.field-0.items found c.in_ok-incidences.incidences.items c.deref-4.result.now
     (c.in_ok-raw.ensures ∙ ap (map (point_entry c.args.planes.now)) c.deref.ensures.value)
-    c.in_ok-vertices_of.ensures c.deref-4.ensures.value own c.in_ok-incidences.ensures
+    (vertices_listed c.args.planes.now c.in_ok-directions.field-0.items c.in_ok-directions.ensures) c.deref-4.ensures.value own c.in_ok-incidences.ensures
     (c.in_ok-points.ensures ∙ ap (λ (l : List Cell). map (λ (x : Incidence). cell_at (map entry_of l) x.of) c.deref-4.result.now) c.deref-3.ensures.value)
 
 pub returns-clause-signs : goal.returns-clause-signs
