@@ -228,15 +228,14 @@ pub fn first_passing<T: Trial>(
         → IsFirstUnless ⊤ (T.serves parts w) (T.finds parts w) (vertices planes) result }
 {
     let mut pairs = PlanePairs::of(table, w);
-    pass_rows(&mut pairs, table, w, trial);
     for _k in 0..limit {
+        pass_rows(&mut pairs, table, w, trial);
         let Some(d) = pairs.next_crossing(table) else {
             return Search::Nothing;
         };
         if let Some(found) = served_at(table, w, d, trial) {
             return Search::First(found);
         }
-        pass_rows(&mut pairs, table, w, trial);
     }
     Search::Undecided
 }
