@@ -12,7 +12,7 @@ pub struct Arc {
 }
 
 /// The normal of a wall that keeps the two pieces of an arc apart.
-#[derive(Clone, Copy, PartialEq, Eq)]
+#[derive(Clone, Copy)]
 pub struct Sep {
     pub arc: Arc,
     pub n: V3,
@@ -34,7 +34,7 @@ pub struct Witness {
 }
 
 /// A direction, and the number of the witness for it.
-#[derive(Clone, Copy, PartialEq, Eq)]
+#[derive(Clone, Copy)]
 pub struct Dir {
     pub d: V3,
     pub witness: u32,

@@ -4,7 +4,7 @@ use crate::set::PartSet;
 use staat_vec::V3;
 
 /// What one line of a certificate's text says: a word and its numbers.
-#[derive(Clone, Copy, PartialEq, Eq)]
+#[derive(Clone, Copy)]
 pub enum Line {
     /// `STAAT` and the version of the format.
     Head(u32),

@@ -34,7 +34,7 @@ pub enum Outcome {
 }
 
 /// One step: the side that moves, and its direction.
-#[derive(Clone, Copy, PartialEq, Eq)]
+#[derive(Clone, Copy)]
 pub struct Step {
     pub moved: PartSet,
     pub d: V3,

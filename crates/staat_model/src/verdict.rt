@@ -2,7 +2,7 @@
 use staat_vec::V3;
 
 /// What is said of a certificate.
-#[derive(Clone, Copy, PartialEq, Eq)]
+#[derive(Clone, Copy)]
 pub enum Verdict {
     ValidPlan,
     ValidRefusal,
@@ -10,7 +10,7 @@ pub enum Verdict {
 }
 
 /// The first rule that a certificate breaks. Nodes, witnesses and places in lists count from 0, lines from 1.
-#[derive(Clone, Copy, PartialEq, Eq)]
+#[derive(Clone, Copy)]
 pub enum Reason {
     /// It states this number of parts, which is not the assembly's.
     WrongParts(u32),
