@@ -46,10 +46,9 @@ fn ask_one<F: FacetSource>(
     if !is_direction(d) || was_asked(asked.as_slice(), d) {
         return Ok(false);
     }
-    let one = asked_along(table, scene, all, d)?;
-    let is_done = takes_all_apart(scene.alloc, scene.parts, &one, all)?;
-    asked.push(one)?;
-    Ok(is_done)
+    let k = asked.len();
+    asked.push(asked_along(table, scene, all, d)?)?;
+    takes_all_apart(scene.alloc, scene.parts, &asked[k], all)
 }
 
 // asks along the directions one after the other, until one takes all parts apart
@@ -92,7 +91,7 @@ fn ask_all<F: FacetSource>(
     if ask_along(asked, &mut table, scene, all, &AXES)? {
         return Ok(true);
     }
-    let more = likely_directions(scene.alloc, scene.source, scene.parts, all)?;
+    let more = likely_directions(scene, all)?;
     ask_along(asked, &mut table, scene, all, more.as_slice())
 }
 

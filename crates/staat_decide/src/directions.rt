@@ -1,9 +1,10 @@
 // Directions along which something is likely to come apart: the normals that most pairs of pieces that touch have in
 // common, and the directions in which two of them cross.
 use crate::planes::{crossing_of, facets_of, normals_of, plane_of};
+use crate::scene::Scene;
 use crate::spots::{Spot, arc_between, boxes_touch, spots_of};
 use staat_cone::FacetSource;
-use staat_model::Part;
+use staat_model::Arc;
 use staat_vec::{ORIGIN, OutOfMemory, V3};
 use std::alloc::Global;
 
@@ -20,6 +21,13 @@ struct Count {
     normal: V3,
 }
 
+// The normals of pairs that touch, and how many such pairs were looked at.
+#[derive(Drop)]
+struct Touches {
+    normals: Vec<V3>,
+    count: usize,
+}
+
 // adds the normals of planes among the facets
 fn add_normals(normals: &mut Vec<V3>, facets: &[V3]) -> Result<(), OutOfMemory> {
     for n in facets {
@@ -31,69 +39,57 @@ fn add_normals(normals: &mut Vec<V3>, facets: &[V3]) -> Result<(), OutOfMemory> 
 }
 
 // adds those of the facets of a pair of pieces
-fn add_normals_of<F: FacetSource>(
-    normals: &mut Vec<V3>,
-    alloc: Global,
-    source: &F,
-    parts: &[Part],
-    a: &Spot,
-    b: &Spot,
+fn add_touch<F: FacetSource>(
+    touches: &mut Touches,
+    scene: &Scene<F>,
+    pair: Arc,
 ) -> Result<(), OutOfMemory> {
-    let facets = facets_of(alloc, source, parts, arc_between(a, b))?;
-    add_normals(normals, normals_of(&facets))
+    let facets = facets_of(scene.alloc, scene.source, scene.parts, pair)?;
+    touches.count = touches.count.saturating_add(1);
+    add_normals(&mut touches.normals, normals_of(&facets))
 }
 
-// adds those of a piece and the later ones that it touches, of pieces by where their boxes begin, and counts these
+// adds those of a piece and the later ones that it touches, of pieces by where their boxes begin
 fn add_touches<F: FacetSource>(
-    normals: &mut Vec<V3>,
-    alloc: Global,
-    source: &F,
-    parts: &[Part],
+    touches: &mut Touches,
+    scene: &Scene<F>,
     spot: &Spot,
     later: &[Spot],
-) -> Result<usize, OutOfMemory> {
-    let mut count = 0usize;
+) -> Result<(), OutOfMemory> {
     for other in later {
         if other.low.x > spot.high.x {
-            return Ok(count);
+            return Ok(());
         }
         if other.part != spot.part && boxes_touch(spot, other) {
-            add_normals_of(normals, alloc, source, parts, spot, other)?;
-            count = count.saturating_add(1);
-        }
-    }
-    Ok(count)
-}
-
-// adds those of pieces that touch, of pieces by where their boxes begin
-fn add_all_touches<F: FacetSource>(
-    normals: &mut Vec<V3>,
-    alloc: Global,
-    source: &F,
-    parts: &[Part],
-    spots: &[Spot],
-) -> Result<(), OutOfMemory> {
-    let mut seen = 0usize;
-    for (k, spot) in spots.iter().enumerate() {
-        if seen < MOST_TOUCHES {
-            let count = add_touches(normals, alloc, source, parts, spot, &spots[k..])?;
-            seen = seen.saturating_add(count);
+            add_touch(touches, scene, arc_between(spot, other))?;
         }
     }
     Ok(())
 }
 
-// adds the normals of planes of pairs that touch
+// adds those of pieces that touch, of pieces by where their boxes begin
+fn add_all_touches<F: FacetSource>(
+    touches: &mut Touches,
+    scene: &Scene<F>,
+    spots: &[Spot],
+) -> Result<(), OutOfMemory> {
+    for (k, spot) in spots.iter().enumerate() {
+        if touches.count < MOST_TOUCHES {
+            add_touches(touches, scene, spot, &spots[k..])?;
+        }
+    }
+    Ok(())
+}
+
+// adds those of pieces of the parts that touch
 fn add_touching<F: FacetSource>(
-    normals: &mut Vec<V3>,
-    alloc: Global,
-    source: &F,
-    parts: &[Part],
+    touches: &mut Touches,
+    scene: &Scene<F>,
     all: &[u32],
 ) -> Result<(), OutOfMemory> {
-    let mut spots = spots_of(alloc, parts, all)?;
+    let mut spots = spots_of(scene.alloc, scene.parts, all)?;
     spots.sort_unstable_by_key(|spot| spot.low.x);
-    add_all_touches(normals, alloc, source, parts, spots.as_slice())
+    add_all_touches(touches, scene, spots.as_slice())
 }
 
 // counts a normal, which is the last one or another
@@ -124,65 +120,59 @@ fn counts_of(alloc: Global, normals: &[V3]) -> Result<Vec<Count>, OutOfMemory> {
     Ok(counts)
 }
 
-// adds a direction that is not zero and not there yet, as a normal of a plane
-fn add_direction(directions: &mut Vec<V3>, d: V3) -> Result<(), OutOfMemory> {
-    if d != ORIGIN && !directions.as_slice().contains(&d) {
-        directions.push(d)?;
-    }
-    Ok(())
-}
-
-// adds the directions in which a plane crosses others
-fn add_crossings(directions: &mut Vec<V3>, normals: &[V3], normal: V3) -> Result<(), OutOfMemory> {
-    for other in normals {
-        if let Some(d) = crossing_of(normal, *other) {
-            add_direction(directions, d)?;
+// adds the normals that were found
+fn add_counted(directions: &mut Vec<V3>, counts: &[Count]) -> Result<(), OutOfMemory> {
+    for one in counts {
+        if one.count > 0 {
+            directions.push(one.normal)?;
         }
     }
     Ok(())
 }
 
-// adds the normals that were counted
-fn add_counted(directions: &mut Vec<V3>, counts: &[Count]) -> Result<(), OutOfMemory> {
-    for one in counts {
-        add_direction(directions, one.normal)?;
+// adds the directions in which a plane crosses others, but those that are there
+fn add_crossings(
+    directions: &mut Vec<V3>,
+    counts: &[Count],
+    normal: V3,
+) -> Result<(), OutOfMemory> {
+    for other in counts {
+        if let Some(d) = crossing_of(normal, other.normal) {
+            if !directions.as_slice().contains(&d) {
+                directions.push(d)?;
+            }
+        }
     }
     Ok(())
 }
 
 // adds the directions in which two of the planes cross
-fn add_all_crossings(directions: &mut Vec<V3>, normals: &[V3]) -> Result<(), OutOfMemory> {
-    for n in normals {
-        add_crossings(directions, normals, *n)?;
+fn add_all_crossings(directions: &mut Vec<V3>, counts: &[Count]) -> Result<(), OutOfMemory> {
+    for one in counts {
+        add_crossings(directions, counts, one.normal)?;
     }
     Ok(())
 }
 
-// the most frequent of the normals, which ascend
-fn most_frequent(alloc: Global, normals: &[V3]) -> Result<Vec<V3>, OutOfMemory> {
-    let counts = counts_of(alloc, normals)?;
-    let mut most = Vec::new(alloc);
-    add_counted(&mut most, counts.as_slice())?;
-    Ok(most)
-}
-
 // the normals, and the directions in which two of their planes cross
-fn with_crossings(alloc: Global, normals: &[V3]) -> Result<Vec<V3>, OutOfMemory> {
-    let mut directions = normals.to_vec(alloc)?;
-    add_all_crossings(&mut directions, normals)?;
+fn with_crossings(alloc: Global, counts: &[Count]) -> Result<Vec<V3>, OutOfMemory> {
+    let mut directions = Vec::new(alloc);
+    add_counted(&mut directions, counts)?;
+    add_all_crossings(&mut directions, counts)?;
     Ok(directions)
 }
 
 /// Directions along which something is likely to come apart, no two of them the same. They are only tried.
 pub fn likely_directions<F: FacetSource>(
-    alloc: Global,
-    source: &F,
-    parts: &[Part],
+    scene: &Scene<F>,
     all: &[u32],
 ) -> Result<Vec<V3>, OutOfMemory> {
-    let mut normals = Vec::new(alloc);
-    add_touching(&mut normals, alloc, source, parts, all)?;
-    normals.sort_unstable();
-    let most = most_frequent(alloc, normals.as_slice())?;
-    with_crossings(alloc, most.as_slice())
+    let mut touches = Touches {
+        normals: Vec::new(scene.alloc),
+        count: 0,
+    };
+    add_touching(&mut touches, scene, all)?;
+    touches.normals.sort_unstable();
+    let counts = counts_of(scene.alloc, touches.normals.as_slice())?;
+    with_crossings(scene.alloc, counts.as_slice())
 }

@@ -22,6 +22,7 @@ use staat_model::{Arc, Arcs, Part};
 use staat_motion::{Along, Bodies};
 use staat_vec::{DIRECTION, ORIGIN, OutOfMemory, V3, primitive};
 use std::alloc::Global;
+use std::mem;
 
 /// How many vertices are counted, as a rule, until a set counts as large: on each circle those with the circles before,
 /// or those that were looked at, if these are more.
@@ -37,11 +38,12 @@ pub enum Guess {
 }
 
 // What is known of a set of parts: pairs of their pieces, those first that look large from each other, the places of
-// those in the core, and the planes of the core. The circle is that of one of the planes.
+// those in the core, these themselves, and the planes of the core. The circle is that of one of the planes.
 #[derive(Drop)]
 struct CoreSearch {
     list: Vec<Candidate>,
     core: Vec<usize>,
+    pairs: Vec<Arc>,
     planes: Vec<Normal>,
     circle: Circle,
 }
@@ -75,11 +77,9 @@ fn next_met<F: FacetSource>(
 {
     let marks = search.circle.marks.as_slice();
     let planes = search.planes.as_slice();
-    if let Some(met) = first_met(&mut search.list, view, planes, marks, way)? {
-        return Ok(Some(met));
-    }
-    if search.list.len() < MOST_PAIRS {
-        return Ok(None);
+    let met = first_met(&mut search.list, view, planes, marks, way)?;
+    if met.is_some() || search.list.len() < MOST_PAIRS {
+        return Ok(met);
     }
     match met_across(view, w, marks, way)? {
         None => Ok(None),
@@ -92,7 +92,9 @@ fn choose(search: &mut CoreSearch, met: Met) -> Result<(), OutOfMemory> {
     search.core.push(met.k)?;
     search.circle.leads.push(met.lead)?;
     if met.k < search.list.len() {
-        add_planes(&mut search.planes, normals_of(&search.list[met.k].facets))?;
+        let candidate = &search.list[met.k];
+        search.pairs.push(candidate.pair.arc)?;
+        add_planes(&mut search.planes, normals_of(&candidate.facets))?;
     }
     Ok(())
 }
@@ -223,19 +225,7 @@ fn free_on<F: FacetSource>(
     Ok(None)
 }
 
-// lists the pairs of pieces of different parts of w, with no facets yet
-fn list_pairs(
-    list: &mut Vec<Candidate>,
-    alloc: Global,
-    parts: &[Part],
-    w: &[u32],
-) -> Result<(), OutOfMemory> {
-    let spots = spots_of(alloc, parts, w)?;
-    let pairs = pairs_of(alloc, spots.as_slice())?;
-    add_candidates(list, pairs.as_slice())
-}
-
-// begins with the planes across the axes and no core
+// begins with the planes across the axes, all pairs of pieces and no core
 fn begin(
     search: &mut CoreSearch,
     alloc: Global,
@@ -244,25 +234,15 @@ fn begin(
 ) -> Result<(), OutOfMemory> {
     search.circle.marks.resize(w.len(), false)?;
     add_planes(&mut search.planes, &AXES)?;
-    list_pairs(&mut search.list, alloc, parts, w)
+    let spots = spots_of(alloc, parts, w)?;
+    let pairs = pairs_of(alloc, spots.as_slice())?;
+    add_candidates(&mut search.list, pairs.as_slice())
 }
 
-// the pairs of the core
-fn core_of(alloc: Global, search: &CoreSearch) -> Result<Vec<Arc>, OutOfMemory> {
-    let mut core = Vec::new(alloc);
-    for k in search.core.as_slice() {
-        if *k < search.list.len() {
-            let candidate = &search.list[*k];
-            core.push(candidate.pair.arc)?;
-        }
-    }
-    Ok(core)
-}
-
-// that the parts of w should be stuck, by the pairs of the core
-fn stuck_by(alloc: Global, search: &CoreSearch, w: &[u32]) -> Result<Guess, OutOfMemory> {
+// that the parts of w should be stuck, by the pairs of the core, which are taken out
+fn stuck_by(alloc: Global, search: &mut CoreSearch, w: &[u32]) -> Result<Guess, OutOfMemory> {
     let nodes = copied(alloc, w)?;
-    let core = core_of(alloc, search)?;
+    let core = mem::replace(&mut search.pairs, Vec::new(alloc));
     Ok(Guess::Stuck(Hold {
         nodes,
         pairs: Arcs::from_vec(core),
@@ -278,6 +258,7 @@ fn grow<F: FacetSource>(
 ) -> Result<Guess, OutOfMemory>
     requires { AreBodies scene.now.parts.now scene.now.bodies.now }
 {
+    begin(search, scene.alloc, scene.parts, w)?;
     let mut used = 0usize;
     for j in 0..usize::MAX {
         if j >= search.planes.len() {
@@ -307,9 +288,9 @@ pub fn grown<F: FacetSource>(
     let mut search = CoreSearch {
         list: Vec::new(scene.alloc),
         core: Vec::new(scene.alloc),
+        pairs: Vec::new(scene.alloc),
         planes: Vec::new(scene.alloc),
         circle: no_circle(scene.alloc),
     };
-    begin(&mut search, scene.alloc, scene.parts, w)?;
     grow(&mut search, scene, w, bound)
 }

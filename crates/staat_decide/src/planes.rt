@@ -67,20 +67,14 @@ pub fn crossing_of(g: V3, h: V3) -> Option<V3> {
     Some(canon(primitive(d)))
 }
 
-// adds the plane that the vector is a normal of, unless it is there
-fn add_plane(planes: &mut Vec<Normal>, v: V3) -> Result<(), OutOfMemory> {
-    if let Some(plane) = plane_of(v) {
-        if !has_plane(planes.as_slice(), plane) {
-            planes.push(Normal { v: plane })?;
-        }
-    }
-    Ok(())
-}
-
-/// Adds the planes of the facets.
+/// Adds the planes of the facets that are not there.
 pub fn add_planes(planes: &mut Vec<Normal>, facets: &[V3]) -> Result<(), OutOfMemory> {
     for n in facets {
-        add_plane(planes, *n)?;
+        if let Some(plane) = plane_of(*n) {
+            if !has_plane(planes.as_slice(), plane) {
+                planes.push(Normal { v: plane })?;
+            }
+        }
     }
     Ok(())
 }

@@ -82,7 +82,7 @@ fn kept_of<F: FacetSource>(
 fn is_pair(p: Arc, q: Arc) -> bool
     ensures { IsTrue result ↔ (p ≡ q) }
 {
-    p.a == q.a && p.i == q.i && p.b == q.b && p.j == q.j
+    p == q
 }
 
 // whether the slot has the pair
@@ -93,27 +93,6 @@ fn has_pair(slot: &Option<KeptFacets>, pair: Arc) -> bool
         None => false,
         Some(kept) => is_pair(kept.pair, pair),
     }
-}
-
-// sees that the slot has the pair
-fn keep<F: FacetSource>(
-    slot: &mut Option<KeptFacets>,
-    alloc: Global,
-    source: &F,
-    parts: &[Part],
-    pair: Arc,
-) -> Result<(), OutOfMemory>
-    requires pieces { HasBothPieces parts.now pair }
-    requires kept { IfSome slot.old (IsKept parts.now) }
-    ensures kept { IfSome slot.new (IsKept parts.now) }
-    ensures pair { OnOk result (KeepsPair slot.new pair) }
-{
-    if has_pair(slot, pair) {
-        return Ok(());
-    }
-    let kept = kept_of(alloc, source, parts, pair)?;
-    *slot = Some(kept);
-    Ok(())
 }
 
 // whether of the pair, whose pieces are those that are kept, the first piece meets the second
@@ -170,7 +149,7 @@ pub fn table_for(alloc: Global, parts: &[Part]) -> Result<KeptTable, OutOfMemory
     Ok(table)
 }
 
-// whether of the slot's pair the first piece meets the second, whether it has it before or not
+// whether of the slot's pair the first piece meets the second; the slot has it afterwards
 fn ask_slot<F: FacetSource>(
     slot: &mut Option<KeptFacets>,
     view: &View<F>,
@@ -184,8 +163,13 @@ fn ask_slot<F: FacetSource>(
     ensures kept { IfSome slot.new (IsKept view.now.parts.now) }
     ensures answer { IfOk result (λ answer. IsTrue answer ↔ MeetsAlong view.now.parts.now view.now.along.now.d pair) }
 {
-    keep(slot, view.alloc, view.source, view.parts, key)?;
-    Ok(meets_in(slot, view.parts, view.along, pair, key))
+    if has_pair(slot, key) {
+        return Ok(meets_in(slot, view.parts, view.along, pair, key));
+    }
+    let kept = kept_of(view.alloc, view.source, view.parts, key)?;
+    let answer = meets_by(&kept, view.parts, view.along, pair);
+    *slot = Some(kept);
+    Ok(answer)
 }
 
 // whether the first piece meets the second

@@ -1,4 +1,5 @@
 use Rattle.std.proofs.Common.{◌<◌, All, length, subst, sym}
+use Rattle.std.specs.Prelude.{Err, Ok, OnOk, Result}
 use Rattle.std.specs.List.Sorted.{IsStrictlySortedBy}
 use Rattle.std.specs.Ordering.{nat_cmp}
 use Rattle.std.proofs.lemmas.List.Elements.{All-push}
@@ -15,7 +16,12 @@ pub takes_all_apart-requires-clause-ascending : goal.takes_all_apart-requires-cl
 takes_all_apart-requires-clause-ascending g c =
     subst (IsStrictlySortedBy nat_cmp) (sym c.requires.all) (numbers_sorted (length c.args.scene.now.parts.now))
 
+on_ok : {X E P : Type 0} (r : Result X E) → P → OnOk r P
+on_ok (Ok x) p = p
+on_ok (Err e) p = tt
+
 pub returns-clause-asked : goal.returns-clause-asked
 returns-clause-asked g c =
-    subst (All (AreAskedRows c.args.scene.now.parts.now)) (sym c.in_ok-push.ensures.items)
-    (All-push (AreAskedRows c.args.scene.now.parts.now) c.args.asked.now.items c.in_ok-one.one c.requires.asked c.in_ok-one.ensures.asked)
+    on_ok c.takes_all_apart.result
+    (subst (All (AreAskedRows c.args.scene.now.parts.now)) (sym c.in_ok-push.ensures.items)
+    (All-push (AreAskedRows c.args.scene.now.parts.now) c.args.asked.now.items c.in_ok-asked_along.field-0 c.requires.asked c.in_ok-asked_along.ensures.asked))
