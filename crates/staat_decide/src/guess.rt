@@ -14,25 +14,24 @@ use staat_motion::Bodies;
 use staat_vec::OutOfMemory;
 use std::alloc::Global;
 
-// parts that should be stuck among those of a large set
-fn few_of<F: FacetSource>(
+// a guess at how a large set goes on, of whose parts as many are left out as may be
+fn guess_among<F: FacetSource>(
     scene: &Scene<F>,
     asked: &[AskedRows],
     w: &[u32],
-) -> Result<Option<Hold>, OutOfMemory>
+    left: &mut Vec<u32>,
+) -> Result<Guess, OutOfMemory>
     requires { AreBodies scene.now.parts.now scene.now.bodies.now }
 {
-    let mut left = w.to_vec(scene.alloc)?;
-    if let Some(hold) = halved(scene, asked, &mut left)? {
-        return Ok(Some(hold));
+    if let Some(hold) = halved(scene, asked, left)? {
+        return Ok(Guess::Stuck(hold));
     }
-    if left.len() == w.len() {
-        return Ok(None);
+    if left.len() < w.len() {
+        if let Guess::Stuck(hold) = grown(scene, left.as_slice(), usize::MAX)? {
+            return Ok(Guess::Stuck(hold));
+        }
     }
-    match grown(scene, left.as_slice(), usize::MAX)? {
-        Guess::Stuck(hold) => Ok(Some(hold)),
-        _ => Ok(None),
-    }
+    grown(scene, w, usize::MAX)
 }
 
 // a guess at how a set that is too large for a bound goes on
@@ -43,10 +42,8 @@ fn guess_large<F: FacetSource>(
 ) -> Result<Guess, OutOfMemory>
     requires { AreBodies scene.now.parts.now scene.now.bodies.now }
 {
-    if let Some(found) = few_of(scene, asked, w)? {
-        return Ok(Guess::Stuck(found));
-    }
-    grown(scene, w, usize::MAX)
+    let mut left = w.to_vec(scene.alloc)?;
+    guess_among(scene, asked, w, &mut left)
 }
 
 /// A guess at how the parts of `w` go on.

@@ -48,7 +48,27 @@ fn leave_out<F: FacetSource>(
     }
 }
 
-// leaves out so many parts at a time
+// leaves out so many of the parts at a time
+fn leave_out_each<F: FacetSource>(
+    scene: &Scene<F>,
+    asked: &[AskedRows],
+    left: &mut Vec<u32>,
+    all: &[u32],
+    count: usize,
+) -> Result<Option<Hold>, OutOfMemory>
+    requires { AreBodies scene.now.parts.now scene.now.bodies.now }
+{
+    for chunk in all.chunks(count.max(1)) {
+        let low = chunk[0];
+        let high = chunk[chunk.len() - 1];
+        if let Some(hold) = leave_out(scene, asked, left, low, high)? {
+            return Ok(Some(hold));
+        }
+    }
+    Ok(None)
+}
+
+// leaves out so many of those that are left at a time
 fn leave_out_by<F: FacetSource>(
     scene: &Scene<F>,
     asked: &[AskedRows],
@@ -58,14 +78,7 @@ fn leave_out_by<F: FacetSource>(
     requires { AreBodies scene.now.parts.now scene.now.bodies.now }
 {
     let all = left.as_slice().to_vec(scene.alloc)?;
-    for chunk in all.chunks(count.max(1)) {
-        let low = chunk[0];
-        let high = chunk[chunk.len() - 1];
-        if let Some(hold) = leave_out(scene, asked, left, low, high)? {
-            return Ok(Some(hold));
-        }
-    }
-    Ok(None)
+    leave_out_each(scene, asked, left, all.as_slice(), count)
 }
 
 /// Leaves parts out of a set that is too large as long as the rest is: a half, quarters, and so on. A rest that pairs

@@ -56,11 +56,12 @@ fn blocks_part<F: FacetSource>(view: &View<F>, a: u32, b: u32) -> Result<bool, O
 fn met_by_part<F: FacetSource>(view: &View<F>, a: u32, b: u32) -> Result<Option<Arc>, OutOfMemory>
     requires { IsMotionOf view.now.parts.now view.now.along.now }
 {
-    if blocks_part(view, a, b)? {
-        for i in 0..piece_number(view.parts, a) {
-            if let Some(arc) = met_by_piece(view, a, i, b)? {
-                return Ok(Some(arc));
-            }
+    if !blocks_part(view, a, b)? {
+        return Ok(None);
+    }
+    for i in 0..piece_number(view.parts, a) {
+        if let Some(arc) = met_by_piece(view, a, i, b)? {
+            return Ok(Some(arc));
         }
     }
     Ok(None)
