@@ -123,6 +123,20 @@ fn grow_on<F: FacetSource>(
     Ok(false)
 }
 
+// adds pairs to the core until it leads everywhere along the direction, and says whether it does
+fn grow_along<F: FacetSource>(
+    search: &mut CoreSearch,
+    view: &View<F>,
+    w: &[u32],
+) -> Result<bool, OutOfMemory>
+    requires { IsMotionOf view.now.parts.now view.now.along.now }
+{
+    if !grow_on(search, view, w, Way::Ahead)? {
+        return Ok(false);
+    }
+    grow_on(search, view, w, Way::Back)
+}
+
 // adds the arcs on the circle of the plane g of the pairs at the places
 fn add_arcs(
     circle: &mut Circle,
@@ -193,10 +207,7 @@ fn grow_at<F: FacetSource>(
         parts: scene.parts,
         along: &along,
     };
-    if !grow_on(search, &view, w, Way::Ahead)? {
-        return Ok(false);
-    }
-    grow_on(search, &view, w, Way::Back)
+    grow_along(search, &view, w)
 }
 
 // lets the core grow until it leads everywhere on the plane j; a direction of it if the set comes apart there

@@ -106,9 +106,9 @@ pub fn met_across<F: FacetSource>(
 ) -> Result<Option<Pair>, OutOfMemory>
     requires { IsMotionOf view.now.parts.now view.now.along.now }
 {
-    for (x, a) in w.iter().enumerate() {
+    for x in 0..w.len() {
         if is_marked(marks, x) {
-            if let Some(pair) = met_from(view, w, marks, way, x, *a)? {
+            if let Some(pair) = met_from(view, w, marks, way, x, w[x])? {
                 return Ok(Some(pair));
             }
         }
