@@ -147,8 +147,8 @@ pub fn look_at(circle: &mut Circle, d: V3) -> Result<(), OutOfMemory>
     requires { IsWithin DIRECTION d }
 {
     circle.leads.clear();
-    for k in 0..circle.spans.len() {
-        if let Some(lead) = lead_at(&mut circle.spans[k], d) {
+    for span in circle.spans.iter_mut() {
+        if let Some(lead) = lead_at(span, d) {
             circle.leads.push(lead)?;
         }
     }

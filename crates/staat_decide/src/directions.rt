@@ -73,9 +73,9 @@ fn add_all_touches<F: FacetSource>(
     scene: &Scene<F>,
     spots: &[Spot],
 ) -> Result<(), OutOfMemory> {
-    for (k, spot) in spots.iter().enumerate() {
+    for k in 0..spots.len() {
         if touches.count < MOST_TOUCHES {
-            add_touches(touches, scene, spot, &spots[k..])?;
+            add_touches(touches, scene, &spots[k], &spots[k..])?;
         }
     }
     Ok(())

@@ -101,10 +101,10 @@ fn add_spots(
 /// The spots of the pieces of the parts of `w`, each with the place of its part there.
 pub fn spots_of(alloc: Global, parts: &[Part], w: &[u32]) -> Result<Vec<Spot>, OutOfMemory> {
     let mut spots = Vec::new(alloc);
-    for (place, a) in w.iter().enumerate() {
-        if (*a as usize) < parts.len() {
-            let part = &parts[*a as usize];
-            add_spots(&mut spots, *a, place, part.pieces.as_slice())?;
+    for place in 0..w.len() {
+        let a = w[place];
+        if (a as usize) < parts.len() {
+            add_spots(&mut spots, a, place, parts[a as usize].pieces.as_slice())?;
         }
     }
     Ok(spots)
@@ -179,8 +179,8 @@ fn add_pairs(pairs: &mut Vec<Pair>, spot: &Spot, others: &[Spot]) -> Result<(), 
 /// The pairs of spots of different parts, those first that look large from each other; at most [`MOST_PAIRS`].
 pub fn pairs_of(alloc: Global, spots: &[Spot]) -> Result<Vec<Pair>, OutOfMemory> {
     let mut pairs = Vec::new(alloc);
-    for (k, spot) in spots.iter().enumerate() {
-        add_pairs(&mut pairs, spot, &spots[k..])?;
+    for k in 0..spots.len() {
+        add_pairs(&mut pairs, &spots[k], &spots[k..])?;
     }
     pairs.sort_unstable_by_key(|pair| pair.smallness);
     Ok(pairs)

@@ -78,11 +78,11 @@ fn met_from<F: FacetSource>(
 ) -> Result<Option<Pair>, OutOfMemory>
     requires { IsMotionOf view.now.parts.now view.now.along.now }
 {
-    for (y, b) in w.iter().enumerate() {
+    for y in 0..w.len() {
         if !is_marked(marks, y) {
             let (from, to, p, q) = match way {
-                Way::Ahead => (x, y, a, *b),
-                Way::Back => (y, x, *b, a),
+                Way::Ahead => (x, y, a, w[y]),
+                Way::Back => (y, x, w[y], a),
             };
             if let Some(arc) = met_by_part(view, p, q)? {
                 return Ok(Some(Pair {

@@ -1,4 +1,4 @@
-use Rattle.std.proofs.Common.{◌++◌, ◌∷◌, [], arith, ◌+◌, ◌↔◌, IsTrue, List, subst, sym, take, ℕ}
+use Rattle.std.proofs.Common.{◌∙◌, ◌↔◌, IsTrue, List, subst, sym, ℕ}
 use Rattle.std.proofs.lemmas.List.{take_all}
 use Rattle.staat_model.specs.Removal.{Blocks}
 use Rattle.staat_motion.proofs.Zips.{zip_more}
@@ -11,12 +11,11 @@ loop-b-preserved g c =
     let d = c.args.view.now.along.now.d in
     let w = c.args.w.now in
     let i = c.loop-b.b-index in
-    record {
-      row = subst (IsRow parts d (take (i + 1) w) c.args.a) {x = c.loop-b.row.items ++ c.in_ok-blocks_with.field-0 ∷ []} (sym c.in_ok-push.ensures.items)
-          (zip_more (λ b answer. IsTrue answer ↔ Blocks parts d c.args.a b) w c.loop-b.row.items i 0 c.in_ok-blocks_with.field-0 c.loop-b-test.true c.loop-b.invariant.row c.in_ok-blocks_with.ensures.answer);
-      some = omega (arith, c.in_ok-blocks_with.ensures.some, c.loop-b.invariant.some);
+    rw c.in_ok-push.ensures.items (record {
+      row = zip_more (λ b answer. IsTrue answer ↔ Blocks parts d c.args.a b) w c.loop-b.row.items i 0 c.in_ok-blocks_with.field-0 c.loop-b-test.true c.loop-b.invariant.row c.in_ok-blocks_with.ensures.answer;
+      some = c.in_ok-blocks_with.ensures.some ∙ c.loop-b.invariant.some;
       kept = c.in_ok-blocks_with.ensures.kept;
-    }
+    })
 
 pub returns : goal.returns
 returns g c =

@@ -1,4 +1,4 @@
-use Rattle.std.proofs.Common.{arith, ◌+◌, ◌≤◌, List, subst, sym, take, ℕ}
+use Rattle.std.proofs.Common.{◌∙◌, ◌≤◌, List, subst, sym, ℕ}
 use Rattle.std.specs.List.{AllZip}
 use Rattle.std.proofs.lemmas.List.{take_all}
 use Rattle.staat_motion.proofs.Zips.{zip_more}
@@ -20,12 +20,11 @@ loop-a-preserved g c =
     let d = c.args.view.now.along.now.d in
     let w = c.args.w.now in
     let i = c.loop-a.a-index in
-    record {
-      rows = subst (AllZip (IsRow parts d w) (take (i + 1) w)) (sym c.in_ok-push.ensures.items)
-          (zip_more (IsRow parts d w) w c.loop-a.rows.items i 0 c.in_ok-row_of.field-0 c.loop-a-test.true c.loop-a.invariant.rows c.in_ok-row_of.ensures.row);
-      some = omega (arith, c.in_ok-row_of.ensures.some, c.loop-a.invariant.some);
+    rw c.in_ok-push.ensures.items (record {
+      rows = zip_more (IsRow parts d w) w c.loop-a.rows.items i 0 c.in_ok-row_of.field-0 c.loop-a-test.true c.loop-a.invariant.rows c.in_ok-row_of.ensures.row;
+      some = c.in_ok-row_of.ensures.some ∙ c.loop-a.invariant.some;
       kept = c.in_ok-row_of.ensures.kept;
-    }
+    })
 
 pub returns : goal.returns
 returns g c =
