@@ -4,3 +4,6 @@ use Rattle.staat_decide.proofs.peeling.take_apart.Goals as goal
 
 pub returns-then-is_empty-clause-none : goal.returns-then-is_empty-clause-none
 returns-then-is_empty-clause-none c parts d is = held_none parts d c.args.w.now (grind arith)
+
+pub returns : goal.returns
+returns c = record { some = c.decided.ensures.some; none = c.decided.ensures.none }
