@@ -26,8 +26,7 @@ pub fn copied_holds(alloc: Global, holds: &[Hold]) -> Result<Holds, OutOfMemory>
 {
     let mut copy = Vec::new(alloc);
     for hold in holds {
-        let next = copied_hold(alloc, hold)?;
-        copy.push(next)?;
+        copy.push(copied_hold(alloc, hold)?)?;
     }
     Ok(Holds::from_vec(copy))
 }

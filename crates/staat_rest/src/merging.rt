@@ -118,8 +118,7 @@ fn all_origins(
 {
     let mut all = Vec::new(alloc);
     for head in heads {
-        let origins = origins_of(alloc, parts, names, *head)?;
-        all.push(origins)?;
+        all.push(origins_of(alloc, parts, names, *head)?)?;
     }
     Ok(all)
 }
@@ -153,8 +152,7 @@ fn merged_part(alloc: Global, parts: &[Part], origins: &[Origin]) -> Result<Part
 {
     let mut pieces = Vec::new(alloc);
     for origin in origins {
-        let piece = piece_of(alloc, parts, *origin)?;
-        pieces.push(piece)?;
+        pieces.push(piece_of(alloc, parts, *origin)?)?;
     }
     Ok(Part {
         name: Name::from_text(alloc, "")?,
@@ -173,8 +171,7 @@ fn merged_parts(
 {
     let mut merged = Vec::new(alloc);
     for list in origins {
-        let part = merged_part(alloc, parts, list.as_slice())?;
-        merged.push(part)?;
+        merged.push(merged_part(alloc, parts, list.as_slice())?)?;
     }
     Ok(merged)
 }
