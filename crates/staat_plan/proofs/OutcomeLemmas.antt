@@ -1,5 +1,5 @@
 -- The outcome of a set from those of its two sides.
-use Rattle.std.proofs.Common.{◌≡◌, ◌≢◌, inl, inr, ℕ, ◌<◌, ◌≤◌, arith, sym, subst, refl, List, [], ◌∷◌, ◌++◌, length}
+use Rattle.std.proofs.Common.{◌≡◌, ◌≢◌, inl, inr, ℕ, ◌<◌, ◌≤◌, arith, sym, subst, refl, List, [], ◌∷◌, length}
 use Rattle.std.specs.Prelude.{Option, None, Some, Result, Ok, Err, IfOk, IfSome, MatchOption, MatchResult}
 use Rattle.std.specs.Result.{IsErrAnd}
 use Rattle.std.specs.FinSet as set
@@ -7,15 +7,12 @@ use Rattle.staat_vec.specs.Lists.{IsFirst}
 use Rattle.staat_vec.specs.Vectors.{origin}
 use Rattle.staat_model.specs.declared.assembly.Part.{Part}
 use Rattle.staat_model.specs.declared.set.PartSet.{PartSet}
-use Rattle.staat_model.specs.declared.tree.Kind.{Kind}
 use Rattle.std.specs.Prelude.{Bool, true}
-use Rattle.std.specs.Option.{option_to_list}
 use Rattle.staat_plan.specs.declared.marked.Marked.{Marked}
-use Rattle.staat_model.specs.declared.tree.Tree.{Tree}
 use Rattle.staat_model.specs.declared.tree.Outcome.{Outcome}
 use Rattle.staat_model.specs.declared.tree.Outcome.TheVariants as outcome
 use Rattle.staat_model.specs.Outcomes.{Finding, HasNoStep, IsOutcome, IsStep, Serves, Try, both_planned, finding_of, moved_stuck, no_step, one_part, planned, rest_stuck, stuck}
-use Rattle.staat_model.specs.Plans.{leaf, plan_of, split}
+use Rattle.staat_model.specs.Plans.{leaf}
 use Rattle.staat_model.specs.Planes.{axes}
 use Rattle.staat_model.specs.Sets.{Has, IsNonempty, IsSide, IsSubset, below, single}
 use Rattle.staat_model.proofs.RestrictLemmas.{rest_within}
@@ -27,7 +24,7 @@ use Rattle.staat_graph.proofs.Finite.{len_fewer, len_some}
 use Rattle.staat_planes.specs.declared.refusal.PlanesRefusal.{PlanesRefusal}
 use Rattle.staat_planes.specs.Refusals.{IsPlanesRefusal, IsTableWithin}
 use Rattle.staat_certify.specs.Certifying.{CanBeCertified, HasFewPlanes}
-use Rattle.staat_plan.specs.Planning.{IsOutcomeOf, Settles, IsSetStep, IsSized, IsStepOf, try_of}
+use Rattle.staat_plan.specs.Planning.{IsOutcomeOf, Settles, IsSetStep, IsSized, IsStepOf, joined_finding, try_of}
 use Rattle.staat_pairs.specs.Tables.{Table, WasMadeFrom}
 use Rattle.staat_plan.specs.CellSteps.{IsTableStep}
 use Rattle.staat_model.specs.Assemblies.{IsAssembly}
@@ -93,8 +90,8 @@ pub whole_step : (robust : Bool) (t : Table) (w : PartSet) (found : Option Marke
 whole_step robust t w found within over step = subst (λ (u : PartSet). IsSetStep robust t u found) (same_members t.of w over within) (record { size = step.size; step = step.step })
 
 -- the set of a table of its own
-pub own_step : (parts : List Part) (w : PartSet) (limit : ℕ) (t : Table) (found : Option Marked) → IsTableWithin parts w limit t → IsTableStep true t found → IsStepOf true parts w limit found
-own_step parts w limit t found own step =
+pub own_found : (parts : List Part) (w : PartSet) (limit : ℕ) (t : Table) (found : Option Marked) → IsTableWithin parts w limit t → IsTableStep true t found → IsStepOf true parts w limit found
+own_found parts w limit t found own step =
     let same : IsSetStep true t w found = subst (λ (u : PartSet). IsSetStep true t u found) own.table.set (record { size = step.size; step = step.step }) in
     step_in_table true parts t w limit found own.table.made (λ p h. subst (λ (u : PartSet). Has u p) (sym own.table.set) h) own.few same
 
@@ -122,15 +119,18 @@ module _ (robust : Bool) (parts : List Part) (w : PartSet) (limit : ℕ) (two : 
     pub side_stuck : (a : PartSet) → IsOutcomeOf robust parts found.step.moved limit (outcome.Stuck a) → IsOutcomeOf robust parts w limit (outcome.Stuck a)
     side_stuck a sub = record { few = of.few; sized = tt; is = moved_stuck two of.step_is sub.is }
 
-    pub rest_is_stuck : (r a : PartSet) (tree : Tree) (ms : List Kind) → r ≡ set.difference w found.step.moved → IsOutcomeOf robust parts found.step.moved limit (outcome.Plan tree ms) → IsOutcomeOf robust parts r limit (outcome.Stuck a) → IsOutcomeOf robust parts w limit (outcome.Stuck a)
-    rest_is_stuck r a tree ms same one sub = record { few = of.few; sized = tt; is = rest_stuck two of.step_is one.is (subst (λ (t : PartSet). IsOutcome robust parts t (stuck a)) same sub.is) }
-
-    pub both_found : (r : PartSet) (tree rest : Tree) (ms rs : List Kind) (o : Outcome) → r ≡ set.difference w found.step.moved → IsOutcomeOf robust parts found.step.moved limit (outcome.Plan tree ms) → IsOutcomeOf robust parts r limit (outcome.Plan rest rs)
-        → finding_of o ≡ planned (split found.step.d (plan_of tree) (plan_of rest)) (option_to_list found.mark ++ ms ++ rs) → IsOutcomeOf robust parts w limit o
-    both_found r tree rest ms rs o same one sub e = record {
+    pub sides_found : (r : PartSet) (o : Outcome) (moved rest : Finding) → r ≡ set.difference w found.step.moved → IsOutcome robust parts found.step.moved moved → IsSized moved → IsOutcome robust parts r rest → IsSized rest
+        → finding_of o ≡ joined_finding found moved rest → IsOutcomeOf robust parts w limit o
+    sides_found r o (stuck a) rest same one sized sub small e = record { few = of.few; sized = subst IsSized (sym e) tt; is = subst (IsOutcome robust parts w) (sym e) (moved_stuck two of.step_is one) }
+    sides_found r o (planned moved ms) (stuck b) same one sized sub small e = record {
       few = of.few;
-      sized = subst IsSized (sym e) (of.size, one.sized, sub.sized);
-      is = subst (IsOutcome robust parts w) (sym e) (both_planned two of.step_is one.is (subst (λ (t : PartSet). IsOutcome robust parts t (planned (plan_of rest) rs)) same sub.is) refl refl);
+      sized = subst IsSized (sym e) tt;
+      is = subst (IsOutcome robust parts w) (sym e) (rest_stuck two of.step_is one (subst (λ (t : PartSet). IsOutcome robust parts t (stuck b)) same sub));
+    }
+    sides_found r o (planned moved ms) (planned rest rs) same one sized sub small e = record {
+      few = of.few;
+      sized = subst IsSized (sym e) (of.size, sized, small);
+      is = subst (IsOutcome robust parts w) (sym e) (both_planned two of.step_is one (subst (λ (t : PartSet). IsOutcome robust parts t (planned rest rs)) same sub) refl refl);
     }
 
 -- a set with members that has not one has two or more

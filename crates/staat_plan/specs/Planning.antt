@@ -1,5 +1,5 @@
 -- What the planner finds for a set of parts.
-use Rattle.std.specs.Prelude.{ℕ, List, Option, Bool, MatchOption, IfSome}
+use Rattle.std.specs.Prelude.{◌++◌, ℕ, List, Option, Bool, MatchOption, IfSome}
 use Rattle.std.specs.Option.{option_to_list}
 use Rattle.staat_vec.specs.declared.vector.TheConstants.{DIRECTION}
 use Rattle.staat_vec.specs.Vectors.{IsWithin}
@@ -7,7 +7,7 @@ use Rattle.staat_model.specs.declared.assembly.Part.{Part}
 use Rattle.staat_model.specs.declared.set.PartSet.{PartSet}
 use Rattle.staat_model.specs.declared.tree.Outcome.{Outcome}
 use Rattle.staat_model.specs.Outcomes.{Finding, HasNoStep, IsOutcome, IsStep, Try, finding_of, planned, stuck}
-use Rattle.staat_model.specs.Plans.{IsGood, IsStuck}
+use Rattle.staat_model.specs.Plans.{IsGood, IsStuck, split}
 use Rattle.staat_model.specs.Sets.{IsSide, IsSubset}
 use Rattle.staat_pairs.specs.Tables.{Table, WasMadeFrom}
 use Rattle.staat_certify.specs.Certifying.{HasFewPlanes}
@@ -22,6 +22,13 @@ IsSized (stuck a) = Unit {0}
 -- the direction of a step, with its mark
 abbrev pub try_of : Marked → Try
 try_of m = record { d = m.step.d; mark = option_to_list m.mark }
+
+-- the finding for a set from those for its two sides
+abbrev pub joined_finding : Marked → Finding → Finding → Finding
+joined_finding m (stuck a) rest = stuck a
+joined_finding m (planned moved ms) (stuck b) = stuck b
+joined_finding m (planned moved ms) (planned rest rs) =
+    planned (split m.step.d moved rest) (option_to_list m.mark ++ ms ++ rs)
 
 -- the step of w, if it has one; its planes are no more than the limit
 pub record IsStepOf (robust : Bool) (parts : List Part) (w : PartSet) (limit : ℕ) (found : Option Marked)

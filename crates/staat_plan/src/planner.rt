@@ -10,7 +10,7 @@ ghost use Rattle.staat_pairs.specs.Tables.{IsTableOf, WasMadeFrom};
 ghost use Rattle.staat_planes.specs.Refusals.{IsPlanesRefusal};
 ghost use Rattle.staat_certify.specs.Certifying.{CanBeCertified, HasFewPlanes};
 ghost use Rattle.staat_plan.specs.Marks.{AreMarksRight};
-ghost use Rattle.staat_plan.specs.Planning.{IsOutcomeOf, Settles, IsSetStep, IsSized, IsStepOf};
+ghost use Rattle.staat_plan.specs.Planning.{IsOutcomeOf, Settles, IsSetStep, IsSized, IsStepOf, joined_finding};
 ghost use Rattle.staat_plan.specs.RingSets.{IsReadyFor};
 
 use crate::cell_steps::{cell_step, first_open_step};
@@ -60,13 +60,15 @@ fn walked_step(
     ensures ready { IsReadyFor table.now walker.new }
     ensures step { IfOk result (IsSetStep false table.now w) }
 {
-    let mut own = match walker.take() {
-        Some(walker) => walker,
-        None => Walker::new(alloc, table)?,
-    };
-    let step = own.step(table, w);
-    *walker = Some(own);
-    Ok(unmarked(step))
+    match walker {
+        Some(own) => Ok(unmarked(own.step(table, w))),
+        None => {
+            let mut own = Walker::new(alloc, table)?;
+            let step = own.step(table, w);
+            *walker = Some(own);
+            Ok(unmarked(step))
+        }
+    }
 }
 
 // The step of a set of parts of the table in a plan that is not robust. The first vertices decide nearly every set
@@ -90,10 +92,31 @@ fn vertex_step(
     }
 }
 
+// the step of a set of parts by all cells of its planes, which are those of a table of its own: its facets are those of
+// the table
+fn own_step<F: FacetSource>(
+    alloc: Global,
+    source: &F,
+    sound: &Sound,
+    table: &PlaneTable,
+    w: PartSet,
+    limit: u32,
+) -> Result<Option<Marked>, PlanRefusal>
+    requires some { IsNonempty w }
+    requires parts { (p : ℕ) → Has w p → p < length sound.now }
+    requires made { WasMadeFrom sound.now table.now }
+    requires least { LEAST_PLANES ≤ limit }
+    requires most { limit ≤ MOST_CELL_PLANES }
+    ensures { MatchResult result (IsStepOf true sound.now w limit) (IsPlanesRefusal sound.now w limit) }
+{
+    let own = tabulate(alloc, &Tabulated::of(source, sound, table), sound, w, limit)?;
+    Ok(cell_step(alloc, &own)?)
+}
+
 // The step of a set of parts of the table in a robust plan. Most sets that come apart do so in their first open cell;
 // where no vertex serves a set, no cell does, by the law `tries_decide`; and where it comes apart along one line alone,
 // no other vertex is looked at. For all three the one table is enough. Only where none of them decides are all cells
-// made; those of a smaller set are the cells of a table of its own, whose facets are those of the table.
+// made.
 fn robust_step<F: FacetSource>(
     alloc: Global,
     source: &F,
@@ -123,8 +146,7 @@ fn robust_step<F: FacetSource>(
     if table.set().within(w) {
         return Ok(cell_step(alloc, table)?);
     }
-    let own = tabulate(alloc, &Tabulated::of(source, sound, table), sound, w, limit)?;
-    Ok(cell_step(alloc, &own)?)
+    own_step(alloc, source, sound, table, w, limit)
 }
 
 // the step of a set of two parts or more of the table, if it has one
@@ -213,6 +235,35 @@ fn join(
     })
 }
 
+// the outcome of a set from those of its two sides
+fn join_sides(
+    alloc: Global,
+    found: Marked,
+    moved: Outcome,
+    rest: Outcome,
+) -> Result<Outcome, OutOfMemory>
+    ensures { IfOk result (λ o. finding_of o ≡ joined_finding found (finding_of moved) (finding_of rest)) }
+{
+    match moved {
+        Outcome::Stuck(a) => Ok(Outcome::Stuck(a)),
+        Outcome::Plan { tree, marks } => match rest {
+            Outcome::Stuck(b) => Ok(Outcome::Stuck(b)),
+            Outcome::Plan {
+                tree: rest,
+                marks: rest_marks,
+            } => join(
+                alloc,
+                found.step.d,
+                found.mark,
+                tree,
+                &marks,
+                rest,
+                &rest_marks,
+            ),
+        },
+    }
+}
+
 // the outcome of a set of parts of the table: the moved side is planned first, and then the rest
 fn outcome_of_set<F: FacetSource>(
     alloc: Global,
@@ -243,26 +294,13 @@ fn outcome_of_set<F: FacetSource>(
         return Ok(Outcome::Stuck(w));
     };
     let step = found.step;
-    match outcome_of_set(alloc, source, sound, table, walker, step.moved, options)? {
-        Outcome::Stuck(a) => Ok(Outcome::Stuck(a)),
-        Outcome::Plan { tree, marks } => {
-            match outcome_of_set(
-                alloc,
-                source,
-                sound,
-                table,
-                walker,
-                w.without(step.moved),
-                options,
-            )? {
-                Outcome::Stuck(b) => Ok(Outcome::Stuck(b)),
-                Outcome::Plan {
-                    tree: rest,
-                    marks: rest_marks,
-                } => Ok(join(alloc, step.d, found.mark, tree, &marks, rest, &rest_marks)?),
-            }
-        }
+    let moved = outcome_of_set(alloc, source, sound, table, walker, step.moved, options)?;
+    if let Outcome::Stuck(a) = &moved {
+        return Ok(Outcome::Stuck(*a));
     }
+    let other = w.without(step.moved);
+    let rest = outcome_of_set(alloc, source, sound, table, walker, other, options)?;
+    Ok(join_sides(alloc, found, moved, rest)?)
 }
 
 // the outcome of a set of parts, with no walk begun

@@ -109,10 +109,7 @@ impl<'a, F: FacetSource> Tabulated<'a, F> {
 impl<'a, F: FacetSource> FacetSource for Tabulated<'a, F> {
     fn facets(&self, alloc: Global, p: &Piece, q: &Piece) -> Result<Vec<V3>, OutOfMemory> {
         match arc_of(self.sound, self.table, p.points(), q.points()) {
-            Some(arc) => {
-                let facets = facets_in(alloc, self.table, arc)?;
-                Ok(facets)
-            }
+            Some(arc) => facets_in(alloc, self.table, arc),
             None => self.source.facets(alloc, p, q),
         }
     }

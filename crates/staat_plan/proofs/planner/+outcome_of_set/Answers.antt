@@ -1,9 +1,10 @@
 use Rattle.std.proofs.Common.{◌≡◌, ◌∙◌, ◌<◌, arith, subst, sym}
 use Rattle.std.specs.Prelude.{Some}
 use Rattle.std.specs.FinSet as set
+use Rattle.staat_model.specs.Outcomes.{finding_of}
 use Rattle.staat_model.specs.Sets.{IsSide, IsSubset}
 use Rattle.staat_plan.specs.Planning.{IsOutcomeOf, IsStepOf}
-use Rattle.staat_plan.proofs.OutcomeLemmas.{both_found, leaf_found, many_parts, none_found, refused, rest_fewer, rest_inside, rest_is_some, rest_is_stuck, rest_refused, side_fewer, side_refused, side_stuck}
+use Rattle.staat_plan.proofs.OutcomeLemmas.{leaf_found, many_parts, none_found, refused, rest_fewer, rest_inside, rest_is_some, rest_refused, side_fewer, side_refused, side_stuck, sides_found}
 use Rattle.staat_plan.proofs.planner.+outcome_of_set.Goals as goal
 
 pub returns-then-count-eq1-clause-outcome : goal.returns-then-count-eq1-clause-outcome
@@ -24,44 +25,62 @@ outcome_of_set-requires g t c κs within =
     let less : set.len c.in-Some.found.step.moved < set.len c.args.w = side_fewer c.args.w c.in-Some.found.step.moved side in
     (omega (arith, less, c.decreases), (within, (c.in_ok-found.ensures.ready, (side.nonempty, ((λ p h. c.requires.parts p (side.within p h)), (c.requires.made, ((λ p h. c.requires.within p (side.within p h)), (c.requires.few, (c.requires.least, (c.requires.most, c.requires.cells))))))))))
 
-pub outcome_of_set-requires-in-Plan : goal.outcome_of_set-requires-in-Plan
-outcome_of_set-requires-in-Plan g t c κs within =
+pub outcome_of_set-requires-2 : goal.outcome_of_set-requires-2
+outcome_of_set-requires-2 g t c κs within =
     let of : IsStepOf c.args.options.robust c.args.sound.now c.args.w c.args.options.planes (Some c.in-Some.found) = subst (IsStepOf c.args.options.robust c.args.sound.now c.args.w c.args.options.planes) c.in-Some.is c.in_ok-found.ensures.step in
     let side : IsSide c.args.w c.in-Some.found.step.moved = of.side in
-    let same : c.without.result ≡ set.difference c.args.w c.in-Some.found.step.moved = c.without.ensures.is in
-    let inside : IsSubset c.without.result c.args.w = rest_inside c.args.w c.in-Some.found.step.moved c.without.result same in
-    let less : set.len c.without.result < set.len c.args.w = rest_fewer c.args.w c.in-Some.found.step.moved c.without.result side same in
-    (omega (arith, less, c.decreases), (within, (c.in_ok-a.ensures.ready, (rest_is_some c.args.w c.in-Some.found.step.moved c.without.result side same, ((λ p h. c.requires.parts p (inside p h)), (c.requires.made, ((λ p h. c.requires.within p (inside p h)), (c.requires.few, (c.requires.least, (c.requires.most, c.requires.cells))))))))))
+    let same : c.without-other.result ≡ set.difference c.args.w c.in-Some.found.step.moved = c.without-other.ensures.is in
+    let inside : IsSubset c.without-other.result c.args.w = rest_inside c.args.w c.in-Some.found.step.moved c.without-other.result same in
+    let less : set.len c.without-other.result < set.len c.args.w = rest_fewer c.args.w c.in-Some.found.step.moved c.without-other.result side same in
+    (omega (arith, less, c.decreases), (within, (c.in_ok-moved.ensures.ready, (rest_is_some c.args.w c.in-Some.found.step.moved c.without-other.result side same, ((λ p h. c.requires.parts p (inside p h)), (c.requires.made, ((λ p h. c.requires.within p (inside p h)), (c.requires.few, (c.requires.least, (c.requires.most, c.requires.cells))))))))))
 
-pub returns-in_err-a-clause-outcome : goal.returns-in_err-a-clause-outcome
-returns-in_err-a-clause-outcome g t c =
+pub returns-in_err-moved-clause-outcome : goal.returns-in_err-moved-clause-outcome
+returns-in_err-moved-clause-outcome g t c =
     let of : IsStepOf c.args.options.robust c.args.sound.now c.args.w c.args.options.planes (Some c.in-Some.found) = subst (IsStepOf c.args.options.robust c.args.sound.now c.args.w c.args.options.planes) c.in-Some.is c.in_ok-found.ensures.step in
-    refused c.args.options.robust c.args.sound.now c.args.w c.args.options.planes c.in_err-a.field-0.0 c.from_residual-in_err-a.result c.from_residual-in_err-a.ensures.1
-    (side_refused c.args.options.robust c.args.sound.now c.args.w c.args.options.planes (many_parts c.args.w c.count.result c.requires.some c.count.ensures.is c.if-count-eq1.false) c.in-Some.found of c.in_err-a.field-0.0 c.in_err-a.ensures.outcome)
+    refused c.args.options.robust c.args.sound.now c.args.w c.args.options.planes c.in_err-moved.field-0.0 c.from_residual-in_err-moved.result c.from_residual-in_err-moved.ensures.1
+    (side_refused c.args.options.robust c.args.sound.now c.args.w c.args.options.planes (many_parts c.args.w c.count.result c.requires.some c.count.ensures.is c.if-count-eq1.false) c.in-Some.found of c.in_err-moved.field-0.0 c.in_err-moved.ensures.outcome)
 
-pub returns-in_err-b-in-Plan-clause-outcome : goal.returns-in_err-b-in-Plan-clause-outcome
-returns-in_err-b-in-Plan-clause-outcome g t c =
+pub returns-in_err-rest-clause-outcome : goal.returns-in_err-rest-clause-outcome
+returns-in_err-rest-clause-outcome g t c =
     let of : IsStepOf c.args.options.robust c.args.sound.now c.args.w c.args.options.planes (Some c.in-Some.found) = subst (IsStepOf c.args.options.robust c.args.sound.now c.args.w c.args.options.planes) c.in-Some.is c.in_ok-found.ensures.step in
-    refused c.args.options.robust c.args.sound.now c.args.w c.args.options.planes c.in_err-b-in-Plan.field-0.0 c.from_residual-in_err-b-in-Plan.result c.from_residual-in_err-b-in-Plan.ensures.1
-    (rest_refused c.args.options.robust c.args.sound.now c.args.w c.args.options.planes (many_parts c.args.w c.count.result c.requires.some c.count.ensures.is c.if-count-eq1.false) c.in-Some.found of c.without.result c.in_err-b-in-Plan.field-0.0 c.without.ensures.is c.in_err-b-in-Plan.ensures.outcome)
+    refused c.args.options.robust c.args.sound.now c.args.w c.args.options.planes c.in_err-rest.field-0.0 c.from_residual-in_err-rest.result c.from_residual-in_err-rest.ensures.1
+    (rest_refused c.args.options.robust c.args.sound.now c.args.w c.args.options.planes (many_parts c.args.w c.count.result c.requires.some c.count.ensures.is c.if-count-eq1.false) c.in-Some.found of c.without-other.result c.in_err-rest.field-0.0 c.without-other.ensures.is c.in_err-rest.ensures.outcome)
 
 pub returns-in-Stuck-clause-outcome : goal.returns-in-Stuck-clause-outcome
 returns-in-Stuck-clause-outcome g t c =
     let of : IsStepOf c.args.options.robust c.args.sound.now c.args.w c.args.options.planes (Some c.in-Some.found) = subst (IsStepOf c.args.options.robust c.args.sound.now c.args.w c.args.options.planes) c.in-Some.is c.in_ok-found.ensures.step in
     side_stuck c.args.options.robust c.args.sound.now c.args.w c.args.options.planes (many_parts c.args.w c.count.result c.requires.some c.count.ensures.is c.if-count-eq1.false) c.in-Some.found of c.in-Stuck.a
-    (subst (IsOutcomeOf c.args.options.robust c.args.sound.now c.in-Some.found.step.moved c.args.options.planes) c.in-Stuck.is c.in_ok-a.ensures.outcome)
+    (subst (IsOutcomeOf c.args.options.robust c.args.sound.now c.in-Some.found.step.moved c.args.options.planes) c.in-Stuck.is c.in_ok-moved.ensures.outcome)
 
-pub returns-in-Stuck-2-clause-outcome : goal.returns-in-Stuck-2-clause-outcome
-returns-in-Stuck-2-clause-outcome g t c =
+pub returns-clause-outcome : goal.returns-clause-outcome
+returns-clause-outcome g t c =
     let of : IsStepOf c.args.options.robust c.args.sound.now c.args.w c.args.options.planes (Some c.in-Some.found) = subst (IsStepOf c.args.options.robust c.args.sound.now c.args.w c.args.options.planes) c.in-Some.is c.in_ok-found.ensures.step in
-    rest_is_stuck c.args.options.robust c.args.sound.now c.args.w c.args.options.planes (many_parts c.args.w c.count.result c.requires.some c.count.ensures.is c.if-count-eq1.false) c.in-Some.found of c.without.result c.in-Stuck-2.b c.in-Plan.tree c.in-Plan.marks c.without.ensures.is
-    (subst (IsOutcomeOf c.args.options.robust c.args.sound.now c.in-Some.found.step.moved c.args.options.planes) c.in-Plan.is c.in_ok-a.ensures.outcome)
-    (subst (IsOutcomeOf c.args.options.robust c.args.sound.now c.without.result c.args.options.planes) c.in-Stuck-2.is c.in_ok-b-in-Plan.ensures.outcome)
+    let moved = c.in_ok-moved.ensures.outcome in
+    let rest = c.in_ok-rest.ensures.outcome in
+    sides_found c.args.options.robust c.args.sound.now c.args.w c.args.options.planes (many_parts c.args.w c.count.result c.requires.some c.count.ensures.is c.if-count-eq1.false) c.in-Some.found of c.without-other.result c.in_ok-join_sides.field-0
+    (finding_of c.in_ok-moved.moved) (finding_of c.in_ok-rest.rest) c.without-other.ensures.is moved.is moved.sized rest.is rest.sized c.in_ok-join_sides.ensures
 
-pub returns-in_ok-join-in-Plan-2-clause-outcome : goal.returns-in_ok-join-in-Plan-2-clause-outcome
-returns-in_ok-join-in-Plan-2-clause-outcome g t c =
-    let of : IsStepOf c.args.options.robust c.args.sound.now c.args.w c.args.options.planes (Some c.in-Some.found) = subst (IsStepOf c.args.options.robust c.args.sound.now c.args.w c.args.options.planes) c.in-Some.is c.in_ok-found.ensures.step in
-    both_found c.args.options.robust c.args.sound.now c.args.w c.args.options.planes (many_parts c.args.w c.count.result c.requires.some c.count.ensures.is c.if-count-eq1.false) c.in-Some.found of c.without.result c.in-Plan.tree c.in-Plan-2.rest c.in-Plan.marks c.in-Plan-2.rest_marks c.in_ok-join-in-Plan-2.field-0 c.without.ensures.is
-    (subst (IsOutcomeOf c.args.options.robust c.args.sound.now c.in-Some.found.step.moved c.args.options.planes) c.in-Plan.is c.in_ok-a.ensures.outcome)
-    (subst (IsOutcomeOf c.args.options.robust c.args.sound.now c.without.result c.args.options.planes) c.in-Plan-2.is c.in_ok-b-in-Plan.ensures.outcome)
-    c.in_ok-join-in-Plan-2.ensures
+-- the walker stays one for the table
+pub returns-then-count-eq1-clause-ready : goal.returns-then-count-eq1-clause-ready
+returns-then-count-eq1-clause-ready g t c = c.requires.ready
+
+pub returns-in_err-found-clause-ready : goal.returns-in_err-found-clause-ready
+returns-in_err-found-clause-ready g t c = c.next_step.ensures.ready
+
+pub returns-in_default-clause-ready : goal.returns-in_default-clause-ready
+returns-in_default-clause-ready g t c = c.next_step.ensures.ready
+
+pub returns-in_err-moved-clause-ready : goal.returns-in_err-moved-clause-ready
+returns-in_err-moved-clause-ready g t c = c.outcome_of_set.ensures.ready
+
+pub returns-in-Stuck-clause-ready : goal.returns-in-Stuck-clause-ready
+returns-in-Stuck-clause-ready g t c = c.outcome_of_set.ensures.ready
+
+pub returns-in_err-rest-clause-ready : goal.returns-in_err-rest-clause-ready
+returns-in_err-rest-clause-ready g t c = c.outcome_of_set-2.ensures.ready
+
+pub returns-in_err-join_sides-clause-ready : goal.returns-in_err-join_sides-clause-ready
+returns-in_err-join_sides-clause-ready g t c = c.outcome_of_set-2.ensures.ready
+
+pub returns-clause-ready : goal.returns-clause-ready
+returns-clause-ready g t c = c.outcome_of_set-2.ensures.ready

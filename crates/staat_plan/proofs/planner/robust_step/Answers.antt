@@ -1,4 +1,5 @@
 use Rattle.std.proofs.Common.{◌≤◌, arith, length, sym, subst}
+use Rattle.std.proofs.lemmas.Result.{err_from_is_err_and}
 use Rattle.std.specs.Prelude.{IfSome, None, Option, Some, false, true}
 use Rattle.std.specs.FinSet as set
 use Rattle.staat_model.specs.declared.set.PartSet.{PartSet}
@@ -9,7 +10,7 @@ use Rattle.staat_plan.specs.CellSteps.{IsFirstOpenStep}
 use Rattle.staat_plan.specs.Planning.{IsSetStep}
 use Rattle.staat_plan.proofs.CellStepLemmas.{first_found, stuck_step}
 use Rattle.staat_certify.proofs.SomeMember.{some_member}
-use Rattle.staat_plan.proofs.OutcomeLemmas.{own_step, step_in_table, step_some, whole_step}
+use Rattle.staat_plan.proofs.OutcomeLemmas.{step_in_table, step_some, whole_step}
 use Rattle.staat_plan.proofs.planner.robust_step.Goals as goal
 
 pub first_open_step-requires-clause-some : goal.first_open_step-requires-clause-some
@@ -55,8 +56,8 @@ returns-in-Some-2 g c =
     (subst (λ (o : Option Marked). IfSome o (λ m. IsSetStep true t c.args.w (Some m))) c.in-Some-2.is
     c.in_ok-found-2.ensures)
 
-pub tabulate-requires-clause-some : goal.tabulate-requires-clause-some
-tabulate-requires-clause-some g c =
+pub own_step-requires-clause-some : goal.own_step-requires-clause-some
+own_step-requires-clause-some g c =
     let two : 2 ≤ set.len c.args.w = c.requires.two in some_member c.args.w (omega (arith, two))
 
 pub returns-then-within : goal.returns-then-within
@@ -69,6 +70,16 @@ returns-then-within g c =
     (whole_step _ t c.args.w c.in_ok-cell_step.field-0 c.requires.within over c.in_ok-cell_step.ensures)
 
 pub returns : goal.returns
-returns g c =
-    own_step c.args.sound.now c.args.w c.args.limit c.in_ok-own.own c.in_ok-cell_step-2.field-0 c.in_ok-own.ensures
-    c.in_ok-cell_step-2.ensures
+returns g c = c.own_step.ensures
+
+-- an error for want of memory
+pub returns-in_err-found : goal.returns-in_err-found
+returns-in_err-found g c = let p = err_from_is_err_and c.from_residual.result c.from_residual.ensures.1 in rw (p.1, p.2) tt
+
+pub returns-in_err-found-2 : goal.returns-in_err-found-2
+returns-in_err-found-2 g c =
+    let p = err_from_is_err_and c.from_residual-in_err-found-2.result c.from_residual-in_err-found-2.ensures.1 in rw (p.1, p.2) tt
+
+pub returns-in_err-cell_step : goal.returns-in_err-cell_step
+returns-in_err-cell_step g c =
+    let p = err_from_is_err_and c.from_residual-in_err-cell_step.result c.from_residual-in_err-cell_step.ensures.1 in rw (p.1, p.2) tt

@@ -1,5 +1,7 @@
-use Rattle.std.proofs.Common.{◌<◌, ◌-◌, ◌+◌, arith, length}
-use Rattle.staat_ring.specs.Rings.{linked_of}
+use Rattle.std.proofs.Common.{◌<◌, ◌-◌, ◌+◌, ◌∙◌, ap, arith, length, subst}
+use Rattle.staat_ring.specs.Rings.{Arrangement, linked_of}
+use Rattle.staat_ring.specs.Without.{IsRelinked}
+use Rattle.staat_ring.proofs.Made.{relinked_back}
 use Rattle.staat_plan.proofs.RingSetLemmas.{all_past, past_next, told_false, told_true, unlinked_before, unlinked_past, used_before}
 use Rattle.staat_plan.proofs.walker.+step_past.Goals as goal
 
@@ -75,3 +77,27 @@ step_past-step-requires g t c κs within =
         ),
       ),
     )
+
+pub relink-requires : goal.relink-requires
+relink-requires g t c = record {
+  others = c.args.rings.now.unlinked;
+  before = c.args.rings.now.rings;
+  is = ap (λ (rings : Arrangement). rings.unlinked) c.step_past-step.ensures.rings ∙ c.unlink.ensures.is.unlinked;
+}
+
+pub returns-then-used-clause-rings : goal.returns-then-used-clause-rings
+returns-then-used-clause-rings g t c = c.step_past.ensures.rings
+
+pub returns-then-used-clause-step : goal.returns-then-used-clause-step
+returns-then-used-clause-step g t c = c.step_past.ensures.step
+
+pub returns-then-k-len-clause-step : goal.returns-then-k-len-clause-step
+returns-then-k-len-clause-step g t c = c.part_step_rings.ensures.step
+
+pub returns-clause-rings : goal.returns-clause-rings
+returns-clause-rings g t c =
+    relinked_back c.args.k c.args.rings.now c.unlink.new.self c.relink.new.self c.unlink.ensures.is
+    (subst (λ (m : Arrangement). IsRelinked c.args.k m c.relink.new.self) c.step_past-step.ensures.rings c.relink.ensures.is)
+
+pub returns-clause-step : goal.returns-clause-step
+returns-clause-step g t c = c.step_past-step.ensures.step
