@@ -11,3 +11,5 @@ pub mod FewLemmas
 pub mod Sources
 pub mod AxisWallLemmas
 pub mod WordLemmas
+pub mod AheadLemmas
+pub mod LoopAnswers

@@ -27,7 +27,12 @@ fn is_apart_along(normals: &[V3], p: &Piece, q: &Piece) -> bool
     requires { All (IsWithin NORMAL) normals.now }
     ensures { IsTrue result ↔ Any (IsWallBetween p.now q.now) normals.now }
 {
-    normals.iter().any(|n| separates(*n, p, q))
+    for n in normals {
+        if separates(*n, p, q) {
+            return true;
+        }
+    }
+    false
 }
 
 // whether a wall across one of the axes keeps the pieces apart; the time is linear in the number of points

@@ -20,8 +20,7 @@ fn facets_by_all(alloc: Global, p: &Piece, q: &Piece) -> Result<Vec<V3>, OutOfMe
     ensures { IfOk result (λ list. Lists vector_cmp (IsFacet p.now q.now) list.items) }
 {
     let vs = differences(alloc, p, q)?;
-    let list = facets_by_pairs(alloc, vs.as_slice())?;
-    Ok(list)
+    facets_by_pairs(alloc, vs.as_slice())
 }
 
 // both are pieces
@@ -56,6 +55,5 @@ pub fn facets_of(
     ensures overlap { IfOk result (λ list. (list.items ≡ []) ↔ Overlap p.now q.now) }
     ensures size { IfOk result (λ list. All (IsWithin NORMAL) list.items) }
 {
-    let list = find_facets(alloc, method, p, q)?;
-    Ok(list)
+    find_facets(alloc, method, p, q)
 }

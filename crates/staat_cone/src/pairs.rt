@@ -28,7 +28,12 @@ pub fn is_above(n: V3, vs: &[V3]) -> bool
     requires vectors { All (IsWithin DIFF) vs.now }
     ensures { IsTrue result ↔ IsAbove n vs.now }
 {
-    vs.iter().all(|v| along(*v, n) >= 0)
+    for v in vs {
+        if along(*v, n) < 0 {
+            return false;
+        }
+    }
+    true
 }
 
 // adds the primitive vector on the ray of f, if it has all the vectors on its positive side

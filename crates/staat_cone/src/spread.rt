@@ -46,8 +46,7 @@ pub fn differences(alloc: Global, p: &Piece, q: &Piece) -> Result<Vec<V3>, OutOf
     ensures are { IfOk result (λ vs. (v : Vector) → Contains vs.items v ↔ IsDifference p.now q.now v) }
     ensures within { IfOk result (λ vs. All (IsWithin DIFF) vs.items) }
 {
-    let list = differences_between(alloc, points_of(p), points_of(q))?;
-    Ok(list)
+    differences_between(alloc, points_of(p), points_of(q))
 }
 
 // the first step from a to one of the points, if that is not a itself

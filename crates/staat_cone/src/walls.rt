@@ -131,7 +131,12 @@ fn short_leads_ahead(facets: &[V3], d: V3) -> bool
     requires short { IsWithin SHORT d }
     ensures { IsTrue result ↔ All (λ n. pos 0 <ℤ dot n d) facets.now }
 {
-    facets.iter().all(|n| short_dot(*n, d) > 0)
+    for n in facets {
+        if short_dot(*n, d) <= 0 {
+            return false;
+        }
+    }
+    true
 }
 
 // whether any direction does
@@ -140,7 +145,12 @@ fn any_leads_ahead(facets: &[V3], d: V3) -> bool
     requires direction { IsWithin DIRECTION d }
     ensures { IsTrue result ↔ All (λ n. pos 0 <ℤ dot n d) facets.now }
 {
-    facets.iter().all(|n| dot(*n, d) > 0)
+    for n in facets {
+        if dot(*n, d) <= 0 {
+            return false;
+        }
+    }
+    true
 }
 
 // Whether d leads ahead of all the normals. Most directions are short, and products of words take a third of the time.
