@@ -7,6 +7,7 @@ ghost use Rattle.staat_model.specs.Outcomes.{IsOutcome, finding_of, planned};
 ghost use Rattle.staat_model.specs.Plans.{leaf, plan_of, split};
 ghost use Rattle.staat_model.specs.Sets.{Has, IsNonempty, IsSubset, below};
 ghost use Rattle.staat_pairs.specs.Tables.{IsTableOf, WasMadeFrom};
+ghost use Rattle.staat_planes.specs.declared.refusal.PlanesRefusal.TheVariants.{OutOfMemory as NoMemory};
 ghost use Rattle.staat_planes.specs.Refusals.{IsPlanesRefusal};
 ghost use Rattle.staat_certify.specs.Certifying.{CanBeCertified, HasFewPlanes};
 ghost use Rattle.staat_plan.specs.Marks.{AreMarksRight};
@@ -241,8 +242,9 @@ fn join_sides(
     found: Marked,
     moved: Outcome,
     rest: Outcome,
-) -> Result<Outcome, OutOfMemory>
-    ensures { IfOk result (λ o. finding_of o ≡ joined_finding found (finding_of moved) (finding_of rest)) }
+) -> Result<Outcome, PlanRefusal>
+    ensures { MatchResult result (λ o. finding_of o ≡ joined_finding found (finding_of moved) (finding_of rest))
+        (λ e. e ≡ NoMemory) }
 {
     match moved {
         Outcome::Stuck(a) => Ok(Outcome::Stuck(a)),
@@ -251,15 +253,18 @@ fn join_sides(
             Outcome::Plan {
                 tree: rest,
                 marks: rest_marks,
-            } => join(
-                alloc,
-                found.step.d,
-                found.mark,
-                tree,
-                &marks,
-                rest,
-                &rest_marks,
-            ),
+            } => {
+                let both = join(
+                    alloc,
+                    found.step.d,
+                    found.mark,
+                    tree,
+                    &marks,
+                    rest,
+                    &rest_marks,
+                )?;
+                Ok(both)
+            }
         },
     }
 }
@@ -300,7 +305,7 @@ fn outcome_of_set<F: FacetSource>(
     }
     let other = w.without(step.moved);
     let rest = outcome_of_set(alloc, source, sound, table, walker, other, options)?;
-    Ok(join_sides(alloc, found, moved, rest)?)
+    join_sides(alloc, found, moved, rest)
 }
 
 // the outcome of a set of parts, with no walk begun

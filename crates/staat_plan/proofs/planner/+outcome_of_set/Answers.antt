@@ -1,4 +1,5 @@
 use Rattle.std.proofs.Common.{◌≡◌, ◌∙◌, ◌<◌, arith, subst, sym}
+use Rattle.std.proofs.lemmas.Result.{MatchResult-weaker}
 use Rattle.std.specs.Prelude.{Some}
 use Rattle.std.specs.FinSet as set
 use Rattle.staat_model.specs.Outcomes.{finding_of}
@@ -57,8 +58,10 @@ returns-clause-outcome g t c =
     let of : IsStepOf c.args.options.robust c.args.sound.now c.args.w c.args.options.planes (Some c.in-Some.found) = subst (IsStepOf c.args.options.robust c.args.sound.now c.args.w c.args.options.planes) c.in-Some.is c.in_ok-found.ensures.step in
     let moved = c.in_ok-moved.ensures.outcome in
     let rest = c.in_ok-rest.ensures.outcome in
-    sides_found c.args.options.robust c.args.sound.now c.args.w c.args.options.planes (many_parts c.args.w c.count.result c.requires.some c.count.ensures.is c.if-count-eq1.false) c.in-Some.found of c.without-other.result c.in_ok-join_sides.field-0
-    (finding_of c.in_ok-moved.moved) (finding_of c.in_ok-rest.rest) c.without-other.ensures.is moved.is moved.sized rest.is rest.sized c.in_ok-join_sides.ensures
+    MatchResult-weaker c.join_sides.result c.join_sides.ensures
+    (λ o e. sides_found c.args.options.robust c.args.sound.now c.args.w c.args.options.planes (many_parts c.args.w c.count.result c.requires.some c.count.ensures.is c.if-count-eq1.false) c.in-Some.found of c.without-other.result o
+    (finding_of c.in_ok-moved.moved) (finding_of c.in_ok-rest.rest) c.without-other.ensures.is moved.is moved.sized rest.is rest.sized e)
+    (λ e same. rw same tt)
 
 -- the walker stays one for the table
 pub returns-then-count-eq1-clause-ready : goal.returns-then-count-eq1-clause-ready
@@ -78,9 +81,6 @@ returns-in-Stuck-clause-ready g t c = c.outcome_of_set.ensures.ready
 
 pub returns-in_err-rest-clause-ready : goal.returns-in_err-rest-clause-ready
 returns-in_err-rest-clause-ready g t c = c.outcome_of_set-2.ensures.ready
-
-pub returns-in_err-join_sides-clause-ready : goal.returns-in_err-join_sides-clause-ready
-returns-in_err-join_sides-clause-ready g t c = c.outcome_of_set-2.ensures.ready
 
 pub returns-clause-ready : goal.returns-clause-ready
 returns-clause-ready g t c = c.outcome_of_set-2.ensures.ready

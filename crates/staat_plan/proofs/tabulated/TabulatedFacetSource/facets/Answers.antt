@@ -1,11 +1,6 @@
-use Rattle.std.proofs.Common.{◌≡◌, ◌∙◌, All, List, ap}
+use Rattle.std.proofs.Common.{◌∙◌, ap}
 use Rattle.std.proofs.lemmas.Result.{IfOk-weaker}
 use Rattle.std.specs.Prelude.{Some}
-use Rattle.staat_vec.specs.declared.vector.V3.{V3}
-use Rattle.staat_vec.specs.Lists.{Lists}
-use Rattle.staat_vec.specs.Vectors.{vector_cmp}
-use Rattle.staat_model.specs.Facets.{IsFacet}
-use Rattle.staat_pairs.specs.Tables.{facets_of}
 use Rattle.staat_cone.proofs.Sources.{listed_within, overlap_by_list}
 use Rattle.staat_plan.proofs.TableFacets.{facets_listed}
 use Rattle.staat_plan.proofs.tabulated.TabulatedFacetSource.facets.Goals as goal
