@@ -6,19 +6,17 @@ use Rattle.std.proofs.lemmas.List.{take_all}
 use Rattle.std.proofs.lemmas.List.Elements.{All-contains, Contains-get_or, Contains-push_cases}
 use Rattle.staat_vec.specs.declared.vector.V3.{V3}
 use Rattle.staat_vec.specs.declared.vector.TheConstants.{NORMAL}
-use Rattle.staat_vec.specs.Vectors.{IsWithin, cross, det, dot, negative, origin, vector_cmp}
-use Rattle.staat_vec.specs.Lists.{Lists}
+use Rattle.staat_vec.specs.Vectors.{IsWithin, cross, det, dot, negative, origin}
 use Rattle.staat_vec.proofs.Order.{as_positive, cancel_zero, nonneg_mul, pos_mul, positive_nonneg}
 use Rattle.staat_vec.proofs.Ring.{num, ◌⊖◌, ◌⊗◌, opp, ring, ring_by, zero-mul_ℤ}
 use Rattle.staat_vec.proofs.Unique.{Contains-nothing}
 use Rattle.staat_vec.proofs.VecRing.{crossE, dotE, detE, negativeE, originE, values, ring3, v0, v1, v2, v3, scale, same_vector, dot_scale, negative_dot}
-use Rattle.staat_model.specs.Cones.{IsAbove, IsConeFacet}
 use Rattle.staat_model.proofs.FacetLemmas.{along, swap_zero}
-use Rattle.staat_cone.specs.Pairs.{Adds, AddsEdges, FromSome, IsEdge, IsThrough}
+use Rattle.staat_cone.specs.Pairs.{Adds, AddsEdges, IsEdge, IsThrough}
 use Rattle.staat_cone.specs.Scans.{AreFurthest, IsApart, IsLeftOf, IsLeftmost, IsWallThrough}
 use Rattle.staat_cone.proofs.EdgeLemmas.{edge_of}
 use Rattle.staat_cone.proofs.PairLemmas.{refused}
-use Rattle.staat_cone.proofs.PairLists.{Adds-none, Adds-then, take_more}
+use Rattle.staat_cone.proofs.PairLists.{take_more}
 use Rattle.staat_vec.proofs.VectorLaws.{dot_origin, some_square}
 use Rattle.staat_vec.proofs.Integers.{positive_not_zero, cancel_positive, zero_or, product_zero, zero_nonpositive, zero_nonneg, positive_from_nonneg}
 use Rattle.staat_vec.proofs.Canons.{negative-negative}

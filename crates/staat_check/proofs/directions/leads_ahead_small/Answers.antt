@@ -3,8 +3,8 @@ use Rattle.std.proofs.lemmas.Option.{slice_get-get_or}
 use Rattle.std.specs.Int.{w64}
 use Rattle.staat_vec.specs.Vectors.{origin}
 use Rattle.staat_check.specs.Conditions.{LeadsAheadOf}
-use Rattle.staat_check.proofs.AheadLemmas.{is_ahead, not_ahead}
-use Rattle.staat_check.proofs.ReadLemmas.{all_kept, not_all}
+use Rattle.staat_cone.proofs.AheadLemmas.{is_ahead, not_ahead}
+use Rattle.staat_cone.proofs.LoopAnswers.{all_kept, not_all}
 use Rattle.staat_check.proofs.directions.leads_ahead_small.Goals as goal
 
 pub bounds-normals-k : goal.bounds-normals-k

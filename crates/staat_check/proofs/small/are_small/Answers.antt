@@ -4,7 +4,7 @@ use Rattle.std.proofs.lemmas.List.Elements.{All-more}
 use Rattle.std.proofs.lemmas.Option.{slice_get-get_or}
 use Rattle.staat_vec.specs.Vectors.{IsWithin}
 use Rattle.staat_check.specs.declared.small.TheConstants.{SMALL_NORMAL}
-use Rattle.staat_check.proofs.ReadLemmas.{all_kept, not_all}
+use Rattle.staat_cone.proofs.LoopAnswers.{all_kept, not_all}
 use Rattle.staat_check.proofs.small.are_small.Goals as goal
 
 pub returns-then-not-is_within : goal.returns-then-not-is_within

@@ -1,4 +1,4 @@
-use Rattle.std.proofs.Common.{get_or, refl}
+use Rattle.std.proofs.Common.{refl}
 use Rattle.std.proofs.lemmas.Bool.{false≢true}
 use Rattle.std.proofs.lemmas.List.Elements.{All-more}
 use Rattle.staat_vec.specs.Vectors.{origin}
