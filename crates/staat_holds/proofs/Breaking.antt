@@ -1,6 +1,5 @@
 -- A hold that breaks a rule does not keep the rules.
-use Rattle.std.proofs.Common.{◌≡◌, ℕ, ◌≤◌, ◌<◌, List, length, arith}
-use Rattle.std.specs.Prelude.{Some, slice_get}
+use Rattle.std.proofs.Common.{ℕ, List, length, arith}
 use Rattle.staat_model.specs.declared.assembly.Part.{Part}
 use Rattle.staat_model.proofs.Places.{place_within}
 use Rattle.staat_holds.specs.declared.hold.BrokenHold.{BrokenHold}

@@ -1,12 +1,12 @@
 -- What holds one after another join is stuck.
-use Rattle.std.proofs.Common.{◌≡◌, ◌⊎◌, ◌↔◌, ℕ, zero, suc, ◌+◌, ◌-◌, ◌<◌, ◌≤◌, List, [], ◌∷◌, length, get_or, map, take, inl, inr, ⊎_elim, refl, sym, ap, subst, ◌∙◌, arith, All, Contains}
+use Rattle.std.proofs.Common.{◌≡◌, ◌↔◌, ℕ, zero, suc, ◌-◌, ◌<◌, ◌≤◌, List, [], ◌∷◌, length, get_or, map, inl, inr, ⊎_elim, refl, sym, ap, subst, ◌∙◌, arith, All, Contains}
 use Rattle.std.specs.Prelude.{Some, slice_get}
 use Rattle.std.specs.List.Sorted.{IsStrictlySortedBy}
 use Rattle.std.specs.Ordering.{nat_cmp}
 use Rattle.std.proofs.lemmas.List.Elements.{All-contains}
 use Rattle.std.proofs.lemmas.List.FromFn.{get_or-range_with_len, length-range_with_len}
 use Rattle.std.proofs.lemmas.Map.Keys.{sorted_tail}
-use Rattle.std.proofs.lemmas.Option.{get_or_from_slice_get, slice_get-get_or}
+use Rattle.std.proofs.lemmas.Option.{get_or_from_slice_get}
 use Rattle.staat_model.specs.declared.assembly.Part.{Part}
 use Rattle.staat_model.specs.declared.set.PartSet.{PartSet}
 use Rattle.staat_model.specs.Assemblies.{IsPart}
@@ -20,7 +20,7 @@ use Rattle.staat_model.proofs.SetMembers.{has-single}
 use Rattle.staat_model.proofs.SetWords.{same_members}
 use Rattle.staat_holds.specs.declared.hold.Hold.{Hold}
 use Rattle.staat_holds.specs.Chains.{AllKeep, IsJoinedLast, IsName, IsOfOne, KeepsHoldRules, joined_name, names_before, own_names, places_of}
-use Rattle.staat_holds.specs.Holds.{AreNodeSets, IsOfNode}
+use Rattle.staat_holds.specs.Holds.{AreNodeSets}
 use Rattle.staat_holds.proofs.ChainSteps.{after_more}
 use Rattle.staat_holds.proofs.HoldLaw.{held_stick, union_has}
 use Rattle.staat_holds.proofs.NodeNames.{among_or, below_first, first_of, has_named, joined_in, joined_out, of_place, parts_named}

@@ -4,7 +4,6 @@ use Rattle.std.specs.Prelude.{Option, None, Some, MatchOption, slice_get}
 use Rattle.std.proofs.lemmas.Bool.{cases_eq}
 use Rattle.std.proofs.lemmas.List.FromFn.{length-range_with_len}
 use Rattle.staat_model.specs.declared.assembly.Part.{Part}
-use Rattle.staat_model.proofs.Places.{place_within}
 use Rattle.staat_holds.specs.declared.hold.Hold.{Hold}
 use Rattle.staat_holds.specs.declared.hold.HoldRule.{HoldRule}
 use Rattle.staat_holds.specs.Chains.{AllKeep, FirstKeep, IsFirstBroken, IsFirstRule, KeepsHoldRules, joined_name, names_after, names_before, own_names}

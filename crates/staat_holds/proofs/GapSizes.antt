@@ -1,5 +1,5 @@
 -- How great the directions are in which planes cross.
-use Rattle.std.proofs.Common.{◌≡◌, ◌≢◌, ℕ, ◌*◌, ◌≤◌, ⊎_elim, sym, subst, ◌∙◌, arith, lit≤, List, All, Contains}
+use Rattle.std.proofs.Common.{◌≢◌, ℕ, ◌*◌, ◌≤◌, ⊎_elim, sym, subst, ◌∙◌, arith, lit≤, List, All, Contains}
 use Rattle.std.proofs.lemmas.List.Elements.{All-contains}
 use Rattle.staat_vec.specs.declared.vector.V3.{V3}
 use Rattle.staat_vec.specs.declared.vector.TheConstants.{DIRECTION, NORMAL}

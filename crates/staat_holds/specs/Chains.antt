@@ -1,11 +1,9 @@
 -- Holds one after another, where what a hold joins is one node from then on. A list of names has for each part the
 -- name of its node.
-use Rattle.std.specs.Prelude.{◌≡◌, ℕ, ◌+◌, ◌-◌, ◌<◌, ◌≤◌, ◌↔◌, Bool, cond, List, []}
+use Rattle.std.specs.Prelude.{◌≡◌, ℕ, ◌+◌, ◌<◌, ◌≤◌, cond, List, []}
 use Rattle.std.specs.Prelude.{◌∷◌, All, Contains, Option, Some}
 use Rattle.std.specs.Prelude.{get_or, length, map, nat_eq, slice_get, take}
 use Rattle.std.specs.List.{list_any, position, range_with_len}
-use Rattle.std.specs.List.Sorted.{IsStrictlySortedBy}
-use Rattle.std.specs.Ordering.{nat_cmp}
 use Rattle.staat_vec.specs.Lists.{FailsFirst}
 use Rattle.staat_model.specs.declared.assembly.Part.{Part}
 use Rattle.staat_model.specs.declared.certificate.Arc.{Arc}

@@ -57,7 +57,7 @@ fn is_joined(alloc: Global, count: u32, links: &[Link], d: V3) -> Result<bool, O
     ensures { IfOk result (λ answer. IsTrue answer ↔ IsJoined links.now count d) }
 {
     let ways = ways_at(alloc, count, links, d)?;
-    Ok(all_reach(alloc, count, ways.as_slice())?)
+    all_reach(alloc, count, ways.as_slice())
 }
 
 // the direction in which the planes of g and h cross, if at it some node does not reach some other one
@@ -155,8 +155,7 @@ pub fn first_gap<F: FacetSource>(
 {
     let links = links_of(alloc, source, parts, nodes, count, core)?;
     let planes = planes_of(alloc, count, links.as_slice())?;
-    let gap = gap_among(alloc, count, links.as_slice(), planes.as_slice())?;
-    Ok(gap)
+    gap_among(alloc, count, links.as_slice(), planes.as_slice())
 }
 
 /// Whether the core holds the nodes together, with the conditions of [`first_gap`]. Where the nodes are parts by

@@ -55,7 +55,12 @@ fn mark_all(marks: &mut [bool], ways: &[Way])
 fn are_marked(marks: &[bool]) -> bool
     ensures { IsTrue result ↔ All IsTrue marks.now }
 {
-    marks.iter().all(|is_marked| *is_marked)
+    for mark in marks {
+        if !*mark {
+            return false;
+        }
+    }
+    true
 }
 
 // whether the node 0 reaches each of so many nodes
@@ -80,5 +85,5 @@ pub fn all_reach(alloc: Global, count: u32, ways: &[Way]) -> Result<bool, OutOfM
         return Ok(false);
     }
     let back = turned(alloc, ways)?;
-    Ok(reaches_all(alloc, count, back.as_slice())?)
+    reaches_all(alloc, count, back.as_slice())
 }

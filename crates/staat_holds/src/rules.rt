@@ -96,8 +96,7 @@ fn broken_rule<F: FacetSource>(
     if nodes.len() < 2 {
         return Ok(Some(HoldRule::FewNodes));
     }
-    let rule = broken_pairs(alloc, source, parts, names, hold)?;
-    Ok(rule)
+    broken_pairs(alloc, source, parts, names, hold)
 }
 
 /// The first hold that breaks a rule, and the first rule that it breaks: its nodes are nodes, and two at least; each

@@ -15,12 +15,14 @@ pub struct Way {
 pub fn turned(alloc: Global, ways: &[Way]) -> Result<Vec<Way>, AllocError>
     ensures { IfOk result (λ back. back.items ≡ map turned_way ways.now) }
 {
-    ways.iter()
-        .map(|way| Way {
+    let mut back = Vec::new(alloc);
+    for way in ways {
+        back.push(Way {
             from: way.to,
             to: way.from,
-        })
-        .collect(alloc)
+        })?;
+    }
+    Ok(back)
 }
 
 /// Adds a way, if it is open.

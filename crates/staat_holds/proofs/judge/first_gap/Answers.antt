@@ -1,5 +1,6 @@
 use Rattle.std.proofs.Common.{◌≢◌, ℕ, List, sym, subst, All}
 use Rattle.std.specs.Prelude.{MatchOption, Option, None, Some, IfSome}
+use Rattle.std.proofs.lemmas.Result.{IfOk-weaker}
 use Rattle.staat_vec.specs.declared.vector.V3.{V3}
 use Rattle.staat_vec.specs.declared.vector.TheConstants.{DIRECTION}
 use Rattle.staat_vec.specs.Lists.{IsFirst}
@@ -33,37 +34,37 @@ returns-clause-held g c =
     let parts = c.args.parts.now in
     let links = c.in_ok-links.links in
     let planes = c.in_ok-planes.planes.items in
-    let gap = c.in_ok-gap.gap in
-    let first = subst (λ (ls : List Link). MatchOption gap (All (IsJoined ls c.args.count) (vertices c.as_slice-3.result.now)) (IsFirst (IsGap ls c.args.count) (vertices c.as_slice-3.result.now))) c.as_slice-2.ensures c.in_ok-gap.ensures in
+    IfOk-weaker c.gap_among.result _ _ (λ gap found.
+    let first = subst (λ (ls : List Link). MatchOption gap (All (IsJoined ls c.args.count) (vertices c.as_slice-3.result.now)) (IsFirst (IsGap ls c.args.count) (vertices c.as_slice-3.result.now))) c.as_slice-2.ensures found in
     let tells = subst (λ (ps : List V3). MatchOption gap (All (IsJoined links c.args.count) (vertices ps)) (IsFirst (IsGap links c.args.count) (vertices ps))) c.as_slice-3.ensures.value first in
     let of_links = subst (λ (ls : List Link). AreLinkPlanes ls planes) c.as_slice.ensures c.in_ok-planes.ensures.planes in
     told links c.args.count planes gap (JoinsNodes parts c.args.nodes.now c.args.count c.args.core.now) (λ v. JoinsNodes parts c.args.nodes.now c.args.count c.args.core.now → ⊥) tells
     (joined_held parts c.requires.parts c.args.nodes.now c.args.count c.args.core.now links c.in_ok-links.ensures.are planes of_links)
-    (gap_not_held parts c.requires.parts c.args.nodes.now c.args.count c.args.core.now links c.in_ok-links.ensures.are planes of_links)
+    (gap_not_held parts c.requires.parts c.args.nodes.now c.args.count c.args.core.now links c.in_ok-links.ensures.are planes of_links)) c.gap_among.ensures
 
 pub returns-clause-first : goal.returns-clause-first
 returns-clause-first g c =
     let parts = c.args.parts.now in
     let links = c.in_ok-links.links in
     let planes = c.in_ok-planes.planes.items in
-    let gap = c.in_ok-gap.gap in
-    let first = subst (λ (ls : List Link). MatchOption gap (All (IsJoined ls c.args.count) (vertices c.as_slice-3.result.now)) (IsFirst (IsGap ls c.args.count) (vertices c.as_slice-3.result.now))) c.as_slice-2.ensures c.in_ok-gap.ensures in
+    IfOk-weaker c.gap_among.result _ _ (λ gap found.
+    let first = subst (λ (ls : List Link). MatchOption gap (All (IsJoined ls c.args.count) (vertices c.as_slice-3.result.now)) (IsFirst (IsGap ls c.args.count) (vertices c.as_slice-3.result.now))) c.as_slice-2.ensures found in
     let tells = subst (λ (ps : List V3). MatchOption gap (All (IsJoined links c.args.count) (vertices ps)) (IsFirst (IsGap links c.args.count) (vertices ps))) c.as_slice-3.ensures.value first in
     let of_links = subst (λ (ls : List Link). AreLinkPlanes ls planes) c.as_slice.ensures c.in_ok-planes.ensures.planes in
     known gap (JoinsNodes parts c.args.nodes.now c.args.count c.args.core.now) (IsFirstGap parts c.args.nodes.now c.args.count c.args.core.now)
     (told links c.args.count planes gap (JoinsNodes parts c.args.nodes.now c.args.count c.args.core.now) (IsFirstGap parts c.args.nodes.now c.args.count c.args.core.now) tells
     (joined_held parts c.requires.parts c.args.nodes.now c.args.count c.args.core.now links c.in_ok-links.ensures.are planes of_links)
-    (first_gap_is parts c.requires.parts c.args.nodes.now c.args.count c.args.core.now links c.in_ok-links.ensures.are planes of_links))
+    (first_gap_is parts c.requires.parts c.args.nodes.now c.args.count c.args.core.now links c.in_ok-links.ensures.are planes of_links))) c.gap_among.ensures
 
 pub returns-clause-size : goal.returns-clause-size
 returns-clause-size g c =
     let links = c.in_ok-links.links in
     let planes = c.in_ok-planes.planes.items in
-    let gap = c.in_ok-gap.gap in
-    let first = subst (λ (ls : List Link). MatchOption gap (All (IsJoined ls c.args.count) (vertices c.as_slice-3.result.now)) (IsFirst (IsGap ls c.args.count) (vertices c.as_slice-3.result.now))) c.as_slice-2.ensures c.in_ok-gap.ensures in
+    IfOk-weaker c.gap_among.result _ _ (λ gap found.
+    let first = subst (λ (ls : List Link). MatchOption gap (All (IsJoined ls c.args.count) (vertices c.as_slice-3.result.now)) (IsFirst (IsGap ls c.args.count) (vertices c.as_slice-3.result.now))) c.as_slice-2.ensures found in
     let tells = subst (λ (ps : List V3). MatchOption gap (All (IsJoined links c.args.count) (vertices ps)) (IsFirst (IsGap links c.args.count) (vertices ps))) c.as_slice-3.ensures.value first in
     let of_links = subst (λ (ls : List Link). AreLinkPlanes ls planes) c.as_slice.ensures c.in_ok-planes.ensures.planes in
     let apart = planes_apart c.args.parts.now c.requires.parts c.args.nodes.now c.args.count c.args.core.now links c.in_ok-links.ensures.are planes of_links in
     known gap (All (IsJoined links c.args.count) (vertices planes)) (λ v. (v ≢ origin) × IsWithin DIRECTION v)
     (told links c.args.count planes gap (All (IsJoined links c.args.count) (vertices planes)) (λ v. (v ≢ origin) × IsWithin DIRECTION v) tells (λ all. all)
-    (λ v is. let size = gap_size planes c.in_ok-planes.ensures.within apart v (IsFirst-in (IsGap links c.args.count) (vertices planes) v is).0 in (size.some, size.within)))
+    (λ v is. let size = gap_size planes c.in_ok-planes.ensures.within apart v (IsFirst-in (IsGap links c.args.count) (vertices planes) v is).0 in (size.some, size.within)))) c.gap_among.ensures

@@ -1,5 +1,6 @@
 use Rattle.std.proofs.Common.{◌↔◌, List, sym, subst, All}
 use Rattle.std.specs.Prelude.{IsTrue}
+use Rattle.std.proofs.lemmas.Result.{IfOk-weaker}
 use Rattle.staat_holds.specs.declared.ways.Way.{Way}
 use Rattle.staat_holds.specs.Links.{SomeLeads}
 use Rattle.staat_holds.specs.VisitedNodes.{HasWay, IsWayWithin}
@@ -13,6 +14,7 @@ all_reach-requires-clause-ways c = subst (All (IsWayWithin c.args.count)) (sym c
 
 pub returns : goal.returns
 returns c =
-    let tells = subst (λ (ws : List Way). IsTrue c.in_ok-all_reach.field-0 ↔ AllReach c.args.count (HasWay ws)) c.as_slice.ensures.value c.in_ok-all_reach.ensures in
     let same = all_carried {R = HasWay c.in_ok-ways.ways.items} {S = SomeLeads c.args.links.now c.args.d} c.args.count c.in_ok-ways.ensures in
-    (λ yes. same.0 (tells.0 yes), λ all. tells.1 (same.1 all))
+    IfOk-weaker c.all_reach.result _ _ (λ answer found.
+    let tells = subst (λ (ws : List Way). IsTrue answer ↔ AllReach c.args.count (HasWay ws)) c.as_slice.ensures.value found in
+    (λ yes. same.0 (tells.0 yes), λ all. tells.1 (same.1 all))) c.all_reach.ensures

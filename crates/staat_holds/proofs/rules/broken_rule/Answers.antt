@@ -18,4 +18,4 @@ broken_pairs-requires g c =
     }
 
 pub returns : goal.returns
-returns g c = c.in_ok-rule.ensures
+returns g c = c.broken_pairs.ensures
