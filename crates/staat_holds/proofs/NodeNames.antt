@@ -1,6 +1,6 @@
 -- Names of nodes, and the places that they have among the nodes of a hold.
 use Rattle.std.proofs.Common.{◌≡◌, ◌⊎◌, ◌↔◌, ℕ, zero, suc, ◌+◌, ◌<◌, ◌≤◌, ◌^◌, true, false, cond, List, [], ◌∷◌, ◌++◌, length, get_or, inl, inr, ⊎_elim, refl, sym, ap, subst, ◌∙◌, arith, All, Contains}
-use Rattle.std.specs.Prelude.{Some, ◌||◌, nat_eq, slice_get}
+use Rattle.std.specs.Prelude.{None, Some, ◌||◌, nat_eq, slice_get}
 use Rattle.std.specs.FinSet as set
 use Rattle.std.specs.List.{list_any, position_or_len, range_with_len}
 use Rattle.std.specs.List.Sorted.{IsStrictlySortedBy}
@@ -9,6 +9,7 @@ use Rattle.std.proofs.lemmas.Bool.{cases_eq}
 use Rattle.std.proofs.lemmas.Bool.Decides.{nat_tests}
 use Rattle.std.proofs.lemmas.List.Elements.{All-weaker}
 use Rattle.std.proofs.lemmas.List.Quantifiers.{position-Some}
+use Rattle.std.proofs.lemmas.List.Sums.{position_or_len_is}
 use Rattle.std.proofs.lemmas.Map.Keys.{below_from_sorted, sorted_tail}
 use Rattle.std.proofs.lemmas.Map.Views.{length-le_from_below}
 use Rattle.std.proofs.lemmas.Option.{get_or_from_slice_get, slice_get-get_or}
@@ -107,8 +108,21 @@ place_from nodes k n sorted at =
     let e : position_or_len (nat_eq n) nodes ≡ k = place_at nodes k n sorted at in
     grind (arith, nat_tests)
 
-pub place_few : (nodes : List ℕ) (k n : ℕ) → place_of nodes n ≡ Some k → k < length nodes
-place_few nodes k n e = place_within nodes k n (place_to nodes k n e)
+-- none of the first k has the name
+abbrev pub IsNotBefore : List ℕ → ℕ → ℕ → Type 0
+IsNotBefore nodes n k = (m : ℕ) → m < k → n ≡ get_or nodes m 0 → ⊥
+
+pub place_is : (nodes : List ℕ) (k n : ℕ) → k < length nodes → IsNotBefore nodes n k → n ≡ get_or nodes k 0 → place_of nodes n ≡ Some k
+unfolding place_of
+place_is nodes k n lt before here =
+    let e : position_or_len (nat_eq n) nodes ≡ k = position_or_len_is (nat_eq n) nodes k 0 (omega arith) (λ m h. unequal n (get_or nodes m 0) (before m h)) (λ _. equal n (get_or nodes k 0) here) in
+    grind (arith, nat_tests)
+
+pub no_place : (nodes : List ℕ) (k n : ℕ) → length nodes ≤ k → IsNotBefore nodes n k → place_of nodes n ≡ None
+unfolding place_of
+no_place nodes k n le before =
+    let e : position_or_len (nat_eq n) nodes ≡ length nodes = position_or_len_is (nat_eq n) nodes (length nodes) 0 (omega arith) (λ m h. unequal n (get_or nodes m 0) (before m (omega (arith, h, le)))) (λ lt. absurd (omega (arith, lt))) in
+    grind (arith, nat_tests)
 
 -- ---- maps
 

@@ -1,5 +1,5 @@
 // The names of the nodes of parts.
-ghost use Rattle.std.specs.Prelude.{◌≡◌, ◌<◌, ◌≤◌, ◌^◌, ◌↔◌, IfOk, IfSome, IsTrue, length, map, nat_eq};
+ghost use Rattle.std.specs.Prelude.{◌≡◌, ◌<◌, ◌≤◌, ◌^◌, ◌↔◌, IfOk, IsTrue, length, map, nat_eq};
 ghost use Rattle.std.specs.List.{list_any};
 ghost use Rattle.staat_holds.specs.Chains.{IsName, joined_name, own_names, place_of, places_of};
 
@@ -57,23 +57,16 @@ pub fn joined_names(alloc: Global, nodes: &[u32], names: &[u32]) -> Result<Vec<u
 }
 
 // the place of a name among the nodes
-#[tactic(auto, using(crate::proofs::NodeNames::place_few), unfolding(crate::specs::Chains::place_of))]
-fn place_among(nodes: &[u32], name: u32) -> Option<usize>
-    ensures is { result ≡ place_of nodes.now name }
-    ensures few { IfSome result (λ k. k < length nodes.now) }
-{
-    nodes.iter().position(|node| name == *node)
-}
-
-// likewise, as a number of 32 bits
 fn place_of(nodes: &[u32], name: u32) -> Option<u32>
     requires { length nodes.now < 2 ^ 32 }
     ensures { result ≡ place_of nodes.now name }
 {
-    match place_among(nodes, name) {
-        Some(k) => Some(k as u32),
-        None => None,
+    for k in 0..nodes.len() {
+        if name == nodes[k] {
+            return Some(k as u32);
+        }
     }
+    None
 }
 
 /// For each part the place of its node among these, or none.
