@@ -13,7 +13,7 @@ use Rattle.staat_certify.specs.WitnessListings.{AreListed, IsWitnessNumber}
 use Rattle.staat_certify.proofs.NumberLemmas.{numbers_next}
 use Rattle.staat_vec.proofs.ListLaws.{push_front}
 
-module _ (parts : List Part) (w : PartSet) (keys more : List (List ℕ)) (old now : List Witness) (witness : Witness) (i : ℕ) (of : IsWitnessNumber more old now witness i) where
+module _ (parts : List Part) (w : PartSet) (old now : List Witness) (witness : Witness) (i : ℕ) (of : IsWitnessNumber old now witness i) where
   pub kept : (k : ℕ) (x : Witness) → slice_get old k ≡ Some x → slice_get now k ≡ Some x
   kept k x at = ⊎_elim
       (λ same. subst (λ ws. slice_get ws k ≡ Some x) (sym same.0) at)
@@ -29,10 +29,8 @@ module _ (parts : List Part) (w : PartSet) (keys more : List (List ℕ)) (old no
       (λ new. inr (new.1, ap length new.0 ∙ length-append old (witness ∷ [])))
       of.which
 
-  pub listed_more : (dirs next : List Dir) (d : V3) → AreListed parts w keys old dirs → IsWitnessAt parts w d witness → next ≡ dirs ++ (record { d = d; witness = i }) ∷ [] → AreListed parts w more now next
-  listed_more dirs next d before is e = subst (λ ds. AreListed parts w more now ds) (sym e) (record {
-    keys_are = of.keys_are;
-    distinct = of.distinct;
+  pub listed_more : (dirs next : List Dir) (d : V3) → AreListed parts w old dirs → IsWitnessAt parts w d witness → next ≡ dirs ++ (record { d = d; witness = i }) ∷ [] → AreListed parts w now next
+  listed_more dirs next d before is e = subst (λ ds. AreListed parts w now ds) (sym e) (record {
     each = All-push (NamesWitness parts w now) dirs line (All-weaker (NamesWitness parts w old) (NamesWitness parts w now) named dirs before.each) (record { witness = witness; witness_is = of.at; is = is });
     by_first_use = subst (λ ns. Rattle.staat_model.specs.Certify.NumbersByFirstUse (length now) ns) (sym (map-append (λ (dir : Dir). dir.witness) dirs (line ∷ []))) (numbers_next (length old) (map (λ dir. dir.witness) dirs) i (length now) before.by_first_use given);
     few = let long : length (dirs ++ line ∷ []) ≡ length dirs + 1 = length-append dirs (line ∷ []) in

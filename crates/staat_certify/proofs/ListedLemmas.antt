@@ -12,28 +12,28 @@ use Rattle.staat_vec.specs.Vectors.{IsWithin, cross, vector_cmp}
 use Rattle.staat_vec.proofs.Bounds.{IsWithin-cross, IsWithin-negative, IsWithin-wider}
 use Rattle.staat_vec.proofs.Primitives.{IsPrimitive-some, IsWithin-primitive, primitive-is}
 use Rattle.staat_model.specs.declared.assembly.Part.{Part}
+use Rattle.staat_model.specs.declared.certificate.Body.{Body}
+use Rattle.staat_model.specs.declared.certificate.Body.TheVariants as body
 use Rattle.staat_model.specs.declared.certificate.Dir.{Dir}
 use Rattle.staat_model.specs.declared.certificate.Witness.{Witness}
 use Rattle.staat_limits.specs.declared.limits.TheConstants.{LIST_LIMIT}
 use Rattle.staat_model.specs.declared.set.PartSet.{PartSet}
-use Rattle.staat_model.specs.Certify.{IsDirection, IsRefusalOf, NamesWitness}
+use Rattle.staat_model.specs.Certify.{IsBodyOf, IsDirection, IsRefusalOf, NamesWitness}
+use Rattle.staat_model.specs.Outcomes.{stuck}
 use Rattle.staat_model.specs.Planes.{ArePlanes, crossings, vertices}
 use Rattle.staat_model.proofs.EndLemmas.{from_vertices}
 use Rattle.staat_model.proofs.PlaneLemmas.{NoneParallel}
 use Rattle.staat_model.proofs.VertexLemmas.{same_some}
-use Rattle.staat_pairs.specs.Tables.{Table}
-use Rattle.staat_planes.specs.Refusals.{IsTableWithin}
-use Rattle.staat_certify.specs.declared.listing.WitnessListing.{WitnessListing}
 use Rattle.staat_certify.specs.declared.visits.Visit.{Visit}
 use Rattle.staat_certify.specs.Visits.{visited_directions}
-use Rattle.staat_certify.specs.WitnessListings.{AreListed, IsSizedDirection, key_of}
-use Rattle.staat_certify.proofs.NumberLemmas.{get_map, numbers_none}
+use Rattle.staat_certify.specs.WitnessListings.{AreApart, AreListed, IsListing, IsSizedDirection}
+use Rattle.staat_certify.proofs.NumberLemmas.{numbers_none}
 use Rattle.staat_vec.proofs.ListLaws.{take_next}
 use Rattle.staat_vec.proofs.VectorLists.{length-le_from_contains}
 
 -- the lines so far are those of these directions
-pub record HasLines (parts : List Part) (w : PartSet) (keys : List (List ℕ)) (witnesses : List Witness) (dirs : List Dir) (ds : List V3) : Type 0 where
-  pub listed : AreListed parts w keys witnesses dirs
+pub record HasLines (parts : List Part) (w : PartSet) (witnesses : List Witness) (dirs : List Dir) (ds : List V3) : Type 0 where
+  pub listed : AreListed parts w witnesses dirs
   pub lines : map (λ dir. dir.d) dirs ≡ ds
 
 -- ---- the vertices of planes
@@ -75,38 +75,30 @@ few_visits version planes visited few lists =
 
 -- ---- the whole list
 
-pub refusal_listed : (parts : List Part) (version : ℕ) (w : PartSet) (planes ds : List V3) (keys : List (List ℕ)) (witnesses : List Witness) (dirs : List Dir) → ArePlanes parts w planes → Lists vector_cmp (IsDirection version planes) ds → AreListed parts w keys witnesses dirs → map (λ dir. dir.d) dirs ≡ ds → IsRefusalOf parts version w witnesses dirs
-refusal_listed parts version w planes ds keys witnesses dirs planes_are lists listed e = record {
+pub refusal_listed : (parts : List Part) (version : ℕ) (w : PartSet) (planes ds : List V3) (witnesses : List Witness) (dirs : List Dir) → ArePlanes parts w planes → Lists vector_cmp (IsDirection version planes) ds → AreApart witnesses → AreListed parts w witnesses dirs → map (λ dir. dir.d) dirs ≡ ds → IsRefusalOf parts version w witnesses dirs
+refusal_listed parts version w planes ds witnesses dirs planes_are lists apart listed e = record {
   planes = planes;
   planes_are = planes_are;
   directions = subst (Lists vector_cmp (IsDirection version planes)) (sym e) lists;
   each = listed.each;
-  distinct = λ k m x a b. listed.distinct k m (key_of x) (subst (λ ks. slice_get ks k ≡ Some (key_of x)) (sym listed.keys_are) (get_map key_of witnesses k x a)) (subst (λ ks. slice_get ks m ≡ Some (key_of x)) (sym listed.keys_are) (get_map key_of witnesses m x b));
+  distinct = apart;
   by_first_use = listed.by_first_use;
 }
 
-pub planes_of : (parts : List Part) (w : PartSet) (limit : ℕ) (t : Table) → IsTableWithin parts w limit t → ArePlanes parts w t.planes
-planes_of parts w limit t within = subst (λ (u : PartSet). ArePlanes parts u t.planes) within.table.set within.table.made.planes
-
-pub listed_end : (parts : List Part) (version : ℕ) (w of : PartSet) (planes ds : List V3) (answer : Result WitnessListing OutOfMemory) → of ≡ w → ArePlanes parts w planes → Lists vector_cmp (IsDirection version planes) ds
-    → IfOk answer (λ l. AreListed parts of (map (λ v. v.items) l.keys.keys) l.witnesses.items l.dirs.items) → IfOk answer (λ l. map (λ dir. dir.d) l.dirs.items ≡ ds) → IfOk answer (λ l. IsRefusalOf parts version w l.witnesses.items l.dirs.items)
-listed_end parts version w of planes ds (Ok l) e are lists listed lines = refusal_listed parts version w planes ds (map (λ v. v.items) l.keys.keys) l.witnesses.items l.dirs.items are lists (subst (λ (u : PartSet). AreListed parts u (map (λ v. v.items) l.keys.keys) l.witnesses.items l.dirs.items) e listed) lines
-listed_end parts version w of planes ds (Err x) e are lists listed lines = tt
+pub listed_end : (parts : List Part) (version : ℕ) (w : PartSet) (planes ds : List V3) (answer : Result Body OutOfMemory) → ArePlanes parts w planes → Lists vector_cmp (IsDirection version planes) ds
+    → IfOk answer (IsListing parts w ds) → IfOk answer (IsBodyOf parts version (stuck w))
+listed_end parts version w planes ds (Ok (body.Plan nodes)) are lists listed = listed
+listed_end parts version w planes ds (Ok (body.Stuck v witnesses dirs)) are lists (same, apart, listed, lines) = (same, refusal_listed parts version w planes ds witnesses dirs are lists apart listed lines)
+listed_end parts version w planes ds (Err x) are lists listed = tt
 
 -- ---- the lines so far
 
-pub no_lines : (parts : List Part) (w : PartSet) (keys : List (List ℕ)) (witnesses : List Witness) (dirs : List Dir) → keys ≡ [] → witnesses ≡ [] → dirs ≡ [] → HasLines parts w keys witnesses dirs []
-no_lines parts w keys witnesses dirs k x d =
-    subst (λ ks. HasLines parts w ks witnesses dirs []) (sym k) (subst (λ ws. HasLines parts w [] ws dirs []) (sym x) (subst (λ ds. HasLines parts w [] [] ds []) (sym d) (record {
-      listed = record {
-        keys_are = refl;
-        distinct = λ i j key a b. cc;
-        each = All-nil (NamesWitness parts w []);
-        by_first_use = numbers_none;
-        few = omega arith;
-      };
+pub no_lines : (parts : List Part) (w : PartSet) (witnesses : List Witness) (dirs : List Dir) → witnesses ≡ [] → dirs ≡ [] → HasLines parts w witnesses dirs []
+no_lines parts w witnesses dirs x d =
+    subst (λ ws. HasLines parts w ws dirs []) (sym x) (subst (λ ds. HasLines parts w [] ds []) (sym d) (record {
+      listed = record { each = All-nil (NamesWitness parts w []); by_first_use = numbers_none; few = omega arith };
       lines = refl;
-    })))
+    }))
 
 pub few_lines : (visited : List Visit) (dirs : List Dir) (k : ℕ) → map (λ dir. dir.d) dirs ≡ visited_directions (take k visited) → k < length visited → length visited < LIST_LIMIT → length dirs < LIST_LIMIT
 few_lines visited dirs k lines lt few =

@@ -73,7 +73,7 @@ module _ {X : Type 0} (items : X → List ℕ) where
   alike : X → X → Bool
   alike x y = pointwise nat_eq (items x) (items y)
 
-  map_get : (xs : List X) (k : ℕ) (l : List ℕ) → slice_get (map items xs) k ≡ Some l → (x : X) × (slice_get xs k ≡ Some x) × (items x ≡ l)
+  pub map_get : (xs : List X) (k : ℕ) (l : List ℕ) → slice_get (map items xs) k ≡ Some l → (x : X) × (slice_get xs k ≡ Some x) × (items x ≡ l)
   map_get [] k l e = absurd cc
   map_get (x ∷ xs) zero l e = let same : items x ≡ l = cc in (x, refl, same)
   map_get (x ∷ xs) (suc k) l e = map_get xs k l e

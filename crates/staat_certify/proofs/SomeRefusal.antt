@@ -44,8 +44,7 @@ use Rattle.staat_graph.specs.Graphs.{IsShut, Walks, here}
 use Rattle.staat_graph.proofs.Finite.{len_subset, some_least, some_or_none}
 use Rattle.staat_graph.proofs.Reaching.{reach_of}
 use Rattle.staat_graph.proofs.Walking.{reach_shut, stays, turned, walk_ends}
-use Rattle.staat_certify.specs.WitnessListings.{IsWitnessNumber, key_of}
-use Rattle.staat_certify.proofs.Keys.{key_tells}
+use Rattle.staat_certify.specs.WitnessListings.{IsWitnessNumber}
 use Rattle.staat_certify.proofs.LineLemmas.{line_pushed, listed_more}
 use Rattle.staat_certify.proofs.ListedLemmas.{HasLines, no_lines, refusal_listed}
 use Rattle.staat_certify.proofs.SomeMember.{some_member}
@@ -302,18 +301,6 @@ place_or (y ∷ xs) x = go (witness_or y x) (place_or xs x)
         none_at zero e = let same : y ≡ x = cc in ne same
         none_at (suc k) e = none k e
 
--- witnesses that are different have different keys
-keys_apart : (xs : List Witness) → IsDistinct xs → IsDistinct (map key_of xs)
-keys_apart xs apart k m key a b =
-    let (x, at_k, x_key) = of_key xs k key a in
-    let (y, at_m, y_key) = of_key xs m key b in
-    apart k m x at_k (at_m ∙ ap Some (key_tells y x (y_key ∙ sym x_key)))
-  where
-    of_key : (xs : List Witness) (k : ℕ) (key : List ℕ) → slice_get (map key_of xs) k ≡ Some key → (x : Witness) × (slice_get xs k ≡ Some x) × (key_of x ≡ key)
-    of_key [] k key e = absurd cc
-    of_key (x ∷ xs) zero key e = let same : key_of x ≡ key = cc in (x, refl, same)
-    of_key (x ∷ xs) (suc k) key e = of_key xs k key e
-
 one_more_apart : (xs : List Witness) (x : Witness) → IsDistinct xs → ((k : ℕ) → slice_get xs k ≡ Some x → ⊥) → IsDistinct (xs ++ x ∷ [])
 one_more_apart xs x apart new k m y a b = go (push_cases xs x y k a) (push_cases xs x y m b)
   where
@@ -334,17 +321,17 @@ module _ (parts : List Part) (w : PartSet) where
   record Numbered (ds : List V3) : Type 0 where
     witnesses : List Witness
     dirs : List Dir
-    lines : HasLines parts w (map key_of witnesses) witnesses dirs ds
+    lines : HasLines parts w witnesses dirs ds
     apart : IsDistinct witnesses
 
-  line_with : (ds : List V3) (d : V3) (x : Witness) (now : List Witness) (i : ℕ) (t : Numbered ds) → IsWitnessAt parts w d x → IsWitnessNumber (map key_of now) t.witnesses now x i → IsDistinct now → Numbered (ds ++ d ∷ [])
+  line_with : (ds : List V3) (d : V3) (x : Witness) (now : List Witness) (i : ℕ) (t : Numbered ds) → IsWitnessAt parts w d x → IsWitnessNumber t.witnesses now x i → IsDistinct now → Numbered (ds ++ d ∷ [])
   line_with ds d x now i t at number apart =
       let next : List Dir = t.dirs ++ (record { d = d; witness = i }) ∷ [] in
       record {
         witnesses = now;
         dirs = next;
         lines = record {
-          listed = listed_more parts w (map key_of t.witnesses) (map key_of now) t.witnesses now x i number t.dirs next d t.lines.listed at refl;
+          listed = listed_more parts w t.witnesses now x i number t.dirs next d t.lines.listed at refl;
           lines = line_pushed t.dirs next d d i refl refl ∙ ap (λ l. l ++ d ∷ []) t.lines.lines;
         };
         apart = apart;
@@ -354,11 +341,11 @@ module _ (parts : List Part) (w : PartSet) where
   one_more_line ds d x at t = go (place_or t.witnesses x)
     where
       go : ((k : ℕ) × (slice_get t.witnesses k ≡ Some x)) ⊎ ((k : ℕ) → slice_get t.witnesses k ≡ Some x → ⊥) → Numbered (ds ++ d ∷ [])
-      go (inl (k, there)) = line_with ds d x t.witnesses k t at (record { which = inl (refl, place_within t.witnesses k x there); at = there; keys_are = refl; distinct = keys_apart t.witnesses t.apart }) t.apart
+      go (inl (k, there)) = line_with ds d x t.witnesses k t at (record { which = inl (refl, place_within t.witnesses k x there); at = there }) t.apart
       go (inr new) =
           let now : List Witness = t.witnesses ++ x ∷ [] in
           let apart = one_more_apart t.witnesses x t.apart new in
-          line_with ds d x now (length t.witnesses) t at (record { which = inr (refl, refl); at = push_end t.witnesses x; keys_are = refl; distinct = keys_apart now apart }) apart
+          line_with ds d x now (length t.witnesses) t at (record { which = inr (refl, refl); at = push_end t.witnesses x }) apart
 
   more_lines : (before ds : List V3) → ((d : V3) → Contains ds d → (x : Witness) × IsWitnessAt parts w d x) → Numbered before → Numbered (before ++ ds)
   more_lines before [] each t = subst Numbered (sym (ends before)) t
@@ -371,7 +358,7 @@ module _ (parts : List Part) (w : PartSet) where
       subst Numbered (joined_lists before d ds) (more_lines (before ++ d ∷ []) ds (λ e c. each e (Contains-later d ds e c)) (one_more_line before d x at t))
 
   all_lines : (ds : List V3) → ((d : V3) → Contains ds d → (x : Witness) × IsWitnessAt parts w d x) → Numbered ds
-  all_lines ds each = more_lines [] ds each (record { witnesses = []; dirs = []; lines = no_lines parts w [] [] [] refl refl refl; apart = λ k m x a b. cc })
+  all_lines ds each = more_lines [] ds each (record { witnesses = []; dirs = []; lines = no_lines parts w [] [] refl refl; apart = λ k m x a b. cc })
 
 -- ---- the directions
 
@@ -400,6 +387,6 @@ some_refusal_certificate parts version w is held =
       record {
         version_is = refl;
         count = refl;
-        body = (refl, refusal_listed parts version w planes ds (map key_of t.witnesses) t.witnesses t.dirs planes_are directions t.lines.listed t.lines.lines);
+        body = (refl, refusal_listed parts version w planes ds t.witnesses t.dirs planes_are directions t.apart t.lines.listed t.lines.lines);
       },
     )

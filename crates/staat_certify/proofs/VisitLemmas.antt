@@ -33,7 +33,7 @@ use Rattle.staat_model.proofs.Members.{All-from_members}
 use Rattle.staat_model.proofs.PlaneLemmas.{NoneParallel}
 use Rattle.staat_model.proofs.VertexLemmas.{in_vertices}
 use Rattle.staat_pairs.specs.Tables.{AreTablePlanes, Table}
-use Rattle.staat_certify.specs.WitnessListings.{IsWitnessNumber}
+use Rattle.staat_certify.specs.WitnessListings.{AreKeys, IsWitnessNumber}
 use Rattle.staat_certify.specs.declared.visits.Visit.{Visit}
 use Rattle.staat_certify.specs.Visits.{AreStillVisited, AreVisitedBelow, AreVisitedOn, IsNamed, IsNumberHere, IsVisitedDirection, SortsVisits, StandsAmong, visited_directions}
 use Rattle.staat_certify.proofs.LineLemmas.{kept}
@@ -59,10 +59,10 @@ whole_rings planes a made none = subst (λ (out : List (UnlinkedPlane (List Ring
 
 -- ---- one more visit
 
-pub number_is_here : (parts : List Part) (w : PartSet) (d : V3) (keys more : List (List ℕ)) (old new : List Witness) (witness : Witness) (i : ℕ) → IsWitnessNumber more old new witness i → IsWitnessAt parts w d witness → IsNumberHere parts w d more old new i
-number_is_here parts w d keys more old new witness i of is = record {
-  keys_are = of.keys_are;
-  kept = kept parts w keys more old new witness i of;
+pub number_is_here : (parts : List Part) (w : PartSet) (d : V3) (keys : List (List ℕ)) (old new : List Witness) (witness : Witness) (i : ℕ) → AreKeys keys new → IsWitnessNumber old new witness i → IsWitnessAt parts w d witness → IsNumberHere parts w d keys old new i
+number_is_here parts w d keys old new witness i keys_are of is = record {
+  keys_are = keys_are;
+  kept = kept parts w old new witness i of;
   names = record { witness = witness; witness_is = of.at; is = is };
 }
 

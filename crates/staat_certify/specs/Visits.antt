@@ -14,7 +14,7 @@ use Rattle.staat_pairs.specs.Tables.{Table, WasMadeFrom}
 use Rattle.staat_certify.specs.declared.visits.Found.{Found}
 use Rattle.staat_certify.specs.declared.visits.Visit.{Visit}
 use Rattle.staat_certify.specs.declared.witnesses.GraphTrees.{GraphTrees}
-use Rattle.staat_certify.specs.WitnessListings.{key_of}
+use Rattle.staat_certify.specs.WitnessListings.{AreKeys}
 use Rattle.staat_ring.specs.Places.{IsStopAt}
 use Rattle.staat_ring.specs.Rings.{Ring, RingStop, linked_of, vertex_of}
 use Rattle.staat_ring.specs.Walked.{IsEntered, WalkWasMadeFrom, Walked}
@@ -43,7 +43,7 @@ visited_directions visited = map (λ visit. visit.d) visited
 -- what the walk has found so far, with the trees that it keeps and the keys of the witnesses
 pub record HasFound (parts : List Part) (t : Table) (version : ℕ) (found : Found) : Type 0 where
   pub kept : KeepsTrees t.of found.kept
-  pub keys_are : map (λ v. v.items) found.keys.keys ≡ map key_of found.witnesses.items
+  pub keys_are : AreKeys (map (λ v. v.items) found.keys.keys) found.witnesses.items
   pub each : All (λ visit. IsDirection version t.planes visit.d) found.visited.items
   pub named : All (IsNamed parts t.of found.witnesses.items) found.visited.items
 
@@ -51,7 +51,7 @@ pub record HasFound (parts : List Part) (t : Table) (version : ℕ) (found : Fou
 -- are
 pub record IsNumberHere (parts : List Part) (w : PartSet) (d : V3) (keys : List (List ℕ)) (old new : List Witness)
     (p : ℕ) : Type 0 where
-  pub keys_are : keys ≡ map key_of new
+  pub keys_are : AreKeys keys new
   pub kept : (k : ℕ) (x : Witness) → slice_get old k ≡ Some x → slice_get new k ≡ Some x
   pub names : NamesWitness parts w new (record { d = d; witness = p })
 

@@ -7,6 +7,8 @@ use Rattle.staat_vec.specs.declared.vector.TheConstants.{DIRECTION}
 use Rattle.staat_vec.specs.Vectors.{IsWithin, origin}
 use Rattle.staat_model.specs.declared.assembly.Part.{Part}
 use Rattle.staat_model.specs.declared.certificate.Arc.{Arc}
+use Rattle.staat_model.specs.declared.certificate.Body.{Body}
+use Rattle.staat_model.specs.declared.certificate.Body.TheVariants as body
 use Rattle.staat_model.specs.declared.certificate.Dir.{Dir}
 use Rattle.staat_model.specs.declared.certificate.Witness.{Witness}
 use Rattle.staat_model.specs.declared.set.PartSet.{PartSet}
@@ -25,25 +27,26 @@ pub record IsSizedDirection (d : V3) : Type 0 where
   pub size : IsWithin DIRECTION d
   pub some : d ≢ origin
 
--- each line names the witness of its direction; the witnesses are different and are numbered by first use
-pub record AreListed (parts : List Part) (w : PartSet) (keys : List (List ℕ)) (witnesses : List Witness)
-    (dirs : List Dir) : Type 0 where
-  pub keys_are : keys ≡ map key_of witnesses
-  pub distinct : (k m : ℕ) (key : List ℕ) → slice_get keys k ≡ Some key → slice_get keys m ≡ Some key
-      → k ≡ m
+-- no witness stands at two places
+abbrev pub AreApart : List Witness → Type 0
+AreApart witnesses = (k m : ℕ) (x : Witness) → slice_get witnesses k ≡ Some x → slice_get witnesses m ≡ Some x → k ≡ m
+
+-- each line names the witness of its direction, and the witnesses are numbered by first use
+pub record AreListed (parts : List Part) (w : PartSet) (witnesses : List Witness) (dirs : List Dir) : Type 0 where
   pub each : All (NamesWitness parts w witnesses) dirs
   pub by_first_use : NumbersByFirstUse (length witnesses) (map (λ dir. dir.witness) dirs)
   pub few : length witnesses ≤ length dirs
 
--- the witness stands at its number in the new list, which is the old one or has it at the end; the keys are those of
--- the new list and are different
-pub record IsWitnessNumber (keys : List (List ℕ)) (old new : List Witness) (witness : Witness) (i : ℕ)
-    : Type 0 where
+-- what a certificate says of w, with such lines for these directions, and different witnesses
+abbrev pub IsListing : List Part → PartSet → List V3 → Body → Type 0
+IsListing parts w ds (body.Plan nodes) = ⊥
+IsListing parts w ds (body.Stuck v witnesses dirs) = (v ≡ w) × AreApart witnesses
+    × AreListed parts w witnesses dirs × (map (λ dir. dir.d) dirs ≡ ds)
+
+-- the witness stands at its number in the new list, which is the old one or has it at the end
+pub record IsWitnessNumber (old new : List Witness) (witness : Witness) (i : ℕ) : Type 0 where
   pub which : ((new ≡ old) × (i < length old)) ⊎ ((new ≡ old ++ witness ∷ []) × (i ≡ length old))
   pub at : slice_get new i ≡ Some witness
-  pub keys_are : keys ≡ map key_of new
-  pub distinct : (k m : ℕ) (key : List ℕ) → slice_get keys k ≡ Some key → slice_get keys m ≡ Some key
-      → k ≡ m
 
 -- these are the keys of the witnesses, and they are different
 pub record AreKeys (keys : List (List ℕ)) (witnesses : List Witness) : Type 0 where
@@ -51,8 +54,10 @@ pub record AreKeys (keys : List (List ℕ)) (witnesses : List Witness) : Type 0 
   pub distinct : (k m : ℕ) (key : List ℕ) → slice_get keys k ≡ Some key → slice_get keys m ≡ Some key
       → k ≡ m
 
--- the number, where there is one, at which a witness that was found stands among those that are listed
+-- the number, where there is one, at which a witness that was found stands among those that are listed, which have all
+-- been found
 pub record AreNames (found listed : List Witness) (names : List (Option ℕ)) : Type 0 where
   pub size : length names ≡ length found
   pub each : (p i : ℕ) → slice_get names p ≡ Some (Some i)
       → (x : Witness) × (slice_get found p ≡ Some x) × (slice_get listed i ≡ Some x)
+  pub all : (i : ℕ) → i < length listed → (p : ℕ) × (slice_get names p ≡ Some (Some i))

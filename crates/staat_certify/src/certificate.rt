@@ -1,44 +1,59 @@
 // The certificate of an outcome.
-ghost use Rattle.std.specs.Prelude.{IfOk};
-ghost use Rattle.staat_model.specs.Certify.{IsBodyOf, IsCertificateOf, IsRefusalOf};
+ghost use Rattle.std.specs.Prelude.{◌≤◌, IfOk, length};
+ghost use Rattle.staat_model.specs.Certify.{IsBodyOf, IsCertificateOf};
 ghost use Rattle.staat_limits.specs.Versions.{IsVersion};
-ghost use Rattle.staat_model.specs.Outcomes.{finding_of};
+ghost use Rattle.staat_model.specs.Outcomes.{finding_of, stuck};
 ghost use Rattle.staat_model.specs.Plans.{IsStuck};
 ghost use Rattle.staat_model.specs.Texts.{IsWellFormed};
-ghost use Rattle.staat_certify.specs.Certifying.{CanBeCertified, IsValidFor};
-ghost use Rattle.staat_certify.specs.Certifying.{HasFewPlanes};
+ghost use Rattle.staat_pairs.specs.Tables.{WasMadeFrom};
+ghost use Rattle.staat_certify.specs.Certifying.{CanBeCertified, HasFewPlanes, IsValidFor};
 
-use crate::listing::{WitnessListing, listing_of};
-use crate::nodes::certificate_nodes;
-use crate::visits::found_at;
+use crate::listing::listing_of;
+use crate::nodes::plan_body;
+use crate::visits::{Found, visit_all};
 use staat_cone::FacetSource;
 use staat_limits::MOST_PLANES;
-use staat_model::{Body, Certificate, Dirs, Outcome, PartSet, Sound, Witnesses};
-use staat_planes::{PlanesRefusal, tabulate};
+use staat_model::{Body, Certificate, Outcome, PartSet, Sound};
+use staat_planes::{PlaneTable, PlanesRefusal, tabulate};
 use staat_vec::OutOfMemory;
 use std::alloc::Global;
 use std::marker::Brand;
 use std::sync::ledger::Blank;
 
-// the lines of a set that is stuck
-fn refusal_lines<F: FacetSource>(
+// what the certificate says of a set that is stuck, with the table of its planes
+fn refusal_at(
+    alloc: Global,
+    sound: &Sound,
+    table: &PlaneTable,
+    version: u32,
+) -> Result<Body, OutOfMemory>
+    requires made { WasMadeFrom sound.now table.now }
+    requires few { length table.now.planes ≤ MOST_PLANES }
+    requires stuck { IsStuck sound.now table.now.of }
+    ensures { IfOk result (IsBodyOf sound.now version (stuck table.now.of)) }
+{
+    let mut found = Found::none(alloc);
+    visit_all::<Brand>(alloc, sound, table, version, Blank::new(1), &mut found)?;
+    listing_of(alloc, sound, table, &found)
+}
+
+// the same with the set alone
+fn refusal_of<F: FacetSource>(
     alloc: Global,
     source: &F,
     sound: &Sound,
     w: PartSet,
     version: u32,
-) -> Result<WitnessListing, OutOfMemory>
+) -> Result<Body, OutOfMemory>
     requires stuck { IsStuck sound.now w }
     requires few { HasFewPlanes sound.now w MOST_PLANES }
-    ensures { IfOk result (λ l. IsRefusalOf sound.now version w l.witnesses.items l.dirs.items) }
+    ensures { IfOk result (IsBodyOf sound.now version (stuck w)) }
 {
-    let table = match tabulate(alloc, source, sound, w, MOST_PLANES) {
-        Ok(table) => table,
-        Err(PlanesRefusal::OutOfMemory) => return Err(OutOfMemory),
+    match tabulate(alloc, source, sound, w, MOST_PLANES) {
+        Ok(table) => refusal_at(alloc, sound, &table, version),
+        Err(PlanesRefusal::OutOfMemory) => Err(OutOfMemory),
         Err(PlanesRefusal::TooManyPlanes(_)) => unreachable!(),
-    };
-    let found = found_at::<Brand>(alloc, sound, &table, version, Blank::new(1))?;
-    listing_of(alloc, sound, &table, &found)
+    }
 }
 
 // what the certificate says of the outcome
@@ -53,18 +68,8 @@ fn body_of<F: FacetSource>(
     ensures { IfOk result (IsBodyOf sound.now version (finding_of outcome.now)) }
 {
     match outcome {
-        Outcome::Plan { tree, .. } => {
-            let nodes = certificate_nodes(alloc, source, sound.assembly(), tree)?;
-            Ok(Body::Plan(nodes))
-        }
-        Outcome::Stuck(w) => {
-            let lines = refusal_lines(alloc, source, sound, *w, version)?;
-            Ok(Body::Stuck {
-                set: *w,
-                witnesses: Witnesses::from_vec(lines.witnesses),
-                dirs: Dirs::from_vec(lines.dirs),
-            })
-        }
+        Outcome::Plan { tree, .. } => plan_body(alloc, source, sound.assembly(), tree),
+        Outcome::Stuck(w) => refusal_of(alloc, source, sound, *w, version),
     }
 }
 

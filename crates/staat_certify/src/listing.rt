@@ -15,7 +15,8 @@ ghost use Rattle.std.specs.Prelude.{
   slice_get,
 };
 ghost use Rattle.staat_model.specs.declared.certificate.Witness.{Witness as WitnessValue};
-ghost use Rattle.staat_certify.specs.WitnessListings.{AreKeys, AreListed, AreNames, IsWitnessNumber};
+ghost use Rattle.staat_certify.specs.WitnessListings.{AreApart, AreKeys, AreListed, AreNames, IsListing};
+ghost use Rattle.staat_certify.specs.WitnessListings.{IsWitnessNumber};
 ghost use Rattle.staat_certify.specs.WitnessListings.{key_of, key_numbers};
 ghost use Rattle.staat_certify.specs.Visits.{IsNamed, visited_directions};
 
@@ -23,17 +24,17 @@ use crate::numbers::number_of_key;
 use crate::visits::{Found, Visit};
 use indexmap::IndexSet;
 use staat_limits::LIST_LIMIT;
-use staat_model::{Arc, Arcs, Dir, Sound, Witness};
+use staat_model::{Arc, Arcs, Body, Dir, Dirs, Sound, Witness, Witnesses};
 use staat_planes::PlaneTable;
 use staat_vec::OutOfMemory;
 use std::alloc::Global;
 
-/// The witnesses so far, with their keys, and the lines so far.
+// The witnesses and the lines so far, and of each witness that was found its number among these, if it has one.
 #[derive(Drop)]
-pub struct WitnessListing {
-    pub keys: IndexSet<Vec<u32>>,
-    pub witnesses: Vec<Witness>,
-    pub dirs: Vec<Dir>,
+struct Listing {
+    names: Vec<Option<usize>>,
+    witnesses: Vec<Witness>,
+    dirs: Vec<Dir>,
 }
 
 // adds the numbers of arcs to a key
@@ -56,16 +57,16 @@ fn key_of(alloc: Global, witness: &Witness) -> Result<Vec<u32>, OutOfMemory>
     Ok(key)
 }
 
-// the number of a witness, which is put at the end of the list if it is a new one
+/// The number of a witness, which is put at the end of the list if it is a new one.
 pub fn number_witness(
     alloc: Global,
     keys: &mut IndexSet<Vec<u32>>,
     witnesses: &mut Vec<Witness>,
     witness: Witness,
 ) -> Result<usize, OutOfMemory>
-    requires { map (λ v. v.items) keys.old.keys ≡ map key_of witnesses.old.items }
-    ensures { IfOk result (λ i. IsWitnessNumber (map (λ v. v.items) keys.new.keys) witnesses.old.items
-        witnesses.new.items witness i) }
+    requires { AreKeys (map (λ v. v.items) keys.old.keys) witnesses.old.items }
+    ensures keys { OnOk result (AreKeys (map (λ v. v.items) keys.new.keys) witnesses.new.items) }
+    ensures number { IfOk result (IsWitnessNumber witnesses.old.items witnesses.new.items witness) }
 {
     let key = key_of(alloc, &witness)?;
     let number = number_of_key(keys, key)?;
@@ -99,23 +100,21 @@ fn name_of(
     alloc: Global,
     found: &[Witness],
     p: usize,
-    names: &mut Vec<Option<usize>>,
-    keys: &mut IndexSet<Vec<u32>>,
-    witnesses: &mut Vec<Witness>,
+    listing: &mut Listing,
 ) -> Result<usize, OutOfMemory>
     requires place { p < length found.now }
-    requires names { AreNames found.now witnesses.old.items names.old.items }
-    requires keys { AreKeys (map (λ v. v.items) keys.old.keys) witnesses.old.items }
-    ensures names { OnOk result (AreNames found.now witnesses.new.items names.new.items) }
+    requires names { AreNames found.now listing.old.witnesses.items listing.old.names.items }
+    ensures names { OnOk result (AreNames found.now listing.new.witnesses.items listing.new.names.items) }
     ensures number { IfOk result (λ i. (witness : WitnessValue) → slice_get found.now p ≡ Some witness
-        → IsWitnessNumber (map (λ v. v.items) keys.new.keys) witnesses.old.items witnesses.new.items witness i) }
+        → IsWitnessNumber listing.old.witnesses.items listing.new.witnesses.items witness i) }
+    ensures dirs { listing.new.dirs ≡ listing.old.dirs }
 {
-    if let Some(number) = names[p] {
+    if let Some(number) = listing.names[p] {
         return Ok(number);
     }
-    let witness = copy_of(alloc, &found[p])?;
-    let number = number_witness(alloc, keys, witnesses, witness)?;
-    names[p] = Some(number);
+    let number = listing.witnesses.len();
+    listing.witnesses.push(copy_of(alloc, &found[p])?)?;
+    listing.names[p] = Some(number);
     Ok(number)
 }
 
@@ -126,28 +125,19 @@ fn push_dir(
     table: &PlaneTable,
     visit: Visit,
     found: &[Witness],
-    names: &mut Vec<Option<usize>>,
-    listing: &mut WitnessListing,
+    listing: &mut Listing,
 ) -> Result<(), OutOfMemory>
     requires named { IsNamed sound.now table.now.of found.now visit }
-    requires names { AreNames found.now listing.old.witnesses.items names.old.items }
-    requires listed { AreListed sound.now table.now.of (map (λ v. v.items) listing.old.keys.keys)
-        listing.old.witnesses.items listing.old.dirs.items }
+    requires names { AreNames found.now listing.old.witnesses.items listing.old.names.items }
+    requires listed { AreListed sound.now table.now.of listing.old.witnesses.items listing.old.dirs.items }
     requires room { length listing.old.dirs.items < LIST_LIMIT }
-    ensures names { OnOk result (AreNames found.now listing.new.witnesses.items names.new.items) }
-    ensures listed { OnOk result (AreListed sound.now table.now.of (map (λ v. v.items) listing.new.keys.keys)
-        listing.new.witnesses.items listing.new.dirs.items) }
+    ensures names { OnOk result (AreNames found.now listing.new.witnesses.items listing.new.names.items) }
+    ensures listed { OnOk result (AreListed sound.now table.now.of listing.new.witnesses.items
+        listing.new.dirs.items) }
     ensures line { OnOk result (map (λ dir. dir.d) listing.new.dirs.items ≡ map (λ dir. dir.d)
         listing.old.dirs.items ++ visit.d ∷ []) }
 {
-    let number = name_of(
-        alloc,
-        found,
-        visit.number,
-        names,
-        &mut listing.keys,
-        &mut listing.witnesses,
-    )?;
+    let number = name_of(alloc, found, visit.number, listing)?;
     listing.dirs.push(Dir {
         d: visit.d,
         witness: number as u32,
@@ -155,37 +145,31 @@ fn push_dir(
     Ok(())
 }
 
-/// The lines of the directions that were found, in their order, each with its witness.
+/// What the certificate says of the table's set, which is stuck: the lines of the directions that were found, in their
+/// order, each with its witness.
 pub fn listing_of(
     alloc: Global,
     sound: &Sound,
     table: &PlaneTable,
     found: &Found,
-) -> Result<WitnessListing, OutOfMemory>
+) -> Result<Body, OutOfMemory>
+    requires apart { AreApart found.now.witnesses.items }
     requires named { All (IsNamed sound.now table.now.of found.now.witnesses.items) found.now.visited.items }
     requires few { length found.now.visited.items < LIST_LIMIT }
-    ensures listed { IfOk result (λ l. AreListed sound.now table.now.of (map (λ v. v.items) l.keys.keys)
-        l.witnesses.items l.dirs.items) }
-    ensures lines { IfOk result (λ l. map (λ dir. dir.d) l.dirs.items ≡ visited_directions
-        found.now.visited.items) }
+    ensures { IfOk result (IsListing sound.now table.now.of (visited_directions found.now.visited.items)) }
 {
-    let mut listing = WitnessListing {
-        keys: IndexSet::new(alloc),
+    let witnesses = found.witnesses.as_slice();
+    let mut listing = Listing {
+        names: vec![in alloc; None; witnesses.len()]?,
         witnesses: Vec::new(alloc),
         dirs: Vec::new(alloc),
     };
-    let witnesses = found.witnesses.as_slice();
-    let mut names = vec![in alloc; None; witnesses.len()]?;
     for visit in &found.visited {
-        push_dir(
-            alloc,
-            sound,
-            table,
-            *visit,
-            witnesses,
-            &mut names,
-            &mut listing,
-        )?;
+        push_dir(alloc, sound, table, *visit, witnesses, &mut listing)?;
     }
-    Ok(listing)
+    Ok(Body::Stuck {
+        set: table.set(),
+        witnesses: Witnesses::from_vec(listing.witnesses),
+        dirs: Dirs::from_vec(listing.dirs),
+    })
 }

@@ -1,6 +1,8 @@
 // The nodes of a plan's certificate.
-ghost use Rattle.std.specs.Prelude.{◌≡◌, IfOk, OnOk, length};
-ghost use Rattle.staat_model.specs.Certify.{ArePlanNodes};
+ghost use Rattle.std.specs.Prelude.{◌≡◌, ℕ, IfOk, List, OnOk, length};
+ghost use Rattle.staat_model.specs.declared.tree.Kind.{Kind as KindValue};
+ghost use Rattle.staat_model.specs.Certify.{IsBodyOf};
+ghost use Rattle.staat_model.specs.Outcomes.{planned};
 ghost use Rattle.staat_model.specs.Plans.{IsGood, parts_of, plan_of};
 ghost use Rattle.staat_model.specs.Sets.{below};
 ghost use Rattle.staat_certify.specs.Plans.{AreWithin};
@@ -8,7 +10,7 @@ ghost use Rattle.staat_certify.specs.Plans.{AddsNodes, HasPartNumbers};
 
 use crate::walls::walls;
 use staat_cone::FacetSource;
-use staat_model::{Assembly, Node, Nodes, PartSet, Seps, Tree};
+use staat_model::{Assembly, Body, Node, Nodes, PartSet, Seps, Tree};
 use staat_vec::{DIRECTION, OutOfMemory};
 use std::alloc::Global;
 
@@ -58,20 +60,21 @@ fn push_nodes<F: FacetSource>(
     }
 }
 
-/// The nodes of the certificate of a plan that takes all parts apart.
-pub fn certificate_nodes<F: FacetSource>(
+/// What the certificate of a plan that takes all parts apart says: its nodes.
+pub fn plan_body<F: FacetSource>(
     alloc: Global,
     source: &F,
     assembly: &Assembly,
     tree: &Tree,
-) -> Result<Nodes, OutOfMemory>
+) -> Result<Body, OutOfMemory>
     requires sized { AreWithin DIRECTION (plan_of tree.now) }
     requires good { IsGood assembly.now (below (length assembly.now)) (plan_of tree.now) }
-    ensures { IfOk result (ArePlanNodes assembly.now (plan_of tree.now)) }
+    ensures { IfOk result (λ b. (version : ℕ) (marks : List KindValue)
+        → IsBodyOf assembly.now version (planned (plan_of tree.now) marks) b) }
 {
     // an assembly has few parts
     let _parts = assembly.parts();
     let mut nodes = Vec::new(alloc);
     push_nodes(alloc, source, assembly, tree, &mut nodes)?;
-    Ok(Nodes::from_vec(nodes))
+    Ok(Body::Plan(Nodes::from_vec(nodes)))
 }

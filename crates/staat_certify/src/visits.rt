@@ -23,7 +23,7 @@ ghost use Rattle.staat_model.specs.Plans.{IsStuck};
 ghost use Rattle.staat_pairs.specs.Tables.{WasMadeFrom};
 ghost use Rattle.staat_ring.specs.Rings.{WereMadeFrom};
 ghost use Rattle.staat_ring.specs.Walked.{IsEntered, WalkWasMadeFrom};
-ghost use Rattle.staat_certify.specs.WitnessListings.{key_of};
+ghost use Rattle.staat_certify.specs.WitnessListings.{AreKeys};
 ghost use Rattle.staat_certify.specs.Visits.{AreStillVisited, AreVisitedBelow, HasFound};
 ghost use Rattle.staat_certify.specs.Visits.{IsNumberHere, IsVisitedDirection};
 ghost use Rattle.staat_certify.specs.Visits.{KeepsTrees, SortsVisits, StandsAmong, visited_directions};
@@ -58,8 +58,8 @@ pub struct Found {
 }
 
 impl Found {
-    // nothing
-    fn none(alloc: Global) -> Found
+    /// Nothing.
+    pub fn none(alloc: Global) -> Found
         ensures keys { result.keys.keys ≡ [] }
         ensures witnesses { result.witnesses.items ≡ [] }
         ensures visited { result.visited.items ≡ [] }
@@ -113,7 +113,7 @@ fn number_anew(
     requires made { WasMadeFrom sound.now table.now }
     requires stands { StandsAmong table.now walk.now }
     requires along { AreTreesAlong sound.now table.now walk.now.vertex found.old.kept.trees }
-    requires keys { map (λ v. v.items) found.old.keys.keys ≡ map key_of found.old.witnesses.items }
+    requires keys { AreKeys (map (λ v. v.items) found.old.keys.keys) found.old.witnesses.items }
     ensures number { IfOk result (IsNumberHere sound.now table.now.of walk.now.vertex
         (map (λ v. v.items) found.new.keys.keys) found.old.witnesses.items found.new.witnesses.items) }
     ensures kept { found.new.kept ≡ found.old.kept }
@@ -138,7 +138,7 @@ fn number_here(
     requires stands { StandsAmong table.now walk.now }
     requires some { walk.now.vertex ≢ origin }
     requires kept { KeepsTrees table.now.of found.old.kept }
-    requires keys { map (λ v. v.items) found.old.keys.keys ≡ map key_of found.old.witnesses.items }
+    requires keys { AreKeys (map (λ v. v.items) found.old.keys.keys) found.old.witnesses.items }
     ensures number { IfOk result (IsNumberHere sound.now table.now.of walk.now.vertex
         (map (λ v. v.items) found.new.keys.keys) found.old.witnesses.items found.new.witnesses.items) }
     ensures kept { OnOk result (KeepsTrees table.now.of found.new.kept) }
@@ -244,43 +244,16 @@ fn go_round(
     Ok(())
 }
 
-// visits the vertices of all circles
+// visits the vertices of all circles, where all are linked
 fn go_round_all<L: Ledger>(
     alloc: Global,
     sound: &Sound,
     table: &PlaneTable,
     version: u32,
     rings: &Rings,
-    walk: &mut Walk,
-    steps: &mut Steps<L>,
+    blank: Blank,
     found: &mut Found,
 ) -> Result<(), OutOfMemory>
-    requires made { WasMadeFrom sound.now table.now }
-    requires stuck { IsStuck sound.now table.now.of }
-    requires rings { WereMadeFrom table.now.planes rings.now }
-    requires all { rings.now.unlinked ≡ [] }
-    requires signs { WalkWasMadeFrom table.now walk.old }
-    requires found { HasFound sound.now table.now version found.old }
-    ensures found { OnOk result (HasFound sound.now table.now version found.new) }
-    ensures below { OnOk result (AreVisitedBelow table.now.planes rings.now.rings version
-        found.new.visited.items (length table.now.planes)) }
-{
-    for circle in 0..table.len() {
-        walk.enter(table, rings, circle, steps);
-        go_round(alloc, sound, table, version, rings, circle, walk, found)?;
-    }
-    Ok(())
-}
-
-// what a walk along all circles finds, where all are linked
-fn found_along<L: Ledger>(
-    alloc: Global,
-    sound: &Sound,
-    table: &PlaneTable,
-    version: u32,
-    rings: &Rings,
-    blank: Blank,
-) -> Result<Found, OutOfMemory>
     requires made { WasMadeFrom sound.now table.now }
     requires stuck { IsStuck sound.now table.now.of }
     requires rings { WereMadeFrom table.now.planes rings.now }
@@ -288,17 +261,20 @@ fn found_along<L: Ledger>(
     requires name { blank.name ≡ L.name }
     requires parts { blank.parts ≡ L.parts }
     requires some { 0 < blank.parts }
-    ensures found { IfOk result (HasFound sound.now table.now version) }
-    ensures below { IfOk result (λ f. AreVisitedBelow table.now.planes rings.now.rings version f.visited.items
-        (length table.now.planes)) }
+    requires found { HasFound sound.now table.now version found.old }
+    ensures found { OnOk result (HasFound sound.now table.now version found.new) }
+    ensures below { OnOk result (AreVisitedBelow table.now.planes rings.now.rings version
+        found.new.visited.items (length table.now.planes)) }
 {
-    let mut walk = Walk::new(alloc, table)?;
-    let mut found = Found::none(alloc);
     let mut steps = Steps::<L>::new(blank);
-    go_round_all(
-        alloc, sound, table, version, rings, &mut walk, &mut steps, &mut found,
-    )?;
-    Ok(found)
+    let mut walk = Walk::new(alloc, table)?;
+    for circle in 0..table.len() {
+        walk.enter(table, rings, circle, &mut steps);
+        go_round(
+            alloc, sound, table, version, rings, circle, &mut walk, found,
+        )?;
+    }
+    Ok(())
 }
 
 // puts the visits in the order of their directions, and keeps one of each
@@ -309,29 +285,31 @@ fn sort_visits(visited: &mut Vec<Visit>)
     visited.dedup_by_key(|visit| visit.d);
 }
 
-/// The directions of the version, ascending and each once, with their witnesses.
+/// Visits the directions of the version, which are kept ascending and each once, with their witnesses.
 ///
 /// Each vertex is visited on the circle of the least plane through it. Of its witness only the arcs are looked at that
 /// make it another one than at the vertex before; no blocking graph is counted from the facets.
-pub fn found_at<L: Ledger>(
+pub fn visit_all<L: Ledger>(
     alloc: Global,
     sound: &Sound,
     table: &PlaneTable,
     version: u32,
     blank: Blank,
-) -> Result<Found, OutOfMemory>
+    found: &mut Found,
+) -> Result<(), OutOfMemory>
     requires made { WasMadeFrom sound.now table.now }
     requires stuck { IsStuck sound.now table.now.of }
     requires name { blank.name ≡ L.name }
     requires parts { blank.parts ≡ L.parts }
     requires some { 0 < blank.parts }
-    ensures found { IfOk result (HasFound sound.now table.now version) }
-    ensures lists { IfOk result (λ f. Lists vector_cmp (IsDirection version table.now.planes)
-        (visited_directions f.visited.items)) }
+    requires found { HasFound sound.now table.now version found.old }
+    ensures found { OnOk result (HasFound sound.now table.now version found.new) }
+    ensures lists { OnOk result (Lists vector_cmp (IsDirection version table.now.planes)
+        (visited_directions found.new.visited.items)) }
 {
     let _set = table.set();
     let rings = Rings::build(alloc, table)?;
-    let mut found = found_along::<L>(alloc, sound, table, version, &rings, blank)?;
+    go_round_all::<L>(alloc, sound, table, version, &rings, blank, found)?;
     sort_visits(&mut found.visited);
-    Ok(found)
+    Ok(())
 }

@@ -1,10 +1,14 @@
-use Rattle.std.proofs.Common.{◌≡◌, ◌<◌, ◌∙◌, List, ap, arith, length, get_or, map, refl, replicate, subst, ℕ, zero, suc}
+use Rattle.std.proofs.Common.{◌≡◌, ◌<◌, ◌∙◌, List, ap, arith, length, get_or, map, refl, replicate, subst, sym, ℕ, zero, suc}
 use Rattle.std.specs.Prelude.{None, Option, Some, slice_get}
 use Rattle.std.proofs.lemmas.List.{length-replicate, take_all}
 use Rattle.std.proofs.lemmas.Option.{slice_get-get_or}
 use Rattle.staat_vec.specs.Vectors.{origin}
 use Rattle.staat_certify.specs.declared.visits.Visit.{Visit}
+use Rattle.staat_vec.proofs.Options.{from_some}
+use Rattle.staat_model.specs.declared.certificate.Witness.{Witness}
+use Rattle.staat_model.proofs.Places.{place_within}
 use Rattle.staat_certify.specs.Visits.{visited_directions}
+use Rattle.staat_certify.specs.WitnessListings.{AreApart, AreListed, AreNames}
 use Rattle.staat_certify.proofs.ListedLemmas.{few_lines, lines_more, no_lines}
 use Rattle.staat_certify.proofs.listing.listing_of.Goals as goal
 
@@ -20,12 +24,13 @@ none_only P other (Some n) p = absurd (other n p)
 pub loop-visit-init : goal.loop-visit-init
 loop-visit-init c =
     let count = length c.as_slice-witnesses.result.now in
-    let names : c.in_ok-names.names.items ≡ replicate {A = Option ℕ} count None = c.in_ok-names.ensures.items_if_clones_equal (none_only _ (λ n p. p)) in
+    let names : c.in_ok-vec.field-0.items ≡ replicate {A = Option ℕ} count None = c.in_ok-vec.ensures.items_if_clones_equal (none_only _ (λ n p. p)) in
     record {
-      lines = no_lines c.args.sound.now c.args.table.now.of (map (λ v. v.items) c.new.result.keys) c.new-2.result.items c.new-3.result.items (ap (map (λ v. v.items)) c.new.ensures.empty) c.new-2.ensures.items c.new-3.ensures.items;
+      lines = no_lines c.args.sound.now c.args.table.now.of c.new.result.items c.new-2.result.items c.new.ensures.items c.new-2.ensures.items;
       names = record {
         size = ap length names ∙ length-replicate count None;
         each = λ p i at. absurd (none_there count p i (subst (λ ns. slice_get ns p ≡ Some (Some i)) names at));
+        all = λ i lt. absurd (let none = ap length c.new.ensures.items in omega (arith, lt, none));
       };
     }
 
@@ -48,7 +53,23 @@ loop-visit-preserved c =
       names = c.in_ok-push_dir.ensures.names;
     }
 
-pub returns-clause-lines : goal.returns-clause-lines
-returns-clause-lines c =
+-- what is listed was found at different places
+names_apart : (found listed : List Witness) (names : List (Option ℕ)) → AreApart found → AreNames found listed names → AreApart listed
+names_apart found listed names apart are k m x a b =
+    let (p, at_p) = are.all k (place_within listed k x a) in
+    let (q, at_q) = are.all m (place_within listed m x b) in
+    let (y, found_p, listed_k) = are.each p k at_p in
+    let (z, found_q, listed_m) = are.each q m at_q in
+    let same : p ≡ q = apart p q x (found_p ∙ sym listed_k ∙ a) (found_q ∙ sym listed_m ∙ b) in
+    from_some (from_some (sym at_p ∙ ap (slice_get names) same ∙ at_q))
+
+pub returns : goal.returns
+returns c =
+    let i = c.loop-visit.invariant in
     let end = subst (λ (vs : List Visit). c.loop-visit.visit-index < length vs → ⊥) c.deref-visit-items.ensures.value (λ lt. omega (arith, lt, c.loop-visit-test.false)) in
-    c.loop-visit.invariant.lines.lines ∙ ap visited_directions (take_all c.loop-visit.visit-index c.args.found.now.visited.items (omega (arith, end)))
+    let apart = subst AreApart (sym c.as_slice-witnesses.ensures.value) c.requires.apart in (
+      c.set.ensures.is,
+      subst AreApart (sym c.from_vec.ensures) (names_apart c.as_slice-witnesses.result.now c.loop-visit.listing.witnesses.items c.loop-visit.listing.names.items apart i.names),
+      subst (λ ws. AreListed c.args.sound.now c.args.table.now.of ws c.from_vec-2.result) (sym c.from_vec.ensures) (subst (AreListed c.args.sound.now c.args.table.now.of c.loop-visit.listing.witnesses.items) (sym c.from_vec-2.ensures) i.lines.listed),
+      ap (map (λ dir. dir.d)) c.from_vec-2.ensures ∙ i.lines.lines ∙ ap visited_directions (take_all c.loop-visit.visit-index c.args.found.now.visited.items (omega (arith, end))),
+    )

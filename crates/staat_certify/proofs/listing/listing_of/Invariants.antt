@@ -1,4 +1,4 @@
-use Rattle.std.proofs.Common.{map, take}
+use Rattle.std.proofs.Common.{take}
 use Rattle.staat_certify.specs.Visits.{visited_directions}
 use Rattle.staat_certify.specs.WitnessListings.{AreNames}
 use Rattle.staat_certify.proofs.ListedLemmas.{HasLines}
@@ -6,6 +6,6 @@ use Rattle.staat_certify.proofs.listing.listing_of.Given as goal
 
 abbrev pub invariant-loop-visit : goal.invariant-loop-visit
 invariant-loop-visit l = record {
-  lines : HasLines l.sound l.table.of (map (λ v. v.items) l.listing.keys.keys) l.listing.witnesses.items l.listing.dirs.items (visited_directions (take l.visit-index l.found.visited.items));
-  names : AreNames l.witnesses l.listing.witnesses.items l.names.items;
+  lines : HasLines l.sound l.table.of l.listing.witnesses.items l.listing.dirs.items (visited_directions (take l.visit-index l.found.visited.items));
+  names : AreNames l.witnesses l.listing.witnesses.items l.listing.names.items;
 }

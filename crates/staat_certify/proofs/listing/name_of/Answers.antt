@@ -1,10 +1,12 @@
-use Rattle.std.proofs.Common.{◌≡◌, ◌⊎◌, ◌∙◌, ◌∷◌, [], inl, inr, ⊎_elim, ℕ, zero, suc, List, ap, length-set, map, refl, set, subst, sym}
+use Rattle.std.proofs.Common.{◌≡◌, ◌≢◌, ◌⊎◌, ◌∙◌, ◌<◌, ◌∷◌, [], ◌++◌, inl, inr, ⊎_elim, ℕ, zero, suc, List, ap, arith, length, length-append, length-set, refl, set, subst, sym}
 use Rattle.std.specs.Prelude.{Option, Some, slice_get}
 use Rattle.std.proofs.lemmas.Option.{slice_get-get_or}
 use Rattle.staat_model.specs.declared.certificate.Witness.{Witness}
+use Rattle.staat_model.proofs.Places.{place_within}
 use Rattle.staat_certify.specs.WitnessListings.{AreNames, IsWitnessNumber}
 use Rattle.staat_certify.proofs.listing.name_of.Goals as goal
-use Rattle.staat_vec.proofs.ListLaws.{push_front}
+use Rattle.staat_vec.proofs.ListLaws.{place_is, push_end, push_front, set_here}
+use Rattle.staat_vec.proofs.Naturals.{lt_one_more_cases}
 use Rattle.staat_vec.proofs.Options.{from_some}
 
 -- one place of a list is written
@@ -15,46 +17,56 @@ set_cases (z ∷ xs) zero (suc j) x y e = inr e
 set_cases (z ∷ xs) (suc k) zero x y e = inr e
 set_cases (z ∷ xs) (suc k) (suc j) x y e = ⊎_elim (λ h. inl (ap suc h.0, h.1)) (λ h. inr h) (set_cases xs k j x y e)
 
+set_other : {X : Type 0} (xs : List X) (k j : ℕ) (x y : X) → slice_get xs j ≡ Some y → j ≢ k → slice_get (set xs k x) j ≡ Some y
+set_other [] k j x y e ne = absurd cc
+set_other (z ∷ xs) zero zero x y e ne = absurd (ne refl)
+set_other (z ∷ xs) zero (suc j) x y e ne = e
+set_other (z ∷ xs) (suc k) zero x y e ne = e
+set_other (z ∷ xs) (suc k) (suc j) x y e ne = set_other xs k j x y e (λ q. ne (ap suc q))
+
 -- the names with that of one witness more
-names_more : (found listed more : List Witness) (keys : List (List ℕ)) (names : List (Option ℕ)) (p i : ℕ)
-    (x : Witness) → AreNames found listed names → slice_get found p ≡ Some x → IsWitnessNumber keys listed more x i
-    → AreNames found more (set names p (Some i))
-names_more found listed more keys names p i x before at number = record {
+names_more : (found listed more : List Witness) (names : List (Option ℕ)) (p i : ℕ) (x : Witness)
+    → AreNames found listed names → slice_get found p ≡ Some x → ((n : ℕ) → slice_get names p ≡ Some (Some n) → ⊥)
+    → more ≡ listed ++ x ∷ [] → i ≡ length listed → AreNames found more (set names p (Some i))
+names_more found listed more names p i x before at none is last = record {
   size = length-set names p (Some i) ∙ before.size;
   each = λ q j named. ⊎_elim {C = (y : Witness) × (slice_get found q ≡ Some y) × (slice_get more j ≡ Some y)}
       (λ h. (
         x,
         ap (slice_get found) h.0 ∙ at,
-        subst (λ n. slice_get more n ≡ Some x) (from_some h.1) number.at,
+        ap (slice_get more) (sym (from_some h.1) ∙ last) ∙ ap (λ ws. slice_get ws (length listed)) is ∙ push_end listed x,
       ))
-      (λ h. let (y, there, listed_at) = before.each q j h in (y, there, kept j y listed_at))
+      (λ h. let (y, there, listed_at) = before.each q j h in (y, there, ap (λ ws. slice_get ws j) is ∙ push_front listed x y j listed_at))
       (set_cases names p q (Some i) (Some j) named);
+  all = λ j lt. ⊎_elim {C = (q : ℕ) × (slice_get (set names p (Some i)) q ≡ Some (Some j))}
+      (λ less. let (q, named) = before.all j less in (q, set_other names p q (Some i) (Some j) named (λ e. none j (ap (slice_get names) (sym e) ∙ named))))
+      (λ e. (p, set_here names p (Some i) within ∙ ap (λ n. Some (Some n)) (last ∙ sym e)))
+      (lt_one_more_cases j (length listed) (let long = ap length is ∙ length-append listed (x ∷ []) in omega (arith, lt, long)));
 }
   where
-    kept : (k : ℕ) (y : Witness) → slice_get listed k ≡ Some y → slice_get more k ≡ Some y
-    kept k y there = ⊎_elim {C = slice_get more k ≡ Some y}
-        (λ same. subst (λ ws. slice_get ws k ≡ Some y) (sym same.0) there)
-        (λ new. subst (λ ws. slice_get ws k ≡ Some y) (sym new.0) (push_front listed x y k there))
-        number.which
+    within : p < length names
+    within = let lt = place_within found p x at in omega (arith, lt, before.size)
 
 pub returns-clause-names : goal.returns-clause-names
 returns-clause-names c =
     let found = c.args.found.now in
-    let x = c.in_ok-witness.witness in
+    let names = c.args.listing.now.names.items in
+    let x : Witness = c.in_ok-copy_of.field-0 in
     let r = c.index-found-p.result in
-    let at : slice_get found c.args.p ≡ Some x =
-    slice_get-get_or found c.args.p r c.requires.place
-    ∙ ap Some (sym (c.in_ok-witness.ensures ∙ c.index-found-p.is)) in
-    names_more found c.args.witnesses.now.items c.number_witness.new.witnesses.items _ c.args.names.now.items c.args.p
-    c.in_ok-number.number x c.requires.names at c.in_ok-number.ensures
+    let at : slice_get found c.args.p ≡ Some x = slice_get-get_or found c.args.p r c.requires.place ∙ ap Some (sym (c.in_ok-copy_of.ensures ∙ c.index-found-p.is)) in
+    let there : slice_get names c.args.p ≡ Some c.index.result.now = place_is names c.args.p c.index.result.now (let same = c.requires.names.size in let lt = c.requires.place in omega (arith, same, lt)) c.index.ensures in
+    names_more found c.args.listing.now.witnesses.items c.push.new.self.items names c.args.p c.len-number.result x c.requires.names at
+    (λ n named. c.in_default.not-Some n (from_some (sym there ∙ named))) c.in_ok-push.ensures.items (omega (arith, c.len-number.ensures))
 
 pub returns-clause-number : goal.returns-clause-number
 returns-clause-number c witness named =
     let found = c.args.found.now in
-    let x = c.in_ok-witness.witness in
+    let listed = c.args.listing.now.witnesses.items in
+    let x : Witness = c.in_ok-copy_of.field-0 in
     let r = c.index-found-p.result in
-    let at : slice_get found c.args.p ≡ Some x =
-    slice_get-get_or found c.args.p r c.requires.place
-    ∙ ap Some (sym (c.in_ok-witness.ensures ∙ c.index-found-p.is)) in
-    subst (λ y. IsWitnessNumber (map (λ v. v.items) c.number_witness.new.keys.keys) c.args.witnesses.now.items
-    c.number_witness.new.witnesses.items y c.in_ok-number.number) (from_some (sym at ∙ named)) c.in_ok-number.ensures
+    let at : slice_get found c.args.p ≡ Some x = slice_get-get_or found c.args.p r c.requires.place ∙ ap Some (sym (c.in_ok-copy_of.ensures ∙ c.index-found-p.is)) in
+    let last : c.len-number.result ≡ length listed = omega (arith, c.len-number.ensures) in
+    subst (λ y. IsWitnessNumber listed c.push.new.self.items y c.len-number.result) (from_some (sym at ∙ named)) (record {
+      which = inr (c.in_ok-push.ensures.items, last);
+      at = ap (slice_get c.push.new.self.items) last ∙ ap (λ ws. slice_get ws (length listed)) c.in_ok-push.ensures.items ∙ push_end listed x;
+    })

@@ -1,4 +1,4 @@
-use Rattle.std.proofs.Common.{arith, map, refl}
+use Rattle.std.proofs.Common.{◌∙◌, ◌++◌, ◌∷◌, [], ap, arith, refl}
 use Rattle.std.proofs.lemmas.Option.{slice_get_within}
 use Rattle.staat_certify.proofs.LineLemmas.{line_pushed, listed_more, number_small}
 use Rattle.staat_certify.proofs.listing.push_dir.Goals as goal
@@ -10,7 +10,7 @@ pub overflow_cast-number : goal.overflow_cast-number
 overflow_cast-number c =
     let named = c.requires.named in
     let of = c.in_ok-number.ensures.number named.witness named.witness_is in
-    let le = number_small c.args.sound.now c.args.table.now.of (map (λ v. v.items) c.args.listing.now.keys.keys) (map (λ v. v.items) c.name_of.new.keys.keys) c.args.listing.now.witnesses.items c.name_of.new.witnesses.items named.witness c.in_ok-number.number of in
+    let le = number_small c.args.sound.now c.args.table.now.of c.args.listing.now.witnesses.items c.name_of.new.listing.witnesses.items named.witness c.in_ok-number.number of in
     let few = c.requires.listed.few in
     let room = c.requires.room in
     omega (arith, le, few, room)
@@ -20,8 +20,9 @@ returns-clause-listed c =
     let listing = c.args.listing.now in
     let named = c.requires.named in
     let of = c.in_ok-number.ensures.number named.witness named.witness_is in
-    listed_more c.args.sound.now c.args.table.now.of (map (λ v. v.items) listing.keys.keys) (map (λ v. v.items) c.name_of.new.keys.keys) listing.witnesses.items c.name_of.new.witnesses.items
-    named.witness c.in_ok-number.number of listing.dirs.items c.push.new.self.items c.args.visit.d c.requires.listed named.is c.in_ok-push.ensures.items
+    listed_more c.args.sound.now c.args.table.now.of listing.witnesses.items c.name_of.new.listing.witnesses.items
+    named.witness c.in_ok-number.number of listing.dirs.items c.push.new.self.items c.args.visit.d c.requires.listed named.is (c.in_ok-push.ensures.items ∙ ap (λ v. v.items ++ (record { d = c.args.visit.d; witness = c.in_ok-number.number }) ∷ []) c.in_ok-number.ensures.dirs)
 
 pub returns-clause-line : goal.returns-clause-line
-returns-clause-line c = line_pushed c.args.listing.now.dirs.items c.push.new.self.items c.args.visit.d c.args.visit.d c.in_ok-number.number c.in_ok-push.ensures.items refl
+returns-clause-line c = line_pushed c.args.listing.now.dirs.items c.push.new.self.items c.args.visit.d c.args.visit.d c.in_ok-number.number
+    (c.in_ok-push.ensures.items ∙ ap (λ v. v.items ++ (record { d = c.args.visit.d; witness = c.in_ok-number.number }) ∷ []) c.in_ok-number.ensures.dirs) refl

@@ -4,7 +4,7 @@ use Rattle.staat_model.specs.Plans.{IsGood, plan_of}
 use Rattle.staat_model.specs.Sets.{below}
 use Rattle.staat_certify.proofs.NodeLemmas.{from_nothing}
 use Rattle.staat_certify.proofs.PlanForms.{part_numbers}
-use Rattle.staat_certify.proofs.nodes.certificate_nodes.Goals as goal
+use Rattle.staat_certify.proofs.nodes.plan_body.Goals as goal
 use Rattle.staat_model.proofs.LeavingLemmas.{good_parts}
 
 pub push_nodes-requires-clause-parts : goal.push_nodes-requires-clause-parts
@@ -17,6 +17,6 @@ push_nodes-requires-clause-good g c =
     subst (λ (w : PartSet). IsGood parts w plan) (good_parts parts (below (length parts)) plan c.requires.good) c.requires.good
 
 pub returns : goal.returns
-returns g c =
+returns g c version marks =
     from_nothing c.args.assembly.now (plan_of c.args.tree.now) _ _ _ c.new-nodes.ensures.items
     c.in_ok-push_nodes.ensures c.from_vec.ensures

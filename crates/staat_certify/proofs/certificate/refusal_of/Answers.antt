@@ -1,12 +1,14 @@
-use Rattle.std.proofs.Common.{arith, length, subst}
+use Rattle.std.proofs.Common.{arith, length, subst, sym}
+use Rattle.std.specs.Prelude.{IfOk}
+use Rattle.staat_model.specs.Certify.{IsBodyOf}
+use Rattle.staat_model.specs.Outcomes.{stuck}
+use Rattle.staat_model.specs.Plans.{IsStuck}
 use Rattle.staat_model.proofs.SetBits.{has-below}
 use Rattle.staat_model.proofs.StuckSets.{stuck_exists}
 use Rattle.staat_planes.specs.Refusals.{IsPlanesRefusal, IsTableWithin}
-use Rattle.staat_certify.specs.Visits.{visited_directions}
 use Rattle.staat_certify.proofs.CertificateLemmas.{none_refused}
-use Rattle.staat_certify.proofs.ListedLemmas.{few_visits, listed_end, planes_of}
 use Rattle.staat_certify.proofs.SomeMember.{some_member}
-use Rattle.staat_certify.proofs.certificate.refusal_lines.Goals as goal
+use Rattle.staat_certify.proofs.certificate.refusal_of.Goals as goal
 
 pub tabulate-requires-clause-some : goal.tabulate-requires-clause-some
 tabulate-requires-clause-some g c = some_member c.args.w (let two = c.requires.stuck.two in omega (arith, two))
@@ -17,14 +19,16 @@ tabulate-requires-clause-parts g c = λ p h. (has-below (length c.args.sound.now
 pub unreachable-requires : goal.unreachable-requires
 unreachable-requires g c = none_refused c.args.sound.now c.args.w 1024 c.in-Err-TooManyPlanes.field-0-0 c.requires.few (subst (IsPlanesRefusal c.args.sound.now c.args.w 1024) c.in-Err-TooManyPlanes.field-0-is c.in-Err-TooManyPlanes.ensures)
 
-pub listing_of-requires-clause-few : goal.listing_of-requires-clause-few
-listing_of-requires-clause-few g c =
+pub refusal_at-requires : goal.refusal_at-requires
+refusal_at-requires g c =
     let within : IsTableWithin c.args.sound.now c.args.w 1024 c.in-Ok.table = c.in-Ok.ensures in
-    few_visits c.args.version c.in-Ok.table.planes c.in_ok-found.found.visited.items within.few c.in_ok-found.ensures.lists
+    record {
+      made = within.table.made;
+      few = within.few;
+      stuck = subst (IsStuck c.args.sound.now) (sym within.table.set) c.requires.stuck;
+    }
 
-pub returns : goal.returns
-returns g c =
-    let parts = c.args.sound.now in
-    let within : IsTableWithin parts c.args.w 1024 c.in-Ok.table = c.in-Ok.ensures in
-    listed_end parts c.args.version c.args.w c.in-Ok.table.of c.in-Ok.table.planes (visited_directions c.in_ok-found.found.visited.items) c.listing_of.result within.table.set
-    (planes_of parts c.args.w 1024 c.in-Ok.table within) c.in_ok-found.ensures.lists c.listing_of.ensures.listed c.listing_of.ensures.lines
+pub returns-in-Ok : goal.returns-in-Ok
+returns-in-Ok g c =
+    let within : IsTableWithin c.args.sound.now c.args.w 1024 c.in-Ok.table = c.in-Ok.ensures in
+    subst (λ v. IfOk c.refusal_at.result (IsBodyOf c.args.sound.now c.args.version (stuck v))) within.table.set c.refusal_at.ensures
