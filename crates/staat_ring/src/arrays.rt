@@ -1,13 +1,12 @@
 // The arrays of all rings.
 ghost use Rattle.std.specs.Prelude.{◌≡◌, ◌≢◌, ℕ, ◌+◌, ◌<◌, ◌≤◌, ◌^◌, IfOk};
-ghost use Rattle.std.specs.Prelude.{List, length, map, slice_index};
+ghost use Rattle.std.specs.Prelude.{List, length, slice_index};
 ghost use Rattle.staat_ring.specs.Links.{take, give, take_all, give_all};
 ghost use Rattle.staat_ring.specs.Stands.{IsShortRing};
 ghost use Rattle.staat_ring.specs.Within.{InRange};
 ghost use Rattle.staat_ring.specs.Planes.{entries_of};
 ghost use Rattle.staat_ring.specs.Linking.{AreSized, CanBeLinked, HoldsCircle, IsAlone, IsKeptAt};
 ghost use Rattle.staat_ring.specs.Numbered.{circle_of_node, entry_count, entry_of_plane, head_number, ring_node_count};
-ghost use Rattle.staat_ring.specs.Numbered.{node_number};
 
 use crate::circle::Through;
 use crate::linking::link_stops;
@@ -177,9 +176,9 @@ impl RingArrays {
         ensures home { IfOk result (λ a. (x : ℕ) → x < ring_node_count planes → slice_index a.home x ≡ x) }
     {
         let count = 4 * (planes * planes);
+        let home = counted(alloc, count)?;
         let circles = NodeLinks::alone(alloc, count)?;
         let vertices = NodeLinks::alone(alloc, count)?;
-        let home = counted(alloc, count)?;
         Ok(RingArrays {
             circles,
             vertices,
@@ -188,12 +187,11 @@ impl RingArrays {
     }
 
     /// Links the circle `c`, whose nodes stand alone, to these stops.
-    pub fn link_circle(&mut self, planes: u32, c: u32, nodes: &[u32], stops: &[Through])
+    pub fn link_circle(&mut self, planes: u32, c: u32, stops: &[Through])
         requires planes { planes ≤ MOST_PLANES }
         requires circle { c < planes }
         requires sizes { AreSized planes self.old }
         requires stops { CanBeLinked planes c stops.now }
-        requires nodes { nodes.now ≡ map (node_number planes c) stops.now }
         requires alone { (x : ℕ) → x < ring_node_count planes → circle_of_node planes x ≡ c
             → IsAlone self.old x }
         ensures sizes { AreSized planes self.new }
@@ -202,7 +200,7 @@ impl RingArrays {
         ensures home { (x : ℕ) → entry_count planes ≤ x
             → slice_index self.new.home x ≡ slice_index self.old.home x }
     {
-        self.circles.link(head_of(planes, c), nodes);
+        self.circles.link(head_of(planes, c), planes, c, stops);
         link_stops(&mut self.vertices, &mut self.home, planes, c, stops);
     }
 }

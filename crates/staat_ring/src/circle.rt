@@ -186,6 +186,5 @@ pub fn circle_of(alloc: Global, table: &PlaneTable, c: u32) -> Result<Vec<Throug
     let _axis = table.plane(axis_beside(c));
     let half = half_circle(alloc, table, c)?;
     let slots = all_filled(alloc, table, c, half.as_slice())?;
-    let circle = both_halves(alloc, slots)?;
-    Ok(circle)
+    both_halves(alloc, slots)
 }

@@ -85,7 +85,5 @@ pub fn half_circle(alloc: Global, table: &PlaneTable, c: u32) -> Result<Vec<V3>,
     let axis = table.plane(axis_beside(c));
     let ahead = all_ahead(alloc, table, g, axis)?;
     let ordered = in_order(alloc, g, axis, ahead.as_slice())?;
-    let mut half = half_of(alloc, g, ordered.as_slice())?;
-    half.insert(0, axis)?;
-    Ok(half)
+    half_of(alloc, g, axis, ordered.as_slice())
 }

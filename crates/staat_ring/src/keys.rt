@@ -72,6 +72,5 @@ pub fn in_order(alloc: Global, g: V3, axis: V3, hs: &[V3]) -> Result<Vec<V3>, Ou
     ensures { IfOk result (λ v. (h : Vector) → Contains v.items h ↔ Contains hs.now h) }
 {
     let keys = sorted(keys_of(alloc, g, axis, hs)?);
-    let normals = picked(alloc, hs, keys.as_slice())?;
-    Ok(normals)
+    picked(alloc, hs, keys.as_slice())
 }

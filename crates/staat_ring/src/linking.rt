@@ -1,6 +1,5 @@
 // The rings of a circle and of its stops, linked to their nodes.
-ghost use Rattle.std.specs.Prelude.{◌≡◌, ℕ, ◌<◌, ◌≤◌, ◌∷◌, [], All, IfOk, length};
-ghost use Rattle.std.specs.Prelude.{map};
+ghost use Rattle.std.specs.Prelude.{◌≡◌, ℕ, ◌<◌, ◌≤◌, ◌∷◌, [], All, length, map};
 ghost use Rattle.staat_ring.specs.Links.{Apart, Distinct, IsLinkedRing};
 ghost use Rattle.staat_ring.specs.Numbered.{entry_numbers, ring_node_count, node_number};
 ghost use Rattle.staat_ring.specs.Linking.{AreHomedAt, AreLinked, AreStopsLinked, CanBeLinked, IsSameAt, rows_of};
@@ -9,44 +8,27 @@ use crate::circle::Through;
 use crate::entry::{Entry, node_of, number_of_entry};
 use crate::nodes::NodeLinks;
 use staat_limits::MOST_PLANES;
-use staat_vec::OutOfMemory;
-use std::alloc::Global;
 
 impl NodeLinks {
-    /// Links a head that stands alone and these nodes to a ring, in their order.
-    pub fn link(&mut self, head: u32, nodes: &[u32])
+    /// Links a head that stands alone and the nodes of the stops of the circle `c` to a ring, in their order.
+    pub fn link(&mut self, head: u32, planes: u32, c: u32, stops: &[Through])
+        requires planes { planes ≤ MOST_PLANES }
+        requires circle { c < planes }
+        requires stops { CanBeLinked planes c stops.now }
         requires head { head < length self.old.next }
-        requires nodes { All (λ x. x < length self.old.next) nodes.now }
-        requires distinct { Distinct (head ∷ nodes.now) }
+        requires nodes { All (λ x. x < length self.old.next) (map (node_number planes c) stops.now) }
+        requires distinct { Distinct (head ∷ map (node_number planes c) stops.now) }
         requires alone { IsLinkedRing self.old head [] }
-        ensures ring { IsLinkedRing self.new head nodes.now }
-        ensures others { (y : ℕ) → Apart y (head ∷ nodes.now) → IsSameAt self.old self.new y }
+        ensures ring { IsLinkedRing self.new head (map (node_number planes c) stops.now) }
+        ensures others { (y : ℕ) → Apart y (head ∷ map (node_number planes c) stops.now)
+            → IsSameAt self.old self.new y }
         ensures length { length self.new.next ≡ length self.old.next }
     {
         self.sizes();
-        for x in nodes {
-            self.append(head, *x);
+        for stop in stops {
+            self.append(head, node_of(planes, c, stop.entries()));
         }
     }
-}
-
-/// The nodes of the stops of the circle `c`.
-pub fn nodes_of(
-    alloc: Global,
-    planes: u32,
-    c: u32,
-    stops: &[Through],
-) -> Result<Vec<u32>, OutOfMemory>
-    requires planes { planes ≤ MOST_PLANES }
-    requires circle { c < planes }
-    requires stops { CanBeLinked planes c stops.now }
-    ensures { IfOk result (λ v. v.items ≡ map (node_number planes c) stops.now) }
-{
-    let mut nodes = Vec::new(alloc);
-    for stop in stops {
-        nodes.push(node_of(planes, c, stop.entries()))?;
-    }
-    Ok(nodes)
 }
 
 // links the entries of a stop to a ring, whose head is the node `v`, their home

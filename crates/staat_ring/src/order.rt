@@ -1,5 +1,6 @@
 // The order of crossings on a half circle.
-ghost use Rattle.std.specs.Prelude.{◌≡◌, ℕ, All, Bool, IfOk, OnOk, if◌then◌else◌};
+ghost use Rattle.std.specs.Prelude.{◌≡◌, ◌∷◌, ℕ, All, Bool, IfOk, List, OnOk, if◌then◌else◌};
+ghost use Rattle.staat_vec.specs.declared.vector.V3.{V3 as Vector};
 ghost use Rattle.staat_vec.specs.declared.vector.Sign.TheVariants.{Neg, Pos, Zero};
 ghost use Rattle.staat_vec.specs.Vectors.{IsWithin};
 ghost use Rattle.std.specs.List.{insert};
@@ -42,15 +43,16 @@ pub fn insert(g: V3, hs: &mut Vec<V3>, h: V3) -> Result<(), OutOfMemory>
     Ok(())
 }
 
-/// Puts the normals at their places, one after another.
-pub fn half_of(alloc: Global, g: V3, hs: &[V3]) -> Result<Vec<V3>, OutOfMemory>
+/// Puts the normals at their places, one after another, and the axis before all of them.
+pub fn half_of(alloc: Global, g: V3, axis: V3, hs: &[V3]) -> Result<Vec<V3>, OutOfMemory>
     requires g { IsWithin NORMAL g }
     requires hs { All (IsWithin NORMAL) hs.now }
-    ensures { IfOk result (λ v. IsHalfOf g hs.now v.items) }
+    ensures { IfOk result (λ v. (half : List Vector) × IsHalfOf g hs.now half × (v.items ≡ axis ∷ half)) }
 {
     let mut half = Vec::new(alloc);
     for h in hs {
         insert(g, &mut half, *h)?;
     }
+    half.insert(0, axis)?;
     Ok(half)
 }

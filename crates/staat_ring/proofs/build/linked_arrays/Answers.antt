@@ -1,5 +1,5 @@
-use Rattle.std.proofs.Common.{◌<◌, subst, length, ◌≡◌, ◌∙◌, ℕ, ap, arith, map, sym}
-use Rattle.staat_ring.specs.Numbered.{circle_of_node, node_number, ring_node_count}
+use Rattle.std.proofs.Common.{◌<◌, subst, length, ◌≡◌, ℕ, arith, sym}
+use Rattle.staat_ring.specs.Numbered.{circle_of_node, ring_node_count}
 use Rattle.staat_ring.specs.RingViews.{numbers_below}
 use Rattle.staat_ring.proofs.Built.{below_all}
 use Rattle.staat_ring.proofs.CircleSteps.{next_can, next_linked, none_below}
@@ -8,24 +8,18 @@ use Rattle.std.proofs.lemmas.Result.{err_from_is_err_and}
 use Rattle.staat_ring.specs.Linking.{AreLinkedBelow, AreSized, IsAlone}
 use Rattle.staat_ring.proofs.build.linked_arrays.Goals as goal
 
-pub nodes_of-requires-clause-stops : goal.nodes_of-requires-clause-stops
-nodes_of-requires-clause-stops c =
-    let planes = c.args.table.now.planes in
-    let lc = subst (λ n. c.loop-c.c < n) c.len-planes.ensures.is c.loop-c-test.true in
-    next_can planes c.len-planes.ensures.rules.planes c.loop-c.c lc c.in_ok-stops.stops.items (c.in_ok-stops.ensures (numbers_below (length planes)) (λ j lt. below_all (length planes) j lt)) c.len-planes.result c.len-planes.ensures.is c.as_slice.result.now c.as_slice.ensures.value
-
 pub link_circle-requires-clause-stops : goal.link_circle-requires-clause-stops
 link_circle-requires-clause-stops c =
     let planes = c.args.table.now.planes in
     let lc = subst (λ n. c.loop-c.c < n) c.len-planes.ensures.is c.loop-c-test.true in
-    next_can planes c.len-planes.ensures.rules.planes c.loop-c.c lc c.in_ok-stops.stops.items (c.in_ok-stops.ensures (numbers_below (length planes)) (λ j lt. below_all (length planes) j lt)) c.len-planes.result c.len-planes.ensures.is c.as_slice-in-loop-c-2.result.now c.as_slice-in-loop-c-2.ensures.value
+    next_can planes c.len-planes.ensures.rules.planes c.loop-c.c lc c.in_ok-stops.stops.items (c.in_ok-stops.ensures (numbers_below (length planes)) (λ j lt. below_all (length planes) j lt)) c.len-planes.result c.len-planes.ensures.is c.as_slice.result.now c.as_slice.ensures.value
 
 pub loop-c-preserved : goal.loop-c-preserved
 loop-c-preserved c =
     let planes = c.args.table.now.planes in
     let lc = subst (λ n. c.loop-c.c < n) c.len-planes.ensures.is c.loop-c-test.true in
     record {
-      below = next_linked planes c.len-planes.ensures.rules.planes c.loop-c.c lc c.in_ok-stops.stops.items (c.in_ok-stops.ensures (numbers_below (length planes)) (λ j lt. below_all (length planes) j lt)) c.len-planes.result c.len-planes.ensures.is c.as_slice-in-loop-c-2.result.now c.as_slice-in-loop-c-2.ensures.value c.loop-c.arrays c.link_circle.new.self c.loop-c.invariant.below c.link_circle.ensures.sizes c.link_circle.ensures.holds c.link_circle.ensures.others c.link_circle.ensures.home;
+      below = next_linked planes c.len-planes.ensures.rules.planes c.loop-c.c lc c.in_ok-stops.stops.items (c.in_ok-stops.ensures (numbers_below (length planes)) (λ j lt. below_all (length planes) j lt)) c.len-planes.result c.len-planes.ensures.is c.as_slice.result.now c.as_slice.ensures.value c.loop-c.arrays c.link_circle.new.self c.loop-c.invariant.below c.link_circle.ensures.sizes c.link_circle.ensures.holds c.link_circle.ensures.others c.link_circle.ensures.home;
     }
 
 pub loop-c-init : goal.loop-c-init
@@ -56,16 +50,6 @@ returns-in_err-stops c =
     let p = err_from_is_err_and c.from_residual-in_err-stops.result c.from_residual-in_err-stops.ensures.1 in
     rw p.1 tt
 
-pub returns-in_err-nodes : goal.returns-in_err-nodes
-returns-in_err-nodes c =
-    let p = err_from_is_err_and c.from_residual-in_err-nodes.result c.from_residual-in_err-nodes.ensures.1 in
-    rw p.1 tt
-
-pub link_circle-requires-clause-nodes : goal.link_circle-requires-clause-nodes
-link_circle-requires-clause-nodes c =
-    c.as_slice-in-loop-c.ensures.value ∙ c.in_ok-nodes.ensures
-    ∙ ap (map (node_number c.len-planes.result c.loop-c.c)) (c.as_slice.ensures.value ∙ sym c.as_slice-in-loop-c-2.ensures.value)
-
 pub link_circle-requires-clause-alone : goal.link_circle-requires-clause-alone
 link_circle-requires-clause-alone c =
     let arrays = c.loop-c.arrays in
@@ -80,6 +64,3 @@ link_circle-requires-clause-sizes c = subst (λ n. AreSized n c.loop-c.arrays) (
 
 pub link_circle-requires-clause-planes : goal.link_circle-requires-clause-planes
 link_circle-requires-clause-planes c = c.len-planes.ensures.most
-
-pub nodes_of-requires-clause-circle : goal.nodes_of-requires-clause-circle
-nodes_of-requires-clause-circle c = c.loop-c-test.true

@@ -64,3 +64,15 @@ pub axis_number-requires : goal.axis_number-requires
 axis_number-requires c =
     let rules = c.planes-planes.ensures.rules in
     let lt = few_axes c.planes-planes.result.now rules.others 2 rules.is (omega arith) in lt
+
+pub overflow_cast-result : goal.overflow_cast-result
+overflow_cast-result c =
+    let lt = slice_get_within c.planes_from.result.now c.place_among.result c.args.n c.place_among.ensures in
+    let most = c.planes-planes.ensures.most in
+    omega (arith, lt, ap length c.planes_from.ensures, length-drop 3 c.planes-planes.result.now, most)
+
+pub overflow_add-result : goal.overflow_add-result
+overflow_add-result c =
+    let lt = slice_get_within c.planes_from.result.now c.place_among.result c.args.n c.place_among.ensures in
+    let most = c.planes-planes.ensures.most in
+    omega (arith, lt, ap length c.planes_from.ensures, length-drop 3 c.planes-planes.result.now, most)
