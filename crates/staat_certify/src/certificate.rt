@@ -6,11 +6,12 @@ ghost use Rattle.staat_model.specs.Outcomes.{finding_of, stuck};
 ghost use Rattle.staat_model.specs.Plans.{IsStuck};
 ghost use Rattle.staat_model.specs.Texts.{IsWellFormed};
 ghost use Rattle.staat_pairs.specs.Tables.{WasMadeFrom};
+ghost use Rattle.staat_certify.specs.Visits.{HasFound};
 ghost use Rattle.staat_certify.specs.Certifying.{CanBeCertified, HasFewPlanes, IsValidFor};
 
 use crate::listing::listing_of;
 use crate::nodes::plan_body;
-use crate::visits::{Found, visit_all};
+use crate::visits::{Found, sort_visits, visit_all};
 use staat_cone::FacetSource;
 use staat_limits::MOST_PLANES;
 use staat_model::{Body, Certificate, Outcome, PartSet, Sound};
@@ -20,21 +21,23 @@ use std::alloc::Global;
 use std::marker::Brand;
 use std::sync::ledger::Blank;
 
-// what the certificate says of a set that is stuck, with the table of its planes
+// what the certificate says of a set that is stuck, with the table of its planes, where nothing is found yet
 fn refusal_at(
     alloc: Global,
     sound: &Sound,
     table: &PlaneTable,
     version: u32,
+    found: &mut Found,
 ) -> Result<Body, OutOfMemory>
     requires made { WasMadeFrom sound.now table.now }
     requires few { length table.now.planes ≤ MOST_PLANES }
     requires stuck { IsStuck sound.now table.now.of }
+    requires found { HasFound sound.now table.now version found.old }
     ensures { IfOk result (IsBodyOf sound.now version (stuck table.now.of)) }
 {
-    let mut found = Found::none(alloc);
-    visit_all::<Brand>(alloc, sound, table, version, Blank::new(1), &mut found)?;
-    listing_of(alloc, sound, table, &found)
+    visit_all::<Brand>(alloc, sound, table, version, Blank::new(1), found)?;
+    sort_visits(&mut found.visited);
+    listing_of(alloc, sound, table, found)
 }
 
 // the same with the set alone
@@ -50,7 +53,10 @@ fn refusal_of<F: FacetSource>(
     ensures { IfOk result (IsBodyOf sound.now version (stuck w)) }
 {
     match tabulate(alloc, source, sound, w, MOST_PLANES) {
-        Ok(table) => refusal_at(alloc, sound, &table, version),
+        Ok(table) => {
+            let mut found = Found::none(alloc);
+            refusal_at(alloc, sound, &table, version, &mut found)
+        }
         Err(PlanesRefusal::OutOfMemory) => Err(OutOfMemory),
         Err(PlanesRefusal::TooManyPlanes(_)) => unreachable!(),
     }

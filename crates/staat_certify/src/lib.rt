@@ -6,7 +6,6 @@ mod certificate;
 pub mod laws;
 mod listing;
 mod nodes;
-mod numbers;
 mod visits;
 mod walls;
 mod witnesses;

@@ -20,7 +20,6 @@ ghost use Rattle.staat_certify.specs.WitnessListings.{IsWitnessNumber};
 ghost use Rattle.staat_certify.specs.WitnessListings.{key_of, key_numbers};
 ghost use Rattle.staat_certify.specs.Visits.{IsNamed, visited_directions};
 
-use crate::numbers::number_of_key;
 use crate::visits::{Found, Visit};
 use indexmap::IndexSet;
 use staat_limits::LIST_LIMIT;
@@ -69,7 +68,7 @@ pub fn number_witness(
     ensures number { IfOk result (IsWitnessNumber witnesses.old.items witnesses.new.items witness) }
 {
     let key = key_of(alloc, &witness)?;
-    let number = number_of_key(keys, key)?;
+    let (number, _) = keys.insert_full(key)?;
     if number == witnesses.len() {
         witnesses.push(witness)?;
     }

@@ -8,9 +8,9 @@ ghost use Rattle.staat_model.specs.Sets.{below};
 ghost use Rattle.staat_certify.specs.Plans.{AreWithin};
 ghost use Rattle.staat_certify.specs.Plans.{AddsNodes, HasPartNumbers};
 
-use crate::walls::walls;
+use crate::walls::push_split;
 use staat_cone::FacetSource;
-use staat_model::{Assembly, Body, Node, Nodes, PartSet, Seps, Tree};
+use staat_model::{Assembly, Body, Node, Nodes, PartSet, Tree};
 use staat_vec::{DIRECTION, OutOfMemory};
 use std::alloc::Global;
 
@@ -44,16 +44,15 @@ fn push_nodes<F: FacetSource>(
             Ok(())
         }
         Tree::Split { d, moved, rest } => {
-            let seps = walls(
+            push_split(
                 alloc,
                 source,
                 assembly,
                 leaves_of(moved),
                 leaves_of(rest),
                 *d,
+                nodes,
             )?;
-            let seps = Seps::from_vec(seps);
-            nodes.push(Node::Split { d: *d, seps })?;
             push_nodes(alloc, source, assembly, moved, nodes)?;
             push_nodes(alloc, source, assembly, rest, nodes)
         }

@@ -14,9 +14,9 @@ ghost use Rattle.std.specs.Prelude.{
   length,
   map,
 };
-ghost use Rattle.staat_vec.specs.Lists.{Lists};
+ghost use Rattle.staat_vec.specs.declared.vector.V3.{V3 as Vector};
 ghost use Rattle.staat_vec.specs.Primitives.{IsCanon};
-ghost use Rattle.staat_vec.specs.Vectors.{vector_cmp, origin};
+ghost use Rattle.staat_vec.specs.Vectors.{origin};
 ghost use Rattle.staat_model.specs.Certify.{IsDirection, NamesWitness};
 ghost use Rattle.staat_model.specs.Planes.{vertices};
 ghost use Rattle.staat_model.specs.Plans.{IsStuck};
@@ -244,48 +244,35 @@ fn go_round(
     Ok(())
 }
 
-// visits the vertices of all circles, where all are linked
+// visits the vertices of all circles
 fn go_round_all<L: Ledger>(
     alloc: Global,
     sound: &Sound,
     table: &PlaneTable,
     version: u32,
     rings: &Rings,
-    blank: Blank,
+    walk: &mut Walk,
+    steps: &mut Steps<L>,
     found: &mut Found,
 ) -> Result<(), OutOfMemory>
     requires made { WasMadeFrom sound.now table.now }
     requires stuck { IsStuck sound.now table.now.of }
     requires rings { WereMadeFrom table.now.planes rings.now }
     requires all { rings.now.unlinked ≡ [] }
-    requires name { blank.name ≡ L.name }
-    requires parts { blank.parts ≡ L.parts }
-    requires some { 0 < blank.parts }
+    requires signs { WalkWasMadeFrom table.now walk.old }
     requires found { HasFound sound.now table.now version found.old }
     ensures found { OnOk result (HasFound sound.now table.now version found.new) }
     ensures below { OnOk result (AreVisitedBelow table.now.planes rings.now.rings version
         found.new.visited.items (length table.now.planes)) }
 {
-    let mut steps = Steps::<L>::new(blank);
-    let mut walk = Walk::new(alloc, table)?;
     for circle in 0..table.len() {
-        walk.enter(table, rings, circle, &mut steps);
-        go_round(
-            alloc, sound, table, version, rings, circle, &mut walk, found,
-        )?;
+        walk.enter(table, rings, circle, steps);
+        go_round(alloc, sound, table, version, rings, circle, walk, found)?;
     }
     Ok(())
 }
 
-// puts the visits in the order of their directions, and keeps one of each
-fn sort_visits(visited: &mut Vec<Visit>)
-    ensures { SortsVisits visited.old.items visited.new.items }
-{
-    visited.sort_unstable_by_key(|visit| visit.d);
-    visited.dedup_by_key(|visit| visit.d);
-}
-
-/// Visits the directions of the version, which are kept ascending and each once, with their witnesses.
+/// Visits all directions of the version, with their witnesses.
 ///
 /// Each vertex is visited on the circle of the least plane through it. Of its witness only the arcs are looked at that
 /// make it another one than at the vertex before; no blocking graph is counted from the facets.
@@ -304,12 +291,22 @@ pub fn visit_all<L: Ledger>(
     requires some { 0 < blank.parts }
     requires found { HasFound sound.now table.now version found.old }
     ensures found { OnOk result (HasFound sound.now table.now version found.new) }
-    ensures lists { OnOk result (Lists vector_cmp (IsDirection version table.now.planes)
-        (visited_directions found.new.visited.items)) }
+    ensures all { OnOk result ((d : Vector) → IsDirection version table.now.planes d
+        → Contains (visited_directions found.new.visited.items) d) }
 {
     let _set = table.set();
+    let mut steps = Steps::<L>::new(blank);
     let rings = Rings::build(alloc, table)?;
-    go_round_all::<L>(alloc, sound, table, version, &rings, blank, found)?;
-    sort_visits(&mut found.visited);
-    Ok(())
+    let mut walk = Walk::new(alloc, table)?;
+    go_round_all(
+        alloc, sound, table, version, &rings, &mut walk, &mut steps, found,
+    )
+}
+
+/// Puts the visits in the order of their directions, and keeps one of each.
+pub fn sort_visits(visited: &mut Vec<Visit>)
+    ensures { SortsVisits visited.old.items visited.new.items }
+{
+    visited.sort_unstable_by_key(|visit| visit.d);
+    visited.dedup_by_key(|visit| visit.d);
 }

@@ -4,16 +4,15 @@ ghost use Rattle.std.specs.Prelude.{pos, Bool, false, All, IfOk, IsTrue, MatchOp
 ghost use Rattle.staat_vec.specs.Lists.{IsFirst};
 ghost use Rattle.staat_vec.specs.Vectors.{IsWithin, dot};
 ghost use Rattle.staat_model.specs.Assemblies.{piece_count};
-ghost use Rattle.staat_model.specs.Certify.{AreLeastWalls};
 ghost use Rattle.staat_model.specs.Meeting.{Meets};
 ghost use Rattle.staat_model.specs.Removal.{IsFree, MeetsAlong};
 ghost use Rattle.staat_model.specs.Sets.{Has};
 ghost use Rattle.staat_model.specs.Certificates.{IsAcrossFrom, IsAcrossFromPiece, IsAcrossTo};
-ghost use Rattle.staat_certify.specs.Walls.{AddsWalls, HasPieces};
+ghost use Rattle.staat_certify.specs.Walls.{AddsSplit, AddsWalls, HasPieces};
 ghost use Rattle.staat_certify.specs.Walls.{IsAway, IsLeastWall};
 
 use staat_cone::FacetSource;
-use staat_model::{Arc, Assembly, PartSet, Piece, Sep};
+use staat_model::{Arc, Assembly, Node, PartSet, Piece, Sep, Seps};
 use staat_vec::{DIRECTION, NORMAL, OutOfMemory, V3, dot};
 use std::alloc::Global;
 
@@ -169,23 +168,28 @@ fn walls_of_part<F: FacetSource>(
     Ok(())
 }
 
-/// The walls for a split at which `s` moves along `d` away from `r`: for each piece of a part of `s` and each of a
-/// part of `r` the least facet that `d` does not lead ahead of.
-pub fn walls<F: FacetSource>(
+/// Adds the node of a split at which `s` moves along `d` away from `r`, with its walls: for each piece of a part of `s`
+/// and each of a part of `r` the least facet that `d` does not lead ahead of.
+pub fn push_split<F: FacetSource>(
     alloc: Global,
     source: &F,
     assembly: &Assembly,
     s: PartSet,
     r: PartSet,
     d: V3,
-) -> Result<Vec<Sep>, OutOfMemory>
+    nodes: &mut Vec<Node>,
+) -> Result<(), OutOfMemory>
     requires direction { IsWithin DIRECTION d }
     requires free { IsFree assembly.now s r d }
-    ensures { IfOk result (λ seps. AreLeastWalls assembly.now s r d seps.items) }
+    ensures { OnOk result (AddsSplit assembly.now s r d nodes.old.items nodes.new.items) }
 {
     let mut seps = Vec::new(alloc);
     for a in 0..assembly.parts() {
         walls_of_part(alloc, source, assembly, s, r, d, a, &mut seps)?;
     }
-    Ok(seps)
+    nodes.push(Node::Split {
+        d,
+        seps: Seps::from_vec(seps),
+    })?;
+    Ok(())
 }

@@ -1,7 +1,6 @@
 use Rattle.std.proofs.Common.{◌≡◌, sym, subst, ap, ◌∙◌}
 use Rattle.std.specs.Prelude.{OnOk}
 use Rattle.staat_model.specs.declared.tree.Tree.{Tree}
-use Rattle.staat_model.specs.Certify.{AreLeastWalls}
 use Rattle.staat_model.specs.Plans.{plan_of, parts_of}
 use Rattle.staat_certify.specs.Plans.{AddsNodes}
 use Rattle.staat_certify.proofs.NodeLemmas.{leaf_nodes, split_done}
@@ -15,15 +14,15 @@ returns-in_ok-push_nodes-in-Split g t c =
     let parts = c.args.assembly.now in
     let old = c.args.nodes.now.items in
     let new = c.push_nodes-in-Split.new.nodes.items in
+    let walls = c.in_ok-push_split-in-Split.ensures in
     let moved : c.deref.result.now ≡ c.in-Split.moved.value = c.deref.ensures in
     let rest : c.deref-in-Split.result.now ≡ c.in-Split.rest.value = c.deref-in-Split.ensures in
     let moved_again : c.deref-in-Split-2.result.now ≡ c.in-Split.moved.value = c.deref-in-Split-2.ensures in
     let rest_again : c.deref-in-Split-3.result.now ≡ c.in-Split.rest.value = c.deref-in-Split-3.ensures in
     subst (λ (tree : Tree). OnOk c.push_nodes-in-Split.result (AddsNodes parts (plan_of tree) old new)) (sym c.in-Split.is)
-    (split_done parts c.in-Split.d c.from_vec-seps.result (plan_of c.in-Split.moved.value) (plan_of c.in-Split.rest.value) c.leaves_of.result c.leaves_of-in-Split.result old c.push-in-Split.new.self.items c.push_nodes.new.nodes.items new c.push_nodes-in-Split.result
+    (split_done parts c.in-Split.d walls.seps (plan_of c.in-Split.moved.value) (plan_of c.in-Split.rest.value) c.leaves_of.result c.leaves_of-in-Split.result old c.push_split.new.nodes.items c.push_nodes.new.nodes.items new c.push_nodes-in-Split.result
     (c.leaves_of.ensures ∙ ap (λ (tree : Tree). parts_of (plan_of tree)) moved)
     (c.leaves_of-in-Split.ensures ∙ ap (λ (tree : Tree). parts_of (plan_of tree)) rest)
-    (subst (AreLeastWalls parts c.leaves_of.result c.leaves_of-in-Split.result c.in-Split.d) (sym c.from_vec-seps.ensures) c.in_ok-seps-in-Split.ensures)
-    c.in_ok-push-in-Split.ensures.items
-    (subst (λ (tree : Tree). AddsNodes parts (plan_of tree) c.push-in-Split.new.self.items c.push_nodes.new.nodes.items) moved_again c.in_ok-push_nodes-in-Split.ensures)
+    walls.walls walls.is
+    (subst (λ (tree : Tree). AddsNodes parts (plan_of tree) c.push_split.new.nodes.items c.push_nodes.new.nodes.items) moved_again c.in_ok-push_nodes-in-Split.ensures)
     (subst (λ (tree : Tree). OnOk c.push_nodes-in-Split.result (AddsNodes parts (plan_of tree) c.push_nodes.new.nodes.items new)) rest_again c.push_nodes-in-Split.ensures))
