@@ -19,7 +19,7 @@ use staat_vec::{NORMAL, ORIGIN, V3, cross_normal, is_same};
 const MOST_ROUNDS: u32 = 96;
 
 /// What a core says of a set of parts.
-#[derive(Clone, Copy, PartialEq, Eq)]
+#[derive(Clone, Copy)]
 pub enum CoreAnswer {
     /// Nothing moves away from the rest.
     Held,

@@ -10,7 +10,7 @@ use staat_limits::MOST_PARTS;
 use staat_model::PartSet;
 
 /// What moves away from the rest of a set of parts.
-#[derive(Clone, Copy, PartialEq, Eq)]
+#[derive(Clone, Copy)]
 pub enum Moving {
     /// Any parts of it, together.
     AnySide,

@@ -3,7 +3,7 @@ use staat_model::PartSet;
 use staat_vec::{Listed, V3};
 
 /// One step of an order: a part that is taken away along `d` to infinity.
-#[derive(Clone, Copy, PartialEq, Eq)]
+#[derive(Clone, Copy)]
 pub struct Leave {
     pub part: u32,
     pub d: V3,

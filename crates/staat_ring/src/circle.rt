@@ -137,8 +137,7 @@ fn fill(
     let h = table.plane(j);
     let turned = is_opposite(g, axis, h);
     let at = place_of(g, half, facet_by(turned, h));
-    push_at(slots, at, Entry { plane: j, turned })?;
-    Ok(())
+    push_at(slots, at, Entry { plane: j, turned })
 }
 
 // all planes at their places

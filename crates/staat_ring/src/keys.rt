@@ -1,6 +1,5 @@
 // An order in which crossings nearly rise, by whole keys. The keys are hints: a bad one costs time alone.
 ghost use Rattle.std.specs.Prelude.{◌≡◌, ◌↔◌, ℕ, ◌<◌, ℤ, All, Contains, IfOk, length, map};
-ghost use Rattle.std.specs.Prelude.{IsPermutation};
 ghost use Rattle.staat_vec.specs.declared.vector.V3.{V3 as Vector};
 ghost use Rattle.staat_vec.specs.Vectors.{IsWithin};
 ghost use Rattle.staat_ring.specs.Builds.{AreKeysBelow};
@@ -43,15 +42,6 @@ fn keys_of(alloc: Global, g: V3, axis: V3, hs: &[V3]) -> Result<Vec<(i128, usize
     Ok(keys)
 }
 
-// the keys in order; of the sort nothing is asked but that it is a permutation
-fn sorted(keys: Vec<(i128, usize)>) -> Vec<(i128, usize)>
-    ensures { IsPermutation keys.items result.items }
-{
-    let mut keys = keys;
-    keys.sort_unstable();
-    keys
-}
-
 // the normals at these places
 fn picked(alloc: Global, hs: &[V3], keys: &[(i128, usize)]) -> Result<Vec<V3>, OutOfMemory>
     requires { All (λ (k : ℤ × ℕ). k.1 < length hs.now) keys.now }
@@ -71,6 +61,7 @@ pub fn in_order(alloc: Global, g: V3, axis: V3, hs: &[V3]) -> Result<Vec<V3>, Ou
     requires hs { All (IsWithin NORMAL) hs.now }
     ensures { IfOk result (λ v. (h : Vector) → Contains v.items h ↔ Contains hs.now h) }
 {
-    let keys = sorted(keys_of(alloc, g, axis, hs)?);
+    let mut keys = keys_of(alloc, g, axis, hs)?;
+    keys.sort_unstable();
     picked(alloc, hs, keys.as_slice())
 }

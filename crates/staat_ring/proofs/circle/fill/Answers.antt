@@ -4,7 +4,7 @@ use Rattle.std.proofs.lemmas.Option.{same_Some}
 use Rattle.staat_ring.specs.Builds.{AreFilled, IsPlaceOf}
 use Rattle.staat_ring.proofs.RingWithout.{beside_small}
 use Rattle.staat_ring.proofs.Filling.{filled_more, filled_own, place}
-use Rattle.std.proofs.lemmas.Result.{err_from_is_err_and}
+use Rattle.std.proofs.lemmas.Result.{on_ok_weaker}
 use Rattle.staat_model.specs.Circles.{axis_beside}
 use Rattle.staat_ring.proofs.HalfCircleFromAxis.{axis_differs}
 use Rattle.staat_ring.proofs.circle.fill.Goals as goal
@@ -24,10 +24,11 @@ place_of-at-requires-clause-some c =
 pub returns : goal.returns
 returns c =
     let ai = subst (λ k. slice_get c.args.table.now.planes k ≡ Some c.plane-axis.result) c.axis_beside.ensures c.plane-axis.ensures.is in
-    λ g gi. subst (λ x. AreFilled c.args.table.now.planes c.args.c x c.args.half.now (c.args.j + 1) c.push_at.new.slots.items) (same_Some c.plane-g.result g (sym c.plane-g.ensures.is ∙ gi))
+    on_ok_weaker c.push_at.result (λ pushed g gi. subst (λ x. AreFilled c.args.table.now.planes c.args.c x c.args.half.now (c.args.j + 1) c.push_at.new.slots.items) (same_Some c.plane-g.result g (sym c.plane-g.ensures.is ∙ gi))
     (filled_more c.args.table.now.planes c.args.c c.plane-g.result c.plane-axis.result c.args.half.now c.set-set.ensures.rules.planes c.plane-g.ensures.is ai (c.requires.half c.plane-g.result c.plane-axis.result c.plane-g.ensures.is ai)
     c.args.j c.plane-h.result c.plane-h.ensures.is c.if-j-c.false c.is_opposite-turned.result c.is_opposite-turned.ensures
-    c.place_of-at.result c.args.slots.now.items c.push_at.new.slots.items (subst (λ x. IsPlaceOf c.plane-g.result c.args.half.now x c.place_of-at.result) c.facet_by.ensures.is c.place_of-at.ensures) c.in_ok-push_at.ensures (c.requires.slots c.plane-g.result c.plane-g.ensures.is))
+    c.place_of-at.result c.args.slots.now.items c.push_at.new.slots.items (subst (λ x. IsPlaceOf c.plane-g.result c.args.half.now x c.place_of-at.result) c.facet_by.ensures.is c.place_of-at.ensures) pushed (c.requires.slots c.plane-g.result c.plane-g.ensures.is)))
+    c.push_at.ensures
 
 pub returns-then-j-c : goal.returns-then-j-c
 returns-then-j-c c = λ g gi. filled_own c.args.table.now.planes c.args.c c.args.j g c.args.half.now c.args.slots.now.items c.if-j-c.true (c.requires.slots g gi)
@@ -46,11 +47,6 @@ place_of-at-requires-clause-g c = c.plane-g.ensures.rules.within
 
 pub place_of-at-requires-clause-h : goal.place_of-at-requires-clause-h
 place_of-at-requires-clause-h c = c.facet_by.ensures.within
-
-pub returns-in_err-push_at : goal.returns-in_err-push_at
-returns-in_err-push_at c =
-    let p = err_from_is_err_and c.from_residual.result c.from_residual.ensures.1 in
-    rw p.1 tt
 
 pub plane-h-requires : goal.plane-h-requires
 plane-h-requires c = c.requires.j
