@@ -295,9 +295,9 @@ pub fn visit_all<L: Ledger>(
         → Contains (visited_directions found.new.visited.items) d) }
 {
     let _set = table.set();
-    let mut steps = Steps::<L>::new(blank);
-    let rings = Rings::build(alloc, table)?;
     let mut walk = Walk::new(alloc, table)?;
+    let rings = Rings::build(alloc, table)?;
+    let mut steps = Steps::<L>::new(blank);
     go_round_all(
         alloc, sound, table, version, &rings, &mut walk, &mut steps, found,
     )
