@@ -6,6 +6,7 @@ ghost use Rattle.staat_model.specs.declared.assembly.Part.{Part as PartValue};
 ghost use Rattle.staat_model.specs.declared.set.PartSet.{PartSet as PartSetValue};
 ghost use Rattle.staat_model.specs.Sets.{Has, IsNonempty, IsSubset};
 ghost use Rattle.staat_core.specs.Bonds.{AreTogether};
+ghost use Rattle.staat_core.specs.Cores.{IsCore};
 ghost use Rattle.staat_core.specs.Sources.{both_ways};
 
 use crate::cores::Core;
@@ -13,7 +14,55 @@ use crate::decide::CoreAnswer;
 use crate::joins::Moving;
 use crate::source::PairSource;
 use staat_limits::MOST_PARTS;
-use staat_model::PartSet;
+use staat_model::{Arc, PartSet};
+
+/// How many pairs of pieces bind two parts at least: along each direction one of them blocks, each only along those of
+/// an open half-sphere, and three of these do not cover the sphere.
+const LEAST_LINKS: u32 = 4;
+
+/// Up to how many pairs are taken at once.
+const FEW_LINKS: u32 = 8;
+
+// whether the pair has a piece of each of the parts p and q
+fn links(pair: Arc, p: u32, q: u32) -> bool {
+    pair.a == p && pair.b == q || pair.a == q && pair.b == p
+}
+
+// how many pairs there are of a piece of p and one of q
+fn count_links<S: PairSource>(source: &S, p: u32, q: u32) -> u32 {
+    let mut count: u32 = 0;
+    for pair in source.pairs() {
+        if links(*pair, p, q) {
+            count = count.saturating_add(1);
+        }
+    }
+    count
+}
+
+impl Core {
+    // takes the pairs of a piece of p and one of q, as far as there is room
+    fn take_links<S: PairSource>(&mut self, source: &S, p: u32, q: u32)
+        requires { IsCore (S.pairs source.now) (S.speaks source.now) self.old }
+        ensures { IsCore (S.pairs source.now) (S.speaks source.now) self.new }
+    {
+        for pair in source.pairs() {
+            if links(*pair, p, q) && !self.take(source, *pair) {
+                return;
+            }
+        }
+    }
+}
+
+// a core to begin with, of two parts that have so many pairs
+fn core_of_two<S: PairSource>(source: &S, p: u32, q: u32, count: u32) -> Core
+    ensures { IsCore (S.pairs source.now) (S.speaks source.now) result }
+{
+    let mut core = Core::none();
+    if count <= FEW_LINKS {
+        core.take_links(source, p, q);
+    }
+    core
+}
 
 // whether the parts p and q are seen to hold each other along all directions
 fn is_bond<S: PairSource>(source: &S, p: u32, q: u32) -> bool
@@ -23,8 +72,12 @@ fn is_bond<S: PairSource>(source: &S, p: u32, q: u32) -> bool
         → S.speaks source.now parts → d ≢ origin → Has w p → Has w q
         → AreTogether parts (both_ways (S.pairs source.now)) w d p q }
 {
+    let count = count_links(source, p, q);
+    if count < LEAST_LINKS {
+        return false;
+    }
     let both = PartSet::single(p).union(PartSet::single(q));
-    let mut core = Core::none();
+    let mut core = core_of_two(source, p, q, count);
     match core.holds(source, both, Moving::AnySide) {
         CoreAnswer::Held => true,
         CoreAnswer::Open(_) => false,

@@ -12,8 +12,8 @@ ghost use Rattle.staat_core.specs.Sources.{IsSmallPair, both_ways};
 
 use crate::cores::Core;
 use crate::joins::{Joins, Moving};
-use crate::meeting::meets_along;
 use crate::source::PairSource;
+use staat_cone::blocks;
 use staat_model::{Arc, PartSet};
 use staat_vec::{DIRECTION, V3, neg};
 
@@ -27,7 +27,7 @@ pub(crate) struct Wanted {
     pub planes: u32,
 }
 
-// Adds the arc of a pair along d, whose opposite is e, if one of its pieces meets the other there. Of an arc that is
+// Adds the arc of a pair along d, whose opposite is e, if one of its pieces meets the other there. Of arcs that are
 // there already no facets are looked at.
 fn put_pair<S: PairSource>(joins: &mut Joins, source: &S, pair: Arc, d: V3, e: V3)
     requires pair { Contains (S.pairs source.now) pair }
@@ -41,9 +41,13 @@ fn put_pair<S: PairSource>(joins: &mut Joins, source: &S, pair: Arc, d: V3, e: V
         → Contains pairs pair → AreLeading parts pairs d joins.old.ahead.rows
         → AreLeading parts pairs d joins.new.ahead.rows }
 {
-    if !joins.has(pair.a, pair.b) && meets_along(source, pair, d) {
+    if joins.has(pair.a, pair.b) && joins.has(pair.b, pair.a) {
+        return;
+    }
+    let facets = source.facets(pair);
+    if !joins.has(pair.a, pair.b) && blocks(facets, d) {
         joins.put(pair.a, pair.b);
-    } else if !joins.has(pair.b, pair.a) && meets_along(source, pair, e) {
+    } else if !joins.has(pair.b, pair.a) && blocks(facets, e) {
         joins.put(pair.b, pair.a);
     }
 }
@@ -62,7 +66,7 @@ fn is_link<S: PairSource>(source: &S, pair: Arc, d: V3, e: V3, s: PartSet, r: Pa
     requires d { IsWithin DIRECTION d }
     requires e { IsWithin DIRECTION e }
 {
-    may_link(pair, s, r) && meets_along(source, pair, if s.has(pair.a) { d } else { e })
+    may_link(pair, s, r) && blocks(source.facets(pair), if s.has(pair.a) { d } else { e })
 }
 
 impl Core {
@@ -131,8 +135,8 @@ impl Core {
         }
     }
 
-    // adds a pair of the source; false where there is no room
-    fn take<S: PairSource>(&mut self, source: &S, pair: Arc) -> bool
+    /// Adds a pair of the source; false where there is no room.
+    pub(crate) fn take<S: PairSource>(&mut self, source: &S, pair: Arc) -> bool
         requires core { IsCore (S.pairs source.now) (S.speaks source.now) self.old }
         requires pair { Contains (S.pairs source.now) pair }
         ensures core { IsCore (S.pairs source.now) (S.speaks source.now) self.new }

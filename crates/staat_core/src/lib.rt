@@ -8,7 +8,6 @@ mod decide;
 mod grow;
 mod joins;
 mod listed;
-mod meeting;
 mod set_core;
 mod source;
 mod table_core;

@@ -4,13 +4,12 @@ use Rattle.staat_model.specs.declared.set.PartSet.{PartSet}
 use Rattle.staat_model.specs.Sets.{single}
 use Rattle.staat_core.specs.Sources.{both_ways}
 use Rattle.staat_core.proofs.Bonding.{bond_together}
-use Rattle.staat_core.proofs.Growing.{core_empty}
 use Rattle.staat_core.proofs.TableHolding.{all_hold}
 use Rattle.staat_core.specs.declared.joins.Moving.TheVariants.{AnySide}
 use Rattle.staat_core.proofs.bonds.is_bond.Goals as goal
 
 pub holds-requires-clause-core : goal.holds-requires-clause-core
-holds-requires-clause-core g c = core_empty (g.S.PairSource.pairs c.args.source.now) (g.S.PairSource.speaks c.args.source.now) c.none-core.result c.none-core.ensures
+holds-requires-clause-core g c = c.core_of_two-core.ensures
 
 pub returns-in-Held : goal.returns-in-Held
 returns-in-Held g c told parts w d speaks some p_in q_in =
