@@ -22,6 +22,16 @@ const MOST_PAIRS: u32 = 2016;
 /// How many planes a core has at most.
 const MOST_CORE_PLANES: u32 = 96;
 
+// One of 128 bits for a plane, the same for its normal and the negative. Planes may share one: it is a hint that saves
+// a look at all planes in use.
+fn bit_of(n: V3) -> u128 {
+    let x = n.x.unsigned_abs().wrapping_mul(0x2545_f491_4f6c_dd1d);
+    let y = n.y.unsigned_abs().wrapping_mul(0x1b87_3593_cc9e_2d51);
+    let z = n.z.unsigned_abs().wrapping_mul(0x0f35_7aea_2e62_a9c5);
+    let mixed = x.wrapping_add(y).wrapping_add(z);
+    1 << (mixed / (1 << 57) % 128)
+}
+
 /// Pairs of pieces, and the planes of their facets behind the coordinate planes.
 ///
 /// Where two of these planes cross, the pairs that block there are often enough to hold a set of parts together. Then
@@ -33,6 +43,8 @@ pub struct Core {
     count: u32,
     planes: [V3; 96],
     used: u32,
+    // the bits of the planes in use
+    bits: u128,
 }
 
 impl Core {
@@ -55,6 +67,7 @@ impl Core {
             count: 0,
             planes,
             used: 3,
+            bits: bit_of(planes[0]) | bit_of(planes[1]) | bit_of(planes[2]),
         }
     }
 
@@ -86,6 +99,9 @@ impl Core {
         requires { HasRoom self.now }
         ensures { IsTrue result → Contains (core_planes self.now) n }
     {
+        if self.bits & bit_of(n) == 0 {
+            return false;
+        }
         for m in &self.planes[..self.used as usize] {
             if is_same(*m, n) {
                 return true;
@@ -123,6 +139,7 @@ impl Core {
     {
         self.planes[self.used as usize] = n;
         self.used += 1;
+        self.bits |= bit_of(n);
     }
 
     // sees to it that the plane is in use; false where there is no room
