@@ -169,7 +169,3 @@ facet_more planes facets n k old new half_space at ahead grown before signs =
 pub facets_all : (planes facets : List V3) (k : ℕ) (cone : List HalfSpace) → length facets ≤ k
     → AreAhead planes (take k facets) cone → AreAhead planes facets cone
 facets_all planes facets k cone le = subst (λ l. AreAhead planes l cone) (take_all k facets le)
-
--- n does not stand before the place k
-abbrev pub IsNotBefore : List V3 → V3 → ℕ → Type 0
-IsNotBefore planes n k = (j : ℕ) → j < k → slice_get planes j ≡ Some n → ⊥

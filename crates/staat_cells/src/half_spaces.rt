@@ -1,8 +1,7 @@
 // The directions ahead of two pieces, as half-spaces.
-ghost use Rattle.std.specs.Prelude.{◌≡◌, ◌<◌, ◌⊎◌, ◌↔◌, ◌++◌, [], ◌∷◌};
-ghost use Rattle.std.specs.Prelude.{Any, Contains, IfOk, IsTrue, List, OnOk, Some, length, slice_get};
+ghost use Rattle.std.specs.Prelude.{◌≡◌, ◌⊎◌, ◌↔◌, ◌++◌, [], ◌∷◌, Any, Contains, IfOk, IsTrue, List, OnOk};
 ghost use Rattle.staat_vec.specs.declared.vector.Sign.{Sign as SignValue};
-ghost use Rattle.staat_pairs.specs.Tables.{AreTablePlanes, IsTableArc, IsTableFacet, facets_of};
+ghost use Rattle.staat_pairs.specs.Tables.{IsTableArc, IsTableFacet, facets_of};
 ghost use Rattle.staat_cells.specs.HalfSpaces.{AreAhead, AreAmong, AreInside, IsInHalfSpace, IsSignAhead};
 
 use staat_model::Arc;
@@ -20,29 +19,13 @@ pub struct HalfSpace {
 /// Open half-spaces, each bounded by a plane.
 pub type HalfSpaces = Listed<HalfSpace>;
 
-// the number of a plane
-fn number_of_plane(planes: &[V3], n: V3) -> usize
-    requires { Contains planes.now n }
-    ensures is { slice_get planes.now result ≡ Some n }
-    ensures place { result < length planes.now }
-{
-    for k in 0..planes.len() {
-        if is_same(planes[k], n) {
-            return k;
-        }
-    }
-    // not reached: the plane is listed
-    0
-}
-
 // the half-space that is ahead of a facet
-fn half_space_ahead(planes: &[V3], n: V3) -> HalfSpace
-    requires rules { AreTablePlanes planes.now }
-    requires facet { IsTableFacet planes.now n }
-    ensures { (signs : List SignValue) → IsInHalfSpace signs result ↔ IsSignAhead planes.now signs n }
+fn half_space_ahead(table: &PlaneTable, n: V3) -> HalfSpace
+    requires { IsTableFacet table.now.planes n }
+    ensures { (signs : List SignValue) → IsInHalfSpace signs result ↔ IsSignAhead table.now.planes signs n }
 {
     let normal = canon(n);
-    let plane = number_of_plane(planes, normal);
+    let plane = table.plane_number(normal) as usize;
     if is_same(normal, n) {
         HalfSpace {
             plane,
@@ -65,10 +48,9 @@ pub(crate) fn half_spaces(
     requires { IsTableArc table.now arc }
     ensures { IfOk result (λ half_spaces. AreAhead table.now.planes (facets_of table.now arc) half_spaces.items) }
 {
-    let planes = table.planes();
     let mut found = Vec::new(alloc);
     for m in 0..table.facet_count(arc) {
-        found.push(half_space_ahead(planes, table.facet(arc, m)))?;
+        found.push(half_space_ahead(table, table.facet(arc, m)))?;
     }
     Ok(found)
 }

@@ -9,3 +9,4 @@ pub mod UsedPlanes
 pub mod PairSteps
 pub mod SearchSteps
 pub mod SetPlanes
+pub mod BeyondAxes

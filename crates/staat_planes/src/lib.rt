@@ -5,6 +5,7 @@ mod build;
 mod graph;
 mod marked_planes;
 mod pairs;
+mod plane_number;
 mod refusal;
 mod search;
 mod set_planes;

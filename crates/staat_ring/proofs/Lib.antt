@@ -66,7 +66,6 @@ pub mod Entering
 pub mod CrossSteps
 pub mod Strength
 pub mod BlockSteps
-pub mod Searching
 pub mod Turned
 pub mod Turns
 pub mod StepSigns

@@ -8,7 +8,6 @@ ghost use Rattle.staat_ring.specs.SignChanges.{uses};
 ghost use Rattle.staat_ring.specs.Belonging.{BelongTo, IsPairOf, PlaneFacet as PlaneFacetValue, facet_at};
 
 use crate::counted_signs::CountedSigns;
-use crate::plane_number::number_of_plane;
 use staat_limits::{MOST_PARTS, MOST_PIECES};
 use staat_model::Arc;
 use staat_pairs::SLOTS;
@@ -65,8 +64,7 @@ fn push_facet(
         × (facet_at table.now.planes w ≡ facet) × (signs.new ≡ with_facet w q signs.old)) }
 {
     let n = canon(facet);
-    let k = number_of_plane(table, n);
-    signs.push(k, !is_same(n, facet), q)
+    signs.push(table.plane_number(n), !is_same(n, facet), q)
 }
 
 // tells the pair q, and puts down its facets

@@ -17,7 +17,6 @@ mod next_stops;
 mod nodes;
 mod order;
 mod pairs;
-mod plane_number;
 mod rings;
 mod vertex;
 mod walk;

@@ -1,8 +1,5 @@
-use Rattle.std.proofs.Common.{◌≤◌, ◌↔◌, subst, sym, List}
-use Rattle.staat_vec.specs.declared.vector.V3.{V3}
-use Rattle.staat_vec.specs.declared.vector.Sign.{Sign}
-use Rattle.staat_pairs.specs.Tables.{IsTableFacet, facets_of}
-use Rattle.staat_cells.specs.HalfSpaces.{IsInHalfSpace, IsSignAhead}
+use Rattle.std.proofs.Common.{◌≤◌, subst}
+use Rattle.staat_pairs.specs.Tables.{facets_of}
 use Rattle.staat_cells.proofs.FacetPlanes.{facet_more, facets_all, no_facets}
 use Rattle.staat_cells.proofs.half_spaces.half_spaces.Goals as goal
 
@@ -11,17 +8,11 @@ loop-m-init c =
     no_facets c.args.table.now.planes (facets_of c.args.table.now c.args.arc) c.new-found.result.items
     c.new-found.ensures.items
 
-pub half_space_ahead-requires-clause-facet : goal.half_space_ahead-requires-clause-facet
-half_space_ahead-requires-clause-facet c =
-    subst (λ (l : List V3). IsTableFacet l c.facet.result) (sym c.planes-planes.ensures.is) c.facet.ensures.rules
-
 pub loop-m-preserved : goal.loop-m-preserved
 loop-m-preserved c =
     facet_more c.args.table.now.planes (facets_of c.args.table.now c.args.arc) c.facet.result c.loop-m.m
     c.loop-m.found.items c.push.new.self.items c.half_space_ahead.result c.facet.ensures.is
-    (subst (λ (l : List V3). (signs : List Sign) → IsInHalfSpace signs c.half_space_ahead.result ↔ IsSignAhead l signs c.facet.result)
-    c.planes-planes.ensures.is c.half_space_ahead.ensures)
-    c.in_ok-push.ensures.items c.loop-m.invariant
+    c.half_space_ahead.ensures c.in_ok-push.ensures.items c.loop-m.invariant
 
 pub returns : goal.returns
 returns c =

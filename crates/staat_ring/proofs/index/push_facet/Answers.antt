@@ -13,5 +13,5 @@ canon-n-requires-clause-some c = IsPrimitive-some c.args.facet c.requires.facet.
 pub returns : goal.returns
 returns c =
     let h = c.push.ensures in
-    let w : PlaneFacet = record { plane = c.number_of_plane-k.result; turned = not c.is_same.result } in
-    on_ok c.push.result _ _ c.push.ensures (λ e. (w, c.number_of_plane-k.ensures.within, ap (facet_by (not c.is_same.result)) c.number_of_plane-k.ensures.is ∙ plane_facet_is c.args.facet c.canon-n.result (not c.is_same.result) c.canon-n.ensures.value (λ f q. not_true_clash c.is_same.result f (c.is_same.ensures.1 q)) (λ f. c.is_same.ensures.0 (from_not_false c.is_same.result f)), e))
+    let w : PlaneFacet = record { plane = c.plane_number.result; turned = not c.is_same.result } in
+    on_ok c.push.result _ _ c.push.ensures (λ e. (w, c.plane_number.ensures.within, ap (facet_by (not c.is_same.result)) c.plane_number.ensures.is ∙ plane_facet_is c.args.facet c.canon-n.result (not c.is_same.result) c.canon-n.ensures.value (λ f q. not_true_clash c.is_same.result f (c.is_same.ensures.1 q)) (λ f. c.is_same.ensures.0 (from_not_false c.is_same.result f)), e))

@@ -2,14 +2,14 @@ use Rattle.std.proofs.Common.{◌≡◌, ◌+◌, ◌∙◌, ap, subst, sym, Lis
 use Rattle.std.specs.Prelude.{Some, slice_get}
 use Rattle.staat_vec.specs.declared.vector.V3.{V3}
 use Rattle.staat_planes.specs.PairOrder.{plane_at}
-use Rattle.staat_ring.proofs.Searching.{drop_axes, plane_beyond}
+use Rattle.staat_planes.proofs.BeyondAxes.{drop_axes, plane_beyond}
 use Rattle.std.specs.List.Sorted.{IsStrictlySortedBy}
 use Rattle.std.proofs.lemmas.Bool.{cases_lt}
 use Rattle.std.proofs.lemmas.List.{get_or-drop, get_or_default}
 use Rattle.std.proofs.lemmas.Option.{slice_get_within}
 use Rattle.staat_vec.specs.Vectors.{origin, vector_cmp}
 use Rattle.staat_model.specs.Planes.{axes}
-use Rattle.staat_ring.proofs.plane_number.number_of_plane.Goals as goal
+use Rattle.staat_planes.proofs.table.PlaneTable.plane_number.Goals as goal
 
 few_axes : (planes others : List V3) (k : ℕ) → planes ≡ axes ++ others → k < 3 → k < length planes
 few_axes planes others k is lt = let long = ap length is in omega (arith, long, lt)
@@ -29,22 +29,33 @@ listed_beyond planes later n same (x, lt, at) none =
     back : (x : ℕ) → 3 ≤ x → 3 + (x - 3) ≡ x
     back x le = omega (arith, le)
 
-pub returns-in-None-clause-is : goal.returns-in-None-clause-is
-returns-in-None-clause-is c =
+pub returns-in-Some-place_among-clause-is : goal.returns-in-Some-place_among-clause-is
+returns-in-Some-place_among-clause-is c =
     let rules = c.planes-planes.ensures.rules in
-    ap (λ (xs : List V3). plane_at xs (3 + c.place_among.result)) (sym c.planes-planes.ensures.is)
-    ∙ plane_beyond c.planes-planes.result.now rules.others c.args.n c.place_among.result rules.is
-    (subst (λ (xs : List V3). slice_get xs c.place_among.result ≡ Some c.args.n) (c.planes_from.ensures ∙ drop_axes c.planes-planes.result.now rules.others rules.is) c.place_among.ensures)
+    let k = c.in-Some-place_among.k in
+    ap (λ (xs : List V3). plane_at xs (3 + k)) (sym c.planes-planes.ensures.is)
+    ∙ plane_beyond c.planes-planes.result.now rules.others c.args.n k rules.is
+    (subst (λ (xs : List V3). slice_get xs k ≡ Some c.args.n) (c.planes_from.ensures ∙ drop_axes c.planes-planes.result.now rules.others rules.is) c.in-Some-place_among.ensures)
 
-pub place_among-requires-clause-ascending : goal.place_among-requires-clause-ascending
-place_among-requires-clause-ascending c =
+pub place_among-requires : goal.place_among-requires
+place_among-requires c =
     let rules = c.planes-planes.ensures.rules in
     subst (IsStrictlySortedBy vector_cmp) (sym (c.planes_from.ensures ∙ drop_axes c.planes-planes.result.now rules.others rules.is)) rules.ascending
 
-pub place_among-requires-clause-listed : goal.place_among-requires-clause-listed
-place_among-requires-clause-listed c =
-    listed_beyond c.planes-planes.result.now c.planes_from.result.now c.args.n c.planes_from.ensures
-    (subst (λ (xs : List V3). Contains xs c.args.n) (sym c.planes-planes.ensures.is) c.requires) c.in-None.ensures
+pub returns-in-Some-place_among-clause-within : goal.returns-in-Some-place_among-clause-within
+returns-in-Some-place_among-clause-within c =
+    let lt = slice_get_within c.planes_from.result.now c.in-Some-place_among.k c.args.n c.in-Some-place_among.ensures in
+    omega (arith, lt, ap length c.planes_from.ensures, length-drop 3 c.planes-planes.result.now, ap length c.planes-planes.ensures.is)
+
+pub axis_number-requires : goal.axis_number-requires
+axis_number-requires c =
+    let rules = c.planes-planes.ensures.rules in
+    let lt = few_axes c.planes-planes.result.now rules.others 2 rules.is (omega arith) in lt
+
+pub returns-in-None-clause-is : goal.returns-in-None-clause-is
+returns-in-None-clause-is c =
+    absurd (c.in-None.ensures (listed_beyond c.planes-planes.result.now c.planes_from.result.now c.args.n c.planes_from.ensures
+    (subst (λ (xs : List V3). Contains xs c.args.n) (sym c.planes-planes.ensures.is) c.requires) c.in_default.ensures))
 
 pub returns-in-Some-clause-within : goal.returns-in-Some-clause-within
 returns-in-Some-clause-within c =
@@ -54,25 +65,3 @@ returns-in-Some-clause-within c =
 
 pub returns-in-Some-clause-is : goal.returns-in-Some-clause-is
 returns-in-Some-clause-is c = ap (λ (xs : List V3). plane_at xs c.in-Some.k) (sym c.planes-planes.ensures.is) ∙ c.in-Some.ensures.1
-
-pub returns-in-None-clause-within : goal.returns-in-None-clause-within
-returns-in-None-clause-within c =
-    let lt = slice_get_within c.planes_from.result.now c.place_among.result c.args.n c.place_among.ensures in
-    omega (arith, lt, ap length c.planes_from.ensures, length-drop 3 c.planes-planes.result.now, ap length c.planes-planes.ensures.is)
-
-pub axis_number-requires : goal.axis_number-requires
-axis_number-requires c =
-    let rules = c.planes-planes.ensures.rules in
-    let lt = few_axes c.planes-planes.result.now rules.others 2 rules.is (omega arith) in lt
-
-pub overflow_cast-result : goal.overflow_cast-result
-overflow_cast-result c =
-    let lt = slice_get_within c.planes_from.result.now c.place_among.result c.args.n c.place_among.ensures in
-    let most = c.planes-planes.ensures.most in
-    omega (arith, lt, ap length c.planes_from.ensures, length-drop 3 c.planes-planes.result.now, most)
-
-pub overflow_add-result : goal.overflow_add-result
-overflow_add-result c =
-    let lt = slice_get_within c.planes_from.result.now c.place_among.result c.args.n c.place_among.ensures in
-    let most = c.planes-planes.ensures.most in
-    omega (arith, lt, ap length c.planes_from.ensures, length-drop 3 c.planes-planes.result.now, most)
