@@ -11,7 +11,7 @@ use Rattle.staat_cells.specs.declared.batches.Batch.{Batch}
 use Rattle.staat_cells.specs.declared.half_spaces.HalfSpace.{HalfSpace}
 use Rattle.staat_cells.specs.HalfSpaces.{AreInside}
 use Rattle.staat_cells.specs.Batches.{AddsToBatch, AreInsideCone, HasCone, HasParts, IsBatch, IsBatchArc, IsLeftByAll, outside_by}
-use Rattle.staat_cells.specs.CellGraphs.{AddsCone, HasRoom, IsListedArc}
+use Rattle.staat_cells.specs.CellGraphs.{AddsCone, HasConeRoom, IsListedArc}
 use Rattle.staat_cells.proofs.ConeTests.{AddsHalfSpaces}
 use Rattle.staat_cells.proofs.Elements.{any_pushed, any_set}
 use Rattle.staat_vec.proofs.ListLaws.{push_cases, push_front, push_end}
@@ -168,9 +168,9 @@ batch_set batches k old new cone a b lt at rules added = record {
 
 -- an empty batch behind them
 pub batch_empty : (batches grown : List Batch) (none : Batch) → none.cones.items ≡ [] → none.tests.items ≡ []
-    → none.arcs.items ≡ [] → grown ≡ batches ++ none ∷ [] → All IsBatch batches → HasRoom batches grown
+    → none.arcs.items ≡ [] → grown ≡ batches ++ none ∷ [] → All IsBatch batches → HasConeRoom batches grown
 batch_empty batches grown none cones tests arcs is rules =
-    subst (λ l. HasRoom batches l) (sym is) (record {
+    subst (λ l. HasConeRoom batches l) (sym is) (record {
       some = omega (arith, long);
       room = λ d. subst (λ (b : Batch). length b.cones.items < 128) (sym (get_or_push batches none d
           (length (batches ++ none ∷ []) - 1) (omega (arith, long)))) (omega (arith, ap length cones));
@@ -194,7 +194,7 @@ batch_empty batches grown none cones tests arcs is rules =
     long = length_push batches none
 
 -- a cone more where no arc had come before
-pub batch_room : (old mid new : List Batch) (cone : List HalfSpace) (a b : ℕ) → HasRoom old mid
+pub batch_room : (old mid new : List Batch) (cone : List HalfSpace) (a b : ℕ) → HasConeRoom old mid
     → AddsCone cone a b mid new → AddsCone cone a b old new
 batch_room old mid new cone a b room adds = record {
   arcs = λ signs x y. (

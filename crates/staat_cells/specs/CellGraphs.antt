@@ -51,7 +51,7 @@ abbrev pub AddsCones : (List Sign → Type 0) → List (List HalfSpace) → List
 AddsCones P old new = (signs : List Sign) → Any (AreInside signs) new ↔ (Any (AreInside signs) old ⊎ P signs)
 
 -- the last batch has room for a cone, and no arc has come
-pub record HasRoom (old new : List Batch) : Type 0 where
+pub record HasConeRoom (old new : List Batch) : Type 0 where
   pub some : 0 < length new
   pub room : (d : Batch) → length (slice_index_or new (length new - 1) d).cones.items < 128
   pub arcs : (signs : List Sign) (x y : ℕ) → IsListedArc new signs x y ↔ IsListedArc old signs x y

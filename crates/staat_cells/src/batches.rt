@@ -21,7 +21,7 @@ ghost use Rattle.staat_cells.specs.declared.half_spaces.HalfSpace.{HalfSpace as 
 ghost use Rattle.staat_cells.specs.HalfSpaces.{AreInside, IsInHalfSpace};
 ghost use Rattle.staat_cells.specs.Batches.{AddsToBatch, HasCone, HasParts, IsBatch, IsLeft, IsLeftByAll};
 ghost use Rattle.staat_cells.specs.Batches.{outside_at, outside_by};
-ghost use Rattle.staat_cells.specs.CellGraphs.{AddsCone, HasRoom};
+ghost use Rattle.staat_cells.specs.CellGraphs.{AddsCone, HasConeRoom};
 
 use crate::half_spaces::{HalfSpace, HalfSpaces, is_same_cone, push_copy};
 use staat_limits::MOST_PARTS;
@@ -249,7 +249,7 @@ fn has_room(batches: &[Batch]) -> bool
 // adds an empty batch, unless there is room for a cone in the last
 fn make_room(alloc: Global, batches: &mut Vec<Batch>) -> Result<(), OutOfMemory>
     requires { All IsBatch batches.old.items }
-    ensures { OnOk result (HasRoom batches.old.items batches.new.items) }
+    ensures { OnOk result (HasConeRoom batches.old.items batches.new.items) }
 {
     if has_room(batches) {
         return Ok(());

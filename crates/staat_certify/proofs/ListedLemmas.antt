@@ -26,7 +26,7 @@ use Rattle.staat_model.proofs.PlaneLemmas.{NoneParallel}
 use Rattle.staat_model.proofs.VertexLemmas.{same_some}
 use Rattle.staat_certify.specs.declared.visits.Visit.{Visit}
 use Rattle.staat_certify.specs.Visits.{visited_directions}
-use Rattle.staat_certify.specs.WitnessListings.{AreApart, AreListed, IsListing, IsSizedDirection}
+use Rattle.staat_certify.specs.WitnessListings.{AreDifferentWitnesses, AreListed, IsSizedDirection, IsWitnessListing}
 use Rattle.staat_certify.proofs.NumberLemmas.{numbers_none}
 use Rattle.staat_vec.proofs.ListLaws.{take_next}
 use Rattle.staat_vec.proofs.VectorLists.{length-le_from_contains}
@@ -75,7 +75,7 @@ few_visits version planes visited few lists =
 
 -- ---- the whole list
 
-pub refusal_listed : (parts : List Part) (version : ℕ) (w : PartSet) (planes ds : List V3) (witnesses : List Witness) (dirs : List Dir) → ArePlanes parts w planes → Lists vector_cmp (IsDirection version planes) ds → AreApart witnesses → AreListed parts w witnesses dirs → map (λ dir. dir.d) dirs ≡ ds → IsRefusalOf parts version w witnesses dirs
+pub refusal_listed : (parts : List Part) (version : ℕ) (w : PartSet) (planes ds : List V3) (witnesses : List Witness) (dirs : List Dir) → ArePlanes parts w planes → Lists vector_cmp (IsDirection version planes) ds → AreDifferentWitnesses witnesses → AreListed parts w witnesses dirs → map (λ dir. dir.d) dirs ≡ ds → IsRefusalOf parts version w witnesses dirs
 refusal_listed parts version w planes ds witnesses dirs planes_are lists apart listed e = record {
   planes = planes;
   planes_are = planes_are;
@@ -86,7 +86,7 @@ refusal_listed parts version w planes ds witnesses dirs planes_are lists apart l
 }
 
 pub listed_end : (parts : List Part) (version : ℕ) (w : PartSet) (planes ds : List V3) (answer : Result Body OutOfMemory) → ArePlanes parts w planes → Lists vector_cmp (IsDirection version planes) ds
-    → IfOk answer (IsListing parts w ds) → IfOk answer (IsBodyOf parts version (stuck w))
+    → IfOk answer (IsWitnessListing parts w ds) → IfOk answer (IsBodyOf parts version (stuck w))
 listed_end parts version w planes ds (Ok (body.Plan nodes)) are lists listed = listed
 listed_end parts version w planes ds (Ok (body.Stuck v witnesses dirs)) are lists (same, apart, listed, lines) = (same, refusal_listed parts version w planes ds witnesses dirs are lists apart listed lines)
 listed_end parts version w planes ds (Err x) are lists listed = tt

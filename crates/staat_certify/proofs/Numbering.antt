@@ -3,7 +3,7 @@ use Rattle.std.proofs.Common.{◌≡◌, inl, inr, ⊎_elim, ℕ, ◌+◌, suc, 
 use Rattle.std.specs.Prelude.{Some, slice_get}
 use Rattle.std.proofs.lemmas.List.{length-map, map-append}
 use Rattle.staat_model.specs.declared.certificate.Witness.{Witness}
-use Rattle.staat_certify.specs.WitnessListings.{AreApart, AreKeys, IsWitnessNumber, key_of}
+use Rattle.staat_certify.specs.WitnessListings.{AreDifferentWitnesses, AreKeys, IsWitnessNumber, key_of}
 use Rattle.staat_certify.specs.Numbers.{IsNumberOf}
 use Rattle.staat_certify.proofs.Keys.{key_tells}
 use Rattle.staat_certify.proofs.NumberLemmas.{get_map, map_get}
@@ -55,7 +55,7 @@ module _ (keys more : List (List ℕ)) (witnesses : List Witness) (witness : Wit
           (λ m x h. ⊎_elim (λ early. kept m x early) (λ end. subst (λ n. slice_get new n ≡ Some x) (e ∙ sym end.0) (at ∙ ap Some end.1)) (push_cases old key x m h))
 
 -- witnesses whose keys are different are different
-pub apart_by_keys : (keys : List (List ℕ)) (witnesses : List Witness) → AreKeys keys witnesses → AreApart witnesses
+pub apart_by_keys : (keys : List (List ℕ)) (witnesses : List Witness) → AreKeys keys witnesses → AreDifferentWitnesses witnesses
 apart_by_keys keys witnesses by k m x a b = by.distinct k m (key_of x) (there k a) (there m b)
   where
     there : (n : ℕ) → slice_get witnesses n ≡ Some x → slice_get keys n ≡ Some (key_of x)

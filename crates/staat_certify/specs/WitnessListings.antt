@@ -28,8 +28,9 @@ pub record IsSizedDirection (d : V3) : Type 0 where
   pub some : d ≢ origin
 
 -- no witness stands at two places
-abbrev pub AreApart : List Witness → Type 0
-AreApart witnesses = (k m : ℕ) (x : Witness) → slice_get witnesses k ≡ Some x → slice_get witnesses m ≡ Some x → k ≡ m
+abbrev pub AreDifferentWitnesses : List Witness → Type 0
+AreDifferentWitnesses witnesses =
+    (k m : ℕ) (x : Witness) → slice_get witnesses k ≡ Some x → slice_get witnesses m ≡ Some x → k ≡ m
 
 -- each line names the witness of its direction, and the witnesses are numbered by first use
 pub record AreListed (parts : List Part) (w : PartSet) (witnesses : List Witness) (dirs : List Dir) : Type 0 where
@@ -38,9 +39,9 @@ pub record AreListed (parts : List Part) (w : PartSet) (witnesses : List Witness
   pub few : length witnesses ≤ length dirs
 
 -- what a certificate says of w, with such lines for these directions, and different witnesses
-abbrev pub IsListing : List Part → PartSet → List V3 → Body → Type 0
-IsListing parts w ds (body.Plan nodes) = ⊥
-IsListing parts w ds (body.Stuck v witnesses dirs) = (v ≡ w) × AreApart witnesses
+abbrev pub IsWitnessListing : List Part → PartSet → List V3 → Body → Type 0
+IsWitnessListing parts w ds (body.Plan nodes) = ⊥
+IsWitnessListing parts w ds (body.Stuck v witnesses dirs) = (v ≡ w) × AreDifferentWitnesses witnesses
     × AreListed parts w witnesses dirs × (map (λ dir. dir.d) dirs ≡ ds)
 
 -- the witness stands at its number in the new list, which is the old one or has it at the end

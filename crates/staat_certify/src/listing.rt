@@ -15,8 +15,8 @@ ghost use Rattle.std.specs.Prelude.{
   slice_get,
 };
 ghost use Rattle.staat_model.specs.declared.certificate.Witness.{Witness as WitnessValue};
-ghost use Rattle.staat_certify.specs.WitnessListings.{AreApart, AreKeys, AreListed, AreNames, IsListing};
-ghost use Rattle.staat_certify.specs.WitnessListings.{IsWitnessNumber};
+ghost use Rattle.staat_certify.specs.WitnessListings.{AreDifferentWitnesses, AreKeys, AreListed, AreNames};
+ghost use Rattle.staat_certify.specs.WitnessListings.{IsWitnessListing, IsWitnessNumber};
 ghost use Rattle.staat_certify.specs.WitnessListings.{key_of, key_numbers};
 ghost use Rattle.staat_certify.specs.Visits.{IsNamed, visited_directions};
 
@@ -152,10 +152,10 @@ pub fn listing_of(
     table: &PlaneTable,
     found: &Found,
 ) -> Result<Body, OutOfMemory>
-    requires apart { AreApart found.now.witnesses.items }
+    requires apart { AreDifferentWitnesses found.now.witnesses.items }
     requires named { All (IsNamed sound.now table.now.of found.now.witnesses.items) found.now.visited.items }
     requires few { length found.now.visited.items < LIST_LIMIT }
-    ensures { IfOk result (IsListing sound.now table.now.of (visited_directions found.now.visited.items)) }
+    ensures { IfOk result (IsWitnessListing sound.now table.now.of (visited_directions found.now.visited.items)) }
 {
     let witnesses = found.witnesses.as_slice();
     let mut listing = Listing {
