@@ -2,6 +2,7 @@ pub mod FacetCounts
 pub mod CanonSearch
 pub mod GraphLaw
 pub mod NotFound
+pub mod Passing
 pub mod UsedLaw
 pub mod Marking
 pub mod BuildLemmas

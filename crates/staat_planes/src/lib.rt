@@ -3,6 +3,7 @@
 
 mod build;
 mod graph;
+mod leads;
 mod marked_planes;
 mod pairs;
 mod plane_number;
@@ -14,6 +15,7 @@ mod table;
 mod used;
 
 pub use build::tabulate;
+pub use leads::{Leads, leads_past};
 pub use pairs::PlanePairs;
 pub use refusal::PlanesRefusal;
 pub use search::{

@@ -1,0 +1,65 @@
+// Whether a direction leads ahead of the facets of two pieces, or behind them.
+ghost use Rattle.std.specs.Prelude.{◌↔◌, All, IsTrue, pos, ◌<ℤ◌};
+ghost use Rattle.staat_vec.specs.Vectors.{IsWithin, dot};
+
+use staat_vec::{DIRECTION, NORMAL, V3, dot};
+
+/// How a direction leads past facets: ahead of all, behind all, or neither. Of no facets both are so.
+#[derive(Clone, Copy)]
+pub struct Leads {
+    /// Whether it leads ahead of all facets.
+    pub ahead: bool,
+    /// Whether it leads behind all facets.
+    pub behind: bool,
+}
+
+impl Leads {
+    // what is so of both
+    fn and(self, o: Leads) -> Leads
+        ensures ahead { IsTrue result.ahead ↔ (IsTrue self.ahead × IsTrue o.ahead) }
+        ensures behind { IsTrue result.behind ↔ (IsTrue self.behind × IsTrue o.behind) }
+    {
+        Leads {
+            ahead: self.ahead & o.ahead,
+            behind: self.behind & o.behind,
+        }
+    }
+}
+
+// how d leads past one facet
+fn leads_past_one(n: V3, d: V3) -> Leads
+    requires normal { IsWithin NORMAL n }
+    requires direction { IsWithin DIRECTION d }
+    ensures ahead { IsTrue result.ahead ↔ (pos 0 <ℤ dot n d) }
+    ensures behind { IsTrue result.behind ↔ (dot n d <ℤ pos 0) }
+{
+    let along = dot(n, d);
+    Leads {
+        ahead: along > 0,
+        behind: along < 0,
+    }
+}
+
+/// Whether `d` leads ahead of all the facets, and whether it leads behind all. Of the facets of two pieces it says
+/// whether the first, moved along `d`, meets the second, and whether the second, moved along `d`, meets the first.
+///
+/// The components of the facets are at most [`NORMAL`] in absolute value, and those of `d` at most [`DIRECTION`]. Each
+/// facet is looked at once, and the search ends where neither is left.
+pub fn leads_past(facets: &[V3], d: V3) -> Leads
+    requires normals { All (IsWithin NORMAL) facets.now }
+    requires direction { IsWithin DIRECTION d }
+    ensures ahead { IsTrue result.ahead ↔ All (λ n. pos 0 <ℤ dot n d) facets.now }
+    ensures behind { IsTrue result.behind ↔ All (λ n. dot n d <ℤ pos 0) facets.now }
+{
+    let mut leads = Leads {
+        ahead: true,
+        behind: true,
+    };
+    for n in facets {
+        leads = leads.and(leads_past_one(*n, d));
+        if !leads.ahead && !leads.behind {
+            return leads;
+        }
+    }
+    leads
+}
