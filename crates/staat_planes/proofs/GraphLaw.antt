@@ -1,6 +1,5 @@
 -- The arcs of a table at a direction are those of the blocking graph of each assembly that it was made from.
-use Rattle.std.proofs.Common.{◌≡◌, ◌↔◌, ◌⊎◌, inl, inr, ⊎_elim, ℕ, ◌+◌, ◌<◌, ◌≤◌, get_or, arith, ap, sym, subst, ◌∙◌, pos, ◌<ℤ◌, List, length, All}
-use Rattle.std.specs.Prelude.{slice_set}
+use Rattle.std.proofs.Common.{◌≡◌, ◌↔◌, ℕ, ◌<◌, sym, subst, ◌∙◌, pos, ◌<ℤ◌, List, All}
 use Rattle.staat_vec.specs.declared.vector.V3.{V3}
 use Rattle.staat_vec.specs.Lists.{Lists}
 use Rattle.staat_vec.specs.Vectors.{dot, vector_cmp}
@@ -10,19 +9,14 @@ use Rattle.staat_model.specs.Assemblies.{HoldsAt, IsAssembly}
 use Rattle.staat_model.specs.Facets.{IsFacet}
 use Rattle.staat_model.specs.Meeting.{Meets}
 use Rattle.staat_model.specs.Removal.{MeetsAlong}
-use Rattle.staat_model.specs.Sets.{Has, IsSubset}
+use Rattle.staat_model.specs.Sets.{IsSubset}
 use Rattle.staat_model.proofs.GraphLemmas.{piece_is}
-use Rattle.std.specs.Int.{bit_at}
-use Rattle.std.proofs.lemmas.List.{get_or_past}
-use Rattle.std.proofs.lemmas.Nat.Bits.{bit_at-zero}
 use Rattle.staat_graph.specs.Blocking.{ShowsBlocking}
 use Rattle.staat_graph.specs.Graphs.{HasArc}
-use Rattle.staat_graph.proofs.Arcs.{row_set}
 use Rattle.staat_model.specs.declared.set.PartSet.{PartSet}
 use Rattle.staat_cone.proofs.WallLemmas.{meets_by_list}
-use Rattle.staat_pairs.specs.Tables.{IsTableArc, IsTable, Table, WasMadeFrom, facets_of}
+use Rattle.staat_pairs.specs.Tables.{IsTableArc, Table, WasMadeFrom, facets_of}
 use Rattle.staat_planes.specs.Tables.{BlocksIn, IsAhead, IsAheadIn}
-use Rattle.staat_vec.proofs.Naturals.{lt_or_le, lt_one_more_cases}
 use Rattle.staat_vec.proofs.Options.{some_injective}
 use Rattle.staat_model.proofs.PlanLemmas.{piece_within}
 
@@ -63,19 +57,6 @@ ahead_is_blocking parts t d a b made = (
       record { i = block.i; j = block.j; across = across; ahead = (meets_at parts t d arc made.assembly (made.facets arc across)).0 m },
 )
 
--- ---- rows
-
-none_past : (rows : List ℕ) (a b : ℕ) → length rows ≤ a → HasArc rows a b → ⊥
-none_past rows a b le h =
-    let e : bit_at (get_or rows a 0) b ≡ 0 = ap (λ r. bit_at r b) (get_or_past rows a 0 le) ∙ bit_at-zero b in
-    absurd (omega arith)
-
-pub whole_rows : (t : Table) (w : PartSet) (d : V3) (rows : List ℕ) (n : ℕ) → IsTable t → length rows ≡ 32 → 32 ≤ n → ((a b : ℕ) → a < n → HasArc rows a b ↔ IsAheadIn t w d a b) → (a b : ℕ) → HasArc rows a b ↔ IsAheadIn t w d a b
-whole_rows t w d rows n is long le each a b = elim (lt_or_le a 32) [
-  | inl lt ↦ each a b (omega arith)
-  | inr past ↦ (λ h. absurd (none_past rows a b (omega arith) h), λ h. absurd (let small : a < 32 = is.small a h.ahead.across.a_in in omega arith))
-]
-
 -- among the parts of a smaller set
 pub arcs_in_are_blocking : (parts : List Part) (t : Table) (w : PartSet) (d : V3) (rows : List ℕ) → WasMadeFrom parts t → IsSubset w t.of → ((a b : ℕ) → HasArc rows a b ↔ IsAheadIn t w d a b) → (a b : ℕ) → HasArc rows a b ↔ BlocksIn parts w d a b
 arcs_in_are_blocking parts t w d rows made within arcs a b =
@@ -94,20 +75,3 @@ arcs_are_blocking parts t d rows made arcs a b =
 
 pub shows_blocking : (parts : List Part) (t : Table) (d : V3) (rows : List ℕ) → ((a b : ℕ) → HasArc rows a b ↔ BlocksIn parts t.of d a b) → ShowsBlocking parts d t.of rows
 shows_blocking parts t d rows arcs = shows_in parts t.of d rows arcs
-
--- one more row
-pub row_written : (t : Table) (w : PartSet) (d : V3) (rows : List ℕ) (n word : ℕ) (met : PartSet) → length rows ≡ 32 → n < 32 → ((a b : ℕ) → a < n → HasArc rows a b ↔ IsAheadIn t w d a b) → ((b : ℕ) → Has met b ↔ IsAheadIn t w d n b) → ((b : ℕ) → Has met b ↔ (bit_at word b ≡ 1)) → (a b : ℕ) → a < n + 1 → HasArc (slice_set rows n word) a b ↔ IsAheadIn t w d a b
-row_written t w d rows n word met long lt before now bits a b below =
-    row_set rows n a word (IsAheadIn t w d) (omega arith)
-    (λ q. (λ h. (now q).0 ((bits q).1 h), λ h. (bits q).0 ((now q).1 h)))
-    (λ q ne. before a q (omega arith)) b
-
--- one more part that is met
-pub part_met : (P : ℕ → Type 0) (met next : PartSet) (n : ℕ) → ((b : ℕ) → Has met b → P b) → ((b : ℕ) → b < n → P b → Has met b) → ((b : ℕ) → Has next b ↔ (Has met b ⊎ (b ≡ n))) → P n → ((b : ℕ) → Has next b → P b) × ((b : ℕ) → b < n + 1 → P b → Has next b)
-part_met P met next n found all more p = (
-  (λ b h. ⊎_elim {C = P b} (λ old. found b old) (λ e. subst P (sym e) p) ((more b).0 h)),
-  (λ b lt h. ⊎_elim {C = Has next b} (λ below. (more b).1 (inl (all b below h))) (λ e. (more b).1 (inr e)) (lt_one_more_cases b n lt)),
-)
-
-pub part_not_met : (P : ℕ → Type 0) (met : PartSet) (n : ℕ) → ((b : ℕ) → b < n → P b → Has met b) → (P n → ⊥) → (b : ℕ) → b < n + 1 → P b → Has met b
-part_not_met P met n all none b lt h = ⊎_elim {C = Has met b} (λ below. all b below h) (λ e. absurd (none (subst P e h))) (lt_one_more_cases b n lt)

@@ -1,7 +1,10 @@
 pub mod FacetCounts
 pub mod CanonSearch
+pub mod BothWays
 pub mod GraphLaw
+pub mod GraphSteps
 pub mod NotFound
+pub mod Found
 pub mod Passing
 pub mod UsedLaw
 pub mod Marking

@@ -1,13 +1,15 @@
 // The blocking graph at a direction.
-ghost use Rattle.std.specs.Prelude.{◌≢◌, ◌<◌, ◌↔◌, ℕ, List, All, IsTrue, pos, ◌<ℤ◌};
+ghost use Rattle.std.specs.Prelude.{◌≡◌, ◌<◌, ◌⊎◌, ◌↔◌, ℕ, List, All, IsTrue, pos, ◌<ℤ◌};
 ghost use Rattle.staat_vec.specs.Vectors.{IsWithin, dot};
 ghost use Rattle.staat_model.specs.declared.assembly.Part.{Part as PartValue};
 ghost use Rattle.staat_model.specs.Sets.{Has, IsSubset};
 ghost use Rattle.staat_graph.specs.Blocking.{ShowsBlocking};
 ghost use Rattle.staat_graph.specs.Graphs.{HasArc};
-ghost use Rattle.staat_pairs.specs.Tables.{IsTableArc, WasMadeFrom, facets_of, pieces_of};
-ghost use Rattle.staat_planes.specs.Tables.{BlocksIn, IsAhead, IsAheadFrom, IsAheadIn};
+ghost use Rattle.staat_pairs.specs.Tables.{IsTableArc, WasMadeFrom, back, facets_of, pieces_of};
+ghost use Rattle.staat_planes.specs.Tables.{BlocksIn, GainsArcs, IsAhead, IsAheadFrom, IsAheadIn};
+ghost use Rattle.staat_planes.specs.Tables.{IsBehindFrom};
 
+use crate::leads::{Leads, leads_past};
 use crate::table::PlaneTable;
 use staat_cone::blocks;
 use staat_graph::Graph;
@@ -15,6 +17,18 @@ use staat_limits::MOST_PARTS;
 use staat_model::{Arc, PartSet};
 use staat_pairs::back;
 use staat_vec::{DIRECTION, V3, neg};
+
+// puts the arc from a to b into the rows, if it stands
+fn put_arc(rows: &mut [u32; 32], a: u32, b: u32, stands: bool)
+    requires from { a < MOST_PARTS }
+    requires to { b < MOST_PARTS }
+    ensures { (x y : ℕ) → HasArc rows.new x y ↔ (HasArc rows.old x y ⊎ ((x ≡ a) × (y ≡ b) × IsTrue stands)) }
+{
+    if stands {
+        let row = PartSet::from_bits(rows[a as usize]);
+        rows[a as usize] = row.union(PartSet::single(b)).bits();
+    }
+}
 
 impl PlaneTable {
     /// Whether `d` leads ahead of all facets of an ordered pair of pieces of different parts of the set.
@@ -34,74 +48,97 @@ impl PlaneTable {
         }
     }
 
-    // whether it does so for a piece of the part a and some piece of the part b
-    fn leads_from(&self, a: u32, i: u32, b: u32, d: V3) -> bool
+    /// How `d` leads past the facets of two pieces of different parts of the set, that of the lesser part first: whether
+    /// ahead of all of them, and whether behind all, which is ahead of all facets of the two in the other order.
+    ///
+    /// The components of `d` are at most [`DIRECTION`] in absolute value. Each facet is looked at once, and the search
+    /// ends where neither is left.
+    pub fn leads_both_ways(&self, arc: Arc, d: V3) -> Leads
+        requires across { IsTableArc self.now arc }
+        requires order { arc.a < arc.b }
+        requires direction { IsWithin DIRECTION d }
+        ensures ahead { IsTrue result.ahead ↔ All (λ n. pos 0 <ℤ dot n d) (facets_of self.now arc) }
+        ensures behind { IsTrue result.behind ↔ All (λ n. pos 0 <ℤ dot n d) (facets_of self.now (back arc)) }
+    {
+        leads_past(self.kept_facets(arc), d)
+    }
+
+    // the same of a piece of the part a and any pieces of the greater part b
+    fn leads_from(&self, a: u32, i: u32, b: u32, d: V3) -> Leads
         requires a_in { Has self.now.of a }
         requires b_in { Has self.now.of b }
-        requires different { a ≢ b }
+        requires order { a < b }
         requires piece { i < pieces_of self.now a }
         requires direction { IsWithin DIRECTION d }
-        ensures { IsTrue result ↔ IsAheadFrom self.now d a i b }
+        ensures ahead { IsTrue result.ahead ↔ IsAheadFrom self.now d a i b }
+        ensures behind { IsTrue result.behind ↔ IsBehindFrom self.now d a i b }
     {
+        let mut leads = Leads::neither();
         for j in 0..self.pieces(b) {
-            if self.leads_ahead(Arc { a, i, b, j }, d) {
-                return true;
+            leads = leads.or(self.leads_both_ways(Arc { a, i, b, j }, d));
+            if leads.ahead && leads.behind {
+                return leads;
             }
         }
-        false
+        leads
     }
 
-    // whether it does so for some piece of the part a and some piece of the part b
-    fn leads_between(&self, a: u32, b: u32, d: V3) -> bool
+    // the same of any pieces of the part a and any of the greater part b
+    fn leads_between(&self, a: u32, b: u32, d: V3) -> Leads
         requires a_in { Has self.now.of a }
         requires b_in { Has self.now.of b }
-        requires different { a ≢ b }
+        requires order { a < b }
         requires direction { IsWithin DIRECTION d }
-        ensures { IsTrue result ↔ IsAhead self.now d a b }
+        ensures ahead { IsTrue result.ahead ↔ IsAhead self.now d a b }
+        ensures behind { IsTrue result.behind ↔ IsAhead self.now d b a }
     {
+        let mut leads = Leads::neither();
         for i in 0..self.pieces(a) {
-            if self.leads_from(a, i, b, d) {
-                return true;
+            leads = leads.or(self.leads_from(a, i, b, d));
+            if leads.ahead && leads.behind {
+                return leads;
             }
         }
-        false
+        leads
     }
 
-    // whether both parts are in w, and it does so
-    fn leads_in(&self, a: u32, b: u32, w: PartSet, d: V3) -> bool
-        requires a { a < MOST_PARTS }
-        requires b { b < MOST_PARTS }
-        requires set { IsSubset w self.now.of }
+    // puts the arcs between the part a and the greater part b into the rows
+    fn put_pair(&self, rows: &mut [u32; 32], a: u32, b: u32, d: V3)
+        requires a_in { Has self.now.of a }
+        requires b_in { Has self.now.of b }
+        requires order { a < b }
         requires direction { IsWithin DIRECTION d }
-        ensures { IsTrue result ↔ IsAheadIn self.now w d a b }
+        ensures { GainsArcs (IsAhead self.now d) a (λ y. y ≡ b) rows.old rows.new }
     {
-        a != b && w.has(a) && w.has(b) && self.leads_between(a, b, d)
+        // parts are below the number of rows
+        let _set = self.set();
+        let leads = self.leads_between(a, b, d);
+        put_arc(rows, a, b, leads.ahead);
+        put_arc(rows, b, a, leads.behind);
     }
 
-    // the parts of w that the part a meets, and none where it is not in w
-    fn met_by(&self, a: u32, w: PartSet, d: V3) -> PartSet
-        requires part { a < MOST_PARTS }
-        requires set { IsSubset w self.now.of }
+    // puts those between the part a and each of others, which are greater
+    fn put_pairs(&self, rows: &mut [u32; 32], a: u32, others: PartSet, d: V3)
+        requires a_in { Has self.now.of a }
+        requires set { IsSubset others self.now.of }
+        requires order { (b : ℕ) → Has others b → a < b }
         requires direction { IsWithin DIRECTION d }
-        ensures { (b : ℕ) → Has result b ↔ IsAheadIn self.now w d a b }
+        ensures { GainsArcs (IsAhead self.now d) a (Has others) rows.old rows.new }
     {
-        // all members are below the number of bits
-        let _bits = w.bits();
-        let mut met = PartSet::empty();
-        for b in 0..MOST_PARTS {
-            if self.leads_in(a, b, w, d) {
-                met = met.union(PartSet::single(b));
-            }
+        let mut left = others;
+        while left.meets(left) {
+            let b = left.least();
+            left = left.without(PartSet::single(b));
+            self.put_pair(rows, a, b, d);
         }
-        met
     }
 
     /// The blocking graph of the parts of `w` at the direction `d`: an arc from one of them to another stands exactly
     /// where some piece of the first, moved along `d`, meets some piece of the second (Wilson and Latombe, 1994).
     ///
     /// `w` lies in the table's set. The components of `d` are at most [`DIRECTION`](staat_vec::DIRECTION) in absolute
-    /// value. For two pieces the search ends at the first facet that `d` does not lead ahead of, and for two parts at
-    /// the first two pieces that meet. It takes no memory.
+    /// value. The facets of two pieces are looked at for both orders at once, and for two parts the search ends where
+    /// both arcs stand. It takes no memory.
     pub fn graph_in(&self, w: PartSet, d: V3) -> Graph
         requires set { IsSubset w self.now.of }
         requires direction { IsWithin DIRECTION d }
@@ -111,11 +148,12 @@ impl PlaneTable {
         ensures shows { (parts : List PartValue) → WasMadeFrom parts self.now →
             ShowsBlocking parts d w result.rows }
     {
-        // parts are below the number of rows
-        let _set = self.set();
         let mut rows = [0u32; 32];
-        for a in 0..MOST_PARTS {
-            rows[a as usize] = self.met_by(a, w, d).bits();
+        let mut left = w;
+        while left.meets(left) {
+            let a = left.least();
+            left = left.without(PartSet::single(a));
+            self.put_pairs(&mut rows, a, left, d);
         }
         Graph { rows }
     }

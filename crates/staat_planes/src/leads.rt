@@ -1,5 +1,5 @@
 // Whether a direction leads ahead of the facets of two pieces, or behind them.
-ghost use Rattle.std.specs.Prelude.{◌↔◌, All, IsTrue, pos, ◌<ℤ◌};
+ghost use Rattle.std.specs.Prelude.{◌⊎◌, ◌↔◌, All, IsTrue, pos, ◌<ℤ◌};
 ghost use Rattle.staat_vec.specs.Vectors.{IsWithin, dot};
 
 use staat_vec::{DIRECTION, NORMAL, V3, dot};
@@ -14,14 +14,36 @@ pub struct Leads {
 }
 
 impl Leads {
-    // what is so of both
-    fn and(self, o: Leads) -> Leads
+    /// Neither is so.
+    pub(crate) fn neither() -> Leads
+        ensures ahead { IsTrue result.ahead → ⊥ }
+        ensures behind { IsTrue result.behind → ⊥ }
+    {
+        Leads {
+            ahead: false,
+            behind: false,
+        }
+    }
+
+    /// What is so of both.
+    pub(crate) fn and(self, o: Leads) -> Leads
         ensures ahead { IsTrue result.ahead ↔ (IsTrue self.ahead × IsTrue o.ahead) }
         ensures behind { IsTrue result.behind ↔ (IsTrue self.behind × IsTrue o.behind) }
     {
         Leads {
             ahead: self.ahead & o.ahead,
             behind: self.behind & o.behind,
+        }
+    }
+
+    /// What is so of one of the two.
+    pub(crate) fn or(self, o: Leads) -> Leads
+        ensures ahead { IsTrue result.ahead ↔ (IsTrue self.ahead ⊎ IsTrue o.ahead) }
+        ensures behind { IsTrue result.behind ↔ (IsTrue self.behind ⊎ IsTrue o.behind) }
+    {
+        Leads {
+            ahead: self.ahead | o.ahead,
+            behind: self.behind | o.behind,
         }
     }
 }

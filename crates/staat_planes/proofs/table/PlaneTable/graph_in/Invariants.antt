@@ -1,10 +1,13 @@
-use Rattle.std.proofs.Common.{◌≡◌, ◌↔◌, ℕ, ◌<◌, length}
-use Rattle.staat_graph.specs.Graphs.{HasArc}
-use Rattle.staat_planes.specs.Tables.{IsAheadIn}
+use Rattle.std.specs.FinSet as set
+use Rattle.staat_model.specs.Sets.{IsSubset}
+use Rattle.staat_planes.proofs.GraphSteps.{HasArcsBut}
 use Rattle.staat_planes.proofs.table.PlaneTable.graph_in.Given as goal
 
-abbrev pub invariant-loop-a : goal.invariant-loop-a
-invariant-loop-a l = record {
-  long : length l.rows ≡ 32;
-  rows : (a b : ℕ) → a < l.a → HasArc l.rows a b ↔ IsAheadIn l.self l.w l.d a b;
+abbrev pub invariant-loop-d : goal.invariant-loop-d
+invariant-loop-d l = record {
+  within : IsSubset l.left l.fn.w;
+  rows : HasArcsBut l.self l.fn.w l.left l.d l.rows;
 }
+
+abbrev pub decreases-loop-d : goal.decreases-loop-d
+decreases-loop-d l = set.len l.left

@@ -1,8 +1,10 @@
-use Rattle.std.proofs.Common.{ℕ, ◌<◌, All, pos, ◌<ℤ◌}
-use Rattle.staat_vec.specs.Vectors.{dot}
 use Rattle.staat_pairs.specs.Searches.{arc_of}
-use Rattle.staat_pairs.specs.Tables.{facets_of}
+use Rattle.staat_planes.proofs.BothWays.{IsArcAhead}
+use Rattle.staat_planes.proofs.Found.{IsFound}
 use Rattle.staat_planes.proofs.table.PlaneTable.leads_from.Given as goal
 
 abbrev pub invariant-loop-j : goal.invariant-loop-j
-invariant-loop-j l = (j : ℕ) → j < l.j → All (λ n. pos 0 <ℤ dot n l.d) (facets_of l.self (arc_of l.a l.i l.b j)) → ⊥
+invariant-loop-j l = record {
+  ahead : IsFound (λ j. IsArcAhead l.self l.d (arc_of l.a l.i l.b j)) l.j l.leads.ahead;
+  behind : IsFound (λ j. IsArcAhead l.self l.d (arc_of l.b j l.a l.i)) l.j l.leads.behind;
+}
