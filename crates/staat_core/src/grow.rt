@@ -1,5 +1,5 @@
 // How a core grows at a direction.
-ghost use Rattle.std.specs.Prelude.{◌≡◌, List, Contains, IfSome, IsTrue};
+ghost use Rattle.std.specs.Prelude.{◌≡◌, List, All, Contains, IfSome, IsTrue};
 ghost use Rattle.staat_vec.specs.declared.vector.V3.{V3 as Vector};
 ghost use Rattle.staat_vec.specs.Vectors.{IsWithin, negative};
 ghost use Rattle.staat_model.specs.declared.assembly.Part.{Part as PartValue};
@@ -8,7 +8,7 @@ ghost use Rattle.staat_model.specs.Sets.{IsNonempty};
 ghost use Rattle.staat_graph.specs.Graphs.{AreReversed};
 ghost use Rattle.staat_core.specs.Cores.{AreLeading, HasGrown, IsCore, core_pairs};
 ghost use Rattle.staat_core.specs.Moves.{HoldsMoves};
-ghost use Rattle.staat_core.specs.Sources.{IsSmallPair, both_ways};
+ghost use Rattle.staat_core.specs.Sources.{IsNormal, IsSmallPair, both_ways};
 
 use crate::cores::Core;
 use crate::joins::{Joins, Moving};
@@ -52,21 +52,75 @@ fn put_pair<S: PairSource>(joins: &mut Joins, source: &S, pair: Arc, d: V3, e: V
     }
 }
 
-// whether a pair has one part in s and the other in r
-fn may_link(pair: Arc, s: PartSet, r: PartSet) -> bool
-    requires { IsSmallPair pair }
-{
-    s.has(pair.a) && r.has(pair.b) || s.has(pair.b) && r.has(pair.a)
+// The pairs of a source that block along a direction or its opposite. A pair stands by twice its place, and by one more
+// where the second piece meets the first. It says which pairs are worth a look, no more.
+#[derive(Drop)]
+struct Blocking {
+    arcs: [u32; 2016],
+    count: usize,
 }
 
-// whether a pair leads from s to r along d, whose opposite is e; s and r have no part in common
-fn is_link<S: PairSource>(source: &S, pair: Arc, d: V3, e: V3, s: PartSet, r: PartSet) -> bool
-    requires pair { Contains (S.pairs source.now) pair }
-    requires small { IsSmallPair pair }
-    requires d { IsWithin DIRECTION d }
-    requires e { IsWithin DIRECTION e }
+impl Blocking {
+    // puts one more at the end, if there is room
+    fn put(&mut self, arc: u32) {
+        if let Some(place) = self.arcs.get_mut(self.count) {
+            *place = arc;
+            self.count = self.count.saturating_add(1);
+        }
+    }
+
+    // puts a pair, if it blocks along d or along its opposite e
+    fn put_pair(&mut self, facets: &[V3], place: u32, d: V3, e: V3)
+        requires facets { All IsNormal facets.now }
+        requires d { IsWithin DIRECTION d }
+        requires e { IsWithin DIRECTION e }
+    {
+        let arc = place.saturating_mul(2);
+        if blocks(facets, d) {
+            self.put(arc);
+        } else if blocks(facets, e) {
+            self.put(arc.saturating_add(1));
+        }
+    }
+
+    // those along d, whose opposite is e
+    fn at<S: PairSource>(source: &S, d: V3, e: V3) -> Blocking
+        requires d { IsWithin DIRECTION d }
+        requires e { IsWithin DIRECTION e }
+    {
+        let mut blocking = Blocking {
+            arcs: [0; 2016],
+            count: 0,
+        };
+        let mut place: u32 = 0;
+        for pair in source.pairs() {
+            blocking.put_pair(source.facets(*pair), place, d, e);
+            place = place.saturating_add(1);
+        }
+        blocking
+    }
+}
+
+// the pair at a place, if there is one
+fn pair_at(pairs: &[Arc], place: u32) -> Option<Arc>
+    ensures { IfSome result (Contains pairs.now) }
 {
-    may_link(pair, s, r) && blocks(source.facets(pair), if s.has(pair.a) { d } else { e })
+    if (place as usize) < pairs.len() {
+        Some(pairs[place as usize])
+    } else {
+        None
+    }
+}
+
+// whether the arc of a pair, turned round or not, leads from s to r
+fn is_link(pair: Arc, turned: bool, s: PartSet, r: PartSet) -> bool
+    requires { IsSmallPair pair }
+{
+    if turned {
+        s.has(pair.b) && r.has(pair.a)
+    } else {
+        s.has(pair.a) && r.has(pair.b)
+    }
 }
 
 impl Core {
@@ -112,17 +166,26 @@ impl Core {
         }
     }
 
-    // A pair that leads from s to r along d: of all of them the first for which the fewest planes are wanting.
-    fn wanted<S: PairSource>(&self, source: &S, d: V3, s: PartSet, r: PartSet) -> Option<Arc>
-        requires core { IsCore (S.pairs source.now) (S.speaks source.now) self.now }
-        requires direction { IsWithin DIRECTION d }
+    // A pair of those that block, which leads from s to r: of all of them the first for which the fewest planes are
+    // wanting.
+    fn wanted<S: PairSource>(
+        &self,
+        source: &S,
+        blocking: &Blocking,
+        s: PartSet,
+        r: PartSet,
+    ) -> Option<Arc>
+        requires { IsCore (S.pairs source.now) (S.speaks source.now) self.now }
         ensures { IfSome result (Contains (S.pairs source.now)) }
     {
-        let e = neg(d);
+        let pairs = source.pairs();
         let mut best = None;
-        for pair in source.pairs() {
-            if is_link(source, *pair, d, e, s, r) {
-                let found = self.better(source, best, *pair);
+        for arc in blocking.arcs.iter().take(blocking.count) {
+            let Some(pair) = pair_at(pairs, *arc / 2) else {
+                return None;
+            };
+            if is_link(pair, *arc % 2 == 1, s, r) {
+                let found = self.better(source, best, pair);
                 if found.planes == 0 {
                     return Some(found.pair);
                 }
@@ -146,6 +209,47 @@ impl Core {
         self.add(pair, source.facets(pair))
     }
 
+    // The core grows until nothing of w moves along d, as far as it tells; false where it cannot. The graph of its pairs
+    // along d is given.
+    fn grow_at<S: PairSource>(
+        &mut self,
+        source: &S,
+        w: PartSet,
+        moving: Moving,
+        d: V3,
+        graph: Joins,
+    ) -> bool
+        requires core { IsCore (S.pairs source.now) (S.speaks source.now) self.old }
+        requires some { IsNonempty w }
+        requires direction { IsWithin DIRECTION d }
+        requires reversed { AreReversed graph.ahead.rows graph.back.rows }
+        requires leads { (parts : List PartValue) → S.speaks source.now parts
+            → AreLeading parts (core_pairs self.old) d graph.ahead.rows }
+        ensures core { IsCore (S.pairs source.now) (S.speaks source.now) self.new }
+        ensures grows { HasGrown self.old self.new }
+        ensures held { IsTrue result → (parts : List PartValue) → S.speaks source.now parts
+            → HoldsMoves parts (both_ways (core_pairs self.new)) moving w d }
+    {
+        // the parts of the pairs are below the number of rows
+        let _pairs = source.pairs();
+        let e = neg(d);
+        let blocking = Blocking::at(source, d, e);
+        let mut joins = graph;
+        for _k in 0..ROUNDS {
+            let Some(s) = joins.shut(w, moving) else {
+                return true;
+            };
+            let Some(pair) = self.wanted(source, &blocking, s, w.without(s)) else {
+                return false;
+            };
+            if !self.take(source, pair) {
+                return false;
+            }
+            put_pair(&mut joins, source, pair, d, e);
+        }
+        false
+    }
+
     /// Whether nothing of `w` moves along `d` or along its opposite, as far as the core tells. Where it does not tell
     /// so, it grows by pairs that block there.
     ///
@@ -165,22 +269,10 @@ impl Core {
         ensures held { IsTrue result → (parts : List PartValue) → S.speaks source.now parts
             → HoldsMoves parts (both_ways (core_pairs self.new)) moving w d }
     {
-        // the parts of the pairs are below the number of rows
-        let _pairs = source.pairs();
-        let e = neg(d);
-        let mut joins = self.joins_at(source, d);
-        for _k in 0..ROUNDS {
-            let Some(s) = joins.shut(w, moving) else {
-                return true;
-            };
-            let Some(pair) = self.wanted(source, d, s, w.without(s)) else {
-                return false;
-            };
-            if !self.take(source, pair) {
-                return false;
-            }
-            put_pair(&mut joins, source, pair, d, e);
+        let joins = self.joins_at(source, d);
+        match joins.shut(w, moving) {
+            None => true,
+            Some(_) => self.grow_at(source, w, moving, d, joins),
         }
-        false
     }
 }

@@ -2,7 +2,7 @@ use Rattle.std.proofs.Common.{List}
 use Rattle.staat_model.specs.declared.assembly.Part.{Part}
 use Rattle.staat_graph.specs.Graphs.{AreReversed}
 use Rattle.staat_core.specs.Cores.{AreLeading, HasGrown, IsCore, core_pairs}
-use Rattle.staat_core.proofs.cores.Core.settle.Given as goal
+use Rattle.staat_core.proofs.cores.Core.grow_at.Given as goal
 
 abbrev pub invariant-loop-k : goal.invariant-loop-k
 invariant-loop-k g l = record {
