@@ -2,6 +2,8 @@
 ghost use Rattle.std.specs.Prelude.{◌≡◌, ◌<◌, ◌↔◌, List, Contains, IsTrue, Some, length};
 ghost use Rattle.std.specs.Prelude.{slice_get};
 ghost use Rattle.staat_vec.specs.declared.vector.V3.{V3 as Vector};
+ghost use Rattle.staat_vec.specs.Primitives.{canon};
+ghost use Rattle.staat_vec.specs.Vectors.{negative};
 ghost use Rattle.staat_model.specs.declared.assembly.Part.{Part as PartValue};
 ghost use Rattle.staat_model.specs.Planes.{ArePlanes};
 ghost use Rattle.staat_model.specs.Sets.{Has, IsSubset};
@@ -12,13 +14,15 @@ ghost use Rattle.staat_planes.specs.Tables.{IsPlaneOf};
 use crate::table::PlaneTable;
 use staat_limits::{LEAST_PLANES, MOST_PARTS};
 use staat_model::{Arc, PartSet};
-use staat_vec::{V3, neg};
+use staat_vec::{V3, is_same, neg};
 
-// whether n is one of the facets
-fn is_facet(facets: &[V3], n: V3) -> bool
-    ensures { IsTrue result ↔ Contains facets.now n }
+// whether n, whose negative is opposite, is the normal of the plane of the facet
+fn is_plane_of(facet: V3, n: V3, opposite: V3) -> bool
+    requires normal { IsPlaneNormal n }
+    requires opposite { opposite ≡ negative n }
+    ensures { IsTrue result ↔ (n ≡ canon facet) }
 {
-    facets.contains(&n)
+    is_same(facet, n) || is_same(facet, opposite)
 }
 
 // whether n is the normal of the plane of one of the facets
@@ -26,7 +30,13 @@ fn has_plane(facets: &[V3], n: V3) -> bool
     requires { IsPlaneNormal n }
     ensures { IsTrue result ↔ IsCanonOf facets.now n }
 {
-    is_facet(facets, n) || is_facet(facets, neg(n))
+    let opposite = neg(n);
+    for facet in facets {
+        if is_plane_of(*facet, n, opposite) {
+            return true;
+        }
+    }
+    false
 }
 
 impl PlaneTable {

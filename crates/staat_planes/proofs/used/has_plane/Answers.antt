@@ -1,19 +1,27 @@
-use Rattle.std.proofs.Common.{◌∙◌, ⊎_elim, inl, inr, subst, sym, Contains}
+use Rattle.std.proofs.Common.{◌≡◌, ◌∙◌, sym}
 use Rattle.std.proofs.lemmas.Bool.{false≢true}
-use Rattle.staat_planes.proofs.CanonSearch.{canon_either}
+use Rattle.std.proofs.lemmas.List.Elements.{All-more, All-nil}
+use Rattle.staat_vec.specs.Primitives.{canon}
+use Rattle.staat_vec.specs.Vectors.{origin}
+use Rattle.staat_cone.proofs.LoopAnswers.{none_has, one_has}
+use Rattle.staat_planes.proofs.CanonSearch.{canon_any}
 use Rattle.staat_planes.proofs.used.has_plane.Goals as goal
 
-pub returns-then-is_facet : goal.returns-then-is_facet
-returns-then-is_facet c = (
-  λ t. (canon_either c.args.facets.now c.args.n c.requires.canonical).1 (inl (c.is_facet.ensures.0 c.if-is_facet.true)),
-  λ h. c.if-is_facet.true,
-)
+pub loop-facet-init : goal.loop-facet-init
+loop-facet-init c = All-nil (λ f. c.args.n ≡ canon f → ⊥)
 
-pub returns-else-is_facet : goal.returns-else-is_facet
-returns-else-is_facet c =
-    let facets = c.args.facets.now in
-    let law = canon_either facets c.args.n c.requires.canonical in (
-      λ t. law.1 (inr (subst (Contains facets) c.neg.ensures.value (c.is_facet-else-is_facet.ensures.0 t))),
-      λ h. ⊎_elim (λ e. absurd (false≢true (sym c.if-is_facet.false ∙ c.is_facet.ensures.1 e)))
-          (λ e. c.is_facet-else-is_facet.ensures.1 (subst (Contains facets) (sym c.neg.ensures.value) e)) (law.0 h),
-    )
+pub loop-facet-preserved : goal.loop-facet-preserved
+loop-facet-preserved c = All-more (λ f. c.args.n ≡ canon f → ⊥) c.args.facets.now c.loop-facet.facet-index origin c.loop-facet-test.true c.loop-facet.invariant
+    (λ e. false≢true (sym c.if-is_plane_of.false ∙ c.is_plane_of.ensures.1 e))
+
+pub returns-then-is_plane_of : goal.returns-then-is_plane_of
+returns-then-is_plane_of c =
+    let law = canon_any c.args.facets.now c.args.n in
+    let told = one_has (λ f. c.args.n ≡ canon f) c.args.facets.now c.loop-facet.facet-index origin c.loop-facet-test.true (c.is_plane_of.ensures.0 c.if-is_plane_of.true) in
+    (λ t. law.1 (told.0 t), λ h. told.1 (law.0 h))
+
+pub returns : goal.returns
+returns c =
+    let law = canon_any c.args.facets.now c.args.n in
+    let told = none_has (λ f. c.args.n ≡ canon f) c.args.facets.now c.loop-facet.facet-index c.loop-facet-test.false c.loop-facet.invariant in
+    (λ t. law.1 (told.0 t), λ h. told.1 (law.0 h))
