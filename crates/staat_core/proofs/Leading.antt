@@ -1,18 +1,18 @@
 -- Which piece of a pair meets the other, and the graph of the pairs.
-use Rattle.std.proofs.Common.{◌≡◌, ◌↔◌, ◌⊎◌, ⊎_elim, inl, inr, ℕ, sym, subst, map, List, All, Contains}
-use Rattle.std.proofs.lemmas.List.Elements.{All-contains, Contains-append_cases, Contains-append_left, Contains-append_right}
+use Rattle.std.proofs.Common.{◌≡◌, ◌⊎◌, ⊎_elim, inl, inr, ℕ, pos, ◌<ℤ◌, arith, sym, subst, map, List, All, Contains}
+use Rattle.std.proofs.lemmas.Int.{ints}
+use Rattle.std.proofs.lemmas.List.Elements.{All-contains, All-weaker, Contains-append_cases, Contains-append_left, Contains-append_right}
 use Rattle.staat_vec.specs.declared.vector.V3.{V3}
-use Rattle.staat_vec.specs.Vectors.{negative}
+use Rattle.staat_vec.specs.Vectors.{dot, negative}
+use Rattle.staat_vec.proofs.VecRing.{dot_negative}
 use Rattle.staat_model.specs.declared.assembly.Part.{Part}
 use Rattle.staat_model.specs.declared.certificate.Arc.{Arc}
-use Rattle.staat_model.specs.Facets.{IsFacet}
-use Rattle.staat_model.specs.Meeting.{Meets}
-use Rattle.staat_model.specs.Pieces.{IsPiece}
 use Rattle.staat_model.specs.Removal.{MeetsAlong}
 use Rattle.staat_model.proofs.Differences.{from_map}
 use Rattle.staat_model.proofs.GraphLemmas.{piece_in}
 use Rattle.staat_model.proofs.Members.{All-from_members}
 use Rattle.staat_model.proofs.Reversed.{meets_opposite_lemma}
+use Rattle.staat_cone.proofs.WallLemmas.{meets_by_list}
 use Rattle.staat_graph.specs.Graphs.{HasArc}
 use Rattle.staat_pairs.specs.Tables.{back}
 use Rattle.staat_core.specs.Cores.{AreLeading, GoesOn, LeadsAlong}
@@ -20,22 +20,26 @@ use Rattle.staat_core.specs.Sources.{AreFacetsOf, both_ways}
 use Rattle.staat_core.proofs.Growing.{stays_in}
 use Rattle.staat_vec.proofs.ListLaws.{Contains-map}
 
-module _ (parts : List Part) (pair : Arc) (facets : List V3) where
-  -- what blocks by the facets of the pair meets
-  pub meets_ahead : (d : V3) → AreFacetsOf parts pair facets → ((p q : List V3) → IsPiece p → IsPiece q → ((n : V3) → Contains facets n ↔ IsFacet p q n) → Meets p q d) → MeetsAlong parts d pair
-  meets_ahead d are meets =
+module _ (parts : List Part) (pair : Arc) (facets : List V3) (are : AreFacetsOf parts pair facets) where
+  -- where d leads ahead of all facets, the first piece meets the second
+  pub meets_ahead : (d : V3) → All (λ n. pos 0 <ℤ dot n d) facets → MeetsAlong parts d pair
+  meets_ahead d ahead =
       let h = are.holds in record {
         p = h.p;
         q = h.q;
         p_is = h.p_is;
         q_is = h.q_is;
-        holds = meets h.p h.q (piece_in parts pair.a pair.i h.p are.parts_are h.p_is) (piece_in parts pair.b pair.j h.q are.parts_are h.q_is) (λ n. (h.holds.each n, h.holds.all n));
+        holds = (meets_by_list h.p h.q facets d (piece_in parts pair.a pair.i h.p are.parts_are h.p_is) (piece_in parts pair.b pair.j h.q are.parts_are h.q_is) (λ n. (h.holds.each n, h.holds.all n))).1 ahead;
       }
 
-  pub meets_behind : (d e : V3) → e ≡ negative d → AreFacetsOf parts pair facets → ((p q : List V3) → IsPiece p → IsPiece q → ((n : V3) → Contains facets n ↔ IsFacet p q n) → Meets p q e) → MeetsAlong parts d (back pair)
-  meets_behind d e opposite are meets =
-      let m = meets_ahead e are meets in
-      record { p = m.q; q = m.p; p_is = m.q_is; q_is = m.p_is; holds = (meets_opposite_lemma m.p m.q d).0 (subst (Meets m.p m.q) opposite m.holds) }
+  turned : (d n : V3) → dot n d <ℤ pos 0 → pos 0 <ℤ dot n (negative d)
+  turned d n lt = let e = dot_negative n d in omega (arith, ints, e, lt)
+
+  -- where it leads behind all, the second meets the first
+  pub meets_behind : (d : V3) → All (λ n. dot n d <ℤ pos 0) facets → MeetsAlong parts d (back pair)
+  meets_behind d behind =
+      let m = meets_ahead (negative d) (All-weaker (λ n. dot n d <ℤ pos 0) (λ n. pos 0 <ℤ dot n (negative d)) (turned d) facets behind) in
+      record { p = m.q; q = m.p; p_is = m.q_is; q_is = m.p_is; holds = (meets_opposite_lemma m.p m.q d).0 m.holds }
 
 -- ---- the pairs in both orders
 

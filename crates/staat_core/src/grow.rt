@@ -1,7 +1,7 @@
 // How a core grows at a direction.
 ghost use Rattle.std.specs.Prelude.{◌≡◌, List, All, Contains, IfSome, IsTrue};
 ghost use Rattle.staat_vec.specs.declared.vector.V3.{V3 as Vector};
-ghost use Rattle.staat_vec.specs.Vectors.{IsWithin, negative};
+ghost use Rattle.staat_vec.specs.Vectors.{IsWithin};
 ghost use Rattle.staat_model.specs.declared.assembly.Part.{Part as PartValue};
 ghost use Rattle.staat_model.specs.declared.certificate.Arc.{Arc as ArcValue};
 ghost use Rattle.staat_model.specs.Sets.{IsNonempty};
@@ -13,9 +13,9 @@ ghost use Rattle.staat_core.specs.Sources.{IsNormal, IsSmallPair, both_ways};
 use crate::cores::Core;
 use crate::joins::{Joins, Moving};
 use crate::source::PairSource;
-use staat_cone::blocks;
 use staat_model::{Arc, PartSet};
-use staat_vec::{DIRECTION, V3, neg};
+use staat_planes::leads_past;
+use staat_vec::{DIRECTION, V3};
 
 /// How often a core grows at most at one direction.
 const ROUNDS: u32 = 2016;
@@ -27,14 +27,12 @@ pub(crate) struct Wanted {
     pub planes: u32,
 }
 
-// Adds the arc of a pair along d, whose opposite is e, if one of its pieces meets the other there. Of arcs that are
-// there already no facets are looked at.
-fn put_pair<S: PairSource>(joins: &mut Joins, source: &S, pair: Arc, d: V3, e: V3)
+// Adds the arc of a pair along d, if one of its pieces meets the other there. Where both arcs are there already, no
+// facets are looked at.
+fn put_pair<S: PairSource>(joins: &mut Joins, source: &S, pair: Arc, d: V3)
     requires pair { Contains (S.pairs source.now) pair }
     requires small { IsSmallPair pair }
-    requires d { IsWithin DIRECTION d }
-    requires e { IsWithin DIRECTION e }
-    requires opposite { e ≡ negative d }
+    requires direction { IsWithin DIRECTION d }
     requires reversed { AreReversed joins.old.ahead.rows joins.old.back.rows }
     ensures reversed { AreReversed joins.new.ahead.rows joins.new.back.rows }
     ensures leads { (parts : List PartValue) (pairs : List ArcValue) → S.speaks source.now parts
@@ -44,10 +42,10 @@ fn put_pair<S: PairSource>(joins: &mut Joins, source: &S, pair: Arc, d: V3, e: V
     if joins.has(pair.a, pair.b) && joins.has(pair.b, pair.a) {
         return;
     }
-    let facets = source.facets(pair);
-    if !joins.has(pair.a, pair.b) && blocks(facets, d) {
+    let leads = leads_past(source.facets(pair), d);
+    if leads.ahead {
         joins.put(pair.a, pair.b);
-    } else if !joins.has(pair.b, pair.a) && blocks(facets, e) {
+    } else if leads.behind {
         joins.put(pair.b, pair.a);
     }
 }
@@ -69,24 +67,23 @@ impl Blocking {
         }
     }
 
-    // puts a pair, if it blocks along d or along its opposite e
-    fn put_pair(&mut self, facets: &[V3], place: u32, d: V3, e: V3)
+    // puts the pair with these facets, if it blocks along d or its opposite
+    fn put_pair(&mut self, facets: &[V3], place: u32, d: V3)
         requires facets { All IsNormal facets.now }
-        requires d { IsWithin DIRECTION d }
-        requires e { IsWithin DIRECTION e }
+        requires direction { IsWithin DIRECTION d }
     {
         let arc = place.saturating_mul(2);
-        if blocks(facets, d) {
+        let leads = leads_past(facets, d);
+        if leads.ahead {
             self.put(arc);
-        } else if blocks(facets, e) {
+        } else if leads.behind {
             self.put(arc.saturating_add(1));
         }
     }
 
-    // those along d, whose opposite is e
-    fn at<S: PairSource>(source: &S, d: V3, e: V3) -> Blocking
-        requires d { IsWithin DIRECTION d }
-        requires e { IsWithin DIRECTION e }
+    // those along d or its opposite
+    fn at<S: PairSource>(source: &S, d: V3) -> Blocking
+        requires { IsWithin DIRECTION d }
     {
         let mut blocking = Blocking {
             arcs: [0; 2016],
@@ -94,7 +91,7 @@ impl Blocking {
         };
         let mut place: u32 = 0;
         for pair in source.pairs() {
-            blocking.put_pair(source.facets(*pair), place, d, e);
+            blocking.put_pair(source.facets(*pair), place, d);
             place = place.saturating_add(1);
         }
         blocking
@@ -134,10 +131,9 @@ impl Core {
     {
         // the parts of the pairs are below the number of rows
         let _pairs = source.pairs();
-        let e = neg(d);
         let mut joins = Joins::none();
         for pair in self.pairs() {
-            put_pair(&mut joins, source, *pair, d, e);
+            put_pair(&mut joins, source, *pair, d);
         }
         joins
     }
@@ -232,8 +228,7 @@ impl Core {
     {
         // the parts of the pairs are below the number of rows
         let _pairs = source.pairs();
-        let e = neg(d);
-        let blocking = Blocking::at(source, d, e);
+        let blocking = Blocking::at(source, d);
         let mut joins = graph;
         for _k in 0..ROUNDS {
             let Some(s) = joins.shut(w, moving) else {
@@ -245,7 +240,7 @@ impl Core {
             if !self.take(source, pair) {
                 return false;
             }
-            put_pair(&mut joins, source, pair, d, e);
+            put_pair(&mut joins, source, pair, d);
         }
         false
     }

@@ -6,7 +6,6 @@ use Rattle.staat_core.proofs.Growing.{grows_further, grows_not}
 use Rattle.staat_core.proofs.Holding.{held_by_arcs}
 use Rattle.staat_core.proofs.Leading.{leading_kept}
 use Rattle.std.proofs.lemmas.Bool.{false≢true}
-use Rattle.staat_vec.specs.declared.vector.TheConstants.{DIRECTION}
 use Rattle.staat_core.proofs.cores.Core.grow_at.Goals as goal
 
 pub loop-k-init : goal.loop-k-init
@@ -66,12 +65,6 @@ returns-in_default-clause-grows g c = c.loop-k.invariant.grows
 
 pub put_pair-requires-clause-pair : goal.put_pair-requires-clause-pair
 put_pair-requires-clause-pair g c = c.in-Some-wanted.ensures
-
-pub put_pair-requires-clause-e : goal.put_pair-requires-clause-e
-put_pair-requires-clause-e g c = c.neg-e.ensures.size DIRECTION c.requires.direction
-
-pub put_pair-requires-clause-opposite : goal.put_pair-requires-clause-opposite
-put_pair-requires-clause-opposite g c = c.neg-e.ensures.value
 
 pub put_pair-requires-clause-reversed : goal.put_pair-requires-clause-reversed
 put_pair-requires-clause-reversed g c = c.loop-k.invariant.reversed

@@ -1,4 +1,4 @@
-use Rattle.std.proofs.Common.{Contains, Option, subst, sym}
+use Rattle.std.proofs.Common.{Contains, Option, subst}
 use Rattle.std.specs.Prelude.{IfSome}
 use Rattle.std.proofs.lemmas.List.Elements.{All-contains}
 use Rattle.staat_core.specs.declared.grow.Wanted.{Wanted}
