@@ -1,5 +1,5 @@
 -- What leads behind the facets of two pieces leads ahead of those of the two in the other order.
-use Rattle.std.proofs.Common.{◌≡◌, ◌↔◌, ℕ, ◌<◌, ℤ, pos, ◌<ℤ◌, arith, sym, List, All}
+use Rattle.std.proofs.Common.{◌≡◌, ◌↔◌, ℕ, ◌<◌, ℤ, pos, ◌<ℤ◌, arith, List, All}
 use Rattle.std.proofs.lemmas.Int.{ints}
 use Rattle.std.proofs.lemmas.List.Elements.{All-weaker}
 use Rattle.std.specs.Prelude.{neg_ℤ}
@@ -9,7 +9,7 @@ use Rattle.staat_vec.proofs.VecRing.{dot_negative}
 use Rattle.staat_model.specs.declared.certificate.Arc.{Arc}
 use Rattle.staat_model.specs.Sets.{Has}
 use Rattle.staat_pairs.specs.Searches.{arc_of}
-use Rattle.staat_pairs.specs.Tables.{IsTableArc, Table, back, facets_of, pieces_of, reversed_facets}
+use Rattle.staat_pairs.specs.Tables.{IsTableArc, Table, facets_of, pieces_of, reversed_facets}
 use Rattle.staat_pairs.proofs.ReversedFacets.{ahead_reversed}
 
 turned : (a b : ℤ) → a ≡ neg_ℤ b → (b <ℤ pos 0) ↔ (pos 0 <ℤ a)
@@ -27,9 +27,6 @@ behind_reversed ns d =
 
 pub across_from : (t : Table) (a i b j : ℕ) → Has t.of a → Has t.of b → a < b → i < pieces_of t a → j < pieces_of t b → IsTableArc t (arc_of a i b j)
 across_from t a i b j a_in b_in lt i_is j_is = record { a_in = a_in; b_in = b_in; different = λ e. omega (arith, lt, e); i_is = i_is; j_is = j_is }
-
-pub across_back : (t : Table) (arc : Arc) → IsTableArc t arc → IsTableArc t (back arc)
-across_back t arc across = record { a_in = across.b_in; b_in = across.a_in; different = λ e. across.different (sym e); i_is = across.j_is; j_is = across.i_is }
 
 -- the pieces of an arc stand in the table, and d leads ahead of all their facets
 pub record IsArcAhead (t : Table) (d : V3) (arc : Arc) : Type 0 where

@@ -2,10 +2,9 @@ use Rattle.std.proofs.Common.{◌≡◌, ◌↔◌, sym, subst, pos, ◌<ℤ◌,
 use Rattle.std.specs.Prelude.{IsTrue}
 use Rattle.staat_vec.specs.Vectors.{dot, negative}
 use Rattle.staat_pairs.specs.Tables.{facets_of, reversed_facets, IsTableArc}
-use Rattle.staat_pairs.proofs.TableLemmas.{facets_reversed}
+use Rattle.staat_pairs.proofs.TableLemmas.{back_across, facets_reversed}
 use Rattle.staat_pairs.proofs.ReversedFacets.{ahead_reversed}
 use Rattle.staat_vec.specs.declared.vector.TheConstants.{DIRECTION}
-use Rattle.staat_planes.proofs.BothWays.{across_back}
 use Rattle.staat_planes.proofs.table.PlaneTable.leads_ahead.Goals as goal
 
 pub returns-else-arc : goal.returns-else-arc
@@ -18,7 +17,7 @@ returns-else-arc c =
 
 pub kept_facets-requires-else-arc-clause-across : goal.kept_facets-requires-else-arc-clause-across
 kept_facets-requires-else-arc-clause-across c =
-    subst (IsTableArc c.args.self.now) (sym c.back.ensures) (across_back c.args.self.now c.args.arc c.requires.across)
+    subst (IsTableArc c.args.self.now) (sym c.back.ensures) (back_across c.args.self.now c.args.arc c.requires.across)
 
 pub blocks-requires-else-arc-clause-direction : goal.blocks-requires-else-arc-clause-direction
 blocks-requires-else-arc-clause-direction c = c.neg.ensures.size DIRECTION c.requires.direction
