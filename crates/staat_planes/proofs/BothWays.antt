@@ -1,10 +1,11 @@
 -- What leads behind the facets of two pieces leads ahead of those of the two in the other order.
-use Rattle.std.proofs.Common.{◌≡◌, ◌↔◌, ℕ, ◌<◌, ℤ, pos, ◌<ℤ◌, arith, List, All}
-use Rattle.std.proofs.lemmas.Int.{ints}
+use Rattle.std.proofs.Common.{◌↔◌, ◌∙◌, ap, ℕ, ◌<◌, pos, ◌<ℤ◌, arith, sym, List, All}
 use Rattle.std.proofs.lemmas.List.Elements.{All-weaker}
 use Rattle.std.specs.Prelude.{neg_ℤ}
 use Rattle.staat_vec.specs.declared.vector.V3.{V3}
 use Rattle.staat_vec.specs.Vectors.{dot, negative}
+use Rattle.staat_vec.proofs.Divisors.{neg-neg}
+use Rattle.staat_vec.proofs.Integers.{opposite_negative_back, opposite_positive_back}
 use Rattle.staat_vec.proofs.VecRing.{dot_negative}
 use Rattle.staat_model.specs.declared.certificate.Arc.{Arc}
 use Rattle.staat_model.specs.Sets.{Has}
@@ -12,15 +13,18 @@ use Rattle.staat_pairs.specs.Searches.{arc_of}
 use Rattle.staat_pairs.specs.Tables.{IsTableArc, Table, facets_of, pieces_of, reversed_facets}
 use Rattle.staat_pairs.proofs.ReversedFacets.{ahead_reversed}
 
-turned : (a b : ℤ) → a ≡ neg_ℤ b → (b <ℤ pos 0) ↔ (pos 0 <ℤ a)
-turned a b e = (λ h. omega (arith, ints), λ h. omega (arith, ints))
+turned : (n d : V3) → (dot n d <ℤ pos 0) ↔ (pos 0 <ℤ dot n (negative d))
+turned n d =
+    let e = dot_negative n d in (
+      opposite_positive_back (dot n d) (dot n (negative d)) (sym (neg-neg (dot n d)) ∙ ap neg_ℤ (sym e)),
+      opposite_negative_back (dot n (negative d)) (dot n d) e,
+    )
 
 pub behind_reversed : (ns : List V3) (d : V3) → All (λ n. dot n d <ℤ pos 0) ns ↔ All (λ n. pos 0 <ℤ dot n d) (reversed_facets ns)
 behind_reversed ns d =
-    let law = ahead_reversed ns d in
-    let one = λ (n : V3). turned (dot n (negative d)) (dot n d) (dot_negative n d) in (
-      λ all. law.0 (All-weaker (λ n. dot n d <ℤ pos 0) (λ n. pos 0 <ℤ dot n (negative d)) (λ n. (one n).0) ns all),
-      λ all. All-weaker (λ n. pos 0 <ℤ dot n (negative d)) (λ n. dot n d <ℤ pos 0) (λ n. (one n).1) ns (law.1 all),
+    let law = ahead_reversed ns d in (
+      λ all. law.0 (All-weaker (λ n. dot n d <ℤ pos 0) (λ n. pos 0 <ℤ dot n (negative d)) (λ n. (turned n d).0) ns all),
+      λ all. All-weaker (λ n. pos 0 <ℤ dot n (negative d)) (λ n. dot n d <ℤ pos 0) (λ n. (turned n d).1) ns (law.1 all),
     )
 
 -- ---- arcs of a table

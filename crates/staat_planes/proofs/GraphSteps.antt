@@ -1,22 +1,15 @@
 -- The rows of a blocking graph, as the arcs of pairs of parts come in.
-use Rattle.std.proofs.Common.{◌≡◌, ◌≢◌, ◌↔◌, ◌⊎◌, inl, inr, ⊎_elim, ℕ, ap, arith, sym, subst, ◌∙◌, Bool, List}
-use Rattle.std.specs.Prelude.{IsTrue, replicate, slice_index}
-use Rattle.std.specs.Int.{bit_at}
-use Rattle.std.proofs.lemmas.Nat.Bits.{bit_at-zero}
+use Rattle.std.proofs.Common.{◌≡◌, ◌≢◌, ◌↔◌, ◌⊎◌, inl, inr, ⊎_elim, ℕ, sym, subst, ◌∙◌, Bool, List}
+use Rattle.std.specs.Prelude.{IsTrue, replicate}
 use Rattle.staat_vec.specs.declared.vector.V3.{V3}
-use Rattle.staat_vec.proofs.ListLaws.{slice_index-zeros}
 use Rattle.staat_vec.proofs.Naturals.{same_or}
 use Rattle.staat_model.specs.declared.set.PartSet.{PartSet}
 use Rattle.staat_model.specs.Sets.{Has, IsSubset}
 use Rattle.staat_model.proofs.FreeSides.{member_or}
 use Rattle.staat_graph.specs.Graphs.{HasArc}
+use Rattle.staat_graph.proofs.Arcs.{empty_graph}
 use Rattle.staat_pairs.specs.Tables.{Table}
 use Rattle.staat_planes.specs.Tables.{GainsArcs, IsAhead, IsAheadIn}
-
-no_arcs : (n a b : ℕ) → HasArc (replicate n 0) a b → ⊥
-no_arcs n a b h =
-    let e : bit_at (slice_index (replicate n 0) a) b ≡ 0 = ap (λ r. bit_at r b) (slice_index-zeros n a) ∙ bit_at-zero b in
-    absurd (omega arith)
 
 -- ---- the arcs of two parts
 
@@ -108,7 +101,7 @@ abbrev pub HasArcsBut : (t : Table) (w left : PartSet) (d : V3) (rows : List ℕ
 HasArcsBut t w left d rows = (x y : ℕ) → HasArc rows x y ↔ (IsAheadIn t w d x y × (Has left x → Has left y → ⊥))
 
 pub all_left : (t : Table) (w : PartSet) (d : V3) → HasArcsBut t w w d (replicate 32 0)
-all_left t w d x y = (λ h. absurd (no_arcs 32 x y h), λ (is, apart). absurd (apart is.a_in is.b_in))
+all_left t w d x y = (λ h. absurd (empty_graph x y h), λ (is, apart). absurd (apart is.a_in is.b_in))
 
 pub none_left : (t : Table) (w left : PartSet) (d : V3) (rows : List ℕ) → ((q : ℕ) → Has left q → ⊥) → HasArcsBut t w left d rows → (x y : ℕ) → HasArc rows x y ↔ IsAheadIn t w d x y
 none_left t w left d rows none arcs x y = (λ h. ((arcs x y).0 h).0, λ is. (arcs x y).1 (is, λ hx hy. none x hx))
