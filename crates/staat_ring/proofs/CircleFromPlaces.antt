@@ -18,8 +18,7 @@ use Rattle.staat_vec.proofs.Ring.{num, ring}
 use Rattle.staat_model.proofs.Members.{All-from_members}
 use Rattle.staat_model.specs.Circles.{IsLinked, IsOnCircle, PassesThrough, Stop, axis_beside}
 use Rattle.staat_ring.specs.declared.entry.Entry.{Entry}
-use Rattle.staat_ring.specs.Builds.{AreFilled, IsFromPlane, IsHalfCircle, AreThroughCrossing, all_around, opposite, ray, ring_by, slot_at}
-use Rattle.staat_ring.specs.Order.{normal_at}
+use Rattle.staat_ring.specs.Builds.{all_around, opposite, ray, ring_by, slot_at}
 use Rattle.staat_ring.specs.Rings.{IsRingOf, RingStop, crossing, stop_of, vertex_of}
 use Rattle.staat_ring.proofs.Turns.{IsHalf, Rises, whole_circle, turn}
 use Rattle.staat_ring.specs.Rings.{facet_by}
@@ -34,6 +33,43 @@ use Rattle.staat_ring.proofs.TurnOrder.{side_of_plane}
 use Rattle.staat_vec.proofs.Integers.{mul-zero_ℤ}
 use Rattle.staat_vec.proofs.ListLaws.{map_twice, Contains-from_map}
 use Rattle.staat_vec.proofs.VectorLaws.{cross_origin, det_same, some_square}
+
+-- ---- half circles
+
+abbrev pub normal_at : List V3 → ℕ → V3
+normal_at hs k = get_or hs k origin
+
+-- m is the normal of a plane other than c, or its negative
+pub record IsFromPlane (planes : List V3) (c : ℕ) (m : V3) : Type 0 where
+  pub number : ℕ
+  pub within : number < length planes
+  pub different : number ≢ c
+  pub turned : Bool
+  pub is : m ≡ facet_by turned (plane_at planes number)
+
+-- the crossing with h lies on the half circle, or opposite
+pub record IsCrossedAt (g : V3) (half : List V3) (h : V3) : Type 0 where
+  pub place : ℕ
+  pub within : place < length half
+  pub flat : det g (normal_at half place) h ≡ pos 0
+
+-- normals whose crossings with plane c are those of the half turn from the axis, in order, each once
+pub record IsHalfCircle (planes : List V3) (c : ℕ) (g axis : V3) (half : List V3) : Type 0 where
+  pub two : 1 < length half
+  pub start : normal_at half 0 ≡ axis
+  pub rises : (i k : ℕ) → i < k → k < length half → pos 0 <ℤ det g (normal_at half i) (normal_at half k)
+  pub each : (k : ℕ) → k < length half → IsFromPlane planes c (normal_at half k)
+  pub all : (j : ℕ) → j < length planes → j ≢ c → IsCrossedAt g half (plane_at planes j)
+
+-- the planes other than c that meet the crossing of m
+pub record AreThroughCrossing (planes : List V3) (c : ℕ) (g m : V3) (es : List Entry) : Type 0 where
+  pub listed : Lists nat_cmp (λ i. (i < length planes) × (i ≢ c) × (det g m (plane_at planes i) ≡ pos 0)) (map (λ e. e.plane) es)
+  pub ways : All (λ e. crossing planes c e ≡ ray g m) es
+
+-- all planes stand at their places
+pub record AreFilled (planes : List V3) (c : ℕ) (g : V3) (half : List V3) (slots : List (List Entry)) : Type 0 where
+  pub size : length slots ≡ length half
+  pub each : (k : ℕ) → k < length half → AreThroughCrossing planes c g (normal_at half k) (slot_at slots k)
 
 -- ---- numbers and lists
 
@@ -166,11 +202,11 @@ module _ (planes : List V3) (linked : List ℕ) (c : ℕ) (g axis : V3) (half : 
     all = met;
   }
 
-  module _ (slots : List (List Entry)) (filled : AreFilled planes c g half (length planes) slots) where
+  module _ (slots : List (List Entry)) (filled : AreFilled planes c g half slots) where
     abbrev vertex : List Entry → V3
     vertex es = vertex_of planes c es
 
-    named : (m : V3) → IsFromPlane planes c m → (es : List Entry) → AreThroughCrossing planes c g m (length planes) es → vertex es ≡ ray g m
+    named : (m : V3) → IsFromPlane planes c m → (es : List Entry) → AreThroughCrossing planes c g m es → vertex es ≡ ray g m
     named m f [] t = absurd (none (t.listed.all f.number (f.within, f.different, flat f.turned f.is)))
       where
         flat : (b : Bool) → m ≡ facet_by b (plane_at planes f.number) → det g m (plane_at planes f.number) ≡ pos 0

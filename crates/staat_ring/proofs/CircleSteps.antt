@@ -51,16 +51,12 @@ module _ (planes : List V3) (table : AreTablePlanes planes) (c : ℕ) (lc : c < 
     own = λ x le lx. home x le ∙ so_far.own x le lx;
   }
 
--- as the code has it: the number of planes and the stops by other names
-module _ (planes : List V3) (table : AreTablePlanes planes) (c : ℕ) (lc : c < length planes) (stops : List (List Entry)) (is : IsRingOf planes (numbers_below (length planes)) (ring_by c stops))
-    (n : ℕ) (n_is : n ≡ length planes) (xs : List (List Entry)) (xs_is : xs ≡ stops) where
-  both : (P : ℕ → List (List Entry) → Type 0) → P n xs → P (length planes) stops
-  both P p = subst (λ ys. P (length planes) ys) xs_is (subst (λ m. P m xs) n_is p)
+-- as the code has it: the number of planes by another name
+module _ (planes : List V3) (table : AreTablePlanes planes) (c : ℕ) (lc : c < length planes) (stops : List (List Entry)) (is : IsRingOf planes (numbers_below (length planes)) (ring_by c stops)) (n : ℕ) (n_is : n ≡ length planes) where
+  pub next_can : CanBeLinked n c stops
+  next_can = subst (λ m. CanBeLinked m c stops) (sym n_is) (can_be_linked planes table (numbers_below (length planes)) c stops is)
 
-  pub next_can : CanBeLinked n c xs
-  next_can = subst (λ m. CanBeLinked m c xs) (sym n_is) (subst (CanBeLinked (length planes) c) (sym xs_is) (can_be_linked planes table (numbers_below (length planes)) c stops is))
-
-  pub next_linked : (a b : Arrays) → AreLinkedBelow planes (length planes) c a → AreSized n b → HoldsCircle n b c xs → ((x : ℕ) → (shape n).circle x ≢ c → IsKeptAt a b x)
+  pub next_linked : (a b : Arrays) → AreLinkedBelow planes (length planes) c a → AreSized n b → HoldsCircle n b c stops → ((x : ℕ) → (shape n).circle x ≢ c → IsKeptAt a b x)
       → ((x : ℕ) → 2 * (n * n) ≤ x → get_or b.home x 0 ≡ get_or a.home x 0) → AreLinkedBelow planes (length planes) (c + 1) b
-  next_linked a b so_far sizes holds others home = one_more planes table c lc stops is a b so_far (both (λ m _. AreSized m b) sizes) (both (λ m ys. HoldsCircle m b c ys) holds)
-      (both (λ m _. (x : ℕ) → (shape m).circle x ≢ c → IsKeptAt a b x) others) (both (λ m _. (x : ℕ) → 2 * (m * m) ≤ x → get_or b.home x 0 ≡ get_or a.home x 0) home)
+  next_linked a b so_far sizes holds others home = one_more planes table c lc stops is a b so_far (subst (λ m. AreSized m b) n_is sizes) (subst (λ m. HoldsCircle m b c stops) n_is holds)
+      (subst (λ m. (x : ℕ) → (shape m).circle x ≢ c → IsKeptAt a b x) n_is others) (subst (λ m. (x : ℕ) → 2 * (m * m) ≤ x → get_or b.home x 0 ≡ get_or a.home x 0) n_is home)

@@ -21,7 +21,7 @@ use Rattle.staat_vec.proofs.ListLaws.{place_of, Contains-map, Contains-from_map}
 self_negative : (a : ℤ) → a ≡ neg_ℤ a → a ≡ pos 0
 self_negative a h = omega (arith, ints)
 
-not_negative : (u : V3) → u ≢ origin → u ≢ negative u
+pub not_negative : (u : V3) → u ≢ origin → u ≢ negative u
 not_negative u some e = some (λ i. record { x = self_negative u.x (ap (λ v. v.x) e) i; y = self_negative u.y (ap (λ v. v.y) e) i; z = self_negative u.z (ap (λ v. v.z) e) i })
 
 pub one_way : (u : V3) → u ≢ origin → (a b : Bool) → facet_by a u ≡ facet_by b u → a ≡ b

@@ -16,10 +16,9 @@ pub mod NextOnHalfCircle
 pub mod CircleFromHalf
 pub mod Deciding
 pub mod CircleFromPlaces
-pub mod HalfCirclePlaces
-pub mod HalfCircleFromAxis
-pub mod Filling
-pub mod Hints
+pub mod Divided
+pub mod HalfTurn
+pub mod CircleFromEntries
 pub mod RelinkUndoesUnlink
 pub mod Chains
 pub mod WithoutNumber
@@ -66,7 +65,6 @@ pub mod Entering
 pub mod CrossSteps
 pub mod Strength
 pub mod BlockSteps
-pub mod Turned
 pub mod Turns
 pub mod StepSigns
 pub mod Taking

@@ -44,7 +44,7 @@ pub record IsPoint (g v : V3) : Type 0 where
   pub on : dot g v ≡ pos 0
   pub primitive : IsPrimitive v
 
-three : (a : ℤ) → (pos 0 <ℤ a) ⊎ ((a ≡ pos 0) ⊎ (a <ℤ pos 0))
+pub three : (a : ℤ) → (pos 0 <ℤ a) ⊎ ((a ≡ pos 0) ⊎ (a <ℤ pos 0))
 three (pos zero) = inr (inl refl)
 three (pos (suc n)) = inl (omega (arith, ints))
 three (negsuc n) = inr (inr (omega (arith, ints)))

@@ -1,145 +1,202 @@
--- A crossing that is put at its place leaves the others rising.
-use Rattle.std.proofs.Common.{inl, inr, refl, Bool, true, if◌then◌else◌}
-use Rattle.std.proofs.Common.{◌≡◌, ◌⊎◌, ⊎_elim, ℕ, zero, suc, ◌+◌, ◌-◌, ◌<◌, ◌≤◌, arith, ap, sym, subst, ◌∙◌, List, length, pos, ◌<ℤ◌, [], ◌∷◌}
-use Rattle.std.proofs.lemmas.Int.{ints}
-use Rattle.std.specs.Prelude.{false}
-use Rattle.staat_vec.specs.declared.vector.V3.{V3}
-use Rattle.staat_vec.specs.Vectors.{IsWithin, cross, det, dot, origin}
-use Rattle.staat_vec.proofs.Order.{pos_mul}
+-- An entry that is put at its place leaves the others in order.
+use Rattle.std.proofs.Common.{◌≡◌, ◌≢◌, ◌⊎◌, ⊎_elim, inl, inr, ℕ, ◌+◌, ◌-◌, ◌<◌, ◌≤◌, arith, ap, sym, subst, ◌∙◌, List, [], ◌∷◌, ◌++◌, length, get_or, Contains, ℤ, pos, ◌-ℤ◌, ◌<ℤ◌}
 use Rattle.std.specs.List.{insert}
-use Rattle.std.proofs.Common.{Contains, get_or, ◌++◌}
+use Rattle.std.specs.List.Sorted.{IsStrictlySortedBy}
+use Rattle.std.specs.Ordering.{nat_cmp}
+use Rattle.std.proofs.lemmas.Int.{ints}
 use Rattle.std.proofs.lemmas.List.{get_or_default}
 use Rattle.std.proofs.lemmas.List.Edits.{get_or-insert_above, get_or-insert_at, get_or-insert_below, length-insert}
-use Rattle.std.proofs.lemmas.List.Elements.{All-contains, Contains-append_cases, Contains-append_left, Contains-append_right}
-use Rattle.staat_vec.specs.declared.vector.TheConstants.{NORMAL}
-use Rattle.staat_vec.proofs.Unique.{Contains-front}
-use Rattle.staat_model.proofs.Members.{All-from_members}
-use Rattle.staat_ring.specs.Order.{HasRay, IsHalfOf, IsPlace, RiseFrom, normal_at}
-use Rattle.staat_ring.proofs.Turns.{turn}
-use Rattle.staat_ring.proofs.TurnOrder.{turn_of_planes, turn_trans}
-use Rattle.staat_vec.proofs.Integers.{mul-comm_ℤ, cancel_positive}
-use Rattle.staat_vec.proofs.Naturals.{lt_or_le, trichotomy, same_or}
-use Rattle.staat_vec.proofs.VectorLaws.{det_back, det_same}
-use Rattle.staat_vec.proofs.Signs.{sign_negative, sign_positive, zero_sign}
+use Rattle.std.proofs.lemmas.List.Elements.{Contains-append_cases, Contains-append_left, Contains-append_right}
+use Rattle.staat_vec.specs.declared.vector.V3.{V3}
+use Rattle.staat_vec.specs.declared.vector.Sign.{Sign}
+use Rattle.staat_vec.specs.Lists.{Lists}
+use Rattle.staat_vec.specs.Vectors.{det, sign}
+use Rattle.staat_vec.proofs.Comparisons.{sorted_push}
+use Rattle.staat_vec.proofs.Integers.{zero_not_negative}
+use Rattle.staat_vec.proofs.ListLaws.{only_one}
+use Rattle.staat_vec.proofs.Naturals.{lt_one_more_cases, lt_or_le, same_or, trichotomy}
+use Rattle.staat_vec.proofs.Unique.{Contains-front, Contains-nothing}
+use Rattle.staat_vec.proofs.VectorLaws.{det_back}
+use Rattle.staat_ring.specs.declared.entry.Entry.{Entry}
+use Rattle.staat_ring.specs.Order.{AreInOrder, HasPlane, IsBreak, IsInserted, IsOrderOf, IsTransitive, Precedes, entry_at, facet_of, no_entry, order_det}
+use Rattle.staat_ring.proofs.NextVertexWithout.{three}
 
-abbrev Ahead : V3 → V3 → V3 → Type 0
-Ahead g a b = pos 0 <ℤ det g a b
+-- the sign as it is had from the two facets
+pub order_sign : (planes : List V3) (g : V3) (e f : Entry) (a b : V3) (s t : Sign) → a ≡ facet_of planes e → b ≡ facet_of planes f → s ≡ sign (det g a b) → s ≡ t → sign (order_det planes g e f) ≡ t
+order_sign planes g e f a b s t ea eb told is = sym (told ∙ (λ i. sign (det g (ea i) (eb i)))) ∙ is
 
-turn_ahead : (g a b : V3) → pos 0 <ℤ dot g g → Ahead g a b → pos 0 <ℤ turn g (cross g a) (cross g b)
-turn_ahead g a b gg h = subst (λ z. pos 0 <ℤ z) (sym (turn_of_planes g a b)) (pos_mul (det g a b) (dot g g) h gg)
+pub not_precedes : (planes : List V3) (g : V3) (e f : Entry) → order_det planes g e f <ℤ pos 0 → Precedes planes g e f → ⊥
+not_precedes planes g e f n (inl p) = opposed (order_det planes g e f) p n
+  where
+    opposed : (z : ℤ) → pos 0 <ℤ z → z <ℤ pos 0 → ⊥
+    opposed z p n = omega (arith, ints)
+not_precedes planes g e f n (inr (z, lt)) = zero_not_negative (order_det planes g e f) z n
 
-ahead_turn : (g a b : V3) → pos 0 <ℤ dot g g → pos 0 <ℤ turn g (cross g a) (cross g b) → Ahead g a b
-ahead_turn g a b gg h = cancel_positive (dot g g) (det g a b) gg (subst (λ z. pos 0 <ℤ z) (turn_of_planes g a b ∙ mul-comm_ℤ (det g a b) (dot g g)) h)
+-- of two entries of different planes one precedes the other
+pub precedes_back : (planes : List V3) (g : V3) (e f : Entry) → (Precedes planes g e f → ⊥) → f.plane ≢ e.plane → Precedes planes g f e
+precedes_back planes g e f not ne =
+    let back = det_back g (facet_of planes f) (facet_of planes e) in
+    let z : ℤ = order_det planes g e f in
+    ⊎_elim {C = Precedes planes g f e} (λ p. absurd (not (inl p)))
+    (λ o. ⊎_elim {C = Precedes planes g f e}
+    (λ q. inr (zero_back z (order_det planes g f e) back q, less e.plane f.plane (λ lt. not (inr (q, lt))) ne))
+    (λ n. inl (positive_back z (order_det planes g f e) back n)) o)
+    (three z)
+  where
+    zero_back : (a b : ℤ) → b ≡ pos 0 -ℤ a → a ≡ pos 0 → b ≡ pos 0
+    zero_back a b e z = omega (arith, ints)
 
--- on the open half turn from the crossing with p
-pub ahead_trans : (g p a b c : V3) → pos 0 <ℤ dot g g → Ahead g p a → Ahead g p b → Ahead g p c → Ahead g a b → Ahead g b c → Ahead g a c
-ahead_trans g p a b c gg pa pb pc ab bc =
-    ahead_turn g a c gg (turn_trans g (cross g p) (cross g a) (cross g b) (cross g c) (turn_ahead g p a gg pa) (turn_ahead g p b gg pb) (turn_ahead g p c gg pc) (turn_ahead g a b gg ab) (turn_ahead g b c gg bc))
+    positive_back : (a b : ℤ) → b ≡ pos 0 -ℤ a → a <ℤ pos 0 → pos 0 <ℤ b
+    positive_back a b e n = omega (arith, ints)
 
-module _ (g p h : V3) (hs new : List V3) (i : ℕ) (gg : pos 0 <ℤ dot g g) (ph : Ahead g p h) (rise : RiseFrom g p hs) (at : IsPlace g hs h i false)
-    (size : length new ≡ length hs + 1) (low : (k : ℕ) → k < i → normal_at new k ≡ normal_at hs k) (here : normal_at new i ≡ h) (high : (k : ℕ) → i < k → normal_at new k ≡ normal_at hs (k - 1)) where
-  after : (k : ℕ) → i ≤ k → k < length hs → Ahead g h (normal_at hs k)
-  after k le lt = let n = sign_negative (det g (normal_at hs k) h) (at.after k le lt) in let b = det_back g h (normal_at hs k) in omega (arith, ints)
+    less : (m n : ℕ) → (m < n → ⊥) → n ≢ m → n < m
+    less m n never ne = ⊎_elim {C = n < m} (λ lt. absurd (never lt)) (λ o. ⊎_elim {C = n < m} (λ e. absurd (ne (sym e))) (λ lt. lt) o) (trichotomy m n)
 
-  before : (k : ℕ) → k < i → Ahead g (normal_at hs k) h
-  before k lt = ⊎_elim {C = Ahead g (normal_at hs k) h}
-      (λ e. sign_positive (det g (normal_at hs k) h) (at.before k e))
-      (λ ne.
-      let last : i - 1 < length hs = (let w = at.within in omega (arith, w, lt)) in
-      let b = sign_positive (det g (normal_at hs (i - 1)) h) (at.before (i - 1) (omega arith)) in
-      ahead_trans g p (normal_at hs k) (normal_at hs (i - 1)) h gg (rise.ahead k (let w = at.within in omega (arith, w, lt))) (rise.ahead (i - 1) last) ph (rise.rises k (i - 1) (omega (arith, lt, ne)) last) b)
-      (same_or (k + 1) i)
+-- ---- the list with one entry more
 
-  where_is : (k : ℕ) → (k < i) ⊎ ((k ≡ i) ⊎ (i < k))
-  where_is k = grind arith
+module _ (es : List Entry) (e : Entry) (i : ℕ) (le : i ≤ length es) where
+  abbrev new : List Entry
+  new = insert es i e
 
-  pub still_ahead : (k : ℕ) → k < length new → Ahead g p (normal_at new k)
-  still_ahead k lt = ⊎_elim {C = Ahead g p (normal_at new k)}
-      (λ l. subst (Ahead g p) (sym (low k l)) (rise.ahead k (let w = at.within in omega (arith, w, l))))
-      (λ o. ⊎_elim {C = Ahead g p (normal_at new k)} (λ e. subst (Ahead g p) (sym (ap (normal_at new) e ∙ here)) ph) (λ m. subst (Ahead g p) (sym (high k m)) (rise.ahead (k - 1) (omega (arith, size, lt, m)))) o)
-      (where_is k)
+  long : length new ≡ length es + 1
+  long = length-insert es i e le
 
-  pub still_rises : (a b : ℕ) → a < b → b < length new → Ahead g (normal_at new a) (normal_at new b)
-  still_rises a b lt small = ⊎_elim {C = Ahead g (normal_at new a) (normal_at new b)} a_low (λ o. ⊎_elim {C = Ahead g (normal_at new a) (normal_at new b)} a_here a_high o) (where_is a)
+  in_before : (x : Entry) → Contains es x → Contains new x
+  in_before x (k, lt, q) = ⊎_elim {C = Contains new x}
+      (λ low. (k, omega (arith, long, lt), get_or-insert_below es i e x k low le ∙ q))
+      (λ high. (k + 1, omega (arith, long, lt), get_or-insert_above es i e x k high le ∙ q))
+      (lt_or_le k i)
+
+  in_new : Contains new e
+  in_new = (i, omega (arith, long, le), get_or-insert_at es i e e le)
+
+  in_only : (x : Entry) → Contains new x → (x ≡ e) ⊎ Contains es x
+  in_only x (k, lt, q) = ⊎_elim {C = (x ≡ e) ⊎ Contains es x}
+      (λ low. inr (k, omega (arith, low, le), sym (get_or-insert_below es i e x k low le) ∙ q))
+      (λ o. ⊎_elim {C = (x ≡ e) ⊎ Contains es x} (λ here. inl (sym (sym (get_or-insert_at es i e x le) ∙ (ap (λ j. get_or new j x) (sym here) ∙ q))))
+      (λ high. inr (k - 1, omega (arith, long, lt, high), sym (get_or-insert_above es i e x (k - 1) (omega (arith, high)) le) ∙ (ap (λ j. get_or new j x) (back k high) ∙ q))) o)
+      (trichotomy k i)
     where
-      a_low : a < i → Ahead g (normal_at new a) (normal_at new b)
-      a_low l = subst (λ x. Ahead g x (normal_at new b)) (sym (low a l)) (⊎_elim {C = Ahead g (normal_at hs a) (normal_at new b)}
-          (λ m. subst (Ahead g (normal_at hs a)) (sym (low b m)) (rise.rises a b lt (let w = at.within in omega (arith, w, m))))
-          (λ o. ⊎_elim {C = Ahead g (normal_at hs a) (normal_at new b)} (λ e. subst (Ahead g (normal_at hs a)) (sym (ap (normal_at new) e ∙ here)) (before a l))
-          (λ m. subst (Ahead g (normal_at hs a)) (sym (high b m)) (rise.rises a (b - 1) (omega (arith, l, m)) (omega (arith, size, small, m)))) o)
-          (where_is b))
+      back : (k : ℕ) → i < k → k - 1 + 1 ≡ k
+      back k lt = omega (arith, lt)
 
-      a_here : a ≡ i → Ahead g (normal_at new a) (normal_at new b)
-      a_here e = subst (λ x. Ahead g x (normal_at new b)) (sym (ap (normal_at new) e ∙ here)) (subst (Ahead g h) (sym (high b (omega (arith, e, lt)))) (after (b - 1) (omega (arith, e, lt)) (omega (arith, size, small, e, lt))))
+  low_is : (k : ℕ) → k < i → entry_at new k ≡ entry_at es k
+  low_is k lt = get_or-insert_below es i e no_entry k lt le
 
-      a_high : i < a → Ahead g (normal_at new a) (normal_at new b)
-      a_high m = subst (λ x. Ahead g x (normal_at new b)) (sym (high a m)) (subst (Ahead g (normal_at hs (a - 1))) (sym (high b (omega (arith, m, lt)))) (rise.rises (a - 1) (b - 1) (omega (arith, m, lt)) (omega (arith, size, small, m, lt))))
+  here_is : (k : ℕ) → k ≡ i → entry_at new k ≡ e
+  here_is k q = ap (entry_at new) q ∙ get_or-insert_at es i e no_entry le
 
-  pub inserted_rises : RiseFrom g p new
-  inserted_rises = record { ahead = still_ahead; rises = still_rises }
+  high_is : (k : ℕ) → i < k → entry_at new k ≡ entry_at es (k - 1)
+  high_is k lt = ap (entry_at new) (back lt) ∙ get_or-insert_above es i e no_entry (k - 1) (omega (arith, lt)) le
+    where
+      back : i < k → k ≡ k - 1 + 1
+      back lt = omega (arith, lt)
 
--- ---- one normal more
-
-in_before : (hs : List V3) (h : V3) (i : ℕ) → i ≤ length hs → (w : V3) → Contains hs w → Contains (insert hs i h) w
-in_before hs h i le w (k, lt, e) = ⊎_elim {C = Contains (insert hs i h) w}
-    (λ low. (k, (let l = length-insert hs i h le in omega (arith, l, lt)), get_or-insert_below hs i h w k low le ∙ e))
-    (λ high. (k + 1, (let l = length-insert hs i h le in omega (arith, l, lt)), get_or-insert_above hs i h w k high le ∙ e))
-    (lt_or_le k i)
-
-in_new : (hs : List V3) (h : V3) (i : ℕ) → i ≤ length hs → Contains (insert hs i h) h
-in_new hs h i le = (i, (let l = length-insert hs i h le in omega (arith, l, le)), get_or-insert_at hs i h h le)
-
-in_only : (hs : List V3) (h : V3) (i : ℕ) → i ≤ length hs → (w : V3) → Contains (insert hs i h) w → (w ≡ h) ⊎ Contains hs w
-in_only hs h i le w (k, lt, e) = ⊎_elim {C = (w ≡ h) ⊎ Contains hs w}
-    (λ low. inr (k, omega (arith, low, le), sym (get_or-insert_below hs i h w k low le) ∙ e))
-    (λ o. ⊎_elim {C = (w ≡ h) ⊎ Contains hs w} (λ here. inl (sym (sym (get_or-insert_at hs i h w le) ∙ (ap (λ j. get_or (insert hs i h) j w) (sym here) ∙ e))))
-    (λ high. inr (k - 1, (let l = length-insert hs i h le in omega (arith, l, lt, high)), sym (get_or-insert_above hs i h w (k - 1) (omega arith) le) ∙ (ap (λ j. get_or (insert hs i h) j w) (back k i high) ∙ e))) o)
-    (trichotomy k i)
-  where
-    back : (k i : ℕ) → i < k → k - 1 + 1 ≡ k
-    back k i lt = omega arith
-
-pub half_more : (g h : V3) (hs done half new : List V3) → IsWithin NORMAL h → done ≡ hs ++ h ∷ [] → ((i : ℕ) × (same : Bool) × IsPlace g half h i same × (new ≡ (if same then half else insert half i h))) → IsHalfOf g hs half → IsHalfOf g done new
-half_more g h hs done half new small e (i, true, at, set) is = subst (λ (ds : List V3). IsHalfOf g ds new) (sym e) (subst (λ (v : List V3). IsHalfOf g (hs ++ h ∷ []) v) (sym set) (record {
-  within = is.within;
-  each = λ x c. ⊎_elim {C = HasRay g half x} (λ c. is.each x c) (λ c. subst (HasRay g half) (sym (only_one x c)) ray) (Contains-append_cases hs (h ∷ []) x c);
-  only = λ x c. Contains-append_left hs (h ∷ []) x (is.only x c);
-  rises = λ p gg all. is.rises p gg (λ x c. all x (Contains-append_left hs (h ∷ []) x c));
-}))
-  where
-    only_one : (x : V3) → Contains (h ∷ []) x → x ≡ h
-    only_one x (zero, lt, e) = sym e
-    only_one x (suc k, lt, e) = absurd (omega arith)
-
-    some : (i : ℕ) → i ≤ length half → (i ≡ 0 → ⊥) → IsPlace g half h i true → HasRay g half h
-    some zero le ne at = absurd (ne refl)
-    some (suc j) le ne at = record {
-      member = normal_at half j;
-      listed = (j, omega arith, get_or_default half j (normal_at half j) origin (omega arith));
-      same = zero_sign (det g (normal_at half j) h) (at.before j (omega arith));
-    }
-
-    ray : HasRay g half h
-    ray = some i at.within (λ z. off (at.first z)) at
+  module _ (R : Entry → Entry → Type 0) (rises : (a b : ℕ) → a < b → b < length es → R (entry_at es a) (entry_at es b))
+      (after : (k : ℕ) → i ≤ k → k < length es → R e (entry_at es k)) (before : (k : ℕ) → k < i → R (entry_at es k) e) where
+    pub still_rises : (a b : ℕ) → a < b → b < length new → R (entry_at new a) (entry_at new b)
+    still_rises a b lt small = ⊎_elim {C = R (entry_at new a) (entry_at new b)} a_low (λ o. ⊎_elim {C = R (entry_at new a) (entry_at new b)} a_here a_high o) (trichotomy a i)
       where
-        off : true ≡ false → ⊥
-        off e = cc
-half_more g h hs done half new small e (i, false, at, set) is = subst (λ (ds : List V3). IsHalfOf g ds new) (sym e) (subst (λ (v : List V3). IsHalfOf g (hs ++ h ∷ []) v) (sym set) (record {
-  within = All-from_members (IsWithin NORMAL) (insert half i h) (λ x c. ⊎_elim {C = IsWithin NORMAL x} (λ q. subst (IsWithin NORMAL) (sym q) small) (λ c. All-contains (IsWithin NORMAL) half x is.within c) (in_only half h i at.within x c));
-  each = λ x c. ⊎_elim {C = HasRay g (insert half i h) x}
-      (λ c. let r = is.each x c in record { member = r.member; listed = in_before half h i at.within r.member r.listed; same = r.same })
-      (λ c. record { member = h; listed = in_new half h i at.within; same = ap (det g h) (only_one x c) ∙ det_same g h })
-      (Contains-append_cases hs (h ∷ []) x c);
-  only = λ x c. ⊎_elim {C = Contains (hs ++ h ∷ []) x} (λ q. subst (Contains (hs ++ h ∷ [])) (sym q) (Contains-append_right hs (h ∷ []) h (Contains-front h []))) (λ c. Contains-append_left hs (h ∷ []) x (is.only x c)) (in_only half h i at.within x c);
-  rises = λ p gg all.
-      inserted_rises g p h half (insert half i h) i gg (all h (Contains-append_right hs (h ∷ []) h (Contains-front h []))) (is.rises p gg (λ x c. all x (Contains-append_left hs (h ∷ []) x c))) at
-      (let l = length-insert half i h at.within in l) (λ k lt. get_or-insert_below half i h origin k lt at.within) (get_or-insert_at half i h origin at.within)
-      (λ k lt. ap (λ j. normal_at (insert half i h) j) (back k i lt) ∙ get_or-insert_above half i h origin (k - 1) (omega arith) at.within);
+        a_low : a < i → R (entry_at new a) (entry_at new b)
+        a_low l = subst (λ x. R x (entry_at new b)) (sym (low_is a l)) (⊎_elim {C = R (entry_at es a) (entry_at new b)}
+            (λ m. subst (R (entry_at es a)) (sym (low_is b m)) (rises a b lt (omega (arith, m, le))))
+            (λ o. ⊎_elim {C = R (entry_at es a) (entry_at new b)} (λ q. subst (R (entry_at es a)) (sym (here_is b q)) (before a l))
+            (λ m. subst (R (entry_at es a)) (sym (high_is b m)) (rises a (b - 1) (omega (arith, l, m)) (omega (arith, long, small, m)))) o)
+            (trichotomy b i))
+
+        a_here : a ≡ i → R (entry_at new a) (entry_at new b)
+        a_here q = subst (λ x. R x (entry_at new b)) (sym (here_is a q)) (subst (R e) (sym (high_is b (omega (arith, q, lt)))) (after (b - 1) (omega (arith, q, lt)) (omega (arith, long, small, q, lt))))
+
+        a_high : i < a → R (entry_at new a) (entry_at new b)
+        a_high m = subst (λ x. R x (entry_at new b)) (sym (high_is a m)) (subst (R (entry_at es (a - 1))) (sym (high_is b (omega (arith, m, lt)))) (rises (a - 1) (b - 1) (omega (arith, m, lt)) (omega (arith, long, small, m, lt))))
+
+-- ---- one entry more
+
+pub order_none : (planes : List V3) (g : V3) → IsOrderOf planes g [] []
+order_none planes g = record { only = λ e c. c; each = λ e c. absurd (Contains-nothing e c); rises = λ t i k lt small. absurd (omega (arith, small)) }
+
+has_plane : (old more : List Entry) (k : ℕ) → ((x : Entry) → Contains old x → Contains more x) → HasPlane old k → HasPlane more k
+has_plane old more k in_more h = record { turned = h.turned; listed = in_more (record { plane = k; turned = h.turned }) h.listed }
+
+pub order_more : (planes : List V3) (g : V3) (e : Entry) (es done old new : List Entry) → done ≡ es ++ e ∷ [] → IsInserted planes g e old new → IsOrderOf planes g es old → IsOrderOf planes g done new
+order_more planes g e es done old new is (inr (has, same)) o = subst (λ (ds : List Entry). IsOrderOf planes g ds new) (sym is) (subst (λ (v : List Entry). IsOrderOf planes g (es ++ e ∷ []) v) (sym same) (record {
+  only = λ x c. Contains-append_left es (e ∷ []) x (o.only x c);
+  each = λ x c. ⊎_elim {C = HasPlane old x.plane} (λ c. o.each x c) (λ c. subst (λ (y : Entry). HasPlane old y.plane) (sym (only_one e x c)) has) (Contains-append_cases es (e ∷ []) x c);
+  rises = λ t. o.rises (λ a b d ca cb cd. t a b d (Contains-append_left es (e ∷ []) a ca) (Contains-append_left es (e ∷ []) b cb) (Contains-append_left es (e ∷ []) d cd));
+}))
+order_more planes g e es done old new is (inl (i, at, apart, set)) o = subst (λ (ds : List Entry). IsOrderOf planes g ds new) (sym is) (subst (λ (v : List Entry). IsOrderOf planes g all v) (sym set) (record {
+  only = λ x c. ⊎_elim {C = Contains all x} (λ q. subst (Contains all) (sym q) last) (λ c. first x (o.only x c)) (in_only old e i at.within x c);
+  each = λ x c. ⊎_elim {C = HasPlane (insert old i e) x.plane} (λ c. has_plane old (insert old i e) x.plane (in_before old e i at.within) (o.each x c))
+      (λ c. subst (λ (y : Entry). HasPlane (insert old i e) y.plane) (sym (only_one e x c)) (record { turned = e.turned; listed = in_new old e i at.within })) (Contains-append_cases es (e ∷ []) x c);
+  rises = in_order;
 }))
   where
-    only_one : (x : V3) → Contains (h ∷ []) x → x ≡ h
-    only_one x (zero, lt, e) = sym e
-    only_one x (suc k, lt, e) = absurd (omega arith)
+    all : List Entry
+    all = es ++ e ∷ []
 
-    back : (k i : ℕ) → i < k → k ≡ k - 1 + 1
-    back k i lt = omega arith
+    first : (x : Entry) → Contains es x → Contains all x
+    first x c = Contains-append_left es (e ∷ []) x c
+
+    last : Contains all e
+    last = Contains-append_right es (e ∷ []) e (Contains-front e [])
+
+    one_before : (k : ℕ) → k + 1 ≡ i → Precedes planes g (entry_at old k) e
+    one_before k q = precedes_back planes g e (entry_at old k) (at.before k q) (λ p. apart (omega (arith, q)) (ap (λ j. (entry_at old j).plane) (place k q) ∙ p))
+      where
+        place : (k : ℕ) → k + 1 ≡ i → i - 1 ≡ k
+        place k q = omega (arith, q)
+
+    in_order : IsTransitive planes g all → AreInOrder planes g (insert old i e)
+    in_order t = still_rises old e i at.within (Precedes planes g) rises at.after before
+      where
+        rises : AreInOrder planes g old
+        rises = o.rises (λ a b d ca cb cd. t a b d (first a ca) (first b cb) (first d cd))
+
+        old_in : (k : ℕ) → k < length old → Contains all (entry_at old k)
+        old_in k lt = first (entry_at old k) (o.only (entry_at old k) (k, lt, get_or_default old k (entry_at old k) no_entry lt))
+
+        before : (k : ℕ) → k < i → Precedes planes g (entry_at old k) e
+        before k lt = ⊎_elim {C = Precedes planes g (entry_at old k) e} (one_before k)
+            (λ ne.
+            let near : i - 1 < length old = (let w = at.within in omega (arith, w, lt)) in
+            t (entry_at old k) (entry_at old (i - 1)) e (old_in k (omega (arith, near, lt))) (old_in (i - 1) near) last
+            (rises k (i - 1) (omega (arith, lt, ne)) near) (one_before (i - 1) (omega (arith, lt))))
+            (same_or (k + 1) i)
+
+-- ---- where the stops end
+
+abbrev pub AreBreaksBelow : List V3 → V3 → List Entry → ℕ → List ℕ → Type 0
+AreBreaksBelow planes g es n ends = Lists nat_cmp (λ p. (p < n) × IsBreak planes g es p) ends
+
+none_sorted : IsStrictlySortedBy nat_cmp []
+unfolding IsStrictlySortedBy
+none_sorted = tt
+
+pub breaks_none : (planes : List V3) (g : V3) (es : List Entry) → AreBreaksBelow planes g es 1 []
+breaks_none planes g es = record {
+  ascending = none_sorted;
+  each = λ p c. absurd (Contains-nothing p c);
+  all = λ p h. absurd (let l = h.1.later in omega (arith, h.0, l));
+}
+
+pub breaks_same : (planes : List V3) (g : V3) (es : List Entry) (n : ℕ) (ends : List ℕ) → order_det planes g (entry_at es (n - 1)) (entry_at es n) ≡ pos 0 → AreBreaksBelow planes g es n ends → AreBreaksBelow planes g es (n + 1) ends
+breaks_same planes g es n ends z b = record {
+  ascending = b.ascending;
+  each = λ p c. let h = b.each p c in ((let l = h.0 in omega (arith, l)), h.1);
+  all = λ p h. b.all p (⊎_elim {C = p < n} (λ lt. lt) (λ q. absurd (h.1.differ (ap (λ j. order_det planes g (entry_at es (j - 1)) (entry_at es j)) q ∙ z))) (lt_one_more_cases p n h.0), h.1);
+}
+
+pub breaks_more : (planes : List V3) (g : V3) (es : List Entry) (n : ℕ) (ends new : List ℕ) → IsBreak planes g es n → new ≡ ends ++ n ∷ [] → AreBreaksBelow planes g es n ends → AreBreaksBelow planes g es (n + 1) new
+breaks_more planes g es n ends new is set b = subst (λ (v : List ℕ). AreBreaksBelow planes g es (n + 1) v) (sym set) (record {
+  ascending = sorted_push ends n b.ascending (λ p c. (b.each p c).0);
+  each = λ p c. ⊎_elim {C = (p < n + 1) × IsBreak planes g es p}
+      (λ c. let h = b.each p c in ((let l = h.0 in omega (arith, l)), h.1))
+      (λ c. let q = only_one n p c in (omega (arith, q), subst (IsBreak planes g es) (sym q) is))
+      (Contains-append_cases ends (n ∷ []) p c);
+  all = λ p h. ⊎_elim {C = Contains (ends ++ n ∷ []) p} (λ lt. Contains-append_left ends (n ∷ []) p (b.all p (lt, h.1)))
+      (λ q. subst (Contains (ends ++ n ∷ [])) (sym q) (Contains-append_right ends (n ∷ []) n (Contains-front n [])))
+      (lt_one_more_cases p n h.0);
+})
+
+pub breaks_all : (planes : List V3) (g : V3) (es : List Entry) (n : ℕ) (ends : List ℕ) → length es ≤ n → AreBreaksBelow planes g es n ends → Lists nat_cmp (IsBreak planes g es) ends
+breaks_all planes g es n ends le b = record { ascending = b.ascending; each = λ p c. (b.each p c).1; all = λ p h. b.all p ((let w = h.within in omega (arith, w, le)), h) }

@@ -21,7 +21,7 @@ use Rattle.staat_ring.proofs.CircleWithout.{NextBy, around_without, kept_of_stay
 use Rattle.staat_ring.proofs.WithoutLemmas.{Different, agree_without, different_filter, filter_from, filter_in, vertex_stays}
 use Rattle.staat_vec.proofs.Naturals.{zero_not_suc, suc_same}
 use Rattle.staat_vec.proofs.ListLaws.{map_twice, place_in_map, map_at_place, Contains-map, Contains-from_map, place_of}
-use Rattle.staat_ring.proofs.HalfCircleFromAxis.{axis_differs}
+use Rattle.staat_ring.proofs.HalfTurn.{axis_differs}
 
 map_same : {X Y : Type 0} (f g : X → Y) (xs : List X) → ((x : X) → Contains xs x → f x ≡ g x) → map f xs ≡ map g xs
 map_same f g [] h = refl

@@ -1,7 +1,6 @@
 -- The stops of a circle are linked one after another.
 use Rattle.std.proofs.Common.{◌≡◌, ◌≢◌, ⊎_elim, ℕ, ◌+◌, ◌*◌, ◌<◌, ◌≤◌, arith, ap, refl, sym, subst, ◌∙◌, List, [], ◌∷◌, length, get_or, All}
 use Rattle.std.specs.Prelude.{map}
-use Rattle.std.proofs.lemmas.List.{get_or_default}
 use Rattle.std.proofs.lemmas.List.Elements.{All-contains}
 use Rattle.staat_model.proofs.Members.{All-from_members}
 use Rattle.staat_ring.specs.declared.entry.Entry.{Entry}
@@ -17,10 +16,6 @@ use Rattle.staat_ring.proofs.RowRules as rules
 use Rattle.staat_ring.proofs.Rows.{linked_row, ring_same}
 use Rattle.staat_vec.proofs.ListLaws.{Contains-from_map, Contains-map}
 use Rattle.staat_vec.proofs.Naturals.{same_or}
-
--- the entries of an item of the stops
-pub slot_is : (stops : List (List Entry)) (x es : List Entry) (k : ℕ) → k < length stops → x ≡ get_or stops k x → es ≡ x → es ≡ slot_at stops k
-slot_is stops x es k lt e q = q ∙ (e ∙ get_or_default stops k x [] lt)
 
 module _ (n c : ℕ) (lc : c < n) (stops : List (List Entry)) (can : CanBeLinked n c stops) where
   abbrev slot : ℕ → List Entry

@@ -8,9 +8,9 @@ ghost use Rattle.staat_ring.specs.Planes.{entries_of};
 ghost use Rattle.staat_ring.specs.Linking.{AreSized, CanBeLinked, HoldsCircle, IsAlone, IsKeptAt};
 ghost use Rattle.staat_ring.specs.Numbered.{circle_of_node, entry_count, entry_of_plane, head_number, ring_node_count};
 
-use crate::circle::Through;
 use crate::linking::link_stops;
 use crate::nodes::{NodeLinks, counted};
+use crate::stop_list::Stops;
 use staat_limits::MOST_PLANES;
 use staat_vec::OutOfMemory;
 use std::alloc::Global;
@@ -187,7 +187,7 @@ impl RingArrays {
     }
 
     /// Links the circle `c`, whose nodes stand alone, to these stops.
-    pub fn link_circle(&mut self, planes: u32, c: u32, stops: &[Through])
+    pub fn link_circle(&mut self, planes: u32, c: u32, stops: &Stops)
         requires planes { planes ≤ MOST_PLANES }
         requires circle { c < planes }
         requires sizes { AreSized planes self.old }

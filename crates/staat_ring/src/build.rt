@@ -19,7 +19,7 @@ fn linked_arrays(alloc: Global, table: &PlaneTable) -> Result<RingArrays, OutOfM
     let mut arrays = RingArrays::alone(alloc, planes)?;
     for c in 0..planes {
         let stops = circle_of(alloc, table, c)?;
-        arrays.link_circle(planes, c, stops.as_slice());
+        arrays.link_circle(planes, c, &stops);
     }
     Ok(arrays)
 }
@@ -27,7 +27,8 @@ fn linked_arrays(alloc: Global, table: &PlaneTable) -> Result<RingArrays, OutOfM
 impl Rings {
     /// The rings of the planes of a table, all of them linked.
     ///
-    /// For n planes it takes about n n log n determinants of normals; no two vertices are multiplied.
+    /// For n planes it takes about 3 n n determinants of normals, and sorts n lists of n whole numbers; no two vertices
+    /// are multiplied.
     pub fn build(alloc: Global, table: &PlaneTable) -> Result<Rings, OutOfMemory>
         ensures made { IfOk result (WereMadeFrom table.now.planes) }
         ensures all { IfOk result (λ r. r.unlinked ≡ []) }

@@ -1,67 +1,54 @@
-// An order in which crossings nearly rise, by whole keys. The keys are hints: a bad one costs time alone.
-ghost use Rattle.std.specs.Prelude.{◌≡◌, ◌↔◌, ℕ, ◌<◌, ℤ, All, Contains, IfOk, length, map};
+// The entries of a circle on the half turn from its axis, with whole keys by which their crossings nearly rise. The
+// keys are hints: a bad one costs time alone.
+ghost use Rattle.std.specs.Prelude.{◌≡◌, ◌<◌, IfOk, Some, length, map, slice_get};
 ghost use Rattle.staat_vec.specs.declared.vector.V3.{V3 as Vector};
-ghost use Rattle.staat_vec.specs.Vectors.{IsWithin};
-ghost use Rattle.staat_ring.specs.Builds.{AreKeysBelow};
-ghost use Rattle.staat_ring.specs.Order.{normal_at};
+ghost use Rattle.staat_model.specs.Circles.{axis_beside};
+ghost use Rattle.staat_ring.specs.Builds.{AreUpper, entry_of};
 
-use staat_vec::{NORMAL, OutOfMemory, V3, det, dot};
+use crate::half_circle::{axis_beside, is_opposite};
+use staat_planes::PlaneTable;
+use staat_vec::{OutOfMemory, det, dot};
 use std::alloc::Global;
 
-// how many times 2 the keys are doubled
+/// A hint of where an entry crosses, the number of its plane, and whether it is turned.
+pub type Key = (i128, u32, bool);
+
+// how many times 2 the hints are doubled
 const SCALE: u32 = 18;
 
 // About minus the cotangent of the angle from the axis, times a power of 2: it rises along the half circle. Where the
-// numbers are too great for that, the divisor is made less instead.
-fn key_of(g: V3, axis: V3, h: V3) -> i128
-    requires g { IsWithin NORMAL g }
-    requires axis { IsWithin NORMAL axis }
-    requires h { IsWithin NORMAL h }
-{
-    let along = dot(g, axis)
-        .wrapping_mul(dot(g, h))
-        .wrapping_sub(dot(g, g).wrapping_mul(dot(axis, h)));
-    let across = det(g, axis, h);
+// numbers are too great for that, the divisor is made less instead. Those on the line of the axis come first.
+fn hint(along: i128, across: i128) -> i128 {
     match along.checked_mul(1 << SCALE) {
-        Some(scaled) => scaled.checked_div(across).unwrap_or(0),
-        None => along.checked_div(across >> SCALE).unwrap_or(0),
+        Some(scaled) => scaled.checked_div(across).unwrap_or(i128::MIN),
+        None => along.checked_div(across >> SCALE).unwrap_or(i128::MIN),
     }
 }
 
-// the keys, each with its normal's place
-fn keys_of(alloc: Global, g: V3, axis: V3, hs: &[V3]) -> Result<Vec<(i128, usize)>, OutOfMemory>
-    requires g { IsWithin NORMAL g }
-    requires axis { IsWithin NORMAL axis }
-    requires hs { All (IsWithin NORMAL) hs.now }
-    ensures { IfOk result (λ v. AreKeysBelow (length hs.now) v.items) }
+/// The entries of all planes but `c` on the half turn from its axis, nearly in the order of their crossings.
+pub fn keys_of(alloc: Global, table: &PlaneTable, c: u32) -> Result<Vec<Key>, OutOfMemory>
+    requires { c < length table.now.planes }
+    ensures { IfOk result (λ v. (g axis : Vector) → slice_get table.now.planes c ≡ Some g
+        → slice_get table.now.planes (axis_beside c) ≡ Some axis
+        → AreUpper table.now.planes c g axis (length table.now.planes) (map entry_of v.items)) }
 {
+    let _set = table.set();
+    let _planes = table.len();
+    let g = table.plane(c);
+    let axis = table.plane(axis_beside(c));
+    let lean = dot(g, axis);
+    let size = dot(g, g);
     let mut keys = Vec::new(alloc);
-    for i in 0..hs.len() {
-        keys.push((key_of(g, axis, hs[i]), i))?;
+    for j in 0..table.len() {
+        if j != c {
+            let h = table.plane(j);
+            let along = lean
+                .wrapping_mul(dot(g, h))
+                .wrapping_sub(size.wrapping_mul(dot(axis, h)));
+            let across = det(g, axis, h);
+            keys.push((hint(along, across), j, is_opposite(g, axis, h, across)))?;
+        }
     }
-    Ok(keys)
-}
-
-// the normals at these places
-fn picked(alloc: Global, hs: &[V3], keys: &[(i128, usize)]) -> Result<Vec<V3>, OutOfMemory>
-    requires { All (λ (k : ℤ × ℕ). k.1 < length hs.now) keys.now }
-    ensures { IfOk result (λ v. v.items ≡ map (λ (k : ℤ × ℕ). normal_at hs.now k.1) keys.now) }
-{
-    let mut normals = Vec::new(alloc);
-    for key in keys {
-        normals.push(hs[key.1])?;
-    }
-    Ok(normals)
-}
-
-/// The same normals, nearly in the order of their crossings.
-pub fn in_order(alloc: Global, g: V3, axis: V3, hs: &[V3]) -> Result<Vec<V3>, OutOfMemory>
-    requires g { IsWithin NORMAL g }
-    requires axis { IsWithin NORMAL axis }
-    requires hs { All (IsWithin NORMAL) hs.now }
-    ensures { IfOk result (λ v. (h : Vector) → Contains v.items h ↔ Contains hs.now h) }
-{
-    let mut keys = keys_of(alloc, g, axis, hs)?;
     keys.sort_unstable();
-    picked(alloc, hs, keys.as_slice())
+    Ok(keys)
 }

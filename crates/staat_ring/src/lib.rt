@@ -18,6 +18,7 @@ mod nodes;
 mod order;
 mod pairs;
 mod rings;
+mod stop_list;
 mod vertex;
 mod walk;
 

@@ -4,14 +4,14 @@ ghost use Rattle.staat_ring.specs.Links.{Apart, Distinct, IsLinkedRing};
 ghost use Rattle.staat_ring.specs.Numbered.{entry_numbers, ring_node_count, node_number};
 ghost use Rattle.staat_ring.specs.Linking.{AreHomedAt, AreLinked, AreStopsLinked, CanBeLinked, IsSameAt, rows_of};
 
-use crate::circle::Through;
 use crate::entry::{Entry, node_of, number_of_entry};
 use crate::nodes::NodeLinks;
+use crate::stop_list::Stops;
 use staat_limits::MOST_PLANES;
 
 impl NodeLinks {
     /// Links a head that stands alone and the nodes of the stops of the circle `c` to a ring, in their order.
-    pub fn link(&mut self, head: u32, planes: u32, c: u32, stops: &[Through])
+    pub fn link(&mut self, head: u32, planes: u32, c: u32, stops: &Stops)
         requires planes { planes ≤ MOST_PLANES }
         requires circle { c < planes }
         requires stops { CanBeLinked planes c stops.now }
@@ -25,8 +25,8 @@ impl NodeLinks {
         ensures length { length self.new.next ≡ length self.old.next }
     {
         self.sizes();
-        for stop in stops {
-            self.append(head, node_of(planes, c, stop.entries()));
+        for k in 0..stops.len() {
+            self.append(head, node_of(planes, c, stops.stop(k)));
         }
     }
 }
@@ -65,13 +65,7 @@ fn link_entries(
 }
 
 /// Links the entries of each stop of the circle `c` to a ring, whose head is the node of the stop, their home.
-pub fn link_stops(
-    vertices: &mut NodeLinks,
-    home: &mut Vec<u32>,
-    planes: u32,
-    c: u32,
-    stops: &[Through],
-)
+pub fn link_stops(vertices: &mut NodeLinks, home: &mut Vec<u32>, planes: u32, c: u32, stops: &Stops)
     requires planes { planes ≤ MOST_PLANES }
     requires circle { c < planes }
     requires room { ring_node_count planes ≤ length vertices.old.next }
@@ -82,8 +76,8 @@ pub fn link_stops(
     ensures { AreStopsLinked planes c stops.now (length stops.now) vertices.old vertices.new home.old.items
         home.new.items }
 {
-    for stop in stops {
-        let entries = stop.entries();
+    for k in 0..stops.len() {
+        let entries = stops.stop(k);
         let v = node_of(planes, c, entries);
         link_entries(vertices, home, planes, c, v, entries);
     }

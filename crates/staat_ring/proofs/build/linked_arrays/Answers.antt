@@ -12,14 +12,14 @@ pub link_circle-requires-clause-stops : goal.link_circle-requires-clause-stops
 link_circle-requires-clause-stops c =
     let planes = c.args.table.now.planes in
     let lc = subst (λ n. c.loop-c.c < n) c.len-planes.ensures.is c.loop-c-test.true in
-    next_can planes c.len-planes.ensures.rules.planes c.loop-c.c lc c.in_ok-stops.stops.items (c.in_ok-stops.ensures (numbers_below (length planes)) (λ j lt. below_all (length planes) j lt)) c.len-planes.result c.len-planes.ensures.is c.as_slice.result.now c.as_slice.ensures.value
+    next_can planes c.len-planes.ensures.rules.planes c.loop-c.c lc c.in_ok-stops.stops (c.in_ok-stops.ensures (numbers_below (length planes)) (λ j lt. below_all (length planes) j lt)) c.len-planes.result c.len-planes.ensures.is
 
 pub loop-c-preserved : goal.loop-c-preserved
 loop-c-preserved c =
     let planes = c.args.table.now.planes in
     let lc = subst (λ n. c.loop-c.c < n) c.len-planes.ensures.is c.loop-c-test.true in
     record {
-      below = next_linked planes c.len-planes.ensures.rules.planes c.loop-c.c lc c.in_ok-stops.stops.items (c.in_ok-stops.ensures (numbers_below (length planes)) (λ j lt. below_all (length planes) j lt)) c.len-planes.result c.len-planes.ensures.is c.as_slice.result.now c.as_slice.ensures.value c.loop-c.arrays c.link_circle.new.self c.loop-c.invariant.below c.link_circle.ensures.sizes c.link_circle.ensures.holds c.link_circle.ensures.others c.link_circle.ensures.home;
+      below = next_linked planes c.len-planes.ensures.rules.planes c.loop-c.c lc c.in_ok-stops.stops (c.in_ok-stops.ensures (numbers_below (length planes)) (λ j lt. below_all (length planes) j lt)) c.len-planes.result c.len-planes.ensures.is c.loop-c.arrays c.link_circle.new.self c.loop-c.invariant.below c.link_circle.ensures.sizes c.link_circle.ensures.holds c.link_circle.ensures.others c.link_circle.ensures.home;
     }
 
 pub loop-c-init : goal.loop-c-init

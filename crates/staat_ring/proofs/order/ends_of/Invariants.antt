@@ -1,0 +1,10 @@
+use Rattle.std.proofs.Common.{◌≡◌, ◌≤◌, length}
+use Rattle.staat_ring.proofs.Ordering.{AreBreaksBelow}
+use Rattle.staat_ring.proofs.order.ends_of.Given as goal
+
+abbrev pub invariant-loop-i : goal.invariant-loop-i
+invariant-loop-i l = record {
+  all : l.i-end ≡ length l.es;
+  later : 1 ≤ l.i;
+  breaks : AreBreaksBelow l.table.planes l.g l.es l.i l.ends.items;
+}
