@@ -21,21 +21,16 @@ use Rattle.staat_model.proofs.Members.{All-from_members}
 use Rattle.staat_model.specs.Circles.{axis_beside}
 use Rattle.staat_pairs.specs.Tables.{AreTablePlanes}
 use Rattle.staat_planes.specs.PairOrder.{plane_at}
+use Rattle.staat_planes.proofs.UsedPlanes.{places_rise}
 use Rattle.staat_ring.specs.declared.entry.Entry.{Entry}
 use Rattle.staat_ring.specs.Builds.{AreStopsFrom, AreUpper, IsUpperEntry, all_around, ray, ring_by, slot_at, stops_from}
-use Rattle.staat_ring.specs.Order.{AreEnds, AreInOrder, IsBreak, IsOrderOf, entry_at, facet_of, no_entry}
+use Rattle.staat_ring.specs.Order.{AreStopEnds, AreInOrder, IsBreak, IsOrderOf, entry_at, facet_of, no_entry}
 use Rattle.staat_ring.specs.Rings.{IsRingOf, crossing, facet_by}
 use Rattle.staat_ring.proofs.CircleFromPlaces.{AreFilled, AreThroughCrossing, IsHalfCircle, normal_at, ray_negative, ring_is}
 use Rattle.staat_ring.proofs.Divided.{length-stops, stop_at}
 use Rattle.staat_ring.proofs.HalfTurn.{IsOn, ahead_left, ahead_trans, axis_apart, axis_differs, det_facet, det_own, facet_det, is_on, no_opposite, none_before, one_ray, same_vertex, some_normal, some_off, transitive, turned, unit}
 
 -- ---- ascending numbers
-
-pub sorted_at : (xs : List ℕ) (i k : ℕ) → IsStrictlySortedBy nat_cmp xs → i < k → k < length xs → get_or xs i 0 < get_or xs k 0
-sorted_at [] i k s lt lk = absurd (omega (arith, lk))
-sorted_at (x ∷ xs) i zero s lt lk = absurd (omega (arith, lt))
-sorted_at (x ∷ xs) zero (suc k) s lt lk = head_less x xs (get_or xs k 0) s (k, omega (arith, lk), get_or_default xs k (get_or xs k 0) 0 (omega (arith, lk)))
-sorted_at (x ∷ xs) (suc i) (suc k) s lt lk = sorted_at xs i k (tail_sorted x xs s) (omega (arith, lt)) (omega (arith, lk))
 
 sorted_from : (xs : List ℕ) → ((i k : ℕ) → i < k → k < length xs → get_or xs i 0 < get_or xs k 0) → IsStrictlySortedBy nat_cmp xs
 unfolding IsStrictlySortedBy
@@ -67,7 +62,7 @@ part_of start (end ∷ ends) p (suc k) le lk lt = ⊎_elim {C = IsIn start (end 
 -- ---- the stops
 
 module _ (planes : List V3) (rules : AreTablePlanes planes) (c : ℕ) (g axis : V3) (gi : slice_get planes c ≡ Some g) (ai : slice_get planes (axis_beside c) ≡ Some axis)
-    (keys es : List Entry) (upper : AreUpper planes c g axis (length planes) keys) (order : IsOrderOf planes g keys es) (ends : List ℕ) (are : AreEnds planes g es ends) where
+    (keys es : List Entry) (upper : AreUpper planes c g axis (length planes) keys) (order : IsOrderOf planes g keys es) (ends : List ℕ) (are : AreStopEnds planes g es ends) where
   abbrev at : ℕ → Entry
   at p = entry_at es p
 
@@ -134,7 +129,7 @@ module _ (planes : List V3) (rules : AreTablePlanes planes) (c : ℕ) (g axis : 
       (λ p cp. ⊎_elim {C = 0 < p} (λ a. (are.are.each p a).later) (λ b. subst (λ n. 0 < n) (sym (only_one (length es) p b)) some) (Contains-append_cases are.breaks (length es ∷ []) p cp)))
 
   step : (i k : ℕ) → i < k → k < length ends + 1 → first i < first k
-  step i k lt lk = sorted_at (0 ∷ ends) i k ascending lt (omega (arith, lk))
+  step i k lt lk = places_rise (0 ∷ ends) i k ascending lt (omega (arith, lk))
 
   nonempty : (k : ℕ) → k < length ends → first k < end k
   nonempty k lk = step k (suc k) (omega arith) (omega (arith, lk))

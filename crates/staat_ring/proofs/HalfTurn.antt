@@ -21,8 +21,8 @@ use Rattle.staat_model.specs.Circles.{axis_beside}
 use Rattle.staat_model.specs.Planes.{axes}
 use Rattle.staat_pairs.specs.Tables.{AreTablePlanes}
 use Rattle.staat_ring.specs.declared.entry.Entry.{Entry}
-use Rattle.staat_ring.specs.Builds.{AreUpper, IsUpper, IsUpperEntry, entry_of, ray}
-use Rattle.staat_ring.specs.Order.{HasPlane, IsOrderOf, IsTransitive, Precedes, facet_of}
+use Rattle.staat_ring.specs.Builds.{AreUpper, IsUpper, IsUpperEntry, key_entry, ray}
+use Rattle.staat_ring.specs.Order.{HasEntryOfPlane, IsOrderOf, IsTransitive, CrossesBefore, facet_of}
 use Rattle.staat_ring.specs.Rings.{facet_by}
 use Rattle.staat_planes.specs.PairOrder.{plane_at}
 use Rattle.staat_ring.proofs.CircleFromPlaces.{not_flat, positive_by, ray_negative, zero_by}
@@ -200,7 +200,7 @@ module _ (planes : List V3) (rules : AreTablePlanes planes) (c : ℕ) (g axis : 
       D : V3
       D = facet_of planes d
 
-      go : IsOn g axis some_normal axis_apart A → IsOn g axis some_normal axis_apart B → IsOn g axis some_normal axis_apart D → Precedes planes g a b → Precedes planes g b d → Precedes planes g a d
+      go : IsOn g axis some_normal axis_apart A → IsOn g axis some_normal axis_apart B → IsOn g axis some_normal axis_apart D → CrossesBefore planes g a b → CrossesBefore planes g b d → CrossesBefore planes g a d
       go oa ob od (inl p) (inl q) = inl (ahead_trans g axis some_normal axis_apart A B D oa ob od p q)
       go oa ob od (inl p) (inr (z, lt)) = inl (ahead_right g axis some_normal axis_apart A B D oa ob od p (same_vertex g axis some_normal axis_apart B D ob od z))
       go oa ob od (inr (z, lt)) (inl q) = inl (ahead_left g axis some_normal axis_apart A B D oa ob od (same_vertex g axis some_normal axis_apart A B oa ob z) q)
@@ -222,9 +222,9 @@ uppers_more planes c g axis j h t old new hi ne up is u = subst (λ (v : List En
     different = ne;
     upper = subst (λ x. IsUpper g axis (facet_by t x)) (sym (get_or_from_slice_get planes j h origin hi)) up;
   })) (Contains-append_cases old (this ∷ []) e he);
-  all = λ k lt ne. ⊎_elim {C = HasPlane (old ++ this ∷ []) k}
+  all = λ k lt ne. ⊎_elim {C = HasEntryOfPlane (old ++ this ∷ []) k}
       (λ l. let r = u.all k l ne in record { turned = r.turned; listed = Contains-append_left old (this ∷ []) (record { plane = k; turned = r.turned }) r.listed })
-      (λ q. subst (HasPlane (old ++ this ∷ [])) (sym q) (record { turned = t; listed = Contains-append_right old (this ∷ []) this (Contains-front this []) }))
+      (λ q. subst (HasEntryOfPlane (old ++ this ∷ [])) (sym q) (record { turned = t; listed = Contains-append_right old (this ∷ []) this (Contains-front this []) }))
       (lt_one_more_cases k j lt);
 })
   where
@@ -238,8 +238,8 @@ uppers_moved planes c g axis n old new p u = record {
   all = λ k lt ne. let r = u.all k lt ne in record { turned = r.turned; listed = Contains-permutation old new (record { plane = k; turned = r.turned }) p r.listed };
 }
 
-pub keys_within : (planes : List V3) (c : ℕ) (g axis : V3) (n : ℕ) (keys : List (ℤ × ℕ × Bool)) → AreUpper planes c g axis n (map entry_of keys) → All (λ (k : ℤ × ℕ × Bool). k.1 < length planes) keys
-keys_within planes c g axis n keys u = All-from_members (λ (k : ℤ × ℕ × Bool). k.1 < length planes) keys (λ k hk. (u.each (entry_of k) (Contains-map entry_of keys k hk)).within)
+pub keys_within : (planes : List V3) (c : ℕ) (g axis : V3) (n : ℕ) (keys : List (ℤ × ℕ × Bool)) → AreUpper planes c g axis n (map key_entry keys) → All (λ (k : ℤ × ℕ × Bool). k.1 < length planes) keys
+keys_within planes c g axis n keys u = All-from_members (λ (k : ℤ × ℕ × Bool). k.1 < length planes) keys (λ k hk. (u.each (key_entry k) (Contains-map key_entry keys k hk)).within)
 
 pub entries_within : (planes : List V3) (c : ℕ) (g axis : V3) (n : ℕ) (keys es : List Entry) → AreUpper planes c g axis n keys → IsOrderOf planes g keys es → All (λ e. e.plane < length planes) es
 entries_within planes c g axis n keys es u o = All-from_members (λ e. e.plane < length planes) es (λ e he. (u.each e (o.only e he)).within)

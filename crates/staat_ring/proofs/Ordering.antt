@@ -18,14 +18,14 @@ use Rattle.staat_vec.proofs.Naturals.{lt_one_more_cases, lt_or_le, same_or, tric
 use Rattle.staat_vec.proofs.Unique.{Contains-front, Contains-nothing}
 use Rattle.staat_vec.proofs.VectorLaws.{det_back}
 use Rattle.staat_ring.specs.declared.entry.Entry.{Entry}
-use Rattle.staat_ring.specs.Order.{AreInOrder, HasPlane, IsBreak, IsInserted, IsOrderOf, IsTransitive, Precedes, entry_at, facet_of, no_entry, order_det}
+use Rattle.staat_ring.specs.Order.{AreInOrder, HasEntryOfPlane, IsBreak, IsInserted, IsOrderOf, IsTransitive, CrossesBefore, entry_at, facet_of, no_entry, order_det}
 use Rattle.staat_ring.proofs.NextVertexWithout.{three}
 
 -- the sign as it is had from the two facets
 pub order_sign : (planes : List V3) (g : V3) (e f : Entry) (a b : V3) (s t : Sign) → a ≡ facet_of planes e → b ≡ facet_of planes f → s ≡ sign (det g a b) → s ≡ t → sign (order_det planes g e f) ≡ t
 order_sign planes g e f a b s t ea eb told is = sym (told ∙ (λ i. sign (det g (ea i) (eb i)))) ∙ is
 
-pub not_precedes : (planes : List V3) (g : V3) (e f : Entry) → order_det planes g e f <ℤ pos 0 → Precedes planes g e f → ⊥
+pub not_precedes : (planes : List V3) (g : V3) (e f : Entry) → order_det planes g e f <ℤ pos 0 → CrossesBefore planes g e f → ⊥
 not_precedes planes g e f n (inl p) = opposed (order_det planes g e f) p n
   where
     opposed : (z : ℤ) → pos 0 <ℤ z → z <ℤ pos 0 → ⊥
@@ -33,12 +33,12 @@ not_precedes planes g e f n (inl p) = opposed (order_det planes g e f) p n
 not_precedes planes g e f n (inr (z, lt)) = zero_not_negative (order_det planes g e f) z n
 
 -- of two entries of different planes one precedes the other
-pub precedes_back : (planes : List V3) (g : V3) (e f : Entry) → (Precedes planes g e f → ⊥) → f.plane ≢ e.plane → Precedes planes g f e
+pub precedes_back : (planes : List V3) (g : V3) (e f : Entry) → (CrossesBefore planes g e f → ⊥) → f.plane ≢ e.plane → CrossesBefore planes g f e
 precedes_back planes g e f not ne =
     let back = det_back g (facet_of planes f) (facet_of planes e) in
     let z : ℤ = order_det planes g e f in
-    ⊎_elim {C = Precedes planes g f e} (λ p. absurd (not (inl p)))
-    (λ o. ⊎_elim {C = Precedes planes g f e}
+    ⊎_elim {C = CrossesBefore planes g f e} (λ p. absurd (not (inl p)))
+    (λ o. ⊎_elim {C = CrossesBefore planes g f e}
     (λ q. inr (zero_back z (order_det planes g f e) back q, less e.plane f.plane (λ lt. not (inr (q, lt))) ne))
     (λ n. inl (positive_back z (order_det planes g f e) back n)) o)
     (three z)
@@ -115,19 +115,19 @@ module _ (es : List Entry) (e : Entry) (i : ℕ) (le : i ≤ length es) where
 pub order_none : (planes : List V3) (g : V3) → IsOrderOf planes g [] []
 order_none planes g = record { only = λ e c. c; each = λ e c. absurd (Contains-nothing e c); rises = λ t i k lt small. absurd (omega (arith, small)) }
 
-has_plane : (old more : List Entry) (k : ℕ) → ((x : Entry) → Contains old x → Contains more x) → HasPlane old k → HasPlane more k
+has_plane : (old more : List Entry) (k : ℕ) → ((x : Entry) → Contains old x → Contains more x) → HasEntryOfPlane old k → HasEntryOfPlane more k
 has_plane old more k in_more h = record { turned = h.turned; listed = in_more (record { plane = k; turned = h.turned }) h.listed }
 
 pub order_more : (planes : List V3) (g : V3) (e : Entry) (es done old new : List Entry) → done ≡ es ++ e ∷ [] → IsInserted planes g e old new → IsOrderOf planes g es old → IsOrderOf planes g done new
 order_more planes g e es done old new is (inr (has, same)) o = subst (λ (ds : List Entry). IsOrderOf planes g ds new) (sym is) (subst (λ (v : List Entry). IsOrderOf planes g (es ++ e ∷ []) v) (sym same) (record {
   only = λ x c. Contains-append_left es (e ∷ []) x (o.only x c);
-  each = λ x c. ⊎_elim {C = HasPlane old x.plane} (λ c. o.each x c) (λ c. subst (λ (y : Entry). HasPlane old y.plane) (sym (only_one e x c)) has) (Contains-append_cases es (e ∷ []) x c);
+  each = λ x c. ⊎_elim {C = HasEntryOfPlane old x.plane} (λ c. o.each x c) (λ c. subst (λ (y : Entry). HasEntryOfPlane old y.plane) (sym (only_one e x c)) has) (Contains-append_cases es (e ∷ []) x c);
   rises = λ t. o.rises (λ a b d ca cb cd. t a b d (Contains-append_left es (e ∷ []) a ca) (Contains-append_left es (e ∷ []) b cb) (Contains-append_left es (e ∷ []) d cd));
 }))
 order_more planes g e es done old new is (inl (i, at, apart, set)) o = subst (λ (ds : List Entry). IsOrderOf planes g ds new) (sym is) (subst (λ (v : List Entry). IsOrderOf planes g all v) (sym set) (record {
   only = λ x c. ⊎_elim {C = Contains all x} (λ q. subst (Contains all) (sym q) last) (λ c. first x (o.only x c)) (in_only old e i at.within x c);
-  each = λ x c. ⊎_elim {C = HasPlane (insert old i e) x.plane} (λ c. has_plane old (insert old i e) x.plane (in_before old e i at.within) (o.each x c))
-      (λ c. subst (λ (y : Entry). HasPlane (insert old i e) y.plane) (sym (only_one e x c)) (record { turned = e.turned; listed = in_new old e i at.within })) (Contains-append_cases es (e ∷ []) x c);
+  each = λ x c. ⊎_elim {C = HasEntryOfPlane (insert old i e) x.plane} (λ c. has_plane old (insert old i e) x.plane (in_before old e i at.within) (o.each x c))
+      (λ c. subst (λ (y : Entry). HasEntryOfPlane (insert old i e) y.plane) (sym (only_one e x c)) (record { turned = e.turned; listed = in_new old e i at.within })) (Contains-append_cases es (e ∷ []) x c);
   rises = in_order;
 }))
   where
@@ -140,14 +140,14 @@ order_more planes g e es done old new is (inl (i, at, apart, set)) o = subst (λ
     last : Contains all e
     last = Contains-append_right es (e ∷ []) e (Contains-front e [])
 
-    one_before : (k : ℕ) → k + 1 ≡ i → Precedes planes g (entry_at old k) e
+    one_before : (k : ℕ) → k + 1 ≡ i → CrossesBefore planes g (entry_at old k) e
     one_before k q = precedes_back planes g e (entry_at old k) (at.before k q) (λ p. apart (omega (arith, q)) (ap (λ j. (entry_at old j).plane) (place k q) ∙ p))
       where
         place : (k : ℕ) → k + 1 ≡ i → i - 1 ≡ k
         place k q = omega (arith, q)
 
     in_order : IsTransitive planes g all → AreInOrder planes g (insert old i e)
-    in_order t = still_rises old e i at.within (Precedes planes g) rises at.after before
+    in_order t = still_rises old e i at.within (CrossesBefore planes g) rises at.after before
       where
         rises : AreInOrder planes g old
         rises = o.rises (λ a b d ca cb cd. t a b d (first a ca) (first b cb) (first d cd))
@@ -155,8 +155,8 @@ order_more planes g e es done old new is (inl (i, at, apart, set)) o = subst (λ
         old_in : (k : ℕ) → k < length old → Contains all (entry_at old k)
         old_in k lt = first (entry_at old k) (o.only (entry_at old k) (k, lt, get_or_default old k (entry_at old k) no_entry lt))
 
-        before : (k : ℕ) → k < i → Precedes planes g (entry_at old k) e
-        before k lt = ⊎_elim {C = Precedes planes g (entry_at old k) e} (one_before k)
+        before : (k : ℕ) → k < i → CrossesBefore planes g (entry_at old k) e
+        before k lt = ⊎_elim {C = CrossesBefore planes g (entry_at old k) e} (one_before k)
             (λ ne.
             let near : i - 1 < length old = (let w = at.within in omega (arith, w, lt)) in
             t (entry_at old k) (entry_at old (i - 1)) e (old_in k (omega (arith, near, lt))) (old_in (i - 1) near) last

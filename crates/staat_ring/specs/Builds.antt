@@ -6,7 +6,7 @@ use Rattle.staat_vec.specs.declared.vector.V3.{V3}
 use Rattle.staat_vec.specs.Vectors.{cross, det}
 use Rattle.staat_vec.specs.Primitives.{primitive}
 use Rattle.staat_ring.specs.declared.entry.Entry.{Entry}
-use Rattle.staat_ring.specs.Order.{HasPlane, facet_of}
+use Rattle.staat_ring.specs.Order.{HasEntryOfPlane, facet_of}
 use Rattle.staat_ring.specs.Rings.{Ring}
 
 -- the direction in which two planes cross
@@ -26,11 +26,11 @@ pub record IsUpperEntry (planes : List V3) (c : ℕ) (g axis : V3) (e : Entry) :
 -- such entries, with one of each plane below n but c
 pub record AreUpper (planes : List V3) (c : ℕ) (g axis : V3) (n : ℕ) (es : List Entry) : Type 0 where
   pub each : (e : Entry) → Contains es e → IsUpperEntry planes c g axis e
-  pub all : (k : ℕ) → k < n → k ≢ c → HasPlane es k
+  pub all : (k : ℕ) → k < n → k ≢ c → HasEntryOfPlane es k
 
 -- the entry of a key
-abbrev pub entry_of : ℤ × ℕ × Bool → Entry
-entry_of k = record { plane = k.1; turned = k.2 }
+abbrev pub key_entry : ℤ × ℕ × Bool → Entry
+key_entry k = record { plane = k.1; turned = k.2 }
 
 -- ---- the stops
 

@@ -3,7 +3,7 @@
 ghost use Rattle.std.specs.Prelude.{◌≡◌, ◌<◌, IfOk, Some, length, map, slice_get};
 ghost use Rattle.staat_vec.specs.declared.vector.V3.{V3 as Vector};
 ghost use Rattle.staat_model.specs.Circles.{axis_beside};
-ghost use Rattle.staat_ring.specs.Builds.{AreUpper, entry_of};
+ghost use Rattle.staat_ring.specs.Builds.{AreUpper, key_entry};
 
 use crate::half_circle::{axis_beside, is_opposite};
 use staat_planes::PlaneTable;
@@ -30,7 +30,7 @@ pub fn keys_of(alloc: Global, table: &PlaneTable, c: u32) -> Result<Vec<Key>, Ou
     requires { c < length table.now.planes }
     ensures { IfOk result (λ v. (g axis : Vector) → slice_get table.now.planes c ≡ Some g
         → slice_get table.now.planes (axis_beside c) ≡ Some axis
-        → AreUpper table.now.planes c g axis (length table.now.planes) (map entry_of v.items)) }
+        → AreUpper table.now.planes c g axis (length table.now.planes) (map key_entry v.items)) }
 {
     let _set = table.set();
     let _planes = table.len();

@@ -1,8 +1,8 @@
 // The order of the entries of a circle, and where its stops end.
 ghost use Rattle.std.specs.Prelude.{◌≡◌, ◌↔◌, ℕ, ◌<◌, ℤ, All, Bool, IfOk, IsTrue, OnOk, length, map, pos};
 ghost use Rattle.staat_vec.specs.Vectors.{IsWithin};
-ghost use Rattle.staat_ring.specs.Builds.{entry_of};
-ghost use Rattle.staat_ring.specs.Order.{AreEnds, IsInserted, IsOrderOf, IsPlace, Precedes, facet_of, order_det};
+ghost use Rattle.staat_ring.specs.Builds.{key_entry};
+ghost use Rattle.staat_ring.specs.Order.{AreStopEnds, IsInserted, IsOrderOf, IsPlace, CrossesBefore, facet_of, order_det};
 
 use crate::entry::Entry;
 use crate::half_circle::facet_by;
@@ -25,7 +25,7 @@ fn precedes(table: &PlaneTable, g: V3, e: Entry, f: Entry) -> bool
     requires g { IsWithin NORMAL g }
     requires e { e.plane < length table.now.planes }
     requires f { f.plane < length table.now.planes }
-    ensures { IsTrue result ↔ Precedes table.now.planes g e f }
+    ensures { IsTrue result ↔ CrossesBefore table.now.planes g e f }
 {
     match order_on(g, facet_of(table, e), facet_of(table, f)) {
         Sign::Pos => true,
@@ -76,7 +76,7 @@ pub fn in_order(
 ) -> Result<Vec<Entry>, OutOfMemory>
     requires g { IsWithin NORMAL g }
     requires keys { All (λ (k : ℤ × ℕ × Bool). k.1 < length table.now.planes) keys.now }
-    ensures { IfOk result (λ v. IsOrderOf table.now.planes g (map entry_of keys.now) v.items) }
+    ensures { IfOk result (λ v. IsOrderOf table.now.planes g (map key_entry keys.now) v.items) }
 {
     let mut entries = Vec::new(alloc);
     for key in keys {
@@ -115,7 +115,7 @@ pub fn ends_of(
 ) -> Result<Vec<usize>, OutOfMemory>
     requires g { IsWithin NORMAL g }
     requires es { All (λ e. e.plane < length table.now.planes) es.now }
-    ensures { IfOk result (λ v. AreEnds table.now.planes g es.now v.items) }
+    ensures { IfOk result (λ v. AreStopEnds table.now.planes g es.now v.items) }
 {
     let mut ends = Vec::new(alloc);
     for i in 1..es.len() {

@@ -3,7 +3,7 @@ use Rattle.std.proofs.lemmas.List.{get_or_default, map_more}
 use Rattle.std.proofs.lemmas.List.Elements.{All-contains, All-take}
 use Rattle.staat_vec.proofs.ListLaws.{Contains-from_map}
 use Rattle.staat_ring.specs.declared.entry.Entry.{Entry}
-use Rattle.staat_ring.specs.Builds.{entry_of}
+use Rattle.staat_ring.specs.Builds.{key_entry}
 use Rattle.staat_ring.specs.Order.{IsOrderOf}
 use Rattle.staat_ring.proofs.Ordering.{order_more, order_none}
 use Rattle.staat_ring.proofs.order.in_order.Goals as goal
@@ -18,12 +18,12 @@ pub loop-key-preserved : goal.loop-key-preserved
 loop-key-preserved c =
     let keys = c.args.keys.now in
     let i = c.loop-key.key-index in
-    order_more c.args.table.now.planes c.args.g (entry_of (get_or keys i no_key)) (map entry_of (take i keys)) (map entry_of (take (i + 1) keys)) c.loop-key.entries.items c.insert.new.es.items
-    (map_more entry_of keys i no_key c.loop-key-test.true) c.in_ok-insert.ensures c.loop-key.invariant
+    order_more c.args.table.now.planes c.args.g (key_entry (get_or keys i no_key)) (map key_entry (take i keys)) (map key_entry (take (i + 1) keys)) c.loop-key.entries.items c.insert.new.es.items
+    (map_more key_entry keys i no_key c.loop-key-test.true) c.in_ok-insert.ensures c.loop-key.invariant
 
 pub insert-requires-clause-es : goal.insert-requires-clause-es
 insert-requires-clause-es c = λ k d lt.
     let keys = take c.loop-key.key-index c.args.keys.now in
-    let (x, cx, ex) = Contains-from_map entry_of keys (get_or c.loop-key.entries.items k d) (c.loop-key.invariant.only (get_or c.loop-key.entries.items k d) (k, lt, get_or_default c.loop-key.entries.items k (get_or c.loop-key.entries.items k d) d lt)) in
+    let (x, cx, ex) = Contains-from_map key_entry keys (get_or c.loop-key.entries.items k d) (c.loop-key.invariant.only (get_or c.loop-key.entries.items k d) (k, lt, get_or_default c.loop-key.entries.items k (get_or c.loop-key.entries.items k d) d lt)) in
     subst (λ (e : Entry). e.plane < length c.args.table.now.planes) ex
     (All-contains (λ (k : ℤ × ℕ × Bool). k.1 < length c.args.table.now.planes) keys x (All-take (λ (k : ℤ × ℕ × Bool). k.1 < length c.args.table.now.planes) c.loop-key.key-index c.args.keys.now c.requires.keys) cx)

@@ -1,7 +1,7 @@
 use Rattle.std.proofs.Common.{map, take}
-use Rattle.staat_ring.specs.Builds.{entry_of}
+use Rattle.staat_ring.specs.Builds.{key_entry}
 use Rattle.staat_ring.specs.Order.{IsOrderOf}
 use Rattle.staat_ring.proofs.order.in_order.Given as goal
 
 abbrev pub invariant-loop-key : goal.invariant-loop-key
-invariant-loop-key l = IsOrderOf l.table.planes l.g (map entry_of (take l.key-index l.keys)) l.entries.items
+invariant-loop-key l = IsOrderOf l.table.planes l.g (map key_entry (take l.key-index l.keys)) l.entries.items

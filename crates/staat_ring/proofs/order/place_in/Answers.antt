@@ -1,6 +1,6 @@
 use Rattle.std.proofs.Common.{◌≡◌, ⊎_elim, ◌+◌, ◌-◌, arith, false, sym, subst, true, ℕ, ◌∙◌}
 use Rattle.staat_vec.proofs.Naturals.{same_or}
-use Rattle.staat_ring.specs.Order.{Precedes, entry_at}
+use Rattle.staat_ring.specs.Order.{CrossesBefore, entry_at}
 use Rattle.staat_ring.proofs.order.place_in.Goals as goal
 
 pub back-preserved : goal.back-preserved
@@ -9,8 +9,8 @@ back-preserved c =
     let es = c.args.es.now in
     record {
       within = omega (arith, c.back.invariant.within);
-      after = λ k le lt. ⊎_elim {C = Precedes planes c.args.g c.args.e (entry_at es k)}
-          (λ q. subst (λ j. Precedes planes c.args.g c.args.e (entry_at es j)) (sym q) (c.precedes.ensures.0 c.if-not-precedes.false))
+      after = λ k le lt. ⊎_elim {C = CrossesBefore planes c.args.g c.args.e (entry_at es k)}
+          (λ q. subst (λ j. CrossesBefore planes c.args.g c.args.e (entry_at es j)) (sym q) (c.precedes.ensures.0 c.if-not-precedes.false))
           (λ ne. c.back.invariant.after k (omega (arith, le, ne)) lt)
           (same_or k (c.back.i - 1));
     }
@@ -25,5 +25,5 @@ pub returns-then-not-precedes : goal.returns-then-not-precedes
 returns-then-not-precedes c = record {
   within = c.back.invariant.within;
   after = c.back.invariant.after;
-  before = λ k e p. off (sym c.if-not-precedes.true ∙ c.precedes.ensures.1 (subst (λ j. Precedes c.args.table.now.planes c.args.g c.args.e (entry_at c.args.es.now j)) (place k c.back.i e) p));
+  before = λ k e p. off (sym c.if-not-precedes.true ∙ c.precedes.ensures.1 (subst (λ j. CrossesBefore c.args.table.now.planes c.args.g c.args.e (entry_at c.args.es.now j)) (place k c.back.i e) p));
 }
