@@ -1,10 +1,10 @@
 // Worked assemblies over a source that answers for equal pieces alone: it has no memory for others.
 ghost use Rattle.staat_vec.specs.Vectors.{IsWithin};
 
-use crate::fixtures::{BESIDE, CUBE, Corners, Shape, assembly, box_of, prism_of, shows};
+use crate::fixtures::{BESIDE, CUBE, Corners, Shape, assembly, box_of, prism_of, same, shows};
 use staat_asm::{AsmRefusal, PlaceRefusal, build, place};
 use staat_cone::{FacetSource, Plain, overlap};
-use staat_model::Piece;
+use staat_model::{Piece, Sound};
 use staat_samples::at;
 use staat_vec::{OutOfMemory, POINT, V3};
 use std::alloc::Global;
@@ -27,6 +27,10 @@ const ABOVE: Corners = [0, 0, 2, 2, 2, 4];
 
 const INNER: Corners = [1, 1, 1, 3, 3, 3];
 
+fn count_of(built: Result<Sound, AsmRefusal>) -> Result<u32, AsmRefusal> {
+    Ok(built?.assembly().parts())
+}
+
 // the number of parts where a part of two boxes and two of one box are sound, or why they are not
 fn builds(
     rt: &impl Abort,
@@ -41,8 +45,8 @@ fn builds(
         Shape::Boxes(second),
         Shape::Boxes(third),
     ];
-    let built = build(alloc, &EqualAlone, assembly(rt, alloc, &shapes));
-    assert_eq!(rt; built.map(|sound| sound.assembly().parts()), wanted);
+    let parts = assembly(rt, alloc, &shapes);
+    same(rt, &count_of(build(alloc, &EqualAlone, parts)), &wanted);
 }
 
 #[test]
@@ -86,7 +90,7 @@ fn one_slanted_wall_is_found(rt: HostRuntime) {
     let alloc = rt.alloc();
     let low = prism_of(&rt, alloc, [(0, 0), (4, 0), (3, 1), (0, 4)]);
     let high = prism_of(&rt, alloc, [(4, 1), (4, 4), (1, 4), (2, 3)]);
-    assert_eq!(rt; overlap(alloc, &EqualAlone, &low, &high), Ok(false));
+    same(&rt, &overlap(alloc, &EqualAlone, &low, &high), &Ok(false));
 }
 
 // the cube, moved
@@ -117,7 +121,7 @@ fn pieces_are_placed(rt: HostRuntime) {
     moves(&rt, alloc, at(1, 1, 1), INNER);
     moves(&rt, alloc, at(0, 0, 0), CUBE);
     let refused = moved(&rt, alloc, at(0, -262144, 262143)).err();
-    assert_eq!(rt; refused, Some(PlaceRefusal::PlacedFar));
+    same(&rt, &refused, &Some(PlaceRefusal::PlacedFar));
 }
 
 #[test]

@@ -3,7 +3,7 @@ ghost use Rattle.std.specs.Prelude.{◌≡◌, ◌<◌, Contains};
 ghost use Rattle.staat_ring.specs.Rings.{WereMadeFrom, linked_of};
 ghost use Rattle.staat_ring.specs.Walked.{IsEntered, WalkWasMadeFrom};
 
-use crate::fixtures::{CUBE, Corners, LIDDED, Shape, table};
+use crate::fixtures::{CUBE, Corners, LIDDED, Shape, same, table};
 use staat_planes::{PlaneTable, Steps};
 use staat_ring::{Rings, Walk};
 use staat_vec::V3;
@@ -28,19 +28,23 @@ const WHOLE: [u32; 7] = [8, 8, 4, 8, 8, 8, 8];
 const WITHOUT: [u32; 7] = [8, 6, 4, 6, 6, 8, 0];
 
 fn out_and_back(rt: &impl Abort, rings: &mut Rings) {
-    assert_eq!(rt; lengths(rings), WHOLE);
+    same(rt, &lengths(rings), &WHOLE);
     assert!(rt; rings.is_linked(6));
     rings.unlink(6);
-    assert_eq!(rt; lengths(rings), WITHOUT);
+    same(rt, &lengths(rings), &WITHOUT);
     rings.relink(6);
-    assert_eq!(rt; lengths(rings), WHOLE);
+    same(rt, &lengths(rings), &WHOLE);
+}
+
+// the same in new rings
+fn out_and_back_in(rt: &impl Abort, alloc: Global, table: &PlaneTable) {
+    let mut rings = Rings::build(alloc, table).expect(rt, "memory");
+    out_and_back(rt, &mut rings);
 }
 
 #[test]
 fn a_plane_out_and_back(rt: HostRuntime) {
-    let table = table(&rt, rt.alloc(), &LIDDED);
-    let mut rings = Rings::build(rt.alloc(), &table).expect(&rt, "memory");
-    out_and_back(&rt, &mut rings);
+    out_and_back_in(&rt, rt.alloc(), &table(&rt, rt.alloc(), &LIDDED));
 }
 
 // enters the circle of a plane
@@ -91,15 +95,27 @@ fn around(
     stops
 }
 
-// the vertices of the circle of one of seven planes, from its first one on
-fn stops_on(rt: &impl Abort, alloc: Global, shapes: &[Shape], plane: u32) -> Vec<Stop> {
-    let table = table(rt, alloc, shapes);
-    assert!(rt; table.len() == 7);
-    let rings = Rings::build(alloc, &table).expect(rt, "memory");
-    let mut walk = Walk::new(alloc, &table).expect(rt, "memory");
+// the vertices of the circle of a plane, from its first one on
+fn stops_on(
+    rt: &impl Abort,
+    alloc: Global,
+    table: &PlaneTable,
+    rings: &Rings,
+    plane: u32,
+) -> Vec<Stop>
+    requires { WereMadeFrom table.now.planes rings.now }
+{
+    let mut walk = Walk::new(alloc, table).expect(rt, "memory");
     assert!(rt; rings.is_linked(plane));
-    enter::<Brand>(&mut walk, &table, &rings, plane, Blank::new(1));
-    around(rt, alloc, &table, &rings, &mut walk)
+    enter::<Brand>(&mut walk, table, rings, plane, Blank::new(1));
+    around(rt, alloc, table, rings, &mut walk)
+}
+
+// the same for one of seven planes
+fn stops_of(rt: &impl Abort, alloc: Global, table: &PlaneTable, plane: u32) -> Vec<Stop> {
+    assert!(rt; table.len() == 7);
+    let rings = Rings::build(alloc, table).expect(rt, "memory");
+    stops_on(rt, alloc, table, &rings, plane)
 }
 
 // on the circle of the plane across x, of a box with a lid: opposite vertices have opposite arcs
@@ -130,13 +146,17 @@ const ON_A_CUBE: [Stop; 8] = [
     (V3 { x: 1, y: 0, z: -1 }, [0b10, 0, 0], false, false),
 ];
 
-fn stops(rt: &impl Abort, alloc: Global, shapes: &[Shape], plane: u32, wanted: &[Stop]) {
-    let found = stops_on(rt, alloc, shapes, plane);
-    assert_eq!(rt; found.as_slice(), wanted);
+fn stops(rt: &impl Abort, alloc: Global, table: &PlaneTable, plane: u32, wanted: &[Stop]) {
+    let found = stops_of(rt, alloc, table, plane);
+    same(rt, &found.as_slice(), &wanted);
+}
+
+fn stops_about(rt: &impl Abort, alloc: Global, shapes: &[Shape], plane: u32, wanted: &[Stop]) {
+    stops(rt, alloc, &table(rt, alloc, shapes), plane, wanted);
 }
 
 #[test]
 fn around_two_circles(rt: HostRuntime) {
-    stops(&rt, rt.alloc(), &LIDDED, 0, &ON_A_BOX);
-    stops(&rt, rt.alloc(), &BETWEEN, 1, &ON_A_CUBE);
+    stops_about(&rt, rt.alloc(), &LIDDED, 0, &ON_A_BOX);
+    stops_about(&rt, rt.alloc(), &BETWEEN, 1, &ON_A_CUBE);
 }

@@ -1,5 +1,5 @@
 // Worked cores: a cube in a box, which is held as long as the box is closed.
-use crate::fixtures::{CLOSED, OPEN, Shape, table};
+use crate::fixtures::{CLOSED, OPEN, Shape, same, table};
 use staat_core::{Moving, TableCore};
 use staat_planes::PlaneTable;
 use std::alloc::Global;
@@ -13,14 +13,17 @@ fn holds_on(table: &PlaneTable, moving: Moving, plane: u32) -> bool {
 }
 
 // whether they are so on each of three planes, for sides and for single parts
-fn holds_on_three(rt: &impl Abort, alloc: Global, shapes: &[Shape], wanted: [bool; 3]) {
-    let table = table(rt, alloc, shapes);
-    assert_eq!(rt; table.len(), 3);
+fn are_held(rt: &impl Abort, table: &PlaneTable, wanted: [bool; 3]) {
+    same(rt, &table.len(), &3);
     for plane in 0..3u32 {
         let is_wanted = wanted[plane as usize];
-        assert_eq!(rt; holds_on(&table, Moving::AnySide, plane), is_wanted);
-        assert_eq!(rt; holds_on(&table, Moving::OnePart, plane), is_wanted);
+        same(rt, &holds_on(table, Moving::AnySide, plane), &is_wanted);
+        same(rt, &holds_on(table, Moving::OnePart, plane), &is_wanted);
     }
+}
+
+fn holds_on_three(rt: &impl Abort, alloc: Global, shapes: &[Shape], wanted: [bool; 3]) {
+    are_held(rt, &table(rt, alloc, shapes), wanted);
 }
 
 #[test]
@@ -30,10 +33,13 @@ fn a_box_holds_a_cube_on_all_planes_unless_it_is_open(rt: HostRuntime) {
 }
 
 // whether they are so along all directions
+fn is_held(table: &PlaneTable) -> bool {
+    let mut core = TableCore::of(table, table.set());
+    core.holds(table, table.set(), Moving::AnySide)
+}
+
 fn holds(rt: &impl Abort, alloc: Global, shapes: &[Shape], wanted: bool) {
-    let table = table(rt, alloc, shapes);
-    let mut core = TableCore::of(&table, table.set());
-    assert_eq!(rt; core.holds(&table, table.set(), Moving::AnySide), wanted);
+    same(rt, &is_held(&table(rt, alloc, shapes)), &wanted);
 }
 
 #[test]

@@ -2,7 +2,9 @@
 ghost use Rattle.staat_pairs.specs.Tables.{WasMadeFrom};
 
 use crate::conditions::is_across;
-use crate::fixtures::{BESIDE, CUBE, CUBES, Corners, Shape, sound, table, table_of};
+use crate::fixtures::{
+    BESIDE, CUBE, CUBES, Corners, Shape, same, same_vector, sound, table, table_of,
+};
 use staat_cells::{Cell, CellGraphs, all_cells, first_open};
 use staat_local::{local_graph, touch};
 use staat_model::{Arc, Kind, Sound};
@@ -15,12 +17,22 @@ use std::process::Abort;
 // the cells of two cubes, whose last is open
 fn are_cells(rt: &impl Abort, cells: &[Cell]) {
     assert!(rt; cells.len() == 26);
-    assert_eq!(rt;
-        [cells[0].kind, cells[6].kind, cells[18].kind],
-        [Kind::Point, Kind::Edge, Kind::Open]
-    );
-    assert!(rt; cells[25].signs.as_slice() == [Sign::Pos; 3].as_slice());
-    assert_eq!(rt; cells[25].d, at(1, 1, 2));
+    let kinds = [cells[0].kind, cells[6].kind, cells[18].kind];
+    same(rt, &kinds, &[Kind::Point, Kind::Edge, Kind::Open]);
+    is_last(rt, &cells[25]);
+}
+
+fn is_last(rt: &impl Abort, cell: &Cell) {
+    same(rt, &cell.signs.as_slice(), &[Sign::Pos; 3].as_slice());
+    same_vector(rt, cell.d, at(1, 1, 2));
+}
+
+// the cells of a table, and one direction that is on none of its planes
+fn has_cells(rt: &impl Abort, alloc: Global, table: &PlaneTable) {
+    assert!(rt; table.len() == 3);
+    let cells = all_cells(alloc, table).expect(rt, "memory");
+    are_cells(rt, cells.as_slice());
+    same_vector(rt, first_open(table.planes()), at(-2, -1, -1));
 }
 
 // the first two words of the graph of an open cell of the planes of a table
@@ -35,12 +47,9 @@ fn rows_on(rt: &impl Abort, alloc: Global, table: &PlaneTable, signs: &[Sign]) -
 fn each_cell_has_the_graph_of_its_directions(rt: HostRuntime) {
     let alloc = rt.alloc();
     let table = table(&rt, alloc, &CUBES);
-    assert!(rt; table.len() == 3);
-    let cells = all_cells(alloc, &table).expect(&rt, "memory");
-    are_cells(&rt, cells.as_slice());
-    assert_eq!(rt; first_open(table.planes()), at(-2, -1, -1));
+    has_cells(&rt, alloc, &table);
     let rows = rows_on(&rt, alloc, &table, [Sign::Pos; 3].as_slice());
-    assert_eq!(rt; rows, [0b10, 0]);
+    same(&rt, &rows, &[0b10, 0]);
 }
 
 const FIRST: Arc = Arc {
@@ -63,12 +72,15 @@ fn backing(rt: &impl Abort, planes: &PlaneTable, sound: &Sound) -> (bool, u32, u
     )
 }
 
+fn backing_of(rt: &impl Abort, alloc: Global, sound: &Sound) -> (bool, u32, u32) {
+    backing(rt, &table_of(rt, alloc, sound), sound)
+}
+
 // the same of the cube and a box
 fn holds_back(rt: &impl Abort, alloc: Global, second: Corners, wanted: (bool, u32, u32)) {
     let shapes = [Shape::Boxes(&[CUBE]), Shape::Boxes(&[second])];
     let sound = sound(rt, alloc, &shapes);
-    let planes = table_of(rt, alloc, &sound);
-    assert_eq!(rt; backing(rt, &planes, &sound), wanted);
+    same(rt, &backing_of(rt, alloc, &sound), &wanted);
 }
 
 // Boxes at a corner of the cube, at a face and apart.

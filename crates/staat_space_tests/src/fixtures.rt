@@ -7,8 +7,9 @@ use staat_limits::MOST_PLANES;
 use staat_model::{Assembly, Part, PartSet, Piece, Sound};
 use staat_planes::{PlaneTable, tabulate};
 use staat_samples::{assembly_of, at, boxed, part_of, prism};
+use staat_vec::V3;
 use std::alloc::Global;
-use std::fmt::Display;
+use std::fmt::{Debug, Display};
 use std::process::Abort;
 
 /// The corners of a box: x, y and z of the least one, and those of the greatest.
@@ -83,10 +84,20 @@ pub const DOVETAIL: [Shape<'static>; 2] = [
     Shape::Prisms(&[GROUND, RIGHT_CHEEK, LEFT_CHEEK]),
 ];
 
+/// Two values, which are the same.
+pub fn same<T: PartialEq + Debug>(rt: &impl Abort, found: &T, wanted: &T) {
+    assert_eq!(rt; *found, *wanted);
+}
+
+/// Two vectors, which are the same.
+pub fn same_vector(rt: &impl Abort, found: V3, wanted: V3) {
+    same(rt, &found, &wanted);
+}
+
 /// A value and its text.
 pub fn shows<T: Display>(rt: &impl Abort, alloc: Global, value: &T, wanted: &str) {
     let text = format!(in alloc; "{value}").expect(rt, "memory");
-    assert_eq!(rt; text.as_str(), wanted);
+    same(rt, &text.as_str(), &wanted);
 }
 
 /// The box between these corners.

@@ -1,8 +1,8 @@
 // Worked graphs.
-use staat_graph::{Graph, is_strong, reach, sink_of, strong_parts, trees_of};
+use crate::fixtures::same;
+use staat_graph::{Graph, Groups, is_strong, reach, sink_of, strong_parts, trees_of};
 use staat_limits::MOST_PARTS;
 use staat_model::PartSet;
-use std::alloc::Global;
 use std::process::Abort;
 
 // the graph with these arcs
@@ -60,10 +60,14 @@ const ROWS: [Row; 8] = [
     (FULL, 0b111, 0, (0b111, 0b111, true, Some(2))),
 ];
 
+fn sees(rt: &impl Abort, row: &Row) {
+    same(rt, &seen(row.0, row.1, row.2), &Some(row.3));
+}
+
 #[test]
 fn walks_sinks_and_strength(rt: HostRuntime) {
     for row in &ROWS {
-        assert_eq!(rt; seen(row.0, row.1, row.2), Some(row.3));
+        sees(&rt, row);
     }
 }
 
@@ -76,30 +80,34 @@ fn arcs_of_trees(arcs: &[(u32, u32)]) -> Option<[(u32, u32); 4]> {
     trees_of(&graph(arcs), three).map(|t| [t.outs[0], t.outs[1], t.ins[0], t.ins[1]])
 }
 
-// the words of the groups of a set
-fn groups(rt: &impl Abort, alloc: Global, arcs: &[(u32, u32)], word: u32, wanted: &[u32]) {
-    let groups = strong_parts(&graph(arcs), PartSet::from_bits(word));
-    let mut words = Vec::new(alloc);
-    for k in 0..groups.count {
-        words
-            .push(groups.of[k as usize].bits())
-            .expect(rt, "memory");
+fn words_of(groups: &Groups) -> [u32; 32] {
+    let mut words = [0u32; 32];
+    for k in 0..32usize {
+        words[k] = groups.of[k].bits();
     }
-    assert_eq!(rt; words.as_slice(), wanted);
+    words
+}
+
+// the words of the groups of a set
+fn groups(rt: &impl Abort, arcs: &[(u32, u32)], word: u32, wanted: &[u32]) {
+    let groups = strong_parts(&graph(arcs), PartSet::from_bits(word));
+    let words = words_of(&groups);
+    same(rt, &&words[..groups.count as usize], &wanted);
 }
 
 #[test]
 fn groups_and_trees(rt: HostRuntime) {
-    let alloc = rt.alloc();
-    groups(
+    groups(&rt, THREE_GROUPS, 0b11111, &[0b00011, 0b00100, 0b11000]);
+    groups(&rt, THREE_GROUPS, 0, &[]);
+    groups(&rt, &[(0, 31), (31, 0)], 1 << 31 | 1, &[1 << 31 | 1]);
+    same(
         &rt,
-        alloc,
-        THREE_GROUPS,
-        0b11111,
-        &[0b00011, 0b00100, 0b11000],
+        &arcs_of_trees(RING),
+        &Some([(0, 1), (1, 2), (2, 0), (1, 2)]),
     );
-    groups(&rt, alloc, THREE_GROUPS, 0, &[]);
-    groups(&rt, alloc, &[(0, 31), (31, 0)], 1 << 31 | 1, &[1 << 31 | 1]);
-    assert_eq!(rt; arcs_of_trees(RING), Some([(0, 1), (1, 2), (2, 0), (1, 2)]));
-    assert_eq!(rt; arcs_of_trees(FULL), Some([(0, 1), (0, 2), (1, 0), (2, 0)]));
+    same(
+        &rt,
+        &arcs_of_trees(FULL),
+        &Some([(0, 1), (0, 2), (1, 0), (2, 0)]),
+    );
 }

@@ -1,20 +1,24 @@
 // Sets of parts, points that span space, and pieces, parts and assemblies of boxes and prisms.
 ghost use Rattle.std.specs.Prelude.{◌≤◌};
 
-use crate::fixtures::{CUBE, Shape, box_of, pieces_of, prism_of};
+use crate::fixtures::{CUBE, Shape, box_of, pieces_of, prism_of, same};
 use staat_drill::{nested_boxes, row_of_cubes};
 use staat_limits::MOST_PARTS;
-use staat_model::{Assembly, PartSet, is_solid};
+use staat_model::{Assembly, Part, PartSet, Piece, is_solid};
 use staat_samples::{assembly_of, at, boxed, boxes, part_of, piece_of, prisms};
 use staat_vec::{Name, OutOfMemory, V3};
 use std::alloc::Global;
 use std::process::Abort;
 
+fn odd_parts() -> PartSet {
+    PartSet::single(1)
+        .union(PartSet::single(3))
+        .union(PartSet::single(31))
+}
+
 #[test]
 fn sets(rt: HostRuntime) {
-    let odd = PartSet::single(1)
-        .union(PartSet::single(3))
-        .union(PartSet::single(31));
+    let odd = odd_parts();
     let four = PartSet::first(4);
     let found = [
         odd.bits(),
@@ -26,10 +30,14 @@ fn sets(rt: HostRuntime) {
         odd.both(four).bits(),
     ];
     let wanted = [0x8000_000a, 3, 15, 0, u32::MAX, 0x8000_0008, 10];
-    assert_eq!(rt; found, wanted);
-    assert!(rt;
-        odd.has(31) && !odd.has(30) && odd == PartSet::from_bits(0x8000_000a) && odd != four
-    );
+    same(&rt, &found, &wanted);
+}
+
+#[test]
+fn members(rt: HostRuntime) {
+    let odd = odd_parts();
+    assert!(rt; odd.has(31) && !odd.has(30));
+    assert!(rt; odd == PartSet::from_bits(0x8000_000a) && odd != PartSet::first(4));
     assert!(rt; PartSet::single(3).within(odd) && !odd.within(PartSet::first(31)));
     assert!(rt; odd.meets(PartSet::first(2)) && !odd.meets(PartSet::empty()));
 }
@@ -47,6 +55,10 @@ fn solid_points(rt: HostRuntime) {
         at(7, 7, -1),
     ];
     assert!(rt; is_solid(&late));
+}
+
+#[test]
+fn flat_points(rt: HostRuntime) {
     let flat = [at(0, 0, 1), at(1, 0, 1), at(0, 1, 1), at(5, 7, 1)];
     assert!(rt; !is_solid(&flat));
     let line = [at(1, 2, 3), at(2, 4, 6), at(3, 6, 9), at(-1, -2, -3)];
@@ -55,17 +67,29 @@ fn solid_points(rt: HostRuntime) {
     assert!(rt; !is_solid(&[]));
 }
 
-#[test]
-fn an_assembly_of_one_cube(rt: HostRuntime) {
-    let alloc = rt.alloc();
-    let name = String::from_str(alloc, "cube").expect(&rt, "memory");
-    let pieces = pieces_of(&rt, alloc, Shape::Boxes(&[CUBE]));
-    let mut part = part_of(alloc, pieces);
-    part.name = Name::from_string(name);
-    let parts = vec![in alloc; part].expect(&rt, "memory");
-    let assembly = assembly_of(parts).expect(&rt, "an assembly");
+// a part of that name, which is a cube
+fn cube_of(rt: &impl Abort, alloc: Global, name: Name) -> Part {
+    let mut part = part_of(alloc, pieces_of(rt, alloc, Shape::Boxes(&[CUBE])));
+    part.name = name;
+    part
+}
+
+// the assembly of one part
+fn assembly_of_one(rt: &impl Abort, alloc: Global, part: Part) -> Assembly {
+    let parts = vec![in alloc; part].expect(rt, "memory");
+    assembly_of(parts).expect(rt, "an assembly")
+}
+
+fn is_one_cube(rt: &impl Abort, assembly: &Assembly) {
     assert!(rt; assembly.parts() == 1 && assembly.pieces(0) == 1);
     assert!(rt; assembly.piece(0, 0).points().len() == 8 && assembly.name(0) == "cube");
+}
+
+#[test]
+fn an_assembly_of_one_cube(rt: HostRuntime) {
+    let name = Name::from_text(rt.alloc(), "cube").expect(&rt, "memory");
+    let part = cube_of(&rt, rt.alloc(), name);
+    is_one_cube(&rt, &assembly_of_one(&rt, rt.alloc(), part));
 }
 
 // a box and a prism with these corners
@@ -82,12 +106,14 @@ const BLOCK: [V3; 8] = [
 
 const SQUARE: [(i128, i128); 4] = [(0, 0), (2, 0), (2, 2), (0, 2)];
 
+fn is_block(rt: &impl Abort, body: Piece) {
+    same(rt, &body.points(), &BLOCK.as_slice());
+}
+
 #[test]
 fn a_box_and_a_prism(rt: HostRuntime) {
-    let body = box_of(&rt, rt.alloc(), [0, 0, 0, 2, 4, 2]);
-    assert_eq!(rt; body.points(), BLOCK.as_slice());
-    let body = prism_of(&rt, rt.alloc(), SQUARE);
-    assert_eq!(rt; body.points(), BLOCK.as_slice());
+    is_block(&rt, box_of(&rt, rt.alloc(), [0, 0, 0, 2, 4, 2]));
+    is_block(&rt, prism_of(&rt, rt.alloc(), SQUARE));
 }
 
 fn is_none<T: Drop>(rt: &impl Abort, made: Result<Option<T>, OutOfMemory>) -> bool {
@@ -97,11 +123,15 @@ fn is_none<T: Drop>(rt: &impl Abort, made: Result<Option<T>, OutOfMemory>) -> bo
 #[test]
 fn what_is_flat_is_no_piece(rt: HostRuntime) {
     let alloc = rt.alloc();
-    let point = Vec::from_slice(alloc, &[at(0, 0, 0)]).expect(&rt, "memory");
     assert!(rt; is_none(&rt, boxed(alloc, at(0, 0, 0), at(2, 0, 2))));
     assert!(rt; is_none(&rt, boxes(alloc, &[(at(0, 0, 0), at(0, 4, 2))])));
+}
+
+#[test]
+fn a_point_is_no_piece_and_no_parts_are_no_assembly(rt: HostRuntime) {
+    let point = Vec::from_slice(rt.alloc(), &[at(0, 0, 0)]).expect(&rt, "memory");
     assert!(rt; piece_of(point).is_none());
-    assert!(rt; assembly_of(Vec::new(alloc)).is_none());
+    assert!(rt; assembly_of(Vec::new(rt.alloc())).is_none());
 }
 
 fn parts_in(rt: &impl Abort, made: Result<Assembly, OutOfMemory>) -> u32 {
@@ -130,10 +160,18 @@ fn nested(rt: &impl Abort, alloc: Global, n: u32) -> (u32, u32)
 #[test]
 fn products_have_their_parts(rt: HostRuntime) {
     let alloc = rt.alloc();
-    assert_eq!(rt; parts_in(&rt, two_parts(&rt, alloc).ok_or(OutOfMemory)), 2);
-    assert_eq!(rt; parts_in(&rt, row_of_cubes(alloc, 1)), 1);
-    assert_eq!(rt; parts_in(&rt, row_of_cubes(alloc, 2)), 2);
-    assert_eq!(rt; parts_in(&rt, row_of_cubes(alloc, 32)), 32);
-    assert_eq!(rt; nested(&rt, alloc, 1), (2, 6));
-    assert_eq!(rt; nested(&rt, alloc, 6), (7, 6));
+    same(
+        &rt,
+        &parts_in(&rt, two_parts(&rt, alloc).ok_or(OutOfMemory)),
+        &2,
+    );
+    same(&rt, &parts_in(&rt, row_of_cubes(alloc, 1)), &1);
+    same(&rt, &parts_in(&rt, row_of_cubes(alloc, 2)), &2);
+    same(&rt, &parts_in(&rt, row_of_cubes(alloc, 32)), &32);
+}
+
+#[test]
+fn nested_boxes_have_their_parts(rt: HostRuntime) {
+    same(&rt, &nested(&rt, rt.alloc(), 1), &(2, 6));
+    same(&rt, &nested(&rt, rt.alloc(), 6), &(7, 6));
 }

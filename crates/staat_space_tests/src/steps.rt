@@ -1,13 +1,20 @@
 // The step of two cubes, and how often a plan asks for the facets of two pieces.
+ghost use Rattle.std.specs.Prelude.{◌≡◌, ◌≤◌, true};
+ghost use Rattle.staat_limits.specs.declared.limits.TheConstants.{LEAST_PLANES, MOST_CELL_PLANES, MOST_PLANES};
+ghost use Rattle.staat_pairs.specs.Tables.{WasMadeFrom};
+ghost use Rattle.staat_model.specs.Outcomes.{finding_of};
+ghost use Rattle.staat_certify.specs.Certifying.{CanBeCertified};
+
 use crate::fixtures::{
-    ABOVE, BEFORE, BEHIND, BELOW, CUBE, CUBES, Corners, LEFT as WALL, LIDDED, RIGHT, Shape, sound,
-    table,
+    ABOVE, BEFORE, BEHIND, BELOW, CUBE, CUBES, Corners, LEFT as WALL, LIDDED, RIGHT, Shape, same,
+    sound, table,
 };
 use staat_certify::certify;
 use staat_cone::{FacetSource, Plain};
 use staat_limits::{LEAST_PLANES, MOST_CELL_PLANES, MOST_PLANES};
 use staat_model::{Assembly, Kind, Outcome, Piece, Sound};
 use staat_plan::{Options, Tabulated, part_step, plan, plan_with_table};
+use staat_planes::PlaneTable;
 use staat_samples::at;
 use staat_vec::{OutOfMemory, V3};
 use std::alloc::Global;
@@ -26,14 +33,16 @@ const ROBUST: Options = Options {
     robust: true,
 };
 
-#[test]
-fn the_step_of_two_cubes(rt: HostRuntime) {
-    let alloc = rt.alloc();
-    let table = table(&rt, alloc, &CUBES);
+fn has_step(rt: &impl Abort, table: &PlaneTable) {
     let all = table.set();
     assert!(rt; all.count() >= 2);
-    let step = part_step(&table, all).map(|step| (step.moved.bits(), step.d));
-    assert_eq!(rt; step, Some((1, at(0, 0, 1))));
+    let step = part_step(table, all).expect(rt, "a step");
+    same(rt, &(step.moved.bits(), step.d), &(1, at(0, 0, 1)));
+}
+
+#[test]
+fn the_step_of_two_cubes(rt: HostRuntime) {
+    has_step(&rt, &table(&rt, rt.alloc(), &CUBES));
 }
 
 // answers as `Plain`, and counts how often it is asked
@@ -69,6 +78,24 @@ fn has_marks(outcome: &Outcome, wanted: Option<&[Kind]>) -> bool {
     }
 }
 
+// Certifies what comes of a plan: no facets are asked for.
+fn certifies(
+    rt: &impl Abort,
+    alloc: Global,
+    source: &Counting,
+    parts: &Sound,
+    outcome: &Outcome,
+    table: &PlaneTable,
+)
+    requires outcome { CanBeCertified parts.now (finding_of outcome.now) }
+    requires table { WasMadeFrom parts.now table.now }
+{
+    let planned = source.asked.get();
+    let kept = Tabulated::of(source, parts, table);
+    let _certificate = certify(alloc, &kept, parts, outcome, 2).expect(rt, "memory");
+    same(rt, &source.asked.get(), &planned);
+}
+
 // Plans the parts and certifies what comes: each two pieces are asked for once, and none for the certificate.
 fn asks_once_for_both(
     rt: &impl Abort,
@@ -77,15 +104,15 @@ fn asks_once_for_both(
     parts: &Sound,
     options: Options,
     wanted: Option<&[Kind]>,
-) {
-    assert!(rt; options.planes >= LEAST_PLANES && options.planes <= MOST_PLANES);
-    assert!(rt; !options.robust || options.planes <= MOST_CELL_PLANES);
+)
+    requires least { LEAST_PLANES ≤ options.planes }
+    requires most { options.planes ≤ MOST_PLANES }
+    requires cells { options.robust ≡ true → options.planes ≤ MOST_CELL_PLANES }
+{
     let found = plan_with_table(alloc, source, parts, options);
     let (outcome, table) = found.expect(rt, "an outcome");
-    let planned = source.asked.get();
-    let kept = Tabulated::of(source, parts, &table);
-    let _certificate = certify(alloc, &kept, parts, &outcome, 2).expect(rt, "memory");
-    assert!(rt; source.asked.get() == planned && has_marks(&outcome, wanted));
+    certifies(rt, alloc, source, parts, &outcome, &table);
+    assert!(rt; has_marks(&outcome, wanted));
 }
 
 // how often a plan alone asks
@@ -95,15 +122,39 @@ fn asked_by_a_plan(
     source: &Counting,
     parts: &Sound,
     options: Options,
-) -> u32 {
-    assert!(rt; options.planes >= LEAST_PLANES && options.planes <= MOST_PLANES);
-    assert!(rt; !options.robust || options.planes <= MOST_CELL_PLANES);
+) -> u32
+    requires least { LEAST_PLANES ≤ options.planes }
+    requires most { options.planes ≤ MOST_PLANES }
+    requires cells { options.robust ≡ true → options.planes ≤ MOST_CELL_PLANES }
+{
     let before = source.asked.get();
     let _same = plan(alloc, source, parts, options).expect(rt, "an outcome");
     source.asked.get().saturating_sub(before)
 }
 
 // A plan with its certificate asks once for each two pieces, and so does a plan alone.
+fn asks_once_for(
+    rt: &impl Abort,
+    alloc: Global,
+    parts: &Sound,
+    options: Options,
+    wanted: Option<&[Kind]>,
+) {
+    assert!(rt; options.planes >= LEAST_PLANES && options.planes <= MOST_PLANES);
+    assert!(rt; !options.robust || options.planes <= MOST_CELL_PLANES);
+    let source = Counting {
+        asked: Cell::new(0),
+    };
+    let pairs = pairs_of(parts.assembly());
+    asks_once_for_both(rt, alloc, &source, parts, options, wanted);
+    same(rt, &source.asked.get(), &pairs);
+    same(
+        rt,
+        &asked_by_a_plan(rt, alloc, &source, parts, options),
+        &pairs,
+    );
+}
+
 fn asks_once(
     rt: &impl Abort,
     alloc: Global,
@@ -111,14 +162,7 @@ fn asks_once(
     options: Options,
     wanted: Option<&[Kind]>,
 ) {
-    let parts = sound(rt, alloc, shapes);
-    let source = Counting {
-        asked: Cell::new(0),
-    };
-    let pairs = pairs_of(parts.assembly());
-    asks_once_for_both(rt, alloc, &source, &parts, options, wanted);
-    assert_eq!(rt; source.asked.get(), pairs);
-    assert_eq!(rt; asked_by_a_plan(rt, alloc, &source, &parts, options), pairs);
+    asks_once_for(rt, alloc, &sound(rt, alloc, shapes), options, wanted);
 }
 
 // the cube, the right wall, and a cube on the left

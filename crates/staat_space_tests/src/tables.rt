@@ -3,10 +3,10 @@ ghost use Rattle.std.specs.Prelude.{◌≡◌, ◌<◌};
 ghost use Rattle.staat_vec.specs.Vectors.{IsWithin};
 
 use crate::conditions::is_across;
-use crate::fixtures::{CLOSED, DOVETAIL, LIDDED, shows, sound, table};
+use crate::fixtures::{CLOSED, DOVETAIL, LIDDED, same, shows, sound, table};
 use staat_cone::Plain;
 use staat_graph::{strong_parts, trees_of};
-use staat_model::{Arc, PartSet};
+use staat_model::{Arc, PartSet, Sound};
 use staat_planes::{PlaneTable, PlanesRefusal, Steps, tabulate};
 use staat_samples::at;
 use staat_vec::{DIRECTION, Sign, V3};
@@ -14,10 +14,6 @@ use std::alloc::Global;
 use std::marker::Brand;
 use std::process::Abort;
 use std::sync::ledger::{Blank, Ledger};
-
-fn are_same(rt: &impl Abort, found: &[V3], wanted: &[V3]) {
-    assert_eq!(rt; found, wanted);
-}
 
 // the facets of piece i of part a and piece j of part b
 fn facets(rt: &impl Abort, alloc: Global, table: &PlaneTable, [a, i, b, j]: [u32; 4]) -> Vec<V3> {
@@ -32,15 +28,15 @@ fn facets(rt: &impl Abort, alloc: Global, table: &PlaneTable, [a, i, b, j]: [u32
 
 fn has_facets(rt: &impl Abort, alloc: Global, table: &PlaneTable, arc: [u32; 4], wanted: &[V3]) {
     let found = facets(rt, alloc, table, arc);
-    are_same(rt, found.as_slice(), wanted);
+    same(rt, &found.as_slice(), &wanted);
 }
 
 // the first three words of the graph at a direction
-fn rows_at(table: &PlaneTable, d: V3) -> [u32; 3]
+fn has_rows(rt: &impl Abort, table: &PlaneTable, d: V3, wanted: [u32; 3])
     requires { IsWithin DIRECTION d }
 {
     let rows = table.graph_at(d).rows;
-    [rows[0], rows[1], rows[2]]
+    same(rt, &[rows[0], rows[1], rows[2]], &wanted);
 }
 
 // the signs of the planes at a direction, counted
@@ -73,38 +69,58 @@ const DOVETAIL_PLANES: [V3; 5] = [
     V3 { x: 2, y: 0, z: 1 },
 ];
 
+// five planes of the parts are more than four
+fn are_too_many(rt: &impl Abort, alloc: Global, parts: &Sound) {
+    let all = PartSet::first(parts.assembly().parts());
+    let refused = tabulate(alloc, &Plain, parts, all, 4).err();
+    same(rt, &refused, &Some(PlanesRefusal::TooManyPlanes(5)));
+}
+
+fn are_five(rt: &impl Abort, alloc: Global, parts: &Sound) {
+    let all = PartSet::first(parts.assembly().parts());
+    let table = tabulate(alloc, &Plain, parts, all, 5).expect(rt, "five planes");
+    same(rt, &table.planes(), &DOVETAIL_PLANES.as_slice());
+}
+
 #[test]
 fn the_planes_of_a_dovetail_are_limited(rt: HostRuntime) {
-    let alloc = rt.alloc();
-    let parts = sound(&rt, alloc, &DOVETAIL);
-    let all = PartSet::first(parts.assembly().parts());
-    let refused = tabulate(alloc, &Plain, &parts, all, 4).err();
-    assert_eq!(rt; refused, Some(PlanesRefusal::TooManyPlanes(5)));
-    let table = tabulate(alloc, &Plain, &parts, all, 5).expect(&rt, "five planes");
-    are_same(&rt, table.planes(), DOVETAIL_PLANES.as_slice());
+    let parts = sound(&rt, rt.alloc(), &DOVETAIL);
+    are_too_many(&rt, rt.alloc(), &parts);
+    are_five(&rt, rt.alloc(), &parts);
 }
 
 const SIGNS: [Sign; 5] = [Sign::Pos, Sign::Zero, Sign::Pos, Sign::Zero, Sign::Pos];
 
+fn has_signs(rt: &impl Abort, alloc: Global, dovetail: &PlaneTable) {
+    let signs = signs::<Brand>(rt, alloc, dovetail, at(1, 0, 2), Blank::new(1));
+    assert!(rt; signs.as_slice() == SIGNS.as_slice());
+}
+
+fn is_dovetail(rt: &impl Abort, alloc: Global, dovetail: &PlaneTable) {
+    has_facets(rt, alloc, dovetail, [1, 1, 0, 0], &[at(-2, 0, -1)]);
+    has_signs(rt, alloc, dovetail);
+    has_rows(rt, dovetail, at(0, -1, 0), [0, 0, 0]);
+    has_rows(rt, dovetail, at(0, 0, 1), [0b10, 0b01, 0]);
+}
+
 #[test]
 fn a_dovetail(rt: HostRuntime) {
-    let alloc = rt.alloc();
-    let table = table(&rt, alloc, &DOVETAIL);
-    has_facets(&rt, alloc, &table, [1, 1, 0, 0], &[at(-2, 0, -1)]);
-    let signs = signs::<Brand>(&rt, alloc, &table, at(1, 0, 2), Blank::new(1));
-    assert!(rt; signs.as_slice() == SIGNS.as_slice());
-    assert_eq!(rt; rows_at(&table, at(0, -1, 0)), [0, 0, 0]);
-    assert_eq!(rt; rows_at(&table, at(0, 0, 1)), [0b10, 0b01, 0]);
+    is_dovetail(&rt, rt.alloc(), &table(&rt, rt.alloc(), &DOVETAIL));
+}
+
+// the trees along x, by their arcs
+fn has_trees(rt: &impl Abort, closed: &PlaneTable) {
+    let set = closed.set();
+    assert!(rt; set.has(0));
+    let trees = trees_of(&closed.graph_at(at(1, 0, 0)), set).expect(rt, "trees");
+    let arcs = (trees.count, trees.outs[0], trees.ins[0]);
+    same(rt, &arcs, &(1, (0, 1), (1, 0)));
 }
 
 fn is_closed(rt: &impl Abort, closed: &PlaneTable) {
-    let set = closed.set();
-    assert_eq!(rt; [closed.len(), set.count()], [3, 2]);
-    assert_eq!(rt; rows_at(closed, at(1, 0, 0)), [0b10, 0b01, 0]);
-    assert!(rt; set.has(0));
-    let trees = trees_of(&closed.graph_at(at(1, 0, 0)), set);
-    let arcs = trees.map(|t| (t.count, t.outs[0], t.ins[0]));
-    assert_eq!(rt; arcs, Some((1, (0, 1), (1, 0))));
+    same(rt, &[closed.len(), closed.set().count()], &[3, 2]);
+    has_rows(rt, closed, at(1, 0, 0), [0b10, 0b01, 0]);
+    has_trees(rt, closed);
 }
 
 #[test]
@@ -127,9 +143,9 @@ const UP: [V3; 4] = [
 ];
 
 fn is_lidded(rt: &impl Abort, alloc: Global, lidded: &PlaneTable) {
-    assert_eq!(rt; rows_at(lidded, at(0, 0, 1)), [0b100, 0b101, 0]);
+    has_rows(rt, lidded, at(0, 0, 1), [0b100, 0b101, 0]);
     let groups = strong_parts(&lidded.graph_at(at(0, 0, 1)), lidded.set());
-    assert_eq!(rt; groups.count, 3);
+    same(rt, &groups.count, &3);
     has_facets(rt, alloc, lidded, [2, 0, 1, 4], &DOWN);
     has_facets(rt, alloc, lidded, [1, 4, 2, 0], &UP);
 }
@@ -176,19 +192,21 @@ fn has_planes(rt: &impl Abort, alloc: Global, table: &PlaneTable, word: u32, are
     assert!(rt; found.as_slice() == are_used.as_slice(), "{word}");
     let count = if are_used[3] { 7 } else { 3 };
     let planes = planes_of(rt, alloc, table, parts);
-    are_same(rt, planes.as_slice(), &LIDDED_PLANES[..count]);
+    same(rt, &planes.as_slice(), &&LIDDED_PLANES[..count]);
+}
+
+fn has_planes_of_fewer(rt: &impl Abort, alloc: Global, lidded: &PlaneTable) {
+    same(rt, &lidded.planes(), &LIDDED_PLANES.as_slice());
+    has_planes(rt, alloc, lidded, 0b001, &AXES);
+    has_planes(rt, alloc, lidded, 0b011, &AXES);
+    has_planes(rt, alloc, lidded, 0b101, &AXES);
+    has_planes(rt, alloc, lidded, 0b110, &ALL);
+    has_planes(rt, alloc, lidded, 0b111, &ALL);
 }
 
 #[test]
 fn planes_of_fewer_parts(rt: HostRuntime) {
-    let alloc = rt.alloc();
-    let table = table(&rt, alloc, &LIDDED);
-    are_same(&rt, table.planes(), LIDDED_PLANES.as_slice());
-    has_planes(&rt, alloc, &table, 0b001, &AXES);
-    has_planes(&rt, alloc, &table, 0b011, &AXES);
-    has_planes(&rt, alloc, &table, 0b101, &AXES);
-    has_planes(&rt, alloc, &table, 0b110, &ALL);
-    has_planes(&rt, alloc, &table, 0b111, &ALL);
+    has_planes_of_fewer(&rt, rt.alloc(), &table(&rt, rt.alloc(), &LIDDED));
 }
 
 #[test]

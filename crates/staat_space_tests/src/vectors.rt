@@ -1,50 +1,55 @@
 // Worked vectors, computed by hand or by another program.
+use crate::fixtures::{same, same_vector};
 use staat_samples::at;
 use staat_vec::{
     DIFF, DIRECTION, EDGE, NORMAL, Name, Names, ORIGIN, OutOfMemory, POINT, Sign, VERTEX, add,
     canon, cross_diff, cross_normal, det, dot, first_nonzero, is_same, neg, order_on, primitive,
     sign_dot, sub,
 };
+use std::alloc::Global;
+use std::process::Abort;
+
+#[test]
+fn sums(rt: HostRuntime) {
+    let edge = at(1 << 80, -(1 << 80), 5);
+    same_vector(&rt, add(edge, edge), at(1 << 81, -(1 << 81), 10));
+    let low = at(-262144, 262144, 0);
+    same_vector(
+        &rt,
+        sub(at(262144, -262144, 1), low),
+        at(524288, -524288, 1),
+    );
+    same_vector(
+        &rt,
+        neg(at(1 << 81, -(1 << 81), 0)),
+        at(-(1 << 81), 1 << 81, 0),
+    );
+}
+
+#[test]
+fn cross_products(rt: HostRuntime) {
+    let a = at(1 << 19, 1 << 19, -(1 << 19));
+    let b = at(-(1 << 19), 1 << 19, 1 << 19);
+    same_vector(&rt, cross_diff(a, b), at(1 << 39, 0, 1 << 39));
+    let n = at(1 << 39, 1 << 39, -(1 << 39));
+    let m = at(-(1 << 39), 1 << 39, 1 << 39);
+    same_vector(&rt, cross_normal(n, m), at(1 << 79, 0, 1 << 79));
+}
 
 #[test]
 fn products(rt: HostRuntime) {
-    let edge = at(1 << 80, -(1 << 80), 5);
-    let low = at(-262144, 262144, 0);
-    let a = at(1 << 19, 1 << 19, -(1 << 19));
-    let b = at(-(1 << 19), 1 << 19, 1 << 19);
     let n = at(1 << 39, 1 << 39, -(1 << 39));
-    let m = at(-(1 << 39), 1 << 39, 1 << 39);
-    let found = [
-        sub(at(262144, -262144, 1), low),
-        add(edge, edge),
-        neg(at(1 << 81, -(1 << 81), 0)),
-        cross_diff(a, b),
-        cross_normal(n, m),
-    ];
-    let wanted = [
-        at(524288, -524288, 1),
-        at(1 << 81, -(1 << 81), 10),
-        at(-(1 << 81), 1 << 81, 0),
-        at(1 << 39, 0, 1 << 39),
-        at(1 << 79, 0, 1 << 79),
-    ];
-    assert_eq!(rt; found, wanted);
     let d = at(-(1 << 81), -(1 << 81), 1 << 81);
+    same(&rt, &dot(n, d), &-3987683987354747618711421180841033728);
+    let m = at(-(1 << 39), 1 << 39, 1 << 39);
     let w = at(1 << 39, -(1 << 39), 1 << 39);
-    assert_eq!(rt;
-        [
-            dot(n, d),
-            det(n, m, w),
-            first_nonzero(at(0, -2, 3)),
-            first_nonzero(ORIGIN)
-        ],
-        [
-            -3987683987354747618711421180841033728,
-            664613997892457936451903530140172288,
-            -2,
-            0
-        ]
-    );
+    same(&rt, &det(n, m, w), &664613997892457936451903530140172288);
+}
+
+#[test]
+fn first_components(rt: HostRuntime) {
+    same(&rt, &first_nonzero(at(0, -2, 3)), &-2);
+    same(&rt, &first_nonzero(ORIGIN), &0);
 }
 
 #[test]
@@ -71,52 +76,60 @@ fn primitive_and_canonical(rt: HostRuntime) {
 }
 
 #[test]
-fn signs_and_orders(rt: HostRuntime) {
+fn signs(rt: HostRuntime) {
     let n = at(2, -3, 1);
+    same(&rt, &sign_dot(n, at(1, 1, 2)), &Sign::Pos);
+    same(&rt, &sign_dot(n, at(1, 1, 1)), &Sign::Zero);
+    same(&rt, &sign_dot(n, at(1, 1, 0)), &Sign::Neg);
+}
+
+#[test]
+fn orders_along_a_vector(rt: HostRuntime) {
     let up = at(0, 0, 1);
-    let found = [
-        sign_dot(n, at(1, 1, 2)),
-        sign_dot(n, at(1, 1, 1)),
-        sign_dot(n, at(1, 1, 0)),
-        order_on(up, at(1, 0, 0), at(1, 1, 7)),
-        order_on(up, at(1, 1, 7), at(1, 0, 0)),
-        order_on(up, at(1, 1, 7), at(-2, -2, 0)),
-    ];
-    let wanted = [
-        Sign::Pos,
-        Sign::Zero,
-        Sign::Neg,
-        Sign::Pos,
-        Sign::Neg,
-        Sign::Zero,
-    ];
-    assert_eq!(rt; found, wanted);
+    same(&rt, &order_on(up, at(1, 0, 0), at(1, 1, 7)), &Sign::Pos);
+    same(&rt, &order_on(up, at(1, 1, 7), at(1, 0, 0)), &Sign::Neg);
+    same(&rt, &order_on(up, at(1, 1, 7), at(-2, -2, 0)), &Sign::Zero);
+}
+
+#[test]
+fn orders(rt: HostRuntime) {
     assert!(rt; Sign::Neg < Sign::Zero && Sign::Zero < Sign::Pos);
     assert!(rt; at(0, 9, 9) < at(1, -9, -9) && at(1, -9, 9) < at(1, 0, -9));
     assert!(rt; is_same(ORIGIN, at(0, 0, 0)) && !is_same(ORIGIN, at(0, 0, 1)));
 }
 
 #[test]
-fn bounds_and_lists(rt: HostRuntime) {
-    let alloc = rt.alloc();
-    assert_eq!(rt;
-        [POINT, DIFF, NORMAL, VERTEX, EDGE, DIRECTION],
-        [
-            262144,
-            524288,
-            549755813888,
-            604462909807314587353088,
-            1208925819614629174706176,
-            2417851639229258349412352,
-        ]
-    );
-    let text = "a.off".to_string(alloc).expect(&rt, "memory");
-    let name = Name::from_string(text);
-    let copy = name.copied(alloc).expect(&rt, "memory");
-    assert_eq!(rt; [name.as_str(), copy.as_str()], ["a.off"; 2]);
-    let names = Names::from_vec(vec![in alloc; name].expect(&rt, "memory"));
-    let refused: Result<Vec<u8>, OutOfMemory> = Vec::with_capacity(alloc, usize::MAX).map_err(
+fn bounds(rt: HostRuntime) {
+    let bounds = [POINT, DIFF, NORMAL, VERTEX, EDGE, DIRECTION];
+    let wanted = [
+        262144,
+        524288,
+        549755813888,
+        604462909807314587353088,
+        1208925819614629174706176,
+        2417851639229258349412352,
+    ];
+    same(&rt, &bounds, &wanted);
+}
+
+// a name, which is listed and copied
+fn names(rt: &impl Abort, alloc: Global, name: Name) {
+    let copy = name.copied(alloc).expect(rt, "memory");
+    same(rt, &[name.as_str(), copy.as_str()], &["a.off"; 2]);
+    let names = Names::from_vec(vec![in alloc; name].expect(rt, "memory"));
+    same(rt, &names.as_slice().len(), &1);
+}
+
+#[test]
+fn names_are_copied(rt: HostRuntime) {
+    let text = "a.off".to_string(rt.alloc()).expect(&rt, "memory");
+    names(&rt, rt.alloc(), Name::from_string(text));
+}
+
+#[test]
+fn no_memory_is_out_of_memory(rt: HostRuntime) {
+    let refused: Result<Vec<u8>, OutOfMemory> = Vec::with_capacity(rt.alloc(), usize::MAX).map_err(
         OutOfMemory::from,
     );
-    assert!(rt; names.as_slice().len() == 1 && refused.is_err());
+    assert!(rt; refused.is_err());
 }
