@@ -1,7 +1,7 @@
 // Certificates that are read and written again, and a reader that was fed too much. Which texts are refused, and with
 // what line, stands in tests/texts-of-certificates.txt.
 
-use crate::comparing::{same_bytes, shows};
+use crate::comparing::{same_answer, same_bytes, shows};
 use staat_cert::{CertReader, CertRefusal, cert_text, read_cert};
 use std::alloc::Global;
 use std::process::Abort;
@@ -22,13 +22,9 @@ const TEXTS: [&str; 6] = [
 ];
 
 fn comes_back(rt: &impl Abort, alloc: Global, text: &str) {
-    match read_cert(alloc, text.as_bytes()) {
-        Ok(certificate) => {
-            let written = cert_text(alloc, &certificate).expect(rt, "a text");
-            same_bytes(rt, written.as_slice(), text.as_bytes(), text);
-        }
-        Err(refusal) => shows(rt, alloc, &refusal, text),
-    }
+    let certificate = read_cert(alloc, text.as_bytes()).expect(rt, text);
+    let written = cert_text(alloc, &certificate).expect(rt, text);
+    same_bytes(rt, written.as_slice(), text.as_bytes(), text);
 }
 
 #[test]
@@ -40,8 +36,8 @@ fn texts_come_back(rt: HostRuntime) {
 
 // Feeds a piece, and behind it one without bytes, which is answered in the same way.
 fn feed(rt: &impl Abort, reader: &mut CertReader, piece: &[u8], want: Result<(), CertRefusal>) {
-    assert_eq!(rt; reader.feed(piece), want);
-    assert_eq!(rt; reader.feed(b""), want);
+    same_answer(rt, reader.feed(piece), want);
+    same_answer(rt, reader.feed(b""), want);
 }
 
 #[test]

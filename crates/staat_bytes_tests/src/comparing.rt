@@ -1,13 +1,21 @@
 // The comparisons of all tests. Each ends the test where two values differ, and says at what.
 
 use crate::sameness::{are_same_bytes, are_same_counts, are_same_texts};
+use staat_cert::CertRefusal;
 use std::alloc::Global;
 use std::fmt::Display;
 use std::process::Abort;
 
 /// Two truths.
 pub fn same_truth(rt: &impl Abort, got: bool, want: bool, at: &str) {
-    assert_eq!(rt; got, want, "at {at}");
+    if got != want {
+        rt.panic(at);
+    }
+}
+
+/// What a reader of certificates answers to a piece, and what it is to answer.
+pub fn same_answer(rt: &impl Abort, got: Result<(), CertRefusal>, want: Result<(), CertRefusal>) {
+    same_truth(rt, got == want, true, "an answer to a piece");
 }
 
 /// Two counts.

@@ -1,6 +1,6 @@
 // The texts of short certificates: those that are read and written again, and those that are refused.
 
-use crate::comparing::{same_count, same_text, text_of};
+use crate::comparing::{same_answer, same_count, same_text, shows, text_of};
 use staat_cert::CertRefusal;
 use staat_short::{ShortAnswer, ShortCertificate, ShortReader, read_short, short_text};
 use std::alloc::Global;
@@ -104,7 +104,7 @@ fn short_texts_come_back_or_are_refused(rt: HostRuntime) {
 }
 
 fn feed(rt: &impl Abort, reader: &mut ShortReader, piece: &[u8], want: Result<(), CertRefusal>) {
-    assert_eq!(rt; reader.feed(piece), want);
+    same_answer(rt, reader.feed(piece), want);
 }
 
 fn count_of_nodes(certificate: &ShortCertificate) -> usize {
@@ -130,7 +130,13 @@ fn a_short_text_is_fed_in_pieces(rt: HostRuntime) {
     for size in 0..GROUP.len() {
         feed_group(&rt, rt.alloc(), size);
     }
+}
+
+#[test]
+fn a_short_text_ends_at_its_end(rt: HostRuntime) {
     let mut reader = ShortReader::new(rt.alloc()).expect(&rt, "memory");
     feed(&rt, &mut reader, PLAN.as_bytes(), Ok(()));
     feed(&rt, &mut reader, b"x", Err(CertRefusal::BadLine(8)));
+    let refusal = reader.finish().err().expect(&rt, "a refusal");
+    shows(&rt, rt.alloc(), &refusal, "bad line 8");
 }

@@ -1,6 +1,6 @@
 // Texts and numbers that no command reaches.
 
-use crate::comparing::{same_bytes, same_count};
+use crate::comparing::{same_bytes, same_count, same_truth};
 use crate::inputs::name;
 use staat_fault::laws::{memory_line, usage_line, write_line};
 use staat_fault::{Fault, fault_line, status_of};
@@ -121,6 +121,8 @@ const MOST: &str = "340282366920938463463374607431768211455";
 
 #[test]
 fn a_natural_number_is_at_most_the_greatest(rt: HostRuntime) {
-    assert_eq!(rt; natural_of(MOST, u128::MAX), Some(u128::MAX));
-    assert_eq!(rt; natural_of(MOST, u128::MAX - 1), None);
+    let most = natural_of(MOST, u128::MAX);
+    same_truth(&rt, most == Some(u128::MAX), true, "the limit");
+    let none = natural_of(MOST, u128::MAX - 1);
+    same_truth(&rt, none.is_none(), true, "one past the limit");
 }
