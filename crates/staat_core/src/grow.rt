@@ -58,6 +58,13 @@ struct Blocking {
     count: usize,
 }
 
+// whether both pieces of the pair are of parts of w
+fn is_among(pair: Arc, w: PartSet) -> bool
+    requires { IsSmallPair pair }
+{
+    w.has(pair.a) && w.has(pair.b)
+}
+
 impl Blocking {
     // puts one more at the end, if there is room
     fn put(&mut self, arc: u32) {
@@ -81,8 +88,8 @@ impl Blocking {
         }
     }
 
-    // those along d or its opposite
-    fn at<S: PairSource>(source: &S, d: V3) -> Blocking
+    // those of pieces of w, along d or its opposite
+    fn at<S: PairSource>(source: &S, w: PartSet, d: V3) -> Blocking
         requires { IsWithin DIRECTION d }
     {
         let mut blocking = Blocking {
@@ -91,7 +98,9 @@ impl Blocking {
         };
         let mut place: u32 = 0;
         for pair in source.pairs() {
-            blocking.put_pair(source.facets(*pair), place, d);
+            if is_among(*pair, w) {
+                blocking.put_pair(source.facets(*pair), place, d);
+            }
             place = place.saturating_add(1);
         }
         blocking
@@ -228,7 +237,7 @@ impl Core {
     {
         // the parts of the pairs are below the number of rows
         let _pairs = source.pairs();
-        let blocking = Blocking::at(source, d);
+        let blocking = Blocking::at(source, w, d);
         let mut joins = graph;
         for _k in 0..ROUNDS {
             let Some(s) = joins.shut(w, moving) else {
