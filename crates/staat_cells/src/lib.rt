@@ -16,7 +16,6 @@ mod lower_cells;
 mod open_incidences;
 mod order;
 mod part_arcs;
-mod plane_signs;
 mod points;
 mod signs;
 mod skeleton;

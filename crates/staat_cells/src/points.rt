@@ -8,16 +8,15 @@ ghost use Rattle.staat_cells.specs.Stages.{IsOwnIncidence, cell_at, opposite_ent
 
 use crate::cell::{Cell, Signs};
 use crate::incidence::{Incidence, incidence_of};
-use crate::plane_signs::{SMALL_NORMAL, are_small};
 use crate::signs::{flipped_signs, signs_where};
 use staat_model::Kind;
-use staat_vec::{NORMAL, OutOfMemory, V3, VERTEX, is_same, neg};
+use staat_vec::{NORMAL, OutOfMemory, SMALL, V3, VERTEX, are_small, is_same, neg};
 use std::alloc::Global;
 
 // the point at a vertex
 fn point_at(alloc: Global, planes: &[V3], small: bool, v: V3) -> Result<Cell, OutOfMemory>
     requires planes { All (IsWithin NORMAL) planes.now }
-    requires small { IsTrue small → All (IsWithin SMALL_NORMAL) planes.now }
+    requires small { IsTrue small → All (IsWithin SMALL) planes.now }
     requires v { IsWithin VERTEX v }
     ensures { IfOk result (λ cell. entry_of cell ≡ point_entry planes.now v) }
 {
@@ -51,7 +50,7 @@ fn point_after(
     k: usize,
 ) -> Result<Cell, OutOfMemory>
     requires planes { All (IsWithin NORMAL) planes.now }
-    requires small { IsTrue small → All (IsWithin SMALL_NORMAL) planes.now }
+    requires small { IsTrue small → All (IsWithin SMALL) planes.now }
     requires vertices { All (IsWithin VERTEX) vertices.now }
     requires place { k < length vertices.now }
     requires long { length cells.now ≡ k }

@@ -11,8 +11,7 @@ ghost use Rattle.staat_cells.specs.Packing.{packed, incidence_of};
 ghost use Rattle.staat_cells.specs.Beside.{filled};
 
 use crate::incidence::Incidence;
-use crate::plane_signs::sign_there;
-use staat_vec::{DIRECTION, NORMAL, OutOfMemory, Sign, V3};
+use staat_vec::{DIRECTION, NORMAL, OutOfMemory, Sign, V3, sign_dot};
 use std::alloc::Global;
 
 // how much a digit counts at a place of a word of so many digits
@@ -110,7 +109,7 @@ pub(crate) fn incidence_towards(
     let mut incidence = base;
     for i in 0..zeros.len() {
         let j = zeros[i];
-        incidence = changed(incidence, signs.len(), j, sign_there(planes[j], w));
+        incidence = changed(incidence, signs.len(), j, sign_dot(planes[j], w));
     }
     incidence
 }

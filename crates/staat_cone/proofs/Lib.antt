@@ -4,12 +4,9 @@ pub mod PairLemmas
 pub mod ScanLemmas
 pub mod SourceSizes
 pub mod EdgeLemmas
-pub mod NarrowLemmas
 pub mod SearchLemmas
 pub mod LawLemmas
 pub mod FewLemmas
 pub mod Sources
 pub mod AxisWallLemmas
-pub mod WordLemmas
 pub mod AheadLemmas
-pub mod LoopAnswers

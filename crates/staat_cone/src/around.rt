@@ -6,10 +6,9 @@ ghost use Rattle.staat_cone.specs.Pairs.{AddsEdges};
 ghost use Rattle.staat_cone.specs.Scans.{AreFurthest, IsApart, IsLeftmost};
 
 use crate::edges::add_edges;
-use crate::narrow::narrow_cross;
 use crate::pairs::along;
 use crate::walls::is_wall;
-use staat_vec::{DIFF, NORMAL, OutOfMemory, V3, neg};
+use staat_vec::{DIFF, NORMAL, OutOfMemory, V3, cross_diff, neg};
 
 // whether x is not parallel to v
 fn is_apart(x: V3, v: V3) -> bool
@@ -17,7 +16,7 @@ fn is_apart(x: V3, v: V3) -> bool
     requires around { IsWithin DIFF v }
     ensures { IsTrue result ↔ IsApart v x }
 {
-    is_wall(narrow_cross(x, v))
+    is_wall(cross_diff(x, v))
 }
 
 // the first of the vectors that is not parallel to v
@@ -57,11 +56,11 @@ fn leftmost(vs: &[V3], v: V3, first: V3) -> V3
     ensures furthest { IsLeftmost vs.now vs.now v first result }
 {
     let mut best = first;
-    let mut normal = narrow_cross(best, v);
+    let mut normal = cross_diff(best, v);
     for x in vs {
         if is_farther(*x, normal) {
             best = *x;
-            normal = narrow_cross(best, v);
+            normal = cross_diff(best, v);
         }
     }
     best
@@ -106,7 +105,7 @@ fn is_off(v: V3, u: V3, w: V3) -> bool
     requires third { IsWithin DIFF w }
     ensures { IsTrue result ↔ (det v u w ≢ pos 0) }
 {
-    along(v, narrow_cross(u, w)) != 0
+    along(v, cross_diff(u, w)) != 0
 }
 
 // adds the edges through v and one of the two

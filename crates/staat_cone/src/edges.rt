@@ -5,10 +5,9 @@ ghost use Rattle.staat_vec.specs.Primitives.{IsPrimitiveOf};
 ghost use Rattle.staat_model.specs.Cones.{IsAbove};
 ghost use Rattle.staat_cone.specs.Pairs.{Adds, AddsEdges, IsEdge};
 
-use crate::narrow::narrow_cross;
 use crate::pairs::is_above;
 use crate::walls::is_wall;
-use staat_vec::{DIFF, NORMAL, OutOfMemory, V3, neg, primitive};
+use staat_vec::{DIFF, NORMAL, OutOfMemory, V3, cross_diff, neg, primitive};
 
 // adds f, if it has all the vectors on its positive side
 fn add_edge(vs: &[V3], f: V3, out: &mut Vec<V3>) -> Result<(), OutOfMemory>
@@ -29,7 +28,7 @@ pub fn add_edges(vs: &[V3], g: V3, h: V3, out: &mut Vec<V3>) -> Result<(), OutOf
     requires second { IsWithin DIFF h }
     ensures { OnOk result (Adds (IsEdge vs.now g h) out.old.items out.new.items) }
 {
-    let f = narrow_cross(g, h);
+    let f = cross_diff(g, h);
     if is_wall(f) {
         add_edge(vs, f, out)?;
         add_edge(vs, neg(f), out)?;

@@ -6,9 +6,8 @@ ghost use Rattle.staat_vec.specs.Lists.{Lists};
 ghost use Rattle.staat_model.specs.Cones.{IsAbove, IsConeFacet};
 ghost use Rattle.staat_cone.specs.Pairs.{Adds, FromSome, IsThrough};
 
-use crate::narrow::{narrow_cross, narrow_dot};
 use crate::walls::is_wall;
-use staat_vec::{DIFF, NORMAL, OutOfMemory, V3, in_order, neg, primitive};
+use staat_vec::{DIFF, NORMAL, OutOfMemory, V3, cross_diff, in_order, neg, primitive, small_dot};
 use std::alloc::Global;
 
 /// How far v lies along n.
@@ -17,7 +16,7 @@ pub fn along(v: V3, n: V3) -> i64
     requires normal { IsWithin NORMAL n }
     ensures { result ≡ dot v n }
 {
-    narrow_dot(n, v)
+    small_dot(n, v)
 }
 
 /// Whether each of the vectors lies on the positive side of n, or across n.
@@ -56,7 +55,7 @@ fn add_through(vs: &[V3], g: V3, h: V3, out: &mut Vec<V3>) -> Result<(), OutOfMe
     requires second { IsWithin DIFF h }
     ensures { OnOk result (Adds (IsThrough vs.now g h) out.old.items out.new.items) }
 {
-    let f = narrow_cross(g, h);
+    let f = cross_diff(g, h);
     if is_wall(f) {
         add_above(vs, f, out)?;
         add_above(vs, neg(f), out)?;

@@ -1,11 +1,10 @@
 // The search for a wall between two pieces. It takes no memory.
-ghost use Rattle.std.specs.Prelude.{◌≤◌, ◌*◌, ◌+◌, ℕ, length, All, IsTrue, unsigned_abs};
+ghost use Rattle.std.specs.Prelude.{◌≡◌, ◌≤◌, ◌*◌, ◌+◌, ◌*ℤ◌, ℕ, length, All, IsTrue, unsigned_abs};
 ghost use Rattle.staat_vec.specs.declared.vector.V3.{V3 as Vector};
-ghost use Rattle.staat_vec.specs.Vectors.{IsWithin};
+ghost use Rattle.staat_vec.specs.Vectors.{IsWithin, vector};
 ghost use Rattle.staat_cone.specs.AxisWalls.{IsWallBetween};
 
 use crate::behind::violator;
-use crate::narrow::multiple;
 use crate::walls::{is_wall, points_of};
 use staat_limits::MOST_POINTS;
 use staat_model::Piece;
@@ -49,6 +48,28 @@ fn weighted(points: &[V3], others: &[V3]) -> V3
     ensures { IsWithin (MOST_POINTS * POINT * MOST_POINTS) result }
 {
     multiple(sum_of(points), count_of(others))
+}
+
+// the exact product of a component and a factor
+fn scaled(a: i128, factor: i128) -> i128
+    requires a { unsigned_abs a ≤ NORMAL }
+    requires factor { unsigned_abs factor ≤ DIFF }
+    ensures { result ≡ a *ℤ factor }
+{
+    a * factor
+}
+
+// a multiple of a vector, exact
+fn multiple(v: V3, factor: i128) -> V3
+    requires vector { IsWithin NORMAL v }
+    requires factor { unsigned_abs factor ≤ DIFF }
+    ensures { result ≡ vector (v.x *ℤ factor) (v.y *ℤ factor) (v.z *ℤ factor) }
+{
+    V3 {
+        x: scaled(v.x, factor),
+        y: scaled(v.y, factor),
+        z: scaled(v.z, factor),
+    }
 }
 
 // what leads from the centre of p to that of q, times the numbers of their points

@@ -9,10 +9,9 @@ ghost use Rattle.staat_cone.specs.Pairs.{Adds, FromSome};
 ghost use Rattle.staat_cone.specs.Few.{IsDifferenceStep};
 
 use crate::behind::violator;
-use crate::narrow::narrow_cross;
 use crate::walls::{is_wall, points_of};
 use staat_model::Piece;
-use staat_vec::{DIFF, NORMAL, OutOfMemory, POINT, V3, neg, sub};
+use staat_vec::{DIFF, NORMAL, OutOfMemory, POINT, V3, cross_diff, neg, sub};
 use std::alloc::Global;
 
 // adds what leads from the point a to each of the points
@@ -75,7 +74,7 @@ fn first_apart(a: V3, points: &[V3], u: V3) -> Option<V3>
 {
     for b in points {
         let v = sub(*b, a);
-        if is_wall(narrow_cross(u, v)) {
+        if is_wall(cross_diff(u, v)) {
             return Some(v);
         }
     }
@@ -118,7 +117,7 @@ fn two_steps(p: &Piece, q: &Piece) -> Option<(V3, V3)>
     let qs = points_of(q);
     let u = step(ps, ps.len() - 1, qs, 0);
     let v = step(ps, 0, qs, qs.len() - 1);
-    if is_wall(narrow_cross(u, v)) {
+    if is_wall(cross_diff(u, v)) {
         return Some((u, v));
     }
     let u = first_step(ps[0], qs)?;
@@ -133,7 +132,7 @@ pub fn three_steps(p: &Piece, q: &Piece) -> Option<(V3, V3, V3)>
     ensures spanning { IfSome result (λ s. det s.2 s.0 s.1 ≢ pos 0) }
 {
     let (u, v) = two_steps(p, q)?;
-    let n = narrow_cross(u, v);
+    let n = cross_diff(u, v);
     let w = off_plane(n, p, q)?;
     Some((u, v, w))
 }

@@ -8,10 +8,8 @@ ghost use Rattle.staat_model.specs.Meeting.{Meets};
 ghost use Rattle.staat_model.specs.Pieces.{IsPiece};
 ghost use Rattle.staat_model.specs.Walls.{IsBeyond};
 
-use crate::narrow::narrow_dot;
-use crate::shorts::{SHORT, is_short, short_dot};
 use staat_model::Piece;
-use staat_vec::{DIRECTION, NORMAL, ORIGIN, POINT, V3, dot};
+use staat_vec::{Course, DIRECTION, NORMAL, ORIGIN, POINT, V3, small_dot};
 
 /// Whether v is a wall's normal: any vector but zero.
 pub fn is_wall(v: V3) -> bool
@@ -35,7 +33,7 @@ fn place(n: V3, point: V3) -> Placed
 {
     Placed {
         point,
-        along: narrow_dot(n, point),
+        along: small_dot(n, point),
     }
 }
 
@@ -125,45 +123,19 @@ pub fn separates(n: V3, p: &Piece, q: &Piece) -> bool
     is_wall(n) && is_beyond(n, p, q)
 }
 
-// whether a short direction leads ahead of all the normals
-fn short_leads_ahead(facets: &[V3], d: V3) -> bool
-    requires normals { All (IsWithin NORMAL) facets.now }
-    requires short { IsWithin SHORT d }
-    ensures { IsTrue result ↔ All (λ n. pos 0 <ℤ dot n d) facets.now }
-{
-    for n in facets {
-        if short_dot(*n, d) <= 0 {
-            return false;
-        }
-    }
-    true
-}
-
-// whether any direction does
-fn any_leads_ahead(facets: &[V3], d: V3) -> bool
-    requires normals { All (IsWithin NORMAL) facets.now }
-    requires direction { IsWithin DIRECTION d }
-    ensures { IsTrue result ↔ All (λ n. pos 0 <ℤ dot n d) facets.now }
-{
-    for n in facets {
-        if dot(*n, d) <= 0 {
-            return false;
-        }
-    }
-    true
-}
-
-// Whether d leads ahead of all the normals. Most directions are short, and products of words take a third of the time.
+// whether d leads ahead of all the normals
 fn leads_ahead(facets: &[V3], d: V3) -> bool
     requires normals { All (IsWithin NORMAL) facets.now }
     requires direction { IsWithin DIRECTION d }
     ensures { IsTrue result ↔ All (λ n. pos 0 <ℤ dot n d) facets.now }
 {
-    if is_short(d) {
-        short_leads_ahead(facets, d)
-    } else {
-        any_leads_ahead(facets, d)
+    let course = Course::of(d);
+    for n in facets {
+        if course.dot(*n) <= 0 {
+            return false;
+        }
     }
+    true
 }
 
 /// Whether `d` leads ahead of all the facets. Of the facets of two pieces it says whether the first, moved along `d`,

@@ -214,8 +214,8 @@ impl Core {
         self.add(pair, source.facets(pair))
     }
 
-    // The core grows until nothing of w moves along d, as far as it tells; false where it cannot. The graph of its pairs
-    // along d is given.
+    // The core grows until nothing of w moves along d, as far as it tells; false where it cannot. The graph of its
+    // pairs along d is given.
     fn grow_at<S: PairSource>(
         &mut self,
         source: &S,

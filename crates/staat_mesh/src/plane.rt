@@ -6,7 +6,7 @@ ghost use Rattle.staat_mesh.specs.Planes.{IsSpanned, side_of};
 ghost use Rattle.staat_mesh.specs.Sides.{OnLine};
 
 use staat_model::{normal_off_line, other_than};
-use staat_vec::{NORMAL, POINT, Sign, V3, sign_dot, sub};
+use staat_vec::{NORMAL, POINT, Sign, V3, small_sign, sub};
 
 /// A plane, by a point on it and a normal.
 #[derive(Clone, Copy)]
@@ -39,7 +39,7 @@ impl Plane {
         requires p { IsWithin POINT p }
         ensures { IsTrue result ↔ (side_of self p ≡ side) }
     {
-        sign_dot(self.normal, sub(p, self.through)) == side
+        small_sign(self.normal, sub(p, self.through)) == side
     }
 
     /// Whether one of the points lies on that side.

@@ -1,5 +1,5 @@
 -- The set of the numbers in a list has these members.
-use Rattle.std.proofs.Common.{◌≡◌, ◌⊎◌, ◌↔◌, inl, inr, ⊎_elim, ℕ, List, [], ◌∷◌, Contains, arith, subst, sym}
+use Rattle.std.proofs.Common.{◌≡◌, ◌⊎◌, ◌↔◌, inl, inr, ⊎_elim, ℕ, List, [], ◌∷◌, Contains, subst, sym}
 use Rattle.staat_vec.proofs.Unique.{Contains-cases, Contains-nothing, Contains-front}
 use Rattle.staat_model.specs.SetLists.{set_of}
 use Rattle.staat_model.specs.Sets.{Has}

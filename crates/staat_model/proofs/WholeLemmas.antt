@@ -1,5 +1,5 @@
 -- A set of parts that is stuck stays whole on one side of each free side of a larger set.
-use Rattle.std.proofs.Common.{◌≡◌, ℕ, List, sym, subst, inl, inr}
+use Rattle.std.proofs.Common.{ℕ, List, sym, subst, inl, inr}
 use Rattle.std.specs.FinSet as set
 use Rattle.staat_vec.specs.declared.vector.V3.{V3}
 use Rattle.staat_model.specs.declared.assembly.Part.{Part}

@@ -4,7 +4,7 @@ ghost use Rattle.std.specs.Prelude.{MatchOption};
 ghost use Rattle.staat_vec.specs.Vectors.{IsWithin, cross, dot, minus, origin};
 ghost use Rattle.staat_model.specs.Pieces.{IsSolid};
 
-use staat_vec::{DIFF, NORMAL, ORIGIN, POINT, V3, cross_diff, dot, is_same, sub};
+use staat_vec::{DIFF, NORMAL, ORIGIN, POINT, V3, cross_diff, is_same, small_dot, sub};
 
 /// The first of the points that is not `a`.
 pub fn other_than(points: &[V3], a: V3) -> Option<V3>
@@ -57,7 +57,7 @@ fn is_on_plane(a: V3, n: V3, p: V3) -> bool
     requires p { IsWithin POINT p }
     ensures { IsTrue result ↔ (dot n (minus p a) ≡ pos 0) }
 {
-    dot(n, sub(p, a)) == 0
+    small_dot(n, sub(p, a)) == 0
 }
 
 // the first point off the plane through a with the normal n

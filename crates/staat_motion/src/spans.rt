@@ -3,7 +3,7 @@ ghost use Rattle.std.specs.Prelude.{◌≡◌, ◌⊎◌, ◌≤◌, ◌≤ℤ�
 ghost use Rattle.staat_vec.specs.Vectors.{IsWithin, dot};
 ghost use Rattle.staat_motion.specs.Spans.{IsJoinedSpan, IsSpan};
 
-use staat_vec::{DIRECTION, POINT, V3, dot};
+use staat_vec::{Course, DIRECTION, POINT, V3};
 
 /// The least and the greatest place of a piece's points along a normal: their products with it.
 #[derive(Clone, Copy)]
@@ -12,14 +12,13 @@ pub struct Span {
     pub high: i128,
 }
 
-// how far a point reaches along n
-fn point_span(n: V3, point: V3) -> Span
-    requires normal { IsWithin DIRECTION n }
+// how far a point reaches along a direction
+fn point_span(course: &Course, point: V3) -> Span
     requires point { IsWithin POINT point }
-    ensures low { result.low ≡ dot n point }
-    ensures high { result.high ≡ dot n point }
+    ensures low { result.low ≡ dot course.now point }
+    ensures high { result.high ≡ dot course.now point }
 {
-    let place = dot(point, n);
+    let place = course.dot(point);
     Span {
         low: place,
         high: place,
@@ -73,9 +72,10 @@ pub fn span_of(n: V3, points: &[V3]) -> Span
     requires points { All (IsWithin POINT) points.now }
     ensures { IsSpan n points.now result }
 {
-    let mut span = point_span(n, points[0]);
+    let course = Course::of(n);
+    let mut span = point_span(&course, points[0]);
     for p in points {
-        span = joined(point_span(n, *p), span);
+        span = joined(point_span(&course, *p), span);
     }
     span
 }

@@ -48,8 +48,9 @@ impl PlaneTable {
         }
     }
 
-    /// How `d` leads past the facets of two pieces of different parts of the set, that of the lesser part first: whether
-    /// ahead of all of them, and whether behind all, which is ahead of all facets of the two in the other order.
+    /// How `d` leads past the facets of two pieces of different parts of the set, that of the lesser part first:
+    /// whether ahead of all of them, and whether behind all, which is ahead of all facets of the two in the other
+    /// order.
     ///
     /// The components of `d` are at most [`DIRECTION`] in absolute value. Each facet is looked at once, and the search
     /// ends where neither is left.

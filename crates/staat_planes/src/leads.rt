@@ -2,7 +2,7 @@
 ghost use Rattle.std.specs.Prelude.{◌⊎◌, ◌↔◌, All, IsTrue, pos, ◌<ℤ◌};
 ghost use Rattle.staat_vec.specs.Vectors.{IsWithin, dot};
 
-use staat_vec::{DIRECTION, NORMAL, V3, dot};
+use staat_vec::{Course, DIRECTION, NORMAL, V3};
 
 /// How a direction leads past facets: ahead of all, behind all, or neither. Of no facets both are so.
 #[derive(Clone, Copy)]
@@ -48,14 +48,13 @@ impl Leads {
     }
 }
 
-// how d leads past one facet
-fn leads_past_one(n: V3, d: V3) -> Leads
+// how a direction leads past one facet
+fn leads_past_one(n: V3, course: &Course) -> Leads
     requires normal { IsWithin NORMAL n }
-    requires direction { IsWithin DIRECTION d }
-    ensures ahead { IsTrue result.ahead ↔ (pos 0 <ℤ dot n d) }
-    ensures behind { IsTrue result.behind ↔ (dot n d <ℤ pos 0) }
+    ensures ahead { IsTrue result.ahead ↔ (pos 0 <ℤ dot n course.now) }
+    ensures behind { IsTrue result.behind ↔ (dot n course.now <ℤ pos 0) }
 {
-    let along = dot(n, d);
+    let along = course.dot(n);
     Leads {
         ahead: along > 0,
         behind: along < 0,
@@ -73,12 +72,13 @@ pub fn leads_past(facets: &[V3], d: V3) -> Leads
     ensures ahead { IsTrue result.ahead ↔ All (λ n. pos 0 <ℤ dot n d) facets.now }
     ensures behind { IsTrue result.behind ↔ All (λ n. dot n d <ℤ pos 0) facets.now }
 {
+    let course = Course::of(d);
     let mut leads = Leads {
         ahead: true,
         behind: true,
     };
     for n in facets {
-        leads = leads.and(leads_past_one(*n, d));
+        leads = leads.and(leads_past_one(*n, &course));
         if !leads.ahead && !leads.behind {
             return leads;
         }

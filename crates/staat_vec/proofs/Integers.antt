@@ -5,8 +5,14 @@ use Rattle.std.proofs.lemmas.Int.{ints, fits_signed_from_abs, to_z-of_z}
 use Rattle.staat_vec.proofs.Ring.{at, num, ring, ◌⊖◌, ◌⊗◌}
 use Rattle.staat_vec.proofs.Order.{negative_mul, nonneg_mul, nonneg_pos}
 use Rattle.std.proofs.lemmas.List.Sums.{sum_by-cons}
-use Rattle.std.specs.Prelude.{unsigned_abs}
+use Rattle.std.specs.Prelude.{◌↔◌, IsTrue, unsigned_abs}
 use Rattle.std.specs.Int.{w64}
+use Rattle.std.specs.Int.Signed.{lt_z}
+
+-- ---- what a test tells
+
+pub is_less : (a b : ℤ) → IsTrue (lt_z a b) ↔ (a <ℤ b)
+is_less a b = (λ h. grind (arith, ints, h), λ h. grind (arith, ints, h))
 
 -- ---- 0, and what stands on either side of it
 

@@ -2,16 +2,20 @@
 #![tactic(auto)]
 
 mod ascending;
+mod course;
 pub mod laws;
 mod lists;
 mod memory;
 mod products;
 mod rays;
 mod vector;
+mod words;
 
 pub use ascending::in_order;
+pub use course::Course;
 pub use lists::{Bytes, Listed, Name, Names};
 pub use memory::OutOfMemory;
-pub use products::{add, cross_diff, cross_normal, det, dot, neg, order_on, sign_dot, sub};
+pub use products::{add, cross_normal, det, dot, neg, order_on, sign_dot, sub};
 pub use rays::{canon, first_nonzero, primitive};
 pub use vector::{DIFF, DIRECTION, EDGE, NORMAL, ORIGIN, POINT, Sign, V3, VERTEX, is_same};
+pub use words::{SMALL, are_small, cross_diff, is_within, small_dot, small_sign};

@@ -93,19 +93,6 @@ pub fn cross_normal(a: V3, b: V3) -> V3
     }
 }
 
-/// The cross product of two differences of points, exact.
-///
-/// The components of both are at most [`DIFF`] in absolute value, and those of the result at most
-/// [`NORMAL`].
-pub fn cross_diff(a: V3, b: V3) -> V3
-    requires a { IsWithin DIFF a }
-    requires b { IsWithin DIFF b }
-    ensures value { result ≡ cross a b }
-    ensures size { IsWithin NORMAL result }
-{
-    cross_normal(a, b)
-}
-
 /// The product of a normal and a direction, exact.
 ///
 /// The components of `n` are at most [`NORMAL`] in absolute value, those of `d` at most

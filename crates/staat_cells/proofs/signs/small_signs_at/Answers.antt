@@ -4,14 +4,14 @@ use Rattle.staat_cells.proofs.signs.small_signs_at.Goals as goal
 
 pub small_sign-requires : goal.small_sign-requires
 small_sign-requires c = record {
-  n = c.requires.planes c.loop-n.n-index origin c.loop-n-test.true;
-  d = c.requires.direction;
+  n = c.requires.direction;
+  d = c.requires.planes c.loop-n.n-index origin c.loop-n-test.true;
 }
 
 pub loop-n-preserved : goal.loop-n-preserved
 loop-n-preserved c =
     signs_more c.args.planes.now c.args.d c.loop-n.n-index origin c.loop-n.signs.items c.push.new.self.items
-    c.small_sign.result c.loop-n-test.true c.in_ok-push.ensures.items c.small_sign.ensures c.loop-n.invariant
+    c.small_sign.result c.loop-n-test.true c.in_ok-push.ensures.items c.small_sign.ensures.turned c.loop-n.invariant
 
 pub returns : goal.returns
 returns c =

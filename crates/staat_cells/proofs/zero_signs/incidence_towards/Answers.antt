@@ -26,8 +26,8 @@ bounds-planes-j c =
     let long = c.requires.signs in
     omega (arith, within, long)
 
-pub sign_there-requires-clause-n : goal.sign_there-requires-clause-n
-sign_there-requires-clause-n c =
+pub sign_dot-requires-clause-n : goal.sign_dot-requires-clause-n
+sign_dot-requires-clause-n c =
     let within = zero_within c.args.planes.now c.args.signs.now c.args.w c.requires.signs c.loop-i.incidence
     c.args.base.of
     c.args.zeros.now c.loop-i.i c.loop-i-test.true c.loop-i.invariant in
@@ -47,8 +47,8 @@ changed-incidence-requires-clause-zero_at c =
 pub loop-i-preserved : goal.loop-i-preserved
 loop-i-preserved c =
     zero_changed c.args.planes.now c.args.signs.now c.args.w c.requires.signs c.loop-i.incidence c.args.base.of
-    c.args.zeros.now c.loop-i.i c.loop-i-test.true c.loop-i.invariant c.changed-incidence.result c.sign_there.result
-    c.sign_there.ensures c.changed-incidence.ensures
+    c.args.zeros.now c.loop-i.i c.loop-i-test.true c.loop-i.invariant c.changed-incidence.result c.sign_dot.result
+    c.sign_dot.ensures c.changed-incidence.ensures
 
 pub returns : goal.returns
 returns c =

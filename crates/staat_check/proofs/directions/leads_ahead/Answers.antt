@@ -4,7 +4,7 @@ use Rattle.std.specs.Int.{w128}
 use Rattle.staat_vec.specs.Vectors.{origin}
 use Rattle.staat_check.specs.Conditions.{LeadsAheadOf}
 use Rattle.staat_cone.proofs.AheadLemmas.{is_ahead, not_ahead}
-use Rattle.staat_cone.proofs.LoopAnswers.{all_kept, not_all}
+use Rattle.staat_vec.proofs.LoopAnswers.{all_kept, not_all}
 use Rattle.staat_check.proofs.directions.leads_ahead.Goals as goal
 
 pub bounds-normals-k : goal.bounds-normals-k

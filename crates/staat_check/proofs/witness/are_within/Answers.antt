@@ -5,7 +5,7 @@ use Rattle.std.proofs.lemmas.Option.{slice_get-get_or}
 use Rattle.staat_model.specs.Certificates.{IsArcWithin}
 use Rattle.staat_model.specs.Lines.{IsArcInBounds}
 use Rattle.staat_vec.proofs.ListLaws.{All-at}
-use Rattle.staat_cone.proofs.LoopAnswers.{all_kept, not_all}
+use Rattle.staat_vec.proofs.LoopAnswers.{all_kept, not_all}
 use Rattle.staat_check.proofs.witness.are_within.Goals as goal
 
 pub is_arc_within-requires-clause-arc : goal.is_arc_within-requires-clause-arc

@@ -3,7 +3,7 @@ use Rattle.std.proofs.lemmas.Bool.{false≢true}
 use Rattle.std.proofs.lemmas.List.Elements.{All-more}
 use Rattle.staat_vec.specs.Vectors.{origin}
 use Rattle.staat_cone.specs.AxisWalls.{IsWallBetween}
-use Rattle.staat_cone.proofs.LoopAnswers.{none_has, one_has}
+use Rattle.staat_vec.proofs.LoopAnswers.{none_has, one_has}
 use Rattle.staat_cone.proofs.apart.is_apart_along.Goals as goal
 
 pub returns-then-separates : goal.returns-then-separates

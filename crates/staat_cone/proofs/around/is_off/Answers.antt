@@ -15,6 +15,6 @@ some_bits (negsuc n) fits =
 
 pub returns : goal.returns
 returns c =
-    let e = c.along.ensures ∙ ap (λ n. dot c.args.v n) c.narrow_cross.ensures.value in
+    let e = c.along.ensures ∙ ap (λ n. dot c.args.v n) c.cross_diff.ensures.value in
     let bits = some_bits c.along.result (record { sfits = c.along.type_inv }) in
     (λ t zero. bits.0 t (e ∙ zero), λ some. bits.1 (λ zero. some (sym e ∙ zero)))

@@ -7,7 +7,7 @@ use Rattle.staat_cone.proofs.around.leftmost.Goals as goal
 use Rattle.staat_cone.proofs.around.leftmost.Goals.{then-is_farther, else-is_farther}
 
 pub loop-x-init : goal.loop-x-init
-loop-x-init c = scanned_start c.args.vs.now c.args.v c.args.first c.narrow_cross-normal.result c.requires.member c.requires.apart c.narrow_cross-normal.ensures.value c.narrow_cross-normal.ensures.size
+loop-x-init c = scanned_start c.args.vs.now c.args.v c.args.first c.cross_diff-normal.result c.requires.member c.requires.apart c.cross_diff-normal.ensures.value c.cross_diff-normal.ensures.size
 
 pub loop-x-preserved : goal.loop-x-preserved
 loop-x-preserved c =
@@ -18,7 +18,7 @@ loop-x-preserved c =
     let new = c.if-is_farther in
     elim c.if-is_farther.branch [
       | then-is_farther w ↦
-          let across = w.narrow_cross-normal-then-is_farther in
+          let across = w.cross_diff-normal-then-is_farther in
           scanned_moved vs v c.args.first old.best old.normal new.best new.normal i origin c.loop-x-test.true old.invariant (c.is_farther.ensures.0 w.if-is_farther.true) w.best-is
           (w.normal-is ∙ across.ensures.value ∙ ap (λ x. cross x v) (sym w.best-is))
           (subst (IsWithin NORMAL) (sym w.normal-is) across.ensures.size)

@@ -10,10 +10,10 @@ returns-in_ok-add_edge-2 c =
     let vs = c.args.vs.now in
     let old = c.add_edge.new.out.items in
     let new = c.add_edge-then-is_wall.new.out.items in
-    edges_added vs c.args.out.now.items old new c.args.g c.args.h c.narrow_cross-f.result c.narrow_cross-f.ensures.value (c.is_wall.ensures.0 c.if-is_wall.true) c.in_ok-add_edge.ensures
+    edges_added vs c.args.out.now.items old new c.args.g c.args.h c.cross_diff-f.result c.cross_diff-f.ensures.value (c.is_wall.ensures.0 c.if-is_wall.true) c.in_ok-add_edge.ensures
     (subst (λ f. Adds (IsOnly vs f) old new) c.neg.ensures.value c.in_ok-add_edge-2.ensures)
 
 pub returns-else-is_wall : goal.returns-else-is_wall
 returns-else-is_wall c =
-    let f = c.narrow_cross-f.result in
-    edges_not_added c.args.vs.now c.args.out.now.items c.args.g c.args.h f c.narrow_cross-f.ensures.value (refused c.is_wall.result (f ≢ origin) c.is_wall.ensures c.if-is_wall.false)
+    let f = c.cross_diff-f.result in
+    edges_not_added c.args.vs.now c.args.out.now.items c.args.g c.args.h f c.cross_diff-f.ensures.value (refused c.is_wall.result (f ≢ origin) c.is_wall.ensures c.if-is_wall.false)

@@ -3,7 +3,7 @@ use Rattle.std.proofs.lemmas.List.Elements.{All-more}
 use Rattle.std.proofs.lemmas.Option.{slice_get-get_or}
 use Rattle.staat_vec.specs.Vectors.{dot, origin}
 use Rattle.staat_cone.proofs.AheadLemmas.{is_level, not_behind}
-use Rattle.staat_cone.proofs.LoopAnswers.{all_kept, not_all}
+use Rattle.staat_vec.proofs.LoopAnswers.{all_kept, not_all}
 use Rattle.staat_cone.proofs.pairs.is_above.Goals as goal
 
 pub returns-then-along-lt0 : goal.returns-then-along-lt0

@@ -3,8 +3,7 @@ use Rattle.std.proofs.lemmas.Int.{ints}
 use Rattle.staat_vec.specs.declared.vector.TheConstants.{DIFF, EDGE}
 use Rattle.staat_vec.proofs.Bounds.{IsWithin-wider}
 use Rattle.staat_cone.specs.declared.search.TheConstants.{STEP}
-use Rattle.staat_cone.proofs.NarrowLemmas.{multiple_within}
-use Rattle.staat_cone.proofs.SearchLemmas.{plus_within}
+use Rattle.staat_cone.proofs.SearchLemmas.{multiple_within, plus_within}
 use Rattle.staat_cone.proofs.search.corrected.Goals as goal
 
 pub add-requires-clause-b : goal.add-requires-clause-b

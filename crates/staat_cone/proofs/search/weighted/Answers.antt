@@ -1,7 +1,7 @@
 use Rattle.std.proofs.Common.{◌*◌, arith}
 use Rattle.std.proofs.lemmas.Int.{ints}
 use Rattle.staat_vec.specs.declared.vector.TheConstants.{POINT}
-use Rattle.staat_cone.proofs.NarrowLemmas.{multiple_within}
+use Rattle.staat_cone.proofs.SearchLemmas.{multiple_within}
 use Rattle.staat_cone.proofs.search.weighted.Goals as goal
 
 pub returns : goal.returns

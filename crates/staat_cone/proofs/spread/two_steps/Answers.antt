@@ -60,11 +60,11 @@ pub step-v-requires-clause-qs : goal.step-v-requires-clause-qs
 step-v-requires-clause-qs c =
     all_in c.points_of-qs.result.now c.args.q.now c.points_of-qs.ensures.points c.points_of-qs.ensures.within
 
-pub narrow_cross-requires-clause-a : goal.narrow_cross-requires-clause-a
-narrow_cross-requires-clause-a c = c.step-u.ensures.within
+pub cross_diff-requires-clause-a : goal.cross_diff-requires-clause-a
+cross_diff-requires-clause-a c = c.step-u.ensures.within
 
-pub narrow_cross-requires-clause-b : goal.narrow_cross-requires-clause-b
-narrow_cross-requires-clause-b c = c.step-v.ensures.within
+pub cross_diff-requires-clause-b : goal.cross_diff-requires-clause-b
+cross_diff-requires-clause-b c = c.step-v.ensures.within
 
 pub returns-then-is_wall-clause-first : goal.returns-then-is_wall-clause-first
 returns-then-is_wall-clause-first c =

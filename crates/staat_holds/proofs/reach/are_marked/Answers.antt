@@ -3,7 +3,7 @@ use Rattle.std.specs.Prelude.{IsTrue}
 use Rattle.std.proofs.lemmas.Bool.{false≢true}
 use Rattle.std.proofs.lemmas.List.Elements.{All-more}
 use Rattle.std.proofs.lemmas.Option.{slice_get-get_or}
-use Rattle.staat_cone.proofs.LoopAnswers.{all_kept, not_all}
+use Rattle.staat_vec.proofs.LoopAnswers.{all_kept, not_all}
 use Rattle.staat_holds.proofs.reach.are_marked.Goals as goal
 
 pub returns-then-not-mark : goal.returns-then-not-mark

@@ -5,6 +5,6 @@ use Rattle.staat_planes.proofs.leads.leads_past.Given as goal
 
 abbrev pub invariant-loop-n : goal.invariant-loop-n
 invariant-loop-n l = record {
-  ahead : IsTrue l.leads.ahead ↔ All (λ n. pos 0 <ℤ dot n l.d) (take l.n-index l.facets);
-  behind : IsTrue l.leads.behind ↔ All (λ n. dot n l.d <ℤ pos 0) (take l.n-index l.facets);
+  ahead : IsTrue l.leads.ahead ↔ All (λ n. pos 0 <ℤ dot n l.fn.d) (take l.n-index l.facets);
+  behind : IsTrue l.leads.behind ↔ All (λ n. dot n l.fn.d <ℤ pos 0) (take l.n-index l.facets);
 }

@@ -3,7 +3,7 @@ use Rattle.std.proofs.lemmas.Bool.{false≢true}
 use Rattle.std.proofs.lemmas.List.Elements.{All-more, All-nil}
 use Rattle.staat_vec.specs.Primitives.{canon}
 use Rattle.staat_vec.specs.Vectors.{origin}
-use Rattle.staat_cone.proofs.LoopAnswers.{none_has, one_has}
+use Rattle.staat_vec.proofs.LoopAnswers.{none_has, one_has}
 use Rattle.staat_planes.proofs.CanonSearch.{canon_any}
 use Rattle.staat_planes.proofs.used.has_plane.Goals as goal
 

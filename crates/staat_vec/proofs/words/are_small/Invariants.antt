@@ -1,0 +1,7 @@
+use Rattle.std.proofs.Common.{All, take}
+use Rattle.staat_vec.specs.Vectors.{IsWithin}
+use Rattle.staat_vec.specs.declared.words.TheConstants.{SMALL}
+use Rattle.staat_vec.proofs.words.are_small.Given as goal
+
+abbrev pub invariant-loop-v : goal.invariant-loop-v
+invariant-loop-v l = All (IsWithin SMALL) (take l.v-index l.vectors)

@@ -1,0 +1,126 @@
+// Products in words of 64 bits, where these hold them: each takes one multiplication of the machine.
+ghost use Rattle.std.specs.Prelude.{◌≡◌, ◌≤◌, ◌*◌, ◌-ℤ◌, ◌*ℤ◌, ◌↔◌, All, IsTrue, unsigned_abs};
+ghost use Rattle.staat_vec.specs.Vectors.{IsWithin, cross, dot, sign};
+
+use crate::vector::{DIFF, NORMAL, Sign, V3};
+
+/// How great a component of a small vector is at most: a word holds three of its products with components of a normal.
+pub const SMALL: u128 = 1 << 22;
+
+/// Whether no component is greater than the bound in absolute value.
+pub fn is_within(v: V3, bound: u128) -> bool
+    ensures { IsTrue result ↔ IsWithin bound v }
+{
+    v.x.unsigned_abs() <= bound && v.y.unsigned_abs() <= bound && v.z.unsigned_abs() <= bound
+}
+
+/// Whether all these vectors are small.
+pub fn are_small(vectors: &[V3]) -> bool
+    ensures { IsTrue result ↔ All (IsWithin SMALL) vectors.now }
+{
+    for v in vectors {
+        if !is_within(*v, SMALL) {
+            return false;
+        }
+    }
+    true
+}
+
+// a component, which fits a word
+fn word(a: i128) -> i64
+    requires { unsigned_abs a ≤ NORMAL }
+    ensures { result ≡ a }
+{
+    a as i64
+}
+
+// the exact product of words
+fn word_product(a: i64, b: i64) -> i64
+    requires a { unsigned_abs a ≤ NORMAL }
+    requires b { unsigned_abs b ≤ SMALL }
+    ensures value { result ≡ a *ℤ b }
+    ensures size { unsigned_abs result ≤ NORMAL * SMALL }
+{
+    a * b
+}
+
+// the exact product of a normal's and a small vector's component
+fn small_product(a: i128, b: i128) -> i64
+    requires a { unsigned_abs a ≤ NORMAL }
+    requires b { unsigned_abs b ≤ SMALL }
+    ensures value { result ≡ a *ℤ b }
+    ensures size { unsigned_abs result ≤ NORMAL * SMALL }
+{
+    word_product(word(a), word(b))
+}
+
+/// The product of a normal and a small vector, exact.
+///
+/// The components of `n` are at most [`NORMAL`] in absolute value, and those of `d` at most [`SMALL`].
+pub fn small_dot(n: V3, d: V3) -> i64
+    requires n { IsWithin NORMAL n }
+    requires d { IsWithin SMALL d }
+    ensures value { result ≡ dot n d }
+    ensures turned { result ≡ dot d n }
+{
+    small_product(n.x, d.x) + small_product(n.y, d.y) + small_product(n.z, d.z)
+}
+
+fn sign_of_word(value: i64) -> Sign
+    ensures { result ≡ sign value }
+{
+    if value < 0 {
+        Sign::Neg
+    } else if value == 0 {
+        Sign::Zero
+    } else {
+        Sign::Pos
+    }
+}
+
+/// The sign of the product of a normal and a small vector, with the conditions of [`small_dot`].
+pub fn small_sign(n: V3, d: V3) -> Sign
+    requires n { IsWithin NORMAL n }
+    requires d { IsWithin SMALL d }
+    ensures value { result ≡ sign (dot n d) }
+    ensures turned { result ≡ sign (dot d n) }
+{
+    sign_of_word(small_dot(n, d))
+}
+
+// a word as a component
+fn long(a: i64) -> i128
+    requires { unsigned_abs a ≤ NORMAL }
+    ensures { result ≡ a }
+{
+    a as i128
+}
+
+// the minor of the rows (a, b) and (c, d), of components of two differences of points
+fn small_minor(a: i128, b: i128, c: i128, d: i128) -> i128
+    requires a { unsigned_abs a ≤ DIFF }
+    requires b { unsigned_abs b ≤ DIFF }
+    requires c { unsigned_abs c ≤ DIFF }
+    requires d { unsigned_abs d ≤ DIFF }
+    ensures value { result ≡ (a *ℤ d) -ℤ (b *ℤ c) }
+    ensures size { unsigned_abs result ≤ NORMAL }
+{
+    long(small_product(a, d) - small_product(b, c))
+}
+
+/// The cross product of two differences of points, exact.
+///
+/// The components of both are at most [`DIFF`] in absolute value, and those of the result at most
+/// [`NORMAL`].
+pub fn cross_diff(a: V3, b: V3) -> V3
+    requires a { IsWithin DIFF a }
+    requires b { IsWithin DIFF b }
+    ensures value { result ≡ cross a b }
+    ensures size { IsWithin NORMAL result }
+{
+    V3 {
+        x: small_minor(a.y, a.z, b.y, b.z),
+        y: small_minor(a.z, a.x, b.z, b.x),
+        z: small_minor(a.x, a.y, b.x, b.y),
+    }
+}
