@@ -2,7 +2,8 @@
 ghost use Rattle.std.specs.Prelude.{◌≡◌, ◌↔◌, ℕ, ◌<◌, ℤ, All, Bool, IfOk, IsTrue, OnOk, length, map, pos};
 ghost use Rattle.staat_vec.specs.Vectors.{IsWithin};
 ghost use Rattle.staat_ring.specs.Builds.{key_entry};
-ghost use Rattle.staat_ring.specs.Order.{AreStopEnds, IsInserted, IsOrderOf, IsPlace, CrossesBefore, facet_of, order_det};
+ghost use Rattle.staat_ring.specs.Order.{AreStopEnds, CrossesBefore, IsInserted, IsOrderOf, IsPlace};
+ghost use Rattle.staat_ring.specs.Order.{facet_of, order_det};
 
 use crate::entry::Entry;
 use crate::half_circle::facet_by;
